@@ -1,0 +1,284 @@
+//! Fixed handles of a half-edge mesh: the numbers of its vertices, half edges, edges and faces,
+//! each with a type of its own.
+//!
+//! A fixed handle borrows no mesh. It names an element of whatever mesh it is given to, so it can
+//! be stored, copied and compared while the mesh changes. Whether an element stands under its
+//! number is for the mesh to say.
+//!
+//! Numbers of half edges and edges go together: edge `u` consists of the half edges `2 * u`, which
+//! is called normalized, and `2 * u + 1`. Face 0 is the outer face.
+#![tactic(auto)]
+
+ghost use Rattle.std.specs.Prelude.{◌≡◌, ℕ, ◌+◌, ◌*◌, ◌/◌, ◌%◌, ◌^◌, ◌<◌, ◌↔◌, IsTrue, IsNone, IfSome, [], ◌∷◌, codes, List};
+ghost use Rattle.dcel_fixed.specs.HalfEdges.{rev};
+
+use std::fmt;
+use std::fmt::Debug;
+use std::hash::Hash;
+use std::marker::{Model, PhantomData};
+
+/// Marks handles of vertices.
+#[derive(Clone, Copy, PartialEq, Eq, PartialOrd, Ord, Debug, Default, Hash)]
+pub struct VertexTag;
+
+/// Marks handles of half edges.
+#[derive(Clone, Copy, PartialEq, Eq, PartialOrd, Ord, Debug, Default, Hash)]
+pub struct DirectedEdgeTag;
+
+/// Marks handles of edges, each a pair of half edges.
+#[derive(Clone, Copy, PartialEq, Eq, PartialOrd, Ord, Debug, Default, Hash)]
+pub struct UndirectedEdgeTag;
+
+/// Marks handles of faces.
+#[derive(Clone, Copy, PartialEq, Eq, PartialOrd, Ord, Debug, Default, Hash)]
+pub struct FaceTag;
+
+/// Marks handles of half edges of the Voronoi diagram. Each has the number of the half edge that it
+/// is dual to.
+#[derive(Clone, Copy, PartialEq, Eq, PartialOrd, Ord, Debug, Default, Hash)]
+pub struct DirectedVoronoiEdgeTag;
+
+/// Marks handles of edges of the Voronoi diagram. Each has the number of the edge that it is dual
+/// to.
+#[derive(Clone, Copy, PartialEq, Eq, PartialOrd, Ord, Debug, Default, Hash)]
+pub struct UndirectedVoronoiEdgeTag;
+
+/// Marks handles of faces of the Voronoi diagram. Each has the number of the vertex that it is dual
+/// to.
+#[derive(Clone, Copy, PartialEq, Eq, PartialOrd, Ord, Debug, Default, Hash)]
+pub struct VoronoiFaceTag;
+
+/// Tells whether a handle may name the outer face: [`InnerTag`] or [`PossiblyOuterTag`].
+pub trait InnerOuterMarker: Copy + Ord + Debug + Default + Hash {
+    // The bytes that `debug_string` answers.
+    ghost name: { List ℕ };
+
+    /// Answers what the marker says, as `Inner`.
+    fn debug_string() -> &'static str
+        ensures { result.now ≡ name };
+}
+
+/// Marks handles that aren't meant for the outer face. No call tests that a face so marked isn't
+/// face 0: whoever makes the handle sees to it.
+#[derive(Clone, Copy, PartialEq, Eq, PartialOrd, Ord, Debug, Default, Hash)]
+pub struct InnerTag;
+
+/// Marks handles of faces that may name the outer face.
+#[derive(Clone, Copy, PartialEq, Eq, PartialOrd, Ord, Debug, Default, Hash)]
+pub struct PossiblyOuterTag;
+
+impl InnerOuterMarker for InnerTag {
+    ghost name = { codes "Inner" };
+
+    fn debug_string() -> &'static str {
+        "Inner"
+    }
+}
+
+impl InnerOuterMarker for PossiblyOuterTag {
+    ghost name = { codes "PossiblyOuter" };
+
+    fn debug_string() -> &'static str {
+        "PossiblyOuter"
+    }
+}
+
+/// The number of an element, below 2^32, with its kind and its marker as types. Contracts see the
+/// number alone, and so do `==`, `<` and the hash.
+///
+/// Use it by its aliases, as [`FixedVertexHandle`].
+#[derive_where(Clone, Copy, PartialEq, Eq, PartialOrd, Ord, Hash)]
+pub struct FixedHandleImpl<Kind, InnerOuter: InnerOuterMarker> {
+    index: u32,
+    #[derive_where(skip)]
+    kind: PhantomData<Kind>,
+    #[derive_where(skip)]
+    inner_outer: PhantomData<InnerOuter>,
+}
+
+impl<Kind, InnerOuter: InnerOuterMarker> Model for FixedHandleImpl<Kind, InnerOuter> {
+    ghost Value = { ℕ };
+
+    ghost view = { λ handle. handle.index };
+
+    ghost inverse = { λ n. record { index = n; kind = record {}; inner_outer = record {} } };
+}
+
+/// The number of a vertex.
+pub type FixedVertexHandle = FixedHandleImpl<VertexTag, InnerTag>;
+
+/// The number of a half edge.
+pub type FixedDirectedEdgeHandle = FixedHandleImpl<DirectedEdgeTag, InnerTag>;
+
+/// The number of an edge.
+pub type FixedUndirectedEdgeHandle = FixedHandleImpl<UndirectedEdgeTag, InnerTag>;
+
+/// The number of a face, which may be the outer one only with [`PossiblyOuterTag`].
+pub type FixedFaceHandle<InnerOuter> = FixedHandleImpl<FaceTag, InnerOuter>;
+
+/// The outer face, which every mesh has: face 0.
+pub const OUTER_FACE: FixedFaceHandle<PossiblyOuterTag> = FixedHandleImpl {
+    index: 0,
+    kind: PhantomData,
+    inner_outer: PhantomData,
+};
+
+/// The same as [`OUTER_FACE`].
+pub const OUTER_FACE_HANDLE: FixedFaceHandle<PossiblyOuterTag> = OUTER_FACE;
+
+/// Makes the handle of the face `index`. Asks that the number is below 2^32.
+#[inline]
+pub fn new_fixed_face_handle(index: usize) -> FixedFaceHandle<PossiblyOuterTag>
+    requires { index < 2 ^ 32 }
+    ensures { result ≡ index }
+{
+    FixedHandleImpl::new(index)
+}
+
+impl<Kind, InnerOuter: InnerOuterMarker> FixedHandleImpl<Kind, InnerOuter> {
+    /// Makes the handle of the element `index`. Asks that the number is below 2^32.
+    #[inline]
+    pub fn new(index: usize) -> Self
+        requires { index < 2 ^ 32 }
+        ensures { result ≡ index }
+    {
+        FixedHandleImpl::new_internal(index as u32)
+    }
+
+    /// Answers the number, which is below 2^32.
+    #[inline]
+    pub fn index(&self) -> usize
+        ensures value { result ≡ self.now }
+        ensures in_range { result < 2 ^ 32 }
+    {
+        self.index as usize
+    }
+
+    /// Answers the handle with the same number and another marker. [`InnerTag`] is given to face 0
+    /// too: [`as_inner`](FixedFaceHandle::as_inner) is the call that rules the outer face out.
+    #[inline]
+    pub fn adjust_inner_outer<TargetInnerOuter: InnerOuterMarker>(
+        &self,
+    ) -> FixedHandleImpl<Kind, TargetInnerOuter>
+        ensures { result ≡ self.now }
+    {
+        FixedHandleImpl::new_internal(self.index)
+    }
+
+    #[inline]
+    fn new_internal(index: u32) -> Self
+        ensures { result ≡ index }
+    {
+        FixedHandleImpl {
+            index,
+            kind: PhantomData,
+            inner_outer: PhantomData,
+        }
+    }
+}
+
+impl FixedVertexHandle {
+    /// Makes the handle of the vertex `index`. Asks that the number is below 2^32.
+    #[inline]
+    pub fn from_index(index: usize) -> Self
+        requires { index < 2 ^ 32 }
+        ensures { result ≡ index }
+    {
+        Self::new(index)
+    }
+}
+
+impl FixedDirectedEdgeHandle {
+    /// Makes the handle of the normalized half edge of the edge `index`. Asks that the edge's
+    /// number is below 2^31, so that the half edge's is below 2^32.
+    #[inline]
+    pub fn new_normalized(index: usize) -> Self
+        requires { index < 2 ^ 31 }
+        ensures { result ≡ 2 * index }
+    {
+        Self::new(2 * index)
+    }
+
+    /// Tells whether this is the normalized half edge of its edge, the one with the even number.
+    #[inline]
+    pub fn is_normalized(self) -> bool
+        ensures { IsTrue result ↔ (self % 2 ≡ 0) }
+    {
+        self.index % 2 == 0
+    }
+
+    /// Answers the other half edge of the same edge. Its number differs in the last bit alone.
+    #[inline]
+    #[tactic(auto, using(crate::proofs::Halves::xor_one))]
+    pub fn rev(self) -> Self
+        ensures { result ≡ rev self }
+    {
+        Self::new_internal(self.index ^ 1)
+    }
+
+    /// Answers the edge that this half edge belongs to.
+    #[inline]
+    pub fn as_undirected(self) -> FixedUndirectedEdgeHandle
+        ensures { result ≡ self / 2 }
+    {
+        FixedHandleImpl::new_internal(self.index / 2)
+    }
+}
+
+impl FixedUndirectedEdgeHandle {
+    /// Answers the edge's normalized half edge. Asks that the edge's number is below 2^31.
+    #[inline]
+    pub fn as_directed(self) -> FixedDirectedEdgeHandle
+        requires { self < 2 ^ 31 }
+        ensures { result ≡ 2 * self }
+    {
+        FixedDirectedEdgeHandle::new_normalized(self.index())
+    }
+
+    /// Answers both half edges of the edge, the normalized one first. Asks that the edge's number
+    /// is below 2^31.
+    #[inline]
+    #[tactic(auto, using(crate::proofs::Halves::halves))]
+    pub fn directed_edges(self) -> [FixedDirectedEdgeHandle; 2]
+        requires { self < 2 ^ 31 }
+        ensures { result ≡ (2 * self) ∷ (2 * self + 1) ∷ [] }
+    {
+        let normalized = self.as_directed();
+        [normalized, normalized.rev()]
+    }
+}
+
+impl FixedFaceHandle<PossiblyOuterTag> {
+    /// Tells whether this is the outer face.
+    #[inline]
+    pub fn is_outer(self) -> bool
+        ensures { IsTrue result ↔ (self ≡ 0) }
+    {
+        self == OUTER_FACE
+    }
+
+    /// Answers the same face with the marker of inner faces, or None for the outer face.
+    #[inline]
+    pub fn as_inner(self) -> Option<FixedFaceHandle<InnerTag>>
+        ensures outer { IsNone result ↔ (self ≡ 0) }
+        ensures inner { IfSome result (λ face. face ≡ self) }
+    {
+        if self.is_outer() {
+            None
+        } else {
+            Some(self.adjust_inner_outer())
+        }
+    }
+}
+
+impl<Kind, InnerOuter: InnerOuterMarker> Debug for FixedHandleImpl<Kind, InnerOuter> {
+    /// Writes the number alone, as `FixedHandle { index: 3 }`.
+    fn fmt<W: fmt::Write>(&self, f: &mut fmt::Formatter<W>) -> fmt::Result {
+        f.debug_struct("FixedHandle")
+            .field("index", &self.index)
+            .finish()
+    }
+}
+
+#[cfg(test)]
+mod tests;

@@ -1,0 +1,3 @@
+pub mod HalfEdges
+pub mod Lists
+pub mod Records

@@ -1,0 +1,413 @@
+//! Storage of a half-edge mesh: links, anchors and data by number.
+//!
+//! A [`Store`] holds for each vertex a datum and an anchor, for each half edge four links and a
+//! datum, for each edge a datum, and for each face a datum and an anchor. It knows nothing of what
+//! makes a sound mesh. Contracts see it as lists by number, the record `Lists` of
+//! `specs/Lists.antt`, and say of each call which items it reads or changes.
+#![tactic(auto)]
+
+ghost use Rattle.std.specs.Prelude.{◌≡◌, ℕ, ◌+◌, ◌-◌, ◌<◌, ◌≤◌, [], ◌∷◌, ◌++◌, length, slice_index, slice_index_or, slice_set, OnOk, IfOk, IsOk, None};
+ghost use Rattle.std.specs.Borrow.{sem};
+ghost use Rattle.dcel_store.specs.Lists.{empty, LengthsAgree, HasRoom};
+ghost use Rattle.dcel_store.specs.HalfEdges.{IsHalfEdge, LendsHalfEdge};
+
+use dcel_fixed::{FixedDirectedEdgeHandle, FixedFaceHandle, FixedVertexHandle, PossiblyOuterTag};
+use std::alloc::{AllocError, Allocator, Global};
+use std::marker::Model;
+
+/// The links of a half edge, as [`Store::push_edge`] takes them.
+#[derive(Clone, Copy)]
+pub struct HalfEdgeEntry {
+    /// The half edge after it on its face.
+    pub next: FixedDirectedEdgeHandle,
+
+    /// The half edge before it on its face.
+    pub prev: FixedDirectedEdgeHandle,
+
+    /// The face that it lies on.
+    pub face: FixedFaceHandle<PossiblyOuterTag>,
+
+    /// The vertex that it starts at.
+    pub origin: FixedVertexHandle,
+}
+
+#[derive(Drop)]
+struct VertexEntry<V> {
+    data: V,
+    out_edge: Option<FixedDirectedEdgeHandle>,
+}
+
+// Both half edges of an edge stand together: edits mostly touch them together.
+#[derive(Drop)]
+struct EdgeEntry<DE, UE> {
+    normalized: HalfEdgeEntry,
+    reversed: HalfEdgeEntry,
+    normalized_data: DE,
+    reversed_data: DE,
+    undirected_data: UE,
+}
+
+#[derive(Drop)]
+struct FaceEntry<F> {
+    data: F,
+    adjacent_edge: Option<FixedDirectedEdgeHandle>,
+}
+
+/// The vertices, edges and faces of a mesh, by number.
+#[derive(Drop)]
+pub struct Store<V, DE, UE, F, A: Allocator = Global> {
+    vertices: Vec<VertexEntry<V>, A>,
+    edges: Vec<EdgeEntry<DE, UE>, A>,
+    faces: Vec<FaceEntry<F>, A>,
+}
+
+impl<V, DE, UE, F, A: Allocator> Model for Store<V, DE, UE, F, A> {
+    ghost use Rattle.dcel_store.specs.Lists.{Lists};
+
+    ghost Value = { Lists V DE UE F };
+
+    ghost use Rattle.dcel_store.specs.Records.{lists_of};
+
+    ghost view = { lists_of };
+}
+
+impl<V, DE, UE, F, A: Allocator + Clone> Store<V, DE, UE, F, A> {
+    /// Makes an empty store, which takes no memory. It clones `alloc`, once for the edges and once
+    /// for the vertices, and answers an error only where that fails. With `Global` or a `&` it
+    /// never does.
+    pub fn new(alloc: A) -> Result<Self, AllocError>
+        ensures { IfOk result (λ store. store ≡ empty) }
+    {
+        let alloc_for_vertices = alloc.clone()?;
+        let alloc_for_edges = alloc.clone()?;
+        Ok(Store {
+            vertices: Vec::new(alloc_for_vertices),
+            edges: Vec::new(alloc_for_edges),
+            faces: Vec::new(alloc),
+        })
+    }
+}
+
+impl<V, DE, UE, F, A: Allocator> Store<V, DE, UE, F, A> {
+    /// Answers how many vertices there are.
+    #[inline]
+    pub fn num_vertices(&self) -> usize
+        ensures count { result ≡ length self.now.vertex_data }
+        ensures lengths { LengthsAgree self.now }
+    {
+        self.vertices.len()
+    }
+
+    /// Answers how many edges there are, each with two half edges.
+    #[inline]
+    pub fn num_edges(&self) -> usize
+        ensures count { result ≡ length self.now.undirected_data }
+        ensures lengths { LengthsAgree self.now }
+    {
+        self.edges.len()
+    }
+
+    /// Answers how many faces there are.
+    #[inline]
+    pub fn num_faces(&self) -> usize
+        ensures count { result ≡ length self.now.face_data }
+        ensures lengths { LengthsAgree self.now }
+    {
+        self.faces.len()
+    }
+
+    /// Makes room for so many more vertices, edges and faces. Where there is room for all of them
+    /// already, it succeeds and asks for no memory. An error leaves all as it was, but for room.
+    #[inline]
+    pub fn reserve(&mut self, vertices: usize, edges: usize, faces: usize) -> Result<(), AllocError>
+        ensures same { self.new ≡ record self.old {
+          vertex_room = self.new.vertex_room;
+          edge_room = self.new.edge_room;
+          face_room = self.new.face_room;
+        } }
+        ensures room { OnOk result (HasRoom self.new vertices edges faces) }
+        ensures kept { HasRoom self.new self.old.vertex_room self.old.edge_room self.old.face_room }
+        ensures succeeds { HasRoom self.old vertices edges faces → IsOk result }
+    {
+        self.vertices.reserve(vertices)?;
+        self.edges.reserve(edges)?;
+        self.faces.reserve(faces)?;
+        Ok(())
+    }
+
+    /// Appends a vertex, with no anchor. Asks for room, which [`reserve`](Self::reserve) makes.
+    #[inline]
+    pub fn push_vertex(&mut self, datum: V)
+        requires { 0 < self.old.vertex_room }
+        ensures { self.new ≡ record self.old {
+          vertex_data = self.old.vertex_data ++ datum ∷ [];
+          vertex_anchors = self.old.vertex_anchors ++ None ∷ [];
+          vertex_room = self.old.vertex_room - 1;
+        } }
+    {
+        self.vertices.push_reserved(VertexEntry {
+            data: datum,
+            out_edge: None,
+        });
+    }
+
+    /// Appends an edge, with its half edges: first the normalized one. Asks for room, which
+    /// [`reserve`](Self::reserve) makes.
+    #[inline]
+    pub fn push_edge(
+        &mut self,
+        normalized: HalfEdgeEntry,
+        reversed: HalfEdgeEntry,
+        normalized_data: DE,
+        reversed_data: DE,
+        undirected_data: UE,
+    )
+        requires { 0 < self.old.edge_room }
+        ensures { self.new ≡ record self.old {
+          next = self.old.next ++ normalized.next ∷ reversed.next ∷ [];
+          prev = self.old.prev ++ normalized.prev ∷ reversed.prev ∷ [];
+          origin = self.old.origin ++ normalized.origin ∷ reversed.origin ∷ [];
+          face = self.old.face ++ normalized.face ∷ reversed.face ∷ [];
+          directed_data = self.old.directed_data ++ normalized_data ∷ reversed_data ∷ [];
+          undirected_data = self.old.undirected_data ++ undirected_data ∷ [];
+          edge_room = self.old.edge_room - 1;
+        } }
+    {
+        self.edges.push_reserved(EdgeEntry {
+            normalized,
+            reversed,
+            normalized_data,
+            reversed_data,
+            undirected_data,
+        });
+    }
+
+    /// Appends a face, with no anchor. Asks for room, which [`reserve`](Self::reserve) makes.
+    #[inline]
+    pub fn push_face(&mut self, datum: F)
+        requires { 0 < self.old.face_room }
+        ensures { self.new ≡ record self.old {
+          face_data = self.old.face_data ++ datum ∷ [];
+          face_anchors = self.old.face_anchors ++ None ∷ [];
+          face_room = self.old.face_room - 1;
+        } }
+    {
+        self.faces.push_reserved(FaceEntry {
+            data: datum,
+            adjacent_edge: None,
+        });
+    }
+
+    /// Answers the anchor of a vertex. Asks for a number below
+    /// [`num_vertices`](Self::num_vertices).
+    #[inline]
+    pub fn vertex_anchor(&self, vertex: FixedVertexHandle) -> Option<FixedDirectedEdgeHandle>
+        requires { vertex < length self.now.vertex_anchors }
+        ensures { result ≡ slice_index_or self.now.vertex_anchors vertex None }
+    {
+        self.vertices[vertex.index()].out_edge
+    }
+
+    /// Replaces the anchor of a vertex, and nothing else. Asks for a number below
+    /// [`num_vertices`](Self::num_vertices).
+    #[inline]
+    pub fn set_vertex_anchor(
+        &mut self,
+        vertex: FixedVertexHandle,
+        to: Option<FixedDirectedEdgeHandle>,
+    )
+        requires { vertex < length self.old.vertex_anchors }
+        ensures { self.new ≡ record self.old {
+          vertex_anchors = slice_set self.old.vertex_anchors vertex to;
+        } }
+    {
+        let entry = &mut self.vertices[vertex.index()];
+        entry.out_edge = to;
+    }
+
+    /// Answers the anchor of a face. Asks for a number below [`num_faces`](Self::num_faces).
+    #[inline]
+    pub fn face_anchor(
+        &self,
+        face: FixedFaceHandle<PossiblyOuterTag>,
+    ) -> Option<FixedDirectedEdgeHandle>
+        requires { face < length self.now.face_anchors }
+        ensures { result ≡ slice_index_or self.now.face_anchors face None }
+    {
+        self.faces[face.index()].adjacent_edge
+    }
+
+    /// Replaces the anchor of a face, and nothing else. Asks for a number below
+    /// [`num_faces`](Self::num_faces).
+    #[inline]
+    pub fn set_face_anchor(
+        &mut self,
+        face: FixedFaceHandle<PossiblyOuterTag>,
+        to: Option<FixedDirectedEdgeHandle>,
+    )
+        requires { face < length self.old.face_anchors }
+        ensures { self.new ≡ record self.old {
+          face_anchors = slice_set self.old.face_anchors face to;
+        } }
+    {
+        let entry = &mut self.faces[face.index()];
+        entry.adjacent_edge = to;
+    }
+
+    /// Answers the half edge after this one. Asks that its edge is below
+    /// [`num_edges`](Self::num_edges).
+    #[inline]
+    pub fn next(&self, edge: FixedDirectedEdgeHandle) -> FixedDirectedEdgeHandle
+        requires { edge < length self.now.next }
+        ensures { result ≡ slice_index self.now.next edge }
+    {
+        self.half_edge(edge).next
+    }
+
+    /// Replaces `next` of a half edge, and nothing else. Asks what [`next`](Self::next) asks.
+    #[inline]
+    pub fn set_next(&mut self, edge: FixedDirectedEdgeHandle, to: FixedDirectedEdgeHandle)
+        requires { edge < length self.old.next }
+        ensures { self.new ≡ record self.old { next = slice_set self.old.next edge to } }
+    {
+        self.half_edge_mut(edge).next = to;
+    }
+
+    /// Answers the half edge before this one. Asks that its edge is below
+    /// [`num_edges`](Self::num_edges).
+    #[inline]
+    pub fn prev(&self, edge: FixedDirectedEdgeHandle) -> FixedDirectedEdgeHandle
+        requires { edge < length self.now.next }
+        ensures { result ≡ slice_index self.now.prev edge }
+    {
+        self.half_edge(edge).prev
+    }
+
+    /// Replaces `prev` of a half edge, and nothing else. Asks what [`prev`](Self::prev) asks.
+    #[inline]
+    pub fn set_prev(&mut self, edge: FixedDirectedEdgeHandle, to: FixedDirectedEdgeHandle)
+        requires { edge < length self.old.next }
+        ensures { self.new ≡ record self.old { prev = slice_set self.old.prev edge to } }
+    {
+        self.half_edge_mut(edge).prev = to;
+    }
+
+    /// Answers the vertex that this half edge starts at. Asks that its edge is below
+    /// [`num_edges`](Self::num_edges).
+    #[inline]
+    pub fn origin(&self, edge: FixedDirectedEdgeHandle) -> FixedVertexHandle
+        requires { edge < length self.now.next }
+        ensures { result ≡ slice_index self.now.origin edge }
+    {
+        self.half_edge(edge).origin
+    }
+
+    /// Replaces `origin` of a half edge, and nothing else. Asks what [`origin`](Self::origin) asks.
+    #[inline]
+    pub fn set_origin(&mut self, edge: FixedDirectedEdgeHandle, to: FixedVertexHandle)
+        requires { edge < length self.old.next }
+        ensures { self.new ≡ record self.old { origin = slice_set self.old.origin edge to } }
+    {
+        self.half_edge_mut(edge).origin = to;
+    }
+
+    /// Answers the face that this half edge lies on. Asks that its edge is below
+    /// [`num_edges`](Self::num_edges).
+    #[inline]
+    pub fn face(&self, edge: FixedDirectedEdgeHandle) -> FixedFaceHandle<PossiblyOuterTag>
+        requires { edge < length self.now.next }
+        ensures { result ≡ slice_index self.now.face edge }
+    {
+        self.half_edge(edge).face
+    }
+
+    /// Replaces `face` of a half edge, and nothing else. Asks what [`face`](Self::face) asks.
+    #[inline]
+    pub fn set_face(&mut self, edge: FixedDirectedEdgeHandle, to: FixedFaceHandle<PossiblyOuterTag>)
+        requires { edge < length self.old.next }
+        ensures { self.new ≡ record self.old { face = slice_set self.old.face edge to } }
+    {
+        self.half_edge_mut(edge).face = to;
+    }
+
+    // The links of a half edge. All that is read or written of links goes through this and the next
+    // function.
+    #[inline]
+    fn half_edge(&self, edge: FixedDirectedEdgeHandle) -> &HalfEdgeEntry
+        requires { edge < length self.now.next }
+        ensures { IsHalfEdge self.now edge result.now }
+    {
+        let entry = &self.edges[edge.as_undirected().index()];
+        if edge.is_normalized() {
+            return &entry.normalized;
+        }
+        &entry.reversed
+    }
+
+    // The same to be written.
+    #[inline]
+    fn half_edge_mut(&mut self, edge: FixedDirectedEdgeHandle) -> &mut HalfEdgeEntry
+        requires { edge < length self.old.next }
+        ensures* writes_back { sem 𝓛
+            (LendsHalfEdge V.row DE.row UE.row F.row A.row A.Allocator self.entry edge result) }
+        ensures links { IsHalfEdge self.old edge result.now }
+    {
+        let entry = &mut self.edges[edge.as_undirected().index()];
+        if edge.is_normalized() {
+            return &mut entry.normalized;
+        }
+        &mut entry.reversed
+    }
+}
+
+#[cfg(test)]
+mod tests {
+    use super::*;
+    use dcel_fixed::OUTER_FACE;
+    use std::test::Fail;
+
+    #[test]
+    fn each_call(rt: HostRuntime) -> Result<(), Fail> {
+        let vertex = FixedVertexHandle::new(0);
+        let edge = FixedDirectedEdgeHandle::new(0);
+        let mut store = Store::new(rt.alloc())?;
+        store.reserve(1, 1, 1)?;
+        store.push_vertex('v');
+        store.push_face('f');
+        store.push_edge(
+            HalfEdgeEntry {
+                next: edge,
+                prev: edge,
+                face: OUTER_FACE,
+                origin: vertex,
+            },
+            HalfEdgeEntry {
+                next: edge.rev(),
+                prev: edge.rev(),
+                face: OUTER_FACE,
+                origin: vertex,
+            },
+            'd',
+            'r',
+            'e',
+        );
+        assert_eq!(rt;
+            [store.num_vertices(), store.num_edges(), store.num_faces()],
+            [1, 1, 1]
+        );
+
+        store.set_next(edge, edge.rev());
+        store.set_prev(edge, edge.rev());
+        store.set_origin(edge, FixedVertexHandle::new(5));
+        store.set_face(edge, FixedFaceHandle::new(6));
+        store.set_vertex_anchor(vertex, Some(edge));
+        store.set_face_anchor(OUTER_FACE, Some(edge));
+        assert_eq!(rt; store.next(edge).index(), 1);
+        assert_eq!(rt; store.prev(edge).index(), 1);
+        assert_eq!(rt; store.origin(edge).index(), 5);
+        assert_eq!(rt; store.face(edge).index(), 6);
+        assert_eq!(rt; store.vertex_anchor(vertex), Some(edge));
+        assert_eq!(rt; store.face_anchor(OUTER_FACE), Some(edge));
+        Ok(())
+    }
+}

@@ -1,0 +1,17 @@
+-- Functions with another value at one place.
+use Rattle.std.proofs.Common.{◌≡◌, ◌≢◌, ◌==◌, ℕ, cond, eqb, eq-eqb, refl}
+use Rattle.std.proofs.lemmas.Bool.{ne_eqb, cond-true, cond-false}
+
+-- f, but v at a
+unfoldable pub put : {A : Type 0} → (ℕ → A) → ℕ → A → ℕ → A
+put f a v x = cond (x == a) v (f x)
+
+-- at a it is v
+pub put_same : {A : Type 0} → (f : ℕ → A) (a : ℕ) (v : A) → put f a v a ≡ v
+unfolding put
+put_same f a v = cond-true (eqb a a) v (f a) (eq-eqb a a refl)
+
+-- elsewhere it is f
+pub put_other : {A : Type 0} → (f : ℕ → A) (a : ℕ) (v : A) (x : ℕ) → x ≢ a → put f a v x ≡ f x
+unfolding put
+put_other f a v x d = cond-false (eqb x a) v (f x) (ne_eqb x a d)

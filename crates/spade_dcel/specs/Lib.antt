@@ -1,0 +1,12 @@
+pub mod Words
+pub mod Walks
+pub mod Removals
+pub mod Maps
+pub mod Shapes
+pub mod Standing
+pub mod Stored
+pub mod Edits
+pub mod Kinds
+pub mod Record
+pub mod Spurs
+pub mod Handles

@@ -1,0 +1,220 @@
+ghost use Rattle.std.specs.Prelude.{◌≡◌, ◌*◌, ◌^◌, ◌<◌, ◌≤◌, ◌↔◌, IsTrue};
+ghost use Rattle.spade_dcel.specs.Edits.{HasRoom, IsUnconnected, IsLineEnd};
+ghost use Rattle.spade_dcel.specs.Handles.{mesh_behind, number_of};
+ghost use Rattle.spade_dcel.specs.Shapes.{IsLive, vertex_is_live, edge_is_live, face_is_live, face_count, next_of, prev_of, origin_of, vertex_anchor, face_anchor};
+
+use crate::handles::{DirectedEdgeHandle, VertexHandle};
+use crate::removal::RemovalRecord;
+use dcel_fixed::{
+    FixedDirectedEdgeHandle, FixedFaceHandle, FixedUndirectedEdgeHandle, FixedVertexHandle,
+    InnerOuterMarker,
+};
+use dcel_store::Store;
+use std::alloc::{Allocator, Global};
+use std::marker::Model;
+
+// How many numbers there are for vertices, and for faces.
+const INDEX_SPACE: usize = 4_294_967_296;
+
+// How many numbers there are for undirected edges, each of which has two half edges.
+const EDGE_SPACE: usize = 2_147_483_648;
+
+/// A half-edge mesh with a datum for each vertex (`V`), half edge (`DE`), undirected edge (`UE`) and face (`F`).
+///
+/// Every value is a sound map on the sphere. Its operations are in [`operations`](crate::operations).
+#[derive(Drop)]
+pub struct Dcel<V, DE = (), UE = (), F = (), A: Allocator = Global> {
+    pub(crate) store: Store<V, DE, UE, F, A>,
+    pub(crate) removal: RemovalRecord<A>,
+}
+
+impl<V, DE, UE, F, A: Allocator> Model for Dcel<V, DE, UE, F, A> {
+    ghost use Rattle.spade_dcel.specs.Shapes.{Mesh};
+
+    ghost Value = { Mesh V DE UE F };
+
+    ghost use Rattle.spade_dcel.specs.Record.{removal_of};
+    ghost use Rattle.spade_dcel.specs.Stored.{mesh_of, IsStored};
+
+    ghost view = { λ d. mesh_of d.store (removal_of d.removal) };
+
+    ghost invariant = { λ d. IsStored d.store (removal_of d.removal) };
+}
+
+/// Counts.
+impl<V, DE, UE, F, A: Allocator> Dcel<V, DE, UE, F, A> {
+    /// The number of vertices, those without an edge and a given-up one included. Vertex numbers are below it.
+    #[inline]
+    pub fn num_vertices(&self) -> usize
+        ensures count { result ≡ self.now.shape.vertices }
+        ensures few { result ≤ 2 ^ 32 }
+    {
+        self.store.num_vertices()
+    }
+
+    /// The number of half edges, twice that of undirected edges. Their numbers are below it.
+    #[inline]
+    pub fn num_directed_edges(&self) -> usize
+        ensures count { result ≡ 2 * self.now.shape.edges }
+        ensures few { result ≤ 2 ^ 32 }
+    {
+        2 * self.num_undirected_edges()
+    }
+
+    /// The number of undirected edges, given-up ones included. Their numbers are below it.
+    #[inline]
+    pub fn num_undirected_edges(&self) -> usize
+        ensures count { result ≡ self.now.shape.edges }
+        ensures few { result ≤ 2 ^ 31 }
+    {
+        self.store.num_edges()
+    }
+
+    /// The number of faces, the outer one and given-up ones included. Face numbers are below it.
+    #[inline]
+    pub fn num_faces(&self) -> usize
+        ensures count { result ≡ face_count self.now.shape }
+        ensures some { 0 < result }
+        ensures few { result ≤ 2 ^ 32 }
+    {
+        self.store.num_faces()
+    }
+}
+
+/// Elements by number.
+impl<V, DE, UE, F, A: Allocator> Dcel<V, DE, UE, F, A> {
+    /// The vertex with this number, borrowed. It asks for a number below [`num_vertices`](Self::num_vertices).
+    #[inline]
+    pub fn vertex(&self, handle: FixedVertexHandle) -> VertexHandle<'_, V, DE, UE, F, A>
+        requires { handle < self.now.shape.vertices }
+        ensures mesh { mesh_behind result ≡ self.now }
+        ensures number { number_of result ≡ handle }
+    {
+        VertexHandle::new(self, handle)
+    }
+
+    /// The half edge with this number, borrowed. It asks for a number below
+    /// [`num_directed_edges`](Self::num_directed_edges).
+    #[inline]
+    pub fn directed_edge(
+        &self,
+        handle: FixedDirectedEdgeHandle,
+    ) -> DirectedEdgeHandle<'_, V, DE, UE, F, A>
+        requires { handle < 2 * self.now.shape.edges }
+        ensures mesh { mesh_behind result ≡ self.now }
+        ensures number { number_of result ≡ handle }
+    {
+        DirectedEdgeHandle::new(self, handle)
+    }
+
+    /// The anchor of a vertex: a live half edge that starts there, and None where there is none. It asks for a number below
+    /// [`num_vertices`](Self::num_vertices).
+    #[inline]
+    pub fn vertex_out_edge(&self, handle: FixedVertexHandle) -> Option<FixedDirectedEdgeHandle>
+        requires { handle < self.now.shape.vertices }
+        ensures { result ≡ vertex_anchor self.now handle }
+    {
+        self.store.vertex_anchor(handle)
+    }
+
+    /// The anchor of a face: a half edge of its word, and None where the word is empty. It asks for a number below
+    /// [`num_faces`](Self::num_faces).
+    #[inline]
+    pub fn face_adjacent_edge<InnerOuter: InnerOuterMarker>(
+        &self,
+        handle: FixedFaceHandle<InnerOuter>,
+    ) -> Option<FixedDirectedEdgeHandle>
+        requires { handle < face_count self.now.shape }
+        ensures { result ≡ face_anchor self.now handle }
+    {
+        self.store.face_anchor(handle.adjust_inner_outer())
+    }
+}
+
+/// Public tests of what the operations ask.
+impl<V, DE, UE, F, A: Allocator> Dcel<V, DE, UE, F, A> {
+    /// Whether there are numbers left for so many more vertices, undirected edges and faces: vertices and faces have numbers below
+    /// 2^32, undirected edges below 2^31.
+    pub fn has_room(&self, vertices: usize, undirected_edges: usize, faces: usize) -> bool
+        ensures { IsTrue result ↔ HasRoom self.now.shape vertices undirected_edges faces }
+    {
+        vertices <= INDEX_SPACE - self.num_vertices()
+            && undirected_edges <= EDGE_SPACE - self.num_undirected_edges()
+            && faces <= INDEX_SPACE - self.num_faces()
+    }
+
+    /// Whether the vertex is live: its number is in range, and no open removal has given it up.
+    pub fn is_live_vertex(&self, handle: FixedVertexHandle) -> bool
+        ensures { result ≡ vertex_is_live self.now.shape handle }
+    {
+        handle.index() < self.num_vertices() && !self.removal.gives_up_vertex(handle)
+    }
+
+    /// Whether the edge is live: its number is in range, and no open removal has given it up. A half edge is live where its edge is.
+    pub fn is_live_edge(&self, handle: FixedUndirectedEdgeHandle) -> bool
+        ensures { result ≡ edge_is_live self.now.shape handle }
+    {
+        handle.index() < self.num_undirected_edges() && !self.removal.gives_up_edge(handle)
+    }
+
+    /// Whether the face is live: its number is in range, and no open removal has given it up.
+    pub fn is_live_face<InnerOuter: InnerOuterMarker>(
+        &self,
+        handle: FixedFaceHandle<InnerOuter>,
+    ) -> bool
+        ensures { result ≡ face_is_live self.now.shape handle }
+    {
+        handle.index() < self.num_faces()
+            && !self.removal.gives_up_face(handle.adjust_inner_outer())
+    }
+
+    /// Whether the vertex is live and no live half edge starts there.
+    pub fn is_unconnected(&self, handle: FixedVertexHandle) -> bool
+        ensures { IsTrue result ↔ IsUnconnected self.now.shape handle }
+    {
+        self.is_live_vertex(handle) && self.store.vertex_anchor(handle).is_none()
+    }
+
+    /// Whether the vertex is live with exactly one out edge: the end of a line.
+    pub fn is_line_end(&self, handle: FixedVertexHandle) -> bool
+        ensures { IsTrue result ↔ IsLineEnd self.now.shape handle }
+    {
+        if !self.is_live_vertex(handle) {
+            return false;
+        }
+        match self.store.vertex_anchor(handle) {
+            Some(out_edge) => self.store.prev(out_edge).rev() == out_edge,
+            None => false,
+        }
+    }
+}
+
+/// Links, for the handles.
+impl<V, DE, UE, F, A: Allocator> Dcel<V, DE, UE, F, A> {
+    #[inline]
+    pub(crate) fn next_edge(&self, handle: FixedDirectedEdgeHandle) -> FixedDirectedEdgeHandle
+        requires { IsLive self.now.shape handle }
+        ensures value { result ≡ next_of self.now.shape handle }
+        ensures live { IsLive self.now.shape result }
+    {
+        self.store.next(handle)
+    }
+
+    #[inline]
+    pub(crate) fn prev_edge(&self, handle: FixedDirectedEdgeHandle) -> FixedDirectedEdgeHandle
+        requires { IsLive self.now.shape handle }
+        ensures value { result ≡ prev_of self.now.shape handle }
+        ensures live { IsLive self.now.shape result }
+    {
+        self.store.prev(handle)
+    }
+
+    #[inline]
+    pub(crate) fn origin(&self, handle: FixedDirectedEdgeHandle) -> FixedVertexHandle
+        requires { IsLive self.now.shape handle }
+        ensures value { result ≡ origin_of self.now.shape handle }
+        ensures live { IsTrue (vertex_is_live self.now.shape result) }
+    {
+        self.store.origin(handle)
+    }
+}
