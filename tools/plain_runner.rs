@@ -55,7 +55,8 @@ fn main() -> io::Result<()> {
                 total = total.wrapping_add(i64::from(a ^ b));
                 writeln!(output, "ok")?;
             }
-            Some(Command::Extend(_, new)) => {
+            Some(Command::Extend(end, new)) => {
+                total = total.wrapping_add(i64::from(end ^ new));
                 extended += 1;
                 writeln!(output, "vertex {new}")?;
             }

@@ -24,20 +24,6 @@ fn is_below<Kind, InnerOuter: InnerOuterMarker>(
     a < b
 }
 
-#[test]
-fn test_new_normalized_and_index_and_sym(rt: HostRuntime) {
-    for index in 0..10 {
-        let handle = FixedDirectedEdgeHandle::new_normalized(index);
-        let rev = handle.rev();
-
-        assert_eq!(rt; handle.as_undirected().index(), index);
-        assert!(rt; handle.is_normalized());
-        assert!(rt; !rev.is_normalized());
-        assert_ne!(rt; handle, rev);
-        assert_eq!(rt; handle, rev.rev());
-    }
-}
-
 /// Asserts that `{:?}` writes this text for the value.
 fn assert_prints<R, T>(rt: &R, value: T, want: &str) -> Result<(), Fail>
 where

@@ -1,0 +1,83 @@
+//! What a run over known bytes answers.
+
+ghost use Rattle.std.specs.Prelude.{◌≤◌, ◌^◌};
+
+use dcel_commands::commands::{RunFault, StdSink, StdSource, run};
+use std::alloc::Global;
+use std::io;
+use std::io::{Error, ErrorKind, Read, Write};
+
+/// More than any test needs.
+pub const PLENTY: usize = 1_000_000;
+
+/// Gives some bytes at a time, and fails after some calls.
+#[derive(Drop)]
+struct Giver<'a> {
+    bytes: &'a [u8],
+    chunk: usize,
+    calls: usize,
+}
+
+impl<'a> Read for Giver<'a> {
+    fn read(&mut self, buf: &mut [u8]) -> io::Result<usize> {
+        if self.calls == 0 {
+            return Err(Error::from(ErrorKind::Other));
+        }
+        self.calls -= 1;
+        let n = self.bytes.len().min(self.chunk).min(buf.len());
+        buf[..n].copy_from_slice(&self.bytes[..n]);
+        self.bytes = &self.bytes[n..];
+        Ok(n)
+    }
+}
+
+/// Takes some bytes at a time, and fails where there is no room left.
+#[derive(Drop)]
+struct Taker {
+    bytes: Vec<u8>,
+    chunk: usize,
+    room: usize,
+}
+
+impl Write for Taker {
+    fn write(&mut self, buf: &[u8]) -> io::Result<usize> {
+        if self.room == 0 {
+            return Err(Error::from(ErrorKind::Other));
+        }
+        let n = buf.len().min(self.chunk).min(self.room);
+        self.bytes.extend_from_slice(&buf[..n])?;
+        self.room -= n;
+        Ok(n)
+    }
+
+    fn flush(&mut self) -> io::Result<()> {
+        Ok(())
+    }
+}
+
+/// Runs the lines with reads of `chunk` bytes that fail after `calls`, and writes of as many that fail
+/// after `room` bytes; answers how the run ended and what was written.
+pub fn answers(
+    alloc: Global,
+    limit: usize,
+    lines: &[u8],
+    chunk: usize,
+    calls: usize,
+    room: usize,
+) -> (Result<(), RunFault>, Vec<u8>)
+    requires { limit ≤ 2 ^ 31 }
+{
+    let mut taker = Taker {
+        bytes: Vec::new(alloc),
+        chunk,
+        room,
+    };
+    let mut source = StdSource::new(Giver {
+        bytes: lines,
+        chunk,
+        calls,
+    });
+    let mut sink = StdSink::new(&mut taker);
+    let ended = run(alloc, &mut source, &mut sink, limit);
+    (ended, taker.bytes)
+}

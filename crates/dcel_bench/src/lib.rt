@@ -1,0 +1,15 @@
+//! Test vectors for the mesh and its runner: rows of lines with the replies that are expected, and calls with their answers.
+#![tactic(auto)]
+
+#[cfg(test)]
+mod answers;
+#[cfg(test)]
+mod calls;
+#[cfg(test)]
+mod carried;
+#[cfg(test)]
+mod commands;
+#[cfg(test)]
+mod lines;
+#[cfg(test)]
+mod rows;

@@ -1,0 +1,179 @@
+//! Lines that are commands and lines that aren't, however they are cut, and runs in which a read or a write fails.
+
+use crate::answers::{PLENTY, answers};
+use dcel_commands::commands::{Refusal, RunFault};
+use std::alloc::{AllocError, Global};
+use std::fmt::Write as _;
+use std::test::Fail;
+
+/// Lines, and what each is answered.
+const LINES: [(&[u8], &str); 44] = [
+    (b"append 5", "vertex 0"),
+    (b"append -12", "vertex 1"),
+    (b"append -0", "bad line"),
+    (b"append 007", "bad line"),
+    (b"append 00", "bad line"),
+    (b"append -07", "bad line"),
+    (b"append", "bad line"),
+    (b"append ", "bad line"),
+    (b"append  5", "bad line"),
+    (b"append 5 ", "bad line"),
+    (b" append 5", "bad line"),
+    (b"append 5 6", "bad line"),
+    (b"append 5a", "bad line"),
+    (b"append +5", "bad line"),
+    (b"append -", "bad line"),
+    (b"append --5", "bad line"),
+    (b"append 5\r", "bad line"),
+    (b"append\t5", "bad line"),
+    (b"append5", "bad line"),
+    (b"append 9223372036854775808", "bad line"),
+    (b"append -9223372036854775809", "bad line"),
+    (b"append 18446744073709551621", "bad line"),
+    (b"APPEND 5", "bad line"),
+    (b"Append 5", "bad line"),
+    (b"appends 5", "bad line"),
+    (b"\xff 5", "bad line"),
+    (b"", "bad line"),
+    (b" ", "bad line"),
+    (b"5", "bad line"),
+    (b"setup 0 1", "ok"),
+    (b"setup 00 1", "bad line"),
+    (b"setup 0 01", "bad line"),
+    (b"setup 0  1", "bad line"),
+    (b"setup 0", "bad line"),
+    (b"setup 0 1 2", "bad line"),
+    (b"setup -1 0", "bad line"),
+    (b"setup 4294967295 0", "refused 1 NoSuchVertex"),
+    (b"setup 4294967296 0", "bad line"),
+    (b"setup 0 4294967296", "bad line"),
+    (b"setup 18446744073709551616 0", "bad line"),
+    (b"words ", "bad line"),
+    (b"append -9223372036854775808", "vertex 2"),
+    (b"append 9223372036854775807", "refused 19 NoRoom"),
+    (b"words 0", "bad line"),
+];
+
+#[test]
+fn lines_are_answered(rt: HostRuntime) -> Result<(), Fail> {
+    let mut lines = Vec::new(rt.alloc());
+    let mut replies = String::new(rt.alloc());
+    for (line, reply) in LINES {
+        lines.extend_from_slice(line)?;
+        lines.push(b'\n')?;
+        writeln!(replies, "{reply}")?;
+    }
+    for chunk in [1, 3, PLENTY] {
+        let (ended, written) = answers(rt.alloc(), 3, &lines, chunk, PLENTY, PLENTY);
+        ended?;
+        assert_eq!(rt;
+            written.as_slice(),
+            replies.as_bytes(),
+            "in reads of {chunk}"
+        );
+    }
+    Ok(())
+}
+
+/// So many bytes `x`, and then the text.
+fn after_bytes(alloc: Global, count: usize, text: &[u8]) -> Result<Vec<u8>, AllocError> {
+    let mut line = vec![in alloc; b'x'; count]?;
+    line.extend_from_slice(text)?;
+    Ok(line)
+}
+
+#[test]
+fn long_lines_are_one_bad_line(rt: HostRuntime) -> Result<(), Fail> {
+    for count in [4095, 4096, 4097, 4098, 9000] {
+        for (text, replies) in [
+            ("", "bad line\n"),
+            ("\n", "bad line\n"),
+            ("append 5\nappend 5", "bad line\nvertex 0\n"),
+            ("\nappend 5", "bad line\nvertex 0\n"),
+        ] {
+            let lines = after_bytes(rt.alloc(), count, text.as_bytes())?;
+            for chunk in [1, 4096, PLENTY] {
+                let (ended, written) = answers(rt.alloc(), 3, &lines, chunk, PLENTY, PLENTY);
+                ended?;
+                assert_eq!(rt;
+                    written.as_slice(),
+                    replies.as_bytes(),
+                    "after {count} bytes in reads of {chunk}"
+                );
+            }
+        }
+    }
+    Ok(())
+}
+
+#[test]
+fn many_lines_are_answered(rt: HostRuntime) -> Result<(), Fail> {
+    let mut lines = String::new(rt.alloc());
+    let mut replies = String::new(rt.alloc());
+    for _ in 0..5000 {
+        writeln!(lines, "setup 0 0")?;
+        writeln!(replies, "refused 1 NoSuchVertex")?;
+    }
+    let (ended, written) = answers(rt.alloc(), 3, lines.as_bytes(), PLENTY, PLENTY, PLENTY);
+    ended?;
+    assert_eq!(rt; written.as_slice(), replies.as_bytes());
+    Ok(())
+}
+
+#[test]
+fn a_read_fails(rt: HostRuntime) -> Result<(), Fail> {
+    let lines = b"append 0\nappend 1\nappend";
+    for (calls, replies) in [
+        (0, ""),
+        (8, ""),
+        (9, "vertex 0\n"),
+        (17, "vertex 0\n"),
+        (18, "vertex 0\nvertex 1\n"),
+        (24, "vertex 0\nvertex 1\n"),
+    ] {
+        let (ended, written) = answers(rt.alloc(), 3, lines, 1, calls, PLENTY);
+        assert!(rt;
+            matches!(&ended, Err(RunFault::Read)),
+            "after {calls} calls"
+        );
+        assert_eq!(rt;
+            written.as_slice(),
+            replies.as_bytes(),
+            "after {calls} calls"
+        );
+    }
+    Ok(())
+}
+
+#[test]
+fn a_write_fails(rt: HostRuntime) -> Result<(), Fail> {
+    let lines = b"append 0\nappend\nappend 1";
+    let replies = b"vertex 0\nbad line\nvertex 1\n";
+    for chunk in [1, 5, PLENTY] {
+        for room in 0..replies.len() {
+            let (ended, written) = answers(rt.alloc(), 3, lines, chunk, PLENTY, room);
+            assert!(rt;
+                matches!(&ended, Err(RunFault::Write)),
+                "after {room} bytes"
+            );
+            assert_eq!(rt; written.as_slice(), &replies[..room]);
+        }
+    }
+    let (ended, _) = answers(rt.alloc(), 3, lines, 0, PLENTY, PLENTY);
+    ended?;
+    Ok(())
+}
+
+#[test]
+fn faults_and_refusals_are_named(rt: HostRuntime) -> Result<(), Fail> {
+    for (fault, text) in [
+        (RunFault::Read, "read failed"),
+        (RunFault::Write, "write failed"),
+        (RunFault::Memory, "out of memory"),
+    ] {
+        assert_eq!(rt; format!(in rt.alloc(); "{fault}")?.as_str(), text);
+    }
+    assert_eq!(rt; Refusal::OutOfMemory.name(), "OutOfMemory");
+    assert_eq!(rt; Refusal::OutOfMemory.number(), 20);
+    Ok(())
+}

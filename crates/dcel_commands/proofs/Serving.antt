@@ -1,0 +1,134 @@
+-- How a conversation goes on.
+use Rattle.std.proofs.Common.{◌≡◌, ◌≢◌, ℕ, ◌+◌, ◌<◌, ◌≤◌, List, [], ◌∷◌, ◌++◌, length, take, refl, sym, ap, subst, ◌∙◌, arith, append_assoc, append-nil, inl, inr, Bool, true, false, Option}
+use Rattle.std.specs.Prelude.{◌⊎◌}
+use Rattle.std.proofs.lemmas.Bool.{cases_lt}
+use Rattle.std.proofs.lemmas.List.{length-append, length-take-le, take_all}
+use Rattle.dcel_commands.specs.Lines.{line_feed, lines, joined, HasNoFeed}
+use Rattle.dcel_commands.specs.Output.{Wrote}
+use Rattle.dcel_commands.specs.Responses.{Said}
+use Rattle.dcel_commands.specs.LineSteps.{State, start}
+use Rattle.dcel_commands.specs.Talk.{Answers, bad_line, step, said_text, Talk}
+use Rattle.dcel_commands.specs.Stage.{Stage, Goes, Leads, Serves, Ends}
+use Rattle.dcel_commands.proofs.LineEnds.{lines-nil, lines-feed, joined-append, joined-cons, joined-whole, joined-unended, lines-begun, lines-line}
+use Rattle.dcel_commands.proofs.Writing.{wrote_nothing, wrote_then}
+
+length-nonempty : (l : List ℕ) → l ≢ [] → 0 < length l
+length-nonempty [] some = absurd (some refl)
+length-nonempty (b ∷ l) some = omega arith
+
+-- ---- lines that are too long are all one
+
+answers_long : (limit : ℕ) (m : State) (k l : List ℕ) (r : Said) (t : State) → 4096 < length k → 4096 < length l → Answers limit m k r t → Answers limit m l r t
+answers_long limit m k l r t hk hl (bad_line bad e) = bad_line (λ w g h. absurd (omega (arith, h.short))) e
+answers_long limit m k l r t hk hl (step h s) = absurd (omega (arith, h.short))
+
+short_or_long : (l : List ℕ) → (take 4097 l ≡ l) ⊎ ((4096 < length (take 4097 l)) × (4096 < length l))
+short_or_long l =
+    elim (cases_lt 4097 (length l)) [
+      | inl lt ↦ inr (omega (arith, length-take-le 4097 l (omega arith)), omega arith)
+      | inr le ↦ inl (take_all 4097 l le)
+    ]
+
+-- a line that was cut to the bytes that are kept of it is answered as the whole line is
+answers_cut : (limit : ℕ) (m : State) (l : List ℕ) (r : Said) (t : State) → Answers limit m (take 4097 l) r t → Answers limit m l r t
+answers_cut limit m l r t h =
+    elim (short_or_long l) [
+      | inl e ↦ subst (λ (x : List ℕ). Answers limit m x r t) e h
+      | inr long ↦ answers_long limit m (take 4097 l) l r t long.0 long.1 h
+    ]
+
+talk_long : (limit : ℕ) (m : State) (k l : List ℕ) (ls : List (List ℕ)) (text : List ℕ) → 4096 < length k → 4096 < length l → Talk limit m (k ∷ ls) text → Talk limit m (l ∷ ls) text
+talk_long limit m k l ls text hk hl h = (h.0, h.1, h.2, answers_long limit m k l h.0 h.1 hk hl h.3, h.4, h.5)
+
+joined_long : (limit : ℕ) (u : Bool) (m : State) (k l : List ℕ) (ls : List (List ℕ)) (text : List ℕ) → 4096 < length k → 4096 < length l → Talk limit m (joined u k ls) text → Talk limit m (joined u l ls) text
+joined_long limit u m k l (line ∷ ls) text hk hl h =
+    subst (λ (x : List (List ℕ)). Talk limit m x text) (sym (joined-cons u l line ls))
+    (talk_long limit m (k ++ line) (l ++ line) ls text (omega (arith, length-append k line)) (omega (arith, length-append l line))
+    (subst (λ (x : List (List ℕ)). Talk limit m x text) (joined-cons u k line ls) h))
+joined_long limit true m k l [] text hk hl h =
+    subst (λ (x : List (List ℕ)). Talk limit m x text) (sym (joined-unended l (omega arith)))
+    (talk_long limit m k l [] text hk hl (subst (λ (x : List (List ℕ)). Talk limit m x text) (joined-unended k (omega arith)) h))
+joined_long limit false m k l [] text hk hl h = subst (λ (x : List (List ℕ)). Talk limit m x text) (joined-whole k ∙ sym (joined-whole l)) h
+
+joined_cut : (limit : ℕ) (u : Bool) (m : State) (l : List ℕ) (ls : List (List ℕ)) (text : List ℕ) → Talk limit m (joined u (take 4097 l) ls) text → Talk limit m (joined u l ls) text
+joined_cut limit u m l ls text h =
+    elim (short_or_long l) [
+      | inl e ↦ subst (λ (x : List ℕ). Talk limit m (joined u x ls) text) e h
+      | inr long ↦ joined_long limit u m (take 4097 l) l ls text long.0 long.1 h
+    ]
+
+-- ---- from one stage to another
+
+leads_nothing : (limit : ℕ) (p : Stage) → Leads limit p p [] []
+leads_nothing limit p u rest more g = g
+
+leads_then : (limit : ℕ) (p q r : Stage) (xs ys text more : List ℕ) → Leads limit p q xs text → Leads limit q r ys more → Leads limit p r (xs ++ ys) (text ++ more)
+leads_then limit p q r xs ys text more f g u rest end h =
+    subst (λ (x : List ℕ). Goes limit u p x ((text ++ more) ++ end)) (sym (append_assoc xs ys rest))
+    (subst (Goes limit u p (xs ++ (ys ++ rest))) (sym (append_assoc text more end)) (f u (ys ++ rest) (more ++ end) (g u rest end h)))
+
+-- the bytes go on with the line that has begun
+leads_begun : (limit : ℕ) (m : State) (begun held held2 xs : List ℕ) → HasNoFeed xs
+    → Leads limit (record { mesh = m; begun = begun; held = held }) (record { mesh = m; begun = take 4097 (begun ++ xs); held = held2 }) xs []
+leads_begun limit m begun held held2 xs h u rest more g =
+    let same : joined u begun (lines u (xs ++ rest)) ≡ joined u (begun ++ xs) (lines u rest) = ap (joined u begun) (lines-begun u xs rest h) ∙ sym (joined-append u begun xs (lines u rest)) in
+    subst (λ (x : List (List ℕ)). Talk limit m x more) (sym same) (joined_cut limit u m (begun ++ xs) (lines u rest) more g)
+
+-- the bytes end the line that has begun
+leads_line : (limit : ℕ) (m t : State) (begun held held2 xs : List ℕ) (r : Said) → HasNoFeed xs → Answers limit m (take 4097 (begun ++ xs)) r t
+    → Leads limit (record { mesh = m; begun = begun; held = held }) (record { mesh = t; begun = []; held = held2 }) (xs ++ line_feed ∷ []) (said_text t r)
+leads_line limit m t begun held held2 xs r h a u rest more g =
+    subst (λ (x : List (List ℕ)). Talk limit m x (said_text t r ++ more)) (sym (lines-line u begun xs rest h)) (r, t, more, answers_cut limit m (begun ++ xs) r t a, g, refl)
+
+-- ---- the same with what was written
+
+module _ {K : Type 0} {has_failed : K → Bool} {contents : K → Option (List ℕ)} where
+  pub serves_nothing : {limit : ℕ} {p : Stage} {s : K} → Serves has_failed contents limit p p [] s s
+  serves_nothing {limit} {p} {s} = record { text = []; wrote = wrote_nothing has_failed contents s p.held; leads = leads_nothing limit p }
+
+  pub serves_then : {limit : ℕ} {p q r : Stage} {xs ys : List ℕ} {s t v : K} → Serves has_failed contents limit p q xs s t → Serves has_failed contents limit q r ys t v → Serves has_failed contents limit p r (xs ++ ys) s v
+  serves_then {limit} {p} {q} {r} {xs} {ys} {s} {t} {v} f g = record {
+    text = f.text ++ g.text;
+    wrote = wrote_then has_failed contents s t v p.held q.held r.held f.text g.text f.wrote g.wrote;
+    leads = leads_then limit p q r xs ys f.text g.text f.leads g.leads;
+  }
+
+  -- the bytes that were kept of a line are answered, and its place is empty again
+  pub serves_line : {limit : ℕ} {p : Stage} {t : State} {kept begun held : List ℕ} (xs : List ℕ) {r : Said} {s v : K} → HasNoFeed xs → kept ≡ take 4097 (p.begun ++ xs) → Answers limit p.mesh kept r t → begun ≡ []
+      → Wrote has_failed contents s p.held v held (said_text t r) → Serves has_failed contents limit p (record { mesh = t; begun = begun; held = held }) (xs ++ line_feed ∷ []) s v
+  serves_line {limit} {p} {t} {kept} {begun} {held} xs {r} {s} {v} h e a b w =
+      subst (λ (x : List ℕ). Serves has_failed contents limit p (record { mesh = t; begun = x; held = held }) (xs ++ line_feed ∷ []) s v) (sym b)
+      (record { text = said_text t r; wrote = w; leads = leads_line limit p.mesh t p.begun p.held held xs r h (subst (λ (x : List ℕ). Answers limit p.mesh x r t) e a) })
+
+  -- the rest of a piece is kept, and what was held goes out
+  pub serves_rest : {limit : ℕ} {p : Stage} {begun held xs : List ℕ} {s t : K} → HasNoFeed xs → begun ≡ take 4097 (p.begun ++ xs) → Wrote has_failed contents s p.held t held []
+      → Serves has_failed contents limit p (record { mesh = p.mesh; begun = begun; held = held }) xs s t
+  serves_rest {limit} {p} {begun} {held} {xs} {s} {t} h e w =
+      subst (λ (x : List ℕ). Serves has_failed contents limit p (record { mesh = p.mesh; begun = x; held = held }) xs s t) (sym e)
+      (record { text = []; wrote = w; leads = leads_begun limit p.mesh p.begun p.held held xs h })
+
+  pub serves_bytes : {limit : ℕ} {p q : Stage} {xs ys : List ℕ} {s t : K} → xs ≡ ys → Serves has_failed contents limit p q xs s t → Serves has_failed contents limit p q ys s t
+  serves_bytes {limit} {p} {q} {xs} {ys} {s} {t} e f = subst (λ (x : List ℕ). Serves has_failed contents limit p q x s t) e f
+
+  -- ---- the end
+
+  pub ends_nothing : {limit : ℕ} {p : Stage} {held : List ℕ} {s t : K} → p.begun ≡ [] → held ≡ [] → Wrote has_failed contents s p.held t held [] → Ends has_failed contents limit p s t
+  ends_nothing {limit} {p} {held} {s} {t} e h w = record {
+    text = [];
+    wrote = subst (λ (x : List ℕ). Wrote has_failed contents s p.held t x []) h w;
+    goes = subst (λ (x : List (List ℕ)). Talk limit p.mesh x []) (sym (ap (λ (x : List ℕ). joined true x (lines true [])) e ∙ lines-nil true)) refl;
+  }
+
+  -- a last line is answered as one with a line feed is
+  pub ends_line : {limit : ℕ} {p q : Stage} {held : List ℕ} {s t v : K} → p.begun ≢ [] → q.begun ≡ [] → Serves has_failed contents limit p q ([] ++ line_feed ∷ []) s t → held ≡ [] → Wrote has_failed contents t q.held v held []
+      → Ends has_failed contents limit p s v
+  ends_line {limit} {p} {q} {held} {s} {t} {v} some e f h w =
+      let over : Goes limit true q [] [] = subst (λ (x : List (List ℕ)). Talk limit q.mesh x []) (sym (ap (λ (x : List ℕ). joined true x (lines true [])) e ∙ lines-nil true)) refl in
+      let same : joined true p.begun (lines true (line_feed ∷ [])) ≡ joined true p.begun (lines true []) =
+      ap (joined true p.begun) (lines-feed true [] ∙ ap (λ (x : List (List ℕ)). [] ∷ x) (lines-nil true)) ∙ joined-cons true p.begun [] [] ∙ ap (λ (x : List ℕ). x ∷ []) (append-nil p.begun)
+      ∙ sym (ap (joined true p.begun) (lines-nil true) ∙ joined-unended p.begun (length-nonempty p.begun some)) in
+      record {
+        text = f.text ++ [];
+        wrote = subst (λ (x : List ℕ). Wrote has_failed contents s p.held v x (f.text ++ [])) h (wrote_then has_failed contents s t v p.held q.held held f.text [] f.wrote w);
+        goes = subst (λ (x : List (List ℕ)). Talk limit p.mesh x (f.text ++ [])) same (f.leads true [] [] over);
+      }

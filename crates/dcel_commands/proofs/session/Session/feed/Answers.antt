@@ -1,0 +1,23 @@
+use Rattle.std.proofs.Common.{[], ◌∷◌, ◌++◌, refl, sym}
+use Rattle.dcel_commands.specs.Lines.{line_feed}
+use Rattle.dcel_commands.proofs.LineEnds.{front-line}
+use Rattle.dcel_commands.proofs.Serving.{serves_nothing, serves_then, serves_bytes}
+use Rattle.dcel_commands.proofs.session.Session.feed.Goals as goal
+
+pub loop-line-init : goal.loop-line-init
+loop-line-init g c = record { front = []; whole = refl; served = serves_nothing }
+
+pub loop-line-preserved : goal.loop-line-preserved
+loop-line-preserved g c =
+    let so_far = c.loop-line.invariant in
+    let line = c.in-Some.line.now in
+    record {
+      front = so_far.front ++ (line ++ line_feed ∷ []);
+      whole = front-line c.args.piece.now so_far.front line c.loop-line.rest.now c.in-Some.others.now so_far.whole c.in-Some.ensures.1;
+      served = serves_then so_far.served c.end_line.ensures.serves;
+    }
+
+pub returns-clause-serves : goal.returns-clause-serves
+returns-clause-serves g c =
+    let so_far = c.loop-line.invariant in
+    serves_bytes (sym so_far.whole) (serves_then so_far.served (c.keep.ensures.serves c.args.limit))

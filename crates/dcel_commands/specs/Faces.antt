@@ -1,0 +1,27 @@
+-- The lines of a mesh's faces.
+use Rattle.std.specs.Prelude.{◌≡◌, ℕ, zero, suc, ◌<◌, List, [], ◌++◌, if◌then◌else◌}
+use Rattle.spade_dcel.specs.Shapes.{Shape, face_count, face_is_live, face_of, IsLive}
+use Rattle.spade_dcel.specs.Words.{count_of, word_of}
+use Rattle.dcel_commands.specs.Responses.{face_line}
+
+-- the line of a face where it is live, and nothing where it isn't
+abbrev pub line_of : Shape → ℕ → List ℕ
+line_of s f = if face_is_live s f then face_line f (word_of s.words f) else []
+
+-- the lines of the faces below n, in their order
+abbrev pub lines_below : Shape → ℕ → List ℕ
+lines_below s zero = []
+lines_below s (suc n) = lines_below s n ++ line_of s n
+
+-- the lines of all faces
+abbrev pub words_text : Shape → List ℕ
+words_text s = lines_below s (face_count s)
+
+-- the word that holds a half edge
+abbrev pub word_round : Shape → ℕ → List ℕ
+word_round s h = word_of s.words (face_of s h)
+
+-- h is live, and nothing below it stands in its word
+pub record IsLeastOnFace (s : Shape) (h : ℕ) : Type 0 where
+  pub live : IsLive s h
+  pub none_below : (k : ℕ) → k < h → count_of k (word_round s h) ≡ 0

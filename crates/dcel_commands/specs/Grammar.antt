@@ -1,0 +1,66 @@
+-- The lines that are commands: a word, and after it what its shape asks for.
+use Rattle.std.specs.Prelude.{◌≡◌, ℕ, ℤ, ◌<◌, ◌≤◌, ◌^◌, List, [], ◌∷◌, ◌++◌, length, codes}
+use Rattle.std.specs.Int.{w64}
+use Rattle.std.specs.Int.RustNames.{FitsSigned}
+use Rattle.std.specs.Fmt.{decimal, signed_decimal}
+use Rattle.dcel_commands.specs.declared.grammar.Word.{Word}
+use Rattle.dcel_commands.specs.declared.grammar.Word.TheVariants.{Append, Setup, Extend, Words}
+use Rattle.dcel_commands.specs.declared.grammar.Shape.{Shape}
+use Rattle.dcel_commands.specs.declared.grammar.Shape.TheVariants as shapes
+
+-- how each word is written
+abbrev pub text : Word → List ℕ
+text Append = codes "append"
+text Setup = codes "setup"
+text Extend = codes "extend"
+text Words = codes "words"
+
+-- what comes after each word
+abbrev pub shape : Word → Shape
+shape Append = shapes.Datum
+shape Setup = shapes.TwoNumbers
+shape Extend = shapes.TwoNumbers
+shape Words = shapes.Nothing
+
+-- what is given after a word
+pub data Given : Type 0 where
+  Nothing : Given
+  Datum : ℤ → Given
+  TwoNumbers : ℕ → ℕ → Given
+
+abbrev pub shape_of : Given → Shape
+shape_of Nothing = shapes.Nothing
+shape_of (Datum d) = shapes.Datum
+shape_of (TwoNumbers m n) = shapes.TwoNumbers
+
+-- its items, from left to right
+abbrev pub written : Given → List (List ℕ)
+written Nothing = []
+written (Datum d) = signed_decimal d ∷ []
+written (TwoNumbers m n) = decimal m ∷ decimal n ∷ []
+
+-- the range of a number that is no datum
+abbrev pub IsNumber : ℕ → Type 0
+IsNumber n = n < 2 ^ 32
+
+-- the range of a datum
+abbrev pub IsDatum : ℤ → Type 0
+IsDatum d = FitsSigned w64 d
+
+abbrev pub InRange : Given → Type 0
+InRange Nothing = Unit {0}
+InRange (Datum d) = IsDatum d
+InRange (TwoNumbers m n) = IsNumber m × IsNumber n
+
+-- items with one space between two
+abbrev pub spaced : List (List ℕ) → List ℕ
+spaced [] = []
+spaced (item ∷ []) = item
+spaced (item ∷ next ∷ items) = item ++ 32 ∷ spaced (next ∷ items)
+
+-- the line is this word with what is given to it
+pub record Spells (word : Word) (given : Given) (line : List ℕ) : Type 0 where
+  pub suits : shape_of given ≡ shape word
+  pub in_range : InRange given
+  pub short : length line ≤ 4096
+  pub spelled : line ≡ spaced (text word ∷ written given)

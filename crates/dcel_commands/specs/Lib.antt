@@ -1,0 +1,16 @@
+pub mod Conditions
+pub mod Faces
+pub mod Grammar
+pub mod Items
+pub mod LineSteps
+pub mod Lines
+pub mod Output
+pub mod Parsed
+pub mod Refusal
+pub mod Replies
+pub mod Responses
+pub mod Run
+pub mod Stage
+pub mod Steps
+pub mod Talk
+pub mod Transfer

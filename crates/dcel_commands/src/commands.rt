@@ -1,0 +1,15 @@
+//! Commands that a mesh carries out, or refuses by name; and the runner, which reads them as lines and writes the replies.
+
+mod checks;
+mod command;
+mod dispatch;
+mod reply;
+
+pub use crate::faults::{Failed, RunFault};
+pub use crate::refusal::Refusal;
+pub use crate::run::run;
+pub use crate::sink::{LineSink, StdSink};
+pub use crate::source::{LineSource, StdSource};
+pub use command::Command;
+pub use dispatch::apply;
+pub use reply::{Handed, Refused, Reply};

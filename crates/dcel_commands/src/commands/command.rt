@@ -1,0 +1,22 @@
+//! What can be asked of a mesh.
+
+use dcel_fixed::FixedVertexHandle;
+
+/// An edit of a mesh, by the numbers of its elements. Numbers may be any: [`apply`](crate::commands::apply) tests all that a
+/// command asks.
+#[derive(Debug, Drop)]
+pub enum Command<V> {
+    /// Adds a vertex with this datum and without an edge. The reply is its number, which is the old count.
+    ///
+    /// It asks for room for one vertex.
+    Append(V),
+    /// Adds the first edge, from the first vertex to the second.
+    ///
+    /// It asks for two different live vertices, a mesh without edges, and room for one edge.
+    Setup(FixedVertexHandle, FixedVertexHandle),
+    /// Makes the line that ends at the first vertex longer, by an edge to the second. The reply is the second.
+    ///
+    /// It asks for two different live vertices, of which the second has no edge and the first exactly one out edge, and for room
+    /// for one edge.
+    Extend(FixedVertexHandle, FixedVertexHandle),
+}

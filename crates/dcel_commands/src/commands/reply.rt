@@ -1,0 +1,62 @@
+//! What a command is answered.
+
+use crate::refusal::Refusal;
+use dcel_fixed::FixedVertexHandle;
+use std::alloc::AllocError;
+
+/// The answer to a command that was carried out.
+#[derive(Debug, Drop, PartialEq, Eq)]
+pub enum Reply {
+    /// It was carried out, and there is nothing more to say.
+    Ok,
+    /// The vertex that was added, or that an edge now leads to.
+    Vertex(FixedVertexHandle),
+}
+
+/// The data that a refused command carried, in their order.
+#[derive(Debug, Drop, PartialEq, Eq)]
+pub enum Handed<V> {
+    /// It carried none.
+    Nothing,
+    /// It carried one.
+    One(V),
+    /// It carried three.
+    Three(V, V, V),
+}
+
+/// That a command was refused.
+#[derive(Debug, Drop, PartialEq, Eq)]
+pub struct Refused<V> {
+    /// Why.
+    pub why: Refusal,
+    /// The data that the command carried.
+    pub back: Handed<V>,
+}
+
+impl<V> From<Refusal> for Refused<V> {
+    ghost use Rattle.std.specs.Prelude.{◌≡◌};
+    ghost use Rattle.dcel_commands.specs.Replies.{bare};
+
+    ghost from_gives = { λ why refused. refused ≡ bare why };
+
+    /// Refuses a command that carried no datum.
+    fn from(why: Refusal) -> Refused<V> {
+        Refused {
+            why,
+            back: Handed::Nothing,
+        }
+    }
+}
+
+impl<V> From<AllocError> for Refused<V> {
+    ghost use Rattle.std.specs.Prelude.{◌≡◌};
+    ghost use Rattle.dcel_commands.specs.Replies.{bare};
+    ghost use Rattle.dcel_commands.specs.declared.refusal.Refusal.TheVariants.{OutOfMemory};
+
+    ghost from_gives = { λ _ refused. refused ≡ bare OutOfMemory };
+
+    /// Refuses a command that carried no datum, for want of memory.
+    fn from(_error: AllocError) -> Refused<V> {
+        Refused::from(Refusal::OutOfMemory)
+    }
+}

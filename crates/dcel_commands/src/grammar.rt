@@ -1,0 +1,53 @@
+//! The words that begin a line, and what comes after each.
+
+ghost use Rattle.std.specs.Prelude.{◌≡◌, ◌≢◌, MatchOption};
+ghost use Rattle.dcel_commands.specs.Grammar.{text, shape};
+
+/// The word that a line begins with.
+#[derive(Clone, Copy)]
+pub enum Word {
+    Append,
+    Setup,
+    Extend,
+    Words,
+}
+
+/// What comes after a word.
+#[derive(Clone, Copy)]
+pub enum Shape {
+    Nothing,
+    Datum,
+    TwoNumbers,
+}
+
+/// What was given after a word.
+#[derive(Drop)]
+pub enum Args {
+    Nothing,
+    Datum(i64),
+    TwoNumbers(u32, u32),
+}
+
+/// The word that is written so.
+pub fn word_written(item: &[u8]) -> Option<Word>
+    ensures { MatchOption result ((w : Word) → item.now ≢ text w) (λ w. item.now ≡ text w) }
+{
+    match item {
+        b"append" => Some(Word::Append),
+        b"setup" => Some(Word::Setup),
+        b"extend" => Some(Word::Extend),
+        b"words" => Some(Word::Words),
+        _ => None,
+    }
+}
+
+/// What comes after the word.
+pub fn shape_after(word: Word) -> Shape
+    ensures { result ≡ shape word }
+{
+    match word {
+        Word::Append => Shape::Datum,
+        Word::Setup | Word::Extend => Shape::TwoNumbers,
+        Word::Words => Shape::Nothing,
+    }
+}

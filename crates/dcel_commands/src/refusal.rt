@@ -1,0 +1,87 @@
+//! Why a command isn't carried out.
+
+ghost use Rattle.std.specs.Prelude.{◌≡◌};
+
+/// Why a command was refused, from the first reason that is looked at to the last.
+#[derive(Clone, Copy, Debug, PartialEq, Eq)]
+pub enum Refusal {
+    /// A vertex's number is out of range.
+    NoSuchVertex = 1,
+    /// An edge's number is out of range.
+    NoSuchEdge,
+    /// A face's number is out of range, or the outer face stands where an inner one is asked for.
+    NoSuchFace,
+    /// A removal is open.
+    RemovalOpen,
+    /// No removal is open.
+    NoRemoval,
+    /// An element was given up.
+    GivenUp,
+    /// Two vertices are one.
+    SameVertex,
+    /// A vertex that must be unconnected has an edge.
+    VertexInUse,
+    /// The mesh has an edge.
+    EdgesStand,
+    /// The end of the line hasn't exactly one out edge.
+    NotLineEnd,
+    /// The two halves of the edge lie on two faces.
+    NotBridge,
+    /// The half edge isn't on the outer face.
+    NotOuter,
+    /// A face that must have three half edges hasn't.
+    NotTriangle,
+    /// An edge would join a vertex to itself.
+    WouldLoop,
+    /// The half edges are no ring.
+    BadRing,
+    /// The half edges are no strip.
+    BadStrip,
+    /// The lists aren't those of the open removal.
+    WrongLists,
+    /// The vertex isn't the end or the middle of a path.
+    NotPath,
+    /// The limit or the range of numbers is passed.
+    NoRoom,
+    /// There was no memory.
+    OutOfMemory,
+}
+
+impl Refusal {
+    ghost use Rattle.dcel_commands.specs.Refusal.{number_of, name_of};
+
+    /// The number, from 1 to 20.
+    pub fn number(self) -> u8
+        ensures { result ≡ number_of self }
+    {
+        self as u8
+    }
+
+    /// The name, as in the code.
+    pub fn name(self) -> &'static str
+        ensures { result.now ≡ name_of self }
+    {
+        match self {
+            Refusal::NoSuchVertex => "NoSuchVertex",
+            Refusal::NoSuchEdge => "NoSuchEdge",
+            Refusal::NoSuchFace => "NoSuchFace",
+            Refusal::RemovalOpen => "RemovalOpen",
+            Refusal::NoRemoval => "NoRemoval",
+            Refusal::GivenUp => "GivenUp",
+            Refusal::SameVertex => "SameVertex",
+            Refusal::VertexInUse => "VertexInUse",
+            Refusal::EdgesStand => "EdgesStand",
+            Refusal::NotLineEnd => "NotLineEnd",
+            Refusal::NotBridge => "NotBridge",
+            Refusal::NotOuter => "NotOuter",
+            Refusal::NotTriangle => "NotTriangle",
+            Refusal::WouldLoop => "WouldLoop",
+            Refusal::BadRing => "BadRing",
+            Refusal::BadStrip => "BadStrip",
+            Refusal::WrongLists => "WrongLists",
+            Refusal::NotPath => "NotPath",
+            Refusal::NoRoom => "NoRoom",
+            Refusal::OutOfMemory => "OutOfMemory",
+        }
+    }
+}

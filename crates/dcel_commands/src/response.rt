@@ -1,0 +1,64 @@
+//! What a line is answered, and how that is written.
+
+ghost use Rattle.std.specs.Prelude.{◌≡◌, ◌++◌};
+ghost use Rattle.dcel_commands.specs.Output.{Wrote};
+ghost use Rattle.dcel_commands.specs.Refusal.{refusal_text};
+ghost use Rattle.dcel_commands.specs.Responses.{said, ended, numbered};
+ghost use Rattle.dcel_commands.specs.Talk.{said_text};
+
+use crate::faces::write_words;
+use crate::out::Out;
+use crate::refusal::Refusal;
+use crate::sink::LineSink;
+use crate::steps::LineMesh;
+use std::alloc::Allocator;
+
+/// The reply to a line.
+#[derive(Drop)]
+pub enum Response {
+    Done,
+    Vertex(u32),
+    Words,
+    Refused(Refusal),
+    BadLine,
+}
+
+/// Writes a word with a number after it, as a line.
+#[tactic(auto, using(crate::proofs::Writing::wrote_then))]
+fn write_numbered<K: LineSink>(sink: &mut K, out: &mut Out, word: &[u8], n: u32)
+    ensures { Wrote K.has_failed K.contents sink.old out.old sink.new out.new (ended (numbered word.now n)) }
+{
+    out.write(sink, word);
+    out.number(sink, u64::from(n));
+    out.push(sink, b'\n');
+}
+
+/// Writes a refusal, as a line.
+#[tactic(auto, using(crate::proofs::Writing::wrote_then))]
+fn write_refusal<K: LineSink>(sink: &mut K, out: &mut Out, why: Refusal)
+    ensures { Wrote K.has_failed K.contents sink.old out.old sink.new out.new (ended (refusal_text why)) }
+{
+    out.write(sink, b"refused ");
+    out.number(sink, u64::from(why.number()));
+    out.push(sink, b' ');
+    out.write(sink, why.name().as_bytes());
+    out.push(sink, b'\n');
+}
+
+/// Writes a reply, given about this mesh.
+pub fn write_response<A: Allocator, K: LineSink>(
+    sink: &mut K,
+    out: &mut Out,
+    mesh: &LineMesh<A>,
+    response: &Response,
+)
+    ensures { Wrote K.has_failed K.contents sink.old out.old sink.new out.new (said_text mesh.now (said response.now)) }
+{
+    match response {
+        Response::Done => out.write(sink, b"ok\n"),
+        Response::Vertex(n) => write_numbered(sink, out, b"vertex ", *n),
+        Response::Words => write_words(sink, out, mesh),
+        Response::Refused(why) => write_refusal(sink, out, *why),
+        Response::BadLine => out.write(sink, b"bad line\n"),
+    }
+}

@@ -1,0 +1,64 @@
+//! A run over all lines of a source.
+
+ghost use Rattle.std.specs.Prelude.{◌≡◌, ◌≤◌, ◌^◌, true, false, OnOk};
+ghost use Rattle.dcel_commands.specs.Run.{AnswersAll, AnswersWholeLines, AnswersInPart};
+
+use crate::faults::RunFault;
+use crate::session::Session;
+use crate::sink::LineSink;
+use crate::source::LineSource;
+use std::alloc::Allocator;
+
+/// The most bytes that are read at once.
+const PIECE: usize = 16384;
+
+/// Reads lines to the end of the source and writes the reply to each, starting from an empty mesh.
+/// At most `limit` vertices, edges and faces are made.
+pub fn run<A: Allocator + Clone, S: LineSource, K: LineSink>(
+    alloc: A,
+    source: &mut S,
+    sink: &mut K,
+    limit: usize,
+) -> Result<(), RunFault>
+    requires source_calm { S.has_failed source.old ≡ false }
+    requires sink_calm { K.has_failed sink.old ≡ false }
+    requires limit_in_range { limit ≤ 2 ^ 31 }
+
+    ensures ok { OnOk result
+        (AnswersAll limit (S.remaining source.old) (S.remaining source.new) (K.contents sink.old) (K.contents sink.new)) }
+    ensures calm { OnOk result ((S.has_failed source.new ≡ false) × (K.has_failed sink.new ≡ false)) }
+
+    ensures read { result ≡ Err RunFault.Read →
+        AnswersWholeLines limit (S.remaining source.old) (S.remaining source.new) (K.contents sink.old) (K.contents sink.new) }
+    ensures read_failed { result ≡ Err RunFault.Read → (S.has_failed source.new ≡ true) × (K.has_failed sink.new ≡ false) }
+
+    ensures write { result ≡ Err RunFault.Write →
+        AnswersInPart limit (S.remaining source.old) (S.remaining source.new) (K.contents sink.old) (K.contents sink.new) }
+    ensures write_failed { result ≡ Err RunFault.Write → (S.has_failed source.new ≡ false) × (K.has_failed sink.new ≡ true) }
+
+    // There was no memory for the first mesh, and nothing was read or written.
+    ensures memory { result ≡ Err RunFault.Memory → (source.new ≡ source.old) × (sink.new ≡ sink.old) }
+{
+    let mut session = match Session::new(alloc) {
+        Err(_) => return Err(RunFault::Memory),
+        Ok(session) => session,
+    };
+    let mut piece = [0u8; PIECE];
+    loop {
+        let n = match source.fill(&mut piece) {
+            Err(_) => return Err(RunFault::Read),
+            Ok(n) => n,
+        };
+        if n == 0 {
+            session.finish(sink, limit);
+            if sink.failed() {
+                return Err(RunFault::Write);
+            }
+            return Ok(());
+        }
+        session.feed(sink, limit, &piece[..n]);
+        if sink.failed() {
+            return Err(RunFault::Write);
+        }
+    }
+}
