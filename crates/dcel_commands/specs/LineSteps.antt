@@ -32,7 +32,7 @@ abbrev pub command_of : Word → Given → Option (Command ℤ)
 command_of words.Append (Datum d) = Some (Append d)
 command_of words.Setup (TwoNumbers a b) = Some (Setup a b)
 command_of words.Extend (TwoNumbers a b) = Some (Extend a b)
-command_of word given = None
+command_of _ _ = None
 
 abbrev pub said_reply : Reply → Said
 said_reply replies.Ok = Done
