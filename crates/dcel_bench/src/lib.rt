@@ -13,3 +13,5 @@ mod commands;
 mod lines;
 #[cfg(test)]
 mod rows;
+#[cfg(test)]
+mod triangles;

@@ -8,7 +8,7 @@ ghost use Rattle.spade_dcel.specs.Handles.{mesh_behind, number_of};
 ghost use Rattle.spade_dcel.specs.Shapes.{IsLive, IsMesh, IsSound, face_count, face_of};
 ghost use Rattle.spade_dcel.specs.Words.{word_of};
 
-use crate::out::Out;
+use crate::output::Out;
 use crate::sink::LineSink;
 use spade_dcel::dcel::Dcel;
 use spade_dcel::handles::{

@@ -10,7 +10,7 @@ mod items;
 pub mod laws;
 mod line;
 mod numbers;
-mod out;
+mod output;
 mod parse;
 mod refusal;
 mod response;

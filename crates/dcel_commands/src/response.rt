@@ -7,7 +7,7 @@ ghost use Rattle.dcel_commands.specs.Responses.{said, ended, numbered};
 ghost use Rattle.dcel_commands.specs.Talk.{said_text};
 
 use crate::faces::write_words;
-use crate::out::Out;
+use crate::output::Out;
 use crate::refusal::Refusal;
 use crate::sink::LineSink;
 use crate::steps::LineMesh;

@@ -8,7 +8,7 @@ ghost use Rattle.dcel_commands.specs.Talk.{Answers};
 ghost use Rattle.dcel_commands.specs.LineSteps.{start};
 
 use crate::line::Line;
-use crate::out::Out;
+use crate::output::Out;
 use crate::parse::{Parsed, parse};
 use crate::response::{Response, write_response};
 use crate::sink::LineSink;

@@ -4,6 +4,7 @@ pub mod Counts
 pub mod Cycles
 pub mod Ears
 pub mod Edits
+pub mod FirstTriangle
 pub mod Firsts
 pub mod Growth
 pub mod Halves

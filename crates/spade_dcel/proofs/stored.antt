@@ -1,6 +1,9 @@
 pub mod Appending
 pub mod Beginning
+pub mod FirstTriangle
 pub mod Holding
+pub mod Inserting
 pub mod Lines
 pub mod Pushes
 pub mod Spurring
+pub mod Triangles

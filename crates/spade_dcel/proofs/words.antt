@@ -3,6 +3,7 @@ pub mod Paths
 pub mod Becoming
 pub mod Walking
 pub mod Reading
+pub mod Rounds
 pub mod Spurs
 pub mod Firsts
 pub mod Agreement
@@ -12,3 +13,4 @@ pub mod Faces
 pub mod Chords
 pub mod Triangles
 pub mod Ears
+pub mod Inserts

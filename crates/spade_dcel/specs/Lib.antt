@@ -6,7 +6,11 @@ pub mod Shapes
 pub mod Standing
 pub mod Stored
 pub mod Edits
+pub mod Checked
 pub mod Kinds
 pub mod Record
 pub mod Spurs
+pub mod Triangles
 pub mod Handles
+pub mod Walking
+pub mod Laws

@@ -1,13 +1,16 @@
-ghost use Rattle.std.specs.Prelude.{◌≡◌, ◌*◌, ◌^◌, ◌<◌, ◌≤◌, ◌↔◌, IsTrue};
-ghost use Rattle.spade_dcel.specs.Edits.{HasRoom, IsUnconnected, IsLineEnd};
+ghost use Rattle.std.specs.Prelude.{◌≡◌, ℕ, ◌*◌, ◌^◌, ◌<◌, ◌≤◌, ◌↔◌, IsTrue, length, true};
+ghost use Rattle.spade_dcel.specs.Checked.{IsChecked, LooksTriangulated, EvenHalfFits, PartsFaces};
+ghost use Rattle.spade_dcel.specs.Edits.{HasRoom, IsUnconnected, IsLineEnd, IsTriangle};
 ghost use Rattle.spade_dcel.specs.Handles.{mesh_behind, number_of};
-ghost use Rattle.spade_dcel.specs.Shapes.{IsLive, vertex_is_live, edge_is_live, face_is_live, face_count, next_of, prev_of, origin_of, vertex_anchor, face_anchor};
+ghost use Rattle.spade_dcel.specs.Removals.{Closed};
+ghost use Rattle.spade_dcel.specs.Shapes.{IsLive, vertex_is_live, edge_is_live, face_is_live, face_count, next_of, prev_of, face_of, origin_of, vertex_anchor, face_anchor};
+ghost use Rattle.spade_dcel.specs.Words.{word_of};
 
-use crate::handles::{DirectedEdgeHandle, VertexHandle};
+use crate::handles::{DirectedEdgeHandle, FaceHandle, VertexHandle};
 use crate::removal::RemovalRecord;
 use dcel_fixed::{
     FixedDirectedEdgeHandle, FixedFaceHandle, FixedUndirectedEdgeHandle, FixedVertexHandle,
-    InnerOuterMarker,
+    InnerOuterMarker, OUTER_FACE, PossiblyOuterTag,
 };
 use dcel_store::Store;
 use std::alloc::{Allocator, Global};
@@ -107,6 +110,29 @@ impl<V, DE, UE, F, A: Allocator> Dcel<V, DE, UE, F, A> {
         DirectedEdgeHandle::new(self, handle)
     }
 
+    /// The face with this number, borrowed. It asks for a number below [`num_faces`](Self::num_faces).
+    #[inline]
+    pub fn face<InnerOuter: InnerOuterMarker>(
+        &self,
+        handle: FixedFaceHandle<InnerOuter>,
+    ) -> FaceHandle<'_, InnerOuter, V, DE, UE, F, A>
+        requires { handle < face_count self.now.shape }
+        ensures mesh { mesh_behind result ≡ self.now }
+        ensures number { number_of result ≡ handle }
+    {
+        FaceHandle::new(self, handle)
+    }
+
+    /// The outer face, borrowed: face 0, which every mesh has.
+    #[inline]
+    pub fn outer_face(&self) -> FaceHandle<'_, PossiblyOuterTag, V, DE, UE, F, A>
+        ensures mesh { mesh_behind result ≡ self.now }
+        ensures number { number_of result ≡ 0 }
+    {
+        prove!(self.num_faces() > 0);
+        self.face(OUTER_FACE)
+    }
+
     /// The anchor of a vertex: a live half edge that starts there, and None where there is none. It asks for a number below
     /// [`num_vertices`](Self::num_vertices).
     #[inline]
@@ -187,6 +213,81 @@ impl<V, DE, UE, F, A: Allocator> Dcel<V, DE, UE, F, A> {
             None => false,
         }
     }
+
+    /// Whether the face is live and its word has three half edges.
+    pub fn is_triangle<InnerOuter: InnerOuterMarker>(
+        &self,
+        handle: FixedFaceHandle<InnerOuter>,
+    ) -> bool
+        ensures { IsTrue result ↔ IsTriangle self.now.shape handle }
+    {
+        if !self.is_live_face(handle) {
+            return false;
+        }
+        match self.store.face_anchor(handle.adjust_inner_outer()) {
+            Some(edge) => self.is_on_triangle(edge),
+            None => false,
+        }
+    }
+}
+
+/// The sanity check.
+impl<V, DE, UE, F, A: Allocator> Dcel<V, DE, UE, F, A> {
+    /// Whether no removal is open, and the mesh has at most one vertex or looks triangulated: an edge stands, no vertex is
+    /// unconnected, each even half edge on an inner face lies on a word of three, and with more than one face no edge has one face on
+    /// both sides. It looks at even half edges alone: an inner face whose half edges are all odd may have a longer word.
+    pub fn sanity_check(&self) -> bool
+        ensures { IsTrue result ↔ IsChecked self.now.shape }
+    {
+        self.removal.is_closed() && (self.num_vertices() <= 1 || self.looks_triangulated())
+    }
+
+    fn looks_triangulated(&self) -> bool
+        requires { self.now.shape.removal ≡ Closed }
+        ensures { IsTrue result ↔ LooksTriangulated self.now.shape }
+    {
+        self.num_undirected_edges() > 0
+            && self.has_no_unconnected_vertex()
+            && self.has_triangles_at_even_halves()
+            && (self.num_faces() == 1 || self.has_two_faces_at_each_edge())
+    }
+
+    fn has_no_unconnected_vertex(&self) -> bool
+        ensures { IsTrue result ↔ ((v : ℕ) → ¬ IsUnconnected self.now.shape v) }
+    {
+        for index in 0..self.num_vertices() {
+            if self.is_unconnected(FixedVertexHandle::new(index)) {
+                return false;
+            }
+        }
+        true
+    }
+
+    fn has_triangles_at_even_halves(&self) -> bool
+        requires { self.now.shape.removal ≡ Closed }
+        ensures { IsTrue result ↔ ((u : ℕ) → edge_is_live self.now.shape u ≡ true → EvenHalfFits self.now.shape u) }
+    {
+        for index in 0..self.num_undirected_edges() {
+            let edge = FixedDirectedEdgeHandle::new_normalized(index);
+            if !self.face_of_edge(edge).is_outer() && !self.is_on_triangle(edge) {
+                return false;
+            }
+        }
+        true
+    }
+
+    fn has_two_faces_at_each_edge(&self) -> bool
+        requires { self.now.shape.removal ≡ Closed }
+        ensures { IsTrue result ↔ ((u : ℕ) → edge_is_live self.now.shape u ≡ true → PartsFaces self.now.shape u) }
+    {
+        for index in 0..self.num_undirected_edges() {
+            let edge = FixedDirectedEdgeHandle::new_normalized(index);
+            if self.face_of_edge(edge) == self.face_of_edge(edge.rev()) {
+                return false;
+            }
+        }
+        true
+    }
 }
 
 /// Links, for the handles.
@@ -216,5 +317,26 @@ impl<V, DE, UE, F, A: Allocator> Dcel<V, DE, UE, F, A> {
         ensures live { IsTrue (vertex_is_live self.now.shape result) }
     {
         self.store.origin(handle)
+    }
+
+    #[inline]
+    pub(crate) fn face_of_edge(
+        &self,
+        handle: FixedDirectedEdgeHandle,
+    ) -> FixedFaceHandle<PossiblyOuterTag>
+        requires { IsLive self.now.shape handle }
+        ensures value { result ≡ face_of self.now.shape handle }
+        ensures live { IsTrue (face_is_live self.now.shape result) }
+    {
+        self.store.face(handle)
+    }
+
+    // Whether the word of a half edge has three items.
+    #[inline]
+    fn is_on_triangle(&self, handle: FixedDirectedEdgeHandle) -> bool
+        requires { IsLive self.now.shape handle }
+        ensures { IsTrue result ↔ (length (word_of self.now.shape.words (face_of self.now.shape handle)) ≡ 3) }
+    {
+        self.store.next(self.store.next(handle)) == self.store.prev(handle)
     }
 }

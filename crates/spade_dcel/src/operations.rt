@@ -1,14 +1,20 @@
 //! Edits of a mesh. A call asks for what its contract requires, which its caller can test; it is refused only for want of memory, and
 //! then the mesh is as it was. Words, origins, anchors, numbers and answers are those that `docs/MODEL.md` draws.
 
-ghost use Rattle.std.specs.Prelude.{◌≡◌, ◌≢◌, ◌<◌, IfOk, IfErr, OnErr, OnOk, length, true};
-ghost use Rattle.spade_dcel.specs.Edits.{HasRoom, IsUnconnected, IsLineEnd, IsNew, AddsEdge, vertex_appended, first_edge_added, line_extended};
+ghost use Rattle.std.specs.Prelude.{◌≡◌, ◌≢◌, ◌<◌, ◌^◌, IfOk, IfErr, OnErr, OnOk, length, true};
+ghost use Rattle.dcel_store.specs.Lists as lists;
+ghost use Rattle.spade_dcel.specs.Edits.{HasRoom, IsUnconnected, IsLineEnd, IsTriangle, IsNew, AddsEdge, AddsEdgesAndFaces, vertex_appended, first_edge_added, line_extended, triangle_alone, vertex_inserted};
 ghost use Rattle.spade_dcel.specs.Shapes.{IsMesh, vertex_is_live};
 ghost use Rattle.spade_dcel.specs.Spurs.{spur_stored, CanSpur, first_edge_stored};
+ghost use Rattle.spade_dcel.specs.Triangles.{CanInsert, IsEmpty, insertion_stored, triangle_stored};
 
 use crate::dcel::Dcel;
+use crate::elements::{EdgeData, push_anchored_face, push_anchored_vertex, push_new_edge};
 use crate::removal::RemovalRecord;
-use dcel_fixed::{FixedDirectedEdgeHandle, FixedVertexHandle, OUTER_FACE};
+use crate::sectors::{Sector, close_sector, push_spoke};
+use dcel_fixed::{
+    FixedDirectedEdgeHandle, FixedFaceHandle, FixedVertexHandle, InnerTag, OUTER_FACE,
+};
 use dcel_store::{HalfEdgeEntry, Store};
 use std::alloc::{AllocError, Allocator};
 
@@ -32,6 +38,84 @@ pub fn new<V: Drop, DE: Drop, UE: Drop, F: Default + Drop, A: Allocator + Clone>
         store,
         removal: RemovalRecord::Closed,
     })
+}
+
+/// A mesh of one triangle, with this datum for each vertex: half edges 0, 2, 4 lead from vertex 0 to 1, from 1 to 2 and from 2 to 0
+/// round the outer face, and 1, 3, 5 back round face 1. Without memory it hands the data back.
+pub fn new_triangle<
+    V: Drop,
+    DE: Default + Drop,
+    UE: Default + Drop,
+    F: Default + Drop,
+    A: Allocator + Clone,
+>(alloc: A, vertices: (V, V, V)) -> Result<Dcel<V, DE, UE, F, A>, NoMemory<(V, V, V)>>
+    ensures triangle { IfOk result (λ dcel. AddsEdgesAndFaces DE.is_default UE.is_default F.is_default 3 2 dcel (triangle_alone vertices)) }
+    ensures back { IfErr result (λ refused. refused.back ≡ vertices) }
+    ensures mesh { IfOk result IsMesh }
+{
+    let mut store = match Store::new(alloc) {
+        Ok(store) => store,
+        Err(_) => return Err(NoMemory { back: vertices }),
+    };
+    if store.reserve(3, 3, 2).is_err() {
+        return Err(NoMemory { back: vertices });
+    }
+    put_triangle(&mut store, vertices);
+    Ok(Dcel {
+        store,
+        removal: RemovalRecord::Closed,
+    })
+}
+
+// Writes a triangle into an empty store.
+fn put_triangle<V, DE: Default, UE: Default, F: Default, A: Allocator>(
+    store: &mut Store<V, DE, UE, F, A>,
+    vertices: (V, V, V),
+)
+    requires empty { IsEmpty store.old }
+    requires room { lists.HasRoom store.old 3 3 2 }
+    ensures { AddsEdgesAndFaces DE.is_default UE.is_default F.is_default 3 2 store.new (triangle_stored store.old vertices) }
+{
+    let (first, second, third) = vertices;
+    push_anchored_vertex(store, FixedDirectedEdgeHandle::new(0), first);
+    push_anchored_vertex(store, FixedDirectedEdgeHandle::new(2), second);
+    push_anchored_vertex(store, FixedDirectedEdgeHandle::new(4), third);
+    push_anchored_face(store, FixedDirectedEdgeHandle::new(0), F::default());
+    push_anchored_face(store, FixedDirectedEdgeHandle::new(1), F::default());
+    push_new_edge(
+        store,
+        links(2, 4, 0, 0),
+        links(5, 3, 1, 1),
+        EdgeData::default(),
+    );
+    push_new_edge(
+        store,
+        links(4, 0, 0, 1),
+        links(1, 5, 1, 2),
+        EdgeData::default(),
+    );
+    push_new_edge(
+        store,
+        links(0, 2, 0, 2),
+        links(3, 1, 1, 0),
+        EdgeData::default(),
+    );
+}
+
+// The links of a half edge, by their numbers.
+fn links(next: usize, prev: usize, face: usize, origin: usize) -> HalfEdgeEntry
+    requires few_next { next < 2 ^ 32 }
+    requires few_prev { prev < 2 ^ 32 }
+    requires few_faces { face < 2 ^ 32 }
+    requires few_vertices { origin < 2 ^ 32 }
+    ensures { result ≡ record { next = next; prev = prev; face = face; origin = origin } }
+{
+    HalfEdgeEntry {
+        next: FixedDirectedEdgeHandle::new(next),
+        prev: FixedDirectedEdgeHandle::new(prev),
+        face: FixedFaceHandle::new(face),
+        origin: FixedVertexHandle::new(origin),
+    }
 }
 
 /// Adds a vertex without an edge, and answers its number, which is the old count. It asks for room for one vertex
@@ -192,4 +276,64 @@ fn put_spur<V, DE, UE, F, A: Allocator>(
     store.set_next(before, forth);
     store.set_prev(after, back);
     store.set_vertex_anchor(tip, Some(back));
+}
+
+/// Puts a vertex into a triangle: three new edges lead from its corners to `v`, which it answers, and cut it into three. The face `f0`
+/// keeps its anchor. It asks that `f0` is an inner face with a word of three half edges ([`is_triangle`](Dcel::is_triangle)), that no
+/// edge meets `v` ([`is_unconnected`](Dcel::is_unconnected)), and for room for three edges and two faces. Without memory the mesh is
+/// as it was.
+pub fn insert_into_triangle<V, DE: Default, UE: Default, F: Default, A: Allocator>(
+    dcel: &mut Dcel<V, DE, UE, F, A>,
+    v: FixedVertexHandle,
+    f0: FixedFaceHandle<InnerTag>,
+) -> Result<FixedVertexHandle, AllocError>
+    requires inner { 0 < f0 }
+    requires triangle { IsTriangle dcel.old.shape f0 }
+    requires unconnected { IsUnconnected dcel.old.shape v }
+    requires room { HasRoom dcel.old.shape 0 3 2 }
+    ensures edit { OnOk result (AddsEdgesAndFaces DE.is_default UE.is_default F.is_default 3 2 dcel.new (vertex_inserted dcel.old v f0)) }
+    ensures answer { IfOk result (λ vertex. vertex ≡ v) }
+    ensures refused { OnErr result (dcel.new ≡ dcel.old) }
+    ensures mesh { IsMesh dcel.new }
+{
+    dcel.store.reserve(0, 3, 2)?;
+    let first = match dcel.store.face_anchor(f0.adjust_inner_outer()) {
+        Some(edge) => edge,
+        None => unreachable!(),
+    };
+    put_insertion(&mut dcel.store, first, v);
+    Ok(v)
+}
+
+// Cuts the triangle of the half edge `first` into three, which meet at `tip`.
+fn put_insertion<V, DE: Default, UE: Default, F: Default, A: Allocator>(
+    store: &mut Store<V, DE, UE, F, A>,
+    first: FixedDirectedEdgeHandle,
+    tip: FixedVertexHandle,
+)
+    requires { CanInsert store.old first tip }
+    ensures { AddsEdgesAndFaces DE.is_default UE.is_default F.is_default 3 2 store.new (insertion_stored store.old first tip) }
+{
+    let edges = store.num_edges();
+    let faces = store.num_faces();
+    let second = store.next(first);
+    let third = store.prev(first);
+    let a = Sector::new(store, first, store.face(first), edges, edges + 2);
+    let b = Sector::new(store, second, FixedFaceHandle::new(faces), edges + 1, edges);
+    let c = Sector::new(
+        store,
+        third,
+        FixedFaceHandle::new(faces + 1),
+        edges + 2,
+        edges + 1,
+    );
+    close_sector(store, &a);
+    close_sector(store, &b);
+    close_sector(store, &c);
+    push_spoke(store, &a, &b, tip, EdgeData::default());
+    push_spoke(store, &b, &c, tip, EdgeData::default());
+    push_spoke(store, &c, &a, tip, EdgeData::default());
+    push_anchored_face(store, b.edge, F::default());
+    push_anchored_face(store, c.edge, F::default());
+    store.set_vertex_anchor(tip, Some(b.prev));
 }

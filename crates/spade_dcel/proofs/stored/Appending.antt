@@ -10,7 +10,7 @@ use Rattle.spade_dcel.specs.Shapes.{AnchorsWord, Mesh}
 use Rattle.spade_dcel.specs.Stored.{stored_map, stored_words}
 use Rattle.spade_dcel.specs.Walks.{anchored_word, anchored_words}
 use Rattle.spade_dcel.specs.Words.{word_of}
-use Rattle.spade_dcel.proofs.Liveness.{IsWithin-grown, is_live-past}
+use Rattle.spade_dcel.proofs.Liveness.{IsWithin-closed, IsWithin-grown, gives_up_face-closed, is_live-past}
 use Rattle.spade_dcel.proofs.maps.Agreement.{Extends, extends_keeps, empty_sound, empty_sphere}
 use Rattle.spade_dcel.proofs.stored.Holding.{Holds}
 use Rattle.spade_dcel.proofs.words.Agreement.{extends_stand}
@@ -19,18 +19,6 @@ use Rattle.spade_dcel.proofs.words.Firsts.{dead_stands}
 no_word : (next : ℕ → ℕ) → anchored_words next 0 (None ∷ []) ≡ [] ∷ []
 unfolding anchored_words anchored_word
 no_word next = refl
-
-none_given_up : (f : ℕ) → gives_up_face Closed f ≡ false
-unfolding gives_up_face
-none_given_up f = refl
-
-no_vertex_given_up : (v : ℕ) → gives_up_vertex Closed v ≡ false
-unfolding gives_up_vertex
-no_vertex_given_up v = refl
-
-no_edge_given_up : (u : ℕ) → gives_up_edge Closed u ≡ false
-unfolding gives_up_edge
-no_edge_given_up u = refl
 
 no_edge : (u : ℕ) → is_live (gives_up_edge Closed) 0 u ≡ false
 no_edge u = is_live-past (gives_up_edge Closed) 0 u (omega arith)
@@ -139,18 +127,14 @@ module _ {V DE UE F : Type 0} where
           few_edges = omega arith;
           few_faces = omega arith;
           some_face = omega arith;
-          within = record {
-            vertices = λ v given. absurd (false≢true (sym (no_vertex_given_up v) ∙ given));
-            edges = λ u given. absurd (false≢true (sym (no_edge_given_up u) ∙ given));
-            faces = λ f given. absurd (false≢true (sym (none_given_up f) ∙ given));
-          };
+          within = IsWithin-closed 0 0 1;
           stands = rw words (dead_stands (stored_map s Closed) no_edge ([] ∷ []) refl refl);
           sound = empty_sound (stored_map s Closed) no_edge;
           sphere = empty_sphere (stored_map s Closed) no_edge;
           vertex_anchored = λ v within. absurd (omega arith);
           face_anchored = only_face (λ f. AnchorsWord (word_of (stored_words s) f) (slice_index_or s.face_anchors f None)) (rw words refl);
           starts_live = λ h l. absurd (dead h l);
-          bare = λ f given. absurd (false≢true (sym (none_given_up f) ∙ given));
+          bare = λ f given. absurd (false≢true (sym (gives_up_face-closed f) ∙ given));
           inner = λ f above within. absurd (omega arith);
           outer = λ h l. absurd (dead h l);
         };
