@@ -29,7 +29,7 @@ fn test_create_triangle(rt: HostRuntime) -> Result<(), Fail> {
     assert!(rt; dcel.sanity_check());
     assert_eq!(rt; dcel.num_faces(), 2);
     assert_eq!(rt; dcel.num_vertices(), 3);
-    assert_eq!(rt; dcel.num_undirected_edges(), 3);
+    assert_eq!(rt; dcel.num_directed_edges(), 6);
     Ok(())
 }
 
@@ -79,7 +79,7 @@ fn test_extend_line(rt: HostRuntime) -> Result<(), Fail> {
         assert!(rt; dcel.sanity_check());
     }
     assert_eq!(rt; dcel.num_vertices(), 4);
-    assert_eq!(rt; dcel.num_undirected_edges(), 3);
+    assert_eq!(rt; dcel.num_directed_edges(), 6);
     assert_eq!(rt; dcel.num_faces(), 1);
     Ok(())
 }

@@ -2,7 +2,7 @@
 
 use dcel_commands::commands::{Command, Handed, Refusal, Refused, Reply, apply};
 use spade_dcel::dcel::Dcel;
-use spade_dcel::handles::FixedVertexHandle;
+use spade_dcel::handles::{FixedFaceHandle, FixedVertexHandle};
 use spade_dcel::operations::new;
 use std::alloc::Global;
 use std::process::Abort;
@@ -24,6 +24,14 @@ fn setup(a: u32, b: u32) -> Command<i64> {
 
 fn extend(a: u32, b: u32) -> Command<i64> {
     Command::Extend(vertex(a), vertex(b))
+}
+
+fn triangle(x: i64, y: i64, z: i64) -> Command<i64> {
+    Command::Triangle(x, y, z)
+}
+
+fn insert(v: u32, f: u32) -> Command<i64> {
+    Command::Insert(vertex(v), FixedFaceHandle::new(f as usize))
 }
 
 fn vertex(index: u32) -> FixedVertexHandle {
@@ -119,5 +127,64 @@ fn a_datum_is_handed_back(rt: HostRuntime) -> Result<(), Fail> {
         apply(&mut dcel, append(-7), 1),
         Ok(Reply::Vertex(vertex(0)))
     );
+    Ok(())
+}
+
+#[test]
+fn a_triangle_replaces_the_mesh(rt: HostRuntime) -> Result<(), Fail> {
+    let mut dcel = line(rt.alloc(), &rt)?;
+    let refused = Refused {
+        why: Refusal::NoRoom,
+        back: Handed::Three(7, -8, 9),
+    };
+    assert_eq!(rt; apply(&mut dcel, triangle(7, -8, 9), 2), Err(refused));
+    assert_eq!(rt; dcel.num_vertices(), 5);
+    assert_eq!(rt; apply(&mut dcel, triangle(7, -8, 9), 3), Ok(Reply::Ok));
+    assert_eq!(rt; dcel.num_vertices(), 3);
+    assert_eq!(rt; dcel.num_undirected_edges(), 3);
+    assert_eq!(rt; dcel.num_faces(), 2);
+    Ok(())
+}
+
+/// A triangle and the vertex 3 beside it.
+fn triangle_and_vertex(alloc: Global, rt: &impl Abort) -> Result<Mesh, Fail> {
+    let mut dcel: Mesh = new(alloc)?;
+    for (command, reply) in [
+        (triangle(0, 1, 2), Reply::Ok),
+        (append(3), Reply::Vertex(vertex(3))),
+    ] {
+        assert_eq!(rt; apply(&mut dcel, command, NO_LIMIT), Ok(reply));
+    }
+    Ok(dcel)
+}
+
+#[test]
+fn an_insertion_is_refused(rt: HostRuntime) -> Result<(), Fail> {
+    let mut dcel = triangle_and_vertex(rt.alloc(), &rt)?;
+    for (command, limit, why) in [
+        (insert(4, 0), NO_LIMIT, Refusal::NoSuchVertex),
+        (insert(0, 0), NO_LIMIT, Refusal::NoSuchFace),
+        (insert(3, 2), NO_LIMIT, Refusal::NoSuchFace),
+        (insert(0, 1), NO_LIMIT, Refusal::VertexInUse),
+        (insert(3, 1), 5, Refusal::NoRoom),
+    ] {
+        assert_eq!(rt; apply(&mut dcel, command, limit), bare(why));
+    }
+    assert_eq!(rt;
+        apply(&mut dcel, insert(3, 1), 6),
+        Ok(Reply::Vertex(vertex(3)))
+    );
+    Ok(())
+}
+
+#[test]
+fn a_line_has_no_inner_face(rt: HostRuntime) -> Result<(), Fail> {
+    let mut dcel = line(rt.alloc(), &rt)?;
+    for face in [0, 1] {
+        assert_eq!(rt;
+            apply(&mut dcel, insert(4, face), NO_LIMIT),
+            bare(Refusal::NoSuchFace)
+        );
+    }
     Ok(())
 }

@@ -7,7 +7,7 @@ use std::fmt::Write as _;
 use std::test::Fail;
 
 /// Lines, and what each is answered.
-const LINES: [(&[u8], &str); 44] = [
+const LINES: [(&[u8], &str); 66] = [
     (b"append 5", "vertex 0"),
     (b"append -12", "vertex 1"),
     (b"append -0", "bad line"),
@@ -52,6 +52,28 @@ const LINES: [(&[u8], &str); 44] = [
     (b"append -9223372036854775808", "vertex 2"),
     (b"append 9223372036854775807", "refused 19 NoRoom"),
     (b"words 0", "bad line"),
+    (b"triangle", "bad line"),
+    (b"triangle 1 2", "bad line"),
+    (b"triangle 1 2 3 4", "bad line"),
+    (b"triangle 1 02 3", "bad line"),
+    (b"triangle 1  2 3", "bad line"),
+    (b"triangle 1 2 3 ", "bad line"),
+    (b"triangle 1 2 -0", "bad line"),
+    (b"triangle 1 2 9223372036854775808", "bad line"),
+    (b"triangle 1 -2 -9223372036854775808", "ok"),
+    (b"insert 0", "bad line"),
+    (b"insert -1 1", "bad line"),
+    (b"insert 0 4294967295", "refused 3 NoSuchFace"),
+    (b"insert 0 4294967296", "bad line"),
+    (b"out", "bad line"),
+    (b"out -1", "bad line"),
+    (b"out 4294967296", "bad line"),
+    (b"out 4294967295", "refused 1 NoSuchVertex"),
+    (b"origin 0 0", "bad line"),
+    (b"origin 4294967295", "refused 2 NoSuchEdge"),
+    (b"origin 5", "vertex 0"),
+    (b"counts 0", "bad line"),
+    (b"check ", "bad line"),
 ];
 
 #[test]

@@ -21,9 +21,9 @@ fn inner_face(index: u32) -> FixedFaceHandle<InnerTag> {
 
 /// A triangle that vertex 3 cuts into three.
 pub fn cut_triangle(alloc: Global, rt: &impl Abort) -> Result<Mesh, Fail> {
-    let mut dcel: Mesh = new_triangle(alloc, (10, 11, 12))?;
+    let mut dcel: Mesh = new_triangle(alloc, (0, 1, 2))?;
     assert!(rt; dcel.has_room(1, 0, 0));
-    let tip = append_unconnected_vertex(&mut dcel, 13)?;
+    let tip = append_unconnected_vertex(&mut dcel, 3)?;
     let face = inner_face(1);
     assert_ne!(rt; face.index(), 0);
     assert!(rt; dcel.is_triangle(face));

@@ -1,10 +1,10 @@
 -- The first condition of a list that isn't met.
-use Rattle.std.proofs.Common.{◌≡◌, ℕ, zero, suc, ◌<◌, ◌≤◌, List, [], ◌∷◌, ◌⊎◌, inl, inr, length, get_or, arith, ap, subst}
-use Rattle.std.specs.List.{Contains}
+use Rattle.std.proofs.Common.{ℕ, zero, suc, ◌<◌, ◌≤◌, List, [], ◌∷◌, inl, inr, length, get_or, arith, subst}
 use Rattle.std.specs.List.Sorted.{IsNonDecreasingBy}
 use Rattle.dcel_commands.specs.declared.commands.command.Command.{Command}
+use Rattle.dcel_commands.specs.declared.queries.Query.{Query}
 use Rattle.dcel_commands.specs.declared.refusal.Refusal.{Refusal}
-use Rattle.dcel_commands.specs.Conditions.{Condition, Meets, AllMet, FirstUnmet, Legal, Refuses, IsLeast, asks, refusal_number}
+use Rattle.dcel_commands.specs.Conditions.{Condition, Meets, AllMet, CanAnswer, FirstUnmet, Legal, Refuses, RefusesQuery, IsLeast, asks, query_asks, refusal_number}
 use Rattle.dcel_commands.specs.Refusal.{number_of}
 use Rattle.spade_dcel.specs.Shapes.{Shape}
 
@@ -31,9 +31,21 @@ pub Refuses-not_legal : {V : Type 0} (s : Shape) (limit : ℕ) (command : Comman
 unfolding Refuses Legal
 Refuses-not_legal s limit command why unmet met = AllMet-or_unmet s limit (asks command) why unmet met
 
+pub RefusesQuery-unanswered : (s : Shape) (limit : ℕ) (query : Query) (why : Refusal) → RefusesQuery s limit query why → ¬ CanAnswer s limit query
+unfolding RefusesQuery CanAnswer
+RefusesQuery-unanswered s limit query why unmet met = AllMet-or_unmet s limit (query_asks query) why unmet met
+
+FirstUnmet-is_least : (s : Shape) (limit : ℕ) (xs : List (Refusal × Condition)) (why : Refusal) → IsNonDecreasingBy refusal_number xs → FirstUnmet s limit xs why → IsLeast s limit xs why
+FirstUnmet-is_least s limit xs why ascend unmet refusal condition contains not_met =
+    let P : Refusal × Condition → Type 0 = λ x. ¬ Meets s limit x.1 → number_of why ≤ refusal_number x in
+    subst P contains.2 (FirstUnmet-least s limit xs why ascend unmet contains.0 (refusal, condition) contains.1) not_met
+
 pub Refuses-least : {V : Type 0} → ((command : Command V) → IsNonDecreasingBy refusal_number (asks command))
     → (s : Shape) (limit : ℕ) (command : Command V) (why : Refusal) → Refuses s limit command why → IsLeast s limit (asks command) why
 unfolding Refuses
-Refuses-least ascend s limit command why unmet refusal condition contains not_met =
-    let P : Refusal × Condition → Type 0 = λ x. ¬ Meets s limit x.1 → number_of why ≤ refusal_number x in
-    subst P contains.2 (FirstUnmet-least s limit (asks command) why (ascend command) unmet contains.0 (refusal, condition) contains.1) not_met
+Refuses-least ascend s limit command why unmet = FirstUnmet-is_least s limit (asks command) why (ascend command) unmet
+
+pub RefusesQuery-least : ((query : Query) → IsNonDecreasingBy refusal_number (query_asks query))
+    → (s : Shape) (limit : ℕ) (query : Query) (why : Refusal) → RefusesQuery s limit query why → IsLeast s limit (query_asks query) why
+unfolding RefusesQuery
+RefusesQuery-least ascend s limit query why unmet = FirstUnmet-is_least s limit (query_asks query) why (ascend query) unmet

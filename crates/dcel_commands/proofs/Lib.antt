@@ -1,3 +1,4 @@
+pub mod Answering
 pub mod Columns
 pub mod Cutting
 pub mod Decimals
@@ -6,6 +7,7 @@ pub mod Ending
 pub mod FaceWalks
 pub mod LineEnds
 pub mod Listing
+pub mod OutEdges
 pub mod Rounds
 pub mod Serving
 pub mod Spelling

@@ -1,12 +1,12 @@
 -- How a conversation goes on.
-use Rattle.std.proofs.Common.{◌≡◌, ◌≢◌, ℕ, ◌+◌, ◌<◌, ◌≤◌, List, [], ◌∷◌, ◌++◌, length, take, refl, sym, ap, subst, ◌∙◌, arith, append_assoc, append-nil, inl, inr, Bool, true, false, Option}
+use Rattle.std.proofs.Common.{◌≡◌, ◌≢◌, ℕ, ◌<◌, List, [], ◌∷◌, ◌++◌, length, take, refl, sym, ap, subst, ◌∙◌, arith, append_assoc, append-nil, inl, inr, Bool, true, false, Option}
 use Rattle.std.specs.Prelude.{◌⊎◌}
 use Rattle.std.proofs.lemmas.Bool.{cases_lt}
 use Rattle.std.proofs.lemmas.List.{length-append, length-take-le, take_all}
 use Rattle.dcel_commands.specs.Lines.{line_feed, lines, joined, HasNoFeed}
 use Rattle.dcel_commands.specs.Output.{Wrote}
 use Rattle.dcel_commands.specs.Responses.{Said}
-use Rattle.dcel_commands.specs.LineSteps.{State, start}
+use Rattle.dcel_commands.specs.LineSteps.{State}
 use Rattle.dcel_commands.specs.Talk.{Answers, bad_line, step, said_text, Talk}
 use Rattle.dcel_commands.specs.Stage.{Stage, Goes, Leads, Serves, Ends}
 use Rattle.dcel_commands.proofs.LineEnds.{lines-nil, lines-feed, joined-append, joined-cons, joined-whole, joined-unended, lines-begun, lines-line}

@@ -14,3 +14,4 @@ pub mod Stage
 pub mod Steps
 pub mod Talk
 pub mod Transfer
+pub mod Turns

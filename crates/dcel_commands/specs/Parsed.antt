@@ -8,12 +8,14 @@ use Rattle.dcel_commands.specs.declared.parse.Tail.{Tail}
 use Rattle.dcel_commands.specs.declared.parse.Tail.TheVariants as tails
 use Rattle.dcel_commands.specs.declared.parse.Parsed.{Parsed}
 use Rattle.dcel_commands.specs.declared.parse.Parsed.TheVariants as parsed
-use Rattle.dcel_commands.specs.Grammar.{Given, Nothing, Datum, TwoNumbers, shape_of, written, InRange, Spells}
+use Rattle.dcel_commands.specs.Grammar.{Given, Nothing, Datum, ThreeData, OneNumber, TwoNumbers, shape_of, written, InRange, Spells}
 
 -- what the code's arguments give
 abbrev pub given : Args → Given
 given args.Nothing = Nothing
 given (args.Datum d) = Datum d
+given (args.ThreeData c d e) = ThreeData c d e
+given (args.OneNumber n) = OneNumber n
 given (args.TwoNumbers m n) = TwoNumbers m n
 
 -- no word spells the line

@@ -1,18 +1,23 @@
 -- What lines may be answered.
-use Rattle.std.specs.Prelude.{◌≡◌, ℕ, List, [], ◌∷◌, ◌++◌, codes}
+use Rattle.std.specs.Prelude.{◌≡◌, ℕ, true, false, List, [], ◌∷◌, ◌++◌, codes}
 use Rattle.dcel_commands.specs.Grammar.{Given, Spells}
 use Rattle.dcel_commands.specs.declared.grammar.Word.{Word}
 use Rattle.dcel_commands.specs.Parsed.{IsBad}
 use Rattle.dcel_commands.specs.Refusal.{refusal_text}
-use Rattle.dcel_commands.specs.Responses.{Said, Done, Vertex, Words, Refused, BadLine, ended, numbered}
+use Rattle.dcel_commands.specs.Responses.{Said, Done, Vertex, Counts, Words, OutEdges, Truth, Refused, BadLine, ended, numbered}
 use Rattle.dcel_commands.specs.LineSteps.{State, Step}
 use Rattle.dcel_commands.specs.Faces.{words_text}
+use Rattle.dcel_commands.specs.Turns.{counts_text, turn_text}
 
 -- the lines that a reply is written as, over the mesh that it was given about
 abbrev pub said_text : State → Said → List ℕ
 said_text s Done = ended (codes "ok")
 said_text s (Vertex n) = ended (numbered (codes "vertex ") n)
+said_text s Counts = counts_text s.shape
 said_text s Words = words_text s.shape
+said_text s (OutEdges v) = turn_text s.shape v
+said_text s (Truth true) = ended (codes "true")
+said_text s (Truth false) = ended (codes "false")
 said_text s (Refused why) = ended (refusal_text why)
 said_text s BadLine = ended (codes "bad line")
 

@@ -1,6 +1,6 @@
-//! Commands that a mesh carries out, or refuses by name; and the runner, which reads them as lines and writes the replies.
+//! Commands that a mesh carries out, or refuses by name; and the runner, which reads them and queries as lines and writes the
+//! replies.
 
-mod checks;
 mod command;
 mod dispatch;
 mod reply;

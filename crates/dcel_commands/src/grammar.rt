@@ -7,9 +7,15 @@ ghost use Rattle.dcel_commands.specs.Grammar.{text, shape};
 #[derive(Clone, Copy)]
 pub enum Word {
     Append,
+    Triangle,
     Setup,
     Extend,
+    Insert,
+    Counts,
     Words,
+    Out,
+    Origin,
+    Check,
 }
 
 /// What comes after a word.
@@ -17,6 +23,8 @@ pub enum Word {
 pub enum Shape {
     Nothing,
     Datum,
+    ThreeData,
+    OneNumber,
     TwoNumbers,
 }
 
@@ -25,6 +33,8 @@ pub enum Shape {
 pub enum Args {
     Nothing,
     Datum(i64),
+    ThreeData(i64, i64, i64),
+    OneNumber(u32),
     TwoNumbers(u32, u32),
 }
 
@@ -34,9 +44,15 @@ pub fn word_written(item: &[u8]) -> Option<Word>
 {
     match item {
         b"append" => Some(Word::Append),
+        b"triangle" => Some(Word::Triangle),
         b"setup" => Some(Word::Setup),
         b"extend" => Some(Word::Extend),
+        b"insert" => Some(Word::Insert),
+        b"counts" => Some(Word::Counts),
         b"words" => Some(Word::Words),
+        b"out" => Some(Word::Out),
+        b"origin" => Some(Word::Origin),
+        b"check" => Some(Word::Check),
         _ => None,
     }
 }
@@ -47,7 +63,9 @@ pub fn shape_after(word: Word) -> Shape
 {
     match word {
         Word::Append => Shape::Datum,
-        Word::Setup | Word::Extend => Shape::TwoNumbers,
-        Word::Words => Shape::Nothing,
+        Word::Triangle => Shape::ThreeData,
+        Word::Setup | Word::Extend | Word::Insert => Shape::TwoNumbers,
+        Word::Counts | Word::Words | Word::Check => Shape::Nothing,
+        Word::Out | Word::Origin => Shape::OneNumber,
     }
 }

@@ -45,7 +45,7 @@ pub fn number_then<'a>(rest: Rest<'a>) -> Option<(u32, Rest<'a>)>
 }
 
 /// The datum that comes next, and what comes after it.
-fn datum_then<'a>(rest: Rest<'a>) -> Option<(i64, Rest<'a>)>
+pub fn datum_then<'a>(rest: Rest<'a>) -> Option<(i64, Rest<'a>)>
     ensures { MatchOption result
         ((d : ℤ) (more : List (List ℕ)) → IsDatum d → left rest.entry ≢ signed_decimal d ∷ more)
         (λ x. left rest.entry ≡ signed_decimal x.0 ∷ left x.1) }

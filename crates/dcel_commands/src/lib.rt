@@ -1,7 +1,8 @@
 //! Commands over a half-edge mesh: each is tested and carried out, or refused by name and without effect. The runner reads
-//! commands as lines of text from a source of bytes and writes the replies to a sink.
+//! commands, and queries of the mesh, as lines of text from a source of bytes and writes the replies to a sink.
 #![tactic(auto)]
 
+mod checks;
 pub mod commands;
 mod faces;
 mod faults;
@@ -12,10 +13,13 @@ mod line;
 mod numbers;
 mod output;
 mod parse;
+mod queries;
 mod refusal;
+mod request;
 mod response;
 mod run;
 mod session;
 mod sink;
 mod source;
 mod steps;
+mod turns;

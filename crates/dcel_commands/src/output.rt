@@ -3,6 +3,7 @@
 ghost use Rattle.std.specs.Prelude.{◌≡◌, ◌+◌, ◌≤◌, ◌∷◌, ◌++◌, ℕ, List, [], length, take};
 ghost use Rattle.std.specs.Fmt.{decimal, signed_decimal};
 ghost use Rattle.dcel_commands.specs.Output.{Wrote};
+ghost use Rattle.dcel_commands.specs.Responses.{numbered};
 
 use crate::numbers::{count_digits, put_digits};
 use crate::sink::LineSink;
@@ -121,6 +122,15 @@ impl Out {
         }
         self.flush(sink);
         self.hold_number(n);
+    }
+
+    /// Writes a word and a number after it.
+    #[tactic(auto, using(crate::proofs::Writing::wrote_then))]
+    pub fn numbered<K: LineSink>(&mut self, sink: &mut K, word: &[u8], n: u64)
+        ensures { Wrote K.has_failed K.contents sink.old self.old sink.new self.new (numbered word.now n) }
+    {
+        self.write(sink, word);
+        self.number(sink, n);
     }
 
     /// Writes a number after a space.

@@ -4,7 +4,7 @@ ghost use Rattle.dcel_commands.specs.Items.{left};
 ghost use Rattle.dcel_commands.specs.Parsed.{ReadsTail, Reads};
 
 use crate::grammar::{Args, Shape, Word, shape_after, word_written};
-use crate::items::{Rest, first, is_end, last_datum, last_number, number_then};
+use crate::items::{Rest, datum_then, first, is_end, last_datum, last_number, number_then};
 
 /// The most bytes that a line may have before its line feed.
 pub const LONGEST: usize = 4096;
@@ -35,6 +35,30 @@ fn one_datum<'a>(rest: Rest<'a>) -> Tail
     }
 }
 
+fn three_data<'a>(rest: Rest<'a>) -> Tail
+    ensures { ReadsTail Shape.ThreeData (left rest.entry) result }
+{
+    match datum_then(rest) {
+        None => Tail::Bad,
+        Some((c, others)) => match datum_then(others) {
+            None => Tail::Bad,
+            Some((d, last)) => match last_datum(last) {
+                None => Tail::Bad,
+                Some(e) => Tail::Read(Args::ThreeData(c, d, e)),
+            },
+        },
+    }
+}
+
+fn one_number<'a>(rest: Rest<'a>) -> Tail
+    ensures { ReadsTail Shape.OneNumber (left rest.entry) result }
+{
+    match last_number(rest) {
+        None => Tail::Bad,
+        Some(n) => Tail::Read(Args::OneNumber(n)),
+    }
+}
+
 fn two_numbers<'a>(rest: Rest<'a>) -> Tail
     ensures { ReadsTail Shape.TwoNumbers (left rest.entry) result }
 {
@@ -53,6 +77,8 @@ fn tail_of<'a>(shape: Shape, rest: Rest<'a>) -> Tail
     match shape {
         Shape::Nothing => nothing(rest),
         Shape::Datum => one_datum(rest),
+        Shape::ThreeData => three_data(rest),
+        Shape::OneNumber => one_number(rest),
         Shape::TwoNumbers => two_numbers(rest),
     }
 }

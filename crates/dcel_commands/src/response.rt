@@ -3,7 +3,7 @@
 ghost use Rattle.std.specs.Prelude.{◌≡◌, ◌++◌};
 ghost use Rattle.dcel_commands.specs.Output.{Wrote};
 ghost use Rattle.dcel_commands.specs.Refusal.{refusal_text};
-ghost use Rattle.dcel_commands.specs.Responses.{said, ended, numbered};
+ghost use Rattle.dcel_commands.specs.Responses.{IsAbout, said, ended, numbered};
 ghost use Rattle.dcel_commands.specs.Talk.{said_text};
 
 use crate::faces::write_words;
@@ -11,6 +11,8 @@ use crate::output::Out;
 use crate::refusal::Refusal;
 use crate::sink::LineSink;
 use crate::steps::LineMesh;
+use crate::turns::{write_counts, write_out_edges};
+use dcel_fixed::FixedVertexHandle;
 use std::alloc::Allocator;
 
 /// The reply to a line.
@@ -18,7 +20,10 @@ use std::alloc::Allocator;
 pub enum Response {
     Done,
     Vertex(u32),
+    Counts,
     Words,
+    OutEdges(FixedVertexHandle),
+    Truth(bool),
     Refused(Refusal),
     BadLine,
 }
@@ -28,8 +33,7 @@ pub enum Response {
 fn write_numbered<K: LineSink>(sink: &mut K, out: &mut Out, word: &[u8], n: u32)
     ensures { Wrote K.has_failed K.contents sink.old out.old sink.new out.new (ended (numbered word.now n)) }
 {
-    out.write(sink, word);
-    out.number(sink, u64::from(n));
+    out.numbered(sink, word, u64::from(n));
     out.push(sink, b'\n');
 }
 
@@ -52,12 +56,17 @@ pub fn write_response<A: Allocator, K: LineSink>(
     mesh: &LineMesh<A>,
     response: &Response,
 )
+    requires { IsAbout mesh.now.shape (said response.now) }
     ensures { Wrote K.has_failed K.contents sink.old out.old sink.new out.new (said_text mesh.now (said response.now)) }
 {
     match response {
         Response::Done => out.write(sink, b"ok\n"),
         Response::Vertex(n) => write_numbered(sink, out, b"vertex ", *n),
+        Response::Counts => write_counts(sink, out, mesh),
         Response::Words => write_words(sink, out, mesh),
+        Response::OutEdges(vertex) => write_out_edges(sink, out, mesh, *vertex),
+        Response::Truth(true) => out.write(sink, b"true\n"),
+        Response::Truth(false) => out.write(sink, b"false\n"),
         Response::Refused(why) => write_refusal(sink, out, *why),
         Response::BadLine => out.write(sink, b"bad line\n"),
     }

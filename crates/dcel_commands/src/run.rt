@@ -12,8 +12,13 @@ use std::alloc::Allocator;
 /// The most bytes that are read at once.
 const PIECE: usize = 16384;
 
-/// Reads lines to the end of the source and writes the reply to each, starting from an empty mesh.
-/// At most `limit` vertices, edges and faces are made.
+/// Reads lines to the end of the source and writes the reply to each, starting from an empty mesh. A line is a command, a query or
+/// a bad line; one that is refused changes nothing, and the run goes on.
+///
+/// It asks that neither the source nor the sink has failed, and for a `limit` of at most 2^31: no more vertices, edges or faces are
+/// made. At `Ok` all bytes were read and all replies written. [`RunFault::Memory`] comes where there is none for the first mesh, before
+/// anything is read; [`RunFault::Read`] where the source failed, and then each line that was read whole is answered;
+/// [`RunFault::Write`] where the sink failed, and then a beginning of the replies stands written.
 pub fn run<A: Allocator + Clone, S: LineSource, K: LineSink>(
     alloc: A,
     source: &mut S,

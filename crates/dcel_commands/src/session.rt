@@ -33,7 +33,7 @@ impl<A: Allocator> Model for Session<A> {
 }
 
 /// Carries out what a line says, or answers why not.
-fn answer<A: Allocator>(mesh: &mut LineMesh<A>, limit: usize, line: &[u8]) -> Response
+fn answer<A: Allocator + Clone>(mesh: &mut LineMesh<A>, limit: usize, line: &[u8]) -> Response
     requires { limit ≤ 2 ^ 31 }
     ensures { Answers limit mesh.old line.now (said result) mesh.new }
 {
@@ -71,7 +71,7 @@ impl<A: Allocator + Clone> Session<A> {
     }
 }
 
-impl<A: Allocator> Session<A> {
+impl<A: Allocator + Clone> Session<A> {
     /// Takes the last bytes of a line and answers it.
     fn end_line<K: LineSink>(&mut self, sink: &mut K, limit: usize, last: &[u8])
         requires no_feed { HasNoFeed last.now }

@@ -2,14 +2,15 @@
 
 ghost use Rattle.std.specs.Prelude.{◌≡◌, ◌≤◌, ◌^◌, IfOk};
 ghost use Rattle.dcel_commands.specs.Grammar.{shape, shape_of};
-ghost use Rattle.dcel_commands.specs.LineSteps.{Carried, Step, command_of, said_refusal, said_reply, start};
+ghost use Rattle.dcel_commands.specs.LineSteps.{Carried, Step, said_refusal, said_reply, start};
 ghost use Rattle.dcel_commands.specs.Parsed.{given};
 ghost use Rattle.dcel_commands.specs.Responses.{said};
 
 use crate::commands::{Command, Refused, Reply, apply};
 use crate::grammar::{Args, Word};
+use crate::queries::look;
+use crate::request::{Request, request_from};
 use crate::response::Response;
-use dcel_fixed::FixedVertexHandle;
 use spade_dcel::dcel::Dcel;
 use spade_dcel::operations;
 use std::alloc::{AllocError, Allocator};
@@ -22,30 +23,6 @@ pub fn new_mesh<A: Allocator + Clone>(alloc: A) -> Result<LineMesh<A>, AllocErro
     ensures { IfOk result (λ mesh. mesh ≡ start) }
 {
     operations::new(alloc)
-}
-
-fn vertex(number: u32) -> FixedVertexHandle
-    ensures { result ≡ number }
-{
-    FixedVertexHandle::new(number as usize)
-}
-
-/// The command that a word makes of what is given to it, where it makes one.
-fn command_from(word: Word, args: Args) -> Option<Command<i64>>
-    ensures { result ≡ command_of word (given args) }
-{
-    match args {
-        Args::Nothing => None,
-        Args::Datum(datum) => match word {
-            Word::Append => Some(Command::Append(datum)),
-            _ => None,
-        },
-        Args::TwoNumbers(a, b) => match word {
-            Word::Setup => Some(Command::Setup(vertex(a), vertex(b))),
-            Word::Extend => Some(Command::Extend(vertex(a), vertex(b))),
-            _ => None,
-        },
-    }
 }
 
 /// The response that tells a reply.
@@ -66,7 +43,11 @@ fn response_to_refusal(refused: Refused<i64>) -> Response
 }
 
 /// Carries a command out, or answers why not.
-fn carry_out<A: Allocator>(mesh: &mut LineMesh<A>, limit: usize, command: Command<i64>) -> Response
+fn carry_out<A: Allocator + Clone>(
+    mesh: &mut LineMesh<A>,
+    limit: usize,
+    command: Command<i64>,
+) -> Response
     requires { limit ≤ 2 ^ 31 }
     ensures { Carried limit mesh.old command (said result) mesh.new }
 {
@@ -77,13 +58,22 @@ fn carry_out<A: Allocator>(mesh: &mut LineMesh<A>, limit: usize, command: Comman
 }
 
 /// Does what a line says, or answers why not.
-pub fn step<A: Allocator>(mesh: &mut LineMesh<A>, limit: usize, word: Word, args: Args) -> Response
+pub fn step<A: Allocator + Clone>(
+    mesh: &mut LineMesh<A>,
+    limit: usize,
+    word: Word,
+    args: Args,
+) -> Response
     requires suits { shape_of (given args) ≡ shape word }
     requires in_range { limit ≤ 2 ^ 31 }
     ensures { Step limit mesh.old word (given args) (said result) mesh.new }
 {
-    match command_from(word, args) {
-        Some(command) => carry_out(mesh, limit, command),
-        None => Response::Words,
+    let request = match request_from(word, args) {
+        Some(request) => request,
+        None => unreachable!(),
+    };
+    match request {
+        Request::Edit(command) => carry_out(mesh, limit, command),
+        Request::Look(query) => look(mesh, query),
     }
 }

@@ -89,6 +89,12 @@ impl<V, DE, UE, F, A: Allocator + Clone> Store<V, DE, UE, F, A> {
 }
 
 impl<V, DE, UE, F, A: Allocator> Store<V, DE, UE, F, A> {
+    /// Answers an allocator that it was made with. Contracts see nothing of it.
+    #[inline]
+    pub fn allocator(&self) -> &A {
+        self.faces.allocator()
+    }
+
     /// Answers how many vertices there are.
     #[inline]
     pub fn num_vertices(&self) -> usize

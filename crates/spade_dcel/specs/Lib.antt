@@ -14,3 +14,4 @@ pub mod Triangles
 pub mod Handles
 pub mod Walking
 pub mod Laws
+pub mod Examples

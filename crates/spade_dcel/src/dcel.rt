@@ -1,3 +1,5 @@
+//! The mesh: its counts, its elements by number, their anchors, and the tests of what operations ask.
+
 ghost use Rattle.std.specs.Prelude.{◌≡◌, ℕ, ◌*◌, ◌^◌, ◌<◌, ◌≤◌, ◌↔◌, IsTrue, length, true};
 ghost use Rattle.spade_dcel.specs.Checked.{IsChecked, LooksTriangulated, EvenHalfFits, PartsFaces};
 ghost use Rattle.spade_dcel.specs.Edits.{HasRoom, IsUnconnected, IsLineEnd, IsTriangle};
@@ -42,6 +44,15 @@ impl<V, DE, UE, F, A: Allocator> Model for Dcel<V, DE, UE, F, A> {
     ghost view = { λ d. mesh_of d.store (removal_of d.removal) };
 
     ghost invariant = { λ d. IsStored d.store (removal_of d.removal) };
+}
+
+/// The allocator.
+impl<V, DE, UE, F, A: Allocator> Dcel<V, DE, UE, F, A> {
+    /// The allocator that it was made with, which another mesh may be made with. Contracts see nothing of it.
+    #[inline]
+    pub fn allocator(&self) -> &A {
+        self.store.allocator()
+    }
 }
 
 /// Counts.

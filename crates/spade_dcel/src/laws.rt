@@ -1,6 +1,7 @@
 //! Laws: what is true of each mesh. These calls compute nothing; whoever makes one learns what it ensures.
 
-ghost use Rattle.spade_dcel.specs.Shapes.{IsMesh};
+ghost use Rattle.spade_dcel.specs.Examples.{two_triangles};
+ghost use Rattle.spade_dcel.specs.Shapes.{IsMesh, IsSphere};
 
 use crate::dcel::Dcel;
 use std::alloc::Allocator;
@@ -17,3 +18,8 @@ pub fn every_mesh<V, DE, UE, F, A: Allocator>(dcel: &Dcel<V, DE, UE, F, A>)
 {
     let _ = &dcel.store;
 }
+
+/// Two triangles that lie beside each other are no sphere: their vertices, minus their edges, plus their faces, are four.
+pub fn two_triangles_are_no_sphere()
+    ensures { ¬ IsSphere two_triangles }
+{}

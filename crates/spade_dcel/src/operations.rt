@@ -21,6 +21,7 @@ use std::alloc::{AllocError, Allocator};
 /// That a growth found no memory, with what was handed in.
 #[derive(Debug, Drop)]
 pub struct NoMemory<T> {
+    /// What was handed in.
     pub back: T,
 }
 

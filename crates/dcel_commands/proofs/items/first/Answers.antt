@@ -1,4 +1,4 @@
-use Rattle.std.proofs.Common.{◌≡◌, ◌∷◌, ◌+◌, take, drop, arith, rules, ap, sym, ◌∙◌, ℕ, List}
+use Rattle.std.proofs.Common.{◌∷◌, ◌+◌, take, drop, arith, rules, ap, sym, ◌∙◌, ℕ, List}
 use Rattle.std.proofs.lemmas.List.{take_all, drop_all, take_rest}
 use Rattle.dcel_commands.specs.Items.{items_of}
 use Rattle.dcel_commands.proofs.Cutting.{ahead, search_starts, search_goes_on, search_finds, search_ends}

@@ -1,5 +1,4 @@
-use Rattle.std.proofs.Common.{◌≡◌, arith, ap, length}
-use Rattle.std.specs.Fmt.{decimal}
+use Rattle.std.proofs.Common.{arith, ap, length}
 use Rattle.std.proofs.lemmas.Fmt.{length-decimal-le, decimal_digit, decimal_nonempty}
 use Rattle.dcel_commands.proofs.Digits.{length-decimal-div}
 use Rattle.dcel_commands.proofs.numbers.count_digits.Goals as goal

@@ -1,4 +1,4 @@
-use Rattle.std.proofs.Common.{◌∙◌, ap, sym, subst, take, drop, length, arith, rules, ℕ, List}
+use Rattle.std.proofs.Common.{◌∙◌, subst, take, drop, arith, rules, ℕ, List}
 use Rattle.std.specs.Io.KnownBytes.{Appends}
 use Rattle.std.proofs.lemmas.List.{take_all, take_rest}
 use Rattle.dcel_commands.specs.Output.{Wrote}

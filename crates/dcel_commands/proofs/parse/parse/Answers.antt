@@ -1,4 +1,4 @@
-use Rattle.std.proofs.Common.{◌≡◌, ◌∷◌, ◌≤◌, length, subst, arith}
+use Rattle.std.proofs.Common.{subst, arith}
 use Rattle.dcel_commands.specs.Items.{left}
 use Rattle.dcel_commands.specs.Parsed.{ReadsTail, given}
 use Rattle.dcel_commands.specs.declared.parse.Tail.TheVariants as tails

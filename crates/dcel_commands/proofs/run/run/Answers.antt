@@ -1,4 +1,4 @@
-use Rattle.std.proofs.Common.{◌++◌, [], ap, sym, subst, ◌∙◌, arith, rules, take, length, ◌<◌, ◌≡◌}
+use Rattle.std.proofs.Common.{◌++◌, [], ap, sym, subst, ◌∙◌, rules, take, length, ◌<◌, ◌≡◌}
 use Rattle.std.proofs.KnownBytes.{Consumes-trans, Consumes-nil}
 use Rattle.dcel_commands.specs.Stage.{Stage, Serves}
 use Rattle.dcel_commands.proofs.Serving.{serves_nothing, serves_then}

@@ -1,0 +1,35 @@
+-- The lines of a mesh's counts, and of the half edges out of a vertex.
+use Rattle.std.specs.Prelude.{ℕ, zero, suc, ◌*◌, ◌/◌, ◌==◌, Bool, false, cond, List, ◌++◌, Option, Some, None, if◌then◌else◌, codes}
+use Rattle.spade_dcel.specs.Shapes.{Shape, edge_is_live, origin_of, face_count}
+use Rattle.spade_dcel.specs.Walking.{walk_from, ccw_of}
+use Rattle.dcel_commands.specs.Responses.{ended, listed, numbered}
+
+-- `vertices N edges N faces N`, with undirected edges
+abbrev pub counts_text : Shape → List ℕ
+counts_text s = ended (numbered (codes "vertices ") s.vertices ++ numbered (codes " edges ") s.edges ++ numbered (codes " faces ") (face_count s))
+
+-- the half edge is live and starts at v
+abbrev pub starts_at : Shape → ℕ → ℕ → Bool
+starts_at s v h = cond (edge_is_live s (h / 2)) (origin_of s h == v) false
+
+-- the first, if there is one, or else the other
+abbrev pub or_else : Option ℕ → Option ℕ → Option ℕ
+or_else (Some h) other = Some h
+or_else None other = other
+
+-- the least number below n that passes the test
+abbrev pub least_below : (ℕ → Bool) → ℕ → Option ℕ
+least_below test zero = None
+least_below test (suc n) = or_else (least_below test n) (if test n then Some n else None)
+
+-- the least half edge that starts at v
+abbrev pub least_out : Shape → ℕ → Option ℕ
+least_out s v = least_below (starts_at s v) (2 * s.edges)
+
+-- the half edges that start at v, in the order of `ccw` from the least on
+abbrev pub turn_of : Shape → ℕ → List ℕ
+turn_of s v = walk_from s (ccw_of s) (least_out s v)
+
+-- `out h h ..`
+abbrev pub turn_text : Shape → ℕ → List ℕ
+turn_text s v = ended (codes "out" ++ listed (turn_of s v))
