@@ -1,0 +1,121 @@
+-- The ends of a line that grows.
+use Rattle.std.proofs.Common.{◌≡◌, ◌≢◌, ℕ, ◌+◌, ◌*◌, ◌/◌, ◌<◌, ◌≤◌, [], ◌∷◌, ◌++◌, slice_index, true, false, refl, subst, ap, sym, ◌∙◌, inl, inr, arith}
+use Rattle.std.proofs.lemmas.Bool.{cases_eq, cases_lt}
+use Rattle.std.proofs.lemmas.List.{get_or-append-add, get_or_append_left}
+use Rattle.spade_dcel.specs.Edits.{AddsEdge, IsLineEnd, IsUnconnected, first_edge_added, line_extended, vertex_appended}
+use Rattle.spade_dcel.specs.Removals.{gives_up_edge, gives_up_vertex}
+use Rattle.spade_dcel.specs.Shapes.{Shape, Mesh, IsMesh, IsLive, origin_of, vertex_is_live}
+use Rattle.spade_dcel.proofs.Liveness.{gives_up_edge-past, is_live-from, is_live-grown, is_live-last, is_live-parts}
+
+-- more vertices leave a live one live
+pub still_live : (s : Shape) (n v : ℕ) → s.vertices ≤ n → vertex_is_live s v ≡ true → vertex_is_live (record s { vertices = n }) v ≡ true
+still_live s n v more live =
+    let parts = is_live-parts (gives_up_vertex s.removal) s.vertices v live in
+    is_live-from (gives_up_vertex s.removal) n v (omega (arith, parts.0)) parts.1
+
+module _ {V DE UE F : Type 0} (m : Mesh V DE UE F) where
+  -- an appended vertex adds no edge
+  pub vertices_after : (n : Mesh V DE UE F) (datum : V) → n ≡ vertex_appended m datum → n.shape.vertices ≡ m.shape.vertices + 1
+  vertices_after n datum is = ap (λ (u : Mesh V DE UE F). u.shape.vertices) is
+
+  pub edges_after : (n : Mesh V DE UE F) (datum : V) → n ≡ vertex_appended m datum → n.shape.edges ≡ m.shape.edges
+  edges_after n datum is = ap (λ (u : Mesh V DE UE F). u.shape.edges) is
+
+  -- an appended vertex leaves live what is live, and an end an end
+  appended_end : (datum : V) (end : ℕ) → IsLineEnd m.shape end → IsLineEnd (vertex_appended m datum).shape end
+  appended_end datum end line = record {
+    live = still_live m.shape (m.shape.vertices + 1) end (omega arith) line.live;
+    one = (line.one.0, record { out = line.one.1.out; from = line.one.1.from; only = line.one.1.only });
+  }
+
+  pub still_live_after : (n : Mesh V DE UE F) (datum : V) (v : ℕ) → n ≡ vertex_appended m datum → vertex_is_live m.shape v ≡ true
+      → vertex_is_live n.shape v ≡ true
+  still_live_after n datum v is live = rw is (still_live m.shape (m.shape.vertices + 1) v (omega arith) live)
+
+  pub end_after : (n : Mesh V DE UE F) (datum : V) (end : ℕ) → n ≡ vertex_appended m datum → IsLineEnd m.shape end → IsLineEnd n.shape end
+  end_after n datum end is line =
+      let P : Mesh V DE UE F → Type 0 = λ u. IsLineEnd u.shape end in
+      subst P (sym is) (appended_end datum end line)
+
+  module _ (mesh : IsMesh m) where
+    -- the first edge ends at its second vertex
+    first_end : (a b : ℕ) (forth back : DE) (both : UE) → m.shape.edges ≡ 0 → vertex_is_live m.shape b ≡ true → a ≢ b
+        → IsLineEnd (first_edge_added m a b forth back both).shape b
+    first_end a b forth back both none live apart =
+        let g = gives_up_edge m.shape.removal in
+        let kept : g 0 ≡ false = gives_up_edge-past mesh.sized.within 0 (omega (arith, none)) in
+        let only : (k : ℕ) → IsLive (first_edge_added m a b forth back both).shape k
+        → slice_index (a ∷ b ∷ []) k ≡ b → k ≡ 1 =
+        λ k k_live starts.
+        let below = (is_live-parts g 1 (k / 2) k_live).0 in
+        elim (cases_eq k 1) [
+          | inl same ↦ same
+          | inr other ↦
+              let first : k ≡ 0 = omega (arith, below) in
+              absurd (apart (subst (λ z. slice_index (a ∷ b ∷ []) z ≡ b) first starts))
+        ] in
+        record {
+          live = live;
+          one = (1, record { out = is_live-from g 1 0 (omega arith) kept; from = refl; only = only });
+        }
+
+    pub first_edge_end : {is_half : DE → Type 0} {is_edge : UE → Type 0} (p : Mesh V DE UE F) (a b : ℕ) → m.shape.edges ≡ 0
+        → vertex_is_live m.shape b ≡ true → a ≢ b → AddsEdge is_half is_edge p (first_edge_added m a b) → IsLineEnd p.shape b
+    first_edge_end p a b none live apart adds =
+        let P : Mesh V DE UE F → Type 0 = λ u. IsLineEnd u.shape b in
+        subst P (sym adds.is) (first_end a b adds.first adds.second adds.both none live apart)
+
+    -- the new vertex is the end of the longer line
+    module _ (end tip : ℕ) (line : IsLineEnd m.shape end) (bare : IsUnconnected m.shape tip) where
+      origin_old : (k : ℕ) → k < 2 * m.shape.edges → slice_index (m.shape.origins ++ tip ∷ end ∷ []) k ≡ origin_of m.shape k
+      origin_old k below = get_or_append_left m.shape.origins (tip ∷ end ∷ []) 0 k (omega (arith, mesh.sized.origins))
+
+      origin_new : (k : ℕ) → slice_index (m.shape.origins ++ tip ∷ end ∷ []) (2 * m.shape.edges + k) ≡ slice_index (tip ∷ end ∷ []) k
+      origin_new k =
+          ap (λ z. slice_index (m.shape.origins ++ tip ∷ end ∷ []) (z + k)) (sym mesh.sized.origins)
+          ∙ get_or-append-add m.shape.origins (tip ∷ end ∷ []) k 0
+
+      apart : end ≢ tip
+      apart same = bare.bare line.one.0 line.one.1.out (line.one.1.from ∙ same)
+
+      extended_end : (back forth : DE) (both : UE) → IsLineEnd (line_extended m end tip back forth both).shape tip
+      extended_end back forth both =
+          let g = gives_up_edge m.shape.removal in
+          let e = m.shape.edges in
+          let kept : g e ≡ false = gives_up_edge-past mesh.sized.within e (omega arith) in
+          let half : 2 * e / 2 ≡ e = omega arith in
+          let out : IsLive (line_extended m end tip back forth both).shape (2 * e) = rw half (is_live-last g e kept) in
+          let only : (k : ℕ) → IsLive (line_extended m end tip back forth both).shape k
+          → slice_index (m.shape.origins ++ tip ∷ end ∷ []) k ≡ tip → k ≡ 2 * e =
+          λ k live starts.
+          elim (cases_lt k (2 * e)) [
+            | inl old ↦
+                let was : IsLive m.shape k = sym (is_live-grown g e (k / 2) (λ same. omega (arith, old, same))) ∙ live in
+                absurd (bare.bare k was (sym (origin_old k old) ∙ starts))
+            | inr new ↦
+                let below = (is_live-parts g (e + 1) (k / 2) live).0 in
+                elim (cases_eq k (2 * e)) [
+                  | inl same ↦ same
+                  | inr other ↦
+                      let last : k ≡ 2 * e + 1 = omega (arith, below) in
+                      absurd (apart (sym (origin_new 1) ∙ subst (λ z. slice_index (m.shape.origins ++ tip ∷ end ∷ []) z ≡ tip) last starts))
+                ]
+          ] in
+          let last : 2 * e ≡ 2 * e + 0 = omega arith in
+          record {
+            live = bare.live;
+            one = (
+              2 * e,
+              record {
+                out = out;
+                from = ap (slice_index (m.shape.origins ++ tip ∷ end ∷ [])) last ∙ origin_new 0;
+                only = only;
+              },
+            );
+          }
+
+      pub longer_end : {is_half : DE → Type 0} {is_edge : UE → Type 0} (p : Mesh V DE UE F) (v : ℕ) → v ≡ tip
+          → AddsEdge is_half is_edge p (line_extended m end tip) → IsLineEnd p.shape v
+      longer_end p v same adds =
+          let P : Mesh V DE UE F → Type 0 = λ u. IsLineEnd u.shape tip in
+          rw same (subst P (sym adds.is) (extended_end adds.first adds.second adds.both))

@@ -1,0 +1,15 @@
+use Rattle.spade_dcel.specs.Handles.{mesh_behind, number_of}
+use Rattle.spade_dcel.specs.Shapes.{next_of}
+use Rattle.spade_dcel.specs.Walking.{walk_of}
+use Rattle.dcel_speed.proofs.Listing.{all_live}
+use Rattle.dcel_speed.proofs.workloads.add_origins.Goals as goal
+
+pub loop-edge-init : goal.loop-edge-init
+loop-edge-init g c =
+    let mesh = mesh_behind c.args.first in (
+      tt,
+      tt,
+      all_live c.into_iter-edge-iterator.result.items mesh (walk_of mesh.shape (next_of mesh.shape) (number_of c.args.first))
+          (rw c.into_iter-edge-iterator.ensures.into_iter_gives c.new-edge-items.ensures.items)
+          c.new-edge-items.ensures.live,
+    )

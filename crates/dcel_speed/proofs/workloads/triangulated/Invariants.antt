@@ -1,0 +1,12 @@
+use Rattle.std.proofs.Common.{◌-◌, ◌*◌}
+use Rattle.spade_dcel.specs.Edits.{HasRoom}
+use Rattle.dcel_speed.specs.Growth.{IsTriangulated}
+use Rattle.dcel_speed.proofs.workloads.triangulated.Given as goal
+
+abbrev pub invariant-loop-index : goal.invariant-loop-index
+invariant-loop-index g l =
+    let left = l.size - l.index in
+    record {
+      triangulated : IsTriangulated l.dcel.shape;
+      room : HasRoom l.dcel.shape left (3 * left) (2 * left);
+    }

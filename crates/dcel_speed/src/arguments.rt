@@ -1,0 +1,71 @@
+//! The words that the program is started with.
+
+use crate::fault::Fault;
+use crate::workloads::Workload;
+use std::alloc::Global;
+use std::env;
+use std::rt::Env;
+
+/// The workloads, and the sizes, where no argument names others.
+const ALL_WORKLOADS: &str = "insert,walk,faces,extend";
+
+const ALL_SIZES: &str = "1000,100000,1000000";
+
+/// What to run, and what to print of it.
+#[derive(Drop)]
+pub struct Arguments {
+    pub workloads: Vec<Workload>,
+    pub sizes: Vec<u32>,
+
+    /// Whether half edges, edges and faces have data too.
+    pub is_full: bool,
+
+    /// Whether a line shows how long an operation took.
+    pub shows_times: bool,
+}
+
+impl Arguments {
+    /// Reads the program's arguments: a list of workloads, a list of sizes, and then any of `full` and `checksums`.
+    pub fn read(rt: &(impl Env + AllocGlobal)) -> Result<Arguments, Fault> {
+        let mut words = env::args(rt)?;
+        let _program = words.next();
+        let names = words.next();
+        let sizes = words.next();
+        let names = names.as_ref().map_or(ALL_WORKLOADS, |word| word.as_str());
+        let sizes = sizes.as_ref().map_or(ALL_SIZES, |word| word.as_str());
+        let mut arguments = Arguments {
+            workloads: workloads_of(rt.alloc(), names)?,
+            sizes: sizes_of(rt.alloc(), sizes)?,
+            is_full: false,
+            shows_times: true,
+        };
+        for word in words {
+            arguments.heed(word.as_str())?;
+        }
+        Ok(arguments)
+    }
+
+    /// Takes a word that stands after the lists.
+    fn heed(&mut self, word: &str) -> Result<(), Fault> {
+        match word {
+            "full" => self.is_full = true,
+            "checksums" => self.shows_times = false,
+            _ => return Err(Fault::BadArguments),
+        }
+        Ok(())
+    }
+}
+
+/// The workloads of a list, whose names have commas between them.
+fn workloads_of(alloc: Global, list: &str) -> Result<Vec<Workload>, Fault> {
+    list.split(',')
+        .map(|name| Workload::parse(name).ok_or(Fault::BadArguments))
+        .try_collect(alloc)
+}
+
+/// The sizes of a list, with commas between them.
+fn sizes_of(alloc: Global, list: &str) -> Result<Vec<u32>, Fault> {
+    list.split(',')
+        .map(|digits| digits.parse().map_err(|_| Fault::BadArguments))
+        .try_collect(alloc)
+}

@@ -1,0 +1,74 @@
+//! Why a run stopped.
+
+use spade_dcel::operations::NoMemory;
+use std::alloc::AllocError;
+use std::{fmt, io};
+
+/// Why a mesh was not built. It fits a register, so that to answer one costs an edit nothing.
+#[derive(Clone, Copy, Debug)]
+pub enum BuildError {
+    /// There is no memory.
+    NoMemory,
+
+    /// The size asks for more elements than there are numbers.
+    NoRoom,
+}
+
+impl From<AllocError> for BuildError {
+    fn from(_error: AllocError) -> BuildError {
+        BuildError::NoMemory
+    }
+}
+
+impl<T: Drop> From<NoMemory<T>> for BuildError {
+    fn from(_refused: NoMemory<T>) -> BuildError {
+        BuildError::NoMemory
+    }
+}
+
+/// Why a run stopped before its end.
+#[derive(Debug, Drop)]
+pub enum Fault {
+    /// A mesh, or a list of the arguments, was not built.
+    Build(BuildError),
+
+    /// An argument isn't one that the program knows.
+    BadArguments,
+
+    /// A read of the clock or of the arguments failed, or a write.
+    Io(io::Error),
+}
+
+impl fmt::Display for Fault {
+    fn fmt<W: fmt::Write>(&self, f: &mut fmt::Formatter<W>) -> fmt::Result {
+        match self {
+            Fault::Build(BuildError::NoMemory) => write!(f, "out of memory"),
+            Fault::Build(BuildError::NoRoom) => write!(f, "the size is too large"),
+            Fault::BadArguments => {
+                write!(
+                    f,
+                    "usage: dcel_speed [insert,walk,faces,extend [SIZE,SIZE.. [full] [checksums]]]"
+                )
+            }
+            Fault::Io(error) => write!(f, "{error}"),
+        }
+    }
+}
+
+impl From<BuildError> for Fault {
+    fn from(error: BuildError) -> Fault {
+        Fault::Build(error)
+    }
+}
+
+impl From<AllocError> for Fault {
+    fn from(error: AllocError) -> Fault {
+        Fault::Build(BuildError::from(error))
+    }
+}
+
+impl From<io::Error> for Fault {
+    fn from(error: io::Error) -> Fault {
+        Fault::Io(error)
+    }
+}

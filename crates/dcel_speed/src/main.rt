@@ -1,0 +1,64 @@
+//! Measures the mesh: how long each workload takes for one operation.
+//!
+//! `dcel_speed insert,walk 1000,100000` runs these workloads at these sizes, and `dcel_speed` all of them at all sizes. Each line that it
+//! prints is a workload, its size, the nanoseconds that an operation took, the checksum of the result, and how many operations there were.
+//! With the further word `full` every half edge, edge and face has a datum too. With the word `checksums` the time is left out, so that
+//! a run prints the same each time.
+#![tactic(auto)]
+
+mod arguments;
+mod digest;
+mod fault;
+mod measure;
+mod random;
+mod round_face;
+mod workloads;
+
+use crate::arguments::Arguments;
+use crate::fault::Fault;
+use crate::measure::{Line, best_of_three};
+use crate::workloads::Workload;
+use std::process::ExitCode;
+use std::rt::{Clock, Env};
+
+fn main(rt: HostRuntime) -> ExitCode {
+    match run(&rt) {
+        Ok(()) => ExitCode::SUCCESS,
+        Err(fault) => {
+            let _ = eprintln!(rt; "{fault}");
+            ExitCode::FAILURE
+        }
+    }
+}
+
+/// Runs what the arguments name, and prints a line for each workload and size.
+fn run(rt: &(impl Env + Clock + Print + AllocGlobal)) -> Result<(), Fault> {
+    let arguments = Arguments::read(rt)?;
+    for workload in &arguments.workloads {
+        for size in &arguments.sizes {
+            let line = measured(rt, &arguments, *workload, *size)?;
+            println!(rt; "{line}")?;
+        }
+    }
+    Ok(())
+}
+
+/// The line of a workload at a size, over the meshes that the arguments ask for.
+fn measured(
+    rt: &(impl Clock + AllocGlobal),
+    arguments: &Arguments,
+    workload: Workload,
+    size: u32,
+) -> Result<Line, Fault> {
+    let timed = if arguments.is_full {
+        best_of_three::<i64>(rt, workload, size)?
+    } else {
+        best_of_three::<()>(rt, workload, size)?
+    };
+    Ok(Line {
+        workload,
+        size,
+        timed,
+        shows_time: arguments.shows_times,
+    })
+}

@@ -1,0 +1,274 @@
+//! The workloads: what each builds, does and answers. Only the work itself is timed.
+
+ghost use Rattle.std.specs.Prelude.{◌≡◌, IfOk, OnOk};
+ghost use Rattle.spade_dcel.specs.Edits.{HasRoom, IsLineEnd};
+ghost use Rattle.spade_dcel.specs.Handles.{mesh_behind, number_of};
+ghost use Rattle.spade_dcel.specs.Shapes.{IsLive};
+ghost use Rattle.dcel_speed.specs.Growth.{IsGrown, IsTriangulated};
+
+use crate::digest::digest_of;
+use crate::fault::{BuildError, Fault};
+use crate::random::Random;
+use crate::round_face::RoundFace;
+use spade_dcel::dcel::Dcel;
+use spade_dcel::handles::{
+    DirectedEdgeHandle, FixedFaceHandle, FixedVertexHandle, InnerTag, VertexHandle,
+};
+use spade_dcel::laws::every_mesh;
+use spade_dcel::operations::{
+    append_unconnected_vertex, extend_line, insert_into_triangle, new, new_triangle,
+    setup_initial_two_vertices,
+};
+use std::alloc::Global;
+use std::rt::Clock;
+use std::time::{Duration, Instant};
+
+/// The meshes that are measured: each vertex has a number, and all else a `D`.
+pub type Mesh<D> = Dcel<i64, D, D, D>;
+
+/// What can be measured.
+#[derive(Clone, Copy)]
+pub enum Workload {
+    /// Puts vertices into faces of a triangle.
+    Insert,
+
+    /// Goes round each vertex.
+    Walk,
+
+    /// Goes round each inner face.
+    Faces,
+
+    /// Makes a line longer at one end.
+    Extend,
+}
+
+impl Workload {
+    /// Its name in the arguments and in the lines.
+    pub fn name(self) -> &'static str {
+        match self {
+            Workload::Insert => "insert",
+            Workload::Walk => "walk",
+            Workload::Faces => "faces",
+            Workload::Extend => "extend",
+        }
+    }
+
+    /// The workload with this name.
+    pub fn parse(name: &str) -> Option<Workload> {
+        match name {
+            "insert" => Some(Workload::Insert),
+            "walk" => Some(Workload::Walk),
+            "faces" => Some(Workload::Faces),
+            "extend" => Some(Workload::Extend),
+            _ => None,
+        }
+    }
+}
+
+/// What came out of a workload.
+#[derive(Clone, Copy, Default)]
+pub struct Outcome {
+    pub checksum: u64,
+    pub operations: u64,
+}
+
+impl Outcome {
+    /// Adds the number of a vertex to the checksum: one operation more.
+    #[inline]
+    fn add<D>(&mut self, vertex: VertexHandle<'_, i64, D, D, D>) {
+        self.checksum = self.checksum.wrapping_add(vertex.index() as u64);
+        self.operations = self.operations.wrapping_add(1);
+    }
+}
+
+/// An outcome, with the time that the work took.
+#[derive(Clone, Copy)]
+pub struct Timed {
+    pub elapsed: Duration,
+    pub outcome: Outcome,
+}
+
+impl Timed {
+    /// How long an operation took, in tenths of a nanosecond. Where there was none, how long all took.
+    pub fn tenths_of_nanoseconds(&self) -> u128 {
+        let operations = u128::from(self.outcome.operations.max(1));
+        self.elapsed.as_nanos().saturating_mul(10) / operations
+    }
+}
+
+/// Runs a workload once, over meshes with data `D`.
+pub fn run_once<D: Default + Drop>(
+    rt: &(impl Clock + AllocGlobal),
+    workload: Workload,
+    size: u32,
+) -> Result<Timed, Fault> {
+    match workload {
+        Workload::Insert => insert::<D>(rt, size),
+        Workload::Walk => walk::<D>(rt, size),
+        Workload::Faces => faces::<D>(rt, size),
+        Workload::Extend => extend::<D>(rt, size),
+    }
+}
+
+/// Times the building of a mesh of triangles.
+fn insert<D: Default + Drop>(rt: &(impl Clock + AllocGlobal), size: u32) -> Result<Timed, Fault> {
+    let start = Instant::now(rt)?;
+    let dcel = triangulated::<D>(rt.alloc(), size)?;
+    let elapsed = start.elapsed(rt)?;
+    let outcome = built(&dcel, size);
+    Ok(Timed { elapsed, outcome })
+}
+
+/// Times the walk round each vertex of a mesh of triangles.
+fn walk<D: Default + Drop>(rt: &(impl Clock + AllocGlobal), size: u32) -> Result<Timed, Fault> {
+    let dcel = triangulated::<D>(rt.alloc(), size)?;
+    let start = Instant::now(rt)?;
+    let outcome = ends_of_out_edges(&dcel);
+    let elapsed = start.elapsed(rt)?;
+    Ok(Timed { elapsed, outcome })
+}
+
+/// Times the walk round each inner face of a mesh of triangles.
+fn faces<D: Default + Drop>(rt: &(impl Clock + AllocGlobal), size: u32) -> Result<Timed, Fault> {
+    let dcel = triangulated::<D>(rt.alloc(), size)?;
+    let start = Instant::now(rt)?;
+    let outcome = origins_round_faces(&dcel);
+    let elapsed = start.elapsed(rt)?;
+    Ok(Timed { elapsed, outcome })
+}
+
+/// Times the building of a line.
+fn extend<D: Default + Drop>(rt: &(impl Clock + AllocGlobal), size: u32) -> Result<Timed, Fault> {
+    let start = Instant::now(rt)?;
+    let dcel = line::<D>(rt.alloc(), size)?;
+    let elapsed = start.elapsed(rt)?;
+    let outcome = built(&dcel, size);
+    Ok(Timed { elapsed, outcome })
+}
+
+/// The outcome of a workload that builds a mesh by `size` edits.
+fn built<D>(dcel: &Mesh<D>, size: u32) -> Outcome {
+    Outcome {
+        checksum: digest_of(dcel),
+        operations: u64::from(size),
+    }
+}
+
+/// A triangle, and `size` vertices more, each put into an inner face that is drawn at random.
+fn triangulated<D: Default + Drop>(alloc: Global, size: u32) -> Result<Mesh<D>, BuildError>
+    ensures { IfOk result (λ dcel. IsTriangulated dcel.shape) }
+{
+    let mut dcel = new_triangle(alloc, (0, 1, 2))?;
+    let count = size as usize;
+    if !dcel.has_room(count, 3 * count, 2 * count) {
+        return Err(BuildError::NoRoom);
+    }
+    let mut random = Random::new(0);
+    for index in 0..size {
+        insert_next(&mut dcel, &mut random, i64::from(index) + 3)?;
+    }
+    Ok(dcel)
+}
+
+/// Puts one more vertex into an inner face that is drawn at random.
+#[inline]
+fn insert_next<D: Default + Drop>(
+    dcel: &mut Mesh<D>,
+    random: &mut Random,
+    datum: i64,
+) -> Result<(), BuildError>
+    requires triangulated { IsTriangulated dcel.old.shape }
+    requires room { HasRoom dcel.old.shape 1 3 2 }
+    ensures triangulated { OnOk result (IsTriangulated dcel.new.shape) }
+    ensures grown { OnOk result (IsGrown dcel.old.shape 1 3 2 dcel.new.shape) }
+{
+    every_mesh(dcel);
+    let face = FixedFaceHandle::new(1 + random.below(dcel.num_faces() - 1));
+    let vertex = append_unconnected_vertex(dcel, datum)?;
+    insert_into_triangle(dcel, vertex, face)?;
+    Ok(())
+}
+
+/// A line of an edge, made longer at its second vertex by `size` vertices.
+fn line<D: Default + Drop>(alloc: Global, size: u32) -> Result<Mesh<D>, BuildError> {
+    let mut dcel = new(alloc)?;
+    let count = size as usize;
+    if !dcel.has_room(count + 2, count + 1, 0) {
+        return Err(BuildError::NoRoom);
+    }
+    let mut end = first_edge(&mut dcel)?;
+    for index in 0..size {
+        end = extend_next(&mut dcel, end, i64::from(index) + 2)?;
+    }
+    Ok(dcel)
+}
+
+/// Adds an edge with its two vertices to an empty mesh, and answers the second vertex.
+fn first_edge<D: Default + Drop>(dcel: &mut Mesh<D>) -> Result<FixedVertexHandle, BuildError>
+    requires no_edge { dcel.old.shape.edges ≡ 0 }
+    requires room { HasRoom dcel.old.shape 2 1 0 }
+    ensures line_end { IfOk result (λ end. IsLineEnd dcel.new.shape end) }
+    ensures grown { OnOk result (IsGrown dcel.old.shape 2 1 0 dcel.new.shape) }
+{
+    every_mesh(dcel);
+    let first = append_unconnected_vertex(dcel, 0)?;
+    let second = append_unconnected_vertex(dcel, 1)?;
+    setup_initial_two_vertices(dcel, first, second)?;
+    Ok(second)
+}
+
+/// Makes a line longer by one more vertex, which it answers.
+#[inline]
+fn extend_next<D: Default + Drop>(
+    dcel: &mut Mesh<D>,
+    end: FixedVertexHandle,
+    datum: i64,
+) -> Result<FixedVertexHandle, BuildError>
+    requires line_end { IsLineEnd dcel.old.shape end }
+    requires room { HasRoom dcel.old.shape 1 1 0 }
+    ensures line_end { IfOk result (λ vertex. IsLineEnd dcel.new.shape vertex) }
+    ensures grown { OnOk result (IsGrown dcel.old.shape 1 1 0 dcel.new.shape) }
+{
+    every_mesh(dcel);
+    let vertex = append_unconnected_vertex(dcel, datum)?;
+    Ok(extend_line(dcel, end, vertex)?)
+}
+
+/// Goes round each vertex: the sum of the numbers of the vertices where its half edges end.
+fn ends_of_out_edges<D>(dcel: &Mesh<D>) -> Outcome {
+    let mut sum = Outcome::default();
+    for index in 0..dcel.num_vertices() {
+        add_ends(&mut sum, dcel.vertex(FixedVertexHandle::new(index)));
+    }
+    sum
+}
+
+/// Adds the vertices where the half edges out of a vertex end.
+#[inline]
+fn add_ends<D>(sum: &mut Outcome, vertex: VertexHandle<'_, i64, D, D, D>) {
+    for edge in vertex.out_edges() {
+        sum.add(edge.to());
+    }
+}
+
+/// Goes round each inner face: the sum of the numbers of the vertices where its half edges start.
+fn origins_round_faces<D>(dcel: &Mesh<D>) -> Outcome
+    requires { IsTriangulated dcel.now.shape }
+{
+    let mut sum = Outcome::default();
+    for index in 1..dcel.num_faces() {
+        let face: FixedFaceHandle<InnerTag> = FixedFaceHandle::new(index);
+        add_origins(&mut sum, dcel.face(face).adjacent_edge());
+    }
+    sum
+}
+
+/// Adds the vertices where the half edges of a face start, from one of them on.
+#[inline]
+fn add_origins<D>(sum: &mut Outcome, first: DirectedEdgeHandle<'_, i64, D, D, D>)
+    requires { IsLive (mesh_behind first).shape (number_of first) }
+{
+    for edge in RoundFace::new(first) {
+        sum.add(edge.from());
+    }
+}
