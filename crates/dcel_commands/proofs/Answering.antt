@@ -11,7 +11,7 @@ use Rattle.dcel_commands.specs.Grammar.{Given}
 use Rattle.dcel_commands.specs.LineSteps.{State, Carried, accepted, refused, no_memory, Looked, not_answered, counts_told, words_told, out_told, origin_told, check_told, Step, edit, look, said_reply}
 use Rattle.dcel_commands.specs.Responses.{Said, IsAbout}
 use Rattle.dcel_commands.specs.Talk.{Answers, bad_line, step}
-use Rattle.spade_dcel.specs.Shapes.{Shape}
+use Rattle.dcel_maps.specs.Shapes.{Shape}
 
 about_reply : (s : Shape) (reply : Reply) → IsAbout s (said_reply reply)
 about_reply s replies.Ok = tt

@@ -6,7 +6,7 @@ use Rattle.dcel_commands.specs.declared.queries.Query.{Query}
 use Rattle.dcel_commands.specs.declared.refusal.Refusal.{Refusal}
 use Rattle.dcel_commands.specs.Conditions.{Condition, Meets, AllMet, CanAnswer, FirstUnmet, Legal, Refuses, RefusesQuery, IsLeast, asks, query_asks, refusal_number}
 use Rattle.dcel_commands.specs.Refusal.{number_of}
-use Rattle.spade_dcel.specs.Shapes.{Shape}
+use Rattle.dcel_maps.specs.Shapes.{Shape}
 
 -- it is one that isn't met
 AllMet-or_unmet : (s : Shape) (limit : ℕ) (xs : List (Refusal × Condition)) (why : Refusal) → FirstUnmet s limit xs why → AllMet s limit xs → ⊥

@@ -2,10 +2,10 @@
 use Rattle.std.proofs.Common.{◌≡◌, ◌≢◌, ◌⊎◌, inl, inr, ℕ, zero, suc, ◌*◌, ◌/◌, ◌<◌, ◌≤◌, Bool, true, false, cond, List, [], ◌∷◌, ◌++◌, Some, None, refl, sym, ap, ◌∙◌, arith, eqb, eq-eqb, append_assoc, append-nil}
 use Rattle.std.specs.Fmt.{decimal}
 use Rattle.std.proofs.lemmas.Bool.{cases_lt, cases_eq, eqb-true, false≢true, false_from_ne_true}
-use Rattle.spade_dcel.specs.Shapes.{Shape, Mesh, IsLive, AnchorsVertex, edge_is_live, origin_of, vertex_anchor}
-use Rattle.spade_dcel.specs.Walking.{IsOutEdge, ListsOnce, in_mesh}
-use Rattle.spade_dcel.specs.Words.{count_of}
-use Rattle.spade_dcel.proofs.words.Counts.{count-same, count-other, count-later}
+use Rattle.dcel_maps.specs.Shapes.{Shape, Mesh, IsLive, AnchorsVertex, edge_is_live, origin_of, vertex_anchor}
+use Rattle.dcel_maps.specs.Walking.{IsOutEdge, ListsOnce, in_mesh}
+use Rattle.dcel_maps.specs.Words.{count_of}
+use Rattle.dcel_maps.proofs.words.Counts.{count-same, count-other, count-later}
 use Rattle.dcel_commands.specs.Responses.{listed}
 use Rattle.dcel_commands.specs.Turns.{starts_at, least_below, least_out}
 use Rattle.dcel_commands.proofs.Listing.{listed-push}

@@ -1,12 +1,12 @@
 -- A walk round a cyclic list, from one of its items.
 use Rattle.std.proofs.Common.{◌≡◌, ◌≢◌, ℕ, ◌<◌, ◌≤◌, List, [], ◌∷◌, ◌++◌, length, drop, refl, sym, ap, subst, ◌∙◌, arith, eq-eqb, append_assoc, append-nil}
 use Rattle.std.proofs.lemmas.Bool.{ne_eqb}
-use Rattle.spade_dcel.specs.Maps.{By}
-use Rattle.spade_dcel.specs.Walks.{Path, IsCycle}
-use Rattle.spade_dcel.specs.Words.{count_of, item_after, next_in_word}
-use Rattle.spade_dcel.proofs.words.Counts.{count-same, count-other, count-append, count-later, absent_head, split_at}
-use Rattle.spade_dcel.proofs.words.Paths.{Path-split}
-use Rattle.spade_dcel.proofs.words.Turns.{TurnsTo, onward, before, count-turn, IsCycle-turn}
+use Rattle.dcel_maps.specs.Maps.{By}
+use Rattle.dcel_maps.specs.Walks.{Path, IsCycle}
+use Rattle.dcel_maps.specs.Words.{count_of, item_after, next_in_word}
+use Rattle.dcel_maps.proofs.words.Counts.{count-same, count-other, count-append, count-later, absent_head, split_at}
+use Rattle.dcel_maps.proofs.words.Paths.{Path-split}
+use Rattle.dcel_maps.proofs.words.Turns.{TurnsTo, onward, before, count-turn, IsCycle-turn}
 
 -- where an item is not among the first ones, the list is cut after them
 cut_later : (x : ℕ) (l w : List ℕ) → count_of x l ≡ 0

@@ -1,7 +1,7 @@
 -- The lines of a mesh's faces.
 use Rattle.std.specs.Prelude.{◌≡◌, ℕ, zero, suc, ◌<◌, List, [], ◌++◌, if◌then◌else◌}
-use Rattle.spade_dcel.specs.Shapes.{Shape, face_count, face_is_live, face_of, IsLive}
-use Rattle.spade_dcel.specs.Words.{count_of, word_of}
+use Rattle.dcel_maps.specs.Shapes.{Shape, face_count, face_is_live, face_of, IsLive}
+use Rattle.dcel_maps.specs.Words.{count_of, word_of}
 use Rattle.dcel_commands.specs.Responses.{face_line}
 
 -- the line of a face where it is live, and nothing where it isn't

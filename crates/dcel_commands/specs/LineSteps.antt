@@ -16,9 +16,9 @@ use Rattle.dcel_commands.specs.Conditions.{Legal, Refuses, CanAnswer, RefusesQue
 use Rattle.dcel_commands.specs.Grammar.{Given, Nothing, Datum, ThreeData, OneNumber, TwoNumbers}
 use Rattle.dcel_commands.specs.Responses.{Said, Done, Vertex, Counts, Words, OutEdges, Truth, Refused}
 use Rattle.dcel_commands.specs.Steps as steps
-use Rattle.spade_dcel.specs.Checked.{IsChecked}
-use Rattle.spade_dcel.specs.Edits.{outer_alone}
-use Rattle.spade_dcel.specs.Shapes.{Mesh, Shape, origin_of}
+use Rattle.dcel_maps.specs.Checked.{IsChecked}
+use Rattle.dcel_maps.specs.Edits.{outer_alone}
+use Rattle.dcel_maps.specs.Shapes.{Mesh, Shape, origin_of}
 
 -- the mesh that lines are about: all data are numbers
 abbrev pub State : Type 0

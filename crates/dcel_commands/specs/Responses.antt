@@ -6,7 +6,7 @@ use Rattle.dcel_commands.specs.declared.refusal.Refusal.{Refusal}
 use Rattle.dcel_commands.specs.declared.response.Response.{Response}
 use Rattle.dcel_commands.specs.declared.response.Response.TheVariants as responses
 use Rattle.dcel_commands.specs.Lines.{line_feed}
-use Rattle.spade_dcel.specs.Shapes.{Shape}
+use Rattle.dcel_maps.specs.Shapes.{Shape}
 
 -- a reply, as far as it doesn't depend on the mesh
 pub data Said : Type 0 where

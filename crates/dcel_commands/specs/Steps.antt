@@ -9,8 +9,8 @@ use Rattle.dcel_commands.specs.declared.commands.reply.Reply.{Reply}
 use Rattle.dcel_commands.specs.declared.commands.reply.Reply.TheVariants as replies
 use Rattle.dcel_commands.specs.declared.refusal.Refusal.TheVariants.{OutOfMemory}
 use Rattle.dcel_commands.specs.Conditions.{Legal, Refuses}
-use Rattle.spade_dcel.specs.Edits.{AddsEdge, AddsEdgesAndFaces, vertex_appended, triangle_alone, first_edge_added, line_extended, vertex_inserted}
-use Rattle.spade_dcel.specs.Shapes.{Mesh, Shape}
+use Rattle.dcel_maps.specs.Edits.{AddsEdge, AddsEdgesAndFaces, vertex_appended, triangle_alone, first_edge_added, line_extended, vertex_inserted}
+use Rattle.dcel_maps.specs.Shapes.{Mesh, Shape}
 
 -- the command is answered so and leaves this mesh: a rule for each command, with default data for new half edges, edges and faces
 pub data Step {V DE UE F : Type 0} (is_half : DE → Type 0) (is_edge : UE → Type 0) (is_face : F → Type 0) (m : Mesh V DE UE F) : Command V → Reply → Mesh V DE UE F → Type 0 where

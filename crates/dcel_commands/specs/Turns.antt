@@ -1,7 +1,7 @@
 -- The lines of a mesh's counts, and of the half edges out of a vertex.
 use Rattle.std.specs.Prelude.{ℕ, zero, suc, ◌*◌, ◌/◌, ◌==◌, Bool, false, cond, List, ◌++◌, Option, Some, None, if◌then◌else◌, codes}
-use Rattle.spade_dcel.specs.Shapes.{Shape, edge_is_live, origin_of, face_count}
-use Rattle.spade_dcel.specs.Walking.{walk_from, ccw_of}
+use Rattle.dcel_maps.specs.Shapes.{Shape, edge_is_live, origin_of, face_count}
+use Rattle.dcel_maps.specs.Walking.{walk_from, ccw_of}
 use Rattle.dcel_commands.specs.Responses.{ended, listed, numbered}
 
 -- `vertices N edges N faces N`, with undirected edges

@@ -1,7 +1,7 @@
 //! What each command and each query asks, tested in the order of the refusals' numbers.
 
 ghost use Rattle.std.specs.Prelude.{◌≡◌, ◌↔◌, ◌*◌, ◌<◌, ◌≤◌, ◌^◌, ℕ, false, IsTrue, MatchResult};
-ghost use Rattle.spade_dcel.specs.Shapes.{face_count};
+ghost use Rattle.dcel_maps.specs.Shapes.{face_count};
 ghost use Rattle.dcel_commands.specs.Conditions.{AreWithin, CanAnswer, IsRoomWithin, Legal, Refuses, RefusesQuery};
 ghost use Rattle.dcel_commands.specs.declared.queries.Query.TheVariants as queries;
 

@@ -5,8 +5,8 @@ ghost use Rattle.dcel_commands.specs.Faces.{line_of, words_text, word_round, IsL
 ghost use Rattle.dcel_commands.specs.Output.{Wrote};
 ghost use Rattle.dcel_commands.specs.Responses.{listed};
 ghost use Rattle.spade_dcel.specs.Handles.{mesh_behind, number_of};
-ghost use Rattle.spade_dcel.specs.Shapes.{IsLive, IsMesh, IsSound, face_count, face_of};
-ghost use Rattle.spade_dcel.specs.Words.{word_of};
+ghost use Rattle.dcel_maps.specs.Shapes.{IsLive, IsMesh, IsSound, face_count, face_of};
+ghost use Rattle.dcel_maps.specs.Words.{word_of};
 
 use crate::output::Out;
 use crate::sink::LineSink;

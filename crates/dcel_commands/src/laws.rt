@@ -8,7 +8,7 @@ ghost use Rattle.dcel_commands.specs.Grammar.{Given, Spells};
 ghost use Rattle.dcel_commands.specs.declared.grammar.Word.{Word};
 ghost use Rattle.dcel_commands.specs.declared.queries.Query.{Query};
 ghost use Rattle.dcel_commands.specs.declared.refusal.Refusal.{Refusal};
-ghost use Rattle.spade_dcel.specs.Shapes.{Shape};
+ghost use Rattle.dcel_maps.specs.Shapes.{Shape};
 
 /// The conditions of each command and of each query stand in ascending order of their refusals' numbers.
 pub fn columns_ascend<V>()

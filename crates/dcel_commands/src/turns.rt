@@ -6,8 +6,8 @@ ghost use Rattle.dcel_commands.specs.Output.{Wrote};
 ghost use Rattle.dcel_commands.specs.Responses.{listed};
 ghost use Rattle.dcel_commands.specs.Turns.{counts_text, least_out, turn_of, turn_text};
 ghost use Rattle.spade_dcel.specs.Handles.{mesh_behind, number_of};
-ghost use Rattle.spade_dcel.specs.Shapes.{IsLive};
-ghost use Rattle.spade_dcel.specs.Walking.{ccw_of, walk_of};
+ghost use Rattle.dcel_maps.specs.Shapes.{IsLive};
+ghost use Rattle.dcel_maps.specs.Walking.{ccw_of, walk_of};
 
 use crate::output::Out;
 use crate::sink::LineSink;

@@ -1,12 +1,12 @@
 -- Meshes whose inner faces are triangles: the first one, and that an insertion makes another.
 use Rattle.std.proofs.Common.{◌≡◌, ◌≢◌, ℕ, true, zero, suc, ◌+◌, ◌*◌, ◌<◌, List, [], ◌∷◌, ◌++◌, length, slice_set, refl, subst, ap, sym, ◌∙◌, inl, inr, arith}
 use Rattle.std.proofs.lemmas.Bool.{cases_eq, cases_lt}
-use Rattle.spade_dcel.specs.Edits.{AddsEdgesAndFaces, IsTriangle, IsUnconnected, adjacent_edge_of, triangle_alone, vertex_appended, vertex_inserted}
-use Rattle.spade_dcel.specs.Removals.{gives_up_face, gives_up_vertex}
-use Rattle.spade_dcel.specs.Shapes.{Shape, Mesh, IsMesh, IsLive, face_count, face_is_live, next_of, origin_of, prev_of, vertex_is_live}
-use Rattle.spade_dcel.specs.Words.{word_of}
-use Rattle.spade_dcel.proofs.Liveness.{gives_up_face-closed, gives_up_vertex-past, is_live-from, is_live-last, is_live-parts}
-use Rattle.spade_dcel.proofs.words.Inserts.{length-set_append, word_of-set_append_new, word_of-set_append_other, word_of-set_append_replaced}
+use Rattle.dcel_maps.specs.Edits.{AddsEdgesAndFaces, IsTriangle, IsUnconnected, adjacent_edge_of, triangle_alone, vertex_appended, vertex_inserted}
+use Rattle.dcel_maps.specs.Removals.{gives_up_face, gives_up_vertex}
+use Rattle.dcel_maps.specs.Shapes.{Shape, Mesh, IsMesh, IsLive, face_count, face_is_live, next_of, origin_of, prev_of, vertex_is_live}
+use Rattle.dcel_maps.specs.Words.{word_of}
+use Rattle.dcel_maps.proofs.Liveness.{gives_up_face-closed, gives_up_vertex-past, is_live-from, is_live-last, is_live-parts}
+use Rattle.dcel_maps.proofs.words.Inserts.{length-set_append, word_of-set_append_new, word_of-set_append_other, word_of-set_append_replaced}
 use Rattle.dcel_speed.specs.Growth.{IsTriangulated}
 
 -- an inner face is a live triangle

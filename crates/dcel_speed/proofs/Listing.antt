@@ -1,9 +1,9 @@
 -- Walks that list live half edges.
 use Rattle.std.proofs.Common.{◌≡◌, ℕ, ◌<◌, List, [], ◌∷◌, subst, sym, arith}
-use Rattle.spade_dcel.specs.Shapes.{Mesh, IsLive}
-use Rattle.spade_dcel.specs.Walking.{in_mesh}
-use Rattle.spade_dcel.specs.Words.{count_of}
-use Rattle.spade_dcel.proofs.words.Counts.{count-same}
+use Rattle.dcel_maps.specs.Shapes.{Mesh, IsLive}
+use Rattle.dcel_maps.specs.Walking.{in_mesh}
+use Rattle.dcel_maps.specs.Words.{count_of}
+use Rattle.dcel_maps.proofs.words.Counts.{count-same}
 
 module _ {V DE UE F : Type 0} where
   -- each half edge to come is live in its mesh

@@ -1,8 +1,8 @@
 -- Meshes that grow: by how many elements, and how their inner faces stay triangles.
 use Rattle.std.specs.Prelude.{◌≡◌, ℕ, ◌+◌, ◌<◌, length}
-use Rattle.spade_dcel.specs.Removals.{Closed}
-use Rattle.spade_dcel.specs.Shapes.{Shape, face_count}
-use Rattle.spade_dcel.specs.Words.{word_of}
+use Rattle.dcel_maps.specs.Removals.{Closed}
+use Rattle.dcel_maps.specs.Shapes.{Shape, face_count}
+use Rattle.dcel_maps.specs.Words.{word_of}
 
 -- no removal is open, there is an inner face, and each inner face has three half edges
 pub record IsTriangulated (s : Shape) : Type 0 where

@@ -2,7 +2,7 @@
 
 ghost use Rattle.std.specs.Prelude.{◌≡◌, true};
 ghost use Rattle.spade_dcel.specs.Handles.{mesh_behind, number_of};
-ghost use Rattle.spade_dcel.specs.Shapes.{IsLive};
+ghost use Rattle.dcel_maps.specs.Shapes.{IsLive};
 
 use spade_dcel::dcel::Dcel;
 use spade_dcel::handles::{DirectedEdgeHandle, FixedDirectedEdgeHandle};

@@ -1,7 +1,7 @@
 //! The walk round a face.
 
 ghost use Rattle.spade_dcel.specs.Handles.{mesh_behind, number_of};
-ghost use Rattle.spade_dcel.specs.Shapes.{next_of, prev_of};
+ghost use Rattle.dcel_maps.specs.Shapes.{next_of, prev_of};
 
 use spade_dcel::handles::DirectedEdgeHandle;
 use spade_dcel::iterators::{CircularIterator, NextBackFn};

@@ -1,12 +1,12 @@
 //! The mesh: its counts, its elements by number, their anchors, and the tests of what operations ask.
 
 ghost use Rattle.std.specs.Prelude.{◌≡◌, ℕ, ◌*◌, ◌^◌, ◌<◌, ◌≤◌, ◌↔◌, IsTrue, length, true};
-ghost use Rattle.spade_dcel.specs.Checked.{IsChecked, LooksTriangulated, EvenHalfFits, PartsFaces};
-ghost use Rattle.spade_dcel.specs.Edits.{HasRoom, IsUnconnected, IsLineEnd, IsTriangle};
+ghost use Rattle.dcel_maps.specs.Checked.{IsChecked, LooksTriangulated, EvenHalfFits, PartsFaces};
+ghost use Rattle.dcel_maps.specs.Edits.{HasRoom, IsUnconnected, IsLineEnd, IsTriangle};
 ghost use Rattle.spade_dcel.specs.Handles.{mesh_behind, number_of};
-ghost use Rattle.spade_dcel.specs.Removals.{Closed};
-ghost use Rattle.spade_dcel.specs.Shapes.{IsLive, vertex_is_live, edge_is_live, face_is_live, face_count, next_of, prev_of, face_of, origin_of, vertex_anchor, face_anchor};
-ghost use Rattle.spade_dcel.specs.Words.{word_of};
+ghost use Rattle.dcel_maps.specs.Removals.{Closed};
+ghost use Rattle.dcel_maps.specs.Shapes.{IsLive, vertex_is_live, edge_is_live, face_is_live, face_count, next_of, prev_of, face_of, origin_of, vertex_anchor, face_anchor};
+ghost use Rattle.dcel_maps.specs.Words.{word_of};
 
 use crate::handles::{DirectedEdgeHandle, FaceHandle, VertexHandle};
 use crate::removal::RemovalRecord;
@@ -34,12 +34,12 @@ pub struct Dcel<V, DE = (), UE = (), F = (), A: Allocator = Global> {
 }
 
 impl<V, DE, UE, F, A: Allocator> Model for Dcel<V, DE, UE, F, A> {
-    ghost use Rattle.spade_dcel.specs.Shapes.{Mesh};
+    ghost use Rattle.dcel_maps.specs.Shapes.{Mesh};
 
     ghost Value = { Mesh V DE UE F };
 
     ghost use Rattle.spade_dcel.specs.Record.{removal_of};
-    ghost use Rattle.spade_dcel.specs.Stored.{mesh_of, IsStored};
+    ghost use Rattle.dcel_edits.specs.Stored.{mesh_of, IsStored};
 
     ghost view = { λ d. mesh_of d.store (removal_of d.removal) };
 

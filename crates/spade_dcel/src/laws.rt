@@ -1,9 +1,9 @@
 //! Laws: what is true of each mesh. These calls compute nothing; whoever makes one learns what it ensures.
 
-ghost use Rattle.spade_dcel.specs.Examples.{two_triangles};
-ghost use Rattle.spade_dcel.specs.Shapes.{IsMesh, IsSphere};
+ghost use Rattle.dcel_maps.specs.Shapes.{IsMesh};
 
 use crate::dcel::Dcel;
+pub use dcel_maps::laws::two_triangles_are_no_sphere;
 use std::alloc::Allocator;
 
 /// Each mesh is sound, a sphere, anchored and sized.
@@ -18,8 +18,3 @@ pub fn every_mesh<V, DE, UE, F, A: Allocator>(dcel: &Dcel<V, DE, UE, F, A>)
 {
     let _ = &dcel.store;
 }
-
-/// Two triangles that lie beside each other are no sphere: their vertices, minus their edges, plus their faces, are four.
-pub fn two_triangles_are_no_sphere()
-    ensures { ¬ IsSphere two_triangles }
-{}

@@ -5,10 +5,8 @@
 #![tactic(auto)]
 
 pub mod dcel;
-mod elements;
 pub mod handles;
 pub mod iterators;
 pub mod laws;
 pub mod operations;
 mod removal;
-mod sectors;

@@ -3,7 +3,7 @@
 ghost use Rattle.std.specs.Prelude.{◌≡◌, ◌≤◌, ◌^◌, IfOk, IfErr, OnOk, OnErr};
 ghost use Rattle.dcel_commands.specs.Conditions.{Legal};
 ghost use Rattle.dcel_commands.specs.Steps.{IsRefusal, Step};
-ghost use Rattle.spade_dcel.specs.Shapes.{IsMesh};
+ghost use Rattle.dcel_maps.specs.Shapes.{IsMesh};
 
 use crate::checks::{check_append, check_extend, check_insert, check_setup, check_triangle};
 use crate::commands::command::Command;

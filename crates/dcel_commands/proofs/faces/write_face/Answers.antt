@@ -1,7 +1,7 @@
 use Rattle.std.proofs.Common.{◌≡◌, ◌∷◌, ◌++◌, ◌∙◌, [], cond, true, false, ap, sym}
 use Rattle.std.specs.Fmt.{decimal}
-use Rattle.spade_dcel.specs.Shapes.{face_is_live}
-use Rattle.spade_dcel.specs.Words.{word_of}
+use Rattle.dcel_maps.specs.Shapes.{face_is_live}
+use Rattle.dcel_maps.specs.Words.{word_of}
 use Rattle.dcel_commands.specs.Output.{Wrote}
 use Rattle.dcel_commands.specs.Responses.{face_line, listed}
 use Rattle.dcel_commands.proofs.Writing.{writing_nothing, writing_then, writing_text}

@@ -1,7 +1,7 @@
 use Rattle.std.proofs.Common.{◌≡◌, ◌∙◌, ap, sym}
 use Rattle.spade_dcel.specs.Handles.{mesh_behind, number_of}
-use Rattle.spade_dcel.specs.Shapes.{face_of}
-use Rattle.spade_dcel.specs.Words.{word_of}
+use Rattle.dcel_maps.specs.Shapes.{face_of}
+use Rattle.dcel_maps.specs.Words.{word_of}
 use Rattle.dcel_commands.specs.Output.{Wrote}
 use Rattle.dcel_commands.specs.Responses.{listed}
 use Rattle.dcel_commands.proofs.FaceWalks.{anchor_lies, unanchored_word, live_below}

@@ -1,6 +1,6 @@
 use Rattle.std.proofs.Common.{◌≡◌, ◌<◌}
 use Rattle.spade_dcel.specs.Handles.{mesh_behind, number_of}
-use Rattle.spade_dcel.specs.Words.{count_of}
+use Rattle.dcel_maps.specs.Words.{count_of}
 use Rattle.dcel_commands.specs.Faces.{word_round}
 use Rattle.dcel_commands.specs.Output.{Wrote}
 use Rattle.dcel_commands.specs.Responses.{listed}

@@ -1,6 +1,6 @@
 use Rattle.std.proofs.Common.{◌≡◌, arith, sym, None}
 use Rattle.spade_dcel.specs.Handles.{mesh_behind, number_of}
-use Rattle.spade_dcel.specs.Shapes.{vertex_anchor}
+use Rattle.dcel_maps.specs.Shapes.{vertex_anchor}
 use Rattle.dcel_commands.proofs.FaceWalks.{live_below}
 use Rattle.dcel_commands.proofs.OutEdges.{least_goes_on, least_is_found, least_out-some, no_anchor}
 use Rattle.dcel_commands.proofs.turns.least_out_edge.Goals as goal

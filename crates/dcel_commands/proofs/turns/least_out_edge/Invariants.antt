@@ -1,6 +1,6 @@
 use Rattle.std.proofs.Common.{◌≡◌}
 use Rattle.spade_dcel.specs.Handles.{mesh_behind, number_of}
-use Rattle.spade_dcel.specs.Walking.{IsOutEdge}
+use Rattle.dcel_maps.specs.Walking.{IsOutEdge}
 use Rattle.dcel_commands.proofs.OutEdges.{LeastSeen}
 use Rattle.dcel_commands.proofs.turns.least_out_edge.Given as goal
 

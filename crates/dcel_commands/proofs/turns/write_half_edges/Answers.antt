@@ -1,6 +1,6 @@
 use Rattle.std.proofs.Common.{◌≡◌, ◌∙◌, ap, Some, None}
 use Rattle.spade_dcel.specs.Handles.{mesh_behind, number_of}
-use Rattle.spade_dcel.specs.Walking.{walk_from, walk_of, ccw_of}
+use Rattle.dcel_maps.specs.Walking.{walk_from, walk_of, ccw_of}
 use Rattle.dcel_commands.specs.Output.{Wrote}
 use Rattle.dcel_commands.specs.Responses.{listed}
 use Rattle.dcel_commands.specs.Turns.{least_out}

@@ -1,5 +1,5 @@
 use Rattle.spade_dcel.specs.Handles.{mesh_behind, number_of}
-use Rattle.spade_dcel.specs.Walking.{ccw_of, walk_of}
+use Rattle.dcel_maps.specs.Walking.{ccw_of, walk_of}
 use Rattle.dcel_commands.specs.Output.{Wrote}
 use Rattle.dcel_commands.specs.Responses.{listed}
 use Rattle.dcel_commands.proofs.OutEdges.{ListedSoFar}

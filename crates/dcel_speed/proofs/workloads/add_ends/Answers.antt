@@ -1,5 +1,5 @@
 use Rattle.spade_dcel.specs.Handles.{mesh_behind, number_of}
-use Rattle.spade_dcel.specs.Walking.{out_edges_of}
+use Rattle.dcel_maps.specs.Walking.{out_edges_of}
 use Rattle.dcel_speed.proofs.Listing.{all_live}
 use Rattle.dcel_speed.proofs.workloads.add_ends.Goals as goal
 

@@ -1,7 +1,7 @@
 use Rattle.std.proofs.Common.{◌≢◌, ◌*◌, ◌<◌, sym, ap, ◌∙◌, arith}
 use Rattle.std.proofs.lemmas.Bool.{false≢true}
-use Rattle.spade_dcel.specs.Shapes.{face_of}
-use Rattle.spade_dcel.proofs.Liveness.{closed-live, closed-even_live}
+use Rattle.dcel_maps.specs.Shapes.{face_of}
+use Rattle.dcel_maps.proofs.Liveness.{closed-live, closed-even_live}
 use Rattle.spade_dcel.proofs.dcel.Dcel.has_triangles_at_even_halves.Goals as goal
 
 pub face_of_edge-requires : goal.face_of_edge-requires

@@ -2,8 +2,8 @@ use Rattle.std.proofs.Common.{◌≡◌, ◌<◌, ◌+◌, ◌*◌, sym, ap, ◌
 use Rattle.std.proofs.lemmas.Bool.{false≢true}
 use Rattle.dcel_fixed.proofs.Halves.{rev-double}
 use Rattle.dcel_fixed.specs.HalfEdges.{rev}
-use Rattle.spade_dcel.specs.Shapes.{face_of}
-use Rattle.spade_dcel.proofs.Liveness.{closed-live, closed-even_live, closed-odd_live}
+use Rattle.dcel_maps.specs.Shapes.{face_of}
+use Rattle.dcel_maps.proofs.Liveness.{closed-live, closed-even_live, closed-odd_live}
 use Rattle.spade_dcel.proofs.dcel.Dcel.has_two_faces_at_each_edge.Goals as goal
 
 pub face_of_edge-requires : goal.face_of_edge-requires

@@ -1,6 +1,6 @@
 use Rattle.std.proofs.Common.{sym, ap, ◌∙◌, None, slice_index_or}
-use Rattle.spade_dcel.proofs.FaceWords.{anchored_triangle-iff}
-use Rattle.spade_dcel.proofs.Reading.{face_anchor-lies}
+use Rattle.dcel_edits.proofs.FaceWords.{anchored_triangle-iff}
+use Rattle.dcel_edits.proofs.Reading.{face_anchor-lies}
 use Rattle.spade_dcel.proofs.dcel.Dcel.is_triangle.Goals as goal
 
 pub is_on_triangle-requires : goal.is_on_triangle-requires

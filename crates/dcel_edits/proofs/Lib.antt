@@ -1,0 +1,6 @@
+pub mod FaceWords
+pub mod OutEdges
+pub mod Public
+pub mod Reading
+pub mod Shown
+pub mod stored

@@ -1,0 +1,68 @@
+-- Origins with those of given-up edges masked.
+use Rattle.std.proofs.Common.{◌≡◌, ℕ, zero, suc, ◌+◌, ◌*◌, ◌/◌, Bool, false, cond, List, [], ◌∷◌, ◌++◌, length, slice_index, slice_set, refl, ap, ◌∙◌, arith, add-zero, add-suc, suc-add, zero-add}
+use Rattle.std.proofs.lemmas.Bool.{cond_both}
+use Rattle.dcel_edits.specs.Stored.{shown, shown_from}
+
+module _ (g : ℕ → Bool) where
+  length-shown_from : (h : ℕ) (vs : List ℕ) → length (shown_from g h vs) ≡ length vs
+  length-shown_from h [] = refl
+  length-shown_from h (v ∷ vs) = ap suc (length-shown_from (suc h) vs)
+
+  pub length-shown : (vs : List ℕ) → length (shown g vs) ≡ length vs
+  length-shown vs = length-shown_from 0 vs
+
+  index-shown_from : (h : ℕ) (vs : List ℕ) (i : ℕ)
+      → slice_index (shown_from g h vs) i ≡ cond (g ((h + i) / 2)) 0 (slice_index vs i)
+  index-shown_from h [] i = cond_both (g ((h + i) / 2)) 0 0 (λ v. 0 ≡ v) (λ yes. refl) (λ no. refl)
+  index-shown_from h (v ∷ vs) zero = rw add-zero refl
+  index-shown_from h (v ∷ vs) (suc i) = rw (add-suc, ← suc-add) (index-shown_from (suc h) vs i)
+
+  -- each origin is masked where its edge is given up
+  pub slice_index-shown : (vs : List ℕ) (h : ℕ) → slice_index (shown g vs) h ≡ cond (g (h / 2)) 0 (slice_index vs h)
+  slice_index-shown vs h = index-shown_from 0 vs h ∙ rw zero-add refl
+
+  pub slice_index-shown_live : (vs : List ℕ) (h : ℕ) → g (h / 2) ≡ false → slice_index (shown g vs) h ≡ slice_index vs h
+  slice_index-shown_live vs h live = slice_index-shown vs h ∙ rw live refl
+
+  shown_from-append : (h : ℕ) (vs us : List ℕ)
+      → shown_from g h (vs ++ us) ≡ shown_from g h vs ++ shown_from g (h + length vs) us
+  shown_from-append h [] us = rw add-zero refl
+  shown_from-append h (v ∷ vs) us = rw (add-suc, ← suc-add) (ap (λ z. cond (g (h / 2)) 0 v ∷ z) (shown_from-append (suc h) vs us))
+
+  -- a live edge put at the end shows its origins
+  pub shown_push : (vs : List ℕ) (m a b : ℕ) → length vs ≡ 2 * m → g m ≡ false
+      → shown g (vs ++ a ∷ b ∷ []) ≡ shown g vs ++ a ∷ b ∷ []
+  shown_push vs m a b long live =
+      let first : (0 + length vs) / 2 ≡ m = omega (arith, long) in
+      let second : suc (0 + length vs) / 2 ≡ m = omega (arith, long) in
+      shown_from-append 0 vs (a ∷ b ∷ []) ∙ rw (first, second, live) refl
+
+  shown_from-none : ((u : ℕ) → g u ≡ false) → (h : ℕ) (vs : List ℕ) → shown_from g h vs ≡ vs
+  shown_from-none none h [] = refl
+  shown_from-none none h (v ∷ vs) = rw (none (h / 2)) (ap (λ z. v ∷ z) (shown_from-none none (suc h) vs))
+
+  -- where nothing is given up all origins show
+  pub shown-none : ((u : ℕ) → g u ≡ false) → (vs : List ℕ) → shown g vs ≡ vs
+  shown-none none vs = shown_from-none none 0 vs
+
+  shown_from-set : (h : ℕ) (vs : List ℕ) (i a : ℕ) → g ((h + i) / 2) ≡ false
+      → shown_from g h (slice_set vs i a) ≡ slice_set (shown_from g h vs) i a
+  shown_from-set h [] i a live = refl
+  shown_from-set h (v ∷ vs) zero a live =
+      let here : g (h / 2) ≡ false = rw add-zero at live in
+      rw here refl
+  shown_from-set h (v ∷ vs) (suc i) a live =
+      ap (λ z. cond (g (h / 2)) 0 v ∷ z) (shown_from-set (suc h) vs i a (rw (add-suc, ← suc-add) at live))
+
+  -- a write to the origin of a live edge shows
+  pub shown-set : (vs : List ℕ) (h a : ℕ) → g (h / 2) ≡ false → shown g (slice_set vs h a) ≡ slice_set (shown g vs) h a
+  shown-set vs h a live = shown_from-set 0 vs h a (rw zero-add live)
+
+  -- tests that agree show the same
+  shown_from-same : (k : ℕ → Bool) → ((u : ℕ) → k u ≡ g u) → (h : ℕ) (vs : List ℕ)
+      → shown_from k h vs ≡ shown_from g h vs
+  shown_from-same k same h [] = refl
+  shown_from-same k same h (v ∷ vs) = rw (same (h / 2)) (ap (λ z. cond (g (h / 2)) 0 v ∷ z) (shown_from-same k same (suc h) vs))
+
+  pub shown-same : (k : ℕ → Bool) → ((u : ℕ) → k u ≡ g u) → (vs : List ℕ) → shown k vs ≡ shown g vs
+  shown-same k same vs = shown_from-same k same 0 vs

@@ -1,0 +1,19 @@
+use Rattle.std.proofs.Common.{refl}
+use Rattle.dcel_fixed.proofs.Halves.{rev-double}
+use Rattle.dcel_edits.proofs.line.put_spur.Goals as goal
+
+pub returns : goal.returns
+returns g c =
+    rw (
+      c.set_vertex_anchor.ensures,
+      c.set_prev.ensures,
+      c.set_next.ensures,
+      c.push_edge.ensures,
+      c.rev-forth.ensures,
+      c.new_normalized-back.ensures,
+      c.num_edges.ensures.count,
+      rev-double,
+      c.origin-from.ensures,
+      c.face-face.ensures,
+      c.next-after.ensures,
+    ) refl

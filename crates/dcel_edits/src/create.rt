@@ -1,0 +1,47 @@
+//! The first edge.
+
+ghost use Rattle.std.specs.Prelude.{◌≡◌, ◌<◌, length};
+ghost use Rattle.dcel_edits.specs.Spurs.{first_edge_stored};
+
+use dcel_fixed::{FixedDirectedEdgeHandle, FixedVertexHandle, OUTER_FACE};
+use dcel_store::{HalfEdgeEntry, Store};
+use std::alloc::Allocator;
+
+/// Writes edge 0 into a store without edges.
+pub fn put_first_edge<V, DE, UE, F, A: Allocator>(
+    store: &mut Store<V, DE, UE, F, A>,
+    first_vertex: FixedVertexHandle,
+    second_vertex: FixedVertexHandle,
+    forth: DE,
+    back: DE,
+    both: UE,
+)
+    requires place { 0 < store.old.edge_room }
+    requires first_in { first_vertex < length store.old.vertex_anchors }
+    requires second_in { second_vertex < length store.old.vertex_anchors }
+    requires outer { 0 < length store.old.face_anchors }
+    ensures { store.new ≡ first_edge_stored store.old first_vertex second_vertex forth back both }
+{
+    let normalized = FixedDirectedEdgeHandle::new_normalized(0);
+    let reversed = normalized.rev();
+    store.push_edge(
+        HalfEdgeEntry {
+            next: reversed,
+            prev: reversed,
+            face: OUTER_FACE,
+            origin: first_vertex,
+        },
+        HalfEdgeEntry {
+            next: normalized,
+            prev: normalized,
+            face: OUTER_FACE,
+            origin: second_vertex,
+        },
+        forth,
+        back,
+        both,
+    );
+    store.set_vertex_anchor(first_vertex, Some(normalized));
+    store.set_vertex_anchor(second_vertex, Some(reversed));
+    store.set_face_anchor(OUTER_FACE, Some(normalized));
+}

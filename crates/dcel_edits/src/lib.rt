@@ -1,0 +1,9 @@
+//! What each edit of a mesh writes into its store: private writers of the mesh, each with one equation over lists, and the proofs that
+//! lists which hold a mesh hold the edited one afterwards.
+#![tactic(auto)]
+
+pub mod create;
+mod elements;
+pub mod line;
+mod sectors;
+pub mod triangle;

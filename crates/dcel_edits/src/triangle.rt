@@ -1,0 +1,96 @@
+//! A first triangle, and a vertex in a triangle.
+
+ghost use Rattle.std.specs.Prelude.{◌≡◌, ◌<◌, ◌^◌};
+ghost use Rattle.dcel_store.specs.Lists as lists;
+ghost use Rattle.dcel_maps.specs.Edits.{AddsEdgesAndFaces};
+ghost use Rattle.dcel_edits.specs.Triangles.{CanInsert, IsEmpty, insertion_stored, triangle_stored};
+
+use crate::elements::{EdgeData, push_anchored_face, push_anchored_vertex, push_new_edge};
+use crate::sectors::{Sector, close_sector, push_spoke};
+use dcel_fixed::{FixedDirectedEdgeHandle, FixedFaceHandle, FixedVertexHandle};
+use dcel_store::{HalfEdgeEntry, Store};
+use std::alloc::Allocator;
+
+/// Writes a triangle into an empty store.
+pub fn put_triangle<V, DE: Default, UE: Default, F: Default, A: Allocator>(
+    store: &mut Store<V, DE, UE, F, A>,
+    vertices: (V, V, V),
+)
+    requires empty { IsEmpty store.old }
+    requires room { lists.HasRoom store.old 3 3 2 }
+    ensures { AddsEdgesAndFaces DE.is_default UE.is_default F.is_default 3 2 store.new (triangle_stored store.old vertices) }
+{
+    let (first, second, third) = vertices;
+    push_anchored_vertex(store, FixedDirectedEdgeHandle::new(0), first);
+    push_anchored_vertex(store, FixedDirectedEdgeHandle::new(2), second);
+    push_anchored_vertex(store, FixedDirectedEdgeHandle::new(4), third);
+    push_anchored_face(store, FixedDirectedEdgeHandle::new(0), F::default());
+    push_anchored_face(store, FixedDirectedEdgeHandle::new(1), F::default());
+    push_new_edge(
+        store,
+        links(2, 4, 0, 0),
+        links(5, 3, 1, 1),
+        EdgeData::default(),
+    );
+    push_new_edge(
+        store,
+        links(4, 0, 0, 1),
+        links(1, 5, 1, 2),
+        EdgeData::default(),
+    );
+    push_new_edge(
+        store,
+        links(0, 2, 0, 2),
+        links(3, 1, 1, 0),
+        EdgeData::default(),
+    );
+}
+
+// The links of a half edge, by their numbers.
+fn links(next: usize, prev: usize, face: usize, origin: usize) -> HalfEdgeEntry
+    requires few_next { next < 2 ^ 32 }
+    requires few_prev { prev < 2 ^ 32 }
+    requires few_faces { face < 2 ^ 32 }
+    requires few_vertices { origin < 2 ^ 32 }
+    ensures { result ≡ record { next = next; prev = prev; face = face; origin = origin } }
+{
+    HalfEdgeEntry {
+        next: FixedDirectedEdgeHandle::new(next),
+        prev: FixedDirectedEdgeHandle::new(prev),
+        face: FixedFaceHandle::new(face),
+        origin: FixedVertexHandle::new(origin),
+    }
+}
+
+/// Cuts the triangle of the half edge `first` into three, which meet at `tip`.
+pub fn put_insertion<V, DE: Default, UE: Default, F: Default, A: Allocator>(
+    store: &mut Store<V, DE, UE, F, A>,
+    first: FixedDirectedEdgeHandle,
+    tip: FixedVertexHandle,
+)
+    requires { CanInsert store.old first tip }
+    ensures { AddsEdgesAndFaces DE.is_default UE.is_default F.is_default 3 2 store.new (insertion_stored store.old first tip) }
+{
+    let edges = store.num_edges();
+    let faces = store.num_faces();
+    let second = store.next(first);
+    let third = store.prev(first);
+    let a = Sector::new(store, first, store.face(first), edges, edges + 2);
+    let b = Sector::new(store, second, FixedFaceHandle::new(faces), edges + 1, edges);
+    let c = Sector::new(
+        store,
+        third,
+        FixedFaceHandle::new(faces + 1),
+        edges + 2,
+        edges + 1,
+    );
+    close_sector(store, &a);
+    close_sector(store, &b);
+    close_sector(store, &c);
+    push_spoke(store, &a, &b, tip, EdgeData::default());
+    push_spoke(store, &b, &c, tip, EdgeData::default());
+    push_spoke(store, &c, &a, tip, EdgeData::default());
+    push_anchored_face(store, b.edge, F::default());
+    push_anchored_face(store, c.edge, F::default());
+    store.set_vertex_anchor(tip, Some(b.prev));
+}

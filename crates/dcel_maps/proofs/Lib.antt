@@ -1,0 +1,4 @@
+pub mod Liveness
+pub mod maps
+pub mod walks
+pub mod words

@@ -1,0 +1,160 @@
+-- Elementary edits of a half-edge map: what each asks, and what it leaves. S is before, T after.
+use Rattle.std.proofs.Common.{◌≡◌, ◌≢◌, ◌/◌, ◌<◌, ◌≤◌, ◌==◌, ◌||◌, ℕ, Bool, true, false}
+use Rattle.dcel_maps.specs.Maps.{Live, Map}
+use Rattle.dcel_fixed.specs.HalfEdges.{rev}
+
+-- what a spur asks: the edge of h is not live, and no edge meets the vertex v
+pub record SpurAt (S : Map) (a h v : ℕ) : Type 0 where
+  pub lives : Live S a
+  pub fresh : S.edge (h / 2) ≡ false
+  pub isolated : (x : ℕ) → Live S x → S.origin x ≢ v
+  pub vertex_room : v < S.vertices
+
+-- a new edge to a new vertex: the cycle (.. a, b ..) becomes (.. a, h, rev h, b ..); the tip is v
+pub record Spur (S T : Map) (a h v : ℕ) : Type 0 where
+  pub at : SpurAt S a h v
+  pub open at use *
+  pub edge_here : T.edge (h / 2) ≡ true
+  pub edge_other : (u : ℕ) → u ≢ h / 2 → T.edge u ≡ S.edge u
+  pub next_a : T.next a ≡ h
+  pub next_h : T.next h ≡ rev h
+  pub next_rev : T.next (rev h) ≡ S.next a
+  pub next_other : (x : ℕ) → Live S x → x ≢ a → T.next x ≡ S.next x
+  pub prev_b : T.prev (S.next a) ≡ rev h
+  pub prev_rev : T.prev (rev h) ≡ h
+  pub prev_h : T.prev h ≡ a
+  pub prev_other : (x : ℕ) → Live S x → x ≢ S.next a → T.prev x ≡ S.prev x
+  pub origin_h : T.origin h ≡ S.origin (S.next a)
+  pub origin_rev : T.origin (rev h) ≡ v
+  pub origin_other : (x : ℕ) → Live S x → T.origin x ≡ S.origin x
+  pub face_h : T.face h ≡ S.face a
+  pub face_rev : T.face (rev h) ≡ S.face a
+  pub face_other : (x : ℕ) → Live S x → T.face x ≡ S.face x
+  pub edges : S.edges ≤ T.edges
+  pub edge_below : h / 2 < T.edges
+  pub vertices : T.vertices ≡ S.vertices
+  pub faces : T.faces ≡ S.faces
+
+-- what a chord asks: the test `arc` holds of the part of the cycle that begins with p and ends before q; the edge of h
+-- is not live, and no half edge lies at the face g
+pub record ChordAt (S : Map) (p q h g : ℕ) (arc : ℕ → Bool) : Type 0 where
+  pub lives_p : Live S p
+  pub lives_q : Live S q
+  pub apart : S.origin p ≢ S.origin q
+  pub fresh : S.edge (h / 2) ≡ false
+  pub vacant : (x : ℕ) → Live S x → S.face x ≢ g
+  pub same : S.face p ≡ S.face q
+  pub arc_p : arc p ≡ true
+  pub arc_q : arc q ≡ false
+  pub arc_before_p : arc (S.prev p) ≡ false
+  pub arc_before_q : arc (S.prev q) ≡ true
+  pub arc_face : (x : ℕ) → Live S x → arc x ≡ true → S.face x ≡ S.face p
+  pub arc_enter : (x : ℕ) → Live S x → arc x ≡ false → arc (S.next x) ≡ true → S.next x ≡ p
+  pub arc_leave : (x : ℕ) → Live S x → arc x ≡ true → arc (S.next x) ≡ false → S.next x ≡ q
+
+-- a new edge that cuts the cycle of p and q in two: h comes before q in what is left, rev h before p in the part of
+-- the test `arc`, which gets the face g
+pub record Chord (S T : Map) (p q h g : ℕ) (arc : ℕ → Bool) : Type 0 where
+  pub at : ChordAt S p q h g arc
+  pub open at use *
+  pub edge_here : T.edge (h / 2) ≡ true
+  pub edge_other : (u : ℕ) → u ≢ h / 2 → T.edge u ≡ S.edge u
+  pub next_to_h : T.next (S.prev p) ≡ h
+  pub next_h : T.next h ≡ q
+  pub next_to_rev : T.next (S.prev q) ≡ rev h
+  pub next_rev : T.next (rev h) ≡ p
+  pub next_other : (x : ℕ) → Live S x → x ≢ S.prev p → x ≢ S.prev q → T.next x ≡ S.next x
+  pub prev_h : T.prev h ≡ S.prev p
+  pub prev_q : T.prev q ≡ h
+  pub prev_rev : T.prev (rev h) ≡ S.prev q
+  pub prev_p : T.prev p ≡ rev h
+  pub prev_other : (x : ℕ) → Live S x → x ≢ p → x ≢ q → T.prev x ≡ S.prev x
+  pub origin_h : T.origin h ≡ S.origin p
+  pub origin_rev : T.origin (rev h) ≡ S.origin q
+  pub origin_other : (x : ℕ) → Live S x → T.origin x ≡ S.origin x
+  pub face_h : T.face h ≡ S.face q
+  pub face_rev : T.face (rev h) ≡ g
+  pub face_in : (x : ℕ) → Live S x → arc x ≡ true → T.face x ≡ g
+  pub face_out : (x : ℕ) → Live S x → arc x ≡ false → T.face x ≡ S.face x
+  pub edges : S.edges ≤ T.edges
+  pub edge_below : h / 2 < T.edges
+  pub vertices : T.vertices ≡ S.vertices
+  pub faces : S.faces ≤ T.faces
+  pub face_below : g < T.faces
+
+-- one of two numbers
+abbrev pub two : ℕ → ℕ → ℕ → Bool
+two p n x = x == p || x == n
+
+-- what an ear asks: p, n, q follow each other in the cycle
+pub record EarAt (S : Map) (p n q h g : ℕ) : Type 0 where
+  pub lives : Live S p
+  pub next_p : S.next p ≡ n
+  pub next_n : S.next n ≡ q
+  pub apart : S.origin p ≢ S.origin q
+  pub fresh : S.edge (h / 2) ≡ false
+  pub vacant : (x : ℕ) → Live S x → S.face x ≢ g
+
+-- a chord over two neighbours: (.. p, n, q ..) becomes (.. h, q ..), and (p, n, rev h) is the new face g
+pub record Ear (S T : Map) (p n q h g : ℕ) : Type 0 where
+  pub at : EarAt S p n q h g
+  pub edge_here : T.edge (h / 2) ≡ true
+  pub edge_other : (u : ℕ) → u ≢ h / 2 → T.edge u ≡ S.edge u
+  pub next_to_h : T.next (S.prev p) ≡ h
+  pub next_h : T.next h ≡ q
+  pub next_n : T.next n ≡ rev h
+  pub next_rev : T.next (rev h) ≡ p
+  pub next_other : (x : ℕ) → Live S x → x ≢ S.prev p → x ≢ n → T.next x ≡ S.next x
+  pub prev_h : T.prev h ≡ S.prev p
+  pub prev_q : T.prev q ≡ h
+  pub prev_rev : T.prev (rev h) ≡ n
+  pub prev_p : T.prev p ≡ rev h
+  pub prev_other : (x : ℕ) → Live S x → x ≢ p → x ≢ q → T.prev x ≡ S.prev x
+  pub origin_h : T.origin h ≡ S.origin p
+  pub origin_rev : T.origin (rev h) ≡ S.origin q
+  pub origin_other : (x : ℕ) → Live S x → T.origin x ≡ S.origin x
+  pub face_h : T.face h ≡ S.face p
+  pub face_rev : T.face (rev h) ≡ g
+  pub face_p : T.face p ≡ g
+  pub face_n : T.face n ≡ g
+  pub face_other : (x : ℕ) → Live S x → x ≢ p → x ≢ n → T.face x ≡ S.face x
+  pub edges : S.edges ≤ T.edges
+  pub edge_below : h / 2 < T.edges
+  pub vertices : T.vertices ≡ S.vertices
+  pub faces : S.faces ≤ T.faces
+  pub face_below : g < T.faces
+
+-- the first edge: h from a to b, and back; no other edge is live
+pub record FirstEdge (T : Map) (h a b : ℕ) : Type 0 where
+  pub edge_here : T.edge (h / 2) ≡ true
+  pub edge_other : (u : ℕ) → u ≢ h / 2 → T.edge u ≡ false
+  pub next_h : T.next h ≡ rev h
+  pub next_rev : T.next (rev h) ≡ h
+  pub prev_h : T.prev h ≡ rev h
+  pub prev_rev : T.prev (rev h) ≡ h
+  pub origin_h : T.origin h ≡ a
+  pub origin_rev : T.origin (rev h) ≡ b
+  pub apart : a ≢ b
+  pub face_h : T.face h ≡ 0
+  pub face_rev : T.face (rev h) ≡ 0
+  pub edge_below : h / 2 < T.edges
+  pub below_a : a < T.vertices
+  pub below_b : b < T.vertices
+  pub below_0 : 0 < T.faces
+
+-- T is S with other numbers: half edges by f (back by f'), vertices by o, faces by w
+pub record Renamed (S T : Map) (f f' o w : ℕ → ℕ) : Type 0 where
+  pub lives : (x : ℕ) → Live S x → Live T (f x)
+  pub comes : (y : ℕ) → Live T y → Live S (f' y)
+  pub forth : (x : ℕ) → Live S x → f' (f x) ≡ x
+  pub back : (y : ℕ) → Live T y → f (f' y) ≡ y
+  pub turn : (x : ℕ) → Live S x → rev (f x) ≡ f (rev x)
+  pub next : (x : ℕ) → Live S x → T.next (f x) ≡ f (S.next x)
+  pub prev : (x : ℕ) → Live S x → T.prev (f x) ≡ f (S.prev x)
+  pub origin : (x : ℕ) → Live S x → T.origin (f x) ≡ o (S.origin x)
+  pub face : (x : ℕ) → Live S x → T.face (f x) ≡ w (S.face x)
+  pub apart_origin : (x y : ℕ) → Live S x → Live S y → o (S.origin x) ≡ o (S.origin y) → S.origin x ≡ S.origin y
+  pub apart_face : (x y : ℕ) → Live S x → Live S y → w (S.face x) ≡ w (S.face y) → S.face x ≡ S.face y
+  pub below_edges : (x : ℕ) → Live T x → x / 2 < T.edges
+  pub below_vertices : (x : ℕ) → Live T x → T.origin x < T.vertices
+  pub below_faces : (x : ℕ) → Live T x → T.face x < T.faces

@@ -1,0 +1,150 @@
+-- A triangle alone is sound and a sphere: a first edge, a spur and an ear.
+use Rattle.std.proofs.Common.{◌≡◌, ◌≢◌, ℕ, zero, suc, ◌+◌, ◌*◌, ◌/◌, ◌<◌, true, nat_lt, List, [], ◌∷◌, slice_index, refl, arith, le-ltb, ltb-true}
+use Rattle.std.proofs.lemmas.Bool.Decides.{nat_tests}
+use Rattle.dcel_fixed.specs.HalfEdges.{rev}
+use Rattle.dcel_maps.specs.Maps.{Map, Live, Sound, Sphere}
+use Rattle.dcel_maps.proofs.maps.Edits.{FirstEdge, Spur, SpurAt, Ear, EarAt}
+use Rattle.dcel_maps.proofs.maps.Firsts.{first_keeps}
+use Rattle.dcel_maps.proofs.maps.Spurs.{spur_keeps}
+use Rattle.dcel_maps.proofs.maps.Ears.{ear_keeps}
+
+-- what holds of the first two, four or six numbers holds of each below
+pub below_two : (P : ℕ → Type 0) → P 0 → P 1 → (x : ℕ) → x < 2 → P x
+below_two P p q zero l = p
+below_two P p q (suc zero) l = q
+below_two P p q (suc (suc x)) l = absurd (omega arith)
+
+pub below_four : (P : ℕ → Type 0) → P 0 → P 1 → P 2 → P 3 → (x : ℕ) → x < 4 → P x
+below_four P p q r s zero l = p
+below_four P p q r s (suc zero) l = q
+below_four P p q r s (suc (suc x)) l = below_two (λ y. P (suc (suc y))) r s x (omega arith)
+
+pub below_six : (P : ℕ → Type 0) → P 0 → P 1 → P 2 → P 3 → P 4 → P 5 → (x : ℕ) → x < 6 → P x
+below_six P p q r s t u zero l = p
+below_six P p q r s t u (suc zero) l = q
+below_six P p q r s t u (suc (suc x)) l = below_four (λ y. P (suc (suc y))) r s t u x (omega arith)
+
+-- three vertices and two faces, with so many edges, and these links
+abbrev listed : ℕ → List ℕ → List ℕ → List ℕ → List ℕ → Map
+listed edges next prev origin face = record {
+  vertices = 3;
+  edges = edges;
+  faces = 2;
+  edge = λ u. nat_lt u edges;
+  next = λ h. slice_index next h;
+  prev = λ h. slice_index prev h;
+  origin = λ h. slice_index origin h;
+  face = λ h. slice_index face h;
+}
+
+-- an edge; with a spur; and with the ear over it, which closes the triangle
+abbrev one : Map
+one = listed 1 (1 ∷ 0 ∷ []) (1 ∷ 0 ∷ []) (0 ∷ 1 ∷ []) (0 ∷ 0 ∷ [])
+
+abbrev two : Map
+two = listed 2 (2 ∷ 0 ∷ 3 ∷ 1 ∷ []) (1 ∷ 3 ∷ 0 ∷ 2 ∷ []) (0 ∷ 1 ∷ 1 ∷ 2 ∷ []) (0 ∷ 0 ∷ 0 ∷ 0 ∷ [])
+
+abbrev pub triangle : Map
+triangle = listed 3 (2 ∷ 5 ∷ 4 ∷ 1 ∷ 0 ∷ 3 ∷ []) (4 ∷ 3 ∷ 0 ∷ 5 ∷ 2 ∷ 1 ∷ []) (0 ∷ 1 ∷ 1 ∷ 2 ∷ 2 ∷ 0 ∷ []) (0 ∷ 1 ∷ 0 ∷ 1 ∷ 0 ∷ 1 ∷ [])
+
+each_one : (P : ℕ → Type 0) → P 0 → P 1 → (x : ℕ) → Live one x → P x
+each_one P p q x live = below_two P p q x (let below = ltb-true (x / 2) 1 live in omega arith)
+
+each_two : (P : ℕ → Type 0) → P 0 → P 1 → P 2 → P 3 → (x : ℕ) → Live two x → P x
+each_two P p q r s x live = below_four P p q r s x (let below = ltb-true (x / 2) 2 live in omega arith)
+
+first : FirstEdge one 0 0 1
+unfolding rev
+first = record {
+  edge_here = refl;
+  edge_other = λ u differs. le-ltb u 1 (omega (arith, differs));
+  next_h = refl;
+  next_rev = refl;
+  prev_h = refl;
+  prev_rev = refl;
+  origin_h = refl;
+  origin_rev = refl;
+  apart = λ e. omega (arith, e);
+  face_h = refl;
+  face_rev = refl;
+  edge_below = omega arith;
+  below_a = omega arith;
+  below_b = omega arith;
+  below_0 = omega arith;
+}
+
+second : Spur one two 0 2 2
+unfolding rev
+second = record {
+  at = record {
+    lives = refl;
+    fresh = refl;
+    isolated = each_one (λ x. one.origin x ≢ 2) (λ e. omega (arith, e)) (λ e. omega (arith, e));
+    vertex_room = omega arith;
+  };
+  edge_here = refl;
+  edge_other = λ u differs. grind (arith, nat_tests);
+  next_a = refl;
+  next_h = refl;
+  next_rev = refl;
+  next_other = each_one (λ x. x ≢ 0 → two.next x ≡ one.next x) (λ d. absurd (d refl)) (λ d. refl);
+  prev_b = refl;
+  prev_rev = refl;
+  prev_h = refl;
+  prev_other = each_one (λ x. x ≢ 1 → two.prev x ≡ one.prev x) (λ d. refl) (λ d. absurd (d refl));
+  origin_h = refl;
+  origin_rev = refl;
+  origin_other = each_one (λ x. two.origin x ≡ one.origin x) refl refl;
+  face_h = refl;
+  face_rev = refl;
+  face_other = each_one (λ x. two.face x ≡ one.face x) refl refl;
+  edges = omega arith;
+  edge_below = omega arith;
+  vertices = refl;
+  faces = refl;
+}
+
+third : Ear two triangle 3 1 0 4 1
+unfolding rev
+third = record {
+  at = record {
+    lives = refl;
+    next_p = refl;
+    next_n = refl;
+    apart = λ e. omega (arith, e);
+    fresh = refl;
+    vacant = each_two (λ x. two.face x ≢ 1) (λ e. omega (arith, e)) (λ e. omega (arith, e)) (λ e. omega (arith, e)) (λ e. omega (arith, e));
+  };
+  edge_here = refl;
+  edge_other = λ u differs. grind (arith, nat_tests);
+  next_to_h = refl;
+  next_h = refl;
+  next_n = refl;
+  next_rev = refl;
+  next_other = each_two (λ x. x ≢ 2 → x ≢ 1 → triangle.next x ≡ two.next x) (λ d e. refl) (λ d e. absurd (e refl)) (λ d e. absurd (d refl)) (λ d e. refl);
+  prev_h = refl;
+  prev_q = refl;
+  prev_rev = refl;
+  prev_p = refl;
+  prev_other = each_two (λ x. x ≢ 3 → x ≢ 0 → triangle.prev x ≡ two.prev x) (λ d e. absurd (e refl)) (λ d e. refl) (λ d e. refl) (λ d e. absurd (d refl));
+  origin_h = refl;
+  origin_rev = refl;
+  origin_other = each_two (λ x. triangle.origin x ≡ two.origin x) refl refl refl refl;
+  face_h = refl;
+  face_rev = refl;
+  face_p = refl;
+  face_n = refl;
+  face_other = each_two (λ x. x ≢ 3 → x ≢ 1 → triangle.face x ≡ two.face x) (λ d e. refl) (λ d e. absurd (e refl)) (λ d e. refl) (λ d e. absurd (d refl));
+  edges = omega arith;
+  edge_below = omega arith;
+  vertices = refl;
+  faces = omega arith;
+  face_below = omega arith;
+}
+
+-- a triangle is sound and a sphere
+pub triangle_keeps : Sound triangle × Sphere triangle
+triangle_keeps =
+    let one_keeps = first_keeps one 0 0 1 first in
+    let two_keeps = spur_keeps one two 0 2 2 second one_keeps.0 one_keeps.1 in
+    ear_keeps two triangle 3 1 0 4 1 third two_keeps.0 two_keeps.1

@@ -1,0 +1,15 @@
+pub mod Counts
+pub mod Paths
+pub mod Becoming
+pub mod Walking
+pub mod Reading
+pub mod Rounds
+pub mod Spurs
+pub mod Firsts
+pub mod Agreement
+pub mod Turns
+pub mod Faces
+pub mod Chords
+pub mod Triangles
+pub mod Ears
+pub mod Inserts

@@ -1,0 +1,68 @@
+-- Words written from one of their half edges, and those of three.
+use Rattle.std.proofs.Common.{◌≡◌, ◌↔◌, ℕ, ◌≤◌, List, [], ◌∷◌, length, refl, subst, ap, sym, ◌∙◌, arith}
+use Rattle.dcel_maps.specs.Maps.{Map, Live, Sound}
+use Rattle.dcel_maps.specs.Standing.{Follows, Stands}
+use Rattle.dcel_maps.specs.Walks.{IsCycle}
+use Rattle.dcel_maps.specs.Words.{count_of, word_of}
+use Rattle.dcel_maps.proofs.maps.Soundness.{next_differs}
+use Rattle.dcel_maps.proofs.words.Counts.{count-same, count-equal}
+use Rattle.dcel_maps.proofs.words.Reading.{count-le, face-below, stands_in_face}
+use Rattle.dcel_maps.proofs.words.Turns.{TurnsTo, turned_to, turned_to-is, count-turn, length-turn, IsCycle-turn}
+
+-- the word of the face of h, written from h
+pub record WrittenFrom (M : Map) (ws : List (List ℕ)) (h : ℕ) : Type 0 where
+  pub rest : List ℕ
+  pub is : turned_to h (word_of ws (M.face h)) ≡ h ∷ rest
+  pub turn : TurnsTo (word_of ws (M.face h)) (h ∷ rest)
+  pub cycle : IsCycle (Follows M (M.face h)) (h ∷ rest)
+  pub single : (x : ℕ) → count_of x (h ∷ rest) ≤ 1
+
+module _ (M : Map) (ws : List (List ℕ)) (st : Stands M ws) (h : ℕ) (live : Live M h) where
+  pub written_from : WrittenFrom M ws h
+  written_from =
+      let (rest, is, turn) = turned_to-is h (word_of ws (M.face h)) (stands_in_face M ws st h live) in
+      record {
+        rest = rest;
+        is = is;
+        turn = turn;
+        cycle = IsCycle-turn (Follows M (M.face h)) turn (st.cycles (M.face h) (face-below M ws st h live));
+        single = λ x. omega (arith, count-turn x turn, count-le M ws st x (M.face h));
+      }
+
+  three : (r : List ℕ) → length (h ∷ r) ≡ 3 → IsCycle (Follows M (M.face h)) (h ∷ r) → r ≡ M.next h ∷ M.prev h ∷ []
+  three [] long c = absurd (omega arith)
+  three (x ∷ []) long c = absurd (omega arith)
+  three (x ∷ y ∷ []) long c = rw (c.0.next, c.1.1.prev) refl
+  three (x ∷ y ∷ z ∷ r) long c = absurd (omega arith)
+
+  -- a word of three is h, the next and the one before
+  pub triangle_turn : length (word_of ws (M.face h)) ≡ 3
+      → TurnsTo (word_of ws (M.face h)) (h ∷ M.next h ∷ M.prev h ∷ [])
+  triangle_turn long =
+      let w = written_from in
+      subst (λ (r : List ℕ). TurnsTo (word_of ws (M.face h)) (h ∷ r)) (three w.rest (length-turn w.turn ∙ long) w.cycle) w.turn
+
+  closes : (r : List ℕ) → length (h ∷ r) ≡ 3 → IsCycle (Follows M (M.face h)) (h ∷ r) → M.next (M.next h) ≡ M.prev h
+  closes [] long c = absurd (omega arith)
+  closes (x ∷ []) long c = absurd (omega arith)
+  closes (x ∷ y ∷ []) long c = ap M.next c.0.next ∙ c.1.0.next ∙ sym c.1.1.prev
+  closes (x ∷ y ∷ z ∷ r) long c = absurd (omega arith)
+
+  closed : Sound M → M.next (M.next h) ≡ M.prev h → (r : List ℕ) → IsCycle (Follows M (M.face h)) (h ∷ r)
+      → ((x : ℕ) → count_of x (h ∷ r) ≤ 1) → length (h ∷ r) ≡ 3
+  closed s back [] c single = absurd (next_differs M s h live c.next)
+  closed s back (x ∷ []) c single =
+      absurd (next_differs M s h live (c.0.next ∙ sym c.1.prev ∙ sym back ∙ ap M.next c.0.next ∙ c.1.next))
+  closed s back (x ∷ y ∷ []) c single = refl
+  closed s back (x ∷ y ∷ z ∷ r) c single =
+      let last : M.prev h ≡ y = sym back ∙ ap M.next c.0.next ∙ c.1.0.next in
+      let again : h ≡ z = sym (s.next-prev h live) ∙ ap M.next last ∙ c.1.1.0.next in
+      absurd (omega (arith, single h, count-same h (x ∷ y ∷ z ∷ r), count-equal h z r again))
+
+  -- a word is one of three just where two steps lead to the one before
+  pub is_triangle : Sound M → (length (word_of ws (M.face h)) ≡ 3) ↔ (M.next (M.next h) ≡ M.prev h)
+  is_triangle s =
+      let w = written_from in (
+        λ long. closes w.rest (length-turn w.turn ∙ long) w.cycle,
+        λ back. sym (length-turn w.turn) ∙ closed s back w.rest w.cycle w.single,
+      )

@@ -1,0 +1,12 @@
+pub mod Words
+pub mod Walks
+pub mod Removals
+pub mod Maps
+pub mod Shapes
+pub mod Standing
+pub mod Edits
+pub mod Checked
+pub mod Kinds
+pub mod Walking
+pub mod Laws
+pub mod Examples

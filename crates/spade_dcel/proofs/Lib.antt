@@ -1,9 +1,0 @@
-pub mod FaceWords
-pub mod Liveness
-pub mod OutEdges
-pub mod Public
-pub mod Reading
-pub mod maps
-pub mod stored
-pub mod walks
-pub mod words

@@ -1,0 +1,41 @@
+use Rattle.dcel_edits.proofs.Public.{mesh-is-mesh}
+use Rattle.dcel_edits.proofs.stored.Beginning.{first_in, outer_in, second_in, setup_edit, setup_stored}
+use Rattle.dcel_edits.proofs.stored.Holding.{reserved_holds}
+use Rattle.spade_dcel.proofs.operations.create.setup_initial_two_vertices.Goals as goal
+
+pub invariant_of-dcel : goal.invariant_of-dcel
+invariant_of-dcel g c = (reserved_holds _ _ _ _ c.reserve.ensures.same c.dcel.invariant c.dcel.view_is).stored
+
+pub returns-in_err-reserve-clause-mesh : goal.returns-in_err-reserve-clause-mesh
+returns-in_err-reserve-clause-mesh g c = mesh-is-mesh _ _ (invariant_of-dcel g c)
+
+pub put_first_edge-requires : goal.put_first_edge-requires
+put_first_edge-requires g c =
+    let held = reserved_holds _ _ _ _ c.reserve.ensures.same c.dcel.invariant c.dcel.view_is in
+    record {
+      place = c.in_ok-reserve.ensures.room.for_edges;
+      first_in = first_in _ _ _ held _ _ c.requires.no_edge c.requires.first_live c.requires.second_live c.requires.apart;
+      second_in = second_in _ _ _ held _ _ c.requires.no_edge c.requires.first_live c.requires.second_live c.requires.apart;
+      outer = outer_in _ _ _ held _ _ c.requires.no_edge c.requires.first_live c.requires.second_live c.requires.apart;
+    }
+
+pub invariant_of-dcel-2 : goal.invariant_of-dcel-2
+invariant_of-dcel-2 g c =
+    let held = reserved_holds _ _ _ _ c.reserve.ensures.same c.dcel.invariant c.dcel.view_is in
+    rw c.put_first_edge.ensures (setup_stored _ _ _ held _ _ c.requires.no_edge c.requires.first_live c.requires.second_live c.requires.apart _ _ _)
+
+pub returns-clause-edit : goal.returns-clause-edit
+returns-clause-edit g c =
+    let held = reserved_holds _ _ _ _ c.reserve.ensures.same c.dcel.invariant c.dcel.view_is in
+    record {
+      first = c.default.result;
+      second = c.default-2.result;
+      both = c.default-3.result;
+      first_default = c.default.ensures;
+      second_default = c.default-2.ensures;
+      both_default = c.default-3.ensures;
+      is = rw c.put_first_edge.ensures (setup_edit _ _ _ held _ _ c.requires.no_edge c.requires.first_live c.requires.second_live c.requires.apart _ _ _);
+    }
+
+pub returns-clause-mesh : goal.returns-clause-mesh
+returns-clause-mesh g c = mesh-is-mesh _ _ (invariant_of-dcel-2 g c)

@@ -1,0 +1,79 @@
+//! A mesh, its vertices and its first edge.
+
+ghost use Rattle.std.specs.Prelude.{◌≡◌, ◌≢◌, IfOk, IfErr, OnErr, OnOk, true};
+ghost use Rattle.dcel_maps.specs.Edits.{HasRoom, IsNew, AddsEdge, vertex_appended, first_edge_added};
+ghost use Rattle.dcel_maps.specs.Shapes.{IsMesh, vertex_is_live};
+
+use crate::dcel::Dcel;
+use crate::operations::NoMemory;
+use crate::removal::RemovalRecord;
+use dcel_edits::create::put_first_edge;
+use dcel_fixed::FixedVertexHandle;
+use dcel_store::Store;
+use std::alloc::{AllocError, Allocator};
+
+/// An empty mesh: no vertex, no edge, and the outer face with a default datum. It is refused where there is no memory.
+pub fn new<V: Drop, DE: Drop, UE: Drop, F: Default + Drop, A: Allocator + Clone>(
+    alloc: A,
+) -> Result<Dcel<V, DE, UE, F, A>, AllocError>
+    ensures new { IfOk result (λ dcel. IsNew F.is_default dcel) }
+    ensures mesh { IfOk result IsMesh }
+{
+    let mut store = Store::new(alloc)?;
+    store.reserve(0, 0, 1)?;
+    store.push_face(F::default());
+    Ok(Dcel {
+        store,
+        removal: RemovalRecord::Closed,
+    })
+}
+
+/// Adds a vertex without an edge, and answers its number, which is the old count. It asks for room for one vertex
+/// ([`has_room`](Dcel::has_room)). Without memory it hands the datum back, and the mesh is as it was.
+pub fn append_unconnected_vertex<V, DE, UE, F, A: Allocator>(
+    dcel: &mut Dcel<V, DE, UE, F, A>,
+    datum: V,
+) -> Result<FixedVertexHandle, NoMemory<V>>
+    requires { HasRoom dcel.old.shape 1 0 0 }
+    ensures edit { OnOk result (dcel.new ≡ vertex_appended dcel.old datum) }
+    ensures answer { IfOk result (λ vertex. vertex ≡ dcel.old.shape.vertices) }
+    ensures refused { OnErr result (dcel.new ≡ dcel.old) }
+    ensures back { IfErr result (λ refused. refused.back ≡ datum) }
+    ensures mesh { IsMesh dcel.new }
+{
+    let vertex = FixedVertexHandle::new(dcel.num_vertices());
+    if dcel.store.reserve(1, 0, 0).is_err() {
+        return Err(NoMemory { back: datum });
+    }
+    dcel.store.push_vertex(datum);
+    Ok(vertex)
+}
+
+/// Adds edge 0 between two vertices of a mesh that has no edge: half edge 0 leads from `first_vertex` to `second_vertex`, and 1 back.
+/// It asks that no edge stands, for two different live vertices ([`is_live_vertex`](Dcel::is_live_vertex)) and for room for one edge.
+/// Without memory the mesh is as it was.
+pub fn setup_initial_two_vertices<V, DE: Default, UE: Default, F, A: Allocator>(
+    dcel: &mut Dcel<V, DE, UE, F, A>,
+    first_vertex: FixedVertexHandle,
+    second_vertex: FixedVertexHandle,
+) -> Result<(), AllocError>
+    requires no_edge { dcel.old.shape.edges ≡ 0 }
+    requires first_live { vertex_is_live dcel.old.shape first_vertex ≡ true }
+    requires second_live { vertex_is_live dcel.old.shape second_vertex ≡ true }
+    requires apart { first_vertex ≢ second_vertex }
+    requires room { HasRoom dcel.old.shape 0 1 0 }
+    ensures edit { OnOk result (AddsEdge DE.is_default UE.is_default dcel.new (first_edge_added dcel.old first_vertex second_vertex)) }
+    ensures refused { OnErr result (dcel.new ≡ dcel.old) }
+    ensures mesh { IsMesh dcel.new }
+{
+    dcel.store.reserve(0, 1, 0)?;
+    put_first_edge(
+        &mut dcel.store,
+        first_vertex,
+        second_vertex,
+        DE::default(),
+        DE::default(),
+        UE::default(),
+    );
+    Ok(())
+}

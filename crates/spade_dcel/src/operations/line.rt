@@ -1,0 +1,42 @@
+//! Lines.
+
+ghost use Rattle.std.specs.Prelude.{◌≡◌, IfOk, OnErr, OnOk};
+ghost use Rattle.dcel_maps.specs.Edits.{HasRoom, IsUnconnected, IsLineEnd, AddsEdge, line_extended};
+ghost use Rattle.dcel_maps.specs.Shapes.{IsMesh};
+
+use crate::dcel::Dcel;
+use dcel_edits::line::put_spur;
+use dcel_fixed::FixedVertexHandle;
+use std::alloc::{AllocError, Allocator};
+
+/// Makes a line longer at an end: a new edge leads from `end_vertex` to `new_vertex`, which it answers. It asks that `end_vertex` has
+/// one out edge ([`is_line_end`](Dcel::is_line_end)), that `new_vertex` has none ([`is_unconnected`](Dcel::is_unconnected)), and for room
+/// for one edge. Without memory the mesh is as it was.
+pub fn extend_line<V, DE: Default, UE: Default, F, A: Allocator>(
+    dcel: &mut Dcel<V, DE, UE, F, A>,
+    end_vertex: FixedVertexHandle,
+    new_vertex: FixedVertexHandle,
+) -> Result<FixedVertexHandle, AllocError>
+    requires line_end { IsLineEnd dcel.old.shape end_vertex }
+    requires unconnected { IsUnconnected dcel.old.shape new_vertex }
+    requires room { HasRoom dcel.old.shape 0 1 0 }
+    ensures edit { OnOk result (AddsEdge DE.is_default UE.is_default dcel.new (line_extended dcel.old end_vertex new_vertex)) }
+    ensures answer { IfOk result (λ vertex. vertex ≡ new_vertex) }
+    ensures refused { OnErr result (dcel.new ≡ dcel.old) }
+    ensures mesh { IsMesh dcel.new }
+{
+    dcel.store.reserve(0, 1, 0)?;
+    let out_edge = match dcel.store.vertex_anchor(end_vertex) {
+        Some(edge) => edge,
+        None => unreachable!(),
+    };
+    put_spur(
+        &mut dcel.store,
+        out_edge.rev(),
+        new_vertex,
+        DE::default(),
+        DE::default(),
+        UE::default(),
+    );
+    Ok(new_vertex)
+}
