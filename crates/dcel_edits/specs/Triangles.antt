@@ -1,6 +1,6 @@
 -- What writing a first triangle, or a vertex into a triangle, leaves in the stored lists.
 use Rattle.std.specs.Prelude.{◌≡◌, ℕ, ◌+◌, ◌-◌, ◌*◌, ◌<◌, ◌≤◌, ◌^◌, List, [], ◌∷◌, ◌++◌, length, slice_index, slice_set, Option, Some}
-use Rattle.dcel_store.specs.Lists.{Lists, HasRoom, empty}
+use Rattle.dcel_store.specs.Lists.{Lists, HasPlaces, empty}
 
 -- three items of a list replaced
 abbrev pub three_set : List ℕ → ℕ → ℕ → ℕ → ℕ → ℕ → ℕ → List ℕ
@@ -57,7 +57,7 @@ module _ {V DE UE F : Type 0} where
 
   -- where a vertex can be inserted
   pub record CanInsert (s : Lists V DE UE F) (first tip : ℕ) : Type 0 where
-    pub places : HasRoom s 0 3 2
+    pub places : HasPlaces s 0 3 2
     pub few_edges : length s.undirected_data + 3 ≤ 2 ^ 31
     pub few_faces : length s.face_data + 2 ≤ 2 ^ 32
     pub first_in : first < length s.next

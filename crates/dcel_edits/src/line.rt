@@ -4,7 +4,7 @@ ghost use Rattle.std.specs.Prelude.{◌≡◌};
 ghost use Rattle.dcel_edits.specs.Spurs.{spur_stored, CanSpur};
 
 use dcel_fixed::{FixedDirectedEdgeHandle, FixedVertexHandle};
-use dcel_store::{HalfEdgeEntry, Store};
+use dcel_store::{EdgeData, HalfEdgeEntry, Store};
 use std::alloc::Allocator;
 
 /// Puts a new edge to `tip` and back after the half edge `before`.
@@ -12,12 +12,10 @@ pub fn put_spur<V, DE, UE, F, A: Allocator>(
     store: &mut Store<V, DE, UE, F, A>,
     before: FixedDirectedEdgeHandle,
     tip: FixedVertexHandle,
-    back_datum: DE,
-    forth_datum: DE,
-    both: UE,
+    edge_data: EdgeData<DE, UE>,
 )
     requires { CanSpur store.old before tip }
-    ensures { store.new ≡ spur_stored store.old before tip back_datum forth_datum both }
+    ensures { store.new ≡ spur_stored store.old before tip edge_data.normalized edge_data.reversed edge_data.undirected }
 {
     let after = store.next(before);
     let face = store.face(before);
@@ -37,9 +35,7 @@ pub fn put_spur<V, DE, UE, F, A: Allocator>(
             face,
             origin: from,
         },
-        back_datum,
-        forth_datum,
-        both,
+        edge_data,
     );
     store.set_next(before, forth);
     store.set_prev(after, back);

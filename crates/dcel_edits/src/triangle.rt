@@ -5,10 +5,10 @@ ghost use Rattle.dcel_store.specs.Lists as lists;
 ghost use Rattle.dcel_maps.specs.Edits.{AddsEdgesAndFaces};
 ghost use Rattle.dcel_edits.specs.Triangles.{CanInsert, IsEmpty, insertion_stored, triangle_stored};
 
-use crate::elements::{EdgeData, push_anchored_face, push_anchored_vertex, push_new_edge};
+use crate::elements::{push_anchored_face, push_anchored_vertex};
 use crate::sectors::{Sector, close_sector, push_spoke};
 use dcel_fixed::{FixedDirectedEdgeHandle, FixedFaceHandle, FixedVertexHandle};
-use dcel_store::{HalfEdgeEntry, Store};
+use dcel_store::{EdgeData, HalfEdgeEntry, Store};
 use std::alloc::Allocator;
 
 /// Writes a triangle into an empty store.
@@ -17,7 +17,7 @@ pub fn put_triangle<V, DE: Default, UE: Default, F: Default, A: Allocator>(
     vertices: (V, V, V),
 )
     requires empty { IsEmpty store.old }
-    requires room { lists.HasRoom store.old 3 3 2 }
+    requires room { lists.HasPlaces store.old 3 3 2 }
     ensures { AddsEdgesAndFaces DE.is_default UE.is_default F.is_default 3 2 store.new (triangle_stored store.old vertices) }
 {
     let (first, second, third) = vertices;
@@ -26,24 +26,9 @@ pub fn put_triangle<V, DE: Default, UE: Default, F: Default, A: Allocator>(
     push_anchored_vertex(store, FixedDirectedEdgeHandle::new(4), third);
     push_anchored_face(store, FixedDirectedEdgeHandle::new(0), F::default());
     push_anchored_face(store, FixedDirectedEdgeHandle::new(1), F::default());
-    push_new_edge(
-        store,
-        links(2, 4, 0, 0),
-        links(5, 3, 1, 1),
-        EdgeData::default(),
-    );
-    push_new_edge(
-        store,
-        links(4, 0, 0, 1),
-        links(1, 5, 1, 2),
-        EdgeData::default(),
-    );
-    push_new_edge(
-        store,
-        links(0, 2, 0, 2),
-        links(3, 1, 1, 0),
-        EdgeData::default(),
-    );
+    store.push_edge(links(2, 4, 0, 0), links(5, 3, 1, 1), EdgeData::default());
+    store.push_edge(links(4, 0, 0, 1), links(1, 5, 1, 2), EdgeData::default());
+    store.push_edge(links(0, 2, 0, 2), links(3, 1, 1, 0), EdgeData::default());
 }
 
 // The links of a half edge, by their numbers.

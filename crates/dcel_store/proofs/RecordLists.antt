@@ -26,7 +26,7 @@ module _ {V DE UE F A : Type 0} (store : Inside V DE UE F A) where
 
   -- there is a record for each half edge
   pub record_within : (h : ℕ) → h < length (lists_of store).next → h / 2 < length store.edges.items
-  record_within h within = omega (arith, lengths_agree.of_next, length-map store.edges.items (λ e. e.undirected_data))
+  record_within h within = omega (arith, lengths_agree.of_next, length-map store.edges.items (λ e. e.edge_data.undirected))
 
   -- the record x at i holds the half edge h
   module _ (h i : ℕ) (i_is : i ≡ h / 2) (x : EdgeEntry DE UE) (read : x ≡ get_or store.edges.items i x) (normalized : Bool) (test : IsTrue normalized ↔ (h % 2 ≡ 0)) where
@@ -62,7 +62,7 @@ module _ {V DE UE F A : Type 0} (store : Inside V DE UE F A) where
         rw i_is (pairs_of-set (λ e. e.normalized) (λ e. e.reversed) edges h x y links (rw i_is at read) (rw even refl) (rw even refl)) in
         rw (
           written,
-          pairs_of-set_same (λ e. e.normalized_data) (λ e. e.reversed_data) edges i x y read refl refl,
-          map-set_same (λ e. e.undirected_data) edges i y x (ap (λ (e : EdgeEntry DE UE). e.undirected_data) read),
+          pairs_of-set_same (λ e. e.edge_data.normalized) (λ e. e.edge_data.reversed) edges i x y read refl refl,
+          map-set_same (λ e. e.edge_data.undirected) edges i y x (ap (λ (e : EdgeEntry DE UE). e.edge_data.undirected) read),
         )
         (simp map-set)

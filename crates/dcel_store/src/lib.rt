@@ -8,7 +8,7 @@
 
 ghost use Rattle.std.specs.Prelude.{◌≡◌, ℕ, ◌+◌, ◌-◌, ◌<◌, ◌≤◌, [], ◌∷◌, ◌++◌, length, slice_index, slice_index_or, slice_set, OnOk, IfOk, IsOk, None};
 ghost use Rattle.std.specs.Borrow.{sem};
-ghost use Rattle.dcel_store.specs.Lists.{empty, LengthsAgree, HasRoom};
+ghost use Rattle.dcel_store.specs.Lists.{empty, LengthsAgree, HasPlaces};
 ghost use Rattle.dcel_store.specs.HalfEdges.{IsHalfEdge, LendsHalfEdge};
 
 use dcel_fixed::{FixedDirectedEdgeHandle, FixedFaceHandle, FixedVertexHandle, PossiblyOuterTag};
@@ -31,6 +31,19 @@ pub struct HalfEdgeEntry {
     pub origin: FixedVertexHandle,
 }
 
+/// The data of an edge: of its half edges, and of itself.
+#[derive(Drop, Default)]
+pub struct EdgeData<DE, UE> {
+    /// That of the normalized half edge.
+    pub normalized: DE,
+
+    /// That of the other half edge.
+    pub reversed: DE,
+
+    /// That of the edge itself.
+    pub undirected: UE,
+}
+
 #[derive(Drop)]
 struct VertexEntry<V> {
     data: V,
@@ -42,9 +55,7 @@ struct VertexEntry<V> {
 struct EdgeEntry<DE, UE> {
     normalized: HalfEdgeEntry,
     reversed: HalfEdgeEntry,
-    normalized_data: DE,
-    reversed_data: DE,
-    undirected_data: UE,
+    edge_data: EdgeData<DE, UE>,
 }
 
 #[derive(Drop)]
@@ -131,9 +142,9 @@ impl<V, DE, UE, F, A: Allocator> Store<V, DE, UE, F, A> {
           edge_room = self.new.edge_room;
           face_room = self.new.face_room;
         } }
-        ensures room { OnOk result (HasRoom self.new vertices edges faces) }
-        ensures kept { HasRoom self.new self.old.vertex_room self.old.edge_room self.old.face_room }
-        ensures succeeds { HasRoom self.old vertices edges faces → IsOk result }
+        ensures room { OnOk result (HasPlaces self.new vertices edges faces) }
+        ensures kept { HasPlaces self.new self.old.vertex_room self.old.edge_room self.old.face_room }
+        ensures succeeds { HasPlaces self.old vertices edges faces → IsOk result }
     {
         self.vertices.reserve(vertices)?;
         self.edges.reserve(edges)?;
@@ -157,16 +168,14 @@ impl<V, DE, UE, F, A: Allocator> Store<V, DE, UE, F, A> {
         });
     }
 
-    /// Appends an edge, with its half edges: first the normalized one. Asks for room, which
+    /// Appends an edge, with the links of its half edges and its data. Asks for room, which
     /// [`reserve`](Self::reserve) makes.
     #[inline]
     pub fn push_edge(
         &mut self,
         normalized: HalfEdgeEntry,
         reversed: HalfEdgeEntry,
-        normalized_data: DE,
-        reversed_data: DE,
-        undirected_data: UE,
+        edge_data: EdgeData<DE, UE>,
     )
         requires { 0 < self.old.edge_room }
         ensures { self.new ≡ record self.old {
@@ -174,17 +183,15 @@ impl<V, DE, UE, F, A: Allocator> Store<V, DE, UE, F, A> {
           prev = self.old.prev ++ normalized.prev ∷ reversed.prev ∷ [];
           origin = self.old.origin ++ normalized.origin ∷ reversed.origin ∷ [];
           face = self.old.face ++ normalized.face ∷ reversed.face ∷ [];
-          directed_data = self.old.directed_data ++ normalized_data ∷ reversed_data ∷ [];
-          undirected_data = self.old.undirected_data ++ undirected_data ∷ [];
+          directed_data = self.old.directed_data ++ edge_data.normalized ∷ edge_data.reversed ∷ [];
+          undirected_data = self.old.undirected_data ++ edge_data.undirected ∷ [];
           edge_room = self.old.edge_room - 1;
         } }
     {
         self.edges.push_reserved(EdgeEntry {
             normalized,
             reversed,
-            normalized_data,
-            reversed_data,
-            undirected_data,
+            edge_data,
         });
     }
 
@@ -393,9 +400,11 @@ mod tests {
                 face: OUTER_FACE,
                 origin: vertex,
             },
-            'd',
-            'r',
-            'e',
+            EdgeData {
+                normalized: 'd',
+                reversed: 'r',
+                undirected: 'e',
+            },
         );
         assert_eq!(rt;
             [store.num_vertices(), store.num_edges(), store.num_faces()],

@@ -42,7 +42,7 @@ module _ {V DE UE F : Type 0} (s : Lists V DE UE F) (r : Removal) (m : Mesh V DE
     few_faces = omega (arith, has_room.for_faces, held.stored.stands.faces);
   }
 
-  pub insert_can : lists.HasRoom s 0 3 2 → CanInsert s first tip
+  pub insert_can : lists.HasPlaces s 0 3 2 → CanInsert s first tip
   insert_can places =
       let live = (face_anchor-lies held.stored f first anchored).0 in
       record {

@@ -9,7 +9,7 @@ use crate::operations::NoMemory;
 use crate::removal::RemovalRecord;
 use dcel_edits::create::put_first_edge;
 use dcel_fixed::FixedVertexHandle;
-use dcel_store::Store;
+use dcel_store::{EdgeData, Store};
 use std::alloc::{AllocError, Allocator};
 
 /// An empty mesh: no vertex, no edge, and the outer face with a default datum. It is refused where there is no memory.
@@ -71,9 +71,7 @@ pub fn setup_initial_two_vertices<V, DE: Default, UE: Default, F, A: Allocator>(
         &mut dcel.store,
         first_vertex,
         second_vertex,
-        DE::default(),
-        DE::default(),
-        UE::default(),
+        EdgeData::default(),
     );
     Ok(())
 }

@@ -29,12 +29,12 @@ pub returns-clause-edit : goal.returns-clause-edit
 returns-clause-edit g c =
     let held = reserved_holds _ _ _ _ c.reserve.ensures.same c.dcel.invariant c.dcel.view_is in
     record {
-      first = c.default.result;
-      second = c.default-2.result;
-      both = c.default-3.result;
-      first_default = c.default.ensures;
-      second_default = c.default-2.ensures;
-      both_default = c.default-3.ensures;
+      first = c.default.result.normalized;
+      second = c.default.result.reversed;
+      both = c.default.result.undirected;
+      first_default = c.default.ensures.0;
+      second_default = c.default.ensures.1.0;
+      both_default = c.default.ensures.1.1;
       is = rw (c.put_spur.ensures, c.rev.ensures) (extend_edit _ _ _ held _ _ c.requires.line_end c.requires.unconnected c.requires.room _ (sym c.in-Some.ensures) _ _ _);
     }
 
