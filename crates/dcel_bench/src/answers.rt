@@ -3,9 +3,11 @@
 ghost use Rattle.std.specs.Prelude.{◌≤◌, ◌^◌};
 
 use dcel_commands::commands::{RunFault, StdSink, StdSource, run};
-use std::alloc::Global;
+use std::alloc::{AllocError, Global};
 use std::io;
 use std::io::{Error, ErrorKind, Read, Write};
+use std::process::Abort;
+use std::test::Fail;
 
 /// More than any test needs.
 pub const PLENTY: usize = 1_000_000;
@@ -80,4 +82,38 @@ pub fn answers(
     let mut sink = StdSink::new(&mut taker);
     let ended = run(alloc, &mut source, &mut sink, limit);
     (ended, taker.bytes)
+}
+
+/// Runs the lines with reads of one, three and all bytes: each is answered by the text beside it.
+pub fn assert_answered(
+    alloc: Global,
+    limit: usize,
+    talk: &[(&str, &str)],
+    rt: &impl Abort,
+) -> Result<(), Fail>
+    requires { limit ≤ 2 ^ 31 }
+{
+    let mut lines = Vec::new(alloc);
+    let mut replies = Vec::new(alloc);
+    for (line, reply) in talk {
+        push_line(&mut lines, line)?;
+        push_line(&mut replies, reply)?;
+    }
+    for chunk in [1, 3, PLENTY] {
+        let (ended, written) = answers(alloc, limit, &lines, chunk, PLENTY, PLENTY);
+        ended?;
+        assert_eq!(rt;
+            written.as_slice(),
+            replies.as_slice(),
+            "in reads of {chunk}"
+        );
+    }
+    Ok(())
+}
+
+/// Adds a line and its line feed.
+fn push_line(text: &mut Vec<u8>, line: &str) -> Result<(), AllocError> {
+    text.extend_from_slice(line.as_bytes())?;
+    text.push(b'\n')?;
+    Ok(())
 }

@@ -1,12 +1,8 @@
 //! Tests of the Rust crate, under their names there.
 
-use crate::triangles::{Mesh, cut_triangle};
-use spade_dcel::handles::{FixedDirectedEdgeHandle, FixedVertexHandle};
-use spade_dcel::operations::{
-    append_unconnected_vertex, extend_line, new, new_triangle, setup_initial_two_vertices,
-};
-use std::alloc::Global;
-use std::process::Abort;
+use crate::meshes::{Mesh, append, assert_counts, cut_triangle, extend, first_edge, vertex};
+use spade_dcel::handles::FixedDirectedEdgeHandle;
+use spade_dcel::operations::new_triangle;
 use std::test::Fail;
 
 #[test]
@@ -26,36 +22,17 @@ fn test_new_normalized_and_index_and_sym(rt: HostRuntime) {
 #[test]
 fn test_create_triangle(rt: HostRuntime) -> Result<(), Fail> {
     let dcel: Mesh = new_triangle(rt.alloc(), (0, 1, 2))?;
+    assert_counts(&dcel, 3, 6, 2, &rt);
     assert!(rt; dcel.sanity_check());
-    assert_eq!(rt; dcel.num_faces(), 2);
-    assert_eq!(rt; dcel.num_vertices(), 3);
-    assert_eq!(rt; dcel.num_directed_edges(), 6);
     Ok(())
 }
 
 #[test]
 fn test_insert_into_triangle(rt: HostRuntime) -> Result<(), Fail> {
     let dcel = cut_triangle(rt.alloc(), &rt)?;
-    assert_eq!(rt; dcel.num_faces(), 4);
-    assert_eq!(rt; dcel.num_directed_edges(), 12);
-    assert_eq!(rt; dcel.num_vertices(), 4);
+    assert_counts(&dcel, 4, 12, 4, &rt);
     assert!(rt; dcel.sanity_check());
     Ok(())
-}
-
-/// An edge from vertex 0 to vertex 1.
-fn first_edge(alloc: Global, rt: &impl Abort) -> Result<Mesh, Fail> {
-    let mut dcel: Mesh = new(alloc)?;
-    assert!(rt; dcel.has_room(1, 0, 0));
-    let first = append_unconnected_vertex(&mut dcel, 0)?;
-    assert!(rt; dcel.has_room(1, 0, 0));
-    let second = append_unconnected_vertex(&mut dcel, 1)?;
-    assert_eq!(rt; dcel.num_undirected_edges(), 0);
-    assert!(rt; dcel.is_live_vertex(first) && dcel.is_live_vertex(second));
-    assert_ne!(rt; first.index(), second.index());
-    assert!(rt; dcel.has_room(0, 1, 0));
-    setup_initial_two_vertices(&mut dcel, first, second)?;
-    Ok(dcel)
 }
 
 #[test]
@@ -69,17 +46,10 @@ fn test_insert_first_and_second(rt: HostRuntime) -> Result<(), Fail> {
 fn test_extend_line(rt: HostRuntime) -> Result<(), Fail> {
     let mut dcel = first_edge(rt.alloc(), &rt)?;
     for (datum, end) in [(2, 0), (3, 1)] {
-        assert!(rt; dcel.has_room(1, 0, 0));
-        let added = append_unconnected_vertex(&mut dcel, datum)?;
-        let end = FixedVertexHandle::new(end);
-        assert!(rt; dcel.is_line_end(end));
-        assert!(rt; dcel.is_unconnected(added));
-        assert!(rt; dcel.has_room(0, 1, 0));
-        assert_eq!(rt; extend_line(&mut dcel, end, added)?, added);
+        let added = append(&mut dcel, datum, &rt)?;
+        extend(&mut dcel, vertex(end), added, &rt)?;
         assert!(rt; dcel.sanity_check());
     }
-    assert_eq!(rt; dcel.num_vertices(), 4);
-    assert_eq!(rt; dcel.num_directed_edges(), 6);
-    assert_eq!(rt; dcel.num_faces(), 1);
+    assert_counts(&dcel, 4, 6, 1, &rt);
     Ok(())
 }

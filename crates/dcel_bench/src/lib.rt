@@ -12,6 +12,8 @@ mod commands;
 #[cfg(test)]
 mod lines;
 #[cfg(test)]
+mod meshes;
+#[cfg(test)]
 mod rows;
 #[cfg(test)]
 mod triangles;

@@ -1,100 +1,82 @@
 //! Lines that are commands and lines that aren't, however they are cut, and runs in which a read or a write fails.
 
-use crate::answers::{PLENTY, answers};
+use crate::answers::{PLENTY, answers, assert_answered};
 use dcel_commands::commands::{Refusal, RunFault};
 use std::alloc::{AllocError, Global};
-use std::fmt::Write as _;
 use std::test::Fail;
 
 /// Lines, and what each is answered.
-const LINES: [(&[u8], &str); 66] = [
-    (b"append 5", "vertex 0"),
-    (b"append -12", "vertex 1"),
-    (b"append -0", "bad line"),
-    (b"append 007", "bad line"),
-    (b"append 00", "bad line"),
-    (b"append -07", "bad line"),
-    (b"append", "bad line"),
-    (b"append ", "bad line"),
-    (b"append  5", "bad line"),
-    (b"append 5 ", "bad line"),
-    (b" append 5", "bad line"),
-    (b"append 5 6", "bad line"),
-    (b"append 5a", "bad line"),
-    (b"append +5", "bad line"),
-    (b"append -", "bad line"),
-    (b"append --5", "bad line"),
-    (b"append 5\r", "bad line"),
-    (b"append\t5", "bad line"),
-    (b"append5", "bad line"),
-    (b"append 9223372036854775808", "bad line"),
-    (b"append -9223372036854775809", "bad line"),
-    (b"append 18446744073709551621", "bad line"),
-    (b"APPEND 5", "bad line"),
-    (b"Append 5", "bad line"),
-    (b"appends 5", "bad line"),
-    (b"\xff 5", "bad line"),
-    (b"", "bad line"),
-    (b" ", "bad line"),
-    (b"5", "bad line"),
-    (b"setup 0 1", "ok"),
-    (b"setup 00 1", "bad line"),
-    (b"setup 0 01", "bad line"),
-    (b"setup 0  1", "bad line"),
-    (b"setup 0", "bad line"),
-    (b"setup 0 1 2", "bad line"),
-    (b"setup -1 0", "bad line"),
-    (b"setup 4294967295 0", "refused 1 NoSuchVertex"),
-    (b"setup 4294967296 0", "bad line"),
-    (b"setup 0 4294967296", "bad line"),
-    (b"setup 18446744073709551616 0", "bad line"),
-    (b"words ", "bad line"),
-    (b"append -9223372036854775808", "vertex 2"),
-    (b"append 9223372036854775807", "refused 19 NoRoom"),
-    (b"words 0", "bad line"),
-    (b"triangle", "bad line"),
-    (b"triangle 1 2", "bad line"),
-    (b"triangle 1 2 3 4", "bad line"),
-    (b"triangle 1 02 3", "bad line"),
-    (b"triangle 1  2 3", "bad line"),
-    (b"triangle 1 2 3 ", "bad line"),
-    (b"triangle 1 2 -0", "bad line"),
-    (b"triangle 1 2 9223372036854775808", "bad line"),
-    (b"triangle 1 -2 -9223372036854775808", "ok"),
-    (b"insert 0", "bad line"),
-    (b"insert -1 1", "bad line"),
-    (b"insert 0 4294967295", "refused 3 NoSuchFace"),
-    (b"insert 0 4294967296", "bad line"),
-    (b"out", "bad line"),
-    (b"out -1", "bad line"),
-    (b"out 4294967296", "bad line"),
-    (b"out 4294967295", "refused 1 NoSuchVertex"),
-    (b"origin 0 0", "bad line"),
-    (b"origin 4294967295", "refused 2 NoSuchEdge"),
-    (b"origin 5", "vertex 0"),
-    (b"counts 0", "bad line"),
-    (b"check ", "bad line"),
+const LINES: [(&str, &str); 65] = [
+    ("append 5", "vertex 0"),
+    ("append -12", "vertex 1"),
+    ("append -0", "bad line"),
+    ("append 007", "bad line"),
+    ("append 00", "bad line"),
+    ("append -07", "bad line"),
+    ("append", "bad line"),
+    ("append ", "bad line"),
+    ("append  5", "bad line"),
+    ("append 5 ", "bad line"),
+    (" append 5", "bad line"),
+    ("append 5 6", "bad line"),
+    ("append 5a", "bad line"),
+    ("append +5", "bad line"),
+    ("append -", "bad line"),
+    ("append --5", "bad line"),
+    ("append 5\r", "bad line"),
+    ("append\t5", "bad line"),
+    ("append5", "bad line"),
+    ("append 9223372036854775808", "bad line"),
+    ("append -9223372036854775809", "bad line"),
+    ("append 18446744073709551621", "bad line"),
+    ("APPEND 5", "bad line"),
+    ("Append 5", "bad line"),
+    ("appends 5", "bad line"),
+    ("", "bad line"),
+    (" ", "bad line"),
+    ("5", "bad line"),
+    ("setup 0 1", "ok"),
+    ("setup 00 1", "bad line"),
+    ("setup 0 01", "bad line"),
+    ("setup 0  1", "bad line"),
+    ("setup 0", "bad line"),
+    ("setup 0 1 2", "bad line"),
+    ("setup -1 0", "bad line"),
+    ("setup 4294967295 0", "refused 1 NoSuchVertex"),
+    ("setup 4294967296 0", "bad line"),
+    ("setup 0 4294967296", "bad line"),
+    ("setup 18446744073709551616 0", "bad line"),
+    ("words ", "bad line"),
+    ("append -9223372036854775808", "vertex 2"),
+    ("append 9223372036854775807", "refused 19 NoRoom"),
+    ("words 0", "bad line"),
+    ("triangle", "bad line"),
+    ("triangle 1 2", "bad line"),
+    ("triangle 1 2 3 4", "bad line"),
+    ("triangle 1 02 3", "bad line"),
+    ("triangle 1  2 3", "bad line"),
+    ("triangle 1 2 3 ", "bad line"),
+    ("triangle 1 2 -0", "bad line"),
+    ("triangle 1 2 9223372036854775808", "bad line"),
+    ("triangle 1 -2 -9223372036854775808", "ok"),
+    ("insert 0", "bad line"),
+    ("insert -1 1", "bad line"),
+    ("insert 0 4294967295", "refused 3 NoSuchFace"),
+    ("insert 0 4294967296", "bad line"),
+    ("out", "bad line"),
+    ("out -1", "bad line"),
+    ("out 4294967296", "bad line"),
+    ("out 4294967295", "refused 1 NoSuchVertex"),
+    ("origin 0 0", "bad line"),
+    ("origin 4294967295", "refused 2 NoSuchEdge"),
+    ("origin 5", "vertex 0"),
+    ("counts 0", "bad line"),
+    ("check ", "bad line"),
 ];
 
 #[test]
 fn lines_are_answered(rt: HostRuntime) -> Result<(), Fail> {
-    let mut lines = Vec::new(rt.alloc());
-    let mut replies = String::new(rt.alloc());
-    for (line, reply) in LINES {
-        lines.extend_from_slice(line)?;
-        lines.push(b'\n')?;
-        writeln!(replies, "{reply}")?;
-    }
-    for chunk in [1, 3, PLENTY] {
-        let (ended, written) = answers(rt.alloc(), 3, &lines, chunk, PLENTY, PLENTY);
-        ended?;
-        assert_eq!(rt;
-            written.as_slice(),
-            replies.as_bytes(),
-            "in reads of {chunk}"
-        );
-    }
-    Ok(())
+    assert_answered(rt.alloc(), 3, &LINES, &rt)
 }
 
 /// So many bytes `x`, and then the text.
@@ -130,15 +112,21 @@ fn long_lines_are_one_bad_line(rt: HostRuntime) -> Result<(), Fail> {
 
 #[test]
 fn many_lines_are_answered(rt: HostRuntime) -> Result<(), Fail> {
-    let mut lines = String::new(rt.alloc());
-    let mut replies = String::new(rt.alloc());
-    for _ in 0..5000 {
-        writeln!(lines, "setup 0 0")?;
-        writeln!(replies, "refused 1 NoSuchVertex")?;
+    let refused = [("setup 0 0", "refused 1 NoSuchVertex"); 5000];
+    assert_answered(rt.alloc(), 3, &refused, &rt)
+}
+
+#[test]
+fn odd_bytes_and_ends_are_answered(rt: HostRuntime) -> Result<(), Fail> {
+    for (lines, replies) in [
+        (b"\xff 5\n".as_slice(), "bad line\n"),
+        (b"words", "F0\n"),
+        (b"\n\nwords", "bad line\nbad line\nF0\n"),
+    ] {
+        let (ended, written) = answers(rt.alloc(), 3, lines, 1, PLENTY, PLENTY);
+        ended?;
+        assert_eq!(rt; written.as_slice(), replies.as_bytes());
     }
-    let (ended, written) = answers(rt.alloc(), 3, lines.as_bytes(), PLENTY, PLENTY, PLENTY);
-    ended?;
-    assert_eq!(rt; written.as_slice(), replies.as_bytes());
     Ok(())
 }
 

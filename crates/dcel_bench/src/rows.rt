@@ -1,97 +1,175 @@
-//! Worked rows: lines, and all that is answered to them. A line feed ends each line.
+//! Worked rows: lines, each with what it is answered.
 
-use crate::answers::{PLENTY, answers};
+use crate::answers::assert_answered;
+use crate::meshes::NO_LIMIT;
 use std::test::Fail;
 
-/// The limit of the program.
-const NO_LIMIT: usize = 2_147_483_648;
-
-const ROWS: [(usize, &str, &str); 15] = [
-    (NO_LIMIT, "", ""),
-    (NO_LIMIT, "words", "F0\n"),
+const ROWS: [(usize, &[(&str, &str)]); 14] = [
+    (NO_LIMIT, &[]),
     (
         1,
-        "append 5\nappend 6\nwords\n",
-        "vertex 0\nrefused 19 NoRoom\nF0\n",
+        &[
+            ("append 5", "vertex 0"),
+            ("append 6", "refused 19 NoRoom"),
+            ("words", "F0"),
+        ],
     ),
     (
         NO_LIMIT,
-        "append 0\nappend 1\nsetup 0 1\nwords\n",
-        "vertex 0\nvertex 1\nok\nF0 0 1\n",
+        &[
+            ("append 0", "vertex 0"),
+            ("append 1", "vertex 1"),
+            ("setup 0 1", "ok"),
+            ("words", "F0 0 1"),
+        ],
     ),
     (
         NO_LIMIT,
-        "append 0\nappend 1\nsetup 0 1\nappend 2\nextend 0 2\nwords\nappend 3\nextend 1 3\nwords\nappend 4\nextend 0 4\n",
-        "vertex 0\nvertex 1\nok\nvertex 2\nvertex 2\nF0 0 1 3 2\nvertex 3\nvertex 3\nF0 0 5 4 1 3 2\nvertex 4\nrefused 10 NotLineEnd\n",
+        &[
+            ("append 0", "vertex 0"),
+            ("append 1", "vertex 1"),
+            ("setup 0 1", "ok"),
+            ("append 2", "vertex 2"),
+            ("extend 0 2", "vertex 2"),
+            ("words", "F0 0 1 3 2"),
+            ("append 3", "vertex 3"),
+            ("extend 1 3", "vertex 3"),
+            ("words", "F0 0 5 4 1 3 2"),
+            ("append 4", "vertex 4"),
+            ("extend 0 4", "refused 10 NotLineEnd"),
+        ],
     ),
     (
         NO_LIMIT,
-        "append 0\nappend 1\nsetup 0 1\nsetup 0 1\nsetup 1 1\nsetup 2 0\nextend 0 0\nextend 0 1\nextend 9 1\nwords\n",
-        "vertex 0\nvertex 1\nok\nrefused 9 EdgesStand\nrefused 7 SameVertex\nrefused 1 NoSuchVertex\nrefused 7 SameVertex\nrefused 8 VertexInUse\nrefused 1 NoSuchVertex\nF0 0 1\n",
+        &[
+            ("append 0", "vertex 0"),
+            ("append 1", "vertex 1"),
+            ("setup 0 1", "ok"),
+            ("setup 0 1", "refused 9 EdgesStand"),
+            ("setup 1 1", "refused 7 SameVertex"),
+            ("setup 2 0", "refused 1 NoSuchVertex"),
+            ("extend 0 0", "refused 7 SameVertex"),
+            ("extend 0 1", "refused 8 VertexInUse"),
+            ("extend 9 1", "refused 1 NoSuchVertex"),
+            ("words", "F0 0 1"),
+        ],
     ),
     (
         2,
-        "append 0\nappend 1\nappend 2\nsetup 0 1\nwords\n",
-        "vertex 0\nvertex 1\nrefused 19 NoRoom\nok\nF0 0 1\n",
+        &[
+            ("append 0", "vertex 0"),
+            ("append 1", "vertex 1"),
+            ("append 2", "refused 19 NoRoom"),
+            ("setup 0 1", "ok"),
+            ("words", "F0 0 1"),
+        ],
     ),
     (
         NO_LIMIT,
-        "counts\ncheck\nwords\n",
-        "vertices 0 edges 0 faces 1\ntrue\nF0\n",
+        &[
+            ("counts", "vertices 0 edges 0 faces 1"),
+            ("check", "true"),
+            ("words", "F0"),
+        ],
     ),
     (
         NO_LIMIT,
-        "triangle 0 1 2\ncounts\nwords\ncheck\n",
-        "ok\nvertices 3 edges 3 faces 2\nF0 0 2 4\nF1 1 5 3\ntrue\n",
+        &[
+            ("triangle 0 1 2", "ok"),
+            ("counts", "vertices 3 edges 3 faces 2"),
+            ("words", "F0 0 2 4\nF1 1 5 3"),
+            ("check", "true"),
+        ],
     ),
     (
         NO_LIMIT,
-        "triangle 0 1 2\nappend 3\ninsert 3 1\nwords\nout 3\ncounts\ncheck\nout 0\norigin 11\ninsert 3 2\n",
-        "ok\nvertex 3\nvertex 3\nF0 0 2 4\nF1 1 6 11\nF2 5 8 7\nF3 3 10 9\nout 7 9 11\nvertices 4 edges 6 faces 4\ntrue\nout 0 5 6\nvertex 3\nrefused 8 VertexInUse\n",
+        &[
+            ("triangle 0 1 2", "ok"),
+            ("append 3", "vertex 3"),
+            ("insert 3 1", "vertex 3"),
+            ("words", "F0 0 2 4\nF1 1 6 11\nF2 5 8 7\nF3 3 10 9"),
+            ("out 3", "out 7 9 11"),
+            ("counts", "vertices 4 edges 6 faces 4"),
+            ("check", "true"),
+            ("out 0", "out 0 5 6"),
+            ("origin 11", "vertex 3"),
+            ("insert 3 2", "refused 8 VertexInUse"),
+        ],
     ),
     (
         4,
-        "triangle 0 1 2\nappend 3\ninsert 3 1\ncounts\n",
-        "ok\nvertex 3\nrefused 19 NoRoom\nvertices 4 edges 3 faces 2\n",
+        &[
+            ("triangle 0 1 2", "ok"),
+            ("append 3", "vertex 3"),
+            ("insert 3 1", "refused 19 NoRoom"),
+            ("counts", "vertices 4 edges 3 faces 2"),
+        ],
     ),
     (
         2,
-        "triangle 0 1 2\nappend 0\n",
-        "refused 19 NoRoom\nvertex 0\n",
-    ),
-    (3, "triangle 0 1 2\nappend 3\n", "ok\nrefused 19 NoRoom\n"),
-    (
-        NO_LIMIT,
-        "triangle 0 1 2\nappend 3\ninsert 3 0\ninsert 0 1\ninsert 4 1\ninsert 4 9\ninsert 3 2\nout 4\norigin 6\nout 3\ncheck\ninsert 3 1\nappend 4\ninsert 4 3\nwords\nout 0\nout 4\ncheck\ntriangle 7 8 9\ncounts\nwords\n",
-        "ok\nvertex 3\nrefused 3 NoSuchFace\nrefused 8 VertexInUse\nrefused 1 NoSuchVertex\nrefused 1 NoSuchVertex\nrefused 3 NoSuchFace\nrefused 1 NoSuchVertex\nrefused 2 NoSuchEdge\nout\nfalse\nvertex 3\nvertex 4\nvertex 4\nF0 0 2 4\nF1 1 6 11\nF2 5 8 7\nF3 3 12 17\nF4 10 14 13\nF5 9 16 15\nout 0 5 6\nout 13 15 17\ntrue\nok\nvertices 3 edges 3 faces 2\nF0 0 2 4\nF1 1 5 3\n",
+        &[
+            ("triangle 0 1 2", "refused 19 NoRoom"),
+            ("append 0", "vertex 0"),
+        ],
     ),
     (
+        3,
+        &[("triangle 0 1 2", "ok"), ("append 3", "refused 19 NoRoom")],
+    ),
+    (
         NO_LIMIT,
-        "triangle 0 1 2\nappend 3\ninsert 3 0\ninsert 0 1\nsetup 0 0\nsetup 0 1\nflip\nflip 03\nFLIP 0\nflip 0\nhull\nclear\nwords\n",
-        "ok\nvertex 3\nrefused 3 NoSuchFace\nrefused 8 VertexInUse\nrefused 7 SameVertex\nrefused 9 EdgesStand\nbad line\nbad line\nbad line\nbad line\nbad line\nbad line\nF0 0 2 4\nF1 1 5 3\n",
+        &[
+            ("triangle 0 1 2", "ok"),
+            ("append 3", "vertex 3"),
+            ("insert 3 0", "refused 3 NoSuchFace"),
+            ("insert 0 1", "refused 8 VertexInUse"),
+            ("insert 4 1", "refused 1 NoSuchVertex"),
+            ("insert 4 9", "refused 1 NoSuchVertex"),
+            ("insert 3 2", "refused 3 NoSuchFace"),
+            ("out 4", "refused 1 NoSuchVertex"),
+            ("origin 6", "refused 2 NoSuchEdge"),
+            ("out 3", "out"),
+            ("check", "false"),
+            ("insert 3 1", "vertex 3"),
+            ("append 4", "vertex 4"),
+            ("insert 4 3", "vertex 4"),
+            (
+                "words",
+                "F0 0 2 4\nF1 1 6 11\nF2 5 8 7\nF3 3 12 17\nF4 10 14 13\nF5 9 16 15",
+            ),
+            ("out 0", "out 0 5 6"),
+            ("out 4", "out 13 15 17"),
+            ("check", "true"),
+            ("triangle 7 8 9", "ok"),
+            ("counts", "vertices 3 edges 3 faces 2"),
+            ("words", "F0 0 2 4\nF1 1 5 3"),
+        ],
+    ),
+    (
+        NO_LIMIT,
+        &[
+            ("triangle 0 1 2", "ok"),
+            ("append 3", "vertex 3"),
+            ("insert 3 0", "refused 3 NoSuchFace"),
+            ("insert 0 1", "refused 8 VertexInUse"),
+            ("setup 0 0", "refused 7 SameVertex"),
+            ("setup 0 1", "refused 9 EdgesStand"),
+            ("flip", "bad line"),
+            ("flip 03", "bad line"),
+            ("FLIP 0", "bad line"),
+            ("flip 0", "bad line"),
+            ("hull", "bad line"),
+            ("clear", "bad line"),
+            ("words", "F0 0 2 4\nF1 1 5 3"),
+        ],
     ),
 ];
 
 #[test]
 fn rows_are_answered(rt: HostRuntime) -> Result<(), Fail> {
-    for (limit, lines, replies) in ROWS {
+    for (limit, row) in ROWS {
         assert!(rt; limit <= NO_LIMIT);
-        for chunk in [1, 3, PLENTY] {
-            let (ended, written) = answers(
-                rt.alloc(),
-                limit,
-                lines.as_bytes(),
-                chunk,
-                PLENTY,
-                PLENTY,
-            );
-            ended?;
-            assert_eq!(rt;
-                written.as_slice(),
-                replies.as_bytes(),
-                "{lines} in reads of {chunk}"
-            );
-        }
+        assert_answered(rt.alloc(), limit, row, &rt)?;
     }
     Ok(())
 }

@@ -1,0 +1,150 @@
+//! Meshes that tests begin with, and calls that test first what they ask.
+
+use spade_dcel::dcel::Dcel;
+use spade_dcel::handles::{FixedDirectedEdgeHandle, FixedFaceHandle, FixedVertexHandle, InnerTag};
+use spade_dcel::operations::{
+    append_unconnected_vertex, extend_line, insert_into_triangle, new, new_triangle,
+    setup_initial_two_vertices,
+};
+use std::alloc::Global;
+use std::process::Abort;
+use std::test::Fail;
+
+/// A mesh whose data are numbers.
+pub type Mesh = Dcel<i64, i64, i64, i64>;
+
+/// The limit of the program: no count of a mesh is above it.
+pub const NO_LIMIT: usize = 2_147_483_648;
+
+pub fn vertex(index: u32) -> FixedVertexHandle {
+    FixedVertexHandle::new(index as usize)
+}
+
+pub fn half_edge(index: u32) -> FixedDirectedEdgeHandle {
+    FixedDirectedEdgeHandle::new(index as usize)
+}
+
+pub fn inner_face(index: u32) -> FixedFaceHandle<InnerTag> {
+    FixedFaceHandle::new(index as usize)
+}
+
+/// Appends a vertex.
+pub fn append(dcel: &mut Mesh, datum: i64, rt: &impl Abort) -> Result<FixedVertexHandle, Fail> {
+    assert!(rt; dcel.has_room(1, 0, 0));
+    Ok(append_unconnected_vertex(dcel, datum)?)
+}
+
+/// Adds the first edge.
+pub fn set_up(
+    dcel: &mut Mesh,
+    first: FixedVertexHandle,
+    second: FixedVertexHandle,
+    rt: &impl Abort,
+) -> Result<(), Fail> {
+    assert_eq!(rt; dcel.num_undirected_edges(), 0);
+    assert!(rt; dcel.is_live_vertex(first) && dcel.is_live_vertex(second));
+    assert_ne!(rt; first.index(), second.index());
+    assert!(rt; dcel.has_room(0, 1, 0));
+    Ok(setup_initial_two_vertices(dcel, first, second)?)
+}
+
+/// Makes a line longer by a vertex that has no edge.
+pub fn extend(
+    dcel: &mut Mesh,
+    end: FixedVertexHandle,
+    added: FixedVertexHandle,
+    rt: &impl Abort,
+) -> Result<(), Fail> {
+    assert!(rt; dcel.is_line_end(end));
+    assert!(rt; dcel.is_unconnected(added));
+    assert!(rt; dcel.has_room(0, 1, 0));
+    assert_eq!(rt; extend_line(dcel, end, added)?, added);
+    Ok(())
+}
+
+/// Puts a vertex that has no edge into a triangle.
+pub fn insert(
+    dcel: &mut Mesh,
+    added: FixedVertexHandle,
+    face: FixedFaceHandle<InnerTag>,
+    rt: &impl Abort,
+) -> Result<(), Fail> {
+    assert_ne!(rt; face.index(), 0);
+    assert!(rt; dcel.is_triangle(face));
+    assert!(rt; dcel.is_unconnected(added));
+    assert!(rt; dcel.has_room(0, 3, 2));
+    assert_eq!(rt; insert_into_triangle(dcel, added, face)?, added);
+    Ok(())
+}
+
+/// An edge from vertex 0 to vertex 1.
+pub fn first_edge(alloc: Global, rt: &impl Abort) -> Result<Mesh, Fail> {
+    let mut dcel: Mesh = new(alloc)?;
+    let first = append(&mut dcel, 0, rt)?;
+    let second = append(&mut dcel, 1, rt)?;
+    set_up(&mut dcel, first, second, rt)?;
+    Ok(dcel)
+}
+
+/// The line 2, 0, 1, 3.
+pub fn line(alloc: Global, rt: &impl Abort) -> Result<Mesh, Fail> {
+    let mut dcel = first_edge(alloc, rt)?;
+    for (datum, end) in [(2, 0), (3, 1)] {
+        let added = append(&mut dcel, datum, rt)?;
+        extend(&mut dcel, vertex(end), added, rt)?;
+    }
+    Ok(dcel)
+}
+
+/// A triangle, and vertex 3 beside it.
+pub fn triangle_and_vertex(alloc: Global, rt: &impl Abort) -> Result<Mesh, Fail> {
+    let mut dcel: Mesh = new_triangle(alloc, (0, 1, 2))?;
+    assert_eq!(rt; append(&mut dcel, 3, rt)?, vertex(3));
+    Ok(dcel)
+}
+
+/// A triangle that vertex 3 cuts into three.
+pub fn cut_triangle(alloc: Global, rt: &impl Abort) -> Result<Mesh, Fail> {
+    let mut dcel = triangle_and_vertex(alloc, rt)?;
+    insert(&mut dcel, vertex(3), inner_face(1), rt)?;
+    Ok(dcel)
+}
+
+/// That the mesh has so many vertices, half edges and faces.
+pub fn assert_counts(
+    dcel: &Mesh,
+    vertices: usize,
+    directed_edges: usize,
+    faces: usize,
+    rt: &impl Abort,
+) {
+    assert_eq!(rt;
+        [
+            dcel.num_vertices(),
+            dcel.num_directed_edges(),
+            dcel.num_faces()
+        ],
+        [vertices, directed_edges, faces]
+    );
+}
+
+/// That live half edges lead so to the next one, from a vertex, along a face: (half edge, next, origin, face) each.
+pub fn assert_links(dcel: &Mesh, links: &[(u32, u32, u32, u32)], rt: &impl Abort) {
+    for (edge, next, from, face) in links {
+        let handle = half_edge(*edge);
+        assert!(rt; handle.index() < dcel.num_directed_edges());
+        assert!(rt; dcel.is_live_edge(handle.as_undirected()));
+        let borrowed = dcel.directed_edge(handle);
+        assert_eq!(rt; borrowed.next().fix(), half_edge(*next), "next of {edge}");
+        assert_eq!(rt; borrowed.next().prev().fix(), handle, "prev of {next}");
+        assert_eq!(rt; borrowed.from().fix(), vertex(*from), "from of {edge}");
+        assert_eq!(rt;
+            borrowed.prev().to().fix(),
+            vertex(*from),
+            "to of the one before {edge}"
+        );
+        assert_eq!(rt; borrowed.face().index(), *face as usize, "face of {edge}");
+        assert_eq!(rt; borrowed.rev().index(), handle.index() ^ 1);
+        assert_eq!(rt; borrowed.as_undirected().index(), handle.index() / 2);
+    }
+}
