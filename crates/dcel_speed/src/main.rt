@@ -16,8 +16,8 @@ mod workloads;
 
 use crate::arguments::Arguments;
 use crate::fault::Fault;
-use crate::measure::{Line, best_of_three};
-use crate::workloads::Workload;
+use crate::measure::Line;
+use crate::workloads::{Workload, measured};
 use std::process::ExitCode;
 use std::rt::{Clock, Env};
 
@@ -36,7 +36,7 @@ fn run(rt: &(impl Env + Clock + Print + AllocGlobal)) -> Result<(), Fault> {
     let arguments = Arguments::read(rt)?;
     for workload in &arguments.workloads {
         for size in &arguments.sizes {
-            let line = measured(rt, &arguments, *workload, *size)?;
+            let line = line_of(rt, &arguments, *workload, *size)?;
             println!(rt; "{line}")?;
         }
     }
@@ -44,16 +44,16 @@ fn run(rt: &(impl Env + Clock + Print + AllocGlobal)) -> Result<(), Fault> {
 }
 
 /// The line of a workload at a size, over the meshes that the arguments ask for.
-fn measured(
+fn line_of(
     rt: &(impl Clock + AllocGlobal),
     arguments: &Arguments,
     workload: Workload,
     size: u32,
 ) -> Result<Line, Fault> {
     let timed = if arguments.is_full {
-        best_of_three::<i64>(rt, workload, size)?
+        measured::<i64>(rt, workload, size)?
     } else {
-        best_of_three::<()>(rt, workload, size)?
+        measured::<()>(rt, workload, size)?
     };
     Ok(Line {
         workload,

@@ -1,19 +1,28 @@
-//! Runs a workload several times, and the line that is printed of it.
+//! Runs a workload again and again, and the line that is printed of it.
 
 use crate::fault::Fault;
-use crate::workloads::{Timed, Workload, run_once};
+use crate::workloads::{Timed, Workload};
 use std::fmt;
-use std::rt::Clock;
+use std::time::Duration;
 
-/// The best of three runs: the one that took the least time.
-pub fn best_of_three<D: Default + Drop>(
-    rt: &(impl Clock + AllocGlobal),
-    workload: Workload,
-    size: u32,
-) -> Result<Timed, Fault> {
-    let mut best = run_once::<D>(rt, workload, size)?;
-    for _ in 0..2 {
-        let timed = run_once::<D>(rt, workload, size)?;
+/// Runs are repeated until they have taken so many milliseconds together.
+const LONG_ENOUGH: u64 = 100;
+
+/// However short they are, there are no more than so many.
+const MOST_RUNS: u32 = 1_000_000;
+
+/// The run that took the least time, of at least `fewest` runs and as many as fill a tenth of a second.
+pub fn least_of<R: Fn() -> Result<Timed, Fault>>(fewest: u32, run: R) -> Result<Timed, Fault>
+    requires { R.IsAlwaysCallable run }
+{
+    let mut best = run()?;
+    let mut total = best.elapsed;
+    for done in 1..MOST_RUNS {
+        if done >= fewest && total >= Duration::from_millis(LONG_ENOUGH) {
+            break;
+        }
+        let timed = run()?;
+        total = total.saturating_add(timed.elapsed);
         if timed.elapsed < best.elapsed {
             best = timed;
         }
