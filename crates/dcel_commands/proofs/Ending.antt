@@ -3,15 +3,15 @@ use Rattle.std.proofs.Common.{◌≡◌, ℕ, List, [], ◌++◌, take, refl, sy
 use Rattle.std.specs.Io.KnownBytes.{Consumes, Appends, IsAtEnd}
 use Rattle.std.proofs.KnownBytes.{Consumes-trans}
 use Rattle.std.proofs.lemmas.Bool.{false≢true}
-use Rattle.dcel_commands.specs.Transfer.{KeepsOrHides, AppendsBeginning}
-use Rattle.dcel_commands.specs.Lines.{lines, joined}
-use Rattle.dcel_commands.specs.Output.{Writing, Wrote}
+use Rattle.dcel_text.specs.Transfer.{KeepsOrHides, AppendsBeginning}
+use Rattle.dcel_text.specs.Lines.{lines, joined}
+use Rattle.dcel_text.specs.Output.{Writing, Wrote}
 use Rattle.dcel_commands.specs.LineSteps.{start}
 use Rattle.dcel_commands.specs.Talk.{Talk}
 use Rattle.dcel_commands.specs.Stage.{Stage, Goes, Leads, Serves, Ends}
 use Rattle.dcel_commands.specs.Run.{AnswersAll, AnswersWholeLines, AnswersInPart}
-use Rattle.dcel_commands.proofs.LineEnds.{lines-nil, joined-whole}
-use Rattle.dcel_commands.proofs.Writing.{wrote_then}
+use Rattle.dcel_text.proofs.LineEnds.{lines-nil, joined-whole}
+use Rattle.dcel_text.proofs.Writing.{wrote_then}
 
 -- nothing was read
 abbrev pub origin : Stage

@@ -3,14 +3,14 @@ use Rattle.std.proofs.Common.{◌≡◌, ◌≢◌, ℕ, ◌<◌, List, [], ◌�
 use Rattle.std.specs.Prelude.{◌⊎◌}
 use Rattle.std.proofs.lemmas.Bool.{cases_lt}
 use Rattle.std.proofs.lemmas.List.{length-append, length-take-le, take_all}
-use Rattle.dcel_commands.specs.Lines.{line_feed, lines, joined, HasNoFeed}
-use Rattle.dcel_commands.specs.Output.{Wrote}
+use Rattle.dcel_text.specs.Lines.{line_feed, lines, joined, HasNoFeed}
+use Rattle.dcel_text.specs.Output.{Wrote}
 use Rattle.dcel_commands.specs.Responses.{Said}
 use Rattle.dcel_commands.specs.LineSteps.{State}
 use Rattle.dcel_commands.specs.Talk.{Answers, bad_line, step, said_text, Talk}
 use Rattle.dcel_commands.specs.Stage.{Stage, Goes, Leads, Serves, Ends}
-use Rattle.dcel_commands.proofs.LineEnds.{lines-nil, lines-feed, joined-append, joined-cons, joined-whole, joined-unended, lines-begun, lines-line}
-use Rattle.dcel_commands.proofs.Writing.{wrote_nothing, wrote_then}
+use Rattle.dcel_text.proofs.LineEnds.{lines-nil, lines-feed, joined-append, joined-cons, joined-whole, joined-unended, lines-begun, lines-line}
+use Rattle.dcel_text.proofs.Writing.{wrote_nothing, wrote_then}
 
 length-nonempty : (l : List ℕ) → l ≢ [] → 0 < length l
 length-nonempty [] some = absurd (some refl)

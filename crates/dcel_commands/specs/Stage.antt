@@ -1,7 +1,7 @@
 -- A conversation that has come some way.
 use Rattle.std.specs.Prelude.{ℕ, Bool, true, List, [], ◌++◌, Option}
-use Rattle.dcel_commands.specs.Lines.{lines, joined}
-use Rattle.dcel_commands.specs.Output.{Wrote}
+use Rattle.dcel_text.specs.Lines.{lines, joined}
+use Rattle.dcel_text.specs.Output.{Wrote}
 use Rattle.dcel_commands.specs.Talk.{Talk}
 use Rattle.dcel_commands.specs.LineSteps.{State}
 

@@ -2,14 +2,14 @@
 
 ghost use Rattle.std.specs.Prelude.{◌≡◌, ◌<◌};
 ghost use Rattle.dcel_commands.specs.Faces.{line_of, words_text, word_round, IsLeastOnFace};
-ghost use Rattle.dcel_commands.specs.Output.{Wrote};
-ghost use Rattle.dcel_commands.specs.Responses.{listed};
+ghost use Rattle.dcel_text.specs.Output.{Wrote};
+ghost use Rattle.dcel_text.specs.Texts.{listed};
 ghost use Rattle.spade_dcel.specs.Handles.{mesh_behind, number_of};
 ghost use Rattle.dcel_maps.specs.Shapes.{IsLive, IsMesh, IsSound, face_count, face_of};
 ghost use Rattle.dcel_maps.specs.Words.{word_of};
 
-use crate::output::Out;
-use crate::sink::LineSink;
+use dcel_text::output::Out;
+use dcel_text::sink::LineSink;
 use spade_dcel::dcel::Dcel;
 use spade_dcel::handles::{
     DirectedEdgeHandle, FixedFaceHandle, PossiblyOuterTag, new_fixed_face_handle,

@@ -1,18 +1,19 @@
 //! What a line is answered, and how that is written.
 
 ghost use Rattle.std.specs.Prelude.{◌≡◌, ◌++◌};
-ghost use Rattle.dcel_commands.specs.Output.{Wrote};
+ghost use Rattle.dcel_text.specs.Output.{Wrote};
 ghost use Rattle.dcel_commands.specs.Refusal.{refusal_text};
-ghost use Rattle.dcel_commands.specs.Responses.{IsAbout, said, ended, numbered};
+ghost use Rattle.dcel_commands.specs.Responses.{IsAbout, said};
+ghost use Rattle.dcel_text.specs.Texts.{ended, numbered};
 ghost use Rattle.dcel_commands.specs.Talk.{said_text};
 
 use crate::faces::write_words;
-use crate::output::Out;
 use crate::refusal::Refusal;
-use crate::sink::LineSink;
 use crate::steps::LineMesh;
 use crate::turns::{write_counts, write_out_edges};
 use dcel_fixed::FixedVertexHandle;
+use dcel_text::output::Out;
+use dcel_text::sink::LineSink;
 use std::alloc::Allocator;
 
 /// The reply to a line.
@@ -29,7 +30,7 @@ pub enum Response {
 }
 
 /// Writes a word with a number after it, as a line.
-#[tactic(auto, using(crate::proofs::Writing::wrote_then))]
+#[tactic(auto, using(dcel_text::proofs::Writing::wrote_then))]
 fn write_numbered<K: LineSink>(sink: &mut K, out: &mut Out, word: &[u8], n: u32)
     ensures { Wrote K.has_failed K.contents sink.old out.old sink.new out.new (ended (numbered word.now n)) }
 {
@@ -38,7 +39,7 @@ fn write_numbered<K: LineSink>(sink: &mut K, out: &mut Out, word: &[u8], n: u32)
 }
 
 /// Writes a refusal, as a line.
-#[tactic(auto, using(crate::proofs::Writing::wrote_then))]
+#[tactic(auto, using(dcel_text::proofs::Writing::wrote_then))]
 fn write_refusal<K: LineSink>(sink: &mut K, out: &mut Out, why: Refusal)
     ensures { Wrote K.has_failed K.contents sink.old out.old sink.new out.new (ended (refusal_text why)) }
 {

@@ -5,8 +5,8 @@ ghost use Rattle.dcel_commands.specs.Run.{AnswersAll, AnswersWholeLines, Answers
 
 use crate::faults::RunFault;
 use crate::session::Session;
-use crate::sink::LineSink;
-use crate::source::LineSource;
+use dcel_text::sink::LineSink;
+use dcel_text::source::LineSource;
 use std::alloc::Allocator;
 
 /// The most bytes that are read at once.

@@ -1,18 +1,18 @@
 //! A conversation: the bytes of its lines come in pieces, and the replies go to a sink.
 
-ghost use Rattle.std.specs.Prelude.{◌≡◌, ◌≤◌, ◌^◌, ◌++◌, ◌∷◌, ℕ, [], IfOk, MatchOption};
-ghost use Rattle.dcel_commands.specs.Lines.{HasNoFeed, line_feed};
+ghost use Rattle.std.specs.Prelude.{◌≡◌, ◌≤◌, ◌^◌, ◌++◌, ◌∷◌, ℕ, [], IfOk};
+ghost use Rattle.dcel_text.specs.Lines.{HasNoFeed, line_feed};
 ghost use Rattle.dcel_commands.specs.Responses.{said};
 ghost use Rattle.dcel_commands.specs.Stage.{Stage, Serves, Ends};
 ghost use Rattle.dcel_commands.specs.Talk.{Answers};
 ghost use Rattle.dcel_commands.specs.LineSteps.{start};
 
-use crate::line::Line;
-use crate::output::Out;
 use crate::parse::{Parsed, parse};
 use crate::response::{Response, write_response};
-use crate::sink::LineSink;
 use crate::steps::{LineMesh, new_mesh, step};
+use dcel_text::line::{Line, split_line};
+use dcel_text::output::Out;
+use dcel_text::sink::LineSink;
 use std::alloc::{AllocError, Allocator};
 use std::marker::Model;
 
@@ -41,20 +41,6 @@ fn answer<A: Allocator + Clone>(mesh: &mut LineMesh<A>, limit: usize, line: &[u8
         Parsed::Bad => Response::BadLine,
         Parsed::Line(word, args) => step(mesh, limit, word, args),
     }
-}
-
-/// The bytes before the first line feed, and those after it.
-fn split_line(bytes: &[u8]) -> Option<(&[u8], &[u8])>
-    ensures { MatchOption result
-        (HasNoFeed bytes.now)
-        (λ x. HasNoFeed x.0.now × (bytes.now ≡ x.0.now ++ line_feed ∷ x.1.now)) }
-{
-    for (i, b) in bytes.iter().enumerate() {
-        if *b == b'\n' {
-            return Some((&bytes[..i], &bytes[i + 1..]));
-        }
-    }
-    None
 }
 
 impl<A: Allocator + Clone> Session<A> {

@@ -2,23 +2,23 @@
 
 ghost use Rattle.std.specs.Prelude.{◌≡◌, ◌<◌, IfSome};
 ghost use Rattle.std.specs.Option.{option_map};
-ghost use Rattle.dcel_commands.specs.Output.{Wrote};
-ghost use Rattle.dcel_commands.specs.Responses.{listed};
+ghost use Rattle.dcel_text.specs.Output.{Wrote};
+ghost use Rattle.dcel_text.specs.Texts.{listed};
 ghost use Rattle.dcel_commands.specs.Turns.{counts_text, least_out, turn_of, turn_text};
 ghost use Rattle.spade_dcel.specs.Handles.{mesh_behind, number_of};
 ghost use Rattle.dcel_maps.specs.Shapes.{IsLive};
 ghost use Rattle.dcel_maps.specs.Walking.{ccw_of, walk_of};
 
-use crate::output::Out;
-use crate::sink::LineSink;
 use dcel_fixed::FixedVertexHandle;
+use dcel_text::output::Out;
+use dcel_text::sink::LineSink;
 use spade_dcel::dcel::Dcel;
 use spade_dcel::handles::{DirectedEdgeHandle, VertexHandle};
 use spade_dcel::iterators::{CCWEdgesNextBackFn, CircularIterator};
 use std::alloc::Allocator;
 
 /// Writes the line of a mesh's counts.
-#[tactic(auto, using(crate::proofs::Writing::wrote_then))]
+#[tactic(auto, using(dcel_text::proofs::Writing::wrote_then))]
 pub fn write_counts<V, DE, UE, F, A: Allocator, K: LineSink>(
     sink: &mut K,
     out: &mut Out,

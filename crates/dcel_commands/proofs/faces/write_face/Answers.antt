@@ -2,9 +2,10 @@ use Rattle.std.proofs.Common.{◌≡◌, ◌∷◌, ◌++◌, ◌∙◌, [], con
 use Rattle.std.specs.Fmt.{decimal}
 use Rattle.dcel_maps.specs.Shapes.{face_is_live}
 use Rattle.dcel_maps.specs.Words.{word_of}
-use Rattle.dcel_commands.specs.Output.{Wrote}
-use Rattle.dcel_commands.specs.Responses.{face_line, listed}
-use Rattle.dcel_commands.proofs.Writing.{writing_nothing, writing_then, writing_text}
+use Rattle.dcel_text.specs.Output.{Wrote}
+use Rattle.dcel_commands.specs.Responses.{face_line}
+use Rattle.dcel_text.specs.Texts.{listed}
+use Rattle.dcel_text.proofs.Writing.{writing_nothing, writing_then, writing_text}
 use Rattle.dcel_commands.proofs.faces.write_face.Goals as goal
 
 pub returns-then-not-is_live_face : goal.returns-then-not-is_live_face

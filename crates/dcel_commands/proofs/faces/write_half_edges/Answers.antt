@@ -2,10 +2,10 @@ use Rattle.std.proofs.Common.{◌≡◌, ◌∙◌, ap, sym}
 use Rattle.spade_dcel.specs.Handles.{mesh_behind, number_of}
 use Rattle.dcel_maps.specs.Shapes.{face_of}
 use Rattle.dcel_maps.specs.Words.{word_of}
-use Rattle.dcel_commands.specs.Output.{Wrote}
-use Rattle.dcel_commands.specs.Responses.{listed}
+use Rattle.dcel_text.specs.Output.{Wrote}
+use Rattle.dcel_text.specs.Texts.{listed}
 use Rattle.dcel_commands.proofs.FaceWalks.{anchor_lies, unanchored_word, live_below}
-use Rattle.dcel_commands.proofs.Writing.{writing_nothing, writing_text}
+use Rattle.dcel_text.proofs.Writing.{writing_nothing, writing_text}
 use Rattle.dcel_commands.proofs.faces.write_half_edges.Goals as goal
 
 pub returns-in_default : goal.returns-in_default

@@ -1,8 +1,8 @@
 use Rattle.std.proofs.Common.{◌∙◌, arith}
 use Rattle.spade_dcel.specs.Handles.{mesh_behind, number_of}
-use Rattle.dcel_commands.specs.Output.{Wrote}
+use Rattle.dcel_text.specs.Output.{Wrote}
 use Rattle.dcel_commands.proofs.FaceWalks.{IsStep, first_stands, step_stands, stands_live, left_less, listed_first, listed_more, listed_all}
-use Rattle.dcel_commands.proofs.Writing.{writing_then, writing_text}
+use Rattle.dcel_text.proofs.Writing.{writing_then, writing_text}
 use Rattle.dcel_commands.proofs.faces.write_word.Goals as goal
 
 pub loop-least-init : goal.loop-least-init

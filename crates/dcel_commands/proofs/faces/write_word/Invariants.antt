@@ -2,8 +2,8 @@ use Rattle.std.proofs.Common.{◌≡◌, ◌<◌}
 use Rattle.spade_dcel.specs.Handles.{mesh_behind, number_of}
 use Rattle.dcel_maps.specs.Words.{count_of}
 use Rattle.dcel_commands.specs.Faces.{word_round}
-use Rattle.dcel_commands.specs.Output.{Wrote}
-use Rattle.dcel_commands.specs.Responses.{listed}
+use Rattle.dcel_text.specs.Output.{Wrote}
+use Rattle.dcel_text.specs.Texts.{listed}
 use Rattle.dcel_commands.proofs.FaceWalks.{passed_round, left_round}
 use Rattle.dcel_commands.proofs.faces.write_word.Given as goal
 

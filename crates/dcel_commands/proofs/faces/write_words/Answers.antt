@@ -1,7 +1,7 @@
 use Rattle.std.proofs.Common.{sym, ap, add-one}
 use Rattle.dcel_commands.specs.Faces.{line_of, lines_below}
-use Rattle.dcel_commands.specs.Output.{Wrote}
-use Rattle.dcel_commands.proofs.Writing.{writing_nothing, writing_then, writing_text}
+use Rattle.dcel_text.specs.Output.{Wrote}
+use Rattle.dcel_text.proofs.Writing.{writing_nothing, writing_then, writing_text}
 use Rattle.dcel_commands.proofs.faces.write_words.Goals as goal
 
 pub loop-index-init : goal.loop-index-init

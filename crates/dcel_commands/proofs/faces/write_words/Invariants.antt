@@ -1,5 +1,5 @@
 use Rattle.dcel_commands.specs.Faces.{lines_below}
-use Rattle.dcel_commands.specs.Output.{Wrote}
+use Rattle.dcel_text.specs.Output.{Wrote}
 use Rattle.dcel_commands.proofs.faces.write_words.Given as goal
 
 abbrev pub invariant-loop-index : goal.invariant-loop-index

@@ -1,7 +1,7 @@
 use Rattle.std.proofs.Common.{◌≡◌, rules}
 use Rattle.dcel_commands.specs.Refusal.{number_of, name_of}
-use Rattle.dcel_commands.specs.Output.{Wrote}
-use Rattle.dcel_commands.proofs.Writing.{writing_then, writing_text}
+use Rattle.dcel_text.specs.Output.{Wrote}
+use Rattle.dcel_text.proofs.Writing.{writing_then, writing_text}
 use Rattle.dcel_commands.proofs.response.write_refusal.Goals as goal
 
 pub returns : goal.returns

@@ -1,5 +1,5 @@
-use Rattle.dcel_commands.specs.Output.{Wrote}
-use Rattle.dcel_commands.proofs.Writing.{writing_then, writing_text}
+use Rattle.dcel_text.specs.Output.{Wrote}
+use Rattle.dcel_text.proofs.Writing.{writing_then, writing_text}
 use Rattle.dcel_commands.proofs.turns.write_counts.Goals as goal
 
 pub returns : goal.returns

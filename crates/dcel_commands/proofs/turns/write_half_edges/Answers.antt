@@ -1,10 +1,10 @@
 use Rattle.std.proofs.Common.{◌≡◌, ◌∙◌, ap, Some, None}
 use Rattle.spade_dcel.specs.Handles.{mesh_behind, number_of}
 use Rattle.dcel_maps.specs.Walking.{walk_from, walk_of, ccw_of}
-use Rattle.dcel_commands.specs.Output.{Wrote}
-use Rattle.dcel_commands.specs.Responses.{listed}
+use Rattle.dcel_text.specs.Output.{Wrote}
+use Rattle.dcel_text.specs.Texts.{listed}
 use Rattle.dcel_commands.specs.Turns.{least_out}
-use Rattle.dcel_commands.proofs.Writing.{writing_nothing, writing_text}
+use Rattle.dcel_text.proofs.Writing.{writing_nothing, writing_text}
 use Rattle.dcel_commands.proofs.turns.write_half_edges.Goals as goal
 
 pub returns-in_default : goal.returns-in_default

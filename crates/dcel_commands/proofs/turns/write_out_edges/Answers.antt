@@ -1,10 +1,10 @@
 use Rattle.std.proofs.Common.{◌≡◌, ◌∙◌, ◌++◌, ap}
 use Rattle.std.specs.Prelude.{codes}
 use Rattle.spade_dcel.specs.Handles.{mesh_behind, number_of}
-use Rattle.dcel_commands.specs.Output.{Wrote}
-use Rattle.dcel_commands.specs.Responses.{ended, listed}
+use Rattle.dcel_text.specs.Output.{Wrote}
+use Rattle.dcel_text.specs.Texts.{ended, listed}
 use Rattle.dcel_commands.specs.Turns.{turn_of}
-use Rattle.dcel_commands.proofs.Writing.{writing_then, writing_text}
+use Rattle.dcel_text.proofs.Writing.{writing_then, writing_text}
 use Rattle.dcel_commands.proofs.turns.write_out_edges.Goals as goal
 
 pub returns : goal.returns

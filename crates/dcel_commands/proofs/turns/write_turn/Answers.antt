@@ -1,10 +1,10 @@
 use Rattle.std.proofs.Common.{◌∙◌, ◌∷◌, ◌++◌, ap, sym}
 use Rattle.std.specs.Fmt.{decimal}
 use Rattle.spade_dcel.specs.Handles.{mesh_behind, number_of}
-use Rattle.dcel_commands.specs.Output.{Wrote}
-use Rattle.dcel_commands.specs.Responses.{listed}
+use Rattle.dcel_text.specs.Output.{Wrote}
+use Rattle.dcel_text.specs.Texts.{listed}
 use Rattle.dcel_commands.proofs.OutEdges.{listing_begins, listing_goes_on, listing_ends}
-use Rattle.dcel_commands.proofs.Writing.{writing_nothing, writing_then, writing_text}
+use Rattle.dcel_text.proofs.Writing.{writing_nothing, writing_then, writing_text}
 use Rattle.dcel_commands.proofs.turns.write_turn.Goals as goal
 
 pub loop-edge-init : goal.loop-edge-init

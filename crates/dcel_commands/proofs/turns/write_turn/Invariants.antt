@@ -1,7 +1,7 @@
 use Rattle.spade_dcel.specs.Handles.{mesh_behind, number_of}
 use Rattle.dcel_maps.specs.Walking.{ccw_of, walk_of}
-use Rattle.dcel_commands.specs.Output.{Wrote}
-use Rattle.dcel_commands.specs.Responses.{listed}
+use Rattle.dcel_text.specs.Output.{Wrote}
+use Rattle.dcel_text.specs.Texts.{listed}
 use Rattle.dcel_commands.proofs.OutEdges.{ListedSoFar}
 use Rattle.dcel_commands.proofs.turns.write_turn.Given as goal
 

@@ -1,6 +1,6 @@
 use Rattle.std.proofs.Common.{[], ◌∷◌, ◌++◌, refl, sym}
-use Rattle.dcel_commands.specs.Lines.{line_feed}
-use Rattle.dcel_commands.proofs.LineEnds.{front-line}
+use Rattle.dcel_text.specs.Lines.{line_feed}
+use Rattle.dcel_text.proofs.LineEnds.{front-line}
 use Rattle.dcel_commands.proofs.Serving.{serves_nothing, serves_then, serves_bytes}
 use Rattle.dcel_commands.proofs.session.Session.feed.Goals as goal
 

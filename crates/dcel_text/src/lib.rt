@@ -1,0 +1,10 @@
+//! Text: bytes from a source, cut into lines and their items; numbers in digits; and text on its way to a sink.
+#![tactic(auto)]
+
+pub mod faults;
+pub mod items;
+pub mod line;
+mod numbers;
+pub mod output;
+pub mod sink;
+pub mod source;
