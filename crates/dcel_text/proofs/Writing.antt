@@ -5,7 +5,8 @@ use Rattle.std.proofs.KnownBytes.{Appends-trans, Appends-nil}
 use Rattle.std.proofs.lemmas.Bool.{false≢true}
 use Rattle.std.proofs.lemmas.List.{drop-take, take-take}
 use Rattle.dcel_text.specs.Transfer.{KeepsOrHides, AppendsOrHides, AppendsBeginning}
-use Rattle.dcel_text.specs.Output.{Writing, Wrote}
+use Rattle.dcel_text.specs.declared.output.Writer.{Writer}
+use Rattle.dcel_text.specs.Output.{Writing, Writes}
 
 -- ---- what a sink tells
 
@@ -138,21 +139,19 @@ module _ {K : Type 0} {has_failed : K → Bool} {contents : K → Option (List �
             sticky = λ f. let before = p.sticky f in (kept.0, kept.1 ∙ before.1);
           }
 
--- ---- the same for tactics, which find the arguments
+  -- ---- the same of a writer
+
+  pub writes_text : {p q : Writer K} {xs ys : List ℕ} → xs ≡ ys → Writes has_failed contents p q xs → Writes has_failed contents p q ys
+  writes_text {p} {q} e w = subst (λ (x : List ℕ). Writes has_failed contents p q x) e w
+
+  pub writes_nothing : {p : Writer K} → Writes has_failed contents p p []
+  writes_nothing = record { same = refl; writing = writing_nothing }
+
+  pub writes_and : {p q r : Writer K} {xs ys : List ℕ} → Writes has_failed contents p q xs → Writes has_failed contents q r ys → Writes has_failed contents p r (xs ++ ys)
+  writes_and w v = record { same = v.same ∙ w.same; writing = writing_then w.writing v.writing }
+
+-- ---- for tactics, which find the arguments
 
 module _ {K : Type 0} (has_failed : K → Bool) (contents : K → Option (List ℕ)) where
-  pub wrote_nothing : (s : K) (a : List ℕ) → Wrote has_failed contents s a s a []
-  unfolding Wrote
-  wrote_nothing s a = writing_nothing
-
-  pub wrote_held : (s : K) (a b text : List ℕ) → b ≡ a ++ text → Wrote has_failed contents s a s b text
-  unfolding Wrote
-  wrote_held s a b text e = writing_held e
-
-  pub wrote_held_out : (s t : K) (a : List ℕ) → Wrote has_failed contents s [] t [] a → Wrote has_failed contents s a t [] []
-  unfolding Wrote
-  wrote_held_out s t a p = writing_held_out p
-
-  pub wrote_then : (s t u : K) (a b c xs ys : List ℕ) → Wrote has_failed contents s a t b xs → Wrote has_failed contents t b u c ys → Wrote has_failed contents s a u c (xs ++ ys)
-  unfolding Wrote
-  wrote_then s t u a b c xs ys p q = writing_then p q
+  pub writes_then : (p q r : Writer K) (xs ys : List ℕ) → Writes has_failed contents p q xs → Writes has_failed contents q r ys → Writes has_failed contents p r (xs ++ ys)
+  writes_then p q r xs ys w v = writes_and w v

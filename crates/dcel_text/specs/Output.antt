@@ -1,6 +1,7 @@
 -- Text that is written: what of it went to the sink, and what is held for it.
 use Rattle.std.specs.Prelude.{ℕ, ◌≡◌, ◌++◌, Bool, true, false, List, Option}
 use Rattle.std.specs.Io.KnownBytes.{Appends}
+use Rattle.dcel_text.specs.declared.output.Writer.{Writer}
 use Rattle.dcel_text.specs.Transfer.{AppendsOrHides}
 
 -- from a sink s with a list held for it, to a sink t with a list held for it, a text was written: of what was held and the text
@@ -13,6 +14,7 @@ pub record Writing {K : Type 0} (has_failed : K → Bool) (contents : K → Opti
   pub calm : has_failed t ≡ false → Appends (contents s) (contents t) sent × (after ≡ rest)
   pub sticky : has_failed s ≡ true → (has_failed t ≡ true) × (contents t ≡ contents s)
 
--- the same, as one word
-unfoldable pub Wrote : {K : Type 0} → (K → Bool) → (K → Option (List ℕ)) → K → List ℕ → K → List ℕ → List ℕ → Type 0
-Wrote has_failed contents s before t after text = Writing has_failed contents s before t after text
+-- a writer wrote a text, and goes to the same sink as before
+pub record Writes {K : Type 0} (has_failed : K → Bool) (contents : K → Option (List ℕ)) (old new : Writer K) (text : List ℕ) : Type 0 where
+  pub same : new.sink.ghost_name ≡ old.sink.ghost_name
+  pub writing : Writing has_failed contents old.sink.now old.held new.sink.now new.held text

@@ -1,13 +1,13 @@
 //! Text on its way to a sink.
 
-ghost use Rattle.std.specs.Prelude.{◌≡◌, ◌+◌, ◌≤◌, ◌∷◌, ◌++◌, ℕ, List, [], length, take};
-ghost use Rattle.std.specs.Fmt.{decimal, signed_decimal};
-ghost use Rattle.dcel_text.specs.Output.{Wrote};
+ghost use Rattle.std.specs.Prelude.{◌≡◌, ◌∷◌, []};
+ghost use Rattle.std.specs.Fmt.{decimal};
+ghost use Rattle.dcel_text.specs.Output.{Writing, Writes};
 ghost use Rattle.dcel_text.specs.Texts.{numbered};
 
-use crate::numbers::{count_digits, put_digits};
+use crate::buffer::Buffer;
+use crate::numbers::digits;
 use crate::sink::LineSink;
-use std::marker::Model;
 
 /// The most bytes that are held.
 const ROOM: usize = 4096;
@@ -15,24 +15,9 @@ const ROOM: usize = 4096;
 /// The most digits that a number has.
 const MOST_DIGITS: usize = 20;
 
-/// Text that is held until there is enough of it to be put. Once a `put` has failed, nothing more is.
-#[derive(Drop)]
-pub struct Out {
-    bytes: [u8; ROOM],
-    len: usize,
-}
-
-impl Model for Out {
-    ghost Value = { List ℕ };
-
-    ghost view = { λ out. take out.len out.bytes };
-
-    ghost invariant = { λ out. out.len ≤ 4096 };
-}
-
 /// Puts the bytes, as long as the sink doesn't fail.
 fn send<K: LineSink>(sink: &mut K, bytes: &[u8])
-    ensures { Wrote K.has_failed K.contents sink.old [] sink.new [] bytes.now }
+    ensures { Writing K.has_failed K.contents sink.old [] sink.new [] bytes.now }
 {
     if sink.failed() {
         return;
@@ -46,112 +31,86 @@ fn send<K: LineSink>(sink: &mut K, bytes: &[u8])
     }
 }
 
-impl Out {
+/// A sink, and text that is held until there is enough of it to be put. Once a `put` has failed, nothing more is.
+#[derive(Drop)]
+pub struct Writer<'a, K: LineSink> {
+    sink: &'a mut K,
+    held: Buffer<ROOM>,
+}
+
+impl<'a, K: LineSink> Writer<'a, K> {
     /// Holds nothing.
-    pub fn new() -> Self
-        ensures { result ≡ [] }
+    pub fn new(sink: &'a mut K) -> Writer<'a, K>
+        ensures same_reference { result.sink.ghost_name ≡ sink.entry.ghost_name }
+        ensures sink { result.sink.now ≡ sink.old }
+        ensures empty { result.held ≡ [] }
     {
-        Out {
-            bytes: [0; ROOM],
-            len: 0,
+        Writer {
+            sink,
+            held: Buffer::new(),
         }
     }
 
-    /// Holds the bytes too.
-    fn hold(&mut self, bytes: &[u8])
-        requires { length self.old + length bytes.now ≤ 4096 }
-        ensures { self.new ≡ self.old ++ bytes.now }
+    /// Whether the sink has failed.
+    pub fn failed(&self) -> bool
+        ensures { result ≡ K.has_failed self.now.sink.now }
     {
-        let end = self.len + bytes.len();
-        self.bytes[self.len..end].copy_from_slice(bytes);
-        self.len = end;
+        self.sink.failed()
     }
 
     /// Puts what is held.
-    #[tactic(auto, using(crate::proofs::Writing::wrote_held_out))]
-    pub fn flush<K: LineSink>(&mut self, sink: &mut K)
-        ensures wrote { Wrote K.has_failed K.contents sink.old self.old sink.new self.new [] }
-        ensures empty { self.new ≡ [] }
+    pub fn flush(&mut self)
+        ensures writes { Writes K.has_failed K.contents self.old self.new [] }
+        ensures empty { self.new.held ≡ [] }
     {
-        send(sink, &self.bytes[..self.len]);
-        self.len = 0;
+        send(self.sink, self.held.as_slice());
+        self.held.clear();
     }
 
     /// Writes the bytes.
-    #[tactic(auto, using(crate::proofs::Writing::wrote_held, crate::proofs::Writing::wrote_then))]
-    pub fn write<K: LineSink>(&mut self, sink: &mut K, bytes: &[u8])
-        ensures { Wrote K.has_failed K.contents sink.old self.old sink.new self.new bytes.now }
+    pub fn write(&mut self, bytes: &[u8])
+        ensures { Writes K.has_failed K.contents self.old self.new bytes.now }
     {
-        if bytes.len() <= ROOM - self.len {
-            self.hold(bytes);
+        if bytes.len() <= self.held.room() {
+            self.held.add(bytes);
             return;
         }
-        self.flush(sink);
+        self.flush();
         if bytes.len() <= ROOM {
-            self.hold(bytes);
+            self.held.add(bytes);
         } else {
-            send(sink, bytes);
+            send(self.sink, bytes);
         }
     }
 
     /// Writes one byte.
-    pub fn push<K: LineSink>(&mut self, sink: &mut K, byte: u8)
-        ensures { Wrote K.has_failed K.contents sink.old self.old sink.new self.new (byte ∷ []) }
+    pub fn push(&mut self, byte: u8)
+        ensures { Writes K.has_failed K.contents self.old self.new (byte ∷ []) }
     {
-        self.write(sink, &[byte]);
-    }
-
-    /// Holds the decimals of a number too.
-    fn hold_number(&mut self, n: u64)
-        requires { length self.old + 20 ≤ 4096 }
-        ensures { self.new ≡ self.old ++ decimal n }
-    {
-        let end = self.len + count_digits(n);
-        put_digits(&mut self.bytes[self.len..end], n);
-        self.len = end;
+        self.write(&[byte]);
     }
 
     /// Writes the decimals of a number.
-    #[tactic(auto, using(crate::proofs::Writing::wrote_held, crate::proofs::Writing::wrote_then))]
-    pub fn number<K: LineSink>(&mut self, sink: &mut K, n: u64)
-        ensures { Wrote K.has_failed K.contents sink.old self.old sink.new self.new (decimal n) }
+    pub fn number(&mut self, n: u64)
+        ensures { Writes K.has_failed K.contents self.old self.new (decimal n) }
     {
-        if self.len <= ROOM - MOST_DIGITS {
-            self.hold_number(n);
-            return;
-        }
-        self.flush(sink);
-        self.hold_number(n);
+        let mut slot = [0; MOST_DIGITS];
+        self.write(digits(n, &mut slot));
     }
 
     /// Writes a word and a number after it.
-    #[tactic(auto, using(crate::proofs::Writing::wrote_then))]
-    pub fn numbered<K: LineSink>(&mut self, sink: &mut K, word: &[u8], n: u64)
-        ensures { Wrote K.has_failed K.contents sink.old self.old sink.new self.new (numbered word.now n) }
+    pub fn numbered(&mut self, word: &[u8], n: u64)
+        ensures { Writes K.has_failed K.contents self.old self.new (numbered word.now n) }
     {
-        self.write(sink, word);
-        self.number(sink, n);
+        self.write(word);
+        self.number(n);
     }
 
     /// Writes a number after a space.
-    #[tactic(auto, using(crate::proofs::Writing::wrote_then))]
-    pub fn spaced_number<K: LineSink>(&mut self, sink: &mut K, n: u64)
-        ensures { Wrote K.has_failed K.contents sink.old self.old sink.new self.new (32 ∷ decimal n) }
+    pub fn spaced_number(&mut self, n: u64)
+        ensures { Writes K.has_failed K.contents self.old self.new (32 ∷ decimal n) }
     {
-        self.push(sink, b' ');
-        self.number(sink, n);
-    }
-
-    /// Writes the decimals of a datum.
-    #[tactic(auto, using(crate::proofs::Writing::wrote_then))]
-    pub fn datum<K: LineSink>(&mut self, sink: &mut K, d: i64)
-        ensures { Wrote K.has_failed K.contents sink.old self.old sink.new self.new (signed_decimal d) }
-    {
-        if d < 0 {
-            self.push(sink, b'-');
-            self.number(sink, d.unsigned_abs());
-        } else {
-            self.number(sink, d.unsigned_abs());
-        }
+        self.push(b' ');
+        self.number(n);
     }
 }

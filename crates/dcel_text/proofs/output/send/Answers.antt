@@ -1,12 +1,10 @@
 use Rattle.std.proofs.Common.{◌∙◌, subst, take, drop, arith, rules, ℕ, List}
 use Rattle.std.specs.Io.KnownBytes.{Appends}
 use Rattle.std.proofs.lemmas.List.{take_all, take_rest}
-use Rattle.dcel_text.specs.Output.{Wrote}
 use Rattle.dcel_text.proofs.Writing.{taken_more, taken_some, writing_all, writing_some, writing_none}
 use Rattle.dcel_text.proofs.output.send.Goals as goal
 
 pub returns-then-failed : goal.returns-then-failed
-unfolding Wrote
 returns-then-failed g c = writing_none (search rules)
 
 pub loop-at-preserved : goal.loop-at-preserved
@@ -23,14 +21,12 @@ loop-at-preserved g c =
     }
 
 pub returns-in-Err : goal.returns-in-Err
-unfolding Wrote
 returns-in-Err g c =
     let contents = g.K.LineSink.contents in
     writing_some (search rules) c.in-Err.ensures.fails
     (taken_some (contents c.args.sink.now) (contents c.loop-at.sink) (contents c.put.new.self) c.loop-at.at c.args.bytes.now c.loop-at.invariant.taken c.in-Err.ensures.bytes)
 
 pub returns : goal.returns
-unfolding Wrote
 returns g c =
     let contents = g.K.LineSink.contents in
     let bytes = c.args.bytes.now in

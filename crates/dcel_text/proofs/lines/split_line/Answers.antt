@@ -2,7 +2,7 @@ use Rattle.std.proofs.Common.{◌+◌, ◌++◌, ◌∷◌, take, ap, sym, ◌�
 use Rattle.std.proofs.lemmas.List.{take_rest}
 use Rattle.dcel_text.specs.Lines.{line_feed}
 use Rattle.dcel_text.proofs.LineEnds.{no_feed_so_far, no_feed_at_all, split_at_feed}
-use Rattle.dcel_text.proofs.line.split_line.Goals as goal
+use Rattle.dcel_text.proofs.lines.split_line.Goals as goal
 
 pub returns-then-b-eq10 : goal.returns-then-b-eq10
 returns-then-b-eq10 c =

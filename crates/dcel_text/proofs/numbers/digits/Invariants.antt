@@ -1,0 +1,14 @@
+use Rattle.std.proofs.Common.{◌≡◌, ◌+◌, ◌<◌, ◌≤◌, ◌++◌, length, drop}
+use Rattle.std.specs.Fmt.{decimal}
+use Rattle.dcel_text.proofs.numbers.digits.Given as goal
+
+-- the digits from there on are put, and there is room for the others
+abbrev pub invariant-loop-high : goal.invariant-loop-high
+invariant-loop-high l = record {
+  in_range : l.at < 20;
+  room : length (decimal l.high) ≤ l.at + 1;
+  whole : decimal l.n ≡ decimal l.high ++ drop (l.at + 1) l.slot;
+}
+
+abbrev pub decreases-loop-high : goal.decreases-loop-high
+decreases-loop-high l = l.high
