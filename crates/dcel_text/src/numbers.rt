@@ -68,11 +68,26 @@ pub fn datum(item: &[u8]) -> Option<i64>
     Some(n as i64)
 }
 
-/// The digits of the number, at the end of the slot.
-pub fn digits(n: u64, slot: &mut [u8; 20]) -> &[u8]
-    ensures { result.now ≡ decimal n }
+/// How many digits the number has.
+pub fn count_digits(n: u64) -> usize
+    ensures count { result ≡ length (decimal n) }
+    ensures most { result ≤ 20 }
 {
-    let mut at = 19;
+    let mut count = 1usize;
+    let mut high = n;
+    while high >= 10 {
+        count += 1;
+        high /= 10;
+    }
+    count
+}
+
+/// Fills the slot with the digits of the number, from the last to the first.
+pub fn put_digits(slot: &mut [u8], n: u64)
+    requires { length slot.old ≡ length (decimal n) }
+    ensures { slot.new ≡ decimal n }
+{
+    let mut at = slot.len() - 1;
     let mut high = n;
     while high >= 10 {
         slot[at] = b'0' + (high % 10) as u8;
@@ -80,5 +95,4 @@ pub fn digits(n: u64, slot: &mut [u8; 20]) -> &[u8]
         high /= 10;
     }
     slot[at] = b'0' + high as u8;
-    &slot[at..]
 }

@@ -6,7 +6,6 @@ ghost use Rattle.dcel_text.specs.Output.{Writing, Writes};
 ghost use Rattle.dcel_text.specs.Texts.{numbered};
 
 use crate::buffer::Buffer;
-use crate::numbers::digits;
 use crate::sink::LineSink;
 
 /// The most bytes that are held.
@@ -94,8 +93,10 @@ impl<'a, K: LineSink> Writer<'a, K> {
     pub fn number(&mut self, n: u64)
         ensures { Writes K.has_failed K.contents self.old self.new (decimal n) }
     {
-        let mut slot = [0; MOST_DIGITS];
-        self.write(digits(n, &mut slot));
+        if self.held.room() < MOST_DIGITS {
+            self.flush();
+        }
+        self.held.add_number(n);
     }
 
     /// Writes a word and a number after it.
