@@ -1,7 +1,6 @@
 -- A line, cut at its spaces.
-use Rattle.std.specs.Prelude.{ℕ, List, [], ◌∷◌, ◌++◌, ◌==◌, if◌then◌else◌}
-use Rattle.dcel_text.specs.declared.items.Rest.{Rest}
-use Rattle.dcel_text.specs.declared.items.Rest.TheVariants.{End, More}
+use Rattle.std.specs.Prelude.{ℕ, List, [], ◌∷◌, ◌++◌, ◌==◌, Option, Some, None, if◌then◌else◌}
+use Rattle.std.specs.Borrow.{Bor}
 
 -- a byte before the first item
 abbrev pub before : ℕ → List (List ℕ) → List (List ℕ)
@@ -14,9 +13,9 @@ items_of [] = [] ∷ []
 items_of (b ∷ bs) = if b == 32 then [] ∷ items_of bs else before b (items_of bs)
 
 -- the items that are still to be read
-abbrev pub left : Rest → List (List ℕ)
-left End = []
-left (More bytes) = items_of bytes.now
+abbrev pub left : Option (Bor (List ℕ)) → List (List ℕ)
+left None = []
+left (Some bytes) = items_of bytes.now
 
 -- items with one space between two
 abbrev pub spaced : List (List ℕ) → List ℕ

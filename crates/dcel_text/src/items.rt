@@ -8,11 +8,7 @@ ghost use Rattle.dcel_text.specs.Items.{items_of, left};
 use crate::numbers::{datum, number};
 
 /// The items that are still to be read: none, or those of the bytes.
-#[derive(Clone, Copy)]
-pub enum Rest<'a> {
-    End,
-    More(&'a [u8]),
-}
+pub type Rest<'a> = Option<&'a [u8]>;
 
 /// The first item of the bytes, and the others.
 pub fn first(bytes: &[u8]) -> (&[u8], Rest<'_>)
@@ -20,10 +16,10 @@ pub fn first(bytes: &[u8]) -> (&[u8], Rest<'_>)
 {
     for (i, b) in bytes.iter().enumerate() {
         if *b == b' ' {
-            return (&bytes[..i], Rest::More(&bytes[i + 1..]));
+            return (&bytes[..i], Some(&bytes[i + 1..]));
         }
     }
-    (bytes, Rest::End)
+    (bytes, None)
 }
 
 /// The number that comes next, and what comes after it.
@@ -32,16 +28,8 @@ pub fn number_then<'a>(rest: Rest<'a>) -> Option<(u32, Rest<'a>)>
         ((n : ℕ) (more : List (List ℕ)) → IsNumber n → left rest.entry ≢ decimal n ∷ more)
         (λ x. left rest.entry ≡ decimal x.0 ∷ left x.1) }
 {
-    match rest {
-        Rest::End => None,
-        Rest::More(bytes) => {
-            let (item, others) = first(bytes);
-            match number(item) {
-                None => None,
-                Some(n) => Some((n, others)),
-            }
-        }
-    }
+    let (item, others) = first(rest?);
+    Some((number(item)?, others))
 }
 
 /// The datum that comes next, and what comes after it.
@@ -50,26 +38,15 @@ pub fn datum_then<'a>(rest: Rest<'a>) -> Option<(i64, Rest<'a>)>
         ((d : ℤ) (more : List (List ℕ)) → IsDatum d → left rest.entry ≢ signed_decimal d ∷ more)
         (λ x. left rest.entry ≡ signed_decimal x.0 ∷ left x.1) }
 {
-    match rest {
-        Rest::End => None,
-        Rest::More(bytes) => {
-            let (item, others) = first(bytes);
-            match datum(item) {
-                None => None,
-                Some(d) => Some((d, others)),
-            }
-        }
-    }
+    let (item, others) = first(rest?);
+    Some((datum(item)?, others))
 }
 
 /// Whether no item is left.
 pub fn is_end(rest: Rest<'_>) -> bool
     ensures { IsTrue result ↔ (left rest.entry ≡ []) }
 {
-    match rest {
-        Rest::End => true,
-        Rest::More(_) => false,
-    }
+    rest.is_none()
 }
 
 /// The number that comes last.
@@ -78,10 +55,8 @@ pub fn last_number<'a>(rest: Rest<'a>) -> Option<u32>
         ((n : ℕ) → IsNumber n → left rest.entry ≢ decimal n ∷ [])
         (λ n. left rest.entry ≡ decimal n ∷ []) }
 {
-    match number_then(rest) {
-        None => None,
-        Some((n, others)) => if is_end(others) { Some(n) } else { None },
-    }
+    let (n, others) = number_then(rest)?;
+    if is_end(others) { Some(n) } else { None }
 }
 
 /// The datum that comes last.
@@ -90,8 +65,6 @@ pub fn last_datum<'a>(rest: Rest<'a>) -> Option<i64>
         ((d : ℤ) → IsDatum d → left rest.entry ≢ signed_decimal d ∷ [])
         (λ d. left rest.entry ≡ signed_decimal d ∷ []) }
 {
-    match datum_then(rest) {
-        None => None,
-        Some((d, others)) => if is_end(others) { Some(d) } else { None },
-    }
+    let (d, others) = datum_then(rest)?;
+    if is_end(others) { Some(d) } else { None }
 }
