@@ -1,3 +1,5 @@
+pub use Rattle.dcel_text.specs.Lines
+pub use Rattle.dcel_text.specs.Transfer
 pub mod Conditions
 pub mod Faces
 pub mod Grammar

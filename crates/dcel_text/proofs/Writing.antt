@@ -149,9 +149,3 @@ module _ {K : Type 0} {has_failed : K → Bool} {contents : K → Option (List �
 
   pub writes_and : {p q r : Writer K} {xs ys : List ℕ} → Writes has_failed contents p q xs → Writes has_failed contents q r ys → Writes has_failed contents p r (xs ++ ys)
   writes_and w v = record { same = v.same ∙ w.same; writing = writing_then w.writing v.writing }
-
--- ---- for tactics, which find the arguments
-
-module _ {K : Type 0} (has_failed : K → Bool) (contents : K → Option (List ℕ)) where
-  pub writes_then : (p q r : Writer K) (xs ys : List ℕ) → Writes has_failed contents p q xs → Writes has_failed contents q r ys → Writes has_failed contents p r (xs ++ ys)
-  writes_then p q r xs ys w v = writes_and w v

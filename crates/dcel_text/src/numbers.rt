@@ -31,13 +31,11 @@ fn natural(item: &[u8]) -> Option<u64>
 pub fn number(item: &[u8]) -> Option<u32>
     ensures { MatchOption result ((n : ℕ) → IsNumber n → item.now ≢ decimal n) (λ n. item.now ≡ decimal n) }
 {
-    match natural(item) {
-        None => None,
-        Some(n) => if n < 4_294_967_296 {
-            Some(n as u32)
-        } else {
-            None
-        },
+    let n = natural(item)?;
+    if n < 4_294_967_296 {
+        Some(n as u32)
+    } else {
+        None
     }
 }
 
@@ -46,10 +44,7 @@ pub fn datum(item: &[u8]) -> Option<i64>
     ensures { MatchOption result ((d : ℤ) → IsDatum d → item.now ≢ signed_decimal d) (λ d. item.now ≡ signed_decimal d) }
 {
     if !item.is_empty() && item[0] == b'-' {
-        let n = match natural(&item[1..]) {
-            None => return None,
-            Some(n) => n,
-        };
+        let n = natural(&item[1..])?;
         if n == 0 {
             return None;
         }
@@ -58,10 +53,7 @@ pub fn datum(item: &[u8]) -> Option<i64>
         }
         return Some(-((n - 1) as i64) - 1);
     }
-    let n = match natural(item) {
-        None => return None,
-        Some(n) => n,
-    };
+    let n = natural(item)?;
     if n >= 9_223_372_036_854_775_808 {
         return None;
     }
