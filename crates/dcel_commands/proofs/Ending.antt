@@ -3,19 +3,20 @@ use Rattle.std.proofs.Common.{◌≡◌, ℕ, List, [], ◌++◌, take, refl, sy
 use Rattle.std.specs.Io.KnownBytes.{Consumes, Appends, IsAtEnd}
 use Rattle.std.proofs.KnownBytes.{Consumes-trans}
 use Rattle.std.proofs.lemmas.Bool.{false≢true}
-use Rattle.dcel_commands.specs.Transfer.{KeepsOrHides, AppendsBeginning}
-use Rattle.dcel_commands.specs.Lines.{lines, joined}
-use Rattle.dcel_commands.specs.Output.{Writing, Wrote}
+use Rattle.dcel_text.specs.Transfer.{KeepsOrHides, AppendsBeginning}
+use Rattle.dcel_text.specs.Lines.{lines, joined}
+use Rattle.dcel_text.specs.declared.output.Writer.{Writer}
+use Rattle.dcel_text.specs.Output.{Writing, Writes}
 use Rattle.dcel_commands.specs.LineSteps.{start}
 use Rattle.dcel_commands.specs.Talk.{Talk}
 use Rattle.dcel_commands.specs.Stage.{Stage, Goes, Leads, Serves, Ends}
 use Rattle.dcel_commands.specs.Run.{AnswersAll, AnswersWholeLines, AnswersInPart}
-use Rattle.dcel_commands.proofs.LineEnds.{lines-nil, joined-whole}
-use Rattle.dcel_commands.proofs.Writing.{wrote_then}
+use Rattle.dcel_text.proofs.LineEnds.{lines-nil, joined-whole}
+use Rattle.dcel_text.proofs.Writing.{writes_and}
 
 -- nothing was read
 abbrev pub origin : Stage
-origin = record { mesh = start; begun = []; held = [] }
+origin = record { mesh = start; begun = [] }
 
 -- a call that gave nothing
 pub consumes_nothing : (a b c : Option (List ℕ)) (bytes buf : List ℕ) (n : ℕ) → Consumes a b bytes → Consumes b c (take n buf) → n ≡ 0 → Consumes a c bytes
@@ -34,7 +35,12 @@ talk_whole limit q bytes text f =
     (talk_to limit false q bytes text [] f (subst (λ (x : List (List ℕ)). Talk limit q.mesh x []) (sym (ap (joined false q.begun) (lines-nil false) ∙ joined-whole q.begun)) refl))
 
 module _ {K : Type 0} {has_failed : K → Bool} {contents : K → Option (List ℕ)} where
-  -- ---- what was written
+  -- ---- what was written, from a sink s to a sink t
+
+  written : {s t : K} {old new : Writer K} {text : List ℕ} → Writes has_failed contents old new text → old.sink.now ≡ s → old.held ≡ [] → new.sink.now ≡ t → Writing has_failed contents s [] t new.held text
+  written {s} {old = old} {new = new} {text = text} w first none last =
+      let from = subst (λ (x : K). Writing has_failed contents x [] new.sink.now new.held text) first (subst (λ (x : List ℕ). Writing has_failed contents old.sink.now x new.sink.now new.held text) none w.writing) in
+      subst (λ (x : K). Writing has_failed contents s [] x new.held text) last from
 
   all_written : {s t : K} {held text : List ℕ} → Writing has_failed contents s [] t held text → held ≡ [] → has_failed t ≡ false → Appends (contents s) (contents t) text
   all_written {s} {t} {held} {text} w e calm =
@@ -46,29 +52,22 @@ module _ {K : Type 0} {has_failed : K → Bool} {contents : K → Option (List �
 
   -- ---- the four ends
 
-  pub read_failed : {limit : ℕ} {q : Stage} {bytes : List ℕ} {s t : K} {a c : Option (List ℕ)} (b : Option (List ℕ)) → Consumes a b bytes → KeepsOrHides b c → Serves has_failed contents limit origin q bytes s t → q.held ≡ [] → has_failed t ≡ false
-      → AnswersWholeLines limit a c (contents s) (contents t)
-  unfolding Wrote
-  read_failed {limit} {q} {bytes} b r k f e calm =
-      record { bytes = bytes; text = f.text; left = b; read = r; broke = k; answered = talk_whole limit q bytes f.text f.leads; written = all_written f.wrote e calm }
+  pub read_failed : {limit : ℕ} {q : Stage} {bytes : List ℕ} {old new : Writer K} {s t : K} {a c : Option (List ℕ)} (b : Option (List ℕ)) → Consumes a b bytes → KeepsOrHides b c → Serves has_failed contents limit origin q bytes old new
+      → old.sink.now ≡ s → old.held ≡ [] → new.sink.now ≡ t → new.held ≡ [] → has_failed new.sink.now ≡ false → AnswersWholeLines limit a c (contents s) (contents t)
+  read_failed {limit} {q} {bytes} b r k f first none last empty calm =
+      record { bytes = bytes; text = f.text; left = b; read = r; broke = k; answered = talk_whole limit q bytes f.text f.leads; written = all_written (written f.writes first none last) empty (ap has_failed (sym last) ∙ calm) }
 
-  pub write_failed : {limit : ℕ} {q : Stage} {bytes : List ℕ} {s t : K} {a b : Option (List ℕ)} → Consumes a b bytes → Serves has_failed contents limit origin q bytes s t
-      → AnswersInPart limit a b (contents s) (contents t)
-  unfolding Wrote
-  write_failed {limit} {q} {bytes} r f =
-      record { bytes = bytes; text = f.text; unended = false; read = r; ended = λ wrong. absurd (false≢true wrong); answered = talk_whole limit q bytes f.text f.leads; written = part_written f.wrote }
+  pub write_failed : {limit : ℕ} {q : Stage} {bytes : List ℕ} {old new : Writer K} {s t : K} {a b : Option (List ℕ)} → Consumes a b bytes → Serves has_failed contents limit origin q bytes old new
+      → old.sink.now ≡ s → old.held ≡ [] → new.sink.now ≡ t → AnswersInPart limit a b (contents s) (contents t)
+  write_failed {limit} {q} {bytes} r f first none last =
+      record { bytes = bytes; text = f.text; unended = false; read = r; ended = λ wrong. absurd (false≢true wrong); answered = talk_whole limit q bytes f.text f.leads; written = part_written (written f.writes first none last) }
 
-  both_written : {limit : ℕ} {q : Stage} {bytes : List ℕ} {s t v : K} (f : Serves has_failed contents limit origin q bytes s t) (e : Ends has_failed contents limit q t v) → Wrote has_failed contents s [] v [] (f.text ++ e.text)
-  both_written {limit} {q} {bytes} {s} {t} {v} f e = wrote_then has_failed contents s t v [] q.held [] f.text e.text f.wrote e.wrote
+  pub last_write_failed : {limit : ℕ} {q : Stage} {bytes : List ℕ} {old out new : Writer K} {s t : K} {a b : Option (List ℕ)} → Consumes a b bytes → IsAtEnd b → Serves has_failed contents limit origin q bytes old out → Ends has_failed contents limit q out new
+      → old.sink.now ≡ s → old.held ≡ [] → new.sink.now ≡ t → AnswersInPart limit a b (contents s) (contents t)
+  last_write_failed {limit} {q} {bytes} r end f e first none last =
+      record { bytes = bytes; text = f.text ++ e.text; unended = true; read = r; ended = λ _. end; answered = talk_to limit true q bytes f.text e.text f.leads e.goes; written = part_written (written (writes_and f.writes e.writes) first none last) }
 
-  pub last_write_failed : {limit : ℕ} {q : Stage} {bytes : List ℕ} {s t v : K} {a b : Option (List ℕ)} → Consumes a b bytes → IsAtEnd b → Serves has_failed contents limit origin q bytes s t → Ends has_failed contents limit q t v
-      → AnswersInPart limit a b (contents s) (contents v)
-  unfolding Wrote
-  last_write_failed {limit} {q} {bytes} r end f e =
-      record { bytes = bytes; text = f.text ++ e.text; unended = true; read = r; ended = λ _. end; answered = talk_to limit true q bytes f.text e.text f.leads e.goes; written = part_written (both_written f e) }
-
-  pub answered_all : {limit : ℕ} {q : Stage} {bytes : List ℕ} {s t v : K} {a b : Option (List ℕ)} → Consumes a b bytes → IsAtEnd b → Serves has_failed contents limit origin q bytes s t → Ends has_failed contents limit q t v → has_failed v ≡ false
-      → AnswersAll limit a b (contents s) (contents v)
-  unfolding Wrote
-  answered_all {limit} {q} {bytes} r end f e calm =
-      record { bytes = bytes; text = f.text ++ e.text; read = r; ended = end; answered = talk_to limit true q bytes f.text e.text f.leads e.goes; written = all_written (both_written f e) refl calm }
+  pub answered_all : {limit : ℕ} {q : Stage} {bytes : List ℕ} {old out new : Writer K} {s t : K} {a b : Option (List ℕ)} → Consumes a b bytes → IsAtEnd b → Serves has_failed contents limit origin q bytes old out → Ends has_failed contents limit q out new
+      → old.sink.now ≡ s → old.held ≡ [] → new.sink.now ≡ t → new.held ≡ [] → has_failed new.sink.now ≡ false → AnswersAll limit a b (contents s) (contents t)
+  answered_all {limit} {q} {bytes} r end f e first none last empty calm =
+      record { bytes = bytes; text = f.text ++ e.text; read = r; ended = end; answered = talk_to limit true q bytes f.text e.text f.leads e.goes; written = all_written (written (writes_and f.writes e.writes) first none last) empty (ap has_failed (sym last) ∙ calm) }

@@ -1,14 +1,8 @@
 pub mod Answering
 pub mod Columns
-pub mod Cutting
-pub mod Decimals
-pub mod Digits
 pub mod Ending
 pub mod FaceWalks
-pub mod LineEnds
-pub mod Listing
 pub mod OutEdges
 pub mod Rounds
 pub mod Serving
 pub mod Spelling
-pub mod Writing

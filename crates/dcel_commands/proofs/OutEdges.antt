@@ -6,9 +6,9 @@ use Rattle.dcel_maps.specs.Shapes.{Shape, Mesh, IsLive, AnchorsVertex, edge_is_l
 use Rattle.dcel_maps.specs.Walking.{IsOutEdge, ListsOnce, in_mesh}
 use Rattle.dcel_maps.specs.Words.{count_of}
 use Rattle.dcel_maps.proofs.words.Counts.{count-same, count-other, count-later}
-use Rattle.dcel_commands.specs.Responses.{listed}
+use Rattle.dcel_text.specs.Texts.{listed}
 use Rattle.dcel_commands.specs.Turns.{starts_at, least_below, least_out}
-use Rattle.dcel_commands.proofs.Listing.{listed-push}
+use Rattle.dcel_text.proofs.Listing.{listed-push}
 
 -- ---- the least number that passes a test
 

@@ -3,14 +3,15 @@ use Rattle.std.proofs.Common.{◌≡◌, ◌≢◌, ℕ, ◌<◌, List, [], ◌�
 use Rattle.std.specs.Prelude.{◌⊎◌}
 use Rattle.std.proofs.lemmas.Bool.{cases_lt}
 use Rattle.std.proofs.lemmas.List.{length-append, length-take-le, take_all}
-use Rattle.dcel_commands.specs.Lines.{line_feed, lines, joined, HasNoFeed}
-use Rattle.dcel_commands.specs.Output.{Wrote}
+use Rattle.dcel_text.specs.Lines.{line_feed, lines, joined, HasNoFeed}
+use Rattle.dcel_text.specs.declared.output.Writer.{Writer}
+use Rattle.dcel_text.specs.Output.{Writes}
 use Rattle.dcel_commands.specs.Responses.{Said}
 use Rattle.dcel_commands.specs.LineSteps.{State}
 use Rattle.dcel_commands.specs.Talk.{Answers, bad_line, step, said_text, Talk}
 use Rattle.dcel_commands.specs.Stage.{Stage, Goes, Leads, Serves, Ends}
-use Rattle.dcel_commands.proofs.LineEnds.{lines-nil, lines-feed, joined-append, joined-cons, joined-whole, joined-unended, lines-begun, lines-line}
-use Rattle.dcel_commands.proofs.Writing.{wrote_nothing, wrote_then}
+use Rattle.dcel_text.proofs.LineEnds.{lines-nil, lines-feed, joined-append, joined-cons, joined-whole, joined-unended, lines-begun, lines-line}
+use Rattle.dcel_text.proofs.Writing.{writes_nothing, writes_and, writes_text}
 
 length-nonempty : (l : List ℕ) → l ≢ [] → 0 < length l
 length-nonempty [] some = absurd (some refl)
@@ -68,67 +69,67 @@ leads_then limit p q r xs ys text more f g u rest end h =
     (subst (Goes limit u p (xs ++ (ys ++ rest))) (sym (append_assoc text more end)) (f u (ys ++ rest) (more ++ end) (g u rest end h)))
 
 -- the bytes go on with the line that has begun
-leads_begun : (limit : ℕ) (m : State) (begun held held2 xs : List ℕ) → HasNoFeed xs
-    → Leads limit (record { mesh = m; begun = begun; held = held }) (record { mesh = m; begun = take 4097 (begun ++ xs); held = held2 }) xs []
-leads_begun limit m begun held held2 xs h u rest more g =
+leads_begun : (limit : ℕ) (m : State) (begun xs : List ℕ) → HasNoFeed xs → Leads limit (record { mesh = m; begun = begun }) (record { mesh = m; begun = take 4097 (begun ++ xs) }) xs []
+leads_begun limit m begun xs h u rest more g =
     let same : joined u begun (lines u (xs ++ rest)) ≡ joined u (begun ++ xs) (lines u rest) = ap (joined u begun) (lines-begun u xs rest h) ∙ sym (joined-append u begun xs (lines u rest)) in
     subst (λ (x : List (List ℕ)). Talk limit m x more) (sym same) (joined_cut limit u m (begun ++ xs) (lines u rest) more g)
 
 -- the bytes end the line that has begun
-leads_line : (limit : ℕ) (m t : State) (begun held held2 xs : List ℕ) (r : Said) → HasNoFeed xs → Answers limit m (take 4097 (begun ++ xs)) r t
-    → Leads limit (record { mesh = m; begun = begun; held = held }) (record { mesh = t; begun = []; held = held2 }) (xs ++ line_feed ∷ []) (said_text t r)
-leads_line limit m t begun held held2 xs r h a u rest more g =
+leads_line : (limit : ℕ) (m t : State) (begun xs : List ℕ) (r : Said) → HasNoFeed xs → Answers limit m (take 4097 (begun ++ xs)) r t
+    → Leads limit (record { mesh = m; begun = begun }) (record { mesh = t; begun = [] }) (xs ++ line_feed ∷ []) (said_text t r)
+leads_line limit m t begun xs r h a u rest more g =
     subst (λ (x : List (List ℕ)). Talk limit m x (said_text t r ++ more)) (sym (lines-line u begun xs rest h)) (r, t, more, answers_cut limit m (begun ++ xs) r t a, g, refl)
+
+-- where no line has begun, the end asks for no text
+goes_nowhere : (limit : ℕ) (p : Stage) → p.begun ≡ [] → Goes limit true p [] []
+goes_nowhere limit p e = subst (λ (x : List (List ℕ)). Talk limit p.mesh x []) (sym (ap (λ (x : List ℕ). joined true x (lines true [])) e ∙ lines-nil true)) refl
 
 -- ---- the same with what was written
 
 module _ {K : Type 0} {has_failed : K → Bool} {contents : K → Option (List ℕ)} where
-  pub serves_nothing : {limit : ℕ} {p : Stage} {s : K} → Serves has_failed contents limit p p [] s s
-  serves_nothing {limit} {p} {s} = record { text = []; wrote = wrote_nothing has_failed contents s p.held; leads = leads_nothing limit p }
+  pub serves_nothing : {limit : ℕ} {p : Stage} {out : Writer K} → Serves has_failed contents limit p p [] out out
+  serves_nothing {limit} {p} = record { text = []; writes = writes_nothing; leads = leads_nothing limit p }
 
-  pub serves_then : {limit : ℕ} {p q r : Stage} {xs ys : List ℕ} {s t v : K} → Serves has_failed contents limit p q xs s t → Serves has_failed contents limit q r ys t v → Serves has_failed contents limit p r (xs ++ ys) s v
-  serves_then {limit} {p} {q} {r} {xs} {ys} {s} {t} {v} f g = record {
-    text = f.text ++ g.text;
-    wrote = wrote_then has_failed contents s t v p.held q.held r.held f.text g.text f.wrote g.wrote;
-    leads = leads_then limit p q r xs ys f.text g.text f.leads g.leads;
-  }
+  pub serves_then : {limit : ℕ} {p q r : Stage} {xs ys : List ℕ} {o out new : Writer K} → Serves has_failed contents limit p q xs o out → Serves has_failed contents limit q r ys out new → Serves has_failed contents limit p r (xs ++ ys) o new
+  serves_then {limit} {p} {q} {r} {xs} {ys} f g = record { text = f.text ++ g.text; writes = writes_and f.writes g.writes; leads = leads_then limit p q r xs ys f.text g.text f.leads g.leads }
+
+  -- what was held goes out
+  pub serves_flushed : {limit : ℕ} {p q : Stage} {xs : List ℕ} {o out new : Writer K} → Serves has_failed contents limit p q xs o out → Writes has_failed contents out new [] → Serves has_failed contents limit p q xs o new
+  serves_flushed f w = record { text = f.text; writes = writes_text (append-nil f.text) (writes_and f.writes w); leads = f.leads }
 
   -- the bytes that were kept of a line are answered, and its place is empty again
-  pub serves_line : {limit : ℕ} {p : Stage} {t : State} {kept begun held : List ℕ} (xs : List ℕ) {r : Said} {s v : K} → HasNoFeed xs → kept ≡ take 4097 (p.begun ++ xs) → Answers limit p.mesh kept r t → begun ≡ []
-      → Wrote has_failed contents s p.held v held (said_text t r) → Serves has_failed contents limit p (record { mesh = t; begun = begun; held = held }) (xs ++ line_feed ∷ []) s v
-  serves_line {limit} {p} {t} {kept} {begun} {held} xs {r} {s} {v} h e a b w =
-      subst (λ (x : List ℕ). Serves has_failed contents limit p (record { mesh = t; begun = x; held = held }) (xs ++ line_feed ∷ []) s v) (sym b)
-      (record { text = said_text t r; wrote = w; leads = leads_line limit p.mesh t p.begun p.held held xs r h (subst (λ (x : List ℕ). Answers limit p.mesh x r t) e a) })
+  pub serves_line : {limit : ℕ} {p : Stage} {t : State} {kept begun : List ℕ} (xs : List ℕ) {r : Said} {out new : Writer K} → HasNoFeed xs → kept ≡ take 4097 (p.begun ++ xs) → Answers limit p.mesh kept r t → begun ≡ []
+      → Writes has_failed contents out new (said_text t r) → Serves has_failed contents limit p (record { mesh = t; begun = begun }) (xs ++ line_feed ∷ []) out new
+  serves_line {limit} {p} {t} {kept} {begun} xs {r} {out} {new} h e a b w =
+      subst (λ (x : List ℕ). Serves has_failed contents limit p (record { mesh = t; begun = x }) (xs ++ line_feed ∷ []) out new) (sym b)
+      (record { text = said_text t r; writes = w; leads = leads_line limit p.mesh t p.begun xs r h (subst (λ (x : List ℕ). Answers limit p.mesh x r t) e a) })
 
-  -- the rest of a piece is kept, and what was held goes out
-  pub serves_rest : {limit : ℕ} {p : Stage} {begun held xs : List ℕ} {s t : K} → HasNoFeed xs → begun ≡ take 4097 (p.begun ++ xs) → Wrote has_failed contents s p.held t held []
-      → Serves has_failed contents limit p (record { mesh = p.mesh; begun = begun; held = held }) xs s t
-  serves_rest {limit} {p} {begun} {held} {xs} {s} {t} h e w =
-      subst (λ (x : List ℕ). Serves has_failed contents limit p (record { mesh = p.mesh; begun = x; held = held }) xs s t) (sym e)
-      (record { text = []; wrote = w; leads = leads_begun limit p.mesh p.begun p.held held xs h })
+  -- the rest of a piece is kept
+  pub serves_rest : {limit : ℕ} {p : Stage} {begun xs : List ℕ} {out : Writer K} → HasNoFeed xs → begun ≡ take 4097 (p.begun ++ xs) → Serves has_failed contents limit p (record { mesh = p.mesh; begun = begun }) xs out out
+  serves_rest {limit} {p} {begun} {xs} {out} h e =
+      subst (λ (x : List ℕ). Serves has_failed contents limit p (record { mesh = p.mesh; begun = x }) xs out out) (sym e)
+      (record { text = []; writes = writes_nothing; leads = leads_begun limit p.mesh p.begun xs h })
 
-  pub serves_bytes : {limit : ℕ} {p q : Stage} {xs ys : List ℕ} {s t : K} → xs ≡ ys → Serves has_failed contents limit p q xs s t → Serves has_failed contents limit p q ys s t
-  serves_bytes {limit} {p} {q} {xs} {ys} {s} {t} e f = subst (λ (x : List ℕ). Serves has_failed contents limit p q x s t) e f
+  pub serves_bytes : {limit : ℕ} {p q : Stage} {xs ys : List ℕ} {out new : Writer K} → xs ≡ ys → Serves has_failed contents limit p q xs out new → Serves has_failed contents limit p q ys out new
+  serves_bytes {limit} {p} {q} {xs} {ys} {out} {new} e f = subst (λ (x : List ℕ). Serves has_failed contents limit p q x out new) e f
 
   -- ---- the end
 
-  pub ends_nothing : {limit : ℕ} {p : Stage} {held : List ℕ} {s t : K} → p.begun ≡ [] → held ≡ [] → Wrote has_failed contents s p.held t held [] → Ends has_failed contents limit p s t
-  ends_nothing {limit} {p} {held} {s} {t} e h w = record {
-    text = [];
-    wrote = subst (λ (x : List ℕ). Wrote has_failed contents s p.held t x []) h w;
-    goes = subst (λ (x : List (List ℕ)). Talk limit p.mesh x []) (sym (ap (λ (x : List ℕ). joined true x (lines true [])) e ∙ lines-nil true)) refl;
-  }
+  pub ends_nothing : {limit : ℕ} {p : Stage} {out : Writer K} → p.begun ≡ [] → Ends has_failed contents limit p out out
+  ends_nothing {limit} {p} e = record { text = []; writes = writes_nothing; goes = goes_nowhere limit p e }
 
   -- a last line is answered as one with a line feed is
-  pub ends_line : {limit : ℕ} {p q : Stage} {held : List ℕ} {s t v : K} → p.begun ≢ [] → q.begun ≡ [] → Serves has_failed contents limit p q ([] ++ line_feed ∷ []) s t → held ≡ [] → Wrote has_failed contents t q.held v held []
-      → Ends has_failed contents limit p s v
-  ends_line {limit} {p} {q} {held} {s} {t} {v} some e f h w =
-      let over : Goes limit true q [] [] = subst (λ (x : List (List ℕ)). Talk limit q.mesh x []) (sym (ap (λ (x : List ℕ). joined true x (lines true [])) e ∙ lines-nil true)) refl in
+  pub ends_line : {limit : ℕ} {p q : Stage} {out new : Writer K} → p.begun ≢ [] → q.begun ≡ [] → Serves has_failed contents limit p q ([] ++ line_feed ∷ []) out new → Ends has_failed contents limit p out new
+  ends_line {limit} {p} {q} some e f =
       let same : joined true p.begun (lines true (line_feed ∷ [])) ≡ joined true p.begun (lines true []) =
       ap (joined true p.begun) (lines-feed true [] ∙ ap (λ (x : List (List ℕ)). [] ∷ x) (lines-nil true)) ∙ joined-cons true p.begun [] [] ∙ ap (λ (x : List ℕ). x ∷ []) (append-nil p.begun)
       ∙ sym (ap (joined true p.begun) (lines-nil true) ∙ joined-unended p.begun (length-nonempty p.begun some)) in
       record {
         text = f.text ++ [];
-        wrote = subst (λ (x : List ℕ). Wrote has_failed contents s p.held v x (f.text ++ [])) h (wrote_then has_failed contents s t v p.held q.held held f.text [] f.wrote w);
-        goes = subst (λ (x : List (List ℕ)). Talk limit p.mesh x (f.text ++ [])) same (f.leads true [] [] over);
+        writes = writes_text (sym (append-nil f.text)) f.writes;
+        goes = subst (λ (x : List (List ℕ)). Talk limit p.mesh x (f.text ++ [])) same (f.leads true [] [] (goes_nowhere limit q e));
       }
+
+  -- what was held goes out
+  pub ends_flushed : {limit : ℕ} {p : Stage} {o out new : Writer K} → Ends has_failed contents limit p o out → Writes has_failed contents out new [] → Ends has_failed contents limit p o new
+  ends_flushed e w = record { text = e.text; writes = writes_text (append-nil e.text) (writes_and e.writes w); goes = e.goes }

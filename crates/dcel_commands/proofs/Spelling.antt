@@ -10,11 +10,13 @@ use Rattle.dcel_commands.specs.declared.grammar.Shape.TheVariants as shapes
 use Rattle.dcel_commands.specs.declared.grammar.Word.{Word}
 use Rattle.dcel_commands.specs.declared.grammar.Word.TheVariants.{Append, Triangle, Setup, Extend, Insert, Counts, Words, Out, Origin, Check}
 use Rattle.dcel_commands.specs.declared.parse.Tail.TheVariants as tails
-use Rattle.dcel_commands.specs.Items.{items_of}
-use Rattle.dcel_commands.specs.Grammar.{Given, Nothing, Datum, ThreeData, OneNumber, TwoNumbers, shape_of, shape, text, written, InRange, IsDatum, IsNumber, Spells, spaced}
+use Rattle.dcel_text.specs.Items.{items_of}
+use Rattle.dcel_commands.specs.Grammar.{Given, Nothing, Datum, ThreeData, OneNumber, TwoNumbers, shape_of, shape, text, written, InRange, Spells}
+use Rattle.dcel_text.specs.Numbers.{IsDatum, IsNumber}
+use Rattle.dcel_text.specs.Items.{spaced}
 use Rattle.dcel_commands.specs.Parsed.{ReadsTail, IsBad}
-use Rattle.dcel_commands.proofs.Decimals.{numerals}
-use Rattle.dcel_commands.proofs.Cutting.{has_no_space, NoSpaces, spaced-items_of, items_of-spaced}
+use Rattle.dcel_text.proofs.Decimals.{numerals}
+use Rattle.dcel_text.proofs.Cutting.{has_no_space, NoSpaces, spaced-items_of, items_of-spaced}
 
 -- ---- the table of words
 

@@ -1,8 +1,8 @@
 -- The lines that are commands: a word, and after it what its shape asks for.
-use Rattle.std.specs.Prelude.{◌≡◌, ℕ, ℤ, ◌<◌, ◌≤◌, ◌^◌, List, [], ◌∷◌, ◌++◌, length, codes}
-use Rattle.std.specs.Int.{w64}
-use Rattle.std.specs.Int.RustNames.{FitsSigned}
+use Rattle.std.specs.Prelude.{◌≡◌, ℕ, ℤ, ◌≤◌, List, [], ◌∷◌, length, codes}
 use Rattle.std.specs.Fmt.{decimal, signed_decimal}
+use Rattle.dcel_text.specs.Items.{spaced}
+use Rattle.dcel_text.specs.Numbers.{IsNumber, IsDatum}
 use Rattle.dcel_commands.specs.declared.grammar.Word.{Word}
 use Rattle.dcel_commands.specs.declared.grammar.Word.TheVariants.{Append, Triangle, Setup, Extend, Insert, Counts, Words, Out, Origin, Check}
 use Rattle.dcel_commands.specs.declared.grammar.Shape.{Shape}
@@ -57,26 +57,13 @@ written (ThreeData c d e) = signed_decimal c ∷ signed_decimal d ∷ signed_dec
 written (OneNumber n) = decimal n ∷ []
 written (TwoNumbers m n) = decimal m ∷ decimal n ∷ []
 
--- the range of a number that is no datum
-abbrev pub IsNumber : ℕ → Type 0
-IsNumber n = n < 2 ^ 32
-
--- the range of a datum
-abbrev pub IsDatum : ℤ → Type 0
-IsDatum d = FitsSigned w64 d
-
+-- its numbers are in range
 abbrev pub InRange : Given → Type 0
 InRange Nothing = Unit {0}
 InRange (Datum d) = IsDatum d
 InRange (ThreeData c d e) = IsDatum c × IsDatum d × IsDatum e
 InRange (OneNumber n) = IsNumber n
 InRange (TwoNumbers m n) = IsNumber m × IsNumber n
-
--- items with one space between two
-abbrev pub spaced : List (List ℕ) → List ℕ
-spaced [] = []
-spaced (item ∷ []) = item
-spaced (item ∷ next ∷ items) = item ++ 32 ∷ spaced (next ∷ items)
 
 -- the line is this word with what is given to it
 pub record Spells (word : Word) (given : Given) (line : List ℕ) : Type 0 where

@@ -1,10 +1,9 @@
+pub use Rattle.dcel_text.specs.Lines
+pub use Rattle.dcel_text.specs.Transfer
 pub mod Conditions
 pub mod Faces
 pub mod Grammar
-pub mod Items
 pub mod LineSteps
-pub mod Lines
-pub mod Output
 pub mod Parsed
 pub mod Refusal
 pub mod Replies
@@ -13,5 +12,4 @@ pub mod Run
 pub mod Stage
 pub mod Steps
 pub mod Talk
-pub mod Transfer
 pub mod Turns

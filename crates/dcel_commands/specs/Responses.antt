@@ -1,11 +1,9 @@
 -- What a line is answered.
-use Rattle.std.specs.Prelude.{ℕ, ◌<◌, Bool, List, [], ◌∷◌, ◌++◌, codes}
-use Rattle.std.specs.List.{flat_map}
-use Rattle.std.specs.Fmt.{decimal}
+use Rattle.std.specs.Prelude.{ℕ, ◌<◌, Bool, List, ◌++◌, codes}
 use Rattle.dcel_commands.specs.declared.refusal.Refusal.{Refusal}
 use Rattle.dcel_commands.specs.declared.response.Response.{Response}
 use Rattle.dcel_commands.specs.declared.response.Response.TheVariants as responses
-use Rattle.dcel_commands.specs.Lines.{line_feed}
+use Rattle.dcel_text.specs.Texts.{ended, listed, numbered}
 use Rattle.dcel_maps.specs.Shapes.{Shape}
 
 -- a reply, as far as it doesn't depend on the mesh
@@ -33,18 +31,6 @@ said responses.BadLine = BadLine
 abbrev pub IsAbout : Shape → Said → Type 0
 IsAbout s (OutEdges v) = v < s.vertices
 IsAbout s _ = Unit {0}
-
--- a line
-abbrev pub ended : List ℕ → List ℕ
-ended text = text ++ line_feed ∷ []
-
--- a word and a number
-abbrev pub numbered : List ℕ → ℕ → List ℕ
-numbered word n = word ++ decimal n
-
--- numbers, each after a space
-abbrev pub listed : List ℕ → List ℕ
-listed xs = flat_map (λ x. 32 ∷ decimal x) xs
 
 -- the line of a face: its number and the half edges round it
 abbrev pub face_line : ℕ → List ℕ → List ℕ

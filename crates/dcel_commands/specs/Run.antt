@@ -1,8 +1,8 @@
 -- What was read and written when a run is over.
 use Rattle.std.specs.Prelude.{◌≡◌, ℕ, Bool, true, false, List, Option}
 use Rattle.std.specs.Io.KnownBytes.{Consumes, Appends, IsAtEnd}
-use Rattle.dcel_commands.specs.Transfer.{KeepsOrHides, AppendsBeginning}
-use Rattle.dcel_commands.specs.Lines.{lines}
+use Rattle.dcel_text.specs.Transfer.{KeepsOrHides, AppendsBeginning}
+use Rattle.dcel_text.specs.Lines.{lines}
 use Rattle.dcel_commands.specs.Talk.{Talk}
 use Rattle.dcel_commands.specs.LineSteps.{start}
 

@@ -4,7 +4,8 @@ use Rattle.dcel_commands.specs.Grammar.{Given, Spells}
 use Rattle.dcel_commands.specs.declared.grammar.Word.{Word}
 use Rattle.dcel_commands.specs.Parsed.{IsBad}
 use Rattle.dcel_commands.specs.Refusal.{refusal_text}
-use Rattle.dcel_commands.specs.Responses.{Said, Done, Vertex, Counts, Words, OutEdges, Truth, Refused, BadLine, ended, numbered}
+use Rattle.dcel_commands.specs.Responses.{Said, Done, Vertex, Counts, Words, OutEdges, Truth, Refused, BadLine}
+use Rattle.dcel_text.specs.Texts.{ended, numbered}
 use Rattle.dcel_commands.specs.LineSteps.{State, Step}
 use Rattle.dcel_commands.specs.Faces.{words_text}
 use Rattle.dcel_commands.specs.Turns.{counts_text, turn_text}

@@ -2,7 +2,7 @@
 use Rattle.std.specs.Prelude.{ℕ, zero, suc, ◌*◌, ◌/◌, ◌==◌, Bool, false, cond, List, ◌++◌, Option, Some, None, if◌then◌else◌, codes}
 use Rattle.dcel_maps.specs.Shapes.{Shape, edge_is_live, origin_of, face_count}
 use Rattle.dcel_maps.specs.Walking.{walk_from, ccw_of}
-use Rattle.dcel_commands.specs.Responses.{ended, listed, numbered}
+use Rattle.dcel_text.specs.Texts.{ended, listed, numbered}
 
 -- `vertices N edges N faces N`, with undirected edges
 abbrev pub counts_text : Shape → List ℕ

@@ -5,11 +5,12 @@ mod command;
 mod dispatch;
 mod reply;
 
-pub use crate::faults::{Failed, RunFault};
+pub use crate::faults::RunFault;
 pub use crate::refusal::Refusal;
 pub use crate::run::run;
-pub use crate::sink::{LineSink, StdSink};
-pub use crate::source::{LineSource, StdSource};
 pub use command::Command;
+pub use dcel_text::faults::Failed;
+pub use dcel_text::sink::{LineSink, StdSink};
+pub use dcel_text::source::{LineSource, StdSource};
 pub use dispatch::apply;
 pub use reply::{Handed, Refused, Reply};

@@ -2,14 +2,14 @@
 
 ghost use Rattle.std.specs.Prelude.{◌≡◌, ◌<◌};
 ghost use Rattle.dcel_commands.specs.Faces.{line_of, words_text, word_round, IsLeastOnFace};
-ghost use Rattle.dcel_commands.specs.Output.{Wrote};
-ghost use Rattle.dcel_commands.specs.Responses.{listed};
+ghost use Rattle.dcel_text.specs.Output.{Writes};
+ghost use Rattle.dcel_text.specs.Texts.{listed};
 ghost use Rattle.spade_dcel.specs.Handles.{mesh_behind, number_of};
 ghost use Rattle.dcel_maps.specs.Shapes.{IsLive, IsMesh, IsSound, face_count, face_of};
 ghost use Rattle.dcel_maps.specs.Words.{word_of};
 
-use crate::output::Out;
-use crate::sink::LineSink;
+use dcel_text::output::Writer;
+use dcel_text::sink::LineSink;
 use spade_dcel::dcel::Dcel;
 use spade_dcel::handles::{
     DirectedEdgeHandle, FixedFaceHandle, PossiblyOuterTag, new_fixed_face_handle,
@@ -41,70 +41,66 @@ fn least_on_face<'a, V, DE, UE, F, A: Allocator>(
 
 /// Writes the half edges round a face from this one, the least of them, each after a space.
 fn write_word<V, DE, UE, F, A: Allocator, K: LineSink>(
-    sink: &mut K,
-    out: &mut Out,
+    out: &mut Writer<'_, K>,
     least: DirectedEdgeHandle<'_, V, DE, UE, F, A>,
 )
     requires sound { IsSound (mesh_behind least).shape }
     requires least { IsLeastOnFace (mesh_behind least).shape (number_of least) }
     ensures { let word = word_round (mesh_behind least.entry).shape (number_of least.entry) in
-        Wrote K.has_failed K.contents sink.old out.old sink.new out.new (listed word) }
+        Writes K.has_failed K.contents out.old out.new (listed word) }
 {
-    out.spaced_number(sink, least.index() as u64);
+    out.spaced_number(least.index() as u64);
     let mut edge = least.next();
     while edge.index() != least.index() {
-        out.spaced_number(sink, edge.index() as u64);
+        out.spaced_number(edge.index() as u64);
         edge = edge.next();
     }
 }
 
 /// Writes the half edges round a face, if it has any, from its least.
 fn write_half_edges<V, DE, UE, F, A: Allocator, K: LineSink>(
-    sink: &mut K,
-    out: &mut Out,
+    out: &mut Writer<'_, K>,
     dcel: &Dcel<V, DE, UE, F, A>,
     face: FixedFaceHandle<PossiblyOuterTag>,
 )
     requires mesh { IsMesh dcel.now }
     requires in_range { face < face_count dcel.now.shape }
-    ensures { Wrote K.has_failed K.contents sink.old out.old sink.new out.new (listed (word_of dcel.now.shape.words face)) }
+    ensures { Writes K.has_failed K.contents out.old out.new (listed (word_of dcel.now.shape.words face)) }
 {
     let Some(anchor) = dcel.face_adjacent_edge(face) else {
         return;
     };
-    write_word(sink, out, least_on_face(dcel.directed_edge(anchor)));
+    write_word(out, least_on_face(dcel.directed_edge(anchor)));
 }
 
 /// Writes the line of a face where it is live, and nothing where it isn't.
 fn write_face<V, DE, UE, F, A: Allocator, K: LineSink>(
-    sink: &mut K,
-    out: &mut Out,
+    out: &mut Writer<'_, K>,
     dcel: &Dcel<V, DE, UE, F, A>,
     face: FixedFaceHandle<PossiblyOuterTag>,
 )
     requires mesh { IsMesh dcel.now }
     requires in_range { face < face_count dcel.now.shape }
-    ensures { Wrote K.has_failed K.contents sink.old out.old sink.new out.new (line_of dcel.now.shape face) }
+    ensures { Writes K.has_failed K.contents out.old out.new (line_of dcel.now.shape face) }
 {
     if !dcel.is_live_face(face) {
         return;
     }
-    out.push(sink, b'F');
-    out.number(sink, face.index() as u64);
-    write_half_edges(sink, out, dcel, face);
-    out.push(sink, b'\n');
+    out.push(b'F');
+    out.number(face.index() as u64);
+    write_half_edges(out, dcel, face);
+    out.push(b'\n');
 }
 
 /// Writes a line for each live face: its number, and the half edges round it from the least on.
 pub fn write_words<V, DE, UE, F, A: Allocator, K: LineSink>(
-    sink: &mut K,
-    out: &mut Out,
+    out: &mut Writer<'_, K>,
     dcel: &Dcel<V, DE, UE, F, A>,
 )
-    ensures { Wrote K.has_failed K.contents sink.old out.old sink.new out.new (words_text dcel.now.shape) }
+    ensures { Writes K.has_failed K.contents out.old out.new (words_text dcel.now.shape) }
 {
     every_mesh(dcel);
     for index in 0..dcel.num_faces() {
-        write_face(sink, out, dcel, new_fixed_face_handle(index));
+        write_face(out, dcel, new_fixed_face_handle(index));
     }
 }

@@ -2,10 +2,6 @@
 
 use thiserror::Error;
 
-/// A read or a write failed.
-#[derive(Debug, Drop)]
-pub struct Failed;
-
 /// Why a run stopped before its end.
 #[derive(Debug, Drop, Error)]
 pub enum RunFault {

@@ -1,10 +1,10 @@
 //! From a line to its word and what is given to it.
 
-ghost use Rattle.dcel_commands.specs.Items.{left};
+ghost use Rattle.dcel_text.specs.Items.{left};
 ghost use Rattle.dcel_commands.specs.Parsed.{ReadsTail, Reads};
 
 use crate::grammar::{Args, Shape, Word, shape_after, word_written};
-use crate::items::{Rest, datum_then, first, is_end, last_datum, last_number, number_then};
+use dcel_text::items::{Rest, datum_then, first, is_end, last_datum, last_number, number_then};
 
 /// The most bytes that a line may have before its line feed.
 pub const LONGEST: usize = 4096;

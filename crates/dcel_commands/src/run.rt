@@ -5,8 +5,9 @@ ghost use Rattle.dcel_commands.specs.Run.{AnswersAll, AnswersWholeLines, Answers
 
 use crate::faults::RunFault;
 use crate::session::Session;
-use crate::sink::LineSink;
-use crate::source::LineSource;
+use dcel_text::output::Writer;
+use dcel_text::sink::LineSink;
+use dcel_text::source::LineSource;
 use std::alloc::Allocator;
 
 /// The most bytes that are read at once.
@@ -48,6 +49,7 @@ pub fn run<A: Allocator + Clone, S: LineSource, K: LineSink>(
         Err(_) => return Err(RunFault::Memory),
         Ok(session) => session,
     };
+    let mut out = Writer::new(sink);
     let mut piece = [0u8; PIECE];
     loop {
         let n = match source.fill(&mut piece) {
@@ -55,14 +57,16 @@ pub fn run<A: Allocator + Clone, S: LineSource, K: LineSink>(
             Ok(n) => n,
         };
         if n == 0 {
-            session.finish(sink, limit);
-            if sink.failed() {
+            session.finish(&mut out, limit);
+            out.flush();
+            if out.failed() {
                 return Err(RunFault::Write);
             }
             return Ok(());
         }
-        session.feed(sink, limit, &piece[..n]);
-        if sink.failed() {
+        session.feed(&mut out, limit, &piece[..n]);
+        out.flush();
+        if out.failed() {
             return Err(RunFault::Write);
         }
     }

@@ -1,27 +1,30 @@
-//! A conversation: the bytes of its lines come in pieces, and the replies go to a sink.
+//! A conversation: the bytes of its lines come in pieces, and the replies go to a writer.
 
-ghost use Rattle.std.specs.Prelude.{◌≡◌, ◌≤◌, ◌^◌, ◌++◌, ◌∷◌, ℕ, [], IfOk, MatchOption};
-ghost use Rattle.dcel_commands.specs.Lines.{HasNoFeed, line_feed};
+ghost use Rattle.std.specs.Prelude.{◌≡◌, ◌≤◌, ◌^◌, ◌++◌, ◌∷◌, ℕ, [], IfOk};
+ghost use Rattle.dcel_text.specs.Lines.{HasNoFeed, line_feed};
 ghost use Rattle.dcel_commands.specs.Responses.{said};
 ghost use Rattle.dcel_commands.specs.Stage.{Stage, Serves, Ends};
 ghost use Rattle.dcel_commands.specs.Talk.{Answers};
 ghost use Rattle.dcel_commands.specs.LineSteps.{start};
 
-use crate::line::Line;
-use crate::output::Out;
 use crate::parse::{Parsed, parse};
 use crate::response::{Response, write_response};
-use crate::sink::LineSink;
 use crate::steps::{LineMesh, new_mesh, step};
+use dcel_text::buffer::Buffer;
+use dcel_text::lines::split_line;
+use dcel_text::output::Writer;
+use dcel_text::sink::LineSink;
 use std::alloc::{AllocError, Allocator};
 use std::marker::Model;
 
-/// The mesh, the line that has begun, and the text that is held for the sink.
+/// One byte more than a line may have: a line that fills the buffer is too long, however it goes on.
+const FULL: usize = 4097;
+
+/// The mesh, and the line that has begun.
 #[derive(Drop)]
 pub struct Session<A: Allocator> {
     mesh: LineMesh<A>,
-    line: Line,
-    out: Out,
+    line: Buffer<FULL>,
 }
 
 impl<A: Allocator> Model for Session<A> {
@@ -29,7 +32,7 @@ impl<A: Allocator> Model for Session<A> {
 
     ghost Value = { Stage };
 
-    ghost view = { λ session. record { mesh = session.mesh; begun = session.line; held = session.out } };
+    ghost view = { λ session. record { mesh = session.mesh; begun = session.line } };
 }
 
 /// Carries out what a line says, or answers why not.
@@ -43,82 +46,54 @@ fn answer<A: Allocator + Clone>(mesh: &mut LineMesh<A>, limit: usize, line: &[u8
     }
 }
 
-/// The bytes before the first line feed, and those after it.
-fn split_line(bytes: &[u8]) -> Option<(&[u8], &[u8])>
-    ensures { MatchOption result
-        (HasNoFeed bytes.now)
-        (λ x. HasNoFeed x.0.now × (bytes.now ≡ x.0.now ++ line_feed ∷ x.1.now)) }
-{
-    for (i, b) in bytes.iter().enumerate() {
-        if *b == b'\n' {
-            return Some((&bytes[..i], &bytes[i + 1..]));
-        }
-    }
-    None
-}
-
 impl<A: Allocator + Clone> Session<A> {
     /// Nothing was read.
     pub fn new(alloc: A) -> Result<Self, AllocError>
-        ensures { IfOk result (λ session. session ≡ record { mesh = start; begun = []; held = [] }) }
+        ensures { IfOk result (λ session. session ≡ record { mesh = start; begun = [] }) }
     {
         let mesh = new_mesh(alloc)?;
         Ok(Session {
             mesh,
-            line: Line::new(),
-            out: Out::new(),
+            line: Buffer::new(),
         })
     }
 }
 
 impl<A: Allocator + Clone> Session<A> {
     /// Takes the last bytes of a line and answers it.
-    fn end_line<K: LineSink>(&mut self, sink: &mut K, limit: usize, last: &[u8])
+    fn end_line<K: LineSink>(&mut self, out: &mut Writer<'_, K>, limit: usize, last: &[u8])
         requires no_feed { HasNoFeed last.now }
         requires in_range { limit ≤ 2 ^ 31 }
-        ensures serves { Serves K.has_failed K.contents limit self.old self.new (last.now ++ line_feed ∷ []) sink.old sink.new }
+        ensures serves { Serves K.has_failed K.contents limit self.old self.new (last.now ++ line_feed ∷ []) out.old out.new }
         ensures empty { self.new.begun ≡ [] }
     {
-        self.line.extend(last);
+        self.line.add_some(last);
         let response = answer(&mut self.mesh, limit, self.line.as_slice());
         self.line.clear();
-        write_response(sink, &mut self.out, &self.mesh, &response);
+        write_response(out, &self.mesh, &response);
     }
 
-    /// Takes the next bytes, answers the lines that end in them, and holds no text any more.
-    pub fn feed<K: LineSink>(&mut self, sink: &mut K, limit: usize, piece: &[u8])
+    /// Takes the next bytes, and answers the lines that end in them.
+    pub fn feed<K: LineSink>(&mut self, out: &mut Writer<'_, K>, limit: usize, piece: &[u8])
         requires { limit ≤ 2 ^ 31 }
-        ensures serves { Serves K.has_failed K.contents limit self.old self.new piece.now sink.old sink.new }
-        ensures empty { self.new.held ≡ [] }
+        ensures { Serves K.has_failed K.contents limit self.old self.new piece.now out.old out.new }
     {
         let mut rest = piece;
         while let Some((line, others)) = split_line(rest) {
-            self.end_line(sink, limit, line);
+            self.end_line(out, limit, line);
             rest = others;
         }
-        self.keep(sink, rest);
+        self.line.add_some(rest);
     }
 
-    /// Keeps the bytes of a line that hasn't ended, and puts the text that is held.
-    fn keep<K: LineSink>(&mut self, sink: &mut K, rest: &[u8])
-        requires { HasNoFeed rest.now }
-        ensures serves { (limit : ℕ) → Serves K.has_failed K.contents limit self.old self.new rest.now sink.old sink.new }
-        ensures empty { self.new.held ≡ [] }
-    {
-        self.line.extend(rest);
-        self.out.flush(sink);
-    }
-
-    /// Answers a last line without a line feed, and puts the text that is held.
-    pub fn finish<K: LineSink>(&mut self, sink: &mut K, limit: usize)
+    /// Answers a last line without a line feed.
+    pub fn finish<K: LineSink>(&mut self, out: &mut Writer<'_, K>, limit: usize)
         requires { limit ≤ 2 ^ 31 }
-        ensures { Ends K.has_failed K.contents limit self.old sink.old sink.new }
+        ensures { Ends K.has_failed K.contents limit self.old out.old out.new }
     {
         if self.line.is_empty() {
-            self.out.flush(sink);
             return;
         }
-        self.end_line(sink, limit, &[]);
-        self.out.flush(sink);
+        self.end_line(out, limit, &[]);
     }
 }

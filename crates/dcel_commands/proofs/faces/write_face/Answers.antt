@@ -2,27 +2,25 @@ use Rattle.std.proofs.Common.{◌≡◌, ◌∷◌, ◌++◌, ◌∙◌, [], con
 use Rattle.std.specs.Fmt.{decimal}
 use Rattle.dcel_maps.specs.Shapes.{face_is_live}
 use Rattle.dcel_maps.specs.Words.{word_of}
-use Rattle.dcel_commands.specs.Output.{Wrote}
-use Rattle.dcel_commands.specs.Responses.{face_line, listed}
-use Rattle.dcel_commands.proofs.Writing.{writing_nothing, writing_then, writing_text}
+use Rattle.dcel_commands.specs.Responses.{face_line}
+use Rattle.dcel_text.specs.Texts.{listed}
+use Rattle.dcel_text.proofs.Writing.{writes_nothing, writes_and, writes_text}
 use Rattle.dcel_commands.proofs.faces.write_face.Goals as goal
 
 pub returns-then-not-is_live_face : goal.returns-then-not-is_live_face
-unfolding Wrote
 returns-then-not-is_live_face g c =
     let s = c.args.dcel.now.shape in
     let f = c.args.face in
     let dead : face_is_live s f ≡ false = sym c.is_live_face.ensures ∙ c.if-not-is_live_face.true in
-    writing_text (sym (ap (λ b. cond b (face_line f (word_of s.words f)) []) dead)) writing_nothing
+    writes_text (sym (ap (λ b. cond b (face_line f (word_of s.words f)) []) dead)) writes_nothing
 
 pub returns : goal.returns
-unfolding Wrote
 returns g c =
     let s = c.args.dcel.now.shape in
     let f = c.args.face in
     let live : face_is_live s f ≡ true = sym c.is_live_face.ensures ∙ c.if-not-is_live_face.false in
-    let written = writing_then (writing_then (writing_then c.push.ensures c.number.ensures) c.write_half_edges.ensures) c.push-2.ensures in
-    writing_text
+    let written = writes_and (writes_and (writes_and c.push.ensures c.number.ensures) c.write_half_edges.ensures) c.push-2.ensures in
+    writes_text
     (ap (λ n. (70 ∷ decimal n ++ listed (word_of s.words f)) ++ 10 ∷ []) c.index.ensures.value
     ∙ sym (ap (λ b. cond b (face_line f (word_of s.words f)) []) live))
     written

@@ -1,5 +1,5 @@
 use Rattle.std.proofs.Common.{subst, arith}
-use Rattle.dcel_commands.specs.Items.{left}
+use Rattle.dcel_text.specs.Items.{left}
 use Rattle.dcel_commands.specs.Parsed.{ReadsTail, given}
 use Rattle.dcel_commands.specs.declared.parse.Tail.TheVariants as tails
 use Rattle.dcel_commands.proofs.Spelling.{bad_word, bad_tail, spelled_by_items}

@@ -1,4 +1,4 @@
-use Rattle.dcel_commands.specs.Items.{left}
+use Rattle.dcel_text.specs.Items.{left}
 use Rattle.dcel_commands.proofs.Spelling.{second_datum_missing}
 use Rattle.dcel_commands.proofs.parse.three_data.Goals as goal
 

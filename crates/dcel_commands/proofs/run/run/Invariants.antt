@@ -8,10 +8,10 @@ abbrev pub invariant-loop-session : goal.invariant-loop-session
 invariant-loop-session g l = record {
   bytes : List ℕ;
   read : Consumes (g.S.LineSource.remaining l.fn.source) (g.S.LineSource.remaining l.source) bytes;
-  served : Serves g.K.LineSink.has_failed g.K.LineSink.contents l.limit origin l.session bytes l.fn.sink l.sink;
-  empty : l.session.held ≡ [];
+  served : Serves g.K.LineSink.has_failed g.K.LineSink.contents l.limit origin l.session bytes l.initial.out l.out;
+  empty : l.out.held ≡ [];
   source_calm : g.S.LineSource.has_failed l.source ≡ false;
-  sink_calm : g.K.LineSink.has_failed l.sink ≡ false;
+  sink_calm : g.K.LineSink.has_failed l.out.sink.now ≡ false;
 }
 
 abbrev pub decreases-loop-session : goal.decreases-loop-session

@@ -1,7 +1,7 @@
 use Rattle.std.proofs.Common.{[], ◌∷◌, ◌++◌, refl, sym}
-use Rattle.dcel_commands.specs.Lines.{line_feed}
-use Rattle.dcel_commands.proofs.LineEnds.{front-line}
-use Rattle.dcel_commands.proofs.Serving.{serves_nothing, serves_then, serves_bytes}
+use Rattle.dcel_text.specs.Lines.{line_feed}
+use Rattle.dcel_text.proofs.LineEnds.{front-line}
+use Rattle.dcel_commands.proofs.Serving.{serves_nothing, serves_then, serves_rest, serves_bytes}
 use Rattle.dcel_commands.proofs.session.Session.feed.Goals as goal
 
 pub loop-line-init : goal.loop-line-init
@@ -17,7 +17,7 @@ loop-line-preserved g c =
       served = serves_then so_far.served c.end_line.ensures.serves;
     }
 
-pub returns-clause-serves : goal.returns-clause-serves
-returns-clause-serves g c =
+pub returns : goal.returns
+returns g c =
     let so_far = c.loop-line.invariant in
-    serves_bytes (sym so_far.whole) (serves_then so_far.served (c.keep.ensures.serves c.args.limit))
+    serves_bytes (sym so_far.whole) (serves_then so_far.served (rw (← c.self.view_is) (serves_rest c.in_default.ensures c.add_some.ensures)))

@@ -7,7 +7,7 @@ abbrev pub invariant-loop-line : goal.invariant-loop-line
 invariant-loop-line g l = record {
   front : List ℕ;
   whole : l.fn.piece ≡ front ++ l.rest;
-  served : Serves g.K.LineSink.has_failed g.K.LineSink.contents l.limit l.fn.self l.self front l.fn.sink l.sink;
+  served : Serves g.K.LineSink.has_failed g.K.LineSink.contents l.limit l.fn.self l.self front l.fn.out l.out;
 }
 
 abbrev pub decreases-loop-line : goal.decreases-loop-line

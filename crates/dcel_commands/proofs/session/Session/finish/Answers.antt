@@ -5,10 +5,9 @@ use Rattle.dcel_commands.proofs.Serving.{ends_nothing, ends_line}
 use Rattle.dcel_commands.proofs.session.Session.finish.Goals as goal
 
 pub returns-then-is_empty : goal.returns-then-is_empty
-returns-then-is_empty g c = rw (← c.self.view_is) (ends_nothing (c.is_empty.ensures.0 c.if-is_empty.true) c.flush.ensures.empty c.flush.ensures.wrote)
+returns-then-is_empty g c = rw (← c.self.view_is) (ends_nothing (c.is_empty.ensures.0 c.if-is_empty.true))
 
 pub returns : goal.returns
 returns g c =
     let begun = λ (s : Stage). s.begun in
-    ends_line (λ e. false≢true (sym c.if-is_empty.false ∙ c.is_empty.ensures.1 (ap begun c.self.view_is ∙ e)))
-    (ap begun c.self-2.view_is ∙ c.end_line.ensures.empty) (rw (← c.self-2.view_is) at c.end_line.ensures.serves) c.flush-2.ensures.empty c.flush-2.ensures.wrote
+    ends_line (λ e. false≢true (sym c.if-is_empty.false ∙ c.is_empty.ensures.1 (ap begun c.self.view_is ∙ e))) c.end_line.ensures.empty c.end_line.ensures.serves

@@ -1,6 +1,0 @@
-use Rattle.std.proofs.Common.{take}
-use Rattle.dcel_commands.specs.Lines.{HasNoFeed}
-use Rattle.dcel_commands.proofs.session.split_line.Given as goal
-
-abbrev pub invariant-loop-i : goal.invariant-loop-i
-invariant-loop-i l = HasNoFeed (take l.i l.bytes)

@@ -1,0 +1,6 @@
+pub mod Cutting
+pub mod Decimals
+pub mod Digits
+pub mod LineEnds
+pub mod Listing
+pub mod Writing

@@ -1,0 +1,95 @@
+//! Bytes, up to a number of them.
+
+ghost use Rattle.std.specs.Prelude.{◌≡◌, ◌↔◌, ◌+◌, ◌≤◌, ◌++◌, [], IsTrue, length, take};
+ghost use Rattle.std.specs.Fmt.{decimal};
+
+use crate::numbers::{count_digits, put_digits};
+use std::marker::Model;
+
+/// At most N bytes.
+#[derive(Drop)]
+pub struct Buffer<const N: usize> {
+    bytes: [u8; N],
+    len: usize,
+}
+
+impl<const N: usize> Model for Buffer<N> {
+    ghost use Rattle.std.specs.Prelude.{◌≤◌, ℕ, List, take};
+
+    ghost Value = { List ℕ };
+
+    ghost view = { λ buffer. take buffer.len buffer.bytes };
+
+    ghost invariant = { λ buffer. buffer.len ≤ N };
+}
+
+impl<const N: usize> Buffer<N> {
+    /// No byte.
+    pub fn new() -> Self
+        ensures { result ≡ [] }
+    {
+        Buffer {
+            bytes: [0; N],
+            len: 0,
+        }
+    }
+
+    /// How many more there is room for.
+    pub fn room(&self) -> usize
+        ensures { length self.now + result ≡ N }
+    {
+        N - self.len
+    }
+
+    /// Adds the bytes.
+    pub fn add(&mut self, bytes: &[u8])
+        requires { length self.old + length bytes.now ≤ N }
+        ensures { self.new ≡ self.old ++ bytes.now }
+    {
+        let end = self.len + bytes.len();
+        let all = &mut self.bytes[..];
+        all[self.len..end].copy_from_slice(bytes);
+        self.len = end;
+    }
+
+    /// Adds the decimals of a number.
+    pub fn add_number(&mut self, n: u64)
+        requires { length self.old + 20 ≤ N }
+        ensures { self.new ≡ self.old ++ decimal n }
+    {
+        let end = self.len + count_digits(n);
+        let all = &mut self.bytes[..];
+        put_digits(&mut all[self.len..end], n);
+        self.len = end;
+    }
+
+    /// Adds the bytes, as far as there is room for them.
+    pub fn add_some(&mut self, bytes: &[u8])
+        ensures { self.new ≡ take N (self.old ++ bytes.now) }
+    {
+        let count = bytes.len().min(self.room());
+        self.add(&bytes[..count]);
+    }
+
+    /// The bytes.
+    pub fn as_slice(&self) -> &[u8]
+        ensures { result.now ≡ self.now }
+    {
+        let all = &self.bytes[..];
+        &all[..self.len]
+    }
+
+    /// Whether there is none.
+    pub fn is_empty(&self) -> bool
+        ensures { IsTrue result ↔ (self.now ≡ []) }
+    {
+        self.len == 0
+    }
+
+    /// Takes all bytes away.
+    pub fn clear(&mut self)
+        ensures { self.new ≡ [] }
+    {
+        self.len = 0;
+    }
+}

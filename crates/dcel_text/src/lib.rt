@@ -1,0 +1,11 @@
+//! Text: bytes from a source, cut into lines and their items; numbers in digits; and text on its way to a sink.
+#![tactic(auto)]
+
+pub mod buffer;
+pub mod faults;
+pub mod items;
+pub mod lines;
+mod numbers;
+pub mod output;
+pub mod sink;
+pub mod source;
