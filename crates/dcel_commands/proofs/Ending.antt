@@ -6,8 +6,7 @@ use Rattle.std.proofs.lemmas.Bool.{false≢true}
 use Rattle.dcel_commands.specs.Transfer.{KeepsOrHides, AppendsBeginning}
 use Rattle.dcel_commands.specs.Lines.{lines, joined}
 use Rattle.dcel_commands.specs.Output.{Writing, Wrote}
-use Rattle.dcel_commands.specs.LineSteps.{start}
-use Rattle.dcel_commands.specs.Talk.{Talk}
+use Rattle.dcel_commands.specs.Talk.{Talk, start}
 use Rattle.dcel_commands.specs.Stage.{Stage, Goes, Leads, Serves, Ends}
 use Rattle.dcel_commands.specs.Run.{AnswersAll, AnswersWholeLines, AnswersInPart}
 use Rattle.dcel_commands.proofs.LineEnds.{lines-nil, joined-whole}

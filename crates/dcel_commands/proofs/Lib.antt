@@ -1,4 +1,3 @@
-pub mod Answering
 pub mod Columns
 pub mod Cutting
 pub mod Decimals
@@ -8,6 +7,7 @@ pub mod FaceWalks
 pub mod LineEnds
 pub mod Listing
 pub mod OutEdges
+pub mod Room
 pub mod Rounds
 pub mod Serving
 pub mod Spelling

@@ -2,8 +2,7 @@
 use Rattle.std.specs.Prelude.{ℕ, Bool, true, List, [], ◌++◌, Option}
 use Rattle.dcel_commands.specs.Lines.{lines, joined}
 use Rattle.dcel_commands.specs.Output.{Wrote}
-use Rattle.dcel_commands.specs.Talk.{Talk}
-use Rattle.dcel_commands.specs.LineSteps.{State}
+use Rattle.dcel_commands.specs.Talk.{State, Talk}
 
 -- where a conversation stands: the mesh, the bytes of the line that has begun, and the text that is held for the sink
 pub record Stage : Type 0 where

@@ -12,4 +12,5 @@ pub use crate::sink::{LineSink, StdSink};
 pub use crate::source::{LineSource, StdSource};
 pub use command::Command;
 pub use dispatch::apply;
+pub(crate) use dispatch::carry_out;
 pub use reply::{Handed, Refused, Reply};

@@ -2,17 +2,13 @@
 
 ghost use Rattle.std.specs.Prelude.{◌≡◌, ◌≤◌, ◌^◌, ◌++◌, ◌∷◌, ℕ, [], IfOk, MatchOption};
 ghost use Rattle.dcel_commands.specs.Lines.{HasNoFeed, line_feed};
-ghost use Rattle.dcel_commands.specs.Responses.{said};
 ghost use Rattle.dcel_commands.specs.Stage.{Stage, Serves, Ends};
-ghost use Rattle.dcel_commands.specs.Talk.{Answers};
-ghost use Rattle.dcel_commands.specs.LineSteps.{start};
+ghost use Rattle.dcel_commands.specs.Talk.{start};
 
+use crate::answering::{LineMesh, answer, new_mesh};
 use crate::line::Line;
 use crate::output::Out;
-use crate::parse::{Parsed, parse};
-use crate::response::{Response, write_response};
 use crate::sink::LineSink;
-use crate::steps::{LineMesh, new_mesh, step};
 use std::alloc::{AllocError, Allocator};
 use std::marker::Model;
 
@@ -30,17 +26,6 @@ impl<A: Allocator> Model for Session<A> {
     ghost Value = { Stage };
 
     ghost view = { λ session. record { mesh = session.mesh; begun = session.line; held = session.out } };
-}
-
-/// Carries out what a line says, or answers why not.
-fn answer<A: Allocator + Clone>(mesh: &mut LineMesh<A>, limit: usize, line: &[u8]) -> Response
-    requires { limit ≤ 2 ^ 31 }
-    ensures { Answers limit mesh.old line.now (said result) mesh.new }
-{
-    match parse(line) {
-        Parsed::Bad => Response::BadLine,
-        Parsed::Line(word, args) => step(mesh, limit, word, args),
-    }
 }
 
 /// The bytes before the first line feed, and those after it.
@@ -80,9 +65,14 @@ impl<A: Allocator + Clone> Session<A> {
         ensures empty { self.new.begun ≡ [] }
     {
         self.line.extend(last);
-        let response = answer(&mut self.mesh, limit, self.line.as_slice());
+        answer(
+            sink,
+            &mut self.out,
+            &mut self.mesh,
+            limit,
+            self.line.as_slice(),
+        );
         self.line.clear();
-        write_response(sink, &mut self.out, &self.mesh, &response);
     }
 
     /// Takes the next bytes, answers the lines that end in them, and holds no text any more.

@@ -1,0 +1,64 @@
+//! `insert B F`
+
+ghost use Rattle.std.specs.Prelude.{◌≤◌, ◌^◌, codes, MatchResult};
+ghost use Rattle.dcel_commands.specs.Items.{left};
+ghost use Rattle.dcel_commands.specs.Spelling.{Says};
+ghost use Rattle.dcel_commands.specs.Steps.{Carries, Legal, Refuses};
+
+use crate::asking::{ask, has_inner_face, has_room, has_vertex};
+use crate::commands::{Command, Refused, Reply};
+use crate::given::{inner_face, two_numbers, vertex};
+use crate::items::Rest;
+use crate::refusal::Refusal;
+use crate::request::Request;
+use dcel_fixed::{FixedFaceHandle, FixedVertexHandle, InnerTag};
+use spade_dcel::dcel::Dcel;
+use spade_dcel::operations::insert_into_triangle;
+use std::alloc::Allocator;
+
+/// What the line says after its word.
+#[tactic(auto, unfolding(crate::specs::Spelling::Says))]
+pub fn read<'a>(rest: Rest<'a>) -> Option<Request>
+    ensures { Says (codes "insert") (left rest.entry) result }
+{
+    let (v, f) = two_numbers(rest)?;
+    Some(Request::Edit(Command::Insert(vertex(v), inner_face(f))))
+}
+
+// Tests what the command asks.
+#[tactic(auto, unfolding(crate::specs::Steps::Legal, crate::specs::Steps::Refuses))]
+fn check<V, DE, UE, F, A: Allocator>(
+    dcel: &Dcel<V, DE, UE, F, A>,
+    vertex: FixedVertexHandle,
+    face: FixedFaceHandle<InnerTag>,
+    limit: usize,
+) -> Result<(), Refusal>
+    requires { limit ≤ 2 ^ 31 }
+    ensures { MatchResult result
+        (λ _. Legal {V = V} dcel.now.shape limit (Command.Insert vertex face))
+        (Refuses {V = V} dcel.now.shape limit (Command.Insert vertex face)) }
+{
+    ask(has_vertex(dcel, vertex), Refusal::NoSuchVertex)?;
+    ask(has_inner_face(dcel, face), Refusal::NoSuchFace)?;
+    ask(dcel.is_live_vertex(vertex), Refusal::GivenUp)?;
+    ask(dcel.is_live_face(face), Refusal::GivenUp)?;
+    ask(dcel.is_unconnected(vertex), Refusal::VertexInUse)?;
+    ask(dcel.is_triangle(face), Refusal::NotTriangle)?;
+    ask(has_room(dcel, limit, 0, 3, 2), Refusal::NoRoom)
+}
+
+/// Carries the command out.
+#[tactic(auto, using(crate::proofs::Room::has_room_within), unfolding(crate::specs::Steps::Legal))]
+pub fn carry_out<V, DE: Default, UE: Default, F: Default, A: Allocator>(
+    dcel: &mut Dcel<V, DE, UE, F, A>,
+    vertex: FixedVertexHandle,
+    face: FixedFaceHandle<InnerTag>,
+    limit: usize,
+) -> Result<Reply, Refused<V>>
+    requires { limit ≤ 2 ^ 31 }
+    ensures { Carries DE.is_default UE.is_default F.is_default limit dcel.old (Command.Insert vertex face) result dcel.new }
+{
+    check(dcel, vertex, face, limit)?;
+    let inserted = insert_into_triangle(dcel, vertex, face)?;
+    Ok(Reply::Vertex(inserted))
+}
