@@ -1,8 +1,9 @@
 -- What queries are told.
-use Rattle.std.specs.Prelude.{◌≡◌, ◌⊎◌, ℕ, List}
+use Rattle.std.specs.Prelude.{◌≡◌, ◌⊎◌, ℕ, Bool, List, Option, Result, Ok, Err}
 use Rattle.dcel_commands.specs.declared.refusal.Refusal.{Refusal}
 use Rattle.dcel_commands.specs.declared.request.Query.{Query}
 use Rattle.dcel_commands.specs.declared.request.Query.TheVariants.{Counts, Words, Out, Origin, Check}
+use Rattle.dcel_commands.specs.Answering.{WroteSome}
 use Rattle.dcel_commands.specs.Conditions.{Entry, AllMet, FirstUnmet}
 use Rattle.dcel_commands.specs.Refusal.{refusal_text}
 use Rattle.dcel_commands.specs.Rules.{QueryRule}
@@ -25,8 +26,15 @@ query_rule Check = check
 abbrev pub query_asks : Query → List Entry
 query_asks query = (query_rule query).asks
 
--- the text answers the query, or tells the refusal of the first condition that isn't met
+-- the query was answered, or it is refused by the first condition that isn't met
 abbrev pub Told : Shape → Query → List ℕ → Type 0
 Told s query text =
     (AllMet s (query_asks query) × (query_rule query).Tells s text)
     ⊎ ((why : Refusal) × FirstUnmet s (query_asks query) why × (text ≡ refusal_text why))
+
+-- the answer was written, or the query is refused and nothing was
+abbrev pub Tells : {K U : Type 0} → (K → Bool) → (K → Option (List ℕ)) → K → List ℕ → Shape → Query → Result U Refusal → K → List ℕ → Type 0
+Tells has_failed contents old before s query (Ok _) new after =
+    AllMet s (query_asks query) × WroteSome has_failed contents old before new after (λ text. (query_rule query).Tells s text)
+Tells has_failed contents old before s query (Err why) new after =
+    FirstUnmet s (query_asks query) why × (new ≡ old) × (after ≡ before)

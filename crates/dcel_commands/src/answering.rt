@@ -2,17 +2,16 @@
 
 ghost use Rattle.std.specs.Prelude.{◌≡◌, ◌≤◌, ◌^◌, IfOk};
 ghost use Rattle.dcel_commands.specs.Answering.{WroteSome};
-ghost use Rattle.dcel_commands.specs.Queries.{Told};
+ghost use Rattle.dcel_commands.specs.Queries.{Tells};
 ghost use Rattle.dcel_commands.specs.Talk.{Answers, start};
 
 use crate::commands::carry_out;
-use crate::faces::write_words;
 use crate::output::Out;
 use crate::reading::read;
-use crate::replies::write_outcome;
-use crate::request::{Query, Request, check, origin, out as out_edges};
+use crate::refusal::Refusal;
+use crate::replies::{write_refusal, write_reply};
+use crate::request::{Query, Request, check, counts, origin, out as out_edges, words};
 use crate::sink::LineSink;
-use crate::turns::write_counts;
 use spade_dcel::dcel::Dcel;
 use spade_dcel::operations;
 use std::alloc::{AllocError, Allocator};
@@ -27,20 +26,25 @@ pub fn new_mesh<A: Allocator + Clone>(alloc: A) -> Result<LineMesh<A>, AllocErro
     operations::new(alloc)
 }
 
-/// Writes what a query is told.
-fn tell<A: Allocator, K: LineSink>(sink: &mut K, out: &mut Out, mesh: &LineMesh<A>, query: Query)
-    ensures { WroteSome K.has_failed K.contents sink.old out.old sink.new out.new (Told mesh.now.shape query) }
+/// Writes what a query is told, or refuses it, by the line that it is.
+fn tell<A: Allocator, K: LineSink>(
+    sink: &mut K,
+    out: &mut Out,
+    mesh: &LineMesh<A>,
+    query: Query,
+) -> Result<(), Refusal>
+    ensures { Tells K.has_failed K.contents sink.old out.old mesh.now.shape query result sink.new out.new }
 {
     match query {
-        Query::Counts => write_counts(sink, out, mesh),
-        Query::Words => write_words(sink, out, mesh),
+        Query::Counts => counts::tell(sink, out, mesh),
+        Query::Words => words::tell(sink, out, mesh),
         Query::Out(vertex) => out_edges::tell(sink, out, mesh, vertex),
         Query::Origin(edge) => origin::tell(sink, out, mesh, edge),
         Query::Check => check::tell(sink, out, mesh),
     }
 }
 
-/// Does what a line says, and writes its answer.
+/// Does what a line says, and writes the answer.
 pub fn answer<A: Allocator + Clone, K: LineSink>(
     sink: &mut K,
     out: &mut Out,
@@ -53,10 +57,13 @@ pub fn answer<A: Allocator + Clone, K: LineSink>(
 {
     match read(line) {
         None => out.write(sink, b"bad line\n"),
-        Some(Request::Edit(command)) => {
-            let outcome = carry_out(mesh, command, limit);
-            write_outcome(sink, out, outcome);
-        }
-        Some(Request::Ask(query)) => tell(sink, out, mesh, query),
+        Some(Request::Edit(command)) => match carry_out(mesh, command, limit) {
+            Ok(reply) => write_reply(sink, out, reply),
+            Err(refused) => write_refusal(sink, out, refused.why),
+        },
+        Some(Request::Ask(query)) => match tell(sink, out, mesh, query) {
+            Ok(()) => {}
+            Err(why) => write_refusal(sink, out, why),
+        },
     }
 }

@@ -2,9 +2,9 @@
 
 ghost use Rattle.dcel_commands.specs.Output.{Wrote};
 ghost use Rattle.dcel_commands.specs.Refusal.{refusal_text};
-ghost use Rattle.dcel_commands.specs.Replies.{outcome_text, reply_text};
+ghost use Rattle.dcel_commands.specs.Replies.{reply_text};
 
-use crate::commands::{Refused, Reply};
+use crate::commands::Reply;
 use crate::output::Out;
 use crate::refusal::Refusal;
 use crate::sink::LineSink;
@@ -31,14 +31,4 @@ pub fn write_reply<K: LineSink>(sink: &mut K, out: &mut Out, reply: Reply)
         Reply::Vertex(vertex) => out.numbered(sink, b"vertex ", vertex.index() as u64),
     }
     out.push(sink, b'\n');
-}
-
-/// Writes the reply to a command, or why it was refused.
-pub fn write_outcome<K: LineSink>(sink: &mut K, out: &mut Out, outcome: Result<Reply, Refused<i64>>)
-    ensures { Wrote K.has_failed K.contents sink.old out.old sink.new out.new (outcome_text outcome) }
-{
-    match outcome {
-        Ok(reply) => write_reply(sink, out, reply),
-        Err(refused) => write_refusal(sink, out, refused.why),
-    }
 }

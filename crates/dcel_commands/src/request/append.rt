@@ -1,11 +1,11 @@
 //! `append D`
 
-ghost use Rattle.std.specs.Prelude.{◌≤◌, ◌^◌, codes, MatchResult};
+ghost use Rattle.std.specs.Prelude.{◌≤◌, ◌^◌, codes};
 ghost use Rattle.dcel_commands.specs.Items.{left};
 ghost use Rattle.dcel_commands.specs.Spelling.{Says};
-ghost use Rattle.dcel_commands.specs.Steps.{Carries, Legal, Refuses};
+ghost use Rattle.dcel_commands.specs.Steps.{Carries};
 
-use crate::asking::{ask, has_room};
+use crate::asking::has_room;
 use crate::commands::{Command, Handed, Refused, Reply};
 use crate::items::{Rest, last_datum};
 use crate::refusal::Refusal;
@@ -23,22 +23,8 @@ pub fn read<'a>(rest: Rest<'a>) -> Option<Request>
     Some(Request::Edit(Command::Append(datum)))
 }
 
-// Tests what the command asks.
-#[tactic(auto, unfolding(crate::specs::Steps::Legal, crate::specs::Steps::Refuses))]
-fn check<V, DE, UE, F, A: Allocator>(
-    dcel: &Dcel<V, DE, UE, F, A>,
-    limit: usize,
-) -> Result<(), Refusal>
-    requires { limit ≤ 2 ^ 31 }
-    ensures { MatchResult result
-        (λ _. (datum : V) → Legal dcel.now.shape limit (Command.Append datum))
-        (λ why. (datum : V) → Refuses dcel.now.shape limit (Command.Append datum) why) }
-{
-    ask(has_room(dcel, limit, 1, 0, 0), Refusal::NoRoom)
-}
-
 /// Carries the command out.
-#[tactic(auto, using(crate::proofs::Room::has_room_within), unfolding(crate::specs::Steps::Legal))]
+#[tactic(auto, using(crate::proofs::Room::has_room_within), unfolding(crate::specs::Steps::Legal, crate::specs::Steps::Refuses))]
 pub fn carry_out<V, DE: Default, UE: Default, F: Default, A: Allocator>(
     dcel: &mut Dcel<V, DE, UE, F, A>,
     datum: V,
@@ -47,9 +33,9 @@ pub fn carry_out<V, DE: Default, UE: Default, F: Default, A: Allocator>(
     requires { limit ≤ 2 ^ 31 }
     ensures { Carries DE.is_default UE.is_default F.is_default limit dcel.old (Command.Append datum) result dcel.new }
 {
-    if let Err(why) = check(dcel, limit) {
+    if !has_room(dcel, limit, 1, 0, 0) {
         return Err(Refused {
-            why,
+            why: Refusal::NoRoom,
             back: Handed::One(datum),
         });
     }

@@ -1,13 +1,13 @@
 //! `check`
 
 ghost use Rattle.std.specs.Prelude.{codes};
-ghost use Rattle.dcel_commands.specs.Answering.{WroteSome};
 ghost use Rattle.dcel_commands.specs.Items.{left};
-ghost use Rattle.dcel_commands.specs.Queries.{Told};
+ghost use Rattle.dcel_commands.specs.Queries.{Tells};
 ghost use Rattle.dcel_commands.specs.Spelling.{Says};
 
 use crate::items::{Rest, is_end};
 use crate::output::Out;
+use crate::refusal::Refusal;
 use crate::request::{Query, Request};
 use crate::sink::LineSink;
 use spade_dcel::dcel::Dcel;
@@ -30,12 +30,13 @@ pub fn tell<V, DE, UE, F, A: Allocator, K: LineSink>(
     sink: &mut K,
     out: &mut Out,
     dcel: &Dcel<V, DE, UE, F, A>,
-)
-    ensures { WroteSome K.has_failed K.contents sink.old out.old sink.new out.new (Told dcel.now.shape Query.Check) }
+) -> Result<(), Refusal>
+    ensures { Tells K.has_failed K.contents sink.old out.old dcel.now.shape Query.Check result sink.new out.new }
 {
     if dcel.sanity_check() {
         out.write(sink, b"true\n");
     } else {
         out.write(sink, b"false\n");
     }
+    Ok(())
 }

@@ -1,9 +1,9 @@
 //! `extend A B`
 
-ghost use Rattle.std.specs.Prelude.{◌≤◌, ◌^◌, codes, MatchResult};
+ghost use Rattle.std.specs.Prelude.{◌≤◌, ◌^◌, codes};
 ghost use Rattle.dcel_commands.specs.Items.{left};
 ghost use Rattle.dcel_commands.specs.Spelling.{Says};
-ghost use Rattle.dcel_commands.specs.Steps.{Carries, Legal, Refuses};
+ghost use Rattle.dcel_commands.specs.Steps.{Carries};
 
 use crate::asking::{ask, has_room, has_vertex};
 use crate::commands::{Command, Refused, Reply};
@@ -25,31 +25,8 @@ pub fn read<'a>(rest: Rest<'a>) -> Option<Request>
     Some(Request::Edit(Command::Extend(vertex(a), vertex(b))))
 }
 
-// Tests what the command asks.
-#[tactic(auto, unfolding(crate::specs::Steps::Legal, crate::specs::Steps::Refuses))]
-fn check<V, DE, UE, F, A: Allocator>(
-    dcel: &Dcel<V, DE, UE, F, A>,
-    end_vertex: FixedVertexHandle,
-    new_vertex: FixedVertexHandle,
-    limit: usize,
-) -> Result<(), Refusal>
-    requires { limit ≤ 2 ^ 31 }
-    ensures { MatchResult result
-        (λ _. Legal {V = V} dcel.now.shape limit (Command.Extend end_vertex new_vertex))
-        (Refuses {V = V} dcel.now.shape limit (Command.Extend end_vertex new_vertex)) }
-{
-    ask(has_vertex(dcel, end_vertex), Refusal::NoSuchVertex)?;
-    ask(has_vertex(dcel, new_vertex), Refusal::NoSuchVertex)?;
-    ask(dcel.is_live_vertex(end_vertex), Refusal::GivenUp)?;
-    ask(dcel.is_live_vertex(new_vertex), Refusal::GivenUp)?;
-    ask(end_vertex != new_vertex, Refusal::SameVertex)?;
-    ask(dcel.is_unconnected(new_vertex), Refusal::VertexInUse)?;
-    ask(dcel.is_line_end(end_vertex), Refusal::NotLineEnd)?;
-    ask(has_room(dcel, limit, 0, 1, 0), Refusal::NoRoom)
-}
-
 /// Carries the command out.
-#[tactic(auto, using(crate::proofs::Room::has_room_within), unfolding(crate::specs::Steps::Legal))]
+#[tactic(auto, using(crate::proofs::Room::has_room_within), unfolding(crate::specs::Steps::Legal, crate::specs::Steps::Refuses))]
 pub fn carry_out<V, DE: Default, UE: Default, F: Default, A: Allocator>(
     dcel: &mut Dcel<V, DE, UE, F, A>,
     end_vertex: FixedVertexHandle,
@@ -59,7 +36,14 @@ pub fn carry_out<V, DE: Default, UE: Default, F: Default, A: Allocator>(
     requires { limit ≤ 2 ^ 31 }
     ensures { Carries DE.is_default UE.is_default F.is_default limit dcel.old (Command.Extend end_vertex new_vertex) result dcel.new }
 {
-    check(dcel, end_vertex, new_vertex, limit)?;
+    ask(has_vertex(dcel, end_vertex), Refusal::NoSuchVertex)?;
+    ask(has_vertex(dcel, new_vertex), Refusal::NoSuchVertex)?;
+    ask(dcel.is_live_vertex(end_vertex), Refusal::GivenUp)?;
+    ask(dcel.is_live_vertex(new_vertex), Refusal::GivenUp)?;
+    ask(end_vertex != new_vertex, Refusal::SameVertex)?;
+    ask(dcel.is_unconnected(new_vertex), Refusal::VertexInUse)?;
+    ask(dcel.is_line_end(end_vertex), Refusal::NotLineEnd)?;
+    ask(has_room(dcel, limit, 0, 1, 0), Refusal::NoRoom)?;
     let vertex = extend_line(dcel, end_vertex, new_vertex)?;
     Ok(Reply::Vertex(vertex))
 }

@@ -1,9 +1,9 @@
 //! `insert B F`
 
-ghost use Rattle.std.specs.Prelude.{◌≤◌, ◌^◌, codes, MatchResult};
+ghost use Rattle.std.specs.Prelude.{◌≤◌, ◌^◌, codes};
 ghost use Rattle.dcel_commands.specs.Items.{left};
 ghost use Rattle.dcel_commands.specs.Spelling.{Says};
-ghost use Rattle.dcel_commands.specs.Steps.{Carries, Legal, Refuses};
+ghost use Rattle.dcel_commands.specs.Steps.{Carries};
 
 use crate::asking::{ask, has_inner_face, has_room, has_vertex};
 use crate::commands::{Command, Refused, Reply};
@@ -25,30 +25,8 @@ pub fn read<'a>(rest: Rest<'a>) -> Option<Request>
     Some(Request::Edit(Command::Insert(vertex(v), inner_face(f))))
 }
 
-// Tests what the command asks.
-#[tactic(auto, unfolding(crate::specs::Steps::Legal, crate::specs::Steps::Refuses))]
-fn check<V, DE, UE, F, A: Allocator>(
-    dcel: &Dcel<V, DE, UE, F, A>,
-    vertex: FixedVertexHandle,
-    face: FixedFaceHandle<InnerTag>,
-    limit: usize,
-) -> Result<(), Refusal>
-    requires { limit ≤ 2 ^ 31 }
-    ensures { MatchResult result
-        (λ _. Legal {V = V} dcel.now.shape limit (Command.Insert vertex face))
-        (Refuses {V = V} dcel.now.shape limit (Command.Insert vertex face)) }
-{
-    ask(has_vertex(dcel, vertex), Refusal::NoSuchVertex)?;
-    ask(has_inner_face(dcel, face), Refusal::NoSuchFace)?;
-    ask(dcel.is_live_vertex(vertex), Refusal::GivenUp)?;
-    ask(dcel.is_live_face(face), Refusal::GivenUp)?;
-    ask(dcel.is_unconnected(vertex), Refusal::VertexInUse)?;
-    ask(dcel.is_triangle(face), Refusal::NotTriangle)?;
-    ask(has_room(dcel, limit, 0, 3, 2), Refusal::NoRoom)
-}
-
 /// Carries the command out.
-#[tactic(auto, using(crate::proofs::Room::has_room_within), unfolding(crate::specs::Steps::Legal))]
+#[tactic(auto, using(crate::proofs::Room::has_room_within), unfolding(crate::specs::Steps::Legal, crate::specs::Steps::Refuses))]
 pub fn carry_out<V, DE: Default, UE: Default, F: Default, A: Allocator>(
     dcel: &mut Dcel<V, DE, UE, F, A>,
     vertex: FixedVertexHandle,
@@ -58,7 +36,13 @@ pub fn carry_out<V, DE: Default, UE: Default, F: Default, A: Allocator>(
     requires { limit ≤ 2 ^ 31 }
     ensures { Carries DE.is_default UE.is_default F.is_default limit dcel.old (Command.Insert vertex face) result dcel.new }
 {
-    check(dcel, vertex, face, limit)?;
+    ask(has_vertex(dcel, vertex), Refusal::NoSuchVertex)?;
+    ask(has_inner_face(dcel, face), Refusal::NoSuchFace)?;
+    ask(dcel.is_live_vertex(vertex), Refusal::GivenUp)?;
+    ask(dcel.is_live_face(face), Refusal::GivenUp)?;
+    ask(dcel.is_unconnected(vertex), Refusal::VertexInUse)?;
+    ask(dcel.is_triangle(face), Refusal::NotTriangle)?;
+    ask(has_room(dcel, limit, 0, 3, 2), Refusal::NoRoom)?;
     let inserted = insert_into_triangle(dcel, vertex, face)?;
     Ok(Reply::Vertex(inserted))
 }

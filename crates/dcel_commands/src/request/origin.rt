@@ -1,10 +1,8 @@
 //! `origin H`
 
-ghost use Rattle.std.specs.Prelude.{codes, MatchResult};
-ghost use Rattle.dcel_commands.specs.Answering.{WroteSome};
-ghost use Rattle.dcel_commands.specs.Conditions.{AllMet, FirstUnmet};
+ghost use Rattle.std.specs.Prelude.{codes};
 ghost use Rattle.dcel_commands.specs.Items.{left};
-ghost use Rattle.dcel_commands.specs.Queries.{query_asks, Told};
+ghost use Rattle.dcel_commands.specs.Queries.{Tells};
 ghost use Rattle.dcel_commands.specs.Spelling.{Says};
 
 use crate::asking::{ask, has_half_edge};
@@ -13,7 +11,7 @@ use crate::given::half_edge;
 use crate::items::{Rest, last_number};
 use crate::output::Out;
 use crate::refusal::Refusal;
-use crate::replies::{write_refusal, write_reply};
+use crate::replies::write_reply;
 use crate::request::{Query, Request};
 use crate::sink::LineSink;
 use dcel_fixed::FixedDirectedEdgeHandle;
@@ -29,34 +27,21 @@ pub fn read<'a>(rest: Rest<'a>) -> Option<Request>
     Some(Request::Ask(Query::Origin(half_edge(number))))
 }
 
-// Tests what the query asks.
-fn check<V, DE, UE, F, A: Allocator>(
-    dcel: &Dcel<V, DE, UE, F, A>,
-    edge: FixedDirectedEdgeHandle,
-) -> Result<(), Refusal>
-    ensures { MatchResult result
-        (λ _. AllMet dcel.now.shape (query_asks (Query.Origin edge)))
-        (FirstUnmet dcel.now.shape (query_asks (Query.Origin edge))) }
-{
-    ask(has_half_edge(dcel, edge), Refusal::NoSuchEdge)?;
-    ask(dcel.is_live_edge(edge.as_undirected()), Refusal::GivenUp)
-}
-
-/// Writes the answer, or why there is none.
+/// Writes the answer, or refuses and writes nothing.
 pub fn tell<V, DE, UE, F, A: Allocator, K: LineSink>(
     sink: &mut K,
     out: &mut Out,
     dcel: &Dcel<V, DE, UE, F, A>,
     edge: FixedDirectedEdgeHandle,
-)
-    ensures { WroteSome K.has_failed K.contents sink.old out.old sink.new out.new (Told dcel.now.shape (Query.Origin edge)) }
+) -> Result<(), Refusal>
+    ensures { Tells K.has_failed K.contents sink.old out.old dcel.now.shape (Query.Origin edge) result sink.new out.new }
 {
-    match check(dcel, edge) {
-        Ok(()) => write_reply(
-            sink,
-            out,
-            Reply::Vertex(dcel.directed_edge(edge).from().fix()),
-        ),
-        Err(why) => write_refusal(sink, out, why),
-    }
+    ask(has_half_edge(dcel, edge), Refusal::NoSuchEdge)?;
+    ask(dcel.is_live_edge(edge.as_undirected()), Refusal::GivenUp)?;
+    write_reply(
+        sink,
+        out,
+        Reply::Vertex(dcel.directed_edge(edge).from().fix()),
+    );
+    Ok(())
 }

@@ -1,10 +1,8 @@
 //! `out V`
 
-ghost use Rattle.std.specs.Prelude.{codes, MatchResult};
-ghost use Rattle.dcel_commands.specs.Answering.{WroteSome};
-ghost use Rattle.dcel_commands.specs.Conditions.{AllMet, FirstUnmet};
+ghost use Rattle.std.specs.Prelude.{codes};
 ghost use Rattle.dcel_commands.specs.Items.{left};
-ghost use Rattle.dcel_commands.specs.Queries.{query_asks, Told};
+ghost use Rattle.dcel_commands.specs.Queries.{Tells};
 ghost use Rattle.dcel_commands.specs.Spelling.{Says};
 
 use crate::asking::{ask, has_vertex};
@@ -12,7 +10,6 @@ use crate::given::vertex;
 use crate::items::{Rest, last_number};
 use crate::output::Out;
 use crate::refusal::Refusal;
-use crate::replies::write_refusal;
 use crate::request::{Query, Request};
 use crate::sink::LineSink;
 use crate::turns::write_out_edges;
@@ -29,30 +26,17 @@ pub fn read<'a>(rest: Rest<'a>) -> Option<Request>
     Some(Request::Ask(Query::Out(vertex(number))))
 }
 
-// Tests what the query asks.
-fn check<V, DE, UE, F, A: Allocator>(
-    dcel: &Dcel<V, DE, UE, F, A>,
-    vertex: FixedVertexHandle,
-) -> Result<(), Refusal>
-    ensures { MatchResult result
-        (λ _. AllMet dcel.now.shape (query_asks (Query.Out vertex)))
-        (FirstUnmet dcel.now.shape (query_asks (Query.Out vertex))) }
-{
-    ask(has_vertex(dcel, vertex), Refusal::NoSuchVertex)?;
-    ask(dcel.is_live_vertex(vertex), Refusal::GivenUp)
-}
-
-/// Writes the answer, or why there is none.
+/// Writes the answer, or refuses and writes nothing.
 pub fn tell<V, DE, UE, F, A: Allocator, K: LineSink>(
     sink: &mut K,
     out: &mut Out,
     dcel: &Dcel<V, DE, UE, F, A>,
     vertex: FixedVertexHandle,
-)
-    ensures { WroteSome K.has_failed K.contents sink.old out.old sink.new out.new (Told dcel.now.shape (Query.Out vertex)) }
+) -> Result<(), Refusal>
+    ensures { Tells K.has_failed K.contents sink.old out.old dcel.now.shape (Query.Out vertex) result sink.new out.new }
 {
-    match check(dcel, vertex) {
-        Ok(()) => write_out_edges(sink, out, dcel, vertex),
-        Err(why) => write_refusal(sink, out, why),
-    }
+    ask(has_vertex(dcel, vertex), Refusal::NoSuchVertex)?;
+    ask(dcel.is_live_vertex(vertex), Refusal::GivenUp)?;
+    write_out_edges(sink, out, dcel, vertex);
+    Ok(())
 }

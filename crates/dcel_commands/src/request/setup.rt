@@ -1,9 +1,9 @@
 //! `setup A B`
 
-ghost use Rattle.std.specs.Prelude.{◌≤◌, ◌^◌, codes, MatchResult};
+ghost use Rattle.std.specs.Prelude.{◌≤◌, ◌^◌, codes};
 ghost use Rattle.dcel_commands.specs.Items.{left};
 ghost use Rattle.dcel_commands.specs.Spelling.{Says};
-ghost use Rattle.dcel_commands.specs.Steps.{Carries, Legal, Refuses};
+ghost use Rattle.dcel_commands.specs.Steps.{Carries};
 
 use crate::asking::{ask, has_room, has_vertex};
 use crate::commands::{Command, Refused, Reply};
@@ -25,30 +25,8 @@ pub fn read<'a>(rest: Rest<'a>) -> Option<Request>
     Some(Request::Edit(Command::Setup(vertex(a), vertex(b))))
 }
 
-// Tests what the command asks.
-#[tactic(auto, unfolding(crate::specs::Steps::Legal, crate::specs::Steps::Refuses))]
-fn check<V, DE, UE, F, A: Allocator>(
-    dcel: &Dcel<V, DE, UE, F, A>,
-    first_vertex: FixedVertexHandle,
-    second_vertex: FixedVertexHandle,
-    limit: usize,
-) -> Result<(), Refusal>
-    requires { limit ≤ 2 ^ 31 }
-    ensures { MatchResult result
-        (λ _. Legal {V = V} dcel.now.shape limit (Command.Setup first_vertex second_vertex))
-        (Refuses {V = V} dcel.now.shape limit (Command.Setup first_vertex second_vertex)) }
-{
-    ask(has_vertex(dcel, first_vertex), Refusal::NoSuchVertex)?;
-    ask(has_vertex(dcel, second_vertex), Refusal::NoSuchVertex)?;
-    ask(dcel.is_live_vertex(first_vertex), Refusal::GivenUp)?;
-    ask(dcel.is_live_vertex(second_vertex), Refusal::GivenUp)?;
-    ask(first_vertex != second_vertex, Refusal::SameVertex)?;
-    ask(dcel.num_undirected_edges() == 0, Refusal::EdgesStand)?;
-    ask(has_room(dcel, limit, 0, 1, 0), Refusal::NoRoom)
-}
-
 /// Carries the command out.
-#[tactic(auto, using(crate::proofs::Room::has_room_within), unfolding(crate::specs::Steps::Legal))]
+#[tactic(auto, using(crate::proofs::Room::has_room_within), unfolding(crate::specs::Steps::Legal, crate::specs::Steps::Refuses))]
 pub fn carry_out<V, DE: Default, UE: Default, F: Default, A: Allocator>(
     dcel: &mut Dcel<V, DE, UE, F, A>,
     first_vertex: FixedVertexHandle,
@@ -58,7 +36,13 @@ pub fn carry_out<V, DE: Default, UE: Default, F: Default, A: Allocator>(
     requires { limit ≤ 2 ^ 31 }
     ensures { Carries DE.is_default UE.is_default F.is_default limit dcel.old (Command.Setup first_vertex second_vertex) result dcel.new }
 {
-    check(dcel, first_vertex, second_vertex, limit)?;
+    ask(has_vertex(dcel, first_vertex), Refusal::NoSuchVertex)?;
+    ask(has_vertex(dcel, second_vertex), Refusal::NoSuchVertex)?;
+    ask(dcel.is_live_vertex(first_vertex), Refusal::GivenUp)?;
+    ask(dcel.is_live_vertex(second_vertex), Refusal::GivenUp)?;
+    ask(first_vertex != second_vertex, Refusal::SameVertex)?;
+    ask(dcel.num_undirected_edges() == 0, Refusal::EdgesStand)?;
+    ask(has_room(dcel, limit, 0, 1, 0), Refusal::NoRoom)?;
     setup_initial_two_vertices(dcel, first_vertex, second_vertex)?;
     Ok(Reply::Ok)
 }

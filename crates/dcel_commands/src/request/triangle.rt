@@ -1,11 +1,11 @@
 //! `triangle D D D`
 
-ghost use Rattle.std.specs.Prelude.{◌≡◌, ◌≤◌, ◌^◌, codes, MatchResult};
+ghost use Rattle.std.specs.Prelude.{◌≡◌, codes};
 ghost use Rattle.dcel_commands.specs.Items.{left};
 ghost use Rattle.dcel_commands.specs.Spelling.{Says};
-ghost use Rattle.dcel_commands.specs.Steps.{Carries, Legal, Refuses};
+ghost use Rattle.dcel_commands.specs.Steps.{Carries};
 
-use crate::asking::{are_within, ask};
+use crate::asking::are_within;
 use crate::commands::{Command, Handed, Refused, Reply};
 use crate::given::three_data;
 use crate::items::Rest;
@@ -24,20 +24,8 @@ pub fn read<'a>(rest: Rest<'a>) -> Option<Request>
     Some(Request::Edit(Command::Triangle(x, y, z)))
 }
 
-// Tests what the command asks.
-#[tactic(auto, unfolding(crate::specs::Steps::Legal, crate::specs::Steps::Refuses))]
-fn check<V, DE, UE, F, A: Allocator>(
-    dcel: &Dcel<V, DE, UE, F, A>,
-    limit: usize,
-) -> Result<(), Refusal>
-    ensures { MatchResult result
-        (λ _. (x y z : V) → Legal dcel.now.shape limit (Command.Triangle x y z))
-        (λ why. (x y z : V) → Refuses dcel.now.shape limit (Command.Triangle x y z) why) }
-{
-    ask(are_within(limit, 3, 3, 2), Refusal::NoRoom)
-}
-
 /// Carries the command out.
+#[tactic(auto, unfolding(crate::specs::Steps::Legal, crate::specs::Steps::Refuses))]
 pub fn carry_out<
     V: Drop,
     DE: Default + Drop,
@@ -47,8 +35,8 @@ pub fn carry_out<
 >(dcel: &mut Dcel<V, DE, UE, F, A>, vertices: (V, V, V), limit: usize) -> Result<Reply, Refused<V>>
     ensures { Carries DE.is_default UE.is_default F.is_default limit dcel.old (Command.Triangle vertices.0 vertices.1 vertices.2) result dcel.new }
 {
-    if let Err(why) = check(dcel, limit) {
-        return Err(refused(why, vertices));
+    if !are_within(limit, 3, 3, 2) {
+        return Err(refused(Refusal::NoRoom, vertices));
     }
     let alloc = match dcel.allocator().clone() {
         Ok(alloc) => alloc,

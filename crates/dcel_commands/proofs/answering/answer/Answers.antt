@@ -1,18 +1,36 @@
-use Rattle.std.proofs.Common.{refl}
+use Rattle.std.proofs.Common.{refl, inl, inr, Ok, Err}
 use Rattle.dcel_commands.specs.declared.request.Request.TheVariants.{Edit, Ask}
 use Rattle.dcel_commands.specs.Talk.{says}
 use Rattle.dcel_commands.proofs.answering.answer.Goals as goal
 
-pub returns-in-Some-Edit : goal.returns-in-Some-Edit
-returns-in-Some-Edit g c = record {
+pub returns-in-Ok : goal.returns-in-Ok
+returns-in-Ok g c = record {
   text = _;
-  wrote = c.write_outcome.ensures;
-  fits = says (Edit c.in-Some-Edit.command) (rw c.in-Some-Edit.field-0-is at c.in-Some-Edit.ensures) (c.carry_out-outcome.result, c.carry_out-outcome.ensures, refl);
+  wrote = c.write_reply.ensures;
+  fits = says (Edit c.in-Some-Edit.command) (rw c.in-Some-Edit.field-0-is at c.in-Some-Edit.ensures) (Ok c.in-Ok.reply, c.in-Ok.ensures, refl);
 }
 
-pub returns-in-Some-Ask : goal.returns-in-Some-Ask
-returns-in-Some-Ask g c = record {
-  text = c.tell.ensures.text;
-  wrote = c.tell.ensures.wrote;
-  fits = says (Ask c.in-Some-Ask.query) (rw c.in-Some-Ask.field-0-is at c.in-Some-Ask.ensures) (c.tell.ensures.fits, refl);
+pub returns-in-Err : goal.returns-in-Err
+returns-in-Err g c = record {
+  text = _;
+  wrote = c.write_refusal.ensures;
+  fits = says (Edit c.in-Some-Edit.command) (rw c.in-Some-Edit.field-0-is at c.in-Some-Edit.ensures) (Err c.in-Err.refused, c.in-Err.ensures, refl);
 }
+
+pub returns-in-Ok-tell : goal.returns-in-Ok-tell
+returns-in-Ok-tell g c =
+    let told = c.in-Ok-tell.ensures in
+    record {
+      text = told.1.text;
+      wrote = told.1.wrote;
+      fits = says (Ask c.in-Some-Ask.query) (rw c.in-Some-Ask.field-0-is at c.in-Some-Ask.ensures) (inl (told.0, told.1.fits), refl);
+    }
+
+pub returns-in-Err-tell : goal.returns-in-Err-tell
+returns-in-Err-tell g c =
+    let why = c.in-Err-tell.ensures in
+    record {
+      text = _;
+      wrote = rw (← why.1, ← why.2) c.write_refusal-in-Err-tell.ensures;
+      fits = says (Ask c.in-Some-Ask.query) (rw c.in-Some-Ask.field-0-is at c.in-Some-Ask.ensures) (inr (c.in-Err-tell.why, why.0, refl), refl);
+    }
