@@ -7,7 +7,6 @@ pub mod FaceWalks
 pub mod LineEnds
 pub mod Listing
 pub mod OutEdges
-pub mod Room
 pub mod Rounds
 pub mod Serving
 pub mod Spelling

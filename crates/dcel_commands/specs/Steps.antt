@@ -28,11 +28,11 @@ abbrev pub asks : {V : Type 0} → ℕ → Command V → List Entry
 asks limit command = (command_rule command).asks limit
 
 -- the command meets all that it asks
-unfoldable pub Legal : {V : Type 0} → Shape → ℕ → Command V → Type 0
+abbrev pub Legal : {V : Type 0} → Shape → ℕ → Command V → Type 0
 Legal s limit command = AllMet s (asks limit command)
 
 -- the command is refused so: the first that it asks and that isn't met has this refusal
-unfoldable pub Refuses : {V : Type 0} → Shape → ℕ → Command V → Refusal → Type 0
+abbrev pub Refuses : {V : Type 0} → Shape → ℕ → Command V → Refusal → Type 0
 Refuses s limit command why = FirstUnmet s (asks limit command) why
 
 -- the command is answered so and leaves this mesh, with default data for new half edges, edges and faces

@@ -1,6 +1,7 @@
 //! The parts of what lines ask of a mesh.
 
 ghost use Rattle.std.specs.Prelude.{◌≡◌, ◌↔◌, ◌+◌, ◌*◌, ◌<◌, ◌≤◌, ◌^◌, false, IsTrue, MatchResult};
+ghost use Rattle.dcel_maps.specs.Edits.{HasRoom};
 ghost use Rattle.dcel_maps.specs.Shapes.{face_count};
 ghost use Rattle.dcel_commands.specs.Conditions.{AreWithin};
 
@@ -62,8 +63,10 @@ pub fn has_room<V, DE, UE, F, A: Allocator>(
     faces: usize,
 ) -> bool
     requires { limit ≤ 2 ^ 31 }
-    ensures { let shape = dcel.now.shape in
+    ensures within { let shape = dcel.now.shape in
         IsTrue result ↔ AreWithin limit (shape.vertices + vertices) (shape.edges + edges) (face_count shape + faces) }
+    // The limit is so low that numbers are left where it isn't passed.
+    ensures room { IsTrue result → HasRoom dcel.now.shape vertices edges faces }
 {
     are_within(
         limit,

@@ -26,7 +26,6 @@ pub fn read<'a>(rest: Rest<'a>) -> Option<Request>
 }
 
 /// Carries the command out.
-#[tactic(auto, using(crate::proofs::Room::has_room_within), unfolding(crate::specs::Steps::Legal, crate::specs::Steps::Refuses))]
 pub fn carry_out<V, DE: Default, UE: Default, F: Default, A: Allocator>(
     dcel: &mut Dcel<V, DE, UE, F, A>,
     end_vertex: FixedVertexHandle,

@@ -25,7 +25,6 @@ pub fn read<'a>(rest: Rest<'a>) -> Option<Request>
 }
 
 /// Carries the command out.
-#[tactic(auto, unfolding(crate::specs::Steps::Legal, crate::specs::Steps::Refuses))]
 pub fn carry_out<
     V: Drop,
     DE: Default + Drop,

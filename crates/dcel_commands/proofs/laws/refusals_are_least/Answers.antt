@@ -1,14 +1,12 @@
 use Rattle.dcel_commands.specs.Queries.{query_asks}
-use Rattle.dcel_commands.specs.Steps.{Legal, Refuses, asks}
+use Rattle.dcel_commands.specs.Steps.{asks}
 use Rattle.dcel_commands.proofs.Columns.{FirstUnmet-not_met, FirstUnmet-least}
 use Rattle.dcel_commands.proofs.laws.refusals_are_least.Goals as goal
 
 pub returns-clause-illegal : goal.returns-clause-illegal
-unfolding Legal Refuses
 returns-clause-illegal g c = λ s limit command why. FirstUnmet-not_met s (asks limit command) why
 
 pub returns-clause-least : goal.returns-clause-least
-unfolding Refuses
 returns-clause-least g c = λ s limit command why. FirstUnmet-least s (asks limit command) why (c.columns_ascend.ensures.commands limit command)
 
 pub returns-clause-unanswered : goal.returns-clause-unanswered
