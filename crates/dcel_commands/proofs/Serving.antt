@@ -6,7 +6,7 @@ use Rattle.std.proofs.lemmas.List.{length-append, length-take-le, take_all}
 use Rattle.dcel_commands.specs.Lines.{line_feed, lines, joined, HasNoFeed}
 use Rattle.dcel_commands.specs.Output.{Wrote}
 use Rattle.dcel_commands.specs.Answering.{WroteSome}
-use Rattle.dcel_commands.specs.Talk.{Answers, State, Talk, bad_line, says}
+use Rattle.dcel_commands.specs.Talk.{Answers, State, Talk, bad_line, good_line}
 use Rattle.dcel_commands.specs.Stage.{Stage, Goes, Leads, Serves, Ends}
 use Rattle.dcel_commands.proofs.LineEnds.{lines-nil, lines-feed, joined-append, joined-cons, joined-whole, joined-unended, lines-begun, lines-line}
 use Rattle.dcel_commands.proofs.Writing.{wrote_nothing, wrote_then}
@@ -19,7 +19,7 @@ length-nonempty (b ∷ l) some = omega arith
 
 answers_long : (limit : ℕ) (m : State) (k l text : List ℕ) (t : State) → 4096 < length k → 4096 < length l → Answers limit m k text t → Answers limit m l text t
 answers_long limit m k l text t hk hl (bad_line bad e same) = bad_line (λ request h. absurd (omega (arith, h.short))) e same
-answers_long limit m k l text t hk hl (says request h does) = absurd (omega (arith, h.short))
+answers_long limit m k l text t hk hl (good_line request h does) = absurd (omega (arith, h.short))
 
 short_or_long : (l : List ℕ) → (take 4097 l ≡ l) ⊎ ((4096 < length (take 4097 l)) × (4096 < length l))
 short_or_long l =

@@ -74,9 +74,9 @@ value_of : Item ℤ → ℤ
 value_of (Number n) = pos n
 value_of (Datum d) = d
 
-natural : ℤ → ℕ
-natural (pos n) = n
-natural (negsuc n) = 0
+number_in : ℤ → ℕ
+number_in (pos n) = n
+number_in (negsuc n) = 0
 
 nothing : Request → List ℤ → Option Request
 nothing make [] = Some make
@@ -103,18 +103,18 @@ request_of : List ℕ → List ℤ → Option Request
 request_of = request_in (
     (codes "append", one (λ d. Edit (Append d))) ∷
     (codes "triangle", three (λ x y z. Edit (Triangle x y z))) ∷
-    (codes "setup", two (λ a b. Edit (Setup (natural a) (natural b)))) ∷
-    (codes "extend", two (λ a b. Edit (Extend (natural a) (natural b)))) ∷
-    (codes "insert", two (λ v f. Edit (Insert (natural v) (natural f)))) ∷
+    (codes "setup", two (λ a b. Edit (Setup (number_in a) (number_in b)))) ∷
+    (codes "extend", two (λ a b. Edit (Extend (number_in a) (number_in b)))) ∷
+    (codes "insert", two (λ v f. Edit (Insert (number_in v) (number_in f)))) ∷
     (codes "counts", nothing (Ask Counts)) ∷
     (codes "words", nothing (Ask Words)) ∷
-    (codes "out", one (λ v. Ask (Out (natural v)))) ∷
-    (codes "origin", one (λ h. Ask (Origin (natural h)))) ∷
+    (codes "out", one (λ v. Ask (Out (number_in v)))) ∷
+    (codes "origin", one (λ h. Ask (Origin (number_in h)))) ∷
     (codes "check", nothing (Ask Check)) ∷
     [])
 
 request_of-word : (request : Request) → request_of (word request) (map value_of (given request)) ≡ Some request
-unfolding request_of request_in nothing one two three value_of natural
+unfolding request_of request_in nothing one two three value_of number_in
 request_of-word (Edit (Append datum)) = refl
 request_of-word (Ask Counts) = refl
 request_of-word _ = refl

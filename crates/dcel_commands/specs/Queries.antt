@@ -33,8 +33,8 @@ Told s query text =
     ⊎ ((why : Refusal) × FirstUnmet s (query_asks query) why × (text ≡ refusal_text why))
 
 -- the answer was written, or the query is refused and nothing was
-abbrev pub Tells : {K U : Type 0} → (K → Bool) → (K → Option (List ℕ)) → K → List ℕ → Shape → Query → Result U Refusal → K → List ℕ → Type 0
-Tells has_failed contents old before s query (Ok _) new after =
+abbrev pub TellsOrRefuses : {K U : Type 0} → (K → Bool) → (K → Option (List ℕ)) → K → List ℕ → Shape → Query → Result U Refusal → K → List ℕ → Type 0
+TellsOrRefuses has_failed contents old before s query (Ok _) new after =
     AllMet s (query_asks query) × WroteSome has_failed contents old before new after (λ text. (query_rule query).Tells s text)
-Tells has_failed contents old before s query (Err why) new after =
+TellsOrRefuses has_failed contents old before s query (Err why) new after =
     FirstUnmet s (query_asks query) why × (new ≡ old) × (after ≡ before)

@@ -42,7 +42,7 @@ Step is_half is_edge is_face old command reply new = (command_rule command).Make
 -- a refusal of the command: by the first condition that isn't met, or for want of memory where all are; its data come back
 pub record IsRefusal {V : Type 0} (s : Shape) (limit : ℕ) (command : Command V) (refused : Refused V) : Type 0 where
   pub why : Refuses s limit command refused.why ⊎ ((refused.why ≡ OutOfMemory) × IsTrue (command_rule command).takes_memory × Legal s limit command)
-  pub back : refused.back ≡ (command_rule command).carries
+  pub back : refused.back ≡ (command_rule command).handed
 
 -- the command was legal and is carried out, or it is refused and changes nothing
 abbrev pub Carries : {V DE UE F : Type 0} → (DE → Type 0) → (UE → Type 0) → (F → Type 0) → ℕ → Mesh V DE UE F → Command V → Result Reply (Refused V) → Mesh V DE UE F → Type 0

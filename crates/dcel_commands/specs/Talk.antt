@@ -33,7 +33,7 @@ Does limit old (Ask query) text new = Told old.shape query text × (new ≡ old)
 -- the text that a line may be answered by, and the mesh that it leaves
 pub data Answers (limit : ℕ) (old : State) (line text : List ℕ) (new : State) : Type 0 where
   bad_line : ((request : Request) → ¬ Spells request line) → text ≡ ended (codes "bad line") → new ≡ old → Answers limit old line text new
-  says : (request : Request) → Spells request line → Does limit old request text new → Answers limit old line text new
+  good_line : (request : Request) → Spells request line → Does limit old request text new → Answers limit old line text new
 
 -- from the mesh the lines may be answered by this text
 abbrev pub Talk : ℕ → State → List (List ℕ) → List ℕ → Type 0

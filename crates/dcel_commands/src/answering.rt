@@ -2,7 +2,7 @@
 
 ghost use Rattle.std.specs.Prelude.{◌≡◌, ◌≤◌, ◌^◌, IfOk};
 ghost use Rattle.dcel_commands.specs.Answering.{WroteSome};
-ghost use Rattle.dcel_commands.specs.Queries.{Tells};
+ghost use Rattle.dcel_commands.specs.Queries.{TellsOrRefuses};
 ghost use Rattle.dcel_commands.specs.Talk.{Answers, start};
 
 use crate::commands::carry_out;
@@ -33,7 +33,7 @@ fn tell<A: Allocator, K: LineSink>(
     mesh: &LineMesh<A>,
     query: Query,
 ) -> Result<(), Refusal>
-    ensures { Tells K.has_failed K.contents sink.old out.old mesh.now.shape query result sink.new out.new }
+    ensures { TellsOrRefuses K.has_failed K.contents sink.old out.old mesh.now.shape query result sink.new out.new }
 {
     match query {
         Query::Counts => counts::tell(sink, out, mesh),

@@ -5,8 +5,15 @@ ghost use Rattle.std.specs.Fmt.{decimal, signed_decimal};
 ghost use Rattle.dcel_commands.specs.Grammar.{IsNumber, IsDatum};
 ghost use Rattle.dcel_commands.specs.Items.{left};
 
-use crate::items::{Rest, datum_then, last_datum, last_number, number_then};
+use crate::items::{Rest, datum_then, is_end, last_datum, last_number, number_then};
 use dcel_fixed::{FixedDirectedEdgeHandle, FixedFaceHandle, FixedVertexHandle, InnerTag};
+
+/// Nothing.
+pub fn nothing<'a>(rest: Rest<'a>) -> Option<()>
+    ensures { MatchOption result (left rest.entry ≢ []) (λ _. left rest.entry ≡ []) }
+{
+    if is_end(rest) { Some(()) } else { None }
+}
 
 /// Three data and nothing else.
 pub fn three_data<'a>(rest: Rest<'a>) -> Option<(i64, i64, i64)>

@@ -11,8 +11,16 @@ pub mod setup;
 pub mod triangle;
 pub mod words;
 
-use crate::commands::Command;
-use dcel_fixed::{FixedDirectedEdgeHandle, FixedVertexHandle};
+use crate::asking::{are_within, ask, has_half_edge, has_inner_face, has_room, has_vertex};
+use crate::commands::{Command, Handed, Refused, Reply};
+use crate::given::{half_edge, inner_face, nothing, three_data, two_numbers, vertex};
+use crate::items::{Rest, last_datum, last_number};
+use crate::output::Out;
+use crate::refusal::Refusal;
+use crate::sink::LineSink;
+use dcel_fixed::{FixedDirectedEdgeHandle, FixedFaceHandle, FixedVertexHandle, InnerTag};
+use spade_dcel::dcel::Dcel;
+use std::alloc::Allocator;
 
 /// What a line can be told about a mesh, which stays as it is.
 #[derive(Clone, Copy)]

@@ -23,6 +23,6 @@ extend a b = record {
       ∷ (NoRoom, RoomFor limit 0 1 0)
       ∷ [];
   takes_memory = true;
-  carries = Nothing;
+  handed = Nothing;
   Makes = λ is_half is_edge is_face old reply new. (reply ≡ Vertex b) × AddsEdge is_half is_edge new (line_extended old a b);
 }

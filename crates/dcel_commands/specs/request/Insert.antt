@@ -22,6 +22,6 @@ insert v f = record {
       ∷ (NoRoom, RoomFor limit 0 3 2)
       ∷ [];
   takes_memory = true;
-  carries = Nothing;
+  handed = Nothing;
   Makes = λ is_half is_edge is_face old reply new. (reply ≡ Vertex v) × AddsEdgesAndFaces is_half is_edge is_face 3 2 new (vertex_inserted old v f);
 }

@@ -22,6 +22,6 @@ setup a b = record {
       ∷ (NoRoom, RoomFor limit 0 1 0)
       ∷ [];
   takes_memory = true;
-  carries = Nothing;
+  handed = Nothing;
   Makes = λ is_half is_edge is_face old reply new. (reply ≡ Ok) × AddsEdge is_half is_edge new (first_edge_added old a b);
 }

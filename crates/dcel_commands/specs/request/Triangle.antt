@@ -14,6 +14,6 @@ triangle x y z = record {
   given = Datum x ∷ Datum y ∷ Datum z ∷ [];
   asks = λ limit. (NoRoom, RoomForMesh limit 3 3 2) ∷ [];
   takes_memory = true;
-  carries = Three x y z;
+  handed = Three x y z;
   Makes = λ is_half is_edge is_face old reply new. (reply ≡ Ok) × AddsEdgesAndFaces is_half is_edge is_face 3 2 new (triangle_alone (x, y, z));
 }

@@ -5,14 +5,8 @@ ghost use Rattle.dcel_commands.specs.Items.{left};
 ghost use Rattle.dcel_commands.specs.Spelling.{Says};
 ghost use Rattle.dcel_commands.specs.Steps.{Carries};
 
-use crate::asking::has_room;
-use crate::commands::{Command, Handed, Refused, Reply};
-use crate::items::{Rest, last_datum};
-use crate::refusal::Refusal;
-use crate::request::Request;
-use spade_dcel::dcel::Dcel;
+use super::*;
 use spade_dcel::operations::{NoMemory, append_unconnected_vertex};
-use std::alloc::Allocator;
 
 /// What the line says after its word.
 #[tactic(auto, unfolding(crate::specs::Spelling::Says))]

@@ -2,28 +2,19 @@
 
 ghost use Rattle.std.specs.Prelude.{codes};
 ghost use Rattle.dcel_commands.specs.Items.{left};
-ghost use Rattle.dcel_commands.specs.Queries.{Tells};
+ghost use Rattle.dcel_commands.specs.Queries.{TellsOrRefuses};
 ghost use Rattle.dcel_commands.specs.Spelling.{Says};
 
-use crate::items::{Rest, is_end};
-use crate::output::Out;
-use crate::refusal::Refusal;
-use crate::request::{Query, Request};
-use crate::sink::LineSink;
+use super::*;
 use crate::turns::write_counts;
-use spade_dcel::dcel::Dcel;
-use std::alloc::Allocator;
 
 /// What the line says after its word.
 #[tactic(auto, unfolding(crate::specs::Spelling::Says))]
 pub fn read<'a>(rest: Rest<'a>) -> Option<Request>
     ensures { Says (codes "counts") (left rest.entry) result }
 {
-    if is_end(rest) {
-        Some(Request::Ask(Query::Counts))
-    } else {
-        None
-    }
+    nothing(rest)?;
+    Some(Request::Ask(Query::Counts))
 }
 
 /// Writes the answer.
@@ -32,7 +23,7 @@ pub fn tell<V, DE, UE, F, A: Allocator, K: LineSink>(
     out: &mut Out,
     dcel: &Dcel<V, DE, UE, F, A>,
 ) -> Result<(), Refusal>
-    ensures { Tells K.has_failed K.contents sink.old out.old dcel.now.shape Query.Counts result sink.new out.new }
+    ensures { TellsOrRefuses K.has_failed K.contents sink.old out.old dcel.now.shape Query.Counts result sink.new out.new }
 {
     write_counts(sink, out, dcel);
     Ok(())

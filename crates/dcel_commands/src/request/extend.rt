@@ -5,16 +5,8 @@ ghost use Rattle.dcel_commands.specs.Items.{left};
 ghost use Rattle.dcel_commands.specs.Spelling.{Says};
 ghost use Rattle.dcel_commands.specs.Steps.{Carries};
 
-use crate::asking::{ask, has_room, has_vertex};
-use crate::commands::{Command, Refused, Reply};
-use crate::given::{two_numbers, vertex};
-use crate::items::Rest;
-use crate::refusal::Refusal;
-use crate::request::Request;
-use dcel_fixed::FixedVertexHandle;
-use spade_dcel::dcel::Dcel;
+use super::*;
 use spade_dcel::operations::extend_line;
-use std::alloc::Allocator;
 
 /// What the line says after its word.
 #[tactic(auto, unfolding(crate::specs::Spelling::Says))]

@@ -2,21 +2,11 @@
 
 ghost use Rattle.std.specs.Prelude.{codes};
 ghost use Rattle.dcel_commands.specs.Items.{left};
-ghost use Rattle.dcel_commands.specs.Queries.{Tells};
+ghost use Rattle.dcel_commands.specs.Queries.{TellsOrRefuses};
 ghost use Rattle.dcel_commands.specs.Spelling.{Says};
 
-use crate::asking::{ask, has_half_edge};
-use crate::commands::Reply;
-use crate::given::half_edge;
-use crate::items::{Rest, last_number};
-use crate::output::Out;
-use crate::refusal::Refusal;
+use super::*;
 use crate::replies::write_reply;
-use crate::request::{Query, Request};
-use crate::sink::LineSink;
-use dcel_fixed::FixedDirectedEdgeHandle;
-use spade_dcel::dcel::Dcel;
-use std::alloc::Allocator;
 
 /// What the line says after its word.
 #[tactic(auto, unfolding(crate::specs::Spelling::Says))]
@@ -34,7 +24,7 @@ pub fn tell<V, DE, UE, F, A: Allocator, K: LineSink>(
     dcel: &Dcel<V, DE, UE, F, A>,
     edge: FixedDirectedEdgeHandle,
 ) -> Result<(), Refusal>
-    ensures { Tells K.has_failed K.contents sink.old out.old dcel.now.shape (Query.Origin edge) result sink.new out.new }
+    ensures { TellsOrRefuses K.has_failed K.contents sink.old out.old dcel.now.shape (Query.Origin edge) result sink.new out.new }
 {
     ask(has_half_edge(dcel, edge), Refusal::NoSuchEdge)?;
     ask(dcel.is_live_edge(edge.as_undirected()), Refusal::GivenUp)?;

@@ -5,15 +5,8 @@ ghost use Rattle.dcel_commands.specs.Items.{left};
 ghost use Rattle.dcel_commands.specs.Spelling.{Says};
 ghost use Rattle.dcel_commands.specs.Steps.{Carries};
 
-use crate::asking::are_within;
-use crate::commands::{Command, Handed, Refused, Reply};
-use crate::given::three_data;
-use crate::items::Rest;
-use crate::refusal::Refusal;
-use crate::request::Request;
-use spade_dcel::dcel::Dcel;
+use super::*;
 use spade_dcel::operations::{NoMemory, new_triangle};
-use std::alloc::Allocator;
 
 /// What the line says after its word.
 #[tactic(auto, unfolding(crate::specs::Spelling::Says))]

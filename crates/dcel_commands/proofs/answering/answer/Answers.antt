@@ -1,20 +1,20 @@
 use Rattle.std.proofs.Common.{refl, inl, inr, Ok, Err}
 use Rattle.dcel_commands.specs.declared.request.Request.TheVariants.{Edit, Ask}
-use Rattle.dcel_commands.specs.Talk.{says}
+use Rattle.dcel_commands.specs.Talk.{good_line}
 use Rattle.dcel_commands.proofs.answering.answer.Goals as goal
 
 pub returns-in-Ok : goal.returns-in-Ok
 returns-in-Ok g c = record {
   text = _;
   wrote = c.write_reply.ensures;
-  fits = says (Edit c.in-Some-Edit.command) (rw c.in-Some-Edit.field-0-is at c.in-Some-Edit.ensures) (Ok c.in-Ok.reply, c.in-Ok.ensures, refl);
+  fits = good_line (Edit c.in-Some-Edit.command) (rw c.in-Some-Edit.field-0-is at c.in-Some-Edit.ensures) (Ok c.in-Ok.reply, c.in-Ok.ensures, refl);
 }
 
 pub returns-in-Err : goal.returns-in-Err
 returns-in-Err g c = record {
   text = _;
   wrote = c.write_refusal.ensures;
-  fits = says (Edit c.in-Some-Edit.command) (rw c.in-Some-Edit.field-0-is at c.in-Some-Edit.ensures) (Err c.in-Err.refused, c.in-Err.ensures, refl);
+  fits = good_line (Edit c.in-Some-Edit.command) (rw c.in-Some-Edit.field-0-is at c.in-Some-Edit.ensures) (Err c.in-Err.refused, c.in-Err.ensures, refl);
 }
 
 pub returns-in-Ok-tell : goal.returns-in-Ok-tell
@@ -23,7 +23,7 @@ returns-in-Ok-tell g c =
     record {
       text = told.1.text;
       wrote = told.1.wrote;
-      fits = says (Ask c.in-Some-Ask.query) (rw c.in-Some-Ask.field-0-is at c.in-Some-Ask.ensures) (inl (told.0, told.1.fits), refl);
+      fits = good_line (Ask c.in-Some-Ask.query) (rw c.in-Some-Ask.field-0-is at c.in-Some-Ask.ensures) (inl (told.0, told.1.fits), refl);
     }
 
 pub returns-in-Err-tell : goal.returns-in-Err-tell
@@ -32,5 +32,5 @@ returns-in-Err-tell g c =
     record {
       text = _;
       wrote = rw (← why.1, ← why.2) c.write_refusal-in-Err-tell.ensures;
-      fits = says (Ask c.in-Some-Ask.query) (rw c.in-Some-Ask.field-0-is at c.in-Some-Ask.ensures) (inr (c.in-Err-tell.why, why.0, refl), refl);
+      fits = good_line (Ask c.in-Some-Ask.query) (rw c.in-Some-Ask.field-0-is at c.in-Some-Ask.ensures) (inr (c.in-Err-tell.why, why.0, refl), refl);
     }
