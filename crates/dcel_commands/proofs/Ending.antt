@@ -7,8 +7,7 @@ use Rattle.dcel_text.specs.Transfer.{KeepsOrHides, AppendsBeginning}
 use Rattle.dcel_text.specs.Lines.{lines, joined}
 use Rattle.dcel_text.specs.declared.output.Writer.{Writer}
 use Rattle.dcel_text.specs.Output.{Writing, Writes}
-use Rattle.dcel_commands.specs.LineSteps.{start}
-use Rattle.dcel_commands.specs.Talk.{Talk}
+use Rattle.dcel_commands.specs.Talk.{Talk, start}
 use Rattle.dcel_commands.specs.Stage.{Stage, Goes, Leads, Serves, Ends}
 use Rattle.dcel_commands.specs.Run.{AnswersAll, AnswersWholeLines, AnswersInPart}
 use Rattle.dcel_text.proofs.LineEnds.{lines-nil, joined-whole}

@@ -1,4 +1,3 @@
-pub mod Answering
 pub mod Columns
 pub mod Ending
 pub mod FaceWalks

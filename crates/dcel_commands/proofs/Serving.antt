@@ -6,9 +6,8 @@ use Rattle.std.proofs.lemmas.List.{length-append, length-take-le, take_all}
 use Rattle.dcel_text.specs.Lines.{line_feed, lines, joined, HasNoFeed}
 use Rattle.dcel_text.specs.declared.output.Writer.{Writer}
 use Rattle.dcel_text.specs.Output.{Writes}
-use Rattle.dcel_commands.specs.Responses.{Said}
-use Rattle.dcel_commands.specs.LineSteps.{State}
-use Rattle.dcel_commands.specs.Talk.{Answers, bad_line, step, said_text, Talk}
+use Rattle.dcel_commands.specs.Answering.{WritesSome}
+use Rattle.dcel_commands.specs.Talk.{Answers, State, Talk, bad_line, good_line}
 use Rattle.dcel_commands.specs.Stage.{Stage, Goes, Leads, Serves, Ends}
 use Rattle.dcel_text.proofs.LineEnds.{lines-nil, lines-feed, joined-append, joined-cons, joined-whole, joined-unended, lines-begun, lines-line}
 use Rattle.dcel_text.proofs.Writing.{writes_nothing, writes_and, writes_text}
@@ -19,9 +18,9 @@ length-nonempty (b ∷ l) some = omega arith
 
 -- ---- lines that are too long are all one
 
-answers_long : (limit : ℕ) (m : State) (k l : List ℕ) (r : Said) (t : State) → 4096 < length k → 4096 < length l → Answers limit m k r t → Answers limit m l r t
-answers_long limit m k l r t hk hl (bad_line bad e) = bad_line (λ w g h. absurd (omega (arith, h.short))) e
-answers_long limit m k l r t hk hl (step h s) = absurd (omega (arith, h.short))
+answers_long : (limit : ℕ) (m : State) (k l text : List ℕ) (t : State) → 4096 < length k → 4096 < length l → Answers limit m k text t → Answers limit m l text t
+answers_long limit m k l text t hk hl (bad_line bad e same) = bad_line (λ request h. absurd (omega (arith, h.short))) e same
+answers_long limit m k l text t hk hl (good_line request h does) = absurd (omega (arith, h.short))
 
 short_or_long : (l : List ℕ) → (take 4097 l ≡ l) ⊎ ((4096 < length (take 4097 l)) × (4096 < length l))
 short_or_long l =
@@ -31,11 +30,11 @@ short_or_long l =
     ]
 
 -- a line that was cut to the bytes that are kept of it is answered as the whole line is
-answers_cut : (limit : ℕ) (m : State) (l : List ℕ) (r : Said) (t : State) → Answers limit m (take 4097 l) r t → Answers limit m l r t
-answers_cut limit m l r t h =
+answers_cut : (limit : ℕ) (m : State) (l text : List ℕ) (t : State) → Answers limit m (take 4097 l) text t → Answers limit m l text t
+answers_cut limit m l text t h =
     elim (short_or_long l) [
-      | inl e ↦ subst (λ (x : List ℕ). Answers limit m x r t) e h
-      | inr long ↦ answers_long limit m (take 4097 l) l r t long.0 long.1 h
+      | inl e ↦ subst (λ (x : List ℕ). Answers limit m x text t) e h
+      | inr long ↦ answers_long limit m (take 4097 l) l text t long.0 long.1 h
     ]
 
 talk_long : (limit : ℕ) (m : State) (k l : List ℕ) (ls : List (List ℕ)) (text : List ℕ) → 4096 < length k → 4096 < length l → Talk limit m (k ∷ ls) text → Talk limit m (l ∷ ls) text
@@ -75,10 +74,10 @@ leads_begun limit m begun xs h u rest more g =
     subst (λ (x : List (List ℕ)). Talk limit m x more) (sym same) (joined_cut limit u m (begun ++ xs) (lines u rest) more g)
 
 -- the bytes end the line that has begun
-leads_line : (limit : ℕ) (m t : State) (begun xs : List ℕ) (r : Said) → HasNoFeed xs → Answers limit m (take 4097 (begun ++ xs)) r t
-    → Leads limit (record { mesh = m; begun = begun }) (record { mesh = t; begun = [] }) (xs ++ line_feed ∷ []) (said_text t r)
-leads_line limit m t begun xs r h a u rest more g =
-    subst (λ (x : List (List ℕ)). Talk limit m x (said_text t r ++ more)) (sym (lines-line u begun xs rest h)) (r, t, more, answers_cut limit m (begun ++ xs) r t a, g, refl)
+leads_line : (limit : ℕ) (m t : State) (begun xs text : List ℕ) → HasNoFeed xs → Answers limit m (take 4097 (begun ++ xs)) text t
+    → Leads limit (record { mesh = m; begun = begun }) (record { mesh = t; begun = [] }) (xs ++ line_feed ∷ []) text
+leads_line limit m t begun xs text h a u rest more g =
+    subst (λ (x : List (List ℕ)). Talk limit m x (text ++ more)) (sym (lines-line u begun xs rest h)) (text, t, more, answers_cut limit m (begun ++ xs) text t a, g, refl)
 
 -- where no line has begun, the end asks for no text
 goes_nowhere : (limit : ℕ) (p : Stage) → p.begun ≡ [] → Goes limit true p [] []
@@ -98,11 +97,11 @@ module _ {K : Type 0} {has_failed : K → Bool} {contents : K → Option (List �
   serves_flushed f w = record { text = f.text; writes = writes_text (append-nil f.text) (writes_and f.writes w); leads = f.leads }
 
   -- the bytes that were kept of a line are answered, and its place is empty again
-  pub serves_line : {limit : ℕ} {p : Stage} {t : State} {kept begun : List ℕ} (xs : List ℕ) {r : Said} {out new : Writer K} → HasNoFeed xs → kept ≡ take 4097 (p.begun ++ xs) → Answers limit p.mesh kept r t → begun ≡ []
-      → Writes has_failed contents out new (said_text t r) → Serves has_failed contents limit p (record { mesh = t; begun = begun }) (xs ++ line_feed ∷ []) out new
-  serves_line {limit} {p} {t} {kept} {begun} xs {r} {out} {new} h e a b w =
+  pub serves_line : {limit : ℕ} {p : Stage} {t : State} {kept begun : List ℕ} (xs : List ℕ) {out new : Writer K} → HasNoFeed xs → kept ≡ take 4097 (p.begun ++ xs) → begun ≡ []
+      → WritesSome has_failed contents out new (λ text. Answers limit p.mesh kept text t) → Serves has_failed contents limit p (record { mesh = t; begun = begun }) (xs ++ line_feed ∷ []) out new
+  serves_line {limit} {p} {t} {kept} {begun} xs {out} {new} h e b w =
       subst (λ (x : List ℕ). Serves has_failed contents limit p (record { mesh = t; begun = x }) (xs ++ line_feed ∷ []) out new) (sym b)
-      (record { text = said_text t r; writes = w; leads = leads_line limit p.mesh t p.begun xs r h (subst (λ (x : List ℕ). Answers limit p.mesh x r t) e a) })
+      (record { text = w.text; writes = w.writes; leads = leads_line limit p.mesh t p.begun xs w.text h (subst (λ (x : List ℕ). Answers limit p.mesh x w.text t) e w.fits) })
 
   -- the rest of a piece is kept
   pub serves_rest : {limit : ℕ} {p : Stage} {begun xs : List ℕ} {out : Writer K} → HasNoFeed xs → begun ≡ take 4097 (p.begun ++ xs) → Serves has_failed contents limit p (record { mesh = p.mesh; begun = begun }) xs out out

@@ -1,76 +1,35 @@
--- Which lines a word and what is given to it spell.
-use Rattle.std.proofs.Common.{◌≡◌, ◌≢◌, ℕ, ◌<◌, ◌≤◌, ◌^◌, List, [], ◌∷◌, suc, length, refl, sym, ap, ◌∙◌, arith, Bool, true, false, cond, ne_eqb, Option, Some, None}
-use Rattle.std.specs.Prelude.{ℤ, pos, negsuc}
+-- Which lines say what.
+use Rattle.std.proofs.Common.{◌≡◌, ◌≢◌, ℕ, ◌<◌, ◌≤◌, ◌^◌, suc, List, [], ◌∷◌, length, map, refl, sym, ap, subst, ◌∙◌, arith, ne_eqb, Bool, true, false, cond, Option, Some, None, MatchOption}
+use Rattle.std.specs.Prelude.{ℤ, pos, negsuc, codes}
+use Rattle.std.specs.List.{AllByRecursion}
 use Rattle.std.specs.Str.{bytes_eq}
 use Rattle.std.specs.Str.Parse.{AllDigits}
-use Rattle.std.specs.Fmt.{decimal, signed_decimal}
-use Rattle.std.proofs.lemmas.Fmt.{digits_decimal, decimal_injective, signed_decimal_injective}
+use Rattle.std.specs.Fmt.{decimal}
+use Rattle.std.proofs.lemmas.Fmt.{digits_decimal, signed_decimal_injective}
 use Rattle.std.proofs.lemmas.Str.Parse.{digit_from_value}
-use Rattle.dcel_commands.specs.declared.grammar.Shape.TheVariants as shapes
-use Rattle.dcel_commands.specs.declared.grammar.Word.{Word}
-use Rattle.dcel_commands.specs.declared.grammar.Word.TheVariants.{Append, Triangle, Setup, Extend, Insert, Counts, Words, Out, Origin, Check}
-use Rattle.dcel_commands.specs.declared.parse.Tail.TheVariants as tails
-use Rattle.dcel_text.specs.Items.{items_of}
-use Rattle.dcel_commands.specs.Grammar.{Given, Nothing, Datum, ThreeData, OneNumber, TwoNumbers, shape_of, shape, text, written, InRange, Spells}
-use Rattle.dcel_text.specs.Numbers.{IsDatum, IsNumber}
+use Rattle.dcel_commands.specs.declared.commands.command.Command.TheVariants.{Append, Triangle, Setup, Extend, Insert}
+use Rattle.dcel_commands.specs.declared.request.Query.TheVariants.{Counts, Words, Out, Origin, Check}
+use Rattle.dcel_commands.specs.declared.request.Request.{Request}
+use Rattle.dcel_commands.specs.declared.request.Request.TheVariants.{Edit, Ask}
+use Rattle.dcel_commands.specs.Grammar.{Item, Number, Datum, item_text, IsInRange}
 use Rattle.dcel_text.specs.Items.{spaced}
-use Rattle.dcel_commands.specs.Parsed.{ReadsTail, IsBad}
-use Rattle.dcel_text.proofs.Decimals.{numerals}
+use Rattle.dcel_text.specs.Items.{items_of}
+use Rattle.dcel_commands.specs.Spelling.{Says, Spells, given, word, written}
 use Rattle.dcel_text.proofs.Cutting.{has_no_space, NoSpaces, spaced-items_of, items_of-spaced}
+use Rattle.dcel_text.proofs.Decimals.{numerals}
 
--- ---- the table of words
+first_item : (a b : List ℕ) (xs ys : List (List ℕ)) → a ∷ xs ≡ b ∷ ys → a ≡ b
+first_item a b xs ys e = cc
 
-no_space_text : (w : Word) → has_no_space (text w) ≡ true
-no_space_text Append = refl
-no_space_text Triangle = refl
-no_space_text Setup = refl
-no_space_text Extend = refl
-no_space_text Insert = refl
-no_space_text Counts = refl
-no_space_text Words = refl
-no_space_text Out = refl
-no_space_text Origin = refl
-no_space_text Check = refl
+other_items : (a b : List ℕ) (xs ys : List (List ℕ)) → a ∷ xs ≡ b ∷ ys → xs ≡ ys
+other_items a b xs ys e = cc
 
--- what is read where nothing of the table was
-word_of_tables : List (List ℕ × Word) → List ℕ → Option Word
-word_of_tables [] item = None
-word_of_tables (entry ∷ rest) item = cond (bytes_eq item entry.0) (Some entry.1) (word_of_tables rest item)
+-- ---- no item has a space
 
-word_of : List ℕ → Option Word
-word_of item = word_of_tables (
-    (text Append, Append) ∷
-    (text Triangle, Triangle) ∷
-    (text Setup, Setup) ∷
-    (text Extend, Extend) ∷
-    (text Insert, Insert) ∷
-    (text Counts, Counts) ∷
-    (text Words, Words) ∷
-    (text Out, Out) ∷
-    (text Origin, Origin) ∷
-    (text Check, Check) ∷
-    []) item
-
-word_of-text : (w : Word) → word_of (text w) ≡ Some w
-unfolding word_of word_of_tables
-word_of-text Append = refl
-word_of-text Triangle = refl
-word_of-text Setup = refl
-word_of-text Extend = refl
-word_of-text Insert = refl
-word_of-text Counts = refl
-word_of-text Words = refl
-word_of-text Out = refl
-word_of-text Origin = refl
-word_of-text Check = refl
-
-some_injective : (v w : Word) (o : Option Word) → o ≡ Some v → o ≡ Some w → v ≡ w
-some_injective v w o e f = cc
-
-text-injective : (v w : Word) → text v ≡ text w → v ≡ w
-text-injective v w e = some_injective v w (word_of (text v)) (word_of-text v) (ap word_of e ∙ word_of-text w)
-
--- ---- the table of shapes
+no_space_word : (request : Request) → has_no_space (word request) ≡ true
+no_space_word (Edit (Append datum)) = refl
+no_space_word (Ask Counts) = refl
+no_space_word _ = refl
 
 no_space_digits : (digits : List ℕ) → AllDigits 10 digits → has_no_space digits ≡ true
 no_space_digits [] d = refl
@@ -81,74 +40,109 @@ no_space_digits (b ∷ digits) d =
 no_space_decimal : (n : ℕ) → n < 2 ^ 64 → has_no_space (decimal n) ≡ true
 no_space_decimal n lt = no_space_digits (decimal n) (digits_decimal numerals n lt)
 
-no_space_signed : (d : ℤ) → IsDatum d → has_no_space (signed_decimal d) ≡ true
-no_space_signed (pos n) f = no_space_decimal n (omega arith)
-no_space_signed (negsuc n) f = no_space_decimal (suc n) (omega arith)
+no_space_item : (item : Item ℤ) → IsInRange item → has_no_space (item_text item) ≡ true
+no_space_item (Number n) r = no_space_decimal n (omega arith)
+no_space_item (Datum (pos n)) r = no_space_decimal n (omega arith)
+no_space_item (Datum (negsuc n)) r = no_space_decimal (suc n) (omega arith)
 
-no_space_written : (g : Given) → InRange g → NoSpaces (written g)
-no_space_written Nothing r = tt
-no_space_written (Datum d) r = (no_space_signed d r, tt)
-no_space_written (ThreeData c d e) r = (no_space_signed c r.0, (no_space_signed d r.1, (no_space_signed e r.2, tt)))
-no_space_written (OneNumber n) r = (no_space_decimal n (omega arith), tt)
-no_space_written (TwoNumbers m n) r = (no_space_decimal m (omega arith), (no_space_decimal n (omega arith), tt))
-
-first_item : (a b : List ℕ) (xs ys : List (List ℕ)) → a ∷ xs ≡ b ∷ ys → a ≡ b
-first_item a b xs ys e = cc
-
-other_items : (a b : List ℕ) (xs ys : List (List ℕ)) → a ∷ xs ≡ b ∷ ys → xs ≡ ys
-other_items a b xs ys e = cc
-
-same_datum : (c d : ℤ) (xs ys : List (List ℕ)) → IsDatum c → IsDatum d → signed_decimal c ∷ xs ≡ signed_decimal d ∷ ys → (c ≡ d) × (xs ≡ ys)
-same_datum c d xs ys r q e = (signed_decimal_injective c d (omega (arith, r)) (omega (arith, q)) (first_item (signed_decimal c) (signed_decimal d) xs ys e), other_items (signed_decimal c) (signed_decimal d) xs ys e)
-
-same_number : (m n : ℕ) (xs ys : List (List ℕ)) → IsNumber m → IsNumber n → decimal m ∷ xs ≡ decimal n ∷ ys → (m ≡ n) × (xs ≡ ys)
-same_number m n xs ys r q e = (decimal_injective m n (omega arith) (omega arith) (first_item (decimal m) (decimal n) xs ys e), other_items (decimal m) (decimal n) xs ys e)
-
-written-injective : (g h : Given) → InRange g → InRange h → shape_of g ≡ shape_of h → written g ≡ written h → g ≡ h
-written-injective Nothing Nothing r q s e = refl
-written-injective (Datum c) (Datum d) r q s e = ap Datum (same_datum c d [] [] r q e).0
-written-injective (ThreeData c d e) (ThreeData x y z) r q s same =
-    let first = same_datum c x _ _ r.0 q.0 same in
-    let second = same_datum d y _ _ r.1 q.1 first.1 in
-    let third = same_datum e z _ _ r.2 q.2 second.1 in
-    rw (first.0, second.0, third.0) refl
-written-injective (OneNumber m) (OneNumber n) r q s e = ap OneNumber (same_number m n [] [] r q e).0
-written-injective (TwoNumbers k l) (TwoNumbers m n) r q s e =
-    let first = same_number k m _ _ r.0 q.0 e in
-    let second = same_number l n _ _ r.1 q.1 first.1 in
-    rw (first.0, second.0) refl
-written-injective _ _ r q s e = absurd cc
+no_space_items : (items : List (Item ℤ)) → AllByRecursion IsInRange items → NoSpaces (map item_text items)
+no_space_items [] r = tt
+no_space_items (item ∷ items) r = (no_space_item item r.0, no_space_items items r.1)
 
 -- ---- a line and its items
 
-items_of-spells : (w : Word) (g : Given) (line : List ℕ) → Spells w g line → items_of line ≡ text w ∷ written g
-items_of-spells w g line h = ap items_of h.spelled ∙ items_of-spaced (text w) (written g) (no_space_text w) (no_space_written g h.in_range)
+items_of-spells : (request : Request) (line : List ℕ) → Spells request line → items_of line ≡ written request
+items_of-spells request line h = ap items_of h.spelled ∙ items_of-spaced (word request) (map item_text (given request)) (no_space_word request) (no_space_items (given request) h.in_range)
 
--- a line is at most one command
-pub one_spelling : (v w : Word) (g h : Given) (line : List ℕ) → Spells v g line → Spells w h line → (v ≡ w) × (g ≡ h)
-one_spelling v w g h line a b =
-    let e = sym (items_of-spells v g line a) ∙ items_of-spells w h line b in
-    let same = text-injective v w (first_item (text v) (text w) (written g) (written h) e) in
-    (same, written-injective g h a.in_range b.in_range (a.suits ∙ ap shape same ∙ sym b.suits) (other_items (text v) (text w) (written g) (written h) e))
+-- what the items of a line say, the line says
+pub spells : (line first : List ℕ) (others : List (List ℕ)) (said : Option Request) → length line ≤ 4096 → items_of line ≡ first ∷ others → Says first others said
+    → MatchOption said ((request : Request) → ¬ Spells request line) (λ request. Spells request line)
+unfolding Says
+spells line first others None short e says = λ request h. says request h.in_range (sym e ∙ items_of-spells request line h)
+spells line first others (Some request) short e says =
+    record { in_range = says.0; short = short; spelled = sym (spaced-items_of line) ∙ ap spaced (e ∙ says.1) }
 
-pub bad_word : (line item : List ℕ) (others : List (List ℕ)) → items_of line ≡ item ∷ others → ((w : Word) → item ≢ text w) → IsBad line
-bad_word line item others e none w g h = none w (first_item item (text w) others (written g) (sym e ∙ items_of-spells w g line h))
+pub same_word : (first same : List ℕ) (others : List (List ℕ)) (said : Option Request) → first ≡ same → Says same others said → Says first others said
+same_word first same others said e says = subst (λ (item : List ℕ). Says item others said) (sym e) says
 
-pub bad_tail : (line item : List ℕ) (others : List (List ℕ)) (w : Word) → items_of line ≡ item ∷ others → item ≡ text w → ReadsTail (shape w) others tails.Bad → IsBad line
-bad_tail line item others w e i bad v g h =
-    let same_items = sym e ∙ items_of-spells v g line h in
-    let same = text-injective v w (sym (first_item item (text v) others (written g) same_items) ∙ i) in
-    bad g (h.suits ∙ ap shape same) h.in_range (other_items item (text v) others (written g) same_items)
+pub no_word : (first : List ℕ) (others : List (List ℕ)) → ((request : Request) → first ≢ word request) → Says first others None
+unfolding Says
+no_word first others none request in_range e = none request (first_item first (word request) others (map item_text (given request)) e)
 
-pub spelled_by_items : (line item : List ℕ) (others : List (List ℕ)) (w : Word) (g : Given) → length line ≤ 4096 → items_of line ≡ item ∷ others → item ≡ text w
-    → shape_of g ≡ shape w → InRange g → others ≡ written g → Spells w g line
-spelled_by_items line item others w g short e i suits range o =
-    let same_items : items_of line ≡ text w ∷ written g = cc in
-    record { suits = suits; in_range = range; short = short; spelled = sym (spaced-items_of line) ∙ ap spaced same_items }
+-- ---- a line says one thing
 
--- three data were asked for, and after the first item there is none
-pub second_datum_missing : (items others : List (List ℕ)) (item : List ℕ) → items ≡ item ∷ others → ((d : ℤ) (more : List (List ℕ)) → IsDatum d → others ≢ signed_decimal d ∷ more)
-    → (g : Given) → shape_of g ≡ shapes.ThreeData → InRange g → items ≢ written g
-second_datum_missing items others item e none (ThreeData x y z) suits range same =
-    none y (signed_decimal z ∷ []) range.1 (other_items item (signed_decimal x) others (signed_decimal y ∷ signed_decimal z ∷ []) (sym e ∙ same))
-second_datum_missing items others item e none _ suits range same = absurd cc
+value_of : Item ℤ → ℤ
+value_of (Number n) = pos n
+value_of (Datum d) = d
+
+number_in : ℤ → ℕ
+number_in (pos n) = n
+number_in (negsuc n) = 0
+
+nothing : Request → List ℤ → Option Request
+nothing make [] = Some make
+nothing make _ = None
+
+one : (ℤ → Request) → List ℤ → Option Request
+one make (x ∷ []) = Some (make x)
+one make _ = None
+
+two : (ℤ → ℤ → Request) → List ℤ → Option Request
+two make (x ∷ y ∷ []) = Some (make x y)
+two make _ = None
+
+three : (ℤ → ℤ → ℤ → Request) → List ℤ → Option Request
+three make (x ∷ y ∷ z ∷ []) = Some (make x y z)
+three make _ = None
+
+request_in : List (List ℕ × (List ℤ → Option Request)) → List ℕ → List ℤ → Option Request
+request_in [] first values = None
+request_in (row ∷ rows) first values = cond (bytes_eq first row.0) (row.1 values) (request_in rows first values)
+
+-- the request that a word makes of values
+request_of : List ℕ → List ℤ → Option Request
+request_of = request_in (
+    (codes "append", one (λ d. Edit (Append d))) ∷
+    (codes "triangle", three (λ x y z. Edit (Triangle x y z))) ∷
+    (codes "setup", two (λ a b. Edit (Setup (number_in a) (number_in b)))) ∷
+    (codes "extend", two (λ a b. Edit (Extend (number_in a) (number_in b)))) ∷
+    (codes "insert", two (λ v f. Edit (Insert (number_in v) (number_in f)))) ∷
+    (codes "counts", nothing (Ask Counts)) ∷
+    (codes "words", nothing (Ask Words)) ∷
+    (codes "out", one (λ v. Ask (Out (number_in v)))) ∷
+    (codes "origin", one (λ h. Ask (Origin (number_in h)))) ∷
+    (codes "check", nothing (Ask Check)) ∷
+    [])
+
+request_of-word : (request : Request) → request_of (word request) (map value_of (given request)) ≡ Some request
+unfolding request_of request_in nothing one two three value_of number_in
+request_of-word (Edit (Append datum)) = refl
+request_of-word (Ask Counts) = refl
+request_of-word _ = refl
+
+same_value : (i j : Item ℤ) → IsInRange i → IsInRange j → item_text i ≡ item_text j → value_of i ≡ value_of j
+unfolding value_of
+same_value (Number m) (Number n) r q e = signed_decimal_injective (pos m) (pos n) (omega arith) (omega arith) e
+same_value (Number m) (Datum d) r q e = signed_decimal_injective (pos m) d (omega arith) (omega (arith, q)) e
+same_value (Datum c) (Number n) r q e = signed_decimal_injective c (pos n) (omega (arith, r)) (omega arith) e
+same_value (Datum c) (Datum d) r q e = signed_decimal_injective c d (omega (arith, r)) (omega (arith, q)) e
+
+same_values : (is js : List (Item ℤ)) → AllByRecursion IsInRange is → AllByRecursion IsInRange js → map item_text is ≡ map item_text js → map value_of is ≡ map value_of js
+same_values [] [] r q e = refl
+same_values [] (j ∷ js) r q e = absurd cc
+same_values (i ∷ is) [] r q e = absurd cc
+same_values (i ∷ is) (j ∷ js) r q e =
+    let here = same_value i j r.0 q.0 (first_item (item_text i) (item_text j) (map item_text is) (map item_text js) e) in
+    let there = same_values is js r.1 q.1 (other_items (item_text i) (item_text j) (map item_text is) (map item_text js) e) in
+    rw (here, there) refl
+
+some_injective : (p q : Request) (said : Option Request) → said ≡ Some p → said ≡ Some q → p ≡ q
+some_injective p q said e f = cc
+
+-- a line is at most one command or query
+pub one_spelling : (p q : Request) (line : List ℕ) → Spells p line → Spells q line → p ≡ q
+one_spelling p q line a b =
+    let e = sym (items_of-spells p line a) ∙ items_of-spells q line b in
+    let words = first_item (word p) (word q) (map item_text (given p)) (map item_text (given q)) e in
+    let values = same_values (given p) (given q) a.in_range b.in_range (other_items (word p) (word q) (map item_text (given p)) (map item_text (given q)) e) in
+    some_injective p q (request_of (word p) (map value_of (given p))) (request_of-word p) (rw (words, values) (request_of-word q))

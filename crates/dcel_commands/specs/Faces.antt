@@ -1,8 +1,12 @@
 -- The lines of a mesh's faces.
-use Rattle.std.specs.Prelude.{◌≡◌, ℕ, zero, suc, ◌<◌, List, [], ◌++◌, if◌then◌else◌}
+use Rattle.std.specs.Prelude.{◌≡◌, ℕ, zero, suc, ◌<◌, List, [], ◌++◌, if◌then◌else◌, codes}
 use Rattle.dcel_maps.specs.Shapes.{Shape, face_count, face_is_live, face_of, IsLive}
 use Rattle.dcel_maps.specs.Words.{count_of, word_of}
-use Rattle.dcel_commands.specs.Responses.{face_line}
+use Rattle.dcel_text.specs.Texts.{ended, listed, numbered}
+
+-- the line of a face: its number and the half edges round it
+abbrev pub face_line : ℕ → List ℕ → List ℕ
+face_line face word = ended (numbered (codes "F") face ++ listed word)
 
 -- the line of a face where it is live, and nothing where it isn't
 abbrev pub line_of : Shape → ℕ → List ℕ

@@ -1,30 +1,31 @@
 -- The numbers, the names and the texts of refusals.
 use Rattle.std.specs.Prelude.{ℕ, List, ◌++◌, codes}
 use Rattle.std.specs.Fmt.{decimal}
+use Rattle.dcel_text.specs.Texts.{ended}
 use Rattle.dcel_commands.specs.declared.refusal.Refusal.{Refusal}
 use Rattle.dcel_commands.specs.declared.refusal.Refusal.TheVariants.{NoSuchVertex, NoSuchEdge, NoSuchFace, RemovalOpen, NoRemoval, GivenUp, SameVertex, VertexInUse, EdgesStand, NotLineEnd, NotBridge, NotOuter, NotTriangle, WouldLoop, BadRing, BadStrip, WrongLists, NotPath, NoRoom, OutOfMemory}
 
-abbrev pub number_of : Refusal → ℕ
-number_of NoSuchVertex = 1
-number_of NoSuchEdge = 2
-number_of NoSuchFace = 3
-number_of RemovalOpen = 4
-number_of NoRemoval = 5
-number_of GivenUp = 6
-number_of SameVertex = 7
-number_of VertexInUse = 8
-number_of EdgesStand = 9
-number_of NotLineEnd = 10
-number_of NotBridge = 11
-number_of NotOuter = 12
-number_of NotTriangle = 13
-number_of WouldLoop = 14
-number_of BadRing = 15
-number_of BadStrip = 16
-number_of WrongLists = 17
-number_of NotPath = 18
-number_of NoRoom = 19
-number_of OutOfMemory = 20
+abbrev pub refusal_number : Refusal → ℕ
+refusal_number NoSuchVertex = 1
+refusal_number NoSuchEdge = 2
+refusal_number NoSuchFace = 3
+refusal_number RemovalOpen = 4
+refusal_number NoRemoval = 5
+refusal_number GivenUp = 6
+refusal_number SameVertex = 7
+refusal_number VertexInUse = 8
+refusal_number EdgesStand = 9
+refusal_number NotLineEnd = 10
+refusal_number NotBridge = 11
+refusal_number NotOuter = 12
+refusal_number NotTriangle = 13
+refusal_number WouldLoop = 14
+refusal_number BadRing = 15
+refusal_number BadStrip = 16
+refusal_number WrongLists = 17
+refusal_number NotPath = 18
+refusal_number NoRoom = 19
+refusal_number OutOfMemory = 20
 
 abbrev pub name_of : Refusal → List ℕ
 name_of NoSuchVertex = codes "NoSuchVertex"
@@ -48,6 +49,6 @@ name_of NotPath = codes "NotPath"
 name_of NoRoom = codes "NoRoom"
 name_of OutOfMemory = codes "OutOfMemory"
 
--- `refused N Name`
+-- the line `refused N Name`
 abbrev pub refusal_text : Refusal → List ℕ
-refusal_text why = codes "refused " ++ decimal (number_of why) ++ codes " " ++ name_of why
+refusal_text why = ended (codes "refused " ++ decimal (refusal_number why) ++ codes " " ++ name_of why)

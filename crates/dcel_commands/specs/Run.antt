@@ -3,8 +3,7 @@ use Rattle.std.specs.Prelude.{◌≡◌, ℕ, Bool, true, false, List, Option}
 use Rattle.std.specs.Io.KnownBytes.{Consumes, Appends, IsAtEnd}
 use Rattle.dcel_text.specs.Transfer.{KeepsOrHides, AppendsBeginning}
 use Rattle.dcel_text.specs.Lines.{lines}
-use Rattle.dcel_commands.specs.Talk.{Talk}
-use Rattle.dcel_commands.specs.LineSteps.{start}
+use Rattle.dcel_commands.specs.Talk.{Talk, start}
 
 -- all bytes were read, and a text was written that answers their lines
 pub record AnswersAll (limit : ℕ) (source_old source_new sink_old sink_new : Option (List ℕ)) : Type 0 where

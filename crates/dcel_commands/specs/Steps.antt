@@ -1,44 +1,50 @@
--- What a command does to a mesh, and what it is answered.
-use Rattle.std.specs.Prelude.{◌≡◌, ◌⊎◌, ℕ}
+-- What commands do to a mesh, and what they are answered.
+use Rattle.std.specs.Prelude.{◌≡◌, ◌⊎◌, ℕ, IsTrue, List, Result, Ok, Err}
 use Rattle.dcel_commands.specs.declared.commands.command.Command.{Command}
 use Rattle.dcel_commands.specs.declared.commands.command.Command.TheVariants.{Append, Triangle, Setup, Extend, Insert}
-use Rattle.dcel_commands.specs.declared.commands.reply.Handed.{Handed}
-use Rattle.dcel_commands.specs.declared.commands.reply.Handed.TheVariants.{Nothing, One, Three}
 use Rattle.dcel_commands.specs.declared.commands.reply.Refused.{Refused}
 use Rattle.dcel_commands.specs.declared.commands.reply.Reply.{Reply}
-use Rattle.dcel_commands.specs.declared.commands.reply.Reply.TheVariants as replies
+use Rattle.dcel_commands.specs.declared.refusal.Refusal.{Refusal}
 use Rattle.dcel_commands.specs.declared.refusal.Refusal.TheVariants.{OutOfMemory}
-use Rattle.dcel_commands.specs.Conditions.{Legal, Refuses}
-use Rattle.dcel_maps.specs.Edits.{AddsEdge, AddsEdgesAndFaces, vertex_appended, triangle_alone, first_edge_added, line_extended, vertex_inserted}
+use Rattle.dcel_commands.specs.Conditions.{Entry, AllMet, FirstUnmet}
+use Rattle.dcel_commands.specs.Rules.{CommandRule}
+use Rattle.dcel_commands.specs.request.Append.{append}
+use Rattle.dcel_commands.specs.request.Extend.{extend}
+use Rattle.dcel_commands.specs.request.Insert.{insert}
+use Rattle.dcel_commands.specs.request.Setup.{setup}
+use Rattle.dcel_commands.specs.request.Triangle.{triangle}
 use Rattle.dcel_maps.specs.Shapes.{Mesh, Shape}
 
--- the command is answered so and leaves this mesh: a rule for each command, with default data for new half edges, edges and faces
-pub data Step {V DE UE F : Type 0} (is_half : DE → Type 0) (is_edge : UE → Type 0) (is_face : F → Type 0) (m : Mesh V DE UE F) : Command V → Reply → Mesh V DE UE F → Type 0 where
-  appended : {command : Command V} {reply : Reply} {new : Mesh V DE UE F} (datum : V)
-      → command ≡ Append datum → reply ≡ replies.Vertex m.shape.vertices → new ≡ vertex_appended m datum
-      → Step is_half is_edge is_face m command reply new
-  made : {command : Command V} {reply : Reply} {new : Mesh V DE UE F} (x y z : V)
-      → command ≡ Triangle x y z → reply ≡ replies.Ok → AddsEdgesAndFaces is_half is_edge is_face 3 2 new (triangle_alone (x, y, z))
-      → Step is_half is_edge is_face m command reply new
-  set_up : {command : Command V} {reply : Reply} {new : Mesh V DE UE F} (a b : ℕ)
-      → command ≡ Setup a b → reply ≡ replies.Ok → AddsEdge is_half is_edge new (first_edge_added m a b)
-      → Step is_half is_edge is_face m command reply new
-  extended : {command : Command V} {reply : Reply} {new : Mesh V DE UE F} (a b : ℕ)
-      → command ≡ Extend a b → reply ≡ replies.Vertex b → AddsEdge is_half is_edge new (line_extended m a b)
-      → Step is_half is_edge is_face m command reply new
-  inserted : {command : Command V} {reply : Reply} {new : Mesh V DE UE F} (v f : ℕ)
-      → command ≡ Insert v f → reply ≡ replies.Vertex v → AddsEdgesAndFaces is_half is_edge is_face 3 2 new (vertex_inserted m v f)
-      → Step is_half is_edge is_face m command reply new
+-- the commands
+abbrev pub command_rule : {V : Type 0} → Command V → CommandRule V
+command_rule (Append datum) = append datum
+command_rule (Triangle x y z) = triangle x y z
+command_rule (Setup a b) = setup a b
+command_rule (Extend a b) = extend a b
+command_rule (Insert v f) = insert v f
 
--- the data that a command carries
-abbrev pub handed : {V : Type 0} → Command V → Handed V
-handed (Append datum) = One datum
-handed (Triangle x y z) = Three x y z
-handed (Setup a b) = Nothing
-handed (Extend a b) = Nothing
-handed (Insert v f) = Nothing
+-- the conditions of a command, each after the refusal that answers where it isn't met, in the order of checking
+abbrev pub asks : {V : Type 0} → ℕ → Command V → List Entry
+asks limit command = (command_rule command).asks limit
+
+-- the command meets all that it asks
+abbrev pub Legal : {V : Type 0} → Shape → ℕ → Command V → Type 0
+Legal s limit command = AllMet s (asks limit command)
+
+-- the command is refused so: the first that it asks and that isn't met has this refusal
+abbrev pub Refuses : {V : Type 0} → Shape → ℕ → Command V → Refusal → Type 0
+Refuses s limit command why = FirstUnmet s (asks limit command) why
+
+-- the command is answered so and leaves this mesh, with default data for new half edges, edges and faces
+abbrev pub Step : {V DE UE F : Type 0} → (DE → Type 0) → (UE → Type 0) → (F → Type 0) → Mesh V DE UE F → Command V → Reply → Mesh V DE UE F → Type 0
+Step is_half is_edge is_face old command reply new = (command_rule command).Makes is_half is_edge is_face old reply new
 
 -- a refusal of the command: by the first condition that isn't met, or for want of memory where all are; its data come back
 pub record IsRefusal {V : Type 0} (s : Shape) (limit : ℕ) (command : Command V) (refused : Refused V) : Type 0 where
-  pub why : Refuses s limit command refused.why ⊎ ((refused.why ≡ OutOfMemory) × Legal s limit command)
-  pub back : refused.back ≡ handed command
+  pub why : Refuses s limit command refused.why ⊎ ((refused.why ≡ OutOfMemory) × IsTrue (command_rule command).takes_memory × Legal s limit command)
+  pub back : refused.back ≡ (command_rule command).handed
+
+-- the command was legal and is carried out, or it is refused and changes nothing
+abbrev pub Carries : {V DE UE F : Type 0} → (DE → Type 0) → (UE → Type 0) → (F → Type 0) → ℕ → Mesh V DE UE F → Command V → Result Reply (Refused V) → Mesh V DE UE F → Type 0
+Carries is_half is_edge is_face limit old command (Ok reply) new = Legal old.shape limit command × Step is_half is_edge is_face old command reply new
+Carries is_half is_edge is_face limit old command (Err refused) new = IsRefusal old.shape limit command refused × (new ≡ old)

@@ -1,33 +1,42 @@
 -- What lines may be answered.
-use Rattle.std.specs.Prelude.{◌≡◌, ℕ, true, false, List, [], ◌∷◌, ◌++◌, codes}
-use Rattle.dcel_commands.specs.Grammar.{Given, Spells}
-use Rattle.dcel_commands.specs.declared.grammar.Word.{Word}
-use Rattle.dcel_commands.specs.Parsed.{IsBad}
-use Rattle.dcel_commands.specs.Refusal.{refusal_text}
-use Rattle.dcel_commands.specs.Responses.{Said, Done, Vertex, Counts, Words, OutEdges, Truth, Refused, BadLine}
-use Rattle.dcel_text.specs.Texts.{ended, numbered}
-use Rattle.dcel_commands.specs.LineSteps.{State, Step}
-use Rattle.dcel_commands.specs.Faces.{words_text}
-use Rattle.dcel_commands.specs.Turns.{counts_text, turn_text}
+use Rattle.std.specs.Prelude.{◌≡◌, ℕ, ℤ, pos, List, [], ◌∷◌, ◌++◌, codes, Result}
+use Rattle.dcel_commands.specs.declared.commands.reply.Refused.{Refused}
+use Rattle.dcel_commands.specs.declared.commands.reply.Reply.{Reply}
+use Rattle.dcel_commands.specs.declared.request.Request.{Request}
+use Rattle.dcel_commands.specs.declared.request.Request.TheVariants.{Edit, Ask}
+use Rattle.dcel_commands.specs.Queries.{Told}
+use Rattle.dcel_commands.specs.Replies.{outcome_text}
+use Rattle.dcel_commands.specs.Spelling.{Spells}
+use Rattle.dcel_text.specs.Texts.{ended}
+use Rattle.dcel_commands.specs.Steps.{Carries}
+use Rattle.dcel_maps.specs.Edits.{outer_alone}
+use Rattle.dcel_maps.specs.Shapes.{Mesh}
 
--- the lines that a reply is written as, over the mesh that it was given about
-abbrev pub said_text : State → Said → List ℕ
-said_text s Done = ended (codes "ok")
-said_text s (Vertex n) = ended (numbered (codes "vertex ") n)
-said_text s Counts = counts_text s.shape
-said_text s Words = words_text s.shape
-said_text s (OutEdges v) = turn_text s.shape v
-said_text s (Truth true) = ended (codes "true")
-said_text s (Truth false) = ended (codes "false")
-said_text s (Refused why) = ended (refusal_text why)
-said_text s BadLine = ended (codes "bad line")
+-- the mesh that lines are about: all data are numbers
+abbrev pub State : Type 0
+State = Mesh ℤ ℤ ℤ ℤ
 
--- what a line may be answered, and the mesh that it leaves
-pub data Answers (limit : ℕ) (s : State) (line : List ℕ) : Said → State → Type 0 where
-  bad_line : {t : State} → IsBad line → t ≡ s → Answers limit s line BadLine t
-  step : {w : Word} {g : Given} {r : Said} {t : State} → Spells w g line → Step limit s w g r t → Answers limit s line r t
+-- the default datum
+abbrev pub IsZero : ℤ → Type 0
+IsZero d = d ≡ pos 0
 
--- from the mesh s the lines may be answered by this text
+-- the mesh before the first line: the outer face alone
+abbrev pub start : State
+start = outer_alone (pos 0)
+
+-- a command is carried out or refused, and the text is its outcome; a query changes nothing, and the text tells what it asks
+abbrev pub Does : ℕ → State → Request → List ℕ → State → Type 0
+Does limit old (Edit command) text new =
+    (outcome : Result Reply (Refused ℤ)) × Carries IsZero IsZero IsZero limit old command outcome new × (text ≡ outcome_text outcome)
+Does limit old (Ask query) text new = Told old.shape query text × (new ≡ old)
+
+-- the text that a line may be answered by, and the mesh that it leaves
+pub data Answers (limit : ℕ) (old : State) (line text : List ℕ) (new : State) : Type 0 where
+  bad_line : ((request : Request) → ¬ Spells request line) → text ≡ ended (codes "bad line") → new ≡ old → Answers limit old line text new
+  good_line : (request : Request) → Spells request line → Does limit old request text new → Answers limit old line text new
+
+-- from the mesh the lines may be answered by this text
 abbrev pub Talk : ℕ → State → List (List ℕ) → List ℕ → Type 0
-Talk limit s [] text = text ≡ []
-Talk limit s (line ∷ lines) text = (r : Said) × (t : State) × (more : List ℕ) × Answers limit s line r t × Talk limit t lines more × (text ≡ said_text t r ++ more)
+Talk limit old [] text = text ≡ []
+Talk limit old (line ∷ lines) text =
+    (first : List ℕ) × (new : State) × (more : List ℕ) × Answers limit old line first new × Talk limit new lines more × (text ≡ first ++ more)

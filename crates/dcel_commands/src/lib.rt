@@ -2,18 +2,17 @@
 //! commands, and queries of the mesh, as lines of text from a source of bytes and writes the replies to a sink.
 #![tactic(auto)]
 
-mod checks;
+mod answering;
+mod asking;
 pub mod commands;
 mod faces;
 mod faults;
-mod grammar;
+mod given;
 pub mod laws;
-mod parse;
-mod queries;
+mod reading;
 mod refusal;
+mod replies;
 mod request;
-mod response;
 mod run;
 mod session;
-mod steps;
 mod turns;

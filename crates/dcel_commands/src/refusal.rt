@@ -48,11 +48,11 @@ pub enum Refusal {
 }
 
 impl Refusal {
-    ghost use Rattle.dcel_commands.specs.Refusal.{number_of, name_of};
+    ghost use Rattle.dcel_commands.specs.Refusal.{refusal_number, name_of};
 
     /// The number, from 1 to 20.
     pub fn number(self) -> u8
-        ensures { result ≡ number_of self }
+        ensures { result ≡ refusal_number self }
     {
         self as u8
     }

@@ -1,68 +1,47 @@
-//! What a line asks for: a command, or a query.
+//! What a line says: a command, or a query. Each has a file of its own: how it is read, what it asks, and how it is carried out or told.
 
-ghost use Rattle.std.specs.Prelude.{◌≡◌};
-ghost use Rattle.dcel_commands.specs.LineSteps.{request_of};
-ghost use Rattle.dcel_commands.specs.Parsed.{given};
+pub mod append;
+pub mod check;
+pub mod counts;
+pub mod extend;
+pub mod insert;
+pub mod origin;
+pub mod out;
+pub mod setup;
+pub mod triangle;
+pub mod words;
 
-use crate::commands::Command;
-use crate::grammar::{Args, Word};
-use crate::queries::Query;
+use crate::asking::{are_within, ask, has_half_edge, has_inner_face, has_room, has_vertex};
+use crate::commands::{Command, Handed, Refused, Reply};
+use crate::given::{half_edge, inner_face, nothing, three_data, two_numbers, vertex};
+use crate::refusal::Refusal;
 use dcel_fixed::{FixedDirectedEdgeHandle, FixedFaceHandle, FixedVertexHandle, InnerTag};
+use dcel_text::items::{Rest, last_datum, last_number};
+use dcel_text::output::Writer;
+use dcel_text::sink::LineSink;
+use spade_dcel::dcel::Dcel;
+use std::alloc::Allocator;
 
-/// What a line asks for.
+/// What a line can be told about a mesh, which stays as it is.
+#[derive(Clone, Copy)]
+pub enum Query {
+    /// The numbers of vertices, edges and faces.
+    Counts,
+    /// The word of each face.
+    Words,
+    /// The half edges that start at a vertex.
+    Out(FixedVertexHandle),
+    /// The vertex that a half edge starts at.
+    Origin(FixedDirectedEdgeHandle),
+    /// Whether the mesh is checked.
+    Check,
+}
+
+/// What a line says.
 #[derive(Drop)]
 pub enum Request {
+    /// It edits the mesh.
     Edit(Command<i64>),
-    Look(Query),
-}
-
-fn vertex(number: u32) -> FixedVertexHandle
-    ensures { result ≡ number }
-{
-    FixedVertexHandle::new(number as usize)
-}
-
-fn half_edge(number: u32) -> FixedDirectedEdgeHandle
-    ensures { result ≡ number }
-{
-    FixedDirectedEdgeHandle::new(number as usize)
-}
-
-fn inner_face(number: u32) -> FixedFaceHandle<InnerTag>
-    ensures { result ≡ number }
-{
-    FixedFaceHandle::new(number as usize)
-}
-
-/// What a word makes of what is given to it, where that suits it.
-pub fn request_from(word: Word, args: Args) -> Option<Request>
-    ensures { result ≡ request_of word (given args) }
-{
-    match args {
-        Args::Nothing => match word {
-            Word::Counts => Some(Request::Look(Query::Counts)),
-            Word::Words => Some(Request::Look(Query::Words)),
-            Word::Check => Some(Request::Look(Query::Check)),
-            _ => None,
-        },
-        Args::Datum(datum) => match word {
-            Word::Append => Some(Request::Edit(Command::Append(datum))),
-            _ => None,
-        },
-        Args::ThreeData(x, y, z) => match word {
-            Word::Triangle => Some(Request::Edit(Command::Triangle(x, y, z))),
-            _ => None,
-        },
-        Args::OneNumber(n) => match word {
-            Word::Out => Some(Request::Look(Query::Out(vertex(n)))),
-            Word::Origin => Some(Request::Look(Query::Origin(half_edge(n)))),
-            _ => None,
-        },
-        Args::TwoNumbers(a, b) => match word {
-            Word::Setup => Some(Request::Edit(Command::Setup(vertex(a), vertex(b)))),
-            Word::Extend => Some(Request::Edit(Command::Extend(vertex(a), vertex(b)))),
-            Word::Insert => Some(Request::Edit(Command::Insert(vertex(a), inner_face(b)))),
-            _ => None,
-        },
-    }
+    /// It asks about the mesh.
+    Ask(Query),
 }

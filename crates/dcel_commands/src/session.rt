@@ -2,14 +2,10 @@
 
 ghost use Rattle.std.specs.Prelude.{◌≡◌, ◌≤◌, ◌^◌, ◌++◌, ◌∷◌, ℕ, [], IfOk};
 ghost use Rattle.dcel_text.specs.Lines.{HasNoFeed, line_feed};
-ghost use Rattle.dcel_commands.specs.Responses.{said};
 ghost use Rattle.dcel_commands.specs.Stage.{Stage, Serves, Ends};
-ghost use Rattle.dcel_commands.specs.Talk.{Answers};
-ghost use Rattle.dcel_commands.specs.LineSteps.{start};
+ghost use Rattle.dcel_commands.specs.Talk.{start};
 
-use crate::parse::{Parsed, parse};
-use crate::response::{Response, write_response};
-use crate::steps::{LineMesh, new_mesh, step};
+use crate::answering::{LineMesh, answer, new_mesh};
 use dcel_text::buffer::Buffer;
 use dcel_text::lines::split_line;
 use dcel_text::output::Writer;
@@ -35,17 +31,6 @@ impl<A: Allocator> Model for Session<A> {
     ghost view = { λ session. record { mesh = session.mesh; begun = session.line } };
 }
 
-/// Carries out what a line says, or answers why not.
-fn answer<A: Allocator + Clone>(mesh: &mut LineMesh<A>, limit: usize, line: &[u8]) -> Response
-    requires { limit ≤ 2 ^ 31 }
-    ensures { Answers limit mesh.old line.now (said result) mesh.new }
-{
-    match parse(line) {
-        Parsed::Bad => Response::BadLine,
-        Parsed::Line(word, args) => step(mesh, limit, word, args),
-    }
-}
-
 impl<A: Allocator + Clone> Session<A> {
     /// Nothing was read.
     pub fn new(alloc: A) -> Result<Self, AllocError>
@@ -68,9 +53,8 @@ impl<A: Allocator + Clone> Session<A> {
         ensures empty { self.new.begun ≡ [] }
     {
         self.line.add_some(last);
-        let response = answer(&mut self.mesh, limit, self.line.as_slice());
+        answer(out, &mut self.mesh, limit, self.line.as_slice());
         self.line.clear();
-        write_response(out, &self.mesh, &response);
     }
 
     /// Takes the next bytes, and answers the lines that end in them.

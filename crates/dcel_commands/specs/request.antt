@@ -1,0 +1,10 @@
+pub mod Append
+pub mod Check
+pub mod Counts
+pub mod Extend
+pub mod Insert
+pub mod Origin
+pub mod Out
+pub mod Setup
+pub mod Triangle
+pub mod Words

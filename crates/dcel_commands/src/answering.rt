@@ -1,0 +1,67 @@
+//! A line's answer: what it says is carried out or told, and written.
+
+ghost use Rattle.std.specs.Prelude.{◌≡◌, ◌≤◌, ◌^◌, IfOk};
+ghost use Rattle.dcel_commands.specs.Answering.{WritesSome};
+ghost use Rattle.dcel_commands.specs.Queries.{TellsOrRefuses};
+ghost use Rattle.dcel_commands.specs.Talk.{Answers, start};
+
+use crate::commands::carry_out;
+use crate::reading::read;
+use crate::refusal::Refusal;
+use crate::replies::{write_refusal, write_reply};
+use crate::request::{Query, Request, check, counts, origin, out as out_edges, words};
+use dcel_text::output::Writer;
+use dcel_text::sink::LineSink;
+use spade_dcel::dcel::Dcel;
+use spade_dcel::operations;
+use std::alloc::{AllocError, Allocator};
+
+/// The mesh that lines are about: all data are numbers.
+pub type LineMesh<A> = Dcel<i64, i64, i64, i64, A>;
+
+/// The mesh before the first line.
+pub fn new_mesh<A: Allocator + Clone>(alloc: A) -> Result<LineMesh<A>, AllocError>
+    ensures { IfOk result (λ mesh. mesh ≡ start) }
+{
+    operations::new(alloc)
+}
+
+/// Writes what a query is told, or refuses it, by the line that it is.
+fn tell<A: Allocator, K: LineSink>(
+    out: &mut Writer<'_, K>,
+    mesh: &LineMesh<A>,
+    query: Query,
+) -> Result<(), Refusal>
+    ensures { TellsOrRefuses K.has_failed K.contents out.old mesh.now.shape query result out.new }
+{
+    match query {
+        Query::Counts => counts::tell(out, mesh),
+        Query::Words => words::tell(out, mesh),
+        Query::Out(vertex) => out_edges::tell(out, mesh, vertex),
+        Query::Origin(edge) => origin::tell(out, mesh, edge),
+        Query::Check => check::tell(out, mesh),
+    }
+}
+
+/// Does what a line says, and writes the answer.
+pub fn answer<A: Allocator + Clone, K: LineSink>(
+    out: &mut Writer<'_, K>,
+    mesh: &mut LineMesh<A>,
+    limit: usize,
+    line: &[u8],
+)
+    requires { limit ≤ 2 ^ 31 }
+    ensures { WritesSome K.has_failed K.contents out.old out.new (λ text. Answers limit mesh.old line.now text mesh.new) }
+{
+    match read(line) {
+        None => out.write(b"bad line\n"),
+        Some(Request::Edit(command)) => match carry_out(mesh, command, limit) {
+            Ok(reply) => write_reply(out, reply),
+            Err(refused) => write_refusal(out, refused.why),
+        },
+        Some(Request::Ask(query)) => match tell(out, mesh, query) {
+            Ok(()) => {}
+            Err(why) => write_refusal(out, why),
+        },
+    }
+}

@@ -1,0 +1,77 @@
+//! The parts of what lines ask of a mesh.
+
+ghost use Rattle.std.specs.Prelude.{◌≡◌, ◌↔◌, ◌+◌, ◌*◌, ◌<◌, ◌≤◌, ◌^◌, false, IsTrue, MatchResult};
+ghost use Rattle.dcel_maps.specs.Edits.{HasRoom};
+ghost use Rattle.dcel_maps.specs.Shapes.{face_count};
+ghost use Rattle.dcel_commands.specs.Conditions.{AreWithin};
+
+use crate::refusal::Refusal;
+use dcel_fixed::{FixedDirectedEdgeHandle, FixedFaceHandle, FixedVertexHandle, InnerTag};
+use spade_dcel::dcel::Dcel;
+use std::alloc::Allocator;
+
+/// Refuses where a condition isn't met.
+pub fn ask(is_met: bool, why: Refusal) -> Result<(), Refusal>
+    ensures { MatchResult result (λ _. IsTrue is_met) (λ refusal. (is_met ≡ false) × (refusal ≡ why)) }
+{
+    if is_met { Ok(()) } else { Err(why) }
+}
+
+/// Whether the vertex's number is in range.
+pub fn has_vertex<V, DE, UE, F, A: Allocator>(
+    dcel: &Dcel<V, DE, UE, F, A>,
+    vertex: FixedVertexHandle,
+) -> bool
+    ensures { IsTrue result ↔ (vertex < dcel.now.shape.vertices) }
+{
+    vertex.index() < dcel.num_vertices()
+}
+
+/// Whether the half edge's number is in range.
+pub fn has_half_edge<V, DE, UE, F, A: Allocator>(
+    dcel: &Dcel<V, DE, UE, F, A>,
+    edge: FixedDirectedEdgeHandle,
+) -> bool
+    ensures { IsTrue result ↔ (edge < 2 * dcel.now.shape.edges) }
+{
+    edge.index() < dcel.num_directed_edges()
+}
+
+/// Whether the face's number is in range and not that of the outer face.
+pub fn has_inner_face<V, DE, UE, F, A: Allocator>(
+    dcel: &Dcel<V, DE, UE, F, A>,
+    face: FixedFaceHandle<InnerTag>,
+) -> bool
+    ensures { IsTrue result ↔ ((0 < face) × (face < face_count dcel.now.shape)) }
+{
+    0 < face.index() && face.index() < dcel.num_faces()
+}
+
+/// Whether none of the counts is above the limit.
+pub fn are_within(limit: usize, vertices: usize, edges: usize, faces: usize) -> bool
+    ensures { IsTrue result ↔ AreWithin limit vertices edges faces }
+{
+    vertices <= limit && edges <= limit && faces <= limit
+}
+
+/// Whether so many more vertices, edges and faces pass no limit.
+pub fn has_room<V, DE, UE, F, A: Allocator>(
+    dcel: &Dcel<V, DE, UE, F, A>,
+    limit: usize,
+    vertices: usize,
+    edges: usize,
+    faces: usize,
+) -> bool
+    requires { limit ≤ 2 ^ 31 }
+    ensures within { let shape = dcel.now.shape in
+        IsTrue result ↔ AreWithin limit (shape.vertices + vertices) (shape.edges + edges) (face_count shape + faces) }
+    // The limit is so low that numbers are left where it isn't passed.
+    ensures room { IsTrue result → HasRoom dcel.now.shape vertices edges faces }
+{
+    are_within(
+        limit,
+        dcel.num_vertices().saturating_add(vertices),
+        dcel.num_undirected_edges().saturating_add(edges),
+        dcel.num_faces().saturating_add(faces),
+    )
+}

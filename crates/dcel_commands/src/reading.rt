@@ -1,0 +1,44 @@
+//! From the bytes of a line to what it says.
+
+ghost use Rattle.dcel_text.specs.Items.{left};
+ghost use Rattle.dcel_commands.specs.Spelling.{Says, Spells};
+ghost use Rattle.std.specs.Prelude.{MatchOption};
+
+use crate::request::{
+    Request, append, check, counts, extend, insert, origin, out, setup, triangle, words,
+};
+use dcel_text::items::{Rest, first};
+
+/// The most bytes that a line may have before its line feed.
+const LONGEST: usize = 4096;
+
+/// What a line says after its first item, by that item.
+#[tactic(auto, using(crate::proofs::Spelling::same_word, crate::proofs::Spelling::no_word))]
+fn read_after<'a>(word: &[u8], rest: Rest<'a>) -> Option<Request>
+    ensures { Says word.now (left rest.entry) result }
+{
+    match word {
+        b"append" => append::read(rest),
+        b"triangle" => triangle::read(rest),
+        b"setup" => setup::read(rest),
+        b"extend" => extend::read(rest),
+        b"insert" => insert::read(rest),
+        b"counts" => counts::read(rest),
+        b"words" => words::read(rest),
+        b"out" => out::read(rest),
+        b"origin" => origin::read(rest),
+        b"check" => check::read(rest),
+        _ => None,
+    }
+}
+
+/// What a line says, if it is a command or a query.
+pub fn read(line: &[u8]) -> Option<Request>
+    ensures { MatchOption result ((request : Request) → ¬ Spells request line.now) (λ request. Spells request line.now) }
+{
+    if line.len() > LONGEST {
+        return None;
+    }
+    let (word, rest) = first(line);
+    read_after(word, rest)
+}

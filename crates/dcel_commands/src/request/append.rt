@@ -1,0 +1,42 @@
+//! `append D`
+
+ghost use Rattle.std.specs.Prelude.{◌≤◌, ◌^◌, codes};
+ghost use Rattle.dcel_text.specs.Items.{left};
+ghost use Rattle.dcel_commands.specs.Spelling.{Says};
+ghost use Rattle.dcel_commands.specs.Steps.{Carries};
+
+use super::*;
+use spade_dcel::operations::{NoMemory, append_unconnected_vertex};
+
+/// What the line says after its word.
+#[tactic(auto, unfolding(crate::specs::Spelling::Says))]
+pub fn read<'a>(rest: Rest<'a>) -> Option<Request>
+    ensures { Says (codes "append") (left rest.entry) result }
+{
+    let datum = last_datum(rest)?;
+    Some(Request::Edit(Command::Append(datum)))
+}
+
+/// Carries the command out.
+pub fn carry_out<V, DE: Default, UE: Default, F: Default, A: Allocator>(
+    dcel: &mut Dcel<V, DE, UE, F, A>,
+    datum: V,
+    limit: usize,
+) -> Result<Reply, Refused<V>>
+    requires { limit ≤ 2 ^ 31 }
+    ensures { Carries DE.is_default UE.is_default F.is_default limit dcel.old (Command.Append datum) result dcel.new }
+{
+    if !has_room(dcel, limit, 1, 0, 0) {
+        return Err(Refused {
+            why: Refusal::NoRoom,
+            back: Handed::One(datum),
+        });
+    }
+    match append_unconnected_vertex(dcel, datum) {
+        Ok(vertex) => Ok(Reply::Vertex(vertex)),
+        Err(NoMemory { back }) => Err(Refused {
+            why: Refusal::OutOfMemory,
+            back: Handed::One(back),
+        }),
+    }
+}

@@ -1,0 +1,39 @@
+//! `insert B F`
+
+ghost use Rattle.std.specs.Prelude.{◌≤◌, ◌^◌, codes};
+ghost use Rattle.dcel_text.specs.Items.{left};
+ghost use Rattle.dcel_commands.specs.Spelling.{Says};
+ghost use Rattle.dcel_commands.specs.Steps.{Carries};
+
+use super::*;
+use spade_dcel::operations::insert_into_triangle;
+
+/// What the line says after its word.
+#[tactic(auto, unfolding(crate::specs::Spelling::Says))]
+pub fn read<'a>(rest: Rest<'a>) -> Option<Request>
+    ensures { Says (codes "insert") (left rest.entry) result }
+{
+    let (v, f) = two_numbers(rest)?;
+    Some(Request::Edit(Command::Insert(vertex(v), inner_face(f))))
+}
+
+/// Carries the command out.
+pub fn carry_out<V, DE: Default, UE: Default, F: Default, A: Allocator>(
+    dcel: &mut Dcel<V, DE, UE, F, A>,
+    vertex: FixedVertexHandle,
+    face: FixedFaceHandle<InnerTag>,
+    limit: usize,
+) -> Result<Reply, Refused<V>>
+    requires { limit ≤ 2 ^ 31 }
+    ensures { Carries DE.is_default UE.is_default F.is_default limit dcel.old (Command.Insert vertex face) result dcel.new }
+{
+    ask(has_vertex(dcel, vertex), Refusal::NoSuchVertex)?;
+    ask(has_inner_face(dcel, face), Refusal::NoSuchFace)?;
+    ask(dcel.is_live_vertex(vertex), Refusal::GivenUp)?;
+    ask(dcel.is_live_face(face), Refusal::GivenUp)?;
+    ask(dcel.is_unconnected(vertex), Refusal::VertexInUse)?;
+    ask(dcel.is_triangle(face), Refusal::NotTriangle)?;
+    ask(has_room(dcel, limit, 0, 3, 2), Refusal::NoRoom)?;
+    let inserted = insert_into_triangle(dcel, vertex, face)?;
+    Ok(Reply::Vertex(inserted))
+}

@@ -1,0 +1,32 @@
+//! `origin H`
+
+ghost use Rattle.std.specs.Prelude.{codes};
+ghost use Rattle.dcel_text.specs.Items.{left};
+ghost use Rattle.dcel_commands.specs.Queries.{TellsOrRefuses};
+ghost use Rattle.dcel_commands.specs.Spelling.{Says};
+
+use super::*;
+use crate::replies::write_reply;
+
+/// What the line says after its word.
+#[tactic(auto, unfolding(crate::specs::Spelling::Says))]
+pub fn read<'a>(rest: Rest<'a>) -> Option<Request>
+    ensures { Says (codes "origin") (left rest.entry) result }
+{
+    let number = last_number(rest)?;
+    Some(Request::Ask(Query::Origin(half_edge(number))))
+}
+
+/// Writes the answer, or refuses and writes nothing.
+pub fn tell<V, DE, UE, F, A: Allocator, K: LineSink>(
+    out: &mut Writer<'_, K>,
+    dcel: &Dcel<V, DE, UE, F, A>,
+    edge: FixedDirectedEdgeHandle,
+) -> Result<(), Refusal>
+    ensures { TellsOrRefuses K.has_failed K.contents out.old dcel.now.shape (Query.Origin edge) result out.new }
+{
+    ask(has_half_edge(dcel, edge), Refusal::NoSuchEdge)?;
+    ask(dcel.is_live_edge(edge.as_undirected()), Refusal::GivenUp)?;
+    write_reply(out, Reply::Vertex(dcel.directed_edge(edge).from().fix()));
+    Ok(())
+}

@@ -1,0 +1,55 @@
+//! `triangle D D D`
+
+ghost use Rattle.std.specs.Prelude.{◌≡◌, codes};
+ghost use Rattle.dcel_text.specs.Items.{left};
+ghost use Rattle.dcel_commands.specs.Spelling.{Says};
+ghost use Rattle.dcel_commands.specs.Steps.{Carries};
+
+use super::*;
+use spade_dcel::operations::{NoMemory, new_triangle};
+
+/// What the line says after its word.
+#[tactic(auto, unfolding(crate::specs::Spelling::Says))]
+pub fn read<'a>(rest: Rest<'a>) -> Option<Request>
+    ensures { Says (codes "triangle") (left rest.entry) result }
+{
+    let (x, y, z) = three_data(rest)?;
+    Some(Request::Edit(Command::Triangle(x, y, z)))
+}
+
+/// Carries the command out.
+pub fn carry_out<
+    V: Drop,
+    DE: Default + Drop,
+    UE: Default + Drop,
+    F: Default + Drop,
+    A: Allocator + Clone,
+>(dcel: &mut Dcel<V, DE, UE, F, A>, vertices: (V, V, V), limit: usize) -> Result<Reply, Refused<V>>
+    ensures { Carries DE.is_default UE.is_default F.is_default limit dcel.old (Command.Triangle vertices.0 vertices.1 vertices.2) result dcel.new }
+{
+    if !are_within(limit, 3, 3, 2) {
+        return Err(refused(Refusal::NoRoom, vertices));
+    }
+    let alloc = match dcel.allocator().clone() {
+        Ok(alloc) => alloc,
+        Err(_) => return Err(refused(Refusal::OutOfMemory, vertices)),
+    };
+    match new_triangle(alloc, vertices) {
+        Ok(made) => {
+            *dcel = made;
+            Ok(Reply::Ok)
+        }
+        Err(NoMemory { back }) => Err(refused(Refusal::OutOfMemory, back)),
+    }
+}
+
+// Refuses a command that carried these data.
+fn refused<V>(why: Refusal, vertices: (V, V, V)) -> Refused<V>
+    ensures { result ≡ record { why = why; back = Handed.Three vertices.0 vertices.1 vertices.2 } }
+{
+    let (first, second, third) = vertices;
+    Refused {
+        why,
+        back: Handed::Three(first, second, third),
+    }
+}

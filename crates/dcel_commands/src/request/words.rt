@@ -1,0 +1,29 @@
+//! `words`
+
+ghost use Rattle.std.specs.Prelude.{codes};
+ghost use Rattle.dcel_text.specs.Items.{left};
+ghost use Rattle.dcel_commands.specs.Queries.{TellsOrRefuses};
+ghost use Rattle.dcel_commands.specs.Spelling.{Says};
+
+use super::*;
+use crate::faces::write_words;
+
+/// What the line says after its word.
+#[tactic(auto, unfolding(crate::specs::Spelling::Says))]
+pub fn read<'a>(rest: Rest<'a>) -> Option<Request>
+    ensures { Says (codes "words") (left rest.entry) result }
+{
+    nothing(rest)?;
+    Some(Request::Ask(Query::Words))
+}
+
+/// Writes the answer.
+pub fn tell<V, DE, UE, F, A: Allocator, K: LineSink>(
+    out: &mut Writer<'_, K>,
+    dcel: &Dcel<V, DE, UE, F, A>,
+) -> Result<(), Refusal>
+    ensures { TellsOrRefuses K.has_failed K.contents out.old dcel.now.shape Query.Words result out.new }
+{
+    write_words(out, dcel);
+    Ok(())
+}
