@@ -4,36 +4,37 @@ use Rattle.std.proofs.lemmas.Bool.{false≢true}
 use Rattle.std.proofs.lemmas.Bool.Decides.{nat_tests}
 use Rattle.dcel_maps.specs.Maps.{Live, Map, Sound}
 use Rattle.dcel_fixed.specs.HalfEdges.{rev}
-use Rattle.dcel_maps.proofs.maps.Edits.{Ear, EarAt, Spur, SpurAt}
+use Rattle.dcel_maps.proofs.maps.Edits.{Drawn, Ear, EarAt, Spur, SpurAt}
 use Rattle.dcel_maps.proofs.maps.Halves.{rev_differs, rev_half}
 use Rattle.dcel_maps.proofs.maps.Updates.{put}
 use Rattle.dcel_maps.proofs.maps.Ears.{ear_site}
 
--- S with a spur
-unfoldable pub spur : Map → ℕ → ℕ → ℕ → Map
-spur S a h v = record {
+-- S with the edge of h drawn, and these faces and links
+abbrev pub drawn : Map → (h from to faces : ℕ) → (next prev face : ℕ → ℕ) → Map
+drawn S h from to faces next prev face = record {
   vertices = S.vertices;
   edges = max S.edges (h / 2 + 1);
-  faces = S.faces;
+  faces = faces;
   edge = put S.edge (h / 2) true;
-  next = put (put (put S.next a h) h (rev h)) (rev h) (S.next a);
-  prev = put (put (put S.prev (S.next a) (rev h)) (rev h) h) h a;
-  origin = put (put S.origin h (S.origin (S.next a))) (rev h) v;
-  face = put (put S.face h (S.face a)) (rev h) (S.face a);
+  next = next;
+  prev = prev;
+  origin = put (put S.origin h from) (rev h) to;
+  face = face;
 }
+
+-- S with a spur
+unfoldable pub spur : Map → ℕ → ℕ → ℕ → Map
+spur S a h v = drawn S h (S.origin (S.next a)) v S.faces
+    (put (put (put S.next a h) h (rev h)) (rev h) (S.next a))
+    (put (put (put S.prev (S.next a) (rev h)) (rev h) h) h a)
+    (put (put S.face h (S.face a)) (rev h) (S.face a))
 
 -- S with an ear
 unfoldable pub ear : Map → ℕ → ℕ → ℕ → ℕ → ℕ → Map
-ear S p n q h g = record {
-  vertices = S.vertices;
-  edges = max S.edges (h / 2 + 1);
-  faces = max S.faces (g + 1);
-  edge = put S.edge (h / 2) true;
-  next = put (put (put (put S.next (S.prev p) h) h q) n (rev h)) (rev h) p;
-  prev = put (put (put (put S.prev h (S.prev p)) q h) (rev h) n) p (rev h);
-  origin = put (put S.origin h (S.origin p)) (rev h) (S.origin q);
-  face = put (put (put (put S.face p g) n g) h (S.face p)) (rev h) g;
-}
+ear S p n q h g = drawn S h (S.origin p) (S.origin q) (max S.faces (g + 1))
+    (put (put (put (put S.next (S.prev p) h) h q) n (rev h)) (rev h) p)
+    (put (put (put (put S.prev h (S.prev p)) q h) (rev h) n) p (rev h))
+    (put (put (put (put S.face p g) n g) h (S.face p)) (rev h) g)
 
 -- a live half edge is neither half of an edge that is not live
 apart_from : (S : Map) (h : ℕ) → S.edge (h / 2) ≡ false → (x : ℕ) → Live S x → (x ≢ h) × (x ≢ rev h)
@@ -41,6 +42,24 @@ apart_from S h f x l = (
   λ i. false≢true (sym f ∙ ap (λ z. S.edge (z / 2)) (sym i) ∙ l),
   λ i. false≢true (sym f ∙ ap S.edge (sym (rev_half h)) ∙ ap (λ z. S.edge (z / 2)) (sym i) ∙ l),
 )
+
+-- what `drawn` makes has the edge drawn
+drawn_is : (S : Map) (h from to faces : ℕ) (next prev face : ℕ → ℕ) → S.edge (h / 2) ≡ false → Drawn S (drawn S h from to faces next prev face) h from to
+unfolding put
+drawn_is S h from to faces next prev face f =
+    let r = rev_differs h in
+    record {
+      grows = record {
+        edge_here = grind (arith, nat_tests);
+        edge_other = λ u d. grind (arith, nat_tests);
+        edges = omega arith;
+        edge_below = omega arith;
+        vertices = refl;
+      };
+      origin_h = grind (arith, nat_tests);
+      origin_rev = grind (arith, nat_tests);
+      origin_other = λ x l. let o = apart_from S h f x l in grind (arith, nat_tests);
+    }
 
 -- what `spur` makes is a spur
 pub spur_is : (S : Map) (a h v : ℕ) → SpurAt S a h v → Sound S → Spur S (spur S a h v) a h v
@@ -51,25 +70,18 @@ spur_is S a h v e s =
     let lb = apart_from S h e.fresh (S.next a) (s.live_next a e.lives) in
     record {
       at = e;
-      edge_here = grind (arith, nat_tests);
-      edge_other = λ u d. grind (arith, nat_tests);
+      drawn = drawn_is S h (S.origin (S.next a)) v S.faces _ _ _ e.fresh;
       next_a = grind (arith, nat_tests);
       next_h = grind (arith, nat_tests);
       next_rev = grind (arith, nat_tests);
-      next_other = λ x l d. let n = apart_from S h e.fresh x l in grind (arith, nat_tests);
+      next_other = λ x l d. let o = apart_from S h e.fresh x l in grind (arith, nat_tests);
       prev_b = grind (arith, nat_tests);
       prev_rev = grind (arith, nat_tests);
       prev_h = grind (arith, nat_tests);
-      prev_other = λ x l d. let n = apart_from S h e.fresh x l in grind (arith, nat_tests);
-      origin_h = grind (arith, nat_tests);
-      origin_rev = grind (arith, nat_tests);
-      origin_other = λ x l. let n = apart_from S h e.fresh x l in grind (arith, nat_tests);
+      prev_other = λ x l d. let o = apart_from S h e.fresh x l in grind (arith, nat_tests);
       face_h = grind (arith, nat_tests);
       face_rev = grind (arith, nat_tests);
-      face_other = λ x l. let n = apart_from S h e.fresh x l in grind (arith, nat_tests);
-      edges = omega arith;
-      edge_below = omega arith;
-      vertices = refl;
+      face_other = λ x l. let o = apart_from S h e.fresh x l in grind (arith, nat_tests);
       faces = refl;
     }
 
@@ -85,29 +97,23 @@ ear_is S p n q h g e s =
     let lb = apart_from S h e.fresh (S.prev p) (s.live_prev p e.lives) in
     record {
       at = e;
-      edge_here = grind (arith, nat_tests);
-      edge_other = λ u d. grind (arith, nat_tests);
-      next_to_h = grind (arith, nat_tests);
-      next_h = grind (arith, nat_tests);
-      next_n = grind (arith, nat_tests);
-      next_rev = grind (arith, nat_tests);
-      next_other = λ x l d k. let o = apart_from S h e.fresh x l in grind (arith, nat_tests);
-      prev_h = grind (arith, nat_tests);
-      prev_q = grind (arith, nat_tests);
-      prev_rev = grind (arith, nat_tests);
-      prev_p = grind (arith, nat_tests);
-      prev_other = λ x l d k. let o = apart_from S h e.fresh x l in grind (arith, nat_tests);
-      origin_h = grind (arith, nat_tests);
-      origin_rev = grind (arith, nat_tests);
-      origin_other = λ x l. let o = apart_from S h e.fresh x l in grind (arith, nat_tests);
-      face_h = grind (arith, nat_tests);
-      face_rev = grind (arith, nat_tests);
-      face_p = grind (arith, nat_tests);
-      face_n = grind (arith, nat_tests);
-      face_other = λ x l d k. let o = apart_from S h e.fresh x l in grind (arith, nat_tests);
-      edges = omega arith;
-      edge_below = omega arith;
-      vertices = refl;
-      faces = omega arith;
-      face_below = omega arith;
+      cut = record {
+        drawn = drawn_is S h (S.origin p) (S.origin q) (max S.faces (g + 1)) _ _ _ e.fresh;
+        next_to_h = grind (arith, nat_tests);
+        next_h = grind (arith, nat_tests);
+        next_to_rev = grind (arith, nat_tests);
+        next_rev = grind (arith, nat_tests);
+        next_other = λ x l d k. let o = apart_from S h e.fresh x l in grind (arith, nat_tests);
+        prev_h = grind (arith, nat_tests);
+        prev_q = grind (arith, nat_tests);
+        prev_rev = grind (arith, nat_tests);
+        prev_p = grind (arith, nat_tests);
+        prev_other = λ x l d k. let o = apart_from S h e.fresh x l in grind (arith, nat_tests);
+        face_h = grind (arith, nat_tests);
+        face_rev = grind (arith, nat_tests);
+        face_in = λ x l t. let o = apart_from S h e.fresh x l in grind (arith, nat_tests);
+        face_out = λ x l t. let o = apart_from S h e.fresh x l in grind (arith, nat_tests);
+        faces = omega arith;
+        face_below = omega arith;
+      };
     }
