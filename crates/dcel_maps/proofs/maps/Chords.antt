@@ -1,13 +1,13 @@
 -- A chord keeps a map sound and a sphere.
 use Rattle.std.proofs.Common.{◌≡◌, ◌≢◌, inl, inr, ◌+◌, ◌/◌, ◌<◌, ℕ, Bool, sym, refl, ap, ◌∙◌, arith}
 use Rattle.std.proofs.lemmas.Bool.{cases_eq, cases_Bool}
-use Rattle.dcel_maps.specs.Maps.{Connected, Live, Map, Sound, Sphere, ccw, count, has_word, starts_edge}
+use Rattle.dcel_maps.specs.Maps.{Connected, Live, Map, Sound, Sphere, ccw, has_word}
 use Rattle.dcel_fixed.specs.HalfEdges.{rev}
 use Rattle.dcel_maps.specs.Maps.Reaches.{go}
 use Rattle.dcel_maps.proofs.maps.Counts.{Used, labels_more}
 use Rattle.dcel_maps.proofs.maps.Cycles.{Cycles, inserted, parted, undoes}
 use Rattle.dcel_maps.proofs.maps.Edits.{Chord}
-use Rattle.dcel_maps.proofs.maps.Growth.{Also, Grown, also_cases, also_live, connected_on, drawn_grown, drawn_sound, each_live, grown_edges, live_cases, not_h, starts_same, still_live}
+use Rattle.dcel_maps.proofs.maps.Growth.{Also, Grown, also_cases, also_live, connected_on, drawn_grown, drawn_sound, each_live, grown_edges, live_cases, not_h, sphere_more, starts_same, still_live, OneMore}
 use Rattle.dcel_maps.proofs.maps.Halves.{rev-rev}
 use Rattle.dcel_maps.proofs.maps.Reaching.{step}
 use Rattle.dcel_maps.proofs.maps.Soundness.{face_cycles, rev_live, vertex_cycles}
@@ -96,38 +96,29 @@ module _ (S T : Map) (p q h g : ℕ) (arc : ℕ → Bool) (e : Chord S T p q h g
         (q, e.lives_q, step (inl e.next_h)) (S.prev p, live_a, step (inl e.next_to_h))
 
     -- a chord adds a face with a word, and an edge
-    pub chord_euler : Sound T
-        → (count (starts_edge T) T.vertices ≡ count (starts_edge S) S.vertices)
-        × (count (has_word T) T.faces ≡ count (has_word S) S.faces + 1)
-        × (count T.edge T.edges ≡ count S.edge S.edges + 1)
+    pub chord_euler : Sound T → OneMore S T
     unfolding has_word
-    chord_euler t = (
-      starts_same S T h (S.origin p) (S.origin q) e.fresh e.drawn s t p q e.lives_p e.lives_q refl refl,
-      labels_more S T s t S.face T.face S.faces T.faces e.faces s.below_faces
-          (λ x l. elim (cases_Bool (arc x)) [
-            | inl i ↦ record {
-              half = q;
-              live = still_live S T h chord_grown q e.lives_q;
-              is = e.face_out q e.lives_q e.arc_q ∙ sym e.same ∙ sym (e.arc_face x l i);
-            }
-            | inr i ↦ record { half = x; live = still_live S T h chord_grown x l; is = e.face_out x l i }
-          ])
-          g e.face_below e.vacant (record { half = rev h; live = rev_live T h e.edge_here; is = e.face_rev })
-          (each_live S T h chord_grown (λ x. T.face x ≢ g → Used S S.face (T.face x))
-          (λ x l d. elim (cases_Bool (arc x)) [
-            | inl i ↦ absurd (d (e.face_in x l i))
-            | inr i ↦ record { half = x; live = l; is = sym (e.face_out x l i) }
-          ])
-          (λ d. record { half = q; live = e.lives_q; is = sym e.face_h }) (λ d. absurd (d e.face_rev))),
-      grown_edges S T h chord_grown s,
-    )
+    chord_euler t =
+        let starts = starts_same S T h (S.origin p) (S.origin q) e.fresh e.drawn s t p q e.lives_p e.lives_q refl refl in
+        let words =
+        labels_more S T s t S.face T.face S.faces T.faces e.faces s.below_faces
+        (λ x l. elim (cases_Bool (arc x)) [
+          | inl i ↦ record {
+            half = q;
+            live = still_live S T h chord_grown q e.lives_q;
+            is = e.face_out q e.lives_q e.arc_q ∙ sym e.same ∙ sym (e.arc_face x l i);
+          }
+          | inr i ↦ record { half = x; live = still_live S T h chord_grown x l; is = e.face_out x l i }
+        ])
+        g e.face_below e.vacant (record { half = rev h; live = rev_live T h e.edge_here; is = e.face_rev })
+        (each_live S T h chord_grown (λ x. T.face x ≢ g → Used S S.face (T.face x))
+        (λ x l d. elim (cases_Bool (arc x)) [
+          | inl i ↦ absurd (d (e.face_in x l i))
+          | inr i ↦ record { half = x; live = l; is = sym (e.face_out x l i) }
+        ])
+        (λ d. record { half = q; live = e.lives_q; is = sym e.face_h }) (λ d. absurd (d e.face_rev))) in
+        record { edges = grown_edges S T h chord_grown s; corners = omega (arith, starts, words) }
 
     -- a chord keeps a map sound and a sphere
     pub chord_keeps : Sphere S → Sound T × Sphere T
-    chord_keeps m = (
-      chord_sound,
-      record {
-        connected = chord_connected m.connected;
-        euler = λ u l. let k = chord_euler chord_sound in let i = m.euler (p / 2) e.lives_p in omega arith;
-      },
-    )
+    chord_keeps m = (chord_sound, sphere_more S T (chord_euler chord_sound) (p / 2) e.lives_p m (chord_connected m.connected))

@@ -1,10 +1,10 @@
 -- A triangle alone is sound and a sphere: a first edge, a spur and an ear.
-use Rattle.std.proofs.Common.{◌≡◌, ◌≢◌, ℕ, zero, suc, ◌/◌, ◌<◌, true, false, nat_lt, List, [], ◌∷◌, slice_index, refl, sym, arith, le-ltb, ltb-true}
+use Rattle.std.proofs.Common.{◌≡◌, ◌≢◌, ℕ, zero, suc, ◌+◌, ◌/◌, ◌<◌, true, false, nat_lt, List, [], ◌∷◌, slice_index, refl, sym, arith, le-ltb, ltb-true}
 use Rattle.std.proofs.lemmas.Bool.{false≢true}
 use Rattle.std.proofs.lemmas.Bool.Decides.{nat_tests}
 use Rattle.dcel_fixed.specs.HalfEdges.{rev}
 use Rattle.dcel_maps.specs.Maps.{Map, Live, Sound, Sphere}
-use Rattle.dcel_maps.proofs.maps.Edits.{FirstEdge, Spur, Ear, two as pair}
+use Rattle.dcel_maps.proofs.maps.Edits.{FirstEdge, Grows, Spur, Ear, two as pair}
 use Rattle.dcel_maps.proofs.maps.Firsts.{first_keeps}
 use Rattle.dcel_maps.proofs.maps.Spurs.{spur_keeps}
 use Rattle.dcel_maps.proofs.maps.Ears.{ear_keeps}
@@ -36,6 +36,17 @@ listed edges next prev origin face = record {
   prev = λ h. slice_index prev h;
   origin = λ h. slice_index origin h;
   face = λ h. slice_index face h;
+}
+
+-- one edge more
+one_more : (S T : Map) (n h : ℕ) → S.edges ≡ n → T.edges ≡ n + 1 → ((u : ℕ) → S.edge u ≡ nat_lt u n) → ((u : ℕ) → T.edge u ≡ nat_lt u (n + 1))
+    → T.vertices ≡ S.vertices → h / 2 ≡ n → Grows S T h
+one_more S T n h before after was is vertices half = record {
+  edge_here = let i = is (h / 2) in grind (arith, nat_tests);
+  edge_other = λ u differs. let i = is u in let j = was u in grind (arith, nat_tests);
+  edges = omega arith;
+  edge_below = omega arith;
+  vertices = vertices;
 }
 
 -- an edge; with a spur; and with the ear over it, which closes the triangle
@@ -84,13 +95,7 @@ second = record {
     vertex_room = omega arith;
   };
   drawn = record {
-    grows = record {
-      edge_here = refl;
-      edge_other = λ u differs. grind (arith, nat_tests);
-      edges = omega arith;
-      edge_below = omega arith;
-      vertices = refl;
-    };
+    grows = one_more one two 1 2 refl refl (λ u. refl) (λ u. refl) refl refl;
     origin_h = refl;
     origin_rev = refl;
     origin_other = each_one (λ x. two.origin x ≡ one.origin x) refl refl;
@@ -122,13 +127,7 @@ third = record {
   };
   cut = record {
     drawn = record {
-      grows = record {
-        edge_here = refl;
-        edge_other = λ u differs. grind (arith, nat_tests);
-        edges = omega arith;
-        edge_below = omega arith;
-        vertices = refl;
-      };
+      grows = one_more two triangle 2 4 refl refl (λ u. refl) (λ u. refl) refl refl;
       origin_h = refl;
       origin_rev = refl;
       origin_other = each_two (λ x. triangle.origin x ≡ two.origin x) refl refl refl refl;

@@ -1,7 +1,7 @@
 -- What the edits that add an edge share.
-use Rattle.std.proofs.Common.{◌≡◌, ◌≢◌, ◌⊎◌, inl, inr, ◌+◌, ◌/◌, ◌<◌, ℕ, false, sym, refl, ap, ◌∙◌, subst, arith}
+use Rattle.std.proofs.Common.{◌≡◌, ◌≢◌, ◌⊎◌, inl, inr, ◌+◌, ◌/◌, ◌<◌, ℕ, true, false, sym, refl, ap, ◌∙◌, subst, arith}
 use Rattle.std.proofs.lemmas.Bool.{cases_eq, false≢true}
-use Rattle.dcel_maps.specs.Maps.{Connected, Live, Map, NextOrRev, Reaches, Sound, ccw, count, starts_edge}
+use Rattle.dcel_maps.specs.Maps.{Connected, Live, Map, NextOrRev, Reaches, Sound, Sphere, ccw, count, has_word, starts_edge}
 use Rattle.dcel_fixed.specs.HalfEdges.{rev}
 use Rattle.dcel_maps.specs.Maps.Reaches.{go, here}
 use Rattle.dcel_maps.proofs.maps.Counts.{Used, count_more, count_past, edge_past, labels_more, labels_same}
@@ -64,6 +64,18 @@ module _ (S T : Map) (h : ℕ) (g : Grown S T h) where
   grown_edges s =
       count_more S.edge T.edge T.edges (h / 2) g.edge_below g.fresh g.edge_here (λ j l d. sym (g.edge_other j d))
       ∙ ap (λ z. z + 1) (count_past S.edge S.edges T.edges g.edges (edge_past S s))
+
+-- T has one live edge more than S, and one more of the vertices that start an edge and the faces with a word
+pub record OneMore (S T : Map) : Type 0 where
+  pub edges : count T.edge T.edges ≡ count S.edge S.edges + 1
+  pub corners : count (starts_edge T) T.vertices + count (has_word T) T.faces ≡ count (starts_edge S) S.vertices + count (has_word S) S.faces + 1
+
+-- so Euler's formula holds of both or of neither
+pub sphere_more : (S T : Map) → OneMore S T → (u : ℕ) → S.edge u ≡ true → Sphere S → Connected T → Sphere T
+sphere_more S T e u l m c = record { connected = c; euler = λ v k. omega (arith, e.edges, e.corners, m.euler u l) }
+
+pub sphere_less : (S T : Map) → OneMore S T → (u : ℕ) → T.edge u ≡ true → Sphere T → Connected S → Sphere S
+sphere_less S T e u l m c = record { connected = c; euler = λ v k. omega (arith, e.edges, e.corners, m.euler u l) }
 
 -- where r x in T stands for x in S
 pub connected_by : (S T : Map) (r : ℕ → ℕ) → Sound S → Connected S

@@ -1,13 +1,13 @@
 -- A spur keeps a map sound and a sphere.
 use Rattle.std.proofs.Common.{◌≡◌, inl, inr, ◌+◌, ◌/◌, ◌<◌, ℕ, sym, refl, ap, ◌∙◌, arith}
 use Rattle.std.proofs.lemmas.Bool.{cases_eq}
-use Rattle.dcel_maps.specs.Maps.{Connected, Live, Map, Sound, Sphere, ccw, count, has_word, starts_edge}
+use Rattle.dcel_maps.specs.Maps.{Connected, Live, Map, Sound, Sphere, ccw, has_word}
 use Rattle.dcel_fixed.specs.HalfEdges.{rev}
 use Rattle.dcel_maps.specs.Maps.Reaches.{go}
 use Rattle.dcel_maps.proofs.maps.Counts.{Used, labels_same}
 use Rattle.dcel_maps.proofs.maps.Cycles.{Cycles, inserted, single, undoes}
 use Rattle.dcel_maps.proofs.maps.Edits.{Spur}
-use Rattle.dcel_maps.proofs.maps.Growth.{Also, Grown, also_cases, also_live, connected_on, drawn_grown, drawn_sound, each_live, grown_edges, not_h, starts_more, still_live}
+use Rattle.dcel_maps.proofs.maps.Growth.{Also, Grown, also_cases, also_live, connected_on, drawn_grown, drawn_sound, each_live, grown_edges, not_h, sphere_more, starts_more, still_live, OneMore}
 use Rattle.dcel_maps.proofs.maps.Halves.{rev-rev}
 use Rattle.dcel_maps.proofs.maps.Reaching.{step}
 use Rattle.dcel_maps.proofs.maps.Soundness.{face_cycles, rev_live, vertex_cycles}
@@ -81,26 +81,17 @@ module _ (S T : Map) (a h v : ℕ) (e : Spur S T a h v) where
         (b, live_b, go (inl e.next_h) (step (inl e.next_rev))) (a, e.lives, step (inl e.next_a))
 
     -- a spur adds a vertex that starts an edge, and an edge
-    pub spur_euler : Sound T
-        → (count (starts_edge T) T.vertices ≡ count (starts_edge S) S.vertices + 1)
-        × (count (has_word T) T.faces ≡ count (has_word S) S.faces)
-        × (count T.edge T.edges ≡ count S.edge S.edges + 1)
+    pub spur_euler : Sound T → OneMore S T
     unfolding has_word
-    spur_euler t = (
-      starts_more S T h (S.origin b) v e.fresh e.drawn s t b live_b refl e.vertex_room e.isolated,
-      labels_same S T s t S.face T.face S.faces T.faces (omega (arith, e.faces)) s.below_faces
-          (λ x l. record { half = x; live = still_live S T h spur_grown x l; is = e.face_other x l })
-          (each_live S T h spur_grown (λ x. Used S S.face (T.face x)) (λ x l. record { half = x; live = l; is = sym (e.face_other x l) })
-          (record { half = a; live = e.lives; is = sym e.face_h }) (record { half = a; live = e.lives; is = sym e.face_rev })),
-      grown_edges S T h spur_grown s,
-    )
+    spur_euler t =
+        let starts = starts_more S T h (S.origin b) v e.fresh e.drawn s t b live_b refl e.vertex_room e.isolated in
+        let words =
+        labels_same S T s t S.face T.face S.faces T.faces (omega (arith, e.faces)) s.below_faces
+        (λ x l. record { half = x; live = still_live S T h spur_grown x l; is = e.face_other x l })
+        (each_live S T h spur_grown (λ x. Used S S.face (T.face x)) (λ x l. record { half = x; live = l; is = sym (e.face_other x l) })
+        (record { half = a; live = e.lives; is = sym e.face_h }) (record { half = a; live = e.lives; is = sym e.face_rev })) in
+        record { edges = grown_edges S T h spur_grown s; corners = omega (arith, starts, words) }
 
     -- a spur keeps a map sound and a sphere
     pub spur_keeps : Sphere S → Sound T × Sphere T
-    spur_keeps m = (
-      spur_sound,
-      record {
-        connected = spur_connected m.connected;
-        euler = λ u l. let k = spur_euler spur_sound in let i = m.euler (a / 2) e.lives in omega arith;
-      },
-    )
+    spur_keeps m = (spur_sound, sphere_more S T (spur_euler spur_sound) (a / 2) e.lives m (spur_connected m.connected))
