@@ -1,6 +1,5 @@
 -- An ear, a chord over two neighbours, keeps a map sound and a sphere.
-use Rattle.std.proofs.Common.{◌≡◌, ◌≢◌, ◌⊎◌, inl, inr, ◌==◌, ℕ, true, false, eqb-true, eq-eqb, sym, ap, ◌∙◌, subst, arith}
-use Rattle.std.proofs.lemmas.Bool.{false≢true, or_cases, or_left, or_right}
+use Rattle.std.proofs.Common.{◌≡◌, ◌≢◌, ℕ, true, sym, ap, ◌∙◌, subst, arith}
 use Rattle.std.proofs.lemmas.Bool.Decides.{nat_tests}
 use Rattle.dcel_maps.specs.Maps.{Live, Map, Sound, Sphere}
 use Rattle.dcel_maps.proofs.maps.Edits.{Chord, ChordAt, Ear, EarAt, two}
@@ -60,15 +59,9 @@ ear_at S p n q h g s e =
       arc_leave = λ x l i j. grind (arith, nat_tests);
     }
 
--- what the test of two numbers says
-pub two_cases : (p n x : ℕ) → two p n x ≡ true → (x ≡ p) ⊎ (x ≡ n)
-two_cases p n x t = elim (or_cases (x == p) (x == n) t) [ inl i ↦ inl (eqb-true x p i) | inr i ↦ inr (eqb-true x n i) ]
-
-pub two_not : (p n x : ℕ) → two p n x ≡ false → (x ≢ p) × (x ≢ n)
-two_not p n x t = (
-  λ i. false≢true (sym t ∙ or_left (x == p) (x == n) (eq-eqb x p i)),
-  λ i. false≢true (sym t ∙ or_right (x == p) (x == n) (eq-eqb x n i)),
-)
+-- what holds at two numbers holds where the test of the two does
+pub two_in : (f : ℕ → ℕ) (p n x g : ℕ) → f p ≡ g → f n ≡ g → two p n x ≡ true → f x ≡ g
+two_in f p n x g at_p at_n t = grind (arith, nat_tests)
 
 module _ (S T : Map) (p n q h g : ℕ) (e : Ear S T p n q h g) (s : Sound S) where
   -- an ear is a chord

@@ -1,6 +1,6 @@
 -- What the edits that add an edge share.
 use Rattle.std.proofs.Common.{◌≡◌, ◌≢◌, ◌⊎◌, inl, inr, ◌+◌, ◌/◌, ◌<◌, ℕ, true, false, sym, refl, ap, ◌∙◌, subst, arith}
-use Rattle.std.proofs.lemmas.Bool.{cases_eq, false≢true}
+use Rattle.std.proofs.lemmas.Bool.{cases_eq}
 use Rattle.dcel_maps.specs.Maps.{Connected, Live, Map, NextOrRev, Reaches, Sound, Sphere, ccw, count, has_word, starts_edge}
 use Rattle.dcel_fixed.specs.HalfEdges.{rev}
 use Rattle.dcel_maps.specs.Maps.Reaches.{go, here}
@@ -9,7 +9,7 @@ use Rattle.dcel_maps.proofs.maps.Cycles.{Cycles}
 use Rattle.dcel_maps.proofs.maps.Edits.{Drawn, Grows}
 use Rattle.dcel_maps.proofs.maps.Halves.{both_halves, rev-rev, rev_half, rev_or_same}
 use Rattle.dcel_maps.proofs.maps.Reaching.{reroutes, step, then}
-use Rattle.dcel_maps.proofs.maps.Soundness.{live_step, rev_live, sound_from}
+use Rattle.dcel_maps.proofs.maps.Soundness.{apart_from, live_step, not_of_dead, rev_live, sound_from}
 
 -- T has the edge of h, which is not in S, and the edges of S
 pub record Grown (S T : Map) (h : ℕ) : Type 0 where
@@ -24,14 +24,14 @@ Also S h x = Live S x ⊎ (x ≡ h)
 module _ (S T : Map) (h : ℕ) (g : Grown S T h) where
   -- an old half edge is not of the new edge
   pub not_new_edge : (x : ℕ) → Live S x → x / 2 ≢ h / 2
-  not_new_edge x l e = false≢true (sym g.fresh ∙ sym (ap S.edge e) ∙ l)
+  not_new_edge = not_of_dead S h g.fresh
 
   -- so it is not h, and not its other half
   pub not_h : (x : ℕ) → Live S x → x ≢ h
-  not_h x l e = not_new_edge x l (ap (λ z. z / 2) e)
+  not_h x l = (apart_from S h g.fresh x l).0
 
   pub not_rev : (x : ℕ) → Live S x → x ≢ rev h
-  not_rev x l e = not_new_edge x l (ap (λ z. z / 2) e ∙ rev_half h)
+  not_rev x l = (apart_from S h g.fresh x l).1
 
   -- what was live still is
   pub still_live : (x : ℕ) → Live S x → Live T x

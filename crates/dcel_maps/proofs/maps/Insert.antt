@@ -12,7 +12,7 @@ use Rattle.dcel_maps.proofs.maps.Soundness.{next_differs}
 use Rattle.dcel_maps.proofs.maps.Counts.{edge_past}
 use Rattle.dcel_maps.proofs.maps.Words.{IsWord}
 use Rattle.dcel_maps.proofs.maps.Spurs.{spur_keeps}
-use Rattle.dcel_maps.proofs.maps.Ears.{ear_keeps, two_cases, two_not}
+use Rattle.dcel_maps.proofs.maps.Ears.{ear_keeps, two_in}
 use Rattle.dcel_maps.proofs.maps.Made.{ear, ear_is, spur, spur_is}
 
 -- a vertex put into the triangle (e0, e1, e2) of the face f: three new edges, each from a corner to v. The face f keeps e0,
@@ -334,11 +334,11 @@ insert_last S T M f e0 e1 e2 v e s k at =
             (λ x l n b i j. let o = e.others x l n in let d = is_not x n in o.1 ∙ sym (k.prev_other x b d.1 d.2));
         face_h = e.word_0.1.1.2 ∙ sym k.face_a;
         face_rev = ap T.face r5 ∙ e.word_2.1.0.2;
-        face_in = λ x l t. elim (two_cases (m + 3) e2 x t) [ inl i ↦ ap T.face i ∙ e.word_2.1.1.2 | inr i ↦ ap T.face i ∙ e.word_2.0.2 ];
+        face_in = λ x l. two_in T.face (m + 3) e2 x (S.faces + 1) e.word_2.1.1.2 e.word_2.0.2;
         face_out = all (λ x. two (m + 3) e2 x ≡ false → T.face x ≡ M.face x)
-            (λ t. e.word_0.0.2 ∙ sym k.face_a) (λ t. e.word_1.0.2 ∙ sym k.face_b) (λ t. absurd ((two_not (m + 3) e2 e2 t).1 refl))
+            (λ t. e.word_0.0.2 ∙ sym k.face_a) (λ t. e.word_1.0.2 ∙ sym k.face_b) (λ t. grind (arith, nat_tests))
             (λ t. e.word_0.1.0.2 ∙ sym k.face_0) (λ t. e.word_1.1.1.2 ∙ sym k.face_1) (λ t. e.word_1.1.0.2 ∙ sym k.face_2)
-            (λ t. absurd ((two_not (m + 3) e2 (m + 3) t).0 refl))
+            (λ t. grind (arith, nat_tests))
             (λ x l n b t. let o = e.others x l n in o.2 ∙ sym (k.face_other x b (is_not x n).1));
         faces = let i = e.faces in let j = k.faces in omega arith;
         face_below = let i = e.faces in omega arith;

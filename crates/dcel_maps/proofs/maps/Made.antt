@@ -1,11 +1,11 @@
 -- Spurs and ears as functions of the map before.
-use Rattle.std.proofs.Common.{◌≡◌, ◌≢◌, ◌+◌, ◌/◌, ℕ, true, false, max, sym, refl, ap, ◌∙◌, arith}
-use Rattle.std.proofs.lemmas.Bool.{false≢true}
+use Rattle.std.proofs.Common.{◌≡◌, ◌+◌, ◌/◌, ℕ, true, false, max, refl, arith}
 use Rattle.std.proofs.lemmas.Bool.Decides.{nat_tests}
-use Rattle.dcel_maps.specs.Maps.{Live, Map, Sound}
+use Rattle.dcel_maps.specs.Maps.{Map, Sound}
 use Rattle.dcel_fixed.specs.HalfEdges.{rev}
 use Rattle.dcel_maps.proofs.maps.Edits.{Drawn, Ear, EarAt, Spur, SpurAt}
-use Rattle.dcel_maps.proofs.maps.Halves.{rev_differs, rev_half}
+use Rattle.dcel_maps.proofs.maps.Halves.{rev_differs}
+use Rattle.dcel_maps.proofs.maps.Soundness.{apart_from}
 use Rattle.dcel_maps.proofs.maps.Updates.{put}
 use Rattle.dcel_maps.proofs.maps.Ears.{ear_site}
 
@@ -35,13 +35,6 @@ ear S p n q h g = drawn S h (S.origin p) (S.origin q) (max S.faces (g + 1))
     (put (put (put (put S.next (S.prev p) h) h q) n (rev h)) (rev h) p)
     (put (put (put (put S.prev h (S.prev p)) q h) (rev h) n) p (rev h))
     (put (put (put (put S.face p g) n g) h (S.face p)) (rev h) g)
-
--- a live half edge is neither half of an edge that is not live
-apart_from : (S : Map) (h : ℕ) → S.edge (h / 2) ≡ false → (x : ℕ) → Live S x → (x ≢ h) × (x ≢ rev h)
-apart_from S h f x l = (
-  λ i. false≢true (sym f ∙ ap (λ z. S.edge (z / 2)) (sym i) ∙ l),
-  λ i. false≢true (sym f ∙ ap S.edge (sym (rev_half h)) ∙ ap (λ z. S.edge (z / 2)) (sym i) ∙ l),
-)
 
 -- what `drawn` makes has the edge drawn
 drawn_is : (S : Map) (h from to faces : ℕ) (next prev face : ℕ → ℕ) → S.edge (h / 2) ≡ false → Drawn S (drawn S h from to faces next prev face) h from to

@@ -1,5 +1,5 @@
 -- A spur keeps a map sound and a sphere.
-use Rattle.std.proofs.Common.{◌≡◌, inl, inr, ◌+◌, ◌/◌, ◌<◌, ℕ, sym, refl, ap, ◌∙◌, arith}
+use Rattle.std.proofs.Common.{◌≡◌, inl, inr, ◌/◌, ◌<◌, ℕ, sym, refl, ap, ◌∙◌, arith}
 use Rattle.std.proofs.lemmas.Bool.{cases_eq}
 use Rattle.dcel_maps.specs.Maps.{Connected, Live, Map, Sound, Sphere, ccw, has_word}
 use Rattle.dcel_fixed.specs.HalfEdges.{rev}
