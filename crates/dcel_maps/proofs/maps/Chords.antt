@@ -73,11 +73,12 @@ module _ (S T : Map) (p q h g : ℕ) (arc : ℕ → Bool) (e : Chord S T p q h g
         ])
         (omega (arith, s.below_faces q e.lives_q, e.faces, e.face_h)) (omega (arith, e.face_below, e.face_rev)))
         (each_live S T h chord_grown (λ x. T.prev (T.next x) ≡ x)
-        (undoes (Live S) S.next S.prev T.next T.prev (S.prev p) (S.prev q) p q s.live_next s.prev-next refl refl
+        (undoes (Live S) S.next S.prev T.next T.prev (S.prev p) (S.prev q) p q (λ x l _ _. s.live_next x l) s.prev-next (λ x l i. i) (λ x l i. i)
         (cc (e.next_to_h, e.prev_h)) (cc (e.next_to_rev, e.prev_rev)) e.next_other e.prev_other)
         (cc (e.next_h, e.prev_q)) (cc (e.next_rev, e.prev_p)))
         (each_live S T h chord_grown (λ x. T.next (T.prev x) ≡ x)
-        (undoes (Live S) S.prev S.next T.prev T.next p q (S.prev p) (S.prev q) s.live_prev s.next-prev next_a next_b
+        (undoes (Live S) S.prev S.next T.prev T.next p q (S.prev p) (S.prev q) (λ x l _ _. s.live_prev x l) s.next-prev
+        (λ x l i. i ∙ next_a) (λ x l i. i ∙ next_b)
         (cc (e.prev_p, e.next_rev)) (cc (e.prev_q, e.next_h)) e.prev_other e.next_other)
         (cc (e.prev_h, e.next_to_h)) (cc (e.prev_rev, e.next_to_rev)))
         face_cycles_after vertex_cycles_after

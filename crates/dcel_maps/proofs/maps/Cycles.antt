@@ -22,17 +22,18 @@ pub same_label_iff : (P : ℕ → Type 0) (f label : ℕ → ℕ) → Cycles P f
     → (x y : ℕ) → P x → P y → (label x ≡ label y) ↔ Reaches (By f) x y
 same_label_iff P f label c x y p q = (c.joined x y p q, same_label P f label c p)
 
--- where g undoes f, and f' is f but at a and c, as g' is g but at b and d
-pub undoes : (P : ℕ → Type 0) (f g f' g' : ℕ → ℕ) (a c b d : ℕ) → ((x : ℕ) → P x → P (f x)) → ((x : ℕ) → P x → g (f x) ≡ x)
-    → g b ≡ a → g d ≡ c → g' (f' a) ≡ a → g' (f' c) ≡ c → ((x : ℕ) → P x → x ≢ a → x ≢ c → f' x ≡ f x)
-    → ((x : ℕ) → P x → x ≢ b → x ≢ d → g' x ≡ g x) → (x : ℕ) → P x → g' (f' x) ≡ x
+-- where g undoes f, and f' is f but at a and c, as g' is g but at b and d, g' undoes f'
+pub undoes : (P : ℕ → Type 0) (f g f' g' : ℕ → ℕ) (a c b d : ℕ)
+    → ((x : ℕ) → P x → x ≢ a → x ≢ c → P (f x)) → ((x : ℕ) → P x → g (f x) ≡ x)
+    → ((x : ℕ) → P x → x ≡ g b → x ≡ a) → ((x : ℕ) → P x → x ≡ g d → x ≡ c) → g' (f' a) ≡ a → g' (f' c) ≡ c
+    → ((x : ℕ) → P x → x ≢ a → x ≢ c → f' x ≡ f x) → ((x : ℕ) → P x → x ≢ b → x ≢ d → g' x ≡ g x) → (x : ℕ) → P x → g' (f' x) ≡ x
 undoes P f g f' g' a c b d stays undo gb gd at_a at_c fs gs x p = elim (cases_eq x a) [
   | inl i ↦ cc (ap f' i)
   | inr m ↦ elim (cases_eq x c) [
     | inl i ↦ cc (ap f' i)
-    | inr n ↦ ap g' (fs x p m n)
-        ∙ gs (f x) (stays x p) (λ i. m (sym (undo x p) ∙ ap g i ∙ gb)) (λ i. n (sym (undo x p) ∙ ap g i ∙ gd))
-        ∙ undo x p
+    | inr n ↦
+        let u = undo x p in
+        ap g' (fs x p m n) ∙ gs (f x) (stays x p m n) (λ i. m (gb x p (sym u ∙ ap g i))) (λ i. n (gd x p (sym u ∙ ap g i))) ∙ u
   ]
 ]
 

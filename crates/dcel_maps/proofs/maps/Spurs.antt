@@ -61,11 +61,12 @@ module _ (S T : Map) (a h v : ℕ) (e : Spur S T a h v) where
         (each_live S T h spur_grown (λ x. T.face x < T.faces) (λ x l. omega (arith, s.below_faces x l, e.faces, e.face_other x l))
         (omega (arith, s.below_faces a e.lives, e.faces, e.face_h)) (omega (arith, s.below_faces a e.lives, e.faces, e.face_rev)))
         (each_live S T h spur_grown (λ x. T.prev (T.next x) ≡ x)
-        (undoes (Live S) S.next S.prev T.next T.prev a a b b s.live_next s.prev-next (s.prev-next a e.lives) (s.prev-next a e.lives)
+        (undoes (Live S) S.next S.prev T.next T.prev a a b b (λ x l _ _. s.live_next x l) s.prev-next
+        (λ x l i. i ∙ s.prev-next a e.lives) (λ x l i. i ∙ s.prev-next a e.lives)
         (cc (e.next_a, e.prev_h)) (cc (e.next_a, e.prev_h)) (λ x l d _. e.next_other x l d) (λ x l d _. e.prev_other x l d))
         (cc (e.next_h, e.prev_rev)) (cc (e.next_rev, e.prev_b)))
         (each_live S T h spur_grown (λ x. T.next (T.prev x) ≡ x)
-        (undoes (Live S) S.prev S.next T.prev T.next b b a a s.live_prev s.next-prev refl refl
+        (undoes (Live S) S.prev S.next T.prev T.next b b a a (λ x l _ _. s.live_prev x l) s.next-prev (λ x l i. i) (λ x l i. i)
         (cc (e.prev_b, e.next_rev)) (cc (e.prev_b, e.next_rev)) (λ x l d _. e.prev_other x l d) (λ x l d _. e.next_other x l d))
         (cc (e.prev_h, e.next_a)) (cc (e.prev_rev, e.next_h)))
         face_cycles_after vertex_cycles_after
