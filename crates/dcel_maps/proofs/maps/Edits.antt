@@ -3,7 +3,7 @@ use Rattle.std.proofs.Common.{◌≡◌, ◌≢◌, ◌/◌, ◌<◌, ◌≤◌,
 use Rattle.dcel_maps.specs.Maps.{IsBare, Live, Map}
 use Rattle.dcel_fixed.specs.HalfEdges.{rev}
 
--- T has the live edges of S and that of h, and no fewer numbers for edges
+-- T has the live edges of S and that of h, numbers enough for both, and as many vertices
 pub record Grows (S T : Map) (h : ℕ) : Type 0 where
   pub edge_here : T.edge (h / 2) ≡ true
   pub edge_other : (u : ℕ) → u ≢ h / 2 → T.edge u ≡ S.edge u
@@ -11,7 +11,7 @@ pub record Grows (S T : Map) (h : ℕ) : Type 0 where
   pub edge_below : h / 2 < T.edges
   pub vertices : T.vertices ≡ S.vertices
 
--- and h leads from one vertex to another, where S has its origins
+-- and h leads from one vertex to another; the old half edges start where they did
 pub record Drawn (S T : Map) (h from to : ℕ) : Type 0 where
   pub grows : Grows S T h
   pub open grows use *

@@ -9,35 +9,36 @@ use Rattle.dcel_maps.proofs.maps.Soundness.{apart_from}
 use Rattle.dcel_maps.proofs.maps.Updates.{put}
 use Rattle.dcel_maps.proofs.maps.Ears.{ear_site}
 
--- S with the edge of h drawn, and these faces and links
-abbrev pub drawn : Map → (h from to faces : ℕ) → (next prev face : ℕ → ℕ) → Map
-drawn S h from to faces next prev face = record {
-  vertices = S.vertices;
+-- S with the edge of h drawn
+abbrev pub drawn : Map → (h from to : ℕ) → Map
+drawn S h from to = record S {
   edges = max S.edges (h / 2 + 1);
-  faces = faces;
   edge = put S.edge (h / 2) true;
-  next = next;
-  prev = prev;
   origin = put (put S.origin h from) (rev h) to;
-  face = face;
 }
+
+-- y comes after x
+abbrev pub linked : Map → (x y : ℕ) → Map
+linked M x y = record M { next = put M.next x y; prev = put M.prev y x }
 
 -- S with a spur
 unfoldable pub spur : Map → ℕ → ℕ → ℕ → Map
-spur S a h v = drawn S h (S.origin (S.next a)) v S.faces
-    (put (put (put S.next a h) h (rev h)) (rev h) (S.next a))
-    (put (put (put S.prev (S.next a) (rev h)) (rev h) h) h a)
-    (put (put S.face h (S.face a)) (rev h) (S.face a))
+spur S a h v =
+    record (linked (linked (linked (drawn S h (S.origin (S.next a)) v) a h) h (rev h)) (rev h) (S.next a)) {
+      face = put (put S.face h (S.face a)) (rev h) (S.face a);
+    }
 
 -- S with an ear
 unfoldable pub ear : Map → ℕ → ℕ → ℕ → ℕ → ℕ → Map
-ear S p n q h g = drawn S h (S.origin p) (S.origin q) (max S.faces (g + 1))
-    (put (put (put (put S.next (S.prev p) h) h q) n (rev h)) (rev h) p)
-    (put (put (put (put S.prev h (S.prev p)) q h) (rev h) n) p (rev h))
-    (put (put (put (put S.face p g) n g) h (S.face p)) (rev h) g)
+ear S p n q h g =
+    record (linked (linked (linked (linked (drawn S h (S.origin p) (S.origin q)) (S.prev p) h) h q) n (rev h)) (rev h) p) {
+      faces = max S.faces (g + 1);
+      face = put (put (put (put S.face p g) n g) h (S.face p)) (rev h) g;
+    }
 
--- what `drawn` makes has the edge drawn
-drawn_is : (S : Map) (h from to faces : ℕ) (next prev face : ℕ → ℕ) → S.edge (h / 2) ≡ false → Drawn S (drawn S h from to faces next prev face) h from to
+-- what `drawn` makes has the edge drawn, whatever its links and faces
+drawn_is : (S : Map) (h from to faces : ℕ) (next prev face : ℕ → ℕ) → S.edge (h / 2) ≡ false
+    → Drawn S (record (drawn S h from to) { faces = faces; next = next; prev = prev; face = face }) h from to
 unfolding put
 drawn_is S h from to faces next prev face f =
     let r = rev_differs h in

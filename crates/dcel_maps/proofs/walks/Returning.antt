@@ -1,5 +1,5 @@
 -- A lawful step returns to each live half edge: the walk from there, and what is true of it on the way.
-use Rattle.std.proofs.Common.{◌≡◌, ◌≢◌, ◌⊎◌, inl, inr, ℕ, zero, suc, ◌+◌, ◌*◌, ◌/◌, ◌<◌, ◌≤◌, List, [], ◌∷◌, length, refl, sym, ap, ◌∙◌, subst, arith}
+use Rattle.std.proofs.Common.{◌≡◌, ◌≢◌, ◌⊎◌, inl, inr, ℕ, zero, suc, ◌+◌, ◌*◌, ◌/◌, ◌<◌, ◌≤◌, List, [], ◌∷◌, length, refl, sym, ◌∙◌, subst, arith}
 use Rattle.std.proofs.lemmas.Bool.{both_ways, cases_eq, cases_lt}
 use Rattle.dcel_maps.specs.Maps.{By}
 use Rattle.dcel_maps.specs.Shapes.{Shape, IsLive, edge_is_live}
@@ -8,7 +8,7 @@ use Rattle.dcel_maps.specs.Walks.{Path}
 use Rattle.dcel_maps.specs.Words.{count_of}
 use Rattle.dcel_maps.proofs.walks.Lengths.{count-le, length-le_twice}
 use Rattle.dcel_maps.proofs.walks.Links.{half-below}
-use Rattle.dcel_maps.proofs.words.Counts.{count-later, count-le_length, count-other, count-same, first_or_later}
+use Rattle.dcel_maps.proofs.words.Counts.{count-le_length, count-other, count-same}
 use Rattle.dcel_maps.proofs.words.Paths.{Path-changed, path_next}
 
 -- what a step makes of an item is a later item, or the end
