@@ -1,7 +1,7 @@
 -- How many numbers pass a test, and when a vertex or a face is counted.
 use Rattle.std.proofs.Common.{◌≡◌, ◌≢◌, inl, inr, ◌+◌, ◌*◌, ◌/◌, ◌<◌, ◌≤◌, ◌==◌, ℕ, zero, suc, Bool, true, false, cond, eqb-true, eq-eqb, sym, refl, ap, ◌∙◌, add-one, arith}
 use Rattle.std.proofs.lemmas.Bool.{cases_eq, false≢true, and_parts, and_from, or_cases, or_left, or_right, false_from_ne_true}
-use Rattle.dcel_maps.specs.Maps.{Live, Map, Sound, any_below, count, has_label, has_word, is_used}
+use Rattle.dcel_maps.specs.Maps.{Live, Map, Sound, any_below, count, has_label, is_used}
 
 -- tests that agree below n pass equally often
 pub count_same : (p q : ℕ → Bool) (n : ℕ) → ((k : ℕ) → k < n → p k ≡ q k) → count p n ≡ count q n
@@ -89,11 +89,6 @@ pub edge_past : (S : Map) → Sound S → (u : ℕ) → S.edges ≤ u → S.edge
 edge_past S s u l = false_from_ne_true (S.edge u) (λ i.
     let half : 2 * u / 2 ≡ u = omega arith in
     let b = s.below_edges (2 * u) (ap S.edge half ∙ i) in omega arith)
-
--- no face past the count has a word
-pub face_past : (S : Map) → Sound S → (f : ℕ) → S.faces ≤ f → has_word S f ≡ false
-unfolding has_word
-face_past S s f m = used_not S S.face f (λ x l i. let b = s.below_faces x l in omega arith)
 
 -- numbers that do not pass do not count
 pub count_past : (p : ℕ → Bool) (n m : ℕ) → n ≤ m → ((k : ℕ) → n ≤ k → p k ≡ false) → count p m ≡ count p n

@@ -4,7 +4,7 @@ use Rattle.std.proofs.lemmas.Bool.Decides.{nat_tests}
 use Rattle.dcel_maps.specs.Maps.{Live, Map, Sound, Sphere}
 use Rattle.dcel_maps.proofs.maps.Edits.{Chord, ChordAt, Ear, EarAt, two}
 use Rattle.dcel_maps.proofs.maps.Soundness.{face_cycles, next_differs}
-use Rattle.dcel_maps.proofs.maps.Chords.{chord_keeps, chord_sound}
+use Rattle.dcel_maps.proofs.maps.Chords.{chord_keeps}
 
 -- what an ear knows of the half edges round it
 pub record EarSite (S : Map) (p n q : ℕ) : Type 0 where
@@ -67,10 +67,6 @@ module _ (S T : Map) (p n q h g : ℕ) (e : Ear S T p n q h g) (s : Sound S) whe
   -- an ear is a chord
   pub ear_chord : Chord S T p q h g (two p n)
   ear_chord = record { at = ear_at S p n q h g s e.at; cut = e.cut }
-
-  -- an ear keeps a map sound
-  pub ear_sound : Sound T
-  ear_sound = chord_sound S T p q h g (two p n) ear_chord s
 
   -- an ear keeps a map sound and a sphere
   pub ear_keeps : Sphere S → Sound T × Sphere T
