@@ -1,13 +1,14 @@
 -- Walks that are listed item by item: the least item, and what was written of them.
-use Rattle.std.proofs.Common.{◌≡◌, ◌≢◌, ◌⊎◌, inl, inr, ℕ, zero, suc, ◌*◌, ◌/◌, ◌<◌, ◌≤◌, Bool, true, false, cond, List, [], ◌∷◌, ◌++◌, Some, None, refl, sym, ap, ◌∙◌, arith, eqb, eq-eqb, append_assoc, append-nil}
+use Rattle.std.proofs.Common.{◌≡◌, ◌≢◌, ◌⊎◌, inl, inr, ℕ, zero, suc, ◌*◌, ◌/◌, ◌<◌, ◌≤◌, ◌==◌, Bool, true, false, List, [], ◌∷◌, ◌++◌, Some, None, refl, sym, ap, ◌∙◌, arith, eq-eqb, append_assoc, append-nil}
 use Rattle.std.specs.Fmt.{decimal}
-use Rattle.std.proofs.lemmas.Bool.{cases_lt, cases_eq, eqb-true, false≢true, false_from_ne_true}
-use Rattle.dcel_maps.specs.Shapes.{Shape, Mesh, IsLive, AnchorsVertex, edge_is_live, origin_of, vertex_anchor}
+use Rattle.std.proofs.lemmas.Bool.{and_from, and_parts, cases_lt, cases_eq, eqb-true, false_from_ne_true}
+use Rattle.dcel_maps.specs.Maps.{has_label}
+use Rattle.dcel_maps.specs.Shapes.{Shape, Mesh, IsLive, AnchorsVertex, edge_is_live, map_of, origin_of, vertex_anchor}
 use Rattle.dcel_maps.specs.Walking.{IsOutEdge, ListsOnce, in_mesh}
 use Rattle.dcel_maps.specs.Words.{count_of}
 use Rattle.dcel_maps.proofs.words.Counts.{count-same, count-other, count-later}
 use Rattle.dcel_text.specs.Texts.{listed}
-use Rattle.dcel_commands.specs.Turns.{starts_at, least_below, least_out}
+use Rattle.dcel_commands.specs.Turns.{least_below, least_out}
 use Rattle.dcel_text.proofs.Listing.{listed-push}
 
 -- ---- the least number that passes a test
@@ -29,15 +30,17 @@ least_below-some test (suc n) h lt passes least =
 
 -- ---- half edges that start at a vertex
 
+-- the test that finds them
+abbrev starts_at : Shape → ℕ → ℕ → Bool
+starts_at s v = has_label (map_of s) (origin_of s) v
+
 starts_at-out : (s : Shape) (v h : ℕ) → IsOutEdge s v h → starts_at s v h ≡ true
-starts_at-out s v h out = rw (out.live) (eq-eqb (origin_of s h) v out.start)
+starts_at-out s v h out = and_from (edge_is_live s (h / 2)) (origin_of s h == v) out.live (eq-eqb (origin_of s h) v out.start)
 
 out-starts_at : (s : Shape) (v h : ℕ) → starts_at s v h ≡ true → IsOutEdge s v h
-out-starts_at s v h passes = go (edge_is_live s (h / 2)) refl passes
-  where
-    go : (b : Bool) → edge_is_live s (h / 2) ≡ b → cond b (eqb (origin_of s h) v) false ≡ true → IsOutEdge s v h
-    go true live same = record { live = live; start = eqb-true (origin_of s h) v same }
-    go false dead wrong = absurd (false≢true wrong)
+out-starts_at s v h passes =
+    let both = and_parts (edge_is_live s (h / 2)) (origin_of s h == v) passes in
+    record { live = both.0; start = eqb-true (origin_of s h) v both.1 }
 
 pub least_out-none : (s : Shape) (v : ℕ) → ((h : ℕ) → IsLive s h → origin_of s h ≢ v) → least_out s v ≡ None
 least_out-none s v bare =

@@ -1,16 +1,13 @@
 -- The lines of a mesh's counts, and of the half edges out of a vertex.
-use Rattle.std.specs.Prelude.{ℕ, zero, suc, ◌*◌, ◌/◌, ◌==◌, Bool, false, cond, List, ◌++◌, Option, Some, None, if◌then◌else◌, codes}
-use Rattle.dcel_maps.specs.Shapes.{Shape, edge_is_live, origin_of, face_count}
+use Rattle.std.specs.Prelude.{ℕ, zero, suc, ◌*◌, Bool, List, ◌++◌, Option, Some, None, if◌then◌else◌, codes}
+use Rattle.dcel_maps.specs.Maps.{has_label}
+use Rattle.dcel_maps.specs.Shapes.{Shape, map_of, origin_of, face_count}
 use Rattle.dcel_maps.specs.Walking.{walk_from, ccw_of}
 use Rattle.dcel_text.specs.Texts.{ended, listed, numbered}
 
 -- `vertices N edges N faces N`, with undirected edges
 abbrev pub counts_text : Shape → List ℕ
 counts_text s = ended (numbered (codes "vertices ") s.vertices ++ numbered (codes " edges ") s.edges ++ numbered (codes " faces ") (face_count s))
-
--- the half edge is live and starts at v
-abbrev pub starts_at : Shape → ℕ → ℕ → Bool
-starts_at s v h = cond (edge_is_live s (h / 2)) (origin_of s h == v) false
 
 -- the first, if there is one, or else the other
 abbrev pub or_else : Option ℕ → Option ℕ → Option ℕ
@@ -24,7 +21,7 @@ least_below test (suc n) = or_else (least_below test n) (if test n then Some n e
 
 -- the least half edge that starts at v
 abbrev pub least_out : Shape → ℕ → Option ℕ
-least_out s v = least_below (starts_at s v) (2 * s.edges)
+least_out s v = least_below (has_label (map_of s) (origin_of s) v) (2 * s.edges)
 
 -- the half edges that start at v, in the order of `ccw` from the least on
 abbrev pub turn_of : Shape → ℕ → List ℕ

@@ -25,7 +25,7 @@ module _ {V DE UE F : Type 0} {s : Lists V DE UE F} {r : Removal} (stored : IsSt
       let only = only_out-iff stored v out some in (
         λ stays. record {
           live = anchored-live stored v out some;
-          one = (out, record { out = anchored.0; from = anchored.1; only = only.0 stays });
+          one = (out, record { edge = record { live = anchored.0; start = anchored.1 }; only = only.0 stays });
         },
         λ end. only.1 (λ k live starts. end.one.1.only k live starts ∙ sym (end.one.1.only out anchored.0 anchored.1)),
       )

@@ -6,10 +6,10 @@ use Rattle.std.proofs.lemmas.Bool.{cases_lt}
 use Rattle.dcel_fixed.specs.HalfEdges.{rev}
 use Rattle.dcel_fixed.proofs.Halves.{rev-half}
 use Rattle.dcel_store.specs.Lists.{Lists}
-use Rattle.dcel_maps.specs.Maps.{By, Reaches, ccw}
+use Rattle.dcel_maps.specs.Maps.{By, Reaches, ccw, Starts}
 use Rattle.dcel_maps.specs.Removals.{Removal, gives_up_vertex, gives_up_edge, gives_up_face, is_live}
 use Rattle.dcel_maps.specs.Shapes.{AnchorsWord, IsLive, end_of, face_count, face_is_live, face_of, map_of, next_of, origin_of, prev_of, vertex_is_live}
-use Rattle.dcel_edits.specs.Stored.{IsStored, Starts, mesh_of, stored_map, stored_words}
+use Rattle.dcel_edits.specs.Stored.{IsStored, mesh_of, stored_map, stored_words}
 use Rattle.dcel_maps.specs.Words.{count_of, word_of}
 use Rattle.dcel_maps.proofs.Liveness.{is_live-parts, is_live-from}
 use Rattle.dcel_maps.proofs.maps.Agreement.{Agrees}

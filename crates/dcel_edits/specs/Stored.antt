@@ -1,7 +1,7 @@
 -- How the stored lists and the removal record stand for a mesh.
-use Rattle.std.specs.Prelude.{◌≡◌, ◌≢◌, ℕ, suc, ◌/◌, ◌<◌, ◌≤◌, ◌^◌, Bool, true, false, cond, List, [], ◌∷◌, length, slice_index, slice_index_or, Option, Some, None}
+use Rattle.std.specs.Prelude.{◌≡◌, ◌≢◌, ℕ, suc, ◌/◌, ◌<◌, ◌≤◌, ◌^◌, Bool, true, false, cond, List, [], ◌∷◌, length, slice_index, slice_index_or, None}
 use Rattle.dcel_store.specs.Lists.{Lists, LengthsAgree}
-use Rattle.dcel_maps.specs.Maps.{Map, Live, Sound, Sphere}
+use Rattle.dcel_maps.specs.Maps.{Map, Live, Sound, Sphere, Starts}
 use Rattle.dcel_maps.specs.Removals.{Removal, gives_up_vertex, gives_up_edge, gives_up_face, is_live, IsWithin}
 use Rattle.dcel_maps.specs.Shapes.{Mesh, AnchorsWord}
 use Rattle.dcel_maps.specs.Standing.{Stands}
@@ -15,11 +15,6 @@ shown_from gives_up h (v ∷ vs) = cond (gives_up (h / 2)) 0 v ∷ shown_from gi
 
 abbrev pub shown : (ℕ → Bool) → List ℕ → List ℕ
 shown gives_up vs = shown_from gives_up 0 vs
-
--- a half edge of a map that starts at v, and None where none does
-abbrev pub Starts : Map → ℕ → Option ℕ → Type 0
-Starts M v None = (h : ℕ) → Live M h → M.origin h ≢ v
-Starts M v (Some h) = Live M h × (M.origin h ≡ v)
 
 module _ {V DE UE F : Type 0} where
   -- the words that the stored `next` and the anchors of faces lead round

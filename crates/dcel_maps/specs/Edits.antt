@@ -1,21 +1,23 @@
 -- Edits: what each operation does to a mesh. Before the call there are m undirected edges; a new edge m has the half edges 2m and
 -- 2m + 1. Whatever an edit doesn't name stays as it was. The data of new half edges, edges and faces are handed in here; that they
 -- are default data is said beside the edit.
-use Rattle.std.specs.Prelude.{◌≡◌, ◌≢◌, ℕ, ◌+◌, ◌*◌, ◌≤◌, ◌^◌, true, List, [], ◌∷◌, ◌++◌, length, slice_set, unwrap_or, Option, Some, None, All}
+use Rattle.std.specs.Prelude.{◌≡◌, ℕ, ◌+◌, ◌*◌, ◌≤◌, ◌^◌, true, List, [], ◌∷◌, ◌++◌, length, slice_set, unwrap_or, Some, None, All}
 use Rattle.dcel_fixed.specs.HalfEdges.{rev}
-use Rattle.dcel_maps.specs.Removals.{Removal, Closed}
-use Rattle.dcel_maps.specs.Shapes.{Shape, Mesh, IsLive, vertex_is_live, face_is_live, next_of, prev_of, origin_of, face_count, vertex_anchor, face_anchor}
+use Rattle.dcel_maps.specs.Maps.{IsBare}
+use Rattle.dcel_maps.specs.Removals.{Closed}
+use Rattle.dcel_maps.specs.Shapes.{Shape, Mesh, IsLive, vertex_is_live, face_is_live, next_of, prev_of, origin_of, face_count, map_of, vertex_anchor, face_anchor}
+use Rattle.dcel_maps.specs.Walking.{IsOutEdge}
 use Rattle.dcel_maps.specs.Words.{with_spur, word_of}
 
 -- v is live, and no live half edge starts there
 pub record IsUnconnected (s : Shape) (v : ℕ) : Type 0 where
   pub live : vertex_is_live s v ≡ true
-  pub bare : (h : ℕ) → IsLive s h → origin_of s h ≢ v
+  pub bare : IsBare (map_of s) v
 
 -- h is the one live half edge that starts at v
 pub record IsOnlyOut (s : Shape) (v h : ℕ) : Type 0 where
-  pub out : IsLive s h
-  pub from : origin_of s h ≡ v
+  pub edge : IsOutEdge s v h
+  pub open edge use {live as out, start as from}
   pub only : (k : ℕ) → IsLive s k → origin_of s k ≡ v → k ≡ h
 
 -- v is live with exactly one out edge

@@ -1,7 +1,7 @@
 -- Meshes: words, origins, data, anchors and the removal record; and what is true of each.
 use Rattle.std.specs.Prelude.{◌≡◌, ◌≢◌, ◌↔◌, ◌+◌, ◌*◌, ◌/◌, ◌<◌, ◌≤◌, ◌^◌, ℕ, Bool, true, false, List, [], length, slice_index, slice_index_or, Option, Some, None}
 use Rattle.dcel_fixed.specs.HalfEdges.{rev}
-use Rattle.dcel_maps.specs.Maps.{Map, Reaches, By, ccw, Connected, count, starts_edge}
+use Rattle.dcel_maps.specs.Maps.{Map, Reaches, By, ccw, Connected, Starts, count, starts_edge}
 use Rattle.dcel_maps.specs.Removals.{Removal, gives_up_vertex, gives_up_edge, gives_up_face, is_live, IsWithin}
 use Rattle.dcel_maps.specs.Words.{count_of, occurs, word_of, IsLeastFirst, next_in, prev_in, face_in}
 
@@ -93,8 +93,7 @@ pub record IsSphere (s : Shape) : Type 0 where
 
 -- a vertex's anchor is a live half edge that starts there, and None just where there is none
 abbrev pub AnchorsVertex : Shape → ℕ → Option ℕ → Type 0
-AnchorsVertex s v None = (h : ℕ) → IsLive s h → origin_of s h ≢ v
-AnchorsVertex s v (Some h) = IsLive s h × (origin_of s h ≡ v)
+AnchorsVertex s = Starts (map_of s)
 
 -- a face's anchor stands in its word, and is None just where the word is empty
 abbrev pub AnchorsWord : List ℕ → Option ℕ → Type 0

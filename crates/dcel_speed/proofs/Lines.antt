@@ -25,7 +25,7 @@ module _ {V DE UE F : Type 0} (m : Mesh V DE UE F) where
   appended_end : (datum : V) (end : ℕ) → IsLineEnd m.shape end → IsLineEnd (vertex_appended m datum).shape end
   appended_end datum end line = record {
     live = still_live m.shape (m.shape.vertices + 1) end (omega arith) line.live;
-    one = (line.one.0, record { out = line.one.1.out; from = line.one.1.from; only = line.one.1.only });
+    one = (line.one.0, record { edge = record { live = line.one.1.out; start = line.one.1.from }; only = line.one.1.only });
   }
 
   pub still_live_after : (n : Mesh V DE UE F) (datum : V) (v : ℕ) → n ≡ vertex_appended m datum → vertex_is_live m.shape v ≡ true
@@ -56,7 +56,7 @@ module _ {V DE UE F : Type 0} (m : Mesh V DE UE F) where
         ] in
         record {
           live = live;
-          one = (1, record { out = is_live-from g 1 0 (omega arith) kept; from = refl; only = only });
+          one = (1, record { edge = record { live = is_live-from g 1 0 (omega arith) kept; start = refl }; only = only });
         }
 
     pub first_edge_end : {is_half : DE → Type 0} {is_edge : UE → Type 0} (p : Mesh V DE UE F) (a b : ℕ) → m.shape.edges ≡ 0
@@ -107,8 +107,7 @@ module _ {V DE UE F : Type 0} (m : Mesh V DE UE F) where
             one = (
               2 * e,
               record {
-                out = out;
-                from = ap (slice_index (m.shape.origins ++ tip ∷ end ∷ [])) last ∙ origin_new 0;
+                edge = record { live = out; start = ap (slice_index (m.shape.origins ++ tip ∷ end ∷ [])) last ∙ origin_new 0 };
                 only = only;
               },
             );

@@ -6,12 +6,12 @@ use Rattle.dcel_fixed.specs.HalfEdges.{rev}
 use Rattle.dcel_fixed.proofs.Halves.{rev-double}
 use Rattle.dcel_store.specs.Lists.{Lists}
 use Rattle.dcel_maps.specs.Edits.{first_edge_added}
-use Rattle.dcel_maps.specs.Maps.{Map, Live, Sound, Sphere}
+use Rattle.dcel_maps.specs.Maps.{Map, Live, Sound, Sphere, Starts}
 use Rattle.dcel_maps.specs.Removals.{Removal, gives_up_edge, gives_up_vertex}
 use Rattle.dcel_maps.specs.Shapes.{AnchorsWord, Mesh, vertex_is_live}
 use Rattle.dcel_edits.specs.Spurs.{first_edge_stored}
 use Rattle.dcel_maps.specs.Standing.{Stands}
-use Rattle.dcel_edits.specs.Stored.{IsStored, Starts, mesh_of, shown, stored_map, stored_words}
+use Rattle.dcel_edits.specs.Stored.{IsStored, mesh_of, shown, stored_map, stored_words}
 use Rattle.dcel_maps.specs.Words.{word_of, total_length}
 use Rattle.dcel_maps.proofs.Liveness.{is_live-last, is_live-parts, is_live-past, gives_up_edge-past, IsWithin-grown}
 use Rattle.dcel_maps.proofs.maps.Edits.{FirstEdge}

@@ -1,20 +1,20 @@
 -- A triangle alone: what the writes leave is the map of one triangle, and its mesh.
-use Rattle.std.proofs.Common.{◌≡◌, ◌≢◌, ℕ, zero, suc, ◌+◌, ◌/◌, ◌<◌, false, true, List, [], ◌∷◌, length, slice_index, slice_index_or, refl, subst, sym, ap, ◌∙◌, arith, Option, Some, None, nat_lt}
+use Rattle.std.proofs.Common.{◌≡◌, ◌≢◌, ℕ, zero, suc, ◌/◌, ◌<◌, List, [], ◌∷◌, length, slice_index, slice_index_or, refl, subst, sym, ap, ◌∙◌, arith, None, nat_lt}
 use Rattle.std.proofs.lemmas.Bool.{false≢true}
 use Rattle.std.proofs.Math.Bool.{and-true}
 use Rattle.dcel_store.specs.Lists.{Lists}
 use Rattle.dcel_maps.specs.Edits.{AddsEdgesAndFaces, triangle_alone}
-use Rattle.dcel_maps.specs.Maps.{Map, Live, Sound, Sphere}
-use Rattle.dcel_maps.specs.Removals.{Closed, gives_up_edge, is_live}
-use Rattle.dcel_maps.specs.Shapes.{AnchorsWord, Mesh}
+use Rattle.dcel_maps.specs.Maps.{Map, Live, Sound, Sphere, Starts}
+use Rattle.dcel_maps.specs.Removals.{Closed, gives_up_edge}
+use Rattle.dcel_maps.specs.Shapes.{AnchorsWord}
 use Rattle.dcel_maps.specs.Standing.{Follows, Stands}
-use Rattle.dcel_edits.specs.Stored.{IsStored, Starts, mesh_of, stored_map, stored_words}
+use Rattle.dcel_edits.specs.Stored.{IsStored, mesh_of, stored_map, stored_words}
 use Rattle.dcel_edits.specs.Triangles.{triangle_stored}
 use Rattle.dcel_maps.specs.Walks.{IsCycle}
-use Rattle.dcel_maps.specs.Words.{count_of, word_of, IsLeastFirst, occurs}
-use Rattle.dcel_maps.proofs.Liveness.{IsWithin-closed, gives_up_vertex-closed, gives_up_edge-closed, gives_up_face-closed, is_live-from}
+use Rattle.dcel_maps.specs.Words.{word_of, IsLeastFirst, occurs}
+use Rattle.dcel_maps.proofs.Liveness.{IsWithin-closed, gives_up_vertex-closed, gives_up_edge-closed, gives_up_face-closed}
 use Rattle.dcel_maps.proofs.maps.Agreement.{Agrees, agrees_keeps}
-use Rattle.dcel_maps.proofs.maps.FirstTriangle.{below_two, below_four, below_six, triangle, triangle_keeps}
+use Rattle.dcel_maps.proofs.maps.FirstTriangle.{below_two, below_six, triangle, triangle_keeps}
 use Rattle.dcel_maps.proofs.words.Agreement.{same_words_stand}
 use Rattle.dcel_maps.proofs.words.Counts.{count-other}
 use Rattle.dcel_maps.proofs.words.Reading.{words-stand}

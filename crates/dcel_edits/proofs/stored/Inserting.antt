@@ -4,11 +4,11 @@ use Rattle.std.proofs.lemmas.Bool.{cases_eq, cases_lt}
 use Rattle.std.proofs.lemmas.List.{append_assoc, length-append, length-set, get_or_append_left, get_or-append-add, get_or-set_same, get_or-set_other}
 use Rattle.dcel_store.specs.Lists.{Lists}
 use Rattle.dcel_maps.specs.Edits.{vertex_inserted}
-use Rattle.dcel_maps.specs.Maps.{Map, Live, Sound, Sphere}
-use Rattle.dcel_maps.specs.Removals.{Removal, gives_up_edge, gives_up_vertex, gives_up_face, is_live}
-use Rattle.dcel_maps.specs.Shapes.{AnchorsWord, Mesh}
+use Rattle.dcel_maps.specs.Maps.{Map, Live, Sound, Sphere, Starts}
+use Rattle.dcel_maps.specs.Removals.{Removal, gives_up_edge, gives_up_vertex, gives_up_face}
+use Rattle.dcel_maps.specs.Shapes.{AnchorsWord}
 use Rattle.dcel_maps.specs.Standing.{Stands}
-use Rattle.dcel_edits.specs.Stored.{IsStored, Starts, mesh_of, shown, stored_map, stored_words}
+use Rattle.dcel_edits.specs.Stored.{IsStored, mesh_of, shown, stored_map, stored_words}
 use Rattle.dcel_edits.specs.Triangles.{insertion_stored}
 use Rattle.dcel_maps.specs.Words.{word_of}
 use Rattle.dcel_maps.proofs.Liveness.{is_live-from, is_live-more, gives_up_edge-past, IsWithin-grown}

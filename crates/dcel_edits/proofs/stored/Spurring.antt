@@ -6,12 +6,12 @@ use Rattle.dcel_fixed.specs.HalfEdges.{rev}
 use Rattle.dcel_fixed.proofs.Halves.{rev-double-suc}
 use Rattle.dcel_store.specs.Lists.{Lists}
 use Rattle.dcel_maps.specs.Edits.{line_extended}
-use Rattle.dcel_maps.specs.Maps.{Map, Live, Sound, Sphere}
+use Rattle.dcel_maps.specs.Maps.{Map, Live, Sound, Sphere, Starts}
 use Rattle.dcel_maps.specs.Removals.{Removal, gives_up_edge, gives_up_vertex}
 use Rattle.dcel_maps.specs.Shapes.{AnchorsWord}
 use Rattle.dcel_edits.specs.Spurs.{spur_stored}
 use Rattle.dcel_maps.specs.Standing.{Stands}
-use Rattle.dcel_edits.specs.Stored.{IsStored, Starts, mesh_of, stored_map, stored_words}
+use Rattle.dcel_edits.specs.Stored.{IsStored, mesh_of, stored_map, stored_words}
 use Rattle.dcel_maps.specs.Words.{with_spur, word_of}
 use Rattle.dcel_maps.proofs.Liveness.{is_live-last, is_live-grown, is_live-grown-cases, is_live-past, gives_up_edge-past, IsWithin-grown}
 use Rattle.dcel_maps.proofs.maps.Edits.{Spur, SpurAt}
@@ -97,8 +97,18 @@ module _ {V DE UE F : Type 0} (s : Lists V DE UE F) (r : Removal) (stored : IsSt
   is_spur : Spur S T before (n + 1) tip
   is_spur = record {
     at = spur_at;
-    edge_here = edge_here;
-    edge_other = edge_other;
+    drawn = record {
+      grows = record {
+        edge_here = edge_here;
+        edge_other = edge_other;
+        edges = omega (arith, grown);
+        edge_below = omega (arith, grown, half_new);
+        vertices = refl;
+      };
+      origin_h = pushed-second s.origin tip (slice_index s.origin after) n origins;
+      origin_rev = rw rev_new (pushed-first s.origin tip (slice_index s.origin after) n origins);
+      origin_other = λ x l. pushed-old s.origin tip (slice_index s.origin after) n origins x (live_below x l);
+    };
     next_a = put-same s.next after n n nexts before (n + 1) before_in;
     next_h = put-second s.next after n n nexts before (n + 1) before_in ∙ sym rev_new;
     next_rev = rw rev_new (put-first s.next after n n nexts before (n + 1) before_in);
@@ -107,15 +117,9 @@ module _ {V DE UE F : Type 0} (s : Lists V DE UE F) (r : Removal) (stored : IsSt
     prev_rev = rw rev_new (put-first s.prev (n + 1) before n prevs after n after_in);
     prev_h = put-second s.prev (n + 1) before n prevs after n after_in;
     prev_other = λ x l differs. put-old s.prev (n + 1) before n prevs after n after_in x (live_below x l) differs;
-    origin_h = pushed-second s.origin tip (slice_index s.origin after) n origins;
-    origin_rev = rw rev_new (pushed-first s.origin tip (slice_index s.origin after) n origins);
-    origin_other = λ x l. pushed-old s.origin tip (slice_index s.origin after) n origins x (live_below x l);
     face_h = pushed-second s.face f f n faces;
     face_rev = rw rev_new (pushed-first s.face f f n faces);
     face_other = λ x l. pushed-old s.face f f n faces x (live_below x l);
-    edges = omega (arith, grown);
-    edge_below = omega (arith, grown, half_new);
-    vertices = refl;
     faces = refl;
   }
 

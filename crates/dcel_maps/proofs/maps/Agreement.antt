@@ -3,7 +3,7 @@ use Rattle.std.proofs.Common.{◌≡◌, ◌/◌, ◌≤◌, ℕ, false, sym, re
 use Rattle.std.proofs.lemmas.Bool.{false≢true}
 use Rattle.dcel_maps.specs.Maps.{Live, Map, Sound, Sphere}
 use Rattle.dcel_maps.proofs.maps.Edits.{Renamed}
-use Rattle.dcel_maps.proofs.maps.Renames.{renamed_sound, renamed_sphere}
+use Rattle.dcel_maps.proofs.maps.Renames.{renamed_keeps, renamed_sound}
 
 -- T has the counts of S and its live edges, linked as S links them
 pub record Agrees (S T : Map) : Type 0 where
@@ -50,16 +50,12 @@ extends_renamed S T a s =
     }
 
 -- more room keeps a map sound
-pub extends_sound : (S T : Map) → Extends S T → Sound S → Sound T
+extends_sound : (S T : Map) → Extends S T → Sound S → Sound T
 extends_sound S T a s = renamed_sound S T (λ x. x) (λ x. x) (λ v. v) (λ f. f) (extends_renamed S T a s) s
 
--- more room keeps a map a sphere
-pub extends_sphere : (S T : Map) → Extends S T → Sound S → Sphere S → Sphere T
-extends_sphere S T a s m = renamed_sphere S T (λ x. x) (λ x. x) (λ v. v) (λ f. f) (extends_renamed S T a s) s m
-
--- more room keeps a map sound and a sphere
+-- and a sphere
 pub extends_keeps : (S T : Map) → Extends S T → Sound S → Sphere S → Sound T × Sphere T
-extends_keeps S T a s m = (extends_sound S T a s, extends_sphere S T a s m)
+extends_keeps S T a s = renamed_keeps S T (λ x. x) (λ x. x) (λ v. v) (λ f. f) (extends_renamed S T a s) s
 
 agrees_extends : (S T : Map) → Agrees S T → Extends S T
 agrees_extends S T a = record {
@@ -75,15 +71,14 @@ agrees_extends S T a = record {
 
 -- a map that agrees with a sound one is sound
 pub agrees-sound : (S T : Map) → Agrees S T → Sound S → Sound T
-agrees-sound S T a s = extends_sound S T (agrees_extends S T a) s
-
--- a map that agrees with a sound sphere is a sphere
-pub agrees-sphere : (S T : Map) → Agrees S T → Sound S → Sphere S → Sphere T
-agrees-sphere S T a s m = extends_sphere S T (agrees_extends S T a) s m
+agrees-sound S T a = extends_sound S T (agrees_extends S T a)
 
 -- a map that agrees with a sound sphere is one
 pub agrees_keeps : (S T : Map) → Agrees S T → Sound S → Sphere S → Sound T × Sphere T
-agrees_keeps S T a s m = extends_keeps S T (agrees_extends S T a) s m
+agrees_keeps S T a = extends_keeps S T (agrees_extends S T a)
+
+pub agrees-sphere : (S T : Map) → Agrees S T → Sound S → Sphere S → Sphere T
+agrees-sphere S T a s m = (agrees_keeps S T a s m).1
 
 none_live : (M : Map) → ((u : ℕ) → M.edge u ≡ false) → (x : ℕ) → Live M x → ⊥
 none_live M none x l = false≢true (sym (none (x / 2)) ∙ l)

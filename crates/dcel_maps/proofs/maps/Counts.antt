@@ -1,8 +1,7 @@
 -- How many numbers pass a test, and when a vertex or a face is counted.
-use Rattle.std.proofs.Common.{◌≡◌, ◌≢◌, inl, inr, ◌+◌, ◌*◌, ◌/◌, ◌<◌, ◌≤◌, ◌==◌, ◌&&◌, ℕ, zero, suc, Bool, true, false, cond, eqb-true, eq-eqb, sym, refl, ap, ◌∙◌, add-one, arith}
+use Rattle.std.proofs.Common.{◌≡◌, ◌≢◌, inl, inr, ◌+◌, ◌*◌, ◌/◌, ◌<◌, ◌≤◌, ◌==◌, ℕ, zero, suc, Bool, true, false, cond, eqb-true, eq-eqb, sym, refl, ap, ◌∙◌, add-one, arith}
 use Rattle.std.proofs.lemmas.Bool.{cases_eq, false≢true, and_parts, and_from, or_cases, or_left, or_right, false_from_ne_true}
-use Rattle.dcel_maps.specs.Maps.{Live, Map, Sound, any_below, count, has_word}
-use Rattle.dcel_maps.proofs.maps.Growth.{Grown}
+use Rattle.dcel_maps.specs.Maps.{Live, Map, Sound, any_below, count, has_label, is_used}
 
 -- tests that agree below n pass equally often
 pub count_same : (p q : ℕ → Bool) (n : ℕ) → ((k : ℕ) → k < n → p k ≡ q k) → count p n ≡ count q n
@@ -60,21 +59,17 @@ pub record Used (S : Map) (label : ℕ → ℕ) (v : ℕ) : Type 0 where
   pub live : Live S half
   pub is : label half ≡ v
 
--- some live half edge has the label v
-abbrev pub is_used : Map → (ℕ → ℕ) → ℕ → Bool
-is_used S label v = any_below (λ h. S.edge (h / 2) && label h == v) (2 * S.edges)
-
 -- a live half edge with the label shows it
 pub used_from : (S : Map) → Sound S → (label : ℕ → ℕ) (v : ℕ) → Used S label v → is_used S label v ≡ true
 used_from S s label v u =
     let b = s.below_edges u.half u.live in
-    any_below_from (λ h. S.edge (h / 2) && label h == v) (2 * S.edges) u.half (omega arith)
+    any_below_from (has_label S label v) (2 * S.edges) u.half (omega arith)
     (and_from (S.edge (u.half / 2)) (label u.half == v) u.live (eq-eqb (label u.half) v u.is))
 
 -- where a label is used, here is a half edge
 pub used_gives : (S : Map) (label : ℕ → ℕ) (v : ℕ) → is_used S label v ≡ true → Used S label v
 used_gives S label v t =
-    let k = any_below_cases (λ h. S.edge (h / 2) && label h == v) (2 * S.edges) t in
+    let k = any_below_cases (has_label S label v) (2 * S.edges) t in
     let e = and_parts (S.edge (k.0 / 2)) (label k.0 == v) k.2 in
     record { half = k.0; live = e.0; is = eqb-true (label k.0) v e.1 }
 
@@ -95,11 +90,6 @@ edge_past S s u l = false_from_ne_true (S.edge u) (λ i.
     let half : 2 * u / 2 ≡ u = omega arith in
     let b = s.below_edges (2 * u) (ap S.edge half ∙ i) in omega arith)
 
--- no face past the count has a word
-pub face_past : (S : Map) → Sound S → (f : ℕ) → S.faces ≤ f → has_word S f ≡ false
-unfolding has_word
-face_past S s f m = used_not S S.face f (λ x l i. let b = s.below_faces x l in omega arith)
-
 -- numbers that do not pass do not count
 pub count_past : (p : ℕ → Bool) (n m : ℕ) → n ≤ m → ((k : ℕ) → n ≤ k → p k ≡ false) → count p m ≡ count p n
 count_past p n zero l h = let e : n ≡ zero = omega arith in ap (count p) (sym e)
@@ -108,9 +98,26 @@ count_past p n (suc m) l h = elim (cases_eq n (suc m)) [
   | inr d ↦ let f = h m (omega arith) in rw f (count_past p n m (omega arith) h)
 ]
 
--- a map that has grown has one edge more
-pub grown_edges : (S T : Map) (h : ℕ) → Grown S T h → Sound S → S.edges ≤ T.edges → h / 2 < T.edges
-    → count T.edge T.edges ≡ count S.edge S.edges + 1
-grown_edges S T h g s e b =
-    count_more S.edge T.edge T.edges (h / 2) b g.fresh g.edge_here (λ j l d. sym (g.edge_other j d))
-    ∙ ap (λ z. z + 1) (count_past S.edge S.edges T.edges e (edge_past S s))
+-- the labels of live half edges, those of S below n, where T still has each
+module _ (S T : Map) (s : Sound S) (t : Sound T) (label label' : ℕ → ℕ) (n m : ℕ) (wide : n ≤ m)
+    (below : (x : ℕ) → Live S x → label x < n) (still : (x : ℕ) → Live S x → Used T label' (label x)) where
+  labels_past : count (is_used S label) m ≡ count (is_used S label) n
+  labels_past = count_past (is_used S label) n m wide (λ k past. used_not S label k (λ x l i. omega (arith, below x l, i, past)))
+
+  kept : (v : ℕ) → (Used T label' v → Used S label v) → is_used S label v ≡ is_used T label' v
+  kept v = used_same S T s t label label' v (λ u. let w = still u.half u.live in record { half = w.half; live = w.live; is = w.is ∙ u.is })
+
+  was : (v : ℕ) (u : Used T label' v) → Used S label (label' u.half) → Used S label v
+  was v u w = record { half = w.half; live = w.live; is = w.is ∙ u.is }
+
+  -- no label is new
+  pub labels_same : ((x : ℕ) → Live T x → Used S label (label' x)) → count (is_used T label') m ≡ count (is_used S label) n
+  labels_same old =
+      count_same (is_used T label') (is_used S label) m (λ v l. sym (kept v (λ u. was v u (old u.half u.live)))) ∙ labels_past
+
+  -- v alone is new
+  pub labels_more : (v : ℕ) → v < m → ((x : ℕ) → Live S x → label x ≢ v) → Used T label' v
+      → ((x : ℕ) → Live T x → label' x ≢ v → Used S label (label' x)) → count (is_used T label') m ≡ count (is_used S label) n + 1
+  labels_more v v_in new here old =
+      count_more (is_used S label) (is_used T label') m v v_in (used_not S label v new) (used_from T t label' v here)
+      (λ w l d. kept w (λ u. was w u (old u.half u.live (λ i. d (sym u.is ∙ i))))) ∙ ap (λ z. z + 1) labels_past

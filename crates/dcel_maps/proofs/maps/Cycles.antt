@@ -22,6 +22,21 @@ pub same_label_iff : (P : ℕ → Type 0) (f label : ℕ → ℕ) → Cycles P f
     → (x y : ℕ) → P x → P y → (label x ≡ label y) ↔ Reaches (By f) x y
 same_label_iff P f label c x y p q = (c.joined x y p q, same_label P f label c p)
 
+-- where g undoes f, and f' is f but at a and c, as g' is g but at b and d, g' undoes f'
+pub undoes : (P : ℕ → Type 0) (f g f' g' : ℕ → ℕ) (a c b d : ℕ)
+    → ((x : ℕ) → P x → x ≢ a → x ≢ c → P (f x)) → ((x : ℕ) → P x → g (f x) ≡ x)
+    → ((x : ℕ) → P x → x ≡ g b → x ≡ a) → ((x : ℕ) → P x → x ≡ g d → x ≡ c) → g' (f' a) ≡ a → g' (f' c) ≡ c
+    → ((x : ℕ) → P x → x ≢ a → x ≢ c → f' x ≡ f x) → ((x : ℕ) → P x → x ≢ b → x ≢ d → g' x ≡ g x) → (x : ℕ) → P x → g' (f' x) ≡ x
+undoes P f g f' g' a c b d stays undo gb gd at_a at_c fs gs x p = elim (cases_eq x a) [
+  | inl i ↦ cc (ap f' i)
+  | inr m ↦ elim (cases_eq x c) [
+    | inl i ↦ cc (ap f' i)
+    | inr n ↦
+        let u = undo x p in
+        ap g' (fs x p m n) ∙ gs (f x) (stays x p m n) (λ i. m (gb x p (sym u ∙ ap g i))) (λ i. n (gd x p (sym u ∙ ap g i))) ∙ u
+  ]
+]
+
 -- a place to go in from, of the old cycle with the label of x
 abbrev Into : (P : ℕ → Type 0) (f' label label' r : ℕ → ℕ) → ℕ → Type 0
 Into P f' label label' r x = (u : ℕ) × P u × (label u ≡ label' x) × Reaches (By f') x (r u)
@@ -42,71 +57,60 @@ joined_by P P' f f' label label' r c steps x y i o e =
     (λ a b p s. subst (λ z. Reaches (By f') (r a) (r z)) s (steps a p)) i.1 w in
     then i.3 (then v o.3)
 
+-- what holds of the old items and of n holds of each
+by_cases : (P P' : ℕ → Type 0) (n : ℕ) → ((x : ℕ) → P' x → P x ⊎ (x ≡ n)) → (Q : ℕ → Type 0) → ((x : ℕ) → P x → Q x) → Q n → (x : ℕ) → P' x → Q x
+by_cases P P' n cases Q old new x p = elim (cases x p) [ inl q ↦ old x q | inr e ↦ subst Q (sym e) new ]
+
 -- n is put in after a
 pub inserted : (P P' : ℕ → Type 0) (f f' label label' : ℕ → ℕ) (a n : ℕ) → Cycles P f label → P a
     → ((x : ℕ) → P x → P' x) → ((x : ℕ) → P' x → P x ⊎ (x ≡ n)) → P' n
     → f' a ≡ n → f' n ≡ f a → ((x : ℕ) → P x → x ≢ a → f' x ≡ f x)
     → label' n ≡ label a → ((x : ℕ) → P x → label' x ≡ label x) → Cycles P' f' label'
-inserted P P' f f' label label' a n c pa old cases pn fa fn others ln ls = record {
-  stays = λ x p. elim (cases x p) [
-    | inl q ↦ elim (cases_eq x a) [
-      | inl e ↦ subst P' (sym (ap f' e ∙ fa)) pn
-      | inr d ↦ subst P' (sym (others x q d)) (old (f x) (c.stays x q))
-    ]
-    | inr e ↦ subst P' (sym (ap f' e ∙ fn)) (old (f a) (c.stays a pa))
-  ];
-  along = λ x p. elim (cases x p) [
-    | inl q ↦ elim (cases_eq x a) [
-      | inl e ↦ let i = ls x q in cc (ap f' e, ap label e)
-      | inr d ↦ let i = ls x q in let j = ls (f x) (c.stays x q) in let k = c.along x q in
-          let o = others x q d in cc
-    ]
-    | inr e ↦ let j = ls (f a) (c.stays a pa) in let k = c.along a pa in cc (ap f' e, ap label' e)
-  ];
-  joined = λ x y p q e. joined_by P P' f f' label label' (λ z. z) c
-      (λ z pz. elim (cases_eq z a) [
-        | inl e ↦ go (ap f' e ∙ fa) (go (fn ∙ ap f (sym e)) here)
-        | inr d ↦ step (others z pz d)
-      ])
-      x y
-      (elim (cases x p) [
-        | inl px ↦ (x, px, sym (ls x px), here)
-        | inr i ↦ (f a, c.stays a pa, c.along a pa ∙ sym ln ∙ sym (ap label' i), step (ap f' i ∙ fn))
-      ])
-      (elim (cases y q) [
-        | inl py ↦ (y, py, sym (ls y py), here)
-        | inr i ↦ (a, pa, sym ln ∙ sym (ap label' i), step (fa ∙ sym i))
-      ])
-      e;
-}
+inserted P P' f f' label label' a n c pa old cases pn fa fn others ln ls =
+    let each = by_cases P P' n cases in
+    let after = c.stays a pa in
+    record {
+      stays = each (λ x. P' (f' x))
+          (λ x q. elim (cases_eq x a) [
+            | inl e ↦ subst P' (sym (ap f' e ∙ fa)) pn
+            | inr d ↦ subst P' (sym (others x q d)) (old (f x) (c.stays x q))
+          ])
+          (subst P' (sym fn) (old (f a) after));
+      along = each (λ x. label' (f' x) ≡ label' x)
+          (λ x q. let i = ls x q in elim (cases_eq x a) [
+            | inl e ↦ cc (ap f' e, ap label e)
+            | inr d ↦ let j = ls (f x) (c.stays x q) in let k = c.along x q in let o = others x q d in cc
+          ])
+          (let j = ls (f a) after in let k = c.along a pa in cc);
+      joined = λ x y p q. joined_by P P' f f' label label' (λ z. z) c
+          (λ z pz. elim (cases_eq z a) [
+            | inl e ↦ go (ap f' e ∙ fa) (go (fn ∙ ap f (sym e)) here)
+            | inr d ↦ step (others z pz d)
+          ])
+          x y
+          (each (Into P f' label label' (λ z. z)) (λ x px. (x, px, sym (ls x px), here)) (f a, after, c.along a pa ∙ sym ln, step fn) x p)
+          (each (OutOf P f' label label' (λ z. z)) (λ y py. (y, py, sym (ls y py), here)) (a, pa, sym ln, step fa) y q);
+    }
 
 -- n is a cycle of its own, with a new label
 pub single : (P P' : ℕ → Type 0) (f f' label label' : ℕ → ℕ) (n : ℕ) → Cycles P f label
     → ((x : ℕ) → P x → P' x) → ((x : ℕ) → P' x → P x ⊎ (x ≡ n)) → P' n
     → f' n ≡ n → ((x : ℕ) → P x → f' x ≡ f x)
     → ((x : ℕ) → P x → label x ≢ label' n) → ((x : ℕ) → P x → label' x ≡ label x) → Cycles P' f' label'
-single P P' f f' label label' n c old cases pn fn others isolated ls = record {
-  stays = λ x p. elim (cases x p) [
-    | inl q ↦ subst P' (sym (others x q)) (old (f x) (c.stays x q))
-    | inr e ↦ subst P' (sym (ap f' e ∙ fn)) pn
-  ];
-  along = λ x p. elim (cases x p) [
-    | inl q ↦ let i = ls x q in let j = ls (f x) (c.stays x q) in let k = c.along x q in
-        let o = others x q in cc
-    | inr e ↦ cc (ap f' e, ap label' e)
-  ];
-  joined = λ x y p q e. elim (cases x p) [
-    | inl px ↦ elim (cases y q) [
-      | inl py ↦ joined_by P P' f f' label label' (λ z. z) c (λ z pz. step (others z pz)) x y
-          (x, px, sym (ls x px), here) (y, py, sym (ls y py), here) e
-      | inr j ↦ absurd (isolated x px (sym (ls x px) ∙ e ∙ ap label' j))
-    ]
-    | inr i ↦ elim (cases y q) [
-      | inl py ↦ absurd (isolated y py (sym (ls y py) ∙ sym e ∙ ap label' i))
-      | inr j ↦ subst (λ z. Reaches (By f') x z) (i ∙ sym j) here
-    ]
-  ];
-}
+single P P' f f' label label' n c old cases pn fn others isolated ls =
+    let each = by_cases P P' n cases in
+    record {
+      stays = each (λ x. P' (f' x)) (λ x q. subst P' (sym (others x q)) (old (f x) (c.stays x q))) (subst P' (sym fn) pn);
+      along = each (λ x. label' (f' x) ≡ label' x)
+          (λ x q. let i = ls x q in let j = ls (f x) (c.stays x q) in let k = c.along x q in let o = others x q in cc)
+          (ap label' fn);
+      joined = λ x y p q.
+          each (λ x. label' x ≡ label' y → Reaches (By f') x y)
+          (λ x px. each (λ y. label' x ≡ label' y → Reaches (By f') x y)
+          (λ y py. joined_by P P' f f' label label' (λ z. z) c (λ z pz. step (others z pz)) x y (x, px, sym (ls x px), here) (y, py, sym (ls y py), here))
+          (λ e. absurd (isolated x px (sym (ls x px) ∙ e))) y q)
+          (each (λ y. label' n ≡ label' y → Reaches (By f') n y) (λ y py e. absurd (isolated y py (sym (ls y py) ∙ sym e))) (λ e. here) y q) x p;
+    }
 
 -- one of the two parts of a cut cycle: what is outside the test, and m, which goes from a to q
 part_reaches : (P : ℕ → Type 0) (f f' label : ℕ → ℕ) (arc : ℕ → Bool) (q a m : ℕ) → Cycles P f label

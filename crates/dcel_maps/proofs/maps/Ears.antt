@@ -1,11 +1,10 @@
 -- An ear, a chord over two neighbours, keeps a map sound and a sphere.
-use Rattle.std.proofs.Common.{◌≡◌, ◌≢◌, ◌⊎◌, inl, inr, ◌==◌, ℕ, true, false, eqb-true, eq-eqb, sym, ap, ◌∙◌, subst, arith}
-use Rattle.std.proofs.lemmas.Bool.{false≢true, or_cases, or_left, or_right}
+use Rattle.std.proofs.Common.{◌≡◌, ◌≢◌, ℕ, true, sym, ap, ◌∙◌, subst, arith}
 use Rattle.std.proofs.lemmas.Bool.Decides.{nat_tests}
 use Rattle.dcel_maps.specs.Maps.{Live, Map, Sound, Sphere}
 use Rattle.dcel_maps.proofs.maps.Edits.{Chord, ChordAt, Ear, EarAt, two}
 use Rattle.dcel_maps.proofs.maps.Soundness.{face_cycles, next_differs}
-use Rattle.dcel_maps.proofs.maps.Chords.{chord_keeps, chord_sound}
+use Rattle.dcel_maps.proofs.maps.Chords.{chord_keeps}
 
 -- what an ear knows of the half edges round it
 pub record EarSite (S : Map) (p n q : ℕ) : Type 0 where
@@ -60,51 +59,15 @@ ear_at S p n q h g s e =
       arc_leave = λ x l i j. grind (arith, nat_tests);
     }
 
-two_cases : (p n x : ℕ) → two p n x ≡ true → (x ≡ p) ⊎ (x ≡ n)
-two_cases p n x t = elim (or_cases (x == p) (x == n) t) [ inl i ↦ inl (eqb-true x p i) | inr i ↦ inr (eqb-true x n i) ]
+-- what holds at two numbers holds where the test of the two does
+pub two_in : (f : ℕ → ℕ) (p n x g : ℕ) → f p ≡ g → f n ≡ g → two p n x ≡ true → f x ≡ g
+two_in f p n x g at_p at_n t = grind (arith, nat_tests)
 
-two_not : (p n x : ℕ) → two p n x ≡ false → (x ≢ p) × (x ≢ n)
-two_not p n x t = (
-  λ i. false≢true (sym t ∙ or_left (x == p) (x == n) (eq-eqb x p i)),
-  λ i. false≢true (sym t ∙ or_right (x == p) (x == n) (eq-eqb x n i)),
-)
+module _ (S T : Map) (p n q h g : ℕ) (e : Ear S T p n q h g) (s : Sound S) where
+  -- an ear is a chord
+  pub ear_chord : Chord S T p q h g (two p n)
+  ear_chord = record { at = ear_at S p n q h g s e.at; cut = e.cut }
 
--- an ear is a chord
-pub ear_chord : (S T : Map) (p n q h g : ℕ) → Ear S T p n q h g → Sound S → Chord S T p q h g (two p n)
-ear_chord S T p n q h g e s =
-    let c = ear_site S p n q h g s e.at in
-    record {
-      at = ear_at S p n q h g s e.at;
-      edge_here = e.edge_here;
-      edge_other = e.edge_other;
-      next_to_h = e.next_to_h;
-      next_h = e.next_h;
-      next_to_rev = ap T.next c.prev_q ∙ e.next_n;
-      next_rev = e.next_rev;
-      next_other = λ x l d k. e.next_other x l d (λ i. k (i ∙ sym c.prev_q));
-      prev_h = e.prev_h;
-      prev_q = e.prev_q;
-      prev_rev = e.prev_rev ∙ sym c.prev_q;
-      prev_p = e.prev_p;
-      prev_other = e.prev_other;
-      origin_h = e.origin_h;
-      origin_rev = e.origin_rev;
-      origin_other = e.origin_other;
-      face_h = e.face_h ∙ sym (c.face_q ∙ c.face_n);
-      face_rev = e.face_rev;
-      face_in = λ x l t. elim (two_cases p n x t) [ inl i ↦ ap T.face i ∙ e.face_p | inr i ↦ ap T.face i ∙ e.face_n ];
-      face_out = λ x l t. let d = two_not p n x t in e.face_other x l d.0 d.1;
-      edges = e.edges;
-      edge_below = e.edge_below;
-      vertices = e.vertices;
-      faces = e.faces;
-      face_below = e.face_below;
-    }
-
--- an ear keeps a map sound
-pub ear_sound : (S T : Map) (p n q h g : ℕ) → Ear S T p n q h g → Sound S → Sound T
-ear_sound S T p n q h g e s = chord_sound S T p q h g (two p n) (ear_chord S T p n q h g e s) s
-
--- an ear keeps a map sound and a sphere
-pub ear_keeps : (S T : Map) (p n q h g : ℕ) → Ear S T p n q h g → Sound S → Sphere S → Sound T × Sphere T
-ear_keeps S T p n q h g e s m = chord_keeps S T p q h g (two p n) (ear_chord S T p n q h g e s) s m
+  -- an ear keeps a map sound and a sphere
+  pub ear_keeps : Sphere S → Sound T × Sphere T
+  ear_keeps = chord_keeps S T p q h g (two p n) ear_chord s

@@ -1,21 +1,37 @@
 -- Elementary edits of a half-edge map: what each asks, and what it leaves. S is before, T after.
 use Rattle.std.proofs.Common.{◌≡◌, ◌≢◌, ◌/◌, ◌<◌, ◌≤◌, ◌==◌, ◌||◌, ℕ, Bool, true, false}
-use Rattle.dcel_maps.specs.Maps.{Live, Map}
+use Rattle.dcel_maps.specs.Maps.{IsBare, Live, Map}
 use Rattle.dcel_fixed.specs.HalfEdges.{rev}
+
+-- T has the live edges of S and that of h, numbers enough for both, and as many vertices
+pub record Grows (S T : Map) (h : ℕ) : Type 0 where
+  pub edge_here : T.edge (h / 2) ≡ true
+  pub edge_other : (u : ℕ) → u ≢ h / 2 → T.edge u ≡ S.edge u
+  pub edges : S.edges ≤ T.edges
+  pub edge_below : h / 2 < T.edges
+  pub vertices : T.vertices ≡ S.vertices
+
+-- and h leads from one vertex to another; the old half edges start where they did
+pub record Drawn (S T : Map) (h from to : ℕ) : Type 0 where
+  pub grows : Grows S T h
+  pub open grows use *
+  pub origin_h : T.origin h ≡ from
+  pub origin_rev : T.origin (rev h) ≡ to
+  pub origin_other : (x : ℕ) → Live S x → T.origin x ≡ S.origin x
 
 -- what a spur asks: the edge of h is not live, and no edge meets the vertex v
 pub record SpurAt (S : Map) (a h v : ℕ) : Type 0 where
   pub lives : Live S a
   pub fresh : S.edge (h / 2) ≡ false
-  pub isolated : (x : ℕ) → Live S x → S.origin x ≢ v
+  pub isolated : IsBare S v
   pub vertex_room : v < S.vertices
 
 -- a new edge to a new vertex: the cycle (.. a, b ..) becomes (.. a, h, rev h, b ..); the tip is v
 pub record Spur (S T : Map) (a h v : ℕ) : Type 0 where
   pub at : SpurAt S a h v
   pub open at use *
-  pub edge_here : T.edge (h / 2) ≡ true
-  pub edge_other : (u : ℕ) → u ≢ h / 2 → T.edge u ≡ S.edge u
+  pub drawn : Drawn S T h (S.origin (S.next a)) v
+  pub open drawn use *
   pub next_a : T.next a ≡ h
   pub next_h : T.next h ≡ rev h
   pub next_rev : T.next (rev h) ≡ S.next a
@@ -24,15 +40,9 @@ pub record Spur (S T : Map) (a h v : ℕ) : Type 0 where
   pub prev_rev : T.prev (rev h) ≡ h
   pub prev_h : T.prev h ≡ a
   pub prev_other : (x : ℕ) → Live S x → x ≢ S.next a → T.prev x ≡ S.prev x
-  pub origin_h : T.origin h ≡ S.origin (S.next a)
-  pub origin_rev : T.origin (rev h) ≡ v
-  pub origin_other : (x : ℕ) → Live S x → T.origin x ≡ S.origin x
   pub face_h : T.face h ≡ S.face a
   pub face_rev : T.face (rev h) ≡ S.face a
   pub face_other : (x : ℕ) → Live S x → T.face x ≡ S.face x
-  pub edges : S.edges ≤ T.edges
-  pub edge_below : h / 2 < T.edges
-  pub vertices : T.vertices ≡ S.vertices
   pub faces : T.faces ≡ S.faces
 
 -- what a chord asks: the test `arc` holds of the part of the cycle that begins with p and ends before q; the edge of h
@@ -52,13 +62,10 @@ pub record ChordAt (S : Map) (p q h g : ℕ) (arc : ℕ → Bool) : Type 0 where
   pub arc_enter : (x : ℕ) → Live S x → arc x ≡ false → arc (S.next x) ≡ true → S.next x ≡ p
   pub arc_leave : (x : ℕ) → Live S x → arc x ≡ true → arc (S.next x) ≡ false → S.next x ≡ q
 
--- a new edge that cuts the cycle of p and q in two: h comes before q in what is left, rev h before p in the part of
--- the test `arc`, which gets the face g
-pub record Chord (S T : Map) (p q h g : ℕ) (arc : ℕ → Bool) : Type 0 where
-  pub at : ChordAt S p q h g arc
-  pub open at use *
-  pub edge_here : T.edge (h / 2) ≡ true
-  pub edge_other : (u : ℕ) → u ≢ h / 2 → T.edge u ≡ S.edge u
+-- h comes before q, and rev h before p, where the cycle of p and q was cut; the part of the test `arc` gets the face g
+pub record Cut (S T : Map) (p q h g : ℕ) (arc : ℕ → Bool) : Type 0 where
+  pub drawn : Drawn S T h (S.origin p) (S.origin q)
+  pub open drawn use *
   pub next_to_h : T.next (S.prev p) ≡ h
   pub next_h : T.next h ≡ q
   pub next_to_rev : T.next (S.prev q) ≡ rev h
@@ -69,18 +76,19 @@ pub record Chord (S T : Map) (p q h g : ℕ) (arc : ℕ → Bool) : Type 0 where
   pub prev_rev : T.prev (rev h) ≡ S.prev q
   pub prev_p : T.prev p ≡ rev h
   pub prev_other : (x : ℕ) → Live S x → x ≢ p → x ≢ q → T.prev x ≡ S.prev x
-  pub origin_h : T.origin h ≡ S.origin p
-  pub origin_rev : T.origin (rev h) ≡ S.origin q
-  pub origin_other : (x : ℕ) → Live S x → T.origin x ≡ S.origin x
   pub face_h : T.face h ≡ S.face q
   pub face_rev : T.face (rev h) ≡ g
   pub face_in : (x : ℕ) → Live S x → arc x ≡ true → T.face x ≡ g
   pub face_out : (x : ℕ) → Live S x → arc x ≡ false → T.face x ≡ S.face x
-  pub edges : S.edges ≤ T.edges
-  pub edge_below : h / 2 < T.edges
-  pub vertices : T.vertices ≡ S.vertices
   pub faces : S.faces ≤ T.faces
   pub face_below : g < T.faces
+
+-- a new edge that cuts the cycle of p and q in two
+pub record Chord (S T : Map) (p q h g : ℕ) (arc : ℕ → Bool) : Type 0 where
+  pub at : ChordAt S p q h g arc
+  pub open at use *
+  pub cut : Cut S T p q h g arc
+  pub open cut use *
 
 -- one of two numbers
 abbrev pub two : ℕ → ℕ → ℕ → Bool
@@ -98,31 +106,8 @@ pub record EarAt (S : Map) (p n q h g : ℕ) : Type 0 where
 -- a chord over two neighbours: (.. p, n, q ..) becomes (.. h, q ..), and (p, n, rev h) is the new face g
 pub record Ear (S T : Map) (p n q h g : ℕ) : Type 0 where
   pub at : EarAt S p n q h g
-  pub edge_here : T.edge (h / 2) ≡ true
-  pub edge_other : (u : ℕ) → u ≢ h / 2 → T.edge u ≡ S.edge u
-  pub next_to_h : T.next (S.prev p) ≡ h
-  pub next_h : T.next h ≡ q
-  pub next_n : T.next n ≡ rev h
-  pub next_rev : T.next (rev h) ≡ p
-  pub next_other : (x : ℕ) → Live S x → x ≢ S.prev p → x ≢ n → T.next x ≡ S.next x
-  pub prev_h : T.prev h ≡ S.prev p
-  pub prev_q : T.prev q ≡ h
-  pub prev_rev : T.prev (rev h) ≡ n
-  pub prev_p : T.prev p ≡ rev h
-  pub prev_other : (x : ℕ) → Live S x → x ≢ p → x ≢ q → T.prev x ≡ S.prev x
-  pub origin_h : T.origin h ≡ S.origin p
-  pub origin_rev : T.origin (rev h) ≡ S.origin q
-  pub origin_other : (x : ℕ) → Live S x → T.origin x ≡ S.origin x
-  pub face_h : T.face h ≡ S.face p
-  pub face_rev : T.face (rev h) ≡ g
-  pub face_p : T.face p ≡ g
-  pub face_n : T.face n ≡ g
-  pub face_other : (x : ℕ) → Live S x → x ≢ p → x ≢ n → T.face x ≡ S.face x
-  pub edges : S.edges ≤ T.edges
-  pub edge_below : h / 2 < T.edges
-  pub vertices : T.vertices ≡ S.vertices
-  pub faces : S.faces ≤ T.faces
-  pub face_below : g < T.faces
+  pub cut : Cut S T p q h g (two p n)
+  pub open cut use *
 
 -- the first edge: h from a to b, and back; no other edge is live
 pub record FirstEdge (T : Map) (h a b : ℕ) : Type 0 where

@@ -1,9 +1,10 @@
 -- A triangle alone is sound and a sphere: a first edge, a spur and an ear.
-use Rattle.std.proofs.Common.{◌≡◌, ◌≢◌, ℕ, zero, suc, ◌+◌, ◌*◌, ◌/◌, ◌<◌, true, nat_lt, List, [], ◌∷◌, slice_index, refl, arith, le-ltb, ltb-true}
+use Rattle.std.proofs.Common.{◌≡◌, ◌≢◌, ℕ, zero, suc, ◌+◌, ◌/◌, ◌<◌, true, false, nat_lt, List, [], ◌∷◌, slice_index, refl, sym, arith, le-ltb, ltb-true}
+use Rattle.std.proofs.lemmas.Bool.{false≢true}
 use Rattle.std.proofs.lemmas.Bool.Decides.{nat_tests}
 use Rattle.dcel_fixed.specs.HalfEdges.{rev}
 use Rattle.dcel_maps.specs.Maps.{Map, Live, Sound, Sphere}
-use Rattle.dcel_maps.proofs.maps.Edits.{FirstEdge, Spur, SpurAt, Ear, EarAt}
+use Rattle.dcel_maps.proofs.maps.Edits.{FirstEdge, Grows, Spur, Ear, two as pair}
 use Rattle.dcel_maps.proofs.maps.Firsts.{first_keeps}
 use Rattle.dcel_maps.proofs.maps.Spurs.{spur_keeps}
 use Rattle.dcel_maps.proofs.maps.Ears.{ear_keeps}
@@ -35,6 +36,17 @@ listed edges next prev origin face = record {
   prev = λ h. slice_index prev h;
   origin = λ h. slice_index origin h;
   face = λ h. slice_index face h;
+}
+
+-- one edge more
+one_more : (S T : Map) (n h : ℕ) → S.edges ≡ n → T.edges ≡ n + 1 → ((u : ℕ) → S.edge u ≡ nat_lt u n) → ((u : ℕ) → T.edge u ≡ nat_lt u (n + 1))
+    → T.vertices ≡ S.vertices → h / 2 ≡ n → Grows S T h
+one_more S T n h before after was is vertices half = record {
+  edge_here = let i = is (h / 2) in grind (arith, nat_tests);
+  edge_other = λ u differs. let i = is u in let j = was u in grind (arith, nat_tests);
+  edges = omega arith;
+  edge_below = omega arith;
+  vertices = vertices;
 }
 
 -- an edge; with a spur; and with the ear over it, which closes the triangle
@@ -82,8 +94,12 @@ second = record {
     isolated = each_one (λ x. one.origin x ≢ 2) (λ e. omega (arith, e)) (λ e. omega (arith, e));
     vertex_room = omega arith;
   };
-  edge_here = refl;
-  edge_other = λ u differs. grind (arith, nat_tests);
+  drawn = record {
+    grows = one_more one two 1 2 refl refl (λ u. refl) (λ u. refl) refl refl;
+    origin_h = refl;
+    origin_rev = refl;
+    origin_other = each_one (λ x. two.origin x ≡ one.origin x) refl refl;
+  };
   next_a = refl;
   next_h = refl;
   next_rev = refl;
@@ -92,15 +108,9 @@ second = record {
   prev_rev = refl;
   prev_h = refl;
   prev_other = each_one (λ x. x ≢ 1 → two.prev x ≡ one.prev x) (λ d. refl) (λ d. absurd (d refl));
-  origin_h = refl;
-  origin_rev = refl;
-  origin_other = each_one (λ x. two.origin x ≡ one.origin x) refl refl;
   face_h = refl;
   face_rev = refl;
   face_other = each_one (λ x. two.face x ≡ one.face x) refl refl;
-  edges = omega arith;
-  edge_below = omega arith;
-  vertices = refl;
   faces = refl;
 }
 
@@ -115,31 +125,30 @@ third = record {
     fresh = refl;
     vacant = each_two (λ x. two.face x ≢ 1) (λ e. omega (arith, e)) (λ e. omega (arith, e)) (λ e. omega (arith, e)) (λ e. omega (arith, e));
   };
-  edge_here = refl;
-  edge_other = λ u differs. grind (arith, nat_tests);
-  next_to_h = refl;
-  next_h = refl;
-  next_n = refl;
-  next_rev = refl;
-  next_other = each_two (λ x. x ≢ 2 → x ≢ 1 → triangle.next x ≡ two.next x) (λ d e. refl) (λ d e. absurd (e refl)) (λ d e. absurd (d refl)) (λ d e. refl);
-  prev_h = refl;
-  prev_q = refl;
-  prev_rev = refl;
-  prev_p = refl;
-  prev_other = each_two (λ x. x ≢ 3 → x ≢ 0 → triangle.prev x ≡ two.prev x) (λ d e. absurd (e refl)) (λ d e. refl) (λ d e. refl) (λ d e. absurd (d refl));
-  origin_h = refl;
-  origin_rev = refl;
-  origin_other = each_two (λ x. triangle.origin x ≡ two.origin x) refl refl refl refl;
-  face_h = refl;
-  face_rev = refl;
-  face_p = refl;
-  face_n = refl;
-  face_other = each_two (λ x. x ≢ 3 → x ≢ 1 → triangle.face x ≡ two.face x) (λ d e. refl) (λ d e. absurd (e refl)) (λ d e. refl) (λ d e. absurd (d refl));
-  edges = omega arith;
-  edge_below = omega arith;
-  vertices = refl;
-  faces = omega arith;
-  face_below = omega arith;
+  cut = record {
+    drawn = record {
+      grows = one_more two triangle 2 4 refl refl (λ u. refl) (λ u. refl) refl refl;
+      origin_h = refl;
+      origin_rev = refl;
+      origin_other = each_two (λ x. triangle.origin x ≡ two.origin x) refl refl refl refl;
+    };
+    next_to_h = refl;
+    next_h = refl;
+    next_to_rev = refl;
+    next_rev = refl;
+    next_other = each_two (λ x. x ≢ 2 → x ≢ 1 → triangle.next x ≡ two.next x) (λ d e. refl) (λ d e. absurd (e refl)) (λ d e. absurd (d refl)) (λ d e. refl);
+    prev_h = refl;
+    prev_q = refl;
+    prev_rev = refl;
+    prev_p = refl;
+    prev_other = each_two (λ x. x ≢ 3 → x ≢ 0 → triangle.prev x ≡ two.prev x) (λ d e. absurd (e refl)) (λ d e. refl) (λ d e. refl) (λ d e. absurd (d refl));
+    face_h = refl;
+    face_rev = refl;
+    face_in = each_two (λ x. pair 3 1 x ≡ true → triangle.face x ≡ 1) (λ t. absurd (false≢true t)) (λ t. refl) (λ t. absurd (false≢true t)) (λ t. refl);
+    face_out = each_two (λ x. pair 3 1 x ≡ false → triangle.face x ≡ two.face x) (λ t. refl) (λ t. absurd (false≢true (sym t))) (λ t. refl) (λ t. absurd (false≢true (sym t)));
+    faces = omega arith;
+    face_below = omega arith;
+  };
 }
 
 -- a triangle is sound and a sphere

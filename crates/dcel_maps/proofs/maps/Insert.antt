@@ -1,10 +1,10 @@
 -- A vertex put into a triangle: a spur and two ears.
-use Rattle.std.proofs.Common.{◌≡◌, ◌≢◌, ◌⊎◌, inl, inr, ◌+◌, ◌*◌, ◌/◌, ◌<◌, ℕ, true, [], ◌∷◌, sym, refl, ap, ◌∙◌, subst, arith}
+use Rattle.std.proofs.Common.{◌≡◌, ◌≢◌, ◌⊎◌, inl, inr, ◌+◌, ◌*◌, ◌/◌, ◌<◌, ℕ, true, false, [], ◌∷◌, sym, refl, ap, ◌∙◌, subst, arith}
 use Rattle.std.proofs.lemmas.Bool.{cases_eq}
 use Rattle.std.proofs.lemmas.Bool.Decides.{nat_tests}
 use Rattle.dcel_maps.specs.Maps.{By, Live, Map, Sound, Sphere}
 use Rattle.dcel_fixed.specs.HalfEdges.{rev}
-use Rattle.dcel_maps.proofs.maps.Edits.{Ear, EarAt, Spur, SpurAt}
+use Rattle.dcel_maps.proofs.maps.Edits.{Ear, EarAt, Spur, SpurAt, two}
 use Rattle.dcel_maps.proofs.maps.Halves.{rev-rev}
 use Rattle.dcel_maps.proofs.maps.Reaching.{reaches_stays}
 use Rattle.dcel_maps.proofs.maps.Updates.{put}
@@ -12,7 +12,7 @@ use Rattle.dcel_maps.proofs.maps.Soundness.{next_differs}
 use Rattle.dcel_maps.proofs.maps.Counts.{edge_past}
 use Rattle.dcel_maps.proofs.maps.Words.{IsWord}
 use Rattle.dcel_maps.proofs.maps.Spurs.{spur_keeps}
-use Rattle.dcel_maps.proofs.maps.Ears.{ear_keeps}
+use Rattle.dcel_maps.proofs.maps.Ears.{ear_keeps, two_in}
 use Rattle.dcel_maps.proofs.maps.Made.{ear, ear_is, spur, spur_is}
 
 -- a vertex put into the triangle (e0, e1, e2) of the face f: three new edges, each from a corner to v. The face f keeps e0,
@@ -291,53 +291,58 @@ insert_last S T M f e0 e1 e2 v e s k at =
     λ x n. (λ i. n (ap S.face i ∙ c.face_0), λ i. n (ap S.face i ∙ c.face_1), λ i. n (ap S.face i ∙ c.face_2)) in
     record {
       at = at;
-      edge_here = ap T.edge five ∙ e.edge_2;
-      edge_other = λ u d. elim (cases_eq u S.edges) [
-        | inl i ↦ ap T.edge i ∙ e.edge_0 ∙ sym (ap M.edge i ∙ k.edge_0)
-        | inr d0 ↦ elim (cases_eq u (S.edges + 1)) [
-          | inl i ↦ ap T.edge i ∙ e.edge_1 ∙ sym (ap M.edge i ∙ k.edge_1)
-          | inr d1 ↦ e.edge_other u d0 d1 (λ i. d (i ∙ sym five)) ∙ sym (k.edge_other u d0 d1)
-        ]
-      ];
-      next_to_h = ap T.next k.prev_3 ∙ e.word_0.1.0.0;
-      next_h = e.word_0.1.1.0;
-      next_n = e.word_2.0.0 ∙ sym r5;
-      next_rev = ap T.next r5 ∙ e.word_2.1.0.0;
-      next_other = all (λ x. x ≢ M.prev (m + 3) → x ≢ e2 → T.next x ≡ M.next x)
-          (λ i j. e.word_0.0.0 ∙ sym k.next_a) (λ i j. e.word_1.0.0 ∙ sym k.next_b) (λ i j. absurd (j refl))
-          (λ i j. absurd (i (sym k.prev_3))) (λ i j. e.word_1.1.1.0 ∙ sym k.next_1) (λ i j. e.word_1.1.0.0 ∙ sym k.next_2)
-          (λ i j. e.word_2.1.1.0 ∙ sym k.next_3)
-          (λ x l n b i j. let o = e.others x l n in let d = is_not x n in o.0 ∙ sym (k.next_other x b d.0 d.1));
-      prev_h = e.word_0.1.0.1 ∙ sym k.prev_3;
-      prev_q = e.word_0.1.1.1;
-      prev_rev = ap T.prev r5 ∙ e.word_2.0.1;
-      prev_p = e.word_2.1.0.1 ∙ sym r5;
-      prev_other = all (λ x. x ≢ m + 3 → x ≢ e0 → T.prev x ≡ M.prev x)
-          (λ i j. absurd (j refl)) (λ i j. e.word_1.1.1.1 ∙ sym k.prev_b) (λ i j. e.word_2.1.1.1 ∙ sym k.prev_c)
-          (λ i j. e.word_0.0.1 ∙ sym k.prev_0) (λ i j. e.word_1.1.0.1 ∙ sym k.prev_1) (λ i j. e.word_1.0.1 ∙ sym k.prev_2)
-          (λ i j. absurd (i refl))
-          (λ x l n b i j. let o = e.others x l n in let d = is_not x n in o.1 ∙ sym (k.prev_other x b d.1 d.2));
-      origin_h = e.origin_5 ∙ sym k.origin_3;
-      origin_rev = ap T.origin r5 ∙ e.origin_4 ∙ sym (k.origin_other e0 c.below_0);
-      origin_other = all (λ x. T.origin x ≡ M.origin x)
-          (e.origin_other e0 c.lives_0 ∙ sym (k.origin_other e0 c.below_0)) (e.origin_other e1 c.lives_1 ∙ sym (k.origin_other e1 c.below_1))
-          (e.origin_other e2 c.lives_2 ∙ sym (k.origin_other e2 c.below_2))
-          (e.origin_0 ∙ sym k.origin_0) (e.origin_1 ∙ sym k.origin_1) (e.origin_2 ∙ sym k.origin_2) (e.origin_3 ∙ sym k.origin_3)
-          (λ x l n b. e.origin_other x l ∙ sym (k.origin_other x b));
-      face_h = e.word_0.1.1.2 ∙ sym k.face_3;
-      face_rev = ap T.face r5 ∙ e.word_2.1.0.2;
-      face_p = e.word_2.1.1.2;
-      face_n = e.word_2.0.2;
-      face_other = all (λ x. x ≢ m + 3 → x ≢ e2 → T.face x ≡ M.face x)
-          (λ i j. e.word_0.0.2 ∙ sym k.face_a) (λ i j. e.word_1.0.2 ∙ sym k.face_b) (λ i j. absurd (j refl))
-          (λ i j. e.word_0.1.0.2 ∙ sym k.face_0) (λ i j. e.word_1.1.1.2 ∙ sym k.face_1) (λ i j. e.word_1.1.0.2 ∙ sym k.face_2)
-          (λ i j. absurd (i refl))
-          (λ x l n b i j. let o = e.others x l n in o.2 ∙ sym (k.face_other x b (is_not x n).1));
-      edges = let i = e.edges in let j = k.edges in omega arith;
-      edge_below = let i = e.edges in omega arith;
-      vertices = e.vertices ∙ sym k.vertices;
-      faces = let i = e.faces in let j = k.faces in omega arith;
-      face_below = let i = e.faces in omega arith;
+      cut = record {
+        drawn = record {
+          grows = record {
+            edge_here = ap T.edge five ∙ e.edge_2;
+            edge_other = λ u d. elim (cases_eq u S.edges) [
+              | inl i ↦ ap T.edge i ∙ e.edge_0 ∙ sym (ap M.edge i ∙ k.edge_0)
+              | inr d0 ↦ elim (cases_eq u (S.edges + 1)) [
+                | inl i ↦ ap T.edge i ∙ e.edge_1 ∙ sym (ap M.edge i ∙ k.edge_1)
+                | inr d1 ↦ e.edge_other u d0 d1 (λ i. d (i ∙ sym five)) ∙ sym (k.edge_other u d0 d1)
+              ]
+            ];
+            edges = let i = e.edges in let j = k.edges in omega arith;
+            edge_below = let i = e.edges in omega arith;
+            vertices = e.vertices ∙ sym k.vertices;
+          };
+          origin_h = e.origin_5 ∙ sym k.origin_3;
+          origin_rev = ap T.origin r5 ∙ e.origin_4 ∙ sym (k.origin_other e0 c.below_0);
+          origin_other = all (λ x. T.origin x ≡ M.origin x)
+              (e.origin_other e0 c.lives_0 ∙ sym (k.origin_other e0 c.below_0)) (e.origin_other e1 c.lives_1 ∙ sym (k.origin_other e1 c.below_1))
+              (e.origin_other e2 c.lives_2 ∙ sym (k.origin_other e2 c.below_2))
+              (e.origin_0 ∙ sym k.origin_0) (e.origin_1 ∙ sym k.origin_1) (e.origin_2 ∙ sym k.origin_2) (e.origin_3 ∙ sym k.origin_3)
+              (λ x l n b. e.origin_other x l ∙ sym (k.origin_other x b));
+        };
+        next_to_h = ap T.next k.prev_3 ∙ e.word_0.1.0.0;
+        next_h = e.word_0.1.1.0;
+        next_to_rev = ap T.next k.prev_a ∙ e.word_2.0.0 ∙ sym r5;
+        next_rev = ap T.next r5 ∙ e.word_2.1.0.0;
+        next_other = all (λ x. x ≢ M.prev (m + 3) → x ≢ M.prev e0 → T.next x ≡ M.next x)
+            (λ i j. e.word_0.0.0 ∙ sym k.next_a) (λ i j. e.word_1.0.0 ∙ sym k.next_b) (λ i j. absurd (j (sym k.prev_a)))
+            (λ i j. absurd (i (sym k.prev_3))) (λ i j. e.word_1.1.1.0 ∙ sym k.next_1) (λ i j. e.word_1.1.0.0 ∙ sym k.next_2)
+            (λ i j. e.word_2.1.1.0 ∙ sym k.next_3)
+            (λ x l n b i j. let o = e.others x l n in let d = is_not x n in o.0 ∙ sym (k.next_other x b d.0 d.1));
+        prev_h = e.word_0.1.0.1 ∙ sym k.prev_3;
+        prev_q = e.word_0.1.1.1;
+        prev_rev = ap T.prev r5 ∙ e.word_2.0.1 ∙ sym k.prev_a;
+        prev_p = e.word_2.1.0.1 ∙ sym r5;
+        prev_other = all (λ x. x ≢ m + 3 → x ≢ e0 → T.prev x ≡ M.prev x)
+            (λ i j. absurd (j refl)) (λ i j. e.word_1.1.1.1 ∙ sym k.prev_b) (λ i j. e.word_2.1.1.1 ∙ sym k.prev_c)
+            (λ i j. e.word_0.0.1 ∙ sym k.prev_0) (λ i j. e.word_1.1.0.1 ∙ sym k.prev_1) (λ i j. e.word_1.0.1 ∙ sym k.prev_2)
+            (λ i j. absurd (i refl))
+            (λ x l n b i j. let o = e.others x l n in let d = is_not x n in o.1 ∙ sym (k.prev_other x b d.1 d.2));
+        face_h = e.word_0.1.1.2 ∙ sym k.face_a;
+        face_rev = ap T.face r5 ∙ e.word_2.1.0.2;
+        face_in = λ x l. two_in T.face (m + 3) e2 x (S.faces + 1) e.word_2.1.1.2 e.word_2.0.2;
+        face_out = all (λ x. two (m + 3) e2 x ≡ false → T.face x ≡ M.face x)
+            (λ t. e.word_0.0.2 ∙ sym k.face_a) (λ t. e.word_1.0.2 ∙ sym k.face_b) (λ t. grind (arith, nat_tests))
+            (λ t. e.word_0.1.0.2 ∙ sym k.face_0) (λ t. e.word_1.1.1.2 ∙ sym k.face_1) (λ t. e.word_1.1.0.2 ∙ sym k.face_2)
+            (λ t. grind (arith, nat_tests))
+            (λ x l n b t. let o = e.others x l n in o.2 ∙ sym (k.face_other x b (is_not x n).1));
+        faces = let i = e.faces in let j = k.faces in omega arith;
+        face_below = let i = e.faces in omega arith;
+      };
     }
 
 first_edges : (S : Map) (e0 v : ℕ) → (first S e0 v).edges ≡ S.edges + 1

@@ -3,9 +3,10 @@ use Rattle.std.proofs.Common.{◌≡◌, ◌≢◌, ◌⊎◌, inl, inr, ◌≤�
 use Rattle.std.proofs.lemmas.Bool.{cases_eq}
 use Rattle.dcel_maps.specs.Maps.{By, Live, Map, Reaches, Sound}
 use Rattle.dcel_maps.specs.Maps.Reaches.{go, here}
+use Rattle.dcel_maps.specs.Walks.{Path}
 use Rattle.dcel_maps.proofs.maps.Reaching.{reaches_stays}
 use Rattle.dcel_maps.proofs.maps.Soundness.{face_cycles}
-use Rattle.dcel_maps.proofs.maps.Words.{In, IsWord, Once, WordFrom, WordOf}
+use Rattle.dcel_maps.proofs.maps.Words.{After, In, IsWord, Once, WordOf}
 
 -- from x up to the first b
 data Orbit (f : ℕ → ℕ) (b : ℕ) : ℕ → List ℕ → Type 0 where
@@ -54,7 +55,7 @@ orbit_all f b P stays y (more d o) p (inl i) = subst P (sym i) p
 orbit_all f b P stays y (more {x = x} d o) p (inr i) = orbit_all f b P stays y o (stays x p) i
 
 orbit_word : (S : Map) (s : Sound S) (f a b : ℕ) → S.next b ≡ a → {x : ℕ} {w : List ℕ} → Orbit S.next b x w → Live S x → S.face x ≡ f
-    → (y : ℕ) → Live S y → S.face y ≡ f → S.next y ≡ x → WordFrom S f a y w
+    → (y : ℕ) → Live S y → S.face y ≡ f → S.next y ≡ x → Path (After S f) y w a
 orbit_word S s f a b ba (last {x = x} e) lx fx y ly fy yx =
     ((yx, ap S.prev (sym yx) ∙ s.prev-next y ly, fy), (ap S.next e ∙ ba, ap S.prev (sym (ap S.next e ∙ ba)) ∙ s.prev-next x lx, fx))
 orbit_word S s f a b ba (more {x = x} d o) lx fx y ly fy yx = (

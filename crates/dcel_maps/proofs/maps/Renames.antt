@@ -1,16 +1,15 @@
 -- Other numbers keep a map sound and a sphere.
 use Rattle.std.proofs.Common.{◌≡◌, ◌≢◌, inl, inr, ◌+◌, ◌*◌, ◌/◌, ◌<◌, ◌≤◌, ℕ, zero, suc, Bool, true, false, sym, refl, ap, ◌∙◌, subst, subst₂, arith}
 use Rattle.std.proofs.lemmas.Bool.{cases_Bool}
-use Rattle.dcel_maps.specs.Maps.{By, Connected, Live, Map, NextOrRev, Reaches, Sound, Sphere, ccw, count, has_word, starts_edge}
+use Rattle.dcel_maps.specs.Maps.{By, Connected, Live, Map, NextOrRev, Reaches, Sound, Sphere, ccw, count, has_word, is_used, starts_edge}
 use Rattle.dcel_fixed.specs.HalfEdges.{rev}
-use Rattle.dcel_maps.specs.Maps.Reaches.{go, here}
 use Rattle.dcel_maps.proofs.maps.Edits.{Renamed}
 use Rattle.dcel_maps.proofs.maps.Halves.{rev_half, rev_or_same}
 use Rattle.dcel_maps.proofs.maps.Reaching.{reroutes, step}
 use Rattle.dcel_maps.proofs.maps.Cycles.{Cycles}
 use Rattle.dcel_maps.proofs.maps.Updates.{put, put_other, put_same}
 use Rattle.dcel_maps.proofs.maps.Soundness.{face_cycles, live_step, rev_live, sound_from, vertex_cycles}
-use Rattle.dcel_maps.proofs.maps.Counts.{count_more, is_used, used_from, used_gives}
+use Rattle.dcel_maps.proofs.maps.Counts.{count_more, used_from, used_gives}
 
 -- each number below n that passes p goes to one below m that passes q
 abbrev Goes : (ℕ → Bool) → (ℕ → Bool) → ℕ → ℕ → Type 0
@@ -59,33 +58,7 @@ cycles_renamed P P' f f' label label' r r' o c lives comes back on ls apart = re
       (λ a b p s. step (on a p ∙ ap r s)) x (c.joined (r' y) (r' z) x w (apart (r' y) (r' z) x w i)));
 }
 
--- other numbers keep a map sound
-pub renamed_sound : (S T : Map) (f f' o w : ℕ → ℕ) → Renamed S T f f' o w → Sound S → Sound T
-unfolding ccw
-renamed_sound S T f f' o w e s =
-    let on : (Q : ℕ → Type 0) → ((x : ℕ) → Live S x → Q (f x)) → (y : ℕ) → Live T y → Q y =
-    λ Q q y l. subst Q (e.back y l) (q (f' y) (e.comes y l)) in
-    sound_from T e.below_edges e.below_vertices e.below_faces
-    (on (λ y. T.prev (T.next y) ≡ y) (λ x l. ap T.prev (e.next x l) ∙ e.prev (S.next x) (s.live_next x l) ∙ ap f (s.prev-next x l)))
-    (on (λ y. T.next (T.prev y) ≡ y) (λ x l. ap T.next (e.prev x l) ∙ e.next (S.prev x) (s.live_prev x l) ∙ ap f (s.next-prev x l)))
-    (on (λ y. T.origin y ≢ T.origin (rev y)) (λ x l i. s.two_ends x l (e.apart_origin x (rev x) l (rev_live S x l)
-    (sym (e.origin x l) ∙ i ∙ ap T.origin (e.turn x l) ∙ e.origin (rev x) (rev_live S x l)))))
-    (cycles_renamed (Live S) (Live T) S.next T.next S.face T.face f f' w (face_cycles S s) e.lives e.comes e.back e.next e.face e.apart_face)
-    (cycles_renamed (Live S) (Live T) (ccw S) (ccw T) S.origin T.origin f f' o (vertex_cycles S s) e.lives e.comes e.back
-    (λ x l. ap rev (e.prev x l) ∙ e.turn (S.prev x) (s.live_prev x l)) e.origin e.apart_origin)
-
--- other numbers keep a map connected
-renamed_connected : (S T : Map) (f f' o w : ℕ → ℕ) → Renamed S T f f' o w → Sound S → Connected S → Connected T
-renamed_connected S T f f' o w e s c = λ x y l m.
-    subst₂ (λ x y. Reaches (NextOrRev T) x y) (e.back x l) (e.back y m)
-    (reroutes (NextOrRev S) (NextOrRev T) (Live S) f (live_step S s)
-    (λ a b p r. elim r [
-      | inl i ↦ go (inl (e.next a p ∙ ap f i)) here
-      | inr i ↦ go (inr (e.turn a p ∙ ap f i)) here
-    ])
-    (e.comes x l) (c (f' x) (f' y) (e.comes x l) (e.comes y m)))
-
--- the edges: u goes to that of f (2 u)
+-- no fewer edges are live where half edges go to different ones, and both halves of an edge to one: u goes to the edge of f (2 u)
 edges_most : (S T : Map) (f f' : ℕ → ℕ) → ((x : ℕ) → Live S x → Live T (f x)) → ((x : ℕ) → Live S x → f' (f x) ≡ x)
     → ((x : ℕ) → Live S x → rev (f x) ≡ f (rev x)) → ((x : ℕ) → Live T x → x / 2 < T.edges) → count S.edge S.edges ≤ count T.edge T.edges
 edges_most S T f f' lives forth turn below =
@@ -118,30 +91,60 @@ labels_most S T t label label' r n n' lives below apart =
     let y = used_gives S label w z in
     sym x.is ∙ apart x.half y.half x.live y.live i ∙ y.is)
 
--- other numbers keep a map a sphere
-pub renamed_sphere : (S T : Map) (f f' o w : ℕ → ℕ) → Renamed S T f f' o w → Sound S → Sphere S → Sphere T
-unfolding starts_edge has_word
-renamed_sphere S T f f' o w e s m =
-    let t = renamed_sound S T f f' o w e s in
-    let turn' : (y : ℕ) → Live T y → rev (f' y) ≡ f' (rev y) = λ y l.
-    sym (e.forth (rev (f' y)) (rev_live S (f' y) (e.comes y l))) ∙ ap f' (sym (e.turn (f' y) (e.comes y l)) ∙ ap rev (e.back y l)) in
-    let e1 = edges_most S T f f' e.lives e.forth e.turn e.below_edges in
-    let e2 = edges_most T S f' f e.comes e.back turn' s.below_edges in
-    let v1 = labels_most S T t S.origin T.origin f S.vertices T.vertices e.lives e.below_vertices
-    (λ x y l k i. e.apart_origin x y l k (sym (e.origin x l) ∙ i ∙ e.origin y k)) in
-    let v2 = labels_most T S s T.origin S.origin f' T.vertices S.vertices e.comes s.below_vertices
-    (λ x y l k i. ap T.origin (sym (e.back x l)) ∙ e.origin (f' x) (e.comes x l) ∙ ap o i ∙ sym (e.origin (f' y) (e.comes y k)) ∙ ap T.origin (e.back y k)) in
-    let f1 = labels_most S T t S.face T.face f S.faces T.faces e.lives e.below_faces
-    (λ x y l k i. e.apart_face x y l k (sym (e.face x l) ∙ i ∙ e.face y k)) in
-    let f2 = labels_most T S s T.face S.face f' T.faces S.faces e.comes s.below_faces
-    (λ x y l k i. ap T.face (sym (e.back x l)) ∙ e.face (f' x) (e.comes x l) ∙ ap w i ∙ sym (e.face (f' y) (e.comes y k)) ∙ ap T.face (e.back y k)) in
-    record {
-      connected = renamed_connected S T f f' o w e s m.connected;
-      euler = λ u l.
-          let half : 2 * u / 2 ≡ u = omega arith in
-          let i = m.euler (f' (2 * u) / 2) (e.comes (2 * u) (ap T.edge half ∙ l)) in omega arith;
-    }
+module _ (S T : Map) (f f' o w : ℕ → ℕ) (e : Renamed S T f f' o w) (s : Sound S) where
+  -- what holds of the new numbers holds of each
+  on : (Q : ℕ → Type 0) → ((x : ℕ) → Live S x → Q (f x)) → (y : ℕ) → Live T y → Q y
+  on Q q y l = subst Q (e.back y l) (q (f' y) (e.comes y l))
 
--- other numbers keep a map sound and a sphere
-pub renamed_keeps : (S T : Map) (f f' o w : ℕ → ℕ) → Renamed S T f f' o w → Sound S → Sphere S → Sound T × Sphere T
-renamed_keeps S T f f' o w e s m = (renamed_sound S T f f' o w e s, renamed_sphere S T f f' o w e s m)
+  -- other numbers keep a map sound
+  pub renamed_sound : Sound T
+  unfolding ccw
+  renamed_sound =
+      sound_from T e.below_edges e.below_vertices e.below_faces
+      (on (λ y. T.prev (T.next y) ≡ y) (λ x l. ap T.prev (e.next x l) ∙ e.prev (S.next x) (s.live_next x l) ∙ ap f (s.prev-next x l)))
+      (on (λ y. T.next (T.prev y) ≡ y) (λ x l. ap T.next (e.prev x l) ∙ e.next (S.prev x) (s.live_prev x l) ∙ ap f (s.next-prev x l)))
+      (on (λ y. T.origin y ≢ T.origin (rev y)) (λ x l i. s.two_ends x l (e.apart_origin x (rev x) l (rev_live S x l)
+      (sym (e.origin x l) ∙ i ∙ ap T.origin (e.turn x l) ∙ e.origin (rev x) (rev_live S x l)))))
+      (cycles_renamed (Live S) (Live T) S.next T.next S.face T.face f f' w (face_cycles S s) e.lives e.comes e.back e.next e.face e.apart_face)
+      (cycles_renamed (Live S) (Live T) (ccw S) (ccw T) S.origin T.origin f f' o (vertex_cycles S s) e.lives e.comes e.back
+      (λ x l. ap rev (e.prev x l) ∙ e.turn (S.prev x) (s.live_prev x l)) e.origin e.apart_origin)
+
+  -- and connected
+  renamed_connected : Connected S → Connected T
+  renamed_connected c x y l m =
+      subst₂ (λ x y. Reaches (NextOrRev T) x y) (e.back x l) (e.back y m)
+      (reroutes (NextOrRev S) (NextOrRev T) (Live S) f (live_step S s)
+      (λ a b p r. elim r [ inl i ↦ step (inl (e.next a p ∙ ap f i)) | inr i ↦ step (inr (e.turn a p ∙ ap f i)) ])
+      (e.comes x l) (c (f' x) (f' y) (e.comes x l) (e.comes y m)))
+
+  -- as many edges are live
+  edges_even : count T.edge T.edges ≡ count S.edge S.edges
+  edges_even =
+      let back : (y : ℕ) → Live T y → rev (f' y) ≡ f' (rev y) = on (λ y. rev (f' y) ≡ f' (rev y))
+      (λ x l. ap rev (e.forth x l) ∙ sym (e.forth (rev x) (rev_live S x l)) ∙ ap f' (sym (e.turn x l))) in
+      omega (arith, edges_most S T f f' e.lives e.forth e.turn e.below_edges, edges_most T S f' f e.comes e.back back s.below_edges)
+
+  -- as many labels are used
+  labels_even : (label label' r : ℕ → ℕ) (n n' : ℕ) → ((x : ℕ) → Live S x → label x < n) → ((x : ℕ) → Live T x → label' x < n')
+      → ((x : ℕ) → Live S x → label' (f x) ≡ r (label x)) → ((x y : ℕ) → Live S x → Live S y → r (label x) ≡ r (label y) → label x ≡ label y)
+      → count (is_used T label') n' ≡ count (is_used S label) n
+  labels_even label label' r n n' below below' is apart =
+      let forth = labels_most S T renamed_sound label label' f n n' e.lives below' (λ x y l k i. apart x y l k (sym (is x l) ∙ i ∙ is y k)) in
+      let at : (y : ℕ) → Live T y → label' y ≡ r (label (f' y)) = λ y l. ap label' (sym (e.back y l)) ∙ is (f' y) (e.comes y l) in
+      let back = labels_most T S s label' label f' n' n e.comes below (λ x y l k i. at x l ∙ ap r i ∙ sym (at y k)) in omega arith
+
+  -- other numbers keep a map a sphere
+  pub renamed_sphere : Sphere S → Sphere T
+  unfolding starts_edge has_word
+  renamed_sphere m = record {
+    connected = renamed_connected m.connected;
+    euler = λ u l.
+        let half : 2 * u / 2 ≡ u = omega arith in
+        let v = labels_even S.origin T.origin o S.vertices T.vertices s.below_vertices e.below_vertices e.origin e.apart_origin in
+        let g = labels_even S.face T.face w S.faces T.faces s.below_faces e.below_faces e.face e.apart_face in
+        omega (arith, v, g, edges_even, m.euler (f' (2 * u) / 2) (e.comes (2 * u) (ap T.edge half ∙ l)));
+  }
+
+  -- other numbers keep a map sound and a sphere
+  pub renamed_keeps : Sphere S → Sound T × Sphere T
+  renamed_keeps m = (renamed_sound, renamed_sphere m)

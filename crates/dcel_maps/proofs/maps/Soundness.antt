@@ -1,5 +1,6 @@
 -- What is known in a sound map, and how to show that a map is sound.
-use Rattle.std.proofs.Common.{◌≡◌, ◌≢◌, inl, inr, ◌/◌, ◌<◌, ℕ, sym, refl, ap, ◌∙◌, subst}
+use Rattle.std.proofs.Common.{◌≡◌, ◌≢◌, inl, inr, ◌/◌, ◌<◌, ℕ, false, sym, refl, ap, ◌∙◌, subst}
+use Rattle.std.proofs.lemmas.Bool.{false≢true}
 use Rattle.dcel_maps.specs.Maps.{By, Live, Map, NextOrRev, Reaches, Sound, ccw}
 use Rattle.dcel_fixed.specs.HalfEdges.{rev}
 use Rattle.dcel_maps.proofs.maps.Halves.{rev_half}
@@ -13,6 +14,14 @@ rev_live M x l = ap M.edge (rev_half x) ∙ l
 -- a half edge is live where its other half is
 pub live_of_rev : (M : Map) (x : ℕ) → Live M (rev x) → Live M x
 live_of_rev M x l = ap M.edge (sym (rev_half x)) ∙ l
+
+-- a live half edge is of no edge that is not live
+pub not_of_dead : (M : Map) (h : ℕ) → M.edge (h / 2) ≡ false → (x : ℕ) → Live M x → x / 2 ≢ h / 2
+not_of_dead M h dead x l e = false≢true (sym dead ∙ sym (ap M.edge e) ∙ l)
+
+-- so it is neither half of one
+pub apart_from : (M : Map) (h : ℕ) → M.edge (h / 2) ≡ false → (x : ℕ) → Live M x → (x ≢ h) × (x ≢ rev h)
+apart_from M h dead x l = (λ e. not_of_dead M h dead x l (ap (λ z. z / 2) e), λ e. not_of_dead M h dead x l (ap (λ z. z / 2) e ∙ rev_half h))
 
 -- turning round a vertex stays live
 pub ccw_live : (M : Map) → Sound M → (x : ℕ) → Live M x → Live M (ccw M x)

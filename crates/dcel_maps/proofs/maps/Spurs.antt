@@ -1,152 +1,98 @@
 -- A spur keeps a map sound and a sphere.
-use Rattle.std.proofs.Common.{◌≡◌, ◌≢◌, inl, inr, ◌+◌, ◌/◌, ◌<◌, ℕ, sym, refl, ap, ◌∙◌, subst, arith}
+use Rattle.std.proofs.Common.{◌≡◌, inl, inr, ◌/◌, ◌<◌, ℕ, sym, refl, ap, ◌∙◌, arith}
 use Rattle.std.proofs.lemmas.Bool.{cases_eq}
-use Rattle.dcel_maps.specs.Maps.{Connected, Live, Map, NextOrRev, Reaches, Sound, Sphere, ccw, count, has_word, starts_edge}
+use Rattle.dcel_maps.specs.Maps.{Connected, Live, Map, Sound, Sphere, ccw, has_word}
 use Rattle.dcel_fixed.specs.HalfEdges.{rev}
-use Rattle.dcel_maps.specs.Maps.Reaches.{go, here}
+use Rattle.dcel_maps.specs.Maps.Reaches.{go}
+use Rattle.dcel_maps.proofs.maps.Counts.{Used, labels_same}
+use Rattle.dcel_maps.proofs.maps.Cycles.{Cycles, inserted, single, undoes}
 use Rattle.dcel_maps.proofs.maps.Edits.{Spur}
-use Rattle.dcel_maps.proofs.maps.Halves.{rev-rev, rev_half}
-use Rattle.dcel_maps.proofs.maps.Cycles.{Cycles, inserted, single}
+use Rattle.dcel_maps.proofs.maps.Growth.{Also, Grown, also_cases, also_live, connected_on, drawn_grown, drawn_sound, each_live, grown_edges, not_h, sphere_more, starts_more, still_live, OneMore}
+use Rattle.dcel_maps.proofs.maps.Halves.{rev-rev}
+use Rattle.dcel_maps.proofs.maps.Reaching.{step}
+use Rattle.dcel_maps.proofs.maps.Soundness.{face_cycles, rev_live, vertex_cycles}
 use Rattle.dcel_maps.proofs.maps.Updates.{put, put_other, put_same}
-use Rattle.dcel_maps.proofs.maps.Soundness.{face_cycles, rev_live, sound_from, vertex_cycles}
-use Rattle.dcel_maps.proofs.maps.Growth.{Also, Grown, also_cases, also_live, connected_by, each_live, not_h, still_live}
-use Rattle.dcel_maps.proofs.maps.Counts.{Used, count_more, count_same, grown_edges, used_from, used_not, used_same}
 
--- a spur adds the edge of h
-pub spur_grown : (S T : Map) (a h v : ℕ) → Spur S T a h v → Grown S T h
-spur_grown S T a h v e = record { fresh = e.fresh; edge_here = e.edge_here; edge_other = e.edge_other }
+module _ (S T : Map) (a h v : ℕ) (e : Spur S T a h v) where
+  -- a spur adds the edge of h
+  pub spur_grown : Grown S T h
+  spur_grown = drawn_grown S T h (S.origin (S.next a)) v e.fresh e.drawn
 
--- a spur puts h and its other half into the face of a
-spur_face_cycles : (S T : Map) (a h v : ℕ) → Spur S T a h v → Sound S → Cycles (Live T) T.next T.face
-spur_face_cycles S T a h v e s =
-    let g = spur_grown S T a h v e in
-    let f = put T.next h (S.next a) in
-    let other : (x : ℕ) → Live S x → f x ≡ T.next x = λ x l. put_other T.next h (S.next a) x (not_h S T h g x l) in
-    let mid : Cycles (Also S h) f T.face =
-    inserted (Live S) (Also S h) S.next f S.face T.face a h (face_cycles S s) e.lives (λ x l. inl l) (λ x l. l) (inr refl)
-    (other a e.lives ∙ e.next_a) (put_same T.next h (S.next a)) (λ x l d. other x l ∙ e.next_other x l d)
-    e.face_h e.face_other in
-    inserted (Also S h) (Live T) f T.next T.face T.face h (rev h) mid (inr refl) (also_live S T h g) (also_cases S T h g)
-    (rev_live T h g.edge_here) e.next_h (e.next_rev ∙ sym (put_same T.next h (S.next a)))
-    (λ x l d. sym (put_other T.next h (S.next a) x d)) (e.face_rev ∙ sym e.face_h) (λ x l. refl)
+  module _ (s : Sound S) where
+    abbrev b : ℕ
+    b = S.next a
 
--- a spur puts h into the vertex that it starts at, and its other half alone at v
-spur_vertex_cycles : (S T : Map) (a h v : ℕ) → Spur S T a h v → Sound S → Cycles (Live T) (ccw T) T.origin
-unfolding ccw
-spur_vertex_cycles S T a h v e s =
-    let g = spur_grown S T a h v e in
-    let b = S.next a in
-    let lb = s.live_next a e.lives in
-    let mid : Cycles (Also S h) (ccw T) T.origin =
-    inserted (Live S) (Also S h) (ccw S) (ccw T) S.origin T.origin b h (vertex_cycles S s) lb (λ x l. inl l) (λ x l. l) (inr refl)
-    (ap rev e.prev_b ∙ rev-rev h) (ap rev e.prev_h ∙ sym (ap rev (s.prev-next a e.lives)))
-    (λ x l d. ap rev (e.prev_other x l d)) e.origin_h e.origin_other in
-    single (Also S h) (Live T) (ccw T) (ccw T) T.origin T.origin (rev h) mid (also_live S T h g) (also_cases S T h g)
-    (rev_live T h g.edge_here) (ap rev e.prev_rev) (λ x l. refl)
-    (λ x l i. elim l [
-      | inl m ↦ e.isolated x m (sym (e.origin_other x m) ∙ i ∙ e.origin_rev)
-      | inr j ↦ e.isolated b lb (sym e.origin_h ∙ sym (ap T.origin j) ∙ i ∙ e.origin_rev)
-    ])
-    (λ x l. refl)
+    live_b : Live S b
+    live_b = s.live_next a e.lives
 
--- a spur keeps a map sound
-pub spur_sound : (S T : Map) (a h v : ℕ) → Spur S T a h v → Sound S → Sound T
-spur_sound S T a h v e s =
-    let g = spur_grown S T a h v e in
-    let b = S.next a in
-    let lb = s.live_next a e.lives in
-    sound_from T
-    (each_live S T h g (λ x. x / 2 < T.edges) (λ x l. let k = s.below_edges x l in let i = e.edges in omega arith)
-    e.edge_below (subst (λ z. z < T.edges) (sym (rev_half h)) e.edge_below))
-    (each_live S T h g (λ x. T.origin x < T.vertices)
-    (λ x l. let k = s.below_vertices x l in let i = e.vertices in let j = e.origin_other x l in omega arith)
-    (let k = s.below_vertices b lb in let i = e.vertices in let j = e.origin_h in omega arith)
-    (let i = e.vertices in let k = e.vertex_room in let j = e.origin_rev in omega arith))
-    (each_live S T h g (λ x. T.face x < T.faces)
-    (λ x l. let k = s.below_faces x l in let i = e.faces in let j = e.face_other x l in omega arith)
-    (let k = s.below_faces a e.lives in let i = e.faces in let j = e.face_h in omega arith)
-    (let k = s.below_faces a e.lives in let i = e.faces in let j = e.face_rev in omega arith))
-    (each_live S T h g (λ x. T.prev (T.next x) ≡ x)
-    (λ x l. elim (cases_eq x a) [
-      | inl i ↦ ap T.prev (ap T.next i ∙ e.next_a) ∙ e.prev_h ∙ sym i
-      | inr d ↦ ap T.prev (e.next_other x l d)
-          ∙ e.prev_other (S.next x) (s.live_next x l) (λ i. d (sym (s.prev-next x l) ∙ ap S.prev i ∙ s.prev-next a e.lives))
-          ∙ s.prev-next x l
-    ])
-    (ap T.prev e.next_h ∙ e.prev_rev) (ap T.prev e.next_rev ∙ e.prev_b))
-    (each_live S T h g (λ x. T.next (T.prev x) ≡ x)
-    (λ x l. elim (cases_eq x b) [
-      | inl i ↦ ap T.next (ap T.prev i ∙ e.prev_b) ∙ e.next_rev ∙ sym i
-      | inr d ↦ ap T.next (e.prev_other x l d)
-          ∙ e.next_other (S.prev x) (s.live_prev x l) (λ i. d (sym (s.next-prev x l) ∙ ap S.next i))
-          ∙ s.next-prev x l
-    ])
-    (ap T.next e.prev_h ∙ e.next_a) (ap T.next e.prev_rev ∙ e.next_h))
-    (each_live S T h g (λ x. T.origin x ≢ T.origin (rev x))
-    (λ x l i. s.two_ends x l (sym (e.origin_other x l) ∙ i ∙ e.origin_other (rev x) (rev_live S x l)))
-    (λ i. e.isolated b lb (sym e.origin_h ∙ i ∙ e.origin_rev))
-    (λ i. e.isolated b lb (sym e.origin_h ∙ ap T.origin (sym (rev-rev h)) ∙ sym i ∙ e.origin_rev)))
-    (spur_face_cycles S T a h v e s) (spur_vertex_cycles S T a h v e s)
+    -- a spur puts h and its other half into the face after a
+    face_cycles_after : Cycles (Live T) T.next T.face
+    face_cycles_after =
+        let f = put T.next h b in
+        let other : (x : ℕ) → Live S x → f x ≡ T.next x = λ x l. put_other T.next h b x (not_h S T h spur_grown x l) in
+        let mid : Cycles (Also S h) f T.face =
+        inserted (Live S) (Also S h) S.next f S.face T.face a h (face_cycles S s) e.lives (λ x l. inl l) (λ x l. l) (inr refl)
+        (other a e.lives ∙ e.next_a) (put_same T.next h b) (λ x l d. other x l ∙ e.next_other x l d)
+        e.face_h e.face_other in
+        inserted (Also S h) (Live T) f T.next T.face T.face h (rev h) mid (inr refl) (also_live S T h spur_grown) (also_cases S T h spur_grown)
+        (rev_live T h e.edge_here) e.next_h (e.next_rev ∙ sym (put_same T.next h b))
+        (λ x l d. sym (put_other T.next h b x d)) (e.face_rev ∙ sym e.face_h) (λ x l. refl)
 
--- a spur keeps a map connected
-spur_connected : (S T : Map) (a h v : ℕ) → Spur S T a h v → Sound S → Connected S → Connected T
-spur_connected S T a h v e s c =
-    let g = spur_grown S T a h v e in
-    connected_by S T (λ z. z) s c
-    (λ x y l r. elim r [
-      | inl i ↦ elim (cases_eq x a) [
-        | inl j ↦ go (inl (ap T.next j ∙ e.next_a)) (go (inl e.next_h) (go (inl (e.next_rev ∙ ap S.next (sym j) ∙ i)) here))
-        | inr d ↦ go (inl (e.next_other x l d ∙ i)) here
-      ]
-      | inr i ↦ go (inr i) here
-    ])
-    (each_live S T h g (λ x. (u : ℕ) × Live S u × Reaches (NextOrRev T) x u)
-    (λ x l. (x, l, here))
-    (S.next a, s.live_next a e.lives, go (inl e.next_h) (go (inl e.next_rev) here))
-    (S.next a, s.live_next a e.lives, go (inl e.next_rev) here))
-    (each_live S T h g (λ x. (u : ℕ) × Live S u × Reaches (NextOrRev T) u x)
-    (λ x l. (x, l, here))
-    (a, e.lives, go (inl e.next_a) here)
-    (a, e.lives, go (inl e.next_a) (go (inl e.next_h) here)))
+    -- a spur puts h into the vertex that it starts at, and its other half alone at v
+    vertex_cycles_after : Cycles (Live T) (ccw T) T.origin
+    unfolding ccw
+    vertex_cycles_after =
+        let mid : Cycles (Also S h) (ccw T) T.origin =
+        inserted (Live S) (Also S h) (ccw S) (ccw T) S.origin T.origin b h (vertex_cycles S s) live_b (λ x l. inl l) (λ x l. l) (inr refl)
+        (ap rev e.prev_b ∙ rev-rev h) (ap rev e.prev_h ∙ sym (ap rev (s.prev-next a e.lives)))
+        (λ x l d. ap rev (e.prev_other x l d)) e.origin_h e.origin_other in
+        single (Also S h) (Live T) (ccw T) (ccw T) T.origin T.origin (rev h) mid (also_live S T h spur_grown) (also_cases S T h spur_grown)
+        (rev_live T h e.edge_here) (ap rev e.prev_rev) (λ x l. refl)
+        (λ x l i. elim l [
+          | inl m ↦ e.isolated x m (sym (e.origin_other x m) ∙ i ∙ e.origin_rev)
+          | inr j ↦ e.isolated b live_b (sym e.origin_h ∙ sym (ap T.origin j) ∙ i ∙ e.origin_rev)
+        ])
+        (λ x l. refl)
 
--- a spur adds a vertex that starts an edge, and an edge
-pub spur_euler : (S T : Map) (a h v : ℕ) → Spur S T a h v → Sound S → Sound T
-    → (count (starts_edge T) T.vertices ≡ count (starts_edge S) S.vertices + 1)
-    × (count (has_word T) T.faces ≡ count (has_word S) S.faces)
-    × (count T.edge T.edges ≡ count S.edge S.edges + 1)
-unfolding starts_edge has_word
-spur_euler S T a h v e s t =
-    let g = spur_grown S T a h v e in
-    let b = S.next a in
-    let lb = s.live_next a e.lives in
-    let edges = grown_edges S T h g s e.edges e.edge_below in
-    let starts : count (starts_edge T) T.vertices ≡ count (starts_edge S) T.vertices + 1 =
-    count_more (starts_edge S) (starts_edge T) T.vertices v (let i = e.vertices in let j = e.vertex_room in omega arith) (used_not S S.origin v e.isolated)
-    (used_from T t T.origin v record { half = rev h; live = rev_live T h g.edge_here; is = e.origin_rev })
-    (λ w l d. used_same S T s t S.origin T.origin w
-    (λ u. record { half = u.half; live = still_live S T h g u.half u.live; is = e.origin_other u.half u.live ∙ u.is })
-    (λ u. each_live S T h g (λ x. T.origin x ≡ w → Used S S.origin w)
-    (λ x m i. record { half = x; live = m; is = sym (e.origin_other x m) ∙ i })
-    (λ i. record { half = b; live = lb; is = sym e.origin_h ∙ i })
-    (λ i. absurd (d (sym i ∙ e.origin_rev))) u.half u.live u.is)) in
-    let words : count (has_word T) T.faces ≡ count (has_word S) T.faces =
-    count_same (has_word T) (has_word S) T.faces (λ f l. sym (used_same S T s t S.face T.face f
-    (λ u. record { half = u.half; live = still_live S T h g u.half u.live; is = e.face_other u.half u.live ∙ u.is })
-    (λ u. each_live S T h g (λ x. T.face x ≡ f → Used S S.face f)
-    (λ x m i. record { half = x; live = m; is = sym (e.face_other x m) ∙ i })
-    (λ i. record { half = a; live = e.lives; is = sym e.face_h ∙ i })
-    (λ i. record { half = a; live = e.lives; is = sym e.face_rev ∙ i }) u.half u.live u.is))) in
-    let same_vertices = ap (count (starts_edge S)) e.vertices in
-    let same_faces = ap (count (has_word S)) e.faces in
-    (starts ∙ ap (λ z. z + 1) same_vertices, words ∙ same_faces, edges)
+    -- a spur keeps a map sound
+    pub spur_sound : Sound T
+    spur_sound =
+        drawn_sound S T h (S.origin b) v e.fresh e.drawn s (s.below_vertices b live_b) e.vertex_room (e.isolated b live_b)
+        (each_live S T h spur_grown (λ x. T.face x < T.faces) (λ x l. omega (arith, s.below_faces x l, e.faces, e.face_other x l))
+        (omega (arith, s.below_faces a e.lives, e.faces, e.face_h)) (omega (arith, s.below_faces a e.lives, e.faces, e.face_rev)))
+        (each_live S T h spur_grown (λ x. T.prev (T.next x) ≡ x)
+        (undoes (Live S) S.next S.prev T.next T.prev a a b b (λ x l _ _. s.live_next x l) s.prev-next
+        (λ x l i. i ∙ s.prev-next a e.lives) (λ x l i. i ∙ s.prev-next a e.lives)
+        (cc (e.next_a, e.prev_h)) (cc (e.next_a, e.prev_h)) (λ x l d _. e.next_other x l d) (λ x l d _. e.prev_other x l d))
+        (cc (e.next_h, e.prev_rev)) (cc (e.next_rev, e.prev_b)))
+        (each_live S T h spur_grown (λ x. T.next (T.prev x) ≡ x)
+        (undoes (Live S) S.prev S.next T.prev T.next b b a a (λ x l _ _. s.live_prev x l) s.next-prev (λ x l i. i) (λ x l i. i)
+        (cc (e.prev_b, e.next_rev)) (cc (e.prev_b, e.next_rev)) (λ x l d _. e.prev_other x l d) (λ x l d _. e.next_other x l d))
+        (cc (e.prev_h, e.next_a)) (cc (e.prev_rev, e.next_h)))
+        face_cycles_after vertex_cycles_after
 
--- a spur keeps a map sound and a sphere
-pub spur_keeps : (S T : Map) (a h v : ℕ) → Spur S T a h v → Sound S → Sphere S → Sound T × Sphere T
-spur_keeps S T a h v e s m =
-    let t = spur_sound S T a h v e s in (
-      t,
-      record {
-        connected = spur_connected S T a h v e s m.connected;
-        euler = λ u l. let k = spur_euler S T a h v e s t in let i = m.euler (a / 2) e.lives in omega arith;
-      },
-    )
+    -- a spur keeps a map connected
+    spur_connected : Connected S → Connected T
+    spur_connected =
+        connected_on S T h spur_grown s
+        (λ x l. elim (cases_eq x a) [
+          | inl j ↦ go (inl (ap T.next j ∙ e.next_a)) (go (inl e.next_h) (step (inl (e.next_rev ∙ ap S.next (sym j)))))
+          | inr d ↦ step (inl (e.next_other x l d))
+        ])
+        (b, live_b, go (inl e.next_h) (step (inl e.next_rev))) (a, e.lives, step (inl e.next_a))
+
+    -- a spur adds a vertex that starts an edge, and an edge
+    pub spur_euler : Sound T → OneMore S T
+    unfolding has_word
+    spur_euler t =
+        let starts = starts_more S T h (S.origin b) v e.fresh e.drawn s t b live_b refl e.vertex_room e.isolated in
+        let words =
+        labels_same S T s t S.face T.face S.faces T.faces (omega (arith, e.faces)) s.below_faces
+        (λ x l. record { half = x; live = still_live S T h spur_grown x l; is = e.face_other x l })
+        (each_live S T h spur_grown (λ x. Used S S.face (T.face x)) (λ x l. record { half = x; live = l; is = sym (e.face_other x l) })
+        (record { half = a; live = e.lives; is = sym e.face_h }) (record { half = a; live = e.lives; is = sym e.face_rev })) in
+        record { edges = grown_edges S T h spur_grown s; corners = omega (arith, starts, words) }
+
+    -- a spur keeps a map sound and a sphere
+    pub spur_keeps : Sphere S → Sound T × Sphere T
+    spur_keeps m = (spur_sound, sphere_more S T (spur_euler spur_sound) (a / 2) e.lives m (spur_connected m.connected))

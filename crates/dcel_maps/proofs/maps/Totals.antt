@@ -1,7 +1,7 @@
 -- Counting half edges face by face: the lengths of the words add up to the number of live half edges.
 use Rattle.std.proofs.Common.{◌≡◌, ◌≢◌, inl, inr, ◌+◌, ◌*◌, ◌/◌, ◌<◌, ◌==◌, ◌&&◌, ◌||◌, ℕ, zero, suc, Bool, true, false, eqb-true, eq-eqb, List, [], ◌∷◌, length, sym, refl, ap, ◌∙◌, subst, add-one, arith}
 use Rattle.std.proofs.lemmas.Bool.{cases_eq, cases_Bool, false≢true, and_parts, and_from, and_left, or_cases, or_left, or_right, false_from_ne_true}
-use Rattle.dcel_maps.specs.Maps.{Live, Map, Sound, count}
+use Rattle.dcel_maps.specs.Maps.{Live, Map, Sound, count, has_label}
 use Rattle.dcel_maps.proofs.maps.Counts.{count_more, count_none, count_same, same_tests}
 use Rattle.dcel_maps.proofs.maps.Words.{In, Once, WordOf}
 
@@ -72,10 +72,10 @@ count_list (y ∷ r) n o b =
 
 -- the half edges of a face are as many as its word is long
 pub word_length : (S : Map) → Sound S → (a : ℕ) (w : List ℕ) → WordOf S a w → ((x : ℕ) → In x w → Live S x)
-    → count (λ x. S.edge (x / 2) && S.face x == S.face a) (2 * S.edges) ≡ length w
+    → count (has_label S S.face (S.face a)) (2 * S.edges) ≡ length w
 word_length S s a w u live =
-    count_same (λ x. S.edge (x / 2) && S.face x == S.face a) (stands w) (2 * S.edges)
-    (λ x l. same_tests (S.edge (x / 2) && S.face x == S.face a) (stands w x)
+    count_same (has_label S S.face (S.face a)) (stands w) (2 * S.edges)
+    (λ x l. same_tests (has_label S S.face (S.face a) x) (stands w x)
     (λ t. let p = and_parts (S.edge (x / 2)) (S.face x == S.face a) t in
     in_stands w x ((u.holds x p.0).0 (eqb-true (S.face x) (S.face a) p.1)))
     (λ t. let i = stands_in w x t in let m = live x i in

@@ -1,20 +1,16 @@
 -- Words: the half edges of a face, as a list that is read round.
 use Rattle.std.proofs.Common.{◌≡◌, ◌≢◌, ◌↔◌, ◌⊎◌, ℕ, List, [], ◌∷◌}
 use Rattle.dcel_maps.specs.Maps.{Live, Map}
+use Rattle.dcel_maps.specs.Walks.{IsCycle}
 
 -- y comes after x in the word of f
 abbrev pub After : Map → ℕ → ℕ → ℕ → Type 0
 After S f x y = (S.next x ≡ y) × (S.prev y ≡ x) × (S.face x ≡ f)
 
--- the rest of a word of f: from x on through the list, and back to the first
-abbrev pub WordFrom : Map → ℕ → ℕ → ℕ → List ℕ → Type 0
-WordFrom S f first x [] = After S f x first
-WordFrom S f first x (y ∷ r) = After S f x y × WordFrom S f first y r
-
 -- the word of the face f is this list, read round
 abbrev pub IsWord : Map → ℕ → List ℕ → Type 0
 IsWord S f [] = (x : ℕ) → Live S x → S.face x ≢ f
-IsWord S f (x ∷ r) = WordFrom S f x x r
+IsWord S f (x ∷ r) = IsCycle (After S f) (x ∷ r)
 
 -- x stands in the list
 abbrev pub In : ℕ → List ℕ → Type 0

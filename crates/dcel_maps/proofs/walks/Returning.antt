@@ -1,5 +1,5 @@
 -- A lawful step returns to each live half edge: the walk from there, and what is true of it on the way.
-use Rattle.std.proofs.Common.{◌≡◌, ◌≢◌, ◌⊎◌, inl, inr, ℕ, zero, suc, ◌+◌, ◌*◌, ◌/◌, ◌<◌, ◌≤◌, List, [], ◌∷◌, length, refl, sym, ap, ◌∙◌, subst, arith}
+use Rattle.std.proofs.Common.{◌≡◌, ◌≢◌, ◌⊎◌, inl, inr, ℕ, zero, suc, ◌+◌, ◌*◌, ◌/◌, ◌<◌, ◌≤◌, List, [], ◌∷◌, length, refl, sym, ◌∙◌, subst, arith}
 use Rattle.std.proofs.lemmas.Bool.{both_ways, cases_eq, cases_lt}
 use Rattle.dcel_maps.specs.Maps.{By}
 use Rattle.dcel_maps.specs.Shapes.{Shape, IsLive, edge_is_live}
@@ -8,23 +8,15 @@ use Rattle.dcel_maps.specs.Walks.{Path}
 use Rattle.dcel_maps.specs.Words.{count_of}
 use Rattle.dcel_maps.proofs.walks.Lengths.{count-le, length-le_twice}
 use Rattle.dcel_maps.proofs.walks.Links.{half-below}
-use Rattle.dcel_maps.proofs.words.Counts.{count-later, count-le_length, count-other, count-same, first_or_later}
-use Rattle.dcel_maps.proofs.words.Paths.{Path-changed}
+use Rattle.dcel_maps.proofs.words.Counts.{count-le_length, count-other, count-same}
+use Rattle.dcel_maps.proofs.words.Paths.{Path-changed, path_next}
 
 -- what a step makes of an item is a later item, or the end
 pub step_along : (step : ℕ → ℕ) (x : ℕ) (r : List ℕ) (e : ℕ) → Path (By step) x r e → (y : ℕ) → 0 < count_of y (x ∷ r)
     → (step y ≡ e) ⊎ (0 < count_of (step y) r)
-step_along step x [] e path y found = elim (first_or_later y x [] found) [
-  | inl same ↦ inl (ap step same ∙ path)
-  | inr later ↦ absurd (omega (arith, later))
-]
-step_along step x (z ∷ r) e path y found = elim (first_or_later y x (z ∷ r) found) [
-  | inl same ↦ inr (rw (same, path.0) (omega (arith, count-same z r)))
-  | inr later ↦ elim (step_along step z r e path.1 y later) [
-    | inl end ↦ inl end
-    | inr on ↦ inr (count-later (step y) z r on)
-  ]
-]
+step_along step x r e path y found =
+    let k = path_next (By step) x r e path y found in
+    subst (λ z. (z ≡ e) ⊎ (0 < count_of z r)) (sym k.1) k.2
 
 -- what is live, and not twice in a list, is no more than there are live half edges
 pub length-live : (s : Shape) (w : List ℕ) → ((h : ℕ) → count_of h w ≤ 1) → ((h : ℕ) → 0 < count_of h w → IsLive s h)
@@ -45,14 +37,7 @@ module _ (s : Shape) (step step_back : ℕ → ℕ) where
 
   -- each item on the way is live
   pub items_live : (x : ℕ) (r : List ℕ) (e : ℕ) → Path (StepsTo s step step_back) x r e → (h : ℕ) → 0 < count_of h (x ∷ r) → IsLive s h
-  items_live x [] e path h found = elim (first_or_later h x [] found) [
-    | inl same ↦ subst (IsLive s) (sym same) path.live
-    | inr later ↦ absurd (omega (arith, later))
-  ]
-  items_live x (y ∷ r) e path h found = elim (first_or_later h x (y ∷ r) found) [
-    | inl same ↦ subst (IsLive s) (sym same) path.0.live
-    | inr later ↦ items_live y r e path.1 h later
-  ]
+  items_live x r e path h found = (path_next (StepsTo s step step_back) x r e path h found).1.live
 
   -- a way of live half edges, none of them twice, is no longer than there are half edges
   few_on_the_way : (x : ℕ) (r : List ℕ) (e : ℕ) → Path (StepsTo s step step_back) x r e → ((h : ℕ) → count_of h (x ∷ r) ≤ 1) → length r < 2 * s.edges

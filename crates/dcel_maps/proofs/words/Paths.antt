@@ -39,6 +39,18 @@ IsCycle-weaker R S [] gives c = tt
 IsCycle-weaker R S (x ∷ r) gives c =
     Path-changed R S x r x x (λ p q i j. gives p q i (omega (arith, j))) (λ p i. gives p x i (omega (arith, count-same x r))) c
 
+-- each item of a path is followed by a later one, or by the end
+pub path_next : (R : ℕ → ℕ → Type 0) (x : ℕ) (r : List ℕ) (e : ℕ) → Path R x r e → (h : ℕ) → 0 < count_of h (x ∷ r)
+    → (k : ℕ) × R h k × ((k ≡ e) ⊎ (0 < count_of k r))
+path_next R x [] e p h found =
+    elim (first_or_later h x [] found) [ inl same ↦ (e, rw same p, inl refl) | inr later ↦ absurd (omega (arith, later)) ]
+path_next R x (y ∷ r) e p h found =
+    elim (first_or_later h x (y ∷ r) found) [
+      | inl same ↦ (y, rw same p.0, inr (omega (arith, count-same y r)))
+      | inr later ↦ let k = path_next R y r e p.1 h later in
+          (k.0, k.1, elim k.2 [ inl end ↦ inl end | inr on ↦ inr (count-later k.0 y r on) ])
+    ]
+
 item_after-follows : (R : ℕ → ℕ → Type 0) (x : ℕ) (r : List ℕ) (e : ℕ) → Path R x r e → (h : ℕ) → 0 < count_of h (x ∷ r)
     → R h (item_after h e (x ∷ r))
 item_after-follows R x [] e p h found =
