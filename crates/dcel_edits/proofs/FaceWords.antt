@@ -1,5 +1,5 @@
 -- Which faces have words of three half edges.
-use Rattle.std.proofs.Common.{◌≡◌, ◌↔◌, ℕ, ◌<◌, true, length, Some, None, sym, ap, ◌∙◌, subst, arith}
+use Rattle.std.proofs.Common.{◌≡◌, ◌↔◌, ℕ, ◌<◌, true, length, Some, None, ap, subst, arith}
 use Rattle.std.specs.Prelude.{slice_index, slice_index_or}
 use Rattle.dcel_store.specs.Lists.{Lists}
 use Rattle.dcel_maps.specs.Edits.{IsTriangle}

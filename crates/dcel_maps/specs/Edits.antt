@@ -1,9 +1,9 @@
 -- Edits: what each operation does to a mesh. Before the call there are m undirected edges; a new edge m has the half edges 2m and
 -- 2m + 1. Whatever an edit doesn't name stays as it was. The data of new half edges, edges and faces are handed in here; that they
 -- are default data is said beside the edit.
-use Rattle.std.specs.Prelude.{◌≡◌, ◌≢◌, ℕ, ◌+◌, ◌*◌, ◌≤◌, ◌^◌, true, List, [], ◌∷◌, ◌++◌, length, slice_set, unwrap_or, Option, Some, None, All}
+use Rattle.std.specs.Prelude.{◌≡◌, ◌≢◌, ℕ, ◌+◌, ◌*◌, ◌≤◌, ◌^◌, true, List, [], ◌∷◌, ◌++◌, length, slice_set, unwrap_or, Some, None, All}
 use Rattle.dcel_fixed.specs.HalfEdges.{rev}
-use Rattle.dcel_maps.specs.Removals.{Removal, Closed}
+use Rattle.dcel_maps.specs.Removals.{Closed}
 use Rattle.dcel_maps.specs.Shapes.{Shape, Mesh, IsLive, vertex_is_live, face_is_live, next_of, prev_of, origin_of, face_count, vertex_anchor, face_anchor}
 use Rattle.dcel_maps.specs.Words.{with_spur, word_of}
 
@@ -46,6 +46,11 @@ pub record AddsEdgesAndFaces {X DE UE F : Type 0} (is_half : DE → Type 0) (is_
   pub undirected_default : All is_edge undirected_data
   pub face_default : All is_face face_data
   pub is : new ≡ edit directed_data undirected_data face_data
+
+-- an edit that adds one edge, with default data for its two halves and for itself
+abbrev pub AddsEdge : {X DE UE : Type 0} → (DE → Type 0) → (UE → Type 0) → X → (List DE → List UE → X) → Type 0
+AddsEdge is_half is_edge new edit =
+    AddsEdgesAndFaces {F = Unit {0}} is_half is_edge (λ face. Unit {0}) 1 0 new (λ halves edges faces. edit halves edges)
 
 module _ {V DE UE F : Type 0} where
   -- the out edge of a vertex: its anchor
@@ -95,8 +100,8 @@ module _ {V DE UE F : Type 0} where
   }
 
   -- `setup_initial_two_vertices`: in a mesh without edges, edge 0 from a to b; the outer word is (0, 1)
-  abbrev pub first_edge_added : Mesh V DE UE F → ℕ → ℕ → DE → DE → UE → Mesh V DE UE F
-  first_edge_added m a b forth back both = record m {
+  abbrev pub first_edge_added : Mesh V DE UE F → ℕ → ℕ → List DE → List UE → Mesh V DE UE F
+  first_edge_added m a b halves edges = record m {
     shape = record m.shape {
       edges = 1;
       words = slice_set m.shape.words 0 (0 ∷ 1 ∷ []);
@@ -104,14 +109,14 @@ module _ {V DE UE F : Type 0} where
     };
     vertex_anchors = slice_set (slice_set m.vertex_anchors a (Some 0)) b (Some 1);
     face_anchors = slice_set m.face_anchors 0 (Some 0);
-    directed_data = forth ∷ back ∷ [];
-    undirected_data = both ∷ [];
+    directed_data = halves;
+    undirected_data = edges;
   }
 
   -- `extend_line`: with out the out edge of `end` and in the other half of it, (.. in, out ..) becomes
   -- (.. in, 2m + 1, 2m, out ..), and 2m leads from `tip` to `end`
-  abbrev pub line_extended : Mesh V DE UE F → ℕ → ℕ → DE → DE → UE → Mesh V DE UE F
-  line_extended m end tip back forth both =
+  abbrev pub line_extended : Mesh V DE UE F → ℕ → ℕ → List DE → List UE → Mesh V DE UE F
+  line_extended m end tip halves edges =
       let n = 2 * m.shape.edges in
       record m {
         shape = record m.shape {
@@ -120,8 +125,8 @@ module _ {V DE UE F : Type 0} where
           origins = m.shape.origins ++ tip ∷ end ∷ [];
         };
         vertex_anchors = slice_set m.vertex_anchors tip (Some n);
-        directed_data = m.directed_data ++ back ∷ forth ∷ [];
-        undirected_data = m.undirected_data ++ both ∷ [];
+        directed_data = m.directed_data ++ halves;
+        undirected_data = m.undirected_data ++ edges;
       }
 
   -- `insert_into_triangle`: with L faces and (a, b, c) the word of f from its anchor on, f becomes (a, 2m, 2m + 5), and there are two
@@ -152,13 +157,3 @@ module _ {V DE UE F : Type 0} where
     pub datum : F
     pub default : is_face datum
     pub is : new ≡ outer_alone datum
-
-  -- an edit that adds one edge, with default data for its half edges 2m and 2m + 1 and for itself
-  pub record AddsEdge (is_half : DE → Type 0) (is_edge : UE → Type 0) (new : Mesh V DE UE F) (edit : DE → DE → UE → Mesh V DE UE F) : Type 0 where
-    pub first : DE
-    pub second : DE
-    pub both : UE
-    pub first_default : is_half first
-    pub second_default : is_half second
-    pub both_default : is_edge both
-    pub is : new ≡ edit first second both

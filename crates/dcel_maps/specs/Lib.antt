@@ -1,5 +1,6 @@
 pub mod Words
 pub mod Walks
+pub mod Cyclic
 pub mod Removals
 pub mod Maps
 pub mod Shapes

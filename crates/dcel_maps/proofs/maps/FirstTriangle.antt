@@ -1,9 +1,9 @@
 -- A triangle alone is sound and a sphere: a first edge, a spur and an ear.
-use Rattle.std.proofs.Common.{◌≡◌, ◌≢◌, ℕ, zero, suc, ◌+◌, ◌*◌, ◌/◌, ◌<◌, true, nat_lt, List, [], ◌∷◌, slice_index, refl, arith, le-ltb, ltb-true}
+use Rattle.std.proofs.Common.{◌≡◌, ◌≢◌, ℕ, zero, suc, ◌/◌, ◌<◌, nat_lt, List, [], ◌∷◌, slice_index, refl, arith, le-ltb, ltb-true}
 use Rattle.std.proofs.lemmas.Bool.Decides.{nat_tests}
 use Rattle.dcel_fixed.specs.HalfEdges.{rev}
 use Rattle.dcel_maps.specs.Maps.{Map, Live, Sound, Sphere}
-use Rattle.dcel_maps.proofs.maps.Edits.{FirstEdge, Spur, SpurAt, Ear, EarAt}
+use Rattle.dcel_maps.proofs.maps.Edits.{FirstEdge, Spur, Ear}
 use Rattle.dcel_maps.proofs.maps.Firsts.{first_keeps}
 use Rattle.dcel_maps.proofs.maps.Spurs.{spur_keeps}
 use Rattle.dcel_maps.proofs.maps.Ears.{ear_keeps}

@@ -1,5 +1,5 @@
 -- Maps that link the same half edges stand for the same words.
-use Rattle.std.proofs.Common.{◌≡◌, ℕ, ◌*◌, ◌/◌, ◌≤◌, List, sym, ◌∙◌, arith}
+use Rattle.std.proofs.Common.{◌≡◌, ℕ, ◌/◌, ◌≤◌, List, sym, ◌∙◌, arith}
 use Rattle.dcel_maps.specs.Maps.{Map, Live}
 use Rattle.dcel_maps.specs.Standing.{Follows, Stands}
 use Rattle.dcel_maps.specs.Words.{word_of}
