@@ -7,7 +7,7 @@ use Rattle.dcel_commands.specs.declared.queries.Query.TheVariants.{Counts, Words
 use Rattle.dcel_commands.specs.declared.refusal.Refusal.{Refusal}
 use Rattle.dcel_commands.specs.declared.refusal.Refusal.TheVariants.{NoSuchVertex, NoSuchEdge, NoSuchFace, GivenUp, SameVertex, VertexInUse, EdgesStand, NotLineEnd, NotTriangle, NoRoom}
 use Rattle.dcel_commands.specs.Refusal.{number_of}
-use Rattle.dcel_maps.specs.Edits.{IsUnconnected, IsLineEnd, IsTriangle, HasRoom}
+use Rattle.dcel_maps.specs.Conditions.{IsUnconnected, IsLineEnd, IsTriangle, HasRoom}
 use Rattle.dcel_maps.specs.Shapes.{Shape, IsLive, vertex_is_live, face_is_live, face_count}
 
 -- what a command may ask

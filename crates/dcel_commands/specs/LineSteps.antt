@@ -17,7 +17,7 @@ use Rattle.dcel_commands.specs.Grammar.{Given, Nothing, Datum, ThreeData, OneNum
 use Rattle.dcel_commands.specs.Responses.{Said, Done, Vertex, Counts, Words, OutEdges, Truth, Refused}
 use Rattle.dcel_commands.specs.Steps as steps
 use Rattle.dcel_maps.specs.Checked.{IsChecked}
-use Rattle.dcel_maps.specs.Edits.{outer_alone}
+use Rattle.dcel_maps.specs.edits.Create.{outer_alone}
 use Rattle.dcel_maps.specs.Shapes.{Mesh, Shape, origin_of}
 
 -- the mesh that lines are about: all data are numbers

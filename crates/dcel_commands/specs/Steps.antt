@@ -9,7 +9,10 @@ use Rattle.dcel_commands.specs.declared.commands.reply.Reply.{Reply}
 use Rattle.dcel_commands.specs.declared.commands.reply.Reply.TheVariants as replies
 use Rattle.dcel_commands.specs.declared.refusal.Refusal.TheVariants.{OutOfMemory}
 use Rattle.dcel_commands.specs.Conditions.{Legal, Refuses}
-use Rattle.dcel_maps.specs.Edits.{AddsEdge, AddsEdgesAndFaces, vertex_appended, triangle_alone, first_edge_added, line_extended, vertex_inserted}
+use Rattle.dcel_maps.specs.edits.DefaultData.{AddsEdge, AddsEdgesAndFaces}
+use Rattle.dcel_maps.specs.edits.Create.{vertex_appended, first_edge_added}
+use Rattle.dcel_maps.specs.edits.Triangle.{triangle_alone, vertex_inserted}
+use Rattle.dcel_maps.specs.edits.Line.{line_extended}
 use Rattle.dcel_maps.specs.Shapes.{Mesh, Shape}
 
 -- the command is answered so and leaves this mesh: a rule for each command, with default data for new half edges, edges and faces

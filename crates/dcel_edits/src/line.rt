@@ -1,6 +1,6 @@
 //! Spurs: edges to a vertex that had none.
 
-ghost use Rattle.dcel_maps.specs.Edits.{AddsEdge};
+ghost use Rattle.dcel_maps.specs.edits.DefaultData.{AddsEdge};
 ghost use Rattle.dcel_edits.specs.Spurs.{spur_stored, CanSpur};
 
 use dcel_fixed::{FixedDirectedEdgeHandle, FixedVertexHandle};

@@ -1,8 +1,11 @@
 -- Meshes whose inner faces are triangles: the first one, and that an insertion makes another.
 use Rattle.std.proofs.Common.{◌≡◌, ◌≢◌, ℕ, true, zero, suc, ◌+◌, ◌*◌, ◌<◌, List, [], ◌∷◌, ◌++◌, length, slice_set, refl, subst, ap, sym, ◌∙◌, arith}
-use Rattle.dcel_maps.specs.Edits.{AddsEdgesAndFaces, IsTriangle, IsUnconnected, adjacent_edge_of, triangle_alone, vertex_appended, vertex_inserted}
+use Rattle.dcel_maps.specs.edits.DefaultData.{AddsEdgesAndFaces}
+use Rattle.dcel_maps.specs.Conditions.{IsTriangle, IsUnconnected}
+use Rattle.dcel_maps.specs.Shapes.{adjacent_edge_of, Shape, Mesh, IsMesh, IsLive, face_count, face_is_live, next_of, origin_of, prev_of, vertex_is_live}
+use Rattle.dcel_maps.specs.edits.Triangle.{triangle_alone, vertex_inserted}
+use Rattle.dcel_maps.specs.edits.Create.{vertex_appended}
 use Rattle.dcel_maps.specs.Removals.{gives_up_face, gives_up_vertex}
-use Rattle.dcel_maps.specs.Shapes.{Shape, Mesh, IsMesh, IsLive, face_count, face_is_live, next_of, origin_of, prev_of, vertex_is_live}
 use Rattle.dcel_maps.specs.Words.{word_of}
 use Rattle.dcel_maps.proofs.Liveness.{gives_up_face-closed, gives_up_vertex-past, is_live-from, is_live-last, is_live-parts}
 use Rattle.dcel_maps.proofs.edits.Patches.{Patch, each-patched, length-patched}

@@ -2,7 +2,10 @@
 use Rattle.std.proofs.Common.{◌≡◌, ◌≢◌, ℕ, ◌+◌, ◌*◌, ◌/◌, ◌<◌, ◌≤◌, List, [], ◌∷◌, ◌++◌, slice_index, true, false, refl, subst, ap, sym, ◌∙◌, inl, inr, arith}
 use Rattle.std.proofs.lemmas.Bool.{cases_eq, cases_lt}
 use Rattle.std.proofs.lemmas.List.{get_or-append-add, get_or_append_left}
-use Rattle.dcel_maps.specs.Edits.{AddsEdge, IsLineEnd, IsUnconnected, first_edge_added, line_extended, vertex_appended}
+use Rattle.dcel_maps.specs.edits.DefaultData.{AddsEdge}
+use Rattle.dcel_maps.specs.Conditions.{IsLineEnd, IsUnconnected}
+use Rattle.dcel_maps.specs.edits.Create.{first_edge_added, vertex_appended}
+use Rattle.dcel_maps.specs.edits.Line.{line_extended}
 use Rattle.dcel_maps.specs.Removals.{gives_up_edge, gives_up_vertex}
 use Rattle.dcel_maps.specs.Shapes.{Shape, Mesh, IsMesh, IsLive, origin_of, vertex_is_live}
 use Rattle.dcel_maps.proofs.Liveness.{gives_up_edge-past, is_live-from, is_live-grown, is_live-last, is_live-parts}

@@ -1,7 +1,7 @@
 -- Lists with the changes of an edit hold the edited mesh.
 use Rattle.std.proofs.Common.{◌≡◌, ℕ, ◌-◌, ◌*◌, ◌/◌, ◌<◌, true, List, None, ◌++◌, length, slice_index, slice_index_or, refl, sym, ap, ◌∙◌, subst, arith, length-append}
 use Rattle.dcel_store.specs.Lists.{Lists, LengthsAgree}
-use Rattle.dcel_maps.specs.Edits.{AddsEdgesAndFaces}
+use Rattle.dcel_maps.specs.edits.DefaultData.{AddsEdgesAndFaces}
 use Rattle.dcel_maps.specs.Maps.{Live, Map}
 use Rattle.dcel_maps.specs.Removals.{Removal, gives_up_edge, gives_up_vertex}
 use Rattle.dcel_maps.specs.Shapes.{IsLive, IsMesh, IsSized, Mesh, face_anchor, face_count, vertex_anchor, vertex_is_live}

@@ -2,7 +2,10 @@
 use Rattle.std.proofs.Common.{◌≡◌, ◌≢◌, ℕ, ◌-◌, ◌*◌, ◌<◌, true, List, [], ◌∷◌, ◌++◌, length, None, append-nil, refl, ap, arith}
 use Rattle.std.proofs.Math.Nat.{sub-zero}
 use Rattle.dcel_store.specs.Lists.{Lists}
-use Rattle.dcel_maps.specs.Edits.{AddsEdge, AddsEdgesAndFaces, HasRoom, first_edge_added, outer_alone, triangle_alone, vertex_appended}
+use Rattle.dcel_maps.specs.edits.DefaultData.{AddsEdge, AddsEdgesAndFaces}
+use Rattle.dcel_maps.specs.Conditions.{HasRoom}
+use Rattle.dcel_maps.specs.edits.Create.{first_edge_added, outer_alone, vertex_appended}
+use Rattle.dcel_maps.specs.edits.Triangle.{triangle_alone}
 use Rattle.dcel_maps.specs.Removals.{Closed, Removal}
 use Rattle.dcel_maps.specs.Shapes.{IsMesh, Mesh, vertex_is_live}
 use Rattle.dcel_maps.proofs.edits.Creating.{alone_is_mesh, appending, appending_is, appending_is_edit, beginning, beginning_is, beginning_is_edit, no_half_alone}

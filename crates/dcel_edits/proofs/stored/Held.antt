@@ -5,7 +5,7 @@ use Rattle.dcel_store.specs.Lists.{Lists, LengthsAgree}
 use Rattle.dcel_maps.specs.Maps.{Live, Map}
 use Rattle.dcel_maps.specs.Removals.{gives_up_edge, gives_up_face, gives_up_vertex, is_live}
 use Rattle.dcel_maps.specs.Shapes.{AnchorsVertex, AnchorsWord, IsLive, IsMesh, Mesh, face_count, face_of, map_of, next_of, origin_of, prev_of, vertex_anchor}
-use Rattle.dcel_maps.specs.Standing.{Stands}
+use Rattle.dcel_maps.specs.theory.Standing.{Stands}
 use Rattle.dcel_edits.specs.Stored.{IsStored, Starts, mesh_of, shown, stored_map, stored_words}
 use Rattle.dcel_maps.specs.Words.{count_of, word_of}
 use Rattle.dcel_maps.proofs.Liveness.{is_live-from, is_live-given_up, is_live-parts}

@@ -2,7 +2,9 @@
 use Rattle.std.proofs.Common.{◌≡◌, ℕ, List, length, slice_index_or, Some, None, append-nil, refl, ◌∙◌, arith}
 use Rattle.std.proofs.Math.Nat.{sub-zero}
 use Rattle.dcel_store.specs.Lists.{HasPlaces, Lists}
-use Rattle.dcel_maps.specs.Edits.{AddsEdgesAndFaces, HasRoom, IsTriangle, IsUnconnected, vertex_inserted}
+use Rattle.dcel_maps.specs.edits.DefaultData.{AddsEdgesAndFaces}
+use Rattle.dcel_maps.specs.Conditions.{HasRoom, IsTriangle, IsUnconnected}
+use Rattle.dcel_maps.specs.edits.Triangle.{vertex_inserted}
 use Rattle.dcel_maps.specs.Removals.{Removal}
 use Rattle.dcel_maps.specs.Shapes.{IsMesh, Mesh, face_anchor, map_of, next_of, prev_of}
 use Rattle.dcel_maps.proofs.edits.Inserts.{anchored_triangle, inserted, inserted_is, inserted_is_edit}

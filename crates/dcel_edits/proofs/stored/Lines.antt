@@ -3,7 +3,9 @@ use Rattle.std.proofs.Common.{◌≡◌, ◌≢◌, ◌<◌, ℕ, List, length, 
 use Rattle.std.proofs.Math.Nat.{sub-zero}
 use Rattle.dcel_fixed.specs.HalfEdges.{rev}
 use Rattle.dcel_store.specs.Lists.{Lists}
-use Rattle.dcel_maps.specs.Edits.{AddsEdge, HasRoom, IsLineEnd, IsUnconnected, line_extended}
+use Rattle.dcel_maps.specs.edits.DefaultData.{AddsEdge}
+use Rattle.dcel_maps.specs.Conditions.{HasRoom, IsLineEnd, IsUnconnected}
+use Rattle.dcel_maps.specs.edits.Line.{line_extended}
 use Rattle.dcel_maps.specs.Removals.{Removal}
 use Rattle.dcel_maps.specs.Shapes.{IsMesh, Mesh}
 use Rattle.dcel_maps.proofs.edits.Lines.{EndsLine, extension, extension_is, extension_is_edit, line_end}

@@ -1,7 +1,7 @@
 -- Edits that add edges and faces with default data: from one view to another.
 use Rattle.std.proofs.Common.{◌≡◌, ℕ, ◌*◌, List, [], ◌∷◌, length, refl, ap, ◌∙◌}
 use Rattle.std.proofs.lemmas.List.Elements.{All-from_recursion}
-use Rattle.dcel_maps.specs.Edits.{AddsEdge, AddsEdgesAndFaces}
+use Rattle.dcel_maps.specs.edits.DefaultData.{AddsEdge, AddsEdgesAndFaces}
 
 -- what holds of an edit with each data of the right number
 abbrev pub ForData : {DE UE F : Type 0} → ℕ → ℕ → (List DE → List UE → List F → Type 0) → Type 0

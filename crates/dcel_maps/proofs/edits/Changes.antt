@@ -2,11 +2,12 @@
 use Rattle.std.proofs.Common.{◌≡◌, ◌≢◌, ◌⊎◌, inl, inr, ℕ, ◌+◌, ◌*◌, ◌/◌, ◌<◌, ◌≤◌, true, false, List, [], ◌++◌, length, Option, None, refl, sym, ap, ◌∙◌, arith, length-append}
 use Rattle.std.proofs.lemmas.Bool.{both_ways, cases_lt, false_from_ne_true}
 use Rattle.std.proofs.lemmas.List.{get_or_past}
-use Rattle.dcel_maps.specs.Edits.{HasRoom}
-use Rattle.dcel_maps.specs.Maps.{Live, Map, Sound, Sphere}
+use Rattle.dcel_maps.specs.Conditions.{HasRoom}
+use Rattle.dcel_maps.specs.Maps.{Live, Map}
+use Rattle.dcel_maps.specs.theory.Sound.{Sound, Sphere}
 use Rattle.dcel_maps.specs.Removals.{gives_up_edge, gives_up_face, gives_up_vertex, is_live}
 use Rattle.dcel_maps.specs.Shapes.{IsAnchored, IsLive, IsMesh, IsSized, IsSound, Mesh, Shape, edge_is_live, face_anchor, face_count, face_is_live, face_of, map_of, next_of, origin_of, prev_of, vertex_anchor}
-use Rattle.dcel_maps.specs.Standing.{Stands}
+use Rattle.dcel_maps.specs.theory.Standing.{Stands}
 use Rattle.dcel_maps.specs.Words.{word_of}
 use Rattle.dcel_maps.proofs.Liveness.{IsWithin-grown, gives_up_face-past, is_live-from, is_live-parts}
 use Rattle.dcel_maps.proofs.edits.Patches.{Each, EachFrom, Patch, Untouched, each-patched, each-weaker, each_from-past, each_from-weaker, length-patched, patched, patched-is, patched_at}

@@ -1,8 +1,10 @@
 -- A mesh of one triangle: three vertices, three edges and a face put to the outer face alone.
 use Rattle.std.proofs.Common.{◌≡◌, ◌≢◌, ℕ, ◌<◌, nat_lt, List, [], ◌∷◌, length, slice_index, Some, zero-add, refl, sym, ap, ◌∙◌, arith}
 use Rattle.std.proofs.Math.Bool.{and-true}
-use Rattle.dcel_maps.specs.Edits.{outer_alone, triangle_alone}
-use Rattle.dcel_maps.specs.Maps.{Live, Map, Sound, Sphere}
+use Rattle.dcel_maps.specs.edits.Create.{outer_alone}
+use Rattle.dcel_maps.specs.edits.Triangle.{triangle_alone}
+use Rattle.dcel_maps.specs.Maps.{Live, Map}
+use Rattle.dcel_maps.specs.theory.Sound.{Sound, Sphere}
 use Rattle.dcel_maps.specs.Removals.{Closed, gives_up_face}
 use Rattle.dcel_maps.specs.Shapes.{IsMesh, Mesh}
 use Rattle.dcel_maps.proofs.Liveness.{gives_up_edge-closed, gives_up_face-outer, gives_up_vertex-closed, is_live-from}

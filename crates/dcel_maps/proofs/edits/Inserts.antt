@@ -1,11 +1,13 @@
 -- A vertex put into a triangle of a mesh.
 use Rattle.std.proofs.Common.{◌≡◌, ◌≢◌, ◌⊎◌, inl, inr, ℕ, ◌+◌, ◌*◌, ◌/◌, ◌<◌, ◌≤◌, true, false, List, [], ◌∷◌, length, slice_index, unwrap_or, Some, add-zero, append-nil, refl, sym, ap, ◌∙◌, subst, arith}
 use Rattle.std.proofs.lemmas.Bool.{cases_eq}
-use Rattle.dcel_maps.specs.Edits.{HasRoom, IsTriangle, IsUnconnected, adjacent_edge_of, vertex_inserted}
-use Rattle.dcel_maps.specs.Maps.{Live, Map, Sound, Sphere}
+use Rattle.dcel_maps.specs.Conditions.{HasRoom, IsTriangle, IsUnconnected}
+use Rattle.dcel_maps.specs.Shapes.{adjacent_edge_of, IsLive, IsMesh, Mesh, face_anchor, face_count, face_is_live, face_of, map_of, next_of, origin_of, prev_of}
+use Rattle.dcel_maps.specs.edits.Triangle.{vertex_inserted}
+use Rattle.dcel_maps.specs.Maps.{Live, Map}
+use Rattle.dcel_maps.specs.theory.Sound.{Sound, Sphere}
 use Rattle.dcel_maps.specs.Removals.{gives_up_face, gives_up_vertex}
-use Rattle.dcel_maps.specs.Shapes.{IsLive, IsMesh, Mesh, face_anchor, face_count, face_is_live, face_of, map_of, next_of, origin_of, prev_of}
-use Rattle.dcel_maps.specs.Standing.{Stands}
+use Rattle.dcel_maps.specs.theory.Standing.{Stands}
 use Rattle.dcel_maps.specs.Words.{word_of}
 use Rattle.dcel_maps.proofs.Liveness.{is_live-parts}
 use Rattle.dcel_maps.proofs.edits.Changes.{Change, IsEdit, changed, map_after}

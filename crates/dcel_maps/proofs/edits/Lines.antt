@@ -2,9 +2,10 @@
 use Rattle.std.proofs.Common.{◌≡◌, ℕ, ◌+◌, ◌*◌, List, length, unwrap_or, Option, Some, None, add-zero, append-nil, refl, sym, ap, ◌∙◌, subst}
 use Rattle.dcel_fixed.specs.HalfEdges.{rev}
 use Rattle.dcel_fixed.proofs.Halves.{rev-rev}
-use Rattle.dcel_maps.specs.Edits.{HasRoom, IsLineEnd, IsUnconnected, line_extended, out_edge_of}
-use Rattle.dcel_maps.specs.Maps.{Sound}
-use Rattle.dcel_maps.specs.Shapes.{IsLive, IsMesh, AnchorsVertex, Mesh, face_of, map_of, next_of, origin_of, vertex_anchor}
+use Rattle.dcel_maps.specs.Conditions.{HasRoom, IsLineEnd, IsUnconnected}
+use Rattle.dcel_maps.specs.edits.Line.{line_extended}
+use Rattle.dcel_maps.specs.Shapes.{out_edge_of, IsLive, IsMesh, AnchorsVertex, Mesh, face_of, map_of, next_of, origin_of, vertex_anchor}
+use Rattle.dcel_maps.specs.theory.Sound.{Sound}
 use Rattle.dcel_maps.proofs.Liveness.{is_live-parts}
 use Rattle.dcel_maps.specs.Removals.{gives_up_vertex}
 use Rattle.dcel_maps.proofs.edits.Changes.{Change, IsEdit, changed}

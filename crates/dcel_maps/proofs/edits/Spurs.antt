@@ -3,11 +3,12 @@ use Rattle.std.proofs.Common.{◌≡◌, ◌≢◌, inl, inr, ℕ, ◌+◌, ◌*
 use Rattle.std.proofs.lemmas.Bool.{cases_eq}
 use Rattle.dcel_fixed.specs.HalfEdges.{rev}
 use Rattle.dcel_fixed.proofs.Halves.{rev-double-suc}
-use Rattle.dcel_maps.specs.Edits.{HasRoom, IsUnconnected}
-use Rattle.dcel_maps.specs.Maps.{Live, Map, Sound, Sphere}
+use Rattle.dcel_maps.specs.Conditions.{HasRoom, IsUnconnected}
+use Rattle.dcel_maps.specs.Maps.{Live, Map}
+use Rattle.dcel_maps.specs.theory.Sound.{Sound, Sphere}
 use Rattle.dcel_maps.specs.Removals.{gives_up_edge, gives_up_vertex}
 use Rattle.dcel_maps.specs.Shapes.{IsLive, IsMesh, Mesh, face_anchor, face_of, map_of, next_of, origin_of, vertex_is_live}
-use Rattle.dcel_maps.specs.Standing.{Stands}
+use Rattle.dcel_maps.specs.theory.Standing.{Stands}
 use Rattle.dcel_maps.specs.Words.{become, count_of, word_of}
 use Rattle.dcel_maps.proofs.Liveness.{is_live-parts, is_live-past}
 use Rattle.dcel_maps.proofs.edits.Changes.{Change, IsEdit, map_after}

@@ -2,7 +2,8 @@
 use Rattle.std.proofs.Common.{◌≡◌, ◌≢◌, ℕ, zero, suc, ◌/◌, ◌<◌, nat_lt, List, [], ◌∷◌, slice_index, refl, arith, le-ltb, ltb-true}
 use Rattle.std.proofs.lemmas.Bool.Decides.{nat_tests}
 use Rattle.dcel_fixed.specs.HalfEdges.{rev}
-use Rattle.dcel_maps.specs.Maps.{Map, Live, Sound, Sphere}
+use Rattle.dcel_maps.specs.Maps.{Map, Live}
+use Rattle.dcel_maps.specs.theory.Sound.{Sound, Sphere}
 use Rattle.dcel_maps.proofs.maps.Edits.{FirstEdge, Spur, Ear}
 use Rattle.dcel_maps.proofs.maps.Firsts.{first_keeps}
 use Rattle.dcel_maps.proofs.maps.Spurs.{spur_keeps}

@@ -1,7 +1,8 @@
 -- What the edits that add an edge share.
 use Rattle.std.proofs.Common.{◌≡◌, ◌≢◌, ◌⊎◌, inl, inr, ◌/◌, ℕ, true, false, sym, ap, ◌∙◌, subst}
 use Rattle.std.proofs.lemmas.Bool.{cases_eq, false≢true}
-use Rattle.dcel_maps.specs.Maps.{Connected, Live, Map, NextOrRev, Reaches, Sound}
+use Rattle.dcel_maps.specs.Maps.{Connected, Live, Map, NextOrRev, Reaches}
+use Rattle.dcel_maps.specs.theory.Sound.{Sound}
 use Rattle.dcel_fixed.specs.HalfEdges.{rev}
 use Rattle.dcel_maps.proofs.maps.Halves.{rev_or_same}
 use Rattle.dcel_maps.proofs.maps.Reaching.{reroutes, then}

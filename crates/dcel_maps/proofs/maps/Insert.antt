@@ -3,7 +3,8 @@ use Rattle.std.proofs.Common.{◌≡◌, ◌≢◌, inl, inr, ◌+◌, ◌*◌, 
 use Rattle.std.proofs.lemmas.Bool.{cases_eq}
 use Rattle.std.proofs.lemmas.Bool.Decides.{nat_tests}
 use Rattle.dcel_fixed.specs.HalfEdges.{rev}
-use Rattle.dcel_maps.specs.Maps.{Live, Map, Sound, Sphere}
+use Rattle.dcel_maps.specs.Maps.{Live, Map}
+use Rattle.dcel_maps.specs.theory.Sound.{Sound, Sphere}
 use Rattle.dcel_maps.proofs.maps.Counts.{edge_past}
 use Rattle.dcel_maps.proofs.maps.Eared.{HasEar, ear_off, ear_other_face, ear_was_live, has_ear-keeps, without_ear}
 use Rattle.dcel_maps.proofs.maps.Edits.{Spur}

@@ -2,7 +2,8 @@
 use Rattle.std.proofs.Common.{◌≡◌, ◌≢◌, ◌+◌, ◌/◌, ℕ, true, false, max, sym, refl, ap, ◌∙◌, arith}
 use Rattle.std.proofs.lemmas.Bool.{false≢true}
 use Rattle.std.proofs.lemmas.Bool.Decides.{nat_tests}
-use Rattle.dcel_maps.specs.Maps.{Live, Map, Sound}
+use Rattle.dcel_maps.specs.Maps.{Live, Map}
+use Rattle.dcel_maps.specs.theory.Sound.{Sound}
 use Rattle.dcel_fixed.specs.HalfEdges.{rev}
 use Rattle.dcel_maps.proofs.maps.Edits.{Ear, EarAt, Spur, SpurAt}
 use Rattle.dcel_maps.proofs.maps.Halves.{rev_differs, rev_half}

@@ -1,6 +1,7 @@
 -- Triangles of a map.
 use Rattle.std.proofs.Common.{◌≡◌, ◌≢◌, ◌⊎◌, inl, inr, ℕ, refl, sym, ap, ◌∙◌, subst}
-use Rattle.dcel_maps.specs.Maps.{By, Live, Map, Sound}
+use Rattle.dcel_maps.specs.Maps.{By, Live, Map}
+use Rattle.dcel_maps.specs.theory.Sound.{Sound}
 use Rattle.dcel_maps.proofs.maps.Reaching.{reaches_stays}
 use Rattle.dcel_maps.proofs.maps.Soundness.{face_cycles, next_differs}
 

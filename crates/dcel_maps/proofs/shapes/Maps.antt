@@ -2,12 +2,13 @@
 use Rattle.std.proofs.Common.{◌≡◌, ◌≢◌, ◌⊎◌, ◌↔◌, inl, inr, ℕ, ◌<◌, true, false, List, [], ◌∷◌, ◌++◌, refl, sym, ap, subst, arith}
 use Rattle.std.proofs.lemmas.Bool.{both_ways, cases_eq, cases_lt, true_from_ne_false}
 use Rattle.std.proofs.lemmas.List.{get_or_past}
-use Rattle.dcel_maps.specs.Maps.{By, Reaches, Sound, Sphere, ccw, count, has_word}
+use Rattle.dcel_maps.specs.Maps.{By, Reaches, ccw, count}
+use Rattle.dcel_maps.specs.theory.Sound.{Sound, Sphere, has_word}
 use Rattle.dcel_maps.specs.Maps.Reaches.{go, here}
 use Rattle.dcel_maps.specs.Removals.{gives_up_edge, gives_up_vertex}
 use Rattle.dcel_maps.specs.Shapes.{IsLive, IsSound, IsSphere, Shape, edge_is_live, face_count, face_is_live, face_of, map_of, next_of, origin_of, prev_of, vertex_is_live}
-use Rattle.dcel_maps.specs.Standing.{Follows, Stands}
-use Rattle.dcel_maps.specs.Walks.{IsCycle, Path}
+use Rattle.dcel_maps.specs.theory.Standing.{Follows, Stands}
+use Rattle.dcel_maps.specs.theory.Cycles.{IsCycle, Path}
 use Rattle.dcel_maps.specs.Words.{IsLeastFirst, count_of, word_of}
 use Rattle.dcel_maps.proofs.Liveness.{is_live-parts}
 use Rattle.dcel_maps.proofs.maps.Counts.{count_same, same_tests, used_from, used_gives}

@@ -2,7 +2,7 @@
 use Rattle.std.proofs.Common.{◌≡◌, inl, inr, ℕ, ◌/◌, ◌<◌, List, [], Option, Some, None, sym, ◌∙◌, subst, arith}
 use Rattle.dcel_maps.specs.Maps.{Live, Map}
 use Rattle.dcel_maps.specs.Shapes.{AnchorsVertex, AnchorsWord, Shape, edge_is_live, map_of, origin_of}
-use Rattle.dcel_maps.specs.Standing.{Stands}
+use Rattle.dcel_maps.specs.theory.Standing.{Stands}
 use Rattle.dcel_maps.specs.Words.{count_of, word_of}
 use Rattle.dcel_maps.proofs.maps.Agreement.{Agrees}
 use Rattle.dcel_maps.proofs.maps.Labels.{Labelled}

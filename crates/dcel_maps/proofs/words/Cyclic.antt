@@ -1,8 +1,10 @@
 -- The least form of a cyclic list.
 use Rattle.std.proofs.Common.{◌≡◌, ℕ, ◌<◌, ◌≤◌, List, [], ◌∷◌, length, refl, sym, ◌∙◌, arith, Some}
-use Rattle.dcel_maps.specs.Maps.{By, Map, Sound}
-use Rattle.dcel_maps.specs.Standing.{Follows}
-use Rattle.dcel_maps.specs.Walks.{IsCycle, anchored_word, word_at}
+use Rattle.dcel_maps.specs.Maps.{By, Map}
+use Rattle.dcel_maps.specs.theory.Sound.{Sound}
+use Rattle.dcel_maps.specs.theory.Standing.{Follows}
+use Rattle.dcel_maps.specs.theory.Cycles.{IsCycle}
+use Rattle.dcel_maps.specs.Walks.{anchored_word, word_at}
 use Rattle.dcel_maps.specs.Words.{count_of, IsLeastFirst, TurnsTo, next_in_word, prev_in_word}
 use Rattle.dcel_maps.proofs.words.Faces.{IsWordOf, cycle_is_word}
 use Rattle.dcel_maps.proofs.words.Paths.{next_in_word-follows, prev_in_word-leads}

@@ -2,9 +2,10 @@
 use Rattle.std.proofs.Common.{◌≡◌, ◌≢◌, inl, inr, ℕ, ◌*◌, ◌/◌, ◌<◌, ◌≤◌, true, false, List, [], ◌∷◌, map, nat_lt, slice_set, lt-ltb, le-ltb, subst, ap, sym, ◌∙◌, refl, arith}
 use Rattle.std.proofs.lemmas.Bool.{cases_eq, false≢true}
 use Rattle.dcel_fixed.specs.HalfEdges.{rev}
-use Rattle.dcel_maps.specs.Maps.{Map, Live, Sound}
-use Rattle.dcel_maps.specs.Standing.{Follows}
-use Rattle.dcel_maps.specs.Walks.{Path}
+use Rattle.dcel_maps.specs.Maps.{Map, Live}
+use Rattle.dcel_maps.specs.theory.Sound.{Sound}
+use Rattle.dcel_maps.specs.theory.Standing.{Follows}
+use Rattle.dcel_maps.specs.theory.Cycles.{Path}
 use Rattle.dcel_maps.specs.Words.{become, count_of, face_in, occurs, with_spur, word_of}
 use Rattle.dcel_maps.proofs.maps.Edits.{Spur}
 use Rattle.dcel_maps.proofs.maps.Growth.{Grown, live_cases, not_new_edge, still_live}

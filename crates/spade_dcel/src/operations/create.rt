@@ -1,7 +1,9 @@
 //! A mesh, its vertices and its first edge.
 
 ghost use Rattle.std.specs.Prelude.{◌≡◌, ◌≢◌, IfOk, IfErr, OnErr, OnOk, true};
-ghost use Rattle.dcel_maps.specs.Edits.{HasRoom, IsNew, AddsEdge, vertex_appended, first_edge_added};
+ghost use Rattle.dcel_maps.specs.Conditions.{HasRoom};
+ghost use Rattle.dcel_maps.specs.edits.Create.{IsNew, vertex_appended, first_edge_added};
+ghost use Rattle.dcel_maps.specs.edits.DefaultData.{AddsEdge};
 ghost use Rattle.dcel_maps.specs.Shapes.{IsMesh, vertex_is_live};
 
 use crate::dcel::Dcel;

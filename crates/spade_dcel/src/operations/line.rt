@@ -1,7 +1,9 @@
 //! Lines.
 
 ghost use Rattle.std.specs.Prelude.{◌≡◌, IfOk, OnErr, OnOk};
-ghost use Rattle.dcel_maps.specs.Edits.{HasRoom, IsUnconnected, IsLineEnd, AddsEdge, line_extended};
+ghost use Rattle.dcel_maps.specs.Conditions.{HasRoom, IsUnconnected, IsLineEnd};
+ghost use Rattle.dcel_maps.specs.edits.DefaultData.{AddsEdge};
+ghost use Rattle.dcel_maps.specs.edits.Line.{line_extended};
 ghost use Rattle.dcel_maps.specs.Shapes.{IsMesh};
 
 use crate::dcel::Dcel;
