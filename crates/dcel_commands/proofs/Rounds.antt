@@ -2,7 +2,7 @@
 use Rattle.std.proofs.Common.{◌≡◌, ◌≢◌, ℕ, ◌<◌, ◌≤◌, List, [], ◌∷◌, ◌++◌, length, drop, refl, sym, ap, subst, ◌∙◌, arith, eq-eqb, append_assoc, append-nil}
 use Rattle.std.proofs.lemmas.Bool.{ne_eqb}
 use Rattle.dcel_maps.specs.Maps.{By}
-use Rattle.dcel_maps.specs.Walks.{Path, IsCycle}
+use Rattle.dcel_maps.specs.theory.Cycles.{Path, IsCycle}
 use Rattle.dcel_maps.specs.Words.{count_of, item_after, next_in_word}
 use Rattle.dcel_maps.proofs.words.Counts.{count-same, count-other, count-append, count-later, absent_head, split_at}
 use Rattle.dcel_maps.proofs.words.Paths.{Path-split}

@@ -2,7 +2,7 @@
 use Rattle.std.specs.Prelude.{◌≡◌, ◌≢◌, ◌⊎◌, ℕ, ◌+◌, ◌*◌, ◌<◌, ◌≤◌, true, List, [], ◌∷◌, Contains}
 use Rattle.dcel_commands.specs.declared.refusal.Refusal.{Refusal}
 use Rattle.dcel_commands.specs.Refusal.{refusal_number}
-use Rattle.dcel_maps.specs.Edits.{IsUnconnected, IsLineEnd, IsTriangle}
+use Rattle.dcel_maps.specs.Conditions.{IsUnconnected, IsLineEnd, IsTriangle}
 use Rattle.dcel_maps.specs.Shapes.{Shape, IsLive, vertex_is_live, face_is_live, face_count}
 
 -- what may be asked

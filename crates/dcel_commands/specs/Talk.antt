@@ -9,7 +9,7 @@ use Rattle.dcel_commands.specs.Replies.{outcome_text}
 use Rattle.dcel_commands.specs.Spelling.{Spells}
 use Rattle.dcel_text.specs.Texts.{ended}
 use Rattle.dcel_commands.specs.Steps.{Carries}
-use Rattle.dcel_maps.specs.Edits.{outer_alone}
+use Rattle.dcel_maps.specs.edits.Create.{outer_alone}
 use Rattle.dcel_maps.specs.Shapes.{Mesh}
 
 -- the mesh that lines are about: all data are numbers

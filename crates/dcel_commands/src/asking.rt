@@ -1,7 +1,7 @@
 //! The parts of what lines ask of a mesh.
 
 ghost use Rattle.std.specs.Prelude.{◌≡◌, ◌↔◌, ◌+◌, ◌*◌, ◌<◌, ◌≤◌, ◌^◌, false, IsTrue, MatchResult};
-ghost use Rattle.dcel_maps.specs.Edits.{HasRoom};
+ghost use Rattle.dcel_maps.specs.Conditions.{HasRoom};
 ghost use Rattle.dcel_maps.specs.Shapes.{face_count};
 ghost use Rattle.dcel_commands.specs.Conditions.{AreWithin};
 

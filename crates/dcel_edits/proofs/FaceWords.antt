@@ -1,8 +1,8 @@
 -- Which faces have words of three half edges.
-use Rattle.std.proofs.Common.{◌≡◌, ◌↔◌, ℕ, ◌<◌, true, length, Some, None, sym, ap, ◌∙◌, subst, arith}
+use Rattle.std.proofs.Common.{◌≡◌, ◌↔◌, ℕ, ◌<◌, true, length, Some, None, ap, subst, arith}
 use Rattle.std.specs.Prelude.{slice_index, slice_index_or}
 use Rattle.dcel_store.specs.Lists.{Lists}
-use Rattle.dcel_maps.specs.Edits.{IsTriangle}
+use Rattle.dcel_maps.specs.Conditions.{IsTriangle}
 use Rattle.dcel_maps.specs.Removals.{Removal, gives_up_face}
 use Rattle.dcel_maps.specs.Shapes.{AnchorsWord, IsLive, face_is_live, face_of}
 use Rattle.dcel_edits.specs.Stored.{IsStored, mesh_of, stored_map, stored_words}

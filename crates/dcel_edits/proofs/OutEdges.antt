@@ -3,7 +3,7 @@ use Rattle.std.proofs.Common.{◌≡◌, ◌↔◌, ℕ, true, Some, None, sym, 
 use Rattle.std.specs.Prelude.{slice_index, slice_index_or}
 use Rattle.dcel_fixed.specs.HalfEdges.{rev}
 use Rattle.dcel_store.specs.Lists.{Lists}
-use Rattle.dcel_maps.specs.Edits.{IsLineEnd, IsUnconnected}
+use Rattle.dcel_maps.specs.Conditions.{IsLineEnd, IsUnconnected}
 use Rattle.dcel_maps.specs.Removals.{Removal}
 use Rattle.dcel_maps.specs.Shapes.{vertex_is_live}
 use Rattle.dcel_edits.specs.Stored.{IsStored, mesh_of}

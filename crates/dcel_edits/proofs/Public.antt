@@ -4,7 +4,7 @@ use Rattle.std.specs.Prelude.{slice_index_or}
 use Rattle.std.proofs.lemmas.List.{get_or_past}
 use Rattle.std.proofs.lemmas.Bool.{both_ways, cases_eq, cases_lt, false_from_ne_true, true_from_ne_false}
 use Rattle.dcel_store.specs.Lists.{Lists}
-use Rattle.dcel_maps.specs.Maps.{Sound, Sphere, has_word}
+use Rattle.dcel_maps.specs.theory.Sound.{Sound, Sphere, has_word}
 use Rattle.dcel_maps.specs.Removals.{Removal, gives_up_edge, gives_up_face}
 use Rattle.dcel_maps.specs.Shapes.{AnchorsVertex, AnchorsWord, IsAnchored, IsLive, IsMesh, IsSized, IsSound, IsSphere, edge_is_live, face_is_live, face_of, map_of}
 use Rattle.dcel_edits.specs.Stored.{IsStored, mesh_of, stored_map, stored_words}

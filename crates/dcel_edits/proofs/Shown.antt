@@ -1,7 +1,8 @@
 -- Origins with those of given-up edges masked.
-use Rattle.std.proofs.Common.{◌≡◌, ℕ, zero, suc, ◌+◌, ◌*◌, ◌/◌, Bool, false, cond, List, [], ◌∷◌, ◌++◌, length, slice_index, slice_set, refl, ap, ◌∙◌, arith, add-zero, add-suc, suc-add, zero-add}
+use Rattle.std.proofs.Common.{◌≡◌, ℕ, zero, suc, ◌+◌, ◌*◌, ◌/◌, ◌≤◌, Bool, false, cond, List, [], ◌∷◌, ◌++◌, length, slice_index, slice_set, refl, ap, ◌∙◌, arith, add-zero, add-suc, suc-add, zero-add}
 use Rattle.std.proofs.lemmas.Bool.{cond_both}
 use Rattle.dcel_edits.specs.Stored.{shown, shown_from}
+use Rattle.dcel_maps.proofs.edits.Patches.{Each, Patch, length-replaced, patched, replaced}
 
 module _ (g : ℕ → Bool) where
   length-shown_from : (h : ℕ) (vs : List ℕ) → length (shown_from g h vs) ≡ length vs
@@ -66,3 +67,22 @@ module _ (g : ℕ → Bool) where
 
   pub shown-same : (k : ℕ → Bool) → ((u : ℕ) → k u ≡ g u) → (vs : List ℕ) → shown k vs ≡ shown g vs
   shown-same k same vs = shown_from-same k same 0 vs
+
+  shown_from-kept : (h : ℕ) (vs : List ℕ) → ((u : ℕ) → h / 2 ≤ u → g u ≡ false) → shown_from g h vs ≡ vs
+  shown_from-kept h [] kept = refl
+  shown_from-kept h (v ∷ vs) kept =
+      rw (kept (h / 2) (omega arith)) (ap (λ z. v ∷ z) (shown_from-kept (suc h) vs (λ u past. kept u (omega (arith, past)))))
+
+  shown-replaced : (vs : List ℕ) (cs : List (ℕ × ℕ)) → Each (λ h v. g (h / 2) ≡ false) cs → shown g (replaced vs cs) ≡ replaced (shown g vs) cs
+  shown-replaced vs [] live = refl
+  shown-replaced vs (c ∷ r) live =
+      shown-replaced (slice_set vs c.0 c.1) r live.1 ∙ ap (λ l. replaced l r) (shown-set vs c.0 c.1 live.0)
+
+  -- writes to the origins of live edges show, and so do origins of edges past m, which are not given up
+  pub shown-patched : (vs : List ℕ) (p : Patch ℕ) (m : ℕ) → length vs ≡ 2 * m → Each (λ h v. g (h / 2) ≡ false) p.set
+      → ((u : ℕ) → m ≤ u → g u ≡ false) → shown g (patched vs p) ≡ patched (shown g vs) p
+  shown-patched vs p m long live kept =
+      shown_from-append 0 (replaced vs p.set) p.more
+      ∙ ap (λ l. l ++ shown_from g (0 + length (replaced vs p.set)) p.more) (shown-replaced vs p.set live)
+      ∙ ap (λ l. replaced (shown g vs) p.set ++ l)
+      (shown_from-kept (0 + length (replaced vs p.set)) p.more (λ u past. kept u (omega (arith, past, long, length-replaced vs p.set))))

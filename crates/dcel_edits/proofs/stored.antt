@@ -1,9 +1,7 @@
-pub mod Appending
-pub mod Beginning
-pub mod FirstTriangle
+-- Lists that hold a mesh, and that they hold the edited one after the writes.
+pub mod Changes
+pub mod Creating
+pub mod Held
 pub mod Holding
 pub mod Inserting
 pub mod Lines
-pub mod Pushes
-pub mod Spurring
-pub mod Triangles

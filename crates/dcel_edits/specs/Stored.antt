@@ -1,10 +1,11 @@
 -- How the stored lists and the removal record stand for a mesh.
 use Rattle.std.specs.Prelude.{◌≡◌, ◌≢◌, ℕ, suc, ◌/◌, ◌<◌, ◌≤◌, ◌^◌, Bool, true, false, cond, List, [], ◌∷◌, length, slice_index, slice_index_or, None}
 use Rattle.dcel_store.specs.Lists.{Lists, LengthsAgree}
-use Rattle.dcel_maps.specs.Maps.{Map, Live, Sound, Sphere, Starts}
+use Rattle.dcel_maps.specs.Maps.{Map, Live, Starts}
+use Rattle.dcel_maps.specs.theory.Sound.{Sound, Sphere}
 use Rattle.dcel_maps.specs.Removals.{Removal, gives_up_vertex, gives_up_edge, gives_up_face, is_live, IsWithin}
 use Rattle.dcel_maps.specs.Shapes.{Mesh, AnchorsWord}
-use Rattle.dcel_maps.specs.Standing.{Stands}
+use Rattle.dcel_maps.specs.theory.Standing.{Stands}
 use Rattle.dcel_maps.specs.Walks.{anchored_words}
 use Rattle.dcel_maps.specs.Words.{word_of}
 

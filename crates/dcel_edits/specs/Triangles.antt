@@ -1,5 +1,5 @@
 -- What writing a first triangle, or a vertex into a triangle, leaves in the stored lists.
-use Rattle.std.specs.Prelude.{◌≡◌, ℕ, ◌+◌, ◌-◌, ◌*◌, ◌<◌, ◌≤◌, ◌^◌, List, [], ◌∷◌, ◌++◌, length, slice_index, slice_set, Option, Some}
+use Rattle.std.specs.Prelude.{◌≡◌, ℕ, ◌+◌, ◌-◌, ◌*◌, ◌<◌, ◌≤◌, ◌^◌, List, [], ◌∷◌, ◌++◌, length, slice_index, slice_set, Some}
 use Rattle.dcel_store.specs.Lists.{Lists, HasPlaces, empty}
 
 -- three items of a list replaced

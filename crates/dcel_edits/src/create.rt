@@ -1,6 +1,7 @@
 //! The first edge.
 
-ghost use Rattle.std.specs.Prelude.{◌≡◌, ◌<◌, length};
+ghost use Rattle.std.specs.Prelude.{◌<◌, length};
+ghost use Rattle.dcel_maps.specs.edits.DefaultData.{AddsEdge};
 ghost use Rattle.dcel_edits.specs.Spurs.{first_edge_stored};
 
 use dcel_fixed::{FixedDirectedEdgeHandle, FixedVertexHandle, OUTER_FACE};
@@ -8,17 +9,16 @@ use dcel_store::{EdgeData, HalfEdgeEntry, Store};
 use std::alloc::Allocator;
 
 /// Writes edge 0 into a store without edges.
-pub fn put_first_edge<V, DE, UE, F, A: Allocator>(
+pub fn put_first_edge<V, DE: Default, UE: Default, F, A: Allocator>(
     store: &mut Store<V, DE, UE, F, A>,
     first_vertex: FixedVertexHandle,
     second_vertex: FixedVertexHandle,
-    edge_data: EdgeData<DE, UE>,
 )
     requires place { 0 < store.old.edge_room }
     requires first_in { first_vertex < length store.old.vertex_anchors }
     requires second_in { second_vertex < length store.old.vertex_anchors }
     requires outer { 0 < length store.old.face_anchors }
-    ensures { store.new ≡ first_edge_stored store.old first_vertex second_vertex edge_data.normalized edge_data.reversed edge_data.undirected }
+    ensures { AddsEdge DE.is_default UE.is_default store.new (first_edge_stored store.old first_vertex second_vertex) }
 {
     let normalized = FixedDirectedEdgeHandle::new_normalized(0);
     let reversed = normalized.rev();
@@ -35,7 +35,7 @@ pub fn put_first_edge<V, DE, UE, F, A: Allocator>(
             face: OUTER_FACE,
             origin: second_vertex,
         },
-        edge_data,
+        EdgeData::default(),
     );
     store.set_vertex_anchor(first_vertex, Some(normalized));
     store.set_vertex_anchor(second_vertex, Some(reversed));

@@ -1,6 +1,6 @@
 //! Spurs: edges to a vertex that had none.
 
-ghost use Rattle.std.specs.Prelude.{◌≡◌};
+ghost use Rattle.dcel_maps.specs.edits.DefaultData.{AddsEdge};
 ghost use Rattle.dcel_edits.specs.Spurs.{spur_stored, CanSpur};
 
 use dcel_fixed::{FixedDirectedEdgeHandle, FixedVertexHandle};
@@ -8,20 +8,21 @@ use dcel_store::{EdgeData, HalfEdgeEntry, Store};
 use std::alloc::Allocator;
 
 /// Puts a new edge to `tip` and back after the half edge `before`.
-pub fn put_spur<V, DE, UE, F, A: Allocator>(
+pub fn put_spur<V, DE: Default, UE: Default, F, A: Allocator>(
     store: &mut Store<V, DE, UE, F, A>,
     before: FixedDirectedEdgeHandle,
     tip: FixedVertexHandle,
-    edge_data: EdgeData<DE, UE>,
 )
     requires { CanSpur store.old before tip }
-    ensures { store.new ≡ spur_stored store.old before tip edge_data.normalized edge_data.reversed edge_data.undirected }
+    ensures { AddsEdge DE.is_default UE.is_default store.new (spur_stored store.old before tip) }
 {
     let after = store.next(before);
     let face = store.face(before);
     let from = store.origin(after);
     let back = FixedDirectedEdgeHandle::new_normalized(store.num_edges());
     let forth = back.rev();
+    store.set_next(before, forth);
+    store.set_prev(after, back);
     store.push_edge(
         HalfEdgeEntry {
             next: after,
@@ -35,9 +36,7 @@ pub fn put_spur<V, DE, UE, F, A: Allocator>(
             face,
             origin: from,
         },
-        edge_data,
+        EdgeData::default(),
     );
-    store.set_next(before, forth);
-    store.set_prev(after, back);
     store.set_vertex_anchor(tip, Some(back));
 }

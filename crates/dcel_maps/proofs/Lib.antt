@@ -1,4 +1,6 @@
 pub mod Liveness
+pub mod edits
 pub mod maps
+pub mod shapes
 pub mod walks
 pub mod words

@@ -2,12 +2,14 @@ pub mod Agreement
 pub mod Chords
 pub mod Counts
 pub mod Cycles
+pub mod Eared
 pub mod Ears
 pub mod Edits
 pub mod FirstTriangle
 pub mod Firsts
 pub mod Growth
 pub mod Halves
+pub mod Labels
 pub mod Insert
 pub mod Made
 pub mod Orbits
@@ -16,5 +18,6 @@ pub mod Renames
 pub mod Soundness
 pub mod Spurs
 pub mod Totals
+pub mod Triangles
 pub mod Updates
 pub mod Words

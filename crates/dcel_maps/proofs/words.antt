@@ -9,7 +9,5 @@ pub mod Firsts
 pub mod Agreement
 pub mod Turns
 pub mod Faces
-pub mod Chords
 pub mod Triangles
-pub mod Ears
-pub mod Inserts
+pub mod Cyclic

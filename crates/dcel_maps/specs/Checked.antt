@@ -1,6 +1,6 @@
 -- Checked meshes: what `sanity_check` looks at.
 use Rattle.std.specs.Prelude.{◌≡◌, ◌≢◌, ◌⊎◌, ℕ, ◌+◌, ◌*◌, ◌<◌, ◌≤◌, true, length}
-use Rattle.dcel_maps.specs.Edits.{IsUnconnected}
+use Rattle.dcel_maps.specs.Conditions.{IsUnconnected}
 use Rattle.dcel_maps.specs.Removals.{Closed}
 use Rattle.dcel_maps.specs.Shapes.{Shape, edge_is_live, face_of, face_count}
 use Rattle.dcel_maps.specs.Words.{word_of}

@@ -1,12 +1,16 @@
+-- What a reader has to believe: words, maps, meshes and what is true of them, edits and what they ask, walks.
 pub mod Words
 pub mod Walks
+pub mod Cyclic
 pub mod Removals
 pub mod Maps
 pub mod Shapes
-pub mod Standing
-pub mod Edits
+pub mod Conditions
+pub mod edits
 pub mod Checked
 pub mod Kinds
 pub mod Walking
 pub mod Laws
 pub mod Examples
+-- What only proofs read.
+pub mod theory

@@ -1,5 +1,5 @@
 -- Meshes: words, origins, data, anchors and the removal record; and what is true of each.
-use Rattle.std.specs.Prelude.{◌≡◌, ◌≢◌, ◌↔◌, ◌+◌, ◌*◌, ◌/◌, ◌<◌, ◌≤◌, ◌^◌, ℕ, Bool, true, false, List, [], length, slice_index, slice_index_or, Option, Some, None}
+use Rattle.std.specs.Prelude.{◌≡◌, ◌≢◌, ◌↔◌, ◌+◌, ◌*◌, ◌/◌, ◌<◌, ◌≤◌, ◌^◌, ℕ, Bool, true, false, List, [], length, slice_index, slice_index_or, unwrap_or, Option, Some, None}
 use Rattle.dcel_fixed.specs.HalfEdges.{rev}
 use Rattle.dcel_maps.specs.Maps.{Map, Reaches, By, ccw, Connected, Starts, count, starts_edge}
 use Rattle.dcel_maps.specs.Removals.{Removal, gives_up_vertex, gives_up_edge, gives_up_face, is_live, IsWithin}
@@ -105,6 +105,13 @@ vertex_anchor m v = slice_index_or m.vertex_anchors v None
 
 abbrev pub face_anchor : {V DE UE F : Type 0} → Mesh V DE UE F → ℕ → Option ℕ
 face_anchor m f = slice_index_or m.face_anchors f None
+
+-- the out edge of a vertex and the adjacent edge of a face: their anchors
+abbrev pub out_edge_of : {V DE UE F : Type 0} → Mesh V DE UE F → ℕ → ℕ
+out_edge_of m v = unwrap_or (vertex_anchor m v) 0
+
+abbrev pub adjacent_edge_of : {V DE UE F : Type 0} → Mesh V DE UE F → ℕ → ℕ
+adjacent_edge_of m f = unwrap_or (face_anchor m f) 0
 
 pub record IsAnchored {V DE UE F : Type 0} (m : Mesh V DE UE F) : Type 0 where
   pub vertices : (v : ℕ) → v < m.shape.vertices → AnchorsVertex m.shape v (vertex_anchor m v)

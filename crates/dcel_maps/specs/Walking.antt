@@ -3,7 +3,8 @@ use Rattle.std.specs.Prelude.{◌≡◌, ℕ, ◌*◌, ◌<◌, ◌≤◌, Bool,
 use Rattle.dcel_fixed.specs.HalfEdges.{rev}
 use Rattle.dcel_maps.specs.Maps.{By, count}
 use Rattle.dcel_maps.specs.Shapes.{Shape, Mesh, IsLive, edge_is_live, next_of, prev_of, face_of, origin_of, vertex_anchor}
-use Rattle.dcel_maps.specs.Walks.{up_to, walk, Path}
+use Rattle.dcel_maps.specs.Walks.{up_to, walk}
+use Rattle.dcel_maps.specs.theory.Cycles.{Path}
 use Rattle.dcel_maps.specs.Words.{count_of}
 
 -- the next half edge out of the same vertex, and the one before

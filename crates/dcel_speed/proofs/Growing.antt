@@ -1,12 +1,14 @@
 -- Meshes whose inner faces are triangles: the first one, and that an insertion makes another.
-use Rattle.std.proofs.Common.{◌≡◌, ◌≢◌, ℕ, true, zero, suc, ◌+◌, ◌*◌, ◌<◌, List, [], ◌∷◌, ◌++◌, length, slice_set, refl, subst, ap, sym, ◌∙◌, inl, inr, arith}
-use Rattle.std.proofs.lemmas.Bool.{cases_eq, cases_lt}
-use Rattle.dcel_maps.specs.Edits.{AddsEdgesAndFaces, IsTriangle, IsUnconnected, adjacent_edge_of, triangle_alone, vertex_appended, vertex_inserted}
+use Rattle.std.proofs.Common.{◌≡◌, ◌≢◌, ℕ, true, zero, suc, ◌+◌, ◌*◌, ◌<◌, List, [], ◌∷◌, ◌++◌, length, slice_set, refl, subst, ap, sym, ◌∙◌, arith}
+use Rattle.dcel_maps.specs.edits.DefaultData.{AddsEdgesAndFaces}
+use Rattle.dcel_maps.specs.Conditions.{IsTriangle, IsUnconnected}
+use Rattle.dcel_maps.specs.Shapes.{adjacent_edge_of, Shape, Mesh, IsMesh, IsLive, face_count, face_is_live, next_of, origin_of, prev_of, vertex_is_live}
+use Rattle.dcel_maps.specs.edits.Triangle.{triangle_alone, vertex_inserted}
+use Rattle.dcel_maps.specs.edits.Create.{vertex_appended}
 use Rattle.dcel_maps.specs.Removals.{gives_up_face, gives_up_vertex}
-use Rattle.dcel_maps.specs.Shapes.{Shape, Mesh, IsMesh, IsLive, face_count, face_is_live, next_of, origin_of, prev_of, vertex_is_live}
 use Rattle.dcel_maps.specs.Words.{word_of}
 use Rattle.dcel_maps.proofs.Liveness.{gives_up_face-closed, gives_up_vertex-past, is_live-from, is_live-last, is_live-parts}
-use Rattle.dcel_maps.proofs.words.Inserts.{length-set_append, word_of-set_append_new, word_of-set_append_other, word_of-set_append_replaced}
+use Rattle.dcel_maps.proofs.edits.Patches.{Patch, each-patched, length-patched}
 use Rattle.dcel_speed.specs.Growth.{IsTriangulated}
 
 -- an inner face is a live triangle
@@ -25,23 +27,13 @@ alone_three words is (suc zero) inner below = ap (λ w. length (word_of w 1)) is
 alone_three words is (suc (suc f)) inner below = let two = ap length is in absurd (omega (arith, two))
 
 -- words of three in place of one
-three_more : (ws : List (List ℕ)) (f : ℕ) (u v w : List ℕ) → length u ≡ 3 → length v ≡ 3 → length w ≡ 3 → f < length ws
+three_more : (ws : List (List ℕ)) (f : ℕ) (u v w : List ℕ) → length u ≡ 3 → length v ≡ 3 → length w ≡ 3
     → ((k : ℕ) → 0 < k → k < length ws → length (word_of ws k) ≡ 3)
     → (k : ℕ) → 0 < k → k < length (slice_set ws f u ++ v ∷ w ∷ []) → length (word_of (slice_set ws f u ++ v ∷ w ∷ []) k) ≡ 3
-three_more ws f u v w of_u of_v of_w within three k inner below =
-    let count = length-set_append ws f u (v ∷ w ∷ []) in
-    elim (cases_lt k (length ws)) [
-      | inl old ↦ elim (cases_eq k f) [
-        | inl same ↦ rw (same, word_of-set_append_replaced ws f u (v ∷ w ∷ []) within) of_u
-        | inr other ↦ rw (word_of-set_append_other ws f u (v ∷ w ∷ []) k old other) (three k inner old)
-      ]
-      | inr new ↦ elim (cases_eq k (length ws + 0)) [
-        | inl same ↦ rw (same, word_of-set_append_new ws f u (v ∷ w ∷ []) 0) of_v
-        | inr other ↦
-            let last : k ≡ length ws + 1 = omega (arith, count) in
-            rw (last, word_of-set_append_new ws f u (v ∷ w ∷ []) 1) of_w
-      ]
-    ]
+three_more ws f u v w of_u of_v of_w three k inner below =
+    let p : Patch (List ℕ) = record { set = (f, u) ∷ []; more = v ∷ w ∷ [] } in
+    each-patched (λ g x. 0 < g → length x ≡ 3) [] ws p (length ws) refl (λ i. of_u, tt) (λ i. of_v, (λ i. of_w, tt))
+    (λ g within away above. three g above within) k (omega (arith, below, length-patched ws p)) inner
 
 module _ {V DE UE F : Type 0} where
   pub alone_triangulated : {is_half : DE → Type 0} {is_edge : UE → Type 0} {is_face : F → Type 0} (m : Mesh V DE UE F) (vertices : V × V × V)
@@ -80,7 +72,7 @@ module _ {V DE UE F : Type 0} where
       let a = adjacent_edge_of m f in
       let b = next_of m.shape a in
       let c = prev_of m.shape a in
-      length-set_append m.shape.words f (a ∷ n ∷ (n + 5) ∷ []) ((b ∷ (n + 2) ∷ (n + 1) ∷ []) ∷ (c ∷ (n + 4) ∷ (n + 3) ∷ []) ∷ [])
+      length-patched m.shape.words record { set = (f, a ∷ n ∷ (n + 5) ∷ []) ∷ []; more = (b ∷ (n + 2) ∷ (n + 1) ∷ []) ∷ (c ∷ (n + 4) ∷ (n + 3) ∷ []) ∷ [] }
 
   inserted_triangulated : (m : Mesh V DE UE F) → IsTriangulated m.shape → (v f : ℕ) → f < face_count m.shape
       → (halves : List DE) (edges : List UE) (faces : List F) → IsTriangulated (vertex_inserted m v f halves edges faces).shape
@@ -92,7 +84,7 @@ module _ {V DE UE F : Type 0} where
       record {
         closed = t.closed;
         inner = omega (arith, t.inner, inserted_faces m v f halves edges faces);
-        three = three_more m.shape.words f (a ∷ n ∷ (n + 5) ∷ []) (b ∷ (n + 2) ∷ (n + 1) ∷ []) (c ∷ (n + 4) ∷ (n + 3) ∷ []) refl refl refl within t.three;
+        three = three_more m.shape.words f (a ∷ n ∷ (n + 5) ∷ []) (b ∷ (n + 2) ∷ (n + 1) ∷ []) (c ∷ (n + 4) ∷ (n + 3) ∷ []) refl refl refl t.three;
       }
 
   pub insertion_triangulated : {is_half : DE → Type 0} {is_edge : UE → Type 0} {is_face : F → Type 0} (m n p : Mesh V DE UE F) (datum : V) (v f : ℕ)

@@ -1,8 +1,11 @@
 -- The ends of a line that grows.
-use Rattle.std.proofs.Common.{◌≡◌, ◌≢◌, ℕ, ◌+◌, ◌*◌, ◌/◌, ◌<◌, ◌≤◌, [], ◌∷◌, ◌++◌, slice_index, true, false, refl, subst, ap, sym, ◌∙◌, inl, inr, arith}
+use Rattle.std.proofs.Common.{◌≡◌, ◌≢◌, ℕ, ◌+◌, ◌*◌, ◌/◌, ◌<◌, ◌≤◌, List, [], ◌∷◌, ◌++◌, slice_index, true, false, refl, subst, ap, sym, ◌∙◌, inl, inr, arith}
 use Rattle.std.proofs.lemmas.Bool.{cases_eq, cases_lt}
 use Rattle.std.proofs.lemmas.List.{get_or-append-add, get_or_append_left}
-use Rattle.dcel_maps.specs.Edits.{AddsEdge, IsLineEnd, IsUnconnected, first_edge_added, line_extended, vertex_appended}
+use Rattle.dcel_maps.specs.edits.DefaultData.{AddsEdge}
+use Rattle.dcel_maps.specs.Conditions.{IsLineEnd, IsUnconnected}
+use Rattle.dcel_maps.specs.edits.Create.{first_edge_added, vertex_appended}
+use Rattle.dcel_maps.specs.edits.Line.{line_extended}
 use Rattle.dcel_maps.specs.Removals.{gives_up_edge, gives_up_vertex}
 use Rattle.dcel_maps.specs.Shapes.{Shape, Mesh, IsMesh, IsLive, origin_of, vertex_is_live}
 use Rattle.dcel_maps.proofs.Liveness.{gives_up_edge-past, is_live-from, is_live-grown, is_live-last, is_live-parts}
@@ -39,12 +42,12 @@ module _ {V DE UE F : Type 0} (m : Mesh V DE UE F) where
 
   module _ (mesh : IsMesh m) where
     -- the first edge ends at its second vertex
-    first_end : (a b : ℕ) (forth back : DE) (both : UE) → m.shape.edges ≡ 0 → vertex_is_live m.shape b ≡ true → a ≢ b
-        → IsLineEnd (first_edge_added m a b forth back both).shape b
-    first_end a b forth back both none live apart =
+    first_end : (a b : ℕ) (halves : List DE) (edges : List UE) → m.shape.edges ≡ 0 → vertex_is_live m.shape b ≡ true → a ≢ b
+        → IsLineEnd (first_edge_added m a b halves edges).shape b
+    first_end a b halves edges none live apart =
         let g = gives_up_edge m.shape.removal in
         let kept : g 0 ≡ false = gives_up_edge-past mesh.sized.within 0 (omega (arith, none)) in
-        let only : (k : ℕ) → IsLive (first_edge_added m a b forth back both).shape k
+        let only : (k : ℕ) → IsLive (first_edge_added m a b halves edges).shape k
         → slice_index (a ∷ b ∷ []) k ≡ b → k ≡ 1 =
         λ k k_live starts.
         let below = (is_live-parts g 1 (k / 2) k_live).0 in
@@ -63,7 +66,7 @@ module _ {V DE UE F : Type 0} (m : Mesh V DE UE F) where
         → vertex_is_live m.shape b ≡ true → a ≢ b → AddsEdge is_half is_edge p (first_edge_added m a b) → IsLineEnd p.shape b
     first_edge_end p a b none live apart adds =
         let P : Mesh V DE UE F → Type 0 = λ u. IsLineEnd u.shape b in
-        subst P (sym adds.is) (first_end a b adds.first adds.second adds.both none live apart)
+        subst P (sym adds.is) (first_end a b adds.directed_data adds.undirected_data none live apart)
 
     -- the new vertex is the end of the longer line
     module _ (end tip : ℕ) (line : IsLineEnd m.shape end) (bare : IsUnconnected m.shape tip) where
@@ -78,14 +81,14 @@ module _ {V DE UE F : Type 0} (m : Mesh V DE UE F) where
       apart : end ≢ tip
       apart same = bare.bare line.one.0 line.one.1.out (line.one.1.from ∙ same)
 
-      extended_end : (back forth : DE) (both : UE) → IsLineEnd (line_extended m end tip back forth both).shape tip
-      extended_end back forth both =
+      extended_end : (halves : List DE) (edges : List UE) → IsLineEnd (line_extended m end tip halves edges).shape tip
+      extended_end halves edges =
           let g = gives_up_edge m.shape.removal in
           let e = m.shape.edges in
           let kept : g e ≡ false = gives_up_edge-past mesh.sized.within e (omega arith) in
           let half : 2 * e / 2 ≡ e = omega arith in
-          let out : IsLive (line_extended m end tip back forth both).shape (2 * e) = rw half (is_live-last g e kept) in
-          let only : (k : ℕ) → IsLive (line_extended m end tip back forth both).shape k
+          let out : IsLive (line_extended m end tip halves edges).shape (2 * e) = rw half (is_live-last g e kept) in
+          let only : (k : ℕ) → IsLive (line_extended m end tip halves edges).shape k
           → slice_index (m.shape.origins ++ tip ∷ end ∷ []) k ≡ tip → k ≡ 2 * e =
           λ k live starts.
           elim (cases_lt k (2 * e)) [
@@ -117,4 +120,4 @@ module _ {V DE UE F : Type 0} (m : Mesh V DE UE F) where
           → AddsEdge is_half is_edge p (line_extended m end tip) → IsLineEnd p.shape v
       longer_end p v same adds =
           let P : Mesh V DE UE F → Type 0 = λ u. IsLineEnd u.shape tip in
-          rw same (subst P (sym adds.is) (extended_end adds.first adds.second adds.both))
+          rw same (subst P (sym adds.is) (extended_end adds.directed_data adds.undirected_data))

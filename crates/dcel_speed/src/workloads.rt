@@ -1,7 +1,7 @@
 //! The workloads: what each builds, does and answers. Only the work itself is timed.
 
 ghost use Rattle.std.specs.Prelude.{◌≡◌, IfOk, OnOk};
-ghost use Rattle.dcel_maps.specs.Edits.{HasRoom, IsLineEnd};
+ghost use Rattle.dcel_maps.specs.Conditions.{HasRoom, IsLineEnd};
 ghost use Rattle.spade_dcel.specs.Handles.{mesh_behind, number_of};
 ghost use Rattle.dcel_maps.specs.Shapes.{IsLive};
 ghost use Rattle.dcel_speed.specs.Growth.{IsGrown, IsTriangulated};

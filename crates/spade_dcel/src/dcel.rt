@@ -2,7 +2,7 @@
 
 ghost use Rattle.std.specs.Prelude.{◌≡◌, ℕ, ◌*◌, ◌^◌, ◌<◌, ◌≤◌, ◌↔◌, IsTrue, length, true};
 ghost use Rattle.dcel_maps.specs.Checked.{IsChecked, LooksTriangulated, EvenHalfFits, PartsFaces};
-ghost use Rattle.dcel_maps.specs.Edits.{HasRoom, IsUnconnected, IsLineEnd, IsTriangle};
+ghost use Rattle.dcel_maps.specs.Conditions.{HasRoom, IsUnconnected, IsLineEnd, IsTriangle};
 ghost use Rattle.spade_dcel.specs.Handles.{mesh_behind, number_of};
 ghost use Rattle.dcel_maps.specs.Removals.{Closed};
 ghost use Rattle.dcel_maps.specs.Shapes.{IsLive, vertex_is_live, edge_is_live, face_is_live, face_count, next_of, prev_of, face_of, origin_of, vertex_anchor, face_anchor};

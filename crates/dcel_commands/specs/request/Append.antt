@@ -6,7 +6,7 @@ use Rattle.dcel_commands.specs.declared.refusal.Refusal.TheVariants.{NoRoom}
 use Rattle.dcel_commands.specs.Conditions.{RoomFor}
 use Rattle.dcel_commands.specs.Grammar.{Datum}
 use Rattle.dcel_commands.specs.Rules.{CommandRule}
-use Rattle.dcel_maps.specs.Edits.{vertex_appended}
+use Rattle.dcel_maps.specs.edits.Create.{vertex_appended}
 
 abbrev pub append : {V : Type 0} → V → CommandRule V
 append datum = record {

@@ -6,7 +6,8 @@ use Rattle.dcel_commands.specs.declared.refusal.Refusal.TheVariants.{NoSuchVerte
 use Rattle.dcel_commands.specs.Conditions.{VertexInRange, VertexLive, Different, Unconnected, LineEnd, RoomFor}
 use Rattle.dcel_commands.specs.Grammar.{Number}
 use Rattle.dcel_commands.specs.Rules.{CommandRule}
-use Rattle.dcel_maps.specs.Edits.{AddsEdge, line_extended}
+use Rattle.dcel_maps.specs.edits.DefaultData.{AddsEdge}
+use Rattle.dcel_maps.specs.edits.Line.{line_extended}
 
 abbrev pub extend : {V : Type 0} → ℕ → ℕ → CommandRule V
 extend a b = record {

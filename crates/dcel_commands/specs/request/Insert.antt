@@ -6,7 +6,8 @@ use Rattle.dcel_commands.specs.declared.refusal.Refusal.TheVariants.{NoSuchVerte
 use Rattle.dcel_commands.specs.Conditions.{VertexInRange, InnerFaceInRange, VertexLive, FaceLive, Unconnected, ThreeHalves, RoomFor}
 use Rattle.dcel_commands.specs.Grammar.{Number}
 use Rattle.dcel_commands.specs.Rules.{CommandRule}
-use Rattle.dcel_maps.specs.Edits.{AddsEdgesAndFaces, vertex_inserted}
+use Rattle.dcel_maps.specs.edits.DefaultData.{AddsEdgesAndFaces}
+use Rattle.dcel_maps.specs.edits.Triangle.{vertex_inserted}
 
 abbrev pub insert : {V : Type 0} → ℕ → ℕ → CommandRule V
 insert v f = record {

@@ -6,7 +6,8 @@ use Rattle.dcel_commands.specs.declared.refusal.Refusal.TheVariants.{NoSuchVerte
 use Rattle.dcel_commands.specs.Conditions.{VertexInRange, VertexLive, Different, NoEdge, RoomFor}
 use Rattle.dcel_commands.specs.Grammar.{Number}
 use Rattle.dcel_commands.specs.Rules.{CommandRule}
-use Rattle.dcel_maps.specs.Edits.{AddsEdge, first_edge_added}
+use Rattle.dcel_maps.specs.edits.DefaultData.{AddsEdge}
+use Rattle.dcel_maps.specs.edits.Create.{first_edge_added}
 
 abbrev pub setup : {V : Type 0} → ℕ → ℕ → CommandRule V
 setup a b = record {

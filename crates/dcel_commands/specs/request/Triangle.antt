@@ -6,7 +6,8 @@ use Rattle.dcel_commands.specs.declared.refusal.Refusal.TheVariants.{NoRoom}
 use Rattle.dcel_commands.specs.Conditions.{RoomForMesh}
 use Rattle.dcel_commands.specs.Grammar.{Datum}
 use Rattle.dcel_commands.specs.Rules.{CommandRule}
-use Rattle.dcel_maps.specs.Edits.{AddsEdgesAndFaces, triangle_alone}
+use Rattle.dcel_maps.specs.edits.DefaultData.{AddsEdgesAndFaces}
+use Rattle.dcel_maps.specs.edits.Triangle.{triangle_alone}
 
 abbrev pub triangle : {V : Type 0} → V → V → V → CommandRule V
 triangle x y z = record {

@@ -1,7 +1,8 @@
 -- Maps that agree on all that is live, and maps with no live edge.
 use Rattle.std.proofs.Common.{◌≡◌, ◌/◌, ◌≤◌, ℕ, false, sym, refl, ◌∙◌, arith}
 use Rattle.std.proofs.lemmas.Bool.{false≢true}
-use Rattle.dcel_maps.specs.Maps.{Live, Map, Sound, Sphere}
+use Rattle.dcel_maps.specs.Maps.{Live, Map}
+use Rattle.dcel_maps.specs.theory.Sound.{Sound, Sphere}
 use Rattle.dcel_maps.proofs.maps.Edits.{Renamed}
 use Rattle.dcel_maps.proofs.maps.Renames.{renamed_keeps, renamed_sound}
 

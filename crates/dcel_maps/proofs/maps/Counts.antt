@@ -1,7 +1,8 @@
 -- How many numbers pass a test, and when a vertex or a face is counted.
 use Rattle.std.proofs.Common.{◌≡◌, ◌≢◌, inl, inr, ◌+◌, ◌*◌, ◌/◌, ◌<◌, ◌≤◌, ◌==◌, ℕ, zero, suc, Bool, true, false, cond, eqb-true, eq-eqb, sym, refl, ap, ◌∙◌, add-one, arith}
 use Rattle.std.proofs.lemmas.Bool.{cases_eq, false≢true, and_parts, and_from, or_cases, or_left, or_right, false_from_ne_true}
-use Rattle.dcel_maps.specs.Maps.{Live, Map, Sound, any_below, count, has_label, is_used}
+use Rattle.dcel_maps.specs.Maps.{Live, Map, any_below, count, has_label, is_used}
+use Rattle.dcel_maps.specs.theory.Sound.{Sound}
 
 -- tests that agree below n pass equally often
 pub count_same : (p q : ℕ → Bool) (n : ℕ) → ((k : ℕ) → k < n → p k ≡ q k) → count p n ≡ count q n

@@ -1,7 +1,8 @@
 -- An ear, a chord over two neighbours, keeps a map sound and a sphere.
 use Rattle.std.proofs.Common.{◌≡◌, ◌≢◌, ℕ, true, sym, ap, ◌∙◌, subst, arith}
 use Rattle.std.proofs.lemmas.Bool.Decides.{nat_tests}
-use Rattle.dcel_maps.specs.Maps.{Live, Map, Sound, Sphere}
+use Rattle.dcel_maps.specs.Maps.{Live, Map}
+use Rattle.dcel_maps.specs.theory.Sound.{Sound, Sphere}
 use Rattle.dcel_maps.proofs.maps.Edits.{Chord, ChordAt, Ear, EarAt, two}
 use Rattle.dcel_maps.proofs.maps.Soundness.{face_cycles, next_differs}
 use Rattle.dcel_maps.proofs.maps.Chords.{chord_keeps}

@@ -3,7 +3,8 @@ use Rattle.std.proofs.Common.{◌≡◌, ◌≢◌, ℕ, zero, suc, ◌+◌, ◌
 use Rattle.std.proofs.lemmas.Bool.{false≢true}
 use Rattle.std.proofs.lemmas.Bool.Decides.{nat_tests}
 use Rattle.dcel_fixed.specs.HalfEdges.{rev}
-use Rattle.dcel_maps.specs.Maps.{Map, Live, Sound, Sphere}
+use Rattle.dcel_maps.specs.Maps.{Map, Live}
+use Rattle.dcel_maps.specs.theory.Sound.{Sound, Sphere}
 use Rattle.dcel_maps.proofs.maps.Edits.{FirstEdge, Grows, Spur, Ear, two as pair}
 use Rattle.dcel_maps.proofs.maps.Firsts.{first_keeps}
 use Rattle.dcel_maps.proofs.maps.Spurs.{spur_keeps}

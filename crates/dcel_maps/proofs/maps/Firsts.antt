@@ -1,7 +1,8 @@
 -- The first edge is sound and a sphere.
 use Rattle.std.proofs.Common.{◌≡◌, ◌≢◌, inl, inr, ◌/◌, ◌<◌, ◌==◌, ℕ, Bool, false, eq-eqb, sym, refl, ap, ◌∙◌, subst, arith}
 use Rattle.std.proofs.lemmas.Bool.{cases_eq, false≢true, ne_eqb}
-use Rattle.dcel_maps.specs.Maps.{By, Live, Map, NextOrRev, Reaches, Sound, Sphere, ccw, count, has_word, starts_edge}
+use Rattle.dcel_maps.specs.Maps.{By, Live, Map, NextOrRev, Reaches, ccw, count, starts_edge}
+use Rattle.dcel_maps.specs.theory.Sound.{Sound, Sphere, has_word}
 use Rattle.dcel_fixed.specs.HalfEdges.{rev}
 use Rattle.dcel_maps.specs.Maps.Reaches.{here}
 use Rattle.dcel_maps.proofs.maps.Edits.{FirstEdge}

@@ -1,7 +1,8 @@
 -- What the edits that add an edge share.
 use Rattle.std.proofs.Common.{◌≡◌, ◌≢◌, ◌⊎◌, inl, inr, ◌+◌, ◌/◌, ◌<◌, ℕ, true, false, sym, refl, ap, ◌∙◌, subst, arith}
 use Rattle.std.proofs.lemmas.Bool.{cases_eq}
-use Rattle.dcel_maps.specs.Maps.{Connected, Live, Map, NextOrRev, Reaches, Sound, Sphere, ccw, count, has_word, starts_edge}
+use Rattle.dcel_maps.specs.Maps.{Connected, Live, Map, NextOrRev, Reaches, ccw, count, starts_edge}
+use Rattle.dcel_maps.specs.theory.Sound.{Sound, Sphere, has_word}
 use Rattle.dcel_fixed.specs.HalfEdges.{rev}
 use Rattle.dcel_maps.specs.Maps.Reaches.{go, here}
 use Rattle.dcel_maps.proofs.maps.Counts.{Used, count_more, count_past, edge_past, labels_more, labels_same}

@@ -1,7 +1,8 @@
 -- Spurs and ears as functions of the map before.
 use Rattle.std.proofs.Common.{◌≡◌, ◌+◌, ◌/◌, ℕ, true, false, max, refl, arith}
 use Rattle.std.proofs.lemmas.Bool.Decides.{nat_tests}
-use Rattle.dcel_maps.specs.Maps.{Map, Sound}
+use Rattle.dcel_maps.specs.Maps.{Map}
+use Rattle.dcel_maps.specs.theory.Sound.{Sound}
 use Rattle.dcel_fixed.specs.HalfEdges.{rev}
 use Rattle.dcel_maps.proofs.maps.Edits.{Drawn, Ear, EarAt, Spur, SpurAt}
 use Rattle.dcel_maps.proofs.maps.Halves.{rev_differs}

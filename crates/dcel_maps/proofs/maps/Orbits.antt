@@ -1,9 +1,10 @@
 -- Each half edge of a sound map stands in one word.
 use Rattle.std.proofs.Common.{◌≡◌, ◌≢◌, ◌⊎◌, inl, inr, ◌≤◌, ℕ, suc, List, [], ◌∷◌, length, sym, refl, ap, ◌∙◌, subst, arith}
 use Rattle.std.proofs.lemmas.Bool.{cases_eq}
-use Rattle.dcel_maps.specs.Maps.{By, Live, Map, Reaches, Sound}
+use Rattle.dcel_maps.specs.Maps.{By, Live, Map, Reaches}
+use Rattle.dcel_maps.specs.theory.Sound.{Sound}
 use Rattle.dcel_maps.specs.Maps.Reaches.{go, here}
-use Rattle.dcel_maps.specs.Walks.{Path}
+use Rattle.dcel_maps.specs.theory.Cycles.{Path}
 use Rattle.dcel_maps.proofs.maps.Reaching.{reaches_stays}
 use Rattle.dcel_maps.proofs.maps.Soundness.{face_cycles}
 use Rattle.dcel_maps.proofs.maps.Words.{After, In, IsWord, Once, WordOf}

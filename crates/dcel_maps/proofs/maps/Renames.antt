@@ -1,7 +1,8 @@
 -- Other numbers keep a map sound and a sphere.
 use Rattle.std.proofs.Common.{◌≡◌, ◌≢◌, inl, inr, ◌+◌, ◌*◌, ◌/◌, ◌<◌, ◌≤◌, ℕ, zero, suc, Bool, true, false, sym, refl, ap, ◌∙◌, subst, subst₂, arith}
 use Rattle.std.proofs.lemmas.Bool.{cases_Bool}
-use Rattle.dcel_maps.specs.Maps.{By, Connected, Live, Map, NextOrRev, Reaches, Sound, Sphere, ccw, count, has_word, is_used, starts_edge}
+use Rattle.dcel_maps.specs.Maps.{By, Connected, Live, Map, NextOrRev, Reaches, ccw, count, is_used, starts_edge}
+use Rattle.dcel_maps.specs.theory.Sound.{Sound, Sphere, has_word}
 use Rattle.dcel_fixed.specs.HalfEdges.{rev}
 use Rattle.dcel_maps.proofs.maps.Edits.{Renamed}
 use Rattle.dcel_maps.proofs.maps.Halves.{rev_half, rev_or_same}

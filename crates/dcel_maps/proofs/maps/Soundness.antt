@@ -1,7 +1,8 @@
 -- What is known in a sound map, and how to show that a map is sound.
 use Rattle.std.proofs.Common.{◌≡◌, ◌≢◌, inl, inr, ◌/◌, ◌<◌, ℕ, false, sym, refl, ap, ◌∙◌, subst}
 use Rattle.std.proofs.lemmas.Bool.{false≢true}
-use Rattle.dcel_maps.specs.Maps.{By, Live, Map, NextOrRev, Reaches, Sound, ccw}
+use Rattle.dcel_maps.specs.Maps.{By, Live, Map, NextOrRev, Reaches, ccw}
+use Rattle.dcel_maps.specs.theory.Sound.{Sound}
 use Rattle.dcel_fixed.specs.HalfEdges.{rev}
 use Rattle.dcel_maps.proofs.maps.Halves.{rev_half}
 use Rattle.dcel_maps.proofs.maps.Reaching.{step}

@@ -1,7 +1,8 @@
 -- A spur keeps a map sound and a sphere.
 use Rattle.std.proofs.Common.{◌≡◌, inl, inr, ◌/◌, ◌<◌, ℕ, sym, refl, ap, ◌∙◌, arith}
 use Rattle.std.proofs.lemmas.Bool.{cases_eq}
-use Rattle.dcel_maps.specs.Maps.{Connected, Live, Map, Sound, Sphere, ccw, has_word}
+use Rattle.dcel_maps.specs.Maps.{Connected, Live, Map, ccw}
+use Rattle.dcel_maps.specs.theory.Sound.{Sound, Sphere, has_word}
 use Rattle.dcel_fixed.specs.HalfEdges.{rev}
 use Rattle.dcel_maps.specs.Maps.Reaches.{go}
 use Rattle.dcel_maps.proofs.maps.Counts.{Used, labels_same}

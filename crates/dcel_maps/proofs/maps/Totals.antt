@@ -1,7 +1,8 @@
 -- Counting half edges face by face: the lengths of the words add up to the number of live half edges.
 use Rattle.std.proofs.Common.{◌≡◌, ◌≢◌, inl, inr, ◌+◌, ◌*◌, ◌/◌, ◌<◌, ◌==◌, ◌&&◌, ◌||◌, ℕ, zero, suc, Bool, true, false, eqb-true, eq-eqb, List, [], ◌∷◌, length, sym, refl, ap, ◌∙◌, subst, add-one, arith}
 use Rattle.std.proofs.lemmas.Bool.{cases_eq, cases_Bool, false≢true, and_parts, and_from, and_left, or_cases, or_left, or_right, false_from_ne_true}
-use Rattle.dcel_maps.specs.Maps.{Live, Map, Sound, count, has_label}
+use Rattle.dcel_maps.specs.Maps.{Live, Map, count, has_label}
+use Rattle.dcel_maps.specs.theory.Sound.{Sound}
 use Rattle.dcel_maps.proofs.maps.Counts.{count_more, count_none, count_same, same_tests}
 use Rattle.dcel_maps.proofs.maps.Words.{In, Once, WordOf}
 

@@ -1,7 +1,7 @@
 -- Words: the half edges of a face, as a list that is read round.
 use Rattle.std.proofs.Common.{◌≡◌, ◌≢◌, ◌↔◌, ◌⊎◌, ℕ, List, [], ◌∷◌}
 use Rattle.dcel_maps.specs.Maps.{Live, Map}
-use Rattle.dcel_maps.specs.Walks.{IsCycle}
+use Rattle.dcel_maps.specs.theory.Cycles.{IsCycle}
 
 -- y comes after x in the word of f
 abbrev pub After : Map → ℕ → ℕ → ℕ → Type 0

@@ -4,9 +4,9 @@ use Rattle.std.proofs.lemmas.Bool.{cases_Bool, cases_eq, true_from_ne_false}
 use Rattle.dcel_maps.specs.Laws.{ccw_lawful}
 use Rattle.dcel_maps.specs.Removals.{gives_up_edge}
 use Rattle.dcel_maps.specs.Shapes.{Shape, IsLive, IsSound, edge_is_live, face_of, map_of, next_of, prev_of}
-use Rattle.dcel_maps.specs.Standing.{Follows, Stands}
+use Rattle.dcel_maps.specs.theory.Standing.{Follows, Stands}
 use Rattle.dcel_maps.specs.Walking.{IsLawful, ccw_of, cw_of}
-use Rattle.dcel_maps.specs.Walks.{IsCycle}
+use Rattle.dcel_maps.specs.theory.Cycles.{IsCycle}
 use Rattle.dcel_maps.specs.Words.{count_of, occurs, next_in_word, prev_in_word, word_of}
 use Rattle.dcel_maps.proofs.Liveness.{is_live-parts}
 use Rattle.dcel_maps.proofs.words.Counts.{count-le_occurs, two_words}

@@ -4,7 +4,7 @@ use Rattle.std.proofs.lemmas.Bool.{both_ways, cases_eq, cases_lt}
 use Rattle.dcel_maps.specs.Maps.{By}
 use Rattle.dcel_maps.specs.Shapes.{Shape, IsLive, edge_is_live}
 use Rattle.dcel_maps.specs.Walking.{IsLawful, IsUnderWay, StepsTo, live_half_edges}
-use Rattle.dcel_maps.specs.Walks.{Path}
+use Rattle.dcel_maps.specs.theory.Cycles.{Path}
 use Rattle.dcel_maps.specs.Words.{count_of}
 use Rattle.dcel_maps.proofs.walks.Lengths.{count-le, length-le_twice}
 use Rattle.dcel_maps.proofs.walks.Links.{half-below}

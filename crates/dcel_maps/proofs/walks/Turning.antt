@@ -3,7 +3,7 @@ use Rattle.std.proofs.Common.{ℕ, ◌<◌, inl, inr, List, [], ◌∷◌, Optio
 use Rattle.dcel_maps.specs.Maps.{By, Reaches, ccw}
 use Rattle.dcel_maps.specs.Shapes.{Shape, Mesh, AnchorsVertex, IsLive, IsMesh, IsSound, map_of, vertex_anchor}
 use Rattle.dcel_maps.specs.Walking.{IsOutEdge, IsRoundTrip, ListsOnce, ccw_of, out_edges_of, walk_from, walk_of}
-use Rattle.dcel_maps.specs.Walks.{Path}
+use Rattle.dcel_maps.specs.theory.Cycles.{Path}
 use Rattle.dcel_maps.specs.Words.{count_of}
 use Rattle.dcel_maps.proofs.maps.Reaching.{reaches_stays, step}
 use Rattle.dcel_maps.proofs.walks.Links.{ccw-lawful}

@@ -4,7 +4,8 @@ use Rattle.std.proofs.lemmas.Bool.{false≢true, ne_eqb}
 use Rattle.std.proofs.lemmas.List.{length-map}
 use Rattle.dcel_maps.specs.Shapes.{Shape, IsLive, edge_is_live}
 use Rattle.dcel_maps.specs.Walking.{IsLawful, IsRoundTrip, IsUnderWay, IsWalking, StepsTo, in_mesh, live_half_edges, to_come, walk_of}
-use Rattle.dcel_maps.specs.Walks.{Path, up_to}
+use Rattle.dcel_maps.specs.theory.Cycles.{Path}
+use Rattle.dcel_maps.specs.Walks.{up_to}
 use Rattle.dcel_maps.specs.Words.{count_of}
 use Rattle.dcel_maps.proofs.walks.Lengths.{count-le}
 use Rattle.dcel_maps.proofs.walks.Returning.{items_live, length-live, starts, steps_of}

@@ -1,7 +1,7 @@
 -- Maps that link the same half edges stand for the same words.
 use Rattle.std.proofs.Common.{◌≡◌, ℕ, ◌/◌, ◌≤◌, List, sym, ◌∙◌, arith}
 use Rattle.dcel_maps.specs.Maps.{Map, Live}
-use Rattle.dcel_maps.specs.Standing.{Follows, Stands}
+use Rattle.dcel_maps.specs.theory.Standing.{Follows, Stands}
 use Rattle.dcel_maps.specs.Words.{word_of}
 use Rattle.dcel_maps.proofs.maps.Agreement.{Extends}
 use Rattle.dcel_maps.proofs.words.Paths.{IsCycle-weaker}

@@ -2,7 +2,7 @@
 use Rattle.std.proofs.Common.{◌≡◌, ◌≢◌, ◌↔◌, ◌∙◌, inl, inr, ℕ, zero, suc, ◌+◌, ◌*◌, ◌<◌, List, [], ◌∷◌, ◌++◌, length, map, cond, eqb, refl, subst, ap, sym, arith, eq-eqb, append-nil, length-append, Option, Some, None}
 use Rattle.std.proofs.lemmas.Bool.{cases_eq, ne_eqb}
 use Rattle.dcel_maps.specs.Shapes.{AnchorsWord}
-use Rattle.dcel_maps.specs.Walks.{Path, IsCycle}
+use Rattle.dcel_maps.specs.theory.Cycles.{Path, IsCycle}
 use Rattle.dcel_maps.specs.Words.{count_of, occurs, total_length, word_of, become, IsLeastFirst}
 use Rattle.dcel_maps.proofs.words.Counts.{count-same, count-other, count-append, absent_head}
 use Rattle.dcel_maps.proofs.words.Paths.{Path-append}

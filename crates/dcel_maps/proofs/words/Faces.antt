@@ -2,9 +2,10 @@
 use Rattle.std.proofs.Common.{◌≡◌, ◌⊎◌, inl, inr, ℕ, ◌*◌, ◌/◌, ◌<◌, ◌≤◌, List, ◌∷◌, length, refl, subst, ap, sym, ◌∙◌, arith}
 use Rattle.std.proofs.lemmas.Bool.{cases_lt}
 use Rattle.std.proofs.lemmas.List.{get_or_past}
-use Rattle.dcel_maps.specs.Maps.{Map, Live, Sound, By}
-use Rattle.dcel_maps.specs.Standing.{Follows, Stands}
-use Rattle.dcel_maps.specs.Walks.{IsCycle}
+use Rattle.dcel_maps.specs.Maps.{Map, Live, By}
+use Rattle.dcel_maps.specs.theory.Sound.{Sound}
+use Rattle.dcel_maps.specs.theory.Standing.{Follows, Stands}
+use Rattle.dcel_maps.specs.theory.Cycles.{IsCycle}
 use Rattle.dcel_maps.specs.Words.{count_of, occurs, total_length, word_of, IsLeastFirst, next_in_word}
 use Rattle.dcel_maps.proofs.maps.Reaching.{reaches_stays}
 use Rattle.dcel_maps.proofs.words.Counts.{count-same, count-none, occurs-alone, total-le, word_with, word_within}

@@ -4,8 +4,8 @@ use Rattle.std.proofs.lemmas.Bool.{cases_eq, false≢true}
 use Rattle.std.proofs.lemmas.List.{length-set, get_or-set_same, get_or-set_other}
 use Rattle.dcel_fixed.specs.HalfEdges.{rev}
 use Rattle.dcel_maps.specs.Maps.{Map, Live}
-use Rattle.dcel_maps.specs.Standing.{Follows, Stands}
-use Rattle.dcel_maps.specs.Walks.{IsCycle}
+use Rattle.dcel_maps.specs.theory.Standing.{Follows, Stands}
+use Rattle.dcel_maps.specs.theory.Cycles.{IsCycle}
 use Rattle.dcel_maps.specs.Words.{count_of, occurs, total_length, word_of, IsLeastFirst}
 use Rattle.dcel_maps.proofs.maps.Edits.{FirstEdge}
 use Rattle.dcel_maps.proofs.maps.Halves.{rev_or_same}

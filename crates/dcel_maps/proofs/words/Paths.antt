@@ -1,7 +1,7 @@
 -- Paths and cycles of a relation.
 use Rattle.std.proofs.Common.{◌≡◌, ◌⊎◌, inl, inr, ℕ, ◌<◌, List, [], ◌∷◌, ◌++◌, refl, sym, subst, arith, append-nil, eqb, eq-eqb}
 use Rattle.std.proofs.lemmas.Bool.{cases_eq, cond_both, ne_eqb}
-use Rattle.dcel_maps.specs.Walks.{Path, IsCycle}
+use Rattle.dcel_maps.specs.theory.Cycles.{Path, IsCycle}
 use Rattle.dcel_maps.specs.Words.{count_of, next_in_word, prev_in_word, item_after, item_before, last_of}
 use Rattle.dcel_maps.proofs.words.Counts.{count-same, count-other, count-later, first_or_later}
 

@@ -4,7 +4,7 @@ use Rattle.std.proofs.lemmas.Bool.{cases_lt, cases_Bool, lt-ltb, le-ltb, falseâ‰
 use Rattle.std.proofs.lemmas.List.{length-map, get_or-map, ext_get_or}
 use Rattle.dcel_maps.specs.Maps.{Map, Live, By}
 use Rattle.dcel_maps.specs.Shapes.{AnchorsWord}
-use Rattle.dcel_maps.specs.Standing.{Follows, Stands}
+use Rattle.dcel_maps.specs.theory.Standing.{Follows, Stands}
 use Rattle.dcel_maps.specs.Walks.{anchored_word, anchored_words}
 use Rattle.dcel_maps.specs.Words.{count_of, occurs, word_of, next_in_word, prev_in_word, next_in, prev_in, face_in}
 use Rattle.dcel_maps.proofs.words.Counts.{count-le_occurs, length-le_total, occurs-none, word_within, count-none}

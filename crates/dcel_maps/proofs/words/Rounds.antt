@@ -1,7 +1,7 @@
 -- In a word where no item stands twice, the item after and the item before are those beside it.
 use Rattle.std.proofs.Common.{◌≡◌, ◌≢◌, ℕ, ◌≤◌, List, [], ◌∷◌, ◌++◌, refl, sym, ap, ◌∙◌, arith, eq-eqb, append_assoc}
 use Rattle.std.proofs.lemmas.Bool.{ne_eqb}
-use Rattle.dcel_maps.specs.Walks.{Path, IsCycle}
+use Rattle.dcel_maps.specs.theory.Cycles.{Path, IsCycle}
 use Rattle.dcel_maps.specs.Words.{count_of, item_after, item_before, last_of, next_in_word, prev_in_word}
 use Rattle.dcel_maps.proofs.words.Counts.{absent_head, count-append, count-same}
 

@@ -1,38 +1,40 @@
--- After a spur the links stand for the words with a spur.
-use Rattle.std.proofs.Common.{◌≡◌, ◌≢◌, ◌↔◌, inl, inr, ℕ, ◌+◌, ◌*◌, ◌/◌, ◌≤◌, List, [], ◌∷◌, length, subst, ap, sym, ◌∙◌, arith, Option}
-use Rattle.std.proofs.lemmas.Bool.{cases_eq, cases_Bool, false≢true}
-use Rattle.std.proofs.lemmas.List.{length-map}
+-- After a spur: the word that it is put into, and the faces that stay.
+use Rattle.std.proofs.Common.{◌≡◌, ◌≢◌, inl, inr, ℕ, ◌*◌, ◌/◌, ◌<◌, ◌≤◌, true, false, List, [], ◌∷◌, map, nat_lt, slice_set, lt-ltb, le-ltb, subst, ap, sym, ◌∙◌, refl, arith}
+use Rattle.std.proofs.lemmas.Bool.{cases_eq, false≢true}
 use Rattle.dcel_fixed.specs.HalfEdges.{rev}
-use Rattle.dcel_maps.specs.Maps.{Map, Live, Sound}
-use Rattle.dcel_maps.specs.Shapes.{AnchorsWord}
-use Rattle.dcel_maps.specs.Standing.{Follows, Stands}
-use Rattle.dcel_maps.specs.Walks.{Path}
-use Rattle.dcel_maps.specs.Words.{count_of, occurs, total_length, become, word_of, with_spur}
+use Rattle.dcel_maps.specs.Maps.{Map, Live}
+use Rattle.dcel_maps.specs.theory.Sound.{Sound}
+use Rattle.dcel_maps.specs.theory.Standing.{Follows}
+use Rattle.dcel_maps.specs.theory.Cycles.{Path}
+use Rattle.dcel_maps.specs.Words.{become, count_of, face_in, occurs, with_spur, word_of}
 use Rattle.dcel_maps.proofs.maps.Edits.{Spur}
-use Rattle.dcel_maps.proofs.maps.Growth.{Grown, not_new_edge, still_live}
+use Rattle.dcel_maps.proofs.maps.Growth.{Grown, live_cases, not_new_edge, still_live}
 use Rattle.dcel_maps.proofs.maps.Halves.{rev_half, rev_differs, rev_or_same}
+use Rattle.dcel_maps.proofs.maps.Soundness.{face_cycles}
 use Rattle.dcel_maps.proofs.maps.Spurs.{spur_grown}
-use Rattle.dcel_maps.proofs.words.Becoming.{occurs-become, total-become, word_of-become, become_empty, IsCycle-become, IsLeastFirst-become, AnchorsWord-become}
-use Rattle.dcel_maps.proofs.words.Counts.{count-equal, count-other}
-use Rattle.dcel_maps.proofs.words.Reading.{live_in, dead_in_none}
+use Rattle.dcel_maps.proofs.words.Becoming.{IsCycle-become, IsLeastFirst-become, become-none, count-become}
+use Rattle.dcel_maps.proofs.words.Counts.{count-equal, count-other, count-none}
+use Rattle.dcel_maps.proofs.words.Faces.{IsWordOf, KeepsFace}
+use Rattle.dcel_maps.proofs.words.Paths.{next_in_word-follows}
 
--- what a spur makes of the words
-module _ (ws : List (List ℕ)) (x out back : ℕ) where
-  pub length-with_spur : length (with_spur ws x out back) ≡ length ws
-  length-with_spur = length-map ws (become x (x ∷ out ∷ back ∷ []))
+-- a spur changes one word, that of its face
+become_nowhere : (x : ℕ) (items : List ℕ) (ws : List (List ℕ)) → occurs x ws ≡ 0 → map (become x items) ws ≡ ws
+become_nowhere x items [] none = refl
+become_nowhere x items (w ∷ ws) none =
+    rw (become-none x items w (omega (arith, none)), become_nowhere x items ws (omega (arith, none))) refl
 
-  pub total-with_spur : total_length (with_spur ws x out back) ≡ total_length ws + 2 * occurs x ws
-  total-with_spur = total-become x (out ∷ back ∷ []) ws
-
-  pub word_of-with_spur : (f : ℕ) → word_of (with_spur ws x out back) f ≡ become x (x ∷ out ∷ back ∷ []) (word_of ws f)
-  word_of-with_spur f = word_of-become x (x ∷ out ∷ back ∷ []) ws f
-
-  pub with_spur_empty : (f : ℕ) → (word_of (with_spur ws x out back) f ≡ []) ↔ (word_of ws f ≡ [])
-  with_spur_empty f = rw word_of-become (become_empty x (out ∷ back ∷ []) (word_of ws f))
-
-  pub AnchorsWord-with_spur : (f : ℕ) (o : Option ℕ) → AnchorsWord (word_of ws f) o
-      → AnchorsWord (word_of (with_spur ws x out back) f) o
-  AnchorsWord-with_spur f o anchored = rw word_of-become (AnchorsWord-become x (out ∷ back ∷ []) (word_of ws f) o anchored)
+pub with_spur-set : (ws : List (List ℕ)) (x out back : ℕ) → occurs x ws ≡ 1
+    → with_spur ws x out back ≡ slice_set ws (face_in ws x) (become x (x ∷ out ∷ back ∷ []) (word_of ws (face_in ws x)))
+unfolding face_in
+with_spur-set [] x out back once = absurd (omega (arith, once))
+with_spur-set (w ∷ ws) x out back once = elim (cases_eq (count_of x w) 0) [
+  | inl none ↦
+      let later : nat_lt 0 (count_of x w) ≡ false = le-ltb 0 (count_of x w) (omega (arith, none)) in
+      rw (later, become-none x (x ∷ out ∷ back ∷ []) w none) (ap (λ r. w ∷ r) (with_spur-set ws x out back (omega (arith, once, none))))
+  | inr some ↦
+      let here : nat_lt 0 (count_of x w) ≡ true = lt-ltb 0 (count_of x w) (omega (arith, some)) in
+      rw (here, become_nowhere x (x ∷ out ∷ back ∷ []) ws (omega (arith, once, some))) refl
+]
 
 -- a half edge stands among the halves of its edge, once, and of no other
 count-halves : (x h : ℕ) → x / 2 ≡ h / 2 → count_of x (h ∷ rev h ∷ []) ≡ 1
@@ -89,37 +91,46 @@ module _ (S T : Map) (a h v : ℕ) (e : Spur S T a h v) (sound : Sound S) where
       } in
       (out, (tip, back))
 
-  module _ (ws : List (List ℕ)) (st : Stands S ws) (above : S.edges ≤ h / 2) where
-    a_once : occurs a ws ≡ 1
-    a_once = st.once a e.at.lives
+  abbrev f : ℕ
+  f = S.face a
 
-    once : (x : ℕ) → Live T x → occurs x (with_spur ws a h (rev h)) ≡ 1
-    once x live =
-        let all = rw a_once at (occurs-become x a (h ∷ rev h ∷ []) ws) in
-        elim (cases_Bool (S.edge (x / 2))) [
-          | inl old ↦ omega (arith, all, st.once x old, count-halves_other x h (not_new_edge S T h grown x old))
-          | inr new ↦
-              elim (cases_eq (x / 2) (h / 2)) [
-                | inl same ↦ omega (arith, all, dead_in_none S ws st x new, count-halves x h same)
-                | inr differs ↦ absurd (false≢true (sym new ∙ sym (e.edge_other (x / 2) differs) ∙ live))
-              ]
-        ]
+  -- the word with the spur
+  pub spur_word : S.edges ≤ h / 2 → (back : ℕ) → rev h ≡ back → (w : List ℕ) → IsWordOf S f w → IsWordOf T f (become a (a ∷ h ∷ back ∷ []) w)
+  spur_word above back turned w word =
+      let lies : (x : ℕ) → 0 < count_of x w → Live S x =
+      λ x found. (next_in_word-follows (Follows S f) w word.cycle x found).live in
+      let dead : (x : ℕ) → S.edge (x / 2) ≡ false → count_of x w ≡ 0 =
+      λ x fresh. count-none x w (λ y found is. false≢true (sym fresh ∙ ap (λ z. S.edge (z / 2)) is ∙ lies y found)) in
+      let here : count_of a w ≡ 1 = word.once a e.at.lives refl in
+      rw (← turned)
+      record {
+        cycle = IsCycle-become (Follows S f) (Follows T f) a (h ∷ rev h ∷ []) (kept f) (put f) w word.cycle;
+        once = λ x live at.
+            let all = rw here at (count-become x a (h ∷ rev h ∷ []) w) in
+            let new : x / 2 ≡ h / 2 → count_of x (become a (a ∷ h ∷ rev h ∷ []) w) ≡ 1 =
+            λ same. omega (arith, all, dead x (ap S.edge same ∙ e.at.fresh), count-halves x h same) in
+            elim (live_cases S T h grown x live) [
+              | inl old ↦
+                  omega (arith, all, word.once x old (sym (e.face_other x old) ∙ at), count-halves_other x h (not_new_edge S T h grown x old))
+              | inr (inl is) ↦ new (ap (λ z. z / 2) is)
+              | inr (inr is) ↦ new (ap (λ z. z / 2) is ∙ rev_half h)
+            ];
+        least = IsLeastFirst-become a (h ∷ rev h ∷ []) w (2 * (h / 2))
+            (λ x less. count-halves_other x h (omega arith))
+            (λ x found. let below = sound.below_edges x (lies x found) in omega arith)
+            word.least;
+      }
 
-    both_ways : Stands T (with_spur ws a h (rev h))
-    both_ways = record {
-      faces = length-with_spur ws a h (rev h) ∙ st.faces ∙ sym e.faces;
-      cycles = λ f within.
-          rw word_of-become (IsCycle-become (Follows S f) (Follows T f) a (h ∷ rev h ∷ []) (kept f) (put f)
-          (word_of ws f) (st.cycles f (rw length-map at within)));
-      once = once;
-      least = λ f within.
-          rw word_of-become (IsLeastFirst-become a (h ∷ rev h ∷ []) (word_of ws f) (2 * (h / 2))
-          (λ x less. count-halves_other x h (omega arith))
-          (λ x found. let below = sound.below_edges x (live_in S ws st x f found) in omega arith)
-          (st.least f (rw length-map at within)));
-      short = omega (arith, total-with_spur ws a h (rev h), a_once, st.short, e.edge_below, above);
-    }
-
-    -- a spur whose edge is above all others
-    pub spur_stands : (back : ℕ) → back ≡ rev h → Stands T (with_spur ws a h back)
-    spur_stands back turned = subst (λ b. Stands T (with_spur ws a h b)) (sym turned) both_ways
+  -- the other faces stay
+  pub spur-keeps_face : (k : ℕ) → k ≢ f → KeepsFace S T k
+  spur-keeps_face k differs = record {
+    comes = λ x live at. elim (live_cases S T h grown x live) [
+      | inl old ↦ (old, sym (e.face_other x old) ∙ at)
+      | inr (inl is) ↦ absurd (differs (sym at ∙ ap T.face is ∙ e.face_h))
+      | inr (inr is) ↦ absurd (differs (sym at ∙ ap T.face is ∙ e.face_rev))
+    ];
+    live = λ x live at. still_live S T h grown x live;
+    next = λ x live at. e.next_other x live (λ is. differs (sym at ∙ ap S.face is));
+    prev = λ x live at. e.prev_other x live (λ is. differs (sym at ∙ ap S.face is ∙ (face_cycles S sound).along a e.at.lives));
+    face = λ x live at. e.face_other x live ∙ at;
+  }

@@ -1,11 +1,17 @@
 -- Words written from one of their half edges, and those of three.
-use Rattle.std.proofs.Common.{◌≡◌, ◌↔◌, ℕ, ◌≤◌, List, [], ◌∷◌, length, refl, subst, ap, sym, ◌∙◌, arith}
-use Rattle.dcel_maps.specs.Maps.{Map, Live, Sound}
-use Rattle.dcel_maps.specs.Standing.{Follows, Stands}
-use Rattle.dcel_maps.specs.Walks.{IsCycle}
+use Rattle.std.proofs.Common.{◌≡◌, ◌↔◌, ℕ, ◌<◌, ◌≤◌, List, [], ◌∷◌, length, refl, subst, ap, sym, ◌∙◌, arith}
+use Rattle.std.proofs.lemmas.Bool.Decides.{nat_tests}
+use Rattle.dcel_maps.specs.Cyclic.{from_least}
+use Rattle.dcel_maps.specs.Maps.{Map, Live}
+use Rattle.dcel_maps.specs.theory.Sound.{Sound}
+use Rattle.dcel_maps.specs.theory.Standing.{Follows, Stands}
+use Rattle.dcel_maps.specs.theory.Cycles.{IsCycle}
 use Rattle.dcel_maps.specs.Words.{count_of, word_of}
 use Rattle.dcel_maps.proofs.maps.Soundness.{next_differs}
-use Rattle.dcel_maps.proofs.words.Counts.{count-same, count-equal}
+use Rattle.dcel_maps.proofs.maps.Triangles.{IsTriangleOf}
+use Rattle.dcel_maps.proofs.words.Counts.{count-same, count-equal, count-other}
+use Rattle.dcel_maps.proofs.words.Cyclic.{from_least-kept, from_least-word}
+use Rattle.dcel_maps.proofs.words.Faces.{IsWordOf}
 use Rattle.dcel_maps.proofs.words.Reading.{count-le, face-below, stands_in_face}
 use Rattle.dcel_maps.proofs.words.Turns.{TurnsTo, turned_to, turned_to-is, count-turn, length-turn, IsCycle-turn}
 
@@ -66,3 +72,28 @@ module _ (M : Map) (ws : List (List ℕ)) (st : Stands M ws) (h : ℕ) (live : L
         λ long. closes w.rest (length-turn w.turn ∙ long) w.cycle,
         λ back. sym (length-turn w.turn) ∙ closed s back w.rest w.cycle w.single,
       )
+
+-- the word of a triangle, from its least half edge on
+module _ (M : Map) (s : Sound M) (f x y z : ℕ) (a : IsTriangleOf M f x y z) where
+  once : (h : ℕ) → count_of h (x ∷ y ∷ z ∷ []) ≤ 1
+  once h =
+      let p = a.x≢y in
+      let q = a.y≢z in
+      let o = a.x≢z in
+      grind (arith, nat_tests)
+
+  pub triangle-word_of : IsWordOf M f (from_least (x ∷ y ∷ z ∷ []))
+  triangle-word_of =
+      from_least-word M s f x (y ∷ z ∷ []) (
+        record { live = a.live_x; next = a.next_x; prev = a.prev_y; face = a.face_x },
+        (
+          record { live = a.live_y; next = a.next_y; prev = a.prev_z; face = a.face_y },
+          record { live = a.live_z; next = a.next_z; prev = a.prev_x; face = a.face_z },
+        ),
+      ) once
+
+  pub triangle-word : x < y → x < z → IsWordOf M f (x ∷ y ∷ z ∷ [])
+  triangle-word less_y less_z =
+      subst (IsWordOf M f)
+      (from_least-kept (x ∷ y ∷ z ∷ []) (λ h less. omega (arith, count-other h y (z ∷ []) (λ e. omega (arith, e)), count-other h z [] (λ e. omega (arith, e)))) once)
+      triangle-word_of

@@ -3,7 +3,8 @@ use Rattle.std.proofs.Common.{◌≡◌, ◌≢◌, ◌⊎◌, ◌↔◌, inl, i
 use Rattle.std.proofs.lemmas.Bool.{cases_eq, cases_lt, ne_eqb}
 use Rattle.std.proofs.lemmas.List.{nil_from_length}
 use Rattle.dcel_maps.specs.Shapes.{AnchorsWord}
-use Rattle.dcel_maps.specs.Walks.{least_of, IsCycle}
+use Rattle.dcel_maps.specs.Walks.{least_of}
+use Rattle.dcel_maps.specs.theory.Cycles.{IsCycle}
 use Rattle.dcel_maps.specs.Words.{count_of, IsLeastFirst}
 pub use Rattle.dcel_maps.specs.Words.{TurnsTo}
 use Rattle.dcel_maps.proofs.words.Counts.{count-same, count-other, count-append, count-later}

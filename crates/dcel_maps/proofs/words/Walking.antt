@@ -3,7 +3,8 @@ use Rattle.std.proofs.Common.{◌≡◌, ◌≢◌, ◌⊎◌, inl, inr, ℕ, ze
 use Rattle.std.proofs.lemmas.Bool.{cases_eq, cases_lt, ne_eqb}
 use Rattle.dcel_maps.specs.Maps.{By}
 use Rattle.dcel_maps.specs.Shapes.{AnchorsWord}
-use Rattle.dcel_maps.specs.Walks.{up_to, walk, least_of, word_at, anchored_word, Path, IsCycle}
+use Rattle.dcel_maps.specs.Walks.{up_to, walk, least_of, word_at, anchored_word}
+use Rattle.dcel_maps.specs.theory.Cycles.{Path, IsCycle}
 use Rattle.dcel_maps.specs.Words.{count_of, IsLeastFirst}
 use Rattle.dcel_maps.proofs.words.Counts.{count-same, count-other, count-append, absent_head, split_at}
 use Rattle.dcel_maps.proofs.words.Paths.{Path-append, Path-split}

@@ -1,7 +1,9 @@
 //! A mesh, its vertices and its first edge.
 
 ghost use Rattle.std.specs.Prelude.{◌≡◌, ◌≢◌, IfOk, IfErr, OnErr, OnOk, true};
-ghost use Rattle.dcel_maps.specs.Edits.{HasRoom, IsNew, AddsEdge, vertex_appended, first_edge_added};
+ghost use Rattle.dcel_maps.specs.Conditions.{HasRoom};
+ghost use Rattle.dcel_maps.specs.edits.Create.{IsNew, vertex_appended, first_edge_added};
+ghost use Rattle.dcel_maps.specs.edits.DefaultData.{AddsEdge};
 ghost use Rattle.dcel_maps.specs.Shapes.{IsMesh, vertex_is_live};
 
 use crate::dcel::Dcel;
@@ -9,7 +11,7 @@ use crate::operations::NoMemory;
 use crate::removal::RemovalRecord;
 use dcel_edits::create::put_first_edge;
 use dcel_fixed::FixedVertexHandle;
-use dcel_store::{EdgeData, Store};
+use dcel_store::Store;
 use std::alloc::{AllocError, Allocator};
 
 /// An empty mesh: no vertex, no edge, and the outer face with a default datum. It is refused where there is no memory.
@@ -67,11 +69,6 @@ pub fn setup_initial_two_vertices<V, DE: Default, UE: Default, F, A: Allocator>(
     ensures mesh { IsMesh dcel.new }
 {
     dcel.store.reserve(0, 1, 0)?;
-    put_first_edge(
-        &mut dcel.store,
-        first_vertex,
-        second_vertex,
-        EdgeData::default(),
-    );
+    put_first_edge(&mut dcel.store, first_vertex, second_vertex);
     Ok(())
 }

@@ -1,13 +1,14 @@
 //! Lines.
 
 ghost use Rattle.std.specs.Prelude.{◌≡◌, IfOk, OnErr, OnOk};
-ghost use Rattle.dcel_maps.specs.Edits.{HasRoom, IsUnconnected, IsLineEnd, AddsEdge, line_extended};
+ghost use Rattle.dcel_maps.specs.Conditions.{HasRoom, IsUnconnected, IsLineEnd};
+ghost use Rattle.dcel_maps.specs.edits.DefaultData.{AddsEdge};
+ghost use Rattle.dcel_maps.specs.edits.Line.{line_extended};
 ghost use Rattle.dcel_maps.specs.Shapes.{IsMesh};
 
 use crate::dcel::Dcel;
 use dcel_edits::line::put_spur;
 use dcel_fixed::FixedVertexHandle;
-use dcel_store::EdgeData;
 use std::alloc::{AllocError, Allocator};
 
 /// Makes a line longer at an end: a new edge leads from `end_vertex` to `new_vertex`, which it answers. It asks that `end_vertex` has
@@ -31,11 +32,6 @@ pub fn extend_line<V, DE: Default, UE: Default, F, A: Allocator>(
         Some(edge) => edge,
         None => unreachable!(),
     };
-    put_spur(
-        &mut dcel.store,
-        out_edge.rev(),
-        new_vertex,
-        EdgeData::default(),
-    );
+    put_spur(&mut dcel.store, out_edge.rev(), new_vertex);
     Ok(new_vertex)
 }

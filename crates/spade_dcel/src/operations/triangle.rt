@@ -1,7 +1,9 @@
 //! Triangles.
 
 ghost use Rattle.std.specs.Prelude.{◌≡◌, ◌<◌, IfOk, IfErr, OnErr, OnOk};
-ghost use Rattle.dcel_maps.specs.Edits.{HasRoom, IsUnconnected, IsTriangle, AddsEdgesAndFaces, triangle_alone, vertex_inserted};
+ghost use Rattle.dcel_maps.specs.Conditions.{HasRoom, IsUnconnected, IsTriangle};
+ghost use Rattle.dcel_maps.specs.edits.DefaultData.{AddsEdgesAndFaces};
+ghost use Rattle.dcel_maps.specs.edits.Triangle.{triangle_alone, vertex_inserted};
 ghost use Rattle.dcel_maps.specs.Shapes.{IsMesh};
 
 use crate::dcel::Dcel;

@@ -1,4 +1,4 @@
-use Rattle.std.proofs.Common.{Some, None, [], slice_set, refl, sym, ◌∙◌}
+use Rattle.std.proofs.Common.{Some, None, [], refl, sym, ◌∙◌}
 use Rattle.std.proofs.lemmas.List.{set_at}
 use Rattle.dcel_edits.proofs.elements.push_anchored_vertex.Goals as goal
 

@@ -1,14 +1,16 @@
 use Rattle.std.proofs.Common.{refl}
 use Rattle.dcel_fixed.proofs.Halves.{rev-double}
+use Rattle.dcel_maps.proofs.edits.Adding.{adds_edge}
+use Rattle.dcel_edits.specs.Spurs.{spur_stored}
 use Rattle.dcel_edits.proofs.line.put_spur.Goals as goal
 
 pub returns : goal.returns
-returns g c =
-    rw (
+returns g c = adds_edge g.DE.Default.is_default g.UE.Default.is_default (spur_stored c.args.store.now c.args.before c.args.tip) c.default.ensures
+    (rw (
       c.set_vertex_anchor.ensures,
+      c.push_edge.ensures,
       c.set_prev.ensures,
       c.set_next.ensures,
-      c.push_edge.ensures,
       c.rev-forth.ensures,
       c.new_normalized-back.ensures,
       c.num_edges.ensures.count,
@@ -16,4 +18,4 @@ returns g c =
       c.origin-from.ensures,
       c.face-face.ensures,
       c.next-after.ensures,
-    ) refl
+    ) refl)

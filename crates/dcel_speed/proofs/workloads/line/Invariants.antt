@@ -1,5 +1,5 @@
 use Rattle.std.proofs.Common.{◌-◌}
-use Rattle.dcel_maps.specs.Edits.{HasRoom, IsLineEnd}
+use Rattle.dcel_maps.specs.Conditions.{HasRoom, IsLineEnd}
 use Rattle.dcel_speed.proofs.workloads.line.Given as goal
 
 abbrev pub invariant-loop-index : goal.invariant-loop-index

@@ -1,5 +1,5 @@
 use Rattle.std.proofs.Common.{◌-◌, ◌*◌}
-use Rattle.dcel_maps.specs.Edits.{HasRoom}
+use Rattle.dcel_maps.specs.Conditions.{HasRoom}
 use Rattle.dcel_speed.specs.Growth.{IsTriangulated}
 use Rattle.dcel_speed.proofs.workloads.triangulated.Given as goal
 

@@ -1,4 +1,4 @@
-use Rattle.std.proofs.Common.{◌≢◌, ◌*◌, ◌<◌, sym, ap, ◌∙◌, arith}
+use Rattle.std.proofs.Common.{◌≢◌, ◌*◌, sym, ap, ◌∙◌, arith}
 use Rattle.std.proofs.lemmas.Bool.{false≢true}
 use Rattle.dcel_maps.specs.Shapes.{face_of}
 use Rattle.dcel_maps.proofs.Liveness.{closed-live, closed-even_live}

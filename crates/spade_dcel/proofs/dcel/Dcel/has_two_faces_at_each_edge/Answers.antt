@@ -1,8 +1,6 @@
-use Rattle.std.proofs.Common.{◌≡◌, ◌<◌, ◌+◌, ◌*◌, sym, ap, ◌∙◌, arith, below_more, eq-eqb, eqb-true}
+use Rattle.std.proofs.Common.{sym, ◌∙◌, arith, below_more, eq-eqb, eqb-true}
 use Rattle.std.proofs.lemmas.Bool.{false≢true}
 use Rattle.dcel_fixed.proofs.Halves.{rev-double}
-use Rattle.dcel_fixed.specs.HalfEdges.{rev}
-use Rattle.dcel_maps.specs.Shapes.{face_of}
 use Rattle.dcel_maps.proofs.Liveness.{closed-live, closed-even_live, closed-odd_live}
 use Rattle.spade_dcel.proofs.dcel.Dcel.has_two_faces_at_each_edge.Goals as goal
 

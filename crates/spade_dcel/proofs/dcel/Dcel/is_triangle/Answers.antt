@@ -1,4 +1,4 @@
-use Rattle.std.proofs.Common.{sym, ap, ◌∙◌, None, slice_index_or}
+use Rattle.std.proofs.Common.{sym, ◌∙◌}
 use Rattle.dcel_edits.proofs.FaceWords.{anchored_triangle-iff}
 use Rattle.dcel_edits.proofs.Reading.{face_anchor-lies}
 use Rattle.spade_dcel.proofs.dcel.Dcel.is_triangle.Goals as goal

@@ -1,5 +1,5 @@
 use Rattle.dcel_edits.proofs.Public.{mesh-is-mesh}
-use Rattle.dcel_edits.proofs.stored.Appending.{append_holds}
+use Rattle.dcel_edits.proofs.stored.Creating.{append_holds}
 use Rattle.dcel_edits.proofs.stored.Holding.{reserved_holds}
 use Rattle.spade_dcel.proofs.operations.create.append_unconnected_vertex.Goals as goal
 

@@ -1,6 +1,6 @@
 use Rattle.std.proofs.Common.{◌-◌}
 use Rattle.dcel_edits.proofs.Public.{mesh-is-mesh}
-use Rattle.dcel_edits.proofs.stored.Appending.{new_holds}
+use Rattle.dcel_edits.proofs.stored.Creating.{new_holds}
 use Rattle.spade_dcel.proofs.operations.create.new.Goals as goal
 
 pub invariant_of-result : goal.invariant_of-result

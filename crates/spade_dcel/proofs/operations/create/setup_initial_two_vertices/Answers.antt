@@ -1,5 +1,5 @@
 use Rattle.dcel_edits.proofs.Public.{mesh-is-mesh}
-use Rattle.dcel_edits.proofs.stored.Beginning.{first_in, outer_in, second_in, setup_edit, setup_stored}
+use Rattle.dcel_edits.proofs.stored.Creating.{begun, first_in, outer_in, second_in}
 use Rattle.dcel_edits.proofs.stored.Holding.{reserved_holds}
 use Rattle.spade_dcel.proofs.operations.create.setup_initial_two_vertices.Goals as goal
 
@@ -12,30 +12,25 @@ returns-in_err-reserve-clause-mesh g c = mesh-is-mesh _ _ (invariant_of-dcel g c
 pub put_first_edge-requires : goal.put_first_edge-requires
 put_first_edge-requires g c =
     let held = reserved_holds _ _ _ _ c.reserve.ensures.same c.dcel.invariant c.dcel.view_is in
+    let q = c.requires in
     record {
       place = c.in_ok-reserve.ensures.room.for_edges;
-      first_in = first_in _ _ _ held _ _ c.requires.no_edge c.requires.first_live c.requires.second_live c.requires.apart;
-      second_in = second_in _ _ _ held _ _ c.requires.no_edge c.requires.first_live c.requires.second_live c.requires.apart;
-      outer = outer_in _ _ _ held _ _ c.requires.no_edge c.requires.first_live c.requires.second_live c.requires.apart;
+      first_in = first_in _ _ _ held _ _ q.no_edge q.first_live q.second_live q.apart q.room;
+      second_in = second_in _ _ _ held _ _ q.no_edge q.first_live q.second_live q.apart q.room;
+      outer = outer_in _ _ _ held _ _ q.no_edge q.first_live q.second_live q.apart q.room;
     }
 
 pub invariant_of-dcel-2 : goal.invariant_of-dcel-2
 invariant_of-dcel-2 g c =
     let held = reserved_holds _ _ _ _ c.reserve.ensures.same c.dcel.invariant c.dcel.view_is in
-    rw c.put_first_edge.ensures (setup_stored _ _ _ held _ _ c.requires.no_edge c.requires.first_live c.requires.second_live c.requires.apart _ _ _)
+    let q = c.requires in
+    (begun _ _ _ held _ _ q.no_edge q.first_live q.second_live q.apart q.room c.put_first_edge.ensures).stored
 
 pub returns-clause-edit : goal.returns-clause-edit
 returns-clause-edit g c =
     let held = reserved_holds _ _ _ _ c.reserve.ensures.same c.dcel.invariant c.dcel.view_is in
-    record {
-      first = c.default.result.normalized;
-      second = c.default.result.reversed;
-      both = c.default.result.undirected;
-      first_default = c.default.ensures.0;
-      second_default = c.default.ensures.1.0;
-      both_default = c.default.ensures.1.1;
-      is = rw c.put_first_edge.ensures (setup_edit _ _ _ held _ _ c.requires.no_edge c.requires.first_live c.requires.second_live c.requires.apart _ _ _);
-    }
+    let q = c.requires in
+    (begun _ _ _ held _ _ q.no_edge q.first_live q.second_live q.apart q.room c.put_first_edge.ensures).edit
 
 pub returns-clause-mesh : goal.returns-clause-mesh
 returns-clause-mesh g c = mesh-is-mesh _ _ (invariant_of-dcel-2 g c)

@@ -1,7 +1,7 @@
 use Rattle.std.proofs.Common.{sym}
 use Rattle.dcel_edits.proofs.Public.{mesh-is-mesh}
 use Rattle.dcel_edits.proofs.stored.Holding.{reserved_holds}
-use Rattle.dcel_edits.proofs.stored.Lines.{extend_anchored, extend_can, extend_edit, extend_stored}
+use Rattle.dcel_edits.proofs.stored.Lines.{extend_anchored, extend_can, extended}
 use Rattle.spade_dcel.proofs.operations.line.extend_line.Goals as goal
 
 pub invariant_of-dcel : goal.invariant_of-dcel
@@ -23,20 +23,12 @@ put_spur-requires g c =
 pub invariant_of-dcel-2 : goal.invariant_of-dcel-2
 invariant_of-dcel-2 g c =
     let held = reserved_holds _ _ _ _ c.reserve.ensures.same c.dcel.invariant c.dcel.view_is in
-    rw (c.put_spur.ensures, c.rev.ensures) (extend_stored _ _ _ held _ _ c.requires.line_end c.requires.unconnected c.requires.room _ (sym c.in-Some.ensures) _ _ _)
+    (extended _ _ _ held _ _ c.requires.line_end c.requires.unconnected c.requires.room _ (sym c.in-Some.ensures) (rw c.rev.ensures at c.put_spur.ensures)).stored
 
 pub returns-clause-edit : goal.returns-clause-edit
 returns-clause-edit g c =
     let held = reserved_holds _ _ _ _ c.reserve.ensures.same c.dcel.invariant c.dcel.view_is in
-    record {
-      first = c.default.result.normalized;
-      second = c.default.result.reversed;
-      both = c.default.result.undirected;
-      first_default = c.default.ensures.0;
-      second_default = c.default.ensures.1.0;
-      both_default = c.default.ensures.1.1;
-      is = rw (c.put_spur.ensures, c.rev.ensures) (extend_edit _ _ _ held _ _ c.requires.line_end c.requires.unconnected c.requires.room _ (sym c.in-Some.ensures) _ _ _);
-    }
+    (extended _ _ _ held _ _ c.requires.line_end c.requires.unconnected c.requires.room _ (sym c.in-Some.ensures) (rw c.rev.ensures at c.put_spur.ensures)).edit
 
 pub returns-clause-mesh : goal.returns-clause-mesh
 returns-clause-mesh g c = mesh-is-mesh _ _ (invariant_of-dcel-2 g c)

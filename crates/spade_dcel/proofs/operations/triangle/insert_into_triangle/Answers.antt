@@ -1,7 +1,6 @@
-use Rattle.std.proofs.Common.{None, slice_index_or}
 use Rattle.dcel_edits.proofs.Public.{mesh-is-mesh}
 use Rattle.dcel_edits.proofs.stored.Holding.{reserved_holds}
-use Rattle.dcel_edits.proofs.stored.Triangles.{insert_can, insert_edit, insert_stored}
+use Rattle.dcel_edits.proofs.stored.Inserting.{insert_can, inserted_holds}
 use Rattle.spade_dcel.proofs.operations.triangle.insert_into_triangle.Goals as goal
 
 pub invariant_of-dcel : goal.invariant_of-dcel
@@ -20,13 +19,13 @@ pub invariant_of-dcel-2 : goal.invariant_of-dcel-2
 invariant_of-dcel-2 g c =
     let held = reserved_holds _ _ _ _ c.reserve.ensures.same c.dcel.invariant c.dcel.view_is in
     let some = rw (c.face_anchor.ensures, c.adjust_inner_outer.ensures) at c.in-Some.is in
-    insert_stored _ _ _ held _ _ _ c.requires.triangle c.requires.unconnected c.requires.room some _ _ _ _ c.put_insertion.ensures
+    (inserted_holds _ _ _ held _ _ _ c.requires.triangle c.requires.unconnected c.requires.room some c.put_insertion.ensures).stored
 
 pub returns-clause-edit : goal.returns-clause-edit
 returns-clause-edit g c =
     let held = reserved_holds _ _ _ _ c.reserve.ensures.same c.dcel.invariant c.dcel.view_is in
     let some = rw (c.face_anchor.ensures, c.adjust_inner_outer.ensures) at c.in-Some.is in
-    insert_edit _ _ _ held _ _ _ c.requires.triangle c.requires.unconnected c.requires.room some _ _ _ _ c.put_insertion.ensures
+    (inserted_holds _ _ _ held _ _ _ c.requires.triangle c.requires.unconnected c.requires.room some c.put_insertion.ensures).edit
 
 pub returns-clause-mesh : goal.returns-clause-mesh
 returns-clause-mesh g c = mesh-is-mesh _ _ (invariant_of-dcel-2 g c)

@@ -1,7 +1,7 @@
 -- What it is for the links of a map to stand for words.
 use Rattle.std.specs.Prelude.{◌≡◌, ℕ, ◌*◌, ◌<◌, ◌≤◌, List, length}
 use Rattle.dcel_maps.specs.Maps.{Map, Live}
-use Rattle.dcel_maps.specs.Walks.{IsCycle}
+use Rattle.dcel_maps.specs.theory.Cycles.{IsCycle}
 use Rattle.dcel_maps.specs.Words.{occurs, total_length, word_of, IsLeastFirst}
 
 -- the links say that q comes after p on the face f

@@ -1,0 +1,189 @@
+-- A spur put into a mesh: an edge from the end of a half edge to a vertex that had none.
+use Rattle.std.proofs.Common.{◌≡◌, ◌≢◌, inl, inr, ℕ, ◌+◌, ◌*◌, ◌/◌, ◌<◌, true, false, List, [], ◌∷◌, length, Some, add-zero, refl, sym, ap, ◌∙◌, subst, arith}
+use Rattle.std.proofs.lemmas.Bool.{cases_eq}
+use Rattle.dcel_fixed.specs.HalfEdges.{rev}
+use Rattle.dcel_fixed.proofs.Halves.{rev-double-suc}
+use Rattle.dcel_maps.specs.Conditions.{HasRoom, IsUnconnected}
+use Rattle.dcel_maps.specs.Maps.{Live, Map}
+use Rattle.dcel_maps.specs.theory.Sound.{Sound, Sphere}
+use Rattle.dcel_maps.specs.Removals.{gives_up_edge, gives_up_vertex}
+use Rattle.dcel_maps.specs.Shapes.{IsLive, IsMesh, Mesh, face_anchor, face_of, map_of, next_of, origin_of, vertex_is_live}
+use Rattle.dcel_maps.specs.theory.Standing.{Stands}
+use Rattle.dcel_maps.specs.Words.{become, count_of, word_of}
+use Rattle.dcel_maps.proofs.Liveness.{is_live-parts, is_live-past}
+use Rattle.dcel_maps.proofs.edits.Changes.{Change, IsEdit, map_after}
+use Rattle.dcel_maps.proofs.edits.Growing.{after-each, after-edge, after-face, after-new, after-next, after-origin, after-prev, still_labelled}
+use Rattle.dcel_maps.proofs.edits.Patches.{patched_at-first, patched_at-new, pushing, replacing}
+use Rattle.dcel_maps.proofs.maps.Counts.{Used}
+use Rattle.dcel_maps.proofs.maps.Edits.{Spur}
+use Rattle.dcel_maps.proofs.maps.Labels.{KeepsLabel, labelled-kept}
+use Rattle.dcel_maps.proofs.maps.Spurs.{spur_keeps}
+use Rattle.dcel_maps.proofs.maps.Updates.{put_other, put_same}
+use Rattle.dcel_maps.proofs.shapes.Maps.{face-live, map-sound, map-sphere}
+use Rattle.dcel_maps.proofs.shapes.Shown.{word-anchored}
+use Rattle.dcel_maps.proofs.walks.Links.{links_stand, next-live}
+use Rattle.dcel_maps.proofs.words.Becoming.{become_empty}
+use Rattle.dcel_maps.proofs.words.Faces.{word_of_face}
+use Rattle.dcel_maps.proofs.words.Reading.{face-below, stands_in_face}
+use Rattle.dcel_maps.proofs.words.Spurs.{spur-keeps_face, spur_word}
+
+module _ {V DE UE F : Type 0} (m : Mesh V DE UE F) where
+  -- the edge n / 2 put in after the half edge `before`, with `after` behind it on the face f; `from` is where the two meet
+  abbrev pub spur : ℕ → ℕ → ℕ → ℕ → ℕ → ℕ → List DE → List UE → Change V DE UE F
+  spur n before after f from tip halves edges = record {
+    vertices = 0;
+    edges = 1;
+    faces = 0;
+    words = replacing ((f, become before (before ∷ (n + 1) ∷ n ∷ []) (word_of m.shape.words f)) ∷ []);
+    next = record { set = (before, n + 1) ∷ []; more = after ∷ n ∷ [] };
+    prev = record { set = (after, n) ∷ []; more = (n + 1) ∷ before ∷ [] };
+    origin = pushing (tip ∷ from ∷ []);
+    face = pushing (f ∷ f ∷ []);
+    vertex_anchors = replacing ((tip, Some n) ∷ []);
+    face_anchors = replacing [];
+    vertex_data = [];
+    directed_data = halves;
+    undirected_data = edges;
+    face_data = [];
+  }
+
+  module _ (mesh : IsMesh m) (before tip : ℕ) (live : IsLive m.shape before) (unconnected : IsUnconnected m.shape tip)
+      (room : HasRoom m.shape 0 1 0) (halves : List DE) (edges : List UE) (two : length halves ≡ 2) (one : length edges ≡ 1) where
+    abbrev n : ℕ
+    n = 2 * m.shape.edges
+
+    abbrev after : ℕ
+    after = next_of m.shape before
+
+    abbrev f : ℕ
+    f = face_of m.shape before
+
+    abbrev c : Change V DE UE F
+    c = spur n before after f (origin_of m.shape after) tip halves edges
+
+    abbrev S : Map
+    S = map_of m.shape
+
+    abbrev T : Map
+    T = map_after m.shape c
+
+    after_live : IsLive m.shape after
+    after_live = next-live mesh.sound before live
+
+    turned : rev (n + 1) ≡ n
+    turned = rev-double-suc m.shape.edges
+
+    half : (n + 1) / 2 ≡ m.shape.edges
+    half = omega arith
+
+    first_live : Live T n
+    first_live = after-new m.shape c mesh.sized.within n (omega arith) (omega arith)
+
+    second_live : Live T (n + 1)
+    second_live = after-new m.shape c mesh.sized.within (n + 1) (omega arith) (omega arith)
+
+    tip_parts : (tip < m.shape.vertices) × (gives_up_vertex m.shape.removal tip ≡ false)
+    tip_parts = is_live-parts (gives_up_vertex m.shape.removal) m.shape.vertices tip unconnected.live
+
+    is_spur : Spur S T before (n + 1) tip
+    is_spur = record {
+      at = record {
+        lives = live;
+        fresh = is_live-past (gives_up_edge m.shape.removal) m.shape.edges ((n + 1) / 2) (omega (arith, half));
+        isolated = unconnected.bare;
+        vertex_room = tip_parts.0;
+      };
+      drawn = record {
+        grows = record { edge_here = second_live; edge_other = λ u differs. after-edge m.shape c u (λ less. omega (arith, less, differs, half)); edges = omega arith; edge_below = omega (arith, half); vertices = add-zero m.shape.vertices };
+        origin_h = patched_at-new _ n c.origin 1;
+        origin_rev = ap T.origin turned ∙ patched_at-first _ n c.origin;
+        origin_other = after-origin m.shape c;
+      };
+      next_a = after-next m.shape c before live ∙ put_same (next_of m.shape) before (n + 1);
+      next_h = patched_at-new _ n c.next 1 ∙ sym turned;
+      next_rev = ap T.next turned ∙ patched_at-first _ n c.next;
+      next_other = λ x lives differs. after-next m.shape c x lives ∙ put_other _ before (n + 1) x differs;
+      prev_b = after-prev m.shape c after after_live ∙ put_same _ after n ∙ sym turned;
+      prev_rev = ap T.prev turned ∙ patched_at-first _ n c.prev;
+      prev_h = patched_at-new _ n c.prev 1;
+      prev_other = λ x lives differs. after-prev m.shape c x lives ∙ put_other _ after n x differs;
+      face_h = patched_at-new _ n c.face 1;
+      face_rev = ap T.face turned ∙ patched_at-first _ n c.face;
+      face_other = after-face m.shape c;
+      faces = add-zero (length m.shape.words);
+    }
+
+    sound : Sound S
+    sound = map-sound mesh.sound
+
+    keeps : Sound T × Sphere T
+    keeps = spur_keeps S T before (n + 1) tip is_spur sound (map-sphere mesh.sound mesh.sphere)
+
+    words : Stands S m.shape.words
+    words = links_stand mesh.sound
+
+    word_full : word_of m.shape.words f ≢ []
+    word_full empty =
+        let none : 0 < count_of before [] = subst (λ w. 0 < count_of before w) empty (stands_in_face S m.shape.words words before live) in omega (arith, none)
+
+    back : T.origin n ≡ tip
+    back = patched_at-first _ n c.origin
+
+    -- an old or new half edge of f shows that f had one
+    same_face : KeepsLabel S T (face_of m.shape) T.face f
+    same_face =
+        let used : Used S (face_of m.shape) f = record { half = before; live = live; is = refl } in
+        still_labelled m.shape c (face_of m.shape) T.face f (after-face m.shape c) (λ at. used, λ at. used)
+
+    not_given_up : (v : ℕ) → vertex_is_live m.shape v ≡ true → gives_up_vertex m.shape.removal v ≡ false
+    not_given_up v lives = (is_live-parts (gives_up_vertex m.shape.removal) m.shape.vertices v lives).1
+
+    pub spur_is_edit : IsEdit m c
+    spur_is_edit = record {
+      room = room;
+      fits = record {
+        vertex_data = refl;
+        vertex_anchors = refl;
+        undirected_data = one;
+        directed_data = two;
+        next = refl;
+        prev = refl;
+        origin = refl;
+        face = refl;
+        face_data = refl;
+        face_anchors = refl;
+        words = refl;
+      };
+      on_live = record { next = (live, tt); prev = (after_live, tt); origin = tt; face = tt };
+      sound = keeps.0;
+      sphere = keeps.1;
+      starts = after-each m.shape c (λ h. gives_up_vertex m.shape.removal (T.origin h) ≡ false)
+          (λ h lives. rw (after-origin m.shape c h lives) (not_given_up _ (mesh.sound.starts_live h lives)))
+          ((rw back tip_parts.1), (rw is_spur.origin_h (not_given_up _ (mesh.sound.starts_live after after_live))));
+      words = (
+        (
+          record {
+            word = spur_word S T before (n + 1) tip is_spur sound (omega (arith, half)) n turned (word_of m.shape.words f) (word_of_face S m.shape.words words f);
+            full = λ empty. word_full ((become_empty before ((n + 1) ∷ n ∷ []) (word_of m.shape.words f)).0 empty);
+          },
+          face-live mesh.sound before live,
+        ),
+        tt,
+      );
+      new_words = tt;
+      other_words = λ k k_in away. spur-keeps_face S T before (n + 1) tip is_spur sound k away.0;
+      outer = λ u lives away. (before / 2, live);
+      vertex_anchors = ((first_live, back), tt);
+      new_vertex_anchors = tt;
+      other_vertices = λ v v_in away.
+          still_labelled m.shape c (origin_of m.shape) T.origin v (after-origin m.shape c)
+          (λ at. absurd (away.0 (sym at ∙ back)), λ at. record { half = after; live = after_live; is = sym is_spur.origin_h ∙ at });
+      face_anchors = tt;
+      new_face_anchors = tt;
+      other_faces = λ k k_in away. elim (cases_eq k f) [
+        | inl is ↦
+            inr (rw is (labelled-kept S T (face_of m.shape) T.face f (face_anchor m f) same_face
+            (word-anchored S m.shape.words words f (face_anchor m f) (mesh.anchored.faces f (face-below S m.shape.words words before live)))))
+        | inr differs ↦ inl (differs, tt)
+      ];
+    }

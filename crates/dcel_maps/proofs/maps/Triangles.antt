@@ -1,0 +1,130 @@
+-- Triangles of a map.
+use Rattle.std.proofs.Common.{◌≡◌, ◌≢◌, ◌⊎◌, inl, inr, ℕ, refl, sym, ap, ◌∙◌, subst}
+use Rattle.dcel_maps.specs.Maps.{By, Live, Map}
+use Rattle.dcel_maps.specs.theory.Sound.{Sound}
+use Rattle.dcel_maps.proofs.maps.Reaching.{reaches_stays}
+use Rattle.dcel_maps.proofs.maps.Soundness.{face_cycles, next_differs}
+
+-- the face f is the triangle (x, y, z)
+pub record IsTriangleOf (M : Map) (f x y z : ℕ) : Type 0 where
+  pub live_x : Live M x
+  pub live_y : Live M y
+  pub live_z : Live M z
+  pub next_x : M.next x ≡ y
+  pub next_y : M.next y ≡ z
+  pub next_z : M.next z ≡ x
+  pub prev_x : M.prev x ≡ z
+  pub prev_y : M.prev y ≡ x
+  pub prev_z : M.prev z ≡ y
+  pub face_x : M.face x ≡ f
+  pub face_y : M.face y ≡ f
+  pub face_z : M.face z ≡ f
+  pub x≢y : x ≢ y
+  pub y≢z : y ≢ z
+  pub x≢z : x ≢ z
+
+-- three steps that come back go round a triangle
+pub triangle_from : (M : Map) → Sound M → (f x y z : ℕ) → Live M x → M.next x ≡ y → M.next y ≡ z → M.next z ≡ x → M.face x ≡ f
+    → IsTriangleOf M f x y z
+triangle_from M s f x y z live first second third face =
+    let live_y : Live M y = subst (Live M) first (s.live_next x live) in
+    let live_z : Live M z = subst (Live M) second (s.live_next y live_y) in
+    let along = (face_cycles M s).along in
+    let face_y : M.face y ≡ f = ap M.face (sym first) ∙ along x live ∙ face in
+    record {
+      live_x = live;
+      live_y = live_y;
+      live_z = live_z;
+      next_x = first;
+      next_y = second;
+      next_z = third;
+      prev_x = ap M.prev (sym third) ∙ s.prev-next z live_z;
+      prev_y = ap M.prev (sym first) ∙ s.prev-next x live;
+      prev_z = ap M.prev (sym second) ∙ s.prev-next y live_y;
+      face_x = face;
+      face_y = face_y;
+      face_z = ap M.face (sym second) ∙ along y live_y ∙ face_y;
+      x≢y = λ same. next_differs M s x live (first ∙ sym same);
+      y≢z = λ same. next_differs M s y live_y (second ∙ sym same);
+      x≢z = λ same. next_differs M s z live_z (third ∙ same);
+    }
+
+-- a triangle is one from its last half edge on
+pub triangle_turned : (M : Map) (f x y z : ℕ) → IsTriangleOf M f x y z → IsTriangleOf M f z x y
+triangle_turned M f x y z a = record {
+  live_x = a.live_z;
+  live_y = a.live_x;
+  live_z = a.live_y;
+  next_x = a.next_z;
+  next_y = a.next_x;
+  next_z = a.next_y;
+  prev_x = a.prev_z;
+  prev_y = a.prev_x;
+  prev_z = a.prev_y;
+  face_x = a.face_z;
+  face_y = a.face_x;
+  face_z = a.face_y;
+  x≢y = λ is. a.x≢z (sym is);
+  y≢z = a.x≢y;
+  x≢z = λ is. a.y≢z (sym is);
+}
+
+-- nothing lies on the face f but these
+abbrev pub Alone : Map → ℕ → ℕ → ℕ → ℕ → Type 0
+Alone M f x y z = (h : ℕ) → Live M h → M.face h ≡ f → (h ≡ x) ⊎ ((h ≡ y) ⊎ (h ≡ z))
+
+pub alone_turned : (M : Map) (f x y z : ℕ) → Alone M f x y z → Alone M f z x y
+alone_turned M f x y z alone h live at = elim (alone h live at) [ inl is ↦ inr (inl is) | inr (inl is) ↦ inr (inr is) | inr (inr is) ↦ inl is ]
+
+-- the triangle of a half edge from which two steps lead to the one before
+pub triangle_at : (M : Map) → Sound M → (h : ℕ) → Live M h → M.next (M.next h) ≡ M.prev h
+    → IsTriangleOf M (M.face h) h (M.next h) (M.prev h)
+triangle_at M s h live back = triangle_from M s (M.face h) h (M.next h) (M.prev h) live refl back (s.next-prev h live) refl
+
+-- h is not in the triangle (x, y, z)
+abbrev pub Off : ℕ → ℕ → ℕ → ℕ → Type 0
+Off h x y z = (h ≢ x) × (h ≢ y) × (h ≢ z)
+
+-- other half edges lie on other faces
+pub off_triangle : (M : Map) → Sound M → (f x y z : ℕ) → IsTriangleOf M f x y z → (h : ℕ) → Live M h → Off h x y z → M.face h ≢ f
+off_triangle M s f x y z a h live (not_x, not_y, not_z) at =
+    let found : (h ≡ x) ⊎ ((h ≡ y) ⊎ (h ≡ z)) =
+    reaches_stays (By M.next) (λ k. (k ≡ x) ⊎ ((k ≡ y) ⊎ (k ≡ z)))
+    (λ k l k_in steps. elim k_in [
+      | inl is ↦ inr (inl (sym steps ∙ ap M.next is ∙ a.next_x))
+      | inr (inl is) ↦ inr (inr (sym steps ∙ ap M.next is ∙ a.next_y))
+      | inr (inr is) ↦ inl (sym steps ∙ ap M.next is ∙ a.next_z)
+    ]) (inl refl) ((s.one_face x h a.live_x live).0 (a.face_x ∙ sym at)) in
+    elim found [ inl is ↦ not_x is | inr (inl is) ↦ not_y is | inr (inr is) ↦ not_z is ]
+
+-- and what lies on another face is off it
+pub off_face : (M : Map) (f x y z : ℕ) → IsTriangleOf M f x y z → (h : ℕ) → M.face h ≢ f → Off h x y z
+off_face M f x y z a h away =
+    (λ is. away (ap M.face is ∙ a.face_x), λ is. away (ap M.face is ∙ a.face_y), λ is. away (ap M.face is ∙ a.face_z))
+
+-- T links h as S does
+pub record SameLinks (S T : Map) (h : ℕ) : Type 0 where
+  pub next : T.next h ≡ S.next h
+  pub prev : T.prev h ≡ S.prev h
+  pub face : T.face h ≡ S.face h
+
+-- a triangle whose half edges a map links in the same way is one of it
+pub triangle_kept : (S T : Map) (f x y z : ℕ) → IsTriangleOf S f x y z → Live T x → Live T y → Live T z
+    → SameLinks S T x → SameLinks S T y → SameLinks S T z → IsTriangleOf T f x y z
+triangle_kept S T f x y z was live_x live_y live_z at_x at_y at_z = record {
+  live_x = live_x;
+  live_y = live_y;
+  live_z = live_z;
+  next_x = at_x.next ∙ was.next_x;
+  next_y = at_y.next ∙ was.next_y;
+  next_z = at_z.next ∙ was.next_z;
+  prev_x = at_x.prev ∙ was.prev_x;
+  prev_y = at_y.prev ∙ was.prev_y;
+  prev_z = at_z.prev ∙ was.prev_z;
+  face_x = at_x.face ∙ was.face_x;
+  face_y = at_y.face ∙ was.face_y;
+  face_z = at_z.face ∙ was.face_z;
+  x≢y = was.x≢y;
+  y≢z = was.y≢z;
+  x≢z = was.x≢z;
+}

@@ -1,0 +1,3 @@
+-- Shapes: their maps, and shapes that show a map.
+pub mod Maps
+pub mod Shown

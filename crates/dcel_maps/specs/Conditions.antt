@@ -1,0 +1,33 @@
+-- What operations ask of a shape.
+use Rattle.std.specs.Prelude.{◌≡◌, ℕ, ◌+◌, ◌≤◌, ◌^◌, true, length}
+use Rattle.dcel_maps.specs.Maps.{IsBare}
+use Rattle.dcel_maps.specs.Shapes.{Shape, IsLive, vertex_is_live, face_is_live, origin_of, face_count, map_of}
+use Rattle.dcel_maps.specs.Walking.{IsOutEdge}
+use Rattle.dcel_maps.specs.Words.{word_of}
+
+-- v is live, and no live half edge starts there
+pub record IsUnconnected (s : Shape) (v : ℕ) : Type 0 where
+  pub live : vertex_is_live s v ≡ true
+  pub bare : IsBare (map_of s) v
+
+-- h is the one live half edge that starts at v
+pub record IsOnlyOut (s : Shape) (v h : ℕ) : Type 0 where
+  pub edge : IsOutEdge s v h
+  pub open edge use {live as out, start as from}
+  pub only : (k : ℕ) → IsLive s k → origin_of s k ≡ v → k ≡ h
+
+-- v is live with exactly one out edge
+pub record IsLineEnd (s : Shape) (v : ℕ) : Type 0 where
+  pub live : vertex_is_live s v ≡ true
+  pub one : (h : ℕ) × IsOnlyOut s v h
+
+-- f is live, and its word has three half edges
+pub record IsTriangle (s : Shape) (f : ℕ) : Type 0 where
+  pub live : face_is_live s f ≡ true
+  pub three : length (word_of s.words f) ≡ 3
+
+-- there are numbers for so many more vertices, edges and faces
+pub record HasRoom (s : Shape) (vertices edges faces : ℕ) : Type 0 where
+  pub for_vertices : s.vertices + vertices ≤ 2 ^ 32
+  pub for_edges : s.edges + edges ≤ 2 ^ 31
+  pub for_faces : face_count s + faces ≤ 2 ^ 32

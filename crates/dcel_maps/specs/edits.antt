@@ -1,0 +1,5 @@
+-- What each operation does to a mesh, family by family.
+pub mod Create
+pub mod DefaultData
+pub mod Line
+pub mod Triangle

@@ -1,0 +1,4 @@
+-- Definitions that only the proofs read: what maps and words have to do with each other.
+pub mod Cycles
+pub mod Sound
+pub mod Standing
