@@ -1,13 +1,12 @@
 -- Which faces have words of three half edges.
-use Rattle.std.proofs.Common.{◌≡◌, ◌↔◌, ℕ, ◌<◌, true, length, Some, None, ap, subst, arith}
+use Rattle.std.proofs.Common.{◌≡◌, ◌↔◌, ℕ, true, length, Some, None}
 use Rattle.std.specs.Prelude.{slice_index, slice_index_or}
 use Rattle.dcel_store.specs.Lists.{Lists}
 use Rattle.dcel_maps.specs.Conditions.{IsTriangle}
-use Rattle.dcel_maps.specs.Removals.{Removal, gives_up_face}
-use Rattle.dcel_maps.specs.Shapes.{AnchorsWord, IsLive, face_is_live, face_of}
+use Rattle.dcel_maps.specs.Removals.{Removal}
+use Rattle.dcel_maps.specs.Shapes.{IsLive, face_is_live, face_of}
 use Rattle.dcel_edits.specs.Stored.{IsStored, mesh_of, stored_map, stored_words}
 use Rattle.dcel_maps.specs.Words.{word_of}
-use Rattle.dcel_maps.proofs.Liveness.{is_live-parts}
 use Rattle.dcel_edits.proofs.Reading.{face_anchor-lies, face_of-is}
 use Rattle.dcel_maps.proofs.words.Triangles.{is_triangle}
 
@@ -25,12 +24,3 @@ module _ {V DE UE F : Type 0} {s : Lists V DE UE F} {r : Removal} (stored : IsSt
   anchored_triangle-iff f h live some =
       let lies = face_anchor-lies stored f h some in
       rw lies.1 (λ three. record { live = live; three = three }, λ triangle. triangle.three)
-
-  -- a face without an anchor is none
-  pub no_triangle : (f : ℕ) → slice_index_or s.face_anchors f None ≡ None → IsTriangle (mesh_of s r).shape f → ⊥
-  no_triangle f none triangle =
-      let within = (is_live-parts (gives_up_face r) (length (stored_words s)) f triangle.live).0 in
-      let below : f < length s.face_data = omega (arith, stored.stands.faces) in
-      let empty = subst (AnchorsWord (word_of (stored_words s) f)) none (stored.face_anchored f below) in
-      let zero : length (word_of (stored_words s) f) ≡ 0 = ap length empty in
-      omega (arith, zero, triangle.three)

@@ -1,5 +1,5 @@
 -- What the stored lists of a mesh say of what is public: ranges, links and anchors.
-use Rattle.std.proofs.Common.{◌≡◌, ◌≢◌, ◌↔◌, ℕ, ◌/◌, ◌<◌, ◌≤◌, ◌^◌, true, false, length, Some, None, inl, inr, sym, refl, ap, ◌∙◌, subst, arith}
+use Rattle.std.proofs.Common.{◌≡◌, ◌≢◌, ◌↔◌, ℕ, ◌/◌, ◌<◌, true, false, length, Some, None, inl, inr, sym, refl, ap, ◌∙◌, subst, arith}
 use Rattle.std.specs.Prelude.{slice_index, slice_index_or}
 use Rattle.std.proofs.lemmas.List.{get_or_past}
 use Rattle.std.proofs.lemmas.Bool.{cases_lt}
@@ -7,8 +7,8 @@ use Rattle.dcel_fixed.specs.HalfEdges.{rev}
 use Rattle.dcel_fixed.proofs.Halves.{rev-half}
 use Rattle.dcel_store.specs.Lists.{Lists}
 use Rattle.dcel_maps.specs.Maps.{By, Reaches, ccw, Starts}
-use Rattle.dcel_maps.specs.Removals.{Removal, gives_up_vertex, gives_up_edge, gives_up_face, is_live}
-use Rattle.dcel_maps.specs.Shapes.{AnchorsWord, IsLive, end_of, face_count, face_is_live, face_of, map_of, next_of, origin_of, prev_of, vertex_is_live}
+use Rattle.dcel_maps.specs.Removals.{Removal, gives_up_vertex, gives_up_edge}
+use Rattle.dcel_maps.specs.Shapes.{AnchorsWord, IsLive, face_of, map_of, next_of, origin_of, prev_of, vertex_is_live}
 use Rattle.dcel_edits.specs.Stored.{IsStored, mesh_of, stored_map, stored_words}
 use Rattle.dcel_maps.specs.Words.{count_of, word_of}
 use Rattle.dcel_maps.proofs.Liveness.{is_live-parts, is_live-from}
@@ -40,16 +40,9 @@ module _ {V DE UE F : Type 0} where
   pub half-below : {s : Lists V DE UE F} {r : Removal} → IsStored s r → (h : ℕ) → IsLive (mesh_of s r).shape h → h < length s.next
   half-below stored h live = let below = stored.sound.below_edges h live in let halves = stored.lengths.of_next in omega arith
 
-  pub rev-below : {s : Lists V DE UE F} {r : Removal} → IsStored s r → (h : ℕ) → IsLive (mesh_of s r).shape h → rev h < length s.next
-  rev-below {s = s} {r = r} stored h live = half-below stored (rev h) (rev-live s r h live)
-
   pub next-below : {s : Lists V DE UE F} {r : Removal} → IsStored s r → (h : ℕ) → IsLive (mesh_of s r).shape h
       → slice_index s.next h < length s.next
   next-below {s = s} stored h live = half-below stored (slice_index s.next h) (next-live stored h live)
-
-  pub prev-below : {s : Lists V DE UE F} {r : Removal} → IsStored s r → (h : ℕ) → IsLive (mesh_of s r).shape h
-      → slice_index s.prev h < length s.next
-  prev-below {s = s} stored h live = half-below stored (slice_index s.prev h) (prev-live stored h live)
 
   pub origin-below : {s : Lists V DE UE F} {r : Removal} → IsStored s r → (h : ℕ) → IsLive (mesh_of s r).shape h
       → slice_index s.origin h < length s.vertex_data
@@ -58,32 +51,6 @@ module _ {V DE UE F : Type 0} where
   pub face-below : {s : Lists V DE UE F} {r : Removal} → IsStored s r → (h : ℕ) → IsLive (mesh_of s r).shape h
       → slice_index s.face h < length s.face_data
   face-below stored h live = stored.sound.below_faces h live
-
-  -- what is in range fits 32 bits
-  pub few_halves : {s : Lists V DE UE F} {r : Removal} → IsStored s r → length s.next ≤ 2 ^ 32
-  few_halves stored = let few = stored.few_edges in let halves = stored.lengths.of_next in omega arith
-
-  pub half-fits : {s : Lists V DE UE F} {r : Removal} → IsStored s r → (h : ℕ) → IsLive (mesh_of s r).shape h → h < 2 ^ 32
-  half-fits stored h live = let below = half-below stored h live in let few = few_halves stored in omega arith
-
-  pub rev-fits : {s : Lists V DE UE F} {r : Removal} → IsStored s r → (h : ℕ) → IsLive (mesh_of s r).shape h → rev h < 2 ^ 32
-  rev-fits {s = s} {r = r} stored h live = half-fits stored (rev h) (rev-live s r h live)
-
-  pub next-fits : {s : Lists V DE UE F} {r : Removal} → IsStored s r → (h : ℕ) → IsLive (mesh_of s r).shape h
-      → slice_index s.next h < 2 ^ 32
-  next-fits {s = s} stored h live = half-fits stored (slice_index s.next h) (next-live stored h live)
-
-  pub prev-fits : {s : Lists V DE UE F} {r : Removal} → IsStored s r → (h : ℕ) → IsLive (mesh_of s r).shape h
-      → slice_index s.prev h < 2 ^ 32
-  prev-fits {s = s} stored h live = half-fits stored (slice_index s.prev h) (prev-live stored h live)
-
-  pub origin-fits : {s : Lists V DE UE F} {r : Removal} → IsStored s r → (h : ℕ) → IsLive (mesh_of s r).shape h
-      → slice_index s.origin h < 2 ^ 32
-  origin-fits stored h live = let below = origin-below stored h live in let few = stored.few_vertices in omega arith
-
-  pub face-fits : {s : Lists V DE UE F} {r : Removal} → IsStored s r → (h : ℕ) → IsLive (mesh_of s r).shape h
-      → slice_index s.face h < 2 ^ 32
-  face-fits stored h live = let below = face-below stored h live in let few = stored.few_faces in omega arith
 
   -- the public links of a live half edge are the stored ones
   pub next_of-is : {s : Lists V DE UE F} {r : Removal} → IsStored s r → (h : ℕ) → IsLive (mesh_of s r).shape h
@@ -102,10 +69,6 @@ module _ {V DE UE F : Type 0} where
       → origin_of (mesh_of s r).shape h ≡ slice_index s.origin h
   origin_of-is s r h live =
       slice_index-shown_live (gives_up_edge r) s.origin h (is_live-parts (gives_up_edge r) (length s.undirected_data) (h / 2) live).1
-
-  pub end_of-is : (s : Lists V DE UE F) (r : Removal) (h : ℕ) → IsLive (mesh_of s r).shape h
-      → end_of (mesh_of s r).shape h ≡ slice_index s.origin (rev h)
-  end_of-is s r h live = origin_of-is s r (rev h) (rev-live s r h live)
 
   -- the public map agrees with the stored one on what is live
   pub public_agrees : {s : Lists V DE UE F} {r : Removal} → IsStored s r → Agrees (stored_map s r) (map_of (mesh_of s r).shape)
@@ -137,15 +100,6 @@ module _ {V DE UE F : Type 0} where
     | inr past ↦ let agree = stored.lengths.of_vertex_anchors in
         let none = get_or_past s.vertex_anchors v None (omega arith) in cc
   ]
-
-  -- a vertex where a live half edge starts has an anchor
-  pub some_starts : {s : Lists V DE UE F} {r : Removal} → IsStored s r → (v h : ℕ) → IsLive (mesh_of s r).shape h
-      → origin_of (mesh_of s r).shape h ≡ v → (out : ℕ) × (slice_index_or s.vertex_anchors v None ≡ Some out)
-  some_starts {s = s} {r = r} stored v h live starts =
-      elim (slice_index_or s.vertex_anchors v None) as (λ a. slice_index_or s.vertex_anchors v None ≡ a → (out : ℕ) × (a ≡ Some out)) [
-        | None ↦ λ none. absurd (none_starts stored v none h live starts)
-        | Some out ↦ λ some. (out, refl)
-      ] refl
 
   -- a vertex is without an anchor just where no live half edge starts
   pub unanchored-iff : {s : Lists V DE UE F} {r : Removal} → IsStored s r → (v : ℕ)
@@ -218,11 +172,3 @@ module _ {V DE UE F : Type 0} where
     | inr past ↦ let agree = stored.lengths.of_face_anchors in
         let none = get_or_past s.face_anchors f None (omega arith) in cc
   ]
-
-  -- faces are counted by their data
-  pub face_count-is : {s : Lists V DE UE F} {r : Removal} → IsStored s r → face_count (mesh_of s r).shape ≡ length s.face_data
-  face_count-is stored = stored.stands.faces
-
-  pub face_is_live-is : {s : Lists V DE UE F} {r : Removal} → IsStored s r → (f : ℕ)
-      → face_is_live (mesh_of s r).shape f ≡ is_live (gives_up_face r) (length s.face_data) f
-  face_is_live-is {r = r} stored f = ap (λ n. is_live (gives_up_face r) n f) (face_count-is stored)

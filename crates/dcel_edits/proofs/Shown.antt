@@ -30,22 +30,6 @@ module _ (g : ℕ → Bool) where
   shown_from-append h [] us = rw add-zero refl
   shown_from-append h (v ∷ vs) us = rw (add-suc, ← suc-add) (ap (λ z. cond (g (h / 2)) 0 v ∷ z) (shown_from-append (suc h) vs us))
 
-  -- a live edge put at the end shows its origins
-  pub shown_push : (vs : List ℕ) (m a b : ℕ) → length vs ≡ 2 * m → g m ≡ false
-      → shown g (vs ++ a ∷ b ∷ []) ≡ shown g vs ++ a ∷ b ∷ []
-  shown_push vs m a b long live =
-      let first : (0 + length vs) / 2 ≡ m = omega (arith, long) in
-      let second : suc (0 + length vs) / 2 ≡ m = omega (arith, long) in
-      shown_from-append 0 vs (a ∷ b ∷ []) ∙ rw (first, second, live) refl
-
-  shown_from-none : ((u : ℕ) → g u ≡ false) → (h : ℕ) (vs : List ℕ) → shown_from g h vs ≡ vs
-  shown_from-none none h [] = refl
-  shown_from-none none h (v ∷ vs) = rw (none (h / 2)) (ap (λ z. v ∷ z) (shown_from-none none (suc h) vs))
-
-  -- where nothing is given up all origins show
-  pub shown-none : ((u : ℕ) → g u ≡ false) → (vs : List ℕ) → shown g vs ≡ vs
-  shown-none none vs = shown_from-none none 0 vs
-
   shown_from-set : (h : ℕ) (vs : List ℕ) (i a : ℕ) → g ((h + i) / 2) ≡ false
       → shown_from g h (slice_set vs i a) ≡ slice_set (shown_from g h vs) i a
   shown_from-set h [] i a live = refl
@@ -58,15 +42,6 @@ module _ (g : ℕ → Bool) where
   -- a write to the origin of a live edge shows
   pub shown-set : (vs : List ℕ) (h a : ℕ) → g (h / 2) ≡ false → shown g (slice_set vs h a) ≡ slice_set (shown g vs) h a
   shown-set vs h a live = shown_from-set 0 vs h a (rw zero-add live)
-
-  -- tests that agree show the same
-  shown_from-same : (k : ℕ → Bool) → ((u : ℕ) → k u ≡ g u) → (h : ℕ) (vs : List ℕ)
-      → shown_from k h vs ≡ shown_from g h vs
-  shown_from-same k same h [] = refl
-  shown_from-same k same h (v ∷ vs) = rw (same (h / 2)) (ap (λ z. cond (g (h / 2)) 0 v ∷ z) (shown_from-same k same (suc h) vs))
-
-  pub shown-same : (k : ℕ → Bool) → ((u : ℕ) → k u ≡ g u) → (vs : List ℕ) → shown k vs ≡ shown g vs
-  shown-same k same vs = shown_from-same k same 0 vs
 
   shown_from-kept : (h : ℕ) (vs : List ℕ) → ((u : ℕ) → h / 2 ≤ u → g u ≡ false) → shown_from g h vs ≡ vs
   shown_from-kept h [] kept = refl

@@ -1,3 +1,4 @@
 pub mod Stored
-pub mod Spurs
-pub mod Triangles
+pub mod Create
+pub mod Line
+pub mod Triangle

@@ -1,8 +1,7 @@
 //! The first edge.
 
-ghost use Rattle.std.specs.Prelude.{◌<◌, length};
 ghost use Rattle.dcel_maps.specs.edits.DefaultData.{AddsEdge};
-ghost use Rattle.dcel_edits.specs.Spurs.{first_edge_stored};
+ghost use Rattle.dcel_edits.specs.Create.{CanBegin, first_edge_stored};
 
 use dcel_fixed::{FixedDirectedEdgeHandle, FixedVertexHandle, OUTER_FACE};
 use dcel_store::{EdgeData, HalfEdgeEntry, Store};
@@ -14,10 +13,7 @@ pub fn put_first_edge<V, DE: Default, UE: Default, F, A: Allocator>(
     first_vertex: FixedVertexHandle,
     second_vertex: FixedVertexHandle,
 )
-    requires place { 0 < store.old.edge_room }
-    requires first_in { first_vertex < length store.old.vertex_anchors }
-    requires second_in { second_vertex < length store.old.vertex_anchors }
-    requires outer { 0 < length store.old.face_anchors }
+    requires { CanBegin store.old first_vertex second_vertex }
     ensures { AddsEdge DE.is_default UE.is_default store.new (first_edge_stored store.old first_vertex second_vertex) }
 {
     let normalized = FixedDirectedEdgeHandle::new_normalized(0);

@@ -1,7 +1,7 @@
 //! Spurs: edges to a vertex that had none.
 
 ghost use Rattle.dcel_maps.specs.edits.DefaultData.{AddsEdge};
-ghost use Rattle.dcel_edits.specs.Spurs.{spur_stored, CanSpur};
+ghost use Rattle.dcel_edits.specs.Line.{spur_stored, CanSpur};
 
 use dcel_fixed::{FixedDirectedEdgeHandle, FixedVertexHandle};
 use dcel_store::{EdgeData, HalfEdgeEntry, Store};

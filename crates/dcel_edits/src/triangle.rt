@@ -3,7 +3,7 @@
 ghost use Rattle.std.specs.Prelude.{◌≡◌, ◌<◌, ◌^◌};
 ghost use Rattle.dcel_store.specs.Lists as lists;
 ghost use Rattle.dcel_maps.specs.edits.DefaultData.{AddsEdgesAndFaces};
-ghost use Rattle.dcel_edits.specs.Triangles.{CanInsert, IsEmpty, insertion_stored, triangle_stored};
+ghost use Rattle.dcel_edits.specs.Triangle.{CanInsert, IsEmpty, insertion_stored, triangle_stored};
 
 use crate::elements::{push_anchored_face, push_anchored_vertex};
 use crate::sectors::{Sector, close_sector, push_spoke};

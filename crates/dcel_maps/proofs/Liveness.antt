@@ -1,6 +1,6 @@
 -- When a number is live: it is below its count and not given up.
-use Rattle.std.proofs.Common.{◌≡◌, ◌≢◌, ◌↔◌, ◌⊎◌, inl, inr, ℕ, ◌+◌, ◌*◌, ◌/◌, ◌<◌, ◌≤◌, Bool, true, false, not, nat_lt, ◌&&◌, refl, sym, ap, ◌∙◌, lt-ltb, le-ltb, ltb-true, ltb-false, arith}
-use Rattle.std.proofs.lemmas.Bool.{cases_lt, cases_eq, false≢true, and_parts, and_from, and_cases, and_left, and_right, not-true, not-false, not_from_true, not_from_false, false_from_ne_true}
+use Rattle.std.proofs.Common.{◌≡◌, ◌≢◌, ◌⊎◌, inl, inr, ℕ, ◌+◌, ◌*◌, ◌/◌, ◌<◌, ◌≤◌, Bool, true, false, not, nat_lt, ◌&&◌, refl, sym, ap, ◌∙◌, lt-ltb, le-ltb, ltb-true, ltb-false, arith}
+use Rattle.std.proofs.lemmas.Bool.{cases_lt, false≢true, and_parts, and_from, and_cases, and_left, and_right, not-true, not-false, not_from_true, not_from_false, false_from_ne_true}
 use Rattle.dcel_maps.specs.Removals.{Removal, Closed, gives_up_vertex, gives_up_edge, gives_up_face, is_live, IsWithin}
 use Rattle.dcel_maps.specs.Shapes.{Shape, IsLive, edge_is_live}
 
@@ -12,9 +12,6 @@ is_live-parts g n k live =
 
 pub is_live-from : (g : ℕ → Bool) (n k : ℕ) → k < n → g k ≡ false → is_live g n k ≡ true
 is_live-from g n k below kept = and_from (nat_lt k n) (not (g k)) (lt-ltb k n below) (not_from_false (g k) kept)
-
-pub is_live-iff : (g : ℕ → Bool) (n k : ℕ) → (is_live g n k ≡ true) ↔ ((k < n) × (g k ≡ false))
-is_live-iff g n k = (is_live-parts g n k, λ both. is_live-from g n k both.0 both.1)
 
 -- what is past the count is not live
 pub is_live-past : (g : ℕ → Bool) (n k : ℕ) → n ≤ k → is_live g n k ≡ false
@@ -40,13 +37,6 @@ pub is_live-grown : (g : ℕ → Bool) (n k : ℕ) → k ≢ n → is_live g (n 
 is_live-grown g n k other = elim (cases_lt k n) [
   | inl below ↦ ap (λ t. t && not (g k)) (lt-ltb k (n + 1) (omega arith) ∙ sym (lt-ltb k n below))
   | inr past ↦ is_live-past g (n + 1) k (omega arith) ∙ sym (is_live-past g n k past)
-]
-
--- what is live then was live before, or is the new number
-pub is_live-grown-cases : (g : ℕ → Bool) (n k : ℕ) → is_live g (n + 1) k ≡ true → (is_live g n k ≡ true) ⊎ (k ≡ n)
-is_live-grown-cases g n k live = elim (cases_eq k n) [
-  | inl same ↦ inr same
-  | inr other ↦ inl (sym (is_live-grown g n k other) ∙ live)
 ]
 
 -- a count may grow: what is below the new count just where it is below the old one is live as before

@@ -5,7 +5,6 @@ pub mod Walking
 pub mod Reading
 pub mod Rounds
 pub mod Spurs
-pub mod Firsts
 pub mod Agreement
 pub mod Turns
 pub mod Faces

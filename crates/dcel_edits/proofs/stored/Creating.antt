@@ -10,8 +10,8 @@ use Rattle.dcel_maps.specs.Removals.{Closed, Removal}
 use Rattle.dcel_maps.specs.Shapes.{IsMesh, Mesh, vertex_is_live}
 use Rattle.dcel_maps.proofs.edits.Creating.{alone_is_mesh, appending, appending_is, appending_is_edit, beginning, beginning_is, beginning_is_edit, no_half_alone}
 use Rattle.dcel_maps.proofs.edits.FirstTriangle.{first_triangle, first_triangle_is_edit}
-use Rattle.dcel_edits.specs.Spurs.{first_edge_stored}
-use Rattle.dcel_edits.specs.Triangles.{triangle_stored}
+use Rattle.dcel_edits.specs.Create.{CanBegin, first_edge_stored}
+use Rattle.dcel_edits.specs.Triangle.{triangle_stored}
 use Rattle.dcel_edits.proofs.stored.Changes.{HoldsAdded, HoldsEdge, added_holds, change_holds, held_lists, held_mesh, held_vertex, written}
 use Rattle.dcel_edits.proofs.stored.Held.{lists_hold}
 use Rattle.dcel_edits.proofs.stored.Holding.{Holds}
@@ -78,14 +78,13 @@ module _ {V DE UE F : Type 0} (s : Lists V DE UE F) (r : Removal) (m : Mesh V DE
   mesh : IsMesh m
   mesh = held_mesh s r m held
 
-  pub first_in : a < length s.vertex_anchors
-  first_in = held_vertex s r m held a a_live
-
-  pub second_in : b < length s.vertex_anchors
-  second_in = held_vertex s r m held b b_live
-
-  pub outer_in : 0 < length s.face_anchors
-  outer_in = omega (arith, mesh.sized.outer, mesh.sized.face_anchors, ap length (held_lists s r m held).face_anchors)
+  pub begin_can : 0 < s.edge_room → CanBegin s a b
+  begin_can place = record {
+    place = place;
+    first_in = held_vertex s r m held a a_live;
+    second_in = held_vertex s r m held b b_live;
+    outer = omega (arith, mesh.sized.outer, mesh.sized.face_anchors, ap length (held_lists s r m held).face_anchors);
+  }
 
   begin_hold : (halves : List DE) (edges : List UE) → length halves ≡ 2 → length edges ≡ 1
       → Holds (first_edge_stored s a b halves edges) r (first_edge_added m a b halves edges)

@@ -9,7 +9,7 @@ use Rattle.dcel_maps.specs.Removals.{Removal}
 use Rattle.dcel_maps.specs.Shapes.{IsMesh, Mesh, face_anchor, map_of, next_of, prev_of}
 use Rattle.dcel_maps.proofs.edits.Inserts.{anchored_triangle, inserted, inserted_is, inserted_is_edit}
 use Rattle.dcel_maps.proofs.maps.Triangles.{IsTriangleOf}
-use Rattle.dcel_edits.specs.Triangles.{CanInsert, insertion_stored}
+use Rattle.dcel_edits.specs.Triangle.{CanInsert, insertion_stored}
 use Rattle.dcel_edits.proofs.stored.Changes.{HoldsAdded, added_holds, change_holds, held_edges, held_face_anchor, held_faces, held_half, held_lists, held_mesh, held_vertex, written}
 use Rattle.dcel_edits.proofs.stored.Held.{ListsMesh}
 use Rattle.dcel_edits.proofs.stored.Holding.{Holds}

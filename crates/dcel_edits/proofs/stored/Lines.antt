@@ -9,7 +9,7 @@ use Rattle.dcel_maps.specs.edits.Line.{line_extended}
 use Rattle.dcel_maps.specs.Removals.{Removal}
 use Rattle.dcel_maps.specs.Shapes.{IsMesh, Mesh}
 use Rattle.dcel_maps.proofs.edits.Lines.{EndsLine, extension, extension_is, extension_is_edit, line_end}
-use Rattle.dcel_edits.specs.Spurs.{CanSpur, spur_stored}
+use Rattle.dcel_edits.specs.Line.{CanSpur, spur_stored}
 use Rattle.dcel_edits.proofs.stored.Changes.{HoldsEdge, added_holds, change_holds, held_edges, held_half, held_lists, held_mesh, held_vertex, held_vertex_anchor, written}
 use Rattle.dcel_edits.proofs.stored.Held.{ListsMesh}
 use Rattle.dcel_edits.proofs.stored.Holding.{Holds}

@@ -11,6 +11,7 @@ use Rattle.dcel_maps.specs.Maps.{Live, Map}
 use Rattle.dcel_maps.specs.theory.Sound.{Sound, Sphere}
 use Rattle.dcel_maps.specs.Removals.{Closed, gives_up_edge, gives_up_face, gives_up_vertex}
 use Rattle.dcel_maps.specs.Shapes.{IsLive, IsMesh, IsSound, Mesh, Shape, edge_is_live, face_count, face_of, map_of, origin_of, vertex_is_live}
+use Rattle.dcel_maps.specs.theory.Standing.{Stands}
 use Rattle.dcel_maps.specs.Words.{count_of, word_of}
 use Rattle.dcel_maps.proofs.Liveness.{IsWithin-closed, gives_up_face-outer, is_live-from, is_live-parts, is_live-past}
 use Rattle.dcel_maps.proofs.edits.Changes.{Change, IsEdit, changed, map_after}
@@ -22,7 +23,6 @@ use Rattle.dcel_maps.proofs.maps.Firsts.{first_keeps}
 use Rattle.dcel_maps.proofs.shapes.Maps.{map-sound, map-sphere, sound-from_map, sphere-from_map}
 use Rattle.dcel_maps.proofs.words.Counts.{count-other}
 use Rattle.dcel_maps.proofs.words.Faces.{IsWordOf}
-use Rattle.dcel_maps.proofs.words.Firsts.{dead_stands}
 
 -- the outer face alone
 abbrev pub alone : Shape
@@ -38,9 +38,18 @@ no_word : (f : ℕ) → word_of alone.words f ≡ []
 no_word zero = refl
 no_word (suc f) = refl
 
+alone_stands : Stands (map_of alone) alone.words
+alone_stands = record {
+  faces = refl;
+  cycles = λ f within. rw (no_word f) tt;
+  once = λ h live. absurd (no_half_alone h live);
+  least = λ f within. rw (no_word f) tt;
+  short = omega arith;
+}
+
 alone_sound : IsSound alone
 alone_sound =
-    sound-from_map alone (empty_sound (map_of alone) no_edge_alone) (dead_stands (map_of alone) no_edge_alone alone.words refl refl)
+    sound-from_map alone (empty_sound (map_of alone) no_edge_alone) alone_stands
     (λ f dead. no_word f)
     (λ f inside live. let below = (is_live-parts (gives_up_face Closed) 1 f live).0 in absurd (omega (arith, below, inside)))
     (λ empty u. no_edge_alone u, λ dead. refl) (λ h live. absurd (no_half_alone h live))

@@ -2,13 +2,12 @@
 use Rattle.std.proofs.Common.{◌≡◌, ◌≢◌, ℕ, ◌<◌, nat_lt, List, [], ◌∷◌, length, slice_index, Some, zero-add, refl, sym, ap, ◌∙◌, arith}
 use Rattle.std.proofs.Math.Bool.{and-true}
 use Rattle.dcel_maps.specs.edits.Create.{outer_alone}
-use Rattle.dcel_maps.specs.edits.Triangle.{triangle_alone}
 use Rattle.dcel_maps.specs.Maps.{Live, Map}
 use Rattle.dcel_maps.specs.theory.Sound.{Sound, Sphere}
 use Rattle.dcel_maps.specs.Removals.{Closed, gives_up_face}
 use Rattle.dcel_maps.specs.Shapes.{IsMesh, Mesh}
 use Rattle.dcel_maps.proofs.Liveness.{gives_up_edge-closed, gives_up_face-outer, gives_up_vertex-closed, is_live-from}
-use Rattle.dcel_maps.proofs.edits.Changes.{Change, IsEdit, changed, map_after}
+use Rattle.dcel_maps.proofs.edits.Changes.{Change, IsEdit, map_after}
 use Rattle.dcel_maps.proofs.edits.Creating.{alone_is_mesh}
 use Rattle.dcel_maps.proofs.edits.Growing.{after-new}
 use Rattle.dcel_maps.proofs.edits.Patches.{Patch, patched_at, patched_at-new, pushing}
@@ -41,9 +40,6 @@ module _ {V DE UE F : Type 0} (vertices : V × V × V) (halves : List DE) (edges
 
   abbrev c : Change V DE UE F
   c = first_triangle vertices halves edges inner
-
-  pub first_triangle_is : changed alone c ≡ triangle_alone vertices halves edges (outer ∷ inner ∷ [])
-  first_triangle_is = refl
 
   abbrev T : Map
   T = map_after alone.shape c

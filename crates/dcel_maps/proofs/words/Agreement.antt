@@ -3,7 +3,6 @@ use Rattle.std.proofs.Common.{◌≡◌, ℕ, ◌/◌, ◌≤◌, List, sym, ◌
 use Rattle.dcel_maps.specs.Maps.{Map, Live}
 use Rattle.dcel_maps.specs.theory.Standing.{Follows, Stands}
 use Rattle.dcel_maps.specs.Words.{word_of}
-use Rattle.dcel_maps.proofs.maps.Agreement.{Extends}
 use Rattle.dcel_maps.proofs.words.Paths.{IsCycle-weaker}
 use Rattle.dcel_maps.proofs.words.Reading.{live_in}
 
@@ -32,8 +31,3 @@ same_words_stand S T same ws st = record {
   least = st.least;
   short = omega (arith, st.short, same.edges);
 }
-
--- more room for vertices and edges leaves the words
-pub extends_stand : (S T : Map) → Extends S T → T.faces ≡ S.faces → (ws : List (List ℕ)) → Stands S ws → Stands T ws
-extends_stand S T e faces =
-    same_words_stand S T (record { faces = faces; edges = e.edges; edge = e.edge; next = e.next; prev = e.prev; face = e.face })

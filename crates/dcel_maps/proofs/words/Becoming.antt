@@ -1,9 +1,8 @@
 -- Items put in after each x of a word.
-use Rattle.std.proofs.Common.{◌≡◌, ◌≢◌, ◌↔◌, ◌∙◌, inl, inr, ℕ, zero, suc, ◌+◌, ◌*◌, ◌<◌, List, [], ◌∷◌, ◌++◌, length, map, cond, eqb, refl, subst, ap, sym, arith, eq-eqb, append-nil, length-append, Option, Some, None}
+use Rattle.std.proofs.Common.{◌≡◌, ◌≢◌, ◌↔◌, ◌∙◌, inl, inr, ℕ, ◌+◌, ◌*◌, ◌<◌, List, [], ◌∷◌, ◌++◌, cond, eqb, refl, subst, ap, sym, arith, eq-eqb, append-nil}
 use Rattle.std.proofs.lemmas.Bool.{cases_eq, ne_eqb}
-use Rattle.dcel_maps.specs.Shapes.{AnchorsWord}
 use Rattle.dcel_maps.specs.theory.Cycles.{Path, IsCycle}
-use Rattle.dcel_maps.specs.Words.{count_of, occurs, total_length, word_of, become, IsLeastFirst}
+use Rattle.dcel_maps.specs.Words.{count_of, become, IsLeastFirst}
 use Rattle.dcel_maps.proofs.words.Counts.{count-same, count-other, count-append, absent_head}
 use Rattle.dcel_maps.proofs.words.Paths.{Path-append}
 
@@ -23,31 +22,6 @@ count-become h x zs (y ∷ r) =
       | inl same ↦ rw (become-cons, eq-eqb x y same) (omega (arith, count-append h zs (become x (x ∷ zs) r), count-become h x zs r))
       | inr differs ↦ rw (become-cons, ne_eqb x y differs) (omega (arith, count-become h x zs r))
     ]
-
-pub length-become : (x : ℕ) (zs w : List ℕ) → length (become x (x ∷ zs) w) ≡ length w + length zs * count_of x w
-length-become x zs [] = omega arith
-length-become x zs (y ∷ r) =
-    elim (cases_eq x y) [
-      | inl same ↦ rw (become-cons, eq-eqb x y same) (omega (arith, length-append zs (become x (x ∷ zs) r), length-become x zs r))
-      | inr differs ↦ rw (become-cons, ne_eqb x y differs) (omega (arith, length-become x zs r))
-    ]
-
-pub occurs-become : (h x : ℕ) (zs : List ℕ) (ws : List (List ℕ))
-    → occurs h (map (become x (x ∷ zs)) ws) ≡ occurs h ws + count_of h zs * occurs x ws
-occurs-become h x zs [] = omega arith
-occurs-become h x zs (w ∷ ws) = omega (arith, count-become h x zs w, occurs-become h x zs ws)
-
-pub total-become : (x : ℕ) (zs : List ℕ) (ws : List (List ℕ))
-    → total_length (map (become x (x ∷ zs)) ws) ≡ total_length ws + length zs * occurs x ws
-total-become x zs [] = omega arith
-total-become x zs (w ∷ ws) = omega (arith, length-become x zs w, total-become x zs ws)
-
--- the words one by one
-pub word_of-become : (x : ℕ) (items : List ℕ) (ws : List (List ℕ)) (f : ℕ)
-    → word_of (map (become x items) ws) f ≡ become x items (word_of ws f)
-word_of-become x items [] f = refl
-word_of-become x items (w ∷ ws) zero = refl
-word_of-become x items (w ∷ ws) (suc f) = word_of-become x items ws f
 
 -- a word where x does not stand stays
 pub become-none : (x : ℕ) (items w : List ℕ) → count_of x w ≡ 0 → become x items w ≡ w
@@ -106,8 +80,3 @@ IsLeastFirst-become x zs (a ∷ r) n above below low =
     (become-cons x zs a r) (count-become h x zs (a ∷ r)) in
     let gone : count_of h zs * count_of x (a ∷ r) ≡ 0 = rw new (omega arith) in
     omega (arith, old, head, headed, cut, gone))
-
--- an anchor stays right
-pub AnchorsWord-become : (x : ℕ) (zs w : List ℕ) (o : Option ℕ) → AnchorsWord w o → AnchorsWord (become x (x ∷ zs) w) o
-AnchorsWord-become x zs w None anchored = rw anchored refl
-AnchorsWord-become x zs w (Some a) anchored = omega (arith, anchored, count-become a x zs w)

@@ -1,7 +1,7 @@
 -- How often an item stands in a list and in all words, and how long they are.
-use Rattle.std.proofs.Common.{◌≡◌, ◌≢◌, ◌⊎◌, inl, inr, ℕ, zero, suc, ◌+◌, ◌<◌, ◌≤◌, List, [], ◌∷◌, ◌++◌, length, slice_set, refl, ap, sym, arith, zero-add, eqb, eq-eqb, true, false}
+use Rattle.std.proofs.Common.{◌≡◌, ◌≢◌, ◌⊎◌, inl, inr, ℕ, zero, suc, ◌+◌, ◌<◌, ◌≤◌, List, [], ◌∷◌, ◌++◌, length, refl, ap, sym, arith, zero-add, eqb, eq-eqb, true, false}
 use Rattle.std.proofs.lemmas.Bool.{cases_eq, cases_lt, ne_eqb, or_cases, false≢true}
-use Rattle.std.proofs.lemmas.List.{length-append, nil_from_length}
+use Rattle.std.proofs.lemmas.List.{length-append}
 use Rattle.std.proofs.lemmas.Map.Steps.{length-le_from_distinct_below}
 use Rattle.std.specs.List.{AllByRecursion, IsDistinct, concat, list_any}
 use Rattle.dcel_maps.specs.Words.{count_of, occurs, total_length, word_of}
@@ -40,11 +40,6 @@ pub count-none : (h : ℕ) (w : List ℕ) → ((x : ℕ) → 0 < count_of x w �
 count-none h w others =
     elim (cases_lt 0 (count_of h w)) [ inl found ↦ absurd (others h found refl) | inr not ↦ omega (arith, not) ]
 
--- a list where nothing stands is empty
-pub nil_from_counts : (w : List ℕ) → ((x : ℕ) → count_of x w ≡ 0) → w ≡ []
-nil_from_counts [] none = refl
-nil_from_counts (x ∷ r) none = absurd (absent_head x x r (none x) refl)
-
 pub count-le_length : (h : ℕ) (w : List ℕ) → count_of h w ≤ length w
 count-le_length h [] = omega arith
 count-le_length h (x ∷ r) =
@@ -64,14 +59,6 @@ split_at x (y ∷ r) found =
           (y ∷ later.0, later.1, ap (λ z. y ∷ z) later.2)
     ]
 
-pub occurs-append : (h : ℕ) (ws vs : List (List ℕ)) → occurs h (ws ++ vs) ≡ occurs h ws + occurs h vs
-occurs-append h [] vs = omega arith
-occurs-append h (w ∷ ws) vs = omega (arith, occurs-append h ws vs)
-
-pub total-append : (ws vs : List (List ℕ)) → total_length (ws ++ vs) ≡ total_length ws + total_length vs
-total-append [] vs = omega arith
-total-append (w ∷ ws) vs = omega (arith, total-append ws vs)
-
 pub count-le_occurs : (h : ℕ) (ws : List (List ℕ)) (f : ℕ) → count_of h (word_of ws f) ≤ occurs h ws
 count-le_occurs h [] f = omega arith
 count-le_occurs h (w ∷ ws) zero = omega arith
@@ -81,10 +68,6 @@ pub length-le_total : (ws : List (List ℕ)) (f : ℕ) → length (word_of ws f)
 length-le_total [] f = omega arith
 length-le_total (w ∷ ws) zero = omega arith
 length-le_total (w ∷ ws) (suc f) = omega (arith, length-le_total ws f)
-
-pub occurs-le_total : (h : ℕ) (ws : List (List ℕ)) → occurs h ws ≤ total_length ws
-occurs-le_total h [] = omega arith
-occurs-le_total h (w ∷ ws) = omega (arith, count-le_length h w, occurs-le_total h ws)
 
 -- an item that occurs stands in some word
 pub word_with : (h : ℕ) (ws : List (List ℕ)) → 0 < occurs h ws
@@ -129,30 +112,6 @@ occurs-alone h (w ∷ ws) (suc f) within others =
       others 0 (λ e. omega (arith, e)),
       occurs-alone h ws f (omega arith) (λ g differs. others (suc g) (λ e. differs (omega (arith, e)))),
     )
-
--- words with no item are empty
-pub empty_words : (ws : List (List ℕ)) → total_length ws ≡ 0 → (f : ℕ) → word_of ws f ≡ []
-empty_words ws none f = nil_from_length (word_of ws f) (omega (arith, none, length-le_total ws f))
-
--- empty words have no item
-pub total-none : (ws : List (List ℕ)) → ((f : ℕ) → f < length ws → word_of ws f ≡ []) → total_length ws ≡ 0
-total-none [] none = refl
-total-none (w ∷ ws) none =
-    let first : length w ≡ 0 = ap length (none 0 (omega arith)) in
-    omega (arith, first, total-none ws (λ f within. none (suc f) (omega arith)))
-
--- counts after one word is replaced
-pub occurs-set : (h : ℕ) (ws : List (List ℕ)) (f : ℕ) (w : List ℕ) → f < length ws
-    → occurs h (slice_set ws f w) + count_of h (word_of ws f) ≡ occurs h ws + count_of h w
-occurs-set h [] f w within = absurd (omega arith)
-occurs-set h (v ∷ ws) zero w within = omega arith
-occurs-set h (v ∷ ws) (suc f) w within = omega (arith, occurs-set h ws f w (omega arith))
-
-pub total-set : (ws : List (List ℕ)) (f : ℕ) (w : List ℕ) → f < length ws
-    → total_length (slice_set ws f w) + length (word_of ws f) ≡ total_length ws + length w
-total-set [] f w within = absurd (omega arith)
-total-set (v ∷ ws) zero w within = omega arith
-total-set (v ∷ ws) (suc f) w within = omega (arith, total-set ws f w (omega arith))
 
 -- the items of all words in one list
 count-concat : (h : ℕ) (ws : List (List ℕ)) → count_of h (concat ws) ≡ occurs h ws

@@ -102,21 +102,6 @@ item_after-stands h e x (y ∷ r) =
     (λ same. inr (count-later y x (y ∷ r) (omega (arith, count-same y r))))
     (λ differs. elim (item_after-stands h e y r) [ inl end ↦ inl end | inr there ↦ inr (count-later _ x (y ∷ r) there) ])
 
-last_of-stands : (x : ℕ) (r : List ℕ) → 0 < count_of (last_of x r) (x ∷ r)
-last_of-stands x [] = omega (arith, count-same x [])
-last_of-stands x (y ∷ r) = count-later (last_of y r) x (y ∷ r) (last_of-stands y r)
-
-item_before-stands : (h last x : ℕ) (r : List ℕ) → IsEndOrItem (item_before h last (x ∷ r)) last (x ∷ r)
-unfolding IsEndOrItem
-item_before-stands h last x [] =
-    cond_both (eqb h x) last x (λ v. IsEndOrItem v last (x ∷ [])) (λ same. inl refl) (λ differs. inr (omega (arith, count-same x [])))
-item_before-stands h last x (y ∷ r) =
-    cond_both (eqb h x) last (item_before h x (y ∷ r)) (λ v. IsEndOrItem v last (x ∷ y ∷ r)) (λ same. inl refl)
-    (λ differs. inr (elim (item_before-stands h x y r) [
-      | inl first ↦ subst (λ v. 0 < count_of v (x ∷ y ∷ r)) (sym first) (omega (arith, count-same x (y ∷ r)))
-      | inr there ↦ count-later _ x (y ∷ r) there
-    ]))
-
 end_or_item : (v e x : ℕ) (r : List ℕ) → 0 < count_of e (x ∷ r) → IsEndOrItem v e (x ∷ r) → 0 < count_of v (x ∷ r)
 unfolding IsEndOrItem
 end_or_item v e x r there either =
@@ -126,8 +111,3 @@ end_or_item v e x r there either =
 pub next_in_word-stands : (h : ℕ) (w : List ℕ) → 0 < count_of h w → 0 < count_of (next_in_word h w) w
 next_in_word-stands h [] found = absurd (omega (arith, found))
 next_in_word-stands h (x ∷ r) found = end_or_item _ x x r (omega (arith, count-same x r)) (item_after-stands h x x r)
-
-pub prev_in_word-stands : (h : ℕ) (w : List ℕ) → 0 < count_of h w → 0 < count_of (prev_in_word h w) w
-prev_in_word-stands h [] found = absurd (omega (arith, found))
-prev_in_word-stands h (x ∷ r) found =
-    end_or_item _ (last_of x r) x r (last_of-stands x r) (item_before-stands h (last_of x r) x r)

@@ -1,8 +1,6 @@
 -- A cyclic list written from another of its items.
-use Rattle.std.proofs.Common.{◌≡◌, ◌≢◌, ◌⊎◌, ◌↔◌, inl, inr, ℕ, ◌+◌, ◌<◌, ◌≤◌, min, List, [], ◌∷◌, ◌++◌, length, cond, eqb, refl, subst, ap, sym, ◌∙◌, arith, eq-eqb, append_assoc, append-nil, length-append, Option, Some, None}
+use Rattle.std.proofs.Common.{◌≡◌, ◌≢◌, ◌⊎◌, inl, inr, ℕ, ◌+◌, ◌<◌, ◌≤◌, min, List, [], ◌∷◌, ◌++◌, length, cond, eqb, refl, subst, ap, sym, ◌∙◌, arith, eq-eqb, append_assoc, append-nil, length-append}
 use Rattle.std.proofs.lemmas.Bool.{cases_eq, cases_lt, ne_eqb}
-use Rattle.std.proofs.lemmas.List.{nil_from_length}
-use Rattle.dcel_maps.specs.Shapes.{AnchorsWord}
 use Rattle.dcel_maps.specs.Walks.{least_of}
 use Rattle.dcel_maps.specs.theory.Cycles.{IsCycle}
 use Rattle.dcel_maps.specs.Words.{count_of, IsLeastFirst}
@@ -69,12 +67,6 @@ count-turn h t = rw (t.was, t.is) (omega (arith, count-append h t.front t.back, 
 pub length-turn : {w u : List ℕ} → TurnsTo w u → length u ≡ length w
 length-turn t = rw (t.was, t.is) (omega (arith, length-append t.front t.back, length-append t.back t.front))
 
-pub turn_empty : {w u : List ℕ} → TurnsTo w u → (u ≡ []) ↔ (w ≡ [])
-turn_empty {w} {u} t = (
-  λ e. nil_from_length w (let none : length u ≡ 0 = ap length e in omega (arith, length-turn t, none)),
-  λ e. nil_from_length u (let none : length w ≡ 0 = ap length e in omega (arith, length-turn t, none)),
-)
-
 -- a turned word goes round as before, and its anchor stays right
 pub IsCycle-turn : (R : ℕ → ℕ → Type 0) {w u : List ℕ} → TurnsTo w u → IsCycle R w → IsCycle R u
 IsCycle-turn R {w} {u} t c =
@@ -83,10 +75,6 @@ IsCycle-turn R {w} {u} t c =
     go : (a b : List ℕ) → IsCycle R (a ++ b) → IsCycle R (b ++ a)
     go a [] d = subst (λ (z : List ℕ). IsCycle R z) (append-nil a) d
     go a (x ∷ b) d = cycle_turns R a x b d
-
-pub AnchorsWord-turn : {w u : List ℕ} (o : Option ℕ) → TurnsTo w u → AnchorsWord w o → AnchorsWord u o
-AnchorsWord-turn None t anchored = (turn_empty t).1 anchored
-AnchorsWord-turn (Some h) t anchored = omega (arith, anchored, count-turn h t)
 
 cut_later : (x y : ℕ) (r t : List ℕ) → x ≢ y → onward x r ≡ x ∷ t → r ≡ before x r ++ x ∷ t
     → (onward x (y ∷ r) ≡ x ∷ t) × (y ∷ r ≡ before x (y ∷ r) ++ x ∷ t)

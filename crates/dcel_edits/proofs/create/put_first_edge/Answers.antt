@@ -1,7 +1,7 @@
 use Rattle.std.proofs.Common.{refl}
 use Rattle.dcel_fixed.proofs.Halves.{rev-double}
 use Rattle.dcel_maps.proofs.edits.Adding.{adds_edge}
-use Rattle.dcel_edits.specs.Spurs.{first_edge_stored}
+use Rattle.dcel_edits.specs.Create.{first_edge_stored}
 use Rattle.dcel_edits.proofs.create.put_first_edge.Goals as goal
 
 pub returns : goal.returns

@@ -1,7 +1,7 @@
 use Rattle.std.proofs.Common.{refl}
 use Rattle.dcel_fixed.proofs.Halves.{rev-double}
 use Rattle.dcel_maps.proofs.edits.Adding.{adds_edge}
-use Rattle.dcel_edits.specs.Spurs.{spur_stored}
+use Rattle.dcel_edits.specs.Line.{spur_stored}
 use Rattle.dcel_edits.proofs.line.put_spur.Goals as goal
 
 pub returns : goal.returns

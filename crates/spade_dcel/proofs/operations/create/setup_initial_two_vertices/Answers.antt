@@ -1,5 +1,5 @@
 use Rattle.dcel_edits.proofs.Public.{mesh-is-mesh}
-use Rattle.dcel_edits.proofs.stored.Creating.{begun, first_in, outer_in, second_in}
+use Rattle.dcel_edits.proofs.stored.Creating.{begin_can, begun}
 use Rattle.dcel_edits.proofs.stored.Holding.{reserved_holds}
 use Rattle.spade_dcel.proofs.operations.create.setup_initial_two_vertices.Goals as goal
 
@@ -13,12 +13,7 @@ pub put_first_edge-requires : goal.put_first_edge-requires
 put_first_edge-requires g c =
     let held = reserved_holds _ _ _ _ c.reserve.ensures.same c.dcel.invariant c.dcel.view_is in
     let q = c.requires in
-    record {
-      place = c.in_ok-reserve.ensures.room.for_edges;
-      first_in = first_in _ _ _ held _ _ q.no_edge q.first_live q.second_live q.apart q.room;
-      second_in = second_in _ _ _ held _ _ q.no_edge q.first_live q.second_live q.apart q.room;
-      outer = outer_in _ _ _ held _ _ q.no_edge q.first_live q.second_live q.apart q.room;
-    }
+    begin_can _ _ _ held _ _ q.no_edge q.first_live q.second_live q.apart q.room c.in_ok-reserve.ensures.room.for_edges
 
 pub invariant_of-dcel-2 : goal.invariant_of-dcel-2
 invariant_of-dcel-2 g c =
