@@ -27,7 +27,7 @@ query_rule Check = check
 abbrev pub query_asks : Query → List Entry
 query_asks query = (query_rule query).asks
 
--- the query was answered, or it is refused by the first condition that isn't met
+-- the text answers the query, or tells by which refusal the first condition that isn't met refuses it
 abbrev pub Told : Shape → Query → List ℕ → Type 0
 Told s query text =
     (AllMet s (query_asks query) × (query_rule query).Tells s text)
