@@ -13,6 +13,7 @@ mod commands;
 mod lines;
 #[cfg(test)]
 mod meshes;
+pub mod refusing;
 #[cfg(test)]
 mod rows;
 #[cfg(test)]
