@@ -3,7 +3,7 @@
 ghost use Rattle.std.specs.Prelude.{◌≤◌, ◌^◌};
 
 use dcel_commands::commands::{RunFault, StdSink, StdSource, run};
-use std::alloc::{AllocError, Global};
+use std::alloc::{AllocError, Allocator, Global};
 use std::io;
 use std::io::{Error, ErrorKind, Read, Write};
 use std::process::Abort;
@@ -14,10 +14,12 @@ pub const PLENTY: usize = 1_000_000;
 
 /// Gives some bytes at a time, and fails after some calls.
 #[derive(Drop)]
-struct Giver<'a> {
-    bytes: &'a [u8],
-    chunk: usize,
-    calls: usize,
+pub struct Giver<'a> {
+    /// The bytes that weren't read.
+    pub bytes: &'a [u8],
+    pub chunk: usize,
+    /// How many calls are left.
+    pub calls: usize,
 }
 
 impl<'a> Read for Giver<'a> {
@@ -35,10 +37,10 @@ impl<'a> Read for Giver<'a> {
 
 /// Takes some bytes at a time, and fails where there is no room left.
 #[derive(Drop)]
-struct Taker {
-    bytes: Vec<u8>,
-    chunk: usize,
-    room: usize,
+pub struct Taker {
+    pub bytes: Vec<u8>,
+    pub chunk: usize,
+    pub room: usize,
 }
 
 impl Write for Taker {
@@ -69,19 +71,32 @@ pub fn answers(
 ) -> (Result<(), RunFault>, Vec<u8>)
     requires { limit ≤ 2 ^ 31 }
 {
+    let mut giver = Giver {
+        bytes: lines,
+        chunk,
+        calls,
+    };
     let mut taker = Taker {
         bytes: Vec::new(alloc),
         chunk,
         room,
     };
-    let mut source = StdSource::new(Giver {
-        bytes: lines,
-        chunk,
-        calls,
-    });
-    let mut sink = StdSink::new(&mut taker);
-    let ended = run(alloc, &mut source, &mut sink, limit);
+    let ended = run_between(alloc, &mut giver, &mut taker, limit);
     (ended, taker.bytes)
+}
+
+/// Runs the lines that are given, with the mesh in this memory.
+pub fn run_between<A: Allocator + Clone>(
+    alloc: A,
+    giver: &mut Giver,
+    taker: &mut Taker,
+    limit: usize,
+) -> Result<(), RunFault>
+    requires { limit ≤ 2 ^ 31 }
+{
+    let mut source = StdSource::new(giver);
+    let mut sink = StdSink::new(taker);
+    run(alloc, &mut source, &mut sink, limit)
 }
 
 /// Runs the lines with reads of one, three and all bytes: each is answered by the text beside it.
@@ -112,7 +127,7 @@ pub fn assert_answered(
 }
 
 /// Adds a line and its line feed.
-fn push_line(text: &mut Vec<u8>, line: &str) -> Result<(), AllocError> {
+pub fn push_line(text: &mut Vec<u8>, line: &str) -> Result<(), AllocError> {
     text.extend_from_slice(line.as_bytes())?;
     text.push(b'\n')?;
     Ok(())

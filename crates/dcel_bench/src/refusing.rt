@@ -3,33 +3,36 @@
 use std::alloc::{AllocError, Allocator};
 use std::cell::Cell;
 
-/// Which requests for memory are refused.
+/// Which requests for memory are refused, by their numbers.
 #[derive(Drop)]
 struct Plan {
-    /// How many requests are passed on before one is refused.
-    granted: Cell<u64>,
-    /// How many are refused then.
-    refused: Cell<u64>,
+    /// How many requests came.
+    requests: Cell<u64>,
+    /// The first that is refused.
+    first: Cell<u64>,
+    /// How many are refused from there on.
+    count: Cell<u64>,
 }
 
 impl Plan {
     /// Counts a request: whether it is refused.
     fn refuses(&self) -> bool {
-        let granted = self.granted.get();
-        let refused = self.refused.get();
-        if granted > 0 {
-            self.granted.set(granted - 1);
-            return false;
-        }
-        if refused > 0 {
-            self.refused.set(refused - 1);
-            return true;
-        }
-        false
+        let number = self.requests.get();
+        self.requests.set(number.saturating_add(1));
+        let first = self.first.get();
+        number >= first && number - first < self.count.get()
+    }
+
+    /// Counts from 0 again, and refuses so many requests from the first on.
+    fn refuse(&self, first: u64, count: u64) {
+        self.requests.set(0);
+        self.first.set(first);
+        self.count.set(count);
     }
 }
 
-/// Passes so many requests for memory on to another allocator, refuses so many, and passes on all others.
+/// Passes requests for memory on to another allocator, but for those that it was told to refuse. Blocks are given back to the other
+/// one.
 #[derive(Drop)]
 pub struct Refusing<B> {
     inner: B,
@@ -37,29 +40,31 @@ pub struct Refusing<B> {
 }
 
 impl<B> Refusing<B> {
-    /// Refuses the request that comes after so many others.
-    pub fn one_after(inner: B, granted: u64) -> Refusing<B> {
-        Refusing::after(inner, granted, 1)
-    }
-
-    /// Refuses each request that comes after so many others.
-    pub fn all_after(inner: B, granted: u64) -> Refusing<B> {
-        Refusing::after(inner, granted, u64::MAX)
-    }
-
-    fn after(inner: B, granted: u64, refused: u64) -> Refusing<B> {
+    /// Refuses no request.
+    pub fn new(inner: B) -> Refusing<B> {
         Refusing {
             inner,
             plan: Plan {
-                granted: Cell::new(granted),
-                refused: Cell::new(refused),
+                requests: Cell::new(0),
+                first: Cell::new(0),
+                count: Cell::new(0),
             },
         }
     }
 
-    /// How many more requests will be refused.
-    pub fn to_refuse(&self) -> u64 {
-        self.plan.refused.get()
+    /// Counts requests from 0 again, and refuses the one with this number.
+    pub fn refuse_one(&self, number: u64) {
+        self.plan.refuse(number, 1);
+    }
+
+    /// Counts requests from 0 again, and refuses those from this number on.
+    pub fn refuse_from(&self, number: u64) {
+        self.plan.refuse(number, u64::MAX);
+    }
+
+    /// How many requests came since it was last told what to refuse.
+    pub fn requests(&self) -> u64 {
+        self.plan.requests.get()
     }
 }
 
