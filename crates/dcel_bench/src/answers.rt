@@ -14,12 +14,10 @@ pub const PLENTY: usize = 1_000_000;
 
 /// Gives some bytes at a time, and fails after some calls.
 #[derive(Drop)]
-pub struct Giver<'a> {
-    /// The bytes that weren't read.
-    pub bytes: &'a [u8],
-    pub chunk: usize,
-    /// How many calls are left.
-    pub calls: usize,
+struct Giver<'a> {
+    bytes: &'a [u8],
+    chunk: usize,
+    calls: usize,
 }
 
 impl<'a> Read for Giver<'a> {
@@ -37,10 +35,10 @@ impl<'a> Read for Giver<'a> {
 
 /// Takes some bytes at a time, and fails where there is no room left.
 #[derive(Drop)]
-pub struct Taker {
-    pub bytes: Vec<u8>,
-    pub chunk: usize,
-    pub room: usize,
+struct Taker {
+    bytes: Vec<u8>,
+    chunk: usize,
+    room: usize,
 }
 
 impl Write for Taker {
@@ -59,6 +57,15 @@ impl Write for Taker {
     }
 }
 
+/// What a run did.
+#[derive(Drop)]
+pub struct Ran {
+    pub ended: Result<(), RunFault>,
+    /// Whether it asked for bytes.
+    pub has_read: bool,
+    pub written: Vec<u8>,
+}
+
 /// Runs the lines with reads of `chunk` bytes that fail after `calls`, and writes of as many that fail
 /// after `room` bytes; answers how the run ended and what was written.
 pub fn answers(
@@ -71,6 +78,22 @@ pub fn answers(
 ) -> (Result<(), RunFault>, Vec<u8>)
     requires { limit ≤ 2 ^ 31 }
 {
+    let ran = run_in(alloc, alloc, limit, lines, chunk, calls, room);
+    (ran.ended, ran.written)
+}
+
+/// The same with a mesh in some memory.
+pub fn run_in<A: Allocator + Clone>(
+    memory: A,
+    alloc: Global,
+    limit: usize,
+    lines: &[u8],
+    chunk: usize,
+    calls: usize,
+    room: usize,
+) -> Ran
+    requires { limit ≤ 2 ^ 31 }
+{
     let mut giver = Giver {
         bytes: lines,
         chunk,
@@ -81,22 +104,14 @@ pub fn answers(
         chunk,
         room,
     };
-    let ended = run_between(alloc, &mut giver, &mut taker, limit);
-    (ended, taker.bytes)
-}
-
-/// Runs the lines that are given, with the mesh in this memory.
-pub fn run_between<A: Allocator + Clone>(
-    alloc: A,
-    giver: &mut Giver,
-    taker: &mut Taker,
-    limit: usize,
-) -> Result<(), RunFault>
-    requires { limit ≤ 2 ^ 31 }
-{
-    let mut source = StdSource::new(giver);
-    let mut sink = StdSink::new(taker);
-    run(alloc, &mut source, &mut sink, limit)
+    let mut source = StdSource::new(&mut giver);
+    let mut sink = StdSink::new(&mut taker);
+    let ended = run(memory, &mut source, &mut sink, limit);
+    Ran {
+        ended,
+        has_read: giver.calls < calls,
+        written: taker.bytes,
+    }
 }
 
 /// Runs the lines with reads of one, three and all bytes: each is answered by the text beside it.
@@ -110,10 +125,7 @@ pub fn assert_answered(
 {
     let mut lines = Vec::new(alloc);
     let mut replies = Vec::new(alloc);
-    for (line, reply) in talk {
-        push_line(&mut lines, line)?;
-        push_line(&mut replies, reply)?;
-    }
+    push_talk(&mut lines, &mut replies, talk)?;
     for chunk in [1, 3, PLENTY] {
         let (ended, written) = answers(alloc, limit, &lines, chunk, PLENTY, PLENTY);
         ended?;
@@ -130,5 +142,18 @@ pub fn assert_answered(
 pub fn push_line(text: &mut Vec<u8>, line: &str) -> Result<(), AllocError> {
     text.extend_from_slice(line.as_bytes())?;
     text.push(b'\n')?;
+    Ok(())
+}
+
+/// Adds the lines and what each is answered.
+pub fn push_talk(
+    lines: &mut Vec<u8>,
+    replies: &mut Vec<u8>,
+    talk: &[(&str, &str)],
+) -> Result<(), AllocError> {
+    for (line, reply) in talk {
+        push_line(lines, line)?;
+        push_line(replies, reply)?;
+    }
     Ok(())
 }

@@ -1,12 +1,11 @@
-//! Calls and lines of which one meets a refused request for memory.
+//! Calls of which one is refused a request for memory.
 
-use crate::answers::{Giver, PLENTY, Taker, push_line, run_between};
 use crate::meshes::{
     CUT_TRIANGLE, Link, Mesh, NO_LIMIT, append, assert_counts, assert_links, extend, half_edge,
     inner_face, insert, set_up, vertex,
 };
 use crate::refusing::Refusing;
-use dcel_commands::commands::{Command, Handed, Refusal, Refused, Reply, RunFault, apply};
+use dcel_commands::commands::{Command, Handed, Refusal, Refused, Reply, apply};
 use spade_dcel::handles::{FixedDirectedEdgeHandle, FixedFaceHandle, PossiblyOuterTag};
 use spade_dcel::operations::{new, new_triangle};
 use std::alloc::{AllocError, Global};
@@ -313,127 +312,5 @@ fn a_first_mesh_is_refused_memory(rt: HostRuntime) -> Result<(), Fail> {
         }
     }
     assert!(rt; 0 < requests && requests < MANY);
-    Ok(())
-}
-
-/// What a run did.
-#[derive(Drop)]
-struct Ran {
-    ended: Result<(), RunFault>,
-    /// Whether it asked for bytes.
-    has_read: bool,
-    written: Vec<u8>,
-    /// How many requests for memory it made.
-    requests: u64,
-}
-
-/// Runs the lines with the request of this number refused.
-fn run_refused(lines: &[u8], number: u64, alloc: Global) -> Ran {
-    let memory = Refusing::new(alloc);
-    memory.refuse_one(number);
-    let mut giver = Giver {
-        bytes: lines,
-        chunk: PLENTY,
-        calls: PLENTY,
-    };
-    let mut taker = Taker {
-        bytes: Vec::new(alloc),
-        chunk: PLENTY,
-        room: PLENTY,
-    };
-    let ended = run_between(&memory, &mut giver, &mut taker, NO_LIMIT);
-    Ran {
-        ended,
-        has_read: giver.calls < PLENTY,
-        written: taker.bytes,
-        requests: memory.requests(),
-    }
-}
-
-/// Lines with their replies, and the replies to the lines after each where that one is refused memory.
-const TALKS: [&[(&str, &str, &str)]; 2] = [
-    &[
-        (
-            "triangle 0 1 2",
-            "ok",
-            "vertex 0\nrefused 1 NoSuchVertex\nF0",
-        ),
-        (
-            "append 3",
-            "vertex 3",
-            "refused 1 NoSuchVertex\nF0 0 2 4\nF1 1 5 3",
-        ),
-        ("insert 3 1", "vertex 3", "F0 0 2 4\nF1 1 5 3"),
-        ("words", "F0 0 2 4\nF1 1 6 11\nF2 5 8 7\nF3 3 10 9", ""),
-    ],
-    &[
-        (
-            "append 5",
-            "vertex 0",
-            "vertex 0\nrefused 1 NoSuchVertex\nF0",
-        ),
-        ("append 6", "vertex 1", "refused 1 NoSuchVertex\nF0"),
-        ("setup 0 1", "ok", "F0"),
-        ("words", "F0 0 1", ""),
-    ],
-];
-
-/// That a run of the lines writes these replies, with the request of this number refused.
-fn assert_replies(
-    lines: &[u8],
-    number: u64,
-    replies: &[u8],
-    alloc: Global,
-    rt: &impl Abort,
-) -> Result<(), Fail> {
-    let ran = run_refused(lines, number, alloc);
-    ran.ended?;
-    assert_eq!(rt; ran.written.as_slice(), replies, "request {number}");
-    Ok(())
-}
-
-#[test]
-fn lines_are_refused_memory(rt: HostRuntime) -> Result<(), Fail> {
-    let alloc = rt.alloc();
-    for talk in TALKS {
-        let mut lines = Vec::new(alloc);
-        for (line, _, _) in talk {
-            push_line(&mut lines, line)?;
-        }
-        let mut begun = Vec::new(alloc);
-        let mut replies = Vec::new(alloc);
-        let for_mesh = run_refused(&begun, MANY, alloc).requests;
-        let mut first = for_mesh;
-        for (line, reply, after) in talk {
-            push_line(&mut begun, line)?;
-            let end = run_refused(&begun, MANY, alloc).requests;
-            let mut refused = replies.clone()?;
-            push_line(&mut refused, "refused 20 OutOfMemory")?;
-            push_line(&mut refused, after)?;
-            for number in first..end {
-                assert_replies(&lines, number, &refused, alloc, &rt)?;
-            }
-            push_line(&mut replies, reply)?;
-            first = end;
-        }
-        assert_replies(&lines, first, &replies, alloc, &rt)?;
-        assert!(rt; for_mesh < first && first < MANY);
-    }
-    Ok(())
-}
-
-#[test]
-fn a_run_is_refused_its_first_mesh(rt: HostRuntime) -> Result<(), Fail> {
-    let alloc = rt.alloc();
-    let requests = run_refused(b"", MANY, alloc).requests;
-    assert!(rt; 0 < requests && requests < MANY);
-    for number in 0..requests {
-        let ran = run_refused(b"words", number, alloc);
-        assert!(rt;
-            matches!(&ran.ended, Err(RunFault::Memory)),
-            "request {number}"
-        );
-        assert!(rt; !ran.has_read && ran.written.is_empty(), "request {number}");
-    }
     Ok(())
 }
