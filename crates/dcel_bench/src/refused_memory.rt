@@ -41,7 +41,7 @@ type Row = (
 
 const ROWS: [Row; 5] = [
     (
-        &[],
+        &[Append(0), Append(1), SetUp(1, 0)],
         &[Triangle(7, -8, 9)],
         (3, 6, 2),
         &[
