@@ -32,7 +32,7 @@ impl Plan {
 }
 
 /// Passes requests for memory on to another allocator, but for those that it was told to refuse. Blocks are given back to the other
-/// one.
+/// one. Contracts see nothing of what is refused. A mesh takes a `&Refusing`, which is an allocator that clones without memory.
 #[derive(Drop)]
 pub struct Refusing<B> {
     inner: B,
