@@ -3,7 +3,7 @@
 ghost use Rattle.std.specs.Prelude.{◌≤◌, ◌^◌};
 
 use dcel_commands::commands::{RunFault, StdSink, StdSource, run};
-use std::alloc::{AllocError, Global};
+use std::alloc::{AllocError, Allocator, Global};
 use std::io;
 use std::io::{Error, ErrorKind, Read, Write};
 use std::process::Abort;
@@ -57,6 +57,15 @@ impl Write for Taker {
     }
 }
 
+/// What a run did.
+#[derive(Drop)]
+pub struct Ran {
+    pub ended: Result<(), RunFault>,
+    /// Whether it asked for bytes.
+    pub has_read: bool,
+    pub written: Vec<u8>,
+}
+
 /// Runs the lines with reads of `chunk` bytes that fail after `calls`, and writes of as many that fail
 /// after `room` bytes; answers how the run ended and what was written.
 pub fn answers(
@@ -69,19 +78,40 @@ pub fn answers(
 ) -> (Result<(), RunFault>, Vec<u8>)
     requires { limit ≤ 2 ^ 31 }
 {
+    let ran = run_in(alloc, alloc, limit, lines, chunk, calls, room);
+    (ran.ended, ran.written)
+}
+
+/// The same with a mesh in some memory.
+pub fn run_in<A: Allocator + Clone>(
+    memory: A,
+    alloc: Global,
+    limit: usize,
+    lines: &[u8],
+    chunk: usize,
+    calls: usize,
+    room: usize,
+) -> Ran
+    requires { limit ≤ 2 ^ 31 }
+{
+    let mut giver = Giver {
+        bytes: lines,
+        chunk,
+        calls,
+    };
     let mut taker = Taker {
         bytes: Vec::new(alloc),
         chunk,
         room,
     };
-    let mut source = StdSource::new(Giver {
-        bytes: lines,
-        chunk,
-        calls,
-    });
+    let mut source = StdSource::new(&mut giver);
     let mut sink = StdSink::new(&mut taker);
-    let ended = run(alloc, &mut source, &mut sink, limit);
-    (ended, taker.bytes)
+    let ended = run(memory, &mut source, &mut sink, limit);
+    Ran {
+        ended,
+        has_read: giver.calls < calls,
+        written: taker.bytes,
+    }
 }
 
 /// Runs the lines with reads of one, three and all bytes: each is answered by the text beside it.
@@ -95,10 +125,7 @@ pub fn assert_answered(
 {
     let mut lines = Vec::new(alloc);
     let mut replies = Vec::new(alloc);
-    for (line, reply) in talk {
-        push_line(&mut lines, line)?;
-        push_line(&mut replies, reply)?;
-    }
+    push_talk(&mut lines, &mut replies, talk)?;
     for chunk in [1, 3, PLENTY] {
         let (ended, written) = answers(alloc, limit, &lines, chunk, PLENTY, PLENTY);
         ended?;
@@ -112,8 +139,21 @@ pub fn assert_answered(
 }
 
 /// Adds a line and its line feed.
-fn push_line(text: &mut Vec<u8>, line: &str) -> Result<(), AllocError> {
+pub fn push_line(text: &mut Vec<u8>, line: &str) -> Result<(), AllocError> {
     text.extend_from_slice(line.as_bytes())?;
     text.push(b'\n')?;
+    Ok(())
+}
+
+/// Adds the lines and what each is answered.
+pub fn push_talk(
+    lines: &mut Vec<u8>,
+    replies: &mut Vec<u8>,
+    talk: &[(&str, &str)],
+) -> Result<(), AllocError> {
+    for (line, reply) in talk {
+        push_line(lines, line)?;
+        push_line(replies, reply)?;
+    }
     Ok(())
 }

@@ -10,9 +10,16 @@ mod carried;
 #[cfg(test)]
 mod commands;
 #[cfg(test)]
+mod far_growth;
+#[cfg(test)]
 mod lines;
 #[cfg(test)]
 mod meshes;
+#[cfg(test)]
+mod refused_lines;
+#[cfg(test)]
+mod refused_memory;
+pub mod refusing;
 #[cfg(test)]
 mod rows;
 #[cfg(test)]

@@ -3,15 +3,18 @@
 use spade_dcel::dcel::Dcel;
 use spade_dcel::handles::{FixedDirectedEdgeHandle, FixedFaceHandle, FixedVertexHandle, InnerTag};
 use spade_dcel::operations::{
-    append_unconnected_vertex, extend_line, insert_into_triangle, new, new_triangle,
+    NoMemory, append_unconnected_vertex, extend_line, insert_into_triangle, new, new_triangle,
     setup_initial_two_vertices,
 };
-use std::alloc::Global;
+use std::alloc::{AllocError, Allocator, Global};
 use std::process::Abort;
 use std::test::Fail;
 
 /// A mesh whose data are numbers.
-pub type Mesh = Dcel<i64, i64, i64, i64>;
+pub type Mesh<A = Global> = Dcel<i64, i64, i64, i64, A>;
+
+/// A live half edge with its links: (half edge, next, origin, face).
+pub type Link = (u32, u32, u32, u32);
 
 /// The limit of the program: no count of a mesh is above it.
 pub const NO_LIMIT: usize = 2_147_483_648;
@@ -29,32 +32,36 @@ pub fn inner_face(index: u32) -> FixedFaceHandle<InnerTag> {
 }
 
 /// Appends a vertex.
-pub fn append(dcel: &mut Mesh, datum: i64, rt: &impl Abort) -> Result<FixedVertexHandle, Fail> {
+pub fn append<A: Allocator>(
+    dcel: &mut Mesh<A>,
+    datum: i64,
+    rt: &impl Abort,
+) -> Result<FixedVertexHandle, NoMemory<i64>> {
     assert!(rt; dcel.has_room(1, 0, 0));
-    Ok(append_unconnected_vertex(dcel, datum)?)
+    append_unconnected_vertex(dcel, datum)
 }
 
 /// Adds the first edge.
-pub fn set_up(
-    dcel: &mut Mesh,
+pub fn set_up<A: Allocator>(
+    dcel: &mut Mesh<A>,
     first: FixedVertexHandle,
     second: FixedVertexHandle,
     rt: &impl Abort,
-) -> Result<(), Fail> {
+) -> Result<(), AllocError> {
     assert_eq!(rt; dcel.num_undirected_edges(), 0);
     assert!(rt; dcel.is_live_vertex(first) && dcel.is_live_vertex(second));
     assert_ne!(rt; first.index(), second.index());
     assert!(rt; dcel.has_room(0, 1, 0));
-    Ok(setup_initial_two_vertices(dcel, first, second)?)
+    setup_initial_two_vertices(dcel, first, second)
 }
 
 /// Makes a line longer by a vertex that has no edge.
-pub fn extend(
-    dcel: &mut Mesh,
+pub fn extend<A: Allocator>(
+    dcel: &mut Mesh<A>,
     end: FixedVertexHandle,
     added: FixedVertexHandle,
     rt: &impl Abort,
-) -> Result<(), Fail> {
+) -> Result<(), AllocError> {
     assert!(rt; dcel.is_line_end(end));
     assert!(rt; dcel.is_unconnected(added));
     assert!(rt; dcel.has_room(0, 1, 0));
@@ -63,12 +70,12 @@ pub fn extend(
 }
 
 /// Puts a vertex that has no edge into a triangle.
-pub fn insert(
-    dcel: &mut Mesh,
+pub fn insert<A: Allocator>(
+    dcel: &mut Mesh<A>,
     added: FixedVertexHandle,
     face: FixedFaceHandle<InnerTag>,
     rt: &impl Abort,
-) -> Result<(), Fail> {
+) -> Result<(), AllocError> {
     assert_ne!(rt; face.index(), 0);
     assert!(rt; dcel.is_triangle(face));
     assert!(rt; dcel.is_unconnected(added));
@@ -103,6 +110,22 @@ pub fn triangle_and_vertex(alloc: Global, rt: &impl Abort) -> Result<Mesh, Fail>
     Ok(dcel)
 }
 
+/// The words of a triangle that vertex 3 cuts into three: 0, 2, 4 and 1, 6, 11 and 5, 8, 7 and 3, 10, 9.
+pub const CUT_TRIANGLE: [Link; 12] = [
+    (0, 2, 0, 0),
+    (2, 4, 1, 0),
+    (4, 0, 2, 0),
+    (1, 6, 1, 1),
+    (6, 11, 0, 1),
+    (11, 1, 3, 1),
+    (5, 8, 0, 2),
+    (8, 7, 2, 2),
+    (7, 5, 3, 2),
+    (3, 10, 2, 3),
+    (10, 9, 1, 3),
+    (9, 3, 3, 3),
+];
+
 /// A triangle that vertex 3 cuts into three.
 pub fn cut_triangle(alloc: Global, rt: &impl Abort) -> Result<Mesh, Fail> {
     let mut dcel = triangle_and_vertex(alloc, rt)?;
@@ -111,8 +134,8 @@ pub fn cut_triangle(alloc: Global, rt: &impl Abort) -> Result<Mesh, Fail> {
 }
 
 /// That the mesh has so many vertices, half edges and faces.
-pub fn assert_counts(
-    dcel: &Mesh,
+pub fn assert_counts<A: Allocator>(
+    dcel: &Mesh<A>,
     vertices: usize,
     directed_edges: usize,
     faces: usize,
@@ -128,8 +151,8 @@ pub fn assert_counts(
     );
 }
 
-/// That live half edges lead so to the next one, from a vertex, along a face: (half edge, next, origin, face) each.
-pub fn assert_links(dcel: &Mesh, links: &[(u32, u32, u32, u32)], rt: &impl Abort) {
+/// That live half edges lead so to the next one, from a vertex, along a face.
+pub fn assert_links<A: Allocator>(dcel: &Mesh<A>, links: &[Link], rt: &impl Abort) {
     for (edge, next, from, face) in links {
         let handle = half_edge(*edge);
         assert!(rt; handle.index() < dcel.num_directed_edges());

@@ -1,28 +1,13 @@
 //! Meshes of triangles, and the walks round their vertices and faces.
 
-use crate::meshes::{assert_links, cut_triangle, half_edge, inner_face, vertex};
+use crate::meshes::{CUT_TRIANGLE, assert_links, cut_triangle, half_edge, inner_face, vertex};
 use spade_dcel::handles::OUTER_FACE;
 use std::test::Fail;
 
 #[test]
 fn a_triangle_is_cut_into_three(rt: HostRuntime) -> Result<(), Fail> {
     let dcel = cut_triangle(rt.alloc(), &rt)?;
-    // The words are 0, 2, 4 and 1, 6, 11 and 5, 8, 7 and 3, 10, 9.
-    let links = [
-        (0, 2, 0, 0),
-        (2, 4, 1, 0),
-        (4, 0, 2, 0),
-        (1, 6, 1, 1),
-        (6, 11, 0, 1),
-        (11, 1, 3, 1),
-        (5, 8, 0, 2),
-        (8, 7, 2, 2),
-        (7, 5, 3, 2),
-        (3, 10, 2, 3),
-        (10, 9, 1, 3),
-        (9, 3, 3, 3),
-    ];
-    assert_links(&dcel, &links, &rt);
+    assert_links(&dcel, &CUT_TRIANGLE, &rt);
     Ok(())
 }
 

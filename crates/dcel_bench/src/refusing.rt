@@ -1,0 +1,84 @@
+//! An allocator that refuses.
+
+use std::alloc::{AllocError, Allocator};
+use std::cell::Cell;
+
+/// Which requests for memory are refused, by their numbers.
+#[derive(Drop)]
+struct Plan {
+    /// How many requests came.
+    requests: Cell<u64>,
+    /// The first that is refused.
+    first: Cell<u64>,
+    /// How many are refused from there on.
+    count: Cell<u64>,
+}
+
+impl Plan {
+    /// Counts a request: whether it is refused.
+    fn refuses(&self) -> bool {
+        let number = self.requests.get();
+        self.requests.set(number.saturating_add(1));
+        let first = self.first.get();
+        number >= first && number - first < self.count.get()
+    }
+
+    /// Counts from 0 again, and refuses so many requests from the first on.
+    fn refuse(&self, first: u64, count: u64) {
+        self.requests.set(0);
+        self.first.set(first);
+        self.count.set(count);
+    }
+}
+
+/// Passes requests for memory on to another allocator, but for those that it was told to refuse. Blocks are given back to the other
+/// one. Contracts see nothing of what is refused. A mesh takes a `&Refusing`, which is an allocator that clones without memory.
+#[derive(Drop)]
+pub struct Refusing<B> {
+    inner: B,
+    plan: Plan,
+}
+
+impl<B> Refusing<B> {
+    /// Refuses no request.
+    pub fn new(inner: B) -> Refusing<B> {
+        Refusing {
+            inner,
+            plan: Plan {
+                requests: Cell::new(0),
+                first: Cell::new(0),
+                count: Cell::new(0),
+            },
+        }
+    }
+
+    /// Counts requests from 0 again, and refuses the one with this number.
+    pub fn refuse_one(&self, number: u64) {
+        self.plan.refuse(number, 1);
+    }
+
+    /// Counts requests from 0 again, and refuses those from this number on.
+    pub fn refuse_from(&self, number: u64) {
+        self.plan.refuse(number, u64::MAX);
+    }
+
+    /// How many requests came since it was last told what to refuse.
+    pub fn requests(&self) -> u64 {
+        self.plan.requests.get()
+    }
+}
+
+unsafe impl<B: Allocator> Allocator for Refusing<B> {
+    ghost dealloc_token = { λ heap ty ptr. B.dealloc_token heap.inner ty ptr };
+
+    fn allocate(&self, size: usize, align: usize) -> Result<*mut u8, AllocError> {
+        if self.plan.refuses() {
+            return Err(AllocError);
+        }
+        self.inner.allocate(size, align)
+    }
+
+    unsafe fn deallocate(&self, ptr: *mut u8, size: usize, align: usize) {
+        self.inner.deallocate(ptr, size, align);
+    }
+}
