@@ -2,7 +2,7 @@
 use Rattle.std.proofs.Common.{◌≡◌, ◌≢◌, ◌⊎◌, inl, inr, ℕ, ◌+◌, ◌*◌, ◌/◌, ◌<◌, ◌≤◌, Bool, true, false, not, nat_lt, ◌&&◌, refl, sym, ap, ◌∙◌, lt-ltb, le-ltb, ltb-true, ltb-false, arith}
 use Rattle.std.proofs.lemmas.Bool.{cases_lt, false≢true, and_parts, and_from, and_cases, and_left, and_right, not-true, not-false, not_from_true, not_from_false, false_from_ne_true}
 use Rattle.dcel_maps.specs.Removals.{Removal, Closed, gives_up_vertex, gives_up_edge, gives_up_face, is_live, IsWithin}
-use Rattle.dcel_maps.specs.Shapes.{Shape, IsLive, edge_is_live}
+use Rattle.dcel_maps.specs.Shapes.{Shape, IsLive, IsSound, edge_is_live, origin_of, vertex_is_live}
 
 -- live is below the count and not given up, both ways
 pub is_live-parts : (g : ℕ → Bool) (n k : ℕ) → is_live g n k ≡ true → (k < n) × (g k ≡ false)
@@ -110,3 +110,11 @@ IsWithin-grown within v e f = record {
   edges = λ k given. let below = within.edges k given in omega arith;
   faces = λ k given. let below = within.faces k given in (below.0, omega arith);
 }
+
+-- a live vertex is in range and not given up
+pub vertex_live-parts : (s : Shape) (v : ℕ) → vertex_is_live s v ≡ true → (v < s.vertices) × (gives_up_vertex s.removal v ≡ false)
+vertex_live-parts s v live = is_live-parts (gives_up_vertex s.removal) s.vertices v live
+
+-- and live half edges start at such
+pub start-parts : (s : Shape) → IsSound s → (h : ℕ) → IsLive s h → (origin_of s h < s.vertices) × (gives_up_vertex s.removal (origin_of s h) ≡ false)
+start-parts s sound h live = vertex_live-parts s (origin_of s h) (sound.starts_live h live)

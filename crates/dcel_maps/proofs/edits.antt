@@ -6,5 +6,7 @@ pub mod Growing
 pub mod Spurs
 pub mod Lines
 pub mod Inserts
-pub mod Creating
+pub mod Alone
+pub mod Appending
+pub mod Beginning
 pub mod FirstTriangle

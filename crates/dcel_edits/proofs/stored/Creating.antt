@@ -8,7 +8,9 @@ use Rattle.dcel_maps.specs.edits.Create.{first_edge_added, outer_alone, vertex_a
 use Rattle.dcel_maps.specs.edits.Triangle.{triangle_alone}
 use Rattle.dcel_maps.specs.Removals.{Closed, Removal}
 use Rattle.dcel_maps.specs.Shapes.{IsMesh, Mesh, vertex_is_live}
-use Rattle.dcel_maps.proofs.edits.Creating.{alone_is_mesh, appending, appending_is, appending_is_edit, beginning, beginning_is, beginning_is_edit, no_half_alone}
+use Rattle.dcel_maps.proofs.edits.Alone.{alone_is_mesh, no_half_alone}
+use Rattle.dcel_maps.proofs.edits.Appending.{appending, appending_is, appending_is_edit}
+use Rattle.dcel_maps.proofs.edits.Beginning.{beginning, beginning_is, beginning_is_edit}
 use Rattle.dcel_maps.proofs.edits.FirstTriangle.{first_triangle, first_triangle_is_edit}
 use Rattle.dcel_edits.specs.Create.{CanBegin, first_edge_stored}
 use Rattle.dcel_edits.specs.Triangle.{triangle_stored}

@@ -87,6 +87,25 @@ module _ {V DE UE F : Type 0} where
     pub face_anchors : length c.face_anchors.more ≡ c.faces
     pub words : length c.words.more ≡ c.faces
 
+  -- the lists without data are mostly written out, so their lengths compute
+  pub fits_with : (c : Change V DE UE F) → length c.vertex_anchors.more ≡ c.vertices → length c.next.more ≡ 2 * c.edges
+      → length c.prev.more ≡ 2 * c.edges → length c.origin.more ≡ 2 * c.edges → length c.face.more ≡ 2 * c.edges
+      → length c.face_anchors.more ≡ c.faces → length c.words.more ≡ c.faces → length c.vertex_data ≡ c.vertices
+      → length c.directed_data ≡ 2 * c.edges → length c.undirected_data ≡ c.edges → length c.face_data ≡ c.faces → Fits c
+  fits_with c vertex_anchors next prev origin face face_anchors words vertex_data directed_data undirected_data face_data = record {
+    vertex_data = vertex_data;
+    vertex_anchors = vertex_anchors;
+    undirected_data = undirected_data;
+    directed_data = directed_data;
+    next = next;
+    prev = prev;
+    origin = origin;
+    face = face;
+    face_data = face_data;
+    face_anchors = face_anchors;
+    words = words;
+  }
+
   -- the links of live half edges alone are replaced
   pub record IsOnLive (s : Shape) (c : Change V DE UE F) : Type 0 where
     pub next : Each (λ h k. IsLive s h) c.next.set

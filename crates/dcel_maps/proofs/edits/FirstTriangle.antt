@@ -7,8 +7,8 @@ use Rattle.dcel_maps.specs.theory.Sound.{Sound, Sphere}
 use Rattle.dcel_maps.specs.Removals.{Closed, gives_up_face}
 use Rattle.dcel_maps.specs.Shapes.{IsMesh, Mesh}
 use Rattle.dcel_maps.proofs.Liveness.{gives_up_edge-closed, gives_up_face-outer, gives_up_vertex-closed, is_live-from}
-use Rattle.dcel_maps.proofs.edits.Changes.{Change, IsEdit, map_after}
-use Rattle.dcel_maps.proofs.edits.Creating.{alone_is_mesh}
+use Rattle.dcel_maps.proofs.edits.Changes.{Change, IsEdit, fits_with, map_after}
+use Rattle.dcel_maps.proofs.edits.Alone.{alone_is_mesh}
 use Rattle.dcel_maps.proofs.edits.Growing.{after-new}
 use Rattle.dcel_maps.proofs.edits.Patches.{Patch, patched_at, patched_at-new, pushing}
 use Rattle.dcel_maps.proofs.maps.Agreement.{Agrees, agrees_keeps}
@@ -103,19 +103,7 @@ module _ {V DE UE F : Type 0} (vertices : V × V × V) (halves : List DE) (edges
   pub first_triangle_is_edit : length halves ≡ 6 → length edges ≡ 3 → IsEdit alone c
   first_triangle_is_edit six three = record {
     room = record { for_vertices = omega arith; for_edges = omega arith; for_faces = omega arith };
-    fits = record {
-      vertex_data = refl;
-      vertex_anchors = refl;
-      undirected_data = three;
-      directed_data = six;
-      next = refl;
-      prev = refl;
-      origin = refl;
-      face = refl;
-      face_data = refl;
-      face_anchors = refl;
-      words = refl;
-    };
+    fits = fits_with c refl refl refl refl refl refl refl refl six three refl;
     on_live = record { next = tt; prev = tt; origin = tt; face = tt };
     sound = keeps.0;
     sphere = keeps.1;

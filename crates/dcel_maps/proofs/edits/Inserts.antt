@@ -9,8 +9,8 @@ use Rattle.dcel_maps.specs.theory.Sound.{Sound, Sphere}
 use Rattle.dcel_maps.specs.Removals.{gives_up_face, gives_up_vertex}
 use Rattle.dcel_maps.specs.theory.Standing.{Stands}
 use Rattle.dcel_maps.specs.Words.{word_of}
-use Rattle.dcel_maps.proofs.Liveness.{is_live-parts}
-use Rattle.dcel_maps.proofs.edits.Changes.{Change, IsEdit, changed, map_after}
+use Rattle.dcel_maps.proofs.Liveness.{is_live-parts, start-parts, vertex_live-parts}
+use Rattle.dcel_maps.proofs.edits.Changes.{Change, IsEdit, changed, fits_with, map_after}
 use Rattle.dcel_maps.proofs.edits.Growing.{after-each, after-edge, after-face, after-new, after-next, after-origin, after-prev, after-still, still_labelled}
 use Rattle.dcel_maps.proofs.edits.Patches.{patched_at-first, patched_at-new, pushing, puts, puts_away, puts_here, replacing}
 use Rattle.dcel_maps.proofs.maps.Insert.{Insert, insert_keeps}
@@ -159,7 +159,7 @@ module _ {V DE UE F : Type 0} (m : Mesh V DE UE F) (mesh : IsMesh m) (f a b c ti
       (λ h live off at. absurd (omega (arith, old_face h live, sym (face_other h live off) ∙ at)))
 
   tip_parts : (tip < m.shape.vertices) × (gives_up_vertex m.shape.removal tip ≡ false)
-  tip_parts = is_live-parts (gives_up_vertex m.shape.removal) m.shape.vertices tip unconnected.live
+  tip_parts = vertex_live-parts m.shape tip unconnected.live
 
   is_insert : Insert S T f a b c tip n
   is_insert = record {
@@ -230,7 +230,7 @@ module _ {V DE UE F : Type 0} (m : Mesh V DE UE F) (mesh : IsMesh m) (f a b c ti
   starts =
       let o = is_insert in
       let kept : (h : ℕ) → IsLive m.shape h → gives_up_vertex m.shape.removal (origin_of m.shape h) ≡ false =
-      λ h live. (is_live-parts (gives_up_vertex m.shape.removal) m.shape.vertices (origin_of m.shape h) (mesh.sound.starts_live h live)).1 in
+      λ h live. (start-parts m.shape mesh.sound h live).1 in
       let is : (h v : ℕ) → T.origin h ≡ v → gives_up_vertex m.shape.removal v ≡ false → gives_up_vertex m.shape.removal (T.origin h) ≡ false =
       λ h v at not_given. ap (gives_up_vertex m.shape.removal) at ∙ not_given in
       after-each m.shape g (λ h. gives_up_vertex m.shape.removal (T.origin h) ≡ false)
@@ -248,19 +248,7 @@ module _ {V DE UE F : Type 0} (m : Mesh V DE UE F) (mesh : IsMesh m) (f a b c ti
   pub insertion_is_edit : IsEdit m g
   insertion_is_edit = record {
     room = room;
-    fits = record {
-      vertex_data = refl;
-      vertex_anchors = refl;
-      undirected_data = three;
-      directed_data = six;
-      next = refl;
-      prev = refl;
-      origin = refl;
-      face = refl;
-      face_data = two;
-      face_anchors = refl;
-      words = refl;
-    };
+    fits = fits_with g refl refl refl refl refl refl refl refl six three two;
     on_live = record {
       next = (was.live_x, (was.live_y, (was.live_z, tt)));
       prev = (was.live_x, (was.live_y, (was.live_z, tt)));

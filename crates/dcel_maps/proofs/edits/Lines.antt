@@ -6,8 +6,7 @@ use Rattle.dcel_maps.specs.Conditions.{HasRoom, IsLineEnd, IsUnconnected}
 use Rattle.dcel_maps.specs.edits.Line.{line_extended}
 use Rattle.dcel_maps.specs.Shapes.{out_edge_of, IsLive, IsMesh, AnchorsVertex, Mesh, face_of, map_of, next_of, origin_of, vertex_anchor}
 use Rattle.dcel_maps.specs.theory.Sound.{Sound}
-use Rattle.dcel_maps.proofs.Liveness.{is_live-parts}
-use Rattle.dcel_maps.specs.Removals.{gives_up_vertex}
+use Rattle.dcel_maps.proofs.Liveness.{vertex_live-parts}
 use Rattle.dcel_maps.proofs.edits.Changes.{Change, IsEdit, changed}
 use Rattle.dcel_maps.proofs.edits.Spurs.{spur, spur_is_edit}
 use Rattle.dcel_maps.proofs.maps.Soundness.{rev_live}
@@ -30,7 +29,7 @@ module _ {V DE UE F : Type 0} (m : Mesh V DE UE F) (mesh : IsMesh m) (end : ℕ)
 
   pub line_end : (out : ℕ) × EndsLine m end out
   line_end =
-      let below = (is_live-parts (gives_up_vertex m.shape.removal) m.shape.vertices end line.live).0 in
+      let below = (vertex_live-parts m.shape end line.live).0 in
       let (out, is, live, from) = anchored (vertex_anchor m end) (mesh.anchored.vertices end below) in
       let sound : Sound (map_of m.shape) = map-sound mesh.sound in
       let back : IsLive m.shape (rev out) = rev_live (map_of m.shape) out live in

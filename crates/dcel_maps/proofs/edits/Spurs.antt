@@ -1,5 +1,5 @@
 -- A spur put into a mesh: an edge from the end of a half edge to a vertex that had none.
-use Rattle.std.proofs.Common.{◌≡◌, ◌≢◌, inl, inr, ℕ, ◌+◌, ◌*◌, ◌/◌, ◌<◌, true, false, List, [], ◌∷◌, length, Some, add-zero, refl, sym, ap, ◌∙◌, subst, arith}
+use Rattle.std.proofs.Common.{◌≡◌, ◌≢◌, inl, inr, ℕ, ◌+◌, ◌*◌, ◌/◌, ◌<◌, false, List, [], ◌∷◌, length, Some, add-zero, refl, sym, ap, ◌∙◌, subst, arith}
 use Rattle.std.proofs.lemmas.Bool.{cases_eq}
 use Rattle.dcel_fixed.specs.HalfEdges.{rev}
 use Rattle.dcel_fixed.proofs.Halves.{rev-double-suc}
@@ -7,11 +7,11 @@ use Rattle.dcel_maps.specs.Conditions.{HasRoom, IsUnconnected}
 use Rattle.dcel_maps.specs.Maps.{Live, Map}
 use Rattle.dcel_maps.specs.theory.Sound.{Sound, Sphere}
 use Rattle.dcel_maps.specs.Removals.{gives_up_edge, gives_up_vertex}
-use Rattle.dcel_maps.specs.Shapes.{IsLive, IsMesh, Mesh, face_anchor, face_of, map_of, next_of, origin_of, vertex_is_live}
+use Rattle.dcel_maps.specs.Shapes.{IsLive, IsMesh, Mesh, face_anchor, face_of, map_of, next_of, origin_of}
 use Rattle.dcel_maps.specs.theory.Standing.{Stands}
 use Rattle.dcel_maps.specs.Words.{become, count_of, word_of}
-use Rattle.dcel_maps.proofs.Liveness.{is_live-parts, is_live-past}
-use Rattle.dcel_maps.proofs.edits.Changes.{Change, IsEdit, map_after}
+use Rattle.dcel_maps.proofs.Liveness.{is_live-past, vertex_live-parts, start-parts}
+use Rattle.dcel_maps.proofs.edits.Changes.{Change, IsEdit, fits_with, map_after}
 use Rattle.dcel_maps.proofs.edits.Growing.{after-each, after-edge, after-face, after-new, after-next, after-origin, after-prev, still_labelled}
 use Rattle.dcel_maps.proofs.edits.Patches.{patched_at-first, patched_at-new, pushing, replacing}
 use Rattle.dcel_maps.proofs.maps.Counts.{Used}
@@ -83,7 +83,7 @@ module _ {V DE UE F : Type 0} (m : Mesh V DE UE F) where
     second_live = after-new m.shape c mesh.sized.within (n + 1) (omega arith) (omega arith)
 
     tip_parts : (tip < m.shape.vertices) × (gives_up_vertex m.shape.removal tip ≡ false)
-    tip_parts = is_live-parts (gives_up_vertex m.shape.removal) m.shape.vertices tip unconnected.live
+    tip_parts = vertex_live-parts m.shape tip unconnected.live
 
     is_spur : Spur S T before (n + 1) tip
     is_spur = record {
@@ -135,31 +135,16 @@ module _ {V DE UE F : Type 0} (m : Mesh V DE UE F) where
         let used : Used S (face_of m.shape) f = record { half = before; live = live; is = refl } in
         still_labelled m.shape c (face_of m.shape) T.face f (after-face m.shape c) (λ at. used, λ at. used)
 
-    not_given_up : (v : ℕ) → vertex_is_live m.shape v ≡ true → gives_up_vertex m.shape.removal v ≡ false
-    not_given_up v lives = (is_live-parts (gives_up_vertex m.shape.removal) m.shape.vertices v lives).1
-
     pub spur_is_edit : IsEdit m c
     spur_is_edit = record {
       room = room;
-      fits = record {
-        vertex_data = refl;
-        vertex_anchors = refl;
-        undirected_data = one;
-        directed_data = two;
-        next = refl;
-        prev = refl;
-        origin = refl;
-        face = refl;
-        face_data = refl;
-        face_anchors = refl;
-        words = refl;
-      };
+      fits = fits_with c refl refl refl refl refl refl refl refl two one refl;
       on_live = record { next = (live, tt); prev = (after_live, tt); origin = tt; face = tt };
       sound = keeps.0;
       sphere = keeps.1;
       starts = after-each m.shape c (λ h. gives_up_vertex m.shape.removal (T.origin h) ≡ false)
-          (λ h lives. rw (after-origin m.shape c h lives) (not_given_up _ (mesh.sound.starts_live h lives)))
-          ((rw back tip_parts.1), (rw is_spur.origin_h (not_given_up _ (mesh.sound.starts_live after after_live))));
+          (λ h lives. rw (after-origin m.shape c h lives) (start-parts m.shape mesh.sound h lives).1)
+          ((rw back tip_parts.1), (rw is_spur.origin_h (start-parts m.shape mesh.sound after after_live).1));
       words = (
         (
           record {

@@ -1,0 +1,102 @@
+-- A vertex put last.
+use Rattle.std.proofs.Common.{◌≡◌, inl, ℕ, ◌/◌, [], ◌∷◌, None, add-zero, append-nil, refl, sym, ◌∙◌, arith}
+use Rattle.dcel_maps.specs.Conditions.{HasRoom}
+use Rattle.dcel_maps.specs.edits.Create.{vertex_appended}
+use Rattle.dcel_maps.specs.Maps.{Live, Map}
+use Rattle.dcel_maps.specs.theory.Sound.{Sound, Sphere}
+use Rattle.dcel_maps.specs.Shapes.{IsLive, IsMesh, Mesh, map_of, origin_of}
+use Rattle.dcel_maps.proofs.Liveness.{start-parts}
+use Rattle.dcel_maps.proofs.edits.Changes.{Change, IsEdit, changed, fits_with, map_after}
+use Rattle.dcel_maps.proofs.edits.Growing.{after-edge, after-face, after-next, after-origin, after-prev, still_labelled}
+use Rattle.dcel_maps.proofs.edits.Patches.{pushing, replacing}
+use Rattle.dcel_maps.proofs.maps.Agreement.{Extends, extends_keeps}
+use Rattle.dcel_maps.proofs.shapes.Maps.{map-sound, map-sphere}
+
+-- one more vertex, without an anchor
+abbrev pub appending : {V DE UE F : Type 0} → V → Change V DE UE F
+appending datum = record {
+  vertices = 1;
+  edges = 0;
+  faces = 0;
+  words = replacing [];
+  next = replacing [];
+  prev = replacing [];
+  origin = replacing [];
+  face = replacing [];
+  vertex_anchors = pushing (None ∷ []);
+  face_anchors = replacing [];
+  vertex_data = datum ∷ [];
+  directed_data = [];
+  undirected_data = [];
+  face_data = [];
+}
+
+module _ {V DE UE F : Type 0} (m : Mesh V DE UE F) (datum : V) where
+  abbrev c : Change V DE UE F
+  c = appending datum
+
+  pub appending_is : changed m c ≡ vertex_appended m datum
+  appending_is = simp (add-zero, append-nil) refl
+
+  module _ (mesh : IsMesh m) (room : HasRoom m.shape 1 0 0) where
+    abbrev S : Map
+    S = map_of m.shape
+
+    abbrev T : Map
+    T = map_after m.shape c
+
+    edge : (u : ℕ) → T.edge u ≡ S.edge u
+    edge u = after-edge m.shape c u (λ less. omega (arith, less))
+
+    was : (h : ℕ) → Live T h → IsLive m.shape h
+    was h live = sym (edge (h / 2)) ∙ live
+
+    extends : Extends S T
+    extends = record {
+      vertices = omega arith;
+      edges = omega arith;
+      faces = omega arith;
+      edge = edge;
+      next = after-next m.shape c;
+      prev = after-prev m.shape c;
+      origin = after-origin m.shape c;
+      face = after-face m.shape c;
+    }
+
+    keeps : Sound T × Sphere T
+    keeps = extends_keeps S T extends (map-sound mesh.sound) (map-sphere mesh.sound mesh.sphere)
+
+    pub appending_is_edit : IsEdit m c
+    appending_is_edit = record {
+      room = room;
+      fits = fits_with c refl refl refl refl refl refl refl refl refl refl refl;
+      on_live = record { next = tt; prev = tt; origin = tt; face = tt };
+      sound = keeps.0;
+      sphere = keeps.1;
+      starts = λ h live.
+          let here = was h live in
+          rw (after-origin m.shape c h here)
+          (start-parts m.shape mesh.sound h here).1;
+      words = tt;
+      new_words = tt;
+      other_words = λ f f_in off. record {
+        comes = λ h live at. let here = was h live in (here, sym (after-face m.shape c h here) ∙ at);
+        live = λ h live at. edge (h / 2) ∙ live;
+        next = λ h live at. after-next m.shape c h live;
+        prev = λ h live at. after-prev m.shape c h live;
+        face = λ h live at. after-face m.shape c h live ∙ at;
+      };
+      outer = λ u live off. (u, sym (edge u) ∙ live);
+      vertex_anchors = tt;
+      new_vertex_anchors = (
+        λ h live at.
+            let here = was h live in
+            let below = (map-sound mesh.sound).below_vertices h here in
+            omega (arith, below, sym (after-origin m.shape c h here) ∙ at),
+        tt,
+      );
+      other_vertices = λ v v_in off. still_labelled m.shape c (origin_of m.shape) T.origin v (after-origin m.shape c) tt;
+      face_anchors = tt;
+      new_face_anchors = tt;
+      other_faces = λ f f_in off. inl tt;
+    }
