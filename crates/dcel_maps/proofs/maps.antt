@@ -11,13 +11,10 @@ pub mod Growth
 pub mod Halves
 pub mod Labels
 pub mod Insert
-pub mod Made
-pub mod Orbits
 pub mod Reaching
 pub mod Renames
 pub mod Soundness
 pub mod Spurs
-pub mod Totals
 pub mod Triangles
 pub mod Updates
 pub mod Words

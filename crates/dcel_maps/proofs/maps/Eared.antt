@@ -5,7 +5,7 @@ use Rattle.dcel_fixed.specs.HalfEdges.{rev}
 use Rattle.dcel_maps.specs.Maps.{Live, Map}
 use Rattle.dcel_maps.specs.theory.Sound.{Sound, Sphere}
 use Rattle.dcel_maps.proofs.maps.Ears.{ear_keeps, two_in}
-use Rattle.dcel_maps.proofs.maps.Edits.{Ear, two}
+use Rattle.dcel_maps.proofs.maps.Edits.{Ear}
 use Rattle.dcel_maps.proofs.maps.Halves.{rev_half, rev_or_same}
 use Rattle.dcel_maps.proofs.maps.Triangles.{Alone, IsTriangleOf, SameLinks}
 use Rattle.dcel_maps.proofs.maps.Updates.{put}
