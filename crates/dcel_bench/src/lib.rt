@@ -16,6 +16,8 @@ mod lines;
 #[cfg(test)]
 mod meshes;
 #[cfg(test)]
+mod readme;
+#[cfg(test)]
 mod refused_lines;
 #[cfg(test)]
 mod refused_memory;
