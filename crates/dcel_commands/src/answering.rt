@@ -35,12 +35,13 @@ fn tell<A: Allocator, K: LineSink>(
     ensures { TellsOrRefuses K.has_failed K.contents out.old mesh.now.shape query result out.new }
 {
     match query {
-        Query::Counts => counts::tell(out, mesh),
-        Query::Words => words::tell(out, mesh),
-        Query::Out(vertex) => out_edges::tell(out, mesh, vertex),
-        Query::Origin(edge) => origin::tell(out, mesh, edge),
-        Query::Check => check::tell(out, mesh),
+        Query::Counts => counts::write_counts(out, mesh),
+        Query::Words => words::write_words(out, mesh),
+        Query::Out(vertex) => out_edges::tell(out, mesh, vertex)?,
+        Query::Origin(edge) => origin::tell(out, mesh, edge)?,
+        Query::Check => check::write_check(out, mesh),
     }
+    Ok(())
 }
 
 /// Does what a line says, and writes the answer.

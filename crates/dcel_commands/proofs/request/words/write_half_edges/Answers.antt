@@ -5,7 +5,7 @@ use Rattle.dcel_maps.specs.Words.{word_of}
 use Rattle.dcel_text.specs.Texts.{listed}
 use Rattle.dcel_commands.proofs.FaceWalks.{anchor_lies, unanchored_word, live_below}
 use Rattle.dcel_text.proofs.Writing.{writes_nothing, writes_text}
-use Rattle.dcel_commands.proofs.faces.write_half_edges.Goals as goal
+use Rattle.dcel_commands.proofs.request.words.write_half_edges.Goals as goal
 
 pub returns-in_default : goal.returns-in_default
 returns-in_default g c =

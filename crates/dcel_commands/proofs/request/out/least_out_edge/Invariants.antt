@@ -2,7 +2,7 @@ use Rattle.std.proofs.Common.{◌≡◌}
 use Rattle.spade_dcel.specs.Handles.{mesh_behind, number_of}
 use Rattle.dcel_maps.specs.Walking.{IsOutEdge}
 use Rattle.dcel_commands.proofs.OutEdges.{LeastSeen}
-use Rattle.dcel_commands.proofs.turns.least_out_edge.Given as goal
+use Rattle.dcel_commands.proofs.request.out.least_out_edge.Given as goal
 
 abbrev pub invariant-loop-edge : goal.invariant-loop-edge
 invariant-loop-edge g l = record {

@@ -2,7 +2,7 @@ use Rattle.std.proofs.Common.{◌∙◌, arith}
 use Rattle.spade_dcel.specs.Handles.{mesh_behind, number_of}
 use Rattle.dcel_commands.proofs.FaceWalks.{IsStep, first_stands, step_stands, stands_live, left_less, listed_first, listed_more, listed_all}
 use Rattle.dcel_text.proofs.Writing.{writes_and, writes_text}
-use Rattle.dcel_commands.proofs.faces.write_word.Goals as goal
+use Rattle.dcel_commands.proofs.request.words.write_word.Goals as goal
 
 pub loop-least-init : goal.loop-least-init
 loop-least-init g c =

@@ -1,11 +1,11 @@
 use Rattle.std.proofs.Common.{◌≡◌, ◌<◌}
 use Rattle.spade_dcel.specs.Handles.{mesh_behind, number_of}
 use Rattle.dcel_maps.specs.Words.{count_of}
-use Rattle.dcel_commands.specs.Faces.{word_round}
+use Rattle.dcel_commands.specs.request.Words.{word_round}
 use Rattle.dcel_text.specs.Output.{Writes}
 use Rattle.dcel_text.specs.Texts.{listed}
 use Rattle.dcel_commands.proofs.FaceWalks.{passed_round, left_round}
-use Rattle.dcel_commands.proofs.faces.write_word.Given as goal
+use Rattle.dcel_commands.proofs.request.words.write_word.Given as goal
 
 abbrev pub invariant-loop-least : goal.invariant-loop-least
 invariant-loop-least g l = record {

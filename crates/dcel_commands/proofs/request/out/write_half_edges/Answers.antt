@@ -2,9 +2,9 @@ use Rattle.std.proofs.Common.{◌≡◌, ◌∙◌, ap, Some, None}
 use Rattle.spade_dcel.specs.Handles.{mesh_behind, number_of}
 use Rattle.dcel_maps.specs.Walking.{walk_from, walk_of, ccw_of}
 use Rattle.dcel_text.specs.Texts.{listed}
-use Rattle.dcel_commands.specs.Turns.{least_out}
+use Rattle.dcel_commands.specs.request.Out.{least_out}
 use Rattle.dcel_text.proofs.Writing.{writes_nothing, writes_text}
-use Rattle.dcel_commands.proofs.turns.write_half_edges.Goals as goal
+use Rattle.dcel_commands.proofs.request.out.write_half_edges.Goals as goal
 
 pub returns-in_default : goal.returns-in_default
 returns-in_default g c =

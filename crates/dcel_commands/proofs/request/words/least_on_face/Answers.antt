@@ -1,8 +1,8 @@
 use Rattle.std.proofs.Common.{◌∙◌, arith, refl}
 use Rattle.spade_dcel.specs.Handles.{mesh_behind, number_of}
 use Rattle.dcel_commands.proofs.FaceWalks.{IsStep, stands_live, left_less, least_first, least_more, least_all}
-use Rattle.dcel_commands.proofs.faces.least_on_face.Goals as goal
-use Rattle.dcel_commands.proofs.faces.least_on_face.Goals.{then-index, else-index}
+use Rattle.dcel_commands.proofs.request.words.least_on_face.Goals as goal
+use Rattle.dcel_commands.proofs.request.words.least_on_face.Goals.{then-index, else-index}
 
 pub loop-anchor-init : goal.loop-anchor-init
 loop-anchor-init g c = record {

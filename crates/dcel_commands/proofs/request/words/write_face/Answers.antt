@@ -2,10 +2,10 @@ use Rattle.std.proofs.Common.{◌≡◌, ◌∷◌, ◌++◌, ◌∙◌, [], con
 use Rattle.std.specs.Fmt.{decimal}
 use Rattle.dcel_maps.specs.Shapes.{face_is_live}
 use Rattle.dcel_maps.specs.Words.{word_of}
-use Rattle.dcel_commands.specs.Faces.{face_line}
+use Rattle.dcel_commands.specs.request.Words.{face_line}
 use Rattle.dcel_text.specs.Texts.{listed}
 use Rattle.dcel_text.proofs.Writing.{writes_nothing, writes_and, writes_text}
-use Rattle.dcel_commands.proofs.faces.write_face.Goals as goal
+use Rattle.dcel_commands.proofs.request.words.write_face.Goals as goal
 
 pub returns-then-not-is_live_face : goal.returns-then-not-is_live_face
 returns-then-not-is_live_face g c =

@@ -1,7 +1,7 @@
 use Rattle.std.proofs.Common.{◌≡◌}
 use Rattle.spade_dcel.specs.Handles.{mesh_behind, number_of}
 use Rattle.dcel_commands.proofs.FaceWalks.{IsLeastSoFar, left_round}
-use Rattle.dcel_commands.proofs.faces.least_on_face.Given as goal
+use Rattle.dcel_commands.proofs.request.words.least_on_face.Given as goal
 
 abbrev pub invariant-loop-anchor : goal.invariant-loop-anchor
 invariant-loop-anchor g l = record {

@@ -3,7 +3,7 @@ use Rattle.spade_dcel.specs.Handles.{mesh_behind, number_of}
 use Rattle.dcel_maps.specs.Shapes.{vertex_anchor}
 use Rattle.dcel_commands.proofs.FaceWalks.{live_below}
 use Rattle.dcel_commands.proofs.OutEdges.{least_goes_on, least_is_found, least_out-some, no_anchor}
-use Rattle.dcel_commands.proofs.turns.least_out_edge.Goals as goal
+use Rattle.dcel_commands.proofs.request.out.least_out_edge.Goals as goal
 
 pub returns-in_err-least-clause-least : goal.returns-in_err-least-clause-least
 returns-in_err-least-clause-least g c =

@@ -1,5 +1,5 @@
 use Rattle.dcel_text.proofs.Writing.{writes_and, writes_text}
-use Rattle.dcel_commands.proofs.turns.write_counts.Goals as goal
+use Rattle.dcel_commands.proofs.request.counts.write_counts.Goals as goal
 
 pub returns : goal.returns
 returns g c =

@@ -3,7 +3,7 @@ use Rattle.dcel_maps.specs.Walking.{ccw_of, walk_of}
 use Rattle.dcel_text.specs.Output.{Writes}
 use Rattle.dcel_text.specs.Texts.{listed}
 use Rattle.dcel_commands.proofs.OutEdges.{ListedSoFar}
-use Rattle.dcel_commands.proofs.turns.write_turn.Given as goal
+use Rattle.dcel_commands.proofs.request.out.write_turn.Given as goal
 
 abbrev pub invariant-loop-edge : goal.invariant-loop-edge
 invariant-loop-edge g l =

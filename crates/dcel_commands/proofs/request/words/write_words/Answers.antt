@@ -1,7 +1,7 @@
 use Rattle.std.proofs.Common.{sym, ap, add-one}
-use Rattle.dcel_commands.specs.Faces.{line_of, lines_below}
+use Rattle.dcel_commands.specs.request.Words.{line_of, lines_below}
 use Rattle.dcel_text.proofs.Writing.{writes_nothing, writes_and, writes_text}
-use Rattle.dcel_commands.proofs.faces.write_words.Goals as goal
+use Rattle.dcel_commands.proofs.request.words.write_words.Goals as goal
 
 pub loop-index-init : goal.loop-index-init
 loop-index-init g c = writes_nothing

@@ -4,7 +4,7 @@ use Rattle.spade_dcel.specs.Handles.{mesh_behind, number_of}
 use Rattle.dcel_text.specs.Texts.{listed}
 use Rattle.dcel_commands.proofs.OutEdges.{listing_begins, listing_goes_on, listing_ends}
 use Rattle.dcel_text.proofs.Writing.{writes_nothing, writes_and, writes_text}
-use Rattle.dcel_commands.proofs.turns.write_turn.Goals as goal
+use Rattle.dcel_commands.proofs.request.out.write_turn.Goals as goal
 
 pub loop-edge-init : goal.loop-edge-init
 loop-edge-init g c =

@@ -2,9 +2,9 @@ use Rattle.std.proofs.Common.{◌≡◌, ◌∙◌, ◌++◌, ap}
 use Rattle.std.specs.Prelude.{codes}
 use Rattle.spade_dcel.specs.Handles.{mesh_behind, number_of}
 use Rattle.dcel_text.specs.Texts.{ended, listed}
-use Rattle.dcel_commands.specs.Turns.{turn_of}
+use Rattle.dcel_commands.specs.request.Out.{turn_of}
 use Rattle.dcel_text.proofs.Writing.{writes_and, writes_text}
-use Rattle.dcel_commands.proofs.turns.write_out_edges.Goals as goal
+use Rattle.dcel_commands.proofs.request.out.write_out_edges.Goals as goal
 
 pub returns : goal.returns
 returns g c =
