@@ -12,4 +12,5 @@ pub mod Spelling
 pub mod Stage
 pub mod Steps
 pub mod Talk
+pub mod Vocabulary
 pub mod request

@@ -1,4 +1,5 @@
 //! What a line says: a command, or a query. Each has a file of its own: how it is read, what it asks, and how it is carried out or told.
+#![tactic(auto, unfolding(crate::specs::Spelling::Says))]
 
 pub mod append;
 pub mod check;

@@ -1,15 +1,11 @@
 //! `counts`
 
-ghost use Rattle.std.specs.Prelude.{codes};
-ghost use Rattle.dcel_text.specs.Items.{left};
-ghost use Rattle.dcel_text.specs.Output.{Writes};
-ghost use Rattle.dcel_commands.specs.Spelling.{Says};
+ghost use Rattle.dcel_commands.specs.Vocabulary.{Says, Writes, codes, left};
 ghost use Rattle.dcel_commands.specs.request.Counts.{counts_text};
 
 use super::*;
 
 /// What the line says after its word.
-#[tactic(auto, unfolding(crate::specs::Spelling::Says))]
 pub fn read<'a>(rest: Rest<'a>) -> Option<Request>
     ensures { Says (codes "counts") (left rest.entry) result }
 {

@@ -1,15 +1,11 @@
 //! `insert B F`
 
-ghost use Rattle.std.specs.Prelude.{◌≤◌, ◌^◌, codes};
-ghost use Rattle.dcel_text.specs.Items.{left};
-ghost use Rattle.dcel_commands.specs.Spelling.{Says};
-ghost use Rattle.dcel_commands.specs.Steps.{Carries};
+ghost use Rattle.dcel_commands.specs.Vocabulary.{◌≤◌, ◌^◌, Carries, Says, codes, left};
 
 use super::*;
 use spade_dcel::operations::insert_into_triangle;
 
 /// What the line says after its word.
-#[tactic(auto, unfolding(crate::specs::Spelling::Says))]
 pub fn read<'a>(rest: Rest<'a>) -> Option<Request>
     ensures { Says (codes "insert") (left rest.entry) result }
 {

@@ -1,15 +1,11 @@
 //! `origin H`
 
-ghost use Rattle.std.specs.Prelude.{codes};
-ghost use Rattle.dcel_text.specs.Items.{left};
-ghost use Rattle.dcel_commands.specs.Queries.{TellsOrRefuses};
-ghost use Rattle.dcel_commands.specs.Spelling.{Says};
+ghost use Rattle.dcel_commands.specs.Vocabulary.{Says, TellsOrRefuses, codes, left};
 
 use super::*;
 use crate::replies::write_reply;
 
 /// What the line says after its word.
-#[tactic(auto, unfolding(crate::specs::Spelling::Says))]
 pub fn read<'a>(rest: Rest<'a>) -> Option<Request>
     ensures { Says (codes "origin") (left rest.entry) result }
 {

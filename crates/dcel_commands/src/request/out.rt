@@ -1,23 +1,13 @@
 //! `out V`
 
-ghost use Rattle.std.specs.Prelude.{◌≡◌, ◌<◌, IfSome, codes};
-ghost use Rattle.std.specs.Option.{option_map};
-ghost use Rattle.dcel_text.specs.Items.{left};
-ghost use Rattle.dcel_text.specs.Output.{Writes};
-ghost use Rattle.dcel_text.specs.Texts.{listed};
-ghost use Rattle.dcel_commands.specs.Queries.{TellsOrRefuses};
-ghost use Rattle.dcel_commands.specs.Spelling.{Says};
+ghost use Rattle.dcel_commands.specs.Vocabulary.{◌≡◌, ◌<◌, IfSome, IsLive, Says, TellsOrRefuses, Writes, ccw_of, codes, left, listed, mesh_behind, number_of, option_map, walk_of};
 ghost use Rattle.dcel_commands.specs.request.Out.{least_out, turn_of, turn_text};
-ghost use Rattle.spade_dcel.specs.Handles.{mesh_behind, number_of};
-ghost use Rattle.dcel_maps.specs.Shapes.{IsLive};
-ghost use Rattle.dcel_maps.specs.Walking.{ccw_of, walk_of};
 
 use super::*;
 use spade_dcel::handles::{DirectedEdgeHandle, VertexHandle};
 use spade_dcel::iterators::{CCWEdgesNextBackFn, CircularIterator};
 
 /// What the line says after its word.
-#[tactic(auto, unfolding(crate::specs::Spelling::Says))]
 pub fn read<'a>(rest: Rest<'a>) -> Option<Request>
     ensures { Says (codes "out") (left rest.entry) result }
 {

@@ -1,21 +1,13 @@
 //! `words`
 
-ghost use Rattle.std.specs.Prelude.{◌≡◌, ◌<◌, codes};
-ghost use Rattle.dcel_text.specs.Items.{left};
-ghost use Rattle.dcel_text.specs.Output.{Writes};
-ghost use Rattle.dcel_text.specs.Texts.{listed};
-ghost use Rattle.dcel_commands.specs.Spelling.{Says};
+ghost use Rattle.dcel_commands.specs.Vocabulary.{◌≡◌, ◌<◌, IsLive, IsMesh, IsSound, Says, Writes, codes, face_count, face_of, left, listed, mesh_behind, number_of, word_of};
 ghost use Rattle.dcel_commands.specs.request.Words.{line_of, words_text, word_round, IsLeastOnFace};
-ghost use Rattle.spade_dcel.specs.Handles.{mesh_behind, number_of};
-ghost use Rattle.dcel_maps.specs.Shapes.{IsLive, IsMesh, IsSound, face_count, face_of};
-ghost use Rattle.dcel_maps.specs.Words.{word_of};
 
 use super::*;
 use spade_dcel::handles::{DirectedEdgeHandle, PossiblyOuterTag, new_fixed_face_handle};
 use spade_dcel::laws::every_mesh;
 
 /// What the line says after its word.
-#[tactic(auto, unfolding(crate::specs::Spelling::Says))]
 pub fn read<'a>(rest: Rest<'a>) -> Option<Request>
     ensures { Says (codes "words") (left rest.entry) result }
 {
