@@ -5,7 +5,6 @@ ghost use Rattle.std.specs.Fmt.{decimal, signed_decimal};
 ghost use Rattle.dcel_text.specs.Numbers.{IsNumber, IsDatum};
 ghost use Rattle.dcel_text.specs.Items.{left};
 
-use dcel_fixed::{FixedDirectedEdgeHandle, FixedFaceHandle, FixedVertexHandle, InnerTag};
 use dcel_text::items::{Rest, datum_then, is_end, last_datum, last_number, number_then};
 
 /// Nothing.
@@ -36,25 +35,4 @@ pub fn two_numbers<'a>(rest: Rest<'a>) -> Option<(u32, u32)>
     let (m, others) = number_then(rest)?;
     let n = last_number(others)?;
     Some((m, n))
-}
-
-/// The vertex of this number.
-pub fn vertex(number: u32) -> FixedVertexHandle
-    ensures { result ≡ number }
-{
-    FixedVertexHandle::new(number as usize)
-}
-
-/// The half edge of this number.
-pub fn half_edge(number: u32) -> FixedDirectedEdgeHandle
-    ensures { result ≡ number }
-{
-    FixedDirectedEdgeHandle::new(number as usize)
-}
-
-/// The inner face of this number.
-pub fn inner_face(number: u32) -> FixedFaceHandle<InnerTag>
-    ensures { result ≡ number }
-{
-    FixedFaceHandle::new(number as usize)
 }

@@ -14,7 +14,7 @@ pub mod words;
 
 use crate::asking::{are_within, ask, has_half_edge, has_inner_face, has_room, has_vertex};
 use crate::commands::{Command, Handed, Refused, Reply};
-use crate::given::{half_edge, inner_face, nothing, three_data, two_numbers, vertex};
+use crate::given::{nothing, three_data, two_numbers};
 use crate::refusal::Refusal;
 use dcel_fixed::{FixedDirectedEdgeHandle, FixedFaceHandle, FixedVertexHandle, InnerTag};
 use dcel_text::items::{Rest, last_datum, last_number};

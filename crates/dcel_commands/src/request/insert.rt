@@ -10,7 +10,10 @@ pub fn read<'a>(rest: Rest<'a>) -> Option<Request>
     ensures { Says (codes "insert") (left rest.entry) result }
 {
     let (v, f) = two_numbers(rest)?;
-    Some(Request::Edit(Command::Insert(vertex(v), inner_face(f))))
+    Some(Request::Edit(Command::Insert(
+        FixedVertexHandle::new(v as usize),
+        FixedFaceHandle::new(f as usize),
+    )))
 }
 
 /// Carries the command out.

@@ -10,7 +10,7 @@ pub fn read<'a>(rest: Rest<'a>) -> Option<Request>
     ensures { Says (codes "origin") (left rest.entry) result }
 {
     let number = last_number(rest)?;
-    Some(Request::Ask(Query::Origin(half_edge(number))))
+    Some(Request::Ask(Query::Origin(FixedDirectedEdgeHandle::new(number as usize))))
 }
 
 /// Writes the answer, or refuses and writes nothing.

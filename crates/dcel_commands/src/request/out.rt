@@ -12,7 +12,7 @@ pub fn read<'a>(rest: Rest<'a>) -> Option<Request>
     ensures { Says (codes "out") (left rest.entry) result }
 {
     let number = last_number(rest)?;
-    Some(Request::Ask(Query::Out(vertex(number))))
+    Some(Request::Ask(Query::Out(FixedVertexHandle::new(number as usize))))
 }
 
 /// Writes the answer, or refuses and writes nothing.

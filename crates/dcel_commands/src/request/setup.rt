@@ -10,7 +10,10 @@ pub fn read<'a>(rest: Rest<'a>) -> Option<Request>
     ensures { Says (codes "setup") (left rest.entry) result }
 {
     let (a, b) = two_numbers(rest)?;
-    Some(Request::Edit(Command::Setup(vertex(a), vertex(b))))
+    Some(Request::Edit(Command::Setup(
+        FixedVertexHandle::new(a as usize),
+        FixedVertexHandle::new(b as usize),
+    )))
 }
 
 /// Carries the command out.
