@@ -47,13 +47,6 @@ pub fn has_inner_face<V, DE, UE, F, A: Allocator>(
     0 < face.index() && face.index() < dcel.num_faces()
 }
 
-/// Whether none of the counts is above the limit.
-pub fn are_within(limit: usize, vertices: usize, edges: usize, faces: usize) -> bool
-    ensures { IsTrue result ↔ AreWithin limit vertices edges faces }
-{
-    vertices <= limit && edges <= limit && faces <= limit
-}
-
 /// Whether so many more vertices, edges and faces pass no limit.
 pub fn has_room<V, DE, UE, F, A: Allocator>(
     dcel: &Dcel<V, DE, UE, F, A>,
@@ -68,10 +61,7 @@ pub fn has_room<V, DE, UE, F, A: Allocator>(
     // The limit is so low that numbers are left where it isn't passed.
     ensures room { IsTrue result → HasRoom dcel.now.shape vertices edges faces }
 {
-    are_within(
-        limit,
-        dcel.num_vertices().saturating_add(vertices),
-        dcel.num_undirected_edges().saturating_add(edges),
-        dcel.num_faces().saturating_add(faces),
-    )
+    dcel.num_vertices().saturating_add(vertices) <= limit
+        && dcel.num_undirected_edges().saturating_add(edges) <= limit
+        && dcel.num_faces().saturating_add(faces) <= limit
 }

@@ -3,7 +3,6 @@
 ghost use Rattle.dcel_text.specs.Output.{Writes};
 ghost use Rattle.dcel_commands.specs.Refusal.{refusal_text};
 ghost use Rattle.dcel_commands.specs.Replies.{reply_text};
-ghost use Rattle.dcel_text.specs.Texts.{ended, numbered};
 
 use crate::commands::Reply;
 use crate::refusal::Refusal;
@@ -21,20 +20,15 @@ pub fn write_refusal<K: LineSink>(out: &mut Writer<'_, K>, why: Refusal)
     out.push(b'\n');
 }
 
-/// Writes a word with a number after it, as a line.
-fn write_numbered<K: LineSink>(out: &mut Writer<'_, K>, word: &[u8], n: u64)
-    ensures { Writes K.has_failed K.contents out.old out.new (ended (numbered word.now n)) }
-{
-    out.numbered(word, n);
-    out.push(b'\n');
-}
-
 /// Writes a reply.
 pub fn write_reply<K: LineSink>(out: &mut Writer<'_, K>, reply: Reply)
     ensures { Writes K.has_failed K.contents out.old out.new (reply_text reply) }
 {
     match reply {
         Reply::Ok => out.write(b"ok\n"),
-        Reply::Vertex(vertex) => write_numbered(out, b"vertex ", vertex.index() as u64),
+        Reply::Vertex(vertex) => {
+            out.numbered(b"vertex ", vertex.index() as u64);
+            out.push(b'\n');
+        }
     }
 }

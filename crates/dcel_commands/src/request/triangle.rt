@@ -23,7 +23,7 @@ pub fn carry_out<
 >(dcel: &mut Dcel<V, DE, UE, F, A>, vertices: (V, V, V), limit: usize) -> Result<Reply, Refused<V>>
     ensures { Carries DE.is_default UE.is_default F.is_default limit dcel.old (Command.Triangle vertices.0 vertices.1 vertices.2) result dcel.new }
 {
-    if !are_within(limit, 3, 3, 2) {
+    if limit < 3 {
         return Err(refused(Refusal::NoRoom, vertices));
     }
     let alloc = match dcel.allocator().clone() {
