@@ -15,9 +15,9 @@ pub fn write_refusal<K: LineSink>(out: &mut Writer<'_, K>, why: Refusal)
 {
     out.write(b"refused ");
     out.number(u64::from(why.number()));
-    out.push(b' ');
+    out.write(b" ");
     out.write(why.name().as_bytes());
-    out.push(b'\n');
+    out.write(b"\n");
 }
 
 /// Writes a reply.
@@ -28,7 +28,7 @@ pub fn write_reply<K: LineSink>(out: &mut Writer<'_, K>, reply: Reply)
         Reply::Ok => out.write(b"ok\n"),
         Reply::Vertex(vertex) => {
             out.numbered(b"vertex ", vertex.index() as u64);
-            out.push(b'\n');
+            out.write(b"\n");
         }
     }
 }

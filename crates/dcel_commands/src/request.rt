@@ -14,10 +14,10 @@ pub mod words;
 
 use crate::asking::{ask, has_half_edge, has_inner_face, has_room, has_vertex};
 use crate::commands::{Command, Handed, Refused, Reply};
-use crate::given::{nothing, three_data, two_numbers};
+use crate::given::{three_data, two_numbers};
 use crate::refusal::Refusal;
 use dcel_fixed::{FixedDirectedEdgeHandle, FixedFaceHandle, FixedVertexHandle, InnerTag};
-use dcel_text::items::{Rest, last_datum, last_number};
+use dcel_text::items::{Rest, datum_then, nothing, number_then};
 use dcel_text::output::Writer;
 use dcel_text::sink::LineSink;
 use spade_dcel::dcel::Dcel;

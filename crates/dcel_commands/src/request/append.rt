@@ -9,7 +9,8 @@ use spade_dcel::operations::{NoMemory, append_unconnected_vertex};
 pub fn read<'a>(rest: Rest<'a>) -> Option<Request>
     ensures { Says (codes "append") (left rest.entry) result }
 {
-    let datum = last_datum(rest)?;
+    let (datum, others) = datum_then(rest)?;
+    nothing(others)?;
     Some(Request::Edit(Command::Append(datum)))
 }
 

@@ -23,5 +23,5 @@ pub fn write_counts<V, DE, UE, F, A: Allocator, K: LineSink>(
     out.numbered(b"vertices ", dcel.num_vertices() as u64);
     out.numbered(b" edges ", dcel.num_undirected_edges() as u64);
     out.numbered(b" faces ", dcel.num_faces() as u64);
-    out.push(b'\n');
+    out.write(b"\n");
 }

@@ -9,7 +9,8 @@ use crate::replies::write_reply;
 pub fn read<'a>(rest: Rest<'a>) -> Option<Request>
     ensures { Says (codes "origin") (left rest.entry) result }
 {
-    let number = last_number(rest)?;
+    let (number, others) = number_then(rest)?;
+    nothing(others)?;
     Some(Request::Ask(Query::Origin(FixedDirectedEdgeHandle::new(number as usize))))
 }
 

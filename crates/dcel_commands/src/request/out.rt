@@ -11,7 +11,8 @@ use spade_dcel::iterators::{CCWEdgesNextBackFn, CircularIterator};
 pub fn read<'a>(rest: Rest<'a>) -> Option<Request>
     ensures { Says (codes "out") (left rest.entry) result }
 {
-    let number = last_number(rest)?;
+    let (number, others) = number_then(rest)?;
+    nothing(others)?;
     Some(Request::Ask(Query::Out(FixedVertexHandle::new(number as usize))))
 }
 
@@ -88,5 +89,5 @@ fn write_out_edges<V, DE, UE, F, A: Allocator, K: LineSink>(
 {
     out.write(b"out");
     write_half_edges(out, dcel.vertex(vertex));
-    out.push(b'\n');
+    out.write(b"\n");
 }

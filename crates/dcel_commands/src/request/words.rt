@@ -84,10 +84,10 @@ fn write_face<V, DE, UE, F, A: Allocator, K: LineSink>(
     if !dcel.is_live_face(face) {
         return;
     }
-    out.push(b'F');
+    out.write(b"F");
     out.number(face.index() as u64);
     write_half_edges(out, dcel, face);
-    out.push(b'\n');
+    out.write(b"\n");
 }
 
 /// Writes a line for each live face: its number, and the half edges round it from the least on.

@@ -10,4 +10,4 @@ pub returns : goal.returns
 returns g c =
     let turn : listed (turn_of (mesh_behind c.vertex.result).shape (number_of c.vertex.result)) ≡ listed (turn_of c.args.dcel.now.shape c.args.vertex) =
     ap (λ mesh. listed (turn_of mesh.shape (number_of c.vertex.result))) c.vertex.ensures.mesh ∙ ap (λ n. listed (turn_of c.args.dcel.now.shape n)) c.vertex.ensures.number in
-    writes_text (ap (λ text. ended (codes "out" ++ text)) turn) (writes_and (writes_and c.write.ensures c.write_half_edges.ensures) c.push.ensures)
+    writes_text (ap (λ text. ended (codes "out" ++ text)) turn) (writes_and (writes_and c.write.ensures c.write_half_edges.ensures) c.write-2.ensures)

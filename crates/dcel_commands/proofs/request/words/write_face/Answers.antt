@@ -19,7 +19,7 @@ returns g c =
     let s = c.args.dcel.now.shape in
     let f = c.args.face in
     let live : face_is_live s f ≡ true = sym c.is_live_face.ensures ∙ c.if-not-is_live_face.false in
-    let written = writes_and (writes_and (writes_and c.push.ensures c.number.ensures) c.write_half_edges.ensures) c.push-2.ensures in
+    let written = writes_and (writes_and (writes_and c.write.ensures c.number.ensures) c.write_half_edges.ensures) c.write-2.ensures in
     writes_text
     (ap (λ n. (70 ∷ decimal n ++ listed (word_of s.words f)) ++ 10 ∷ []) c.index.ensures.value
     ∙ sym (ap (λ b. cond b (face_line f (word_of s.words f)) []) live))
