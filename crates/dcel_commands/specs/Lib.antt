@@ -12,5 +12,6 @@ pub mod Spelling
 pub mod Stage
 pub mod Steps
 pub mod Talk
+pub mod TwoVertices
 pub mod Vocabulary
 pub mod request

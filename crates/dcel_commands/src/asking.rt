@@ -3,7 +3,8 @@
 ghost use Rattle.std.specs.Prelude.{◌≡◌, ◌↔◌, ◌+◌, ◌*◌, ◌<◌, ◌≤◌, ◌^◌, false, IsTrue, MatchResult};
 ghost use Rattle.dcel_maps.specs.Conditions.{HasRoom};
 ghost use Rattle.dcel_maps.specs.Shapes.{face_count};
-ghost use Rattle.dcel_commands.specs.Conditions.{AreWithin};
+ghost use Rattle.dcel_commands.specs.Conditions.{AllMet, AreWithin, FirstUnmet};
+ghost use Rattle.dcel_commands.specs.TwoVertices.{two_vertices};
 
 use crate::refusal::Refusal;
 use dcel_fixed::{FixedDirectedEdgeHandle, FixedFaceHandle, FixedVertexHandle, InnerTag};
@@ -25,6 +26,22 @@ pub fn has_vertex<V, DE, UE, F, A: Allocator>(
     ensures { IsTrue result ↔ (vertex < dcel.now.shape.vertices) }
 {
     vertex.index() < dcel.num_vertices()
+}
+
+/// Asks for two different live vertices.
+pub fn ask_two_vertices<V, DE, UE, F, A: Allocator>(
+    dcel: &Dcel<V, DE, UE, F, A>,
+    first: FixedVertexHandle,
+    second: FixedVertexHandle,
+) -> Result<(), Refusal>
+    ensures { let asks = two_vertices first second in
+        MatchResult result (λ _. AllMet dcel.now.shape asks) (λ why. FirstUnmet dcel.now.shape asks why) }
+{
+    ask(has_vertex(dcel, first), Refusal::NoSuchVertex)?;
+    ask(has_vertex(dcel, second), Refusal::NoSuchVertex)?;
+    ask(dcel.is_live_vertex(first), Refusal::GivenUp)?;
+    ask(dcel.is_live_vertex(second), Refusal::GivenUp)?;
+    ask(first != second, Refusal::SameVertex)
 }
 
 /// Whether the half edge's number is in range.

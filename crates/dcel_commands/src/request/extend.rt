@@ -26,11 +26,7 @@ pub fn carry_out<V, DE: Default, UE: Default, F: Default, A: Allocator>(
     requires { limit ≤ 2 ^ 31 }
     ensures { Carries DE.is_default UE.is_default F.is_default limit dcel.old (Command.Extend end_vertex new_vertex) result dcel.new }
 {
-    ask(has_vertex(dcel, end_vertex), Refusal::NoSuchVertex)?;
-    ask(has_vertex(dcel, new_vertex), Refusal::NoSuchVertex)?;
-    ask(dcel.is_live_vertex(end_vertex), Refusal::GivenUp)?;
-    ask(dcel.is_live_vertex(new_vertex), Refusal::GivenUp)?;
-    ask(end_vertex != new_vertex, Refusal::SameVertex)?;
+    ask_two_vertices(dcel, end_vertex, new_vertex)?;
     ask(dcel.is_unconnected(new_vertex), Refusal::VertexInUse)?;
     ask(dcel.is_line_end(end_vertex), Refusal::NotLineEnd)?;
     ask(has_room(dcel, limit, 0, 1, 0), Refusal::NoRoom)?;

@@ -26,11 +26,7 @@ pub fn carry_out<V, DE: Default, UE: Default, F: Default, A: Allocator>(
     requires { limit ≤ 2 ^ 31 }
     ensures { Carries DE.is_default UE.is_default F.is_default limit dcel.old (Command.Setup first_vertex second_vertex) result dcel.new }
 {
-    ask(has_vertex(dcel, first_vertex), Refusal::NoSuchVertex)?;
-    ask(has_vertex(dcel, second_vertex), Refusal::NoSuchVertex)?;
-    ask(dcel.is_live_vertex(first_vertex), Refusal::GivenUp)?;
-    ask(dcel.is_live_vertex(second_vertex), Refusal::GivenUp)?;
-    ask(first_vertex != second_vertex, Refusal::SameVertex)?;
+    ask_two_vertices(dcel, first_vertex, second_vertex)?;
     ask(dcel.num_undirected_edges() == 0, Refusal::EdgesStand)?;
     ask(has_room(dcel, limit, 0, 1, 0), Refusal::NoRoom)?;
     setup_initial_two_vertices(dcel, first_vertex, second_vertex)?;
