@@ -5,7 +5,7 @@ ghost use Rattle.dcel_commands.specs.Answering.{WritesSome};
 ghost use Rattle.dcel_commands.specs.Queries.{TellsOrRefuses};
 ghost use Rattle.dcel_commands.specs.Talk.{Answers, start};
 
-use crate::commands::carry_out;
+use crate::commands::apply;
 use crate::reading::read;
 use crate::refusal::Refusal;
 use crate::replies::{write_refusal, write_reply};
@@ -56,7 +56,7 @@ pub fn answer<A: Allocator + Clone, K: LineSink>(
 {
     match read(line) {
         None => out.write(b"bad line\n"),
-        Some(Request::Edit(command)) => match carry_out(mesh, command, limit) {
+        Some(Request::Edit(command)) => match apply(mesh, command, limit) {
             Ok(reply) => write_reply(out, reply),
             Err(refused) => write_refusal(out, refused.why),
         },
