@@ -1,9 +1,9 @@
 //! A line's answer: what it says is carried out or told, and written.
 
-ghost use Rattle.std.specs.Prelude.{◌≡◌, ◌≤◌, ◌^◌, IfOk};
+ghost use Rattle.std.specs.Prelude.{◌≤◌, ◌^◌};
 ghost use Rattle.dcel_commands.specs.Answering.{WritesSome};
 ghost use Rattle.dcel_commands.specs.Queries.{TellsOrRefuses};
-ghost use Rattle.dcel_commands.specs.Talk.{Answers, start};
+ghost use Rattle.dcel_commands.specs.Talk.{Answers};
 
 use crate::commands::apply;
 use crate::reading::read;
@@ -13,18 +13,10 @@ use crate::request::{Query, Request, check, counts, origin, out as out_edges, wo
 use dcel_text::output::Writer;
 use dcel_text::sink::LineSink;
 use spade_dcel::dcel::Dcel;
-use spade_dcel::operations;
-use std::alloc::{AllocError, Allocator};
+use std::alloc::Allocator;
 
 /// The mesh that lines are about: all data are numbers.
 pub type LineMesh<A> = Dcel<i64, i64, i64, i64, A>;
-
-/// The mesh before the first line.
-pub fn new_mesh<A: Allocator + Clone>(alloc: A) -> Result<LineMesh<A>, AllocError>
-    ensures { IfOk result (λ mesh. mesh ≡ start) }
-{
-    operations::new(alloc)
-}
 
 /// Writes what a query is told, or refuses it, by the line that it is.
 fn tell<A: Allocator, K: LineSink>(
