@@ -1,13 +1,13 @@
 //! The parts of what lines ask of a mesh.
 
-ghost use Rattle.std.specs.Prelude.{◌≡◌, ◌↔◌, ◌+◌, ◌*◌, ◌<◌, ◌≤◌, ◌^◌, false, IsTrue, MatchResult};
+ghost use Rattle.std.specs.Prelude.{◌≡◌, ◌↔◌, ◌+◌, ◌<◌, ◌≤◌, ◌^◌, false, IsTrue, MatchResult};
 ghost use Rattle.dcel_maps.specs.Conditions.{HasRoom};
 ghost use Rattle.dcel_maps.specs.Shapes.{face_count};
 ghost use Rattle.dcel_commands.specs.Conditions.{AllMet, AreWithin, FirstUnmet};
 ghost use Rattle.dcel_commands.specs.TwoVertices.{two_vertices};
 
 use crate::refusal::Refusal;
-use dcel_fixed::{FixedDirectedEdgeHandle, FixedFaceHandle, FixedVertexHandle, InnerTag};
+use dcel_fixed::FixedVertexHandle;
 use spade_dcel::dcel::Dcel;
 use std::alloc::Allocator;
 
@@ -42,26 +42,6 @@ pub fn ask_two_vertices<V, DE, UE, F, A: Allocator>(
     ask(dcel.is_live_vertex(first), Refusal::GivenUp)?;
     ask(dcel.is_live_vertex(second), Refusal::GivenUp)?;
     ask(first != second, Refusal::SameVertex)
-}
-
-/// Whether the half edge's number is in range.
-pub fn has_half_edge<V, DE, UE, F, A: Allocator>(
-    dcel: &Dcel<V, DE, UE, F, A>,
-    edge: FixedDirectedEdgeHandle,
-) -> bool
-    ensures { IsTrue result ↔ (edge < 2 * dcel.now.shape.edges) }
-{
-    edge.index() < dcel.num_directed_edges()
-}
-
-/// Whether the face's number is in range and not that of the outer face.
-pub fn has_inner_face<V, DE, UE, F, A: Allocator>(
-    dcel: &Dcel<V, DE, UE, F, A>,
-    face: FixedFaceHandle<InnerTag>,
-) -> bool
-    ensures { IsTrue result ↔ ((0 < face) × (face < face_count dcel.now.shape)) }
-{
-    0 < face.index() && face.index() < dcel.num_faces()
 }
 
 /// Whether so many more vertices, edges and faces pass no limit.

@@ -12,7 +12,7 @@ pub mod setup;
 pub mod triangle;
 pub mod words;
 
-use crate::asking::{ask, ask_two_vertices, has_half_edge, has_inner_face, has_room, has_vertex};
+use crate::asking::{ask, ask_two_vertices, has_room, has_vertex};
 use crate::commands::{Command, Handed, Refused, Reply};
 use crate::given::{three_data, two_numbers};
 use crate::refusal::Refusal;

@@ -27,7 +27,10 @@ pub fn carry_out<V, DE: Default, UE: Default, F: Default, A: Allocator>(
     ensures { Carries DE.is_default UE.is_default F.is_default limit dcel.old (Command.Insert vertex face) result dcel.new }
 {
     ask(has_vertex(dcel, vertex), Refusal::NoSuchVertex)?;
-    ask(has_inner_face(dcel, face), Refusal::NoSuchFace)?;
+    ask(
+        0 < face.index() && face.index() < dcel.num_faces(),
+        Refusal::NoSuchFace,
+    )?;
     ask(dcel.is_live_vertex(vertex), Refusal::GivenUp)?;
     ask(dcel.is_live_face(face), Refusal::GivenUp)?;
     ask(dcel.is_unconnected(vertex), Refusal::VertexInUse)?;

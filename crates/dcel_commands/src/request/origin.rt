@@ -22,7 +22,10 @@ pub fn tell<V, DE, UE, F, A: Allocator, K: LineSink>(
 ) -> Result<(), Refusal>
     ensures { TellsOrRefuses K.has_failed K.contents out.old dcel.now.shape (Query.Origin edge) result out.new }
 {
-    ask(has_half_edge(dcel, edge), Refusal::NoSuchEdge)?;
+    ask(
+        edge.index() < dcel.num_directed_edges(),
+        Refusal::NoSuchEdge,
+    )?;
     ask(dcel.is_live_edge(edge.as_undirected()), Refusal::GivenUp)?;
     write_reply(out, Reply::Vertex(dcel.directed_edge(edge).from().fix()));
     Ok(())
