@@ -10,7 +10,7 @@ use Rattle.dcel_maps.proofs.Liveness.{is_live-parts}
 use Rattle.dcel_maps.proofs.words.Counts.{count-append, count-le_occurs, count-same, count-other, word_with}
 use Rattle.dcel_maps.proofs.words.Paths.{next_in_word-stands}
 use Rattle.dcel_maps.proofs.words.Turns.{TurnsTo, before, onward, count-turn}
-use Rattle.dcel_commands.specs.Faces.{word_round, IsLeastOnFace}
+use Rattle.dcel_commands.specs.request.Words.{word_round, IsLeastOnFace}
 use Rattle.dcel_text.specs.Texts.{listed}
 use Rattle.dcel_text.proofs.Listing.{listed-push}
 use Rattle.dcel_commands.proofs.Rounds.{others, others-turn, GoesRound, goes_round, cycle_from_next, round_begins, round_passes, round_shortens, round_ends}

@@ -8,7 +8,7 @@ use Rattle.dcel_maps.specs.Walking.{IsOutEdge, ListsOnce, in_mesh}
 use Rattle.dcel_maps.specs.Words.{count_of}
 use Rattle.dcel_maps.proofs.words.Counts.{count-same, count-other, count-later}
 use Rattle.dcel_text.specs.Texts.{listed}
-use Rattle.dcel_commands.specs.Turns.{least_below, least_out}
+use Rattle.dcel_commands.specs.request.Out.{least_below, least_out}
 use Rattle.dcel_text.proofs.Listing.{listed-push}
 
 -- ---- the least number that passes a test

@@ -1,11 +1,11 @@
 //! A line's answer: what it says is carried out or told, and written.
 
-ghost use Rattle.std.specs.Prelude.{◌≡◌, ◌≤◌, ◌^◌, IfOk};
+ghost use Rattle.std.specs.Prelude.{◌≤◌, ◌^◌};
 ghost use Rattle.dcel_commands.specs.Answering.{WritesSome};
 ghost use Rattle.dcel_commands.specs.Queries.{TellsOrRefuses};
-ghost use Rattle.dcel_commands.specs.Talk.{Answers, start};
+ghost use Rattle.dcel_commands.specs.Talk.{Answers};
 
-use crate::commands::carry_out;
+use crate::commands::apply;
 use crate::reading::read;
 use crate::refusal::Refusal;
 use crate::replies::{write_refusal, write_reply};
@@ -13,18 +13,10 @@ use crate::request::{Query, Request, check, counts, origin, out as out_edges, wo
 use dcel_text::output::Writer;
 use dcel_text::sink::LineSink;
 use spade_dcel::dcel::Dcel;
-use spade_dcel::operations;
-use std::alloc::{AllocError, Allocator};
+use std::alloc::Allocator;
 
 /// The mesh that lines are about: all data are numbers.
 pub type LineMesh<A> = Dcel<i64, i64, i64, i64, A>;
-
-/// The mesh before the first line.
-pub fn new_mesh<A: Allocator + Clone>(alloc: A) -> Result<LineMesh<A>, AllocError>
-    ensures { IfOk result (λ mesh. mesh ≡ start) }
-{
-    operations::new(alloc)
-}
 
 /// Writes what a query is told, or refuses it, by the line that it is.
 fn tell<A: Allocator, K: LineSink>(
@@ -35,12 +27,13 @@ fn tell<A: Allocator, K: LineSink>(
     ensures { TellsOrRefuses K.has_failed K.contents out.old mesh.now.shape query result out.new }
 {
     match query {
-        Query::Counts => counts::tell(out, mesh),
-        Query::Words => words::tell(out, mesh),
-        Query::Out(vertex) => out_edges::tell(out, mesh, vertex),
-        Query::Origin(edge) => origin::tell(out, mesh, edge),
-        Query::Check => check::tell(out, mesh),
+        Query::Counts => counts::write_counts(out, mesh),
+        Query::Words => words::write_words(out, mesh),
+        Query::Out(vertex) => out_edges::tell(out, mesh, vertex)?,
+        Query::Origin(edge) => origin::tell(out, mesh, edge)?,
+        Query::Check => check::write_check(out, mesh),
     }
+    Ok(())
 }
 
 /// Does what a line says, and writes the answer.
@@ -55,7 +48,7 @@ pub fn answer<A: Allocator + Clone, K: LineSink>(
 {
     match read(line) {
         None => out.write(b"bad line\n"),
-        Some(Request::Edit(command)) => match carry_out(mesh, command, limit) {
+        Some(Request::Edit(command)) => match apply(mesh, command, limit) {
             Ok(reply) => write_reply(out, reply),
             Err(refused) => write_refusal(out, refused.why),
         },

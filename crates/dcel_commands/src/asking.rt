@@ -1,12 +1,13 @@
 //! The parts of what lines ask of a mesh.
 
-ghost use Rattle.std.specs.Prelude.{◌≡◌, ◌↔◌, ◌+◌, ◌*◌, ◌<◌, ◌≤◌, ◌^◌, false, IsTrue, MatchResult};
+ghost use Rattle.std.specs.Prelude.{◌≡◌, ◌↔◌, ◌+◌, ◌<◌, ◌≤◌, ◌^◌, false, IsTrue, MatchResult};
 ghost use Rattle.dcel_maps.specs.Conditions.{HasRoom};
 ghost use Rattle.dcel_maps.specs.Shapes.{face_count};
-ghost use Rattle.dcel_commands.specs.Conditions.{AreWithin};
+ghost use Rattle.dcel_commands.specs.Conditions.{AllMet, AreWithin, FirstUnmet};
+ghost use Rattle.dcel_commands.specs.TwoVertices.{two_vertices};
 
 use crate::refusal::Refusal;
-use dcel_fixed::{FixedDirectedEdgeHandle, FixedFaceHandle, FixedVertexHandle, InnerTag};
+use dcel_fixed::FixedVertexHandle;
 use spade_dcel::dcel::Dcel;
 use std::alloc::Allocator;
 
@@ -27,31 +28,20 @@ pub fn has_vertex<V, DE, UE, F, A: Allocator>(
     vertex.index() < dcel.num_vertices()
 }
 
-/// Whether the half edge's number is in range.
-pub fn has_half_edge<V, DE, UE, F, A: Allocator>(
+/// Asks for two different live vertices.
+pub fn ask_two_vertices<V, DE, UE, F, A: Allocator>(
     dcel: &Dcel<V, DE, UE, F, A>,
-    edge: FixedDirectedEdgeHandle,
-) -> bool
-    ensures { IsTrue result ↔ (edge < 2 * dcel.now.shape.edges) }
+    first: FixedVertexHandle,
+    second: FixedVertexHandle,
+) -> Result<(), Refusal>
+    ensures { let asks = two_vertices first second in
+        MatchResult result (λ _. AllMet dcel.now.shape asks) (λ why. FirstUnmet dcel.now.shape asks why) }
 {
-    edge.index() < dcel.num_directed_edges()
-}
-
-/// Whether the face's number is in range and not that of the outer face.
-pub fn has_inner_face<V, DE, UE, F, A: Allocator>(
-    dcel: &Dcel<V, DE, UE, F, A>,
-    face: FixedFaceHandle<InnerTag>,
-) -> bool
-    ensures { IsTrue result ↔ ((0 < face) × (face < face_count dcel.now.shape)) }
-{
-    0 < face.index() && face.index() < dcel.num_faces()
-}
-
-/// Whether none of the counts is above the limit.
-pub fn are_within(limit: usize, vertices: usize, edges: usize, faces: usize) -> bool
-    ensures { IsTrue result ↔ AreWithin limit vertices edges faces }
-{
-    vertices <= limit && edges <= limit && faces <= limit
+    ask(has_vertex(dcel, first), Refusal::NoSuchVertex)?;
+    ask(has_vertex(dcel, second), Refusal::NoSuchVertex)?;
+    ask(dcel.is_live_vertex(first), Refusal::GivenUp)?;
+    ask(dcel.is_live_vertex(second), Refusal::GivenUp)?;
+    ask(first != second, Refusal::SameVertex)
 }
 
 /// Whether so many more vertices, edges and faces pass no limit.
@@ -68,10 +58,7 @@ pub fn has_room<V, DE, UE, F, A: Allocator>(
     // The limit is so low that numbers are left where it isn't passed.
     ensures room { IsTrue result → HasRoom dcel.now.shape vertices edges faces }
 {
-    are_within(
-        limit,
-        dcel.num_vertices().saturating_add(vertices),
-        dcel.num_undirected_edges().saturating_add(edges),
-        dcel.num_faces().saturating_add(faces),
-    )
+    dcel.num_vertices().saturating_add(vertices) <= limit
+        && dcel.num_undirected_edges().saturating_add(edges) <= limit
+        && dcel.num_faces().saturating_add(faces) <= limit
 }

@@ -13,5 +13,4 @@ pub use dcel_text::faults::Failed;
 pub use dcel_text::sink::{LineSink, StdSink};
 pub use dcel_text::source::{LineSource, StdSource};
 pub use dispatch::apply;
-pub(crate) use dispatch::carry_out;
 pub use reply::{Handed, Refused, Reply};

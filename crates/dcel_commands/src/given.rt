@@ -5,15 +5,7 @@ ghost use Rattle.std.specs.Fmt.{decimal, signed_decimal};
 ghost use Rattle.dcel_text.specs.Numbers.{IsNumber, IsDatum};
 ghost use Rattle.dcel_text.specs.Items.{left};
 
-use dcel_fixed::{FixedDirectedEdgeHandle, FixedFaceHandle, FixedVertexHandle, InnerTag};
-use dcel_text::items::{Rest, datum_then, is_end, last_datum, last_number, number_then};
-
-/// Nothing.
-pub fn nothing<'a>(rest: Rest<'a>) -> Option<()>
-    ensures { MatchOption result (left rest.entry ≢ []) (λ _. left rest.entry ≡ []) }
-{
-    if is_end(rest) { Some(()) } else { None }
-}
+use dcel_text::items::{Rest, datum_then, nothing, number_then};
 
 /// Three data and nothing else.
 pub fn three_data<'a>(rest: Rest<'a>) -> Option<(i64, i64, i64)>
@@ -22,8 +14,9 @@ pub fn three_data<'a>(rest: Rest<'a>) -> Option<(i64, i64, i64)>
         (λ read. left rest.entry ≡ signed_decimal read.0 ∷ signed_decimal read.1 ∷ signed_decimal read.2 ∷ []) }
 {
     let (x, others) = datum_then(rest)?;
-    let (y, last) = datum_then(others)?;
-    let z = last_datum(last)?;
+    let (y, others) = datum_then(others)?;
+    let (z, others) = datum_then(others)?;
+    nothing(others)?;
     Some((x, y, z))
 }
 
@@ -34,27 +27,7 @@ pub fn two_numbers<'a>(rest: Rest<'a>) -> Option<(u32, u32)>
         (λ read. left rest.entry ≡ decimal read.0 ∷ decimal read.1 ∷ []) }
 {
     let (m, others) = number_then(rest)?;
-    let n = last_number(others)?;
+    let (n, others) = number_then(others)?;
+    nothing(others)?;
     Some((m, n))
-}
-
-/// The vertex of this number.
-pub fn vertex(number: u32) -> FixedVertexHandle
-    ensures { result ≡ number }
-{
-    FixedVertexHandle::new(number as usize)
-}
-
-/// The half edge of this number.
-pub fn half_edge(number: u32) -> FixedDirectedEdgeHandle
-    ensures { result ≡ number }
-{
-    FixedDirectedEdgeHandle::new(number as usize)
-}
-
-/// The inner face of this number.
-pub fn inner_face(number: u32) -> FixedFaceHandle<InnerTag>
-    ensures { result ≡ number }
-{
-    FixedFaceHandle::new(number as usize)
 }

@@ -5,7 +5,6 @@
 mod answering;
 mod asking;
 pub mod commands;
-mod faces;
 mod faults;
 mod given;
 pub mod laws;
@@ -15,4 +14,3 @@ mod replies;
 mod request;
 mod run;
 mod session;
-mod turns;

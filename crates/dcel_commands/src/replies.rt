@@ -3,7 +3,6 @@
 ghost use Rattle.dcel_text.specs.Output.{Writes};
 ghost use Rattle.dcel_commands.specs.Refusal.{refusal_text};
 ghost use Rattle.dcel_commands.specs.Replies.{reply_text};
-ghost use Rattle.dcel_text.specs.Texts.{ended, numbered};
 
 use crate::commands::Reply;
 use crate::refusal::Refusal;
@@ -16,17 +15,9 @@ pub fn write_refusal<K: LineSink>(out: &mut Writer<'_, K>, why: Refusal)
 {
     out.write(b"refused ");
     out.number(u64::from(why.number()));
-    out.push(b' ');
+    out.write(b" ");
     out.write(why.name().as_bytes());
-    out.push(b'\n');
-}
-
-/// Writes a word with a number after it, as a line.
-fn write_numbered<K: LineSink>(out: &mut Writer<'_, K>, word: &[u8], n: u64)
-    ensures { Writes K.has_failed K.contents out.old out.new (ended (numbered word.now n)) }
-{
-    out.numbered(word, n);
-    out.push(b'\n');
+    out.write(b"\n");
 }
 
 /// Writes a reply.
@@ -35,6 +26,9 @@ pub fn write_reply<K: LineSink>(out: &mut Writer<'_, K>, reply: Reply)
 {
     match reply {
         Reply::Ok => out.write(b"ok\n"),
-        Reply::Vertex(vertex) => write_numbered(out, b"vertex ", vertex.index() as u64),
+        Reply::Vertex(vertex) => {
+            out.numbered(b"vertex ", vertex.index() as u64);
+            out.write(b"\n");
+        }
     }
 }

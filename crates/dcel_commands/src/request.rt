@@ -1,4 +1,5 @@
 //! What a line says: a command, or a query. Each has a file of its own: how it is read, what it asks, and how it is carried out or told.
+#![tactic(auto, unfolding(crate::specs::Spelling::Says))]
 
 pub mod append;
 pub mod check;
@@ -11,12 +12,12 @@ pub mod setup;
 pub mod triangle;
 pub mod words;
 
-use crate::asking::{are_within, ask, has_half_edge, has_inner_face, has_room, has_vertex};
+use crate::asking::{ask, ask_two_vertices, has_room, has_vertex};
 use crate::commands::{Command, Handed, Refused, Reply};
-use crate::given::{half_edge, inner_face, nothing, three_data, two_numbers, vertex};
+use crate::given::{three_data, two_numbers};
 use crate::refusal::Refusal;
 use dcel_fixed::{FixedDirectedEdgeHandle, FixedFaceHandle, FixedVertexHandle, InnerTag};
-use dcel_text::items::{Rest, last_datum, last_number};
+use dcel_text::items::{Rest, datum_then, nothing, number_then};
 use dcel_text::output::Writer;
 use dcel_text::sink::LineSink;
 use spade_dcel::dcel::Dcel;

@@ -5,11 +5,12 @@ ghost use Rattle.dcel_text.specs.Lines.{HasNoFeed, line_feed};
 ghost use Rattle.dcel_commands.specs.Stage.{Stage, Serves, Ends};
 ghost use Rattle.dcel_commands.specs.Talk.{start};
 
-use crate::answering::{LineMesh, answer, new_mesh};
+use crate::answering::{LineMesh, answer};
 use dcel_text::buffer::Buffer;
 use dcel_text::lines::split_line;
 use dcel_text::output::Writer;
 use dcel_text::sink::LineSink;
+use spade_dcel::operations;
 use std::alloc::{AllocError, Allocator};
 use std::marker::Model;
 
@@ -36,7 +37,7 @@ impl<A: Allocator + Clone> Session<A> {
     pub fn new(alloc: A) -> Result<Self, AllocError>
         ensures { IfOk result (λ session. session ≡ record { mesh = start; begun = [] }) }
     {
-        let mesh = new_mesh(alloc)?;
+        let mesh = operations::new(alloc)?;
         Ok(Session {
             mesh,
             line: Buffer::new(),

@@ -1,6 +1,6 @@
 //! The items of a line, which one space parts from one another.
 
-ghost use Rattle.std.specs.Prelude.{◌≡◌, ◌≢◌, [], ◌∷◌, ℕ, ℤ, List, MatchOption, IsTrue, ◌↔◌};
+ghost use Rattle.std.specs.Prelude.{◌≡◌, ◌≢◌, [], ◌∷◌, ℕ, ℤ, List, MatchOption};
 ghost use Rattle.std.specs.Fmt.{decimal, signed_decimal};
 ghost use Rattle.dcel_text.specs.Numbers.{IsNumber, IsDatum};
 ghost use Rattle.dcel_text.specs.Items.{items_of, left};
@@ -42,29 +42,12 @@ pub fn datum_then<'a>(rest: Rest<'a>) -> Option<(i64, Rest<'a>)>
     Some((datum(item)?, others))
 }
 
-/// Whether no item is left.
-pub fn is_end(rest: Rest<'_>) -> bool
-    ensures { IsTrue result ↔ (left rest.entry ≡ []) }
+/// Nothing more.
+pub fn nothing(rest: Rest<'_>) -> Option<()>
+    ensures { MatchOption result (left rest.entry ≢ []) (λ _. left rest.entry ≡ []) }
 {
-    rest.is_none()
-}
-
-/// The number that comes last.
-pub fn last_number<'a>(rest: Rest<'a>) -> Option<u32>
-    ensures { MatchOption result
-        ((n : ℕ) → IsNumber n → left rest.entry ≢ decimal n ∷ [])
-        (λ n. left rest.entry ≡ decimal n ∷ []) }
-{
-    let (n, others) = number_then(rest)?;
-    if is_end(others) { Some(n) } else { None }
-}
-
-/// The datum that comes last.
-pub fn last_datum<'a>(rest: Rest<'a>) -> Option<i64>
-    ensures { MatchOption result
-        ((d : ℤ) → IsDatum d → left rest.entry ≢ signed_decimal d ∷ [])
-        (λ d. left rest.entry ≡ signed_decimal d ∷ []) }
-{
-    let (d, others) = datum_then(rest)?;
-    if is_end(others) { Some(d) } else { None }
+    match rest {
+        None => Some(()),
+        Some(_) => None,
+    }
 }

@@ -82,13 +82,6 @@ impl<'a, K: LineSink> Writer<'a, K> {
         }
     }
 
-    /// Writes one byte.
-    pub fn push(&mut self, byte: u8)
-        ensures { Writes K.has_failed K.contents self.old self.new (byte ∷ []) }
-    {
-        self.write(&[byte]);
-    }
-
     /// Writes the decimals of a number.
     pub fn number(&mut self, n: u64)
         ensures { Writes K.has_failed K.contents self.old self.new (decimal n) }
@@ -111,7 +104,7 @@ impl<'a, K: LineSink> Writer<'a, K> {
     pub fn spaced_number(&mut self, n: u64)
         ensures { Writes K.has_failed K.contents self.old self.new (32 ∷ decimal n) }
     {
-        self.push(b' ');
+        self.write(b" ");
         self.number(n);
     }
 }

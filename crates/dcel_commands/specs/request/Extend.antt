@@ -1,11 +1,12 @@
 -- `extend A B`: the line that ends at A goes on to B.
-use Rattle.std.specs.Prelude.{◌≡◌, ℕ, true, [], ◌∷◌, codes}
+use Rattle.std.specs.Prelude.{◌≡◌, ℕ, true, [], ◌∷◌, ◌++◌, codes}
 use Rattle.dcel_commands.specs.declared.commands.reply.Handed.TheVariants.{Nothing}
 use Rattle.dcel_commands.specs.declared.commands.reply.Reply.TheVariants.{Vertex}
-use Rattle.dcel_commands.specs.declared.refusal.Refusal.TheVariants.{NoSuchVertex, GivenUp, SameVertex, VertexInUse, NotLineEnd, NoRoom}
-use Rattle.dcel_commands.specs.Conditions.{VertexInRange, VertexLive, Different, Unconnected, LineEnd, RoomFor}
+use Rattle.dcel_commands.specs.declared.refusal.Refusal.TheVariants.{VertexInUse, NotLineEnd, NoRoom}
+use Rattle.dcel_commands.specs.Conditions.{Unconnected, LineEnd, RoomFor}
 use Rattle.dcel_commands.specs.Grammar.{Number}
 use Rattle.dcel_commands.specs.Rules.{CommandRule}
+use Rattle.dcel_commands.specs.TwoVertices.{two_vertices}
 use Rattle.dcel_maps.specs.edits.DefaultData.{AddsEdge}
 use Rattle.dcel_maps.specs.edits.Line.{line_extended}
 
@@ -14,12 +15,8 @@ extend a b = record {
   word = codes "extend";
   given = Number a ∷ Number b ∷ [];
   asks = λ limit.
-      (NoSuchVertex, VertexInRange a)
-      ∷ (NoSuchVertex, VertexInRange b)
-      ∷ (GivenUp, VertexLive a)
-      ∷ (GivenUp, VertexLive b)
-      ∷ (SameVertex, Different a b)
-      ∷ (VertexInUse, Unconnected b)
+      two_vertices a b
+      ++ (VertexInUse, Unconnected b)
       ∷ (NotLineEnd, LineEnd a)
       ∷ (NoRoom, RoomFor limit 0 1 0)
       ∷ [];

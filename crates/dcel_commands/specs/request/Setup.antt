@@ -1,11 +1,12 @@
 -- `setup A B`: the first edge, from A to B.
-use Rattle.std.specs.Prelude.{◌≡◌, ℕ, true, [], ◌∷◌, codes}
+use Rattle.std.specs.Prelude.{◌≡◌, ℕ, true, [], ◌∷◌, ◌++◌, codes}
 use Rattle.dcel_commands.specs.declared.commands.reply.Handed.TheVariants.{Nothing}
 use Rattle.dcel_commands.specs.declared.commands.reply.Reply.TheVariants.{Ok}
-use Rattle.dcel_commands.specs.declared.refusal.Refusal.TheVariants.{NoSuchVertex, GivenUp, SameVertex, EdgesStand, NoRoom}
-use Rattle.dcel_commands.specs.Conditions.{VertexInRange, VertexLive, Different, NoEdge, RoomFor}
+use Rattle.dcel_commands.specs.declared.refusal.Refusal.TheVariants.{EdgesStand, NoRoom}
+use Rattle.dcel_commands.specs.Conditions.{NoEdge, RoomFor}
 use Rattle.dcel_commands.specs.Grammar.{Number}
 use Rattle.dcel_commands.specs.Rules.{CommandRule}
+use Rattle.dcel_commands.specs.TwoVertices.{two_vertices}
 use Rattle.dcel_maps.specs.edits.DefaultData.{AddsEdge}
 use Rattle.dcel_maps.specs.edits.Create.{first_edge_added}
 
@@ -14,12 +15,8 @@ setup a b = record {
   word = codes "setup";
   given = Number a ∷ Number b ∷ [];
   asks = λ limit.
-      (NoSuchVertex, VertexInRange a)
-      ∷ (NoSuchVertex, VertexInRange b)
-      ∷ (GivenUp, VertexLive a)
-      ∷ (GivenUp, VertexLive b)
-      ∷ (SameVertex, Different a b)
-      ∷ (EdgesStand, NoEdge)
+      two_vertices a b
+      ++ (EdgesStand, NoEdge)
       ∷ (NoRoom, RoomFor limit 0 1 0)
       ∷ [];
   takes_memory = true;

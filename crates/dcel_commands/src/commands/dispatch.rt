@@ -1,7 +1,7 @@
 //! How commands are carried out.
 
 ghost use Rattle.std.specs.Prelude.{◌≡◌, ◌≤◌, ◌^◌, IfOk, IfErr, OnOk, OnErr};
-ghost use Rattle.dcel_commands.specs.Steps.{Carries, IsRefusal, Legal, Step};
+ghost use Rattle.dcel_commands.specs.Steps.{IsRefusal, Legal, Step};
 ghost use Rattle.dcel_maps.specs.Shapes.{IsMesh};
 
 use crate::commands::command::Command;
@@ -34,27 +34,13 @@ pub fn apply<
     ensures unchanged { OnErr result (dcel.new ≡ dcel.old) }
     ensures mesh { IsMesh dcel.new }
 {
-    let answer = carry_out(dcel, command, limit);
-    laws::every_mesh(dcel);
-    answer
-}
-
-/// Carries a command out, or refuses it, by the line that it is.
-pub fn carry_out<
-    V: Drop,
-    DE: Default + Drop,
-    UE: Default + Drop,
-    F: Default + Drop,
-    A: Allocator + Clone,
->(dcel: &mut Dcel<V, DE, UE, F, A>, command: Command<V>, limit: usize) -> Result<Reply, Refused<V>>
-    requires { limit ≤ 2 ^ 31 }
-    ensures { Carries DE.is_default UE.is_default F.is_default limit dcel.old command result dcel.new }
-{
-    match command {
+    let answer = match command {
         Command::Append(datum) => append::carry_out(dcel, datum, limit),
         Command::Triangle(x, y, z) => triangle::carry_out(dcel, (x, y, z), limit),
         Command::Setup(first, second) => setup::carry_out(dcel, first, second, limit),
         Command::Extend(end, new) => extend::carry_out(dcel, end, new, limit),
         Command::Insert(vertex, face) => insert::carry_out(dcel, vertex, face, limit),
-    }
+    };
+    laws::every_mesh(dcel);
+    answer
 }

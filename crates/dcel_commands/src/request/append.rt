@@ -1,19 +1,16 @@
 //! `append D`
 
-ghost use Rattle.std.specs.Prelude.{◌≤◌, ◌^◌, codes};
-ghost use Rattle.dcel_text.specs.Items.{left};
-ghost use Rattle.dcel_commands.specs.Spelling.{Says};
-ghost use Rattle.dcel_commands.specs.Steps.{Carries};
+ghost use Rattle.dcel_commands.specs.Vocabulary.{◌≤◌, ◌^◌, Carries, Says, codes, left};
 
 use super::*;
 use spade_dcel::operations::{NoMemory, append_unconnected_vertex};
 
 /// What the line says after its word.
-#[tactic(auto, unfolding(crate::specs::Spelling::Says))]
 pub fn read<'a>(rest: Rest<'a>) -> Option<Request>
     ensures { Says (codes "append") (left rest.entry) result }
 {
-    let datum = last_datum(rest)?;
+    let (datum, others) = datum_then(rest)?;
+    nothing(others)?;
     Some(Request::Edit(Command::Append(datum)))
 }
 

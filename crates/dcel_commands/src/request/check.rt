@@ -1,14 +1,11 @@
 //! `check`
 
-ghost use Rattle.std.specs.Prelude.{codes};
-ghost use Rattle.dcel_text.specs.Items.{left};
-ghost use Rattle.dcel_commands.specs.Queries.{TellsOrRefuses};
-ghost use Rattle.dcel_commands.specs.Spelling.{Says};
+ghost use Rattle.dcel_commands.specs.Vocabulary.{Says, WritesSome, codes, left};
+ghost use Rattle.dcel_commands.specs.request.Check.{check};
 
 use super::*;
 
 /// What the line says after its word.
-#[tactic(auto, unfolding(crate::specs::Spelling::Says))]
 pub fn read<'a>(rest: Rest<'a>) -> Option<Request>
     ensures { Says (codes "check") (left rest.entry) result }
 {
@@ -16,17 +13,16 @@ pub fn read<'a>(rest: Rest<'a>) -> Option<Request>
     Some(Request::Ask(Query::Check))
 }
 
-/// Writes the answer.
-pub fn tell<V, DE, UE, F, A: Allocator, K: LineSink>(
+/// Writes whether the mesh is checked.
+pub fn write_check<V, DE, UE, F, A: Allocator, K: LineSink>(
     out: &mut Writer<'_, K>,
     dcel: &Dcel<V, DE, UE, F, A>,
-) -> Result<(), Refusal>
-    ensures { TellsOrRefuses K.has_failed K.contents out.old dcel.now.shape Query.Check result out.new }
+)
+    ensures { WritesSome K.has_failed K.contents out.old out.new (check.Tells dcel.now.shape) }
 {
     if dcel.sanity_check() {
         out.write(b"true\n");
     } else {
         out.write(b"false\n");
     }
-    Ok(())
 }

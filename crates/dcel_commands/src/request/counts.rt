@@ -1,15 +1,11 @@
 //! `counts`
 
-ghost use Rattle.std.specs.Prelude.{codes};
-ghost use Rattle.dcel_text.specs.Items.{left};
-ghost use Rattle.dcel_commands.specs.Queries.{TellsOrRefuses};
-ghost use Rattle.dcel_commands.specs.Spelling.{Says};
+ghost use Rattle.dcel_commands.specs.Vocabulary.{Says, Writes, codes, left};
+ghost use Rattle.dcel_commands.specs.request.Counts.{counts_text};
 
 use super::*;
-use crate::turns::write_counts;
 
 /// What the line says after its word.
-#[tactic(auto, unfolding(crate::specs::Spelling::Says))]
 pub fn read<'a>(rest: Rest<'a>) -> Option<Request>
     ensures { Says (codes "counts") (left rest.entry) result }
 {
@@ -17,13 +13,15 @@ pub fn read<'a>(rest: Rest<'a>) -> Option<Request>
     Some(Request::Ask(Query::Counts))
 }
 
-/// Writes the answer.
-pub fn tell<V, DE, UE, F, A: Allocator, K: LineSink>(
+/// Writes the line of a mesh's counts.
+pub fn write_counts<V, DE, UE, F, A: Allocator, K: LineSink>(
     out: &mut Writer<'_, K>,
     dcel: &Dcel<V, DE, UE, F, A>,
-) -> Result<(), Refusal>
-    ensures { TellsOrRefuses K.has_failed K.contents out.old dcel.now.shape Query.Counts result out.new }
+)
+    ensures { Writes K.has_failed K.contents out.old out.new (counts_text dcel.now.shape) }
 {
-    write_counts(out, dcel);
-    Ok(())
+    out.numbered(b"vertices ", dcel.num_vertices() as u64);
+    out.numbered(b" edges ", dcel.num_undirected_edges() as u64);
+    out.numbered(b" faces ", dcel.num_faces() as u64);
+    out.write(b"\n");
 }

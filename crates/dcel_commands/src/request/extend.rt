@@ -1,20 +1,19 @@
 //! `extend A B`
 
-ghost use Rattle.std.specs.Prelude.{◌≤◌, ◌^◌, codes};
-ghost use Rattle.dcel_text.specs.Items.{left};
-ghost use Rattle.dcel_commands.specs.Spelling.{Says};
-ghost use Rattle.dcel_commands.specs.Steps.{Carries};
+ghost use Rattle.dcel_commands.specs.Vocabulary.{◌≤◌, ◌^◌, Carries, Says, codes, left};
 
 use super::*;
 use spade_dcel::operations::extend_line;
 
 /// What the line says after its word.
-#[tactic(auto, unfolding(crate::specs::Spelling::Says))]
 pub fn read<'a>(rest: Rest<'a>) -> Option<Request>
     ensures { Says (codes "extend") (left rest.entry) result }
 {
     let (a, b) = two_numbers(rest)?;
-    Some(Request::Edit(Command::Extend(vertex(a), vertex(b))))
+    Some(Request::Edit(Command::Extend(
+        FixedVertexHandle::new(a as usize),
+        FixedVertexHandle::new(b as usize),
+    )))
 }
 
 /// Carries the command out.
@@ -27,11 +26,7 @@ pub fn carry_out<V, DE: Default, UE: Default, F: Default, A: Allocator>(
     requires { limit ≤ 2 ^ 31 }
     ensures { Carries DE.is_default UE.is_default F.is_default limit dcel.old (Command.Extend end_vertex new_vertex) result dcel.new }
 {
-    ask(has_vertex(dcel, end_vertex), Refusal::NoSuchVertex)?;
-    ask(has_vertex(dcel, new_vertex), Refusal::NoSuchVertex)?;
-    ask(dcel.is_live_vertex(end_vertex), Refusal::GivenUp)?;
-    ask(dcel.is_live_vertex(new_vertex), Refusal::GivenUp)?;
-    ask(end_vertex != new_vertex, Refusal::SameVertex)?;
+    ask_two_vertices(dcel, end_vertex, new_vertex)?;
     ask(dcel.is_unconnected(new_vertex), Refusal::VertexInUse)?;
     ask(dcel.is_line_end(end_vertex), Refusal::NotLineEnd)?;
     ask(has_room(dcel, limit, 0, 1, 0), Refusal::NoRoom)?;

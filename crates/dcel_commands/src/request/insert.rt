@@ -1,20 +1,19 @@
 //! `insert B F`
 
-ghost use Rattle.std.specs.Prelude.{◌≤◌, ◌^◌, codes};
-ghost use Rattle.dcel_text.specs.Items.{left};
-ghost use Rattle.dcel_commands.specs.Spelling.{Says};
-ghost use Rattle.dcel_commands.specs.Steps.{Carries};
+ghost use Rattle.dcel_commands.specs.Vocabulary.{◌≤◌, ◌^◌, Carries, Says, codes, left};
 
 use super::*;
 use spade_dcel::operations::insert_into_triangle;
 
 /// What the line says after its word.
-#[tactic(auto, unfolding(crate::specs::Spelling::Says))]
 pub fn read<'a>(rest: Rest<'a>) -> Option<Request>
     ensures { Says (codes "insert") (left rest.entry) result }
 {
     let (v, f) = two_numbers(rest)?;
-    Some(Request::Edit(Command::Insert(vertex(v), inner_face(f))))
+    Some(Request::Edit(Command::Insert(
+        FixedVertexHandle::new(v as usize),
+        FixedFaceHandle::new(f as usize),
+    )))
 }
 
 /// Carries the command out.
@@ -28,7 +27,10 @@ pub fn carry_out<V, DE: Default, UE: Default, F: Default, A: Allocator>(
     ensures { Carries DE.is_default UE.is_default F.is_default limit dcel.old (Command.Insert vertex face) result dcel.new }
 {
     ask(has_vertex(dcel, vertex), Refusal::NoSuchVertex)?;
-    ask(has_inner_face(dcel, face), Refusal::NoSuchFace)?;
+    ask(
+        0 < face.index() && face.index() < dcel.num_faces(),
+        Refusal::NoSuchFace,
+    )?;
     ask(dcel.is_live_vertex(vertex), Refusal::GivenUp)?;
     ask(dcel.is_live_face(face), Refusal::GivenUp)?;
     ask(dcel.is_unconnected(vertex), Refusal::VertexInUse)?;

@@ -1,20 +1,17 @@
 //! `origin H`
 
-ghost use Rattle.std.specs.Prelude.{codes};
-ghost use Rattle.dcel_text.specs.Items.{left};
-ghost use Rattle.dcel_commands.specs.Queries.{TellsOrRefuses};
-ghost use Rattle.dcel_commands.specs.Spelling.{Says};
+ghost use Rattle.dcel_commands.specs.Vocabulary.{Says, TellsOrRefuses, codes, left};
 
 use super::*;
 use crate::replies::write_reply;
 
 /// What the line says after its word.
-#[tactic(auto, unfolding(crate::specs::Spelling::Says))]
 pub fn read<'a>(rest: Rest<'a>) -> Option<Request>
     ensures { Says (codes "origin") (left rest.entry) result }
 {
-    let number = last_number(rest)?;
-    Some(Request::Ask(Query::Origin(half_edge(number))))
+    let (number, others) = number_then(rest)?;
+    nothing(others)?;
+    Some(Request::Ask(Query::Origin(FixedDirectedEdgeHandle::new(number as usize))))
 }
 
 /// Writes the answer, or refuses and writes nothing.
@@ -25,7 +22,10 @@ pub fn tell<V, DE, UE, F, A: Allocator, K: LineSink>(
 ) -> Result<(), Refusal>
     ensures { TellsOrRefuses K.has_failed K.contents out.old dcel.now.shape (Query.Origin edge) result out.new }
 {
-    ask(has_half_edge(dcel, edge), Refusal::NoSuchEdge)?;
+    ask(
+        edge.index() < dcel.num_directed_edges(),
+        Refusal::NoSuchEdge,
+    )?;
     ask(dcel.is_live_edge(edge.as_undirected()), Refusal::GivenUp)?;
     write_reply(out, Reply::Vertex(dcel.directed_edge(edge).from().fix()));
     Ok(())

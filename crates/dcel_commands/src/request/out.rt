@@ -1,20 +1,19 @@
 //! `out V`
 
-ghost use Rattle.std.specs.Prelude.{codes};
-ghost use Rattle.dcel_text.specs.Items.{left};
-ghost use Rattle.dcel_commands.specs.Queries.{TellsOrRefuses};
-ghost use Rattle.dcel_commands.specs.Spelling.{Says};
+ghost use Rattle.dcel_commands.specs.Vocabulary.{◌≡◌, ◌<◌, IfSome, IsLive, Says, TellsOrRefuses, Writes, ccw_of, codes, left, listed, mesh_behind, number_of, option_map, walk_of};
+ghost use Rattle.dcel_commands.specs.request.Out.{least_out, turn_of, turn_text};
 
 use super::*;
-use crate::turns::write_out_edges;
+use spade_dcel::handles::{DirectedEdgeHandle, VertexHandle};
+use spade_dcel::iterators::{CCWEdgesNextBackFn, CircularIterator};
 
 /// What the line says after its word.
-#[tactic(auto, unfolding(crate::specs::Spelling::Says))]
 pub fn read<'a>(rest: Rest<'a>) -> Option<Request>
     ensures { Says (codes "out") (left rest.entry) result }
 {
-    let number = last_number(rest)?;
-    Some(Request::Ask(Query::Out(vertex(number))))
+    let (number, others) = number_then(rest)?;
+    nothing(others)?;
+    Some(Request::Ask(Query::Out(FixedVertexHandle::new(number as usize))))
 }
 
 /// Writes the answer, or refuses and writes nothing.
@@ -29,4 +28,66 @@ pub fn tell<V, DE, UE, F, A: Allocator, K: LineSink>(
     ask(dcel.is_live_vertex(vertex), Refusal::GivenUp)?;
     write_out_edges(out, dcel, vertex);
     Ok(())
+}
+
+/// The least half edge that starts at the vertex.
+fn least_out_edge<'a, V, DE, UE, F, A: Allocator>(
+    vertex: VertexHandle<'a, V, DE, UE, F, A>,
+) -> Option<DirectedEdgeHandle<'a, V, DE, UE, F, A>>
+    ensures mesh { IfSome result (λ edge. mesh_behind edge ≡ mesh_behind vertex.entry) }
+    ensures live { IfSome result (λ edge. IsLive (mesh_behind edge).shape (number_of edge)) }
+    ensures least { option_map (λ edge. number_of edge) result ≡ least_out (mesh_behind vertex.entry).shape (number_of vertex.entry) }
+{
+    let mut least = vertex.out_edge()?;
+    for edge in vertex.out_edges() {
+        if edge.index() < least.index() {
+            least = edge;
+        }
+    }
+    Some(least)
+}
+
+/// Writes the half edges round the origin of this one, each after a space.
+fn write_turn<V, DE, UE, F, A: Allocator, K: LineSink>(
+    out: &mut Writer<'_, K>,
+    first: DirectedEdgeHandle<'_, V, DE, UE, F, A>,
+)
+    requires { IsLive (mesh_behind first).shape (number_of first) }
+    ensures { let shape = (mesh_behind first.entry).shape in
+        Writes K.has_failed K.contents out.old out.new (listed (walk_of shape (ccw_of shape) (number_of first.entry))) }
+{
+    let turn: CircularIterator<'_, V, DE, UE, F, CCWEdgesNextBackFn, A> = CircularIterator::new(
+        first,
+    );
+    for edge in turn {
+        out.spaced_number(edge.index() as u64);
+    }
+}
+
+/// Writes the half edges that start at a vertex, if there are any, from the least on.
+fn write_half_edges<V, DE, UE, F, A: Allocator, K: LineSink>(
+    out: &mut Writer<'_, K>,
+    vertex: VertexHandle<'_, V, DE, UE, F, A>,
+)
+    ensures { let shape = (mesh_behind vertex.entry).shape in
+        Writes K.has_failed K.contents out.old out.new (listed (turn_of shape (number_of vertex.entry))) }
+{
+    let Some(least) = least_out_edge(vertex) else {
+        return;
+    };
+    write_turn(out, least);
+}
+
+/// Writes the line of the half edges that start at a vertex, from the least on.
+fn write_out_edges<V, DE, UE, F, A: Allocator, K: LineSink>(
+    out: &mut Writer<'_, K>,
+    dcel: &Dcel<V, DE, UE, F, A>,
+    vertex: FixedVertexHandle,
+)
+    requires { vertex < dcel.now.shape.vertices }
+    ensures { Writes K.has_failed K.contents out.old out.new (turn_text dcel.now.shape vertex) }
+{
+    out.write(b"out");
+    write_half_edges(out, dcel.vertex(vertex));
+    out.write(b"\n");
 }

@@ -1,15 +1,11 @@
 //! `triangle D D D`
 
-ghost use Rattle.std.specs.Prelude.{◌≡◌, codes};
-ghost use Rattle.dcel_text.specs.Items.{left};
-ghost use Rattle.dcel_commands.specs.Spelling.{Says};
-ghost use Rattle.dcel_commands.specs.Steps.{Carries};
+ghost use Rattle.dcel_commands.specs.Vocabulary.{◌≡◌, Carries, Says, codes, left};
 
 use super::*;
 use spade_dcel::operations::{NoMemory, new_triangle};
 
 /// What the line says after its word.
-#[tactic(auto, unfolding(crate::specs::Spelling::Says))]
 pub fn read<'a>(rest: Rest<'a>) -> Option<Request>
     ensures { Says (codes "triangle") (left rest.entry) result }
 {
@@ -27,7 +23,7 @@ pub fn carry_out<
 >(dcel: &mut Dcel<V, DE, UE, F, A>, vertices: (V, V, V), limit: usize) -> Result<Reply, Refused<V>>
     ensures { Carries DE.is_default UE.is_default F.is_default limit dcel.old (Command.Triangle vertices.0 vertices.1 vertices.2) result dcel.new }
 {
-    if !are_within(limit, 3, 3, 2) {
+    if limit < 3 {
         return Err(refused(Refusal::NoRoom, vertices));
     }
     let alloc = match dcel.allocator().clone() {

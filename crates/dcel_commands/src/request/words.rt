@@ -1,15 +1,13 @@
 //! `words`
 
-ghost use Rattle.std.specs.Prelude.{codes};
-ghost use Rattle.dcel_text.specs.Items.{left};
-ghost use Rattle.dcel_commands.specs.Queries.{TellsOrRefuses};
-ghost use Rattle.dcel_commands.specs.Spelling.{Says};
+ghost use Rattle.dcel_commands.specs.Vocabulary.{◌≡◌, ◌<◌, IsLive, IsMesh, IsSound, Says, Writes, codes, face_count, face_of, left, listed, mesh_behind, number_of, word_of};
+ghost use Rattle.dcel_commands.specs.request.Words.{line_of, words_text, word_round, IsLeastOnFace};
 
 use super::*;
-use crate::faces::write_words;
+use spade_dcel::handles::{DirectedEdgeHandle, PossiblyOuterTag, new_fixed_face_handle};
+use spade_dcel::laws::every_mesh;
 
 /// What the line says after its word.
-#[tactic(auto, unfolding(crate::specs::Spelling::Says))]
 pub fn read<'a>(rest: Rest<'a>) -> Option<Request>
     ensures { Says (codes "words") (left rest.entry) result }
 {
@@ -17,13 +15,90 @@ pub fn read<'a>(rest: Rest<'a>) -> Option<Request>
     Some(Request::Ask(Query::Words))
 }
 
-/// Writes the answer.
-pub fn tell<V, DE, UE, F, A: Allocator, K: LineSink>(
+/// The least half edge of the face that the anchor lies on.
+fn least_on_face<'a, V, DE, UE, F, A: Allocator>(
+    anchor: DirectedEdgeHandle<'a, V, DE, UE, F, A>,
+) -> DirectedEdgeHandle<'a, V, DE, UE, F, A>
+    requires sound { IsSound (mesh_behind anchor).shape }
+    requires live { IsLive (mesh_behind anchor).shape (number_of anchor) }
+    ensures mesh { mesh_behind result ≡ mesh_behind anchor.entry }
+    ensures face { face_of (mesh_behind result).shape (number_of result)
+        ≡ face_of (mesh_behind anchor.entry).shape (number_of anchor.entry) }
+    ensures least { IsLeastOnFace (mesh_behind result).shape (number_of result) }
+{
+    let mut least = anchor;
+    let mut edge = anchor.next();
+    while edge.index() != anchor.index() {
+        if edge.index() < least.index() {
+            least = edge;
+        }
+        edge = edge.next();
+    }
+    least
+}
+
+/// Writes the half edges round a face from this one, the least of them, each after a space.
+fn write_word<V, DE, UE, F, A: Allocator, K: LineSink>(
+    out: &mut Writer<'_, K>,
+    least: DirectedEdgeHandle<'_, V, DE, UE, F, A>,
+)
+    requires sound { IsSound (mesh_behind least).shape }
+    requires least { IsLeastOnFace (mesh_behind least).shape (number_of least) }
+    ensures { let word = word_round (mesh_behind least.entry).shape (number_of least.entry) in
+        Writes K.has_failed K.contents out.old out.new (listed word) }
+{
+    out.spaced_number(least.index() as u64);
+    let mut edge = least.next();
+    while edge.index() != least.index() {
+        out.spaced_number(edge.index() as u64);
+        edge = edge.next();
+    }
+}
+
+/// Writes the half edges round a face, if it has any, from its least.
+fn write_half_edges<V, DE, UE, F, A: Allocator, K: LineSink>(
     out: &mut Writer<'_, K>,
     dcel: &Dcel<V, DE, UE, F, A>,
-) -> Result<(), Refusal>
-    ensures { TellsOrRefuses K.has_failed K.contents out.old dcel.now.shape Query.Words result out.new }
+    face: FixedFaceHandle<PossiblyOuterTag>,
+)
+    requires mesh { IsMesh dcel.now }
+    requires in_range { face < face_count dcel.now.shape }
+    ensures { Writes K.has_failed K.contents out.old out.new (listed (word_of dcel.now.shape.words face)) }
 {
-    write_words(out, dcel);
-    Ok(())
+    let Some(anchor) = dcel.face_adjacent_edge(face) else {
+        return;
+    };
+    write_word(out, least_on_face(dcel.directed_edge(anchor)));
+}
+
+/// Writes the line of a face where it is live, and nothing where it isn't.
+fn write_face<V, DE, UE, F, A: Allocator, K: LineSink>(
+    out: &mut Writer<'_, K>,
+    dcel: &Dcel<V, DE, UE, F, A>,
+    face: FixedFaceHandle<PossiblyOuterTag>,
+)
+    requires mesh { IsMesh dcel.now }
+    requires in_range { face < face_count dcel.now.shape }
+    ensures { Writes K.has_failed K.contents out.old out.new (line_of dcel.now.shape face) }
+{
+    if !dcel.is_live_face(face) {
+        return;
+    }
+    out.write(b"F");
+    out.number(face.index() as u64);
+    write_half_edges(out, dcel, face);
+    out.write(b"\n");
+}
+
+/// Writes a line for each live face: its number, and the half edges round it from the least on.
+pub fn write_words<V, DE, UE, F, A: Allocator, K: LineSink>(
+    out: &mut Writer<'_, K>,
+    dcel: &Dcel<V, DE, UE, F, A>,
+)
+    ensures { Writes K.has_failed K.contents out.old out.new (words_text dcel.now.shape) }
+{
+    every_mesh(dcel);
+    for index in 0..dcel.num_faces() {
+        write_face(out, dcel, new_fixed_face_handle(index));
+    }
 }

@@ -7,14 +7,14 @@ pub returns-in-Ok : goal.returns-in-Ok
 returns-in-Ok g c = record {
   text = _;
   writes = c.write_reply.ensures;
-  fits = good_line (Edit c.in-Some-Edit.command) (rw c.in-Some-Edit.field-0-is at c.in-Some-Edit.ensures) (Ok c.in-Ok.reply, c.in-Ok.ensures, refl);
+  fits = good_line (Edit c.in-Some-Edit.command) (rw c.in-Some-Edit.field-0-is at c.in-Some-Edit.ensures) (Ok c.in-Ok.reply, (c.in-Ok.ensures.legal, c.in-Ok.ensures.step), refl);
 }
 
 pub returns-in-Err : goal.returns-in-Err
 returns-in-Err g c = record {
   text = _;
   writes = c.write_refusal.ensures;
-  fits = good_line (Edit c.in-Some-Edit.command) (rw c.in-Some-Edit.field-0-is at c.in-Some-Edit.ensures) (Err c.in-Err.refused, c.in-Err.ensures, refl);
+  fits = good_line (Edit c.in-Some-Edit.command) (rw c.in-Some-Edit.field-0-is at c.in-Some-Edit.ensures) (Err c.in-Err.refused, (c.in-Err.ensures.refused, c.in-Err.ensures.unchanged), refl);
 }
 
 pub returns-in-Ok-tell : goal.returns-in-Ok-tell

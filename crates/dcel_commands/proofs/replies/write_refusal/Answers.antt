@@ -7,4 +7,4 @@ pub returns : goal.returns
 returns g c =
     let number : c.from.result ≡ refusal_number c.args.why = search rules in
     let name : c.as_bytes.result.now ≡ name_of c.args.why = search rules in
-    writes_text (cc) (writes_and (writes_and (writes_and (writes_and c.write.ensures c.number-2.ensures) c.push.ensures) c.write-2.ensures) c.push-2.ensures)
+    writes_text (cc) (writes_and (writes_and (writes_and (writes_and c.write.ensures c.number-2.ensures) c.write-2.ensures) c.write-3.ensures) c.write-4.ensures)

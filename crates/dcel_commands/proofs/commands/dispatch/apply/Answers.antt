@@ -1,0 +1,37 @@
+use Rattle.std.proofs.Common.{ℕ, Ok, Err}
+use Rattle.std.specs.Prelude.{Result, IfOk, IfErr, OnOk}
+use Rattle.dcel_commands.specs.declared.commands.command.Command.{Command}
+use Rattle.dcel_commands.specs.declared.commands.reply.Refused.{Refused}
+use Rattle.dcel_commands.specs.declared.commands.reply.Reply.{Reply}
+use Rattle.dcel_commands.specs.Steps.{Carries, IsRefusal, Legal, Step}
+use Rattle.dcel_maps.specs.Shapes.{Mesh}
+use Rattle.dcel_commands.proofs.commands.dispatch.apply.Given.{Over}
+use Rattle.dcel_commands.proofs.commands.dispatch.apply.Goals as goal
+use Rattle.dcel_commands.proofs.commands.dispatch.apply.Goals.{in-Append, in-Triangle, in-Setup, in-Extend, in-Insert}
+
+-- each line carries out its command
+carries : (g : Over) (c : goal.After-every_mesh g)
+    → Carries g.DE.Default.is_default g.UE.Default.is_default g.F.Default.is_default c.args.limit c.args.dcel.now c.args.command c.match-command.answer c.match-command.dcel
+carries g c = elim c.match-command.branch [
+  | in-Append w ↦ rw (w.answer-is, w.dcel-is, w.in-Append.is) w.carry_out-answer.ensures
+  | in-Triangle w ↦ rw (w.answer-is, w.dcel-is, w.in-Triangle.is) w.carry_out-answer-in-Triangle.ensures
+  | in-Setup w ↦ rw (w.answer-is, w.dcel-is, w.in-Setup.is) w.carry_out-answer-in-Setup.ensures
+  | in-Extend w ↦ rw (w.answer-is, w.dcel-is, w.in-Extend.is) w.carry_out-answer-in-Extend.ensures
+  | in-Insert w ↦ rw (w.answer-is, w.dcel-is, w.in-Insert.is) w.carry_out-answer-in-Insert.ensures
+]
+
+-- what that says where the command was carried out, and where it was refused
+parts : {V DE UE F : Type 0} (is_half : DE → Type 0) (is_edge : UE → Type 0) (is_face : F → Type 0) (limit : ℕ) (old new : Mesh V DE UE F) (command : Command V) (outcome : Result Reply (Refused V))
+    → Carries is_half is_edge is_face limit old command outcome new
+    → IfOk outcome (λ reply. Step is_half is_edge is_face old command reply new) × OnOk outcome (Legal old.shape limit command) × IfErr outcome (λ refused. IsRefusal old.shape limit command refused)
+parts is_half is_edge is_face limit old new command (Ok reply) c = (c.1, c.0, tt)
+parts is_half is_edge is_face limit old new command (Err refused) c = (tt, tt, c.0)
+
+pub returns-clause-step : goal.returns-clause-step
+returns-clause-step g c = (parts _ _ _ _ _ _ _ c.match-command.answer (carries g c)).0
+
+pub returns-clause-legal : goal.returns-clause-legal
+returns-clause-legal g c = (parts _ _ _ _ _ _ _ c.match-command.answer (carries g c)).1
+
+pub returns-clause-refused : goal.returns-clause-refused
+returns-clause-refused g c = (parts _ _ _ _ _ _ _ c.match-command.answer (carries g c)).2
