@@ -1,7 +1,7 @@
 -- What the writes leave that begin a mesh holds it: the outer face alone, a vertex more, the first edge, a triangle.
 use Rattle.std.proofs.Common.{◌≡◌, ◌≢◌, ℕ, ◌-◌, ◌*◌, ◌<◌, true, List, [], ◌∷◌, ◌++◌, length, None, append-nil, refl, ap, arith}
 use Rattle.std.proofs.Math.Nat.{sub-zero}
-use Rattle.dcel_store.specs.Lists.{Lists}
+use Rattle.dcel_store.specs.Lists.{Lists, empty}
 use Rattle.dcel_maps.specs.edits.DefaultData.{AddsEdge, AddsEdgesAndFaces}
 use Rattle.dcel_maps.specs.Conditions.{HasRoom}
 use Rattle.dcel_maps.specs.edits.Create.{first_edge_added, outer_alone, vertex_appended}
@@ -21,21 +21,7 @@ use Rattle.dcel_edits.proofs.stored.Holding.{Holds}
 module _ {V DE UE F : Type 0} where
   -- the outer face alone, with so many reserved places
   abbrev pub face_alone : F → ℕ → ℕ → ℕ → Lists V DE UE F
-  face_alone datum i j k = record {
-    vertex_data = [];
-    vertex_anchors = [];
-    next = [];
-    prev = [];
-    origin = [];
-    face = [];
-    directed_data = [];
-    undirected_data = [];
-    face_data = datum ∷ [];
-    face_anchors = None ∷ [];
-    vertex_room = i;
-    edge_room = j;
-    face_room = k;
-  }
+  face_alone datum i j k = record empty { face_data = datum ∷ []; face_anchors = None ∷ []; vertex_room = i; edge_room = j; face_room = k }
 
   pub new_holds : (datum : F) (i j k : ℕ) → Holds (face_alone datum i j k) Closed (outer_alone datum)
   new_holds datum i j k =
