@@ -53,26 +53,29 @@ module _ {V DE UE F : Type 0} where
   abbrev pub appended : Lists V DE UE F → V → Lists V DE UE F
   appended s datum = record s { vertex_data = s.vertex_data ++ datum ∷ []; vertex_anchors = s.vertex_anchors ++ None ∷ []; vertex_room = s.vertex_room - 1 }
 
-  pub append_holds : (s : Lists V DE UE F) (r : Removal) (m : Mesh V DE UE F) → Holds s r m → HasRoom m.shape 1 0 0 → (datum : V)
+  pub append_holds : {s : Lists V DE UE F} {r : Removal} {m : Mesh V DE UE F} → Holds s r m → HasRoom m.shape 1 0 0 → (datum : V)
       → Holds (appended s datum) r (vertex_appended m datum)
-  append_holds s r m held room datum =
+  append_holds {s = s} {r = r} {m = m} held room datum =
       let read : appended s datum ≡ written s (appending datum) = simp (append-nil, sub-zero) refl in
       rw (read, ← appending_is m datum)
       (change_holds s r m (appending datum) held (appending_is_edit m datum (held_mesh s r m held) room))
 
 -- the first edge
-module _ {V DE UE F : Type 0} (s : Lists V DE UE F) (r : Removal) (m : Mesh V DE UE F) (held : Holds s r m) (a b : ℕ) (none : m.shape.edges ≡ 0)
+pub begin_can : {V DE UE F : Type 0} {s : Lists V DE UE F} {r : Removal} {m : Mesh V DE UE F} → Holds s r m → (a b : ℕ)
+    → vertex_is_live m.shape a ≡ true → vertex_is_live m.shape b ≡ true → 0 < s.edge_room → CanBegin s a b
+begin_can {s = s} {r = r} {m = m} held a b a_live b_live place =
+    let mesh = held_mesh s r m held in
+    record {
+      place = place;
+      first_in = held_vertex s r m held a a_live;
+      second_in = held_vertex s r m held b b_live;
+      outer = omega (arith, mesh.sized.outer, mesh.sized.face_anchors, ap length (held_lists s r m held).face_anchors);
+    }
+
+module _ {V DE UE F : Type 0} {s : Lists V DE UE F} {r : Removal} {m : Mesh V DE UE F} (held : Holds s r m) (a b : ℕ) (none : m.shape.edges ≡ 0)
     (a_live : vertex_is_live m.shape a ≡ true) (b_live : vertex_is_live m.shape b ≡ true) (apart : a ≢ b) (room : HasRoom m.shape 0 1 0) where
   mesh : IsMesh m
   mesh = held_mesh s r m held
-
-  pub begin_can : 0 < s.edge_room → CanBegin s a b
-  begin_can place = record {
-    place = place;
-    first_in = held_vertex s r m held a a_live;
-    second_in = held_vertex s r m held b b_live;
-    outer = omega (arith, mesh.sized.outer, mesh.sized.face_anchors, ap length (held_lists s r m held).face_anchors);
-  }
 
   begin_hold : (halves : List DE) (edges : List UE) → length halves ≡ 2 → length edges ≡ 1
       → Holds (first_edge_stored s a b halves edges) r (first_edge_added m a b halves edges)
