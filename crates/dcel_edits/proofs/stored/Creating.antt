@@ -8,13 +8,14 @@ use Rattle.dcel_maps.specs.edits.Create.{first_edge_added, outer_alone, vertex_a
 use Rattle.dcel_maps.specs.edits.Triangle.{triangle_alone}
 use Rattle.dcel_maps.specs.Removals.{Closed, Removal}
 use Rattle.dcel_maps.specs.Shapes.{IsMesh, Mesh, vertex_is_live}
+use Rattle.dcel_maps.specs.Walks.{anchored_word, anchored_words}
 use Rattle.dcel_maps.proofs.edits.Alone.{alone_is_mesh, no_half_alone}
 use Rattle.dcel_maps.proofs.edits.Appending.{appending, appending_is, appending_is_edit}
 use Rattle.dcel_maps.proofs.edits.Beginning.{beginning, beginning_is, beginning_is_edit}
 use Rattle.dcel_maps.proofs.edits.FirstTriangle.{first_triangle, first_triangle_is_edit}
 use Rattle.dcel_edits.specs.Create.{CanBegin, first_edge_stored}
 use Rattle.dcel_edits.specs.Triangle.{triangle_stored}
-use Rattle.dcel_edits.proofs.stored.Changes.{HoldsAdded, HoldsEdge, added_holds, change_holds, held_lists, held_mesh, held_vertex, written}
+use Rattle.dcel_edits.proofs.stored.Changes.{HoldsAdded, HoldsEdge, added_holds, change_holds, held_lists, held_mesh, held_vertex, lists_from_links, written}
 use Rattle.dcel_edits.proofs.stored.Held.{lists_hold}
 use Rattle.dcel_edits.proofs.stored.Holding.{Holds}
 
@@ -24,30 +25,29 @@ module _ {V DE UE F : Type 0} where
   face_alone datum i j k = record empty { face_data = datum ∷ []; face_anchors = None ∷ []; vertex_room = i; edge_room = j; face_room = k }
 
   pub new_holds : (datum : F) (i j k : ℕ) → Holds (face_alone datum i j k) Closed (outer_alone datum)
+  unfolding anchored_words anchored_word
   new_holds datum i j k =
       lists_hold (face_alone datum i j k) (outer_alone datum) (alone_is_mesh datum)
+      (lists_from_links (face_alone datum i j k) Closed
       record {
-        lengths = record {
-          of_vertex_anchors = refl;
-          of_next = refl;
-          of_prev = refl;
-          of_origin = refl;
-          of_face = refl;
-          of_directed_data = refl;
-          of_face_anchors = refl;
-        };
+        of_vertex_anchors = refl;
+        of_next = refl;
+        of_prev = refl;
+        of_origin = refl;
+        of_face = refl;
+        of_directed_data = refl;
+        of_face_anchors = refl;
+      }
+      record {
+        vertices = refl;
+        edges = refl;
+        faces = refl;
+        edge = λ u. refl;
         next = λ h live. absurd (no_half_alone h live);
         prev = λ h live. absurd (no_half_alone h live);
         origin = λ h live. absurd (no_half_alone h live);
         face = λ h live. absurd (no_half_alone h live);
-        shown_origins = refl;
-        vertex_data = refl;
-        vertex_anchors = refl;
-        face_anchors = refl;
-        directed_data = refl;
-        undirected_data = refl;
-        face_data = refl;
-      }
+      })
 
   -- a vertex pushed
   abbrev pub appended : Lists V DE UE F → V → Lists V DE UE F
