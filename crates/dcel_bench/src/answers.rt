@@ -2,6 +2,7 @@
 
 ghost use Rattle.std.specs.Prelude.{◌≤◌, ◌^◌};
 
+use crate::meshes::NO_LIMIT;
 use dcel_commands::commands::{RunFault, StdSink, StdSource, run};
 use std::alloc::{AllocError, Allocator, Global};
 use std::io;
@@ -78,32 +79,45 @@ pub fn answers(
 ) -> (Result<(), RunFault>, Vec<u8>)
     requires { limit ≤ 2 ^ 31 }
 {
-    let ran = run_in(alloc, alloc, limit, lines, chunk, calls, room);
-    (ran.ended, ran.written)
-}
-
-/// The same with a mesh in some memory.
-pub fn run_in<A: Allocator + Clone>(
-    memory: A,
-    alloc: Global,
-    limit: usize,
-    lines: &[u8],
-    chunk: usize,
-    calls: usize,
-    room: usize,
-) -> Ran
-    requires { limit ≤ 2 ^ 31 }
-{
-    let mut giver = Giver {
+    let giver = Giver {
         bytes: lines,
         chunk,
         calls,
     };
-    let mut taker = Taker {
+    let taker = Taker {
         bytes: Vec::new(alloc),
         chunk,
         room,
     };
+    let ran = run_in(alloc, limit, giver, taker);
+    (ran.ended, ran.written)
+}
+
+/// Runs the lines with the mesh in some memory; reads and writes don't fail.
+pub fn run_lines<A: Allocator + Clone>(memory: A, lines: &[u8], alloc: Global) -> Ran {
+    let giver = Giver {
+        bytes: lines,
+        chunk: PLENTY,
+        calls: PLENTY,
+    };
+    let taker = Taker {
+        bytes: Vec::new(alloc),
+        chunk: PLENTY,
+        room: PLENTY,
+    };
+    run_in(memory, NO_LIMIT, giver, taker)
+}
+
+// Runs the lines that `giver` gives, with the mesh in some memory.
+fn run_in<'a, A: Allocator + Clone>(
+    memory: A,
+    limit: usize,
+    mut giver: Giver<'a>,
+    mut taker: Taker,
+) -> Ran
+    requires { limit ≤ 2 ^ 31 }
+{
+    let calls = giver.calls;
     let mut source = StdSource::new(&mut giver);
     let mut sink = StdSink::new(&mut taker);
     let ended = run(memory, &mut source, &mut sink, limit);

@@ -1,17 +1,11 @@
 //! Lines of which one is refused a request for memory.
 
-use crate::answers::{PLENTY, Ran, push_line, push_talk, run_in};
-use crate::meshes::NO_LIMIT;
+use crate::answers::{push_line, push_talk, run_lines};
 use crate::refusing::Refusing;
 use dcel_commands::commands::RunFault;
 use std::alloc::Global;
 use std::process::Abort;
 use std::test::Fail;
-
-/// Runs the lines with the mesh in this memory.
-fn run_lines(memory: &Refusing<Global>, lines: &[u8], alloc: Global) -> Ran {
-    run_in(memory, alloc, NO_LIMIT, lines, PLENTY, PLENTY, PLENTY)
-}
 
 /// How many requests for memory the lines make, with those for the first mesh.
 fn requests_of(lines: &[u8], alloc: Global) -> u64 {

@@ -1,16 +1,16 @@
 -- Stored lists stand for a mesh.
 use Rattle.std.proofs.Common.{◌≡◌, ◌≢◌, ◌↔◌, ◌⊎◌, ℕ, ◌*◌, ◌/◌, ◌<◌, true, false, List, [], ◌∷◌, length, Option, Some, None, inl, inr, sym, refl, ap, ◌∙◌, subst, arith}
-use Rattle.std.specs.Prelude.{slice_index_or}
+use Rattle.std.specs.Prelude.{slice_index, slice_index_or}
 use Rattle.std.proofs.lemmas.List.{get_or_past}
 use Rattle.std.proofs.lemmas.Bool.{both_ways, cases_eq, cases_lt, false_from_ne_true, true_from_ne_false}
 use Rattle.dcel_store.specs.Lists.{Lists}
 use Rattle.dcel_maps.specs.theory.Sound.{Sound, Sphere, has_word}
 use Rattle.dcel_maps.specs.Removals.{Removal, gives_up_edge, gives_up_face}
-use Rattle.dcel_maps.specs.Shapes.{AnchorsVertex, AnchorsWord, IsAnchored, IsLive, IsMesh, IsSized, IsSound, IsSphere, edge_is_live, face_is_live, face_of, map_of}
+use Rattle.dcel_maps.specs.Shapes.{AnchorsVertex, AnchorsWord, IsAnchored, IsLive, IsMesh, IsSized, IsSound, IsSphere, Mesh, edge_is_live, face_is_live, face_of, map_of}
 use Rattle.dcel_edits.specs.Stored.{IsStored, mesh_of, stored_map, stored_words}
 use Rattle.dcel_maps.specs.Words.{IsLeastFirst, count_of, word_of}
 use Rattle.dcel_maps.proofs.Liveness.{IsWithin-grown, is_live-cases, is_live-parts}
-use Rattle.dcel_edits.proofs.Reading.{anchor_starts, none_starts, origin_of-live, public_agrees, stands_in_word, word-lies}
+use Rattle.dcel_edits.proofs.Reading.{anchor_starts, face_of-is, none_starts, origin_of-live, public_agrees, stands_in_word, word-lies}
 use Rattle.dcel_maps.proofs.maps.Agreement.{agrees-sound, agrees-sphere}
 use Rattle.dcel_maps.proofs.maps.Counts.{count_same, same_tests, used_from, used_gives}
 use Rattle.dcel_maps.proofs.words.Counts.{count-same}
@@ -88,6 +88,12 @@ module _ {V DE UE F : Type 0} where
       let stands : 0 < count_of h (word_of (stored_words s) f) = stands_in_word stored h live in
       true_from_ne_false (face_is_live (mesh_of s r).shape f)
       (λ dead. let none : 0 < count_of h [] = subst (λ w. 0 < count_of h w) (bare_word stored f dead) stands in omega arith)
+
+  -- what the store reads as the face of a live half edge of the mesh m is the link, and live
+  pub face-read : {s : Lists V DE UE F} {r : Removal} {m : Mesh V DE UE F} → IsStored s r → mesh_of s r ≡ m → (h : ℕ) → IsLive m.shape h
+      → (slice_index s.face h ≡ face_of m.shape h) × (face_is_live m.shape (slice_index s.face h) ≡ true)
+  face-read stored is h live =
+      let here = rw (← is) at live in rw (← is) (sym (face_of-is stored h here), rw (← face_of-is stored h here) (face_of-live stored h here))
 
   -- the four parts of what is true of a mesh
   mesh_is_sound : {s : Lists V DE UE F} {r : Removal} → IsStored s r → IsSound (mesh_of s r).shape

@@ -8,7 +8,7 @@ use Rattle.dcel_fixed.proofs.Halves.{rev-half}
 use Rattle.dcel_store.specs.Lists.{Lists}
 use Rattle.dcel_maps.specs.Maps.{By, Reaches, ccw, Starts}
 use Rattle.dcel_maps.specs.Removals.{Removal, gives_up_vertex, gives_up_edge}
-use Rattle.dcel_maps.specs.Shapes.{AnchorsWord, IsLive, face_of, map_of, next_of, origin_of, prev_of, vertex_is_live}
+use Rattle.dcel_maps.specs.Shapes.{AnchorsWord, IsLive, Mesh, face_of, map_of, next_of, origin_of, prev_of, vertex_is_live}
 use Rattle.dcel_edits.specs.Stored.{IsStored, mesh_of, stored_map, stored_words}
 use Rattle.dcel_maps.specs.Words.{count_of, word_of}
 use Rattle.dcel_maps.proofs.Liveness.{is_live-parts, is_live-from}
@@ -172,3 +172,16 @@ module _ {V DE UE F : Type 0} where
     | inr past ↦ let agree = stored.lengths.of_face_anchors in
         let none = get_or_past s.face_anchors f None (omega arith) in cc
   ]
+
+-- what the store reads of a live half edge of the mesh m is the link, and live
+module _ {V DE UE F : Type 0} {s : Lists V DE UE F} {r : Removal} {m : Mesh V DE UE F} (stored : IsStored s r) (is : mesh_of s r ≡ m)
+    (h : ℕ) where
+  pub next-read : IsLive m.shape h → (slice_index s.next h ≡ next_of m.shape h) × IsLive m.shape (slice_index s.next h)
+  next-read live = let here = rw (← is) at live in rw (← is) (sym (next_of-is stored h here), next-live stored h here)
+
+  pub prev-read : IsLive m.shape h → (slice_index s.prev h ≡ prev_of m.shape h) × IsLive m.shape (slice_index s.prev h)
+  prev-read live = let here = rw (← is) at live in rw (← is) (sym (prev_of-is stored h here), prev-live stored h here)
+
+  pub origin-read : IsLive m.shape h → (slice_index s.origin h ≡ origin_of m.shape h) × (vertex_is_live m.shape (slice_index s.origin h) ≡ true)
+  origin-read live =
+      let here = rw (← is) at live in rw (← is) (sym (origin_of-is s r h here), rw (← origin_of-is s r h here) (origin_of-live stored h here))

@@ -8,7 +8,7 @@ use Rattle.dcel_store.specs.declared.EdgeEntry.{EdgeEntry}
 use Rattle.dcel_store.specs.declared.HalfEdgeEntry.{HalfEdgeEntry}
 use Rattle.dcel_store.specs.declared.Store.TheInside.{Inside}
 use Rattle.dcel_store.specs.HalfEdges.{IsHalfEdge, with_half_edge}
-use Rattle.dcel_store.specs.Lists.{LengthsAgree}
+use Rattle.dcel_store.specs.Lists.{LengthsAgree, Lists}
 use Rattle.dcel_store.specs.Records.{lists_of, half_edges}
 use Rattle.dcel_store.proofs.Pairs.{length-pairs_of, get_or-pairs_of, pairs_of-set, pairs_of-set_same}
 
@@ -33,7 +33,7 @@ module _ {V DE UE F A : Type 0} (store : Inside V DE UE F A) where
     even : (h % 2 == 0) ≡ normalized
     even = grind (arith, nat_tests)
 
-    pub is_half_edge : h < length (lists_of store).next → IsHalfEdge (lists_of store) h (if normalized then x.normalized else x.reversed)
+    is_half_edge : h < length (lists_of store).next → IsHalfEdge (lists_of store) h (if normalized then x.normalized else x.reversed)
     is_half_edge within =
         let links : HalfEdgeEntry = if normalized then x.normalized else x.reversed in
         let all : List HalfEdgeEntry = half_edges store.edges.items in
@@ -54,7 +54,7 @@ module _ {V DE UE F A : Type 0} (store : Inside V DE UE F A) where
       reversed = if normalized then x.reversed else links;
     }
 
-    pub lists_of-set_half_edge : (links : HalfEdgeEntry) → lists_of (record store { edges = with_item store.edges i (with_links links) }) ≡ with_half_edge (lists_of store) h links
+    lists_of-set_half_edge : (links : HalfEdgeEntry) → lists_of (record store { edges = with_item store.edges i (with_links links) }) ≡ with_half_edge (lists_of store) h links
     lists_of-set_half_edge links =
         let edges = store.edges.items in
         let y = with_links links in
@@ -66,3 +66,9 @@ module _ {V DE UE F A : Type 0} (store : Inside V DE UE F A) where
           map-set_same (λ e. e.edge_data.undirected) edges i y x (ap (λ (e : EdgeEntry DE UE). e.edge_data.undirected) read),
         )
         (simp map-set)
+
+    -- where the lists are l: the links that are read, and what l is once others are written
+    pub half_edge_of : {l : Lists V DE UE F} → lists_of store ≡ l → h < length l.next
+        → IsHalfEdge l h (if normalized then x.normalized else x.reversed)
+        × ((links : HalfEdgeEntry) → lists_of (record store { edges = with_item store.edges i (with_links links) }) ≡ with_half_edge l h links)
+    half_edge_of is within = rw (← is) (is_half_edge (rw (← is) at within), lists_of-set_half_edge)

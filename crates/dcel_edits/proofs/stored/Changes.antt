@@ -4,17 +4,18 @@ use Rattle.dcel_store.specs.Lists.{Lists, LengthsAgree}
 use Rattle.dcel_maps.specs.edits.DefaultData.{AddsEdgesAndFaces}
 use Rattle.dcel_maps.specs.Maps.{Live, Map}
 use Rattle.dcel_maps.specs.Removals.{Removal, gives_up_edge, gives_up_vertex}
-use Rattle.dcel_maps.specs.Shapes.{IsLive, IsMesh, IsSized, Mesh, face_anchor, face_count, vertex_anchor, vertex_is_live}
-use Rattle.dcel_edits.specs.Stored.{IsStored, mesh_of}
+use Rattle.dcel_maps.specs.Shapes.{IsLive, IsMesh, IsSized, Mesh, face_anchor, face_count, map_of, vertex_anchor, vertex_is_live}
+use Rattle.dcel_edits.specs.Stored.{IsStored, mesh_of, stored_map}
 use Rattle.dcel_maps.proofs.Liveness.{gives_up_edge-past, is_live-parts}
 use Rattle.dcel_maps.proofs.edits.Adding.{ForData, adds_as}
 use Rattle.dcel_maps.proofs.edits.Changes.{Change, IsEdit, changed, edit_makes_mesh, edit_shows, map_after}
 use Rattle.dcel_maps.proofs.edits.Growing.{after-was}
 use Rattle.dcel_maps.proofs.edits.Patches.{Each, Patch, each-weaker, length-patched, patched, patched-is, patched_at}
+use Rattle.dcel_maps.proofs.maps.Agreement.{Agrees}
 use Rattle.dcel_maps.proofs.walks.Links.{half-below}
 use Rattle.dcel_maps.proofs.words.Reading.{face_in-is, next_in-is, prev_in-is}
 use Rattle.dcel_edits.proofs.Public.{mesh-is-mesh}
-use Rattle.dcel_edits.proofs.Reading.{face_of-is, next_of-is, origin_of-is, prev_of-is}
+use Rattle.dcel_edits.proofs.Reading.{public_agrees}
 use Rattle.dcel_edits.proofs.Shown.{shown-patched}
 use Rattle.dcel_edits.proofs.stored.Held.{ListsMesh, lists_hold}
 use Rattle.dcel_edits.proofs.stored.Holding.{Holds}
@@ -38,14 +39,14 @@ module _ {V DE UE F : Type 0} where
     face_room = s.face_room - c.faces;
   }
 
-  -- lists that hold a mesh are its lists
-  stored_lists : (s : Lists V DE UE F) (r : Removal) → IsStored s r → ListsMesh s (mesh_of s r)
-  stored_lists s r stored = record {
-    lengths = stored.lengths;
-    next = λ h live. sym (next_of-is stored h live);
-    prev = λ h live. sym (prev_of-is stored h live);
-    origin = λ h live. sym (origin_of-is s r h live);
-    face = λ h live. sym (face_of-is stored h live);
+  -- lists whose live links are those of their mesh are its lists
+  pub lists_from_links : (s : Lists V DE UE F) (r : Removal) → LengthsAgree s → Agrees (stored_map s r) (map_of (mesh_of s r).shape) → ListsMesh s (mesh_of s r)
+  lists_from_links s r lengths links = record {
+    lengths = lengths;
+    next = λ h live. sym (links.next h live);
+    prev = λ h live. sym (links.prev h live);
+    origin = λ h live. sym (links.origin h live);
+    face = λ h live. sym (links.face h live);
     shown_origins = refl;
     vertex_data = refl;
     vertex_anchors = refl;
@@ -56,7 +57,7 @@ module _ {V DE UE F : Type 0} where
   }
 
   pub held_lists : (s : Lists V DE UE F) (r : Removal) (m : Mesh V DE UE F) → Holds s r m → ListsMesh s m
-  held_lists s r m held = subst (λ (u : Mesh V DE UE F). ListsMesh s u) held.is (stored_lists s r held.stored)
+  held_lists s r m held = subst (λ (u : Mesh V DE UE F). ListsMesh s u) held.is (lists_from_links s r held.stored.lengths (public_agrees held.stored))
 
   pub held_mesh : (s : Lists V DE UE F) (r : Removal) (m : Mesh V DE UE F) → Holds s r m → IsMesh m
   held_mesh s r m held = subst (λ (u : Mesh V DE UE F). IsMesh u) held.is (mesh-is-mesh s r held.stored)

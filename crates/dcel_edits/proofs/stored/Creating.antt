@@ -1,92 +1,81 @@
 -- What the writes leave that begin a mesh holds it: the outer face alone, a vertex more, the first edge, a triangle.
 use Rattle.std.proofs.Common.{◌≡◌, ◌≢◌, ℕ, ◌-◌, ◌*◌, ◌<◌, true, List, [], ◌∷◌, ◌++◌, length, None, append-nil, refl, ap, arith}
 use Rattle.std.proofs.Math.Nat.{sub-zero}
-use Rattle.dcel_store.specs.Lists.{Lists}
+use Rattle.dcel_store.specs.Lists.{Lists, empty}
 use Rattle.dcel_maps.specs.edits.DefaultData.{AddsEdge, AddsEdgesAndFaces}
 use Rattle.dcel_maps.specs.Conditions.{HasRoom}
 use Rattle.dcel_maps.specs.edits.Create.{first_edge_added, outer_alone, vertex_appended}
 use Rattle.dcel_maps.specs.edits.Triangle.{triangle_alone}
 use Rattle.dcel_maps.specs.Removals.{Closed, Removal}
 use Rattle.dcel_maps.specs.Shapes.{IsMesh, Mesh, vertex_is_live}
+use Rattle.dcel_maps.specs.Walks.{anchored_word, anchored_words}
 use Rattle.dcel_maps.proofs.edits.Alone.{alone_is_mesh, no_half_alone}
 use Rattle.dcel_maps.proofs.edits.Appending.{appending, appending_is, appending_is_edit}
 use Rattle.dcel_maps.proofs.edits.Beginning.{beginning, beginning_is, beginning_is_edit}
 use Rattle.dcel_maps.proofs.edits.FirstTriangle.{first_triangle, first_triangle_is_edit}
 use Rattle.dcel_edits.specs.Create.{CanBegin, first_edge_stored}
 use Rattle.dcel_edits.specs.Triangle.{triangle_stored}
-use Rattle.dcel_edits.proofs.stored.Changes.{HoldsAdded, HoldsEdge, added_holds, change_holds, held_lists, held_mesh, held_vertex, written}
+use Rattle.dcel_edits.proofs.stored.Changes.{HoldsAdded, HoldsEdge, added_holds, change_holds, held_lists, held_mesh, held_vertex, lists_from_links, written}
 use Rattle.dcel_edits.proofs.stored.Held.{lists_hold}
 use Rattle.dcel_edits.proofs.stored.Holding.{Holds}
 
 module _ {V DE UE F : Type 0} where
   -- the outer face alone, with so many reserved places
   abbrev pub face_alone : F → ℕ → ℕ → ℕ → Lists V DE UE F
-  face_alone datum i j k = record {
-    vertex_data = [];
-    vertex_anchors = [];
-    next = [];
-    prev = [];
-    origin = [];
-    face = [];
-    directed_data = [];
-    undirected_data = [];
-    face_data = datum ∷ [];
-    face_anchors = None ∷ [];
-    vertex_room = i;
-    edge_room = j;
-    face_room = k;
-  }
+  face_alone datum i j k = record empty { face_data = datum ∷ []; face_anchors = None ∷ []; vertex_room = i; edge_room = j; face_room = k }
 
   pub new_holds : (datum : F) (i j k : ℕ) → Holds (face_alone datum i j k) Closed (outer_alone datum)
+  unfolding anchored_words anchored_word
   new_holds datum i j k =
       lists_hold (face_alone datum i j k) (outer_alone datum) (alone_is_mesh datum)
+      (lists_from_links (face_alone datum i j k) Closed
       record {
-        lengths = record {
-          of_vertex_anchors = refl;
-          of_next = refl;
-          of_prev = refl;
-          of_origin = refl;
-          of_face = refl;
-          of_directed_data = refl;
-          of_face_anchors = refl;
-        };
+        of_vertex_anchors = refl;
+        of_next = refl;
+        of_prev = refl;
+        of_origin = refl;
+        of_face = refl;
+        of_directed_data = refl;
+        of_face_anchors = refl;
+      }
+      record {
+        vertices = refl;
+        edges = refl;
+        faces = refl;
+        edge = λ u. refl;
         next = λ h live. absurd (no_half_alone h live);
         prev = λ h live. absurd (no_half_alone h live);
         origin = λ h live. absurd (no_half_alone h live);
         face = λ h live. absurd (no_half_alone h live);
-        shown_origins = refl;
-        vertex_data = refl;
-        vertex_anchors = refl;
-        face_anchors = refl;
-        directed_data = refl;
-        undirected_data = refl;
-        face_data = refl;
-      }
+      })
 
   -- a vertex pushed
   abbrev pub appended : Lists V DE UE F → V → Lists V DE UE F
   appended s datum = record s { vertex_data = s.vertex_data ++ datum ∷ []; vertex_anchors = s.vertex_anchors ++ None ∷ []; vertex_room = s.vertex_room - 1 }
 
-  pub append_holds : (s : Lists V DE UE F) (r : Removal) (m : Mesh V DE UE F) → Holds s r m → HasRoom m.shape 1 0 0 → (datum : V)
+  pub append_holds : {s : Lists V DE UE F} {r : Removal} {m : Mesh V DE UE F} → Holds s r m → HasRoom m.shape 1 0 0 → (datum : V)
       → Holds (appended s datum) r (vertex_appended m datum)
-  append_holds s r m held room datum =
+  append_holds {s = s} {r = r} {m = m} held room datum =
       let read : appended s datum ≡ written s (appending datum) = simp (append-nil, sub-zero) refl in
       rw (read, ← appending_is m datum)
       (change_holds s r m (appending datum) held (appending_is_edit m datum (held_mesh s r m held) room))
 
 -- the first edge
-module _ {V DE UE F : Type 0} (s : Lists V DE UE F) (r : Removal) (m : Mesh V DE UE F) (held : Holds s r m) (a b : ℕ) (none : m.shape.edges ≡ 0)
+pub begin_can : {V DE UE F : Type 0} {s : Lists V DE UE F} {r : Removal} {m : Mesh V DE UE F} → Holds s r m → (a b : ℕ)
+    → vertex_is_live m.shape a ≡ true → vertex_is_live m.shape b ≡ true → 0 < s.edge_room → CanBegin s a b
+begin_can {s = s} {r = r} {m = m} held a b a_live b_live place =
+    let mesh = held_mesh s r m held in
+    record {
+      place = place;
+      first_in = held_vertex s r m held a a_live;
+      second_in = held_vertex s r m held b b_live;
+      outer = omega (arith, mesh.sized.outer, mesh.sized.face_anchors, ap length (held_lists s r m held).face_anchors);
+    }
+
+module _ {V DE UE F : Type 0} {s : Lists V DE UE F} {r : Removal} {m : Mesh V DE UE F} (held : Holds s r m) (a b : ℕ) (none : m.shape.edges ≡ 0)
     (a_live : vertex_is_live m.shape a ≡ true) (b_live : vertex_is_live m.shape b ≡ true) (apart : a ≢ b) (room : HasRoom m.shape 0 1 0) where
   mesh : IsMesh m
   mesh = held_mesh s r m held
-
-  pub begin_can : 0 < s.edge_room → CanBegin s a b
-  begin_can place = record {
-    place = place;
-    first_in = held_vertex s r m held a a_live;
-    second_in = held_vertex s r m held b b_live;
-    outer = omega (arith, mesh.sized.outer, mesh.sized.face_anchors, ap length (held_lists s r m held).face_anchors);
-  }
 
   begin_hold : (halves : List DE) (edges : List UE) → length halves ≡ 2 → length edges ≡ 1
       → Holds (first_edge_stored s a b halves edges) r (first_edge_added m a b halves edges)

@@ -43,9 +43,9 @@ module _ {V DE UE F : Type 0} where
     outer = h.outer;
   }
 
-  pub reserved_holds : (s t : Lists V DE UE F) (r : Removal) (m : Mesh V DE UE F) → t ≡ with_rooms s t.vertex_room t.edge_room t.face_room
+  pub reserved_holds : {s t : Lists V DE UE F} {r : Removal} {m : Mesh V DE UE F} → t ≡ with_rooms s t.vertex_room t.edge_room t.face_room
       → IsStored s r → mesh_of s r ≡ m → Holds t r m
-  reserved_holds s t r m same h is =
+  reserved_holds {s = s} {t = t} {r = r} {m = m} same h is =
       let kept : Holds (with_rooms s t.vertex_room t.edge_room t.face_room) r m = record {
         stored = rooms_kept s r t.vertex_room t.edge_room t.face_room h;
         is = is;

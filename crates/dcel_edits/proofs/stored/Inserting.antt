@@ -14,7 +14,7 @@ use Rattle.dcel_edits.proofs.stored.Changes.{HoldsAdded, added_holds, change_hol
 use Rattle.dcel_edits.proofs.stored.Held.{ListsMesh}
 use Rattle.dcel_edits.proofs.stored.Holding.{Holds}
 
-module _ {V DE UE F : Type 0} (s : Lists V DE UE F) (r : Removal) (m : Mesh V DE UE F) (held : Holds s r m) (f tip a : ℕ)
+module _ {V DE UE F : Type 0} {s : Lists V DE UE F} {r : Removal} {m : Mesh V DE UE F} (held : Holds s r m) (f tip a : ℕ)
     (triangle : IsTriangle m.shape f) (unconnected : IsUnconnected m.shape tip) (room : HasRoom m.shape 0 3 2)
     (anchored : slice_index_or s.face_anchors f None ≡ Some a) where
   mesh : IsMesh m

@@ -17,19 +17,20 @@ use Rattle.dcel_edits.proofs.stored.Holding.{Holds}
 some-same : {a b : ℕ} → Some a ≡ Some b → a ≡ b
 some-same e = cc
 
-module _ {V DE UE F : Type 0} (s : Lists V DE UE F) (r : Removal) (m : Mesh V DE UE F) (held : Holds s r m) (end tip : ℕ)
+-- the end of a line has an anchor
+pub extend_anchored : {V DE UE F : Type 0} {s : Lists V DE UE F} {r : Removal} {m : Mesh V DE UE F} → Holds s r m → (end : ℕ) → IsLineEnd m.shape end
+    → slice_index_or s.vertex_anchors end None ≢ None
+extend_anchored {s = s} {r = r} {m = m} held end line none =
+    let (out, ends) = line_end m (held_mesh s r m held) end line in
+    let bad : None ≡ Some out = sym none ∙ sym (held_vertex_anchor s r m held end) ∙ ends.anchor in cc
+
+module _ {V DE UE F : Type 0} {s : Lists V DE UE F} {r : Removal} {m : Mesh V DE UE F} (held : Holds s r m) (end tip : ℕ)
     (line : IsLineEnd m.shape end) (unconnected : IsUnconnected m.shape tip) (room : HasRoom m.shape 0 1 0) where
   mesh : IsMesh m
   mesh = held_mesh s r m held
 
   lists : ListsMesh s m
   lists = held_lists s r m held
-
-  -- the end of a line has an anchor
-  pub extend_anchored : slice_index_or s.vertex_anchors end None ≢ None
-  extend_anchored none =
-      let (out, ends) = line_end m mesh end line in
-      let bad : None ≡ Some out = sym none ∙ sym (held_vertex_anchor s r m held end) ∙ ends.anchor in cc
 
   module _ (out : ℕ) (anchored : slice_index_or s.vertex_anchors end None ≡ Some out) where
     at : EndsLine m end out

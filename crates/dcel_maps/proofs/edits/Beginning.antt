@@ -13,7 +13,7 @@ use Rattle.dcel_maps.specs.Shapes.{IsLive, IsMesh, Mesh, face_count, face_of, ma
 use Rattle.dcel_maps.specs.Words.{count_of}
 use Rattle.dcel_maps.proofs.Liveness.{gives_up_face-outer, is_live-from, is_live-parts, is_live-past, vertex_live-parts}
 use Rattle.dcel_maps.proofs.edits.Changes.{Change, IsEdit, changed, fits_with, map_after}
-use Rattle.dcel_maps.proofs.edits.Growing.{after-each, after-edge, after-new, still_labelled}
+use Rattle.dcel_maps.proofs.edits.Growing.{after-each, after-edge, after-pair, still_labelled}
 use Rattle.dcel_maps.proofs.edits.Patches.{patched_at-first, patched_at-new, pushing, replacing}
 use Rattle.dcel_maps.proofs.maps.Edits.{FirstEdge}
 use Rattle.dcel_maps.proofs.maps.Firsts.{first_keeps}
@@ -72,11 +72,8 @@ module _ {V DE UE F : Type 0} (m : Mesh V DE UE F) (mesh : IsMesh m) (none : m.s
     half : n / 2 ≡ m.shape.edges
     half = omega arith
 
-    first_live : Live T n
-    first_live = after-new m.shape c mesh.sized.within n (omega arith) (omega arith)
-
-    second_live : Live T (n + 1)
-    second_live = after-new m.shape c mesh.sized.within (n + 1) (omega arith) (omega arith)
+    new_live : Live T n × Live T (n + 1)
+    new_live = after-pair m.shape c mesh.sized.within refl
 
     a_parts : (a < m.shape.vertices) × (gives_up_vertex m.shape.removal a ≡ false)
     a_parts = vertex_live-parts m.shape a a_live
@@ -86,7 +83,7 @@ module _ {V DE UE F : Type 0} (m : Mesh V DE UE F) (mesh : IsMesh m) (none : m.s
 
     is_first : FirstEdge T n a b
     is_first = record {
-      edge_here = first_live;
+      edge_here = new_live.0;
       edge_other = λ u differs.
           after-edge m.shape c u (λ less. omega (arith, less, differs, half))
           ∙ is_live-past (gives_up_edge m.shape.removal) m.shape.edges u (omega (arith, none));
@@ -126,8 +123,8 @@ module _ {V DE UE F : Type 0} (m : Mesh V DE UE F) (mesh : IsMesh m) (none : m.s
         let prev_second : T.prev (n + 1) ≡ n = patched_at-new _ n c.prev 1 in
         record {
           cycle = (
-            record { live = first_live; next = patched_at-first _ n c.next; prev = prev_second; face = face_first },
-            record { live = second_live; next = next_second; prev = patched_at-first _ n c.prev; face = face_second },
+            record { live = new_live.0; next = patched_at-first _ n c.next; prev = prev_second; face = face_first },
+            record { live = new_live.1; next = next_second; prev = patched_at-first _ n c.prev; face = face_second },
           );
           once = after-each m.shape c (λ x. T.face x ≡ 0 → count_of x (n ∷ (n + 1) ∷ []) ≡ 1) (λ h live. absurd (no_edge h live))
               (λ at. grind (arith, nat_tests), λ at. grind (arith, nat_tests));
@@ -160,12 +157,12 @@ module _ {V DE UE F : Type 0} (m : Mesh V DE UE F) (mesh : IsMesh m) (none : m.s
         face = λ h live. absurd (no_edge h live);
       };
       outer = λ u live off. absurd (off.0 refl);
-      vertex_anchors = ((first_live, origin_first), ((second_live, origin_second), tt));
+      vertex_anchors = ((new_live.0, origin_first), ((new_live.1, origin_second), tt));
       new_vertex_anchors = tt;
       other_vertices = λ v v_in off.
           still_labelled m.shape c (origin_of m.shape) T.origin v (λ h live. absurd (no_edge h live))
           (λ at. absurd (off.0 (sym at ∙ origin_first)), λ at. absurd (off.1.0 (sym at ∙ origin_second)));
-      face_anchors = ((first_live, face_first), tt);
+      face_anchors = ((new_live.0, face_first), tt);
       new_face_anchors = tt;
       other_faces = λ f f_in off. inl off;
     }

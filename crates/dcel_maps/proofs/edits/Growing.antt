@@ -39,6 +39,10 @@ module _ {V DE UE F : Type 0} (s : Shape) (c : Change V DE UE F) where
   after-new within h past below =
       is_live-from (gives_up_edge s.removal) (s.edges + c.edges) (h / 2) (omega arith) (gives_up_edge-past within (h / 2) (omega arith))
 
+  -- those of one new edge
+  pub after-pair : IsWithin s.removal s.vertices s.edges (face_count s) → c.edges ≡ 1 → Live T (2 * s.edges) × Live T (2 * s.edges + 1)
+  after-pair within one = (after-new within (2 * s.edges) (omega arith) (omega arith), after-new within (2 * s.edges + 1) (omega arith) (omega arith))
+
   -- an edge that isn't new is live as before
   pub after-edge : (u : ℕ) → (u < s.edges + c.edges → u < s.edges) → T.edge u ≡ edge_is_live s u
   after-edge u old = is_live-more (gives_up_edge s.removal) s.edges (s.edges + c.edges) u (omega arith) old

@@ -12,7 +12,7 @@ use Rattle.dcel_maps.specs.theory.Standing.{Stands}
 use Rattle.dcel_maps.specs.Words.{become, count_of, word_of}
 use Rattle.dcel_maps.proofs.Liveness.{is_live-past, vertex_live-parts, start-parts}
 use Rattle.dcel_maps.proofs.edits.Changes.{Change, IsEdit, fits_with, map_after}
-use Rattle.dcel_maps.proofs.edits.Growing.{after-each, after-edge, after-face, after-new, after-next, after-origin, after-prev, still_labelled}
+use Rattle.dcel_maps.proofs.edits.Growing.{after-each, after-edge, after-face, after-pair, after-next, after-origin, after-prev, still_labelled}
 use Rattle.dcel_maps.proofs.edits.Patches.{patched_at-first, patched_at-new, pushing, replacing}
 use Rattle.dcel_maps.proofs.maps.Counts.{Used}
 use Rattle.dcel_maps.proofs.maps.Edits.{Spur}
@@ -76,11 +76,8 @@ module _ {V DE UE F : Type 0} (m : Mesh V DE UE F) where
     half : (n + 1) / 2 ≡ m.shape.edges
     half = omega arith
 
-    first_live : Live T n
-    first_live = after-new m.shape c mesh.sized.within n (omega arith) (omega arith)
-
-    second_live : Live T (n + 1)
-    second_live = after-new m.shape c mesh.sized.within (n + 1) (omega arith) (omega arith)
+    new_live : Live T n × Live T (n + 1)
+    new_live = after-pair m.shape c mesh.sized.within refl
 
     tip_parts : (tip < m.shape.vertices) × (gives_up_vertex m.shape.removal tip ≡ false)
     tip_parts = vertex_live-parts m.shape tip unconnected.live
@@ -94,7 +91,7 @@ module _ {V DE UE F : Type 0} (m : Mesh V DE UE F) where
         vertex_room = tip_parts.0;
       };
       drawn = record {
-        grows = record { edge_here = second_live; edge_other = λ u differs. after-edge m.shape c u (λ less. omega (arith, less, differs, half)); edges = omega arith; edge_below = omega (arith, half); vertices = add-zero m.shape.vertices };
+        grows = record { edge_here = new_live.1; edge_other = λ u differs. after-edge m.shape c u (λ less. omega (arith, less, differs, half)); edges = omega arith; edge_below = omega (arith, half); vertices = add-zero m.shape.vertices };
         origin_h = patched_at-new _ n c.origin 1;
         origin_rev = ap T.origin turned ∙ patched_at-first _ n c.origin;
         origin_other = after-origin m.shape c;
@@ -158,7 +155,7 @@ module _ {V DE UE F : Type 0} (m : Mesh V DE UE F) where
       new_words = tt;
       other_words = λ k k_in away. spur-keeps_face S T before (n + 1) tip is_spur sound k away.0;
       outer = λ u lives away. (before / 2, live);
-      vertex_anchors = ((first_live, back), tt);
+      vertex_anchors = ((new_live.0, back), tt);
       new_vertex_anchors = tt;
       other_vertices = λ v v_in away.
           still_labelled m.shape c (origin_of m.shape) T.origin v (after-origin m.shape c)

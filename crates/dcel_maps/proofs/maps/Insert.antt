@@ -111,6 +111,10 @@ module _ (S T : Map) (f a b c v n : ℕ) (s : Sound S) (e : Insert S T f a b c v
   c_below : c < n
   c_below = below c e.was.live_z
 
+  -- the half edges of f are below the new ones, and differ
+  old_halves : (a < n) × (b < n) × (c < n) × (a ≢ b) × (b ≢ c) × (a ≢ c)
+  old_halves = (a_below, b_below, c_below, a≢b, b≢c, a≢c)
+
   beside : (h : ℕ) → h ≢ n → h ≢ n + 3 → h ≢ c → h ≢ a → SameLinks T one_ear h
   beside = ear_off T (n + 3) c a (n + 5) (S.faces + 1) n (n + 4) f last_ear
 
@@ -141,12 +145,7 @@ module _ (S T : Map) (f a b c v n : ℕ) (s : Sound S) (e : Insert S T f a b c v
       let x = e.first in
       let y = e.second in
       let z = e.third in
-      let a_in = a_below in
-      let b_in = b_below in
-      let c_in = c_below in
-      let not_ab = a≢b in
-      let not_bc = b≢c in
-      let not_ac = a≢c in
+      let olds = old_halves in
       let twice = e.twice in
       let edges = e.edges in
       let faces = e.faces in
@@ -190,9 +189,7 @@ module _ (S T : Map) (f a b c v n : ℕ) (s : Sound S) (e : Insert S T f a b c v
       let was = e.was in
       let x = e.first in
       let h_in = below h live in
-      let not_bc = b≢c in
-      let not_ac = a≢c in
-      let not_ab = a≢b in
+      let olds = old_halves in
       elim (cases_eq h a) [
         | inl is ↦ grind (arith, nat_tests)
         | inr not_a ↦ elim (cases_eq h b) [
@@ -212,12 +209,7 @@ module _ (S T : Map) (f a b c v n : ℕ) (s : Sound S) (e : Insert S T f a b c v
       let y = e.second in
       let z = e.third in
       let was = e.was in
-      let a_in = a_below in
-      let b_in = b_below in
-      let c_in = c_below in
-      let not_ab = a≢b in
-      let not_bc = b≢c in
-      let not_ac = a≢c in
+      let olds = old_halves in
       let turned = turn_first in
       let twice = e.twice in
       let edges = e.edges in

@@ -1,9 +1,9 @@
 -- What lies on a face beside its anchor.
-use Rattle.std.proofs.Common.{◌≡◌, ℕ, ◌<◌, [], ◌∷◌, length, Some, refl, ap, ◌∙◌, subst}
+use Rattle.std.proofs.Common.{◌≡◌, ℕ, ◌*◌, ◌<◌, [], ◌∷◌, length, Some, refl, ap, ◌∙◌, subst}
 use Rattle.dcel_maps.specs.Shapes.{Shape, Mesh, AnchorsWord, IsMesh, IsSound, face_anchor, face_count, map_of, next_of, prev_of}
 use Rattle.dcel_maps.specs.Walking.{IsOnFace}
 use Rattle.dcel_maps.specs.Words.{TurnsTo, word_of}
-use Rattle.dcel_maps.proofs.walks.Links.{links_stand, next-live, prev-live}
+use Rattle.dcel_maps.proofs.walks.Links.{half-below, links_stand, next-live, prev-live}
 use Rattle.dcel_maps.proofs.words.Reading.{face-next, face-prev, face_in_word, live_in}
 use Rattle.dcel_maps.proofs.words.Triangles.{triangle_turn}
 use Rattle.dcel_maps.proofs.words.Turns.{turns_on}
@@ -39,3 +39,7 @@ module _ {V DE UE F : Type 0} {m : Mesh V DE UE F} (mesh : IsMesh m) (f : ℕ) (
         live = live_in (map_of m.shape) m.shape.words (links_stand mesh.sound) a f stands;
         face = face_in_word (map_of m.shape) m.shape.words (links_stand mesh.sound) a f stands;
       }
+
+  -- and is in range
+  pub anchor-below : (a : ℕ) → face_anchor m f ≡ Some a → a < 2 * m.shape.edges
+  anchor-below a some = half-below m.shape a (anchor-lies a some).live

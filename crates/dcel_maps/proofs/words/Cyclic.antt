@@ -1,5 +1,5 @@
 -- The least form of a cyclic list.
-use Rattle.std.proofs.Common.{◌≡◌, ℕ, ◌≤◌, List, [], ◌∷◌, refl, ◌∙◌}
+use Rattle.std.proofs.Common.{◌≡◌, ℕ, ◌≤◌, List, ◌∷◌}
 use Rattle.dcel_maps.specs.Maps.{Map}
 use Rattle.dcel_maps.specs.theory.Sound.{Sound}
 use Rattle.dcel_maps.specs.theory.Standing.{Follows}
@@ -7,26 +7,8 @@ use Rattle.dcel_maps.specs.theory.Cycles.{IsCycle}
 use Rattle.dcel_maps.specs.Words.{count_of, IsLeastFirst, TurnsTo}
 use Rattle.dcel_maps.proofs.words.Faces.{IsWordOf, cycle_is_word}
 use Rattle.dcel_maps.proofs.words.Rounds.{Adjacent, round_of}
-use Rattle.dcel_maps.proofs.words.Turns.{IsCycle-turn, IsLeastFirst-least_first, least_first, least_first-is, least_first-turn, turns_on, turns_to_itself}
+use Rattle.dcel_maps.proofs.words.Turns.{IsCycle-turn, IsLeastFirst-from_least, from_least-is, from_least-turn, turns_on, turns_to_itself}
 use Rattle.dcel_maps.specs.Cyclic.{from_least}
-
--- the definition is the one that the proofs of triangles use
-pub from_least-is_least_first : (w : List ℕ) → from_least w ≡ least_first w
-unfolding from_least least_first
-from_least-is_least_first [] = refl
-from_least-is_least_first (x ∷ r) = refl
-
--- it is the same cyclic list
-pub from_least-turn : (w : List ℕ) → TurnsTo w (from_least w)
-from_least-turn w = rw (from_least-is_least_first w) (least_first-turn w)
-
--- with its least item first
-pub IsLeastFirst-from_least : (w : List ℕ) → IsLeastFirst (from_least w)
-IsLeastFirst-from_least w = rw (from_least-is_least_first w) (IsLeastFirst-least_first w)
-
--- a turn of a list without repeats that has its least item first is the least form
-pub from_least-is : {w u : List ℕ} → TurnsTo w u → IsLeastFirst u → ((h : ℕ) → count_of h w ≤ 1) → from_least w ≡ u
-from_least-is {w} {u} turn least single = from_least-is_least_first w ∙ least_first-is turn least single
 
 -- two forms of one cyclic list have one least form
 pub from_least-same : {w u : List ℕ} → TurnsTo w u → ((h : ℕ) → count_of h w ≤ 1) → from_least w ≡ from_least u

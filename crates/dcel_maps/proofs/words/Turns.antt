@@ -1,6 +1,8 @@
 -- A cyclic list written from another of its items.
-use Rattle.std.proofs.Common.{◌≡◌, ◌≢◌, ◌⊎◌, inl, inr, ℕ, ◌+◌, ◌<◌, ◌≤◌, min, List, [], ◌∷◌, ◌++◌, length, cond, eqb, refl, subst, ap, sym, ◌∙◌, arith, eq-eqb, append_assoc, append-nil, length-append}
+use Rattle.std.proofs.Common.{◌≡◌, ◌≢◌, ◌⊎◌, inl, inr, ℕ, ◌+◌, ◌<◌, ◌≤◌, min, List, [], ◌∷◌, ◌++◌, length, refl, subst, ap, sym, ◌∙◌, arith, eq-eqb, append_assoc, append-nil, length-append}
 use Rattle.std.proofs.lemmas.Bool.{cases_eq, cases_lt, ne_eqb}
+pub use Rattle.dcel_maps.specs.Cyclic.{onward, before}
+use Rattle.dcel_maps.specs.Cyclic.{from_least}
 use Rattle.dcel_maps.specs.Walks.{least_of}
 use Rattle.dcel_maps.specs.theory.Cycles.{IsCycle}
 use Rattle.dcel_maps.specs.Words.{count_of, IsLeastFirst}
@@ -8,22 +10,9 @@ pub use Rattle.dcel_maps.specs.Words.{TurnsTo}
 use Rattle.dcel_maps.proofs.words.Counts.{count-same, count-other, count-append, count-later}
 use Rattle.dcel_maps.proofs.words.Paths.{cycle_turns}
 
--- what stands in a list from x on, and before it
-abbrev pub onward : ℕ → List ℕ → List ℕ
-onward x [] = []
-onward x (y ∷ r) = cond (eqb x y) (y ∷ r) (onward x r)
-
-abbrev pub before : ℕ → List ℕ → List ℕ
-before x [] = []
-before x (y ∷ r) = cond (eqb x y) [] (y ∷ before x r)
-
--- a cyclic list written from x, and from its least item
+-- a cyclic list written from x
 abbrev pub turned_to : ℕ → List ℕ → List ℕ
 turned_to x w = onward x w ++ before x w
-
-unfoldable pub least_first : List ℕ → List ℕ
-least_first [] = []
-least_first (x ∷ r) = turned_to (least_of x r) (x ∷ r)
 
 pub turns_to_itself : (w : List ℕ) → TurnsTo w w
 turns_to_itself w = record { front = []; back = w; was = refl; is = sym (append-nil w) }
@@ -133,15 +122,17 @@ least_of-stands x (y ∷ r) =
           (count-later (least_of y r) x (y ∷ r) (least_of-stands y r))
     ]
 
-pub least_first-turn : (w : List ℕ) → TurnsTo w (least_first w)
-unfolding least_first
-least_first-turn [] = turns_to_itself []
-least_first-turn (x ∷ r) = turned_to-turn (least_of x r) (x ∷ r) (least_of-stands x r)
+-- the least form is the same cyclic list
+pub from_least-turn : (w : List ℕ) → TurnsTo w (from_least w)
+unfolding from_least
+from_least-turn [] = turns_to_itself []
+from_least-turn (x ∷ r) = turned_to-turn (least_of x r) (x ∷ r) (least_of-stands x r)
 
-pub IsLeastFirst-least_first : (w : List ℕ) → IsLeastFirst (least_first w)
-unfolding least_first
-IsLeastFirst-least_first [] = tt
-IsLeastFirst-least_first (x ∷ r) =
+-- with its least item first
+pub IsLeastFirst-from_least : (w : List ℕ) → IsLeastFirst (from_least w)
+unfolding from_least
+IsLeastFirst-from_least [] = tt
+IsLeastFirst-from_least (x ∷ r) =
     let (t, is, turns) = turned_to-is (least_of x r) (x ∷ r) (least_of-stands x r) in
     let first : IsLeastFirst (least_of x r ∷ t) =
     λ h less.
@@ -177,7 +168,8 @@ turn_unique {w} {u} t low_w low_u single =
               ]
         ]
 
-pub least_first-is : {w u : List ℕ} → TurnsTo w u → IsLeastFirst u → ((h : ℕ) → count_of h w ≤ 1) → least_first w ≡ u
-least_first-is {w} {u} t low single =
-    turn_unique (turns_on (turns_back (least_first-turn w)) t) (IsLeastFirst-least_first w) low
-    (λ h. omega (arith, single h, count-turn h (least_first-turn w)))
+-- a turn of a list without repeats that has its least item first is the least form
+pub from_least-is : {w u : List ℕ} → TurnsTo w u → IsLeastFirst u → ((h : ℕ) → count_of h w ≤ 1) → from_least w ≡ u
+from_least-is {w} {u} t low single =
+    turn_unique (turns_on (turns_back (from_least-turn w)) t) (IsLeastFirst-from_least w) low
+    (λ h. omega (arith, single h, count-turn h (from_least-turn w)))

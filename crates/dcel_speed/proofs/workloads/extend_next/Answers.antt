@@ -7,9 +7,7 @@ extend_line-requires-clause-line_end g c =
     end_after c.args.dcel.now c.append_unconnected_vertex.new.dcel _ c.args.end c.in_ok-vertex.ensures.edit c.requires.line_end
 
 pub extend_line-requires-clause-unconnected : goal.extend_line-requires-clause-unconnected
-extend_line-requires-clause-unconnected g c =
-    appended_bare c.args.dcel.now c.append_unconnected_vertex.new.dcel _ c.in_ok-vertex.vertex c.every_mesh.ensures c.in_ok-vertex.ensures.edit
-    c.in_ok-vertex.ensures.answer
+extend_line-requires-clause-unconnected g c = appended_bare _ _ _ _ c.every_mesh.ensures c.in_ok-vertex.ensures.edit c.in_ok-vertex.ensures.answer
 
 pub returns-clause-line_end : goal.returns-clause-line_end
 returns-clause-line_end g c =

@@ -4,15 +4,15 @@ use Rattle.dcel_edits.proofs.stored.Holding.{reserved_holds}
 use Rattle.spade_dcel.proofs.operations.create.append_unconnected_vertex.Goals as goal
 
 pub invariant_of-dcel : goal.invariant_of-dcel
-invariant_of-dcel g c = (reserved_holds _ _ _ _ c.reserve.ensures.same c.dcel.invariant c.dcel.view_is).stored
+invariant_of-dcel g c = (reserved_holds c.reserve.ensures.same c.dcel.invariant c.dcel.view_is).stored
 
 pub returns-then-is_err-clause-mesh : goal.returns-then-is_err-clause-mesh
 returns-then-is_err-clause-mesh g c = mesh-is-mesh _ _ (invariant_of-dcel g c)
 
 pub invariant_of-dcel-2 : goal.invariant_of-dcel-2
 invariant_of-dcel-2 g c =
-    let held = reserved_holds _ _ _ _ c.reserve.ensures.same c.dcel.invariant c.dcel.view_is in
-    rw c.push_vertex.ensures (append_holds _ _ _ held c.requires c.args.datum).stored
+    let held = reserved_holds c.reserve.ensures.same c.dcel.invariant c.dcel.view_is in
+    rw c.push_vertex.ensures (append_holds held c.requires c.args.datum).stored
 
 pub returns-clause-mesh : goal.returns-clause-mesh
 returns-clause-mesh g c = mesh-is-mesh _ _ (invariant_of-dcel-2 g c)

@@ -5,30 +5,28 @@ use Rattle.dcel_edits.proofs.stored.Lines.{extend_anchored, extend_can, extended
 use Rattle.spade_dcel.proofs.operations.line.extend_line.Goals as goal
 
 pub invariant_of-dcel : goal.invariant_of-dcel
-invariant_of-dcel g c = (reserved_holds _ _ _ _ c.reserve.ensures.same c.dcel.invariant c.dcel.view_is).stored
+invariant_of-dcel g c = (reserved_holds c.reserve.ensures.same c.dcel.invariant c.dcel.view_is).stored
 
 pub returns-in_err-reserve-clause-mesh : goal.returns-in_err-reserve-clause-mesh
 returns-in_err-reserve-clause-mesh g c = mesh-is-mesh _ _ (invariant_of-dcel g c)
 
 pub unreachable-requires : goal.unreachable-requires
-unreachable-requires g c =
-    let held = reserved_holds _ _ _ _ c.reserve.ensures.same c.dcel.invariant c.dcel.view_is in
-    extend_anchored _ _ _ held _ _ c.requires.line_end c.requires.unconnected c.requires.room (sym c.in-None.ensures)
+unreachable-requires g c = extend_anchored (reserved_holds c.reserve.ensures.same c.dcel.invariant c.dcel.view_is) _ c.requires.line_end (sym c.in-None.ensures)
 
 pub put_spur-requires : goal.put_spur-requires
 put_spur-requires g c =
-    let held = reserved_holds _ _ _ _ c.reserve.ensures.same c.dcel.invariant c.dcel.view_is in
-    rw c.rev.ensures (extend_can _ _ _ held _ _ c.requires.line_end c.requires.unconnected c.requires.room _ (sym c.in-Some.ensures) c.in_ok-reserve.ensures.room.for_edges)
+    let held = reserved_holds c.reserve.ensures.same c.dcel.invariant c.dcel.view_is in
+    rw c.rev.ensures (extend_can held _ _ c.requires.line_end c.requires.unconnected c.requires.room _ (sym c.in-Some.ensures) c.in_ok-reserve.ensures.room.for_edges)
 
 pub invariant_of-dcel-2 : goal.invariant_of-dcel-2
 invariant_of-dcel-2 g c =
-    let held = reserved_holds _ _ _ _ c.reserve.ensures.same c.dcel.invariant c.dcel.view_is in
-    (extended _ _ _ held _ _ c.requires.line_end c.requires.unconnected c.requires.room _ (sym c.in-Some.ensures) (rw c.rev.ensures at c.put_spur.ensures)).stored
+    let held = reserved_holds c.reserve.ensures.same c.dcel.invariant c.dcel.view_is in
+    (extended held _ _ c.requires.line_end c.requires.unconnected c.requires.room _ (sym c.in-Some.ensures) (rw c.rev.ensures at c.put_spur.ensures)).stored
 
 pub returns-clause-edit : goal.returns-clause-edit
 returns-clause-edit g c =
-    let held = reserved_holds _ _ _ _ c.reserve.ensures.same c.dcel.invariant c.dcel.view_is in
-    (extended _ _ _ held _ _ c.requires.line_end c.requires.unconnected c.requires.room _ (sym c.in-Some.ensures) (rw c.rev.ensures at c.put_spur.ensures)).edit
+    let held = reserved_holds c.reserve.ensures.same c.dcel.invariant c.dcel.view_is in
+    (extended held _ _ c.requires.line_end c.requires.unconnected c.requires.room _ (sym c.in-Some.ensures) (rw c.rev.ensures at c.put_spur.ensures)).edit
 
 pub returns-clause-mesh : goal.returns-clause-mesh
 returns-clause-mesh g c = mesh-is-mesh _ _ (invariant_of-dcel-2 g c)

@@ -4,28 +4,28 @@ use Rattle.dcel_edits.proofs.stored.Inserting.{insert_can, inserted_holds}
 use Rattle.spade_dcel.proofs.operations.triangle.insert_into_triangle.Goals as goal
 
 pub invariant_of-dcel : goal.invariant_of-dcel
-invariant_of-dcel g c = (reserved_holds _ _ _ _ c.reserve.ensures.same c.dcel.invariant c.dcel.view_is).stored
+invariant_of-dcel g c = (reserved_holds c.reserve.ensures.same c.dcel.invariant c.dcel.view_is).stored
 
 pub returns-in_err-reserve-clause-mesh : goal.returns-in_err-reserve-clause-mesh
 returns-in_err-reserve-clause-mesh g c = mesh-is-mesh _ _ (invariant_of-dcel g c)
 
 pub put_insertion-requires : goal.put_insertion-requires
 put_insertion-requires g c =
-    let held = reserved_holds _ _ _ _ c.reserve.ensures.same c.dcel.invariant c.dcel.view_is in
+    let held = reserved_holds c.reserve.ensures.same c.dcel.invariant c.dcel.view_is in
     let some = rw (c.face_anchor.ensures, c.adjust_inner_outer.ensures) at c.in-Some.is in
-    insert_can _ _ _ held _ _ _ c.requires.triangle c.requires.unconnected c.requires.room some c.in_ok-reserve.ensures.room
+    insert_can held _ _ _ c.requires.triangle c.requires.unconnected c.requires.room some c.in_ok-reserve.ensures.room
 
 pub invariant_of-dcel-2 : goal.invariant_of-dcel-2
 invariant_of-dcel-2 g c =
-    let held = reserved_holds _ _ _ _ c.reserve.ensures.same c.dcel.invariant c.dcel.view_is in
+    let held = reserved_holds c.reserve.ensures.same c.dcel.invariant c.dcel.view_is in
     let some = rw (c.face_anchor.ensures, c.adjust_inner_outer.ensures) at c.in-Some.is in
-    (inserted_holds _ _ _ held _ _ _ c.requires.triangle c.requires.unconnected c.requires.room some c.put_insertion.ensures).stored
+    (inserted_holds held _ _ _ c.requires.triangle c.requires.unconnected c.requires.room some c.put_insertion.ensures).stored
 
 pub returns-clause-edit : goal.returns-clause-edit
 returns-clause-edit g c =
-    let held = reserved_holds _ _ _ _ c.reserve.ensures.same c.dcel.invariant c.dcel.view_is in
+    let held = reserved_holds c.reserve.ensures.same c.dcel.invariant c.dcel.view_is in
     let some = rw (c.face_anchor.ensures, c.adjust_inner_outer.ensures) at c.in-Some.is in
-    (inserted_holds _ _ _ held _ _ _ c.requires.triangle c.requires.unconnected c.requires.room some c.put_insertion.ensures).edit
+    (inserted_holds held _ _ _ c.requires.triangle c.requires.unconnected c.requires.room some c.put_insertion.ensures).edit
 
 pub returns-clause-mesh : goal.returns-clause-mesh
 returns-clause-mesh g c = mesh-is-mesh _ _ (invariant_of-dcel-2 g c)
