@@ -9,24 +9,34 @@ enum Command {
     Words,
 }
 
-fn number(item: &str) -> Option<u32> {
-    let plain = item == "0" || !item.starts_with('0');
-    if plain && item.bytes().all(|b| b.is_ascii_digit()) { item.parse().ok() } else { None }
+/// The decimal number without leading zeros.
+fn natural(item: &[u8]) -> Option<u64> {
+    if item.is_empty() || item.len() > 19 || (item[0] == b'0' && item.len() > 1) {
+        return None;
+    }
+    item.iter().try_fold(0, |value, &byte| {
+        byte.is_ascii_digit().then(|| 10 * value + u64::from(byte - b'0'))
+    })
 }
 
-fn datum(item: &str) -> Option<i64> {
-    let digits = item.strip_prefix('-').unwrap_or(item);
-    let plain = item == "0" || !digits.starts_with('0');
-    if plain && digits.bytes().all(|b| b.is_ascii_digit()) { item.parse().ok() } else { None }
+fn number(item: &[u8]) -> Option<u32> {
+    natural(item)?.try_into().ok()
 }
 
-fn parse(line: &str) -> Option<Command> {
-    let mut items = line.split(' ');
+fn datum(item: &[u8]) -> Option<i64> {
+    match item.strip_prefix(b"-") {
+        Some(digits) => natural(digits).filter(|&n| n > 0).and_then(|n| 0i64.checked_sub_unsigned(n)),
+        None => natural(item)?.try_into().ok(),
+    }
+}
+
+fn parse(line: &[u8]) -> Option<Command> {
+    let mut items = line.split(|&byte| byte == b' ');
     let command = match items.next()? {
-        "append" => Command::Append(datum(items.next()?)?),
-        "setup" => Command::Setup(number(items.next()?)?, number(items.next()?)?),
-        "extend" => Command::Extend(number(items.next()?)?, number(items.next()?)?),
-        "words" => Command::Words,
+        b"append" => Command::Append(datum(items.next()?)?),
+        b"setup" => Command::Setup(number(items.next()?)?, number(items.next()?)?),
+        b"extend" => Command::Extend(number(items.next()?)?, number(items.next()?)?),
+        b"words" => Command::Words,
         _ => return None,
     };
     if items.next().is_none() { Some(command) } else { None }
@@ -38,13 +48,13 @@ fn main() -> io::Result<()> {
     let mut vertices = 0u32;
     let mut extended = 0u64;
     let mut total = 0i64;
-    let mut line = String::new();
+    let mut line = Vec::new();
     loop {
         line.clear();
-        if input.read_line(&mut line)? == 0 {
+        if input.read_until(b'\n', &mut line)? == 0 {
             break;
         }
-        match parse(line.trim_end_matches('\n')) {
+        match parse(line.strip_suffix(b"\n").unwrap_or(&line)) {
             None => writeln!(output, "bad line")?,
             Some(Command::Append(d)) => {
                 total = total.wrapping_add(d);

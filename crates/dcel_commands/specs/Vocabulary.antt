@@ -1,6 +1,4 @@
--- What the clauses of the files in `request` cite.
-pub use Rattle.std.specs.Prelude.{◌≡◌, ◌<◌, ◌≤◌, ◌^◌, IfSome, codes}
-pub use Rattle.std.specs.Option.{option_map}
+-- What the clauses of the files in `request` cite of this crate and of those below.
 pub use Rattle.dcel_commands.specs.Answering.{WritesSome}
 pub use Rattle.dcel_commands.specs.Queries.{TellsOrRefuses}
 pub use Rattle.dcel_commands.specs.Spelling.{Says}

@@ -1,6 +1,7 @@
 //! `check`
 
-ghost use Rattle.dcel_commands.specs.Vocabulary.{Says, WritesSome, codes, left};
+ghost use Rattle.std.specs.Prelude.{codes};
+ghost use Rattle.dcel_commands.specs.Vocabulary.{Says, WritesSome, left};
 ghost use Rattle.dcel_commands.specs.request.Check.{check};
 
 use super::*;

@@ -1,6 +1,7 @@
 //! `counts`
 
-ghost use Rattle.dcel_commands.specs.Vocabulary.{Says, Writes, codes, left};
+ghost use Rattle.std.specs.Prelude.{codes};
+ghost use Rattle.dcel_commands.specs.Vocabulary.{Says, Writes, left};
 ghost use Rattle.dcel_commands.specs.request.Counts.{counts_text};
 
 use super::*;

@@ -1,6 +1,7 @@
 //! `extend A B`
 
-ghost use Rattle.dcel_commands.specs.Vocabulary.{◌≤◌, ◌^◌, Carries, Says, codes, left};
+ghost use Rattle.std.specs.Prelude.{◌≤◌, ◌^◌, codes};
+ghost use Rattle.dcel_commands.specs.Vocabulary.{Carries, Says, left};
 
 use super::*;
 use spade_dcel::operations::extend_line;

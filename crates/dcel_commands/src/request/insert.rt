@@ -1,6 +1,7 @@
 //! `insert B F`
 
-ghost use Rattle.dcel_commands.specs.Vocabulary.{◌≤◌, ◌^◌, Carries, Says, codes, left};
+ghost use Rattle.std.specs.Prelude.{◌≤◌, ◌^◌, codes};
+ghost use Rattle.dcel_commands.specs.Vocabulary.{Carries, Says, left};
 
 use super::*;
 use spade_dcel::operations::insert_into_triangle;

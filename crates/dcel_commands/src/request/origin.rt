@@ -1,6 +1,7 @@
 //! `origin H`
 
-ghost use Rattle.dcel_commands.specs.Vocabulary.{Says, TellsOrRefuses, codes, left};
+ghost use Rattle.std.specs.Prelude.{codes};
+ghost use Rattle.dcel_commands.specs.Vocabulary.{Says, TellsOrRefuses, left};
 
 use super::*;
 use crate::replies::write_reply;

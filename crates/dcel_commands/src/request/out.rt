@@ -1,6 +1,8 @@
 //! `out V`
 
-ghost use Rattle.dcel_commands.specs.Vocabulary.{◌≡◌, ◌<◌, IfSome, IsLive, Says, TellsOrRefuses, Writes, ccw_of, codes, left, listed, mesh_behind, number_of, option_map, walk_of};
+ghost use Rattle.std.specs.Prelude.{◌≡◌, ◌<◌, IfSome, codes};
+ghost use Rattle.std.specs.Option.{option_map};
+ghost use Rattle.dcel_commands.specs.Vocabulary.{IsLive, Says, TellsOrRefuses, Writes, ccw_of, left, listed, mesh_behind, number_of, walk_of};
 ghost use Rattle.dcel_commands.specs.request.Out.{least_out, turn_of, turn_text};
 
 use super::*;

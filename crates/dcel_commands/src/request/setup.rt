@@ -1,6 +1,7 @@
 //! `setup A B`
 
-ghost use Rattle.dcel_commands.specs.Vocabulary.{◌≤◌, ◌^◌, Carries, Says, codes, left};
+ghost use Rattle.std.specs.Prelude.{◌≤◌, ◌^◌, codes};
+ghost use Rattle.dcel_commands.specs.Vocabulary.{Carries, Says, left};
 
 use super::*;
 use spade_dcel::operations::setup_initial_two_vertices;

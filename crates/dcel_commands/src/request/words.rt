@@ -1,6 +1,7 @@
 //! `words`
 
-ghost use Rattle.dcel_commands.specs.Vocabulary.{◌≡◌, ◌<◌, IsLive, IsMesh, IsSound, Says, Writes, codes, face_count, face_of, left, listed, mesh_behind, number_of, word_of};
+ghost use Rattle.std.specs.Prelude.{◌≡◌, ◌<◌, codes};
+ghost use Rattle.dcel_commands.specs.Vocabulary.{IsLive, IsMesh, IsSound, Says, Writes, face_count, face_of, left, listed, mesh_behind, number_of, word_of};
 ghost use Rattle.dcel_commands.specs.request.Words.{line_of, words_text, word_round, IsLeastOnFace};
 
 use super::*;
