@@ -3,7 +3,6 @@
 #![tactic(auto)]
 
 pub mod create;
-mod elements;
 pub mod line;
 mod sectors;
 pub mod triangle;

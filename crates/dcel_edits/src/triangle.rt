@@ -5,7 +5,6 @@ ghost use Rattle.dcel_store.specs.Lists as lists;
 ghost use Rattle.dcel_maps.specs.edits.DefaultData.{AddsEdgesAndFaces};
 ghost use Rattle.dcel_edits.specs.Triangle.{CanInsert, IsEmpty, insertion_stored, triangle_stored};
 
-use crate::elements::{push_anchored_face, push_anchored_vertex};
 use crate::sectors::{Sector, close_sector, push_spoke};
 use dcel_fixed::{FixedDirectedEdgeHandle, FixedFaceHandle, FixedVertexHandle};
 use dcel_store::{EdgeData, HalfEdgeEntry, Store};
@@ -21,11 +20,11 @@ pub fn put_triangle<V, DE: Default, UE: Default, F: Default, A: Allocator>(
     ensures { AddsEdgesAndFaces DE.is_default UE.is_default F.is_default 3 2 store.new (triangle_stored store.old vertices) }
 {
     let (first, second, third) = vertices;
-    push_anchored_vertex(store, FixedDirectedEdgeHandle::new(0), first);
-    push_anchored_vertex(store, FixedDirectedEdgeHandle::new(2), second);
-    push_anchored_vertex(store, FixedDirectedEdgeHandle::new(4), third);
-    push_anchored_face(store, FixedDirectedEdgeHandle::new(0), F::default());
-    push_anchored_face(store, FixedDirectedEdgeHandle::new(1), F::default());
+    store.push_vertex(first, Some(FixedDirectedEdgeHandle::new(0)));
+    store.push_vertex(second, Some(FixedDirectedEdgeHandle::new(2)));
+    store.push_vertex(third, Some(FixedDirectedEdgeHandle::new(4)));
+    store.push_face(F::default(), Some(FixedDirectedEdgeHandle::new(0)));
+    store.push_face(F::default(), Some(FixedDirectedEdgeHandle::new(1)));
     store.push_edge(links(2, 4, 0, 0), links(5, 3, 1, 1), EdgeData::default());
     store.push_edge(links(4, 0, 0, 1), links(1, 5, 1, 2), EdgeData::default());
     store.push_edge(links(0, 2, 0, 2), links(3, 1, 1, 0), EdgeData::default());
@@ -75,7 +74,7 @@ pub fn put_insertion<V, DE: Default, UE: Default, F: Default, A: Allocator>(
     push_spoke(store, &a, &b, tip, EdgeData::default());
     push_spoke(store, &b, &c, tip, EdgeData::default());
     push_spoke(store, &c, &a, tip, EdgeData::default());
-    push_anchored_face(store, b.edge, F::default());
-    push_anchored_face(store, c.edge, F::default());
+    store.push_face(F::default(), Some(b.edge));
+    store.push_face(F::default(), Some(c.edge));
     store.set_vertex_anchor(tip, Some(b.prev));
 }

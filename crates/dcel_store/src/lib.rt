@@ -152,19 +152,19 @@ impl<V, DE, UE, F, A: Allocator> Store<V, DE, UE, F, A> {
         Ok(())
     }
 
-    /// Appends a vertex, with no anchor. Asks for room, which [`reserve`](Self::reserve) makes.
+    /// Appends a vertex with this anchor. Asks for room, which [`reserve`](Self::reserve) makes.
     #[inline]
-    pub fn push_vertex(&mut self, datum: V)
+    pub fn push_vertex(&mut self, datum: V, anchor: Option<FixedDirectedEdgeHandle>)
         requires { 0 < self.old.vertex_room }
         ensures { self.new ≡ record self.old {
           vertex_data = self.old.vertex_data ++ datum ∷ [];
-          vertex_anchors = self.old.vertex_anchors ++ None ∷ [];
+          vertex_anchors = self.old.vertex_anchors ++ anchor ∷ [];
           vertex_room = self.old.vertex_room - 1;
         } }
     {
         self.vertices.push_reserved(VertexEntry {
             data: datum,
-            out_edge: None,
+            out_edge: anchor,
         });
     }
 
@@ -195,19 +195,19 @@ impl<V, DE, UE, F, A: Allocator> Store<V, DE, UE, F, A> {
         });
     }
 
-    /// Appends a face, with no anchor. Asks for room, which [`reserve`](Self::reserve) makes.
+    /// Appends a face with this anchor. Asks for room, which [`reserve`](Self::reserve) makes.
     #[inline]
-    pub fn push_face(&mut self, datum: F)
+    pub fn push_face(&mut self, datum: F, anchor: Option<FixedDirectedEdgeHandle>)
         requires { 0 < self.old.face_room }
         ensures { self.new ≡ record self.old {
           face_data = self.old.face_data ++ datum ∷ [];
-          face_anchors = self.old.face_anchors ++ None ∷ [];
+          face_anchors = self.old.face_anchors ++ anchor ∷ [];
           face_room = self.old.face_room - 1;
         } }
     {
         self.faces.push_reserved(FaceEntry {
             data: datum,
-            adjacent_edge: None,
+            adjacent_edge: anchor,
         });
     }
 
@@ -385,8 +385,8 @@ mod tests {
         let edge = FixedDirectedEdgeHandle::new(0);
         let mut store = Store::new(rt.alloc())?;
         store.reserve(1, 1, 1)?;
-        store.push_vertex('v');
-        store.push_face('f');
+        store.push_vertex('v', None);
+        store.push_face('f', None);
         store.push_edge(
             HalfEdgeEntry {
                 next: edge,

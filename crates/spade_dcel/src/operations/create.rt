@@ -23,7 +23,7 @@ pub fn new<V: Drop, DE: Drop, UE: Drop, F: Default + Drop, A: Allocator + Clone>
 {
     let mut store = Store::new(alloc)?;
     store.reserve(0, 0, 1)?;
-    store.push_face(F::default());
+    store.push_face(F::default(), None);
     Ok(Dcel {
         store,
         removal: RemovalRecord::Closed,
@@ -47,7 +47,7 @@ pub fn append_unconnected_vertex<V, DE, UE, F, A: Allocator>(
     if dcel.store.reserve(1, 0, 0).is_err() {
         return Err(NoMemory { back: datum });
     }
-    dcel.store.push_vertex(datum);
+    dcel.store.push_vertex(datum, None);
     Ok(vertex)
 }
 

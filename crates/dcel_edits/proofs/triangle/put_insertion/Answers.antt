@@ -34,8 +34,8 @@ returns g c =
       is =
           rw (
             c.set_vertex_anchor.ensures,
-            c.push_anchored_face-2.ensures,
-            c.push_anchored_face.ensures,
+            c.push_face-2.ensures,
+            c.push_face.ensures,
             c.push_spoke-3.ensures,
             c.push_spoke-2.ensures,
             c.push_spoke.ensures,
