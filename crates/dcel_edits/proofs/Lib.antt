@@ -1,4 +1,5 @@
 pub mod FaceWords
+mod Numbers
 pub mod OutEdges
 pub mod Public
 pub mod Reading

@@ -1,20 +1,18 @@
 -- What writing a first edge leaves in the stored lists, and where it can be written.
-use Rattle.std.specs.Prelude.{ℕ, ◌-◌, ◌<◌, List, [], ◌∷◌, ◌++◌, length, slice_set, Some}
+use Rattle.std.specs.Prelude.{ℕ, ◌<◌, List, [], ◌∷◌, ◌++◌, length, slice_set, Some}
 use Rattle.dcel_store.specs.Lists.{Lists}
+use Rattle.dcel_edits.specs.Adding.{adding_edges}
 
 module _ {V DE UE F : Type 0} where
   -- edge 0 from a to b, on the outer face
   abbrev pub first_edge_stored : Lists V DE UE F → ℕ → ℕ → List DE → List UE → Lists V DE UE F
-  first_edge_stored s a b halves edges = record s {
+  first_edge_stored s a b halves edges = record (adding_edges s 1 halves edges) {
     next = s.next ++ 1 ∷ 0 ∷ [];
     prev = s.prev ++ 1 ∷ 0 ∷ [];
     origin = s.origin ++ a ∷ b ∷ [];
     face = s.face ++ 0 ∷ 0 ∷ [];
     vertex_anchors = slice_set (slice_set s.vertex_anchors a (Some 0)) b (Some 1);
     face_anchors = slice_set s.face_anchors 0 (Some 0);
-    directed_data = s.directed_data ++ halves;
-    undirected_data = s.undirected_data ++ edges;
-    edge_room = s.edge_room - 1;
   }
 
   -- where it can be written

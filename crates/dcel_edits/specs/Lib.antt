@@ -1,4 +1,8 @@
-pub mod Stored
+pub mod Adding
 pub mod Create
 pub mod Line
+pub mod Outside
+pub mod Split
+pub mod Stored
 pub mod Triangle
+pub mod SplitTriangles

@@ -1,6 +1,7 @@
 -- What writing a first triangle, or a vertex into a triangle, leaves in the stored lists.
-use Rattle.std.specs.Prelude.{◌≡◌, ℕ, ◌+◌, ◌-◌, ◌*◌, ◌<◌, ◌≤◌, ◌^◌, List, [], ◌∷◌, ◌++◌, length, slice_index, slice_set, Some}
-use Rattle.dcel_store.specs.Lists.{Lists, HasPlaces, empty}
+use Rattle.std.specs.Prelude.{◌≡◌, ℕ, ◌+◌, ◌-◌, ◌*◌, ◌<◌, List, [], ◌∷◌, ◌++◌, length, slice_index, slice_set, Some}
+use Rattle.dcel_store.specs.Lists.{Lists, empty}
+use Rattle.dcel_edits.specs.Adding.{HasSpace, adding}
 
 -- three items of a list replaced
 abbrev pub three_set : List ℕ → ℕ → ℕ → ℕ → ℕ → ℕ → ℕ → List ℕ
@@ -38,7 +39,7 @@ module _ {V DE UE F : Type 0} where
       let second = slice_index s.next first in
       let third = slice_index s.prev first in
       let f = slice_index s.face first in
-      record s {
+      record (adding s 3 2 halves edges faces) {
         next = three_set s.next first n second (n + 2) third (n + 4)
             ++ (n + 5) ∷ second ∷ (n + 1) ∷ third ∷ (n + 3) ∷ first ∷ [];
         prev = three_set s.prev first (n + 5) second (n + 1) third (n + 3)
@@ -48,18 +49,11 @@ module _ {V DE UE F : Type 0} where
         face = three_set s.face first f second l third (l + 1) ++ f ∷ l ∷ l ∷ (l + 1) ∷ (l + 1) ∷ f ∷ [];
         vertex_anchors = slice_set s.vertex_anchors tip (Some (n + 1));
         face_anchors = s.face_anchors ++ Some second ∷ Some third ∷ [];
-        directed_data = s.directed_data ++ halves;
-        undirected_data = s.undirected_data ++ edges;
-        face_data = s.face_data ++ faces;
-        edge_room = s.edge_room - 3;
-        face_room = s.face_room - 2;
       }
 
   -- where a vertex can be inserted
   pub record CanInsert (s : Lists V DE UE F) (first tip : ℕ) : Type 0 where
-    pub places : HasPlaces s 0 3 2
-    pub few_edges : length s.undirected_data + 3 ≤ 2 ^ 31
-    pub few_faces : length s.face_data + 2 ≤ 2 ^ 32
+    pub space : HasSpace s 3 2
     pub first_in : first < length s.next
     pub second_in : slice_index s.next first < length s.next
     pub third_in : slice_index s.prev first < length s.next

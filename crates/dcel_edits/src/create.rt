@@ -3,8 +3,9 @@
 ghost use Rattle.dcel_maps.specs.edits.DefaultData.{AddsEdge};
 ghost use Rattle.dcel_edits.specs.Create.{CanBegin, first_edge_stored};
 
+use crate::links::links;
 use dcel_fixed::{FixedDirectedEdgeHandle, FixedVertexHandle, OUTER_FACE};
-use dcel_store::{EdgeData, HalfEdgeEntry, Store};
+use dcel_store::{EdgeData, Store};
 use std::alloc::Allocator;
 
 /// Writes edge 0 into a store without edges.
@@ -19,18 +20,8 @@ pub fn put_first_edge<V, DE: Default, UE: Default, F, A: Allocator>(
     let normalized = FixedDirectedEdgeHandle::new_normalized(0);
     let reversed = normalized.rev();
     store.push_edge(
-        HalfEdgeEntry {
-            next: reversed,
-            prev: reversed,
-            face: OUTER_FACE,
-            origin: first_vertex,
-        },
-        HalfEdgeEntry {
-            next: normalized,
-            prev: normalized,
-            face: OUTER_FACE,
-            origin: second_vertex,
-        },
+        links(reversed, reversed, OUTER_FACE, first_vertex),
+        links(normalized, normalized, OUTER_FACE, second_vertex),
         EdgeData::default(),
     );
     store.set_vertex_anchor(first_vertex, Some(normalized));

@@ -4,5 +4,9 @@
 
 pub mod create;
 pub mod line;
+mod links;
+pub mod outside;
 mod sectors;
+pub mod split;
+pub mod split_triangles;
 pub mod triangle;

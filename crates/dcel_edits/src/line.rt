@@ -3,8 +3,9 @@
 ghost use Rattle.dcel_maps.specs.edits.DefaultData.{AddsEdge};
 ghost use Rattle.dcel_edits.specs.Line.{spur_stored, CanSpur};
 
+use crate::links::links;
 use dcel_fixed::{FixedDirectedEdgeHandle, FixedVertexHandle};
-use dcel_store::{EdgeData, HalfEdgeEntry, Store};
+use dcel_store::{EdgeData, Store};
 use std::alloc::Allocator;
 
 /// Puts a new edge to `tip` and back after the half edge `before`.
@@ -24,18 +25,8 @@ pub fn put_spur<V, DE: Default, UE: Default, F, A: Allocator>(
     store.set_next(before, forth);
     store.set_prev(after, back);
     store.push_edge(
-        HalfEdgeEntry {
-            next: after,
-            prev: forth,
-            face,
-            origin: tip,
-        },
-        HalfEdgeEntry {
-            next: back,
-            prev: before,
-            face,
-            origin: from,
-        },
+        links(after, forth, face, tip),
+        links(back, before, face, from),
         EdgeData::default(),
     );
     store.set_vertex_anchor(tip, Some(back));

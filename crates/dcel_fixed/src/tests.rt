@@ -54,12 +54,44 @@ fn handles_and_tags_print_their_text(rt: HostRuntime) -> Result<(), Fail> {
 }
 
 #[test]
-fn comparisons_and_hash_see_the_number_alone(rt: HostRuntime) {
+fn the_outer_face_is_face_0(rt: HostRuntime) {
+    for face in [OUTER_FACE, OUTER_FACE_HANDLE] {
+        assert_eq!(rt; face.index(), 0);
+        assert!(rt; face.is_outer());
+        assert_eq!(rt; face, new_fixed_face_handle(0));
+    }
+}
+
+#[test]
+fn comparisons_see_the_number_alone(rt: HostRuntime) {
     let three = FixedVertexHandle::from_index(3);
     let four = FixedVertexHandle::from_index(4);
     assert!(rt; is_equal(three, FixedVertexHandle::new(3)) && !is_equal(three, four));
     assert!(rt; is_below(three, four) && !is_below(four, three));
+}
 
+/// Asserts that the handle, and another one with its number, are hashed as the number is.
+fn assert_hashed_as<Kind, InnerOuter: InnerOuterMarker>(
+    handle: FixedHandleImpl<Kind, InnerOuter>,
+    index: u32,
+    rt: &impl Abort,
+) {
     let hasher = BuildHasherDefault::<FoldHasher>::default();
-    assert_eq!(rt; hasher.hash_one(three), hasher.hash_one(3u32));
+    let equal: FixedHandleImpl<Kind, InnerOuter> = FixedHandleImpl::new(index as usize);
+    assert_eq!(rt; hasher.hash_one(handle), hasher.hash_one(index));
+    assert_eq!(rt; hasher.hash_one(equal), hasher.hash_one(index));
+}
+
+#[test]
+fn equal_handles_are_hashed_as_their_number(rt: HostRuntime) {
+    let edge = FixedUndirectedEdgeHandle::new(3);
+    let half_edge = edge.as_directed();
+    let inner_face = new_fixed_face_handle(5).adjust_inner_outer::<InnerTag>();
+    assert_hashed_as(FixedVertexHandle::from_index(7), 7, &rt);
+    assert_hashed_as(half_edge.as_undirected(), 3, &rt);
+    assert_hashed_as(half_edge, 6, &rt);
+    assert_hashed_as(half_edge.rev(), 7, &rt);
+    assert_hashed_as(OUTER_FACE, 0, &rt);
+    assert_hashed_as(inner_face, 5, &rt);
+    assert_hashed_as(FixedVertexHandle::new(4_294_967_295), u32::MAX, &rt);
 }

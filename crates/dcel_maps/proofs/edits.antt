@@ -3,9 +3,17 @@ pub mod Adding
 pub mod Patches
 pub mod Changes
 pub mod Growing
+pub mod Linking
+pub mod Starting
 pub mod Spurs
 pub mod Lines
+pub mod Rows
+pub mod Splits
 pub mod Inserts
+pub mod Beside
+pub mod Closing
+pub mod EdgeSplits
+pub mod HalfSplits
 pub mod Alone
 pub mod Appending
 pub mod Beginning

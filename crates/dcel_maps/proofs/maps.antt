@@ -1,4 +1,5 @@
 pub mod Agreement
+pub mod Beside
 pub mod Chords
 pub mod Counts
 pub mod Cycles
@@ -10,11 +11,21 @@ pub mod Firsts
 pub mod Growth
 pub mod Halves
 pub mod Labels
+pub mod Middles
 pub mod Insert
+pub mod Joins
 pub mod Reaching
 pub mod Renames
 pub mod Soundness
 pub mod Spurs
+pub mod Subdivides
+pub mod Between
+pub mod HalfSplits
+pub mod Splits
 pub mod Triangles
+pub mod Unchords
+pub mod Undone
+pub mod Unspurs
+pub mod Unsubdivides
 pub mod Updates
 pub mod Words

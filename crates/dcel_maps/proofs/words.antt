@@ -1,12 +1,17 @@
 pub mod Counts
 pub mod Paths
 pub mod Becoming
+pub mod Beside
 pub mod Walking
 pub mod Reading
 pub mod Rounds
 pub mod Spurs
+pub mod Subdivides
 pub mod Agreement
 pub mod Turns
+pub mod Standing
+pub mod Cuts
+pub mod HalfSplits
 pub mod Faces
 pub mod Triangles
 pub mod Cyclic

@@ -1,7 +1,8 @@
 -- What operations ask of a shape.
-use Rattle.std.specs.Prelude.{◌≡◌, ℕ, ◌+◌, ◌≤◌, ◌^◌, true, length}
+use Rattle.std.specs.Prelude.{◌≡◌, ◌≢◌, ℕ, ◌+◌, ◌≤◌, ◌^◌, true, length}
+use Rattle.dcel_fixed.specs.HalfEdges.{rev}
 use Rattle.dcel_maps.specs.Maps.{IsBare}
-use Rattle.dcel_maps.specs.Shapes.{Shape, IsLive, vertex_is_live, face_is_live, origin_of, face_count, map_of}
+use Rattle.dcel_maps.specs.Shapes.{Shape, IsLive, vertex_is_live, face_is_live, next_of, origin_of, end_of, face_of, face_count, map_of}
 use Rattle.dcel_maps.specs.Walking.{IsOutEdge}
 use Rattle.dcel_maps.specs.Words.{word_of}
 
@@ -25,6 +26,17 @@ pub record IsLineEnd (s : Shape) (v : ℕ) : Type 0 where
 pub record IsTriangle (s : Shape) (f : ℕ) : Type 0 where
   pub live : face_is_live s f ≡ true
   pub three : length (word_of s.words f) ≡ 3
+
+-- h is live, and both halves of its edge lie on one face
+pub record IsBridge (s : Shape) (h : ℕ) : Type 0 where
+  pub live : IsLive s h
+  pub one_face : face_of s h ≡ face_of s (rev h)
+
+-- h is live and on the outer face, and the next half edge doesn't end where h starts
+pub record CanCloseOutside (s : Shape) (h : ℕ) : Type 0 where
+  pub live : IsLive s h
+  pub outer : face_of s h ≡ 0
+  pub apart : end_of s (next_of s h) ≢ origin_of s h
 
 -- there are numbers for so many more vertices, edges and faces
 pub record HasRoom (s : Shape) (vertices edges faces : ℕ) : Type 0 where

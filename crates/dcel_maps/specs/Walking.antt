@@ -1,8 +1,8 @@
 -- Walks round a mesh: steps that undo each other, the half edges that they lead through, and what is still to come of a walk.
-use Rattle.std.specs.Prelude.{◌≡◌, ℕ, ◌*◌, ◌<◌, ◌≤◌, Bool, false, cond, List, [], ◌∷◌, length, map, Option, Some, None}
+use Rattle.std.specs.Prelude.{◌≡◌, ℕ, ◌*◌, ◌<◌, ◌≤◌, ◌==◌, Bool, false, cond, List, [], ◌∷◌, length, map, find, Option, Some, None}
 use Rattle.dcel_fixed.specs.HalfEdges.{rev}
 use Rattle.dcel_maps.specs.Maps.{By, count}
-use Rattle.dcel_maps.specs.Shapes.{Shape, Mesh, IsLive, edge_is_live, next_of, prev_of, face_of, origin_of, vertex_anchor}
+use Rattle.dcel_maps.specs.Shapes.{Shape, Mesh, IsLive, edge_is_live, next_of, prev_of, face_of, origin_of, end_of, vertex_anchor}
 use Rattle.dcel_maps.specs.Walks.{up_to, walk}
 use Rattle.dcel_maps.specs.theory.Cycles.{Path}
 use Rattle.dcel_maps.specs.Words.{count_of}
@@ -49,6 +49,12 @@ pub record IsOnFace (s : Shape) (f h : ℕ) : Type 0 where
   pub live : IsLive s h
   pub face : face_of s h ≡ f
 
+-- a live half edge that leads from the vertex v to the vertex w
+pub record Leads (s : Shape) (v w h : ℕ) : Type 0 where
+  pub live : IsLive s h
+  pub start : origin_of s h ≡ v
+  pub end : end_of s h ≡ w
+
 -- each number that has the property stands in the list, once, and no other does
 pub record ListsOnce (P : ℕ → Type 0) (w : List ℕ) : Type 0 where
   pub each : (h : ℕ) → P h → count_of h w ≡ 1
@@ -90,3 +96,7 @@ module _ {V DE UE F : Type 0} where
   -- the out edges of a vertex: the walk by `ccw` from its anchor
   abbrev pub out_edges_of : Mesh V DE UE F → ℕ → List ℕ
   out_edges_of m v = walk_from m.shape (ccw_of m.shape) (vertex_anchor m v)
+
+  -- the first out edge of the vertex v that ends at the vertex w
+  abbrev pub edge_between : Mesh V DE UE F → ℕ → ℕ → Option ℕ
+  edge_between m v w = find (λ h. end_of m.shape h == w) (out_edges_of m v)

@@ -2,4 +2,6 @@
 pub mod Create
 pub mod DefaultData
 pub mod Line
+pub mod Outside
+pub mod Split
 pub mod Triangle

@@ -1,11 +1,13 @@
 //! The mesh: its counts, its elements by number, their anchors, and the tests of what operations ask.
 
-ghost use Rattle.std.specs.Prelude.{◌≡◌, ℕ, ◌*◌, ◌^◌, ◌<◌, ◌≤◌, ◌↔◌, IsTrue, length, true};
+ghost use Rattle.std.specs.Prelude.{◌≡◌, ℕ, ◌*◌, ◌^◌, ◌<◌, ◌≤◌, ◌↔◌, IfSome, IsTrue, MatchOption, length, true};
+ghost use Rattle.std.specs.Option.{option_map};
 ghost use Rattle.dcel_maps.specs.Checked.{IsChecked, LooksTriangulated, EvenHalfFits, PartsFaces};
-ghost use Rattle.dcel_maps.specs.Conditions.{HasRoom, IsUnconnected, IsLineEnd, IsTriangle};
+ghost use Rattle.dcel_maps.specs.Conditions.{HasRoom, IsUnconnected, IsLineEnd, IsTriangle, IsBridge, CanCloseOutside};
 ghost use Rattle.spade_dcel.specs.Handles.{mesh_behind, number_of};
 ghost use Rattle.dcel_maps.specs.Removals.{Closed};
 ghost use Rattle.dcel_maps.specs.Shapes.{IsLive, vertex_is_live, edge_is_live, face_is_live, face_count, next_of, prev_of, face_of, origin_of, vertex_anchor, face_anchor};
+ghost use Rattle.dcel_maps.specs.Walking.{Leads, edge_between};
 ghost use Rattle.dcel_maps.specs.Words.{word_of};
 
 use crate::handles::{DirectedEdgeHandle, FaceHandle, VertexHandle};
@@ -166,6 +168,28 @@ impl<V, DE, UE, F, A: Allocator> Dcel<V, DE, UE, F, A> {
     {
         self.store.face_anchor(handle.adjust_inner_outer())
     }
+
+    /// The first of the half edges out of one vertex, as [`out_edges`](VertexHandle::out_edges) lists them, that ends at another.
+    /// It answers None only where no live half edge leads from the first vertex to the second, and asks for a first number below
+    /// [`num_vertices`](Self::num_vertices). Where several lead so, which one is the first depends on the anchor.
+    pub fn get_edge_from_neighbors(
+        &self,
+        from: FixedVertexHandle,
+        to: FixedVertexHandle,
+    ) -> Option<DirectedEdgeHandle<'_, V, DE, UE, F, A>>
+        requires { from < self.now.shape.vertices }
+        ensures first { option_map (λ edge. number_of edge) result ≡ edge_between self.now from to }
+        ensures mesh { IfSome result (λ edge. mesh_behind edge ≡ self.now) }
+        ensures joined { let shape = self.now.shape in
+            MatchOption result ((h : ℕ) → ¬ Leads shape from to h) (λ edge. Leads shape from to (number_of edge)) }
+    {
+        for edge in self.vertex(from).out_edges() {
+            if edge.to().fix() == to {
+                return Some(edge);
+            }
+        }
+        None
+    }
 }
 
 /// Public tests of what the operations ask.
@@ -239,6 +263,26 @@ impl<V, DE, UE, F, A: Allocator> Dcel<V, DE, UE, F, A> {
             Some(edge) => self.is_on_triangle(edge),
             None => false,
         }
+    }
+
+    /// Whether the half edge is live and both halves of its edge lie on one face.
+    #[tactic(auto, using(dcel_fixed::proofs::Halves::halves))]
+    pub fn is_bridge(&self, handle: FixedDirectedEdgeHandle) -> bool
+        ensures { IsTrue result ↔ IsBridge self.now.shape handle }
+    {
+        self.is_live_edge(handle.as_undirected())
+            && self.face_of_edge(handle) == self.face_of_edge(handle.rev())
+    }
+
+    /// Whether the half edge is live and on the outer face, and the next half edge doesn't end where it starts: an edge that closes the
+    /// two to a triangle would join two different vertices.
+    #[tactic(auto, using(dcel_fixed::proofs::Halves::halves))]
+    pub fn can_close_outside(&self, handle: FixedDirectedEdgeHandle) -> bool
+        ensures { IsTrue result ↔ CanCloseOutside self.now.shape handle }
+    {
+        self.is_live_edge(handle.as_undirected())
+            && self.face_of_edge(handle).is_outer()
+            && self.origin(self.next_edge(handle).rev()) != self.origin(handle)
     }
 }
 

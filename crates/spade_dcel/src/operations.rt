@@ -3,10 +3,16 @@
 
 mod create;
 mod line;
+mod outside;
+mod split;
+mod split_triangles;
 mod triangle;
 
 pub use create::{append_unconnected_vertex, new, setup_initial_two_vertices};
 pub use line::extend_line;
+pub use outside::{create_new_face_adjacent_to_edge, create_single_face_between_edge_and_next};
+pub use split::split_edge_when_all_vertices_on_line;
+pub use split_triangles::{split_edge, split_half_edge};
 pub use triangle::{insert_into_triangle, new_triangle};
 
 /// That a growth found no memory, with what was handed in.

@@ -1,10 +1,12 @@
 -- Lists with the changes of an edit hold the edited mesh.
 use Rattle.std.proofs.Common.{◌≡◌, ℕ, ◌-◌, ◌*◌, ◌/◌, ◌<◌, true, List, None, ◌++◌, length, slice_index, slice_index_or, refl, sym, ap, ◌∙◌, subst, arith, length-append}
-use Rattle.dcel_store.specs.Lists.{Lists, LengthsAgree}
-use Rattle.dcel_maps.specs.edits.DefaultData.{AddsEdgesAndFaces}
+use Rattle.dcel_store.specs.Lists.{HasPlaces, Lists, LengthsAgree}
+use Rattle.dcel_maps.specs.Conditions.{HasRoom}
+use Rattle.dcel_maps.specs.edits.DefaultData.{AddsEdge, AddsEdgesAndFaces}
 use Rattle.dcel_maps.specs.Maps.{Live, Map}
 use Rattle.dcel_maps.specs.Removals.{Removal, gives_up_edge, gives_up_vertex}
 use Rattle.dcel_maps.specs.Shapes.{IsLive, IsMesh, IsSized, Mesh, face_anchor, face_count, map_of, vertex_anchor, vertex_is_live}
+use Rattle.dcel_edits.specs.Adding.{HasSpace}
 use Rattle.dcel_edits.specs.Stored.{IsStored, mesh_of, stored_map}
 use Rattle.dcel_maps.proofs.Liveness.{gives_up_edge-past, is_live-parts}
 use Rattle.dcel_maps.proofs.edits.Adding.{ForData, adds_as}
@@ -76,6 +78,13 @@ module _ {V DE UE F : Type 0} (s : Lists V DE UE F) (r : Removal) (m : Mesh V DE
   pub held_faces : length s.face_data ≡ face_count m.shape
   held_faces = ap length (held_lists s r m held).face_data ∙ sizes.face_data
 
+  pub held_space : {k l : ℕ} → HasRoom m.shape 0 k l → HasPlaces s 0 k l → HasSpace s k l
+  held_space room places = record {
+    places = places;
+    few_edges = omega (arith, room.for_edges, held_edges);
+    few_faces = omega (arith, room.for_faces, held_faces);
+  }
+
   pub held_half : (h : ℕ) → IsLive m.shape h → h < length s.next
   held_half h live = omega (arith, half-below m.shape h live, (held_lists s r m held).lengths.of_next, held_edges)
 
@@ -83,6 +92,9 @@ module _ {V DE UE F : Type 0} (s : Lists V DE UE F) (r : Removal) (m : Mesh V DE
   held_vertex v live =
       let below = (is_live-parts (gives_up_vertex m.shape.removal) m.shape.vertices v live).0 in
       omega (arith, below, ap length (held_lists s r m held).vertex_anchors, sizes.vertex_anchors)
+
+  pub held_face : (f : ℕ) → f < face_count m.shape → f < length s.face_anchors
+  held_face f below = omega (arith, below, ap length (held_lists s r m held).face_anchors, sizes.face_anchors)
 
   pub held_vertex_anchor : (v : ℕ) → vertex_anchor m v ≡ slice_index_or s.vertex_anchors v None
   held_vertex_anchor v = ap (λ l. slice_index_or l v None) (sym (held_lists s r m held).vertex_anchors)
@@ -183,3 +195,30 @@ added_holds {V} {DE} {UE} {F} r edit added hold = record {
       (hold added.directed_data added.undirected_data added.face_data added.directed_count added.undirected_count added.face_data_count).stored;
   edit = adds_as added (λ t. mesh_of t r) edit (λ halves edges faces i j k. (hold halves edges faces i j k).is);
 }
+
+-- the same where the writes are a change of the mesh, and make the edited mesh of it
+pub edit_holds : {V DE UE F G : Type 0} {is_half : DE → Type 0} {is_edge : UE → Type 0} {is_face : G → Type 0} {k l : ℕ}
+    {s t : Lists V DE UE F} {r : Removal} {m : Mesh V DE UE F} {write : List DE → List UE → List G → Lists V DE UE F}
+    → Holds s r m → (c : List DE → List UE → List G → Change V DE UE F) (edit : List DE → List UE → List G → Mesh V DE UE F)
+    → ((halves : List DE) (edges : List UE) (faces : List G) → write halves edges faces ≡ written s (c halves edges faces))
+    → ForData k l (λ halves edges faces. (changed m (c halves edges faces) ≡ edit halves edges faces) × IsEdit m (c halves edges faces))
+    → AddsEdgesAndFaces is_half is_edge is_face k l t write → HoldsAdded is_half is_edge is_face k l t r edit
+edit_holds {s = s} {r = r} {m = m} held c edit read edits added =
+    added_holds r edit added
+    (λ halves edges faces i j k.
+    let (is, is_edit) = edits halves edges faces i j k in
+    rw (read halves edges faces, ← is) (change_holds s r m (c halves edges faces) held is_edit))
+
+-- the same for one edge
+pub edge_holds : {V DE UE F : Type 0} {is_half : DE → Type 0} {is_edge : UE → Type 0}
+    {s t : Lists V DE UE F} {r : Removal} {m : Mesh V DE UE F} {write : List DE → List UE → Lists V DE UE F}
+    → Holds s r m → (c : List DE → List UE → Change V DE UE F) (edit : List DE → List UE → Mesh V DE UE F)
+    → ((halves : List DE) (edges : List UE) → write halves edges ≡ written s (c halves edges))
+    → ((halves : List DE) (edges : List UE) → length halves ≡ 2 → length edges ≡ 1
+    → (changed m (c halves edges) ≡ edit halves edges) × IsEdit m (c halves edges))
+    → AddsEdge is_half is_edge t write → HoldsEdge is_half is_edge t r edit
+edge_holds held c edit read edits added =
+    edit_holds held (λ halves edges faces. c halves edges) (λ halves edges faces. edit halves edges)
+    (λ halves edges faces. read halves edges)
+    (λ halves edges faces two one none. edits halves edges two one)
+    added

@@ -12,10 +12,11 @@ use Rattle.dcel_maps.specs.Walks.{anchored_word, anchored_words}
 use Rattle.dcel_maps.proofs.edits.Alone.{alone_is_mesh, no_half_alone}
 use Rattle.dcel_maps.proofs.edits.Appending.{appending, appending_is, appending_is_edit}
 use Rattle.dcel_maps.proofs.edits.Beginning.{beginning, beginning_is, beginning_is_edit}
+use Rattle.dcel_maps.proofs.edits.Changes.{Change}
 use Rattle.dcel_maps.proofs.edits.FirstTriangle.{first_triangle, first_triangle_is_edit}
 use Rattle.dcel_edits.specs.Create.{CanBegin, first_edge_stored}
 use Rattle.dcel_edits.specs.Triangle.{triangle_stored}
-use Rattle.dcel_edits.proofs.stored.Changes.{HoldsAdded, HoldsEdge, added_holds, change_holds, held_lists, held_mesh, held_vertex, lists_from_links, written}
+use Rattle.dcel_edits.proofs.stored.Changes.{HoldsAdded, HoldsEdge, added_holds, change_holds, edge_holds, held_lists, held_mesh, held_vertex, lists_from_links, written}
 use Rattle.dcel_edits.proofs.stored.Held.{lists_hold}
 use Rattle.dcel_edits.proofs.stored.Holding.{Holds}
 
@@ -77,17 +78,19 @@ module _ {V DE UE F : Type 0} {s : Lists V DE UE F} {r : Removal} {m : Mesh V DE
   mesh : IsMesh m
   mesh = held_mesh s r m held
 
-  begin_hold : (halves : List DE) (edges : List UE) → length halves ≡ 2 → length edges ≡ 1
-      → Holds (first_edge_stored s a b halves edges) r (first_edge_added m a b halves edges)
-  begin_hold halves edges two one =
-      let c = beginning (2 * m.shape.edges) a b halves edges in
-      let read : first_edge_stored s a b halves edges ≡ written s c = rw none (simp (append-nil, sub-zero) refl) in
-      rw (read, ← beginning_is m mesh none a b halves edges)
-      (change_holds s r m c held (beginning_is_edit m mesh none a b halves edges a_live b_live apart room two one))
+  abbrev change : List DE → List UE → Change V DE UE F
+  change halves edges = beginning (2 * m.shape.edges) a b halves edges
 
-  module _ {is_half : DE → Type 0} {is_edge : UE → Type 0} {t : Lists V DE UE F} where
-    pub begun : AddsEdge is_half is_edge t (first_edge_stored s a b) → HoldsEdge is_half is_edge t r (first_edge_added m a b)
-    begun added = added_holds r _ added (λ halves edges faces two one no_face. begin_hold halves edges two one)
+  read : (halves : List DE) (edges : List UE) → first_edge_stored s a b halves edges ≡ written s (change halves edges)
+  read halves edges = rw none (simp (append-nil, sub-zero) refl)
+
+  pub begun : {is_half : DE → Type 0} {is_edge : UE → Type 0} {t : Lists V DE UE F}
+      → AddsEdge is_half is_edge t (first_edge_stored s a b) → HoldsEdge is_half is_edge t r (first_edge_added m a b)
+  begun added =
+      edge_holds held change (first_edge_added m a b) read
+      (λ halves edges two one.
+      (beginning_is m mesh none a b halves edges, beginning_is_edit m mesh none a b halves edges a_live b_live apart room two one))
+      added
 
 -- a triangle
 module _ {V DE UE F : Type 0} (s : Lists V DE UE F) (vertices : V × V × V) where

@@ -5,10 +5,10 @@ use Rattle.dcel_maps.specs.edits.Create.{vertex_appended}
 use Rattle.dcel_maps.specs.Maps.{Live, Map}
 use Rattle.dcel_maps.specs.theory.Sound.{Sound, Sphere}
 use Rattle.dcel_maps.specs.Shapes.{IsLive, IsMesh, Mesh, map_of, origin_of}
-use Rattle.dcel_maps.proofs.Liveness.{start-parts}
 use Rattle.dcel_maps.proofs.edits.Changes.{Change, IsEdit, changed, fits_with, map_after}
 use Rattle.dcel_maps.proofs.edits.Growing.{after-edge, after-face, after-next, after-origin, after-prev, still_labelled}
 use Rattle.dcel_maps.proofs.edits.Patches.{pushing, replacing}
+use Rattle.dcel_maps.proofs.edits.Starting.{starts-still}
 use Rattle.dcel_maps.proofs.maps.Agreement.{Extends, extends_keeps}
 use Rattle.dcel_maps.proofs.shapes.Maps.{map-sound, map-sphere}
 
@@ -73,10 +73,7 @@ module _ {V DE UE F : Type 0} (m : Mesh V DE UE F) (datum : V) where
       on_live = record { next = tt; prev = tt; origin = tt; face = tt };
       sound = keeps.0;
       sphere = keeps.1;
-      starts = λ h live.
-          let here = was h live in
-          rw (after-origin m.shape c h here)
-          (start-parts m.shape mesh.sound h here).1;
+      starts = starts-still m mesh c (after-origin m.shape c) tt;
       words = tt;
       new_words = tt;
       other_words = λ f f_in off. record {

@@ -69,9 +69,6 @@ module _ {V DE UE F : Type 0} (m : Mesh V DE UE F) (mesh : IsMesh m) (none : m.s
     turned : rev n ≡ n + 1
     turned = rev-double m.shape.edges
 
-    half : n / 2 ≡ m.shape.edges
-    half = omega arith
-
     new_live : Live T n × Live T (n + 1)
     new_live = after-pair m.shape c mesh.sized.within refl
 
@@ -85,7 +82,7 @@ module _ {V DE UE F : Type 0} (m : Mesh V DE UE F) (mesh : IsMesh m) (none : m.s
     is_first = record {
       edge_here = new_live.0;
       edge_other = λ u differs.
-          after-edge m.shape c u (λ less. omega (arith, less, differs, half))
+          after-edge m.shape c u (λ less. omega (arith, less, differs))
           ∙ is_live-past (gives_up_edge m.shape.removal) m.shape.edges u (omega (arith, none));
       next_h = patched_at-first _ n c.next ∙ sym turned;
       next_rev = ap T.next turned ∙ patched_at-new _ n c.next 1;
@@ -96,7 +93,7 @@ module _ {V DE UE F : Type 0} (m : Mesh V DE UE F) (mesh : IsMesh m) (none : m.s
       apart = apart;
       face_h = patched_at-first _ n c.face;
       face_rev = ap T.face turned ∙ patched_at-new _ n c.face 1;
-      edge_below = omega (arith, half);
+      edge_below = omega arith;
       below_a = omega (arith, a_parts.0);
       below_b = omega (arith, b_parts.0);
       below_0 = omega (arith, mesh.sized.outer);

@@ -8,6 +8,7 @@ use Rattle.dcel_maps.proofs.Liveness.{gives_up_edge-past, is_live-from, is_live-
 use Rattle.dcel_maps.proofs.edits.Changes.{Change, map_after}
 use Rattle.dcel_maps.proofs.edits.Patches.{patched_at-old, puts}
 use Rattle.dcel_maps.proofs.maps.Counts.{Used}
+use Rattle.dcel_maps.proofs.maps.Edits.{Grows}
 use Rattle.dcel_maps.proofs.maps.Labels.{KeepsLabel}
 use Rattle.dcel_maps.proofs.walks.Links.{half-below}
 
@@ -24,6 +25,11 @@ from_on P n (suc (suc k)) each h past below = elim (cases_eq h (n + suc k)) [
   | inl is ↦ subst P (sym is) each.1
   | inr differs ↦ from_on P n (suc k) each.0 h past (omega (arith, differs))
 ]
+
+pub from_on-weaker : (P Q : ℕ → Type 0) → ((h : ℕ) → P h → Q h) → (n k : ℕ) → FromOn P n k → FromOn Q n k
+from_on-weaker P Q weaker n zero each = tt
+from_on-weaker P Q weaker n (suc zero) each = weaker n each
+from_on-weaker P Q weaker n (suc (suc k)) each = (from_on-weaker P Q weaker n (suc k) each.0, weaker (n + suc k) each.1)
 
 module _ {V DE UE F : Type 0} (s : Shape) (c : Change V DE UE F) where
   abbrev T : Map
@@ -53,6 +59,17 @@ module _ {V DE UE F : Type 0} (s : Shape) (c : Change V DE UE F) where
   pub after-below : (h : ℕ) → Live T h → h < 2 * s.edges + 2 * c.edges
   after-below h live =
       let parts = is_live-parts (gives_up_edge s.removal) (s.edges + c.edges) (h / 2) live in omega (arith, parts.0)
+
+  -- one new edge, between old vertices
+  pub after-grows : IsWithin s.removal s.vertices s.edges (face_count s) → c.edges ≡ 1 → c.vertices ≡ 0 → (h : ℕ) → 2 * s.edges ≤ h
+      → h < 2 * s.edges + 2 → Grows (map_of s) T h
+  after-grows within one none h past below = record {
+    edge_here = after-new within h past (omega (arith, one));
+    edge_other = λ u differs. after-edge u (λ less. omega (arith, less, differs, one));
+    edges = omega arith;
+    edge_below = omega (arith, one);
+    vertices = omega (arith, none);
+  }
 
   -- what holds of the old half edges and of the new ones holds of each
   pub after-each : (P : ℕ → Type 0) → ((h : ℕ) → IsLive s h → P h) → FromOn P (2 * s.edges) (2 * c.edges) → (h : ℕ) → Live T h → P h

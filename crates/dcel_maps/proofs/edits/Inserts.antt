@@ -1,26 +1,26 @@
 -- A vertex put into a triangle of a mesh.
-use Rattle.std.proofs.Common.{◌≡◌, ◌≢◌, ◌⊎◌, inl, inr, ℕ, ◌+◌, ◌*◌, ◌/◌, ◌<◌, ◌≤◌, true, false, List, [], ◌∷◌, length, slice_index, unwrap_or, Some, add-zero, append-nil, refl, sym, ap, ◌∙◌, subst, arith}
+use Rattle.std.proofs.Common.{◌≡◌, ◌≢◌, ◌⊎◌, inl, inr, ℕ, ◌+◌, ◌*◌, ◌/◌, ◌<◌, List, [], ◌∷◌, length, unwrap_or, Some, add-zero, append-nil, refl, sym, ap, ◌∙◌, subst, arith}
 use Rattle.std.proofs.lemmas.Bool.{cases_eq}
 use Rattle.dcel_maps.specs.Conditions.{HasRoom, IsTriangle, IsUnconnected}
-use Rattle.dcel_maps.specs.Shapes.{adjacent_edge_of, IsLive, IsMesh, Mesh, face_anchor, face_count, face_is_live, face_of, map_of, next_of, origin_of, prev_of}
+use Rattle.dcel_maps.specs.Shapes.{adjacent_edge_of, IsLive, IsMesh, Mesh, face_anchor, face_count, face_of, map_of, next_of, origin_of, prev_of}
 use Rattle.dcel_maps.specs.edits.Triangle.{vertex_inserted}
 use Rattle.dcel_maps.specs.Maps.{Live, Map}
 use Rattle.dcel_maps.specs.theory.Sound.{Sound, Sphere}
-use Rattle.dcel_maps.specs.Removals.{gives_up_face, gives_up_vertex}
+use Rattle.dcel_maps.specs.Removals.{gives_up_face}
 use Rattle.dcel_maps.specs.theory.Standing.{Stands}
-use Rattle.dcel_maps.specs.Words.{word_of}
-use Rattle.dcel_maps.proofs.Liveness.{is_live-parts, start-parts, vertex_live-parts}
+use Rattle.dcel_maps.proofs.Liveness.{is_live-parts, vertex_live-parts}
 use Rattle.dcel_maps.proofs.edits.Changes.{Change, IsEdit, changed, fits_with, map_after}
-use Rattle.dcel_maps.proofs.edits.Growing.{after-each, after-edge, after-face, after-new, after-next, after-origin, after-prev, after-still, still_labelled}
-use Rattle.dcel_maps.proofs.edits.Patches.{patched_at-first, patched_at-new, pushing, puts, puts_away, puts_here, replacing}
+use Rattle.dcel_maps.proofs.edits.Growing.{after-each, after-edge, after-face, after-next, after-origin, after-prev, after-still}
+use Rattle.dcel_maps.proofs.edits.Linking.{IsLinked, face_live-at, linked-corner, linked-old, triangle_full-least, triangle_of}
+use Rattle.dcel_maps.proofs.edits.Patches.{patched_at-first, patched_at-new, pushing, puts_away, puts_here, replacing}
+use Rattle.dcel_maps.proofs.edits.Starting.{NewStart, start_labelled, starts-new}
 use Rattle.dcel_maps.proofs.maps.Insert.{Insert, insert_keeps}
-use Rattle.dcel_maps.proofs.maps.Labels.{KeepsLabel, Labelled}
-use Rattle.dcel_maps.proofs.maps.Triangles.{Alone, IsTriangleOf, Off, off_face, triangle_at}
-use Rattle.dcel_maps.proofs.shapes.Maps.{face-live, map-sound, map-sphere}
+use Rattle.dcel_maps.proofs.maps.Labels.{Labelled}
+use Rattle.dcel_maps.proofs.maps.Triangles.{Alone, IsTriangleOf, Off, by_triangle, off_another, off_face}
+use Rattle.dcel_maps.proofs.shapes.Maps.{map-sound, map-sphere}
 use Rattle.dcel_maps.proofs.shapes.Shown.{word-anchored}
 use Rattle.dcel_maps.proofs.walks.Links.{half-below, links_stand}
 use Rattle.dcel_maps.proofs.words.Faces.{KeepsFace}
-use Rattle.dcel_maps.proofs.words.Triangles.{is_triangle, triangle-word}
 
 -- three edges from the vertex `tip` to the corners of the triangle (a, b, c) of the face f: the half edges from n on, and two faces more,
 -- l and l + 1; x, y and z are where a, b and c start
@@ -63,52 +63,44 @@ module _ {V DE UE F : Type 0} (m : Mesh V DE UE F) (mesh : IsMesh m) (f a b c ti
   sound : Sound S
   sound = map-sound mesh.sound
 
-  new : (h : ℕ) → n ≤ h → h < n + 6 → Live T h
-  new = after-new m.shape g mesh.sized.within
-
   below : (h : ℕ) → IsLive m.shape h → h < n
   below = half-below m.shape
 
-  -- a half edge x that was there, with new ones after and before it
-  sector : (k x y z i j : ℕ) → n + i ≡ y → n + j ≡ z → i < 6 → j < 6 → i ≢ j → IsLive m.shape x
-      → puts (next_of m.shape) g.next.set x ≡ y → puts (prev_of m.shape) g.prev.set x ≡ z → puts (face_of m.shape) g.face.set x ≡ k
-      → slice_index g.next.more i ≡ z → slice_index g.next.more j ≡ x → slice_index g.prev.more i ≡ x → slice_index g.prev.more j ≡ y
-      → slice_index g.face.more i ≡ k → slice_index g.face.more j ≡ k → IsTriangleOf T k x y z
-  sector k x y z i j y_is z_is i_in j_in differs live next_x prev_x face_x next_y next_z prev_y prev_z face_y face_z = record {
-    live_x = after-still m.shape g x live;
-    live_y = new y (omega (arith, y_is)) (omega (arith, y_is, i_in));
-    live_z = new z (omega (arith, z_is)) (omega (arith, z_is, j_in));
-    next_x = after-next m.shape g x live ∙ next_x;
-    next_y = ap T.next (sym y_is) ∙ patched_at-new _ n g.next i ∙ next_y;
-    next_z = ap T.next (sym z_is) ∙ patched_at-new _ n g.next j ∙ next_z;
-    prev_x = after-prev m.shape g x live ∙ prev_x;
-    prev_y = ap T.prev (sym y_is) ∙ patched_at-new _ n g.prev i ∙ prev_y;
-    prev_z = ap T.prev (sym z_is) ∙ patched_at-new _ n g.prev j ∙ prev_z;
-    face_x = after-face m.shape g x live ∙ face_x;
-    face_y = ap T.face (sym y_is) ∙ patched_at-new _ n g.face i ∙ face_y;
-    face_z = ap T.face (sym z_is) ∙ patched_at-new _ n g.face j ∙ face_z;
-    x≢y = λ is. omega (arith, is, below x live, y_is);
-    y≢z = λ is. differs (omega (arith, is, y_is, z_is));
-    x≢z = λ is. omega (arith, is, below x live, z_is);
-  }
-
-  first : IsTriangleOf T f a n (n + 5)
-  first =
-      sector f a n (n + 5) 0 5 (add-zero n) refl (omega arith) (omega arith) (λ is. omega (arith, is)) was.live_x
+  -- the half edges that were there
+  at_a : IsLinked T f (n + 5) a n
+  at_a =
+      linked-old m.shape g f (n + 5) a n was.live_x
       (puts_here _ a n ((b, n + 2) ∷ (c, n + 4) ∷ []) (was.x≢y, (was.x≢z, tt)))
       (puts_here _ a (n + 5) ((b, n + 1) ∷ (c, n + 3) ∷ []) (was.x≢y, (was.x≢z, tt)))
-      (puts_here _ a f ((b, l) ∷ (c, l + 1) ∷ []) (was.x≢y, (was.x≢z, tt))) refl refl refl refl refl refl
+      (puts_here _ a f ((b, l) ∷ (c, l + 1) ∷ []) (was.x≢y, (was.x≢z, tt)))
+
+  at_b : IsLinked T l (n + 1) b (n + 2)
+  at_b =
+      linked-old m.shape g l (n + 1) b (n + 2) was.live_y
+      (puts_here _ b (n + 2) ((c, n + 4) ∷ []) (was.y≢z, tt))
+      (puts_here _ b (n + 1) ((c, n + 3) ∷ []) (was.y≢z, tt))
+      (puts_here _ b l ((c, l + 1) ∷ []) (was.y≢z, tt))
+
+  at_c : IsLinked T (l + 1) (n + 3) c (n + 4)
+  at_c =
+      linked-old m.shape g (l + 1) (n + 3) c (n + 4) was.live_z
+      (puts_here _ c (n + 4) [] tt) (puts_here _ c (n + 3) [] tt) (puts_here _ c (l + 1) [] tt)
+
+  -- each with two new ones
+  first : IsTriangleOf T f a n (n + 5)
+  first =
+      linked-corner m.shape g mesh.sized.within f a n (n + 5) 0 5 was.live_x at_a (add-zero n) refl (omega arith) (omega arith) (λ is. omega (arith, is))
+      refl refl refl refl refl refl
 
   second : IsTriangleOf T l b (n + 2) (n + 1)
   second =
-      sector l b (n + 2) (n + 1) 2 1 refl refl (omega arith) (omega arith) (λ is. omega (arith, is)) was.live_y
-      (puts_here _ b (n + 2) ((c, n + 4) ∷ []) (was.y≢z, tt)) (puts_here _ b (n + 1) ((c, n + 3) ∷ []) (was.y≢z, tt))
-      (puts_here _ b l ((c, l + 1) ∷ []) (was.y≢z, tt)) refl refl refl refl refl refl
+      linked-corner m.shape g mesh.sized.within l b (n + 2) (n + 1) 2 1 was.live_y at_b refl refl (omega arith) (omega arith) (λ is. omega (arith, is))
+      refl refl refl refl refl refl
 
   third : IsTriangleOf T (l + 1) c (n + 4) (n + 3)
   third =
-      sector (l + 1) c (n + 4) (n + 3) 4 3 refl refl (omega arith) (omega arith) (λ is. omega (arith, is)) was.live_z
-      (puts_here _ c (n + 4) [] tt) (puts_here _ c (n + 3) [] tt) (puts_here _ c (l + 1) [] tt) refl refl refl refl refl refl
+      linked-corner m.shape g mesh.sized.within (l + 1) c (n + 4) (n + 3) 4 3 was.live_z at_c refl refl (omega arith) (omega arith) (λ is. omega (arith, is))
+      refl refl refl refl refl refl
 
   -- the other half edges stay
   next_other : (h : ℕ) → IsLive m.shape h → Off h a b c → T.next h ≡ next_of m.shape h
@@ -120,19 +112,13 @@ module _ {V DE UE F : Type 0} (m : Mesh V DE UE F) (mesh : IsMesh m) (f a b c ti
   face_other : (h : ℕ) → IsLive m.shape h → Off h a b c → T.face h ≡ face_of m.shape h
   face_other h live off = after-face m.shape g h live ∙ puts_away _ g.face.set h (off.0, (off.1, (off.2, tt)))
 
-  -- each live half edge is on one of the new triangles, or stays
-  each : (P : ℕ → Type 0) → P a → P b → P c → P n → P (n + 1) → P (n + 2) → P (n + 3) → P (n + 4) → P (n + 5)
+  -- what holds on the three triangles, and of what stays, holds of each live half edge
+  each : (P : ℕ → Type 0) → P a × P n × P (n + 5) → P b × P (n + 2) × P (n + 1) → P c × P (n + 4) × P (n + 3)
       → ((h : ℕ) → IsLive m.shape h → Off h a b c → P h) → (h : ℕ) → Live T h → P h
-  each P at_a at_b at_c p0 p1 p2 p3 p4 p5 rest =
+  each P on_first on_second on_third rest =
       after-each m.shape g P
-      (λ h live. elim (cases_eq h a) [
-        | inl is ↦ subst P (sym is) at_a
-        | inr not_a ↦ elim (cases_eq h b) [
-          | inl is ↦ subst P (sym is) at_b
-          | inr not_b ↦ elim (cases_eq h c) [ inl is ↦ subst P (sym is) at_c | inr not_c ↦ rest h live (not_a, not_b, not_c) ]
-        ]
-      ])
-      (((((p0, p1), p2), p3), p4), p5)
+      (λ h live. by_triangle P a b c h (on_first.0, on_second.0, on_third.0) (rest h live))
+      (((((on_first.1, on_second.2), on_second.1), on_third.2), on_third.1), on_first.2)
 
   old_face : (h : ℕ) → IsLive m.shape h → face_of m.shape h < l
   old_face = sound.below_faces
@@ -142,31 +128,28 @@ module _ {V DE UE F : Type 0} (m : Mesh V DE UE F) (mesh : IsMesh m) (f a b c ti
 
   second_alone : Alone T l b (n + 2) (n + 1)
   second_alone =
-      each (λ h. T.face h ≡ l → (h ≡ b) ⊎ ((h ≡ n + 2) ⊎ (h ≡ n + 1)))
-      (λ at. absurd (omega (arith, sym first.face_x ∙ at, f_below))) (λ at. inl refl) (λ at. absurd (omega (arith, sym third.face_x ∙ at)))
-      (λ at. absurd (omega (arith, sym first.face_y ∙ at, f_below))) (λ at. inr (inr refl)) (λ at. inr (inl refl))
-      (λ at. absurd (omega (arith, sym third.face_z ∙ at))) (λ at. absurd (omega (arith, sym third.face_y ∙ at)))
-      (λ at. absurd (omega (arith, sym first.face_z ∙ at, f_below)))
+      let P : ℕ → Type 0 = λ h. (h ≡ b) ⊎ ((h ≡ n + 2) ⊎ (h ≡ n + 1)) in
+      each (λ h. T.face h ≡ l → P h)
+      (off_another T f a n (n + 5) first l (λ is. omega (arith, is, f_below)) P)
+      (λ at. inl refl, λ at. inr (inl refl), λ at. inr (inr refl))
+      (off_another T (l + 1) c (n + 4) (n + 3) third l (λ is. omega (arith, is)) P)
       (λ h live off at. absurd (omega (arith, old_face h live, sym (face_other h live off) ∙ at)))
 
   third_alone : Alone T (l + 1) c (n + 4) (n + 3)
   third_alone =
-      each (λ h. T.face h ≡ l + 1 → (h ≡ c) ⊎ ((h ≡ n + 4) ⊎ (h ≡ n + 3)))
-      (λ at. absurd (omega (arith, sym first.face_x ∙ at, f_below))) (λ at. absurd (omega (arith, sym second.face_x ∙ at))) (λ at. inl refl)
-      (λ at. absurd (omega (arith, sym first.face_y ∙ at, f_below))) (λ at. absurd (omega (arith, sym second.face_z ∙ at)))
-      (λ at. absurd (omega (arith, sym second.face_y ∙ at))) (λ at. inr (inr refl)) (λ at. inr (inl refl))
-      (λ at. absurd (omega (arith, sym first.face_z ∙ at, f_below)))
+      let P : ℕ → Type 0 = λ h. (h ≡ c) ⊎ ((h ≡ n + 4) ⊎ (h ≡ n + 3)) in
+      each (λ h. T.face h ≡ l + 1 → P h)
+      (off_another T f a n (n + 5) first (l + 1) (λ is. omega (arith, is, f_below)) P)
+      (off_another T l b (n + 2) (n + 1) second (l + 1) (λ is. omega (arith, is)) P)
+      (λ at. inl refl, λ at. inr (inl refl), λ at. inr (inr refl))
       (λ h live off at. absurd (omega (arith, old_face h live, sym (face_other h live off) ∙ at)))
-
-  tip_parts : (tip < m.shape.vertices) × (gives_up_vertex m.shape.removal tip ≡ false)
-  tip_parts = vertex_live-parts m.shape tip unconnected.live
 
   is_insert : Insert S T f a b c tip n
   is_insert = record {
     twice = refl;
     was = was;
     isolated = unconnected.bare;
-    vertex_room = tip_parts.0;
+    vertex_room = (vertex_live-parts m.shape tip unconnected.live).0;
     first = first;
     second = second;
     third = third;
@@ -196,53 +179,25 @@ module _ {V DE UE F : Type 0} (m : Mesh V DE UE F) (mesh : IsMesh m) (f a b c ti
   keeps_face k k_in differs =
       let off : (h : ℕ) → face_of m.shape h ≡ k → Off h a b c = λ h at. off_face S f a b c was h (λ is. differs (sym at ∙ is)) in
       record {
-        comes = each (λ h. T.face h ≡ k → IsLive m.shape h × (face_of m.shape h ≡ k))
-            (λ at. absurd (differs (sym at ∙ first.face_x))) (λ at. absurd (omega (arith, k_in, sym second.face_x ∙ at)))
-            (λ at. absurd (omega (arith, k_in, sym third.face_x ∙ at))) (λ at. absurd (differs (sym at ∙ first.face_y)))
-            (λ at. absurd (omega (arith, k_in, sym second.face_z ∙ at))) (λ at. absurd (omega (arith, k_in, sym second.face_y ∙ at)))
-            (λ at. absurd (omega (arith, k_in, sym third.face_z ∙ at))) (λ at. absurd (omega (arith, k_in, sym third.face_y ∙ at)))
-            (λ at. absurd (differs (sym at ∙ first.face_z))) (λ h live beside at. (live, sym (face_other h live beside) ∙ at));
+        comes =
+            let P : ℕ → Type 0 = λ h. IsLive m.shape h × (face_of m.shape h ≡ k) in
+            each (λ h. T.face h ≡ k → P h)
+            (off_another T f a n (n + 5) first k (λ is. differs (sym is)) P)
+            (off_another T l b (n + 2) (n + 1) second k (λ is. omega (arith, is, k_in)) P)
+            (off_another T (l + 1) c (n + 4) (n + 3) third k (λ is. omega (arith, is, k_in)) P)
+            (λ h live beside at. (live, sym (face_other h live beside) ∙ at));
         live = λ h live at. after-still m.shape g h live;
         next = λ h live at. next_other h live (off h at);
         prev = λ h live at. prev_other h live (off h at);
         face = λ h live at. face_other h live (off h at) ∙ at;
       }
 
-  -- what starts at another vertex starts where a corner was
-  keeps_vertex : (v : ℕ) → v ≢ tip → KeepsLabel S T (origin_of m.shape) T.origin v
-  keeps_vertex v differs =
-      let o = is_insert in
-      still_labelled m.shape g (origin_of m.shape) T.origin v (after-origin m.shape g) (
-        (
-          (
-            (
-              (λ at. record { half = b; live = was.live_y; is = sym o.origin_0 ∙ at }, λ at. absurd (differs (sym at ∙ o.origin_1))),
-              λ at. record { half = c; live = was.live_z; is = sym o.origin_2 ∙ at },
-            ),
-            λ at. absurd (differs (sym at ∙ o.origin_3)),
-          ),
-          λ at. record { half = a; live = was.live_x; is = sym o.origin_4 ∙ at },
-        ),
-        λ at. absurd (differs (sym at ∙ o.origin_5)),
-      )
-
-  starts : (h : ℕ) → Live T h → gives_up_vertex m.shape.removal (T.origin h) ≡ false
-  starts =
-      let o = is_insert in
-      let kept : (h : ℕ) → IsLive m.shape h → gives_up_vertex m.shape.removal (origin_of m.shape h) ≡ false =
-      λ h live. (start-parts m.shape mesh.sound h live).1 in
-      let is : (h v : ℕ) → T.origin h ≡ v → gives_up_vertex m.shape.removal v ≡ false → gives_up_vertex m.shape.removal (T.origin h) ≡ false =
-      λ h v at not_given. ap (gives_up_vertex m.shape.removal) at ∙ not_given in
-      after-each m.shape g (λ h. gives_up_vertex m.shape.removal (T.origin h) ≡ false)
-      (λ h live. is h _ (after-origin m.shape g h live) (kept h live)) (
-        (
-          (
-            ((is n _ o.origin_0 (kept b was.live_y), is (n + 1) tip o.origin_1 tip_parts.1), is (n + 2) _ o.origin_2 (kept c was.live_z)),
-            is (n + 3) tip o.origin_3 tip_parts.1,
-          ),
-          is (n + 4) _ o.origin_4 (kept a was.live_x),
-        ),
-        is (n + 5) tip o.origin_5 tip_parts.1,
+  -- the new half edges start at the tip, or at a corner
+  new_starts : NewStart m.shape g tip
+  new_starts =
+      let o = is_insert in (
+        ((((inr (b, was.live_y, o.origin_0), inl o.origin_1), inr (c, was.live_z, o.origin_2)), inl o.origin_3), inr (a, was.live_x, o.origin_4)),
+        inl o.origin_5,
       )
 
   pub insertion_is_edit : IsEdit m g
@@ -257,26 +212,26 @@ module _ {V DE UE F : Type 0} (m : Mesh V DE UE F) (mesh : IsMesh m) (f a b c ti
     };
     sound = keeps.0;
     sphere = keeps.1;
-    starts = starts;
+    starts = starts-new m mesh g (after-origin m.shape g) tip unconnected.live new_starts;
     words = (
       (
-        record { word = triangle-word T keeps.0 f a n (n + 5) first (below a was.live_x) (omega (arith, below a was.live_x)); full = λ e. cc },
-        subst (λ k. face_is_live m.shape k ≡ true) was.face_x (face-live mesh.sound a was.live_x),
+        triangle_full-least T keeps.0 f a n (n + 5) first (below a was.live_x) (omega (arith, below a was.live_x)),
+        face_live-at m mesh f a was.live_x was.face_x,
       ),
       tt,
     );
     new_words = (
-      record { word = triangle-word T keeps.0 l b (n + 2) (n + 1) second (omega (arith, below b was.live_y)) (omega (arith, below b was.live_y)); full = λ e. cc },
+      triangle_full-least T keeps.0 l b (n + 2) (n + 1) second (omega (arith, below b was.live_y)) (omega (arith, below b was.live_y)),
       (
-        record { word = triangle-word T keeps.0 (l + 1) c (n + 4) (n + 3) third (omega (arith, below c was.live_z)) (omega (arith, below c was.live_z)); full = λ e. cc },
+        triangle_full-least T keeps.0 (l + 1) c (n + 4) (n + 3) third (omega (arith, below c was.live_z)) (omega (arith, below c was.live_z)),
         tt,
       ),
     );
     other_words = λ k k_in off. keeps_face k k_in off.0;
     outer = λ u lives off. (a / 2, was.live_x);
-    vertex_anchors = ((new (n + 1) (omega arith) (omega arith), is_insert.origin_1), tt);
+    vertex_anchors = ((second.live_z, is_insert.origin_1), tt);
     new_vertex_anchors = tt;
-    other_vertices = λ v v_in off. keeps_vertex v off.0;
+    other_vertices = λ v v_in off. start_labelled m.shape g (after-origin m.shape g) tip new_starts v off.0;
     face_anchors = tt;
     new_face_anchors = ((second.live_x, second.face_x), ((third.live_x, third.face_x), tt));
     other_faces = λ k k_in off. elim (cases_eq k f) [
@@ -298,10 +253,8 @@ module _ {V DE UE F : Type 0} (m : Mesh V DE UE F) (mesh : IsMesh m) (f a : ℕ)
 
   pub anchored_triangle : IsTriangleOf (map_of m.shape) f a (next_of m.shape a) (prev_of m.shape a)
   anchored_triangle =
-      let sound = map-sound mesh.sound in
-      let three = ap (λ k. length (word_of m.shape.words k)) lies.1 ∙ triangle.three in
       subst (λ k. IsTriangleOf (map_of m.shape) k a (next_of m.shape a) (prev_of m.shape a)) lies.1
-      (triangle_at (map_of m.shape) sound a lies.0 ((is_triangle (map_of m.shape) m.shape.words stands a lies.0 sound).0 three))
+      (triangle_of m mesh a lies.0 (subst (λ k. IsTriangle m.shape k) (sym lies.1) triangle))
 
   module _ (tip : ℕ) (halves : List DE) (edges : List UE) (faces : List F) where
     abbrev pub inserted : Change V DE UE F

@@ -1,7 +1,7 @@
 -- Lists with some items replaced and more put at the end; and functions of numbers that are changed in the same way.
-use Rattle.std.proofs.Common.{◌≡◌, ◌≢◌, inl, inr, ℕ, zero, suc, ◌+◌, ◌-◌, ◌<◌, ◌≤◌, List, [], ◌∷◌, ◌++◌, length, slice_index, slice_index_or, slice_set, nat_lt, cond, lt-ltb, le-ltb, refl, sym, ap, ◌∙◌, subst, arith}
+use Rattle.std.proofs.Common.{◌≡◌, ◌≢◌, inl, inr, ℕ, zero, suc, ◌+◌, ◌-◌, ◌<◌, ◌≤◌, List, [], ◌∷◌, ◌++◌, length, map, slice_index, slice_index_or, slice_set, nat_lt, cond, lt-ltb, le-ltb, refl, sym, ap, ◌∙◌, subst, arith}
 use Rattle.std.proofs.lemmas.Bool.{cases_eq, cases_lt, cond-true, cond-false}
-use Rattle.std.proofs.lemmas.List.{get_or-set_same, get_or-set_other, get_or_append_left, get_or-append-add, length-append, length-set}
+use Rattle.std.proofs.lemmas.List.{ext_get_or, get_or-map, get_or-set_same, get_or-set_other, get_or_append_left, get_or-append-add, length-append, length-map, length-set}
 use Rattle.dcel_maps.proofs.maps.Updates.{put, put_other, put_same}
 
 -- what becomes of a list: items that are replaced, one after the other, and items that are put at its end
@@ -73,6 +73,18 @@ each-from : {A : Type 0} (P : ℕ → A → Type 0) (d : A) (n : ℕ) (l : List 
 each-from P d n [] each k j within at = absurd (omega (arith, within))
 each-from P d n (a ∷ r) each k zero within at = let here : n ≡ k = omega (arith, at) in subst (λ i. P i a) here each.0
 each-from P d n (a ∷ r) each k (suc j) within at = each-from P d (n + 1) r each.1 k j (omega (arith, within)) (omega (arith, at))
+
+-- a function that changes one item alone replaces it
+pub map-set : {A : Type 0} (g : A → A) (d : A) (l : List A) (i : ℕ) → i < length l
+    → ((k : ℕ) → k < length l → k ≢ i → g (slice_index_or l k d) ≡ slice_index_or l k d) → map g l ≡ slice_set l i (g (slice_index_or l i d))
+map-set g d l i within stays =
+    let long = length-map l g in
+    ext_get_or d (map g l) (slice_set l i (g (slice_index_or l i d))) (long ∙ sym (length-set l i (g (slice_index_or l i d)))) (λ k below.
+    let k_in : k < length l = omega (arith, below, long) in
+    get_or-map g l k d d k_in ∙ elim (cases_eq k i) [
+      | inl is ↦ ap (λ j. g (slice_index_or l j d)) is ∙ sym (get_or-set_same l i (g (slice_index_or l i d)) d within) ∙ ap (λ j. slice_index_or (slice_set l i (g (slice_index_or l i d))) j d) (sym is)
+      | inr differs ↦ stays k k_in differs ∙ sym (get_or-set_other l i k (g (slice_index_or l i d)) d differs)
+    ])
 
 -- what holds of the items that are put in, and of those that stay, holds of each
 pub each-patched : {A : Type 0} (P : ℕ → A → Type 0) (d : A) (l : List A) (p : Patch A) (n : ℕ) → length l ≡ n

@@ -1,21 +1,22 @@
 -- A spur put into a mesh: an edge from the end of a half edge to a vertex that had none.
-use Rattle.std.proofs.Common.{◌≡◌, ◌≢◌, inl, inr, ℕ, ◌+◌, ◌*◌, ◌/◌, ◌<◌, false, List, [], ◌∷◌, length, Some, add-zero, refl, sym, ap, ◌∙◌, subst, arith}
+use Rattle.std.proofs.Common.{◌≡◌, ◌≢◌, inl, inr, ℕ, ◌+◌, ◌*◌, ◌/◌, List, [], ◌∷◌, length, Some, add-zero, refl, sym, ap, ◌∙◌, arith}
 use Rattle.std.proofs.lemmas.Bool.{cases_eq}
 use Rattle.dcel_fixed.specs.HalfEdges.{rev}
 use Rattle.dcel_fixed.proofs.Halves.{rev-double-suc}
 use Rattle.dcel_maps.specs.Conditions.{HasRoom, IsUnconnected}
 use Rattle.dcel_maps.specs.Maps.{Live, Map}
 use Rattle.dcel_maps.specs.theory.Sound.{Sound, Sphere}
-use Rattle.dcel_maps.specs.Removals.{gives_up_edge, gives_up_vertex}
 use Rattle.dcel_maps.specs.Shapes.{IsLive, IsMesh, Mesh, face_anchor, face_of, map_of, next_of, origin_of}
 use Rattle.dcel_maps.specs.theory.Standing.{Stands}
-use Rattle.dcel_maps.specs.Words.{become, count_of, word_of}
-use Rattle.dcel_maps.proofs.Liveness.{is_live-past, vertex_live-parts, start-parts}
+use Rattle.dcel_maps.specs.Words.{become, word_of}
+use Rattle.dcel_maps.proofs.Liveness.{vertex_live-parts}
 use Rattle.dcel_maps.proofs.edits.Changes.{Change, IsEdit, fits_with, map_after}
-use Rattle.dcel_maps.proofs.edits.Growing.{after-each, after-edge, after-face, after-pair, after-next, after-origin, after-prev, still_labelled}
+use Rattle.dcel_maps.proofs.edits.Growing.{after-face, after-grows, after-next, after-origin, after-pair, after-prev, still_labelled}
 use Rattle.dcel_maps.proofs.edits.Patches.{patched_at-first, patched_at-new, pushing, replacing}
+use Rattle.dcel_maps.proofs.edits.Starting.{NewStart, start_labelled, starts-new}
 use Rattle.dcel_maps.proofs.maps.Counts.{Used}
 use Rattle.dcel_maps.proofs.maps.Edits.{Spur}
+use Rattle.dcel_maps.proofs.maps.Growth.{spur_at}
 use Rattle.dcel_maps.proofs.maps.Labels.{KeepsLabel, labelled-kept}
 use Rattle.dcel_maps.proofs.maps.Spurs.{spur_keeps}
 use Rattle.dcel_maps.proofs.maps.Updates.{put_other, put_same}
@@ -23,8 +24,8 @@ use Rattle.dcel_maps.proofs.shapes.Maps.{face-live, map-sound, map-sphere}
 use Rattle.dcel_maps.proofs.shapes.Shown.{word-anchored}
 use Rattle.dcel_maps.proofs.walks.Links.{links_stand, next-live}
 use Rattle.dcel_maps.proofs.words.Becoming.{become_empty}
-use Rattle.dcel_maps.proofs.words.Faces.{word_of_face}
-use Rattle.dcel_maps.proofs.words.Reading.{face-below, stands_in_face}
+use Rattle.dcel_maps.proofs.words.Faces.{word_full, word_of_face}
+use Rattle.dcel_maps.proofs.words.Reading.{face-below}
 use Rattle.dcel_maps.proofs.words.Spurs.{spur-keeps_face, spur_word}
 
 module _ {V DE UE F : Type 0} (m : Mesh V DE UE F) where
@@ -73,25 +74,17 @@ module _ {V DE UE F : Type 0} (m : Mesh V DE UE F) where
     turned : rev (n + 1) ≡ n
     turned = rev-double-suc m.shape.edges
 
-    half : (n + 1) / 2 ≡ m.shape.edges
-    half = omega arith
-
     new_live : Live T n × Live T (n + 1)
     new_live = after-pair m.shape c mesh.sized.within refl
 
-    tip_parts : (tip < m.shape.vertices) × (gives_up_vertex m.shape.removal tip ≡ false)
-    tip_parts = vertex_live-parts m.shape tip unconnected.live
+    sound : Sound S
+    sound = map-sound mesh.sound
 
     is_spur : Spur S T before (n + 1) tip
     is_spur = record {
-      at = record {
-        lives = live;
-        fresh = is_live-past (gives_up_edge m.shape.removal) m.shape.edges ((n + 1) / 2) (omega (arith, half));
-        isolated = unconnected.bare;
-        vertex_room = tip_parts.0;
-      };
+      at = spur_at S sound before (n + 1) tip live (omega arith) unconnected.bare (vertex_live-parts m.shape tip unconnected.live).0;
       drawn = record {
-        grows = record { edge_here = new_live.1; edge_other = λ u differs. after-edge m.shape c u (λ less. omega (arith, less, differs, half)); edges = omega arith; edge_below = omega (arith, half); vertices = add-zero m.shape.vertices };
+        grows = after-grows m.shape c mesh.sized.within refl refl (n + 1) (omega arith) (omega arith);
         origin_h = patched_at-new _ n c.origin 1;
         origin_rev = ap T.origin turned ∙ patched_at-first _ n c.origin;
         origin_other = after-origin m.shape c;
@@ -110,21 +103,20 @@ module _ {V DE UE F : Type 0} (m : Mesh V DE UE F) where
       faces = add-zero (length m.shape.words);
     }
 
-    sound : Sound S
-    sound = map-sound mesh.sound
-
     keeps : Sound T × Sphere T
     keeps = spur_keeps S T before (n + 1) tip is_spur sound (map-sphere mesh.sound mesh.sphere)
 
     words : Stands S m.shape.words
     words = links_stand mesh.sound
 
-    word_full : word_of m.shape.words f ≢ []
-    word_full empty =
-        let none : 0 < count_of before [] = subst (λ w. 0 < count_of before w) empty (stands_in_face S m.shape.words words before live) in omega (arith, none)
+    full : word_of m.shape.words f ≢ []
+    full = word_full S f (word_of m.shape.words f) (word_of_face S m.shape.words words f) before live refl
 
     back : T.origin n ≡ tip
     back = patched_at-first _ n c.origin
+
+    new_starts : NewStart m.shape c tip
+    new_starts = (inl back, inr (after, after_live, is_spur.origin_h))
 
     -- an old or new half edge of f shows that f had one
     same_face : KeepsLabel S T (face_of m.shape) T.face f
@@ -139,14 +131,12 @@ module _ {V DE UE F : Type 0} (m : Mesh V DE UE F) where
       on_live = record { next = (live, tt); prev = (after_live, tt); origin = tt; face = tt };
       sound = keeps.0;
       sphere = keeps.1;
-      starts = after-each m.shape c (λ h. gives_up_vertex m.shape.removal (T.origin h) ≡ false)
-          (λ h lives. rw (after-origin m.shape c h lives) (start-parts m.shape mesh.sound h lives).1)
-          ((rw back tip_parts.1), (rw is_spur.origin_h (start-parts m.shape mesh.sound after after_live).1));
+      starts = starts-new m mesh c (after-origin m.shape c) tip unconnected.live new_starts;
       words = (
         (
           record {
-            word = spur_word S T before (n + 1) tip is_spur sound (omega (arith, half)) n turned (word_of m.shape.words f) (word_of_face S m.shape.words words f);
-            full = λ empty. word_full ((become_empty before ((n + 1) ∷ n ∷ []) (word_of m.shape.words f)).0 empty);
+            word = spur_word S T before (n + 1) tip is_spur sound (omega arith) n turned (word_of m.shape.words f) (word_of_face S m.shape.words words f);
+            full = λ empty. full ((become_empty before ((n + 1) ∷ n ∷ []) (word_of m.shape.words f)).0 empty);
           },
           face-live mesh.sound before live,
         ),
@@ -157,9 +147,7 @@ module _ {V DE UE F : Type 0} (m : Mesh V DE UE F) where
       outer = λ u lives away. (before / 2, live);
       vertex_anchors = ((new_live.0, back), tt);
       new_vertex_anchors = tt;
-      other_vertices = λ v v_in away.
-          still_labelled m.shape c (origin_of m.shape) T.origin v (after-origin m.shape c)
-          (λ at. absurd (away.0 (sym at ∙ back)), λ at. record { half = after; live = after_live; is = sym is_spur.origin_h ∙ at });
+      other_vertices = λ v v_in away. start_labelled m.shape c (after-origin m.shape c) tip new_starts v away.0;
       face_anchors = tt;
       new_face_anchors = tt;
       other_faces = λ k k_in away. elim (cases_eq k f) [

@@ -112,6 +112,41 @@ single P P' f f' label label' n c old cases pn fn others isolated ls =
           (each (λ y. label' n ≡ label' y → Reaches (By f') n y) (λ y py e. absurd (isolated y py (sym (ls y py) ∙ sym e))) (λ e. here) y q) x p;
     }
 
+-- each item x becomes its first and its last part, which are one item or follow each other, and have its label
+pub stretched : (P P' : ℕ → Type 0) (f f' label label' first last : ℕ → ℕ) → Cycles P f label
+    → ((x : ℕ) → P x → P' (first x)) → ((x : ℕ) → P x → P' (last x))
+    → ((y : ℕ) → P' y → (x : ℕ) × P x × ((y ≡ first x) ⊎ (y ≡ last x)))
+    → ((x : ℕ) → P x → (first x ≡ last x) ⊎ (f' (first x) ≡ last x))
+    → ((x : ℕ) → P x → f' (last x) ≡ first (f x))
+    → ((x : ℕ) → P x → label' (first x) ≡ label x) → ((x : ℕ) → P x → label' (last x) ≡ label x) → Cycles P' f' label'
+stretched P P' f f' label label' first last c firsts lasts parts within on l_first l_last =
+    let across : (x : ℕ) → P x → Reaches (By f') (first x) (last x) =
+    λ x p. elim (within x p) [ inl i ↦ subst (λ z. Reaches (By f') (first x) z) i here | inr i ↦ step i ] in
+    let each : (Q : ℕ → Type 0) → ((x : ℕ) → P x → Q (last x)) → ((x : ℕ) → P x → f' (first x) ≡ last x → Q (first x)) → (y : ℕ) → P' y → Q y =
+    λ Q at_last at_first y p.
+    let (x, px, is) = parts y p in
+    elim is [
+      | inr i ↦ subst Q (sym i) (at_last x px)
+      | inl i ↦ subst Q (sym i) (elim (within x px) [ inl j ↦ subst Q (sym j) (at_last x px) | inr j ↦ at_first x px j ])
+    ] in
+    record {
+      stays = each (λ y. P' (f' y))
+          (λ x p. subst P' (sym (on x p)) (firsts (f x) (c.stays x p)))
+          (λ x p i. subst P' (sym i) (lasts x p));
+      along = each (λ y. label' (f' y) ≡ label' y)
+          (λ x p. ap label' (on x p) ∙ l_first (f x) (c.stays x p) ∙ c.along x p ∙ sym (l_last x p))
+          (λ x p i. ap label' i ∙ l_last x p ∙ sym (l_first x p));
+      joined = λ y z p q. joined_by P P' f f' label label' first c
+          (λ x px. then (across x px) (step (on x px)))
+          y z
+          (each (Into P f' label label' first)
+          (λ x px. (f x, c.stays x px, c.along x px ∙ sym (l_last x px), step (on x px)))
+          (λ x px i. (x, px, sym (l_first x px), here)) y p)
+          (each (OutOf P f' label label' first)
+          (λ x px. (x, px, sym (l_last x px), across x px))
+          (λ x px i. (x, px, sym (l_first x px), here)) z q);
+    }
+
 -- one of the two parts of a cut cycle: what is outside the test, and m, which goes from a to q
 part_reaches : (P : ℕ → Type 0) (f f' label : ℕ → ℕ) (arc : ℕ → Bool) (q a m : ℕ) → Cycles P f label
     → f' a ≡ m → f' m ≡ q → arc (f a) ≡ true → ((x : ℕ) → P x → arc x ≡ false → x ≢ a → f' x ≡ f x)

@@ -7,8 +7,8 @@ use Rattle.dcel_maps.specs.theory.Sound.{Sound, Sphere}
 use Rattle.dcel_maps.proofs.maps.Ears.{ear_keeps, two_in}
 use Rattle.dcel_maps.proofs.maps.Edits.{Ear}
 use Rattle.dcel_maps.proofs.maps.Halves.{rev_half, rev_or_same}
-use Rattle.dcel_maps.proofs.maps.Triangles.{Alone, IsTriangleOf, SameLinks}
-use Rattle.dcel_maps.proofs.maps.Updates.{put}
+use Rattle.dcel_maps.proofs.maps.Triangles.{Alone, IsTriangleOf, SameLinks, triangle_kept}
+use Rattle.dcel_maps.proofs.maps.Updates.{put, put_other}
 
 -- the face g is the triangle (p, n, r), and h, the other half of r, stands between k and q on the face f
 pub record HasEar (T : Map) (p n q h g k r f : ℕ) : Type 0 where
@@ -45,7 +45,7 @@ module _ (T : Map) (p n q h g k r f : ℕ) (e : HasEar T p n q h g k r f) where
   M = without_ear T p n q h g k f
 
   -- a half edge that is live without the ear was live, and is no half of its edge
-  pub ear_was_live : (x : ℕ) → Live M x → Live T x × (x ≢ h) × (x ≢ r)
+  ear_was_live : (x : ℕ) → Live M x → Live T x × (x ≢ h) × (x ≢ r)
   unfolding put
   ear_was_live x live =
       let turn = e.turn in
@@ -53,7 +53,7 @@ module _ (T : Map) (p n q h g k r f : ℕ) (e : HasEar T p n q h g k r f) where
       (grind (arith, nat_tests), λ is. grind (arith, nat_tests), λ is. grind (arith, nat_tests))
 
   -- beside it, all is linked as before
-  pub ear_off : (x : ℕ) → x ≢ k → x ≢ p → x ≢ n → x ≢ q → SameLinks T M x
+  ear_off : (x : ℕ) → x ≢ k → x ≢ p → x ≢ n → x ≢ q → SameLinks T M x
   unfolding put
   ear_off x not_k not_p not_n not_q = record {
     next = grind (arith, nat_tests);
@@ -61,14 +61,39 @@ module _ (T : Map) (p n q h g k r f : ℕ) (e : HasEar T p n q h g k r f) where
     face = grind (arith, nat_tests);
   }
 
-  pub ear_other_face : (x : ℕ) → M.face x ≢ f → T.face x ≡ M.face x
+  ear_other_face : (x : ℕ) → M.face x ≢ f → T.face x ≡ M.face x
   unfolding put
   ear_other_face x elsewhere = grind (arith, nat_tests)
+
+  still : (x : ℕ) → Live T x → x ≢ h → x ≢ r → Live M x
+  still x live not_h not_r =
+      put_other T.edge (h / 2) false (x / 2)
+      (λ same. elim (rev_or_same x h same) [ inl is ↦ not_h is | inr is ↦ not_r (is ∙ e.turn) ]) ∙ live
+
+  -- so the other faces stay: a triangle is one, and lies there alone
+  elsewhere : (w : ℕ) → w ≢ f → w ≢ g → (x : ℕ) → Live T x → T.face x ≡ w → Live M x × SameLinks T M x
+  elsewhere w not_f not_g x live at =
+      let a = e.triangle in
+      let apart : (y j : ℕ) → T.face y ≡ j → w ≢ j → x ≢ y = λ y j on differs same. differs (sym at ∙ ap T.face same ∙ on) in (
+        still x live (apart h f e.face_h not_f) (apart r g a.face_z not_g),
+        ear_off x (apart k f e.face_k not_f) (apart p g a.face_x not_g) (apart n g a.face_y not_g) (apart q f e.face_q not_f),
+      )
+
+  pub ear_keeps_triangle : (w : ℕ) → w ≢ f → w ≢ g → (x y z : ℕ) → IsTriangleOf T w x y z → IsTriangleOf M w x y z
+  ear_keeps_triangle w not_f not_g x y z was =
+      let (live_x, at_x) = elsewhere w not_f not_g x was.live_x was.face_x in
+      let (live_y, at_y) = elsewhere w not_f not_g y was.live_y was.face_y in
+      let (live_z, at_z) = elsewhere w not_f not_g z was.live_z was.face_z in
+      triangle_kept T M w x y z was live_x live_y live_z at_x at_y at_z
+
+  pub ear_keeps_alone : (w : ℕ) → w ≢ f → (x y z : ℕ) → Alone T w x y z → Alone M w x y z
+  ear_keeps_alone w not_f x y z alone i live at =
+      alone i (ear_was_live i live).0 (ear_other_face i (λ same. not_f (sym at ∙ same)) ∙ at)
 
   not_on : (x y : ℕ) → T.face x ≡ f → T.face y ≡ g → x ≢ y
   not_on x y at_f at_g same = e.other_face (sym at_f ∙ ap T.face same ∙ at_g)
 
-  is_ear : Ear M T p n q h g
+  pub is_ear : Ear M T p n q h g
   unfolding put
   is_ear =
       let a = e.triangle in
@@ -129,3 +154,26 @@ module _ (T : Map) (p n q h g k r f : ℕ) (e : HasEar T p n q h g k r f) where
   -- where the map without the ear is sound and a sphere, so is the map
   pub has_ear-keeps : Sound M × Sphere M → Sound T × Sphere T
   has_ear-keeps keeps = ear_keeps M T p n q h g is_ear keeps.0 keeps.1
+
+-- two triangles with the edge of h between them, which start where p does and end where q does: the second one is an ear
+pub corner_ear : (T : Map) (f g k h q p n r : ℕ) → IsTriangleOf T f k h q → IsTriangleOf T g p n r → Alone T g p n r → rev h ≡ r → f ≢ g
+    → T.origin h ≡ T.origin p → T.origin r ≡ T.origin q → T.origin p ≢ T.origin q → h / 2 < T.edges → g < T.faces → HasEar T p n q h g k r f
+corner_ear T f g k h q p n r near far alone turn differ start end apart edge_below face_below = record {
+  triangle = far;
+  alone = alone;
+  turn = turn;
+  live = near.live_y;
+  next_k = near.next_x;
+  next_h = near.next_y;
+  prev_h = near.prev_y;
+  prev_q = near.prev_z;
+  face_h = near.face_y;
+  face_k = near.face_x;
+  face_q = near.face_z;
+  other_face = differ;
+  start = start;
+  end = end;
+  apart = apart;
+  edge_below = edge_below;
+  face_below = face_below;
+}

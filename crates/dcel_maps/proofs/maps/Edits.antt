@@ -2,6 +2,7 @@
 use Rattle.std.proofs.Common.{◌≡◌, ◌≢◌, ◌/◌, ◌<◌, ◌≤◌, ◌==◌, ◌||◌, ℕ, Bool, true, false}
 use Rattle.dcel_maps.specs.Maps.{IsBare, Live, Map}
 use Rattle.dcel_fixed.specs.HalfEdges.{rev}
+use Rattle.dcel_maps.proofs.maps.Updates.{put}
 
 -- T has the live edges of S and that of h, numbers enough for both, and as many vertices
 pub record Grows (S T : Map) (h : ℕ) : Type 0 where
@@ -19,7 +20,7 @@ pub record Drawn (S T : Map) (h from to : ℕ) : Type 0 where
   pub origin_rev : T.origin (rev h) ≡ to
   pub origin_other : (x : ℕ) → Live S x → T.origin x ≡ S.origin x
 
--- what a spur asks: the edge of h is not live, and no edge meets the vertex v
+-- what a spur and a subdivision ask: the edge of h is not live, and no edge meets the vertex v
 pub record SpurAt (S : Map) (a h v : ℕ) : Type 0 where
   pub lives : Live S a
   pub fresh : S.edge (h / 2) ≡ false
@@ -43,6 +44,32 @@ pub record Spur (S T : Map) (a h v : ℕ) : Type 0 where
   pub face_h : T.face h ≡ S.face a
   pub face_rev : T.face (rev h) ≡ S.face a
   pub face_other : (x : ℕ) → Live S x → T.face x ≡ S.face x
+  pub faces : T.faces ≡ S.faces
+
+-- the first and the last part of a half edge where h becomes (h, k), and rev h becomes (rev k, rev h)
+abbrev pub first_part : ℕ → ℕ → ℕ → ℕ
+first_part h k = put (λ x. x) (rev h) (rev k)
+
+abbrev pub last_part : ℕ → ℕ → ℕ → ℕ
+last_part h k = put (λ x. x) h k
+
+-- a vertex v put into the middle of an edge: the half edges become their parts, and v is between these
+pub record Subdivide (S T : Map) (h k v : ℕ) : Type 0 where
+  pub at : SpurAt S h k v
+  pub open at use *
+  pub grows : Grows S T k
+  pub open grows use *
+  pub next_last : (x : ℕ) → Live S x → T.next (last_part h k x) ≡ first_part h k (S.next x)
+  pub prev_first : (x : ℕ) → Live S x → T.prev (first_part h k x) ≡ last_part h k (S.prev x)
+  pub next_h : T.next h ≡ k
+  pub prev_k : T.prev k ≡ h
+  pub next_rev : T.next (rev k) ≡ rev h
+  pub prev_rev : T.prev (rev h) ≡ rev k
+  pub origin_first : (x : ℕ) → Live S x → T.origin (first_part h k x) ≡ S.origin x
+  pub origin_k : T.origin k ≡ v
+  pub origin_rev : T.origin (rev h) ≡ v
+  pub face_first : (x : ℕ) → Live S x → T.face (first_part h k x) ≡ S.face x
+  pub face_last : (x : ℕ) → Live S x → T.face (last_part h k x) ≡ S.face x
   pub faces : T.faces ≡ S.faces
 
 -- what a chord asks: the test `arc` holds of the part of the cycle that begins with p and ends before q; the edge of h

@@ -1,16 +1,25 @@
 -- What the edits that add an edge share.
-use Rattle.std.proofs.Common.{◌≡◌, ◌≢◌, ◌⊎◌, inl, inr, ◌+◌, ◌/◌, ◌<◌, ℕ, true, false, sym, refl, ap, ◌∙◌, subst, arith}
+use Rattle.std.proofs.Common.{◌≡◌, ◌≢◌, ◌⊎◌, inl, inr, ◌+◌, ◌/◌, ◌<◌, ◌≤◌, ℕ, true, false, sym, refl, ap, ◌∙◌, subst, arith}
 use Rattle.std.proofs.lemmas.Bool.{cases_eq}
-use Rattle.dcel_maps.specs.Maps.{Connected, Live, Map, NextOrRev, Reaches, ccw, count, starts_edge}
+use Rattle.dcel_maps.specs.Maps.{Connected, IsBare, Live, Map, NextOrRev, Reaches, ccw, count, starts_edge}
 use Rattle.dcel_maps.specs.theory.Sound.{Sound, Sphere, has_word}
 use Rattle.dcel_fixed.specs.HalfEdges.{rev}
 use Rattle.dcel_maps.specs.Maps.Reaches.{go, here}
 use Rattle.dcel_maps.proofs.maps.Counts.{Used, count_more, count_past, edge_past, labels_more, labels_same}
 use Rattle.dcel_maps.proofs.maps.Cycles.{Cycles}
-use Rattle.dcel_maps.proofs.maps.Edits.{Drawn, Grows}
+use Rattle.dcel_maps.proofs.maps.Edits.{Drawn, Grows, SpurAt}
 use Rattle.dcel_maps.proofs.maps.Halves.{both_halves, rev-rev, rev_half, rev_or_same}
 use Rattle.dcel_maps.proofs.maps.Reaching.{reroutes, step, then}
 use Rattle.dcel_maps.proofs.maps.Soundness.{apart_from, live_step, not_of_dead, rev_live, sound_from}
+
+-- an edge past those of the map can lead from a live half edge to a vertex without edges
+pub spur_at : (S : Map) → Sound S → (a h v : ℕ) → Live S a → S.edges ≤ h / 2 → IsBare S v → v < S.vertices → SpurAt S a h v
+spur_at S s a h v live new isolated vertex_room = record {
+  lives = live;
+  fresh = edge_past S s (h / 2) new;
+  isolated = isolated;
+  vertex_room = vertex_room;
+}
 
 -- T has the edge of h, which is not in S, and the edges of S
 pub record Grown (S T : Map) (h : ℕ) : Type 0 where

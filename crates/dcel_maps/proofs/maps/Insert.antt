@@ -6,10 +6,12 @@ use Rattle.dcel_fixed.specs.HalfEdges.{rev}
 use Rattle.dcel_maps.specs.Maps.{Live, Map}
 use Rattle.dcel_maps.specs.theory.Sound.{Sound, Sphere}
 use Rattle.dcel_maps.proofs.maps.Counts.{edge_past}
-use Rattle.dcel_maps.proofs.maps.Eared.{HasEar, ear_off, ear_other_face, ear_was_live, has_ear-keeps, without_ear}
+use Rattle.dcel_maps.proofs.maps.Eared.{HasEar, corner_ear, ear_keeps_alone, ear_keeps_triangle, has_ear-keeps, without_ear}
 use Rattle.dcel_maps.proofs.maps.Edits.{Spur}
+use Rattle.dcel_maps.proofs.maps.Growth.{spur_at}
+use Rattle.dcel_maps.proofs.maps.Halves.{turn_even, turn_odd}
 use Rattle.dcel_maps.proofs.maps.Spurs.{spur_keeps}
-use Rattle.dcel_maps.proofs.maps.Triangles.{Alone, IsTriangleOf, Off, SameLinks, alone_turned, triangle_kept, triangle_turned}
+use Rattle.dcel_maps.proofs.maps.Triangles.{Alone, IsTriangleOf, Off, alone_turned, by_triangle, triangle_turned}
 use Rattle.dcel_maps.proofs.maps.Updates.{put}
 
 -- the vertex v put into the triangle (a, b, c) of the face f, with the half edges from n on: f keeps a, and b and c get new faces
@@ -38,14 +40,6 @@ pub record Insert (S T : Map) (f a b c v n : ℕ) : Type 0 where
   pub vertices : T.vertices ≡ S.vertices
   pub faces : T.faces ≡ S.faces + 2
 
-turn_even : (h k m : ℕ) → h ≡ 2 * m → k ≡ 2 * m + 1 → rev h ≡ k
-unfolding rev
-turn_even h k m even odd = omega arith
-
-turn_odd : (h k m : ℕ) → h ≡ 2 * m + 1 → k ≡ 2 * m → rev h ≡ k
-unfolding rev
-turn_odd h k m odd even = omega arith
-
 module _ (S T : Map) (f a b c v n : ℕ) (s : Sound S) (e : Insert S T f a b c v n) where
   -- without the last ear, and without both
   abbrev one_ear : Map
@@ -71,73 +65,28 @@ module _ (S T : Map) (f a b c v n : ℕ) (s : Sound S) (e : Insert S T f a b c v
 
   last_ear : HasEar T (n + 3) c a (n + 5) (S.faces + 1) n (n + 4) f
   last_ear =
-      let x = e.first in
-      record {
-        triangle = triangle_turned T (S.faces + 1) c (n + 4) (n + 3) e.third;
-        alone = alone_turned T (S.faces + 1) c (n + 4) (n + 3) e.third_alone;
-        turn = turn_fifth;
-        live = x.live_z;
-        next_k = x.next_y;
-        next_h = x.next_z;
-        prev_h = x.prev_z;
-        prev_q = x.prev_x;
-        face_h = x.face_z;
-        face_k = x.face_y;
-        face_q = x.face_x;
-        other_face = λ same. omega (arith, f_below, same);
-        start = e.origin_5 ∙ sym e.origin_3;
-        end = e.origin_4 ∙ sym (e.origin_other a e.was.live_x);
-        apart = λ same. e.isolated a e.was.live_x (sym (e.origin_other a e.was.live_x) ∙ sym same ∙ e.origin_3);
-        edge_below = omega (arith, e.edges, e.twice);
-        face_below = omega (arith, e.faces);
-      }
-
-  -- the map without the last ear at the half edges of f
-  a≢c : a ≢ c
-  a≢c = e.was.x≢z
-
-  b≢c : b ≢ c
-  b≢c = e.was.y≢z
-
-  a≢b : a ≢ b
-  a≢b = e.was.x≢y
-
-  a_below : a < n
-  a_below = below a e.was.live_x
-
-  b_below : b < n
-  b_below = below b e.was.live_y
-
-  c_below : c < n
-  c_below = below c e.was.live_z
+      let corner = triangle_turned T f (n + 5) a n (triangle_turned T f a n (n + 5) e.first) in
+      corner_ear T f (S.faces + 1) n (n + 5) a (n + 3) c (n + 4) corner (triangle_turned T (S.faces + 1) c (n + 4) (n + 3) e.third)
+      (alone_turned T (S.faces + 1) c (n + 4) (n + 3) e.third_alone) turn_fifth (λ same. omega (arith, f_below, same))
+      (e.origin_5 ∙ sym e.origin_3) (e.origin_4 ∙ sym (e.origin_other a e.was.live_x))
+      (λ same. e.isolated a e.was.live_x (sym (e.origin_other a e.was.live_x) ∙ sym same ∙ e.origin_3))
+      (omega (arith, e.edges, e.twice)) (omega (arith, e.faces))
 
   -- the half edges of f are below the new ones, and differ
   old_halves : (a < n) × (b < n) × (c < n) × (a ≢ b) × (b ≢ c) × (a ≢ c)
-  old_halves = (a_below, b_below, c_below, a≢b, b≢c, a≢c)
+  old_halves =
+      let was = e.was in (below a was.live_x, below b was.live_y, below c was.live_z, was.x≢y, was.y≢z, was.x≢z)
 
-  beside : (h : ℕ) → h ≢ n → h ≢ n + 3 → h ≢ c → h ≢ a → SameLinks T one_ear h
-  beside = ear_off T (n + 3) c a (n + 5) (S.faces + 1) n (n + 4) f last_ear
-
-  still : (h : ℕ) → Live T h → h ≢ n + 5 → h ≢ n + 4 → Live one_ear h
-  unfolding put
-  still h live not_fifth not_fourth = grind (arith, nat_tests)
-
+  -- without the last ear, the new triangle of b stays
   second_kept : IsTriangleOf one_ear S.faces b (n + 2) (n + 1)
   second_kept =
-      let y = e.second in
-      triangle_kept T one_ear S.faces b (n + 2) (n + 1) y
-      (still b y.live_x (λ is. omega (arith, is, b_below)) (λ is. omega (arith, is, b_below)))
-      (still (n + 2) y.live_y (λ is. omega (arith, is)) (λ is. omega (arith, is)))
-      (still (n + 1) y.live_z (λ is. omega (arith, is)) (λ is. omega (arith, is)))
-      (beside b (λ is. omega (arith, is, b_below)) (λ is. omega (arith, is, b_below)) b≢c (λ is. a≢b (sym is)))
-      (beside (n + 2) (λ is. omega (arith, is)) (λ is. omega (arith, is)) (λ is. omega (arith, is, c_below)) (λ is. omega (arith, is, a_below)))
-      (beside (n + 1) (λ is. omega (arith, is)) (λ is. omega (arith, is)) (λ is. omega (arith, is, c_below)) (λ is. omega (arith, is, a_below)))
+      ear_keeps_triangle T (n + 3) c a (n + 5) (S.faces + 1) n (n + 4) f last_ear S.faces (λ is. omega (arith, is, f_below)) (λ is. omega (arith, is))
+      b (n + 2) (n + 1) e.second
 
-  second_still_alone : Alone one_ear S.faces b (n + 2) (n + 1)
-  second_still_alone h live at =
-      let elsewhere : one_ear.face h ≢ f = λ same. omega (arith, sym same ∙ at, f_below) in
-      e.second_alone h (ear_was_live T (n + 3) c a (n + 5) (S.faces + 1) n (n + 4) f last_ear h live).0
-      (ear_other_face T (n + 3) c a (n + 5) (S.faces + 1) n (n + 4) f last_ear h elsewhere ∙ at)
+  second_kept_alone : Alone one_ear S.faces b (n + 2) (n + 1)
+  second_kept_alone =
+      ear_keeps_alone T (n + 3) c a (n + 5) (S.faces + 1) n (n + 4) f last_ear S.faces (λ is. omega (arith, is, f_below))
+      b (n + 2) (n + 1) e.second_alone
 
   first_ear : HasEar one_ear (n + 1) b c (n + 3) S.faces n (n + 2) f
   unfolding put
@@ -151,7 +100,7 @@ module _ (S T : Map) (f a b c v n : ℕ) (s : Sound S) (e : Insert S T f a b c v
       let faces = e.faces in
       record {
         triangle = triangle_turned one_ear S.faces b (n + 2) (n + 1) second_kept;
-        alone = alone_turned one_ear S.faces b (n + 2) (n + 1) second_still_alone;
+        alone = alone_turned one_ear S.faces b (n + 2) (n + 1) second_kept_alone;
         turn = turn_third;
         live = grind (arith, nat_tests);
         next_k = grind (arith, nat_tests);
@@ -190,16 +139,8 @@ module _ (S T : Map) (f a b c v n : ℕ) (s : Sound S) (e : Insert S T f a b c v
       let x = e.first in
       let h_in = below h live in
       let olds = old_halves in
-      elim (cases_eq h a) [
-        | inl is ↦ grind (arith, nat_tests)
-        | inr not_a ↦ elim (cases_eq h b) [
-          | inl is ↦ grind (arith, nat_tests)
-          | inr not_b ↦ elim (cases_eq h c) [
-            | inl is ↦ grind (arith, nat_tests)
-            | inr not_c ↦ let other = e.face_other h live (not_a, not_b, not_c) in grind (arith, nat_tests)
-          ]
-        ]
-      ]
+      by_triangle (λ y. no_ear.face y ≡ S.face y) a b c h (grind (arith, nat_tests), grind (arith, nat_tests), grind (arith, nat_tests))
+      (λ off. let other = e.face_other h live off in grind (arith, nat_tests))
 
   -- without both ears it is a spur
   is_spur : Spur S no_ear a n v
@@ -215,7 +156,7 @@ module _ (S T : Map) (f a b c v n : ℕ) (s : Sound S) (e : Insert S T f a b c v
       let edges = e.edges in
       let half : n / 2 ≡ S.edges = omega arith in
       record {
-        at = record { lives = was.live_x; fresh = ap S.edge half ∙ edge_past S s S.edges (omega arith); isolated = e.isolated; vertex_room = e.vertex_room };
+        at = spur_at S s a n v was.live_x (omega arith) e.isolated e.vertex_room;
         drawn = record {
           grows = record { edge_here = grind (arith, nat_tests); edge_other = no_ear_edge; edges = omega arith; edge_below = omega arith; vertices = e.vertices };
           origin_h = e.origin_0 ∙ sym (ap S.origin was.next_x);

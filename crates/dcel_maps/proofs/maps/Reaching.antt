@@ -1,11 +1,15 @@
 -- What is reached by steps.
-use Rattle.std.proofs.Common.{ℕ}
+use Rattle.std.proofs.Common.{◌≡◌, ℕ, subst}
 use Rattle.dcel_maps.specs.Maps.{Reaches}
 use Rattle.dcel_maps.specs.Maps.Reaches.{go, here}
 
 -- what one step reaches is reached
 pub step : {R : ℕ → ℕ → Type 0} {x y : ℕ} → R x y → Reaches R x y
 step s = go s here
+
+-- what is the same is reached by no step
+pub no_step : {R : ℕ → ℕ → Type 0} {x y : ℕ} → x ≡ y → Reaches R x y
+no_step {R} {x} same = subst (Reaches R x) same here
 
 -- one way after another
 pub then : {R : ℕ → ℕ → Type 0} {x y z : ℕ} → Reaches R x y → Reaches R y z → Reaches R x z

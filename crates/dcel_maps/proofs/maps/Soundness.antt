@@ -80,6 +80,13 @@ sound_from M below_edges below_vertices below_faces prev-next next-prev two_ends
 pub next_differs : (M : Map) → Sound M → (x : ℕ) → Live M x → M.next x ≢ x
 next_differs M s x l i = s.two_ends x l (sym (ap M.origin i) ∙ s.origin-next x l)
 
+pub prev_differs : (M : Map) → Sound M → (x : ℕ) → Live M x → M.prev x ≢ x
+prev_differs M s x l i = next_differs M s x l (ap M.next (sym i) ∙ s.next-prev x l)
+
+-- and the one before lies on it too
+pub face_prev : (M : Map) → Sound M → (x : ℕ) → Live M x → M.face (M.prev x) ≡ M.face x
+face_prev M s x l = sym ((face_cycles M s).along (M.prev x) (s.live_prev x l)) ∙ ap M.face (s.next-prev x l)
+
 -- steps stay live
 pub live_step : (M : Map) → Sound M → (x y : ℕ) → Live M x → NextOrRev M x y → Live M y
 live_step M s x y l r = elim r [

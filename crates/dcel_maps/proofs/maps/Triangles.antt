@@ -1,9 +1,12 @@
 -- Triangles of a map.
 use Rattle.std.proofs.Common.{◌≡◌, ◌≢◌, ◌⊎◌, inl, inr, ℕ, refl, sym, ap, ◌∙◌, subst}
+use Rattle.std.proofs.lemmas.Bool.{cases_eq}
+use Rattle.dcel_fixed.specs.HalfEdges.{rev}
 use Rattle.dcel_maps.specs.Maps.{By, Live, Map}
 use Rattle.dcel_maps.specs.theory.Sound.{Sound}
+use Rattle.dcel_maps.proofs.maps.Halves.{rev-rev, rev_differs}
 use Rattle.dcel_maps.proofs.maps.Reaching.{reaches_stays}
-use Rattle.dcel_maps.proofs.maps.Soundness.{face_cycles, next_differs}
+use Rattle.dcel_maps.proofs.maps.Soundness.{face_cycles, next_differs, rev_live}
 
 -- the face f is the triangle (x, y, z)
 pub record IsTriangleOf (M : Map) (f x y z : ℕ) : Type 0 where
@@ -85,6 +88,25 @@ triangle_at M s h live back = triangle_from M s (M.face h) h (M.next h) (M.prev 
 abbrev pub Off : ℕ → ℕ → ℕ → ℕ → Type 0
 Off h x y z = (h ≢ x) × (h ≢ y) × (h ≢ z)
 
+-- what holds of the three, and of h where it is none of them, holds of h
+pub by_triangle : (P : ℕ → Type 0) (x y z h : ℕ) → P x × P y × P z → (Off h x y z → P h) → P h
+by_triangle P x y z h three rest = elim (cases_eq h x) [
+  | inl is ↦ subst P (sym is) three.0
+  | inr not_x ↦ elim (cases_eq h y) [
+    | inl is ↦ subst P (sym is) three.1
+    | inr not_y ↦ elim (cases_eq h z) [ inl is ↦ subst P (sym is) three.2 | inr not_z ↦ rest (not_x, not_y, not_z) ]
+  ]
+]
+
+-- what has another face than a triangle is none of its half edges
+pub off_another : (M : Map) (f x y z : ℕ) → IsTriangleOf M f x y z → (k : ℕ) → f ≢ k → (P : ℕ → Type 0)
+    → (M.face x ≡ k → P x) × (M.face y ≡ k → P y) × (M.face z ≡ k → P z)
+off_another M f x y z a k differs P = (
+  λ at. absurd (differs (sym a.face_x ∙ at)),
+  λ at. absurd (differs (sym a.face_y ∙ at)),
+  λ at. absurd (differs (sym a.face_z ∙ at)),
+)
+
 -- other half edges lie on other faces
 pub off_triangle : (M : Map) → Sound M → (f x y z : ℕ) → IsTriangleOf M f x y z → (h : ℕ) → Live M h → Off h x y z → M.face h ≢ f
 off_triangle M s f x y z a h live (not_x, not_y, not_z) at =
@@ -101,6 +123,21 @@ off_triangle M s f x y z a h live (not_x, not_y, not_z) at =
 pub off_face : (M : Map) (f x y z : ℕ) → IsTriangleOf M f x y z → (h : ℕ) → M.face h ≢ f → Off h x y z
 off_face M f x y z a h away =
     (λ is. away (ap M.face is ∙ a.face_x), λ is. away (ap M.face is ∙ a.face_y), λ is. away (ap M.face is ∙ a.face_z))
+
+-- the other half of one of its half edges lies on another face: else a half edge would come back to where it starts
+pub triangle_faces_another : (M : Map) → Sound M → (f x y z : ℕ) → IsTriangleOf M f x y z → M.face (rev x) ≢ f
+triangle_faces_another M s f x y z a at =
+    let live : Live M (rev x) = rev_live M x a.live_x in
+    let from_y : M.origin y ≡ M.origin (rev x) = ap M.origin (sym a.next_x) ∙ s.origin-next x a.live_x in
+    let from_z : M.origin z ≡ M.origin (rev y) = ap M.origin (sym a.next_y) ∙ s.origin-next y a.live_y in
+    let from_x : M.origin x ≡ M.origin (rev z) = ap M.origin (sym a.next_z) ∙ s.origin-next z a.live_z in
+    elim (cases_eq (rev x) y) [
+      | inl is ↦ s.two_ends z a.live_z (from_z ∙ ap (λ h. M.origin (rev h)) (sym is) ∙ ap M.origin (rev-rev x) ∙ from_x)
+      | inr not_y ↦ elim (cases_eq (rev x) z) [
+        | inl is ↦ s.two_ends y a.live_y (from_y ∙ ap M.origin is ∙ from_z)
+        | inr not_z ↦ off_triangle M s f x y z a (rev x) live (rev_differs x, not_y, not_z) at
+      ]
+    ]
 
 -- T links h as S does
 pub record SameLinks (S T : Map) (h : ℕ) : Type 0 where

@@ -14,14 +14,21 @@ become-cons x zs y r =
       | inr differs ↦ rw (ne_eqb x y differs) refl
     ]
 
+-- what is put in is counted in the place of x
+pub count-replaced : (h x : ℕ) (items w : List ℕ)
+    → count_of h (become x items w) + count_of h (x ∷ []) * count_of x w ≡ count_of h w + count_of h items * count_of x w
+count-replaced h x items [] = omega arith
+count-replaced h x items (y ∷ r) =
+    elim (cases_eq x y) [
+      | inl same ↦
+          let one : count_of h (y ∷ []) ≡ count_of h (x ∷ []) = ap (λ z. count_of h (z ∷ [])) (sym same) in
+          rw (eq-eqb x y same) (omega (arith, one, count-append h items (become x items r), count-replaced h x items r))
+      | inr differs ↦ rw (ne_eqb x y differs) (omega (arith, count-replaced h x items r))
+    ]
+
 pub count-become : (h x : ℕ) (zs w : List ℕ)
     → count_of h (become x (x ∷ zs) w) ≡ count_of h w + count_of h zs * count_of x w
-count-become h x zs [] = omega arith
-count-become h x zs (y ∷ r) =
-    elim (cases_eq x y) [
-      | inl same ↦ rw (become-cons, eq-eqb x y same) (omega (arith, count-append h zs (become x (x ∷ zs) r), count-become h x zs r))
-      | inr differs ↦ rw (become-cons, ne_eqb x y differs) (omega (arith, count-become h x zs r))
-    ]
+count-become h x zs w = omega (arith, count-replaced h x (x ∷ zs) w)
 
 -- a word where x does not stand stays
 pub become-none : (x : ℕ) (items w : List ℕ) → count_of x w ≡ 0 → become x items w ≡ w

@@ -1,5 +1,5 @@
 -- The least form of a cyclic list.
-use Rattle.std.proofs.Common.{◌≡◌, ℕ, ◌≤◌, List, ◌∷◌}
+use Rattle.std.proofs.Common.{◌≡◌, ◌≢◌, ℕ, ◌≤◌, List, [], ◌∷◌, refl}
 use Rattle.dcel_maps.specs.Maps.{Map}
 use Rattle.dcel_maps.specs.theory.Sound.{Sound}
 use Rattle.dcel_maps.specs.theory.Standing.{Follows}
@@ -28,3 +28,8 @@ pub from_least-word : (M : Map) → Sound M → (f x : ℕ) (r : List ℕ) → I
     → ((h : ℕ) → count_of h (x ∷ r) ≤ 1) → IsWordOf M f (from_least (x ∷ r))
 from_least-word M sound f x r cycle single =
     cycle_is_word M sound f x r (from_least (x ∷ r)) cycle single (from_least-turn (x ∷ r)) (IsLeastFirst-from_least (x ∷ r))
+
+pub from_least-full : (M : Map) → Sound M → (f : ℕ) (w : List ℕ) → w ≢ [] → IsCycle (Follows M f) w
+    → ((h : ℕ) → count_of h w ≤ 1) → IsWordOf M f (from_least w)
+from_least-full M sound f [] full cycle single = absurd (full refl)
+from_least-full M sound f (x ∷ r) full cycle single = from_least-word M sound f x r cycle single

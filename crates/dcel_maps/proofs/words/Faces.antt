@@ -1,5 +1,5 @@
 -- Words that stand, face by face.
-use Rattle.std.proofs.Common.{◌≡◌, ◌⊎◌, inl, inr, ℕ, ◌*◌, ◌/◌, ◌<◌, ◌≤◌, List, ◌∷◌, length, refl, subst, ap, sym, ◌∙◌, arith}
+use Rattle.std.proofs.Common.{◌≡◌, ◌≢◌, ◌⊎◌, inl, inr, ℕ, ◌*◌, ◌/◌, ◌<◌, ◌≤◌, List, [], ◌∷◌, length, refl, subst, ap, sym, ◌∙◌, arith}
 use Rattle.std.proofs.lemmas.Bool.{cases_lt}
 use Rattle.std.proofs.lemmas.List.{get_or_past}
 use Rattle.dcel_maps.specs.Maps.{Map, Live, By}
@@ -41,6 +41,10 @@ pub record IsWordOf (M : Map) (f : ℕ) (w : List ℕ) : Type 0 where
   pub cycle : IsCycle (Follows M f) w
   pub once : (x : ℕ) → Live M x → M.face x ≡ f → count_of x w ≡ 1
   pub least : IsLeastFirst w
+
+-- the word of a face on which a half edge lies isn't empty
+pub word_full : (M : Map) (f : ℕ) (w : List ℕ) → IsWordOf M f w → (x : ℕ) → Live M x → M.face x ≡ f → w ≢ []
+word_full M f w word x live at empty = let one : count_of x [] ≡ 1 = subst (λ u. count_of x u ≡ 1) empty (word.once x live at) in omega (arith, one)
 
 -- words that stand are those of their faces
 pub word_of_face : (M : Map) (ws : List (List ℕ)) → Stands M ws → (f : ℕ) → IsWordOf M f (word_of ws f)
@@ -93,6 +97,16 @@ pub record KeepsFace (S T : Map) (f : ℕ) : Type 0 where
   pub next : (x : ℕ) → Live S x → S.face x ≡ f → T.next x ≡ S.next x
   pub prev : (x : ℕ) → Live S x → S.face x ≡ f → T.prev x ≡ S.prev x
   pub face : (x : ℕ) → Live S x → S.face x ≡ f → T.face x ≡ f
+
+-- what each of two edits leaves as it is
+pub keeps_face-then : (S M T : Map) (f : ℕ) → KeepsFace S M f → KeepsFace M T f → KeepsFace S T f
+keeps_face-then S M T f first second = record {
+  comes = λ x live at. let (old, was) = second.comes x live at in first.comes x old was;
+  live = λ x live at. second.live x (first.live x live at) (first.face x live at);
+  next = λ x live at. second.next x (first.live x live at) (first.face x live at) ∙ first.next x live at;
+  prev = λ x live at. second.prev x (first.live x live at) (first.face x live at) ∙ first.prev x live at;
+  face = λ x live at. second.face x (first.live x live at) (first.face x live at);
+}
 
 pub kept_word : (S T : Map) (f : ℕ) (w : List ℕ) → KeepsFace S T f → IsWordOf S f w → IsWordOf T f w
 kept_word S T f w keeps word = record {

@@ -1,6 +1,6 @@
 -- After a spur: the word that it is put into, and the faces that stay.
-use Rattle.std.proofs.Common.{◌≡◌, ◌≢◌, inl, inr, ℕ, ◌*◌, ◌/◌, ◌<◌, ◌≤◌, true, false, List, [], ◌∷◌, map, nat_lt, slice_set, lt-ltb, le-ltb, subst, ap, sym, ◌∙◌, refl, arith}
-use Rattle.std.proofs.lemmas.Bool.{cases_eq, false≢true}
+use Rattle.std.proofs.Common.{◌≡◌, ◌≢◌, inl, inr, ℕ, ◌*◌, ◌/◌, ◌≤◌, true, false, List, [], ◌∷◌, map, nat_lt, slice_set, lt-ltb, le-ltb, subst, ap, sym, ◌∙◌, refl, arith}
+use Rattle.std.proofs.lemmas.Bool.{cases_eq}
 use Rattle.dcel_fixed.specs.HalfEdges.{rev}
 use Rattle.dcel_maps.specs.Maps.{Map, Live}
 use Rattle.dcel_maps.specs.theory.Sound.{Sound}
@@ -13,9 +13,9 @@ use Rattle.dcel_maps.proofs.maps.Halves.{rev_half, rev_differs, rev_or_same}
 use Rattle.dcel_maps.proofs.maps.Soundness.{face_cycles}
 use Rattle.dcel_maps.proofs.maps.Spurs.{spur_grown}
 use Rattle.dcel_maps.proofs.words.Becoming.{IsCycle-become, IsLeastFirst-become, become-none, count-become}
-use Rattle.dcel_maps.proofs.words.Counts.{count-equal, count-other, count-none}
+use Rattle.dcel_maps.proofs.words.Counts.{count-equal, count-other}
 use Rattle.dcel_maps.proofs.words.Faces.{IsWordOf, KeepsFace}
-use Rattle.dcel_maps.proofs.words.Paths.{next_in_word-follows}
+use Rattle.dcel_maps.proofs.words.Standing.{dead_absent, stands_live}
 
 -- a spur changes one word, that of its face
 become_nowhere : (x : ℕ) (items : List ℕ) (ws : List (List ℕ)) → occurs x ws ≡ 0 → map (become x items) ws ≡ ws
@@ -97,10 +97,6 @@ module _ (S T : Map) (a h v : ℕ) (e : Spur S T a h v) (sound : Sound S) where
   -- the word with the spur
   pub spur_word : S.edges ≤ h / 2 → (back : ℕ) → rev h ≡ back → (w : List ℕ) → IsWordOf S f w → IsWordOf T f (become a (a ∷ h ∷ back ∷ []) w)
   spur_word above back turned w word =
-      let lies : (x : ℕ) → 0 < count_of x w → Live S x =
-      λ x found. (next_in_word-follows (Follows S f) w word.cycle x found).live in
-      let dead : (x : ℕ) → S.edge (x / 2) ≡ false → count_of x w ≡ 0 =
-      λ x fresh. count-none x w (λ y found is. false≢true (sym fresh ∙ ap (λ z. S.edge (z / 2)) is ∙ lies y found)) in
       let here : count_of a w ≡ 1 = word.once a e.at.lives refl in
       rw (← turned)
       record {
@@ -108,7 +104,7 @@ module _ (S T : Map) (a h v : ℕ) (e : Spur S T a h v) (sound : Sound S) where
         once = λ x live at.
             let all = rw here at (count-become x a (h ∷ rev h ∷ []) w) in
             let new : x / 2 ≡ h / 2 → count_of x (become a (a ∷ h ∷ rev h ∷ []) w) ≡ 1 =
-            λ same. omega (arith, all, dead x (ap S.edge same ∙ e.at.fresh), count-halves x h same) in
+            λ same. omega (arith, all, dead_absent S f w word x (ap S.edge same ∙ e.at.fresh), count-halves x h same) in
             elim (live_cases S T h grown x live) [
               | inl old ↦
                   omega (arith, all, word.once x old (sym (e.face_other x old) ∙ at), count-halves_other x h (not_new_edge S T h grown x old))
@@ -117,7 +113,7 @@ module _ (S T : Map) (a h v : ℕ) (e : Spur S T a h v) (sound : Sound S) where
             ];
         least = IsLeastFirst-become a (h ∷ rev h ∷ []) w (2 * (h / 2))
             (λ x less. count-halves_other x h (omega arith))
-            (λ x found. let below = sound.below_edges x (lies x found) in omega arith)
+            (λ x found. let below = sound.below_edges x (stands_live S f w word x found).0 in omega arith)
             word.least;
       }
 

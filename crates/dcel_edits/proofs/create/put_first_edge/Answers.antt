@@ -11,6 +11,8 @@ returns g c = adds_edge g.DE.Default.is_default g.UE.Default.is_default (first_e
       c.set_vertex_anchor-2.ensures,
       c.set_vertex_anchor.ensures,
       c.push_edge.ensures,
+      c.links-2.ensures,
+      c.links.ensures,
       c.rev-reversed.ensures,
       c.new_normalized-normalized.ensures,
       rev-double,

@@ -9,6 +9,8 @@ returns g c = adds_edge g.DE.Default.is_default g.UE.Default.is_default (spur_st
     (rw (
       c.set_vertex_anchor.ensures,
       c.push_edge.ensures,
+      c.links-2.ensures,
+      c.links.ensures,
       c.set_prev.ensures,
       c.set_next.ensures,
       c.rev-forth.ensures,

@@ -3,4 +3,4 @@ use Rattle.dcel_fixed.proofs.Halves.{rev-double}
 use Rattle.dcel_edits.proofs.sectors.Sector.new.Goals as goal
 
 pub returns : goal.returns
-returns g c = rw (c.rev.ensures, c.new_normalized-2.ensures, rev-double, c.new_normalized.ensures, c.origin.ensures) refl
+returns g c = rw (c.between.ensures, c.rev.ensures, c.new_normalized-2.ensures, rev-double, c.new_normalized.ensures) refl

@@ -1,0 +1,34 @@
+//! Vertices in the middle of edges.
+
+ghost use Rattle.std.specs.Prelude.{◌≡◌, ◌*◌, [], ◌∷◌, IfOk, OnErr, OnOk};
+ghost use Rattle.dcel_maps.specs.Conditions.{HasRoom, IsBridge, IsUnconnected};
+ghost use Rattle.dcel_maps.specs.edits.DefaultData.{AddsEdge};
+ghost use Rattle.dcel_maps.specs.edits.Split.{edge_split_on_line};
+ghost use Rattle.dcel_maps.specs.Shapes.{IsMesh};
+
+use crate::dcel::Dcel;
+use dcel_edits::split::put_middle;
+use dcel_fixed::{FixedDirectedEdgeHandle, FixedVertexHandle};
+use std::alloc::{AllocError, Allocator};
+
+/// Puts `new_vertex` into the middle of an edge that has one face on both sides. It answers the two halves of the way along `edge`:
+/// `edge` itself, which ends at `new_vertex` now, and a new half edge, which leads on to where `edge` ended. It asks that both halves
+/// of the edge lie on one face ([`is_bridge`](Dcel::is_bridge)), that `new_vertex` has no edge
+/// ([`is_unconnected`](Dcel::is_unconnected)), and for room for one edge. Without memory the mesh is as it was.
+pub fn split_edge_when_all_vertices_on_line<V, DE: Default, UE: Default, F, A: Allocator>(
+    dcel: &mut Dcel<V, DE, UE, F, A>,
+    edge: FixedDirectedEdgeHandle,
+    new_vertex: FixedVertexHandle,
+) -> Result<[FixedDirectedEdgeHandle; 2], AllocError>
+    requires bridge { IsBridge dcel.old.shape edge }
+    requires unconnected { IsUnconnected dcel.old.shape new_vertex }
+    requires room { HasRoom dcel.old.shape 0 1 0 }
+    ensures edit { OnOk result (AddsEdge DE.is_default UE.is_default dcel.new (edge_split_on_line dcel.old edge new_vertex)) }
+    ensures answer { IfOk result (λ halves. halves ≡ edge ∷ 2 * dcel.old.shape.edges ∷ []) }
+    ensures refused { OnErr result (dcel.new ≡ dcel.old) }
+    ensures mesh { IsMesh dcel.new }
+{
+    dcel.store.reserve(0, 1, 0)?;
+    let new_edge = put_middle(&mut dcel.store, edge, new_vertex);
+    Ok([edge, new_edge])
+}
