@@ -1,5 +1,5 @@
 -- What a conversation comes to.
-use Rattle.std.proofs.Common.{◌≡◌, ℕ, List, [], ◌++◌, take, refl, sym, ap, subst, ◌∙◌, append-nil, Bool, true, false, Option}
+use Rattle.std.proofs.Common.{◌≡◌, ℕ, List, [], ◌++◌, ◌<◌, length, take, refl, sym, ap, subst, ◌∙◌, append-nil, Bool, true, false, Option}
 use Rattle.std.specs.Io.KnownBytes.{Consumes, Appends, IsAtEnd}
 use Rattle.std.proofs.KnownBytes.{Consumes-trans}
 use Rattle.std.proofs.lemmas.Bool.{false≢true}
@@ -17,10 +17,10 @@ use Rattle.dcel_text.proofs.Writing.{writes_and}
 abbrev pub origin : Stage
 origin = record { mesh = start; begun = [] }
 
--- a call that gave nothing
-pub consumes_nothing : (a b c : Option (List ℕ)) (bytes buf : List ℕ) (n : ℕ) → Consumes a b bytes → Consumes b c (take n buf) → n ≡ 0 → Consumes a c bytes
-consumes_nothing a b c bytes buf n p q e =
-    subst (Consumes a c) (append-nil bytes) (Consumes-trans a b c bytes [] p (subst (λ (k : ℕ). Consumes b c (take k buf)) e q))
+-- a call that gave nothing, though there was room: all was read
+pub read_out : (a b c : Option (List ℕ)) (bytes buf : List ℕ) (n : ℕ) → Consumes a b bytes → Consumes b c (take n buf) × (n ≡ 0 → 0 < length buf → IsAtEnd c) → n ≡ 0 → 0 < length buf → Consumes a c bytes × IsAtEnd c
+read_out a b c bytes buf n before given none room =
+    (subst (Consumes a c) (append-nil bytes) (Consumes-trans a b c bytes [] before (subst (λ (k : ℕ). Consumes b c (take k buf)) none given.0)), given.1 none room)
 
 -- ---- what the lines are answered
 
@@ -61,12 +61,12 @@ module _ {K : Type 0} {has_failed : K → Bool} {contents : K → Option (List �
   write_failed {limit} {q} {bytes} r f first none last =
       record { bytes = bytes; text = f.text; unended = false; read = r; ended = λ wrong. absurd (false≢true wrong); answered = talk_whole limit q bytes f.text f.leads; written = part_written (written f.writes first none last) }
 
-  pub last_write_failed : {limit : ℕ} {q : Stage} {bytes : List ℕ} {old out new : Writer K} {s t : K} {a b : Option (List ℕ)} → Consumes a b bytes → IsAtEnd b → Serves has_failed contents limit origin q bytes old out → Ends has_failed contents limit q out new
+  pub last_write_failed : {limit : ℕ} {q : Stage} {bytes : List ℕ} {old out new : Writer K} {s t : K} {a b : Option (List ℕ)} → Consumes a b bytes × IsAtEnd b → Serves has_failed contents limit origin q bytes old out → Ends has_failed contents limit q out new
       → old.sink.now ≡ s → old.held ≡ [] → new.sink.now ≡ t → AnswersInPart limit a b (contents s) (contents t)
-  last_write_failed {limit} {q} {bytes} r end f e first none last =
-      record { bytes = bytes; text = f.text ++ e.text; unended = true; read = r; ended = λ _. end; answered = talk_to limit true q bytes f.text e.text f.leads e.goes; written = part_written (written (writes_and f.writes e.writes) first none last) }
+  last_write_failed {limit} {q} {bytes} over f e first none last =
+      record { bytes = bytes; text = f.text ++ e.text; unended = true; read = over.0; ended = λ _. over.1; answered = talk_to limit true q bytes f.text e.text f.leads e.goes; written = part_written (written (writes_and f.writes e.writes) first none last) }
 
-  pub answered_all : {limit : ℕ} {q : Stage} {bytes : List ℕ} {old out new : Writer K} {s t : K} {a b : Option (List ℕ)} → Consumes a b bytes → IsAtEnd b → Serves has_failed contents limit origin q bytes old out → Ends has_failed contents limit q out new
+  pub answered_all : {limit : ℕ} {q : Stage} {bytes : List ℕ} {old out new : Writer K} {s t : K} {a b : Option (List ℕ)} → Consumes a b bytes × IsAtEnd b → Serves has_failed contents limit origin q bytes old out → Ends has_failed contents limit q out new
       → old.sink.now ≡ s → old.held ≡ [] → new.sink.now ≡ t → new.held ≡ [] → has_failed new.sink.now ≡ false → AnswersAll limit a b (contents s) (contents t)
-  answered_all {limit} {q} {bytes} r end f e first none last empty calm =
-      record { bytes = bytes; text = f.text ++ e.text; read = r; ended = end; answered = talk_to limit true q bytes f.text e.text f.leads e.goes; written = all_written (written (writes_and f.writes e.writes) first none last) empty (ap has_failed (sym last) ∙ calm) }
+  answered_all {limit} {q} {bytes} over f e first none last empty calm =
+      record { bytes = bytes; text = f.text ++ e.text; read = over.0; ended = over.1; answered = talk_to limit true q bytes f.text e.text f.leads e.goes; written = all_written (written (writes_and f.writes e.writes) first none last) empty (ap has_failed (sym last) ∙ calm) }

@@ -1,7 +1,9 @@
 pub mod Columns
+pub mod Decided
 pub mod Ending
 pub mod FaceWalks
 pub mod OutEdges
+pub mod Refusing
 pub mod Rounds
 pub mod Serving
 pub mod Spelling

@@ -6,6 +6,7 @@ use Rattle.dcel_maps.specs.Maps.{has_label}
 use Rattle.dcel_maps.specs.Shapes.{Shape, Mesh, IsLive, AnchorsVertex, edge_is_live, map_of, origin_of, vertex_anchor}
 use Rattle.dcel_maps.specs.Walking.{IsOutEdge, ListsOnce, in_mesh}
 use Rattle.dcel_maps.specs.Words.{count_of}
+use Rattle.dcel_maps.proofs.walks.Items.{ComesFirst, first_item, none_left}
 use Rattle.dcel_maps.proofs.words.Counts.{count-same, count-other, count-later}
 use Rattle.dcel_text.specs.Texts.{listed}
 use Rattle.dcel_commands.specs.request.Out.{least_below, least_out}
@@ -75,52 +76,34 @@ least_begins mesh items P least w are stands lists = record {
   seen = λ h p. inl (omega (arith, lists.each h p));
 }
 
-first_of_list : {M : Type 0} (mesh : M) (item : M × ℕ) (items : List (M × ℕ)) (left : List ℕ) → item ∷ items ≡ in_mesh mesh left
-    → (k : ℕ) × (rest : List ℕ) × (left ≡ k ∷ rest) × (item ≡ (mesh, k)) × (items ≡ in_mesh mesh rest)
-first_of_list mesh item items [] e = absurd cc
-first_of_list mesh item items (k ∷ rest) e = (k, rest, refl, head-eq e, tail-eq e)
-  where
-    head-eq : item ∷ items ≡ (mesh, k) ∷ in_mesh mesh rest → item ≡ (mesh, k)
-    head-eq e = cc
-
-    tail-eq : item ∷ items ≡ (mesh, k) ∷ in_mesh mesh rest → items ≡ in_mesh mesh rest
-    tail-eq e = cc
-
-none_left : {M : Type 0} (mesh : M) (l : List ℕ) → [] ≡ in_mesh mesh l → l ≡ []
-none_left mesh [] e = refl
-none_left mesh (x ∷ l) e = absurd cc
-
 -- an item came, and the least so far is it or the old one
 pub least_goes_on : {M : Type 0} (mesh : M) (items more : List (M × ℕ)) (P : ℕ → Type 0) (least : ℕ) (m : M) (k : ℕ) → LeastSeen mesh items P least → items ≡ (m, k) ∷ more
     → (m ≡ mesh) × P k × (k < least → LeastSeen mesh more P k) × (least ≤ k → LeastSeen mesh more P least)
-least_goes_on {M} mesh items more P least m k s e = (ap (λ (x : M × ℕ). x.0) came.3, stands, (λ lt. smaller lt), (λ le. not_smaller le))
+least_goes_on mesh items more P least m k s e = (came.same_mesh, stands, (λ lt. smaller lt), (λ le. not_smaller le))
   where
-    came : (h : ℕ) × (rest : List ℕ) × (s.left ≡ h ∷ rest) × (◌≡◌ {A = M × ℕ} (m, k) (mesh, h)) × (more ≡ in_mesh mesh rest)
-    came = first_of_list mesh (m, k) more s.left (sym e ∙ s.items_are)
-
-    left_is : s.left ≡ k ∷ came.1
-    left_is = came.2 ∙ ap (λ (x : ℕ). x ∷ came.1) (sym (ap (λ (x : M × ℕ). x.1) came.3))
+    came : ComesFirst mesh m k more s.left
+    came = first_item mesh m k more s.left (sym e ∙ s.items_are)
 
     stands : P k
-    stands = s.all_stand k (omega (arith, ap (count_of k) left_is, count-same k came.1))
+    stands = s.all_stand k (omega (arith, ap (count_of k) came.left_is, count-same k came.rest))
 
-    others_stand : (h : ℕ) → 0 < count_of h came.1 → P h
-    others_stand h found = s.all_stand h (omega (arith, ap (count_of h) left_is, count-later h k came.1 found))
+    others_stand : (h : ℕ) → 0 < count_of h came.rest → P h
+    others_stand h found = s.all_stand h (omega (arith, ap (count_of h) came.left_is, count-later h k came.rest found))
 
-    seen_too : (h : ℕ) → P h → (0 < count_of h came.1) ⊎ ((h ≡ k) ⊎ (least ≤ h))
+    seen_too : (h : ℕ) → P h → (0 < count_of h came.rest) ⊎ ((h ≡ k) ⊎ (least ≤ h))
     seen_too h p =
         elim (s.seen h p) [
           | inl found ↦ elim (cases_eq h k) [
             | inl same ↦ inr (inl same)
-            | inr differs ↦ inl (omega (arith, found, ap (count_of h) left_is, count-other h k came.1 differs))
+            | inr differs ↦ inl (omega (arith, found, ap (count_of h) came.left_is, count-other h k came.rest differs))
           ]
           | inr le ↦ inr (inr le)
         ]
 
     smaller : k < least → LeastSeen mesh more P k
     smaller lt = record {
-      left = came.1;
-      items_are = came.4;
+      left = came.rest;
+      items_are = came.more_are;
       stands = stands;
       all_stand = others_stand;
       seen = λ h p. elim (seen_too h p) [
@@ -131,8 +114,8 @@ least_goes_on {M} mesh items more P least m k s e = (ap (λ (x : M × ℕ). x.0)
 
     not_smaller : least ≤ k → LeastSeen mesh more P least
     not_smaller le = record {
-      left = came.1;
-      items_are = came.4;
+      left = came.rest;
+      items_are = came.more_are;
       stands = s.stands;
       all_stand = others_stand;
       seen = λ h p. elim (seen_too h p) [
@@ -163,14 +146,13 @@ listing_begins mesh items whole are = (record { passed = []; left = whole; items
 
 pub listing_goes_on : {M : Type 0} (mesh : M) (items more : List (M × ℕ)) (whole : List ℕ) (m : M) (k : ℕ) (l : ListedSoFar mesh items whole) → items ≡ (m, k) ∷ more
     → (n : ListedSoFar mesh more whole) × (listed n.passed ≡ listed l.passed ++ 32 ∷ decimal k)
-listing_goes_on {M} mesh items more whole m k l e =
-    let came = first_of_list mesh (m, k) more l.left (sym e ∙ l.items_are) in
-    let same : k ≡ came.0 = ap (λ (x : M × ℕ). x.1) came.3 in (
+listing_goes_on mesh items more whole m k l e =
+    let came = first_item mesh m k more l.left (sym e ∙ l.items_are) in (
       record {
         passed = l.passed ++ k ∷ [];
-        left = came.1;
-        items_are = came.4;
-        whole_is = append_assoc l.passed (k ∷ []) came.1 ∙ ap (λ (x : List ℕ). l.passed ++ x) (ap (λ (x : ℕ). x ∷ came.1) same ∙ sym came.2) ∙ l.whole_is;
+        left = came.rest;
+        items_are = came.more_are;
+        whole_is = append_assoc l.passed (k ∷ []) came.rest ∙ ap (λ (x : List ℕ). l.passed ++ x) (sym came.left_is) ∙ l.whole_is;
       },
       listed-push l.passed k,
     )

@@ -74,10 +74,10 @@ leads_begun limit m begun xs h u rest more g =
     subst (λ (x : List (List ℕ)). Talk limit m x more) (sym same) (joined_cut limit u m (begun ++ xs) (lines u rest) more g)
 
 -- the bytes end the line that has begun
-leads_line : (limit : ℕ) (m t : State) (begun xs text : List ℕ) → HasNoFeed xs → Answers limit m (take 4097 (begun ++ xs)) text t
+leads_line : (limit : ℕ) (m t : State) (begun xs text : List ℕ) → HasNoFeed xs → Answers limit m (begun ++ xs) text t
     → Leads limit (record { mesh = m; begun = begun }) (record { mesh = t; begun = [] }) (xs ++ line_feed ∷ []) text
 leads_line limit m t begun xs text h a u rest more g =
-    subst (λ (x : List (List ℕ)). Talk limit m x (text ++ more)) (sym (lines-line u begun xs rest h)) (text, t, more, answers_cut limit m (begun ++ xs) text t a, g, refl)
+    subst (λ (x : List (List ℕ)). Talk limit m x (text ++ more)) (sym (lines-line u begun xs rest h)) (text, t, more, a, g, refl)
 
 -- where no line has begun, the end asks for no text
 goes_nowhere : (limit : ℕ) (p : Stage) → p.begun ≡ [] → Goes limit true p [] []
@@ -96,12 +96,24 @@ module _ {K : Type 0} {has_failed : K → Bool} {contents : K → Option (List �
   pub serves_flushed : {limit : ℕ} {p q : Stage} {xs : List ℕ} {o out new : Writer K} → Serves has_failed contents limit p q xs o out → Writes has_failed contents out new [] → Serves has_failed contents limit p q xs o new
   serves_flushed f w = record { text = f.text; writes = writes_text (append-nil f.text) (writes_and f.writes w); leads = f.leads }
 
-  -- the bytes that were kept of a line are answered, and its place is empty again
-  pub serves_line : {limit : ℕ} {p : Stage} {t : State} {kept begun : List ℕ} (xs : List ℕ) {out new : Writer K} → HasNoFeed xs → kept ≡ take 4097 (p.begun ++ xs) → begun ≡ []
-      → WritesSome has_failed contents out new (λ text. Answers limit p.mesh kept text t) → Serves has_failed contents limit p (record { mesh = t; begun = begun }) (xs ++ line_feed ∷ []) out new
-  serves_line {limit} {p} {t} {kept} {begun} xs {out} {new} h e b w =
+  -- the line that has begun is answered with these last bytes of it, and no other has begun
+  serves_end : {limit : ℕ} {p : Stage} {t : State} {begun : List ℕ} (xs : List ℕ) {out new : Writer K} (w : WritesSome has_failed contents out new (λ text. Answers limit p.mesh (p.begun ++ xs) text t)) → HasNoFeed xs → begun ≡ []
+      → Serves has_failed contents limit p (record { mesh = t; begun = begun }) (xs ++ line_feed ∷ []) out new
+  serves_end {limit} {p} {t} {begun} xs {out} {new} w h b =
       subst (λ (x : List ℕ). Serves has_failed contents limit p (record { mesh = t; begun = x }) (xs ++ line_feed ∷ []) out new) (sym b)
-      (record { text = w.text; writes = w.writes; leads = leads_line limit p.mesh t p.begun xs w.text h (subst (λ (x : List ℕ). Answers limit p.mesh x w.text t) e w.fits) })
+      (record { text = w.text; writes = w.writes; leads = leads_line limit p.mesh t p.begun xs w.text h w.fits })
+
+  -- so it is where what was answered are the bytes that were kept of it
+  pub serves_kept : {limit : ℕ} {p : Stage} {t : State} {kept begun : List ℕ} (xs : List ℕ) {out new : Writer K} → HasNoFeed xs → kept ≡ take 4097 (p.begun ++ xs) → begun ≡ []
+      → WritesSome has_failed contents out new (λ text. Answers limit p.mesh kept text t) → Serves has_failed contents limit p (record { mesh = t; begun = begun }) (xs ++ line_feed ∷ []) out new
+  serves_kept {limit} {p} {t} {kept} {begun} xs {out} {new} h e b w =
+      serves_end {begun = begun} xs (record { text = w.text; writes = w.writes; fits = answers_cut limit p.mesh (p.begun ++ xs) w.text t (subst (λ (x : List ℕ). Answers limit p.mesh x w.text t) e w.fits) }) h b
+
+  -- and where nothing of it came before
+  pub serves_whole : {limit : ℕ} {p : Stage} {t : State} {begun : List ℕ} (xs : List ℕ) {out new : Writer K} → HasNoFeed xs → p.begun ≡ [] → begun ≡ []
+      → WritesSome has_failed contents out new (λ text. Answers limit p.mesh xs text t) → Serves has_failed contents limit p (record { mesh = t; begun = begun }) (xs ++ line_feed ∷ []) out new
+  serves_whole {limit} {p} {t} {begun} xs {out} {new} h e b w =
+      serves_end {begun = begun} xs (record { text = w.text; writes = w.writes; fits = subst (λ (x : List ℕ). Answers limit p.mesh (x ++ xs) w.text t) (sym e) w.fits }) h b
 
   -- the rest of a piece is kept
   pub serves_rest : {limit : ℕ} {p : Stage} {begun xs : List ℕ} {out : Writer K} → HasNoFeed xs → begun ≡ take 4097 (p.begun ++ xs) → Serves has_failed contents limit p (record { mesh = p.mesh; begun = begun }) xs out out

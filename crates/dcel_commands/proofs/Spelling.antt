@@ -7,8 +7,8 @@ use Rattle.std.specs.Str.Parse.{AllDigits}
 use Rattle.std.specs.Fmt.{decimal}
 use Rattle.std.proofs.lemmas.Fmt.{digits_decimal, signed_decimal_injective}
 use Rattle.std.proofs.lemmas.Str.Parse.{digit_from_value}
-use Rattle.dcel_commands.specs.declared.commands.command.Command.TheVariants.{Append, Triangle, Setup, Extend, Insert}
-use Rattle.dcel_commands.specs.declared.request.Query.TheVariants.{Counts, Words, Out, Origin, Check}
+use Rattle.dcel_commands.specs.declared.commands.command.Command.TheVariants.{Append, Triangle, Setup, Extend, Line, Close, Outside, Insert, Half, Split}
+use Rattle.dcel_commands.specs.declared.request.Query.TheVariants.{Counts, Words, Out, Origin, Between, Check}
 use Rattle.dcel_commands.specs.declared.request.Request.{Request}
 use Rattle.dcel_commands.specs.declared.request.Request.TheVariants.{Edit, Ask}
 use Rattle.dcel_commands.specs.Grammar.{Item, Number, Datum, item_text, IsInRange}
@@ -106,11 +106,17 @@ request_of = request_in (
     (codes "triangle", three (λ x y z. Edit (Triangle x y z))) ∷
     (codes "setup", two (λ a b. Edit (Setup (number_in a) (number_in b)))) ∷
     (codes "extend", two (λ a b. Edit (Extend (number_in a) (number_in b)))) ∷
+    (codes "line", two (λ h b. Edit (Line (number_in h) (number_in b)))) ∷
+    (codes "close", one (λ h. Edit (Close (number_in h)))) ∷
+    (codes "outside", two (λ h b. Edit (Outside (number_in h) (number_in b)))) ∷
     (codes "insert", two (λ v f. Edit (Insert (number_in v) (number_in f)))) ∷
+    (codes "half", two (λ h b. Edit (Half (number_in h) (number_in b)))) ∷
+    (codes "split", two (λ h b. Edit (Split (number_in h) (number_in b)))) ∷
     (codes "counts", nothing (Ask Counts)) ∷
     (codes "words", nothing (Ask Words)) ∷
     (codes "out", one (λ v. Ask (Out (number_in v)))) ∷
     (codes "origin", one (λ h. Ask (Origin (number_in h)))) ∷
+    (codes "between", two (λ v w. Ask (Between (number_in v) (number_in w)))) ∷
     (codes "check", nothing (Ask Check)) ∷
     [])
 

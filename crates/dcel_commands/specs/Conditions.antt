@@ -2,8 +2,8 @@
 use Rattle.std.specs.Prelude.{◌≡◌, ◌≢◌, ◌⊎◌, ℕ, ◌+◌, ◌*◌, ◌<◌, ◌≤◌, true, List, [], ◌∷◌, Contains}
 use Rattle.dcel_commands.specs.declared.refusal.Refusal.{Refusal}
 use Rattle.dcel_commands.specs.Refusal.{refusal_number}
-use Rattle.dcel_maps.specs.Conditions.{IsUnconnected, IsLineEnd, IsTriangle}
-use Rattle.dcel_maps.specs.Shapes.{Shape, IsLive, vertex_is_live, face_is_live, face_count}
+use Rattle.dcel_maps.specs.Conditions.{IsUnconnected, IsLineEnd, IsTriangle, IsBridge, CanCloseOutside}
+use Rattle.dcel_maps.specs.Shapes.{Shape, IsLive, vertex_is_live, face_is_live, face_count, face_of}
 
 -- what may be asked
 pub data Condition : Type 0 where
@@ -18,6 +18,10 @@ pub data Condition : Type 0 where
   NoEdge : Condition
   LineEnd : ℕ → Condition
   ThreeHalves : ℕ → Condition
+  OnTriangle : ℕ → Condition
+  Bridge : ℕ → Condition
+  OnOuterFace : ℕ → Condition
+  ClosesOutside : ℕ → Condition
   RoomFor : ℕ → ℕ → ℕ → ℕ → Condition
   RoomForMesh : ℕ → ℕ → ℕ → ℕ → Condition
 
@@ -40,6 +44,10 @@ Meets s (Unconnected v) = IsUnconnected s v
 Meets s NoEdge = s.edges ≡ 0
 Meets s (LineEnd v) = IsLineEnd s v
 Meets s (ThreeHalves f) = IsTriangle s f
+Meets s (OnTriangle h) = IsTriangle s (face_of s h)
+Meets s (Bridge h) = IsBridge s h
+Meets s (OnOuterFace h) = face_of s h ≡ 0
+Meets s (ClosesOutside h) = CanCloseOutside s h
 Meets s (RoomFor limit vertices edges faces) = AreWithin limit (s.vertices + vertices) (s.edges + edges) (face_count s + faces)
 Meets s (RoomForMesh limit vertices edges faces) = AreWithin limit vertices edges faces
 
@@ -66,3 +74,16 @@ entry_number entry = refusal_number entry.0
 abbrev pub IsLeast : Shape → List Entry → Refusal → Type 0
 IsLeast s entries why =
     (refusal : Refusal) (condition : Condition) → Contains entries (refusal, condition) → ¬ Meets s condition → refusal_number why ≤ refusal_number refusal
+
+-- some condition that is asked and isn't met has this refusal
+pub record IsReason (s : Shape) (entries : List Entry) (why : Refusal) : Type 0 where
+  pub condition : Condition
+  pub asked : Contains entries (why, condition)
+  pub unmet : ¬ Meets s condition
+
+-- exactly one refusal answers: that of the first condition that isn't met
+pub record IsRefused (s : Shape) (entries : List Entry) : Type 0 where
+  pub why : Refusal
+  pub first : FirstUnmet s entries why
+  pub no_other : (other : Refusal) → FirstUnmet s entries other → other ≡ why
+  pub reason : IsReason s entries why

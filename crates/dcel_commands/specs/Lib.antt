@@ -2,6 +2,7 @@ pub use Rattle.dcel_text.specs.Lines
 pub use Rattle.dcel_text.specs.Transfer
 pub mod Answering
 pub mod Conditions
+pub mod EdgeAndVertex
 pub mod Grammar
 pub mod Queries
 pub mod Refusal

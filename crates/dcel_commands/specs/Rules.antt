@@ -4,7 +4,7 @@ use Rattle.dcel_commands.specs.declared.commands.reply.Handed.{Handed}
 use Rattle.dcel_commands.specs.declared.commands.reply.Reply.{Reply}
 use Rattle.dcel_commands.specs.Conditions.{Entry}
 use Rattle.dcel_commands.specs.Grammar.{Item}
-use Rattle.dcel_maps.specs.Shapes.{Mesh, Shape}
+use Rattle.dcel_maps.specs.Shapes.{Mesh}
 
 -- of a command: the word that it is written with and what stands after it; what it asks under a limit, in the order of checking;
 -- whether it may be refused for want of memory; the data that come back when it is refused; and which reply and mesh it makes
@@ -17,9 +17,9 @@ pub record CommandRule (V : Type 0) : Type 1 where
   pub handed : Handed V
   pub Makes : {DE UE F : Type 0} → (DE → Type 0) → (UE → Type 0) → (F → Type 0) → Mesh V DE UE F → Reply → Mesh V DE UE F → Type 0
 
--- of a query: how it is written, what it asks, and by which text it may be answered about a shape
+-- of a query: how it is written, what it asks, and by which text it may be answered about a mesh
 pub record QueryRule : Type 1 where
   pub word : List ℕ
   pub given : List (Item ℤ)
   pub asks : List Entry
-  pub Tells : Shape → List ℕ → Type 0
+  pub Tells : {V DE UE F : Type 0} → Mesh V DE UE F → List ℕ → Type 0

@@ -4,11 +4,12 @@ use Rattle.dcel_commands.specs.declared.commands.reply.Refused.{Refused}
 use Rattle.dcel_commands.specs.declared.commands.reply.Reply.{Reply}
 use Rattle.dcel_commands.specs.declared.request.Request.{Request}
 use Rattle.dcel_commands.specs.declared.request.Request.TheVariants.{Edit, Ask}
-use Rattle.dcel_commands.specs.Queries.{Told}
+use Rattle.dcel_commands.specs.Conditions.{Entry}
+use Rattle.dcel_commands.specs.Queries.{Told, query_asks}
 use Rattle.dcel_commands.specs.Replies.{outcome_text}
 use Rattle.dcel_commands.specs.Spelling.{Spells}
 use Rattle.dcel_text.specs.Texts.{ended}
-use Rattle.dcel_commands.specs.Steps.{Carries}
+use Rattle.dcel_commands.specs.Steps.{Carries, asks}
 use Rattle.dcel_maps.specs.edits.Create.{outer_alone}
 use Rattle.dcel_maps.specs.Shapes.{Mesh}
 
@@ -24,11 +25,16 @@ IsZero d = d ≡ pos 0
 abbrev pub start : State
 start = outer_alone (pos 0)
 
+-- what a request asks under a limit
+abbrev pub asked : ℕ → Request → List Entry
+asked limit (Edit command) = asks limit command
+asked limit (Ask query) = query_asks query
+
 -- a command is carried out or refused, and the text is its outcome; a query changes nothing, and the text tells what it asks
 abbrev pub Does : ℕ → State → Request → List ℕ → State → Type 0
 Does limit old (Edit command) text new =
     (outcome : Result Reply (Refused ℤ)) × Carries IsZero IsZero IsZero limit old command outcome new × (text ≡ outcome_text outcome)
-Does limit old (Ask query) text new = Told old.shape query text × (new ≡ old)
+Does limit old (Ask query) text new = Told old query text × (new ≡ old)
 
 -- the text that a line may be answered by, and the mesh that it leaves
 pub data Answers (limit : ℕ) (old : State) (line text : List ℕ) (new : State) : Type 0 where

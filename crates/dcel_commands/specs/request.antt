@@ -1,10 +1,16 @@
 pub mod Append
+pub mod Between
 pub mod Check
+pub mod Close
 pub mod Counts
 pub mod Extend
+pub mod Half
 pub mod Insert
+pub mod Line
 pub mod Origin
 pub mod Out
+pub mod Outside
 pub mod Setup
+pub mod Split
 pub mod Triangle
 pub mod Words

@@ -9,7 +9,7 @@ use crate::commands::apply;
 use crate::reading::read;
 use crate::refusal::Refusal;
 use crate::replies::{write_refusal, write_reply};
-use crate::request::{Query, Request, check, counts, origin, out as out_edges, words};
+use crate::request::{Query, Request, between, check, counts, origin, out as out_edges, words};
 use dcel_text::output::Writer;
 use dcel_text::sink::LineSink;
 use spade_dcel::dcel::Dcel;
@@ -24,13 +24,14 @@ fn tell<A: Allocator, K: LineSink>(
     mesh: &LineMesh<A>,
     query: Query,
 ) -> Result<(), Refusal>
-    ensures { TellsOrRefuses K.has_failed K.contents out.old mesh.now.shape query result out.new }
+    ensures { TellsOrRefuses K.has_failed K.contents out.old mesh.now query result out.new }
 {
     match query {
         Query::Counts => counts::write_counts(out, mesh),
         Query::Words => words::write_words(out, mesh),
         Query::Out(vertex) => out_edges::tell(out, mesh, vertex)?,
         Query::Origin(edge) => origin::tell(out, mesh, edge)?,
+        Query::Between(from, to) => between::tell(out, mesh, from, to)?,
         Query::Check => check::write_check(out, mesh),
     }
     Ok(())

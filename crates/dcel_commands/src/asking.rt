@@ -1,13 +1,14 @@
 //! The parts of what lines ask of a mesh.
 
-ghost use Rattle.std.specs.Prelude.{◌≡◌, ◌↔◌, ◌+◌, ◌<◌, ◌≤◌, ◌^◌, false, IsTrue, MatchResult};
+ghost use Rattle.std.specs.Prelude.{◌≡◌, ◌↔◌, ◌+◌, ◌*◌, ◌<◌, ◌≤◌, ◌^◌, false, IsTrue, MatchResult};
 ghost use Rattle.dcel_maps.specs.Conditions.{HasRoom};
 ghost use Rattle.dcel_maps.specs.Shapes.{face_count};
 ghost use Rattle.dcel_commands.specs.Conditions.{AllMet, AreWithin, FirstUnmet};
-ghost use Rattle.dcel_commands.specs.TwoVertices.{two_vertices};
+ghost use Rattle.dcel_commands.specs.EdgeAndVertex.{edge_and_vertex};
+ghost use Rattle.dcel_commands.specs.TwoVertices.{live_vertices, two_vertices};
 
 use crate::refusal::Refusal;
-use dcel_fixed::FixedVertexHandle;
+use dcel_fixed::{FixedDirectedEdgeHandle, FixedVertexHandle};
 use spade_dcel::dcel::Dcel;
 use std::alloc::Allocator;
 
@@ -28,6 +29,31 @@ pub fn has_vertex<V, DE, UE, F, A: Allocator>(
     vertex.index() < dcel.num_vertices()
 }
 
+/// Whether the half edge's number is in range.
+pub fn has_half_edge<V, DE, UE, F, A: Allocator>(
+    dcel: &Dcel<V, DE, UE, F, A>,
+    edge: FixedDirectedEdgeHandle,
+) -> bool
+    ensures { IsTrue result ↔ (edge < 2 * dcel.now.shape.edges) }
+{
+    edge.index() < dcel.num_directed_edges()
+}
+
+/// Asks for two live vertices, which may be one.
+pub fn ask_live_vertices<V, DE, UE, F, A: Allocator>(
+    dcel: &Dcel<V, DE, UE, F, A>,
+    first: FixedVertexHandle,
+    second: FixedVertexHandle,
+) -> Result<(), Refusal>
+    ensures { let asks = live_vertices first second in
+        MatchResult result (λ _. AllMet dcel.now.shape asks) (λ why. FirstUnmet dcel.now.shape asks why) }
+{
+    ask(has_vertex(dcel, first), Refusal::NoSuchVertex)?;
+    ask(has_vertex(dcel, second), Refusal::NoSuchVertex)?;
+    ask(dcel.is_live_vertex(first), Refusal::GivenUp)?;
+    ask(dcel.is_live_vertex(second), Refusal::GivenUp)
+}
+
 /// Asks for two different live vertices.
 pub fn ask_two_vertices<V, DE, UE, F, A: Allocator>(
     dcel: &Dcel<V, DE, UE, F, A>,
@@ -37,11 +63,24 @@ pub fn ask_two_vertices<V, DE, UE, F, A: Allocator>(
     ensures { let asks = two_vertices first second in
         MatchResult result (λ _. AllMet dcel.now.shape asks) (λ why. FirstUnmet dcel.now.shape asks why) }
 {
-    ask(has_vertex(dcel, first), Refusal::NoSuchVertex)?;
-    ask(has_vertex(dcel, second), Refusal::NoSuchVertex)?;
-    ask(dcel.is_live_vertex(first), Refusal::GivenUp)?;
-    ask(dcel.is_live_vertex(second), Refusal::GivenUp)?;
+    ask_live_vertices(dcel, first, second)?;
     ask(first != second, Refusal::SameVertex)
+}
+
+/// Asks for a live half edge, and a live vertex without an edge.
+pub fn ask_edge_and_vertex<V, DE, UE, F, A: Allocator>(
+    dcel: &Dcel<V, DE, UE, F, A>,
+    edge: FixedDirectedEdgeHandle,
+    vertex: FixedVertexHandle,
+) -> Result<(), Refusal>
+    ensures { let asks = edge_and_vertex edge vertex in
+        MatchResult result (λ _. AllMet dcel.now.shape asks) (λ why. FirstUnmet dcel.now.shape asks why) }
+{
+    ask(has_vertex(dcel, vertex), Refusal::NoSuchVertex)?;
+    ask(has_half_edge(dcel, edge), Refusal::NoSuchEdge)?;
+    ask(dcel.is_live_edge(edge.as_undirected()), Refusal::GivenUp)?;
+    ask(dcel.is_live_vertex(vertex), Refusal::GivenUp)?;
+    ask(dcel.is_unconnected(vertex), Refusal::VertexInUse)
 }
 
 /// Whether so many more vertices, edges and faces pass no limit.

@@ -12,5 +12,5 @@ pub use command::Command;
 pub use dcel_text::faults::Failed;
 pub use dcel_text::sink::{LineSink, StdSink};
 pub use dcel_text::source::{LineSource, StdSource};
-pub use dispatch::apply;
+pub use dispatch::{MAX_LIMIT, apply};
 pub use reply::{Handed, Refused, Reply};

@@ -5,7 +5,8 @@ ghost use Rattle.dcel_commands.specs.Spelling.{Says, Spells};
 ghost use Rattle.std.specs.Prelude.{MatchOption};
 
 use crate::request::{
-    Request, append, check, counts, extend, insert, origin, out, setup, triangle, words,
+    Request, append, between, check, close, counts, extend, half, insert, line, origin, out,
+    outside, setup, split, triangle, words,
 };
 use dcel_text::items::{Rest, first};
 
@@ -22,11 +23,17 @@ fn read_after<'a>(word: &[u8], rest: Rest<'a>) -> Option<Request>
         _ if word == b"triangle".as_slice() => triangle::read(rest),
         _ if word == b"setup".as_slice() => setup::read(rest),
         _ if word == b"extend".as_slice() => extend::read(rest),
+        _ if word == b"line".as_slice() => line::read(rest),
+        _ if word == b"close".as_slice() => close::read(rest),
+        _ if word == b"outside".as_slice() => outside::read(rest),
         _ if word == b"insert".as_slice() => insert::read(rest),
+        _ if word == b"half".as_slice() => half::read(rest),
+        _ if word == b"split".as_slice() => split::read(rest),
         _ if word == b"counts".as_slice() => counts::read(rest),
         _ if word == b"words".as_slice() => words::read(rest),
         _ if word == b"out".as_slice() => out::read(rest),
         _ if word == b"origin".as_slice() => origin::read(rest),
+        _ if word == b"between".as_slice() => between::read(rest),
         _ if word == b"check".as_slice() => check::read(rest),
         _ => None,
     }

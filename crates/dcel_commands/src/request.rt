@@ -2,22 +2,31 @@
 #![tactic(auto, unfolding(crate::specs::Spelling::Says))]
 
 pub mod append;
+pub mod between;
 pub mod check;
+pub mod close;
 pub mod counts;
 pub mod extend;
+pub mod half;
 pub mod insert;
+pub mod line;
 pub mod origin;
 pub mod out;
+pub mod outside;
 pub mod setup;
+pub mod split;
 pub mod triangle;
 pub mod words;
 
-use crate::asking::{ask, ask_two_vertices, has_room, has_vertex};
+use crate::asking::{
+    ask, ask_edge_and_vertex, ask_live_vertices, ask_two_vertices, has_half_edge, has_room,
+    has_vertex,
+};
 use crate::commands::{Command, Handed, Refused, Reply};
-use crate::given::{three_data, two_numbers};
+use crate::given::{edge_and_vertex, one_number, three_data, two_numbers, two_vertices};
 use crate::refusal::Refusal;
 use dcel_fixed::{FixedDirectedEdgeHandle, FixedFaceHandle, FixedVertexHandle, InnerTag};
-use dcel_text::items::{Rest, datum_then, nothing, number_then};
+use dcel_text::items::{Rest, datum_then, nothing};
 use dcel_text::output::Writer;
 use dcel_text::sink::LineSink;
 use spade_dcel::dcel::Dcel;
@@ -34,6 +43,8 @@ pub enum Query {
     Out(FixedVertexHandle),
     /// The vertex that a half edge starts at.
     Origin(FixedDirectedEdgeHandle),
+    /// The half edge that leads from one vertex to another.
+    Between(FixedVertexHandle, FixedVertexHandle),
     /// Whether the mesh is checked.
     Check,
 }

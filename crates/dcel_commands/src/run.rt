@@ -17,9 +17,10 @@ const PIECE: usize = 16384;
 /// a bad line; one that is refused changes nothing, and the run goes on.
 ///
 /// It asks that neither the source nor the sink has failed, and for a `limit` of at most 2^31: no more vertices, edges or faces are
-/// made. At `Ok` all bytes were read and all replies written. [`RunFault::Memory`] comes where there is none for the first mesh, before
-/// anything is read; [`RunFault::Read`] where the source failed, and then each line that was read whole is answered;
-/// [`RunFault::Write`] where the sink failed, and then a beginning of the replies stands written.
+/// made. At `Ok` all bytes were read and the sink took all replies; where a writer below it holds bytes back, as a `BufWriter`, the
+/// caller still has to flush it. [`RunFault::Memory`] comes where there is none for the first mesh, before anything is read;
+/// [`RunFault::Read`] where the source failed, and then each line that was read whole is answered; [`RunFault::Write`] where the sink
+/// failed, and then a beginning of the replies stands written.
 pub fn run<A: Allocator + Clone, S: LineSource, K: LineSink>(
     alloc: A,
     source: &mut S,

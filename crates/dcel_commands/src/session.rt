@@ -53,9 +53,14 @@ impl<A: Allocator + Clone> Session<A> {
         ensures serves { Serves K.has_failed K.contents limit self.old self.new (last.now ++ line_feed ∷ []) out.old out.new }
         ensures empty { self.new.begun ≡ [] }
     {
-        self.line.add_some(last);
-        answer(out, &mut self.mesh, limit, self.line.as_slice());
-        self.line.clear();
+        if self.line.is_empty() {
+            // The line lies in the piece as a whole.
+            answer(out, &mut self.mesh, limit, last);
+        } else {
+            self.line.add_some(last);
+            answer(out, &mut self.mesh, limit, self.line.as_slice());
+            self.line.clear();
+        }
     }
 
     /// Takes the next bytes, and answers the lines that end in them.

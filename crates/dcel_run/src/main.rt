@@ -4,20 +4,35 @@
 //! the first mesh, it says so on standard error and ends with status 1.
 #![tactic(auto)]
 
-use dcel_commands::commands::{StdSink, StdSource, run};
-use std::process::ExitCode;
+ghost use Rattle.std.specs.Prelude.{◌≡◌, ◌^◌, false, OnOk};
+ghost use Rattle.dcel_commands.specs.Run.{AnswersAll};
 
-/// How many vertices, edges and faces there may be of each.
-const LIMIT: usize = 2_147_483_648;
+use dcel_commands::commands::{LineSink, LineSource, MAX_LIMIT, RunFault, StdSink, StdSource, run};
+use std::alloc::Allocator;
+use std::process::ExitCode;
 
 fn main(rt: HostRuntime) -> ExitCode {
     let mut source = StdSource::new(rt.stdin());
     let mut sink = StdSink::new(rt.stdout());
-    match run(rt.alloc(), &mut source, &mut sink, LIMIT) {
+    match answer_all(rt.alloc(), &mut source, &mut sink) {
         Ok(()) => ExitCode::SUCCESS,
         Err(fault) => {
             let _ = eprintln!(rt; "{fault}");
             ExitCode::FAILURE
         }
     }
+}
+
+/// Answers all lines of the source, under the greatest limit: there may be 2^31 vertices, as many edges and as many faces.
+fn answer_all<A: Allocator + Clone, S: LineSource, K: LineSink>(
+    alloc: A,
+    source: &mut S,
+    sink: &mut K,
+) -> Result<(), RunFault>
+    requires source_calm { S.has_failed source.old ≡ false }
+    requires sink_calm { K.has_failed sink.old ≡ false }
+    ensures { OnOk result
+        (AnswersAll (2 ^ 31) (S.remaining source.old) (S.remaining source.new) (K.contents sink.old) (K.contents sink.new)) }
+{
+    run(alloc, source, sink, MAX_LIMIT)
 }

@@ -3,4 +3,5 @@ pub mod Decimals
 pub mod Digits
 pub mod LineEnds
 pub mod Listing
+mod Reading
 pub mod Writing

@@ -1,9 +1,7 @@
 //! Bytes, up to a number of them.
 
 ghost use Rattle.std.specs.Prelude.{◌≡◌, ◌↔◌, ◌+◌, ◌≤◌, ◌++◌, [], IsTrue, length, take};
-ghost use Rattle.std.specs.Fmt.{decimal};
 
-use crate::numbers::{count_digits, put_digits};
 use std::marker::Model;
 
 /// At most N bytes.
@@ -49,17 +47,6 @@ impl<const N: usize> Buffer<N> {
         let end = self.len + bytes.len();
         let all = &mut self.bytes[..];
         all[self.len..end].copy_from_slice(bytes);
-        self.len = end;
-    }
-
-    /// Adds the decimals of a number.
-    pub fn add_number(&mut self, n: u64)
-        requires { length self.old + 20 ≤ N }
-        ensures { self.new ≡ self.old ++ decimal n }
-    {
-        let end = self.len + count_digits(n);
-        let all = &mut self.bytes[..];
-        put_digits(&mut all[self.len..end], n);
         self.len = end;
     }
 

@@ -6,6 +6,7 @@ pub mod faults;
 pub mod items;
 pub mod lines;
 mod numbers;
+pub mod once;
 pub mod output;
 pub mod sink;
 pub mod source;

@@ -1,8 +1,11 @@
 //! Numbers in digits.
 
-ghost use Rattle.std.specs.Prelude.{◌≡◌, ◌≢◌, ◌<◌, ◌≤◌, ◌^◌, ℕ, ℤ, MatchOption, length};
+ghost use Rattle.std.specs.Prelude.{◌≡◌, ◌≢◌, ◌<◌, ◌≤◌, ◌^◌, ℕ, ℤ, MatchOption};
 ghost use Rattle.std.specs.Fmt.{decimal, signed_decimal};
 ghost use Rattle.dcel_text.specs.Numbers.{IsNumber, IsDatum};
+
+/// The most digits that a number has.
+pub const MOST_DIGITS: usize = 20;
 
 /// The number below 10^19 that the item is the decimals of.
 fn natural(item: &[u8]) -> Option<u64>
@@ -60,26 +63,11 @@ pub fn datum(item: &[u8]) -> Option<i64>
     Some(n as i64)
 }
 
-/// How many digits the number has.
-pub fn count_digits(n: u64) -> usize
-    ensures count { result ≡ length (decimal n) }
-    ensures most { result ≤ 20 }
+/// The digits of the number, at the end of the slot.
+pub fn digits(n: u64, slot: &mut [u8; MOST_DIGITS]) -> &[u8]
+    ensures { result.now ≡ decimal n }
 {
-    let mut count = 1usize;
-    let mut high = n;
-    while high >= 10 {
-        count += 1;
-        high /= 10;
-    }
-    count
-}
-
-/// Fills the slot with the digits of the number, from the last to the first.
-pub fn put_digits(slot: &mut [u8], n: u64)
-    requires { length slot.old ≡ length (decimal n) }
-    ensures { slot.new ≡ decimal n }
-{
-    let mut at = slot.len() - 1;
+    let mut at = MOST_DIGITS - 1;
     let mut high = n;
     while high >= 10 {
         slot[at] = b'0' + (high % 10) as u8;
@@ -87,4 +75,5 @@ pub fn put_digits(slot: &mut [u8], n: u64)
         high /= 10;
     }
     slot[at] = b'0' + high as u8;
+    &slot[at..]
 }

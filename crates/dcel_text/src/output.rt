@@ -6,13 +6,11 @@ ghost use Rattle.dcel_text.specs.Output.{Writing, Writes};
 ghost use Rattle.dcel_text.specs.Texts.{numbered};
 
 use crate::buffer::Buffer;
+use crate::numbers::{MOST_DIGITS, digits};
 use crate::sink::LineSink;
 
 /// The most bytes that are held.
 const ROOM: usize = 4096;
-
-/// The most digits that a number has.
-const MOST_DIGITS: usize = 20;
 
 /// Puts the bytes, as long as the sink doesn't fail.
 fn send<K: LineSink>(sink: &mut K, bytes: &[u8])
@@ -86,10 +84,8 @@ impl<'a, K: LineSink> Writer<'a, K> {
     pub fn number(&mut self, n: u64)
         ensures { Writes K.has_failed K.contents self.old self.new (decimal n) }
     {
-        if self.held.room() < MOST_DIGITS {
-            self.flush();
-        }
-        self.held.add_number(n);
+        let mut slot = [0; MOST_DIGITS];
+        self.write(digits(n, &mut slot));
     }
 
     /// Writes a word and a number after it.

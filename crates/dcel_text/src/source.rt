@@ -1,11 +1,12 @@
 //! Where lines come from.
 
-ghost use Rattle.std.specs.Prelude.{◌≡◌, ◌<◌, ℕ, Bool, true, false, List, Option, IfOk, OnOk, OnErr};
+ghost use Rattle.std.specs.Prelude.{◌≡◌, ◌<◌, ◌+◌, ◌-◌, ◌^◌, ◌↔◌, ℕ, Bool, true, false, List, Option, IfOk, OnOk, OnErr, IsErr, length};
 ghost use Rattle.std.specs.Io.{ReadsAtMost};
-ghost use Rattle.dcel_text.specs.Transfer.{FillGives};
+ghost use Rattle.std.specs.Io.KnownBytes.{IsAtEnd};
+ghost use Rattle.dcel_text.specs.Transfer.{FillGives, IsAtEnd-prop};
 
 use crate::faults::Failed;
-use std::io::Read;
+use crate::once::ReadOnce;
 
 /// A source of bytes. It may tell a contract the bytes to come, or not.
 pub trait LineSource {
@@ -33,45 +34,87 @@ pub trait LineSource {
         ensures { result ≡ has_failed self.now };
 }
 
-/// A source of the bytes that a reader gives.
+/// A source of the bytes that a reader gives. Each call of `fill` reads at most once.
 #[derive(Drop)]
-pub struct StdSource<R: Read + Drop> {
+pub struct StdSource<R: ReadOnce + Drop> {
     reader: R,
+    /// How many reads are left.
     reads_left: u64,
+    /// Whether a read came to the reader's end.
+    ended: bool,
     failed: bool,
+    // an ended reader has no known byte left
+    ghost at_end: { ended ≡ true → IsAtEnd (R.remaining reader) } by { Prim.hlevel IsAtEnd-prop },
 }
 
-impl<R: Read + Drop> StdSource<R> {
-    /// A source of what the reader has left, which hasn't failed.
+impl<R: ReadOnce + Drop> StdSource<R> {
+    /// A source of what the reader has left: it has 2^64 - 1 reads left, and has neither ended nor failed.
     pub fn new(reader: R) -> Self
         ensures bytes { ⟦<StdSource<R> as LineSource>⟧.remaining result ≡ R.remaining reader }
         ensures calm { ⟦<StdSource<R> as LineSource>⟧.has_failed result ≡ false }
+        ensures reads { ⟦<StdSource<R> as LineSource>⟧.calls_left result ≡ 2 ^ 64 - 1 }
+        ensures reader { result.reader ≡ reader }
+        ensures open { result.ended ≡ false }
     {
         StdSource {
             reader,
             reads_left: u64::MAX,
+            ended: false,
             failed: false,
         }
     }
+
+    /// The reader, as the reads left it.
+    pub fn into_inner(self) -> R
+        ensures reader { result ≡ self.reader }
+        ensures bytes { R.remaining result ≡ ⟦<StdSource<R> as LineSource>⟧.remaining self }
+    {
+        self.reader
+    }
 }
 
-/// A read that fails is a failure, and so is each read after 2^64 - 1 reads.
-impl<R: Read + Drop> LineSource for StdSource<R> {
+impl<R: ReadOnce + Drop> LineSource for StdSource<R> {
     ghost remaining = { λ s. R.remaining s.reader };
 
     ghost has_failed = { λ s. s.failed };
 
     ghost calls_left = { λ s. s.reads_left };
 
-    fn fill(&mut self, buf: &mut [u8]) -> Result<usize, Failed> {
-        if self.reads_left > 0 {
-            self.reads_left -= 1;
-            if let Ok(n) = self.reader.read(buf) {
-                return Ok(n);
-            }
+    /// Reads once and answers what that read gave, failing where it failed; it fails without a read after 2^64 - 1 reads. When a
+    /// read with room in `buf` has given nothing, the source has ended: from then on it answers 0 and reads no more.
+    #[tactic(auto, using(crate::proofs::Reading::reads_nothing))]
+    fn fill(&mut self, buf: &mut [u8]) -> Result<usize, Failed>
+        // As at every source.
+        ensures bound { ReadsAtMost result buf.new }
+        ensures bytes { FillGives (R.remaining self.old.reader) (R.remaining self.new.reader) result buf.new }
+        ensures falls { IfOk result (λ n. 0 < n → self.new.reads_left < self.old.reads_left) }
+        ensures calm { OnOk result (self.new.failed ≡ self.old.failed) }
+        ensures fails { OnErr result (self.new.failed ≡ true) }
+
+        ensures one_read { self.old.ended ≡ false → 0 < self.old.reads_left →
+            R.read_gives self.old.reader buf.old result buf.new self.new.reader }
+        ensures counts { self.old.ended ≡ false → 0 < self.old.reads_left → self.new.reads_left + 1 ≡ self.old.reads_left }
+        ensures ends { self.old.ended ≡ false → (self.new.ended ≡ true) ↔ ((result ≡ Ok 0) × 0 < length buf.old) }
+
+        // After the end nothing is read, and where no read is left.
+        ensures ended { self.old.ended ≡ true → (result ≡ Ok 0) × (self.new ≡ self.old) × (buf.new ≡ buf.old) }
+        ensures used_up { self.old.ended ≡ false → self.old.reads_left ≡ 0 →
+            IsErr result × (self.new.reader ≡ self.old.reader) × (self.new.reads_left ≡ 0) × (buf.new ≡ buf.old) }
+    {
+        if self.ended {
+            return Ok(0);
         }
-        self.failed = true;
-        Err(Failed)
+        if self.reads_left == 0 {
+            self.failed = true;
+            return Err(Failed);
+        }
+        self.reads_left -= 1;
+        let result = self.reader.read_once(buf);
+        match &result {
+            Ok(n) => self.ended = *n == 0 && !buf.is_empty(),
+            Err(_) => self.failed = true,
+        }
+        result
     }
 
     fn failed(&self) -> bool {

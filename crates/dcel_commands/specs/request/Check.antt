@@ -9,5 +9,5 @@ check = record {
   word = codes "check";
   given = [];
   asks = [];
-  Tells = λ s text. (answer : Bool) × (IsTrue answer ↔ IsChecked s) × (text ≡ ended (if answer then codes "true" else codes "false"));
+  Tells = λ m text. (answer : Bool) × (IsTrue answer ↔ IsChecked m.shape) × (text ≡ ended (if answer then codes "true" else codes "false"));
 }

@@ -13,5 +13,5 @@ counts = record {
   word = codes "counts";
   given = [];
   asks = [];
-  Tells = λ s text. text ≡ counts_text s;
+  Tells = λ m text. text ≡ counts_text m.shape;
 }

@@ -13,5 +13,5 @@ origin h = record {
   word = codes "origin";
   given = Number h ∷ [];
   asks = (NoSuchEdge, HalfEdgeInRange h) ∷ (GivenUp, HalfEdgeLive h) ∷ [];
-  Tells = λ s text. text ≡ reply_text (Vertex (origin_of s h));
+  Tells = λ m text. text ≡ reply_text (Vertex (origin_of m.shape h));
 }

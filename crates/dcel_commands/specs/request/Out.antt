@@ -36,5 +36,5 @@ out v = record {
   word = codes "out";
   given = Number v ∷ [];
   asks = (NoSuchVertex, VertexInRange v) ∷ (GivenUp, VertexLive v) ∷ [];
-  Tells = λ s text. text ≡ turn_text s v;
+  Tells = λ m text. text ≡ turn_text m.shape v;
 }

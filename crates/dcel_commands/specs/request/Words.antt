@@ -36,5 +36,5 @@ words = record {
   word = codes "words";
   given = [];
   asks = [];
-  Tells = λ s text. text ≡ words_text s;
+  Tells = λ m text. text ≡ words_text m.shape;
 }

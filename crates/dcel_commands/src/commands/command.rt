@@ -1,6 +1,6 @@
 //! What can be asked of a mesh.
 
-use dcel_fixed::{FixedFaceHandle, FixedVertexHandle, InnerTag};
+use dcel_fixed::{FixedDirectedEdgeHandle, FixedFaceHandle, FixedVertexHandle, InnerTag};
 
 /// An edit of a mesh, by the numbers of its elements. Numbers may be any: [`apply`](crate::commands::apply) tests all that a
 /// command asks.
@@ -23,8 +23,33 @@ pub enum Command<V> {
     /// It asks for two different live vertices, of which the second has no edge and the first exactly one out edge, and for room
     /// for one edge.
     Extend(FixedVertexHandle, FixedVertexHandle),
+    /// Puts the vertex into the middle of the half edge's edge. The reply is the half edge's two parts, in their order.
+    ///
+    /// It asks for a live half edge whose two halves lie on one face, a live vertex without an edge, and room for one edge.
+    Line(FixedDirectedEdgeHandle, FixedVertexHandle),
+    /// Makes a face of the half edge, the next one on the outer face and a new edge. The reply is the half of the new edge that
+    /// lies on the outer face.
+    ///
+    /// It asks for a live half edge on the outer face, the next of which doesn't end where it starts, and for room for one edge and
+    /// one face.
+    Close(FixedDirectedEdgeHandle),
+    /// Makes a face of the half edge and the vertex, on the face that the half edge lies on. The reply is the vertex.
+    ///
+    /// It asks for a live half edge, a live vertex without an edge, and room for two edges and one face.
+    Outside(FixedDirectedEdgeHandle, FixedVertexHandle),
     /// Puts the vertex into the inner face, and joins it to the three corners. The reply is the vertex.
     ///
     /// It asks for a live vertex without an edge, a live inner face with three half edges, and room for three edges and two faces.
     Insert(FixedVertexHandle, FixedFaceHandle<InnerTag>),
+    /// Puts the vertex into the middle of the half edge's edge, and joins it to the corner of the triangle that the half edge lies on.
+    /// The reply is the half edge's two parts, in their order.
+    ///
+    /// It asks for a live half edge on a face with three half edges, a live vertex without an edge, and room for two edges and one face.
+    Half(FixedDirectedEdgeHandle, FixedVertexHandle),
+    /// Puts the vertex into the middle of the half edge's edge, and joins it to the corners of the triangles on both sides. The reply is
+    /// the half edge's two parts, in their order.
+    ///
+    /// It asks for a live half edge with a face of three half edges on both sides, a live vertex without an edge, and room for three
+    /// edges and two faces.
+    Split(FixedDirectedEdgeHandle, FixedVertexHandle),
 }

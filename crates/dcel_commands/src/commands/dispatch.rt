@@ -6,10 +6,13 @@ ghost use Rattle.dcel_maps.specs.Shapes.{IsMesh};
 
 use crate::commands::command::Command;
 use crate::commands::reply::{Refused, Reply};
-use crate::request::{append, extend, insert, setup, triangle};
+use crate::request::{append, close, extend, half, insert, line, outside, setup, split, triangle};
 use spade_dcel::dcel::Dcel;
 use spade_dcel::laws;
 use std::alloc::Allocator;
+
+/// The greatest limit that [`apply`] and [`run`](crate::run::run) take, 2^31: there are numbers for so many edges.
+pub const MAX_LIMIT: usize = 2_147_483_648;
 
 /// Carries a command out, or refuses it and leaves the mesh as it was.
 ///
@@ -39,7 +42,12 @@ pub fn apply<
         Command::Triangle(x, y, z) => triangle::carry_out(dcel, (x, y, z), limit),
         Command::Setup(first, second) => setup::carry_out(dcel, first, second, limit),
         Command::Extend(end, new) => extend::carry_out(dcel, end, new, limit),
+        Command::Line(edge, vertex) => line::carry_out(dcel, edge, vertex, limit),
+        Command::Close(edge) => close::carry_out(dcel, edge, limit),
+        Command::Outside(edge, vertex) => outside::carry_out(dcel, edge, vertex, limit),
         Command::Insert(vertex, face) => insert::carry_out(dcel, vertex, face, limit),
+        Command::Half(edge, vertex) => half::carry_out(dcel, edge, vertex, limit),
+        Command::Split(edge, vertex) => split::carry_out(dcel, edge, vertex, limit),
     };
     laws::every_mesh(dcel);
     answer

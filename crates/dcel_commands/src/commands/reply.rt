@@ -1,7 +1,7 @@
 //! What a command is answered.
 
 use crate::refusal::Refusal;
-use dcel_fixed::FixedVertexHandle;
+use dcel_fixed::{FixedDirectedEdgeHandle, FixedVertexHandle};
 use std::alloc::AllocError;
 
 /// The answer to a command that was carried out.
@@ -11,6 +11,10 @@ pub enum Reply {
     Ok,
     /// The vertex that was added, or that an edge now leads to.
     Vertex(FixedVertexHandle),
+    /// A half edge that was added.
+    Half(FixedDirectedEdgeHandle),
+    /// The two parts that a half edge was split into, in their order.
+    Halves([FixedDirectedEdgeHandle; 2]),
 }
 
 /// The data that a refused command carried, in their order.

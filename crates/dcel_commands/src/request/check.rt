@@ -19,7 +19,7 @@ pub fn write_check<V, DE, UE, F, A: Allocator, K: LineSink>(
     out: &mut Writer<'_, K>,
     dcel: &Dcel<V, DE, UE, F, A>,
 )
-    ensures { WritesSome K.has_failed K.contents out.old out.new (check.Tells dcel.now.shape) }
+    ensures { WritesSome K.has_failed K.contents out.old out.new (check.Tells dcel.now) }
 {
     if dcel.sanity_check() {
         out.write(b"true\n");

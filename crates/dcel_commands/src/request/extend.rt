@@ -10,11 +10,8 @@ use spade_dcel::operations::extend_line;
 pub fn read<'a>(rest: Rest<'a>) -> Option<Request>
     ensures { Says (codes "extend") (left rest.entry) result }
 {
-    let (a, b) = two_numbers(rest)?;
-    Some(Request::Edit(Command::Extend(
-        FixedVertexHandle::new(a as usize),
-        FixedVertexHandle::new(b as usize),
-    )))
+    let (first, second) = two_vertices(rest)?;
+    Some(Request::Edit(Command::Extend(first, second)))
 }
 
 /// Carries the command out.

@@ -10,8 +10,7 @@ use crate::replies::write_reply;
 pub fn read<'a>(rest: Rest<'a>) -> Option<Request>
     ensures { Says (codes "origin") (left rest.entry) result }
 {
-    let (number, others) = number_then(rest)?;
-    nothing(others)?;
+    let number = one_number(rest)?;
     Some(Request::Ask(Query::Origin(FixedDirectedEdgeHandle::new(number as usize))))
 }
 
@@ -21,12 +20,9 @@ pub fn tell<V, DE, UE, F, A: Allocator, K: LineSink>(
     dcel: &Dcel<V, DE, UE, F, A>,
     edge: FixedDirectedEdgeHandle,
 ) -> Result<(), Refusal>
-    ensures { TellsOrRefuses K.has_failed K.contents out.old dcel.now.shape (Query.Origin edge) result out.new }
+    ensures { TellsOrRefuses K.has_failed K.contents out.old dcel.now (Query.Origin edge) result out.new }
 {
-    ask(
-        edge.index() < dcel.num_directed_edges(),
-        Refusal::NoSuchEdge,
-    )?;
+    ask(has_half_edge(dcel, edge), Refusal::NoSuchEdge)?;
     ask(dcel.is_live_edge(edge.as_undirected()), Refusal::GivenUp)?;
     write_reply(out, Reply::Vertex(dcel.directed_edge(edge).from().fix()));
     Ok(())

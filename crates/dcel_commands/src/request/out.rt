@@ -13,8 +13,7 @@ use spade_dcel::iterators::{CCWEdgesNextBackFn, CircularIterator};
 pub fn read<'a>(rest: Rest<'a>) -> Option<Request>
     ensures { Says (codes "out") (left rest.entry) result }
 {
-    let (number, others) = number_then(rest)?;
-    nothing(others)?;
+    let number = one_number(rest)?;
     Some(Request::Ask(Query::Out(FixedVertexHandle::new(number as usize))))
 }
 
@@ -24,7 +23,7 @@ pub fn tell<V, DE, UE, F, A: Allocator, K: LineSink>(
     dcel: &Dcel<V, DE, UE, F, A>,
     vertex: FixedVertexHandle,
 ) -> Result<(), Refusal>
-    ensures { TellsOrRefuses K.has_failed K.contents out.old dcel.now.shape (Query.Out vertex) result out.new }
+    ensures { TellsOrRefuses K.has_failed K.contents out.old dcel.now (Query.Out vertex) result out.new }
 {
     ask(has_vertex(dcel, vertex), Refusal::NoSuchVertex)?;
     ask(dcel.is_live_vertex(vertex), Refusal::GivenUp)?;

@@ -10,11 +10,8 @@ use spade_dcel::operations::setup_initial_two_vertices;
 pub fn read<'a>(rest: Rest<'a>) -> Option<Request>
     ensures { Says (codes "setup") (left rest.entry) result }
 {
-    let (a, b) = two_numbers(rest)?;
-    Some(Request::Edit(Command::Setup(
-        FixedVertexHandle::new(a as usize),
-        FixedVertexHandle::new(b as usize),
-    )))
+    let (first, second) = two_vertices(rest)?;
+    Some(Request::Edit(Command::Setup(first, second)))
 }
 
 /// Carries the command out.

@@ -1,8 +1,8 @@
-use Rattle.std.proofs.Common.{◌++◌, [], ap, sym, subst, ◌∙◌, rules, take, length, ◌<◌, ◌≡◌}
+use Rattle.std.proofs.Common.{◌++◌, [], ap, sym, subst, ◌∙◌, rules, take}
 use Rattle.std.proofs.KnownBytes.{Consumes-trans, Consumes-nil}
 use Rattle.dcel_commands.specs.Stage.{Stage, Serves}
 use Rattle.dcel_commands.proofs.Serving.{serves_nothing, serves_then, serves_flushed, ends_flushed}
-use Rattle.dcel_commands.proofs.Ending.{origin, consumes_nothing, read_failed, write_failed, last_write_failed, answered_all}
+use Rattle.dcel_commands.proofs.Ending.{origin, read_out, read_failed, write_failed, last_write_failed, answered_all}
 use Rattle.dcel_commands.proofs.run.run.Goals as goal
 
 pub loop-session-init : goal.loop-session-init
@@ -26,25 +26,17 @@ returns-in-Err-fill-clause-read g c = λ _.
 
 pub returns-then-failed-clause-write : goal.returns-then-failed-clause-write
 returns-then-failed-clause-write g c = λ _.
-    let remaining = g.S.LineSource.remaining in
     let so_far = c.loop-session.invariant in
     let begun = c.new-out.ensures in
-    let given = c.in-Ok-fill.ensures.bytes in
-    let none : c.in-Ok-fill.n ≡ 0 = search rules in
-    let room : 0 < length c.fill.new.buf = search rules in
-    last_write_failed (consumes_nothing (remaining c.args.source.now) (remaining c.loop-session.source) (remaining c.fill.new.self) so_far.bytes c.fill.new.buf c.in-Ok-fill.n so_far.read given.0 none)
-    (given.1 none room) so_far.served (ends_flushed c.finish.ensures c.flush.ensures.writes) begun.sink begun.empty (search rules)
+    last_write_failed (read_out _ _ _ so_far.bytes c.fill.new.buf c.in-Ok-fill.n so_far.read c.in-Ok-fill.ensures.bytes (search rules) (search rules))
+    so_far.served (ends_flushed c.finish.ensures c.flush.ensures.writes) begun.sink begun.empty (search rules)
 
 pub returns-then-n-eq0-clause-ok : goal.returns-then-n-eq0-clause-ok
 returns-then-n-eq0-clause-ok g c =
-    let remaining = g.S.LineSource.remaining in
     let so_far = c.loop-session.invariant in
     let begun = c.new-out.ensures in
-    let given = c.in-Ok-fill.ensures.bytes in
-    let none : c.in-Ok-fill.n ≡ 0 = search rules in
-    let room : 0 < length c.fill.new.buf = search rules in
-    answered_all (consumes_nothing (remaining c.args.source.now) (remaining c.loop-session.source) (remaining c.fill.new.self) so_far.bytes c.fill.new.buf c.in-Ok-fill.n so_far.read given.0 none)
-    (given.1 none room) so_far.served (ends_flushed c.finish.ensures c.flush.ensures.writes) begun.sink begun.empty (search rules) c.flush.ensures.empty (sym c.failed.ensures ∙ c.if-failed.false)
+    answered_all (read_out _ _ _ so_far.bytes c.fill.new.buf c.in-Ok-fill.n so_far.read c.in-Ok-fill.ensures.bytes (search rules) (search rules))
+    so_far.served (ends_flushed c.finish.ensures c.flush.ensures.writes) begun.sink begun.empty (search rules) c.flush.ensures.empty (sym c.failed.ensures ∙ c.if-failed.false)
 
 pub returns-then-failed-2-clause-write : goal.returns-then-failed-2-clause-write
 returns-then-failed-2-clause-write g c = λ _.

@@ -7,7 +7,7 @@ use Rattle.dcel_commands.specs.Steps.{Carries, IsRefusal, Legal, Step}
 use Rattle.dcel_maps.specs.Shapes.{Mesh}
 use Rattle.dcel_commands.proofs.commands.dispatch.apply.Given.{Over}
 use Rattle.dcel_commands.proofs.commands.dispatch.apply.Goals as goal
-use Rattle.dcel_commands.proofs.commands.dispatch.apply.Goals.{in-Append, in-Triangle, in-Setup, in-Extend, in-Insert}
+use Rattle.dcel_commands.proofs.commands.dispatch.apply.Goals.{in-Append, in-Triangle, in-Setup, in-Extend, in-Line, in-Close, in-Outside, in-Insert, in-Half, in-Split}
 
 -- each line carries out its command
 carries : (g : Over) (c : goal.After-every_mesh g)
@@ -17,7 +17,12 @@ carries g c = elim c.match-command.branch [
   | in-Triangle w ↦ rw (w.answer-is, w.dcel-is, w.in-Triangle.is) w.carry_out-answer-in-Triangle.ensures
   | in-Setup w ↦ rw (w.answer-is, w.dcel-is, w.in-Setup.is) w.carry_out-answer-in-Setup.ensures
   | in-Extend w ↦ rw (w.answer-is, w.dcel-is, w.in-Extend.is) w.carry_out-answer-in-Extend.ensures
+  | in-Line w ↦ rw (w.answer-is, w.dcel-is, w.in-Line.is) w.carry_out-answer-in-Line.ensures
+  | in-Close w ↦ rw (w.answer-is, w.dcel-is, w.in-Close.is) w.carry_out-answer-in-Close.ensures
+  | in-Outside w ↦ rw (w.answer-is, w.dcel-is, w.in-Outside.is) w.carry_out-answer-in-Outside.ensures
   | in-Insert w ↦ rw (w.answer-is, w.dcel-is, w.in-Insert.is) w.carry_out-answer-in-Insert.ensures
+  | in-Half w ↦ rw (w.answer-is, w.dcel-is, w.in-Half.is) w.carry_out-answer-in-Half.ensures
+  | in-Split w ↦ rw (w.answer-is, w.dcel-is, w.in-Split.is) w.carry_out-answer-in-Split.ensures
 ]
 
 -- what that says where the command was carried out, and where it was refused

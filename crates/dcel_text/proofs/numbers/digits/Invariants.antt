@@ -1,11 +1,12 @@
-use Rattle.std.proofs.Common.{◌≡◌, ◌+◌, ◌<◌, ◌++◌, length, drop}
+use Rattle.std.proofs.Common.{◌≡◌, ◌+◌, ◌<◌, ◌≤◌, ◌++◌, length, drop}
 use Rattle.std.specs.Fmt.{decimal}
-use Rattle.dcel_text.proofs.numbers.put_digits.Given as goal
+use Rattle.dcel_text.proofs.numbers.digits.Given as goal
 
 abbrev pub invariant-loop-high : goal.invariant-loop-high
 invariant-loop-high l = record {
-  in_range : l.at < length l.slot;
-  left : length (decimal l.high) ≡ l.at + 1;
+  slots : length l.slot ≡ 20;
+  in_range : l.at < 20;
+  room : length (decimal l.high) ≤ l.at + 1;
   whole : decimal l.n ≡ decimal l.high ++ drop (l.at + 1) l.slot;
 }
 

@@ -1,0 +1,32 @@
+//! `between A B`
+
+ghost use Rattle.std.specs.Prelude.{codes};
+ghost use Rattle.dcel_commands.specs.Vocabulary.{Says, TellsOrRefuses, left};
+
+use super::*;
+use crate::replies::write_reply;
+
+/// What the line says after its word.
+pub fn read<'a>(rest: Rest<'a>) -> Option<Request>
+    ensures { Says (codes "between") (left rest.entry) result }
+{
+    let (first, second) = two_vertices(rest)?;
+    Some(Request::Ask(Query::Between(first, second)))
+}
+
+/// Writes the answer, or refuses and writes nothing.
+pub fn tell<V, DE, UE, F, A: Allocator, K: LineSink>(
+    out: &mut Writer<'_, K>,
+    dcel: &Dcel<V, DE, UE, F, A>,
+    from: FixedVertexHandle,
+    to: FixedVertexHandle,
+) -> Result<(), Refusal>
+    ensures { TellsOrRefuses K.has_failed K.contents out.old dcel.now (Query.Between from to) result out.new }
+{
+    ask_live_vertices(dcel, from, to)?;
+    match dcel.get_edge_from_neighbors(from, to) {
+        Some(edge) => write_reply(out, Reply::Half(edge.fix())),
+        None => out.write(b"none\n"),
+    }
+    Ok(())
+}

@@ -1,0 +1,36 @@
+//! `close H`
+
+ghost use Rattle.std.specs.Prelude.{◌≤◌, ◌^◌, codes};
+ghost use Rattle.dcel_commands.specs.Vocabulary.{Carries, Says, left};
+
+use super::*;
+use spade_dcel::operations::create_single_face_between_edge_and_next;
+
+/// What the line says after its word.
+pub fn read<'a>(rest: Rest<'a>) -> Option<Request>
+    ensures { Says (codes "close") (left rest.entry) result }
+{
+    let number = one_number(rest)?;
+    Some(Request::Edit(Command::Close(FixedDirectedEdgeHandle::new(number as usize))))
+}
+
+/// Carries the command out.
+pub fn carry_out<V, DE: Default, UE: Default, F: Default, A: Allocator>(
+    dcel: &mut Dcel<V, DE, UE, F, A>,
+    edge: FixedDirectedEdgeHandle,
+    limit: usize,
+) -> Result<Reply, Refused<V>>
+    requires { limit ≤ 2 ^ 31 }
+    ensures { Carries DE.is_default UE.is_default F.is_default limit dcel.old (Command.Close edge) result dcel.new }
+{
+    ask(has_half_edge(dcel, edge), Refusal::NoSuchEdge)?;
+    ask(dcel.is_live_edge(edge.as_undirected()), Refusal::GivenUp)?;
+    ask(
+        dcel.directed_edge(edge).face().index() == 0,
+        Refusal::NotOuter,
+    )?;
+    ask(dcel.can_close_outside(edge), Refusal::WouldLoop)?;
+    ask(has_room(dcel, limit, 0, 1, 1), Refusal::NoRoom)?;
+    let half = create_single_face_between_edge_and_next(dcel, edge)?;
+    Ok(Reply::Half(half))
+}

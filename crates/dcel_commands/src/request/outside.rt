@@ -1,0 +1,31 @@
+//! `outside H B`
+
+ghost use Rattle.std.specs.Prelude.{◌≤◌, ◌^◌, codes};
+ghost use Rattle.dcel_commands.specs.Vocabulary.{Carries, Says, left};
+
+use super::*;
+use spade_dcel::operations::create_new_face_adjacent_to_edge;
+
+/// What the line says after its word.
+pub fn read<'a>(rest: Rest<'a>) -> Option<Request>
+    ensures { Says (codes "outside") (left rest.entry) result }
+{
+    let (edge, vertex) = edge_and_vertex(rest)?;
+    Some(Request::Edit(Command::Outside(edge, vertex)))
+}
+
+/// Carries the command out.
+pub fn carry_out<V, DE: Default, UE: Default, F: Default, A: Allocator>(
+    dcel: &mut Dcel<V, DE, UE, F, A>,
+    edge: FixedDirectedEdgeHandle,
+    new_vertex: FixedVertexHandle,
+    limit: usize,
+) -> Result<Reply, Refused<V>>
+    requires { limit ≤ 2 ^ 31 }
+    ensures { Carries DE.is_default UE.is_default F.is_default limit dcel.old (Command.Outside edge new_vertex) result dcel.new }
+{
+    ask_edge_and_vertex(dcel, edge, new_vertex)?;
+    ask(has_room(dcel, limit, 0, 2, 1), Refusal::NoRoom)?;
+    let vertex = create_new_face_adjacent_to_edge(dcel, edge, new_vertex)?;
+    Ok(Reply::Vertex(vertex))
+}

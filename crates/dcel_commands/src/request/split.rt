@@ -1,0 +1,40 @@
+//! `split H B`
+
+ghost use Rattle.std.specs.Prelude.{◌≤◌, ◌^◌, codes};
+ghost use Rattle.dcel_commands.specs.Vocabulary.{Carries, Says, left};
+
+use super::*;
+use spade_dcel::operations::split_edge;
+
+/// What the line says after its word.
+pub fn read<'a>(rest: Rest<'a>) -> Option<Request>
+    ensures { Says (codes "split") (left rest.entry) result }
+{
+    let (edge, vertex) = edge_and_vertex(rest)?;
+    Some(Request::Edit(Command::Split(edge, vertex)))
+}
+
+/// Carries the command out.
+pub fn carry_out<V, DE: Default, UE: Default, F: Default, A: Allocator>(
+    dcel: &mut Dcel<V, DE, UE, F, A>,
+    edge: FixedDirectedEdgeHandle,
+    new_vertex: FixedVertexHandle,
+    limit: usize,
+) -> Result<Reply, Refused<V>>
+    requires { limit ≤ 2 ^ 31 }
+    ensures { Carries DE.is_default UE.is_default F.is_default limit dcel.old (Command.Split edge new_vertex) result dcel.new }
+{
+    ask_edge_and_vertex(dcel, edge, new_vertex)?;
+    let half_edge = dcel.directed_edge(edge);
+    ask(
+        dcel.is_triangle(half_edge.face().fix()),
+        Refusal::NotTriangle,
+    )?;
+    ask(
+        dcel.is_triangle(half_edge.rev().face().fix()),
+        Refusal::NotTriangle,
+    )?;
+    ask(has_room(dcel, limit, 0, 3, 2), Refusal::NoRoom)?;
+    let halves = split_edge(dcel, edge, new_vertex)?;
+    Ok(Reply::Halves(halves))
+}

@@ -1,0 +1,61 @@
+//! One read and one write, which contracts can tell from none and from two.
+
+ghost use Rattle.std.specs.Prelude.{ℕ, List, Option, Result};
+ghost use Rattle.std.specs.Io.{ReadsAtMost, WritesAtMost};
+ghost use Rattle.std.specs.Io.KnownBytes.{ReadConsumes, WriteAppends};
+ghost use Rattle.dcel_text.specs.declared.faults.Failed.{Failed};
+
+use crate::faults::Failed;
+use std::io::{Read, Write};
+
+/// A reader of which a contract can say that one read was made: code over any of these has `read_gives` of two states of the reader
+/// only by a call of `read_once` that leads from the one to the other. Every std reader is one.
+pub trait ReadOnce {
+    // the bytes that reads will give, where they are known
+    ghost remaining: { Self → Option (List ℕ) };
+
+    // one read, by a reader and into a buffer that were so, gave this and left the buffer and the reader so
+    ghost read_gives: { Self → List ℕ → Result ℕ Failed → List ℕ → Self → Type 0 };
+
+    /// Reads once: it fails where the read does.
+    fn read_once(&mut self, buf: &mut [u8]) -> Result<usize, Failed>
+        ensures one_read { read_gives self.old buf.old result buf.new self.new }
+        ensures bound { ReadsAtMost result buf.new }
+        ensures bytes { ReadConsumes (remaining self.old) (remaining self.new) result buf.new };
+}
+
+impl<R: Read> ReadOnce for R {
+    ghost remaining = { λ r. R.remaining r };
+
+    ghost read_gives = { λ old before result after new. ReadConsumes (R.remaining old) (R.remaining new) result after };
+
+    fn read_once(&mut self, buf: &mut [u8]) -> Result<usize, Failed> {
+        self.read(buf).map_err(|_| Failed)
+    }
+}
+
+/// A writer of which a contract can say that one write was made: code over any of these has `write_gives` of two states of the writer
+/// only by a call of `write_once` that leads from the one to the other. Every std writer is one.
+pub trait WriteOnce {
+    // the bytes that the writer holds, where they are known
+    ghost contents: { Self → Option (List ℕ) };
+
+    // one write, to a writer that was so, of this text gave this and left the writer so
+    ghost write_gives: { Self → List ℕ → Result ℕ Failed → Self → Type 0 };
+
+    /// Writes once: it fails where the write does.
+    fn write_once(&mut self, bytes: &[u8]) -> Result<usize, Failed>
+        ensures one_write { write_gives self.old bytes.now result self.new }
+        ensures bound { WritesAtMost result bytes.now }
+        ensures bytes { WriteAppends (contents self.old) (contents self.new) result bytes.now };
+}
+
+impl<W: Write> WriteOnce for W {
+    ghost contents = { λ w. W.contents w };
+
+    ghost write_gives = { λ old bytes result new. WriteAppends (W.contents old) (W.contents new) result bytes };
+
+    fn write_once(&mut self, bytes: &[u8]) -> Result<usize, Failed> {
+        self.write(bytes).map_err(|_| Failed)
+    }
+}
