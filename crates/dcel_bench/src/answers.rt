@@ -140,14 +140,23 @@ pub fn assert_answered(
     let mut lines = Vec::new(alloc);
     let mut replies = Vec::new(alloc);
     push_talk(&mut lines, &mut replies, talk)?;
+    assert_text_answered(alloc, limit, &lines, &replies, rt)
+}
+
+/// Runs the lines with reads of one, three and all bytes: they are answered by these replies.
+pub fn assert_text_answered(
+    alloc: Global,
+    limit: usize,
+    lines: &[u8],
+    replies: &[u8],
+    rt: &impl Abort,
+) -> Result<(), Fail>
+    requires { limit ≤ 2 ^ 31 }
+{
     for chunk in [1, 3, PLENTY] {
-        let (ended, written) = answers(alloc, limit, &lines, chunk, PLENTY, PLENTY);
+        let (ended, written) = answers(alloc, limit, lines, chunk, PLENTY, PLENTY);
         ended?;
-        assert_eq!(rt;
-            written.as_slice(),
-            replies.as_slice(),
-            "in reads of {chunk}"
-        );
+        assert_eq!(rt; written.as_slice(), replies, "in reads of {chunk}");
     }
     Ok(())
 }

@@ -1,6 +1,9 @@
 //! Calls on a mesh, with their answers where there is memory.
 
-use crate::meshes::{Mesh, append, assert_links, half_edge, line, set_up, vertex};
+use crate::meshes::{
+    Mesh, append, assert_links, close, cut_triangle, edge_between, extend, first_edge, half_edge,
+    line, set_up, triangle_and_vertex, vertex,
+};
 use spade_dcel::handles::{
     DelaunayElementType, DirectedEdgeTag, DirectedVoronoiEdgeTag, FaceTag,
     FixedUndirectedEdgeHandle, OUTER_FACE, UndirectedEdgeTag, UndirectedVoronoiEdgeTag, VertexTag,
@@ -75,6 +78,98 @@ fn anchors_and_tests_answer(rt: HostRuntime) -> Result<(), Fail> {
     assert!(rt; dcel.is_live_face(OUTER_FACE));
     assert!(rt; !dcel.is_live_vertex(vertex(3)));
     assert!(rt; !dcel.is_live_edge(FixedUndirectedEdgeHandle::new(1)));
+    Ok(())
+}
+
+#[test]
+fn edges_of_a_line_are_tested(rt: HostRuntime) -> Result<(), Fail> {
+    let dcel = line(rt.alloc(), &rt)?;
+    // The outer word is 0, 5, 4, 1, 3, 2, round the line 2, 0, 1, 3.
+    for (index, is_bridge, can_close) in [
+        (0, true, true),
+        (1, true, true),
+        (2, true, true),
+        (3, true, false),
+        (4, true, true),
+        (5, true, false),
+        (6, false, false),
+        (4_294_967_295, false, false),
+    ] {
+        let edge = half_edge(index);
+        assert_eq!(rt; dcel.is_bridge(edge), is_bridge, "half edge {index}");
+        assert_eq!(rt;
+            dcel.can_close_outside(edge),
+            can_close,
+            "half edge {index}"
+        );
+    }
+    Ok(())
+}
+
+#[test]
+fn edges_of_a_triangle_are_tested(rt: HostRuntime) -> Result<(), Fail> {
+    let dcel = triangle_and_vertex(rt.alloc(), &rt)?;
+    for (index, can_close) in [(0, true), (1, false), (2, true), (3, false), (6, false)] {
+        let edge = half_edge(index);
+        assert!(rt; !dcel.is_bridge(edge), "half edge {index}");
+        assert_eq!(rt;
+            dcel.can_close_outside(edge),
+            can_close,
+            "half edge {index}"
+        );
+    }
+    Ok(())
+}
+
+#[test]
+fn edges_of_a_triangle_on_a_line_are_tested(rt: HostRuntime) -> Result<(), Fail> {
+    let mut dcel = first_edge(rt.alloc(), &rt)?;
+    for (datum, end) in [(2, 1), (3, 2)] {
+        let added = append(&mut dcel, datum, &rt)?;
+        extend(&mut dcel, vertex(end), added, &rt)?;
+    }
+    close(&mut dcel, half_edge(3), &rt)?;
+    // The words are 0, 7, 4, 2, 1 and 3, 5, 6: a triangle of 1, 2 and 3, and the edge from 0 to 1.
+    for (index, is_bridge, can_close) in [
+        (0, true, true),
+        (1, true, false),
+        (2, false, true),
+        (3, false, false),
+        (4, false, true),
+        (5, false, false),
+        (6, false, false),
+        (7, false, true),
+        (8, false, false),
+    ] {
+        let edge = half_edge(index);
+        assert_eq!(rt; dcel.is_bridge(edge), is_bridge, "half edge {index}");
+        assert_eq!(rt;
+            dcel.can_close_outside(edge),
+            can_close,
+            "half edge {index}"
+        );
+    }
+    Ok(())
+}
+
+#[test]
+fn edges_are_found_by_their_ends(rt: HostRuntime) -> Result<(), Fail> {
+    let dcel = cut_triangle(rt.alloc(), &rt)?;
+    for (from, to, edge) in [
+        (0, 1, Some(half_edge(0))),
+        (1, 0, Some(half_edge(1))),
+        (3, 1, Some(half_edge(11))),
+        (1, 3, Some(half_edge(10))),
+        (3, 3, None),
+        (3, 4, None),
+        (0, 4_294_967_295, None),
+    ] {
+        assert_eq!(rt;
+            edge_between(&dcel, from, to, &rt),
+            edge,
+            "from {from} to {to}"
+        );
+    }
     Ok(())
 }
 

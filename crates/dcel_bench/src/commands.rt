@@ -1,138 +1,218 @@
 //! Commands and the refusals that they get.
 
-use crate::meshes::{
-    Mesh, NO_LIMIT, append, assert_counts, inner_face, line, triangle_and_vertex, vertex,
+use crate::growths::Growth::{
+    Append, Close, Extend, Insert, PutBeside, SetUp, SplitBothSides, SplitOnLine, SplitOneSide,
+    Triangle,
 };
-use dcel_commands::commands::{Command, Handed, Refusal, Refused, Reply, apply};
-use spade_dcel::operations::new;
-use std::process::Abort;
+use crate::growths::{Growth, assert_refused, carry_out, grown};
+use crate::meshes::{NO_LIMIT, assert_counts};
+use dcel_commands::commands::Refusal::{
+    EdgesStand, NoRoom, NoSuchEdge, NoSuchFace, NoSuchVertex, NotBridge, NotLineEnd, NotOuter,
+    NotTriangle, SameVertex, VertexInUse, WouldLoop,
+};
+use dcel_commands::commands::{MAX_LIMIT, Refusal};
 use std::test::Fail;
 
-fn setup(a: u32, b: u32) -> Command<i64> {
-    Command::Setup(vertex(a), vertex(b))
-}
+/// Calls that make a mesh; commands that it refuses, the limit and why; one that it carries out, and the limit; and how many vertices,
+/// half edges and faces there are then.
+type Row = (
+    &'static [Growth],
+    &'static [(Growth, usize, Refusal)],
+    (Growth, usize),
+    (usize, usize, usize),
+);
 
-fn extend(a: u32, b: u32) -> Command<i64> {
-    Command::Extend(vertex(a), vertex(b))
-}
+/// The line 2, 0, 1, 3, and vertex 4 beside it. The outer word is 0, 5, 4, 1, 3, 2.
+const LINE_AND_VERTEX: [Growth; 8] = [
+    Append(0),
+    Append(1),
+    SetUp(0, 1),
+    Append(2),
+    Extend(0, 2),
+    Append(3),
+    Extend(1, 3),
+    Append(4),
+];
 
-fn insert(v: u32, f: u32) -> Command<i64> {
-    Command::Insert(vertex(v), inner_face(f))
-}
+/// A triangle, and vertex 3 beside it.
+const TRIANGLE_AND_VERTEX: [Growth; 2] = [Triangle(0, 1, 2), Append(3)];
 
-/// That the mesh refuses the command under the limit by this name, and is then as large as before.
-fn assert_refused(
-    dcel: &mut Mesh,
-    command: Command<i64>,
-    limit: usize,
-    why: Refusal,
-    rt: &impl Abort,
-) {
-    assert!(rt; limit <= NO_LIMIT);
-    let vertices = dcel.num_vertices();
-    let directed_edges = dcel.num_directed_edges();
-    let faces = dcel.num_faces();
-    let refused = Refused {
-        why,
-        back: Handed::Nothing,
-    };
-    assert_eq!(rt; apply(dcel, command, limit), Err(refused));
-    assert_counts(dcel, vertices, directed_edges, faces, rt);
+const ROWS: [Row; 14] = [
+    (&[], &[(Append(-7), 0, NoRoom)], (Append(-7), 1), (1, 0, 1)),
+    (
+        &LINE_AND_VERTEX,
+        &[(Triangle(7, -8, 9), 2, NoRoom)],
+        (Triangle(7, -8, 9), 3),
+        (3, 6, 2),
+    ),
+    (
+        &[Append(10), Append(11)],
+        &[
+            (SetUp(2, 0), NO_LIMIT, NoSuchVertex),
+            (SetUp(0, 2), NO_LIMIT, NoSuchVertex),
+            (SetUp(0, 0), NO_LIMIT, SameVertex),
+            (SetUp(0, 1), 1, NoRoom),
+        ],
+        (SetUp(0, 1), 2),
+        (2, 2, 1),
+    ),
+    (
+        &[Append(0), Append(1), SetUp(0, 1)],
+        &[
+            (SetUp(0, 1), 2, EdgesStand),
+            (Close(2), 0, NoSuchEdge),
+            (Close(0), 0, WouldLoop),
+            (Close(1), 0, WouldLoop),
+        ],
+        (Append(2), 3),
+        (3, 2, 1),
+    ),
+    (
+        &LINE_AND_VERTEX,
+        &[
+            (Extend(5, 4), NO_LIMIT, NoSuchVertex),
+            (Extend(2, 5), NO_LIMIT, NoSuchVertex),
+            (Extend(2, 2), NO_LIMIT, SameVertex),
+            (Extend(2, 3), NO_LIMIT, VertexInUse),
+            (Extend(0, 4), NO_LIMIT, NotLineEnd),
+            (Extend(2, 4), 4, NoRoom),
+            (Insert(4, 0), NO_LIMIT, NoSuchFace),
+            (Insert(4, 1), NO_LIMIT, NoSuchFace),
+        ],
+        (Extend(2, 4), 5),
+        (5, 8, 1),
+    ),
+    (
+        &LINE_AND_VERTEX,
+        &[
+            (SplitOnLine(0, 5), NO_LIMIT, NoSuchVertex),
+            (SplitOnLine(6, 5), NO_LIMIT, NoSuchVertex),
+            (SplitOnLine(6, 4), NO_LIMIT, NoSuchEdge),
+            (SplitOnLine(6, 0), NO_LIMIT, NoSuchEdge),
+            (SplitOnLine(0, 3), NO_LIMIT, VertexInUse),
+            (SplitOneSide(0, 4), 0, NotTriangle),
+            (SplitBothSides(0, 4), 0, NotTriangle),
+            (Close(3), 0, WouldLoop),
+            (Close(5), 0, WouldLoop),
+            (SplitOnLine(0, 4), 4, NoRoom),
+        ],
+        (SplitOnLine(0, 4), 5),
+        (5, 8, 1),
+    ),
+    (
+        &TRIANGLE_AND_VERTEX,
+        &[
+            (Insert(4, 0), NO_LIMIT, NoSuchVertex),
+            (Insert(0, 0), NO_LIMIT, NoSuchFace),
+            (Insert(3, 2), NO_LIMIT, NoSuchFace),
+            (Insert(0, 1), NO_LIMIT, VertexInUse),
+            (Insert(3, 1), 5, NoRoom),
+        ],
+        (Insert(3, 1), 6),
+        (4, 12, 4),
+    ),
+    (
+        &TRIANGLE_AND_VERTEX,
+        &[
+            (SplitOnLine(0, 0), 0, VertexInUse),
+            (SplitOnLine(0, 3), 0, NotBridge),
+            (SplitOnLine(5, 3), 0, NotBridge),
+            (Close(6), NO_LIMIT, NoSuchEdge),
+            (Close(1), 0, NotOuter),
+            (Close(0), 3, NoRoom),
+        ],
+        (Close(0), 4),
+        (4, 8, 3),
+    ),
+    (
+        // The outer word is 4, 7, between two edges that join 0 and 2.
+        &[Triangle(0, 1, 2), Close(0)],
+        &[
+            (Close(4), 0, WouldLoop),
+            (Close(7), 0, WouldLoop),
+            (Close(6), 0, NotOuter),
+        ],
+        (Append(3), 4),
+        (4, 8, 3),
+    ),
+    (
+        &TRIANGLE_AND_VERTEX,
+        &[
+            (PutBeside(0, 4), NO_LIMIT, NoSuchVertex),
+            (PutBeside(6, 4), NO_LIMIT, NoSuchVertex),
+            (PutBeside(6, 3), NO_LIMIT, NoSuchEdge),
+            (PutBeside(6, 0), NO_LIMIT, NoSuchEdge),
+            (PutBeside(1, 0), 0, VertexInUse),
+            (PutBeside(1, 3), 4, NoRoom),
+        ],
+        (PutBeside(1, 3), 5),
+        (4, 10, 3),
+    ),
+    (
+        &TRIANGLE_AND_VERTEX,
+        &[
+            (SplitOneSide(0, 4), NO_LIMIT, NoSuchVertex),
+            (SplitOneSide(6, 4), NO_LIMIT, NoSuchVertex),
+            (SplitOneSide(6, 3), NO_LIMIT, NoSuchEdge),
+            (SplitOneSide(6, 0), NO_LIMIT, NoSuchEdge),
+            (SplitOneSide(0, 1), 0, VertexInUse),
+            (SplitOneSide(0, 3), 4, NoRoom),
+        ],
+        (SplitOneSide(0, 3), 5),
+        (4, 10, 3),
+    ),
+    (
+        &TRIANGLE_AND_VERTEX,
+        &[
+            (SplitBothSides(0, 4), NO_LIMIT, NoSuchVertex),
+            (SplitBothSides(6, 4), NO_LIMIT, NoSuchVertex),
+            (SplitBothSides(6, 3), NO_LIMIT, NoSuchEdge),
+            (SplitBothSides(6, 0), NO_LIMIT, NoSuchEdge),
+            (SplitBothSides(0, 1), 0, VertexInUse),
+            (SplitBothSides(0, 3), 5, NoRoom),
+        ],
+        (SplitBothSides(0, 3), 6),
+        (4, 12, 4),
+    ),
+    (
+        // The words are 0, 7, 4 and 1, 5, 3, 9 and 2, 6, 8.
+        &[Triangle(0, 1, 2), Append(3), SplitOneSide(0, 3), Append(4)],
+        &[
+            (SplitOneSide(1, 3), 0, VertexInUse),
+            (SplitOneSide(1, 4), 0, NotTriangle),
+            (SplitOneSide(9, 4), 0, NotTriangle),
+            (SplitOneSide(4, 4), 6, NoRoom),
+        ],
+        (SplitOneSide(4, 4), 7),
+        (5, 14, 4),
+    ),
+    (
+        &[Triangle(0, 1, 2), Append(3), SplitOneSide(0, 3), Append(4)],
+        &[
+            (SplitBothSides(4, 3), 0, VertexInUse),
+            (SplitBothSides(4, 4), 0, NotTriangle),
+            (SplitBothSides(5, 4), 0, NotTriangle),
+            (SplitBothSides(7, 4), 7, NoRoom),
+        ],
+        (SplitBothSides(7, 4), 8),
+        (5, 16, 5),
+    ),
+];
+
+#[test]
+fn the_greatest_limit_is_that_of_the_program(rt: HostRuntime) {
+    assert_eq!(rt; MAX_LIMIT, NO_LIMIT);
 }
 
 #[test]
-fn a_first_edge_is_refused(rt: HostRuntime) -> Result<(), Fail> {
-    let mut dcel: Mesh = new(rt.alloc())?;
-    for datum in [10, 11] {
-        let _ = append(&mut dcel, datum, &rt)?;
+fn commands_are_refused(rt: HostRuntime) -> Result<(), Fail> {
+    for (begun, refused, (carried_out, enough), (vertices, directed_edges, faces)) in ROWS {
+        let mut dcel = grown(rt.alloc(), begun, &rt)?;
+        for (growth, limit, why) in refused {
+            assert_refused(&mut dcel, *growth, *limit, *why, &rt);
+        }
+        assert!(rt; carry_out(&mut dcel, carried_out, enough, &rt));
+        assert_counts(&dcel, vertices, directed_edges, faces, &rt);
     }
-    for (command, limit, why) in [
-        (setup(2, 0), NO_LIMIT, Refusal::NoSuchVertex),
-        (setup(0, 2), NO_LIMIT, Refusal::NoSuchVertex),
-        (setup(0, 0), NO_LIMIT, Refusal::SameVertex),
-        (setup(0, 1), 1, Refusal::NoRoom),
-    ] {
-        assert_refused(&mut dcel, command, limit, why, &rt);
-    }
-    assert_eq!(rt; apply(&mut dcel, setup(0, 1), 2), Ok(Reply::Ok));
-    assert_refused(&mut dcel, setup(0, 1), 2, Refusal::EdgesStand, &rt);
-    Ok(())
-}
-
-#[test]
-fn a_longer_line_is_refused(rt: HostRuntime) -> Result<(), Fail> {
-    let mut dcel = line(rt.alloc(), &rt)?;
-    let _ = append(&mut dcel, 4, &rt)?;
-    for (command, limit, why) in [
-        (extend(5, 4), NO_LIMIT, Refusal::NoSuchVertex),
-        (extend(2, 5), NO_LIMIT, Refusal::NoSuchVertex),
-        (extend(2, 2), NO_LIMIT, Refusal::SameVertex),
-        (extend(2, 3), NO_LIMIT, Refusal::VertexInUse),
-        (extend(0, 4), NO_LIMIT, Refusal::NotLineEnd),
-        (extend(2, 4), 4, Refusal::NoRoom),
-        (insert(4, 0), NO_LIMIT, Refusal::NoSuchFace),
-        (insert(4, 1), NO_LIMIT, Refusal::NoSuchFace),
-    ] {
-        assert_refused(&mut dcel, command, limit, why, &rt);
-    }
-    assert_eq!(rt;
-        apply(&mut dcel, extend(2, 4), 5),
-        Ok(Reply::Vertex(vertex(4)))
-    );
-    Ok(())
-}
-
-#[test]
-fn an_insertion_is_refused(rt: HostRuntime) -> Result<(), Fail> {
-    let mut dcel = triangle_and_vertex(rt.alloc(), &rt)?;
-    for (command, limit, why) in [
-        (insert(4, 0), NO_LIMIT, Refusal::NoSuchVertex),
-        (insert(0, 0), NO_LIMIT, Refusal::NoSuchFace),
-        (insert(3, 2), NO_LIMIT, Refusal::NoSuchFace),
-        (insert(0, 1), NO_LIMIT, Refusal::VertexInUse),
-        (insert(3, 1), 5, Refusal::NoRoom),
-    ] {
-        assert_refused(&mut dcel, command, limit, why, &rt);
-    }
-    assert_eq!(rt;
-        apply(&mut dcel, insert(3, 1), 6),
-        Ok(Reply::Vertex(vertex(3)))
-    );
-    Ok(())
-}
-
-#[test]
-fn a_datum_is_handed_back(rt: HostRuntime) -> Result<(), Fail> {
-    let mut dcel: Mesh = new(rt.alloc())?;
-    let refused = Refused {
-        why: Refusal::NoRoom,
-        back: Handed::One(-7),
-    };
-    assert_eq!(rt; apply(&mut dcel, Command::Append(-7), 0), Err(refused));
-    assert_counts(&dcel, 0, 0, 1, &rt);
-    assert_eq!(rt;
-        apply(&mut dcel, Command::Append(-7), 1),
-        Ok(Reply::Vertex(vertex(0)))
-    );
-    Ok(())
-}
-
-#[test]
-fn a_triangle_replaces_the_mesh(rt: HostRuntime) -> Result<(), Fail> {
-    let mut dcel = line(rt.alloc(), &rt)?;
-    let refused = Refused {
-        why: Refusal::NoRoom,
-        back: Handed::Three(7, -8, 9),
-    };
-    assert_eq!(rt;
-        apply(&mut dcel, Command::Triangle(7, -8, 9), 2),
-        Err(refused)
-    );
-    assert_counts(&dcel, 4, 6, 1, &rt);
-    assert_eq!(rt;
-        apply(&mut dcel, Command::Triangle(7, -8, 9), 3),
-        Ok(Reply::Ok)
-    );
-    assert_counts(&dcel, 3, 6, 2, &rt);
     Ok(())
 }

@@ -1,12 +1,12 @@
 //! Lines that are commands and lines that aren't, however they are cut, and runs in which a read or a write fails.
 
-use crate::answers::{PLENTY, answers, assert_answered};
+use crate::answers::{PLENTY, answers, assert_answered, assert_text_answered, push_line};
 use dcel_commands::commands::{Refusal, RunFault};
 use std::alloc::{AllocError, Global};
 use std::test::Fail;
 
 /// Lines, and what each is answered.
-const LINES: [(&str, &str); 65] = [
+const LINES: [(&str, &str); 73] = [
     ("append 5", "vertex 0"),
     ("append -12", "vertex 1"),
     ("append -0", "bad line"),
@@ -70,6 +70,14 @@ const LINES: [(&str, &str); 65] = [
     ("origin 0 0", "bad line"),
     ("origin 4294967295", "refused 2 NoSuchEdge"),
     ("origin 5", "vertex 0"),
+    ("between", "bad line"),
+    ("between 0", "bad line"),
+    ("between 0 1 2", "bad line"),
+    ("between 0 01", "bad line"),
+    ("between 0 -1", "bad line"),
+    ("between 0 4294967296", "bad line"),
+    ("between 0 4294967295", "refused 1 NoSuchVertex"),
+    ("between 2 0", "half 4"),
     ("counts 0", "bad line"),
     ("check ", "bad line"),
 ];
@@ -77,6 +85,62 @@ const LINES: [(&str, &str); 65] = [
 #[test]
 fn lines_are_answered(rt: HostRuntime) -> Result<(), Fail> {
     assert_answered(rt.alloc(), 3, &LINES, &rt)
+}
+
+/// What makes a bad line after a word that wants one number.
+const NOT_ONE_NUMBER: [&str; 11] = [
+    "",
+    " ",
+    " 0 0",
+    " 0 ",
+    "  0",
+    " 00",
+    " -0",
+    " -1",
+    " 4294967296",
+    " /",
+    "0",
+];
+
+/// What makes a bad line after a word that wants two numbers.
+const NOT_TWO_NUMBERS: [&str; 15] = [
+    "",
+    " ",
+    " 0",
+    " 0 ",
+    " 0 0 0",
+    " 0 0 ",
+    " 0  0",
+    "  0 0",
+    " 00 0",
+    " 0 00",
+    " -1 0",
+    " 0 -1",
+    " 4294967296 0",
+    " 0 4294967296",
+    " 0 / 0",
+];
+
+#[test]
+fn other_counts_of_numbers_are_bad(rt: HostRuntime) -> Result<(), Fail> {
+    let alloc = rt.alloc();
+    let mut lines = Vec::new(alloc);
+    let mut replies = Vec::new(alloc);
+    for word in ["close", "out", "origin"] {
+        for rest in NOT_ONE_NUMBER {
+            push_line(&mut lines, &format!(in alloc; "{word}{rest}")?)?;
+            push_line(&mut replies, "bad line")?;
+        }
+    }
+    for word in [
+        "setup", "extend", "line", "outside", "insert", "half", "split", "between",
+    ] {
+        for rest in NOT_TWO_NUMBERS {
+            push_line(&mut lines, &format!(in alloc; "{word}{rest}")?)?;
+            push_line(&mut replies, "bad line")?;
+        }
+    }
+    assert_text_answered(alloc, 3, &lines, &replies, &rt)
 }
 
 /// So many bytes `x`, and then the text.

@@ -3,8 +3,9 @@
 use spade_dcel::dcel::Dcel;
 use spade_dcel::handles::{FixedDirectedEdgeHandle, FixedFaceHandle, FixedVertexHandle, InnerTag};
 use spade_dcel::operations::{
-    NoMemory, append_unconnected_vertex, extend_line, insert_into_triangle, new, new_triangle,
-    setup_initial_two_vertices,
+    NoMemory, append_unconnected_vertex, create_new_face_adjacent_to_edge,
+    create_single_face_between_edge_and_next, extend_line, insert_into_triangle, new, new_triangle,
+    setup_initial_two_vertices, split_edge, split_edge_when_all_vertices_on_line, split_half_edge,
 };
 use std::alloc::{AllocError, Allocator, Global};
 use std::process::Abort;
@@ -66,6 +67,92 @@ pub fn extend<A: Allocator>(
     assert!(rt; dcel.is_unconnected(added));
     assert!(rt; dcel.has_room(0, 1, 0));
     assert_eq!(rt; extend_line(dcel, end, added)?, added);
+    Ok(())
+}
+
+/// Puts a vertex that has no edge into the middle of an edge with one face on both sides.
+pub fn split_on_line<A: Allocator>(
+    dcel: &mut Mesh<A>,
+    edge: FixedDirectedEdgeHandle,
+    added: FixedVertexHandle,
+    rt: &impl Abort,
+) -> Result<(), AllocError> {
+    assert!(rt; dcel.is_bridge(edge));
+    assert!(rt; dcel.is_unconnected(added));
+    assert!(rt; dcel.has_room(0, 1, 0));
+    let first_new = FixedDirectedEdgeHandle::new(dcel.num_directed_edges());
+    let halves = split_edge_when_all_vertices_on_line(dcel, edge, added)?;
+    assert_eq!(rt; halves, [edge, first_new]);
+    Ok(())
+}
+
+/// Closes a triangle between a half edge of the outer face and the next one.
+pub fn close<A: Allocator>(
+    dcel: &mut Mesh<A>,
+    edge: FixedDirectedEdgeHandle,
+    rt: &impl Abort,
+) -> Result<(), AllocError> {
+    assert!(rt; dcel.can_close_outside(edge));
+    assert!(rt; dcel.has_room(0, 1, 1));
+    let outer = FixedDirectedEdgeHandle::new(dcel.num_directed_edges() + 1);
+    assert_eq!(rt;
+        create_single_face_between_edge_and_next(dcel, edge)?,
+        outer
+    );
+    Ok(())
+}
+
+/// Puts a triangle beside a half edge, with a vertex that has no edge.
+pub fn put_beside<A: Allocator>(
+    dcel: &mut Mesh<A>,
+    edge: FixedDirectedEdgeHandle,
+    added: FixedVertexHandle,
+    rt: &impl Abort,
+) -> Result<(), AllocError> {
+    assert!(rt; dcel.is_live_edge(edge.as_undirected()));
+    assert!(rt; dcel.is_unconnected(added));
+    assert!(rt; dcel.has_room(0, 2, 1));
+    assert_eq!(rt; create_new_face_adjacent_to_edge(dcel, edge, added)?, added);
+    Ok(())
+}
+
+/// Puts a vertex that has no edge into the middle of an edge with a triangle on the side of the half edge.
+pub fn split_one_side<A: Allocator>(
+    dcel: &mut Mesh<A>,
+    edge: FixedDirectedEdgeHandle,
+    added: FixedVertexHandle,
+    rt: &impl Abort,
+) -> Result<(), AllocError> {
+    assert!(rt; edge.index() < dcel.num_directed_edges());
+    assert!(rt; dcel.is_live_edge(edge.as_undirected()));
+    let face = dcel.directed_edge(edge).face().fix();
+    assert!(rt; dcel.is_triangle(face));
+    assert!(rt; dcel.is_unconnected(added));
+    assert!(rt; dcel.has_room(0, 2, 1));
+    let second = FixedDirectedEdgeHandle::new(dcel.num_directed_edges() + 2);
+    let halves = split_half_edge(dcel, edge, added)?;
+    assert_eq!(rt; halves, [edge, second]);
+    Ok(())
+}
+
+/// Puts a vertex that has no edge into the middle of an edge with a triangle on both sides.
+pub fn split_both_sides<A: Allocator>(
+    dcel: &mut Mesh<A>,
+    edge: FixedDirectedEdgeHandle,
+    added: FixedVertexHandle,
+    rt: &impl Abort,
+) -> Result<(), AllocError> {
+    assert!(rt; edge.index() < dcel.num_directed_edges());
+    assert!(rt; dcel.is_live_edge(edge.as_undirected()));
+    let borrowed = dcel.directed_edge(edge);
+    let face = borrowed.face().fix();
+    let facing = borrowed.rev().face().fix();
+    assert!(rt; dcel.is_triangle(face) && dcel.is_triangle(facing));
+    assert!(rt; dcel.is_unconnected(added));
+    assert!(rt; dcel.has_room(0, 3, 2));
+    let second = FixedDirectedEdgeHandle::new(dcel.num_directed_edges() + 3);
+    let halves = split_edge(dcel, edge, added)?;
+    assert_eq!(rt; halves, [edge, second]);
     Ok(())
 }
 
@@ -131,6 +218,19 @@ pub fn cut_triangle(alloc: Global, rt: &impl Abort) -> Result<Mesh, Fail> {
     let mut dcel = triangle_and_vertex(alloc, rt)?;
     insert(&mut dcel, vertex(3), inner_face(1), rt)?;
     Ok(dcel)
+}
+
+/// The half edge that leads from one vertex to another, as the mesh finds it.
+pub fn edge_between<A: Allocator>(
+    dcel: &Mesh<A>,
+    from: u32,
+    to: u32,
+    rt: &impl Abort,
+) -> Option<FixedDirectedEdgeHandle> {
+    let start = vertex(from);
+    assert!(rt; start.index() < dcel.num_vertices());
+    let found = dcel.get_edge_from_neighbors(start, vertex(to))?;
+    Some(found.fix())
 }
 
 /// That the mesh has so many vertices, half edges and faces.

@@ -46,25 +46,20 @@ fn a_run_is_refused_its_first_mesh(rt: HostRuntime) -> Result<(), Fail> {
     Ok(())
 }
 
+/// What is answered after a refused first line, whose mesh stays empty: an append, an edit of two vertices, `words`.
+const ON_NOTHING: &str = "vertex 0\nrefused 1 NoSuchVertex\nF0";
+
 /// Lines with their replies; and for those that take memory, the replies to the lines after them where it is refused.
 const TALKS: [&[(&str, &str, &str)]; 2] = [
     &[
-        (
-            "triangle 0 1 2",
-            "ok",
-            "vertex 0\nrefused 1 NoSuchVertex\nF0",
-        ),
+        ("triangle 0 1 2", "ok", ON_NOTHING),
         // The triangle left room for a fourth vertex.
         ("append 3", "vertex 3", ""),
         ("insert 3 1", "vertex 3", "F0 0 2 4\nF1 1 5 3"),
         ("words", "F0 0 2 4\nF1 1 6 11\nF2 5 8 7\nF3 3 10 9", ""),
     ],
     &[
-        (
-            "append 5",
-            "vertex 0",
-            "vertex 0\nrefused 1 NoSuchVertex\nF0",
-        ),
+        ("append 5", "vertex 0", ON_NOTHING),
         ("append 6", "vertex 1", ""),
         ("setup 0 1", "ok", "F0"),
         ("words", "F0 0 1", ""),
@@ -105,6 +100,107 @@ fn lines_are_refused_memory(rt: HostRuntime) -> Result<(), Fail> {
     Ok(())
 }
 
+/// Lines that have memory; a line that takes some, and its reply; and the words before it and after it.
+type Edit = (
+    &'static [(&'static str, &'static str)],
+    (&'static str, &'static str),
+    &'static str,
+    &'static str,
+);
+
+const EDITS: [Edit; 5] = [
+    (
+        &[
+            ("append 0", "vertex 0"),
+            ("append 1", "vertex 1"),
+            ("setup 0 1", "ok"),
+            ("append 2", "vertex 2"),
+            ("line 0 2", "halves 0 2"),
+            ("append 3", "vertex 3"),
+            ("line 0 3", "halves 0 4"),
+            ("append 4", "vertex 4"),
+            ("line 0 4", "halves 0 6"),
+            ("append 5", "vertex 5"),
+        ],
+        ("line 0 5", "halves 0 8"),
+        "F0 0 6 4 2 3 5 7 1",
+        "F0 0 8 6 4 2 3 5 7 9 1",
+    ),
+    (
+        &[
+            ("append 0", "vertex 0"),
+            ("append 1", "vertex 1"),
+            ("setup 0 1", "ok"),
+            ("append 2", "vertex 2"),
+            ("line 0 2", "halves 0 2"),
+            ("append 3", "vertex 3"),
+            ("line 0 3", "halves 0 4"),
+            ("close 0", "half 7"),
+        ],
+        ("close 3", "half 9"),
+        "F0 1 7 2 3 5\nF1 0 4 6",
+        "F0 1 7 2 9\nF1 0 4 6\nF2 3 5 8",
+    ),
+    (
+        &[("triangle 0 1 2", "ok"), ("append 3", "vertex 3")],
+        ("outside 0 3", "vertex 3"),
+        "F0 0 2 4\nF1 1 5 3",
+        "F0 2 4 9 7\nF1 1 5 3\nF2 0 6 8",
+    ),
+    (
+        &[("triangle 0 1 2", "ok"), ("append 3", "vertex 3")],
+        ("half 0 3", "halves 0 8"),
+        "F0 0 2 4\nF1 1 5 3",
+        "F0 0 7 4\nF1 1 5 3 9\nF2 2 6 8",
+    ),
+    (
+        &[
+            ("triangle 0 1 2", "ok"),
+            ("append 3", "vertex 3"),
+            ("insert 3 1", "vertex 3"),
+            ("append 4", "vertex 4"),
+        ],
+        ("split 6 4", "halves 6 15"),
+        "F0 0 2 4\nF1 1 6 11\nF2 5 8 7\nF3 3 10 9",
+        "F0 0 2 4\nF1 1 6 17\nF2 5 12 7\nF3 3 10 9\nF4 8 14 13\nF5 11 16 15",
+    ),
+];
+
+/// That the edit is refused where any one of its requests for memory is, and then carried out when it comes again.
+fn assert_made_again(edit: &Edit, alloc: Global, rt: &impl Abort) -> Result<(), Fail> {
+    let (begun, (line, reply), before, after) = edit;
+    let mut lines = Vec::new(alloc);
+    let mut replies = Vec::new(alloc);
+    push_talk(&mut lines, &mut replies, begun)?;
+    let first = requests_of(&lines, alloc);
+    push_talk(
+        &mut lines,
+        &mut replies,
+        &[(line, "refused 20 OutOfMemory")],
+    )?;
+    let end = requests_of(&lines, alloc);
+    assert!(rt; first < end, "{line}");
+    push_talk(
+        &mut lines,
+        &mut replies,
+        &[("words", before), (line, reply), ("words", after)],
+    )?;
+    for number in first..end {
+        let memory = Refusing::new(alloc);
+        memory.refuse_one(number);
+        assert_replies(&memory, &lines, &replies, alloc, rt)?;
+    }
+    Ok(())
+}
+
+#[test]
+fn edits_are_made_again(rt: HostRuntime) -> Result<(), Fail> {
+    for edit in EDITS {
+        assert_made_again(&edit, rt.alloc(), &rt)?;
+    }
+    Ok(())
+}
+
 /// Lines that have memory.
 const WITH_MEMORY: [(&str, &str); 3] = [
     ("triangle 0 1 2", "ok"),
@@ -113,13 +209,19 @@ const WITH_MEMORY: [(&str, &str); 3] = [
 ];
 
 /// Lines that come after them, where there is no memory any more.
-const WITHOUT_MEMORY: [(&str, &str); 9] = [
+const WITHOUT_MEMORY: [(&str, &str); 15] = [
     ("counts", "vertices 4 edges 6 faces 4"),
     ("out 3", "out 7 9 11"),
     ("out 4", "refused 1 NoSuchVertex"),
     ("origin 11", "vertex 3"),
+    ("between 3 2", "half 9"),
     ("check", "true"),
     ("insert 3 2", "refused 8 VertexInUse"),
+    ("line 0 3", "refused 8 VertexInUse"),
+    ("outside 0 4", "refused 1 NoSuchVertex"),
+    ("split 12 3", "refused 2 NoSuchEdge"),
+    ("close 1", "refused 12 NotOuter"),
+    ("close 0", "refused 20 OutOfMemory"),
     ("nothing", "bad line"),
     ("triangle 7 8 9", "refused 20 OutOfMemory"),
     ("words", "F0 0 2 4\nF1 1 6 11\nF2 5 8 7\nF3 3 10 9"),

@@ -1,13 +1,16 @@
 //! Calls of which one is refused a request for memory.
 
+use crate::growths::Growth::{
+    Append, Close, Extend, Insert, PutBeside, SetUp, SplitBothSides, SplitOnLine, SplitOneSide,
+    Triangle,
+};
+use crate::growths::{Growth, carry_out, grow};
 use crate::meshes::{
-    CUT_TRIANGLE, Link, Mesh, NO_LIMIT, append, assert_counts, assert_links, extend, half_edge,
-    inner_face, insert, set_up, vertex,
+    CUT_TRIANGLE, Link, Mesh, NO_LIMIT, assert_counts, assert_links, half_edge, vertex,
 };
 use crate::refusing::Refusing;
-use dcel_commands::commands::{Command, Handed, Refusal, Refused, Reply, apply};
 use spade_dcel::handles::{FixedDirectedEdgeHandle, FixedFaceHandle, PossiblyOuterTag};
-use spade_dcel::operations::{new, new_triangle};
+use spade_dcel::operations::new;
 use std::alloc::{AllocError, Global};
 use std::process::Abort;
 use std::test::Fail;
@@ -18,18 +21,6 @@ const MANY: u64 = 20;
 /// A mesh whose memory may be refused.
 type Watched<'a> = Mesh<&'a Refusing<Global>>;
 
-/// A call that takes memory, by the numbers of its elements.
-#[derive(Clone, Copy)]
-enum Growth {
-    Triangle(i64, i64, i64),
-    Append(i64),
-    SetUp(u32, u32),
-    Extend(u32, u32),
-    Insert(u32, u32),
-}
-
-use Growth::{Append, Extend, Insert, SetUp, Triangle};
-
 /// Calls that have memory, then calls of which one is refused a request; and what the mesh is after them: how many vertices, half
 /// edges and faces, and the links.
 type Row = (
@@ -39,7 +30,7 @@ type Row = (
     &'static [Link],
 );
 
-const ROWS: [Row; 5] = [
+const ROWS: [Row; 10] = [
     (
         &[Append(0), Append(1), SetUp(1, 0)],
         &[Triangle(7, -8, 9)],
@@ -96,88 +87,151 @@ const ROWS: [Row; 5] = [
         (4, 12, 4),
         &CUT_TRIANGLE,
     ),
+    (
+        &[
+            Append(0),
+            Append(1),
+            Append(2),
+            Append(3),
+            Append(4),
+            Append(5),
+            SetUp(0, 1),
+        ],
+        &[
+            SplitOnLine(0, 2),
+            SplitOnLine(1, 3),
+            SplitOnLine(2, 4),
+            SplitOnLine(5, 5),
+        ],
+        (6, 10, 1),
+        &[
+            (0, 2, 3, 0),
+            (2, 6, 2, 0),
+            (6, 7, 4, 0),
+            (7, 3, 1, 0),
+            (3, 1, 4, 0),
+            (1, 9, 2, 0),
+            (9, 4, 3, 0),
+            (4, 5, 5, 0),
+            (5, 8, 0, 0),
+            (8, 0, 5, 0),
+        ],
+    ),
+    (
+        &[
+            Append(0),
+            Append(1),
+            Append(2),
+            Append(3),
+            Append(4),
+            Append(5),
+            SetUp(0, 1),
+            Extend(1, 2),
+            Extend(2, 3),
+            Extend(3, 4),
+            Extend(4, 5),
+        ],
+        // The last one wants room for an edge and for a face.
+        &[Close(0), Close(5), Close(2), Close(6)],
+        (6, 18, 5),
+        &[
+            (11, 13, 0, 0),
+            (13, 9, 2, 0),
+            (9, 8, 4, 0),
+            (8, 17, 5, 0),
+            (17, 15, 4, 0),
+            (15, 11, 2, 0),
+            (0, 3, 0, 1),
+            (3, 10, 1, 1),
+            (10, 0, 2, 1),
+            (5, 7, 2, 2),
+            (7, 12, 3, 2),
+            (12, 5, 4, 2),
+            (2, 1, 2, 3),
+            (1, 14, 1, 3),
+            (14, 2, 0, 3),
+            (6, 4, 4, 4),
+            (4, 16, 3, 4),
+            (16, 6, 2, 4),
+        ],
+    ),
+    (
+        &[Triangle(0, 1, 2), Append(3), Append(4), Append(5)],
+        // The first one wants room for edges, the last one for edges and for a face.
+        &[PutBeside(0, 3), PutBeside(1, 4), PutBeside(7, 5)],
+        (6, 18, 5),
+        &[
+            (2, 4, 1, 0),
+            (4, 9, 2, 0),
+            (9, 17, 0, 0),
+            (17, 15, 3, 0),
+            (15, 2, 5, 0),
+            (3, 13, 2, 1),
+            (13, 11, 1, 1),
+            (11, 5, 4, 1),
+            (5, 3, 0, 1),
+            (0, 6, 0, 2),
+            (6, 8, 1, 2),
+            (8, 0, 3, 2),
+            (1, 10, 1, 3),
+            (10, 12, 0, 3),
+            (12, 1, 4, 3),
+            (7, 14, 3, 4),
+            (14, 16, 1, 4),
+            (16, 7, 5, 4),
+        ],
+    ),
+    (
+        &[Triangle(0, 1, 2), Append(3), Append(4), Append(5)],
+        &[SplitOneSide(0, 3), SplitOneSide(4, 4), SplitOneSide(8, 5)],
+        (6, 18, 5),
+        &[
+            (4, 11, 2, 0),
+            (11, 7, 4, 0),
+            (7, 4, 3, 0),
+            (1, 13, 3, 1),
+            (13, 5, 0, 1),
+            (5, 3, 4, 1),
+            (3, 17, 2, 1),
+            (17, 9, 1, 1),
+            (9, 1, 5, 1),
+            (6, 8, 2, 2),
+            (8, 15, 3, 2),
+            (15, 6, 5, 2),
+            (0, 10, 0, 3),
+            (10, 12, 3, 3),
+            (12, 0, 4, 3),
+            (2, 14, 1, 4),
+            (14, 16, 2, 4),
+            (16, 2, 5, 4),
+        ],
+    ),
+    (
+        &[Triangle(0, 1, 2), Append(3), Append(4)],
+        &[SplitBothSides(0, 3), SplitBothSides(7, 4)],
+        (5, 18, 6),
+        &[
+            (0, 11, 0, 0),
+            (11, 4, 3, 0),
+            (4, 0, 2, 0),
+            (1, 12, 3, 1),
+            (12, 6, 0, 1),
+            (6, 1, 4, 1),
+            (7, 17, 3, 2),
+            (17, 8, 4, 2),
+            (8, 7, 1, 2),
+            (2, 10, 1, 3),
+            (10, 9, 2, 3),
+            (9, 2, 3, 3),
+            (5, 14, 0, 4),
+            (14, 13, 2, 4),
+            (13, 5, 4, 4),
+            (3, 16, 2, 5),
+            (16, 15, 1, 5),
+            (15, 3, 4, 5),
+        ],
+    ),
 ];
-
-/// Makes the call: whether there was memory. Without it what was handed in comes back.
-fn grow<'a>(
-    dcel: &mut Watched<'a>,
-    memory: &'a Refusing<Global>,
-    growth: Growth,
-    rt: &impl Abort,
-) -> bool {
-    match growth {
-        Triangle(first, second, third) => match new_triangle(memory, (first, second, third)) {
-            Ok(made) => {
-                *dcel = made;
-                true
-            }
-            Err(refused) => {
-                assert_eq!(rt; refused.back, (first, second, third));
-                false
-            }
-        },
-        Append(datum) => {
-            let count = dcel.num_vertices();
-            match append(dcel, datum, rt) {
-                Ok(added) => {
-                    assert_eq!(rt; added.index(), count);
-                    true
-                }
-                Err(refused) => {
-                    assert_eq!(rt; refused.back, datum);
-                    false
-                }
-            }
-        }
-        SetUp(first, second) => set_up(dcel, vertex(first), vertex(second), rt).is_ok(),
-        Extend(end, added) => extend(dcel, vertex(end), vertex(added), rt).is_ok(),
-        Insert(added, face) => insert(dcel, vertex(added), inner_face(face), rt).is_ok(),
-    }
-}
-
-/// Has the mesh carry the call out as a command: whether there was memory. Without it what was handed in comes back.
-fn carry_out(dcel: &mut Watched, growth: Growth, rt: &impl Abort) -> bool {
-    let count = dcel.num_vertices();
-    assert!(rt; count <= NO_LIMIT);
-    let (command, reply, back) = match growth {
-        Triangle(first, second, third) => (
-            Command::Triangle(first, second, third),
-            Reply::Ok,
-            Handed::Three(first, second, third),
-        ),
-        Append(datum) => (
-            Command::Append(datum),
-            Reply::Vertex(vertex(count as u32)),
-            Handed::One(datum),
-        ),
-        SetUp(first, second) => (
-            Command::Setup(vertex(first), vertex(second)),
-            Reply::Ok,
-            Handed::Nothing,
-        ),
-        Extend(end, added) => (
-            Command::Extend(vertex(end), vertex(added)),
-            Reply::Vertex(vertex(added)),
-            Handed::Nothing,
-        ),
-        Insert(added, face) => (
-            Command::Insert(vertex(added), inner_face(face)),
-            Reply::Vertex(vertex(added)),
-            Handed::Nothing,
-        ),
-    };
-    match apply(dcel, command, NO_LIMIT) {
-        Ok(answer) => {
-            assert_eq!(rt; answer, reply);
-            true
-        }
-        Err(refused) => {
-            let why = Refusal::OutOfMemory;
-            assert_eq!(rt; refused, Refused { why, back });
-            false
-        }
-    }
-}
 
 /// What can be read off a mesh.
 #[derive(Debug, Drop, PartialEq, Eq)]
@@ -236,7 +290,7 @@ fn call<'a>(
 ) -> bool {
     match caller {
         Caller::Operation => grow(dcel, memory, growth, rt),
-        Caller::Command => carry_out(dcel, growth, rt),
+        Caller::Command => carry_out(dcel, growth, NO_LIMIT, rt),
     }
 }
 

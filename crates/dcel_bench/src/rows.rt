@@ -2,9 +2,14 @@
 
 use crate::answers::assert_answered;
 use crate::meshes::NO_LIMIT;
+use std::alloc::Global;
+use std::process::Abort;
 use std::test::Fail;
 
-const ROWS: [(usize, &[(&str, &str)]); 14] = [
+/// The limit, and lines with what each is answered.
+pub type Row = (usize, &'static [(&'static str, &'static str)]);
+
+const ROWS: [Row; 15] = [
     (NO_LIMIT, &[]),
     (
         1,
@@ -152,6 +157,8 @@ const ROWS: [(usize, &[(&str, &str)]); 14] = [
             ("append 3", "vertex 3"),
             ("insert 3 0", "refused 3 NoSuchFace"),
             ("insert 0 1", "refused 8 VertexInUse"),
+            ("line 0 3", "refused 11 NotBridge"),
+            ("close 1", "refused 12 NotOuter"),
             ("setup 0 0", "refused 7 SameVertex"),
             ("setup 0 1", "refused 9 EdgesStand"),
             ("flip", "bad line"),
@@ -163,13 +170,45 @@ const ROWS: [(usize, &[(&str, &str)]); 14] = [
             ("words", "F0 0 2 4\nF1 1 5 3"),
         ],
     ),
+    (
+        NO_LIMIT,
+        &[
+            ("between 0 0", "refused 1 NoSuchVertex"),
+            ("triangle 0 1 2", "ok"),
+            ("append 3", "vertex 3"),
+            ("between 0 1", "half 0"),
+            ("between 1 0", "half 1"),
+            ("between 0 2", "half 5"),
+            ("between 0 3", "none"),
+            ("between 3 0", "none"),
+            ("between 0 0", "none"),
+            ("insert 3 1", "vertex 3"),
+            ("append 4", "vertex 4"),
+            ("insert 4 3", "vertex 4"),
+            ("out 3", "out 7 9 14 11"),
+            ("between 3 0", "half 7"),
+            ("between 3 1", "half 11"),
+            ("between 3 2", "half 9"),
+            ("between 3 4", "half 14"),
+            ("between 4 3", "half 15"),
+            ("between 4 0", "none"),
+            ("between 0 4", "none"),
+            ("between 5 0", "refused 1 NoSuchVertex"),
+            ("between 0 5", "refused 1 NoSuchVertex"),
+        ],
+    ),
 ];
+
+/// That the lines of each row are answered so, each row from an empty mesh.
+pub fn assert_rows(rows: &[Row], alloc: Global, rt: &impl Abort) -> Result<(), Fail> {
+    for (limit, row) in rows {
+        assert!(rt; *limit <= NO_LIMIT);
+        assert_answered(alloc, *limit, row, rt)?;
+    }
+    Ok(())
+}
 
 #[test]
 fn rows_are_answered(rt: HostRuntime) -> Result<(), Fail> {
-    for (limit, row) in ROWS {
-        assert!(rt; limit <= NO_LIMIT);
-        assert_answered(rt.alloc(), limit, row, &rt)?;
-    }
-    Ok(())
+    assert_rows(&ROWS, rt.alloc(), &rt)
 }

@@ -12,6 +12,9 @@ pub enum BuildError {
 
     /// The size asks for more elements than there are numbers.
     NoRoom,
+
+    /// No edge was drawn that can be split.
+    NoEdge,
 }
 
 impl From<AllocError> for BuildError {
@@ -44,10 +47,11 @@ impl fmt::Display for Fault {
         match self {
             Fault::Build(BuildError::NoMemory) => write!(f, "out of memory"),
             Fault::Build(BuildError::NoRoom) => write!(f, "the size is too large"),
+            Fault::Build(BuildError::NoEdge) => write!(f, "no edge to split was drawn"),
             Fault::BadArguments => {
                 write!(
                     f,
-                    "usage: dcel_speed [insert,walk,faces,extend [SIZE,SIZE.. [full] [checksums]]]"
+                    "usage: dcel_speed [insert,walk,faces,extend,neighbors,split [SIZE,SIZE.. [full] [checksums]]]"
                 )
             }
             Fault::Io(error) => write!(f, "{error}"),

@@ -10,8 +10,10 @@ mod arguments;
 mod digest;
 mod fault;
 mod measure;
+mod neighbors;
 mod random;
 mod round_face;
+mod split;
 mod workloads;
 
 use crate::arguments::Arguments;

@@ -1,15 +1,55 @@
 //! Runs a workload again and again, and the line that is printed of it.
 
-use crate::fault::Fault;
-use crate::workloads::{Timed, Workload};
+use crate::digest::digest_of;
+use crate::fault::{BuildError, Fault};
+use crate::workloads::{Mesh, Outcome, Timed, Workload};
 use std::fmt;
-use std::time::Duration;
+use std::rt::Clock;
+use std::time::{Duration, Instant};
 
 /// Runs are repeated until they have taken so many milliseconds together.
 const LONG_ENOUGH: u64 = 100;
 
 /// However short they are, there are no more than so many.
 const MOST_RUNS: u32 = 1_000_000;
+
+/// How often at least a workload is run that edits, and one that only reads: what only reads goes over the same mesh again, since a first
+/// pass over a mesh that was just built measures the caches.
+pub const FEWEST_EDITING: u32 = 3;
+
+const FEWEST_READING: u32 = 5;
+
+/// Times the building of a mesh by `size` edits, each time from nothing.
+pub fn time_building<D: Drop, B: Fn() -> Result<Mesh<D>, BuildError>>(
+    rt: &impl Clock,
+    size: u32,
+    build: B,
+) -> Result<Timed, Fault>
+    requires { B.IsAlwaysCallable build }
+{
+    least_of(FEWEST_EDITING, || {
+        let start = Instant::now(rt)?;
+        let dcel = build()?;
+        let elapsed = start.elapsed(rt)?;
+        let outcome = Outcome {
+            checksum: digest_of(&dcel),
+            operations: u64::from(size),
+        };
+        Ok(Timed { elapsed, outcome })
+    })
+}
+
+/// Times what reads a mesh and leaves it as it is.
+pub fn time_reading<R: Fn() -> Outcome>(rt: &impl Clock, read: R) -> Result<Timed, Fault>
+    requires { R.IsAlwaysCallable read }
+{
+    least_of(FEWEST_READING, || {
+        let start = Instant::now(rt)?;
+        let outcome = read();
+        let elapsed = start.elapsed(rt)?;
+        Ok(Timed { elapsed, outcome })
+    })
+}
 
 /// The run that took the least time, of at least `fewest` runs and as many as fill a tenth of a second.
 pub fn least_of<R: Fn() -> Result<Timed, Fault>>(fewest: u32, run: R) -> Result<Timed, Fault>

@@ -6,11 +6,12 @@ ghost use Rattle.spade_dcel.specs.Handles.{mesh_behind, number_of};
 ghost use Rattle.dcel_maps.specs.Shapes.{IsLive};
 ghost use Rattle.dcel_speed.specs.Growth.{IsGrown, IsTriangulated};
 
-use crate::digest::digest_of;
 use crate::fault::{BuildError, Fault};
-use crate::measure::least_of;
+use crate::measure::{time_building, time_reading};
+use crate::neighbors::neighbors;
 use crate::random::Random;
 use crate::round_face::RoundFace;
+use crate::split::split;
 use spade_dcel::dcel::Dcel;
 use spade_dcel::handles::{
     DirectedEdgeHandle, FixedFaceHandle, FixedVertexHandle, InnerTag, VertexHandle,
@@ -22,7 +23,7 @@ use spade_dcel::operations::{
 };
 use std::alloc::Global;
 use std::rt::Clock;
-use std::time::{Duration, Instant};
+use std::time::Duration;
 
 /// The meshes that are measured: each vertex has a number, and all else a `D`.
 pub type Mesh<D> = Dcel<i64, D, D, D>;
@@ -41,6 +42,12 @@ pub enum Workload {
 
     /// Makes a line longer at one end.
     Extend,
+
+    /// Seeks the half edge from one vertex to another.
+    Neighbors,
+
+    /// Puts vertices into the middle of edges.
+    Split,
 }
 
 impl Workload {
@@ -51,6 +58,8 @@ impl Workload {
             Workload::Walk => "walk",
             Workload::Faces => "faces",
             Workload::Extend => "extend",
+            Workload::Neighbors => "neighbors",
+            Workload::Split => "split",
         }
     }
 
@@ -61,6 +70,8 @@ impl Workload {
             "walk" => Some(Workload::Walk),
             "faces" => Some(Workload::Faces),
             "extend" => Some(Workload::Extend),
+            "neighbors" => Some(Workload::Neighbors),
+            "split" => Some(Workload::Split),
             _ => None,
         }
     }
@@ -97,12 +108,6 @@ impl Timed {
     }
 }
 
-/// How often at least a workload is run that edits, and one that only reads: what only reads goes over the same mesh again, since a first
-/// pass over a mesh that was just built measures the caches.
-const FEWEST_EDITING: u32 = 3;
-
-const FEWEST_READING: u32 = 5;
-
 /// Runs a workload, over meshes with data `D`, and answers the run that took the least time.
 pub fn measured<D: Default + Drop>(
     rt: &(impl Clock + AllocGlobal),
@@ -114,29 +119,20 @@ pub fn measured<D: Default + Drop>(
         Workload::Walk => walk::<D>(rt, size),
         Workload::Faces => faces::<D>(rt, size),
         Workload::Extend => extend::<D>(rt, size),
+        Workload::Neighbors => neighbors::<D>(rt, size),
+        Workload::Split => split::<D>(rt, size),
     }
 }
 
 /// Times the building of a mesh of triangles.
 fn insert<D: Default + Drop>(rt: &(impl Clock + AllocGlobal), size: u32) -> Result<Timed, Fault> {
-    least_of(FEWEST_EDITING, || {
-        let start = Instant::now(rt)?;
-        let dcel = triangulated::<D>(rt.alloc(), size)?;
-        let elapsed = start.elapsed(rt)?;
-        let outcome = built(&dcel, size);
-        Ok(Timed { elapsed, outcome })
-    })
+    time_building(rt, size, || triangulated::<D>(rt.alloc(), size))
 }
 
 /// Times the walk round each vertex of a mesh of triangles.
 fn walk<D: Default + Drop>(rt: &(impl Clock + AllocGlobal), size: u32) -> Result<Timed, Fault> {
     let dcel = triangulated::<D>(rt.alloc(), size)?;
-    least_of(FEWEST_READING, || {
-        let start = Instant::now(rt)?;
-        let outcome = ends_of_out_edges(&dcel);
-        let elapsed = start.elapsed(rt)?;
-        Ok(Timed { elapsed, outcome })
-    })
+    time_reading(rt, || ends_of_out_edges(&dcel))
 }
 
 /// Times the walk round each inner face of a mesh of triangles.
@@ -144,36 +140,17 @@ fn faces<D: Default + Drop>(rt: &(impl Clock + AllocGlobal), size: u32) -> Resul
     let dcel = triangulated::<D>(rt.alloc(), size)?;
     let pass = ||
         requires { IsTriangulated dcel.shape }
-    {
-        let start = Instant::now(rt)?;
-        let outcome = origins_round_faces(&dcel);
-        let elapsed = start.elapsed(rt)?;
-        Ok(Timed { elapsed, outcome })
-    };
-    least_of(FEWEST_READING, pass)
+    { origins_round_faces(&dcel) };
+    time_reading(rt, pass)
 }
 
 /// Times the building of a line.
 fn extend<D: Default + Drop>(rt: &(impl Clock + AllocGlobal), size: u32) -> Result<Timed, Fault> {
-    least_of(FEWEST_EDITING, || {
-        let start = Instant::now(rt)?;
-        let dcel = line::<D>(rt.alloc(), size)?;
-        let elapsed = start.elapsed(rt)?;
-        let outcome = built(&dcel, size);
-        Ok(Timed { elapsed, outcome })
-    })
-}
-
-/// The outcome of a workload that builds a mesh by `size` edits.
-fn built<D>(dcel: &Mesh<D>, size: u32) -> Outcome {
-    Outcome {
-        checksum: digest_of(dcel),
-        operations: u64::from(size),
-    }
+    time_building(rt, size, || line::<D>(rt.alloc(), size))
 }
 
 /// A triangle, and `size` vertices more, each put into an inner face that is drawn at random.
-fn triangulated<D: Default + Drop>(alloc: Global, size: u32) -> Result<Mesh<D>, BuildError>
+pub fn triangulated<D: Default + Drop>(alloc: Global, size: u32) -> Result<Mesh<D>, BuildError>
     ensures { IfOk result (λ dcel. IsTriangulated dcel.shape) }
 {
     let mut dcel = new_triangle(alloc, (0, 1, 2))?;

@@ -1,4 +1,3 @@
-use Rattle.std.proofs.Common.{arith}
 use Rattle.dcel_speed.proofs.Growing.{appended_bare, insertion_triangulated}
 use Rattle.dcel_speed.proofs.workloads.insert_next.Goals as goal
 
@@ -8,4 +7,4 @@ insert_into_triangle-requires-clause-unconnected g c = appended_bare _ _ _ _ c.e
 pub returns-clause-triangulated : goal.returns-clause-triangulated
 returns-clause-triangulated g c =
     insertion_triangulated c.args.dcel.now c.append_unconnected_vertex.new.dcel c.insert_into_triangle.new.dcel _ _ _ c.requires.triangulated
-    c.in_ok-vertex.ensures.edit (omega arith) c.in_ok-insert_into_triangle.ensures.edit
+    c.in_ok-vertex.ensures.edit c.in_ok-insert_into_triangle.ensures.edit

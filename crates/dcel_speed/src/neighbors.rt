@@ -1,0 +1,147 @@
+//! The search for the half edge from one vertex to another, in a mesh of triangles.
+
+ghost use Rattle.std.specs.Prelude.{◌<◌, ◌≤◌, ◌^◌, All, IfOk};
+ghost use Rattle.dcel_maps.specs.Shapes.{IsLive};
+ghost use Rattle.dcel_speed.specs.Growth.{IsTriangulated};
+ghost use Rattle.spade_dcel.specs.Handles.{mesh_behind, number_of};
+
+use crate::fault::Fault;
+use crate::measure::time_reading;
+use crate::random::Random;
+use crate::workloads::{Mesh, Outcome, Timed, triangulated};
+use spade_dcel::handles::{DirectedEdgeHandle, FixedVertexHandle, VertexHandle};
+use spade_dcel::iterators::{CCWEdgesNextBackFn, CircularIterator};
+use spade_dcel::laws::every_mesh;
+use std::alloc::{AllocError, Global};
+use std::rt::Clock;
+
+/// By how much its random numbers begin past those of `insert`.
+const OWN: u64 = 5;
+
+/// Two vertices, between which an edge is sought.
+#[derive(Clone, Copy)]
+struct Pair {
+    from: FixedVertexHandle,
+    to: FixedVertexHandle,
+}
+
+/// The half edges out of a vertex, from one of them on.
+type RoundVertex<'a, D> = CircularIterator<'a, i64, D, D, D, CCWEdgesNextBackFn>;
+
+/// Times the search for `size` pairs of vertices, which are drawn beforehand.
+pub fn neighbors<D: Default + Drop>(
+    rt: &(impl Clock + AllocGlobal),
+    size: u32,
+) -> Result<Timed, Fault> {
+    let dcel = triangulated::<D>(rt.alloc(), size)?;
+    let pairs = drawn_pairs(rt.alloc(), &dcel, size)?;
+    let pass = ||
+        requires { All (λ pair. pair.from < dcel.shape.vertices) pairs.items }
+    { edges_between(&dcel, &pairs) };
+    time_reading(rt, pass)
+}
+
+/// Seeks the half edge from the first to the second vertex of each pair: the sum of the numbers of those found, each plus 1.
+fn edges_between<D>(dcel: &Mesh<D>, pairs: &[Pair]) -> Outcome
+    requires { All (λ pair. pair.from < dcel.now.shape.vertices) pairs.now }
+{
+    let mut sum: u64 = 0;
+    for pair in pairs {
+        if let Some(edge) = dcel.get_edge_from_neighbors(pair.from, pair.to) {
+            sum = sum.wrapping_add(edge.index() as u64 + 1);
+        }
+    }
+    Outcome {
+        checksum: sum,
+        operations: pairs.len() as u64,
+    }
+}
+
+/// So many pairs: by turns two vertices drawn at random, and two with an edge between them.
+fn drawn_pairs<D>(alloc: Global, dcel: &Mesh<D>, count: u32) -> Result<Vec<Pair>, AllocError>
+    requires { IsTriangulated dcel.now.shape }
+    ensures { IfOk result (λ pairs. All (λ pair. pair.from < dcel.now.shape.vertices) pairs.items) }
+{
+    every_mesh(dcel);
+    let mut random = Random::new(OWN);
+    let mut pairs = Vec::new(alloc);
+    for index in 0..count {
+        pairs.push(drawn_pair(dcel, &mut random, index % 2 == 1))?;
+    }
+    Ok(pairs)
+}
+
+/// A pair that is drawn at random: two vertices with an edge between them where `are_neighbors`, and any two otherwise.
+fn drawn_pair<D>(dcel: &Mesh<D>, random: &mut Random, are_neighbors: bool) -> Pair
+    requires { 0 < dcel.now.shape.vertices }
+    ensures { result.from < dcel.now.shape.vertices }
+{
+    let from = drawn_vertex(dcel, random);
+    let to = if are_neighbors {
+        drawn_neighbor(dcel.vertex(from), random)
+    } else {
+        drawn_vertex(dcel, random)
+    };
+    Pair { from, to }
+}
+
+/// A vertex that is drawn at random.
+fn drawn_vertex<D>(dcel: &Mesh<D>, random: &mut Random) -> FixedVertexHandle
+    requires { 0 < dcel.now.shape.vertices }
+    ensures { result < dcel.now.shape.vertices }
+{
+    FixedVertexHandle::new(random.below(dcel.num_vertices()))
+}
+
+/// Where an edge at a vertex ends that is drawn at random: its half edges are counted by `ccw` from the least one on. It is the
+/// vertex itself where it has no edge.
+fn drawn_neighbor<D>(
+    vertex: VertexHandle<'_, i64, D, D, D>,
+    random: &mut Random,
+) -> FixedVertexHandle {
+    let Some(out_edge) = vertex.out_edge() else {
+        return vertex.fix();
+    };
+    let steps = random.below(degree(out_edge));
+    turned(least_of_turn(out_edge), steps).to().fix()
+}
+
+/// How many half edges start where this one does.
+fn degree<D>(out_edge: DirectedEdgeHandle<'_, i64, D, D, D>) -> usize
+    requires { IsLive (mesh_behind out_edge).shape (number_of out_edge) }
+    ensures some { 0 < result }
+    ensures few { result ≤ 2 ^ 32 }
+{
+    RoundVertex::new(out_edge).count()
+}
+
+/// The least of the half edges that start where this one does.
+fn least_of_turn<D>(
+    out_edge: DirectedEdgeHandle<'_, i64, D, D, D>,
+) -> DirectedEdgeHandle<'_, i64, D, D, D>
+    requires { IsLive (mesh_behind out_edge).shape (number_of out_edge) }
+    ensures { IsLive (mesh_behind result).shape (number_of result) }
+{
+    let mut least = out_edge;
+    for edge in RoundVertex::new(out_edge) {
+        if edge.index() < least.index() {
+            least = edge;
+        }
+    }
+    least
+}
+
+/// The half edge so many steps further round the vertex where this one starts.
+fn turned<D>(
+    out_edge: DirectedEdgeHandle<'_, i64, D, D, D>,
+    steps: usize,
+) -> DirectedEdgeHandle<'_, i64, D, D, D>
+    requires { IsLive (mesh_behind out_edge).shape (number_of out_edge) }
+    ensures { IsLive (mesh_behind result).shape (number_of result) }
+{
+    let mut edge = out_edge;
+    for _ in 0..steps {
+        edge = edge.ccw();
+    }
+    edge
+}
