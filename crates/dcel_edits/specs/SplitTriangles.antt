@@ -3,9 +3,14 @@ use Rattle.std.specs.Prelude.{ℕ, ◌+◌, ◌*◌, ◌<◌, List, [], ◌∷�
 use Rattle.dcel_fixed.specs.HalfEdges.{rev}
 use Rattle.dcel_store.specs.Lists.{Lists}
 use Rattle.dcel_edits.specs.Adding.{HasSpace, adding}
+use Rattle.dcel_edits.specs.declared.sectors.Sector.{Sector}
 use Rattle.dcel_edits.specs.Triangle.{three_set}
 
 module _ {V DE UE F : Type 0} where
+  -- the sector of a half edge that stands already, on a face and with these two beside it
+  abbrev pub sector : Lists V DE UE F → ℕ → ℕ → ℕ → ℕ → Sector
+  sector s e face next prev = record { edge = e; origin = slice_index s.origin e; face = face; next = next; prev = prev }
+
   -- with (e, a, b) and (t, c, d) round the edge of e: the new vertex has 2m + 1 to where d starts, 2m + 3 to where e ended and 2m + 5 to
   -- where b starts, with 2m, 2m + 2 and 2m + 4 back, and t
   abbrev pub both_stored : Lists V DE UE F → ℕ → ℕ → List DE → List UE → List F → Lists V DE UE F

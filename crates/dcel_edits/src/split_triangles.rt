@@ -1,14 +1,61 @@
 //! Vertices in the middle of edges that have a triangle beside them, which is cut in two.
 
-ghost use Rattle.std.specs.Prelude.{◌≡◌, ◌+◌, ◌*◌, length};
+ghost use Rattle.std.specs.Prelude.{◌≡◌, ◌+◌, ◌*◌, length, slice_index};
+ghost use Rattle.dcel_fixed.specs.HalfEdges.{rev};
 ghost use Rattle.dcel_maps.specs.edits.DefaultData.{AddsEdgesAndFaces};
-ghost use Rattle.dcel_edits.specs.SplitTriangles.{CanSplitBoth, CanSplitOne, both_stored, one_stored};
+ghost use Rattle.dcel_edits.specs.Adding.{HasSpace};
+ghost use Rattle.dcel_edits.specs.SplitTriangles.{CanSplitBoth, CanSplitOne, IsHeld, both_stored, one_stored, sector};
 
 use crate::links::links;
 use crate::sectors::{Sector, close_sector, push_spoke};
 use dcel_fixed::{FixedDirectedEdgeHandle, FixedFaceHandle, FixedVertexHandle};
 use dcel_store::{EdgeData, Store};
 use std::alloc::Allocator;
+
+/// The half edges of the triangles on both sides of an edge, each with the sector that a vertex in the middle of the edge makes of it, in
+/// their order round that vertex.
+#[derive(Clone, Copy)]
+struct Round {
+    after_twin: Sector,
+    before_twin: Sector,
+    after_edge: Sector,
+    before_edge: Sector,
+}
+
+impl Round {
+    /// The sectors round the middle of an edge, with three new edges between them.
+    fn new<V, DE, UE, F, A: Allocator>(
+        store: &Store<V, DE, UE, F, A>,
+        edge: FixedDirectedEdgeHandle,
+    ) -> Self
+        requires space { HasSpace store.now 3 2 }
+        requires edge { IsHeld store.now edge }
+        requires twin { IsHeld store.now (rev edge) }
+        ensures { let s = store.now in
+            let twin = rev edge in
+            let n = 2 * length s.undirected_data in
+            let l = length s.face_data in
+            result ≡ record {
+              after_twin = sector s (slice_index s.next twin) (slice_index s.face twin) n twin;
+              before_twin = sector s (slice_index s.prev twin) l (n + 2) (n + 1);
+              after_edge = sector s (slice_index s.next edge) (l + 1) (n + 4) (n + 3);
+              before_edge = sector s (slice_index s.prev edge) (slice_index s.face edge) edge (n + 5);
+            } }
+    {
+        let twin = edge.rev();
+        let edges = store.num_edges();
+        let near = FixedFaceHandle::new(store.num_faces());
+        let far = FixedFaceHandle::new(store.num_faces() + 1);
+        let first = FixedDirectedEdgeHandle::new_normalized(edges);
+        let last = FixedDirectedEdgeHandle::new_normalized(edges + 2).rev();
+        Round {
+            after_twin: Sector::between(store, store.next(twin), store.face(twin), first, twin),
+            before_twin: Sector::new(store, store.prev(twin), near, edges + 1, edges),
+            after_edge: Sector::new(store, store.next(edge), far, edges + 2, edges + 1),
+            before_edge: Sector::between(store, store.prev(edge), store.face(edge), edge, last),
+        }
+    }
+}
 
 /// Puts the vertex `middle` into an edge between two triangles, and joins it to their other corners: `edge` ends there now, and the half
 /// edge that it answers leads on to where `edge` ended.
@@ -22,63 +69,26 @@ pub fn put_middle_of_both<V, DE: Default, UE: Default, F: Default, A: Allocator>
     ensures answer { result ≡ 2 * length store.old.undirected_data + 3 }
 {
     let twin = edge.rev();
-    let edges = store.num_edges();
-    let faces = store.num_faces();
-    let first_spoke = FixedDirectedEdgeHandle::new_normalized(edges);
-    let last_spoke = FixedDirectedEdgeHandle::new_normalized(edges + 2).rev();
-    let twin_face = store.face(twin);
-    let edge_face = store.face(edge);
-    let after_twin = Sector::between(store, store.next(twin), twin_face, first_spoke, twin);
-    let before_twin = Sector::new(
-        store,
-        store.prev(twin),
-        FixedFaceHandle::new(faces),
-        edges + 1,
-        edges,
-    );
-    let after_edge = Sector::new(
-        store,
-        store.next(edge),
-        FixedFaceHandle::new(faces + 1),
-        edges + 2,
-        edges + 1,
-    );
-    let before_edge = Sector::between(store, store.prev(edge), edge_face, edge, last_spoke);
-    close_sector(store, &after_twin);
-    close_sector(store, &before_twin);
-    close_sector(store, &after_edge);
-    close_sector(store, &before_edge);
-    store.set_next(edge, last_spoke);
-    store.set_prev(twin, first_spoke);
+    let round = Round::new(store, edge);
+    let (first, second) = (round.after_twin, round.before_twin);
+    let (third, fourth) = (round.after_edge, round.before_edge);
+    close_sector(store, &first);
+    close_sector(store, &second);
+    close_sector(store, &third);
+    close_sector(store, &fourth);
+    store.set_next(edge, fourth.prev);
+    store.set_prev(twin, first.next);
     store.set_origin(twin, middle);
-    push_spoke(
-        store,
-        &after_twin,
-        &before_twin,
-        middle,
-        EdgeData::default(),
-    );
-    push_spoke(
-        store,
-        &before_twin,
-        &after_edge,
-        middle,
-        EdgeData::default(),
-    );
-    push_spoke(
-        store,
-        &after_edge,
-        &before_edge,
-        middle,
-        EdgeData::default(),
-    );
-    store.set_face_anchor(edge_face, Some(edge));
-    store.set_face_anchor(twin_face, Some(first_spoke));
-    store.push_face(F::default(), Some(before_twin.next));
-    store.push_face(F::default(), Some(after_edge.next));
-    store.set_vertex_anchor(after_edge.origin, Some(before_twin.next));
+    push_spoke(store, &first, &second, middle, EdgeData::default());
+    push_spoke(store, &second, &third, middle, EdgeData::default());
+    push_spoke(store, &third, &fourth, middle, EdgeData::default());
+    store.set_face_anchor(fourth.face, Some(edge));
+    store.set_face_anchor(first.face, Some(first.next));
+    store.push_face(F::default(), Some(second.next));
+    store.push_face(F::default(), Some(third.next));
+    store.set_vertex_anchor(third.origin, Some(second.next));
     store.set_vertex_anchor(middle, Some(twin));
-    after_edge.prev
+    third.prev
 }
 
 /// Puts the vertex `middle` into an edge that has a triangle on the side of `edge`, and joins it to the other corner of that triangle:
