@@ -9,7 +9,8 @@ use Rattle.dcel_commands.specs.declared.request.Request.TheVariants.{Edit, Ask}
 use Rattle.dcel_commands.specs.Conditions.{AllMet, FirstUnmet}
 use Rattle.dcel_commands.specs.Refusal.{refusal_number, refusal_text}
 use Rattle.dcel_commands.specs.Steps.{asks, IsRefusal, Legal, Refuses}
-use Rattle.dcel_commands.specs.Talk.{asked, Does, State}
+use Rattle.dcel_commands.specs.Rules.{State}
+use Rattle.dcel_commands.specs.Talk.{asked, Does}
 use Rattle.dcel_maps.specs.Shapes.{Shape}
 use Rattle.dcel_commands.proofs.Columns.{FirstUnmet-not_met, refused-below}
 

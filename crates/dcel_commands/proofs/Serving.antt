@@ -7,7 +7,8 @@ use Rattle.dcel_text.specs.Lines.{line_feed, lines, joined, HasNoFeed}
 use Rattle.dcel_text.specs.declared.output.Writer.{Writer}
 use Rattle.dcel_text.specs.Output.{Writes}
 use Rattle.dcel_commands.specs.Answering.{WritesSome}
-use Rattle.dcel_commands.specs.Talk.{Answers, State, Talk, bad_line, good_line}
+use Rattle.dcel_commands.specs.Rules.{State}
+use Rattle.dcel_commands.specs.Talk.{Answers, Talk, bad_line, good_line}
 use Rattle.dcel_commands.specs.Stage.{Stage, Goes, Leads, Serves, Ends}
 use Rattle.dcel_text.proofs.LineEnds.{lines-nil, lines-feed, joined-append, joined-cons, joined-whole, joined-unended, lines-begun, lines-line}
 use Rattle.dcel_text.proofs.Writing.{writes_nothing, writes_and, writes_text}

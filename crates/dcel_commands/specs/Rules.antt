@@ -17,9 +17,13 @@ pub record CommandRule (V : Type 0) : Type 1 where
   pub handed : Handed V
   pub Makes : {DE UE F : Type 0} → (DE → Type 0) → (UE → Type 0) → (F → Type 0) → Mesh V DE UE F → Reply → Mesh V DE UE F → Type 0
 
+-- the mesh that lines are about: all data are numbers
+abbrev pub State : Type 0
+State = Mesh ℤ ℤ ℤ ℤ
+
 -- of a query: how it is written, what it asks, and by which text it may be answered about a mesh
 pub record QueryRule : Type 1 where
   pub word : List ℕ
   pub given : List (Item ℤ)
   pub asks : List Entry
-  pub Tells : {V DE UE F : Type 0} → Mesh V DE UE F → List ℕ → Type 0
+  pub Tells : State → List ℕ → Type 0

@@ -3,7 +3,8 @@ use Rattle.std.specs.Prelude.{ℕ, Bool, true, List, [], ◌++◌, Option}
 use Rattle.dcel_text.specs.Lines.{lines, joined}
 use Rattle.dcel_text.specs.declared.output.Writer.{Writer}
 use Rattle.dcel_text.specs.Output.{Writes}
-use Rattle.dcel_commands.specs.Talk.{State, Talk}
+use Rattle.dcel_commands.specs.Rules.{State}
+use Rattle.dcel_commands.specs.Talk.{Talk}
 
 -- where a conversation stands: the mesh, and the bytes of the line that has begun
 pub record Stage : Type 0 where

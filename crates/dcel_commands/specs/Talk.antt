@@ -7,15 +7,11 @@ use Rattle.dcel_commands.specs.declared.request.Request.TheVariants.{Edit, Ask}
 use Rattle.dcel_commands.specs.Conditions.{Entry}
 use Rattle.dcel_commands.specs.Queries.{Told, query_asks}
 use Rattle.dcel_commands.specs.Replies.{outcome_text}
+use Rattle.dcel_commands.specs.Rules.{State}
 use Rattle.dcel_commands.specs.Spelling.{Spells}
 use Rattle.dcel_text.specs.Texts.{ended}
 use Rattle.dcel_commands.specs.Steps.{Carries, asks}
 use Rattle.dcel_maps.specs.edits.Create.{outer_alone}
-use Rattle.dcel_maps.specs.Shapes.{Mesh}
-
--- the mesh that lines are about: all data are numbers
-abbrev pub State : Type 0
-State = Mesh ℤ ℤ ℤ ℤ
 
 -- the default datum
 abbrev pub IsZero : ℤ → Type 0

@@ -9,14 +9,12 @@ use crate::commands::apply;
 use crate::reading::read;
 use crate::refusal::Refusal;
 use crate::replies::{write_refusal, write_reply};
-use crate::request::{Query, Request, between, check, counts, origin, out as out_edges, words};
+use crate::request::{
+    LineMesh, Query, Request, between, check, counts, origin, out as out_edges, words,
+};
 use dcel_text::output::Writer;
 use dcel_text::sink::LineSink;
-use spade_dcel::dcel::Dcel;
 use std::alloc::Allocator;
-
-/// The mesh that lines are about: all data are numbers.
-pub type LineMesh<A> = Dcel<i64, i64, i64, i64, A>;
 
 /// Writes what a query is told, or refuses it, by the line that it is.
 fn tell<A: Allocator, K: LineSink>(

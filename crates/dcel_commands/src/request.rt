@@ -32,6 +32,9 @@ use dcel_text::sink::LineSink;
 use spade_dcel::dcel::Dcel;
 use std::alloc::Allocator;
 
+/// The mesh that lines are about: all data are numbers.
+pub type LineMesh<A> = Dcel<i64, i64, i64, i64, A>;
+
 /// What a line can be told about a mesh, which stays as it is.
 #[derive(Clone, Copy)]
 pub enum Query {

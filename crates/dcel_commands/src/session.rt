@@ -5,7 +5,8 @@ ghost use Rattle.dcel_text.specs.Lines.{HasNoFeed, line_feed};
 ghost use Rattle.dcel_commands.specs.Stage.{Stage, Serves, Ends};
 ghost use Rattle.dcel_commands.specs.Talk.{start};
 
-use crate::answering::{LineMesh, answer};
+use crate::answering::answer;
+use crate::request::LineMesh;
 use dcel_text::buffer::Buffer;
 use dcel_text::lines::split_line;
 use dcel_text::output::Writer;

@@ -1,7 +1,7 @@
 //! Text on its way to a sink.
 
 ghost use Rattle.std.specs.Prelude.{◌≡◌, ◌∷◌, []};
-ghost use Rattle.std.specs.Fmt.{decimal};
+ghost use Rattle.std.specs.Fmt.{decimal, signed_decimal};
 ghost use Rattle.dcel_text.specs.Output.{Writing, Writes};
 ghost use Rattle.dcel_text.specs.Texts.{numbered};
 
@@ -86,6 +86,16 @@ impl<'a, K: LineSink> Writer<'a, K> {
     {
         let mut slot = [0; MOST_DIGITS];
         self.write(digits(n, &mut slot));
+    }
+
+    /// Writes the decimals of a datum.
+    pub fn datum(&mut self, d: i64)
+        ensures { Writes K.has_failed K.contents self.old self.new (signed_decimal d) }
+    {
+        if d < 0 {
+            self.write(b"-");
+        }
+        self.number(d.unsigned_abs());
     }
 
     /// Writes a word and a number after it.

@@ -15,9 +15,9 @@ pub fn read<'a>(rest: Rest<'a>) -> Option<Request>
 }
 
 /// Writes the answer, or refuses and writes nothing.
-pub fn tell<V, DE, UE, F, A: Allocator, K: LineSink>(
+pub fn tell<A: Allocator, K: LineSink>(
     out: &mut Writer<'_, K>,
-    dcel: &Dcel<V, DE, UE, F, A>,
+    dcel: &LineMesh<A>,
     from: FixedVertexHandle,
     to: FixedVertexHandle,
 ) -> Result<(), Refusal>

@@ -15,10 +15,7 @@ pub fn read<'a>(rest: Rest<'a>) -> Option<Request>
 }
 
 /// Writes whether the mesh is checked.
-pub fn write_check<V, DE, UE, F, A: Allocator, K: LineSink>(
-    out: &mut Writer<'_, K>,
-    dcel: &Dcel<V, DE, UE, F, A>,
-)
+pub fn write_check<A: Allocator, K: LineSink>(out: &mut Writer<'_, K>, dcel: &LineMesh<A>)
     ensures { WritesSome K.has_failed K.contents out.old out.new (check.Tells dcel.now) }
 {
     if dcel.sanity_check() {
