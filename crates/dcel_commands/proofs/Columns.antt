@@ -3,7 +3,7 @@ use Rattle.std.proofs.Common.{◌≡◌, ◌⊎◌, ℕ, zero, suc, ◌+◌, ◌
 use Rattle.std.specs.List.Sorted.{IsNonDecreasingBy}
 use Rattle.std.proofs.lemmas.Bool.{and_parts}
 use Rattle.dcel_commands.specs.declared.commands.command.Command.{Command}
-use Rattle.dcel_commands.specs.declared.commands.command.Command.TheVariants.{Append, Triangle, Setup, Extend, Line, Close, Outside, Insert, Half, Split}
+use Rattle.dcel_commands.specs.declared.commands.command.Command.TheVariants.{Append, Triangle, Setup, Extend, Line, Close, Outside, Insert, Half, Split, Flip, Swap, Put, Clear}
 use Rattle.dcel_commands.specs.declared.refusal.Refusal.{Refusal}
 use Rattle.dcel_commands.specs.Conditions.{Entry, Meets, AllMet, FirstUnmet, IsLeast, IsReason, IsRefused, entry_number}
 use Rattle.dcel_commands.specs.Refusal.{refusal_number}
@@ -119,6 +119,10 @@ command-column limit (Outside h b) = refl
 command-column limit (Insert v f) = refl
 command-column limit (Half h b) = refl
 command-column limit (Split h b) = refl
+command-column limit (Flip u) = refl
+command-column limit (Swap a b) = refl
+command-column limit (Put v datum) = refl
+command-column limit Clear = refl
 
 pub command-ascends : {V : Type 0} (limit : ℕ) (command : Command V) → IsNonDecreasingBy entry_number (asks limit command)
 command-ascends limit command = ascends 1 (asks limit command) (command-column limit command)

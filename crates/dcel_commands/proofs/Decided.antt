@@ -1,11 +1,11 @@
 -- Each condition is met or isn't, whatever the shape.
 use Rattle.std.proofs.Common.{◌≡◌, ◌≢◌, ◌⊎◌, inl, inr, ℕ, zero, suc, ◌+◌, ◌*◌, ◌/◌, ◌<◌, ◌≤◌, Bool, true, false, sym, refl, subst, ◌∙◌, length, arith}
 use Rattle.std.proofs.lemmas.Bool.{cases_eq, cases_lt, false≢true}
-use Rattle.dcel_commands.specs.Conditions.{Condition, Meets, VertexInRange, HalfEdgeInRange, InnerFaceInRange, VertexLive, HalfEdgeLive, FaceLive, Different, Unconnected, NoEdge, LineEnd, ThreeHalves, OnTriangle, Bridge, OnOuterFace, ClosesOutside, RoomFor, RoomForMesh, AreWithin}
+use Rattle.dcel_commands.specs.Conditions.{Condition, Meets, VertexInRange, HalfEdgeInRange, EdgeInRange, InnerFaceInRange, VertexLive, HalfEdgeLive, EdgeLive, FaceLive, Different, Unconnected, NoEdge, LineEnd, ThreeHalves, OnTriangle, Bridge, OnOuterFace, ClosesOutside, Flips, RoomFor, RoomForMesh, AreWithin}
 use Rattle.dcel_fixed.specs.HalfEdges.{rev}
-use Rattle.dcel_maps.specs.Conditions.{IsUnconnected, IsLineEnd, IsTriangle, IsBridge, CanCloseOutside}
+use Rattle.dcel_maps.specs.Conditions.{IsUnconnected, IsLineEnd, IsTriangle, IsBridge, CanFlip, CanCloseOutside}
 use Rattle.dcel_maps.specs.Removals.{gives_up_edge}
-use Rattle.dcel_maps.specs.Shapes.{Shape, IsLive, edge_is_live, end_of, face_count, face_is_live, face_of, next_of, origin_of, vertex_is_live}
+use Rattle.dcel_maps.specs.Shapes.{Shape, IsLive, edge_is_live, end_of, face_count, face_is_live, face_of, next_of, origin_of, prev_of, vertex_is_live}
 use Rattle.dcel_maps.specs.Walking.{IsOutEdge}
 use Rattle.dcel_maps.specs.Words.{word_of}
 use Rattle.dcel_maps.proofs.Liveness.{is_live-parts}
@@ -121,6 +121,12 @@ closes_outside s h =
     as_well (λ p. record { live = p.0; outer = p.1.0; apart = p.1.1 }) (λ (can : CanCloseOutside s h). (can.live, (can.outer, can.apart)))
     (both (is_true (edge_is_live s (h / 2))) (both (cases_eq (face_of s h) 0) (neither (cases_eq (end_of s (next_of s h)) (origin_of s h)))))
 
+can_flip : (s : Shape) (u : ℕ) → Decided (CanFlip s u)
+can_flip s u =
+    as_well (λ p. record { live = p.0; triangle = p.1.0; facing = p.1.1.0; corners = p.1.1.1 }) (λ (can : CanFlip s u). (can.live, (can.triangle, (can.facing, can.corners))))
+    (both (is_true (edge_is_live s u)) (both (triangle s (face_of s (2 * u))) (both (triangle s (face_of s (2 * u + 1)))
+      (neither (cases_eq (origin_of s (prev_of s (2 * u))) (origin_of s (prev_of s (2 * u + 1))))))))
+
 within : (limit vertices edges faces : ℕ) → Decided (AreWithin limit vertices edges faces)
 within limit vertices edges faces =
     as_well (λ p. record { few_vertices = p.0; few_edges = p.1.0; few_faces = p.1.1 }) (λ (are : AreWithin limit vertices edges faces). (are.few_vertices, (are.few_edges, are.few_faces)))
@@ -129,9 +135,11 @@ within limit vertices edges faces =
 pub meets : (s : Shape) (condition : Condition) → Decided (Meets s condition)
 meets s (VertexInRange v) = is_below v s.vertices
 meets s (HalfEdgeInRange h) = is_below h (2 * s.edges)
+meets s (EdgeInRange u) = is_below u s.edges
 meets s (InnerFaceInRange f) = both (is_below 0 f) (is_below f (face_count s))
 meets s (VertexLive v) = is_true (vertex_is_live s v)
 meets s (HalfEdgeLive h) = is_true (edge_is_live s (h / 2))
+meets s (EdgeLive u) = is_true (edge_is_live s u)
 meets s (FaceLive f) = is_true (face_is_live s f)
 meets s (Different a b) = neither (cases_eq a b)
 meets s (Unconnected v) = unconnected s v
@@ -142,5 +150,6 @@ meets s (OnTriangle h) = triangle s (face_of s h)
 meets s (Bridge h) = bridge s h
 meets s (OnOuterFace h) = cases_eq (face_of s h) 0
 meets s (ClosesOutside h) = closes_outside s h
+meets s (Flips u) = can_flip s u
 meets s (RoomFor limit vertices edges faces) = within limit (s.vertices + vertices) (s.edges + edges) (face_count s + faces)
 meets s (RoomForMesh limit vertices edges faces) = within limit vertices edges faces

@@ -7,8 +7,8 @@ use Rattle.std.specs.Str.Parse.{AllDigits}
 use Rattle.std.specs.Fmt.{decimal}
 use Rattle.std.proofs.lemmas.Fmt.{digits_decimal, signed_decimal_injective}
 use Rattle.std.proofs.lemmas.Str.Parse.{digit_from_value}
-use Rattle.dcel_commands.specs.declared.commands.command.Command.TheVariants.{Append, Triangle, Setup, Extend, Line, Close, Outside, Insert, Half, Split}
-use Rattle.dcel_commands.specs.declared.request.Query.TheVariants.{Counts, Words, Out, Origin, Between, Check}
+use Rattle.dcel_commands.specs.declared.commands.command.Command.TheVariants.{Append, Triangle, Setup, Extend, Line, Close, Outside, Insert, Half, Split, Flip, Swap, Put, Clear}
+use Rattle.dcel_commands.specs.declared.request.Query.TheVariants.{Counts, Words, Out, Origin, Between, Get, Check}
 use Rattle.dcel_commands.specs.declared.request.Request.{Request}
 use Rattle.dcel_commands.specs.declared.request.Request.TheVariants.{Edit, Ask}
 use Rattle.dcel_commands.specs.Grammar.{Item, Number, Datum, item_text, IsInRange}
@@ -112,11 +112,16 @@ request_of = request_in (
     (codes "insert", two (λ v f. Edit (Insert (number_in v) (number_in f)))) ∷
     (codes "half", two (λ h b. Edit (Half (number_in h) (number_in b)))) ∷
     (codes "split", two (λ h b. Edit (Split (number_in h) (number_in b)))) ∷
+    (codes "flip", one (λ u. Edit (Flip (number_in u)))) ∷
+    (codes "swap", two (λ a b. Edit (Swap (number_in a) (number_in b)))) ∷
+    (codes "put", two (λ v d. Edit (Put (number_in v) d))) ∷
+    (codes "clear", nothing (Edit Clear)) ∷
     (codes "counts", nothing (Ask Counts)) ∷
     (codes "words", nothing (Ask Words)) ∷
     (codes "out", one (λ v. Ask (Out (number_in v)))) ∷
     (codes "origin", one (λ h. Ask (Origin (number_in h)))) ∷
     (codes "between", two (λ v w. Ask (Between (number_in v) (number_in w)))) ∷
+    (codes "get", one (λ v. Ask (Get (number_in v)))) ∷
     (codes "check", nothing (Ask Check)) ∷
     [])
 

@@ -2,16 +2,18 @@
 use Rattle.std.specs.Prelude.{◌≡◌, ◌≢◌, ◌⊎◌, ℕ, ◌+◌, ◌*◌, ◌<◌, ◌≤◌, true, List, [], ◌∷◌, Contains}
 use Rattle.dcel_commands.specs.declared.refusal.Refusal.{Refusal}
 use Rattle.dcel_commands.specs.Refusal.{refusal_number}
-use Rattle.dcel_maps.specs.Conditions.{IsUnconnected, IsLineEnd, IsTriangle, IsBridge, CanCloseOutside}
-use Rattle.dcel_maps.specs.Shapes.{Shape, IsLive, vertex_is_live, face_is_live, face_count, face_of}
+use Rattle.dcel_maps.specs.Conditions.{IsUnconnected, IsLineEnd, IsTriangle, IsBridge, CanFlip, CanCloseOutside}
+use Rattle.dcel_maps.specs.Shapes.{Shape, IsLive, vertex_is_live, edge_is_live, face_is_live, face_count, face_of}
 
 -- what may be asked
 pub data Condition : Type 0 where
   VertexInRange : ℕ → Condition
   HalfEdgeInRange : ℕ → Condition
+  EdgeInRange : ℕ → Condition
   InnerFaceInRange : ℕ → Condition
   VertexLive : ℕ → Condition
   HalfEdgeLive : ℕ → Condition
+  EdgeLive : ℕ → Condition
   FaceLive : ℕ → Condition
   Different : ℕ → ℕ → Condition
   Unconnected : ℕ → Condition
@@ -22,6 +24,7 @@ pub data Condition : Type 0 where
   Bridge : ℕ → Condition
   OnOuterFace : ℕ → Condition
   ClosesOutside : ℕ → Condition
+  Flips : ℕ → Condition
   RoomFor : ℕ → ℕ → ℕ → ℕ → Condition
   RoomForMesh : ℕ → ℕ → ℕ → ℕ → Condition
 
@@ -35,9 +38,11 @@ pub record AreWithin (limit vertices edges faces : ℕ) : Type 0 where
 abbrev pub Meets : Shape → Condition → Type 0
 Meets s (VertexInRange v) = v < s.vertices
 Meets s (HalfEdgeInRange h) = h < 2 * s.edges
+Meets s (EdgeInRange u) = u < s.edges
 Meets s (InnerFaceInRange f) = (0 < f) × (f < face_count s)
 Meets s (VertexLive v) = vertex_is_live s v ≡ true
 Meets s (HalfEdgeLive h) = IsLive s h
+Meets s (EdgeLive u) = edge_is_live s u ≡ true
 Meets s (FaceLive f) = face_is_live s f ≡ true
 Meets s (Different a b) = a ≢ b
 Meets s (Unconnected v) = IsUnconnected s v
@@ -48,6 +53,7 @@ Meets s (OnTriangle h) = IsTriangle s (face_of s h)
 Meets s (Bridge h) = IsBridge s h
 Meets s (OnOuterFace h) = face_of s h ≡ 0
 Meets s (ClosesOutside h) = CanCloseOutside s h
+Meets s (Flips u) = CanFlip s u
 Meets s (RoomFor limit vertices edges faces) = AreWithin limit (s.vertices + vertices) (s.edges + edges) (face_count s + faces)
 Meets s (RoomForMesh limit vertices edges faces) = AreWithin limit vertices edges faces
 

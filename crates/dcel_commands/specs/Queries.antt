@@ -2,7 +2,7 @@
 use Rattle.std.specs.Prelude.{◌≡◌, ◌⊎◌, ℕ, Bool, List, Option, Result, Ok, Err}
 use Rattle.dcel_commands.specs.declared.refusal.Refusal.{Refusal}
 use Rattle.dcel_commands.specs.declared.request.Query.{Query}
-use Rattle.dcel_commands.specs.declared.request.Query.TheVariants.{Counts, Words, Out, Origin, Between, Check}
+use Rattle.dcel_commands.specs.declared.request.Query.TheVariants.{Counts, Words, Out, Origin, Between, Get, Check}
 use Rattle.dcel_commands.specs.Answering.{WritesSome}
 use Rattle.dcel_commands.specs.Conditions.{Entry, AllMet, FirstUnmet}
 use Rattle.dcel_commands.specs.Refusal.{refusal_text}
@@ -11,6 +11,7 @@ use Rattle.dcel_text.specs.declared.output.Writer.{Writer}
 use Rattle.dcel_commands.specs.request.Between.{between}
 use Rattle.dcel_commands.specs.request.Check.{check}
 use Rattle.dcel_commands.specs.request.Counts.{counts}
+use Rattle.dcel_commands.specs.request.Get.{get}
 use Rattle.dcel_commands.specs.request.Origin.{origin}
 use Rattle.dcel_commands.specs.request.Out.{out}
 use Rattle.dcel_commands.specs.request.Words.{words}
@@ -22,6 +23,7 @@ query_rule Words = words
 query_rule (Out v) = out v
 query_rule (Origin h) = origin h
 query_rule (Between v w) = between v w
+query_rule (Get v) = get v
 query_rule Check = check
 
 -- the conditions of a query

@@ -1,7 +1,7 @@
 -- What commands do to a mesh, and what they are answered.
 use Rattle.std.specs.Prelude.{◌≡◌, ◌⊎◌, ℕ, IsTrue, List, Result, Ok, Err}
 use Rattle.dcel_commands.specs.declared.commands.command.Command.{Command}
-use Rattle.dcel_commands.specs.declared.commands.command.Command.TheVariants.{Append, Triangle, Setup, Extend, Line, Close, Outside, Insert, Half, Split}
+use Rattle.dcel_commands.specs.declared.commands.command.Command.TheVariants.{Append, Triangle, Setup, Extend, Line, Close, Outside, Insert, Half, Split, Flip, Swap, Put, Clear}
 use Rattle.dcel_commands.specs.declared.commands.reply.Refused.{Refused}
 use Rattle.dcel_commands.specs.declared.commands.reply.Reply.{Reply}
 use Rattle.dcel_commands.specs.declared.refusal.Refusal.{Refusal}
@@ -9,14 +9,18 @@ use Rattle.dcel_commands.specs.declared.refusal.Refusal.TheVariants.{OutOfMemory
 use Rattle.dcel_commands.specs.Conditions.{Entry, AllMet, FirstUnmet}
 use Rattle.dcel_commands.specs.Rules.{CommandRule}
 use Rattle.dcel_commands.specs.request.Append.{append}
+use Rattle.dcel_commands.specs.request.Clear.{clear}
 use Rattle.dcel_commands.specs.request.Close.{close}
 use Rattle.dcel_commands.specs.request.Extend.{extend}
+use Rattle.dcel_commands.specs.request.Flip.{flip}
 use Rattle.dcel_commands.specs.request.Half.{half}
 use Rattle.dcel_commands.specs.request.Insert.{insert}
 use Rattle.dcel_commands.specs.request.Line.{line}
 use Rattle.dcel_commands.specs.request.Outside.{outside}
+use Rattle.dcel_commands.specs.request.Put.{put}
 use Rattle.dcel_commands.specs.request.Setup.{setup}
 use Rattle.dcel_commands.specs.request.Split.{split}
+use Rattle.dcel_commands.specs.request.Swap.{swap}
 use Rattle.dcel_commands.specs.request.Triangle.{triangle}
 use Rattle.dcel_maps.specs.Shapes.{Mesh, Shape}
 
@@ -32,6 +36,10 @@ command_rule (Outside h b) = outside h b
 command_rule (Insert v f) = insert v f
 command_rule (Half h b) = half h b
 command_rule (Split h b) = split h b
+command_rule (Flip u) = flip u
+command_rule (Swap a b) = swap a b
+command_rule (Put v datum) = put v datum
+command_rule Clear = clear
 
 -- the conditions of a command, each after the refusal that answers where it isn't met, in the order of checking
 abbrev pub asks : {V : Type 0} → ℕ → Command V → List Entry

@@ -1,14 +1,15 @@
 //! The parts of what lines ask of a mesh.
 
-ghost use Rattle.std.specs.Prelude.{◌≡◌, ◌↔◌, ◌+◌, ◌*◌, ◌<◌, ◌≤◌, ◌^◌, false, IsTrue, MatchResult};
+ghost use Rattle.std.specs.Prelude.{◌≡◌, ◌↔◌, ◌+◌, ◌*◌, ◌<◌, ◌≤◌, ◌^◌, [], ◌∷◌, false, IsTrue, MatchResult};
 ghost use Rattle.dcel_maps.specs.Conditions.{HasRoom};
-ghost use Rattle.dcel_maps.specs.Shapes.{face_count};
-ghost use Rattle.dcel_commands.specs.Conditions.{AllMet, AreWithin, FirstUnmet};
+ghost use Rattle.dcel_maps.specs.Shapes.{IsLive, face_count};
+ghost use Rattle.dcel_commands.specs.Conditions.{AllMet, AreWithin, FirstUnmet, OnTriangle};
 ghost use Rattle.dcel_commands.specs.EdgeAndVertex.{edge_and_vertex};
 ghost use Rattle.dcel_commands.specs.TwoVertices.{live_vertices, two_vertices};
+ghost use Rattle.dcel_commands.specs.declared.refusal.Refusal.TheVariants.{NotTriangle};
 
 use crate::refusal::Refusal;
-use dcel_fixed::{FixedDirectedEdgeHandle, FixedVertexHandle};
+use dcel_fixed::{FixedDirectedEdgeHandle, FixedUndirectedEdgeHandle, FixedVertexHandle};
 use spade_dcel::dcel::Dcel;
 use std::alloc::Allocator;
 
@@ -37,6 +38,31 @@ pub fn has_half_edge<V, DE, UE, F, A: Allocator>(
     ensures { IsTrue result ↔ (edge < 2 * dcel.now.shape.edges) }
 {
     edge.index() < dcel.num_directed_edges()
+}
+
+/// Whether the edge's number is in range.
+pub fn has_edge<V, DE, UE, F, A: Allocator>(
+    dcel: &Dcel<V, DE, UE, F, A>,
+    edge: FixedUndirectedEdgeHandle,
+) -> bool
+    ensures { IsTrue result ↔ (edge < dcel.now.shape.edges) }
+{
+    edge.index() < dcel.num_undirected_edges()
+}
+
+/// Asks for a triangle where a live half edge lies.
+pub fn ask_triangle<V, DE, UE, F, A: Allocator>(
+    dcel: &Dcel<V, DE, UE, F, A>,
+    edge: FixedDirectedEdgeHandle,
+) -> Result<(), Refusal>
+    requires { IsLive dcel.now.shape edge }
+    ensures { let asks = (NotTriangle, OnTriangle edge) ∷ [] in
+        MatchResult result (λ _. AllMet dcel.now.shape asks) (λ why. FirstUnmet dcel.now.shape asks why) }
+{
+    ask(
+        dcel.is_triangle(dcel.directed_edge(edge).face().fix()),
+        Refusal::NotTriangle,
+    )
 }
 
 /// Asks for two live vertices, which may be one.

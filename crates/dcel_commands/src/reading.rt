@@ -5,8 +5,8 @@ ghost use Rattle.dcel_commands.specs.Spelling.{Says, Spells};
 ghost use Rattle.std.specs.Prelude.{MatchOption};
 
 use crate::request::{
-    Request, append, between, check, close, counts, extend, half, insert, line, origin, out,
-    outside, setup, split, triangle, words,
+    Request, append, between, check, clear, close, counts, extend, flip, get, half, insert, line,
+    origin, out, outside, put, setup, split, swap, triangle, words,
 };
 use dcel_text::items::{Rest, first};
 
@@ -29,11 +29,16 @@ fn read_after<'a>(word: &[u8], rest: Rest<'a>) -> Option<Request>
         _ if word == b"insert".as_slice() => insert::read(rest),
         _ if word == b"half".as_slice() => half::read(rest),
         _ if word == b"split".as_slice() => split::read(rest),
+        _ if word == b"flip".as_slice() => flip::read(rest),
+        _ if word == b"swap".as_slice() => swap::read(rest),
+        _ if word == b"put".as_slice() => put::read(rest),
+        _ if word == b"clear".as_slice() => clear::read(rest),
         _ if word == b"counts".as_slice() => counts::read(rest),
         _ if word == b"words".as_slice() => words::read(rest),
         _ if word == b"out".as_slice() => out::read(rest),
         _ if word == b"origin".as_slice() => origin::read(rest),
         _ if word == b"between".as_slice() => between::read(rest),
+        _ if word == b"get".as_slice() => get::read(rest),
         _ if word == b"check".as_slice() => check::read(rest),
         _ => None,
     }

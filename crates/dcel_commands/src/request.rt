@@ -4,29 +4,36 @@
 pub mod append;
 pub mod between;
 pub mod check;
+pub mod clear;
 pub mod close;
 pub mod counts;
 pub mod extend;
+pub mod flip;
+pub mod get;
 pub mod half;
 pub mod insert;
 pub mod line;
 pub mod origin;
 pub mod out;
 pub mod outside;
+pub mod put;
 pub mod setup;
 pub mod split;
+pub mod swap;
 pub mod triangle;
 pub mod words;
 
 use crate::asking::{
-    ask, ask_edge_and_vertex, ask_live_vertices, ask_two_vertices, has_half_edge, has_room,
-    has_vertex,
+    ask, ask_edge_and_vertex, ask_live_vertices, ask_triangle, ask_two_vertices, has_edge,
+    has_half_edge, has_room, has_vertex,
 };
 use crate::commands::{Command, Handed, Refused, Reply};
 use crate::given::{edge_and_vertex, one_number, three_data, two_numbers, two_vertices};
 use crate::refusal::Refusal;
-use dcel_fixed::{FixedDirectedEdgeHandle, FixedFaceHandle, FixedVertexHandle, InnerTag};
-use dcel_text::items::{Rest, datum_then, nothing};
+use dcel_fixed::{
+    FixedDirectedEdgeHandle, FixedFaceHandle, FixedUndirectedEdgeHandle, FixedVertexHandle, InnerTag,
+};
+use dcel_text::items::{Rest, datum_then, nothing, number_then};
 use dcel_text::output::Writer;
 use dcel_text::sink::LineSink;
 use spade_dcel::dcel::Dcel;
@@ -48,6 +55,8 @@ pub enum Query {
     Origin(FixedDirectedEdgeHandle),
     /// The half edge that leads from one vertex to another.
     Between(FixedVertexHandle, FixedVertexHandle),
+    /// The datum of a vertex.
+    Get(FixedVertexHandle),
     /// Whether the mesh is checked.
     Check,
 }

@@ -1,6 +1,8 @@
 //! What can be asked of a mesh.
 
-use dcel_fixed::{FixedDirectedEdgeHandle, FixedFaceHandle, FixedVertexHandle, InnerTag};
+use dcel_fixed::{
+    FixedDirectedEdgeHandle, FixedFaceHandle, FixedUndirectedEdgeHandle, FixedVertexHandle, InnerTag,
+};
 
 /// An edit of a mesh, by the numbers of its elements. Numbers may be any: [`apply`](crate::commands::apply) tests all that a
 /// command asks.
@@ -52,4 +54,18 @@ pub enum Command<V> {
     /// It asks for a live half edge with a face of three half edges on both sides, a live vertex without an edge, and room for three
     /// edges and two faces.
     Split(FixedDirectedEdgeHandle, FixedVertexHandle),
+    /// Turns the edge between the triangles at its sides, so that it joins their other corners. It takes no memory.
+    ///
+    /// It asks for a live edge with a face of three half edges on both sides, whose other corners are two vertices.
+    Flip(FixedUndirectedEdgeHandle),
+    /// Exchanges two vertices: what starts at one starts at the other afterwards, and so do the data go. It takes no memory.
+    ///
+    /// It asks for live vertices, which may be one.
+    Swap(FixedVertexHandle, FixedVertexHandle),
+    /// Replaces the datum of the vertex. It takes no memory.
+    ///
+    /// It asks for a number in range.
+    Put(FixedVertexHandle, V),
+    /// Takes all vertices and edges away, and all faces but the outer one, which keeps its datum. It takes no memory, and asks for nothing.
+    Clear,
 }

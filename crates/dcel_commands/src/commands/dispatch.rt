@@ -6,7 +6,9 @@ ghost use Rattle.dcel_maps.specs.Shapes.{IsMesh};
 
 use crate::commands::command::Command;
 use crate::commands::reply::{Refused, Reply};
-use crate::request::{append, close, extend, half, insert, line, outside, setup, split, triangle};
+use crate::request::{
+    append, clear, close, extend, flip, half, insert, line, outside, put, setup, split, swap, triangle,
+};
 use spade_dcel::dcel::Dcel;
 use spade_dcel::laws;
 use std::alloc::Allocator;
@@ -48,6 +50,10 @@ pub fn apply<
         Command::Insert(vertex, face) => insert::carry_out(dcel, vertex, face, limit),
         Command::Half(edge, vertex) => half::carry_out(dcel, edge, vertex, limit),
         Command::Split(edge, vertex) => split::carry_out(dcel, edge, vertex, limit),
+        Command::Flip(edge) => flip::carry_out(dcel, edge),
+        Command::Swap(first, second) => swap::carry_out(dcel, first, second),
+        Command::Put(vertex, datum) => put::carry_out(dcel, vertex, datum),
+        Command::Clear => clear::carry_out(dcel),
     };
     laws::every_mesh(dcel);
     answer

@@ -7,7 +7,7 @@ use Rattle.dcel_commands.specs.Steps.{Carries, IsRefusal, Legal, Step}
 use Rattle.dcel_maps.specs.Shapes.{Mesh}
 use Rattle.dcel_commands.proofs.commands.dispatch.apply.Given.{Over}
 use Rattle.dcel_commands.proofs.commands.dispatch.apply.Goals as goal
-use Rattle.dcel_commands.proofs.commands.dispatch.apply.Goals.{in-Append, in-Triangle, in-Setup, in-Extend, in-Line, in-Close, in-Outside, in-Insert, in-Half, in-Split}
+use Rattle.dcel_commands.proofs.commands.dispatch.apply.Goals.{in-Append, in-Triangle, in-Setup, in-Extend, in-Line, in-Close, in-Outside, in-Insert, in-Half, in-Split, in-Flip, in-Swap, in-Put, in-Clear}
 
 -- each line carries out its command
 carries : (g : Over) (c : goal.After-every_mesh g)
@@ -23,6 +23,10 @@ carries g c = elim c.match-command.branch [
   | in-Insert w ↦ rw (w.answer-is, w.dcel-is, w.in-Insert.is) w.carry_out-answer-in-Insert.ensures
   | in-Half w ↦ rw (w.answer-is, w.dcel-is, w.in-Half.is) w.carry_out-answer-in-Half.ensures
   | in-Split w ↦ rw (w.answer-is, w.dcel-is, w.in-Split.is) w.carry_out-answer-in-Split.ensures
+  | in-Flip w ↦ rw (w.answer-is, w.dcel-is, w.in-Flip.is) (w.carry_out-answer-in-Flip.ensures c.args.limit)
+  | in-Swap w ↦ rw (w.answer-is, w.dcel-is, w.in-Swap.is) (w.carry_out-answer-in-Swap.ensures c.args.limit)
+  | in-Put w ↦ rw (w.answer-is, w.dcel-is, w.in-Put.is) (w.carry_out-answer-in-Put.ensures c.args.limit)
+  | in-Clear w ↦ rw (w.answer-is, w.dcel-is, w.in-Clear.is) (w.carry_out-answer-in-Clear.ensures c.args.limit)
 ]
 
 -- what that says where the command was carried out, and where it was refused

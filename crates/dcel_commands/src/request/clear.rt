@@ -1,0 +1,28 @@
+//! `clear`
+
+ghost use Rattle.std.specs.Prelude.{ℕ, codes};
+ghost use Rattle.dcel_commands.specs.Vocabulary.{Carries, Says, left};
+
+use super::*;
+
+/// What the line says after its word.
+pub fn read<'a>(rest: Rest<'a>) -> Option<Request>
+    ensures { Says (codes "clear") (left rest.entry) result }
+{
+    nothing(rest)?;
+    Some(Request::Edit(Command::Clear))
+}
+
+/// Carries the command out.
+pub fn carry_out<
+    V: Drop,
+    DE: Default + Drop,
+    UE: Default + Drop,
+    F: Default + Drop,
+    A: Allocator,
+>(dcel: &mut Dcel<V, DE, UE, F, A>) -> Result<Reply, Refused<V>>
+    ensures { (limit : ℕ) → Carries DE.is_default UE.is_default F.is_default limit dcel.old Command.Clear result dcel.new }
+{
+    dcel.clear();
+    Ok(Reply::Ok)
+}

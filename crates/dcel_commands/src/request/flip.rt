@@ -1,0 +1,32 @@
+//! `flip U`
+
+ghost use Rattle.std.specs.Prelude.{ℕ, codes};
+ghost use Rattle.dcel_commands.specs.Vocabulary.{Carries, Says, left};
+
+use super::*;
+use spade_dcel::operations::flip_cw;
+
+/// What the line says after its word.
+pub fn read<'a>(rest: Rest<'a>) -> Option<Request>
+    ensures { Says (codes "flip") (left rest.entry) result }
+{
+    let number = one_number(rest)?;
+    Some(Request::Edit(Command::Flip(FixedUndirectedEdgeHandle::new(number as usize))))
+}
+
+/// Carries the command out.
+pub fn carry_out<V, DE: Default, UE: Default, F: Default, A: Allocator>(
+    dcel: &mut Dcel<V, DE, UE, F, A>,
+    edge: FixedUndirectedEdgeHandle,
+) -> Result<Reply, Refused<V>>
+    ensures { (limit : ℕ) → Carries DE.is_default UE.is_default F.is_default limit dcel.old (Command.Flip edge) result dcel.new }
+{
+    ask(has_edge(dcel, edge), Refusal::NoSuchEdge)?;
+    ask(dcel.is_live_edge(edge), Refusal::GivenUp)?;
+    let [half, other_half] = edge.directed_edges();
+    ask_triangle(dcel, half)?;
+    ask_triangle(dcel, other_half)?;
+    ask(dcel.can_flip(edge), Refusal::WouldLoop)?;
+    flip_cw(dcel, edge);
+    Ok(Reply::Ok)
+}

@@ -1,0 +1,29 @@
+//! `get V`
+
+ghost use Rattle.std.specs.Prelude.{codes};
+ghost use Rattle.dcel_commands.specs.Vocabulary.{Says, TellsOrRefuses, left};
+
+use super::*;
+
+/// What the line says after its word.
+pub fn read<'a>(rest: Rest<'a>) -> Option<Request>
+    ensures { Says (codes "get") (left rest.entry) result }
+{
+    let number = one_number(rest)?;
+    Some(Request::Ask(Query::Get(FixedVertexHandle::new(number as usize))))
+}
+
+/// Writes the answer, or refuses and writes nothing.
+pub fn tell<A: Allocator, K: LineSink>(
+    out: &mut Writer<'_, K>,
+    dcel: &LineMesh<A>,
+    vertex: FixedVertexHandle,
+) -> Result<(), Refusal>
+    ensures { TellsOrRefuses K.has_failed K.contents out.old dcel.now (Query.Get vertex) result out.new }
+{
+    ask(has_vertex(dcel, vertex), Refusal::NoSuchVertex)?;
+    out.write(b"datum ");
+    out.datum(*dcel.vertex_data(vertex));
+    out.write(b"\n");
+    Ok(())
+}

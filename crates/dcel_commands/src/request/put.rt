@@ -1,0 +1,37 @@
+//! `put V D`
+
+ghost use Rattle.std.specs.Prelude.{ℕ, codes};
+ghost use Rattle.dcel_commands.specs.Vocabulary.{Carries, Says, left};
+
+use super::*;
+
+/// What the line says after its word.
+pub fn read<'a>(rest: Rest<'a>) -> Option<Request>
+    ensures { Says (codes "put") (left rest.entry) result }
+{
+    let (vertex, others) = number_then(rest)?;
+    let (datum, others) = datum_then(others)?;
+    nothing(others)?;
+    Some(Request::Edit(Command::Put(
+        FixedVertexHandle::new(vertex as usize),
+        datum,
+    )))
+}
+
+/// Carries the command out.
+pub fn carry_out<V: Drop, DE: Default, UE: Default, F: Default, A: Allocator>(
+    dcel: &mut Dcel<V, DE, UE, F, A>,
+    vertex: FixedVertexHandle,
+    datum: V,
+) -> Result<Reply, Refused<V>>
+    ensures { (limit : ℕ) → Carries DE.is_default UE.is_default F.is_default limit dcel.old (Command.Put vertex datum) result dcel.new }
+{
+    if !has_vertex(dcel, vertex) {
+        return Err(Refused {
+            why: Refusal::NoSuchVertex,
+            back: Handed::One(datum),
+        });
+    }
+    dcel.update_vertex(vertex, datum);
+    Ok(Reply::Ok)
+}

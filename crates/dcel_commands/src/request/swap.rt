@@ -1,0 +1,27 @@
+//! `swap A B`
+
+ghost use Rattle.std.specs.Prelude.{ℕ, codes};
+ghost use Rattle.dcel_commands.specs.Vocabulary.{Carries, Says, left};
+
+use super::*;
+
+/// What the line says after its word.
+pub fn read<'a>(rest: Rest<'a>) -> Option<Request>
+    ensures { Says (codes "swap") (left rest.entry) result }
+{
+    let (first, second) = two_vertices(rest)?;
+    Some(Request::Edit(Command::Swap(first, second)))
+}
+
+/// Carries the command out.
+pub fn carry_out<V, DE: Default, UE: Default, F: Default, A: Allocator>(
+    dcel: &mut Dcel<V, DE, UE, F, A>,
+    first: FixedVertexHandle,
+    second: FixedVertexHandle,
+) -> Result<Reply, Refused<V>>
+    ensures { (limit : ℕ) → Carries DE.is_default UE.is_default F.is_default limit dcel.old (Command.Swap first second) result dcel.new }
+{
+    ask_live_vertices(dcel, first, second)?;
+    dcel.swap_vertices(first, second);
+    Ok(Reply::Ok)
+}
