@@ -20,6 +20,8 @@ mod growths;
 #[cfg(test)]
 mod lines;
 #[cfg(test)]
+mod memoryless_rows;
+#[cfg(test)]
 mod meshes;
 #[cfg(test)]
 mod outside;
