@@ -8,7 +8,7 @@ use Rattle.std.specs.Fmt.{decimal}
 use Rattle.std.proofs.lemmas.Fmt.{digits_decimal, signed_decimal_injective}
 use Rattle.std.proofs.lemmas.Str.Parse.{digit_from_value}
 use Rattle.dcel_commands.specs.declared.commands.command.Command.TheVariants.{Append, Triangle, Setup, Extend, Line, Close, Outside, Insert, Half, Split, Flip, Swap, Put, Clear}
-use Rattle.dcel_commands.specs.declared.request.Query.TheVariants.{Counts, Words, Out, Origin, Between, Get, Check}
+use Rattle.dcel_commands.specs.declared.request.Query.TheVariants.{Counts, Words, Hull, Out, Origin, Between, Get, Check}
 use Rattle.dcel_commands.specs.declared.request.Request.{Request}
 use Rattle.dcel_commands.specs.declared.request.Request.TheVariants.{Edit, Ask}
 use Rattle.dcel_commands.specs.Grammar.{Item, Number, Datum, item_text, IsInRange}
@@ -118,6 +118,7 @@ request_of = request_in (
     (codes "clear", nothing (Edit Clear)) ∷
     (codes "counts", nothing (Ask Counts)) ∷
     (codes "words", nothing (Ask Words)) ∷
+    (codes "hull", nothing (Ask Hull)) ∷
     (codes "out", one (λ v. Ask (Out (number_in v)))) ∷
     (codes "origin", one (λ h. Ask (Origin (number_in h)))) ∷
     (codes "between", two (λ v w. Ask (Between (number_in v) (number_in w)))) ∷

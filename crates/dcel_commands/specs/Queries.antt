@@ -2,7 +2,7 @@
 use Rattle.std.specs.Prelude.{◌≡◌, ◌⊎◌, ℕ, Bool, List, Option, Result, Ok, Err}
 use Rattle.dcel_commands.specs.declared.refusal.Refusal.{Refusal}
 use Rattle.dcel_commands.specs.declared.request.Query.{Query}
-use Rattle.dcel_commands.specs.declared.request.Query.TheVariants.{Counts, Words, Out, Origin, Between, Get, Check}
+use Rattle.dcel_commands.specs.declared.request.Query.TheVariants.{Counts, Words, Hull, Out, Origin, Between, Get, Check}
 use Rattle.dcel_commands.specs.Answering.{WritesSome}
 use Rattle.dcel_commands.specs.Conditions.{Entry, AllMet, FirstUnmet}
 use Rattle.dcel_commands.specs.Refusal.{refusal_text}
@@ -12,6 +12,7 @@ use Rattle.dcel_commands.specs.request.Between.{between}
 use Rattle.dcel_commands.specs.request.Check.{check}
 use Rattle.dcel_commands.specs.request.Counts.{counts}
 use Rattle.dcel_commands.specs.request.Get.{get}
+use Rattle.dcel_commands.specs.request.Hull.{hull}
 use Rattle.dcel_commands.specs.request.Origin.{origin}
 use Rattle.dcel_commands.specs.request.Out.{out}
 use Rattle.dcel_commands.specs.request.Words.{words}
@@ -20,6 +21,7 @@ use Rattle.dcel_commands.specs.request.Words.{words}
 abbrev pub query_rule : Query → QueryRule
 query_rule Counts = counts
 query_rule Words = words
+query_rule Hull = hull
 query_rule (Out v) = out v
 query_rule (Origin h) = origin h
 query_rule (Between v w) = between v w

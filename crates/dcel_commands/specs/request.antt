@@ -8,6 +8,7 @@ pub mod Extend
 pub mod Flip
 pub mod Get
 pub mod Half
+pub mod Hull
 pub mod Insert
 pub mod Line
 pub mod Origin

@@ -5,7 +5,7 @@ ghost use Rattle.dcel_commands.specs.Spelling.{Says, Spells};
 ghost use Rattle.std.specs.Prelude.{MatchOption};
 
 use crate::request::{
-    Request, append, between, check, clear, close, counts, extend, flip, get, half, insert, line,
+    Request, append, between, check, clear, close, counts, extend, flip, get, half, hull, insert, line,
     origin, out, outside, put, setup, split, swap, triangle, words,
 };
 use dcel_text::items::{Rest, first};
@@ -35,6 +35,7 @@ fn read_after<'a>(word: &[u8], rest: Rest<'a>) -> Option<Request>
         _ if word == b"clear".as_slice() => clear::read(rest),
         _ if word == b"counts".as_slice() => counts::read(rest),
         _ if word == b"words".as_slice() => words::read(rest),
+        _ if word == b"hull".as_slice() => hull::read(rest),
         _ if word == b"out".as_slice() => out::read(rest),
         _ if word == b"origin".as_slice() => origin::read(rest),
         _ if word == b"between".as_slice() => between::read(rest),

@@ -11,6 +11,7 @@ pub mod extend;
 pub mod flip;
 pub mod get;
 pub mod half;
+pub mod hull;
 pub mod insert;
 pub mod line;
 pub mod origin;
@@ -49,6 +50,8 @@ pub enum Query {
     Counts,
     /// The word of each face.
     Words,
+    /// The half edges of the outer face.
+    Hull,
     /// The half edges that start at a vertex.
     Out(FixedVertexHandle),
     /// The vertex that a half edge starts at.

@@ -57,7 +57,7 @@ fn write_word<V, DE, UE, F, A: Allocator, K: LineSink>(
 }
 
 /// Writes the half edges round a face, if it has any, from its least.
-fn write_half_edges<V, DE, UE, F, A: Allocator, K: LineSink>(
+pub fn write_half_edges<V, DE, UE, F, A: Allocator, K: LineSink>(
     out: &mut Writer<'_, K>,
     dcel: &Dcel<V, DE, UE, F, A>,
     face: FixedFaceHandle<PossiblyOuterTag>,
