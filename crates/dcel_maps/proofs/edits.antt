@@ -15,6 +15,7 @@ pub mod Closing
 pub mod EdgeSplits
 pub mod HalfSplits
 pub mod Flips
+pub mod FourFlips
 pub mod Alone
 pub mod Appending
 pub mod Beginning

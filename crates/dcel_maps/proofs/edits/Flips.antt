@@ -1,9 +1,9 @@
 -- An edge of a mesh turned between two triangles.
-use Rattle.std.proofs.Common.{◌≡◌, ◌≢◌, inl, inr, ℕ, ◌+◌, ◌*◌, ◌/◌, ◌<◌, [], ◌∷◌, Some, add-zero, append-nil, refl, sym, ap, ◌∙◌, arith}
+use Rattle.std.proofs.Common.{◌≡◌, ◌≢◌, inl, inr, ℕ, ◌+◌, ◌*◌, ◌/◌, [], ◌∷◌, Some, add-zero, append-nil, refl, sym, ap, ◌∙◌, arith}
 use Rattle.std.proofs.Math.Logic.{Ne-symm}
 use Rattle.std.proofs.lemmas.Bool.{cases_eq}
 use Rattle.dcel_fixed.specs.HalfEdges.{rev}
-use Rattle.dcel_fixed.proofs.Halves.{rev-double, rev-double-suc}
+use Rattle.dcel_fixed.proofs.Halves.{rev-double}
 use Rattle.dcel_maps.specs.Conditions.{CanFlip}
 use Rattle.dcel_maps.specs.Cyclic.{from_least}
 use Rattle.dcel_maps.specs.edits.Flip.{edge_flipped}
@@ -17,8 +17,9 @@ use Rattle.dcel_maps.proofs.edits.Linking.{IsLinked, face_live-at, linked-old, t
 use Rattle.dcel_maps.proofs.edits.Patches.{Untouched, puts_away, puts_here, replacing}
 use Rattle.dcel_maps.proofs.edits.Starting.{starts-as}
 use Rattle.dcel_maps.proofs.maps.Flips.{Flip, flip_keeps}
+use Rattle.dcel_maps.proofs.maps.Halves.{turn_back}
 use Rattle.dcel_maps.proofs.maps.Labels.{KeepsLabel}
-use Rattle.dcel_maps.proofs.maps.Triangles.{IsTriangleOf, Off, SameLinks, by_triangle, off_another, off_face, triangle_faces_another}
+use Rattle.dcel_maps.proofs.maps.Triangles.{IsTriangleOf, Off, SameLinks, by_triangle, facing_differ, off_another, off_face}
 use Rattle.dcel_maps.proofs.shapes.Maps.{map-sound, map-sphere}
 use Rattle.dcel_maps.proofs.words.Faces.{KeepsFace}
 
@@ -42,7 +43,7 @@ flipping f g e a b t c d x y z w = record {
   face_data = [];
 }
 
-module _ {V DE UE F : Type 0} (m : Mesh V DE UE F) (mesh : IsMesh m) (f g e a b t c d x y : ℕ) (turn : rev e ≡ t) (turn_back : rev t ≡ e)
+module _ {V DE UE F : Type 0} (m : Mesh V DE UE F) (mesh : IsMesh m) (f g e a b t c d x y : ℕ) (turn : rev e ≡ t)
     (was : IsTriangleOf (map_of m.shape) f e a b) (facing : IsTriangleOf (map_of m.shape) g t c d)
     (start : origin_of m.shape e ≡ x) (end : origin_of m.shape t ≡ y) (corners : origin_of m.shape b ≢ origin_of m.shape d) where
   abbrev S : Map
@@ -57,11 +58,11 @@ module _ {V DE UE F : Type 0} (m : Mesh V DE UE F) (mesh : IsMesh m) (f g e a b 
   sound : Sound S
   sound = map-sound mesh.sound
 
-  differ : g ≢ f
-  differ is = triangle_faces_another S sound f e a b was (ap S.face turn ∙ facing.face_x ∙ is)
+  differ : f ≢ g
+  differ = facing_differ S sound f e a b g t c d was facing turn
 
   off_f : (h : ℕ) → S.face h ≡ g → Off h e a b
-  off_f h at = off_face S f e a b was h (λ is. differ (sym at ∙ is))
+  off_f h at = off_face S f e a b was h (λ is. differ (sym is ∙ at))
 
   t_off : Off t e a b
   t_off = off_f t facing.face_x
@@ -211,7 +212,7 @@ module _ {V DE UE F : Type 0} (m : Mesh V DE UE F) (mesh : IsMesh m) (f g e a b 
   at_start : T.origin c ≡ x
   at_start =
       origin_other c facing.live_y c_off.0 (Ne-symm facing.x≢y)
-      ∙ ap S.origin (sym facing.next_x) ∙ sound.origin-next t facing.live_x ∙ ap S.origin turn_back ∙ start
+      ∙ ap S.origin (sym facing.next_x) ∙ sound.origin-next t facing.live_x ∙ ap S.origin (turn_back e t turn) ∙ start
 
   at_end : T.origin a ≡ y
   at_end =
@@ -269,6 +270,6 @@ module _ {V DE UE F : Type 0} (m : Mesh V DE UE F) (u : ℕ) where
       let e = 2 * u in
       let t = 2 * u + 1 in
       flipping_is_edit m mesh (face_of m.shape e) (face_of m.shape t) e (next_of m.shape e) (prev_of m.shape e) t (next_of m.shape t) (prev_of m.shape t)
-      (origin_of m.shape e) (origin_of m.shape t) (rev-double u) (rev-double-suc u)
+      (origin_of m.shape e) (origin_of m.shape t) (rev-double u)
       (triangle_of m mesh e (even_live m.shape u can.live) can.triangle) (triangle_of m mesh t (odd_live m.shape u can.live) can.facing)
       refl refl can.corners

@@ -6,9 +6,9 @@ use Rattle.dcel_maps.specs.Maps.{Live, Map}
 use Rattle.dcel_maps.specs.theory.Sound.{Sound, Sphere}
 use Rattle.dcel_maps.proofs.maps.Ears.{ear_keeps, two_in}
 use Rattle.dcel_maps.proofs.maps.Edits.{Ear, two}
-use Rattle.dcel_maps.proofs.maps.Halves.{rev-rev, rev_half}
+use Rattle.dcel_maps.proofs.maps.Halves.{rev_half, turn_back}
 use Rattle.dcel_maps.proofs.maps.Joins.{Join, join, join_is, join_keeps, join_still_live, join_vacant, join_was_live}
-use Rattle.dcel_maps.proofs.maps.Triangles.{IsTriangleOf, Off, SameLinks, by_triangle, off_triangle, triangle_faces_another}
+use Rattle.dcel_maps.proofs.maps.Triangles.{IsTriangleOf, Off, SameLinks, by_triangle, facing_differ, off_triangle}
 use Rattle.dcel_maps.proofs.maps.Updates.{put}
 
 -- the edge of e and t between the triangles (e, a, b) of f and (t, c, d) of g: these become (e, d, a) and (t, b, c)
@@ -33,14 +33,14 @@ module _ (S T : Map) (f g e a b t c d : ℕ) (s : Sound S) (x : Flip S T f g e a
   abbrev M : Map
   M = join S t
 
-  turn_back : rev t ≡ e
-  turn_back = ap rev (sym x.turn) ∙ rev-rev e
+  back : rev t ≡ e
+  back = turn_back e t x.turn
 
   differ : f ≢ g
-  differ is = triangle_faces_another S s f e a b x.was (ap S.face x.turn ∙ x.facing.face_x ∙ sym is)
+  differ = facing_differ S s f e a b g t c d x.was x.facing x.turn
 
   two_faces : S.face t ≢ S.face (rev t)
-  two_faces is = differ (sym x.was.face_x ∙ ap S.face (sym turn_back) ∙ sym is ∙ x.facing.face_x)
+  two_faces is = differ (sym x.was.face_x ∙ ap S.face (sym back) ∙ sym is ∙ x.facing.face_x)
 
   joined : Join S M t
   joined = join_is S t s (record { lives = x.facing.live_x; two_faces = two_faces })
@@ -51,7 +51,7 @@ module _ (S T : Map) (f g e a b t c d : ℕ) (s : Sound S) (x : Flip S T f g e a
 
   -- what is live without the edge was, and is neither half of it
   was_live : (h : ℕ) → Live M h → Live S h × (h ≢ t) × (h ≢ e)
-  was_live h live = let was = join_was_live S M t s joined h live in (was.0, was.1, λ is. was.2 (is ∙ sym turn_back))
+  was_live h live = let was = join_was_live S M t s joined h live in (was.0, was.1, λ is. was.2 (is ∙ sym back))
 
   -- what holds of the four sides and of what stays holds of it
   each : (P : ℕ → Type 0) → P a × P b → P c × P d → ((h : ℕ) → Live S h → Off h e a b → Off h t c d → P h) → (h : ℕ) → Live M h → P h
@@ -69,7 +69,7 @@ module _ (S T : Map) (f g e a b t c d : ℕ) (s : Sound S) (x : Flip S T f g e a
       let first = x.first in
       let second = x.second in
       let turn = x.turn in
-      let back = turn_back in
+      let back = back in
       let differ = differ in
       let origin_e = x.origin_e in
       let origin_t = x.origin_t in

@@ -1,5 +1,5 @@
 -- Edges turned between two triangles. Whatever an edit doesn't name stays as it was.
-use Rattle.std.specs.Prelude.{◌≡◌, ℕ, zero, suc, ◌+◌, ◌*◌, ◌<◌, [], ◌∷◌, slice_set, Some}
+use Rattle.std.specs.Prelude.{◌≡◌, ℕ, zero, suc, ◌+◌, ◌*◌, [], ◌∷◌, slice_set, Some}
 use Rattle.dcel_maps.specs.Conditions.{CanFlip}
 use Rattle.dcel_maps.specs.Cyclic.{from_least}
 use Rattle.dcel_maps.specs.Shapes.{Mesh, face_of, next_of, origin_of, prev_of}
@@ -25,3 +25,16 @@ module _ {V DE UE F : Type 0} where
         vertex_anchors = slice_set (slice_set m.vertex_anchors (origin_of m.shape e) (Some tn)) (origin_of m.shape t) (Some en);
         face_anchors = slice_set (slice_set m.face_anchors f (Some e)) g (Some t);
       }
+
+  -- the edge u flipped so many times
+  abbrev pub flips : ℕ → Mesh V DE UE F → ℕ → Mesh V DE UE F
+  flips zero m u = m
+  flips (suc k) m u = edge_flipped (flips k m u) u
+
+  -- once the edge u is flipped it can be flipped three times more, and then all is as it was but the anchors: words and origins, so each
+  -- `next`, `prev` and face, and the data
+  pub record GoesRound (m : Mesh V DE UE F) (u : ℕ) : Type 0 where
+    pub second : CanFlip (flips 1 m u).shape u
+    pub third : CanFlip (flips 2 m u).shape u
+    pub fourth : CanFlip (flips 3 m u).shape u
+    pub same : flips 4 m u ≡ record m { vertex_anchors = (flips 4 m u).vertex_anchors; face_anchors = (flips 4 m u).face_anchors }
