@@ -73,6 +73,14 @@ module _ (M : Map) (ws : List (List ℕ)) (st : Stands M ws) (h : ℕ) (live : L
         λ back. sym (length-turn w.turn) ∙ closed s back w.rest w.cycle w.single,
       )
 
+  -- or two steps back to the next one
+  pub is_triangle-back : Sound M → (length (word_of ws (M.face h)) ≡ 3) ↔ (M.prev (M.prev h) ≡ M.next h)
+  is_triangle-back s =
+      let both = is_triangle s in (
+        λ long. ap M.prev (sym (both.0 long)) ∙ s.prev-next (M.next h) (s.live_next h live),
+        λ back. both.1 (ap M.next (sym back) ∙ s.next-prev (M.prev h) (s.live_prev h live)),
+      )
+
 -- a word of three leads round a triangle
 pub triangle_read : (M : Map) (ws : List (List ℕ)) → Stands M ws → Sound M → (f x y z : ℕ) → f < length ws
     → word_of ws f ≡ from_least (x ∷ y ∷ z ∷ []) → IsTriangleOf M f x y z
