@@ -1,5 +1,6 @@
 pub mod Adding
 pub mod Create
+pub mod Flip
 pub mod Line
 pub mod Outside
 pub mod Split

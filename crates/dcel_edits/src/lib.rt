@@ -3,6 +3,7 @@
 #![tactic(auto)]
 
 pub mod create;
+pub mod flip;
 pub mod line;
 mod links;
 pub mod outside;

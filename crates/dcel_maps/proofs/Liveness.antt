@@ -74,12 +74,18 @@ pub closed-live : (s : Shape) → s.removal ≡ Closed → (u : ℕ) → u < s.e
 closed-live s closed u below =
     is_live-from (gives_up_edge s.removal) s.edges u below (ap (λ r. gives_up_edge r u) closed ∙ gives_up_edge-closed u)
 
--- and so are its halves
+-- the halves of a live edge are live
+pub even_live : (s : Shape) (u : ℕ) → edge_is_live s u ≡ true → IsLive s (2 * u)
+even_live s u live = let half : 2 * u / 2 ≡ u = omega arith in rw half live
+
+pub odd_live : (s : Shape) (u : ℕ) → edge_is_live s u ≡ true → IsLive s (2 * u + 1)
+odd_live s u live = let half : (2 * u + 1) / 2 ≡ u = omega arith in rw half live
+
 pub closed-even_live : (s : Shape) → s.removal ≡ Closed → (u : ℕ) → u < s.edges → IsLive s (2 * u)
-closed-even_live s closed u below = let half : 2 * u / 2 ≡ u = omega arith in rw half (closed-live s closed u below)
+closed-even_live s closed u below = even_live s u (closed-live s closed u below)
 
 pub closed-odd_live : (s : Shape) → s.removal ≡ Closed → (u : ℕ) → u < s.edges → IsLive s (2 * u + 1)
-closed-odd_live s closed u below = let half : (2 * u + 1) / 2 ≡ u = omega arith in rw half (closed-live s closed u below)
+closed-odd_live s closed u below = odd_live s u (closed-live s closed u below)
 
 -- what is past the counts is not given up
 pub gives_up_vertex-past : {r : Removal} {vertices edges faces : ℕ} → IsWithin r vertices edges faces

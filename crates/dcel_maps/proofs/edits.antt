@@ -14,6 +14,8 @@ pub mod Beside
 pub mod Closing
 pub mod EdgeSplits
 pub mod HalfSplits
+pub mod Flips
+pub mod FourFlips
 pub mod Alone
 pub mod Appending
 pub mod Beginning

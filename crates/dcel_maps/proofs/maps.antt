@@ -8,6 +8,7 @@ pub mod Ears
 pub mod Edits
 pub mod FirstTriangle
 pub mod Firsts
+pub mod Flips
 pub mod Growth
 pub mod Halves
 pub mod Labels

@@ -1,8 +1,8 @@
 -- What operations ask of a shape.
-use Rattle.std.specs.Prelude.{◌≡◌, ◌≢◌, ℕ, ◌+◌, ◌≤◌, ◌^◌, true, length}
+use Rattle.std.specs.Prelude.{◌≡◌, ◌≢◌, ℕ, ◌+◌, ◌*◌, ◌≤◌, ◌^◌, true, length}
 use Rattle.dcel_fixed.specs.HalfEdges.{rev}
 use Rattle.dcel_maps.specs.Maps.{IsBare}
-use Rattle.dcel_maps.specs.Shapes.{Shape, IsLive, vertex_is_live, face_is_live, next_of, origin_of, end_of, face_of, face_count, map_of}
+use Rattle.dcel_maps.specs.Shapes.{Shape, IsLive, vertex_is_live, edge_is_live, face_is_live, next_of, prev_of, origin_of, end_of, face_of, face_count, map_of}
 use Rattle.dcel_maps.specs.Walking.{IsOutEdge}
 use Rattle.dcel_maps.specs.Words.{word_of}
 
@@ -31,6 +31,13 @@ pub record IsTriangle (s : Shape) (f : ℕ) : Type 0 where
 pub record IsBridge (s : Shape) (h : ℕ) : Type 0 where
   pub live : IsLive s h
   pub one_face : face_of s h ≡ face_of s (rev h)
+
+-- the edge u is live between two triangles, one of which may be the outer face, and their corners opposite it are two vertices
+pub record CanFlip (s : Shape) (u : ℕ) : Type 0 where
+  pub live : edge_is_live s u ≡ true
+  pub triangle : IsTriangle s (face_of s (2 * u))
+  pub facing : IsTriangle s (face_of s (2 * u + 1))
+  pub corners : origin_of s (prev_of s (2 * u)) ≢ origin_of s (prev_of s (2 * u + 1))
 
 -- h is live and on the outer face, and the next half edge doesn't end where h starts
 pub record CanCloseOutside (s : Shape) (h : ℕ) : Type 0 where

@@ -1,6 +1,7 @@
 -- What each operation does to a mesh, family by family.
 pub mod Create
 pub mod DefaultData
+pub mod Flip
 pub mod Line
 pub mod Outside
 pub mod Split

@@ -1,9 +1,18 @@
 //! Laws of the definitions. These calls compute nothing; whoever makes one learns what it ensures.
 
+ghost use Rattle.std.specs.Prelude.{ℕ};
+ghost use Rattle.dcel_maps.specs.Conditions.{CanFlip};
+ghost use Rattle.dcel_maps.specs.edits.Flip.{GoesRound};
 ghost use Rattle.dcel_maps.specs.Examples.{two_triangles};
-ghost use Rattle.dcel_maps.specs.Shapes.{IsSphere};
+ghost use Rattle.dcel_maps.specs.Shapes.{IsMesh, IsSphere, Mesh};
 
 /// Two triangles that lie beside each other are no sphere: their vertices, minus their edges, plus their faces, are four.
 pub fn two_triangles_are_no_sphere()
     ensures { ¬ IsSphere two_triangles }
+{}
+
+/// An edge of a mesh that can be flipped can be flipped three times more, and after the fourth flip each half edge has its `next`, its
+/// `prev`, its origin and its face again. No datum has moved. Only anchors may be others.
+pub fn four_flips_go_round<V, DE, UE, F>()
+    ensures { (m : Mesh V DE UE F) (u : ℕ) → IsMesh m → CanFlip m.shape u → GoesRound m u }
 {}

@@ -3,7 +3,7 @@
 ghost use Rattle.std.specs.Prelude.{◌≡◌, ℕ, ◌*◌, ◌^◌, ◌<◌, ◌≤◌, ◌↔◌, IfSome, IsTrue, MatchOption, length, true};
 ghost use Rattle.std.specs.Option.{option_map};
 ghost use Rattle.dcel_maps.specs.Checked.{IsChecked, LooksTriangulated, EvenHalfFits, PartsFaces};
-ghost use Rattle.dcel_maps.specs.Conditions.{HasRoom, IsUnconnected, IsLineEnd, IsTriangle, IsBridge, CanCloseOutside};
+ghost use Rattle.dcel_maps.specs.Conditions.{HasRoom, IsUnconnected, IsLineEnd, IsTriangle, IsBridge, CanCloseOutside, CanFlip};
 ghost use Rattle.spade_dcel.specs.Handles.{mesh_behind, number_of};
 ghost use Rattle.dcel_maps.specs.Removals.{Closed};
 ghost use Rattle.dcel_maps.specs.Shapes.{IsLive, vertex_is_live, edge_is_live, face_is_live, face_count, next_of, prev_of, face_of, origin_of, vertex_anchor, face_anchor};
@@ -284,6 +284,24 @@ impl<V, DE, UE, F, A: Allocator> Dcel<V, DE, UE, F, A> {
             && self.face_of_edge(handle).is_outer()
             && self.origin(self.next_edge(handle).rev()) != self.origin(handle)
     }
+
+    /// Whether the edge is live between two triangles, one of which may be the outer face, and the corners opposite it are two vertices:
+    /// so it can be turned to join these ([`flip_cw`](crate::operations::flip_cw)).
+    pub fn can_flip(&self, handle: FixedUndirectedEdgeHandle) -> bool
+        ensures { IsTrue result ↔ CanFlip self.now.shape handle }
+    {
+        if !self.is_live_edge(handle) {
+            return false;
+        }
+        let edge = handle.as_directed();
+        let Some(near) = self.opposite_corner(edge) else {
+            return false;
+        };
+        let Some(far) = self.opposite_corner(edge.rev()) else {
+            return false;
+        };
+        near != far
+    }
 }
 
 /// The sanity check.
@@ -393,5 +411,20 @@ impl<V, DE, UE, F, A: Allocator> Dcel<V, DE, UE, F, A> {
         ensures { IsTrue result ↔ (length (word_of self.now.shape.words (face_of self.now.shape handle)) ≡ 3) }
     {
         self.store.next(self.store.next(handle)) == self.store.prev(handle)
+    }
+    // The corner of the triangle of a half edge that lies opposite it, and None where its word has not three items. Two steps back tell
+    // it, since that corner is where the first of them starts: so the half edge after this one isn't looked at.
+    #[inline]
+    fn opposite_corner(&self, handle: FixedDirectedEdgeHandle) -> Option<FixedVertexHandle>
+        requires { IsLive self.now.shape handle }
+        ensures { let shape = self.now.shape in
+            let is_triangle = IsTriangle shape (face_of shape handle) in
+            MatchOption result (¬ is_triangle) (λ corner. is_triangle × (corner ≡ origin_of shape (prev_of shape handle))) }
+    {
+        let before = self.store.prev(handle);
+        if self.store.prev(before) != self.store.next(handle) {
+            return None;
+        }
+        Some(self.store.origin(before))
     }
 }

@@ -2,6 +2,7 @@
 //! then the mesh is as it was. Words, origins, anchors, numbers and answers are those that `docs/MODEL.md` draws.
 
 mod create;
+mod flip;
 mod line;
 mod outside;
 mod split;
@@ -9,6 +10,7 @@ mod split_triangles;
 mod triangle;
 
 pub use create::{append_unconnected_vertex, new, setup_initial_two_vertices};
+pub use flip::flip_cw;
 pub use line::extend_line;
 pub use outside::{create_new_face_adjacent_to_edge, create_single_face_between_edge_and_next};
 pub use split::split_edge_when_all_vertices_on_line;

@@ -1,9 +1,11 @@
 -- A half edge of a mesh in lists that hold the mesh.
-use Rattle.std.proofs.Common.{◌≡◌, ◌<◌, ℕ, length, slice_index}
+use Rattle.std.proofs.Common.{◌≡◌, ◌↔◌, ◌<◌, ℕ, length, slice_index}
 use Rattle.dcel_store.specs.Lists.{Lists}
+use Rattle.dcel_maps.specs.Conditions.{IsTriangle}
 use Rattle.dcel_maps.specs.Removals.{Removal}
 use Rattle.dcel_maps.specs.Shapes.{IsLive, Mesh, face_of, map_of, next_of, origin_of, prev_of}
 use Rattle.dcel_maps.specs.theory.Sound.{Sound}
+use Rattle.dcel_maps.proofs.edits.Linking.{triangle_back-iff}
 use Rattle.dcel_maps.proofs.shapes.Maps.{map-sound}
 use Rattle.dcel_edits.specs.SplitTriangles.{IsHeld}
 use Rattle.dcel_edits.proofs.stored.Changes.{held_face, held_half, held_lists, held_mesh, held_vertex}
@@ -50,3 +52,12 @@ module _ {V DE UE F : Type 0} where
         next_origin = lists.origin after after_live;
         prev_origin = lists.origin before before_live;
       }
+
+  -- its face is a triangle just where two steps back lead to the next one
+  pub on_triangle-iff : {s : Lists V DE UE F} {r : Removal} {m : Mesh V DE UE F} → Holds s r m → (h : ℕ) → IsLive m.shape h
+      → (slice_index s.prev (slice_index s.prev h) ≡ slice_index s.next h) ↔ IsTriangle m.shape (face_of m.shape h)
+  on_triangle-iff {s = s} {r = r} {m = m} held h live =
+      let mesh = held_mesh s r m held in
+      let lists = held_lists s r m held in
+      let before_live : IsLive m.shape (prev_of m.shape h) = (map-sound mesh.sound).live_prev h live in
+      rw (lists.next h live, lists.prev h live, lists.prev (prev_of m.shape h) before_live) (triangle_back-iff m mesh h live)

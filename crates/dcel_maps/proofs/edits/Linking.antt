@@ -1,5 +1,5 @@
 -- How an edit links one half edge, and the triangles that it makes.
-use Rattle.std.proofs.Common.{◌≡◌, ◌≢◌, ℕ, ◌+◌, ◌*◌, ◌<◌, true, [], ◌∷◌, slice_index, sym, ap, ◌∙◌, subst, arith}
+use Rattle.std.proofs.Common.{◌≡◌, ◌≢◌, ◌↔◌, ℕ, ◌+◌, ◌*◌, ◌<◌, true, [], ◌∷◌, slice_index, sym, ap, ◌∙◌, subst, arith}
 use Rattle.dcel_maps.specs.Conditions.{IsTriangle}
 use Rattle.dcel_maps.specs.Cyclic.{from_least}
 use Rattle.dcel_maps.specs.Maps.{Live, Map}
@@ -13,7 +13,7 @@ use Rattle.dcel_maps.proofs.maps.Triangles.{IsTriangleOf, triangle_at}
 use Rattle.dcel_maps.proofs.shapes.Maps.{face-live, map-sound}
 use Rattle.dcel_maps.proofs.walks.Links.{half-below, links_stand}
 use Rattle.dcel_maps.proofs.words.Faces.{word_full}
-use Rattle.dcel_maps.proofs.words.Triangles.{is_triangle, triangle-word, triangle-word_of}
+use Rattle.dcel_maps.proofs.words.Triangles.{is_triangle, is_triangle-back, triangle-word, triangle-word_of, triangle_long}
 
 -- h is live on the face f, between `before` and `after`
 pub record IsLinked (M : Map) (f before h after : ℕ) : Type 0 where
@@ -83,6 +83,21 @@ triangle_of m mesh h live triangle =
     let sound = map-sound mesh.sound in
     triangle_at (map_of m.shape) sound h live
     ((is_triangle (map_of m.shape) m.shape.words (links_stand mesh.sound) h live sound).0 triangle.three)
+
+-- and the other way round
+pub triangle_is : {V DE UE F : Type 0} (m : Mesh V DE UE F) → IsMesh m → (f x y z : ℕ) → IsTriangleOf (map_of m.shape) f x y z
+    → IsTriangle m.shape (face_of m.shape x)
+triangle_is m mesh f x y z a = record {
+  live = face-live mesh.sound x a.live_x;
+  three = triangle_long (map_of m.shape) (map-sound mesh.sound) f x y z a m.shape.words (links_stand mesh.sound);
+}
+
+-- a half edge lies on one just where two steps back lead to the next one
+pub triangle_back-iff : {V DE UE F : Type 0} (m : Mesh V DE UE F) → IsMesh m → (h : ℕ) → IsLive m.shape h
+    → (prev_of m.shape (prev_of m.shape h) ≡ next_of m.shape h) ↔ IsTriangle m.shape (face_of m.shape h)
+triangle_back-iff m mesh h live =
+    let three = is_triangle-back (map_of m.shape) m.shape.words (links_stand mesh.sound) h live (map-sound mesh.sound) in
+    (λ back. record { live = face-live mesh.sound h live; three = three.1 back }, λ triangle. three.0 triangle.three)
 
 -- the word of a triangle, which isn't empty
 module _ (M : Map) (sound : Sound M) (f x y z : ℕ) (triangle : IsTriangleOf M f x y z) where

@@ -139,6 +139,10 @@ triangle_faces_another M s f x y z a at =
       ]
     ]
 
+-- so two triangles with an edge between them are two faces
+pub facing_differ : (M : Map) → Sound M → (f e a b g t c d : ℕ) → IsTriangleOf M f e a b → IsTriangleOf M g t c d → rev e ≡ t → f ≢ g
+facing_differ M s f e a b g t c d near far turn is = triangle_faces_another M s f e a b near (ap M.face turn ∙ far.face_x ∙ sym is)
+
 -- T links h as S does
 pub record SameLinks (S T : Map) (h : ℕ) : Type 0 where
   pub next : T.next h ≡ S.next h

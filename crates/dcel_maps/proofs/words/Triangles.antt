@@ -8,12 +8,12 @@ use Rattle.dcel_maps.specs.theory.Standing.{Follows, Stands}
 use Rattle.dcel_maps.specs.theory.Cycles.{IsCycle}
 use Rattle.dcel_maps.specs.Words.{count_of, word_of}
 use Rattle.dcel_maps.proofs.maps.Soundness.{next_differs}
-use Rattle.dcel_maps.proofs.maps.Triangles.{IsTriangleOf}
+use Rattle.dcel_maps.proofs.maps.Triangles.{IsTriangleOf, triangle_from}
 use Rattle.dcel_maps.proofs.words.Counts.{count-same, count-equal, count-other}
 use Rattle.dcel_maps.proofs.words.Cyclic.{from_least-kept, from_least-word}
-use Rattle.dcel_maps.proofs.words.Faces.{IsWordOf}
+use Rattle.dcel_maps.proofs.words.Faces.{IsWordOf, word_of_face}
 use Rattle.dcel_maps.proofs.words.Reading.{count-le, face-below, stands_in_face}
-use Rattle.dcel_maps.proofs.words.Turns.{TurnsTo, turned_to, turned_to-is, count-turn, length-turn, IsCycle-turn}
+use Rattle.dcel_maps.proofs.words.Turns.{TurnsTo, from_least-is, from_least-turn, turned_to, turned_to-is, turns_back, count-turn, length-turn, IsCycle-turn}
 
 -- the word of the face of h, written from h
 pub record WrittenFrom (M : Map) (ws : List (List ℕ)) (h : ℕ) : Type 0 where
@@ -73,6 +73,22 @@ module _ (M : Map) (ws : List (List ℕ)) (st : Stands M ws) (h : ℕ) (live : L
         λ back. sym (length-turn w.turn) ∙ closed s back w.rest w.cycle w.single,
       )
 
+  -- or two steps back to the next one
+  pub is_triangle-back : Sound M → (length (word_of ws (M.face h)) ≡ 3) ↔ (M.prev (M.prev h) ≡ M.next h)
+  is_triangle-back s =
+      let both = is_triangle s in (
+        λ long. ap M.prev (sym (both.0 long)) ∙ s.prev-next (M.next h) (s.live_next h live),
+        λ back. both.1 (ap M.next (sym back) ∙ s.next-prev (M.prev h) (s.live_prev h live)),
+      )
+
+-- a word of three leads round a triangle
+pub triangle_read : (M : Map) (ws : List (List ℕ)) → Stands M ws → Sound M → (f x y z : ℕ) → f < length ws
+    → word_of ws f ≡ from_least (x ∷ y ∷ z ∷ []) → IsTriangleOf M f x y z
+triangle_read M ws st s f x y z within is =
+    let cycle : IsCycle (Follows M f) (x ∷ y ∷ z ∷ []) =
+    IsCycle-turn (Follows M f) (turns_back (from_least-turn (x ∷ y ∷ z ∷ []))) (subst (λ (w : List ℕ). IsCycle (Follows M f) w) is (st.cycles f within)) in
+    triangle_from M s f x y z cycle.0.live cycle.0.next cycle.1.0.next cycle.1.1.next cycle.0.face
+
 -- the word of a triangle, from its least half edge on
 module _ (M : Map) (s : Sound M) (f x y z : ℕ) (a : IsTriangleOf M f x y z) where
   once : (h : ℕ) → count_of h (x ∷ y ∷ z ∷ []) ≤ 1
@@ -97,3 +113,13 @@ module _ (M : Map) (s : Sound M) (f x y z : ℕ) (a : IsTriangleOf M f x y z) wh
       subst (IsWordOf M f)
       (from_least-kept (x ∷ y ∷ z ∷ []) (λ h less. omega (arith, count-other h y (z ∷ []) (λ e. omega (arith, e)), count-other h z [] (λ e. omega (arith, e)))) once)
       triangle-word_of
+
+  -- so words that stand have it there, with three half edges
+  module _ (ws : List (List ℕ)) (st : Stands M ws) where
+    pub triangle_long : length (word_of ws (M.face x)) ≡ 3
+    triangle_long = (is_triangle M ws st x a.live_x s).1 (ap M.next a.next_x ∙ a.next_y ∙ sym a.prev_x)
+
+    pub triangle_written : word_of ws f ≡ from_least (x ∷ y ∷ z ∷ [])
+    triangle_written =
+        let turn : TurnsTo (word_of ws f) (x ∷ y ∷ z ∷ []) = rw (a.face_x, a.next_x, a.prev_x) at (triangle_turn M ws st x a.live_x triangle_long) in
+        sym (from_least-is (turns_back turn) (word_of_face M ws st f).least once)
