@@ -10,6 +10,7 @@ pub mod edits
 pub mod Checked
 pub mod Kinds
 pub mod Sides
+pub mod Voronoi
 pub mod Walking
 pub mod Laws
 pub mod Examples

@@ -374,6 +374,15 @@ impl<V, DE, UE, F, A: Allocator> Dcel<V, DE, UE, F, A> {
         self.store.origin(handle)
     }
 
+    // What is stored as the origin, also of a given-up half edge, where it may be stale.
+    #[inline]
+    pub(crate) fn stored_origin(&self, handle: FixedDirectedEdgeHandle) -> FixedVertexHandle
+        requires { handle < 2 * self.now.shape.edges }
+        ensures { IsLive self.now.shape handle → result ≡ origin_of self.now.shape handle }
+    {
+        self.store.origin(handle)
+    }
+
     #[inline]
     pub(crate) fn face_of_edge(
         &self,

@@ -1,9 +1,8 @@
-ghost use Rattle.std.specs.Prelude.{nat_eq};
-ghost use Rattle.std.specs.Cmp.{partial_order_from_own_ties};
-ghost use Rattle.std.specs.Cmp.Rules.{comparing};
+ghost use Rattle.std.specs.Prelude.{nat_eq, refl};
+ghost use Rattle.std.specs.Cmp.{nat_cmp_total, nat_eq_equiv, on_equiv, on_per, on_po, on_total, partial_equiv_from_equiv, unsigned_Decides, unsigned_po, unsigned_ties};
+ghost use Rattle.std.specs.Hash.{on_Alike, same_Alike};
 ghost use Rattle.std.specs.Hash as fed;
 ghost use Rattle.std.specs.Ordering.{as_partial_cmp, nat_cmp, on};
-ghost use Rattle.std.proofs.Common.{refl, rules};
 ghost use Rattle.spade_dcel.specs.Handles.{number_of};
 
 use crate::handles::definitions::DynamicHandleImpl;
@@ -26,7 +25,7 @@ impl<
 > PartialEq for DynamicHandleImpl<'a, V, DE, UE, F, Kind, InnerOuter, A> {
     ghost eq = { on (λ handle. number_of handle) nat_eq };
 
-    ghost laws = { Prim.search (comparing, rules) };
+    ghost laws = { on_per (λ handle. number_of handle) (partial_equiv_from_equiv nat_eq_equiv) };
 
     #[inline]
     fn eq(&self, other: &Self) -> bool {
@@ -36,7 +35,7 @@ impl<
 
 impl<'a, V, DE, UE, F, Kind: DelaunayElementType, InnerOuter: InnerOuterMarker, A: Allocator> Eq
     for DynamicHandleImpl<'a, V, DE, UE, F, Kind, InnerOuter, A> {
-    ghost laws = { Prim.search (comparing, rules) };
+    ghost laws = { on_equiv (λ handle. number_of handle) nat_eq_equiv };
 }
 
 impl<
@@ -51,7 +50,7 @@ impl<
 > PartialOrd for DynamicHandleImpl<'a, V, DE, UE, F, Kind, InnerOuter, A> {
     ghost partial_cmp = { as_partial_cmp (on (λ handle. number_of handle) nat_cmp) };
 
-    ghost laws = { partial_order_from_own_ties (Prim.search (comparing, rules)) (Prim.search (comparing, rules)) };
+    ghost laws = { on_po (λ handle. number_of handle) unsigned_po };
 
     #[inline]
     fn partial_cmp(&self, other: &Self) -> Option<Ordering> {
@@ -64,11 +63,11 @@ impl<'a, V, DE, UE, F, Kind: DelaunayElementType, InnerOuter: InnerOuterMarker, 
     for DynamicHandleImpl<'a, V, DE, UE, F, Kind, InnerOuter, A> {
     ghost cmp = { on (λ handle. number_of handle) nat_cmp };
 
-    ghost total = { Prim.search (comparing, rules) };
+    ghost total = { on_total (λ handle. number_of handle) nat_cmp_total };
 
     ghost matches_partial_cmp = { λ x y. refl };
 
-    ghost matches_eq = { Prim.search (comparing, rules) };
+    ghost matches_eq = { λ x y. unsigned_ties (number_of x) (number_of y) };
 
     #[inline]
     fn cmp(&self, other: &Self) -> Ordering {
@@ -81,7 +80,7 @@ impl<'a, V, DE, UE, F, Kind: DelaunayElementType, InnerOuter: InnerOuterMarker, 
     for DynamicHandleImpl<'a, V, DE, UE, F, Kind, InnerOuter, A> {
     ghost hash_input = { λ handle. fed.u32 (number_of handle) };
 
-    ghost respects_eq = { Prim.search rules };
+    ghost respects_eq = { (on_Alike (λ handle. number_of handle) (same_Alike fed.u32 unsigned_Decides)).fed };
 
     #[inline]
     fn hash<H: Hasher>(&self, state: &mut H) {
