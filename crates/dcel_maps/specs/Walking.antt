@@ -64,7 +64,7 @@ pub record ListsOnce (P : ℕ → Type 0) (w : List ℕ) : Type 0 where
 abbrev pub in_mesh : {M : Type 0} → M → List ℕ → List (M × ℕ)
 in_mesh m numbers = map (λ n. (m, n)) numbers
 
--- what contracts see of an iterator over a mesh, as a walk is one: its mesh, and the elements to come
+-- what contracts see of a walk: its mesh, and the half edges to come
 pub record Walking (V DE UE F : Type 0) : Type 0 where
   pub mesh : Mesh V DE UE F
   pub items : List (Mesh V DE UE F × ℕ)

@@ -1,8 +1,9 @@
 -- What a walk under way gives from its back, and what is left of it after one step there.
 use Rattle.std.proofs.Common.{◌≡◌, ◌≢◌, ℕ, ◌*◌, ◌==◌, ◌<◌, ◌≤◌, List, [], ◌∷◌, ◌++◌, length, refl, sym, ap, ◌∙◌, subst, arith, eq-eqb, length-append}
 use Rattle.std.proofs.lemmas.Bool.{false≢true, ne_eqb}
+use Rattle.std.proofs.lemmas.List.{map-append}
 use Rattle.dcel_maps.specs.Shapes.{Shape}
-use Rattle.dcel_maps.specs.Walking.{IsUnderWay, IsWalking, StepsTo, to_come}
+use Rattle.dcel_maps.specs.Walking.{IsUnderWay, IsWalking, StepsTo, in_mesh, to_come}
 use Rattle.dcel_maps.specs.theory.Cycles.{Path}
 use Rattle.dcel_maps.specs.Walks.{up_to}
 use Rattle.dcel_maps.specs.Words.{count_of, last_of}
@@ -57,6 +58,12 @@ module _ {s : Shape} {step step_back : ℕ → ℕ} {current last : ℕ} (u : Is
   unfolding BeforeStep
   goes_on_back = afterwards.0
 
-  pub gives_last : up_to step (2 * s.edges) current last ≡ to_come s step (current == before) current before ++ before ∷ []
+  gives_last : up_to step (2 * s.edges) current last ≡ to_come s step (current == before) current before ++ before ∷ []
   unfolding BeforeStep
   gives_last = listed s step step_back current last u ∙ afterwards.1
+
+  -- the item that comes, behind those that are left
+  pub items_back : {M : Type 0} (m : M) → in_mesh m (up_to step (2 * s.edges) current last)
+      ≡ in_mesh m (to_come s step (current == before) current before) ++ (m, before) ∷ []
+  items_back {M} m = ap (in_mesh m) gives_last
+      ∙ map-append {B = M × ℕ} (λ n. (m, n)) (to_come s step (current == before) current before) (before ∷ [])
