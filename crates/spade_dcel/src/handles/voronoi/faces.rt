@@ -1,5 +1,5 @@
 ghost use Rattle.std.specs.Prelude.{◌≡◌, ◌≤◌, ◌^◌, IfSome, length};
-ghost use Rattle.std.specs.Iterator.{YieldsFirstBy, item_count};
+ghost use Rattle.std.specs.Iterator.{YieldsFirstBy, YieldsLastBy, item_count};
 ghost use Rattle.spade_dcel.specs.Handles.{mesh_behind, number_of};
 ghost use Rattle.dcel_maps.specs.Shapes.{vertex_anchor};
 ghost use Rattle.dcel_maps.specs.Walking.{IsOutEdge, IsRoundTrip, ListsOnce, ccw_of, in_mesh, live_half_edges, out_edges_of};
@@ -31,7 +31,10 @@ impl<'a, V, DE, UE, F, A: Allocator> VoronoiFace<'a, V, DE, UE, F, A> {
     }
 }
 
-/// The edges round a face of the Voronoi diagram. Contracts see its mesh, and the edges to come.
+/// The edges round a face of the Voronoi diagram.
+///
+/// It takes no memory. Contracts see its mesh, and the edges to come: `next` takes their first and `next_back` their last, in any
+/// mixture.
 #[derive(Drop)]
 pub struct VoronoiFaceEdges<'a, V, DE, UE, F, A: Allocator = Global> {
     out_edges: CircularIterator<'a, V, DE, UE, F, CCWEdgesNextBackFn, A>,
@@ -55,6 +58,16 @@ impl<'a, V, DE, UE, F, A: Allocator> Iterator for VoronoiFaceEdges<'a, V, DE, UE
     #[inline]
     fn next(&mut self) -> Option<DirectedVoronoiEdge<'a, V, DE, UE, F, A>> {
         let edge = self.out_edges.next()?;
+        Some(edge.as_voronoi_edge())
+    }
+}
+
+impl<'a, V, DE, UE, F, A: Allocator> DoubleEndedIterator for VoronoiFaceEdges<'a, V, DE, UE, F, A> {
+    ghost next_back_gives = { YieldsLastBy (λ edge. (mesh_behind edge, number_of edge)) (λ edges. edges.items) };
+
+    #[inline]
+    fn next_back(&mut self) -> Option<DirectedVoronoiEdge<'a, V, DE, UE, F, A>> {
+        let edge = self.out_edges.next_back()?;
         Some(edge.as_voronoi_edge())
     }
 }
