@@ -9,6 +9,8 @@ pub mod Conditions
 pub mod edits
 pub mod Checked
 pub mod Kinds
+pub mod Sides
+pub mod Voronoi
 pub mod Walking
 pub mod Laws
 pub mod Examples

@@ -2,7 +2,7 @@
 use Rattle.std.specs.Prelude.{◌≡◌, ℕ, ◌*◌, ◌<◌, ◌≤◌, ◌==◌, Bool, false, cond, List, [], ◌∷◌, length, map, find, Option, Some, None}
 use Rattle.dcel_fixed.specs.HalfEdges.{rev}
 use Rattle.dcel_maps.specs.Maps.{By, count}
-use Rattle.dcel_maps.specs.Shapes.{Shape, Mesh, IsLive, edge_is_live, next_of, prev_of, face_of, origin_of, end_of, vertex_anchor}
+use Rattle.dcel_maps.specs.Shapes.{Shape, Mesh, IsLive, edge_is_live, next_of, prev_of, face_of, origin_of, end_of, vertex_anchor, face_anchor}
 use Rattle.dcel_maps.specs.Walks.{up_to, walk}
 use Rattle.dcel_maps.specs.theory.Cycles.{Path}
 use Rattle.dcel_maps.specs.Words.{count_of}
@@ -60,9 +60,9 @@ pub record ListsOnce (P : ℕ → Type 0) (w : List ℕ) : Type 0 where
   pub each : (h : ℕ) → P h → count_of h w ≡ 1
   pub no_other : (h : ℕ) → 0 < count_of h w → P h
 
--- half edges, each with the mesh that it lies in
+-- elements by number, each with the mesh that it lies in
 abbrev pub in_mesh : {M : Type 0} → M → List ℕ → List (M × ℕ)
-in_mesh m halves = map (λ h. (m, h)) halves
+in_mesh m numbers = map (λ n. (m, n)) numbers
 
 -- what contracts see of a walk: its mesh, and the half edges to come
 pub record Walking (V DE UE F : Type 0) : Type 0 where
@@ -96,6 +96,10 @@ module _ {V DE UE F : Type 0} where
   -- the out edges of a vertex: the walk by `ccw` from its anchor
   abbrev pub out_edges_of : Mesh V DE UE F → ℕ → List ℕ
   out_edges_of m v = walk_from m.shape (ccw_of m.shape) (vertex_anchor m v)
+
+  -- the hull: the walk by `next` from the anchor of the outer face
+  abbrev pub hull_of : Mesh V DE UE F → List ℕ
+  hull_of m = walk_from m.shape (next_of m.shape) (face_anchor m 0)
 
   -- the first out edge of the vertex v that ends at the vertex w
   abbrev pub edge_between : Mesh V DE UE F → ℕ → ℕ → Option ℕ

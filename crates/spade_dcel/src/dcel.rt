@@ -10,6 +10,8 @@ ghost use Rattle.dcel_maps.specs.Shapes.{IsLive, vertex_is_live, edge_is_live, f
 ghost use Rattle.dcel_maps.specs.Walking.{Leads, edge_between};
 ghost use Rattle.dcel_maps.specs.Words.{word_of};
 
+mod elements;
+
 use crate::handles::{DirectedEdgeHandle, FaceHandle, VertexHandle};
 use crate::removal::RemovalRecord;
 use dcel_fixed::{
@@ -388,6 +390,15 @@ impl<V, DE, UE, F, A: Allocator> Dcel<V, DE, UE, F, A> {
         requires { IsLive self.now.shape handle }
         ensures value { result ≡ origin_of self.now.shape handle }
         ensures live { IsTrue (vertex_is_live self.now.shape result) }
+    {
+        self.store.origin(handle)
+    }
+
+    // What is stored as the origin, also of a given-up half edge, where it may be stale.
+    #[inline]
+    pub(crate) fn stored_origin(&self, handle: FixedDirectedEdgeHandle) -> FixedVertexHandle
+        requires { handle < 2 * self.now.shape.edges }
+        ensures { IsLive self.now.shape handle → result ≡ origin_of self.now.shape handle }
     {
         self.store.origin(handle)
     }

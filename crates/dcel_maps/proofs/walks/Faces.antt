@@ -1,12 +1,35 @@
--- What lies on a face beside its anchor.
-use Rattle.std.proofs.Common.{◌≡◌, ℕ, ◌*◌, ◌<◌, [], ◌∷◌, length, Some, refl, ap, ◌∙◌, subst}
-use Rattle.dcel_maps.specs.Shapes.{Shape, Mesh, AnchorsWord, IsMesh, IsSound, face_anchor, face_count, map_of, next_of, prev_of}
-use Rattle.dcel_maps.specs.Walking.{IsOnFace}
-use Rattle.dcel_maps.specs.Words.{TurnsTo, word_of}
+-- What lies on a face: the half edges of its word, those beside its anchor, and the walk round it.
+use Rattle.std.proofs.Common.{◌≡◌, ℕ, ◌*◌, ◌<◌, [], ◌∷◌, length, Option, Some, None, refl, ap, ◌∙◌, subst, arith}
+use Rattle.dcel_maps.specs.Maps.{By}
+use Rattle.dcel_maps.specs.Shapes.{Shape, Mesh, AnchorsWord, IsMesh, IsSound, face_anchor, face_count, face_of, map_of, next_of, prev_of}
+use Rattle.dcel_maps.specs.Walking.{IsOnFace, ListsOnce, walk_from, walk_of}
+use Rattle.dcel_maps.specs.Words.{TurnsTo, count_of, word_of}
+use Rattle.dcel_maps.specs.theory.Standing.{Follows}
 use Rattle.dcel_maps.proofs.walks.Links.{half-below, links_stand, next-live, prev-live}
-use Rattle.dcel_maps.proofs.words.Reading.{face-next, face-prev, face_in_word, live_in}
-use Rattle.dcel_maps.proofs.words.Triangles.{triangle_turn}
-use Rattle.dcel_maps.proofs.words.Turns.{turns_on}
+use Rattle.dcel_maps.proofs.words.Counts.{count-same, length-le_total}
+use Rattle.dcel_maps.proofs.words.Paths.{IsCycle-weaker}
+use Rattle.dcel_maps.proofs.words.Reading.{count-le, face-next, face-prev, face_in_word, live_in, stands_in_face}
+use Rattle.dcel_maps.proofs.words.Triangles.{triangle_turn, written_from}
+use Rattle.dcel_maps.proofs.words.Turns.{length-turn, turns_on, turns_to_itself}
+use Rattle.dcel_maps.proofs.words.Walking.{up_to-is}
+
+module _ {s : Shape} (sound : IsSound s) (f : ℕ) where
+  -- what stands in a word lies on its face, and what lies on a face stands in its word once
+  stands-lies : (a : ℕ) → 0 < count_of a (word_of s.words f) → IsOnFace s f a
+  stands-lies a stands = record {
+    live = live_in (map_of s) s.words (links_stand sound) a f stands;
+    face = face_in_word (map_of s) s.words (links_stand sound) a f stands;
+  }
+
+  lies-stands : (a : ℕ) → IsOnFace s f a → 0 < count_of a (word_of s.words f)
+  lies-stands a lies =
+      subst (λ g. 0 < count_of a (word_of s.words g)) lies.face (stands_in_face (map_of s) s.words (links_stand sound) a lies.live)
+
+  pub word-lists : ListsOnce (IsOnFace s f) (word_of s.words f)
+  word-lists = record {
+    each = λ a lies. omega (arith, lies-stands a lies, count-le (map_of s) s.words (links_stand sound) a f);
+    no_other = stands-lies;
+  }
 
 module _ {s : Shape} (sound : IsSound s) (f a : ℕ) (lies : IsOnFace s f a) where
   -- what comes before and after a half edge lies on its face
@@ -30,15 +53,27 @@ module _ {s : Shape} (sound : IsSound s) (f a : ℕ) (lies : IsOnFace s f a) whe
       (triangle_turn (map_of s) s.words (links_stand sound) a lies.live (ap (λ g. length (word_of s.words g)) lies.face ∙ long)) in
       turns_on turn (record { front = a ∷ next_of s a ∷ []; back = prev_of s a ∷ []; was = refl; is = refl })
 
+  -- the walk round a face is its word, written from where the walk begins
+  walk-turn : TurnsTo (word_of s.words f) (walk_of s (next_of s) a)
+  walk-turn =
+      let st = links_stand sound in
+      let w = written_from (map_of s) s.words st a lies.live in
+      let path = IsCycle-weaker (Follows (map_of s) (face_of s a)) (By (next_of s)) (a ∷ w.rest) (λ p q i j along. along.next) w.cycle in
+      let apart : count_of a w.rest ≡ 0 = omega (arith, w.single a, count-same a w.rest) in
+      let short : length w.rest < 2 * s.edges = omega (arith, length-turn w.turn, length-le_total s.words (face_of s a), st.short) in
+      rw (up_to-is (next_of s) (2 * s.edges) a a w.rest path apart short)
+      (subst (λ g. TurnsTo (word_of s.words g) (a ∷ w.rest)) lies.face w.turn)
+
+-- so the walk from an anchor is the word
+pub anchor-turn : {s : Shape} → IsSound s → (f : ℕ) (anchor : Option ℕ) → AnchorsWord (word_of s.words f) anchor
+    → TurnsTo (word_of s.words f) (walk_from s (next_of s) anchor)
+anchor-turn {s} sound f None anchored = subst (TurnsTo (word_of s.words f)) anchored (turns_to_itself (word_of s.words f))
+anchor-turn {s} sound f (Some a) anchored = walk-turn sound f a (stands-lies sound f a anchored)
+
 module _ {V DE UE F : Type 0} {m : Mesh V DE UE F} (mesh : IsMesh m) (f : ℕ) (below : f < face_count m.shape) where
   -- a face's anchor lies on it
   pub anchor-lies : (a : ℕ) → face_anchor m f ≡ Some a → IsOnFace m.shape f a
-  anchor-lies a some =
-      let stands = subst (AnchorsWord (word_of m.shape.words f)) some (mesh.anchored.faces f below) in
-      record {
-        live = live_in (map_of m.shape) m.shape.words (links_stand mesh.sound) a f stands;
-        face = face_in_word (map_of m.shape) m.shape.words (links_stand mesh.sound) a f stands;
-      }
+  anchor-lies a some = stands-lies mesh.sound f a (subst (AnchorsWord (word_of m.shape.words f)) some (mesh.anchored.faces f below))
 
   -- and is in range
   pub anchor-below : (a : ℕ) → face_anchor m f ≡ Some a → a < 2 * m.shape.edges

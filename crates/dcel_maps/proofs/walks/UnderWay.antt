@@ -14,7 +14,7 @@ use Rattle.dcel_maps.proofs.words.Walking.{up_to-is}
 
 module _ (s : Shape) (step step_back : ℕ → ℕ) where
   -- what is listed: the current half edge and the rest
-  listed : (current last : ℕ) (u : IsUnderWay s step step_back current last) → up_to step (2 * s.edges) current last ≡ current ∷ u.rest
+  pub listed : (current last : ℕ) (u : IsUnderWay s step step_back current last) → up_to step (2 * s.edges) current last ≡ current ∷ u.rest
   listed current last u =
       up_to-is step (2 * s.edges) current last u.rest (steps_of s step step_back current u.rest last u.path) u.apart u.few
 

@@ -63,7 +63,8 @@ item_after-follows R x (y ∷ r) e p h found =
           (item_after-follows R y r e p.1 h (omega (arith, found, count-other h x (y ∷ r) differs)))
     ]
 
-last_of-leads : (R : ℕ → ℕ → Type 0) (x : ℕ) (r : List ℕ) (e : ℕ) → Path R x r e → R (last_of x r) e
+-- the last item of a path leads to its end
+pub last_of-leads : (R : ℕ → ℕ → Type 0) (x : ℕ) (r : List ℕ) (e : ℕ) → Path R x r e → R (last_of x r) e
 last_of-leads R x [] e p = p
 last_of-leads R x (y ∷ r) e p = last_of-leads R y r e p.1
 

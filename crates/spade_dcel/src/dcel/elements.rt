@@ -1,0 +1,87 @@
+ghost use Rattle.std.specs.Prelude.{◌≡◌, ◌+◌, ◌-◌, ◌*◌, ◌≤◌, ◌^◌, length};
+ghost use Rattle.std.specs.List.{range_with_len};
+ghost use Rattle.dcel_maps.specs.Shapes.{face_count};
+ghost use Rattle.dcel_maps.specs.Walking.{in_mesh};
+
+use crate::dcel::Dcel;
+use crate::iterators::{
+    DirectedEdgeIterator, FaceIterator, FixedFaceIterator, FixedVertexIterator, InnerFaceIterator,
+    UndirectedEdgeIterator, VertexIterator,
+};
+use std::alloc::Allocator;
+
+/// All elements of a kind, in the order of their numbers and from both ends, given-up ones included.
+impl<V, DE, UE, F, A: Allocator> Dcel<V, DE, UE, F, A> {
+    /// The vertices, borrowed.
+    #[inline]
+    pub fn vertices(&self) -> VertexIterator<'_, V, DE, UE, F, A>
+        ensures items { result ≡ in_mesh self.now (range_with_len 0 self.now.shape.vertices) }
+        ensures count { length result ≡ self.now.shape.vertices }
+        ensures few { length result ≤ 2 ^ 32 }
+    {
+        VertexIterator::new(self)
+    }
+
+    /// The vertices by number.
+    #[inline]
+    pub fn fixed_vertices(&self) -> FixedVertexIterator
+        ensures items { result ≡ range_with_len 0 self.now.shape.vertices }
+        ensures count { length result ≡ self.now.shape.vertices }
+        ensures few { length result ≤ 2 ^ 32 }
+    {
+        FixedVertexIterator::new(self.num_vertices())
+    }
+
+    /// The half edges, borrowed.
+    #[inline]
+    pub fn directed_edges(&self) -> DirectedEdgeIterator<'_, V, DE, UE, F, A>
+        ensures items { result ≡ in_mesh self.now (range_with_len 0 (2 * self.now.shape.edges)) }
+        ensures count { length result ≡ 2 * self.now.shape.edges }
+        ensures few { length result ≤ 2 ^ 32 }
+    {
+        DirectedEdgeIterator::new(self)
+    }
+
+    /// The undirected edges, borrowed.
+    #[inline]
+    pub fn undirected_edges(&self) -> UndirectedEdgeIterator<'_, V, DE, UE, F, A>
+        ensures items { result ≡ in_mesh self.now (range_with_len 0 self.now.shape.edges) }
+        ensures count { length result ≡ self.now.shape.edges }
+        ensures few { length result ≤ 2 ^ 32 }
+    {
+        UndirectedEdgeIterator::new(self)
+    }
+
+    /// The faces, borrowed, the outer one first.
+    #[inline]
+    pub fn faces(&self) -> FaceIterator<'_, V, DE, UE, F, A>
+        ensures items { result ≡ in_mesh self.now (range_with_len 0 (face_count self.now.shape)) }
+        ensures count { length result ≡ face_count self.now.shape }
+        ensures few { length result ≤ 2 ^ 32 }
+    {
+        FaceIterator::new(self)
+    }
+
+    /// The inner faces, borrowed: all but the outer one.
+    #[inline]
+    pub fn inner_faces(&self) -> InnerFaceIterator<'_, V, DE, UE, F, A>
+        ensures items { result ≡ in_mesh self.now (range_with_len 1 (face_count self.now.shape - 1)) }
+        ensures count { length result + 1 ≡ face_count self.now.shape }
+        ensures few { length result ≤ 2 ^ 32 }
+    {
+        prove!(self.num_faces() > 0);
+        let mut faces = InnerFaceIterator::new(self);
+        let _outer = faces.next();
+        faces
+    }
+
+    /// The faces by number, the outer one first.
+    #[inline]
+    pub fn fixed_faces(&self) -> FixedFaceIterator
+        ensures items { result ≡ range_with_len 0 (face_count self.now.shape) }
+        ensures count { length result ≡ face_count self.now.shape }
+        ensures few { length result ≤ 2 ^ 32 }
+    {
+        FixedFaceIterator::new(self.num_faces())
+    }
+}

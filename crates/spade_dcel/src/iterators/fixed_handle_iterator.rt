@@ -1,0 +1,93 @@
+ghost use Rattle.std.specs.Prelude.{◌≡◌, ◌≤◌, ◌^◌, length};
+ghost use Rattle.std.specs.Iterator.{YieldsFirst, YieldsLast, item_count};
+ghost use Rattle.std.specs.List.{range_with_len};
+
+use dcel_fixed::{FixedHandleImpl, InnerOuterMarker};
+use std::marker::{Model, PhantomData};
+
+/// Fixed handles of one kind by number, in order, from both ends. Use the aliases, such as
+/// [`FixedVertexIterator`](crate::iterators::FixedVertexIterator).
+///
+/// It takes no memory. Contracts see the numbers to come: `next` takes their first and `next_back` their last, in any mixture.
+#[derive(Drop)]
+pub struct FixedHandleIterator<Kind, InnerOuter: InnerOuterMarker> {
+    // The first number to come, and the one past the last.
+    start: usize,
+    end: usize,
+    kind: PhantomData<Kind>,
+    inner_outer: PhantomData<InnerOuter>,
+}
+
+impl<Kind, InnerOuter: InnerOuterMarker> Model for FixedHandleIterator<Kind, InnerOuter> {
+    ghost use Rattle.std.specs.Prelude.{ℕ, List, ◌-◌, ◌≤◌, ◌^◌};
+    ghost use Rattle.std.specs.List.{range_with_len};
+
+    ghost Value = { List ℕ };
+
+    ghost view = { λ handles. range_with_len handles.start (handles.end - handles.start) };
+
+    ghost invariant = { λ handles. (handles.start ≤ handles.end) × (handles.end ≤ 2 ^ 32) };
+}
+
+impl<Kind, InnerOuter: InnerOuterMarker> FixedHandleIterator<Kind, InnerOuter> {
+    /// Will list the handles with the numbers from 0 to `to - 1`. It asks that `to` is at most 2^32: numbers of handles are below that.
+    #[inline]
+    pub fn new(to: usize) -> Self
+        requires { to ≤ 2 ^ 32 }
+        ensures items { result ≡ range_with_len 0 to }
+        ensures count { length result ≡ to }
+    {
+        FixedHandleIterator {
+            start: 0,
+            end: to,
+            kind: PhantomData,
+            inner_outer: PhantomData,
+        }
+    }
+}
+
+impl<Kind, InnerOuter: InnerOuterMarker> Iterator for FixedHandleIterator<Kind, InnerOuter> {
+    type Item = FixedHandleImpl<Kind, InnerOuter>;
+
+    ghost next_gives = { YieldsFirst (λ handles. handles) };
+
+    ghost remaining = { item_count (λ handles. handles) };
+
+    #[inline]
+    fn next(&mut self) -> Option<FixedHandleImpl<Kind, InnerOuter>> {
+        if self.start == self.end {
+            return None;
+        }
+        let handle = FixedHandleImpl::new(self.start);
+        self.start += 1;
+        Some(handle)
+    }
+
+    #[inline]
+    fn size_hint(&self) -> (usize, Option<usize>) {
+        let left = self.len();
+        (left, Some(left))
+    }
+}
+
+impl<Kind, InnerOuter: InnerOuterMarker> DoubleEndedIterator
+    for FixedHandleIterator<Kind, InnerOuter> {
+    ghost next_back_gives = { YieldsLast (λ handles. handles) };
+
+    #[inline]
+    fn next_back(&mut self) -> Option<FixedHandleImpl<Kind, InnerOuter>> {
+        if self.start == self.end {
+            return None;
+        }
+        self.end -= 1;
+        Some(FixedHandleImpl::new(self.end))
+    }
+}
+
+impl<Kind, InnerOuter: InnerOuterMarker> ExactSizeIterator
+    for FixedHandleIterator<Kind, InnerOuter> {
+    #[inline]
+    fn len(&self) -> usize {
+        self.end - self.start
+    }
+}

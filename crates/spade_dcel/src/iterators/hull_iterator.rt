@@ -1,0 +1,76 @@
+ghost use Rattle.std.specs.Prelude.{◌≡◌, ℕ, ◌≤◌, ◌^◌, ◌↔◌, IfSome, [], false, length};
+ghost use Rattle.std.specs.Iterator.{YieldsFirstBy, YieldsLastBy, item_count};
+ghost use Rattle.spade_dcel.specs.Handles.{mesh_behind, number_of};
+ghost use Rattle.dcel_maps.specs.Shapes.{edge_is_live, face_anchor, next_of};
+ghost use Rattle.dcel_maps.specs.Walking.{IsOnFace, IsRoundTrip, ListsOnce, hull_of, in_mesh, live_half_edges};
+ghost use Rattle.dcel_maps.specs.Words.{TurnsTo, word_of};
+
+use crate::dcel::Dcel;
+use crate::handles::DirectedEdgeHandle;
+use crate::iterators::circular_iterator::CircularIterator;
+use crate::iterators::next_back_fn::HullNextBackFn;
+use crate::laws::every_mesh;
+use std::alloc::{Allocator, Global};
+use std::marker::Model;
+
+/// The half edges of the outer face, each once: from its anchor on in the order of [`next`](DirectedEdgeHandle::next), and none where
+/// no edge stands.
+///
+/// It takes no memory. Contracts see its mesh, and the half edges to come: `next` takes their first and `next_back` their last, in any
+/// mixture. So the hull from the back is the hull reversed.
+#[derive(Drop)]
+pub struct HullIterator<'a, V, DE, UE, F, A: Allocator = Global> {
+    inner_iterator: CircularIterator<'a, V, DE, UE, F, HullNextBackFn, A>,
+}
+
+impl<'a, V, DE, UE, F, A: Allocator> Model for HullIterator<'a, V, DE, UE, F, A> {
+    ghost use Rattle.dcel_maps.specs.Walking.{Walking};
+
+    ghost Value = { Walking V DE UE F };
+
+    ghost view = { λ hull. hull.inner_iterator };
+}
+
+impl<'a, V, DE, UE, F, A: Allocator> HullIterator<'a, V, DE, UE, F, A> {
+    /// Will list the word of the outer face, written from its anchor.
+    #[inline]
+    pub fn new(dcel: &'a Dcel<V, DE, UE, F, A>) -> Self
+        ensures mesh { result.mesh ≡ dcel.now }
+        ensures items { result.items ≡ in_mesh dcel.now (hull_of dcel.now) }
+        ensures word { TurnsTo (word_of dcel.now.shape.words 0) (hull_of dcel.now) }
+        ensures each { ListsOnce (IsOnFace dcel.now.shape 0) (hull_of dcel.now) }
+        ensures round { IfSome (face_anchor dcel.now 0) (λ edge. IsRoundTrip (next_of dcel.now.shape) edge (hull_of dcel.now)) }
+        ensures none { (hull_of dcel.now ≡ []) ↔ ((u : ℕ) → edge_is_live dcel.now.shape u ≡ false) }
+        ensures bound { length result.items ≤ live_half_edges dcel.now.shape }
+        ensures few { length result.items ≤ 2 ^ 32 }
+    {
+        every_mesh(dcel);
+        let inner_iterator = match dcel.outer_face().adjacent_edge() {
+            Some(edge) => CircularIterator::new(edge),
+            None => CircularIterator::empty_of(dcel),
+        };
+        HullIterator { inner_iterator }
+    }
+}
+
+impl<'a, V, DE, UE, F, A: Allocator> Iterator for HullIterator<'a, V, DE, UE, F, A> {
+    type Item = DirectedEdgeHandle<'a, V, DE, UE, F, A>;
+
+    ghost next_gives = { YieldsFirstBy (λ edge. (mesh_behind edge, number_of edge)) (λ hull. hull.items) };
+
+    ghost remaining = { item_count (λ hull. hull.items) };
+
+    #[inline]
+    fn next(&mut self) -> Option<DirectedEdgeHandle<'a, V, DE, UE, F, A>> {
+        self.inner_iterator.next()
+    }
+}
+
+impl<'a, V, DE, UE, F, A: Allocator> DoubleEndedIterator for HullIterator<'a, V, DE, UE, F, A> {
+    ghost next_back_gives = { YieldsLastBy (λ edge. (mesh_behind edge, number_of edge)) (λ hull. hull.items) };
+
+    #[inline]
+    fn next_back(&mut self) -> Option<DirectedEdgeHandle<'a, V, DE, UE, F, A>> {
+        self.inner_iterator.next_back()
+    }
+}
