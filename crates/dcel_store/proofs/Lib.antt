@@ -1,2 +1,3 @@
+pub mod DataLists
 pub mod Pairs
 pub mod RecordLists

@@ -1,3 +1,4 @@
 pub mod Handles
+pub mod Lending
 pub mod Record
 pub mod Voronoi
