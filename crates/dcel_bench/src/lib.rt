@@ -16,6 +16,8 @@ mod edge_rows;
 #[cfg(test)]
 mod far_growth;
 #[cfg(test)]
+mod flips;
+#[cfg(test)]
 mod growths;
 #[cfg(test)]
 mod lines;
