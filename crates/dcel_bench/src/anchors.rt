@@ -126,7 +126,7 @@ const ROWS: [Row; 16] = [
 ];
 
 /// That these are the anchors of all vertices and faces.
-fn assert_anchors(dcel: &Mesh, out_edges: &[u32], adjacent_edges: &[u32], rt: &impl Abort) {
+pub fn assert_anchors(dcel: &Mesh, out_edges: &[u32], adjacent_edges: &[u32], rt: &impl Abort) {
     assert_eq!(rt; dcel.num_vertices(), out_edges.len());
     for (index, edge) in out_edges.iter().enumerate() {
         let handle = vertex(index as u32);

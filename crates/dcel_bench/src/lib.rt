@@ -18,6 +18,8 @@ mod elements_data;
 #[cfg(test)]
 mod far_growth;
 #[cfg(test)]
+mod flips;
+#[cfg(test)]
 mod growths;
 #[cfg(test)]
 mod lines;

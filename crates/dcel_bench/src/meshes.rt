@@ -1,11 +1,13 @@
 //! Meshes that tests begin with, and calls that test first what they ask.
 
 use spade_dcel::dcel::Dcel;
-use spade_dcel::handles::{FixedDirectedEdgeHandle, FixedFaceHandle, FixedVertexHandle, InnerTag};
+use spade_dcel::handles::{
+    FixedDirectedEdgeHandle, FixedFaceHandle, FixedUndirectedEdgeHandle, FixedVertexHandle, InnerTag,
+};
 use spade_dcel::operations::{
     NoMemory, append_unconnected_vertex, create_new_face_adjacent_to_edge,
-    create_single_face_between_edge_and_next, extend_line, insert_into_triangle, new, new_triangle,
-    setup_initial_two_vertices, split_edge, split_edge_when_all_vertices_on_line, split_half_edge,
+    create_single_face_between_edge_and_next, extend_line, flip_cw, insert_into_triangle, new,
+    new_triangle,    setup_initial_two_vertices, split_edge, split_edge_when_all_vertices_on_line, split_half_edge,
 };
 use std::alloc::{AllocError, Allocator, Global};
 use std::process::Abort;
@@ -26,6 +28,10 @@ pub fn vertex(index: u32) -> FixedVertexHandle {
 
 pub fn half_edge(index: u32) -> FixedDirectedEdgeHandle {
     FixedDirectedEdgeHandle::new(index as usize)
+}
+
+pub fn undirected_edge(index: u32) -> FixedUndirectedEdgeHandle {
+    FixedUndirectedEdgeHandle::new(index as usize)
 }
 
 pub fn inner_face(index: u32) -> FixedFaceHandle<InnerTag> {
@@ -154,6 +160,16 @@ pub fn split_both_sides<A: Allocator>(
     let halves = split_edge(dcel, edge, added)?;
     assert_eq!(rt; halves, [edge, second]);
     Ok(())
+}
+
+/// Turns an edge between two triangles.
+pub fn flip<A: Allocator>(
+    dcel: &mut Mesh<A>,
+    edge: FixedUndirectedEdgeHandle,
+    rt: &impl Abort,
+) {
+    assert!(rt; dcel.can_flip(edge));
+    flip_cw(dcel, edge);
 }
 
 /// Puts a vertex that has no edge into a triangle.

@@ -323,6 +323,7 @@ impl<V, DE, UE, F, A: Allocator> Dcel<V, DE, UE, F, A> {
         if !self.is_live_edge(handle) {
             return false;
         }
+        prove!(self.num_undirected_edges() <= EDGE_SPACE);
         let edge = handle.as_directed();
         let Some(near) = self.opposite_corner(edge) else {
             return false;
