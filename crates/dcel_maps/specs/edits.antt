@@ -3,5 +3,6 @@ pub mod Create
 pub mod DefaultData
 pub mod Line
 pub mod Outside
+pub mod Rename
 pub mod Split
 pub mod Triangle
