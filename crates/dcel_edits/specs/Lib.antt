@@ -2,6 +2,7 @@ pub mod Adding
 pub mod Create
 pub mod Line
 pub mod Outside
+pub mod Rename
 pub mod Split
 pub mod Stored
 pub mod Triangle

@@ -6,6 +6,7 @@ pub mod create;
 pub mod line;
 mod links;
 pub mod outside;
+pub mod rename;
 mod sectors;
 pub mod split;
 pub mod split_triangles;

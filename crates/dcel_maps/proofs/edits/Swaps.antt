@@ -1,8 +1,8 @@
 -- Two vertices in each other's place.
-use Rattle.std.proofs.Common.{◌≡◌, inl, inr, ℕ, ◌+◌, ◌/◌, ◌==◌, ◌<◌, true, Bool, false, cond, List, length, Option, Some, None, slice_index, slice_index_or, refl, sym, ap, ◌∙◌, arith, eq-eqb}
+use Rattle.std.proofs.Common.{◌≡◌, ◌≢◌, inl, inr, ℕ, ◌+◌, ◌/◌, ◌==◌, ◌<◌, true, Bool, false, cond, List, length, Option, Some, None, slice_index, slice_index_or, refl, sym, ap, ◌∙◌, arith}
 use Rattle.std.specs.Prelude.{swap}
 use Rattle.std.specs.List.{enumerate_from}
-use Rattle.std.proofs.lemmas.Bool.{cases_eq, cond_both, ne_eqb}
+use Rattle.std.proofs.lemmas.Bool.{cases_eq, cond_both}
 use Rattle.std.proofs.lemmas.Bool.Decides.{nat_tests}
 use Rattle.std.proofs.lemmas.List.{get_or-map, length-map, ext_get_or, same_lists}
 use Rattle.std.proofs.lemmas.List.Edits.{length-swap, swapped_from_swap}
@@ -15,6 +15,16 @@ use Rattle.dcel_maps.proofs.maps.Edits.{Renamed}
 use Rattle.dcel_maps.proofs.maps.Renames.{renamed_keeps}
 use Rattle.dcel_maps.proofs.shapes.Maps.{map-sound, map-sphere, sphere-from_map}
 use Rattle.dcel_maps.proofs.walks.Links.{half-below}
+
+-- what a and b and any other number become
+pub exchanged-first : (a b : ℕ) → exchanged a b a ≡ b
+exchanged-first a b = grind (arith, nat_tests)
+
+pub exchanged-second : (a b : ℕ) → exchanged a b b ≡ a
+exchanged-second a b = grind (arith, nat_tests)
+
+pub exchanged-other : (a b v : ℕ) → v ≢ a → v ≢ b → exchanged a b v ≡ v
+exchanged-other a b v not_a not_b = grind (arith, nat_tests)
 
 -- exchanging twice changes nothing
 pub exchanged-exchanged : (a b v : ℕ) → exchanged a b (exchanged a b v) ≡ v
@@ -34,11 +44,11 @@ pub get_or-swap : {A : Type 0} (l : List A) (a b v : ℕ) (d : A) → a < length
 get_or-swap l a b v d a_in b_in =
     let at = swapped_from_swap l (swap l a b) a b d a_in b_in refl in
     elim (cases_eq v a) [
-      | inl is ↦ rw (is, eq-eqb a a refl) at.0
-      | inr not_a ↦ rw (ne_eqb v a not_a) (elim (cases_eq v b) [
-        | inl is ↦ rw (is, eq-eqb b b refl) at.1
-        | inr not_b ↦ rw (ne_eqb v b not_b) (at.2 v not_a not_b)
-      ])
+      | inl is ↦ rw (is, exchanged-first) at.0
+      | inr not_a ↦ elim (cases_eq v b) [
+        | inl is ↦ rw (is, exchanged-second) at.1
+        | inr not_b ↦ rw (exchanged-other a b v not_a not_b) (at.2 v not_a not_b)
+      ]
     ]
 
 swap-swap : {A : Type 0} (l : List A) (a b : ℕ) → a < length l → b < length l → swap (swap l a b) a b ≡ l
