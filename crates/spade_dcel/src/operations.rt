@@ -4,6 +4,7 @@
 mod create;
 mod line;
 mod outside;
+mod rename;
 mod split;
 mod split_triangles;
 mod triangle;

@@ -11,6 +11,9 @@ module _ {V DE UE F : Type 0} where
     pub stored : IsStored s r
     pub is : mesh_of s r ≡ m
 
+  pub holds : {s : Lists V DE UE F} {r : Removal} {m : Mesh V DE UE F} → IsStored s r → mesh_of s r ≡ m → Holds s r m
+  holds stored is = record { stored = stored; is = is }
+
   -- the lists with other numbers of reserved places
   abbrev pub with_rooms : Lists V DE UE F → ℕ → ℕ → ℕ → Lists V DE UE F
   with_rooms s i j k = record s { vertex_room = i; edge_room = j; face_room = k }

@@ -206,7 +206,8 @@ module _ {V DE UE F : Type 0} {s : Lists V DE UE F} {r : Removal} {m : Mesh V DE
           face_data = lists.face_data;
         }
 
-    pub exchange_holds : Holds t r n
-    exchange_holds =
-        subst (λ q. Holds t q n) (held_removal s r m held)
-        (lists_hold t n (swapped_is_mesh m mesh a b a_live b_live) exchanged_lists)
+    pub exchange_holds : {u : Lists V DE UE F} → u ≡ t → Holds u r n
+    exchange_holds is =
+        subst (λ u. Holds u r n) (sym is)
+        (subst (λ q. Holds t q n) (held_removal s r m held)
+        (lists_hold t n (swapped_is_mesh m mesh a b a_live b_live) exchanged_lists))
