@@ -5,3 +5,4 @@ pub mod Public
 pub mod Reading
 pub mod Shown
 pub mod stored
+pub mod Turning

@@ -10,5 +10,6 @@ pub mod Held
 pub mod Holding
 pub mod Inserting
 pub mod Lines
+pub mod Renaming
 pub mod Splits
 pub mod SplittingTriangles

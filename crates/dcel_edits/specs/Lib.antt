@@ -3,6 +3,7 @@ pub mod Create
 pub mod Flip
 pub mod Line
 pub mod Outside
+pub mod Rename
 pub mod Split
 pub mod Stored
 pub mod Triangle

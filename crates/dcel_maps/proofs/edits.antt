@@ -9,6 +9,7 @@ pub mod Spurs
 pub mod Lines
 pub mod Rows
 pub mod Splits
+pub mod Swaps
 pub mod Inserts
 pub mod Beside
 pub mod Closing

@@ -5,5 +5,6 @@ pub mod DefaultData
 pub mod Flip
 pub mod Line
 pub mod Outside
+pub mod Rename
 pub mod Split
 pub mod Triangle

@@ -1,10 +1,11 @@
 //! Laws of the definitions. These calls compute nothing; whoever makes one learns what it ensures.
 
-ghost use Rattle.std.specs.Prelude.{ℕ};
+ghost use Rattle.std.specs.Prelude.{◌≡◌, ℕ, true};
 ghost use Rattle.dcel_maps.specs.Conditions.{CanFlip};
 ghost use Rattle.dcel_maps.specs.edits.Flip.{GoesRound};
+ghost use Rattle.dcel_maps.specs.edits.Rename.{vertices_swapped};
 ghost use Rattle.dcel_maps.specs.Examples.{two_triangles};
-ghost use Rattle.dcel_maps.specs.Shapes.{IsMesh, IsSphere, Mesh};
+ghost use Rattle.dcel_maps.specs.Shapes.{IsMesh, IsSphere, Mesh, vertex_is_live};
 
 /// Two triangles that lie beside each other are no sphere: their vertices, minus their edges, plus their faces, are four.
 pub fn two_triangles_are_no_sphere()
@@ -15,4 +16,11 @@ pub fn two_triangles_are_no_sphere()
 /// `prev`, its origin and its face again. No datum has moved. Only anchors may be others.
 pub fn four_flips_go_round<V, DE, UE, F>()
     ensures { (m : Mesh V DE UE F) (u : ℕ) → IsMesh m → CanFlip m.shape u → GoesRound m u }
+{}
+
+/// A swap is its own way back: two vertices of a mesh that are swapped twice are what they were, and so is all else.
+pub fn two_swaps_change_nothing<V, DE, UE, F>()
+    ensures { (m : Mesh V DE UE F) (a b : ℕ) → IsMesh m
+        → vertex_is_live m.shape a ≡ true → vertex_is_live m.shape b ≡ true
+        → vertices_swapped (vertices_swapped m a b) a b ≡ m }
 {}

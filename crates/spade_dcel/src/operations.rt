@@ -5,6 +5,7 @@ mod create;
 mod flip;
 mod line;
 mod outside;
+mod rename;
 mod split;
 mod split_triangles;
 mod triangle;

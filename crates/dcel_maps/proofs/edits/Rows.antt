@@ -1,10 +1,12 @@
 -- Worked rows, computed from the definitions.
-use Rattle.std.proofs.Common.{◌≡◌, [], ◌∷◌, Some, None, refl}
+use Rattle.std.proofs.Common.{◌≡◌, ℕ, [], ◌∷◌, Some, None, replicate, refl}
 use Rattle.dcel_fixed.specs.HalfEdges.{rev}
 use Rattle.dcel_maps.specs.Cyclic.{from_least}
 use Rattle.dcel_maps.specs.edits.Create.{first_edge_added, outer_alone, vertex_appended}
+use Rattle.dcel_maps.specs.edits.Rename.{vertices_swapped}
 use Rattle.dcel_maps.specs.edits.Split.{edge_split, edge_split_on_line, half_edge_split}
-use Rattle.dcel_maps.specs.edits.Triangle.{triangle_alone}
+use Rattle.dcel_maps.specs.edits.Triangle.{triangle_alone, vertex_inserted}
+use Rattle.dcel_maps.specs.Removals.{Isolated, gives_up_edge}
 use Rattle.dcel_maps.specs.Shapes.{Mesh}
 use Rattle.dcel_maps.specs.Walks.{least_of}
 use Rattle.dcel_maps.specs.Words.{face_in, next_in, prev_in}
@@ -77,3 +79,52 @@ origins_half = refl
 anchors_half : half.vertex_anchors ≡ Some 0 ∷ Some 9 ∷ Some 4 ∷ Some 8 ∷ []
 unfolding rev
 anchors_half = refl
+
+-- a triangle with vertex 3 in face 1, and each vertex with its number as its datum: 0 and 1 are exchanged
+abbrev triangle : Mesh ℕ (Unit {0}) (Unit {0}) (Unit {0})
+triangle = triangle_alone (0, 1, 2) (replicate 6 tt) (replicate 3 tt) (replicate 2 tt)
+
+abbrev cut : Mesh ℕ (Unit {0}) (Unit {0}) (Unit {0})
+cut = vertex_inserted (vertex_appended triangle 3) 3 1 (replicate 6 tt) (replicate 3 tt) (replicate 2 tt)
+
+abbrev swapped : Mesh ℕ (Unit {0}) (Unit {0}) (Unit {0})
+swapped = vertices_swapped cut 0 1
+
+words_cut : cut.shape.words ≡ (0 ∷ 2 ∷ 4 ∷ []) ∷ (1 ∷ 6 ∷ 11 ∷ []) ∷ (5 ∷ 8 ∷ 7 ∷ []) ∷ (3 ∷ 10 ∷ 9 ∷ []) ∷ []
+unfolding prev_in next_in
+words_cut = refl
+
+origins_cut : cut.shape.origins ≡ 0 ∷ 1 ∷ 1 ∷ 2 ∷ 2 ∷ 0 ∷ 0 ∷ 3 ∷ 2 ∷ 3 ∷ 1 ∷ 3 ∷ []
+unfolding prev_in next_in
+origins_cut = refl
+
+words_swapped : swapped.shape.words ≡ cut.shape.words
+words_swapped = refl
+
+origins_swapped : swapped.shape.origins ≡ 1 ∷ 0 ∷ 0 ∷ 2 ∷ 2 ∷ 1 ∷ 1 ∷ 3 ∷ 2 ∷ 3 ∷ 0 ∷ 3 ∷ []
+unfolding prev_in next_in gives_up_edge
+origins_swapped = refl
+
+anchors_swapped : swapped.vertex_anchors ≡ Some 2 ∷ Some 0 ∷ Some 4 ∷ Some 7 ∷ []
+anchors_swapped = refl
+
+data_swapped : swapped.vertex_data ≡ 1 ∷ 0 ∷ 2 ∷ 3 ∷ []
+data_swapped = refl
+
+swapped_twice : vertices_swapped swapped 0 1 ≡ cut
+unfolding prev_in next_in gives_up_edge
+swapped_twice = refl
+
+swapped_with_itself : vertices_swapped cut 1 1 ≡ cut
+unfolding prev_in next_in gives_up_edge
+swapped_with_itself = refl
+
+-- where edge 1 is given up, its halves show 0 as their origin before and after
+abbrev opened : Mesh ℕ (Unit {0}) (Unit {0}) (Unit {0})
+opened = record triangle {
+  shape = record triangle.shape { origins = 0 ∷ 1 ∷ 0 ∷ 0 ∷ 2 ∷ 0 ∷ []; removal = Isolated (1 ∷ []) [] None };
+}
+
+origins_opened : (vertices_swapped opened 0 1).shape.origins ≡ 1 ∷ 0 ∷ 0 ∷ 0 ∷ 2 ∷ 1 ∷ []
+unfolding gives_up_edge
+origins_opened = refl

@@ -1,5 +1,5 @@
 -- What a walk under way lists, and what is left of it after one step.
-use Rattle.std.proofs.Common.{◌≡◌, ℕ, ◌*◌, ◌==◌, ◌^◌, ◌<◌, ◌≤◌, List, [], ◌∷◌, length, refl, sym, ap, ◌∙◌, subst, arith, eq-eqb}
+use Rattle.std.proofs.Common.{◌≡◌, ℕ, zero, suc, ◌*◌, ◌==◌, ◌^◌, ◌<◌, ◌≤◌, List, [], ◌∷◌, length, cond, refl, sym, ap, ◌∙◌, subst, arith, eq-eqb}
 use Rattle.std.proofs.lemmas.Bool.{false≢true, ne_eqb}
 use Rattle.std.proofs.lemmas.List.{length-map}
 use Rattle.dcel_maps.specs.Shapes.{Shape, IsLive, edge_is_live}
@@ -11,6 +11,15 @@ use Rattle.dcel_maps.proofs.walks.Lengths.{count-le}
 use Rattle.dcel_maps.proofs.walks.Returning.{items_live, length-live, starts, steps_of}
 use Rattle.dcel_maps.proofs.words.Counts.{absent_head, count-same}
 use Rattle.dcel_maps.proofs.words.Walking.{up_to-is}
+
+-- steps that agree on live half edges, and stay there, walk the same way
+pub up_to-agrees : (s : Shape) (step other : ℕ → ℕ) → ((h : ℕ) → IsLive s h → other h ≡ step h) → ((h : ℕ) → IsLive s h → IsLive s (step h))
+    → (fuel h last : ℕ) → IsLive s h → up_to other fuel h last ≡ up_to step fuel h last
+unfolding up_to
+up_to-agrees s step other agree stays zero h last live = refl
+up_to-agrees s step other agree stays (suc fuel) h last live =
+    rw (agree h live)
+    (ap (λ w. h ∷ cond (step h == last) [] w) (up_to-agrees s step other agree stays fuel (step h) last (stays h live)))
 
 module _ (s : Shape) (step step_back : ℕ → ℕ) where
   -- what is listed: the current half edge and the rest

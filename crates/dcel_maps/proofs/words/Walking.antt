@@ -1,6 +1,6 @@
 -- The word that a walk from any of its items leads round.
-use Rattle.std.proofs.Common.{◌≡◌, ◌≢◌, ◌⊎◌, inl, inr, ℕ, zero, suc, ◌<◌, ◌≤◌, min, List, [], ◌∷◌, ◌++◌, length, refl, subst, ap, sym, arith, eq-eqb, length-append, Option, Some, None}
-use Rattle.std.proofs.lemmas.Bool.{cases_eq, cases_lt, ne_eqb}
+use Rattle.std.proofs.Common.{◌≡◌, ◌≢◌, ◌⊎◌, inl, inr, ℕ, zero, suc, ◌==◌, ◌<◌, ◌≤◌, min, List, [], ◌∷◌, ◌++◌, length, refl, subst, ap, sym, arith, eq-eqb, length-append, Option, Some, None}
+use Rattle.std.proofs.lemmas.Bool.{cases_eq, cases_lt, cond_both, ne_eqb}
 use Rattle.dcel_maps.specs.Maps.{By}
 use Rattle.dcel_maps.specs.Shapes.{AnchorsWord}
 use Rattle.dcel_maps.specs.Walks.{up_to, walk, least_of, word_at, anchored_word}
@@ -18,6 +18,14 @@ up_to-is step (suc fuel) x last [] p apart enough = rw (p, eq-eqb last last refl
 up_to-is step (suc fuel) x last (y ∷ r) p apart enough =
     rw (p.0, ne_eqb y last (λ same. absent_head last y r apart (sym same)))
     (ap (λ z. x ∷ z) (up_to-is step fuel y last r p.1 (omega (arith, apart)) (omega arith)))
+
+-- it has no more items than its fuel
+pub length-up_to : (step : ℕ → ℕ) (fuel x last : ℕ) → length (up_to step fuel x last) ≤ fuel
+unfolding up_to
+length-up_to step zero x last = omega arith
+length-up_to step (suc fuel) x last =
+    cond_both (step x == last) [] (up_to step fuel (step x) last) (λ w. length (x ∷ w) ≤ suc fuel)
+    (λ ends. omega arith) (λ goes_on. omega (arith, length-up_to step fuel (step x) last))
 
 -- the least of a list: nothing below it stands there, and it does
 pub least_of-is : (m x : ℕ) (r : List ℕ) → m ≤ x → ((h : ℕ) → h < m → count_of h r ≡ 0) → (x ≡ m) ⊎ (0 < count_of m r)

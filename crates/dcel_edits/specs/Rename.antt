@@ -1,0 +1,61 @@
+-- What the exchange of two vertices leaves in the stored lists, and which can be exchanged.
+use Rattle.std.specs.Prelude.{ℕ, ◌<◌, List, [], fold, length, slice_index, slice_index_or, slice_set, swap, Option, Some, None}
+use Rattle.dcel_fixed.specs.HalfEdges.{rev}
+use Rattle.dcel_store.specs.Lists.{Lists}
+use Rattle.dcel_maps.specs.Walking.{IsRoundTrip}
+use Rattle.dcel_maps.specs.Walks.{walk}
+use Rattle.dcel_maps.specs.Words.{count_of}
+
+-- a list where the items at these places are v
+abbrev pub all_set : List ℕ → List ℕ → ℕ → List ℕ
+all_set l places v = fold (λ so_far place. slice_set so_far place v) l places
+
+-- by the stored `prev`: the next half edge out of the same vertex
+abbrev pub ccw_by : List ℕ → ℕ → ℕ
+ccw_by prev h = rev (slice_index prev h)
+
+-- the half edges that turning leads through from an anchor on, where so many are stored
+abbrev pub turn_by : List ℕ → ℕ → Option ℕ → List ℕ
+turn_by prev halves None = []
+turn_by prev halves (Some h) = walk (ccw_by prev) halves h
+
+-- turning leads from a half edge back to it, through half edges that are stored
+pub record TurnsBack (prev : List ℕ) (halves h : ℕ) : Type 0 where
+  pub trip : IsRoundTrip (ccw_by prev) h (turn_by prev halves (Some h))
+  pub stored : (k : ℕ) → 0 < count_of k (turn_by prev halves (Some h)) → k < halves
+
+-- and from an anchor, if there is one
+abbrev pub AnchorTurnsBack : List ℕ → ℕ → Option ℕ → Type 0
+AnchorTurnsBack prev halves None = Unit {0}
+AnchorTurnsBack prev halves (Some h) = TurnsBack prev halves h
+
+module _ {V DE UE F : Type 0} where
+  abbrev pub stored_anchor : Lists V DE UE F → ℕ → Option ℕ
+  stored_anchor s v = slice_index_or s.vertex_anchors v None
+
+  -- the half edges that turning leads through from the anchor of v on
+  abbrev pub turn_of : Lists V DE UE F → ℕ → List ℕ
+  turn_of s v = turn_by s.prev (length s.next) (stored_anchor s v)
+
+  -- they start at v
+  abbrev pub turn_renamed : Lists V DE UE F → ℕ → Lists V DE UE F
+  turn_renamed s v = record s { origin = all_set s.origin (turn_of s v) v }
+
+  -- the vertices a and b with each other's data, anchors and out edges
+  abbrev pub vertices_exchanged : Lists V DE UE F → ℕ → ℕ → Lists V DE UE F
+  vertices_exchanged s a b = record s {
+    vertex_data = swap s.vertex_data a b;
+    vertex_anchors = swap s.vertex_anchors a b;
+    origin = all_set (all_set s.origin (turn_of s b) a) (turn_of s a) b;
+  }
+
+  -- where a vertex can have the half edges of its turn start at it, and two can be exchanged
+  pub record CanTurn (s : Lists V DE UE F) (v : ℕ) : Type 0 where
+    pub anchor_in : v < length s.vertex_anchors
+    pub turns : AnchorTurnsBack s.prev (length s.next) (stored_anchor s v)
+
+  pub record CanExchange (s : Lists V DE UE F) (a b : ℕ) : Type 0 where
+    pub first_in : a < length s.vertex_data
+    pub second_in : b < length s.vertex_data
+    pub first_turns : CanTurn s a
+    pub second_turns : CanTurn s b

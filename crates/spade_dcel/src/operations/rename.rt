@@ -1,0 +1,25 @@
+//! Vertices under other numbers.
+
+ghost use Rattle.std.specs.Prelude.{◌≡◌, true};
+ghost use Rattle.dcel_maps.specs.edits.Rename.{vertices_swapped};
+ghost use Rattle.dcel_maps.specs.Shapes.{IsMesh, vertex_is_live};
+
+use crate::dcel::Dcel;
+use dcel_edits::rename::exchange_vertices;
+use dcel_fixed::FixedVertexHandle;
+use std::alloc::Allocator;
+
+/// Renaming.
+impl<V, DE, UE, F, A: Allocator> Dcel<V, DE, UE, F, A> {
+    /// Puts two vertices in each other's place: their data and anchors are exchanged, and live half edges that started at the one start
+    /// at the other. The two may be one vertex, and then nothing changes. It takes no memory, and asks that both are live
+    /// ([`is_live_vertex`](Self::is_live_vertex)).
+    pub fn swap_vertices(&mut self, first: FixedVertexHandle, second: FixedVertexHandle)
+        requires first_live { vertex_is_live self.old.shape first ≡ true }
+        requires second_live { vertex_is_live self.old.shape second ≡ true }
+        ensures edit { self.new ≡ vertices_swapped self.old first second }
+        ensures mesh { IsMesh self.new }
+    {
+        exchange_vertices(&mut self.store, first, second);
+    }
+}
