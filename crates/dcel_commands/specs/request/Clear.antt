@@ -3,7 +3,7 @@ use Rattle.std.specs.Prelude.{◌≡◌, false, [], codes}
 use Rattle.dcel_commands.specs.declared.commands.reply.Handed.TheVariants.{Nothing}
 use Rattle.dcel_commands.specs.declared.commands.reply.Reply.TheVariants.{Ok}
 use Rattle.dcel_commands.specs.Rules.{CommandRule}
-use Rattle.dcel_maps.specs.edits.Create.{cleared}
+use Rattle.dcel_maps.specs.edits.Whole.{cleared}
 
 abbrev pub clear : {V : Type 0} → CommandRule V
 clear = record {

@@ -1,5 +1,5 @@
 -- `get V`: the datum of V.
-use Rattle.std.specs.Prelude.{◌≡◌, ℕ, ℤ, List, [], ◌∷◌, ◌++◌, codes, slice_index}
+use Rattle.std.specs.Prelude.{◌≡◌, ℕ, ℤ, List, [], ◌∷◌, ◌++◌, Some, codes, slice_get}
 use Rattle.std.specs.Fmt.{signed_decimal}
 use Rattle.dcel_commands.specs.declared.refusal.Refusal.TheVariants.{NoSuchVertex}
 use Rattle.dcel_commands.specs.Conditions.{VertexInRange}
@@ -16,5 +16,5 @@ get v = record {
   word = codes "get";
   given = Number v ∷ [];
   asks = (NoSuchVertex, VertexInRange v) ∷ [];
-  Tells = λ m text. text ≡ datum_text (slice_index m.vertex_data v);
+  Tells = λ m text. (datum : ℤ) × (slice_get m.vertex_data v ≡ Some datum) × (text ≡ datum_text datum);
 }
