@@ -14,6 +14,8 @@ mod commands;
 #[cfg(test)]
 mod edge_rows;
 #[cfg(test)]
+mod elements_data;
+#[cfg(test)]
 mod far_growth;
 #[cfg(test)]
 mod growths;

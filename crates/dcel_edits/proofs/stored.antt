@@ -3,6 +3,7 @@ pub mod Beside
 pub mod Changes
 pub mod Closing
 pub mod Creating
+pub mod Data
 pub mod Halves
 pub mod Held
 pub mod Holding

@@ -1,5 +1,6 @@
 -- What each operation does to a mesh, family by family.
 pub mod Create
+pub mod Data
 pub mod DefaultData
 pub mod Line
 pub mod Outside

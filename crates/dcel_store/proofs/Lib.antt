@@ -1,3 +1,4 @@
+pub mod DataLists
 pub mod Exchanges
 pub mod Pairs
 pub mod RecordLists

@@ -1,5 +1,6 @@
 -- Lists of two items for each element.
-use Rattle.std.proofs.Common.{◌≡◌, ℕ, zero, suc, ◌*◌, ◌/◌, ◌%◌, ◌<◌, List, [], ◌∷◌, ◌++◌, length, get_or, set, if◌then◌else◌, ◌==◌, refl, arith}
+use Rattle.std.proofs.Common.{◌≡◌, ℕ, zero, suc, ◌*◌, ◌/◌, ◌%◌, ◌<◌, ◌↔◌, IsTrue, Bool, List, [], ◌∷◌, ◌++◌, length, get_or, set, if◌then◌else◌, ◌==◌, refl, ◌∙◌, arith}
+use Rattle.std.proofs.lemmas.Bool.Decides.{nat_tests}
 use Rattle.dcel_store.specs.Records.{pairs_of}
 
 half_more : (h : ℕ) → suc (suc h) / 2 ≡ suc (h / 2)
@@ -7,6 +8,9 @@ half_more h = omega arith
 
 parity_more : (h : ℕ) → suc (suc h) % 2 ≡ h % 2
 parity_more h = omega arith
+
+even : (h : ℕ) (is_first : Bool) → IsTrue is_first ↔ (h % 2 ≡ 0) → (h % 2 == 0) ≡ is_first
+even h is_first test = grind (arith, nat_tests)
 
 module _ {A B : Type 0} (first second : A → B) where
   pub length-pairs_of : (xs : List A) → length (pairs_of first second xs) ≡ 2 * length xs
@@ -38,3 +42,11 @@ module _ {A B : Type 0} (first second : A → B) where
   pairs_of-set_same [] i x y read one two = refl
   pairs_of-set_same (z ∷ zs) zero x y read one two = rw (one, two, read) refl
   pairs_of-set_same (z ∷ zs) (suc i) x y read one two = rw (pairs_of-set_same zs i x y read one two)
+
+  -- the element x at i has item h, as its first one where `is_first`: what is read there, and y in the place of x
+  module _ (xs : List A) (h i : ℕ) (i_is : i ≡ h / 2) (x : A) (read : x ≡ get_or xs i x) (is_first : Bool) (test : IsTrue is_first ↔ (h % 2 ≡ 0)) where
+    pub get_or-item : (d : B) → h < length (pairs_of first second xs) → get_or (pairs_of first second xs) h d ≡ (if is_first then first x else second x)
+    get_or-item d within = get_or-pairs_of xs h x d (rw length-pairs_of at within) (rw i_is at read) ∙ rw (even h is_first test) refl
+
+    pub set-item : (y : A) (v : B) → first y ≡ (if is_first then v else first x) → second y ≡ (if is_first then second x else v) → pairs_of first second (set xs i y) ≡ set (pairs_of first second xs) h v
+    set-item y v one two = rw i_is (pairs_of-set xs h x y v (rw i_is at read) (rw (even h is_first test) one) (rw (even h is_first test) two))

@@ -1,7 +1,6 @@
 -- The lists that records stand for, when a record is read, written or appended.
-use Rattle.std.proofs.Common.{◌≡◌, ℕ, ◌*◌, ◌/◌, ◌%◌, ◌<◌, ◌↔◌, IsTrue, Bool, List, length, get_or, set, if◌then◌else◌, ◌==◌, refl, ap, ◌∙◌, arith}
+use Rattle.std.proofs.Common.{◌≡◌, ℕ, ◌/◌, ◌%◌, ◌<◌, ◌↔◌, IsTrue, Bool, List, length, get_or, set, if◌then◌else◌, refl, ap, arith}
 use Rattle.std.specs.Vec.{with_item}
-use Rattle.std.proofs.lemmas.Bool.Decides.{nat_tests}
 use Rattle.std.proofs.lemmas.List.{length-map, get_or-map, map-set}
 use Rattle.std.proofs.Math.Seq.{map-set_same}
 use Rattle.dcel_store.specs.declared.EdgeEntry.{EdgeEntry}
@@ -10,7 +9,7 @@ use Rattle.dcel_store.specs.declared.Store.TheInside.{Inside}
 use Rattle.dcel_store.specs.HalfEdges.{IsHalfEdge, with_half_edge}
 use Rattle.dcel_store.specs.Lists.{LengthsAgree, Lists}
 use Rattle.dcel_store.specs.Records.{lists_of, half_edges}
-use Rattle.dcel_store.proofs.Pairs.{length-pairs_of, get_or-pairs_of, pairs_of-set, pairs_of-set_same}
+use Rattle.dcel_store.proofs.Pairs.{length-pairs_of, pairs_of-set_same, get_or-item, set-item}
 
 module _ {V DE UE F A : Type 0} (store : Inside V DE UE F A) where
   pub lengths_agree : LengthsAgree (lists_of store)
@@ -30,16 +29,12 @@ module _ {V DE UE F A : Type 0} (store : Inside V DE UE F A) where
 
   -- the record x at i holds the half edge h
   module _ (h i : ℕ) (i_is : i ≡ h / 2) (x : EdgeEntry DE UE) (read : x ≡ get_or store.edges.items i x) (normalized : Bool) (test : IsTrue normalized ↔ (h % 2 ≡ 0)) where
-    even : (h % 2 == 0) ≡ normalized
-    even = grind (arith, nat_tests)
-
     is_half_edge : h < length (lists_of store).next → IsHalfEdge (lists_of store) h (if normalized then x.normalized else x.reversed)
     is_half_edge within =
         let links : HalfEdgeEntry = if normalized then x.normalized else x.reversed in
         let all : List HalfEdgeEntry = half_edges store.edges.items in
-        let inside : h < 2 * length store.edges.items = omega (arith, record_within h within) in
-        let short : h < length all = simp length-pairs_of inside in
-        let found : get_or all h links ≡ links = get_or-pairs_of (λ e. e.normalized) (λ e. e.reversed) store.edges.items h x links inside (rw i_is at read) ∙ rw even refl in
+        let short : h < length all = rw length-map at within in
+        let found : get_or all h links ≡ links = get_or-item (λ e. e.normalized) (λ e. e.reversed) store.edges.items h i i_is x read normalized test links short in
         record {
           is_next = rw (get_or-map (λ l. l.next) all h links 0 short, found) refl;
           is_prev = rw (get_or-map (λ l. l.prev) all h links 0 short, found) refl;
@@ -59,7 +54,7 @@ module _ {V DE UE F A : Type 0} (store : Inside V DE UE F A) where
         let edges = store.edges.items in
         let y = with_links links in
         let written : half_edges (set edges i y) ≡ set (half_edges edges) h links =
-        rw i_is (pairs_of-set (λ e. e.normalized) (λ e. e.reversed) edges h x y links (rw i_is at read) (rw even refl) (rw even refl)) in
+        set-item (λ e. e.normalized) (λ e. e.reversed) edges h i i_is x read normalized test y links refl refl in
         rw (
           written,
           pairs_of-set_same (λ e. e.edge_data.normalized) (λ e. e.edge_data.reversed) edges i x y read refl refl,

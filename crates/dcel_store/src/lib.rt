@@ -11,6 +11,7 @@ ghost use Rattle.std.specs.Borrow.{sem};
 ghost use Rattle.dcel_store.specs.Lists.{empty, LengthsAgree, HasPlaces};
 ghost use Rattle.dcel_store.specs.HalfEdges.{IsHalfEdge, LendsHalfEdge};
 
+mod data;
 mod swap;
 
 use dcel_fixed::{FixedDirectedEdgeHandle, FixedFaceHandle, FixedVertexHandle, PossiblyOuterTag};

@@ -1,6 +1,6 @@
 //! The mesh: its counts, its elements by number, their anchors, and the tests of what operations ask.
 
-ghost use Rattle.std.specs.Prelude.{◌≡◌, ℕ, ◌*◌, ◌^◌, ◌<◌, ◌≤◌, ◌↔◌, IfSome, IsTrue, MatchOption, length, true};
+ghost use Rattle.std.specs.Prelude.{◌≡◌, ℕ, ◌*◌, ◌^◌, ◌<◌, ◌≤◌, ◌↔◌, IfSome, IsSome, IsTrue, MatchOption, length, true};
 ghost use Rattle.std.specs.Option.{option_map};
 ghost use Rattle.dcel_maps.specs.Checked.{IsChecked, LooksTriangulated, EvenHalfFits, PartsFaces};
 ghost use Rattle.dcel_maps.specs.Conditions.{HasRoom, IsUnconnected, IsLineEnd, IsTriangle, IsBridge, CanCloseOutside};
@@ -10,7 +10,9 @@ ghost use Rattle.dcel_maps.specs.Shapes.{IsLive, vertex_is_live, edge_is_live, f
 ghost use Rattle.dcel_maps.specs.Walking.{Leads, edge_between};
 ghost use Rattle.dcel_maps.specs.Words.{word_of};
 
-use crate::handles::{DirectedEdgeHandle, FaceHandle, VertexHandle};
+mod data;
+
+use crate::handles::{DirectedEdgeHandle, FaceHandle, UndirectedEdgeHandle, VertexHandle};
 use crate::removal::RemovalRecord;
 use dcel_fixed::{
     FixedDirectedEdgeHandle, FixedFaceHandle, FixedUndirectedEdgeHandle, FixedVertexHandle,
@@ -109,6 +111,19 @@ impl<V, DE, UE, F, A: Allocator> Dcel<V, DE, UE, F, A> {
         VertexHandle::new(self, handle)
     }
 
+    /// The same where there is such a vertex, and else None.
+    #[inline]
+    pub fn get_vertex(&self, handle: FixedVertexHandle) -> Option<VertexHandle<'_, V, DE, UE, F, A>>
+        ensures some { IsSome result ↔ (handle < self.now.shape.vertices) }
+        ensures mesh { IfSome result (λ vertex. mesh_behind vertex ≡ self.now) }
+        ensures number { IfSome result (λ vertex. number_of vertex ≡ handle) }
+    {
+        if handle.index() >= self.num_vertices() {
+            return None;
+        }
+        Some(self.vertex(handle))
+    }
+
     /// The half edge with this number, borrowed. It asks for a number below
     /// [`num_directed_edges`](Self::num_directed_edges).
     #[inline]
@@ -121,6 +136,20 @@ impl<V, DE, UE, F, A: Allocator> Dcel<V, DE, UE, F, A> {
         ensures number { number_of result ≡ handle }
     {
         DirectedEdgeHandle::new(self, handle)
+    }
+
+    /// The undirected edge with this number, borrowed. It asks for a number below
+    /// [`num_undirected_edges`](Self::num_undirected_edges).
+    #[inline]
+    pub fn undirected_edge(
+        &self,
+        handle: FixedUndirectedEdgeHandle,
+    ) -> UndirectedEdgeHandle<'_, V, DE, UE, F, A>
+        requires { handle < self.now.shape.edges }
+        ensures mesh { mesh_behind result ≡ self.now }
+        ensures number { number_of result ≡ handle }
+    {
+        UndirectedEdgeHandle::new(self, handle)
     }
 
     /// The face with this number, borrowed. It asks for a number below [`num_faces`](Self::num_faces).
