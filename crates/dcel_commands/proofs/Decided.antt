@@ -125,7 +125,7 @@ can_flip : (s : Shape) (u : ℕ) → Decided (CanFlip s u)
 can_flip s u =
     as_well (λ p. record { live = p.0; triangle = p.1.0; facing = p.1.1.0; corners = p.1.1.1 }) (λ (can : CanFlip s u). (can.live, (can.triangle, (can.facing, can.corners))))
     (both (is_true (edge_is_live s u)) (both (triangle s (face_of s (2 * u))) (both (triangle s (face_of s (2 * u + 1)))
-      (neither (cases_eq (origin_of s (prev_of s (2 * u))) (origin_of s (prev_of s (2 * u + 1))))))))
+    (neither (cases_eq (origin_of s (prev_of s (2 * u))) (origin_of s (prev_of s (2 * u + 1))))))))
 
 within : (limit vertices edges faces : ℕ) → Decided (AreWithin limit vertices edges faces)
 within limit vertices edges faces =

@@ -6,11 +6,13 @@ ghost use Rattle.dcel_maps.specs.Shapes.{IsLive, face_count};
 ghost use Rattle.dcel_commands.specs.Conditions.{AllMet, AreWithin, FirstUnmet, OnTriangle};
 ghost use Rattle.dcel_commands.specs.EdgeAndVertex.{edge_and_vertex};
 ghost use Rattle.dcel_commands.specs.TwoVertices.{live_vertices, two_vertices};
+ghost use Rattle.spade_dcel.specs.Handles.{mesh_behind, number_of};
 ghost use Rattle.dcel_commands.specs.declared.refusal.Refusal.TheVariants.{NotTriangle};
 
 use crate::refusal::Refusal;
 use dcel_fixed::{FixedDirectedEdgeHandle, FixedUndirectedEdgeHandle, FixedVertexHandle};
 use spade_dcel::dcel::Dcel;
+use spade_dcel::handles::DirectedEdgeHandle;
 use std::alloc::Allocator;
 
 /// Refuses where a condition isn't met.
@@ -50,19 +52,17 @@ pub fn has_edge<V, DE, UE, F, A: Allocator>(
     edge.index() < dcel.num_undirected_edges()
 }
 
-/// Asks for a triangle where a live half edge lies.
+/// Asks for a triangle where a live half edge of the mesh lies.
 pub fn ask_triangle<V, DE, UE, F, A: Allocator>(
     dcel: &Dcel<V, DE, UE, F, A>,
-    edge: FixedDirectedEdgeHandle,
+    edge: DirectedEdgeHandle<'_, V, DE, UE, F, A>,
 ) -> Result<(), Refusal>
-    requires { IsLive dcel.now.shape edge }
-    ensures { let asks = (NotTriangle, OnTriangle edge) ∷ [] in
+    requires mesh { mesh_behind edge ≡ dcel.now }
+    requires live { IsLive (mesh_behind edge).shape (number_of edge) }
+    ensures { let asks = (NotTriangle, OnTriangle (number_of edge.entry)) ∷ [] in
         MatchResult result (λ _. AllMet dcel.now.shape asks) (λ why. FirstUnmet dcel.now.shape asks why) }
 {
-    ask(
-        dcel.is_triangle(dcel.directed_edge(edge).face().fix()),
-        Refusal::NotTriangle,
-    )
+    ask(dcel.is_triangle(edge.face().fix()), Refusal::NotTriangle)
 }
 
 /// Asks for two live vertices, which may be one.

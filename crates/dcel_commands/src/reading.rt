@@ -5,8 +5,8 @@ ghost use Rattle.dcel_commands.specs.Spelling.{Says, Spells};
 ghost use Rattle.std.specs.Prelude.{MatchOption};
 
 use crate::request::{
-    Request, append, between, check, clear, close, counts, extend, flip, get, half, hull, insert, line,
-    origin, out, outside, put, setup, split, swap, triangle, words,
+    Request, append, between, check, clear, close, counts, extend, flip, get, half, hull, insert,
+    line, origin, out, outside, put, setup, split, swap, triangle, words,
 };
 use dcel_text::items::{Rest, first};
 

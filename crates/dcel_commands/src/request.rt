@@ -32,7 +32,8 @@ use crate::commands::{Command, Handed, Refused, Reply};
 use crate::given::{edge_and_vertex, one_number, three_data, two_numbers, two_vertices};
 use crate::refusal::Refusal;
 use dcel_fixed::{
-    FixedDirectedEdgeHandle, FixedFaceHandle, FixedUndirectedEdgeHandle, FixedVertexHandle, InnerTag,
+    FixedDirectedEdgeHandle, FixedFaceHandle, FixedUndirectedEdgeHandle, FixedVertexHandle,
+    InnerTag,
 };
 use dcel_text::items::{Rest, datum_then, nothing, number_then};
 use dcel_text::output::Writer;

@@ -1,7 +1,8 @@
 //! What can be asked of a mesh.
 
 use dcel_fixed::{
-    FixedDirectedEdgeHandle, FixedFaceHandle, FixedUndirectedEdgeHandle, FixedVertexHandle, InnerTag,
+    FixedDirectedEdgeHandle, FixedFaceHandle, FixedUndirectedEdgeHandle, FixedVertexHandle,
+    InnerTag,
 };
 
 /// An edit of a mesh, by the numbers of its elements. Numbers may be any: [`apply`](crate::commands::apply) tests all that a

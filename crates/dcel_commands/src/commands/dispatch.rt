@@ -7,7 +7,8 @@ ghost use Rattle.dcel_maps.specs.Shapes.{IsMesh};
 use crate::commands::command::Command;
 use crate::commands::reply::{Refused, Reply};
 use crate::request::{
-    append, clear, close, extend, flip, half, insert, line, outside, put, setup, split, swap, triangle,
+    append, clear, close, extend, flip, half, insert, line, outside, put, setup, split, swap,
+    triangle,
 };
 use spade_dcel::dcel::Dcel;
 use spade_dcel::laws;

@@ -14,13 +14,9 @@ pub fn read<'a>(rest: Rest<'a>) -> Option<Request>
 }
 
 /// Carries the command out.
-pub fn carry_out<
-    V: Drop,
-    DE: Default + Drop,
-    UE: Default + Drop,
-    F: Default + Drop,
-    A: Allocator,
->(dcel: &mut Dcel<V, DE, UE, F, A>) -> Result<Reply, Refused<V>>
+pub fn carry_out<V: Drop, DE: Default + Drop, UE: Default + Drop, F: Default + Drop, A: Allocator>(
+    dcel: &mut Dcel<V, DE, UE, F, A>,
+) -> Result<Reply, Refused<V>>
     ensures { (limit : ℕ) → Carries DE.is_default UE.is_default F.is_default limit dcel.old Command.Clear result dcel.new }
 {
     dcel.clear();

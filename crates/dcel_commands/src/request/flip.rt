@@ -23,9 +23,9 @@ pub fn carry_out<V, DE: Default, UE: Default, F: Default, A: Allocator>(
 {
     ask(has_edge(dcel, edge), Refusal::NoSuchEdge)?;
     ask(dcel.is_live_edge(edge), Refusal::GivenUp)?;
-    let [half, other_half] = edge.directed_edges();
-    ask_triangle(dcel, half)?;
-    ask_triangle(dcel, other_half)?;
+    let half_edge = dcel.undirected_edge(edge).as_directed();
+    ask_triangle(dcel, half_edge)?;
+    ask_triangle(dcel, half_edge.rev())?;
     ask(dcel.can_flip(edge), Refusal::WouldLoop)?;
     flip_cw(dcel, edge);
     Ok(Reply::Ok)

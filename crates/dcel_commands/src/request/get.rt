@@ -22,8 +22,9 @@ pub fn tell<A: Allocator, K: LineSink>(
     ensures { TellsOrRefuses K.has_failed K.contents out.old dcel.now (Query.Get vertex) result out.new }
 {
     ask(has_vertex(dcel, vertex), Refusal::NoSuchVertex)?;
+    let datum = *dcel.vertex_data(vertex);
     out.write(b"datum ");
-    out.datum(*dcel.vertex_data(vertex));
+    out.datum(datum);
     out.write(b"\n");
     Ok(())
 }

@@ -25,7 +25,7 @@ pub fn carry_out<V, DE: Default, UE: Default, F: Default, A: Allocator>(
     ensures { Carries DE.is_default UE.is_default F.is_default limit dcel.old (Command.Half edge new_vertex) result dcel.new }
 {
     ask_edge_and_vertex(dcel, edge, new_vertex)?;
-    ask_triangle(dcel, edge)?;
+    ask_triangle(dcel, dcel.directed_edge(edge))?;
     ask(has_room(dcel, limit, 0, 2, 1), Refusal::NoRoom)?;
     let halves = split_half_edge(dcel, edge, new_vertex)?;
     Ok(Reply::Halves(halves))

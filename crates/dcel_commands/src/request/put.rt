@@ -12,10 +12,7 @@ pub fn read<'a>(rest: Rest<'a>) -> Option<Request>
     let (vertex, others) = number_then(rest)?;
     let (datum, others) = datum_then(others)?;
     nothing(others)?;
-    Some(Request::Edit(Command::Put(
-        FixedVertexHandle::new(vertex as usize),
-        datum,
-    )))
+    Some(Request::Edit(Command::Put(FixedVertexHandle::new(vertex as usize), datum)))
 }
 
 /// Carries the command out.

@@ -25,8 +25,9 @@ pub fn carry_out<V, DE: Default, UE: Default, F: Default, A: Allocator>(
     ensures { Carries DE.is_default UE.is_default F.is_default limit dcel.old (Command.Split edge new_vertex) result dcel.new }
 {
     ask_edge_and_vertex(dcel, edge, new_vertex)?;
-    ask_triangle(dcel, edge)?;
-    ask_triangle(dcel, edge.rev())?;
+    let half_edge = dcel.directed_edge(edge);
+    ask_triangle(dcel, half_edge)?;
+    ask_triangle(dcel, half_edge.rev())?;
     ask(has_room(dcel, limit, 0, 3, 2), Refusal::NoRoom)?;
     let halves = split_edge(dcel, edge, new_vertex)?;
     Ok(Reply::Halves(halves))

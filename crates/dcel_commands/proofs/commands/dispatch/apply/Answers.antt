@@ -1,5 +1,5 @@
 use Rattle.std.proofs.Common.{ℕ, Ok, Err}
-use Rattle.std.specs.Prelude.{Result, IfOk, IfErr, OnOk}
+use Rattle.std.specs.Prelude.{◌≡◌, Result, IfOk, IfErr, OnOk, OnErr}
 use Rattle.dcel_commands.specs.declared.commands.command.Command.{Command}
 use Rattle.dcel_commands.specs.declared.commands.reply.Refused.{Refused}
 use Rattle.dcel_commands.specs.declared.commands.reply.Reply.{Reply}
@@ -32,9 +32,9 @@ carries g c = elim c.match-command.branch [
 -- what that says where the command was carried out, and where it was refused
 parts : {V DE UE F : Type 0} (is_half : DE → Type 0) (is_edge : UE → Type 0) (is_face : F → Type 0) (limit : ℕ) (old new : Mesh V DE UE F) (command : Command V) (outcome : Result Reply (Refused V))
     → Carries is_half is_edge is_face limit old command outcome new
-    → IfOk outcome (λ reply. Step is_half is_edge is_face old command reply new) × OnOk outcome (Legal old.shape limit command) × IfErr outcome (λ refused. IsRefusal old.shape limit command refused)
-parts is_half is_edge is_face limit old new command (Ok reply) c = (c.1, c.0, tt)
-parts is_half is_edge is_face limit old new command (Err refused) c = (tt, tt, c.0)
+    → IfOk outcome (λ reply. Step is_half is_edge is_face old command reply new) × OnOk outcome (Legal old.shape limit command) × IfErr outcome (λ refused. IsRefusal old.shape limit command refused) × OnErr outcome (new ≡ old)
+parts is_half is_edge is_face limit old new command (Ok reply) c = (c.1, c.0, tt, tt)
+parts is_half is_edge is_face limit old new command (Err refused) c = (tt, tt, c.0, c.1)
 
 pub returns-clause-step : goal.returns-clause-step
 returns-clause-step g c = (parts _ _ _ _ _ _ _ c.match-command.answer (carries g c)).0
@@ -44,3 +44,6 @@ returns-clause-legal g c = (parts _ _ _ _ _ _ _ c.match-command.answer (carries 
 
 pub returns-clause-refused : goal.returns-clause-refused
 returns-clause-refused g c = (parts _ _ _ _ _ _ _ c.match-command.answer (carries g c)).2
+
+pub returns-clause-unchanged : goal.returns-clause-unchanged
+returns-clause-unchanged g c = (parts _ _ _ _ _ _ _ c.match-command.answer (carries g c)).3
