@@ -128,7 +128,7 @@ fn a_flip_takes_no_memory(rt: HostRuntime) -> Result<(), Fail> {
     Ok(())
 }
 
-/// That of the edges with these numbers exactly some can be flipped.
+/// That of these edges those can be flipped of which it is said.
 fn assert_flippable(dcel: &Mesh, edges: &[(u32, bool)], rt: &impl Abort) {
     for (edge, can) in edges {
         assert_eq!(rt; dcel.can_flip(undirected_edge(*edge)), *can, "edge {edge}");
@@ -139,7 +139,11 @@ fn assert_flippable(dcel: &Mesh, edges: &[(u32, bool)], rt: &impl Abort) {
 fn some_edges_can_be_flipped(rt: HostRuntime) -> Result<(), Fail> {
     // Both corners opposite an edge are the third vertex.
     let alone: Mesh = new_triangle(rt.alloc(), (0, 1, 2))?;
-    assert_flippable(&alone, &[(0, false), (1, false), (2, false), (3, false)], &rt);
+    assert_flippable(
+        &alone,
+        &[(0, false), (1, false), (2, false), (3, false)],
+        &rt,
+    );
 
     let outside = [(6, false), (2_147_483_648, false), (u32::MAX, false)];
     let mut cut = cut_triangle(rt.alloc(), &rt)?;
@@ -148,9 +152,16 @@ fn some_edges_can_be_flipped(rt: HostRuntime) -> Result<(), Fail> {
     }
     assert_flippable(&cut, &outside, &rt);
 
-    // Vertex 0 has two edges then, and on both sides of each the corner opposite it is one vertex.
+    // Vertices 0 and 3 have two edges each then, and on both sides of these the opposite corner is one vertex.
     flip(&mut cut, undirected_edge(3), &rt);
-    let left = [(0, false), (1, true), (2, false), (3, true), (4, true), (5, true)];
+    let left = [
+        (0, false),
+        (1, true),
+        (2, false),
+        (3, true),
+        (4, false),
+        (5, false),
+    ];
     assert_flippable(&cut, &left, &rt);
     Ok(())
 }

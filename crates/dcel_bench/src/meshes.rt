@@ -2,12 +2,14 @@
 
 use spade_dcel::dcel::Dcel;
 use spade_dcel::handles::{
-    FixedDirectedEdgeHandle, FixedFaceHandle, FixedUndirectedEdgeHandle, FixedVertexHandle, InnerTag,
+    FixedDirectedEdgeHandle, FixedFaceHandle, FixedUndirectedEdgeHandle, FixedVertexHandle,
+    InnerTag,
 };
 use spade_dcel::operations::{
     NoMemory, append_unconnected_vertex, create_new_face_adjacent_to_edge,
     create_single_face_between_edge_and_next, extend_line, flip_cw, insert_into_triangle, new,
-    new_triangle,    setup_initial_two_vertices, split_edge, split_edge_when_all_vertices_on_line, split_half_edge,
+    new_triangle, setup_initial_two_vertices, split_edge, split_edge_when_all_vertices_on_line,
+    split_half_edge,
 };
 use std::alloc::{AllocError, Allocator, Global};
 use std::process::Abort;
@@ -163,11 +165,7 @@ pub fn split_both_sides<A: Allocator>(
 }
 
 /// Turns an edge between two triangles.
-pub fn flip<A: Allocator>(
-    dcel: &mut Mesh<A>,
-    edge: FixedUndirectedEdgeHandle,
-    rt: &impl Abort,
-) {
+pub fn flip<A: Allocator>(dcel: &mut Mesh<A>, edge: FixedUndirectedEdgeHandle, rt: &impl Abort) {
     assert!(rt; dcel.can_flip(edge));
     flip_cw(dcel, edge);
 }
