@@ -3,7 +3,9 @@
 ghost use Rattle.dcel_maps.specs.Shapes.{IsMesh};
 
 use crate::dcel::Dcel;
-pub use dcel_maps::laws::{two_swaps_change_nothing, two_triangles_are_no_sphere};
+pub use dcel_maps::laws::{
+    a_swap_of_one_vertex_changes_nothing, two_swaps_change_nothing, two_triangles_are_no_sphere,
+};
 use std::alloc::Allocator;
 
 /// Each mesh is sound, a sphere, anchored and sized.
