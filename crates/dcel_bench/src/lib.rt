@@ -42,6 +42,8 @@ pub mod refusing;
 mod rows;
 #[cfg(test)]
 mod splits;
+#[cfg(test)]
+mod swaps;
 pub mod texts;
 #[cfg(test)]
 mod transfers;

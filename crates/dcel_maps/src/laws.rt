@@ -24,3 +24,8 @@ pub fn two_swaps_change_nothing<V, DE, UE, F>()
         → vertex_is_live m.shape a ≡ true → vertex_is_live m.shape b ≡ true
         → vertices_swapped (vertices_swapped m a b) a b ≡ m }
 {}
+
+/// A vertex that is swapped with itself is what it was, and so is all else.
+pub fn a_swap_of_one_vertex_changes_nothing<V, DE, UE, F>()
+    ensures { (m : Mesh V DE UE F) (v : ℕ) → IsMesh m → vertex_is_live m.shape v ≡ true → vertices_swapped m v v ≡ m }
+{}

@@ -30,6 +30,9 @@ exchanged-other a b v not_a not_b = grind (arith, nat_tests)
 pub exchanged-exchanged : (a b v : ℕ) → exchanged a b (exchanged a b v) ≡ v
 exchanged-exchanged a b v = grind (arith, nat_tests)
 
+pub exchanged-same : (a v : ℕ) → exchanged a a v ≡ v
+exchanged-same a v = grind (arith, nat_tests)
+
 -- so different numbers stay different
 pub exchanged_apart : (a b v w : ℕ) → exchanged a b v ≡ exchanged a b w → v ≡ w
 exchanged_apart a b v w same = sym (exchanged-exchanged a b v) ∙ ap (exchanged a b) same ∙ exchanged-exchanged a b w
@@ -58,6 +61,11 @@ swap-swap l a b a_in b_in =
     get_or-swap (swap l a b) a b v d (omega (arith, a_in, long)) (omega (arith, b_in, long))
     ∙ get_or-swap l a b (exchanged a b v) d a_in b_in ∙ ap (λ w. slice_index_or l w d) (exchanged-exchanged a b v))
 
+swap-same : {A : Type 0} (l : List A) (i : ℕ) → i < length l → swap l i i ≡ l
+swap-same l i within =
+    same_lists (swap l i i) l (length-swap l i i) (λ v d below.
+    get_or-swap l i i v d within within ∙ ap (λ w. slice_index_or l w d) (exchanged-same i v))
+
 -- the origin of a live half edge is renamed, and the others stay
 pub length-renamed_origins : (s : Shape) (rename : ℕ → ℕ) → length (renamed_origins s rename) ≡ length s.origins
 length-renamed_origins s rename = length-map (enumerate_from 0 s.origins) _ ∙ length-enumerate_from 0 s.origins
@@ -70,6 +78,31 @@ renamed_origins-at s rename h within =
     get_or-map one (enumerate_from 0 s.origins) h (0, 0) 0 (omega (arith, within, length-enumerate_from 0 s.origins))
     ∙ ap one (get_or-enumerate_from 0 s.origins h (0, 0) within)
     ∙ ap (λ k. one (k, origin_of s h)) number
+
+-- names that are given and taken back, and names that are kept, leave the origins
+renamed_origins-twice : (s : Shape) (rename : ℕ → ℕ) → ((v : ℕ) → rename (rename v) ≡ v)
+    → renamed_origins (record s { origins = renamed_origins s rename }) rename ≡ s.origins
+renamed_origins-twice s rename back =
+    let once : Shape = record s { origins = renamed_origins s rename } in
+    let long = length-renamed_origins s rename in
+    let again = length-renamed_origins once rename in
+    ext_get_or 0 (renamed_origins once rename) s.origins (again ∙ long) (λ h below.
+    let within : h < length s.origins = omega (arith, below, again, long) in
+    renamed_origins-at once rename h (omega (arith, within, long))
+    ∙ ap (λ v. cond (edge_is_live s (h / 2)) (rename v) v) (renamed_origins-at s rename h within)
+    ∙ twice (edge_is_live s (h / 2)) (origin_of s h))
+  where
+    twice : (p : Bool) (v : ℕ) → cond p (rename (cond p (rename v) v)) (cond p (rename v) v) ≡ v
+    twice true v = back v
+    twice false v = refl
+
+renamed_origins-same : (s : Shape) (rename : ℕ → ℕ) → ((v : ℕ) → rename v ≡ v) → renamed_origins s rename ≡ s.origins
+renamed_origins-same s rename same =
+    let long = length-renamed_origins s rename in
+    ext_get_or 0 (renamed_origins s rename) s.origins long (λ h below.
+    renamed_origins-at s rename h (omega (arith, below, long))
+    ∙ cond_both (edge_is_live s (h / 2)) (rename (origin_of s h)) (origin_of s h) (λ v. v ≡ origin_of s h)
+    (λ live. same (origin_of s h)) (λ dead. refl))
 
 module _ {V DE UE F : Type 0} (m : Mesh V DE UE F) (mesh : IsMesh m) (a b : ℕ)
     (a_live : vertex_is_live m.shape a ≡ true) (b_live : vertex_is_live m.shape b ≡ true) where
@@ -178,25 +211,22 @@ module _ {V DE UE F : Type 0} (m : Mesh V DE UE F) (mesh : IsMesh m) (a b : ℕ)
   }
 
   -- two swaps of the same vertices change nothing
-  origins-twice : renamed_origins t (exchanged a b) ≡ s.origins
-  origins-twice =
-      let long = length-renamed_origins s (exchanged a b) in
-      ext_get_or 0 (renamed_origins t (exchanged a b)) s.origins (length-renamed_origins t (exchanged a b) ∙ long) (λ h below.
-      let within : h < length s.origins = omega (arith, below, length-renamed_origins t (exchanged a b), long) in
-      renamed_origins-at t (exchanged a b) h (omega (arith, within, long))
-      ∙ ap (λ v. cond (edge_is_live s (h / 2)) (exchanged a b v) v) (renamed_origins-at s (exchanged a b) h within)
-      ∙ twice (edge_is_live s (h / 2)) (origin_of s h))
-    where
-      twice : (p : Bool) (v : ℕ) → cond p (exchanged a b (cond p (exchanged a b v) v)) (cond p (exchanged a b v) v) ≡ v
-      twice true v = exchanged-exchanged a b v
-      twice false v = refl
-
   pub swapped-swapped : vertices_swapped (vertices_swapped m a b) a b ≡ m
   swapped-swapped =
       let anchors = mesh.sized.vertex_anchors in
-      let data_long = mesh.sized.vertex_data in
+      let vertices = mesh.sized.vertex_data in
       rw (
-        origins-twice,
+        renamed_origins-twice s (exchanged a b) (exchanged-exchanged a b),
         swap-swap m.vertex_anchors a b (omega (arith, a_below, anchors)) (omega (arith, b_below, anchors)),
-        swap-swap m.vertex_data a b (omega (arith, a_below, data_long)) (omega (arith, b_below, data_long)),
+        swap-swap m.vertex_data a b (omega (arith, a_below, vertices)) (omega (arith, b_below, vertices)),
       ) refl
+
+-- and so does one of a vertex with itself
+pub swapped-same : {V DE UE F : Type 0} (m : Mesh V DE UE F) → IsMesh m → (v : ℕ) → vertex_is_live m.shape v ≡ true → vertices_swapped m v v ≡ m
+swapped-same m mesh v live =
+    let below = (vertex_live-parts m.shape v live).0 in
+    rw (
+      renamed_origins-same m.shape (exchanged v v) (exchanged-same v),
+      swap-same m.vertex_anchors v (omega (arith, below, mesh.sized.vertex_anchors)),
+      swap-same m.vertex_data v (omega (arith, below, mesh.sized.vertex_data)),
+    ) refl
