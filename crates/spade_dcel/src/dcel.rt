@@ -112,7 +112,7 @@ impl<V, DE, UE, F, A: Allocator> Dcel<V, DE, UE, F, A> {
         VertexHandle::new(self, handle)
     }
 
-    /// The same where there is such a vertex, and else None.
+    /// The vertex with this number, borrowed, where the number is below [`num_vertices`](Self::num_vertices), and else None.
     #[inline]
     pub fn get_vertex(&self, handle: FixedVertexHandle) -> Option<VertexHandle<'_, V, DE, UE, F, A>>
         ensures some { IsSome result ↔ (handle < self.now.shape.vertices) }

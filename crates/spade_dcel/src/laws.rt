@@ -4,7 +4,8 @@ ghost use Rattle.dcel_maps.specs.Shapes.{IsMesh};
 
 use crate::dcel::Dcel;
 pub use dcel_maps::laws::{
-    four_flips_go_round, two_swaps_change_nothing, two_triangles_are_no_sphere,
+    a_swap_of_one_vertex_changes_nothing, four_flips_go_round, two_swaps_change_nothing,
+    two_triangles_are_no_sphere,
 };
 use std::alloc::Allocator;
 

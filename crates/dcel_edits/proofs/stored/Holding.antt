@@ -14,16 +14,16 @@ module _ {V DE UE F : Type 0} where
   pub holds : {s : Lists V DE UE F} {r : Removal} {m : Mesh V DE UE F} → IsStored s r → mesh_of s r ≡ m → Holds s r m
   holds stored is = record { stored = stored; is = is }
 
--- Lists with the links and the anchors of s, other data, as many of each kind, and other numbers of reserved places. Neither data nor
--- reserved places are part of what is true of the lists of a mesh.
-module _ {V DE UE F W DX UX G : Type 0} (s : Lists V DE UE F) (vertices : List W) (halves : List DX) (edges : List UX) (faces : List G) where
+-- The lists with other data, as many of each kind, and other numbers of reserved places: what is true of the lists of a mesh speaks
+-- of neither.
+module _ {V DE UE F V' DE' UE' F' : Type 0} (s : Lists V DE UE F) (vertices : List V') (halves : List DE') (edges : List UE') (faces : List F') where
   pub record AsMany : Type 0 where
     pub of_vertices : length vertices ≡ length s.vertex_data
     pub of_halves : length halves ≡ length s.directed_data
     pub of_edges : length edges ≡ length s.undirected_data
     pub of_faces : length faces ≡ length s.face_data
 
-  abbrev pub with_data : ℕ → ℕ → ℕ → Lists W DX UX G
+  abbrev pub with_data : ℕ → ℕ → ℕ → Lists V' DE' UE' F'
   with_data i j k = record {
     vertex_data = vertices;
     vertex_anchors = s.vertex_anchors;

@@ -4,6 +4,7 @@ use Rattle.dcel_fixed.specs.HalfEdges.{rev}
 use Rattle.dcel_maps.specs.Cyclic.{from_least}
 use Rattle.dcel_maps.specs.edits.Create.{first_edge_added, outer_alone, vertex_appended}
 use Rattle.dcel_maps.specs.edits.Rename.{vertices_swapped}
+use Rattle.dcel_maps.specs.edits.Data.{vertex_updated, directed_edge_updated}
 use Rattle.dcel_maps.specs.edits.Split.{edge_split, edge_split_on_line, half_edge_split}
 use Rattle.dcel_maps.specs.edits.Triangle.{triangle_alone, vertex_inserted}
 use Rattle.dcel_maps.specs.Removals.{Isolated, gives_up_edge}
@@ -45,6 +46,16 @@ words_twice = refl
 words_turned : (edge_split_on_line joined 1 2 (tt ∷ tt ∷ []) (tt ∷ [])).shape.words ≡ (0 ∷ 1 ∷ 2 ∷ 3 ∷ []) ∷ []
 unfolding from_least least_of rev
 words_turned = refl
+
+-- a triangle whose data are numbers: those of vertex 1 and of half edge 3 replaced
+abbrev numbered : Mesh ℕ ℕ ℕ ℕ
+numbered = triangle_alone (7, 8, 9) (0 ∷ 0 ∷ 0 ∷ 0 ∷ 0 ∷ 0 ∷ []) (0 ∷ 0 ∷ 0 ∷ []) (0 ∷ 0 ∷ [])
+
+vertex_written : (vertex_updated numbered 1 5).vertex_data ≡ 7 ∷ 5 ∷ 9 ∷ []
+vertex_written = refl
+
+half_written : (directed_edge_updated numbered 3 5).directed_data ≡ 0 ∷ 0 ∷ 0 ∷ 5 ∷ 0 ∷ 0 ∷ []
+half_written = refl
 
 -- a triangle and a fourth vertex, which is put into the edge of 0 and 1: on both sides, or on the outer one alone
 abbrev fourth : Bare
