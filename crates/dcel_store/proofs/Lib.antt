@@ -1,2 +1,3 @@
+pub mod Answering
 pub mod Pairs
 pub mod RecordLists

@@ -1,3 +1,4 @@
 pub mod HalfEdges
 pub mod Lists
 pub mod Records
+pub mod Whole

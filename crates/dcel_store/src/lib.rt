@@ -11,6 +11,8 @@ ghost use Rattle.std.specs.Borrow.{sem};
 ghost use Rattle.dcel_store.specs.Lists.{empty, LengthsAgree, HasPlaces};
 ghost use Rattle.dcel_store.specs.HalfEdges.{IsHalfEdge, LendsHalfEdge};
 
+mod whole;
+
 use dcel_fixed::{FixedDirectedEdgeHandle, FixedFaceHandle, FixedVertexHandle, PossiblyOuterTag};
 use std::alloc::{AllocError, Allocator, Global};
 use std::marker::Model;
@@ -32,7 +34,7 @@ pub struct HalfEdgeEntry {
 }
 
 /// The data of an edge: of its half edges, and of itself.
-#[derive(Drop, Default)]
+#[derive(Clone, Drop, Default)]
 pub struct EdgeData<DE, UE> {
     /// That of the normalized half edge.
     pub normalized: DE,
