@@ -126,10 +126,13 @@ impl<V: Clone, DE: Clone, UE: Clone, F: Clone, A: Allocator + Clone> Store<V, DE
     {
         let alloc_for_vertices = alloc.clone()?;
         let alloc_for_edges = alloc.clone()?;
+        let vertices = self.vertices.to_vec(alloc_for_vertices)?;
+        let edges = self.edges.to_vec(alloc_for_edges)?;
+        let faces = self.faces.to_vec(alloc)?;
         Ok(Store {
-            vertices: self.vertices.to_vec(alloc_for_vertices)?,
-            edges: self.edges.to_vec(alloc_for_edges)?,
-            faces: self.faces.to_vec(alloc)?,
+            vertices,
+            edges,
+            faces,
         })
     }
 }
