@@ -5,3 +5,4 @@ pub mod Line
 pub mod Outside
 pub mod Split
 pub mod Triangle
+pub mod Whole

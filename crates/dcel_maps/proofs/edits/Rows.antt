@@ -1,8 +1,8 @@
 -- Worked rows, computed from the definitions.
-use Rattle.std.proofs.Common.{◌≡◌, [], ◌∷◌, Some, None, refl}
+use Rattle.std.proofs.Common.{◌≡◌, ℕ, [], ◌∷◌, Some, None, refl}
 use Rattle.dcel_fixed.specs.HalfEdges.{rev}
 use Rattle.dcel_maps.specs.Cyclic.{from_least}
-use Rattle.dcel_maps.specs.edits.Create.{first_edge_added, outer_alone, vertex_appended}
+use Rattle.dcel_maps.specs.edits.Create.{first_edge_added, first_edge_alone, outer_alone, vertex_appended}
 use Rattle.dcel_maps.specs.edits.Split.{edge_split, edge_split_on_line, half_edge_split}
 use Rattle.dcel_maps.specs.edits.Triangle.{triangle_alone}
 use Rattle.dcel_maps.specs.Shapes.{Mesh}
@@ -77,3 +77,20 @@ origins_half = refl
 anchors_half : half.vertex_anchors ≡ Some 0 ∷ Some 9 ∷ Some 4 ∷ Some 8 ∷ []
 unfolding rev
 anchors_half = refl
+
+-- three vertices with the data 5, 6, 7, and an edge from vertex 2 to vertex 0
+abbrev fixed : Mesh ℕ (Unit {0}) (Unit {0}) (Unit {0})
+fixed = first_edge_alone (5 ∷ 6 ∷ 7 ∷ []) 2 0 (tt ∷ tt ∷ []) (tt ∷ []) (tt ∷ [])
+
+words_fixed : fixed.shape.words ≡ (0 ∷ 1 ∷ []) ∷ []
+words_fixed = refl
+
+origins_fixed : fixed.shape.origins ≡ 2 ∷ 0 ∷ []
+origins_fixed = refl
+
+anchors_fixed : fixed.vertex_anchors ≡ Some 1 ∷ None ∷ Some 0 ∷ []
+anchors_fixed = refl
+
+-- it is what the first edge makes of these vertices
+first_edge_fixed : first_edge_added (vertex_appended (vertex_appended (vertex_appended (outer_alone tt) 5) 6) 7) 2 0 (tt ∷ tt ∷ []) (tt ∷ []) ≡ fixed
+first_edge_fixed = refl
