@@ -10,3 +10,4 @@ pub mod Inserting
 pub mod Lines
 pub mod Splits
 pub mod SplittingTriangles
+pub mod Whole

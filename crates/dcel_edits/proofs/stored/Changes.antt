@@ -64,7 +64,7 @@ module _ {V DE UE F : Type 0} where
   pub held_mesh : (s : Lists V DE UE F) (r : Removal) (m : Mesh V DE UE F) → Holds s r m → IsMesh m
   held_mesh s r m held = subst (λ (u : Mesh V DE UE F). IsMesh u) held.is (mesh-is-mesh s r held.stored)
 
-  held_removal : (s : Lists V DE UE F) (r : Removal) (m : Mesh V DE UE F) → Holds s r m → m.shape.removal ≡ r
+  pub held_removal : (s : Lists V DE UE F) (r : Removal) (m : Mesh V DE UE F) → Holds s r m → m.shape.removal ≡ r
   held_removal s r m held = sym (ap (λ (u : Mesh V DE UE F). u.shape.removal) held.is)
 
 -- the numbers of a mesh are in range in the lists that hold it
