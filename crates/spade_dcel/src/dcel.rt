@@ -10,6 +10,8 @@ ghost use Rattle.dcel_maps.specs.Shapes.{IsLive, vertex_is_live, edge_is_live, f
 ghost use Rattle.dcel_maps.specs.Walking.{Leads, edge_between};
 ghost use Rattle.dcel_maps.specs.Words.{word_of};
 
+mod whole;
+
 use crate::handles::{DirectedEdgeHandle, FaceHandle, VertexHandle};
 use crate::removal::RemovalRecord;
 use dcel_fixed::{

@@ -113,9 +113,6 @@ module _ {V DE UE F : Type 0} (vertices : List V) (face : F) (i j k a b : ℕ) (
     closed-vertex_live fixed_mesh.shape refl b (omega (arith, b_in)),
   )
 
-  pub fixed_can : 0 < j → CanBegin fixed a b
-  fixed_can place = let (held, a_live, b_live) = fixed_hold in begin_can held a b a_live b_live place
-
   pub fixed_begun : a ≢ b → {is_half : DE → Type 0} {is_edge : UE → Type 0} {is_face : F → Type 0} {t : Lists V DE UE F} → is_face face
       → AddsEdge is_half is_edge t (first_edge_stored fixed a b) → HoldsAdded is_half is_edge is_face 1 1 t Closed (first_edge_alone vertices a b)
   fixed_begun apart {is_face = is_face} default added =
