@@ -13,3 +13,4 @@ pub mod Lines
 pub mod Renaming
 pub mod Splits
 pub mod SplittingTriangles
+pub mod Whole

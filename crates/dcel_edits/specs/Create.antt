@@ -1,9 +1,17 @@
--- What writing a first edge leaves in the stored lists, and where it can be written.
-use Rattle.std.specs.Prelude.{ℕ, ◌<◌, List, [], ◌∷◌, ◌++◌, length, slice_set, Some}
+-- What writing vertices and a first edge leaves in the stored lists, and where the edge can be written.
+use Rattle.std.specs.Prelude.{ℕ, ◌-◌, ◌<◌, List, [], ◌∷◌, ◌++◌, length, replicate, slice_set, Some, None}
 use Rattle.dcel_store.specs.Lists.{Lists}
 use Rattle.dcel_edits.specs.Adding.{adding_edges}
 
 module _ {V DE UE F : Type 0} where
+  -- more vertices, without anchors
+  abbrev pub vertices_stored : Lists V DE UE F → List V → Lists V DE UE F
+  vertices_stored s vertices = record s {
+    vertex_data = s.vertex_data ++ vertices;
+    vertex_anchors = s.vertex_anchors ++ replicate (length vertices) None;
+    vertex_room = s.vertex_room - length vertices;
+  }
+
   -- edge 0 from a to b, on the outer face
   abbrev pub first_edge_stored : Lists V DE UE F → ℕ → ℕ → List DE → List UE → Lists V DE UE F
   first_edge_stored s a b halves edges = record (adding_edges s 1 halves edges) {

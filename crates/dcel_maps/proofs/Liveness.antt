@@ -69,7 +69,12 @@ IsWithin-closed vertices edges faces = record {
   faces = λ f given. absurd (false≢true (sym (gives_up_face-closed f) ∙ given));
 }
 
--- and each edge in range is live
+-- and each vertex in range is live
+pub closed-vertex_live : (s : Shape) → s.removal ≡ Closed → (v : ℕ) → v < s.vertices → vertex_is_live s v ≡ true
+closed-vertex_live s closed v below =
+    is_live-from (gives_up_vertex s.removal) s.vertices v below (ap (λ r. gives_up_vertex r v) closed ∙ gives_up_vertex-closed v)
+
+-- and each edge
 pub closed-live : (s : Shape) → s.removal ≡ Closed → (u : ℕ) → u < s.edges → edge_is_live s u ≡ true
 closed-live s closed u below =
     is_live-from (gives_up_edge s.removal) s.edges u below (ap (λ r. gives_up_edge r u) closed ∙ gives_up_edge-closed u)

@@ -21,3 +21,4 @@ pub mod Alone
 pub mod Appending
 pub mod Beginning
 pub mod FirstTriangle
+pub mod Whole

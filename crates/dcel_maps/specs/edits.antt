@@ -8,3 +8,4 @@ pub mod Outside
 pub mod Rename
 pub mod Split
 pub mod Triangle
+pub mod Whole

@@ -1,3 +1,4 @@
+pub mod Answering
 pub mod DataLists
 pub mod Exchanges
 pub mod Pairs

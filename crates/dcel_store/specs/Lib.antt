@@ -2,3 +2,4 @@ pub mod Data
 pub mod HalfEdges
 pub mod Lists
 pub mod Records
+pub mod Whole

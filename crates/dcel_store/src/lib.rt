@@ -13,6 +13,7 @@ ghost use Rattle.dcel_store.specs.HalfEdges.{IsHalfEdge, LendsHalfEdge};
 
 mod data;
 mod swap;
+mod whole;
 
 use dcel_fixed::{FixedDirectedEdgeHandle, FixedFaceHandle, FixedVertexHandle, PossiblyOuterTag};
 use std::alloc::{AllocError, Allocator, Global};
@@ -35,7 +36,7 @@ pub struct HalfEdgeEntry {
 }
 
 /// The data of an edge: of its half edges, and of itself.
-#[derive(Drop, Default)]
+#[derive(Clone, Drop, Default)]
 pub struct EdgeData<DE, UE> {
     /// That of the normalized half edge.
     pub normalized: DE,

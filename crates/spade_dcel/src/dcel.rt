@@ -12,6 +12,7 @@ ghost use Rattle.dcel_maps.specs.Words.{word_of};
 
 mod data;
 mod elements;
+mod whole;
 
 use crate::handles::{DirectedEdgeHandle, FaceHandle, UndirectedEdgeHandle, VertexHandle};
 use crate::removal::RemovalRecord;

@@ -10,7 +10,9 @@ mod split;
 mod split_triangles;
 mod triangle;
 
-pub use create::{append_unconnected_vertex, new, setup_initial_two_vertices};
+pub use create::{
+    append_unconnected_vertex, new, new_with_fixed_vertices, setup_initial_two_vertices,
+};
 pub use flip::flip_cw;
 pub use line::extend_line;
 pub use outside::{create_new_face_adjacent_to_edge, create_single_face_between_edge_and_next};

@@ -1,20 +1,23 @@
 -- What the writes leave that begin a mesh holds it: the outer face alone, a vertex more, the first edge, a triangle.
-use Rattle.std.proofs.Common.{◌≡◌, ◌≢◌, ℕ, ◌-◌, ◌*◌, ◌<◌, true, List, [], ◌∷◌, ◌++◌, length, None, append-nil, refl, ap, arith}
+use Rattle.std.proofs.Common.{◌≡◌, ◌≢◌, ℕ, ◌-◌, ◌*◌, ◌^◌, ◌<◌, ◌≤◌, true, List, [], ◌∷◌, length, None, append-nil, zero-add, refl, ap, arith}
 use Rattle.std.proofs.Math.Nat.{sub-zero}
+use Rattle.std.proofs.lemmas.List.Elements.{All-cons, All-nil}
 use Rattle.dcel_store.specs.Lists.{Lists, empty}
 use Rattle.dcel_maps.specs.edits.DefaultData.{AddsEdge, AddsEdgesAndFaces}
 use Rattle.dcel_maps.specs.Conditions.{HasRoom}
-use Rattle.dcel_maps.specs.edits.Create.{first_edge_added, outer_alone, vertex_appended}
+use Rattle.dcel_maps.specs.edits.Create.{first_edge_added, first_edge_alone, outer_alone, vertex_appended}
 use Rattle.dcel_maps.specs.edits.Triangle.{triangle_alone}
 use Rattle.dcel_maps.specs.Removals.{Closed, Removal}
 use Rattle.dcel_maps.specs.Shapes.{IsMesh, Mesh, vertex_is_live}
 use Rattle.dcel_maps.specs.Walks.{anchored_word, anchored_words}
+use Rattle.dcel_maps.proofs.Liveness.{closed-vertex_live}
+use Rattle.dcel_maps.proofs.edits.Adding.{adds_faces}
 use Rattle.dcel_maps.proofs.edits.Alone.{alone_is_mesh, no_half_alone}
-use Rattle.dcel_maps.proofs.edits.Appending.{appending, appending_is, appending_is_edit}
+use Rattle.dcel_maps.proofs.edits.Appending.{appending, appending_is, appending_is_edit, vertices_appended}
 use Rattle.dcel_maps.proofs.edits.Beginning.{beginning, beginning_is, beginning_is_edit}
 use Rattle.dcel_maps.proofs.edits.Changes.{Change}
 use Rattle.dcel_maps.proofs.edits.FirstTriangle.{first_triangle, first_triangle_is_edit}
-use Rattle.dcel_edits.specs.Create.{CanBegin, first_edge_stored}
+use Rattle.dcel_edits.specs.Create.{CanBegin, first_edge_stored, vertices_stored}
 use Rattle.dcel_edits.specs.Triangle.{triangle_stored}
 use Rattle.dcel_edits.proofs.stored.Changes.{HoldsAdded, HoldsEdge, added_holds, change_holds, edge_holds, held_lists, held_mesh, held_vertex, lists_from_links, written}
 use Rattle.dcel_edits.proofs.stored.Held.{lists_hold}
@@ -50,16 +53,17 @@ module _ {V DE UE F : Type 0} where
         face = λ h live. absurd (no_half_alone h live);
       })
 
-  -- a vertex pushed
-  abbrev pub appended : Lists V DE UE F → V → Lists V DE UE F
-  appended s datum = record s { vertex_data = s.vertex_data ++ datum ∷ []; vertex_anchors = s.vertex_anchors ++ None ∷ []; vertex_room = s.vertex_room - 1 }
+  -- vertices pushed, and one alone
+  vertices_hold : {s : Lists V DE UE F} {r : Removal} {m : Mesh V DE UE F} → Holds s r m → (vertices : List V)
+      → HasRoom m.shape (length vertices) 0 0 → Holds (vertices_stored s vertices) r (vertices_appended m vertices)
+  vertices_hold {s = s} {r = r} {m = m} held vertices room =
+      let read : vertices_stored s vertices ≡ written s (appending vertices) = simp (append-nil, sub-zero) refl in
+      rw (read, ← appending_is m vertices)
+      (change_holds s r m (appending vertices) held (appending_is_edit m vertices (held_mesh s r m held) room))
 
   pub append_holds : {s : Lists V DE UE F} {r : Removal} {m : Mesh V DE UE F} → Holds s r m → HasRoom m.shape 1 0 0 → (datum : V)
-      → Holds (appended s datum) r (vertex_appended m datum)
-  append_holds {s = s} {r = r} {m = m} held room datum =
-      let read : appended s datum ≡ written s (appending datum) = simp (append-nil, sub-zero) refl in
-      rw (read, ← appending_is m datum)
-      (change_holds s r m (appending datum) held (appending_is_edit m datum (held_mesh s r m held) room))
+      → Holds (vertices_stored s (datum ∷ [])) r (vertex_appended m datum)
+  append_holds held room datum = vertices_hold held (datum ∷ []) room
 
 -- the first edge
 pub begin_can : {V DE UE F : Type 0} {s : Lists V DE UE F} {r : Removal} {m : Mesh V DE UE F} → Holds s r m → (a b : ℕ)
@@ -91,6 +95,31 @@ module _ {V DE UE F : Type 0} {s : Lists V DE UE F} {r : Removal} {m : Mesh V DE
       (λ halves edges two one.
       (beginning_is m mesh none a b halves edges, beginning_is_edit m mesh none a b halves edges a_live b_live apart room two one))
       added
+
+-- vertices in an empty mesh, and the first edge between two of them
+module _ {V DE UE F : Type 0} (vertices : List V) (face : F) (i j k a b : ℕ) (a_in : a < length vertices) (b_in : b < length vertices)
+    (few : length vertices ≤ 2 ^ 32) where
+  abbrev fixed : Lists V DE UE F
+  fixed = vertices_stored (face_alone face i j k) vertices
+
+  abbrev fixed_mesh : Mesh V DE UE F
+  fixed_mesh = vertices_appended (outer_alone face) vertices
+
+  -- they hold a mesh, and the two are live there
+  fixed_hold : Holds fixed Closed fixed_mesh × (vertex_is_live fixed_mesh.shape a ≡ true) × (vertex_is_live fixed_mesh.shape b ≡ true)
+  fixed_hold = (
+    vertices_hold (new_holds face i j k) vertices record { for_vertices = omega (arith, few); for_edges = omega arith; for_faces = omega arith },
+    closed-vertex_live fixed_mesh.shape refl a (omega (arith, a_in)),
+    closed-vertex_live fixed_mesh.shape refl b (omega (arith, b_in)),
+  )
+
+  pub fixed_begun : a ≢ b → {is_half : DE → Type 0} {is_edge : UE → Type 0} {is_face : F → Type 0} {t : Lists V DE UE F} → is_face face
+      → AddsEdge is_half is_edge t (first_edge_stored fixed a b) → HoldsAdded is_half is_edge is_face 1 1 t Closed (first_edge_alone vertices a b)
+  fixed_begun apart {is_face = is_face} default added =
+      let (held, a_live, b_live) = fixed_hold in
+      let room : HasRoom fixed_mesh.shape 0 1 0 = record { for_vertices = omega (arith, few); for_edges = omega arith; for_faces = omega arith } in
+      let edge = begun held a b refl a_live b_live apart room added in
+      record { stored = edge.stored; edit = adds_faces edge.edit (face ∷ []) (All-cons is_face face [] default (All-nil is_face)) (λ halves edges. rw (zero-add (length vertices)) refl) }
 
 -- a triangle
 module _ {V DE UE F : Type 0} (s : Lists V DE UE F) (vertices : V × V × V) where

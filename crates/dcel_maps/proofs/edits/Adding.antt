@@ -79,3 +79,21 @@ pub adds_edge : {X DE UE : Type 0} (is_half : DE → Type 0) (is_edge : UE → T
     → is_half first × (is_half second × is_edge both) → x ≡ edit (first ∷ second ∷ []) (both ∷ []) → AddsEdge is_half is_edge x edit
 adds_edge is_half is_edge {first} {second} {both} edit default is =
     adds_edges_and_faces is_half is_edge (λ face. Unit {0}) (λ halves edges faces. edit halves edges) ((first, second, both) ∷ []) [] (default, tt) (All-nil _) is
+
+-- one edge, and faces
+pub adds_faces : {X DE UE F : Type 0} {is_half : DE → Type 0} {is_edge : UE → Type 0} {is_face : F → Type 0} {x : X} {add : List DE → List UE → X}
+    {edit : List DE → List UE → List F → X} → AddsEdge is_half is_edge x add → (faces : List F) → All is_face faces
+    → ((halves : List DE) (edges : List UE) → add halves edges ≡ edit halves edges faces)
+    → AddsEdgesAndFaces is_half is_edge is_face 1 (length faces) x edit
+adds_faces added faces default same = record {
+  directed_data = added.directed_data;
+  undirected_data = added.undirected_data;
+  face_data = faces;
+  directed_count = added.directed_count;
+  undirected_count = added.undirected_count;
+  face_data_count = refl;
+  directed_default = added.directed_default;
+  undirected_default = added.undirected_default;
+  face_default = default;
+  is = added.is ∙ same added.directed_data added.undirected_data;
+}

@@ -1,21 +1,29 @@
--- A vertex put last.
-use Rattle.std.proofs.Common.{◌≡◌, inl, ℕ, ◌/◌, [], ◌∷◌, None, add-zero, append-nil, refl, sym, ◌∙◌, arith}
+-- Vertices put last.
+use Rattle.std.proofs.Common.{◌≡◌, inl, ℕ, ◌+◌, ◌/◌, List, [], ◌++◌, length, replicate, None, add-zero, append-nil, refl, sym, ◌∙◌, arith}
+use Rattle.std.proofs.lemmas.List.{length-replicate}
 use Rattle.dcel_maps.specs.Conditions.{HasRoom}
-use Rattle.dcel_maps.specs.edits.Create.{vertex_appended}
 use Rattle.dcel_maps.specs.Maps.{Live, Map}
 use Rattle.dcel_maps.specs.theory.Sound.{Sound, Sphere}
 use Rattle.dcel_maps.specs.Shapes.{IsLive, IsMesh, Mesh, map_of, origin_of}
 use Rattle.dcel_maps.proofs.edits.Changes.{Change, IsEdit, changed, fits_with, map_after}
 use Rattle.dcel_maps.proofs.edits.Growing.{after-edge, after-face, after-next, after-origin, after-prev, still_labelled}
-use Rattle.dcel_maps.proofs.edits.Patches.{pushing, replacing}
+use Rattle.dcel_maps.proofs.edits.Patches.{each_from-replicate, pushing, replacing}
 use Rattle.dcel_maps.proofs.edits.Starting.{starts-still}
 use Rattle.dcel_maps.proofs.maps.Agreement.{Extends, extends_keeps}
+use Rattle.dcel_maps.proofs.maps.Labels.{Labelled}
 use Rattle.dcel_maps.proofs.shapes.Maps.{map-sound, map-sphere}
 
--- one more vertex, without an anchor
-abbrev pub appending : {V DE UE F : Type 0} → V → Change V DE UE F
-appending datum = record {
-  vertices = 1;
+-- the mesh with more vertices, last, without anchors
+abbrev pub vertices_appended : {V DE UE F : Type 0} → Mesh V DE UE F → List V → Mesh V DE UE F
+vertices_appended m vertices = record m {
+  shape = record m.shape { vertices = m.shape.vertices + length vertices };
+  vertex_anchors = m.vertex_anchors ++ replicate (length vertices) None;
+  vertex_data = m.vertex_data ++ vertices;
+}
+
+abbrev pub appending : {V DE UE F : Type 0} → List V → Change V DE UE F
+appending vertices = record {
+  vertices = length vertices;
   edges = 0;
   faces = 0;
   words = replacing [];
@@ -23,22 +31,22 @@ appending datum = record {
   prev = replacing [];
   origin = replacing [];
   face = replacing [];
-  vertex_anchors = pushing (None ∷ []);
+  vertex_anchors = pushing (replicate (length vertices) None);
   face_anchors = replacing [];
-  vertex_data = datum ∷ [];
+  vertex_data = vertices;
   directed_data = [];
   undirected_data = [];
   face_data = [];
 }
 
-module _ {V DE UE F : Type 0} (m : Mesh V DE UE F) (datum : V) where
+module _ {V DE UE F : Type 0} (m : Mesh V DE UE F) (vertices : List V) where
   abbrev c : Change V DE UE F
-  c = appending datum
+  c = appending vertices
 
-  pub appending_is : changed m c ≡ vertex_appended m datum
+  pub appending_is : changed m c ≡ vertices_appended m vertices
   appending_is = simp (add-zero, append-nil) refl
 
-  module _ (mesh : IsMesh m) (room : HasRoom m.shape 1 0 0) where
+  module _ (mesh : IsMesh m) (room : HasRoom m.shape (length vertices) 0 0) where
     abbrev S : Map
     S = map_of m.shape
 
@@ -69,7 +77,7 @@ module _ {V DE UE F : Type 0} (m : Mesh V DE UE F) (datum : V) where
     pub appending_is_edit : IsEdit m c
     appending_is_edit = record {
       room = room;
-      fits = fits_with c refl refl refl refl refl refl refl refl refl refl refl;
+      fits = fits_with c (length-replicate (length vertices) None) refl refl refl refl refl refl refl refl refl refl;
       on_live = record { next = tt; prev = tt; origin = tt; face = tt };
       sound = keeps.0;
       sphere = keeps.1;
@@ -85,13 +93,11 @@ module _ {V DE UE F : Type 0} (m : Mesh V DE UE F) (datum : V) where
       };
       outer = λ u live off. (u, sym (edge u) ∙ live);
       vertex_anchors = tt;
-      new_vertex_anchors = (
-        λ h live at.
-            let here = was h live in
-            let below = (map-sound mesh.sound).below_vertices h here in
-            omega (arith, below, sym (after-origin m.shape c h here) ∙ at),
-        tt,
-      );
+      new_vertex_anchors = each_from-replicate (Labelled T T.origin) None m.shape.vertices m.shape.vertices (length vertices) (omega arith)
+          (λ v past h live at.
+          let here = was h live in
+          let below = (map-sound mesh.sound).below_vertices h here in
+          omega (arith, below, past, sym (after-origin m.shape c h here) ∙ at));
       other_vertices = λ v v_in off. still_labelled m.shape c (origin_of m.shape) T.origin v (after-origin m.shape c) tt;
       face_anchors = tt;
       new_face_anchors = tt;

@@ -1,5 +1,5 @@
 -- Lists with some items replaced and more put at the end; and functions of numbers that are changed in the same way.
-use Rattle.std.proofs.Common.{◌≡◌, ◌≢◌, inl, inr, ℕ, zero, suc, ◌+◌, ◌-◌, ◌<◌, ◌≤◌, List, [], ◌∷◌, ◌++◌, length, map, slice_index, slice_index_or, slice_set, nat_lt, cond, lt-ltb, le-ltb, refl, sym, ap, ◌∙◌, subst, arith}
+use Rattle.std.proofs.Common.{◌≡◌, ◌≢◌, inl, inr, ℕ, zero, suc, ◌+◌, ◌-◌, ◌<◌, ◌≤◌, List, [], ◌∷◌, ◌++◌, length, map, replicate, slice_index, slice_index_or, slice_set, nat_lt, cond, lt-ltb, le-ltb, refl, sym, ap, ◌∙◌, subst, arith}
 use Rattle.std.proofs.lemmas.Bool.{cases_eq, cases_lt, cond-true, cond-false}
 use Rattle.std.proofs.lemmas.List.{ext_get_or, get_or-map, get_or-set_same, get_or-set_other, get_or_append_left, get_or-append-add, length-append, length-map, length-set}
 use Rattle.dcel_maps.proofs.maps.Updates.{put, put_other, put_same}
@@ -49,6 +49,11 @@ each_from-weaker P Q gives n (a ∷ r) each = (gives n a each.0, each_from-weake
 pub each_from-past : {A : Type 0} (P : ℕ → A → Type 0) (b n : ℕ) (l : List A) → b ≤ n → EachFrom P n l → EachFrom (λ k a. (b ≤ k) × P k a) n l
 each_from-past P b n [] past each = tt
 each_from-past P b n (a ∷ r) past each = ((past, each.0), each_from-past P b (n + 1) r (omega (arith, past)) each.1)
+
+-- the same item again and again
+pub each_from-replicate : {A : Type 0} (P : ℕ → A → Type 0) (a : A) (b n k : ℕ) → b ≤ n → ((i : ℕ) → b ≤ i → P i a) → EachFrom P n (replicate k a)
+each_from-replicate P a b n zero past each = tt
+each_from-replicate P a b n (suc k) past each = (each n past, each_from-replicate P a b (n + 1) k (omega (arith, past)) each)
 
 pub length-replaced : {A : Type 0} (l : List A) (cs : List (ℕ × A)) → length (replaced l cs) ≡ length l
 length-replaced l [] = refl

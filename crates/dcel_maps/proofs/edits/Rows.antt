@@ -2,7 +2,7 @@
 use Rattle.std.proofs.Common.{◌≡◌, ℕ, [], ◌∷◌, Some, None, replicate, refl}
 use Rattle.dcel_fixed.specs.HalfEdges.{rev}
 use Rattle.dcel_maps.specs.Cyclic.{from_least}
-use Rattle.dcel_maps.specs.edits.Create.{first_edge_added, outer_alone, vertex_appended}
+use Rattle.dcel_maps.specs.edits.Create.{first_edge_added, first_edge_alone, outer_alone, vertex_appended}
 use Rattle.dcel_maps.specs.edits.Rename.{vertices_swapped}
 use Rattle.dcel_maps.specs.edits.Data.{vertex_updated, directed_edge_updated}
 use Rattle.dcel_maps.specs.edits.Split.{edge_split, edge_split_on_line, half_edge_split}
@@ -139,3 +139,20 @@ opened = record triangle {
 origins_opened : (vertices_swapped opened 0 1).shape.origins ≡ 1 ∷ 0 ∷ 0 ∷ 0 ∷ 2 ∷ 1 ∷ []
 unfolding gives_up_edge
 origins_opened = refl
+
+-- three vertices with the data 5, 6, 7, and an edge from vertex 2 to vertex 0
+abbrev fixed : Mesh ℕ (Unit {0}) (Unit {0}) (Unit {0})
+fixed = first_edge_alone (5 ∷ 6 ∷ 7 ∷ []) 2 0 (tt ∷ tt ∷ []) (tt ∷ []) (tt ∷ [])
+
+words_fixed : fixed.shape.words ≡ (0 ∷ 1 ∷ []) ∷ []
+words_fixed = refl
+
+origins_fixed : fixed.shape.origins ≡ 2 ∷ 0 ∷ []
+origins_fixed = refl
+
+anchors_fixed : fixed.vertex_anchors ≡ Some 1 ∷ None ∷ Some 0 ∷ []
+anchors_fixed = refl
+
+-- it is what the first edge makes of these vertices
+first_edge_fixed : first_edge_added (vertex_appended (vertex_appended (vertex_appended (outer_alone tt) 5) 6) 7) 2 0 (tt ∷ tt ∷ []) (tt ∷ []) ≡ fixed
+first_edge_fixed = refl

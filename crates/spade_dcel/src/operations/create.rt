@@ -1,15 +1,15 @@
 //! A mesh, its vertices and its first edge.
 
-ghost use Rattle.std.specs.Prelude.{◌≡◌, ◌≢◌, IfOk, IfErr, OnErr, OnOk, true};
+ghost use Rattle.std.specs.Prelude.{◌≡◌, ◌≢◌, ◌^◌, ◌<◌, ◌≤◌, IfOk, IfErr, OnErr, OnOk, true, vec_len};
 ghost use Rattle.dcel_maps.specs.Conditions.{HasRoom};
-ghost use Rattle.dcel_maps.specs.edits.Create.{IsNew, vertex_appended, first_edge_added};
-ghost use Rattle.dcel_maps.specs.edits.DefaultData.{AddsEdge};
+ghost use Rattle.dcel_maps.specs.edits.Create.{IsNew, first_edge_added, first_edge_alone, vertex_appended};
+ghost use Rattle.dcel_maps.specs.edits.DefaultData.{AddsEdge, AddsEdgesAndFaces};
 ghost use Rattle.dcel_maps.specs.Shapes.{IsMesh, vertex_is_live};
 
 use crate::dcel::Dcel;
 use crate::operations::NoMemory;
 use crate::removal::RemovalRecord;
-use dcel_edits::create::put_first_edge;
+use dcel_edits::create::{put_first_edge, put_vertices};
 use dcel_fixed::FixedVertexHandle;
 use dcel_store::Store;
 use std::alloc::{AllocError, Allocator};
@@ -24,6 +24,45 @@ pub fn new<V: Drop, DE: Drop, UE: Drop, F: Default + Drop, A: Allocator + Clone>
     let mut store = Store::new(alloc)?;
     store.reserve(0, 0, 1)?;
     store.push_face(F::default(), None);
+    Ok(Dcel {
+        store,
+        removal: RemovalRecord::Closed,
+    })
+}
+
+/// A mesh of these vertices and of edge 0 between two of them: half edge 0 leads from `first_vertex` to `second_vertex`, and 1 back, and
+/// both lie on the outer face. It asks for two different numbers below that of the vertices, which is at most 2^32. Without memory it
+/// hands the vertices back.
+pub fn new_with_fixed_vertices<
+    V: Drop,
+    DE: Default + Drop,
+    UE: Default + Drop,
+    F: Default + Drop,
+    A: Allocator + Clone,
+>(
+    alloc: A,
+    vertices: Vec<V, A>,
+    first_vertex: FixedVertexHandle,
+    second_vertex: FixedVertexHandle,
+) -> Result<Dcel<V, DE, UE, F, A>, NoMemory<Vec<V, A>>>
+    requires first_in { first_vertex < vec_len vertices }
+    requires second_in { second_vertex < vec_len vertices }
+    requires apart { first_vertex ≢ second_vertex }
+    requires few { vec_len vertices ≤ 2 ^ 32 }
+    ensures edge { IfOk result (λ dcel. AddsEdgesAndFaces DE.is_default UE.is_default F.is_default 1 1 dcel (first_edge_alone vertices.items first_vertex second_vertex)) }
+    ensures back { IfErr result (λ refused. refused.back ≡ vertices) }
+    ensures mesh { IfOk result IsMesh }
+{
+    let mut store = match Store::new(alloc) {
+        Ok(store) => store,
+        Err(_) => return Err(NoMemory { back: vertices }),
+    };
+    if store.reserve(vertices.len(), 1, 1).is_err() {
+        return Err(NoMemory { back: vertices });
+    }
+    store.push_face(F::default(), None);
+    put_vertices(&mut store, vertices);
+    put_first_edge(&mut store, first_vertex, second_vertex);
     Ok(Dcel {
         store,
         removal: RemovalRecord::Closed,
