@@ -42,3 +42,5 @@ pub mod texts;
 mod transfers;
 #[cfg(test)]
 mod triangles;
+#[cfg(test)]
+mod walks_both_ends;

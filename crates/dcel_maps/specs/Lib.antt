@@ -9,6 +9,7 @@ pub mod Conditions
 pub mod edits
 pub mod Checked
 pub mod Kinds
+pub mod Numbers
 pub mod Walking
 pub mod Laws
 pub mod Examples
