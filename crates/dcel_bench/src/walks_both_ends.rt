@@ -145,25 +145,23 @@ fn test_cw_iterator(rt: HostRuntime) -> Result<(), Fail> {
     let dcel = cut_triangle(rt.alloc(), &rt)?;
     let handle = vertex(0);
     assert!(rt; handle.index() < dcel.num_vertices());
-    let out = dcel.vertex(handle);
-    assert_eq!(rt; out.out_edges().count(), 3);
-    assert_eq!(rt; out.out_edges().rev().count(), 3);
+    let start = dcel.vertex(handle);
+    assert_eq!(rt; start.out_edges().count(), 3);
+    assert_eq!(rt; start.out_edges().rev().count(), 3);
 
-    let mut backwards = [half_edge(0); 3];
-    let mut left = 3;
-    for edge in out.out_edges().rev() {
-        assert!(rt; dcel.is_live_edge(edge.as_undirected().fix()));
-        assert_eq!(rt; edge.from().fix(), handle);
-        assert!(rt; left > 0);
-        left -= 1;
-        backwards[left] = edge.fix();
-    }
-    let mut index = 0;
-    for edge in out.out_edges() {
-        assert!(rt; dcel.is_live_edge(edge.as_undirected().fix()));
-        assert_eq!(rt; edge.from().fix(), handle);
-        assert_eq!(rt; backwards.get(index), Some(&edge.fix()));
-        index += 1;
+    // The list from the back is the list reversed.
+    for (place, place_from_the_back) in [(0, 2), (1, 1), (2, 0)] {
+        let edge = start
+            .out_edges()
+            .nth(place)
+            .expect(&rt, "no third edge")
+            .fix();
+        let from_the_back = start.out_edges().nth_back(place_from_the_back);
+        assert_eq!(rt; from_the_back.map(|edge| edge.fix()), Some(edge));
+
+        assert!(rt; edge.index() < dcel.num_directed_edges());
+        assert!(rt; dcel.is_live_edge(edge.as_undirected()));
+        assert_eq!(rt; dcel.directed_edge(edge).from().fix(), handle);
     }
     Ok(())
 }
