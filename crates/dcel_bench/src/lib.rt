@@ -29,6 +29,7 @@ mod memoryless_rows;
 mod meshes;
 #[cfg(test)]
 mod outside;
+pub mod own_steps;
 #[cfg(test)]
 mod readme;
 #[cfg(test)]
@@ -49,3 +50,5 @@ pub mod texts;
 mod transfers;
 #[cfg(test)]
 mod triangles;
+#[cfg(test)]
+mod walks_both_ends;

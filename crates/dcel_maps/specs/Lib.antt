@@ -11,6 +11,7 @@ pub mod Checked
 pub mod Kinds
 pub mod Sides
 pub mod Voronoi
+pub mod Numbers
 pub mod Walking
 pub mod Laws
 pub mod Examples

@@ -1,5 +1,5 @@
 -- A call that takes an item from either end of what is left of an iterator leaves one less.
-use Rattle.std.proofs.Common.{◌≡◌, List, [], ◌∷◌, ◌++◌, length, Some, ap, ◌∙◌, arith}
+use Rattle.std.proofs.Common.{◌≡◌, List, [], ◌∷◌, ◌++◌, length, Option, Some, None, MatchOption, ap, ◌∙◌, sym, arith}
 use Rattle.std.proofs.lemmas.List.{length-append}
 use Rattle.std.specs.Iterator.{MakesProgress, item_count}
 
@@ -13,3 +13,9 @@ module _ {S A B : Type 0} (rest : S → List B) {s t : S} {given : A} (item : B)
     keeps = tt;
     rests = λ finite. tt;
   }
+
+-- a call of `next` leaves what stands behind the first item
+pub leaves_others : {A B : Type 0} (view : A → B) {s t : List B} (r : Option A) {item : B} {others : List B}
+    → MatchOption r ((s ≡ []) × (t ≡ [])) (λ x. s ≡ view x ∷ t) → s ≡ item ∷ others → t ≡ others
+leaves_others view None {item} {others} ends is = let none : [] ≡ item ∷ others = sym ends.0 ∙ is in absurd cc
+leaves_others view {t = t} (Some x) {item} {others} steps is = let same : view x ∷ t ≡ item ∷ others = sym steps ∙ is in cc

@@ -1,5 +1,5 @@
-ghost use Rattle.std.specs.Prelude.{◌≡◌, ◌+◌, ◌-◌, ◌*◌, ◌≤◌, ◌^◌, length};
-ghost use Rattle.std.specs.List.{range_with_len};
+ghost use Rattle.std.specs.Prelude.{◌≡◌, ◌+◌, ◌*◌, ◌≤◌, ◌^◌, length};
+ghost use Rattle.dcel_maps.specs.Numbers.{numbers_between};
 ghost use Rattle.dcel_maps.specs.Shapes.{face_count};
 ghost use Rattle.dcel_maps.specs.Walking.{in_mesh};
 
@@ -15,7 +15,7 @@ impl<V, DE, UE, F, A: Allocator> Dcel<V, DE, UE, F, A> {
     /// The vertices, borrowed.
     #[inline]
     pub fn vertices(&self) -> VertexIterator<'_, V, DE, UE, F, A>
-        ensures items { result ≡ in_mesh self.now (range_with_len 0 self.now.shape.vertices) }
+        ensures items { result ≡ in_mesh self.now (numbers_between 0 self.now.shape.vertices) }
         ensures count { length result ≡ self.now.shape.vertices }
         ensures few { length result ≤ 2 ^ 32 }
     {
@@ -25,7 +25,7 @@ impl<V, DE, UE, F, A: Allocator> Dcel<V, DE, UE, F, A> {
     /// The vertices by number.
     #[inline]
     pub fn fixed_vertices(&self) -> FixedVertexIterator
-        ensures items { result ≡ range_with_len 0 self.now.shape.vertices }
+        ensures items { result ≡ numbers_between 0 self.now.shape.vertices }
         ensures count { length result ≡ self.now.shape.vertices }
         ensures few { length result ≤ 2 ^ 32 }
     {
@@ -35,7 +35,7 @@ impl<V, DE, UE, F, A: Allocator> Dcel<V, DE, UE, F, A> {
     /// The half edges, borrowed.
     #[inline]
     pub fn directed_edges(&self) -> DirectedEdgeIterator<'_, V, DE, UE, F, A>
-        ensures items { result ≡ in_mesh self.now (range_with_len 0 (2 * self.now.shape.edges)) }
+        ensures items { result ≡ in_mesh self.now (numbers_between 0 (2 * self.now.shape.edges)) }
         ensures count { length result ≡ 2 * self.now.shape.edges }
         ensures few { length result ≤ 2 ^ 32 }
     {
@@ -45,7 +45,7 @@ impl<V, DE, UE, F, A: Allocator> Dcel<V, DE, UE, F, A> {
     /// The undirected edges, borrowed.
     #[inline]
     pub fn undirected_edges(&self) -> UndirectedEdgeIterator<'_, V, DE, UE, F, A>
-        ensures items { result ≡ in_mesh self.now (range_with_len 0 self.now.shape.edges) }
+        ensures items { result ≡ in_mesh self.now (numbers_between 0 self.now.shape.edges) }
         ensures count { length result ≡ self.now.shape.edges }
         ensures few { length result ≤ 2 ^ 32 }
     {
@@ -55,7 +55,7 @@ impl<V, DE, UE, F, A: Allocator> Dcel<V, DE, UE, F, A> {
     /// The faces, borrowed, the outer one first.
     #[inline]
     pub fn faces(&self) -> FaceIterator<'_, V, DE, UE, F, A>
-        ensures items { result ≡ in_mesh self.now (range_with_len 0 (face_count self.now.shape)) }
+        ensures items { result ≡ in_mesh self.now (numbers_between 0 (face_count self.now.shape)) }
         ensures count { length result ≡ face_count self.now.shape }
         ensures few { length result ≤ 2 ^ 32 }
     {
@@ -65,7 +65,7 @@ impl<V, DE, UE, F, A: Allocator> Dcel<V, DE, UE, F, A> {
     /// The inner faces, borrowed: all but the outer one.
     #[inline]
     pub fn inner_faces(&self) -> InnerFaceIterator<'_, V, DE, UE, F, A>
-        ensures items { result ≡ in_mesh self.now (range_with_len 1 (face_count self.now.shape - 1)) }
+        ensures items { result ≡ in_mesh self.now (numbers_between 1 (face_count self.now.shape)) }
         ensures count { length result + 1 ≡ face_count self.now.shape }
         ensures few { length result ≤ 2 ^ 32 }
     {
@@ -78,7 +78,7 @@ impl<V, DE, UE, F, A: Allocator> Dcel<V, DE, UE, F, A> {
     /// The faces by number, the outer one first.
     #[inline]
     pub fn fixed_faces(&self) -> FixedFaceIterator
-        ensures items { result ≡ range_with_len 0 (face_count self.now.shape) }
+        ensures items { result ≡ numbers_between 0 (face_count self.now.shape) }
         ensures count { length result ≡ face_count self.now.shape }
         ensures few { length result ≤ 2 ^ 32 }
     {

@@ -1,8 +1,8 @@
 ghost use Rattle.std.specs.Prelude.{◌≡◌, ◌≤◌, ◌^◌, length};
 ghost use Rattle.std.specs.Iterator.{YieldsFirstBy, YieldsLastBy, item_count};
-ghost use Rattle.std.specs.List.{range_with_len};
 ghost use Rattle.spade_dcel.specs.Handles.{mesh_behind, number_of};
 ghost use Rattle.dcel_maps.specs.Kinds.{number_of_elements};
+ghost use Rattle.dcel_maps.specs.Numbers.{numbers_between};
 ghost use Rattle.dcel_maps.specs.Walking.{in_mesh};
 
 use crate::dcel::Dcel;
@@ -59,7 +59,7 @@ impl<
     /// Will list all elements of its kind, given-up ones too.
     #[inline]
     pub fn new(dcel: &'a Dcel<V, DE, UE, F, A>) -> Self
-        ensures items { result ≡ in_mesh dcel.now (range_with_len 0 (number_of_elements Kind.kind dcel.now.shape)) }
+        ensures items { result ≡ in_mesh dcel.now (numbers_between 0 (number_of_elements Kind.kind dcel.now.shape)) }
         ensures count { length result ≡ number_of_elements Kind.kind dcel.now.shape }
         ensures few { length result ≤ 2 ^ 32 }
     {

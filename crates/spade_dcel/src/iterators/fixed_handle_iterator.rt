@@ -1,6 +1,6 @@
 ghost use Rattle.std.specs.Prelude.{◌≡◌, ◌≤◌, ◌^◌, length};
 ghost use Rattle.std.specs.Iterator.{YieldsFirst, YieldsLast, item_count};
-ghost use Rattle.std.specs.List.{range_with_len};
+ghost use Rattle.dcel_maps.specs.Numbers.{numbers_between};
 
 use dcel_fixed::{FixedHandleImpl, InnerOuterMarker};
 use std::marker::{Model, PhantomData};
@@ -19,12 +19,12 @@ pub struct FixedHandleIterator<Kind, InnerOuter: InnerOuterMarker> {
 }
 
 impl<Kind, InnerOuter: InnerOuterMarker> Model for FixedHandleIterator<Kind, InnerOuter> {
-    ghost use Rattle.std.specs.Prelude.{ℕ, List, ◌-◌, ◌≤◌, ◌^◌};
-    ghost use Rattle.std.specs.List.{range_with_len};
+    ghost use Rattle.std.specs.Prelude.{ℕ, List, ◌≤◌, ◌^◌};
+    ghost use Rattle.dcel_maps.specs.Numbers.{numbers_between};
 
     ghost Value = { List ℕ };
 
-    ghost view = { λ handles. range_with_len handles.start (handles.end - handles.start) };
+    ghost view = { λ handles. numbers_between handles.start handles.end };
 
     ghost invariant = { λ handles. (handles.start ≤ handles.end) × (handles.end ≤ 2 ^ 32) };
 }
@@ -34,7 +34,7 @@ impl<Kind, InnerOuter: InnerOuterMarker> FixedHandleIterator<Kind, InnerOuter> {
     #[inline]
     pub fn new(to: usize) -> Self
         requires { to ≤ 2 ^ 32 }
-        ensures items { result ≡ range_with_len 0 to }
+        ensures items { result ≡ numbers_between 0 to }
         ensures count { length result ≡ to }
     {
         FixedHandleIterator {
