@@ -27,6 +27,7 @@ mod lines;
 mod meshes;
 #[cfg(test)]
 mod outside;
+pub mod own_steps;
 #[cfg(test)]
 mod readme;
 #[cfg(test)]
