@@ -1,7 +1,7 @@
 //! What `{:?}` writes for borrowed handles.
 
 use crate::meshes::{Mesh, cut_triangle, half_edge, inner_face, vertex};
-use spade_dcel::handles::{FixedFaceHandle, PossiblyOuterTag};
+use spade_dcel::handles::PossiblyOuterTag;
 use spade_dcel::operations::new;
 use std::alloc::AllocGlobal;
 use std::fmt::Debug;
@@ -22,16 +22,18 @@ where
 #[test]
 fn a_vertex_prints_its_number(rt: HostRuntime) -> Result<(), Fail> {
     let dcel = cut_triangle(rt.alloc(), &rt)?;
-    assert!(rt; vertex(3).index() < dcel.num_vertices());
-    assert_prints(&rt, dcel.vertex(vertex(3)), "VertexHandle(3)")?;
+    let three = vertex(3);
+    assert!(rt; three.index() < dcel.num_vertices());
+    assert_prints(&rt, dcel.vertex(three), "VertexHandle(3)")?;
     Ok(())
 }
 
 #[test]
 fn an_edge_prints_its_ends(rt: HostRuntime) -> Result<(), Fail> {
     let dcel = cut_triangle(rt.alloc(), &rt)?;
-    assert!(rt; half_edge(6).index() < dcel.num_directed_edges());
-    let edge = dcel.directed_edge(half_edge(6));
+    let six = half_edge(6);
+    assert!(rt; six.index() < dcel.num_directed_edges());
+    let edge = dcel.directed_edge(six);
     assert_prints(
         &rt,
         edge,
@@ -49,14 +51,11 @@ fn an_edge_prints_its_ends(rt: HostRuntime) -> Result<(), Fail> {
 fn a_face_prints_its_vertices(rt: HostRuntime) -> Result<(), Fail> {
     let dcel = cut_triangle(rt.alloc(), &rt)?;
     assert_prints(&rt, dcel.outer_face(), "OuterFace")?;
-    let one: FixedFaceHandle<PossiblyOuterTag> = FixedFaceHandle::new(1);
+    let one = inner_face(1);
     assert!(rt; one.index() < dcel.num_faces());
     assert_prints(&rt, dcel.face(one), "FaceHandle - id: 1 (3, 1, 0)")?;
-    assert_prints(
-        &rt,
-        dcel.face(inner_face(1)),
-        "FaceHandle - id: 1 (3, 1, 0)",
-    )?;
+    let one_or_outer = one.adjust_inner_outer::<PossiblyOuterTag>();
+    assert_prints(&rt, dcel.face(one_or_outer), "FaceHandle - id: 1 (3, 1, 0)")?;
     Ok(())
 }
 
@@ -64,8 +63,9 @@ fn a_face_prints_its_vertices(rt: HostRuntime) -> Result<(), Fail> {
 #[test]
 fn a_face_without_an_anchor_prints_none(rt: HostRuntime) -> Result<(), Fail> {
     let dcel: Mesh = new(rt.alloc())?;
-    assert!(rt; dcel.num_faces() > 0);
-    assert_prints(&rt, dcel.face(inner_face(0)), "FaceHandle - id: 0 (none)")?;
+    let unanchored = inner_face(0);
+    assert!(rt; unanchored.index() < dcel.num_faces());
+    assert_prints(&rt, dcel.face(unanchored), "FaceHandle - id: 0 (none)")?;
     assert_prints(&rt, dcel.outer_face(), "OuterFace")?;
     Ok(())
 }
