@@ -12,6 +12,10 @@ mod carried;
 #[cfg(test)]
 mod commands;
 #[cfg(test)]
+mod debug_texts;
+#[cfg(test)]
+mod duals;
+#[cfg(test)]
 mod edge_rows;
 #[cfg(test)]
 mod elements_data;
