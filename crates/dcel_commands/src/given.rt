@@ -44,6 +44,18 @@ pub fn two_numbers<'a>(rest: Rest<'a>) -> Option<(u32, u32)>
     Some((m, n))
 }
 
+/// A number, a datum and nothing else.
+pub fn number_and_datum<'a>(rest: Rest<'a>) -> Option<(u32, i64)>
+    ensures { MatchOption result
+        ((n : ℕ) (d : ℤ) → IsNumber n → IsDatum d → left rest.entry ≢ decimal n ∷ signed_decimal d ∷ [])
+        (λ read. left rest.entry ≡ decimal read.0 ∷ signed_decimal read.1 ∷ []) }
+{
+    let (n, others) = number_then(rest)?;
+    let (d, others) = datum_then(others)?;
+    nothing(others)?;
+    Some((n, d))
+}
+
 /// The numbers of two vertices and nothing else.
 pub fn two_vertices<'a>(rest: Rest<'a>) -> Option<(FixedVertexHandle, FixedVertexHandle)>
     ensures { MatchOption result

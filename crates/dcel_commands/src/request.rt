@@ -29,13 +29,13 @@ use crate::asking::{
     has_half_edge, has_room, has_vertex,
 };
 use crate::commands::{Command, Handed, Refused, Reply};
-use crate::given::{edge_and_vertex, one_number, three_data, two_numbers, two_vertices};
+use crate::given::{edge_and_vertex, number_and_datum, one_number, three_data, two_numbers, two_vertices};
 use crate::refusal::Refusal;
 use dcel_fixed::{
     FixedDirectedEdgeHandle, FixedFaceHandle, FixedUndirectedEdgeHandle, FixedVertexHandle,
     InnerTag,
 };
-use dcel_text::items::{Rest, datum_then, nothing, number_then};
+use dcel_text::items::{Rest, datum_then, nothing};
 use dcel_text::output::Writer;
 use dcel_text::sink::LineSink;
 use spade_dcel::dcel::Dcel;
