@@ -29,7 +29,9 @@ use crate::asking::{
     has_half_edge, has_room, has_vertex,
 };
 use crate::commands::{Command, Handed, Refused, Reply};
-use crate::given::{edge_and_vertex, number_and_datum, one_number, three_data, two_numbers, two_vertices};
+use crate::given::{
+    edge_and_vertex, number_and_datum, one_number, three_data, two_numbers, two_vertices,
+};
 use crate::refusal::Refusal;
 use dcel_fixed::{
     FixedDirectedEdgeHandle, FixedFaceHandle, FixedUndirectedEdgeHandle, FixedVertexHandle,

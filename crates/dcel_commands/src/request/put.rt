@@ -9,10 +9,8 @@ use super::*;
 pub fn read<'a>(rest: Rest<'a>) -> Option<Request>
     ensures { Says (codes "put") (left rest.entry) result }
 {
-    let (vertex, others) = number_then(rest)?;
-    let (datum, others) = datum_then(others)?;
-    nothing(others)?;
-    Some(Request::Edit(Command::Put(FixedVertexHandle::new(vertex as usize), datum)))
+    let (number, datum) = number_and_datum(rest)?;
+    Some(Request::Edit(Command::Put(FixedVertexHandle::new(number as usize), datum)))
 }
 
 /// Carries the command out.
