@@ -27,22 +27,22 @@ pub exchanged-other : (a b v : ℕ) → v ≢ a → v ≢ b → exchanged a b v 
 exchanged-other a b v not_a not_b = grind (arith, nat_tests)
 
 -- exchanging twice changes nothing
-pub exchanged-exchanged : (a b v : ℕ) → exchanged a b (exchanged a b v) ≡ v
+exchanged-exchanged : (a b v : ℕ) → exchanged a b (exchanged a b v) ≡ v
 exchanged-exchanged a b v = grind (arith, nat_tests)
 
-pub exchanged-same : (a v : ℕ) → exchanged a a v ≡ v
+exchanged-same : (a v : ℕ) → exchanged a a v ≡ v
 exchanged-same a v = grind (arith, nat_tests)
 
 -- so different numbers stay different
-pub exchanged_apart : (a b v w : ℕ) → exchanged a b v ≡ exchanged a b w → v ≡ w
+exchanged_apart : (a b v w : ℕ) → exchanged a b v ≡ exchanged a b w → v ≡ w
 exchanged_apart a b v w same = sym (exchanged-exchanged a b v) ∙ ap (exchanged a b) same ∙ exchanged-exchanged a b w
 
 -- what holds of a, of b and of v holds of what v becomes
-pub exchanged_keeps : (P : ℕ → Type 0) (a b v : ℕ) → P a → P b → P v → P (exchanged a b v)
+exchanged_keeps : (P : ℕ → Type 0) (a b v : ℕ) → P a → P b → P v → P (exchanged a b v)
 exchanged_keeps P a b v p q r = cond_both (v == a) b (cond (v == b) a v) P (λ is. q) (λ no. cond_both (v == b) a v P (λ is. p) (λ also. r))
 
 -- the item v of a list where the items a and b are exchanged
-pub get_or-swap : {A : Type 0} (l : List A) (a b v : ℕ) (d : A) → a < length l → b < length l
+get_or-swap : {A : Type 0} (l : List A) (a b v : ℕ) (d : A) → a < length l → b < length l
     → slice_index_or (swap l a b) v d ≡ slice_index_or l (exchanged a b v) d
 get_or-swap l a b v d a_in b_in =
     let at = swapped_from_swap l (swap l a b) a b d a_in b_in refl in
@@ -66,10 +66,10 @@ swap-same l i within =
     same_lists (swap l i i) l (length-swap l i i) (λ v d below.
     get_or-swap l i i v d within within ∙ ap (λ w. slice_index_or l w d) (exchanged-same i v))
 
--- the origin of a live half edge is renamed, and the others stay
 pub length-renamed_origins : (s : Shape) (rename : ℕ → ℕ) → length (renamed_origins s rename) ≡ length s.origins
 length-renamed_origins s rename = length-map (enumerate_from 0 s.origins) _ ∙ length-enumerate_from 0 s.origins
 
+-- the origin of a live half edge is renamed, and the others stay
 pub renamed_origins-at : (s : Shape) (rename : ℕ → ℕ) (h : ℕ) → h < length s.origins
     → slice_index (renamed_origins s rename) h ≡ cond (edge_is_live s (h / 2)) (rename (origin_of s h)) (origin_of s h)
 renamed_origins-at s rename h within =
