@@ -28,6 +28,8 @@ mod growths;
 #[cfg(test)]
 mod lines;
 #[cfg(test)]
+mod memoryless;
+#[cfg(test)]
 mod memoryless_rows;
 #[cfg(test)]
 mod meshes;
@@ -56,3 +58,5 @@ mod transfers;
 mod triangles;
 #[cfg(test)]
 mod walks_both_ends;
+#[cfg(test)]
+mod whole_meshes;

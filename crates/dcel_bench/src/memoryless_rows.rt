@@ -4,7 +4,7 @@ use crate::meshes::NO_LIMIT;
 use crate::rows::{Row, assert_rows};
 use std::test::Fail;
 
-const ROWS: [Row; 12] = [
+const ROWS: [Row; 14] = [
     // Four flips go round.
     (
         NO_LIMIT,
@@ -182,6 +182,38 @@ const ROWS: [Row; 12] = [
             ("origin 0", "vertex 1"),
             ("clear", "ok"),
             ("counts", "vertices 0 edges 0 faces 1"),
+        ],
+    ),
+    (
+        NO_LIMIT,
+        &[
+            ("counts", "vertices 0 edges 0 faces 1"),
+            ("hull", "hull"),
+            ("check", "true"),
+            ("words", "F0"),
+            ("append 0", "vertex 0"),
+            ("hull", "hull"),
+            ("append 1", "vertex 1"),
+            ("setup 0 1", "ok"),
+            ("words", "F0 0 1"),
+            ("hull", "hull 0 1"),
+            ("append 2", "vertex 2"),
+            ("extend 0 2", "vertex 2"),
+            ("hull", "hull 0 1 3 2"),
+            ("hull 0", "bad line"),
+        ],
+    ),
+    (
+        NO_LIMIT,
+        &[
+            ("triangle 7 8 9", "ok"),
+            ("counts", "vertices 3 edges 3 faces 2"),
+            ("hull", "hull 0 2 4"),
+            ("append 3", "vertex 3"),
+            ("outside 0 3", "vertex 3"),
+            ("hull", "hull 2 4 9 7"),
+            ("clear", "ok"),
+            ("hull", "hull"),
         ],
     ),
     // The limit is full, which these lines don't ask about.

@@ -170,6 +170,14 @@ pub fn flip<A: Allocator>(dcel: &mut Mesh<A>, edge: FixedUndirectedEdgeHandle, r
     flip_cw(dcel, edge);
 }
 
+/// Swaps two vertices.
+pub fn swap<A: Allocator>(dcel: &mut Mesh<A>, first: u32, second: u32, rt: &impl Abort) {
+    let first = vertex(first);
+    let second = vertex(second);
+    assert!(rt; dcel.is_live_vertex(first) && dcel.is_live_vertex(second));
+    dcel.swap_vertices(first, second);
+}
+
 /// Puts a vertex that has no edge into a triangle.
 pub fn insert<A: Allocator>(
     dcel: &mut Mesh<A>,

@@ -11,12 +11,12 @@ use crate::meshes::{
 use crate::refusing::Refusing;
 use spade_dcel::handles::{FixedDirectedEdgeHandle, FixedFaceHandle, PossiblyOuterTag};
 use spade_dcel::operations::new;
-use std::alloc::{AllocError, Global};
+use std::alloc::{AllocError, Allocator, Global};
 use std::process::Abort;
 use std::test::Fail;
 
 /// More requests for memory than any row here makes.
-const MANY: u64 = 20;
+pub const MANY: u64 = 20;
 
 /// A mesh whose memory may be refused.
 type Watched<'a> = Mesh<&'a Refusing<Global>>;
@@ -235,14 +235,18 @@ const ROWS: [Row; 10] = [
 
 /// What can be read off a mesh.
 #[derive(Debug, Drop, PartialEq, Eq)]
-struct Picture {
+pub struct Picture {
     out_edges: Vec<Option<FixedDirectedEdgeHandle>>,
     adjacent_edges: Vec<Option<FixedDirectedEdgeHandle>>,
     /// The next half edge, the one before, the origin and the face of each half edge.
     links: Vec<[usize; 4]>,
 }
 
-fn picture_of(dcel: &Watched, alloc: Global, rt: &impl Abort) -> Result<Picture, AllocError> {
+pub fn picture_of<A: Allocator>(
+    dcel: &Mesh<A>,
+    alloc: Global,
+    rt: &impl Abort,
+) -> Result<Picture, AllocError> {
     let mut seen = Picture {
         out_edges: Vec::new(alloc),
         adjacent_edges: Vec::new(alloc),

@@ -1,7 +1,7 @@
 //! Vertices that are swapped.
 
 use crate::meshes::{
-    CUT_TRIANGLE, Link, Mesh, append, assert_links, cut_triangle, first_edge, half_edge,
+    CUT_TRIANGLE, Link, Mesh, append, assert_links, cut_triangle, first_edge, half_edge, swap,
     triangle_and_vertex, vertex,
 };
 use spade_dcel::operations::new;
@@ -20,14 +20,6 @@ const FROM_3: [Link; 6] = [
     (5, 3, 3, 1),
     (3, 1, 2, 1),
 ];
-
-/// Swaps two vertices.
-fn swap(dcel: &mut Mesh, first: u32, second: u32, rt: &impl Abort) {
-    let first = vertex(first);
-    let second = vertex(second);
-    assert!(rt; dcel.is_live_vertex(first) && dcel.is_live_vertex(second));
-    dcel.swap_vertices(first, second);
-}
 
 /// That vertices have these anchors and data.
 fn assert_vertices(dcel: &Mesh, vertices: &[Vertex], rt: &impl Abort) {
