@@ -90,8 +90,7 @@ module _ {V DE UE F : Type 0} {s : Lists V DE UE F} {r : Removal} {m : Mesh V DE
       (AllZip-long is_vertex s.vertex_data t.vertex_data clones.vertex_data)
       (AllZip-long is_half s.directed_data t.directed_data clones.directed_data)
       (AllZip-long is_edge s.undirected_data t.undirected_data clones.undirected_data)
-      (AllZip-long is_face s.face_data t.face_data clones.face_data)) in
-      (
+      (AllZip-long is_face s.face_data t.face_data clones.face_data)) in (
         copy.stored,
         subst (λ u. mesh.IsClone is_vertex is_half is_edge is_face u (mesh_of t r)) held.is record {
           vertex_data = clones.vertex_data;
