@@ -51,7 +51,7 @@ impl fmt::Display for Fault {
             Fault::BadArguments => {
                 write!(
                     f,
-                    "usage: dcel_speed [insert,walk,faces,extend,neighbors,split [SIZE,SIZE.. [full] [checksums]]]"
+                    "usage: dcel_speed [WORKLOAD,WORKLOAD.. [SIZE,SIZE.. [full] [checksums]]]"
                 )
             }
             Fault::Io(error) => write!(f, "{error}"),

@@ -7,13 +7,16 @@
 #![tactic(auto)]
 
 mod arguments;
+mod copies;
 mod digest;
 mod fault;
+mod flip;
 mod measure;
 mod neighbors;
 mod random;
 mod round_face;
 mod split;
+mod swap;
 mod workloads;
 
 use crate::arguments::Arguments;

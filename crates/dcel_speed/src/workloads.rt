@@ -1,21 +1,25 @@
 //! The workloads: what each builds, does and answers. Only the work itself is timed.
 
-ghost use Rattle.std.specs.Prelude.{◌≡◌, IfOk, OnOk};
+ghost use Rattle.std.specs.Prelude.{◌≡◌, ◌*◌, IfOk, OnOk};
 ghost use Rattle.dcel_maps.specs.Conditions.{HasRoom, IsLineEnd};
 ghost use Rattle.spade_dcel.specs.Handles.{mesh_behind, number_of};
 ghost use Rattle.dcel_maps.specs.Shapes.{IsLive};
 ghost use Rattle.dcel_speed.specs.Growth.{IsGrown, IsTriangulated};
 
+use crate::copies::{clone, map};
 use crate::fault::{BuildError, Fault};
+use crate::flip::flip;
 use crate::measure::{time_building, time_reading};
 use crate::neighbors::neighbors;
 use crate::random::Random;
 use crate::round_face::RoundFace;
 use crate::split::split;
+use crate::swap::swap;
 use spade_dcel::dcel::Dcel;
 use spade_dcel::handles::{
     DirectedEdgeHandle, FixedFaceHandle, FixedVertexHandle, InnerTag, VertexHandle,
 };
+use spade_dcel::iterators::HullIterator;
 use spade_dcel::laws::every_mesh;
 use spade_dcel::operations::{
     append_unconnected_vertex, extend_line, insert_into_triangle, new, new_triangle,
@@ -34,6 +38,9 @@ pub enum Workload {
     /// Puts vertices into faces of a triangle.
     Insert,
 
+    /// Does the same with room for all of them from the beginning.
+    InsertReserved,
+
     /// Goes round each vertex.
     Walk,
 
@@ -43,11 +50,26 @@ pub enum Workload {
     /// Makes a line longer at one end.
     Extend,
 
+    /// Goes round the outer face of a line.
+    Hull,
+
     /// Seeks the half edge from one vertex to another.
     Neighbors,
 
     /// Puts vertices into the middle of edges.
     Split,
+
+    /// Turns edges between triangles.
+    Flip,
+
+    /// Swaps vertices.
+    Swap,
+
+    /// Clones a mesh.
+    Clone,
+
+    /// Replaces the data of the vertices.
+    Map,
 }
 
 impl Workload {
@@ -55,11 +77,17 @@ impl Workload {
     pub fn name(self) -> &'static str {
         match self {
             Workload::Insert => "insert",
+            Workload::InsertReserved => "insert_reserved",
             Workload::Walk => "walk",
             Workload::Faces => "faces",
             Workload::Extend => "extend",
+            Workload::Hull => "hull",
             Workload::Neighbors => "neighbors",
             Workload::Split => "split",
+            Workload::Flip => "flip",
+            Workload::Swap => "swap",
+            Workload::Clone => "clone",
+            Workload::Map => "map",
         }
     }
 
@@ -67,11 +95,17 @@ impl Workload {
     pub fn parse(name: &str) -> Option<Workload> {
         match name {
             "insert" => Some(Workload::Insert),
+            "insert_reserved" => Some(Workload::InsertReserved),
             "walk" => Some(Workload::Walk),
             "faces" => Some(Workload::Faces),
             "extend" => Some(Workload::Extend),
+            "hull" => Some(Workload::Hull),
             "neighbors" => Some(Workload::Neighbors),
             "split" => Some(Workload::Split),
+            "flip" => Some(Workload::Flip),
+            "swap" => Some(Workload::Swap),
+            "clone" => Some(Workload::Clone),
+            "map" => Some(Workload::Map),
             _ => None,
         }
     }
@@ -109,24 +143,38 @@ impl Timed {
 }
 
 /// Runs a workload, over meshes with data `D`, and answers the run that took the least time.
-pub fn measured<D: Default + Drop>(
+pub fn measured<D: Default + Drop + Clone>(
     rt: &(impl Clock + AllocGlobal),
     workload: Workload,
     size: u32,
 ) -> Result<Timed, Fault> {
     match workload {
         Workload::Insert => insert::<D>(rt, size),
+        Workload::InsertReserved => insert_reserved::<D>(rt, size),
         Workload::Walk => walk::<D>(rt, size),
         Workload::Faces => faces::<D>(rt, size),
         Workload::Extend => extend::<D>(rt, size),
+        Workload::Hull => hull::<D>(rt, size),
         Workload::Neighbors => neighbors::<D>(rt, size),
         Workload::Split => split::<D>(rt, size),
+        Workload::Flip => flip::<D>(rt, size),
+        Workload::Swap => swap::<D>(rt, size),
+        Workload::Clone => clone::<D>(rt, size),
+        Workload::Map => map::<D>(rt, size),
     }
 }
 
 /// Times the building of a mesh of triangles.
 fn insert<D: Default + Drop>(rt: &(impl Clock + AllocGlobal), size: u32) -> Result<Timed, Fault> {
     time_building(rt, size, || triangulated::<D>(rt.alloc(), size))
+}
+
+/// Times the building of the same mesh where room for it is made first.
+fn insert_reserved<D: Default + Drop>(
+    rt: &(impl Clock + AllocGlobal),
+    size: u32,
+) -> Result<Timed, Fault> {
+    time_building(rt, size, || triangulated_in_room::<D>(rt.alloc(), size))
 }
 
 /// Times the walk round each vertex of a mesh of triangles.
@@ -149,20 +197,60 @@ fn extend<D: Default + Drop>(rt: &(impl Clock + AllocGlobal), size: u32) -> Resu
     time_building(rt, size, || line::<D>(rt.alloc(), size))
 }
 
+/// Times the walk round the outer face of a line.
+fn hull<D: Default + Drop>(rt: &(impl Clock + AllocGlobal), size: u32) -> Result<Timed, Fault> {
+    let dcel = line::<D>(rt.alloc(), size)?;
+    time_reading(rt, || numbers_round_hull(&dcel))
+}
+
 /// A triangle, and `size` vertices more, each put into an inner face that is drawn at random.
 pub fn triangulated<D: Default + Drop>(alloc: Global, size: u32) -> Result<Mesh<D>, BuildError>
     ensures { IfOk result (λ dcel. IsTriangulated dcel.shape) }
 {
-    let mut dcel = new_triangle(alloc, (0, 1, 2))?;
+    let mut dcel = triangle_with_numbers_left(alloc, size)?;
+    insert_all(&mut dcel, size)?;
+    Ok(dcel)
+}
+
+/// The same, where room for all of them is made first.
+fn triangulated_in_room<D: Default + Drop>(
+    alloc: Global,
+    size: u32,
+) -> Result<Mesh<D>, BuildError> {
+    let mut dcel = triangle_with_numbers_left(alloc, size)?;
+    let count = size as usize;
+    dcel.reserve_capacity(count, 3 * count, 2 * count)?;
+    insert_all(&mut dcel, size)?;
+    Ok(dcel)
+}
+
+/// A triangle, where there are numbers left for so many insertions.
+fn triangle_with_numbers_left<D: Default + Drop>(
+    alloc: Global,
+    size: u32,
+) -> Result<Mesh<D>, BuildError>
+    ensures triangulated { IfOk result (λ dcel. IsTriangulated dcel.shape) }
+    ensures room { IfOk result (λ dcel. HasRoom dcel.shape size (3 * size) (2 * size)) }
+{
+    let dcel = new_triangle(alloc, (0, 1, 2))?;
     let count = size as usize;
     if !dcel.has_room(count, 3 * count, 2 * count) {
         return Err(BuildError::NoRoom);
     }
+    Ok(dcel)
+}
+
+/// Puts so many vertices into inner faces that are drawn at random.
+fn insert_all<D: Default + Drop>(dcel: &mut Mesh<D>, size: u32) -> Result<(), BuildError>
+    requires triangulated { IsTriangulated dcel.old.shape }
+    requires room { HasRoom dcel.old.shape size (3 * size) (2 * size) }
+    ensures { OnOk result (IsTriangulated dcel.new.shape) }
+{
     let mut random = Random::new(0);
     for index in 0..size {
-        insert_next(&mut dcel, &mut random, i64::from(index) + 3)?;
+        insert_next(dcel, &mut random, i64::from(index) + 3)?;
     }
-    Ok(dcel)
+    Ok(())
 }
 
 /// Puts one more vertex into an inner face that is drawn at random.
@@ -266,4 +354,14 @@ fn add_origins<D>(sum: &mut Outcome, first: DirectedEdgeHandle<'_, i64, D, D, D>
     for edge in RoundFace::new(first) {
         sum.add(edge.from());
     }
+}
+
+/// Goes round the outer face: the numbers of its half edges, one after another.
+fn numbers_round_hull<D>(dcel: &Mesh<D>) -> Outcome {
+    let mut sum = Outcome::default();
+    for edge in HullIterator::new(dcel) {
+        sum.checksum = sum.checksum.wrapping_mul(3).wrapping_add(edge.index() as u64);
+        sum.operations = sum.operations.wrapping_add(1);
+    }
+    sum
 }

@@ -1,7 +1,7 @@
 use Rattle.std.proofs.Common.{◌-◌, ◌*◌}
 use Rattle.dcel_maps.specs.Conditions.{HasRoom}
 use Rattle.dcel_speed.specs.Growth.{IsTriangulated}
-use Rattle.dcel_speed.proofs.workloads.triangulated.Given as goal
+use Rattle.dcel_speed.proofs.workloads.insert_all.Given as goal
 
 abbrev pub invariant-loop-index : goal.invariant-loop-index
 invariant-loop-index g l =

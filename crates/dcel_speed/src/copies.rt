@@ -1,0 +1,54 @@
+//! Whole meshes, cloned, and with other data.
+
+use crate::digest::{digest_of, mix};
+use crate::fault::Fault;
+use crate::measure::{FEWEST_EDITING, least_of};
+use crate::workloads::{Mesh, Outcome, Timed, triangulated};
+use std::rt::Clock;
+use std::time::Instant;
+
+/// Times a clone of a mesh of triangles.
+pub fn clone<D: Default + Drop + Clone>(
+    rt: &(impl Clock + AllocGlobal),
+    size: u32,
+) -> Result<Timed, Fault> {
+    let built = triangulated::<D>(rt.alloc(), size)?;
+    least_of(FEWEST_EDITING, || {
+        let start = Instant::now(rt)?;
+        let copy = built.try_clone(rt.alloc())?;
+        let elapsed = start.elapsed(rt)?;
+        let outcome = Outcome {
+            checksum: digest_of(&copy),
+            operations: copy.num_vertices() as u64,
+        };
+        Ok(Timed { elapsed, outcome })
+    })
+}
+
+/// Times the replacement of each vertex's datum in a mesh of triangles.
+pub fn map<D: Default + Drop + Clone>(
+    rt: &(impl Clock + AllocGlobal),
+    size: u32,
+) -> Result<Timed, Fault> {
+    let built = triangulated::<D>(rt.alloc(), size)?;
+    least_of(FEWEST_EDITING, || {
+        let copy = built.try_clone(rt.alloc())?;
+        let start = Instant::now(rt)?;
+        let mapped = copy.map_vertices(rt.alloc(), |datum| datum.wrapping_mul(3).wrapping_add(1))?;
+        let elapsed = start.elapsed(rt)?;
+        let outcome = Outcome {
+            checksum: folded_data(&mapped),
+            operations: mapped.num_vertices() as u64,
+        };
+        Ok(Timed { elapsed, outcome })
+    })
+}
+
+/// The data of the vertices, mixed together in their order.
+fn folded_data<D>(dcel: &Mesh<D>) -> u64 {
+    let mut sum: u64 = 0;
+    for vertex in dcel.vertices() {
+        sum = mix(sum, vertex.data().cast_unsigned());
+    }
+    sum
+}
