@@ -7,7 +7,7 @@ use spade_dcel::handles::{
     FixedDirectedEdgeHandle, FixedFaceHandle, FixedUndirectedEdgeHandle, FixedVertexHandle,
     InnerTag, OUTER_FACE, PossiblyOuterTag,
 };
-use std::alloc::{AllocError, Global};
+use std::alloc::{AllocError, Allocator, Global};
 use std::process::Abort;
 use std::test::Fail;
 
@@ -44,7 +44,7 @@ fn all_data(alloc: Global, dcel: &Mesh, rt: &impl Abort) -> Result<Vec<i64>, All
 
 /// A datum of a mesh.
 #[derive(Clone, Copy)]
-enum Datum {
+pub enum Datum {
     Vertex(FixedVertexHandle),
     UpdatedVertex(FixedVertexHandle),
     HalfEdge(FixedDirectedEdgeHandle),
@@ -54,7 +54,7 @@ enum Datum {
 }
 
 /// Writes a datum, and reads it back.
-fn write(dcel: &mut Mesh, place: Datum, datum: i64, rt: &impl Abort) {
+pub fn write<A: Allocator>(dcel: &mut Mesh<A>, place: Datum, datum: i64, rt: &impl Abort) {
     match place {
         Datum::Vertex(handle) => {
             assert!(rt; handle.index() < dcel.num_vertices());

@@ -1,5 +1,6 @@
 //! Calls and commands that take no memory, where every request for it is refused.
 
+use crate::elements_data::{Datum, write};
 use crate::growths::Growth::{Append, Insert, Triangle};
 use crate::growths::grow;
 use crate::meshes::{
@@ -8,6 +9,7 @@ use crate::meshes::{
 };
 use crate::refusing::Refusing;
 use dcel_commands::commands::{Command, Reply, apply};
+use spade_dcel::handles::OUTER_FACE;
 use spade_dcel::operations::new;
 use std::alloc::{AllocError, Allocator, Global};
 use std::process::Abort;
@@ -26,35 +28,11 @@ fn cut<A: Allocator + Clone>(
     Ok(())
 }
 
-/// Replaces the datum of each kind of element, through each writer.
-fn write_data<A: Allocator>(dcel: &mut Mesh<A>, rt: &impl Abort) {
-    assert!(rt; dcel.num_vertices() > 3);
-    dcel.update_vertex(vertex(3), 30);
-    *dcel.vertex_data_mut(vertex(3)) += 1;
-    assert!(rt; dcel.num_directed_edges() > 5);
-    *dcel.directed_edge_data_mut(half_edge(5)) = 50;
-    assert!(rt; dcel.num_undirected_edges() > 2);
-    *dcel.undirected_edge_data_mut(undirected_edge(2)) = 20;
-    assert!(rt; dcel.num_faces() > 1);
-    *dcel.face_data_mut(inner_face(1)) = 10;
-}
-
-/// That these data are read back.
-fn assert_data<A: Allocator>(dcel: &Mesh<A>, rt: &impl Abort) {
-    assert!(rt; dcel.num_vertices() > 3);
-    assert_eq!(rt; *dcel.vertex_data(vertex(3)), 31);
-    assert!(rt; dcel.num_directed_edges() > 5);
-    assert_eq!(rt; *dcel.directed_edge_data(half_edge(5)), 50);
-    assert!(rt; dcel.num_undirected_edges() > 2);
-    assert_eq!(rt; *dcel.undirected_edge_data(undirected_edge(2)), 20);
-    assert!(rt; dcel.num_faces() > 1);
-    assert_eq!(rt; *dcel.face_data(inner_face(1)), 10);
-}
-
-/// Goes round a vertex and round the outer face, from both ends: how many half edges there are.
-fn walk<A: Allocator>(dcel: &Mesh<A>, rt: &impl Abort) -> usize {
-    assert!(rt; dcel.num_vertices() > 3);
-    dcel.vertex(vertex(3)).out_edges().count()
+/// How many half edges start at a vertex, by a walk round it.
+fn degree<A: Allocator>(dcel: &Mesh<A>, index: u32, rt: &impl Abort) -> usize {
+    let handle = vertex(index);
+    assert!(rt; handle.index() < dcel.num_vertices());
+    dcel.vertex(handle).out_edges().count()
 }
 
 #[test]
@@ -63,9 +41,17 @@ fn calls_take_no_memory(rt: HostRuntime) -> Result<(), Fail> {
     let mut dcel: Mesh<&Refusing<Global>> = new(&heap)?;
     cut(&mut dcel, &heap, &rt)?;
     heap.refuse_from(0);
-    write_data(&mut dcel, &rt);
-    assert_data(&dcel, &rt);
-    assert_eq!(rt; walk(&dcel, &rt), 3);
+    for (place, datum) in [
+        (Datum::Vertex(vertex(0)), 100),
+        (Datum::UpdatedVertex(vertex(3)), 103),
+        (Datum::HalfEdge(half_edge(7)), 207),
+        (Datum::Edge(undirected_edge(5)), 305),
+        (Datum::Face(OUTER_FACE), 400),
+        (Datum::InnerFace(inner_face(3)), 403),
+    ] {
+        write(&mut dcel, place, datum, &rt);
+    }
+    assert_eq!(rt; degree(&dcel, 3, &rt), 3);
     assert!(rt; dcel.sanity_check());
     assert!(rt; edge_between(&dcel, 0, 3, &rt).is_some());
     flip(&mut dcel, undirected_edge(3), &rt);

@@ -93,13 +93,28 @@ fn assert_fixed<A: Allocator + Clone>(
     assert_data(dcel, alloc, 5_06_07, 0, rt)
 }
 
+/// A mesh of these vertices with an edge from vertex 2 to vertex 0.
+fn fixed<'a>(
+    memory: &'a Refusing<Global>,
+    vertices: Vec<i64, &'a Refusing<Global>>,
+    rt: &impl Abort,
+) -> Result<Watched<'a>, NoMemory<Vec<i64, &'a Refusing<Global>>>> {
+    let from = vertex(2);
+    let to = vertex(0);
+    assert!(rt; from.index() < vertices.len());
+    assert!(rt; to.index() < vertices.len());
+    assert!(rt; vertices.len() <= 4_294_967_296);
+    assert_ne!(rt; from.index(), to.index());
+    new_with_fixed_vertices(memory, vertices, from, to)
+}
+
 /// Makes a mesh of three vertices and an edge with the request of this number refused, and then again; answers whether so many
 /// requests came.
 fn are_fixed_vertices_refused(number: u64, alloc: Global, rt: &impl Abort) -> Result<bool, Fail> {
     let memory = Refusing::new(alloc);
     let vertices = vec![in &memory; 5, 6, 7]?;
     memory.refuse_one(number);
-    let made: Result<Watched, _> = new_with_fixed_vertices(&memory, vertices, vertex(2), vertex(0));
+    let made = fixed(&memory, vertices, rt);
     let is_refused = memory.requests() > number;
     memory.refuse_one(u64::MAX);
     assert_eq!(rt; made.is_err(), is_refused, "request {number}");
@@ -107,7 +122,7 @@ fn are_fixed_vertices_refused(number: u64, alloc: Global, rt: &impl Abort) -> Re
         Ok(dcel) => dcel,
         Err(refused) => {
             assert_eq!(rt; refused.back.as_slice(), [5, 6, 7].as_slice());
-            new_with_fixed_vertices(&memory, refused.back, vertex(2), vertex(0))?
+            fixed(&memory, refused.back, rt)?
         }
     };
     assert_fixed(dcel, &memory, rt)?;

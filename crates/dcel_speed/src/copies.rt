@@ -1,9 +1,10 @@
 //! Whole meshes, cloned, and with other data.
 
 use crate::digest::{digest_of, mix};
-use crate::fault::Fault;
+use crate::fault::{BuildError, Fault};
 use crate::measure::{FEWEST_EDITING, least_of};
 use crate::workloads::{Mesh, Outcome, Timed, triangulated};
+use std::alloc::Global;
 use std::rt::Clock;
 use std::time::Instant;
 
@@ -34,7 +35,7 @@ pub fn map<D: Default + Drop + Clone>(
     least_of(FEWEST_EDITING, || {
         let copy = built.try_clone(rt.alloc())?;
         let start = Instant::now(rt)?;
-        let mapped = copy.map_vertices(rt.alloc(), |datum| datum.wrapping_mul(3).wrapping_add(1))?;
+        let mapped = with_other_data(copy, rt.alloc())?;
         let elapsed = start.elapsed(rt)?;
         let outcome = Outcome {
             checksum: folded_data(&mapped),
@@ -42,6 +43,12 @@ pub fn map<D: Default + Drop + Clone>(
         };
         Ok(Timed { elapsed, outcome })
     })
+}
+
+/// The mesh with 3x + 1 in the place of each vertex's datum x.
+fn with_other_data<D: Drop>(dcel: Mesh<D>, alloc: Global) -> Result<Mesh<D>, BuildError> {
+    let mapped = dcel.map_vertices(alloc, |datum| datum.wrapping_mul(3).wrapping_add(1))?;
+    Ok(mapped)
 }
 
 /// The data of the vertices, mixed together in their order.

@@ -1,6 +1,5 @@
 //! Vertices, swapped in pairs.
 
-
 use crate::digest::digest_of;
 use crate::fault::Fault;
 use crate::measure::{FEWEST_EDITING, least_of};

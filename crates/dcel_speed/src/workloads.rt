@@ -360,7 +360,10 @@ fn add_origins<D>(sum: &mut Outcome, first: DirectedEdgeHandle<'_, i64, D, D, D>
 fn numbers_round_hull<D>(dcel: &Mesh<D>) -> Outcome {
     let mut sum = Outcome::default();
     for edge in HullIterator::new(dcel) {
-        sum.checksum = sum.checksum.wrapping_mul(3).wrapping_add(edge.index() as u64);
+        sum.checksum = sum
+            .checksum
+            .wrapping_mul(3)
+            .wrapping_add(edge.index() as u64);
         sum.operations = sum.operations.wrapping_add(1);
     }
     sum
