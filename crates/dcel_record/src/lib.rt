@@ -4,7 +4,8 @@
 #![tactic(auto)]
 
 ghost use Rattle.std.specs.Prelude.{◌≡◌, ◌↔◌, IfOk, IsTrue, Some};
-ghost use Rattle.dcel_maps.specs.Removals.{Closed, Isolated, Cleaned, ascending, gives_up_vertex, gives_up_edge, gives_up_face};
+ghost use Rattle.dcel_maps.specs.Removals.{Closed, Isolated, Cleaned, gives_up_vertex, gives_up_edge, gives_up_face, IsInOrder, IsListed};
+ghost use Rattle.dcel_record.specs.Record.{state_of};
 
 mod given_up;
 
@@ -16,6 +17,19 @@ pub use given_up::GivenUp;
 use std::alloc::{AllocError, Allocator};
 use std::marker::Model;
 
+/// How far a removal has come.
+#[derive(Clone, Copy, PartialEq, Eq, Debug)]
+pub enum RemovalState {
+    /// No removal is open.
+    Closed,
+
+    /// One is open: what it has given up is still there, and to be cleaned up.
+    Isolated,
+
+    /// One is open: the edges and faces that it has given up are gone, and its vertex is still to be taken out.
+    Cleaned,
+}
+
 /// What an open removal has given up: nothing while none is open; edges, faces and a vertex until they are cleaned up; and then
 /// the vertex alone.
 #[derive(Drop)]
@@ -24,7 +38,7 @@ pub struct RemovalRecord<A: Allocator> {
 }
 
 #[derive(Drop)]
-pub enum State<A: Allocator> {
+enum State<A: Allocator> {
     Closed,
     Isolated(GivenUp<UndirectedEdgeTag, A>, GivenUp<FaceTag, A>, Option<FixedVertexHandle>),
     Cleaned(FixedVertexHandle),
@@ -81,6 +95,36 @@ impl<A: Allocator> RemovalRecord<A> {
         ensures { IsTrue result ↔ (self.now ≡ Closed) }
     {
         matches!(self.state, State::Closed)
+    }
+
+    /// How far the removal has come.
+    #[inline]
+    pub fn state(&self) -> RemovalState
+        ensures { result ≡ state_of self.now }
+    {
+        match &self.state {
+            State::Closed => RemovalState::Closed,
+            State::Isolated(_, _, _) => RemovalState::Isolated,
+            State::Cleaned(_) => RemovalState::Cleaned,
+        }
+    }
+
+    /// Whether edges and faces are given up and not yet gone, and the lists name these, each once, in any order. It looks at each place
+    /// of the lists once where their order is the one in which they were given up; else the time may grow with the square of their lengths.
+    pub fn lists(
+        &self,
+        edges: &[FixedUndirectedEdgeHandle],
+        faces: &[FixedFaceHandle<InnerTag>],
+    ) -> bool
+        requires { IsInOrder self.now }
+        ensures { IsTrue result ↔ IsListed self.now edges.now faces.now }
+    {
+        match &self.state {
+            State::Isolated(given_up_edges, given_up_faces, _) => {
+                given_up_edges.matches(edges) && given_up_faces.matches(faces)
+            }
+            _ => false,
+        }
     }
 
     /// Whether the vertex is given up.
