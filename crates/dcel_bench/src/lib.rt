@@ -56,6 +56,7 @@ pub mod texts;
 mod transfers;
 #[cfg(test)]
 mod triangles;
+pub mod uses;
 #[cfg(test)]
 mod walks_both_ends;
 #[cfg(test)]

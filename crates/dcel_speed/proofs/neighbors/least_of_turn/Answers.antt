@@ -1,6 +1,6 @@
 use Rattle.spade_dcel.specs.Handles.{mesh_behind, number_of}
 use Rattle.dcel_maps.specs.Walking.{ccw_of, walk_of}
-use Rattle.dcel_speed.proofs.Listing.{all_live}
+use Rattle.dcel_maps.proofs.walks.Listing.{all_live}
 use Rattle.dcel_speed.proofs.neighbors.least_of_turn.Goals as goal
 
 pub loop-edge-init : goal.loop-edge-init

@@ -1,6 +1,6 @@
 use Rattle.spade_dcel.specs.Handles.{mesh_behind, number_of}
 use Rattle.dcel_maps.specs.Walking.{out_edges_of}
-use Rattle.dcel_speed.proofs.Listing.{all_live}
+use Rattle.dcel_maps.proofs.walks.Listing.{all_live}
 use Rattle.dcel_speed.proofs.workloads.add_ends.Goals as goal
 
 pub loop-edge-init : goal.loop-edge-init

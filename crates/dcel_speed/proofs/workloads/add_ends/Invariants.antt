@@ -1,4 +1,4 @@
-use Rattle.dcel_speed.proofs.Listing.{AllLive}
+use Rattle.dcel_maps.proofs.walks.Listing.{AllLive}
 use Rattle.dcel_speed.proofs.workloads.add_ends.Given as goal
 
 abbrev pub invariant-loop-edge : goal.invariant-loop-edge

@@ -1,7 +1,7 @@
 use Rattle.spade_dcel.specs.Handles.{mesh_behind, number_of}
 use Rattle.dcel_maps.specs.Shapes.{next_of}
 use Rattle.dcel_maps.specs.Walking.{walk_of}
-use Rattle.dcel_speed.proofs.Listing.{all_live}
+use Rattle.dcel_maps.proofs.walks.Listing.{all_live}
 use Rattle.dcel_speed.proofs.workloads.add_origins.Goals as goal
 
 pub loop-edge-init : goal.loop-edge-init

@@ -1,0 +1,181 @@
+//! What is written over this layer, with spade's names: a walk on the graph of a mesh, an editor that makes a mesh finer, and a reader
+//! of the Voronoi diagram. Each is proved for all data.
+
+ghost use Rattle.std.specs.Prelude.{◌<◌};
+ghost use Rattle.dcel_maps.specs.Conditions.{CanFlip};
+
+use spade_dcel::dcel::Dcel;
+use spade_dcel::handles::{
+    FixedFaceHandle, FixedUndirectedEdgeHandle, FixedVertexHandle, InnerTag, VertexHandle,
+    VoronoiFace, VoronoiVertex,
+};
+use spade_dcel::operations::{append_unconnected_vertex, flip_cw, insert_into_triangle};
+use std::alloc::{AllocError, Global};
+
+/// A graph walk: how many edges a shortest way has from one vertex to each other one, and None where none leads there.
+pub fn steps_from<V, DE, UE, F>(
+    dcel: &Dcel<V, DE, UE, F>,
+    start: FixedVertexHandle,
+    alloc: Global,
+) -> Result<Vec<Option<usize>>, AllocError> {
+    let mut steps: Vec<Option<usize>> = Vec::new(alloc);
+    steps.resize(dcel.num_vertices(), None)?;
+    if let Some(first) = steps.get_mut(start.index()) {
+        *first = Some(0);
+    }
+    for step in 0..dcel.num_vertices() {
+        for vertex in dcel.vertices() {
+            if steps.get(vertex.index()) == Some(&Some(step)) {
+                reach_neighbors(vertex, step + 1, &mut steps);
+            }
+        }
+    }
+    Ok(steps)
+}
+
+// Each neighbor that wasn't reached is, by so many steps.
+fn reach_neighbors<V, DE, UE, F>(
+    vertex: VertexHandle<'_, V, DE, UE, F>,
+    step: usize,
+    steps: &mut [Option<usize>],
+) {
+    for edge in vertex.out_edges() {
+        let neighbor = edge.to().index();
+        if let Some(place) = steps.get_mut(neighbor) {
+            if place.is_none() {
+                *place = Some(step);
+            }
+        }
+    }
+}
+
+/// A mesh editor: puts a vertex into each inner triangle, and then turns each edge of before that has such a triangle on both sides. Where
+/// memory or numbers run out, the mesh is finer so far.
+pub fn refine<V: Copy + Drop, DE: Default + Drop, UE: Default + Drop, F: Default + Drop>(
+    dcel: &mut Dcel<V, DE, UE, F>,
+    datum: V,
+) -> Result<(), AllocError> {
+    let edges = dcel.num_undirected_edges();
+    for index in 1..dcel.num_faces() {
+        put_into(dcel, datum, FixedFaceHandle::new(index))?;
+    }
+    for index in 0..edges {
+        let edge = FixedUndirectedEdgeHandle::new(index);
+        if dcel.can_flip(edge) && !is_on_hull(dcel, edge) {
+            flip_cw(dcel, edge);
+        }
+    }
+    Ok(())
+}
+
+fn is_on_hull<V, DE, UE, F>(dcel: &Dcel<V, DE, UE, F>, edge: FixedUndirectedEdgeHandle) -> bool
+    requires { CanFlip dcel.now.shape edge }
+{
+    prove!(dcel.num_undirected_edges() <= 2_147_483_648);
+    dcel.directed_edge(edge.as_directed())
+        .is_part_of_convex_hull()
+}
+
+// A new vertex comes into the face, where that is a triangle.
+fn put_into<V: Drop, DE: Default + Drop, UE: Default + Drop, F: Default + Drop>(
+    dcel: &mut Dcel<V, DE, UE, F>,
+    datum: V,
+    face: FixedFaceHandle<InnerTag>,
+) -> Result<(), AllocError>
+    requires { 0 < face }
+{
+    if !dcel.is_triangle(face) || !dcel.has_room(1, 3, 2) {
+        return Ok(());
+    }
+    let vertex = append_unconnected_vertex(dcel, datum).map_err(|_| AllocError)?;
+    if dcel.is_triangle(face) && dcel.is_unconnected(vertex) && dcel.has_room(0, 3, 2) {
+        insert_into_triangle(dcel, vertex, face)?;
+    }
+    Ok(())
+}
+
+/// A reader of the Voronoi diagram: the corners of one of its faces, each a face of the mesh, and whether it is open, with an edge that
+/// comes from none.
+pub fn corners_of<V, DE, UE, F>(
+    face: VoronoiFace<'_, V, DE, UE, F>,
+    alloc: Global,
+) -> Result<(Vec<FixedFaceHandle<InnerTag>>, bool), AllocError> {
+    let mut corners = Vec::new(alloc);
+    let mut is_open = false;
+    for edge in face.adjacent_edges() {
+        match edge.from() {
+            VoronoiVertex::Inner(corner) => corners.push(corner.fix())?,
+            VoronoiVertex::Outer(_) => is_open = true,
+        }
+    }
+    Ok((corners, is_open))
+}
+
+#[cfg(test)]
+mod tests {
+    use super::*;
+    use crate::meshes::{Mesh, append, inner_face, vertex};
+    use spade_dcel::operations::{extend_line, new, new_triangle, setup_initial_two_vertices};
+    use std::test::Fail;
+
+    #[test]
+    fn a_shortest_way_along_a_line(rt: HostRuntime) -> Result<(), Fail> {
+        let mut dcel: Mesh = new(rt.alloc())?;
+        let a = append(&mut dcel, 0, &rt)?;
+        let b = append(&mut dcel, 1, &rt)?;
+        let c = append(&mut dcel, 2, &rt)?;
+        let _ = append(&mut dcel, 3, &rt)?;
+        assert!(rt; dcel.num_undirected_edges() == 0 && dcel.has_room(0, 2, 0));
+        assert!(rt; dcel.is_live_vertex(a) && dcel.is_live_vertex(b) && a.index() != b.index());
+        setup_initial_two_vertices(&mut dcel, a, b)?;
+        assert!(rt; dcel.is_line_end(a) && dcel.is_unconnected(c) && dcel.has_room(0, 1, 0));
+        extend_line(&mut dcel, a, c)?;
+
+        let steps = steps_from(&dcel, c, rt.alloc())?;
+        assert_eq!(rt;
+            steps.as_slice(),
+            [Some(1), Some(2), Some(0), None].as_slice()
+        );
+        Ok(())
+    }
+
+    // A triangle, with a vertex inside after the first step and with three more and its inner edges turned after the second.
+    #[test]
+    fn a_finer_mesh_is_triangulated(rt: HostRuntime) -> Result<(), Fail> {
+        let mut dcel: Mesh = new_triangle(rt.alloc(), (0, 1, 2))?;
+        for counts in [(4, 6, 4), (7, 15, 10)] {
+            refine(&mut dcel, 7)?;
+            assert_eq!(rt;
+                (
+                    dcel.num_vertices(),
+                    dcel.num_undirected_edges(),
+                    dcel.num_faces()
+                ),
+                counts
+            );
+            assert!(rt; dcel.sanity_check());
+        }
+        for corner in 0..3 {
+            assert!(rt;
+                dcel.get_edge_from_neighbors(vertex(3), vertex(corner))
+                    .is_none()
+            );
+        }
+        Ok(())
+    }
+
+    #[test]
+    fn corners_of_voronoi_faces(rt: HostRuntime) -> Result<(), Fail> {
+        let mut dcel: Mesh = new_triangle(rt.alloc(), (0, 1, 2))?;
+        refine(&mut dcel, 3)?;
+        assert!(rt; dcel.num_vertices() > 3);
+        let (corners, is_open) = corners_of(dcel.vertex(vertex(3)).as_voronoi_face(), rt.alloc())?;
+        let faces = [inner_face(2), inner_face(3), inner_face(1)];
+        assert_eq!(rt; corners.as_slice(), faces.as_slice());
+        assert!(rt; !is_open);
+        let (corners, is_open) = corners_of(dcel.vertex(vertex(0)).as_voronoi_face(), rt.alloc())?;
+        assert_eq!(rt; corners.len(), 2);
+        assert!(rt; is_open);
+        Ok(())
+    }
+}
