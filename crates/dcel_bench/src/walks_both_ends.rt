@@ -2,7 +2,8 @@
 
 ghost use Rattle.std.specs.Iterator.{IsFinite};
 
-use crate::meshes::{Mesh, append, cut_triangle, first_edge, half_edge, vertex};
+use crate::growths::{FIRST_EDGE, cut_triangle, grown};
+use crate::meshes::{Mesh, append, half_edge, vertex};
 use crate::own_steps::{PrevNextBackFn, RevNextBackFn};
 use spade_dcel::handles::DirectedEdgeHandle;
 use spade_dcel::iterators::{
@@ -189,7 +190,11 @@ fn elements_are_counted(rt: HostRuntime) -> Result<(), Fail> {
     assert_lengths(&dcel, [0, 0, 0, 1, 0, 0], &rt);
     assert_eq!(rt; append(&mut dcel, 0, &rt)?, vertex(0));
     assert_lengths(&dcel, [1, 0, 0, 1, 0, 0], &rt);
-    assert_lengths(&first_edge(rt.alloc(), &rt)?, [2, 2, 1, 1, 0, 2], &rt);
+    assert_lengths(
+        &grown(rt.alloc(), &FIRST_EDGE, &rt)?,
+        [2, 2, 1, 1, 0, 2],
+        &rt,
+    );
     assert_lengths(&cut_triangle(rt.alloc(), &rt)?, [4, 12, 6, 4, 3, 3], &rt);
     Ok(())
 }
