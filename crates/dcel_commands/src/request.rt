@@ -1,5 +1,4 @@
-//! What a line says: a command, or a query. Each has a file of its own: how it is read, what it asks, and how it is carried out or told.
-#![tactic(auto, unfolding(crate::specs::Spelling::Says))]
+//! What a line says: a command, or a query. Each has a file of its own: what it asks, and how it is carried out or told.
 
 pub mod append;
 pub mod between;
@@ -29,15 +28,11 @@ use crate::asking::{
     has_half_edge, has_room, has_vertex,
 };
 use crate::commands::{Command, Handed, Refused, Reply};
-use crate::given::{
-    edge_and_vertex, number_and_datum, one_number, three_data, two_numbers, two_vertices,
-};
 use crate::refusal::Refusal;
 use dcel_fixed::{
     FixedDirectedEdgeHandle, FixedFaceHandle, FixedUndirectedEdgeHandle, FixedVertexHandle,
     InnerTag,
 };
-use dcel_text::items::{Rest, datum_then, nothing};
 use dcel_text::output::Writer;
 use dcel_text::sink::LineSink;
 use spade_dcel::dcel::Dcel;

@@ -1,18 +1,10 @@
 //! `half H B`
 
-ghost use Rattle.std.specs.Prelude.{◌≤◌, ◌^◌, codes};
-ghost use Rattle.dcel_commands.specs.Vocabulary.{Carries, Says, left};
+ghost use Rattle.std.specs.Prelude.{◌≤◌, ◌^◌};
+ghost use Rattle.dcel_commands.specs.Vocabulary.{Carries};
 
 use super::*;
 use spade_dcel::operations::split_half_edge;
-
-/// What the line says after its word.
-pub fn read<'a>(rest: Rest<'a>) -> Option<Request>
-    ensures { Says (codes "half") (left rest.entry) result }
-{
-    let (edge, vertex) = edge_and_vertex(rest)?;
-    Some(Request::Edit(Command::Half(edge, vertex)))
-}
 
 /// Carries the command out.
 pub fn carry_out<V, DE: Default, UE: Default, F: Default, A: Allocator>(

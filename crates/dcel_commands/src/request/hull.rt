@@ -1,21 +1,12 @@
 //! `hull`
 
-ghost use Rattle.std.specs.Prelude.{codes};
-ghost use Rattle.dcel_commands.specs.Vocabulary.{Says, Writes, left};
+ghost use Rattle.dcel_commands.specs.Vocabulary.{Writes};
 ghost use Rattle.dcel_commands.specs.request.Hull.{hull_text};
 
 use super::*;
 use crate::request::words::write_half_edges;
 use spade_dcel::handles::OUTER_FACE;
 use spade_dcel::laws::every_mesh;
-
-/// What the line says after its word.
-pub fn read<'a>(rest: Rest<'a>) -> Option<Request>
-    ensures { Says (codes "hull") (left rest.entry) result }
-{
-    nothing(rest)?;
-    Some(Request::Ask(Query::Hull))
-}
 
 /// Writes the line of the half edges round the outer face, from the least on.
 pub fn write_hull<V, DE, UE, F, A: Allocator, K: LineSink>(

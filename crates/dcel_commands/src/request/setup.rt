@@ -1,18 +1,10 @@
 //! `setup A B`
 
-ghost use Rattle.std.specs.Prelude.{◌≤◌, ◌^◌, codes};
-ghost use Rattle.dcel_commands.specs.Vocabulary.{Carries, Says, left};
+ghost use Rattle.std.specs.Prelude.{◌≤◌, ◌^◌};
+ghost use Rattle.dcel_commands.specs.Vocabulary.{Carries};
 
 use super::*;
 use spade_dcel::operations::setup_initial_two_vertices;
-
-/// What the line says after its word.
-pub fn read<'a>(rest: Rest<'a>) -> Option<Request>
-    ensures { Says (codes "setup") (left rest.entry) result }
-{
-    let (first, second) = two_vertices(rest)?;
-    Some(Request::Edit(Command::Setup(first, second)))
-}
 
 /// Carries the command out.
 pub fn carry_out<V, DE: Default, UE: Default, F: Default, A: Allocator>(

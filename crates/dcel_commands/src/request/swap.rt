@@ -1,17 +1,9 @@
 //! `swap A B`
 
-ghost use Rattle.std.specs.Prelude.{ℕ, codes};
-ghost use Rattle.dcel_commands.specs.Vocabulary.{Carries, Says, left};
+ghost use Rattle.std.specs.Prelude.{ℕ};
+ghost use Rattle.dcel_commands.specs.Vocabulary.{Carries};
 
 use super::*;
-
-/// What the line says after its word.
-pub fn read<'a>(rest: Rest<'a>) -> Option<Request>
-    ensures { Says (codes "swap") (left rest.entry) result }
-{
-    let (first, second) = two_vertices(rest)?;
-    Some(Request::Edit(Command::Swap(first, second)))
-}
 
 /// Carries the command out.
 pub fn carry_out<V, DE: Default, UE: Default, F: Default, A: Allocator>(

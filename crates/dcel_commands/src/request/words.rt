@@ -1,20 +1,12 @@
 //! `words`
 
-ghost use Rattle.std.specs.Prelude.{◌≡◌, ◌<◌, codes};
-ghost use Rattle.dcel_commands.specs.Vocabulary.{IsLive, IsMesh, IsSound, Says, Writes, face_count, face_of, left, listed, mesh_behind, number_of, word_of};
+ghost use Rattle.std.specs.Prelude.{◌≡◌, ◌<◌};
+ghost use Rattle.dcel_commands.specs.Vocabulary.{IsLive, IsMesh, IsSound, Writes, face_count, face_of, listed, mesh_behind, number_of, word_of};
 ghost use Rattle.dcel_commands.specs.request.Words.{line_of, words_text, word_round, IsLeastOnFace};
 
 use super::*;
 use spade_dcel::handles::{DirectedEdgeHandle, PossiblyOuterTag, new_fixed_face_handle};
 use spade_dcel::laws::every_mesh;
-
-/// What the line says after its word.
-pub fn read<'a>(rest: Rest<'a>) -> Option<Request>
-    ensures { Says (codes "words") (left rest.entry) result }
-{
-    nothing(rest)?;
-    Some(Request::Ask(Query::Words))
-}
 
 /// The least half edge of the face that the anchor lies on.
 fn least_on_face<'a, V, DE, UE, F, A: Allocator>(
