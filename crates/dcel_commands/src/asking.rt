@@ -4,8 +4,8 @@ ghost use Rattle.std.specs.Prelude.{◌≡◌, ◌↔◌, ◌+◌, ◌*◌, ◌<
 ghost use Rattle.dcel_maps.specs.Conditions.{HasRoom};
 ghost use Rattle.dcel_maps.specs.Shapes.{IsLive, face_count};
 ghost use Rattle.dcel_commands.specs.Conditions.{AllMet, AreWithin, FirstUnmet, OnTriangle};
-ghost use Rattle.dcel_commands.specs.EdgeAndVertex.{edge_and_vertex};
-ghost use Rattle.dcel_commands.specs.TwoVertices.{live_vertices, two_vertices};
+ghost use Rattle.dcel_commands.specs.request.AtEdge.{edge_and_vertex};
+ghost use Rattle.dcel_commands.specs.request.Vertices.{live_vertices, two_vertices};
 ghost use Rattle.spade_dcel.specs.Handles.{mesh_behind, number_of};
 ghost use Rattle.dcel_commands.specs.declared.refusal.Refusal.TheVariants.{NotTriangle};
 

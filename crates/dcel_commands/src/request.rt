@@ -1,26 +1,22 @@
-//! What a line says: a command, or a query. Each has a file of its own: what it asks, and how it is carried out or told.
+//! What a line says: a command, or a query. What each asks, and how it is carried out or told, stands in a file of its own, or in one
+//! with the lines of its form.
 
 pub mod append;
+pub mod at_edge;
 pub mod between;
 pub mod check;
 pub mod clear;
 pub mod close;
 pub mod counts;
-pub mod extend;
 pub mod flip;
 pub mod get;
-pub mod half;
 pub mod hull;
 pub mod insert;
-pub mod line;
 pub mod origin;
 pub mod out;
-pub mod outside;
 pub mod put;
-pub mod setup;
-pub mod split;
-pub mod swap;
 pub mod triangle;
+pub mod vertices;
 pub mod words;
 
 use crate::asking::{
