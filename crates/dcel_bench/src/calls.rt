@@ -63,35 +63,23 @@ fn anchors_and_tests_answer(rt: HostRuntime) -> Result<(), Fail> {
     Ok(())
 }
 
-/// Calls, and of the half edges of the mesh then, and of numbers that are none: whether each is a bridge, and whether a face can be
-/// closed there.
-type Edges = (&'static [Growth], &'static [(u32, bool, bool)]);
+/// Calls; half edges of the mesh then, and numbers that are none; and of these the bridges, and those where a face can be closed.
+type Edges = (
+    &'static [Growth],
+    &'static [u32],
+    &'static [u32],
+    &'static [u32],
+);
 
 const EDGES: [Edges; 3] = [
     // The outer word is 0, 5, 4, 1, 3, 2, round the line 2, 0, 1, 3.
     (
         &LINE,
-        &[
-            (0, true, true),
-            (1, true, true),
-            (2, true, true),
-            (3, true, false),
-            (4, true, true),
-            (5, true, false),
-            (6, false, false),
-            (4_294_967_295, false, false),
-        ],
+        &[0, 1, 2, 3, 4, 5, 6, 4_294_967_295],
+        &[0, 1, 2, 3, 4, 5],
+        &[0, 1, 2, 4],
     ),
-    (
-        &TRIANGLE_AND_VERTEX,
-        &[
-            (0, false, true),
-            (1, false, false),
-            (2, false, true),
-            (3, false, false),
-            (6, false, false),
-        ],
-    ),
+    (&TRIANGLE_AND_VERTEX, &[0, 1, 2, 3, 6], &[], &[0, 2]),
     // The words are 0, 7, 4, 2, 1 and 3, 5, 6: a triangle of 1, 2 and 3, and the edge from 0 to 1.
     (
         &[
@@ -104,30 +92,24 @@ const EDGES: [Edges; 3] = [
             Extend(2, 3),
             Close(3),
         ],
-        &[
-            (0, true, true),
-            (1, true, false),
-            (2, false, true),
-            (3, false, false),
-            (4, false, true),
-            (5, false, false),
-            (6, false, false),
-            (7, false, true),
-            (8, false, false),
-        ],
+        &[0, 1, 2, 3, 4, 5, 6, 7, 8],
+        &[0, 1],
+        &[0, 2, 4, 7],
     ),
 ];
 
 #[test]
 fn edges_are_tested(rt: HostRuntime) -> Result<(), Fail> {
-    for (growths, edges) in EDGES {
+    for (growths, edges, bridges, corners) in EDGES {
         let dcel = grown(rt.alloc(), growths, &rt)?;
-        for (index, is_bridge, can_close) in edges {
+        for index in edges {
             let edge = half_edge(*index);
-            assert_eq!(rt; dcel.is_bridge(edge), *is_bridge, "half edge {index}");
+            let is_bridge = bridges.contains(index);
+            let can_close = corners.contains(index);
+            assert_eq!(rt; dcel.is_bridge(edge), is_bridge, "half edge {index}");
             assert_eq!(rt;
                 dcel.can_close_outside(edge),
-                *can_close,
+                can_close,
                 "half edge {index}"
             );
         }

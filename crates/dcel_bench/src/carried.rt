@@ -3,7 +3,7 @@
 use crate::growths::Growth::{
     Append, Close, PutBeside, SplitBothSides, SplitOnLine, SplitOneSide, Triangle,
 };
-use crate::growths::{CUT, FIRST_EDGE, Growth, LINE, TRIANGLE_AND_VERTEX, grow, grown};
+use crate::growths::{CUT, FIRST_EDGE, Growth, LINE, TRIANGLE_AND_VERTEX, grow, grown, grown_on};
 use crate::meshes::{Mesh, assert_counts, edge_between};
 use spade_dcel::handles::FixedDirectedEdgeHandle;
 use std::alloc::Global;
@@ -18,10 +18,7 @@ fn checked(
     [vertices, directed_edges, faces]: [usize; 3],
     rt: &impl Abort,
 ) -> Result<Mesh, Fail> {
-    let mut dcel = grown(alloc, begun, rt)?;
-    for growth in growths {
-        assert!(rt; grow(&mut dcel, alloc, *growth, rt));
-    }
+    let dcel = grown_on(alloc, begun, growths, rt)?;
     assert_counts(&dcel, vertices, directed_edges, faces, rt);
     assert!(rt; dcel.sanity_check());
     Ok(dcel)

@@ -4,7 +4,9 @@ use crate::growths::Growth::{
     Append, Close, Extend, Insert, PutBeside, SetUp, SplitBothSides, SplitOnLine, SplitOneSide,
     Triangle,
 };
-use crate::growths::{FIRST_EDGE, Growth, TRIANGLE_AND_VERTEX, assert_refused, carry_out, grown};
+use crate::growths::{
+    FIRST_EDGE, Growth, LINE, TRIANGLE_AND_VERTEX, assert_refused, carry_out, grown_on,
+};
 use crate::meshes::{Mesh, NO_LIMIT, assert_counts};
 use dcel_commands::commands::Refusal::{
     EdgesStand, NoRoom, NoSuchEdge, NoSuchFace, NoSuchVertex, NotBridge, NotLineEnd, NotOuter,
@@ -14,9 +16,10 @@ use dcel_commands::commands::{MAX_LIMIT, Refusal};
 use std::process::Abort;
 use std::test::Fail;
 
-/// Calls that make a mesh; commands that it refuses, by the limit and why; and commands that each carry out on such a mesh, with the
-/// limit, and how many vertices, half edges and faces there are then.
+/// Calls that make a mesh, and more of them; commands that it refuses, by the limit and why; and commands of which each is carried out
+/// on such a mesh, with the limit, and how many vertices, half edges and faces there are then.
 type Row = (
+    &'static [Growth],
     &'static [Growth],
     &'static [(usize, Refusal, &'static [Growth])],
     &'static [(Growth, usize, (usize, usize, usize))],
@@ -25,11 +28,13 @@ type Row = (
 const ROWS: [Row; 7] = [
     (
         &[],
+        &[],
         &[(0, NoRoom, &[Append(-7)])],
         &[(Append(-7), 1, (1, 0, 1))],
     ),
     (
         &[Append(10), Append(11)],
+        &[],
         &[
             (NO_LIMIT, NoSuchVertex, &[SetUp(2, 0), SetUp(0, 2)]),
             (NO_LIMIT, SameVertex, &[SetUp(0, 0)]),
@@ -39,6 +44,7 @@ const ROWS: [Row; 7] = [
     ),
     (
         &FIRST_EDGE,
+        &[],
         &[
             (2, EdgesStand, &[SetUp(0, 1)]),
             (0, NoSuchEdge, &[Close(2)]),
@@ -48,16 +54,8 @@ const ROWS: [Row; 7] = [
     ),
     // The line 2, 0, 1, 3, and vertex 4 beside it. The outer word is 0, 5, 4, 1, 3, 2.
     (
-        &[
-            Append(0),
-            Append(1),
-            SetUp(0, 1),
-            Append(2),
-            Extend(0, 2),
-            Append(3),
-            Extend(1, 3),
-            Append(4),
-        ],
+        &LINE,
+        &[Append(4)],
         &[
             (2, NoRoom, &[Triangle(7, -8, 9)]),
             (NO_LIMIT, NoSuchVertex, &[Extend(5, 4), Extend(2, 5)]),
@@ -88,6 +86,7 @@ const ROWS: [Row; 7] = [
     ),
     (
         &TRIANGLE_AND_VERTEX,
+        &[],
         &[
             (
                 NO_LIMIT,
@@ -139,7 +138,8 @@ const ROWS: [Row; 7] = [
     ),
     // The outer word is 4, 7, between two edges that join 0 and 2.
     (
-        &[Triangle(0, 1, 2), Close(0)],
+        &[Triangle(0, 1, 2)],
+        &[Close(0)],
         &[
             (0, WouldLoop, &[Close(4), Close(7)]),
             (0, NotOuter, &[Close(6)]),
@@ -148,7 +148,8 @@ const ROWS: [Row; 7] = [
     ),
     // The words are 0, 7, 4 and 1, 5, 3, 9 and 2, 6, 8.
     (
-        &[Triangle(0, 1, 2), Append(3), SplitOneSide(0, 3), Append(4)],
+        &TRIANGLE_AND_VERTEX,
+        &[SplitOneSide(0, 3), Append(4)],
         &[
             (0, VertexInUse, &[SplitOneSide(1, 3), SplitBothSides(4, 3)]),
             (0, NotTriangle, &[SplitOneSide(1, 4), SplitOneSide(9, 4)]),
@@ -183,9 +184,9 @@ fn assert_all_refused(dcel: &mut Mesh, refused: &[(usize, Refusal, &[Growth])], 
 
 #[test]
 fn commands_are_refused(rt: HostRuntime) -> Result<(), Fail> {
-    for (begun, refused, carried_out) in ROWS {
+    for (begun, growths, refused, carried_out) in ROWS {
         for (growth, enough, (vertices, directed_edges, faces)) in carried_out {
-            let mut dcel = grown(rt.alloc(), begun, &rt)?;
+            let mut dcel = grown_on(rt.alloc(), begun, growths, &rt)?;
             assert_all_refused(&mut dcel, refused, &rt);
             assert!(rt; carry_out(&mut dcel, *growth, *enough, &rt));
             assert_counts(&dcel, *vertices, *directed_edges, *faces, &rt);

@@ -175,8 +175,31 @@ pub fn grown(alloc: Global, growths: &[Growth], rt: &impl Abort) -> Result<Mesh,
     Ok(dcel)
 }
 
+/// The mesh after these calls and then those.
+pub fn grown_on(
+    alloc: Global,
+    begun: &[Growth],
+    growths: &[Growth],
+    rt: &impl Abort,
+) -> Result<Mesh, Fail> {
+    let mut dcel = grown(alloc, begun, rt)?;
+    for growth in growths {
+        assert!(rt; grow(&mut dcel, alloc, *growth, rt));
+    }
+    Ok(dcel)
+}
+
 /// An edge from vertex 0 to vertex 1.
 pub const FIRST_EDGE: [Growth; 3] = [Append(0), Append(1), SetUp(0, 1)];
+
+/// The line 0, 2, 1, by a split.
+pub const SPLIT_EDGE: [Growth; 5] = [
+    Append(0),
+    Append(1),
+    SetUp(0, 1),
+    Append(2),
+    SplitOnLine(0, 2),
+];
 
 /// The line 2, 0, 1, 3.
 pub const LINE: [Growth; 7] = [

@@ -4,7 +4,7 @@ use crate::growths::Growth::{
     Append, Close, Extend, Insert, PutBeside, SetUp, SplitBothSides, SplitOnLine, SplitOneSide,
     Triangle,
 };
-use crate::growths::{Growth, carry_out, grow};
+use crate::growths::{Growth, TRIANGLE_AND_VERTEX, carry_out, grow};
 use crate::meshes::{
     CUT_TRIANGLE, Links, Mesh, NO_LIMIT, assert_counts, assert_links, half_edge, vertex,
 };
@@ -21,46 +21,54 @@ pub const MANY: u64 = 20;
 /// A mesh whose memory may be refused.
 type Watched<'a> = Mesh<&'a Refusing<Global>>;
 
-/// Calls that have memory, then calls of which one is refused a request; and what the mesh is after them: how many vertices, half
-/// edges and faces, and the links.
+/// Calls that have memory, and more of them; then calls of which one is refused a request; and what the mesh is after them: how many
+/// vertices, and the links.
 type Row = (
     &'static [Growth],
     &'static [Growth],
-    (usize, usize, usize),
+    &'static [Growth],
+    usize,
     Links,
 );
+
+/// An edge from vertex 0 to vertex 1, and four vertices beside it.
+const EDGE_OF_SIX: [Growth; 7] = [
+    Append(0),
+    Append(1),
+    Append(2),
+    Append(3),
+    Append(4),
+    Append(5),
+    SetUp(0, 1),
+];
 
 const ROWS: [Row; 10] = [
     (
         &[Append(0), Append(1), SetUp(1, 0)],
+        &[],
         &[Triangle(7, -8, 9)],
-        (3, 6, 2),
+        3,
         (&[&[0, 2, 4], &[1, 5, 3]], &[0, 1, 1, 2, 2, 0]),
     ),
     (
         &[],
+        &[],
         &[Append(0), Append(-1), Append(2), Append(-3), Append(4)],
-        (5, 0, 1),
+        5,
         (&[&[]], &[]),
     ),
     (
         &[Append(0), Append(1)],
+        &[],
         &[SetUp(1, 0)],
-        (2, 2, 1),
+        2,
         (&[&[0, 1]], &[1, 0]),
     ),
     (
-        &[
-            Append(0),
-            Append(1),
-            Append(2),
-            Append(3),
-            Append(4),
-            Append(5),
-            SetUp(0, 1),
-        ],
+        &EDGE_OF_SIX,
+        &[],
         &[Extend(1, 2), Extend(2, 3), Extend(3, 4), Extend(4, 5)],
-        (6, 10, 1),
+        6,
         (
             &[&[0, 3, 5, 7, 9, 8, 6, 4, 2, 1]],
             &[0, 1, 2, 1, 3, 2, 4, 3, 5, 4],
@@ -68,49 +76,32 @@ const ROWS: [Row; 10] = [
     ),
     (
         &[Triangle(0, 1, 2), Append(3)],
+        &[],
         &[Insert(3, 1)],
-        (4, 12, 4),
+        4,
         CUT_TRIANGLE,
     ),
     (
-        &[
-            Append(0),
-            Append(1),
-            Append(2),
-            Append(3),
-            Append(4),
-            Append(5),
-            SetUp(0, 1),
-        ],
+        &EDGE_OF_SIX,
+        &[],
         &[
             SplitOnLine(0, 2),
             SplitOnLine(1, 3),
             SplitOnLine(2, 4),
             SplitOnLine(5, 5),
         ],
-        (6, 10, 1),
+        6,
         (
             &[&[0, 2, 6, 7, 3, 1, 9, 4, 5, 8]],
             &[3, 2, 2, 4, 5, 0, 4, 1, 5, 3],
         ),
     ),
     (
-        &[
-            Append(0),
-            Append(1),
-            Append(2),
-            Append(3),
-            Append(4),
-            Append(5),
-            SetUp(0, 1),
-            Extend(1, 2),
-            Extend(2, 3),
-            Extend(3, 4),
-            Extend(4, 5),
-        ],
+        &EDGE_OF_SIX,
+        &[Extend(1, 2), Extend(2, 3), Extend(3, 4), Extend(4, 5)],
         // The last one wants room for an edge and for a face.
         &[Close(0), Close(5), Close(2), Close(6)],
-        (6, 18, 5),
+        6,
         (
             &[
                 &[11, 13, 9, 8, 17, 15],
@@ -123,10 +114,11 @@ const ROWS: [Row; 10] = [
         ),
     ),
     (
-        &[Triangle(0, 1, 2), Append(3), Append(4), Append(5)],
+        &TRIANGLE_AND_VERTEX,
+        &[Append(4), Append(5)],
         // The first one wants room for edges, the last one for edges and for a face.
         &[PutBeside(0, 3), PutBeside(1, 4), PutBeside(7, 5)],
-        (6, 18, 5),
+        6,
         (
             &[
                 &[2, 4, 9, 17, 15],
@@ -139,9 +131,10 @@ const ROWS: [Row; 10] = [
         ),
     ),
     (
-        &[Triangle(0, 1, 2), Append(3), Append(4), Append(5)],
+        &TRIANGLE_AND_VERTEX,
+        &[Append(4), Append(5)],
         &[SplitOneSide(0, 3), SplitOneSide(4, 4), SplitOneSide(8, 5)],
-        (6, 18, 5),
+        6,
         (
             &[
                 &[4, 11, 7],
@@ -155,8 +148,9 @@ const ROWS: [Row; 10] = [
     ),
     (
         &[Triangle(0, 1, 2), Append(3), Append(4)],
+        &[],
         &[SplitBothSides(0, 3), SplitBothSides(7, 4)],
-        (5, 18, 6),
+        5,
         (
             &[
                 &[0, 11, 4],
@@ -245,10 +239,10 @@ fn is_row_refused(
     alloc: Global,
     rt: &impl Abort,
 ) -> Result<bool, Fail> {
-    let (begun, growths, (vertices, directed_edges, faces), (words, origins)) = row;
+    let (first, begun, growths, vertices, (words, origins)) = row;
     let memory = Refusing::new(alloc);
     let mut dcel = new(&memory)?;
-    for growth in begun {
+    for growth in first.iter().chain(begun) {
         assert!(rt; call(caller, &mut dcel, &memory, *growth, rt));
     }
     memory.refuse_one(number);
@@ -263,7 +257,7 @@ fn is_row_refused(
             assert!(rt; call(caller, &mut dcel, &memory, *growth, rt));
         }
     }
-    assert_counts(&dcel, vertices, directed_edges, faces, rt);
+    assert_counts(&dcel, vertices, origins.len(), words.len(), rt);
     assert_links(&dcel, words, origins, rt);
     Ok(memory.requests() > number)
 }
