@@ -7,7 +7,6 @@ pub mod Close
 pub mod Counts
 pub mod Flip
 pub mod Get
-pub mod Hull
 pub mod Insert
 pub mod Origin
 pub mod Out

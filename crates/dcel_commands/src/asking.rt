@@ -74,8 +74,8 @@ pub fn ask_live_vertices<V, DE, UE, F, A: Allocator>(
     ensures { let asks = live_vertices first second in
         MatchResult result (λ _. AllMet dcel.now.shape asks) (λ why. FirstUnmet dcel.now.shape asks why) }
 {
-    ask(has_vertex(dcel, first), Refusal::NoSuchVertex)?;
-    ask(has_vertex(dcel, second), Refusal::NoSuchVertex)?;
+    ask(first.index() < dcel.num_vertices(), Refusal::NoSuchVertex)?;
+    ask(second.index() < dcel.num_vertices(), Refusal::NoSuchVertex)?;
     ask(dcel.is_live_vertex(first), Refusal::GivenUp)?;
     ask(dcel.is_live_vertex(second), Refusal::GivenUp)
 }

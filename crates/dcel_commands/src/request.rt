@@ -10,7 +10,6 @@ pub mod close;
 pub mod counts;
 pub mod flip;
 pub mod get;
-pub mod hull;
 pub mod insert;
 pub mod origin;
 pub mod out;
