@@ -128,7 +128,7 @@ pub fn assert_links<A: Allocator>(
 ) {
     assert_eq!(rt; dcel.num_faces(), words.len());
     assert_eq!(rt; dcel.num_directed_edges(), origins.len());
-    let mut count = 0;
+    let mut left = origins.len();
     for (face, word) in words.iter().enumerate() {
         for (place, edge) in word.iter().enumerate() {
             let next = if place + 1 < word.len() {
@@ -138,8 +138,9 @@ pub fn assert_links<A: Allocator>(
             };
             assert!(rt; (*edge as usize) < origins.len());
             assert_link(dcel, [*edge, next, origins[*edge as usize]], face, rt);
-            count += 1;
+            assert!(rt; left > 0);
+            left -= 1;
         }
     }
-    assert_eq!(rt; count, origins.len());
+    assert_eq!(rt; left, 0);
 }
