@@ -1,125 +1,86 @@
 //! The anchors that edits leave.
 
 use crate::growths::Growth::{
-    Append, Close, Extend, Insert, PutBeside, SetUp, SplitBothSides, SplitOnLine, SplitOneSide,
-    Triangle,
+    Append, Close, Extend, PutBeside, SetUp, SplitBothSides, SplitOnLine, SplitOneSide, Triangle,
 };
-use crate::growths::{Growth, grown};
+use crate::growths::{CUT, FIRST_EDGE, Growth, SPLIT_EDGE, TRIANGLE_AND_VERTEX, grown_on};
 use crate::meshes::{Mesh, half_edge, vertex};
 use spade_dcel::handles::{FixedFaceHandle, PossiblyOuterTag};
 use std::process::Abort;
 use std::test::Fail;
 
-/// Calls, and then the anchors of the vertices and those of the faces, each of which has one.
-type Row = (&'static [Growth], &'static [u32], &'static [u32]);
+/// Calls that make a mesh and calls on it, and then the anchors of the vertices and those of the faces, each of which has one.
+type Row = (
+    &'static [Growth],
+    &'static [Growth],
+    &'static [u32],
+    &'static [u32],
+);
 
 const ROWS: [Row; 16] = [
-    (&[Append(0), Append(1), SetUp(1, 0)], &[1, 0], &[0]),
+    (&[Append(0), Append(1), SetUp(1, 0)], &[], &[1, 0], &[0]),
     (
-        &[
-            Append(0),
-            Append(1),
-            SetUp(0, 1),
-            Append(2),
-            Extend(1, 2),
-            Append(3),
-            Extend(0, 3),
-        ],
+        &FIRST_EDGE,
+        &[Append(2), Extend(1, 2), Append(3), Extend(0, 3)],
         &[0, 1, 2, 4],
         &[0],
     ),
-    (&[Triangle(0, 1, 2)], &[0, 2, 4], &[0, 1]),
+    (&[Triangle(0, 1, 2)], &[], &[0, 2, 4], &[0, 1]),
+    (&CUT, &[], &[0, 2, 4, 7], &[0, 1, 5, 3]),
+    (&SPLIT_EDGE, &[], &[0, 3, 2], &[0]),
     (
-        &[Triangle(0, 1, 2), Append(3), Insert(3, 1)],
-        &[0, 2, 4, 7],
-        &[0, 1, 5, 3],
-    ),
-    (
-        &[
-            Append(0),
-            Append(1),
-            SetUp(0, 1),
-            Append(2),
-            SplitOnLine(0, 2),
-        ],
-        &[0, 3, 2],
-        &[0],
-    ),
-    (
-        &[
-            Append(0),
-            Append(1),
-            SetUp(0, 1),
-            Append(2),
-            SplitOnLine(0, 2),
-            Append(3),
-            SplitOnLine(1, 3),
-        ],
+        &SPLIT_EDGE,
+        &[Append(3), SplitOnLine(1, 3)],
         &[5, 3, 2, 4],
         &[0],
     ),
+    (&SPLIT_EDGE, &[Close(0)], &[0, 3, 2], &[5, 4]),
+    (&[Triangle(0, 1, 2)], &[Close(0)], &[0, 2, 4], &[7, 1, 6]),
     (
-        &[
-            Append(0),
-            Append(1),
-            SetUp(0, 1),
-            Append(2),
-            SplitOnLine(0, 2),
-            Close(0),
-        ],
-        &[0, 3, 2],
-        &[5, 4],
-    ),
-    (&[Triangle(0, 1, 2), Close(0)], &[0, 2, 4], &[7, 1, 6]),
-    (
-        &[
-            Append(0),
-            Append(1),
-            SetUp(0, 1),
-            Append(2),
-            PutBeside(1, 2),
-        ],
+        &FIRST_EDGE,
+        &[Append(2), PutBeside(1, 2)],
         &[0, 1, 4],
         &[5, 1],
     ),
     (
-        &[Triangle(0, 1, 2), Append(3), PutBeside(0, 3)],
+        &TRIANGLE_AND_VERTEX,
+        &[PutBeside(0, 3)],
         &[0, 2, 4, 8],
         &[9, 1, 0],
     ),
     (
-        &[Triangle(0, 1, 2), Append(3), PutBeside(1, 3)],
+        &TRIANGLE_AND_VERTEX,
+        &[PutBeside(1, 3)],
         &[0, 2, 4, 8],
         &[0, 9, 1],
     ),
     (
-        &[
-            Triangle(0, 1, 2),
-            Append(3),
-            PutBeside(1, 3),
-            Append(4),
-            PutBeside(7, 4),
-        ],
+        &TRIANGLE_AND_VERTEX,
+        &[PutBeside(1, 3), Append(4), PutBeside(7, 4)],
         &[0, 2, 4, 8, 12],
         &[0, 13, 1, 7],
     ),
     (
-        &[Triangle(0, 1, 2), Append(3), SplitOneSide(0, 3)],
+        &TRIANGLE_AND_VERTEX,
+        &[SplitOneSide(0, 3)],
         &[0, 9, 4, 8],
         &[0, 1, 8],
     ),
     (
-        &[Triangle(0, 1, 2), Append(3), SplitOneSide(5, 3)],
+        &TRIANGLE_AND_VERTEX,
+        &[SplitOneSide(5, 3)],
         &[0, 2, 9, 8],
         &[0, 5, 8],
     ),
     (
-        &[Triangle(0, 1, 2), Append(3), SplitBothSides(0, 3)],
+        &TRIANGLE_AND_VERTEX,
+        &[SplitBothSides(0, 3)],
         &[0, 8, 4, 1],
         &[0, 6, 8, 10],
     ),
     (
-        &[Triangle(0, 1, 2), Append(3), SplitBothSides(3, 3)],
+        &TRIANGLE_AND_VERTEX,
+        &[SplitBothSides(3, 3)],
         &[0, 8, 4, 2],
         &[6, 3, 8, 10],
     ),
@@ -151,8 +112,8 @@ pub fn assert_anchors(dcel: &Mesh, out_edges: &[u32], adjacent_edges: &[u32], rt
 
 #[test]
 fn anchors_are_left(rt: HostRuntime) -> Result<(), Fail> {
-    for (growths, out_edges, adjacent_edges) in ROWS {
-        let dcel = grown(rt.alloc(), growths, &rt)?;
+    for (begun, growths, out_edges, adjacent_edges) in ROWS {
+        let dcel = grown_on(rt.alloc(), begun, growths, &rt)?;
         assert_anchors(&dcel, out_edges, adjacent_edges, &rt);
     }
     Ok(())

@@ -1,9 +1,8 @@
 //! Calls on a mesh, with their answers where there is memory.
 
-use crate::meshes::{
-    Mesh, append, assert_links, close, cut_triangle, edge_between, extend, first_edge, half_edge,
-    line, set_up, triangle_and_vertex, vertex,
-};
+use crate::growths::Growth::{Append, Close, Extend, SetUp};
+use crate::growths::{Growth, LINE, TRIANGLE_AND_VERTEX, cut_triangle, grow, grown};
+use crate::meshes::{Mesh, append, edge_between, half_edge, vertex};
 use spade_dcel::handles::{
     DelaunayElementType, DirectedEdgeTag, DirectedVoronoiEdgeTag, FaceTag,
     FixedUndirectedEdgeHandle, OUTER_FACE, UndirectedEdgeTag, UndirectedVoronoiEdgeTag, VertexTag,
@@ -35,29 +34,12 @@ fn room_is_counted(rt: HostRuntime) -> Result<(), Fail> {
 }
 
 #[test]
-fn a_line_grows(rt: HostRuntime) -> Result<(), Fail> {
-    let dcel = line(rt.alloc(), &rt)?;
-    // The outer word is 0, 5, 4, 1, 3, 2.
-    let links = [
-        (0, 5, 0, 0),
-        (5, 4, 1, 0),
-        (4, 1, 3, 0),
-        (1, 3, 1, 0),
-        (3, 2, 0, 0),
-        (2, 0, 2, 0),
-    ];
-    assert_links(&dcel, &links, &rt);
-    Ok(())
-}
-
-#[test]
 fn anchors_and_tests_answer(rt: HostRuntime) -> Result<(), Fail> {
     let mut dcel: Mesh = new(rt.alloc())?;
     assert_eq!(rt; dcel.face_adjacent_edge(OUTER_FACE), None);
-    for index in 0..3 {
-        assert_eq!(rt; append(&mut dcel, 7, &rt)?, vertex(index));
+    for growth in [Append(7), Append(7), Append(7), SetUp(1, 0)] {
+        assert!(rt; grow(&mut dcel, rt.alloc(), growth, &rt));
     }
-    set_up(&mut dcel, vertex(1), vertex(0), &rt)?;
     for (index, anchor, is_end, is_unconnected) in [
         (0, Some(half_edge(1)), true, false),
         (1, Some(half_edge(0)), true, false),
@@ -81,73 +63,56 @@ fn anchors_and_tests_answer(rt: HostRuntime) -> Result<(), Fail> {
     Ok(())
 }
 
-#[test]
-fn edges_of_a_line_are_tested(rt: HostRuntime) -> Result<(), Fail> {
-    let dcel = line(rt.alloc(), &rt)?;
+/// Calls; half edges of the mesh then, and numbers that are none; and of these the bridges, and those where a face can be closed.
+type Edges = (
+    &'static [Growth],
+    &'static [u32],
+    &'static [u32],
+    &'static [u32],
+);
+
+const EDGES: [Edges; 3] = [
     // The outer word is 0, 5, 4, 1, 3, 2, round the line 2, 0, 1, 3.
-    for (index, is_bridge, can_close) in [
-        (0, true, true),
-        (1, true, true),
-        (2, true, true),
-        (3, true, false),
-        (4, true, true),
-        (5, true, false),
-        (6, false, false),
-        (4_294_967_295, false, false),
-    ] {
-        let edge = half_edge(index);
-        assert_eq!(rt; dcel.is_bridge(edge), is_bridge, "half edge {index}");
-        assert_eq!(rt;
-            dcel.can_close_outside(edge),
-            can_close,
-            "half edge {index}"
-        );
-    }
-    Ok(())
-}
-
-#[test]
-fn edges_of_a_triangle_are_tested(rt: HostRuntime) -> Result<(), Fail> {
-    let dcel = triangle_and_vertex(rt.alloc(), &rt)?;
-    for (index, can_close) in [(0, true), (1, false), (2, true), (3, false), (6, false)] {
-        let edge = half_edge(index);
-        assert!(rt; !dcel.is_bridge(edge), "half edge {index}");
-        assert_eq!(rt;
-            dcel.can_close_outside(edge),
-            can_close,
-            "half edge {index}"
-        );
-    }
-    Ok(())
-}
-
-#[test]
-fn edges_of_a_triangle_on_a_line_are_tested(rt: HostRuntime) -> Result<(), Fail> {
-    let mut dcel = first_edge(rt.alloc(), &rt)?;
-    for (datum, end) in [(2, 1), (3, 2)] {
-        let added = append(&mut dcel, datum, &rt)?;
-        extend(&mut dcel, vertex(end), added, &rt)?;
-    }
-    close(&mut dcel, half_edge(3), &rt)?;
+    (
+        &LINE,
+        &[0, 1, 2, 3, 4, 5, 6, 4_294_967_295],
+        &[0, 1, 2, 3, 4, 5],
+        &[0, 1, 2, 4],
+    ),
+    (&TRIANGLE_AND_VERTEX, &[0, 1, 2, 3, 6], &[], &[0, 2]),
     // The words are 0, 7, 4, 2, 1 and 3, 5, 6: a triangle of 1, 2 and 3, and the edge from 0 to 1.
-    for (index, is_bridge, can_close) in [
-        (0, true, true),
-        (1, true, false),
-        (2, false, true),
-        (3, false, false),
-        (4, false, true),
-        (5, false, false),
-        (6, false, false),
-        (7, false, true),
-        (8, false, false),
-    ] {
-        let edge = half_edge(index);
-        assert_eq!(rt; dcel.is_bridge(edge), is_bridge, "half edge {index}");
-        assert_eq!(rt;
-            dcel.can_close_outside(edge),
-            can_close,
-            "half edge {index}"
-        );
+    (
+        &[
+            Append(0),
+            Append(1),
+            SetUp(0, 1),
+            Append(2),
+            Extend(1, 2),
+            Append(3),
+            Extend(2, 3),
+            Close(3),
+        ],
+        &[0, 1, 2, 3, 4, 5, 6, 7, 8],
+        &[0, 1],
+        &[0, 2, 4, 7],
+    ),
+];
+
+#[test]
+fn edges_are_tested(rt: HostRuntime) -> Result<(), Fail> {
+    for (growths, edges, bridges, corners) in EDGES {
+        let dcel = grown(rt.alloc(), growths, &rt)?;
+        for index in edges {
+            let edge = half_edge(*index);
+            let is_bridge = bridges.contains(index);
+            let can_close = corners.contains(index);
+            assert_eq!(rt; dcel.is_bridge(edge), is_bridge, "half edge {index}");
+            assert_eq!(rt;
+                dcel.can_close_outside(edge),
+                can_close,
+                "half edge {index}"
+            );
+        }
     }
     Ok(())
 }

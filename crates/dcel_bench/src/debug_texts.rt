@@ -1,6 +1,7 @@
 //! What `{:?}` writes for borrowed handles.
 
-use crate::meshes::{Mesh, cut_triangle, half_edge, inner_face, vertex};
+use crate::growths::cut_triangle;
+use crate::meshes::{Mesh, half_edge, inner_face, vertex};
 use spade_dcel::handles::PossiblyOuterTag;
 use spade_dcel::operations::new;
 use std::alloc::AllocGlobal;

@@ -3,7 +3,8 @@
 ghost use Rattle.dcel_maps.specs.Shapes.{IsLive};
 ghost use Rattle.spade_dcel.specs.Handles.{mesh_behind, number_of};
 
-use crate::meshes::{Mesh, cut_triangle, half_edge, inner_face, vertex};
+use crate::growths::cut_triangle;
+use crate::meshes::{Mesh, half_edge, inner_face, vertex};
 use spade_dcel::handles::{DirectedEdgeHandle, DirectedVoronoiEdge, VertexHandle, VoronoiVertex};
 use std::hash::{BuildHasher, BuildHasherDefault, FoldHasher};
 use std::process::Abort;

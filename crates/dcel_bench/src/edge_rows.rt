@@ -1,18 +1,17 @@
 //! Worked rows of the edits that split an edge, close a face or put one beside an edge.
 
 use crate::meshes::NO_LIMIT;
-use crate::rows::{Row, assert_rows};
+use crate::rows::{
+    CUT_TRIANGLE, EDGE_AND_VERTEX, LINE, Row, SPLIT_EDGE, TRIANGLE, TRIANGLE_AND_VERTEX,
+    assert_rows,
+};
 use std::test::Fail;
 
 const ROWS: [Row; 19] = [
     (
         NO_LIMIT,
+        &SPLIT_EDGE,
         &[
-            ("append 0", "vertex 0"),
-            ("append 1", "vertex 1"),
-            ("setup 0 1", "ok"),
-            ("append 2", "vertex 2"),
-            ("line 0 2", "halves 0 2"),
             ("words", "F0 0 2 3 1"),
             ("between 0 1", "none"),
             ("between 1 2", "half 3"),
@@ -25,11 +24,8 @@ const ROWS: [Row; 19] = [
     // The other half is the first of its word, and then stands before the one that is split.
     (
         NO_LIMIT,
+        &EDGE_AND_VERTEX,
         &[
-            ("append 0", "vertex 0"),
-            ("append 1", "vertex 1"),
-            ("setup 0 1", "ok"),
-            ("append 2", "vertex 2"),
             ("line 1 2", "halves 1 2"),
             ("words", "F0 0 1 2 3"),
             ("origin 0", "vertex 2"),
@@ -50,14 +46,8 @@ const ROWS: [Row; 19] = [
     // A bridge beside a triangle.
     (
         NO_LIMIT,
+        &LINE,
         &[
-            ("append 0", "vertex 0"),
-            ("append 1", "vertex 1"),
-            ("setup 0 1", "ok"),
-            ("append 2", "vertex 2"),
-            ("extend 1 2", "vertex 2"),
-            ("append 3", "vertex 3"),
-            ("extend 2 3", "vertex 3"),
             ("words", "F0 0 3 5 4 2 1"),
             ("close 3", "half 7"),
             ("words", "F0 0 7 4 2 1\nF1 3 5 6"),
@@ -73,12 +63,8 @@ const ROWS: [Row; 19] = [
     ),
     (
         NO_LIMIT,
+        &SPLIT_EDGE,
         &[
-            ("append 0", "vertex 0"),
-            ("append 1", "vertex 1"),
-            ("setup 0 1", "ok"),
-            ("append 2", "vertex 2"),
-            ("line 0 2", "halves 0 2"),
             ("close 0", "half 5"),
             ("words", "F0 1 5 3\nF1 0 2 4"),
             ("check", "true"),
@@ -87,11 +73,8 @@ const ROWS: [Row; 19] = [
     // The next half edge is the first of the word.
     (
         NO_LIMIT,
+        &EDGE_AND_VERTEX,
         &[
-            ("append 0", "vertex 0"),
-            ("append 1", "vertex 1"),
-            ("setup 0 1", "ok"),
-            ("append 2", "vertex 2"),
             ("extend 0 2", "vertex 2"),
             ("words", "F0 0 1 3 2"),
             ("close 2", "half 5"),
@@ -104,8 +87,8 @@ const ROWS: [Row; 19] = [
     ),
     (
         NO_LIMIT,
+        &TRIANGLE,
         &[
-            ("triangle 0 1 2", "ok"),
             ("close 0", "half 7"),
             ("words", "F0 4 7\nF1 1 5 3\nF2 0 2 6"),
         ],
@@ -113,8 +96,8 @@ const ROWS: [Row; 19] = [
     // Two edges join 0 and 2: the half edges 4 and 7 have the outer face between them.
     (
         NO_LIMIT,
+        &TRIANGLE,
         &[
-            ("triangle 0 1 2", "ok"),
             ("close 0", "half 7"),
             ("out 0", "out 0 7 5"),
             ("between 0 2", "half 7"),
@@ -128,9 +111,8 @@ const ROWS: [Row; 19] = [
     ),
     (
         NO_LIMIT,
+        &TRIANGLE_AND_VERTEX,
         &[
-            ("triangle 0 1 2", "ok"),
-            ("append 3", "vertex 3"),
             ("outside 0 3", "vertex 3"),
             ("words", "F0 2 4 9 7\nF1 1 5 3\nF2 0 6 8"),
             ("check", "true"),
@@ -138,9 +120,8 @@ const ROWS: [Row; 19] = [
     ),
     (
         NO_LIMIT,
+        &TRIANGLE_AND_VERTEX,
         &[
-            ("triangle 0 1 2", "ok"),
-            ("append 3", "vertex 3"),
             ("outside 1 3", "vertex 3"),
             ("words", "F0 0 2 4\nF1 3 9 7 5\nF2 1 6 8"),
             ("check", "true"),
@@ -148,9 +129,8 @@ const ROWS: [Row; 19] = [
     ),
     (
         NO_LIMIT,
+        &TRIANGLE_AND_VERTEX,
         &[
-            ("triangle 0 1 2", "ok"),
-            ("append 3", "vertex 3"),
             ("outside 0 3", "vertex 3"),
             ("out 0", "out 0 9 5"),
             ("out 3", "out 7 8"),
@@ -162,11 +142,8 @@ const ROWS: [Row; 19] = [
     // A face beside each half of an edge that stands alone.
     (
         NO_LIMIT,
+        &EDGE_AND_VERTEX,
         &[
-            ("append 0", "vertex 0"),
-            ("append 1", "vertex 1"),
-            ("setup 0 1", "ok"),
-            ("append 2", "vertex 2"),
             ("outside 0 2", "vertex 2"),
             ("words", "F0 1 5 3\nF1 0 2 4"),
             ("append 3", "vertex 3"),
@@ -178,10 +155,8 @@ const ROWS: [Row; 19] = [
     ),
     (
         NO_LIMIT,
+        &CUT_TRIANGLE,
         &[
-            ("triangle 0 1 2", "ok"),
-            ("append 3", "vertex 3"),
-            ("insert 3 1", "vertex 3"),
             ("append 4", "vertex 4"),
             ("outside 6 4", "vertex 4"),
             (
@@ -196,11 +171,8 @@ const ROWS: [Row; 19] = [
     // A vertex with many edges, and one with none.
     (
         NO_LIMIT,
+        &EDGE_AND_VERTEX,
         &[
-            ("append 0", "vertex 0"),
-            ("append 1", "vertex 1"),
-            ("setup 0 1", "ok"),
-            ("append 2", "vertex 2"),
             ("outside 0 2", "vertex 2"),
             ("append 3", "vertex 3"),
             ("outside 5 3", "vertex 3"),
@@ -239,9 +211,8 @@ const ROWS: [Row; 19] = [
     ),
     (
         NO_LIMIT,
+        &TRIANGLE_AND_VERTEX,
         &[
-            ("triangle 0 1 2", "ok"),
-            ("append 3", "vertex 3"),
             ("half 0 3", "halves 0 8"),
             ("words", "F0 0 7 4\nF1 1 5 3 9\nF2 2 6 8"),
             ("check", "true"),
@@ -251,9 +222,8 @@ const ROWS: [Row; 19] = [
     // The inner side of an edge of the hull: the outer face has one half edge more.
     (
         NO_LIMIT,
+        &TRIANGLE_AND_VERTEX,
         &[
-            ("triangle 0 1 2", "ok"),
-            ("append 3", "vertex 3"),
             ("half 1 3", "halves 1 8"),
             ("words", "F0 0 2 4 9\nF1 1 7 3\nF2 5 6 8"),
             ("out 3", "out 0 8 7"),
@@ -265,10 +235,8 @@ const ROWS: [Row; 19] = [
     ),
     (
         NO_LIMIT,
+        &CUT_TRIANGLE,
         &[
-            ("triangle 0 1 2", "ok"),
-            ("append 3", "vertex 3"),
-            ("insert 3 1", "vertex 3"),
             ("append 4", "vertex 4"),
             ("half 6 4", "halves 6 14"),
             (
@@ -280,9 +248,8 @@ const ROWS: [Row; 19] = [
     ),
     (
         NO_LIMIT,
+        &TRIANGLE_AND_VERTEX,
         &[
-            ("triangle 0 1 2", "ok"),
-            ("append 3", "vertex 3"),
             ("split 0 3", "halves 0 9"),
             ("words", "F0 0 11 4\nF1 1 5 6\nF2 3 8 7\nF3 2 10 9"),
             ("origin 8", "vertex 1"),
@@ -291,9 +258,8 @@ const ROWS: [Row; 19] = [
     ),
     (
         NO_LIMIT,
+        &TRIANGLE_AND_VERTEX,
         &[
-            ("triangle 0 1 2", "ok"),
-            ("append 3", "vertex 3"),
             ("split 1 3", "halves 1 9"),
             ("words", "F0 0 2 6\nF1 1 11 3\nF2 4 8 7\nF3 5 10 9"),
             ("out 3", "out 0 7 9 11"),
@@ -306,10 +272,8 @@ const ROWS: [Row; 19] = [
     ),
     (
         NO_LIMIT,
+        &CUT_TRIANGLE,
         &[
-            ("triangle 0 1 2", "ok"),
-            ("append 3", "vertex 3"),
-            ("insert 3 1", "vertex 3"),
             ("append 4", "vertex 4"),
             ("split 6 4", "halves 6 15"),
             (

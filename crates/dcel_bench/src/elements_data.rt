@@ -1,8 +1,7 @@
 //! The data of elements, read and written by number.
 
-use crate::meshes::{
-    CUT_TRIANGLE, Mesh, assert_links, cut_triangle, half_edge, inner_face, vertex,
-};
+use crate::growths::cut_triangle;
+use crate::meshes::{CUT_TRIANGLE, Mesh, assert_links, half_edge, inner_face, vertex};
 use spade_dcel::handles::{
     FixedDirectedEdgeHandle, FixedFaceHandle, FixedUndirectedEdgeHandle, FixedVertexHandle,
     InnerTag, OUTER_FACE, PossiblyOuterTag,
@@ -129,7 +128,7 @@ fn a_writer_changes_one_datum(rt: HostRuntime) -> Result<(), Fail> {
             "{datum} written"
         );
     }
-    assert_links(&dcel, &CUT_TRIANGLE, &rt);
+    assert_links(&dcel, CUT_TRIANGLE.0, CUT_TRIANGLE.1, &rt);
     Ok(())
 }
 

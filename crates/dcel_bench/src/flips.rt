@@ -1,87 +1,45 @@
 //! Edges turned between two triangles.
 
 use crate::anchors::assert_anchors;
-use crate::growths::Growth::{Append, Insert, PutBeside, Triangle};
-use crate::growths::{Growth, grow, grown};
-use crate::meshes::{
-    CUT_TRIANGLE, Link, Mesh, assert_links, cut_triangle, edge_between, flip, line, undirected_edge,
-};
+use crate::growths::Growth::{Append, PutBeside, Triangle};
+use crate::growths::{CUT, Growth, LINE, cut_triangle, grow, grown};
+use crate::meshes::{CUT_TRIANGLE, Links, Mesh, assert_links, edge_between, flip, undirected_edge};
 use crate::refusing::Refusing;
 use spade_dcel::operations::{new, new_triangle};
 use std::alloc::Global;
 use std::process::Abort;
 use std::test::Fail;
 
-/// The words of a cut triangle whose edge 3 was flipped once: 0, 2, 4 and 6, 8, 11 and 1, 5, 7 and 3, 10, 9.
-const FLIPPED_ONCE: [Link; 12] = [
-    (0, 2, 0, 0),
-    (2, 4, 1, 0),
-    (4, 0, 2, 0),
-    (6, 8, 1, 1),
-    (8, 11, 2, 1),
-    (11, 6, 3, 1),
-    (1, 5, 1, 2),
-    (5, 7, 0, 2),
-    (7, 1, 2, 2),
-    (3, 10, 2, 3),
-    (10, 9, 1, 3),
-    (9, 3, 3, 3),
-];
+/// The links of a cut triangle whose edge 3 was flipped once.
+const FLIPPED_ONCE: Links = (
+    &[&[0, 2, 4], &[6, 8, 11], &[1, 5, 7], &[3, 10, 9]],
+    &[0, 1, 1, 2, 2, 0, 1, 2, 2, 3, 1, 3],
+);
 
-/// Twice: 0, 2, 4 and 5, 8, 6 and 1, 7, 11 and 3, 10, 9.
-const FLIPPED_TWICE: [Link; 12] = [
-    (0, 2, 0, 0),
-    (2, 4, 1, 0),
-    (4, 0, 2, 0),
-    (5, 8, 0, 1),
-    (8, 6, 2, 1),
-    (6, 5, 3, 1),
-    (1, 7, 1, 2),
-    (7, 11, 0, 2),
-    (11, 1, 3, 2),
-    (3, 10, 2, 3),
-    (10, 9, 1, 3),
-    (9, 3, 3, 3),
-];
+/// Twice.
+const FLIPPED_TWICE: Links = (
+    &[&[0, 2, 4], &[5, 8, 6], &[1, 7, 11], &[3, 10, 9]],
+    &[0, 1, 1, 2, 2, 0, 3, 0, 2, 3, 1, 3],
+);
 
-/// Three times: 0, 2, 4 and 1, 5, 6 and 7, 8, 11 and 3, 10, 9.
-const FLIPPED_THRICE: [Link; 12] = [
-    (0, 2, 0, 0),
-    (2, 4, 1, 0),
-    (4, 0, 2, 0),
-    (1, 5, 1, 1),
-    (5, 6, 0, 1),
-    (6, 1, 2, 1),
-    (7, 8, 1, 2),
-    (8, 11, 2, 2),
-    (11, 7, 3, 2),
-    (3, 10, 2, 3),
-    (10, 9, 1, 3),
-    (9, 3, 3, 3),
-];
+/// Three times.
+const FLIPPED_THRICE: Links = (
+    &[&[0, 2, 4], &[1, 5, 6], &[7, 8, 11], &[3, 10, 9]],
+    &[0, 1, 1, 2, 2, 0, 2, 1, 2, 3, 1, 3],
+);
 
-/// The words of a cut triangle whose edge 0, on the outer face, was flipped: 0, 11, 2 and 1, 4, 6 and 5, 8, 7 and 3, 10, 9.
-const FLIPPED_OUTSIDE: [Link; 12] = [
-    (0, 11, 2, 0),
-    (11, 2, 3, 0),
-    (2, 0, 1, 0),
-    (1, 4, 3, 1),
-    (4, 6, 2, 1),
-    (6, 1, 0, 1),
-    (5, 8, 0, 2),
-    (8, 7, 2, 2),
-    (7, 5, 3, 2),
-    (3, 10, 2, 3),
-    (10, 9, 1, 3),
-    (9, 3, 3, 3),
-];
+/// The links of a cut triangle whose edge 0, on the outer face, was flipped.
+const FLIPPED_OUTSIDE: Links = (
+    &[&[0, 11, 2], &[1, 4, 6], &[5, 8, 7], &[3, 10, 9]],
+    &[2, 3, 1, 2, 2, 0, 0, 3, 2, 3, 1, 3],
+);
 
 #[test]
 fn four_flips_go_round(rt: HostRuntime) -> Result<(), Fail> {
     let mut dcel = cut_triangle(rt.alloc(), &rt)?;
-    for links in [FLIPPED_ONCE, FLIPPED_TWICE, FLIPPED_THRICE, CUT_TRIANGLE] {
+    for (words, origins) in [FLIPPED_ONCE, FLIPPED_TWICE, FLIPPED_THRICE, CUT_TRIANGLE] {
         flip(&mut dcel, undirected_edge(3), &rt);
-        assert_links(&dcel, &links, &rt);
+        assert_links(&dcel, words, origins, &rt);
         assert!(rt; dcel.sanity_check());
     }
     Ok(())
@@ -101,7 +59,7 @@ fn test_flip(rt: HostRuntime) -> Result<(), Fail> {
 fn an_edge_of_the_outer_face_is_flipped(rt: HostRuntime) -> Result<(), Fail> {
     let mut dcel = cut_triangle(rt.alloc(), &rt)?;
     flip(&mut dcel, undirected_edge(0), &rt);
-    assert_links(&dcel, &FLIPPED_OUTSIDE, &rt);
+    assert_links(&dcel, FLIPPED_OUTSIDE.0, FLIPPED_OUTSIDE.1, &rt);
     assert_anchors(&dcel, &[6, 2, 4, 7], &[0, 1, 5, 3], &rt);
     assert!(rt; dcel.sanity_check());
     Ok(())
@@ -119,12 +77,12 @@ fn anchors_move_on(rt: HostRuntime) -> Result<(), Fail> {
 fn a_flip_takes_no_memory(rt: HostRuntime) -> Result<(), Fail> {
     let memory = Refusing::new(rt.alloc());
     let mut dcel = new(&memory)?;
-    for growth in [Triangle(0, 1, 2), Append(3), Insert(3, 1)] {
+    for growth in CUT {
         assert!(rt; grow(&mut dcel, &memory, growth, &rt));
     }
     memory.refuse_from(0);
     flip(&mut dcel, undirected_edge(3), &rt);
-    assert_links(&dcel, &FLIPPED_ONCE, &rt);
+    assert_links(&dcel, FLIPPED_ONCE.0, FLIPPED_ONCE.1, &rt);
     Ok(())
 }
 
@@ -168,7 +126,7 @@ fn some_edges_can_be_flipped(rt: HostRuntime) -> Result<(), Fail> {
 
 #[test]
 fn edges_of_longer_words_stay(rt: HostRuntime) -> Result<(), Fail> {
-    let bridges = line(rt.alloc(), &rt)?;
+    let bridges = grown(rt.alloc(), &LINE, &rt)?;
     assert_flippable(&bridges, &[(0, false), (1, false), (2, false)], &rt);
 
     // The outer word has four half edges.

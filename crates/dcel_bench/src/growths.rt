@@ -1,12 +1,14 @@
 //! Calls that a mesh grows by, and the commands for them.
 
-use crate::meshes::{
-    Mesh, NO_LIMIT, append, assert_counts, close, extend, half_edge, inner_face, insert,
-    put_beside, set_up, split_both_sides, split_on_line, split_one_side, vertex,
-};
+use crate::meshes::{Mesh, NO_LIMIT, append, assert_counts, half_edge, inner_face, vertex};
 use dcel_commands::commands::{Command, Handed, Refusal, Refused, Reply, apply};
-use spade_dcel::operations::{new, new_triangle};
-use std::alloc::{Allocator, Global};
+use dcel_fixed::{FixedDirectedEdgeHandle, FixedVertexHandle};
+use spade_dcel::operations::{
+    create_new_face_adjacent_to_edge, create_single_face_between_edge_and_next, extend_line,
+    insert_into_triangle, new, new_triangle, setup_initial_two_vertices, split_edge,
+    split_edge_when_all_vertices_on_line, split_half_edge,
+};
+use std::alloc::{AllocError, Allocator, Global};
 use std::process::Abort;
 use std::test::Fail;
 
@@ -29,6 +31,98 @@ use Growth::{
     Append, Close, Extend, Insert, PutBeside, SetUp, SplitBothSides, SplitOnLine, SplitOneSide,
     Triangle,
 };
+
+/// Adds the first edge.
+fn set_up<A: Allocator>(
+    dcel: &mut Mesh<A>,
+    first: FixedVertexHandle,
+    second: FixedVertexHandle,
+    rt: &impl Abort,
+) -> Result<(), AllocError> {
+    assert_eq!(rt; dcel.num_undirected_edges(), 0);
+    assert!(rt; dcel.is_live_vertex(first) && dcel.is_live_vertex(second));
+    assert_ne!(rt; first.index(), second.index());
+    assert!(rt; dcel.has_room(0, 1, 0));
+    setup_initial_two_vertices(dcel, first, second)
+}
+
+/// Closes a triangle between a half edge of the outer face and the next one.
+fn close<A: Allocator>(dcel: &mut Mesh<A>, edge: u32, rt: &impl Abort) -> Result<(), AllocError> {
+    let edge = half_edge(edge);
+    assert!(rt; dcel.can_close_outside(edge));
+    assert!(rt; dcel.has_room(0, 1, 1));
+    let outer = FixedDirectedEdgeHandle::new(dcel.num_directed_edges() + 1);
+    assert_eq!(rt;
+        create_single_face_between_edge_and_next(dcel, edge)?,
+        outer
+    );
+    Ok(())
+}
+
+/// Joins a vertex that has no edge to the end of a line, to the ends of a half edge, or to the corners of a triangle.
+fn join<A: Allocator>(
+    dcel: &mut Mesh<A>,
+    growth: Growth,
+    added: FixedVertexHandle,
+    rt: &impl Abort,
+) -> Result<(), AllocError> {
+    assert!(rt; dcel.is_unconnected(added));
+    let joined = match growth {
+        Extend(end, _) => {
+            let end = vertex(end);
+            assert!(rt; dcel.is_line_end(end) && dcel.has_room(0, 1, 0));
+            extend_line(dcel, end, added)?
+        }
+        PutBeside(edge, _) => {
+            let edge = half_edge(edge);
+            assert!(rt; dcel.is_live_edge(edge.as_undirected()) && dcel.has_room(0, 2, 1));
+            create_new_face_adjacent_to_edge(dcel, edge, added)?
+        }
+        Insert(_, face) => {
+            let face = inner_face(face);
+            assert_ne!(rt; face.index(), 0);
+            assert!(rt; dcel.is_triangle(face) && dcel.has_room(0, 3, 2));
+            insert_into_triangle(dcel, added, face)?
+        }
+        _ => return Err(AllocError),
+    };
+    assert_eq!(rt; joined, added);
+    Ok(())
+}
+
+/// Puts a vertex that has no edge into the middle of an edge: one with one face on both sides, or with triangles on one or both.
+fn split<A: Allocator>(
+    dcel: &mut Mesh<A>,
+    growth: Growth,
+    edge: FixedDirectedEdgeHandle,
+    added: FixedVertexHandle,
+    rt: &impl Abort,
+) -> Result<(), AllocError> {
+    let count = dcel.num_directed_edges();
+    assert!(rt; edge.index() < count && dcel.is_live_edge(edge.as_undirected()));
+    assert!(rt; dcel.is_unconnected(added));
+    let borrowed = dcel.directed_edge(edge);
+    let face = borrowed.face().fix();
+    let facing = borrowed.rev().face().fix();
+    let (halves, second) = match growth {
+        SplitOnLine(_, _) => {
+            assert!(rt; dcel.is_bridge(edge) && dcel.has_room(0, 1, 0));
+            let halves = split_edge_when_all_vertices_on_line(dcel, edge, added)?;
+            (halves, count)
+        }
+        SplitOneSide(_, _) => {
+            assert!(rt; dcel.is_triangle(face) && dcel.has_room(0, 2, 1));
+            (split_half_edge(dcel, edge, added)?, count + 2)
+        }
+        _ => {
+            assert!(rt; dcel.is_triangle(face) && dcel.is_triangle(facing));
+            assert!(rt; dcel.has_room(0, 3, 2));
+            (split_edge(dcel, edge, added)?, count + 3)
+        }
+    };
+    assert_eq!(rt; halves, [edge, FixedDirectedEdgeHandle::new(second)]);
+    Ok(())
+}
 
 /// Makes the call: whether there was memory. Without it what was handed in comes back.
 pub fn grow<A: Allocator + Clone>(
@@ -62,16 +156,12 @@ pub fn grow<A: Allocator + Clone>(
             }
         }
         SetUp(first, second) => set_up(dcel, vertex(first), vertex(second), rt).is_ok(),
-        Extend(end, added) => extend(dcel, vertex(end), vertex(added), rt).is_ok(),
-        SplitOnLine(edge, added) => split_on_line(dcel, half_edge(edge), vertex(added), rt).is_ok(),
-        Close(edge) => close(dcel, half_edge(edge), rt).is_ok(),
-        PutBeside(edge, added) => put_beside(dcel, half_edge(edge), vertex(added), rt).is_ok(),
-        Insert(added, face) => insert(dcel, vertex(added), inner_face(face), rt).is_ok(),
-        SplitOneSide(edge, added) => {
-            split_one_side(dcel, half_edge(edge), vertex(added), rt).is_ok()
+        Close(edge) => close(dcel, edge, rt).is_ok(),
+        Extend(_, added) | PutBeside(_, added) | Insert(added, _) => {
+            join(dcel, growth, vertex(added), rt).is_ok()
         }
-        SplitBothSides(edge, added) => {
-            split_both_sides(dcel, half_edge(edge), vertex(added), rt).is_ok()
+        SplitOnLine(edge, added) | SplitOneSide(edge, added) | SplitBothSides(edge, added) => {
+            split(dcel, growth, half_edge(edge), vertex(added), rt).is_ok()
         }
     }
 }
@@ -83,6 +173,54 @@ pub fn grown(alloc: Global, growths: &[Growth], rt: &impl Abort) -> Result<Mesh,
         assert!(rt; grow(&mut dcel, alloc, *growth, rt));
     }
     Ok(dcel)
+}
+
+/// The mesh after these calls and then those.
+pub fn grown_on(
+    alloc: Global,
+    begun: &[Growth],
+    growths: &[Growth],
+    rt: &impl Abort,
+) -> Result<Mesh, Fail> {
+    let mut dcel = grown(alloc, begun, rt)?;
+    for growth in growths {
+        assert!(rt; grow(&mut dcel, alloc, *growth, rt));
+    }
+    Ok(dcel)
+}
+
+/// An edge from vertex 0 to vertex 1.
+pub const FIRST_EDGE: [Growth; 3] = [Append(0), Append(1), SetUp(0, 1)];
+
+/// The line 0, 2, 1, by a split.
+pub const SPLIT_EDGE: [Growth; 5] = [
+    Append(0),
+    Append(1),
+    SetUp(0, 1),
+    Append(2),
+    SplitOnLine(0, 2),
+];
+
+/// The line 2, 0, 1, 3.
+pub const LINE: [Growth; 7] = [
+    Append(0),
+    Append(1),
+    SetUp(0, 1),
+    Append(2),
+    Extend(0, 2),
+    Append(3),
+    Extend(1, 3),
+];
+
+/// A triangle, and vertex 3 beside it.
+pub const TRIANGLE_AND_VERTEX: [Growth; 2] = [Triangle(0, 1, 2), Append(3)];
+
+/// A triangle that vertex 3 cuts into three.
+pub const CUT: [Growth; 3] = [Triangle(0, 1, 2), Append(3), Insert(3, 1)];
+
+/// A triangle that vertex 3 cuts into three.
+pub fn cut_triangle(alloc: Global, rt: &impl Abort) -> Result<Mesh, Fail> {
+    grown(alloc, &CUT, rt)
 }
 
 /// Has the mesh carry the call out as a command under the limit: whether there was memory. Without it what was handed in comes back.

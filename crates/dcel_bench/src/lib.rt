@@ -28,13 +28,13 @@ mod growths;
 #[cfg(test)]
 mod lines;
 #[cfg(test)]
+mod links;
+#[cfg(test)]
 mod memoryless;
 #[cfg(test)]
 mod memoryless_rows;
 #[cfg(test)]
 mod meshes;
-#[cfg(test)]
-mod outside;
 pub mod own_steps;
 #[cfg(test)]
 mod readme;
@@ -47,8 +47,6 @@ mod refused_rows;
 pub mod refusing;
 #[cfg(test)]
 mod rows;
-#[cfg(test)]
-mod splits;
 #[cfg(test)]
 mod swaps;
 pub mod texts;

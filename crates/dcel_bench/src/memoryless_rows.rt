@@ -1,17 +1,15 @@
 //! Worked rows of the lines that take no memory: they turn edges, exchange vertices, replace and tell data, and clear the mesh.
 
 use crate::meshes::NO_LIMIT;
-use crate::rows::{Row, assert_rows};
+use crate::rows::{CUT_TRIANGLE, Row, TRIANGLE, assert_rows};
 use std::test::Fail;
 
 const ROWS: [Row; 14] = [
     // Four flips go round.
     (
         NO_LIMIT,
+        &CUT_TRIANGLE,
         &[
-            ("triangle 0 1 2", "ok"),
-            ("append 3", "vertex 3"),
-            ("insert 3 1", "vertex 3"),
             ("flip 3", "ok"),
             ("words", "F0 0 2 4\nF1 6 8 11\nF2 1 5 7\nF3 3 10 9"),
             ("origin 6", "vertex 1"),
@@ -37,10 +35,8 @@ const ROWS: [Row; 14] = [
     // An edge of the outer face, which is a triangle.
     (
         NO_LIMIT,
+        &CUT_TRIANGLE,
         &[
-            ("triangle 0 1 2", "ok"),
-            ("append 3", "vertex 3"),
-            ("insert 3 1", "vertex 3"),
             ("flip 0", "ok"),
             ("words", "F0 0 11 2\nF1 1 4 6\nF2 5 8 7\nF3 3 10 9"),
             ("origin 0", "vertex 2"),
@@ -52,8 +48,8 @@ const ROWS: [Row; 14] = [
     // Both other corners are one vertex; and faces that are no triangles.
     (
         NO_LIMIT,
+        &TRIANGLE,
         &[
-            ("triangle 0 1 2", "ok"),
             ("flip 0", "refused 14 WouldLoop"),
             ("flip 1", "refused 14 WouldLoop"),
             ("flip 2", "refused 14 WouldLoop"),
@@ -73,6 +69,7 @@ const ROWS: [Row; 14] = [
     ),
     (
         NO_LIMIT,
+        &[],
         &[
             ("append 0", "vertex 0"),
             ("append 1", "vertex 1"),
@@ -84,10 +81,8 @@ const ROWS: [Row; 14] = [
     ),
     (
         NO_LIMIT,
+        &CUT_TRIANGLE,
         &[
-            ("triangle 0 1 2", "ok"),
-            ("append 3", "vertex 3"),
-            ("insert 3 1", "vertex 3"),
             ("swap 0 1", "ok"),
             ("origin 0", "vertex 1"),
             ("origin 10", "vertex 0"),
@@ -104,6 +99,7 @@ const ROWS: [Row; 14] = [
     // A vertex without an edge, and one with itself.
     (
         NO_LIMIT,
+        &[],
         &[
             ("triangle 7 8 9", "ok"),
             ("append -3", "vertex 3"),
@@ -124,6 +120,7 @@ const ROWS: [Row; 14] = [
     ),
     (
         NO_LIMIT,
+        &[],
         &[
             ("append 5", "vertex 0"),
             ("swap 0 1", "refused 1 NoSuchVertex"),
@@ -135,6 +132,7 @@ const ROWS: [Row; 14] = [
     ),
     (
         NO_LIMIT,
+        &[],
         &[
             ("triangle 7 8 9", "ok"),
             ("put 1 -5", "ok"),
@@ -154,6 +152,7 @@ const ROWS: [Row; 14] = [
     ),
     (
         NO_LIMIT,
+        &[],
         &[
             ("append -0", "bad line"),
             ("append 9223372036854775808", "bad line"),
@@ -167,6 +166,7 @@ const ROWS: [Row; 14] = [
     ),
     (
         NO_LIMIT,
+        &[],
         &[
             ("triangle 7 8 9", "ok"),
             ("clear", "ok"),
@@ -186,6 +186,7 @@ const ROWS: [Row; 14] = [
     ),
     (
         NO_LIMIT,
+        &[],
         &[
             ("counts", "vertices 0 edges 0 faces 1"),
             ("hull", "hull"),
@@ -205,6 +206,7 @@ const ROWS: [Row; 14] = [
     ),
     (
         NO_LIMIT,
+        &[],
         &[
             ("triangle 7 8 9", "ok"),
             ("counts", "vertices 3 edges 3 faces 2"),
@@ -219,8 +221,8 @@ const ROWS: [Row; 14] = [
     // The limit is full, which these lines don't ask about.
     (
         3,
+        &TRIANGLE,
         &[
-            ("triangle 0 1 2", "ok"),
             ("append 3", "refused 19 NoRoom"),
             ("flip 0", "refused 14 WouldLoop"),
             ("swap 0 2", "ok"),
@@ -233,8 +235,8 @@ const ROWS: [Row; 14] = [
     ),
     (
         NO_LIMIT,
+        &TRIANGLE,
         &[
-            ("triangle 0 1 2", "ok"),
             ("flip", "bad line"),
             ("flip 03", "bad line"),
             ("flip -1", "bad line"),

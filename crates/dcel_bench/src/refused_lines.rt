@@ -2,6 +2,7 @@
 
 use crate::answers::{push_line, push_talk, run_lines};
 use crate::refusing::Refusing;
+use crate::rows::{CUT_TRIANGLE, SPLIT_EDGE, TRIANGLE_AND_VERTEX, Talk};
 use dcel_commands::commands::RunFault;
 use std::alloc::Global;
 use std::process::Abort;
@@ -100,9 +101,10 @@ fn lines_are_refused_memory(rt: HostRuntime) -> Result<(), Fail> {
     Ok(())
 }
 
-/// Lines that have memory; a line that takes some, and its reply; and the words before it and after it.
+/// Lines that have memory, and more of them; a line that takes some, and its reply; and the words before it and after it.
 type Edit = (
-    &'static [(&'static str, &'static str)],
+    Talk,
+    Talk,
     (&'static str, &'static str),
     &'static str,
     &'static str,
@@ -110,12 +112,8 @@ type Edit = (
 
 const EDITS: [Edit; 5] = [
     (
+        &SPLIT_EDGE,
         &[
-            ("append 0", "vertex 0"),
-            ("append 1", "vertex 1"),
-            ("setup 0 1", "ok"),
-            ("append 2", "vertex 2"),
-            ("line 0 2", "halves 0 2"),
             ("append 3", "vertex 3"),
             ("line 0 3", "halves 0 4"),
             ("append 4", "vertex 4"),
@@ -127,12 +125,8 @@ const EDITS: [Edit; 5] = [
         "F0 0 8 6 4 2 3 5 7 9 1",
     ),
     (
+        &SPLIT_EDGE,
         &[
-            ("append 0", "vertex 0"),
-            ("append 1", "vertex 1"),
-            ("setup 0 1", "ok"),
-            ("append 2", "vertex 2"),
-            ("line 0 2", "halves 0 2"),
             ("append 3", "vertex 3"),
             ("line 0 3", "halves 0 4"),
             ("close 0", "half 7"),
@@ -142,24 +136,22 @@ const EDITS: [Edit; 5] = [
         "F0 1 7 2 9\nF1 0 4 6\nF2 3 5 8",
     ),
     (
-        &[("triangle 0 1 2", "ok"), ("append 3", "vertex 3")],
+        &TRIANGLE_AND_VERTEX,
+        &[],
         ("outside 0 3", "vertex 3"),
         "F0 0 2 4\nF1 1 5 3",
         "F0 2 4 9 7\nF1 1 5 3\nF2 0 6 8",
     ),
     (
-        &[("triangle 0 1 2", "ok"), ("append 3", "vertex 3")],
+        &TRIANGLE_AND_VERTEX,
+        &[],
         ("half 0 3", "halves 0 8"),
         "F0 0 2 4\nF1 1 5 3",
         "F0 0 7 4\nF1 1 5 3 9\nF2 2 6 8",
     ),
     (
-        &[
-            ("triangle 0 1 2", "ok"),
-            ("append 3", "vertex 3"),
-            ("insert 3 1", "vertex 3"),
-            ("append 4", "vertex 4"),
-        ],
+        &CUT_TRIANGLE,
+        &[("append 4", "vertex 4")],
         ("split 6 4", "halves 6 15"),
         "F0 0 2 4\nF1 1 6 11\nF2 5 8 7\nF3 3 10 9",
         "F0 0 2 4\nF1 1 6 17\nF2 5 12 7\nF3 3 10 9\nF4 8 14 13\nF5 11 16 15",
@@ -168,10 +160,11 @@ const EDITS: [Edit; 5] = [
 
 /// That the edit is refused where any one of its requests for memory is, and then carried out when it comes again.
 fn assert_made_again(edit: &Edit, alloc: Global, rt: &impl Abort) -> Result<(), Fail> {
-    let (begun, (line, reply), before, after) = edit;
+    let (begun, then, (line, reply), before, after) = edit;
     let mut lines = Vec::new(alloc);
     let mut replies = Vec::new(alloc);
     push_talk(&mut lines, &mut replies, begun)?;
+    push_talk(&mut lines, &mut replies, then)?;
     let first = requests_of(&lines, alloc);
     push_talk(
         &mut lines,
@@ -201,14 +194,7 @@ fn edits_are_made_again(rt: HostRuntime) -> Result<(), Fail> {
     Ok(())
 }
 
-/// Lines that have memory.
-const WITH_MEMORY: [(&str, &str); 3] = [
-    ("triangle 0 1 2", "ok"),
-    ("append 3", "vertex 3"),
-    ("insert 3 1", "vertex 3"),
-];
-
-/// Lines that come after them, where there is no memory any more.
+/// Lines that come after those of a cut triangle, where there is no memory any more.
 const WITHOUT_MEMORY: [(&str, &str); 15] = [
     ("counts", "vertices 4 edges 6 faces 4"),
     ("out 3", "out 7 9 11"),
@@ -232,7 +218,7 @@ fn queries_take_no_memory(rt: HostRuntime) -> Result<(), Fail> {
     let alloc = rt.alloc();
     let mut lines = Vec::new(alloc);
     let mut replies = Vec::new(alloc);
-    push_talk(&mut lines, &mut replies, &WITH_MEMORY)?;
+    push_talk(&mut lines, &mut replies, &CUT_TRIANGLE)?;
     let memory = Refusing::new(alloc);
     memory.refuse_from(requests_of(&lines, alloc));
     push_talk(&mut lines, &mut replies, &WITHOUT_MEMORY)?;

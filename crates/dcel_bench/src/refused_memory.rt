@@ -4,9 +4,9 @@ use crate::growths::Growth::{
     Append, Close, Extend, Insert, PutBeside, SetUp, SplitBothSides, SplitOnLine, SplitOneSide,
     Triangle,
 };
-use crate::growths::{Growth, carry_out, grow};
+use crate::growths::{Growth, TRIANGLE_AND_VERTEX, carry_out, grow};
 use crate::meshes::{
-    CUT_TRIANGLE, Link, Mesh, NO_LIMIT, assert_counts, assert_links, half_edge, vertex,
+    CUT_TRIANGLE, Links, Mesh, NO_LIMIT, assert_counts, assert_links, half_edge, vertex,
 };
 use crate::refusing::Refusing;
 use spade_dcel::handles::{FixedDirectedEdgeHandle, FixedFaceHandle, PossiblyOuterTag};
@@ -21,215 +21,147 @@ pub const MANY: u64 = 20;
 /// A mesh whose memory may be refused.
 type Watched<'a> = Mesh<&'a Refusing<Global>>;
 
-/// Calls that have memory, then calls of which one is refused a request; and what the mesh is after them: how many vertices, half
-/// edges and faces, and the links.
+/// Calls that have memory, and more of them; then calls of which one is refused a request; and what the mesh is after them: how many
+/// vertices, and the links.
 type Row = (
     &'static [Growth],
     &'static [Growth],
-    (usize, usize, usize),
-    &'static [Link],
+    &'static [Growth],
+    usize,
+    Links,
 );
+
+/// An edge from vertex 0 to vertex 1, and four vertices beside it.
+const EDGE_OF_SIX: [Growth; 7] = [
+    Append(0),
+    Append(1),
+    Append(2),
+    Append(3),
+    Append(4),
+    Append(5),
+    SetUp(0, 1),
+];
 
 const ROWS: [Row; 10] = [
     (
         &[Append(0), Append(1), SetUp(1, 0)],
+        &[],
         &[Triangle(7, -8, 9)],
-        (3, 6, 2),
-        &[
-            (0, 2, 0, 0),
-            (2, 4, 1, 0),
-            (4, 0, 2, 0),
-            (1, 5, 1, 1),
-            (5, 3, 0, 1),
-            (3, 1, 2, 1),
-        ],
+        3,
+        (&[&[0, 2, 4], &[1, 5, 3]], &[0, 1, 1, 2, 2, 0]),
     ),
     (
         &[],
-        &[Append(0), Append(-1), Append(2), Append(-3), Append(4)],
-        (5, 0, 1),
         &[],
+        &[Append(0), Append(-1), Append(2), Append(-3), Append(4)],
+        5,
+        (&[&[]], &[]),
     ),
     (
         &[Append(0), Append(1)],
+        &[],
         &[SetUp(1, 0)],
-        (2, 2, 1),
-        &[(0, 1, 1, 0), (1, 0, 0, 0)],
+        2,
+        (&[&[0, 1]], &[1, 0]),
     ),
     (
-        &[
-            Append(0),
-            Append(1),
-            Append(2),
-            Append(3),
-            Append(4),
-            Append(5),
-            SetUp(0, 1),
-        ],
+        &EDGE_OF_SIX,
+        &[],
         &[Extend(1, 2), Extend(2, 3), Extend(3, 4), Extend(4, 5)],
-        (6, 10, 1),
-        &[
-            (0, 3, 0, 0),
-            (3, 5, 1, 0),
-            (5, 7, 2, 0),
-            (7, 9, 3, 0),
-            (9, 8, 4, 0),
-            (8, 6, 5, 0),
-            (6, 4, 4, 0),
-            (4, 2, 3, 0),
-            (2, 1, 2, 0),
-            (1, 0, 1, 0),
-        ],
+        6,
+        (
+            &[&[0, 3, 5, 7, 9, 8, 6, 4, 2, 1]],
+            &[0, 1, 2, 1, 3, 2, 4, 3, 5, 4],
+        ),
     ),
     (
         &[Triangle(0, 1, 2), Append(3)],
+        &[],
         &[Insert(3, 1)],
-        (4, 12, 4),
-        &CUT_TRIANGLE,
+        4,
+        CUT_TRIANGLE,
     ),
     (
-        &[
-            Append(0),
-            Append(1),
-            Append(2),
-            Append(3),
-            Append(4),
-            Append(5),
-            SetUp(0, 1),
-        ],
+        &EDGE_OF_SIX,
+        &[],
         &[
             SplitOnLine(0, 2),
             SplitOnLine(1, 3),
             SplitOnLine(2, 4),
             SplitOnLine(5, 5),
         ],
-        (6, 10, 1),
-        &[
-            (0, 2, 3, 0),
-            (2, 6, 2, 0),
-            (6, 7, 4, 0),
-            (7, 3, 1, 0),
-            (3, 1, 4, 0),
-            (1, 9, 2, 0),
-            (9, 4, 3, 0),
-            (4, 5, 5, 0),
-            (5, 8, 0, 0),
-            (8, 0, 5, 0),
-        ],
+        6,
+        (
+            &[&[0, 2, 6, 7, 3, 1, 9, 4, 5, 8]],
+            &[3, 2, 2, 4, 5, 0, 4, 1, 5, 3],
+        ),
     ),
     (
-        &[
-            Append(0),
-            Append(1),
-            Append(2),
-            Append(3),
-            Append(4),
-            Append(5),
-            SetUp(0, 1),
-            Extend(1, 2),
-            Extend(2, 3),
-            Extend(3, 4),
-            Extend(4, 5),
-        ],
+        &EDGE_OF_SIX,
+        &[Extend(1, 2), Extend(2, 3), Extend(3, 4), Extend(4, 5)],
         // The last one wants room for an edge and for a face.
         &[Close(0), Close(5), Close(2), Close(6)],
-        (6, 18, 5),
-        &[
-            (11, 13, 0, 0),
-            (13, 9, 2, 0),
-            (9, 8, 4, 0),
-            (8, 17, 5, 0),
-            (17, 15, 4, 0),
-            (15, 11, 2, 0),
-            (0, 3, 0, 1),
-            (3, 10, 1, 1),
-            (10, 0, 2, 1),
-            (5, 7, 2, 2),
-            (7, 12, 3, 2),
-            (12, 5, 4, 2),
-            (2, 1, 2, 3),
-            (1, 14, 1, 3),
-            (14, 2, 0, 3),
-            (6, 4, 4, 4),
-            (4, 16, 3, 4),
-            (16, 6, 2, 4),
-        ],
+        6,
+        (
+            &[
+                &[11, 13, 9, 8, 17, 15],
+                &[0, 3, 10],
+                &[5, 7, 12],
+                &[2, 1, 14],
+                &[6, 4, 16],
+            ],
+            &[0, 1, 2, 1, 3, 2, 4, 3, 5, 4, 2, 0, 4, 2, 0, 2, 2, 4],
+        ),
     ),
     (
-        &[Triangle(0, 1, 2), Append(3), Append(4), Append(5)],
+        &TRIANGLE_AND_VERTEX,
+        &[Append(4), Append(5)],
         // The first one wants room for edges, the last one for edges and for a face.
         &[PutBeside(0, 3), PutBeside(1, 4), PutBeside(7, 5)],
-        (6, 18, 5),
-        &[
-            (2, 4, 1, 0),
-            (4, 9, 2, 0),
-            (9, 17, 0, 0),
-            (17, 15, 3, 0),
-            (15, 2, 5, 0),
-            (3, 13, 2, 1),
-            (13, 11, 1, 1),
-            (11, 5, 4, 1),
-            (5, 3, 0, 1),
-            (0, 6, 0, 2),
-            (6, 8, 1, 2),
-            (8, 0, 3, 2),
-            (1, 10, 1, 3),
-            (10, 12, 0, 3),
-            (12, 1, 4, 3),
-            (7, 14, 3, 4),
-            (14, 16, 1, 4),
-            (16, 7, 5, 4),
-        ],
+        6,
+        (
+            &[
+                &[2, 4, 9, 17, 15],
+                &[3, 13, 11, 5],
+                &[0, 6, 8],
+                &[1, 10, 12],
+                &[7, 14, 16],
+            ],
+            &[0, 1, 1, 2, 2, 0, 1, 3, 3, 0, 0, 4, 4, 1, 1, 5, 5, 3],
+        ),
     ),
     (
-        &[Triangle(0, 1, 2), Append(3), Append(4), Append(5)],
+        &TRIANGLE_AND_VERTEX,
+        &[Append(4), Append(5)],
         &[SplitOneSide(0, 3), SplitOneSide(4, 4), SplitOneSide(8, 5)],
-        (6, 18, 5),
-        &[
-            (4, 11, 2, 0),
-            (11, 7, 4, 0),
-            (7, 4, 3, 0),
-            (1, 13, 3, 1),
-            (13, 5, 0, 1),
-            (5, 3, 4, 1),
-            (3, 17, 2, 1),
-            (17, 9, 1, 1),
-            (9, 1, 5, 1),
-            (6, 8, 2, 2),
-            (8, 15, 3, 2),
-            (15, 6, 5, 2),
-            (0, 10, 0, 3),
-            (10, 12, 3, 3),
-            (12, 0, 4, 3),
-            (2, 14, 1, 4),
-            (14, 16, 2, 4),
-            (16, 2, 5, 4),
-        ],
+        6,
+        (
+            &[
+                &[4, 11, 7],
+                &[1, 13, 5, 3, 17, 9],
+                &[6, 8, 15],
+                &[0, 10, 12],
+                &[2, 14, 16],
+            ],
+            &[0, 3, 1, 2, 2, 4, 2, 3, 3, 5, 3, 4, 4, 0, 2, 5, 5, 1],
+        ),
     ),
     (
         &[Triangle(0, 1, 2), Append(3), Append(4)],
+        &[],
         &[SplitBothSides(0, 3), SplitBothSides(7, 4)],
-        (5, 18, 6),
-        &[
-            (0, 11, 0, 0),
-            (11, 4, 3, 0),
-            (4, 0, 2, 0),
-            (1, 12, 3, 1),
-            (12, 6, 0, 1),
-            (6, 1, 4, 1),
-            (7, 17, 3, 2),
-            (17, 8, 4, 2),
-            (8, 7, 1, 2),
-            (2, 10, 1, 3),
-            (10, 9, 2, 3),
-            (9, 2, 3, 3),
-            (5, 14, 0, 4),
-            (14, 13, 2, 4),
-            (13, 5, 4, 4),
-            (3, 16, 2, 5),
-            (16, 15, 1, 5),
-            (15, 3, 4, 5),
-        ],
+        5,
+        (
+            &[
+                &[0, 11, 4],
+                &[1, 12, 6],
+                &[7, 17, 8],
+                &[2, 10, 9],
+                &[5, 14, 13],
+                &[3, 16, 15],
+            ],
+            &[0, 3, 1, 2, 2, 0, 4, 3, 1, 3, 2, 3, 0, 4, 2, 4, 1, 4],
+        ),
     ),
 ];
 
@@ -307,10 +239,10 @@ fn is_row_refused(
     alloc: Global,
     rt: &impl Abort,
 ) -> Result<bool, Fail> {
-    let (begun, growths, (vertices, directed_edges, faces), links) = row;
+    let (first, begun, growths, vertices, (words, origins)) = row;
     let memory = Refusing::new(alloc);
     let mut dcel = new(&memory)?;
-    for growth in begun {
+    for growth in first.iter().chain(begun) {
         assert!(rt; call(caller, &mut dcel, &memory, *growth, rt));
     }
     memory.refuse_one(number);
@@ -325,8 +257,8 @@ fn is_row_refused(
             assert!(rt; call(caller, &mut dcel, &memory, *growth, rt));
         }
     }
-    assert_counts(&dcel, vertices, directed_edges, faces, rt);
-    assert_links(&dcel, links, rt);
+    assert_counts(&dcel, vertices, origins.len(), words.len(), rt);
+    assert_links(&dcel, words, origins, rt);
     Ok(memory.requests() > number)
 }
 

@@ -2,15 +2,14 @@
 
 use crate::answers::{assert_text_answered, push_line, push_talk};
 use crate::meshes::NO_LIMIT;
-use crate::rows::{Row, assert_rows};
+use crate::rows::{EDGE_AND_VERTEX, LINE, Row, TRIANGLE, TRIANGLE_AND_VERTEX, assert_rows};
 use std::test::Fail;
 
 const ROWS: [Row; 14] = [
     (
         NO_LIMIT,
+        &TRIANGLE_AND_VERTEX,
         &[
-            ("triangle 0 1 2", "ok"),
-            ("append 3", "vertex 3"),
             ("line 0 3", "refused 11 NotBridge"),
             ("line 1 3", "refused 11 NotBridge"),
             ("close 6", "refused 2 NoSuchEdge"),
@@ -22,6 +21,7 @@ const ROWS: [Row; 14] = [
     // At the tip of a line.
     (
         NO_LIMIT,
+        &[],
         &[
             ("close 0", "refused 2 NoSuchEdge"),
             ("append 0", "vertex 0"),
@@ -40,14 +40,8 @@ const ROWS: [Row; 14] = [
     // As many edges as the limit lets stand, of which one is a bridge; and a limit that lets one more stand.
     (
         5,
+        &LINE,
         &[
-            ("append 0", "vertex 0"),
-            ("append 1", "vertex 1"),
-            ("setup 0 1", "ok"),
-            ("append 2", "vertex 2"),
-            ("extend 1 2", "vertex 2"),
-            ("append 3", "vertex 3"),
-            ("extend 2 3", "vertex 3"),
             ("close 3", "half 7"),
             ("close 4", "half 9"),
             ("append 4", "vertex 4"),
@@ -58,14 +52,8 @@ const ROWS: [Row; 14] = [
     ),
     (
         6,
+        &LINE,
         &[
-            ("append 0", "vertex 0"),
-            ("append 1", "vertex 1"),
-            ("setup 0 1", "ok"),
-            ("append 2", "vertex 2"),
-            ("extend 1 2", "vertex 2"),
-            ("append 3", "vertex 3"),
-            ("extend 2 3", "vertex 3"),
             ("close 3", "half 7"),
             ("close 4", "half 9"),
             ("append 4", "vertex 4"),
@@ -75,8 +63,8 @@ const ROWS: [Row; 14] = [
     ),
     (
         3,
+        &TRIANGLE,
         &[
-            ("triangle 0 1 2", "ok"),
             ("close 1", "refused 12 NotOuter"),
             ("close 0", "refused 19 NoRoom"),
             ("words", "F0 0 2 4\nF1 1 5 3"),
@@ -84,8 +72,8 @@ const ROWS: [Row; 14] = [
     ),
     (
         4,
+        &TRIANGLE,
         &[
-            ("triangle 0 1 2", "ok"),
             ("close 0", "half 7"),
             ("close 4", "refused 14 WouldLoop"),
             ("words", "F0 4 7\nF1 1 5 3\nF2 0 2 6"),
@@ -93,28 +81,19 @@ const ROWS: [Row; 14] = [
     ),
     (
         4,
+        &TRIANGLE_AND_VERTEX,
         &[
-            ("triangle 0 1 2", "ok"),
-            ("append 3", "vertex 3"),
             ("outside 0 1", "refused 8 VertexInUse"),
             ("outside 0 3", "refused 19 NoRoom"),
             ("outside 1 3", "refused 19 NoRoom"),
             ("words", "F0 0 2 4\nF1 1 5 3"),
         ],
     ),
-    (
-        5,
-        &[
-            ("triangle 0 1 2", "ok"),
-            ("append 3", "vertex 3"),
-            ("outside 0 3", "vertex 3"),
-        ],
-    ),
+    (5, &TRIANGLE_AND_VERTEX, &[("outside 0 3", "vertex 3")]),
     (
         4,
+        &TRIANGLE_AND_VERTEX,
         &[
-            ("triangle 0 1 2", "ok"),
-            ("append 3", "vertex 3"),
             ("half 0 1", "refused 8 VertexInUse"),
             ("half 0 3", "refused 19 NoRoom"),
             ("half 1 3", "refused 19 NoRoom"),
@@ -123,9 +102,8 @@ const ROWS: [Row; 14] = [
     ),
     (
         5,
+        &TRIANGLE_AND_VERTEX,
         &[
-            ("triangle 0 1 2", "ok"),
-            ("append 3", "vertex 3"),
             ("split 0 3", "refused 19 NoRoom"),
             ("split 1 3", "refused 19 NoRoom"),
             ("half 0 3", "halves 0 8"),
@@ -137,22 +115,12 @@ const ROWS: [Row; 14] = [
             ("words", "F0 0 7 4\nF1 1 5 3 9\nF2 2 6 8"),
         ],
     ),
-    (
-        6,
-        &[
-            ("triangle 0 1 2", "ok"),
-            ("append 3", "vertex 3"),
-            ("split 0 3", "halves 0 9"),
-        ],
-    ),
+    (6, &TRIANGLE_AND_VERTEX, &[("split 0 3", "halves 0 9")]),
     // The outer face has two half edges, and then four.
     (
         NO_LIMIT,
+        &EDGE_AND_VERTEX,
         &[
-            ("append 0", "vertex 0"),
-            ("append 1", "vertex 1"),
-            ("setup 0 1", "ok"),
-            ("append 2", "vertex 2"),
             ("half 0 2", "refused 13 NotTriangle"),
             ("split 0 2", "refused 13 NotTriangle"),
             ("line 0 2", "halves 0 2"),
@@ -164,9 +132,8 @@ const ROWS: [Row; 14] = [
     ),
     (
         NO_LIMIT,
+        &TRIANGLE_AND_VERTEX,
         &[
-            ("triangle 0 1 2", "ok"),
-            ("append 3", "vertex 3"),
             ("outside 0 3", "vertex 3"),
             ("append 4", "vertex 4"),
             ("split 2 4", "refused 13 NotTriangle"),
@@ -174,9 +141,8 @@ const ROWS: [Row; 14] = [
     ),
     (
         NO_LIMIT,
+        &TRIANGLE_AND_VERTEX,
         &[
-            ("triangle 0 1 2", "ok"),
-            ("append 3", "vertex 3"),
             ("outside 0 3", "vertex 3"),
             ("append 4", "vertex 4"),
             ("half 2 4", "refused 13 NotTriangle"),
@@ -211,11 +177,7 @@ fn half_edges_and_vertices_are_refused(rt: HostRuntime) -> Result<(), Fail> {
     let alloc = rt.alloc();
     let mut lines = Vec::new(alloc);
     let mut replies = Vec::new(alloc);
-    push_talk(
-        &mut lines,
-        &mut replies,
-        &[("triangle 0 1 2", "ok"), ("append 3", "vertex 3")],
-    )?;
+    push_talk(&mut lines, &mut replies, &TRIANGLE_AND_VERTEX)?;
     for word in ["line", "outside", "half", "split"] {
         for (unfit, refusal) in UNFIT {
             push_line(&mut lines, &format!(in alloc; "{word} {unfit}")?)?;

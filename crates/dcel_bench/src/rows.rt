@@ -1,40 +1,83 @@
 //! Worked rows: lines, each with what it is answered.
 
-use crate::answers::assert_answered;
+use crate::answers::{assert_text_answered, push_talk};
 use crate::meshes::NO_LIMIT;
 use std::alloc::Global;
 use std::process::Abort;
 use std::test::Fail;
 
-/// The limit, and lines with what each is answered.
-pub type Row = (usize, &'static [(&'static str, &'static str)]);
+/// Lines with what each is answered.
+pub type Talk = &'static [(&'static str, &'static str)];
+
+/// The limit, lines that a row begins with, and those that it is about.
+pub type Row = (usize, Talk, Talk);
+
+/// An edge from vertex 0 to vertex 1.
+pub const FIRST_EDGE: [(&str, &str); 3] = [
+    ("append 0", "vertex 0"),
+    ("append 1", "vertex 1"),
+    ("setup 0 1", "ok"),
+];
+
+/// The same, and vertex 2 beside it.
+pub const EDGE_AND_VERTEX: [(&str, &str); 4] = [
+    ("append 0", "vertex 0"),
+    ("append 1", "vertex 1"),
+    ("setup 0 1", "ok"),
+    ("append 2", "vertex 2"),
+];
+
+/// The line 0, 2, 1.
+pub const SPLIT_EDGE: [(&str, &str); 5] = [
+    ("append 0", "vertex 0"),
+    ("append 1", "vertex 1"),
+    ("setup 0 1", "ok"),
+    ("append 2", "vertex 2"),
+    ("line 0 2", "halves 0 2"),
+];
+
+/// The line 0, 1, 2, 3.
+pub const LINE: [(&str, &str); 7] = [
+    ("append 0", "vertex 0"),
+    ("append 1", "vertex 1"),
+    ("setup 0 1", "ok"),
+    ("append 2", "vertex 2"),
+    ("extend 1 2", "vertex 2"),
+    ("append 3", "vertex 3"),
+    ("extend 2 3", "vertex 3"),
+];
+
+pub const TRIANGLE: [(&str, &str); 1] = [("triangle 0 1 2", "ok")];
+
+/// A triangle, and vertex 3 beside it.
+pub const TRIANGLE_AND_VERTEX: [(&str, &str); 2] = [
+    ("triangle 0 1 2", "ok"),
+    ("append 3", "vertex 3"),
+];
+
+/// A triangle that vertex 3 cuts into three.
+pub const CUT_TRIANGLE: [(&str, &str); 3] = [
+    ("triangle 0 1 2", "ok"),
+    ("append 3", "vertex 3"),
+    ("insert 3 1", "vertex 3"),
+];
 
 const ROWS: [Row; 15] = [
-    (NO_LIMIT, &[]),
+    (NO_LIMIT, &[], &[]),
     (
         1,
+        &[],
         &[
             ("append 5", "vertex 0"),
             ("append 6", "refused 19 NoRoom"),
             ("words", "F0"),
         ],
     ),
+    (NO_LIMIT, &FIRST_EDGE, &[("words", "F0 0 1")]),
     (
         NO_LIMIT,
+        &EDGE_AND_VERTEX,
         &[
-            ("append 0", "vertex 0"),
-            ("append 1", "vertex 1"),
-            ("setup 0 1", "ok"),
-            ("words", "F0 0 1"),
-        ],
-    ),
-    (
-        NO_LIMIT,
-        &[
-            ("append 0", "vertex 0"),
-            ("append 1", "vertex 1"),
-            ("setup 0 1", "ok"),
-            ("append 2", "vertex 2"),
             ("extend 0 2", "vertex 2"),
             ("words", "F0 0 1 3 2"),
             ("append 3", "vertex 3"),
@@ -46,10 +89,8 @@ const ROWS: [Row; 15] = [
     ),
     (
         NO_LIMIT,
+        &FIRST_EDGE,
         &[
-            ("append 0", "vertex 0"),
-            ("append 1", "vertex 1"),
-            ("setup 0 1", "ok"),
             ("setup 0 1", "refused 9 EdgesStand"),
             ("setup 1 1", "refused 7 SameVertex"),
             ("setup 2 0", "refused 1 NoSuchVertex"),
@@ -61,6 +102,7 @@ const ROWS: [Row; 15] = [
     ),
     (
         2,
+        &[],
         &[
             ("append 0", "vertex 0"),
             ("append 1", "vertex 1"),
@@ -71,6 +113,7 @@ const ROWS: [Row; 15] = [
     ),
     (
         NO_LIMIT,
+        &[],
         &[
             ("counts", "vertices 0 edges 0 faces 1"),
             ("check", "true"),
@@ -79,8 +122,8 @@ const ROWS: [Row; 15] = [
     ),
     (
         NO_LIMIT,
+        &TRIANGLE,
         &[
-            ("triangle 0 1 2", "ok"),
             ("counts", "vertices 3 edges 3 faces 2"),
             ("words", "F0 0 2 4\nF1 1 5 3"),
             ("check", "true"),
@@ -88,10 +131,8 @@ const ROWS: [Row; 15] = [
     ),
     (
         NO_LIMIT,
+        &CUT_TRIANGLE,
         &[
-            ("triangle 0 1 2", "ok"),
-            ("append 3", "vertex 3"),
-            ("insert 3 1", "vertex 3"),
             ("words", "F0 0 2 4\nF1 1 6 11\nF2 5 8 7\nF3 3 10 9"),
             ("out 3", "out 7 9 11"),
             ("counts", "vertices 4 edges 6 faces 4"),
@@ -103,29 +144,25 @@ const ROWS: [Row; 15] = [
     ),
     (
         4,
+        &TRIANGLE_AND_VERTEX,
         &[
-            ("triangle 0 1 2", "ok"),
-            ("append 3", "vertex 3"),
             ("insert 3 1", "refused 19 NoRoom"),
             ("counts", "vertices 4 edges 3 faces 2"),
         ],
     ),
     (
         2,
+        &[],
         &[
             ("triangle 0 1 2", "refused 19 NoRoom"),
             ("append 0", "vertex 0"),
         ],
     ),
-    (
-        3,
-        &[("triangle 0 1 2", "ok"), ("append 3", "refused 19 NoRoom")],
-    ),
+    (3, &TRIANGLE, &[("append 3", "refused 19 NoRoom")]),
     (
         NO_LIMIT,
+        &TRIANGLE_AND_VERTEX,
         &[
-            ("triangle 0 1 2", "ok"),
-            ("append 3", "vertex 3"),
             ("insert 3 0", "refused 3 NoSuchFace"),
             ("insert 0 1", "refused 8 VertexInUse"),
             ("insert 4 1", "refused 1 NoSuchVertex"),
@@ -152,9 +189,8 @@ const ROWS: [Row; 15] = [
     ),
     (
         NO_LIMIT,
+        &TRIANGLE_AND_VERTEX,
         &[
-            ("triangle 0 1 2", "ok"),
-            ("append 3", "vertex 3"),
             ("insert 3 0", "refused 3 NoSuchFace"),
             ("insert 0 1", "refused 8 VertexInUse"),
             ("line 0 3", "refused 11 NotBridge"),
@@ -173,6 +209,7 @@ const ROWS: [Row; 15] = [
     ),
     (
         NO_LIMIT,
+        &[],
         &[
             ("between 0 0", "refused 1 NoSuchVertex"),
             ("triangle 0 1 2", "ok"),
@@ -202,9 +239,13 @@ const ROWS: [Row; 15] = [
 
 /// That the lines of each row are answered so, each row from an empty mesh.
 pub fn assert_rows(rows: &[Row], alloc: Global, rt: &impl Abort) -> Result<(), Fail> {
-    for (limit, row) in rows {
+    for (limit, begun, row) in rows {
         assert!(rt; *limit <= NO_LIMIT);
-        assert_answered(alloc, *limit, row, rt)?;
+        let mut lines = Vec::new(alloc);
+        let mut replies = Vec::new(alloc);
+        push_talk(&mut lines, &mut replies, begun)?;
+        push_talk(&mut lines, &mut replies, row)?;
+        assert_text_answered(alloc, *limit, &lines, &replies, rt)?;
     }
     Ok(())
 }

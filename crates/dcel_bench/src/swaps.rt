@@ -1,25 +1,16 @@
 //! Vertices that are swapped.
 
-use crate::meshes::{
-    CUT_TRIANGLE, Link, Mesh, append, assert_links, cut_triangle, first_edge, half_edge, swap,
-    triangle_and_vertex, vertex,
-};
-use spade_dcel::operations::new;
+use crate::growths::Growth::Append;
+use crate::growths::{FIRST_EDGE, TRIANGLE_AND_VERTEX, cut_triangle, grown};
+use crate::meshes::{CUT_TRIANGLE, Links, Mesh, assert_links, half_edge, swap, vertex};
 use std::process::Abort;
 use std::test::Fail;
 
 /// A vertex with its anchor and its datum.
 type Vertex = (u32, Option<u32>, i64);
 
-/// The words of a triangle whose half edges start where they do once the vertices 0 and 3 are swapped: 0, 2, 4 and 1, 5, 3.
-const FROM_3: [Link; 6] = [
-    (0, 2, 3, 0),
-    (2, 4, 1, 0),
-    (4, 0, 2, 0),
-    (1, 5, 1, 1),
-    (5, 3, 3, 1),
-    (3, 1, 2, 1),
-];
+/// The links of a triangle whose half edges start where they do once the vertices 0 and 3 are swapped.
+const FROM_3: Links = (&[&[0, 2, 4], &[1, 5, 3]], &[3, 1, 1, 2, 2, 3]);
 
 /// That vertices have these anchors and data.
 fn assert_vertices(dcel: &Mesh, vertices: &[Vertex], rt: &impl Abort) {
@@ -37,10 +28,13 @@ fn assert_vertices(dcel: &Mesh, vertices: &[Vertex], rt: &impl Abort) {
 
 /// That the mesh is a cut triangle whose vertices 0, 1, 2 and 3 have these numbers.
 fn assert_cut_triangle(dcel: &Mesh, numbers: [u32; 4], rt: &impl Abort) {
-    for (edge, next, from, face) in CUT_TRIANGLE {
-        assert!(rt; (from as usize) < numbers.len());
-        assert_links(dcel, &[(edge, next, numbers[from as usize], face)], rt);
+    let (words, old_origins) = CUT_TRIANGLE;
+    let mut origins = [0; 12];
+    for (place, from) in old_origins.iter().enumerate() {
+        assert!(rt; place < origins.len() && (*from as usize) < numbers.len());
+        origins[place] = numbers[*from as usize];
     }
+    assert_links(dcel, words, &origins, rt);
     let [first, second, third, inner] = numbers;
     let vertices = [
         (first, Some(0), 0),
@@ -85,10 +79,10 @@ fn two_swaps_are_none(rt: HostRuntime) -> Result<(), Fail> {
 #[test]
 fn a_vertex_without_an_edge_is_swapped(rt: HostRuntime) -> Result<(), Fail> {
     for (first, second) in [(0, 3), (3, 0)] {
-        let mut dcel = triangle_and_vertex(rt.alloc(), &rt)?;
+        let mut dcel = grown(rt.alloc(), &TRIANGLE_AND_VERTEX, &rt)?;
         swap(&mut dcel, first, second, &rt);
         assert!(rt; dcel.is_unconnected(vertex(0)));
-        assert_links(&dcel, &FROM_3, &rt);
+        assert_links(&dcel, FROM_3.0, FROM_3.1, &rt);
         let vertices = [
             (0, None, 3),
             (1, Some(2), 1),
@@ -102,18 +96,16 @@ fn a_vertex_without_an_edge_is_swapped(rt: HostRuntime) -> Result<(), Fail> {
 
 #[test]
 fn the_ends_of_an_edge_are_swapped(rt: HostRuntime) -> Result<(), Fail> {
-    let mut dcel = first_edge(rt.alloc(), &rt)?;
+    let mut dcel = grown(rt.alloc(), &FIRST_EDGE, &rt)?;
     swap(&mut dcel, 0, 1, &rt);
-    assert_links(&dcel, &[(0, 1, 1, 0), (1, 0, 0, 0)], &rt);
+    assert_links(&dcel, &[&[0, 1]], &[1, 0], &rt);
     assert_vertices(&dcel, &[(0, Some(1), 1), (1, Some(0), 0)], &rt);
     Ok(())
 }
 
 #[test]
 fn two_vertices_without_an_edge_are_swapped(rt: HostRuntime) -> Result<(), Fail> {
-    let mut dcel: Mesh = new(rt.alloc())?;
-    append(&mut dcel, 7, &rt)?;
-    append(&mut dcel, 8, &rt)?;
+    let mut dcel = grown(rt.alloc(), &[Append(7), Append(8)], &rt)?;
     swap(&mut dcel, 1, 0, &rt);
     assert_vertices(&dcel, &[(0, None, 8), (1, None, 7)], &rt);
     Ok(())

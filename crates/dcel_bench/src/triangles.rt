@@ -1,15 +1,9 @@
 //! Meshes of triangles, and the walks round their vertices and faces.
 
-use crate::meshes::{CUT_TRIANGLE, assert_links, cut_triangle, half_edge, inner_face, vertex};
+use crate::growths::cut_triangle;
+use crate::meshes::{half_edge, inner_face, vertex};
 use spade_dcel::handles::OUTER_FACE;
 use std::test::Fail;
-
-#[test]
-fn a_triangle_is_cut_into_three(rt: HostRuntime) -> Result<(), Fail> {
-    let dcel = cut_triangle(rt.alloc(), &rt)?;
-    assert_links(&dcel, &CUT_TRIANGLE, &rt);
-    Ok(())
-}
 
 #[test]
 fn anchors_of_faces_answer(rt: HostRuntime) -> Result<(), Fail> {

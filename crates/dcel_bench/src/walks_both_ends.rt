@@ -2,7 +2,8 @@
 
 ghost use Rattle.std.specs.Iterator.{IsFinite};
 
-use crate::meshes::{Mesh, append, cut_triangle, first_edge, half_edge, vertex};
+use crate::growths::{FIRST_EDGE, cut_triangle, grown};
+use crate::meshes::{Mesh, append, half_edge, vertex};
 use crate::own_steps::{PrevNextBackFn, RevNextBackFn};
 use spade_dcel::handles::DirectedEdgeHandle;
 use spade_dcel::iterators::{
@@ -15,30 +16,33 @@ use std::process::Abort;
 use std::test::Fail;
 
 /// The end that an item is taken from.
-#[derive(Clone, Copy, Debug)]
+#[derive(Clone, Copy)]
 enum End {
     Front,
     Back,
 }
 
-/// That items taken from these ends of an iterator are these half edges, or None.
+use End::{Back, Front};
+
+/// That items taken from these ends of an iterator are these half edges, one after another, and then none.
 fn assert_taken<'a, I: DoubleEndedIterator<Item = DirectedEdgeHandle<'a, i64, i64, i64, i64>>>(
     mut edges: I,
-    want: &[(End, Option<u32>)],
+    ends: &[End],
+    want: &[u32],
     rt: &impl Abort,
 )
     requires can { (s : I) → I.can_next s × I.can_next_back s }
     requires ends { IsFinite (I.remaining edges) }
 {
-    for &(end, index) in want {
+    for (place, end) in ends.iter().enumerate() {
         let edge = match end {
-            End::Front => edges.next(),
-            End::Back => edges.next_back(),
+            Front => edges.next(),
+            Back => edges.next_back(),
         };
         assert_eq!(rt;
             edge.map(|taken| taken.fix()),
-            index.map(|number| half_edge(number)),
-            "{end:?}"
+            want.get(place).map(|number| half_edge(*number)),
+            "{place}"
         );
     }
 }
@@ -48,34 +52,23 @@ fn out_edges_come_from_both_ends(rt: HostRuntime) -> Result<(), Fail> {
     let dcel = cut_triangle(rt.alloc(), &rt)?;
     let handle = vertex(3);
     assert!(rt; handle.index() < dcel.num_vertices());
-    let mixed = [
-        (End::Front, Some(7)),
-        (End::Back, Some(11)),
-        (End::Front, Some(9)),
-        (End::Front, None),
-        (End::Back, None),
-    ];
-    let from_the_back = [
-        (End::Back, Some(11)),
-        (End::Back, Some(9)),
-        (End::Back, Some(7)),
-        (End::Back, None),
-    ];
-    assert_taken(dcel.vertex(handle).out_edges(), &mixed, &rt);
-    assert_taken(dcel.vertex(handle).out_edges(), &from_the_back, &rt);
+    let mixed = [Front, Back, Front, Front, Back];
+    assert_taken(dcel.vertex(handle).out_edges(), &mixed, &[7, 11, 9], &rt);
+    let from_the_back = [Back, Back, Back, Back];
+    assert_taken(
+        dcel.vertex(handle).out_edges(),
+        &from_the_back,
+        &[11, 9, 7],
+        &rt,
+    );
     Ok(())
 }
 
 #[test]
 fn the_hull_comes_from_both_ends(rt: HostRuntime) -> Result<(), Fail> {
     let dcel = cut_triangle(rt.alloc(), &rt)?;
-    let mixed = [
-        (End::Back, Some(4)),
-        (End::Front, Some(0)),
-        (End::Back, Some(2)),
-        (End::Front, None),
-    ];
-    assert_taken(HullIterator::new(&dcel), &mixed, &rt);
+    let mixed = [Back, Front, Back, Front];
+    assert_taken(HullIterator::new(&dcel), &mixed, &[4, 0, 2], &rt);
     Ok(())
 }
 
@@ -83,7 +76,8 @@ fn the_hull_comes_from_both_ends(rt: HostRuntime) -> Result<(), Fail> {
 fn assert_walk<NB: NextBackFn>(
     dcel: &Mesh,
     start: u32,
-    want: &[(End, Option<u32>)],
+    ends: &[End],
+    want: &[u32],
     rt: &impl Abort,
 ) {
     let edge = half_edge(start);
@@ -92,38 +86,18 @@ fn assert_walk<NB: NextBackFn>(
     let walk: CircularIterator<'_, i64, i64, i64, i64, NB> = CircularIterator::new(
         dcel.directed_edge(edge),
     );
-    assert_taken(walk, want, rt);
+    assert_taken(walk, ends, want, rt);
 }
 
 #[test]
 fn own_steps_lead_round(rt: HostRuntime) -> Result<(), Fail> {
     let dcel = cut_triangle(rt.alloc(), &rt)?;
-    let along_an_edge = [
-        (End::Front, Some(6)),
-        (End::Front, Some(7)),
-        (End::Front, None),
-    ];
-    let along_an_edge_from_the_back = [
-        (End::Back, Some(7)),
-        (End::Back, Some(6)),
-        (End::Back, None),
-    ];
-    let round_a_face = [
-        (End::Front, Some(1)),
-        (End::Front, Some(11)),
-        (End::Front, Some(6)),
-        (End::Front, None),
-    ];
-    let round_a_face_from_both_ends = [
-        (End::Back, Some(6)),
-        (End::Front, Some(1)),
-        (End::Back, Some(11)),
-        (End::Back, None),
-    ];
-    assert_walk::<RevNextBackFn>(&dcel, 6, &along_an_edge, &rt);
-    assert_walk::<RevNextBackFn>(&dcel, 6, &along_an_edge_from_the_back, &rt);
-    assert_walk::<PrevNextBackFn>(&dcel, 1, &round_a_face, &rt);
-    assert_walk::<PrevNextBackFn>(&dcel, 1, &round_a_face_from_both_ends, &rt);
+    assert_walk::<RevNextBackFn>(&dcel, 6, &[Front, Front, Front], &[6, 7], &rt);
+    assert_walk::<RevNextBackFn>(&dcel, 6, &[Back, Back, Back], &[7, 6], &rt);
+    let along = [Front, Front, Front, Front];
+    assert_walk::<PrevNextBackFn>(&dcel, 1, &along, &[1, 11, 6], &rt);
+    let mixed = [Back, Front, Back, Back];
+    assert_walk::<PrevNextBackFn>(&dcel, 1, &mixed, &[6, 1, 11], &rt);
     Ok(())
 }
 
@@ -189,7 +163,11 @@ fn elements_are_counted(rt: HostRuntime) -> Result<(), Fail> {
     assert_lengths(&dcel, [0, 0, 0, 1, 0, 0], &rt);
     assert_eq!(rt; append(&mut dcel, 0, &rt)?, vertex(0));
     assert_lengths(&dcel, [1, 0, 0, 1, 0, 0], &rt);
-    assert_lengths(&first_edge(rt.alloc(), &rt)?, [2, 2, 1, 1, 0, 2], &rt);
+    assert_lengths(
+        &grown(rt.alloc(), &FIRST_EDGE, &rt)?,
+        [2, 2, 1, 1, 0, 2],
+        &rt,
+    );
     assert_lengths(&cut_triangle(rt.alloc(), &rt)?, [4, 12, 6, 4, 3, 3], &rt);
     Ok(())
 }

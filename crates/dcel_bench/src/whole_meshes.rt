@@ -1,10 +1,8 @@
 //! Calls on whole meshes: data mapped, a mesh cloned, cleared and given room, and one made of its vertices.
 
-use crate::growths::Growth::{Append, Close, Extend, Insert, SetUp, Triangle};
-use crate::growths::{Growth, grow};
-use crate::meshes::{
-    CUT_TRIANGLE, Mesh, assert_counts, assert_links, cut_triangle, half_edge, vertex,
-};
+use crate::growths::Growth::{Append, Close, Extend, SetUp};
+use crate::growths::{CUT, cut_triangle, grow};
+use crate::meshes::{CUT_TRIANGLE, Mesh, assert_counts, assert_links, half_edge, vertex};
 use crate::refused_memory::{MANY, picture_of};
 use crate::refusing::Refusing;
 use spade_dcel::handles::OUTER_FACE;
@@ -16,9 +14,6 @@ use std::test::Fail;
 
 /// A mesh whose memory may be refused.
 type Watched<'a> = Mesh<&'a Refusing<Global>>;
-
-/// The calls that make a triangle which vertex 3 cuts into three.
-const CUT: [Growth; 3] = [Triangle(0, 1, 2), Append(3), Insert(3, 1)];
 
 /// What was made, or that there was no memory.
 fn made<T, B: Drop>(made: Result<T, NoMemory<B>>) -> Result<T, AllocError> {
@@ -57,7 +52,7 @@ fn data_are_mapped_and_cloned(rt: HostRuntime) -> Result<(), Fail> {
     assert!(rt; dcel.has_room(9, 9, 9));
     dcel.reserve_capacity(9, 9, 9)?;
 
-    assert_links(&dcel, &CUT_TRIANGLE, &rt);
+    assert_links(&dcel, CUT_TRIANGLE.0, CUT_TRIANGLE.1, &rt);
     assert_eq!(rt; picture_of(&dcel, rt.alloc(), &rt)?, before);
     assert_eq!(rt; picture_of(&clone, rt.alloc(), &rt)?, before);
     assert_data(dcel, rt.alloc(), 10_11_12_13, 1_01_01_01_01_01, &rt)?;
@@ -82,7 +77,7 @@ fn assert_fixed<A: Allocator + Clone>(
     rt: &impl Abort,
 ) -> Result<(), AllocError> {
     assert_counts(&dcel, 3, 2, 1, rt);
-    assert_links(&dcel, &[(0, 1, 2, 0), (1, 0, 0, 0)], rt);
+    assert_links(&dcel, &[&[0, 1]], &[2, 0], rt);
     let anchors = [Some(half_edge(1)), None, Some(half_edge(0))];
     for (index, anchor) in anchors.iter().enumerate() {
         let handle = vertex(index as u32);

@@ -2,7 +2,6 @@ pub use Rattle.dcel_text.specs.Lines
 pub use Rattle.dcel_text.specs.Transfer
 pub mod Answering
 pub mod Conditions
-pub mod EdgeAndVertex
 pub mod Grammar
 pub mod Queries
 pub mod Refusal
@@ -13,6 +12,5 @@ pub mod Spelling
 pub mod Stage
 pub mod Steps
 pub mod Talk
-pub mod TwoVertices
 pub mod Vocabulary
 pub mod request

@@ -12,10 +12,9 @@ use Rattle.dcel_commands.specs.request.Between.{between}
 use Rattle.dcel_commands.specs.request.Check.{check}
 use Rattle.dcel_commands.specs.request.Counts.{counts}
 use Rattle.dcel_commands.specs.request.Get.{get}
-use Rattle.dcel_commands.specs.request.Hull.{hull}
 use Rattle.dcel_commands.specs.request.Origin.{origin}
 use Rattle.dcel_commands.specs.request.Out.{out}
-use Rattle.dcel_commands.specs.request.Words.{words}
+use Rattle.dcel_commands.specs.request.Words.{hull, words}
 
 -- the queries
 abbrev pub query_rule : Query → QueryRule

@@ -3,6 +3,8 @@ pub use Rattle.dcel_commands.specs.Answering.{WritesSome}
 pub use Rattle.dcel_commands.specs.Queries.{TellsOrRefuses}
 pub use Rattle.dcel_commands.specs.Spelling.{Says}
 pub use Rattle.dcel_commands.specs.Steps.{Carries}
+pub use Rattle.dcel_commands.specs.request.AtEdge.{at_edge}
+pub use Rattle.dcel_commands.specs.request.Vertices.{of_vertices}
 pub use Rattle.dcel_maps.specs.Shapes.{IsLive, IsMesh, IsSound, face_count, face_of}
 pub use Rattle.dcel_maps.specs.Walking.{ccw_of, walk_of}
 pub use Rattle.dcel_maps.specs.Words.{word_of}

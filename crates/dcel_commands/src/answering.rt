@@ -10,7 +10,7 @@ use crate::reading::read;
 use crate::refusal::Refusal;
 use crate::replies::{write_refusal, write_reply};
 use crate::request::{
-    LineMesh, Query, Request, between, check, counts, get, hull, origin, out as out_edges, words,
+    LineMesh, Query, Request, between, check, counts, get, origin, out as out_edges, words,
 };
 use dcel_text::output::Writer;
 use dcel_text::sink::LineSink;
@@ -27,7 +27,7 @@ fn tell<A: Allocator, K: LineSink>(
     match query {
         Query::Counts => counts::write_counts(out, mesh),
         Query::Words => words::write_words(out, mesh),
-        Query::Hull => hull::write_hull(out, mesh),
+        Query::Hull => words::write_hull(out, mesh),
         Query::Out(vertex) => out_edges::tell(out, mesh, vertex)?,
         Query::Origin(edge) => origin::tell(out, mesh, edge)?,
         Query::Between(from, to) => between::tell(out, mesh, from, to)?,

@@ -4,8 +4,8 @@ ghost use Rattle.std.specs.Prelude.{◌≡◌, ◌↔◌, ◌+◌, ◌*◌, ◌<
 ghost use Rattle.dcel_maps.specs.Conditions.{HasRoom};
 ghost use Rattle.dcel_maps.specs.Shapes.{IsLive, face_count};
 ghost use Rattle.dcel_commands.specs.Conditions.{AllMet, AreWithin, FirstUnmet, OnTriangle};
-ghost use Rattle.dcel_commands.specs.EdgeAndVertex.{edge_and_vertex};
-ghost use Rattle.dcel_commands.specs.TwoVertices.{live_vertices, two_vertices};
+ghost use Rattle.dcel_commands.specs.request.AtEdge.{edge_and_vertex};
+ghost use Rattle.dcel_commands.specs.request.Vertices.{live_vertices, two_vertices};
 ghost use Rattle.spade_dcel.specs.Handles.{mesh_behind, number_of};
 ghost use Rattle.dcel_commands.specs.declared.refusal.Refusal.TheVariants.{NotTriangle};
 
@@ -74,8 +74,8 @@ pub fn ask_live_vertices<V, DE, UE, F, A: Allocator>(
     ensures { let asks = live_vertices first second in
         MatchResult result (λ _. AllMet dcel.now.shape asks) (λ why. FirstUnmet dcel.now.shape asks why) }
 {
-    ask(has_vertex(dcel, first), Refusal::NoSuchVertex)?;
-    ask(has_vertex(dcel, second), Refusal::NoSuchVertex)?;
+    ask(first.index() < dcel.num_vertices(), Refusal::NoSuchVertex)?;
+    ask(second.index() < dcel.num_vertices(), Refusal::NoSuchVertex)?;
     ask(dcel.is_live_vertex(first), Refusal::GivenUp)?;
     ask(dcel.is_live_vertex(second), Refusal::GivenUp)
 }

@@ -1,27 +1,21 @@
-//! What a line says: a command, or a query. Each has a file of its own: how it is read, what it asks, and how it is carried out or told.
-#![tactic(auto, unfolding(crate::specs::Spelling::Says))]
+//! What a line says: a command, or a query. What each asks, and how it is carried out or told, stands in a file of its own, or in one
+//! with the lines of its form.
 
 pub mod append;
+pub mod at_edge;
 pub mod between;
 pub mod check;
 pub mod clear;
 pub mod close;
 pub mod counts;
-pub mod extend;
 pub mod flip;
 pub mod get;
-pub mod half;
-pub mod hull;
 pub mod insert;
-pub mod line;
 pub mod origin;
 pub mod out;
-pub mod outside;
 pub mod put;
-pub mod setup;
-pub mod split;
-pub mod swap;
 pub mod triangle;
+pub mod vertices;
 pub mod words;
 
 use crate::asking::{
@@ -29,15 +23,11 @@ use crate::asking::{
     has_half_edge, has_room, has_vertex,
 };
 use crate::commands::{Command, Handed, Refused, Reply};
-use crate::given::{
-    edge_and_vertex, number_and_datum, one_number, three_data, two_numbers, two_vertices,
-};
 use crate::refusal::Refusal;
 use dcel_fixed::{
     FixedDirectedEdgeHandle, FixedFaceHandle, FixedUndirectedEdgeHandle, FixedVertexHandle,
     InnerTag,
 };
-use dcel_text::items::{Rest, datum_then, nothing};
 use dcel_text::output::Writer;
 use dcel_text::sink::LineSink;
 use spade_dcel::dcel::Dcel;

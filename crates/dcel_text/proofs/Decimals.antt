@@ -1,5 +1,5 @@
 -- Which items are the decimals of a number.
-use Rattle.std.proofs.Common.{◌≡◌, ◌≢◌, ℕ, ◌+◌, ◌-◌, ◌*◌, ◌^◌, ◌<◌, ◌≤◌, List, length, get_or, take, drop, suc, sym, ap, subst, ◌∙◌, arith, rules, tests, inl, inr, true, length-take}
+use Rattle.std.proofs.Common.{◌≡◌, ◌≢◌, ℕ, ◌+◌, ◌-◌, ◌*◌, ◌^◌, ◌<◌, ◌≤◌, List, ◌∷◌, length, get_or, take, drop, suc, sym, ap, subst, ◌∙◌, arith, rules, tests, inl, inr, true, length-take}
 use Rattle.std.specs.Prelude.{ℤ, pos, negsuc, ◌⊎◌}
 use Rattle.std.specs.Int.{IsInRange}
 use Rattle.std.specs.Fmt.{decimal, signed_decimal}
@@ -34,8 +34,13 @@ pub none_if_no_digit : (t : List ℕ) (i : ℕ) → i < length t → (IsInRange 
 none_if_no_digit t i l none n lt e =
     none (digit_at t i (subst (AllDigits 10) (sym e) (digits_decimal numerals n (omega arith))) l)
 
-pub none_if_too_large : (t : List ℕ) (m : ℕ) → m < 2 ^ 64 → t ≡ decimal m → 2 ^ 32 ≤ m → (n : ℕ) → IsNumber n → t ≢ decimal n
+none_if_too_large : (t : List ℕ) (m : ℕ) → m < 2 ^ 64 → t ≡ decimal m → 2 ^ 32 ≤ m → (n : ℕ) → IsNumber n → t ≢ decimal n
 none_if_too_large t m lt e le n small f = omega (arith, decimal_injective m n (omega arith) (omega arith) (sym e ∙ f))
+
+-- the first item is a number above the range
+pub too_large : (items others : List (List ℕ)) (item : List ℕ) (m : ℕ) → items ≡ item ∷ others → m < 2 ^ 64 → item ≡ decimal m → 2 ^ 32 ≤ m
+    → (n : ℕ) (more : List (List ℕ)) → IsNumber n → items ≢ decimal n ∷ more
+too_large items others item m e lt is le n more small same = none_if_too_large item m lt is le n small (cc)
 
 -- ---- the value of digits
 

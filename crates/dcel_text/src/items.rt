@@ -5,7 +5,7 @@ ghost use Rattle.std.specs.Fmt.{decimal, signed_decimal};
 ghost use Rattle.dcel_text.specs.Numbers.{IsNumber, IsDatum};
 ghost use Rattle.dcel_text.specs.Items.{items_of, left};
 
-use crate::numbers::{datum, number};
+use crate::numbers::{datum, natural};
 
 /// The items that are still to be read: none, or those of the bytes.
 pub type Rest<'a> = Option<&'a [u8]>;
@@ -29,7 +29,12 @@ pub fn number_then<'a>(rest: Rest<'a>) -> Option<(u32, Rest<'a>)>
         (λ x. left rest.entry ≡ decimal x.0 ∷ left x.1) }
 {
     let (item, others) = first(rest?);
-    Some((number(item)?, others))
+    let n = natural(item)?;
+    if n < 4_294_967_296 {
+        Some((n as u32, others))
+    } else {
+        None
+    }
 }
 
 /// The datum that comes next, and what comes after it.

@@ -6,11 +6,13 @@ ghost use Rattle.dcel_text.specs.Output.{Writing, Writes};
 ghost use Rattle.dcel_text.specs.Texts.{numbered};
 
 use crate::buffer::Buffer;
-use crate::numbers::{MOST_DIGITS, digits};
 use crate::sink::LineSink;
 
 /// The most bytes that are held.
 const ROOM: usize = 4096;
+
+/// The most digits that a number has.
+const MOST_DIGITS: usize = 20;
 
 /// Puts the bytes, as long as the sink doesn't fail.
 fn send<K: LineSink>(sink: &mut K, bytes: &[u8])
@@ -84,8 +86,16 @@ impl<'a, K: LineSink> Writer<'a, K> {
     pub fn number(&mut self, n: u64)
         ensures { Writes K.has_failed K.contents self.old self.new (decimal n) }
     {
-        let mut slot = [0; MOST_DIGITS];
-        self.write(digits(n, &mut slot));
+        let mut slot = [0u8; MOST_DIGITS];
+        let mut at = MOST_DIGITS - 1;
+        let mut high = n;
+        while high >= 10 {
+            slot[at] = b'0' + (high % 10) as u8;
+            at -= 1;
+            high /= 10;
+        }
+        slot[at] = b'0' + high as u8;
+        self.write(&slot[at..]);
     }
 
     /// Writes the decimals of a datum.

@@ -4,7 +4,7 @@ use Rattle.dcel_commands.specs.declared.commands.reply.Reply.TheVariants.{Half}
 use Rattle.dcel_commands.specs.Grammar.{Number}
 use Rattle.dcel_commands.specs.Replies.{reply_text}
 use Rattle.dcel_commands.specs.Rules.{QueryRule}
-use Rattle.dcel_commands.specs.TwoVertices.{live_vertices}
+use Rattle.dcel_commands.specs.request.Vertices.{live_vertices}
 use Rattle.dcel_maps.specs.Walking.{edge_between}
 use Rattle.dcel_text.specs.Texts.{ended}
 

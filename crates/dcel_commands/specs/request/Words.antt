@@ -1,4 +1,4 @@
--- `words`: a line for each live face.
+-- Lines about the half edges round faces.
 use Rattle.std.specs.Prelude.{◌≡◌, ℕ, zero, suc, ◌<◌, List, [], ◌++◌, if◌then◌else◌, codes}
 use Rattle.dcel_commands.specs.Rules.{QueryRule}
 use Rattle.dcel_maps.specs.Shapes.{Shape, face_count, face_is_live, face_of, IsLive}
@@ -31,10 +31,24 @@ pub record IsLeastOnFace (s : Shape) (h : ℕ) : Type 0 where
   pub live : IsLive s h
   pub none_below : (k : ℕ) → k < h → count_of k (word_round s h) ≡ 0
 
+-- `words`: a line for each live face
 abbrev pub words : QueryRule
 words = record {
   word = codes "words";
   given = [];
   asks = [];
   Tells = λ m text. text ≡ words_text m.shape;
+}
+
+-- `hull h h ..`, from the least half edge on
+abbrev pub hull_text : Shape → List ℕ
+hull_text s = ended (codes "hull" ++ listed (word_of s.words 0))
+
+-- `hull`: the half edges of the outer face
+abbrev pub hull : QueryRule
+hull = record {
+  word = codes "hull";
+  given = [];
+  asks = [];
+  Tells = λ m text. text ≡ hull_text m.shape;
 }

@@ -6,10 +6,9 @@ ghost use Rattle.dcel_maps.specs.Shapes.{IsMesh};
 
 use crate::commands::command::Command;
 use crate::commands::reply::{Refused, Reply};
-use crate::request::{
-    append, clear, close, extend, flip, half, insert, line, outside, put, setup, split, swap,
-    triangle,
-};
+use crate::request::at_edge::AtEdge;
+use crate::request::vertices::OfVertices;
+use crate::request::{append, at_edge, clear, close, flip, insert, put, triangle, vertices};
 use spade_dcel::dcel::Dcel;
 use spade_dcel::laws;
 use std::alloc::Allocator;
@@ -43,16 +42,52 @@ pub fn apply<
     let answer = match command {
         Command::Append(datum) => append::carry_out(dcel, datum, limit),
         Command::Triangle(x, y, z) => triangle::carry_out(dcel, (x, y, z), limit),
-        Command::Setup(first, second) => setup::carry_out(dcel, first, second, limit),
-        Command::Extend(end, new) => extend::carry_out(dcel, end, new, limit),
-        Command::Line(edge, vertex) => line::carry_out(dcel, edge, vertex, limit),
+        Command::Setup(first, second) => vertices::carry_out(
+            dcel,
+            OfVertices::Joined,
+            first,
+            second,
+            limit,
+        ),
+        Command::Extend(end, new) => vertices::carry_out(dcel, OfVertices::Longer, end, new, limit),
+        Command::Line(edge, vertex) => at_edge::carry_out(
+            dcel,
+            AtEdge::OnBridge,
+            edge,
+            vertex,
+            limit,
+        ),
         Command::Close(edge) => close::carry_out(dcel, edge, limit),
-        Command::Outside(edge, vertex) => outside::carry_out(dcel, edge, vertex, limit),
+        Command::Outside(edge, vertex) => at_edge::carry_out(
+            dcel,
+            AtEdge::Beside,
+            edge,
+            vertex,
+            limit,
+        ),
         Command::Insert(vertex, face) => insert::carry_out(dcel, vertex, face, limit),
-        Command::Half(edge, vertex) => half::carry_out(dcel, edge, vertex, limit),
-        Command::Split(edge, vertex) => split::carry_out(dcel, edge, vertex, limit),
+        Command::Half(edge, vertex) => at_edge::carry_out(
+            dcel,
+            AtEdge::OnOneSide,
+            edge,
+            vertex,
+            limit,
+        ),
+        Command::Split(edge, vertex) => at_edge::carry_out(
+            dcel,
+            AtEdge::OnBothSides,
+            edge,
+            vertex,
+            limit,
+        ),
         Command::Flip(edge) => flip::carry_out(dcel, edge),
-        Command::Swap(first, second) => swap::carry_out(dcel, first, second),
+        Command::Swap(first, second) => vertices::carry_out(
+            dcel,
+            OfVertices::Exchanged,
+            first,
+            second,
+            limit,
+        ),
         Command::Put(vertex, datum) => put::carry_out(dcel, vertex, datum),
         Command::Clear => clear::carry_out(dcel),
     };

@@ -1,19 +1,10 @@
 //! `append D`
 
-ghost use Rattle.std.specs.Prelude.{◌≤◌, ◌^◌, codes};
-ghost use Rattle.dcel_commands.specs.Vocabulary.{Carries, Says, left};
+ghost use Rattle.std.specs.Prelude.{◌≤◌, ◌^◌};
+ghost use Rattle.dcel_commands.specs.Vocabulary.{Carries};
 
 use super::*;
 use spade_dcel::operations::{NoMemory, append_unconnected_vertex};
-
-/// What the line says after its word.
-pub fn read<'a>(rest: Rest<'a>) -> Option<Request>
-    ensures { Says (codes "append") (left rest.entry) result }
-{
-    let (datum, others) = datum_then(rest)?;
-    nothing(others)?;
-    Some(Request::Edit(Command::Append(datum)))
-}
 
 /// Carries the command out.
 pub fn carry_out<V, DE: Default, UE: Default, F: Default, A: Allocator>(

@@ -1,18 +1,9 @@
 //! `between A B`
 
-ghost use Rattle.std.specs.Prelude.{codes};
-ghost use Rattle.dcel_commands.specs.Vocabulary.{Says, TellsOrRefuses, left};
+ghost use Rattle.dcel_commands.specs.Vocabulary.{TellsOrRefuses};
 
 use super::*;
 use crate::replies::write_reply;
-
-/// What the line says after its word.
-pub fn read<'a>(rest: Rest<'a>) -> Option<Request>
-    ensures { Says (codes "between") (left rest.entry) result }
-{
-    let (first, second) = two_vertices(rest)?;
-    Some(Request::Ask(Query::Between(first, second)))
-}
 
 /// Writes the answer, or refuses and writes nothing.
 pub fn tell<A: Allocator, K: LineSink>(

@@ -1,18 +1,9 @@
 //! `check`
 
-ghost use Rattle.std.specs.Prelude.{codes};
-ghost use Rattle.dcel_commands.specs.Vocabulary.{Says, WritesSome, left};
+ghost use Rattle.dcel_commands.specs.Vocabulary.{WritesSome};
 ghost use Rattle.dcel_commands.specs.request.Check.{check};
 
 use super::*;
-
-/// What the line says after its word.
-pub fn read<'a>(rest: Rest<'a>) -> Option<Request>
-    ensures { Says (codes "check") (left rest.entry) result }
-{
-    nothing(rest)?;
-    Some(Request::Ask(Query::Check))
-}
 
 /// Writes whether the mesh is checked.
 pub fn write_check<A: Allocator, K: LineSink>(out: &mut Writer<'_, K>, dcel: &LineMesh<A>)

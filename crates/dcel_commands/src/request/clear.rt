@@ -1,17 +1,9 @@
 //! `clear`
 
-ghost use Rattle.std.specs.Prelude.{ℕ, codes};
-ghost use Rattle.dcel_commands.specs.Vocabulary.{Carries, Says, left};
+ghost use Rattle.std.specs.Prelude.{ℕ};
+ghost use Rattle.dcel_commands.specs.Vocabulary.{Carries};
 
 use super::*;
-
-/// What the line says after its word.
-pub fn read<'a>(rest: Rest<'a>) -> Option<Request>
-    ensures { Says (codes "clear") (left rest.entry) result }
-{
-    nothing(rest)?;
-    Some(Request::Edit(Command::Clear))
-}
 
 /// Carries the command out.
 pub fn carry_out<V: Drop, DE: Default + Drop, UE: Default + Drop, F: Default + Drop, A: Allocator>(

@@ -1,18 +1,10 @@
 //! `close H`
 
-ghost use Rattle.std.specs.Prelude.{◌≤◌, ◌^◌, codes};
-ghost use Rattle.dcel_commands.specs.Vocabulary.{Carries, Says, left};
+ghost use Rattle.std.specs.Prelude.{◌≤◌, ◌^◌};
+ghost use Rattle.dcel_commands.specs.Vocabulary.{Carries};
 
 use super::*;
 use spade_dcel::operations::create_single_face_between_edge_and_next;
-
-/// What the line says after its word.
-pub fn read<'a>(rest: Rest<'a>) -> Option<Request>
-    ensures { Says (codes "close") (left rest.entry) result }
-{
-    let number = one_number(rest)?;
-    Some(Request::Edit(Command::Close(FixedDirectedEdgeHandle::new(number as usize))))
-}
 
 /// Carries the command out.
 pub fn carry_out<V, DE: Default, UE: Default, F: Default, A: Allocator>(

@@ -1,18 +1,9 @@
 //! `counts`
 
-ghost use Rattle.std.specs.Prelude.{codes};
-ghost use Rattle.dcel_commands.specs.Vocabulary.{Says, Writes, left};
+ghost use Rattle.dcel_commands.specs.Vocabulary.{Writes};
 ghost use Rattle.dcel_commands.specs.request.Counts.{counts_text};
 
 use super::*;
-
-/// What the line says after its word.
-pub fn read<'a>(rest: Rest<'a>) -> Option<Request>
-    ensures { Says (codes "counts") (left rest.entry) result }
-{
-    nothing(rest)?;
-    Some(Request::Ask(Query::Counts))
-}
 
 /// Writes the line of a mesh's counts.
 pub fn write_counts<V, DE, UE, F, A: Allocator, K: LineSink>(

@@ -1,18 +1,10 @@
 //! `flip U`
 
-ghost use Rattle.std.specs.Prelude.{ℕ, codes};
-ghost use Rattle.dcel_commands.specs.Vocabulary.{Carries, Says, left};
+ghost use Rattle.std.specs.Prelude.{ℕ};
+ghost use Rattle.dcel_commands.specs.Vocabulary.{Carries};
 
 use super::*;
 use spade_dcel::operations::flip_cw;
-
-/// What the line says after its word.
-pub fn read<'a>(rest: Rest<'a>) -> Option<Request>
-    ensures { Says (codes "flip") (left rest.entry) result }
-{
-    let number = one_number(rest)?;
-    Some(Request::Edit(Command::Flip(FixedUndirectedEdgeHandle::new(number as usize))))
-}
 
 /// Carries the command out.
 pub fn carry_out<V, DE: Default, UE: Default, F: Default, A: Allocator>(

@@ -1,17 +1,8 @@
 //! `get V`
 
-ghost use Rattle.std.specs.Prelude.{codes};
-ghost use Rattle.dcel_commands.specs.Vocabulary.{Says, TellsOrRefuses, left};
+ghost use Rattle.dcel_commands.specs.Vocabulary.{TellsOrRefuses};
 
 use super::*;
-
-/// What the line says after its word.
-pub fn read<'a>(rest: Rest<'a>) -> Option<Request>
-    ensures { Says (codes "get") (left rest.entry) result }
-{
-    let number = one_number(rest)?;
-    Some(Request::Ask(Query::Get(FixedVertexHandle::new(number as usize))))
-}
 
 /// Writes the answer, or refuses and writes nothing.
 pub fn tell<A: Allocator, K: LineSink>(

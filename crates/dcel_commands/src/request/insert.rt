@@ -1,21 +1,10 @@
 //! `insert B F`
 
-ghost use Rattle.std.specs.Prelude.{◌≤◌, ◌^◌, codes};
-ghost use Rattle.dcel_commands.specs.Vocabulary.{Carries, Says, left};
+ghost use Rattle.std.specs.Prelude.{◌≤◌, ◌^◌};
+ghost use Rattle.dcel_commands.specs.Vocabulary.{Carries};
 
 use super::*;
 use spade_dcel::operations::insert_into_triangle;
-
-/// What the line says after its word.
-pub fn read<'a>(rest: Rest<'a>) -> Option<Request>
-    ensures { Says (codes "insert") (left rest.entry) result }
-{
-    let (v, f) = two_numbers(rest)?;
-    Some(Request::Edit(Command::Insert(
-        FixedVertexHandle::new(v as usize),
-        FixedFaceHandle::new(f as usize),
-    )))
-}
 
 /// Carries the command out.
 pub fn carry_out<V, DE: Default, UE: Default, F: Default, A: Allocator>(

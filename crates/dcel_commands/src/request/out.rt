@@ -1,21 +1,13 @@
 //! `out V`
 
-ghost use Rattle.std.specs.Prelude.{◌≡◌, ◌<◌, IfSome, codes};
+ghost use Rattle.std.specs.Prelude.{◌≡◌, ◌<◌, IfSome};
 ghost use Rattle.std.specs.Option.{option_map};
-ghost use Rattle.dcel_commands.specs.Vocabulary.{IsLive, Says, TellsOrRefuses, Writes, ccw_of, left, listed, mesh_behind, number_of, walk_of};
+ghost use Rattle.dcel_commands.specs.Vocabulary.{IsLive, TellsOrRefuses, Writes, ccw_of, listed, mesh_behind, number_of, walk_of};
 ghost use Rattle.dcel_commands.specs.request.Out.{least_out, turn_of, turn_text};
 
 use super::*;
 use spade_dcel::handles::{DirectedEdgeHandle, VertexHandle};
 use spade_dcel::iterators::{CCWEdgesNextBackFn, CircularIterator};
-
-/// What the line says after its word.
-pub fn read<'a>(rest: Rest<'a>) -> Option<Request>
-    ensures { Says (codes "out") (left rest.entry) result }
-{
-    let number = one_number(rest)?;
-    Some(Request::Ask(Query::Out(FixedVertexHandle::new(number as usize))))
-}
 
 /// Writes the answer, or refuses and writes nothing.
 pub fn tell<A: Allocator, K: LineSink>(

@@ -1,17 +1,9 @@
 //! `put V D`
 
-ghost use Rattle.std.specs.Prelude.{ℕ, codes};
-ghost use Rattle.dcel_commands.specs.Vocabulary.{Carries, Says, left};
+ghost use Rattle.std.specs.Prelude.{ℕ};
+ghost use Rattle.dcel_commands.specs.Vocabulary.{Carries};
 
 use super::*;
-
-/// What the line says after its word.
-pub fn read<'a>(rest: Rest<'a>) -> Option<Request>
-    ensures { Says (codes "put") (left rest.entry) result }
-{
-    let (number, datum) = number_and_datum(rest)?;
-    Some(Request::Edit(Command::Put(FixedVertexHandle::new(number as usize), datum)))
-}
 
 /// Carries the command out.
 pub fn carry_out<V: Drop, DE: Default, UE: Default, F: Default, A: Allocator>(

@@ -1,18 +1,10 @@
 //! `triangle D D D`
 
-ghost use Rattle.std.specs.Prelude.{◌≡◌, codes};
-ghost use Rattle.dcel_commands.specs.Vocabulary.{Carries, Says, left};
+ghost use Rattle.std.specs.Prelude.{◌≡◌};
+ghost use Rattle.dcel_commands.specs.Vocabulary.{Carries};
 
 use super::*;
 use spade_dcel::operations::{NoMemory, new_triangle};
-
-/// What the line says after its word.
-pub fn read<'a>(rest: Rest<'a>) -> Option<Request>
-    ensures { Says (codes "triangle") (left rest.entry) result }
-{
-    let (x, y, z) = three_data(rest)?;
-    Some(Request::Edit(Command::Triangle(x, y, z)))
-}
 
 /// Carries the command out.
 pub fn carry_out<

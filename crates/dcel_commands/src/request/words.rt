@@ -1,20 +1,14 @@
-//! `words`
+//! Lines about the half edges round faces: `words`, `hull`
 
-ghost use Rattle.std.specs.Prelude.{◌≡◌, ◌<◌, codes};
-ghost use Rattle.dcel_commands.specs.Vocabulary.{IsLive, IsMesh, IsSound, Says, Writes, face_count, face_of, left, listed, mesh_behind, number_of, word_of};
-ghost use Rattle.dcel_commands.specs.request.Words.{line_of, words_text, word_round, IsLeastOnFace};
+ghost use Rattle.std.specs.Prelude.{◌≡◌, ◌<◌};
+ghost use Rattle.dcel_commands.specs.Vocabulary.{IsLive, IsMesh, IsSound, Writes, face_count, face_of, listed, mesh_behind, number_of, word_of};
+ghost use Rattle.dcel_commands.specs.request.Words.{hull_text, line_of, words_text, word_round, IsLeastOnFace};
 
 use super::*;
-use spade_dcel::handles::{DirectedEdgeHandle, PossiblyOuterTag, new_fixed_face_handle};
+use spade_dcel::handles::{
+    DirectedEdgeHandle, OUTER_FACE, PossiblyOuterTag, new_fixed_face_handle,
+};
 use spade_dcel::laws::every_mesh;
-
-/// What the line says after its word.
-pub fn read<'a>(rest: Rest<'a>) -> Option<Request>
-    ensures { Says (codes "words") (left rest.entry) result }
-{
-    nothing(rest)?;
-    Some(Request::Ask(Query::Words))
-}
 
 /// The least half edge of the face that the anchor lies on.
 fn least_on_face<'a, V, DE, UE, F, A: Allocator>(
@@ -57,7 +51,7 @@ fn write_word<V, DE, UE, F, A: Allocator, K: LineSink>(
 }
 
 /// Writes the half edges round a face, if it has any, from its least.
-pub fn write_half_edges<V, DE, UE, F, A: Allocator, K: LineSink>(
+fn write_half_edges<V, DE, UE, F, A: Allocator, K: LineSink>(
     out: &mut Writer<'_, K>,
     dcel: &Dcel<V, DE, UE, F, A>,
     face: FixedFaceHandle<PossiblyOuterTag>,
@@ -102,4 +96,17 @@ pub fn write_words<V, DE, UE, F, A: Allocator, K: LineSink>(
     for index in 0..dcel.num_faces() {
         write_face(out, dcel, new_fixed_face_handle(index));
     }
+}
+
+/// Writes the line of the half edges round the outer face, from the least on.
+pub fn write_hull<V, DE, UE, F, A: Allocator, K: LineSink>(
+    out: &mut Writer<'_, K>,
+    dcel: &Dcel<V, DE, UE, F, A>,
+)
+    ensures { Writes K.has_failed K.contents out.old out.new (hull_text dcel.now.shape) }
+{
+    every_mesh(dcel);
+    out.write(b"hull");
+    write_half_edges(out, dcel, OUTER_FACE);
+    out.write(b"\n");
 }

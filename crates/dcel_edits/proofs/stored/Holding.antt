@@ -1,7 +1,9 @@
 -- Lists and a record that hold a mesh.
 use Rattle.std.proofs.Common.{◌≡◌, ℕ, List, length, refl, sym, ◌∙◌, subst}
 use Rattle.dcel_store.specs.Lists.{Lists}
+use Rattle.dcel_store.specs.Whole as lists
 use Rattle.dcel_maps.specs.Removals.{Removal}
+use Rattle.dcel_maps.specs.edits.Whole as mesh
 use Rattle.dcel_maps.specs.Shapes.{Mesh}
 use Rattle.dcel_edits.specs.Stored.{IsStored, mesh_of, stored_map}
 
@@ -24,21 +26,7 @@ module _ {V DE UE F V' DE' UE' F' : Type 0} (s : Lists V DE UE F) (vertices : Li
     pub of_faces : length faces ≡ length s.face_data
 
   abbrev pub with_data : ℕ → ℕ → ℕ → Lists V' DE' UE' F'
-  with_data i j k = record {
-    vertex_data = vertices;
-    vertex_anchors = s.vertex_anchors;
-    next = s.next;
-    prev = s.prev;
-    origin = s.origin;
-    face = s.face;
-    directed_data = halves;
-    undirected_data = edges;
-    face_data = faces;
-    face_anchors = s.face_anchors;
-    vertex_room = i;
-    edge_room = j;
-    face_room = k;
-  }
+  with_data i j k = record (lists.with_data s vertices halves edges faces) { vertex_room = i; edge_room = j; face_room = k }
 
   data_stored : {r : Removal} (i j k : ℕ) → AsMany → IsStored s r → IsStored (with_data i j k) r
   data_stored {r = r} i j k as_many h =
@@ -70,15 +58,7 @@ module _ {V DE UE F V' DE' UE' F' : Type 0} (s : Lists V DE UE F) (vertices : Li
       }
 
   -- they stand for the mesh with these data
-  pub data_holds : {r : Removal} (i j k : ℕ) → AsMany → IsStored s r → Holds (with_data i j k) r record {
-    shape = (mesh_of s r).shape;
-    vertex_anchors = s.vertex_anchors;
-    face_anchors = s.face_anchors;
-    vertex_data = vertices;
-    directed_data = halves;
-    undirected_data = edges;
-    face_data = faces;
-  }
+  pub data_holds : {r : Removal} (i j k : ℕ) → AsMany → IsStored s r → Holds (with_data i j k) r (mesh.with_data (mesh_of s r) vertices halves edges faces)
   data_holds i j k as_many h = record {
     stored = data_stored i j k as_many h;
     is = rw (as_many.of_vertices, as_many.of_edges) refl;

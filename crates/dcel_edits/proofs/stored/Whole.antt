@@ -8,11 +8,9 @@ use Rattle.dcel_maps.specs.edits.Whole as mesh
 use Rattle.dcel_maps.specs.Removals.{Closed, Removal}
 use Rattle.dcel_maps.specs.Shapes.{Mesh}
 use Rattle.dcel_edits.specs.Stored.{IsStored, mesh_of}
-use Rattle.dcel_maps.proofs.edits.Whole.{data_is_mesh}
-use Rattle.dcel_edits.proofs.stored.Changes.{held_lists, held_mesh, held_removal}
+use Rattle.dcel_edits.proofs.stored.Changes.{held_lists}
 use Rattle.dcel_edits.proofs.stored.Creating.{new_holds}
-use Rattle.dcel_edits.proofs.stored.Held.{lists_hold}
-use Rattle.dcel_edits.proofs.stored.Holding.{Holds, with_rooms}
+use Rattle.dcel_edits.proofs.stored.Holding.{Holds, data_holds, with_rooms}
 
 -- the first of some faces
 first_holds : {V DE UE F : Type 0} (faces : List F) (i j k : ℕ) → 0 < length faces
@@ -26,35 +24,13 @@ module _ {V DE UE F : Type 0} {s : Lists V DE UE F} {r : Removal} {m : Mesh V DE
       → length vertices ≡ length m.vertex_data → length halves ≡ length m.directed_data → length edges ≡ length m.undirected_data
       → length faces ≡ length m.face_data
       → Holds (with_rooms (lists.with_data s vertices halves edges faces) i j k) r (mesh.with_data m vertices halves edges faces)
-  data_hold {vertices = vertices} {halves = halves} {edges = edges} {faces = faces} {i = i} {j = j} {k = k} v h e f =
-      let was = held_lists s r m held in
-      let w = was.lengths in
-      subst (λ q. Holds (with_rooms (lists.with_data s vertices halves edges faces) i j k) q (mesh.with_data m vertices halves edges faces))
-      (held_removal s r m held)
-      (lists_hold (with_rooms (lists.with_data s vertices halves edges faces) i j k) (mesh.with_data m vertices halves edges faces)
-      (data_is_mesh m (held_mesh s r m held) vertices halves edges faces v h e f)
-      record {
-        lengths = record {
-          of_vertex_anchors = w.of_vertex_anchors ∙ ap length was.vertex_data ∙ sym v;
-          of_next = omega (arith, w.of_next, ap length was.undirected_data, e);
-          of_prev = w.of_prev;
-          of_origin = w.of_origin;
-          of_face = w.of_face;
-          of_directed_data = h ∙ ap length (sym was.directed_data) ∙ w.of_directed_data;
-          of_face_anchors = w.of_face_anchors ∙ ap length was.face_data ∙ sym f;
-        };
-        next = was.next;
-        prev = was.prev;
-        origin = was.origin;
-        face = was.face;
-        shown_origins = was.shown_origins;
-        vertex_data = refl;
-        vertex_anchors = was.vertex_anchors;
-        face_anchors = was.face_anchors;
-        directed_data = refl;
-        undirected_data = refl;
-        face_data = refl;
-      })
+  data_hold {vertices = vertices} {halves = halves} {edges = edges} {faces = faces} {i = i} {j = j} {k = k} =
+      subst
+      (λ u. length vertices ≡ length u.vertex_data → length halves ≡ length u.directed_data → length edges ≡ length u.undirected_data
+      → length faces ≡ length u.face_data
+      → Holds (with_rooms (lists.with_data s vertices halves edges faces) i j k) r (mesh.with_data u vertices halves edges faces))
+      held.is
+      (λ v h e f. data_holds s vertices halves edges faces i j k (record { of_vertices = v; of_halves = h; of_edges = e; of_faces = f }) held.stored)
 
   -- the outer face alone
   pub clear_holds : Holds (lists.cleared s) Closed (mesh.cleared m)

@@ -13,16 +13,13 @@ use std::cmp::Ordering;
 use std::hash::{Hash, Hasher};
 
 /// Two handles of one kind are equal where their numbers are, also in different meshes.
-impl<
-    'a,
-    V,
-    DE,
-    UE,
-    F,
+impl<'a, V, DE, UE, F, Kind, InnerOuter, A> PartialEq
+    for DynamicHandleImpl<'a, V, DE, UE, F, Kind, InnerOuter, A>
+where
     Kind: DelaunayElementType,
     InnerOuter: InnerOuterMarker,
     A: Allocator,
-> PartialEq for DynamicHandleImpl<'a, V, DE, UE, F, Kind, InnerOuter, A> {
+{
     ghost eq = { on (λ handle. number_of handle) nat_eq };
 
     ghost laws = { on_per (λ handle. number_of handle) (partial_equiv_from_equiv nat_eq_equiv) };
@@ -38,16 +35,13 @@ impl<'a, V, DE, UE, F, Kind: DelaunayElementType, InnerOuter: InnerOuterMarker, 
     ghost laws = { on_equiv (λ handle. number_of handle) nat_eq_equiv };
 }
 
-impl<
-    'a,
-    V,
-    DE,
-    UE,
-    F,
+impl<'a, V, DE, UE, F, Kind, InnerOuter, A> PartialOrd
+    for DynamicHandleImpl<'a, V, DE, UE, F, Kind, InnerOuter, A>
+where
     Kind: DelaunayElementType,
     InnerOuter: InnerOuterMarker,
     A: Allocator,
-> PartialOrd for DynamicHandleImpl<'a, V, DE, UE, F, Kind, InnerOuter, A> {
+{
     ghost partial_cmp = { as_partial_cmp (on (λ handle. number_of handle) nat_cmp) };
 
     ghost laws = { on_po (λ handle. number_of handle) unsigned_po };

@@ -46,16 +46,21 @@ impl<'a, V, DE, UE, F, Kind: DelaunayElementType, InnerOuter: InnerOuterMarker, 
     ghost invariant = { λ elements. All (λ n. n < number_of_elements Kind.kind elements.dcel.now.shape) elements.fixed_iterator };
 }
 
-impl<
+impl<'a, V, DE, UE, F, Kind, InnerOuter, A> DynamicHandleIterator<
     'a,
     V,
     DE,
     UE,
     F,
+    Kind,
+    InnerOuter,
+    A,
+>
+where
     Kind: DelaunayElementType,
     InnerOuter: InnerOuterMarker,
     A: Allocator,
-> DynamicHandleIterator<'a, V, DE, UE, F, Kind, InnerOuter, A> {
+{
     /// Will list all elements of its kind, given-up ones too.
     #[inline]
     pub fn new(dcel: &'a Dcel<V, DE, UE, F, A>) -> Self
@@ -70,16 +75,13 @@ impl<
     }
 }
 
-impl<
-    'a,
-    V,
-    DE,
-    UE,
-    F,
+impl<'a, V, DE, UE, F, Kind, InnerOuter, A> Iterator
+    for DynamicHandleIterator<'a, V, DE, UE, F, Kind, InnerOuter, A>
+where
     Kind: DelaunayElementType,
     InnerOuter: InnerOuterMarker,
     A: Allocator,
-> Iterator for DynamicHandleIterator<'a, V, DE, UE, F, Kind, InnerOuter, A> {
+{
     type Item = DynamicHandleImpl<'a, V, DE, UE, F, Kind, InnerOuter, A>;
 
     ghost next_gives = { YieldsFirstBy (λ element. (mesh_behind element, number_of element)) (λ elements. elements) };
@@ -98,16 +100,13 @@ impl<
     }
 }
 
-impl<
-    'a,
-    V,
-    DE,
-    UE,
-    F,
+impl<'a, V, DE, UE, F, Kind, InnerOuter, A> DoubleEndedIterator
+    for DynamicHandleIterator<'a, V, DE, UE, F, Kind, InnerOuter, A>
+where
     Kind: DelaunayElementType,
     InnerOuter: InnerOuterMarker,
     A: Allocator,
-> DoubleEndedIterator for DynamicHandleIterator<'a, V, DE, UE, F, Kind, InnerOuter, A> {
+{
     ghost next_back_gives = { YieldsLastBy (λ element. (mesh_behind element, number_of element)) (λ elements. elements) };
 
     #[inline]
@@ -117,16 +116,13 @@ impl<
     }
 }
 
-impl<
-    'a,
-    V,
-    DE,
-    UE,
-    F,
+impl<'a, V, DE, UE, F, Kind, InnerOuter, A> ExactSizeIterator
+    for DynamicHandleIterator<'a, V, DE, UE, F, Kind, InnerOuter, A>
+where
     Kind: DelaunayElementType,
     InnerOuter: InnerOuterMarker,
     A: Allocator,
-> ExactSizeIterator for DynamicHandleIterator<'a, V, DE, UE, F, Kind, InnerOuter, A> {
+{
     #[inline]
     fn len(&self) -> usize {
         self.fixed_iterator.len()

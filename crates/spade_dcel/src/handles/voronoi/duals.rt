@@ -10,16 +10,12 @@ use crate::handles::voronoi::{DirectedVoronoiEdge, UndirectedVoronoiEdge, Vorono
 use dcel_fixed::{FixedHandleImpl, InnerOuterMarker};
 use std::alloc::Allocator;
 
-impl<
-    'a,
-    V,
-    DE,
-    UE,
-    F,
+impl<'a, V, DE, UE, F, Kind, InnerOuter, A> DynamicHandleImpl<'a, V, DE, UE, F, Kind, InnerOuter, A>
+where
     Kind: DelaunayElementType,
     InnerOuter: InnerOuterMarker,
     A: Allocator,
-> DynamicHandleImpl<'a, V, DE, UE, F, Kind, InnerOuter, A> {
+{
     // The element of another kind with the same number, which has to be in range there.
     #[inline]
     fn of_kind<OtherKind: DelaunayElementType, OtherInnerOuter: InnerOuterMarker>(

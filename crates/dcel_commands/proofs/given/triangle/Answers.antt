@@ -6,7 +6,7 @@ use Rattle.dcel_commands.specs.declared.request.Query.TheVariants.{Counts}
 use Rattle.dcel_commands.specs.declared.request.Request.TheVariants.{Edit, Ask}
 use Rattle.dcel_text.specs.Numbers.{IsDatum}
 use Rattle.dcel_commands.specs.Spelling.{Says}
-use Rattle.dcel_commands.proofs.request.triangle.read.Goals as goal
+use Rattle.dcel_commands.proofs.given.triangle.Goals as goal
 
 bad : (items : List (List ℕ)) → ((x y z : ℤ) → IsDatum x → IsDatum y → IsDatum z → items ≢ signed_decimal x ∷ signed_decimal y ∷ signed_decimal z ∷ []) → Says (codes "triangle") items None
 unfolding Says

@@ -1,9 +1,9 @@
 use Rattle.std.proofs.Common.{◌≡◌, ◌+◌, ◌<◌, ◌≤◌, ◌++◌, length, drop}
 use Rattle.std.specs.Fmt.{decimal}
-use Rattle.dcel_text.proofs.numbers.digits.Given as goal
+use Rattle.dcel_text.proofs.output.Writer.number.Given as goal
 
 abbrev pub invariant-loop-high : goal.invariant-loop-high
-invariant-loop-high l = record {
+invariant-loop-high g l = record {
   slots : length l.slot ≡ 20;
   in_range : l.at < 20;
   room : length (decimal l.high) ≤ l.at + 1;
@@ -11,4 +11,4 @@ invariant-loop-high l = record {
 }
 
 abbrev pub decreases-loop-high : goal.decreases-loop-high
-decreases-loop-high l = l.high
+decreases-loop-high g l = l.high
