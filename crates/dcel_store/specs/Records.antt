@@ -1,5 +1,5 @@
 -- The lists that the records of a `Store` stand for.
-use Rattle.std.specs.Prelude.{◌-◌, List, [], ◌∷◌, map, vec_len, vec_capacity}
+use Rattle.std.specs.Prelude.{◌≡◌, ◌-◌, List, [], ◌∷◌, map, vec_len, vec_capacity}
 use Rattle.dcel_store.specs.declared.EdgeEntry.{EdgeEntry}
 use Rattle.dcel_store.specs.declared.HalfEdgeEntry.{HalfEdgeEntry}
 use Rattle.dcel_store.specs.declared.Store.TheInside.{Inside}
@@ -13,6 +13,14 @@ pairs_of first second (x ∷ xs) = first x ∷ second x ∷ pairs_of first secon
 -- the half edges of each record, the normalized one first
 abbrev pub half_edges : {DE UE : Type 0} → List (EdgeEntry DE UE) → List HalfEdgeEntry
 half_edges edges = pairs_of (λ e. e.normalized) (λ e. e.reversed) edges
+
+-- a record with the same links, and a clone of each datum
+pub record IsEdgeClone {DE UE : Type 0} (is_half : DE → DE → Type 0) (is_edge : UE → UE → Type 0) (edge clone : EdgeEntry DE UE) : Type 0 where
+  pub normalized : clone.normalized ≡ edge.normalized
+  pub reversed : clone.reversed ≡ edge.reversed
+  pub normalized_data : is_half edge.edge_data.normalized clone.edge_data.normalized
+  pub reversed_data : is_half edge.edge_data.reversed clone.edge_data.reversed
+  pub undirected_data : is_edge edge.edge_data.undirected clone.edge_data.undirected
 
 -- the lists that the records stand for
 abbrev pub lists_of : {V DE UE F A : Type 0} → Inside V DE UE F A → Lists V DE UE F

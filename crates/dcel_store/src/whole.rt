@@ -2,9 +2,10 @@
 
 ghost use Rattle.std.specs.Prelude.{◌≡◌, ◌<◌, All, IfOk, IfErr, length, vec_len, vec_capacity};
 ghost use Rattle.std.specs.List.{AllZip};
+ghost use Rattle.dcel_store.specs.Records.{IsEdgeClone};
 ghost use Rattle.dcel_store.specs.Whole.{cleared, with_vertex_data, with_undirected_data, AreClones};
 
-use crate::{EdgeData, EdgeEntry, FaceEntry, Store, VertexEntry};
+use crate::{EdgeData, EdgeEntry, FaceEntry, HalfEdgeEntry, Store, VertexEntry};
 use std::alloc::{AllocError, AllocFailed, Allocator};
 
 impl<V, DE, UE, F, A: Allocator> Store<V, DE, UE, F, A> {
@@ -127,7 +128,7 @@ impl<V: Clone, DE: Clone, UE: Clone, F: Clone, A: Allocator + Clone> Store<V, DE
         let alloc_for_vertices = alloc.clone()?;
         let alloc_for_edges = alloc.clone()?;
         let vertices = self.vertices.to_vec(alloc_for_vertices)?;
-        let edges = self.edges.to_vec(alloc_for_edges)?;
+        let edges = cloned_edges(&self.edges, alloc_for_edges)?;
         let faces = self.faces.to_vec(alloc)?;
         Ok(Store {
             vertices,
@@ -149,18 +150,6 @@ impl<V: Clone> Clone for VertexEntry<V> {
     }
 }
 
-impl<DE: Clone, UE: Clone> Clone for EdgeEntry<DE, UE> {
-    ghost is_clone = { λ x y. (y.normalized ≡ x.normalized) × (y.reversed ≡ x.reversed) × ⟦<EdgeData<DE, UE> as Clone>⟧.is_clone x.edge_data y.edge_data };
-
-    fn clone(&self) -> Result<Self, AllocError> {
-        Ok(EdgeEntry {
-            normalized: self.normalized,
-            reversed: self.reversed,
-            edge_data: self.edge_data.clone()?,
-        })
-    }
-}
-
 impl<F: Clone> Clone for FaceEntry<F> {
     ghost is_clone = { λ x y. F.is_clone x.data y.data × (y.adjacent_edge ≡ x.adjacent_edge) };
 
@@ -169,6 +158,39 @@ impl<F: Clone> Clone for FaceEntry<F> {
             data: self.data.clone()?,
             adjacent_edge: self.adjacent_edge,
         })
+    }
+}
+
+// Records with a clone of each datum and the same links. Each is put together in its place: a record that `Clone` answered would be
+// copied there once more.
+fn cloned_edges<DE: Clone, UE: Clone, A: Allocator>(
+    edges: &[EdgeEntry<DE, UE>],
+    alloc: A,
+) -> Result<Vec<EdgeEntry<DE, UE>, A>, AllocError>
+    ensures { IfOk result (λ clones. AllZip (IsEdgeClone DE.is_clone UE.is_clone) edges.now clones.items) }
+{
+    let mut clones = Vec::with_capacity(alloc, edges.len())?;
+    for entry in edges {
+        let edge_data = entry.edge_data.clone()?;
+        clones.push_reserved(EdgeEntry {
+            normalized: same_links(&entry.normalized),
+            reversed: same_links(&entry.reversed),
+            edge_data,
+        });
+    }
+    Ok(clones)
+}
+
+// The same links, read one by one: the compiler copies a whole entry by way of the stack.
+#[inline]
+fn same_links(links: &HalfEdgeEntry) -> HalfEdgeEntry
+    ensures { result ≡ links.now }
+{
+    HalfEdgeEntry {
+        next: links.next,
+        prev: links.prev,
+        face: links.face,
+        origin: links.origin,
     }
 }
 

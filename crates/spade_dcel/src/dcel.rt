@@ -462,7 +462,10 @@ impl<V, DE, UE, F, A: Allocator> Dcel<V, DE, UE, F, A> {
             MatchOption result (¬ is_triangle) (λ corner. is_triangle × (corner ≡ origin_of shape (prev_of shape handle))) }
     {
         let before = self.store.prev(handle);
-        if self.store.prev(before) != self.store.next(handle) {
+        // It is read before what it is compared with: of two equal numbers the compiler goes on with the first, and an edit that follows
+        // would wait for the other record to know where it writes.
+        let after = self.store.next(handle);
+        if self.store.prev(before) != after {
             return None;
         }
         Some(self.store.origin(before))

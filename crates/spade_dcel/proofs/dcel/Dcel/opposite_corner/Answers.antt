@@ -13,7 +13,7 @@ prev-requires g c =
 pub returns-then-ne : goal.returns-then-ne
 returns-then-ne g c =
     let triangle = on_triangle-iff (holds c.self.invariant c.self.view_is) c.args.handle c.requires in
-    let back = rw (← c.prev-before.ensures, ← c.prev.ensures, ← c.next.ensures) at triangle.1 in
+    let back = rw (← c.prev-before.ensures, ← c.prev.ensures, ← c.next-after.ensures) at triangle.1 in
     λ is. let same = back is in grind (arith, nat_tests)
 
 pub origin-requires : goal.origin-requires
@@ -27,4 +27,4 @@ returns g c =
     let half = holds_half held c.args.handle c.requires in
     let triangle = on_triangle-iff held c.args.handle c.requires in
     let same = eqb-true _ _ (not-false _ (sym c.ne.ensures ∙ c.if-ne.false)) in
-    (triangle.0 (rw (← c.prev-before.ensures, ← c.prev.ensures, ← c.next.ensures) same), rw (c.origin.ensures, c.prev-before.ensures, half.prev) half.prev_origin)
+    (triangle.0 (rw (← c.prev-before.ensures, ← c.prev.ensures, ← c.next-after.ensures) same), rw (c.origin.ensures, c.prev-before.ensures, half.prev) half.prev_origin)
