@@ -4,6 +4,9 @@ pub mod Changes
 pub mod Closing
 pub mod Creating
 pub mod Data
+pub mod EdgeMoves
+pub mod EdgesOut
+pub mod FacesOut
 pub mod Flips
 pub mod Halves
 pub mod Held
@@ -13,4 +16,5 @@ pub mod Lines
 pub mod Renaming
 pub mod Splits
 pub mod SplittingTriangles
+pub mod VerticesOut
 pub mod Whole

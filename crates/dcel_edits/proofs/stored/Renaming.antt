@@ -19,7 +19,8 @@ use Rattle.dcel_maps.proofs.walks.Turning.{mesh-out_edges}
 use Rattle.dcel_maps.proofs.walks.UnderWay.{up_to-agrees, walk-live, walk-round}
 use Rattle.dcel_maps.proofs.words.Counts.{absent_head, first_or_later}
 use Rattle.dcel_maps.proofs.words.Paths.{Path-changed}
-use Rattle.dcel_edits.specs.Rename.{AnchorTurnsBack, CanExchange, CanTurn, TurnsBack, all_set, ccw_by, turn_by, turn_of, vertices_exchanged}
+use Rattle.dcel_edits.specs.Rename.{CanExchange, CanTurn, ccw_by, turn_by, turn_of, vertices_exchanged}
+use Rattle.dcel_edits.specs.Rounds.{AnchorComesBack, ComesBack, all_set}
 use Rattle.dcel_edits.specs.Stored.{shown}
 use Rattle.dcel_edits.proofs.Shown.{length-shown, slice_index-shown, slice_index-shown_live}
 use Rattle.dcel_edits.proofs.stored.Changes.{held_edges, held_lists, held_mesh, held_removal, held_vertex, held_vertex_anchor}
@@ -64,7 +65,7 @@ module _ {V DE UE F : Type 0} {s : Lists V DE UE F} {r : Removal} {m : Mesh V DE
   turn-walk h live =
       rw halves (up_to-agrees m.shape (ccw_of m.shape) (ccw_by s.prev) ccw-stored (ccw-lawful mesh.sound).stays (2 * m.shape.edges) h h live)
 
-  turns_back : (h : ℕ) → IsLive m.shape h → TurnsBack s.prev (length s.next) h
+  turns_back : (h : ℕ) → IsLive m.shape h → ComesBack (ccw_by s.prev) (length s.next) h
   turns_back h live =
       let law = ccw-lawful mesh.sound in
       let same = turn-walk h live in
@@ -87,7 +88,7 @@ module _ {V DE UE F : Type 0} {s : Lists V DE UE F} {r : Removal} {m : Mesh V DE
     v_below : v < m.shape.vertices
     v_below = (vertex_live-parts m.shape v v_live).0
 
-    anchor_turns : (o : Option ℕ) → AnchorsVertex m.shape v o → AnchorTurnsBack s.prev (length s.next) o
+    anchor_turns : (o : Option ℕ) → AnchorsVertex m.shape v o → AnchorComesBack (ccw_by s.prev) (length s.next) o
     anchor_turns None bare = tt
     anchor_turns (Some h) starts = turns_back h starts.0
 
