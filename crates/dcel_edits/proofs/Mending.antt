@@ -1,5 +1,5 @@
 -- The writes that mend what pointed at an edge that has moved.
-use Rattle.std.proofs.Common.{◌≡◌, ◌≢◌, ◌⊎◌, inl, inr, ℕ, ◌+◌, ◌-◌, ◌*◌, ◌/◌, ◌<◌, true, List, [], ◌∷◌, length, map, fold, option_map, slice_index, slice_index_or, slice_set, Option, None, refl, sym, ap, ◌∙◌, subst, arith, Bool, false, Some, cond, ◌==◌, zero, suc, eq-eqb}
+use Rattle.std.proofs.Common.{◌≡◌, ◌≢◌, ◌⊎◌, inl, inr, ℕ, ◌-◌, ◌*◌, ◌/◌, ◌<◌, true, List, [], ◌∷◌, length, map, fold, option_map, slice_index, slice_index_or, slice_set, Option, None, refl, sym, ap, ◌∙◌, subst, arith, Some, cond, ◌==◌, zero, suc, eq-eqb}
 use Rattle.dcel_maps.proofs.maps.Soundness.{rev_live}
 use Rattle.dcel_maps.proofs.maps.Halves.{rev_or_same}
 use Rattle.dcel_edits.specs.TakingOut.{anchor_renamed}
@@ -169,6 +169,7 @@ anchor_renamed-map anchors v old new within only =
     renames : (o : Option ℕ) → is_this old o ≡ true → renamed_anchor old new o ≡ Some new
     renames None named = absurd (false≢true named)
     renames (Some h) named = rw named refl
+
     keeps : (o : Option ℕ) → (o ≢ Some old) → renamed_anchor old new o ≡ o
     keeps None other = refl
     keeps (Some h) other = rw (ne_eqb h old (λ same. other (ap (λ (k : ℕ). Some k) same))) refl

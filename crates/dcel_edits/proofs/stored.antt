@@ -14,7 +14,9 @@ pub mod Holding
 pub mod Inserting
 pub mod Lines
 pub mod Renaming
+pub mod Rounds
 pub mod Splits
 pub mod SplittingTriangles
+pub mod TakingOut
 pub mod VerticesOut
 pub mod Whole

@@ -1,5 +1,5 @@
 -- The writes of an edge that is taken out leave the lists of the mesh without it.
-use Rattle.std.proofs.Common.{◌≡◌, ◌≢◌, inl, inr, ℕ, ◌+◌, ◌-◌, ◌*◌, ◌/◌, ◌<◌, true, List, [], length, map, option_map, slice_index, slice_index_or, slice_set, Option, Some, None, refl, sym, ap, ◌∙◌, arith}
+use Rattle.std.proofs.Common.{◌≡◌, ◌≢◌, inl, inr, ℕ, ◌-◌, ◌*◌, ◌/◌, ◌<◌, true, List, [], length, map, option_map, slice_index, slice_index_or, slice_set, Option, Some, None, refl, sym, ap, ◌∙◌, arith}
 use Rattle.dcel_edits.proofs.Dropping.{edge_out-last, edge_out-moved}
 use Rattle.dcel_maps.proofs.maps.Soundness.{rev_live}
 use Rattle.dcel_maps.proofs.maps.Halves.{rev_half, rev_or_same}
@@ -20,7 +20,7 @@ use Rattle.dcel_edits.proofs.stored.Holding.{Holds}
 use Rattle.dcel_maps.proofs.Liveness.{is_live-from, is_live-parts}
 use Rattle.dcel_maps.proofs.renumbering.Edges.{IsLastEdgeOut}
 use Rattle.dcel_maps.proofs.renumbering.LastPut.{length-last_put}
-use Rattle.dcel_maps.proofs.renumbering.Moves.{half_of-bit, half_of-half, last_put-half, moved-other, half_of-rev, moved-below, moved-last}
+use Rattle.dcel_maps.proofs.renumbering.Moves.{half_of-bit, half_of-half, last_put-half, half_of-rev, moved-below, moved-last}
 
 -- an anchor that names no half of the last edge keeps its number
 anchor-kept : (last d : ℕ) (o : Option ℕ) → ((h : ℕ) → o ≡ Some h → h / 2 ≢ last) → option_map (half_of (moved last d)) o ≡ o

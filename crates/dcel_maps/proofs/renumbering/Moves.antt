@@ -14,6 +14,13 @@ pub moved-other : (last d k : ℕ) → k ≢ last → moved last d k ≡ k
 unfolding moved
 moved-other last d k other = rw (ne_eqb k last other) refl
 
+-- nothing moves where the last one is taken out itself
+pub moved-itself : (last d k : ℕ) → d ≡ last → moved last d k ≡ k
+moved-itself last d k same = elim (cases_eq k last) [
+  | inl is ↦ ap (moved last d) is ∙ moved-last last d ∙ same ∙ sym is
+  | inr other ↦ moved-other last d k other
+]
+
 -- it goes back by the move the other way
 pub moved-back : (last d k : ℕ) → k ≢ d → moved d last (moved last d k) ≡ k
 moved-back last d k other = elim (cases_eq k last) [

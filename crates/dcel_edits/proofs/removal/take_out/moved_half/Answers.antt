@@ -1,4 +1,4 @@
-use Rattle.std.proofs.Common.{◌≡◌, ◌/◌, ◌∙◌, ap, sym, rules, arith}
+use Rattle.std.proofs.Common.{◌≡◌, ◌/◌, ◌∙◌, ap, sym, rules}
 use Rattle.dcel_fixed.specs.HalfEdges.{rev}
 use Rattle.dcel_edits.proofs.Dropping.{half_of-odd}
 use Rattle.dcel_edits.proofs.removal.take_out.moved_half.Goals as goal

@@ -1,6 +1,5 @@
-use Rattle.std.proofs.Common.{◌≡◌, ◌≢◌, ◌-◌, ◌*◌, ◌<◌, length, refl, sym, ap, ◌∙◌, rules, arith}
+use Rattle.std.proofs.Common.{◌≡◌, ◌≢◌, ◌-◌, refl, sym, ap, ◌∙◌, rules, arith}
 use Rattle.dcel_fixed.specs.HalfEdges.{rev}
-use Rattle.dcel_edits.specs.TakingOut.{edge_dropped, links_moved}
 use Rattle.dcel_edits.proofs.Dropping.{edge_dropped-is, edge_out-last, edge_out-moved, still_can_rename}
 use Rattle.dcel_edits.proofs.removal.take_out.take_out_edge.Goals as goal
 

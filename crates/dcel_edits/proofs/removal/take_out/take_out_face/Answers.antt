@@ -1,4 +1,4 @@
-use Rattle.std.proofs.Common.{◌≡◌, ◌≢◌, ◌-◌, length, sym, ap, ◌∙◌}
+use Rattle.std.proofs.Common.{◌-◌, sym, ap, ◌∙◌}
 use Rattle.dcel_edits.specs.TakingOut.{word_renamed}
 use Rattle.dcel_edits.proofs.Dropping.{face_dropped-is, face_out-last, face_out-moved}
 use Rattle.dcel_edits.proofs.removal.take_out.take_out_face.Goals as goal

@@ -1,4 +1,4 @@
-use Rattle.std.proofs.Common.{◌≡◌, ◌≢◌, ◌-◌, length, sym, ap, ◌∙◌}
+use Rattle.std.proofs.Common.{◌-◌, sym, ap, ◌∙◌}
 use Rattle.dcel_edits.specs.Rename.{turn_renamed}
 use Rattle.dcel_edits.proofs.Dropping.{vertex_dropped-is, vertex_out-last, vertex_out-moved}
 use Rattle.dcel_edits.proofs.removal.take_out.take_out_vertex.Goals as goal
