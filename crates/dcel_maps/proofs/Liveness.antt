@@ -67,6 +67,7 @@ IsWithin-closed vertices edges faces = record {
   vertices = λ v given. absurd (false≢true (sym (gives_up_vertex-closed v) ∙ given));
   edges = λ u given. absurd (false≢true (sym (gives_up_edge-closed u) ∙ given));
   faces = λ f given. absurd (false≢true (sym (gives_up_face-closed f) ∙ given));
+  in_order = tt;
 }
 
 -- and each vertex in range is live
@@ -120,6 +121,7 @@ IsWithin-grown within v e f = record {
   vertices = λ k given. let below = within.vertices k given in omega arith;
   edges = λ k given. let below = within.edges k given in omega arith;
   faces = λ k given. let below = within.faces k given in (below.0, omega arith);
+  in_order = within.in_order;
 }
 
 -- a live vertex is in range and not given up

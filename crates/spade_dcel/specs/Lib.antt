@@ -1,4 +1,3 @@
 pub mod Handles
 pub mod Lending
-pub mod Record
 pub mod Voronoi

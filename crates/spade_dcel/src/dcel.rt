@@ -15,11 +15,11 @@ mod elements;
 mod whole;
 
 use crate::handles::{DirectedEdgeHandle, FaceHandle, UndirectedEdgeHandle, VertexHandle};
-use crate::removal::RemovalRecord;
 use dcel_fixed::{
     FixedDirectedEdgeHandle, FixedFaceHandle, FixedUndirectedEdgeHandle, FixedVertexHandle,
     InnerOuterMarker, OUTER_FACE, PossiblyOuterTag,
 };
+use dcel_record::RemovalRecord;
 use dcel_store::Store;
 use std::alloc::{Allocator, Global};
 use std::marker::Model;
@@ -44,12 +44,11 @@ impl<V, DE, UE, F, A: Allocator> Model for Dcel<V, DE, UE, F, A> {
 
     ghost Value = { Mesh V DE UE F };
 
-    ghost use Rattle.spade_dcel.specs.Record.{removal_of};
     ghost use Rattle.dcel_edits.specs.Stored.{mesh_of, IsStored};
 
-    ghost view = { λ d. mesh_of d.store (removal_of d.removal) };
+    ghost view = { λ d. mesh_of d.store d.removal };
 
-    ghost invariant = { λ d. IsStored d.store (removal_of d.removal) };
+    ghost invariant = { λ d. IsStored d.store d.removal };
 }
 
 /// The allocator.

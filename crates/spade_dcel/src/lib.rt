@@ -9,4 +9,3 @@ pub mod handles;
 pub mod iterators;
 pub mod laws;
 pub mod operations;
-mod removal;

@@ -107,6 +107,7 @@ module _ {V DE UE F : Type 0} (s : Lists V DE UE F) (m : Mesh V DE UE F) (mesh :
           vertices = λ v given. omega (arith, vertices, sized.within.vertices v given);
           edges = λ u given. omega (arith, edges, sized.within.edges u given);
           faces = λ f given. ((sized.within.faces f given).0, omega (arith, faces, (sized.within.faces f given).1));
+          in_order = sized.within.in_order;
         };
         stands = subst (Stands T) (sym words) stands;
         sound = agrees-sound (map_of m.shape) T agrees (map-sound mesh.sound);

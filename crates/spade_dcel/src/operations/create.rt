@@ -8,9 +8,9 @@ ghost use Rattle.dcel_maps.specs.Shapes.{IsMesh, vertex_is_live};
 
 use crate::dcel::Dcel;
 use crate::operations::NoMemory;
-use crate::removal::RemovalRecord;
 use dcel_edits::create::{put_first_edge, put_vertices};
 use dcel_fixed::FixedVertexHandle;
+use dcel_record::RemovalRecord;
 use dcel_store::Store;
 use std::alloc::{AllocError, Allocator};
 
@@ -26,7 +26,7 @@ pub fn new<V: Drop, DE: Drop, UE: Drop, F: Default + Drop, A: Allocator + Clone>
     store.push_face(F::default(), None);
     Ok(Dcel {
         store,
-        removal: RemovalRecord::Closed,
+        removal: RemovalRecord::closed(),
     })
 }
 
@@ -65,7 +65,7 @@ pub fn new_with_fixed_vertices<
     put_first_edge(&mut store, first_vertex, second_vertex);
     Ok(Dcel {
         store,
-        removal: RemovalRecord::Closed,
+        removal: RemovalRecord::closed(),
     })
 }
 

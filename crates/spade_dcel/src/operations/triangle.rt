@@ -8,9 +8,9 @@ ghost use Rattle.dcel_maps.specs.Shapes.{IsMesh};
 
 use crate::dcel::Dcel;
 use crate::operations::NoMemory;
-use crate::removal::RemovalRecord;
 use dcel_edits::triangle::{put_insertion, put_triangle};
 use dcel_fixed::{FixedFaceHandle, FixedVertexHandle, InnerTag};
+use dcel_record::RemovalRecord;
 use dcel_store::Store;
 use std::alloc::{AllocError, Allocator};
 
@@ -37,7 +37,7 @@ pub fn new_triangle<
     put_triangle(&mut store, vertices);
     Ok(Dcel {
         store,
-        removal: RemovalRecord::Closed,
+        removal: RemovalRecord::closed(),
     })
 }
 

@@ -1,0 +1,17 @@
+-- The stored removal record, as contracts see it.
+use Rattle.dcel_record.specs.declared.RemovalState.{RemovalState}
+use Rattle.dcel_record.specs.declared.RemovalState.TheVariants as states
+use Rattle.dcel_record.specs.declared.State.{State}
+use Rattle.dcel_record.specs.declared.State.TheVariants as stored
+use Rattle.dcel_maps.specs.Removals.{Removal, Closed, Isolated, Cleaned}
+
+abbrev pub removal_of : {A : Type 0} → State A → Removal
+removal_of stored.Closed = Closed
+removal_of (stored.Isolated edges faces vertex) = Isolated edges faces vertex
+removal_of (stored.Cleaned vertex) = Cleaned vertex
+
+-- how far a removal has come
+abbrev pub state_of : Removal → RemovalState
+state_of Closed = states.Closed
+state_of (Isolated edges faces vertex) = states.Isolated
+state_of (Cleaned vertex) = states.Cleaned

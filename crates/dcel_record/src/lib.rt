@@ -1,0 +1,184 @@
+//! The removal record: what an open removal has given up, so that each other call can tell what is live.
+//!
+//! Contracts see it as the record of a mesh, `Removal` of `dcel_maps/specs/Removals`.
+#![tactic(auto)]
+
+ghost use Rattle.std.specs.Prelude.{◌≡◌, ◌↔◌, IfOk, IsTrue, Some};
+ghost use Rattle.dcel_maps.specs.Removals.{Closed, Isolated, Cleaned, gives_up_vertex, gives_up_edge, gives_up_face, IsInOrder, IsListed};
+ghost use Rattle.dcel_record.specs.Record.{state_of};
+
+mod given_up;
+
+use dcel_fixed::{
+    FaceTag, FixedFaceHandle, FixedUndirectedEdgeHandle, FixedVertexHandle, InnerTag,
+    UndirectedEdgeTag,
+};
+pub use given_up::GivenUp;
+use std::alloc::{AllocError, Allocator};
+use std::marker::Model;
+
+/// How far a removal has come.
+#[derive(Clone, Copy, PartialEq, Eq, Debug)]
+pub enum RemovalState {
+    /// No removal is open.
+    Closed,
+
+    /// One is open: what it has given up is still there, and to be cleaned up.
+    Isolated,
+
+    /// One is open: the edges and faces that it has given up are gone, and its vertex is still to be taken out.
+    Cleaned,
+}
+
+/// What an open removal has given up: nothing while none is open; edges, faces and a vertex until they are cleaned up; and then
+/// the vertex alone.
+#[derive(Drop)]
+pub struct RemovalRecord<A: Allocator> {
+    state: State<A>,
+}
+
+#[derive(Drop)]
+enum State<A: Allocator> {
+    Closed,
+    Isolated(GivenUp<UndirectedEdgeTag, A>, GivenUp<FaceTag, A>, Option<FixedVertexHandle>),
+    Cleaned(FixedVertexHandle),
+}
+
+impl<A: Allocator> Model for RemovalRecord<A> {
+    ghost use Rattle.dcel_maps.specs.Removals.{Removal};
+
+    ghost Value = { Removal };
+
+    ghost use Rattle.dcel_record.specs.Record.{removal_of};
+
+    ghost view = { λ stored. removal_of stored.state };
+}
+
+impl<A: Allocator> RemovalRecord<A> {
+    /// That of a mesh where no removal is open.
+    #[inline]
+    pub fn closed() -> Self
+        ensures { result ≡ Closed }
+    {
+        RemovalRecord {
+            state: State::Closed,
+        }
+    }
+
+    /// That of a mesh which has given up these edges and faces and this vertex.
+    #[inline]
+    pub fn isolated(
+        edges: GivenUp<UndirectedEdgeTag, A>,
+        faces: GivenUp<FaceTag, A>,
+        vertex: FixedVertexHandle,
+    ) -> Self
+        ensures { result ≡ Isolated edges faces (Some vertex) }
+    {
+        RemovalRecord {
+            state: State::Isolated(edges, faces, Some(vertex)),
+        }
+    }
+
+    /// That of a mesh whose given-up edges and faces are gone, and this vertex not yet.
+    #[inline]
+    pub fn cleaned(vertex: FixedVertexHandle) -> Self
+        ensures { result ≡ Cleaned vertex }
+    {
+        RemovalRecord {
+            state: State::Cleaned(vertex),
+        }
+    }
+
+    /// Whether no removal is open.
+    #[inline]
+    pub fn is_closed(&self) -> bool
+        ensures { IsTrue result ↔ (self.now ≡ Closed) }
+    {
+        matches!(self.state, State::Closed)
+    }
+
+    /// How far the removal has come.
+    #[inline]
+    pub fn state(&self) -> RemovalState
+        ensures { result ≡ state_of self.now }
+    {
+        match &self.state {
+            State::Closed => RemovalState::Closed,
+            State::Isolated(_, _, _) => RemovalState::Isolated,
+            State::Cleaned(_) => RemovalState::Cleaned,
+        }
+    }
+
+    /// Whether edges and faces are given up and not yet gone, and the lists name these, each once, in any order. It looks at each place
+    /// of the lists once where their order is the one in which they were given up; else the time may grow with the square of their lengths.
+    pub fn lists(
+        &self,
+        edges: &[FixedUndirectedEdgeHandle],
+        faces: &[FixedFaceHandle<InnerTag>],
+    ) -> bool
+        requires { IsInOrder self.now }
+        ensures { IsTrue result ↔ IsListed self.now edges.now faces.now }
+    {
+        match &self.state {
+            State::Isolated(given_up_edges, given_up_faces, _) => {
+                given_up_edges.matches(edges) && given_up_faces.matches(faces)
+            }
+            _ => false,
+        }
+    }
+
+    /// Whether the vertex is given up.
+    #[inline]
+    #[tactic(auto, unfolding(dcel_maps::specs::Removals::gives_up_vertex))]
+    pub fn gives_up_vertex(&self, vertex: FixedVertexHandle) -> bool
+        ensures { result ≡ gives_up_vertex self.now vertex }
+    {
+        match &self.state {
+            State::Closed => false,
+            State::Isolated(_, _, given_up) => *given_up == Some(vertex),
+            State::Cleaned(given_up) => *given_up == vertex,
+        }
+    }
+
+    /// Whether the edge is given up.
+    #[inline]
+    #[tactic(auto, unfolding(dcel_maps::specs::Removals::gives_up_edge))]
+    pub fn gives_up_edge(&self, edge: FixedUndirectedEdgeHandle) -> bool
+        ensures { result ≡ gives_up_edge self.now edge }
+    {
+        match &self.state {
+            State::Isolated(edges, _, _) => edges.contains(&edge),
+            _ => false,
+        }
+    }
+
+    /// Whether the face is given up.
+    #[inline]
+    #[tactic(auto, unfolding(dcel_maps::specs::Removals::gives_up_face))]
+    pub fn gives_up_face(&self, face: FixedFaceHandle<InnerTag>) -> bool
+        ensures { result ≡ gives_up_face self.now face }
+    {
+        match &self.state {
+            State::Isolated(_, faces, _) => faces.contains(&face),
+            _ => false,
+        }
+    }
+}
+
+impl<A: Allocator + Clone> RemovalRecord<A> {
+    /// The same record, in memory that clones of `alloc` give. It is refused where there is none.
+    pub fn try_clone(&self, alloc: &A) -> Result<Self, AllocError>
+        ensures { IfOk result (λ copy. copy ≡ self.now) }
+    {
+        let state = match &self.state {
+            State::Closed => State::Closed,
+            State::Isolated(edges, faces, given_up) => {
+                let edges = edges.try_clone(alloc.clone()?)?;
+                let faces = faces.try_clone(alloc.clone()?)?;
+                State::Isolated(edges, faces, *given_up)
+            }
+            State::Cleaned(given_up) => State::Cleaned(*given_up),
+        };
+        Ok(RemovalRecord { state })
+    }
+}
