@@ -1,9 +1,9 @@
 -- Cleanup takes out what was given up, and leaves a mesh: the one that was, under other numbers.
 use Rattle.std.proofs.Common.{◌≡◌, ℕ, false, List, Some, None, refl, sym, ◌∙◌, subst}
-use Rattle.dcel_maps.specs.Removals.{Closed, Cleaned, IsWithin, Isolated, Removal, gives_up_edge, gives_up_face, gives_up_vertex}
+use Rattle.dcel_maps.specs.Removals.{Closed, Cleaned, IsInOrder, IsWithin, Isolated, Removal, gives_up_edge, gives_up_face, gives_up_vertex}
 use Rattle.dcel_maps.specs.Renumbering.{cleaned, cleaned_up, edges_down, edges_taken_out, faces_down, faces_taken_out, half_of}
 use Rattle.dcel_maps.specs.Shapes.{IsMesh, IsSized, Mesh, face_anchor, face_count, vertex_anchor}
-use Rattle.dcel_maps.specs.theory.Renumbering.{GoesDown, IsOrdered, new_number, old_number}
+use Rattle.dcel_maps.specs.theory.Renumbering.{GoesDown, new_number, old_number}
 use Rattle.dcel_maps.proofs.renumbering.AllEdges.{ListsEdges, edges_out-face, edges_out-faces, edges_out-mesh, edges_out-none, edges_out-renamed, edges_out-vertex}
 use Rattle.dcel_maps.proofs.renumbering.AllFaces.{ListsFaces, faces_out-edge, faces_out-mesh, faces_out-none, faces_out-renamed, faces_out-vertex}
 use Rattle.dcel_maps.proofs.renumbering.GivenUp.{edges_down-list, faces_down-list}
@@ -36,11 +36,17 @@ cleaned-vertex (Isolated edges faces None) v = refl
 cleaned-vertex (Isolated edges faces (Some k)) v = refl
 cleaned-vertex (Cleaned vertex) v = refl
 
+cleaned-in_order : (r : Removal) → IsInOrder (cleaned r)
+cleaned-in_order Closed = tt
+cleaned-in_order (Isolated edges faces None) = tt
+cleaned-in_order (Isolated edges faces (Some v)) = tt
+cleaned-in_order (Cleaned vertex) = tt
+
 module _ {V DE UE F : Type 0} where
   -- another record that gives up the same leaves a mesh
   module _ (m : Mesh V DE UE F) (r : Removal) (mesh : IsMesh m) (edges : (u : ℕ) → gives_up_edge r u ≡ gives_up_edge m.shape.removal u)
       (faces : (g : ℕ) → gives_up_face r g ≡ gives_up_face m.shape.removal g)
-      (vertices : (v : ℕ) → gives_up_vertex r v ≡ gives_up_vertex m.shape.removal v) where
+      (vertices : (v : ℕ) → gives_up_vertex r v ≡ gives_up_vertex m.shape.removal v) (in_order : IsInOrder r) where
     same : IsRenamed m.shape (record m.shape { removal = r }) (λ h. h) (λ h. h) (λ v. v) (λ v. v) (λ g. g) (λ g. g)
     same = same_numbers m.shape r mesh.sound edges faces vertices
 
@@ -57,6 +63,7 @@ module _ {V DE UE F : Type 0} where
       vertices = λ v given. mesh.sized.within.vertices v (sym (vertices v) ∙ given);
       edges = λ u given. mesh.sized.within.edges u (sym (edges u) ∙ given);
       faces = λ g given. mesh.sized.within.faces g (sym (faces g) ∙ given);
+      in_order = in_order;
     }
 
     sized : IsSized (record m { shape = record m.shape { removal = r } })
@@ -87,7 +94,7 @@ module _ {V DE UE F : Type 0} where
       sized = sized;
     }
 
-  module _ (m : Mesh V DE UE F) (mesh : IsMesh m) (up : IsOrdered m.shape.removal) where
+  module _ (m : Mesh V DE UE F) (mesh : IsMesh m) where
     abbrev edges : List ℕ
     edges = edges_down m.shape.removal
 
@@ -102,12 +109,12 @@ module _ {V DE UE F : Type 0} where
     emptied = faces_taken_out (edges_taken_out m edges) faces
 
     edges_listed : ListsEdges m.shape edges
-    edges_listed = edges_down-list m.shape.removal up mesh.sized.within
+    edges_listed = edges_down-list m.shape.removal mesh.sized.within
 
     -- once the edges are out, the faces are listed as before
     faces_listed : ListsFaces halfway.shape faces
     faces_listed =
-        let listed = faces_down-list m.shape.removal up mesh.sized.within in
+        let listed = faces_down-list m.shape.removal mesh.sized.within in
         record {
           down = subst (λ n. GoesDown n faces) (sym (edges_out-faces m edges)) listed.down;
           each = λ g. (
@@ -134,7 +141,7 @@ module _ {V DE UE F : Type 0} where
 
     -- cleanup leaves a mesh
     pub cleaned_up-mesh : IsMesh (cleaned_up m)
-    cleaned_up-mesh = same_record-mesh emptied (cleaned m.shape.removal) emptied-mesh same_edges same_faces same_vertices
+    cleaned_up-mesh = same_record-mesh emptied (cleaned m.shape.removal) emptied-mesh same_edges same_faces same_vertices (cleaned-in_order m.shape.removal)
 
     -- and each half edge and face that was live has its new number there
     pub cleaned_up-renamed : IsRenamed m.shape (cleaned_up m).shape

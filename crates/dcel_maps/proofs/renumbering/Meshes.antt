@@ -11,7 +11,7 @@ use Rattle.dcel_maps.proofs.renumbering.Edges.{IsLastEdgeOut, edge-renamed, edge
 use Rattle.dcel_maps.proofs.renumbering.Faces.{IsLastFaceOut, face-renamed, face_out-sound, face_out-sphere, faces-left}
 use Rattle.dcel_maps.proofs.renumbering.LastPut.{length-last_put}
 use Rattle.dcel_maps.proofs.renumbering.Moves.{last_put-moved, moved-back, moved-within}
-use Rattle.dcel_maps.proofs.renumbering.Records.{without_edge-face, without_edge-other, without_edge-same, without_edge-vertex, without_face-edge, without_face-other, without_face-same, without_face-vertex}
+use Rattle.dcel_maps.proofs.renumbering.Records.{without_edge-face, without_edge-in_order, without_edge-other, without_edge-same, without_edge-vertex, without_face-edge, without_face-in_order, without_face-other, without_face-same, without_face-vertex}
 use Rattle.dcel_maps.proofs.renumbering.Vertices.{IsOnlyOut, vertex-renamed, vertex_out-sound, vertex_out-sphere}
 use Rattle.dcel_maps.proofs.shapes.Anchors.{AnchorsFollow, renamed-anchored}
 
@@ -53,6 +53,7 @@ module _ {V DE UE F : Type 0} (m : Mesh V DE UE F) (d : ℕ) (mesh : IsMesh m) w
           faces = λ g given.
               let was = within.faces g (sym (without_edge-face m.shape.removal d g) ∙ given) in
               (was.0, omega (arith, was.1, faces));
+          in_order = without_edge-in_order m.shape.removal d within.in_order;
         }
 
     edge_sized : IsSized (edge_taken_out m d)
@@ -117,6 +118,7 @@ module _ {V DE UE F : Type 0} (m : Mesh V DE UE F) (d : ℕ) (mesh : IsMesh m) w
                 let was = sym (without_face-other m.shape.removal d g other) ∙ given in
                 ((within.faces g was).0, omega (arith, other, out.below, out.largest g was, faces-left m.shape d))
           ];
+          in_order = without_face-in_order m.shape.removal d within.in_order;
         }
 
     face_sized : IsSized (face_taken_out m d)

@@ -2,8 +2,9 @@
 use Rattle.std.proofs.Common.{◌≡◌, ◌≢◌, inl, inr, ℕ, ◌==◌, ◌||◌, false, not, List, [], ◌∷◌, filter, refl, sym, ap, ◌∙◌, eqb, eq-eqb}
 use Rattle.std.proofs.lemmas.Bool.{cases_eq, ne_eqb}
 use Rattle.std.specs.List.{list_any}
-use Rattle.dcel_maps.specs.Removals.{Removal, Closed, Isolated, Cleaned, gives_up_edge, gives_up_face, gives_up_vertex}
+use Rattle.dcel_maps.specs.Removals.{Removal, Closed, Isolated, Cleaned, IsInOrder, gives_up_edge, gives_up_face, gives_up_vertex}
 use Rattle.dcel_maps.specs.Renumbering.{without_edge, without_face}
+use Rattle.dcel_maps.proofs.words.Ascending.{goes_up-filter}
 
 any-other : (d u : ℕ) (xs : List ℕ) → u ≢ d → list_any (λ e. e == u) (filter (λ e. not (e == d)) xs) ≡ list_any (λ e. e == u) xs
 any-other d u [] other = refl
@@ -68,3 +69,14 @@ unfolding gives_up_vertex
 without_face-vertex Closed d v = refl
 without_face-vertex (Isolated edges faces vertex) d v = refl
 without_face-vertex (Cleaned vertex) d v = refl
+
+-- what is left is in order
+pub without_edge-in_order : (r : Removal) (d : ℕ) → IsInOrder r → IsInOrder (without_edge r d)
+without_edge-in_order Closed d up = up
+without_edge-in_order (Isolated edges faces vertex) d up = (goes_up-filter (λ e. not (e == d)) edges up.0, up.1)
+without_edge-in_order (Cleaned vertex) d up = up
+
+pub without_face-in_order : (r : Removal) (d : ℕ) → IsInOrder r → IsInOrder (without_face r d)
+without_face-in_order Closed d up = up
+without_face-in_order (Isolated edges faces vertex) d up = (up.0, goes_up-filter (λ f. not (f == d)) faces up.1)
+without_face-in_order (Cleaned vertex) d up = up

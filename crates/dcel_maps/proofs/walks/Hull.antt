@@ -1,5 +1,5 @@
 -- The hull is the outer word, from its anchor on.
-use Rattle.std.proofs.Common.{◌≡◌, ◌↔◌, ℕ, false, Option, Some, None, IfSome, [], length, sym, ap, ◌∙◌, arith}
+use Rattle.std.proofs.Common.{◌≡◌, ◌↔◌, ℕ, false, Option, Some, None, IfSome, [], length, sym, ap, ◌∙◌}
 use Rattle.std.proofs.lemmas.List.{nil_from_length}
 use Rattle.dcel_maps.specs.Shapes.{Shape, Mesh, AnchorsWord, IsMesh, IsSound, edge_is_live, face_anchor, next_of}
 use Rattle.dcel_maps.specs.Walking.{IsOnFace, IsRoundTrip, ListsOnce, hull_of, walk_from}
@@ -7,7 +7,7 @@ use Rattle.dcel_maps.specs.Words.{TurnsTo, word_of}
 use Rattle.dcel_maps.proofs.walks.Faces.{anchor-lists, anchor-turn, word-lists}
 use Rattle.dcel_maps.proofs.walks.Links.{links_lawful}
 use Rattle.dcel_maps.proofs.walks.UnderWay.{walk-round}
-use Rattle.dcel_maps.proofs.words.Turns.{count-turn, length-turn}
+use Rattle.dcel_maps.proofs.words.Turns.{length-turn}
 
 -- from its anchor on, and round
 anchor-round : {s : Shape} → IsSound s → (f : ℕ) (anchor : Option ℕ) → AnchorsWord (word_of s.words f) anchor

@@ -1,15 +1,7 @@
 -- Numbers before and after some are taken out.
 use Rattle.std.specs.Prelude.{◌↔◌, ℕ, ◌-◌, ◌<◌, List, [], ◌∷◌}
-use Rattle.std.specs.List.Sorted.{IsStrictlyIncreasing}
-use Rattle.dcel_maps.specs.Removals.{Removal, Closed, Isolated, Cleaned}
 use Rattle.dcel_maps.specs.Renumbering.{moved}
 use Rattle.dcel_maps.specs.Words.{count_of}
-
--- a record names each edge and each face once, in ascending order
-abbrev pub IsOrdered : Removal → Type 0
-IsOrdered Closed = Unit {0}
-IsOrdered (Isolated edges faces vertex) = IsStrictlyIncreasing edges × IsStrictlyIncreasing faces
-IsOrdered (Cleaned vertex) = Unit {0}
 
 -- the list goes down, from below n
 abbrev pub GoesDown : ℕ → List ℕ → Type 0
