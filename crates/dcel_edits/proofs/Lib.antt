@@ -1,3 +1,4 @@
+pub mod Descending
 pub mod Dropping
 pub mod Mending
 pub mod FaceWords

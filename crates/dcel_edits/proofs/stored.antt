@@ -1,6 +1,7 @@
 -- Lists that hold a mesh, and that they hold the edited one after the writes.
 pub mod Beside
 pub mod Changes
+pub mod CleaningUp
 pub mod Closing
 pub mod Creating
 pub mod Data

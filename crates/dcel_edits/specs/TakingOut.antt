@@ -1,5 +1,5 @@
 -- What taking an element out leaves in the stored lists, and which can be taken out. The last element of its kind gets its number.
-use Rattle.std.specs.Prelude.{◌≢◌, ℕ, ◌+◌, ◌-◌, ◌*◌, ◌<◌, ◌≤◌, ◌^◌, ◌==◌, List, cond, length, slice_index, slice_index_or, slice_set, Option, Some, None}
+use Rattle.std.specs.Prelude.{◌≢◌, ℕ, ◌+◌, ◌-◌, ◌*◌, ◌<◌, ◌≤◌, ◌^◌, ◌==◌, List, [], ◌∷◌, cond, fold, length, slice_index, slice_index_or, slice_set, Option, Some, None}
 use Rattle.dcel_fixed.specs.HalfEdges.{rev}
 use Rattle.dcel_store.specs.declared.HalfEdgeEntry.{HalfEdgeEntry}
 use Rattle.dcel_store.specs.Lists.{Lists}
@@ -11,6 +11,11 @@ use Rattle.dcel_edits.specs.Rounds.{AnchorComesBack, all_set, round_from}
 -- the anchor k, where it was `old`, is `new`
 abbrev pub anchor_renamed : List (Option ℕ) → ℕ → ℕ → ℕ → List (Option ℕ)
 anchor_renamed anchors k old new = cond (is_this old (slice_index_or anchors k None)) (slice_set anchors k (Some new)) anchors
+
+-- steps that are done one after another, where each can be done
+abbrev pub CanDoAll : {S : Type 0} → (S → ℕ → S) → (S → ℕ → Type 0) → S → List ℕ → Type 0
+CanDoAll step can s [] = Unit {0}
+CanDoAll step can s (d ∷ ds) = can s d × CanDoAll step can (step s d) ds
 
 module _ {V DE UE F : Type 0} where
   -- edge d is gone, and the last edge has come to its place; what names that still names it by its old number
@@ -113,3 +118,16 @@ module _ {V DE UE F : Type 0} where
     pub few : length s.vertex_data ≤ 2 ^ 32
     pub vertex_in : d < length s.vertex_data
     pub turns : d ≢ length s.vertex_data - 1 → CanTurn (vertex_dropped s d) d
+
+  -- edges, or faces, taken out one after another
+  abbrev pub edges_out : Lists V DE UE F → List ℕ → Lists V DE UE F
+  edges_out s ds = fold edge_out s ds
+
+  abbrev pub faces_out : Lists V DE UE F → List ℕ → Lists V DE UE F
+  faces_out s ds = fold face_out s ds
+
+  abbrev pub CanLoseEdges : Lists V DE UE F → List ℕ → Type 0
+  CanLoseEdges s ds = CanDoAll edge_out CanLoseEdge s ds
+
+  abbrev pub CanLoseFaces : Lists V DE UE F → List ℕ → Type 0
+  CanLoseFaces s ds = CanDoAll face_out CanLoseFace s ds

@@ -1,14 +1,14 @@
 //! Elements taken out. The last element of their kind gets their number: it comes to their place, and what named it is mended in one
 //! pass, without memory.
 
-ghost use Rattle.std.specs.Prelude.{◌≡◌, ◌<◌, ◌^◌, length, slice_index_or};
+ghost use Rattle.std.specs.Prelude.{◌≡◌, ◌<◌, ◌^◌, length, reverse, slice_index_or};
 ghost use Rattle.dcel_maps.specs.Renumbering.{half_of, moved};
-ghost use Rattle.dcel_edits.specs.TakingOut.{CanLoseEdge, CanLoseFace, CanLoseVertex, CanRename, CanWalk, anchor_renamed, edge_out, face_out, half_renamed, links_moved, vertex_out, word_renamed};
+ghost use Rattle.dcel_edits.specs.TakingOut.{CanLoseEdge, CanLoseEdges, CanLoseFace, CanLoseFaces, CanLoseVertex, CanRename, CanWalk, anchor_renamed, edge_out, edges_out, face_out, faces_out, half_renamed, links_moved, vertex_out, word_renamed};
 
 use crate::rename::rename_turn;
 use dcel_fixed::{
     FixedDirectedEdgeHandle, FixedFaceHandle, FixedUndirectedEdgeHandle, FixedVertexHandle,
-    PossiblyOuterTag,
+    InnerTag, PossiblyOuterTag,
 };
 use dcel_store::{HalfEdgeEntry, Store};
 use std::alloc::Allocator;
@@ -48,6 +48,36 @@ pub fn take_out_face<V, DE, UE, F: Drop, A: Allocator>(
     let _ = store.take_face(face);
     if face.index() != last {
         rename_word(store, face);
+    }
+}
+
+/// Takes the edges of a list out, from its last one to its first.
+pub fn take_out_edges<V, DE: Drop, UE: Drop, F, A: Allocator>(
+    store: &mut Store<V, DE, UE, F, A>,
+    edges: &[FixedUndirectedEdgeHandle],
+)
+    requires { CanLoseEdges store.old (reverse edges.now) }
+    ensures { store.new ≡ edges_out store.old (reverse edges.now) }
+{
+    let mut left = edges.len();
+    while left > 0 {
+        left -= 1;
+        take_out_edge(store, edges[left]);
+    }
+}
+
+/// Takes the faces of a list out, from its last one to its first.
+pub fn take_out_faces<V, DE, UE, F: Drop, A: Allocator>(
+    store: &mut Store<V, DE, UE, F, A>,
+    faces: &[FixedFaceHandle<InnerTag>],
+)
+    requires { CanLoseFaces store.old (reverse faces.now) }
+    ensures { store.new ≡ faces_out store.old (reverse faces.now) }
+{
+    let mut left = faces.len();
+    while left > 0 {
+        left -= 1;
+        take_out_face(store, faces[left].adjust_inner_outer());
     }
 }
 

@@ -108,11 +108,11 @@ module _ {V DE UE F : Type 0} where
     abbrev emptied : Mesh V DE UE F
     emptied = faces_taken_out (edges_taken_out m edges) faces
 
-    edges_listed : ListsEdges m.shape edges
+    pub edges_listed : ListsEdges m.shape edges
     edges_listed = edges_down-list m.shape.removal mesh.sized.within
 
     -- once the edges are out, the faces are listed as before
-    faces_listed : ListsFaces halfway.shape faces
+    pub faces_listed : ListsFaces halfway.shape faces
     faces_listed =
         let listed = faces_down-list m.shape.removal mesh.sized.within in
         record {
@@ -130,7 +130,7 @@ module _ {V DE UE F : Type 0} where
     emptied-mesh = faces_out-mesh halfway faces halfway-mesh faces_listed
 
     -- neither an edge nor a face is given up any more, and the same vertex is
-    same_edges : (u : ℕ) → gives_up_edge (cleaned m.shape.removal) u ≡ gives_up_edge emptied.shape.removal u
+    pub same_edges : (u : ℕ) → gives_up_edge (cleaned m.shape.removal) u ≡ gives_up_edge emptied.shape.removal u
     same_edges u = cleaned-edge m.shape.removal u ∙ sym (faces_out-edge halfway faces u ∙ edges_out-none m edges edges_listed u)
 
     same_faces : (g : ℕ) → gives_up_face (cleaned m.shape.removal) g ≡ gives_up_face emptied.shape.removal g
