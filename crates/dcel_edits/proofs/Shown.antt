@@ -61,3 +61,15 @@ module _ (g : ℕ → Bool) where
       ∙ ap (λ l. l ++ shown_from g (0 + length (replaced vs p.set)) p.more) (shown-replaced vs p.set live)
       ∙ ap (λ l. replaced (shown g vs) p.set ++ l)
       (shown_from-kept (0 + length (replaced vs p.set)) p.more (λ u past. kept u (omega (arith, past, long, length-replaced vs p.set))))
+
+-- where the same is given up, the same shows
+shown_from-same : (g g' : ℕ → Bool) → ((u : ℕ) → g' u ≡ g u) → (h : ℕ) (vs : List ℕ) → shown_from g' h vs ≡ shown_from g h vs
+shown_from-same g g' same h [] = refl
+shown_from-same g g' same h (v ∷ vs) = rw (same (h / 2)) (ap (λ z. cond (g (h / 2)) 0 v ∷ z) (shown_from-same g g' same (suc h) vs))
+
+pub shown-same : (g g' : ℕ → Bool) → ((u : ℕ) → g' u ≡ g u) → (vs : List ℕ) → shown g' vs ≡ shown g vs
+shown-same g g' same vs = shown_from-same g g' same 0 vs
+
+-- and where nothing is given up, all
+pub shown-none : (g : ℕ → Bool) → ((u : ℕ) → g u ≡ false) → (vs : List ℕ) → shown g vs ≡ vs
+shown-none g none vs = shown_from-kept g 0 vs (λ u past. none u)

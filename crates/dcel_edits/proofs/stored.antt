@@ -1,9 +1,13 @@
 -- Lists that hold a mesh, and that they hold the edited one after the writes.
 pub mod Beside
 pub mod Changes
+pub mod CleaningUp
 pub mod Closing
 pub mod Creating
 pub mod Data
+pub mod EdgeMoves
+pub mod EdgesOut
+pub mod FacesOut
 pub mod Flips
 pub mod Halves
 pub mod Held
@@ -11,6 +15,9 @@ pub mod Holding
 pub mod Inserting
 pub mod Lines
 pub mod Renaming
+pub mod Rounds
 pub mod Splits
 pub mod SplittingTriangles
+pub mod TakingOut
+pub mod VerticesOut
 pub mod Whole

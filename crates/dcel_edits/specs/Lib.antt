@@ -8,3 +8,5 @@ pub mod Split
 pub mod Stored
 pub mod Triangle
 pub mod SplitTriangles
+pub mod Rounds
+pub mod TakingOut

@@ -1,14 +1,8 @@
 -- What the exchange of two vertices leaves in the stored lists, and which can be exchanged.
-use Rattle.std.specs.Prelude.{ℕ, ◌<◌, List, [], fold, length, slice_index, slice_index_or, slice_set, swap, Option, Some, None}
+use Rattle.std.specs.Prelude.{ℕ, ◌<◌, List, length, slice_index, slice_index_or, swap, Option, None}
 use Rattle.dcel_fixed.specs.HalfEdges.{rev}
 use Rattle.dcel_store.specs.Lists.{Lists}
-use Rattle.dcel_maps.specs.Walking.{IsRoundTrip}
-use Rattle.dcel_maps.specs.Walks.{walk}
-use Rattle.dcel_maps.specs.Words.{count_of}
-
--- a list where the items at these places are v
-abbrev pub all_set : List ℕ → List ℕ → ℕ → List ℕ
-all_set l places v = fold (λ so_far place. slice_set so_far place v) l places
+use Rattle.dcel_edits.specs.Rounds.{AnchorComesBack, all_set, round_from}
 
 -- by the stored `prev`: the next half edge out of the same vertex
 abbrev pub ccw_by : List ℕ → ℕ → ℕ
@@ -16,18 +10,7 @@ ccw_by prev h = rev (slice_index prev h)
 
 -- the half edges that turning leads through from an anchor on, where so many are stored
 abbrev pub turn_by : List ℕ → ℕ → Option ℕ → List ℕ
-turn_by prev halves None = []
-turn_by prev halves (Some h) = walk (ccw_by prev) halves h
-
--- turning leads from a half edge back to it, through half edges that are stored
-pub record TurnsBack (prev : List ℕ) (halves h : ℕ) : Type 0 where
-  pub trip : IsRoundTrip (ccw_by prev) h (turn_by prev halves (Some h))
-  pub stored : (k : ℕ) → 0 < count_of k (turn_by prev halves (Some h)) → k < halves
-
--- and from an anchor, if there is one
-abbrev pub AnchorTurnsBack : List ℕ → ℕ → Option ℕ → Type 0
-AnchorTurnsBack prev halves None = Unit {0}
-AnchorTurnsBack prev halves (Some h) = TurnsBack prev halves h
+turn_by prev halves anchor = round_from (ccw_by prev) halves anchor
 
 module _ {V DE UE F : Type 0} where
   abbrev pub stored_anchor : Lists V DE UE F → ℕ → Option ℕ
@@ -52,7 +35,7 @@ module _ {V DE UE F : Type 0} where
   -- where a vertex can have the half edges of its turn start at it, and two can be exchanged
   pub record CanTurn (s : Lists V DE UE F) (v : ℕ) : Type 0 where
     pub anchor_in : v < length s.vertex_anchors
-    pub turns : AnchorTurnsBack s.prev (length s.next) (stored_anchor s v)
+    pub turns : AnchorComesBack (ccw_by s.prev) (length s.next) (stored_anchor s v)
 
   pub record CanExchange (s : Lists V DE UE F) (a b : ℕ) : Type 0 where
     pub first_in : a < length s.vertex_data

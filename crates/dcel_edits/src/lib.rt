@@ -7,6 +7,7 @@ pub mod flip;
 pub mod line;
 mod links;
 pub mod outside;
+pub mod removal;
 pub mod rename;
 mod sectors;
 pub mod split;

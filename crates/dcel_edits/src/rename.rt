@@ -27,7 +27,7 @@ pub fn exchange_vertices<V, DE, UE, F, A: Allocator>(
 }
 
 /// Has half edges start at a vertex: its anchor, and those that turning leads to from there.
-fn rename_turn<V, DE, UE, F, A: Allocator>(
+pub(crate) fn rename_turn<V, DE, UE, F, A: Allocator>(
     store: &mut Store<V, DE, UE, F, A>,
     vertex: FixedVertexHandle,
 )

@@ -16,3 +16,4 @@ pub mod HalfSplits
 pub mod Faces
 pub mod Triangles
 pub mod Cyclic
+pub mod Renames

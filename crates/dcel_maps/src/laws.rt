@@ -4,7 +4,8 @@ ghost use Rattle.std.specs.Prelude.{◌≡◌, ℕ, true};
 ghost use Rattle.dcel_maps.specs.Conditions.{CanFlip};
 ghost use Rattle.dcel_maps.specs.edits.Flip.{GoesRound};
 ghost use Rattle.dcel_maps.specs.edits.Rename.{vertices_swapped};
-ghost use Rattle.dcel_maps.specs.Examples.{two_triangles};
+ghost use Rattle.dcel_maps.specs.Examples.{GoesFromHoleToHole, gathered, scattered, two_triangles};
+ghost use Rattle.dcel_maps.specs.Renumbering.{cleaned_up, vertex_taken_out};
 ghost use Rattle.dcel_maps.specs.Shapes.{IsMesh, IsSphere, Mesh, vertex_is_live};
 
 /// Two triangles that lie beside each other are no sphere: their vertices, minus their edges, plus their faces, are four.
@@ -28,4 +29,14 @@ pub fn two_swaps_change_nothing<V, DE, UE, F>()
 /// A vertex that is swapped with itself is what it was, and so is all else.
 pub fn a_swap_of_one_vertex_changes_nothing<V, DE, UE, F>()
     ensures { (m : Mesh V DE UE F) (v : ℕ) → IsMesh m → vertex_is_live m.shape v ≡ true → vertices_swapped m v v ≡ m }
+{}
+
+/// Elements that are taken out from the largest down: the last one goes from hole to hole until none is left below it.
+pub fn the_last_goes_from_hole_to_hole()
+    ensures { GoesFromHoleToHole }
+{}
+
+/// A removal closed: a triangle with an edge, a face and a vertex given up becomes one without them.
+pub fn a_scattered_triangle_is_gathered()
+    ensures { vertex_taken_out (cleaned_up scattered) 1 ≡ gathered }
 {}

@@ -5,6 +5,7 @@
 
 ghost use Rattle.std.specs.Prelude.{◌≡◌, ◌↔◌, IfOk, IsTrue, Some};
 ghost use Rattle.dcel_maps.specs.Removals.{Closed, Isolated, Cleaned, gives_up_vertex, gives_up_edge, gives_up_face, IsInOrder, IsListed};
+ghost use Rattle.dcel_maps.specs.Renumbering.{cleaned};
 ghost use Rattle.dcel_record.specs.Record.{state_of};
 
 mod given_up;
@@ -87,6 +88,20 @@ impl<A: Allocator> RemovalRecord<A> {
         RemovalRecord {
             state: State::Cleaned(vertex),
         }
+    }
+
+    /// Leaves the vertex alone given up, if there is one, and else closes the removal: the edges and faces are gone.
+    pub fn clean_up(&mut self)
+        ensures { self.new ≡ cleaned self.old }
+    {
+        let given_up = match &self.state {
+            State::Isolated(_, _, given_up) => *given_up,
+            _ => return,
+        };
+        self.state = match given_up {
+            Some(vertex) => State::Cleaned(vertex),
+            None => State::Closed,
+        };
     }
 
     /// Whether no removal is open.

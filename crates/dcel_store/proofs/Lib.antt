@@ -3,3 +3,4 @@ pub mod DataLists
 pub mod Exchanges
 pub mod Pairs
 pub mod RecordLists
+pub mod Taken

@@ -13,6 +13,7 @@ ghost use Rattle.dcel_store.specs.HalfEdges.{IsHalfEdge, LendsHalfEdge};
 
 mod data;
 mod swap;
+mod take;
 mod whole;
 
 use dcel_fixed::{FixedDirectedEdgeHandle, FixedFaceHandle, FixedVertexHandle, PossiblyOuterTag};

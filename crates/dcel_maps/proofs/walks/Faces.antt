@@ -10,7 +10,7 @@ use Rattle.dcel_maps.proofs.words.Counts.{count-same, length-le_total}
 use Rattle.dcel_maps.proofs.words.Paths.{IsCycle-weaker}
 use Rattle.dcel_maps.proofs.words.Reading.{count-le, face-next, face-prev, face_in_word, live_in, stands_in_face}
 use Rattle.dcel_maps.proofs.words.Triangles.{triangle_turn, written_from}
-use Rattle.dcel_maps.proofs.words.Turns.{length-turn, turns_on, turns_to_itself}
+use Rattle.dcel_maps.proofs.words.Turns.{count-turn, length-turn, turns_on, turns_to_itself}
 use Rattle.dcel_maps.proofs.words.Walking.{up_to-is}
 
 module _ {s : Shape} (sound : IsSound s) (f : ℕ) where
@@ -74,6 +74,16 @@ module _ {V DE UE F : Type 0} {m : Mesh V DE UE F} (mesh : IsMesh m) (f : ℕ) (
   -- a face's anchor lies on it
   pub anchor-lies : (a : ℕ) → face_anchor m f ≡ Some a → IsOnFace m.shape f a
   anchor-lies a some = stands-lies mesh.sound f a (subst (AnchorsWord (word_of m.shape.words f)) some (mesh.anchored.faces f below))
+
+  -- the walk from it lists what lies on the face
+  pub anchor-lists : ListsOnce (IsOnFace m.shape f) (walk_from m.shape (next_of m.shape) (face_anchor m f))
+  anchor-lists =
+      let word = word-lists mesh.sound f in
+      let turn = anchor-turn mesh.sound f (face_anchor m f) (mesh.anchored.faces f below) in
+      record {
+        each = λ h lies. count-turn h turn ∙ word.each h lies;
+        no_other = λ h found. word.no_other h (omega (arith, found, count-turn h turn));
+      }
 
   -- and is in range
   pub anchor-below : (a : ℕ) → face_anchor m f ≡ Some a → a < 2 * m.shape.edges

@@ -1,13 +1,13 @@
 -- The hull is the outer word, from its anchor on.
-use Rattle.std.proofs.Common.{◌≡◌, ◌↔◌, ℕ, false, Option, Some, None, IfSome, [], length, sym, ap, ◌∙◌, arith}
+use Rattle.std.proofs.Common.{◌≡◌, ◌↔◌, ℕ, false, Option, Some, None, IfSome, [], length, sym, ap, ◌∙◌}
 use Rattle.std.proofs.lemmas.List.{nil_from_length}
 use Rattle.dcel_maps.specs.Shapes.{Shape, Mesh, AnchorsWord, IsMesh, IsSound, edge_is_live, face_anchor, next_of}
 use Rattle.dcel_maps.specs.Walking.{IsOnFace, IsRoundTrip, ListsOnce, hull_of, walk_from}
 use Rattle.dcel_maps.specs.Words.{TurnsTo, word_of}
-use Rattle.dcel_maps.proofs.walks.Faces.{anchor-turn, word-lists}
+use Rattle.dcel_maps.proofs.walks.Faces.{anchor-lists, anchor-turn, word-lists}
 use Rattle.dcel_maps.proofs.walks.Links.{links_lawful}
 use Rattle.dcel_maps.proofs.walks.UnderWay.{walk-round}
-use Rattle.dcel_maps.proofs.words.Turns.{count-turn, length-turn}
+use Rattle.dcel_maps.proofs.words.Turns.{length-turn}
 
 -- from its anchor on, and round
 anchor-round : {s : Shape} → IsSound s → (f : ℕ) (anchor : Option ℕ) → AnchorsWord (word_of s.words f) anchor
@@ -24,12 +24,7 @@ module _ {V DE UE F : Type 0} {m : Mesh V DE UE F} (mesh : IsMesh m) where
 
   -- it lists what lies on the outer face
   pub hull-lists : ListsOnce (IsOnFace m.shape 0) (hull_of m)
-  hull-lists =
-      let word = word-lists mesh.sound 0 in
-      record {
-        each = λ h lies. count-turn h hull-turn ∙ word.each h lies;
-        no_other = λ h found. word.no_other h (omega (arith, found, count-turn h hull-turn));
-      }
+  hull-lists = anchor-lists mesh 0 mesh.sized.outer
 
   -- and nothing just where no edge is live
   pub hull-empty : (hull_of m ≡ []) ↔ ((u : ℕ) → edge_is_live m.shape u ≡ false)

@@ -1,0 +1,9 @@
+use Rattle.dcel_edits.specs.TakingOut.{CanLoseFace, face_out}
+use Rattle.dcel_edits.proofs.Descending.{Descends}
+use Rattle.dcel_edits.proofs.removal.take_out.take_out_faces.Given as goal
+
+abbrev pub invariant-loop-left : goal.invariant-loop-left
+invariant-loop-left g l = Descends face_out CanLoseFace l.fn.store l.fn.faces l.store l.left
+
+abbrev pub decreases-loop-left : goal.decreases-loop-left
+decreases-loop-left g l = l.left

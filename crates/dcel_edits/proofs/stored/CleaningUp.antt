@@ -1,0 +1,102 @@
+-- What a removal has given up is taken out of lists that hold a mesh: what is left holds the mesh that is cleaned up.
+use Rattle.std.proofs.Common.{◌≡◌, ℕ, ◌/◌, true, not, ◌&&◌, nat_lt, fold, List, [], ◌∷◌, refl, sym, ap, ◌∙◌, subst}
+use Rattle.dcel_store.specs.Lists.{Lists}
+use Rattle.dcel_edits.specs.Stored.{shown}
+use Rattle.dcel_edits.specs.TakingOut.{CanLoseEdges, CanLoseFaces, edge_out, edges_out, face_out, faces_out}
+use Rattle.dcel_maps.specs.Removals.{Removal, gives_up_edge}
+use Rattle.dcel_maps.specs.Renumbering.{cleaned, cleaned_up, edge_taken_out, edges_down, edges_taken_out, face_taken_out, faces_down, faces_taken_out, without_edge, without_face}
+use Rattle.dcel_maps.specs.Shapes.{IsLive, IsMesh, Mesh}
+use Rattle.dcel_edits.proofs.Shown.{shown-same}
+use Rattle.dcel_edits.proofs.stored.Changes.{held_lists, held_mesh, held_removal}
+use Rattle.dcel_edits.proofs.stored.Held.{ListsMesh, lists_hold}
+use Rattle.dcel_edits.proofs.stored.Holding.{Holds}
+use Rattle.dcel_edits.proofs.stored.TakingOut.{can_lose_edge, can_lose_face, holds_without_edge, holds_without_face}
+use Rattle.dcel_maps.proofs.renumbering.AllEdges as edges
+use Rattle.dcel_maps.proofs.renumbering.AllFaces as faces
+use Rattle.dcel_maps.proofs.renumbering.Cleanup.{cleaned_up-mesh, edges_listed, faces_listed, same_edges}
+
+module _ {V DE UE F : Type 0} where
+  -- all edges that are given up
+  pub edges_can : (ds : List ℕ) (s : Lists V DE UE F) (r : Removal) (m : Mesh V DE UE F) → Holds s r m → edges.ListsEdges m.shape ds → CanLoseEdges s ds
+  edges_can [] s r m held lists = tt
+  edges_can (d ∷ ds) s r m held lists =
+      let out = edges.first-out m d ds (held_mesh s r m held) lists in
+      (can_lose_edge held d out, edges_can ds (edge_out s d) (without_edge r d) (edge_taken_out m d) (holds_without_edge held d out) (edges.rest-listed m d ds lists))
+
+  pub edges_hold : (ds : List ℕ) (s : Lists V DE UE F) (r : Removal) (m : Mesh V DE UE F) → Holds s r m → edges.ListsEdges m.shape ds
+      → Holds (edges_out s ds) (fold without_edge r ds) (edges_taken_out m ds)
+  edges_hold [] s r m held lists = held
+  edges_hold (d ∷ ds) s r m held lists =
+      let out = edges.first-out m d ds (held_mesh s r m held) lists in
+      edges_hold ds (edge_out s d) (without_edge r d) (edge_taken_out m d) (holds_without_edge held d out) (edges.rest-listed m d ds lists)
+
+  -- and all faces
+  pub faces_can : (ds : List ℕ) (s : Lists V DE UE F) (r : Removal) (m : Mesh V DE UE F) → Holds s r m → faces.ListsFaces m.shape ds → CanLoseFaces s ds
+  faces_can [] s r m held lists = tt
+  faces_can (d ∷ ds) s r m held lists =
+      let out = faces.first-out m d ds (held_mesh s r m held) lists in
+      (can_lose_face held d out, faces_can ds (face_out s d) (without_face r d) (face_taken_out m d) (holds_without_face held d out) (faces.rest-listed m d ds lists))
+
+  pub faces_hold : (ds : List ℕ) (s : Lists V DE UE F) (r : Removal) (m : Mesh V DE UE F) → Holds s r m → faces.ListsFaces m.shape ds
+      → Holds (faces_out s ds) (fold without_face r ds) (faces_taken_out m ds)
+  faces_hold [] s r m held lists = held
+  faces_hold (d ∷ ds) s r m held lists =
+      let out = faces.first-out m d ds (held_mesh s r m held) lists in
+      faces_hold ds (face_out s d) (without_face r d) (face_taken_out m d) (holds_without_face held d out) (faces.rest-listed m d ds lists)
+
+  module _ {s : Lists V DE UE F} {r : Removal} {m : Mesh V DE UE F} (held : Holds s r m) where
+    mesh : IsMesh m
+    mesh = held_mesh s r m held
+
+    abbrev given_edges : List ℕ
+    given_edges = edges_down m.shape.removal
+
+    abbrev given_faces : List ℕ
+    given_faces = faces_down m.shape.removal
+
+    pub cleanup_loses_edges : CanLoseEdges s given_edges
+    cleanup_loses_edges = edges_can given_edges s r m held (edges_listed m mesh)
+
+    abbrev halfway : Lists V DE UE F
+    halfway = edges_out s given_edges
+
+    halfway_held : Holds halfway (fold without_edge r given_edges) (edges_taken_out m given_edges)
+    halfway_held = edges_hold given_edges s r m held (edges_listed m mesh)
+
+    pub cleanup_loses_faces : CanLoseFaces halfway given_faces
+    cleanup_loses_faces =
+        faces_can given_faces halfway (fold without_edge r given_edges) (edges_taken_out m given_edges) halfway_held (faces_listed m mesh)
+
+    abbrev emptied : Mesh V DE UE F
+    emptied = faces_taken_out (edges_taken_out m given_edges) given_faces
+
+    abbrev left : Lists V DE UE F
+    left = faces_out (edges_out s given_edges) given_faces
+
+    left_lists : ListsMesh left emptied
+    left_lists =
+        held_lists left (fold without_face (fold without_edge r given_edges) given_faces) emptied
+        (faces_hold given_faces halfway (fold without_edge r given_edges) (edges_taken_out m given_edges) halfway_held (faces_listed m mesh))
+
+    -- the record that is left gives up the same edges: none
+    live : (h : ℕ) → IsLive (cleaned_up m).shape h → IsLive emptied.shape h
+    live h is = sym (ap (λ b. nat_lt (h / 2) emptied.shape.edges && not b) (same_edges m mesh (h / 2))) ∙ is
+
+    cleaned_lists : ListsMesh left (cleaned_up m)
+    cleaned_lists = record {
+      lengths = left_lists.lengths;
+      next = λ h is. left_lists.next h (live h is);
+      prev = λ h is. left_lists.prev h (live h is);
+      origin = λ h is. left_lists.origin h (live h is);
+      face = λ h is. left_lists.face h (live h is);
+      shown_origins = shown-same (gives_up_edge emptied.shape.removal) (gives_up_edge (cleaned m.shape.removal)) (same_edges m mesh) left.origin ∙ left_lists.shown_origins;
+      vertex_data = left_lists.vertex_data;
+      vertex_anchors = left_lists.vertex_anchors;
+      face_anchors = left_lists.face_anchors;
+      directed_data = left_lists.directed_data;
+      undirected_data = left_lists.undirected_data;
+      face_data = left_lists.face_data;
+    }
+
+    pub cleanup_holds : Holds left (cleaned m.shape.removal) (cleaned_up m)
+    cleanup_holds = lists_hold left (cleaned_up m) (cleaned_up-mesh m mesh) cleaned_lists

@@ -1,0 +1,3 @@
+//! Elements that a removal gives up.
+
+pub mod take_out;

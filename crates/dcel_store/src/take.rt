@@ -1,0 +1,128 @@
+//! Elements taken out. The last element of their kind comes to their place, and so gets their number.
+
+ghost use Rattle.std.specs.Prelude.{◌≡◌, ◌+◌, ◌*◌, ◌<◌, length, slice_index_or, swap_remove, None};
+ghost use Rattle.dcel_store.specs.Taking.{pair_taken};
+
+use crate::{EdgeData, Store};
+use dcel_fixed::{FixedFaceHandle, FixedUndirectedEdgeHandle, FixedVertexHandle, PossiblyOuterTag};
+use std::alloc::Allocator;
+
+impl<V, DE, UE, F, A: Allocator> Store<V, DE, UE, F, A> {
+    /// Takes a vertex out, and answers its datum. The last vertex comes to its place with its anchor;
+    /// links that name it aren't changed. It takes no memory, and there is room for one vertex more.
+    /// Asks for a number below [`num_vertices`](Self::num_vertices).
+    #[inline]
+    pub fn take_vertex(&mut self, vertex: FixedVertexHandle) -> V
+        requires { vertex < length self.old.vertex_data }
+        ensures datum { result ≡ slice_index_or self.old.vertex_data vertex result }
+        ensures others { self.new ≡ record self.old {
+          vertex_data = swap_remove self.old.vertex_data vertex result;
+          vertex_anchors = swap_remove self.old.vertex_anchors vertex None;
+          vertex_room = self.old.vertex_room + 1;
+        } }
+    {
+        self.vertices.swap_remove(vertex.index()).data
+    }
+
+    /// Takes an edge out, and answers its data. The last edge comes to its place with its links; links
+    /// and anchors that name its half edges aren't changed. It takes no memory, and there is room for
+    /// one edge more. Asks for a number below [`num_edges`](Self::num_edges).
+    #[inline]
+    pub fn take_edge(&mut self, edge: FixedUndirectedEdgeHandle) -> EdgeData<DE, UE>
+        requires { edge < length self.old.undirected_data }
+        ensures normalized { result.normalized
+            ≡ slice_index_or self.old.directed_data (2 * edge) result.normalized }
+        ensures reversed { result.reversed
+            ≡ slice_index_or self.old.directed_data (2 * edge + 1) result.reversed }
+        ensures undirected { result.undirected
+            ≡ slice_index_or self.old.undirected_data edge result.undirected }
+        ensures others { self.new ≡ record self.old {
+          next = pair_taken self.old.next edge 0;
+          prev = pair_taken self.old.prev edge 0;
+          origin = pair_taken self.old.origin edge 0;
+          face = pair_taken self.old.face edge 0;
+          directed_data = pair_taken self.old.directed_data edge result.normalized;
+          undirected_data = swap_remove self.old.undirected_data edge result.undirected;
+          edge_room = self.old.edge_room + 1;
+        } }
+    {
+        self.edges.swap_remove(edge.index()).edge_data
+    }
+
+    /// Takes a face out, and answers its datum. The last face comes to its place with its anchor; links
+    /// that name it aren't changed. It takes no memory, and there is room for one face more. Asks for a
+    /// number below [`num_faces`](Self::num_faces).
+    #[inline]
+    pub fn take_face(&mut self, face: FixedFaceHandle<PossiblyOuterTag>) -> F
+        requires { face < length self.old.face_data }
+        ensures datum { result ≡ slice_index_or self.old.face_data face result }
+        ensures others { self.new ≡ record self.old {
+          face_data = swap_remove self.old.face_data face result;
+          face_anchors = swap_remove self.old.face_anchors face None;
+          face_room = self.old.face_room + 1;
+        } }
+    {
+        self.faces.swap_remove(face.index()).data
+    }
+}
+
+#[cfg(test)]
+mod tests {
+    use super::*;
+    use crate::HalfEdgeEntry;
+    use dcel_fixed::{FixedDirectedEdgeHandle, OUTER_FACE};
+    use std::test::Fail;
+
+    // The links of a half edge that is alone.
+    fn alone(edge: FixedDirectedEdgeHandle) -> HalfEdgeEntry {
+        HalfEdgeEntry {
+            next: edge,
+            prev: edge,
+            face: OUTER_FACE,
+            origin: FixedVertexHandle::new(0),
+        }
+    }
+
+    #[test]
+    fn the_last_comes_to_the_place(rt: HostRuntime) -> Result<(), Fail> {
+        let edge = FixedDirectedEdgeHandle::new(0);
+        let mut store: Store<char, char, char, char> = Store::new(rt.alloc())?;
+        store.reserve(2, 2, 2)?;
+        store.push_vertex('v', None);
+        store.push_vertex('w', Some(edge));
+        store.push_face('f', None);
+        store.push_face('g', Some(edge));
+        store.push_edge(
+            alone(FixedDirectedEdgeHandle::new(0)),
+            alone(FixedDirectedEdgeHandle::new(1)),
+            EdgeData {
+                normalized: 'a',
+                reversed: 'b',
+                undirected: 'c',
+            },
+        );
+        store.push_edge(
+            alone(FixedDirectedEdgeHandle::new(2)),
+            alone(FixedDirectedEdgeHandle::new(3)),
+            EdgeData {
+                normalized: 'd',
+                reversed: 'e',
+                undirected: 'f',
+            },
+        );
+
+        assert_eq!(rt; store.take_vertex(FixedVertexHandle::new(0)), 'v');
+        assert_eq!(rt; store.vertex_anchor(FixedVertexHandle::new(0)), Some(edge));
+        assert_eq!(rt; store.take_face(OUTER_FACE), 'f');
+        assert_eq!(rt; store.face_anchor(OUTER_FACE), Some(edge));
+        let data = store.take_edge(FixedUndirectedEdgeHandle::new(0));
+        assert_eq!(rt; data.normalized, 'a');
+        assert_eq!(rt; data.reversed, 'b');
+        assert_eq!(rt; data.undirected, 'c');
+        assert_eq!(rt;
+            [store.num_vertices(), store.num_edges(), store.num_faces()],
+            [1, 1, 1]
+        );
+        Ok(())
+    }
+}
