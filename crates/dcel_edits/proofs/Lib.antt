@@ -3,6 +3,5 @@ mod Numbers
 pub mod OutEdges
 pub mod Public
 pub mod Reading
-pub mod Shown
 pub mod stored
 pub mod Turning

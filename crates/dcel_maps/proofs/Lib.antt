@@ -1,4 +1,5 @@
 pub mod Liveness
+pub mod Shown
 pub mod edits
 pub mod maps
 pub mod shapes

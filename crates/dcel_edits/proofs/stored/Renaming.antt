@@ -8,7 +8,7 @@ use Rattle.dcel_fixed.specs.HalfEdges.{rev}
 use Rattle.dcel_store.specs.Lists.{Lists}
 use Rattle.dcel_maps.specs.edits.Rename.{exchanged, vertices_swapped}
 use Rattle.dcel_maps.specs.Maps.{By}
-use Rattle.dcel_maps.specs.Removals.{Removal, gives_up_edge}
+use Rattle.dcel_maps.specs.Removals.{Removal, gives_up_edge, shown}
 use Rattle.dcel_maps.specs.Shapes.{AnchorsVertex, IsLive, IsMesh, Mesh, origin_of, vertex_anchor, vertex_is_live}
 use Rattle.dcel_maps.specs.Walking.{IsOutEdge, ListsOnce, ccw_of, out_edges_of, walk_from, walk_of}
 use Rattle.dcel_maps.specs.Words.{count_of}
@@ -20,8 +20,7 @@ use Rattle.dcel_maps.proofs.walks.UnderWay.{up_to-agrees, walk-live, walk-round}
 use Rattle.dcel_maps.proofs.words.Counts.{absent_head, first_or_later}
 use Rattle.dcel_maps.proofs.words.Paths.{Path-changed}
 use Rattle.dcel_edits.specs.Rename.{AnchorTurnsBack, CanExchange, CanTurn, TurnsBack, all_set, ccw_by, turn_by, turn_of, vertices_exchanged}
-use Rattle.dcel_edits.specs.Stored.{shown}
-use Rattle.dcel_edits.proofs.Shown.{length-shown, slice_index-shown, slice_index-shown_live}
+use Rattle.dcel_maps.proofs.Shown.{length-shown, slice_index-shown, slice_index-shown_live}
 use Rattle.dcel_edits.proofs.stored.Changes.{held_edges, held_lists, held_mesh, held_removal, held_vertex, held_vertex_anchor}
 use Rattle.dcel_edits.proofs.stored.Held.{ListsMesh, lists_hold}
 use Rattle.dcel_edits.proofs.stored.Holding.{Holds}

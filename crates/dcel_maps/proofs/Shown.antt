@@ -1,7 +1,7 @@
 -- Origins with those of given-up edges masked.
 use Rattle.std.proofs.Common.{◌≡◌, ℕ, zero, suc, ◌+◌, ◌*◌, ◌/◌, ◌≤◌, Bool, false, cond, List, [], ◌∷◌, ◌++◌, length, slice_index, slice_set, refl, ap, ◌∙◌, arith, add-zero, add-suc, suc-add, zero-add}
 use Rattle.std.proofs.lemmas.Bool.{cond_both}
-use Rattle.dcel_edits.specs.Stored.{shown, shown_from}
+use Rattle.dcel_maps.specs.Removals.{shown, shown_from}
 use Rattle.dcel_maps.proofs.edits.Patches.{Each, Patch, length-replaced, patched, replaced}
 
 module _ (g : ℕ → Bool) where
