@@ -13,7 +13,9 @@ pub mod Sides
 pub mod Voronoi
 pub mod Numbers
 pub mod Walking
+pub mod Strips
 pub mod Laws
 pub mod Examples
+pub mod StripExamples
 -- What only proofs read.
 pub mod theory
