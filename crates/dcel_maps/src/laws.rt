@@ -1,10 +1,10 @@
 //! Laws of the definitions. These calls compute nothing; whoever makes one learns what it ensures.
 
-ghost use Rattle.std.specs.Prelude.{◌≡◌, ℕ, true};
+ghost use Rattle.std.specs.Prelude.{◌≡◌, ℕ, true, [], ◌∷◌};
 ghost use Rattle.dcel_maps.specs.Conditions.{CanFlip};
 ghost use Rattle.dcel_maps.specs.edits.Flip.{GoesRound};
 ghost use Rattle.dcel_maps.specs.edits.Rename.{vertices_swapped};
-ghost use Rattle.dcel_maps.specs.Examples.{two_triangles};
+ghost use Rattle.dcel_maps.specs.Examples.{FillsSquare, FillsTriangle, IsRingFrom, inside_triangle, on_edge, two_triangles};
 ghost use Rattle.dcel_maps.specs.Shapes.{IsMesh, IsSphere, Mesh, vertex_is_live};
 
 /// Two triangles that lie beside each other are no sphere: their vertices, minus their edges, plus their faces, are four.
@@ -28,4 +28,11 @@ pub fn two_swaps_change_nothing<V, DE, UE, F>()
 /// A vertex that is swapped with itself is what it was, and so is all else.
 pub fn a_swap_of_one_vertex_changes_nothing<V, DE, UE, F>()
     ensures { (m : Mesh V DE UE F) (v : ℕ) → IsMesh m → vertex_is_live m.shape v ≡ true → vertices_swapped m v v ≡ m }
+{}
+
+/// Two holes and what fills them: of a vertex inside a triangle, one face, and of a vertex on an edge, two faces with an edge between
+/// them. Each ring is what comes after the out edges of the vertex.
+pub fn two_holes_are_filled()
+    ensures triangle { IsRingFrom inside_triangle.shape (1 ∷ 3 ∷ 5 ∷ []) 7 × FillsTriangle }
+    ensures square { IsRingFrom on_edge.shape (1 ∷ 11 ∷ 8 ∷ 5 ∷ []) 7 × FillsSquare }
 {}
