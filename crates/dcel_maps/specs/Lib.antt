@@ -13,6 +13,8 @@ pub mod Sides
 pub mod Voronoi
 pub mod Numbers
 pub mod Walking
+pub mod Borders
+pub mod Hiding
 pub mod Strips
 pub mod Laws
 pub mod Examples

@@ -3,28 +3,26 @@ use Rattle.std.specs.Prelude.{◌≡◌, ℕ, [], ◌∷◌, Some, None}
 use Rattle.dcel_maps.specs.edits.Create.{first_edge_alone, vertex_appended}
 use Rattle.dcel_maps.specs.edits.Split.{edge_split_on_line}
 use Rattle.dcel_maps.specs.edits.Strip.{strip_cut}
-use Rattle.dcel_maps.specs.edits.Triangle.{triangle_alone, vertex_inserted}
+use Rattle.dcel_maps.specs.edits.Triangle.{triangle_alone}
+use Rattle.dcel_maps.specs.Examples.{inside_triangle}
 use Rattle.dcel_maps.specs.Removals.{Isolated}
 use Rattle.dcel_maps.specs.Shapes.{Mesh}
 use Rattle.dcel_maps.specs.Strips.{strip_of}
 
--- a triangle; with vertex 3 put into it
+-- a triangle
 abbrev pub one_triangle : Mesh ℕ ℕ ℕ ℕ
 one_triangle = triangle_alone (0, 1, 2) (0 ∷ 1 ∷ 2 ∷ 3 ∷ 4 ∷ 5 ∷ []) (0 ∷ 1 ∷ 2 ∷ []) (0 ∷ 1 ∷ [])
-
-abbrev pub three_triangles : Mesh ℕ ℕ ℕ ℕ
-three_triangles = vertex_inserted (vertex_appended one_triangle 3) 3 1 (6 ∷ 7 ∷ 8 ∷ 9 ∷ 10 ∷ 11 ∷ []) (3 ∷ 4 ∷ 5 ∷ []) (2 ∷ 3 ∷ [])
 
 -- the edge from vertex 0 to vertex 1, with vertex 2 in its middle
 abbrev pub line_of_three : Mesh ℕ ℕ ℕ ℕ
 line_of_three =
     edge_split_on_line (vertex_appended (first_edge_alone (0 ∷ 1 ∷ []) 0 1 (0 ∷ 1 ∷ []) (0 ∷ []) (0 ∷ [])) 2) 0 2 (2 ∷ 3 ∷ []) (1 ∷ [])
 
--- the strip round vertex 1, whose outer out edge is 2, is (6, 9, 4): two triangles go with the vertex
+-- the strip round vertex 1, whose outer out edge is 2, is (6, 9, 4): of the triangle with vertex 3 in it, two triangles go with vertex 1
 abbrev pub CornerOfThreeCut : Type 0
 CornerOfThreeCut =
-    let cut = strip_cut three_triangles (6 ∷ 9 ∷ 4 ∷ []) in
-    (strip_of three_triangles.shape 2 ≡ 6 ∷ 9 ∷ 4 ∷ [])
+    let cut = strip_cut inside_triangle (6 ∷ 9 ∷ 4 ∷ []) in
+    (strip_of inside_triangle.shape 2 ≡ 6 ∷ 9 ∷ 4 ∷ [])
     × (cut.shape.words ≡ (4 ∷ 6 ∷ 9 ∷ []) ∷ [] ∷ (5 ∷ 8 ∷ 7 ∷ []) ∷ [] ∷ [])
     × (cut.shape.origins ≡ 0 ∷ 0 ∷ 0 ∷ 0 ∷ 2 ∷ 0 ∷ 0 ∷ 3 ∷ 2 ∷ 3 ∷ 0 ∷ 0 ∷ [])
     × (cut.shape.removal ≡ Isolated (0 ∷ 5 ∷ 1 ∷ []) (1 ∷ 3 ∷ []) (Some 1))

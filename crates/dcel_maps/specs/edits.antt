@@ -2,6 +2,7 @@
 pub mod Create
 pub mod Data
 pub mod DefaultData
+pub mod Fill
 pub mod Flip
 pub mod Line
 pub mod Outside

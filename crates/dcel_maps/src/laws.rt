@@ -1,10 +1,10 @@
 //! Laws of the definitions. These calls compute nothing; whoever makes one learns what it ensures.
 
-ghost use Rattle.std.specs.Prelude.{◌≡◌, ℕ, true};
+ghost use Rattle.std.specs.Prelude.{◌≡◌, ℕ, true, [], ◌∷◌};
 ghost use Rattle.dcel_maps.specs.Conditions.{CanFlip};
 ghost use Rattle.dcel_maps.specs.edits.Flip.{GoesRound};
 ghost use Rattle.dcel_maps.specs.edits.Rename.{vertices_swapped};
-ghost use Rattle.dcel_maps.specs.Examples.{two_triangles};
+ghost use Rattle.dcel_maps.specs.Examples.{FillsSquare, FillsTriangle, IsRingFrom, inside_triangle, on_edge, two_triangles};
 ghost use Rattle.dcel_maps.specs.Shapes.{IsMesh, IsSphere, Mesh, vertex_is_live};
 ghost use Rattle.dcel_maps.specs.StripExamples.{CornerCut, CornerOfThreeCut, EndCut};
 
@@ -37,4 +37,11 @@ pub fn strips_are_cut_off()
     ensures corner_of_three { CornerOfThreeCut }
     ensures corner { CornerCut }
     ensures end { EndCut }
+{}
+
+/// Two holes and what fills them: of a vertex inside a triangle, one face, and of a vertex on an edge, two faces with an edge between
+/// them. Each ring is what comes after the out edges of the vertex.
+pub fn two_holes_are_filled()
+    ensures triangle { IsRingFrom inside_triangle.shape (1 ∷ 3 ∷ 5 ∷ []) 7 × FillsTriangle }
+    ensures square { IsRingFrom on_edge.shape (1 ∷ 11 ∷ 8 ∷ 5 ∷ []) 7 × FillsSquare }
 {}

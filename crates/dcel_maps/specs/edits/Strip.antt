@@ -1,7 +1,8 @@
 -- A vertex of the outer face cut off, with the triangles round it. Whatever an edit doesn't name stays as it was.
-use Rattle.std.specs.Prelude.{ℕ, ◌/◌, List, [], ◌∷◌, map, slice_set, Some, None}
+use Rattle.std.specs.Prelude.{ℕ, ◌/◌, List, [], ◌∷◌, map, slice_set, Some}
 use Rattle.std.specs.List.{fold}
 use Rattle.dcel_maps.specs.Cyclic.{from_least}
+use Rattle.dcel_maps.specs.Hiding.{kept_words, kept_vertex_anchors, kept_face_anchors}
 use Rattle.dcel_maps.specs.Removals.{Isolated, Removal, gives_up_edge, shown}
 use Rattle.dcel_maps.specs.Shapes.{Mesh, Shape, face_of, origin_of, prev_of}
 use Rattle.dcel_maps.specs.Words.{become, last_of, word_of}
@@ -30,26 +31,28 @@ strip_half s list = prev_of s (last_of 0 list)
 abbrev pub strip_record : Shape → List ℕ → Removal
 strip_record s list = Isolated (strip_edges s list) (strip_faces s list) (Some (origin_of s (strip_half s list)))
 
--- with h the outer out edge, (prev h, h) becomes the strip without its last item in the outer word; words of given-up faces are empty
-abbrev pub strip_words : Shape → List ℕ → List (List ℕ)
-strip_words s list =
+-- the outer word: with h the outer out edge, (prev h, h) becomes the strip without its last item
+abbrev pub strip_word : Shape → List ℕ → List ℕ
+strip_word s list =
     let h = strip_half s list in
-    let items = but_last list in
-    let outer = from_least (become (prev_of s h) [] (become h items (word_of s.words 0))) in
-    each_set (face_of s) (λ e. []) (slice_set s.words 0 outer) items
+    from_least (become (prev_of s h) [] (become h (but_last list) (word_of s.words 0)))
 
 module _ {V DE UE F : Type 0} where
-  -- the strip cut, with the record that then stands: each item of the list becomes the anchor of its origin, one after another, and the
-  -- last one that of the outer face
-  abbrev pub strip_cut_into : Removal → Mesh V DE UE F → List ℕ → Mesh V DE UE F
-  strip_cut_into removal m list =
+  -- what the record names is given up; each item of the list becomes the anchor of its origin, one after another, and the last one that
+  -- of the outer face
+  abbrev pub strip_given_up : Mesh V DE UE F → Removal → List ℕ → Mesh V DE UE F
+  strip_given_up m removal list =
       let s = m.shape in
       record m {
-        shape = record s { words = strip_words s list; origins = shown (gives_up_edge removal) s.origins; removal = removal };
-        vertex_anchors = slice_set (each_set (origin_of s) (λ e. Some e) m.vertex_anchors list) (origin_of s (strip_half s list)) None;
-        face_anchors = each_set (face_of s) (λ e. None) (slice_set m.face_anchors 0 (Some (last_of 0 list))) (but_last list);
+        shape = record s {
+          words = kept_words removal (slice_set s.words 0 (strip_word s list));
+          origins = shown (gives_up_edge removal) s.origins;
+          removal = removal;
+        };
+        vertex_anchors = kept_vertex_anchors removal (each_set (origin_of s) (λ e. Some e) m.vertex_anchors list);
+        face_anchors = kept_face_anchors removal (slice_set m.face_anchors 0 (Some (last_of 0 list)));
       }
 
-  -- `disconnect_edge_strip`: the vertex of the strip is cut off
+  -- `disconnect_edge_strip`
   abbrev pub strip_cut : Mesh V DE UE F → List ℕ → Mesh V DE UE F
-  strip_cut m list = strip_cut_into (strip_record m.shape list) m list
+  strip_cut m list = strip_given_up m (strip_record m.shape list) list
