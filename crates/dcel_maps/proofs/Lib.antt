@@ -4,6 +4,7 @@ pub mod Shown
 pub mod edits
 pub mod maps
 pub mod removal
+pub mod renumbering
 pub mod shapes
 pub mod walks
 pub mod words

@@ -1,4 +1,6 @@
+pub mod Ascending
 pub mod Counts
+pub mod Mapped
 pub mod Paths
 pub mod Becoming
 pub mod Beside
@@ -15,3 +17,4 @@ pub mod HalfSplits
 pub mod Faces
 pub mod Triangles
 pub mod Cyclic
+pub mod Renames

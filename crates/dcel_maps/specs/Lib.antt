@@ -6,6 +6,7 @@ pub mod Removals
 pub mod Maps
 pub mod Shapes
 pub mod Conditions
+pub mod Renumbering
 pub mod edits
 pub mod Checked
 pub mod Kinds
