@@ -1,4 +1,5 @@
 -- Removals: what is given up, what it leaves, and that a mesh comes of it.
+pub mod Corners
 pub mod Eared
 pub mod Ears
 pub mod Fans

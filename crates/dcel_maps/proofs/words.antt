@@ -1,4 +1,5 @@
 pub mod Counts
+pub mod Mapped
 pub mod Paths
 pub mod Becoming
 pub mod Beside
