@@ -3,6 +3,7 @@ pub mod Corners
 pub mod Eared
 pub mod Ears
 pub mod Fans
+pub mod Filled
 pub mod Hiding
 pub mod Holes
 pub mod Spokes
