@@ -4,6 +4,7 @@ pub mod Eared
 pub mod Ears
 pub mod Fans
 pub mod Filled
+pub mod FilledMeshes
 pub mod Hiding
 pub mod Holes
 pub mod Spokes
