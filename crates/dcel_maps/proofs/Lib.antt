@@ -1,3 +1,4 @@
+pub mod Hiding
 pub mod Liveness
 pub mod Shown
 pub mod edits

@@ -8,5 +8,6 @@ pub mod FilledMeshes
 pub mod Hiding
 pub mod Holes
 pub mod Spokes
+pub mod StripSpokes
 pub mod Tips
 pub mod Without

@@ -15,7 +15,9 @@ pub mod Numbers
 pub mod Walking
 pub mod Borders
 pub mod Hiding
+pub mod Strips
 pub mod Laws
 pub mod Examples
+pub mod StripExamples
 -- What only proofs read.
 pub mod theory

@@ -8,5 +8,6 @@ pub mod Line
 pub mod Outside
 pub mod Rename
 pub mod Split
+pub mod Strip
 pub mod Triangle
 pub mod Whole

@@ -6,6 +6,7 @@ ghost use Rattle.dcel_maps.specs.edits.Flip.{GoesRound};
 ghost use Rattle.dcel_maps.specs.edits.Rename.{vertices_swapped};
 ghost use Rattle.dcel_maps.specs.Examples.{FillsSquare, FillsTriangle, IsRingFrom, inside_triangle, on_edge, two_triangles};
 ghost use Rattle.dcel_maps.specs.Shapes.{IsMesh, IsSphere, Mesh, vertex_is_live};
+ghost use Rattle.dcel_maps.specs.StripExamples.{CornerCut, CornerOfThreeCut, EndCut};
 
 /// Two triangles that lie beside each other are no sphere: their vertices, minus their edges, plus their faces, are four.
 pub fn two_triangles_are_no_sphere()
@@ -28,6 +29,14 @@ pub fn two_swaps_change_nothing<V, DE, UE, F>()
 /// A vertex that is swapped with itself is what it was, and so is all else.
 pub fn a_swap_of_one_vertex_changes_nothing<V, DE, UE, F>()
     ensures { (m : Mesh V DE UE F) (v : ℕ) → IsMesh m → vertex_is_live m.shape v ≡ true → vertices_swapped m v v ≡ m }
+{}
+
+/// What is left of three examples once a vertex is cut off: a corner of a triangle that has a vertex in it, a corner of a triangle alone,
+/// and an end of a line, which is a strip without triangles.
+pub fn strips_are_cut_off()
+    ensures corner_of_three { CornerOfThreeCut }
+    ensures corner { CornerCut }
+    ensures end { EndCut }
 {}
 
 /// Two holes and what fills them: of a vertex inside a triangle, one face, and of a vertex on an edge, two faces with an edge between

@@ -25,14 +25,14 @@ renumbered_face U g n = record U {
   faces = max U.faces (suc n);
 }
 
-number_apart : (g n x y : ℕ) → x ≢ n → y ≢ n → put (λ f. f) g n x ≡ put (λ f. f) g n y → x ≡ y
+number_apart : (g n x y : ℕ) → (x ≢ g → x ≢ n) → (y ≢ g → y ≢ n) → put (λ f. f) g n x ≡ put (λ f. f) g n y → x ≡ y
 number_apart g n x y off_x off_y same = elim (cases_eq x g) [
   | inl at_x ↦ elim (cases_eq y g) [
     | inl at_y ↦ at_x ∙ sym at_y
-    | inr no_y ↦ absurd (off_y (sym (put_other (λ f. f) g n y no_y) ∙ sym same ∙ ap (put (λ f. f) g n) at_x ∙ put_same (λ f. f) g n))
+    | inr no_y ↦ absurd (off_y no_y (sym (put_other (λ f. f) g n y no_y) ∙ sym same ∙ ap (put (λ f. f) g n) at_x ∙ put_same (λ f. f) g n))
   ]
   | inr no_x ↦ elim (cases_eq y g) [
-    | inl at_y ↦ absurd (off_x (sym (put_other (λ f. f) g n x no_x) ∙ same ∙ ap (put (λ f. f) g n) at_y ∙ put_same (λ f. f) g n))
+    | inl at_y ↦ absurd (off_x no_x (sym (put_other (λ f. f) g n x no_x) ∙ same ∙ ap (put (λ f. f) g n) at_y ∙ put_same (λ f. f) g n))
     | inr no_y ↦ sym (put_other (λ f. f) g n x no_x) ∙ same ∙ put_other (λ f. f) g n y no_y
   ]
 ]
@@ -43,7 +43,7 @@ number_below g n x faces below = elim (cases_eq x g) [
   | inr other ↦ let old : put (λ f. f) g n x ≡ x = put_other (λ f. f) g n x other in omega (arith, old, below)
 ]
 
-face_renamed : (U : Map) (g n : ℕ) → Sound U → ((x : ℕ) → Live U x → U.face x ≢ n)
+face_renamed : (U : Map) (g n : ℕ) → Sound U → ((x : ℕ) → Live U x → U.face x ≢ g → U.face x ≢ n)
     → Renamed U (renumbered_face U g n) (λ x. x) (λ x. x) (λ v. v) (put (λ f. f) g n)
 unfolding renumbered_face
 face_renamed U g n s vacant = record {
@@ -78,7 +78,7 @@ pub record HoleOf (S P : Map) (spokes ring : List ℕ) (n : ℕ) : Type 0 where
   pub cases : (x : ℕ) → Live P x → (P.face x ≡ n) ⊎ ((y : ℕ) → 0 < count_of y spokes → S.face y ≢ P.face x)
 
 module _ (S K : Map) (h : ℕ) (ks : List ℕ) (b : ℕ) (rest : List ℕ) (g n : ℕ) (o : Opened S K (S.face h) h ks (b ∷ rest) g)
-    (sound : Sound S) (live : Live S h) (above : S.faces ≤ n) where
+    (free : (x : ℕ) → Live K x → K.face x ≢ g → K.face x ≢ n) where
   abbrev m : Merged K g h (b ∷ rest) h
   m = o.merged
 
@@ -103,8 +103,8 @@ module _ (S K : Map) (h : ℕ) (ks : List ℕ) (b : ℕ) (rest : List ℕ) (g n 
   U : Map
   U = spur_away K k
 
-  pub P : Map
-  P = renumbered_face U g n
+  pub hollow : Map
+  hollow = renumbered_face U g n
 
   gone_k : SpurGone K U k
   unfolding U
@@ -118,29 +118,27 @@ module _ (S K : Map) (h : ℕ) (ks : List ℕ) (b : ℕ) (rest : List ℕ) (g n 
   unfolding U
   live_U x l = live_away K k x l
 
-  -- no half edge lies on n yet
-  vacant : (x : ℕ) → Live U x → U.face x ≢ n
-  vacant x l at =
-      let below = m.sound.below_faces x (live_U x l).0 in
-      omega (arith, below, gone_k.face x, o.faces, above, at)
+  -- none lies on n yet, where n isn't g
+  vacant : (x : ℕ) → Live U x → U.face x ≢ g → U.face x ≢ n
+  vacant x l other at = free x (live_U x l).0 (λ i. other (gone_k.face x ∙ i)) (sym (gone_k.face x) ∙ at)
 
-  keeps_P : Sound P × Sphere P
-  unfolding P
-  keeps_P = renamed_keeps U (renumbered_face U g n) (λ x. x) (λ x. x) (λ v. v) (put (λ f. f) g n) (face_renamed U g n keeps_U.0 vacant) keeps_U.0 keeps_U.1
+  keeps_hollow : Sound hollow × Sphere hollow
+  unfolding hollow
+  keeps_hollow = renamed_keeps U (renumbered_face U g n) (λ x. x) (λ x. x) (λ v. v) (put (λ f. f) g n) (face_renamed U g n keeps_U.0 vacant) keeps_U.0 keeps_U.1
 
-  -- P has the links of U
+  -- hollow has the links of U
   record SameLinks : Type 0 where
-    edge : (u : ℕ) → P.edge u ≡ U.edge u
-    next : (x : ℕ) → P.next x ≡ U.next x
-    prev : (x : ℕ) → P.prev x ≡ U.prev x
-    origin : (x : ℕ) → P.origin x ≡ U.origin x
-    face : (x : ℕ) → P.face x ≡ put (λ f. f) g n (U.face x)
-    edges : P.edges ≡ U.edges
-    vertices : P.vertices ≡ U.vertices
-    faces : P.faces ≡ max U.faces (suc n)
+    edge : (u : ℕ) → hollow.edge u ≡ U.edge u
+    next : (x : ℕ) → hollow.next x ≡ U.next x
+    prev : (x : ℕ) → hollow.prev x ≡ U.prev x
+    origin : (x : ℕ) → hollow.origin x ≡ U.origin x
+    face : (x : ℕ) → hollow.face x ≡ put (λ f. f) g n (U.face x)
+    edges : hollow.edges ≡ U.edges
+    vertices : hollow.vertices ≡ U.vertices
+    faces : hollow.faces ≡ max U.faces (suc n)
 
   same_links : SameLinks
-  unfolding P renumbered_face
+  unfolding hollow renumbered_face
   same_links = record {
     edge = λ u. refl;
     next = λ x. refl;
@@ -152,20 +150,20 @@ module _ (S K : Map) (h : ℕ) (ks : List ℕ) (b : ℕ) (rest : List ℕ) (g n 
     faces = refl;
   }
 
-  face_P : (x : ℕ) → P.face x ≡ put (λ f. f) g n (K.face x)
-  face_P x = same_links.face x ∙ ap (put (λ f. f) g n) (gone_k.face x)
+  face_hollow : (x : ℕ) → hollow.face x ≡ put (λ f. f) g n (K.face x)
+  face_hollow x = same_links.face x ∙ ap (put (λ f. f) g n) (gone_k.face x)
 
-  face_P-other : (x : ℕ) → K.face x ≢ g → P.face x ≡ K.face x
-  face_P-other x other = face_P x ∙ put_other (λ f. f) g n (K.face x) other
+  face_hollow-other : (x : ℕ) → K.face x ≢ g → hollow.face x ≡ K.face x
+  face_hollow-other x other = face_hollow x ∙ put_other (λ f. f) g n (K.face x) other
 
-  face_P-ring : (x : ℕ) → K.face x ≡ g → P.face x ≡ n
-  face_P-ring x at = face_P x ∙ ap (put (λ f. f) g n) at ∙ put_same (λ f. f) g n
+  face_hollow-ring : (x : ℕ) → K.face x ≡ g → hollow.face x ≡ n
+  face_hollow-ring x at = face_hollow x ∙ ap (put (λ f. f) g n) at ∙ put_same (λ f. f) g n
 
-  live_P : (x : ℕ) → Live K x → x ≢ k → x ≢ h → Live P x
+  live_hollow : (x : ℕ) → Live K x → x ≢ k → x ≢ h → Live hollow x
   unfolding U
-  live_P x l not_k not_h = same_links.edge (x / 2) ∙ away_live K k x l not_k (λ i. not_h (i ∙ turn))
+  live_hollow x l not_k not_h = same_links.edge (x / 2) ∙ away_live K k x l not_k (λ i. not_h (i ∙ turn))
 
-  was_live : (x : ℕ) → Live P x → Live U x
+  was_live : (x : ℕ) → Live hollow x → Live U x
   was_live x l = sym (same_links.edge (x / 2)) ∙ l
 
   item : (y : ℕ) → 0 < count_of y (b ∷ rest) → Live K y × (K.face y ≡ g)
@@ -177,39 +175,39 @@ module _ (S K : Map) (h : ℕ) (ks : List ℕ) (b : ℕ) (rest : List ℕ) (g n 
   not_h : (y : ℕ) → 0 < count_of y (b ∷ rest) → y ≢ h
   not_h y found i = let there : 0 < count_of h (b ∷ rest) = subst (λ z. 0 < count_of z (b ∷ rest)) i found in omega (arith, there, m.once)
 
-  ring_step : (p q : ℕ) → 0 < count_of p (b ∷ rest) → 0 < count_of q rest → Follows K g p q → Follows P n p q
+  ring_step : (p q : ℕ) → 0 < count_of p (b ∷ rest) → 0 < count_of q rest → Follows K g p q → Follows hollow n p q
   ring_step p q p_in q_in link =
-      follows P keeps_P.0 n p q (live_P p link.live (not_k p p_in) (not_h p p_in))
+      follows hollow keeps_hollow.0 n p q (live_hollow p link.live (not_k p p_in) (not_h p p_in))
       (same_links.next p
       ∙ gone_k.next_other p (λ i. not_k q (omega (arith, q_in)) (sym link.next ∙ ap K.next i ∙ m.sound.next-prev k live_k))
       ∙ link.next)
-      (face_P-ring p link.face)
+      (face_hollow-ring p link.face)
 
-  ring_end : (p : ℕ) → 0 < count_of p (b ∷ rest) → Follows K g p k → Follows P n p b
+  ring_end : (p : ℕ) → 0 < count_of p (b ∷ rest) → Follows K g p k → Follows hollow n p b
   ring_end p p_in link =
-      follows P keeps_P.0 n p b (live_P p link.live (not_k p p_in) (not_h p p_in))
+      follows hollow keeps_hollow.0 n p b (live_hollow p link.live (not_k p p_in) (not_h p p_in))
       (same_links.next p ∙ ap U.next (sym link.prev) ∙ gone_k.next_before ∙ next_h)
-      (face_P-ring p link.face)
+      (face_hollow-ring p link.face)
 
-  around : IsCycle (Follows P n) (b ∷ rest)
-  around = Path-changed (Follows K g) (Follows P n) b rest k b ring_step ring_end m.path.1
+  around : IsCycle (Follows hollow n) (b ∷ rest)
+  around = Path-changed (Follows K g) (Follows hollow n) b rest k b ring_step ring_end m.path.1
 
   -- the faces that are kept
-  keeps_K : (f : ℕ) → f ≢ n → f ≢ g → KeepsFace K P f
+  keeps_K : (f : ℕ) → f ≢ n → f ≢ g → KeepsFace K hollow f
   keeps_K f off_n off_g = record {
     comes = λ x l at. (
       (live_U x (was_live x l)).0,
       elim (cases_eq (K.face x) g) [
-        | inl same ↦ absurd (off_n (sym at ∙ face_P-ring x same))
-        | inr other ↦ sym (face_P-other x other) ∙ at
+        | inl same ↦ absurd (off_n (sym at ∙ face_hollow-ring x same))
+        | inr other ↦ sym (face_hollow-other x other) ∙ at
       ],
     );
-    live = λ x l at. live_P x l (λ i. off_g (sym at ∙ ap K.face i ∙ m.close.face)) (λ i. off_g (sym at ∙ ap K.face i ∙ m.path.0.face));
+    live = λ x l at. live_hollow x l (λ i. off_g (sym at ∙ ap K.face i ∙ m.close.face)) (λ i. off_g (sym at ∙ ap K.face i ∙ m.path.0.face));
     next = λ x l at.
         same_links.next x
         ∙ gone_k.next_other x (λ i. off_g (sym at ∙ sym ((face_cycles K m.sound).along x l) ∙ ap K.face (ap K.next i ∙ m.sound.next-prev k live_k) ∙ m.close.face));
     prev = λ x l at. same_links.prev x ∙ gone_k.prev_other x (λ i. off_g (sym at ∙ ap K.face (i ∙ next_h) ∙ (item b (omega (arith, count-same b rest))).1));
-    face = λ x l at. face_P-other x (λ i. off_g (sym at ∙ i)) ∙ at;
+    face = λ x l at. face_hollow-other x (λ i. off_g (sym at ∙ i)) ∙ at;
   }
 
   untouched : (f : ℕ) → ((x : ℕ) → 0 < count_of x (h ∷ ks) → S.face x ≢ f) → Untouched S (S.face h) ks f
@@ -221,16 +219,16 @@ module _ (S K : Map) (h : ℕ) (ks : List ℕ) (b : ℕ) (rest : List ℕ) (g n 
       let old = (o.keeps_face f u).comes h m.path.0.live (m.path.0.face ∙ sym i) in
       u.off (sym old.1)
 
-  pub hole : HoleOf S P (h ∷ ks) (b ∷ rest) n
-  hole = record {
-    sound = keeps_P.0;
-    sphere = keeps_P.1;
+  pub is_hollow : HoleOf S hollow (h ∷ ks) (b ∷ rest) n
+  is_hollow = record {
+    sound = keeps_hollow.0;
+    sphere = keeps_hollow.1;
     cycle = around;
     origin = λ x. same_links.origin x ∙ gone_k.origin x ∙ o.origin x;
     gone = λ x found. elim (first_or_later x h ks found) [
-      | inl same ↦ ap (λ z. P.edge (z / 2)) same ∙ same_links.edge (h / 2) ∙ ap U.edge (sym (rev_half h)) ∙ gone_k.edge_here
+      | inl same ↦ ap (λ z. hollow.edge (z / 2)) same ∙ same_links.edge (h / 2) ∙ ap U.edge (sym (rev_half h)) ∙ gone_k.edge_here
       | inr later ↦ elim (cases_eq (x / 2) (k / 2)) [
-        | inl half ↦ ap P.edge half ∙ same_links.edge (k / 2) ∙ gone_k.edge_here
+        | inl half ↦ ap hollow.edge half ∙ same_links.edge (k / 2) ∙ gone_k.edge_here
         | inr other ↦ same_links.edge (x / 2) ∙ gone_k.edge_other (x / 2) other ∙ o.gone x later
       ]
     ];
@@ -242,17 +240,30 @@ module _ (S K : Map) (h : ℕ) (ks : List ℕ) (b : ℕ) (rest : List ℕ) (g n 
     faces = omega (arith, same_links.faces, gone_k.faces, o.faces);
     keeps_face = λ f off away.
         let u = untouched f away in
-        keeps_face-then S K P f (o.keeps_face f u) (keeps_K f off (merged_off f u));
+        keeps_face-then S K hollow f (o.keeps_face f u) (keeps_K f off (merged_off f u));
     cases = λ x l.
         let lives = (live_U x (was_live x l)).0 in
         elim (cases_eq (K.face x) g) [
-          | inl same ↦ inl (face_P-ring x same)
+          | inl same ↦ inl (face_hollow-ring x same)
           | inr other ↦ elim (o.cases x lives) [
             | inl at ↦ absurd (other at)
             | inr u ↦ inr (λ y found at. elim (first_or_later y h ks found) [
-              | inl same ↦ u.off (sym (face_P-other x other) ∙ sym at ∙ ap S.face same)
-              | inr later ↦ u.away y later (at ∙ face_P-other x other)
+              | inl same ↦ u.off (sym (face_hollow-other x other) ∙ sym at ∙ ap S.face same)
+              | inr later ↦ u.away y later (at ∙ face_hollow-other x other)
             ])
           ]
         ];
   }
+
+-- the same where n is no number of a face yet
+module _ (S K : Map) (h : ℕ) (ks : List ℕ) (b : ℕ) (rest : List ℕ) (g n : ℕ) (o : Opened S K (S.face h) h ks (b ∷ rest) g)
+    (sound : Sound S) (live : Live S h) (above : S.faces ≤ n) where
+  free : (x : ℕ) → Live K x → K.face x ≢ g → K.face x ≢ n
+  free x l other at = let below = o.merged.sound.below_faces x l in omega (arith, below, o.faces, above, at)
+
+  pub P : Map
+  P = hollow S K h ks b rest g n o free
+
+  pub hole : HoleOf S P (h ∷ ks) (b ∷ rest) n
+  unfolding P
+  hole = is_hollow S K h ks b rest g n o free
