@@ -1,4 +1,11 @@
 -- Removals: what is given up, what it leaves, and that a mesh comes of it.
+pub mod Corners
+pub mod Eared
+pub mod Ears
+pub mod Fans
+pub mod Filled
+pub mod FilledMeshes
+pub mod Hiding
 pub mod Holes
 pub mod Spokes
 pub mod StripSpokes
