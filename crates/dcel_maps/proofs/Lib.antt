@@ -1,4 +1,3 @@
-pub mod Hiding
 pub mod Liveness
 pub mod Shown
 pub mod edits

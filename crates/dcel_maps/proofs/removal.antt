@@ -8,6 +8,7 @@ pub mod FilledMeshes
 pub mod Hiding
 pub mod Holes
 pub mod Spokes
+pub mod StripShapes
 pub mod StripSpokes
 pub mod Tips
 pub mod Without
