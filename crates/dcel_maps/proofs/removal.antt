@@ -8,6 +8,8 @@ pub mod FilledMeshes
 pub mod Hiding
 pub mod Holes
 pub mod Spokes
+pub mod StripItems
+pub mod StripMeshes
 pub mod StripShapes
 pub mod StripSpokes
 pub mod Tips

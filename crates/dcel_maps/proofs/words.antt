@@ -1,5 +1,6 @@
 pub mod Ascending
 pub mod Counts
+pub mod EachSet
 pub mod Mapped
 pub mod Paths
 pub mod Becoming
