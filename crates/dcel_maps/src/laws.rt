@@ -5,6 +5,7 @@ ghost use Rattle.dcel_maps.specs.Conditions.{CanFlip};
 ghost use Rattle.dcel_maps.specs.edits.Flip.{GoesRound};
 ghost use Rattle.dcel_maps.specs.edits.Rename.{vertices_swapped};
 ghost use Rattle.dcel_maps.specs.Examples.{FillsSquare, FillsTriangle, GoesFromHoleToHole, IsRingFrom, gathered, inside_triangle, on_edge, scattered, two_triangles};
+ghost use Rattle.dcel_maps.specs.PathExamples.{BothGone, EndGone, MiddleGone};
 ghost use Rattle.dcel_maps.specs.Renumbering.{cleaned_up, vertex_taken_out};
 ghost use Rattle.dcel_maps.specs.Shapes.{IsMesh, IsSphere, Mesh, vertex_is_live};
 ghost use Rattle.dcel_maps.specs.StripExamples.{CornerCut, CornerOfThreeCut, EndCut};
@@ -55,4 +56,12 @@ pub fn the_last_goes_from_hole_to_hole()
 /// A removal closed: a triangle with an edge, a face and a vertex given up becomes one without them.
 pub fn a_scattered_triangle_is_gathered()
     ensures { vertex_taken_out (cleaned_up scattered) 1 ≡ gathered }
+{}
+
+/// What is left of three degenerate meshes once a vertex is removed: of a line without an end, of two vertices without one and then without
+/// the other, and of a line without a vertex in its middle.
+pub fn vertices_of_lines_are_removed()
+    ensures end { EndGone }
+    ensures both { BothGone }
+    ensures middle { MiddleGone }
 {}
