@@ -7,6 +7,7 @@ pub mod Filled
 pub mod FilledMeshes
 pub mod Hiding
 pub mod Holes
+pub mod Paths
 pub mod Spokes
 pub mod StripItems
 pub mod StripMeshes
