@@ -7,6 +7,8 @@ pub mod Filled
 pub mod FilledMeshes
 pub mod Hiding
 pub mod Holes
+pub mod PathCuts
+pub mod PathEdits
 pub mod Paths
 pub mod Spokes
 pub mod StripItems
