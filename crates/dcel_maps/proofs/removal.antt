@@ -9,6 +9,7 @@ pub mod Hiding
 pub mod Holes
 pub mod PathCuts
 pub mod PathEdits
+pub mod PathMiddles
 pub mod Paths
 pub mod Spokes
 pub mod StripItems

@@ -16,6 +16,7 @@ pub mod Standing
 pub mod Cuts
 pub mod HalfSplits
 pub mod Faces
+pub mod Straightened
 pub mod Triangles
 pub mod Cyclic
 pub mod Renames

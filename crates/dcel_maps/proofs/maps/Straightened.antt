@@ -4,6 +4,7 @@ use Rattle.std.proofs.lemmas.Bool.{cases_eq}
 use Rattle.dcel_fixed.specs.HalfEdges.{rev}
 use Rattle.dcel_maps.specs.Maps.{By, Live, Map, ccw}
 use Rattle.dcel_maps.specs.theory.Sound.{Sound, Sphere}
+use Rattle.dcel_maps.specs.theory.Standing.{Follows}
 use Rattle.dcel_maps.proofs.maps.Edits.{Subdivide, first_part, last_part}
 use Rattle.dcel_maps.proofs.maps.Halves.{rev-rev, rev_differs, rev_or_same}
 use Rattle.dcel_maps.proofs.maps.Reaching.{reaches_stays}
@@ -69,18 +70,18 @@ module _ (T : Map) (h k : ℕ) (t : Sound T) (e : StraightensAt T h k) where
   g≢j is = h≢k (sym (rev-rev h) ∙ ap rev is ∙ rev-rev k)
 
   -- the links of what is left
-  record Left : Type 0 where
-    edge_here : S.edge (k / 2) ≡ false
-    edge_other : (u : ℕ) → u ≢ k / 2 → S.edge u ≡ T.edge u
-    next : (x : ℕ) → S.next x ≡ whole h k (T.next (last x))
-    prev : (x : ℕ) → S.prev x ≡ whole h k (T.prev (first x))
-    origin : (x : ℕ) → S.origin x ≡ T.origin (first x)
-    face : (x : ℕ) → S.face x ≡ T.face x
-    vertices : S.vertices ≡ T.vertices
-    edges : S.edges ≡ T.edges
-    faces : S.faces ≡ T.faces
+  pub record Left : Type 0 where
+    pub edge_here : S.edge (k / 2) ≡ false
+    pub edge_other : (u : ℕ) → u ≢ k / 2 → S.edge u ≡ T.edge u
+    pub next : (x : ℕ) → S.next x ≡ whole h k (T.next (last x))
+    pub prev : (x : ℕ) → S.prev x ≡ whole h k (T.prev (first x))
+    pub origin : (x : ℕ) → S.origin x ≡ T.origin (first x)
+    pub face : (x : ℕ) → S.face x ≡ T.face x
+    pub vertices : S.vertices ≡ T.vertices
+    pub edges : S.edges ≡ T.edges
+    pub faces : S.faces ≡ T.faces
 
-  left : Left
+  pub left : Left
   unfolding straightened
   left = record {
     edge_here = put_same T.edge (k / 2) false;
@@ -213,6 +214,16 @@ module _ (T : Map) (h k : ℕ) (t : Sound T) (e : StraightensAt T h k) where
     faces = sym left.faces;
   }
 
+  whole_lives : (p : ℕ) → p ≢ rev k → Live T p → Live S (whole h k p) × (S.face (whole h k p) ≡ T.face p)
+  whole_lives p not_j live = elim (cases_eq p k) [
+    | inl is ↦
+        let at : whole h k p ≡ h = ap (whole h k) is ∙ stand_in-h k h (rev h) in
+        (subst (Live S) (sym at) live_h, left.face (whole h k p) ∙ ap T.face at ∙ sym face_k ∙ ap T.face (sym is))
+    | inr other ↦
+        let at = whole-other h k p other not_j in
+        (subst (Live S) (sym at) (still_live p live other not_j), left.face (whole h k p) ∙ ap T.face at)
+  ]
+
   whole_apart : (z : ℕ) → (whole h k z ≢ k) × (whole h k z ≢ rev k)
   whole_apart z = elim (cases_eq z k) [
     | inl is ↦
@@ -239,3 +250,16 @@ module _ (T : Map) (h k : ℕ) (t : Sound T) (e : StraightensAt T h k) where
 
   pub straightened_keeps : Sphere T → Sound S × Sphere S
   straightened_keeps sphere = unsubdivide_keeps S T h k (T.origin k) unsubdivides t sphere
+
+  -- a link that comes from neither h nor the other half of k
+  pub straightened_follows : Sound S → (f p q : ℕ) → p ≢ h → p ≢ rev k → Follows T f p q → Follows S f (whole h k p) (whole h k q)
+  straightened_follows sound f p q not_h not_j link =
+      let next : S.next (whole h k p) ≡ whole h k q =
+      left.next (whole h k p) ∙ ap (λ z. whole h k (T.next z)) (last-whole p not_h not_j) ∙ ap (whole h k) link.next in
+      let (live, face) = whole_lives p not_j link.live in
+      record {
+        live = live;
+        next = next;
+        prev = ap S.prev (sym next) ∙ sound.prev-next (whole h k p) live;
+        face = face ∙ link.face;
+      }
