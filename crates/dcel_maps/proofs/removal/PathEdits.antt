@@ -40,7 +40,7 @@ pub record IsStandIn (s : Shape) (w : ℕ) (r : Option ℕ) : Type 0 where
 
 module _ (s : Shape) (sound : IsSound s) (sphere : IsSphere s) (path : IsPath s) (closed : s.removal ≡ Closed)
     (long : length s.origins ≡ 2 * s.edges) (v a : ℕ) (within : v < s.vertices) (out : IsOutEdge s v a) where
-  abbrev T : Map
+  abbrev pub T : Map
   T = map_of s
 
   abbrev b : ℕ
@@ -79,7 +79,7 @@ module _ (s : Shape) (sound : IsSound s) (sphere : IsSphere s) (path : IsPath s)
 
   -- two vertices: nothing is left
   module _ (few : s.vertices ≡ 2) where
-    abbrev nothing : Map
+    abbrev pub nothing : Map
     nothing = record T { edge = λ u. false }
 
     one_edge : (u : ℕ) → edge_is_live s u ≡ true → u ≡ b / 2
