@@ -5,6 +5,7 @@ pub mod Ears
 pub mod Fans
 pub mod Filled
 pub mod FilledMeshes
+pub mod GivenUp
 pub mod Hiding
 pub mod Holes
 pub mod Spokes
