@@ -1,6 +1,6 @@
 -- A border loop, sector by sector: each of its half edges lies opposite an out edge, and turning leads from one of these to the next.
-use Rattle.std.proofs.Common.{◌≡◌, ◌≢◌, inl, inr, ℕ, ◌<◌, ◌≤◌, true, List, [], ◌∷◌, drop, length, map, reverse, slice_index, refl, sym, ap, ◌∙◌, subst, arith}
-use Rattle.std.proofs.lemmas.List.{length-reverse}
+use Rattle.std.proofs.Common.{◌≡◌, ◌≢◌, ◌↔◌, inl, inr, ℕ, ◌<◌, true, List, [], ◌∷◌, ◌++◌, drop, length, map, reverse, slice_index, refl, sym, ap, ◌∙◌, subst, arith}
+use Rattle.std.proofs.lemmas.List.{length-reverse, nil_from_length, reverse-append}
 use Rattle.dcel_maps.specs.Borders.{IsBorderLoop, StartsAlone}
 use Rattle.dcel_maps.specs.Conditions.{IsTriangle}
 use Rattle.dcel_maps.specs.Maps.{By}
@@ -8,30 +8,12 @@ use Rattle.dcel_maps.specs.Shapes.{IsLive, IsSound, Shape, face_of, next_of, ori
 use Rattle.dcel_maps.specs.Walking.{IsOutEdge, ccw_of, walk_of}
 use Rattle.dcel_maps.specs.Words.{count_of}
 use Rattle.dcel_maps.specs.theory.Cycles.{Path}
+use Rattle.dcel_maps.specs.theory.Sectors.{IsRingRound, IsSector, Sectors}
 use Rattle.dcel_maps.proofs.walks.Links.{ccw-lawful, links_lawful}
 use Rattle.dcel_maps.proofs.walks.Turning.{walk-out_edges}
 use Rattle.dcel_maps.proofs.walks.UnderWay.{walk-round}
 use Rattle.dcel_maps.proofs.words.Counts.{absent_head, count-later, count-none, count-same, first_or_later}
 use Rattle.dcel_maps.proofs.words.Mapped.{count-mapped, mapped_from}
-
--- x comes after h, which lies on an inner triangle
-pub record IsSector (s : Shape) (h x : ℕ) : Type 0 where
-  pub after : next_of s h ≡ x
-  pub inner : 0 < face_of s h
-  pub triangle : IsTriangle s (face_of s h)
-
--- turning leads from h to e, through sectors with these half edges, none of which starts at `apex`
-abbrev pub Sectors : Shape → ℕ → ℕ → List ℕ → ℕ → Type 0
-Sectors s apex h [] e = h ≡ e
-Sectors s apex h (x ∷ r) e = IsSector s h x × (origin_of s x ≢ apex) × Sectors s apex (ccw_of s h) r e
-
--- a ring round v, (x, r)
-pub record IsRingRound (s : Shape) (v x : ℕ) (r : List ℕ) : Type 0 where
-  pub live : IsLive s x
-  pub center : origin_of s (prev_of s x) ≡ v
-  pub many : 2 ≤ length r
-  pub first : IsSector s (prev_of s x) x
-  pub others : Sectors s (origin_of s x) (ccw_of s (prev_of s x)) r (prev_of s x)
 
 -- two paths of a function to the first return are one
 same_path : (f : ℕ → ℕ) (x e : ℕ) (r u : List ℕ) → Path (By f) x r e → Path (By f) x u e → count_of e r ≡ 0 → count_of e u ≡ 0 → r ≡ u
@@ -133,3 +115,41 @@ module _ (s : Shape) (sound : IsSound s) (border : List ℕ) (v x : ℕ) (r : Li
             let (k, there, is) = mapped_from (next_of s) seen.rest y (rw seen.ring at found) in
             (seen.sectors k there).1 (ap (origin_of s) is ∙ at));
       }
+
+-- under way round a ring: `left` is still to come, and is read from its end
+pub record GoesRound (s : Shape) (apex first : ℕ) (others : List ℕ) (now : ℕ) (left : List ℕ) : Type 0 where
+  pub live : IsLive s now
+  pub same : Sectors s apex now (reverse left) first ↔ Sectors s apex (ccw_of s first) (reverse others) first
+
+pub round_begins : (s : Shape) → IsSound s → (apex first : ℕ) (others : List ℕ) → IsLive s first → GoesRound s apex first others (ccw_of s first) others
+round_begins s sound apex first others live = record { live = (ccw-lawful sound).stays first live; same = (λ is. is, λ is. is) }
+
+module _ (s : Shape) (apex first : ℕ) (others : List ℕ) (now : ℕ) (left : List ℕ) (on : GoesRound s apex first others now left) where
+  -- it ends where nothing is left
+  pub round_ends : length left ≡ 0 → (now ≡ first) ↔ Sectors s apex (ccw_of s first) (reverse others) first
+  round_ends none = subst (λ (w : List ℕ). Sectors s apex now (reverse w) first ↔ Sectors s apex (ccw_of s first) (reverse others) first) (nil_from_length left none) on.same
+
+  module _ (edge : ℕ) (before : List ℕ) (parts : left ≡ before ++ edge ∷ []) where
+    turned : reverse left ≡ edge ∷ reverse before
+    turned = ap reverse parts ∙ reverse-append before (edge ∷ [])
+
+    -- goes on by a sector
+    pub round_goes_on : IsSound s → IsSector s now edge → origin_of s edge ≢ apex → GoesRound s apex first others (ccw_of s now) before
+    round_goes_on sound sector apart = record {
+      live = (ccw-lawful sound).stays now on.live;
+      same = (
+        λ rest. on.same.0 (subst (λ w. Sectors s apex now w first) (sym turned) (sector, apart, rest)),
+        λ whole. (subst (λ w. Sectors s apex now w first) turned (on.same.1 whole)).2,
+      );
+    }
+
+    -- and stops at anything else
+    pub round_sector : Sectors s apex (ccw_of s first) (reverse others) first → IsSector s now edge × (origin_of s edge ≢ apex)
+    round_sector whole = let all = subst (λ w. Sectors s apex now w first) turned (on.same.1 whole) in (all.0, all.1)
+
+-- a list that ends with `last` is a border loop just where it is a ring from there
+pub loop_iff-ring : (s : Shape) → IsSound s → (border others : List ℕ) (v last : ℕ) → border ≡ others ++ last ∷ []
+    → IsBorderLoop s border v ↔ IsRingRound s v last (reverse others)
+loop_iff-ring s sound border others v last parts =
+    let reads : reverse border ≡ last ∷ reverse others = ap reverse parts ∙ reverse-append others (last ∷ []) in
+    (ring_of-loop s sound border v last (reverse others) reads, loop_of-ring s sound border v last (reverse others) reads)
