@@ -6,12 +6,14 @@ pub mod Ears
 pub mod Fans
 pub mod Filled
 pub mod FilledMeshes
+pub mod GivenUp
 pub mod Hiding
 pub mod Holes
 pub mod PathCuts
 pub mod PathEdits
 pub mod PathMiddles
 pub mod Paths
+pub mod Sectors
 pub mod Spokes
 pub mod StripItems
 pub mod StripMeshes

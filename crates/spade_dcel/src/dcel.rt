@@ -10,6 +10,7 @@ ghost use Rattle.dcel_maps.specs.Shapes.{IsLive, vertex_is_live, edge_is_live, f
 ghost use Rattle.dcel_maps.specs.Walking.{Leads, edge_between};
 ghost use Rattle.dcel_maps.specs.Words.{word_of};
 
+mod borders;
 mod data;
 mod elements;
 mod whole;
@@ -447,7 +448,7 @@ impl<V, DE, UE, F, A: Allocator> Dcel<V, DE, UE, F, A> {
 
     // Whether the word of a half edge has three items.
     #[inline]
-    fn is_on_triangle(&self, handle: FixedDirectedEdgeHandle) -> bool
+    pub(crate) fn is_on_triangle(&self, handle: FixedDirectedEdgeHandle) -> bool
         requires { IsLive self.now.shape handle }
         ensures { IsTrue result ↔ (length (word_of self.now.shape.words (face_of self.now.shape handle)) ≡ 3) }
     {

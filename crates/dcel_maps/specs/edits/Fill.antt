@@ -1,10 +1,12 @@
 -- The opening of a removal by filling the hole: what is given up leaves a ring, which is cut into triangles. Before the call there are m
 -- undirected edges; a new edge m has the half edges 2m and 2m + 1. Whatever an edit doesn't name stays as it was.
-use Rattle.std.specs.Prelude.{ℕ, suc, ◌+◌, ◌*◌, List, [], ◌∷◌, ◌++◌, length, reverse, slice_set, Option, Some}
+use Rattle.std.specs.Prelude.{ℕ, suc, ◌+◌, ◌*◌, ◌/◌, List, [], ◌∷◌, ◌++◌, length, map, reverse, slice_set, Option, Some}
+use Rattle.dcel_maps.specs.Borders.{center_of}
 use Rattle.dcel_maps.specs.Cyclic.{from_least}
 use Rattle.dcel_maps.specs.Hiding.{kept_words, kept_vertex_anchors, kept_face_anchors}
-use Rattle.dcel_maps.specs.Removals.{Removal, gives_up_edge, shown}
-use Rattle.dcel_maps.specs.Shapes.{Mesh, origin_of}
+use Rattle.dcel_maps.specs.Removals.{Removal, gives_up_edge, opened, shown}
+use Rattle.dcel_maps.specs.Shapes.{Mesh, face_of, origin_of}
+use Rattle.dcel_maps.specs.Walking.{out_edges_of}
 
 -- The ears of a ring (p, q, r, ..): the new edge m cuts off (p, q, 2m), and its other half leads the ring that is left,
 -- (2m + 1, r, ..), which the next edge cuts; a ring of three is the last ear.
@@ -57,3 +59,18 @@ module _ {V DE UE F : Type 0} where
 
   abbrev pub border_filled : Mesh V DE UE F → Removal → List ℕ → List DE → List UE → List F → Mesh V DE UE F
   border_filled mesh removal border = loop_filled mesh removal (reverse border)
+
+  -- the edges at v and the faces round it, in the order of its out edges
+  abbrev pub edges_at : Mesh V DE UE F → ℕ → List ℕ
+  edges_at mesh v = map (λ h. h / 2) (out_edges_of mesh v)
+
+  abbrev pub faces_at : Mesh V DE UE F → ℕ → List ℕ
+  faces_at mesh v = map (face_of mesh.shape) (out_edges_of mesh v)
+
+  -- `isolate_vertex_and_fill_hole`: v is given up with these
+  abbrev pub hole_filled : Mesh V DE UE F → ℕ → List ℕ → List DE → List UE → List F → Mesh V DE UE F
+  hole_filled mesh v border = border_filled mesh (opened (edges_at mesh v) (faces_at mesh v) v) border
+
+  -- `remesh_edge_ring`: the vertex inside the ring is given up with these edges and faces
+  abbrev pub ring_remeshed : Mesh V DE UE F → List ℕ → List ℕ → List ℕ → List DE → List UE → List F → Mesh V DE UE F
+  ring_remeshed mesh border gone_edges gone_faces = border_filled mesh (opened gone_edges gone_faces (center_of mesh.shape border)) border
