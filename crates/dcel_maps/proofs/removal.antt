@@ -17,6 +17,7 @@ pub mod Sectors
 pub mod Spokes
 pub mod StripItems
 pub mod StripMeshes
+pub mod StripSectors
 pub mod StripShapes
 pub mod StripSpokes
 pub mod Tips
