@@ -16,6 +16,7 @@ pub mod Paths
 pub mod Sectors
 pub mod Spokes
 pub mod StripItems
+pub mod StripLinks
 pub mod StripMeshes
 pub mod StripSectors
 pub mod StripShapes

@@ -10,10 +10,13 @@ pub record IsOutPair (s : Shape) (v h k : ℕ) : Type 0 where
   pub second : IsOutEdge s v k
   pub only : (x : ℕ) → IsOutEdge s v x → (x ≡ h) ⊎ (x ≡ k)
 
+abbrev pub HasFewOutEdges : Shape → ℕ → Type 0
+HasFewOutEdges s v = (h : ℕ) × (k : ℕ) × IsOutPair s v h k
+
 -- one face, and one or two out edges at each vertex
 pub record IsPath (s : Shape) : Type 0 where
   pub one_face : face_count s ≡ 1
-  pub few : (v : ℕ) → v < s.vertices → (h : ℕ) × (k : ℕ) × IsOutPair s v h k
+  pub few : (v : ℕ) → v < s.vertices → HasFewOutEdges s v
 
 -- no removal is open, and v is the only vertex, or one of a path
 pub record CanRemoveDegenerate (s : Shape) (v : ℕ) : Type 0 where

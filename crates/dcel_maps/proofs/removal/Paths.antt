@@ -1,8 +1,8 @@
 -- A path: a sound sphere with one or two out edges at each vertex.
-use Rattle.std.proofs.Common.{◌≡◌, ◌≢◌, ◌⊎◌, inl, inr, ◌+◌, ◌<◌, ℕ, zero, suc, Bool, true, sym, refl, ap, ◌∙◌, subst, arith}
+use Rattle.std.proofs.Common.{◌≡◌, ◌≢◌, ◌↔◌, ◌⊎◌, inl, inr, ◌+◌, ◌<◌, ℕ, zero, suc, Bool, true, sym, refl, ap, ◌∙◌, subst, arith}
 use Rattle.std.proofs.lemmas.Bool.{cases_eq}
 use Rattle.dcel_fixed.specs.HalfEdges.{rev}
-use Rattle.dcel_maps.specs.Degenerate.{IsPath}
+use Rattle.dcel_maps.specs.Degenerate.{HasFewOutEdges, IsOutPair, IsPath}
 use Rattle.dcel_maps.specs.Maps.{By, Map, NextOrRev, ccw, count, starts_edge}
 use Rattle.dcel_maps.specs.Removals.{Closed, gives_up_face}
 use Rattle.dcel_maps.specs.Shapes.{IsLive, IsSound, IsSphere, Shape, edge_is_live, end_of, face_count, face_is_live, map_of, next_of, origin_of, prev_of}
@@ -14,6 +14,50 @@ use Rattle.dcel_maps.proofs.maps.Halves.{rev-rev}
 use Rattle.dcel_maps.proofs.maps.Reaching.{reaches_stays}
 use Rattle.dcel_maps.proofs.maps.Soundness.{ccw_live, rev_live, same_origin_reaches, vertex_cycles}
 use Rattle.dcel_maps.proofs.shapes.Maps.{map-sound}
+
+-- v has one or two out edges just where turning twice leads from one of them to itself
+module _ (s : Shape) (sound : IsSound s) (v a : ℕ) (out : IsOutEdge s v a) where
+  map_sound : Sound (map_of s)
+  map_sound = map-sound sound
+
+  turned_pair : (x : ℕ) → IsOutEdge s v x → IsOutEdge s v (ccw_of s x)
+  unfolding ccw
+  turned_pair x o = record { live = ccw_live (map_of s) map_sound x o.live; start = (vertex_cycles (map_of s) map_sound).along x o.live ∙ o.start }
+
+  apart_turned : (x y : ℕ) → IsLive s x → IsLive s y → ccw_of s x ≡ ccw_of s y → x ≡ y
+  apart_turned x y live_x live_y same =
+      let back : prev_of s x ≡ prev_of s y = sym (rev-rev (prev_of s x)) ∙ ap rev same ∙ rev-rev (prev_of s y) in
+      sym (map_sound.next-prev x live_x) ∙ ap (next_of s) back ∙ map_sound.next-prev y live_y
+
+  pub pair_returns : HasFewOutEdges s v → ccw_of s (ccw_of s a) ≡ a
+  pair_returns (h, k, pair) =
+      let b = ccw_of s a in
+      let c = ccw_of s b in
+      let out_b = turned_pair a out in
+      let at_a = pair.only a out in
+      let at_b = pair.only b out_b in
+      let at_c = pair.only c (turned_pair b out_b) in
+      elim (cases_eq a b) [
+        | inl same ↦ ap (ccw_of s) (sym same) ∙ sym same
+        | inr other ↦ elim (cases_eq c b) [
+          | inl i ↦ absurd (other (sym (apart_turned b a out_b.live out.live i)))
+          | inr d ↦ grind arith
+        ]
+      ]
+
+  pub returned_pair : ccw_of s (ccw_of s a) ≡ a → IsOutPair s v a (ccw_of s a)
+  unfolding ccw
+  returned_pair back = record {
+    first = out;
+    second = turned_pair a out;
+    only = λ x o.
+        reaches_stays (By (ccw (map_of s))) (λ z. (z ≡ a) ⊎ (z ≡ ccw_of s a))
+        (λ y z i r. elim i [ inl j ↦ inr (sym r ∙ ap (ccw_of s) j) | inr j ↦ inl (sym r ∙ ap (ccw_of s) j ∙ back) ])
+        (inl refl) (same_origin_reaches (map_of s) map_sound a x out.live o.live (out.start ∙ sym o.start));
+  }
+
+  pub few_iff : (ccw_of s (ccw_of s a) ≡ a) ↔ HasFewOutEdges s v
+  few_iff = (λ back. (a, ccw_of s a, returned_pair back), pair_returns)
 
 -- a test that all numbers below n pass
 pub count_all : (p : ℕ → Bool) (n : ℕ) → ((k : ℕ) → k < n → p k ≡ true) → count p n ≡ n
@@ -70,41 +114,16 @@ module _ (s : Shape) (sound : IsSound s) (sphere : IsSphere s) (path : IsPath s)
     abbrev pub b : ℕ
     b = ccw_of s a
 
-    turned : (x : ℕ) → IsOutEdge s v x → IsOutEdge s v (ccw_of s x)
-    unfolding ccw
-    turned x o = record { live = ccw_live M t x o.live; start = (vertex_cycles M t).along x o.live ∙ o.start }
-
     pub out_b : IsOutEdge s v b
-    out_b = turned a out
-
-    ccw_apart : (x y : ℕ) → IsLive s x → IsLive s y → ccw_of s x ≡ ccw_of s y → x ≡ y
-    ccw_apart x y live_x live_y same =
-        let back : prev_of s x ≡ prev_of s y = sym (rev-rev (prev_of s x)) ∙ ap rev same ∙ rev-rev (prev_of s y) in
-        sym (t.next-prev x live_x) ∙ ap (next_of s) back ∙ t.next-prev y live_y
+    out_b = turned_pair s sound v a out a out
 
     -- and the one after that is a again
     pub ccw_b : ccw_of s b ≡ a
-    ccw_b =
-        let (h, k, pair) = path.few v within in
-        let c = ccw_of s b in
-        let at_a = pair.only a out in
-        let at_b = pair.only b out_b in
-        let at_c = pair.only c (turned b out_b) in
-        elim (cases_eq a b) [
-          | inl same ↦ ap (ccw_of s) (sym same) ∙ sym same
-          | inr other ↦ elim (cases_eq c b) [
-            | inl i ↦ absurd (other (sym (ccw_apart b a out_b.live out.live i)))
-            | inr d ↦ grind arith
-          ]
-        ]
+    ccw_b = pair_returns s sound v a out (path.few v within)
 
     -- so v has the out edges a and b alone
     pub only_two : (x : ℕ) → IsOutEdge s v x → (x ≡ a) ⊎ (x ≡ b)
-    unfolding ccw
-    only_two x o =
-        reaches_stays (By (ccw M)) (λ z. (z ≡ a) ⊎ (z ≡ b))
-        (λ y z i r. elim i [ inl j ↦ inr (sym r ∙ ap (ccw_of s) j) | inr j ↦ inl (sym r ∙ ap (ccw_of s) j ∙ ccw_b) ])
-        (inl refl) (same_origin_reaches M t a x out.live o.live (out.start ∙ sym o.start))
+    only_two = (returned_pair s sound v a out ccw_b).only
 
     -- each comes in before the other goes out
     pub prev_a : prev_of s a ≡ rev b

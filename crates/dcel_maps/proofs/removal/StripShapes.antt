@@ -173,7 +173,7 @@ module _ (s : Shape) (sound : IsSound s) (sphere : IsSphere s) (v h : ℕ) (arou
       ((gives.faces f).1 (record { half = x; out = all_out s sound sphere v h around x found; is = at }, inside)))
 
   -- nothing is left on a face that is given up
-  vacant : (f : ℕ) → gives_up_face removal f ≡ true → (x : ℕ) → Live M x → M.face x ≢ f
+  pub vacant : (f : ℕ) → gives_up_face removal f ≡ true → (x : ℕ) → Live M x → M.face x ≢ f
   vacant f given x live at =
       let (on, inside) = (gives.faces f).0 given in
       elim (hole.cases x live) [
