@@ -1,3 +1,4 @@
+pub mod Along
 pub mod FaceWords
 mod Numbers
 pub mod OutEdges
