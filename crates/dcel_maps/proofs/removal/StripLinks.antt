@@ -1,19 +1,26 @@
 -- What a strip cut links: the outer face goes from before the strip along it to its last half edge, and all else stays.
-use Rattle.std.proofs.Common.{◌≡◌, ◌≢◌, ◌⊎◌, inl, inr, ◌/◌, ◌<◌, ◌≤◌, ℕ, false, List, [], ◌∷◌, ◌++◌, sym, refl, ap, ◌∙◌, subst, arith}
+use Rattle.std.proofs.Common.{◌≡◌, ◌≢◌, ◌⊎◌, inl, inr, ◌/◌, ◌<◌, ◌≤◌, ℕ, false, List, [], ◌∷◌, ◌++◌, map, slice_set, sym, refl, ap, ◌∙◌, subst, arith}
 use Rattle.std.proofs.lemmas.Bool.{cases_eq, cases_lt, false_from_ne_true}
+use Rattle.dcel_maps.specs.Cyclic.{from_least}
+use Rattle.dcel_maps.specs.edits.Strip.{but_last, strip_cut, strip_record, strip_word}
+use Rattle.dcel_maps.specs.Hiding.{kept_words}
 use Rattle.dcel_maps.specs.Maps.{Live, Map}
-use Rattle.dcel_maps.specs.Removals.{Closed, Removal, gives_up_face}
-use Rattle.dcel_maps.specs.Shapes.{IsLive, IsSound, IsSphere, Shape, face_count, face_of, map_of, next_of, origin_of, prev_of}
-use Rattle.dcel_maps.specs.Strips.{IsStripAround}
+use Rattle.dcel_maps.specs.Removals.{Closed, Removal, gives_up_edge, gives_up_face, shown}
+use Rattle.dcel_maps.specs.Shapes.{IsLive, IsMesh, IsSound, IsSphere, Mesh, Shape, face_count, face_of, map_of, next_of, origin_of, prev_of}
+use Rattle.dcel_maps.specs.Strips.{IsEdgeStrip, IsStripAround}
 use Rattle.dcel_maps.specs.theory.Cycles.{IsCycle, Path}
 use Rattle.dcel_maps.specs.theory.Standing.{Follows}
 use Rattle.dcel_maps.specs.Words.{count_of, last_of, word_of}
 use Rattle.dcel_maps.proofs.maps.Agreement.{Agrees}
 use Rattle.dcel_maps.proofs.removal.Spokes.{path_item}
+use Rattle.dcel_maps.proofs.removal.StripItems.{strip-is, strip_gives}
+use Rattle.dcel_maps.proofs.removal.StripMeshes.{strip_word-is}
 use Rattle.dcel_maps.proofs.removal.StripShapes.{GivesUpStrip, M, agrees, hole, in_map, items, keeps, ring_once, same_origin, t, vacant, was_live, word-outer, words_stand}
-use Rattle.dcel_maps.proofs.removal.StripSpokes.{OuterWord}
+use Rattle.dcel_maps.proofs.removal.StripSpokes.{OuterWord, outer_word, trip}
+use Rattle.dcel_maps.proofs.shapes.Maps.{map-sound}
 use Rattle.dcel_maps.proofs.words.Counts.{count-append, count-same, first_or_later}
-use Rattle.dcel_maps.proofs.words.Paths.{Path-changed, Path-split}
+use Rattle.dcel_maps.proofs.words.EachSet.{but_last-is, last_of-is}
+use Rattle.dcel_maps.proofs.words.Paths.{Path-changed, Path-split, last_of-leads}
 use Rattle.dcel_maps.proofs.words.Reading.{stands_in_face}
 use Rattle.dcel_maps.proofs.words.Turns.{count-turn, from_least-turn}
 
@@ -193,3 +200,56 @@ module _ (s : Shape) (sound : IsSound s) (sphere : IsSphere s) (v h : ℕ) (arou
             ];
         origin = λ x live. same_origin s sound sphere v h around closed removal gives some_face y r outer x live;
       }
+
+module _ {V DE UE F : Type 0} (m : Mesh V DE UE F) (mesh : IsMesh m) (closed : m.shape.removal ≡ Closed) (v h : ℕ)
+    (strip_around : IsStripAround m.shape v h) (y : ℕ) (r : List ℕ) (outer : OuterWord m.shape mesh.sound mesh.sphere v h strip_around y r) where
+  abbrev es : List ℕ
+  es = map (next_of m.shape) (trip m.shape mesh.sound mesh.sphere v h strip_around).rest
+
+  abbrev whole : List ℕ
+  whole = es ++ next_of m.shape h ∷ []
+
+  gives_whole : GivesUpStrip m.shape v (strip_record m.shape whole)
+  gives_whole = strip_gives m.shape mesh.sound mesh.sphere v h strip_around
+
+  before_is : prev_of m.shape (prev_of m.shape (prev_of m.shape (next_of m.shape h))) ≡ last_of y r
+  before_is =
+      let back : prev_of m.shape (next_of m.shape h) ≡ h = (map-sound mesh.sound).prev-next h strip_around.out.live in
+      let parts = Path-split (Follows (map_of m.shape) (face_of m.shape h)) h (y ∷ r) (prev_of m.shape h) [] h outer.cycle in
+      ap (λ k. prev_of m.shape (prev_of m.shape k)) back
+      ∙ (last_of-leads (Follows (map_of m.shape) (face_of m.shape h)) y r (prev_of m.shape h) parts.0.1).prev
+
+  word : strip_word m.shape whole ≡ from_least (y ∷ r ++ es)
+  word = strip_word-is m mesh v h strip_around closed (strip_record m.shape whole) gives_whole y r outer
+
+  links_whole : CutLinks m.shape (strip_cut m whole).shape (last_of y r) y es
+  links_whole =
+      subst (λ (w : List ℕ). CutLinks m.shape (record m.shape {
+        words = kept_words (strip_record m.shape whole) (slice_set m.shape.words 0 w);
+        origins = shown (gives_up_edge (strip_record m.shape whole)) m.shape.origins;
+        removal = strip_record m.shape whole;
+      }) (last_of y r) y es) (sym word)
+      (cut_links m.shape mesh.sound mesh.sphere v h strip_around closed (strip_record m.shape whole) gives_whole mesh.sized.outer y r outer)
+
+  strip_links_at : (front : List ℕ) (last : ℕ) → front ≡ es → last ≡ next_of m.shape h
+      → CutLinks m.shape (strip_cut m (front ++ last ∷ [])).shape (prev_of m.shape (prev_of m.shape (prev_of m.shape last))) last front
+  strip_links_at front last begin end =
+      subst (λ f. CutLinks m.shape (strip_cut m (f ++ last ∷ [])).shape (prev_of m.shape (prev_of m.shape (prev_of m.shape last))) last f) (sym begin)
+      (subst (λ z. CutLinks m.shape (strip_cut m (es ++ z ∷ [])).shape (prev_of m.shape (prev_of m.shape (prev_of m.shape z))) z es) (sym end)
+      (subst (λ p. CutLinks m.shape (strip_cut m whole).shape p (next_of m.shape h) es) (sym before_is)
+      (subst (λ z. CutLinks m.shape (strip_cut m whole).shape (last_of y r) z es) (sym outer.cycle.0.next) links_whole)))
+
+-- what a strip cut links, in a mesh
+pub strip_links : {V DE UE F : Type 0} (m : Mesh V DE UE F) (items : List ℕ) (last : ℕ) → IsMesh m → m.shape.removal ≡ Closed
+    → IsEdgeStrip m.shape (items ++ last ∷ [])
+    → CutLinks m.shape (strip_cut m (items ++ last ∷ [])).shape (prev_of m.shape (prev_of m.shape (prev_of m.shape last))) last items
+strip_links m front last mesh closed strip =
+    let s = m.shape in
+    let h = strip.half in
+    let v = strip.vertex in
+    let es = map (next_of m.shape) (trip m.shape mesh.sound mesh.sphere strip.vertex strip.half strip.around).rest in
+    let (y, r, outer) = outer_word m.shape mesh.sound mesh.sphere strip.vertex strip.half strip.around in
+    let both : front ++ last ∷ [] ≡ es ++ next_of s h ∷ [] = strip.is ∙ strip-is m.shape mesh.sound mesh.sphere strip.vertex strip.half strip.around in
+    let end : last ≡ next_of s h = sym (last_of-is 0 front last) ∙ ap (last_of 0) both ∙ last_of-is 0 es (next_of s h) in
+    let begin : front ≡ es = sym (but_last-is front last) ∙ ap but_last both ∙ but_last-is es (next_of s h) in
+    strip_links_at m mesh closed v h strip.around y r outer front last begin end

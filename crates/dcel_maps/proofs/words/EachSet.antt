@@ -54,3 +54,16 @@ module _ {A : Type 0} (place : ℕ → ℕ) (value : ℕ → A) where
           )
         ]
       ]
+
+  -- what is put in after the others
+  pub each_set-append : (es : List ℕ) (l : ℕ) (xs : List A) → each_set place value xs (es ++ l ∷ []) ≡ slice_set (each_set place value xs es) (place l) (value l)
+  each_set-append [] l xs = refl
+  each_set-append (e ∷ es) l xs = each_set-append es l (slice_set xs (place e) (value e))
+
+-- places that are the same for the items of a list
+pub each_set-same : {A : Type 0} (place other : ℕ → ℕ) (value : ℕ → A) (es : List ℕ) (xs : List A)
+    → ((e : ℕ) → 0 < count_of e es → place e ≡ other e) → each_set place value xs es ≡ each_set other value xs es
+each_set-same place other value [] xs same = refl
+each_set-same place other value (e ∷ es) xs same =
+    ap (λ k. each_set place value (slice_set xs k (value e)) es) (same e (omega (arith, count-same e es)))
+    ∙ each_set-same place other value es (slice_set xs (other e) (value e)) (λ k found. same k (count-later k e es found))
