@@ -1,4 +1,5 @@
 pub mod Along
+pub mod AlongLinks
 pub mod FaceWords
 mod Numbers
 pub mod OutEdges
