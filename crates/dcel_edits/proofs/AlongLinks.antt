@@ -1,11 +1,11 @@
 -- Links led along half edges: what stands in the lists afterwards.
-use Rattle.std.proofs.Common.{◌≡◌, ◌≢◌, inl, inr, ℕ, ◌<◌, ◌≤◌, List, [], ◌∷◌, ◌++◌, length, slice_index, slice_set, None, refl, sym, ap, ◌∙◌, subst, arith}
+use Rattle.std.proofs.Common.{◌≡◌, inl, inr, ℕ, ◌<◌, ◌≤◌, List, [], ◌∷◌, ◌++◌, length, slice_index, slice_set, None, refl, sym, ap, ◌∙◌, arith}
 use Rattle.std.proofs.lemmas.List.{get_or-set_other, get_or-set_same, length-set}
 use Rattle.dcel_edits.specs.Strip.{all_moved_out, moved_out, next_along, prev_along}
 use Rattle.dcel_maps.specs.edits.Strip.{each_set}
 use Rattle.dcel_maps.specs.theory.Cycles.{Path}
 use Rattle.dcel_maps.specs.Words.{count_of, last_of}
-use Rattle.dcel_maps.proofs.words.Counts.{absent_head, count-append, count-later, count-same, first_or_later}
+use Rattle.dcel_maps.proofs.words.Counts.{absent_head, count-same, first_or_later}
 use Rattle.dcel_maps.proofs.words.EachSet.{each_set-same}
 use Rattle.dcel_store.specs.Lists.{Lists}
 
