@@ -12,6 +12,7 @@ ghost use Rattle.dcel_maps.specs.Words.{word_of};
 
 mod borders;
 mod data;
+mod degenerate;
 mod elements;
 mod strips;
 mod whole;

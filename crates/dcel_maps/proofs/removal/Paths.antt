@@ -1,11 +1,11 @@
 -- A path: a sound sphere with one or two out edges at each vertex.
-use Rattle.std.proofs.Common.{◌≡◌, ◌≢◌, ◌↔◌, ◌⊎◌, inl, inr, ◌+◌, ◌<◌, ℕ, zero, suc, Bool, true, sym, refl, ap, ◌∙◌, subst, arith}
+use Rattle.std.proofs.Common.{◌≡◌, ◌≢◌, ◌↔◌, ◌⊎◌, inl, inr, ◌+◌, ◌<◌, ℕ, zero, suc, Bool, true, sym, refl, ap, ◌∙◌, subst, arith, Option, Some}
 use Rattle.std.proofs.lemmas.Bool.{cases_eq}
 use Rattle.dcel_fixed.specs.HalfEdges.{rev}
 use Rattle.dcel_maps.specs.Degenerate.{HasFewOutEdges, IsOutPair, IsPath}
 use Rattle.dcel_maps.specs.Maps.{By, Map, NextOrRev, ccw, count, starts_edge}
 use Rattle.dcel_maps.specs.Removals.{Closed, gives_up_face}
-use Rattle.dcel_maps.specs.Shapes.{IsLive, IsSound, IsSphere, Shape, edge_is_live, end_of, face_count, face_is_live, map_of, next_of, origin_of, prev_of}
+use Rattle.dcel_maps.specs.Shapes.{AnchorsVertex, IsLive, IsSound, IsSphere, Shape, edge_is_live, end_of, face_count, face_is_live, map_of, next_of, origin_of, prev_of}
 use Rattle.dcel_maps.specs.Walking.{IsOutEdge, ccw_of}
 use Rattle.dcel_maps.specs.theory.Sound.{Sound}
 use Rattle.dcel_maps.proofs.Liveness.{closed-live, gives_up_face-closed, is_live-from}
@@ -15,12 +15,17 @@ use Rattle.dcel_maps.proofs.maps.Reaching.{reaches_stays}
 use Rattle.dcel_maps.proofs.maps.Soundness.{ccw_live, rev_live, same_origin_reaches, vertex_cycles}
 use Rattle.dcel_maps.proofs.shapes.Maps.{map-sound}
 
+-- an anchor is an out edge
+pub out_anchor : (s : Shape) (v : ℕ) (o : Option ℕ) (h : ℕ) → o ≡ Some h → AnchorsVertex s v o → IsOutEdge s v h
+out_anchor s v o h some anchors =
+    let at : AnchorsVertex s v (Some h) = subst (AnchorsVertex s v) some anchors in record { live = at.0; start = at.1 }
+
 -- v has one or two out edges just where turning twice leads from one of them to itself
 module _ (s : Shape) (sound : IsSound s) (v a : ℕ) (out : IsOutEdge s v a) where
   map_sound : Sound (map_of s)
   map_sound = map-sound sound
 
-  turned_pair : (x : ℕ) → IsOutEdge s v x → IsOutEdge s v (ccw_of s x)
+  pub turned_pair : (x : ℕ) → IsOutEdge s v x → IsOutEdge s v (ccw_of s x)
   unfolding ccw
   turned_pair x o = record { live = ccw_live (map_of s) map_sound x o.live; start = (vertex_cycles (map_of s) map_sound).along x o.live ∙ o.start }
 
