@@ -15,7 +15,7 @@ use Rattle.dcel_maps.proofs.maps.Agreement.{agrees-sound, agrees-sphere}
 use Rattle.dcel_maps.proofs.maps.Counts.{count_same, same_tests, used_from, used_gives}
 use Rattle.dcel_maps.proofs.words.Counts.{count-same}
 use Rattle.dcel_maps.proofs.words.Reading.{dead_in_none}
-use Rattle.dcel_edits.proofs.Shown.{length-shown}
+use Rattle.dcel_maps.proofs.Shown.{length-shown}
 
 -- a word is empty, or something stands in it
 word_cases : (w : List ℕ) → (w ≡ []) ⊎ ((h : ℕ) × (0 < count_of h w))

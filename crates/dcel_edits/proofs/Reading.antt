@@ -15,7 +15,7 @@ use Rattle.dcel_maps.proofs.Liveness.{is_live-parts, is_live-from}
 use Rattle.dcel_maps.proofs.maps.Agreement.{Agrees}
 use Rattle.dcel_maps.proofs.maps.Reaching.{reaches_stays, step}
 use Rattle.dcel_maps.proofs.words.Reading.{face_in-is, face_in_word, live_in, next_in-is, prev_in-is, stands_in_face}
-use Rattle.dcel_edits.proofs.Shown.{slice_index-shown_live}
+use Rattle.dcel_maps.proofs.Shown.{slice_index-shown_live}
 
 module _ {V DE UE F : Type 0} where
   -- a half edge in range is live where its edge is not given up

@@ -18,6 +18,7 @@ pub mod Renaming
 pub mod Rounds
 pub mod Splits
 pub mod SplittingTriangles
+pub mod Strips
 pub mod TakingOut
 pub mod VerticesOut
 pub mod Whole

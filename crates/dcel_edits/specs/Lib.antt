@@ -6,6 +6,7 @@ pub mod Outside
 pub mod Rename
 pub mod Split
 pub mod Stored
+pub mod Strip
 pub mod Triangle
 pub mod SplitTriangles
 pub mod Rounds

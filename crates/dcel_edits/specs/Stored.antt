@@ -1,21 +1,13 @@
 -- How the stored lists and the removal record stand for a mesh.
-use Rattle.std.specs.Prelude.{◌≡◌, ◌≢◌, ℕ, suc, ◌/◌, ◌<◌, ◌≤◌, ◌^◌, Bool, true, false, cond, List, [], ◌∷◌, length, slice_index, slice_index_or, None}
+use Rattle.std.specs.Prelude.{◌≡◌, ◌≢◌, ℕ, ◌<◌, ◌≤◌, ◌^◌, true, false, List, length, slice_index, slice_index_or, None}
 use Rattle.dcel_store.specs.Lists.{Lists, LengthsAgree}
 use Rattle.dcel_maps.specs.Maps.{Map, Live, Starts}
 use Rattle.dcel_maps.specs.theory.Sound.{Sound, Sphere}
-use Rattle.dcel_maps.specs.Removals.{Removal, gives_up_vertex, gives_up_edge, gives_up_face, is_live, IsWithin}
+use Rattle.dcel_maps.specs.Removals.{Removal, gives_up_vertex, gives_up_edge, gives_up_face, is_live, IsWithin, shown}
 use Rattle.dcel_maps.specs.Shapes.{Mesh, AnchorsWord}
 use Rattle.dcel_maps.specs.theory.Standing.{Stands}
 use Rattle.dcel_maps.specs.Walks.{anchored_words}
 use Rattle.dcel_maps.specs.Words.{word_of}
-
--- the origins from half edge h on, 0 where the edge is given up
-abbrev pub shown_from : (ℕ → Bool) → ℕ → List ℕ → List ℕ
-shown_from gives_up h [] = []
-shown_from gives_up h (v ∷ vs) = cond (gives_up (h / 2)) 0 v ∷ shown_from gives_up (suc h) vs
-
-abbrev pub shown : (ℕ → Bool) → List ℕ → List ℕ
-shown gives_up vs = shown_from gives_up 0 vs
 
 module _ {V DE UE F : Type 0} where
   -- the words that the stored `next` and the anchors of faces lead round

@@ -1,6 +1,8 @@
 pub mod Liveness
+pub mod Shown
 pub mod edits
 pub mod maps
+pub mod removal
 pub mod renumbering
 pub mod shapes
 pub mod walks

@@ -14,7 +14,13 @@ pub mod Sides
 pub mod Voronoi
 pub mod Numbers
 pub mod Walking
+pub mod Borders
+pub mod Hiding
+pub mod Degenerate
+pub mod Strips
 pub mod Laws
 pub mod Examples
+pub mod StripExamples
+pub mod PathExamples
 -- What only proofs read.
 pub mod theory

@@ -10,8 +10,11 @@ ghost use Rattle.dcel_maps.specs.Shapes.{IsLive, vertex_is_live, edge_is_live, f
 ghost use Rattle.dcel_maps.specs.Walking.{Leads, edge_between};
 ghost use Rattle.dcel_maps.specs.Words.{word_of};
 
+mod borders;
 mod data;
+mod degenerate;
 mod elements;
+mod strips;
 mod whole;
 
 use crate::handles::{DirectedEdgeHandle, FaceHandle, UndirectedEdgeHandle, VertexHandle};
@@ -446,7 +449,7 @@ impl<V, DE, UE, F, A: Allocator> Dcel<V, DE, UE, F, A> {
 
     // Whether the word of a half edge has three items.
     #[inline]
-    fn is_on_triangle(&self, handle: FixedDirectedEdgeHandle) -> bool
+    pub(crate) fn is_on_triangle(&self, handle: FixedDirectedEdgeHandle) -> bool
         requires { IsLive self.now.shape handle }
         ensures { IsTrue result ↔ (length (word_of self.now.shape.words (face_of self.now.shape handle)) ≡ 3) }
     {

@@ -18,7 +18,7 @@ use Rattle.dcel_maps.proofs.walks.Links.{half-below}
 use Rattle.dcel_maps.proofs.words.Reading.{face_in-is, next_in-is, prev_in-is}
 use Rattle.dcel_edits.proofs.Public.{mesh-is-mesh}
 use Rattle.dcel_edits.proofs.Reading.{public_agrees}
-use Rattle.dcel_edits.proofs.Shown.{shown-patched}
+use Rattle.dcel_maps.proofs.Shown.{shown-patched}
 use Rattle.dcel_edits.proofs.stored.Held.{ListsMesh, lists_hold}
 use Rattle.dcel_edits.proofs.stored.Holding.{Holds}
 

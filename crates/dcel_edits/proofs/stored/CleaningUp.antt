@@ -1,12 +1,11 @@
 -- What a removal has given up is taken out of lists that hold a mesh: what is left holds the mesh that is cleaned up.
 use Rattle.std.proofs.Common.{◌≡◌, ℕ, ◌/◌, true, not, ◌&&◌, nat_lt, fold, List, [], ◌∷◌, refl, sym, ap, ◌∙◌, subst}
 use Rattle.dcel_store.specs.Lists.{Lists}
-use Rattle.dcel_edits.specs.Stored.{shown}
 use Rattle.dcel_edits.specs.TakingOut.{CanLoseEdges, CanLoseFaces, edge_out, edges_out, face_out, faces_out}
-use Rattle.dcel_maps.specs.Removals.{Removal, gives_up_edge}
+use Rattle.dcel_maps.specs.Removals.{Removal, gives_up_edge, shown}
 use Rattle.dcel_maps.specs.Renumbering.{cleaned, cleaned_up, edge_taken_out, edges_down, edges_taken_out, face_taken_out, faces_down, faces_taken_out, without_edge, without_face}
 use Rattle.dcel_maps.specs.Shapes.{IsLive, IsMesh, Mesh}
-use Rattle.dcel_edits.proofs.Shown.{shown-same}
+use Rattle.dcel_maps.proofs.Shown.{shown-same}
 use Rattle.dcel_edits.proofs.stored.Changes.{held_lists, held_mesh, held_removal}
 use Rattle.dcel_edits.proofs.stored.Held.{ListsMesh, lists_hold}
 use Rattle.dcel_edits.proofs.stored.Holding.{Holds}

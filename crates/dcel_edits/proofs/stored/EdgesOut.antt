@@ -3,14 +3,14 @@ use Rattle.std.proofs.Common.{◌≡◌, ◌≢◌, inl, inr, ℕ, ◌-◌, ◌*
 use Rattle.std.proofs.lemmas.Bool.{cases_eq, false_from_ne_true}
 use Rattle.std.proofs.lemmas.List.{ext_get_or}
 use Rattle.dcel_store.specs.Lists.{Lists, LengthsAgree}
-use Rattle.dcel_edits.specs.Stored.{IsStored, mesh_of, shown, stored_map}
+use Rattle.dcel_edits.specs.Stored.{IsStored, mesh_of, stored_map}
 use Rattle.dcel_maps.specs.Maps.{Live}
-use Rattle.dcel_maps.specs.Removals.{Removal, gives_up_edge}
+use Rattle.dcel_maps.specs.Removals.{Removal, gives_up_edge, shown}
 use Rattle.dcel_maps.specs.Renumbering.{edge_taken_out, half_of, last_put, moved, without_edge}
 use Rattle.dcel_maps.specs.Shapes.{IsLive, IsMesh, Mesh, face_of, next_of, origin_of, prev_of}
 use Rattle.dcel_edits.proofs.Public.{mesh-is-mesh}
 use Rattle.dcel_edits.proofs.Reading.{face_of-is, next_of-is, prev_of-is}
-use Rattle.dcel_edits.proofs.Shown.{length-shown, slice_index-shown, slice_index-shown_live}
+use Rattle.dcel_maps.proofs.Shown.{length-shown, slice_index-shown, slice_index-shown_live}
 use Rattle.dcel_edits.proofs.stored.Held.{lists_hold}
 use Rattle.dcel_edits.proofs.stored.Holding.{Holds}
 use Rattle.dcel_maps.proofs.Liveness.{is_live-parts}

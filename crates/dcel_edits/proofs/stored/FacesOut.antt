@@ -2,10 +2,10 @@
 use Rattle.std.proofs.Common.{◌≡◌, ℕ, ◌-◌, length, slice_index, sym, ap, ◌∙◌, ◌≢◌, inl, inr, ◌<◌, slice_index_or, refl, Some, None, arith}
 use Rattle.std.proofs.lemmas.Bool.{cases_eq, cases_lt}
 use Rattle.dcel_store.specs.Lists.{Lists, LengthsAgree}
-use Rattle.dcel_edits.specs.Stored.{IsStored, mesh_of, shown, stored_map}
+use Rattle.dcel_edits.specs.Stored.{IsStored, mesh_of, stored_map}
 use Rattle.dcel_edits.specs.TakingOut.{CanLoseFace, CanWalk, face_dropped, face_out, word_of_anchor, word_renamed}
 use Rattle.dcel_maps.specs.Maps.{Live}
-use Rattle.dcel_maps.specs.Removals.{Removal, gives_up_edge}
+use Rattle.dcel_maps.specs.Removals.{Removal, gives_up_edge, shown}
 use Rattle.dcel_maps.specs.Renumbering.{face_taken_out, last_put, moved, without_face}
 use Rattle.dcel_maps.specs.Shapes.{IsLive, IsMesh, Mesh, face_count, face_of, next_of, origin_of, prev_of}
 use Rattle.dcel_maps.specs.Walking.{IsOnFace, ListsOnce}
@@ -13,7 +13,7 @@ use Rattle.dcel_maps.specs.Words.{count_of}
 use Rattle.dcel_edits.proofs.Dropping.{face_out-last, face_out-moved}
 use Rattle.dcel_edits.proofs.Public.{mesh-is-mesh}
 use Rattle.dcel_edits.proofs.Reading.{face_of-is, next_of-is, origin_of-is, prev_of-is, half-below}
-use Rattle.dcel_edits.proofs.Shown.{shown-same}
+use Rattle.dcel_maps.proofs.Shown.{shown-same}
 use Rattle.dcel_edits.proofs.stored.Held.{lists_hold}
 use Rattle.dcel_edits.proofs.stored.Holding.{Holds, holds}
 use Rattle.dcel_edits.proofs.stored.Rounds.{all_set-moves, anchor_comes_back, length-all_set, round-from}

@@ -3,10 +3,10 @@ use Rattle.std.proofs.Common.{◌≡◌, ◌≢◌, ℕ, ◌/◌, ◌<◌, List,
 use Rattle.std.proofs.lemmas.Bool.{both_ways}
 use Rattle.dcel_store.specs.Lists.{Lists, LengthsAgree}
 use Rattle.dcel_maps.specs.Maps.{Live, Map, Starts}
-use Rattle.dcel_maps.specs.Removals.{gives_up_edge, gives_up_face, gives_up_vertex, is_live}
+use Rattle.dcel_maps.specs.Removals.{gives_up_edge, gives_up_face, gives_up_vertex, is_live, shown}
 use Rattle.dcel_maps.specs.Shapes.{AnchorsVertex, AnchorsWord, IsLive, IsMesh, Mesh, face_count, face_of, map_of, next_of, origin_of, prev_of, vertex_anchor}
 use Rattle.dcel_maps.specs.theory.Standing.{Stands}
-use Rattle.dcel_edits.specs.Stored.{IsStored, mesh_of, shown, stored_map, stored_words}
+use Rattle.dcel_edits.specs.Stored.{IsStored, mesh_of, stored_map, stored_words}
 use Rattle.dcel_maps.specs.Words.{count_of, word_of}
 use Rattle.dcel_maps.proofs.Liveness.{is_live-from, is_live-given_up, is_live-parts}
 use Rattle.dcel_maps.proofs.maps.Agreement.{Agrees, agrees-sound, agrees-sphere}

@@ -8,7 +8,7 @@ use Rattle.std.proofs.lemmas.List.Edits.{length-swap}
 use Rattle.dcel_fixed.specs.HalfEdges.{rev}
 use Rattle.dcel_store.specs.Lists.{Lists}
 use Rattle.dcel_maps.specs.edits.Rename.{exchanged, vertices_swapped}
-use Rattle.dcel_maps.specs.Removals.{Removal, gives_up_edge}
+use Rattle.dcel_maps.specs.Removals.{Removal, gives_up_edge, shown}
 use Rattle.dcel_maps.specs.Shapes.{AnchorsVertex, IsLive, IsMesh, Mesh, origin_of, vertex_anchor, vertex_is_live}
 use Rattle.dcel_maps.specs.Walking.{IsOutEdge, ListsOnce, ccw_of, out_edges_of}
 use Rattle.dcel_maps.specs.Words.{count_of}
@@ -18,8 +18,7 @@ use Rattle.dcel_maps.proofs.walks.Links.{ccw-lawful, half-below}
 use Rattle.dcel_maps.proofs.walks.Turning.{mesh-out_edges}
 use Rattle.dcel_edits.specs.Rename.{CanExchange, CanTurn, ccw_by, turn_of, vertices_exchanged, stored_anchor}
 use Rattle.dcel_edits.specs.Rounds.{AnchorComesBack, all_set}
-use Rattle.dcel_edits.specs.Stored.{shown}
-use Rattle.dcel_edits.proofs.Shown.{length-shown, slice_index-shown, slice_index-shown_live}
+use Rattle.dcel_maps.proofs.Shown.{length-shown, slice_index-shown, slice_index-shown_live}
 use Rattle.dcel_edits.proofs.stored.Changes.{held_edges, held_lists, held_mesh, held_removal, held_vertex, held_vertex_anchor}
 use Rattle.dcel_edits.proofs.stored.Held.{ListsMesh, lists_hold}
 use Rattle.dcel_edits.proofs.stored.Holding.{Holds}

@@ -4,16 +4,16 @@ use Rattle.std.proofs.lemmas.Bool.{cases_eq, false_from_ne_true}
 use Rattle.std.proofs.lemmas.List.{ext_get_or, get_or-map, length-map}
 use Rattle.dcel_store.specs.Lists.{Lists, LengthsAgree}
 use Rattle.dcel_edits.specs.Rename.{CanTurn, turn_by, turn_of, turn_renamed}
-use Rattle.dcel_edits.specs.Stored.{IsStored, mesh_of, shown, stored_map}
+use Rattle.dcel_edits.specs.Stored.{IsStored, mesh_of, stored_map}
 use Rattle.dcel_edits.specs.TakingOut.{CanLoseVertex, vertex_dropped, vertex_out}
 use Rattle.dcel_maps.specs.Maps.{Live}
-use Rattle.dcel_maps.specs.Removals.{Closed, Removal, gives_up_edge, gives_up_vertex}
+use Rattle.dcel_maps.specs.Removals.{Closed, Removal, gives_up_edge, gives_up_vertex, shown}
 use Rattle.dcel_maps.specs.Renumbering.{last_put, moved, vertex_taken_out}
 use Rattle.dcel_maps.specs.Shapes.{IsLive, IsMesh, Mesh, face_of, next_of, origin_of, prev_of, vertex_is_live}
 use Rattle.dcel_edits.proofs.Dropping.{vertex_out-last, vertex_out-moved}
 use Rattle.dcel_edits.proofs.Public.{mesh-is-mesh}
 use Rattle.dcel_edits.proofs.Reading.{face_of-is, half-live, next_of-is, prev_of-is, half-below, origin_of-is}
-use Rattle.dcel_edits.proofs.Shown.{shown-none}
+use Rattle.dcel_maps.proofs.Shown.{shown-none}
 use Rattle.dcel_edits.proofs.stored.Held.{lists_hold}
 use Rattle.dcel_edits.proofs.stored.Holding.{Holds, holds}
 use Rattle.dcel_edits.proofs.stored.Renaming.{in_turn, not_in_turn, turn_comes_back}

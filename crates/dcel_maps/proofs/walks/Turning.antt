@@ -50,7 +50,7 @@ module _ {s : Shape} (sound : IsSound s) (v : ℕ) where
         (λ x y found turn. subst (λ z. 0 < count_of z (walk_of s (ccw_of s) h)) turn (next_in_walk x found))
         (rw trip.from (omega (arith, count-same h trip.rest))) reached
 
-    walk-out_edges : ListsOnce (IsOutEdge s v) (walk_of s (ccw_of s) h)
+    pub walk-out_edges : ListsOnce (IsOutEdge s v) (walk_of s (ccw_of s) h)
     walk-out_edges = record {
       each = λ k other. omega (arith, in_walk k other, trip.once k);
       no_other = λ k found. holds_along (ccw_of s) (IsOutEdge s v) turned h trip.rest h trip.round out k (rw trip.from at found);

@@ -1,7 +1,7 @@
 -- Origins with those of given-up edges masked.
 use Rattle.std.proofs.Common.{◌≡◌, ℕ, zero, suc, ◌+◌, ◌*◌, ◌/◌, ◌≤◌, Bool, false, cond, List, [], ◌∷◌, ◌++◌, length, slice_index, slice_set, refl, ap, ◌∙◌, arith, add-zero, add-suc, suc-add, zero-add}
 use Rattle.std.proofs.lemmas.Bool.{cond_both}
-use Rattle.dcel_edits.specs.Stored.{shown, shown_from}
+use Rattle.dcel_maps.specs.Removals.{shown, shown_from}
 use Rattle.dcel_maps.proofs.edits.Patches.{Each, Patch, length-replaced, patched, replaced}
 
 module _ (g : ℕ → Bool) where
@@ -47,6 +47,10 @@ module _ (g : ℕ → Bool) where
   shown_from-kept h [] kept = refl
   shown_from-kept h (v ∷ vs) kept =
       rw (kept (h / 2) (omega arith)) (ap (λ z. v ∷ z) (shown_from-kept (suc h) vs (λ u past. kept u (omega (arith, past)))))
+
+  -- where no edge is given up, all origins show
+  pub shown-kept : (vs : List ℕ) → ((u : ℕ) → g u ≡ false) → shown g vs ≡ vs
+  shown-kept vs kept = shown_from-kept 0 vs (λ u past. kept u)
 
   shown-replaced : (vs : List ℕ) (cs : List (ℕ × ℕ)) → Each (λ h v. g (h / 2) ≡ false) cs → shown g (replaced vs cs) ≡ replaced (shown g vs) cs
   shown-replaced vs [] live = refl

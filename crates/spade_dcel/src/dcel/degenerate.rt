@@ -1,0 +1,55 @@
+//! The test of what removing a vertex of a degenerate mesh asks.
+
+ghost use Rattle.std.specs.Prelude.{◌↔◌, ◌<◌, IsTrue};
+ghost use Rattle.dcel_maps.specs.Degenerate.{CanRemoveDegenerate, HasFewOutEdges, IsPath};
+
+use crate::dcel::Dcel;
+use crate::laws::every_mesh;
+use dcel_fixed::FixedVertexHandle;
+use std::alloc::Allocator;
+
+impl<V, DE, UE, F, A: Allocator> Dcel<V, DE, UE, F, A> {
+    /// Whether no removal is open and the vertex is the only one, or one of a mesh with one face where each vertex has one or two out
+    /// edges. Any number may be asked about.
+    pub fn can_remove_degenerate(&self, handle: FixedVertexHandle) -> bool
+        ensures { IsTrue result ↔ CanRemoveDegenerate self.now.shape handle }
+    {
+        if handle.index() >= self.num_vertices() {
+            return false;
+        }
+        if !self.removal.is_closed() {
+            return false;
+        }
+        if self.num_vertices() == 1 {
+            return true;
+        }
+        self.is_path()
+    }
+
+    fn is_path(&self) -> bool
+        ensures { IsTrue result ↔ IsPath self.now.shape }
+    {
+        if self.num_faces() != 1 {
+            return false;
+        }
+        for index in 0..self.num_vertices() {
+            if !self.has_few_out_edges(FixedVertexHandle::new(index)) {
+                return false;
+            }
+        }
+        true
+    }
+
+    // Whether a vertex has one out edge, or two.
+    fn has_few_out_edges(&self, handle: FixedVertexHandle) -> bool
+        requires { handle < self.now.shape.vertices }
+        ensures { IsTrue result ↔ HasFewOutEdges self.now.shape handle }
+    {
+        every_mesh(self);
+        let Some(out_edge) = self.vertex_out_edge(handle) else {
+            return false;
+        };
+        let other = self.prev_edge(out_edge).rev();
+        self.prev_edge(other).rev() == out_edge
+    }
+}
