@@ -8,6 +8,7 @@ pub mod FilledMeshes
 pub mod GivenUp
 pub mod Hiding
 pub mod Holes
+pub mod RingLists
 pub mod Sectors
 pub mod Spokes
 pub mod StripSpokes
