@@ -1,3 +1,4 @@
+pub mod Ears
 pub mod FaceWords
 mod Numbers
 pub mod OutEdges
