@@ -4,6 +4,7 @@ pub mod Changes
 pub mod Closing
 pub mod Creating
 pub mod Data
+pub mod Ears
 pub mod Filling
 pub mod Flips
 pub mod Halves
