@@ -1,3 +1,5 @@
+pub mod Along
+pub mod AlongLinks
 pub mod Ears
 pub mod FaceWords
 mod Numbers

@@ -15,4 +15,5 @@ pub mod Lines
 pub mod Renaming
 pub mod Splits
 pub mod SplittingTriangles
+pub mod Strips
 pub mod Whole

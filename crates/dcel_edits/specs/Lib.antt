@@ -7,5 +7,6 @@ pub mod Outside
 pub mod Rename
 pub mod Split
 pub mod Stored
+pub mod Strip
 pub mod Triangle
 pub mod SplitTriangles

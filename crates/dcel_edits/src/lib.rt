@@ -12,4 +12,5 @@ pub mod rename;
 mod sectors;
 pub mod split;
 pub mod split_triangles;
+pub mod strip;
 pub mod triangle;

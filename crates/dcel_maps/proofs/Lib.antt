@@ -1,9 +1,9 @@
-pub mod Hiding
 pub mod Liveness
 pub mod Shown
 pub mod edits
 pub mod maps
 pub mod removal
+pub mod renumbering
 pub mod shapes
 pub mod walks
 pub mod words

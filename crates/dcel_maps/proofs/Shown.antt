@@ -48,6 +48,10 @@ module _ (g : ℕ → Bool) where
   shown_from-kept h (v ∷ vs) kept =
       rw (kept (h / 2) (omega arith)) (ap (λ z. v ∷ z) (shown_from-kept (suc h) vs (λ u past. kept u (omega (arith, past)))))
 
+  -- where no edge is given up, all origins show
+  pub shown-kept : (vs : List ℕ) → ((u : ℕ) → g u ≡ false) → shown g vs ≡ vs
+  shown-kept vs kept = shown_from-kept 0 vs (λ u past. kept u)
+
   shown-replaced : (vs : List ℕ) (cs : List (ℕ × ℕ)) → Each (λ h v. g (h / 2) ≡ false) cs → shown g (replaced vs cs) ≡ replaced (shown g vs) cs
   shown-replaced vs [] live = refl
   shown-replaced vs (c ∷ r) live =

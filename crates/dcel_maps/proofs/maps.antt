@@ -18,6 +18,7 @@ pub mod Joins
 pub mod Reaching
 pub mod Renames
 pub mod Soundness
+pub mod Straightened
 pub mod Spurs
 pub mod Subdivides
 pub mod Between

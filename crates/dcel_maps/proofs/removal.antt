@@ -1,5 +1,6 @@
 -- Removals: what is given up, what it leaves, and that a mesh comes of it.
 pub mod Corners
+pub mod DegenerateMeshes
 pub mod Eared
 pub mod Ears
 pub mod Fans
@@ -8,9 +9,18 @@ pub mod FilledMeshes
 pub mod GivenUp
 pub mod Hiding
 pub mod Holes
+pub mod PathCuts
+pub mod PathEdits
+pub mod PathMiddles
+pub mod Paths
 pub mod RingLists
 pub mod Sectors
 pub mod Spokes
+pub mod StripItems
+pub mod StripLinks
+pub mod StripMeshes
+pub mod StripSectors
+pub mod StripShapes
 pub mod StripSpokes
 pub mod Tips
 pub mod Without

@@ -1,5 +1,6 @@
 pub mod Ascending
 pub mod Counts
+pub mod EachSet
 pub mod Mapped
 pub mod Paths
 pub mod Becoming
@@ -15,5 +16,7 @@ pub mod Standing
 pub mod Cuts
 pub mod HalfSplits
 pub mod Faces
+pub mod Straightened
 pub mod Triangles
 pub mod Cyclic
+pub mod Renames

@@ -6,6 +6,7 @@ pub mod Removals
 pub mod Maps
 pub mod Shapes
 pub mod Conditions
+pub mod Renumbering
 pub mod edits
 pub mod Checked
 pub mod Kinds
@@ -15,9 +16,11 @@ pub mod Numbers
 pub mod Walking
 pub mod Borders
 pub mod Hiding
+pub mod Degenerate
 pub mod Strips
 pub mod Laws
 pub mod Examples
 pub mod StripExamples
+pub mod PathExamples
 -- What only proofs read.
 pub mod theory

@@ -6,6 +6,7 @@ use Rattle.dcel_maps.specs.edits.Strip.{strip_cut}
 use Rattle.dcel_maps.specs.edits.Triangle.{triangle_alone}
 use Rattle.dcel_maps.specs.Examples.{inside_triangle}
 use Rattle.dcel_maps.specs.Removals.{Isolated}
+use Rattle.dcel_maps.specs.Renumbering.{cleaned_up, vertex_taken_out}
 use Rattle.dcel_maps.specs.Shapes.{Mesh}
 use Rattle.dcel_maps.specs.Strips.{strip_of}
 
@@ -25,9 +26,10 @@ CornerOfThreeCut =
     (strip_of inside_triangle.shape 2 ≡ 6 ∷ 9 ∷ 4 ∷ [])
     × (cut.shape.words ≡ (4 ∷ 6 ∷ 9 ∷ []) ∷ [] ∷ (5 ∷ 8 ∷ 7 ∷ []) ∷ [] ∷ [])
     × (cut.shape.origins ≡ 0 ∷ 0 ∷ 0 ∷ 0 ∷ 2 ∷ 0 ∷ 0 ∷ 3 ∷ 2 ∷ 3 ∷ 0 ∷ 0 ∷ [])
-    × (cut.shape.removal ≡ Isolated (0 ∷ 5 ∷ 1 ∷ []) (1 ∷ 3 ∷ []) (Some 1))
+    × (cut.shape.removal ≡ Isolated (0 ∷ 1 ∷ 5 ∷ []) (1 ∷ 3 ∷ []) (Some 1))
     × (cut.vertex_anchors ≡ Some 6 ∷ None ∷ Some 4 ∷ Some 9 ∷ [])
     × (cut.face_anchors ≡ Some 4 ∷ None ∷ Some 5 ∷ None ∷ [])
+    × ((vertex_taken_out (cleaned_up cut) 1).shape.words ≡ (0 ∷ 3 ∷ 4 ∷ []) ∷ (1 ∷ 5 ∷ 2 ∷ []) ∷ [])
 
 -- a corner of one triangle
 abbrev pub CornerCut : Type 0
@@ -39,6 +41,8 @@ CornerCut =
     × (cut.shape.removal ≡ Isolated (0 ∷ 1 ∷ []) (1 ∷ []) (Some 1))
     × (cut.vertex_anchors ≡ Some 5 ∷ None ∷ Some 4 ∷ [])
     × (cut.face_anchors ≡ Some 4 ∷ None ∷ [])
+    × ((cleaned_up cut).shape.words ≡ (0 ∷ 1 ∷ []) ∷ [])
+    × ((vertex_taken_out (cleaned_up cut) 1).shape.origins ≡ 1 ∷ 0 ∷ [])
 
 -- an end of a line is a strip without triangles
 abbrev pub EndCut : Type 0
@@ -50,3 +54,4 @@ EndCut =
     × (cut.shape.removal ≡ Isolated (1 ∷ []) [] (Some 1))
     × (cut.vertex_anchors ≡ Some 0 ∷ None ∷ Some 1 ∷ [])
     × (cut.face_anchors ≡ Some 1 ∷ [])
+    × ((vertex_taken_out (cleaned_up cut) 1).shape.words ≡ (0 ∷ 1 ∷ []) ∷ [])

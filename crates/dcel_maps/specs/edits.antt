@@ -1,6 +1,7 @@
 -- What each operation does to a mesh, family by family.
 pub mod Create
 pub mod Data
+pub mod Degenerate
 pub mod DefaultData
 pub mod Fill
 pub mod Flip

@@ -4,7 +4,9 @@ ghost use Rattle.std.specs.Prelude.{◌≡◌, ℕ, true, [], ◌∷◌};
 ghost use Rattle.dcel_maps.specs.Conditions.{CanFlip};
 ghost use Rattle.dcel_maps.specs.edits.Flip.{GoesRound};
 ghost use Rattle.dcel_maps.specs.edits.Rename.{vertices_swapped};
-ghost use Rattle.dcel_maps.specs.Examples.{FillsSquare, FillsTriangle, IsRingFrom, inside_triangle, on_edge, two_triangles};
+ghost use Rattle.dcel_maps.specs.Examples.{FillsSquare, FillsTriangle, GoesFromHoleToHole, IsRingFrom, gathered, inside_triangle, on_edge, scattered, two_triangles};
+ghost use Rattle.dcel_maps.specs.PathExamples.{BothGone, EndGone, MiddleGone};
+ghost use Rattle.dcel_maps.specs.Renumbering.{cleaned_up, vertex_taken_out};
 ghost use Rattle.dcel_maps.specs.Shapes.{IsMesh, IsSphere, Mesh, vertex_is_live};
 ghost use Rattle.dcel_maps.specs.StripExamples.{CornerCut, CornerOfThreeCut, EndCut};
 
@@ -44,4 +46,22 @@ pub fn strips_are_cut_off()
 pub fn two_holes_are_filled()
     ensures triangle { IsRingFrom inside_triangle.shape (1 ∷ 3 ∷ 5 ∷ []) 7 × FillsTriangle }
     ensures square { IsRingFrom on_edge.shape (1 ∷ 11 ∷ 8 ∷ 5 ∷ []) 7 × FillsSquare }
+{}
+
+/// Elements that are taken out from the largest down: the last one goes from hole to hole until none is left below it.
+pub fn the_last_goes_from_hole_to_hole()
+    ensures { GoesFromHoleToHole }
+{}
+
+/// A removal closed: a triangle with an edge, a face and a vertex given up becomes one without them.
+pub fn a_scattered_triangle_is_gathered()
+    ensures { vertex_taken_out (cleaned_up scattered) 1 ≡ gathered }
+{}
+
+/// What is left of three degenerate meshes once a vertex is removed: of a line without an end, of two vertices without one and then without
+/// the other, and of a line without a vertex in its middle.
+pub fn vertices_of_lines_are_removed()
+    ensures end { EndGone }
+    ensures both { BothGone }
+    ensures middle { MiddleGone }
 {}

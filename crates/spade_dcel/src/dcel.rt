@@ -13,6 +13,7 @@ ghost use Rattle.dcel_maps.specs.Words.{word_of};
 mod borders;
 mod data;
 mod elements;
+mod strips;
 mod whole;
 
 use crate::handles::{DirectedEdgeHandle, FaceHandle, UndirectedEdgeHandle, VertexHandle};

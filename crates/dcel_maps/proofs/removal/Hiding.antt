@@ -1,7 +1,11 @@
 -- What stands in a list where some items are hidden.
-use Rattle.std.proofs.Common.{◌≡◌, ℕ, zero, suc, ◌+◌, Bool, true, false, cond, List, [], ◌∷◌, length, slice_index_or, refl, ap, ◌∙◌, add-zero, add-suc, suc-add, zero-add}
-use Rattle.std.proofs.lemmas.Bool.{cond_both}
+use Rattle.std.proofs.Common.{◌≡◌, ◌↔◌, inl, inr, ℕ, zero, suc, ◌+◌, ◌<◌, ◌==◌, Bool, true, false, cond, eq-eqb, List, [], ◌∷◌, length, slice_index_or, slice_set, refl, sym, ap, ◌∙◌, arith, add-zero, add-suc, suc-add, zero-add}
+use Rattle.std.proofs.lemmas.Bool.{cases_eq, cond_both, false_from_ne_true, ne_eqb}
+use Rattle.std.proofs.lemmas.List.{ext_get_or, get_or-set_other, get_or-set_same, length-set}
+use Rattle.dcel_maps.specs.edits.Strip.{each_set}
 use Rattle.dcel_maps.specs.Hiding.{hiding, hiding_from}
+use Rattle.dcel_maps.specs.Words.{count_of}
+use Rattle.dcel_maps.proofs.words.EachSet.{each_set-cases, length-each_set}
 
 module _ {A : Type 0} (test : ℕ → Bool) (other : A) where
   length-hiding_from : (n : ℕ) (items : List A) → length (hiding_from test other n items) ≡ length items
@@ -26,3 +30,30 @@ module _ {A : Type 0} (test : ℕ → Bool) (other : A) where
 
   pub not_hidden : (items : List A) (k : ℕ) → test k ≡ false → slice_index_or (hiding test other items) k other ≡ slice_index_or items k other
   not_hidden items k kept = index-hiding items k ∙ rw kept refl
+
+-- where one number passes, its item is replaced
+pub hiding-one : {A : Type 0} (test : ℕ → Bool) (other : A) (v : ℕ) (items : List A) → ((k : ℕ) → test k ≡ (v == k))
+    → slice_set items v other ≡ hiding test other items
+hiding-one test other v items one =
+    ext_get_or other (slice_set items v other) (hiding test other items) (length-set items v other ∙ sym (length-hiding test other items)) (λ k below.
+    elim (cases_eq v k) [
+      | inl same ↦
+          ap (λ i. slice_index_or (slice_set items v other) i other) (sym same)
+          ∙ get_or-set_same items v other other (omega (arith, below, same, length-set items v other))
+          ∙ sym (hidden test other items k (one k ∙ eq-eqb v k same))
+      | inr apart ↦
+          get_or-set_other items v k other other (λ is. apart (sym is)) ∙ sym (not_hidden test other items k (one k ∙ ne_eqb v k apart))
+    ])
+
+-- where the places of a list pass, and no others, their items are replaced
+pub hiding-each : {A : Type 0} (test : ℕ → Bool) (other : A) (place : ℕ → ℕ) (es : List ℕ) (items : List A)
+    → ((k : ℕ) → (test k ≡ true) ↔ ((e : ℕ) × (0 < count_of e es) × (place e ≡ k))) → each_set place (λ e. other) items es ≡ hiding test other items
+hiding-each test other place es items listed =
+    ext_get_or other (each_set place (λ e. other) items es) (hiding test other items)
+    (length-each_set place (λ e. other) es items ∙ sym (length-hiding test other items)) (λ k below.
+    elim (each_set-cases place (λ e. other) es items k other (omega (arith, below, length-each_set place (λ e. other) es items))) [
+      | inl put ↦ put.is ∙ sym (hidden test other items k ((listed k).1 (put.from, put.listed, put.at)))
+      | inr (none, same) ↦
+          same
+          ∙ sym (not_hidden test other items k (false_from_ne_true (test k) (λ given. let (e, found, at) = (listed k).0 given in none e found at)))
+    ])

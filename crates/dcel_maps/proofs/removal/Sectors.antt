@@ -16,7 +16,7 @@ use Rattle.dcel_maps.proofs.words.Counts.{absent_head, count-later, count-none, 
 use Rattle.dcel_maps.proofs.words.Mapped.{count-mapped, mapped_from}
 
 -- two paths of a function to the first return are one
-same_path : (f : ℕ → ℕ) (x e : ℕ) (r u : List ℕ) → Path (By f) x r e → Path (By f) x u e → count_of e r ≡ 0 → count_of e u ≡ 0 → r ≡ u
+pub same_path : (f : ℕ → ℕ) (x e : ℕ) (r u : List ℕ) → Path (By f) x r e → Path (By f) x u e → count_of e r ≡ 0 → count_of e u ≡ 0 → r ≡ u
 same_path f x e [] [] p q none none_u = refl
 same_path f x e [] (z ∷ u) p q none none_u = absurd (absent_head e z u none_u (sym p ∙ q.0))
 same_path f x e (y ∷ r) [] p q none none_u = absurd (absent_head e y r none (sym q ∙ p.0))
@@ -33,7 +33,7 @@ module _ (s : Shape) (apex e : ℕ) where
     pub ring : r ≡ map (next_of s) rest
     pub sectors : (k : ℕ) → 0 < count_of k rest → IsSector s k (next_of s k) × (origin_of s (next_of s k) ≢ apex)
 
-  sectors_seen : (h : ℕ) (r : List ℕ) → Sectors s apex (ccw_of s h) r e → Seen h r
+  pub sectors_seen : (h : ℕ) (r : List ℕ) → Sectors s apex (ccw_of s h) r e → Seen h r
   sectors_seen h [] back = record { rest = []; path = back; ring = refl; sectors = λ k found. absurd (omega arith) }
   sectors_seen h (x ∷ r) (sector, apart, others) =
       let o = ccw_of s h in
@@ -50,7 +50,7 @@ module _ (s : Shape) (apex e : ℕ) where
         ];
       }
 
-  sectors_from : (h : ℕ) (rest : List ℕ) → Path (By (ccw_of s)) h rest e
+  pub sectors_from : (h : ℕ) (rest : List ℕ) → Path (By (ccw_of s)) h rest e
       → ((k : ℕ) → 0 < count_of k rest → IsSector s k (next_of s k) × (origin_of s (next_of s k) ≢ apex))
       → Sectors s apex (ccw_of s h) (map (next_of s) rest) e
   sectors_from h [] back each = back

@@ -16,6 +16,7 @@ use Rattle.dcel_maps.proofs.removal.Holes.{HoleOf, hollow, is_hollow}
 use Rattle.dcel_maps.proofs.removal.Spokes.{Different, Merged, Opened, Sector, opened}
 use Rattle.dcel_maps.proofs.shapes.Maps.{map-sound, map-sphere}
 use Rattle.dcel_maps.proofs.walks.Links.{ccw-lawful, links_stand}
+use Rattle.dcel_maps.proofs.walks.Turning.{walk-out_edges}
 use Rattle.dcel_maps.proofs.walks.UnderWay.{walk-round}
 use Rattle.dcel_maps.proofs.words.Counts.{count-append, count-same, first_or_later}
 use Rattle.dcel_maps.proofs.words.Paths.{Path-split}
@@ -28,6 +29,9 @@ last_split : (r : List ℕ) → 0 < length r → (front : List ℕ) × (last : �
 last_split [] some = absurd (omega (arith, some))
 last_split (x ∷ []) some = ([], x, refl)
 last_split (x ∷ y ∷ r) some = let (front, last, is) = last_split (y ∷ r) (omega arith) in (x ∷ front, last, ap (λ l. x ∷ l) is)
+
+front_inside : (front : List ℕ) (last : ℕ) (r : List ℕ) → r ≡ front ++ last ∷ [] → 1 < length r → 0 < length front
+front_inside front last r is long = omega (arith, ap length is, long, length-append front (last ∷ []))
 
 -- nothing is joined away yet
 nothing_away : (T : Map) (f h : ℕ) (w : List ℕ) → Merged T f h w h → Opened T T f h [] w f
@@ -139,19 +143,15 @@ module _ (s : Shape) (sound : IsSound s) (sphere : IsSphere s) (v h : ℕ) (arou
   once_around : (k : ℕ) → count_of k (h ∷ trip.rest) ≤ 1
   once_around k = omega (arith, trip.once k, ap (count_of k) trip.from)
 
-  walked_out : (y : ℕ) (xs : List ℕ) → IsOutEdge s v y → Path (By (ccw_of s)) y xs h → (k : ℕ) → 0 < count_of k (y ∷ xs) → IsOutEdge s v k
-  walked_out y [] out path k found = elim (first_or_later k y [] found) [
-    | inl i ↦ subst (IsOutEdge s v) (sym i) out
-    | inr later ↦ absurd (omega (arith, later))
-  ]
-  walked_out y (x ∷ xs) out path k found = elim (first_or_later k y (x ∷ xs) found) [
-    | inl i ↦ subst (IsOutEdge s v) (sym i) out
-    | inr later ↦ walked_out x xs (subst (IsOutEdge s v) path.0 (turned y out)) path.1 k later
-  ]
+  pub each_out : (k : ℕ) → IsOutEdge s v k → 0 < count_of k (h ∷ trip.rest)
+  each_out k out = omega (arith, (walk-out_edges sound v h around.out).each k out, ap (count_of k) trip.from)
+
+  pub all_out : (k : ℕ) → 0 < count_of k (h ∷ trip.rest) → IsOutEdge s v k
+  all_out k found = (walk-out_edges sound v h around.out).no_other k (omega (arith, found, ap (count_of k) trip.from))
 
   pub are_spokes : (k : ℕ) → 0 < count_of k trip.rest → IsSpoke k
   are_spokes k found = record {
-    out = walked_out h trip.rest around.out trip.round k (omega (arith, found));
+    out = all_out k (omega (arith, found));
     other = λ i. omega (arith, once_around h, count-same h trip.rest, ap (λ z. count_of z trip.rest) i, found);
   }
 
@@ -164,32 +164,34 @@ module _ (s : Shape) (sound : IsSound s) (sphere : IsSphere s) (v h : ℕ) (arou
     pub single : (k : ℕ) → count_of k (h ∷ y ∷ r ++ prev_of s h ∷ []) ≤ 1
     pub cycle : IsCycle (Follows T f) (h ∷ y ∷ r ++ prev_of s h ∷ [])
 
-  named : (front : List ℕ) (w : WrittenFrom T s.words h) → w.rest ≡ front ++ prev_of s h ∷ [] → 0 < length front
-      → (y : ℕ) × (r : List ℕ) × OuterWord y r
-  named [] w is some = absurd (omega (arith, some))
-  named (y ∷ r) w is some = (
+  written : WrittenFrom T s.words h
+  written = written_from T s.words stands h around.out.live
+
+  written_long : 2 < length (h ∷ written.rest)
+  written_long = omega (arith, length-turn written.turn, ap (λ g. length (word_of s.words g)) around.outer, around.long)
+
+  named : (front : List ℕ) → written.rest ≡ front ++ prev_of s h ∷ [] → 0 < length front → (y : ℕ) × (r : List ℕ) × OuterWord y r
+  named [] is some = absurd (omega (arith, some))
+  named (y ∷ r) is some = (
     y,
     r,
     record {
-      turn = subst (λ l. TurnsTo (word_of s.words f) (h ∷ l)) is w.turn;
-      single = λ k. subst (λ l. count_of k (h ∷ l) ≤ 1) is (w.single k);
-      cycle = subst (λ l. IsCycle (Follows T f) (h ∷ l)) is w.cycle;
+      turn = subst (λ l. TurnsTo (word_of s.words f) (h ∷ l)) is written.turn;
+      single = λ k. subst (λ l. count_of k (h ∷ l) ≤ 1) is (written.single k);
+      cycle = subst (λ l. IsCycle (Follows T f) (h ∷ l)) is written.cycle;
     },
   )
 
   comes_before : (front : List ℕ) (last : ℕ) → IsCycle (Follows T f) (h ∷ front ++ last ∷ []) → last ≡ prev_of s h
   comes_before front last cycle = sym (Path-split (Follows T f) h front last [] h cycle).1.prev
 
+  parted : (front : List ℕ) (last : ℕ) → written.rest ≡ front ++ last ∷ [] → (y : ℕ) × (r : List ℕ) × OuterWord y r
+  parted front last is =
+      let before = comes_before front last (subst (λ l. IsCycle (Follows T f) (h ∷ l)) is written.cycle) in
+      named front (is ∙ ap (λ k. front ++ k ∷ []) before) (front_inside front last written.rest is (omega (arith, written_long)))
+
   pub outer_word : (y : ℕ) × (r : List ℕ) × OuterWord y r
-  outer_word =
-      let w = written_from T s.words stands h around.out.live in
-      let outer_length : length (word_of s.words f) ≡ length (word_of s.words 0) = ap (λ g. length (word_of s.words g)) around.outer in
-      let long : 2 < length (h ∷ w.rest) = omega (arith, length-turn w.turn, outer_length, around.long) in
-      let (front, last, is) = last_split w.rest (omega (arith, long)) in
-      let sizes : length w.rest ≡ length (front ++ last ∷ []) = ap length is in
-      let inside : 0 < length front = omega (arith, long, sizes, length-append front (last ∷ [])) in
-      let before = comes_before front last (subst (λ l. IsCycle (Follows T f) (h ∷ l)) is w.cycle) in
-      named front w (subst (λ k. w.rest ≡ front ++ k ∷ []) before is) inside
+  outer_word = let (front, last, is) = last_split written.rest (omega (arith, written_long)) in parted front last is
 
   module _ (y : ℕ) (r : List ℕ) (outer : OuterWord y r) where
     -- the outer face reaches up to the first spoke, or round to h where there is none

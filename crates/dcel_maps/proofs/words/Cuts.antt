@@ -24,7 +24,7 @@ use Rattle.dcel_maps.proofs.words.Paths.{Path-changed}
 use Rattle.dcel_maps.proofs.words.Standing.{dead_absent, stands_once}
 use Rattle.dcel_maps.proofs.words.Turns.{IsCycle-turn, count-turn, turned_to-is, turns_back}
 
-become-append : (x : ℕ) (items a b : List ℕ) → become x items (a ++ b) ≡ become x items a ++ become x items b
+pub become-append : (x : ℕ) (items a b : List ℕ) → become x items (a ++ b) ≡ become x items a ++ become x items b
 become-append x items [] b = refl
 become-append x items (y ∷ a) b = elim (cases_eq x y) [
   | inl same ↦

@@ -7,8 +7,12 @@ use Rattle.dcel_maps.specs.theory.Cycles.{IsCycle}
 use Rattle.dcel_maps.specs.Words.{count_of, IsLeastFirst, TurnsTo}
 use Rattle.dcel_maps.proofs.words.Faces.{IsWordOf, cycle_is_word}
 use Rattle.dcel_maps.proofs.words.Rounds.{Adjacent, round_of}
-use Rattle.dcel_maps.proofs.words.Turns.{IsCycle-turn, IsLeastFirst-from_least, from_least-is, from_least-turn, turns_on, turns_to_itself}
+use Rattle.dcel_maps.proofs.words.Turns.{IsCycle-turn, count-turn, IsLeastFirst-from_least, from_least-is, from_least-turn, turns_on, turns_to_itself}
 use Rattle.dcel_maps.specs.Cyclic.{from_least}
+
+-- the least form holds what the list holds
+pub count-from_least : (h : ℕ) (w : List ℕ) → count_of h (from_least w) ≡ count_of h w
+count-from_least h w = count-turn h (from_least-turn w)
 
 -- two forms of one cyclic list have one least form
 pub from_least-same : {w u : List ℕ} → TurnsTo w u → ((h : ℕ) → count_of h w ≤ 1) → from_least w ≡ from_least u

@@ -3,7 +3,7 @@ use Rattle.std.specs.Prelude.{ℕ, ◌/◌, List, [], ◌∷◌, map, slice_set,
 use Rattle.std.specs.List.{fold}
 use Rattle.dcel_maps.specs.Cyclic.{from_least}
 use Rattle.dcel_maps.specs.Hiding.{kept_words, kept_vertex_anchors, kept_face_anchors}
-use Rattle.dcel_maps.specs.Removals.{Isolated, Removal, gives_up_edge, shown}
+use Rattle.dcel_maps.specs.Removals.{Removal, gives_up_edge, opened, shown}
 use Rattle.dcel_maps.specs.Shapes.{Mesh, Shape, face_of, origin_of, prev_of}
 use Rattle.dcel_maps.specs.Words.{become, last_of, word_of}
 
@@ -29,7 +29,7 @@ abbrev pub strip_half : Shape → List ℕ → ℕ
 strip_half s list = prev_of s (last_of 0 list)
 
 abbrev pub strip_record : Shape → List ℕ → Removal
-strip_record s list = Isolated (strip_edges s list) (strip_faces s list) (Some (origin_of s (strip_half s list)))
+strip_record s list = opened (strip_edges s list) (strip_faces s list) (origin_of s (strip_half s list))
 
 -- the outer word: with h the outer out edge, (prev h, h) becomes the strip without its last item
 abbrev pub strip_word : Shape → List ℕ → List ℕ

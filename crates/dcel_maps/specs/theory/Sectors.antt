@@ -1,4 +1,4 @@
--- A border loop, sector by sector, as its test goes along it.
+-- A border loop and a strip, sector by sector, as their tests go along them.
 use Rattle.std.specs.Prelude.{◌≡◌, ◌≢◌, ℕ, ◌/◌, ◌<◌, ◌≤◌, List, [], ◌∷◌, length}
 use Rattle.dcel_maps.specs.Conditions.{IsTriangle}
 use Rattle.dcel_maps.specs.Shapes.{Shape, IsLive, face_of, next_of, origin_of, prev_of}
@@ -27,3 +27,10 @@ pub record IsRingRound (s : Shape) (v x : ℕ) (r : List ℕ) : Type 0 where
 -- these edges and faces have the edge and the face of each half edge of a list
 abbrev pub FindsEach : Shape → List ℕ → List ℕ → List ℕ → Type 0
 FindsEach s edges faces w = (h : ℕ) → 0 < count_of h w → (0 < count_of (h / 2) edges) × (0 < count_of (face_of s h) faces)
+
+-- a strip that ends with x: the spokes are the out edges beside the half edge before x
+pub record IsStripFrom (s : Shape) (x : ℕ) (others : List ℕ) : Type 0 where
+  pub live : IsLive s x
+  pub outer : face_of s x ≡ 0
+  pub long : next_of s x ≢ prev_of s x
+  pub spokes : Sectors s (origin_of s (prev_of s x)) (ccw_of s (prev_of s x)) others (prev_of s x)

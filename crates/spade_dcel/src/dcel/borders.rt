@@ -106,7 +106,11 @@ impl<V, DE, UE, F, A: Allocator> Dcel<V, DE, UE, F, A> {
     }
 
     // Whether a half edge comes after another one, which lies on an inner triangle.
-    fn is_sector(&self, out_edge: FixedDirectedEdgeHandle, edge: FixedDirectedEdgeHandle) -> bool
+    pub(crate) fn is_sector(
+        &self,
+        out_edge: FixedDirectedEdgeHandle,
+        edge: FixedDirectedEdgeHandle,
+    ) -> bool
         requires { IsLive self.now.shape out_edge }
         ensures { IsTrue result ↔ IsSector self.now.shape out_edge edge }
     {

@@ -1,0 +1,111 @@
+-- The lists of a record, from the largest down, list what it gives up.
+use Rattle.std.proofs.Common.{◌≡◌, ◌≢◌, ◌↔◌, inl, inr, ℕ, zero, suc, ◌<◌, ◌≤◌, ◌+◌, ◌==◌, true, List, [], ◌∷◌, ◌++◌, reverse, length, refl, sym, ap, ◌∙◌, subst, slice_index, arith, eqb, eq-eqb, eqb-true}
+use Rattle.std.proofs.lemmas.Bool.{false≢true, or_cases, or_left, or_right}
+use Rattle.std.proofs.lemmas.List.{reverse-append}
+use Rattle.std.specs.List.{list_any}
+use Rattle.std.specs.List.Sorted.{IsStrictlyIncreasing}
+use Rattle.dcel_maps.specs.Removals.{Removal, Closed, Isolated, Cleaned, IsWithin, ascending, gives_up_edge, gives_up_face}
+use Rattle.dcel_maps.specs.Renumbering.{edges_down, faces_down}
+use Rattle.dcel_maps.specs.Words.{count_of}
+use Rattle.dcel_maps.specs.theory.Renumbering.{GoesDown, IsOrdered, ListsDown}
+use Rattle.dcel_maps.proofs.words.Ascending.{Ascends, ascending-ascends, count-ascending}
+use Rattle.dcel_maps.proofs.words.Counts.{count-append, count-equal, count-later, count-same, first_or_later}
+
+-- what a list holds is found in it
+pub any-counted : (u : ℕ) (xs : List ℕ) → (list_any (λ e. e == u) xs ≡ true) ↔ (0 < count_of u xs)
+any-counted u [] = (λ found. absurd (false≢true found), λ found. absurd (omega (arith, found)))
+any-counted u (x ∷ xs) = (
+  λ found. elim (or_cases (eqb x u) (list_any (λ e. e == u) xs) found) [
+    | inl same ↦ omega (arith, count-equal u x xs (sym (eqb-true x u same)))
+    | inr later ↦ count-later u x xs ((any-counted u xs).0 later)
+  ],
+  λ found. elim (first_or_later u x xs found) [
+    | inl same ↦ or_left (eqb x u) (list_any (λ e. e == u) xs) (eq-eqb x u (sym same))
+    | inr later ↦ or_right (eqb x u) (list_any (λ e. e == u) xs) ((any-counted u xs).1 later)
+  ],
+)
+
+reverse_first : (x : ℕ) (xs : List ℕ) → reverse (x ∷ xs) ≡ reverse xs ++ x ∷ []
+reverse_first x xs = reverse-append (x ∷ []) xs
+
+count-reverse : (e : ℕ) (xs : List ℕ) → count_of e (reverse xs) ≡ count_of e xs
+count-reverse e [] = refl
+count-reverse e (x ∷ xs) =
+    let parts = ap (count_of e) (reverse_first x xs) ∙ count-append e (reverse xs) (x ∷ []) in
+    omega (arith, parts, count-reverse e xs)
+
+-- an ascending list has its least item first
+pub increasing-rest : (x : ℕ) (xs : List ℕ) → IsStrictlyIncreasing (x ∷ xs) → IsStrictlyIncreasing xs
+increasing-rest x xs up = λ k below.
+    let on : suc k + 1 ≡ suc (k + 1) = omega arith in
+    subst (λ i. slice_index xs k < slice_index (x ∷ xs) i) on (up (suc k) (omega (arith, below)))
+
+pub increasing-first : (x : ℕ) (xs : List ℕ) → IsStrictlyIncreasing (x ∷ xs) → (e : ℕ) → 0 < count_of e xs → x < e
+increasing-first x [] up e found = absurd (omega (arith, found))
+increasing-first x (y ∷ ys) up e found =
+    let step : x < y = up 0 (omega arith) in
+    elim (first_or_later e y ys found) [
+      | inl same ↦ omega (arith, step, same)
+      | inr later ↦ omega (arith, step, increasing-first y ys (increasing-rest x (y ∷ ys) up) e later)
+    ]
+
+-- items in ascending order, each once, ascend strictly
+pub ascends-increasing : (xs : List ℕ) → Ascends xs → ((k : ℕ) → count_of k xs ≤ 1) → IsStrictlyIncreasing xs
+ascends-increasing xs up single = λ k below. climbs xs up single k below
+  where
+    climbs : (xs : List ℕ) → Ascends xs → ((k : ℕ) → count_of k xs ≤ 1) → (k : ℕ) → k + 1 < length xs → slice_index xs k < slice_index xs (k + 1)
+    climbs [] up single k below = absurd (omega (arith, below))
+    climbs (x ∷ []) up single k below = absurd (omega (arith, below))
+    climbs (x ∷ y ∷ r) up single zero below =
+        let most : x ≤ y = up.0 y (omega (arith, count-same y r)) in
+        let differs : x ≢ y = λ same. omega (arith, single y, count-equal y x (y ∷ r) (sym same), count-same y r) in
+        omega (arith, most, differs)
+    climbs (x ∷ y ∷ r) up single (suc k) below =
+        let on : suc k + 1 ≡ suc (k + 1) = omega arith in
+        subst (λ i. slice_index (y ∷ r) k < slice_index (x ∷ y ∷ r) i) (sym on)
+        (climbs (y ∷ r) up.1 (λ i. omega (arith, single i)) k (omega (arith, below)))
+
+pub ascending-increasing : (xs : List ℕ) → ((k : ℕ) → count_of k xs ≤ 1) → IsStrictlyIncreasing (ascending xs)
+ascending-increasing xs single = ascends-increasing (ascending xs) (ascending-ascends xs) (λ k. omega (arith, single k, count-ascending k xs))
+
+-- a list that goes down still does with a smaller item at its end
+down-ended : (n x : ℕ) (ds : List ℕ) → GoesDown n ds → x < n → ((e : ℕ) → 0 < count_of e ds → x < e) → GoesDown n (ds ++ x ∷ [])
+down-ended n x [] down below less = (below, tt)
+down-ended n x (d ∷ ds) down below less =
+    (down.0, down-ended d x ds down.1 (less d (omega (arith, count-same d ds))) (λ e found. less e (count-later e d ds found)))
+
+reverse-down : (n : ℕ) (xs : List ℕ) → IsStrictlyIncreasing xs → ((e : ℕ) → 0 < count_of e xs → e < n) → GoesDown n (reverse xs)
+reverse-down n [] up below = tt
+reverse-down n (x ∷ xs) up below =
+    subst (GoesDown n) (sym (reverse_first x xs))
+    (down-ended n x (reverse xs) (reverse-down n xs (increasing-rest x xs up) (λ e found. below e (count-later e x xs found)))
+    (below x (omega (arith, count-same x xs)))
+    (λ e found. increasing-first x xs up e (omega (arith, found, count-reverse e xs))))
+
+reverse-lists : (n : ℕ) (xs : List ℕ) → IsStrictlyIncreasing xs → ((e : ℕ) → list_any (λ x. x == e) xs ≡ true → e < n)
+    → ListsDown (λ e. list_any (λ x. x == e) xs ≡ true) n (reverse xs)
+reverse-lists n xs up below = record {
+  down = reverse-down n xs up (λ e found. below e ((any-counted e xs).1 found));
+  each = λ e. (
+    λ given. omega (arith, count-reverse e xs, (any-counted e xs).0 given),
+    λ found. (any-counted e xs).1 (omega (arith, count-reverse e xs, found)),
+  );
+}
+
+none_down : {passes : ℕ → Type 0} (n : ℕ) → ((e : ℕ) → passes e → ⊥) → ListsDown passes n []
+none_down n none = record { down = tt; each = λ e. (λ passes. absurd (none e passes), λ found. absurd (omega (arith, found))) }
+
+module _ {vertices edges faces : ℕ} where
+  pub edges_down-list : (r : Removal) → IsOrdered r → IsWithin r vertices edges faces
+      → ListsDown (λ u. gives_up_edge r u ≡ true) edges (edges_down r)
+  unfolding gives_up_edge
+  edges_down-list Closed up within = none_down edges (λ e given. false≢true given)
+  edges_down-list (Isolated es fs v) up within = reverse-lists edges es up.0 within.edges
+  edges_down-list (Cleaned v) up within = none_down edges (λ e given. false≢true given)
+
+  pub faces_down-list : (r : Removal) → IsOrdered r → IsWithin r vertices edges faces
+      → ListsDown (λ f. gives_up_face r f ≡ true) faces (faces_down r)
+  unfolding gives_up_face
+  faces_down-list Closed up within = none_down faces (λ e given. false≢true given)
+  faces_down-list (Isolated es fs v) up within = reverse-lists faces fs up.1 (λ f given. (within.faces f given).1)
+  faces_down-list (Cleaned v) up within = none_down faces (λ e given. false≢true given)

@@ -1,0 +1,70 @@
+-- A vertex where no edge starts is taken out: what is left is sound, and a sphere.
+use Rattle.std.proofs.Common.{◌≡◌, ◌≢◌, ℕ, ◌-◌, ◌*◌, ◌/◌, ◌<◌, true, false, not, length, nat_lt, ◌&&◌, refl, sym, ap, ◌∙◌, arith}
+use Rattle.std.proofs.lemmas.List.{get_or-map}
+use Rattle.dcel_maps.specs.Removals.{Closed, gives_up_edge, gives_up_face, gives_up_vertex}
+use Rattle.dcel_maps.specs.Renumbering.{moved, shape_without_vertex}
+use Rattle.dcel_maps.specs.Shapes.{IsLive, IsSound, IsSphere, Shape, edge_is_live, face_count, face_is_live, origin_of, vertex_is_live}
+use Rattle.dcel_maps.proofs.Liveness.{gives_up_edge-closed, gives_up_face-closed, gives_up_vertex-closed, is_live-from, is_live-parts}
+use Rattle.dcel_maps.proofs.renumbering.Moves.{moved-back, moved-below}
+use Rattle.dcel_maps.proofs.shapes.Renames.{IsRenamed, renamed-sound, renamed-sphere}
+use Rattle.dcel_maps.proofs.shapes.SameNumbers.{word-kept}
+
+-- no live half edge starts at d, and nothing else is given up
+pub record IsOnlyOut (s : Shape) (d : ℕ) : Type 0 where
+  pub below : d < s.vertices
+  pub bare : (h : ℕ) → IsLive s h → origin_of s h ≢ d
+  pub no_vertex : (v : ℕ) → gives_up_vertex s.removal v ≡ true → v ≡ d
+  pub no_edge : (u : ℕ) → gives_up_edge s.removal u ≡ false
+  pub no_face : (g : ℕ) → gives_up_face s.removal g ≡ false
+  pub origins : length s.origins ≡ 2 * s.edges
+
+module _ (s : Shape) (d : ℕ) (sound : IsSound s) (out : IsOnlyOut s d) where
+  edge-live : (u : ℕ) → edge_is_live (shape_without_vertex s d) u ≡ edge_is_live s u
+  edge-live u = ap (λ b. nat_lt u s.edges && not b) (gives_up_edge-closed u ∙ sym (out.no_edge u))
+
+  face-live : (g : ℕ) → face_is_live (shape_without_vertex s d) g ≡ face_is_live s g
+  face-live g = ap (λ b. nat_lt g (face_count s) && not b) (gives_up_face-closed g ∙ sym (out.no_face g))
+
+  origin-moved : (x : ℕ) → IsLive s x → origin_of (shape_without_vertex s d) x ≡ moved (s.vertices - 1) d (origin_of s x)
+  origin-moved x live =
+      let is = (is_live-parts (gives_up_edge s.removal) s.edges (x / 2) live).0 in
+      get_or-map (moved (s.vertices - 1) d) s.origins x 0 0 (omega (arith, is, out.origins))
+
+  vertex-live : (x : ℕ) → IsLive s x → vertex_is_live (shape_without_vertex s d) (moved (s.vertices - 1) d (origin_of s x)) ≡ true
+  vertex-live x live =
+      let is = (is_live-parts (gives_up_vertex s.removal) s.vertices (origin_of s x) (sound.starts_live x live)).0 in
+      is_live-from (gives_up_vertex Closed) (s.vertices - 1) (moved (s.vertices - 1) d (origin_of s x))
+      (moved-below (s.vertices - 1) d (origin_of s x) (omega (arith, out.below)) (omega (arith, is)) (out.bare x live))
+      (gives_up_vertex-closed (moved (s.vertices - 1) d (origin_of s x)))
+
+  -- one step of renumbering gives the vertices other numbers
+  pub vertex-renamed : IsRenamed s (shape_without_vertex s d) (λ h. h) (λ h. h) (moved (s.vertices - 1) d) (moved d (s.vertices - 1)) (λ g. g) (λ g. g)
+  vertex-renamed = record {
+    lives = λ x live. edge-live (x / 2) ∙ live;
+    comes = λ y live. sym (edge-live (y / 2)) ∙ live;
+    forth = λ x live. refl;
+    back = λ y live. refl;
+    turn = λ x. refl;
+    origin = origin-moved;
+    vertex = vertex-live;
+    vertex_forth = λ x live. moved-back (s.vertices - 1) d (origin_of s x) (out.bare x live);
+    face = λ g live. face-live g ∙ live;
+    face_forth = λ g live. refl;
+    face_back = λ g below. refl;
+    face_within = λ g below. below;
+    face_comes = λ g below. face-live g;
+    inner = λ g inside below. inside;
+    word = λ g below. sym (word-kept s sound g);
+    outer = sym (word-kept s sound 0);
+  }
+
+  -- so what is left is sound, and a sphere
+  pub vertex_out-sound : IsSound (shape_without_vertex s d)
+  vertex_out-sound =
+      renamed-sound s (shape_without_vertex s d) (λ h. h) (λ h. h) (moved (s.vertices - 1) d) (moved d (s.vertices - 1)) (λ g. g) (λ g. g)
+      vertex-renamed sound
+
+  pub vertex_out-sphere : IsSphere s → IsSphere (shape_without_vertex s d)
+  vertex_out-sphere =
+      renamed-sphere s (shape_without_vertex s d) (λ h. h) (λ h. h) (moved (s.vertices - 1) d) (moved d (s.vertices - 1)) (λ g. g) (λ g. g)
+      vertex-renamed sound

@@ -1,0 +1,60 @@
+//! The test of what cutting a strip asks.
+
+ghost use Rattle.std.specs.Prelude.{◌↔◌, IsTrue};
+ghost use Rattle.dcel_maps.specs.Shapes.{IsLive, origin_of};
+ghost use Rattle.dcel_maps.specs.Strips.{IsEdgeStrip};
+ghost use Rattle.dcel_maps.specs.theory.Sectors.{Sectors};
+ghost use Rattle.dcel_maps.specs.Walking.{ccw_of};
+
+use crate::dcel::Dcel;
+use crate::laws::every_mesh;
+use dcel_fixed::FixedDirectedEdgeHandle;
+use std::alloc::Allocator;
+
+impl<V, DE, UE, F, A: Allocator> Dcel<V, DE, UE, F, A> {
+    /// Whether these half edges are the strip of a vertex that has exactly one out edge on the outer face, whose other faces are triangles,
+    /// while the outer face has three half edges or more: the list is what comes after the other out edges, in the order of `ccw` from
+    /// the outer one on, and last what comes after that one. Any numbers may be asked about.
+    pub fn is_edge_strip(&self, list: &[FixedDirectedEdgeHandle]) -> bool
+        ensures { IsTrue result ↔ IsEdgeStrip self.now.shape list.now }
+    {
+        every_mesh(self);
+        let Some((&last, others)) = list.split_last() else {
+            return false;
+        };
+        if !self.is_live_edge(last.as_undirected()) {
+            return false;
+        }
+        if !self.face_of_edge(last).is_outer() {
+            return false;
+        }
+        let outer_out = self.prev_edge(last);
+        if self.next_edge(last) == outer_out {
+            return false;
+        }
+        self.goes_along(outer_out, others)
+    }
+
+    // Whether the list goes along the sectors of the out edges after the first one, and so round back to it.
+    fn goes_along(
+        &self,
+        first_out: FixedDirectedEdgeHandle,
+        list: &[FixedDirectedEdgeHandle],
+    ) -> bool
+        requires { IsLive self.now.shape first_out }
+        ensures { let shape = self.now.shape in
+            IsTrue result ↔ Sectors shape (origin_of shape first_out) (ccw_of shape first_out) list.now first_out }
+    {
+        every_mesh(self);
+        let mut out_edge = self.prev_edge(first_out).rev();
+        let mut left = list;
+        while let Some((&edge, after)) = left.split_first() {
+            if !self.is_sector(out_edge, edge) {
+                return false;
+            }
+            out_edge = self.prev_edge(out_edge).rev();
+            left = after;
+        }
+        out_edge == first_out
+    }
+}
