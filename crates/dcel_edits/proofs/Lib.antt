@@ -2,6 +2,7 @@ pub mod Along
 pub mod AlongLinks
 pub mod Descending
 pub mod Dropping
+pub mod Ears
 pub mod FaceWords
 pub mod Mending
 mod Numbers

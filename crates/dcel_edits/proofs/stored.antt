@@ -5,9 +5,11 @@ pub mod CleaningUp
 pub mod Closing
 pub mod Creating
 pub mod Data
+pub mod Ears
 pub mod EdgeMoves
 pub mod EdgesOut
 pub mod FacesOut
+pub mod Filling
 pub mod Flips
 pub mod Halves
 pub mod Held

@@ -1,5 +1,6 @@
 pub mod Adding
 pub mod Create
+pub mod Fill
 pub mod Flip
 pub mod Line
 pub mod Outside

@@ -3,6 +3,7 @@
 #![tactic(auto)]
 
 pub mod create;
+pub mod fill;
 pub mod flip;
 pub mod line;
 mod links;

@@ -43,7 +43,7 @@ module _ (g : ℕ → Bool) where
   pub shown-set : (vs : List ℕ) (h a : ℕ) → g (h / 2) ≡ false → shown g (slice_set vs h a) ≡ slice_set (shown g vs) h a
   shown-set vs h a live = shown_from-set 0 vs h a (rw zero-add live)
 
-  shown_from-kept : (h : ℕ) (vs : List ℕ) → ((u : ℕ) → h / 2 ≤ u → g u ≡ false) → shown_from g h vs ≡ vs
+  pub shown_from-kept : (h : ℕ) (vs : List ℕ) → ((u : ℕ) → h / 2 ≤ u → g u ≡ false) → shown_from g h vs ≡ vs
   shown_from-kept h [] kept = refl
   shown_from-kept h (v ∷ vs) kept =
       rw (kept (h / 2) (omega arith)) (ap (λ z. v ∷ z) (shown_from-kept (suc h) vs (λ u past. kept u (omega (arith, past)))))

@@ -13,6 +13,7 @@ pub mod PathCuts
 pub mod PathEdits
 pub mod PathMiddles
 pub mod Paths
+pub mod RingLists
 pub mod Sectors
 pub mod Spokes
 pub mod StripItems

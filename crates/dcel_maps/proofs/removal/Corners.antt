@@ -25,7 +25,7 @@ use Rattle.dcel_maps.proofs.removal.Holes.{HoleOf, P, hole}
 use Rattle.dcel_maps.proofs.removal.Spokes.{Different, Merged, Sector, follows, opened}
 
 -- in a sound map: on a triangle no other half edge starts where one does
-same_corner : (S : Map) → Sound S → (p : ℕ) → Live S p → S.next (S.next p) ≡ S.prev p
+pub same_corner : (S : Map) → Sound S → (p : ℕ) → Live S p → S.next (S.next p) ≡ S.prev p
     → (q : ℕ) → Live S q → S.origin q ≡ S.origin p → S.face q ≡ S.face p → q ≡ p
 same_corner S sound p live three q live_q start same = elim (cases_eq q p) [
   | inl is ↦ is

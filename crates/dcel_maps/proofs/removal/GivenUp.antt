@@ -41,7 +41,7 @@ module _ {V DE UE F : Type 0} (m : Mesh V DE UE F) (mesh : IsMesh m) (v : ℕ) (
   out_found : (h : ℕ) → IsOutEdge m.shape v h → 0 < count_of h (out_edges_of m v)
   out_found h out = let one = outs.each h out in omega (arith, one)
 
-  edges_at-lists : Lists (IsEdgeAt m.shape v) (edges_at m v)
+  pub edges_at-lists : Lists (IsEdgeAt m.shape v) (edges_at m v)
   edges_at-lists = record {
     each = λ u at. subst (λ z. 0 < count_of z (edges_at m v)) at.is (count-mapped (λ h. h / 2) (out_edges_of m v) at.half (out_found at.half at.out));
     no_other = λ u found.
@@ -49,7 +49,7 @@ module _ {V DE UE F : Type 0} (m : Mesh V DE UE F) (mesh : IsMesh m) (v : ℕ) (
         record { half = h; out = outs.no_other h there; is = is };
   }
 
-  faces_at-lists : Lists (IsFaceAt m.shape v) (faces_at m v)
+  pub faces_at-lists : Lists (IsFaceAt m.shape v) (faces_at m v)
   faces_at-lists = record {
     each = λ f at. subst (λ z. 0 < count_of z (faces_at m v)) at.is (count-mapped (face_of m.shape) (out_edges_of m v) at.half (out_found at.half at.out));
     no_other = λ f found.

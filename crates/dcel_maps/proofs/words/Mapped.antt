@@ -1,5 +1,5 @@
 -- What stands in a list under a function, and in a list that is tested for a number.
-use Rattle.std.proofs.Common.{◌≡◌, inl, inr, ◌<◌, ◌==◌, ℕ, true, List, [], ◌∷◌, map, sym, ap, subst, arith, eqb-true, eq-eqb}
+use Rattle.std.proofs.Common.{◌≡◌, inl, inr, ◌<◌, ◌==◌, ℕ, zero, suc, true, List, [], ◌∷◌, length, map, slice_index_or, sym, ap, subst, arith, eqb-true, eq-eqb}
 use Rattle.std.specs.List.{list_any}
 use Rattle.std.proofs.lemmas.Bool.{false≢true, or_cases, or_left, or_right}
 use Rattle.dcel_maps.specs.Words.{count_of}
@@ -19,6 +19,12 @@ mapped_from f (y ∷ w) u found = elim (first_or_later u (f y) (map f w) found) 
   | inl same ↦ (y, omega (arith, count-same y w), sym same)
   | inr later ↦ let (x, there, is) = mapped_from f w u later in (x, count-later x y w there, is)
 ]
+
+-- what stands at a place of a list stands in it
+pub count-at : (w : List ℕ) (k other : ℕ) → k < length w → 0 < count_of (slice_index_or w k other) w
+count-at [] k other within = absurd (omega (arith, within))
+count-at (x ∷ w) zero other within = omega (arith, count-same x w)
+count-at (x ∷ w) (suc k) other within = count-later (slice_index_or w k other) x w (count-at w k other (omega (arith, within)))
 
 -- the test of a list for a number
 pub any_stands : (u : ℕ) (w : List ℕ) → list_any (λ e. e == u) w ≡ true → 0 < count_of u w

@@ -1,8 +1,9 @@
 -- A border loop and a strip, sector by sector, as their tests go along them.
-use Rattle.std.specs.Prelude.{◌≡◌, ◌≢◌, ℕ, ◌<◌, ◌≤◌, List, [], ◌∷◌, length}
+use Rattle.std.specs.Prelude.{◌≡◌, ◌≢◌, ℕ, ◌/◌, ◌<◌, ◌≤◌, List, [], ◌∷◌, length}
 use Rattle.dcel_maps.specs.Conditions.{IsTriangle}
 use Rattle.dcel_maps.specs.Shapes.{Shape, IsLive, face_of, next_of, origin_of, prev_of}
 use Rattle.dcel_maps.specs.Walking.{ccw_of}
+use Rattle.dcel_maps.specs.Words.{count_of}
 
 -- x comes after h, which lies on an inner triangle
 pub record IsSector (s : Shape) (h x : ℕ) : Type 0 where
@@ -22,6 +23,10 @@ pub record IsRingRound (s : Shape) (v x : ℕ) (r : List ℕ) : Type 0 where
   pub many : 2 ≤ length r
   pub first : IsSector s (prev_of s x) x
   pub others : Sectors s (origin_of s x) (ccw_of s (prev_of s x)) r (prev_of s x)
+
+-- these edges and faces have the edge and the face of each half edge of a list
+abbrev pub FindsEach : Shape → List ℕ → List ℕ → List ℕ → Type 0
+FindsEach s edges faces w = (h : ℕ) → 0 < count_of h w → (0 < count_of (h / 2) edges) × (0 < count_of (face_of s h) faces)
 
 -- a strip that ends with x: the spokes are the out edges beside the half edge before x
 pub record IsStripFrom (s : Shape) (x : ℕ) (others : List ℕ) : Type 0 where

@@ -1,14 +1,18 @@
 //! Tests of what a removal opens with: the half edges round what is given up.
 
-ghost use Rattle.std.specs.Prelude.{◌↔◌, IsTrue, reverse};
-ghost use Rattle.dcel_maps.specs.Borders.{IsBorderLoop};
-ghost use Rattle.dcel_maps.specs.Shapes.{IsLive, next_of, origin_of};
-ghost use Rattle.dcel_maps.specs.theory.Sectors.{IsSector, Sectors};
-ghost use Rattle.dcel_maps.specs.Walking.{ccw_of};
+ghost use Rattle.std.specs.Prelude.{◌↔◌, ◌<◌, IsTrue, reverse};
+ghost use Rattle.dcel_maps.specs.Borders.{IsBorderLoop, IsRing};
+ghost use Rattle.dcel_maps.specs.Shapes.{IsLive, origin_of};
+ghost use Rattle.dcel_maps.specs.theory.Sectors.{FindsEach, IsSector, Sectors};
+ghost use Rattle.dcel_maps.specs.Walking.{ccw_of, out_edges_of};
+ghost use Rattle.dcel_maps.specs.Words.{count_of};
 
 use crate::dcel::Dcel;
 use crate::laws::every_mesh;
-use dcel_fixed::{FixedDirectedEdgeHandle, FixedVertexHandle};
+use dcel_fixed::{
+    FixedDirectedEdgeHandle, FixedFaceHandle, FixedHandleImpl, FixedUndirectedEdgeHandle,
+    FixedVertexHandle, InnerOuterMarker, InnerTag,
+};
 use std::alloc::Allocator;
 
 impl<V, DE, UE, F, A: Allocator> Dcel<V, DE, UE, F, A> {
@@ -40,6 +44,65 @@ impl<V, DE, UE, F, A: Allocator> Dcel<V, DE, UE, F, A> {
             return false;
         }
         self.goes_round(out_edge, last, others)
+    }
+
+    /// Whether these half edges are the border loop of some vertex, and these are the edges at that vertex and the faces round it, each
+    /// once and in any order. Any numbers may be asked about. The edges and faces are looked for at the places where they stand in the
+    /// order of out edges first, so that lists in this order are gone through once.
+    pub fn is_ring(
+        &self,
+        list: &[FixedDirectedEdgeHandle],
+        edges: &[FixedUndirectedEdgeHandle],
+        faces: &[FixedFaceHandle<InnerTag>],
+    ) -> bool
+        ensures { IsTrue result ↔ IsRing self.now.shape list.now edges.now faces.now }
+    {
+        every_mesh(self);
+        let Some((&first, _)) = list.split_first() else {
+            return false;
+        };
+        if !self.is_live_edge(first.as_undirected()) {
+            return false;
+        }
+        let center = self.origin(self.prev_edge(first));
+        if !self.is_border_loop(list, center) {
+            return false;
+        }
+        if edges.len() != list.len() {
+            return false;
+        }
+        if faces.len() != list.len() {
+            return false;
+        }
+        self.finds_each(center, edges, faces)
+    }
+
+    // Whether the edge and the face of each out edge of the vertex are among these.
+    fn finds_each(
+        &self,
+        vertex: FixedVertexHandle,
+        edges: &[FixedUndirectedEdgeHandle],
+        faces: &[FixedFaceHandle<InnerTag>],
+    ) -> bool
+        requires { vertex < self.now.shape.vertices }
+        ensures { IsTrue result ↔ FindsEach self.now.shape edges.now faces.now (out_edges_of self.now vertex) }
+    {
+        let mut place: usize = 0;
+        for out_edge in self.vertex(vertex).out_edges() {
+            let out_edge = out_edge.fix();
+            if !stands_near(edges, place, out_edge.as_undirected()) {
+                return false;
+            }
+            if !stands_near(
+                faces,
+                place,
+                self.face_of_edge(out_edge).adjust_inner_outer(),
+            ) {
+                return false;
+            }
+            place = place.wrapping_add(1);
+        }
+        true
     }
 
     // Whether a half edge comes after another one, which lies on an inner triangle.
@@ -85,4 +148,20 @@ impl<V, DE, UE, F, A: Allocator> Dcel<V, DE, UE, F, A> {
         }
         out_edge == first_out
     }
+}
+
+// Whether an item stands in the list: it is looked for at this place first.
+fn stands_near<Kind, InnerOuter: InnerOuterMarker>(
+    items: &[FixedHandleImpl<Kind, InnerOuter>],
+    place: usize,
+    item: FixedHandleImpl<Kind, InnerOuter>,
+) -> bool
+    ensures { IsTrue result ↔ (0 < count_of item items.now) }
+{
+    if place < items.len() {
+        if items[place] == item {
+            return true;
+        }
+    }
+    items.contains(&item)
 }
