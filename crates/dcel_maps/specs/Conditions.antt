@@ -1,7 +1,8 @@
 -- What operations ask of a shape.
-use Rattle.std.specs.Prelude.{◌≡◌, ◌≢◌, ℕ, ◌+◌, ◌*◌, ◌≤◌, ◌^◌, true, length}
+use Rattle.std.specs.Prelude.{◌≡◌, ◌≢◌, ◌⊎◌, ℕ, ◌+◌, ◌*◌, ◌≤◌, ◌^◌, true, length}
 use Rattle.dcel_fixed.specs.HalfEdges.{rev}
 use Rattle.dcel_maps.specs.Maps.{IsBare}
+use Rattle.dcel_maps.specs.Removals.{Closed, Cleaned}
 use Rattle.dcel_maps.specs.Shapes.{Shape, IsLive, vertex_is_live, edge_is_live, face_is_live, next_of, prev_of, origin_of, end_of, face_of, face_count, map_of}
 use Rattle.dcel_maps.specs.Walking.{IsOutEdge}
 use Rattle.dcel_maps.specs.Words.{word_of}
@@ -10,6 +11,10 @@ use Rattle.dcel_maps.specs.Words.{word_of}
 pub record IsUnconnected (s : Shape) (v : ℕ) : Type 0 where
   pub live : vertex_is_live s v ≡ true
   pub bare : IsBare (map_of s) v
+
+-- v is unconnected while no removal is open, or it alone is still given up
+abbrev pub CanSwapRemove : Shape → ℕ → Type 0
+CanSwapRemove s v = ((s.removal ≡ Closed) × IsUnconnected s v) ⊎ (s.removal ≡ Cleaned v)
 
 -- h is the one live half edge that starts at v
 pub record IsOnlyOut (s : Shape) (v h : ℕ) : Type 0 where

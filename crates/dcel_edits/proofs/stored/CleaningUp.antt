@@ -1,8 +1,8 @@
 -- What a removal has given up is taken out of lists that hold a mesh: what is left holds the mesh that is cleaned up.
-use Rattle.std.proofs.Common.{◌≡◌, ℕ, ◌/◌, true, not, ◌&&◌, nat_lt, fold, List, [], ◌∷◌, refl, sym, ap, ◌∙◌, subst}
+use Rattle.std.proofs.Common.{◌≡◌, ℕ, ◌/◌, not, ◌&&◌, nat_lt, fold, List, [], ◌∷◌, sym, ap, ◌∙◌, subst, subst₂, reverse}
 use Rattle.dcel_store.specs.Lists.{Lists}
 use Rattle.dcel_edits.specs.TakingOut.{CanLoseEdges, CanLoseFaces, edge_out, edges_out, face_out, faces_out}
-use Rattle.dcel_maps.specs.Removals.{Removal, gives_up_edge, shown}
+use Rattle.dcel_maps.specs.Removals.{Removal, gives_up_edge, IsListed, ascending, shown}
 use Rattle.dcel_maps.specs.Renumbering.{cleaned, cleaned_up, edge_taken_out, edges_down, edges_taken_out, face_taken_out, faces_down, faces_taken_out, without_edge, without_face}
 use Rattle.dcel_maps.specs.Shapes.{IsLive, IsMesh, Mesh}
 use Rattle.dcel_maps.proofs.Shown.{shown-same}
@@ -13,6 +13,7 @@ use Rattle.dcel_edits.proofs.stored.TakingOut.{can_lose_edge, can_lose_face, hol
 use Rattle.dcel_maps.proofs.renumbering.AllEdges as edges
 use Rattle.dcel_maps.proofs.renumbering.AllFaces as faces
 use Rattle.dcel_maps.proofs.renumbering.Cleanup.{cleaned_up-mesh, edges_listed, faces_listed, same_edges}
+use Rattle.dcel_maps.proofs.renumbering.GivenUp.{listed-down}
 
 module _ {V DE UE F : Type 0} where
   -- all edges that are given up
@@ -99,3 +100,25 @@ module _ {V DE UE F : Type 0} where
 
     pub cleanup_holds : Holds left (cleaned m.shape.removal) (cleaned_up m)
     cleanup_holds = lists_hold left (cleaned_up m) (cleaned_up-mesh m mesh) cleaned_lists
+
+    -- where these are taken out that lists name, in ascending order
+    module _ (es fs xs ys : List ℕ) (listed : IsListed m.shape.removal es fs) (xs_are : xs ≡ ascending es) (ys_are : ys ≡ ascending fs) where
+      edges_are : given_edges ≡ reverse xs
+      edges_are = (listed-down m.shape.removal es fs listed).0 ∙ ap reverse (sym xs_are)
+
+      faces_are : given_faces ≡ reverse ys
+      faces_are = (listed-down m.shape.removal es fs listed).1 ∙ ap reverse (sym ys_are)
+
+      pub can_lose_listed_edges : CanLoseEdges s (reverse xs)
+      can_lose_listed_edges = subst (CanLoseEdges s) edges_are cleanup_loses_edges
+
+      pub can_lose_listed_faces : {t : Lists V DE UE F} → t ≡ edges_out s (reverse xs) → CanLoseFaces t (reverse ys)
+      can_lose_listed_faces is =
+          subst₂ CanLoseFaces (ap (edges_out s) edges_are ∙ sym is) faces_are cleanup_loses_faces
+
+      pub listed_out_holds : {t u : Lists V DE UE F} {q : Removal} → t ≡ edges_out s (reverse xs) → u ≡ faces_out t (reverse ys)
+          → q ≡ cleaned r → Holds u q (cleaned_up m)
+      listed_out_holds {t} {u} {q} is then clean =
+          subst₂ (λ v p. Holds v p (cleaned_up m))
+          (ap (λ v. faces_out v given_faces) (ap (edges_out s) edges_are ∙ sym is) ∙ ap (faces_out t) faces_are ∙ sym then)
+          (ap cleaned (held_removal s r m held) ∙ sym clean) cleanup_holds

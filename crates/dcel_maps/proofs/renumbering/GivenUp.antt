@@ -3,7 +3,7 @@ use Rattle.std.proofs.Common.{◌≡◌, ◌↔◌, inl, inr, ℕ, ◌<◌, ◌=
 use Rattle.std.proofs.lemmas.Bool.{false≢true, or_cases, or_left, or_right}
 use Rattle.std.proofs.lemmas.List.{reverse-append}
 use Rattle.std.specs.List.{list_any}
-use Rattle.dcel_maps.specs.Removals.{Removal, Closed, Isolated, Cleaned, GoesUp, IsWithin, gives_up_edge, gives_up_face}
+use Rattle.dcel_maps.specs.Removals.{Removal, Closed, Isolated, Cleaned, GoesUp, IsWithin, gives_up_edge, gives_up_face, IsListed, ascending}
 use Rattle.dcel_maps.specs.Renumbering.{edges_down, faces_down}
 use Rattle.dcel_maps.specs.Words.{count_of}
 use Rattle.dcel_maps.specs.theory.Renumbering.{GoesDown, ListsDown}
@@ -73,3 +73,10 @@ module _ {vertices edges faces : ℕ} where
   faces_down-list Closed within = none_down faces (λ e given. false≢true given)
   faces_down-list (Isolated es fs v) within = reverse-lists faces fs within.in_order.1 (λ f given. (within.faces f given).1)
   faces_down-list (Cleaned v) within = none_down faces (λ e given. false≢true given)
+
+-- lists that name what is given up, in ascending order, are those
+pub listed-down : (r : Removal) (es fs : List ℕ) → IsListed r es fs
+    → (edges_down r ≡ reverse (ascending es)) × (faces_down r ≡ reverse (ascending fs))
+listed-down Closed es fs listed = absurd listed
+listed-down (Isolated edges faces vertex) es fs listed = (ap reverse (sym listed.0), ap reverse (sym listed.1))
+listed-down (Cleaned vertex) es fs listed = absurd listed

@@ -1,6 +1,4 @@
-use Rattle.std.proofs.Common.{◌≡◌, rules, arith}
-use Rattle.dcel_edits.specs.TakingOut.{CanLoseFace, face_out}
-use Rattle.dcel_edits.proofs.Descending.{can_step, descent_begins, descent_ends, descent_goes_on}
+use Rattle.dcel_edits.proofs.Descending.{descent_begins}
 use Rattle.dcel_edits.proofs.removal.take_out.take_out_faces.Goals as goal
 
 pub loop-left-init : goal.loop-left-init
