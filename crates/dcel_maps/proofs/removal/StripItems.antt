@@ -1,6 +1,6 @@
 -- What stands in a strip, and what is given up with it.
 use Rattle.std.proofs.Common.{◌≡◌, ◌≢◌, ◌↔◌, inl, inr, ◌/◌, ◌<◌, ◌≤◌, ◌==◌, ℕ, eq-eqb, List, [], ◌∷◌, ◌++◌, append-nil, map, sym, refl, ap, ◌∙◌, subst, arith}
-use Rattle.std.proofs.lemmas.Bool.{cases_lt}
+use Rattle.std.proofs.lemmas.Bool.{cases_eq, cases_lt}
 use Rattle.dcel_maps.specs.Borders.{IsEdgeAt, IsFaceAt}
 use Rattle.dcel_maps.specs.Cyclic.{from_least}
 use Rattle.dcel_maps.specs.edits.Strip.{strip_edges, strip_faces, strip_half, strip_record, strip_word}
@@ -12,11 +12,13 @@ use Rattle.dcel_maps.specs.Walking.{IsOutEdge}
 use Rattle.dcel_maps.specs.Words.{TurnsTo, become, count_of, word_of}
 use Rattle.dcel_maps.proofs.maps.Soundness.{face_cycles, face_prev}
 use Rattle.dcel_maps.proofs.removal.StripShapes.{GivesUpStrip}
-use Rattle.dcel_maps.proofs.removal.StripSpokes.{OuterWord, are_spokes, each_out, spoke_inner, spokes_are, trip}
+use Rattle.dcel_maps.proofs.removal.StripSpokes.{OuterWord, are_spokes, each_out, spoke_alone, spoke_inner, spokes_are, spokes_once, trip}
+use Rattle.dcel_maps.proofs.shapes.Chains.{single-map}
+use Rattle.dcel_maps.proofs.maps.Halves.{rev_or_same}
 use Rattle.dcel_maps.proofs.shapes.Maps.{map-sound}
 use Rattle.dcel_maps.proofs.words.Ascending.{any-ascending}
 use Rattle.dcel_maps.proofs.words.Becoming.{become-none}
-use Rattle.dcel_maps.proofs.words.Counts.{count-append, count-same, first_or_later}
+use Rattle.dcel_maps.proofs.words.Counts.{count-append, count-equal, count-other, count-same, first_or_later}
 use Rattle.dcel_maps.proofs.words.Cuts.{become-append, become-turn}
 use Rattle.dcel_maps.proofs.words.Cyclic.{from_least-same}
 use Rattle.dcel_maps.proofs.words.EachSet.{but_last-is, last_of-is}
@@ -113,6 +115,16 @@ module _ (s : Shape) (sound : IsSound s) (sphere : IsSphere s) (v h : ℕ) (arou
       let at : face_of s x ≡ f = sym (face_along x k.out) ∙ ap (face_of s) next ∙ is in
       (record { half = x; out = k.out; is = at }, λ outside. spoke_inner s sound sphere v h around x k (at ∙ outside))
 
+  one_face : (e z : ℕ) → 0 < count_of e items → 0 < count_of z items → face_of s e ≡ face_of s z → e ≡ z
+  one_face e z e_in z_in same =
+      let (x, x_in, x_next) = mapped_from (next_of s) (trip s sound sphere v h around).rest e e_in in
+      let (w, w_in, w_next) = mapped_from (next_of s) (trip s sound sphere v h around).rest z z_in in
+      let k = are_spokes s sound sphere v h around x x_in in
+      let j = are_spokes s sound sphere v h around w w_in in
+      let at : face_of s x ≡ face_of s w =
+      sym (face_along x k.out) ∙ ap (face_of s) x_next ∙ same ∙ ap (face_of s) (sym w_next) ∙ face_along w j.out in
+      sym x_next ∙ ap (next_of s) (sym (spoke_alone s sound sphere v h around x w k j.out at)) ∙ w_next
+
   -- and a face that is given up is an inner one at v
   pub face_at : (f : ℕ) → (0 < count_of f (strip_faces s (items ++ next_of s h ∷ []))) ↔ (IsFaceAt s v f × (f ≢ 0))
   face_at f =
@@ -151,6 +163,52 @@ module _ (s : Shape) (sound : IsSound s) (sphere : IsSphere s) (v h : ℕ) (arou
           λ at. any-ascending (λ g. g == f) fs ∙ stands_any f fs ((face_at f).1 at),
         );
       }
+
+  -- nothing is given up twice
+  items_once : (k : ℕ) → count_of k items ≤ 1
+  items_once =
+      single-map (next_of s) (trip s sound sphere v h around).rest
+      (λ x z x_in z_in same.
+      sym (t.prev-next x (are_spokes s sound sphere v h around x x_in).out.live) ∙ ap (prev_of s) same
+      ∙ t.prev-next z (are_spokes s sound sphere v h around z z_in).out.live)
+      (spokes_once s sound sphere v h around)
+
+  next_h_apart : count_of (next_of s h) items ≡ 0
+  next_h_apart = elim (cases_lt 0 (count_of (next_of s h) items)) [
+    | inl found ↦
+        let (x, there, is) = mapped_from (next_of s) (trip s sound sphere v h around).rest (next_of s h) found in
+        let k = are_spokes s sound sphere v h around x there in
+        absurd (k.other (sym (t.prev-next x k.out.live) ∙ ap (prev_of s) is ∙ t.prev-next h around.out.live))
+    | inr none ↦ omega (arith, none)
+  ]
+
+  list_once : (k : ℕ) → count_of k (items ++ next_of s h ∷ []) ≤ 1
+  list_once k = elim (cases_eq k (next_of s h)) [
+    | inl is ↦
+        omega (
+          arith,
+          ap (λ z. count_of z items) is,
+          next_h_apart,
+          count-append k items (next_of s h ∷ []),
+          count-equal k (next_of s h) [] is,
+        )
+    | inr other ↦ omega (arith, items_once k, count-append k items (next_of s h ∷ []), count-other k (next_of s h) [] other)
+  ]
+
+  pub strip_edges_once : (k : ℕ) → count_of k (strip_edges s (items ++ next_of s h ∷ [])) ≤ 1
+  strip_edges_once = single-map (λ e. prev_of s e / 2) (items ++ next_of s h ∷ []) (λ e z e_in z_in same.
+      let a = item_after e e_in in
+      let b = item_after z z_in in
+      let halves : a.half / 2 ≡ b.half / 2 = ap (λ k. k / 2) (sym a.prev) ∙ same ∙ ap (λ k. k / 2) b.prev in
+      elim (rev_or_same a.half b.half halves) [
+        | inl is ↦ sym a.next ∙ ap (next_of s) is ∙ b.next
+        | inr is ↦ absurd (t.two_ends b.half b.out.live (b.out.start ∙ sym a.out.start ∙ ap (origin_of s) is))
+      ]) list_once
+
+  pub strip_faces_once : (k : ℕ) → count_of k (strip_faces s (items ++ next_of s h ∷ [])) ≤ 1
+  strip_faces_once k =
+      let listed : strip_faces s (items ++ next_of s h ∷ []) ≡ map (face_of s) items = ap (map (face_of s)) (but_last-is items (next_of s h)) in
+      omega (arith, ap (count_of k) listed, single-map (face_of s) items one_face items_once k)
 
   -- the outer word is the one before, without h and the half edge before it, and with the items
   pub word-is : (y : ℕ) (r : List ℕ) → OuterWord s sound sphere v h around y r → ((k : ℕ) → count_of k (y ∷ r ++ items) ≤ 1)
