@@ -2,6 +2,7 @@ pub mod Along
 pub mod AlongLinks
 pub mod Ears
 pub mod FaceWords
+pub mod GivingUp
 mod Numbers
 pub mod OutEdges
 pub mod Public

@@ -12,6 +12,7 @@ pub mod Held
 pub mod Holding
 pub mod Inserting
 pub mod Lines
+pub mod Opening
 pub mod Renaming
 pub mod Splits
 pub mod SplittingTriangles
