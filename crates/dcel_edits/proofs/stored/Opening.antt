@@ -1,8 +1,8 @@
 -- A ring cut into ears in the stored lists, and what lies inside it given up: the lists hold the mesh with the hole filled.
 use Rattle.std.proofs.Common.{◌≡◌, ◌≢◌, ◌↔◌, ℕ, suc, ◌+◌, ◌*◌, ◌<◌, ◌≤◌, true, List, [], ◌∷◌, ◌++◌, length, map, reverse, slice_index, slice_set, None, refl, sym, ap, ◌∙◌, subst, arith}
 use Rattle.std.proofs.lemmas.Bool.{false_from_ne_true}
-use Rattle.std.proofs.lemmas.List.{get_or-set_other, get_or-set_same, length-set}
-use Rattle.dcel_store.specs.Lists.{Lists, LengthsAgree}
+use Rattle.std.proofs.lemmas.List.{get_or-set_other, get_or-set_same, length-append, length-set}
+use Rattle.dcel_store.specs.Lists.{HasPlaces, Lists, LengthsAgree}
 use Rattle.dcel_maps.specs.Borders.{GivesUpRound, IsBorderLoop}
 use Rattle.dcel_maps.specs.Conditions.{HasRoom}
 use Rattle.dcel_maps.specs.Removals.{Closed, Removal, gives_up_face, gives_up_vertex}
@@ -11,16 +11,17 @@ use Rattle.dcel_maps.specs.Walking.{ccw_of, walk_of}
 use Rattle.dcel_maps.specs.Words.{count_of}
 use Rattle.dcel_maps.specs.edits.Fill.{anchors_round, ear_anchors, ring_filled}
 use Rattle.dcel_maps.specs.edits.Strip.{each_set}
+use Rattle.dcel_maps.proofs.removal.Ears.{length-anchors_round}
 use Rattle.dcel_maps.proofs.removal.Filled.{face_below}
 use Rattle.dcel_maps.proofs.removal.Hiding.{hiding-append, hiding-each, hiding-one}
-use Rattle.dcel_maps.proofs.removal.RingLists.{mapped_once}
+use Rattle.dcel_maps.proofs.removal.RingLists.{count-reverse, mapped_once}
 use Rattle.dcel_maps.proofs.walks.Links.{ccw-lawful, links_lawful}
 use Rattle.dcel_maps.proofs.walks.UnderWay.{walk-live, walk-round}
-use Rattle.dcel_maps.proofs.words.Counts.{absent_head, count-same}
+use Rattle.dcel_maps.proofs.words.Counts.{absent_head, count-later, count-same}
 use Rattle.dcel_maps.proofs.words.Mapped.{mapped_from}
 use Rattle.dcel_maps.proofs.words.EachSet.{length-each_set}
-use Rattle.dcel_edits.specs.Fill.{EarsPut, begun_stored, closing, given_up}
-use Rattle.dcel_edits.proofs.stored.Changes.{HoldsAdded, held_edges, held_half, held_lists, held_mesh, held_removal}
+use Rattle.dcel_edits.specs.Fill.{CanGiveUp, CanPutEars, EarsPut, IsRingItem, begun_stored, closing, given_up}
+use Rattle.dcel_edits.proofs.stored.Changes.{HoldsAdded, held_edges, held_faces, held_half, held_lists, held_mesh, held_removal, held_space, held_vertex}
 use Rattle.dcel_edits.proofs.stored.Ears.{IsBegun, IsCut, ears_cut}
 use Rattle.dcel_edits.proofs.stored.Filling.{EarsLinked, LeavesFilled, Linked, filled_holds, same_origins}
 use Rattle.dcel_edits.proofs.stored.Held.{ListsMesh}
@@ -40,6 +41,55 @@ ears_same_lists u v gone m g p q r (x ∷ rest) k = (
   ears_same_lists u v gone (suc m) (suc g) (2 * m + 1) r x rest k.3,
 )
 
+module _ {V DE UE F : Type 0} (s : Lists V DE UE F) (m : Mesh V DE UE F) (held : Holds s Closed m) (v p q r : ℕ) (rest border : List ℕ) (l : IsBorderLoop m.shape border v) (ring : reverse border ≡ p ∷ q ∷ r ∷ rest) where
+  is_mesh : IsMesh m
+  is_mesh = held_mesh s Closed m held
+
+  reads : p ∷ q ∷ r ∷ rest ≡ map (next_of m.shape) (walk_of m.shape (ccw_of m.shape) l.first)
+  reads = sym ring ∙ l.ring
+
+  -- the items of the ring are live and in range, and none stands there twice
+  item_live : (h : ℕ) → 0 < count_of h (p ∷ q ∷ r ∷ rest) → IsLive m.shape h
+  item_live h found =
+      let sound = is_mesh.sound in
+      let (k, there, is) = mapped_from (next_of m.shape) (walk_of m.shape (ccw_of m.shape) l.first) h (subst (λ (z : List ℕ). 0 < count_of h z) reads found) in
+      subst (IsLive m.shape) is ((links_lawful sound).stays k (walk-live (ccw-lawful sound) l.first l.out.live k there))
+
+  ring_once : (h : ℕ) → count_of h (p ∷ q ∷ r ∷ rest) ≤ 1
+  ring_once h =
+      let law = ccw-lawful is_mesh.sound in
+      let live = walk-live law l.first l.out.live in
+      let back = (links_lawful is_mesh.sound).back-step in
+      subst (λ (z : List ℕ). count_of h z ≤ 1) (sym reads)
+      (mapped_once (next_of m.shape) (walk_of m.shape (ccw_of m.shape) l.first) (walk-round law l.first l.out.live).once
+      (λ x y x_in y_in same. sym (back x (live x x_in)) ∙ ap (prev_of m.shape) same ∙ back y (live y y_in)) h)
+
+  ring_in : (h : ℕ) → 0 < count_of h (p ∷ q ∷ r ∷ rest) → h < length s.next
+  ring_in h found = held_half s Closed m held h (item_live h found)
+
+  ring_item : (h : ℕ) → 0 < count_of h (p ∷ q ∷ r ∷ rest) → IsRingItem s h
+  ring_item h found =
+      let lists = held_lists s Closed m held in
+      let live = item_live h found in
+      record {
+        edge_in = ring_in h found;
+        origin_in = omega (arith, ring_in h found, lists.lengths.of_origin);
+        start_in = subst (λ w. w < length s.vertex_anchors) (sym (lists.origin h live)) (held_vertex s Closed m held (origin_of m.shape h) (is_mesh.sound.starts_live h live));
+      }
+
+  -- where there are places for it, the ring can be cut into ears
+  pub can_put_ears : (left : List ℕ) → rest ≡ reverse left → HasRoom m.shape 0 (length left) (length left + 1) → HasPlaces s 0 (length left) (length left + 1)
+      → CanPutEars s p q r left
+  can_put_ears left turned room places = record {
+    space = held_space s Closed m held room places;
+    first_in = ring_item p (omega (arith, count-same p (q ∷ r ∷ rest)));
+    second_in = ring_item q (count-later q p (q ∷ r ∷ rest) (omega (arith, count-same q (r ∷ rest))));
+    third_in = ring_item r (count-later r p (q ∷ r ∷ rest) (count-later r q (r ∷ rest) (omega (arith, count-same r rest))));
+    items = λ h found.
+        ring_item h (count-later h p (q ∷ r ∷ rest) (count-later h q (r ∷ rest) (count-later h r rest
+        (omega (arith, found, count-reverse h left, ap (count_of h) turned)))));
+  }
+
 module _ {V DE UE F : Type 0} (is_half : DE → Type 0) (is_edge : UE → Type 0) (is_face : F → Type 0) (s u : Lists V DE UE F) (m : Mesh V DE UE F) (held : Holds s Closed m) (v p q r : ℕ) (rest border gone : List ℕ) (removal : Removal) (gives : GivesUpRound m.shape v removal) (lists_faces : (f : ℕ) → (gives_up_face removal f ≡ true) ↔ (0 < count_of f gone)) (l : IsBorderLoop m.shape border v) (ring : reverse border ≡ p ∷ q ∷ r ∷ rest) (put : EarsPut is_half is_edge is_face (slice_index s.origin p) (begun_stored s p q (closing (length s.undirected_data) r rest)) p q r rest u) where
   mesh : IsMesh m
   mesh = held_mesh s Closed m held
@@ -53,25 +103,8 @@ module _ {V DE UE F : Type 0} (is_half : DE → Type 0) (is_edge : UE → Type 0
   w : LengthsAgree s
   w = lists.lengths
 
-  reads : p ∷ q ∷ r ∷ rest ≡ map (next_of m.shape) (walk_of m.shape (ccw_of m.shape) l.first)
-  reads = sym ring ∙ l.ring
-
-  item_live : (h : ℕ) → 0 < count_of h (p ∷ q ∷ r ∷ rest) → IsLive m.shape h
-  item_live h found =
-      let (k, there, is) = mapped_from (next_of m.shape) (walk_of m.shape (ccw_of m.shape) l.first) h (subst (λ (z : List ℕ). 0 < count_of h z) reads found) in
-      subst (IsLive m.shape) is ((links_lawful mesh.sound).stays k (walk-live (ccw-lawful mesh.sound) l.first l.out.live k there))
-
-  item_once : (h : ℕ) → count_of h (p ∷ q ∷ r ∷ rest) ≤ 1
-  item_once h =
-      let law = ccw-lawful mesh.sound in
-      let live = walk-live law l.first l.out.live in
-      let back = (links_lawful mesh.sound).back-step in
-      subst (λ (z : List ℕ). count_of h z ≤ 1) (sym reads)
-      (mapped_once (next_of m.shape) (walk_of m.shape (ccw_of m.shape) l.first) (walk-round law l.first l.out.live).once
-      (λ x y x_in y_in same. sym (back x (live x x_in)) ∙ ap (prev_of m.shape) same ∙ back y (live y y_in)) h)
-
   in_range : (h : ℕ) → 0 < count_of h (p ∷ q ∷ r ∷ rest) → h < length s.next
-  in_range h found = held_half s Closed m held h (item_live h found)
+  in_range = ring_in s m held v p q r rest border l ring
 
   first_in : p < length s.next
   first_in = in_range p (omega (arith, count-same p (q ∷ r ∷ rest)))
@@ -94,11 +127,27 @@ module _ {V DE UE F : Type 0} (is_half : DE → Type 0) (is_edge : UE → Type 0
         prev = get_or-set_same s.prev p k 0 (omega (arith, first_in, w.of_prev));
         face = get_or-set_same s.face p (length s.face_data) 0 (omega (arith, first_in, w.of_face));
         items_in = λ h found. omega (arith, in_range h found, nexts);
-        once = item_once;
+        once = ring_once s m held v p q r rest border l ring;
       }
 
   cut : IsCut is_half is_edge is_face (slice_index s.origin p) B u p q r rest
   cut = ears_cut is_half is_edge is_face (slice_index s.origin p) rest B u p q r put begun
+
+  -- what lies inside can be given up
+  pub can_give_up : CanGiveUp u v gone
+  can_give_up = record {
+    vertex_in =
+        omega (
+          arith,
+          ap length cut.vertex_anchors,
+          length-anchors_round (slice_index s.origin) (slice_index s.origin p) s.vertex_anchors (length s.undirected_data) p q r rest,
+          held_vertex s Closed m held v l.live,
+        );
+    faces_in = λ f found.
+        let below =
+        face_below m v p q r rest border cut.halves cut.edges cut.faces mesh (held_removal s Closed m held) removal gives l ring f ((lists_faces f).1 found) in
+        omega (arith, below.1, ap length cut.face_anchors, length-append s.face_anchors (ear_anchors (length s.undirected_data) p rest), w.of_face_anchors, held_faces s Closed m held);
+  }
 
   abbrev after : Lists V DE UE F
   after = given_up u v gone

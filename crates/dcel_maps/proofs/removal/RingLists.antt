@@ -207,7 +207,7 @@ module _ {V DE UE F : Type 0} (m : Mesh V DE UE F) (v : ℕ) (edges faces : List
       let there : 0 < count_of h [] = rw gone at found in omega arith))
 
 -- a border loop begins with a live half edge
-count-reverse : (k : ℕ) (w : List ℕ) → count_of k (reverse w) ≡ count_of k w
+pub count-reverse : (k : ℕ) (w : List ℕ) → count_of k (reverse w) ≡ count_of k w
 count-reverse k [] = refl
 count-reverse k (x ∷ w) = ap (count_of k) (reverse-append (x ∷ []) w) ∙ omega (arith, count-append k (reverse w) (x ∷ []), count-reverse k w)
 
