@@ -4,6 +4,7 @@ pub mod Descending
 pub mod Dropping
 pub mod Ears
 pub mod FaceWords
+pub mod GivingUp
 pub mod Mending
 mod Numbers
 pub mod OutEdges

@@ -16,6 +16,7 @@ pub mod Held
 pub mod Holding
 pub mod Inserting
 pub mod Lines
+pub mod Opening
 pub mod Renaming
 pub mod Rounds
 pub mod Splits

@@ -1,6 +1,7 @@
 -- What cutting a ring into ears leaves in the stored lists, ear by ear, and where it can be cut.
-use Rattle.std.specs.Prelude.{◌≡◌, ℕ, ◌+◌, ◌-◌, ◌*◌, ◌<◌, List, [], ◌∷◌, ◌++◌, length, slice_index, slice_set, Some}
+use Rattle.std.specs.Prelude.{◌≡◌, ℕ, ◌+◌, ◌-◌, ◌*◌, ◌<◌, List, [], ◌∷◌, ◌++◌, length, slice_index, slice_set, Some, None}
 use Rattle.dcel_maps.specs.edits.DefaultData.{AddsEdgesAndFaces}
+use Rattle.dcel_maps.specs.edits.Strip.{each_set}
 use Rattle.dcel_maps.specs.Words.{count_of}
 use Rattle.dcel_store.specs.Lists.{Lists}
 use Rattle.dcel_edits.specs.Adding.{HasSpace, adding}
@@ -80,3 +81,18 @@ module _ {V DE UE F : Type 0} where
     pub second_in : IsRingItem s second
     pub third_in : IsRingItem s third
     pub items : (h : ℕ) → 0 < count_of h left → IsRingItem s h
+
+  -- faces lose their anchors, and so does a vertex
+  abbrev pub faces_dropped : Lists V DE UE F → List ℕ → Lists V DE UE F
+  faces_dropped s faces = record s { face_anchors = each_set (λ f. f) (λ f. None) s.face_anchors faces }
+
+  abbrev pub given_up : Lists V DE UE F → ℕ → List ℕ → Lists V DE UE F
+  given_up s v faces = record (faces_dropped s faces) { vertex_anchors = slice_set s.vertex_anchors v None }
+
+  -- where they can
+  abbrev pub AreFaces : Lists V DE UE F → List ℕ → Type 0
+  AreFaces s faces = (f : ℕ) → 0 < count_of f faces → f < length s.face_anchors
+
+  pub record CanGiveUp (s : Lists V DE UE F) (v : ℕ) (faces : List ℕ) : Type 0 where
+    pub vertex_in : v < length s.vertex_anchors
+    pub faces_in : AreFaces s faces

@@ -2,10 +2,10 @@
 
 ghost use Rattle.std.specs.Prelude.{◌≡◌, ◌+◌, ◌*◌, ◌^◌, ◌<◌, length, reverse, slice_index};
 ghost use Rattle.dcel_maps.specs.edits.DefaultData.{AddsEdgesAndFaces};
-ghost use Rattle.dcel_edits.specs.Fill.{CanPutEar, CanPutEars, CanPutLastEar, EarsPut, begun_stored, closing, ear_stored, last_ear_stored};
+ghost use Rattle.dcel_edits.specs.Fill.{AreFaces, CanGiveUp, CanPutEar, CanPutEars, CanPutLastEar, EarsPut, begun_stored, closing, ear_stored, faces_dropped, given_up, last_ear_stored};
 
 use crate::links::links;
-use dcel_fixed::{FixedDirectedEdgeHandle, FixedFaceHandle, FixedVertexHandle};
+use dcel_fixed::{FixedDirectedEdgeHandle, FixedFaceHandle, FixedVertexHandle, InnerTag};
 use dcel_store::{EdgeData, Store};
 use std::alloc::Allocator;
 
@@ -41,6 +41,33 @@ pub fn put_ears<V, DE: Default, UE: Default, F: Default, A: Allocator>(
         to_come = before;
     }
     put_last_ear(store, apex, beginning, middle, end);
+}
+
+/// Takes the anchors of a vertex and of faces away, which are given up.
+pub fn give_up<V, DE, UE, F, A: Allocator>(
+    store: &mut Store<V, DE, UE, F, A>,
+    vertex: FixedVertexHandle,
+    faces: &[FixedFaceHandle<InnerTag>],
+)
+    requires { CanGiveUp store.old vertex faces.now }
+    ensures { store.new ≡ given_up store.old vertex faces.now }
+{
+    drop_anchors(store, faces);
+    store.set_vertex_anchor(vertex, None);
+}
+
+fn drop_anchors<V, DE, UE, F, A: Allocator>(
+    store: &mut Store<V, DE, UE, F, A>,
+    faces: &[FixedFaceHandle<InnerTag>],
+)
+    requires { AreFaces store.old faces.now }
+    ensures { store.new ≡ faces_dropped store.old faces.now }
+{
+    let mut left = faces;
+    while let Some((&face, after)) = left.split_first() {
+        store.set_face_anchor(face.adjust_inner_outer(), None);
+        left = after;
+    }
 }
 
 // The half edge that closes the first ear of a ring with this third half edge: that of the new edge, or the third one where no more are

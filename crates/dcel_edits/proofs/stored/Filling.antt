@@ -80,6 +80,13 @@ shown-append g vs us m long kept =
           ∙ sym (ap (slice_index (shown g vs ++ us)) (sym place_shown) ∙ get_or-append-add (shown g vs) us j 0)
     ])
 
+-- with a closed record all origins show
+pub same_origins : {V DE UE F : Type 0} (s : Lists V DE UE F) (m : Mesh V DE UE F) → Holds s Closed m → s.origin ≡ m.shape.origins
+same_origins s m held =
+    let closed = held_removal s Closed m held in
+    sym (shown_from-kept (gives_up_edge m.shape.removal) 0 s.origin (λ n past. ap (λ rec. gives_up_edge rec n) closed ∙ gives_up_edge-closed n))
+    ∙ (held_lists s Closed m held).shown_origins
+
 -- s is before and u after: the links round the ears, all others as they were, and the anchors and data of the edit. Links of given-up
 -- half edges are no part of it.
 pub record LeavesFilled {V DE UE F : Type 0} (s u : Lists V DE UE F) (m : Mesh V DE UE F) (removal : Removal) (p q r : ℕ) (rest : List ℕ) (halves : List DE) (edges : List UE) (faces : List F) : Type 0 where
@@ -153,8 +160,7 @@ module _ {V DE UE F : Type 0} (s u : Lists V DE UE F) (m : Mesh V DE UE F) (held
       let below = given_below m v p q r rest border halves edges faces mesh closed removal gives l ring n given in omega (arith, past, below))
 
   old_origins : s.origin ≡ m.shape.origins
-  old_origins =
-      sym (shown_from-kept (gives_up_edge m.shape.removal) 0 s.origin (λ n past. ap (λ rec. gives_up_edge rec n) closed ∙ gives_up_edge-closed n)) ∙ lists.shown_origins
+  old_origins = same_origins s m held
 
   shown_origins : shown (gives_up_edge removal) u.origin ≡ t.origins
   shown_origins =

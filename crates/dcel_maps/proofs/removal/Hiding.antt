@@ -1,5 +1,5 @@
 -- What stands in a list where some items are hidden.
-use Rattle.std.proofs.Common.{◌≡◌, ◌↔◌, inl, inr, ℕ, zero, suc, ◌+◌, ◌<◌, ◌==◌, Bool, true, false, cond, eq-eqb, List, [], ◌∷◌, length, slice_index_or, slice_set, refl, sym, ap, ◌∙◌, arith, add-zero, add-suc, suc-add, zero-add}
+use Rattle.std.proofs.Common.{◌≡◌, ◌↔◌, inl, inr, ℕ, zero, suc, ◌+◌, ◌<◌, ◌==◌, Bool, true, false, cond, eq-eqb, ◌≤◌, List, [], ◌∷◌, ◌++◌, length, slice_index_or, slice_set, refl, sym, ap, ◌∙◌, arith, add-zero, add-suc, suc-add, zero-add}
 use Rattle.std.proofs.lemmas.Bool.{cases_eq, cond_both, false_from_ne_true, ne_eqb}
 use Rattle.std.proofs.lemmas.List.{ext_get_or, get_or-set_other, get_or-set_same, length-set}
 use Rattle.dcel_maps.specs.edits.Strip.{each_set}
@@ -57,3 +57,16 @@ hiding-each test other place es items listed =
           same
           ∙ sym (not_hidden test other items k (false_from_ne_true (test k) (λ given. let (e, found, at) = (listed k).0 given in none e found at)))
     ])
+
+-- items past those that are hidden stay
+module _ {A : Type 0} (test : ℕ → Bool) (other : A) where
+  hiding_from-append : (n : ℕ) (items more : List A) → ((k : ℕ) → n + length items ≤ k → test k ≡ false)
+      → hiding_from test other n (items ++ more) ≡ hiding_from test other n items ++ more
+  hiding_from-append n [] [] none = refl
+  hiding_from-append n [] (x ∷ r) none =
+      rw (none n (omega arith)) (ap (λ w. x ∷ w) (hiding_from-append (suc n) [] r (λ k past. none k (omega (arith, past)))))
+  hiding_from-append n (x ∷ items) more none =
+      ap (λ w. cond (test n) other x ∷ w) (hiding_from-append (suc n) items more (λ k past. none k (omega (arith, past))))
+
+  pub hiding-append : (items more : List A) → ((k : ℕ) → length items ≤ k → test k ≡ false) → hiding test other (items ++ more) ≡ hiding test other items ++ more
+  hiding-append items more none = hiding_from-append 0 items more (λ k past. none k (omega (arith, past)))

@@ -63,7 +63,7 @@ once_same {w = w} {u = u} a b k = elim (cases_lt 0 (count_of k w)) [
 ]
 
 -- a list under a function that tells its items apart
-mapped_once : (f : ℕ → ℕ) (w : List ℕ) → ((k : ℕ) → count_of k w ≤ 1) → ((x y : ℕ) → 0 < count_of x w → 0 < count_of y w → f x ≡ f y → x ≡ y)
+pub mapped_once : (f : ℕ → ℕ) (w : List ℕ) → ((k : ℕ) → count_of k w ≤ 1) → ((x y : ℕ) → 0 < count_of x w → 0 < count_of y w → f x ≡ f y → x ≡ y)
     → (u : ℕ) → count_of u (map f w) ≤ 1
 mapped_once f [] once apart u = omega arith
 mapped_once f (y ∷ w) once apart u =
@@ -207,7 +207,7 @@ module _ {V DE UE F : Type 0} (m : Mesh V DE UE F) (v : ℕ) (edges faces : List
       let there : 0 < count_of h [] = rw gone at found in omega arith))
 
 -- a border loop begins with a live half edge
-count-reverse : (k : ℕ) (w : List ℕ) → count_of k (reverse w) ≡ count_of k w
+pub count-reverse : (k : ℕ) (w : List ℕ) → count_of k (reverse w) ≡ count_of k w
 count-reverse k [] = refl
 count-reverse k (x ∷ w) = ap (count_of k) (reverse-append (x ∷ []) w) ∙ omega (arith, count-append k (reverse w) (x ∷ []), count-reverse k w)
 
