@@ -1,7 +1,7 @@
 -- The border of a vertex: what the triangles round it leave where they are given up, and which elements these are.
 use Rattle.std.specs.Prelude.{◌≡◌, ◌≢◌, ◌↔◌, ℕ, ◌/◌, ◌<◌, ◌≤◌, ◌==◌, true, List, [], ◌∷◌, length, map, reverse}
 use Rattle.dcel_maps.specs.Conditions.{IsTriangle}
-use Rattle.dcel_maps.specs.Removals.{Removal, gives_up_vertex, gives_up_edge, gives_up_face}
+use Rattle.dcel_maps.specs.Removals.{Removal, IsInOrder, gives_up_vertex, gives_up_edge, gives_up_face}
 use Rattle.dcel_maps.specs.Shapes.{Shape, vertex_is_live, face_of, next_of, prev_of, origin_of}
 use Rattle.dcel_maps.specs.Walking.{IsOutEdge, ListsOnce, ccw_of, walk_of}
 use Rattle.dcel_maps.specs.Words.{count_of}
@@ -49,3 +49,4 @@ pub record GivesUpRound (s : Shape) (v : ℕ) (r : Removal) : Type 0 where
   pub vertices : (w : ℕ) → gives_up_vertex r w ≡ (v == w)
   pub edges : (u : ℕ) → (gives_up_edge r u ≡ true) ↔ IsEdgeAt s v u
   pub faces : (f : ℕ) → (gives_up_face r f ≡ true) ↔ IsFaceAt s v f
+  pub in_order : IsInOrder r

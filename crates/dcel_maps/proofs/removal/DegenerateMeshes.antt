@@ -178,6 +178,7 @@ module _ {V DE UE F : Type 0} (m : Mesh V DE UE F) (v : ℕ) (mesh : IsMesh m) (
               vertices = λ w given. omega (arith, can.within, given_vertex w given);
               edges = λ w given. omega (arith, u_below, given_edge w given);
               faces = λ f given. absurd (false≢true (sym (gives_no_face u v f) ∙ given));
+              in_order = ((λ y found. absurd (omega (arith, found)), tt), tt);
             };
           }
 

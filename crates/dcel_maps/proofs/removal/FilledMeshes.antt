@@ -109,6 +109,7 @@ module _ {V DE UE F : Type 0} (m : Mesh V DE UE F) (v p q r : ℕ) (rest border 
     faces = λ f given.
         let below = face_below m v p q r rest border halves edges faces mesh closed removal gives l ring f given in
         (below.0, omega (arith, below.1, long));
+    in_order = gives.in_order;
   }
 
   module _ (room : HasRoom m.shape 0 (length rest) (suc (length rest))) (half_count : length halves ≡ 2 * length rest) (edge_count : length edges ≡ length rest) (new_faces : length faces ≡ suc (length rest)) where

@@ -1,5 +1,5 @@
 -- Records that give up a vertex with its edges and the faces round it.
-use Rattle.std.proofs.Common.{◌≡◌, ℕ, ◌/◌, ◌<◌, ◌==◌, true, List, sym, refl, ◌∙◌, subst, arith}
+use Rattle.std.proofs.Common.{◌≡◌, ℕ, ◌/◌, ◌<◌, ◌≤◌, ◌==◌, true, List, sym, refl, ◌∙◌, subst, arith}
 use Rattle.dcel_maps.specs.Borders.{GivesUpRound, IsEdgeAt, IsFaceAt}
 use Rattle.dcel_maps.specs.Removals.{gives_up_edge, gives_up_face, gives_up_vertex, opened}
 use Rattle.dcel_maps.specs.Shapes.{IsMesh, Mesh, Shape, face_of, vertex_is_live}
@@ -8,7 +8,7 @@ use Rattle.dcel_maps.specs.Words.{count_of}
 use Rattle.dcel_maps.specs.edits.Fill.{edges_at, faces_at}
 use Rattle.dcel_maps.proofs.Liveness.{vertex_live-parts}
 use Rattle.dcel_maps.proofs.walks.Turning.{mesh-out_edges}
-use Rattle.dcel_maps.proofs.words.Ascending.{any-ascending}
+use Rattle.dcel_maps.proofs.words.Ascending.{any-ascending, goes_up-ascending}
 use Rattle.dcel_maps.proofs.words.Mapped.{any_stands, count-mapped, mapped_from, stands_any}
 
 -- a list has the numbers with a property, and no others
@@ -20,9 +20,9 @@ pub once_lists : {P : ℕ → Type 0} {w : List ℕ} → ListsOnce P w → Lists
 once_lists once = record { each = λ n has. let one = once.each n has in omega (arith, one); no_other = once.no_other }
 
 pub opened-round : (s : Shape) (v : ℕ) (edges faces : List ℕ) → Lists (IsEdgeAt s v) edges → Lists (IsFaceAt s v) faces
-    → GivesUpRound s v (opened edges faces v)
+    → ((u : ℕ) → count_of u edges ≤ 1) → ((f : ℕ) → count_of f faces ≤ 1) → GivesUpRound s v (opened edges faces v)
 unfolding gives_up_vertex gives_up_edge gives_up_face
-opened-round s v edges faces edges_are faces_are = record {
+opened-round s v edges faces edges_are faces_are edges_once faces_once = record {
   vertices = λ w. refl;
   edges = λ u. (
     λ given. edges_are.no_other u (any_stands u edges (sym (any-ascending (λ e. e == u) edges) ∙ given)),
@@ -32,6 +32,7 @@ opened-round s v edges faces edges_are faces_are = record {
     λ given. faces_are.no_other f (any_stands f faces (sym (any-ascending (λ g. g == f) faces) ∙ given)),
     λ at. any-ascending (λ g. g == f) faces ∙ stands_any f faces (faces_are.each f at),
   );
+  in_order = (goes_up-ascending edges edges_once, goes_up-ascending faces faces_once);
 }
 
 module _ {V DE UE F : Type 0} (m : Mesh V DE UE F) (mesh : IsMesh m) (v : ℕ) (live : vertex_is_live m.shape v ≡ true) where
@@ -58,5 +59,6 @@ module _ {V DE UE F : Type 0} (m : Mesh V DE UE F) (mesh : IsMesh m) (v : ℕ) (
   }
 
   -- the edges and faces in the order of the out edges are such
-  pub at-round : GivesUpRound m.shape v (opened (edges_at m v) (faces_at m v) v)
+  pub at-round : ((u : ℕ) → count_of u (edges_at m v) ≤ 1) → ((f : ℕ) → count_of f (faces_at m v) ≤ 1)
+      → GivesUpRound m.shape v (opened (edges_at m v) (faces_at m v) v)
   at-round = opened-round m.shape v (edges_at m v) (faces_at m v) edges_at-lists faces_at-lists

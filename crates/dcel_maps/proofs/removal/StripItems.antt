@@ -16,7 +16,7 @@ use Rattle.dcel_maps.proofs.removal.StripSpokes.{OuterWord, are_spokes, each_out
 use Rattle.dcel_maps.proofs.shapes.Chains.{single-map}
 use Rattle.dcel_maps.proofs.maps.Halves.{rev_or_same}
 use Rattle.dcel_maps.proofs.shapes.Maps.{map-sound}
-use Rattle.dcel_maps.proofs.words.Ascending.{any-ascending}
+use Rattle.dcel_maps.proofs.words.Ascending.{any-ascending, goes_up-ascending}
 use Rattle.dcel_maps.proofs.words.Becoming.{become-none}
 use Rattle.dcel_maps.proofs.words.Counts.{count-append, count-equal, count-other, count-same, first_or_later}
 use Rattle.dcel_maps.proofs.words.Cuts.{become-append, become-turn}
@@ -146,24 +146,6 @@ module _ (s : Shape) (sound : IsSound s) (sphere : IsSphere s) (v h : ℕ) (arou
             ],
       )
 
-  -- so the record of a strip gives up what it should
-  pub strip_gives : GivesUpStrip s v (strip_record s (items ++ next_of s h ∷ []))
-  unfolding gives_up_edge gives_up_face gives_up_vertex
-  strip_gives =
-      let us = strip_edges s (items ++ next_of s h ∷ []) in
-      let fs = strip_faces s (items ++ next_of s h ∷ []) in
-      record {
-        vertices = λ w. ap (λ x. origin_of s x == w) half-is ∙ ap (λ z. z == w) around.out.start;
-        edges = λ u. (
-          λ given. (edge_at u).0 (any_stands u us (sym (any-ascending (λ e. e == u) us) ∙ given)),
-          λ at. any-ascending (λ e. e == u) us ∙ stands_any u us ((edge_at u).1 at),
-        );
-        faces = λ f. (
-          λ given. (face_at f).0 (any_stands f fs (sym (any-ascending (λ g. g == f) fs) ∙ given)),
-          λ at. any-ascending (λ g. g == f) fs ∙ stands_any f fs ((face_at f).1 at),
-        );
-      }
-
   -- nothing is given up twice
   items_once : (k : ℕ) → count_of k items ≤ 1
   items_once =
@@ -209,6 +191,25 @@ module _ (s : Shape) (sound : IsSound s) (sphere : IsSphere s) (v h : ℕ) (arou
   strip_faces_once k =
       let listed : strip_faces s (items ++ next_of s h ∷ []) ≡ map (face_of s) items = ap (map (face_of s)) (but_last-is items (next_of s h)) in
       omega (arith, ap (count_of k) listed, single-map (face_of s) items one_face items_once k)
+
+  -- so the record of a strip gives up what it should
+  pub strip_gives : GivesUpStrip s v (strip_record s (items ++ next_of s h ∷ []))
+  unfolding gives_up_edge gives_up_face gives_up_vertex
+  strip_gives =
+      let us = strip_edges s (items ++ next_of s h ∷ []) in
+      let fs = strip_faces s (items ++ next_of s h ∷ []) in
+      record {
+        vertices = λ w. ap (λ x. origin_of s x == w) half-is ∙ ap (λ z. z == w) around.out.start;
+        edges = λ u. (
+          λ given. (edge_at u).0 (any_stands u us (sym (any-ascending (λ e. e == u) us) ∙ given)),
+          λ at. any-ascending (λ e. e == u) us ∙ stands_any u us ((edge_at u).1 at),
+        );
+        faces = λ f. (
+          λ given. (face_at f).0 (any_stands f fs (sym (any-ascending (λ g. g == f) fs) ∙ given)),
+          λ at. any-ascending (λ g. g == f) fs ∙ stands_any f fs ((face_at f).1 at),
+        );
+        in_order = (goes_up-ascending us strip_edges_once, goes_up-ascending fs strip_faces_once);
+      }
 
   -- the outer word is the one before, without h and the half edge before it, and with the items
   pub word-is : (y : ℕ) (r : List ℕ) → OuterWord s sound sphere v h around y r → ((k : ℕ) → count_of k (y ∷ r ++ items) ≤ 1)

@@ -138,6 +138,7 @@ module _ {V DE UE F : Type 0} (m : Mesh V DE UE F) (mesh : IsMesh m) (v h : ℕ)
         faces = λ f given.
             let (at, inside) = (gives.faces f).0 given in
             (omega (arith, inside), omega (arith, at.is, map_sound.below_faces at.half at.out.live, many m.shape mesh.sound mesh.sphere v h around closed removal gives mesh.sized.outer y r outer));
+        in_order = gives.in_order;
       }
 
   is_sized : IsSized N

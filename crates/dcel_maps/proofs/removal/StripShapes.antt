@@ -6,7 +6,7 @@ use Rattle.dcel_maps.specs.Borders.{IsEdgeAt, IsFaceAt}
 use Rattle.dcel_maps.specs.Cyclic.{from_least}
 use Rattle.dcel_maps.specs.Hiding.{kept_words}
 use Rattle.dcel_maps.specs.Maps.{Live, Map}
-use Rattle.dcel_maps.specs.Removals.{Closed, Removal, gives_up_edge, gives_up_face, gives_up_vertex, is_live, shown}
+use Rattle.dcel_maps.specs.Removals.{Closed, IsInOrder, Removal, gives_up_edge, gives_up_face, gives_up_vertex, is_live, shown}
 use Rattle.dcel_maps.specs.Shapes.{IsLive, IsSound, IsSphere, Shape, edge_is_live, face_count, face_is_live, face_of, map_of, next_of, origin_of, prev_of, vertex_is_live}
 use Rattle.dcel_maps.specs.Strips.{IsStripAround}
 use Rattle.dcel_maps.specs.theory.Standing.{Stands}
@@ -36,6 +36,7 @@ pub record GivesUpStrip (s : Shape) (v : ℕ) (r : Removal) : Type 0 where
   pub vertices : (w : ℕ) → gives_up_vertex r w ≡ (v == w)
   pub edges : (u : ℕ) → (gives_up_edge r u ≡ true) ↔ IsEdgeAt s v u
   pub faces : (f : ℕ) → (gives_up_face r f ≡ true) ↔ (IsFaceAt s v f × (f ≢ 0))
+  pub in_order : IsInOrder r
 
 module _ (s : Shape) (sound : IsSound s) (sphere : IsSphere s) (v h : ℕ) (around : IsStripAround s v h) (closed : s.removal ≡ Closed)
     (removal : Removal) (gives : GivesUpStrip s v removal) (some_face : 0 < face_count s)
