@@ -12,6 +12,7 @@ ghost use Rattle.dcel_maps.specs.Words.{word_of};
 
 mod data;
 mod elements;
+mod removals;
 mod whole;
 
 use crate::handles::{DirectedEdgeHandle, FaceHandle, UndirectedEdgeHandle, VertexHandle};
@@ -20,6 +21,7 @@ use dcel_fixed::{
     InnerOuterMarker, OUTER_FACE, PossiblyOuterTag,
 };
 use dcel_record::RemovalRecord;
+pub use dcel_record::RemovalState;
 use dcel_store::Store;
 use std::alloc::{Allocator, Global};
 use std::marker::Model;
