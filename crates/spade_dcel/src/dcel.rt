@@ -14,6 +14,7 @@ mod borders;
 mod data;
 mod degenerate;
 mod elements;
+mod removals;
 mod strips;
 mod whole;
 
@@ -23,6 +24,7 @@ use dcel_fixed::{
     InnerOuterMarker, OUTER_FACE, PossiblyOuterTag,
 };
 use dcel_record::RemovalRecord;
+pub use dcel_record::RemovalState;
 use dcel_store::Store;
 use std::alloc::{Allocator, Global};
 use std::marker::Model;

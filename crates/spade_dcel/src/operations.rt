@@ -1,21 +1,25 @@
 //! Edits of a mesh. A call asks for what its contract requires, which its caller can test; it is refused only for want of memory, and
 //! then the mesh is as it was. Words, origins, anchors, numbers and answers are those that `docs/MODEL.md` draws.
 
+mod cleanup;
 mod create;
 mod flip;
 mod line;
 mod outside;
 mod rename;
+mod results;
 mod split;
 mod split_triangles;
 mod triangle;
 
+pub use cleanup::{cleanup_isolated_vertex, swap_remove_vertex};
 pub use create::{
     append_unconnected_vertex, new, new_with_fixed_vertices, setup_initial_two_vertices,
 };
 pub use flip::flip_cw;
 pub use line::extend_line;
 pub use outside::{create_new_face_adjacent_to_edge, create_single_face_between_edge_and_next};
+pub use results::{IsolateVertexResult, RemovalResult};
 pub use split::split_edge_when_all_vertices_on_line;
 pub use split_triangles::{split_edge, split_half_edge};
 pub use triangle::{insert_into_triangle, new_triangle};
