@@ -46,6 +46,8 @@ mod refused_memory;
 mod refused_rows;
 pub mod refusing;
 #[cfg(test)]
+mod removals;
+#[cfg(test)]
 mod rows;
 #[cfg(test)]
 mod swaps;
