@@ -20,7 +20,11 @@ fn remove(dcel: &mut Mesh, index: u32, rt: &impl Abort) -> (i64, Option<usize>) 
 
 #[test]
 fn the_last_vertex_gets_the_number_of_one_that_goes(rt: HostRuntime) -> Result<(), Fail> {
-    let mut dcel = grown(rt.alloc(), &[Triangle(0, 1, 2), Append(13), Append(14)], &rt)?;
+    let mut dcel = grown(
+        rt.alloc(),
+        &[Triangle(0, 1, 2), Append(13), Append(14)],
+        &rt,
+    )?;
     assert_eq!(rt; remove(&mut dcel, 3, &rt), (13, Some(4)));
     assert_eq!(rt; remove(&mut dcel, 3, &rt), (14, None));
     assert_eq!(rt; dcel.num_vertices(), 3);
@@ -34,11 +38,13 @@ fn borders_of_vertices(rt: HostRuntime) -> Result<(), Fail> {
     assert!(rt; dcel.is_border_loop(&border, vertex(3)));
     assert!(rt; !dcel.is_border_loop(&border, vertex(0)));
     assert!(rt; !dcel.is_border_loop(&border, vertex(9)));
-    assert!(rt; !dcel.is_border_loop(&border[..2], vertex(3)));
+    let shorter = [half_edge(1), half_edge(3)];
+    assert!(rt; !dcel.is_border_loop(&shorter, vertex(3)));
     let edges = [undirected_edge(5), undirected_edge(3), undirected_edge(4)];
     let faces = [inner_face(3), inner_face(1), inner_face(2)];
     assert!(rt; dcel.is_ring(&border, &edges, &faces));
-    assert!(rt; !dcel.is_ring(&border, &edges[1..], &faces));
+    let fewer = [undirected_edge(3), undirected_edge(4)];
+    assert!(rt; !dcel.is_ring(&border, &fewer, &faces));
     let twice = [inner_face(3), inner_face(3), inner_face(2)];
     assert!(rt; !dcel.is_ring(&border, &edges, &twice));
     Ok(())
@@ -49,7 +55,8 @@ fn strips_and_lines(rt: HostRuntime) -> Result<(), Fail> {
     let dcel = cut_triangle(rt.alloc(), &rt)?;
     let strip = [half_edge(6), half_edge(9), half_edge(4)];
     assert!(rt; dcel.is_edge_strip(&strip));
-    assert!(rt; !dcel.is_edge_strip(&strip[..2]));
+    let shorter = [half_edge(6), half_edge(9)];
+    assert!(rt; !dcel.is_edge_strip(&shorter));
     assert!(rt; !dcel.is_edge_strip(&[half_edge(99)]));
     assert!(rt; !dcel.can_remove_degenerate(vertex(0)));
     let line = grown(rt.alloc(), &LINE, &rt)?;

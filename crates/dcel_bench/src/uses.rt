@@ -155,11 +155,11 @@ mod tests {
             );
             assert!(rt; dcel.sanity_check());
         }
+        let middle = vertex(3);
+        assert!(rt; middle.index() < dcel.num_vertices());
         for corner in 0..3 {
-            assert!(rt;
-                dcel.get_edge_from_neighbors(vertex(3), vertex(corner))
-                    .is_none()
-            );
+            let spoke = dcel.get_edge_from_neighbors(middle, vertex(corner));
+            assert!(rt; spoke.is_none());
         }
         Ok(())
     }
@@ -168,12 +168,14 @@ mod tests {
     fn corners_of_voronoi_faces(rt: HostRuntime) -> Result<(), Fail> {
         let mut dcel: Mesh = new_triangle(rt.alloc(), (0, 1, 2))?;
         refine(&mut dcel, 3)?;
-        assert!(rt; dcel.num_vertices() > 3);
-        let (corners, is_open) = corners_of(dcel.vertex(vertex(3)).as_voronoi_face(), rt.alloc())?;
+        let (middle, corner) = (vertex(3), vertex(0));
+        assert!(rt; middle.index() < dcel.num_vertices());
+        assert!(rt; corner.index() < dcel.num_vertices());
+        let (corners, is_open) = corners_of(dcel.vertex(middle).as_voronoi_face(), rt.alloc())?;
         let faces = [inner_face(2), inner_face(3), inner_face(1)];
         assert_eq!(rt; corners.as_slice(), faces.as_slice());
         assert!(rt; !is_open);
-        let (corners, is_open) = corners_of(dcel.vertex(vertex(0)).as_voronoi_face(), rt.alloc())?;
+        let (corners, is_open) = corners_of(dcel.vertex(corner).as_voronoi_face(), rt.alloc())?;
         assert_eq!(rt; corners.len(), 2);
         assert!(rt; is_open);
         Ok(())
