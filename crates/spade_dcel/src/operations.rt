@@ -10,6 +10,7 @@ mod rename;
 mod results;
 mod split;
 mod split_triangles;
+mod strip;
 mod triangle;
 
 pub use cleanup::{cleanup_isolated_vertex, swap_remove_vertex};
@@ -22,6 +23,7 @@ pub use outside::{create_new_face_adjacent_to_edge, create_single_face_between_e
 pub use results::{IsolateVertexResult, RemovalResult};
 pub use split::split_edge_when_all_vertices_on_line;
 pub use split_triangles::{split_edge, split_half_edge};
+pub use strip::disconnect_edge_strip;
 pub use triangle::{insert_into_triangle, new_triangle};
 
 /// That a growth found no memory, with what was handed in.

@@ -1,0 +1,107 @@
+//! A vertex of the outer face cut off, with its edges and the triangles round it.
+
+ghost use Rattle.std.specs.Prelude.{◌≡◌, ◌<◌, [], ◌∷◌, ◌++◌, ℕ, IfOk, OnErr, OnOk, map};
+ghost use Rattle.dcel_maps.specs.edits.Strip.{strip_cut, strip_edges, strip_faces, strip_record};
+ghost use Rattle.dcel_maps.specs.Removals.{Closed};
+ghost use Rattle.dcel_maps.specs.Shapes.{IsLive, IsMesh, face_of};
+ghost use Rattle.dcel_maps.specs.Strips.{IsEdgeStrip};
+ghost use Rattle.dcel_maps.specs.Words.{count_of};
+
+use crate::dcel::Dcel;
+use crate::laws::every_mesh;
+use crate::operations::IsolateVertexResult;
+use dcel_edits::strip::put_strip_cut;
+use dcel_fixed::{FixedDirectedEdgeHandle, FixedFaceHandle, FixedUndirectedEdgeHandle, InnerTag};
+use dcel_record::{GivenUp, RemovalRecord};
+use std::alloc::{AllocError, Allocator};
+
+/// Cuts a vertex of the outer face off, with its edges and the triangles round it, which are given up: the outer face goes along the strip
+/// instead, each half edge of which becomes the anchor of its origin, one after another, and the last one that of the outer face. It
+/// answers the edges before the half edges of the list and the faces of all but the last, in the order of the list, and no new edge. What
+/// is given up is still there, for [`cleanup_isolated_vertex`](super::cleanup_isolated_vertex) to take out. It asks that no removal is open
+/// ([`removal_state`](Dcel::removal_state)) and the list is a strip ([`is_edge_strip`](Dcel::is_edge_strip)). Without memory the mesh is
+/// as it was.
+pub fn disconnect_edge_strip<V, DE, UE, F, A: Allocator + Clone, B: Allocator>(
+    dcel: &mut Dcel<V, DE, UE, F, A>,
+    list: Vec<FixedDirectedEdgeHandle, B>,
+) -> Result<IsolateVertexResult<A>, AllocError>
+    requires closed { dcel.old.shape.removal ≡ Closed }
+    requires strip { IsEdgeStrip dcel.old.shape list.items }
+    ensures edit { OnOk result (dcel.new ≡ strip_cut dcel.old list.items) }
+    ensures edges { IfOk result (λ opened. opened.edges_to_remove.items ≡ strip_edges dcel.old.shape list.items) }
+    ensures faces { IfOk result (λ opened. opened.faces_to_remove.items ≡ strip_faces dcel.old.shape list.items) }
+    ensures new_edges { IfOk result (λ opened. opened.new_edges.items ≡ []) }
+    ensures smallest { IfOk result (λ opened. opened.smallest_new_edge ≡ 0) }
+    ensures refused { OnErr result (dcel.new ≡ dcel.old) }
+    ensures mesh { IsMesh dcel.new }
+{
+    every_mesh(dcel);
+    let Some((&last, others)) = list.split_last() else {
+        unreachable!()
+    };
+    let edges_to_remove = edges_before(dcel, &list)?;
+    let faces_to_remove = faces_beside(dcel, others)?;
+    let edges = GivenUp::new(&edges_to_remove, dcel.allocator().clone()?)?;
+    let faces = GivenUp::new(&faces_to_remove, dcel.allocator().clone()?)?;
+    let new_edges = Vec::new(dcel.allocator().clone()?);
+    let vertex = dcel.origin(dcel.prev_edge(last));
+    let given_up = RemovalRecord::isolated(edges, faces, vertex);
+    cut(dcel, others, last, given_up);
+    Ok(IsolateVertexResult {
+        new_edges,
+        smallest_new_edge: FixedUndirectedEdgeHandle::new(0),
+        edges_to_remove,
+        faces_to_remove,
+    })
+}
+
+// Cuts the strip of these half edges and `last`, with the record of what is given up.
+fn cut<V, DE, UE, F, A: Allocator>(
+    dcel: &mut Dcel<V, DE, UE, F, A>,
+    items: &[FixedDirectedEdgeHandle],
+    last: FixedDirectedEdgeHandle,
+    given_up: RemovalRecord<A>,
+)
+    requires closed { dcel.old.shape.removal ≡ Closed }
+    requires strip { IsEdgeStrip dcel.old.shape (items.now ++ last ∷ []) }
+    requires record { given_up ≡ strip_record dcel.old.shape (items.now ++ last ∷ []) }
+    ensures edit { dcel.new ≡ strip_cut dcel.old (items.now ++ last ∷ []) }
+    ensures mesh { IsMesh dcel.new }
+{
+    put_strip_cut(&mut dcel.store, items, last);
+    dcel.removal = given_up;
+}
+
+// The edges of what comes before these half edges.
+fn edges_before<V, DE, UE, F, A: Allocator + Clone>(
+    dcel: &Dcel<V, DE, UE, F, A>,
+    list: &[FixedDirectedEdgeHandle],
+) -> Result<Vec<FixedUndirectedEdgeHandle, A>, AllocError>
+    requires { (edge : ℕ) → 0 < count_of edge list.now → IsLive dcel.now.shape edge }
+    ensures { IfOk result (λ edges. edges.items ≡ strip_edges dcel.now.shape list.now) }
+{
+    let mut edges = Vec::with_capacity(dcel.allocator().clone()?, list.len())?;
+    let mut left = list;
+    while let Some((&edge, after)) = left.split_first() {
+        edges.push(dcel.prev_edge(edge).as_undirected())?;
+        left = after;
+    }
+    Ok(edges)
+}
+
+// The faces of these half edges.
+fn faces_beside<V, DE, UE, F, A: Allocator + Clone>(
+    dcel: &Dcel<V, DE, UE, F, A>,
+    list: &[FixedDirectedEdgeHandle],
+) -> Result<Vec<FixedFaceHandle<InnerTag>, A>, AllocError>
+    requires { (edge : ℕ) → 0 < count_of edge list.now → IsLive dcel.now.shape edge }
+    ensures { IfOk result (λ faces. faces.items ≡ map (face_of dcel.now.shape) list.now) }
+{
+    let mut faces = Vec::with_capacity(dcel.allocator().clone()?, list.len())?;
+    let mut left = list;
+    while let Some((&edge, after)) = left.split_first() {
+        faces.push(dcel.face_of_edge(edge).adjust_inner_outer())?;
+        left = after;
+    }
+    Ok(faces)
+}
