@@ -1,10 +1,10 @@
-//! Vertices that are taken out while no removal is open, and the tests of what removals ask.
+//! Vertices that are taken out while no removal is open, a strip that is cut off, and the tests of what removals ask.
 
 use crate::growths::Growth::{Append, Triangle};
 use crate::growths::{LINE, cut_triangle, grown};
 use crate::meshes::{Mesh, half_edge, inner_face, undirected_edge, vertex};
 use spade_dcel::dcel::RemovalState;
-use spade_dcel::operations::swap_remove_vertex;
+use spade_dcel::operations::{cleanup_isolated_vertex, disconnect_edge_strip, swap_remove_vertex};
 use std::process::Abort;
 use std::test::Fail;
 
@@ -62,5 +62,32 @@ fn strips_and_lines(rt: HostRuntime) -> Result<(), Fail> {
     let line = grown(rt.alloc(), &LINE, &rt)?;
     assert!(rt; line.can_remove_degenerate(vertex(0)));
     assert!(rt; !line.can_remove_degenerate(vertex(9)));
+    Ok(())
+}
+
+#[test]
+fn a_strip_is_cut_off(rt: HostRuntime) -> Result<(), Fail> {
+    let mut dcel = cut_triangle(rt.alloc(), &rt)?;
+    let mut list = Vec::new(rt.alloc());
+    for index in [6, 9, 4] {
+        list.push(half_edge(index))?;
+    }
+    assert_eq!(rt; dcel.removal_state(), RemovalState::Closed);
+    assert!(rt; dcel.is_edge_strip(&list));
+    let mut opened = disconnect_edge_strip(&mut dcel, list)?;
+    let edges = [undirected_edge(0), undirected_edge(5), undirected_edge(1)];
+    assert_eq!(rt; opened.edges_to_remove.as_slice(), edges.as_slice());
+    let faces = [inner_face(1), inner_face(3)];
+    assert_eq!(rt; opened.faces_to_remove.as_slice(), faces.as_slice());
+    assert_eq!(rt; dcel.removal_state(), RemovalState::Isolated);
+    assert!(rt; !dcel.is_live_vertex(vertex(1)) && !dcel.sanity_check());
+
+    assert!(rt; dcel.is_listed(&opened));
+    cleanup_isolated_vertex(&mut dcel, &mut opened);
+    assert_eq!(rt; dcel.removal_state(), RemovalState::Cleaned);
+    assert_eq!(rt; dcel.num_vertices(), 4);
+    assert_eq!(rt; dcel.num_undirected_edges(), 3);
+    assert_eq!(rt; dcel.num_faces(), 2);
+    assert!(rt; !dcel.is_listed(&opened));
     Ok(())
 }
