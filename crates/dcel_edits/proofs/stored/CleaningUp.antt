@@ -2,7 +2,7 @@
 use Rattle.std.proofs.Common.{◌≡◌, ℕ, ◌/◌, not, ◌&&◌, nat_lt, fold, List, [], ◌∷◌, sym, ap, ◌∙◌, subst, subst₂, reverse}
 use Rattle.dcel_store.specs.Lists.{Lists}
 use Rattle.dcel_edits.specs.TakingOut.{CanLoseEdges, CanLoseFaces, edge_out, edges_out, face_out, faces_out}
-use Rattle.dcel_maps.specs.Removals.{Removal, gives_up_edge, IsListed, ascending, shown}
+use Rattle.dcel_maps.specs.Removals.{Removal, gives_up_edge, IsListed, ascending}
 use Rattle.dcel_maps.specs.Renumbering.{cleaned, cleaned_up, edge_taken_out, edges_down, edges_taken_out, face_taken_out, faces_down, faces_taken_out, without_edge, without_face}
 use Rattle.dcel_maps.specs.Shapes.{IsLive, IsMesh, Mesh}
 use Rattle.dcel_maps.proofs.Shown.{shown-same}

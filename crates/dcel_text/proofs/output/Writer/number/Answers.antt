@@ -1,6 +1,6 @@
-use Rattle.std.proofs.Common.{◌≡◌, refl, ◌+◌, ◌-◌, ◌++◌, arith, ap, sym, ◌∙◌, drop, length, set, [], append-nil, ℕ, List}
+use Rattle.std.proofs.Common.{◌≡◌, refl, ◌+◌, ◌-◌, arith, sym, ◌∙◌, drop, set, append-nil}
 use Rattle.std.specs.Fmt.{decimal}
-use Rattle.std.proofs.lemmas.List.{drop_all, length-drop, length-set, take_all}
+use Rattle.std.proofs.lemmas.List.{length-drop, length-set, take_all}
 use Rattle.std.proofs.lemmas.Fmt.{length-decimal-le}
 use Rattle.dcel_text.proofs.Writing.{writes_text}
 use Rattle.dcel_text.proofs.Digits.{length-decimal-div, digit_put, first_digit_put}

@@ -1,5 +1,5 @@
-use Rattle.std.proofs.Common.{◌≡◌, ◌++◌, [], ◌∷◌, sym, ap, ◌∙◌, subst, arith, map}
-use Rattle.dcel_maps.specs.edits.Strip.{but_last, strip_edges, strip_faces}
+use Rattle.std.proofs.Common.{[], ◌∷◌, sym, ap, ◌∙◌, subst, arith, map}
+use Rattle.dcel_maps.specs.edits.Strip.{but_last, strip_edges}
 use Rattle.dcel_maps.specs.Removals.{ascending}
 use Rattle.dcel_maps.specs.Shapes.{face_of}
 use Rattle.dcel_maps.specs.Strips.{IsEdgeStrip}
