@@ -6,8 +6,8 @@ ghost use Rattle.dcel_maps.specs.Shapes.{IsMesh};
 
 use crate::commands::command::Command;
 use crate::commands::reply::{Refused, Reply};
-use crate::request::at_edge::AtEdge;
-use crate::request::vertices::OfVertices;
+use crate::request::at_edge::AtEdge::{Beside, OnBothSides, OnBridge, OnOneSide};
+use crate::request::vertices::OfVertices::{Exchanged, Joined, Longer};
 use crate::request::{append, at_edge, clear, close, flip, insert, put, triangle, vertices};
 use spade_dcel::dcel::Dcel;
 use spade_dcel::laws;
@@ -42,52 +42,16 @@ pub fn apply<
     let answer = match command {
         Command::Append(datum) => append::carry_out(dcel, datum, limit),
         Command::Triangle(x, y, z) => triangle::carry_out(dcel, (x, y, z), limit),
-        Command::Setup(first, second) => vertices::carry_out(
-            dcel,
-            OfVertices::Joined,
-            first,
-            second,
-            limit,
-        ),
-        Command::Extend(end, new) => vertices::carry_out(dcel, OfVertices::Longer, end, new, limit),
-        Command::Line(edge, vertex) => at_edge::carry_out(
-            dcel,
-            AtEdge::OnBridge,
-            edge,
-            vertex,
-            limit,
-        ),
+        Command::Setup(first, second) => vertices::carry_out(dcel, Joined, first, second, limit),
+        Command::Extend(end, new) => vertices::carry_out(dcel, Longer, end, new, limit),
+        Command::Line(edge, vertex) => at_edge::carry_out(dcel, OnBridge, edge, vertex, limit),
         Command::Close(edge) => close::carry_out(dcel, edge, limit),
-        Command::Outside(edge, vertex) => at_edge::carry_out(
-            dcel,
-            AtEdge::Beside,
-            edge,
-            vertex,
-            limit,
-        ),
+        Command::Outside(edge, vertex) => at_edge::carry_out(dcel, Beside, edge, vertex, limit),
         Command::Insert(vertex, face) => insert::carry_out(dcel, vertex, face, limit),
-        Command::Half(edge, vertex) => at_edge::carry_out(
-            dcel,
-            AtEdge::OnOneSide,
-            edge,
-            vertex,
-            limit,
-        ),
-        Command::Split(edge, vertex) => at_edge::carry_out(
-            dcel,
-            AtEdge::OnBothSides,
-            edge,
-            vertex,
-            limit,
-        ),
+        Command::Half(edge, vertex) => at_edge::carry_out(dcel, OnOneSide, edge, vertex, limit),
+        Command::Split(edge, vertex) => at_edge::carry_out(dcel, OnBothSides, edge, vertex, limit),
         Command::Flip(edge) => flip::carry_out(dcel, edge),
-        Command::Swap(first, second) => vertices::carry_out(
-            dcel,
-            OfVertices::Exchanged,
-            first,
-            second,
-            limit,
-        ),
+        Command::Swap(first, second) => vertices::carry_out(dcel, Exchanged, first, second, limit),
         Command::Put(vertex, datum) => put::carry_out(dcel, vertex, datum),
         Command::Clear => clear::carry_out(dcel),
     };
