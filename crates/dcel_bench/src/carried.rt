@@ -4,8 +4,12 @@ use crate::growths::Growth::{
     Append, Close, PutBeside, SplitBothSides, SplitOnLine, SplitOneSide, Triangle,
 };
 use crate::growths::{CUT, FIRST_EDGE, Growth, LINE, TRIANGLE_AND_VERTEX, grow, grown, grown_on};
-use crate::meshes::{Mesh, assert_counts, edge_between};
+use crate::meshes::{Mesh, assert_counts, edge_between, vertex};
+use spade_dcel::dcel::RemovalState;
 use spade_dcel::handles::FixedDirectedEdgeHandle;
+use spade_dcel::operations::{
+    cleanup_isolated_vertex, isolate_vertex_and_fill_hole, swap_remove_vertex,
+};
 use std::alloc::Global;
 use std::process::Abort;
 use std::test::Fail;
@@ -98,6 +102,53 @@ fn test_create_new_face_adjacent_to_edge(rt: HostRuntime) -> Result<(), Fail> {
     let growths = [PutBeside(0, 3)];
     checked(rt.alloc(), &TRIANGLE_AND_VERTEX, &growths, [4, 10, 3], &rt)?;
     Ok(())
+}
+
+/// Takes a vertex inside triangles out: it is given up with its border loop, which is walked from the last out edge back, and the hole
+/// is filled and cleaned up.
+fn remove(
+    dcel: &mut Mesh,
+    index: u32,
+    counts: [usize; 3],
+    alloc: Global,
+    rt: &impl Abort,
+) -> Result<(), Fail> {
+    let center = vertex(index);
+    assert!(rt; center.index() < dcel.num_vertices());
+    let mut border = Vec::new(alloc);
+    for out_edge in dcel.vertex(center).out_edges().rev() {
+        let handle = out_edge.fix();
+        assert!(rt; handle.index() < dcel.num_directed_edges());
+        assert!(rt; dcel.is_live_edge(handle.as_undirected()));
+        border.push(dcel.directed_edge(handle).next().fix())?;
+    }
+    assert_eq!(rt; dcel.removal_state(), RemovalState::Closed);
+    assert!(rt; dcel.is_border_loop(&border, center));
+    assert!(rt; dcel.has_room(0, border.len() - 3, border.len() - 2));
+    let mut opened = isolate_vertex_and_fill_hole(dcel, border, center)?;
+    assert!(rt; dcel.is_listed(&opened));
+    cleanup_isolated_vertex(dcel, &mut opened);
+    assert_eq!(rt; dcel.removal_state(), RemovalState::Cleaned);
+    assert!(rt; !dcel.is_live_vertex(center));
+    swap_remove_vertex(dcel, center);
+    let [vertices, directed_edges, faces] = counts;
+    assert_counts(dcel, vertices, directed_edges, faces, rt);
+    assert!(rt; dcel.sanity_check());
+    Ok(())
+}
+
+#[test]
+fn test_insert_into_and_remove_from_triangle(rt: HostRuntime) -> Result<(), Fail> {
+    let mut dcel = grown(rt.alloc(), &CUT, &rt)?;
+    remove(&mut dcel, 3, [3, 6, 2], rt.alloc(), &rt)
+}
+
+#[test]
+fn test_insert_into_and_remove_from_quad(rt: HostRuntime) -> Result<(), Fail> {
+    let mut dcel = grown_on(rt.alloc(), &CUT, &[Append(4)], &rt)?;
+    let edge = number_between(&dcel, 0, 3, &rt);
+    assert!(rt; grow(&mut dcel, rt.alloc(), SplitBothSides(edge, 4), &rt));
+    remove(&mut dcel, 4, [4, 12, 4], rt.alloc(), &rt)
 }
 
 #[test]

@@ -2,6 +2,8 @@
 
 use crate::growths::cut_triangle;
 use crate::meshes::{Mesh, half_edge, inner_face, vertex};
+use crate::openers::Opener::Isolate;
+use crate::openers::open;
 use spade_dcel::handles::PossiblyOuterTag;
 use spade_dcel::operations::new;
 use std::alloc::AllocGlobal;
@@ -60,13 +62,19 @@ fn a_face_prints_its_vertices(rt: HostRuntime) -> Result<(), Fail> {
     Ok(())
 }
 
-// Until a removal gives up faces, the outer face of a mesh without edges is the only one that has no anchor.
+// A face that a removal has given up has no anchor, and neither has the outer face of a mesh without edges.
 #[test]
 fn a_face_without_an_anchor_prints_none(rt: HostRuntime) -> Result<(), Fail> {
-    let dcel: Mesh = new(rt.alloc())?;
+    let mut dcel = cut_triangle(rt.alloc(), &rt)?;
+    open(&mut dcel, rt.alloc(), Isolate(3, &[1, 3, 5]), &rt)?;
+    let two = inner_face(2);
+    assert!(rt; two.index() < dcel.num_faces());
+    assert_prints(&rt, dcel.face(two), "FaceHandle - id: 2 (none)")?;
+
+    let empty: Mesh = new(rt.alloc())?;
     let unanchored = inner_face(0);
-    assert!(rt; unanchored.index() < dcel.num_faces());
-    assert_prints(&rt, dcel.face(unanchored), "FaceHandle - id: 0 (none)")?;
-    assert_prints(&rt, dcel.outer_face(), "OuterFace")?;
+    assert!(rt; unanchored.index() < empty.num_faces());
+    assert_prints(&rt, empty.face(unanchored), "FaceHandle - id: 0 (none)")?;
+    assert_prints(&rt, empty.outer_face(), "OuterFace")?;
     Ok(())
 }

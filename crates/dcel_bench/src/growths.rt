@@ -234,7 +234,7 @@ pub fn carry_out<A: Allocator + Clone>(
     let reply = reply_to(dcel, growth, rt);
     match apply(dcel, command_of(growth), limit) {
         Ok(answer) => {
-            assert_eq!(rt; answer, reply);
+            assert!(rt; is_reply(&answer, &reply));
             true
         }
         Err(refused) => {
@@ -261,7 +261,7 @@ pub fn assert_refused<A: Allocator + Clone>(
     let faces = dcel.num_faces();
     let back = handed_in(growth);
     let refused = Refused { why, back };
-    assert_eq!(rt; apply(dcel, command_of(growth), limit), Err(refused));
+    assert_eq!(rt; apply(dcel, command_of(growth), limit).err(), Some(refused));
     assert_counts(dcel, vertices, directed_edges, faces, rt);
 }
 
@@ -281,7 +281,7 @@ fn command_of(growth: Growth) -> Command<i64> {
 }
 
 // What the mesh answers the command where there is memory. New half edges are `first`, `first + 1`, ..
-fn reply_to<A: Allocator>(dcel: &Mesh<A>, growth: Growth, rt: &impl Abort) -> Reply {
+fn reply_to<A: Allocator>(dcel: &Mesh<A>, growth: Growth, rt: &impl Abort) -> Reply<i64> {
     let count = dcel.num_vertices();
     assert!(rt; count < NO_LIMIT && dcel.num_directed_edges() < NO_LIMIT);
     let first = dcel.num_directed_edges() as u32;
@@ -293,6 +293,17 @@ fn reply_to<A: Allocator>(dcel: &Mesh<A>, growth: Growth, rt: &impl Abort) -> Re
         SplitOneSide(edge, _) => Reply::Halves([half_edge(edge), half_edge(first + 2)]),
         SplitBothSides(edge, _) => Reply::Halves([half_edge(edge), half_edge(first + 3)]),
         Close(_) => Reply::Half(half_edge(first + 1)),
+    }
+}
+
+// Whether these are one reply, of those that growths get.
+fn is_reply<A: Allocator>(answer: &Reply<i64, A>, reply: &Reply<i64>) -> bool {
+    match (answer, reply) {
+        (Reply::Ok, Reply::Ok) => true,
+        (Reply::Vertex(answered), Reply::Vertex(vertex)) => answered == vertex,
+        (Reply::Half(answered), Reply::Half(edge)) => answered == edge,
+        (Reply::Halves(answered), Reply::Halves(halves)) => answered == halves,
+        _ => false,
     }
 }
 

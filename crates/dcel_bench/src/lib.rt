@@ -14,6 +14,8 @@ mod commands;
 #[cfg(test)]
 mod debug_texts;
 #[cfg(test)]
+mod degenerate;
+#[cfg(test)]
 mod duals;
 #[cfg(test)]
 mod edge_rows;
@@ -26,6 +28,8 @@ mod flips;
 #[cfg(test)]
 mod growths;
 #[cfg(test)]
+mod hole_rows;
+#[cfg(test)]
 mod lines;
 #[cfg(test)]
 mod links;
@@ -35,6 +39,8 @@ mod memoryless;
 mod memoryless_rows;
 #[cfg(test)]
 mod meshes;
+#[cfg(test)]
+mod openers;
 pub mod own_steps;
 #[cfg(test)]
 mod readme;
@@ -45,6 +51,8 @@ mod refused_memory;
 #[cfg(test)]
 mod refused_rows;
 pub mod refusing;
+#[cfg(test)]
+mod removal_rows;
 #[cfg(test)]
 mod removals;
 #[cfg(test)]

@@ -71,15 +71,38 @@ fn commands_take_no_memory(rt: HostRuntime) -> Result<(), Fail> {
     let mut dcel: Mesh<&Refusing<Global>> = new(&heap)?;
     cut(&mut dcel, &heap, &rt)?;
     heap.refuse_from(0);
-    for command in [
+    let commands: [Command<i64>; 4] = [
         Command::Flip(undirected_edge(3)),
         Command::Swap(vertex(0), vertex(1)),
         Command::Put(vertex(3), 30),
         Command::Clear,
-    ] {
-        assert_eq!(rt; apply(&mut dcel, command, NO_LIMIT), Ok(Reply::Ok));
+    ];
+    for command in commands {
+        assert!(rt; matches!(apply(&mut dcel, command, NO_LIMIT), Ok(Reply::Ok)));
     }
     assert_counts(&dcel, 0, 0, 1, &rt);
+    assert_eq!(rt; heap.requests(), 0);
+    Ok(())
+}
+
+#[test]
+fn removals_are_closed_without_memory(rt: HostRuntime) -> Result<(), Fail> {
+    let alloc = rt.alloc();
+    let heap = Refusing::new(alloc);
+    let mut dcel: Mesh<&Refusing<Global>> = new(&heap)?;
+    cut(&mut dcel, &heap, &rt)?;
+    let strip = vec![in alloc; half_edge(6), half_edge(9), half_edge(4)]?;
+    let opened = apply(&mut dcel, Command::Strip(strip), NO_LIMIT);
+    assert!(rt; matches!(opened, Ok(Reply::Opened(_))));
+    heap.refuse_from(0);
+    let edges = vec![in alloc; undirected_edge(5), undirected_edge(0), undirected_edge(1)]?;
+    let faces = vec![in alloc; inner_face(3), inner_face(1)]?;
+    let cleaned = apply(&mut dcel, Command::Cleanup(edges, faces), NO_LIMIT);
+    assert!(rt; matches!(cleaned, Ok(Reply::Ok)));
+    let remove: Command<i64> = Command::Remove(vertex(1));
+    let removed = apply(&mut dcel, remove, NO_LIMIT);
+    assert!(rt; matches!(removed, Ok(Reply::Removed(_))));
+    assert_counts(&dcel, 3, 6, 2, &rt);
     assert_eq!(rt; heap.requests(), 0);
     Ok(())
 }

@@ -119,7 +119,17 @@ fn assert_link<A: Allocator>(
     assert_eq!(rt; borrowed.as_undirected().index(), handle.index() / 2);
 }
 
-/// That the faces have these words and the half edges these origins, and that there are no others.
+fn count_live_half_edges<A: Allocator>(dcel: &Mesh<A>) -> usize {
+    let mut count: usize = 0;
+    for edge in dcel.undirected_edges() {
+        if dcel.is_live_edge(edge.fix()) {
+            count = count.wrapping_add(2);
+        }
+    }
+    count
+}
+
+/// That the faces have these words and the half edges in them these origins, and that no other half edge is live.
 pub fn assert_links<A: Allocator>(
     dcel: &Mesh<A>,
     words: &[&[u32]],
@@ -128,7 +138,7 @@ pub fn assert_links<A: Allocator>(
 ) {
     assert_eq!(rt; dcel.num_faces(), words.len());
     assert_eq!(rt; dcel.num_directed_edges(), origins.len());
-    let mut left = origins.len();
+    let mut left = count_live_half_edges(dcel);
     for (face, word) in words.iter().enumerate() {
         for (place, edge) in word.iter().enumerate() {
             let next = if place + 1 < word.len() {

@@ -4,7 +4,7 @@ use crate::answers::{push_line, push_talk, run_lines};
 use crate::refusing::Refusing;
 use crate::rows::{CUT_TRIANGLE, SPLIT_EDGE, TRIANGLE_AND_VERTEX, Talk};
 use dcel_commands::commands::RunFault;
-use std::alloc::Global;
+use std::alloc::{AllocError, Global};
 use std::process::Abort;
 use std::test::Fail;
 
@@ -110,7 +110,7 @@ type Edit = (
     &'static str,
 );
 
-const EDITS: [Edit; 5] = [
+const EDITS: [Edit; 9] = [
     (
         &SPLIT_EDGE,
         &[
@@ -156,6 +156,37 @@ const EDITS: [Edit; 5] = [
         "F0 0 2 4\nF1 1 6 11\nF2 5 8 7\nF3 3 10 9",
         "F0 0 2 4\nF1 1 6 17\nF2 5 12 7\nF3 3 10 9\nF4 8 14 13\nF5 11 16 15",
     ),
+    (
+        &CUT_TRIANGLE,
+        &[],
+        ("isolate 3 1 3 5", "opened edges 3 4 5 faces 2 3 1 new"),
+        "F0 0 2 4\nF1 1 6 11\nF2 5 8 7\nF3 3 10 9",
+        "F0 0 2 4\nF4 1 5 3",
+    ),
+    (
+        &CUT_TRIANGLE,
+        &[],
+        (
+            "remesh 1 3 5 / 3 4 5 / 1 2 3",
+            "opened edges 3 4 5 faces 1 2 3 new",
+        ),
+        "F0 0 2 4\nF1 1 6 11\nF2 5 8 7\nF3 3 10 9",
+        "F0 0 2 4\nF4 1 5 3",
+    ),
+    (
+        &CUT_TRIANGLE,
+        &[],
+        ("strip 6 9 4", "opened edges 0 5 1 faces 1 3 new"),
+        "F0 0 2 4\nF1 1 6 11\nF2 5 8 7\nF3 3 10 9",
+        "F0 4 6 9\nF2 5 8 7",
+    ),
+    (
+        &CUT_TRIANGLE,
+        &[("strip 6 9 4", "opened edges 0 5 1 faces 1 3 new")],
+        ("cleanup 0 1 5 / 1 3", "ok"),
+        "F0 4 6 9\nF2 5 8 7",
+        "F0 0 3 4\nF1 1 5 2",
+    ),
 ];
 
 /// That the edit is refused where any one of its requests for memory is, and then carried out when it comes again.
@@ -190,6 +221,60 @@ fn assert_made_again(edit: &Edit, alloc: Global, rt: &impl Abort) -> Result<(), 
 fn edits_are_made_again(rt: HostRuntime) -> Result<(), Fail> {
     for edit in EDITS {
         assert_made_again(&edit, rt.alloc(), &rt)?;
+    }
+    Ok(())
+}
+
+/// Lines after those of a cut triangle that are refused or bad; and how many lists they have which aren't empty.
+const LISTS: [((&str, &str), u64); 10] = [
+    (("isolate 9 1 3 5", "refused 1 NoSuchVertex"), 1),
+    (("remesh 99 / 99 / 0", "refused 2 NoSuchEdge"), 3),
+    (("strip 99 9", "refused 2 NoSuchEdge"), 1),
+    (("strip 6 9", "refused 16 BadStrip"), 1),
+    (("strip", "refused 16 BadStrip"), 0),
+    (("strip 6 9 /", "bad line"), 0),
+    (("cleanup 99 3 / 0 1", "refused 2 NoSuchEdge"), 2),
+    (("cleanup / 0", "refused 3 NoSuchFace"), 1),
+    (("cleanup /", "refused 5 NoRemoval"), 0),
+    (("cleanup 0 / 1 x", "bad line"), 0),
+];
+
+/// Adds a reply, and that to the line `words` after it.
+fn push_reply_and_words(replies: &mut Vec<u8>, reply: &str) -> Result<(), AllocError> {
+    push_line(replies, reply)?;
+    push_line(replies, "F0 0 2 4\nF1 1 6 11\nF2 5 8 7\nF3 3 10 9")
+}
+
+/// That the line makes one request for each of its lists, and is refused where one of these is, before it is compared with the mesh.
+fn assert_list_refused(
+    (line, reply): (&str, &str),
+    lists: u64,
+    alloc: Global,
+    rt: &impl Abort,
+) -> Result<(), Fail> {
+    let mut lines = Vec::new(alloc);
+    let mut replies = Vec::new(alloc);
+    push_talk(&mut lines, &mut replies, &CUT_TRIANGLE)?;
+    let first = requests_of(&lines, alloc);
+    push_line(&mut lines, line)?;
+    let end = requests_of(&lines, alloc);
+    assert!(rt; first <= end && end - first == lists, "{line}");
+    push_line(&mut lines, "words")?;
+    let mut refused = replies.clone()?;
+    push_reply_and_words(&mut refused, "refused 20 OutOfMemory")?;
+    push_reply_and_words(&mut replies, reply)?;
+    for number in first..end {
+        let memory = Refusing::new(alloc);
+        memory.refuse_one(number);
+        assert_replies(&memory, &lines, &refused, alloc, rt)?;
+    }
+    assert_replies(&Refusing::new(alloc), &lines, &replies, alloc, rt)
+}
+
+#[test]
+fn lists_are_refused_memory(rt: HostRuntime) -> Result<(), Fail> {
+    for (line, lists) in LISTS {
+        assert_list_refused(line, lists, rt.alloc(), &rt)?;
     }
     Ok(())
 }

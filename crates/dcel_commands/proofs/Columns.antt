@@ -2,8 +2,7 @@
 use Rattle.std.proofs.Common.{◌≡◌, ◌⊎◌, ℕ, zero, suc, ◌+◌, ◌<◌, ◌≤◌, ◌&&◌, Bool, true, nat_lt, ltb-true, List, [], ◌∷◌, inl, inr, length, get_or, arith, subst, sym, refl, ap, ◌∙◌}
 use Rattle.std.specs.List.Sorted.{IsNonDecreasingBy}
 use Rattle.std.proofs.lemmas.Bool.{and_parts}
-use Rattle.dcel_commands.specs.declared.commands.command.Command.{Command}
-use Rattle.dcel_commands.specs.declared.commands.command.Command.TheVariants.{Append, Triangle, Setup, Extend, Line, Close, Outside, Insert, Half, Split, Flip, Swap, Put, Clear}
+use Rattle.dcel_commands.specs.Instructions.{Instruction, Append, Triangle, Setup, Extend, Line, Close, Outside, Insert, Half, Split, Flip, Swap, Put, Isolate, Remesh, Strip, Cleanup, Remove, Degenerate, Clear}
 use Rattle.dcel_commands.specs.declared.refusal.Refusal.{Refusal}
 use Rattle.dcel_commands.specs.Conditions.{Entry, Meets, AllMet, FirstUnmet, IsLeast, IsReason, IsRefused, entry_number}
 use Rattle.dcel_commands.specs.Refusal.{refusal_number}
@@ -107,7 +106,7 @@ first-below s least [] why column unmet = absurd unmet
 first-below s least (x ∷ r) why column (inl first) = omega (arith, (parts least x r column).1, ap refusal_number first.1)
 first-below s least (x ∷ r) why column (inr later) = first-below s (entry_number x) r why (parts least x r column).2 later.1
 
-command-column : {V : Type 0} (limit : ℕ) (command : Command V) → is_column 1 (asks limit command) ≡ true
+command-column : {V : Type 0} (limit : ℕ) (command : Instruction V) → is_column 1 (asks limit command) ≡ true
 unfolding is_column
 command-column limit (Append datum) = refl
 command-column limit (Triangle x y z) = refl
@@ -122,11 +121,17 @@ command-column limit (Split h b) = refl
 command-column limit (Flip u) = refl
 command-column limit (Swap a b) = refl
 command-column limit (Put v datum) = refl
+command-column limit (Isolate v hs) = refl
+command-column limit (Remesh hs us fs) = refl
+command-column limit (Strip hs) = refl
+command-column limit (Cleanup us fs) = refl
+command-column limit (Remove v) = refl
+command-column limit (Degenerate v) = refl
 command-column limit Clear = refl
 
-pub command-ascends : {V : Type 0} (limit : ℕ) (command : Command V) → IsNonDecreasingBy entry_number (asks limit command)
+pub command-ascends : {V : Type 0} (limit : ℕ) (command : Instruction V) → IsNonDecreasingBy entry_number (asks limit command)
 command-ascends limit command = ascends 1 (asks limit command) (command-column limit command)
 
 -- no condition of a command has the refusal for want of memory
-pub refused-below : {V : Type 0} (s : Shape) (limit : ℕ) (command : Command V) (why : Refusal) → FirstUnmet s (asks limit command) why → refusal_number why < 20
+pub refused-below : {V : Type 0} (s : Shape) (limit : ℕ) (command : Instruction V) (why : Refusal) → FirstUnmet s (asks limit command) why → refusal_number why < 20
 refused-below s limit command why unmet = first-below s 1 (asks limit command) why (command-column limit command) unmet

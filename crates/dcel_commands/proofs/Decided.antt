@@ -1,13 +1,18 @@
 -- Each condition is met or isn't, whatever the shape.
-use Rattle.std.proofs.Common.{◌≡◌, ◌≢◌, ◌⊎◌, inl, inr, ℕ, zero, suc, ◌+◌, ◌*◌, ◌/◌, ◌<◌, ◌≤◌, Bool, true, false, sym, refl, subst, ◌∙◌, length, arith}
+use Rattle.std.proofs.Common.{◌≡◌, ◌≢◌, ◌⊎◌, inl, inr, ℕ, zero, suc, ◌+◌, ◌*◌, ◌/◌, ◌<◌, ◌≤◌, Bool, true, false, sym, refl, ap, subst, ◌∙◌, List, [], ◌∷◌, length, map, reverse, get_or, All, arith}
 use Rattle.std.proofs.lemmas.Bool.{cases_eq, cases_lt, false≢true}
-use Rattle.dcel_commands.specs.Conditions.{Condition, Meets, VertexInRange, HalfEdgeInRange, EdgeInRange, InnerFaceInRange, VertexLive, HalfEdgeLive, EdgeLive, FaceLive, Different, Unconnected, NoEdge, LineEnd, ThreeHalves, OnTriangle, Bridge, OnOuterFace, ClosesOutside, Flips, RoomFor, RoomForMesh, AreWithin}
+use Rattle.std.proofs.lemmas.Grind.{get_or_default_zero}
+use Rattle.dcel_commands.specs.Conditions.{Condition, Meets, VertexInRange, HalfEdgeInRange, EdgeInRange, InnerFaceInRange, VertexLive, HalfEdgeLive, EdgeLive, FaceLive, Different, Unconnected, NoEdge, LineEnd, ThreeHalves, OnTriangle, Bridge, OnOuterFace, ClosesOutside, Flips, HalfEdgesInRange, EdgesInRange, InnerFacesInRange, NoneOpen, NoOtherOpen, NotCleaned, Listed, StripOfVertex, BorderOf, RingOf, Removable, OfPath, LeavesAtMost, IsIsolated, RoomFor, RoomForMesh, AreWithin}
 use Rattle.dcel_fixed.specs.HalfEdges.{rev}
-use Rattle.dcel_maps.specs.Conditions.{IsUnconnected, IsLineEnd, IsTriangle, IsBridge, CanFlip, CanCloseOutside}
-use Rattle.dcel_maps.specs.Removals.{gives_up_edge}
+use Rattle.dcel_maps.specs.Conditions.{IsUnconnected, IsLineEnd, IsTriangle, IsBridge, CanFlip, CanCloseOutside, CanSwapRemove}
+use Rattle.dcel_maps.specs.Degenerate.{CanRemoveDegenerate, HasFewOutEdges, IsOutPair, IsPath}
+use Rattle.dcel_maps.specs.Removals.{Removal, Closed, Isolated, Cleaned, IsListed, ascending, gives_up_edge}
 use Rattle.dcel_maps.specs.Shapes.{Shape, IsLive, edge_is_live, end_of, face_count, face_is_live, face_of, next_of, origin_of, prev_of, vertex_is_live}
-use Rattle.dcel_maps.specs.Walking.{IsOutEdge}
-use Rattle.dcel_maps.specs.Words.{word_of}
+use Rattle.dcel_maps.specs.Strips.{IsEdgeStrip, IsStripAround, strip_of}
+use Rattle.dcel_maps.specs.Borders.{IsBorderLoop, IsEdgeAt, IsFaceAt, IsRing, StartsAlone, center_of}
+use Rattle.dcel_maps.specs.Walking.{IsOutEdge, ListsOnce, ccw_of, walk_of}
+use Rattle.dcel_maps.specs.Words.{count_of, word_of}
+use Rattle.dcel_maps.proofs.words.Counts.{count-later, count-same, first_or_later}
 use Rattle.dcel_maps.proofs.Liveness.{is_live-parts}
 
 -- it holds, or it does not
@@ -20,6 +25,16 @@ both : {P Q : Type 0} → Decided P → Decided Q → Decided (P × Q)
 both (inl p) (inl q) = inl (p, q)
 both (inr p) q = inr (λ pq. p pq.0)
 both (inl p) (inr q) = inr (λ pq. q pq.1)
+
+either : {P Q : Type 0} → Decided P → Decided Q → Decided (P ⊎ Q)
+either (inl p) q = inl (inl p)
+either (inr p) (inl q) = inl (inr q)
+either (inr p) (inr q) = inr (λ pq. elim pq [ inl first ↦ p first | inr second ↦ q second ])
+
+implied : {P Q : Type 0} → Decided P → Decided Q → Decided (P → Q)
+implied (inr not) q = inl (λ p. absurd (not p))
+implied (inl p) (inl q) = inl (λ _. q)
+implied (inl p) (inr not) = inr (λ f. not (f p))
 
 neither : {P : Type 0} → Decided P → Decided (¬ P)
 neither (inl p) = inr (λ not. not p)
@@ -58,6 +73,32 @@ search_below P each (suc n) = elim (search_below P each n) [
     ])
   ]
 ]
+
+-- all below n have it, or not all
+all_below : (P : ℕ → Type 0) → ((k : ℕ) → Decided (P k)) → (n : ℕ) → Decided ((k : ℕ) → k < n → P k)
+all_below P each n = elim (search_below (λ k. ¬ P k) (λ k. neither (each k)) n) [
+  | inl found ↦ inr (λ all. found.2 (all found.0 found.1))
+  | inr none ↦ inl (λ k below. elim (each k) [ inl has ↦ has | inr not ↦ absurd (none k below not) ])
+]
+
+-- all items of a list have it, or not all
+each : {P : ℕ → Type 0} → ((k : ℕ) → Decided (P k)) → (xs : List ℕ) → Decided (All P xs)
+each {P} decide xs = as_well
+    (λ all k d below. subst P (sym (get_or_default_zero xs k d below)) (all k below))
+    (λ all k below. all k 0 below)
+    (all_below (λ k. P (get_or xs k 0)) (λ k. decide (get_or xs k 0)) (length xs))
+
+first_same : (x y : ℕ) (xs ys : List ℕ) → x ∷ xs ≡ y ∷ ys → x ≡ y
+first_same x y xs ys e = cc
+
+others_same : (x y : ℕ) (xs ys : List ℕ) → x ∷ xs ≡ y ∷ ys → xs ≡ ys
+others_same x y xs ys e = cc
+
+same_list : (xs ys : List ℕ) → Decided (xs ≡ ys)
+same_list [] [] = inl refl
+same_list [] (y ∷ ys) = inr (λ e. absurd cc)
+same_list (x ∷ xs) [] = inr (λ e. absurd cc)
+same_list (x ∷ xs) (y ∷ ys) = as_well (λ same. rw (same.0, same.1) refl) (λ e. (first_same x y xs ys e, others_same x y xs ys e)) (both (cases_eq x y) (same_list xs ys))
 
 -- ---- half edges out of a vertex
 
@@ -132,6 +173,167 @@ within limit vertices edges faces =
     as_well (λ p. record { few_vertices = p.0; few_edges = p.1.0; few_faces = p.1.1 }) (λ (are : AreWithin limit vertices edges faces). (are.few_vertices, (are.few_edges, are.few_faces)))
     (both (is_within vertices limit) (both (is_within edges limit) (is_within faces limit)))
 
+-- ---- what removals ask
+
+closed : (r : Removal) → Decided (r ≡ Closed)
+closed Closed = inl refl
+closed (Isolated edges faces vertex) = inr (λ e. absurd cc)
+closed (Cleaned v) = inr (λ e. absurd cc)
+
+leaves_at_most : (v : ℕ) (r : Removal) → Decided (LeavesAtMost v r)
+leaves_at_most v Closed = inl tt
+leaves_at_most v (Isolated edges faces vertex) = inr (λ none. none)
+leaves_at_most v (Cleaned w) = cases_eq w v
+
+isolated : (r : Removal) → Decided (IsIsolated r)
+isolated Closed = inr (λ none. none)
+isolated (Isolated edges faces vertex) = inl tt
+isolated (Cleaned v) = inr (λ none. none)
+
+listed : (r : Removal) (us fs : List ℕ) → Decided (IsListed r us fs)
+listed Closed us fs = inr (λ none. none)
+listed (Isolated edges faces vertex) us fs = both (same_list (ascending us) edges) (same_list (ascending fs) faces)
+listed (Cleaned v) us fs = inr (λ none. none)
+
+cleaned_to : (v : ℕ) (r : Removal) → Decided (r ≡ Cleaned v)
+cleaned_to v Closed = inr (λ e. absurd cc)
+cleaned_to v (Isolated edges faces vertex) = inr (λ e. absurd cc)
+cleaned_to v (Cleaned w) = as_well (λ e. ap (λ (x : ℕ). Cleaned x) e) (λ e. cleaned_vertex w v e) (cases_eq w v)
+  where
+    cleaned_vertex : (x y : ℕ) → Cleaned x ≡ Cleaned y → x ≡ y
+    cleaned_vertex x y e = cc
+
+removable : (s : Shape) (v : ℕ) → Decided (CanSwapRemove s v)
+removable s v = either (both (closed s.removal) (unconnected s v)) (cleaned_to v s.removal)
+
+-- each half edge out of v that isn't outer lies on a triangle, and h alone is outer
+spoke : (s : Shape) (v h x : ℕ) → Decided (IsOutEdge s v x → (face_of s x ≡ 0 → x ≡ h) × (face_of s x ≢ 0 → length (word_of s.words (face_of s x)) ≡ 3))
+spoke s v h x = implied (out_edge s v x) (both
+    (implied (cases_eq (face_of s x) 0) (cases_eq x h))
+    (implied (neither (cases_eq (face_of s x) 0)) (cases_eq (length (word_of s.words (face_of s x))) 3)))
+
+around : (s : Shape) (v h : ℕ) → Decided (IsStripAround s v h)
+around s v h = as_well
+    (λ p. record {
+      out = p.0;
+      outer = p.1.0;
+      only = λ x out. (p.1.1.0 x (live_below s x out.live) out).0;
+      triangles = λ x out. (p.1.1.0 x (live_below s x out.live) out).1;
+      long = p.1.1.1;
+    })
+    (λ (is : IsStripAround s v h). (is.out, (is.outer, ((λ x below out. (is.only x out, is.triangles x out)), is.long))))
+    (both (out_edge s v h) (both (cases_eq (face_of s h) 0)
+    (both (all_below (λ x. IsOutEdge s v x → (face_of s x ≡ 0 → x ≡ h) × (face_of s x ≢ 0 → length (word_of s.words (face_of s x)) ≡ 3)) (spoke s v h) (2 * s.edges))
+    (is_below 2 (length (word_of s.words 0))))))
+
+strip : (s : Shape) (list : List ℕ) → Decided (IsEdgeStrip s list)
+strip s list = elim (search_below (λ h. IsStripAround s (origin_of s h) h × (list ≡ strip_of s h)) (λ h. both (around s (origin_of s h) h) (same_list list (strip_of s h))) (2 * s.edges)) [
+  | inl found ↦ inl (record { vertex = origin_of s found.0; half = found.0; around = found.2.0; is = found.2.1 })
+  | inr none ↦ inr (λ (strip : IsEdgeStrip s list).
+      none strip.half (live_below s strip.half strip.around.out.live)
+      (subst (λ v. IsStripAround s v strip.half) (sym strip.around.out.start) strip.around, strip.is))
+]
+
+-- ---- paths
+
+-- some number below n has the property, or none has
+some_below : (P : ℕ → Type 0) → ((k : ℕ) → Decided (P k)) → (n : ℕ) → ((k : ℕ) → P k → k < n) → Decided ((k : ℕ) × P k)
+some_below P each n bound = elim (search_below P each n) [
+  | inl found ↦ inl (found.0, found.2)
+  | inr none ↦ inr (λ some. none some.0 (bound some.0 some.1) some.1)
+]
+
+out_pair : (s : Shape) (v h k : ℕ) → Decided (IsOutPair s v h k)
+out_pair s v h k = as_well
+    (λ p. record { first = p.0; second = p.1.0; only = λ x out. p.1.1 x (live_below s x out.live) out })
+    (λ (is : IsOutPair s v h k). (is.first, (is.second, (λ x below. is.only x))))
+    (both (out_edge s v h) (both (out_edge s v k) (all_below (λ x. IsOutEdge s v x → (x ≡ h) ⊎ (x ≡ k)) (λ x. implied (out_edge s v x) (either (cases_eq x h) (cases_eq x k))) (2 * s.edges))))
+
+second_out : (s : Shape) (v h : ℕ) → Decided ((k : ℕ) × IsOutPair s v h k)
+second_out s v h = some_below (IsOutPair s v h) (out_pair s v h) (2 * s.edges) (λ k is. live_below s k is.second.live)
+
+few_out_edges : (s : Shape) (v : ℕ) → Decided (HasFewOutEdges s v)
+few_out_edges s v = as_well (λ p. (p.0, p.1.0, p.1.1)) (λ (few : HasFewOutEdges s v). (few.0, (few.1, few.2)))
+    (some_below (λ h. (k : ℕ) × IsOutPair s v h k) (second_out s v) (2 * s.edges) (λ h pair. live_below s h pair.1.first.live))
+
+path : (s : Shape) → Decided (IsPath s)
+path s = as_well (λ p. record { one_face = p.0; few = p.1 }) (λ (is : IsPath s). (is.one_face, is.few))
+    (both (cases_eq (face_count s) 1) (all_below (HasFewOutEdges s) (few_out_edges s) s.vertices))
+
+of_path : (s : Shape) (v : ℕ) → Decided (CanRemoveDegenerate s v)
+of_path s v = as_well (λ p. record { within = p.0; closed = p.1.0; shape = p.1.1 }) (λ (can : CanRemoveDegenerate s v). (can.within, (can.closed, can.shape)))
+    (both (is_below v s.vertices) (both (closed s.removal) (either (cases_eq s.vertices 1) (path s))))
+
+-- ---- borders
+
+-- each number that stands in a list has it, or not all
+items_have : {P : ℕ → Type 0} → ((k : ℕ) → Decided (P k)) → (xs : List ℕ) → Decided ((k : ℕ) → 0 < count_of k xs → P k)
+items_have decide [] = inl (λ k found. absurd (omega (arith, found)))
+items_have {P} decide (x ∷ xs) = as_well
+    (λ p k found. elim (first_or_later k x xs found) [ inl is ↦ subst P (sym is) p.0 | inr later ↦ p.1 k later ])
+    (λ all. (all x (omega (arith, count-same x xs)), (λ k found. all k (count-later k x xs found))))
+    (both (decide x) (items_have decide xs))
+
+triangle_out : (s : Shape) (v h : ℕ) → Decided (IsOutEdge s v h → (0 < face_of s h) × IsTriangle s (face_of s h))
+triangle_out s v h = implied (out_edge s v h) (both (is_below 0 (face_of s h)) (triangle s (face_of s h)))
+
+starts_alone : (s : Shape) (w : List ℕ) → Decided (StartsAlone s w)
+starts_alone s [] = inl tt
+starts_alone s (x ∷ r) = items_have (λ y. neither (cases_eq (origin_of s y) (origin_of s x))) r
+
+border_from : (s : Shape) (border : List ℕ) (v : ℕ) → Decided ((h : ℕ) × IsOutEdge s v h × (reverse border ≡ map (next_of s) (walk_of s (ccw_of s) h)))
+border_from s border v = as_well (λ p. (p.0, p.1.0, p.1.1))
+    (λ (found : (h : ℕ) × IsOutEdge s v h × (reverse border ≡ map (next_of s) (walk_of s (ccw_of s) h))). (found.0, (found.1, found.2)))
+    (some_below (λ h. IsOutEdge s v h × (reverse border ≡ map (next_of s) (walk_of s (ccw_of s) h)))
+    (λ h. both (out_edge s v h) (same_list (reverse border) (map (next_of s) (walk_of s (ccw_of s) h)))) (2 * s.edges)
+    (λ h found. live_below s h found.0.live))
+
+border_loop : (s : Shape) (border : List ℕ) (v : ℕ) → Decided (IsBorderLoop s border v)
+border_loop s border v = as_well
+    (λ p. record {
+      live = p.0;
+      triangles = λ h out. p.1.0 h (live_below s h out.live) out;
+      many = p.1.1.0;
+      first = p.1.1.1.0.0;
+      out = p.1.1.1.0.1;
+      ring = p.1.1.1.0.2;
+      alone = p.1.1.1.1;
+    })
+    (λ (l : IsBorderLoop s border v). (l.live, ((λ h below. l.triangles h), (l.many, ((l.first, l.out, l.ring), l.alone)))))
+    (both (is_true (vertex_is_live s v))
+    (both (all_below (λ h. IsOutEdge s v h → (0 < face_of s h) × IsTriangle s (face_of s h)) (triangle_out s v) (2 * s.edges))
+    (both (as_well (λ more. omega (arith, more)) (λ many. omega (arith, many)) (is_below 2 (length border)))
+    (both (border_from s border v) (starts_alone s (reverse border))))))
+
+edge_at : (s : Shape) (v u : ℕ) → Decided (IsEdgeAt s v u)
+edge_at s v u = as_well (λ p. record { half = p.0; out = p.1.0; is = p.1.1 }) (λ (at : IsEdgeAt s v u). (at.half, (at.out, at.is)))
+    (some_below (λ h. IsOutEdge s v h × (h / 2 ≡ u)) (λ h. both (out_edge s v h) (cases_eq (h / 2) u)) (2 * s.edges) (λ h found. live_below s h found.0.live))
+
+face_at : (s : Shape) (v f : ℕ) → Decided (IsFaceAt s v f)
+face_at s v f = as_well (λ p. record { half = p.0; out = p.1.0; is = p.1.1 }) (λ (at : IsFaceAt s v f). (at.half, (at.out, at.is)))
+    (some_below (λ h. IsOutEdge s v h × (face_of s h ≡ f)) (λ h. both (out_edge s v h) (cases_eq (face_of s h) f)) (2 * s.edges) (λ h found. live_below s h found.0.live))
+
+-- the lists name the edges at a vertex and the faces round it, each once
+lists_edges : (s : Shape) (v : ℕ) (w : List ℕ) → Decided (ListsOnce (IsEdgeAt s v) w)
+lists_edges s v w = as_well
+    (λ p. record { each = λ u at. subst (λ z. count_of z w ≡ 1) at.is (p.0 at.half (live_below s at.half at.out.live) at.out); no_other = p.1 })
+    (λ (l : ListsOnce (IsEdgeAt s v) w). ((λ h below out. l.each (h / 2) (record { half = h; out = out; is = refl })), l.no_other))
+    (both (all_below (λ h. IsOutEdge s v h → count_of (h / 2) w ≡ 1) (λ h. implied (out_edge s v h) (cases_eq (count_of (h / 2) w) 1)) (2 * s.edges))
+    (items_have (edge_at s v) w))
+
+lists_faces : (s : Shape) (v : ℕ) (w : List ℕ) → Decided (ListsOnce (IsFaceAt s v) w)
+lists_faces s v w = as_well
+    (λ p. record { each = λ f at. subst (λ z. count_of z w ≡ 1) at.is (p.0 at.half (live_below s at.half at.out.live) at.out); no_other = p.1 })
+    (λ (l : ListsOnce (IsFaceAt s v) w). ((λ h below out. l.each (face_of s h) (record { half = h; out = out; is = refl })), l.no_other))
+    (both (all_below (λ h. IsOutEdge s v h → count_of (face_of s h) w ≡ 1) (λ h. implied (out_edge s v h) (cases_eq (count_of (face_of s h) w) 1)) (2 * s.edges))
+    (items_have (face_at s v) w))
+
+ring : (s : Shape) (border edges faces : List ℕ) → Decided (IsRing s border edges faces)
+ring s border edges faces = as_well
+    (λ p. record { border_loop = p.0; each_edge = p.1.0; each_face = p.1.1 })
+    (λ (is : IsRing s border edges faces). (is.border_loop, (is.each_edge, is.each_face)))
+    (both (border_loop s border (center_of s border)) (both (lists_edges s (center_of s border) edges) (lists_faces s (center_of s border) faces)))
+
 pub meets : (s : Shape) (condition : Condition) → Decided (Meets s condition)
 meets s (VertexInRange v) = is_below v s.vertices
 meets s (HalfEdgeInRange h) = is_below h (2 * s.edges)
@@ -151,5 +353,17 @@ meets s (Bridge h) = bridge s h
 meets s (OnOuterFace h) = cases_eq (face_of s h) 0
 meets s (ClosesOutside h) = closes_outside s h
 meets s (Flips u) = can_flip s u
+meets s (HalfEdgesInRange hs) = each (λ h. is_below h (2 * s.edges)) hs
+meets s (EdgesInRange us) = each (λ u. is_below u s.edges) us
+meets s (InnerFacesInRange fs) = each (λ f. both (is_below 0 f) (is_below f (face_count s))) fs
+meets s NoneOpen = closed s.removal
+meets s (NoOtherOpen v) = leaves_at_most v s.removal
+meets s NotCleaned = isolated s.removal
+meets s (Listed us fs) = listed s.removal us fs
+meets s (StripOfVertex hs) = strip s hs
+meets s (BorderOf hs v) = border_loop s hs v
+meets s (RingOf hs us fs) = ring s hs us fs
+meets s (Removable v) = removable s v
+meets s (OfPath v) = of_path s v
 meets s (RoomFor limit vertices edges faces) = within limit (s.vertices + vertices) (s.edges + edges) (face_count s + faces)
 meets s (RoomForMesh limit vertices edges faces) = within limit vertices edges faces

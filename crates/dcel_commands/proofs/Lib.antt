@@ -2,8 +2,10 @@ pub mod Columns
 pub mod Decided
 pub mod Ending
 pub mod FaceWalks
+pub mod Lists
 pub mod OutEdges
 pub mod Refusing
 pub mod Rounds
 pub mod Serving
 pub mod Spelling
+pub mod WithoutMemory

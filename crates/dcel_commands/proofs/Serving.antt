@@ -8,7 +8,7 @@ use Rattle.dcel_text.specs.declared.output.Writer.{Writer}
 use Rattle.dcel_text.specs.Output.{Writes}
 use Rattle.dcel_commands.specs.Answering.{WritesSome}
 use Rattle.dcel_commands.specs.Rules.{State}
-use Rattle.dcel_commands.specs.Talk.{Answers, Talk, bad_line, good_line}
+use Rattle.dcel_commands.specs.Talk.{Answers, Talk, bad_line, good_line, no_list}
 use Rattle.dcel_commands.specs.Stage.{Stage, Goes, Leads, Serves, Ends}
 use Rattle.dcel_text.proofs.LineEnds.{lines-nil, lines-feed, joined-append, joined-cons, joined-whole, joined-unended, lines-begun, lines-line}
 use Rattle.dcel_text.proofs.Writing.{writes_nothing, writes_and, writes_text}
@@ -22,6 +22,7 @@ length-nonempty (b ∷ l) some = omega arith
 answers_long : (limit : ℕ) (m : State) (k l text : List ℕ) (t : State) → 4096 < length k → 4096 < length l → Answers limit m k text t → Answers limit m l text t
 answers_long limit m k l text t hk hl (bad_line bad e same) = bad_line (λ request h. absurd (omega (arith, h.short))) e same
 answers_long limit m k l text t hk hl (good_line request h does) = absurd (omega (arith, h.short))
+answers_long limit m k l text t hk hl (no_list request h has e same) = absurd (omega (arith, h.short))
 
 short_or_long : (l : List ℕ) → (take 4097 l ≡ l) ⊎ ((4096 < length (take 4097 l)) × (4096 < length l))
 short_or_long l =

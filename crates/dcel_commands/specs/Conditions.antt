@@ -1,9 +1,13 @@
 -- What commands and queries ask of a mesh, and which refusal answers where one of these conditions isn't met.
-use Rattle.std.specs.Prelude.{◌≡◌, ◌≢◌, ◌⊎◌, ℕ, ◌+◌, ◌*◌, ◌<◌, ◌≤◌, true, List, [], ◌∷◌, Contains}
+use Rattle.std.specs.Prelude.{◌≡◌, ◌≢◌, ◌⊎◌, ℕ, ◌+◌, ◌*◌, ◌<◌, ◌≤◌, true, List, [], ◌∷◌, All, Contains}
 use Rattle.dcel_commands.specs.declared.refusal.Refusal.{Refusal}
 use Rattle.dcel_commands.specs.Refusal.{refusal_number}
-use Rattle.dcel_maps.specs.Conditions.{IsUnconnected, IsLineEnd, IsTriangle, IsBridge, CanFlip, CanCloseOutside}
+use Rattle.dcel_maps.specs.Borders.{IsBorderLoop, IsRing}
+use Rattle.dcel_maps.specs.Conditions.{IsUnconnected, IsLineEnd, IsTriangle, IsBridge, CanFlip, CanCloseOutside, CanSwapRemove}
+use Rattle.dcel_maps.specs.Degenerate.{CanRemoveDegenerate}
+use Rattle.dcel_maps.specs.Removals.{Removal, Closed, Isolated, Cleaned, IsListed}
 use Rattle.dcel_maps.specs.Shapes.{Shape, IsLive, vertex_is_live, edge_is_live, face_is_live, face_count, face_of}
+use Rattle.dcel_maps.specs.Strips.{IsEdgeStrip}
 
 -- what may be asked
 pub data Condition : Type 0 where
@@ -25,6 +29,18 @@ pub data Condition : Type 0 where
   OnOuterFace : ℕ → Condition
   ClosesOutside : ℕ → Condition
   Flips : ℕ → Condition
+  HalfEdgesInRange : List ℕ → Condition
+  EdgesInRange : List ℕ → Condition
+  InnerFacesInRange : List ℕ → Condition
+  NoneOpen : Condition
+  NoOtherOpen : ℕ → Condition
+  NotCleaned : Condition
+  Listed : List ℕ → List ℕ → Condition
+  StripOfVertex : List ℕ → Condition
+  BorderOf : List ℕ → ℕ → Condition
+  RingOf : List ℕ → List ℕ → List ℕ → Condition
+  Removable : ℕ → Condition
+  OfPath : ℕ → Condition
   RoomFor : ℕ → ℕ → ℕ → ℕ → Condition
   RoomForMesh : ℕ → ℕ → ℕ → ℕ → Condition
 
@@ -33,6 +49,18 @@ pub record AreWithin (limit vertices edges faces : ℕ) : Type 0 where
   pub few_vertices : vertices ≤ limit
   pub few_edges : edges ≤ limit
   pub few_faces : faces ≤ limit
+
+-- no removal is open, or the vertex alone is still given up
+abbrev pub LeavesAtMost : ℕ → Removal → Type 0
+LeavesAtMost v Closed = Unit {0}
+LeavesAtMost v (Isolated edges faces vertex) = ⊥
+LeavesAtMost v (Cleaned w) = w ≡ v
+
+-- a removal is open and not yet cleaned up
+abbrev pub IsIsolated : Removal → Type 0
+IsIsolated Closed = ⊥
+IsIsolated (Isolated edges faces vertex) = Unit {0}
+IsIsolated (Cleaned w) = ⊥
 
 -- the shape meets the condition. Room for more elements, or for a mesh of its own, is there where no count passes the limit
 abbrev pub Meets : Shape → Condition → Type 0
@@ -54,6 +82,18 @@ Meets s (Bridge h) = IsBridge s h
 Meets s (OnOuterFace h) = face_of s h ≡ 0
 Meets s (ClosesOutside h) = CanCloseOutside s h
 Meets s (Flips u) = CanFlip s u
+Meets s (HalfEdgesInRange hs) = All (λ h. h < 2 * s.edges) hs
+Meets s (EdgesInRange us) = All (λ u. u < s.edges) us
+Meets s (InnerFacesInRange fs) = All (λ f. (0 < f) × (f < face_count s)) fs
+Meets s NoneOpen = s.removal ≡ Closed
+Meets s (NoOtherOpen v) = LeavesAtMost v s.removal
+Meets s NotCleaned = IsIsolated s.removal
+Meets s (Listed us fs) = IsListed s.removal us fs
+Meets s (StripOfVertex hs) = IsEdgeStrip s hs
+Meets s (BorderOf hs v) = IsBorderLoop s hs v
+Meets s (RingOf hs us fs) = IsRing s hs us fs
+Meets s (Removable v) = CanSwapRemove s v
+Meets s (OfPath v) = CanRemoveDegenerate s v
 Meets s (RoomFor limit vertices edges faces) = AreWithin limit (s.vertices + vertices) (s.edges + edges) (face_count s + faces)
 Meets s (RoomForMesh limit vertices edges faces) = AreWithin limit vertices edges faces
 

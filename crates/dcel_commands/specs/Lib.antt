@@ -3,9 +3,11 @@ pub use Rattle.dcel_text.specs.Transfer
 pub mod Answering
 pub mod Conditions
 pub mod Grammar
+pub mod Instructions
 pub mod Queries
 pub mod Refusal
 pub mod Replies
+pub mod Responses
 pub mod Rules
 pub mod Run
 pub mod Spelling

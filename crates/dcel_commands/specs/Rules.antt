@@ -1,9 +1,9 @@
 -- What each line says of itself: the files in `request` have one of these records each.
 use Rattle.std.specs.Prelude.{ℕ, ℤ, Bool, List}
 use Rattle.dcel_commands.specs.declared.commands.reply.Handed.{Handed}
-use Rattle.dcel_commands.specs.declared.commands.reply.Reply.{Reply}
 use Rattle.dcel_commands.specs.Conditions.{Entry}
 use Rattle.dcel_commands.specs.Grammar.{Item}
+use Rattle.dcel_commands.specs.Responses.{Response}
 use Rattle.dcel_maps.specs.Shapes.{Mesh}
 
 -- of a command: the word that it is written with and what stands after it; what it asks under a limit, in the order of checking;
@@ -15,7 +15,7 @@ pub record CommandRule (V : Type 0) : Type 1 where
   pub asks : ℕ → List Entry
   pub takes_memory : Bool
   pub handed : Handed V
-  pub Makes : {DE UE F : Type 0} → (DE → Type 0) → (UE → Type 0) → (F → Type 0) → Mesh V DE UE F → Reply → Mesh V DE UE F → Type 0
+  pub Makes : {DE UE F : Type 0} → (DE → Type 0) → (UE → Type 0) → (F → Type 0) → Mesh V DE UE F → Response V → Mesh V DE UE F → Type 0
 
 -- the mesh that lines are about: all data are numbers
 abbrev pub State : Type 0

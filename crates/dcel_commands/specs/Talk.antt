@@ -1,14 +1,15 @@
 -- What lines may be answered.
 use Rattle.std.specs.Prelude.{◌≡◌, ℕ, ℤ, pos, List, [], ◌∷◌, ◌++◌, codes, Result}
 use Rattle.dcel_commands.specs.declared.commands.reply.Refused.{Refused}
-use Rattle.dcel_commands.specs.declared.commands.reply.Reply.{Reply}
-use Rattle.dcel_commands.specs.declared.request.Request.{Request}
-use Rattle.dcel_commands.specs.declared.request.Request.TheVariants.{Edit, Ask}
+use Rattle.dcel_commands.specs.declared.refusal.Refusal.TheVariants.{OutOfMemory}
 use Rattle.dcel_commands.specs.Conditions.{Entry}
+use Rattle.dcel_commands.specs.Instructions.{Saying, Edit, Ask}
 use Rattle.dcel_commands.specs.Queries.{Told, query_asks}
+use Rattle.dcel_commands.specs.Refusal.{refusal_text}
 use Rattle.dcel_commands.specs.Replies.{outcome_text}
+use Rattle.dcel_commands.specs.Responses.{Response}
 use Rattle.dcel_commands.specs.Rules.{State}
-use Rattle.dcel_commands.specs.Spelling.{Spells}
+use Rattle.dcel_commands.specs.Spelling.{HasList, Spells}
 use Rattle.dcel_text.specs.Texts.{ended}
 use Rattle.dcel_commands.specs.Steps.{Carries, asks}
 use Rattle.dcel_maps.specs.edits.Create.{outer_alone}
@@ -21,21 +22,22 @@ IsZero d = d ≡ pos 0
 abbrev pub start : State
 start = outer_alone (pos 0)
 
--- what a request asks under a limit
-abbrev pub asked : ℕ → Request → List Entry
+-- what is asked under a limit
+abbrev pub asked : ℕ → Saying → List Entry
 asked limit (Edit command) = asks limit command
 asked limit (Ask query) = query_asks query
 
 -- a command is carried out or refused, and the text is its outcome; a query changes nothing, and the text tells what it asks
-abbrev pub Does : ℕ → State → Request → List ℕ → State → Type 0
+abbrev pub Does : ℕ → State → Saying → List ℕ → State → Type 0
 Does limit old (Edit command) text new =
-    (outcome : Result Reply (Refused ℤ)) × Carries IsZero IsZero IsZero limit old command outcome new × (text ≡ outcome_text outcome)
+    (outcome : Result (Response ℤ) (Refused ℤ)) × Carries IsZero IsZero IsZero limit old command outcome new × (text ≡ outcome_text outcome)
 Does limit old (Ask query) text new = Told old query text × (new ≡ old)
 
--- the text that a line may be answered by, and the mesh that it leaves
+-- the text that a line may be answered by, and the mesh that it leaves. Where a list that isn't empty finds no memory, nothing is asked
 pub data Answers (limit : ℕ) (old : State) (line text : List ℕ) (new : State) : Type 0 where
-  bad_line : ((request : Request) → ¬ Spells request line) → text ≡ ended (codes "bad line") → new ≡ old → Answers limit old line text new
-  good_line : (request : Request) → Spells request line → Does limit old request text new → Answers limit old line text new
+  bad_line : ((said : Saying) → ¬ Spells said line) → text ≡ ended (codes "bad line") → new ≡ old → Answers limit old line text new
+  good_line : (said : Saying) → Spells said line → Does limit old said text new → Answers limit old line text new
+  no_list : (said : Saying) → Spells said line → HasList said → text ≡ refusal_text OutOfMemory → new ≡ old → Answers limit old line text new
 
 -- from the mesh the lines may be answered by this text
 abbrev pub Talk : ℕ → State → List (List ℕ) → List ℕ → Type 0

@@ -37,23 +37,25 @@ fn tell<A: Allocator, K: LineSink>(
     Ok(())
 }
 
-/// Does what a line says, and writes the answer.
-pub fn answer<A: Allocator + Clone, K: LineSink>(
+/// Does what a line says, with its lists in this memory, and writes the answer.
+pub fn answer<A: Allocator + Clone, B: Allocator + Copy, K: LineSink>(
     out: &mut Writer<'_, K>,
     mesh: &mut LineMesh<A>,
+    memory: B,
     limit: usize,
     line: &[u8],
 )
     requires { limit ≤ 2 ^ 31 }
     ensures { WritesSome K.has_failed K.contents out.old out.new (λ text. Answers limit mesh.old line.now text mesh.new) }
 {
-    match read(line) {
+    match read(line, memory) {
         None => out.write(b"bad line\n"),
-        Some(Request::Edit(command)) => match apply(mesh, command, limit) {
+        Some(Err(_)) => write_refusal(out, Refusal::OutOfMemory),
+        Some(Ok(Request::Edit(command))) => match apply(mesh, command, limit) {
             Ok(reply) => write_reply(out, reply),
             Err(refused) => write_refusal(out, refused.why),
         },
-        Some(Request::Ask(query)) => match tell(out, mesh, query) {
+        Some(Ok(Request::Ask(query))) => match tell(out, mesh, query) {
             Ok(()) => {}
             Err(why) => write_refusal(out, why),
         },

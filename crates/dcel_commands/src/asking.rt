@@ -1,17 +1,21 @@
 //! The parts of what lines ask of a mesh.
 
-ghost use Rattle.std.specs.Prelude.{◌≡◌, ◌↔◌, ◌+◌, ◌*◌, ◌<◌, ◌≤◌, ◌^◌, [], ◌∷◌, false, IsTrue, MatchResult};
+ghost use Rattle.std.specs.Prelude.{◌≡◌, ◌↔◌, ◌+◌, ◌*◌, ◌<◌, ◌≤◌, ◌^◌, [], ◌∷◌, false, All, IsTrue, MatchResult};
 ghost use Rattle.dcel_maps.specs.Conditions.{HasRoom};
+ghost use Rattle.dcel_maps.specs.Removals.{Closed};
 ghost use Rattle.dcel_maps.specs.Shapes.{IsLive, face_count};
-ghost use Rattle.dcel_commands.specs.Conditions.{AllMet, AreWithin, FirstUnmet, OnTriangle};
+ghost use Rattle.dcel_commands.specs.Conditions.{AllMet, AreWithin, FirstUnmet, IsIsolated, OnTriangle};
 ghost use Rattle.dcel_commands.specs.request.AtEdge.{edge_and_vertex};
 ghost use Rattle.dcel_commands.specs.request.Vertices.{live_vertices, two_vertices};
 ghost use Rattle.spade_dcel.specs.Handles.{mesh_behind, number_of};
 ghost use Rattle.dcel_commands.specs.declared.refusal.Refusal.TheVariants.{NotTriangle};
 
 use crate::refusal::Refusal;
-use dcel_fixed::{FixedDirectedEdgeHandle, FixedUndirectedEdgeHandle, FixedVertexHandle};
-use spade_dcel::dcel::Dcel;
+use dcel_fixed::{
+    FixedDirectedEdgeHandle, FixedFaceHandle, FixedHandleImpl, FixedUndirectedEdgeHandle,
+    FixedVertexHandle, InnerOuterMarker, InnerTag,
+};
+use spade_dcel::dcel::{Dcel, RemovalState};
 use spade_dcel::handles::DirectedEdgeHandle;
 use std::alloc::Allocator;
 
@@ -50,6 +54,47 @@ pub fn has_edge<V, DE, UE, F, A: Allocator>(
     ensures { IsTrue result ↔ (edge < dcel.now.shape.edges) }
 {
     edge.index() < dcel.num_undirected_edges()
+}
+
+/// Whether each of the elements has a number below this one.
+pub fn are_below<Kind, InnerOuter: InnerOuterMarker>(
+    elements: &[FixedHandleImpl<Kind, InnerOuter>],
+    count: usize,
+) -> bool
+    ensures { IsTrue result ↔ All (λ n. n < count) elements.now }
+{
+    for element in elements {
+        if element.index() >= count {
+            return false;
+        }
+    }
+    true
+}
+
+/// Whether each of the faces has a number below this one, and is none that is outside.
+pub fn are_inner_faces(faces: &[FixedFaceHandle<InnerTag>], count: usize) -> bool
+    ensures { IsTrue result ↔ All (λ f. (0 < f) × (f < count)) faces.now }
+{
+    for face in faces {
+        if face.index() == 0 || face.index() >= count {
+            return false;
+        }
+    }
+    true
+}
+
+/// Whether no removal is open.
+pub fn is_closed<V, DE, UE, F, A: Allocator>(dcel: &Dcel<V, DE, UE, F, A>) -> bool
+    ensures { IsTrue result ↔ (dcel.now.shape.removal ≡ Closed) }
+{
+    dcel.removal_state() == RemovalState::Closed
+}
+
+/// Whether a removal is open and not yet cleaned up.
+pub fn is_isolated<V, DE, UE, F, A: Allocator>(dcel: &Dcel<V, DE, UE, F, A>) -> bool
+    ensures { IsTrue result ↔ IsIsolated dcel.now.shape.removal }
+{
+    dcel.removal_state() == RemovalState::Isolated
 }
 
 /// Asks for a triangle where a live half edge of the mesh lies.

@@ -1,16 +1,45 @@
 //! What lines say after their words.
 #![tactic(auto, unfolding(crate::specs::Spelling::Says))]
 
-ghost use Rattle.std.specs.Prelude.{◌≡◌, ◌≢◌, [], ◌∷◌, ℕ, ℤ, MatchOption, codes};
+ghost use Rattle.std.specs.Prelude.{◌≡◌, ◌≢◌, ◌<◌, ◌+◌, [], ◌∷◌, ◌++◌, ℕ, ℤ, List, length, map, MatchOption, MatchResult, codes};
+ghost use Rattle.std.specs.List.{AllByRecursion};
 ghost use Rattle.std.specs.Fmt.{decimal, signed_decimal};
 ghost use Rattle.dcel_commands.specs.Vocabulary.{Says};
 ghost use Rattle.dcel_text.specs.Numbers.{IsNumber, IsDatum};
-ghost use Rattle.dcel_text.specs.Items.{left};
+ghost use Rattle.dcel_text.specs.Items.{BeginsWith, left, slash};
 
 use crate::commands::Command;
 use crate::request::{Query, Request};
-use dcel_fixed::{FixedHandleImpl, InnerOuterMarker};
-use dcel_text::items::{Rest, datum_then, nothing, number_then};
+use dcel_fixed::{
+    FaceTag, FixedDirectedEdgeHandle, FixedFaceHandle, FixedHandleImpl, FixedUndirectedEdgeHandle,
+    InnerOuterMarker, InnerTag, UndirectedEdgeTag,
+};
+use dcel_text::items::{Rest, count_numbers, datum_then, nothing, number_then, slash_then};
+use std::alloc::{AllocError, Allocator};
+
+/// What a line says, if it is a command or a query; or that there is no memory for its lists.
+pub type Said<A> = Option<Result<Request<A>, AllocError>>;
+
+/// The numbers of a line's elements, or that there is no memory for them.
+type Made<Kind, InnerOuter, A> = Result<Vec<FixedHandleImpl<Kind, InnerOuter>, A>, AllocError>;
+
+/// The same of two lists.
+type TwoMade<K, I, L, J, A> = Result<
+    (Vec<FixedHandleImpl<K, I>, A>, Vec<FixedHandleImpl<L, J>, A>),
+    AllocError,
+>;
+
+/// The edges and faces inside a ring, and these after the ring's half edges.
+type OfRing<A> = TwoMade<UndirectedEdgeTag, InnerTag, FaceTag, InnerTag, A>;
+
+type ThreeMade<A> = Result<
+    (
+        Vec<FixedDirectedEdgeHandle, A>,
+        Vec<FixedUndirectedEdgeHandle, A>,
+        Vec<FixedFaceHandle<InnerTag>, A>,
+    ),
+    AllocError,
+>;
 
 /// Three data and nothing else.
 fn three_data<'a>(rest: Rest<'a>) -> Option<(i64, i64, i64)>
@@ -69,152 +98,303 @@ fn number_and_datum<'a, Kind, InnerOuter: InnerOuterMarker>(
     Some((FixedHandleImpl::new(n as usize), d))
 }
 
-pub fn append<'a>(rest: Rest<'a>) -> Option<Request>
+/// The numbers of elements that come next, of which there are so many.
+fn numbers<'a, Kind, InnerOuter: InnerOuterMarker, A: Allocator>(
+    rest: Rest<'a>,
+    count: usize,
+    memory: A,
+) -> Made<Kind, InnerOuter, A>
+    ensures { (numbers : List ℕ) (others : List (List ℕ)) → BeginsWith (left rest.entry) numbers others → length numbers ≡ count →
+        MatchResult result (λ list. list.items ≡ numbers) (λ _. 0 < length numbers) }
+{
+    let mut list = Vec::with_capacity(memory, count)?;
+    let mut others = rest;
+    while let Some((number, more)) = number_then(others) {
+        list.push(FixedHandleImpl::new(number as usize))?;
+        others = more;
+    }
+    Ok(list)
+}
+
+/// The numbers that come next in two places, of which there are so many.
+fn both<'a, K, L, I: InnerOuterMarker, J: InnerOuterMarker, A: Allocator + Copy>(
+    first: Rest<'a>,
+    first_count: usize,
+    second: Rest<'a>,
+    second_count: usize,
+    memory: A,
+) -> TwoMade<K, I, L, J, A>
+    ensures { (ms ns : List ℕ) (xs ys : List (List ℕ)) → BeginsWith (left first.entry) ms xs → BeginsWith (left second.entry) ns ys
+        → length ms ≡ first_count → length ns ≡ second_count →
+        MatchResult result (λ lists. (lists.0.items ≡ ms) × (lists.1.items ≡ ns)) (λ _. 0 < length ms + length ns) }
+{
+    let first_list = numbers(first, first_count, memory)?;
+    let second_list = numbers(second, second_count, memory)?;
+    Ok((first_list, second_list))
+}
+
+/// A list of elements and nothing else.
+fn one_list<'a, Kind, InnerOuter: InnerOuterMarker, A: Allocator>(
+    rest: Rest<'a>,
+    memory: A,
+) -> Option<Made<Kind, InnerOuter, A>>
+    ensures { MatchOption result
+        ((ns : List ℕ) → AllByRecursion IsNumber ns → left rest.entry ≢ map decimal ns)
+        (λ made. (ns : List ℕ) × AllByRecursion IsNumber ns × (left rest.entry ≡ map decimal ns)
+        × MatchResult made (λ list. list.items ≡ ns) (λ _. 0 < length ns)) }
+{
+    let (count, others) = count_numbers(rest);
+    nothing(others)?;
+    Some(numbers(rest, count, memory))
+}
+
+/// Two lists of elements with a slash between them, and nothing else.
+fn two_lists<'a, K, L, I: InnerOuterMarker, J: InnerOuterMarker, A: Allocator + Copy>(
+    rest: Rest<'a>,
+    memory: A,
+) -> Option<TwoMade<K, I, L, J, A>>
+    ensures { MatchOption result
+        ((ms ns : List ℕ) → AllByRecursion IsNumber ms → AllByRecursion IsNumber ns → left rest.entry ≢ map decimal ms ++ slash ∷ map decimal ns)
+        (λ made. (ms : List ℕ) × (ns : List ℕ) × AllByRecursion IsNumber ms × AllByRecursion IsNumber ns
+        × (left rest.entry ≡ map decimal ms ++ slash ∷ map decimal ns)
+        × MatchResult made (λ lists. (lists.0.items ≡ ms) × (lists.1.items ≡ ns)) (λ _. 0 < length ms + length ns)) }
+{
+    let (first_count, after) = count_numbers(rest);
+    let second = slash_then(after)?;
+    let (second_count, end) = count_numbers(second);
+    nothing(end)?;
+    Some(both(rest, first_count, second, second_count, memory))
+}
+
+/// A list of elements, which is counted, and then two more that may have found no memory.
+fn and_two<'a, A: Allocator + Copy>(
+    first: Rest<'a>,
+    first_count: usize,
+    others: OfRing<A>,
+    memory: A,
+) -> ThreeMade<A>
+    ensures { (ls ms ns : List ℕ) (xs : List (List ℕ)) → BeginsWith (left first.entry) ls xs → length ls ≡ first_count
+        → MatchResult others (λ lists. (lists.0.items ≡ ms) × (lists.1.items ≡ ns)) (λ _. 0 < length ms + length ns)
+        → MatchResult result (λ lists. (lists.0.items ≡ ls) × (lists.1.items ≡ ms) × (lists.2.items ≡ ns)) (λ _. 0 < length ls + length ms + length ns) }
+{
+    let (second, third) = others?;
+    let list = numbers(first, first_count, memory)?;
+    Ok((list, second, third))
+}
+
+/// Three lists of elements with slashes between them, and nothing else.
+fn three_lists<'a, A: Allocator + Copy>(rest: Rest<'a>, memory: A) -> Option<ThreeMade<A>>
+    ensures { MatchOption result
+        ((ls ms ns : List ℕ) → AllByRecursion IsNumber ls → AllByRecursion IsNumber ms → AllByRecursion IsNumber ns
+        → left rest.entry ≢ map decimal ls ++ slash ∷ (map decimal ms ++ slash ∷ map decimal ns))
+        (λ made. (ls : List ℕ) × (ms : List ℕ) × (ns : List ℕ) × AllByRecursion IsNumber ls × AllByRecursion IsNumber ms × AllByRecursion IsNumber ns
+        × (left rest.entry ≡ map decimal ls ++ slash ∷ (map decimal ms ++ slash ∷ map decimal ns))
+        × MatchResult made (λ lists. (lists.0.items ≡ ls) × (lists.1.items ≡ ms) × (lists.2.items ≡ ns)) (λ _. 0 < length ls + length ms + length ns)) }
+{
+    let (count, after) = count_numbers(rest);
+    let others = slash_then(after)?;
+    let made = two_lists(others, memory)?;
+    Some(and_two(rest, count, made, memory))
+}
+
+pub fn append<'a, A: Allocator>(rest: Rest<'a>) -> Said<A>
     ensures { Says (codes "append") (left rest.entry) result }
 {
     let (datum, others) = datum_then(rest)?;
     nothing(others)?;
-    Some(Request::Edit(Command::Append(datum)))
+    Some(Ok(Request::Edit(Command::Append(datum))))
 }
 
-pub fn triangle<'a>(rest: Rest<'a>) -> Option<Request>
+pub fn triangle<'a, A: Allocator>(rest: Rest<'a>) -> Said<A>
     ensures { Says (codes "triangle") (left rest.entry) result }
 {
     let (x, y, z) = three_data(rest)?;
-    Some(Request::Edit(Command::Triangle(x, y, z)))
+    Some(Ok(Request::Edit(Command::Triangle(x, y, z))))
 }
 
-pub fn setup<'a>(rest: Rest<'a>) -> Option<Request>
+pub fn setup<'a, A: Allocator>(rest: Rest<'a>) -> Said<A>
     ensures { Says (codes "setup") (left rest.entry) result }
 {
     let (first, second) = two_numbers(rest)?;
-    Some(Request::Edit(Command::Setup(first, second)))
+    Some(Ok(Request::Edit(Command::Setup(first, second))))
 }
 
-pub fn extend<'a>(rest: Rest<'a>) -> Option<Request>
+pub fn extend<'a, A: Allocator>(rest: Rest<'a>) -> Said<A>
     ensures { Says (codes "extend") (left rest.entry) result }
 {
     let (first, second) = two_numbers(rest)?;
-    Some(Request::Edit(Command::Extend(first, second)))
+    Some(Ok(Request::Edit(Command::Extend(first, second))))
 }
 
-pub fn line<'a>(rest: Rest<'a>) -> Option<Request>
+pub fn line<'a, A: Allocator>(rest: Rest<'a>) -> Said<A>
     ensures { Says (codes "line") (left rest.entry) result }
 {
     let (first, second) = two_numbers(rest)?;
-    Some(Request::Edit(Command::Line(first, second)))
+    Some(Ok(Request::Edit(Command::Line(first, second))))
 }
 
-pub fn close<'a>(rest: Rest<'a>) -> Option<Request>
+pub fn close<'a, A: Allocator>(rest: Rest<'a>) -> Said<A>
     ensures { Says (codes "close") (left rest.entry) result }
 {
-    Some(Request::Edit(Command::Close(one_number(rest)?)))
+    Some(Ok(Request::Edit(Command::Close(one_number(rest)?))))
 }
 
-pub fn outside<'a>(rest: Rest<'a>) -> Option<Request>
+pub fn outside<'a, A: Allocator>(rest: Rest<'a>) -> Said<A>
     ensures { Says (codes "outside") (left rest.entry) result }
 {
     let (first, second) = two_numbers(rest)?;
-    Some(Request::Edit(Command::Outside(first, second)))
+    Some(Ok(Request::Edit(Command::Outside(first, second))))
 }
 
-pub fn insert<'a>(rest: Rest<'a>) -> Option<Request>
+pub fn insert<'a, A: Allocator>(rest: Rest<'a>) -> Said<A>
     ensures { Says (codes "insert") (left rest.entry) result }
 {
     let (first, second) = two_numbers(rest)?;
-    Some(Request::Edit(Command::Insert(first, second)))
+    Some(Ok(Request::Edit(Command::Insert(first, second))))
 }
 
-pub fn half<'a>(rest: Rest<'a>) -> Option<Request>
+pub fn half<'a, A: Allocator>(rest: Rest<'a>) -> Said<A>
     ensures { Says (codes "half") (left rest.entry) result }
 {
     let (first, second) = two_numbers(rest)?;
-    Some(Request::Edit(Command::Half(first, second)))
+    Some(Ok(Request::Edit(Command::Half(first, second))))
 }
 
-pub fn split<'a>(rest: Rest<'a>) -> Option<Request>
+pub fn split<'a, A: Allocator>(rest: Rest<'a>) -> Said<A>
     ensures { Says (codes "split") (left rest.entry) result }
 {
     let (first, second) = two_numbers(rest)?;
-    Some(Request::Edit(Command::Split(first, second)))
+    Some(Ok(Request::Edit(Command::Split(first, second))))
 }
 
-pub fn flip<'a>(rest: Rest<'a>) -> Option<Request>
+pub fn flip<'a, A: Allocator>(rest: Rest<'a>) -> Said<A>
     ensures { Says (codes "flip") (left rest.entry) result }
 {
-    Some(Request::Edit(Command::Flip(one_number(rest)?)))
+    Some(Ok(Request::Edit(Command::Flip(one_number(rest)?))))
 }
 
-pub fn swap<'a>(rest: Rest<'a>) -> Option<Request>
+pub fn swap<'a, A: Allocator>(rest: Rest<'a>) -> Said<A>
     ensures { Says (codes "swap") (left rest.entry) result }
 {
     let (first, second) = two_numbers(rest)?;
-    Some(Request::Edit(Command::Swap(first, second)))
+    Some(Ok(Request::Edit(Command::Swap(first, second))))
 }
 
-pub fn put<'a>(rest: Rest<'a>) -> Option<Request>
+pub fn put<'a, A: Allocator>(rest: Rest<'a>) -> Said<A>
     ensures { Says (codes "put") (left rest.entry) result }
 {
     let (vertex, datum) = number_and_datum(rest)?;
-    Some(Request::Edit(Command::Put(vertex, datum)))
+    Some(Ok(Request::Edit(Command::Put(vertex, datum))))
 }
 
-pub fn clear<'a>(rest: Rest<'a>) -> Option<Request>
+pub fn isolate<'a, A: Allocator>(rest: Rest<'a>, memory: A) -> Said<A>
+    ensures { Says (codes "isolate") (left rest.entry) result }
+{
+    let (number, others) = number_then(rest)?;
+    match one_list(others, memory)? {
+        Ok(list) => {
+            let vertex = FixedHandleImpl::new(number as usize);
+            Some(Ok(Request::Edit(Command::Isolate(vertex, list))))
+        }
+        Err(error) => Some(Err(error)),
+    }
+}
+
+pub fn remesh<'a, A: Allocator + Copy>(rest: Rest<'a>, memory: A) -> Said<A>
+    ensures { Says (codes "remesh") (left rest.entry) result }
+{
+    match three_lists(rest, memory)? {
+        Ok((list, edges, faces)) => Some(Ok(Request::Edit(Command::Remesh(list, edges, faces)))),
+        Err(error) => Some(Err(error)),
+    }
+}
+
+pub fn strip<'a, A: Allocator>(rest: Rest<'a>, memory: A) -> Said<A>
+    ensures { Says (codes "strip") (left rest.entry) result }
+{
+    match one_list(rest, memory)? {
+        Ok(list) => Some(Ok(Request::Edit(Command::Strip(list)))),
+        Err(error) => Some(Err(error)),
+    }
+}
+
+pub fn cleanup<'a, A: Allocator + Copy>(rest: Rest<'a>, memory: A) -> Said<A>
+    ensures { Says (codes "cleanup") (left rest.entry) result }
+{
+    match two_lists(rest, memory)? {
+        Ok((edges, faces)) => Some(Ok(Request::Edit(Command::Cleanup(edges, faces)))),
+        Err(error) => Some(Err(error)),
+    }
+}
+
+pub fn remove<'a, A: Allocator>(rest: Rest<'a>) -> Said<A>
+    ensures { Says (codes "remove") (left rest.entry) result }
+{
+    Some(Ok(Request::Edit(Command::Remove(one_number(rest)?))))
+}
+
+pub fn degenerate<'a, A: Allocator>(rest: Rest<'a>) -> Said<A>
+    ensures { Says (codes "degenerate") (left rest.entry) result }
+{
+    Some(Ok(Request::Edit(Command::Degenerate(one_number(rest)?))))
+}
+
+pub fn clear<'a, A: Allocator>(rest: Rest<'a>) -> Said<A>
     ensures { Says (codes "clear") (left rest.entry) result }
 {
     nothing(rest)?;
-    Some(Request::Edit(Command::Clear))
+    Some(Ok(Request::Edit(Command::Clear)))
 }
 
-pub fn counts<'a>(rest: Rest<'a>) -> Option<Request>
+pub fn counts<'a, A: Allocator>(rest: Rest<'a>) -> Said<A>
     ensures { Says (codes "counts") (left rest.entry) result }
 {
     nothing(rest)?;
-    Some(Request::Ask(Query::Counts))
+    Some(Ok(Request::Ask(Query::Counts)))
 }
 
-pub fn words<'a>(rest: Rest<'a>) -> Option<Request>
+pub fn words<'a, A: Allocator>(rest: Rest<'a>) -> Said<A>
     ensures { Says (codes "words") (left rest.entry) result }
 {
     nothing(rest)?;
-    Some(Request::Ask(Query::Words))
+    Some(Ok(Request::Ask(Query::Words)))
 }
 
-pub fn hull<'a>(rest: Rest<'a>) -> Option<Request>
+pub fn hull<'a, A: Allocator>(rest: Rest<'a>) -> Said<A>
     ensures { Says (codes "hull") (left rest.entry) result }
 {
     nothing(rest)?;
-    Some(Request::Ask(Query::Hull))
+    Some(Ok(Request::Ask(Query::Hull)))
 }
 
-pub fn out<'a>(rest: Rest<'a>) -> Option<Request>
+pub fn out<'a, A: Allocator>(rest: Rest<'a>) -> Said<A>
     ensures { Says (codes "out") (left rest.entry) result }
 {
-    Some(Request::Ask(Query::Out(one_number(rest)?)))
+    Some(Ok(Request::Ask(Query::Out(one_number(rest)?))))
 }
 
-pub fn origin<'a>(rest: Rest<'a>) -> Option<Request>
+pub fn origin<'a, A: Allocator>(rest: Rest<'a>) -> Said<A>
     ensures { Says (codes "origin") (left rest.entry) result }
 {
-    Some(Request::Ask(Query::Origin(one_number(rest)?)))
+    Some(Ok(Request::Ask(Query::Origin(one_number(rest)?))))
 }
 
-pub fn between<'a>(rest: Rest<'a>) -> Option<Request>
+pub fn between<'a, A: Allocator>(rest: Rest<'a>) -> Said<A>
     ensures { Says (codes "between") (left rest.entry) result }
 {
     let (first, second) = two_numbers(rest)?;
-    Some(Request::Ask(Query::Between(first, second)))
+    Some(Ok(Request::Ask(Query::Between(first, second))))
 }
 
-pub fn get<'a>(rest: Rest<'a>) -> Option<Request>
+pub fn get<'a, A: Allocator>(rest: Rest<'a>) -> Said<A>
     ensures { Says (codes "get") (left rest.entry) result }
 {
-    Some(Request::Ask(Query::Get(one_number(rest)?)))
+    Some(Ok(Request::Ask(Query::Get(one_number(rest)?))))
 }
 
-pub fn check<'a>(rest: Rest<'a>) -> Option<Request>
+pub fn check<'a, A: Allocator>(rest: Rest<'a>) -> Said<A>
     ensures { Says (codes "check") (left rest.entry) result }
 {
     nothing(rest)?;
-    Some(Request::Ask(Query::Check))
+    Some(Ok(Request::Ask(Query::Check)))
 }

@@ -1,19 +1,19 @@
 //! From the bytes of a line to what it says.
 
 ghost use Rattle.dcel_text.specs.Items.{left};
-ghost use Rattle.dcel_commands.specs.Spelling.{Says, Spells};
-ghost use Rattle.std.specs.Prelude.{MatchOption};
+ghost use Rattle.dcel_commands.specs.Spelling.{Reads, Says};
 
 use crate::given;
-use crate::request::Request;
+use crate::given::Said;
 use dcel_text::items::{Rest, first};
+use std::alloc::Allocator;
 
 /// The most bytes that a line may have before its line feed.
 const LONGEST: usize = 4096;
 
 /// What a line says after its first item, by that item.
 #[tactic(auto, using(crate::proofs::Spelling::same_word, crate::proofs::Spelling::no_word))]
-fn read_after<'a>(word: &[u8], rest: Rest<'a>) -> Option<Request>
+fn read_after<'a, A: Allocator + Copy>(word: &[u8], rest: Rest<'a>, memory: A) -> Said<A>
     ensures { Says word.now (left rest.entry) result }
 {
     match word {
@@ -30,6 +30,12 @@ fn read_after<'a>(word: &[u8], rest: Rest<'a>) -> Option<Request>
         _ if word == b"flip".as_slice() => given::flip(rest),
         _ if word == b"swap".as_slice() => given::swap(rest),
         _ if word == b"put".as_slice() => given::put(rest),
+        _ if word == b"isolate".as_slice() => given::isolate(rest, memory),
+        _ if word == b"remesh".as_slice() => given::remesh(rest, memory),
+        _ if word == b"strip".as_slice() => given::strip(rest, memory),
+        _ if word == b"cleanup".as_slice() => given::cleanup(rest, memory),
+        _ if word == b"remove".as_slice() => given::remove(rest),
+        _ if word == b"degenerate".as_slice() => given::degenerate(rest),
         _ if word == b"clear".as_slice() => given::clear(rest),
         _ if word == b"counts".as_slice() => given::counts(rest),
         _ if word == b"words".as_slice() => given::words(rest),
@@ -43,13 +49,13 @@ fn read_after<'a>(word: &[u8], rest: Rest<'a>) -> Option<Request>
     }
 }
 
-/// What a line says, if it is a command or a query.
-pub fn read(line: &[u8]) -> Option<Request>
-    ensures { MatchOption result ((request : Request) → ¬ Spells request line.now) (λ request. Spells request line.now) }
+/// What a line says, if it is a command or a query, with its lists in this memory; or that there is none for them.
+pub fn read<A: Allocator + Copy>(line: &[u8], memory: A) -> Said<A>
+    ensures { Reads line.now result }
 {
     if line.len() > LONGEST {
         return None;
     }
     let (word, rest) = first(line);
-    read_after(word, rest)
+    read_after(word, rest, memory)
 }

@@ -2,14 +2,17 @@
 
 ghost use Rattle.dcel_text.specs.Output.{Writes};
 ghost use Rattle.dcel_commands.specs.Refusal.{refusal_text};
-ghost use Rattle.dcel_commands.specs.Replies.{reply_text};
+ghost use Rattle.dcel_commands.specs.Replies.{moved_text, opened_text, removed_text, reply_text};
+ghost use Rattle.dcel_commands.specs.Responses.{response};
 ghost use Rattle.dcel_text.specs.Texts.{listed};
 
 use crate::commands::Reply;
 use crate::refusal::Refusal;
-use dcel_fixed::FixedDirectedEdgeHandle;
+use dcel_fixed::{FixedHandleImpl, FixedVertexHandle, InnerOuterMarker};
 use dcel_text::output::Writer;
 use dcel_text::sink::LineSink;
+use spade_dcel::operations::{IsolateVertexResult, RemovalResult};
+use std::alloc::Allocator;
 
 /// Writes a refusal.
 pub fn write_refusal<K: LineSink>(out: &mut Writer<'_, K>, why: Refusal)
@@ -22,18 +25,55 @@ pub fn write_refusal<K: LineSink>(out: &mut Writer<'_, K>, why: Refusal)
     out.write(b"\n");
 }
 
-/// Writes half edges, each after a space.
-fn write_half_edges<K: LineSink>(out: &mut Writer<'_, K>, edges: &[FixedDirectedEdgeHandle])
-    ensures { Writes K.has_failed K.contents out.old out.new (listed edges.now) }
+/// Writes the numbers of elements, each after a space.
+fn write_numbers<Kind, InnerOuter: InnerOuterMarker, K: LineSink>(
+    out: &mut Writer<'_, K>,
+    elements: &[FixedHandleImpl<Kind, InnerOuter>],
+)
+    ensures { Writes K.has_failed K.contents out.old out.new (listed elements.now) }
 {
-    for edge in edges {
-        out.spaced_number(edge.index() as u64);
+    for element in elements {
+        out.spaced_number(element.index() as u64);
     }
 }
 
+/// Writes what a removal has given up, and the edges that it has put in.
+fn write_opened<A: Allocator, K: LineSink>(out: &mut Writer<'_, K>, opened: &IsolateVertexResult<A>)
+    ensures { Writes K.has_failed K.contents out.old out.new
+        (opened_text opened.now.edges_to_remove.items opened.now.faces_to_remove.items opened.now.new_edges.items) }
+{
+    out.write(b"opened edges");
+    write_numbers(out, &opened.edges_to_remove);
+    out.write(b" faces");
+    write_numbers(out, &opened.faces_to_remove);
+    out.write(b" new");
+    write_numbers(out, &opened.new_edges);
+    out.write(b"\n");
+}
+
+/// Writes the vertex that moved in, if one did.
+fn write_moved<K: LineSink>(out: &mut Writer<'_, K>, moved: Option<FixedVertexHandle>)
+    ensures { Writes K.has_failed K.contents out.old out.new (moved_text moved) }
+{
+    if let Some(vertex) = moved {
+        out.numbered(b" moved ", vertex.index() as u64);
+    }
+}
+
+/// Writes the datum of a vertex that was taken out, and the vertex that moved in.
+fn write_removed<K: LineSink>(out: &mut Writer<'_, K>, removed: &RemovalResult<i64>)
+    ensures { Writes K.has_failed K.contents out.old out.new
+        (removed_text removed.now.removed_vertex removed.now.swapped_in_vertex) }
+{
+    out.write(b"removed ");
+    out.datum(removed.removed_vertex);
+    write_moved(out, removed.swapped_in_vertex);
+    out.write(b"\n");
+}
+
 /// Writes a reply.
-pub fn write_reply<K: LineSink>(out: &mut Writer<'_, K>, reply: Reply)
-    ensures { Writes K.has_failed K.contents out.old out.new (reply_text reply) }
+pub fn write_reply<A: Allocator, K: LineSink>(out: &mut Writer<'_, K>, reply: Reply<i64, A>)
+    ensures { Writes K.has_failed K.contents out.old out.new (reply_text (response reply)) }
 {
     match reply {
         Reply::Ok => out.write(b"ok\n"),
@@ -47,8 +87,10 @@ pub fn write_reply<K: LineSink>(out: &mut Writer<'_, K>, reply: Reply)
         }
         Reply::Halves(halves) => {
             out.write(b"halves");
-            write_half_edges(out, &halves);
+            write_numbers(out, &halves);
             out.write(b"\n");
         }
+        Reply::Opened(opened) => write_opened(out, &opened),
+        Reply::Removed(removed) => write_removed(out, &removed),
     }
 }

@@ -5,22 +5,28 @@ pub mod append;
 pub mod at_edge;
 pub mod between;
 pub mod check;
+pub mod cleanup;
 pub mod clear;
 pub mod close;
 pub mod counts;
+pub mod degenerate;
 pub mod flip;
 pub mod get;
 pub mod insert;
+pub mod isolate;
 pub mod origin;
 pub mod out;
 pub mod put;
+pub mod remesh;
+pub mod remove;
+pub mod strip;
 pub mod triangle;
 pub mod vertices;
 pub mod words;
 
 use crate::asking::{
-    ask, ask_edge_and_vertex, ask_live_vertices, ask_triangle, ask_two_vertices, has_edge,
-    has_half_edge, has_room, has_vertex,
+    are_below, are_inner_faces, ask, ask_edge_and_vertex, ask_live_vertices, ask_triangle,
+    ask_two_vertices, has_edge, has_half_edge, has_room, has_vertex, is_closed, is_isolated,
 };
 use crate::commands::{Command, Handed, Refused, Reply};
 use crate::refusal::Refusal;
@@ -57,11 +63,11 @@ pub enum Query {
     Check,
 }
 
-/// What a line says.
+/// What a line says, with its lists in some memory.
 #[derive(Drop)]
-pub enum Request {
+pub enum Request<A: Allocator> {
     /// It edits the mesh.
-    Edit(Command<i64>),
+    Edit(Command<i64, A>),
     /// It asks about the mesh.
     Ask(Query),
 }

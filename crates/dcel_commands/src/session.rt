@@ -18,10 +18,11 @@ use std::marker::Model;
 /// One byte more than a line may have: a line that fills the buffer is too long, however it goes on.
 const FULL: usize = 4097;
 
-/// The mesh, and the line that has begun.
+/// The mesh, the memory that lines have their lists in, and the line that has begun.
 #[derive(Drop)]
 pub struct Session<A: Allocator> {
     mesh: LineMesh<A>,
+    alloc: A,
     line: Buffer<FULL>,
 }
 
@@ -38,9 +39,10 @@ impl<A: Allocator + Clone> Session<A> {
     pub fn new(alloc: A) -> Result<Self, AllocError>
         ensures { IfOk result (λ session. session ≡ record { mesh = start; begun = [] }) }
     {
-        let mesh = operations::new(alloc)?;
+        let mesh = operations::new(alloc.clone()?)?;
         Ok(Session {
             mesh,
+            alloc,
             line: Buffer::new(),
         })
     }
@@ -56,10 +58,16 @@ impl<A: Allocator + Clone> Session<A> {
     {
         if self.line.is_empty() {
             // The line lies in the piece as a whole.
-            answer(out, &mut self.mesh, limit, last);
+            answer(out, &mut self.mesh, &self.alloc, limit, last);
         } else {
             self.line.add_some(last);
-            answer(out, &mut self.mesh, limit, self.line.as_slice());
+            answer(
+                out,
+                &mut self.mesh,
+                &self.alloc,
+                limit,
+                self.line.as_slice(),
+            );
             self.line.clear();
         }
     }

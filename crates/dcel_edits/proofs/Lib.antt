@@ -13,3 +13,4 @@ pub mod Reading
 pub mod Rounds
 pub mod stored
 pub mod Turning
+pub mod Unlinking

@@ -77,10 +77,12 @@ module _ {V DE UE F : Type 0} where
     edges = refl;
     faces = stored.stands.faces;
     edge = λ u. refl;
-    next = next_of-is stored;
-    prev = prev_of-is stored;
-    origin = origin_of-is s r;
-    face = face_of-is stored;
+    links = record {
+      next = next_of-is stored;
+      prev = prev_of-is stored;
+      origin = origin_of-is s r;
+      face = face_of-is stored;
+    };
   }
 
   -- no live half edge starts at a vertex without an anchor

@@ -17,7 +17,10 @@ pub mod Holding
 pub mod Inserting
 pub mod Lines
 pub mod Opening
+pub mod PathVertices
 pub mod Renaming
+pub mod Renumbered
+pub mod Rings
 pub mod Rounds
 pub mod Splits
 pub mod SplittingTriangles

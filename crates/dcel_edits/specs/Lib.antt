@@ -1,5 +1,6 @@
 pub mod Adding
 pub mod Create
+pub mod Degenerate
 pub mod Fill
 pub mod Flip
 pub mod Line
@@ -12,3 +13,4 @@ pub mod Triangle
 pub mod SplitTriangles
 pub mod Rounds
 pub mod TakingOut
+pub mod Around

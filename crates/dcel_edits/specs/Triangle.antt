@@ -1,7 +1,8 @@
 -- What writing a first triangle, or a vertex into a triangle, leaves in the stored lists.
-use Rattle.std.specs.Prelude.{◌≡◌, ℕ, ◌+◌, ◌-◌, ◌*◌, ◌<◌, List, [], ◌∷◌, ◌++◌, length, slice_index, slice_set, Some}
+use Rattle.std.specs.Prelude.{◌≡◌, ℕ, ◌+◌, ◌-◌, ◌<◌, List, [], ◌∷◌, ◌++◌, length, slice_index, slice_set, Some}
 use Rattle.dcel_store.specs.Lists.{Lists, empty}
 use Rattle.dcel_edits.specs.Adding.{HasSpace, adding}
+use Rattle.dcel_edits.specs.Around.{stored_around}
 
 -- three items of a list replaced
 abbrev pub three_set : List ℕ → ℕ → ℕ → ℕ → ℕ → ℕ → ℕ → List ℕ
@@ -30,27 +31,25 @@ module _ {V DE UE F : Type 0} where
     face_room = s.face_room - 2;
   }
 
+module _ {V DE UE F : Type 0} (s : Lists V DE UE F) (first : ℕ) where
+  open (stored_around s first) use {n, l, f, after as second, before as third, start}
+
   -- the vertex `tip` in the triangle of the half edge `first`: the half edges 2m + 1, 2m + 3 and 2m + 5 lead from it to the corners, and
   -- 2m, 2m + 2 and 2m + 4 back
-  abbrev pub insertion_stored : Lists V DE UE F → ℕ → ℕ → List DE → List UE → List F → Lists V DE UE F
-  insertion_stored s first tip halves edges faces =
-      let n = 2 * length s.undirected_data in
-      let l = length s.face_data in
-      let second = slice_index s.next first in
-      let third = slice_index s.prev first in
-      let f = slice_index s.face first in
-      record (adding s 3 2 halves edges faces) {
-        next = three_set s.next first n second (n + 2) third (n + 4)
-            ++ (n + 5) ∷ second ∷ (n + 1) ∷ third ∷ (n + 3) ∷ first ∷ [];
-        prev = three_set s.prev first (n + 5) second (n + 1) third (n + 3)
-            ++ first ∷ (n + 2) ∷ second ∷ (n + 4) ∷ third ∷ n ∷ [];
-        origin = s.origin
-            ++ slice_index s.origin second ∷ tip ∷ slice_index s.origin third ∷ tip ∷ slice_index s.origin first ∷ tip ∷ [];
-        face = three_set s.face first f second l third (l + 1) ++ f ∷ l ∷ l ∷ (l + 1) ∷ (l + 1) ∷ f ∷ [];
-        vertex_anchors = slice_set s.vertex_anchors tip (Some (n + 1));
-        face_anchors = s.face_anchors ++ Some second ∷ Some third ∷ [];
-      }
+  abbrev pub insertion_stored : ℕ → List DE → List UE → List F → Lists V DE UE F
+  insertion_stored tip halves edges faces = record (adding s 3 2 halves edges faces) {
+    next = three_set s.next first n second (n + 2) third (n + 4)
+        ++ (n + 5) ∷ second ∷ (n + 1) ∷ third ∷ (n + 3) ∷ first ∷ [];
+    prev = three_set s.prev first (n + 5) second (n + 1) third (n + 3)
+        ++ first ∷ (n + 2) ∷ second ∷ (n + 4) ∷ third ∷ n ∷ [];
+    origin = s.origin
+        ++ slice_index s.origin second ∷ tip ∷ slice_index s.origin third ∷ tip ∷ start ∷ tip ∷ [];
+    face = three_set s.face first f second l third (l + 1) ++ f ∷ l ∷ l ∷ (l + 1) ∷ (l + 1) ∷ f ∷ [];
+    vertex_anchors = slice_set s.vertex_anchors tip (Some (n + 1));
+    face_anchors = s.face_anchors ++ Some second ∷ Some third ∷ [];
+  }
 
+module _ {V DE UE F : Type 0} where
   -- where a vertex can be inserted
   pub record CanInsert (s : Lists V DE UE F) (first tip : ℕ) : Type 0 where
     pub space : HasSpace s 3 2

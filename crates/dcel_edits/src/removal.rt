@@ -1,3 +1,4 @@
 //! Elements that a removal gives up.
 
+pub mod degenerate;
 pub mod take_out;

@@ -1,5 +1,6 @@
 pub mod Liveness
 pub mod Shown
+pub mod Triangulations
 pub mod edits
 pub mod maps
 pub mod removal

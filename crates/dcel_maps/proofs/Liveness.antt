@@ -1,8 +1,10 @@
 -- When a number is live: it is below its count and not given up.
-use Rattle.std.proofs.Common.{◌≡◌, ◌≢◌, ◌⊎◌, inl, inr, ℕ, ◌+◌, ◌*◌, ◌/◌, ◌<◌, ◌≤◌, Bool, true, false, not, nat_lt, ◌&&◌, refl, sym, ap, ◌∙◌, lt-ltb, le-ltb, ltb-true, ltb-false, arith}
+use Rattle.std.proofs.Common.{◌≡◌, ◌≢◌, ◌⊎◌, inl, inr, ℕ, ◌+◌, ◌*◌, ◌/◌, ◌<◌, ◌≤◌, Bool, true, false, not, nat_lt, ◌&&◌, refl, sym, ap, ◌∙◌, lt-ltb, le-ltb, ltb-true, ltb-false, arith, []}
 use Rattle.std.proofs.lemmas.Bool.{cases_lt, false≢true, and_parts, and_from, and_cases, and_left, and_right, not-true, not-false, not_from_true, not_from_false, false_from_ne_true}
 use Rattle.dcel_maps.specs.Removals.{Removal, Closed, gives_up_vertex, gives_up_edge, gives_up_face, is_live, IsWithin}
-use Rattle.dcel_maps.specs.Shapes.{Shape, IsLive, IsSound, edge_is_live, origin_of, vertex_is_live}
+use Rattle.dcel_maps.specs.Shapes.{Shape, IsLive, IsSound, edge_is_live, origin_of, vertex_is_live, face_count, face_is_live}
+use Rattle.std.proofs.lemmas.List.{get_or_past}
+use Rattle.dcel_maps.specs.Words.{word_of}
 
 -- live is below the count and not given up, both ways
 pub is_live-parts : (g : ℕ → Bool) (n k : ℕ) → is_live g n k ≡ true → (k < n) × (g k ≡ false)
@@ -131,3 +133,11 @@ vertex_live-parts s v live = is_live-parts (gives_up_vertex s.removal) s.vertice
 -- and live half edges start at such
 pub start-parts : (s : Shape) → IsSound s → (h : ℕ) → IsLive s h → (origin_of s h < s.vertices) × (gives_up_vertex s.removal (origin_of s h) ≡ false)
 start-parts s sound h live = vertex_live-parts s (origin_of s h) (sound.starts_live h live)
+
+-- a face that is not live has no word, where those that are given up have none
+pub bare_word : (s : Shape) → ((f : ℕ) → gives_up_face s.removal f ≡ true → word_of s.words f ≡ []) → (f : ℕ) → face_is_live s f ≡ false
+    → word_of s.words f ≡ []
+bare_word s given f dead = elim (is_live-cases (gives_up_face s.removal) (face_count s) f dead) [
+  | inl past ↦ get_or_past s.words f [] past
+  | inr gone ↦ given f gone
+]

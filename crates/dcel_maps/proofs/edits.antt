@@ -2,6 +2,7 @@
 pub mod Adding
 pub mod Patches
 pub mod Changes
+pub mod Around
 pub mod Growing
 pub mod Linking
 pub mod Starting

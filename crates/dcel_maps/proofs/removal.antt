@@ -9,6 +9,9 @@ pub mod FilledMeshes
 pub mod GivenUp
 pub mod Hiding
 pub mod Holes
+pub mod Inserted
+pub mod InsertedBack
+pub mod InsertedRings
 pub mod PathCuts
 pub mod PathEdits
 pub mod PathMiddles

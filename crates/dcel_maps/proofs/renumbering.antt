@@ -3,7 +3,9 @@ pub mod LastPut
 pub mod Moves
 pub mod Numbers
 pub mod Records
+pub mod OneByOne
 pub mod Edges
+pub mod Ends
 pub mod Faces
 pub mod Vertices
 pub mod Meshes

@@ -4,4 +4,5 @@ pub mod Shown
 pub mod Renames
 pub mod SameNumbers
 pub mod Chains
+pub mod Sizes
 pub mod Anchors

@@ -5,6 +5,7 @@ pub mod Cyclic
 pub mod Removals
 pub mod Maps
 pub mod Shapes
+pub mod Around
 pub mod Conditions
 pub mod Renumbering
 pub mod edits
@@ -18,6 +19,8 @@ pub mod Borders
 pub mod Hiding
 pub mod Degenerate
 pub mod Strips
+pub mod Triangulations
+pub mod InsertedBack
 pub mod Laws
 pub mod Examples
 pub mod StripExamples

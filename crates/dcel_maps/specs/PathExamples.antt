@@ -1,6 +1,6 @@
 -- Removals from degenerate meshes that the definitions are checked against. Each datum is its number.
 use Rattle.std.specs.Prelude.{◌≡◌, ℕ, [], ◌∷◌, Some, None}
-use Rattle.dcel_maps.specs.edits.Create.{first_edge_alone, vertex_appended}
+use Rattle.dcel_maps.specs.edits.Create.{first_edge_alone, vertex_appended, outer_alone}
 use Rattle.dcel_maps.specs.edits.Degenerate.{removed_degenerate}
 use Rattle.dcel_maps.specs.edits.Line.{line_extended}
 use Rattle.dcel_maps.specs.Removals.{Closed}
@@ -46,15 +46,7 @@ one_vertex = record {
 }
 
 abbrev pub no_vertex : Mesh ℕ ℕ ℕ ℕ
-no_vertex = record {
-  shape = record { vertices = 0; edges = 0; words = [] ∷ []; origins = []; removal = Closed };
-  vertex_anchors = [];
-  face_anchors = None ∷ [];
-  vertex_data = [];
-  directed_data = [];
-  undirected_data = [];
-  face_data = 0 ∷ [];
-}
+no_vertex = outer_alone 0
 
 abbrev pub BothGone : Type 0
 BothGone = (removed_degenerate one_edge 0 ≡ one_vertex) × (removed_degenerate one_vertex 0 ≡ no_vertex)

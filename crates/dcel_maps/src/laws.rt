@@ -1,13 +1,29 @@
 //! Laws of the definitions. These calls compute nothing; whoever makes one learns what it ensures.
 
-ghost use Rattle.std.specs.Prelude.{◌≡◌, ℕ, true, [], ◌∷◌};
-ghost use Rattle.dcel_maps.specs.Conditions.{CanFlip};
+ghost use Rattle.std.specs.Prelude.{◌≡◌, ◌-◌, ℕ, true, List, [], ◌∷◌, length};
+ghost use Rattle.dcel_fixed.specs.HalfEdges.{rev};
+ghost use Rattle.dcel_maps.specs.Conditions.{CanFlip, CanSwapRemove, IsBridge, IsLineEnd};
+ghost use Rattle.dcel_maps.specs.Degenerate.{CanRemoveDegenerate};
+ghost use Rattle.dcel_maps.specs.edits.Create.{first_edge_added, first_edge_alone, outer_alone, vertex_appended};
+ghost use Rattle.dcel_maps.specs.edits.Degenerate.{removed_degenerate};
+ghost use Rattle.dcel_maps.specs.edits.Fill.{hole_filled, ring_remeshed};
+ghost use Rattle.dcel_maps.specs.edits.Flip.{edge_flipped};
+ghost use Rattle.dcel_maps.specs.edits.Line.{line_extended};
+ghost use Rattle.dcel_maps.specs.edits.Outside.{face_closed, face_put_beside};
+ghost use Rattle.dcel_maps.specs.edits.Split.{edge_split, edge_split_on_line, half_edge_split};
+ghost use Rattle.dcel_maps.specs.edits.Strip.{strip_cut};
+ghost use Rattle.dcel_maps.specs.edits.Triangle.{triangle_alone, vertex_inserted};
+ghost use Rattle.dcel_maps.specs.edits.Whole.{cleared, with_data};
+ghost use Rattle.dcel_maps.specs.Removals.{Closed};
+ghost use Rattle.dcel_maps.specs.Triangulations.{AllTriangles, KeepsTriangles};
+ghost use Rattle.dcel_maps.specs.Borders.{IsBorderLoop};
 ghost use Rattle.dcel_maps.specs.edits.Flip.{GoesRound};
 ghost use Rattle.dcel_maps.specs.edits.Rename.{vertices_swapped};
 ghost use Rattle.dcel_maps.specs.Examples.{FillsSquare, FillsTriangle, GoesFromHoleToHole, IsRingFrom, gathered, inside_triangle, on_edge, scattered, two_triangles};
+ghost use Rattle.dcel_maps.specs.InsertedBack.{CanInsertLast, IsBackWithoutLast, NewData, inserted_with, removed_with};
 ghost use Rattle.dcel_maps.specs.PathExamples.{BothGone, EndGone, MiddleGone};
 ghost use Rattle.dcel_maps.specs.Renumbering.{cleaned_up, vertex_taken_out};
-ghost use Rattle.dcel_maps.specs.Shapes.{IsMesh, IsSphere, Mesh, vertex_is_live};
+ghost use Rattle.dcel_maps.specs.Shapes.{IsMesh, IsSphere, Mesh, face_of, vertex_is_live};
 ghost use Rattle.dcel_maps.specs.StripExamples.{CornerCut, CornerOfThreeCut, EndCut};
 
 /// Two triangles that lie beside each other are no sphere: their vertices, minus their edges, plus their faces, are four.
@@ -64,4 +80,67 @@ pub fn vertices_of_lines_are_removed()
     ensures end { EndGone }
     ensures both { BothGone }
     ensures middle { MiddleGone }
+{}
+
+/// An insertion taken back: a vertex, the last one, that is inserted into a triangle and then isolated along any of its border loops,
+/// cleaned up and taken out leaves each word, origin, number and datum of before, without the vertex. Only the triangle's datum is a new
+/// one, and only anchors may be others.
+pub fn an_inserted_vertex_comes_out_again<V, DE, UE, F>()
+    ensures { (m : Mesh V DE UE F) (v f : ℕ) (border : List ℕ) (new : NewData DE UE F 3 2)
+        (filling : NewData DE UE F (length border - 3) (length border - 2)) → IsMesh m → CanInsertLast m v f
+        → IsBorderLoop (inserted_with m v f new).shape border v
+        → IsBackWithoutLast m f filling.face_data (removed_with (inserted_with m v f new) v border filling) }
+{}
+
+/// New meshes have no live inner face but triangles.
+pub fn new_meshes_are_triangulated<V, DE, UE, F>()
+    ensures new { (datum : F) → AllTriangles (outer_alone {V = V} {DE = DE} {UE = UE} datum).shape }
+    ensures fixed { (vertices : List V) (a b : ℕ) (halves : List DE) (edges : List UE) (faces : List F)
+        → AllTriangles (first_edge_alone vertices a b halves edges faces).shape }
+    ensures triangle { (vertices : V × V × V) (halves : List DE) (edges : List UE) (faces : List F)
+        → AllTriangles (triangle_alone vertices halves edges faces).shape }
+{}
+
+/// Where each live inner face of a mesh is a triangle, it is so after each edit that adds something: with a half edge of the outer face
+/// where a face is put beside one, and with one whose other half lies on the outer face where one side of an edge is split. Elsewhere these
+/// two leave an inner face with a half edge more.
+pub fn growth_keeps_triangles<V, DE, UE, F>()
+    ensures append { (m : Mesh V DE UE F) (datum : V) → KeepsTriangles m (vertex_appended m datum) }
+    ensures setup { (m : Mesh V DE UE F) (a b : ℕ) (halves : List DE) (edges : List UE) → KeepsTriangles m (first_edge_added m a b halves edges) }
+    ensures extend { (m : Mesh V DE UE F) (end tip : ℕ) (halves : List DE) (edges : List UE)
+        → IsMesh m → IsLineEnd m.shape end → KeepsTriangles m (line_extended m end tip halves edges) }
+    ensures on_line { (m : Mesh V DE UE F) (e middle : ℕ) (halves : List DE) (edges : List UE)
+        → IsMesh m → IsBridge m.shape e → KeepsTriangles m (edge_split_on_line m e middle halves edges) }
+    ensures close { (m : Mesh V DE UE F) (e : ℕ) (halves : List DE) (edges : List UE) (faces : List F)
+        → KeepsTriangles m (face_closed m e halves edges faces) }
+    ensures beside { (m : Mesh V DE UE F) (e tip : ℕ) (halves : List DE) (edges : List UE) (faces : List F)
+        → face_of m.shape e ≡ 0 → KeepsTriangles m (face_put_beside m e tip halves edges faces) }
+    ensures insert { (m : Mesh V DE UE F) (v f : ℕ) (halves : List DE) (edges : List UE) (faces : List F)
+        → KeepsTriangles m (vertex_inserted m v f halves edges faces) }
+    ensures one_side { (m : Mesh V DE UE F) (e middle : ℕ) (halves : List DE) (edges : List UE) (faces : List F)
+        → face_of m.shape (rev e) ≡ 0 → KeepsTriangles m (half_edge_split m e middle halves edges faces) }
+    ensures both_sides { (m : Mesh V DE UE F) (e middle : ℕ) (halves : List DE) (edges : List UE) (faces : List F)
+        → KeepsTriangles m (edge_split m e middle halves edges faces) }
+{}
+
+/// The same for edits that add nothing: an edge flipped, vertices swapped, other data, and a mesh cleared.
+pub fn changes_keep_triangles<V, DE, UE, F, W, DX, UX, G>()
+    ensures flip { (m : Mesh V DE UE F) (u : ℕ) → KeepsTriangles m (edge_flipped m u) }
+    ensures swap { (m : Mesh V DE UE F) (a b : ℕ) → KeepsTriangles m (vertices_swapped m a b) }
+    ensures data { (m : Mesh V DE UE F) (vertices : List W) (halves : List DX) (edges : List UX) (faces : List G)
+        → KeepsTriangles m (with_data m vertices halves edges faces) }
+    ensures clear { (m : Mesh V DE UE F) → KeepsTriangles m (cleared m) }
+{}
+
+/// The same for removals, from the opening to the end: what is given up is no live face, new faces are triangles, and renumbering keeps
+/// the words.
+pub fn removals_keep_triangles<V, DE, UE, F>()
+    ensures isolate { (m : Mesh V DE UE F) (v : ℕ) (border : List ℕ) (halves : List DE) (edges : List UE) (faces : List F)
+        → m.shape.removal ≡ Closed → KeepsTriangles m (hole_filled m v border halves edges faces) }
+    ensures remesh { (m : Mesh V DE UE F) (border gone_edges gone_faces : List ℕ) (halves : List DE) (edges : List UE) (faces : List F)
+        → m.shape.removal ≡ Closed → KeepsTriangles m (ring_remeshed m border gone_edges gone_faces halves edges faces) }
+    ensures strip { (m : Mesh V DE UE F) (list : List ℕ) → m.shape.removal ≡ Closed → KeepsTriangles m (strip_cut m list) }
+    ensures cleanup { (m : Mesh V DE UE F) → IsMesh m → KeepsTriangles m (cleaned_up m) }
+    ensures remove { (m : Mesh V DE UE F) (v : ℕ) → CanSwapRemove m.shape v → KeepsTriangles m (vertex_taken_out m v) }
+    ensures degenerate { (m : Mesh V DE UE F) (v : ℕ) → CanRemoveDegenerate m.shape v → KeepsTriangles m (removed_degenerate m v) }
 {}

@@ -6,6 +6,7 @@
 ghost use Rattle.std.specs.Prelude.{◌≡◌, ◌↔◌, IfOk, IsTrue, Some};
 ghost use Rattle.dcel_maps.specs.Removals.{Closed, Isolated, Cleaned, gives_up_vertex, gives_up_edge, gives_up_face, IsInOrder, IsListed};
 ghost use Rattle.dcel_maps.specs.Renumbering.{cleaned};
+ghost use Rattle.dcel_record.specs.Lists.{edges_of, faces_of};
 ghost use Rattle.dcel_record.specs.Record.{state_of};
 
 mod given_up;
@@ -139,6 +140,28 @@ impl<A: Allocator> RemovalRecord<A> {
                 given_up_edges.matches(edges) && given_up_faces.matches(faces)
             }
             _ => false,
+        }
+    }
+
+    /// The edges that are given up and not yet gone, in ascending order.
+    #[inline]
+    pub fn edges(&self) -> &[FixedUndirectedEdgeHandle]
+        ensures { result.now ≡ edges_of self.now }
+    {
+        match &self.state {
+            State::Isolated(edges, _, _) => edges.as_slice(),
+            _ => &[],
+        }
+    }
+
+    /// The faces that are given up and not yet gone, in ascending order.
+    #[inline]
+    pub fn faces(&self) -> &[FixedFaceHandle<InnerTag>]
+        ensures { result.now ≡ faces_of self.now }
+    {
+        match &self.state {
+            State::Isolated(_, faces, _) => faces.as_slice(),
+            _ => &[],
         }
     }
 

@@ -1,7 +1,7 @@
 //! Why a run stopped.
 
 use spade_dcel::operations::NoMemory;
-use std::alloc::AllocError;
+use std::alloc::{AllocError, AllocFailed};
 use std::{fmt, io};
 
 /// Why a mesh was not built. It fits a register, so that to answer one costs an edit nothing.
@@ -19,6 +19,12 @@ pub enum BuildError {
 
 impl From<AllocError> for BuildError {
     fn from(_error: AllocError) -> BuildError {
+        BuildError::NoMemory
+    }
+}
+
+impl<T: Drop> From<AllocFailed<T>> for BuildError {
+    fn from(_refused: AllocFailed<T>) -> BuildError {
         BuildError::NoMemory
     }
 }

@@ -1,14 +1,12 @@
 //! Edges between triangles, turned.
 
-use crate::digest::{digest_of, mix};
 use crate::fault::Fault;
-use crate::measure::{FEWEST_EDITING, least_of};
+use crate::measure::time_editing;
 use crate::random::Random;
-use crate::workloads::{Mesh, Outcome, Timed, triangulated};
+use crate::workloads::{Mesh, Timed};
 use spade_dcel::handles::FixedUndirectedEdgeHandle;
 use spade_dcel::operations::flip_cw;
 use std::rt::Clock;
-use std::time::Instant;
 
 /// By how much its random numbers begin past those of `insert`.
 const OWN: u64 = 3;
@@ -18,18 +16,7 @@ pub fn flip<D: Default + Drop + Clone>(
     rt: &(impl Clock + AllocGlobal),
     size: u32,
 ) -> Result<Timed, Fault> {
-    let built = triangulated::<D>(rt.alloc(), size)?;
-    least_of(FEWEST_EDITING, || {
-        let mut dcel = built.try_clone(rt.alloc())?;
-        let start = Instant::now(rt)?;
-        let flips = flip_drawn(&mut dcel, size);
-        let elapsed = start.elapsed(rt)?;
-        let outcome = Outcome {
-            checksum: mix(digest_of(&dcel), flips),
-            operations: u64::from(size),
-        };
-        Ok(Timed { elapsed, outcome })
-    })
+    time_editing(rt, size, |dcel: &mut Mesh<D>| Some(flip_drawn(dcel, size)))
 }
 
 /// Draws so many edges and flips those that can be flipped: how many these were.

@@ -14,7 +14,7 @@ mod flip;
 mod measure;
 mod neighbors;
 mod random;
-mod round_face;
+mod remove;
 mod split;
 mod swap;
 mod workloads;

@@ -1,8 +1,8 @@
 //! Runs a workload again and again, and the line that is printed of it.
 
-use crate::digest::digest_of;
+use crate::digest::{digest_of, mix};
 use crate::fault::{BuildError, Fault};
-use crate::workloads::{Mesh, Outcome, Timed, Workload};
+use crate::workloads::{Mesh, Outcome, Timed, Workload, triangulated};
 use std::fmt;
 use std::rt::Clock;
 use std::time::{Duration, Instant};
@@ -33,6 +33,33 @@ pub fn time_building<D: Drop, B: Fn() -> Result<Mesh<D>, BuildError>>(
         let elapsed = start.elapsed(rt)?;
         let outcome = Outcome {
             checksum: digest_of(&dcel),
+            operations: u64::from(size),
+        };
+        Ok(Timed { elapsed, outcome })
+    })
+}
+
+/// Times `size` edits of a mesh of triangles, each time of a clone. What `edit` answers is mixed into the checksum, if it answers a number.
+pub fn time_editing<D: Default + Drop + Clone, E: Fn(&mut Mesh<D>) -> Option<u64>>(
+    rt: &(impl Clock + AllocGlobal),
+    size: u32,
+    edit: E,
+) -> Result<Timed, Fault>
+    requires { E.IsAlwaysCallable edit }
+{
+    let built = triangulated::<D>(rt.alloc(), size)?;
+    least_of(FEWEST_EDITING, || {
+        let mut dcel = built.try_clone(rt.alloc())?;
+        let start = Instant::now(rt)?;
+        let answer = edit(&mut dcel);
+        let elapsed = start.elapsed(rt)?;
+        let digest = digest_of(&dcel);
+        let checksum = match answer {
+            Some(number) => mix(digest, number),
+            None => digest,
+        };
+        let outcome = Outcome {
+            checksum,
             operations: u64::from(size),
         };
         Ok(Timed { elapsed, outcome })

@@ -26,7 +26,7 @@ struct Pair {
 }
 
 /// The half edges out of a vertex, from one of them on.
-type RoundVertex<'a, D> = CircularIterator<'a, i64, D, D, D, CCWEdgesNextBackFn>;
+pub type RoundVertex<'a, D> = CircularIterator<'a, i64, D, D, D, CCWEdgesNextBackFn>;
 
 /// Times the search for `size` pairs of vertices, which are drawn beforehand.
 pub fn neighbors<D: Default + Drop>(

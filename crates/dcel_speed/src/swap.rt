@@ -1,13 +1,11 @@
 //! Vertices, swapped in pairs.
 
-use crate::digest::digest_of;
 use crate::fault::Fault;
-use crate::measure::{FEWEST_EDITING, least_of};
+use crate::measure::time_editing;
 use crate::random::Random;
-use crate::workloads::{Mesh, Outcome, Timed, triangulated};
+use crate::workloads::{Mesh, Timed};
 use spade_dcel::handles::FixedVertexHandle;
 use std::rt::Clock;
-use std::time::Instant;
 
 /// By how much its random numbers begin past those of `insert`.
 const OWN: u64 = 7;
@@ -17,17 +15,9 @@ pub fn swap<D: Default + Drop + Clone>(
     rt: &(impl Clock + AllocGlobal),
     size: u32,
 ) -> Result<Timed, Fault> {
-    let built = triangulated::<D>(rt.alloc(), size)?;
-    least_of(FEWEST_EDITING, || {
-        let mut dcel = built.try_clone(rt.alloc())?;
-        let start = Instant::now(rt)?;
-        swap_drawn(&mut dcel, size);
-        let elapsed = start.elapsed(rt)?;
-        let outcome = Outcome {
-            checksum: digest_of(&dcel),
-            operations: u64::from(size),
-        };
-        Ok(Timed { elapsed, outcome })
+    time_editing(rt, size, |dcel: &mut Mesh<D>| {
+        swap_drawn(dcel, size);
+        None
     })
 }
 

@@ -12,14 +12,14 @@ use crate::flip::flip;
 use crate::measure::{time_building, time_reading};
 use crate::neighbors::neighbors;
 use crate::random::Random;
-use crate::round_face::RoundFace;
+use crate::remove::remove;
 use crate::split::split;
 use crate::swap::swap;
 use spade_dcel::dcel::Dcel;
 use spade_dcel::handles::{
     DirectedEdgeHandle, FixedFaceHandle, FixedVertexHandle, InnerTag, VertexHandle,
 };
-use spade_dcel::iterators::HullIterator;
+use spade_dcel::iterators::{CircularIterator, HullIterator, HullNextBackFn};
 use spade_dcel::laws::every_mesh;
 use spade_dcel::operations::{
     append_unconnected_vertex, extend_line, insert_into_triangle, new, new_triangle,
@@ -31,6 +31,9 @@ use std::time::Duration;
 
 /// The meshes that are measured: each vertex has a number, and all else a `D`.
 pub type Mesh<D> = Dcel<i64, D, D, D>;
+
+/// The half edges of a face, from one of them on: the step round the hull goes round any face.
+type RoundFace<'a, D> = CircularIterator<'a, i64, D, D, D, HullNextBackFn>;
 
 /// What can be measured.
 #[derive(Clone, Copy)]
@@ -70,6 +73,9 @@ pub enum Workload {
 
     /// Replaces the data of the vertices.
     Map,
+
+    /// Takes vertices inside triangles out.
+    Remove,
 }
 
 impl Workload {
@@ -88,6 +94,7 @@ impl Workload {
             Workload::Swap => "swap",
             Workload::Clone => "clone",
             Workload::Map => "map",
+            Workload::Remove => "remove",
         }
     }
 
@@ -106,6 +113,7 @@ impl Workload {
             "swap" => Some(Workload::Swap),
             "clone" => Some(Workload::Clone),
             "map" => Some(Workload::Map),
+            "remove" => Some(Workload::Remove),
             _ => None,
         }
     }
@@ -161,6 +169,7 @@ pub fn measured<D: Default + Drop + Clone>(
         Workload::Swap => swap::<D>(rt, size),
         Workload::Clone => clone::<D>(rt, size),
         Workload::Map => map::<D>(rt, size),
+        Workload::Remove => remove::<D>(rt, size),
     }
 }
 

@@ -1,5 +1,5 @@
 -- Lists that are made of another one, from which an element is taken out.
-use Rattle.std.proofs.Common.{◌≡◌, ℕ, zero, suc, ◌+◌, ◌-◌, ◌*◌, ◌<◌, List, [], ◌∷◌, length, map, take, slice_index_or, slice_set, swap_remove, refl, sym, ap, ◌∙◌, arith}
+use Rattle.std.proofs.Common.{◌≡◌, ℕ, zero, suc, ◌+◌, ◌-◌, ◌*◌, ◌<◌, List, [], ◌∷◌, length, map, take, slice_index_or, slice_set, swap_remove, refl, sym, ap, ◌∙◌, arith, Option, None}
 use Rattle.std.proofs.lemmas.List.{get_or-map, length-map, map-set, take-map}
 use Rattle.dcel_store.specs.declared.EdgeEntry.{EdgeEntry}
 use Rattle.dcel_store.specs.declared.HalfEdgeEntry.{HalfEdgeEntry}
@@ -16,6 +16,15 @@ map-swap_remove f xs i d e some =
     ∙ ap (take last) (map-set f xs i (slice_index_or xs last d)
     ∙ ap (slice_set (map f xs) i) (sym (get_or-map f xs last d e (omega (arith, some)))))
     ∙ ap (λ n. take (n - 1) (slice_set (map f xs) i (slice_index_or (map f xs) (n - 1) e))) (sym (length-map xs f))
+
+-- an element with a datum and an anchor taken out: what is made of the two lists and of the reserved places
+pub element_taken : {E X L : Type 0} (datum : E → X) (anchor : E → Option ℕ) (make : List X → List (Option ℕ) → ℕ → L) (entries : List E) (x : E) (room : ℕ)
+    {left : List E} {i j room' : ℕ}
+    → left ≡ swap_remove entries j x → j ≡ i → i < length (map datum entries) → room' ≡ room + 1
+    → make (map datum left) (map anchor left) room' ≡ make (swap_remove (map datum entries) i (datum x)) (swap_remove (map anchor entries) i None) (room + 1)
+element_taken datum anchor make entries x room {i = i} is at within more =
+    let some : 0 < length entries = omega (arith, within, length-map entries datum) in
+    rw (is, at, more, map-swap_remove datum entries i x (datum x) some, map-swap_remove anchor entries i x None some) refl
 
 module _ {A B : Type 0} (first second : A → B) where
   pairs-set : (xs : List A) (i k : ℕ) (y : A) → k ≡ 2 * i
@@ -59,11 +68,19 @@ module _ {A B : Type 0} (first second : A → B) where
       ∙ ap (λ v. slice_set (slice_set all (2 * i) v) (2 * i + 1) (second last)) (sym even)
       ∙ ap (λ v. slice_set (slice_set all (2 * i) (slice_index_or all (length all - 2) e)) (2 * i + 1) v) (sym odd))
 
-  pub pairs-first : (xs : List A) (i : ℕ) (x : A) (e : B) → i < length xs → x ≡ slice_index_or xs i x → slice_index_or (pairs_of first second xs) (2 * i) e ≡ first x
-  pairs-first xs i x e within read = first-pair xs i (2 * i) x e refl within ∙ ap first (sym read)
+  -- the items of the element x that is taken out at i, where each element also has another item
+  module _ {C : Type 0} (shown : A → C) (xs : List A) (i : ℕ) {j : ℕ} (x : A) (e : B) (within : i < length (map shown xs)) (at : j ≡ i) (read : x ≡ slice_index_or xs j x) where
+    here : x ≡ slice_index_or xs i x
+    here = rw at at read
 
-  pub pairs-second : (xs : List A) (i : ℕ) (x : A) (e : B) → i < length xs → x ≡ slice_index_or xs i x → slice_index_or (pairs_of first second xs) (2 * i + 1) e ≡ second x
-  pairs-second xs i x e within read = second-pair xs i (2 * i + 1) x e refl within ∙ ap second (sym read)
+    below : i < length xs
+    below = omega (arith, within, length-map xs shown)
+
+    pub pairs-first : first x ≡ slice_index_or (pairs_of first second xs) (2 * i) e
+    pairs-first = sym (first-pair xs i (2 * i) x e refl below ∙ ap first (sym here))
+
+    pub pairs-second : second x ≡ slice_index_or (pairs_of first second xs) (2 * i + 1) e
+    pairs-second = sym (second-pair xs i (2 * i + 1) x e refl below ∙ ap second (sym here))
 
 map-pairs : {A B C : Type 0} (f : B → C) (first second : A → B) (xs : List A)
     → map f (pairs_of first second xs) ≡ pairs_of (λ x. f (first x)) (λ x. f (second x)) xs

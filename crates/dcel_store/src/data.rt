@@ -114,19 +114,10 @@ impl<V, DE, UE, F, A: Allocator> Store<V, DE, UE, F, A> {
 #[cfg(test)]
 mod tests {
     use super::*;
-    use crate::{EdgeData, HalfEdgeEntry};
+    use crate::EdgeData;
+    use crate::tests::alone;
     use dcel_fixed::OUTER_FACE;
     use std::test::Fail;
-
-    // A half edge that is alone on its face.
-    fn links(edge: FixedDirectedEdgeHandle) -> HalfEdgeEntry {
-        HalfEdgeEntry {
-            next: edge,
-            prev: edge,
-            face: OUTER_FACE,
-            origin: FixedVertexHandle::new(0),
-        }
-    }
 
     #[test]
     fn each_datum(rt: HostRuntime) -> Result<(), Fail> {
@@ -139,8 +130,8 @@ mod tests {
         store.push_vertex('v', None);
         store.push_face('f', None);
         store.push_edge(
-            links(normalized),
-            links(reversed),
+            alone(normalized),
+            alone(reversed),
             EdgeData {
                 normalized: 'd',
                 reversed: 'r',

@@ -384,6 +384,16 @@ mod tests {
     use dcel_fixed::OUTER_FACE;
     use std::test::Fail;
 
+    /// The links of a half edge that is alone on its face, and starts at the first vertex.
+    pub fn alone(edge: FixedDirectedEdgeHandle) -> HalfEdgeEntry {
+        HalfEdgeEntry {
+            next: edge,
+            prev: edge,
+            face: OUTER_FACE,
+            origin: FixedVertexHandle::new(0),
+        }
+    }
+
     #[test]
     fn each_call(rt: HostRuntime) -> Result<(), Fail> {
         let vertex = FixedVertexHandle::new(0);
@@ -393,18 +403,8 @@ mod tests {
         store.push_vertex('v', None);
         store.push_face('f', None);
         store.push_edge(
-            HalfEdgeEntry {
-                next: edge,
-                prev: edge,
-                face: OUTER_FACE,
-                origin: vertex,
-            },
-            HalfEdgeEntry {
-                next: edge.rev(),
-                prev: edge.rev(),
-                face: OUTER_FACE,
-                origin: vertex,
-            },
+            alone(edge),
+            alone(edge.rev()),
             EdgeData {
                 normalized: 'd',
                 reversed: 'r',

@@ -69,19 +69,9 @@ impl<V, DE, UE, F, A: Allocator> Store<V, DE, UE, F, A> {
 #[cfg(test)]
 mod tests {
     use super::*;
-    use crate::HalfEdgeEntry;
+    use crate::tests::alone;
     use dcel_fixed::{FixedDirectedEdgeHandle, OUTER_FACE};
     use std::test::Fail;
-
-    // The links of a half edge that is alone.
-    fn alone(edge: FixedDirectedEdgeHandle) -> HalfEdgeEntry {
-        HalfEdgeEntry {
-            next: edge,
-            prev: edge,
-            face: OUTER_FACE,
-            origin: FixedVertexHandle::new(0),
-        }
-    }
 
     #[test]
     fn the_last_comes_to_the_place(rt: HostRuntime) -> Result<(), Fail> {

@@ -68,7 +68,7 @@ digits_value-next t i lt h d =
 
 -- ---- what is no datum
 
-first_digit : (n : ℕ) → n < 10 ^ 19 → 48 ≤ get_or (decimal n) 0 0
+pub first_digit : (n : ℕ) → n < 10 ^ 19 → 48 ≤ get_or (decimal n) 0 0
 first_digit n lt = (digit_at (decimal n) 0 (digits_decimal numerals n (omega arith)) (decimal_nonempty n (omega arith))).0
 
 pub none_after_minus : (t digits : List ℕ) → digits ≡ drop 1 t → get_or t 0 0 ≡ 45 → ((n : ℕ) → n < 10 ^ 19 → digits ≢ decimal n) → (d : ℤ) → IsDatum d → t ≢ signed_decimal d

@@ -4,4 +4,5 @@ pub mod Digits
 pub mod LineEnds
 pub mod Listing
 mod Reading
+pub mod Runs
 pub mod Writing

@@ -1,6 +1,9 @@
 -- A line, cut at its spaces.
-use Rattle.std.specs.Prelude.{ℕ, List, [], ◌∷◌, ◌++◌, ◌==◌, Option, Some, None, if◌then◌else◌}
+use Rattle.std.specs.Prelude.{◌≡◌, ◌≢◌, ℕ, List, [], ◌∷◌, ◌++◌, ◌==◌, map, Option, Some, None, if◌then◌else◌, codes}
 use Rattle.std.specs.Borrow.{Bor}
+use Rattle.std.specs.Fmt.{decimal}
+use Rattle.std.specs.List.{AllByRecursion}
+use Rattle.dcel_text.specs.Numbers.{IsNumber}
 
 -- a byte before the first item
 abbrev pub before : ℕ → List (List ℕ) → List (List ℕ)
@@ -22,3 +25,13 @@ abbrev pub spaced : List (List ℕ) → List ℕ
 spaced [] = []
 spaced (item ∷ []) = item
 spaced (item ∷ next ∷ items) = item ++ 32 ∷ spaced (next ∷ items)
+
+-- what stands between two lists
+abbrev pub slash : List ℕ
+slash = codes "/"
+
+-- the items begin with these numbers, and no number comes after them
+pub record BeginsWith (items : List (List ℕ)) (numbers : List ℕ) (others : List (List ℕ)) : Type 0 where
+  pub whole : items ≡ map decimal numbers ++ others
+  pub in_range : AllByRecursion IsNumber numbers
+  pub ends : (n : ℕ) (more : List (List ℕ)) → IsNumber n → others ≢ decimal n ∷ more

@@ -4,7 +4,9 @@ ghost use Rattle.dcel_maps.specs.Shapes.{IsMesh};
 
 use crate::dcel::Dcel;
 pub use dcel_maps::laws::{
-    a_swap_of_one_vertex_changes_nothing, four_flips_go_round, two_swaps_change_nothing,
+    a_swap_of_one_vertex_changes_nothing, an_inserted_vertex_comes_out_again,
+    changes_keep_triangles, four_flips_go_round, growth_keeps_triangles,
+    new_meshes_are_triangulated, removals_keep_triangles, two_swaps_change_nothing,
     two_triangles_are_no_sphere,
 };
 use std::alloc::Allocator;

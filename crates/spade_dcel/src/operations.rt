@@ -3,6 +3,8 @@
 
 mod cleanup;
 mod create;
+mod degenerate;
+mod fill;
 mod flip;
 mod line;
 mod outside;
@@ -17,6 +19,8 @@ pub use cleanup::{cleanup_isolated_vertex, swap_remove_vertex};
 pub use create::{
     append_unconnected_vertex, new, new_with_fixed_vertices, setup_initial_two_vertices,
 };
+pub use degenerate::remove_when_degenerate;
+pub use fill::{isolate_vertex_and_fill_hole, remesh_edge_ring};
 pub use flip::flip_cw;
 pub use line::extend_line;
 pub use outside::{create_new_face_adjacent_to_edge, create_single_face_between_edge_and_next};

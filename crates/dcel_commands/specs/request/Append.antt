@@ -1,7 +1,7 @@
 -- `append D`: one more vertex, without an edge.
 use Rattle.std.specs.Prelude.{◌≡◌, true, [], ◌∷◌, codes}
 use Rattle.dcel_commands.specs.declared.commands.reply.Handed.TheVariants.{One}
-use Rattle.dcel_commands.specs.declared.commands.reply.Reply.TheVariants.{Vertex}
+use Rattle.dcel_commands.specs.Responses.{Vertex}
 use Rattle.dcel_commands.specs.declared.refusal.Refusal.TheVariants.{NoRoom}
 use Rattle.dcel_commands.specs.Conditions.{RoomFor}
 use Rattle.dcel_commands.specs.Grammar.{Datum}

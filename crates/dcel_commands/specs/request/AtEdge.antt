@@ -1,9 +1,8 @@
 -- Lines about a half edge and a vertex that is put beside it or into its edge.
 use Rattle.std.specs.Prelude.{ℕ, List, [], ◌∷◌, ◌≡◌, ◌*◌, true, ◌++◌, codes, ◌+◌}
-use Rattle.dcel_commands.specs.declared.commands.command.Command.{Command}
-use Rattle.dcel_commands.specs.declared.commands.command.Command.TheVariants.{Line, Outside, Half, Split}
+use Rattle.dcel_commands.specs.Instructions.{Instruction, Line, Outside, Half, Split}
 use Rattle.dcel_commands.specs.declared.commands.reply.Handed.TheVariants.{Nothing}
-use Rattle.dcel_commands.specs.declared.commands.reply.Reply.TheVariants.{Halves, Vertex}
+use Rattle.dcel_commands.specs.Responses.{Halves, Vertex}
 use Rattle.dcel_commands.specs.declared.refusal.Refusal.TheVariants.{NoSuchVertex, NoSuchEdge, GivenUp, VertexInUse, NotBridge, NoRoom, NotTriangle}
 use Rattle.dcel_commands.specs.declared.request.at_edge.AtEdge.{AtEdge}
 use Rattle.dcel_commands.specs.declared.request.at_edge.AtEdge.TheVariants.{OnBridge, Beside, OnOneSide, OnBothSides}
@@ -86,7 +85,7 @@ split h b = record {
 }
 
 -- the command by where the vertex comes
-abbrev pub at_edge : {V : Type 0} → AtEdge → ℕ → ℕ → Command V
+abbrev pub at_edge : {V : Type 0} → AtEdge → ℕ → ℕ → Instruction V
 at_edge OnBridge h b = Line h b
 at_edge Beside h b = Outside h b
 at_edge OnOneSide h b = Half h b

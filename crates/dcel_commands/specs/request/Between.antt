@@ -1,6 +1,6 @@
 -- `between A B`: the half edge that leads from A to B.
 use Rattle.std.specs.Prelude.{◌≡◌, ℕ, List, [], ◌∷◌, Option, Some, None, codes}
-use Rattle.dcel_commands.specs.declared.commands.reply.Reply.TheVariants.{Half}
+use Rattle.dcel_commands.specs.Responses.{Half}
 use Rattle.dcel_commands.specs.Grammar.{Number}
 use Rattle.dcel_commands.specs.Replies.{reply_text}
 use Rattle.dcel_commands.specs.Rules.{QueryRule}

@@ -1,7 +1,7 @@
 -- `clear`: no vertex and no edge any more, and no face but the outer one.
 use Rattle.std.specs.Prelude.{◌≡◌, false, [], codes}
 use Rattle.dcel_commands.specs.declared.commands.reply.Handed.TheVariants.{Nothing}
-use Rattle.dcel_commands.specs.declared.commands.reply.Reply.TheVariants.{Ok}
+use Rattle.dcel_commands.specs.Responses.{Done}
 use Rattle.dcel_commands.specs.Rules.{CommandRule}
 use Rattle.dcel_maps.specs.edits.Whole.{cleared}
 
@@ -12,5 +12,5 @@ clear = record {
   asks = λ limit. [];
   takes_memory = false;
   handed = Nothing;
-  Makes = λ is_half is_edge is_face old reply new. (reply ≡ Ok) × (new ≡ cleared old);
+  Makes = λ is_half is_edge is_face old reply new. (reply ≡ Done) × (new ≡ cleared old);
 }

@@ -1,7 +1,7 @@
 -- `close H`: a face between H and the half edge after it on the outer face.
 use Rattle.std.specs.Prelude.{◌≡◌, ℕ, ◌+◌, ◌*◌, true, [], ◌∷◌, codes}
 use Rattle.dcel_commands.specs.declared.commands.reply.Handed.TheVariants.{Nothing}
-use Rattle.dcel_commands.specs.declared.commands.reply.Reply.TheVariants.{Half}
+use Rattle.dcel_commands.specs.Responses.{Half}
 use Rattle.dcel_commands.specs.declared.refusal.Refusal.TheVariants.{NoSuchEdge, GivenUp, NotOuter, WouldLoop, NoRoom}
 use Rattle.dcel_commands.specs.Conditions.{HalfEdgeInRange, HalfEdgeLive, OnOuterFace, ClosesOutside, RoomFor}
 use Rattle.dcel_commands.specs.Grammar.{Number}

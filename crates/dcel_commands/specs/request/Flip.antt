@@ -1,7 +1,7 @@
 -- `flip U`: edge U is turned between the triangles at its sides, to join their other corners.
 use Rattle.std.specs.Prelude.{◌≡◌, ℕ, ◌*◌, false, [], ◌∷◌, codes}
 use Rattle.dcel_commands.specs.declared.commands.reply.Handed.TheVariants.{Nothing}
-use Rattle.dcel_commands.specs.declared.commands.reply.Reply.TheVariants.{Ok}
+use Rattle.dcel_commands.specs.Responses.{Done}
 use Rattle.dcel_commands.specs.declared.refusal.Refusal.TheVariants.{NoSuchEdge, GivenUp, NotTriangle, WouldLoop}
 use Rattle.dcel_commands.specs.Conditions.{EdgeInRange, EdgeLive, OnTriangle, Flips}
 use Rattle.dcel_commands.specs.Grammar.{Number}
@@ -22,5 +22,5 @@ flip u = record {
       ∷ [];
   takes_memory = false;
   handed = Nothing;
-  Makes = λ is_half is_edge is_face old reply new. (reply ≡ Ok) × (new ≡ edge_flipped old u);
+  Makes = λ is_half is_edge is_face old reply new. (reply ≡ Done) × (new ≡ edge_flipped old u);
 }

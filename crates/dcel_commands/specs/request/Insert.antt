@@ -1,7 +1,7 @@
 -- `insert B F`: the vertex goes into the inner face, joined to its three corners.
 use Rattle.std.specs.Prelude.{◌≡◌, ℕ, true, [], ◌∷◌, codes}
 use Rattle.dcel_commands.specs.declared.commands.reply.Handed.TheVariants.{Nothing}
-use Rattle.dcel_commands.specs.declared.commands.reply.Reply.TheVariants.{Vertex}
+use Rattle.dcel_commands.specs.Responses.{Vertex}
 use Rattle.dcel_commands.specs.declared.refusal.Refusal.TheVariants.{NoSuchVertex, NoSuchFace, GivenUp, VertexInUse, NotTriangle, NoRoom}
 use Rattle.dcel_commands.specs.Conditions.{VertexInRange, InnerFaceInRange, VertexLive, FaceLive, Unconnected, ThreeHalves, RoomFor}
 use Rattle.dcel_commands.specs.Grammar.{Number}

@@ -1,6 +1,6 @@
 -- `origin H`: the vertex that H starts at.
 use Rattle.std.specs.Prelude.{◌≡◌, ℕ, [], ◌∷◌, codes}
-use Rattle.dcel_commands.specs.declared.commands.reply.Reply.TheVariants.{Vertex}
+use Rattle.dcel_commands.specs.Responses.{Vertex}
 use Rattle.dcel_commands.specs.declared.refusal.Refusal.TheVariants.{NoSuchEdge, GivenUp}
 use Rattle.dcel_commands.specs.Conditions.{HalfEdgeInRange, HalfEdgeLive}
 use Rattle.dcel_commands.specs.Grammar.{Number}

@@ -1,7 +1,7 @@
 -- `put V D`: D in place of the datum of V.
 use Rattle.std.specs.Prelude.{◌≡◌, ℕ, false, [], ◌∷◌, codes}
 use Rattle.dcel_commands.specs.declared.commands.reply.Handed.TheVariants.{One}
-use Rattle.dcel_commands.specs.declared.commands.reply.Reply.TheVariants.{Ok}
+use Rattle.dcel_commands.specs.Responses.{Done}
 use Rattle.dcel_commands.specs.declared.refusal.Refusal.TheVariants.{NoSuchVertex}
 use Rattle.dcel_commands.specs.Conditions.{VertexInRange}
 use Rattle.dcel_commands.specs.Grammar.{Number, Datum}
@@ -15,5 +15,5 @@ put v datum = record {
   asks = λ limit. (NoSuchVertex, VertexInRange v) ∷ [];
   takes_memory = false;
   handed = One datum;
-  Makes = λ is_half is_edge is_face old reply new. (reply ≡ Ok) × (new ≡ vertex_updated old v datum);
+  Makes = λ is_half is_edge is_face old reply new. (reply ≡ Done) × (new ≡ vertex_updated old v datum);
 }

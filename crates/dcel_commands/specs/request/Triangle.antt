@@ -1,7 +1,7 @@
 -- `triangle D D D`: a mesh of one triangle in place of the old one.
 use Rattle.std.specs.Prelude.{◌≡◌, true, [], ◌∷◌, codes}
 use Rattle.dcel_commands.specs.declared.commands.reply.Handed.TheVariants.{Three}
-use Rattle.dcel_commands.specs.declared.commands.reply.Reply.TheVariants.{Ok}
+use Rattle.dcel_commands.specs.Responses.{Done}
 use Rattle.dcel_commands.specs.declared.refusal.Refusal.TheVariants.{NoRoom}
 use Rattle.dcel_commands.specs.Conditions.{RoomForMesh}
 use Rattle.dcel_commands.specs.Grammar.{Datum}
@@ -16,5 +16,5 @@ triangle x y z = record {
   asks = λ limit. (NoRoom, RoomForMesh limit 3 3 2) ∷ [];
   takes_memory = true;
   handed = Three x y z;
-  Makes = λ is_half is_edge is_face old reply new. (reply ≡ Ok) × AddsEdgesAndFaces is_half is_edge is_face 3 2 new (triangle_alone (x, y, z));
+  Makes = λ is_half is_edge is_face old reply new. (reply ≡ Done) × AddsEdgesAndFaces is_half is_edge is_face 3 2 new (triangle_alone (x, y, z));
 }

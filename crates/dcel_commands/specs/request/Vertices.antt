@@ -1,9 +1,8 @@
 -- Lines about two vertices.
 use Rattle.std.specs.Prelude.{ℕ, List, [], ◌∷◌, ◌++◌, ◌≡◌, true, codes, false}
-use Rattle.dcel_commands.specs.declared.commands.command.Command.{Command}
-use Rattle.dcel_commands.specs.declared.commands.command.Command.TheVariants.{Setup, Extend, Swap}
+use Rattle.dcel_commands.specs.Instructions.{Instruction, Setup, Extend, Swap}
 use Rattle.dcel_commands.specs.declared.commands.reply.Handed.TheVariants.{Nothing}
-use Rattle.dcel_commands.specs.declared.commands.reply.Reply.TheVariants.{Ok, Vertex}
+use Rattle.dcel_commands.specs.Responses.{Done, Vertex}
 use Rattle.dcel_commands.specs.declared.refusal.Refusal.TheVariants.{NoSuchVertex, GivenUp, SameVertex, EdgesStand, NoRoom, VertexInUse, NotLineEnd}
 use Rattle.dcel_commands.specs.declared.request.vertices.OfVertices.{OfVertices}
 use Rattle.dcel_commands.specs.declared.request.vertices.OfVertices.TheVariants.{Joined, Longer, Exchanged}
@@ -40,7 +39,7 @@ setup a b = record {
       ∷ [];
   takes_memory = true;
   handed = Nothing;
-  Makes = λ is_half is_edge is_face old reply new. (reply ≡ Ok) × AddsEdge is_half is_edge new (first_edge_added old a b);
+  Makes = λ is_half is_edge is_face old reply new. (reply ≡ Done) × AddsEdge is_half is_edge new (first_edge_added old a b);
 }
 
 -- `extend A B`: the line that ends at A goes on to B.
@@ -67,11 +66,11 @@ swap a b = record {
   asks = λ limit. live_vertices a b;
   takes_memory = false;
   handed = Nothing;
-  Makes = λ is_half is_edge is_face old reply new. (reply ≡ Ok) × (new ≡ vertices_swapped old a b);
+  Makes = λ is_half is_edge is_face old reply new. (reply ≡ Done) × (new ≡ vertices_swapped old a b);
 }
 
 -- the command by what is done with the vertices
-abbrev pub of_vertices : {V : Type 0} → OfVertices → ℕ → ℕ → Command V
+abbrev pub of_vertices : {V : Type 0} → OfVertices → ℕ → ℕ → Instruction V
 of_vertices Joined a b = Setup a b
 of_vertices Longer a b = Extend a b
 of_vertices Exchanged a b = Swap a b

@@ -4,11 +4,12 @@ use dcel_fixed::{
     FixedDirectedEdgeHandle, FixedFaceHandle, FixedUndirectedEdgeHandle, FixedVertexHandle,
     InnerTag,
 };
+use std::alloc::{Allocator, Global};
 
 /// An edit of a mesh, by the numbers of its elements. Numbers may be any: [`apply`](crate::commands::apply) tests all that a
-/// command asks.
+/// command asks. A command owns its lists.
 #[derive(Debug, Drop)]
-pub enum Command<V> {
+pub enum Command<V, A: Allocator = Global> {
     /// Adds a vertex with this datum and without an edge. The reply is its number, which is the old count.
     ///
     /// It asks for room for one vertex.
@@ -67,6 +68,42 @@ pub enum Command<V> {
     ///
     /// It asks for a number in range.
     Put(FixedVertexHandle, V),
+    /// Gives the vertex up, with its edges and the triangles round it, and fills the hole with new triangles. A removal is open then. The
+    /// reply lists what is given up and the new edges.
+    ///
+    /// It asks for a vertex and half edges in range, for no open removal, for the border loop of the vertex, and for room for as many
+    /// edges as the loop has half edges, less three, and a face more.
+    Isolate(FixedVertexHandle, Vec<FixedDirectedEdgeHandle, A>),
+    /// Gives up what lies inside the ring of these half edges, which are these edges and faces and one vertex, and fills the hole with new
+    /// triangles. A removal is open then. The reply is that of `Isolate`, with the lists as they were given.
+    ///
+    /// It asks for half edges, edges and inner faces in range, for no open removal, for a ring with these edges and faces inside, and for
+    /// room as `Isolate` does.
+    Remesh(
+        Vec<FixedDirectedEdgeHandle, A>,
+        Vec<FixedUndirectedEdgeHandle, A>,
+        Vec<FixedFaceHandle<InnerTag>, A>,
+    ),
+    /// Cuts the vertex of the outer face off that these half edges are the strip of, with its edges and the triangles round it. These
+    /// are given up, and a removal is open then. The reply lists what is given up.
+    ///
+    /// It asks for half edges in range, for no open removal, and for a strip.
+    Strip(Vec<FixedDirectedEdgeHandle, A>),
+    /// Takes out the edges and the faces that an open removal has given up. Its vertex is still to be taken out. It takes no memory.
+    ///
+    /// It asks for edges and inner faces in range, for an open removal that isn't cleaned up, and that the lists name what it has given
+    /// up, each once.
+    Cleanup(Vec<FixedUndirectedEdgeHandle, A>, Vec<FixedFaceHandle<InnerTag>, A>),
+    /// Takes the vertex out, and closes a removal that is cleaned up. The last vertex gets its number. The reply has its datum, and the
+    /// old number of the vertex that moved in. It takes no memory.
+    ///
+    /// It asks for a vertex in range that has no edge, while no removal is open; or that it alone is still given up.
+    Remove(FixedVertexHandle),
+    /// Takes the vertex out of a mesh that is one vertex or a path, with an edge of it, if it has one. The last vertex and the last edge get
+    /// the numbers of those that go. The reply is that of `Remove`. It takes no memory.
+    ///
+    /// It asks for a vertex in range, for no open removal, and for such a mesh.
+    Degenerate(FixedVertexHandle),
     /// Takes all vertices and edges away, and all faces but the outer one, which keeps its datum. It takes no memory, and asks for nothing.
     Clear,
 }

@@ -1,6 +1,8 @@
 //! How commands are carried out.
 
 ghost use Rattle.std.specs.Prelude.{◌≡◌, ◌≤◌, ◌^◌, IfOk, IfErr, OnOk, OnErr};
+ghost use Rattle.dcel_commands.specs.Instructions.{instruction};
+ghost use Rattle.dcel_commands.specs.Responses.{response};
 ghost use Rattle.dcel_commands.specs.Steps.{IsRefusal, Legal, Step};
 ghost use Rattle.dcel_maps.specs.Shapes.{IsMesh};
 
@@ -8,7 +10,10 @@ use crate::commands::command::Command;
 use crate::commands::reply::{Refused, Reply};
 use crate::request::at_edge::AtEdge::{Beside, OnBothSides, OnBridge, OnOneSide};
 use crate::request::vertices::OfVertices::{Exchanged, Joined, Longer};
-use crate::request::{append, at_edge, clear, close, flip, insert, put, triangle, vertices};
+use crate::request::{
+    append, at_edge, cleanup, clear, close, degenerate, flip, insert, isolate, put, remesh, remove,
+    strip, triangle, vertices,
+};
 use spade_dcel::dcel::Dcel;
 use spade_dcel::laws;
 use std::alloc::Allocator;
@@ -25,17 +30,24 @@ pub const MAX_LIMIT: usize = 2_147_483_648;
 /// The limit, at most 2^31, bounds the counts of vertices, undirected edges and faces: a command that adds elements is refused as
 /// [`Refusal::NoRoom`] where one of these counts, with what the command adds to it, is above the limit, and `Triangle` where one of the
 /// counts of the new mesh is.
+///
+/// While a removal is open, all else is as ever with the elements that are live.
 pub fn apply<
     V: Drop,
     DE: Default + Drop,
     UE: Default + Drop,
     F: Default + Drop,
     A: Allocator + Clone,
->(dcel: &mut Dcel<V, DE, UE, F, A>, command: Command<V>, limit: usize) -> Result<Reply, Refused<V>>
+    B: Allocator + Copy,
+>(
+    dcel: &mut Dcel<V, DE, UE, F, A>,
+    command: Command<V, B>,
+    limit: usize,
+) -> Result<Reply<V, A>, Refused<V>>
     requires { limit ≤ 2 ^ 31 }
-    ensures step { IfOk result (λ reply. Step DE.is_default UE.is_default F.is_default dcel.old command reply dcel.new) }
-    ensures legal { OnOk result (Legal dcel.old.shape limit command) }
-    ensures refused { IfErr result (λ refused. IsRefusal dcel.old.shape limit command refused) }
+    ensures step { IfOk result (λ reply. Step DE.is_default UE.is_default F.is_default dcel.old (instruction command) (response reply) dcel.new) }
+    ensures legal { OnOk result (Legal dcel.old.shape limit (instruction command)) }
+    ensures refused { IfErr result (λ refused. IsRefusal dcel.old.shape limit (instruction command) refused) }
     ensures unchanged { OnErr result (dcel.new ≡ dcel.old) }
     ensures mesh { IsMesh dcel.new }
 {
@@ -53,6 +65,14 @@ pub fn apply<
         Command::Flip(edge) => flip::carry_out(dcel, edge),
         Command::Swap(first, second) => vertices::carry_out(dcel, Exchanged, first, second, limit),
         Command::Put(vertex, datum) => put::carry_out(dcel, vertex, datum),
+        Command::Isolate(vertex, list) => isolate::carry_out(dcel, vertex, list, limit),
+        Command::Remesh(list, edges, faces) => {
+            remesh::carry_out(dcel, list, edges, faces, limit)
+        }
+        Command::Strip(list) => strip::carry_out(dcel, list),
+        Command::Cleanup(edges, faces) => cleanup::carry_out(dcel, edges, faces),
+        Command::Remove(vertex) => remove::carry_out(dcel, vertex),
+        Command::Degenerate(vertex) => degenerate::carry_out(dcel, vertex),
         Command::Clear => clear::carry_out(dcel),
     };
     laws::every_mesh(dcel);

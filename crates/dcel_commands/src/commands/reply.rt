@@ -2,11 +2,12 @@
 
 use crate::refusal::Refusal;
 use dcel_fixed::{FixedDirectedEdgeHandle, FixedVertexHandle};
-use std::alloc::AllocError;
+use spade_dcel::operations::{IsolateVertexResult, RemovalResult};
+use std::alloc::{AllocError, Allocator, Global};
 
 /// The answer to a command that was carried out.
-#[derive(Debug, Drop, PartialEq, Eq)]
-pub enum Reply {
+#[derive(Drop)]
+pub enum Reply<V, A: Allocator = Global> {
     /// It was carried out, and there is nothing more to say.
     Ok,
     /// The vertex that was added, or that an edge now leads to.
@@ -15,6 +16,10 @@ pub enum Reply {
     Half(FixedDirectedEdgeHandle),
     /// The two parts that a half edge was split into, in their order.
     Halves([FixedDirectedEdgeHandle; 2]),
+    /// What a removal that is open now has given up, and the edges that it has put in.
+    Opened(IsolateVertexResult<A>),
+    /// The vertex that was taken out.
+    Removed(RemovalResult<V>),
 }
 
 /// The data that a refused command carried, in their order.

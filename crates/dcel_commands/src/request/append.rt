@@ -1,7 +1,7 @@
 //! `append D`
 
 ghost use Rattle.std.specs.Prelude.{◌≤◌, ◌^◌};
-ghost use Rattle.dcel_commands.specs.Vocabulary.{Carries};
+ghost use Rattle.dcel_commands.specs.Vocabulary.{Append, Carries, answered};
 
 use super::*;
 use spade_dcel::operations::{NoMemory, append_unconnected_vertex};
@@ -11,9 +11,9 @@ pub fn carry_out<V, DE: Default, UE: Default, F: Default, A: Allocator>(
     dcel: &mut Dcel<V, DE, UE, F, A>,
     datum: V,
     limit: usize,
-) -> Result<Reply, Refused<V>>
+) -> Result<Reply<V, A>, Refused<V>>
     requires { limit ≤ 2 ^ 31 }
-    ensures { Carries DE.is_default UE.is_default F.is_default limit dcel.old (Command.Append datum) result dcel.new }
+    ensures { Carries DE.is_default UE.is_default F.is_default limit dcel.old (Append datum) (answered result) dcel.new }
 {
     if !has_room(dcel, limit, 1, 0, 0) {
         return Err(Refused {

@@ -1,7 +1,7 @@
 //! Lines about a half edge and a vertex that has no edge: `line H B`, `outside H B`, `half H B`, `split H B`
 
 ghost use Rattle.std.specs.Prelude.{◌≤◌, ◌^◌};
-ghost use Rattle.dcel_commands.specs.Vocabulary.{Carries, at_edge};
+ghost use Rattle.dcel_commands.specs.Vocabulary.{Carries, answered, at_edge};
 
 use super::*;
 use spade_dcel::operations::{
@@ -29,9 +29,9 @@ pub fn carry_out<V, DE: Default, UE: Default, F: Default, A: Allocator>(
     edge: FixedDirectedEdgeHandle,
     new_vertex: FixedVertexHandle,
     limit: usize,
-) -> Result<Reply, Refused<V>>
+) -> Result<Reply<V, A>, Refused<V>>
     requires { limit ≤ 2 ^ 31 }
-    ensures { Carries DE.is_default UE.is_default F.is_default limit dcel.old (at_edge place edge new_vertex) result dcel.new }
+    ensures { Carries DE.is_default UE.is_default F.is_default limit dcel.old (at_edge place edge new_vertex) (answered result) dcel.new }
 {
     match place {
         AtEdge::OnBridge => {

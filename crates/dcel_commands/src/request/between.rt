@@ -16,7 +16,7 @@ pub fn tell<A: Allocator, K: LineSink>(
 {
     ask_live_vertices(dcel, from, to)?;
     match dcel.get_edge_from_neighbors(from, to) {
-        Some(edge) => write_reply(out, Reply::Half(edge.fix())),
+        Some(edge) => write_reply(out, Reply::<i64, A>::Half(edge.fix())),
         None => out.write(b"none\n"),
     }
     Ok(())

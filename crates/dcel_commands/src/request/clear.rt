@@ -1,15 +1,15 @@
 //! `clear`
 
 ghost use Rattle.std.specs.Prelude.{ℕ};
-ghost use Rattle.dcel_commands.specs.Vocabulary.{Carries};
+ghost use Rattle.dcel_commands.specs.Vocabulary.{Carries, Clear, answered};
 
 use super::*;
 
 /// Carries the command out.
 pub fn carry_out<V: Drop, DE: Default + Drop, UE: Default + Drop, F: Default + Drop, A: Allocator>(
     dcel: &mut Dcel<V, DE, UE, F, A>,
-) -> Result<Reply, Refused<V>>
-    ensures { (limit : ℕ) → Carries DE.is_default UE.is_default F.is_default limit dcel.old Command.Clear result dcel.new }
+) -> Result<Reply<V, A>, Refused<V>>
+    ensures { (limit : ℕ) → Carries DE.is_default UE.is_default F.is_default limit dcel.old Clear (answered result) dcel.new }
 {
     dcel.clear();
     Ok(Reply::Ok)

@@ -1,7 +1,7 @@
 //! `close H`
 
 ghost use Rattle.std.specs.Prelude.{◌≤◌, ◌^◌};
-ghost use Rattle.dcel_commands.specs.Vocabulary.{Carries};
+ghost use Rattle.dcel_commands.specs.Vocabulary.{Carries, Close, answered};
 
 use super::*;
 use spade_dcel::operations::create_single_face_between_edge_and_next;
@@ -11,9 +11,9 @@ pub fn carry_out<V, DE: Default, UE: Default, F: Default, A: Allocator>(
     dcel: &mut Dcel<V, DE, UE, F, A>,
     edge: FixedDirectedEdgeHandle,
     limit: usize,
-) -> Result<Reply, Refused<V>>
+) -> Result<Reply<V, A>, Refused<V>>
     requires { limit ≤ 2 ^ 31 }
-    ensures { Carries DE.is_default UE.is_default F.is_default limit dcel.old (Command.Close edge) result dcel.new }
+    ensures { Carries DE.is_default UE.is_default F.is_default limit dcel.old (Close edge) (answered result) dcel.new }
 {
     ask(has_half_edge(dcel, edge), Refusal::NoSuchEdge)?;
     ask(dcel.is_live_edge(edge.as_undirected()), Refusal::GivenUp)?;

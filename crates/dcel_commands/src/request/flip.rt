@@ -1,7 +1,7 @@
 //! `flip U`
 
 ghost use Rattle.std.specs.Prelude.{ℕ};
-ghost use Rattle.dcel_commands.specs.Vocabulary.{Carries};
+ghost use Rattle.dcel_commands.specs.Vocabulary.{Carries, Flip, answered};
 
 use super::*;
 use spade_dcel::operations::flip_cw;
@@ -10,8 +10,8 @@ use spade_dcel::operations::flip_cw;
 pub fn carry_out<V, DE: Default, UE: Default, F: Default, A: Allocator>(
     dcel: &mut Dcel<V, DE, UE, F, A>,
     edge: FixedUndirectedEdgeHandle,
-) -> Result<Reply, Refused<V>>
-    ensures { (limit : ℕ) → Carries DE.is_default UE.is_default F.is_default limit dcel.old (Command.Flip edge) result dcel.new }
+) -> Result<Reply<V, A>, Refused<V>>
+    ensures { (limit : ℕ) → Carries DE.is_default UE.is_default F.is_default limit dcel.old (Flip edge) (answered result) dcel.new }
 {
     ask(has_edge(dcel, edge), Refusal::NoSuchEdge)?;
     ask(dcel.is_live_edge(edge), Refusal::GivenUp)?;

@@ -1,7 +1,7 @@
 //! `insert B F`
 
 ghost use Rattle.std.specs.Prelude.{◌≤◌, ◌^◌};
-ghost use Rattle.dcel_commands.specs.Vocabulary.{Carries};
+ghost use Rattle.dcel_commands.specs.Vocabulary.{Carries, Insert, answered};
 
 use super::*;
 use spade_dcel::operations::insert_into_triangle;
@@ -12,9 +12,9 @@ pub fn carry_out<V, DE: Default, UE: Default, F: Default, A: Allocator>(
     vertex: FixedVertexHandle,
     face: FixedFaceHandle<InnerTag>,
     limit: usize,
-) -> Result<Reply, Refused<V>>
+) -> Result<Reply<V, A>, Refused<V>>
     requires { limit ≤ 2 ^ 31 }
-    ensures { Carries DE.is_default UE.is_default F.is_default limit dcel.old (Command.Insert vertex face) result dcel.new }
+    ensures { Carries DE.is_default UE.is_default F.is_default limit dcel.old (Insert vertex face) (answered result) dcel.new }
 {
     ask(has_vertex(dcel, vertex), Refusal::NoSuchVertex)?;
     ask(

@@ -15,6 +15,9 @@ pub fn tell<A: Allocator, K: LineSink>(
 {
     ask(has_half_edge(dcel, edge), Refusal::NoSuchEdge)?;
     ask(dcel.is_live_edge(edge.as_undirected()), Refusal::GivenUp)?;
-    write_reply(out, Reply::Vertex(dcel.directed_edge(edge).from().fix()));
+    write_reply(
+        out,
+        Reply::<i64, A>::Vertex(dcel.directed_edge(edge).from().fix()),
+    );
     Ok(())
 }

@@ -1,7 +1,7 @@
 //! `put V D`
 
 ghost use Rattle.std.specs.Prelude.{ℕ};
-ghost use Rattle.dcel_commands.specs.Vocabulary.{Carries};
+ghost use Rattle.dcel_commands.specs.Vocabulary.{Carries, Put, answered};
 
 use super::*;
 
@@ -10,8 +10,8 @@ pub fn carry_out<V: Drop, DE: Default, UE: Default, F: Default, A: Allocator>(
     dcel: &mut Dcel<V, DE, UE, F, A>,
     vertex: FixedVertexHandle,
     datum: V,
-) -> Result<Reply, Refused<V>>
-    ensures { (limit : ℕ) → Carries DE.is_default UE.is_default F.is_default limit dcel.old (Command.Put vertex datum) result dcel.new }
+) -> Result<Reply<V, A>, Refused<V>>
+    ensures { (limit : ℕ) → Carries DE.is_default UE.is_default F.is_default limit dcel.old (Put vertex datum) (answered result) dcel.new }
 {
     if !has_vertex(dcel, vertex) {
         return Err(Refused {

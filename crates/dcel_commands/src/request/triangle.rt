@@ -1,7 +1,7 @@
 //! `triangle D D D`
 
 ghost use Rattle.std.specs.Prelude.{◌≡◌};
-ghost use Rattle.dcel_commands.specs.Vocabulary.{Carries};
+ghost use Rattle.dcel_commands.specs.Vocabulary.{Carries, Triangle, answered};
 
 use super::*;
 use spade_dcel::operations::{NoMemory, new_triangle};
@@ -13,8 +13,12 @@ pub fn carry_out<
     UE: Default + Drop,
     F: Default + Drop,
     A: Allocator + Clone,
->(dcel: &mut Dcel<V, DE, UE, F, A>, vertices: (V, V, V), limit: usize) -> Result<Reply, Refused<V>>
-    ensures { Carries DE.is_default UE.is_default F.is_default limit dcel.old (Command.Triangle vertices.0 vertices.1 vertices.2) result dcel.new }
+>(
+    dcel: &mut Dcel<V, DE, UE, F, A>,
+    vertices: (V, V, V),
+    limit: usize,
+) -> Result<Reply<V, A>, Refused<V>>
+    ensures { Carries DE.is_default UE.is_default F.is_default limit dcel.old (Triangle vertices.0 vertices.1 vertices.2) (answered result) dcel.new }
 {
     if limit < 3 {
         return Err(refused(Refusal::NoRoom, vertices));

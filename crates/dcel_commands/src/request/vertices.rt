@@ -1,7 +1,7 @@
 //! Lines about two vertices: `setup A B`, `extend A B`, `swap A B`
 
 ghost use Rattle.std.specs.Prelude.{◌≤◌, ◌^◌};
-ghost use Rattle.dcel_commands.specs.Vocabulary.{Carries, of_vertices};
+ghost use Rattle.dcel_commands.specs.Vocabulary.{Carries, answered, of_vertices};
 
 use super::*;
 use spade_dcel::operations::{extend_line, setup_initial_two_vertices};
@@ -24,9 +24,9 @@ pub fn carry_out<V, DE: Default, UE: Default, F: Default, A: Allocator>(
     first: FixedVertexHandle,
     second: FixedVertexHandle,
     limit: usize,
-) -> Result<Reply, Refused<V>>
+) -> Result<Reply<V, A>, Refused<V>>
     requires { limit ≤ 2 ^ 31 }
-    ensures { Carries DE.is_default UE.is_default F.is_default limit dcel.old (of_vertices what first second) result dcel.new }
+    ensures { Carries DE.is_default UE.is_default F.is_default limit dcel.old (of_vertices what first second) (answered result) dcel.new }
 {
     match what {
         OfVertices::Joined => {

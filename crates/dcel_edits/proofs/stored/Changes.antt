@@ -19,7 +19,7 @@ use Rattle.dcel_maps.proofs.words.Reading.{face_in-is, next_in-is, prev_in-is}
 use Rattle.dcel_edits.proofs.Public.{mesh-is-mesh}
 use Rattle.dcel_edits.proofs.Reading.{public_agrees}
 use Rattle.dcel_maps.proofs.Shown.{shown-patched}
-use Rattle.dcel_edits.proofs.stored.Held.{ListsMesh, lists_hold}
+use Rattle.dcel_edits.proofs.stored.Held.{ListsMesh, lists_hold, own_data}
 use Rattle.dcel_edits.proofs.stored.Holding.{Holds}
 
 module _ {V DE UE F : Type 0} where
@@ -45,17 +45,16 @@ module _ {V DE UE F : Type 0} where
   pub lists_from_links : (s : Lists V DE UE F) (r : Removal) → LengthsAgree s → Agrees (stored_map s r) (map_of (mesh_of s r).shape) → ListsMesh s (mesh_of s r)
   lists_from_links s r lengths links = record {
     lengths = lengths;
-    next = λ h live. sym (links.next h live);
-    prev = λ h live. sym (links.prev h live);
-    origin = λ h live. sym (links.origin h live);
-    face = λ h live. sym (links.face h live);
+    links = record {
+      next = λ h live. sym (links.next h live);
+      prev = λ h live. sym (links.prev h live);
+      origin = λ h live. sym (links.origin h live);
+      face = λ h live. sym (links.face h live);
+    };
     shown_origins = refl;
-    vertex_data = refl;
     vertex_anchors = refl;
     face_anchors = refl;
-    directed_data = refl;
-    undirected_data = refl;
-    face_data = refl;
+    has_data = own_data s;
   }
 
   pub held_lists : (s : Lists V DE UE F) (r : Removal) (m : Mesh V DE UE F) → Holds s r m → ListsMesh s m
@@ -148,21 +147,25 @@ module _ {V DE UE F : Type 0} (s : Lists V DE UE F) (m : Mesh V DE UE F) (c : Ch
       let words = (changed m c).shape.words in
       record {
         lengths = written_lengths;
-        next = λ h live. linked s.next c.next _ nexts e.on_live.next lists.next h live ∙ sym (next_in-is T words shows.stands h live);
-        prev = λ h live. linked s.prev c.prev _ (w.of_prev ∙ nexts) e.on_live.prev lists.prev h live ∙ sym (prev_in-is T words shows.stands h live);
-        origin = λ h live. linked s.origin c.origin _ (w.of_origin ∙ nexts) e.on_live.origin lists.origin h live ∙ sym (shows.origin h live);
-        face = λ h live. linked s.face c.face _ (w.of_face ∙ nexts) e.on_live.face lists.face h live ∙ sym (face_in-is T words shows.stands h live);
+        links = record {
+          next = λ h live. linked s.next c.next _ nexts e.on_live.next lists.next h live ∙ sym (next_in-is T words shows.stands h live);
+          prev = λ h live. linked s.prev c.prev _ (w.of_prev ∙ nexts) e.on_live.prev lists.prev h live ∙ sym (prev_in-is T words shows.stands h live);
+          origin = λ h live. linked s.origin c.origin _ (w.of_origin ∙ nexts) e.on_live.origin lists.origin h live ∙ sym (shows.origin h live);
+          face = λ h live. linked s.face c.face _ (w.of_face ∙ nexts) e.on_live.face lists.face h live ∙ sym (face_in-is T words shows.stands h live);
+        };
         shown_origins =
             shown-patched (gives_up_edge m.shape.removal) s.origin c.origin m.shape.edges (w.of_origin ∙ nexts)
             (each-weaker _ _ (λ h v lives. (is_live-parts (gives_up_edge m.shape.removal) m.shape.edges (h / 2) lives).1) c.origin.set e.on_live.origin)
             (gives_up_edge-past mesh.sized.within)
             ∙ ap (λ l. patched l c.origin) lists.shown_origins;
-        vertex_data = ap (λ l. l ++ c.vertex_data) lists.vertex_data;
         vertex_anchors = ap (λ l. patched l c.vertex_anchors) lists.vertex_anchors;
         face_anchors = ap (λ l. patched l c.face_anchors) lists.face_anchors;
-        directed_data = ap (λ l. l ++ c.directed_data) lists.directed_data;
-        undirected_data = ap (λ l. l ++ c.undirected_data) lists.undirected_data;
-        face_data = ap (λ l. l ++ c.face_data) lists.face_data;
+        has_data = record {
+          vertex_data = ap (λ l. l ++ c.vertex_data) lists.vertex_data;
+          directed_data = ap (λ l. l ++ c.directed_data) lists.directed_data;
+          undirected_data = ap (λ l. l ++ c.undirected_data) lists.undirected_data;
+          face_data = ap (λ l. l ++ c.face_data) lists.face_data;
+        };
       }
 
   pub written_holds : Holds t m.shape.removal (changed m c)

@@ -1,48 +1,46 @@
 -- What a removal has given up is taken out of lists that hold a mesh: what is left holds the mesh that is cleaned up.
-use Rattle.std.proofs.Common.{◌≡◌, ℕ, ◌/◌, not, ◌&&◌, nat_lt, fold, List, [], ◌∷◌, sym, ap, ◌∙◌, subst, subst₂, reverse}
+use Rattle.std.proofs.Common.{◌≡◌, ℕ, ◌/◌, not, ◌&&◌, nat_lt, fold, List, [], ◌∷◌, sym, ap, ◌∙◌, subst, subst₂, reverse, Bool}
 use Rattle.dcel_store.specs.Lists.{Lists}
-use Rattle.dcel_edits.specs.TakingOut.{CanLoseEdges, CanLoseFaces, edge_out, edges_out, face_out, faces_out}
+use Rattle.dcel_edits.specs.TakingOut.{CanLoseEdges, CanLoseFaces, edge_out, edges_out, face_out, faces_out, CanDoAll, CanLoseEdge, CanLoseFace}
 use Rattle.dcel_maps.specs.Removals.{Removal, gives_up_edge, IsListed, ascending}
 use Rattle.dcel_maps.specs.Renumbering.{cleaned, cleaned_up, edge_taken_out, edges_down, edges_taken_out, face_taken_out, faces_down, faces_taken_out, without_edge, without_face}
-use Rattle.dcel_maps.specs.Shapes.{IsLive, IsMesh, Mesh}
+use Rattle.dcel_maps.specs.Shapes.{IsLive, IsMesh, Mesh, Shape}
 use Rattle.dcel_maps.proofs.Shown.{shown-same}
 use Rattle.dcel_edits.proofs.stored.Changes.{held_lists, held_mesh, held_removal}
 use Rattle.dcel_edits.proofs.stored.Held.{ListsMesh, lists_hold}
 use Rattle.dcel_edits.proofs.stored.Holding.{Holds}
-use Rattle.dcel_edits.proofs.stored.TakingOut.{can_lose_edge, can_lose_face, holds_without_edge, holds_without_face}
+use Rattle.dcel_edits.proofs.stored.TakingOut.{lose_edge, lose_face}
 use Rattle.dcel_maps.proofs.renumbering.AllEdges as edges
 use Rattle.dcel_maps.proofs.renumbering.AllFaces as faces
 use Rattle.dcel_maps.proofs.renumbering.Cleanup.{cleaned_up-mesh, edges_listed, faces_listed, same_edges}
 use Rattle.dcel_maps.proofs.renumbering.GivenUp.{listed-down}
+use Rattle.dcel_maps.proofs.renumbering.OneByOne.{GivenUp, TakesOut, rest-listed}
+
+-- things of one kind taken out one after another: each can be, and the lists that are left hold the mesh without them
+module _ {V DE UE F : Type 0} {step : Mesh V DE UE F → ℕ → Mesh V DE UE F} {count : Shape → ℕ} {gone other : Removal → ℕ → Bool} (takes : TakesOut step count gone other)
+    (out : Lists V DE UE F → ℕ → Lists V DE UE F) (can : Lists V DE UE F → ℕ → Type 0) (without : Removal → ℕ → Removal)
+    (one : (s : Lists V DE UE F) (r : Removal) (m : Mesh V DE UE F) (d : ℕ) (ds : List ℕ) → Holds s r m → GivenUp count gone m.shape (d ∷ ds)
+    → can s d × Holds (out s d) (without r d) (step m d)) where
+  all_can : (ds : List ℕ) (s : Lists V DE UE F) (r : Removal) (m : Mesh V DE UE F) → Holds s r m → GivenUp count gone m.shape ds → CanDoAll out can s ds
+  all_can [] s r m held lists = tt
+  all_can (d ∷ ds) s r m held lists =
+      let now = one s r m d ds held lists in
+      (now.0, all_can ds (out s d) (without r d) (step m d) now.1 (rest-listed takes m d ds lists))
+
+  all_hold : (ds : List ℕ) (s : Lists V DE UE F) (r : Removal) (m : Mesh V DE UE F) → Holds s r m → GivenUp count gone m.shape ds
+      → Holds (fold out s ds) (fold without r ds) (fold step m ds)
+  all_hold [] s r m held lists = held
+  all_hold (d ∷ ds) s r m held lists =
+      all_hold ds (out s d) (without r d) (step m d) (one s r m d ds held lists).1 (rest-listed takes m d ds lists)
 
 module _ {V DE UE F : Type 0} where
-  -- all edges that are given up
-  pub edges_can : (ds : List ℕ) (s : Lists V DE UE F) (r : Removal) (m : Mesh V DE UE F) → Holds s r m → edges.ListsEdges m.shape ds → CanLoseEdges s ds
-  edges_can [] s r m held lists = tt
-  edges_can (d ∷ ds) s r m held lists =
-      let out = edges.first-out m d ds (held_mesh s r m held) lists in
-      (can_lose_edge held d out, edges_can ds (edge_out s d) (without_edge r d) (edge_taken_out m d) (holds_without_edge held d out) (edges.rest-listed m d ds lists))
+  one_edge : (s : Lists V DE UE F) (r : Removal) (m : Mesh V DE UE F) (d : ℕ) (ds : List ℕ) → Holds s r m → edges.ListsEdges m.shape (d ∷ ds)
+      → CanLoseEdge s d × Holds (edge_out s d) (without_edge r d) (edge_taken_out m d)
+  one_edge s r m d ds held lists = lose_edge held d (edges.first-out m d ds (held_mesh s r m held) lists)
 
-  pub edges_hold : (ds : List ℕ) (s : Lists V DE UE F) (r : Removal) (m : Mesh V DE UE F) → Holds s r m → edges.ListsEdges m.shape ds
-      → Holds (edges_out s ds) (fold without_edge r ds) (edges_taken_out m ds)
-  edges_hold [] s r m held lists = held
-  edges_hold (d ∷ ds) s r m held lists =
-      let out = edges.first-out m d ds (held_mesh s r m held) lists in
-      edges_hold ds (edge_out s d) (without_edge r d) (edge_taken_out m d) (holds_without_edge held d out) (edges.rest-listed m d ds lists)
-
-  -- and all faces
-  pub faces_can : (ds : List ℕ) (s : Lists V DE UE F) (r : Removal) (m : Mesh V DE UE F) → Holds s r m → faces.ListsFaces m.shape ds → CanLoseFaces s ds
-  faces_can [] s r m held lists = tt
-  faces_can (d ∷ ds) s r m held lists =
-      let out = faces.first-out m d ds (held_mesh s r m held) lists in
-      (can_lose_face held d out, faces_can ds (face_out s d) (without_face r d) (face_taken_out m d) (holds_without_face held d out) (faces.rest-listed m d ds lists))
-
-  pub faces_hold : (ds : List ℕ) (s : Lists V DE UE F) (r : Removal) (m : Mesh V DE UE F) → Holds s r m → faces.ListsFaces m.shape ds
-      → Holds (faces_out s ds) (fold without_face r ds) (faces_taken_out m ds)
-  faces_hold [] s r m held lists = held
-  faces_hold (d ∷ ds) s r m held lists =
-      let out = faces.first-out m d ds (held_mesh s r m held) lists in
-      faces_hold ds (face_out s d) (without_face r d) (face_taken_out m d) (holds_without_face held d out) (faces.rest-listed m d ds lists)
+  one_face : (s : Lists V DE UE F) (r : Removal) (m : Mesh V DE UE F) (d : ℕ) (ds : List ℕ) → Holds s r m → faces.ListsFaces m.shape (d ∷ ds)
+      → CanLoseFace s d × Holds (face_out s d) (without_face r d) (face_taken_out m d)
+  one_face s r m d ds held lists = lose_face held d (faces.first-out m d ds (held_mesh s r m held) lists)
 
   module _ {s : Lists V DE UE F} {r : Removal} {m : Mesh V DE UE F} (held : Holds s r m) where
     mesh : IsMesh m
@@ -55,17 +53,17 @@ module _ {V DE UE F : Type 0} where
     given_faces = faces_down m.shape.removal
 
     pub cleanup_loses_edges : CanLoseEdges s given_edges
-    cleanup_loses_edges = edges_can given_edges s r m held (edges_listed m mesh)
+    cleanup_loses_edges = all_can edges.edge_steps edge_out CanLoseEdge without_edge one_edge given_edges s r m held (edges_listed m mesh)
 
     abbrev halfway : Lists V DE UE F
     halfway = edges_out s given_edges
 
     halfway_held : Holds halfway (fold without_edge r given_edges) (edges_taken_out m given_edges)
-    halfway_held = edges_hold given_edges s r m held (edges_listed m mesh)
+    halfway_held = all_hold edges.edge_steps edge_out CanLoseEdge without_edge one_edge given_edges s r m held (edges_listed m mesh)
 
     pub cleanup_loses_faces : CanLoseFaces halfway given_faces
     cleanup_loses_faces =
-        faces_can given_faces halfway (fold without_edge r given_edges) (edges_taken_out m given_edges) halfway_held (faces_listed m mesh)
+        all_can faces.face_steps face_out CanLoseFace without_face one_face given_faces halfway (fold without_edge r given_edges) (edges_taken_out m given_edges) halfway_held (faces_listed m mesh)
 
     abbrev emptied : Mesh V DE UE F
     emptied = faces_taken_out (edges_taken_out m given_edges) given_faces
@@ -76,7 +74,7 @@ module _ {V DE UE F : Type 0} where
     left_lists : ListsMesh left emptied
     left_lists =
         held_lists left (fold without_face (fold without_edge r given_edges) given_faces) emptied
-        (faces_hold given_faces halfway (fold without_edge r given_edges) (edges_taken_out m given_edges) halfway_held (faces_listed m mesh))
+        (all_hold faces.face_steps face_out CanLoseFace without_face one_face given_faces halfway (fold without_edge r given_edges) (edges_taken_out m given_edges) halfway_held (faces_listed m mesh))
 
     -- the record that is left gives up the same edges: none
     live : (h : ℕ) → IsLive (cleaned_up m).shape h → IsLive emptied.shape h
@@ -85,17 +83,16 @@ module _ {V DE UE F : Type 0} where
     cleaned_lists : ListsMesh left (cleaned_up m)
     cleaned_lists = record {
       lengths = left_lists.lengths;
-      next = λ h is. left_lists.next h (live h is);
-      prev = λ h is. left_lists.prev h (live h is);
-      origin = λ h is. left_lists.origin h (live h is);
-      face = λ h is. left_lists.face h (live h is);
+      links = record {
+        next = λ h is. left_lists.next h (live h is);
+        prev = λ h is. left_lists.prev h (live h is);
+        origin = λ h is. left_lists.origin h (live h is);
+        face = λ h is. left_lists.face h (live h is);
+      };
       shown_origins = shown-same (gives_up_edge emptied.shape.removal) (gives_up_edge (cleaned m.shape.removal)) (same_edges m mesh) left.origin ∙ left_lists.shown_origins;
-      vertex_data = left_lists.vertex_data;
       vertex_anchors = left_lists.vertex_anchors;
       face_anchors = left_lists.face_anchors;
-      directed_data = left_lists.directed_data;
-      undirected_data = left_lists.undirected_data;
-      face_data = left_lists.face_data;
+      has_data = left_lists.has_data;
     }
 
     pub cleanup_holds : Holds left (cleaned m.shape.removal) (cleaned_up m)

@@ -47,10 +47,12 @@ module _ {V DE UE F : Type 0} where
         edges = refl;
         faces = refl;
         edge = λ u. refl;
-        next = λ h live. absurd (no_half_alone h live);
-        prev = λ h live. absurd (no_half_alone h live);
-        origin = λ h live. absurd (no_half_alone h live);
-        face = λ h live. absurd (no_half_alone h live);
+        links = record {
+          next = λ h live. absurd (no_half_alone h live);
+          prev = λ h live. absurd (no_half_alone h live);
+          origin = λ h live. absurd (no_half_alone h live);
+          face = λ h live. absurd (no_half_alone h live);
+        };
       })
 
   -- vertices pushed, and one alone

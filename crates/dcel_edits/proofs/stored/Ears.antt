@@ -10,6 +10,7 @@ use Rattle.dcel_maps.proofs.words.Counts.{count-equal, count-later, count-other,
 use Rattle.dcel_edits.specs.Fill.{EarsPut, closing, ear_stored, last_ear_stored}
 use Rattle.dcel_edits.specs.Outside.{two_set}
 use Rattle.dcel_edits.proofs.stored.Filling.{EarsLinked}
+use Rattle.dcel_edits.proofs.stored.Held.{HasData}
 
 -- a list with two items replaced
 module _ (l : List ℕ) (i a j b : ℕ) where
@@ -88,10 +89,8 @@ module _ {V DE UE F : Type 0} (is_half : DE → Type 0) (is_edge : UE → Type 0
     pub origin : u.origin ≡ s.origin ++ ear_origins (slice_index s.origin) apex r rest
     pub vertex_anchors : u.vertex_anchors ≡ anchors_round (slice_index s.origin) apex s.vertex_anchors (length s.undirected_data) p q r rest
     pub face_anchors : u.face_anchors ≡ s.face_anchors ++ ear_anchors (length s.undirected_data) p rest
-    pub vertex_data : u.vertex_data ≡ s.vertex_data
-    pub directed_data : u.directed_data ≡ s.directed_data ++ halves
-    pub undirected_data : u.undirected_data ≡ s.undirected_data ++ edges
-    pub face_data : u.face_data ≡ s.face_data ++ faces
+    pub has_data : HasData u s.vertex_data (s.directed_data ++ halves) (s.undirected_data ++ edges) (s.face_data ++ faces)
+    pub open has_data use *
 
   -- the last ear
   last_cut : (s : Lists V DE UE F) (p q r : ℕ) (datum : F) → is_face datum → IsBegun s p q r [] → IsCut s (last_ear_stored s apex p q r datum) p q r []
@@ -141,10 +140,12 @@ module _ {V DE UE F : Type 0} (is_half : DE → Type 0) (is_edge : UE → Type 0
         origin = sym (append-nil s.origin);
         vertex_anchors = refl;
         face_anchors = refl;
-        vertex_data = refl;
-        directed_data = sym (append-nil s.directed_data);
-        undirected_data = sym (append-nil s.undirected_data);
-        face_data = refl;
+        has_data = record {
+          vertex_data = refl;
+          directed_data = sym (append-nil s.directed_data);
+          undirected_data = sym (append-nil s.undirected_data);
+          face_data = refl;
+        };
       }
 
   -- one ear, and then the others
@@ -288,10 +289,12 @@ module _ {V DE UE F : Type 0} (is_half : DE → Type 0) (is_edge : UE → Type 0
           face_anchors =
               c.face_anchors ∙ append_assoc s.face_anchors (Some n ∷ []) (ear_anchors (length M.undirected_data) (2 * m + 1) rest)
               ∙ ap (λ z. s.face_anchors ++ Some n ∷ ear_anchors z (2 * m + 1) rest) edges_after;
-          vertex_data = c.vertex_data;
-          directed_data = c.directed_data ∙ append_assoc s.directed_data halves c.halves;
-          undirected_data = c.undirected_data ∙ append_assoc s.undirected_data edges c.edges;
-          face_data = c.face_data ∙ append_assoc s.face_data faces c.faces;
+          has_data = record {
+            vertex_data = c.vertex_data;
+            directed_data = c.directed_data ∙ append_assoc s.directed_data halves c.halves;
+            undirected_data = c.undirected_data ∙ append_assoc s.undirected_data edges c.edges;
+            face_data = c.face_data ∙ append_assoc s.face_data faces c.faces;
+          };
         }
 
   -- so what the writer leaves is cut

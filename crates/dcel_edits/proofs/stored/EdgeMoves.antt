@@ -4,7 +4,7 @@ use Rattle.dcel_edits.proofs.Dropping.{edge_out-last, edge_out-moved}
 use Rattle.dcel_maps.proofs.maps.Soundness.{rev_live}
 use Rattle.dcel_maps.proofs.maps.Halves.{rev_half, rev_or_same}
 use Rattle.dcel_fixed.specs.HalfEdges.{rev}
-use Rattle.std.proofs.lemmas.Bool.{both_ways, cases_eq, false_from_ne_true}
+use Rattle.std.proofs.lemmas.Bool.{cases_eq, false_from_ne_true}
 use Rattle.std.proofs.lemmas.List.{ext_get_or, get_or-map, length-map, length-set}
 use Rattle.dcel_store.specs.Lists.{Lists}
 use Rattle.dcel_edits.specs.Stored.{IsStored, mesh_of, stored_map}
@@ -15,12 +15,12 @@ use Rattle.dcel_maps.specs.Renumbering.{edge_taken_out, half_of, last_put, moved
 use Rattle.dcel_maps.specs.Words.{count_of}
 use Rattle.dcel_edits.proofs.Mending.{anchors-mended, links-mended, two-mended, half-kept}
 use Rattle.dcel_edits.proofs.Reading.{anchor_starts, face_anchor-lies, face_of-is, origin_of-is}
-use Rattle.dcel_edits.proofs.stored.EdgesOut.{LeavesEdgeOut, edge_out-held}
+use Rattle.dcel_edits.proofs.stored.EdgesOut.{edge_out-held, half_stays}
 use Rattle.dcel_edits.proofs.stored.Holding.{Holds}
-use Rattle.dcel_maps.proofs.Liveness.{is_live-from, is_live-parts}
+use Rattle.dcel_maps.proofs.Liveness.{is_live-from}
 use Rattle.dcel_maps.proofs.renumbering.Edges.{IsLastEdgeOut}
 use Rattle.dcel_maps.proofs.renumbering.LastPut.{length-last_put}
-use Rattle.dcel_maps.proofs.renumbering.Moves.{half_of-bit, half_of-half, last_put-half, half_of-rev, moved-below, moved-last}
+use Rattle.dcel_maps.proofs.renumbering.Moves.{half_of-bit, half_of-half, half_of-rev, moved-below, moved-last}
 
 -- an anchor that names no half of the last edge keeps its number
 anchor-kept : (last d : ℕ) (o : Option ℕ) → ((h : ℕ) → o ≡ Some h → h / 2 ≢ last) → option_map (half_of (moved last d)) o ≡ o
@@ -38,20 +38,13 @@ module _ {V DE UE F : Type 0} (s : Lists V DE UE F) (r : Removal) (d : ℕ) (sto
   half = half_of (moved (length s.undirected_data - 1) d)
 
   not_out : (h : ℕ) → Live S h → h / 2 ≢ d
-  not_out h live same =
-      both_ways (gives_up_edge r (h / 2)) (is_live-parts (gives_up_edge r) n (h / 2) live).1 (ap (gives_up_edge r) same ∙ out.given)
+  not_out = half_stays s r d stored out
 
   nexts : length s.next ≡ 2 * n
   nexts = stored.lengths.of_next
 
   prevs : length s.prev ≡ 2 * n
   prevs = stored.lengths.of_prev ∙ nexts
-
-  faces : length s.face ≡ 2 * n
-  faces = stored.lengths.of_face ∙ nexts
-
-  face-moved : (h : ℕ) → Live S h → slice_index (last_put 2 s.face (2 * d)) (half h) ≡ slice_index s.face h
-  face-moved h live = last_put-half 0 s.face n d h faces out.below (stored.sound.below_edges h live) (not_out h live)
 
   -- the last edge moves
   module _ (inside : d ≢ n - 1) where
@@ -134,8 +127,8 @@ module _ {V DE UE F : Type 0} (s : Lists V DE UE F) (r : Removal) (d : ℕ) (sto
         (face_in a live_a) (face_in b live_b) (face-at a) (face-at b) (λ k h some. other-kept h) in
         rw (moved_a, moved_b) at mended
 
-    edge_moved-leaves : LeavesEdgeOut s (edge_moved s d) r half d
-    edge_moved-leaves =
+    edge_moved-held : Holds (edge_moved s d) (without_edge r d) (edge_taken_out (mesh_of s r) d)
+    edge_moved-held =
         let next_long = length-last_put 2 s.next (2 * d) in
         let prev_long = length-last_put 2 s.prev (2 * d) in
         let lengths = stored.lengths in
@@ -145,79 +138,54 @@ module _ {V DE UE F : Type 0} (s : Lists V DE UE F) (r : Removal) (d : ℕ) (sto
         let new_prev =
         length-set (slice_set (last_put 2 s.prev (2 * d)) (half (slice_index s.next a)) (2 * d)) (half (slice_index s.next b)) (rev (2 * d))
         ∙ length-set (last_put 2 s.prev (2 * d)) (half (slice_index s.next a)) (2 * d) in
-        record {
-          lengths = record {
-            of_vertex_anchors =
-                ap length vertex_same ∙ length-map s.vertex_anchors (option_map half) ∙ lengths.of_vertex_anchors;
-            of_next = omega (arith, new_next, next_long, nexts, length-last_put 1 s.undirected_data d);
-            of_prev = omega (arith, new_next, new_prev, next_long, prev_long, nexts, prevs);
-            of_origin = omega (arith, new_next, next_long, lengths.of_origin, length-last_put 2 s.origin (2 * d));
-            of_face = omega (arith, new_next, next_long, lengths.of_face, length-last_put 2 s.face (2 * d));
-            of_directed_data = omega (arith, new_next, next_long, lengths.of_directed_data, length-last_put 2 s.directed_data (2 * d));
-            of_face_anchors = ap length face_same ∙ length-map s.face_anchors (option_map half) ∙ lengths.of_face_anchors;
-          };
-          next =
-              two-mended S n d refl out.below not_out stored.sound (slice_index s.next) s.next nexts (λ h live. refl)
-              (slice_index s.prev) stored.sound.live_prev stored.sound.next-prev stored.sound.prev-next last_live;
-          prev =
-              two-mended S n d refl out.below not_out stored.sound (slice_index s.prev) s.prev prevs (λ h live. refl)
-              (slice_index s.next) stored.sound.live_next stored.sound.prev-next stored.sound.next-prev last_live;
-          face = face-moved;
-          origin = refl;
-          vertex_anchors = vertex_same;
-          face_anchors = face_same;
-          vertex_data = refl;
-          directed_data = refl;
-          undirected_data = refl;
-          face_data = refl;
-        }
-
-    pub edge_moved-held : Holds (edge_moved s d) (without_edge r d) (edge_taken_out (mesh_of s r) d)
-    edge_moved-held = edge_out-held s (edge_moved s d) r d stored out edge_moved-leaves
+        edge_out-held s r d stored out (edge_moved s d).next (edge_moved s d).prev (edge_moved s d).vertex_anchors (edge_moved s d).face_anchors
+        (record {
+          of_vertex_anchors =
+              ap length vertex_same ∙ length-map s.vertex_anchors (option_map half) ∙ lengths.of_vertex_anchors;
+          of_next = omega (arith, new_next, next_long, nexts, length-last_put 1 s.undirected_data d);
+          of_prev = omega (arith, new_next, new_prev, next_long, prev_long, nexts, prevs);
+          of_origin = omega (arith, new_next, next_long, lengths.of_origin, length-last_put 2 s.origin (2 * d));
+          of_face = omega (arith, new_next, next_long, lengths.of_face, length-last_put 2 s.face (2 * d));
+          of_directed_data = omega (arith, new_next, next_long, lengths.of_directed_data, length-last_put 2 s.directed_data (2 * d));
+          of_face_anchors = ap length face_same ∙ length-map s.face_anchors (option_map half) ∙ lengths.of_face_anchors;
+        })
+        (two-mended S n d refl out.below not_out stored.sound (slice_index s.next) s.next nexts (λ h live. refl)
+        (slice_index s.prev) stored.sound.live_prev stored.sound.next-prev stored.sound.prev-next last_live)
+        (two-mended S n d refl out.below not_out stored.sound (slice_index s.prev) s.prev prevs (λ h live. refl)
+        (slice_index s.next) stored.sound.live_next stored.sound.prev-next stored.sound.next-prev last_live)
+        vertex_same face_same
 
   -- the last edge is dropped
   module _ (same : d ≡ n - 1) where
     none : (k : ℕ) → 0 < count_of k [] → Live S k
     none k found = absurd (omega (arith, found))
 
-    edge_dropped-leaves : LeavesEdgeOut s (edge_dropped s d) r half d
-    edge_dropped-leaves =
+    edge_dropped-held : Holds (edge_dropped s d) (without_edge r d) (edge_taken_out (mesh_of s r) d)
+    edge_dropped-held =
         let lengths = stored.lengths in
         let next_long = length-last_put 2 s.next (2 * d) in
         let stay : (anchors : List (Option ℕ)) → ((k : ℕ) → option_map half (slice_index_or anchors k None) ≡ slice_index_or anchors k None)
         → anchors ≡ map (option_map half) anchors =
         λ anchors kept. ext_get_or None anchors (map (option_map half) anchors) (sym (length-map anchors (option_map half)))
         (λ k below. sym (get_or-map (option_map half) anchors k None None below ∙ kept k)) in
-        record {
-          lengths = record {
-            of_vertex_anchors = lengths.of_vertex_anchors;
-            of_next = omega (arith, next_long, nexts, length-last_put 1 s.undirected_data d);
-            of_prev = omega (arith, next_long, length-last_put 2 s.prev (2 * d), nexts, prevs);
-            of_origin = omega (arith, next_long, lengths.of_origin, length-last_put 2 s.origin (2 * d));
-            of_face = omega (arith, next_long, lengths.of_face, length-last_put 2 s.face (2 * d));
-            of_directed_data = omega (arith, next_long, lengths.of_directed_data, length-last_put 2 s.directed_data (2 * d));
-            of_face_anchors = lengths.of_face_anchors;
-          };
-          next =
-              links-mended S n d refl out.below not_out stored.sound (slice_index s.next) s.next nexts (λ h live. refl) [] none
-              (λ h live last. absurd (not_out (slice_index s.next h) (stored.sound.live_next h live) (last ∙ sym same)));
-          prev =
-              links-mended S n d refl out.below not_out stored.sound (slice_index s.prev) s.prev prevs (λ h live. refl) [] none
-              (λ h live last. absurd (not_out (slice_index s.prev h) (stored.sound.live_prev h live) (last ∙ sym same)));
-          face = face-moved;
-          origin = refl;
-          vertex_anchors = stay s.vertex_anchors (λ k. anchor-kept (n - 1) d (slice_index_or s.vertex_anchors k None) (λ h some last.
-              not_out h (anchor_starts stored k h some).0 (last ∙ sym same)));
-          face_anchors = stay s.face_anchors (λ k. anchor-kept (n - 1) d (slice_index_or s.face_anchors k None) (λ h some last.
-              not_out h (face_anchor-lies stored k h some).0 (last ∙ sym same)));
-          vertex_data = refl;
-          directed_data = refl;
-          undirected_data = refl;
-          face_data = refl;
-        }
-
-    pub edge_dropped-held : Holds (edge_dropped s d) (without_edge r d) (edge_taken_out (mesh_of s r) d)
-    edge_dropped-held = edge_out-held s (edge_dropped s d) r d stored out edge_dropped-leaves
+        edge_out-held s r d stored out (last_put 2 s.next (2 * d)) (last_put 2 s.prev (2 * d)) s.vertex_anchors s.face_anchors
+        (record {
+          of_vertex_anchors = lengths.of_vertex_anchors;
+          of_next = omega (arith, next_long, nexts, length-last_put 1 s.undirected_data d);
+          of_prev = omega (arith, next_long, length-last_put 2 s.prev (2 * d), nexts, prevs);
+          of_origin = omega (arith, next_long, lengths.of_origin, length-last_put 2 s.origin (2 * d));
+          of_face = omega (arith, next_long, lengths.of_face, length-last_put 2 s.face (2 * d));
+          of_directed_data = omega (arith, next_long, lengths.of_directed_data, length-last_put 2 s.directed_data (2 * d));
+          of_face_anchors = lengths.of_face_anchors;
+        })
+        (links-mended S n d refl out.below not_out stored.sound (slice_index s.next) s.next nexts (λ h live. refl) [] none
+        (λ h live last. absurd (not_out (slice_index s.next h) (stored.sound.live_next h live) (last ∙ sym same))))
+        (links-mended S n d refl out.below not_out stored.sound (slice_index s.prev) s.prev prevs (λ h live. refl) [] none
+        (λ h live last. absurd (not_out (slice_index s.prev h) (stored.sound.live_prev h live) (last ∙ sym same))))
+        (stay s.vertex_anchors (λ k. anchor-kept (n - 1) d (slice_index_or s.vertex_anchors k None) (λ h some last.
+        not_out h (anchor_starts stored k h some).0 (last ∙ sym same))))
+        (stay s.face_anchors (λ k. anchor-kept (n - 1) d (slice_index_or s.face_anchors k None) (λ h some last.
+        not_out h (face_anchor-lies stored k h some).0 (last ∙ sym same))))
 
   -- an edge that is given up can be taken out, and the lists that are left hold the mesh without it
   pub edge_out-can : CanLoseEdge s d

@@ -20,7 +20,7 @@ use Rattle.dcel_maps.proofs.removal.Filled.{ears_held, face_held, filled-sound, 
 use Rattle.dcel_maps.proofs.removal.FilledMeshes.{ring_filled-mesh}
 use Rattle.dcel_maps.proofs.shapes.Maps.{map-sound}
 use Rattle.dcel_edits.proofs.stored.Changes.{held_edges, held_faces, held_lists, held_mesh, held_removal}
-use Rattle.dcel_edits.proofs.stored.Held.{ListsMesh, lists_hold}
+use Rattle.dcel_edits.proofs.stored.Held.{ListsMesh, lists_hold, HasData}
 use Rattle.dcel_edits.proofs.stored.Holding.{Holds}
 
 -- the stored links lead from a to b on the face f
@@ -98,10 +98,8 @@ pub record LeavesFilled {V DE UE F : Type 0} (s u : Lists V DE UE F) (m : Mesh V
   pub origin : u.origin ≡ s.origin ++ ear_origins (slice_index s.origin) (slice_index s.origin p) r rest
   pub vertex_anchors : u.vertex_anchors ≡ (ring_filled m removal p q r rest halves edges faces).vertex_anchors
   pub face_anchors : u.face_anchors ≡ (ring_filled m removal p q r rest halves edges faces).face_anchors
-  pub vertex_data : u.vertex_data ≡ s.vertex_data
-  pub directed_data : u.directed_data ≡ s.directed_data ++ halves
-  pub undirected_data : u.undirected_data ≡ s.undirected_data ++ edges
-  pub face_data : u.face_data ≡ s.face_data ++ faces
+  pub has_data : HasData u s.vertex_data (s.directed_data ++ halves) (s.undirected_data ++ edges) (s.face_data ++ faces)
+  pub open has_data use *
 
 module _ {V DE UE F : Type 0} (s u : Lists V DE UE F) (m : Mesh V DE UE F) (held : Holds s Closed m) (v p q r : ℕ) (rest border : List ℕ) (halves : List DE) (edges : List UE) (faces : List F) (removal : Removal) (gives : GivesUpRound m.shape v removal) (l : IsBorderLoop m.shape border v) (ring : reverse border ≡ p ∷ q ∷ r ∷ rest) (left : LeavesFilled s u m removal p q r rest halves edges faces) where
   mesh : IsMesh m
@@ -182,15 +180,14 @@ module _ {V DE UE F : Type 0} (s u : Lists V DE UE F) (m : Mesh V DE UE F) (held
         (ring_filled-mesh m v p q r rest border halves edges faces mesh closed removal gives l ring room half_count edge_count new_faces)
         record {
           lengths = left.lengths;
-          next = λ x live. (links x live).next;
-          prev = λ x live. (links x live).prev;
-          origin = origin;
-          face = λ x live. (links x live).face;
+          links = record { next = λ x live. (links x live).next; prev = λ x live. (links x live).prev; origin = origin; face = λ x live. (links x live).face };
           shown_origins = shown_origins;
-          vertex_data = left.vertex_data ∙ lists.vertex_data;
           vertex_anchors = left.vertex_anchors;
           face_anchors = left.face_anchors;
-          directed_data = left.directed_data ∙ ap (λ d. d ++ halves) lists.directed_data;
-          undirected_data = left.undirected_data ∙ ap (λ d. d ++ edges) lists.undirected_data;
-          face_data = left.face_data ∙ ap (λ d. d ++ faces) lists.face_data;
+          has_data = record {
+            vertex_data = left.vertex_data ∙ lists.vertex_data;
+            directed_data = left.directed_data ∙ ap (λ d. d ++ halves) lists.directed_data;
+            undirected_data = left.undirected_data ∙ ap (λ d. d ++ edges) lists.undirected_data;
+            face_data = left.face_data ∙ ap (λ d. d ++ faces) lists.face_data;
+          };
         }

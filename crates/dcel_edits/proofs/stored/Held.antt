@@ -1,35 +1,41 @@
 -- Lists hold a mesh where they have its data and anchors, and link its live half edges as it does.
-use Rattle.std.proofs.Common.{◌≡◌, ◌≢◌, ℕ, ◌/◌, ◌<◌, List, [], length, slice_index, slice_index_or, Option, Some, None, refl, sym, ap, ◌∙◌, subst, arith}
+use Rattle.std.proofs.Common.{◌≡◌, ◌≢◌, ℕ, ◌/◌, ◌<◌, List, [], length, slice_index_or, Option, Some, None, refl, sym, ap, ◌∙◌, subst, arith}
 use Rattle.std.proofs.lemmas.Bool.{both_ways}
 use Rattle.dcel_store.specs.Lists.{Lists, LengthsAgree}
 use Rattle.dcel_maps.specs.Maps.{Live, Map, Starts}
 use Rattle.dcel_maps.specs.Removals.{gives_up_edge, gives_up_face, gives_up_vertex, is_live, shown}
-use Rattle.dcel_maps.specs.Shapes.{AnchorsVertex, AnchorsWord, IsLive, IsMesh, Mesh, face_count, face_of, map_of, next_of, origin_of, prev_of, vertex_anchor}
+use Rattle.dcel_maps.specs.Shapes.{AnchorsVertex, AnchorsWord, IsLive, IsMesh, Mesh, face_count, map_of, origin_of, vertex_anchor}
 use Rattle.dcel_maps.specs.theory.Standing.{Stands}
 use Rattle.dcel_edits.specs.Stored.{IsStored, mesh_of, stored_map, stored_words}
 use Rattle.dcel_maps.specs.Words.{count_of, word_of}
 use Rattle.dcel_maps.proofs.Liveness.{is_live-from, is_live-given_up, is_live-parts}
-use Rattle.dcel_maps.proofs.maps.Agreement.{Agrees, agrees-sound, agrees-sphere}
+use Rattle.dcel_maps.proofs.maps.Agreement.{Agrees, agrees-sound, agrees-sphere, LinksAgree}
 use Rattle.dcel_edits.proofs.stored.Holding.{Holds}
 use Rattle.dcel_maps.proofs.walks.Links.{links_stand}
 use Rattle.dcel_maps.proofs.words.Agreement.{same_words_stand}
 use Rattle.dcel_maps.proofs.words.Reading.{words-stand}
 use Rattle.dcel_maps.proofs.shapes.Maps.{map-sound, map-sphere}
 
+-- the lists s have these data
+pub record HasData {V DE UE F : Type 0} (s : Lists V DE UE F) (vertices : List V) (halves : List DE) (edges : List UE) (faces : List F) : Type 0 where
+  pub vertex_data : s.vertex_data ≡ vertices
+  pub directed_data : s.directed_data ≡ halves
+  pub undirected_data : s.undirected_data ≡ edges
+  pub face_data : s.face_data ≡ faces
+
+pub own_data : {V DE UE F : Type 0} (s : Lists V DE UE F) → HasData s s.vertex_data s.directed_data s.undirected_data s.face_data
+own_data s = record { vertex_data = refl; directed_data = refl; undirected_data = refl; face_data = refl }
+
 -- the lists s are those of the mesh m, as far as its live elements go
 pub record ListsMesh {V DE UE F : Type 0} (s : Lists V DE UE F) (m : Mesh V DE UE F) : Type 0 where
   pub lengths : LengthsAgree s
-  pub next : (h : ℕ) → IsLive m.shape h → slice_index s.next h ≡ next_of m.shape h
-  pub prev : (h : ℕ) → IsLive m.shape h → slice_index s.prev h ≡ prev_of m.shape h
-  pub origin : (h : ℕ) → IsLive m.shape h → slice_index s.origin h ≡ origin_of m.shape h
-  pub face : (h : ℕ) → IsLive m.shape h → slice_index s.face h ≡ face_of m.shape h
+  pub links : LinksAgree (map_of m.shape) (stored_map s m.shape.removal)
+  pub open links use *
   pub shown_origins : shown (gives_up_edge m.shape.removal) s.origin ≡ m.shape.origins
-  pub vertex_data : s.vertex_data ≡ m.vertex_data
   pub vertex_anchors : s.vertex_anchors ≡ m.vertex_anchors
   pub face_anchors : s.face_anchors ≡ m.face_anchors
-  pub directed_data : s.directed_data ≡ m.directed_data
-  pub undirected_data : s.undirected_data ≡ m.undirected_data
-  pub face_data : s.face_data ≡ m.face_data
+  pub has_data : HasData s m.vertex_data m.directed_data m.undirected_data m.face_data
+  pub open has_data use *
 
 bare_anchor : (w : List ℕ) (a : Option ℕ) → AnchorsWord w a → w ≡ [] → a ≡ None
 bare_anchor w None anchors empty = refl
@@ -63,23 +69,11 @@ module _ {V DE UE F : Type 0} (s : Lists V DE UE F) (m : Mesh V DE UE F) (mesh :
     edges = edges;
     faces = faces;
     edge = edge;
-    next = e.next;
-    prev = e.prev;
-    origin = e.origin;
-    face = e.face;
+    links = e.links;
   }
 
   stands : Stands T m.shape.words
-  stands =
-      same_words_stand (map_of m.shape) T
-      record {
-        faces = faces;
-        edges = omega (arith, edges);
-        edge = edge;
-        next = e.next;
-        prev = e.prev;
-        face = e.face;
-      } m.shape.words (links_stand mesh.sound)
+  stands = same_words_stand (map_of m.shape) T agrees m.shape.words (links_stand mesh.sound)
 
   anchored : (f : ℕ) → f < face_count m.shape → AnchorsWord (word_of m.shape.words f) (slice_index_or s.face_anchors f None)
   anchored f below = subst (λ anchors. AnchorsWord (word_of m.shape.words f) (slice_index_or anchors f None)) (sym e.face_anchors) (mesh.anchored.faces f below)

@@ -206,10 +206,7 @@ module _ {V DE UE F : Type 0} (is_half : DE → Type 0) (is_edge : UE → Type 0
     origin = cut.origin;
     vertex_anchors = vertex_anchors;
     face_anchors = face_anchors;
-    vertex_data = cut.vertex_data;
-    directed_data = cut.directed_data;
-    undirected_data = cut.undirected_data;
-    face_data = cut.face_data;
+    has_data = record { vertex_data = cut.vertex_data; directed_data = cut.directed_data; undirected_data = cut.undirected_data; face_data = cut.face_data };
   }
 
   module _ (room : HasRoom m.shape 0 (length rest) (suc (length rest))) where

@@ -146,17 +146,16 @@ module _ {V DE UE F : Type 0} {s : Lists V DE UE F} {r : Removal} {m : Mesh V DE
             of_directed_data = w.of_directed_data;
             of_face_anchors = w.of_face_anchors;
           };
-          next = lists.next;
-          prev = lists.prev;
-          origin = origin-after;
-          face = lists.face;
+          links = record { next = lists.next; prev = lists.prev; origin = origin-after; face = lists.face };
           shown_origins = shown-after;
-          vertex_data = ap (λ l. swap l a b) lists.vertex_data;
           vertex_anchors = ap (λ l. swap l a b) lists.vertex_anchors;
           face_anchors = lists.face_anchors;
-          directed_data = lists.directed_data;
-          undirected_data = lists.undirected_data;
-          face_data = lists.face_data;
+          has_data = record {
+            vertex_data = ap (λ l. swap l a b) lists.vertex_data;
+            directed_data = lists.directed_data;
+            undirected_data = lists.undirected_data;
+            face_data = lists.face_data;
+          };
         }
 
     pub exchange_holds : {u : Lists V DE UE F} → u ≡ t → Holds u r n

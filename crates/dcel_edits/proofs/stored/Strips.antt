@@ -266,17 +266,21 @@ module _ {V DE UE F : Type 0} {s : Lists V DE UE F} {r : Removal} {m : Mesh V DE
   written_lists : ListsMesh written N
   written_lists = record {
     lengths = written_lengths;
-    next = nexts;
-    prev = prevs;
-    origin = λ x live. lists.origin x (links.was_live x live) ∙ sym (links.origin x live);
-    face = faces;
+    links = record {
+      next = nexts;
+      prev = prevs;
+      origin = λ x live. lists.origin x (links.was_live x live) ∙ sym (links.origin x live);
+      face = faces;
+    };
     shown_origins = origins;
-    vertex_data = lists.vertex_data;
     vertex_anchors = vertex_anchors;
     face_anchors = face_anchors;
-    directed_data = lists.directed_data;
-    undirected_data = lists.undirected_data;
-    face_data = lists.face_data;
+    has_data = record {
+      vertex_data = lists.vertex_data;
+      directed_data = lists.directed_data;
+      undirected_data = lists.undirected_data;
+      face_data = lists.face_data;
+    };
   }
 
   pub strip_holds : Holds (strip_stored s items last) (strip_record m.shape (items ++ last ∷ [])) (strip_cut m (items ++ last ∷ []))

@@ -1,5 +1,5 @@
 -- Elements taken out of lists that hold a mesh: they can be, and what is left holds the mesh without them.
-use Rattle.std.proofs.Common.{ℕ, sym, subst}
+use Rattle.std.proofs.Common.{ℕ, subst}
 use Rattle.dcel_store.specs.Lists.{Lists}
 use Rattle.dcel_edits.specs.TakingOut.{CanLoseEdge, CanLoseFace, CanLoseVertex, edge_out, face_out, vertex_out}
 use Rattle.dcel_maps.specs.Removals.{Removal, Closed}
@@ -15,31 +15,19 @@ use Rattle.dcel_maps.proofs.renumbering.Vertices.{IsOnlyOut}
 
 module _ {V DE UE F : Type 0} {s : Lists V DE UE F} {r : Removal} {m : Mesh V DE UE F} (held : Holds s r m) (d : ℕ) where
   -- the largest edge that is given up
-  module _ (out : IsLastEdgeOut m.shape d) where
-    pub can_lose_edge : CanLoseEdge s d
-    can_lose_edge = edge_out-can s r d held.stored (subst (λ (u : Mesh V DE UE F). IsLastEdgeOut u.shape d) (sym held.is) out)
-
-    pub holds_without_edge : Holds (edge_out s d) (without_edge r d) (edge_taken_out m d)
-    holds_without_edge =
-        subst (λ u. Holds (edge_out s d) (without_edge r d) (edge_taken_out u d)) held.is
-        (edge_out-holds s r d held.stored (subst (λ (u : Mesh V DE UE F). IsLastEdgeOut u.shape d) (sym held.is) out))
+  pub lose_edge : IsLastEdgeOut m.shape d → CanLoseEdge s d × Holds (edge_out s d) (without_edge r d) (edge_taken_out m d)
+  lose_edge =
+      subst (λ (u : Mesh V DE UE F). IsLastEdgeOut u.shape d → CanLoseEdge s d × Holds (edge_out s d) (without_edge r d) (edge_taken_out u d)) held.is
+      (λ out. (edge_out-can s r d held.stored out, edge_out-holds s r d held.stored out))
 
   -- the largest face that is given up
-  module _ (out : IsLastFaceOut m.shape d) where
-    pub can_lose_face : CanLoseFace s d
-    can_lose_face = face_out-can s r d held.stored (subst (λ (u : Mesh V DE UE F). IsLastFaceOut u.shape d) (sym held.is) out)
-
-    pub holds_without_face : Holds (face_out s d) (without_face r d) (face_taken_out m d)
-    holds_without_face =
-        subst (λ u. Holds (face_out s d) (without_face r d) (face_taken_out u d)) held.is
-        (face_out-holds s r d held.stored (subst (λ (u : Mesh V DE UE F). IsLastFaceOut u.shape d) (sym held.is) out))
+  pub lose_face : IsLastFaceOut m.shape d → CanLoseFace s d × Holds (face_out s d) (without_face r d) (face_taken_out m d)
+  lose_face =
+      subst (λ (u : Mesh V DE UE F). IsLastFaceOut u.shape d → CanLoseFace s d × Holds (face_out s d) (without_face r d) (face_taken_out u d)) held.is
+      (λ out. (face_out-can s r d held.stored out, face_out-holds s r d held.stored out))
 
   -- a vertex where no edge starts, once nothing else is given up
-  module _ (out : IsOnlyOut m.shape d) where
-    pub can_lose_vertex : CanLoseVertex s d
-    can_lose_vertex = vertex_out-can s r d held.stored (subst (λ (u : Mesh V DE UE F). IsOnlyOut u.shape d) (sym held.is) out)
-
-    pub holds_without_vertex : Holds (vertex_out s d) Closed (vertex_taken_out m d)
-    holds_without_vertex =
-        subst (λ u. Holds (vertex_out s d) Closed (vertex_taken_out u d)) held.is
-        (vertex_out-holds s r d held.stored (subst (λ (u : Mesh V DE UE F). IsOnlyOut u.shape d) (sym held.is) out))
+  pub lose_vertex : IsOnlyOut m.shape d → CanLoseVertex s d × Holds (vertex_out s d) Closed (vertex_taken_out m d)
+  lose_vertex =
+      subst (λ (u : Mesh V DE UE F). IsOnlyOut u.shape d → CanLoseVertex s d × Holds (vertex_out s d) Closed (vertex_taken_out u d)) held.is
+      (λ out. (vertex_out-can s r d held.stored out, vertex_out-holds s r d held.stored out))

@@ -9,6 +9,7 @@ use Rattle.dcel_maps.specs.Words.{word_of}
 use Rattle.dcel_maps.proofs.Liveness.{IsWithin-closed, is_live-parts, is_live-past}
 use Rattle.dcel_maps.proofs.maps.Agreement.{empty_sound, empty_sphere}
 use Rattle.dcel_maps.proofs.shapes.Maps.{sound-from_map, sphere-from_map}
+use Rattle.dcel_maps.proofs.shapes.Sizes.{sized_from}
 
 -- the outer face alone
 abbrev pub alone : Shape
@@ -50,18 +51,8 @@ module _ {V DE UE F : Type 0} (datum : F) where
       vertices = λ v below. absurd (omega (arith, below));
       faces = λ f below. let first : f ≡ 0 = omega (arith, below) in rw first refl;
     };
-    sized = record {
-      vertex_data = refl;
-      vertex_anchors = refl;
-      undirected_data = refl;
-      directed_data = refl;
-      origins = refl;
-      face_data = refl;
-      face_anchors = refl;
-      outer = omega arith;
-      few_vertices = omega arith;
-      few_edges = omega arith;
-      few_faces = omega arith;
-      within = IsWithin-closed 0 0 1;
-    };
+    sized =
+        sized_from (record { long = refl; anchored = refl; few = omega arith })
+        (record { long = refl; halves_long = refl; origins_long = refl; few = omega arith }) (record { long = refl; anchored = refl; few = omega arith })
+        (omega arith) (IsWithin-closed 0 0 1);
   }

@@ -65,10 +65,7 @@ module _ {V DE UE F : Type 0} (m : Mesh V DE UE F) (vertices : List V) where
       edges = omega arith;
       faces = omega arith;
       edge = edge;
-      next = after-next m.shape c;
-      prev = after-prev m.shape c;
-      origin = after-origin m.shape c;
-      face = after-face m.shape c;
+      links = record { next = after-next m.shape c; prev = after-prev m.shape c; origin = after-origin m.shape c; face = after-face m.shape c };
     }
 
     keeps : Sound T × Sphere T

@@ -1,27 +1,28 @@
 -- A triangle put beside a half edge of a mesh.
-use Rattle.std.proofs.Common.{◌≡◌, ◌≢◌, ◌⊎◌, inl, inr, ℕ, ◌+◌, ◌*◌, ◌/◌, ◌<◌, ◌≤◌, List, [], ◌∷◌, length, Some, add-zero, append-nil, refl, sym, ◌∙◌, subst, arith}
+use Rattle.std.proofs.Common.{◌≡◌, ◌≢◌, ◌⊎◌, inl, inr, ℕ, ◌+◌, ◌*◌, ◌/◌, ◌<◌, List, [], ◌∷◌, length, Some, add-zero, append-nil, refl, sym, ◌∙◌, subst, arith}
 use Rattle.std.proofs.lemmas.Bool.{cases_eq}
 use Rattle.dcel_maps.specs.Conditions.{HasRoom, IsUnconnected}
 use Rattle.dcel_maps.specs.Cyclic.{from_least}
-use Rattle.dcel_maps.specs.Maps.{Live, Map}
+use Rattle.dcel_maps.specs.Maps.{Live}
 use Rattle.dcel_maps.specs.theory.Sound.{Sound, Sphere}
-use Rattle.dcel_maps.specs.Shapes.{IsLive, IsMesh, Mesh, end_of, face_count, face_of, map_of, next_of, origin_of, prev_of}
+use Rattle.dcel_maps.specs.Shapes.{IsLive, IsMesh, Mesh, end_of, face_count, face_of, next_of, origin_of, prev_of}
 use Rattle.dcel_maps.specs.edits.Outside.{face_put_beside}
-use Rattle.dcel_maps.specs.theory.Standing.{Stands}
 use Rattle.dcel_maps.specs.Words.{become, word_of}
 use Rattle.dcel_maps.proofs.Liveness.{vertex_live-parts}
-use Rattle.dcel_maps.proofs.edits.Changes.{Change, IsEdit, IsFull, changed, fits_with, map_after}
-use Rattle.dcel_maps.proofs.edits.Growing.{after-each, after-edge, after-face, after-new, after-next, after-origin, after-prev}
-use Rattle.dcel_maps.proofs.edits.Linking.{IsLinked, linked-corner, linked-old, triangle_full-least}
+use Rattle.dcel_maps.proofs.edits.Changes.{Change, IsEdit, IsFull, changed, fits_with}
+use Rattle.dcel_maps.proofs.edits.Growing.{after-each, after-edge, after-face, after-next, after-origin, after-prev}
+use Rattle.dcel_maps.proofs.edits.Linking.{linked-corner, linked-old, triangle_full-least, linked-new}
 use Rattle.dcel_maps.proofs.edits.Patches.{patched_at-first, patched_at-new, pushing, puts_away, puts_here, replacing}
 use Rattle.dcel_maps.proofs.edits.Starting.{NewStart, start_labelled, starts-new}
 use Rattle.dcel_maps.proofs.maps.Beside.{Beside, beside_keeps}
 use Rattle.dcel_maps.proofs.maps.Soundness.{prev_differs, next_differs}
-use Rattle.dcel_maps.proofs.maps.Triangles.{Alone, IsTriangleOf}
-use Rattle.dcel_maps.proofs.shapes.Maps.{face-live, map-sound, map-sphere}
-use Rattle.dcel_maps.proofs.walks.Links.{half-below, links_stand}
+use Rattle.dcel_maps.proofs.maps.Triangles.{Alone, IsTriangleOf, IsLinked}
+use Rattle.dcel_maps.proofs.shapes.Maps.{face-live, map-sphere}
+use Rattle.dcel_maps.proofs.walks.Links.{half-below}
 use Rattle.dcel_maps.proofs.words.Beside.{beside-keeps_face, beside_word}
 use Rattle.dcel_maps.proofs.words.Faces.{word_full, word_of_face}
+use Rattle.dcel_maps.specs.Around.{around}
+use Rattle.dcel_maps.proofs.edits.Around.{edited, known}
 
 module _ {V DE UE F : Type 0} (m : Mesh V DE UE F) where
   -- two edges from the ends of the half edge e, which stands between `before` and `after` on the face f, to the vertex `tip`: the half
@@ -54,8 +55,7 @@ module _ {V DE UE F : Type 0} (m : Mesh V DE UE F) where
         triangle_beside (2 * m.shape.edges) (face_count m.shape) (face_of m.shape e) (prev_of m.shape e) e after (origin_of m.shape e) (origin_of m.shape after) tip halves edges faces
 
     module _ (mesh : IsMesh m) (live : IsLive m.shape e) where
-      sound : Sound (map_of m.shape)
-      sound = map-sound mesh.sound
+      open (known m mesh) use {sound, stands}
 
       pub beside_is : changed m beside ≡ face_put_beside m e tip halves edges faces
       beside_is =
@@ -64,32 +64,12 @@ module _ {V DE UE F : Type 0} (m : Mesh V DE UE F) where
 
       module _ (unconnected : IsUnconnected m.shape tip) (room : HasRoom m.shape 0 2 1)
           (four : length halves ≡ 4) (two : length edges ≡ 2) (one : length faces ≡ 1) where
-        abbrev n : ℕ
-        n = 2 * m.shape.edges
-
-        abbrev l : ℕ
-        l = face_count m.shape
-
-        abbrev f : ℕ
-        f = face_of m.shape e
-
-        abbrev before : ℕ
-        before = prev_of m.shape e
-
-        abbrev after : ℕ
-        after = next_of m.shape e
-
-        abbrev S : Map
-        S = map_of m.shape
+        open (around m.shape e) use {n, l, f, before, after}
 
         abbrev g : Change V DE UE F
         g = beside
 
-        abbrev T : Map
-        T = map_after m.shape g
-
-        new : (h : ℕ) → n ≤ h → h < n + 4 → Live T h
-        new = after-new m.shape g mesh.sized.within
+        open (edited m g) use {S, T}
 
         e_below : e < n
         e_below = half-below m.shape e live
@@ -115,11 +95,11 @@ module _ {V DE UE F : Type 0} (m : Mesh V DE UE F) where
         face_other : (h : ℕ) → IsLive m.shape h → h ≢ e → T.face h ≡ face_of m.shape h
         face_other h lives not_e = after-face m.shape g h lives ∙ puts_away _ g.face.set h (not_e, tt)
 
-        face_1 : T.face (n + 1) ≡ f
-        face_1 = patched_at-new _ n g.face 1
+        at_1 : IsLinked T f (n + 3) (n + 1) after
+        at_1 = linked-new m.shape g mesh.sized.within 1 f (n + 3) (n + 1) after refl (omega arith) refl refl refl
 
-        face_3 : T.face (n + 3) ≡ f
-        face_3 = patched_at-new _ n g.face 3
+        at_3 : IsLinked T f before (n + 3) (n + 1)
+        at_3 = linked-new m.shape g mesh.sized.within 3 f before (n + 3) (n + 1) refl (omega arith) refl refl refl
 
         at_e : IsLinked T l (n + 2) e n
         at_e =
@@ -143,8 +123,8 @@ module _ {V DE UE F : Type 0} (m : Mesh V DE UE F) where
         alone : Alone T l e n (n + 2)
         alone =
             each (λ h. T.face h ≡ l → (h ≡ e) ⊎ ((h ≡ n) ⊎ (h ≡ n + 2)))
-            (λ at. inl refl) (λ at. inr (inl refl)) (λ at. absurd (omega (arith, sym face_1 ∙ at, f_below)))
-            (λ at. inr (inr refl)) (λ at. absurd (omega (arith, sym face_3 ∙ at, f_below)))
+            (λ at. inl refl) (λ at. inr (inl refl)) (λ at. absurd (omega (arith, sym at_1.face ∙ at, f_below)))
+            (λ at. inr (inr refl)) (λ at. absurd (omega (arith, sym at_3.face ∙ at, f_below)))
             (λ h lives not_e at. absurd (omega (arith, sound.below_faces h lives, sym (face_other h lives not_e) ∙ at)))
 
         is_beside : Beside S T e tip n
@@ -155,23 +135,15 @@ module _ {V DE UE F : Type 0} (m : Mesh V DE UE F) where
           vertex_room = (vertex_live-parts m.shape tip unconnected.live).0;
           triangle = triangle;
           alone = alone;
-          live_1 = new (n + 1) (omega arith) (omega arith);
-          live_3 = new (n + 3) (omega arith) (omega arith);
+          at_1 = at_1;
+          at_3 = at_3;
           next_before = after-next m.shape g before before_live ∙ puts_here _ before (n + 3) ((e, n) ∷ []) (before≢e, tt);
-          next_3 = patched_at-new _ n g.next 3;
-          next_1 = patched_at-new _ n g.next 1;
           prev_after = after-prev m.shape g after after_live ∙ puts_here _ after (n + 1) [] tt;
-          prev_1 = patched_at-new _ n g.prev 1;
-          prev_3 = patched_at-new _ n g.prev 3;
-          face_1 = face_1;
-          face_3 = face_3;
           next_other = next_other;
           prev_other = prev_other;
           face_other = face_other;
-          origin_0 = patched_at-first _ n g.origin;
-          origin_1 = patched_at-new _ n g.origin 1;
-          origin_2 = patched_at-new _ n g.origin 2;
-          origin_3 = patched_at-new _ n g.origin 3;
+          origins =
+              (patched_at-first _ n g.origin, patched_at-new _ n g.origin 1, patched_at-new _ n g.origin 2, patched_at-new _ n g.origin 3);
           origin_other = after-origin m.shape g;
           edge_other = λ u i j. after-edge m.shape g u (λ less. omega (arith, less, i, j));
           edges = refl;
@@ -182,19 +154,16 @@ module _ {V DE UE F : Type 0} (m : Mesh V DE UE F) where
         keeps : Sound T × Sphere T
         keeps = beside_keeps S T e tip n sound is_beside (map-sphere mesh.sound mesh.sphere)
 
-        stands : Stands S m.shape.words
-        stands = links_stand mesh.sound
-
         -- the new half edges start at the tip, where e did, or where it ended
         new_starts : NewStart m.shape g tip
         new_starts =
             let o = is_beside in
-            (((inr (after, after_live, o.origin_0), inl o.origin_1), inl o.origin_2), inr (e, live, o.origin_3))
+            (((inr (after, after_live, o.origins.0), inl o.origins.1), inl o.origins.2), inr (e, live, o.origins.3))
 
         word : IsFull T f (from_least (become e ((n + 3) ∷ (n + 1) ∷ []) (word_of m.shape.words f)))
         word =
             let is = beside_word S T e tip n sound is_beside (word_of m.shape.words f) (word_of_face S m.shape.words stands f) in
-            record { word = is; full = word_full T f _ is (n + 1) is_beside.live_1 face_1 }
+            record { word = is; full = word_full T f _ is (n + 1) is_beside.at_1.live at_1.face }
 
         pub beside_is_edit : IsEdit m beside
         beside_is_edit = record {
@@ -208,10 +177,10 @@ module _ {V DE UE F : Type 0} (m : Mesh V DE UE F) where
           new_words = (triangle_full-least T keeps.0 l e n (n + 2) triangle e_below (omega (arith, e_below)), tt);
           other_words = λ k k_in off. beside-keeps_face S T e tip n sound is_beside k off.0 (λ is. omega (arith, is, k_in));
           outer = λ u lives off. (e / 2, live);
-          vertex_anchors = ((triangle.live_z, is_beside.origin_2), tt);
+          vertex_anchors = ((triangle.live_z, is_beside.origins.2), tt);
           new_vertex_anchors = tt;
           other_vertices = λ v v_in off. start_labelled m.shape g (after-origin m.shape g) tip new_starts v off.0;
-          face_anchors = ((is_beside.live_3, face_3), tt);
+          face_anchors = ((is_beside.at_3.live, at_3.face), tt);
           new_face_anchors = ((triangle.live_x, triangle.face_x), tt);
           other_faces = λ k k_in off. inl (off.0, tt);
         }

@@ -5,15 +5,14 @@ use Rattle.dcel_fixed.specs.HalfEdges.{rev}
 use Rattle.dcel_fixed.proofs.Halves.{rev-double-suc}
 use Rattle.dcel_maps.specs.Conditions.{CanCloseOutside, HasRoom}
 use Rattle.dcel_maps.specs.Cyclic.{from_least}
-use Rattle.dcel_maps.specs.Maps.{Live, Map}
+use Rattle.dcel_maps.specs.Maps.{Live}
 use Rattle.dcel_maps.specs.theory.Sound.{Sound, Sphere}
 use Rattle.dcel_maps.specs.Removals.{gives_up_edge}
-use Rattle.dcel_maps.specs.Shapes.{IsLive, IsMesh, Mesh, end_of, face_count, face_of, map_of, next_of, origin_of, prev_of}
+use Rattle.dcel_maps.specs.Shapes.{IsLive, IsMesh, Mesh, end_of, face_count, face_of, next_of, origin_of, prev_of}
 use Rattle.dcel_maps.specs.edits.Outside.{face_closed}
-use Rattle.dcel_maps.specs.theory.Standing.{Stands}
 use Rattle.dcel_maps.specs.Words.{become, word_of}
 use Rattle.dcel_maps.proofs.Liveness.{is_live-past}
-use Rattle.dcel_maps.proofs.edits.Changes.{Change, IsEdit, IsFull, changed, fits_with, map_after}
+use Rattle.dcel_maps.proofs.edits.Changes.{Change, IsEdit, IsFull, changed, fits_with}
 use Rattle.dcel_maps.proofs.edits.Growing.{after-face, after-grows, after-next, after-origin, after-pair, after-prev, still_labelled}
 use Rattle.dcel_maps.proofs.edits.Linking.{face_live-at, triangle_full}
 use Rattle.dcel_maps.proofs.edits.Patches.{patched_at-first, patched_at-new, pushing, puts_away, puts_here, replacing}
@@ -22,10 +21,11 @@ use Rattle.dcel_maps.proofs.maps.Ears.{EarSite, ear_keeps, ear_site, two_in}
 use Rattle.dcel_maps.proofs.maps.Edits.{Ear, EarAt}
 use Rattle.dcel_maps.proofs.maps.Labels.{KeepsLabel}
 use Rattle.dcel_maps.proofs.maps.Triangles.{IsTriangleOf}
-use Rattle.dcel_maps.proofs.shapes.Maps.{map-sound, map-sphere}
-use Rattle.dcel_maps.proofs.walks.Links.{links_stand}
+use Rattle.dcel_maps.proofs.shapes.Maps.{map-sphere}
 use Rattle.dcel_maps.proofs.words.Cuts.{cut-keeps_face, cut_triangle, cut_word}
 use Rattle.dcel_maps.proofs.words.Faces.{IsWordOf, word_full, word_of_face}
+use Rattle.dcel_maps.specs.Around.{around}
+use Rattle.dcel_maps.proofs.edits.Around.{edited, known}
 
 module _ {V DE UE F : Type 0} (m : Mesh V DE UE F) where
   -- an edge from the end of x to the start of e, which follow each other between `before` and `after` on the outer face: its half edges
@@ -59,32 +59,16 @@ module _ {V DE UE F : Type 0} (m : Mesh V DE UE F) where
         ear_closed (2 * m.shape.edges) (face_count m.shape) (prev_of m.shape e) e x after (origin_of m.shape e) (origin_of m.shape after) halves edges faces
 
     module _ (mesh : IsMesh m) (can : CanCloseOutside m.shape e) where
-      abbrev n : ℕ
-      n = 2 * m.shape.edges
-
-      abbrev l : ℕ
-      l = face_count m.shape
-
-      abbrev before : ℕ
-      before = prev_of m.shape e
-
-      abbrev x : ℕ
-      x = next_of m.shape e
+      open (around m.shape e) use {n, l, before, after as x}
 
       abbrev after : ℕ
       after = next_of m.shape x
 
-      abbrev S : Map
-      S = map_of m.shape
-
       abbrev g : Change V DE UE F
       g = closing
 
-      abbrev T : Map
-      T = map_after m.shape g
-
-      sound : Sound S
-      sound = map-sound mesh.sound
+      open (edited m g) use {S, T}
+      open (known m mesh) use {sound, stands}
 
       pub next_live : IsLive m.shape x
       next_live = sound.live_next e can.live
@@ -171,9 +155,6 @@ module _ {V DE UE F : Type 0} (m : Mesh V DE UE F) where
 
       triangle : IsTriangleOf T l e x n
       triangle = cut_triangle S T e x after (n + 1) l is_ear sound n turned
-
-      stands : Stands S m.shape.words
-      stands = links_stand mesh.sound
 
       starts : (h : ℕ) → Live T h → StartsLive m mesh g h
       starts =

@@ -5,22 +5,23 @@ use Rattle.dcel_fixed.specs.HalfEdges.{rev}
 use Rattle.dcel_maps.specs.Conditions.{HasRoom, IsTriangle, IsUnconnected}
 use Rattle.dcel_maps.specs.Cyclic.{from_least}
 use Rattle.dcel_maps.specs.edits.Split.{edge_split}
-use Rattle.dcel_maps.specs.Maps.{Live, Map}
+use Rattle.dcel_maps.specs.Maps.{Live}
 use Rattle.dcel_maps.specs.theory.Sound.{Sound, Sphere}
 use Rattle.dcel_maps.specs.Shapes.{IsLive, IsMesh, Mesh, end_of, face_count, face_of, map_of, next_of, origin_of, prev_of}
 use Rattle.dcel_maps.proofs.Liveness.{vertex_live-parts}
-use Rattle.dcel_maps.proofs.edits.Changes.{Change, IsEdit, changed, fits_with, map_after}
-use Rattle.dcel_maps.proofs.edits.Growing.{after-each, after-edge, after-face, after-next, after-origin, after-prev, after-still}
-use Rattle.dcel_maps.proofs.edits.Linking.{linked-corner, IsLinked, face_live-at, linked-new, linked-old, triangle_full, triangle_full-least, triangle_linked, triangle_of}
+use Rattle.dcel_maps.proofs.edits.Changes.{Change, IsEdit, changed, fits_with}
+use Rattle.dcel_maps.proofs.edits.Growing.{after-each, after-edge, after-origin, after-still}
+use Rattle.dcel_maps.proofs.edits.Linking.{linked-corner, face_live-at, linked-new, linked-old, triangle_full, triangle_full-least, triangle_linked, triangle_of, stays-linked}
 use Rattle.dcel_maps.proofs.edits.Patches.{patched_at-first, patched_at-new, puts_away, puts_here, replacing}
 use Rattle.dcel_maps.proofs.edits.Starting.{NewStart, moved_labelled, starts-moved}
 use Rattle.dcel_maps.proofs.maps.Halves.{turn_odd}
 use Rattle.dcel_maps.proofs.maps.Soundness.{rev_live}
 use Rattle.dcel_maps.proofs.maps.Splits.{Split, split_keeps}
-use Rattle.dcel_maps.proofs.maps.Triangles.{by_triangle, off_another, Alone, IsTriangleOf, Off, alone_turned, off_face, triangle_faces_another, triangle_turned}
-use Rattle.dcel_maps.proofs.shapes.Maps.{map-sound, map-sphere}
-use Rattle.dcel_maps.proofs.walks.Links.{half-below}
+use Rattle.dcel_maps.proofs.maps.Triangles.{by_triangle, off_another, Alone, IsTriangleOf, Off, alone_turned, off_face, triangle_faces_another, triangle_turned, triangles_apart, IsLinked, SameLinks}
+use Rattle.dcel_maps.proofs.shapes.Maps.{map-sphere}
 use Rattle.dcel_maps.proofs.words.Faces.{KeepsFace}
+use Rattle.dcel_maps.specs.Around.{around}
+use Rattle.dcel_maps.proofs.edits.Around.{edited, known}
 
 -- the vertex `tip` in the middle of e, where (e, a, b) is the triangle of the face f, and (t, c, d) with the other half t that of g: the
 -- half edges from n on, and two faces more, l and l + 1; d starts at x, a at y and b at z
@@ -58,41 +59,18 @@ module _ {V DE UE F : Type 0} (m : Mesh V DE UE F) (mesh : IsMesh m) (f g e a b 
     (was : IsTriangleOf (map_of m.shape) f e a b) (facing : IsTriangleOf (map_of m.shape) g t c d) (end : origin_of m.shape t ≡ y)
     (unconnected : IsUnconnected m.shape tip) (room : HasRoom m.shape 0 3 2)
     (halves : List DE) (edges : List UE) (faces : List F) (six : length halves ≡ 6) (three : length edges ≡ 3) (two : length faces ≡ 2) where
-  abbrev n : ℕ
-  n = 2 * m.shape.edges
-
-  abbrev l : ℕ
-  l = face_count m.shape
-
-  abbrev S : Map
-  S = map_of m.shape
+  open (around m.shape e) use {n, l}
 
   abbrev ch : Change V DE UE F
   ch = splitting n l f g e a b t c d (origin_of m.shape d) y (origin_of m.shape b) tip halves edges faces
 
-  abbrev T : Map
-  T = map_after m.shape ch
-
-  sound : Sound S
-  sound = map-sound mesh.sound
-
-  below : (h : ℕ) → IsLive m.shape h → h < n
-  below = half-below m.shape
+  open (edited m ch) use {S, T}
+  open (known m mesh) use {sound, below}
 
   elsewhere : S.face t ≢ f
   elsewhere is = triangle_faces_another S sound f e a b was (ap S.face turn ∙ is)
 
-  off_f : (h : ℕ) → S.face h ≡ g → Off h e a b
-  off_f h at = off_face S f e a b was h (λ is. elsewhere (facing.face_x ∙ sym at ∙ is))
-
-  t_off : Off t e a b
-  t_off = off_f t facing.face_x
-
-  c_off : Off c e a b
-  c_off = off_f c facing.face_y
-
-  d_off : Off d e a b
-  d_off = off_f d facing.face_z
+  open (triangles_apart S f e a b g t c d was facing (λ same. elsewhere (facing.face_x ∙ sym same))) use {x_off as t_off, y_off as c_off, z_off as d_off}
 
   -- the half edges that were there
   at_c : IsLinked T g t c n
@@ -167,17 +145,10 @@ module _ {V DE UE F : Type 0} (m : Mesh V DE UE F) (mesh : IsMesh m) (f g e a b 
       refl refl refl refl refl refl
 
   -- the other half edges stay
-  next_other : (h : ℕ) → IsLive m.shape h → Off h e a b → Off h t c d → T.next h ≡ next_of m.shape h
-  next_other h live here there =
-      after-next m.shape ch h live ∙ puts_away _ ch.next.set h (there.1, (there.2, (here.1, (here.2, (here.0, tt)))))
-
-  prev_other : (h : ℕ) → IsLive m.shape h → Off h e a b → Off h t c d → T.prev h ≡ prev_of m.shape h
-  prev_other h live here there =
-      after-prev m.shape ch h live ∙ puts_away _ ch.prev.set h (there.1, (there.2, (here.1, (here.2, (there.0, tt)))))
-
-  face_other : (h : ℕ) → IsLive m.shape h → Off h e a b → Off h t c d → T.face h ≡ face_of m.shape h
-  face_other h live here there =
-      after-face m.shape ch h live ∙ puts_away _ ch.face.set h (there.1, (there.2, (here.1, (here.2, tt))))
+  others : (h : ℕ) → IsLive m.shape h → Off h e a b → Off h t c d → SameLinks S T h
+  others h live here there =
+      stays-linked m.shape ch h live (there.1, (there.2, (here.1, (here.2, (here.0, tt))))) (there.1, (there.2, (here.1, (here.2, (there.0, tt)))))
+      (there.1, (there.2, (here.1, (here.2, tt))))
 
   -- what holds on the four triangles, and of what stays, holds of each live half edge
   abbrev Three : (ℕ → Type 0) → ℕ → ℕ → ℕ → Type 0
@@ -208,7 +179,7 @@ module _ {V DE UE F : Type 0} (m : Mesh V DE UE F) (mesh : IsMesh m) (f g e a b 
       (off_another T f e (n + 5) b first l (λ is. omega (arith, is, f_below)) P) (off_another T g c n t second l (λ is. omega (arith, is, g_below)) P)
       (λ at. inl refl, λ at. inr (inl refl), λ at. inr (inr refl))
       (off_another T (l + 1) a (n + 4) (n + 3) fourth l (λ is. omega (arith, is)) P)
-      (λ h live here there at. absurd (omega (arith, old_face h live, sym (face_other h live here there) ∙ at)))
+      (λ h live here there at. absurd (omega (arith, old_face h live, sym ((others h live here there).face) ∙ at)))
 
   fourth_alone : Alone T (l + 1) a (n + 4) (n + 3)
   fourth_alone =
@@ -217,7 +188,7 @@ module _ {V DE UE F : Type 0} (m : Mesh V DE UE F) (mesh : IsMesh m) (f g e a b 
       (off_another T f e (n + 5) b first (l + 1) (λ is. omega (arith, is, f_below)) P) (off_another T g c n t second (l + 1) (λ is. omega (arith, is, g_below)) P)
       (off_another T l d (n + 2) (n + 1) third (l + 1) (λ is. omega (arith, is)) P)
       (λ at. inl refl, λ at. inr (inl refl), λ at. inr (inr refl))
-      (λ h live here there at. absurd (omega (arith, old_face h live, sym (face_other h live here there) ∙ at)))
+      (λ h live here there at. absurd (omega (arith, old_face h live, sym ((others h live here there).face) ∙ at)))
 
   origin_other : (h : ℕ) → IsLive m.shape h → h ≢ t → T.origin h ≡ origin_of m.shape h
   origin_other h live not_t = after-origin m.shape ch h live ∙ puts_away _ ch.origin.set h (not_t, tt)
@@ -248,9 +219,7 @@ module _ {V DE UE F : Type 0} (m : Mesh V DE UE F) (mesh : IsMesh m) (f g e a b 
     second = second;
     third = third;
     third_alone = third_alone;
-    next_other = next_other;
-    prev_other = prev_other;
-    face_other = face_other;
+    others = others;
     origin_0 = patched_at-first _ n ch.origin;
     origin_1 = patched_at-new _ n ch.origin 1;
     edge_other = λ u i j k. after-edge m.shape ch u (λ less. omega (arith, less, i, j, k));
@@ -271,11 +240,11 @@ module _ {V DE UE F : Type 0} (m : Mesh V DE UE F) (mesh : IsMesh m) (f g e a b 
         comes = each (λ h. T.face h ≡ k → P h)
             (off_another T f e (n + 5) b first k (Ne-symm not_f) P) (off_another T g c n t second k (Ne-symm not_g) P)
             (off_another T l d (n + 2) (n + 1) third k (λ is. omega (arith, is, k_in)) P) (off_another T (l + 1) a (n + 4) (n + 3) fourth k (λ is. omega (arith, is, k_in)) P)
-            (λ h live not_here not_there at. (live, sym (face_other h live not_here not_there) ∙ at));
+            (λ h live not_here not_there at. (live, sym ((others h live not_here not_there).face) ∙ at));
         live = λ h live at. after-still m.shape ch h live;
-        next = λ h live at. next_other h live (here h at) (there h at);
-        prev = λ h live at. prev_other h live (here h at) (there h at);
-        face = λ h live at. face_other h live (here h at) (there h at) ∙ at;
+        next = λ h live at. (others h live (here h at) (there h at)).next;
+        prev = λ h live at. (others h live (here h at) (there h at)).prev;
+        face = λ h live at. (others h live (here h at) (there h at)).face ∙ at;
       }
 
   -- the new half edges start at the tip, at a corner, or where t did

@@ -53,10 +53,12 @@ module _ {V DE UE F : Type 0} (vertices : V × V × V) (halves : List DE) (edges
     edges = refl;
     faces = refl;
     edge = λ u. rw (gives_up_edge-closed u) (and-true (nat_lt u 3));
-    next = λ x live. listed _ c.next x;
-    prev = λ x live. listed _ c.prev x;
-    origin = λ x live. listed _ c.origin x;
-    face = λ x live. listed _ c.face x;
+    links = record {
+      next = λ x live. listed _ c.next x;
+      prev = λ x live. listed _ c.prev x;
+      origin = λ x live. listed _ c.origin x;
+      face = λ x live. listed _ c.face x;
+    };
   }
 
   keeps : Sound T × Sphere T
@@ -73,18 +75,9 @@ module _ {V DE UE F : Type 0} (vertices : V × V × V) (halves : List DE) (edges
       → slice_index c.prev.more x ≡ z → slice_index c.prev.more y ≡ x → slice_index c.prev.more z ≡ y
       → slice_index c.face.more x ≡ f → slice_index c.face.more y ≡ f → slice_index c.face.more z ≡ f → IsTriangleOf T f x y z
   round f x y z x_in y_in z_in xy yz xz next_x next_y next_z prev_x prev_y prev_z face_x face_y face_z = record {
-    live_x = live x x_in;
-    live_y = live y y_in;
-    live_z = live z z_in;
-    next_x = listed _ c.next x ∙ next_x;
-    next_y = listed _ c.next y ∙ next_y;
-    next_z = listed _ c.next z ∙ next_z;
-    prev_x = listed _ c.prev x ∙ prev_x;
-    prev_y = listed _ c.prev y ∙ prev_y;
-    prev_z = listed _ c.prev z ∙ prev_z;
-    face_x = listed _ c.face x ∙ face_x;
-    face_y = listed _ c.face y ∙ face_y;
-    face_z = listed _ c.face z ∙ face_z;
+    at_x = record { live = live x x_in; next = listed _ c.next x ∙ next_x; prev = listed _ c.prev x ∙ prev_x; face = listed _ c.face x ∙ face_x };
+    at_y = record { live = live y y_in; next = listed _ c.next y ∙ next_y; prev = listed _ c.prev y ∙ prev_y; face = listed _ c.face y ∙ face_y };
+    at_z = record { live = live z z_in; next = listed _ c.next z ∙ next_z; prev = listed _ c.prev z ∙ prev_z; face = listed _ c.face z ∙ face_z };
     x≢y = xy;
     y≢z = yz;
     x≢z = xz;

@@ -7,21 +7,22 @@ use Rattle.dcel_fixed.proofs.Halves.{rev-double}
 use Rattle.dcel_maps.specs.Conditions.{CanFlip}
 use Rattle.dcel_maps.specs.Cyclic.{from_least}
 use Rattle.dcel_maps.specs.edits.Flip.{edge_flipped}
-use Rattle.dcel_maps.specs.Maps.{Live, Map}
+use Rattle.dcel_maps.specs.Maps.{Live}
 use Rattle.dcel_maps.specs.theory.Sound.{Sound, Sphere}
 use Rattle.dcel_maps.specs.Shapes.{IsLive, IsMesh, Mesh, face_count, face_of, map_of, next_of, origin_of, prev_of}
 use Rattle.dcel_maps.proofs.Liveness.{even_live, odd_live}
-use Rattle.dcel_maps.proofs.edits.Changes.{Change, IsEdit, changed, fits_with, map_after}
-use Rattle.dcel_maps.proofs.edits.Growing.{after-each, after-edge, after-face, after-next, after-origin, after-prev, after-still}
-use Rattle.dcel_maps.proofs.edits.Linking.{IsLinked, face_live-at, linked-old, triangle_full, triangle_linked, triangle_of}
+use Rattle.dcel_maps.proofs.edits.Changes.{Change, IsEdit, changed, fits_with}
+use Rattle.dcel_maps.proofs.edits.Growing.{after-each, after-edge, after-origin, after-still}
+use Rattle.dcel_maps.proofs.edits.Linking.{face_live-at, linked-old, triangle_full, triangle_linked, triangle_of, stays-linked}
 use Rattle.dcel_maps.proofs.edits.Patches.{Untouched, puts_away, puts_here, replacing}
 use Rattle.dcel_maps.proofs.edits.Starting.{starts-as}
 use Rattle.dcel_maps.proofs.maps.Flips.{Flip, flip_keeps}
 use Rattle.dcel_maps.proofs.maps.Halves.{turn_back}
 use Rattle.dcel_maps.proofs.maps.Labels.{KeepsLabel}
-use Rattle.dcel_maps.proofs.maps.Triangles.{IsTriangleOf, Off, SameLinks, by_triangle, facing_differ, off_another, off_face}
-use Rattle.dcel_maps.proofs.shapes.Maps.{map-sound, map-sphere}
+use Rattle.dcel_maps.proofs.maps.Triangles.{IsTriangleOf, Off, SameLinks, by_triangle, facing_differ, off_another, off_face, triangles_apart, IsLinked}
+use Rattle.dcel_maps.proofs.shapes.Maps.{map-sphere}
 use Rattle.dcel_maps.proofs.words.Faces.{KeepsFace}
+use Rattle.dcel_maps.proofs.edits.Around.{edited, known}
 
 -- the edge of e and t, from x to y, between the triangles (e, a, b) of f and (t, c, d) of g: these become (e, d, a) and (t, b, c), and the
 -- edge leads from z to w, where b and d start
@@ -46,32 +47,16 @@ flipping f g e a b t c d x y z w = record {
 module _ {V DE UE F : Type 0} (m : Mesh V DE UE F) (mesh : IsMesh m) (f g e a b t c d x y : ℕ) (turn : rev e ≡ t)
     (was : IsTriangleOf (map_of m.shape) f e a b) (facing : IsTriangleOf (map_of m.shape) g t c d)
     (start : origin_of m.shape e ≡ x) (end : origin_of m.shape t ≡ y) (corners : origin_of m.shape b ≢ origin_of m.shape d) where
-  abbrev S : Map
-  S = map_of m.shape
-
   abbrev ch : Change V DE UE F
   ch = flipping f g e a b t c d x y (origin_of m.shape b) (origin_of m.shape d)
 
-  abbrev T : Map
-  T = map_after m.shape ch
-
-  sound : Sound S
-  sound = map-sound mesh.sound
+  open (edited m ch) use {S, T}
+  open (known m mesh) use {sound}
 
   differ : f ≢ g
   differ = facing_differ S sound f e a b g t c d was facing turn
 
-  off_f : (h : ℕ) → S.face h ≡ g → Off h e a b
-  off_f h at = off_face S f e a b was h (λ is. differ (sym is ∙ at))
-
-  t_off : Off t e a b
-  t_off = off_f t facing.face_x
-
-  c_off : Off c e a b
-  c_off = off_f c facing.face_y
-
-  d_off : Off d e a b
-  d_off = off_f d facing.face_z
+  open (triangles_apart S f e a b g t c d was facing differ) use {x_off as t_off, y_off as c_off, z_off as d_off}
 
   -- the half edges of both triangles
   at_e : IsLinked T f a e d
@@ -130,11 +115,7 @@ module _ {V DE UE F : Type 0} (m : Mesh V DE UE F) (mesh : IsMesh m) (f g e a b 
   others : (h : ℕ) → IsLive m.shape h → Off h e a b → Off h t c d → SameLinks S T h
   others h live here there =
       let apart : Untouched h ch.next.set = (here.0, (there.2, (here.1, (there.0, (here.2, (there.1, tt)))))) in
-      record {
-        next = after-next m.shape ch h live ∙ puts_away _ ch.next.set h apart;
-        prev = after-prev m.shape ch h live ∙ puts_away _ ch.prev.set h apart;
-        face = after-face m.shape ch h live ∙ puts_away _ ch.face.set h (there.2, (here.2, tt));
-      }
+      stays-linked m.shape ch h live apart apart (there.2, (here.2, tt))
 
   origin_other : (h : ℕ) → IsLive m.shape h → h ≢ e → h ≢ t → T.origin h ≡ origin_of m.shape h
   origin_other h live not_e not_t = after-origin m.shape ch h live ∙ puts_away _ ch.origin.set h (not_e, (not_t, tt))

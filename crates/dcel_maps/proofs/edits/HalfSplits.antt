@@ -1,20 +1,19 @@
 -- A vertex put into an edge of a mesh that has a triangle on one side.
-use Rattle.std.proofs.Common.{◌≡◌, ◌≢◌, ◌⊎◌, inl, inr, ℕ, ◌+◌, ◌*◌, ◌/◌, ◌<◌, List, [], ◌∷◌, length, slice_index, Some, add-zero, append-nil, refl, sym, ap, ◌∙◌, arith}
+use Rattle.std.proofs.Common.{◌≡◌, ◌≢◌, ◌⊎◌, inl, inr, ℕ, ◌+◌, ◌/◌, ◌<◌, List, [], ◌∷◌, length, slice_index, Some, add-zero, append-nil, refl, sym, ap, ◌∙◌, arith}
 use Rattle.std.proofs.Math.Logic.{Ne-symm}
 use Rattle.std.proofs.lemmas.Bool.{cases_eq}
-use Rattle.dcel_fixed.specs.HalfEdges.{rev}
 use Rattle.dcel_fixed.proofs.Halves.{rev-double-suc}
 use Rattle.dcel_maps.specs.Conditions.{HasRoom, IsTriangle, IsUnconnected}
 use Rattle.dcel_maps.specs.Cyclic.{from_least}
 use Rattle.dcel_maps.specs.edits.Split.{half_edge_split}
-use Rattle.dcel_maps.specs.Maps.{Live, Map}
+use Rattle.dcel_maps.specs.Maps.{Live}
 use Rattle.dcel_maps.specs.theory.Sound.{Sound, Sphere}
-use Rattle.dcel_maps.specs.Shapes.{IsLive, IsMesh, Mesh, end_of, face_anchor, face_count, face_of, map_of, next_of, origin_of, prev_of}
+use Rattle.dcel_maps.specs.Shapes.{IsLive, IsMesh, Mesh, face_anchor, face_of, next_of, origin_of, prev_of}
 use Rattle.dcel_maps.specs.Words.{become, word_of}
 use Rattle.dcel_maps.proofs.Liveness.{vertex_live-parts}
-use Rattle.dcel_maps.proofs.edits.Changes.{Change, IsEdit, IsFull, changed, fits_with, map_after}
+use Rattle.dcel_maps.proofs.edits.Changes.{Change, IsEdit, IsFull, changed, fits_with}
 use Rattle.dcel_maps.proofs.edits.Growing.{after-each, after-edge, after-face, after-next, after-origin, after-prev, after-still}
-use Rattle.dcel_maps.proofs.edits.Linking.{linked-corner, IsLinked, face_live-at, linked-new, linked-old, triangle_full, triangle_full-least, triangle_linked, triangle_of}
+use Rattle.dcel_maps.proofs.edits.Linking.{linked-corner, face_live-at, linked-new, linked-old, triangle_full, triangle_full-least, triangle_linked, triangle_of}
 use Rattle.dcel_maps.proofs.edits.Patches.{patched_at-first, patched_at-new, puts_away, puts_here, replacing}
 use Rattle.dcel_maps.proofs.edits.Starting.{NewStart, moved_labelled, starts-moved}
 use Rattle.dcel_maps.proofs.maps.Counts.{Used}
@@ -22,12 +21,13 @@ use Rattle.dcel_maps.proofs.maps.HalfSplits.{HalfSplit, half_split_keeps}
 use Rattle.dcel_maps.proofs.maps.Halves.{turn_even}
 use Rattle.dcel_maps.proofs.maps.Labels.{KeepsLabel, labelled-kept}
 use Rattle.dcel_maps.proofs.maps.Soundness.{face_prev, rev_live}
-use Rattle.dcel_maps.proofs.maps.Triangles.{by_triangle, off_another, Alone, IsTriangleOf, Off, alone_turned, off_face, triangle_faces_another, triangle_turned}
-use Rattle.dcel_maps.proofs.shapes.Maps.{map-sound, map-sphere}
+use Rattle.dcel_maps.proofs.maps.Triangles.{by_triangle, off_another, Alone, IsTriangleOf, Off, alone_turned, off_face, triangle_faces_another, triangle_turned, IsLinked}
+use Rattle.dcel_maps.proofs.shapes.Maps.{map-sphere}
 use Rattle.dcel_maps.proofs.shapes.Shown.{word-anchored}
-use Rattle.dcel_maps.proofs.walks.Links.{half-below, links_stand}
 use Rattle.dcel_maps.proofs.words.Faces.{KeepsFace, word_full, word_of_face}
 use Rattle.dcel_maps.proofs.words.HalfSplits.{half_split_word}
+use Rattle.dcel_maps.specs.Around.{around}
+use Rattle.dcel_maps.proofs.edits.Around.{edited, known}
 
 -- the vertex `tip` in the middle of e, where (e, a, b) is the triangle of the face f, and the other half t of e comes after `before` on
 -- the face g, whose word becomes w: the half edges from n on, and one face more, l; a starts at y and b at z
@@ -54,32 +54,7 @@ half_splitting n l f g e a b t before y z tip w halves edges faces = record {
 
 -- an edge whose face on the side of e is a triangle
 module _ {V DE UE F : Type 0} (m : Mesh V DE UE F) (e tip : ℕ) (halves : List DE) (edges : List UE) (faces : List F) where
-  abbrev t : ℕ
-  t = rev e
-
-  abbrev a : ℕ
-  a = next_of m.shape e
-
-  abbrev b : ℕ
-  b = prev_of m.shape e
-
-  abbrev before : ℕ
-  before = prev_of m.shape t
-
-  abbrev f : ℕ
-  f = face_of m.shape e
-
-  abbrev g : ℕ
-  g = face_of m.shape t
-
-  abbrev y : ℕ
-  y = end_of m.shape e
-
-  abbrev n : ℕ
-  n = 2 * m.shape.edges
-
-  abbrev l : ℕ
-  l = face_count m.shape
+  open (around m.shape e) use {n, l, t, f, g, after as a, before as b, t_before as before, end as y}
 
   abbrev w : List ℕ
   w = from_least (become t ((n + 3) ∷ t ∷ []) (word_of m.shape.words g))
@@ -92,20 +67,11 @@ module _ {V DE UE F : Type 0} (m : Mesh V DE UE F) (e tip : ℕ) (halves : List 
 
   module _ (mesh : IsMesh m) (live : IsLive m.shape e) (triangle : IsTriangle m.shape f) (unconnected : IsUnconnected m.shape tip)
       (room : HasRoom m.shape 0 2 1) (four : length halves ≡ 4) (two : length edges ≡ 2) (one : length faces ≡ 1) where
-    abbrev S : Map
-    S = map_of m.shape
-
     abbrev ch : Change V DE UE F
     ch = half_edge_splitting
 
-    abbrev T : Map
-    T = map_after m.shape ch
-
-    sound : Sound S
-    sound = map-sound mesh.sound
-
-    below : (h : ℕ) → IsLive m.shape h → h < n
-    below = half-below m.shape
+    open (edited m ch) use {S, T}
+    open (known m mesh) use {sound, stands, below}
 
     was : IsTriangleOf S f e a b
     was = triangle_of m mesh e live triangle
@@ -282,7 +248,7 @@ module _ {V DE UE F : Type 0} (m : Mesh V DE UE F) (e tip : ℕ) (halves : List 
     other_word : IsFull T g w
     other_word =
         let is = half_split_word S T f e a b t tip n sound is_split (map-sphere mesh.sound mesh.sphere) (word_of m.shape.words g)
-        (word_of_face S m.shape.words (links_stand mesh.sound) g) in
+        (word_of_face S m.shape.words stands g) in
         record { word = is; full = word_full T g w is (n + 3) at_3.live at_3.face }
 
     pub half_edge_splitting_is_edit : IsEdit m ch
@@ -314,7 +280,7 @@ module _ {V DE UE F : Type 0} (m : Mesh V DE UE F) (e tip : ℕ) (halves : List 
           new_face_anchors = ((second.live_z, second.face_z), tt);
           other_faces = λ k k_in off. elim (cases_eq k g) [
             | inl is ↦ inr (rw is (labelled-kept S T (face_of m.shape) T.face g (face_anchor m g) keeps_other_face
-                (word-anchored S m.shape.words (links_stand mesh.sound) g (face_anchor m g) (mesh.anchored.faces g g_below))))
+                (word-anchored S m.shape.words stands g (face_anchor m g) (mesh.anchored.faces g g_below))))
             | inr differs ↦ inl (off.0, (differs, tt))
           ];
         }

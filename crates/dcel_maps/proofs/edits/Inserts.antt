@@ -4,23 +4,25 @@ use Rattle.std.proofs.lemmas.Bool.{cases_eq}
 use Rattle.dcel_maps.specs.Conditions.{HasRoom, IsTriangle, IsUnconnected}
 use Rattle.dcel_maps.specs.Shapes.{adjacent_edge_of, IsLive, IsMesh, Mesh, face_anchor, face_count, face_of, map_of, next_of, origin_of, prev_of}
 use Rattle.dcel_maps.specs.edits.Triangle.{vertex_inserted}
-use Rattle.dcel_maps.specs.Maps.{Live, Map}
+use Rattle.dcel_maps.specs.Maps.{Live}
 use Rattle.dcel_maps.specs.theory.Sound.{Sound, Sphere}
 use Rattle.dcel_maps.specs.Removals.{gives_up_face}
 use Rattle.dcel_maps.specs.theory.Standing.{Stands}
 use Rattle.dcel_maps.proofs.Liveness.{is_live-parts, vertex_live-parts}
-use Rattle.dcel_maps.proofs.edits.Changes.{Change, IsEdit, changed, fits_with, map_after}
-use Rattle.dcel_maps.proofs.edits.Growing.{after-each, after-edge, after-face, after-next, after-origin, after-prev, after-still}
-use Rattle.dcel_maps.proofs.edits.Linking.{IsLinked, face_live-at, linked-corner, linked-old, triangle_full-least, triangle_of}
-use Rattle.dcel_maps.proofs.edits.Patches.{patched_at-first, patched_at-new, pushing, puts_away, puts_here, replacing}
+use Rattle.dcel_maps.proofs.edits.Changes.{Change, IsEdit, changed, fits_with}
+use Rattle.dcel_maps.proofs.edits.Growing.{after-each, after-edge, after-origin, after-still}
+use Rattle.dcel_maps.proofs.edits.Linking.{face_live-at, linked-corner, linked-old, triangle_full-least, triangle_of, stays-linked}
+use Rattle.dcel_maps.proofs.edits.Patches.{patched_at-first, patched_at-new, pushing, puts_here, replacing, Untouched}
 use Rattle.dcel_maps.proofs.edits.Starting.{NewStart, start_labelled, starts-new}
 use Rattle.dcel_maps.proofs.maps.Insert.{Insert, insert_keeps}
 use Rattle.dcel_maps.proofs.maps.Labels.{Labelled}
-use Rattle.dcel_maps.proofs.maps.Triangles.{Alone, IsTriangleOf, Off, by_triangle, off_another, off_face}
-use Rattle.dcel_maps.proofs.shapes.Maps.{map-sound, map-sphere}
+use Rattle.dcel_maps.proofs.maps.Triangles.{Alone, IsTriangleOf, Off, by_triangle, off_another, off_face, IsLinked, SameLinks}
+use Rattle.dcel_maps.proofs.shapes.Maps.{map-sphere}
 use Rattle.dcel_maps.proofs.shapes.Shown.{word-anchored}
-use Rattle.dcel_maps.proofs.walks.Links.{half-below, links_stand}
+use Rattle.dcel_maps.proofs.walks.Links.{links_stand}
 use Rattle.dcel_maps.proofs.words.Faces.{KeepsFace}
+use Rattle.dcel_maps.specs.Around.{around}
+use Rattle.dcel_maps.proofs.edits.Around.{edited, known}
 
 -- three edges from the vertex `tip` to the corners of the triangle (a, b, c) of the face f: the half edges from n on, and two faces more,
 -- l and l + 1; x, y and z are where a, b and c start
@@ -45,26 +47,13 @@ insertion n l f a b c x y z tip halves edges faces = record {
 module _ {V DE UE F : Type 0} (m : Mesh V DE UE F) (mesh : IsMesh m) (f a b c tip : ℕ) (was : IsTriangleOf (map_of m.shape) f a b c)
     (anchor : face_anchor m f ≡ Some a) (unconnected : IsUnconnected m.shape tip) (room : HasRoom m.shape 0 3 2)
     (halves : List DE) (edges : List UE) (faces : List F) (six : length halves ≡ 6) (three : length edges ≡ 3) (two : length faces ≡ 2) where
-  abbrev n : ℕ
-  n = 2 * m.shape.edges
-
-  abbrev l : ℕ
-  l = face_count m.shape
-
-  abbrev S : Map
-  S = map_of m.shape
+  open (around m.shape a) use {n, l}
 
   abbrev g : Change V DE UE F
   g = insertion n l f a b c (origin_of m.shape a) (origin_of m.shape b) (origin_of m.shape c) tip halves edges faces
 
-  abbrev T : Map
-  T = map_after m.shape g
-
-  sound : Sound S
-  sound = map-sound mesh.sound
-
-  below : (h : ℕ) → IsLive m.shape h → h < n
-  below = half-below m.shape
+  open (edited m g) use {S, T}
+  open (known m mesh) use {sound, below}
 
   -- the half edges that were there
   at_a : IsLinked T f (n + 5) a n
@@ -103,14 +92,9 @@ module _ {V DE UE F : Type 0} (m : Mesh V DE UE F) (mesh : IsMesh m) (f a b c ti
       refl refl refl refl refl refl
 
   -- the other half edges stay
-  next_other : (h : ℕ) → IsLive m.shape h → Off h a b c → T.next h ≡ next_of m.shape h
-  next_other h live off = after-next m.shape g h live ∙ puts_away _ g.next.set h (off.0, (off.1, (off.2, tt)))
-
-  prev_other : (h : ℕ) → IsLive m.shape h → Off h a b c → T.prev h ≡ prev_of m.shape h
-  prev_other h live off = after-prev m.shape g h live ∙ puts_away _ g.prev.set h (off.0, (off.1, (off.2, tt)))
-
-  face_other : (h : ℕ) → IsLive m.shape h → Off h a b c → T.face h ≡ face_of m.shape h
-  face_other h live off = after-face m.shape g h live ∙ puts_away _ g.face.set h (off.0, (off.1, (off.2, tt)))
+  others : (h : ℕ) → IsLive m.shape h → Off h a b c → SameLinks S T h
+  others h live off =
+      let apart : Untouched h g.next.set = (off.0, (off.1, (off.2, tt))) in stays-linked m.shape g h live apart apart apart
 
   -- what holds on the three triangles, and of what stays, holds of each live half edge
   each : (P : ℕ → Type 0) → P a × P n × P (n + 5) → P b × P (n + 2) × P (n + 1) → P c × P (n + 4) × P (n + 3)
@@ -133,7 +117,7 @@ module _ {V DE UE F : Type 0} (m : Mesh V DE UE F) (mesh : IsMesh m) (f a b c ti
       (off_another T f a n (n + 5) first l (λ is. omega (arith, is, f_below)) P)
       (λ at. inl refl, λ at. inr (inl refl), λ at. inr (inr refl))
       (off_another T (l + 1) c (n + 4) (n + 3) third l (λ is. omega (arith, is)) P)
-      (λ h live off at. absurd (omega (arith, old_face h live, sym (face_other h live off) ∙ at)))
+      (λ h live off at. absurd (omega (arith, old_face h live, sym ((others h live off).face) ∙ at)))
 
   third_alone : Alone T (l + 1) c (n + 4) (n + 3)
   third_alone =
@@ -142,7 +126,7 @@ module _ {V DE UE F : Type 0} (m : Mesh V DE UE F) (mesh : IsMesh m) (f a b c ti
       (off_another T f a n (n + 5) first (l + 1) (λ is. omega (arith, is, f_below)) P)
       (off_another T l b (n + 2) (n + 1) second (l + 1) (λ is. omega (arith, is)) P)
       (λ at. inl refl, λ at. inr (inl refl), λ at. inr (inr refl))
-      (λ h live off at. absurd (omega (arith, old_face h live, sym (face_other h live off) ∙ at)))
+      (λ h live off at. absurd (omega (arith, old_face h live, sym ((others h live off).face) ∙ at)))
 
   is_insert : Insert S T f a b c tip n
   is_insert = record {
@@ -155,15 +139,9 @@ module _ {V DE UE F : Type 0} (m : Mesh V DE UE F) (mesh : IsMesh m) (f a b c ti
     third = third;
     second_alone = second_alone;
     third_alone = third_alone;
-    next_other = next_other;
-    prev_other = prev_other;
-    face_other = face_other;
-    origin_0 = patched_at-first _ n g.origin;
-    origin_1 = patched_at-new _ n g.origin 1;
-    origin_2 = patched_at-new _ n g.origin 2;
-    origin_3 = patched_at-new _ n g.origin 3;
-    origin_4 = patched_at-new _ n g.origin 4;
-    origin_5 = patched_at-new _ n g.origin 5;
+    others = others;
+    origins =
+        (patched_at-first _ n g.origin, patched_at-new _ n g.origin 1, patched_at-new _ n g.origin 2, patched_at-new _ n g.origin 3, patched_at-new _ n g.origin 4, patched_at-new _ n g.origin 5);
     origin_other = after-origin m.shape g;
     edge_other = λ u i j k. after-edge m.shape g u (λ less. omega (arith, less, i, j, k));
     edges = refl;
@@ -185,19 +163,19 @@ module _ {V DE UE F : Type 0} (m : Mesh V DE UE F) (mesh : IsMesh m) (f a b c ti
             (off_another T f a n (n + 5) first k (λ is. differs (sym is)) P)
             (off_another T l b (n + 2) (n + 1) second k (λ is. omega (arith, is, k_in)) P)
             (off_another T (l + 1) c (n + 4) (n + 3) third k (λ is. omega (arith, is, k_in)) P)
-            (λ h live beside at. (live, sym (face_other h live beside) ∙ at));
+            (λ h live beside at. (live, sym ((others h live beside).face) ∙ at));
         live = λ h live at. after-still m.shape g h live;
-        next = λ h live at. next_other h live (off h at);
-        prev = λ h live at. prev_other h live (off h at);
-        face = λ h live at. face_other h live (off h at) ∙ at;
+        next = λ h live at. (others h live (off h at)).next;
+        prev = λ h live at. (others h live (off h at)).prev;
+        face = λ h live at. (others h live (off h at)).face ∙ at;
       }
 
   -- the new half edges start at the tip, or at a corner
   new_starts : NewStart m.shape g tip
   new_starts =
       let o = is_insert in (
-        ((((inr (b, was.live_y, o.origin_0), inl o.origin_1), inr (c, was.live_z, o.origin_2)), inl o.origin_3), inr (a, was.live_x, o.origin_4)),
-        inl o.origin_5,
+        ((((inr (b, was.live_y, o.origins.0), inl o.origins.1), inr (c, was.live_z, o.origins.2)), inl o.origins.3), inr (a, was.live_x, o.origins.4)),
+        inl o.origins.5,
       )
 
   pub insertion_is_edit : IsEdit m g
@@ -229,7 +207,7 @@ module _ {V DE UE F : Type 0} (m : Mesh V DE UE F) (mesh : IsMesh m) (f a b c ti
     );
     other_words = λ k k_in off. keeps_face k k_in off.0;
     outer = λ u lives off. (a / 2, was.live_x);
-    vertex_anchors = ((second.live_z, is_insert.origin_1), tt);
+    vertex_anchors = ((second.live_z, is_insert.origins.1), tt);
     new_vertex_anchors = tt;
     other_vertices = λ v v_in off. start_labelled m.shape g (after-origin m.shape g) tip new_starts v off.0;
     face_anchors = tt;

@@ -2,45 +2,23 @@
 use Rattle.std.proofs.Common.{◌≡◌, ◌≢◌, ◌↔◌, ℕ, ◌+◌, ◌*◌, ◌<◌, true, [], ◌∷◌, slice_index, sym, ap, ◌∙◌, subst, arith}
 use Rattle.dcel_maps.specs.Conditions.{IsTriangle}
 use Rattle.dcel_maps.specs.Cyclic.{from_least}
-use Rattle.dcel_maps.specs.Maps.{Live, Map}
+use Rattle.dcel_maps.specs.Maps.{Map}
 use Rattle.dcel_maps.specs.theory.Sound.{Sound}
 use Rattle.dcel_maps.specs.Removals.{IsWithin}
 use Rattle.dcel_maps.specs.Shapes.{IsLive, IsMesh, Mesh, Shape, face_count, face_is_live, face_of, map_of, next_of, prev_of}
 use Rattle.dcel_maps.proofs.edits.Changes.{Change, IsFull, map_after}
 use Rattle.dcel_maps.proofs.edits.Growing.{after-face, after-new, after-next, after-prev, after-still}
-use Rattle.dcel_maps.proofs.edits.Patches.{patched_at-new, puts}
-use Rattle.dcel_maps.proofs.maps.Triangles.{IsTriangleOf, triangle_at}
+use Rattle.dcel_maps.proofs.edits.Patches.{patched_at-new, puts, Untouched, puts_away}
+use Rattle.dcel_maps.proofs.maps.Triangles.{IsLinked, IsTriangleOf, triangle_at, SameLinks}
 use Rattle.dcel_maps.proofs.shapes.Maps.{face-live, map-sound}
 use Rattle.dcel_maps.proofs.walks.Links.{half-below, links_stand}
 use Rattle.dcel_maps.proofs.words.Faces.{word_full}
 use Rattle.dcel_maps.proofs.words.Triangles.{is_triangle, is_triangle-back, triangle-word, triangle-word_of, triangle_long}
 
--- h is live on the face f, between `before` and `after`
-pub record IsLinked (M : Map) (f before h after : ℕ) : Type 0 where
-  pub live : Live M h
-  pub next : M.next h ≡ after
-  pub prev : M.prev h ≡ before
-  pub face : M.face h ≡ f
-
 pub triangle_linked : (M : Map) (f x y z : ℕ) → IsLinked M f z x y → IsLinked M f x y z → IsLinked M f y z x → x ≢ y → y ≢ z → x ≢ z
     → IsTriangleOf M f x y z
-triangle_linked M f x y z at_x at_y at_z x≢y y≢z x≢z = record {
-  live_x = at_x.live;
-  live_y = at_y.live;
-  live_z = at_z.live;
-  next_x = at_x.next;
-  next_y = at_y.next;
-  next_z = at_z.next;
-  prev_x = at_x.prev;
-  prev_y = at_y.prev;
-  prev_z = at_z.prev;
-  face_x = at_x.face;
-  face_y = at_y.face;
-  face_z = at_z.face;
-  x≢y = x≢y;
-  y≢z = y≢z;
-  x≢z = x≢z;
-}
+triangle_linked M f x y z at_x at_y at_z x≢y y≢z x≢z =
+    record { at_x = at_x; at_y = at_y; at_z = at_z; x≢y = x≢y; y≢z = y≢z; x≢z = x≢z }
 
 module _ {V DE UE F : Type 0} (s : Shape) (c : Change V DE UE F) where
   abbrev T : Map
@@ -54,6 +32,14 @@ module _ {V DE UE F : Type 0} (s : Shape) (c : Change V DE UE F) where
     next = after-next s c h live ∙ next;
     prev = after-prev s c h live ∙ prev;
     face = after-face s c h live ∙ face;
+  }
+
+  -- one that no link of the change names
+  pub stays-linked : (h : ℕ) → IsLive s h → Untouched h c.next.set → Untouched h c.prev.set → Untouched h c.face.set → SameLinks (map_of s) T h
+  stays-linked h live next prev face = record {
+    next = after-next s c h live ∙ puts_away _ c.next.set h next;
+    prev = after-prev s c h live ∙ puts_away _ c.prev.set h prev;
+    face = after-face s c h live ∙ puts_away _ c.face.set h face;
   }
 
   -- a new one

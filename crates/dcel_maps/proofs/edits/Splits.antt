@@ -1,19 +1,19 @@
 -- A vertex put into the middle of an edge of a mesh, whose halves lie on one face.
-use Rattle.std.proofs.Common.{◌≡◌, ◌≢◌, inl, inr, ℕ, ◌+◌, ◌*◌, ◌/◌, ◌<◌, false, List, [], ◌∷◌, length, Some, add-zero, append-nil, refl, sym, ap, ◌∙◌, subst, arith}
+use Rattle.std.proofs.Common.{◌≡◌, ◌≢◌, inl, inr, ℕ, ◌+◌, ◌/◌, ◌<◌, false, List, [], ◌∷◌, length, Some, add-zero, append-nil, refl, sym, ap, ◌∙◌, subst, arith}
 use Rattle.std.proofs.lemmas.Bool.{cases_eq}
 use Rattle.dcel_fixed.specs.HalfEdges.{rev}
 use Rattle.dcel_fixed.proofs.Halves.{rev-double}
 use Rattle.dcel_maps.specs.Conditions.{HasRoom, IsBridge, IsUnconnected}
 use Rattle.dcel_maps.specs.edits.Split.{edge_split_on_line, with_middle}
 use Rattle.dcel_maps.specs.Cyclic.{from_least}
-use Rattle.dcel_maps.specs.Maps.{Live, Map}
+use Rattle.dcel_maps.specs.Maps.{Live}
 use Rattle.dcel_maps.specs.theory.Sound.{Sound, Sphere}
 use Rattle.dcel_maps.specs.Removals.{gives_up_vertex}
-use Rattle.dcel_maps.specs.Shapes.{IsLive, IsMesh, Mesh, end_of, face_anchor, face_of, map_of, next_of, origin_of, prev_of}
+use Rattle.dcel_maps.specs.Shapes.{IsLive, IsMesh, Mesh, face_anchor, face_of, next_of, origin_of, prev_of}
 use Rattle.dcel_maps.specs.theory.Standing.{Stands}
 use Rattle.dcel_maps.specs.Words.{word_of}
 use Rattle.dcel_maps.proofs.Liveness.{vertex_live-parts, start-parts}
-use Rattle.dcel_maps.proofs.edits.Changes.{Change, IsEdit, changed, fits_with, map_after}
+use Rattle.dcel_maps.proofs.edits.Changes.{Change, IsEdit, changed, fits_with}
 use Rattle.dcel_maps.proofs.edits.Growing.{after-face, after-grows, after-next, after-origin, after-pair, after-prev, after-still}
 use Rattle.dcel_maps.proofs.edits.Patches.{map-set, patched_at-first, patched_at-new, pushing, replacing}
 use Rattle.dcel_maps.proofs.maps.Counts.{Used}
@@ -23,12 +23,14 @@ use Rattle.dcel_maps.proofs.maps.Labels.{KeepsLabel, labelled-kept}
 use Rattle.dcel_maps.proofs.maps.Soundness.{rev_live}
 use Rattle.dcel_maps.proofs.maps.Subdivides.{by_first, by_part, first-other, first-rev, last-h, last-other, subdivide_keeps}
 use Rattle.dcel_maps.proofs.maps.Updates.{put, put_other, put_same}
-use Rattle.dcel_maps.proofs.shapes.Maps.{face-live, map-sound, map-sphere}
+use Rattle.dcel_maps.proofs.shapes.Maps.{face-live, map-sphere}
 use Rattle.dcel_maps.proofs.shapes.Shown.{word-anchored}
 use Rattle.dcel_maps.proofs.walks.Links.{links_stand}
 use Rattle.dcel_maps.proofs.words.Faces.{IsWordOf, word_full, word_of_face}
 use Rattle.dcel_maps.proofs.words.Reading.{face-below}
 use Rattle.dcel_maps.proofs.words.Subdivides.{stretch, subdivide-keeps_face, subdivide_face, subdivide_word, with_middle-other}
+use Rattle.dcel_maps.specs.Around.{around}
+use Rattle.dcel_maps.proofs.edits.Around.{edited, known}
 
 module _ {V DE UE F : Type 0} (m : Mesh V DE UE F) where
   -- the edge n / 2 behind the half edge e, which ends at `end`, on the face f: a is the half edge after e, t the other half of e, and
@@ -53,41 +55,19 @@ module _ {V DE UE F : Type 0} (m : Mesh V DE UE F) where
 
   module _ (mesh : IsMesh m) (e tip : ℕ) (bridge : IsBridge m.shape e) (unconnected : IsUnconnected m.shape tip)
       (room : HasRoom m.shape 0 1 0) (halves : List DE) (edges : List UE) (two : length halves ≡ 2) (one : length edges ≡ 1) where
-    abbrev n : ℕ
-    n = 2 * m.shape.edges
-
-    abbrev t : ℕ
-    t = rev e
-
-    abbrev a : ℕ
-    a = next_of m.shape e
-
-    abbrev b : ℕ
-    b = prev_of m.shape t
-
-    abbrev f : ℕ
-    f = face_of m.shape e
-
-    abbrev end : ℕ
-    end = end_of m.shape e
+    open (around m.shape e) use {n, t, f, after as a, t_before as b, end}
 
     abbrev c : Change V DE UE F
     c = middle n e t a b f end tip halves edges
 
-    abbrev S : Map
-    S = map_of m.shape
-
-    abbrev T : Map
-    T = map_after m.shape c
+    open (edited m c) use {S, T}
+    open (known m mesh) use {sound, stands}
 
     abbrev first : ℕ → ℕ
     first = first_part e n
 
     abbrev last : ℕ → ℕ
     last = last_part e n
-
-    sound : Sound S
-    sound = map-sound mesh.sound
 
     live_t : IsLive m.shape t
     live_t = rev_live S e bridge.live
@@ -166,20 +146,18 @@ module _ {V DE UE F : Type 0} (m : Mesh V DE UE F) where
 
     is_subdivision : Subdivide S T e n tip
     is_subdivision = record {
-      at = spur_at S sound e n tip bridge.live (omega arith) unconnected.bare (vertex_live-parts m.shape tip unconnected.live).0;
-      grows = after-grows m.shape c mesh.sized.within refl refl n (omega arith) (omega arith);
-      next_last = next_last;
-      prev_first = prev_first;
-      next_h = after-next m.shape c e bridge.live ∙ put_same _ e n;
-      prev_k = patched_at-first _ n c.prev;
-      next_rev = ap T.next turned ∙ patched_at-new _ n c.next 1;
-      prev_rev = after-prev m.shape c t live_t ∙ put_same _ t (n + 1) ∙ sym turned;
-      origin_first = origin_first;
+      middle = record {
+        at = spur_at S sound e n tip bridge.live (omega arith) unconnected.bare (vertex_live-parts m.shape tip unconnected.live).0;
+        grows = after-grows m.shape c mesh.sized.within refl refl n (omega arith) (omega arith);
+        next_h = after-next m.shape c e bridge.live ∙ put_same _ e n;
+        prev_k = patched_at-first _ n c.prev;
+        next_rev = ap T.next turned ∙ patched_at-new _ n c.next 1;
+        prev_rev = after-prev m.shape c t live_t ∙ put_same _ t (n + 1) ∙ sym turned;
+        faces = add-zero (length m.shape.words);
+      };
+      parts = record { next_last = next_last; prev_first = prev_first; origin_first = origin_first; face_first = face_first; face_last = face_last };
       origin_k = patched_at-first _ n c.origin;
       origin_rev = after-origin m.shape c t live_t ∙ put_same _ t tip;
-      face_first = face_first;
-      face_last = face_last;
-      faces = add-zero (length m.shape.words);
     }
 
     keeps : Sound T × Sphere T

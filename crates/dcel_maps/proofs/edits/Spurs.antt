@@ -1,16 +1,16 @@
 -- A spur put into a mesh: an edge from the end of a half edge to a vertex that had none.
-use Rattle.std.proofs.Common.{◌≡◌, ◌≢◌, inl, inr, ℕ, ◌+◌, ◌*◌, ◌/◌, List, [], ◌∷◌, length, Some, add-zero, refl, sym, ap, ◌∙◌, arith}
+use Rattle.std.proofs.Common.{◌≡◌, ◌≢◌, inl, inr, ℕ, ◌+◌, ◌/◌, List, [], ◌∷◌, length, Some, add-zero, refl, sym, ap, ◌∙◌, arith}
 use Rattle.std.proofs.lemmas.Bool.{cases_eq}
 use Rattle.dcel_fixed.specs.HalfEdges.{rev}
 use Rattle.dcel_fixed.proofs.Halves.{rev-double-suc}
 use Rattle.dcel_maps.specs.Conditions.{HasRoom, IsUnconnected}
-use Rattle.dcel_maps.specs.Maps.{Live, Map}
+use Rattle.dcel_maps.specs.Maps.{Live}
 use Rattle.dcel_maps.specs.theory.Sound.{Sound, Sphere}
-use Rattle.dcel_maps.specs.Shapes.{IsLive, IsMesh, Mesh, face_anchor, face_of, map_of, next_of, origin_of}
+use Rattle.dcel_maps.specs.Shapes.{IsLive, IsMesh, Mesh, face_anchor, face_of, next_of, origin_of}
 use Rattle.dcel_maps.specs.theory.Standing.{Stands}
 use Rattle.dcel_maps.specs.Words.{become, word_of}
 use Rattle.dcel_maps.proofs.Liveness.{vertex_live-parts}
-use Rattle.dcel_maps.proofs.edits.Changes.{Change, IsEdit, fits_with, map_after}
+use Rattle.dcel_maps.proofs.edits.Changes.{Change, IsEdit, fits_with}
 use Rattle.dcel_maps.proofs.edits.Growing.{after-face, after-grows, after-next, after-origin, after-pair, after-prev, still_labelled}
 use Rattle.dcel_maps.proofs.edits.Patches.{patched_at-first, patched_at-new, pushing, replacing}
 use Rattle.dcel_maps.proofs.edits.Starting.{NewStart, start_labelled, starts-new}
@@ -20,13 +20,15 @@ use Rattle.dcel_maps.proofs.maps.Growth.{spur_at}
 use Rattle.dcel_maps.proofs.maps.Labels.{KeepsLabel, labelled-kept}
 use Rattle.dcel_maps.proofs.maps.Spurs.{spur_keeps}
 use Rattle.dcel_maps.proofs.maps.Updates.{put_other, put_same}
-use Rattle.dcel_maps.proofs.shapes.Maps.{face-live, map-sound, map-sphere}
+use Rattle.dcel_maps.proofs.shapes.Maps.{face-live, map-sphere}
 use Rattle.dcel_maps.proofs.shapes.Shown.{word-anchored}
 use Rattle.dcel_maps.proofs.walks.Links.{links_stand, next-live}
 use Rattle.dcel_maps.proofs.words.Becoming.{become_empty}
 use Rattle.dcel_maps.proofs.words.Faces.{word_full, word_of_face}
 use Rattle.dcel_maps.proofs.words.Reading.{face-below}
 use Rattle.dcel_maps.proofs.words.Spurs.{spur-keeps_face, spur_word}
+use Rattle.dcel_maps.specs.Around.{around}
+use Rattle.dcel_maps.proofs.edits.Around.{edited, known}
 
 module _ {V DE UE F : Type 0} (m : Mesh V DE UE F) where
   -- the edge n / 2 put in after the half edge `before`, with `after` behind it on the face f; `from` is where the two meet
@@ -50,23 +52,13 @@ module _ {V DE UE F : Type 0} (m : Mesh V DE UE F) where
 
   module _ (mesh : IsMesh m) (before tip : ℕ) (live : IsLive m.shape before) (unconnected : IsUnconnected m.shape tip)
       (room : HasRoom m.shape 0 1 0) (halves : List DE) (edges : List UE) (two : length halves ≡ 2) (one : length edges ≡ 1) where
-    abbrev n : ℕ
-    n = 2 * m.shape.edges
-
-    abbrev after : ℕ
-    after = next_of m.shape before
-
-    abbrev f : ℕ
-    f = face_of m.shape before
+    open (around m.shape before) use {n, f, after}
 
     abbrev c : Change V DE UE F
     c = spur n before after f (origin_of m.shape after) tip halves edges
 
-    abbrev S : Map
-    S = map_of m.shape
-
-    abbrev T : Map
-    T = map_after m.shape c
+    open (edited m c) use {S, T}
+    open (known m mesh) use {sound, stands}
 
     after_live : IsLive m.shape after
     after_live = next-live mesh.sound before live
@@ -76,9 +68,6 @@ module _ {V DE UE F : Type 0} (m : Mesh V DE UE F) where
 
     new_live : Live T n × Live T (n + 1)
     new_live = after-pair m.shape c mesh.sized.within refl
-
-    sound : Sound S
-    sound = map-sound mesh.sound
 
     is_spur : Spur S T before (n + 1) tip
     is_spur = record {

@@ -15,6 +15,7 @@ use Rattle.dcel_maps.proofs.maps.Edits.{Renamed}
 use Rattle.dcel_maps.proofs.maps.Renames.{renamed_keeps}
 use Rattle.dcel_maps.proofs.shapes.Maps.{map-sound, map-sphere, sphere-from_map}
 use Rattle.dcel_maps.proofs.walks.Links.{half-below}
+use Rattle.dcel_maps.proofs.shapes.Sizes.{sized_from, sized_faces}
 
 -- what a and b and any other number become
 pub exchanged-first : (a b : ℕ) → exchanged a b a ≡ b
@@ -187,20 +188,19 @@ module _ {V DE UE F : Type 0} (m : Mesh V DE UE F) (mesh : IsMesh m) (a b : ℕ)
   swapped_sized : IsSized (vertices_swapped m a b)
   swapped_sized =
       let sized = mesh.sized in
-      record {
-        vertex_data = length-swap m.vertex_data a b ∙ sized.vertex_data;
-        vertex_anchors = length-swap m.vertex_anchors a b ∙ sized.vertex_anchors;
-        undirected_data = sized.undirected_data;
-        directed_data = sized.directed_data;
-        origins = length-renamed_origins s (exchanged a b) ∙ sized.origins;
-        face_data = sized.face_data;
-        face_anchors = sized.face_anchors;
-        outer = sized.outer;
-        few_vertices = sized.few_vertices;
-        few_edges = sized.few_edges;
-        few_faces = sized.few_faces;
-        within = sized.within;
-      }
+      sized_from
+      (record {
+        long = length-swap m.vertex_data a b ∙ sized.vertex_data;
+        anchored = length-swap m.vertex_anchors a b ∙ sized.vertex_anchors;
+        few = sized.few_vertices;
+      })
+      (record {
+        long = sized.undirected_data;
+        halves_long = sized.directed_data;
+        origins_long = length-renamed_origins s (exchanged a b) ∙ sized.origins;
+        few = sized.few_edges;
+      })
+      (sized_faces sized) sized.outer sized.within
 
   pub swapped_is_mesh : IsMesh (vertices_swapped m a b)
   swapped_is_mesh = record {

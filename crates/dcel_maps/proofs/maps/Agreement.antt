@@ -6,16 +6,21 @@ use Rattle.dcel_maps.specs.theory.Sound.{Sound, Sphere}
 use Rattle.dcel_maps.proofs.maps.Edits.{Renamed}
 use Rattle.dcel_maps.proofs.maps.Renames.{renamed_keeps, renamed_sound}
 
+-- T links the live half edges of S as S does
+pub record LinksAgree (S T : Map) : Type 0 where
+  pub next : (x : ℕ) → Live S x → T.next x ≡ S.next x
+  pub prev : (x : ℕ) → Live S x → T.prev x ≡ S.prev x
+  pub origin : (x : ℕ) → Live S x → T.origin x ≡ S.origin x
+  pub face : (x : ℕ) → Live S x → T.face x ≡ S.face x
+
 -- T has the counts of S and its live edges, linked as S links them
 pub record Agrees (S T : Map) : Type 0 where
   pub vertices : T.vertices ≡ S.vertices
   pub edges : T.edges ≡ S.edges
   pub faces : T.faces ≡ S.faces
   pub edge : (u : ℕ) → T.edge u ≡ S.edge u
-  pub next : (x : ℕ) → Live S x → T.next x ≡ S.next x
-  pub prev : (x : ℕ) → Live S x → T.prev x ≡ S.prev x
-  pub origin : (x : ℕ) → Live S x → T.origin x ≡ S.origin x
-  pub face : (x : ℕ) → Live S x → T.face x ≡ S.face x
+  pub links : LinksAgree S T
+  pub open links use *
 
 -- T has the live edges of S, linked as S links them, and counts that are no smaller
 pub record Extends (S T : Map) : Type 0 where
@@ -23,10 +28,8 @@ pub record Extends (S T : Map) : Type 0 where
   pub edges : S.edges ≤ T.edges
   pub faces : S.faces ≤ T.faces
   pub edge : (u : ℕ) → T.edge u ≡ S.edge u
-  pub next : (x : ℕ) → Live S x → T.next x ≡ S.next x
-  pub prev : (x : ℕ) → Live S x → T.prev x ≡ S.prev x
-  pub origin : (x : ℕ) → Live S x → T.origin x ≡ S.origin x
-  pub face : (x : ℕ) → Live S x → T.face x ≡ S.face x
+  pub links : LinksAgree S T
+  pub open links use *
 
 extends_renamed : (S T : Map) → Extends S T → Sound S → Renamed S T (λ x. x) (λ x. x) (λ v. v) (λ f. f)
 extends_renamed S T a s =
@@ -64,10 +67,7 @@ agrees_extends S T a = record {
   edges = let e = a.edges in omega arith;
   faces = let e = a.faces in omega arith;
   edge = a.edge;
-  next = a.next;
-  prev = a.prev;
-  origin = a.origin;
-  face = a.face;
+  links = a.links;
 }
 
 -- a map that agrees with a sound one is sound

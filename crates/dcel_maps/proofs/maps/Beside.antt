@@ -12,7 +12,7 @@ use Rattle.dcel_maps.proofs.maps.Growth.{spur_at}
 use Rattle.dcel_maps.proofs.maps.Halves.{turn_even, turn_odd}
 use Rattle.dcel_maps.proofs.maps.Soundness.{face_prev, prev_differs, next_differs}
 use Rattle.dcel_maps.proofs.maps.Spurs.{spur_keeps}
-use Rattle.dcel_maps.proofs.maps.Triangles.{Alone, IsTriangleOf}
+use Rattle.dcel_maps.proofs.maps.Triangles.{Alone, IsTriangleOf, IsLinked}
 use Rattle.dcel_maps.proofs.maps.Updates.{put}
 
 -- the triangle (e, n, n + 2) is the last face, and (.. e ..) is (.. n + 3, n + 1 ..) on the face where e was; n + 1 and n + 2 start at v
@@ -23,23 +23,14 @@ pub record Beside (S T : Map) (e v n : ℕ) : Type 0 where
   pub vertex_room : v < S.vertices
   pub triangle : IsTriangleOf T S.faces e n (n + 2)
   pub alone : Alone T S.faces e n (n + 2)
-  pub live_1 : Live T (n + 1)
-  pub live_3 : Live T (n + 3)
+  pub at_1 : IsLinked T (S.face e) (n + 3) (n + 1) (S.next e)
+  pub at_3 : IsLinked T (S.face e) (S.prev e) (n + 3) (n + 1)
   pub next_before : T.next (S.prev e) ≡ n + 3
-  pub next_3 : T.next (n + 3) ≡ n + 1
-  pub next_1 : T.next (n + 1) ≡ S.next e
   pub prev_after : T.prev (S.next e) ≡ n + 1
-  pub prev_1 : T.prev (n + 1) ≡ n + 3
-  pub prev_3 : T.prev (n + 3) ≡ S.prev e
-  pub face_1 : T.face (n + 1) ≡ S.face e
-  pub face_3 : T.face (n + 3) ≡ S.face e
   pub next_other : (h : ℕ) → Live S h → h ≢ e → h ≢ S.prev e → T.next h ≡ S.next h
   pub prev_other : (h : ℕ) → Live S h → h ≢ e → h ≢ S.next e → T.prev h ≡ S.prev h
   pub face_other : (h : ℕ) → Live S h → h ≢ e → T.face h ≡ S.face h
-  pub origin_0 : T.origin n ≡ S.origin (S.next e)
-  pub origin_1 : T.origin (n + 1) ≡ v
-  pub origin_2 : T.origin (n + 2) ≡ v
-  pub origin_3 : T.origin (n + 3) ≡ S.origin e
+  pub origins : (T.origin n ≡ S.origin (S.next e)) × (T.origin (n + 1) ≡ v) × (T.origin (n + 2) ≡ v) × (T.origin (n + 3) ≡ S.origin e)
   pub origin_other : (h : ℕ) → Live S h → T.origin h ≡ S.origin h
   pub edge_other : (u : ℕ) → u ≢ S.edges → u ≢ S.edges + 1 → T.edge u ≡ S.edge u
   pub edges : T.edges ≡ S.edges + 2
@@ -74,18 +65,19 @@ module _ (S T : Map) (e v n : ℕ) (s : Sound S) (b : Beside S T e v n) where
     triangle = b.triangle;
     alone = b.alone;
     turn = turn_odd (n + 3) (n + 2) (S.edges + 1) (omega (arith, b.twice)) (omega (arith, b.twice));
-    live = b.live_3;
-    next_k = b.next_before;
-    next_h = b.next_3;
-    prev_h = b.prev_3;
-    prev_q = b.prev_1;
-    face_h = b.face_3;
-    face_k = b.face_other (S.prev e) live_before before≢e ∙ face_before;
-    face_q = b.face_1;
+    stands = record {
+      linked = b.at_3;
+      next_k = b.next_before;
+      prev_q = b.at_1.prev;
+      face_k = b.face_other (S.prev e) live_before before≢e ∙ face_before;
+      face_q = b.at_1.face;
+    };
     other_face = λ same. omega (arith, s.below_faces e b.lives, same);
-    start = b.origin_3 ∙ sym (b.origin_other e b.lives);
-    end = b.origin_2 ∙ sym b.origin_1;
-    apart = λ same. b.isolated e b.lives (sym (b.origin_other e b.lives) ∙ same ∙ b.origin_1);
+    ends = record {
+      start = b.origins.3 ∙ sym (b.origin_other e b.lives);
+      end = b.origins.2 ∙ sym b.origins.1;
+      apart = λ same. b.isolated e b.lives (sym (b.origin_other e b.lives) ∙ same ∙ b.origins.1);
+    };
     edge_below = omega (arith, b.edges, b.twice);
     face_below = omega (arith, b.faces);
   }
@@ -127,20 +119,14 @@ module _ (S T : Map) (e v n : ℕ) (s : Sound S) (b : Beside S T e v n) where
       record {
         at = spur_at S s e n v b.lives (omega arith) b.isolated b.vertex_room;
         drawn = record {
-          grows = record {
-            edge_here = grind (arith, nat_tests);
-            edge_other = spur_edge;
-            edges = omega (arith, b.edges);
-            edge_below = omega (arith, b.edges);
-            vertices = b.vertices;
-          };
-          origin_h = b.origin_0;
-          origin_rev = ap T.origin turned ∙ b.origin_1;
+          grows = record { edge_here = grind (arith, nat_tests); edge_other = spur_edge; edges = omega (arith, b.edges); edge_below = omega (arith, b.edges); vertices = b.vertices };
+          origin_h = b.origins.0;
+          origin_rev = ap T.origin turned ∙ b.origins.1;
           origin_other = b.origin_other;
         };
         next_a = grind (arith, nat_tests);
         next_h = grind (arith, nat_tests);
-        next_rev = let next = b.next_1 in grind (arith, nat_tests);
+        next_rev = let next = b.at_1.next in grind (arith, nat_tests);
         next_other = λ h live differs.
             let h_in = below h live in
             let back = s.next-prev e b.lives in
@@ -158,7 +144,7 @@ module _ (S T : Map) (e v n : ℕ) (s : Sound S) (b : Beside S T e v n) where
               | inr not_e ↦ let other = b.prev_other h live not_e differs in grind (arith, nat_tests)
             ];
         face_h = grind (arith, nat_tests);
-        face_rev = let face = b.face_1 in grind (arith, nat_tests);
+        face_rev = let face = b.at_1.face in grind (arith, nat_tests);
         face_other = spur_face;
         faces = refl;
       }

@@ -4,7 +4,7 @@ use Rattle.std.proofs.lemmas.Bool.{cases_eq}
 use Rattle.dcel_fixed.specs.HalfEdges.{rev}
 use Rattle.dcel_maps.specs.Maps.{Live, Map}
 use Rattle.dcel_maps.specs.theory.Sound.{Sound}
-use Rattle.dcel_maps.proofs.maps.Edits.{Grows, SpurAt, Subdivide, first_part, last_part}
+use Rattle.dcel_maps.proofs.maps.Edits.{MiddlePut, Subdivide, first_part, last_part}
 use Rattle.dcel_maps.proofs.maps.Soundness.{rev_live}
 use Rattle.dcel_maps.proofs.maps.Subdivides.{first-other, first-rev, last-h, last-other}
 
@@ -17,27 +17,20 @@ pub record StartsBetween (S : Map) (origin : ℕ → ℕ) (h k v : ℕ) : Type 0
 
 -- h becomes (h, k), where its other half does not follow it, and rev h becomes (rev k, rev h); the vertex in the middle is v
 pub record Between (S T : Map) (h k v : ℕ) : Type 0 where
-  pub at : SpurAt S h k v
-  pub open at use *
-  pub grows : Grows S T k
-  pub open grows use *
+  pub middle : MiddlePut S T h k v
+  pub open middle use *
   pub leads_on : S.next h ≢ rev h
-  pub next_h : T.next h ≡ k
   pub next_k : T.next k ≡ S.next h
   pub next_before : T.next (S.prev (rev h)) ≡ rev k
-  pub next_l : T.next (rev k) ≡ rev h
   pub next_other : (x : ℕ) → Live S x → x ≢ h → x ≢ S.prev (rev h) → T.next x ≡ S.next x
-  pub prev_k : T.prev k ≡ h
   pub prev_after : T.prev (S.next h) ≡ k
   pub prev_l : T.prev (rev k) ≡ S.prev (rev h)
-  pub prev_rev : T.prev (rev h) ≡ rev k
   pub prev_other : (x : ℕ) → Live S x → x ≢ rev h → x ≢ S.next h → T.prev x ≡ S.prev x
   pub starts : StartsBetween S T.origin h k v
   pub open starts use *
   pub face_k : T.face k ≡ S.face h
   pub face_l : T.face (rev k) ≡ S.face (rev h)
   pub face_other : (x : ℕ) → Live S x → T.face x ≡ S.face x
-  pub faces : T.faces ≡ S.faces
 
 module _ (S T : Map) (h k v : ℕ) (s : Sound S) (b : Between S T h k v) where
   abbrev first : ℕ → ℕ
@@ -99,18 +92,8 @@ module _ (S T : Map) (h k v : ℕ) (s : Sound S) (b : Between S T h k v) where
 
   pub between_subdivides : Subdivide S T h k v
   between_subdivides = record {
-    at = b.at;
-    grows = b.grows;
-    next_last = next_last;
-    prev_first = prev_first;
-    next_h = b.next_h;
-    prev_k = b.prev_k;
-    next_rev = b.next_l;
-    prev_rev = b.prev_rev;
-    origin_first = origin_first;
+    middle = b.middle;
+    parts = record { next_last = next_last; prev_first = prev_first; origin_first = origin_first; face_first = face_first; face_last = face_last };
     origin_k = b.origin_k;
     origin_rev = b.origin_rev;
-    face_first = face_first;
-    face_last = face_last;
-    faces = b.faces;
   }

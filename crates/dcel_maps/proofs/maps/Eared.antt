@@ -7,26 +7,34 @@ use Rattle.dcel_maps.specs.theory.Sound.{Sound, Sphere}
 use Rattle.dcel_maps.proofs.maps.Ears.{ear_keeps, two_in}
 use Rattle.dcel_maps.proofs.maps.Edits.{Ear}
 use Rattle.dcel_maps.proofs.maps.Halves.{rev_half, rev_or_same}
-use Rattle.dcel_maps.proofs.maps.Triangles.{Alone, IsTriangleOf, SameLinks, triangle_kept}
+use Rattle.dcel_maps.proofs.maps.Triangles.{Alone, IsTriangleOf, SameLinks, triangle_kept, IsLinked}
 use Rattle.dcel_maps.proofs.maps.Updates.{put, put_other}
+
+-- h stands between k and q on the face f
+pub record StandsIn (T : Map) (f k h q : ℕ) : Type 0 where
+  pub linked : IsLinked T f k h q
+  pub open linked use {live, next as next_h, prev as prev_h, face as face_h}
+  pub next_k : T.next k ≡ h
+  pub prev_q : T.prev q ≡ h
+  pub face_k : T.face k ≡ f
+  pub face_q : T.face q ≡ f
+
+-- h starts where p does, and its other half r where q does, which is elsewhere
+pub record SpansCorner (T : Map) (p q h r : ℕ) : Type 0 where
+  pub start : T.origin h ≡ T.origin p
+  pub end : T.origin r ≡ T.origin q
+  pub apart : T.origin p ≢ T.origin q
 
 -- the face g is the triangle (p, n, r), and h, the other half of r, stands between k and q on the face f
 pub record HasEar (T : Map) (p n q h g k r f : ℕ) : Type 0 where
   pub triangle : IsTriangleOf T g p n r
   pub alone : Alone T g p n r
   pub turn : rev h ≡ r
-  pub live : Live T h
-  pub next_k : T.next k ≡ h
-  pub next_h : T.next h ≡ q
-  pub prev_h : T.prev h ≡ k
-  pub prev_q : T.prev q ≡ h
-  pub face_h : T.face h ≡ f
-  pub face_k : T.face k ≡ f
-  pub face_q : T.face q ≡ f
+  pub stands : StandsIn T f k h q
+  pub open stands use *
   pub other_face : f ≢ g
-  pub start : T.origin h ≡ T.origin p
-  pub end : T.origin r ≡ T.origin q
-  pub apart : T.origin p ≢ T.origin q
+  pub ends : SpansCorner T p q h r
+  pub open ends use *
   pub edge_below : h / 2 < T.edges
   pub face_below : g < T.faces
 
@@ -86,9 +94,12 @@ module _ (T : Map) (p n q h g k r f : ℕ) (e : HasEar T p n q h g k r f) where
       let (live_z, at_z) = elsewhere w not_f not_g z was.live_z was.face_z in
       triangle_kept T M w x y z was live_x live_y live_z at_x at_y at_z
 
-  pub ear_keeps_alone : (w : ℕ) → w ≢ f → (x y z : ℕ) → Alone T w x y z → Alone M w x y z
+  ear_keeps_alone : (w : ℕ) → w ≢ f → (x y z : ℕ) → Alone T w x y z → Alone M w x y z
   ear_keeps_alone w not_f x y z alone i live at =
       alone i (ear_was_live i live).0 (ear_other_face i (λ same. not_f (sym at ∙ same)) ∙ at)
+
+  pub ear_keeps_both : (w : ℕ) → w ≢ f → w ≢ g → (x y z : ℕ) → IsTriangleOf T w x y z → Alone T w x y z → IsTriangleOf M w x y z × Alone M w x y z
+  ear_keeps_both w not_f not_g x y z was alone = (ear_keeps_triangle w not_f not_g x y z was, ear_keeps_alone w not_f x y z alone)
 
   not_on : (x y : ℕ) → T.face x ≡ f → T.face y ≡ g → x ≢ y
   not_on x y at_f at_g same = e.other_face (sym at_f ∙ ap T.face same ∙ at_g)
@@ -157,23 +168,14 @@ module _ (T : Map) (p n q h g k r f : ℕ) (e : HasEar T p n q h g k r f) where
 
 -- two triangles with the edge of h between them, which start where p does and end where q does: the second one is an ear
 pub corner_ear : (T : Map) (f g k h q p n r : ℕ) → IsTriangleOf T f k h q → IsTriangleOf T g p n r → Alone T g p n r → rev h ≡ r → f ≢ g
-    → T.origin h ≡ T.origin p → T.origin r ≡ T.origin q → T.origin p ≢ T.origin q → h / 2 < T.edges → g < T.faces → HasEar T p n q h g k r f
-corner_ear T f g k h q p n r near far alone turn differ start end apart edge_below face_below = record {
+    → SpansCorner T p q h r → h / 2 < T.edges → g < T.faces → HasEar T p n q h g k r f
+corner_ear T f g k h q p n r near far alone turn differ ends edge_below face_below = record {
   triangle = far;
   alone = alone;
   turn = turn;
-  live = near.live_y;
-  next_k = near.next_x;
-  next_h = near.next_y;
-  prev_h = near.prev_y;
-  prev_q = near.prev_z;
-  face_h = near.face_y;
-  face_k = near.face_x;
-  face_q = near.face_z;
+  stands = record { linked = near.at_y; next_k = near.next_x; prev_q = near.prev_z; face_k = near.face_x; face_q = near.face_z };
   other_face = differ;
-  start = start;
-  end = end;
-  apart = apart;
+  ends = ends;
   edge_below = edge_below;
   face_below = face_below;
 }

@@ -53,24 +53,34 @@ first_part h k = put (λ x. x) (rev h) (rev k)
 abbrev pub last_part : ℕ → ℕ → ℕ → ℕ
 last_part h k = put (λ x. x) h k
 
--- a vertex v put into the middle of an edge: the half edges become their parts, and v is between these
-pub record Subdivide (S T : Map) (h k v : ℕ) : Type 0 where
+-- the vertex v between h and k, and between their other halves, whatever these lead to
+pub record MiddlePut (S T : Map) (h k v : ℕ) : Type 0 where
   pub at : SpurAt S h k v
   pub open at use *
   pub grows : Grows S T k
   pub open grows use *
-  pub next_last : (x : ℕ) → Live S x → T.next (last_part h k x) ≡ first_part h k (S.next x)
-  pub prev_first : (x : ℕ) → Live S x → T.prev (first_part h k x) ≡ last_part h k (S.prev x)
   pub next_h : T.next h ≡ k
   pub prev_k : T.prev k ≡ h
   pub next_rev : T.next (rev k) ≡ rev h
   pub prev_rev : T.prev (rev h) ≡ rev k
+  pub faces : T.faces ≡ S.faces
+
+-- half edges become their parts
+pub record ByParts (S T : Map) (h k : ℕ) : Type 0 where
+  pub next_last : (x : ℕ) → Live S x → T.next (last_part h k x) ≡ first_part h k (S.next x)
+  pub prev_first : (x : ℕ) → Live S x → T.prev (first_part h k x) ≡ last_part h k (S.prev x)
   pub origin_first : (x : ℕ) → Live S x → T.origin (first_part h k x) ≡ S.origin x
-  pub origin_k : T.origin k ≡ v
-  pub origin_rev : T.origin (rev h) ≡ v
   pub face_first : (x : ℕ) → Live S x → T.face (first_part h k x) ≡ S.face x
   pub face_last : (x : ℕ) → Live S x → T.face (last_part h k x) ≡ S.face x
-  pub faces : T.faces ≡ S.faces
+
+-- a vertex v put into the middle of an edge: the half edges become their parts, and v is between these
+pub record Subdivide (S T : Map) (h k v : ℕ) : Type 0 where
+  pub middle : MiddlePut S T h k v
+  pub open middle use *
+  pub parts : ByParts S T h k
+  pub open parts use *
+  pub origin_k : T.origin k ≡ v
+  pub origin_rev : T.origin (rev h) ≡ v
 
 -- what a chord asks: the test `arc` holds of the part of the cycle that begins with p and ends before q; the edge of h
 -- is not live, and no half edge lies at the face g

@@ -64,16 +64,12 @@ module _ (S T : Map) (f g e a b t c d : ℕ) (s : Sound S) (x : Flip S T f g e a
   is_ear : Ear M T d a b t f
   unfolding join put
   is_ear =
+      let known = x in
       let p = x.was in
       let q = x.facing in
-      let first = x.first in
-      let second = x.second in
-      let turn = x.turn in
       let back = back in
       let differ = differ in
-      let origin_e = x.origin_e in
-      let origin_t = x.origin_t in
-      let half : t / 2 ≡ e / 2 = ap (λ z. z / 2) (sym turn) ∙ rev_half e in
+      let half : t / 2 ≡ e / 2 = ap (λ z. z / 2) (sym x.turn) ∙ rev_half e in
       record {
         at = record {
           lives = join_still_live S M t s joined d q.live_z (λ is. q.x≢z (sym is)) (λ is. apart e d p.face_x q.face_z (sym (is ∙ back)));
@@ -86,7 +82,7 @@ module _ (S T : Map) (f g e a b t c d : ℕ) (s : Sound S) (x : Flip S T f g e a
         cut = record {
           drawn = record {
             grows = record {
-              edge_here = second.live_x;
+              edge_here = x.second.live_x;
               edge_other = λ u differs. x.edge u ∙ sym (joined.edge_other u differs);
               edges = omega (arith, x.edges);
               edge_below = omega (arith, s.below_edges t q.live_x, x.edges);
@@ -114,7 +110,7 @@ module _ (S T : Map) (f g e a b t c d : ℕ) (s : Sound S) (x : Flip S T f g e a
               (λ h live here there i j. let same = x.others h live here there in grind (arith, nat_tests));
           face_h = grind (arith, nat_tests);
           face_rev = grind (arith, nat_tests);
-          face_in = λ h live. two_in T.face d a h f first.face_y first.face_z;
+          face_in = λ h live. two_in T.face d a h f x.first.face_y x.first.face_z;
           face_out =
               each (λ h. two d a h ≡ false → T.face h ≡ M.face h) (λ out. grind (arith, nat_tests), λ out. grind (arith, nat_tests))
               (λ out. grind (arith, nat_tests), λ out. grind (arith, nat_tests))

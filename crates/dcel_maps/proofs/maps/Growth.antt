@@ -21,6 +21,17 @@ spur_at S s a h v live new isolated vertex_room = record {
   vertex_room = vertex_room;
 }
 
+-- a map of which one edge is taken away grows by it
+pub grows_back : (S T : Map) (h : ℕ) → Sound T → Live T h → ((u : ℕ) → u ≢ h / 2 → S.edge u ≡ T.edge u) → S.edges ≡ T.edges
+    → S.vertices ≡ T.vertices → Grows S T h
+grows_back S T h t live other edges vertices = record {
+  edge_here = live;
+  edge_other = λ u differs. sym (other u differs);
+  edges = omega (arith, edges);
+  edge_below = t.below_edges h live;
+  vertices = sym vertices;
+}
+
 -- T has the edge of h, which is not in S, and the edges of S
 pub record Grown (S T : Map) (h : ℕ) : Type 0 where
   pub fresh : S.edge (h / 2) ≡ false
@@ -46,6 +57,15 @@ module _ (S T : Map) (h : ℕ) (g : Grown S T h) where
   -- what was live still is
   pub still_live : (x : ℕ) → Live S x → Live T x
   still_live x l = g.edge_other (x / 2) (not_new_edge x l) ∙ l
+
+  -- what was live still is, and is no half of the new edge
+  pub record StayOn : Type 0 where
+    pub still : (x : ℕ) → Live S x → Live T x
+    pub apart : (x : ℕ) → Live S x → x ≢ h
+    pub apart_rev : (x : ℕ) → Live S x → x ≢ rev h
+
+  pub stay_on : StayOn
+  stay_on = record { still = still_live; apart = not_h; apart_rev = not_rev }
 
   -- a live half edge is an old one, h or its other half
   pub live_cases : (x : ℕ) → Live T x → Live S x ⊎ ((x ≡ h) ⊎ (x ≡ rev h))

@@ -88,54 +88,45 @@ module _ (S T : Map) (f e a b t v n : ℕ) (s : Sound S) (x : HalfSplit S T f e 
   is_between : Between S half_uncut e (n + 2) v
   unfolding put
   is_between =
-      let twice = x.twice in
-      let was = x.was in
-      let near = x.first in
-      let far = x.last in
-      let turn = x.turn in
-      let turned = x.turn_part in
+      let known = x.joined in
       let half : (n + 2) / 2 ≡ S.edges + 1 = omega arith in
       let other_half : (n + 1) / 2 ≡ S.edges = omega arith in
-      let e_in = below e was.live_x in
-      let a_in = below a was.live_y in
-      let b_in = below b was.live_z in
+      let e_in = below e x.was.live_x in
+      let a_in = below a x.was.live_y in
+      let b_in = below b x.was.live_z in
       let t_in = below t live_t in
       let before_in = below (S.prev t) live_before in
       let off_t = t_off in
       let off_before = before_off in
       record {
-        at = joined_at S T f S.faces e a b t v n (n + 1) n (n + 2) (n + 3) s x.joined (omega arith);
-        grows = record {
-          edge_here = grind (arith, nat_tests);
-          edge_other = part_edge;
-          edges = omega (arith, x.edges);
-          edge_below = omega (arith, x.edges);
-          vertices = x.vertices;
+        middle = record {
+          at = joined_at S T f S.faces e a b t v n (n + 1) n (n + 2) (n + 3) s x.joined (omega arith);
+          grows = record { edge_here = grind (arith, nat_tests); edge_other = part_edge; edges = omega (arith, x.edges); edge_below = omega (arith, x.edges); vertices = x.vertices };
+          next_h = grind (arith, nat_tests);
+          prev_k = grind (arith, nat_tests);
+          next_rev = let next = x.next_3 in grind (arith, nat_tests);
+          prev_rev = let prev = x.prev_t in grind (arith, nat_tests);
+          faces = refl;
         };
         leads_on = joined_leads_on S T f S.faces e a b t v n (n + 1) n (n + 2) (n + 3) s x.joined;
-        next_h = grind (arith, nat_tests);
         next_k = grind (arith, nat_tests);
         next_before = let next = x.next_before in grind (arith, nat_tests);
-        next_l = let next = x.next_3 in grind (arith, nat_tests);
         next_other = λ h live.
             let h_in = below h live in
             by_triangle (λ y. y ≢ e → y ≢ S.prev (rev e) → half_uncut.next y ≡ S.next y) e a b h
             (λ not_e. absurd (not_e refl), λ not_e not_before. grind (arith, nat_tests), λ not_e not_before. grind (arith, nat_tests))
             (λ off not_e not_before. let other = x.next_other h live off in grind (arith, nat_tests));
-        prev_k = grind (arith, nat_tests);
         prev_after = grind (arith, nat_tests);
         prev_l = let prev = x.prev_3 in grind (arith, nat_tests);
-        prev_rev = let prev = x.prev_t in grind (arith, nat_tests);
         prev_other = λ h live.
             let h_in = below h live in
             by_triangle (λ y. y ≢ rev e → y ≢ S.next e → half_uncut.prev y ≡ S.prev y) e a b h
-            (λ not_t not_a. grind (arith, nat_tests), λ not_t not_a. absurd (not_a (sym was.next_x)), λ not_t not_a. grind (arith, nat_tests))
-            (λ off not_t not_a. let other = x.prev_other h live off (λ is. not_t (is ∙ sym turn)) in grind (arith, nat_tests));
+            (λ not_t not_a. grind (arith, nat_tests), λ not_t not_a. absurd (not_a (sym x.was.next_x)), λ not_t not_a. grind (arith, nat_tests))
+            (λ off not_t not_a. let other = x.prev_other h live off (λ is. not_t (is ∙ sym x.turn)) in grind (arith, nat_tests));
         starts = joined_starts S T f S.faces e a b t v n (n + 1) n (n + 2) (n + 3) s x.joined;
         face_k = grind (arith, nat_tests);
         face_l = let face = x.face_3 in grind (arith, nat_tests);
         face_other = part_face;
-        faces = refl;
       }
 
   -- without the ear it is a subdivision

@@ -5,8 +5,8 @@ use Rattle.dcel_fixed.specs.HalfEdges.{rev}
 use Rattle.dcel_maps.specs.Maps.{Live, Map}
 use Rattle.dcel_maps.specs.theory.Sound.{Sound, Sphere}
 use Rattle.dcel_maps.proofs.maps.Edits.{ChordAt, Cut}
-use Rattle.dcel_maps.proofs.maps.Halves.{rev-rev, rev_or_same}
-use Rattle.dcel_maps.proofs.maps.Soundness.{apart_from, face_cycles, next_differs, not_of_dead, rev_live}
+use Rattle.dcel_maps.proofs.maps.Halves.{rev-rev}
+use Rattle.dcel_maps.proofs.maps.Soundness.{face_cycles, next_differs, not_of_dead, rev_live, less-was_live, less-still_live}
 use Rattle.dcel_maps.proofs.maps.Unchords.{Unchord, unchord_keeps}
 use Rattle.dcel_maps.proofs.maps.Updates.{put, put_other, put_same, put_twice-first, put_twice-other}
 
@@ -117,13 +117,10 @@ module _ (S T : Map) (h : ℕ) (s : Sound S) (e : Join S T h) where
 
   -- what is live after a join was, and all but the two halves still is
   pub join_was_live : (x : ℕ) → Live T x → Live S x × (x ≢ h) × (x ≢ rev h)
-  join_was_live x l =
-      let apart = apart_from T h e.edge_gone x l in
-      (sym (e.edge_other (x / 2) (not_of_dead T h e.edge_gone x l)) ∙ l, apart.0, apart.1)
+  join_was_live = less-was_live S T h e.edge_gone e.edge_other
 
   pub join_still_live : (x : ℕ) → Live S x → x ≢ h → x ≢ rev h → Live T x
-  join_still_live x l not_h not_rev =
-      e.edge_other (x / 2) (λ i. elim (rev_or_same x h i) [ inl j ↦ not_h j | inr j ↦ not_rev j ]) ∙ l
+  join_still_live = less-still_live S T h e.edge_gone e.edge_other
 
   -- so the four beside the edge are live
   pub join_live-before_h : Live T (S.prev h)

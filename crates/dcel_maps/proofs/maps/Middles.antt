@@ -52,7 +52,11 @@ module _ (S T : Map) (f w e a b t v n h r k l : ℕ) (s : Sound S) (x : Joined S
   pub joined_ear : S.faces ≤ w → h / 2 < T.edges → w < T.faces → HasEar T k a b h w e r f
   joined_ear new edge_below face_below =
       corner_ear T f w e h b k a r x.first x.last x.last_alone x.turn_spoke (λ same. omega (arith, joined_face, same, new))
-      (x.origin_h ∙ sym x.origin_k) (x.origin_r ∙ sym origin_b) (λ same. x.isolated b x.was.live_z (sym origin_b ∙ sym same ∙ x.origin_k))
+      (record {
+        start = x.origin_h ∙ sym x.origin_k;
+        end = x.origin_r ∙ sym origin_b;
+        apart = λ same. x.isolated b x.was.live_z (sym origin_b ∙ sym same ∙ x.origin_k);
+      })
       edge_below face_below
 
   -- and the parts of e and t are those of a subdivision

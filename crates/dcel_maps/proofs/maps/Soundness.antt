@@ -4,7 +4,7 @@ use Rattle.std.proofs.lemmas.Bool.{false≢true}
 use Rattle.dcel_maps.specs.Maps.{By, Live, Map, NextOrRev, Reaches, ccw}
 use Rattle.dcel_maps.specs.theory.Sound.{Sound}
 use Rattle.dcel_fixed.specs.HalfEdges.{rev}
-use Rattle.dcel_maps.proofs.maps.Halves.{rev_half}
+use Rattle.dcel_maps.proofs.maps.Halves.{rev_half, rev_or_same}
 use Rattle.dcel_maps.proofs.maps.Reaching.{step}
 use Rattle.dcel_maps.proofs.maps.Cycles.{Cycles, same_label_iff}
 
@@ -23,6 +23,16 @@ not_of_dead M h dead x l e = false≢true (sym dead ∙ sym (ap M.edge e) ∙ l)
 -- so it is neither half of one
 pub apart_from : (M : Map) (h : ℕ) → M.edge (h / 2) ≡ false → (x : ℕ) → Live M x → (x ≢ h) × (x ≢ rev h)
 apart_from M h dead x l = (λ e. not_of_dead M h dead x l (ap (λ z. z / 2) e), λ e. not_of_dead M h dead x l (ap (λ z. z / 2) e ∙ rev_half h))
+
+-- where T lacks the edge of h alone: what is live was live, and is no half of the edge, and what was live and is no half of it still is
+module _ (S T : Map) (h : ℕ) (gone : T.edge (h / 2) ≡ false) (other : (u : ℕ) → u ≢ h / 2 → T.edge u ≡ S.edge u) where
+  pub less-was_live : (x : ℕ) → Live T x → Live S x × (x ≢ h) × (x ≢ rev h)
+  less-was_live x live =
+      let apart = apart_from T h gone x live in (sym (other (x / 2) (not_of_dead T h gone x live)) ∙ live, apart.0, apart.1)
+
+  pub less-still_live : (x : ℕ) → Live S x → x ≢ h → x ≢ rev h → Live T x
+  less-still_live x live not_h not_rev =
+      other (x / 2) (λ half. elim (rev_or_same x h half) [ inl is ↦ not_h is | inr is ↦ not_rev is ]) ∙ live
 
 -- turning round a vertex stays live
 pub ccw_live : (M : Map) → Sound M → (x : ℕ) → Live M x → Live M (ccw M x)

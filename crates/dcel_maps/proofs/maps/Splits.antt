@@ -7,11 +7,11 @@ use Rattle.dcel_maps.specs.Maps.{Live, Map}
 use Rattle.dcel_maps.specs.theory.Sound.{Sound, Sphere}
 use Rattle.dcel_maps.proofs.maps.Between.{Between, between_subdivides}
 use Rattle.dcel_maps.proofs.maps.Counts.{edge_past}
-use Rattle.dcel_maps.proofs.maps.Eared.{HasEar, corner_ear, ear_keeps_alone, ear_keeps_triangle, has_ear-keeps, without_ear}
+use Rattle.dcel_maps.proofs.maps.Eared.{HasEar, corner_ear, ear_keeps_both, ear_keeps_triangle, has_ear-keeps, without_ear}
 use Rattle.dcel_maps.proofs.maps.Halves.{turn_even}
 use Rattle.dcel_maps.proofs.maps.Middles.{Joined, joined_at, joined_below, joined_ear, joined_face, joined_leads_on, joined_starts}
 use Rattle.dcel_maps.proofs.maps.Subdivides.{subdivide_keeps}
-use Rattle.dcel_maps.proofs.maps.Triangles.{Alone, IsTriangleOf, Off, by_triangle, off_face}
+use Rattle.dcel_maps.proofs.maps.Triangles.{Alone, IsTriangleOf, Off, by_triangle, off_face, SameLinks}
 use Rattle.dcel_maps.proofs.maps.Updates.{put}
 
 -- the vertex v put into e, with the half edges from n on: (e, a, b) on the face f becomes (e, n + 5, b), and the other half t of e, with
@@ -23,9 +23,7 @@ pub record Split (S T : Map) (f g e a b t c d v n : ℕ) : Type 0 where
   pub second : IsTriangleOf T g c n t
   pub third : IsTriangleOf T S.faces d (n + 2) (n + 1)
   pub third_alone : Alone T S.faces d (n + 2) (n + 1)
-  pub next_other : (h : ℕ) → Live S h → Off h e a b → Off h t c d → T.next h ≡ S.next h
-  pub prev_other : (h : ℕ) → Live S h → Off h e a b → Off h t c d → T.prev h ≡ S.prev h
-  pub face_other : (h : ℕ) → Live S h → Off h e a b → Off h t c d → T.face h ≡ S.face h
+  pub others : (h : ℕ) → Live S h → Off h e a b → Off h t c d → SameLinks S T h
   pub origin_0 : T.origin n ≡ S.origin d
   pub origin_1 : T.origin (n + 1) ≡ v
   pub edge_other : (u : ℕ) → u ≢ S.edges → u ≢ S.edges + 1 → u ≢ S.edges + 2 → T.edge u ≡ S.edge u
@@ -100,21 +98,20 @@ module _ (S T : Map) (f g e a b t c d v n : ℕ) (s : Sound S) (x : Split S T f 
   second_kept =
       ear_keeps_triangle T (n + 3) a b (n + 5) (S.faces + 1) e (n + 4) f last_ear g g_not_f (λ is. omega (arith, is, g_below)) c n t x.second
 
-  third_kept : IsTriangleOf one_ear S.faces d (n + 2) (n + 1)
+  third_kept : IsTriangleOf one_ear S.faces d (n + 2) (n + 1) × Alone one_ear S.faces d (n + 2) (n + 1)
   third_kept =
-      ear_keeps_triangle T (n + 3) a b (n + 5) (S.faces + 1) e (n + 4) f last_ear S.faces (λ is. omega (arith, is, f_below)) (λ is. omega (arith, is))
-      d (n + 2) (n + 1) x.third
-
-  third_kept_alone : Alone one_ear S.faces d (n + 2) (n + 1)
-  third_kept_alone =
-      ear_keeps_alone T (n + 3) a b (n + 5) (S.faces + 1) e (n + 4) f last_ear S.faces (λ is. omega (arith, is, f_below))
-      d (n + 2) (n + 1) x.third_alone
+      ear_keeps_both T (n + 3) a b (n + 5) (S.faces + 1) e (n + 4) f last_ear S.faces (λ is. omega (arith, is, f_below)) (λ is. omega (arith, is))
+      d (n + 2) (n + 1) x.third x.third_alone
 
   first_ear : HasEar one_ear d (n + 2) t n S.faces c (n + 1) g
   first_ear =
-      corner_ear one_ear g S.faces c n t d (n + 2) (n + 1) second_kept third_kept third_kept_alone turn_first
-      (λ same. omega (arith, g_below, same)) (x.origin_0 ∙ sym origin_d) (x.origin_1 ∙ sym x.origin_t)
-      (λ same. x.isolated d x.facing.live_z (sym origin_d ∙ same ∙ x.origin_t))
+      corner_ear one_ear g S.faces c n t d (n + 2) (n + 1) second_kept third_kept.0 third_kept.1 turn_first
+      (λ same. omega (arith, g_below, same))
+      (record {
+        start = x.origin_0 ∙ sym origin_d;
+        end = x.origin_1 ∙ sym x.origin_t;
+        apart = λ same. x.isolated d x.facing.live_z (sym origin_d ∙ same ∙ x.origin_t);
+      })
       (omega (arith, x.edges, x.twice)) (omega arith)
 
   uncut_edge : (u : ℕ) → u ≢ (n + 3) / 2 → uncut.edge u ≡ S.edge u
@@ -141,65 +138,50 @@ module _ (S T : Map) (f g e a b t c d v n : ℕ) (s : Sound S) (x : Split S T f 
   uncut_face : (h : ℕ) → Live S h → uncut.face h ≡ S.face h
   unfolding put
   uncut_face =
-      let was = x.was in
-      let facing = x.facing in
-      let first = x.first in
-      let second = x.second in
+      let known = x in
       let apart = old in
-      let a≢e : a ≢ e = λ is. was.x≢y (sym is) in
+      let a≢e : a ≢ e = λ is. x.was.x≢y (sym is) in
       each_old (λ h. uncut.face h ≡ S.face h)
       (grind (arith, nat_tests)) (grind (arith, nat_tests)) (grind (arith, nat_tests))
       (grind (arith, nat_tests)) (grind (arith, nat_tests)) (grind (arith, nat_tests))
-      (λ h live not_f not_g. let h_in = below h live in let other = x.face_other h live not_f not_g in grind (arith, nat_tests))
+      (λ h live not_f not_g. let h_in = below h live in let other = (x.others h live not_f not_g).face in grind (arith, nat_tests))
 
   is_between : Between S uncut e (n + 3) v
   unfolding put
   is_between =
-      let twice = x.twice in
-      let was = x.was in
-      let facing = x.facing in
-      let first = x.first in
-      let second = x.second in
-      let third = x.third in
-      let last = x.last in
-      let turn = x.turn in
-      let turned = x.turn_part in
+      let known = x in
       let first_half : n / 2 ≡ S.edges = omega arith in
       let half : (n + 3) / 2 ≡ S.edges + 1 = omega arith in
       let last_half : (n + 5) / 2 ≡ S.edges + 2 = omega arith in
       let apart = old in
       record {
-        at = joined_at S T f (S.faces + 1) e a b t v n (n + 5) (n + 4) (n + 3) (n + 2) s x.joined (omega arith);
-        grows = record {
-          edge_here = grind (arith, nat_tests);
-          edge_other = uncut_edge;
-          edges = omega (arith, x.edges);
-          edge_below = omega (arith, x.edges);
-          vertices = x.vertices;
+        middle = record {
+          at = joined_at S T f (S.faces + 1) e a b t v n (n + 5) (n + 4) (n + 3) (n + 2) s x.joined (omega arith);
+          grows = record { edge_here = grind (arith, nat_tests); edge_other = uncut_edge; edges = omega (arith, x.edges); edge_below = omega (arith, x.edges); vertices = x.vertices };
+          next_h = grind (arith, nat_tests);
+          prev_k = grind (arith, nat_tests);
+          next_rev = grind (arith, nat_tests);
+          prev_rev = grind (arith, nat_tests);
+          faces = refl;
         };
         leads_on = joined_leads_on S T f (S.faces + 1) e a b t v n (n + 5) (n + 4) (n + 3) (n + 2) s x.joined;
-        next_h = grind (arith, nat_tests);
         next_k = grind (arith, nat_tests);
         next_before = grind (arith, nat_tests);
-        next_l = grind (arith, nat_tests);
         next_other = each_old (λ h. h ≢ e → h ≢ S.prev (rev e) → uncut.next h ≡ S.next h)
             (λ not_e not_d. absurd (not_e refl)) (λ not_e not_d. grind (arith, nat_tests)) (λ not_e not_d. grind (arith, nat_tests))
             (λ not_e not_d. grind (arith, nat_tests)) (λ not_e not_d. grind (arith, nat_tests))
-            (λ not_e not_d. absurd (not_d (sym (ap S.prev turn ∙ facing.prev_x))))
-            (λ h live not_f not_g not_e not_d. let h_in = below h live in let other = x.next_other h live not_f not_g in grind (arith, nat_tests));
-        prev_k = grind (arith, nat_tests);
+            (λ not_e not_d. absurd (not_d (sym (ap S.prev x.turn ∙ x.facing.prev_x))))
+            (λ h live not_f not_g not_e not_d. let h_in = below h live in let other = (x.others h live not_f not_g).next in grind (arith, nat_tests));
         prev_after = grind (arith, nat_tests);
         prev_l = grind (arith, nat_tests);
-        prev_rev = grind (arith, nat_tests);
         prev_other = each_old (λ h. h ≢ rev e → h ≢ S.next e → uncut.prev h ≡ S.prev h)
-            (λ not_t not_a. grind (arith, nat_tests)) (λ not_t not_a. absurd (not_a (sym was.next_x))) (λ not_t not_a. grind (arith, nat_tests))
-            (λ not_t not_a. absurd (not_t (sym turn))) (λ not_t not_a. grind (arith, nat_tests)) (λ not_t not_a. grind (arith, nat_tests))
-            (λ h live not_f not_g not_t not_a. let h_in = below h live in let other = x.prev_other h live not_f not_g in grind (arith, nat_tests));
+            (λ not_t not_a. grind (arith, nat_tests)) (λ not_t not_a. absurd (not_a (sym x.was.next_x))) (λ not_t not_a. grind (arith, nat_tests))
+            (λ not_t not_a. absurd (not_t (sym x.turn))) (λ not_t not_a. grind (arith, nat_tests)) (λ not_t not_a. grind (arith, nat_tests))
+            (λ h live not_f not_g not_t not_a. let h_in = below h live in let other = (x.others h live not_f not_g).prev in grind (arith, nat_tests));
         starts = joined_starts S T f (S.faces + 1) e a b t v n (n + 5) (n + 4) (n + 3) (n + 2) s x.joined;
         face_k = grind (arith, nat_tests);
         face_l = grind (arith, nat_tests);
         face_other = uncut_face;
-        faces = refl;
       }
 
   -- an edge that is split keeps a map sound and a sphere

@@ -6,13 +6,14 @@ use Rattle.dcel_maps.specs.Maps.{By, Live, Map, ccw}
 use Rattle.dcel_maps.specs.theory.Sound.{Sound, Sphere}
 use Rattle.dcel_maps.specs.theory.Standing.{Follows}
 use Rattle.dcel_maps.proofs.maps.Edits.{Subdivide, first_part, last_part}
-use Rattle.dcel_maps.proofs.maps.Halves.{rev-rev, rev_differs, rev_or_same}
+use Rattle.dcel_maps.proofs.maps.Halves.{rev-rev, rev_differs}
 use Rattle.dcel_maps.proofs.maps.Reaching.{reaches_stays}
-use Rattle.dcel_maps.proofs.maps.Soundness.{apart_from, face_cycles, next_differs, not_of_dead, rev_live, same_origin_reaches}
+use Rattle.dcel_maps.proofs.maps.Soundness.{face_cycles, next_differs, rev_live, same_origin_reaches, less-was_live, less-still_live}
 use Rattle.dcel_maps.proofs.maps.Subdivides.{first-other, first-rev, last-h, last-other}
 use Rattle.dcel_maps.proofs.maps.Undone.{stand_in, stand_in-h, stand_in-rev}
 use Rattle.dcel_maps.proofs.maps.Unsubdivides.{Unsubdivide, unsubdivide_keeps}
 use Rattle.dcel_maps.proofs.maps.Updates.{put, put_other, put_same}
+use Rattle.dcel_maps.proofs.maps.Growth.{grows_back}
 
 -- the half edge of which another one is a part: k is the last part of h, and its other half the first part of that of h
 abbrev pub whole : ℕ → ℕ → ℕ → ℕ
@@ -97,13 +98,10 @@ module _ (T : Map) (h k : ℕ) (t : Sound T) (e : StraightensAt T h k) where
 
   -- what is left was live, and is neither half of the edge that goes
   pub was_live : (x : ℕ) → Live S x → Live T x × (x ≢ k) × (x ≢ rev k)
-  was_live x live =
-      let apart = apart_from S k left.edge_here x live in
-      (sym (left.edge_other (x / 2) (not_of_dead S k left.edge_here x live)) ∙ live, apart.0, apart.1)
+  was_live = less-was_live T S k left.edge_here left.edge_other
 
   pub still_live : (x : ℕ) → Live T x → x ≢ k → x ≢ rev k → Live S x
-  still_live x live not_k not_rev =
-      left.edge_other (x / 2) (λ half. elim (rev_or_same x k half) [ inl is ↦ not_k is | inr is ↦ not_rev is ]) ∙ live
+  still_live = less-still_live T S k left.edge_here left.edge_other
 
   -- the first part of the half edge of a part that is neither k nor rev h, and the last part of one that is neither h nor rev k
   first-whole : (z : ℕ) → z ≢ k → z ≢ rev h → first (whole h k z) ≡ z
@@ -186,32 +184,30 @@ module _ (T : Map) (h k : ℕ) (t : Sound T) (e : StraightensAt T h k) where
 
   subdivides : Subdivide S T h k (T.origin k)
   subdivides = record {
-    at = record { lives = live_h; fresh = left.edge_here; isolated = middle_bare; vertex_room = omega (arith, t.below_vertices k live_k, left.vertices) };
-    grows = record {
-      edge_here = live_k;
-      edge_other = λ u other. sym (left.edge_other u other);
-      edges = omega (arith, left.edges);
-      edge_below = t.below_edges k live_k;
-      vertices = sym left.vertices;
+    middle = record {
+      at = record { lives = live_h; fresh = left.edge_here; isolated = middle_bare; vertex_room = omega (arith, t.below_vertices k live_k, left.vertices) };
+      grows = grows_back S T k t live_k left.edge_other left.edges left.vertices;
+      next_h = e.next_h;
+      prev_k = prev_k;
+      next_rev = e.next_rev;
+      prev_rev = prev_rev;
+      faces = sym left.faces;
     };
-    next_last = next_last;
-    prev_first = prev_first;
-    next_h = e.next_h;
-    prev_k = prev_k;
-    next_rev = e.next_rev;
-    prev_rev = prev_rev;
-    origin_first = λ x live. sym (left.origin x);
+    parts = record {
+      next_last = next_last;
+      prev_first = prev_first;
+      origin_first = λ x live. sym (left.origin x);
+      face_first = λ x live. elim (cases_eq x (rev h)) [
+        | inl is ↦ ap (λ z. T.face (first z)) is ∙ ap T.face (first-rev h k) ∙ face_j ∙ sym (left.face x ∙ ap T.face is)
+        | inr other ↦ ap T.face (first-other h k x other) ∙ sym (left.face x)
+      ];
+      face_last = λ x live. elim (cases_eq x h) [
+        | inl is ↦ ap (λ z. T.face (last z)) is ∙ ap T.face (last-h h k) ∙ face_k ∙ sym (left.face x ∙ ap T.face is)
+        | inr other ↦ ap T.face (last-other h k x other) ∙ sym (left.face x)
+      ];
+    };
     origin_k = refl;
     origin_rev = sym (t.origin-next h e.lives) ∙ ap T.origin e.next_h;
-    face_first = λ x live. elim (cases_eq x (rev h)) [
-      | inl is ↦ ap (λ z. T.face (first z)) is ∙ ap T.face (first-rev h k) ∙ face_j ∙ sym (left.face x ∙ ap T.face is)
-      | inr other ↦ ap T.face (first-other h k x other) ∙ sym (left.face x)
-    ];
-    face_last = λ x live. elim (cases_eq x h) [
-      | inl is ↦ ap (λ z. T.face (last z)) is ∙ ap T.face (last-h h k) ∙ face_k ∙ sym (left.face x ∙ ap T.face is)
-      | inr other ↦ ap T.face (last-other h k x other) ∙ sym (left.face x)
-    ];
-    faces = sym left.faces;
   }
 
   whole_lives : (p : ℕ) → p ≢ rev k → Live T p → Live S (whole h k p) × (S.face (whole h k p) ≡ T.face p)

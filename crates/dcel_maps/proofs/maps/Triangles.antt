@@ -8,20 +8,21 @@ use Rattle.dcel_maps.proofs.maps.Halves.{rev-rev, rev_differs}
 use Rattle.dcel_maps.proofs.maps.Reaching.{reaches_stays}
 use Rattle.dcel_maps.proofs.maps.Soundness.{face_cycles, next_differs, rev_live}
 
+-- h is live on the face f, between `before` and `after`
+pub record IsLinked (M : Map) (f before h after : ℕ) : Type 0 where
+  pub live : Live M h
+  pub next : M.next h ≡ after
+  pub prev : M.prev h ≡ before
+  pub face : M.face h ≡ f
+
 -- the face f is the triangle (x, y, z)
 pub record IsTriangleOf (M : Map) (f x y z : ℕ) : Type 0 where
-  pub live_x : Live M x
-  pub live_y : Live M y
-  pub live_z : Live M z
-  pub next_x : M.next x ≡ y
-  pub next_y : M.next y ≡ z
-  pub next_z : M.next z ≡ x
-  pub prev_x : M.prev x ≡ z
-  pub prev_y : M.prev y ≡ x
-  pub prev_z : M.prev z ≡ y
-  pub face_x : M.face x ≡ f
-  pub face_y : M.face y ≡ f
-  pub face_z : M.face z ≡ f
+  pub at_x : IsLinked M f z x y
+  pub open at_x use {live as live_x, next as next_x, prev as prev_x, face as face_x}
+  pub at_y : IsLinked M f x y z
+  pub open at_y use {live as live_y, next as next_y, prev as prev_y, face as face_y}
+  pub at_z : IsLinked M f y z x
+  pub open at_z use {live as live_z, next as next_z, prev as prev_z, face as face_z}
   pub x≢y : x ≢ y
   pub y≢z : y ≢ z
   pub x≢z : x ≢ z
@@ -35,18 +36,9 @@ triangle_from M s f x y z live first second third face =
     let along = (face_cycles M s).along in
     let face_y : M.face y ≡ f = ap M.face (sym first) ∙ along x live ∙ face in
     record {
-      live_x = live;
-      live_y = live_y;
-      live_z = live_z;
-      next_x = first;
-      next_y = second;
-      next_z = third;
-      prev_x = ap M.prev (sym third) ∙ s.prev-next z live_z;
-      prev_y = ap M.prev (sym first) ∙ s.prev-next x live;
-      prev_z = ap M.prev (sym second) ∙ s.prev-next y live_y;
-      face_x = face;
-      face_y = face_y;
-      face_z = ap M.face (sym second) ∙ along y live_y ∙ face_y;
+      at_x = record { live = live; next = first; prev = ap M.prev (sym third) ∙ s.prev-next z live_z; face = face };
+      at_y = record { live = live_y; next = second; prev = ap M.prev (sym first) ∙ s.prev-next x live; face = face_y };
+      at_z = record { live = live_z; next = third; prev = ap M.prev (sym second) ∙ s.prev-next y live_y; face = ap M.face (sym second) ∙ along y live_y ∙ face_y };
       x≢y = λ same. next_differs M s x live (first ∙ sym same);
       y≢z = λ same. next_differs M s y live_y (second ∙ sym same);
       x≢z = λ same. next_differs M s z live_z (third ∙ same);
@@ -55,18 +47,9 @@ triangle_from M s f x y z live first second third face =
 -- a triangle is one from its last half edge on
 pub triangle_turned : (M : Map) (f x y z : ℕ) → IsTriangleOf M f x y z → IsTriangleOf M f z x y
 triangle_turned M f x y z a = record {
-  live_x = a.live_z;
-  live_y = a.live_x;
-  live_z = a.live_y;
-  next_x = a.next_z;
-  next_y = a.next_x;
-  next_z = a.next_y;
-  prev_x = a.prev_z;
-  prev_y = a.prev_x;
-  prev_z = a.prev_y;
-  face_x = a.face_z;
-  face_y = a.face_x;
-  face_z = a.face_y;
+  at_x = a.at_z;
+  at_y = a.at_x;
+  at_z = a.at_y;
   x≢y = λ is. a.x≢z (sym is);
   y≢z = a.x≢y;
   x≢z = λ is. a.y≢z (sym is);
@@ -124,6 +107,17 @@ pub off_face : (M : Map) (f x y z : ℕ) → IsTriangleOf M f x y z → (h : ℕ
 off_face M f x y z a h away =
     (λ is. away (ap M.face is ∙ a.face_x), λ is. away (ap M.face is ∙ a.face_y), λ is. away (ap M.face is ∙ a.face_z))
 
+-- so the half edges (x, y, z) of one triangle are off another one
+pub record IsApart (e a b x y z : ℕ) : Type 0 where
+  pub x_off : Off x e a b
+  pub y_off : Off y e a b
+  pub z_off : Off z e a b
+
+pub triangles_apart : (M : Map) (f e a b g x y z : ℕ) → IsTriangleOf M f e a b → IsTriangleOf M g x y z → f ≢ g → IsApart e a b x y z
+triangles_apart M f e a b g x y z near far differ =
+    let off : (h : ℕ) → M.face h ≡ g → Off h e a b = λ h at. off_face M f e a b near h (λ is. differ (sym is ∙ at)) in
+    record { x_off = off x far.face_x; y_off = off y far.face_y; z_off = off z far.face_z }
+
 -- the other half of one of its half edges lies on another face: else a half edge would come back to where it starts
 pub triangle_faces_another : (M : Map) → Sound M → (f x y z : ℕ) → IsTriangleOf M f x y z → M.face (rev x) ≢ f
 triangle_faces_another M s f x y z a at =
@@ -150,21 +144,16 @@ pub record SameLinks (S T : Map) (h : ℕ) : Type 0 where
   pub face : T.face h ≡ S.face h
 
 -- a triangle whose half edges a map links in the same way is one of it
+linked_kept : (S T : Map) (f before h after : ℕ) → IsLinked S f before h after → Live T h → SameLinks S T h → IsLinked T f before h after
+linked_kept S T f before h after was live same =
+    record { live = live; next = same.next ∙ was.next; prev = same.prev ∙ was.prev; face = same.face ∙ was.face }
+
 pub triangle_kept : (S T : Map) (f x y z : ℕ) → IsTriangleOf S f x y z → Live T x → Live T y → Live T z
     → SameLinks S T x → SameLinks S T y → SameLinks S T z → IsTriangleOf T f x y z
-triangle_kept S T f x y z was live_x live_y live_z at_x at_y at_z = record {
-  live_x = live_x;
-  live_y = live_y;
-  live_z = live_z;
-  next_x = at_x.next ∙ was.next_x;
-  next_y = at_y.next ∙ was.next_y;
-  next_z = at_z.next ∙ was.next_z;
-  prev_x = at_x.prev ∙ was.prev_x;
-  prev_y = at_y.prev ∙ was.prev_y;
-  prev_z = at_z.prev ∙ was.prev_z;
-  face_x = at_x.face ∙ was.face_x;
-  face_y = at_y.face ∙ was.face_y;
-  face_z = at_z.face ∙ was.face_z;
+triangle_kept S T f x y z was live_x live_y live_z same_x same_y same_z = record {
+  at_x = linked_kept S T f z x y was.at_x live_x same_x;
+  at_y = linked_kept S T f x y z was.at_y live_y same_y;
+  at_z = linked_kept S T f y z x was.at_z live_z same_z;
   x≢y = was.x≢y;
   y≢z = was.y≢z;
   x≢z = was.x≢z;

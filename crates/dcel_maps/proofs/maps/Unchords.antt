@@ -9,11 +9,11 @@ use Rattle.dcel_maps.proofs.maps.Chords.{chord_euler, chord_grown}
 use Rattle.dcel_maps.proofs.maps.Counts.{same_tests}
 use Rattle.dcel_maps.proofs.maps.Cycles.{Cycles, undoes}
 use Rattle.dcel_maps.proofs.maps.Edits.{Chord}
-use Rattle.dcel_maps.proofs.maps.Growth.{Grown, each_live, not_h, not_rev, sphere_less, still_live}
+use Rattle.dcel_maps.proofs.maps.Growth.{Grown, each_live, sphere_less, stay_on}
 use Rattle.dcel_maps.proofs.maps.Halves.{rev-rev}
 use Rattle.dcel_maps.proofs.maps.Reaching.{no_step, step, then}
 use Rattle.dcel_maps.proofs.maps.Soundness.{face_cycles, rev_live, vertex_cycles}
-use Rattle.dcel_maps.proofs.maps.Undone.{connected_less, next_reaches, old_live, retraced, shrunk, stand_in, stand_in-h, stand_in-old, stand_in-rev, stand_in-turns, undrawn_sound}
+use Rattle.dcel_maps.proofs.maps.Undone.{connected_less, next_reaches, old_live, retraced, shrunk, stand_in, stand_in-h, stand_in-old, stand_in-rev, stand_in-turns, undrawn_sound, standing_in}
 
 -- T has a chord more than S; and what that leaves open of S: its two links over the chord, and its bounds
 pub record Unchord (S T : Map) (p q h g : ℕ) (arc : ℕ → Bool) : Type 0 where
@@ -43,14 +43,7 @@ module _ (S T : Map) (p q h g : ℕ) (arc : ℕ → Bool) (e : Unchord S T p q h
   grown : Grown S T h
   grown = chord_grown S T p q h g arc e.chord
 
-  old : (x : ℕ) → Live S x → Live T x
-  old = still_live S T h grown
-
-  isnt_h : (x : ℕ) → Live S x → x ≢ h
-  isnt_h = not_h S T h grown
-
-  isnt_rev : (x : ℕ) → Live S x → x ≢ rev h
-  isnt_rev = not_rev S T h grown
+  open (stay_on S T h grown) use {still as old, apart as isnt_h, apart_rev as isnt_rev}
 
   live_rev : Live T (rev h)
   live_rev = rev_live T h e.edge_here
@@ -158,14 +151,7 @@ module _ (S T : Map) (p q h g : ℕ) (arc : ℕ → Bool) (e : Unchord S T p q h
   abbrev beside : ℕ → ℕ
   beside = stand_in h p q
 
-  beside_h : beside h ≡ p
-  beside_h = stand_in-h h p q
-
-  beside_rev : beside (rev h) ≡ q
-  beside_rev = stand_in-rev h p q
-
-  beside_left : (x : ℕ) → Live S x → beside x ≡ x
-  beside_left = stand_in-old S T h grown p q
+  open (standing_in S T h grown p q) use {for_h as beside_h, for_rev as beside_rev, for_old as beside_left}
 
   nexts : (y : ℕ) → Live T y → Reaches (By S.next) (beside y) (beside (T.next y))
   nexts =

@@ -77,6 +77,15 @@ module _ (S T : Map) (h : ℕ) (g : Grown S T h) where
   stand_in-old p q x l =
       put_other (put (λ x. x) h p) (rev h) q x (not_rev S T h g x l) ∙ put_other (λ x. x) h p x (not_h S T h g x l)
 
+  -- p and q stand for the halves of the new edge, and each other half edge for itself
+  pub record StandIn (p q : ℕ) : Type 0 where
+    pub for_h : stand_in h p q h ≡ p
+    pub for_rev : stand_in h p q (rev h) ≡ q
+    pub for_old : (x : ℕ) → Live S x → stand_in h p q x ≡ x
+
+  pub standing_in : (p q : ℕ) → StandIn p q
+  standing_in p q = record { for_h = stand_in-h h p q; for_rev = stand_in-rev h p q; for_old = stand_in-old p q }
+
   -- where there are ways between p and q, turning round is a way in the smaller map too
   pub stand_in-turns : (p q : ℕ) → Reaches (NextOrRev S) p q → Reaches (NextOrRev S) q p
       → (y : ℕ) → Live T y → Reaches (NextOrRev S) (stand_in h p q y) (stand_in h p q (rev y))

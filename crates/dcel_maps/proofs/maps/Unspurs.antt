@@ -7,12 +7,12 @@ use Rattle.dcel_maps.specs.theory.Sound.{Sound, Sphere}
 use Rattle.dcel_fixed.specs.HalfEdges.{rev}
 use Rattle.dcel_maps.proofs.maps.Cycles.{Cycles, undoes}
 use Rattle.dcel_maps.proofs.maps.Edits.{Spur}
-use Rattle.dcel_maps.proofs.maps.Growth.{Grown, each_live, not_h, not_rev, sphere_less, still_live}
+use Rattle.dcel_maps.proofs.maps.Growth.{Grown, each_live, not_h, not_rev, sphere_less, stay_on}
 use Rattle.dcel_maps.proofs.maps.Halves.{rev-rev, rev_differs}
 use Rattle.dcel_maps.proofs.maps.Reaching.{no_step, step}
 use Rattle.dcel_maps.proofs.maps.Soundness.{face_cycles, rev_live, vertex_cycles}
 use Rattle.dcel_maps.proofs.maps.Spurs.{spur_euler, spur_grown}
-use Rattle.dcel_maps.proofs.maps.Undone.{connected_less, next_reaches, old_live, shrunk, stand_in, stand_in-h, stand_in-old, stand_in-rev, stand_in-turns, undrawn_sound}
+use Rattle.dcel_maps.proofs.maps.Undone.{connected_less, next_reaches, old_live, shrunk, stand_in, stand_in-turns, undrawn_sound, standing_in}
 
 -- T has a spur more than S; and what that leaves open of S: what comes before the half edge after the spur, and its bound
 pub record Unspur (S T : Map) (a h v : ℕ) : Type 0 where
@@ -28,14 +28,7 @@ module _ (S T : Map) (a h v : ℕ) (e : Unspur S T a h v) (t : Sound T) where
   grown : Grown S T h
   grown = spur_grown S T a h v e.spur
 
-  still : (x : ℕ) → Live S x → Live T x
-  still = still_live S T h grown
-
-  apart : (x : ℕ) → Live S x → x ≢ h
-  apart = not_h S T h grown
-
-  apart_rev : (x : ℕ) → Live S x → x ≢ rev h
-  apart_rev = not_rev S T h grown
+  open (stay_on S T h grown) use {still, apart, apart_rev}
 
   -- a live half edge is an old one by what comes before it, or after it
   old_after : (x : ℕ) → Live T x → T.prev x ≢ a → T.prev x ≢ h → Live S x
@@ -79,14 +72,7 @@ module _ (S T : Map) (a h v : ℕ) (e : Unspur S T a h v) (t : Sound T) where
   abbrev back : ℕ → ℕ
   back = stand_in h b b
 
-  back_h : back h ≡ b
-  back_h = stand_in-h h b b
-
-  back_rev : back (rev h) ≡ b
-  back_rev = stand_in-rev h b b
-
-  back_old : (x : ℕ) → Live S x → back x ≡ x
-  back_old = stand_in-old S T h grown b b
+  open (standing_in S T h grown b b) use {for_h as back_h, for_rev as back_rev, for_old as back_old}
 
   -- each step round a face of the larger map is one of the smaller map, or none
   nexts : (y : ℕ) → Live T y → Reaches (By S.next) (back y) (back (T.next y))

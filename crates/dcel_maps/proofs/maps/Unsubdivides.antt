@@ -28,14 +28,14 @@ module _ (S T : Map) (h k v : ℕ) (e : Unsubdivide S T h k v) (t : Sound T) whe
   grown : Grown S T k
   grown = subdivide_grown S T h k v e.subdivide
 
+  live_rev : Live S (rev h)
+  live_rev = rev_live S h e.lives
+
   abbrev first : ℕ → ℕ
   first = first_part h k
 
   abbrev last : ℕ → ℕ
   last = last_part h k
-
-  live_rev : Live S (rev h)
-  live_rev = rev_live S h e.lives
 
   first_live : (x : ℕ) → Live S x → Live T (first x)
   first_live = first-live S T h k v e.subdivide

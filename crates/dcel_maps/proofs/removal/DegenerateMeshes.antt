@@ -20,7 +20,7 @@ use Rattle.dcel_maps.proofs.removal.PathMiddles.{middle_left, middle_stands_in}
 use Rattle.dcel_maps.proofs.removal.Paths.{out_b}
 use Rattle.dcel_maps.proofs.renumbering.Edges.{IsLastEdgeOut, edge-renamed}
 use Rattle.dcel_maps.proofs.renumbering.Meshes.{edge_out-mesh, vertex_out-mesh}
-use Rattle.dcel_maps.proofs.renumbering.Records.{without_edge-face, without_edge-other, without_edge-same, without_edge-vertex}
+use Rattle.dcel_maps.proofs.renumbering.Records.{without_edge-loses}
 use Rattle.dcel_maps.proofs.renumbering.Vertices.{IsOnlyOut}
 use Rattle.dcel_maps.proofs.shapes.Maps.{map-sound}
 
@@ -43,7 +43,7 @@ module _ {V DE UE F : Type 0} (m : Mesh V DE UE F) (v : ℕ) (mesh : IsMesh m) (
   u = going m v / 2
 
   -- one vertex alone
-  alone : m.shape.vertices ≡ 1 → IsOnlyOut m.shape v
+  pub alone : m.shape.vertices ≡ 1 → IsOnlyOut m.shape v
   alone one = record {
     below = can.within;
     bare = λ h live at.
@@ -206,8 +206,8 @@ module _ {V DE UE F : Type 0} (m : Mesh V DE UE F) (v : ℕ) (mesh : IsMesh m) (
 
       none_given : (w : ℕ) → gives_up_edge without.shape.removal w ≡ false
       none_given w = elim (cases_eq w u) [
-        | inl same ↦ ap (gives_up_edge without.shape.removal) same ∙ without_edge-same t.removal u
-        | inr other ↦ without_edge-other t.removal u w other ∙ gives_one_edge u v w ∙ ne_eqb u w (λ i. other (sym i))
+        | inl same ↦ ap (gives_up_edge without.shape.removal) same ∙ (without_edge-loses t.removal u).gone
+        | inr other ↦ (without_edge-loses t.removal u).rest w other ∙ gives_one_edge u v w ∙ ne_eqb u w (λ i. other (sym i))
       ]
 
       only_vertex : IsOnlyOut without.shape v
@@ -220,9 +220,9 @@ module _ {V DE UE F : Type 0} (m : Mesh V DE UE F) (v : ℕ) (mesh : IsMesh m) (
                 let was = renamed.comes h live in
                 left_none_at m.shape v a b can.closed path.one_face M left (back h) was
                 (sym (renamed.origin (back h) was) ∙ ap (origin_of without.shape) (renamed.back h live) ∙ at);
-            no_vertex = λ w given. given_vertex w (sym (without_edge-vertex t.removal u w) ∙ given);
+            no_vertex = λ w given. given_vertex w (sym ((without_edge-loses t.removal u).vertices w) ∙ given);
             no_edge = none_given;
-            no_face = λ g. without_edge-face t.removal u g ∙ gives_no_face u v g;
+            no_face = λ g. (without_edge-loses t.removal u).others g ∙ gives_no_face u v g;
             origins = without-mesh.sized.origins;
           }
 

@@ -1,7 +1,7 @@
 -- The shape with its hole filled is sound and a sphere.
 use Rattle.std.proofs.Common.{◌≡◌, ◌≢◌, ◌⊎◌, ◌↔◌, inl, inr, ◌+◌, ◌-◌, ◌*◌, ◌/◌, ◌<◌, ◌≤◌, ℕ, suc, true, false, List, [], ◌∷◌, length, reverse, slice_index, sym, refl, ap, ◌∙◌, subst, arith}
 use Rattle.std.proofs.lemmas.Bool.{both_ways, cases_Bool, cases_eq, cases_lt, false_from_ne_true, ne_eqb}
-use Rattle.std.proofs.lemmas.List.{get_or-append-add, get_or_append_left, get_or_past, length-append}
+use Rattle.std.proofs.lemmas.List.{get_or-append-add, get_or_append_left, length-append}
 use Rattle.dcel_fixed.specs.HalfEdges.{rev}
 use Rattle.dcel_maps.specs.Borders.{GivesUpRound, IsBorderLoop, StartsAlone}
 use Rattle.dcel_maps.specs.Hiding.{kept_words}
@@ -12,7 +12,7 @@ use Rattle.dcel_maps.specs.theory.Standing.{Stands}
 use Rattle.dcel_maps.specs.Walking.{IsOutEdge}
 use Rattle.dcel_maps.specs.Words.{count_of, word_of}
 use Rattle.dcel_maps.specs.edits.Fill.{ear_origins, ears, ring_filled}
-use Rattle.dcel_maps.proofs.Liveness.{closed-live, gives_up_face-closed, is_live-cases, is_live-from, is_live-parts}
+use Rattle.dcel_maps.proofs.Liveness.{closed-live, gives_up_face-closed, is_live-from, is_live-parts, bare_word}
 use Rattle.dcel_maps.proofs.Shown.{length-shown, slice_index-shown_live}
 use Rattle.dcel_maps.proofs.maps.Agreement.{Agrees, agrees-sound, agrees-sphere}
 use Rattle.dcel_maps.proofs.maps.Counts.{same_tests}
@@ -261,10 +261,7 @@ module _ {V DE UE F : Type 0} (m : Mesh V DE UE F) (v p q r : ℕ) (rest border 
   in_map x live = sym (edge_test (x / 2)) ∙ live
 
   bare : (f : ℕ) → face_is_live t f ≡ false → word_of t.words f ≡ []
-  bare f dead = elim (is_live-cases (gives_up_face removal) (face_count t) f dead) [
-    | inl past ↦ get_or_past t.words f [] past
-    | inr given ↦ word-given f given
-  ]
+  bare = bare_word t word-given
 
   inner : (f : ℕ) → 0 < f → face_is_live t f ≡ true → word_of t.words f ≢ []
   inner f inside live empty =

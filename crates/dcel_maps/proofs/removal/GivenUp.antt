@@ -1,5 +1,5 @@
 -- Records that give up a vertex with its edges and the faces round it.
-use Rattle.std.proofs.Common.{◌≡◌, ℕ, ◌/◌, ◌<◌, ◌≤◌, ◌==◌, true, List, sym, refl, ◌∙◌, subst, arith}
+use Rattle.std.proofs.Common.{◌≡◌, ◌↔◌, ℕ, ◌/◌, ◌<◌, ◌≤◌, ◌==◌, true, List, sym, refl, ◌∙◌, subst, arith}
 use Rattle.dcel_maps.specs.Borders.{GivesUpRound, IsEdgeAt, IsFaceAt}
 use Rattle.dcel_maps.specs.Removals.{gives_up_edge, gives_up_face, gives_up_vertex, opened}
 use Rattle.dcel_maps.specs.Shapes.{IsMesh, Mesh, Shape, face_of, vertex_is_live}
@@ -10,6 +10,14 @@ use Rattle.dcel_maps.proofs.Liveness.{vertex_live-parts}
 use Rattle.dcel_maps.proofs.walks.Turning.{mesh-out_edges}
 use Rattle.dcel_maps.proofs.words.Ascending.{any-ascending, goes_up-ascending}
 use Rattle.dcel_maps.proofs.words.Mapped.{any_stands, count-mapped, mapped_from, stands_any}
+
+-- the faces of an opened record are those of the list
+pub opened_faces : (edges faces : List ℕ) (v f : ℕ) → (gives_up_face (opened edges faces v) f ≡ true) ↔ (0 < count_of f faces)
+unfolding gives_up_face
+opened_faces edges faces v f = (
+  λ given. any_stands f faces (sym (any-ascending (λ g. g == f) faces) ∙ given),
+  λ found. any-ascending (λ g. g == f) faces ∙ stands_any f faces found,
+)
 
 -- a list has the numbers with a property, and no others
 pub record Lists (P : ℕ → Type 0) (w : List ℕ) : Type 0 where
@@ -29,8 +37,8 @@ opened-round s v edges faces edges_are faces_are edges_once faces_once = record 
     λ at. any-ascending (λ e. e == u) edges ∙ stands_any u edges (edges_are.each u at),
   );
   faces = λ f. (
-    λ given. faces_are.no_other f (any_stands f faces (sym (any-ascending (λ g. g == f) faces) ∙ given)),
-    λ at. any-ascending (λ g. g == f) faces ∙ stands_any f faces (faces_are.each f at),
+    λ given. faces_are.no_other f ((opened_faces edges faces v f).0 given),
+    λ at. (opened_faces edges faces v f).1 (faces_are.each f at),
   );
   in_order = (goes_up-ascending edges edges_once, goes_up-ascending faces faces_once);
 }

@@ -22,10 +22,10 @@ use Rattle.dcel_maps.proofs.words.Reading.{live_in, stands_in_face}
 use Rattle.dcel_maps.proofs.words.Turns.{count-turn, from_least-turn}
 
 -- what is counted where an item is taken out of a list
-count-out_same : (x : ℕ) (w : List ℕ) → count_of x (become x [] w) ≡ 0
+pub count-out_same : (x : ℕ) (w : List ℕ) → count_of x (become x [] w) ≡ 0
 count-out_same x w = omega (arith, count-replaced x x [] w, ap (λ k. k * count_of x w) (count-same x []))
 
-count-out_other : (h x : ℕ) (w : List ℕ) → h ≢ x → count_of h (become x [] w) ≡ count_of h w
+pub count-out_other : (h x : ℕ) (w : List ℕ) → h ≢ x → count_of h (become x [] w) ≡ count_of h w
 count-out_other h x w other = omega (arith, count-replaced h x [] w, ap (λ k. k * count_of x w) (count-other h x [] other))
 
 module _ (s : Shape) (b : ℕ) where

@@ -3,7 +3,7 @@
 use Rattle.std.proofs.Common.{◌≡◌, ◌≢◌, ◌↔◌, inl, inr, ℕ, ◌/◌, ◌<◌, ◌≤◌, List, [], ◌∷◌, ◌++◌, length, map, reverse, refl, sym, ap, ◌∙◌, subst, arith}
 use Rattle.std.proofs.lemmas.Bool.{cases_eq, cases_lt}
 use Rattle.std.proofs.lemmas.List.{length-append, length-map, length-reverse, nil_from_length, reverse-append}
-use Rattle.dcel_maps.specs.Borders.{IsBorderLoop, IsEdgeAt, IsFaceAt, IsRing, center_of}
+use Rattle.dcel_maps.specs.Borders.{GivesUpRound, IsBorderLoop, IsEdgeAt, IsFaceAt, IsRing, center_of}
 use Rattle.dcel_maps.specs.Shapes.{IsLive, IsMesh, IsSound, Mesh, Shape, face_of, map_of, next_of, origin_of}
 use Rattle.dcel_maps.specs.Walking.{IsOutEdge, ListsOnce, ccw_of, in_mesh, out_edges_of, walk_of}
 use Rattle.dcel_maps.specs.Words.{count_of}
@@ -12,7 +12,7 @@ use Rattle.dcel_maps.specs.theory.Sectors.{FindsEach}
 use Rattle.dcel_maps.proofs.Liveness.{vertex_live-parts}
 use Rattle.dcel_maps.proofs.maps.Halves.{rev_or_same}
 use Rattle.dcel_maps.proofs.removal.Corners.{same_corner}
-use Rattle.dcel_maps.proofs.removal.GivenUp.{Lists, edges_at-lists, faces_at-lists}
+use Rattle.dcel_maps.proofs.removal.GivenUp.{Lists, at-round, edges_at-lists, faces_at-lists, once_lists, opened-round}
 use Rattle.dcel_maps.proofs.shapes.Maps.{map-sound}
 use Rattle.dcel_maps.proofs.walks.Items.{first_item, none_left}
 use Rattle.dcel_maps.proofs.walks.Links.{links_lawful, links_stand}
@@ -21,7 +21,7 @@ use Rattle.dcel_maps.proofs.words.Ascending.{ascending-ascends, ascends-one, cou
 use Rattle.dcel_maps.proofs.words.Counts.{count-append, count-later, count-other, count-same, first_or_later, split_at}
 use Rattle.dcel_maps.proofs.words.Mapped.{mapped_from}
 use Rattle.dcel_maps.proofs.words.Triangles.{is_triangle}
-use Rattle.dcel_maps.specs.Removals.{ascending}
+use Rattle.dcel_maps.specs.Removals.{ascending, opened}
 
 -- a list that has each item of another one, none of which stands there twice, and is as long, has the same items
 covered : (d w : List ℕ) → ((k : ℕ) → count_of k d ≤ 1) → ((k : ℕ) → 0 < count_of k d → 0 < count_of k w) → length w ≡ length d
@@ -52,6 +52,12 @@ same_long w u same =
     ∙ ap length (ascends-one (ascending w) (ascending u) (ascending-ascends w) (ascending-ascends u)
     (λ k. count-ascending k w ∙ same k ∙ sym (count-ascending k u)))
     ∙ length-ascending u
+
+single : {P : ℕ → Type 0} {w : List ℕ} → ListsOnce P w → (k : ℕ) → count_of k w ≤ 1
+single {w = w} lists k = elim (cases_lt 0 (count_of k w)) [
+  | inl found ↦ let one = lists.each k (lists.no_other k found) in omega (arith, one)
+  | inr none ↦ omega (arith, none)
+]
 
 once_same : {P : ℕ → Type 0} {w u : List ℕ} → ListsOnce P w → ListsOnce P u → (k : ℕ) → count_of k w ≡ count_of k u
 once_same {w = w} {u = u} a b k = elim (cases_lt 0 (count_of k w)) [
@@ -96,10 +102,7 @@ module _ {V DE UE F : Type 0} (m : Mesh V DE UE F) (mesh : IsMesh m) (border : L
   outs = mesh-out_edges mesh v (vertex_live-parts s v l.live).0
 
   out_once : (k : ℕ) → count_of k (out_edges_of m v) ≤ 1
-  out_once k = elim (cases_lt 0 (count_of k (out_edges_of m v))) [
-    | inl found ↦ let one = outs.each k (outs.no_other k found) in omega (arith, one)
-    | inr none ↦ omega (arith, none)
-  ]
+  out_once = single outs
 
   -- there are as many out edges as half edges of the border
   pub border_long : length (out_edges_of m v) ≡ length border
@@ -125,8 +128,12 @@ module _ {V DE UE F : Type 0} (m : Mesh V DE UE F) (mesh : IsMesh m) (border : L
       same_corner (map_of s) sound y at_y.live
       ((is_triangle (map_of s) s.words (links_stand mesh.sound) y at_y.live sound).0 (l.triangles y at_y).1.three) x at_x.live (at_x.start ∙ sym at_y.start) same)
 
+  -- so a record of these gives up what lies inside the border
+  pub at_border : GivesUpRound s v (opened (edges_at m v) (faces_at m v) v)
+  at_border = at-round m mesh v l.live edges_once faces_once
+
   module _ (edges faces : List ℕ) where
-    -- so lists that are as long have all of them, each once, just where those of each out edge stand there
+    -- lists that are as long have all of them, each once, just where those of each out edge stand there
     pub finds_iff-lists : length edges ≡ length border → length faces ≡ length border
         → FindsEach s edges faces (out_edges_of m v) ↔ (ListsOnce (IsEdgeAt s v) edges × ListsOnce (IsFaceAt s v) faces)
     finds_iff-lists edges_long faces_long = (
@@ -232,3 +239,9 @@ finds_iff-ring m mesh border edges faces center is l edges_long faces_long =
           },
       λ ring. lists.1 (subst (λ v. ListsOnce (IsEdgeAt m.shape v) edges × ListsOnce (IsFaceAt m.shape v) faces) (sym is) (ring.each_edge, ring.each_face)),
     )
+
+-- and a record of these gives up what lies inside the ring
+pub at_ring : (s : Shape) (border edges faces : List ℕ) → IsRing s border edges faces
+    → GivesUpRound s (center_of s border) (opened edges faces (center_of s border))
+at_ring s border edges faces ring =
+    opened-round s (center_of s border) edges faces (once_lists ring.each_edge) (once_lists ring.each_face) (single ring.each_edge) (single ring.each_face)

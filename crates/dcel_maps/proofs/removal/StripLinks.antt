@@ -163,6 +163,14 @@ module _ (s : Shape) (sound : IsSound s) (sphere : IsSphere s) (v h : ℕ) (arou
   apart_old : (x : ℕ) → 0 < count_of x (y ∷ r) → count_of x strip ≡ 0
   apart_old x found = omega (arith, found, ring_once s sound sphere v h around closed removal gives some_face y r outer x, count-append x (y ∷ r) strip)
 
+  -- what is off the strip is on the ring or kept
+  off_strip : {P : Type 0} (x : ℕ) → Live N x → count_of x strip ≡ 0 → (0 < count_of x (y ∷ r) → P) → (Kept x → P) → P
+  off_strip x lives none on_old on_kept = elim (ring_or_kept x lives) [
+    | inl old ↦ on_old old
+    | inr (inl item) ↦ absurd (omega (arith, none, item))
+    | inr (inr kept) ↦ on_kept kept
+  ]
+
   pub cut_links : CutLinks s u (last_of y r) y strip
   cut_links =
       let first : 0 < count_of y (y ∷ r) = omega (arith, count-same y r) in
@@ -178,26 +186,13 @@ module _ (s : Shape) (sound : IsSound s) (sphere : IsSphere s) (v h : ℕ) (arou
         last_live = same.edge (y / 2) ∙ (on_ring y (omega (arith, first, count-append y (y ∷ r) strip))).0;
         was_live = λ x live. was_live s sound sphere v h around closed removal gives some_face y r outer x live;
         next_other = λ x live none other.
-            let lives = to_map x live in
-            same.next x lives ∙ elim (ring_or_kept x lives) [
-              | inl old ↦ old_next x old other
-              | inr (inl item) ↦ absurd (omega (arith, none, item))
-              | inr (inr kept) ↦ kept.0
-            ];
+            let lives = to_map x live in same.next x lives ∙ off_strip x lives none (λ old. old_next x old other) (λ kept. kept.0);
         prev_other = λ x live none other.
-            let lives = to_map x live in
-            same.prev x lives ∙ elim (ring_or_kept x lives) [
-              | inl old ↦ old_prev x old other
-              | inr (inl item) ↦ absurd (omega (arith, none, item))
-              | inr (inr kept) ↦ kept.1
-            ];
+            let lives = to_map x live in same.prev x lives ∙ off_strip x lives none (λ old. old_prev x old other) (λ kept. kept.1);
         face_other = λ x live none.
             let lives = to_map x live in
-            same.face x lives ∙ elim (ring_or_kept x lives) [
-              | inl old ↦ (on_ring x (omega (arith, old, count-append x (y ∷ r) strip))).1 ∙ sym (old_face x old)
-              | inr (inl item) ↦ absurd (omega (arith, none, item))
-              | inr (inr kept) ↦ kept.2
-            ];
+            same.face x lives ∙ off_strip x lives none
+            (λ old. (on_ring x (omega (arith, old, count-append x (y ∷ r) strip))).1 ∙ sym (old_face x old)) (λ kept. kept.2);
         origin = λ x live. same_origin s sound sphere v h around closed removal gives some_face y r outer x live;
       }
 

@@ -1,7 +1,7 @@
 -- The shape that is left once a strip is cut is sound and a sphere.
 use Rattle.std.proofs.Common.{◌≡◌, ◌≢◌, ◌⊎◌, ◌↔◌, inl, inr, ◌/◌, ◌<◌, ◌≤◌, ◌==◌, ℕ, true, false, List, [], ◌∷◌, ◌++◌, map, slice_set, sym, refl, ap, ◌∙◌, subst, arith}
 use Rattle.std.proofs.lemmas.Bool.{both_ways, cases_Bool, cases_eq, cases_lt, false_from_ne_true, ne_eqb}
-use Rattle.std.proofs.lemmas.List.{get_or-set_other, get_or-set_same, get_or_past, length-set}
+use Rattle.std.proofs.lemmas.List.{get_or-set_other, get_or-set_same, length-set}
 use Rattle.dcel_maps.specs.Borders.{IsEdgeAt, IsFaceAt}
 use Rattle.dcel_maps.specs.Cyclic.{from_least}
 use Rattle.dcel_maps.specs.Hiding.{kept_words}
@@ -12,7 +12,7 @@ use Rattle.dcel_maps.specs.Strips.{IsStripAround}
 use Rattle.dcel_maps.specs.theory.Standing.{Stands}
 use Rattle.dcel_maps.specs.Walking.{IsOutEdge}
 use Rattle.dcel_maps.specs.Words.{count_of, word_of}
-use Rattle.dcel_maps.proofs.Liveness.{gives_up_edge-closed, gives_up_face-closed, is_live-cases, is_live-from, is_live-given_up, is_live-parts}
+use Rattle.dcel_maps.proofs.Liveness.{gives_up_edge-closed, gives_up_face-closed, is_live-from, is_live-given_up, is_live-parts, bare_word}
 use Rattle.dcel_maps.proofs.Shown.{slice_index-shown_live}
 use Rattle.dcel_maps.proofs.maps.Agreement.{Agrees, agrees-sound, agrees-sphere}
 use Rattle.dcel_maps.proofs.maps.Soundness.{face_cycles}
@@ -224,10 +224,7 @@ module _ (s : Shape) (sound : IsSound s) (sphere : IsSphere s) (v h : ℕ) (arou
   agrees = shown-agrees t M shows
 
   bare : (f : ℕ) → face_is_live t f ≡ false → word_of t.words f ≡ []
-  bare f dead = elim (is_live-cases (gives_up_face removal) (face_count t) f dead) [
-    | inl past ↦ get_or_past t.words f [] past
-    | inr given ↦ word-given f given
-  ]
+  bare = bare_word t word-given
 
   inner : (f : ℕ) → 0 < f → face_is_live t f ≡ true → word_of t.words f ≢ []
   inner f inside live empty =

@@ -9,6 +9,7 @@ use Rattle.dcel_maps.proofs.maps.Reaching.{reaches_stays}
 use Rattle.dcel_maps.proofs.maps.Soundness.{face_cycles, next_differs, rev_live}
 use Rattle.dcel_maps.proofs.maps.Updates.{put}
 use Rattle.dcel_maps.proofs.maps.Unspurs.{Unspur, unspur_keeps}
+use Rattle.dcel_maps.proofs.maps.Growth.{grows_back}
 
 -- the edge of h, which leads to the tip of a spur, is taken away
 unfoldable pub spur_away : Map → ℕ → Map
@@ -134,13 +135,7 @@ spur_away_is T h s live turns more =
           vertex_room = let below = s.below_vertices (rev h) (rev_live T h live) in omega (arith, below, e.vertices);
         };
         drawn = record {
-          grows = record {
-            edge_here = live;
-            edge_other = λ u other. sym (e.edge_other u other);
-            edges = omega (arith, e.edges);
-            edge_below = s.below_edges h live;
-            vertices = sym e.vertices;
-          };
+          grows = grows_back (spur_away T h) T h s live e.edge_other e.edges e.vertices;
           origin_h = c.start ∙ sym (ap (spur_away T h).origin e.next_before ∙ e.origin b);
           origin_rev = refl;
           origin_other = λ x l. sym (e.origin x);

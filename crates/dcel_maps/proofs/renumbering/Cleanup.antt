@@ -2,39 +2,27 @@
 use Rattle.std.proofs.Common.{◌≡◌, ℕ, false, List, Some, None, refl, sym, ◌∙◌, subst}
 use Rattle.dcel_maps.specs.Removals.{Closed, Cleaned, IsInOrder, IsWithin, Isolated, Removal, gives_up_edge, gives_up_face, gives_up_vertex}
 use Rattle.dcel_maps.specs.Renumbering.{cleaned, cleaned_up, edges_down, edges_taken_out, faces_down, faces_taken_out, half_of}
-use Rattle.dcel_maps.specs.Shapes.{IsMesh, IsSized, Mesh, face_anchor, face_count, vertex_anchor}
+use Rattle.dcel_maps.specs.Shapes.{IsMesh, Mesh, face_anchor, face_count, vertex_anchor}
 use Rattle.dcel_maps.specs.theory.Renumbering.{GoesDown, new_number, old_number}
-use Rattle.dcel_maps.proofs.renumbering.AllEdges.{ListsEdges, edges_out-face, edges_out-faces, edges_out-mesh, edges_out-none, edges_out-renamed, edges_out-vertex}
-use Rattle.dcel_maps.proofs.renumbering.AllFaces.{ListsFaces, faces_out-edge, faces_out-mesh, faces_out-none, faces_out-renamed, faces_out-vertex}
+use Rattle.dcel_maps.proofs.renumbering.AllEdges.{ListsEdges, edge_steps, edges_out-faces, edges_out-renamed}
+use Rattle.dcel_maps.proofs.renumbering.AllFaces.{ListsFaces, face_steps, faces_out-renamed}
 use Rattle.dcel_maps.proofs.renumbering.GivenUp.{edges_down-list, faces_down-list}
 use Rattle.dcel_maps.proofs.renumbering.Meshes.{anchor-same}
-use Rattle.dcel_maps.proofs.shapes.Anchors.{AnchorsFollow, renamed-anchored}
+use Rattle.dcel_maps.proofs.shapes.Anchors.{AnchorsFollow, renamed-mesh}
 use Rattle.dcel_maps.proofs.shapes.Chains.{renamed-then}
-use Rattle.dcel_maps.proofs.shapes.Renames.{IsRenamed, renamed-sound, renamed-sphere}
+use Rattle.dcel_maps.proofs.shapes.Renames.{IsRenamed}
 use Rattle.dcel_maps.proofs.shapes.SameNumbers.{same_numbers}
+use Rattle.dcel_maps.proofs.renumbering.OneByOne.{all_out-mesh, all_out-none, all_out-others, all_out-vertices}
+use Rattle.dcel_maps.proofs.shapes.Sizes.{sized_from, sized_vertices, sized_edges, sized_faces}
 
--- a clean record gives up no edge and no face
-cleaned-edge : (r : Removal) (u : ℕ) → gives_up_edge (cleaned r) u ≡ false
-unfolding gives_up_edge
-cleaned-edge Closed u = refl
-cleaned-edge (Isolated edges faces None) u = refl
-cleaned-edge (Isolated edges faces (Some v)) u = refl
-cleaned-edge (Cleaned vertex) u = refl
-
-cleaned-face : (r : Removal) (g : ℕ) → gives_up_face (cleaned r) g ≡ false
-unfolding gives_up_face
-cleaned-face Closed g = refl
-cleaned-face (Isolated edges faces None) g = refl
-cleaned-face (Isolated edges faces (Some v)) g = refl
-cleaned-face (Cleaned vertex) g = refl
-
--- and the same vertex
-cleaned-vertex : (r : Removal) (v : ℕ) → gives_up_vertex (cleaned r) v ≡ gives_up_vertex r v
-unfolding gives_up_vertex
-cleaned-vertex Closed v = refl
-cleaned-vertex (Isolated edges faces None) v = refl
-cleaned-vertex (Isolated edges faces (Some k)) v = refl
-cleaned-vertex (Cleaned vertex) v = refl
+-- a clean record gives up no edge and no face, and the same vertex
+cleaned-gives : (r : Removal) (k : ℕ)
+    → (gives_up_edge (cleaned r) k ≡ false) × (gives_up_face (cleaned r) k ≡ false) × (gives_up_vertex (cleaned r) k ≡ gives_up_vertex r k)
+unfolding gives_up_edge gives_up_face gives_up_vertex
+cleaned-gives Closed k = (refl, refl, refl)
+cleaned-gives (Isolated edges faces None) k = (refl, refl, refl)
+cleaned-gives (Isolated edges faces (Some v)) k = (refl, refl, refl)
+cleaned-gives (Cleaned vertex) k = (refl, refl, refl)
 
 cleaned-in_order : (r : Removal) → IsInOrder (cleaned r)
 cleaned-in_order Closed = tt
@@ -66,33 +54,11 @@ module _ {V DE UE F : Type 0} where
       in_order = in_order;
     }
 
-    sized : IsSized (record m { shape = record m.shape { removal = r } })
-    sized =
-        let was = mesh.sized in record {
-          vertex_data = was.vertex_data;
-          vertex_anchors = was.vertex_anchors;
-          undirected_data = was.undirected_data;
-          directed_data = was.directed_data;
-          origins = was.origins;
-          face_data = was.face_data;
-          face_anchors = was.face_anchors;
-          outer = was.outer;
-          few_vertices = was.few_vertices;
-          few_edges = was.few_edges;
-          few_faces = was.few_faces;
-          within = within;
-        }
-
     pub same_record-mesh : IsMesh (record m { shape = record m.shape { removal = r } })
-    same_record-mesh = record {
-      sound = renamed-sound m.shape (record m.shape { removal = r }) (λ h. h) (λ h. h) (λ v. v) (λ v. v) (λ g. g) (λ g. g) same mesh.sound;
-      sphere =
-          renamed-sphere m.shape (record m.shape { removal = r }) (λ h. h) (λ h. h) (λ v. v) (λ v. v) (λ g. g) (λ g. g) same mesh.sound mesh.sphere;
-      anchored =
-          renamed-anchored m (record m { shape = record m.shape { removal = r } }) (λ h. h) (λ h. h) (λ v. v) (λ v. v) (λ g. g) (λ g. g) same
-          follow mesh.anchored;
-      sized = sized;
-    }
+    same_record-mesh =
+        let sized = mesh.sized in
+        renamed-mesh m (record m { shape = record m.shape { removal = r } }) (λ h. h) (λ h. h) (λ v. v) (λ v. v) (λ g. g) (λ g. g) same follow
+        (sized_from (sized_vertices sized) (sized_edges sized) (sized_faces sized) sized.outer within) mesh
 
   module _ (m : Mesh V DE UE F) (mesh : IsMesh m) where
     abbrev edges : List ℕ
@@ -118,26 +84,26 @@ module _ {V DE UE F : Type 0} where
         record {
           down = subst (λ n. GoesDown n faces) (sym (edges_out-faces m edges)) listed.down;
           each = λ g. (
-            λ given. (listed.each g).0 (sym (edges_out-face m edges g) ∙ given),
-            λ found. edges_out-face m edges g ∙ (listed.each g).1 found,
+            λ given. (listed.each g).0 (sym (all_out-others edge_steps m edges g) ∙ given),
+            λ found. all_out-others edge_steps m edges g ∙ (listed.each g).1 found,
           );
         }
 
     halfway-mesh : IsMesh halfway
-    halfway-mesh = edges_out-mesh m edges mesh edges_listed
+    halfway-mesh = all_out-mesh edge_steps m edges mesh edges_listed
 
     emptied-mesh : IsMesh emptied
-    emptied-mesh = faces_out-mesh halfway faces halfway-mesh faces_listed
+    emptied-mesh = all_out-mesh face_steps halfway faces halfway-mesh faces_listed
 
     -- neither an edge nor a face is given up any more, and the same vertex is
     pub same_edges : (u : ℕ) → gives_up_edge (cleaned m.shape.removal) u ≡ gives_up_edge emptied.shape.removal u
-    same_edges u = cleaned-edge m.shape.removal u ∙ sym (faces_out-edge halfway faces u ∙ edges_out-none m edges edges_listed u)
+    same_edges u = (cleaned-gives m.shape.removal u).0 ∙ sym (all_out-others face_steps halfway faces u ∙ all_out-none edge_steps m edges edges_listed u)
 
     same_faces : (g : ℕ) → gives_up_face (cleaned m.shape.removal) g ≡ gives_up_face emptied.shape.removal g
-    same_faces g = cleaned-face m.shape.removal g ∙ sym (faces_out-none halfway faces faces_listed g)
+    same_faces g = (cleaned-gives m.shape.removal g).1 ∙ sym (all_out-none face_steps halfway faces faces_listed g)
 
     same_vertices : (v : ℕ) → gives_up_vertex (cleaned m.shape.removal) v ≡ gives_up_vertex emptied.shape.removal v
-    same_vertices v = cleaned-vertex m.shape.removal v ∙ sym (faces_out-vertex halfway faces v ∙ edges_out-vertex m edges v)
+    same_vertices v = (cleaned-gives m.shape.removal v).2 ∙ sym (all_out-vertices face_steps halfway faces v ∙ all_out-vertices edge_steps m edges v)
 
     -- cleanup leaves a mesh
     pub cleaned_up-mesh : IsMesh (cleaned_up m)

@@ -5,12 +5,12 @@ use Rattle.std.proofs.lemmas.List.{length-map}
 use Rattle.dcel_maps.specs.Cyclic.{from_least}
 use Rattle.dcel_maps.specs.Removals.{gives_up_edge, gives_up_face, is_live}
 use Rattle.dcel_maps.specs.Renumbering.{half_of, moved, shape_without_edge, without_edge}
-use Rattle.dcel_maps.specs.Shapes.{IsLive, IsSound, IsSphere, Shape, edge_is_live, face_count, face_is_live, origin_of, vertex_is_live}
+use Rattle.dcel_maps.specs.Shapes.{IsLive, IsSound, Shape, edge_is_live, face_count, face_is_live, origin_of, vertex_is_live}
 use Rattle.dcel_maps.specs.Words.{word_of}
 use Rattle.dcel_maps.proofs.Liveness.{is_live-from, is_live-parts}
 use Rattle.dcel_maps.proofs.renumbering.Moves.{half_of-back, half_of-half, half_of-rev, last_put-half, moved-back, moved-below, moved-last, moved-other}
-use Rattle.dcel_maps.proofs.renumbering.Records.{without_edge-face, without_edge-other, without_edge-same, without_edge-vertex}
-use Rattle.dcel_maps.proofs.shapes.Renames.{IsRenamed, renamed-sound, renamed-sphere}
+use Rattle.dcel_maps.proofs.renumbering.Records.{without_edge-loses}
+use Rattle.dcel_maps.proofs.shapes.Renames.{IsRenamed}
 
 -- d is the largest edge that is given up
 pub record IsLastEdgeOut (s : Shape) (d : ℕ) : Type 0 where
@@ -31,14 +31,14 @@ from_least-nil = refl
 
 module _ (s : Shape) (d : ℕ) where
   vertex-live : (v : ℕ) → vertex_is_live (shape_without_edge s d) v ≡ vertex_is_live s v
-  vertex-live v = ap (λ b. nat_lt v s.vertices && not b) (without_edge-vertex s.removal d v)
+  vertex-live v = ap (λ b. nat_lt v s.vertices && not b) ((without_edge-loses s.removal d).vertices v)
 
   face-live : (g : ℕ) → face_is_live (shape_without_edge s d) g ≡ face_is_live s g
   face-live g =
       let faces : face_count (shape_without_edge s d) ≡ face_count s =
       length-map s.words (λ w. from_least (map (half_of (moved (s.edges - 1) d)) w)) in
       ap (λ n. is_live (gives_up_face (without_edge s.removal d)) n g) faces
-      ∙ ap (λ b. nat_lt g (face_count s) && not b) (without_edge-face s.removal d g)
+      ∙ ap (λ b. nat_lt g (face_count s) && not b) ((without_edge-loses s.removal d).others g)
 
   words-moved : (g : ℕ) → word_of (shape_without_edge s d).words g ≡ from_least (map (half_of (moved (s.edges - 1) d)) (word_of s.words g))
   words-moved g = word_of-map (λ w. from_least (map (half_of (moved (s.edges - 1) d)) w)) s.words g from_least-nil
@@ -60,10 +60,10 @@ module _ (s : Shape) (d : ℕ) (sound : IsSound s) (out : IsLastEdgeOut s d) whe
       (elim (cases_eq u (s.edges - 1)) [
         | inl last ↦
             ap (λ k. gives_up_edge (without_edge s.removal d) (moved (s.edges - 1) d k)) last
-            ∙ ap (gives_up_edge (without_edge s.removal d)) (moved-last (s.edges - 1) d) ∙ without_edge-same s.removal d
+            ∙ ap (gives_up_edge (without_edge s.removal d)) (moved-last (s.edges - 1) d) ∙ (without_edge-loses s.removal d).gone
         | inr inside ↦
             ap (gives_up_edge (without_edge s.removal d)) (moved-other (s.edges - 1) d u inside)
-            ∙ without_edge-other s.removal d u other ∙ was.1
+            ∙ (without_edge-loses s.removal d).rest u other ∙ was.1
       ])
 
   back-live : (u : ℕ) → edge_is_live (shape_without_edge s d) u ≡ true → edge_is_live s (moved d (s.edges - 1) u) ≡ true
@@ -78,7 +78,7 @@ module _ (s : Shape) (d : ℕ) (sound : IsSound s) (out : IsLastEdgeOut s d) whe
         | inr other ↦
             ap (edge_is_live s) (moved-other d (s.edges - 1) u other)
             ∙ is_live-from (gives_up_edge s.removal) s.edges u (omega (arith, is.0))
-            (sym (without_edge-other s.removal d u other) ∙ is.1)
+            (sym ((without_edge-loses s.removal d).rest u other) ∙ is.1)
       ]
 
   lives : (x : ℕ) → IsLive s x → IsLive (shape_without_edge s d) (half_of (moved (s.edges - 1) d) x)
@@ -105,23 +105,14 @@ module _ (s : Shape) (d : ℕ) (sound : IsSound s) (out : IsLastEdgeOut s d) whe
     origin = origin-moved;
     vertex = λ x live. vertex-live s d (origin_of s x) ∙ sound.starts_live x live;
     vertex_forth = λ x live. refl;
-    face = λ g live. face-live s d g ∙ live;
-    face_forth = λ g live. refl;
-    face_back = λ g below. refl;
-    face_within = λ g below. omega (arith, below, length-map s.words (λ w. from_least (map (half_of (moved (s.edges - 1) d)) w)));
-    face_comes = λ g below. face-live s d g;
-    inner = λ g inside below. inside;
-    word = λ g below. words-moved s d g;
-    outer = words-moved s d 0;
+    on_faces = record {
+      face = λ g live. face-live s d g ∙ live;
+      face_forth = λ g live. refl;
+      face_back = λ g below. refl;
+      face_within = λ g below. omega (arith, below, length-map s.words (λ w. from_least (map (half_of (moved (s.edges - 1) d)) w)));
+      face_comes = λ g below. face-live s d g;
+      inner = λ g inside below. inside;
+      word = λ g below. words-moved s d g;
+      outer = words-moved s d 0;
+    };
   }
-
-  -- so what is left is sound, and a sphere
-  pub edge_out-sound : IsSound (shape_without_edge s d)
-  edge_out-sound =
-      renamed-sound s (shape_without_edge s d) (half_of (moved (s.edges - 1) d)) (half_of (moved d (s.edges - 1))) (λ v. v) (λ v. v) (λ g. g) (λ g. g)
-      edge-renamed sound
-
-  pub edge_out-sphere : IsSphere s → IsSphere (shape_without_edge s d)
-  edge_out-sphere =
-      renamed-sphere s (shape_without_edge s d) (half_of (moved (s.edges - 1) d)) (half_of (moved d (s.edges - 1))) (λ v. v) (λ v. v) (λ g. g) (λ g. g)
-      edge-renamed sound

@@ -4,14 +4,14 @@ use Rattle.std.proofs.lemmas.Bool.{both_ways, cases_eq, false_from_ne_true}
 use Rattle.dcel_maps.specs.Cyclic.{from_least}
 use Rattle.dcel_maps.specs.Removals.{gives_up_face}
 use Rattle.dcel_maps.specs.Renumbering.{moved, shape_without_face, without_face}
-use Rattle.dcel_maps.specs.Shapes.{IsSound, IsSphere, Shape, edge_is_live, face_count, face_is_live, origin_of, vertex_is_live}
+use Rattle.dcel_maps.specs.Shapes.{IsSound, Shape, edge_is_live, face_count, face_is_live, origin_of, vertex_is_live}
 use Rattle.dcel_maps.specs.Words.{word_of}
 use Rattle.dcel_maps.proofs.Liveness.{is_live-from, is_live-parts}
 use Rattle.dcel_maps.proofs.maps.Counts.{same_tests}
 use Rattle.dcel_maps.proofs.renumbering.LastPut.{length-last_put}
 use Rattle.dcel_maps.proofs.renumbering.Moves.{last_put-moved, moved-back, moved-below, moved-last, moved-other, moved-within}
-use Rattle.dcel_maps.proofs.renumbering.Records.{without_face-edge, without_face-other, without_face-same, without_face-vertex}
-use Rattle.dcel_maps.proofs.shapes.Renames.{IsRenamed, renamed-sound, renamed-sphere}
+use Rattle.dcel_maps.proofs.renumbering.Records.{without_face-loses}
+use Rattle.dcel_maps.proofs.shapes.Renames.{IsRenamed}
 use Rattle.dcel_maps.proofs.shapes.SameNumbers.{word-kept}
 
 -- d is the largest face that is given up
@@ -23,10 +23,10 @@ pub record IsLastFaceOut (s : Shape) (d : ℕ) : Type 0 where
 
 module _ (s : Shape) (d : ℕ) where
   edge-live : (u : ℕ) → edge_is_live (shape_without_face s d) u ≡ edge_is_live s u
-  edge-live u = ap (λ b. nat_lt u s.edges && not b) (without_face-edge s.removal d u)
+  edge-live u = ap (λ b. nat_lt u s.edges && not b) ((without_face-loses s.removal d).others u)
 
   vertex-live : (v : ℕ) → vertex_is_live (shape_without_face s d) v ≡ vertex_is_live s v
-  vertex-live v = ap (λ b. nat_lt v s.vertices && not b) (without_face-vertex s.removal d v)
+  vertex-live v = ap (λ b. nat_lt v s.vertices && not b) ((without_face-loses s.removal d).vertices v)
 
   pub faces-left : face_count (shape_without_face s d) ≡ face_count s - 1
   faces-left = length-last_put 1 s.words d
@@ -47,10 +47,10 @@ module _ (s : Shape) (d : ℕ) (sound : IsSound s) (out : IsLastFaceOut s d) whe
       (elim (cases_eq g (face_count s - 1)) [
         | inl last ↦
             ap (λ k. gives_up_face (without_face s.removal d) (moved (face_count s - 1) d k)) last
-            ∙ ap (gives_up_face (without_face s.removal d)) (moved-last (face_count s - 1) d) ∙ without_face-same s.removal d
+            ∙ ap (gives_up_face (without_face s.removal d)) (moved-last (face_count s - 1) d) ∙ (without_face-loses s.removal d).gone
         | inr inside ↦
             ap (gives_up_face (without_face s.removal d)) (moved-other (face_count s - 1) d g inside)
-            ∙ without_face-other s.removal d g other ∙ was.1
+            ∙ (without_face-loses s.removal d).rest g other ∙ was.1
       ])
 
   back-live : (g : ℕ) → face_is_live (shape_without_face s d) g ≡ true → face_is_live s (moved d (face_count s - 1) g) ≡ true
@@ -67,7 +67,7 @@ module _ (s : Shape) (d : ℕ) (sound : IsSound s) (out : IsLastFaceOut s d) whe
         | inr other ↦
             ap (face_is_live s) (moved-other d (face_count s - 1) g other)
             ∙ is_live-from (gives_up_face s.removal) (face_count s) g (omega (arith, is.0, left))
-            (sym (without_face-other s.removal d g other) ∙ is.1)
+            (sym ((without_face-loses s.removal d).rest g other) ∙ is.1)
       ]
 
   forth : (g : ℕ) → face_is_live s g ≡ true → moved d (face_count s - 1) (moved (face_count s - 1) d g) ≡ g
@@ -105,25 +105,16 @@ module _ (s : Shape) (d : ℕ) (sound : IsSound s) (out : IsLastFaceOut s d) whe
     origin = λ x live. refl;
     vertex = λ x live. vertex-live s d (origin_of s x) ∙ sound.starts_live x live;
     vertex_forth = λ x live. refl;
-    face = moved-live;
-    face_forth = forth;
-    face_back = face-back;
-    face_within = λ g below. moved-within d (face_count s) g out.below (omega (arith, below, faces-left s d));
-    face_comes = comes;
-    inner = inner;
-    word = word-moved;
-    outer =
-        word-moved 0 (omega (arith, faces-left s d, out.below, out.inner))
-        ∙ ap (λ g. from_least (map (λ h. h) (word_of s.words g))) (moved-other d (face_count s - 1) 0 (λ e. omega (arith, e, out.inner)));
+    on_faces = record {
+      face = moved-live;
+      face_forth = forth;
+      face_back = face-back;
+      face_within = λ g below. moved-within d (face_count s) g out.below (omega (arith, below, faces-left s d));
+      face_comes = comes;
+      inner = inner;
+      word = word-moved;
+      outer =
+          word-moved 0 (omega (arith, faces-left s d, out.below, out.inner))
+          ∙ ap (λ g. from_least (map (λ h. h) (word_of s.words g))) (moved-other d (face_count s - 1) 0 (λ e. omega (arith, e, out.inner)));
+    };
   }
-
-  -- so what is left is sound, and a sphere
-  pub face_out-sound : IsSound (shape_without_face s d)
-  face_out-sound =
-      renamed-sound s (shape_without_face s d) (λ h. h) (λ h. h) (λ v. v) (λ v. v) (moved (face_count s - 1) d) (moved d (face_count s - 1))
-      face-renamed sound
-
-  pub face_out-sphere : IsSphere s → IsSphere (shape_without_face s d)
-  face_out-sphere =
-      renamed-sphere s (shape_without_face s d) (λ h. h) (λ h. h) (λ v. v) (λ v. v) (moved (face_count s - 1) d) (moved d (face_count s - 1))
-      face-renamed sound

@@ -1,19 +1,19 @@
 -- One step of renumbering leaves a mesh.
-use Rattle.std.proofs.Common.{◌≡◌, inl, inr, ℕ, zero, suc, ◌-◌, ◌*◌, ◌<◌, List, [], ◌∷◌, map, option_map, Option, Some, None, slice_index_or, refl, sym, ap, ◌∙◌, arith}
-use Rattle.std.proofs.lemmas.Bool.{both_ways, cases_eq}
+use Rattle.std.proofs.Common.{◌≡◌, ℕ, zero, suc, ◌-◌, ◌*◌, ◌<◌, List, [], ◌∷◌, map, option_map, Option, Some, None, slice_index_or, refl, sym, ap, ◌∙◌, arith}
 use Rattle.std.proofs.lemmas.List.{length-map}
 use Rattle.dcel_maps.specs.Cyclic.{from_least}
-use Rattle.dcel_maps.specs.Removals.{IsWithin, gives_up_edge, gives_up_face}
+use Rattle.dcel_maps.specs.Removals.{IsWithin}
 use Rattle.dcel_maps.specs.Renumbering.{edge_taken_out, face_taken_out, half_of, moved, vertex_taken_out, without_edge, without_face}
 use Rattle.dcel_maps.specs.Shapes.{IsMesh, IsSized, Mesh, face_anchor, face_count, vertex_anchor}
 use Rattle.dcel_maps.proofs.Liveness.{IsWithin-closed}
-use Rattle.dcel_maps.proofs.renumbering.Edges.{IsLastEdgeOut, edge-renamed, edge_out-sound, edge_out-sphere}
-use Rattle.dcel_maps.proofs.renumbering.Faces.{IsLastFaceOut, face-renamed, face_out-sound, face_out-sphere, faces-left}
+use Rattle.dcel_maps.proofs.renumbering.Edges.{IsLastEdgeOut, edge-renamed}
+use Rattle.dcel_maps.proofs.renumbering.Faces.{IsLastFaceOut, face-renamed, faces-left}
 use Rattle.dcel_maps.proofs.renumbering.LastPut.{length-last_put}
 use Rattle.dcel_maps.proofs.renumbering.Moves.{last_put-moved, moved-back, moved-within}
-use Rattle.dcel_maps.proofs.renumbering.Records.{without_edge-face, without_edge-in_order, without_edge-other, without_edge-same, without_edge-vertex, without_face-edge, without_face-in_order, without_face-other, without_face-same, without_face-vertex}
-use Rattle.dcel_maps.proofs.renumbering.Vertices.{IsOnlyOut, vertex-renamed, vertex_out-sound, vertex_out-sphere}
-use Rattle.dcel_maps.proofs.shapes.Anchors.{AnchorsFollow, renamed-anchored}
+use Rattle.dcel_maps.proofs.renumbering.Records.{without_edge-loses, without_edge-in_order, without_face-loses, without_face-in_order, still_given}
+use Rattle.dcel_maps.proofs.renumbering.Vertices.{IsOnlyOut, vertex-renamed}
+use Rattle.dcel_maps.proofs.shapes.Anchors.{AnchorsFollow, renamed-mesh}
+use Rattle.dcel_maps.proofs.shapes.Sizes.{sized_from, sized_vertices, sized_edges, sized_faces}
 
 -- anchors under other numbers, one by one
 anchor-map : (f : ℕ → ℕ) (anchors : List (Option ℕ)) (k : ℕ)
@@ -42,16 +42,11 @@ module _ {V DE UE F : Type 0} (m : Mesh V DE UE F) (d : ℕ) (mesh : IsMesh m) w
         let within = mesh.sized.within in
         let faces = length-map m.shape.words (λ w. from_least (map (half_of (moved (m.shape.edges - 1) d)) w)) in
         record {
-          vertices = λ v given. within.vertices v (sym (without_edge-vertex m.shape.removal d v) ∙ given);
-          edges = λ u given. elim (cases_eq u d) [
-            | inl same ↦
-                absurd (both_ways (gives_up_edge (without_edge m.shape.removal d) u)
-                (ap (gives_up_edge (without_edge m.shape.removal d)) same ∙ without_edge-same m.shape.removal d) given)
-            | inr other ↦
-                omega (arith, other, out.below, out.largest u (sym (without_edge-other m.shape.removal d u other) ∙ given))
-          ];
+          vertices = λ v given. within.vertices v (sym ((without_edge-loses m.shape.removal d).vertices v) ∙ given);
+          edges = λ u given.
+              let was = still_given (without_edge-loses m.shape.removal d) u given in omega (arith, was.0, out.below, out.largest u was.1);
           faces = λ g given.
-              let was = within.faces g (sym (without_edge-face m.shape.removal d g) ∙ given) in
+              let was = within.faces g (sym ((without_edge-loses m.shape.removal d).others g) ∙ given) in
               (was.0, omega (arith, was.1, faces));
           in_order = without_edge-in_order m.shape.removal d within.in_order;
         }
@@ -61,30 +56,25 @@ module _ {V DE UE F : Type 0} (m : Mesh V DE UE F) (d : ℕ) (mesh : IsMesh m) w
         let sized = mesh.sized in
         let half = half_of (moved (m.shape.edges - 1) d) in
         let faces = length-map m.shape.words (λ w. from_least (map half w)) in
-        record {
-          vertex_data = sized.vertex_data;
-          vertex_anchors = length-map m.vertex_anchors (option_map half) ∙ sized.vertex_anchors;
-          undirected_data = omega (arith, sized.undirected_data, length-last_put 1 m.undirected_data d);
-          directed_data = omega (arith, sized.directed_data, length-last_put 2 m.directed_data (2 * d));
-          origins = omega (arith, sized.origins, length-last_put 2 m.shape.origins (2 * d));
-          face_data = sized.face_data ∙ sym faces;
-          face_anchors = length-map m.face_anchors (option_map half) ∙ sized.face_anchors ∙ sym faces;
-          outer = omega (arith, sized.outer, faces);
-          few_vertices = sized.few_vertices;
-          few_edges = omega (arith, sized.few_edges);
-          few_faces = omega (arith, sized.few_faces, faces);
-          within = edge_within;
-        }
+        sized_from
+        (record { long = sized.vertex_data; anchored = length-map m.vertex_anchors (option_map half) ∙ sized.vertex_anchors; few = sized.few_vertices })
+        (record {
+          long = omega (arith, sized.undirected_data, length-last_put 1 m.undirected_data d);
+          halves_long = omega (arith, sized.directed_data, length-last_put 2 m.directed_data (2 * d));
+          origins_long = omega (arith, sized.origins, length-last_put 2 m.shape.origins (2 * d));
+          few = omega (arith, sized.few_edges);
+        })
+        (record {
+          long = sized.face_data ∙ sym faces;
+          anchored = length-map m.face_anchors (option_map half) ∙ sized.face_anchors ∙ sym faces;
+          few = omega (arith, sized.few_faces, faces);
+        })
+        (omega (arith, sized.outer, faces)) edge_within
 
     pub edge_out-mesh : IsMesh (edge_taken_out m d)
-    edge_out-mesh = record {
-      sound = edge_out-sound m.shape d mesh.sound out;
-      sphere = edge_out-sphere m.shape d mesh.sound out mesh.sphere;
-      anchored =
-          renamed-anchored m (edge_taken_out m d) (half_of (moved (m.shape.edges - 1) d)) (half_of (moved d (m.shape.edges - 1))) (λ v. v) (λ v. v)
-          (λ g. g) (λ g. g) (edge-renamed m.shape d mesh.sound out) edge_anchors mesh.anchored;
-      sized = edge_sized;
-    }
+    edge_out-mesh =
+        renamed-mesh m (edge_taken_out m d) (half_of (moved (m.shape.edges - 1) d)) (half_of (moved d (m.shape.edges - 1))) (λ v. v) (λ v. v)
+        (λ g. g) (λ g. g) (edge-renamed m.shape d mesh.sound out) edge_anchors edge_sized mesh
 
   -- a face
   module _ (out : IsLastFaceOut m.shape d) where
@@ -108,16 +98,11 @@ module _ {V DE UE F : Type 0} (m : Mesh V DE UE F) (d : ℕ) (mesh : IsMesh m) w
     face_within : IsWithin (without_face m.shape.removal d) m.shape.vertices m.shape.edges (face_count (face_taken_out m d).shape)
     face_within =
         let within = mesh.sized.within in record {
-          vertices = λ v given. within.vertices v (sym (without_face-vertex m.shape.removal d v) ∙ given);
-          edges = λ u given. within.edges u (sym (without_face-edge m.shape.removal d u) ∙ given);
-          faces = λ g given. elim (cases_eq g d) [
-            | inl same ↦
-                absurd (both_ways (gives_up_face (without_face m.shape.removal d) g)
-                (ap (gives_up_face (without_face m.shape.removal d)) same ∙ without_face-same m.shape.removal d) given)
-            | inr other ↦
-                let was = sym (without_face-other m.shape.removal d g other) ∙ given in
-                ((within.faces g was).0, omega (arith, other, out.below, out.largest g was, faces-left m.shape d))
-          ];
+          vertices = λ v given. within.vertices v (sym ((without_face-loses m.shape.removal d).vertices v) ∙ given);
+          edges = λ u given. within.edges u (sym ((without_face-loses m.shape.removal d).others u) ∙ given);
+          faces = λ g given.
+              let was = still_given (without_face-loses m.shape.removal d) g given in
+              ((within.faces g was.1).0, omega (arith, was.0, out.below, out.largest g was.1, faces-left m.shape d));
           in_order = without_face-in_order m.shape.removal d within.in_order;
         }
 
@@ -125,31 +110,18 @@ module _ {V DE UE F : Type 0} (m : Mesh V DE UE F) (d : ℕ) (mesh : IsMesh m) w
     face_sized =
         let sized = mesh.sized in
         let left = faces-left m.shape d in
-        record {
-          vertex_data = sized.vertex_data;
-          vertex_anchors = sized.vertex_anchors;
-          undirected_data = sized.undirected_data;
-          directed_data = sized.directed_data;
-          origins = sized.origins;
-          face_data = omega (arith, sized.face_data, length-last_put 1 m.face_data d, left);
-          face_anchors = omega (arith, sized.face_anchors, length-last_put 1 m.face_anchors d, left);
-          outer = omega (arith, out.below, out.inner, left);
-          few_vertices = sized.few_vertices;
-          few_edges = sized.few_edges;
-          few_faces = omega (arith, sized.few_faces, left);
-          within = face_within;
-        }
+        sized_from (sized_vertices sized) (sized_edges sized)
+        (record {
+          long = omega (arith, sized.face_data, length-last_put 1 m.face_data d, left);
+          anchored = omega (arith, sized.face_anchors, length-last_put 1 m.face_anchors d, left);
+          few = omega (arith, sized.few_faces, left);
+        })
+        (omega (arith, out.below, out.inner, left)) face_within
 
     pub face_out-mesh : IsMesh (face_taken_out m d)
-    face_out-mesh = record {
-      sound = face_out-sound m.shape d mesh.sound out;
-      sphere = face_out-sphere m.shape d mesh.sound out mesh.sphere;
-      anchored =
-          renamed-anchored m (face_taken_out m d) (λ h. h) (λ h. h) (λ v. v) (λ v. v)
-          (moved (face_count m.shape - 1) d) (moved d (face_count m.shape - 1)) (face-renamed m.shape d mesh.sound out) face_anchors
-          mesh.anchored;
-      sized = face_sized;
-    }
+    face_out-mesh =
+        renamed-mesh m (face_taken_out m d) (λ h. h) (λ h. h) (λ v. v) (λ v. v) (moved (face_count m.shape - 1) d) (moved d (face_count m.shape - 1))
+        (face-renamed m.shape d mesh.sound out) face_anchors face_sized mesh
 
   -- a vertex
   module _ (out : IsOnlyOut m.shape d) where
@@ -171,27 +143,22 @@ module _ {V DE UE F : Type 0} (m : Mesh V DE UE F) (d : ℕ) (mesh : IsMesh m) w
 
     vertex_sized : IsSized (vertex_taken_out m d)
     vertex_sized =
-        let sized = mesh.sized in record {
-          vertex_data = omega (arith, sized.vertex_data, length-last_put 1 m.vertex_data d);
-          vertex_anchors = omega (arith, sized.vertex_anchors, length-last_put 1 m.vertex_anchors d);
-          undirected_data = sized.undirected_data;
-          directed_data = sized.directed_data;
-          origins = length-map m.shape.origins (moved (m.shape.vertices - 1) d) ∙ sized.origins;
-          face_data = sized.face_data;
-          face_anchors = sized.face_anchors;
-          outer = sized.outer;
-          few_vertices = omega (arith, sized.few_vertices);
-          few_edges = sized.few_edges;
-          few_faces = sized.few_faces;
-          within = IsWithin-closed (m.shape.vertices - 1) m.shape.edges (face_count m.shape);
-        }
+        let sized = mesh.sized in
+        sized_from
+        (record {
+          long = omega (arith, sized.vertex_data, length-last_put 1 m.vertex_data d);
+          anchored = omega (arith, sized.vertex_anchors, length-last_put 1 m.vertex_anchors d);
+          few = omega (arith, sized.few_vertices);
+        })
+        (record {
+          long = sized.undirected_data;
+          halves_long = sized.directed_data;
+          origins_long = length-map m.shape.origins (moved (m.shape.vertices - 1) d) ∙ sized.origins;
+          few = sized.few_edges;
+        })
+        (sized_faces sized) sized.outer (IsWithin-closed (m.shape.vertices - 1) m.shape.edges (face_count m.shape))
 
     pub vertex_out-mesh : IsMesh (vertex_taken_out m d)
-    vertex_out-mesh = record {
-      sound = vertex_out-sound m.shape d mesh.sound out;
-      sphere = vertex_out-sphere m.shape d mesh.sound out mesh.sphere;
-      anchored =
-          renamed-anchored m (vertex_taken_out m d) (λ h. h) (λ h. h) (moved (m.shape.vertices - 1) d) (moved d (m.shape.vertices - 1))
-          (λ g. g) (λ g. g) (vertex-renamed m.shape d mesh.sound out) vertex_anchors mesh.anchored;
-      sized = vertex_sized;
-    }
+    vertex_out-mesh =
+        renamed-mesh m (vertex_taken_out m d) (λ h. h) (λ h. h) (moved (m.shape.vertices - 1) d) (moved d (m.shape.vertices - 1)) (λ g. g) (λ g. g)
+        (vertex-renamed m.shape d mesh.sound out) vertex_anchors vertex_sized mesh

@@ -1,6 +1,6 @@
 -- What the removal record gives up once an edge, or a face, is taken out.
-use Rattle.std.proofs.Common.{◌≡◌, ◌≢◌, inl, inr, ℕ, ◌==◌, ◌||◌, false, not, List, [], ◌∷◌, filter, refl, sym, ap, ◌∙◌, eqb, eq-eqb}
-use Rattle.std.proofs.lemmas.Bool.{cases_eq, ne_eqb}
+use Rattle.std.proofs.Common.{Bool, ◌≡◌, ◌≢◌, inl, inr, ℕ, ◌==◌, ◌||◌, false, not, List, [], ◌∷◌, filter, refl, sym, ap, ◌∙◌, eqb, eq-eqb, true}
+use Rattle.std.proofs.lemmas.Bool.{cases_eq, ne_eqb, both_ways}
 use Rattle.std.specs.List.{list_any}
 use Rattle.dcel_maps.specs.Removals.{Removal, Closed, Isolated, Cleaned, IsInOrder, gives_up_edge, gives_up_face, gives_up_vertex}
 use Rattle.dcel_maps.specs.Renumbering.{without_edge, without_face}
@@ -20,55 +20,30 @@ any-same d (x ∷ xs) = elim (cases_eq x d) [
   | inr differs ↦ rw (ne_eqb x d differs, ne_eqb x d differs) (any-same d xs)
 ]
 
--- other edges are given up as before, and d is not
-pub without_edge-other : (r : Removal) (d u : ℕ) → u ≢ d → gives_up_edge (without_edge r d) u ≡ gives_up_edge r u
-unfolding gives_up_edge
-without_edge-other Closed d u other = refl
-without_edge-other (Isolated edges faces vertex) d u other = any-other d u edges other
-without_edge-other (Cleaned vertex) d u other = refl
+-- r' gives up what r does but for one thing d: `one` tells what is given up of its kind, and `other` of the other kind
+pub record Loses (one other : Removal → ℕ → Bool) (r r' : Removal) (d : ℕ) : Type 0 where
+  pub gone : one r' d ≡ false
+  pub rest : (k : ℕ) → k ≢ d → one r' k ≡ one r k
+  pub others : (k : ℕ) → other r' k ≡ other r k
+  pub vertices : (k : ℕ) → gives_up_vertex r' k ≡ gives_up_vertex r k
 
-pub without_edge-same : (r : Removal) (d : ℕ) → gives_up_edge (without_edge r d) d ≡ false
-unfolding gives_up_edge
-without_edge-same Closed d = refl
-without_edge-same (Isolated edges faces vertex) d = any-same d edges
-without_edge-same (Cleaned vertex) d = refl
+pub without_edge-loses : (r : Removal) (d : ℕ) → Loses gives_up_edge gives_up_face r (without_edge r d) d
+unfolding gives_up_edge gives_up_face gives_up_vertex
+without_edge-loses Closed d = record { gone = refl; rest = λ k other. refl; others = λ k. refl; vertices = λ k. refl }
+without_edge-loses (Isolated edges faces vertex) d = record { gone = any-same d edges; rest = λ k. any-other d k edges; others = λ k. refl; vertices = λ k. refl }
+without_edge-loses (Cleaned vertex) d = record { gone = refl; rest = λ k other. refl; others = λ k. refl; vertices = λ k. refl }
 
-pub without_edge-face : (r : Removal) (d f : ℕ) → gives_up_face (without_edge r d) f ≡ gives_up_face r f
-unfolding gives_up_face
-without_edge-face Closed d f = refl
-without_edge-face (Isolated edges faces vertex) d f = refl
-without_edge-face (Cleaned vertex) d f = refl
+pub without_face-loses : (r : Removal) (d : ℕ) → Loses gives_up_face gives_up_edge r (without_face r d) d
+unfolding gives_up_edge gives_up_face gives_up_vertex
+without_face-loses Closed d = record { gone = refl; rest = λ k other. refl; others = λ k. refl; vertices = λ k. refl }
+without_face-loses (Isolated edges faces vertex) d = record { gone = any-same d faces; rest = λ k. any-other d k faces; others = λ k. refl; vertices = λ k. refl }
+without_face-loses (Cleaned vertex) d = record { gone = refl; rest = λ k other. refl; others = λ k. refl; vertices = λ k. refl }
 
-pub without_edge-vertex : (r : Removal) (d v : ℕ) → gives_up_vertex (without_edge r d) v ≡ gives_up_vertex r v
-unfolding gives_up_vertex
-without_edge-vertex Closed d v = refl
-without_edge-vertex (Isolated edges faces vertex) d v = refl
-without_edge-vertex (Cleaned vertex) d v = refl
-
--- the same for a face
-pub without_face-other : (r : Removal) (d f : ℕ) → f ≢ d → gives_up_face (without_face r d) f ≡ gives_up_face r f
-unfolding gives_up_face
-without_face-other Closed d f other = refl
-without_face-other (Isolated edges faces vertex) d f other = any-other d f faces other
-without_face-other (Cleaned vertex) d f other = refl
-
-pub without_face-same : (r : Removal) (d : ℕ) → gives_up_face (without_face r d) d ≡ false
-unfolding gives_up_face
-without_face-same Closed d = refl
-without_face-same (Isolated edges faces vertex) d = any-same d faces
-without_face-same (Cleaned vertex) d = refl
-
-pub without_face-edge : (r : Removal) (d u : ℕ) → gives_up_edge (without_face r d) u ≡ gives_up_edge r u
-unfolding gives_up_edge
-without_face-edge Closed d u = refl
-without_face-edge (Isolated edges faces vertex) d u = refl
-without_face-edge (Cleaned vertex) d u = refl
-
-pub without_face-vertex : (r : Removal) (d v : ℕ) → gives_up_vertex (without_face r d) v ≡ gives_up_vertex r v
-unfolding gives_up_vertex
-without_face-vertex Closed d v = refl
-without_face-vertex (Isolated edges faces vertex) d v = refl
-without_face-vertex (Cleaned vertex) d v = refl
+-- what is still given up is another thing, and was given up
+pub still_given : {one other : Removal → ℕ → Bool} {r r' : Removal} {d : ℕ} → Loses one other r r' d → (k : ℕ) → one r' k ≡ true
+    → (k ≢ d) × (one r k ≡ true)
+still_given {one} {other} {r} {r'} {d} loses k given =
+    let differs : k ≢ d = λ same. both_ways (one r' k) (ap (one r') same ∙ loses.gone) given in (differs, sym (loses.rest k differs) ∙ given)
 
 -- what is left is in order
 pub without_edge-in_order : (r : Removal) (d : ℕ) → IsInOrder r → IsInOrder (without_edge r d)

@@ -1,15 +1,15 @@
 -- A vertex where no edge starts is taken out: what is left is sound, and a sphere.
-use Rattle.std.proofs.Common.{◌≡◌, ◌≢◌, ℕ, ◌-◌, ◌*◌, ◌/◌, ◌<◌, true, false, not, length, nat_lt, ◌&&◌, refl, sym, ap, ◌∙◌, arith, inl, inr, eq-eqb, eqb-true}
+use Rattle.std.proofs.Common.{◌≡◌, ◌≢◌, ℕ, ◌-◌, ◌*◌, ◌/◌, ◌<◌, true, false, not, length, nat_lt, ◌&&◌, refl, sym, ap, ◌∙◌, arith, inl, inr, eq-eqb, eqb-true, map}
 use Rattle.std.proofs.lemmas.Bool.{both_ways, false≢true}
 use Rattle.std.proofs.lemmas.List.{get_or-map}
 use Rattle.dcel_maps.specs.Conditions.{CanSwapRemove, IsUnconnected}
 use Rattle.dcel_maps.specs.Removals.{Closed, gives_up_edge, gives_up_face, gives_up_vertex, Cleaned, IsWithin}
 use Rattle.dcel_maps.specs.Renumbering.{moved, shape_without_vertex}
-use Rattle.dcel_maps.specs.Shapes.{IsLive, IsSound, IsSphere, Shape, edge_is_live, face_count, face_is_live, origin_of, vertex_is_live, IsMesh, Mesh}
+use Rattle.dcel_maps.specs.Shapes.{IsLive, IsSound, Shape, edge_is_live, face_count, origin_of, vertex_is_live, IsMesh, Mesh}
 use Rattle.dcel_maps.proofs.Liveness.{gives_up_edge-closed, gives_up_face-closed, gives_up_vertex-closed, is_live-from, is_live-parts}
 use Rattle.dcel_maps.proofs.renumbering.Moves.{moved-back, moved-below}
-use Rattle.dcel_maps.proofs.shapes.Renames.{IsRenamed, renamed-sound, renamed-sphere}
-use Rattle.dcel_maps.proofs.shapes.SameNumbers.{word-kept}
+use Rattle.dcel_maps.proofs.shapes.Renames.{IsRenamed}
+use Rattle.dcel_maps.proofs.shapes.SameNumbers.{faces_same}
 
 -- no live half edge starts at d, and nothing else is given up
 pub record IsOnlyOut (s : Shape) (d : ℕ) : Type 0 where
@@ -58,9 +58,6 @@ module _ (s : Shape) (d : ℕ) (sound : IsSound s) (out : IsOnlyOut s d) where
   edge-live : (u : ℕ) → edge_is_live (shape_without_vertex s d) u ≡ edge_is_live s u
   edge-live u = ap (λ b. nat_lt u s.edges && not b) (gives_up_edge-closed u ∙ sym (out.no_edge u))
 
-  face-live : (g : ℕ) → face_is_live (shape_without_vertex s d) g ≡ face_is_live s g
-  face-live g = ap (λ b. nat_lt g (face_count s) && not b) (gives_up_face-closed g ∙ sym (out.no_face g))
-
   origin-moved : (x : ℕ) → IsLive s x → origin_of (shape_without_vertex s d) x ≡ moved (s.vertices - 1) d (origin_of s x)
   origin-moved x live =
       let is = (is_live-parts (gives_up_edge s.removal) s.edges (x / 2) live).0 in
@@ -84,23 +81,6 @@ module _ (s : Shape) (d : ℕ) (sound : IsSound s) (out : IsOnlyOut s d) where
     origin = origin-moved;
     vertex = vertex-live;
     vertex_forth = λ x live. moved-back (s.vertices - 1) d (origin_of s x) (out.bare x live);
-    face = λ g live. face-live g ∙ live;
-    face_forth = λ g live. refl;
-    face_back = λ g below. refl;
-    face_within = λ g below. below;
-    face_comes = λ g below. face-live g;
-    inner = λ g inside below. inside;
-    word = λ g below. sym (word-kept s sound g);
-    outer = sym (word-kept s sound 0);
+    on_faces =
+        faces_same s (s.vertices - 1) (map (moved (s.vertices - 1) d) s.origins) Closed sound (λ g. gives_up_face-closed g ∙ sym (out.no_face g));
   }
-
-  -- so what is left is sound, and a sphere
-  pub vertex_out-sound : IsSound (shape_without_vertex s d)
-  vertex_out-sound =
-      renamed-sound s (shape_without_vertex s d) (λ h. h) (λ h. h) (moved (s.vertices - 1) d) (moved d (s.vertices - 1)) (λ g. g) (λ g. g)
-      vertex-renamed sound
-
-  pub vertex_out-sphere : IsSphere s → IsSphere (shape_without_vertex s d)
-  vertex_out-sphere =
-      renamed-sphere s (shape_without_vertex s d) (λ h. h) (λ h. h) (moved (s.vertices - 1) d) (moved d (s.vertices - 1)) (λ g. g) (λ g. g)
-      vertex-renamed sound

@@ -1,9 +1,9 @@
 -- Other numbers keep a mesh anchored.
 use Rattle.std.proofs.Common.{◌≡◌, ℕ, ◌<◌, List, map, option_map, Option, Some, None, sym, ap, ◌∙◌, subst, arith}
 use Rattle.dcel_maps.specs.Cyclic.{from_least}
-use Rattle.dcel_maps.specs.Shapes.{AnchorsVertex, AnchorsWord, IsAnchored, Mesh, Shape, face_anchor, face_count, origin_of, vertex_anchor}
+use Rattle.dcel_maps.specs.Shapes.{AnchorsVertex, AnchorsWord, IsAnchored, Mesh, Shape, face_anchor, face_count, origin_of, vertex_anchor, IsMesh, IsSized}
 use Rattle.dcel_maps.specs.Words.{word_of}
-use Rattle.dcel_maps.proofs.shapes.Renames.{IsRenamed}
+use Rattle.dcel_maps.proofs.shapes.Renames.{IsRenamed, renamed-sound, renamed-sphere}
 use Rattle.dcel_maps.proofs.words.Cyclic.{count-from_least}
 use Rattle.dcel_maps.proofs.words.Renames.{count-map-more, renamed_empty}
 
@@ -28,7 +28,7 @@ anchors_word : (f : ℕ → ℕ) (w : List ℕ) (a : Option ℕ) → AnchorsWord
 anchors_word f w None empty = (renamed_empty f w).1 empty
 anchors_word f w (Some h) found = omega (arith, count-map-more f h w found, count-from_least (f h) (map f w))
 
-pub renamed-anchored : {V DE UE F : Type 0} (m n : Mesh V DE UE F) (f f' o o' w w' : ℕ → ℕ) → IsRenamed m.shape n.shape f f' o o' w w'
+renamed-anchored : {V DE UE F : Type 0} (m n : Mesh V DE UE F) (f f' o o' w w' : ℕ → ℕ) → IsRenamed m.shape n.shape f f' o o' w w'
     → AnchorsFollow m n f o o' w' → IsAnchored m → IsAnchored n
 renamed-anchored m n f f' o o' w w' e follow anchored = record {
   vertices = λ v below.
@@ -39,4 +39,14 @@ renamed-anchored m n f f' o o' w w' e follow anchored = record {
       subst (λ u. AnchorsWord u (face_anchor n g)) (sym (e.word g below))
       (subst (AnchorsWord (from_least (map f (word_of m.shape.words (w' g))))) (sym (follow.face g below))
       (anchors_word f (word_of m.shape.words (w' g)) (face_anchor m (w' g)) (anchored.faces (w' g) (e.face_within g below))));
+}
+
+-- a mesh under other numbers is one, where its lists are as long as they have to be
+pub renamed-mesh : {V DE UE F : Type 0} (m n : Mesh V DE UE F) (f f' o o' w w' : ℕ → ℕ) → IsRenamed m.shape n.shape f f' o o' w w'
+    → AnchorsFollow m n f o o' w' → IsSized n → IsMesh m → IsMesh n
+renamed-mesh m n f f' o o' w w' e follow sized mesh = record {
+  sound = renamed-sound m.shape n.shape f f' o o' w w' e mesh.sound;
+  sphere = renamed-sphere m.shape n.shape f f' o o' w w' e mesh.sound mesh.sphere;
+  anchored = renamed-anchored m n f f' o o' w w' e follow mesh.anchored;
+  sized = sized;
 }

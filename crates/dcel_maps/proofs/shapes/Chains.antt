@@ -77,13 +77,15 @@ module _ (S T U : Shape) (f f' o o' w w' g g' p p' v v' : ℕ → ℕ) (sound : 
         subst (λ z. vertex_is_live U (p z) ≡ true) (e.origin x live) (d.vertex (f x) (e.lives x live));
     vertex_forth = λ x live.
         ap o' (subst (λ z. p' (p z) ≡ z) (e.origin x live) (d.vertex_forth (f x) (e.lives x live))) ∙ e.vertex_forth x live;
-    face = λ n live. d.face (w n) (e.face n live);
-    face_forth = λ n live. ap w' (d.face_forth (w n) (e.face n live)) ∙ e.face_forth n live;
-    face_back = λ n below. ap v (e.face_back (v' n) (d.face_within n below)) ∙ d.face_back n below;
-    face_within = λ n below. e.face_within (v' n) (d.face_within n below);
-    face_comes = λ n below. d.face_comes n below ∙ e.face_comes (v' n) (d.face_within n below);
-    inner = λ n inside below. e.inner (v' n) (d.inner n inside below) (d.face_within n below);
-    word = λ n below.
-        d.word n below ∙ ap (λ u. from_least (map g u)) (e.word (v' n) (d.face_within n below)) ∙ word_then (w' (v' n));
-    outer = d.outer ∙ ap (λ u. from_least (map g u)) e.outer ∙ word_then 0;
+    on_faces = record {
+      face = λ n live. d.face (w n) (e.face n live);
+      face_forth = λ n live. ap w' (d.face_forth (w n) (e.face n live)) ∙ e.face_forth n live;
+      face_back = λ n below. ap v (e.face_back (v' n) (d.face_within n below)) ∙ d.face_back n below;
+      face_within = λ n below. e.face_within (v' n) (d.face_within n below);
+      face_comes = λ n below. d.face_comes n below ∙ e.face_comes (v' n) (d.face_within n below);
+      inner = λ n inside below. e.inner (v' n) (d.inner n inside below) (d.face_within n below);
+      word = λ n below.
+          d.word n below ∙ ap (λ u. from_least (map g u)) (e.word (v' n) (d.face_within n below)) ∙ word_then (w' (v' n));
+      outer = d.outer ∙ ap (λ u. from_least (map g u)) e.outer ∙ word_then 0;
+    };
   }

@@ -20,6 +20,17 @@ use Rattle.dcel_maps.proofs.words.Agreement.{same_words_stand}
 use Rattle.dcel_maps.proofs.words.Reading.{face_in-is, next_in-is, prev_in-is}
 use Rattle.dcel_maps.proofs.words.Renames.{WordsRenamed, renamed_empty, renamed_stand}
 
+-- the faces of T are those of S with other numbers, given by w (back by w'), where half edges have others by f
+pub record FacesRenamed (S T : Shape) (f w w' : ℕ → ℕ) : Type 0 where
+  pub face : (g : ℕ) → face_is_live S g ≡ true → face_is_live T (w g) ≡ true
+  pub face_forth : (g : ℕ) → face_is_live S g ≡ true → w' (w g) ≡ g
+  pub face_back : (g : ℕ) → g < face_count T → w (w' g) ≡ g
+  pub face_within : (g : ℕ) → g < face_count T → w' g < face_count S
+  pub face_comes : (g : ℕ) → g < face_count T → face_is_live T g ≡ face_is_live S (w' g)
+  pub inner : (g : ℕ) → 0 < g → g < face_count T → 0 < w' g
+  pub word : (g : ℕ) → g < face_count T → word_of T.words g ≡ from_least (map f (word_of S.words (w' g)))
+  pub outer : word_of T.words 0 ≡ from_least (map f (word_of S.words 0))
+
 -- T is S with other numbers: half edges by f (back by f'), vertices by o (back by o'), faces by w (back by w')
 pub record IsRenamed (S T : Shape) (f f' o o' w w' : ℕ → ℕ) : Type 0 where
   pub lives : (x : ℕ) → IsLive S x → IsLive T (f x)
@@ -30,14 +41,8 @@ pub record IsRenamed (S T : Shape) (f f' o o' w w' : ℕ → ℕ) : Type 0 where
   pub origin : (x : ℕ) → IsLive S x → origin_of T (f x) ≡ o (origin_of S x)
   pub vertex : (x : ℕ) → IsLive S x → vertex_is_live T (o (origin_of S x)) ≡ true
   pub vertex_forth : (x : ℕ) → IsLive S x → o' (o (origin_of S x)) ≡ origin_of S x
-  pub face : (g : ℕ) → face_is_live S g ≡ true → face_is_live T (w g) ≡ true
-  pub face_forth : (g : ℕ) → face_is_live S g ≡ true → w' (w g) ≡ g
-  pub face_back : (g : ℕ) → g < face_count T → w (w' g) ≡ g
-  pub face_within : (g : ℕ) → g < face_count T → w' g < face_count S
-  pub face_comes : (g : ℕ) → g < face_count T → face_is_live T g ≡ face_is_live S (w' g)
-  pub inner : (g : ℕ) → 0 < g → g < face_count T → 0 < w' g
-  pub word : (g : ℕ) → g < face_count T → word_of T.words g ≡ from_least (map f (word_of S.words (w' g)))
-  pub outer : word_of T.words 0 ≡ from_least (map f (word_of S.words 0))
+  pub on_faces : FacesRenamed S T f w w'
+  pub open on_faces use *
 
 -- the links of S under the other numbers, with the counts of T
 abbrev renamed_map : Shape → Shape → (ℕ → ℕ) → (ℕ → ℕ) → (ℕ → ℕ) → (ℕ → ℕ) → Map
@@ -94,10 +99,12 @@ module _ (S T : Shape) (f f' o o' w w' : ℕ → ℕ) (e : IsRenamed S T f f' o 
     edges = refl;
     faces = refl;
     edge = λ u. refl;
-    next = next_in-is (renamed_map S T f f' o w) T.words (renamed_stands good);
-    prev = prev_in-is (renamed_map S T f f' o w) T.words (renamed_stands good);
-    origin = λ y live. ap (origin_of T) (sym (e.back y live)) ∙ e.origin (f' y) (e.comes y live);
-    face = face_in-is (renamed_map S T f f' o w) T.words (renamed_stands good);
+    links = record {
+      next = next_in-is (renamed_map S T f f' o w) T.words (renamed_stands good);
+      prev = prev_in-is (renamed_map S T f f' o w) T.words (renamed_stands good);
+      origin = λ y live. ap (origin_of T) (sym (e.back y live)) ∙ e.origin (f' y) (e.comes y live);
+      face = face_in-is (renamed_map S T f f' o w) T.words (renamed_stands good);
+    };
   }
 
   bare : (g : ℕ) → face_is_live T g ≡ false → word_of T.words g ≡ []
@@ -144,15 +151,7 @@ module _ (S T : Shape) (f f' o o' w w' : ℕ → ℕ) (e : IsRenamed S T f f' o 
   pub renamed-sound : IsSound T
   renamed-sound =
       sound-from_map T (agrees-sound (renamed_map S T f f' o w) (map_of T) agrees good)
-      (same_words_stand (renamed_map S T f f' o w) (map_of T)
-      record {
-        faces = refl;
-        edges = omega arith;
-        edge = λ u. refl;
-        next = agrees.next;
-        prev = agrees.prev;
-        face = agrees.face;
-      } T.words (renamed_stands good))
+      (same_words_stand (renamed_map S T f f' o w) (map_of T) agrees T.words (renamed_stands good))
       bare inner outer starts_live
 
   -- and a sphere

@@ -26,24 +26,17 @@ module _ (s : Shape) (T : Map) (shows : Shows s T) where
     edges = shows.edges;
     faces = shows.stands.faces;
     edge = shows.edge;
-    next = next_in-is T s.words shows.stands;
-    prev = prev_in-is T s.words shows.stands;
-    origin = shows.origin;
-    face = face_in-is T s.words shows.stands;
+    links = record {
+      next = next_in-is T s.words shows.stands;
+      prev = prev_in-is T s.words shows.stands;
+      origin = shows.origin;
+      face = face_in-is T s.words shows.stands;
+    };
   }
 
   -- and stand for its words
   pub shown-stands : Stands (map_of s) s.words
-  shown-stands =
-      same_words_stand T (map_of s)
-      record {
-        faces = shows.stands.faces;
-        edges = omega (arith, shows.edges);
-        edge = shows.edge;
-        next = next_in-is T s.words shows.stands;
-        prev = prev_in-is T s.words shows.stands;
-        face = face_in-is T s.words shows.stands;
-      } s.words shows.stands
+  shown-stands = same_words_stand T (map_of s) shown-agrees s.words shows.stands
 
   -- anchors that are right in T are right
   pub anchors-vertex : (v : ℕ) (o : Option ℕ) → Labelled T T.origin v o → AnchorsVertex s v o

@@ -1,5 +1,5 @@
 -- The numbers between two, and what is left of them after one is taken from either end.
-use Rattle.std.proofs.Common.{◌≡◌, ℕ, ◌+◌, ◌-◌, ◌<◌, ◌≤◌, [], ◌∷◌, ◌++◌, length, arith}
+use Rattle.std.proofs.Common.{◌≡◌, ℕ, ◌+◌, ◌-◌, ◌<◌, ◌≤◌, [], ◌∷◌, ◌++◌, length, subst, arith}
 use Rattle.std.proofs.iter.Rest.{range_with_len_first, range_with_len_last, range_with_len_none}
 use Rattle.std.proofs.lemmas.List.FromFn.{get_or-range_with_len, length-range_with_len}
 use Rattle.std.specs.List.{All}
@@ -12,6 +12,11 @@ numbers-first a b less = range_with_len_first a b less
 pub numbers-last : (a b : ℕ) → a < b → numbers_between a b ≡ numbers_between a (b - 1) ++ (b - 1) ∷ []
 unfolding numbers_between
 numbers-last a b less = range_with_len_last a b less
+
+pub numbers-next : (a b : ℕ) → a ≤ b → numbers_between a (b + 1) ≡ numbers_between a b ++ b ∷ []
+numbers-next a b above =
+    let is : b + 1 - 1 ≡ b = omega arith in
+    subst (λ k. numbers_between a (b + 1) ≡ numbers_between a k ++ k ∷ []) is (numbers-last a (b + 1) (omega (arith, above)))
 
 pub numbers-none : (a b : ℕ) → b ≤ a → numbers_between a b ≡ []
 unfolding numbers_between

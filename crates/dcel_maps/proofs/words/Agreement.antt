@@ -1,21 +1,14 @@
 -- Maps that link the same half edges stand for the same words.
-use Rattle.std.proofs.Common.{◌≡◌, ℕ, ◌/◌, ◌≤◌, List, sym, ◌∙◌, arith}
-use Rattle.dcel_maps.specs.Maps.{Map, Live}
+use Rattle.std.proofs.Common.{ℕ, ◌/◌, List, sym, ◌∙◌, arith}
+use Rattle.dcel_maps.specs.Maps.{Map}
 use Rattle.dcel_maps.specs.theory.Standing.{Follows, Stands}
 use Rattle.dcel_maps.specs.Words.{word_of}
 use Rattle.dcel_maps.proofs.words.Paths.{IsCycle-weaker}
 use Rattle.dcel_maps.proofs.words.Reading.{live_in}
+use Rattle.dcel_maps.proofs.maps.Agreement.{Agrees}
 
--- T has the faces and the live edges of S, and links each live half edge as S does
-pub record SameWords (S T : Map) : Type 0 where
-  pub faces : T.faces ≡ S.faces
-  pub edges : S.edges ≤ T.edges
-  pub edge : (u : ℕ) → T.edge u ≡ S.edge u
-  pub next : (x : ℕ) → Live S x → T.next x ≡ S.next x
-  pub prev : (x : ℕ) → Live S x → T.prev x ≡ S.prev x
-  pub face : (x : ℕ) → Live S x → T.face x ≡ S.face x
-
-pub same_words_stand : (S T : Map) → SameWords S T → (ws : List (List ℕ)) → Stands S ws → Stands T ws
+-- where T agrees with S, it stands for the words of S
+pub same_words_stand : (S T : Map) → Agrees S T → (ws : List (List ℕ)) → Stands S ws → Stands T ws
 same_words_stand S T same ws st = record {
   faces = st.faces ∙ sym same.faces;
   cycles = λ f within.

@@ -29,8 +29,8 @@ pub fn cleanup_isolated_vertex<V, DE: Drop, UE: Drop, F: Drop, A: Allocator, B: 
     ensures smallest { opened.new.smallest_new_edge ≡ opened.old.smallest_new_edge }
     ensures mesh { IsMesh dcel.new }
 {
-    opened.edges_to_remove.sort_unstable();
-    opened.faces_to_remove.sort_unstable();
+    opened.edges_to_remove.copy_from_slice(dcel.removal.edges());
+    opened.faces_to_remove.copy_from_slice(dcel.removal.faces());
     take_out_edges(&mut dcel.store, &opened.edges_to_remove);
     take_out_faces(&mut dcel.store, &opened.faces_to_remove);
     dcel.removal.clean_up();
@@ -38,8 +38,8 @@ pub fn cleanup_isolated_vertex<V, DE: Drop, UE: Drop, F: Drop, A: Allocator, B: 
 
 /// Takes a vertex out, and answers its datum. The last vertex gets its number, with its datum, its anchor and its out edges; the answer
 /// tells the number that it had, if it was another one. No removal is open afterwards. It takes no memory, and asks that no removal is open
-/// and the vertex is unconnected ([`is_unconnected`](Dcel::is_unconnected)), or that it is the one of a removal that is cleaned up
-/// ([`removal_state`](Dcel::removal_state)).
+/// ([`removal_state`](Dcel::removal_state)) and the vertex is unconnected ([`is_unconnected`](Dcel::is_unconnected)), or that it is the one
+/// of a removal that is cleaned up: then it is the one vertex that isn't live ([`is_live_vertex`](Dcel::is_live_vertex)).
 pub fn swap_remove_vertex<V, DE, UE, F, A: Allocator>(
     dcel: &mut Dcel<V, DE, UE, F, A>,
     vertex: FixedVertexHandle,

@@ -9,4 +9,4 @@ datum_missing : (items others : List (List ℕ)) (item : List ℕ) → items ≡
 datum_missing items others item e none n d in_n in_d same = none d [] in_d (cc)
 
 pub returns-in_err-d : goal.returns-in_err-d
-returns-in_err-d g c = rw c.from_residual-in_err-d.ensures (datum_missing _ _ _ c.in_ok-n.ensures c.in_err-d.ensures)
+returns-in_err-d g c = rw c.from_residual-in_err-d.ensures (datum_missing _ _ _ c.in_ok-n.ensures.read c.in_err-d.ensures)

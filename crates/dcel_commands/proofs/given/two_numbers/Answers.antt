@@ -9,4 +9,4 @@ second_missing : (items others : List (List ℕ)) (item : List ℕ) → items �
 second_missing items others item e none m n in_m in_n same = none n [] in_n (cc)
 
 pub returns-in_err-n : goal.returns-in_err-n
-returns-in_err-n g c = rw c.from_residual-in_err-n.ensures (second_missing _ _ _ c.in_ok-m.ensures c.in_err-n.ensures)
+returns-in_err-n g c = rw c.from_residual-in_err-n.ensures (second_missing _ _ _ c.in_ok-m.ensures.read c.in_err-n.ensures.read)

@@ -9,4 +9,4 @@ pub returns-in-Half : goal.returns-in-Half
 returns-in-Half g c = writes_text (rw (c.in-Half.is, c.index-in-Half.ensures.value) refl) (writes_and c.numbered-in-Half.ensures c.write-in-Half.ensures)
 
 pub returns-in-Halves : goal.returns-in-Halves
-returns-in-Halves g c = writes_text (rw c.in-Halves.is refl) (writes_and (writes_and c.write-in-Halves.ensures c.write_half_edges.ensures) c.write-in-Halves-2.ensures)
+returns-in-Halves g c = writes_text (rw c.in-Halves.is refl) (writes_and (writes_and c.write-in-Halves.ensures c.write_numbers.ensures) c.write-in-Halves-2.ensures)

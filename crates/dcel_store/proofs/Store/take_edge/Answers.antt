@@ -1,25 +1,17 @@
-use Rattle.std.proofs.Common.{◌≡◌, ◌+◌, ◌-◌, ◌<◌, length, vec_len, vec_capacity, refl, sym, arith}
+use Rattle.std.proofs.Common.{◌≡◌, ◌+◌, ◌-◌, ◌<◌, length, vec_len, vec_capacity, refl, arith}
 use Rattle.std.proofs.lemmas.List.{length-map}
 use Rattle.dcel_store.proofs.Taken.{links-taken, map-swap_remove, pairs-first, pairs-second, pairs-swap_remove}
 use Rattle.dcel_store.proofs.Store.take_edge.Goals as goal
 
 pub returns-clause-normalized : goal.returns-clause-normalized
-returns-clause-normalized g c =
-    let entries = c.self.inside.edges.items in
-    let within : c.args.edge < length entries =
-    omega (arith, length-map entries (λ e. e.edge_data.undirected), rw (← c.self.view_is) at c.requires) in
-    rw (← c.self.view_is)
-    (sym (pairs-first (λ e. e.edge_data.normalized) (λ e. e.edge_data.reversed) entries c.args.edge c.swap_remove.result
-    c.swap_remove.result.edge_data.normalized within (rw c.index.ensures.value at c.swap_remove.ensures.value)))
+returns-clause-normalized g c = rw (← c.self.view_is)
+    (pairs-first (λ e. e.edge_data.normalized) (λ e. e.edge_data.reversed) (λ e. e.edge_data.undirected) c.self.inside.edges.items c.args.edge c.swap_remove.result
+    c.swap_remove.result.edge_data.normalized (rw (← c.self.view_is) at c.requires) c.index.ensures.value c.swap_remove.ensures.value)
 
 pub returns-clause-reversed : goal.returns-clause-reversed
-returns-clause-reversed g c =
-    let entries = c.self.inside.edges.items in
-    let within : c.args.edge < length entries =
-    omega (arith, length-map entries (λ e. e.edge_data.undirected), rw (← c.self.view_is) at c.requires) in
-    rw (← c.self.view_is)
-    (sym (pairs-second (λ e. e.edge_data.normalized) (λ e. e.edge_data.reversed) entries c.args.edge c.swap_remove.result
-    c.swap_remove.result.edge_data.reversed within (rw c.index.ensures.value at c.swap_remove.ensures.value)))
+returns-clause-reversed g c = rw (← c.self.view_is)
+    (pairs-second (λ e. e.edge_data.normalized) (λ e. e.edge_data.reversed) (λ e. e.edge_data.undirected) c.self.inside.edges.items c.args.edge c.swap_remove.result
+    c.swap_remove.result.edge_data.reversed (rw (← c.self.view_is) at c.requires) c.index.ensures.value c.swap_remove.ensures.value)
 
 pub returns-clause-others : goal.returns-clause-others
 returns-clause-others g c =

@@ -1,20 +1,9 @@
-use Rattle.std.proofs.Common.{◌≡◌, ◌+◌, ◌-◌, ◌<◌, length, vec_len, vec_capacity, None, refl, arith}
-use Rattle.std.proofs.lemmas.List.{length-map}
-use Rattle.dcel_store.proofs.Taken.{map-swap_remove}
+use Rattle.std.proofs.Common.{arith}
+use Rattle.dcel_store.specs.Records.{lists_of}
+use Rattle.dcel_store.proofs.Taken.{element_taken}
 use Rattle.dcel_store.proofs.Store.take_vertex.Goals as goal
 
 pub returns-clause-others : goal.returns-clause-others
-returns-clause-others g c =
-    let entries = c.self.inside.vertices.items in
-    let left = c.swap_remove.new.self in
-    let some : 0 < length entries = omega (arith, length-map entries (λ v. v.«data»), rw (← c.self.view_is) at c.requires) in
-    let room : vec_capacity left - vec_len left ≡ vec_capacity c.self.inside.vertices - vec_len c.self.inside.vertices + 1 =
-    omega (arith, c.swap_remove.ensures.len, c.swap_remove.ensures.capacity) in
-    rw (
-      ← c.self.view_is,
-      c.swap_remove.ensures.items,
-      c.index.ensures.value,
-      room,
-      map-swap_remove (λ v. v.«data») entries c.args.vertex c.swap_remove.result c.swap_remove.result.«data» some,
-      map-swap_remove (λ v. v.out_edge) entries c.args.vertex c.swap_remove.result None some,
-    ) refl
+returns-clause-others g c = rw (← c.self.view_is)
+    (element_taken (λ e. e.«data») (λ e. e.out_edge) (λ items anchors room. record (lists_of c.self.inside) { vertex_data = items; vertex_anchors = anchors; vertex_room = room }) c.self.inside.vertices.items c.swap_remove.result _
+    c.swap_remove.ensures.items c.index.ensures.value (rw (← c.self.view_is) at c.requires) (omega (arith, c.swap_remove.ensures.len, c.swap_remove.ensures.capacity)))

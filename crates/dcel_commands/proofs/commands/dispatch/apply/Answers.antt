@@ -1,17 +1,18 @@
 use Rattle.std.proofs.Common.{ℕ, Ok, Err}
 use Rattle.std.specs.Prelude.{◌≡◌, Result, IfOk, IfErr, OnOk, OnErr}
-use Rattle.dcel_commands.specs.declared.commands.command.Command.{Command}
 use Rattle.dcel_commands.specs.declared.commands.reply.Refused.{Refused}
 use Rattle.dcel_commands.specs.declared.commands.reply.Reply.{Reply}
+use Rattle.dcel_commands.specs.Instructions.{Instruction, instruction}
+use Rattle.dcel_commands.specs.Responses.{answered, response}
 use Rattle.dcel_commands.specs.Steps.{Carries, IsRefusal, Legal, Step}
 use Rattle.dcel_maps.specs.Shapes.{Mesh}
 use Rattle.dcel_commands.proofs.commands.dispatch.apply.Given.{Over}
 use Rattle.dcel_commands.proofs.commands.dispatch.apply.Goals as goal
-use Rattle.dcel_commands.proofs.commands.dispatch.apply.Goals.{in-Append, in-Triangle, in-Setup, in-Extend, in-Line, in-Close, in-Outside, in-Insert, in-Half, in-Split, in-Flip, in-Swap, in-Put, in-Clear}
+use Rattle.dcel_commands.proofs.commands.dispatch.apply.Goals.{in-Append, in-Triangle, in-Setup, in-Extend, in-Line, in-Close, in-Outside, in-Insert, in-Half, in-Split, in-Flip, in-Swap, in-Put, in-Isolate, in-Remesh, in-Strip, in-Cleanup, in-Remove, in-Degenerate, in-Clear}
 
 -- each line carries out its command
 carries : (g : Over) (c : goal.After-every_mesh g)
-    → Carries g.DE.Default.is_default g.UE.Default.is_default g.F.Default.is_default c.args.limit c.args.dcel.now c.args.command c.match-command.answer c.match-command.dcel
+    → Carries g.DE.Default.is_default g.UE.Default.is_default g.F.Default.is_default c.args.limit c.args.dcel.now (instruction c.args.command) (answered c.match-command.answer) c.match-command.dcel
 carries g c = elim c.match-command.branch [
   | in-Append w ↦ rw (w.answer-is, w.dcel-is, w.in-Append.is) w.carry_out-answer.ensures
   | in-Triangle w ↦ rw (w.answer-is, w.dcel-is, w.in-Triangle.is) w.carry_out-answer-in-Triangle.ensures
@@ -26,13 +27,19 @@ carries g c = elim c.match-command.branch [
   | in-Flip w ↦ rw (w.answer-is, w.dcel-is, w.in-Flip.is) (w.carry_out-answer-in-Flip.ensures c.args.limit)
   | in-Swap w ↦ rw (w.answer-is, w.dcel-is, w.in-Swap.is) w.carry_out-answer-in-Swap.ensures
   | in-Put w ↦ rw (w.answer-is, w.dcel-is, w.in-Put.is) (w.carry_out-answer-in-Put.ensures c.args.limit)
+  | in-Isolate w ↦ rw (w.answer-is, w.dcel-is, w.in-Isolate.is) w.carry_out-answer-in-Isolate.ensures
+  | in-Remesh w ↦ rw (w.answer-is, w.dcel-is, w.in-Remesh.is) w.carry_out-answer-in-Remesh.ensures
+  | in-Strip w ↦ rw (w.answer-is, w.dcel-is, w.in-Strip.is) (w.carry_out-answer-in-Strip.ensures c.args.limit)
+  | in-Cleanup w ↦ rw (w.answer-is, w.dcel-is, w.in-Cleanup.is) (w.carry_out-answer-in-Cleanup.ensures c.args.limit)
+  | in-Remove w ↦ rw (w.answer-is, w.dcel-is, w.in-Remove.is) (w.carry_out-answer-in-Remove.ensures c.args.limit)
+  | in-Degenerate w ↦ rw (w.answer-is, w.dcel-is, w.in-Degenerate.is) (w.carry_out-answer-in-Degenerate.ensures c.args.limit)
   | in-Clear w ↦ rw (w.answer-is, w.dcel-is, w.in-Clear.is) (w.carry_out-answer-in-Clear.ensures c.args.limit)
 ]
 
 -- what that says where the command was carried out, and where it was refused
-parts : {V DE UE F : Type 0} (is_half : DE → Type 0) (is_edge : UE → Type 0) (is_face : F → Type 0) (limit : ℕ) (old new : Mesh V DE UE F) (command : Command V) (outcome : Result Reply (Refused V))
-    → Carries is_half is_edge is_face limit old command outcome new
-    → IfOk outcome (λ reply. Step is_half is_edge is_face old command reply new) × OnOk outcome (Legal old.shape limit command) × IfErr outcome (λ refused. IsRefusal old.shape limit command refused) × OnErr outcome (new ≡ old)
+parts : {V A DE UE F : Type 0} (is_half : DE → Type 0) (is_edge : UE → Type 0) (is_face : F → Type 0) (limit : ℕ) (old new : Mesh V DE UE F) (command : Instruction V) (outcome : Result (Reply V A) (Refused V))
+    → Carries is_half is_edge is_face limit old command (answered outcome) new
+    → IfOk outcome (λ reply. Step is_half is_edge is_face old command (response reply) new) × OnOk outcome (Legal old.shape limit command) × IfErr outcome (λ refused. IsRefusal old.shape limit command refused) × OnErr outcome (new ≡ old)
 parts is_half is_edge is_face limit old new command (Ok reply) c = (c.1, c.0, tt, tt)
 parts is_half is_edge is_face limit old new command (Err refused) c = (tt, tt, c.0, c.1)
 

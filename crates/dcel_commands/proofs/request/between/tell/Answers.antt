@@ -1,5 +1,5 @@
 use Rattle.std.proofs.Common.{◌∙◌, ap}
-use Rattle.dcel_commands.specs.declared.commands.reply.Reply.TheVariants.{Half}
+use Rattle.dcel_commands.specs.Responses.{Half}
 use Rattle.dcel_commands.specs.Replies.{reply_text}
 use Rattle.dcel_commands.specs.request.Between.{edge_text}
 use Rattle.dcel_commands.proofs.request.between.tell.Goals as goal

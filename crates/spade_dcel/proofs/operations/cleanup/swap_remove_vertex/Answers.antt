@@ -3,7 +3,7 @@ use Rattle.dcel_maps.proofs.renumbering.Vertices.{can_swap_remove-out}
 use Rattle.dcel_edits.proofs.Public.{mesh-is-mesh}
 use Rattle.dcel_edits.proofs.stored.Changes.{held_mesh}
 use Rattle.dcel_edits.proofs.stored.Holding.{holds}
-use Rattle.dcel_edits.proofs.stored.TakingOut.{can_lose_vertex, holds_without_vertex}
+use Rattle.dcel_edits.proofs.stored.TakingOut.{lose_vertex}
 use Rattle.spade_dcel.proofs.operations.cleanup.swap_remove_vertex.Goals as goal
 
 pub overflow_sub-num_vertices : goal.overflow_sub-num_vertices
@@ -15,19 +15,19 @@ overflow_sub-num_vertices g c =
 pub take_out_vertex-removed_vertex-requires : goal.take_out_vertex-removed_vertex-requires
 take_out_vertex-removed_vertex-requires g c =
     let held = holds c.dcel.invariant c.dcel.view_is in
-    can_lose_vertex held _ (can_swap_remove-out _ (held_mesh _ _ _ held) _ c.requires)
+    (lose_vertex held _ (can_swap_remove-out _ (held_mesh _ _ _ held) _ c.requires)).0
 
 pub invariant_of-dcel : goal.invariant_of-dcel
 invariant_of-dcel g c =
     let held = holds c.dcel.invariant c.dcel.view_is in
     rw (c.closed.ensures, c.take_out_vertex-removed_vertex.ensures.lists)
-    (holds_without_vertex held _ (can_swap_remove-out _ (held_mesh _ _ _ held) _ c.requires)).stored
+    (lose_vertex held _ (can_swap_remove-out _ (held_mesh _ _ _ held) _ c.requires)).1.stored
 
 pub returns-clause-edit : goal.returns-clause-edit
 returns-clause-edit g c =
     let held = holds c.dcel.invariant c.dcel.view_is in
     rw (c.closed.ensures, c.take_out_vertex-removed_vertex.ensures.lists)
-    (holds_without_vertex held _ (can_swap_remove-out _ (held_mesh _ _ _ held) _ c.requires)).is
+    (lose_vertex held _ (can_swap_remove-out _ (held_mesh _ _ _ held) _ c.requires)).1.is
 
 pub returns-clause-mesh : goal.returns-clause-mesh
 returns-clause-mesh g c = mesh-is-mesh _ _ (invariant_of-dcel g c)

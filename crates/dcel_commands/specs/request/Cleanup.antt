@@ -1,0 +1,24 @@
+-- `cleanup U.. / F..`: what the open removal has given up is taken out, all but its vertex.
+use Rattle.std.specs.Prelude.{◌≡◌, ℕ, false, List, [], ◌∷◌, ◌++◌, codes}
+use Rattle.dcel_commands.specs.declared.commands.reply.Handed.TheVariants.{Nothing}
+use Rattle.dcel_commands.specs.declared.refusal.Refusal.TheVariants.{NoSuchEdge, NoSuchFace, NoRemoval, WrongLists}
+use Rattle.dcel_commands.specs.Conditions.{EdgesInRange, InnerFacesInRange, NotCleaned, Listed}
+use Rattle.dcel_commands.specs.Grammar.{Slash, numbers}
+use Rattle.dcel_commands.specs.Responses.{Done}
+use Rattle.dcel_commands.specs.Rules.{CommandRule}
+use Rattle.dcel_maps.specs.Renumbering.{cleaned_up}
+
+abbrev pub cleanup : {V : Type 0} → List ℕ → List ℕ → CommandRule V
+cleanup us fs = record {
+  word = codes "cleanup";
+  given = numbers us ++ Slash ∷ numbers fs;
+  asks = λ limit.
+      (NoSuchEdge, EdgesInRange us)
+      ∷ (NoSuchFace, InnerFacesInRange fs)
+      ∷ (NoRemoval, NotCleaned)
+      ∷ (WrongLists, Listed us fs)
+      ∷ [];
+  takes_memory = false;
+  handed = Nothing;
+  Makes = λ is_half is_edge is_face old reply new. (reply ≡ Done) × (new ≡ cleaned_up old);
+}

@@ -1,0 +1,42 @@
+//! `cleanup U.. / F..`
+
+ghost use Rattle.std.specs.Prelude.{ℕ};
+ghost use Rattle.dcel_commands.specs.Vocabulary.{Carries, Cleanup, answered};
+
+use super::*;
+use spade_dcel::operations::{IsolateVertexResult, cleanup_isolated_vertex};
+
+/// Carries the command out.
+pub fn carry_out<
+    V,
+    DE: Default + Drop,
+    UE: Default + Drop,
+    F: Default + Drop,
+    A: Allocator,
+    B: Allocator + Copy,
+>(
+    dcel: &mut Dcel<V, DE, UE, F, A>,
+    edges: Vec<FixedUndirectedEdgeHandle, B>,
+    faces: Vec<FixedFaceHandle<InnerTag>, B>,
+) -> Result<Reply<V, A>, Refused<V>>
+    ensures { (limit : ℕ) → Carries DE.is_default UE.is_default F.is_default limit dcel.old (Cleanup edges.items faces.items) (answered result) dcel.new }
+{
+    ask(
+        are_below(&edges, dcel.num_undirected_edges()),
+        Refusal::NoSuchEdge,
+    )?;
+    ask(
+        are_inner_faces(&faces, dcel.num_faces()),
+        Refusal::NoSuchFace,
+    )?;
+    ask(is_isolated(dcel), Refusal::NoRemoval)?;
+    let mut opened = IsolateVertexResult {
+        new_edges: Vec::new(*edges.allocator()),
+        smallest_new_edge: FixedUndirectedEdgeHandle::new(0),
+        edges_to_remove: edges,
+        faces_to_remove: faces,
+    };
+    ask(dcel.is_listed(&opened), Refusal::WrongLists)?;
+    cleanup_isolated_vertex(dcel, &mut opened);
+    Ok(Reply::Ok)
+}

@@ -1,0 +1,21 @@
+//! `degenerate V`
+
+ghost use Rattle.std.specs.Prelude.{ℕ};
+ghost use Rattle.dcel_commands.specs.Vocabulary.{Carries, Degenerate, answered};
+
+use super::*;
+use spade_dcel::operations::remove_when_degenerate;
+
+/// Carries the command out.
+pub fn carry_out<V, DE: Default + Drop, UE: Default + Drop, F: Default, A: Allocator>(
+    dcel: &mut Dcel<V, DE, UE, F, A>,
+    vertex: FixedVertexHandle,
+) -> Result<Reply<V, A>, Refused<V>>
+    ensures { (limit : ℕ) → Carries DE.is_default UE.is_default F.is_default limit dcel.old (Degenerate vertex) (answered result) dcel.new }
+{
+    ask(has_vertex(dcel, vertex), Refusal::NoSuchVertex)?;
+    ask(is_closed(dcel), Refusal::RemovalOpen)?;
+    ask(dcel.can_remove_degenerate(vertex), Refusal::NotPath)?;
+    let removed = remove_when_degenerate(dcel, vertex);
+    Ok(Reply::Removed(removed))
+}

@@ -1,0 +1,32 @@
+//! `isolate V H..`
+
+ghost use Rattle.std.specs.Prelude.{◌≤◌, ◌^◌};
+ghost use Rattle.dcel_commands.specs.Vocabulary.{Carries, Isolate, answered};
+
+use super::*;
+use spade_dcel::operations::isolate_vertex_and_fill_hole;
+
+/// Carries the command out.
+pub fn carry_out<V, DE: Default, UE: Default, F: Default, A: Allocator + Clone, B: Allocator>(
+    dcel: &mut Dcel<V, DE, UE, F, A>,
+    vertex: FixedVertexHandle,
+    list: Vec<FixedDirectedEdgeHandle, B>,
+    limit: usize,
+) -> Result<Reply<V, A>, Refused<V>>
+    requires { limit ≤ 2 ^ 31 }
+    ensures { Carries DE.is_default UE.is_default F.is_default limit dcel.old (Isolate vertex list.items) (answered result) dcel.new }
+{
+    ask(has_vertex(dcel, vertex), Refusal::NoSuchVertex)?;
+    ask(
+        are_below(&list, dcel.num_directed_edges()),
+        Refusal::NoSuchEdge,
+    )?;
+    ask(is_closed(dcel), Refusal::RemovalOpen)?;
+    ask(dcel.is_border_loop(&list, vertex), Refusal::BadRing)?;
+    ask(
+        has_room(dcel, limit, 0, list.len() - 3, list.len() - 2),
+        Refusal::NoRoom,
+    )?;
+    let opened = isolate_vertex_and_fill_hole(dcel, list, vertex)?;
+    Ok(Reply::Opened(opened))
+}

@@ -1,0 +1,42 @@
+//! `remesh H.. / U.. / F..`
+
+ghost use Rattle.std.specs.Prelude.{◌≤◌, ◌^◌};
+ghost use Rattle.dcel_commands.specs.Vocabulary.{Carries, Remesh, answered};
+
+use super::*;
+use spade_dcel::operations::remesh_edge_ring;
+
+/// Carries the command out. The answered lists are in the mesh's memory.
+pub fn carry_out<V, DE: Default, UE: Default, F: Default, A: Allocator + Clone, B: Allocator>(
+    dcel: &mut Dcel<V, DE, UE, F, A>,
+    list: Vec<FixedDirectedEdgeHandle, B>,
+    edges: Vec<FixedUndirectedEdgeHandle, B>,
+    faces: Vec<FixedFaceHandle<InnerTag>, B>,
+    limit: usize,
+) -> Result<Reply<V, A>, Refused<V>>
+    requires { limit ≤ 2 ^ 31 }
+    ensures { Carries DE.is_default UE.is_default F.is_default limit dcel.old (Remesh list.items edges.items faces.items) (answered result) dcel.new }
+{
+    ask(
+        are_below(&list, dcel.num_directed_edges()),
+        Refusal::NoSuchEdge,
+    )?;
+    ask(
+        are_below(&edges, dcel.num_undirected_edges()),
+        Refusal::NoSuchEdge,
+    )?;
+    ask(
+        are_inner_faces(&faces, dcel.num_faces()),
+        Refusal::NoSuchFace,
+    )?;
+    ask(is_closed(dcel), Refusal::RemovalOpen)?;
+    ask(dcel.is_ring(&list, &edges, &faces), Refusal::BadRing)?;
+    ask(
+        has_room(dcel, limit, 0, list.len() - 3, list.len() - 2),
+        Refusal::NoRoom,
+    )?;
+    let edges = edges.to_vec(dcel.allocator().clone()?)?;
+    let faces = faces.to_vec(dcel.allocator().clone()?)?;
+    let opened = remesh_edge_ring(dcel, list, edges, faces)?;
+    Ok(Reply::Opened(opened))
+}

@@ -1,0 +1,37 @@
+//! `remove V`
+
+ghost use Rattle.std.specs.Prelude.{ℕ, ◌<◌, [], ◌∷◌, MatchResult};
+ghost use Rattle.dcel_commands.specs.Vocabulary.{AllMet, Carries, FirstUnmet, NoOtherOpen, Removable, Remove, answered};
+ghost use Rattle.dcel_commands.specs.declared.refusal.Refusal.TheVariants.{RemovalOpen, VertexInUse};
+
+use super::*;
+use spade_dcel::operations::swap_remove_vertex;
+
+/// Asks for a vertex in range that can be taken out.
+fn ask_removable<V, DE, UE, F, A: Allocator>(
+    dcel: &Dcel<V, DE, UE, F, A>,
+    vertex: FixedVertexHandle,
+) -> Result<(), Refusal>
+    requires { vertex < dcel.now.shape.vertices }
+    ensures { let asks = (RemovalOpen, NoOtherOpen vertex) ∷ (VertexInUse, Removable vertex) ∷ [] in
+        MatchResult result (λ _. AllMet dcel.now.shape asks) (λ why. FirstUnmet dcel.now.shape asks why) }
+{
+    if is_closed(dcel) {
+        return ask(dcel.is_unconnected(vertex), Refusal::VertexInUse);
+    }
+    ask(!is_isolated(dcel), Refusal::RemovalOpen)?;
+    ask(!dcel.is_live_vertex(vertex), Refusal::RemovalOpen)
+}
+
+/// Carries the command out.
+pub fn carry_out<V, DE: Default, UE: Default, F: Default, A: Allocator>(
+    dcel: &mut Dcel<V, DE, UE, F, A>,
+    vertex: FixedVertexHandle,
+) -> Result<Reply<V, A>, Refused<V>>
+    ensures { (limit : ℕ) → Carries DE.is_default UE.is_default F.is_default limit dcel.old (Remove vertex) (answered result) dcel.new }
+{
+    ask(has_vertex(dcel, vertex), Refusal::NoSuchVertex)?;
+    ask_removable(dcel, vertex)?;
+    let removed = swap_remove_vertex(dcel, vertex);
+    Ok(Reply::Removed(removed))
+}

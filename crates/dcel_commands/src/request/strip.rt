@@ -1,0 +1,24 @@
+//! `strip H..`
+
+ghost use Rattle.std.specs.Prelude.{ℕ};
+ghost use Rattle.dcel_commands.specs.Vocabulary.{Carries, Strip, answered};
+
+use super::*;
+use spade_dcel::operations::disconnect_edge_strip;
+
+/// Carries the command out.
+pub fn carry_out<V, DE: Default, UE: Default, F: Default, A: Allocator + Clone, B: Allocator>(
+    dcel: &mut Dcel<V, DE, UE, F, A>,
+    list: Vec<FixedDirectedEdgeHandle, B>,
+) -> Result<Reply<V, A>, Refused<V>>
+    ensures { (limit : ℕ) → Carries DE.is_default UE.is_default F.is_default limit dcel.old (Strip list.items) (answered result) dcel.new }
+{
+    ask(
+        are_below(&list, dcel.num_directed_edges()),
+        Refusal::NoSuchEdge,
+    )?;
+    ask(is_closed(dcel), Refusal::RemovalOpen)?;
+    ask(dcel.is_edge_strip(&list), Refusal::BadStrip)?;
+    let opened = disconnect_edge_strip(dcel, list)?;
+    Ok(Reply::Opened(opened))
+}

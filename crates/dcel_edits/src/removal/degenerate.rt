@@ -1,0 +1,108 @@
+//! Vertices of degenerate meshes taken out: the only one, or one of a path with an edge of it.
+
+ghost use Rattle.std.specs.Prelude.{◌≡◌, ◌/◌, ◌<◌, length, slice_index_or};
+ghost use Rattle.dcel_maps.specs.edits.Degenerate.{anchor_off};
+ghost use Rattle.dcel_edits.specs.Degenerate.{CanGiveUpOnPath, CanLoseDegenerate, CanUnlink, degenerate_out, going_from, path_stored, stand_in, unlinked};
+
+use crate::removal::take_out::{take_out_edge, take_out_vertex};
+use dcel_fixed::{
+    FixedDirectedEdgeHandle, FixedUndirectedEdgeHandle, FixedVertexHandle, OUTER_FACE,
+};
+use dcel_store::Store;
+use std::alloc::Allocator;
+
+/// Takes the only vertex out, or a vertex of a path with an edge of it, and answers the vertex's datum.
+pub fn take_out_degenerate<V, DE: Drop, UE: Drop, F, A: Allocator>(
+    store: &mut Store<V, DE, UE, F, A>,
+    vertex: FixedVertexHandle,
+) -> V
+    requires { CanLoseDegenerate store.old vertex }
+    ensures datum { result ≡ slice_index_or store.old.vertex_data vertex result }
+    ensures lists { store.new ≡ degenerate_out store.old vertex }
+{
+    if store.num_vertices() == 1 {
+        return take_out_vertex(store, vertex);
+    }
+    let edge = give_up_on_path(store, vertex);
+    take_out_edge(store, edge);
+    take_out_vertex(store, vertex)
+}
+
+// Gives up a vertex of a path with an edge, and answers that: the one of the out edge after the vertex's anchor, which is the anchor itself
+// at an end of the path. Else the anchor's edge joins the two neighbours afterwards.
+fn give_up_on_path<V, DE, UE, F, A: Allocator>(
+    store: &mut Store<V, DE, UE, F, A>,
+    vertex: FixedVertexHandle,
+) -> FixedUndirectedEdgeHandle
+    requires { CanGiveUpOnPath store.old vertex }
+    ensures edge { result ≡ going_from store.old vertex / 2 }
+    ensures lists { store.new ≡ path_stored store.old vertex }
+{
+    let Some(anchor) = store.vertex_anchor(vertex) else {
+        unreachable!()
+    };
+    let going = store.prev(anchor).rev();
+    let coming = going.rev();
+    let end = store.origin(coming);
+    let edge = going.as_undirected();
+    let instead = anchor_instead(store, anchor, going);
+    unlink(store, going);
+    unlink(store, coming);
+    store.set_origin(anchor, end);
+    let of_end = store.vertex_anchor(end);
+    store.set_vertex_anchor(end, off_edge(of_end, edge, &instead));
+    let of_face = store.face_anchor(OUTER_FACE);
+    store.set_face_anchor(OUTER_FACE, off_edge(of_face, edge, &instead));
+    store.set_vertex_anchor(vertex, None);
+    edge
+}
+
+// What takes the place of an anchor on the edge that goes: nothing where no other edge is left, at an end of the path the next half edge, and
+// else the other out edge.
+fn anchor_instead<V, DE, UE, F, A: Allocator>(
+    store: &Store<V, DE, UE, F, A>,
+    anchor: FixedDirectedEdgeHandle,
+    going: FixedDirectedEdgeHandle,
+) -> Option<FixedDirectedEdgeHandle>
+    requires { anchor < length store.now.next }
+    ensures { result ≡ stand_in store.now anchor going }
+{
+    if store.num_vertices() == 2 {
+        return None;
+    }
+    if anchor == going {
+        return Some(store.next(anchor));
+    }
+    Some(anchor)
+}
+
+// An anchor, but another one in the place of a half of this edge.
+fn off_edge(
+    anchor: Option<FixedDirectedEdgeHandle>,
+    edge: FixedUndirectedEdgeHandle,
+    other: &Option<FixedDirectedEdgeHandle>,
+) -> Option<FixedDirectedEdgeHandle>
+    ensures { result ≡ anchor_off edge other.now anchor }
+{
+    let Some(half) = anchor else {
+        return None;
+    };
+    if half.as_undirected() == edge {
+        return *other;
+    }
+    anchor
+}
+
+// Links what comes before a half edge with what comes after it.
+fn unlink<V, DE, UE, F, A: Allocator>(
+    store: &mut Store<V, DE, UE, F, A>,
+    edge: FixedDirectedEdgeHandle,
+)
+    requires { CanUnlink store.old edge }
+    ensures { store.new ≡ unlinked store.old edge }
+{
+    let next = store.next(edge);
+    let prev = store.prev(edge);
+    store.set_next(prev, next);
+    store.set_prev(next, prev);
+}

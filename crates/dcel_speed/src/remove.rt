@@ -1,0 +1,173 @@
+//! Vertices inside triangles, taken out.
+
+ghost use Rattle.std.specs.Prelude.{◌≤◌, ◌^◌, length};
+ghost use Rattle.dcel_maps.specs.Shapes.{IsLive};
+ghost use Rattle.spade_dcel.specs.Handles.{mesh_behind, number_of};
+
+use crate::digest::{digest_of, mix};
+use crate::fault::{BuildError, Fault};
+use crate::measure::{FEWEST_EDITING, least_of};
+use crate::neighbors::RoundVertex;
+use crate::random::Random;
+use crate::workloads::{Mesh, Outcome, Timed, triangulated};
+use spade_dcel::dcel::RemovalState;
+use spade_dcel::handles::{
+    DirectedEdgeHandle, FixedDirectedEdgeHandle, FixedVertexHandle, VertexHandle,
+};
+use spade_dcel::operations::{
+    cleanup_isolated_vertex, isolate_vertex_and_fill_hole, swap_remove_vertex,
+};
+use std::alloc::{AllocError, Global};
+use std::rt::Clock;
+use std::time::Instant;
+
+/// By how much its random numbers begin past those of `insert`.
+const OWN: u64 = 6;
+
+/// The first vertices are the corners of the first triangle, and all others lie inside.
+const CORNERS: usize = 3;
+
+/// Times the removal of the vertices inside a mesh of triangles, in an order that is drawn beforehand.
+pub fn remove<D: Default + Drop + Clone>(
+    rt: &(impl Clock + AllocGlobal),
+    size: u32,
+) -> Result<Timed, Fault> {
+    let built = triangulated::<D>(rt.alloc(), size)?;
+    let plan = plan_of(rt.alloc(), &built)?;
+    least_of(FEWEST_EDITING, || {
+        let mut dcel = built.try_clone(rt.alloc())?;
+        let start = Instant::now(rt)?;
+        let sum = remove_all(rt.alloc(), &mut dcel, &plan)?;
+        let elapsed = start.elapsed(rt)?;
+        let outcome = Outcome {
+            checksum: mix(digest_of(&dcel), sum),
+            operations: plan.len() as u64,
+        };
+        Ok(Timed { elapsed, outcome })
+    })
+}
+
+/// Takes the vertices of a plan out, and answers their data: the sum of each with 31 times what came before it.
+fn remove_all<D: Default + Drop>(
+    alloc: Global,
+    dcel: &mut Mesh<D>,
+    plan: &[FixedVertexHandle],
+) -> Result<u64, BuildError> {
+    let mut sum: u64 = 0;
+    for vertex in plan {
+        if let Some(datum) = remove_next(alloc, dcel, *vertex)? {
+            sum = sum.wrapping_mul(31).wrapping_add(datum.cast_unsigned());
+        }
+    }
+    Ok(sum)
+}
+
+/// Takes a vertex out, and answers its datum: None where its border is no border loop, and the mesh is as it was.
+#[inline]
+fn remove_next<D: Default + Drop>(
+    alloc: Global,
+    dcel: &mut Mesh<D>,
+    vertex: FixedVertexHandle,
+) -> Result<Option<i64>, BuildError> {
+    if dcel.removal_state() != RemovalState::Closed || !dcel.is_live_vertex(vertex) {
+        return Ok(None);
+    }
+    let border = border_of(alloc, dcel.vertex(vertex))?;
+    if !dcel.is_border_loop(&border, vertex) {
+        return Ok(None);
+    }
+    if !dcel.has_room(0, border.len() - 3, border.len() - 2) {
+        return Err(BuildError::NoRoom);
+    }
+    let mut opened = isolate_vertex_and_fill_hole(dcel, border, vertex)?;
+    cleanup_isolated_vertex(dcel, &mut opened);
+    let removal = swap_remove_vertex(dcel, vertex);
+    Ok(Some(removal.removed_vertex))
+}
+
+/// What comes after the half edges out of a vertex, which is counted from the least of them by `ccw` and taken from the back.
+#[inline]
+fn border_of<D>(
+    alloc: Global,
+    vertex: VertexHandle<'_, i64, D, D, D>,
+) -> Result<Vec<FixedDirectedEdgeHandle>, AllocError> {
+    let Some(out_edge) = vertex.out_edge() else {
+        return Ok(Vec::new(alloc));
+    };
+    let (least, count) = least_and_count(out_edge);
+    let mut border = Vec::with_capacity(alloc, count)?;
+    let mut edge = least;
+    for _ in 0..count {
+        edge = edge.cw();
+        border.push(edge.next().fix())?;
+    }
+    Ok(border)
+}
+
+/// The least of the half edges that start where this one does, and how many they are.
+#[inline]
+fn least_and_count<D>(
+    out_edge: DirectedEdgeHandle<'_, i64, D, D, D>,
+) -> (DirectedEdgeHandle<'_, i64, D, D, D>, usize)
+    requires { IsLive (mesh_behind out_edge).shape (number_of out_edge) }
+    ensures { IsLive (mesh_behind result.0).shape (number_of result.0) }
+{
+    let mut least = out_edge;
+    let mut count: usize = 0;
+    for edge in RoundVertex::new(out_edge) {
+        if edge.index() < least.index() {
+            least = edge;
+        }
+        count = count.wrapping_add(1);
+    }
+    (least, count)
+}
+
+/// The vertices that can be taken out one after another, in an order drawn at random, each under the number that it has then. Those
+/// whose border is no border loop when their turn comes are left out.
+fn plan_of<D: Default + Drop + Clone>(
+    alloc: Global,
+    built: &Mesh<D>,
+) -> Result<Vec<FixedVertexHandle>, BuildError> {
+    let mut dcel = built.try_clone(alloc)?;
+    let mut numbers: Vec<FixedVertexHandle> = dcel.fixed_vertices().collect(alloc)?;
+    let mut order: Vec<FixedVertexHandle> = dcel.fixed_vertices().collect(alloc)?;
+    let corners = CORNERS.min(order.len());
+    let (_, inside) = order.split_at_mut(corners);
+    shuffle(inside);
+    let mut plan = Vec::new(alloc);
+    for first_number in &*inside {
+        if let Some(vertex) = numbers.get(first_number.index()).copied() {
+            if remove_next(alloc, &mut dcel, vertex)?.is_some() {
+                plan.push(vertex)?;
+                renumber(&dcel, &mut numbers, vertex);
+            }
+        }
+    }
+    Ok(plan)
+}
+
+/// Brings vertices into an order that is drawn at random.
+fn shuffle(vertices: &mut [FixedVertexHandle])
+    requires { length vertices.old ≤ 2 ^ 32 }
+{
+    let count = vertices.len();
+    let mut random = Random::new(OWN);
+    for done in 1..count {
+        let place = count - done;
+        vertices.swap(place, random.below(place + 1));
+    }
+}
+
+/// Notes that a vertex has this number now. Its datum is the number that it had first.
+fn renumber<D>(dcel: &Mesh<D>, numbers: &mut [FixedVertexHandle], vertex: FixedVertexHandle) {
+    if vertex.index() >= dcel.num_vertices() {
+        return;
+    }
+    let Ok(first_number) = usize::try_from(*dcel.vertex_data(vertex)) else {
+        return;
+    };
+    if let Some(number) = numbers.get_mut(first_number) {
+        *number = vertex;
+    }
+}

@@ -1,0 +1,39 @@
+//! A vertex of a degenerate mesh removed: the only one, or one of a path.
+
+ghost use Rattle.std.specs.Prelude.{◌≡◌, ◌-◌, ◌==◌, cond, slice_index_or, Some, None};
+ghost use Rattle.dcel_maps.specs.Degenerate.{CanRemoveDegenerate};
+ghost use Rattle.dcel_maps.specs.edits.Degenerate.{removed_degenerate};
+ghost use Rattle.dcel_maps.specs.Shapes.{IsMesh};
+
+use crate::dcel::Dcel;
+use crate::operations::RemovalResult;
+use dcel_edits::removal::degenerate::take_out_degenerate;
+use dcel_fixed::FixedVertexHandle;
+use std::alloc::Allocator;
+
+/// Removes a vertex of a mesh that is one vertex, or a path: one face, with one or two out edges at each vertex. The end of a path goes
+/// with its edge. Of a vertex between two others, the edge of the out edge that is `ccw` of its anchor goes, and its other edge joins them.
+/// An anchor on the edge that goes is replaced: by None with two vertices, at an end by the half edge after the one that starts there, and
+/// else by the vertex's anchor. The last edge and the last vertex get the numbers of those that go. It answers the vertex's datum, and the
+/// number that the vertex had which has its number now, if another one has. It takes no memory, and asks that the vertex is one of such a
+/// mesh ([`can_remove_degenerate`](Dcel::can_remove_degenerate)).
+pub fn remove_when_degenerate<V, DE: Drop, UE: Drop, F, A: Allocator>(
+    dcel: &mut Dcel<V, DE, UE, F, A>,
+    vertex: FixedVertexHandle,
+) -> RemovalResult<V>
+    requires { CanRemoveDegenerate dcel.old.shape vertex }
+    ensures edit { dcel.new ≡ removed_degenerate dcel.old vertex }
+    ensures datum { result.removed_vertex
+        ≡ slice_index_or dcel.old.vertex_data vertex result.removed_vertex }
+    ensures moved { result.swapped_in_vertex
+        ≡ cond (vertex == dcel.old.shape.vertices - 1) None (Some (dcel.old.shape.vertices - 1)) }
+    ensures mesh { IsMesh dcel.new }
+{
+    let last = FixedVertexHandle::new(dcel.num_vertices() - 1);
+    let removed_vertex = take_out_degenerate(&mut dcel.store, vertex);
+    let swapped_in_vertex = if vertex == last { None } else { Some(last) };
+    RemovalResult {
+        removed_vertex,
+        swapped_in_vertex,
+    }
+}

@@ -1,0 +1,211 @@
+//! A vertex given up with its edges and the triangles round it, and the hole that they leave filled.
+
+ghost use Rattle.std.specs.Prelude.{◌≡◌, ◌↔◌, ◌+◌, ◌-◌, ◌^◌, ◌<◌, ◌≤◌, ◌++◌, ◌∷◌, [], ℕ, IfOk, OnErr, OnOk, length, map, true};
+ghost use Rattle.dcel_maps.specs.Borders.{GivesUpRound, IsBorderLoop, IsRing, center_of};
+ghost use Rattle.dcel_maps.specs.Conditions.{HasRoom};
+ghost use Rattle.dcel_maps.specs.edits.DefaultData.{AddsEdgesAndFaces};
+ghost use Rattle.dcel_maps.specs.edits.Fill.{border_filled, edges_at, faces_at, hole_filled, ring_remeshed};
+ghost use Rattle.dcel_maps.specs.Numbers.{numbers_between};
+ghost use Rattle.dcel_maps.specs.Removals.{Closed, gives_up_face, opened};
+ghost use Rattle.dcel_maps.specs.Shapes.{IsMesh};
+ghost use Rattle.dcel_maps.specs.Words.{count_of};
+
+use crate::dcel::Dcel;
+use crate::laws::every_mesh;
+use crate::operations::IsolateVertexResult;
+use dcel_edits::fill::{give_up, put_ears};
+use dcel_fixed::{
+    FixedDirectedEdgeHandle, FixedFaceHandle, FixedUndirectedEdgeHandle, FixedVertexHandle,
+    InnerTag,
+};
+use dcel_record::{GivenUp, RemovalRecord};
+use std::alloc::{AllocError, Allocator};
+
+// What is given up: edges, and faces.
+type GivenUpLists<A> = (
+    Vec<FixedUndirectedEdgeHandle, A>,
+    Vec<FixedFaceHandle<InnerTag>, A>,
+);
+
+/// Gives a vertex up that lies inside triangles alone, with its edges and these triangles, and cuts the hole into new triangles that
+/// meet where the last half edge of `border_loop` starts: `n - 2` of them by `n - 3` new edges, where the loop has `n` half edges. It
+/// answers the new edges in ascending order, and the edges and the faces that are given up in the order of the out edges of the vertex.
+/// What is given up is still there, for [`cleanup_isolated_vertex`](super::cleanup_isolated_vertex) to take out. It asks that no
+/// removal is open ([`removal_state`](Dcel::removal_state)), that the list is the border loop of the vertex
+/// ([`is_border_loop`](Dcel::is_border_loop)), and for room for the new edges and faces. Without memory the mesh is as it was.
+pub fn isolate_vertex_and_fill_hole<
+    V,
+    DE: Default,
+    UE: Default,
+    F: Default,
+    A: Allocator + Clone,
+    B: Allocator,
+>(
+    dcel: &mut Dcel<V, DE, UE, F, A>,
+    border_loop: Vec<FixedDirectedEdgeHandle, B>,
+    vertex: FixedVertexHandle,
+) -> Result<IsolateVertexResult<A>, AllocError>
+    requires closed { dcel.old.shape.removal ≡ Closed }
+    requires border { IsBorderLoop dcel.old.shape border_loop.items vertex }
+    requires room { HasRoom dcel.old.shape 0 (length border_loop.items - 3) (length border_loop.items - 2) }
+    ensures edit { OnOk result (AddsEdgesAndFaces DE.is_default UE.is_default F.is_default (length border_loop.items - 3) (length border_loop.items - 2)
+        dcel.new (hole_filled dcel.old vertex border_loop.items)) }
+    ensures edges { IfOk result (λ opened. opened.edges_to_remove.items ≡ edges_at dcel.old vertex) }
+    ensures faces { IfOk result (λ opened. opened.faces_to_remove.items ≡ faces_at dcel.old vertex) }
+    ensures new_edges { IfOk result (λ opened. opened.new_edges.items
+        ≡ numbers_between dcel.old.shape.edges (dcel.old.shape.edges + (length border_loop.items - 3))) }
+    ensures smallest { IfOk result (λ opened. opened.smallest_new_edge ≡ dcel.old.shape.edges) }
+    ensures refused { OnErr result (dcel.new ≡ dcel.old) }
+    ensures mesh { IsMesh dcel.new }
+{
+    every_mesh(dcel);
+    let (edges, faces) = lists_round(dcel, vertex, border_loop.len())?;
+    open(dcel, &border_loop, vertex, edges, faces)
+}
+
+/// Gives the vertex inside a ring up, with these edges and faces, which are those at it, and cuts the hole into new triangles as
+/// [`isolate_vertex_and_fill_hole`] does. It answers the lists as they were given, and the new edges in ascending order. It asks that no
+/// removal is open ([`removal_state`](Dcel::removal_state)), that the lists are a ring with what lies inside it
+/// ([`is_ring`](Dcel::is_ring)), and for room for the new edges and faces. Without memory the mesh is as it was.
+pub fn remesh_edge_ring<
+    V,
+    DE: Default,
+    UE: Default,
+    F: Default,
+    A: Allocator + Clone,
+    B: Allocator,
+>(
+    dcel: &mut Dcel<V, DE, UE, F, A>,
+    border_loop: Vec<FixedDirectedEdgeHandle, B>,
+    edges_to_remove: Vec<FixedUndirectedEdgeHandle, A>,
+    faces_to_remove: Vec<FixedFaceHandle<InnerTag>, A>,
+) -> Result<IsolateVertexResult<A>, AllocError>
+    requires closed { dcel.old.shape.removal ≡ Closed }
+    requires ring { IsRing dcel.old.shape border_loop.items edges_to_remove.items faces_to_remove.items }
+    requires room { HasRoom dcel.old.shape 0 (length border_loop.items - 3) (length border_loop.items - 2) }
+    ensures edit { OnOk result (AddsEdgesAndFaces DE.is_default UE.is_default F.is_default (length border_loop.items - 3) (length border_loop.items - 2)
+        dcel.new (ring_remeshed dcel.old border_loop.items edges_to_remove.items faces_to_remove.items)) }
+    ensures edges { IfOk result (λ opened. opened.edges_to_remove.items ≡ edges_to_remove.items) }
+    ensures faces { IfOk result (λ opened. opened.faces_to_remove.items ≡ faces_to_remove.items) }
+    ensures new_edges { IfOk result (λ opened. opened.new_edges.items
+        ≡ numbers_between dcel.old.shape.edges (dcel.old.shape.edges + (length border_loop.items - 3))) }
+    ensures smallest { IfOk result (λ opened. opened.smallest_new_edge ≡ dcel.old.shape.edges) }
+    ensures refused { OnErr result (dcel.new ≡ dcel.old) }
+    ensures mesh { IsMesh dcel.new }
+{
+    every_mesh(dcel);
+    let Some((&first, _)) = border_loop.split_first() else {
+        unreachable!()
+    };
+    let center = dcel.origin(dcel.prev_edge(first));
+    open(dcel, &border_loop, center, edges_to_remove, faces_to_remove)
+}
+
+// Gives the vertex inside a border up with these edges and faces, and fills the hole.
+fn open<V, DE: Default, UE: Default, F: Default, A: Allocator + Clone>(
+    dcel: &mut Dcel<V, DE, UE, F, A>,
+    border: &[FixedDirectedEdgeHandle],
+    vertex: FixedVertexHandle,
+    edges_to_remove: Vec<FixedUndirectedEdgeHandle, A>,
+    faces_to_remove: Vec<FixedFaceHandle<InnerTag>, A>,
+) -> Result<IsolateVertexResult<A>, AllocError>
+    requires closed { dcel.old.shape.removal ≡ Closed }
+    requires border { IsBorderLoop dcel.old.shape border.now vertex }
+    requires round { GivesUpRound dcel.old.shape vertex (opened edges_to_remove.items faces_to_remove.items vertex) }
+    requires room { HasRoom dcel.old.shape 0 (length border.now - 3) (length border.now - 2) }
+    ensures edit { OnOk result (AddsEdgesAndFaces DE.is_default UE.is_default F.is_default (length border.now - 3) (length border.now - 2)
+        dcel.new (border_filled dcel.old (opened edges_to_remove.items faces_to_remove.items vertex) border.now)) }
+    ensures edges { IfOk result (λ opened. opened.edges_to_remove ≡ edges_to_remove) }
+    ensures faces { IfOk result (λ opened. opened.faces_to_remove ≡ faces_to_remove) }
+    ensures new_edges { IfOk result (λ opened. opened.new_edges.items
+        ≡ numbers_between dcel.old.shape.edges (dcel.old.shape.edges + (length border.now - 3))) }
+    ensures smallest { IfOk result (λ opened. opened.smallest_new_edge ≡ dcel.old.shape.edges) }
+    ensures refused { OnErr result (dcel.new ≡ dcel.old) }
+    ensures mesh { IsMesh dcel.new }
+{
+    every_mesh(dcel);
+    let begin = dcel.num_undirected_edges();
+    let new_edges = edges_between(begin, begin + (border.len() - 3), dcel.allocator().clone()?)?;
+    let edges = GivenUp::new(&edges_to_remove, dcel.allocator().clone()?)?;
+    let faces = GivenUp::new(&faces_to_remove, dcel.allocator().clone()?)?;
+    let given_up = RemovalRecord::isolated(edges, faces, vertex);
+    fill(dcel, border, vertex, &faces_to_remove, given_up)?;
+    Ok(IsolateVertexResult {
+        new_edges,
+        smallest_new_edge: FixedUndirectedEdgeHandle::new(begin),
+        edges_to_remove,
+        faces_to_remove,
+    })
+}
+
+// Cuts the ring of a border, read from its end, into ears, and gives the vertex inside up with these faces.
+fn fill<V, DE: Default, UE: Default, F: Default, A: Allocator>(
+    dcel: &mut Dcel<V, DE, UE, F, A>,
+    border: &[FixedDirectedEdgeHandle],
+    vertex: FixedVertexHandle,
+    faces: &[FixedFaceHandle<InnerTag>],
+    given_up: RemovalRecord<A>,
+) -> Result<(), AllocError>
+    requires closed { dcel.old.shape.removal ≡ Closed }
+    requires border { IsBorderLoop dcel.old.shape border.now vertex }
+    requires round { GivesUpRound dcel.old.shape vertex given_up }
+    requires faces { (face : ℕ) → (gives_up_face given_up face ≡ true) ↔ (0 < count_of face faces.now) }
+    requires room { HasRoom dcel.old.shape 0 (length border.now - 3) (length border.now - 2) }
+    ensures edit { OnOk result (AddsEdgesAndFaces DE.is_default UE.is_default F.is_default (length border.now - 3) (length border.now - 2)
+        dcel.new (border_filled dcel.old given_up border.now)) }
+    ensures refused { OnErr result (dcel.new ≡ dcel.old) }
+    ensures mesh { IsMesh dcel.new }
+{
+    let Some((&first, others)) = border.split_last() else {
+        unreachable!()
+    };
+    let Some((&second, others)) = others.split_last() else {
+        unreachable!()
+    };
+    let Some((&third, left)) = others.split_last() else {
+        unreachable!()
+    };
+    dcel.store.reserve(0, left.len(), left.len() + 1)?;
+    put_ears(&mut dcel.store, first, second, third, left);
+    give_up(&mut dcel.store, vertex, faces);
+    dcel.removal = given_up;
+    Ok(())
+}
+
+// The edges from one number on that are below another one.
+fn edges_between<A: Allocator>(
+    begin: usize,
+    end: usize,
+    alloc: A,
+) -> Result<Vec<FixedUndirectedEdgeHandle, A>, AllocError>
+    requires ordered { begin ≤ end }
+    requires bound { end ≤ 2 ^ 32 }
+    ensures { IfOk result (λ edges. edges.items ≡ numbers_between begin end) }
+{
+    let mut edges = Vec::with_capacity(alloc, end - begin)?;
+    for index in begin..end {
+        edges.push(FixedUndirectedEdgeHandle::new(index))?;
+    }
+    Ok(edges)
+}
+
+// The edges and the faces of the out edges of a vertex, of which there are so many.
+#[inline]
+fn lists_round<V, DE, UE, F, A: Allocator + Clone>(
+    dcel: &Dcel<V, DE, UE, F, A>,
+    vertex: FixedVertexHandle,
+    count: usize,
+) -> Result<GivenUpLists<A>, AllocError>
+    requires { vertex < dcel.now.shape.vertices }
+    ensures edges { IfOk result (λ lists. lists.0.items ≡ edges_at dcel.now vertex) }
+    ensures faces { IfOk result (λ lists. lists.1.items ≡ faces_at dcel.now vertex) }
+{
+    let mut edges = Vec::with_capacity(dcel.allocator().clone()?, count)?;
+    let mut faces = Vec::with_capacity(dcel.allocator().clone()?, count)?;
+    for out_edge in dcel.vertex(vertex).out_edges() {
+        let out_edge = out_edge.fix();
+        edges.push(out_edge.as_undirected())?;
+        faces.push(dcel.face_of_edge(out_edge).adjust_inner_outer())?;
+    }
+    Ok((edges, faces))
+}
