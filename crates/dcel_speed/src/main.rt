@@ -15,6 +15,7 @@ mod measure;
 mod neighbors;
 mod random;
 mod remove;
+mod round_vertex;
 mod split;
 mod swap;
 mod workloads;

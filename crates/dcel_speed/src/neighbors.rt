@@ -1,16 +1,14 @@
 //! The search for the half edge from one vertex to another, in a mesh of triangles.
 
-ghost use Rattle.std.specs.Prelude.{◌<◌, ◌≤◌, ◌^◌, All, IfOk};
-ghost use Rattle.dcel_maps.specs.Shapes.{IsLive};
+ghost use Rattle.std.specs.Prelude.{◌<◌, All, IfOk};
 ghost use Rattle.dcel_speed.specs.Growth.{IsTriangulated};
-ghost use Rattle.spade_dcel.specs.Handles.{mesh_behind, number_of};
 
 use crate::fault::Fault;
 use crate::measure::time_reading;
 use crate::random::Random;
+use crate::round_vertex::{degree, least_and_count, turned};
 use crate::workloads::{Mesh, Outcome, Timed, triangulated};
-use spade_dcel::handles::{DirectedEdgeHandle, FixedVertexHandle, VertexHandle};
-use spade_dcel::iterators::{CCWEdgesNextBackFn, CircularIterator};
+use spade_dcel::handles::{FixedVertexHandle, VertexHandle};
 use spade_dcel::laws::every_mesh;
 use std::alloc::{AllocError, Global};
 use std::rt::Clock;
@@ -24,9 +22,6 @@ struct Pair {
     from: FixedVertexHandle,
     to: FixedVertexHandle,
 }
-
-/// The half edges out of a vertex, from one of them on.
-pub type RoundVertex<'a, D> = CircularIterator<'a, i64, D, D, D, CCWEdgesNextBackFn>;
 
 /// Times the search for `size` pairs of vertices, which are drawn beforehand.
 pub fn neighbors<D: Default + Drop>(
@@ -103,45 +98,6 @@ fn drawn_neighbor<D>(
         return vertex.fix();
     };
     let steps = random.below(degree(out_edge));
-    turned(least_of_turn(out_edge), steps).to().fix()
-}
-
-/// How many half edges start where this one does.
-fn degree<D>(out_edge: DirectedEdgeHandle<'_, i64, D, D, D>) -> usize
-    requires { IsLive (mesh_behind out_edge).shape (number_of out_edge) }
-    ensures some { 0 < result }
-    ensures few { result ≤ 2 ^ 32 }
-{
-    RoundVertex::new(out_edge).count()
-}
-
-/// The least of the half edges that start where this one does.
-fn least_of_turn<D>(
-    out_edge: DirectedEdgeHandle<'_, i64, D, D, D>,
-) -> DirectedEdgeHandle<'_, i64, D, D, D>
-    requires { IsLive (mesh_behind out_edge).shape (number_of out_edge) }
-    ensures { IsLive (mesh_behind result).shape (number_of result) }
-{
-    let mut least = out_edge;
-    for edge in RoundVertex::new(out_edge) {
-        if edge.index() < least.index() {
-            least = edge;
-        }
-    }
-    least
-}
-
-/// The half edge so many steps further round the vertex where this one starts.
-fn turned<D>(
-    out_edge: DirectedEdgeHandle<'_, i64, D, D, D>,
-    steps: usize,
-) -> DirectedEdgeHandle<'_, i64, D, D, D>
-    requires { IsLive (mesh_behind out_edge).shape (number_of out_edge) }
-    ensures { IsLive (mesh_behind result).shape (number_of result) }
-{
-    let mut edge = out_edge;
-    for _ in 0..steps {
-        edge = edge.ccw();
-    }
-    edge
+    let (least, _) = least_and_count(out_edge);
+    turned(least, steps).to().fix()
 }

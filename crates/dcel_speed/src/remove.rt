@@ -1,19 +1,15 @@
 //! Vertices inside triangles, taken out.
 
 ghost use Rattle.std.specs.Prelude.{◌≤◌, ◌^◌, length};
-ghost use Rattle.dcel_maps.specs.Shapes.{IsLive};
-ghost use Rattle.spade_dcel.specs.Handles.{mesh_behind, number_of};
 
 use crate::digest::{digest_of, mix};
 use crate::fault::{BuildError, Fault};
 use crate::measure::{FEWEST_EDITING, least_of};
-use crate::neighbors::RoundVertex;
 use crate::random::Random;
+use crate::round_vertex::least_and_count;
 use crate::workloads::{Mesh, Outcome, Timed, triangulated};
 use spade_dcel::dcel::RemovalState;
-use spade_dcel::handles::{
-    DirectedEdgeHandle, FixedDirectedEdgeHandle, FixedVertexHandle, VertexHandle,
-};
+use spade_dcel::handles::{FixedDirectedEdgeHandle, FixedVertexHandle, VertexHandle};
 use spade_dcel::operations::{
     cleanup_isolated_vertex, isolate_vertex_and_fill_hole, swap_remove_vertex,
 };
@@ -102,25 +98,6 @@ fn border_of<D>(
         border.push(edge.next().fix())?;
     }
     Ok(border)
-}
-
-/// The least of the half edges that start where this one does, and how many they are.
-#[inline]
-fn least_and_count<D>(
-    out_edge: DirectedEdgeHandle<'_, i64, D, D, D>,
-) -> (DirectedEdgeHandle<'_, i64, D, D, D>, usize)
-    requires { IsLive (mesh_behind out_edge).shape (number_of out_edge) }
-    ensures { IsLive (mesh_behind result.0).shape (number_of result.0) }
-{
-    let mut least = out_edge;
-    let mut count: usize = 0;
-    for edge in RoundVertex::new(out_edge) {
-        if edge.index() < least.index() {
-            least = edge;
-        }
-        count = count.wrapping_add(1);
-    }
-    (least, count)
 }
 
 /// The vertices that can be taken out one after another, in an order drawn at random, each under the number that it has then. Those

@@ -47,6 +47,9 @@ pub enum Workload {
     /// Goes round each vertex.
     Walk,
 
+    /// Does the same from both ends.
+    WalkBothEnds,
+
     /// Goes round each inner face.
     Faces,
 
@@ -85,6 +88,7 @@ impl Workload {
             Workload::Insert => "insert",
             Workload::InsertReserved => "insert_reserved",
             Workload::Walk => "walk",
+            Workload::WalkBothEnds => "walk_both_ends",
             Workload::Faces => "faces",
             Workload::Extend => "extend",
             Workload::Hull => "hull",
@@ -104,6 +108,7 @@ impl Workload {
             "insert" => Some(Workload::Insert),
             "insert_reserved" => Some(Workload::InsertReserved),
             "walk" => Some(Workload::Walk),
+            "walk_both_ends" => Some(Workload::WalkBothEnds),
             "faces" => Some(Workload::Faces),
             "extend" => Some(Workload::Extend),
             "hull" => Some(Workload::Hull),
@@ -160,6 +165,7 @@ pub fn measured<D: Default + Drop + Clone>(
         Workload::Insert => insert::<D>(rt, size),
         Workload::InsertReserved => insert_reserved::<D>(rt, size),
         Workload::Walk => walk::<D>(rt, size),
+        Workload::WalkBothEnds => walk_both_ends::<D>(rt, size),
         Workload::Faces => faces::<D>(rt, size),
         Workload::Extend => extend::<D>(rt, size),
         Workload::Hull => hull::<D>(rt, size),
@@ -190,6 +196,15 @@ fn insert_reserved<D: Default + Drop>(
 fn walk<D: Default + Drop>(rt: &(impl Clock + AllocGlobal), size: u32) -> Result<Timed, Fault> {
     let dcel = triangulated::<D>(rt.alloc(), size)?;
     time_reading(rt, || ends_of_out_edges(&dcel))
+}
+
+/// Times the walk round each vertex of a mesh of triangles, from both ends in turn.
+fn walk_both_ends<D: Default + Drop>(
+    rt: &(impl Clock + AllocGlobal),
+    size: u32,
+) -> Result<Timed, Fault> {
+    let dcel = triangulated::<D>(rt.alloc(), size)?;
+    time_reading(rt, || ends_from_both_ends(&dcel))
 }
 
 /// Times the walk round each inner face of a mesh of triangles.
@@ -340,6 +355,27 @@ fn ends_of_out_edges<D>(dcel: &Mesh<D>) -> Outcome {
 fn add_ends<D>(sum: &mut Outcome, vertex: VertexHandle<'_, i64, D, D, D>) {
     for edge in vertex.out_edges() {
         sum.add(edge.to());
+    }
+}
+
+/// Goes round each vertex, from both ends in turn: the same sum.
+fn ends_from_both_ends<D>(dcel: &Mesh<D>) -> Outcome {
+    let mut sum = Outcome::default();
+    for index in 0..dcel.num_vertices() {
+        add_ends_from_both_ends(&mut sum, dcel.vertex(FixedVertexHandle::new(index)));
+    }
+    sum
+}
+
+/// Adds the vertices where the half edges out of a vertex end: that of the first, of the last, of the second, and so on.
+#[inline]
+fn add_ends_from_both_ends<D>(sum: &mut Outcome, vertex: VertexHandle<'_, i64, D, D, D>) {
+    let mut edges = vertex.out_edges();
+    while let Some(edge) = edges.next() {
+        sum.add(edge.to());
+        if let Some(edge) = edges.next_back() {
+            sum.add(edge.to());
+        }
     }
 }
 

@@ -1,5 +1,5 @@
 -- Walks that list live half edges.
-use Rattle.std.proofs.Common.{◌≡◌, ℕ, ◌<◌, List, [], ◌∷◌, subst, sym, arith}
+use Rattle.std.proofs.Common.{◌≡◌, ℕ, ◌<◌, List, [], ◌∷◌, ◌++◌, subst, sym, arith}
 use Rattle.dcel_maps.specs.Shapes.{Mesh, IsLive}
 use Rattle.dcel_maps.specs.Walking.{in_mesh}
 use Rattle.dcel_maps.specs.Words.{count_of}
@@ -29,3 +29,16 @@ module _ {V DE UE F : Type 0} where
   pub rest_live : (items : List (Mesh V DE UE F × ℕ)) (item : Mesh V DE UE F × ℕ) (rest : List (Mesh V DE UE F × ℕ))
       → items ≡ item ∷ rest → AllLive items → AllLive rest
   rest_live items item rest is live = (subst AllLive is live).1
+
+  ends_live : (rest : List (Mesh V DE UE F × ℕ)) (item : Mesh V DE UE F × ℕ) → AllLive (rest ++ item ∷ [])
+      → AllLive rest × IsLive item.0.shape item.1
+  ends_live [] item live = (tt, live.0)
+  ends_live (x ∷ rest) item live = let others = ends_live rest item live.1 in ((live.0, others.0), others.1)
+
+  pub last_live : (items rest : List (Mesh V DE UE F × ℕ)) (item : Mesh V DE UE F × ℕ)
+      → items ≡ rest ++ item ∷ [] → AllLive items → IsLive item.0.shape item.1
+  last_live items rest item is live = (ends_live rest item (subst AllLive is live)).1
+
+  pub front_live : (items rest : List (Mesh V DE UE F × ℕ)) (item : Mesh V DE UE F × ℕ)
+      → items ≡ rest ++ item ∷ [] → AllLive items → AllLive rest
+  front_live items rest item is live = (ends_live rest item (subst AllLive is live)).0

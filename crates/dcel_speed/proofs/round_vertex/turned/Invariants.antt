@@ -1,6 +1,6 @@
 use Rattle.spade_dcel.specs.Handles.{mesh_behind, number_of}
 use Rattle.dcel_maps.specs.Shapes.{IsLive}
-use Rattle.dcel_speed.proofs.neighbors.turned.Given as goal
+use Rattle.dcel_speed.proofs.round_vertex.turned.Given as goal
 
 abbrev pub invariant-loop : goal.invariant-loop
 invariant-loop g l = IsLive (mesh_behind l.edge).shape (number_of l.edge)

@@ -1,7 +1,7 @@
 use Rattle.spade_dcel.specs.Handles.{mesh_behind, number_of}
 use Rattle.dcel_maps.specs.Walking.{ccw_of, walk_of}
 use Rattle.dcel_maps.proofs.walks.Listing.{all_live}
-use Rattle.dcel_speed.proofs.remove.least_and_count.Goals as goal
+use Rattle.dcel_speed.proofs.round_vertex.least_and_count.Goals as goal
 
 pub loop-edge-init : goal.loop-edge-init
 loop-edge-init g c =

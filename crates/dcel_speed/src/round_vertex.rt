@@ -1,0 +1,54 @@
+//! Walks round a vertex, from one of its half edges on.
+
+ghost use Rattle.std.specs.Prelude.{◌<◌, ◌≤◌, ◌^◌};
+ghost use Rattle.dcel_maps.specs.Shapes.{IsLive};
+ghost use Rattle.spade_dcel.specs.Handles.{mesh_behind, number_of};
+
+use spade_dcel::handles::DirectedEdgeHandle;
+use spade_dcel::iterators::{CCWEdgesNextBackFn, CircularIterator};
+
+/// The half edges out of a vertex, from one of them on.
+type RoundVertex<'a, D> = CircularIterator<'a, i64, D, D, D, CCWEdgesNextBackFn>;
+
+/// How many half edges start where this one does.
+pub fn degree<D>(out_edge: DirectedEdgeHandle<'_, i64, D, D, D>) -> usize
+    requires { IsLive (mesh_behind out_edge).shape (number_of out_edge) }
+    ensures some { 0 < result }
+    ensures few { result ≤ 2 ^ 32 }
+{
+    RoundVertex::new(out_edge).count()
+}
+
+/// The least of the half edges that start where this one does, and how many they are.
+#[inline]
+pub fn least_and_count<D>(
+    out_edge: DirectedEdgeHandle<'_, i64, D, D, D>,
+) -> (DirectedEdgeHandle<'_, i64, D, D, D>, usize)
+    requires { IsLive (mesh_behind out_edge).shape (number_of out_edge) }
+    ensures { IsLive (mesh_behind result.0).shape (number_of result.0) }
+{
+    let mut least = out_edge;
+    let mut count: usize = 0;
+    for edge in RoundVertex::new(out_edge) {
+        if edge.index() < least.index() {
+            least = edge;
+        }
+        count = count.wrapping_add(1);
+    }
+    (least, count)
+}
+
+/// The half edge so many steps further round the vertex where this one starts.
+pub fn turned<D>(
+    out_edge: DirectedEdgeHandle<'_, i64, D, D, D>,
+    steps: usize,
+) -> DirectedEdgeHandle<'_, i64, D, D, D>
+    requires { IsLive (mesh_behind out_edge).shape (number_of out_edge) }
+    ensures { IsLive (mesh_behind result).shape (number_of result) }
+{
+    let mut edge = out_edge;
+    for _ in 0..steps {
+        edge = edge.ccw();
+    }
+    edge
+}
