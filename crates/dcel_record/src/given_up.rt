@@ -1,6 +1,6 @@
 //! Elements of a kind that an open removal has given up.
 
-ghost use Rattle.std.specs.Prelude.{◌≡◌, ℕ, ◌<◌, ◌==◌, ◌↔◌, IfOk, IsTrue, drop, false, length, slice_index, suc, true};
+ghost use Rattle.std.specs.Prelude.{◌≡◌, ℕ, ◌<◌, ◌==◌, ◌↔◌, IfOk, IsTrue, drop, false, length, slice_index, suc, true, [], OnOk, OnErr};
 ghost use Rattle.std.specs.List.{list_any};
 ghost use Rattle.dcel_maps.specs.Removals.{ascending, GoesUp};
 
@@ -29,15 +29,28 @@ impl<Kind, A: Allocator> Model for GivenUp<Kind, A> {
 }
 
 impl<Kind, A: Allocator> GivenUp<Kind, A> {
-    /// Those of the list, in any order. It takes memory once, and is refused where there is none.
-    pub fn new(list: &[FixedHandleImpl<Kind, InnerTag>], alloc: A) -> Result<Self, AllocError>
-        ensures { IfOk result (λ given_up. given_up ≡ ascending list.now) }
+    /// None. It takes no memory.
+    #[inline]
+    pub fn none(alloc: A) -> Self
+        ensures { result ≡ [] }
     {
-        let mut handles = Vec::with_capacity(alloc, 2 * list.len())?;
-        handles.extend_from_slice(list)?;
-        handles.sort_unstable();
-        handles.extend_from_slice(list)?;
-        Ok(GivenUp { handles })
+        GivenUp {
+            handles: Vec::new(alloc),
+        }
+    }
+
+    /// Gives those of the list up, in any order, and no others. It takes memory once, where what it has isn't enough; without memory
+    /// none are given up.
+    pub fn give_up(&mut self, list: &[FixedHandleImpl<Kind, InnerTag>]) -> Result<(), AllocError>
+        ensures given_up { OnOk result (self.new ≡ ascending list.now) }
+        ensures refused { OnErr result (self.new ≡ []) }
+    {
+        self.handles.clear();
+        self.handles.reserve_exact(2 * list.len())?;
+        self.handles.extend_from_slice(list)?;
+        self.handles.sort_unstable();
+        self.handles.extend_from_slice(list)?;
+        Ok(())
     }
 
     /// They, in ascending order.

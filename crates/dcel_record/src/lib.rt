@@ -3,8 +3,8 @@
 //! Contracts see it as the record of a mesh, `Removal` of `dcel_maps/specs/Removals`.
 #![tactic(auto)]
 
-ghost use Rattle.std.specs.Prelude.{◌≡◌, ◌↔◌, IfOk, IsTrue, Some};
-ghost use Rattle.dcel_maps.specs.Removals.{Closed, Isolated, Cleaned, gives_up_vertex, gives_up_edge, gives_up_face, IsInOrder, IsListed};
+ghost use Rattle.std.specs.Prelude.{◌≡◌, ◌↔◌, IfOk, OnOk, OnErr, IsTrue};
+ghost use Rattle.dcel_maps.specs.Removals.{Closed, opened, gives_up_vertex, gives_up_edge, gives_up_face, IsInOrder, IsListed};
 ghost use Rattle.dcel_maps.specs.Renumbering.{cleaned};
 ghost use Rattle.dcel_record.specs.Lists.{edges_of, faces_of};
 ghost use Rattle.dcel_record.specs.Record.{state_of};
@@ -15,7 +15,7 @@ use dcel_fixed::{
     FaceTag, FixedFaceHandle, FixedUndirectedEdgeHandle, FixedVertexHandle, InnerTag,
     UndirectedEdgeTag,
 };
-pub use given_up::GivenUp;
+use given_up::GivenUp;
 use std::alloc::{AllocError, Allocator};
 use std::marker::Model;
 
@@ -36,13 +36,16 @@ pub enum RemovalState {
 /// the vertex alone.
 #[derive(Drop)]
 pub struct RemovalRecord<A: Allocator> {
-    state: State<A>,
+    state: State,
+    // What is given up until it is cleaned up. Afterwards their memory is kept for the next opening.
+    edges: GivenUp<UndirectedEdgeTag, A>,
+    faces: GivenUp<FaceTag, A>,
 }
 
-#[derive(Drop)]
-enum State<A: Allocator> {
+#[derive(Clone, Copy)]
+enum State {
     Closed,
-    Isolated(GivenUp<UndirectedEdgeTag, A>, GivenUp<FaceTag, A>, Option<FixedVertexHandle>),
+    Isolated(Option<FixedVertexHandle>),
     Cleaned(FixedVertexHandle),
 }
 
@@ -53,56 +56,61 @@ impl<A: Allocator> Model for RemovalRecord<A> {
 
     ghost use Rattle.dcel_record.specs.Record.{removal_of};
 
-    ghost view = { λ stored. removal_of stored.state };
+    ghost view = { λ stored. removal_of stored.state stored.edges stored.faces };
+}
+
+impl<A: Allocator + Clone> RemovalRecord<A> {
+    /// That of a mesh where no removal is open. What removals give up is held in memory that clones of `alloc` give; none is taken yet.
+    pub fn closed(alloc: &A) -> Result<Self, AllocError>
+        ensures { IfOk result (λ closed. closed ≡ Closed) }
+    {
+        let edges = GivenUp::none(alloc.clone()?);
+        let faces = GivenUp::none(alloc.clone()?);
+        Ok(RemovalRecord {
+            state: State::Closed,
+            edges,
+            faces,
+        })
+    }
 }
 
 impl<A: Allocator> RemovalRecord<A> {
-    /// That of a mesh where no removal is open.
-    #[inline]
-    pub fn closed() -> Self
-        ensures { result ≡ Closed }
-    {
-        RemovalRecord {
-            state: State::Closed,
-        }
-    }
-
-    /// That of a mesh which has given up these edges and faces and this vertex.
-    #[inline]
-    pub fn isolated(
-        edges: GivenUp<UndirectedEdgeTag, A>,
-        faces: GivenUp<FaceTag, A>,
+    /// Opens a removal: these edges and faces, in any order, and this vertex are given up. It asks that none is open. It takes memory
+    /// once for the edges and once for the faces, where earlier removals had fewer; without memory none is open.
+    pub fn open(
+        &mut self,
+        edges: &[FixedUndirectedEdgeHandle],
+        faces: &[FixedFaceHandle<InnerTag>],
         vertex: FixedVertexHandle,
-    ) -> Self
-        ensures { result ≡ Isolated edges faces (Some vertex) }
+    ) -> Result<(), AllocError>
+        requires { self.old ≡ Closed }
+        ensures opened { OnOk result (self.new ≡ opened edges.now faces.now vertex) }
+        ensures refused { OnErr result (self.new ≡ self.old) }
     {
-        RemovalRecord {
-            state: State::Isolated(edges, faces, Some(vertex)),
-        }
+        self.edges.give_up(edges)?;
+        self.faces.give_up(faces)?;
+        self.state = State::Isolated(Some(vertex));
+        Ok(())
     }
 
-    /// That of a mesh whose given-up edges and faces are gone, and this vertex not yet.
+    /// No removal is open. It takes no memory, and keeps what it has.
     #[inline]
-    pub fn cleaned(vertex: FixedVertexHandle) -> Self
-        ensures { result ≡ Cleaned vertex }
+    pub fn close(&mut self)
+        ensures { self.new ≡ Closed }
     {
-        RemovalRecord {
-            state: State::Cleaned(vertex),
-        }
+        self.state = State::Closed;
     }
 
     /// Leaves the vertex alone given up, if there is one, and else closes the removal: the edges and faces are gone.
     pub fn clean_up(&mut self)
         ensures { self.new ≡ cleaned self.old }
     {
-        let given_up = match &self.state {
-            State::Isolated(_, _, given_up) => *given_up,
-            _ => return,
-        };
-        self.state = match given_up {
-            Some(vertex) => State::Cleaned(vertex),
-            None => State::Closed,
-        };
+        if let State::Isolated(given_up) = self.state {
+            self.state = match given_up {
+                Some(vertex) => State::Cleaned(vertex),
+                None => State::Closed,
+            };
+        }
     }
 
     /// Whether no removal is open.
@@ -118,9 +126,9 @@ impl<A: Allocator> RemovalRecord<A> {
     pub fn state(&self) -> RemovalState
         ensures { result ≡ state_of self.now }
     {
-        match &self.state {
+        match self.state {
             State::Closed => RemovalState::Closed,
-            State::Isolated(_, _, _) => RemovalState::Isolated,
+            State::Isolated(_) => RemovalState::Isolated,
             State::Cleaned(_) => RemovalState::Cleaned,
         }
     }
@@ -135,10 +143,8 @@ impl<A: Allocator> RemovalRecord<A> {
         requires { IsInOrder self.now }
         ensures { IsTrue result ↔ IsListed self.now edges.now faces.now }
     {
-        match &self.state {
-            State::Isolated(given_up_edges, given_up_faces, _) => {
-                given_up_edges.matches(edges) && given_up_faces.matches(faces)
-            }
+        match self.state {
+            State::Isolated(_) => self.edges.matches(edges) && self.faces.matches(faces),
             _ => false,
         }
     }
@@ -148,8 +154,8 @@ impl<A: Allocator> RemovalRecord<A> {
     pub fn edges(&self) -> &[FixedUndirectedEdgeHandle]
         ensures { result.now ≡ edges_of self.now }
     {
-        match &self.state {
-            State::Isolated(edges, _, _) => edges.as_slice(),
+        match self.state {
+            State::Isolated(_) => self.edges.as_slice(),
             _ => &[],
         }
     }
@@ -159,8 +165,8 @@ impl<A: Allocator> RemovalRecord<A> {
     pub fn faces(&self) -> &[FixedFaceHandle<InnerTag>]
         ensures { result.now ≡ faces_of self.now }
     {
-        match &self.state {
-            State::Isolated(_, faces, _) => faces.as_slice(),
+        match self.state {
+            State::Isolated(_) => self.faces.as_slice(),
             _ => &[],
         }
     }
@@ -171,10 +177,10 @@ impl<A: Allocator> RemovalRecord<A> {
     pub fn gives_up_vertex(&self, vertex: FixedVertexHandle) -> bool
         ensures { result ≡ gives_up_vertex self.now vertex }
     {
-        match &self.state {
+        match self.state {
             State::Closed => false,
-            State::Isolated(_, _, given_up) => *given_up == Some(vertex),
-            State::Cleaned(given_up) => *given_up == vertex,
+            State::Isolated(given_up) => given_up == Some(vertex),
+            State::Cleaned(given_up) => given_up == vertex,
         }
     }
 
@@ -184,8 +190,8 @@ impl<A: Allocator> RemovalRecord<A> {
     pub fn gives_up_edge(&self, edge: FixedUndirectedEdgeHandle) -> bool
         ensures { result ≡ gives_up_edge self.now edge }
     {
-        match &self.state {
-            State::Isolated(edges, _, _) => edges.contains(&edge),
+        match self.state {
+            State::Isolated(_) => self.edges.contains(&edge),
             _ => false,
         }
     }
@@ -196,8 +202,8 @@ impl<A: Allocator> RemovalRecord<A> {
     pub fn gives_up_face(&self, face: FixedFaceHandle<InnerTag>) -> bool
         ensures { result ≡ gives_up_face self.now face }
     {
-        match &self.state {
-            State::Isolated(_, faces, _) => faces.contains(&face),
+        match self.state {
+            State::Isolated(_) => self.faces.contains(&face),
             _ => false,
         }
     }
@@ -208,15 +214,12 @@ impl<A: Allocator + Clone> RemovalRecord<A> {
     pub fn try_clone(&self, alloc: &A) -> Result<Self, AllocError>
         ensures { IfOk result (λ copy. copy ≡ self.now) }
     {
-        let state = match &self.state {
-            State::Closed => State::Closed,
-            State::Isolated(edges, faces, given_up) => {
-                let edges = edges.try_clone(alloc.clone()?)?;
-                let faces = faces.try_clone(alloc.clone()?)?;
-                State::Isolated(edges, faces, *given_up)
-            }
-            State::Cleaned(given_up) => State::Cleaned(*given_up),
-        };
-        Ok(RemovalRecord { state })
+        let mut copy = Self::closed(alloc)?;
+        if let State::Isolated(_) = self.state {
+            copy.edges = self.edges.try_clone(alloc.clone()?)?;
+            copy.faces = self.faces.try_clone(alloc.clone()?)?;
+        }
+        copy.state = self.state;
+        Ok(copy)
     }
 }

@@ -1,8 +1,8 @@
 -- The half edges of a strip, and the record of what is given up with it.
-use Rattle.std.proofs.Common.{◌≡◌, inl, inr, ℕ, ◌<◌, List, [], ◌∷◌, ◌++◌, Some, sym, ap, ◌∙◌, subst, arith}
+use Rattle.std.proofs.Common.{◌≡◌, inl, inr, ℕ, ◌<◌, List, [], ◌∷◌, ◌++◌, sym, ap, ◌∙◌, subst, arith}
 use Rattle.std.proofs.lemmas.Bool.{cases_eq}
 use Rattle.dcel_maps.specs.edits.Strip.{strip_cut, strip_edges, strip_faces, strip_record}
-use Rattle.dcel_maps.specs.Removals.{Closed, Isolated, Removal, ascending, opened}
+use Rattle.dcel_maps.specs.Removals.{Closed, opened}
 use Rattle.dcel_maps.specs.Shapes.{IsLive, IsMesh, Mesh, Shape, origin_of, prev_of}
 use Rattle.dcel_maps.specs.Strips.{IsEdgeStrip}
 use Rattle.dcel_maps.specs.Words.{count_of}
@@ -26,17 +26,13 @@ listed_live m items last list mesh closed is strip k found =
           links.was_live k link.live
     ]
 
--- the record that is made is that of the strip
-pub record_is : (s : Shape) (items : List ℕ) (last : ℕ) (list edges faces given_edges given_faces : List ℕ) (half vertex : ℕ) (q : Removal)
-    → list ≡ items ++ last ∷ [] → q ≡ Isolated given_edges given_faces (Some vertex)
-    → given_edges ≡ ascending edges → given_faces ≡ ascending faces → edges ≡ strip_edges s list → faces ≡ strip_faces s list
-    → half ≡ prev_of s last → vertex ≡ origin_of s half → q ≡ strip_record s (items ++ last ∷ [])
-record_is s items last list edges faces given_edges given_faces half vertex q is made es fs edges_are faces_are at start =
-    let v : vertex ≡ origin_of s (prev_of s last) = start ∙ ap (origin_of s) at in
-    let e : given_edges ≡ ascending (strip_edges s (items ++ last ∷ [])) = es ∙ ap ascending (edges_are ∙ ap (strip_edges s) is) in
-    let f : given_faces ≡ ascending (strip_faces s (items ++ last ∷ [])) = fs ∙ ap ascending (faces_are ∙ ap (strip_faces s) is) in
-    made
-    ∙ ap (λ x. Isolated x given_faces (Some vertex)) e
-    ∙ ap (λ x. Isolated (ascending (strip_edges s (items ++ last ∷ []))) x (Some vertex)) f
-    ∙ ap (λ x. opened (strip_edges s (items ++ last ∷ [])) (strip_faces s (items ++ last ∷ [])) x) v
-    ∙ ap (λ l. opened (strip_edges s (items ++ last ∷ [])) (strip_faces s (items ++ last ∷ [])) (origin_of s (prev_of s l))) (sym (last_of-is 0 items last))
+-- the record once these edges and faces are given up is that of the strip
+pub record_is : (s : Shape) (items : List ℕ) (last : ℕ) (edges faces : List ℕ) (half vertex : ℕ)
+    → edges ≡ strip_edges s (items ++ last ∷ []) → faces ≡ strip_faces s (items ++ last ∷ [])
+    → half ≡ prev_of s last → vertex ≡ origin_of s half → opened edges faces vertex ≡ strip_record s (items ++ last ∷ [])
+record_is s items last edges faces half vertex edges_are faces_are at start =
+    let strip = items ++ last ∷ [] in
+    ap (λ x. opened x faces vertex) edges_are
+    ∙ ap (λ x. opened (strip_edges s strip) x vertex) faces_are
+    ∙ ap (opened (strip_edges s strip) (strip_faces s strip)) (start ∙ ap (origin_of s) at)
+    ∙ ap (λ l. opened (strip_edges s strip) (strip_faces s strip) (origin_of s (prev_of s l))) (sym (last_of-is 0 items last))

@@ -8,7 +8,6 @@ ghost use Rattle.dcel_maps.specs.Shapes.{IsMesh};
 
 use crate::dcel::Dcel;
 use crate::operations::NoMemory;
-use dcel_record::RemovalRecord;
 use std::alloc::{AllocError, Allocator};
 
 /// Calls on the whole mesh.
@@ -39,7 +38,7 @@ impl<V, DE, UE, F, A: Allocator> Dcel<V, DE, UE, F, A> {
         ensures mesh { IsMesh self.new }
     {
         self.store.clear();
-        self.removal = RemovalRecord::closed();
+        self.removal.close();
     }
 
     /// The mesh with other data of the vertices: for each datum one that the closure answers to it. It asks that the closure may be

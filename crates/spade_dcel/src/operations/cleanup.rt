@@ -10,7 +10,6 @@ use crate::dcel::Dcel;
 use crate::operations::{IsolateVertexResult, RemovalResult};
 use dcel_edits::removal::take_out::{take_out_edges, take_out_faces, take_out_vertex};
 use dcel_fixed::FixedVertexHandle;
-use dcel_record::RemovalRecord;
 use std::alloc::Allocator;
 
 /// Takes out the edges and the faces that an open removal has given up, each kind from the largest number down: the last one gets the number
@@ -54,7 +53,7 @@ pub fn swap_remove_vertex<V, DE, UE, F, A: Allocator>(
 {
     let last = FixedVertexHandle::new(dcel.num_vertices() - 1);
     let removed_vertex = take_out_vertex(&mut dcel.store, vertex);
-    dcel.removal = RemovalRecord::closed();
+    dcel.removal.close();
     let swapped_in_vertex = if vertex == last { None } else { Some(last) };
     RemovalResult {
         removed_vertex,

@@ -2,6 +2,8 @@
 
 ghost use Rattle.std.specs.Prelude.{◌≡◌, ◌≢◌, ◌^◌, ◌<◌, ◌≤◌, IfOk, IfErr, OnErr, OnOk, true, vec_len};
 ghost use Rattle.dcel_maps.specs.Conditions.{HasRoom};
+ghost use Rattle.dcel_maps.specs.Removals.{Closed};
+ghost use Rattle.dcel_store.specs.Lists.{HasPlaces, empty};
 ghost use Rattle.dcel_maps.specs.edits.Create.{IsNew, first_edge_added, first_edge_alone, vertex_appended};
 ghost use Rattle.dcel_maps.specs.edits.DefaultData.{AddsEdge, AddsEdgesAndFaces};
 ghost use Rattle.dcel_maps.specs.Shapes.{IsMesh, vertex_is_live};
@@ -21,13 +23,9 @@ pub fn new<V: Drop, DE: Drop, UE: Drop, F: Default + Drop, A: Allocator + Clone>
     ensures new { IfOk result (λ dcel. IsNew F.is_default dcel) }
     ensures mesh { IfOk result IsMesh }
 {
-    let mut store = Store::new(alloc)?;
-    store.reserve(0, 0, 1)?;
+    let (mut store, removal) = with_room(alloc, 0, 0, 1)?;
     store.push_face(F::default(), None);
-    Ok(Dcel {
-        store,
-        removal: RemovalRecord::closed(),
-    })
+    Ok(Dcel { store, removal })
 }
 
 /// A mesh of these vertices and of edge 0 between two of them: half edge 0 leads from `first_vertex` to `second_vertex`, and 1 back, and
@@ -53,20 +51,34 @@ pub fn new_with_fixed_vertices<
     ensures back { IfErr result (λ refused. refused.back ≡ vertices) }
     ensures mesh { IfOk result IsMesh }
 {
-    let mut store = match Store::new(alloc) {
-        Ok(store) => store,
-        Err(_) => return Err(NoMemory { back: vertices }),
-    };
-    if store.reserve(vertices.len(), 1, 1).is_err() {
+    let Ok((mut store, removal)) = with_room(alloc, vertices.len(), 1, 1) else {
         return Err(NoMemory { back: vertices });
-    }
+    };
     store.push_face(F::default(), None);
     put_vertices(&mut store, vertices);
     put_first_edge(&mut store, first_vertex, second_vertex);
-    Ok(Dcel {
-        store,
-        removal: RemovalRecord::closed(),
-    })
+    Ok(Dcel { store, removal })
+}
+
+// What a mesh begins with: an empty store with room for so many elements, and no open removal.
+pub(crate) fn with_room<V: Drop, DE: Drop, UE: Drop, F: Drop, A: Allocator + Clone>(
+    alloc: A,
+    vertices: usize,
+    edges: usize,
+    faces: usize,
+) -> Result<(Store<V, DE, UE, F, A>, RemovalRecord<A>), AllocError>
+    ensures empty { IfOk result (λ parts. parts.0 ≡ record empty {
+      vertex_room = parts.0.vertex_room;
+      edge_room = parts.0.edge_room;
+      face_room = parts.0.face_room;
+    }) }
+    ensures room { IfOk result (λ parts. HasPlaces parts.0 vertices edges faces) }
+    ensures closed { IfOk result (λ parts. parts.1 ≡ Closed) }
+{
+    let removal = RemovalRecord::closed(&alloc)?;
+    let mut store = Store::new(alloc)?;
+    store.reserve(vertices, edges, faces)?;
+    Ok((store, removal))
 }
 
 /// Adds a vertex without an edge, and answers its number, which is the old count. It asks for room for one vertex

@@ -1,14 +1,13 @@
 //! A vertex given up with its edges and the triangles round it, and the hole that they leave filled.
 
-ghost use Rattle.std.specs.Prelude.{◌≡◌, ◌↔◌, ◌+◌, ◌-◌, ◌^◌, ◌<◌, ◌≤◌, ◌++◌, ◌∷◌, [], ℕ, IfOk, OnErr, OnOk, length, map, true};
+ghost use Rattle.std.specs.Prelude.{◌≡◌, ◌+◌, ◌-◌, ◌^◌, ◌<◌, ◌≤◌, IfOk, OnErr, OnOk, length};
 ghost use Rattle.dcel_maps.specs.Borders.{GivesUpRound, IsBorderLoop, IsRing, center_of};
 ghost use Rattle.dcel_maps.specs.Conditions.{HasRoom};
 ghost use Rattle.dcel_maps.specs.edits.DefaultData.{AddsEdgesAndFaces};
 ghost use Rattle.dcel_maps.specs.edits.Fill.{border_filled, edges_at, faces_at, hole_filled, ring_remeshed};
 ghost use Rattle.dcel_maps.specs.Numbers.{numbers_between};
-ghost use Rattle.dcel_maps.specs.Removals.{Closed, gives_up_face, opened};
+ghost use Rattle.dcel_maps.specs.Removals.{Closed, opened};
 ghost use Rattle.dcel_maps.specs.Shapes.{IsMesh};
-ghost use Rattle.dcel_maps.specs.Words.{count_of};
 
 use crate::dcel::Dcel;
 use crate::laws::every_mesh;
@@ -18,7 +17,6 @@ use dcel_fixed::{
     FixedDirectedEdgeHandle, FixedFaceHandle, FixedUndirectedEdgeHandle, FixedVertexHandle,
     InnerTag,
 };
-use dcel_record::{GivenUp, RemovalRecord};
 use std::alloc::{AllocError, Allocator};
 
 // What is given up: edges, and faces.
@@ -126,10 +124,7 @@ fn open<V, DE: Default, UE: Default, F: Default, A: Allocator + Clone>(
     every_mesh(dcel);
     let begin = dcel.num_undirected_edges();
     let new_edges = edges_between(begin, begin + (border.len() - 3), dcel.allocator().clone()?)?;
-    let edges = GivenUp::new(&edges_to_remove, dcel.allocator().clone()?)?;
-    let faces = GivenUp::new(&faces_to_remove, dcel.allocator().clone()?)?;
-    let given_up = RemovalRecord::isolated(edges, faces, vertex);
-    fill(dcel, border, vertex, &faces_to_remove, given_up)?;
+    fill(dcel, border, vertex, &edges_to_remove, &faces_to_remove)?;
     Ok(IsolateVertexResult {
         new_edges,
         smallest_new_edge: FixedUndirectedEdgeHandle::new(begin),
@@ -138,21 +133,20 @@ fn open<V, DE: Default, UE: Default, F: Default, A: Allocator + Clone>(
     })
 }
 
-// Cuts the ring of a border, read from its end, into ears, and gives the vertex inside up with these faces.
+// Cuts the ring of a border, read from its end, into ears, and gives the vertex inside up with these edges and faces.
 fn fill<V, DE: Default, UE: Default, F: Default, A: Allocator>(
     dcel: &mut Dcel<V, DE, UE, F, A>,
     border: &[FixedDirectedEdgeHandle],
     vertex: FixedVertexHandle,
+    edges: &[FixedUndirectedEdgeHandle],
     faces: &[FixedFaceHandle<InnerTag>],
-    given_up: RemovalRecord<A>,
 ) -> Result<(), AllocError>
     requires closed { dcel.old.shape.removal ≡ Closed }
     requires border { IsBorderLoop dcel.old.shape border.now vertex }
-    requires round { GivesUpRound dcel.old.shape vertex given_up }
-    requires faces { (face : ℕ) → (gives_up_face given_up face ≡ true) ↔ (0 < count_of face faces.now) }
+    requires round { GivesUpRound dcel.old.shape vertex (opened edges.now faces.now vertex) }
     requires room { HasRoom dcel.old.shape 0 (length border.now - 3) (length border.now - 2) }
     ensures edit { OnOk result (AddsEdgesAndFaces DE.is_default UE.is_default F.is_default (length border.now - 3) (length border.now - 2)
-        dcel.new (border_filled dcel.old given_up border.now)) }
+        dcel.new (border_filled dcel.old (opened edges.now faces.now vertex) border.now)) }
     ensures refused { OnErr result (dcel.new ≡ dcel.old) }
     ensures mesh { IsMesh dcel.new }
 {
@@ -166,9 +160,9 @@ fn fill<V, DE: Default, UE: Default, F: Default, A: Allocator>(
         unreachable!()
     };
     dcel.store.reserve(0, left.len(), left.len() + 1)?;
+    dcel.removal.open(edges, faces, vertex)?;
     put_ears(&mut dcel.store, first, second, third, left);
     give_up(&mut dcel.store, vertex, faces);
-    dcel.removal = given_up;
     Ok(())
 }
 

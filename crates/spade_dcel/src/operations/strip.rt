@@ -1,7 +1,7 @@
 //! A vertex of the outer face cut off, with its edges and the triangles round it.
 
 ghost use Rattle.std.specs.Prelude.{◌≡◌, ◌<◌, [], ◌∷◌, ◌++◌, ℕ, IfOk, OnErr, OnOk, map};
-ghost use Rattle.dcel_maps.specs.edits.Strip.{strip_cut, strip_edges, strip_faces, strip_record};
+ghost use Rattle.dcel_maps.specs.edits.Strip.{strip_cut, strip_edges, strip_faces};
 ghost use Rattle.dcel_maps.specs.Removals.{Closed};
 ghost use Rattle.dcel_maps.specs.Shapes.{IsLive, IsMesh, face_of};
 ghost use Rattle.dcel_maps.specs.Strips.{IsEdgeStrip};
@@ -12,7 +12,6 @@ use crate::laws::every_mesh;
 use crate::operations::IsolateVertexResult;
 use dcel_edits::strip::put_strip_cut;
 use dcel_fixed::{FixedDirectedEdgeHandle, FixedFaceHandle, FixedUndirectedEdgeHandle, InnerTag};
-use dcel_record::{GivenUp, RemovalRecord};
 use std::alloc::{AllocError, Allocator};
 
 /// Cuts a vertex of the outer face off, with its edges and the triangles round it, which are given up: the outer face goes along the strip
@@ -41,12 +40,8 @@ pub fn disconnect_edge_strip<V, DE, UE, F, A: Allocator + Clone, B: Allocator>(
     };
     let edges_to_remove = edges_before(dcel, &list)?;
     let faces_to_remove = faces_beside(dcel, others)?;
-    let edges = GivenUp::new(&edges_to_remove, dcel.allocator().clone()?)?;
-    let faces = GivenUp::new(&faces_to_remove, dcel.allocator().clone()?)?;
     let new_edges = Vec::new(dcel.allocator().clone()?);
-    let vertex = dcel.origin(dcel.prev_edge(last));
-    let given_up = RemovalRecord::isolated(edges, faces, vertex);
-    cut(dcel, others, last, given_up);
+    cut(dcel, others, last, &edges_to_remove, &faces_to_remove)?;
     Ok(IsolateVertexResult {
         new_edges,
         smallest_new_edge: FixedUndirectedEdgeHandle::new(0),
@@ -55,21 +50,27 @@ pub fn disconnect_edge_strip<V, DE, UE, F, A: Allocator + Clone, B: Allocator>(
     })
 }
 
-// Cuts the strip of these half edges and `last`, with the record of what is given up.
+// Cuts the strip of these half edges and `last`, and gives these edges and faces up, which are those beside it.
 fn cut<V, DE, UE, F, A: Allocator>(
     dcel: &mut Dcel<V, DE, UE, F, A>,
     items: &[FixedDirectedEdgeHandle],
     last: FixedDirectedEdgeHandle,
-    given_up: RemovalRecord<A>,
-)
+    edges: &[FixedUndirectedEdgeHandle],
+    faces: &[FixedFaceHandle<InnerTag>],
+) -> Result<(), AllocError>
     requires closed { dcel.old.shape.removal ≡ Closed }
     requires strip { IsEdgeStrip dcel.old.shape (items.now ++ last ∷ []) }
-    requires record { given_up ≡ strip_record dcel.old.shape (items.now ++ last ∷ []) }
-    ensures edit { dcel.new ≡ strip_cut dcel.old (items.now ++ last ∷ []) }
+    requires edges { edges.now ≡ strip_edges dcel.old.shape (items.now ++ last ∷ []) }
+    requires faces { faces.now ≡ strip_faces dcel.old.shape (items.now ++ last ∷ []) }
+    ensures edit { OnOk result (dcel.new ≡ strip_cut dcel.old (items.now ++ last ∷ [])) }
+    ensures refused { OnErr result (dcel.new ≡ dcel.old) }
     ensures mesh { IsMesh dcel.new }
 {
+    every_mesh(dcel);
+    let vertex = dcel.origin(dcel.prev_edge(last));
+    dcel.removal.open(edges, faces, vertex)?;
     put_strip_cut(&mut dcel.store, items, last);
-    dcel.removal = given_up;
+    Ok(())
 }
 
 // The edges of what comes before these half edges.

@@ -8,10 +8,9 @@ ghost use Rattle.dcel_maps.specs.Shapes.{IsMesh};
 
 use crate::dcel::Dcel;
 use crate::operations::NoMemory;
+use crate::operations::create::with_room;
 use dcel_edits::triangle::{put_insertion, put_triangle};
 use dcel_fixed::{FixedFaceHandle, FixedVertexHandle, InnerTag};
-use dcel_record::RemovalRecord;
-use dcel_store::Store;
 use std::alloc::{AllocError, Allocator};
 
 /// A mesh of one triangle, with this datum for each vertex: half edges 0, 2, 4 lead from vertex 0 to 1, from 1 to 2 and from 2 to 0
@@ -27,18 +26,11 @@ pub fn new_triangle<
     ensures back { IfErr result (λ refused. refused.back ≡ vertices) }
     ensures mesh { IfOk result IsMesh }
 {
-    let mut store = match Store::new(alloc) {
-        Ok(store) => store,
-        Err(_) => return Err(NoMemory { back: vertices }),
-    };
-    if store.reserve(3, 3, 2).is_err() {
+    let Ok((mut store, removal)) = with_room(alloc, 3, 3, 2) else {
         return Err(NoMemory { back: vertices });
-    }
+    };
     put_triangle(&mut store, vertices);
-    Ok(Dcel {
-        store,
-        removal: RemovalRecord::closed(),
-    })
+    Ok(Dcel { store, removal })
 }
 
 /// Puts a vertex into a triangle: three new edges lead from its corners to `v`, which it answers, and cut it into three. The face `f0`

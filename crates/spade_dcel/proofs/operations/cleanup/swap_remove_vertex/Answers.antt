@@ -20,13 +20,13 @@ take_out_vertex-removed_vertex-requires g c =
 pub invariant_of-dcel : goal.invariant_of-dcel
 invariant_of-dcel g c =
     let held = holds c.dcel.invariant c.dcel.view_is in
-    rw (c.closed.ensures, c.take_out_vertex-removed_vertex.ensures.lists)
+    rw (c.close.ensures, c.take_out_vertex-removed_vertex.ensures.lists)
     (lose_vertex held _ (can_swap_remove-out _ (held_mesh _ _ _ held) _ c.requires)).1.stored
 
 pub returns-clause-edit : goal.returns-clause-edit
 returns-clause-edit g c =
     let held = holds c.dcel.invariant c.dcel.view_is in
-    rw (c.closed.ensures, c.take_out_vertex-removed_vertex.ensures.lists)
+    rw (c.close.ensures, c.take_out_vertex-removed_vertex.ensures.lists)
     (lose_vertex held _ (can_swap_remove-out _ (held_mesh _ _ _ held) _ c.requires)).1.is
 
 pub returns-clause-mesh : goal.returns-clause-mesh

@@ -5,13 +5,13 @@ use Rattle.spade_dcel.proofs.operations.create.new_with_fixed_vertices.Goals as 
 
 pub invariant_of-result : goal.invariant_of-result
 invariant_of-result g c =
-    let put = rw (c.put_vertices.ensures, c.push_face.ensures, c.reserve.ensures.same, c.in-Ok.ensures) at c.put_first_edge.ensures in
-    rw c.closed.ensures (fixed_begun _ _ _ _ _ _ _ (omega arith) (omega arith) (omega arith) c.requires.apart {is_face = g.F.Default.is_default} c.default.ensures put).stored
+    let put = rw (c.put_vertices.ensures, c.push_face.ensures, c.in-Ok.ensures.empty) at c.put_first_edge.ensures in
+    rw c.in-Ok.ensures.closed (fixed_begun _ _ _ _ _ _ _ (omega arith) (omega arith) (omega arith) c.requires.apart {is_face = g.F.Default.is_default} c.default.ensures put).stored
 
 pub returns-clause-edge : goal.returns-clause-edge
 returns-clause-edge g c =
-    let put = rw (c.put_vertices.ensures, c.push_face.ensures, c.reserve.ensures.same, c.in-Ok.ensures) at c.put_first_edge.ensures in
-    rw c.closed.ensures (fixed_begun _ _ _ _ _ _ _ (omega arith) (omega arith) (omega arith) c.requires.apart {is_face = g.F.Default.is_default} c.default.ensures put).edit
+    let put = rw (c.put_vertices.ensures, c.push_face.ensures, c.in-Ok.ensures.empty) at c.put_first_edge.ensures in
+    rw c.in-Ok.ensures.closed (fixed_begun _ _ _ _ _ _ _ (omega arith) (omega arith) (omega arith) c.requires.apart {is_face = g.F.Default.is_default} c.default.ensures put).edit
 
 pub returns-clause-mesh : goal.returns-clause-mesh
 returns-clause-mesh g c = mesh-is-mesh _ _ (invariant_of-result g c)

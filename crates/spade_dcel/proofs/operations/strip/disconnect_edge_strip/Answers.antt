@@ -1,12 +1,11 @@
 use Rattle.std.proofs.Common.{[], ◌∷◌, sym, ap, ◌∙◌, subst, arith, map}
-use Rattle.dcel_maps.specs.edits.Strip.{but_last, strip_edges}
-use Rattle.dcel_maps.specs.Removals.{ascending}
+use Rattle.dcel_maps.specs.edits.Strip.{but_last}
 use Rattle.dcel_maps.specs.Shapes.{face_of}
 use Rattle.dcel_maps.specs.Strips.{IsEdgeStrip}
 use Rattle.dcel_maps.specs.Words.{count_of}
-use Rattle.dcel_maps.proofs.words.Counts.{count-append, count-same}
+use Rattle.dcel_maps.proofs.words.Counts.{count-append}
 use Rattle.dcel_maps.proofs.words.EachSet.{but_last-is}
-use Rattle.spade_dcel.proofs.StripItems.{listed_live, record_is}
+use Rattle.spade_dcel.proofs.StripItems.{listed_live}
 use Rattle.spade_dcel.proofs.operations.strip.disconnect_edge_strip.Goals as goal
 
 pub edges_before-requires : goal.edges_before-requires
@@ -25,28 +24,10 @@ faces_beside-requires g c edge found =
     listed_live c.args.dcel.now others last c.args.list.items c.every_mesh.ensures c.requires.closed is c.requires.strip edge
     (omega (arith, found, counted))
 
-pub prev_edge-requires : goal.prev_edge-requires
-prev_edge-requires g c =
-    let others = c.in-Some.others.now in
-    let last = c.in-Some.field-0-0.now in
-    let is = sym c.deref.ensures.value ∙ c.in-Some.ensures.cases.0 in
-    let counted = ap (count_of last) is ∙ count-append last others (last ∷ []) in
-    listed_live c.args.dcel.now others last c.args.list.items c.every_mesh.ensures c.requires.closed is c.requires.strip last
-    (omega (arith, count-same last [], counted))
-
-pub cut-requires-clause-record : goal.cut-requires-clause-record
-cut-requires-clause-record g c =
-    let shape = c.args.dcel.now.shape in
-    let is = sym c.deref.ensures.value ∙ c.in-Some.ensures.cases.0 in
-    record_is shape c.in-Some.others.now c.in-Some.field-0-0.now c.args.list.items _ _ _ _ c.prev_edge.result c.origin-vertex.result _
-    is
-    c.isolated-given_up.ensures
-    (c.in_ok-edges.ensures ∙ ap ascending c.deref-3.ensures.value)
-    (c.in_ok-faces.ensures ∙ ap ascending c.deref-4.ensures.value)
-    (c.in_ok-edges_to_remove.ensures ∙ ap (strip_edges shape) c.deref-2.ensures.value)
-    (c.in_ok-faces_to_remove.ensures ∙ sym (ap (map (face_of shape)) (ap but_last is ∙ but_last-is c.in-Some.others.now c.in-Some.field-0-0.now)))
-    c.prev_edge.ensures.value
-    c.origin-vertex.ensures.value
+pub cut-requires-clause-faces : goal.cut-requires-clause-faces
+cut-requires-clause-faces g c =
+    c.deref-4.ensures.value ∙ c.in_ok-faces_to_remove.ensures
+    ∙ sym (ap (map (face_of c.args.dcel.now.shape)) (but_last-is c.in-Some.others.now c.in-Some.field-0-0.now))
 
 pub returns-clause-faces : goal.returns-clause-faces
 returns-clause-faces g c =
