@@ -4,6 +4,7 @@ ghost use Rattle.std.specs.Prelude.{◌≡◌, ℕ, ◌<◌, ◌==◌, ◌↔◌
 ghost use Rattle.std.specs.List.{list_any};
 ghost use Rattle.dcel_maps.specs.Removals.{ascending, GoesUp};
 
+use crate::sorting::sort;
 use dcel_fixed::{FixedHandleImpl, InnerTag};
 use std::alloc::{AllocError, Allocator};
 use std::marker::Model;
@@ -39,20 +40,6 @@ impl<Kind, A: Allocator> GivenUp<Kind, A> {
         }
     }
 
-    /// Gives those of the list up, in any order, and no others. It takes memory once, where what it has isn't enough; without memory
-    /// none are given up.
-    pub fn give_up(&mut self, list: &[FixedHandleImpl<Kind, InnerTag>]) -> Result<(), AllocError>
-        ensures given_up { OnOk result (self.new ≡ ascending list.now) }
-        ensures refused { OnErr result (self.new ≡ []) }
-    {
-        self.handles.clear();
-        self.handles.reserve_exact(2 * list.len())?;
-        self.handles.extend_from_slice(list)?;
-        self.handles.sort_unstable();
-        self.handles.extend_from_slice(list)?;
-        Ok(())
-    }
-
     /// They, in ascending order.
     #[inline]
     pub fn as_slice(&self) -> &[FixedHandleImpl<Kind, InnerTag>]
@@ -68,6 +55,22 @@ impl<Kind, A: Allocator> GivenUp<Kind, A> {
         self.handles[..self.handles.len() / 2]
             .binary_search(handle)
             .is_ok()
+    }
+}
+
+impl<Kind: Copy, A: Allocator> GivenUp<Kind, A> {
+    /// Gives those of the list up, in any order, and no others. It takes memory once, where what it has isn't enough; without memory
+    /// none are given up.
+    pub fn give_up(&mut self, list: &[FixedHandleImpl<Kind, InnerTag>]) -> Result<(), AllocError>
+        ensures given_up { OnOk result (self.new ≡ ascending list.now) }
+        ensures refused { OnErr result (self.new ≡ []) }
+    {
+        self.handles.clear();
+        self.handles.reserve_exact(2 * list.len())?;
+        self.handles.extend_from_slice(list)?;
+        sort(&mut self.handles);
+        self.handles.extend_from_slice(list)?;
+        Ok(())
     }
 }
 

@@ -10,6 +10,7 @@ ghost use Rattle.dcel_record.specs.Lists.{edges_of, faces_of};
 ghost use Rattle.dcel_record.specs.Record.{state_of};
 
 mod given_up;
+mod sorting;
 
 use dcel_fixed::{
     FaceTag, FixedFaceHandle, FixedUndirectedEdgeHandle, FixedVertexHandle, InnerTag,

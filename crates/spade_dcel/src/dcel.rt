@@ -218,12 +218,20 @@ impl<V, DE, UE, F, A: Allocator> Dcel<V, DE, UE, F, A> {
         ensures joined { let shape = self.now.shape in
             MatchOption result ((h : ℕ) → ¬ Leads shape from to h) (λ edge. Leads shape from to (number_of edge)) }
     {
-        for edge in self.vertex(from).out_edges() {
+        // From both ends, since the reads of two walks don't wait for each other.
+        let mut edges = self.vertex(from).out_edges();
+        let mut found = None;
+        while let Some(edge) = edges.next() {
             if edge.to().fix() == to {
                 return Some(edge);
             }
+            if let Some(edge) = edges.next_back() {
+                if edge.to().fix() == to {
+                    found = Some(edge);
+                }
+            }
         }
-        None
+        found
     }
 }
 

@@ -1,7 +1,8 @@
 //! Elements taken out. The last element of their kind gets their number: it comes to their place, and what named it is mended in one
 //! pass, without memory.
 
-ghost use Rattle.std.specs.Prelude.{◌≡◌, ◌<◌, ◌^◌, length, reverse, slice_index_or};
+ghost use Rattle.std.specs.Prelude.{◌≡◌, ◌<◌, ◌^◌, Some, cond, length, reverse, slice_index_or};
+ghost use Rattle.dcel_maps.specs.Removals.{is_this};
 ghost use Rattle.dcel_maps.specs.Renumbering.{half_of, moved};
 ghost use Rattle.dcel_edits.specs.TakingOut.{CanLoseEdge, CanLoseEdges, CanLoseFace, CanLoseFaces, CanLoseVertex, CanRename, CanWalk, anchor_renamed, edge_out, edges_out, face_out, faces_out, half_renamed, links_moved, vertex_out, word_renamed};
 
@@ -164,9 +165,8 @@ fn rename_vertex_anchor<V, DE, UE, F, A: Allocator>(
       vertex_anchors = anchor_renamed store.old.vertex_anchors vertex from to;
     } }
 {
-    if store.vertex_anchor(vertex) == Some(from) {
-        store.set_vertex_anchor(vertex, Some(to));
-    }
+    let anchor = store.vertex_anchor(vertex);
+    store.set_vertex_anchor(vertex, renamed(anchor, from, to));
 }
 
 fn rename_face_anchor<V, DE, UE, F, A: Allocator>(
@@ -180,9 +180,22 @@ fn rename_face_anchor<V, DE, UE, F, A: Allocator>(
       face_anchors = anchor_renamed store.old.face_anchors face from to;
     } }
 {
-    if store.face_anchor(face) == Some(from) {
-        store.set_face_anchor(face, Some(to));
-    }
+    let anchor = store.face_anchor(face);
+    store.set_face_anchor(face, renamed(anchor, from, to));
+}
+
+// An anchor, by its new number where it is the half edge that moved. It is written either way: which one it is can't be foreseen, and a
+// branch on it would wait for the anchor.
+#[inline]
+fn renamed(
+    anchor: Option<FixedDirectedEdgeHandle>,
+    from: FixedDirectedEdgeHandle,
+    to: FixedDirectedEdgeHandle,
+) -> Option<FixedDirectedEdgeHandle>
+    ensures { result ≡ cond (is_this from anchor) (Some to) anchor }
+{
+    let edge = anchor?;
+    Some(if edge == from { to } else { edge })
 }
 
 /// Has half edges lie on a face: its anchor, and those that follow it.
