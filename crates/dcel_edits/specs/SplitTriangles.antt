@@ -1,5 +1,5 @@
 -- What putting a vertex into an edge of triangles leaves in the stored lists, and where it can be put.
-use Rattle.std.specs.Prelude.{ℕ, ◌+◌, ◌<◌, List, [], ◌∷◌, ◌++◌, length, slice_index, slice_set, Some}
+use Rattle.std.specs.Prelude.{◌≡◌, ℕ, ◌+◌, ◌<◌, List, [], ◌∷◌, ◌++◌, length, slice_index, slice_set, Some}
 use Rattle.dcel_fixed.specs.HalfEdges.{rev}
 use Rattle.dcel_store.specs.Lists.{Lists}
 use Rattle.dcel_edits.specs.Adding.{HasSpace, adding}
@@ -50,6 +50,8 @@ module _ {V DE UE F : Type 0} where
     pub prev_in : slice_index s.prev e < length s.next
     pub face_in : slice_index s.face e < length s.face_anchors
     pub end_in : slice_index s.origin (slice_index s.next e) < length s.vertex_anchors
+    pub twin_in : rev e < length s.next
+    pub next_starts : slice_index s.origin (slice_index s.next e) ≡ slice_index s.origin (rev e)
 
   -- where a vertex can be put into an edge, with so many new edges and faces
   pub record CanPutMiddle (edges faces : ℕ) (s : Lists V DE UE F) (e middle : ℕ) : Type 0 where

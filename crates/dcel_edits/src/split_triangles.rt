@@ -47,11 +47,14 @@ impl Round {
         let near = FixedFaceHandle::new(store.num_faces());
         let far = FixedFaceHandle::new(store.num_faces() + 1);
         let first = FixedDirectedEdgeHandle::new_normalized(edges);
-        let last = FixedDirectedEdgeHandle::new_normalized(edges + 2).rev();
+        let second = FixedDirectedEdgeHandle::new_normalized(edges + 1);
+        let third = FixedDirectedEdgeHandle::new_normalized(edges + 2);
+        let back = second.rev();
+        let last = third.rev();
         Round {
-            after_twin: Sector::between(store, store.next(twin), store.face(twin), first, twin),
-            before_twin: Sector::new(store, store.prev(twin), near, edges + 1, edges),
-            after_edge: Sector::new(store, store.next(edge), far, edges + 2, edges + 1),
+            after_twin: Sector::after(store, twin, store.face(twin), first, twin),
+            before_twin: Sector::between(store, store.prev(twin), near, second, first.rev()),
+            after_edge: Sector::after(store, edge, far, third, back),
             before_edge: Sector::between(store, store.prev(edge), store.face(edge), edge, last),
         }
     }
@@ -112,7 +115,7 @@ pub fn put_middle_of_one<V, DE: Default, UE: Default, F: Default, A: Allocator>(
     let second_half = FixedDirectedEdgeHandle::new_normalized(edges + 1);
     let new_twin = second_half.rev();
     let new_face = FixedFaceHandle::new(store.num_faces());
-    let after_edge = Sector::between(store, store.next(edge), new_face, spoke, second_half);
+    let after_edge = Sector::after(store, edge, new_face, spoke, second_half);
     let before_edge = Sector::between(store, store.prev(edge), edge_face, edge, back);
     close_sector(store, &after_edge);
     close_sector(store, &before_edge);

@@ -1,11 +1,13 @@
 -- A half edge of a mesh in lists that hold the mesh.
 use Rattle.std.proofs.Common.{◌≡◌, ◌↔◌, ◌<◌, ℕ, length, slice_index}
+use Rattle.dcel_fixed.specs.HalfEdges.{rev}
 use Rattle.dcel_store.specs.Lists.{Lists}
 use Rattle.dcel_maps.specs.Conditions.{IsTriangle}
 use Rattle.dcel_maps.specs.Removals.{Removal}
 use Rattle.dcel_maps.specs.Shapes.{IsLive, Mesh, face_of, map_of, next_of, origin_of, prev_of}
 use Rattle.dcel_maps.specs.theory.Sound.{Sound}
 use Rattle.dcel_maps.proofs.edits.Linking.{triangle_back-iff}
+use Rattle.dcel_maps.proofs.maps.Soundness.{rev_live}
 use Rattle.dcel_maps.proofs.shapes.Maps.{map-sound}
 use Rattle.dcel_edits.specs.SplitTriangles.{IsHeld}
 use Rattle.dcel_edits.proofs.stored.Changes.{held_face, held_half, held_lists, held_mesh, held_vertex}
@@ -33,6 +35,7 @@ module _ {V DE UE F : Type 0} where
       let before = prev_of m.shape h in
       let after_live : IsLive m.shape after = sound.live_next h live in
       let before_live : IsLive m.shape before = sound.live_prev h live in
+      let twin_live : IsLive m.shape (rev h) = rev_live (map_of m.shape) h live in
       record {
         within = record {
           edge_in = held_half s r m held h live;
@@ -42,6 +45,8 @@ module _ {V DE UE F : Type 0} where
           end_in =
               rw (lists.next h live, lists.origin after after_live)
               (held_vertex s r m held (origin_of m.shape after) (mesh.sound.starts_live after after_live));
+          twin_in = held_half s r m held (rev h) twin_live;
+          next_starts = rw (lists.next h live, lists.origin after after_live, lists.origin (rev h) twin_live) (sound.origin-next h live);
         };
         origin_in = rw (lists.origin h live) (held_vertex s r m held (origin_of m.shape h) (mesh.sound.starts_live h live));
         next = lists.next h live;

@@ -22,7 +22,7 @@ returns-clause-stored g c =
     let before = rw twin at c.prev-before_twin.ensures in
     let twin_face = rw twin at c.face-twin_face.ensures in
     -- the sectors
-    let on_after_edge = rw (c.next.ensures, new_face, spoke, half) at c.between-after_edge.ensures in
+    let on_after_edge = rw (new_face, spoke, half) at c.after-after_edge.ensures in
     let on_before_edge = rw (c.prev.ensures, c.face-edge_face.ensures, back) at c.between-before_edge.ensures in
     -- the writes, with these numbers
     let close_after_edge = rw on_after_edge at c.close_sector.ensures in
