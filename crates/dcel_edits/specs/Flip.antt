@@ -25,6 +25,11 @@ module _ {V DE UE F : Type 0} where
     prev = three_set s.prev side.edge side.next beyond.prev side.edge side.next beyond.prev;
     origin = slice_set s.origin side.edge side.corner;
     face = slice_set s.face beyond.prev side.face;
+  }
+
+  -- its anchors: where e started, the half edge after t starts now, and its face has e
+  abbrev pub side_anchored : Lists V DE UE F → Side → Side → Lists V DE UE F
+  side_anchored s side beyond = record s {
     vertex_anchors = slice_set s.vertex_anchors side.origin (Some beyond.next);
     face_anchors = slice_set s.face_anchors side.face (Some side.edge);
   }
@@ -34,6 +39,9 @@ module _ {V DE UE F : Type 0} where
     pub edge_in : side.edge < length s.next
     pub next_in : side.next < length s.next
     pub last_in : beyond.prev < length s.next
+
+  -- where its anchors can be written
+  pub record CanAnchor (s : Lists V DE UE F) (side : Side) : Type 0 where
     pub origin_in : side.origin < length s.vertex_anchors
     pub face_in : side.face < length s.face_anchors
 
@@ -42,7 +50,7 @@ module _ {V DE UE F : Type 0} where
   flip_stored s e =
       let near = side_of s e in
       let far = side_of s (rev e) in
-      side_turned (side_turned s near far) far near
+      side_anchored (side_anchored (side_turned (side_turned s near far) far near) near far) far near
 
   -- where an edge can be turned
   pub record CanPutFlip (s : Lists V DE UE F) (e : ℕ) : Type 0 where

@@ -2,7 +2,7 @@
 
 ghost use Rattle.std.specs.Prelude.{◌≡◌};
 ghost use Rattle.dcel_edits.specs.SplitTriangles.{IsHeld};
-ghost use Rattle.dcel_edits.specs.Flip.{CanPutFlip, CanTurn, flip_stored, side_of, side_turned};
+ghost use Rattle.dcel_edits.specs.Flip.{CanAnchor, CanPutFlip, CanTurn, flip_stored, side_anchored, side_of, side_turned};
 
 use dcel_fixed::{FixedDirectedEdgeHandle, FixedFaceHandle, FixedVertexHandle, PossiblyOuterTag};
 use dcel_store::Store;
@@ -53,6 +53,9 @@ pub fn put_flip<V, DE, UE, F, A: Allocator>(
     let far = Side::new(store, edge.rev());
     turn_side(store, &near, &far);
     turn_side(store, &far, &near);
+    // Anchors lie far from the links, so they come last: what waits for them holds no link up.
+    anchor_side(store, &near, &far);
+    anchor_side(store, &far, &near);
 }
 
 // Turns one side: its half edge starts at the opposite corner, and its triangle gets the last half edge of the other one.
@@ -72,6 +75,18 @@ fn turn_side<V, DE, UE, F, A: Allocator>(
     store.set_face(beyond.prev, side.face);
     store.set_next(side.next, side.edge);
     store.set_prev(side.next, beyond.prev);
+}
+
+// Anchors one side that is turned: the vertex where its half edge started gets the half edge that came after the other one, and its face
+// gets its half edge.
+fn anchor_side<V, DE, UE, F, A: Allocator>(
+    store: &mut Store<V, DE, UE, F, A>,
+    side: &Side,
+    beyond: &Side,
+)
+    requires { CanAnchor store.old side.now }
+    ensures { store.new ≡ side_anchored store.old side.now beyond.now }
+{
     store.set_vertex_anchor(side.origin, Some(beyond.next));
     store.set_face_anchor(side.face, Some(side.edge));
 }

@@ -82,15 +82,15 @@ pub fn put_middle_of_both<V, DE: Default, UE: Default, F: Default, A: Allocator>
     store.set_next(edge, fourth.prev);
     store.set_prev(twin, first.next);
     store.set_origin(twin, middle);
+    store.set_face_anchor(fourth.face, Some(edge));
+    store.set_face_anchor(first.face, Some(first.next));
+    store.set_vertex_anchor(third.origin, Some(second.next));
+    store.set_vertex_anchor(middle, Some(twin));
     push_spoke(store, &first, &second, middle, EdgeData::default());
     push_spoke(store, &second, &third, middle, EdgeData::default());
     push_spoke(store, &third, &fourth, middle, EdgeData::default());
-    store.set_face_anchor(fourth.face, Some(edge));
-    store.set_face_anchor(first.face, Some(first.next));
     store.push_face(F::default(), Some(second.next));
     store.push_face(F::default(), Some(third.next));
-    store.set_vertex_anchor(third.origin, Some(second.next));
-    store.set_vertex_anchor(middle, Some(twin));
     third.prev
 }
 

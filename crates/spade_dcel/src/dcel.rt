@@ -330,6 +330,8 @@ impl<V, DE, UE, F, A: Allocator> Dcel<V, DE, UE, F, A> {
 
     /// Whether the edge is live between two triangles, one of which may be the outer face, and the corners opposite it are two vertices:
     /// so it can be turned to join these ([`flip_cw`](crate::operations::flip_cw)).
+    // Out of line it leaves the caller's registers to the edit that follows.
+    #[inline(never)]
     pub fn can_flip(&self, handle: FixedUndirectedEdgeHandle) -> bool
         ensures { IsTrue result ↔ CanFlip self.now.shape handle }
     {
@@ -463,10 +465,13 @@ impl<V, DE, UE, F, A: Allocator> Dcel<V, DE, UE, F, A> {
         requires { IsLive self.now.shape handle }
         ensures { IsTrue result ↔ (length (word_of self.now.shape.words (face_of self.now.shape handle)) ≡ 3) }
     {
-        self.store.next(self.store.next(handle)) == self.store.prev(handle)
+        // Read before what it is compared with, as in `opposite_corner`.
+        let before = self.store.prev(handle);
+        self.store.next(self.store.next(handle)) == before
     }
-    // The corner of the triangle of a half edge that lies opposite it, and None where its word has not three items. Two steps back tell
-    // it, since that corner is where the first of them starts: so the half edge after this one isn't looked at.
+
+    // The corner of the triangle of a half edge that lies opposite it, and None where its word has not three items. The half edge before
+    // tells whether it has three, the one after where the corner is: neither waits for the other, and an edit that follows finds both read.
     #[inline]
     fn opposite_corner(&self, handle: FixedDirectedEdgeHandle) -> Option<FixedVertexHandle>
         requires { IsLive self.now.shape handle }
@@ -481,6 +486,6 @@ impl<V, DE, UE, F, A: Allocator> Dcel<V, DE, UE, F, A> {
         if self.store.prev(before) != after {
             return None;
         }
-        Some(self.store.origin(before))
+        Some(self.store.origin(after.rev()))
     }
 }

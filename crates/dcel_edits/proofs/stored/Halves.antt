@@ -1,5 +1,5 @@
 -- A half edge of a mesh in lists that hold the mesh.
-use Rattle.std.proofs.Common.{◌≡◌, ◌↔◌, ◌<◌, ℕ, length, slice_index}
+use Rattle.std.proofs.Common.{◌≡◌, ◌↔◌, ◌<◌, ℕ, length, slice_index, sym, ap, ◌∙◌}
 use Rattle.dcel_fixed.specs.HalfEdges.{rev}
 use Rattle.dcel_store.specs.Lists.{Lists}
 use Rattle.dcel_maps.specs.Conditions.{IsTriangle}
@@ -66,3 +66,16 @@ module _ {V DE UE F : Type 0} where
       let lists = held_lists s r m held in
       let before_live : IsLive m.shape (prev_of m.shape h) = (map-sound mesh.sound).live_prev h live in
       rw (lists.next h live, lists.prev h live, lists.prev (prev_of m.shape h) before_live) (triangle_back-iff m mesh h live)
+
+  -- and then the corner opposite it is where the next one ends
+  pub opposite_start : {s : Lists V DE UE F} {r : Removal} {m : Mesh V DE UE F} → Holds s r m → (h : ℕ) → IsLive m.shape h
+      → IsTriangle m.shape (face_of m.shape h) → slice_index s.origin (rev (slice_index s.next h)) ≡ origin_of m.shape (prev_of m.shape h)
+  opposite_start {s = s} {r = r} {m = m} held h live triangle =
+      let half = holds_half held h live in
+      let after = holds_half held (next_of m.shape h) half.next_live in
+      let before_live : IsLive m.shape (prev_of m.shape h) = (map-sound (held_mesh s r m held).sound).live_prev h live in
+      let before = holds_half held (prev_of m.shape h) before_live in
+      let turned : prev_of m.shape (prev_of m.shape h) ≡ next_of m.shape h = rw (half.prev, half.next, before.prev) at (on_triangle-iff held h live).1 triangle in
+      let third : next_of m.shape (next_of m.shape h) ≡ prev_of m.shape h =
+      ap (next_of m.shape) (sym turned) ∙ (map-sound (held_mesh s r m held).sound).next-prev (prev_of m.shape h) before_live in
+      rw half.next (sym after.within.next_starts ∙ rw (after.next, third) half.prev_origin)

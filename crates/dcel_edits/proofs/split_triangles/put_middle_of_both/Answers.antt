@@ -41,15 +41,15 @@ returns-clause-stored g c =
     faces (c.default.ensures, (c.default-2.ensures, (c.default-3.ensures, tt)))
     (All-from_recursion g.F.Default.is_default faces (c.default-4.ensures, (c.default-5.ensures, tt)))
     (rw (
-      middle_anchor,
-      anchor,
       face_after_edge,
       face_before_twin,
-      far_anchor,
-      near_anchor,
       spoke_after_edge,
       spoke_before_twin,
       spoke_after_twin,
+      middle_anchor,
+      anchor,
+      far_anchor,
+      near_anchor,
       origin,
       prev,
       next,
