@@ -11,6 +11,7 @@ pub mod OutEdges
 pub mod Public
 pub mod Reading
 pub mod Rounds
+pub mod Setting
 pub mod stored
 pub mod Turning
 pub mod Unlinking

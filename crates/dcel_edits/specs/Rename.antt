@@ -1,5 +1,5 @@
 -- What the exchange of two vertices leaves in the stored lists, and which can be exchanged.
-use Rattle.std.specs.Prelude.{ℕ, ◌<◌, List, length, slice_index, slice_index_or, swap, Option, None}
+use Rattle.std.specs.Prelude.{◌≡◌, ℕ, ◌%◌, ◌<◌, List, length, slice_index, slice_index_or, swap, Option, None}
 use Rattle.dcel_fixed.specs.HalfEdges.{rev}
 use Rattle.dcel_store.specs.Lists.{Lists}
 use Rattle.dcel_edits.specs.Rounds.{AnchorComesBack, all_set, round_from}
@@ -7,6 +7,10 @@ use Rattle.dcel_edits.specs.Rounds.{AnchorComesBack, all_set, round_from}
 -- by the stored `prev`: the next half edge out of the same vertex
 abbrev pub ccw_by : List ℕ → ℕ → ℕ
 ccw_by prev h = rev (slice_index prev h)
+
+-- by the stored `next`: the one before
+abbrev pub cw_by : List ℕ → ℕ → ℕ
+cw_by next h = slice_index next (rev h)
 
 -- the half edges that turning leads through from an anchor on, where so many are stored
 abbrev pub turn_by : List ℕ → ℕ → Option ℕ → List ℕ
@@ -35,7 +39,8 @@ module _ {V DE UE F : Type 0} where
   -- where a vertex can have the half edges of its turn start at it, and two can be exchanged
   pub record CanTurn (s : Lists V DE UE F) (v : ℕ) : Type 0 where
     pub anchor_in : v < length s.vertex_anchors
-    pub turns : AnchorComesBack (ccw_by s.prev) (length s.next) (stored_anchor s v)
+    pub whole : length s.next % 2 ≡ 0
+    pub turns : AnchorComesBack (ccw_by s.prev) (cw_by s.next) (length s.next) (stored_anchor s v)
 
   pub record CanExchange (s : Lists V DE UE F) (a b : ℕ) : Type 0 where
     pub first_in : a < length s.vertex_data

@@ -1,5 +1,5 @@
 -- Stored links that lead from a half edge back to it, and lists written all the way.
-use Rattle.std.specs.Prelude.{ℕ, ◌<◌, List, [], fold, slice_set, Option, Some, None}
+use Rattle.std.specs.Prelude.{◌≡◌, ℕ, ◌<◌, List, [], fold, slice_set, Option, Some, None}
 use Rattle.dcel_maps.specs.Walking.{IsRoundTrip}
 use Rattle.dcel_maps.specs.Walks.{walk}
 use Rattle.dcel_maps.specs.Words.{count_of}
@@ -13,12 +13,13 @@ abbrev pub round_from : (ℕ → ℕ) → ℕ → Option ℕ → List ℕ
 round_from step halves None = []
 round_from step halves (Some h) = walk step halves h
 
--- a step leads from a half edge back to it, through half edges that are stored
-pub record ComesBack (step : ℕ → ℕ) (halves h : ℕ) : Type 0 where
+-- a step leads from a half edge back to it, through half edges that are stored, and the step back undoes it there
+pub record ComesBack (step step_back : ℕ → ℕ) (halves h : ℕ) : Type 0 where
   pub trip : IsRoundTrip step h (round_from step halves (Some h))
   pub stored : (k : ℕ) → 0 < count_of k (round_from step halves (Some h)) → k < halves
+  pub undone : (k : ℕ) → 0 < count_of k (round_from step halves (Some h)) → step_back (step k) ≡ k
 
 -- and from an anchor, if there is one
-abbrev pub AnchorComesBack : (ℕ → ℕ) → ℕ → Option ℕ → Type 0
-AnchorComesBack step halves None = Unit {0}
-AnchorComesBack step halves (Some h) = ComesBack step halves h
+abbrev pub AnchorComesBack : (ℕ → ℕ) → (ℕ → ℕ) → ℕ → Option ℕ → Type 0
+AnchorComesBack step step_back halves None = Unit {0}
+AnchorComesBack step step_back halves (Some h) = ComesBack step step_back halves h

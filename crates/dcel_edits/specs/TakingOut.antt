@@ -98,7 +98,7 @@ module _ {V DE UE F : Type 0} where
   -- where a face's word can be written
   pub record CanWalk (s : Lists V DE UE F) (f : ℕ) : Type 0 where
     pub anchor_in : f < length s.face_anchors
-    pub walks : AnchorComesBack (λ h. slice_index s.next h) (length s.next) (slice_index_or s.face_anchors f None)
+    pub walks : AnchorComesBack (λ h. slice_index s.next h) (λ h. slice_index s.prev h) (length s.next) (slice_index_or s.face_anchors f None)
 
   -- where an edge, a face or a vertex can be taken out
   pub record CanLoseEdge (s : Lists V DE UE F) (d : ℕ) : Type 0 where

@@ -26,7 +26,8 @@ pub fn exchange_vertices<V, DE, UE, F, A: Allocator>(
     rename_turn(store, second);
 }
 
-/// Has half edges start at a vertex: its anchor, and those that turning leads to from there.
+/// Has half edges start at a vertex: its anchor, and those that turning leads to from there. It goes on from the anchor and back from
+/// it, until the two meet: each half edge is known only from the one before it, and the reads of two ends don't wait for each other.
 pub(crate) fn rename_turn<V, DE, UE, F, A: Allocator>(
     store: &mut Store<V, DE, UE, F, A>,
     vertex: FixedVertexHandle,
@@ -37,12 +38,19 @@ pub(crate) fn rename_turn<V, DE, UE, F, A: Allocator>(
     let Some(out_edge) = store.vertex_anchor(vertex) else {
         return;
     };
-    let mut edge = out_edge;
+    let mut first = out_edge;
+    let mut last = store.next(out_edge.rev());
     loop {
-        store.set_origin(edge, vertex);
-        edge = store.prev(edge).rev();
-        if edge == out_edge {
+        store.set_origin(first, vertex);
+        if first == last {
             return;
         }
+        store.set_origin(last, vertex);
+        let after = store.prev(first).rev();
+        if after == last {
+            return;
+        }
+        last = store.next(last.rev());
+        first = after;
     }
 }

@@ -7,12 +7,12 @@ use Rattle.dcel_edits.specs.TakingOut.{CanLoseFace, CanWalk, face_dropped, face_
 use Rattle.dcel_maps.specs.Maps.{Live}
 use Rattle.dcel_maps.specs.Removals.{Removal, gives_up_edge}
 use Rattle.dcel_maps.specs.Renumbering.{face_taken_out, last_put, moved, without_face}
-use Rattle.dcel_maps.specs.Shapes.{IsLive, IsMesh, face_count, next_of}
+use Rattle.dcel_maps.specs.Shapes.{IsLive, IsMesh, face_count, next_of, prev_of}
 use Rattle.dcel_maps.specs.Walking.{IsOnFace, ListsOnce}
 use Rattle.dcel_maps.specs.Words.{count_of}
 use Rattle.dcel_edits.proofs.Dropping.{face_out-last, face_out-moved}
 use Rattle.dcel_edits.proofs.Public.{mesh-is-mesh}
-use Rattle.dcel_edits.proofs.Reading.{face_of-is, next_of-is, half-below}
+use Rattle.dcel_edits.proofs.Reading.{face_of-is, next_of-is, prev_of-is, half-below}
 use Rattle.dcel_maps.proofs.Shown.{shown-same}
 use Rattle.dcel_edits.proofs.stored.Held.{own_data}
 use Rattle.dcel_edits.proofs.stored.Holding.{Holds, holds}
@@ -72,6 +72,9 @@ module _ {V DE UE F : Type 0} (s : Lists V DE UE F) (r : Removal) (d : ℕ) (sto
   abbrev following : ℕ → ℕ
   following h = slice_index s.next h
 
+  abbrev preceding : ℕ → ℕ
+  preceding h = slice_index s.prev h
+
   held : Holds s r (mesh_of s r)
   held = holds stored refl
 
@@ -100,12 +103,15 @@ module _ {V DE UE F : Type 0} (s : Lists V DE UE F) (r : Removal) (d : ℕ) (sto
     round-agrees : (h : ℕ) → IsLive (mesh_of s r).shape h → following h ≡ next_of (mesh_of s r).shape h
     round-agrees h live = sym (next_of-is stored h live)
 
+    back-agrees : (h : ℕ) → IsLive (mesh_of s r).shape h → preceding h ≡ prev_of (mesh_of s r).shape h
+    back-agrees h live = sym (prev_of-is stored h live)
+
     can_walk : CanWalk (face_dropped s d) d
     can_walk = record {
       anchor_in = omega (arith, below, anchors, inside, length-last_put 1 s.face_anchors d);
       walks =
           rw anchor-moved
-          (anchor_comes_back held (links_lawful is_mesh.sound) following round-agrees (slice_index_or s.face_anchors (faces - 1) None) anchor-live);
+          (anchor_comes_back held (links_lawful is_mesh.sound) following round-agrees preceding back-agrees (slice_index_or s.face_anchors (faces - 1) None) anchor-live);
     }
 
     -- the walk from its anchor lists what lies on it

@@ -1,22 +1,23 @@
 -- What the writes leave that exchange two vertices holds the mesh where they are swapped.
-use Rattle.std.proofs.Common.{◌≡◌, ◌≢◌, inl, inr, ℕ, ◌*◌, ◌/◌, ◌<◌, true, List, length, slice_index, Some, refl, sym, ap, ◌∙◌, subst, arith}
+use Rattle.std.proofs.Common.{◌≡◌, ◌≢◌, inl, inr, ℕ, ◌*◌, ◌/◌, ◌%◌, ◌<◌, true, List, length, slice_index, Some, refl, sym, ap, ◌∙◌, subst, arith}
 use Rattle.dcel_edits.proofs.stored.Rounds.{all_set-away, all_set-here, anchor_comes_back, length-all_set, round-from}
 use Rattle.std.specs.Prelude.{swap}
 use Rattle.std.proofs.lemmas.Bool.{cases_eq, cases_lt, cases_Bool}
 use Rattle.std.proofs.lemmas.List.{ext_get_or}
 use Rattle.std.proofs.lemmas.List.Edits.{length-swap}
 use Rattle.dcel_fixed.specs.HalfEdges.{rev}
+use Rattle.dcel_fixed.proofs.Halves.{rev-half}
 use Rattle.dcel_store.specs.Lists.{Lists}
 use Rattle.dcel_maps.specs.edits.Rename.{exchanged, vertices_swapped}
 use Rattle.dcel_maps.specs.Removals.{Removal, gives_up_edge, shown}
 use Rattle.dcel_maps.specs.Shapes.{AnchorsVertex, IsLive, IsMesh, Mesh, origin_of, vertex_anchor, vertex_is_live}
-use Rattle.dcel_maps.specs.Walking.{IsOutEdge, ListsOnce, ccw_of, out_edges_of}
+use Rattle.dcel_maps.specs.Walking.{IsOutEdge, ListsOnce, ccw_of, cw_of, out_edges_of}
 use Rattle.dcel_maps.specs.Words.{count_of}
 use Rattle.dcel_maps.proofs.Liveness.{is_live-from, is_live-given_up, vertex_live-parts}
 use Rattle.dcel_maps.proofs.edits.Swaps.{exchanged-first, exchanged-other, exchanged-second, length-renamed_origins, renamed_origins-at, swapped-origin, swapped_is_mesh}
 use Rattle.dcel_maps.proofs.walks.Links.{ccw-lawful, half-below}
 use Rattle.dcel_maps.proofs.walks.Turning.{mesh-out_edges}
-use Rattle.dcel_edits.specs.Rename.{CanExchange, CanTurn, ccw_by, turn_of, vertices_exchanged, stored_anchor}
+use Rattle.dcel_edits.specs.Rename.{CanExchange, CanTurn, ccw_by, cw_by, turn_of, vertices_exchanged, stored_anchor}
 use Rattle.dcel_edits.specs.Rounds.{AnchorComesBack, all_set}
 use Rattle.dcel_maps.proofs.Shown.{length-shown, slice_index-shown, slice_index-shown_live}
 use Rattle.dcel_edits.proofs.stored.Changes.{held_edges, held_lists, held_mesh, held_removal, held_vertex, held_vertex_anchor}
@@ -37,6 +38,14 @@ module _ {V DE UE F : Type 0} {s : Lists V DE UE F} {r : Removal} {m : Mesh V DE
   ccw-stored : (h : ℕ) → IsLive m.shape h → ccw_by s.prev h ≡ ccw_of m.shape h
   ccw-stored h live = ap rev (lists.prev h live)
 
+  -- and by the stored `next`, back
+  cw-stored : (h : ℕ) → IsLive m.shape h → cw_by s.next h ≡ cw_of m.shape h
+  cw-stored h live = lists.next (rev h) (rw (rev-half h) live)
+
+  -- whole edges are stored
+  pub halves_whole : length s.next % 2 ≡ 0
+  halves_whole = omega (arith, halves)
+
   module _ (v : ℕ) (v_live : vertex_is_live m.shape v ≡ true) where
     v_below : v < m.shape.vertices
     v_below = (vertex_live-parts m.shape v v_live).0
@@ -45,13 +54,13 @@ module _ {V DE UE F : Type 0} {s : Lists V DE UE F} {r : Removal} {m : Mesh V DE
     anchor-live : (h : ℕ) → vertex_anchor m v ≡ Some h → IsLive m.shape h
     anchor-live h some = (subst (AnchorsVertex m.shape v) some (mesh.anchored.vertices v v_below)).0
 
-    pub turn_comes_back : AnchorComesBack (ccw_by s.prev) (length s.next) (stored_anchor s v)
+    pub turn_comes_back : AnchorComesBack (ccw_by s.prev) (cw_by s.next) (length s.next) (stored_anchor s v)
     turn_comes_back =
         rw (← held_vertex_anchor s r m held v)
-        (anchor_comes_back held (ccw-lawful mesh.sound) (ccw_by s.prev) ccw-stored (vertex_anchor m v) anchor-live)
+        (anchor_comes_back held (ccw-lawful mesh.sound) (ccw_by s.prev) ccw-stored (cw_by s.next) cw-stored (vertex_anchor m v) anchor-live)
 
     can_turn : CanTurn s v
-    can_turn = record { anchor_in = held_vertex s r m held v v_live; turns = turn_comes_back }
+    can_turn = record { anchor_in = held_vertex s r m held v v_live; whole = halves_whole; turns = turn_comes_back }
 
     -- and the turn leads through the vertex's out edges
     turn-lists : ListsOnce (IsOutEdge m.shape v) (turn_of s v)

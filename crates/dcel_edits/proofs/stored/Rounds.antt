@@ -1,5 +1,5 @@
 -- Rounds by stored links are walks in the mesh that the lists hold; and lists that are written all the way.
-use Rattle.std.proofs.Common.{◌≡◌, ◌≢◌, inl, inr, ℕ, ◌*◌, ◌<◌, List, [], ◌∷◌, length, slice_index, slice_set, Option, Some, None, refl, ◌∙◌, arith}
+use Rattle.std.proofs.Common.{◌≡◌, ◌≢◌, inl, inr, ℕ, ◌*◌, ◌<◌, List, [], ◌∷◌, length, slice_index, slice_set, Option, Some, None, refl, ap, ◌∙◌, arith}
 use Rattle.std.proofs.lemmas.Bool.{cases_eq, cases_lt}
 use Rattle.std.proofs.lemmas.List.{get_or-set_other, get_or-set_same, length-set}
 use Rattle.dcel_store.specs.Lists.{Lists}
@@ -55,30 +55,38 @@ module _ {V DE UE F : Type 0} {s : Lists V DE UE F} {r : Removal} {m : Mesh V DE
   round-walk : (h : ℕ) → IsLive m.shape h → round_from other (length s.next) (Some h) ≡ walk_of m.shape step h
   round-walk h live = rw halves (up_to-agrees m.shape step other agree law.stays (2 * m.shape.edges) h h live)
 
-  comes_back : (h : ℕ) → IsLive m.shape h → ComesBack other (length s.next) h
-  comes_back h live =
-      let same = round-walk h live in
-      let trip = walk-round law h live in
-      let lives : (k : ℕ) → 0 < count_of k (h ∷ trip.rest) → IsLive m.shape k = λ k found. walk-live law h live k (rw trip.from found) in
-      record {
-        trip = record {
-          rest = trip.rest;
-          from = same ∙ trip.from;
-          round =
-              Path-changed (By step) (By other) h trip.rest h h
-              (λ p q p_in q_in stepped. agree p (lives p p_in) ∙ stepped)
-              (λ p p_in stepped. agree p (lives p p_in) ∙ stepped) trip.round;
-          once = λ k. rw same (trip.once k);
-        };
-        stored = λ k found. omega (arith, half-below m.shape k (walk-live law h live k (rw same at found)), halves);
-      }
-
   -- the round from an anchor that is live, if there is one, is the walk from it
   pub round-from : (anchor : Option ℕ) → ((h : ℕ) → anchor ≡ Some h → IsLive m.shape h)
       → round_from other (length s.next) anchor ≡ walk_from m.shape step anchor
   round-from None live = refl
   round-from (Some h) live = round-walk h (live h refl)
 
-  pub anchor_comes_back : (anchor : Option ℕ) → ((h : ℕ) → anchor ≡ Some h → IsLive m.shape h) → AnchorComesBack other (length s.next) anchor
-  anchor_comes_back None live = tt
-  anchor_comes_back (Some h) live = comes_back h (live h refl)
+  -- and `other_back` is how the step back is read
+  module _ (other_back : ℕ → ℕ) (agree_back : (h : ℕ) → IsLive m.shape h → other_back h ≡ step_back h) where
+    comes_back : (h : ℕ) → IsLive m.shape h → ComesBack other other_back (length s.next) h
+    comes_back h live =
+        let same = round-walk h live in
+        let trip = walk-round law h live in
+        let lives : (k : ℕ) → 0 < count_of k (h ∷ trip.rest) → IsLive m.shape k = λ k found. walk-live law h live k (rw trip.from found) in
+        let found_live : (k : ℕ) → 0 < count_of k (round_from other (length s.next) (Some h)) → IsLive m.shape k =
+        λ k found. walk-live law h live k (rw same at found) in
+        record {
+          trip = record {
+            rest = trip.rest;
+            from = same ∙ trip.from;
+            round =
+                Path-changed (By step) (By other) h trip.rest h h
+                (λ p q p_in q_in stepped. agree p (lives p p_in) ∙ stepped)
+                (λ p p_in stepped. agree p (lives p p_in) ∙ stepped) trip.round;
+            once = λ k. rw same (trip.once k);
+          };
+          stored = λ k found. omega (arith, half-below m.shape k (found_live k found), halves);
+          undone = λ k found.
+              let at = found_live k found in
+              ap other_back (agree k at) ∙ agree_back (step k) (law.stays k at) ∙ law.back-step k at;
+        }
+
+    pub anchor_comes_back : (anchor : Option ℕ) → ((h : ℕ) → anchor ≡ Some h → IsLive m.shape h)
+        → AnchorComesBack other other_back (length s.next) anchor
+    anchor_comes_back None live = tt
+    anchor_comes_back (Some h) live = comes_back h (live h refl)

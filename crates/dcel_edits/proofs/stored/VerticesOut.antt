@@ -16,7 +16,7 @@ use Rattle.dcel_edits.proofs.Reading.{half-live, half-below, origin_of-is}
 use Rattle.dcel_maps.proofs.Shown.{shown-none}
 use Rattle.dcel_edits.proofs.stored.Held.{own_data}
 use Rattle.dcel_edits.proofs.stored.Holding.{Holds, holds}
-use Rattle.dcel_edits.proofs.stored.Renaming.{in_turn, not_in_turn, turn_comes_back}
+use Rattle.dcel_edits.proofs.stored.Renaming.{halves_whole, in_turn, not_in_turn, turn_comes_back}
 use Rattle.dcel_edits.proofs.stored.Rounds.{all_set-moves, length-all_set}
 use Rattle.dcel_maps.proofs.Liveness.{gives_up_edge-closed, is_live-from}
 use Rattle.dcel_maps.proofs.renumbering.LastPut.{length-last_put}
@@ -117,6 +117,7 @@ module _ {V DE UE F : Type 0} (s : Lists V DE UE F) (r : Removal) (d : ℕ) (sto
     can_turn : CanTurn (vertex_dropped s d) d
     can_turn = record {
       anchor_in = omega (arith, out.below, anchors, inside, length-last_put 1 s.vertex_anchors d);
+      whole = halves_whole held;
       turns = rw anchor-moved (turn_comes_back held (vertices - 1) last_live);
     }
 

@@ -198,7 +198,7 @@ fn renamed(
     Some(if edge == from { to } else { edge })
 }
 
-/// Has half edges lie on a face: its anchor, and those that follow it.
+/// Has half edges lie on a face: its anchor, and those that follow it. As [`rename_turn`], it goes from both ends.
 fn rename_word<V, DE, UE, F, A: Allocator>(
     store: &mut Store<V, DE, UE, F, A>,
     face: FixedFaceHandle<PossiblyOuterTag>,
@@ -209,12 +209,19 @@ fn rename_word<V, DE, UE, F, A: Allocator>(
     let Some(adjacent_edge) = store.face_anchor(face) else {
         return;
     };
-    let mut edge = adjacent_edge;
+    let mut first = adjacent_edge;
+    let mut last = store.prev(adjacent_edge);
     loop {
-        store.set_face(edge, face);
-        edge = store.next(edge);
-        if edge == adjacent_edge {
+        store.set_face(first, face);
+        if first == last {
             return;
         }
+        store.set_face(last, face);
+        let after = store.next(first);
+        if after == last {
+            return;
+        }
+        last = store.prev(last);
+        first = after;
     }
 }

@@ -1,5 +1,5 @@
 -- What a walk under way gives from its back, and what is left of it after one step there.
-use Rattle.std.proofs.Common.{◌≡◌, ◌≢◌, ℕ, ◌*◌, ◌==◌, ◌<◌, ◌≤◌, List, [], ◌∷◌, ◌++◌, length, refl, sym, ap, ◌∙◌, subst, arith, eq-eqb, length-append}
+use Rattle.std.proofs.Common.{◌≡◌, ℕ, ◌*◌, ◌==◌, ◌<◌, ◌≤◌, List, [], ◌∷◌, ◌++◌, length, refl, sym, ap, ◌∙◌, subst, arith, eq-eqb}
 use Rattle.std.proofs.lemmas.Bool.{false≢true, ne_eqb}
 use Rattle.std.proofs.lemmas.List.{map-append}
 use Rattle.dcel_maps.specs.Shapes.{Shape}
@@ -8,13 +8,7 @@ use Rattle.dcel_maps.specs.theory.Cycles.{Path}
 use Rattle.dcel_maps.specs.Walks.{up_to}
 use Rattle.dcel_maps.specs.Words.{count_of, last_of}
 use Rattle.dcel_maps.proofs.walks.UnderWay.{listed}
-use Rattle.dcel_maps.proofs.words.Counts.{count-append, count-equal, count-same}
-use Rattle.dcel_maps.proofs.words.Paths.{Path-split, last_of-leads}
-
--- a list of some items is others, and then its last
-others_and_last : (y : ℕ) (r : List ℕ) → (others : List ℕ) × (y ∷ r ≡ others ++ last_of y r ∷ [])
-others_and_last y [] = ([], refl)
-others_and_last y (z ∷ r) = let rest = others_and_last z r in (y ∷ rest.0, ap (λ w. y ∷ w) rest.1)
+use Rattle.dcel_maps.proofs.words.Paths.{last_of-leads, path_up_to_last}
 
 module _ (s : Shape) (step step_back : ℕ → ℕ) where
   -- a list is what comes up to `before`, and then `before` itself
@@ -29,22 +23,18 @@ module _ (s : Shape) (step step_back : ℕ → ℕ) where
       rw (eq-eqb current current refl) (λ goes_on. absurd (false≢true (sym goes_on)), refl)
   before_step current last (y ∷ r) path once few =
       let z = last_of y r in
-      let (others, parted) = others_and_last y r in
-      let two = Path-split (StepsTo s step step_back) current others z [] last (subst (λ (w : List ℕ). Path (StepsTo s step step_back) current w last) parted path) in
-      let single = subst (λ (w : List ℕ). (k : ℕ) → count_of k (current ∷ w) ≤ 1) parted once in
+      let less = path_up_to_last (StepsTo s step step_back) current y r last path once in
       let on : IsUnderWay s step step_back current z =
       record {
-        rest = others;
-        path = two.0;
-        once = λ k. omega (arith, single k, count-append k others (z ∷ []));
-        apart = omega (arith, single z, count-append z others (z ∷ []), count-same z []);
-        live_last = two.1.live;
-        few = omega (arith, ap length parted, length-append others (z ∷ []));
+        rest = less.others;
+        path = less.path;
+        once = less.once;
+        apart = less.apart;
+        live_last = less.step.live;
+        few = omega (arith, few, less.longer);
       } in
-      let differs : current ≢ z =
-      λ same. omega (arith, single z, count-equal z current (others ++ z ∷ []) (sym same), count-append z others (z ∷ []), count-same z []) in
-      rw (ne_eqb current z differs)
-      (λ goes_on. on, ap (λ w. current ∷ w) parted ∙ ap (λ w. w ++ z ∷ []) (sym (listed s step step_back current z on)))
+      rw (ne_eqb current z less.differs)
+      (λ goes_on. on, ap (λ w. current ∷ w) less.parted ∙ ap (λ w. w ++ z ∷ []) (sym (listed s step step_back current z on)))
 
 module _ {s : Shape} {step step_back : ℕ → ℕ} {current last : ℕ} (u : IsUnderWay s step step_back current last)
     (before : ℕ) (stepped : before ≡ step_back last) where

@@ -1,9 +1,10 @@
 -- Paths and cycles of a relation.
-use Rattle.std.proofs.Common.{◌≡◌, ◌⊎◌, inl, inr, ℕ, ◌<◌, List, [], ◌∷◌, ◌++◌, refl, sym, subst, arith, append-nil, eqb, eq-eqb}
+use Rattle.std.proofs.Common.{◌≡◌, ◌≢◌, ◌⊎◌, inl, inr, ℕ, ◌+◌, ◌<◌, ◌≤◌, List, [], ◌∷◌, ◌++◌, length, refl, sym, ap, subst, arith, append-nil, eqb, eq-eqb}
 use Rattle.std.proofs.lemmas.Bool.{cases_eq, cond_both, ne_eqb}
+use Rattle.std.proofs.lemmas.List.{length-append}
 use Rattle.dcel_maps.specs.theory.Cycles.{Path, IsCycle}
 use Rattle.dcel_maps.specs.Words.{count_of, next_in_word, prev_in_word, item_after, item_before, last_of}
-use Rattle.dcel_maps.proofs.words.Counts.{count-same, count-other, count-later, first_or_later}
+use Rattle.dcel_maps.proofs.words.Counts.{count-append, count-equal, count-same, count-other, count-later, first_or_later}
 
 pub Path-append : (R : ℕ → ℕ → Type 0) (x : ℕ) (l : List ℕ) (y : ℕ) (r : List ℕ) (e : ℕ) → Path R x l y → Path R y r e
     → Path R x (l ++ y ∷ r) e
@@ -67,6 +68,40 @@ item_after-follows R x (y ∷ r) e p h found =
 pub last_of-leads : (R : ℕ → ℕ → Type 0) (x : ℕ) (r : List ℕ) (e : ℕ) → Path R x r e → R (last_of x r) e
 last_of-leads R x [] e p = p
 last_of-leads R x (y ∷ r) e p = last_of-leads R y r e p.1
+
+-- a list of some items is others, and then its last
+pub others_and_last : (y : ℕ) (r : List ℕ) → (others : List ℕ) × (y ∷ r ≡ others ++ last_of y r ∷ [])
+others_and_last y [] = ([], refl)
+others_and_last y (z ∷ r) = let rest = others_and_last z r in (y ∷ rest.0, ap (λ w. y ∷ w) rest.1)
+
+-- a path along items that stand there once is one to the last of them, and the last step
+pub record IsUpToLast (R : ℕ → ℕ → Type 0) (x : ℕ) (r : List ℕ) (last e : ℕ) : Type 0 where
+  pub others : List ℕ
+  pub parted : r ≡ others ++ last ∷ []
+  pub path : Path R x others last
+  pub step : R last e
+  pub once : (k : ℕ) → count_of k (x ∷ others) ≤ 1
+  pub apart : count_of last others ≡ 0
+  pub differs : x ≢ last
+  pub longer : length r ≡ length others + 1
+
+pub path_up_to_last : (R : ℕ → ℕ → Type 0) (x y : ℕ) (r : List ℕ) (e : ℕ) → Path R x (y ∷ r) e
+    → ((k : ℕ) → count_of k (x ∷ y ∷ r) ≤ 1) → IsUpToLast R x (y ∷ r) (last_of y r) e
+path_up_to_last R x y r e p once =
+    let z = last_of y r in
+    let (others, parted) = others_and_last y r in
+    let two = Path-split R x others z [] e (subst (λ (w : List ℕ). Path R x w e) parted p) in
+    let single = subst (λ (w : List ℕ). (k : ℕ) → count_of k (x ∷ w) ≤ 1) parted once in
+    record {
+      others = others;
+      parted = parted;
+      path = two.0;
+      step = two.1;
+      once = λ k. omega (arith, single k, count-append k others (z ∷ []));
+      apart = omega (arith, single z, count-append z others (z ∷ []), count-same z []);
+      differs = λ same. omega (arith, single z, count-equal z x (others ++ z ∷ []) (sym same), count-append z others (z ∷ []), count-same z []);
+      longer = omega (arith, ap length parted, length-append others (z ∷ []));
+    }
 
 item_before-leads : (R : ℕ → ℕ → Type 0) (last x : ℕ) (r : List ℕ) (e : ℕ) → R last x → Path R x r e → (h : ℕ)
     → 0 < count_of h (x ∷ r) → R (item_before h last (x ∷ r)) h
