@@ -330,7 +330,7 @@ impl<V, DE, UE, F, A: Allocator> Dcel<V, DE, UE, F, A> {
 
     /// Whether the edge is live between two triangles, one of which may be the outer face, and the corners opposite it are two vertices:
     /// so it can be turned to join these ([`flip_cw`](crate::operations::flip_cw)).
-    // Out of line it leaves the caller's registers to the edit that follows.
+    // Out of line, since a loop that tests edges and turns them was faster so.
     #[inline(never)]
     pub fn can_flip(&self, handle: FixedUndirectedEdgeHandle) -> bool
         ensures { IsTrue result ↔ CanFlip self.now.shape handle }

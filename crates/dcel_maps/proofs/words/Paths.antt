@@ -70,7 +70,7 @@ last_of-leads R x [] e p = p
 last_of-leads R x (y ∷ r) e p = last_of-leads R y r e p.1
 
 -- a list of some items is others, and then its last
-pub others_and_last : (y : ℕ) (r : List ℕ) → (others : List ℕ) × (y ∷ r ≡ others ++ last_of y r ∷ [])
+others_and_last : (y : ℕ) (r : List ℕ) → (others : List ℕ) × (y ∷ r ≡ others ++ last_of y r ∷ [])
 others_and_last y [] = ([], refl)
 others_and_last y (z ∷ r) = let rest = others_and_last z r in (y ∷ rest.0, ap (λ w. y ∷ w) rest.1)
 
