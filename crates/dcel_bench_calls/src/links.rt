@@ -1,10 +1,11 @@
 //! The links that calls leave.
 
-use crate::growths::Growth::{
+use dcel_bench::checks::{holds, same};
+use dcel_bench::growths::Growth::{
     Append, Close, Extend, PutBeside, SetUp, SplitBothSides, SplitOneSide, Triangle,
 };
-use crate::growths::{CUT, Growth, LINE, grown};
-use crate::meshes::{CUT_TRIANGLE, Links, assert_counts, assert_links};
+use dcel_bench::growths::{CUT, Growth, LINE, grown};
+use dcel_bench::meshes::{CUT_TRIANGLE, Links, check_links};
 use std::test::Fail;
 
 /// Calls, and then the number of vertices, the words of the faces, and the origins of the half edges. Each mesh is checked.
@@ -73,10 +74,10 @@ const ROWS: [Row; 8] = [
 #[test]
 fn links_are_left(rt: HostRuntime) -> Result<(), Fail> {
     for (growths, vertices, (words, origins)) in ROWS {
-        let dcel = grown(rt.alloc(), growths, &rt)?;
-        assert_counts(&dcel, vertices, origins.len(), words.len(), &rt);
-        assert_links(&dcel, words, origins, &rt);
-        assert!(rt; dcel.sanity_check());
+        let dcel = grown(rt.alloc(), growths)?;
+        same(dcel.num_vertices(), vertices, "vertices")?;
+        check_links(&dcel, words, origins)?;
+        holds(dcel.sanity_check(), "a sound mesh")?;
     }
     Ok(())
 }

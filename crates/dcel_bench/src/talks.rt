@@ -1,16 +1,91 @@
-//! What a run over known bytes answers.
+//! Lines, the replies to them, and what a run over known lines answers.
 
 ghost use Rattle.std.specs.Prelude.{◌≤◌, ◌^◌};
 
+use crate::checks::same;
 use crate::meshes::NO_LIMIT;
+use crate::require;
 use dcel_commands::commands::{RunFault, StdSink, StdSource, run};
 use std::alloc::{AllocError, Allocator, Global};
 use std::io;
 use std::io::{Error, ErrorKind, Read, Write};
-use std::process::Abort;
 use std::test::Fail;
 
-/// More than any test needs.
+/// Lines with what each is answered.
+pub type Talk = &'static [(&'static str, &'static str)];
+
+/// An edge from vertex 0 to vertex 1.
+pub const FIRST_EDGE: [(&str, &str); 3] = [
+    ("append 0", "vertex 0"),
+    ("append 1", "vertex 1"),
+    ("setup 0 1", "ok"),
+];
+
+/// The same, and vertex 2 beside it.
+pub const EDGE_AND_VERTEX: [(&str, &str); 4] = [
+    ("append 0", "vertex 0"),
+    ("append 1", "vertex 1"),
+    ("setup 0 1", "ok"),
+    ("append 2", "vertex 2"),
+];
+
+/// The line 0, 2, 1.
+pub const SPLIT_EDGE: [(&str, &str); 5] = [
+    ("append 0", "vertex 0"),
+    ("append 1", "vertex 1"),
+    ("setup 0 1", "ok"),
+    ("append 2", "vertex 2"),
+    ("line 0 2", "halves 0 2"),
+];
+
+/// The line 0, 1, 2, 3.
+pub const LINE: [(&str, &str); 7] = [
+    ("append 0", "vertex 0"),
+    ("append 1", "vertex 1"),
+    ("setup 0 1", "ok"),
+    ("append 2", "vertex 2"),
+    ("extend 1 2", "vertex 2"),
+    ("append 3", "vertex 3"),
+    ("extend 2 3", "vertex 3"),
+];
+
+/// A triangle.
+pub const TRIANGLE: [(&str, &str); 1] = [("triangle 0 1 2", "ok")];
+
+/// A triangle, and vertex 3 beside it.
+pub const TRIANGLE_AND_VERTEX: [(&str, &str); 2] = [
+    ("triangle 0 1 2", "ok"),
+    ("append 3", "vertex 3"),
+];
+
+/// A triangle that vertex 3 cuts into three.
+pub const CUT_TRIANGLE: [(&str, &str); 3] = [
+    ("triangle 0 1 2", "ok"),
+    ("append 3", "vertex 3"),
+    ("insert 3 1", "vertex 3"),
+];
+
+/// Adds a line and its line feed.
+pub fn push_line(text: &mut Vec<u8>, line: &str) -> Result<(), AllocError> {
+    text.extend_from_slice(line.as_bytes())?;
+    text.push(b'\n')?;
+    Ok(())
+}
+
+/// Adds the lines and what each is answered.
+pub fn push_talk(
+    lines: &mut Vec<u8>,
+    replies: &mut Vec<u8>,
+    talk: &[(&str, &str)],
+) -> Result<(), AllocError> {
+    for (line, reply) in talk {
+        push_line(lines, line)?;
+        push_line(replies, reply)?;
+    }
+    Ok(())
+}
+
+/// More bytes and calls than any test needs.
 pub const PLENTY: usize = 1_000_000;
 
 /// Gives some bytes at a time, and fails after some calls.
@@ -61,9 +136,11 @@ impl Write for Taker {
 /// What a run did.
 #[derive(Drop)]
 pub struct Ran {
+    /// How it ended.
     pub ended: Result<(), RunFault>,
     /// Whether it asked for bytes.
     pub has_read: bool,
+    /// What it wrote.
     pub written: Vec<u8>,
 }
 
@@ -128,55 +205,30 @@ fn run_in<'a, A: Allocator + Clone>(
     }
 }
 
-/// Runs the lines with reads of one, three and all bytes: each is answered by the text beside it.
-pub fn assert_answered(
-    alloc: Global,
-    limit: usize,
-    talk: &[(&str, &str)],
-    rt: &impl Abort,
-) -> Result<(), Fail>
-    requires { limit ≤ 2 ^ 31 }
-{
-    let mut lines = Vec::new(alloc);
-    let mut replies = Vec::new(alloc);
-    push_talk(&mut lines, &mut replies, talk)?;
-    assert_text_answered(alloc, limit, &lines, &replies, rt)
-}
-
 /// Runs the lines with reads of one, three and all bytes: they are answered by these replies.
-pub fn assert_text_answered(
+pub fn check_text_answered(
     alloc: Global,
     limit: usize,
     lines: &[u8],
     replies: &[u8],
-    rt: &impl Abort,
-) -> Result<(), Fail>
-    requires { limit ≤ 2 ^ 31 }
-{
+) -> Result<(), Fail> {
+    require!(limit <= NO_LIMIT);
     for chunk in [1, 3, PLENTY] {
         let (ended, written) = answers(alloc, limit, lines, chunk, PLENTY, PLENTY);
         ended?;
-        assert_eq!(rt; written.as_slice(), replies, "in reads of {chunk}");
+        same(
+            written.as_slice(),
+            replies,
+            format_args!("replies in reads of {chunk}"),
+        )?;
     }
     Ok(())
 }
 
-/// Adds a line and its line feed.
-pub fn push_line(text: &mut Vec<u8>, line: &str) -> Result<(), AllocError> {
-    text.extend_from_slice(line.as_bytes())?;
-    text.push(b'\n')?;
-    Ok(())
-}
-
-/// Adds the lines and what each is answered.
-pub fn push_talk(
-    lines: &mut Vec<u8>,
-    replies: &mut Vec<u8>,
-    talk: &[(&str, &str)],
-) -> Result<(), AllocError> {
-    for (line, reply) in talk {
-        push_line(lines, line)?;
-        push_line(replies, reply)?;
-    }
-    Ok(())
+/// Runs the lines with reads of one, three and all bytes: each is answered by the text beside it.
+pub fn check_answered(alloc: Global, limit: usize, talk: &[(&str, &str)]) -> Result<(), Fail> {
+    let mut lines = Vec::new(alloc);
+    let mut replies = Vec::new(alloc);
+    push_talk(&mut lines, &mut replies, talk)?;
+    check_text_answered(alloc, limit, &lines, &replies)
 }

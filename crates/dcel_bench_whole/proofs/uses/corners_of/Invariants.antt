@@ -1,5 +1,5 @@
 use Rattle.dcel_maps.proofs.walks.Listing.{AllLive}
-use Rattle.dcel_bench.proofs.uses.corners_of.Given as goal
+use Rattle.dcel_bench_whole.proofs.uses.corners_of.Given as goal
 
 -- what is to come is live
 abbrev pub invariant-loop-edge : goal.invariant-loop-edge

@@ -1,7 +1,7 @@
 use Rattle.spade_dcel.specs.Handles.{mesh_behind, number_of}
 use Rattle.dcel_maps.specs.Walking.{out_edges_of}
 use Rattle.dcel_maps.proofs.walks.Listing.{all_live}
-use Rattle.dcel_bench.proofs.uses.corners_of.Goals as goal
+use Rattle.dcel_bench_whole.proofs.uses.corners_of.Goals as goal
 
 pub loop-edge-init : goal.loop-edge-init
 loop-edge-init g c =

@@ -1,0 +1,21 @@
+//! Tests of calls: what they answer, and the links and anchors that they leave.
+#![tactic(auto)]
+
+#[cfg(test)]
+mod anchors;
+#[cfg(test)]
+mod calls;
+#[cfg(test)]
+mod carried;
+#[cfg(test)]
+mod commands;
+#[cfg(test)]
+mod degenerate;
+#[cfg(test)]
+mod flips;
+#[cfg(test)]
+mod links;
+#[cfg(test)]
+mod removals;
+#[cfg(test)]
+mod swaps;

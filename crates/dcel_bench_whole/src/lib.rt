@@ -1,0 +1,10 @@
+//! What holds of whole meshes: data mapped and written, meshes cloned, cleared and made of their vertices, and programs over the layer.
+#![tactic(auto)]
+
+#[cfg(test)]
+mod elements_data;
+#[cfg(test)]
+mod readme;
+pub mod uses;
+#[cfg(test)]
+mod whole_meshes;
