@@ -6,6 +6,7 @@
 
 pub mod checks;
 pub mod commands;
+pub mod data;
 pub mod growths;
 pub mod meshes;
 pub mod openers;

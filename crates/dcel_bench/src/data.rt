@@ -1,0 +1,104 @@
+//! Data of elements, written by the numbers of the elements and read back.
+
+use crate::checks::same;
+use crate::meshes::{Mesh, half_edge, inner_face, undirected_edge, vertex};
+use crate::require;
+use spade_dcel::handles::{
+    FixedDirectedEdgeHandle, FixedFaceHandle, FixedUndirectedEdgeHandle, FixedVertexHandle,
+    InnerTag, PossiblyOuterTag,
+};
+use std::alloc::Allocator;
+use std::fmt::Debug;
+use std::test::Fail;
+
+/// A datum of a mesh, by the number of its element.
+#[derive(Clone, Copy, Debug)]
+pub enum Datum {
+    /// That of a vertex.
+    Vertex(u32),
+    /// That of a vertex, which is written by `update_vertex`.
+    UpdatedVertex(u32),
+    /// That of a half edge.
+    HalfEdge(u32),
+    /// That of an undirected edge.
+    Edge(u32),
+    /// That of a face, which may be the outer one.
+    Face(u32),
+    /// That of an inner face.
+    InnerFace(u32),
+}
+
+fn write_vertex<A: Allocator>(
+    dcel: &mut Mesh<A>,
+    handle: FixedVertexHandle,
+    datum: i64,
+) -> Result<(), Fail> {
+    require!(handle.index() < dcel.num_vertices());
+    *dcel.vertex_data_mut(handle) = datum;
+    same(*dcel.vertex_data(handle), datum, "the datum of a vertex")
+}
+
+fn update_vertex<A: Allocator>(
+    dcel: &mut Mesh<A>,
+    handle: FixedVertexHandle,
+    datum: i64,
+) -> Result<(), Fail> {
+    require!(handle.index() < dcel.num_vertices());
+    dcel.update_vertex(handle, datum);
+    same(*dcel.vertex_data(handle), datum, "the datum of a vertex")
+}
+
+fn write_half_edge<A: Allocator>(
+    dcel: &mut Mesh<A>,
+    handle: FixedDirectedEdgeHandle,
+    datum: i64,
+) -> Result<(), Fail> {
+    require!(handle.index() < dcel.num_directed_edges());
+    *dcel.directed_edge_data_mut(handle) = datum;
+    let found = *dcel.directed_edge_data(handle);
+    same(found, datum, "the datum of a half edge")
+}
+
+fn write_edge<A: Allocator>(
+    dcel: &mut Mesh<A>,
+    handle: FixedUndirectedEdgeHandle,
+    datum: i64,
+) -> Result<(), Fail> {
+    require!(handle.index() < dcel.num_undirected_edges());
+    *dcel.undirected_edge_data_mut(handle) = datum;
+    let found = *dcel.undirected_edge_data(handle);
+    same(found, datum, "the datum of an edge")
+}
+
+fn write_face<A: Allocator>(
+    dcel: &mut Mesh<A>,
+    handle: FixedFaceHandle<PossiblyOuterTag>,
+    datum: i64,
+) -> Result<(), Fail> {
+    require!(handle.index() < dcel.num_faces());
+    *dcel.face_data_mut(handle) = datum;
+    same(*dcel.face_data(handle), datum, "the datum of a face")
+}
+
+fn write_inner_face<A: Allocator>(
+    dcel: &mut Mesh<A>,
+    handle: FixedFaceHandle<InnerTag>,
+    datum: i64,
+) -> Result<(), Fail> {
+    require!(handle.index() < dcel.num_faces());
+    *dcel.face_data_mut(handle) = datum;
+    let found = [*dcel.face_data(handle), *dcel.face(handle).data()];
+    same(found, [datum; 2], "the datum of an inner face")
+}
+
+/// Writes a datum, and reads it back.
+pub fn write<A: Allocator>(dcel: &mut Mesh<A>, place: Datum, datum: i64) -> Result<(), Fail> {
+    match place {
+        Datum::Vertex(index) => write_vertex(dcel, vertex(index), datum),
+        Datum::UpdatedVertex(index) => update_vertex(dcel, vertex(index), datum),
+        Datum::HalfEdge(index) => write_half_edge(dcel, half_edge(index), datum),
+        Datum::Edge(index) => write_edge(dcel, undirected_edge(index), datum),
+        Datum::Face(index) => write_face(dcel, FixedFaceHandle::new(index as usize), datum),
+        Datum::InnerFace(index) => write_inner_face(dcel, inner_face(index), datum),
+    }
+}
