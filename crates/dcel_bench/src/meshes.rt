@@ -93,15 +93,15 @@ pub fn counts<A: Allocator>(dcel: &Mesh<A>) -> [usize; 3] {
 
 /// The number of the half edge that the vertex is anchored at.
 pub fn out_edge<A: Allocator>(dcel: &Mesh<A>, index: usize) -> Result<Option<usize>, Fail> {
+    require!(index < dcel.num_vertices());
     let handle = FixedVertexHandle::new(index);
-    require!(handle.index() < dcel.num_vertices());
     Ok(dcel.vertex_out_edge(handle).map(|edge| edge.index()))
 }
 
 /// The number of the half edge that the face is anchored at.
 pub fn adjacent_edge<A: Allocator>(dcel: &Mesh<A>, index: usize) -> Result<Option<usize>, Fail> {
+    require!(index < dcel.num_faces());
     let handle: FixedFaceHandle<PossiblyOuterTag> = FixedFaceHandle::new(index);
-    require!(handle.index() < dcel.num_faces());
     Ok(dcel.face_adjacent_edge(handle).map(|edge| edge.index()))
 }
 

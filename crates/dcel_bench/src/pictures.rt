@@ -1,7 +1,8 @@
 //! What can be read off a mesh, to be compared with what is read later.
 
-use crate::meshes::{Mesh, adjacent_edge, half_edge, out_edge};
+use crate::meshes::{Mesh, adjacent_edge, out_edge};
 use crate::require;
+use spade_dcel::handles::FixedDirectedEdgeHandle;
 use std::alloc::{Allocator, Global};
 use std::test::Fail;
 
@@ -16,8 +17,8 @@ pub struct Picture {
 
 /// The next half edge, the one before, the origin and the face of a live half edge.
 fn links_of<A: Allocator>(dcel: &Mesh<A>, index: usize) -> Result<[usize; 4], Fail> {
-    let handle = half_edge(index as u32);
-    require!(handle.index() < dcel.num_directed_edges());
+    require!(index < dcel.num_directed_edges());
+    let handle = FixedDirectedEdgeHandle::new(index);
     require!(dcel.is_live_edge(handle.as_undirected()));
     let edge = dcel.directed_edge(handle);
     Ok([
