@@ -1,9 +1,9 @@
 //! Worked rows of the edits that split an edge, close a face or put one beside an edge.
 
-use crate::meshes::NO_LIMIT;
-use crate::rows::{
-    CUT_TRIANGLE, EDGE_AND_VERTEX, LINE, Row, SPLIT_EDGE, TRIANGLE, TRIANGLE_AND_VERTEX,
-    assert_rows,
+use crate::rows::{Row, check_rows};
+use dcel_bench::meshes::NO_LIMIT;
+use dcel_bench::talks::{
+    CUT_TRIANGLE, EDGE_AND_VERTEX, LINE, SPLIT_EDGE, TRIANGLE, TRIANGLE_AND_VERTEX,
 };
 use std::test::Fail;
 
@@ -288,5 +288,5 @@ const ROWS: [Row; 19] = [
 
 #[test]
 fn edits_at_edges_are_answered(rt: HostRuntime) -> Result<(), Fail> {
-    assert_rows(&ROWS, rt.alloc(), &rt)
+    check_rows(rt.alloc(), &ROWS)
 }

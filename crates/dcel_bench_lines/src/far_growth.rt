@@ -1,34 +1,50 @@
 //! Meshes of thousands of elements, by lines.
 
-use crate::answers::{PLENTY, answers, push_line};
-use crate::meshes::NO_LIMIT;
+use dcel_bench::checks::same;
+use dcel_bench::meshes::NO_LIMIT;
+use dcel_bench::talks::{PLENTY, TRIANGLE, answers, push_line, push_talk};
+use std::alloc::{AllocError, Global};
 use std::test::Fail;
+
+/// Adds a line that appends a vertex, and its reply.
+fn push_append(
+    alloc: Global,
+    lines: &mut Vec<u8>,
+    replies: &mut Vec<u8>,
+    vertex: u32,
+) -> Result<(), AllocError> {
+    push_line(lines, &format!(in alloc; "append {vertex}")?)?;
+    push_line(replies, &format!(in alloc; "vertex {vertex}")?)
+}
+
+/// Adds lines that append vertices and put each into face 1, which keeps its anchor and is a triangle again.
+fn push_inserts(
+    alloc: Global,
+    lines: &mut Vec<u8>,
+    replies: &mut Vec<u8>,
+) -> Result<(), AllocError> {
+    for vertex in 3..2003 {
+        push_append(alloc, lines, replies, vertex)?;
+        push_line(lines, &format!(in alloc; "insert {vertex} 1")?)?;
+        push_line(replies, &format!(in alloc; "vertex {vertex}")?)?;
+    }
+    Ok(())
+}
 
 #[test]
 fn far_growth_is_answered(rt: HostRuntime) -> Result<(), Fail> {
     let alloc = rt.alloc();
     let mut lines = Vec::new(alloc);
     let mut replies = Vec::new(alloc);
-    push_line(&mut lines, "triangle 0 1 2")?;
-    push_line(&mut replies, "ok")?;
-    // Face 1 keeps its anchor and is a triangle again after each insertion.
-    for vertex in 3..2003 {
-        let reply = format!(in alloc; "vertex {vertex}")?;
-        push_line(&mut lines, &format!(in alloc; "append {vertex}")?)?;
-        push_line(&mut replies, &reply)?;
-        push_line(&mut lines, &format!(in alloc; "insert {vertex} 1")?)?;
-        push_line(&mut replies, &reply)?;
-    }
-    push_line(&mut lines, "check")?;
-    push_line(&mut replies, "true")?;
+    push_talk(&mut lines, &mut replies, &TRIANGLE)?;
+    push_inserts(alloc, &mut lines, &mut replies)?;
+    push_talk(&mut lines, &mut replies, &[("check", "true")])?;
     for vertex in 2003..7003 {
-        push_line(&mut lines, &format!(in alloc; "append {vertex}")?)?;
-        push_line(&mut replies, &format!(in alloc; "vertex {vertex}")?)?;
+        push_append(alloc, &mut lines, &mut replies, vertex)?;
     }
-    push_line(&mut lines, "counts")?;
-    push_line(&mut replies, "vertices 7003 edges 6003 faces 4002")?;
+    let counts = [("counts", "vertices 7003 edges 6003 faces 4002")];
+    push_talk(&mut lines, &mut replies, &counts)?;
     let (ended, written) = answers(alloc, NO_LIMIT, &lines, PLENTY, PLENTY, PLENTY);
     ended?;
-    assert_eq!(rt; written.as_slice(), replies.as_slice());
-    Ok(())
+    same(written.as_slice(), replies.as_slice(), "the replies")
 }

@@ -1,8 +1,8 @@
 //! Worked rows of holes: a vertex or a ring given up, the hole filled, and what is left once both are taken out.
 
-use crate::answers::{assert_text_answered, push_line};
-use crate::meshes::NO_LIMIT;
-use crate::rows::{CUT_TRIANGLE, Row, TRIANGLE, TRIANGLE_AND_VERTEX, assert_rows};
+use crate::rows::{Row, check_rows};
+use dcel_bench::meshes::NO_LIMIT;
+use dcel_bench::talks::{CUT_TRIANGLE, TRIANGLE, TRIANGLE_AND_VERTEX};
 use std::test::Fail;
 
 /// A triangle that vertex 3 cuts into three, with vertex 4 on the edge from 0 to 3.
@@ -161,49 +161,5 @@ const ROWS: [Row; 10] = [
 
 #[test]
 fn holes_are_answered(rt: HostRuntime) -> Result<(), Fail> {
-    assert_rows(&ROWS, rt.alloc(), &rt)
-}
-
-/// What makes a bad line after `isolate`, and what after `remesh`.
-const NO_LEADER: [&str; 6] = ["", " ", " /", " 3 /", " 3 1 / 3", " 3 01"];
-
-const NOT_THREE_LISTS: [&str; 8] = [
-    "",
-    " ",
-    " 1 3 5",
-    " /",
-    " 1 / 3",
-    " / / /",
-    " 1 / 3 / 1 x",
-    " 1 // 3",
-];
-
-#[test]
-fn other_lists_of_holes_are_bad(rt: HostRuntime) -> Result<(), Fail> {
-    let alloc = rt.alloc();
-    let mut lines = Vec::new(alloc);
-    let mut replies = Vec::new(alloc);
-    for rest in NO_LEADER {
-        push_line(&mut lines, &format!(in alloc; "isolate{rest}")?)?;
-        push_line(&mut replies, "bad line")?;
-    }
-    for rest in NOT_THREE_LISTS {
-        push_line(&mut lines, &format!(in alloc; "remesh{rest}")?)?;
-        push_line(&mut replies, "bad line")?;
-    }
-    assert_text_answered(alloc, NO_LIMIT, &lines, &replies, &rt)
-}
-
-#[test]
-fn a_border_fills_a_line(rt: HostRuntime) -> Result<(), Fail> {
-    let alloc = rt.alloc();
-    for (count, reply) in [(2043, "refused 1 NoSuchVertex\n"), (2044, "bad line\n")] {
-        let mut line = Vec::new(alloc);
-        line.extend_from_slice(b"isolate 10")?;
-        for _ in 0..count {
-            line.extend_from_slice(b" 0")?;
-        }
-        assert_text_answered(alloc, NO_LIMIT, &line, reply.as_bytes(), &rt)?;
-    }
-    Ok(())
+    check_rows(rt.alloc(), &ROWS)
 }

@@ -1,7 +1,8 @@
 //! Worked rows of the lines that take no memory: they turn edges, exchange vertices, replace and tell data, and clear the mesh.
 
-use crate::meshes::NO_LIMIT;
-use crate::rows::{CUT_TRIANGLE, Row, TRIANGLE, assert_rows};
+use crate::rows::{Row, check_rows};
+use dcel_bench::meshes::NO_LIMIT;
+use dcel_bench::talks::{CUT_TRIANGLE, TRIANGLE};
 use std::test::Fail;
 
 const ROWS: [Row; 14] = [
@@ -262,5 +263,5 @@ const ROWS: [Row; 14] = [
 
 #[test]
 fn lines_that_take_no_memory_are_answered(rt: HostRuntime) -> Result<(), Fail> {
-    assert_rows(&ROWS, rt.alloc(), &rt)
+    check_rows(rt.alloc(), &ROWS)
 }

@@ -1,8 +1,11 @@
 //! Worked rows in which edits at an edge are refused.
 
-use crate::answers::{assert_text_answered, push_line, push_talk};
-use crate::meshes::NO_LIMIT;
-use crate::rows::{EDGE_AND_VERTEX, LINE, Row, TRIANGLE, TRIANGLE_AND_VERTEX, assert_rows};
+use crate::rows::{Row, check_rows};
+use dcel_bench::meshes::NO_LIMIT;
+use dcel_bench::talks::{
+    EDGE_AND_VERTEX, LINE, TRIANGLE, TRIANGLE_AND_VERTEX, check_text_answered, push_line, push_talk,
+};
+use std::alloc::Global;
 use std::test::Fail;
 
 const ROWS: [Row; 14] = [
@@ -156,7 +159,7 @@ const ROWS: [Row; 14] = [
 
 #[test]
 fn edits_at_edges_are_refused(rt: HostRuntime) -> Result<(), Fail> {
-    assert_rows(&ROWS, rt.alloc(), &rt)
+    check_rows(rt.alloc(), &ROWS)
 }
 
 /// Half edges and vertices, and how each edit at them is refused on a triangle with vertex 3 beside it.
@@ -172,18 +175,23 @@ const UNFIT: [(&str, &str); 9] = [
     ("5 1", "refused 8 VertexInUse"),
 ];
 
-#[test]
-fn half_edges_and_vertices_are_refused(rt: HostRuntime) -> Result<(), Fail> {
-    let alloc = rt.alloc();
+/// That the edit of this name is refused so at each of these, and changes nothing.
+fn check_unfit(alloc: Global, word: &str) -> Result<(), Fail> {
     let mut lines = Vec::new(alloc);
     let mut replies = Vec::new(alloc);
     push_talk(&mut lines, &mut replies, &TRIANGLE_AND_VERTEX)?;
-    for word in ["line", "outside", "half", "split"] {
-        for (unfit, refusal) in UNFIT {
-            push_line(&mut lines, &format!(in alloc; "{word} {unfit}")?)?;
-            push_line(&mut replies, refusal)?;
-        }
+    for (unfit, refusal) in UNFIT {
+        push_line(&mut lines, &format!(in alloc; "{word} {unfit}")?)?;
+        push_line(&mut replies, refusal)?;
     }
     push_talk(&mut lines, &mut replies, &[("words", "F0 0 2 4\nF1 1 5 3")])?;
-    assert_text_answered(alloc, NO_LIMIT, &lines, &replies, &rt)
+    check_text_answered(alloc, NO_LIMIT, &lines, &replies)
+}
+
+#[test]
+fn half_edges_and_vertices_are_refused(rt: HostRuntime) -> Result<(), Fail> {
+    for word in ["line", "outside", "half", "split"] {
+        check_unfit(rt.alloc(), word)?;
+    }
+    Ok(())
 }

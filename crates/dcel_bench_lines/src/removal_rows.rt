@@ -1,11 +1,11 @@
 //! Worked rows of removals: what opens one, what it leaves, and what other lines say of the mesh while it is open.
 
-use crate::answers::{assert_answered, assert_text_answered, push_line};
-use crate::meshes::NO_LIMIT;
-use crate::rows::{CUT_TRIANGLE, FIRST_EDGE, Row, SPLIT_EDGE, TRIANGLE, assert_rows};
+use crate::rows::{Row, check_rows};
+use dcel_bench::meshes::NO_LIMIT;
+use dcel_bench::talks::{CUT_TRIANGLE, FIRST_EDGE, SPLIT_EDGE, TRIANGLE};
 use std::test::Fail;
 
-const ROWS: [Row; 11] = [
+const ROWS: [Row; 12] = [
     // A vertex of the outer face goes with two triangles, and the last vertex gets its number.
     (
         NO_LIMIT,
@@ -151,163 +151,87 @@ const ROWS: [Row; 11] = [
             ("words", "F0"),
         ],
     ),
+    // Other lines from the strip of vertex 1 on, which has the edges 0, 1 and 5 and the faces 1 and 3, until that vertex is gone.
+    (
+        NO_LIMIT,
+        &CUT_TRIANGLE,
+        &[
+            ("strip 6 9 4", "opened edges 0 5 1 faces 1 3 new"),
+            ("counts", "vertices 4 edges 6 faces 4"),
+            ("words", "F0 4 6 9\nF2 5 8 7"),
+            ("hull", "hull 4 6 9"),
+            ("check", "false"),
+            ("out 0", "out 5 6"),
+            ("out 1", "refused 6 GivenUp"),
+            ("out 4", "refused 1 NoSuchVertex"),
+            ("origin 6", "vertex 0"),
+            ("origin 11", "refused 6 GivenUp"),
+            ("origin 12", "refused 2 NoSuchEdge"),
+            ("between 0 2", "half 5"),
+            ("between 0 1", "refused 6 GivenUp"),
+            ("get 1", "datum 1"),
+            ("put 1 11", "ok"),
+            ("get 1", "datum 11"),
+            ("setup 0 1", "refused 6 GivenUp"),
+            ("setup 0 2", "refused 9 EdgesStand"),
+            ("extend 0 1", "refused 6 GivenUp"),
+            ("extend 1 0", "refused 6 GivenUp"),
+            ("swap 0 1", "refused 6 GivenUp"),
+            ("flip 0", "refused 6 GivenUp"),
+            ("flip 2", "refused 14 WouldLoop"),
+            ("line 4 1", "refused 6 GivenUp"),
+            ("line 0 2", "refused 6 GivenUp"),
+            ("outside 2 3", "refused 6 GivenUp"),
+            ("outside 4 1", "refused 6 GivenUp"),
+            ("half 3 2", "refused 6 GivenUp"),
+            ("split 10 2", "refused 6 GivenUp"),
+            ("close 0", "refused 6 GivenUp"),
+            ("close 4", "half 13"),
+            ("words", "F0 9 13\nF2 5 8 7\nF4 4 6 12"),
+            ("append 4", "vertex 4"),
+            ("insert 1 2", "refused 6 GivenUp"),
+            ("insert 4 1", "refused 6 GivenUp"),
+            ("insert 4 2", "vertex 4"),
+            (
+                "words",
+                "F0 9 13\nF2 5 14 19\nF4 4 6 12\nF5 8 16 15\nF6 7 18 17",
+            ),
+            ("strip 20", "refused 2 NoSuchEdge"),
+            ("strip 4", "refused 4 RemovalOpen"),
+            ("remove 5", "refused 1 NoSuchVertex"),
+            ("remove 0", "refused 4 RemovalOpen"),
+            ("remove 1", "refused 4 RemovalOpen"),
+            ("cleanup 0 1 10 / 0", "refused 2 NoSuchEdge"),
+            ("cleanup 0 1 5 / 0 1 3", "refused 3 NoSuchFace"),
+            ("cleanup 0 1 5 / 7", "refused 3 NoSuchFace"),
+            ("cleanup 0 1 / 1 3", "refused 17 WrongLists"),
+            ("cleanup 0 1 5 / 1 3 3", "refused 17 WrongLists"),
+            ("cleanup /", "refused 17 WrongLists"),
+            ("cleanup 5 0 1 / 3 1", "ok"),
+            (
+                "words",
+                "F0 9 13\nF1 1 8 2\nF2 0 11 5\nF3 3 7 10\nF4 4 6 12",
+            ),
+            ("check", "false"),
+            ("strip 4", "refused 4 RemovalOpen"),
+            ("cleanup /", "refused 5 NoRemoval"),
+            ("remove 0", "refused 4 RemovalOpen"),
+            ("out 1", "refused 6 GivenUp"),
+            ("flip 9", "refused 2 NoSuchEdge"),
+            ("remove 1", "removed 11 moved 4"),
+            (
+                "words",
+                "F0 9 13\nF1 1 8 2\nF2 0 11 5\nF3 3 7 10\nF4 4 6 12",
+            ),
+            ("origin 1", "vertex 1"),
+            ("check", "true"),
+            ("remove 1", "refused 8 VertexInUse"),
+            ("counts", "vertices 4 edges 7 faces 5"),
+        ],
+    ),
 ];
 
 #[test]
 fn removals_are_answered(rt: HostRuntime) -> Result<(), Fail> {
-    assert_rows(&ROWS, rt.alloc(), &rt)
-}
-
-/// The other lines from the strip of vertex 1 on, which has the edges 0, 1 and 5 and the faces 1 and 3, until that vertex is gone.
-const WHILE_OPEN: [(&str, &str); 65] = [
-    ("triangle 0 1 2", "ok"),
-    ("append 3", "vertex 3"),
-    ("insert 3 1", "vertex 3"),
-    ("strip 6 9 4", "opened edges 0 5 1 faces 1 3 new"),
-    ("counts", "vertices 4 edges 6 faces 4"),
-    ("words", "F0 4 6 9\nF2 5 8 7"),
-    ("hull", "hull 4 6 9"),
-    ("check", "false"),
-    ("out 0", "out 5 6"),
-    ("out 1", "refused 6 GivenUp"),
-    ("out 4", "refused 1 NoSuchVertex"),
-    ("origin 6", "vertex 0"),
-    ("origin 11", "refused 6 GivenUp"),
-    ("origin 12", "refused 2 NoSuchEdge"),
-    ("between 0 2", "half 5"),
-    ("between 0 1", "refused 6 GivenUp"),
-    ("get 1", "datum 1"),
-    ("put 1 11", "ok"),
-    ("get 1", "datum 11"),
-    ("setup 0 1", "refused 6 GivenUp"),
-    ("setup 0 2", "refused 9 EdgesStand"),
-    ("extend 0 1", "refused 6 GivenUp"),
-    ("extend 1 0", "refused 6 GivenUp"),
-    ("swap 0 1", "refused 6 GivenUp"),
-    ("flip 0", "refused 6 GivenUp"),
-    ("flip 2", "refused 14 WouldLoop"),
-    ("line 4 1", "refused 6 GivenUp"),
-    ("line 0 2", "refused 6 GivenUp"),
-    ("outside 2 3", "refused 6 GivenUp"),
-    ("outside 4 1", "refused 6 GivenUp"),
-    ("half 3 2", "refused 6 GivenUp"),
-    ("split 10 2", "refused 6 GivenUp"),
-    ("close 0", "refused 6 GivenUp"),
-    ("close 4", "half 13"),
-    ("words", "F0 9 13\nF2 5 8 7\nF4 4 6 12"),
-    ("append 4", "vertex 4"),
-    ("insert 1 2", "refused 6 GivenUp"),
-    ("insert 4 1", "refused 6 GivenUp"),
-    ("insert 4 2", "vertex 4"),
-    (
-        "words",
-        "F0 9 13\nF2 5 14 19\nF4 4 6 12\nF5 8 16 15\nF6 7 18 17",
-    ),
-    ("strip 20", "refused 2 NoSuchEdge"),
-    ("strip 4", "refused 4 RemovalOpen"),
-    ("remove 5", "refused 1 NoSuchVertex"),
-    ("remove 0", "refused 4 RemovalOpen"),
-    ("remove 1", "refused 4 RemovalOpen"),
-    ("cleanup 0 1 10 / 0", "refused 2 NoSuchEdge"),
-    ("cleanup 0 1 5 / 0 1 3", "refused 3 NoSuchFace"),
-    ("cleanup 0 1 5 / 7", "refused 3 NoSuchFace"),
-    ("cleanup 0 1 / 1 3", "refused 17 WrongLists"),
-    ("cleanup 0 1 5 / 1 3 3", "refused 17 WrongLists"),
-    ("cleanup /", "refused 17 WrongLists"),
-    ("cleanup 5 0 1 / 3 1", "ok"),
-    (
-        "words",
-        "F0 9 13\nF1 1 8 2\nF2 0 11 5\nF3 3 7 10\nF4 4 6 12",
-    ),
-    ("check", "false"),
-    ("strip 4", "refused 4 RemovalOpen"),
-    ("cleanup /", "refused 5 NoRemoval"),
-    ("remove 0", "refused 4 RemovalOpen"),
-    ("out 1", "refused 6 GivenUp"),
-    ("flip 9", "refused 2 NoSuchEdge"),
-    ("remove 1", "removed 11 moved 4"),
-    (
-        "words",
-        "F0 9 13\nF1 1 8 2\nF2 0 11 5\nF3 3 7 10\nF4 4 6 12",
-    ),
-    ("origin 1", "vertex 1"),
-    ("check", "true"),
-    ("remove 1", "refused 8 VertexInUse"),
-    ("counts", "vertices 4 edges 7 faces 5"),
-];
-
-#[test]
-fn other_lines_while_a_removal_is_open(rt: HostRuntime) -> Result<(), Fail> {
-    assert_answered(rt.alloc(), NO_LIMIT, &WHILE_OPEN, &rt)
-}
-
-/// What makes a bad line after `strip`.
-const NO_LIST: [&str; 11] = [
-    " ",
-    " /",
-    " 6 /",
-    " / 6",
-    " 6  9",
-    " 6 ",
-    " 06",
-    " -6",
-    " +6",
-    " 4294967296",
-    " 6 9 x",
-];
-
-/// What makes a bad line after `cleanup`.
-const NOT_TWO_LISTS: [&str; 13] = [
-    "",
-    " ",
-    " 0",
-    " 0 1",
-    " / ",
-    " 0 /1",
-    " 0/ 1",
-    " 0 // 1",
-    " 0 / 1 /",
-    " / /",
-    " 0 / 01",
-    " -1 / 1",
-    " 0 / 4294967296",
-];
-
-/// What makes a bad line after `remove` and `degenerate`.
-const NO_VERTEX: [&str; 4] = ["", " 0 1", " /", " 00"];
-
-#[test]
-fn other_lists_are_bad(rt: HostRuntime) -> Result<(), Fail> {
-    let alloc = rt.alloc();
-    let mut lines = Vec::new(alloc);
-    let mut replies = Vec::new(alloc);
-    for rest in NO_LIST {
-        push_line(&mut lines, &format!(in alloc; "strip{rest}")?)?;
-        push_line(&mut replies, "bad line")?;
-    }
-    for rest in NOT_TWO_LISTS {
-        push_line(&mut lines, &format!(in alloc; "cleanup{rest}")?)?;
-        push_line(&mut replies, "bad line")?;
-    }
-    for rest in NO_VERTEX {
-        for word in ["remove", "degenerate"] {
-            push_line(&mut lines, &format!(in alloc; "{word}{rest}")?)?;
-            push_line(&mut replies, "bad line")?;
-        }
-    }
-    assert_text_answered(alloc, NO_LIMIT, &lines, &replies, &rt)
-}
-
-#[test]
-fn a_list_fills_a_line(rt: HostRuntime) -> Result<(), Fail> {
-    let alloc = rt.alloc();
-    for (count, reply) in [(2044, "refused 2 NoSuchEdge\n"), (2045, "bad line\n")] {
-        let mut line = Vec::new(alloc);
-        line.extend_from_slice(b"strip 10")?;
-        for _ in 0..count {
-            line.extend_from_slice(b" 0")?;
-        }
-        assert_text_answered(alloc, NO_LIMIT, &line, reply.as_bytes(), &rt)?;
-    }
-    Ok(())
+    check_rows(rt.alloc(), &ROWS)
 }

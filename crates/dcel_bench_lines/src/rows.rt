@@ -1,66 +1,15 @@
 //! Worked rows: lines, each with what it is answered.
 
-use crate::answers::{assert_text_answered, push_talk};
-use crate::meshes::NO_LIMIT;
+use dcel_bench::meshes::NO_LIMIT;
+use dcel_bench::talks::{
+    CUT_TRIANGLE, EDGE_AND_VERTEX, FIRST_EDGE, TRIANGLE, TRIANGLE_AND_VERTEX, Talk,
+    check_text_answered, push_talk,
+};
 use std::alloc::Global;
-use std::process::Abort;
 use std::test::Fail;
-
-/// Lines with what each is answered.
-pub type Talk = &'static [(&'static str, &'static str)];
 
 /// The limit, lines that a row begins with, and those that it is about.
 pub type Row = (usize, Talk, Talk);
-
-/// An edge from vertex 0 to vertex 1.
-pub const FIRST_EDGE: [(&str, &str); 3] = [
-    ("append 0", "vertex 0"),
-    ("append 1", "vertex 1"),
-    ("setup 0 1", "ok"),
-];
-
-/// The same, and vertex 2 beside it.
-pub const EDGE_AND_VERTEX: [(&str, &str); 4] = [
-    ("append 0", "vertex 0"),
-    ("append 1", "vertex 1"),
-    ("setup 0 1", "ok"),
-    ("append 2", "vertex 2"),
-];
-
-/// The line 0, 2, 1.
-pub const SPLIT_EDGE: [(&str, &str); 5] = [
-    ("append 0", "vertex 0"),
-    ("append 1", "vertex 1"),
-    ("setup 0 1", "ok"),
-    ("append 2", "vertex 2"),
-    ("line 0 2", "halves 0 2"),
-];
-
-/// The line 0, 1, 2, 3.
-pub const LINE: [(&str, &str); 7] = [
-    ("append 0", "vertex 0"),
-    ("append 1", "vertex 1"),
-    ("setup 0 1", "ok"),
-    ("append 2", "vertex 2"),
-    ("extend 1 2", "vertex 2"),
-    ("append 3", "vertex 3"),
-    ("extend 2 3", "vertex 3"),
-];
-
-pub const TRIANGLE: [(&str, &str); 1] = [("triangle 0 1 2", "ok")];
-
-/// A triangle, and vertex 3 beside it.
-pub const TRIANGLE_AND_VERTEX: [(&str, &str); 2] = [
-    ("triangle 0 1 2", "ok"),
-    ("append 3", "vertex 3"),
-];
-
-/// A triangle that vertex 3 cuts into three.
-pub const CUT_TRIANGLE: [(&str, &str); 3] = [
-    ("triangle 0 1 2", "ok"),
-    ("append 3", "vertex 3"),
-    ("insert 3 1", "vertex 3"),
-];
 
 const ROWS: [Row; 15] = [
     (NO_LIMIT, &[], &[]),
@@ -237,20 +186,24 @@ const ROWS: [Row; 15] = [
     ),
 ];
 
+/// That the lines of a row are answered so, from an empty mesh.
+fn check_row(alloc: Global, (limit, begun, row): Row) -> Result<(), Fail> {
+    let mut lines = Vec::new(alloc);
+    let mut replies = Vec::new(alloc);
+    push_talk(&mut lines, &mut replies, begun)?;
+    push_talk(&mut lines, &mut replies, row)?;
+    check_text_answered(alloc, limit, &lines, &replies)
+}
+
 /// That the lines of each row are answered so, each row from an empty mesh.
-pub fn assert_rows(rows: &[Row], alloc: Global, rt: &impl Abort) -> Result<(), Fail> {
-    for (limit, begun, row) in rows {
-        assert!(rt; *limit <= NO_LIMIT);
-        let mut lines = Vec::new(alloc);
-        let mut replies = Vec::new(alloc);
-        push_talk(&mut lines, &mut replies, begun)?;
-        push_talk(&mut lines, &mut replies, row)?;
-        assert_text_answered(alloc, *limit, &lines, &replies, rt)?;
+pub fn check_rows(alloc: Global, rows: &[Row]) -> Result<(), Fail> {
+    for row in rows {
+        check_row(alloc, *row)?;
     }
     Ok(())
 }
 
 #[test]
 fn rows_are_answered(rt: HostRuntime) -> Result<(), Fail> {
-    assert_rows(&ROWS, rt.alloc(), &rt)
+    check_rows(rt.alloc(), &ROWS)
 }

@@ -1,11 +1,13 @@
 //! Std readers and writers below sources and sinks: how often they are asked, and what each call answers.
 
 use crate::texts::answer_text;
+use dcel_bench::checks::{holds, same};
+use dcel_bench::require;
 use dcel_commands::commands::{LineSink, LineSource, RunFault, StdSink, StdSource, run};
+use std::alloc::Global;
 use std::cell::Cell;
 use std::io;
 use std::io::{Error, ErrorKind, Read, Write};
-use std::process::Abort;
 use std::test::Fail;
 
 /// Each read gives what the script says, and fails where it says nothing. Reads are counted.
@@ -57,53 +59,59 @@ impl Write for ScriptedWriter<'_, '_> {
     }
 }
 
-/// That each call of `fill`, with so much room (up to 8), answers so, and how many reads were made by then.
-fn assert_fills(
-    script: &[Option<&'static str>],
-    calls: &[(usize, Option<&'static str>, usize)],
-    rt: &impl Abort,
-) {
-    let reads = Cell::new(0);
-    let mut source = StdSource::new(ScriptedReader {
-        script,
-        reads: &reads,
-    });
-    let mut buf = [0u8; 8];
-    for (room, text, made) in calls {
-        let given = source.fill(&mut buf[..(*room).min(8)]).ok();
-        assert_eq!(rt; given, text.map(|text| text.len()));
-        if let Some(text) = text {
-            assert!(rt; buf.starts_with(text.as_bytes()));
-        }
-        assert_eq!(rt; reads.get(), *made);
-    }
-}
+/// How much room there is (up to 8), what is given, and how many reads were made by then.
+type Fill = (usize, Option<&'static str>, usize);
 
-#[test]
-fn a_source_reads_once_a_call(rt: HostRuntime) -> Result<(), Fail> {
+/// The script of a reader, and calls of `fill`.
+const FILLS: [(&[Option<&str>], &[Fill]); 6] = [
     // A byte a read; one that fails, the first, a later or the last one, is not made again.
-    let bytes = [Some("a"), Some("b"), Some("c"), Some("")];
-    for failing in 0..5 {
-        let mut script = bytes;
-        let mut calls = [
+    (
+        &[None, Some("b"), Some("c"), Some("")],
+        &[
+            (8, None, 1),
+            (8, Some("b"), 2),
+            (8, Some("c"), 3),
+            (8, Some(""), 4),
+        ],
+    ),
+    (
+        &[Some("a"), None, Some("c"), Some("")],
+        &[
+            (8, Some("a"), 1),
+            (8, None, 2),
+            (8, Some("c"), 3),
+            (8, Some(""), 4),
+        ],
+    ),
+    (
+        &[Some("a"), Some("b"), None, Some("")],
+        &[
+            (8, Some("a"), 1),
+            (8, Some("b"), 2),
+            (8, None, 3),
+            (8, Some(""), 4),
+        ],
+    ),
+    (
+        &[Some("a"), Some("b"), Some("c"), None],
+        &[
+            (8, Some("a"), 1),
+            (8, Some("b"), 2),
+            (8, Some("c"), 3),
+            (8, None, 4),
+        ],
+    ),
+    (
+        &[Some("a"), Some("b"), Some("c"), Some("")],
+        &[
             (8, Some("a"), 1),
             (8, Some("b"), 2),
             (8, Some("c"), 3),
             (8, Some(""), 4),
-        ];
-        if failing < 4 {
-            script[failing] = None;
-            calls[failing].1 = None;
-        }
-        assert_fills(&script, &calls, &rt);
-    }
-    Ok(())
-}
-
-#[test]
-fn a_source_remembers_its_end(rt: HostRuntime) -> Result<(), Fail> {
-    // Where there is no room, nothing is no end.
-    assert_fills(
+        ],
+    ),
+    // The end is remembered. Where there is no room, nothing is no end.
+    (
         &[Some("ab"), Some(""), None, Some(""), Some("more")],
         &[
             (8, Some("ab"), 1),
@@ -114,10 +122,49 @@ fn a_source_remembers_its_end(rt: HostRuntime) -> Result<(), Fail> {
             (0, Some(""), 4),
             (8, Some(""), 4),
         ],
-        &rt,
-    );
+    ),
+];
+
+/// That a source over the script fills so, one call after another.
+fn check_fills(script: &[Option<&'static str>], calls: &[Fill]) -> Result<(), Fail> {
+    let reads = Cell::new(0);
+    let mut source = StdSource::new(ScriptedReader {
+        script,
+        reads: &reads,
+    });
+    let mut buf = [0u8; 8];
+    for (room, text, made) in calls {
+        let given = source.fill(&mut buf[..(*room).min(8)]).ok();
+        let what = format_args!("bytes and reads over {script:?}");
+        same(
+            (given, reads.get()),
+            (text.map(|text| text.len()), *made),
+            what,
+        )?;
+        let text = text.unwrap_or("").as_bytes();
+        same(&buf[..text.len().min(8)], text, "what is given")?;
+    }
     Ok(())
 }
+
+#[test]
+fn a_source_reads_once_a_call(rt: HostRuntime) -> Result<(), Fail> {
+    for (script, calls) in FILLS {
+        check_fills(script, calls)?;
+    }
+    Ok(())
+}
+
+/// A text that is put, how many bytes are taken, and how many writes were made by then.
+const PUTS: [(&str, Option<usize>, usize); 6] = [
+    ("abc", Some(2), 1),
+    // To take nothing of a text is a failure, and of none it isn't.
+    ("c", None, 2),
+    ("c", None, 3),
+    ("cd", Some(2), 4),
+    ("", Some(0), 5),
+    ("", None, 6),
+];
 
 #[test]
 fn a_sink_writes_once_a_call(rt: HostRuntime) -> Result<(), Fail> {
@@ -128,48 +175,53 @@ fn a_sink_writes_once_a_call(rt: HostRuntime) -> Result<(), Fail> {
         writes: &writes,
         bytes: Vec::new(rt.alloc()),
     });
-    for (text, taken, made) in [
-        ("abc", Some(2), 1),
-        // To take nothing of a text is a failure, and of none it isn't.
-        ("c", None, 2),
-        ("c", None, 3),
-        ("cd", Some(2), 4),
-        ("", Some(0), 5),
-        ("", None, 6),
-    ] {
-        assert_eq!(rt; sink.put(text.as_bytes()).ok(), taken);
-        assert_eq!(rt; writes.get(), made);
+    for (text, taken, made) in PUTS {
+        let put = sink.put(text.as_bytes()).ok();
+        let what = format_args!("bytes and writes of {text:?}");
+        same((put, writes.get()), (taken, made), what)?;
     }
-    assert!(rt; sink.failed());
-    assert_eq!(rt; sink.into_inner().bytes.as_slice(), b"abcd".as_slice());
-    Ok(())
+    holds(sink.failed(), "a sink that has failed")?;
+    let bytes = sink.into_inner().bytes;
+    same(bytes.as_slice(), b"abcd".as_slice(), "what is written")
+}
+
+/// That the text is read at once, into a buffer that is longer or as long.
+fn check_read(text: &[u8], buf: &mut [u8]) -> Result<(), Fail> {
+    let mut source = StdSource::new(text);
+    same(source.fill(buf).ok(), Some(text.len()), "bytes given")?;
+    holds(source.into_inner().is_empty(), "nothing left")
+}
+
+/// That the text is put at once.
+fn check_put(alloc: Global, text: &[u8]) -> Result<(), Fail> {
+    let mut sink = StdSink::new(Vec::new(alloc));
+    same(sink.put(text).ok(), Some(text.len()), "bytes taken")?;
+    same(sink.into_inner().len(), text.len(), "bytes written")
 }
 
 #[test]
-fn texts_of_each_length_are_read(rt: HostRuntime) -> Result<(), Fail> {
-    let text = [b'x'; 4096];
-    let mut buf = [0; 4096];
+fn texts_of_each_length_are_read_and_put(rt: HostRuntime) -> Result<(), Fail> {
+    let text = vec![in rt.alloc(); b'x'; 4096]?;
+    let mut buf = vec![in rt.alloc(); 0; 4096]?;
     for length in 0..=text.len() {
-        let mut source = StdSource::new(&text[..length]);
-        assert_eq!(rt; source.fill(&mut buf).ok(), Some(length));
-        assert!(rt; source.into_inner().is_empty());
-    }
-    Ok(())
-}
-
-#[test]
-fn texts_of_each_length_are_put(rt: HostRuntime) -> Result<(), Fail> {
-    let text = [b'x'; 4096];
-    for length in 0..=text.len() {
-        let mut sink = StdSink::new(Vec::new(rt.alloc()));
-        assert_eq!(rt; sink.put(&text[..length]).ok(), Some(length));
-        assert_eq!(rt; sink.into_inner().len(), length);
+        check_read(&text[..length], &mut buf)?;
+        check_put(rt.alloc(), &text[..length])?;
     }
     Ok(())
 }
 
 /// The script of a reader, that of a writer, how a run between them ended, how many reads and writes were made, and what was written.
-const RUNS: [(&[Option<&str>], &[Option<usize>], &str, usize, usize, &str); 9] = [
+type Run = (
+    &'static [Option<&'static str>],
+    &'static [Option<usize>],
+    &'static str,
+    usize,
+    usize,
+    &'static str,
+);
+
+/// Runs in which transfers fail, and some in which none does.
+const RUNS: [Run; 9] = [
     // Whichever read fails, it is the last one, and what came before is answered.
     (&[None], &[], "read failed", 1, 0, ""),
     (&[Some("wor"), None], &[], "read failed", 2, 0, ""),
@@ -219,29 +271,43 @@ const RUNS: [(&[Option<&str>], &[Option<usize>], &str, usize, usize, &str); 9] =
     ),
 ];
 
+/// How a run ended, by name.
+fn fault_name(ended: Result<(), RunFault>) -> &'static str {
+    match ended {
+        Ok(()) => "",
+        Err(RunFault::Read) => "read failed",
+        Err(RunFault::Write) => "write failed",
+        Err(RunFault::Memory) => "out of memory",
+    }
+}
+
+/// That a run between a reader and a writer with these scripts is as the row says.
+fn check_run(alloc: Global, wanted: Run) -> Result<(), Fail> {
+    let (reader, writer, fault, reads_made, writes_made, written) = wanted;
+    let reads = Cell::new(0);
+    let writes = Cell::new(0);
+    let mut source = StdSource::new(ScriptedReader {
+        script: reader,
+        reads: &reads,
+    });
+    let mut sink = StdSink::new(ScriptedWriter {
+        script: writer,
+        writes: &writes,
+        bytes: Vec::new(alloc),
+    });
+    let ended = fault_name(run(alloc, &mut source, &mut sink, 3));
+    let bytes = sink.into_inner().bytes;
+    same(
+        (ended, reads.get(), writes.get(), bytes.as_slice()),
+        (fault, reads_made, writes_made, written.as_bytes()),
+        format_args!("a run between {reader:?} and {writer:?}"),
+    )
+}
+
 #[test]
 fn a_run_stops_where_a_transfer_fails(rt: HostRuntime) -> Result<(), Fail> {
-    for (reader, writer, fault, reads_made, writes_made, written) in RUNS {
-        let reads = Cell::new(0);
-        let writes = Cell::new(0);
-        let mut source = StdSource::new(ScriptedReader {
-            script: reader,
-            reads: &reads,
-        });
-        let mut sink = StdSink::new(ScriptedWriter {
-            script: writer,
-            writes: &writes,
-            bytes: Vec::new(rt.alloc()),
-        });
-        let ended = match run(rt.alloc(), &mut source, &mut sink, 3) {
-            Ok(()) => "",
-            Err(RunFault::Read) => "read failed",
-            Err(RunFault::Write) => "write failed",
-            Err(RunFault::Memory) => "out of memory",
-        };
-        assert_eq!(rt; ended, fault);
-        assert_eq!(rt; (reads.get(), writes.get()), (reads_made, writes_made));
-        assert_eq!(rt; sink.into_inner().bytes.as_slice(), written.as_bytes());
+    for wanted in RUNS {
+        check_run(rt.alloc(), wanted)?;
     }
     Ok(())
 }
@@ -255,17 +321,24 @@ fn a_second_run_reads_no_more(rt: HostRuntime) -> Result<(), Fail> {
     });
     let mut sink = StdSink::new(Vec::new(rt.alloc()));
     for _ in 0..2 {
-        assert!(rt; !source.failed() && !sink.failed());
+        require!(!source.failed());
+        require!(!sink.failed());
         run(rt.alloc(), &mut source, &mut sink, 3)?;
-        assert_eq!(rt; reads.get(), 2);
+        same(reads.get(), 2, "reads")?;
     }
-    assert_eq!(rt; sink.into_inner().as_slice(), b"F0\n".as_slice());
-    Ok(())
+    same(
+        sink.into_inner().as_slice(),
+        b"F0\n".as_slice(),
+        "what is written",
+    )
 }
 
 #[test]
 fn a_text_is_answered(rt: HostRuntime) -> Result<(), Fail> {
     let replies = answer_text(rt.alloc(), 3, b"append 5\nnothing\nwords")?;
-    assert_eq!(rt; replies.as_slice(), b"vertex 0\nbad line\nF0\n".as_slice());
-    Ok(())
+    same(
+        replies.as_slice(),
+        b"vertex 0\nbad line\nF0\n".as_slice(),
+        "the replies",
+    )
 }
