@@ -1,80 +1,124 @@
 //! What `{:?}` writes for borrowed handles.
 
-use crate::growths::cut_triangle;
-use crate::meshes::{Mesh, half_edge, inner_face, vertex};
-use crate::openers::Opener::Isolate;
-use crate::openers::open;
+use crate::borrowed::{live_half_edge, vertex_of};
+use dcel_bench::checks::{holds, same};
+use dcel_bench::growths::{cut_triangle, grown};
+use dcel_bench::meshes::{Mesh, inner_face};
+use dcel_bench::openers::Opener::Isolate;
+use dcel_bench::openers::open;
+use dcel_bench::require;
 use spade_dcel::handles::PossiblyOuterTag;
-use spade_dcel::operations::new;
-use std::alloc::AllocGlobal;
-use std::fmt::Debug;
-use std::process::Abort;
+use std::alloc::Global;
 use std::test::Fail;
 
-/// That `{:?}` writes this text for the value.
-fn assert_prints<R, T>(rt: &R, value: T, want: &str) -> Result<(), Fail>
-where
-    R: Abort + AllocGlobal,
-    T: Debug + Drop,
-{
-    let text = format!(in rt.alloc(); "{value:?}")?;
-    assert_eq!(rt; text.as_str(), want);
-    Ok(())
+/// A borrowed handle, by number.
+#[derive(Clone, Copy, Debug)]
+enum Handle {
+    Vertex(u32),
+    HalfEdge(u32),
+    /// The edge of the other half of this half edge.
+    EdgeOf(u32),
+    Outer,
+    /// An inner face.
+    Inner(u32),
+    /// The same, as a face that may be the outer one.
+    Face(u32),
 }
 
-#[test]
-fn a_vertex_prints_its_number(rt: HostRuntime) -> Result<(), Fail> {
-    let dcel = cut_triangle(rt.alloc(), &rt)?;
-    let three = vertex(3);
-    assert!(rt; three.index() < dcel.num_vertices());
-    assert_prints(&rt, dcel.vertex(three), "VertexHandle(3)")?;
-    Ok(())
-}
+use Handle::{EdgeOf, Face, HalfEdge, Inner, Outer, Vertex};
 
-#[test]
-fn an_edge_prints_its_ends(rt: HostRuntime) -> Result<(), Fail> {
-    let dcel = cut_triangle(rt.alloc(), &rt)?;
-    let six = half_edge(6);
-    assert!(rt; six.index() < dcel.num_directed_edges());
-    let edge = dcel.directed_edge(six);
-    assert_prints(
-        &rt,
-        edge,
+/// Handles, each with its text.
+type Texts = &'static [(Handle, &'static str)];
+
+/// In a triangle that vertex 3 cuts into three.
+const TEXTS: Texts = &[
+    (Vertex(3), "VertexHandle(3)"),
+    (
+        HalfEdge(6),
         "DirectedEdgeHandle - id: 6 (FixedHandle { index: 0 } -> FixedHandle { index: 3 })",
-    )?;
-    assert_prints(
-        &rt,
-        edge.rev().as_undirected(),
+    ),
+    (
+        EdgeOf(6),
         "UndirectedEdgeHandle - id: 3 (FixedHandle { index: 0 } <-> FixedHandle { index: 3 })",
-    )?;
+    ),
+    (Outer, "OuterFace"),
+    (Inner(1), "FaceHandle - id: 1 (3, 1, 0)"),
+    (Face(1), "FaceHandle - id: 1 (3, 1, 0)"),
+];
+
+/// Once vertex 3 is given up.
+const GIVEN_UP: Texts = &[(Inner(2), "FaceHandle - id: 2 (none)")];
+
+/// In a mesh without edges.
+const EMPTY: Texts = &[
+    (Inner(0), "FaceHandle - id: 0 (none)"),
+    (Outer, "OuterFace"),
+];
+
+fn edge_text(dcel: &Mesh, index: u32, alloc: Global) -> Result<String, Fail> {
+    let edge = live_half_edge(dcel, index)?.rev().as_undirected();
+    Ok(format!(in alloc; "{edge:?}")?)
+}
+
+fn inner_text(dcel: &Mesh, index: u32, alloc: Global) -> Result<String, Fail> {
+    let handle = inner_face(index);
+    require!(handle.index() < dcel.num_faces());
+    let face = dcel.face(handle);
+    Ok(format!(in alloc; "{face:?}")?)
+}
+
+fn face_text(dcel: &Mesh, index: u32, alloc: Global) -> Result<String, Fail> {
+    let handle = inner_face(index).adjust_inner_outer::<PossiblyOuterTag>();
+    require!(handle.index() < dcel.num_faces());
+    let face = dcel.face(handle);
+    Ok(format!(in alloc; "{face:?}")?)
+}
+
+/// What `{:?}` writes for the handle.
+fn text_of(dcel: &Mesh, handle: Handle, alloc: Global) -> Result<String, Fail> {
+    match handle {
+        Vertex(index) => Ok(format!(in alloc; "{:?}", vertex_of(dcel, index)?)?),
+        HalfEdge(index) => Ok(format!(in alloc; "{:?}", live_half_edge(dcel, index)?)?),
+        EdgeOf(index) => edge_text(dcel, index, alloc),
+        Outer => Ok(format!(in alloc; "{:?}", dcel.outer_face())?),
+        Inner(index) => inner_text(dcel, index, alloc),
+        Face(index) => face_text(dcel, index, alloc),
+    }
+}
+
+fn check_texts(dcel: &Mesh, texts: Texts, alloc: Global) -> Result<(), Fail> {
+    for (handle, wanted) in texts {
+        let text = text_of(dcel, *handle, alloc)?;
+        same(
+            text.as_str(),
+            *wanted,
+            format_args!("the text of {handle:?}"),
+        )?;
+    }
     Ok(())
 }
 
 #[test]
-fn a_face_prints_its_vertices(rt: HostRuntime) -> Result<(), Fail> {
-    let dcel = cut_triangle(rt.alloc(), &rt)?;
-    assert_prints(&rt, dcel.outer_face(), "OuterFace")?;
-    let one = inner_face(1);
-    assert!(rt; one.index() < dcel.num_faces());
-    assert_prints(&rt, dcel.face(one), "FaceHandle - id: 1 (3, 1, 0)")?;
-    let one_or_outer = one.adjust_inner_outer::<PossiblyOuterTag>();
-    assert_prints(&rt, dcel.face(one_or_outer), "FaceHandle - id: 1 (3, 1, 0)")?;
-    Ok(())
+fn handles_print_their_numbers(rt: HostRuntime) -> Result<(), Fail> {
+    check_texts(&cut_triangle(rt.alloc())?, TEXTS, rt.alloc())
 }
 
-// A face that a removal has given up has no anchor, and neither has the outer face of a mesh without edges.
-#[test]
-fn a_face_without_an_anchor_prints_none(rt: HostRuntime) -> Result<(), Fail> {
-    let mut dcel = cut_triangle(rt.alloc(), &rt)?;
-    open(&mut dcel, rt.alloc(), Isolate(3, &[1, 3, 5]), &rt)?;
-    let two = inner_face(2);
-    assert!(rt; two.index() < dcel.num_faces());
-    assert_prints(&rt, dcel.face(two), "FaceHandle - id: 2 (none)")?;
+/// Gives up vertex 3.
+fn give_up(dcel: &mut Mesh, alloc: Global) -> Result<(), Fail> {
+    let opened = open(dcel, alloc, Isolate(3, &[1, 3, 5]))?;
+    holds(opened.is_some(), "memory for a removal")
+}
 
-    let empty: Mesh = new(rt.alloc())?;
-    let unanchored = inner_face(0);
-    assert!(rt; unanchored.index() < empty.num_faces());
-    assert_prints(&rt, empty.face(unanchored), "FaceHandle - id: 0 (none)")?;
-    assert_prints(&rt, empty.outer_face(), "OuterFace")?;
-    Ok(())
+// A face that a removal has given up has no anchor.
+#[test]
+fn a_face_that_is_given_up_prints_none(rt: HostRuntime) -> Result<(), Fail> {
+    let mut dcel = cut_triangle(rt.alloc())?;
+    give_up(&mut dcel, rt.alloc())?;
+    check_texts(&dcel, GIVEN_UP, rt.alloc())
+}
+
+// Neither has the outer face of a mesh without edges.
+#[test]
+fn a_face_of_an_empty_mesh_prints_none(rt: HostRuntime) -> Result<(), Fail> {
+    check_texts(&grown(rt.alloc(), &[])?, EMPTY, rt.alloc())
 }

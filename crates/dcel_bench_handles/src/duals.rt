@@ -1,13 +1,15 @@
 //! The ends and sides of edges, the Voronoi diagram, and comparisons of borrowed handles, on a triangle that vertex 3 cuts into three.
 
-ghost use Rattle.dcel_maps.specs.Shapes.{IsLive};
-ghost use Rattle.spade_dcel.specs.Handles.{mesh_behind, number_of};
-
-use crate::growths::cut_triangle;
-use crate::meshes::{Mesh, half_edge, inner_face, vertex};
-use spade_dcel::handles::{DirectedEdgeHandle, DirectedVoronoiEdge, VertexHandle, VoronoiVertex};
+use crate::borrowed::{live_half_edge, vertex_of};
+use dcel_bench::checks::same;
+use dcel_bench::growths::cut_triangle;
+use dcel_bench::meshes::{Mesh, vertex};
+use dcel_bench::require;
+use spade_dcel::handles::{
+    DirectedVoronoiEdge, FaceHandle, PossiblyOuterTag, VertexHandle, VoronoiVertex,
+};
+use std::alloc::Global;
 use std::hash::{BuildHasher, BuildHasherDefault, FoldHasher};
-use std::process::Abort;
 use std::test::Fail;
 
 /// A vertex of the Voronoi diagram, by number.
@@ -24,125 +26,131 @@ fn by_number(vertex: &VoronoiVertex<'_, i64, i64, i64, i64>) -> Dual {
     }
 }
 
-/// A half edge of the mesh, after tests that it is live.
-fn live_half_edge<'a>(
-    dcel: &'a Mesh,
-    index: u32,
-    rt: &impl Abort,
-) -> DirectedEdgeHandle<'a, i64, i64, i64, i64>
-    ensures { IsLive (mesh_behind result).shape (number_of result) }
-{
-    let handle = half_edge(index);
-    assert!(rt; handle.index() < dcel.num_directed_edges());
-    assert!(rt; dcel.is_live_edge(handle.as_undirected()));
-    dcel.directed_edge(handle)
+/// The ends of a half edge, the vertex opposite, whether it is outer, and whether its edge is on the hull.
+type Sides = ([usize; 2], Option<usize>, bool, bool);
+
+/// Half edges, each with its sides.
+const SIDES: [(u32, Sides); 4] = [
+    (0, ([0, 1], None, true, true)),
+    (1, ([1, 0], Some(3), false, true)),
+    (6, ([0, 3], Some(1), false, false)),
+    (7, ([3, 0], Some(2), false, false)),
+];
+
+fn sides_of(dcel: &Mesh, index: u32) -> Result<Sides, Fail> {
+    let edge = live_half_edge(dcel, index)?;
+    let [from, to] = edge.vertices();
+    Ok((
+        [from.index(), to.index()],
+        edge.opposite_vertex().map(|opposite| opposite.index()),
+        edge.is_outer_edge(),
+        edge.is_part_of_convex_hull(),
+    ))
 }
 
-/// A vertex of the mesh.
-fn vertex_of<'a>(
-    dcel: &'a Mesh,
-    index: u32,
-    rt: &impl Abort,
-) -> VertexHandle<'a, i64, i64, i64, i64> {
-    let handle = vertex(index);
-    assert!(rt; handle.index() < dcel.num_vertices());
-    dcel.vertex(handle)
+fn check_sides(dcel: &Mesh) -> Result<(), Fail> {
+    for (index, sides) in &SIDES {
+        let found = sides_of(dcel, *index)?;
+        same(&found, sides, format_args!("the sides of {index}"))?;
+    }
+    Ok(())
 }
 
 #[test]
 fn edges_have_ends_and_sides(rt: HostRuntime) -> Result<(), Fail> {
-    let dcel = cut_triangle(rt.alloc(), &rt)?;
+    check_sides(&cut_triangle(rt.alloc())?)
+}
 
-    // A half edge, its ends, the vertex opposite, whether it is outer, whether its edge is on the hull.
-    let rows = [
-        (0, [0, 1], None, true, true),
-        (1, [1, 0], Some(3), false, true),
-        (6, [0, 3], Some(1), false, false),
-        (7, [3, 0], Some(2), false, false),
-    ];
-    for (index, ends, opposite, is_outer, is_on_hull) in rows {
-        let edge = live_half_edge(&dcel, index, &rt);
-        let [from, to] = edge.vertices();
-        assert_eq!(rt; [from.index(), to.index()], ends, "ends of {index}");
-        let found = edge.opposite_vertex().map(|v| v.index());
-        assert_eq!(rt; found, opposite, "vertex opposite of {index}");
-        assert_eq!(rt; edge.is_outer_edge(), is_outer, "side of {index}");
-        assert_eq!(rt;
-            edge.is_part_of_convex_hull(),
-            is_on_hull,
-            "sides of {index}"
-        );
+/// The half edge that stands for an edge, the ends of the edge, and whether it is on the hull.
+type Whole = (usize, [usize; 2], bool);
+
+/// Half edges, each with its edge.
+const WHOLES: [(u32, Whole); 2] = [(1, (0, [0, 1], true)), (7, (6, [0, 3], false))];
+
+fn edge_of(dcel: &Mesh, index: u32) -> Result<Whole, Fail> {
+    let edge = live_half_edge(dcel, index)?.as_undirected();
+    require!(dcel.is_live_edge(edge.fix()));
+    let [from, to] = edge.vertices();
+    Ok((
+        edge.as_directed().index(),
+        [from.index(), to.index()],
+        edge.is_part_of_convex_hull(),
+    ))
+}
+
+fn check_wholes(dcel: &Mesh) -> Result<(), Fail> {
+    for (index, edge) in &WHOLES {
+        let found = edge_of(dcel, *index)?;
+        same(&found, edge, format_args!("the edge of {index}"))?;
     }
     Ok(())
 }
 
 #[test]
 fn undirected_edges_are_their_normalized_halves(rt: HostRuntime) -> Result<(), Fail> {
-    let dcel = cut_triangle(rt.alloc(), &rt)?;
-    for (index, half, ends, is_on_hull) in [(1, 0, [0, 1], true), (7, 6, [0, 3], false)] {
-        let edge = live_half_edge(&dcel, index, &rt).as_undirected();
-        assert!(rt; dcel.is_live_edge(edge.fix()));
-        assert_eq!(rt;
-            edge.as_directed().index(),
-            half,
-            "half of the edge of {index}"
-        );
-        let [from, to] = edge.vertices();
-        assert_eq!(rt;
-            [from.index(), to.index()],
-            ends,
-            "ends of the edge of {index}"
-        );
-        assert_eq!(rt;
-            edge.is_part_of_convex_hull(),
-            is_on_hull,
-            "the edge of {index}"
-        );
-    }
-    Ok(())
+    check_wholes(&cut_triangle(rt.alloc())?)
+}
+
+/// Whether the face is outer, and its number as an inner one.
+fn side_of(face: FaceHandle<'_, PossiblyOuterTag, i64, i64, i64, i64>) -> (bool, Option<usize>) {
+    (face.is_outer(), face.as_inner().map(|inner| inner.index()))
+}
+
+fn check_faces(dcel: &Mesh) -> Result<(), Fail> {
+    same(side_of(dcel.outer_face()), (true, None), "the outer face")?;
+    let face = live_half_edge(dcel, 6)?.face();
+    same(side_of(face), (false, Some(1)), "an inner face")
 }
 
 #[test]
 fn face_0_alone_is_outer(rt: HostRuntime) -> Result<(), Fail> {
-    let dcel = cut_triangle(rt.alloc(), &rt)?;
-    let outer = dcel.outer_face();
-    assert!(rt; outer.is_outer() && outer.as_inner().is_none());
-    let inner = live_half_edge(&dcel, 6, &rt).face();
-    assert!(rt; !inner.is_outer());
-    let face = inner.as_inner().ok_or("an inner face")?;
-    assert_eq!(rt; face.fix(), inner_face(1));
-    Ok(())
+    check_faces(&cut_triangle(rt.alloc())?)
+}
+
+/// The dual of a half edge: its start and its end, and the next, the one before, the face, and the half edge that the turned dual is of.
+type Edge = ([Dual; 2], [usize; 4]);
+
+/// Half edges, each with its dual.
+const EDGES: [(u32, Edge); 2] = [
+    (6, ([Dual::Inner(1), Dual::Inner(2)], [0, 5, 0, 7])),
+    (0, ([Dual::Outer(0), Dual::Inner(1)], [5, 6, 0, 1])),
+];
+
+fn dual_of(dcel: &Mesh, index: u32) -> Result<Edge, Fail> {
+    let edge = live_half_edge(dcel, index)?.as_voronoi_edge();
+    Ok((
+        [by_number(&edge.from()), by_number(&edge.to())],
+        [
+            edge.next().index(),
+            edge.prev().index(),
+            edge.face().index(),
+            edge.rev().as_delaunay_edge().index(),
+        ],
+    ))
+}
+
+/// The ends of the dual of a half edge's edge.
+fn undirected_dual_of(dcel: &Mesh, index: u32) -> Result<[Dual; 2], Fail> {
+    let edge = live_half_edge(dcel, index)?
+        .as_voronoi_edge()
+        .as_undirected();
+    require!(dcel.is_live_edge(edge.as_delaunay_edge().fix()));
+    let [from, to] = edge.vertices();
+    Ok([by_number(&from), by_number(&to)])
+}
+
+fn check_duals(dcel: &Mesh) -> Result<(), Fail> {
+    for (index, edge) in &EDGES {
+        let found = dual_of(dcel, *index)?;
+        same(&found, edge, format_args!("the dual of {index}"))?;
+    }
+    let ends = undirected_dual_of(dcel, 1)?;
+    same(ends, [Dual::Outer(0), Dual::Inner(1)], "the dual of edge 0")
 }
 
 #[test]
 fn voronoi_edges_lead_from_face_to_face(rt: HostRuntime) -> Result<(), Fail> {
-    let dcel = cut_triangle(rt.alloc(), &rt)?;
-
-    // A half edge; of its dual the start, the end, the next, the one before and the face.
-    let rows = [
-        (6, Dual::Inner(1), Dual::Inner(2), 0, 5, 0),
-        (0, Dual::Outer(0), Dual::Inner(1), 5, 6, 0),
-    ];
-    for (index, from, to, next, prev, face) in rows {
-        let edge = live_half_edge(&dcel, index, &rt).as_voronoi_edge();
-        assert_eq!(rt; by_number(&edge.from()), from, "start of {index}");
-        assert_eq!(rt; by_number(&edge.to()), to, "end of {index}");
-        assert_eq!(rt; edge.next().index(), next, "next of {index}");
-        assert_eq!(rt; edge.prev().index(), prev, "prev of {index}");
-        assert_eq!(rt; edge.face().index(), face, "face of {index}");
-        assert_eq!(rt; edge.rev().as_delaunay_edge().fix(), half_edge(index).rev());
-    }
-
-    let edge = live_half_edge(&dcel, 1, &rt)
-        .as_voronoi_edge()
-        .as_undirected();
-    assert!(rt; dcel.is_live_edge(edge.as_delaunay_edge().fix()));
-    let [from, to] = edge.vertices();
-    assert_eq!(rt;
-        [by_number(&from), by_number(&to)],
-        [Dual::Outer(0), Dual::Inner(1)]
-    );
-    Ok(())
+    check_duals(&cut_triangle(rt.alloc())?)
 }
 
 /// The numbers of three Voronoi edges.
@@ -151,53 +159,124 @@ fn numbers(edges: [DirectedVoronoiEdge<'_, i64, i64, i64, i64>; 3]) -> [usize; 3
     [first.index(), second.index(), third.index()]
 }
 
+/// Of a vertex of the Voronoi diagram the face, the edges out of it, and one of them.
+type Corner = (Option<usize>, Option<[usize; 3]>, usize);
+
+/// Half edges, each with the start of its dual.
+const CORNERS: [(u32, Corner); 2] = [(6, (Some(1), Some([11, 1, 6]), 1)), (0, (None, None, 0))];
+
+fn corner_of(dcel: &Mesh, index: u32) -> Result<Corner, Fail> {
+    let corner = live_half_edge(dcel, index)?.as_voronoi_edge().from();
+    Ok((
+        corner.as_delaunay_face().map(|face| face.index()),
+        corner.out_edges().map(numbers),
+        corner.out_edge().index(),
+    ))
+}
+
+fn check_corners(dcel: &Mesh) -> Result<(), Fail> {
+    for (index, corner) in &CORNERS {
+        let found = corner_of(dcel, *index)?;
+        same(
+            &found,
+            corner,
+            format_args!("the start of the dual of {index}"),
+        )?;
+    }
+    Ok(())
+}
+
 #[test]
 fn voronoi_vertices_are_faces_or_lie_outside(rt: HostRuntime) -> Result<(), Fail> {
-    let dcel = cut_triangle(rt.alloc(), &rt)?;
+    check_corners(&cut_triangle(rt.alloc())?)
+}
 
-    let inner = live_half_edge(&dcel, 6, &rt).as_voronoi_edge().from();
-    assert_eq!(rt; inner.as_delaunay_face().map(|face| face.index()), Some(1));
-    assert_eq!(rt; inner.out_edges().map(numbers), Some([11, 1, 6]));
-    assert_eq!(rt; inner.out_edge().index(), 1);
+/// The vertex of the Voronoi face of a vertex.
+fn center_of(dcel: &Mesh, index: u32) -> Result<usize, Fail> {
+    let face = vertex_of(dcel, index)?.as_voronoi_face();
+    Ok(face.as_delaunay_vertex().index())
+}
 
-    let outer = live_half_edge(&dcel, 0, &rt).as_voronoi_edge().from();
-    assert!(rt; outer.as_delaunay_face().is_none());
-    assert!(rt; outer.out_edges().is_none());
-    assert_eq!(rt; outer.out_edge().index(), 0);
-    Ok(())
+/// The edges round the Voronoi face of a vertex.
+fn round_face(dcel: &Mesh, index: u32, alloc: Global) -> Result<Vec<usize>, Fail> {
+    let mut listed = Vec::new(alloc);
+    for edge in vertex_of(dcel, index)?.as_voronoi_face().adjacent_edges() {
+        listed.push(edge.index())?;
+    }
+    Ok(listed)
+}
+
+/// The first four answers from the back of the edges round the Voronoi face of a vertex.
+fn round_face_from_the_back(dcel: &Mesh, index: u32) -> Result<[Option<usize>; 4], Fail> {
+    let mut edges = vertex_of(dcel, index)?.as_voronoi_face().adjacent_edges();
+    let mut taken = [None; 4];
+    for place in &mut taken {
+        *place = edges.next_back().map(|edge| edge.index());
+    }
+    Ok(taken)
+}
+
+fn check_round_face(dcel: &Mesh, alloc: Global) -> Result<(), Fail> {
+    same(center_of(dcel, 3)?, 3, "the vertex of a face")?;
+    let listed = round_face(dcel, 3, alloc)?;
+    same(listed.as_slice(), [7, 9, 11].as_slice(), "edges")?;
+    let taken = round_face_from_the_back(dcel, 3)?;
+    same(taken, [Some(11), Some(9), Some(7), None], "from the back")
 }
 
 #[test]
 fn voronoi_faces_list_the_edges_round_them(rt: HostRuntime) -> Result<(), Fail> {
-    let dcel = cut_triangle(rt.alloc(), &rt)?;
-    let face = vertex_of(&dcel, 3, &rt).as_voronoi_face();
-    assert_eq!(rt; face.as_delaunay_vertex().index(), 3);
+    check_round_face(&cut_triangle(rt.alloc())?, rt.alloc())
+}
 
-    let mut listed = Vec::new(rt.alloc());
-    for edge in face.adjacent_edges() {
-        listed.push(edge.index())?;
-    }
-    assert_eq!(rt; listed.as_slice(), [7, 9, 11].as_slice());
+/// Whether two vertices are equal, and whether they aren't; whether the first is less, and whether it is greater.
+fn compared(
+    first: VertexHandle<'_, i64, i64, i64, i64>,
+    second: VertexHandle<'_, i64, i64, i64, i64>,
+) -> [bool; 4] {
+    [
+        first == second,
+        first != second,
+        first < second,
+        first > second,
+    ]
+}
 
-    let mut edges = face.adjacent_edges();
-    for want in [Some(11), Some(9), Some(7), None] {
-        assert_eq!(rt; edges.next_back().map(|edge| edge.index()), want);
+/// Compares vertices 2 and 3, and vertices of different meshes.
+fn check_order(dcel: &Mesh, other: &Mesh) -> Result<(), Fail> {
+    for (first, second, wanted) in &[
+        (2, 2, [true, false, false, false]),
+        (2, 3, [false, true, true, false]),
+        (3, 2, [false, true, false, true]),
+    ] {
+        let first = vertex_of(dcel, *first)?;
+        let here = compared(first, vertex_of(dcel, *second)?);
+        let there = compared(first, vertex_of(other, *second)?);
+        same([here, there], [*wanted; 2], "vertices in order")?;
     }
     Ok(())
 }
 
+/// The hash of a vertex that is borrowed.
+fn hash_of(dcel: &Mesh, index: u32) -> Result<u64, Fail> {
+    let hasher = BuildHasherDefault::<FoldHasher>::default();
+    Ok(hasher.hash_one(vertex_of(dcel, index)?))
+}
+
+/// The hash of a vertex that isn't.
+fn hash_of_fixed(index: u32) -> u64 {
+    BuildHasherDefault::<FoldHasher>::default().hash_one(vertex(index))
+}
+
+fn check_compared(dcel: &Mesh, other: &Mesh) -> Result<(), Fail> {
+    check_order(dcel, other)?;
+    let hashes = [hash_of(dcel, 2)?, hash_of(other, 2)?];
+    same(hashes, [hash_of_fixed(2); 2], "hashes")
+}
+
 #[test]
 fn handles_are_compared_by_their_numbers(rt: HostRuntime) -> Result<(), Fail> {
-    let cut = cut_triangle(rt.alloc(), &rt)?;
-    let other = cut_triangle(rt.alloc(), &rt)?;
-    let two = vertex_of(&cut, 2, &rt);
-    let three = vertex_of(&cut, 3, &rt);
-    let other_two = vertex_of(&other, 2, &rt);
-
-    assert!(rt; two == other_two && two != three);
-    assert!(rt; two < three && other_two < three && three > other_two);
-    let hasher = BuildHasherDefault::<FoldHasher>::default();
-    assert_eq!(rt; hasher.hash_one(two), hasher.hash_one(other_two));
-    assert_eq!(rt; hasher.hash_one(two), hasher.hash_one(vertex(2)));
-    Ok(())
+    let dcel = cut_triangle(rt.alloc())?;
+    let other = cut_triangle(rt.alloc())?;
+    check_compared(&dcel, &other)
 }

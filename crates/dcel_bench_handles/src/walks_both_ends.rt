@@ -2,17 +2,18 @@
 
 ghost use Rattle.std.specs.Iterator.{IsFinite};
 
-use crate::growths::{FIRST_EDGE, cut_triangle, grown};
-use crate::meshes::{Mesh, append, half_edge, vertex};
+use crate::borrowed::{live_half_edge, vertex_of};
 use crate::own_steps::{PrevNextBackFn, RevNextBackFn};
-use spade_dcel::handles::DirectedEdgeHandle;
+use dcel_bench::checks::{holds, same};
+use dcel_bench::growths::{CUT, FIRST_EDGE, Growth, cut_triangle, grown};
+use dcel_bench::meshes::Mesh;
+use dcel_bench::require;
+use spade_dcel::handles::{DirectedEdgeHandle, FixedDirectedEdgeHandle};
 use spade_dcel::iterators::{
     CircularIterator, DirectedVoronoiEdgeIterator, FixedDirectedEdgeIterator,
     FixedInnerFaceIterator, FixedUndirectedEdgeIterator, HullIterator, NextBackFn,
     UndirectedVoronoiEdgeIterator, VoronoiFaceIterator,
 };
-use spade_dcel::operations::new;
-use std::process::Abort;
 use std::test::Fail;
 
 /// The end that an item is taken from.
@@ -24,13 +25,16 @@ enum End {
 
 use End::{Back, Front};
 
-/// That items taken from these ends of an iterator are these half edges, one after another, and then none.
-fn assert_taken<'a, I: DoubleEndedIterator<Item = DirectedEdgeHandle<'a, i64, i64, i64, i64>>>(
+/// A vertex or a half edge that a walk begins at, the ends that are taken from, and the half edges that these are, one after another, and
+/// then none.
+type Walk = (u32, &'static [End], &'static [usize]);
+
+/// Takes from these ends of an iterator: they are these half edges, one after another, and then none.
+fn check_taken<'a, I: DoubleEndedIterator<Item = DirectedEdgeHandle<'a, i64, i64, i64, i64>>>(
     mut edges: I,
     ends: &[End],
-    want: &[u32],
-    rt: &impl Abort,
-)
+    wanted: &[usize],
+) -> Result<(), Fail>
     requires can { (s : I) → I.can_next s × I.can_next_back s }
     requires ends { IsFinite (I.remaining edges) }
 {
@@ -39,159 +43,210 @@ fn assert_taken<'a, I: DoubleEndedIterator<Item = DirectedEdgeHandle<'a, i64, i6
             Front => edges.next(),
             Back => edges.next_back(),
         };
-        assert_eq!(rt;
-            edge.map(|taken| taken.fix()),
-            want.get(place).map(|number| half_edge(*number)),
-            "{place}"
-        );
+        same(
+            edge.map(|taken| taken.index()),
+            wanted.get(place).copied(),
+            format_args!("half edge {place} of a walk"),
+        )?;
     }
+    Ok(())
+}
+
+/// Walks out of vertices of a triangle that vertex 3 cuts into three.
+const OUT_EDGES: [Walk; 6] = [
+    (0, &[Front, Front, Front, Front], &[0, 5, 6]),
+    (1, &[Front, Front, Front, Front], &[2, 1, 10]),
+    (2, &[Front, Front, Front, Front], &[4, 3, 8]),
+    (3, &[Front, Front, Front, Front], &[7, 9, 11]),
+    (3, &[Front, Back, Front, Front, Back], &[7, 11, 9]),
+    (3, &[Back, Back, Back, Back], &[11, 9, 7]),
+];
+
+fn check_out_edges(dcel: &Mesh) -> Result<(), Fail> {
+    for (index, ends, wanted) in &OUT_EDGES {
+        check_taken(vertex_of(dcel, *index)?.out_edges(), ends, wanted)?;
+    }
+    Ok(())
 }
 
 #[test]
 fn out_edges_come_from_both_ends(rt: HostRuntime) -> Result<(), Fail> {
-    let dcel = cut_triangle(rt.alloc(), &rt)?;
-    let handle = vertex(3);
-    assert!(rt; handle.index() < dcel.num_vertices());
-    let mixed = [Front, Back, Front, Front, Back];
-    assert_taken(dcel.vertex(handle).out_edges(), &mixed, &[7, 11, 9], &rt);
-    let from_the_back = [Back, Back, Back, Back];
-    assert_taken(
-        dcel.vertex(handle).out_edges(),
-        &from_the_back,
-        &[11, 9, 7],
-        &rt,
-    );
-    Ok(())
+    check_out_edges(&cut_triangle(rt.alloc())?)
 }
 
 #[test]
 fn the_hull_comes_from_both_ends(rt: HostRuntime) -> Result<(), Fail> {
-    let dcel = cut_triangle(rt.alloc(), &rt)?;
+    let dcel = cut_triangle(rt.alloc())?;
     let mixed = [Back, Front, Back, Front];
-    assert_taken(HullIterator::new(&dcel), &mixed, &[4, 0, 2], &rt);
+    check_taken(HullIterator::new(&dcel), &mixed, &[4, 0, 2])
+}
+
+/// Walks from half edges by a step.
+fn check_walks<NB: NextBackFn>(dcel: &Mesh, walks: &[Walk]) -> Result<(), Fail> {
+    for (start, ends, wanted) in walks {
+        let edge = live_half_edge(dcel, *start)?;
+        let walk: CircularIterator<'_, i64, i64, i64, i64, NB> = CircularIterator::new(edge);
+        check_taken(walk, ends, wanted)?;
+    }
     Ok(())
 }
 
-/// That a walk from a half edge by a step lists these.
-fn assert_walk<NB: NextBackFn>(
-    dcel: &Mesh,
-    start: u32,
-    ends: &[End],
-    want: &[u32],
-    rt: &impl Abort,
-) {
-    let edge = half_edge(start);
-    assert!(rt; edge.index() < dcel.num_directed_edges());
-    assert!(rt; dcel.is_live_edge(edge.as_undirected()));
-    let walk: CircularIterator<'_, i64, i64, i64, i64, NB> = CircularIterator::new(
-        dcel.directed_edge(edge),
-    );
-    assert_taken(walk, ends, want, rt);
-}
+/// To the other half and back.
+const REV_WALKS: [Walk; 2] = [
+    (6, &[Front, Front, Front], &[6, 7]),
+    (6, &[Back, Back, Back], &[7, 6]),
+];
+
+/// Round a face the other way.
+const PREV_WALKS: [Walk; 2] = [
+    (1, &[Front, Front, Front, Front], &[1, 11, 6]),
+    (1, &[Back, Front, Back, Back], &[6, 1, 11]),
+];
 
 #[test]
 fn own_steps_lead_round(rt: HostRuntime) -> Result<(), Fail> {
-    let dcel = cut_triangle(rt.alloc(), &rt)?;
-    assert_walk::<RevNextBackFn>(&dcel, 6, &[Front, Front, Front], &[6, 7], &rt);
-    assert_walk::<RevNextBackFn>(&dcel, 6, &[Back, Back, Back], &[7, 6], &rt);
-    let along = [Front, Front, Front, Front];
-    assert_walk::<PrevNextBackFn>(&dcel, 1, &along, &[1, 11, 6], &rt);
-    let mixed = [Back, Front, Back, Back];
-    assert_walk::<PrevNextBackFn>(&dcel, 1, &mixed, &[6, 1, 11], &rt);
-    Ok(())
+    let dcel = cut_triangle(rt.alloc())?;
+    check_walks::<RevNextBackFn>(&dcel, &REV_WALKS)?;
+    check_walks::<PrevNextBackFn>(&dcel, &PREV_WALKS)
+}
+
+/// How many inner faces were left, and which one then came from the back, four times; and whether none then comes from the front.
+fn inner_faces_from_the_back(dcel: &Mesh) -> ([(usize, Option<usize>); 4], bool) {
+    let mut faces = dcel.inner_faces();
+    let mut taken = [(0, None); 4];
+    for place in &mut taken {
+        let left = faces.len();
+        *place = (left, faces.next_back().map(|face| face.index()));
+    }
+    (taken, faces.next().is_none())
 }
 
 #[test]
 fn inner_faces_come_from_the_back(rt: HostRuntime) -> Result<(), Fail> {
-    let dcel = cut_triangle(rt.alloc(), &rt)?;
-    let mut faces = dcel.inner_faces();
-    for index in [3, 2, 1] {
-        assert_eq!(rt; faces.len(), index);
-        assert_eq!(rt; faces.next_back().map(|face| face.index()), Some(index));
+    let dcel = cut_triangle(rt.alloc())?;
+    let taken = [(3, Some(3)), (2, Some(2)), (1, Some(1)), (0, None)];
+    same(
+        inner_faces_from_the_back(&dcel),
+        (taken, true),
+        "inner faces",
+    )
+}
+
+/// How many half edges come out of a vertex, from the front and from the back.
+fn degrees(dcel: &Mesh, index: u32) -> Result<[usize; 2], Fail> {
+    let start = vertex_of(dcel, index)?;
+    Ok([start.out_edges().count(), start.out_edges().rev().count()])
+}
+
+/// The half edge at this place of those that come out of a vertex, from the front.
+fn at_place(dcel: &Mesh, index: u32, place: usize) -> Result<Option<usize>, Fail> {
+    let edge = vertex_of(dcel, index)?.out_edges().nth(place);
+    Ok(edge.map(|edge| edge.index()))
+}
+
+/// The half edge at this place of those that come out of a vertex, from the back.
+fn at_place_from_the_back(dcel: &Mesh, index: u32, place: usize) -> Result<Option<usize>, Fail> {
+    let edge = vertex_of(dcel, index)?.out_edges().nth_back(place);
+    Ok(edge.map(|edge| edge.index()))
+}
+
+/// The number of the vertex that a half edge comes out of.
+fn origin(dcel: &Mesh, index: usize) -> Result<usize, Fail> {
+    require!(index < dcel.num_directed_edges());
+    let handle = FixedDirectedEdgeHandle::new(index);
+    require!(dcel.is_live_edge(handle.as_undirected()));
+    Ok(dcel.directed_edge(handle).from().index())
+}
+
+/// That the half edges out of a vertex start there, and are listed the other way round from the back.
+fn check_places(dcel: &Mesh, index: u32) -> Result<(), Fail> {
+    for place in 0..3 {
+        let edge = at_place(dcel, index, place)?;
+        let from_the_back = at_place_from_the_back(dcel, index, 2 - place)?;
+        same(from_the_back, edge, format_args!("half edge {place}"))?;
+        let edge = edge.ok_or("no third edge")?;
+        let from = origin(dcel, edge)?;
+        same(from, index as usize, format_args!("the origin of {edge}"))?;
     }
-    assert_eq!(rt; faces.len(), 0);
-    assert!(rt; faces.next_back().is_none() && faces.next().is_none());
     Ok(())
 }
 
 #[test]
 fn test_cw_iterator(rt: HostRuntime) -> Result<(), Fail> {
-    let dcel = cut_triangle(rt.alloc(), &rt)?;
-    let handle = vertex(0);
-    assert!(rt; handle.index() < dcel.num_vertices());
-    let start = dcel.vertex(handle);
-    assert_eq!(rt; start.out_edges().count(), 3);
-    assert_eq!(rt; start.out_edges().rev().count(), 3);
-
-    // The list from the back is the list reversed.
-    for (place, place_from_the_back) in [(0, 2), (1, 1), (2, 0)] {
-        let edge = start
-            .out_edges()
-            .nth(place)
-            .expect(&rt, "no third edge")
-            .fix();
-        let from_the_back = start.out_edges().nth_back(place_from_the_back);
-        assert_eq!(rt; from_the_back.map(|edge| edge.fix()), Some(edge));
-
-        assert!(rt; edge.index() < dcel.num_directed_edges());
-        assert!(rt; dcel.is_live_edge(edge.as_undirected()));
-        assert_eq!(rt; dcel.directed_edge(edge).from().fix(), handle);
-    }
-    Ok(())
+    let dcel = cut_triangle(rt.alloc())?;
+    same(degrees(&dcel, 0)?, [3, 3], "half edges out of vertex 0")?;
+    check_places(&dcel, 0)
 }
 
-/// How many items the iterators of a mesh list: its vertices, half edges, undirected edges, faces, inner faces, and hull.
-type Lengths = [usize; 6];
+/// How many items the iterators of a mesh list: its vertices, half edges, undirected edges, faces, inner faces, and hull, and the fixed
+/// handles of vertices and faces.
+type Lengths = [usize; 8];
 
-fn assert_lengths(dcel: &Mesh, want: Lengths, rt: &impl Abort) {
-    let lengths = [
+fn lengths(dcel: &Mesh) -> Lengths {
+    [
         dcel.vertices().len(),
         dcel.directed_edges().len(),
         dcel.undirected_edges().len(),
         dcel.faces().len(),
         dcel.inner_faces().len(),
         HullIterator::new(dcel).count(),
-    ];
-    assert_eq!(rt; lengths, want);
-    assert_eq!(rt; dcel.fixed_vertices().len(), want[0]);
-    assert_eq!(rt; dcel.fixed_faces().len(), want[3]);
+        dcel.fixed_vertices().len(),
+        dcel.fixed_faces().len(),
+    ]
 }
+
+/// Meshes by the calls that they grow by, each with its lengths.
+const LENGTHS: [(&[Growth], Lengths); 4] = [
+    (&[], [0, 0, 0, 1, 0, 0, 0, 1]),
+    (&[Growth::Append(0)], [1, 0, 0, 1, 0, 0, 1, 1]),
+    (&FIRST_EDGE, [2, 2, 1, 1, 0, 2, 2, 1]),
+    (&CUT, [4, 12, 6, 4, 3, 3, 4, 4]),
+];
 
 #[test]
 fn elements_are_counted(rt: HostRuntime) -> Result<(), Fail> {
-    let mut dcel: Mesh = new(rt.alloc())?;
-    assert_lengths(&dcel, [0, 0, 0, 1, 0, 0], &rt);
-    assert_eq!(rt; append(&mut dcel, 0, &rt)?, vertex(0));
-    assert_lengths(&dcel, [1, 0, 0, 1, 0, 0], &rt);
-    assert_lengths(
-        &grown(rt.alloc(), &FIRST_EDGE, &rt)?,
-        [2, 2, 1, 1, 0, 2],
-        &rt,
-    );
-    assert_lengths(&cut_triangle(rt.alloc(), &rt)?, [4, 12, 6, 4, 3, 3], &rt);
+    for (growths, wanted) in &LENGTHS {
+        let found = lengths(&grown(rt.alloc(), growths)?);
+        same(&found, wanted, "lengths")?;
+    }
     Ok(())
+}
+
+/// How many faces, half edges and edges the Voronoi diagram lists.
+fn dual_lengths(dcel: &Mesh) -> [usize; 3] {
+    [
+        VoronoiFaceIterator::new(dcel).len(),
+        DirectedVoronoiEdgeIterator::new(dcel).len(),
+        UndirectedVoronoiEdgeIterator::new(dcel).len(),
+    ]
 }
 
 #[test]
 fn duals_have_the_numbers_of_their_elements(rt: HostRuntime) -> Result<(), Fail> {
-    let dcel = cut_triangle(rt.alloc(), &rt)?;
-    let lengths = [
-        VoronoiFaceIterator::new(&dcel).len(),
-        DirectedVoronoiEdgeIterator::new(&dcel).len(),
-        UndirectedVoronoiEdgeIterator::new(&dcel).len(),
-    ];
-    assert_eq!(rt; lengths, [4, 12, 6]);
-    Ok(())
+    let dcel = cut_triangle(rt.alloc())?;
+    same(dual_lengths(&dcel), [4, 12, 6], "lengths of the diagram")
 }
 
 #[test]
-fn fixed_handles_are_listed_to_the_last_number(rt: HostRuntime) {
+fn fixed_handles_are_listed_to_the_last_number(rt: HostRuntime) -> Result<(), Fail> {
     let last = 4_294_967_295;
     let mut edges = FixedDirectedEdgeIterator::new(4_294_967_296);
-    assert_eq!(rt; edges.size_hint(), (4_294_967_296, Some(4_294_967_296)));
-    assert_eq!(rt; edges.next_back().map(|edge| edge.index()), Some(last));
-    assert_eq!(rt; edges.next().map(|edge| edge.index()), Some(0));
-    assert_eq!(rt; edges.len(), last - 1);
-    assert!(rt; FixedUndirectedEdgeIterator::new(0).next().is_none());
-    assert_eq!(rt; FixedInnerFaceIterator::new(2).rev().count(), 2);
+    let hint = edges.size_hint();
+    same(hint, (4_294_967_296, Some(4_294_967_296)), "the hint")?;
+    same(
+        edges.next_back().map(|edge| edge.index()),
+        Some(last),
+        "the last",
+    )?;
+    same(edges.next().map(|edge| edge.index()), Some(0), "the first")?;
+    same(edges.len(), last - 1, "those left")?;
+    holds(
+        FixedUndirectedEdgeIterator::new(0).next().is_none(),
+        "no edge",
+    )?;
+    same(
+        FixedInnerFaceIterator::new(2).rev().count(),
+        2,
+        "inner faces",
+    )
 }
