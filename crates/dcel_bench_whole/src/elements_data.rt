@@ -1,155 +1,151 @@
 //! The data of elements, read and written by number.
 
-use crate::growths::cut_triangle;
-use crate::meshes::{CUT_TRIANGLE, Mesh, assert_links, half_edge, inner_face, vertex};
+use dcel_bench::checks::same;
+use dcel_bench::data::{Datum, write};
+use dcel_bench::growths::cut_triangle;
+use dcel_bench::meshes::{CUT_TRIANGLE, Mesh, check_links, vertex};
+use dcel_bench::require;
 use spade_dcel::handles::{
     FixedDirectedEdgeHandle, FixedFaceHandle, FixedUndirectedEdgeHandle, FixedVertexHandle,
-    InnerTag, OUTER_FACE, PossiblyOuterTag,
+    PossiblyOuterTag,
 };
-use std::alloc::{AllocError, Allocator, Global};
-use std::process::Abort;
+use std::alloc::Global;
 use std::test::Fail;
 
-/// The data of the vertices, half edges, undirected edges and faces, one after another. An element that is borrowed answers the same.
-fn all_data(alloc: Global, dcel: &Mesh, rt: &impl Abort) -> Result<Vec<i64>, AllocError> {
+/// A kind of elements.
+#[derive(Clone, Copy)]
+enum Kind {
+    Vertex,
+    HalfEdge,
+    Edge,
+    Face,
+}
+
+fn count_of(dcel: &Mesh, kind: Kind) -> usize {
+    match kind {
+        Kind::Vertex => dcel.num_vertices(),
+        Kind::HalfEdge => dcel.num_directed_edges(),
+        Kind::Edge => dcel.num_undirected_edges(),
+        Kind::Face => dcel.num_faces(),
+    }
+}
+
+fn vertex_data(dcel: &Mesh, index: usize) -> Result<[i64; 2], Fail> {
+    require!(index < dcel.num_vertices());
+    let handle = FixedVertexHandle::new(index);
+    Ok([*dcel.vertex_data(handle), *dcel.vertex(handle).data()])
+}
+
+fn half_edge_data(dcel: &Mesh, index: usize) -> Result<[i64; 2], Fail> {
+    require!(index < dcel.num_directed_edges());
+    let handle = FixedDirectedEdgeHandle::new(index);
+    let borrowed = dcel.directed_edge(handle);
+    Ok([*dcel.directed_edge_data(handle), *borrowed.data()])
+}
+
+fn edge_data(dcel: &Mesh, index: usize) -> Result<[i64; 2], Fail> {
+    require!(index < dcel.num_undirected_edges());
+    let handle = FixedUndirectedEdgeHandle::new(index);
+    let borrowed = dcel.undirected_edge(handle);
+    same(borrowed.fix().index(), index, "the number of an edge")?;
+    Ok([*dcel.undirected_edge_data(handle), *borrowed.data()])
+}
+
+fn face_data(dcel: &Mesh, index: usize) -> Result<[i64; 2], Fail> {
+    require!(index < dcel.num_faces());
+    let handle: FixedFaceHandle<PossiblyOuterTag> = FixedFaceHandle::new(index);
+    Ok([*dcel.face_data(handle), *dcel.face(handle).data()])
+}
+
+/// The datum of an element. The element that is borrowed answers the same.
+fn datum_of(dcel: &Mesh, kind: Kind, index: usize) -> Result<i64, Fail> {
+    let [datum, borrowed] = match kind {
+        Kind::Vertex => vertex_data(dcel, index)?,
+        Kind::HalfEdge => half_edge_data(dcel, index)?,
+        Kind::Edge => edge_data(dcel, index)?,
+        Kind::Face => face_data(dcel, index)?,
+    };
+    same(borrowed, datum, "the datum of a borrowed element")?;
+    Ok(datum)
+}
+
+fn push_data(data: &mut Vec<i64>, dcel: &Mesh, kind: Kind) -> Result<(), Fail> {
+    for index in 0..count_of(dcel, kind) {
+        data.push(datum_of(dcel, kind, index)?)?;
+    }
+    Ok(())
+}
+
+/// The data of the vertices, half edges, undirected edges and faces, one after another.
+fn all_data(alloc: Global, dcel: &Mesh) -> Result<Vec<i64>, Fail> {
     let mut data = Vec::new(alloc);
-    for index in 0..dcel.num_vertices() {
-        let handle = FixedVertexHandle::new(index);
-        assert_eq!(rt; *dcel.vertex(handle).data(), *dcel.vertex_data(handle));
-        data.push(*dcel.vertex_data(handle))?;
-    }
-    for index in 0..dcel.num_directed_edges() {
-        let handle = FixedDirectedEdgeHandle::new(index);
-        assert_eq!(rt;
-            *dcel.directed_edge(handle).data(),
-            *dcel.directed_edge_data(handle)
-        );
-        data.push(*dcel.directed_edge_data(handle))?;
-    }
-    for index in 0..dcel.num_undirected_edges() {
-        let handle = FixedUndirectedEdgeHandle::new(index);
-        let borrowed = dcel.undirected_edge(handle);
-        assert_eq!(rt; borrowed.fix(), handle);
-        assert_eq!(rt; *borrowed.data(), *dcel.undirected_edge_data(handle));
-        data.push(*dcel.undirected_edge_data(handle))?;
-    }
-    for index in 0..dcel.num_faces() {
-        let handle: FixedFaceHandle<PossiblyOuterTag> = FixedFaceHandle::new(index);
-        assert_eq!(rt; *dcel.face(handle).data(), *dcel.face_data(handle));
-        data.push(*dcel.face_data(handle))?;
+    for kind in [Kind::Vertex, Kind::HalfEdge, Kind::Edge, Kind::Face] {
+        push_data(&mut data, dcel, kind)?;
     }
     Ok(data)
 }
 
-/// A datum of a mesh.
-#[derive(Clone, Copy)]
-pub enum Datum {
-    Vertex(FixedVertexHandle),
-    UpdatedVertex(FixedVertexHandle),
-    HalfEdge(FixedDirectedEdgeHandle),
-    Edge(FixedUndirectedEdgeHandle),
-    Face(FixedFaceHandle<PossiblyOuterTag>),
-    InnerFace(FixedFaceHandle<InnerTag>),
-}
-
-/// Writes a datum, and reads it back.
-pub fn write<A: Allocator>(dcel: &mut Mesh<A>, place: Datum, datum: i64, rt: &impl Abort) {
-    match place {
-        Datum::Vertex(handle) => {
-            assert!(rt; handle.index() < dcel.num_vertices());
-            *dcel.vertex_data_mut(handle) = datum;
-            assert_eq!(rt; *dcel.vertex_data(handle), datum);
-        }
-        Datum::UpdatedVertex(handle) => {
-            assert!(rt; handle.index() < dcel.num_vertices());
-            dcel.update_vertex(handle, datum);
-            assert_eq!(rt; *dcel.vertex_data(handle), datum);
-        }
-        Datum::HalfEdge(handle) => {
-            assert!(rt; handle.index() < dcel.num_directed_edges());
-            *dcel.directed_edge_data_mut(handle) = datum;
-            assert_eq!(rt; *dcel.directed_edge_data(handle), datum);
-        }
-        Datum::Edge(handle) => {
-            assert!(rt; handle.index() < dcel.num_undirected_edges());
-            *dcel.undirected_edge_data_mut(handle) = datum;
-            assert_eq!(rt; *dcel.undirected_edge_data(handle), datum);
-        }
-        Datum::Face(handle) => {
-            assert!(rt; handle.index() < dcel.num_faces());
-            *dcel.face_data_mut(handle) = datum;
-            assert_eq!(rt; *dcel.face_data(handle), datum);
-        }
-        Datum::InnerFace(handle) => {
-            assert!(rt; handle.index() < dcel.num_faces());
-            *dcel.face_data_mut(handle) = datum;
-            assert_eq!(rt; *dcel.face_data(handle), datum);
-            assert_eq!(rt; *dcel.face(handle).data(), datum);
-        }
-    }
-}
+/// Data to be written, each with its place among all data.
+const WRITES: [(Datum, usize, i64); 13] = [
+    (Datum::Vertex(0), 0, 100),
+    (Datum::Vertex(3), 3, 103),
+    (Datum::UpdatedVertex(3), 3, -103),
+    (Datum::HalfEdge(0), 4, 200),
+    (Datum::HalfEdge(7), 11, 207),
+    (Datum::HalfEdge(6), 10, 206),
+    (Datum::HalfEdge(11), 15, 211),
+    (Datum::Edge(0), 16, 300),
+    (Datum::Edge(3), 19, 303),
+    (Datum::Edge(5), 21, 305),
+    (Datum::Face(0), 22, 400),
+    (Datum::InnerFace(2), 24, 402),
+    (Datum::InnerFace(3), 25, 403),
+];
 
 #[test]
 fn a_writer_changes_one_datum(rt: HostRuntime) -> Result<(), Fail> {
-    let alloc = rt.alloc();
-    let mut dcel = cut_triangle(alloc, &rt)?;
+    let mut dcel = cut_triangle(rt.alloc())?;
     // 4 vertices with their data, 12 half edges, 6 undirected edges and 4 faces with the default.
-    let mut expected = [0; 26].to_vec(alloc)?;
-    assert_eq!(rt; expected.len(), 26);
-    expected[1] = 1;
-    expected[2] = 2;
-    expected[3] = 3;
-    assert_eq!(rt;
-        all_data(alloc, &dcel, &rt)?.as_slice(),
-        expected.as_slice()
-    );
-
-    for (place, index, datum) in [
-        (Datum::Vertex(vertex(0)), 0, 100),
-        (Datum::Vertex(vertex(3)), 3, 103),
-        (Datum::UpdatedVertex(vertex(3)), 3, -103),
-        (Datum::HalfEdge(half_edge(0)), 4, 200),
-        (Datum::HalfEdge(half_edge(7)), 11, 207),
-        (Datum::HalfEdge(half_edge(6)), 10, 206),
-        (Datum::HalfEdge(half_edge(11)), 15, 211),
-        (Datum::Edge(FixedUndirectedEdgeHandle::new(0)), 16, 300),
-        (Datum::Edge(FixedUndirectedEdgeHandle::new(3)), 19, 303),
-        (Datum::Edge(FixedUndirectedEdgeHandle::new(5)), 21, 305),
-        (Datum::Face(OUTER_FACE), 22, 400),
-        (Datum::InnerFace(inner_face(2)), 24, 402),
-        (Datum::InnerFace(inner_face(3)), 25, 403),
-    ] {
-        write(&mut dcel, place, datum, &rt);
-        assert!(rt; index < expected.len());
+    let mut expected = all_data(rt.alloc(), &dcel)?;
+    let begun = [
+        0, 1, 2, 3, 0, 0, 0, 0, 0, 0, 0, 0, 0, 0, 0, 0, 0, 0, 0, 0, 0, 0, 0, 0, 0, 0,
+    ];
+    same(expected.as_slice(), begun.as_slice(), "data")?;
+    for (place, index, datum) in WRITES {
+        write(&mut dcel, place, datum)?;
+        require!(index < expected.len());
         expected[index] = datum;
-        assert_eq!(rt;
-            all_data(alloc, &dcel, &rt)?.as_slice(),
-            expected.as_slice(),
-            "{datum} written"
-        );
+        let found = all_data(rt.alloc(), &dcel)?;
+        same(
+            &found,
+            &expected,
+            format_args!("data with {datum} at {place:?}"),
+        )?;
     }
-    assert_links(&dcel, CUT_TRIANGLE.0, CUT_TRIANGLE.1, &rt);
-    Ok(())
+    check_links(&dcel, CUT_TRIANGLE.0, CUT_TRIANGLE.1)
+}
+
+/// The number and the datum of the vertex that is found by this number.
+fn looked_up(dcel: &Mesh, index: u32) -> Option<(usize, i64)> {
+    dcel.get_vertex(vertex(index))
+        .map(|found| (found.index(), *found.data()))
 }
 
 #[test]
 fn vertices_are_looked_up(rt: HostRuntime) -> Result<(), Fail> {
-    let dcel = cut_triangle(rt.alloc(), &rt)?;
-    for (index, is_there) in [
-        (0, true),
-        (3, true),
-        (4, false),
-        (2_147_483_648, false),
-        (4_294_967_295, false),
+    let dcel = cut_triangle(rt.alloc())?;
+    for (index, wanted) in [
+        (0, Some((0, 0))),
+        (3, Some((3, 3))),
+        (4, None),
+        (2_147_483_648, None),
+        (4_294_967_295, None),
     ] {
-        match dcel.get_vertex(vertex(index)) {
-            Some(found) => {
-                assert!(rt; is_there, "vertex {index}");
-                assert_eq!(rt; found.fix(), vertex(index));
-                assert_eq!(rt; *found.data(), i64::from(index));
-            }
-            None => assert!(rt; !is_there, "vertex {index}"),
-        }
+        same(
+            looked_up(&dcel, index),
+            wanted,
+            format_args!("vertex {index}"),
+        )?;
     }
     Ok(())
 }

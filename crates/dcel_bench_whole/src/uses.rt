@@ -114,70 +114,72 @@ pub fn corners_of<V, DE, UE, F>(
 #[cfg(test)]
 mod tests {
     use super::*;
-    use crate::meshes::{Mesh, append, inner_face, vertex};
-    use spade_dcel::operations::{extend_line, new, new_triangle, setup_initial_two_vertices};
+    use dcel_bench::checks::{holds, same};
+    use dcel_bench::growths::Growth::{Append, Extend, SetUp, Triangle};
+    use dcel_bench::growths::{Growth, grown};
+    use dcel_bench::meshes::{Mesh, counts, edge_between, vertex};
+    use dcel_bench::require;
     use std::test::Fail;
+
+    /// The line 2, 0, 1, and vertex 3.
+    const LINE_AND_VERTEX: [Growth; 6] = [
+        Append(0),
+        Append(1),
+        Append(2),
+        Append(3),
+        SetUp(0, 1),
+        Extend(0, 2),
+    ];
 
     #[test]
     fn a_shortest_way_along_a_line(rt: HostRuntime) -> Result<(), Fail> {
-        let mut dcel: Mesh = new(rt.alloc())?;
-        let a = append(&mut dcel, 0, &rt)?;
-        let b = append(&mut dcel, 1, &rt)?;
-        let c = append(&mut dcel, 2, &rt)?;
-        let _ = append(&mut dcel, 3, &rt)?;
-        assert!(rt; dcel.num_undirected_edges() == 0 && dcel.has_room(0, 2, 0));
-        assert!(rt; dcel.is_live_vertex(a) && dcel.is_live_vertex(b) && a.index() != b.index());
-        setup_initial_two_vertices(&mut dcel, a, b)?;
-        assert!(rt; dcel.is_line_end(a) && dcel.is_unconnected(c) && dcel.has_room(0, 1, 0));
-        extend_line(&mut dcel, a, c)?;
-
-        let steps = steps_from(&dcel, c, rt.alloc())?;
-        assert_eq!(rt;
-            steps.as_slice(),
-            [Some(1), Some(2), Some(0), None].as_slice()
-        );
-        Ok(())
+        let dcel = grown(rt.alloc(), &LINE_AND_VERTEX)?;
+        let steps = steps_from(&dcel, vertex(2), rt.alloc())?;
+        let wanted = [Some(1), Some(2), Some(0), None];
+        same(steps.as_slice(), wanted.as_slice(), "steps")
     }
 
     // A triangle, with a vertex inside after the first step and with three more and its inner edges turned after the second.
     #[test]
     fn a_finer_mesh_is_triangulated(rt: HostRuntime) -> Result<(), Fail> {
-        let mut dcel: Mesh = new_triangle(rt.alloc(), (0, 1, 2))?;
-        for counts in [(4, 6, 4), (7, 15, 10)] {
+        let mut dcel = grown(rt.alloc(), &[Triangle(0, 1, 2)])?;
+        for wanted in [[4, 12, 4], [7, 30, 10]] {
             refine(&mut dcel, 7)?;
-            assert_eq!(rt;
-                (
-                    dcel.num_vertices(),
-                    dcel.num_undirected_edges(),
-                    dcel.num_faces()
-                ),
-                counts
-            );
-            assert!(rt; dcel.sanity_check());
+            same(counts(&dcel), wanted, "counts")?;
+            holds(dcel.sanity_check(), "a sound mesh")?;
         }
-        let middle = vertex(3);
-        assert!(rt; middle.index() < dcel.num_vertices());
         for corner in 0..3 {
-            let spoke = dcel.get_edge_from_neighbors(middle, vertex(corner));
-            assert!(rt; spoke.is_none());
+            let spoke = edge_between(&dcel, 3, corner)?;
+            same(spoke, None, format_args!("a spoke to {corner}"))?;
         }
         Ok(())
     }
 
+    /// The corners of the Voronoi face of a vertex, and whether it is open.
+    fn corners(dcel: &Mesh, index: u32, alloc: Global) -> Result<(Vec<usize>, bool), Fail> {
+        let handle = vertex(index);
+        require!(handle.index() < dcel.num_vertices());
+        let (corners, is_open) = corners_of(dcel.vertex(handle).as_voronoi_face(), alloc)?;
+        let mut numbers = Vec::new(alloc);
+        for corner in &corners {
+            numbers.push(corner.index())?;
+        }
+        Ok((numbers, is_open))
+    }
+
     #[test]
     fn corners_of_voronoi_faces(rt: HostRuntime) -> Result<(), Fail> {
-        let mut dcel: Mesh = new_triangle(rt.alloc(), (0, 1, 2))?;
+        let mut dcel = grown(rt.alloc(), &[Triangle(0, 1, 2)])?;
         refine(&mut dcel, 3)?;
-        let (middle, corner) = (vertex(3), vertex(0));
-        assert!(rt; middle.index() < dcel.num_vertices());
-        assert!(rt; corner.index() < dcel.num_vertices());
-        let (corners, is_open) = corners_of(dcel.vertex(middle).as_voronoi_face(), rt.alloc())?;
-        let faces = [inner_face(2), inner_face(3), inner_face(1)];
-        assert_eq!(rt; corners.as_slice(), faces.as_slice());
-        assert!(rt; !is_open);
-        let (corners, is_open) = corners_of(dcel.vertex(corner).as_voronoi_face(), rt.alloc())?;
-        assert_eq!(rt; corners.len(), 2);
-        assert!(rt; is_open);
-        Ok(())
+        let (middle, is_open) = corners(&dcel, 3, rt.alloc())?;
+        same(
+            middle.as_slice(),
+            [2, 3, 1].as_slice(),
+            "corners round the middle",
+        )?;
+        holds(!is_open, "a closed face")?;
+        let (outer, is_open) = corners(&dcel, 0, rt.alloc())?;
+        same(outer.len(), 2, "corners at a corner")?;
+        holds(is_open, "an open face")
     }
 }
