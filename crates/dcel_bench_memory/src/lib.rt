@@ -9,3 +9,5 @@ mod openers;
 mod refused_lines;
 #[cfg(test)]
 mod refused_memory;
+#[cfg(test)]
+mod watched;

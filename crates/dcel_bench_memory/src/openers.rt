@@ -1,32 +1,20 @@
 //! Removals from the opening to the end: what openers answer and leave, what cleanup makes of it, and openers that are refused memory.
 
-use crate::growths::Growth::{Append, Insert, SplitBothSides, Triangle};
-use crate::growths::{CUT, Growth, grow};
-use crate::meshes::{Links, Mesh, assert_links, half_edge, vertex};
-use crate::refused_memory::{MANY, picture_of};
-use crate::refusing::Refusing;
+use crate::watched::{MANY, Watched, fit};
+use dcel_bench::checks::{holds, same};
+use dcel_bench::growths::Growth::{Append, Insert, SplitBothSides, Triangle};
+use dcel_bench::growths::{CUT, Growth, grow_all};
+use dcel_bench::meshes::{Links, check_links, inner_face, out_edge, undirected_edge, vertex};
+use dcel_bench::openers::Opener::{Isolate, Remesh, Strip};
+use dcel_bench::openers::{Opener, handles, open};
+use dcel_bench::pictures::{Picture, picture_of};
+use dcel_bench::refusing::Refusing;
+use dcel_bench::require;
 use spade_dcel::dcel::RemovalState;
-use spade_dcel::handles::{FixedFaceHandle, FixedHandleImpl, FixedUndirectedEdgeHandle, InnerTag};
-use spade_dcel::operations::{
-    IsolateVertexResult, cleanup_isolated_vertex, disconnect_edge_strip,
-    isolate_vertex_and_fill_hole, new, remesh_edge_ring,
-};
-use std::alloc::{AllocError, Allocator, Global};
-use std::process::Abort;
+use spade_dcel::handles::{FixedFaceHandle, FixedUndirectedEdgeHandle, InnerTag};
+use spade_dcel::operations::{IsolateVertexResult, cleanup_isolated_vertex, new};
+use std::alloc::Global;
 use std::test::Fail;
-
-/// A mesh whose memory may be refused.
-type Watched<'a> = Mesh<&'a Refusing<Global>>;
-
-/// A call that opens a removal, by the numbers of its elements.
-#[derive(Clone, Copy)]
-pub enum Opener {
-    Isolate(u32, &'static [u32]),
-    Remesh(&'static [u32], &'static [u32], &'static [u32]),
-    Strip(&'static [u32]),
-}
-
-use Opener::{Isolate, Remesh, Strip};
 
 /// A removal: the calls that the mesh grows by, the opener, and the edges and faces that it gives up and the edges that it puts in; the
 /// links and the anchors of the vertices while it is open; and the links once it is cleaned up, and the vertex that is then left.
@@ -38,7 +26,7 @@ struct Row {
     faces: &'static [u32],
     new_edges: &'static [u32],
     opened: Links,
-    anchors: &'static [Option<u32>],
+    anchors: &'static [Option<usize>],
     cleaned: Links,
     vertex: u32,
 }
@@ -124,141 +112,189 @@ const ROWS: [Row; 4] = [
     },
 ];
 
-/// The elements of a kind with these numbers.
-fn handles<Kind, A: Allocator>(
-    numbers: &[u32],
-    memory: A,
-) -> Result<Vec<FixedHandleImpl<Kind, InnerTag>, A>, AllocError> {
-    let mut list = Vec::with_capacity(memory, numbers.len())?;
-    for number in numbers {
-        list.push(FixedHandleImpl::new(*number as usize))?;
-    }
-    Ok(list)
-}
-
-/// Opens a removal, once what the call asks is tested.
-pub fn open<A: Allocator + Clone>(
-    dcel: &mut Mesh<A>,
-    memory: A,
-    opener: Opener,
-    rt: &impl Abort,
-) -> Result<IsolateVertexResult<A>, AllocError> {
-    assert_eq!(rt; dcel.removal_state(), RemovalState::Closed);
-    match opener {
-        Isolate(center, border) => {
-            let border = handles(border, memory)?;
-            let center = vertex(center);
-            assert!(rt; dcel.is_border_loop(&border, center));
-            assert!(rt; dcel.has_room(0, border.len() - 3, border.len() - 2));
-            isolate_vertex_and_fill_hole(dcel, border, center)
-        }
-        Remesh(border, edges, faces) => {
-            let border = handles(border, memory.clone()?)?;
-            let edges = handles(edges, memory.clone()?)?;
-            let faces = handles(faces, memory)?;
-            assert!(rt; dcel.is_ring(&border, &edges, &faces));
-            assert!(rt; dcel.has_room(0, border.len() - 3, border.len() - 2));
-            remesh_edge_ring(dcel, border, edges, faces)
-        }
-        Strip(list) => {
-            let list = handles(list, memory)?;
-            assert!(rt; dcel.is_edge_strip(&list));
-            disconnect_edge_strip(dcel, list)
-        }
-    }
-}
+/// What an opener answers.
+type Opened<'a> = IsolateVertexResult<&'a Refusing<Global>>;
 
 /// That the vertices have these anchors, and there are no others.
-fn assert_anchors<A: Allocator>(dcel: &Mesh<A>, anchors: &[Option<u32>], rt: &impl Abort) {
-    assert_eq!(rt; dcel.num_vertices(), anchors.len());
+fn check_anchors(dcel: &Watched, anchors: &[Option<usize>]) -> Result<(), Fail> {
+    same(dcel.num_vertices(), anchors.len(), "vertices")?;
     for (index, anchor) in anchors.iter().enumerate() {
-        let handle = vertex(index as u32);
-        assert!(rt; handle.index() < dcel.num_vertices());
-        let out_edge = dcel.vertex_out_edge(handle);
-        assert_eq!(rt; out_edge, anchor.map(half_edge), "vertex {index}");
+        let found = out_edge(dcel, index)?;
+        same(found, *anchor, format_args!("the anchor of vertex {index}"))?;
     }
-}
-
-/// That the opener has answered what the row says, and its links and anchors are those of the row; what is given up isn't live.
-fn assert_opened<A: Allocator + Clone>(
-    dcel: &Mesh<A>,
-    opened: &IsolateVertexResult<A>,
-    row: Row,
-    alloc: Global,
-    rt: &impl Abort,
-) -> Result<(), AllocError> {
-    let edges: Vec<FixedUndirectedEdgeHandle> = handles(row.edges, alloc)?;
-    let faces: Vec<FixedFaceHandle<InnerTag>> = handles(row.faces, alloc)?;
-    let new_edges: Vec<FixedUndirectedEdgeHandle> = handles(row.new_edges, alloc)?;
-    assert_eq!(rt; opened.edges_to_remove.as_slice(), edges.as_slice());
-    assert_eq!(rt; opened.faces_to_remove.as_slice(), faces.as_slice());
-    assert_eq!(rt; opened.new_edges.as_slice(), new_edges.as_slice());
-    for edge in &new_edges {
-        assert!(rt; opened.is_new_edge(*edge) && dcel.is_live_edge(*edge));
-    }
-    assert_eq!(rt; dcel.removal_state(), RemovalState::Isolated);
-    assert!(rt; !dcel.sanity_check() && !dcel.is_live_vertex(vertex(row.vertex)));
-    for edge in &edges {
-        assert!(rt; !dcel.is_live_edge(*edge));
-    }
-    for face in &faces {
-        assert!(rt; !dcel.is_live_face(*face));
-    }
-    assert_links(dcel, row.opened.0, row.opened.1, rt);
-    assert_anchors(dcel, row.anchors, rt);
     Ok(())
 }
 
-/// Cleans up what an opener has given up: the links are those of the row, and its vertex is still given up.
-fn clean_up<A: Allocator + Clone>(
-    dcel: &mut Mesh<A>,
-    opened: &mut IsolateVertexResult<A>,
-    row: Row,
-    rt: &impl Abort,
-) {
-    assert!(rt; dcel.is_listed(opened));
-    cleanup_isolated_vertex(dcel, opened);
-    assert_eq!(rt; dcel.removal_state(), RemovalState::Cleaned);
-    assert_links(dcel, row.cleaned.0, row.cleaned.1, rt);
+/// That the opener has answered the lists of the row.
+fn check_lists(opened: &Opened, row: Row, alloc: Global) -> Result<(), Fail> {
+    let edges: Vec<FixedUndirectedEdgeHandle> = handles(row.edges, alloc)?;
+    let faces: Vec<FixedFaceHandle<InnerTag>> = handles(row.faces, alloc)?;
+    let new_edges: Vec<FixedUndirectedEdgeHandle> = handles(row.new_edges, alloc)?;
+    same(opened.edges_to_remove.as_slice(), edges.as_slice(), "edges")?;
+    same(opened.faces_to_remove.as_slice(), faces.as_slice(), "faces")?;
+    same(
+        opened.new_edges.as_slice(),
+        new_edges.as_slice(),
+        "new edges",
+    )
 }
 
-/// Opens the removal of a row with the request of this number refused, in which case the mesh is as it was, and it is opened again; and
-/// closes it. Answers whether so many requests came.
-fn is_opener_refused(row: Row, number: u64, alloc: Global, rt: &impl Abort) -> Result<bool, Fail> {
-    let memory = Refusing::new(alloc);
-    let mut dcel: Watched = new(&memory)?;
-    for growth in row.growths {
-        assert!(rt; grow(&mut dcel, &memory, *growth, rt));
+/// That these edges are live, or that none of them is.
+fn check_edges(dcel: &Watched, edges: &[u32], are_live: bool) -> Result<(), Fail> {
+    for edge in edges {
+        let is_live = dcel.is_live_edge(undirected_edge(*edge));
+        same(
+            is_live,
+            are_live,
+            format_args!("whether edge {edge} is live"),
+        )?;
     }
-    let before = picture_of(&dcel, alloc, rt)?;
+    Ok(())
+}
+
+/// That these faces aren't live.
+fn check_faces_given_up(dcel: &Watched, faces: &[u32]) -> Result<(), Fail> {
+    for face in faces {
+        let is_live = dcel.is_live_face(inner_face(*face));
+        holds(!is_live, format_args!("face {face} is live"))?;
+    }
+    Ok(())
+}
+
+/// That the answer calls the new edges new.
+fn check_new_edges(opened: &Opened, edges: &[u32]) -> Result<(), Fail> {
+    for edge in edges {
+        let is_new = opened.is_new_edge(undirected_edge(*edge));
+        holds(is_new, format_args!("edge {edge} is not new"))?;
+    }
+    Ok(())
+}
+
+/// That the mesh is as the row says while the removal is open: what is given up isn't live, and the links and the anchors are those of
+/// the row.
+fn check_open(dcel: &Watched, row: Row) -> Result<(), Fail> {
+    same(
+        dcel.removal_state(),
+        RemovalState::Isolated,
+        "an open removal",
+    )?;
+    holds(!dcel.sanity_check(), "an open mesh is checked")?;
+    holds(
+        !dcel.is_live_vertex(vertex(row.vertex)),
+        "its vertex is live",
+    )?;
+    check_edges(dcel, row.new_edges, true)?;
+    check_edges(dcel, row.edges, false)?;
+    check_faces_given_up(dcel, row.faces)?;
+    check_links(dcel, row.opened.0, row.opened.1)?;
+    check_anchors(dcel, row.anchors)
+}
+
+/// Cleans up what an opener has given up: the links are those of the row, and its vertex is still given up.
+fn clean_up(dcel: &mut Watched, opened: &mut Opened, row: Row) -> Result<(), Fail> {
+    require!(dcel.is_listed(opened));
+    cleanup_isolated_vertex(dcel, opened);
+    same(dcel.removal_state(), RemovalState::Cleaned, "a cleanup")?;
+    check_links(dcel, row.cleaned.0, row.cleaned.1)
+}
+
+/// That the mesh is as it was before a removal that was refused, and that there is memory for it then.
+fn open_again<'a>(
+    dcel: &mut Watched<'a>,
+    memory: &'a Refusing<Global>,
+    opener: Opener,
+    before: Picture,
+    alloc: Global,
+) -> Result<Opened<'a>, Fail> {
+    same(
+        dcel.removal_state(),
+        RemovalState::Closed,
+        "a refused removal",
+    )?;
+    same(picture_of(dcel, alloc)?, before, "the mesh when refused")?;
+    match open(dcel, memory, opener)? {
+        Some(opened) => Ok(opened),
+        None => Err(Fail::new("no memory for an opener")),
+    }
+}
+
+/// Opens the removal with the request of this number refused, in which case it is opened again. Answers whether so many requests came,
+/// and what the opener answers.
+fn open_refused<'a>(
+    dcel: &mut Watched<'a>,
+    memory: &'a Refusing<Global>,
+    opener: Opener,
+    number: u64,
+    alloc: Global,
+) -> Result<(bool, Opened<'a>), Fail> {
+    let before = picture_of(dcel, alloc)?;
     memory.refuse_one(number);
-    let first = open(&mut dcel, &memory, row.opener, rt);
+    let answer = open(dcel, memory, opener)?;
     let is_refused = memory.requests() > number;
     memory.refuse_one(u64::MAX);
-    assert_eq!(rt; first.is_err(), is_refused, "request {number}");
-    let mut opened = match first {
-        Ok(opened) => opened,
-        Err(_) => {
-            assert_eq!(rt; dcel.removal_state(), RemovalState::Closed);
-            assert_eq!(rt; picture_of(&dcel, alloc, rt)?, before, "request {number}");
-            open(&mut dcel, &memory, row.opener, rt)?
+    match answer {
+        Some(opened) => {
+            holds(!is_refused, format_args!("a lost refusal of {number}"))?;
+            Ok((false, opened))
         }
-    };
-    assert_opened(&dcel, &opened, row, alloc, rt)?;
-    clean_up(&mut dcel, &mut opened, row, rt);
+        None => {
+            holds(is_refused, format_args!("no refusal of {number}"))?;
+            let opened = open_again(dcel, memory, opener, before, alloc)?;
+            Ok((true, opened))
+        }
+    }
+}
+
+/// That a removal has been opened as the row says, and is cleaned up so.
+fn check_removal(
+    dcel: &mut Watched,
+    opened: &mut Opened,
+    row: Row,
+    alloc: Global,
+) -> Result<(), Fail> {
+    check_lists(opened, row, alloc)?;
+    check_new_edges(opened, row.new_edges)?;
+    check_open(dcel, row)?;
+    clean_up(dcel, opened, row)
+}
+
+/// Grows an empty mesh to that of a row, opens the removal with the request of this number refused, and cleans it up. Answers whether so
+/// many requests came.
+fn refuse_row<'a>(
+    dcel: &mut Watched<'a>,
+    memory: &'a Refusing<Global>,
+    row: Row,
+    number: u64,
+    alloc: Global,
+) -> Result<bool, Fail> {
+    grow_all(dcel, memory, row.growths)?;
+    fit(dcel, memory)?;
+    let (is_refused, mut opened) = open_refused(dcel, memory, row.opener, number, alloc)?;
+    check_removal(dcel, &mut opened, row, alloc)?;
     Ok(is_refused)
+}
+
+/// Opens the removal of a row with the request of this number refused, and cleans it up. Answers whether so many requests came.
+fn is_opener_refused(row: Row, number: u64, alloc: Global) -> Result<bool, Fail> {
+    let memory = Refusing::new(alloc);
+    let mut dcel = new(&memory)?;
+    refuse_row(&mut dcel, &memory, row, number, alloc)
+}
+
+/// That the opener of a row may be refused each of its requests, of which there are some.
+fn check_row(row: Row, alloc: Global) -> Result<(), Fail> {
+    let mut is_refused = is_opener_refused(row, 0, alloc)?;
+    holds(is_refused, "a request of an opener")?;
+    for number in 1..MANY {
+        is_refused = is_opener_refused(row, number, alloc)?;
+    }
+    holds(!is_refused, "no more requests than MANY")
 }
 
 #[test]
 fn removals_are_opened_and_cleaned_up(rt: HostRuntime) -> Result<(), Fail> {
-    for (index, row) in ROWS.iter().enumerate() {
-        let mut requests = 0;
-        for number in 0..MANY {
-            if is_opener_refused(*row, number, rt.alloc(), &rt)? {
-                requests = number + 1;
-            }
-        }
-        assert!(rt; 0 < requests && requests < MANY, "row {index}");
+    for row in &ROWS {
+        check_row(*row, rt.alloc())?;
     }
     Ok(())
 }

@@ -1,28 +1,22 @@
 //! Calls of which one is refused a request for memory.
 
-use crate::growths::Growth::{
+use crate::watched::{MANY, Watched, fit};
+use dcel_bench::checks::{holds, same};
+use dcel_bench::commands::carry_out;
+use dcel_bench::growths::Growth::{
     Append, Close, Extend, Insert, PutBeside, SetUp, SplitBothSides, SplitOnLine, SplitOneSide,
     Triangle,
 };
-use crate::growths::{Growth, TRIANGLE_AND_VERTEX, carry_out, grow};
-use crate::meshes::{
-    CUT_TRIANGLE, Links, Mesh, NO_LIMIT, assert_counts, assert_links, half_edge, vertex,
-};
-use crate::refusing::Refusing;
-use spade_dcel::handles::{FixedDirectedEdgeHandle, FixedFaceHandle, PossiblyOuterTag};
+use dcel_bench::growths::{Growth, TRIANGLE_AND_VERTEX, grow};
+use dcel_bench::meshes::{CUT_TRIANGLE, Links, NO_LIMIT, check_links, counts};
+use dcel_bench::pictures::{Picture, picture_of};
+use dcel_bench::refusing::Refusing;
 use spade_dcel::operations::new;
-use std::alloc::{AllocError, Allocator, Global};
-use std::process::Abort;
+use std::alloc::{AllocError, Global};
 use std::test::Fail;
 
-/// More requests for memory than any row here makes.
-pub const MANY: u64 = 20;
-
-/// A mesh whose memory may be refused.
-type Watched<'a> = Mesh<&'a Refusing<Global>>;
-
-/// Calls that have memory, and more of them; then calls of which one is refused a request; and what the mesh is after them: how many
-/// vertices, and the links.
+/// Calls that have memory, and more of them; then calls that are refused requests; and what the mesh is after them: how many vertices,
+/// and the links.
 type Row = (
     &'static [Growth],
     &'static [Growth],
@@ -74,13 +68,7 @@ const ROWS: [Row; 10] = [
             &[0, 1, 2, 1, 3, 2, 4, 3, 5, 4],
         ),
     ),
-    (
-        &[Triangle(0, 1, 2), Append(3)],
-        &[],
-        &[Insert(3, 1)],
-        4,
-        CUT_TRIANGLE,
-    ),
+    (&TRIANGLE_AND_VERTEX, &[], &[Insert(3, 1)], 4, CUT_TRIANGLE),
     (
         &EDGE_OF_SIX,
         &[],
@@ -99,7 +87,6 @@ const ROWS: [Row; 10] = [
     (
         &EDGE_OF_SIX,
         &[Extend(1, 2), Extend(2, 3), Extend(3, 4), Extend(4, 5)],
-        // The last one wants room for an edge and for a face.
         &[Close(0), Close(5), Close(2), Close(6)],
         6,
         (
@@ -116,7 +103,6 @@ const ROWS: [Row; 10] = [
     (
         &TRIANGLE_AND_VERTEX,
         &[Append(4), Append(5)],
-        // The first one wants room for edges, the last one for edges and for a face.
         &[PutBeside(0, 3), PutBeside(1, 4), PutBeside(7, 5)],
         6,
         (
@@ -165,50 +151,6 @@ const ROWS: [Row; 10] = [
     ),
 ];
 
-/// What can be read off a mesh.
-#[derive(Debug, Drop, PartialEq, Eq)]
-pub struct Picture {
-    out_edges: Vec<Option<FixedDirectedEdgeHandle>>,
-    adjacent_edges: Vec<Option<FixedDirectedEdgeHandle>>,
-    /// The next half edge, the one before, the origin and the face of each half edge.
-    links: Vec<[usize; 4]>,
-}
-
-pub fn picture_of<A: Allocator>(
-    dcel: &Mesh<A>,
-    alloc: Global,
-    rt: &impl Abort,
-) -> Result<Picture, AllocError> {
-    let mut seen = Picture {
-        out_edges: Vec::new(alloc),
-        adjacent_edges: Vec::new(alloc),
-        links: Vec::new(alloc),
-    };
-    for index in 0..dcel.num_vertices() {
-        let handle = vertex(index as u32);
-        assert!(rt; handle.index() < dcel.num_vertices());
-        seen.out_edges.push(dcel.vertex_out_edge(handle))?;
-    }
-    for index in 0..dcel.num_faces() {
-        let handle: FixedFaceHandle<PossiblyOuterTag> = FixedFaceHandle::new(index);
-        assert!(rt; handle.index() < dcel.num_faces());
-        seen.adjacent_edges.push(dcel.face_adjacent_edge(handle))?;
-    }
-    for index in 0..dcel.num_directed_edges() {
-        let handle = half_edge(index as u32);
-        assert!(rt; handle.index() < dcel.num_directed_edges());
-        assert!(rt; dcel.is_live_edge(handle.as_undirected()));
-        let edge = dcel.directed_edge(handle);
-        seen.links.push([
-            edge.next().index(),
-            edge.prev().index(),
-            edge.from().index(),
-            edge.face().index(),
-        ])?;
-    }
-    Ok(seen)
-}
-
 /// How a call is made.
 #[derive(Debug, Clone, Copy)]
 enum Caller {
@@ -216,91 +158,196 @@ enum Caller {
     Command,
 }
 
+/// What room a mesh has before a call.
+#[derive(Debug, Clone, Copy, PartialEq, Eq)]
+enum Room {
+    /// What is left of its growth so far, so that a call may make some requests or none.
+    Spare,
+    /// None, so that a call makes every request that it can make.
+    Fitted,
+}
+
+/// How the calls of a row are made, and with what room.
+type Way = (Caller, Room);
+
+const WAYS: [Way; 4] = [
+    (Caller::Operation, Room::Spare),
+    (Caller::Operation, Room::Fitted),
+    (Caller::Command, Room::Spare),
+    (Caller::Command, Room::Fitted),
+];
+
 /// Makes the call: whether there was memory.
 fn call<'a>(
-    caller: Caller,
     dcel: &mut Watched<'a>,
     memory: &'a Refusing<Global>,
+    caller: Caller,
     growth: Growth,
-    rt: &impl Abort,
-) -> bool {
+) -> Result<bool, Fail> {
     match caller {
-        Caller::Operation => grow(dcel, memory, growth, rt),
-        Caller::Command => carry_out(dcel, growth, NO_LIMIT, rt),
+        Caller::Operation => grow(dcel, memory, growth),
+        Caller::Command => carry_out(dcel, growth, NO_LIMIT),
     }
 }
 
-/// Makes the calls of a row, with the request of this number refused to one of them; that one leaves the mesh as it was and is made
-/// again. Answers whether so many requests came.
-fn is_row_refused(
-    row: Row,
+/// Makes these calls, for which there is memory.
+fn call_all<'a>(
+    dcel: &mut Watched<'a>,
+    memory: &'a Refusing<Global>,
     caller: Caller,
+    growths: &[Growth],
+) -> Result<(), Fail> {
+    for growth in growths {
+        let is_made = call(dcel, memory, caller, *growth)?;
+        holds(is_made, format_args!("no memory for {growth:?}"))?;
+    }
+    Ok(())
+}
+
+/// Makes a refused call again, before which the mesh was as it is still.
+fn call_again<'a>(
+    dcel: &mut Watched<'a>,
+    memory: &'a Refusing<Global>,
+    (caller, growth): (Caller, Growth),
+    before: Picture,
+    alloc: Global,
+) -> Result<(), Fail> {
+    let when = format_args!("the mesh after {growth:?} as {caller:?} was refused");
+    same(picture_of(dcel, alloc)?, before, when)?;
+    call_all(dcel, memory, caller, &[growth])
+}
+
+/// Makes the call with its request of this number refused: then it is made again. Answers whether it made so many requests.
+fn is_call_refused<'a>(
+    dcel: &mut Watched<'a>,
+    memory: &'a Refusing<Global>,
+    (caller, growth): (Caller, Growth),
     number: u64,
     alloc: Global,
-    rt: &impl Abort,
 ) -> Result<bool, Fail> {
-    let (first, begun, growths, vertices, (words, origins)) = row;
-    let memory = Refusing::new(alloc);
-    let mut dcel = new(&memory)?;
-    for growth in first.iter().chain(begun) {
-        assert!(rt; call(caller, &mut dcel, &memory, *growth, rt));
-    }
+    let before = picture_of(dcel, alloc)?;
     memory.refuse_one(number);
+    let is_made = call(dcel, memory, caller, growth)?;
+    let is_refused = memory.requests() > number;
+    memory.refuse_one(u64::MAX);
+    let when = format_args!("{growth:?} as {caller:?}, request {number}");
+    same(is_made, !is_refused, when)?;
+    if is_refused {
+        call_again(dcel, memory, (caller, growth), before, alloc)?;
+    }
+    Ok(is_refused)
+}
+
+/// Makes calls, each with its request of this number refused. Answers how many of them made so many requests.
+fn refuse_all<'a>(
+    dcel: &mut Watched<'a>,
+    memory: &'a Refusing<Global>,
+    growths: &[Growth],
+    (caller, room): Way,
+    number: u64,
+    alloc: Global,
+) -> Result<usize, Fail> {
+    let mut count: usize = 0;
     for growth in growths {
-        let before = picture_of(&dcel, alloc, rt)?;
-        let was_refused = memory.requests() > number;
-        let is_made = call(caller, &mut dcel, &memory, *growth, rt);
-        let is_refused = memory.requests() > number;
-        assert_eq!(rt; is_made, is_refused == was_refused, "request {number}");
-        if !is_made {
-            assert_eq!(rt; picture_of(&dcel, alloc, rt)?, before, "request {number}");
-            assert!(rt; call(caller, &mut dcel, &memory, *growth, rt));
+        if room == Room::Fitted {
+            fit(dcel, memory)?;
+        }
+        if is_call_refused(dcel, memory, (caller, *growth), number, alloc)? {
+            count = count.saturating_add(1);
         }
     }
-    assert_counts(&dcel, vertices, origins.len(), words.len(), rt);
-    assert_links(&dcel, words, origins, rt);
-    Ok(memory.requests() > number)
+    Ok(count)
+}
+
+/// That the mesh has so many vertices and these links.
+fn check_mesh(dcel: &Watched, vertices: usize, links: Links) -> Result<(), Fail> {
+    same(dcel.num_vertices(), vertices, "vertices")?;
+    check_links(dcel, links.0, links.1)
+}
+
+/// Makes the calls of a row on an empty mesh, each with its request of this number refused. Answers how many of them made so many
+/// requests.
+fn refuse_row<'a>(
+    dcel: &mut Watched<'a>,
+    memory: &'a Refusing<Global>,
+    (first, begun, growths, vertices, links): Row,
+    way: Way,
+    number: u64,
+    alloc: Global,
+) -> Result<usize, Fail> {
+    call_all(dcel, memory, way.0, first)?;
+    call_all(dcel, memory, way.0, begun)?;
+    let count = refuse_all(dcel, memory, growths, way, number, alloc)?;
+    check_mesh(dcel, vertices, links)?;
+    Ok(count)
+}
+
+/// Makes the calls of a row, each with its request of this number refused. Answers how many of them made so many requests.
+fn refused_calls(row: Row, way: Way, number: u64, alloc: Global) -> Result<usize, Fail> {
+    let memory = Refusing::new(alloc);
+    let mut dcel = new(&memory)?;
+    refuse_row(&mut dcel, &memory, row, way, number, alloc)
+}
+
+/// That the calls of a row may be refused each of their requests. Where they have no room, each of them makes some.
+fn check_row(row: Row, way: Way, alloc: Global) -> Result<(), Fail> {
+    let mut count = refused_calls(row, way, 0, alloc)?;
+    if way.1 == Room::Fitted {
+        same(
+            count,
+            row.2.len(),
+            format_args!("calls that take memory of {:?}", row.2),
+        )?;
+    }
+    for number in 1..MANY {
+        count = refused_calls(row, way, number, alloc)?;
+    }
+    same(count, 0, "calls that make MANY requests")
 }
 
 #[test]
 fn calls_are_refused_memory(rt: HostRuntime) -> Result<(), Fail> {
-    for (index, row) in ROWS.iter().enumerate() {
-        for caller in [Caller::Operation, Caller::Command] {
-            let mut requests = 0;
-            for number in 0..MANY {
-                if is_row_refused(*row, caller, number, rt.alloc(), &rt)? {
-                    requests = number + 1;
-                }
-            }
-            assert!(rt;
-                0 < requests && requests < MANY,
-                "row {index} by {caller:?}"
-            );
+    for row in &ROWS {
+        for way in &WAYS {
+            check_row(*row, *way, rt.alloc())?;
         }
     }
     Ok(())
 }
 
-/// Makes an empty mesh with the request of this number refused, and then makes it again; answers whether so many requests came.
-fn is_first_mesh_refused(number: u64, alloc: Global, rt: &impl Abort) -> Result<bool, Fail> {
+/// Makes an empty mesh: whether there was memory.
+fn is_mesh_made(memory: &Refusing<Global>) -> Result<bool, Fail> {
+    let made: Result<Watched, AllocError> = new(memory);
+    match made {
+        Ok(dcel) => {
+            same(counts(&dcel), [0, 0, 1], "counts of an empty mesh")?;
+            Ok(true)
+        }
+        Err(_) => Ok(false),
+    }
+}
+
+/// Makes an empty mesh with the request of this number refused, and then makes it again. Answers whether so many requests came.
+fn is_first_mesh_refused(number: u64, alloc: Global) -> Result<bool, Fail> {
     let memory = Refusing::new(alloc);
     memory.refuse_one(number);
-    let made: Result<Watched, AllocError> = new(&memory);
+    let is_made = is_mesh_made(&memory)?;
     let is_refused = memory.requests() > number;
-    assert_eq!(rt; made.is_err(), is_refused, "request {number}");
-    let dcel = if is_refused { new(&memory)? } else { made? };
-    assert_counts(&dcel, 0, 0, 1, rt);
+    memory.refuse_one(u64::MAX);
+    same(is_made, !is_refused, format_args!("request {number}"))?;
+    let is_made = is_mesh_made(&memory)?;
+    holds(is_made, "no memory for an empty mesh")?;
     Ok(is_refused)
 }
 
 #[test]
 fn a_first_mesh_is_refused_memory(rt: HostRuntime) -> Result<(), Fail> {
-    let mut requests = 0;
-    for number in 0..MANY {
-        if is_first_mesh_refused(number, rt.alloc(), &rt)? {
-            requests = number + 1;
-        }
+    holds(
+        is_first_mesh_refused(0, rt.alloc())?,
+        "a request for the first mesh",
+    )?;
+    for number in 1..MANY {
+        is_first_mesh_refused(number, rt.alloc())?;
     }
-    assert!(rt; 0 < requests && requests < MANY);
     Ok(())
 }
