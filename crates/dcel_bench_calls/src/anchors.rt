@@ -1,12 +1,11 @@
-//! The anchors that edits leave.
+//! The anchors that growing calls leave.
 
-use crate::growths::Growth::{
+use dcel_bench::growths::Growth::{
     Append, Close, Extend, PutBeside, SetUp, SplitBothSides, SplitOnLine, SplitOneSide, Triangle,
 };
-use crate::growths::{CUT, FIRST_EDGE, Growth, SPLIT_EDGE, TRIANGLE_AND_VERTEX, grown_on};
-use crate::meshes::{Mesh, half_edge, vertex};
-use spade_dcel::handles::{FixedFaceHandle, PossiblyOuterTag};
-use std::process::Abort;
+use dcel_bench::growths::{CUT, FIRST_EDGE, Growth, SPLIT_EDGE, TRIANGLE_AND_VERTEX, grown_on};
+use dcel_bench::meshes::{Mesh, check_adjacent_edges, check_out_edges};
+use std::alloc::Global;
 use std::test::Fail;
 
 /// Calls that make a mesh and calls on it, and then the anchors of the vertices and those of the faces, each of which has one.
@@ -87,34 +86,21 @@ const ROWS: [Row; 16] = [
 ];
 
 /// That these are the anchors of all vertices and faces.
-pub fn assert_anchors(dcel: &Mesh, out_edges: &[u32], adjacent_edges: &[u32], rt: &impl Abort) {
-    assert_eq!(rt; dcel.num_vertices(), out_edges.len());
-    for (index, edge) in out_edges.iter().enumerate() {
-        let handle = vertex(index as u32);
-        assert!(rt; handle.index() < dcel.num_vertices());
-        assert_eq!(rt;
-            dcel.vertex_out_edge(handle),
-            Some(half_edge(*edge)),
-            "vertex {index}"
-        );
-    }
-    assert_eq!(rt; dcel.num_faces(), adjacent_edges.len());
-    for (index, edge) in adjacent_edges.iter().enumerate() {
-        let handle: FixedFaceHandle<PossiblyOuterTag> = FixedFaceHandle::new(index);
-        assert!(rt; handle.index() < dcel.num_faces());
-        assert_eq!(rt;
-            dcel.face_adjacent_edge(handle),
-            Some(half_edge(*edge)),
-            "face {index}"
-        );
-    }
+pub fn check_anchors(dcel: &Mesh, out_edges: &[u32], adjacent_edges: &[u32]) -> Result<(), Fail> {
+    check_out_edges(dcel, out_edges)?;
+    check_adjacent_edges(dcel, adjacent_edges)
+}
+
+fn check_row(alloc: Global, row: &Row) -> Result<(), Fail> {
+    let (begun, growths, out_edges, adjacent_edges) = *row;
+    let dcel = grown_on(alloc, begun, growths)?;
+    check_anchors(&dcel, out_edges, adjacent_edges)
 }
 
 #[test]
 fn anchors_are_left(rt: HostRuntime) -> Result<(), Fail> {
-    for (begun, growths, out_edges, adjacent_edges) in ROWS {
-        let dcel = grown_on(rt.alloc(), begun, growths, &rt)?;
-        assert_anchors(&dcel, out_edges, adjacent_edges, &rt);
+    for row in &ROWS {
+        check_row(rt.alloc(), row)?;
     }
     Ok(())
 }

@@ -1,66 +1,105 @@
 //! Calls on a mesh, with their answers where there is memory.
 
-use crate::growths::Growth::{Append, Close, Extend, SetUp};
-use crate::growths::{Growth, LINE, TRIANGLE_AND_VERTEX, cut_triangle, grow, grown};
-use crate::meshes::{Mesh, append, edge_between, half_edge, vertex};
+use dcel_bench::checks::same;
+use dcel_bench::growths::Growth::{Append, Close, Extend, SetUp};
+use dcel_bench::growths::{Growth, LINE, TRIANGLE_AND_VERTEX, cut_triangle, grown};
+use dcel_bench::meshes::{Mesh, adjacent_edge, edge_between, half_edge, undirected_edge, vertex};
+use dcel_bench::require;
 use spade_dcel::handles::{
-    DelaunayElementType, DirectedEdgeTag, DirectedVoronoiEdgeTag, FaceTag,
-    FixedUndirectedEdgeHandle, OUTER_FACE, UndirectedEdgeTag, UndirectedVoronoiEdgeTag, VertexTag,
-    VoronoiFaceTag,
+    DelaunayElementType, DirectedEdgeTag, DirectedVoronoiEdgeTag, FaceTag, FixedVertexHandle,
+    OUTER_FACE, UndirectedEdgeTag, UndirectedVoronoiEdgeTag, VertexTag, VoronoiFaceTag,
 };
 use spade_dcel::operations::new;
+use std::alloc::Global;
 use std::test::Fail;
 
-#[test]
-fn room_is_counted(rt: HostRuntime) -> Result<(), Fail> {
-    let dcel: Mesh = new(rt.alloc())?;
-    for (vertices, edges, faces, is_room) in [
-        (4_294_967_296, 2_147_483_648, 4_294_967_295, true),
-        (4_294_967_297, 0, 0, false),
-        (0, 2_147_483_649, 0, false),
-        (0, 0, 4_294_967_296, false),
-        (usize::MAX, 0, 0, false),
-        (0, usize::MAX, 0, false),
-        (0, 0, usize::MAX, false),
-        (0, 0, 0, true),
-    ] {
-        assert_eq!(rt;
-            dcel.has_room(vertices, edges, faces),
-            is_room,
-            "{vertices} {edges} {faces}"
-        );
+/// Vertices, edges and faces, and whether an empty mesh has room for so many.
+const ROOM: [([usize; 3], bool); 8] = [
+    ([4_294_967_296, 2_147_483_648, 4_294_967_295], true),
+    ([4_294_967_297, 0, 0], false),
+    ([0, 2_147_483_649, 0], false),
+    ([0, 0, 4_294_967_296], false),
+    ([usize::MAX, 0, 0], false),
+    ([0, usize::MAX, 0], false),
+    ([0, 0, usize::MAX], false),
+    ([0, 0, 0], true),
+];
+
+fn has_room(dcel: &Mesh, [vertices, edges, faces]: [usize; 3]) -> bool {
+    dcel.has_room(vertices, edges, faces)
+}
+
+fn check_room(dcel: &Mesh) -> Result<(), Fail> {
+    for (asked, is_room) in ROOM {
+        let found = has_room(dcel, asked);
+        same(found, is_room, format_args!("room for {asked:?}"))?;
     }
     Ok(())
 }
 
 #[test]
-fn anchors_and_tests_answer(rt: HostRuntime) -> Result<(), Fail> {
-    let mut dcel: Mesh = new(rt.alloc())?;
-    assert_eq!(rt; dcel.face_adjacent_edge(OUTER_FACE), None);
-    for growth in [Append(7), Append(7), Append(7), SetUp(1, 0)] {
-        assert!(rt; grow(&mut dcel, rt.alloc(), growth, &rt));
+fn room_is_counted(rt: HostRuntime) -> Result<(), Fail> {
+    let dcel: Mesh = new(rt.alloc())?;
+    check_room(&dcel)
+}
+
+/// The anchor of a vertex, its number once it is borrowed, whether it ends a line, and whether it has no edge.
+type Asked = (Option<usize>, usize, bool, bool);
+
+/// The answers of the vertices where the first edge leads from vertex 1 to vertex 0, and vertex 2 stands beside it.
+const VERTICES: [Asked; 3] = [
+    (Some(1), 0, true, false),
+    (Some(0), 1, true, false),
+    (None, 2, false, true),
+];
+
+fn asked(dcel: &Mesh, index: usize) -> Result<Asked, Fail> {
+    require!(index < dcel.num_vertices());
+    let handle = FixedVertexHandle::new(index);
+    Ok((
+        dcel.vertex_out_edge(handle).map(|edge| edge.index()),
+        dcel.vertex(handle).index(),
+        dcel.is_line_end(handle),
+        dcel.is_unconnected(handle),
+    ))
+}
+
+/// Whether the outer face, vertex 3 and edge 1 are live.
+fn are_live(dcel: &Mesh) -> [bool; 3] {
+    [
+        dcel.is_live_face(OUTER_FACE),
+        dcel.is_live_vertex(vertex(3)),
+        dcel.is_live_edge(undirected_edge(1)),
+    ]
+}
+
+fn check_answers(dcel: &Mesh) -> Result<(), Fail> {
+    for (index, answers) in VERTICES.iter().enumerate() {
+        let found = asked(dcel, index)?;
+        same(found, *answers, format_args!("what vertex {index} answers"))?;
     }
-    for (index, anchor, is_end, is_unconnected) in [
-        (0, Some(half_edge(1)), true, false),
-        (1, Some(half_edge(0)), true, false),
-        (2, None, false, true),
-    ] {
-        let handle = vertex(index);
-        assert!(rt; handle.index() < dcel.num_vertices());
-        assert_eq!(rt; dcel.vertex_out_edge(handle), anchor, "vertex {index}");
-        assert_eq!(rt; dcel.vertex(handle).index(), handle.index());
-        assert_eq!(rt; dcel.is_line_end(handle), is_end, "vertex {index}");
-        assert_eq!(rt;
-            dcel.is_unconnected(handle),
-            is_unconnected,
-            "vertex {index}"
-        );
-    }
-    assert_eq!(rt; dcel.face_adjacent_edge(OUTER_FACE), Some(half_edge(0)));
-    assert!(rt; dcel.is_live_face(OUTER_FACE));
-    assert!(rt; !dcel.is_live_vertex(vertex(3)));
-    assert!(rt; !dcel.is_live_edge(FixedUndirectedEdgeHandle::new(1)));
     Ok(())
+}
+
+/// The anchor of the outer face in an empty mesh, where its word is empty.
+fn anchor_of_nothing(alloc: Global) -> Result<Option<usize>, Fail> {
+    let empty: Mesh = new(alloc)?;
+    adjacent_edge(&empty, 0)
+}
+
+fn check_anchors_and_tests(dcel: &Mesh) -> Result<(), Fail> {
+    check_answers(dcel)?;
+    let outer = adjacent_edge(dcel, 0)?;
+    same(outer, Some(0), "the anchor of the outer face")?;
+    same(are_live(dcel), [true, false, false], "what is live")
+}
+
+#[test]
+fn anchors_and_tests_answer(rt: HostRuntime) -> Result<(), Fail> {
+    let none = anchor_of_nothing(rt.alloc())?;
+    same(none, None, "the anchor of an empty word")?;
+    let dcel = grown(rt.alloc(), &[Append(7), Append(7), Append(7), SetUp(1, 0)])?;
+    check_anchors_and_tests(&dcel)
 }
 
 /// Calls; half edges of the mesh then, and numbers that are none; and of these the bridges, and those where a face can be closed.
@@ -98,56 +137,75 @@ const EDGES: [Edges; 3] = [
     ),
 ];
 
+/// That of these half edges those are bridges, and at those a face can be closed.
+fn check_edges(dcel: &Mesh, edges: &[u32], bridges: &[u32], corners: &[u32]) -> Result<(), Fail> {
+    for index in edges {
+        let edge = half_edge(*index);
+        let found = [dcel.is_bridge(edge), dcel.can_close_outside(edge)];
+        let wanted = [bridges.contains(index), corners.contains(index)];
+        same(
+            found,
+            wanted,
+            format_args!("whether half edge {index} is a bridge or a corner"),
+        )?;
+    }
+    Ok(())
+}
+
+fn check_row(alloc: Global, row: &Edges) -> Result<(), Fail> {
+    let (growths, edges, bridges, corners) = *row;
+    let dcel = grown(alloc, growths)?;
+    check_edges(&dcel, edges, bridges, corners)
+}
+
 #[test]
 fn edges_are_tested(rt: HostRuntime) -> Result<(), Fail> {
-    for (growths, edges, bridges, corners) in EDGES {
-        let dcel = grown(rt.alloc(), growths, &rt)?;
-        for index in edges {
-            let edge = half_edge(*index);
-            let is_bridge = bridges.contains(index);
-            let can_close = corners.contains(index);
-            assert_eq!(rt; dcel.is_bridge(edge), is_bridge, "half edge {index}");
-            assert_eq!(rt;
-                dcel.can_close_outside(edge),
-                can_close,
-                "half edge {index}"
-            );
-        }
+    for row in &EDGES {
+        check_row(rt.alloc(), row)?;
+    }
+    Ok(())
+}
+
+/// Vertices of a cut triangle, and the half edge that leads from one to the other.
+const BETWEEN: [(u32, u32, Option<usize>); 7] = [
+    (0, 1, Some(0)),
+    (1, 0, Some(1)),
+    (3, 1, Some(11)),
+    (1, 3, Some(10)),
+    (3, 3, None),
+    (3, 4, None),
+    (0, 4_294_967_295, None),
+];
+
+fn check_between(dcel: &Mesh) -> Result<(), Fail> {
+    for (from, to, edge) in BETWEEN {
+        let found = edge_between(dcel, from, to)?;
+        same(found, edge, format_args!("from {from} to {to}"))?;
     }
     Ok(())
 }
 
 #[test]
 fn edges_are_found_by_their_ends(rt: HostRuntime) -> Result<(), Fail> {
-    let dcel = cut_triangle(rt.alloc(), &rt)?;
-    for (from, to, edge) in [
-        (0, 1, Some(half_edge(0))),
-        (1, 0, Some(half_edge(1))),
-        (3, 1, Some(half_edge(11))),
-        (1, 3, Some(half_edge(10))),
-        (3, 3, None),
-        (3, 4, None),
-        (0, 4_294_967_295, None),
-    ] {
-        assert_eq!(rt;
-            edge_between(&dcel, from, to, &rt),
-            edge,
-            "from {from} to {to}"
-        );
-    }
-    Ok(())
+    let dcel = cut_triangle(rt.alloc())?;
+    check_between(&dcel)
+}
+
+/// How many elements of each kind there are: those of the mesh, and those of its dual.
+fn elements(dcel: &Mesh) -> [usize; 7] {
+    [
+        VertexTag::num_elements(dcel),
+        VoronoiFaceTag::num_elements(dcel),
+        DirectedEdgeTag::num_elements(dcel),
+        DirectedVoronoiEdgeTag::num_elements(dcel),
+        UndirectedEdgeTag::num_elements(dcel),
+        UndirectedVoronoiEdgeTag::num_elements(dcel),
+        FaceTag::num_elements(dcel),
+    ]
 }
 
 #[test]
 fn elements_are_counted(rt: HostRuntime) -> Result<(), Fail> {
-    let mut dcel: Mesh = new(rt.alloc())?;
-    let _ = append(&mut dcel, 7, &rt)?;
-    assert_eq!(rt; VertexTag::num_elements(&dcel), 1);
-    assert_eq!(rt; VoronoiFaceTag::num_elements(&dcel), 1);
-    assert_eq!(rt; DirectedEdgeTag::num_elements(&dcel), 0);
-    assert_eq!(rt; DirectedVoronoiEdgeTag::num_elements(&dcel), 0);
-    assert_eq!(rt; UndirectedEdgeTag::num_elements(&dcel), 0);
-    assert_eq!(rt; UndirectedVoronoiEdgeTag::num_elements(&dcel), 0);
-    assert_eq!(rt; FaceTag::num_elements(&dcel), 1);
-    Ok(())
+    let dcel = grown(rt.alloc(), &[Append(7)])?;
+    same(elements(&dcel), [1, 1, 0, 0, 0, 0, 1], "elements")
 }

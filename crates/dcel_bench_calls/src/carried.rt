@@ -1,171 +1,223 @@
 //! Tests of the Rust crate, under their names there.
 
-use crate::growths::Growth::{
+use dcel_bench::checks::{holds, same};
+use dcel_bench::growths::Growth::{
     Append, Close, PutBeside, SplitBothSides, SplitOnLine, SplitOneSide, Triangle,
 };
-use crate::growths::{CUT, FIRST_EDGE, Growth, LINE, TRIANGLE_AND_VERTEX, grow, grown, grown_on};
-use crate::meshes::{Mesh, assert_counts, edge_between, vertex};
+use dcel_bench::growths::{
+    CUT, FIRST_EDGE, Growth, LINE, TRIANGLE_AND_VERTEX, cut_triangle, grow_all, grown_on,
+};
+use dcel_bench::meshes::{Mesh, counts, edge_between, vertex};
+use dcel_bench::require;
 use spade_dcel::dcel::RemovalState;
-use spade_dcel::handles::FixedDirectedEdgeHandle;
+use spade_dcel::handles::{FixedDirectedEdgeHandle, FixedVertexHandle};
 use spade_dcel::operations::{
-    cleanup_isolated_vertex, isolate_vertex_and_fill_hole, swap_remove_vertex,
+    IsolateVertexResult, cleanup_isolated_vertex, isolate_vertex_and_fill_hole, swap_remove_vertex,
 };
 use std::alloc::Global;
-use std::process::Abort;
 use std::test::Fail;
 
-/// The mesh after these calls and then those. It is checked, and has so many vertices, half edges and faces.
-fn checked(
+/// That the mesh is sound, and has so many vertices, half edges and faces.
+fn check(dcel: &Mesh, wanted: [usize; 3]) -> Result<(), Fail> {
+    same(counts(dcel), wanted, "counts")?;
+    holds(dcel.sanity_check(), "a sound mesh")
+}
+
+/// That the mesh after these calls and then those is sound, and has so many vertices, half edges and faces.
+fn check_grown(
     alloc: Global,
     begun: &[Growth],
     growths: &[Growth],
-    [vertices, directed_edges, faces]: [usize; 3],
-    rt: &impl Abort,
-) -> Result<Mesh, Fail> {
-    let dcel = grown_on(alloc, begun, growths, rt)?;
-    assert_counts(&dcel, vertices, directed_edges, faces, rt);
-    assert!(rt; dcel.sanity_check());
-    Ok(dcel)
+    wanted: [usize; 3],
+) -> Result<(), Fail> {
+    let dcel = grown_on(alloc, begun, growths)?;
+    check(&dcel, wanted)
 }
 
 /// The number of the half edge that leads from one vertex to another.
-fn number_between(dcel: &Mesh, from: u32, to: u32, rt: &impl Abort) -> u32 {
-    edge_between(dcel, from, to, rt)
-        .expect(rt, "an edge joins them")
-        .index() as u32
+pub fn number_between(dcel: &Mesh, from: u32, to: u32) -> Result<u32, Fail> {
+    let Some(index) = edge_between(dcel, from, to)? else {
+        return Err(Fail::new(format_args!("no edge from {from} to {to}")));
+    };
+    require!(index <= 4_294_967_295);
+    Ok(index as u32)
+}
+
+/// The number of a half edge, whether it and its other half are the even one of the two, whether they are one, and whether the other half
+/// of that is the half edge.
+fn turned(index: usize) -> Result<(usize, [bool; 4]), Fail> {
+    require!(index < 10);
+    let handle = FixedDirectedEdgeHandle::new_normalized(index);
+    let rev = handle.rev();
+    let is_so = [
+        handle.is_normalized(),
+        rev.is_normalized(),
+        handle == rev,
+        handle == rev.rev(),
+    ];
+    Ok((handle.as_undirected().index(), is_so))
 }
 
 #[test]
-fn test_new_normalized_and_index_and_sym(rt: HostRuntime) {
+fn test_new_normalized_and_index_and_sym(_rt: HostRuntime) -> Result<(), Fail> {
     for index in 0..10 {
-        let handle = FixedDirectedEdgeHandle::new_normalized(index);
-        let rev = handle.rev();
-
-        assert_eq!(rt; handle.as_undirected().index(), index);
-        assert!(rt; handle.is_normalized());
-        assert!(rt; !rev.is_normalized());
-        assert_ne!(rt; handle, rev);
-        assert_eq!(rt; handle, rev.rev());
+        let wanted = (index, [true, false, false, true]);
+        same(
+            turned(index)?,
+            wanted,
+            format_args!("half edge of edge {index}"),
+        )?;
     }
+    Ok(())
 }
 
 #[test]
 fn test_create_triangle(rt: HostRuntime) -> Result<(), Fail> {
-    checked(rt.alloc(), &[Triangle(0, 1, 2)], &[], [3, 6, 2], &rt)?;
-    Ok(())
+    check_grown(rt.alloc(), &[Triangle(0, 1, 2)], &[], [3, 6, 2])
 }
 
 #[test]
 fn test_insert_into_triangle(rt: HostRuntime) -> Result<(), Fail> {
-    checked(rt.alloc(), &CUT, &[], [4, 12, 4], &rt)?;
-    Ok(())
+    check_grown(rt.alloc(), &CUT, &[], [4, 12, 4])
 }
 
 #[test]
 fn test_insert_first_and_second(rt: HostRuntime) -> Result<(), Fail> {
-    checked(rt.alloc(), &FIRST_EDGE, &[], [2, 2, 1], &rt)?;
-    Ok(())
+    check_grown(rt.alloc(), &FIRST_EDGE, &[], [2, 2, 1])
 }
 
 #[test]
 fn test_extend_line(rt: HostRuntime) -> Result<(), Fail> {
-    checked(rt.alloc(), &LINE[..5], &[], [3, 4, 1], &rt)?;
-    checked(rt.alloc(), &LINE, &[], [4, 6, 1], &rt)?;
-    Ok(())
+    check_grown(rt.alloc(), &LINE[..5], &[], [3, 4, 1])?;
+    check_grown(rt.alloc(), &LINE, &[], [4, 6, 1])
+}
+
+/// Splits one of the halves of a split edge, which it finds by its ends.
+fn split_again(dcel: &mut Mesh, alloc: Global) -> Result<(), Fail> {
+    same(edge_between(dcel, 0, 1)?, None, "between 0 and 1")?;
+    let second = edge_between(dcel, 1, 2)?;
+    holds(second.is_some(), "an edge from 1 to 2")?;
+    let edge = number_between(dcel, 0, 2)?;
+    grow_all(dcel, alloc, &[Append(3), SplitOnLine(edge, 3)])
+}
+
+fn check_split_again(dcel: &mut Mesh, alloc: Global) -> Result<(), Fail> {
+    check(dcel, [3, 4, 1])?;
+    split_again(dcel, alloc)?;
+    check(dcel, [4, 6, 1])
 }
 
 #[test]
 fn test_split_non_triangle_edge(rt: HostRuntime) -> Result<(), Fail> {
     let growths = [Append(2), SplitOnLine(0, 2)];
-    let mut dcel = checked(rt.alloc(), &FIRST_EDGE, &growths, [3, 4, 1], &rt)?;
-    assert!(rt; edge_between(&dcel, 0, 1, &rt).is_none());
-    assert!(rt; edge_between(&dcel, 1, 2, &rt).is_some());
-
-    let edge = number_between(&dcel, 0, 2, &rt);
-    for growth in [Append(3), SplitOnLine(edge, 3)] {
-        assert!(rt; grow(&mut dcel, rt.alloc(), growth, &rt));
-    }
-    assert_counts(&dcel, 4, 6, 1, &rt);
-    assert!(rt; dcel.sanity_check());
-    Ok(())
+    let mut dcel = grown_on(rt.alloc(), &FIRST_EDGE, &growths)?;
+    check_split_again(&mut dcel, rt.alloc())
 }
 
 #[test]
 fn test_create_single_face_between_edge_and_next(rt: HostRuntime) -> Result<(), Fail> {
     let growths = [Append(2), SplitOnLine(0, 2), Close(0)];
-    checked(rt.alloc(), &FIRST_EDGE, &growths, [3, 6, 2], &rt)?;
-    Ok(())
+    check_grown(rt.alloc(), &FIRST_EDGE, &growths, [3, 6, 2])
 }
 
 #[test]
 fn test_create_new_face_adjacent_to_edge(rt: HostRuntime) -> Result<(), Fail> {
     let growths = [PutBeside(0, 3)];
-    checked(rt.alloc(), &TRIANGLE_AND_VERTEX, &growths, [4, 10, 3], &rt)?;
+    check_grown(rt.alloc(), &TRIANGLE_AND_VERTEX, &growths, [4, 10, 3])
+}
+
+/// The half edge that comes after a live one.
+fn after(dcel: &Mesh, edge: FixedDirectedEdgeHandle) -> Result<FixedDirectedEdgeHandle, Fail> {
+    require!(edge.index() < dcel.num_directed_edges());
+    require!(dcel.is_live_edge(edge.as_undirected()));
+    Ok(dcel.directed_edge(edge).next().fix())
+}
+
+/// The border loop of a vertex inside triangles, walked from the last out edge back.
+fn border_of(
+    dcel: &Mesh,
+    center: FixedVertexHandle,
+    alloc: Global,
+) -> Result<Vec<FixedDirectedEdgeHandle>, Fail> {
+    require!(center.index() < dcel.num_vertices());
+    let mut border = Vec::new(alloc);
+    for out_edge in dcel.vertex(center).out_edges().rev() {
+        border.push(after(dcel, out_edge.fix())?)?;
+    }
+    Ok(border)
+}
+
+fn check_not_listed(dcel: &Mesh, opened: &IsolateVertexResult<Global>) -> Result<(), Fail> {
+    let is_listed = dcel.is_listed(opened);
+    holds(!is_listed, "nothing is listed once it is cleaned up")
+}
+
+/// Takes a vertex out: it is given up with its border loop, and the hole is filled and cleaned up.
+fn take_out(
+    dcel: &mut Mesh,
+    center: FixedVertexHandle,
+    border: Vec<FixedDirectedEdgeHandle>,
+) -> Result<(), Fail> {
+    require!(center.index() < dcel.num_vertices());
+    require!(dcel.removal_state() == RemovalState::Closed);
+    require!(dcel.is_border_loop(&border, center));
+    require!(dcel.has_room(0, border.len() - 3, border.len() - 2));
+    let mut opened = isolate_vertex_and_fill_hole(dcel, border, center)?;
+    require!(dcel.is_listed(&opened));
+    cleanup_isolated_vertex(dcel, &mut opened);
+    check_not_listed(dcel, &opened)?;
+    require!(dcel.removal_state() == RemovalState::Cleaned);
+    require!(!dcel.is_live_vertex(center));
+    swap_remove_vertex(dcel, center);
     Ok(())
 }
 
-/// Takes a vertex inside triangles out: it is given up with its border loop, which is walked from the last out edge back, and the hole
-/// is filled and cleaned up.
-fn remove(
+/// Takes a vertex inside triangles out: the mesh is then sound, and has so many vertices, half edges and faces.
+fn check_removed(
     dcel: &mut Mesh,
     index: u32,
-    counts: [usize; 3],
+    wanted: [usize; 3],
     alloc: Global,
-    rt: &impl Abort,
 ) -> Result<(), Fail> {
     let center = vertex(index);
-    assert!(rt; center.index() < dcel.num_vertices());
-    let mut border = Vec::new(alloc);
-    for out_edge in dcel.vertex(center).out_edges().rev() {
-        let handle = out_edge.fix();
-        assert!(rt; handle.index() < dcel.num_directed_edges());
-        assert!(rt; dcel.is_live_edge(handle.as_undirected()));
-        border.push(dcel.directed_edge(handle).next().fix())?;
-    }
-    assert_eq!(rt; dcel.removal_state(), RemovalState::Closed);
-    assert!(rt; dcel.is_border_loop(&border, center));
-    assert!(rt; dcel.has_room(0, border.len() - 3, border.len() - 2));
-    let mut opened = isolate_vertex_and_fill_hole(dcel, border, center)?;
-    assert!(rt; dcel.is_listed(&opened));
-    cleanup_isolated_vertex(dcel, &mut opened);
-    assert_eq!(rt; dcel.removal_state(), RemovalState::Cleaned);
-    assert!(rt; !dcel.is_live_vertex(center));
-    swap_remove_vertex(dcel, center);
-    let [vertices, directed_edges, faces] = counts;
-    assert_counts(dcel, vertices, directed_edges, faces, rt);
-    assert!(rt; dcel.sanity_check());
-    Ok(())
+    let border = border_of(dcel, center, alloc)?;
+    take_out(dcel, center, border)?;
+    check(dcel, wanted)
 }
 
 #[test]
 fn test_insert_into_and_remove_from_triangle(rt: HostRuntime) -> Result<(), Fail> {
-    let mut dcel = grown(rt.alloc(), &CUT, &rt)?;
-    remove(&mut dcel, 3, [3, 6, 2], rt.alloc(), &rt)
+    let mut dcel = cut_triangle(rt.alloc())?;
+    check_removed(&mut dcel, 3, [3, 6, 2], rt.alloc())
+}
+
+/// A cut triangle with vertex 4 in the middle of the edge from 0 to 3, which is found by its ends.
+fn split_inside(alloc: Global) -> Result<Mesh, Fail> {
+    let mut dcel = cut_triangle(alloc)?;
+    let edge = number_between(&dcel, 0, 3)?;
+    grow_all(&mut dcel, alloc, &[Append(4), SplitBothSides(edge, 4)])?;
+    Ok(dcel)
 }
 
 #[test]
 fn test_insert_into_and_remove_from_quad(rt: HostRuntime) -> Result<(), Fail> {
-    let mut dcel = grown_on(rt.alloc(), &CUT, &[Append(4)], &rt)?;
-    let edge = number_between(&dcel, 0, 3, &rt);
-    assert!(rt; grow(&mut dcel, rt.alloc(), SplitBothSides(edge, 4), &rt));
-    remove(&mut dcel, 4, [4, 12, 4], rt.alloc(), &rt)
+    let mut dcel = split_inside(rt.alloc())?;
+    check_removed(&mut dcel, 4, [4, 12, 4], rt.alloc())
 }
 
 #[test]
 fn test_half_edge_split(rt: HostRuntime) -> Result<(), Fail> {
     let growths = [SplitOneSide(0, 3)];
-    checked(rt.alloc(), &TRIANGLE_AND_VERTEX, &growths, [4, 10, 3], &rt)?;
-    Ok(())
+    check_grown(rt.alloc(), &TRIANGLE_AND_VERTEX, &growths, [4, 10, 3])
+}
+
+fn check_split(dcel: &Mesh) -> Result<(), Fail> {
+    same(edge_between(dcel, 0, 3)?, None, "between 0 and 3")?;
+    check(dcel, [5, 18, 6])
 }
 
 #[test]
 fn test_split(rt: HostRuntime) -> Result<(), Fail> {
-    let cut = grown(rt.alloc(), &CUT, &rt)?;
-    let growths = [
-        Append(4),
-        SplitBothSides(number_between(&cut, 0, 3, &rt), 4),
-    ];
-    let dcel = checked(rt.alloc(), &CUT, &growths, [5, 18, 6], &rt)?;
-    assert!(rt; edge_between(&dcel, 0, 3, &rt).is_none());
-    Ok(())
+    let dcel = split_inside(rt.alloc())?;
+    check_split(&dcel)
 }

@@ -1,28 +1,33 @@
 //! Commands and the refusals that they get.
 
-use crate::growths::Growth::{
+use dcel_bench::checks::{holds, same};
+use dcel_bench::commands::{carry_out, check_refused};
+use dcel_bench::growths::Growth::{
     Append, Close, Extend, Insert, PutBeside, SetUp, SplitBothSides, SplitOnLine, SplitOneSide,
     Triangle,
 };
-use crate::growths::{
-    FIRST_EDGE, Growth, LINE, TRIANGLE_AND_VERTEX, assert_refused, carry_out, grown_on,
-};
-use crate::meshes::{Mesh, NO_LIMIT, assert_counts};
+use dcel_bench::growths::{FIRST_EDGE, Growth, LINE, TRIANGLE_AND_VERTEX, grown_on};
+use dcel_bench::meshes::{Mesh, NO_LIMIT, counts};
 use dcel_commands::commands::Refusal::{
     EdgesStand, NoRoom, NoSuchEdge, NoSuchFace, NoSuchVertex, NotBridge, NotLineEnd, NotOuter,
     NotTriangle, SameVertex, VertexInUse, WouldLoop,
 };
 use dcel_commands::commands::{MAX_LIMIT, Refusal};
-use std::process::Abort;
+use std::alloc::Global;
 use std::test::Fail;
 
-/// Calls that make a mesh, and more of them; commands that it refuses, by the limit and why; and commands of which each is carried out
-/// on such a mesh, with the limit, and how many vertices, half edges and faces there are then.
+/// A limit, why commands are refused under it, and these commands.
+type Refused = (usize, Refusal, &'static [Growth]);
+
+/// A command, a limit that lets it be carried out, and how many vertices, half edges and faces there are then.
+type CarriedOut = (Growth, usize, [usize; 3]);
+
+/// Calls that make a mesh, and more of them; commands that it refuses; and commands of which each is carried out on such a mesh.
 type Row = (
     &'static [Growth],
     &'static [Growth],
-    &'static [(usize, Refusal, &'static [Growth])],
-    &'static [(Growth, usize, (usize, usize, usize))],
+    &'static [Refused],
+    &'static [CarriedOut],
 );
 
 const ROWS: [Row; 7] = [
@@ -30,7 +35,7 @@ const ROWS: [Row; 7] = [
         &[],
         &[],
         &[(0, NoRoom, &[Append(-7)])],
-        &[(Append(-7), 1, (1, 0, 1))],
+        &[(Append(-7), 1, [1, 0, 1])],
     ),
     (
         &[Append(10), Append(11)],
@@ -40,7 +45,7 @@ const ROWS: [Row; 7] = [
             (NO_LIMIT, SameVertex, &[SetUp(0, 0)]),
             (1, NoRoom, &[SetUp(0, 1)]),
         ],
-        &[(SetUp(0, 1), 2, (2, 2, 1))],
+        &[(SetUp(0, 1), 2, [2, 2, 1])],
     ),
     (
         &FIRST_EDGE,
@@ -50,7 +55,7 @@ const ROWS: [Row; 7] = [
             (0, NoSuchEdge, &[Close(2)]),
             (0, WouldLoop, &[Close(0), Close(1)]),
         ],
-        &[(Append(2), 3, (3, 2, 1))],
+        &[(Append(2), 3, [3, 2, 1])],
     ),
     // The line 2, 0, 1, 3, and vertex 4 beside it. The outer word is 0, 5, 4, 1, 3, 2.
     (
@@ -79,9 +84,9 @@ const ROWS: [Row; 7] = [
             (4, NoRoom, &[Extend(2, 4), SplitOnLine(0, 4)]),
         ],
         &[
-            (Triangle(7, -8, 9), 3, (3, 6, 2)),
-            (Extend(2, 4), 5, (5, 8, 1)),
-            (SplitOnLine(0, 4), 5, (5, 8, 1)),
+            (Triangle(7, -8, 9), 3, [3, 6, 2]),
+            (Extend(2, 4), 5, [5, 8, 1]),
+            (SplitOnLine(0, 4), 5, [5, 8, 1]),
         ],
     ),
     (
@@ -129,11 +134,11 @@ const ROWS: [Row; 7] = [
             (5, NoRoom, &[Insert(3, 1), SplitBothSides(0, 3)]),
         ],
         &[
-            (Insert(3, 1), 6, (4, 12, 4)),
-            (Close(0), 4, (4, 8, 3)),
-            (PutBeside(1, 3), 5, (4, 10, 3)),
-            (SplitOneSide(0, 3), 5, (4, 10, 3)),
-            (SplitBothSides(0, 3), 6, (4, 12, 4)),
+            (Insert(3, 1), 6, [4, 12, 4]),
+            (Close(0), 4, [4, 8, 3]),
+            (PutBeside(1, 3), 5, [4, 10, 3]),
+            (SplitOneSide(0, 3), 5, [4, 10, 3]),
+            (SplitBothSides(0, 3), 6, [4, 12, 4]),
         ],
     ),
     // The outer word is 4, 7, between two edges that join 0 and 2.
@@ -144,7 +149,7 @@ const ROWS: [Row; 7] = [
             (0, WouldLoop, &[Close(4), Close(7)]),
             (0, NotOuter, &[Close(6)]),
         ],
-        &[(Append(3), 4, (4, 8, 3))],
+        &[(Append(3), 4, [4, 8, 3])],
     ),
     // The words are 0, 7, 4 and 1, 5, 3, 9 and 2, 6, 8.
     (
@@ -162,35 +167,59 @@ const ROWS: [Row; 7] = [
             (7, NoRoom, &[SplitBothSides(7, 4)]),
         ],
         &[
-            (SplitOneSide(4, 4), 7, (5, 14, 4)),
-            (SplitBothSides(7, 4), 8, (5, 16, 5)),
+            (SplitOneSide(4, 4), 7, [5, 14, 4]),
+            (SplitBothSides(7, 4), 8, [5, 16, 5]),
         ],
     ),
 ];
 
 #[test]
-fn the_greatest_limit_is_that_of_the_program(rt: HostRuntime) {
-    assert_eq!(rt; MAX_LIMIT, NO_LIMIT);
+fn the_greatest_limit_is_that_of_the_program(_rt: HostRuntime) -> Result<(), Fail> {
+    same(MAX_LIMIT, NO_LIMIT, "the greatest limit")
 }
 
 /// That each of these commands is refused so.
-fn assert_all_refused(dcel: &mut Mesh, refused: &[(usize, Refusal, &[Growth])], rt: &impl Abort) {
-    for (limit, why, growths) in refused {
-        for growth in *growths {
-            assert_refused(dcel, *growth, *limit, *why, rt);
-        }
+fn check_each_refused(dcel: &mut Mesh, refused: &Refused) -> Result<(), Fail> {
+    let (limit, why, growths) = *refused;
+    for growth in growths {
+        check_refused(dcel, *growth, limit, why)?;
     }
+    Ok(())
+}
+
+/// That the mesh refuses what it is to refuse, and carries the command out then.
+fn check_command(
+    dcel: &mut Mesh,
+    refused: &[Refused],
+    carried_out: &CarriedOut,
+) -> Result<(), Fail> {
+    let (growth, limit, wanted) = *carried_out;
+    for commands in refused {
+        check_each_refused(dcel, commands)?;
+    }
+    let has_memory = carry_out(dcel, growth, limit)?;
+    holds(has_memory, format_args!("no memory for {growth:?}"))?;
+    same(
+        counts(dcel),
+        wanted,
+        format_args!("counts after {growth:?}"),
+    )
+}
+
+/// That each command of a row is carried out on a mesh that has refused what it is to refuse.
+fn check_row(alloc: Global, row: &Row) -> Result<(), Fail> {
+    let (begun, growths, refused, carried_out) = *row;
+    for command in carried_out {
+        let mut dcel = grown_on(alloc, begun, growths)?;
+        check_command(&mut dcel, refused, command)?;
+    }
+    Ok(())
 }
 
 #[test]
 fn commands_are_refused(rt: HostRuntime) -> Result<(), Fail> {
-    for (begun, growths, refused, carried_out) in ROWS {
-        for (growth, enough, (vertices, directed_edges, faces)) in carried_out {
-            let mut dcel = grown_on(rt.alloc(), begun, growths, &rt)?;
-            assert_all_refused(&mut dcel, refused, &rt);
-            assert!(rt; carry_out(&mut dcel, *growth, *enough, &rt));
-            assert_counts(&dcel, *vertices, *directed_edges, *faces, &rt);
-        }
+    for row in &ROWS {
+        check_row(rt.alloc(), row)?;
     }
     Ok(())
 }

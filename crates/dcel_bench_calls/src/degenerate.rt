@@ -1,18 +1,18 @@
 //! Vertices that are removed from degenerate meshes: one vertex, and paths.
 
-use crate::anchors::assert_anchors;
-use crate::growths::Growth::{Append, Extend, SetUp};
-use crate::growths::{FIRST_EDGE, Growth, LINE, SPLIT_EDGE, grow, grown};
-use crate::meshes::{Links, Mesh, assert_counts, assert_links, vertex};
-use crate::refusing::Refusing;
-use spade_dcel::handles::OUTER_FACE;
-use spade_dcel::operations::{new, remove_when_degenerate};
+use crate::anchors::check_anchors;
+use crate::links::check_sound;
+use dcel_bench::checks::{holds, same};
+use dcel_bench::growths::Growth::{Append, Extend, SetUp};
+use dcel_bench::growths::{CUT, FIRST_EDGE, Growth, LINE, SPLIT_EDGE, grown};
+use dcel_bench::meshes::{Links, Mesh, adjacent_edge, counts, out_edge, vertex};
+use dcel_bench::require;
+use spade_dcel::operations::remove_when_degenerate;
 use std::alloc::{Allocator, Global};
-use std::process::Abort;
 use std::test::Fail;
 
 /// A vertex's datum, and the number that the vertex had which gets its number.
-type Removed = (i64, Option<usize>);
+pub type Removed = (i64, Option<usize>);
 
 /// Calls that make a path, a vertex of it that is removed, and the answer; then the links that are left, the anchors of the vertices, and that
 /// of the outer face.
@@ -98,60 +98,91 @@ const ROWS: [Row; 6] = [
 ];
 
 /// Removes a vertex.
-fn remove<A: Allocator>(dcel: &mut Mesh<A>, index: u32, rt: &impl Abort) -> Removed {
+pub fn remove<A: Allocator>(dcel: &mut Mesh<A>, index: u32) -> Result<Removed, Fail> {
     let handle = vertex(index);
-    assert!(rt; dcel.can_remove_degenerate(handle));
+    require!(dcel.can_remove_degenerate(handle));
     let removed = remove_when_degenerate(dcel, handle);
     let moved = removed.swapped_in_vertex.map(|old| old.index());
-    (removed.removed_vertex, moved)
+    Ok((removed.removed_vertex, moved))
+}
+
+/// That the vertex of the row is removed as it says.
+fn check_removed(dcel: &mut Mesh, row: &Row) -> Result<(), Fail> {
+    let (_, index, answer, links, out_edges, adjacent_edges) = *row;
+    let found = remove(dcel, index)?;
+    same(found, answer, format_args!("vertex {index}"))?;
+    check_sound(dcel, links)?;
+    check_anchors(dcel, out_edges, adjacent_edges)
+}
+
+fn check_row(alloc: Global, row: &Row) -> Result<(), Fail> {
+    let mut dcel = grown(alloc, row.0)?;
+    check_removed(&mut dcel, row)
 }
 
 #[test]
 fn vertices_of_paths_are_removed(rt: HostRuntime) -> Result<(), Fail> {
-    for (growths, removed, answer, (words, origins), out_edges, adjacent_edges) in ROWS {
-        let mut dcel = grown(rt.alloc(), growths, &rt)?;
-        assert_eq!(rt; remove(&mut dcel, removed, &rt), answer);
-        assert_links(&dcel, words, origins, &rt);
-        assert_anchors(&dcel, out_edges, adjacent_edges, &rt);
-        assert!(rt; dcel.sanity_check());
+    for row in &ROWS {
+        check_row(rt.alloc(), row)?;
     }
     Ok(())
 }
 
 /// That one vertex without an edge is left, and the outer face.
-fn assert_alone(dcel: &Mesh, rt: &impl Abort) {
-    assert_counts(dcel, 1, 0, 1, rt);
-    let left = vertex(0);
-    assert!(rt; left.index() < dcel.num_vertices() && dcel.num_faces() > 0);
-    assert_eq!(rt; dcel.vertex_out_edge(left), None);
-    assert_eq!(rt; dcel.face_adjacent_edge(OUTER_FACE), None);
-    assert!(rt; !dcel.can_remove_degenerate(vertex(1)));
+fn check_alone(dcel: &Mesh) -> Result<(), Fail> {
+    same(counts(dcel), [1, 0, 1], "counts of one vertex")?;
+    same(out_edge(dcel, 0)?, None, "the anchor of the vertex")?;
+    same(
+        adjacent_edge(dcel, 0)?,
+        None,
+        "the anchor of the outer face",
+    )?;
+    holds(!dcel.can_remove_degenerate(vertex(1)), "no vertex 1")
+}
+
+/// That the last two vertices are removed with these answers.
+fn check_both_removed(
+    dcel: &mut Mesh,
+    index: u32,
+    [first, last]: [Removed; 2],
+) -> Result<(), Fail> {
+    let found = remove(dcel, index)?;
+    same(found, first, format_args!("vertex {index}"))?;
+    check_alone(dcel)?;
+    let found = remove(dcel, 0)?;
+    same(found, last, "the last vertex")?;
+    same(counts(dcel), [0, 0, 1], "counts of no vertex")?;
+    holds(!dcel.can_remove_degenerate(vertex(0)), "no vertex 0")
+}
+
+fn check_pair(alloc: Global, index: u32, answers: [Removed; 2]) -> Result<(), Fail> {
+    let mut dcel = grown(alloc, &FIRST_EDGE)?;
+    check_both_removed(&mut dcel, index, answers)
 }
 
 #[test]
 fn the_last_vertices_are_removed(rt: HostRuntime) -> Result<(), Fail> {
-    for (first, answer, left) in [(0, (0, Some(1)), 1), (1, (1, None), 0)] {
-        let mut dcel = grown(rt.alloc(), &FIRST_EDGE, &rt)?;
-        assert_eq!(rt; remove(&mut dcel, first, &rt), answer);
-        assert_alone(&dcel, &rt);
-        assert_eq!(rt; remove(&mut dcel, 0, &rt), (left, None));
-        assert_counts(&dcel, 0, 0, 1, &rt);
-        assert!(rt; !dcel.can_remove_degenerate(vertex(0)));
-    }
-    Ok(())
+    check_pair(rt.alloc(), 0, [(0, Some(1)), (1, None)])?;
+    check_pair(rt.alloc(), 1, [(1, None), (0, None)])
+}
+
+/// Calls, a vertex of the mesh then or a number that is none, and whether it can be removed.
+const REMOVABLE: [(&[Growth], u32, bool); 3] = [
+    (&CUT, 0, false),
+    (&LINE, 0, true),
+    (&LINE, 9, false),
+];
+
+fn can_remove(alloc: Global, growths: &[Growth], index: u32) -> Result<bool, Fail> {
+    let dcel = grown(alloc, growths)?;
+    Ok(dcel.can_remove_degenerate(vertex(index)))
 }
 
 #[test]
-fn removals_take_no_memory(rt: HostRuntime) -> Result<(), Fail> {
-    let heap = Refusing::new(rt.alloc());
-    let mut dcel: Mesh<&Refusing<Global>> = new(&heap)?;
-    for growth in LINE {
-        assert!(rt; grow(&mut dcel, &heap, growth, &rt));
+fn vertices_of_paths_can_be_removed(rt: HostRuntime) -> Result<(), Fail> {
+    for (growths, index, can) in REMOVABLE {
+        let found = can_remove(rt.alloc(), growths, index)?;
+        same(found, can, format_args!("vertex {index} of {growths:?}"))?;
     }
-    heap.refuse_from(0);
-    for answer in [(0, Some(3)), (3, Some(2)), (2, Some(1)), (1, None)] {
-        assert_eq!(rt; remove(&mut dcel, 0, &rt), answer);
-    }
-    assert_counts(&dcel, 0, 0, 1, &rt);
     Ok(())
 }

@@ -1,17 +1,17 @@
 //! Edges turned between two triangles.
 
-use crate::anchors::assert_anchors;
-use crate::growths::Growth::{Append, PutBeside, Triangle};
-use crate::growths::{CUT, Growth, LINE, cut_triangle, grow, grown};
-use crate::meshes::{CUT_TRIANGLE, Links, Mesh, assert_links, edge_between, flip, undirected_edge};
-use crate::refusing::Refusing;
-use spade_dcel::operations::{new, new_triangle};
+use crate::anchors::check_anchors;
+use crate::carried::number_between;
+use crate::links::check_sound;
+use dcel_bench::checks::{holds, same};
+use dcel_bench::growths::Growth::{Append, PutBeside, Triangle};
+use dcel_bench::growths::{CUT, Growth, LINE, cut_triangle, grown};
+use dcel_bench::meshes::{CUT_TRIANGLE, Links, Mesh, edge_between, flip, undirected_edge};
 use std::alloc::Global;
-use std::process::Abort;
 use std::test::Fail;
 
 /// The links of a cut triangle whose edge 3 was flipped once.
-const FLIPPED_ONCE: Links = (
+pub const FLIPPED_ONCE: Links = (
     &[&[0, 2, 4], &[6, 8, 11], &[1, 5, 7], &[3, 10, 9]],
     &[0, 1, 1, 2, 2, 0, 1, 2, 2, 3, 1, 3],
 );
@@ -34,105 +34,136 @@ const FLIPPED_OUTSIDE: Links = (
     &[2, 3, 1, 2, 2, 0, 0, 3, 2, 3, 1, 3],
 );
 
-#[test]
-fn four_flips_go_round(rt: HostRuntime) -> Result<(), Fail> {
-    let mut dcel = cut_triangle(rt.alloc(), &rt)?;
-    for (words, origins) in [FLIPPED_ONCE, FLIPPED_TWICE, FLIPPED_THRICE, CUT_TRIANGLE] {
-        flip(&mut dcel, undirected_edge(3), &rt);
-        assert_links(&dcel, words, origins, &rt);
-        assert!(rt; dcel.sanity_check());
+/// Flips these edges, one after another.
+fn flip_all(dcel: &mut Mesh, edges: &[u32]) -> Result<(), Fail> {
+    for edge in edges {
+        flip(dcel, *edge)?;
     }
     Ok(())
 }
 
-#[test]
-fn test_flip(rt: HostRuntime) -> Result<(), Fail> {
-    let mut dcel = cut_triangle(rt.alloc(), &rt)?;
-    let edge = edge_between(&dcel, 0, 3, &rt).expect(&rt, "no edge from 0 to 3");
-    flip(&mut dcel, edge.as_undirected(), &rt);
-    assert!(rt; dcel.sanity_check());
-    assert!(rt; edge_between(&dcel, 0, 3, &rt).is_none());
-    Ok(())
+/// Edges of a cut triangle that are flipped one after another, and the links then. Four flips of an edge go round.
+const LINKS: [(&[u32], Links); 5] = [
+    (&[3], FLIPPED_ONCE),
+    (&[3, 3], FLIPPED_TWICE),
+    (&[3, 3, 3], FLIPPED_THRICE),
+    (&[3, 3, 3, 3], CUT_TRIANGLE),
+    (&[0], FLIPPED_OUTSIDE),
+];
+
+fn check_flips(alloc: Global, edges: &[u32], links: Links) -> Result<(), Fail> {
+    let mut dcel = cut_triangle(alloc)?;
+    flip_all(&mut dcel, edges)?;
+    check_sound(&dcel, links)
 }
 
 #[test]
-fn an_edge_of_the_outer_face_is_flipped(rt: HostRuntime) -> Result<(), Fail> {
-    let mut dcel = cut_triangle(rt.alloc(), &rt)?;
-    flip(&mut dcel, undirected_edge(0), &rt);
-    assert_links(&dcel, FLIPPED_OUTSIDE.0, FLIPPED_OUTSIDE.1, &rt);
-    assert_anchors(&dcel, &[6, 2, 4, 7], &[0, 1, 5, 3], &rt);
-    assert!(rt; dcel.sanity_check());
+fn edges_are_flipped(rt: HostRuntime) -> Result<(), Fail> {
+    for (edges, links) in LINKS {
+        check_flips(rt.alloc(), edges, links)?;
+    }
     Ok(())
+}
+
+/// That the anchors of the vertices and of the faces are these once an edge of a cut triangle is flipped.
+fn check_moved(
+    alloc: Global,
+    edge: u32,
+    out_edges: &[u32],
+    adjacent_edges: &[u32],
+) -> Result<(), Fail> {
+    let mut dcel = cut_triangle(alloc)?;
+    flip(&mut dcel, edge)?;
+    check_anchors(&dcel, out_edges, adjacent_edges)
 }
 
 #[test]
 fn anchors_move_on(rt: HostRuntime) -> Result<(), Fail> {
-    let mut dcel = cut_triangle(rt.alloc(), &rt)?;
-    flip(&mut dcel, undirected_edge(3), &rt);
-    assert_anchors(&dcel, &[5, 2, 4, 11], &[0, 6, 7, 3], &rt);
-    Ok(())
+    check_moved(rt.alloc(), 3, &[5, 2, 4, 11], &[0, 6, 7, 3])?;
+    check_moved(rt.alloc(), 0, &[6, 2, 4, 7], &[0, 1, 5, 3])
+}
+
+/// Flips the edge of two vertices, which it then joins no longer.
+fn check_flip(dcel: &mut Mesh) -> Result<(), Fail> {
+    let edge = number_between(dcel, 0, 3)?;
+    flip(dcel, edge / 2)?;
+    holds(dcel.sanity_check(), "a sound mesh")?;
+    same(edge_between(dcel, 0, 3)?, None, "between 0 and 3")
 }
 
 #[test]
-fn a_flip_takes_no_memory(rt: HostRuntime) -> Result<(), Fail> {
-    let memory = Refusing::new(rt.alloc());
-    let mut dcel = new(&memory)?;
-    for growth in CUT {
-        assert!(rt; grow(&mut dcel, &memory, growth, &rt));
+fn test_flip(rt: HostRuntime) -> Result<(), Fail> {
+    let mut dcel = cut_triangle(rt.alloc())?;
+    check_flip(&mut dcel)
+}
+
+/// Calls and then flips, and edges of which it is said whether they can be flipped then.
+type Flippable = (&'static [Growth], &'static [u32], &'static [(u32, bool)]);
+
+const FLIPPABLE: [Flippable; 5] = [
+    // Both corners opposite an edge are the third vertex.
+    (
+        &[Triangle(0, 1, 2)],
+        &[],
+        &[(0, false), (1, false), (2, false), (3, false)],
+    ),
+    (
+        &CUT,
+        &[],
+        &[
+            (0, true),
+            (1, true),
+            (2, true),
+            (3, true),
+            (4, true),
+            (5, true),
+            (6, false),
+            (2_147_483_648, false),
+            (4_294_967_295, false),
+        ],
+    ),
+    // Vertices 0 and 3 have two edges each then, and on both sides of these the opposite corner is one vertex.
+    (
+        &CUT,
+        &[3],
+        &[
+            (0, false),
+            (1, true),
+            (2, false),
+            (3, true),
+            (4, false),
+            (5, false),
+        ],
+    ),
+    (&LINE, &[], &[(0, false), (1, false), (2, false)]),
+    // The outer word has four half edges.
+    (
+        &[Triangle(0, 1, 2), Append(3), PutBeside(0, 3)],
+        &[],
+        &[(0, true), (1, false), (2, false), (3, false), (4, false)],
+    ),
+];
+
+/// That of these edges those can be flipped of which it is said.
+fn check_flippable(dcel: &Mesh, edges: &[(u32, bool)]) -> Result<(), Fail> {
+    for (edge, is_flippable) in edges {
+        let found = dcel.can_flip(undirected_edge(*edge));
+        same(found, *is_flippable, format_args!("edge {edge}"))?;
     }
-    memory.refuse_from(0);
-    flip(&mut dcel, undirected_edge(3), &rt);
-    assert_links(&dcel, FLIPPED_ONCE.0, FLIPPED_ONCE.1, &rt);
     Ok(())
 }
 
-/// That of these edges those can be flipped of which it is said.
-fn assert_flippable(dcel: &Mesh, edges: &[(u32, bool)], rt: &impl Abort) {
-    for (edge, can) in edges {
-        assert_eq!(rt; dcel.can_flip(undirected_edge(*edge)), *can, "edge {edge}");
-    }
+fn check_row(alloc: Global, row: &Flippable) -> Result<(), Fail> {
+    let (growths, flips, edges) = *row;
+    let mut dcel = grown(alloc, growths)?;
+    flip_all(&mut dcel, flips)?;
+    check_flippable(&dcel, edges)
 }
 
 #[test]
 fn some_edges_can_be_flipped(rt: HostRuntime) -> Result<(), Fail> {
-    // Both corners opposite an edge are the third vertex.
-    let alone: Mesh = new_triangle(rt.alloc(), (0, 1, 2))?;
-    assert_flippable(
-        &alone,
-        &[(0, false), (1, false), (2, false), (3, false)],
-        &rt,
-    );
-
-    let outside = [(6, false), (2_147_483_648, false), (u32::MAX, false)];
-    let mut cut = cut_triangle(rt.alloc(), &rt)?;
-    for edge in 0..6 {
-        assert_flippable(&cut, &[(edge, true)], &rt);
+    for row in &FLIPPABLE {
+        check_row(rt.alloc(), row)?;
     }
-    assert_flippable(&cut, &outside, &rt);
-
-    // Vertices 0 and 3 have two edges each then, and on both sides of these the opposite corner is one vertex.
-    flip(&mut cut, undirected_edge(3), &rt);
-    let left = [
-        (0, false),
-        (1, true),
-        (2, false),
-        (3, true),
-        (4, false),
-        (5, false),
-    ];
-    assert_flippable(&cut, &left, &rt);
-    Ok(())
-}
-
-#[test]
-fn edges_of_longer_words_stay(rt: HostRuntime) -> Result<(), Fail> {
-    let bridges = grown(rt.alloc(), &LINE, &rt)?;
-    assert_flippable(&bridges, &[(0, false), (1, false), (2, false)], &rt);
-
-    // The outer word has four half edges.
-    let growths: [Growth; 3] = [Triangle(0, 1, 2), Append(3), PutBeside(0, 3)];
-    let four = grown(rt.alloc(), &growths, &rt)?;
-    let edges = [(0, true), (1, false), (2, false), (3, false), (4, false)];
-    assert_flippable(&four, &edges, &rt);
     Ok(())
 }

@@ -5,7 +5,8 @@ use dcel_bench::growths::Growth::{
     Append, Close, Extend, PutBeside, SetUp, SplitBothSides, SplitOneSide, Triangle,
 };
 use dcel_bench::growths::{CUT, Growth, LINE, grown};
-use dcel_bench::meshes::{CUT_TRIANGLE, Links, check_links};
+use dcel_bench::meshes::{CUT_TRIANGLE, Links, Mesh, check_links};
+use std::alloc::Global;
 use std::test::Fail;
 
 /// Calls, and then the number of vertices, the words of the faces, and the origins of the half edges. Each mesh is checked.
@@ -71,13 +72,23 @@ const ROWS: [Row; 8] = [
     ),
 ];
 
+/// That these are the links of the mesh, which is sound.
+pub fn check_sound(dcel: &Mesh, (words, origins): Links) -> Result<(), Fail> {
+    check_links(dcel, words, origins)?;
+    holds(dcel.sanity_check(), "a sound mesh")
+}
+
+fn check_row(alloc: Global, row: &Row) -> Result<(), Fail> {
+    let (growths, vertices, links) = *row;
+    let dcel = grown(alloc, growths)?;
+    same(dcel.num_vertices(), vertices, "vertices")?;
+    check_sound(&dcel, links)
+}
+
 #[test]
 fn links_are_left(rt: HostRuntime) -> Result<(), Fail> {
-    for (growths, vertices, (words, origins)) in ROWS {
-        let dcel = grown(rt.alloc(), growths)?;
-        same(dcel.num_vertices(), vertices, "vertices")?;
-        check_links(&dcel, words, origins)?;
-        holds(dcel.sanity_check(), "a sound mesh")?;
+    for row in &ROWS {
+        check_row(rt.alloc(), row)?;
     }
     Ok(())
 }

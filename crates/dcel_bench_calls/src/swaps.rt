@@ -1,112 +1,172 @@
 //! Vertices that are swapped.
 
-use crate::growths::Growth::Append;
-use crate::growths::{FIRST_EDGE, TRIANGLE_AND_VERTEX, cut_triangle, grown};
-use crate::meshes::{CUT_TRIANGLE, Links, Mesh, assert_links, half_edge, swap, vertex};
-use std::process::Abort;
+use dcel_bench::checks::same;
+use dcel_bench::growths::Growth::Append;
+use dcel_bench::growths::{CUT, FIRST_EDGE, Growth, TRIANGLE_AND_VERTEX, grown};
+use dcel_bench::meshes::{CUT_TRIANGLE, Links, Mesh, check_links, swap, vertex};
+use dcel_bench::require;
+use std::alloc::Global;
 use std::test::Fail;
 
-/// A vertex with its anchor and its datum.
-type Vertex = (u32, Option<u32>, i64);
+/// The anchor of a vertex, and its datum.
+type Vertex = (Option<usize>, i64);
 
-/// The links of a triangle whose half edges start where they do once the vertices 0 and 3 are swapped.
-const FROM_3: Links = (&[&[0, 2, 4], &[1, 5, 3]], &[3, 1, 1, 2, 2, 3]);
+/// Two vertices that are swapped, and the numbers that the vertices of the mesh have then.
+type Swap = (u32, u32, &'static [u32]);
 
-/// That vertices have these anchors and data.
-fn assert_vertices(dcel: &Mesh, vertices: &[Vertex], rt: &impl Abort) {
-    for (index, anchor, datum) in vertices {
-        let handle = vertex(*index);
-        assert!(rt; handle.index() < dcel.num_vertices());
-        let anchor = match anchor {
-            Some(edge) => Some(half_edge(*edge)),
-            None => None,
-        };
-        assert_eq!(rt; dcel.vertex_out_edge(handle), anchor, "anchor of {index}");
-        assert_eq!(rt; *dcel.vertex_data(handle), *datum, "datum of {index}");
-    }
+/// Calls that make a mesh, its links, its vertices, and whether it is sound; and swaps one after another.
+#[derive(Clone, Copy)]
+struct Row {
+    growths: &'static [Growth],
+    links: Links,
+    vertices: &'static [Vertex],
+    is_sound: bool,
+    swaps: &'static [Swap],
 }
 
-/// That the mesh is a cut triangle whose vertices 0, 1, 2 and 3 have these numbers.
-fn assert_cut_triangle(dcel: &Mesh, numbers: [u32; 4], rt: &impl Abort) {
-    let (words, old_origins) = CUT_TRIANGLE;
-    let mut origins = [0; 12];
-    for (place, from) in old_origins.iter().enumerate() {
-        assert!(rt; place < origins.len() && (*from as usize) < numbers.len());
-        origins[place] = numbers[*from as usize];
+const CUT_VERTICES: [Vertex; 4] = [(Some(0), 0), (Some(2), 1), (Some(4), 2), (Some(7), 3)];
+
+/// The links of a triangle, and its vertices with one beside it.
+const TRIANGLE: Links = (&[&[0, 2, 4], &[1, 5, 3]], &[0, 1, 1, 2, 2, 0]);
+
+const TRIANGLE_VERTICES: [Vertex; 4] = [(Some(0), 0), (Some(2), 1), (Some(4), 2), (None, 3)];
+
+const ROWS: [Row; 6] = [
+    Row {
+        growths: &CUT,
+        links: CUT_TRIANGLE,
+        vertices: &CUT_VERTICES,
+        is_sound: true,
+        swaps: &[
+            (0, 1, &[1, 0, 2, 3]),
+            (0, 2, &[1, 2, 0, 3]),
+            (1, 2, &[2, 1, 0, 3]),
+            (3, 2, &[3, 1, 0, 2]),
+            (3, 0, &[0, 1, 3, 2]),
+            (0, 0, &[0, 1, 3, 2]),
+            (1, 1, &[0, 1, 3, 2]),
+        ],
+    },
+    // Two swaps are none.
+    Row {
+        growths: &CUT,
+        links: CUT_TRIANGLE,
+        vertices: &CUT_VERTICES,
+        is_sound: true,
+        swaps: &[
+            (0, 1, &[1, 0, 2, 3]),
+            (0, 1, &[0, 1, 2, 3]),
+            (1, 0, &[1, 0, 2, 3]),
+            (1, 0, &[0, 1, 2, 3]),
+            (2, 3, &[0, 1, 3, 2]),
+            (2, 3, &[0, 1, 2, 3]),
+            (3, 0, &[3, 1, 2, 0]),
+            (3, 0, &[0, 1, 2, 3]),
+            (2, 2, &[0, 1, 2, 3]),
+            (2, 2, &[0, 1, 2, 3]),
+        ],
+    },
+    // A vertex without an edge.
+    Row {
+        growths: &TRIANGLE_AND_VERTEX,
+        links: TRIANGLE,
+        vertices: &TRIANGLE_VERTICES,
+        is_sound: false,
+        swaps: &[(0, 3, &[3, 1, 2, 0])],
+    },
+    Row {
+        growths: &TRIANGLE_AND_VERTEX,
+        links: TRIANGLE,
+        vertices: &TRIANGLE_VERTICES,
+        is_sound: false,
+        swaps: &[(3, 0, &[3, 1, 2, 0])],
+    },
+    // The ends of an edge.
+    Row {
+        growths: &FIRST_EDGE,
+        links: (&[&[0, 1]], &[0, 1]),
+        vertices: &[(Some(0), 0), (Some(1), 1)],
+        is_sound: true,
+        swaps: &[(0, 1, &[1, 0])],
+    },
+    // Two vertices without an edge.
+    Row {
+        growths: &[Append(7), Append(8)],
+        links: (&[&[]], &[]),
+        vertices: &[(None, 7), (None, 8)],
+        is_sound: false,
+        swaps: &[(1, 0, &[1, 0])],
+    },
+];
+
+/// The anchor of a vertex and its datum, and whether no edge is there.
+fn read_vertex(dcel: &Mesh, number: u32) -> Result<(Vertex, bool), Fail> {
+    let handle = vertex(number);
+    require!(handle.index() < dcel.num_vertices());
+    let anchor = dcel.vertex_out_edge(handle).map(|edge| edge.index());
+    let datum = *dcel.vertex_data(handle);
+    Ok(((anchor, datum), dcel.is_unconnected(handle)))
+}
+
+/// That the vertices with these numbers are these, and there are no others.
+fn check_vertices(dcel: &Mesh, vertices: &[Vertex], numbers: &[u32]) -> Result<(), Fail> {
+    same(dcel.num_vertices(), vertices.len(), "vertices")?;
+    same(numbers.len(), vertices.len(), "numbers")?;
+    for (index, number) in numbers.iter().enumerate() {
+        require!(index < vertices.len());
+        let wanted = vertices[index];
+        let found = read_vertex(dcel, *number)?;
+        same(
+            found,
+            (wanted, wanted.0.is_none()),
+            format_args!("vertex {number}"),
+        )?;
     }
-    assert_links(dcel, words, &origins, rt);
-    let [first, second, third, inner] = numbers;
-    let vertices = [
-        (first, Some(0), 0),
-        (second, Some(2), 1),
-        (third, Some(4), 2),
-        (inner, Some(7), 3),
-    ];
-    assert_vertices(dcel, &vertices, rt);
+    Ok(())
+}
+
+/// The origins, by the numbers that the vertices have now.
+fn renumbered(origins: &[u32], numbers: &[u32], alloc: Global) -> Result<Vec<u32>, Fail> {
+    let mut list = Vec::new(alloc);
+    for origin in origins {
+        let index = *origin as usize;
+        require!(index < numbers.len());
+        list.push(numbers[index])?;
+    }
+    Ok(list)
+}
+
+/// That the mesh is that of the row, but for the numbers of its vertices, which are these.
+fn check_numbers(dcel: &Mesh, row: Row, numbers: &[u32], alloc: Global) -> Result<(), Fail> {
+    let (words, origins) = row.links;
+    let origins = renumbered(origins, numbers, alloc)?;
+    check_links(dcel, words, &origins)?;
+    check_vertices(dcel, row.vertices, numbers)?;
+    same(
+        dcel.sanity_check(),
+        row.is_sound,
+        "whether the mesh is sound",
+    )
+}
+
+/// That each swap leaves the numbers that the row says.
+fn check_swaps(dcel: &mut Mesh, row: Row, alloc: Global) -> Result<(), Fail> {
+    for (first, second, numbers) in row.swaps {
+        swap(dcel, *first, *second)?;
+        check_numbers(dcel, row, numbers, alloc)?;
+    }
+    Ok(())
+}
+
+fn check_row(row: Row, alloc: Global) -> Result<(), Fail> {
+    let mut dcel = grown(alloc, row.growths)?;
+    check_swaps(&mut dcel, row, alloc)
 }
 
 #[test]
 fn test_swap(rt: HostRuntime) -> Result<(), Fail> {
-    let mut dcel = cut_triangle(rt.alloc(), &rt)?;
-    assert_cut_triangle(&dcel, [0, 1, 2, 3], &rt);
-    for (first, second, numbers) in [
-        (0, 1, [1, 0, 2, 3]),
-        (0, 2, [1, 2, 0, 3]),
-        (1, 2, [2, 1, 0, 3]),
-        (3, 2, [3, 1, 0, 2]),
-        (3, 0, [0, 1, 3, 2]),
-        (0, 0, [0, 1, 3, 2]),
-        (1, 1, [0, 1, 3, 2]),
-    ] {
-        swap(&mut dcel, first, second, &rt);
-        assert!(rt; dcel.sanity_check(), "{first} {second}");
-        assert_cut_triangle(&dcel, numbers, &rt);
+    for row in &ROWS {
+        check_row(*row, rt.alloc())?;
     }
-    Ok(())
-}
-
-#[test]
-fn two_swaps_are_none(rt: HostRuntime) -> Result<(), Fail> {
-    let mut dcel = cut_triangle(rt.alloc(), &rt)?;
-    for (first, second) in [(0, 1), (1, 0), (2, 3), (3, 0), (2, 2)] {
-        swap(&mut dcel, first, second, &rt);
-        swap(&mut dcel, first, second, &rt);
-        assert_cut_triangle(&dcel, [0, 1, 2, 3], &rt);
-    }
-    Ok(())
-}
-
-#[test]
-fn a_vertex_without_an_edge_is_swapped(rt: HostRuntime) -> Result<(), Fail> {
-    for (first, second) in [(0, 3), (3, 0)] {
-        let mut dcel = grown(rt.alloc(), &TRIANGLE_AND_VERTEX, &rt)?;
-        swap(&mut dcel, first, second, &rt);
-        assert!(rt; dcel.is_unconnected(vertex(0)));
-        assert_links(&dcel, FROM_3.0, FROM_3.1, &rt);
-        let vertices = [
-            (0, None, 3),
-            (1, Some(2), 1),
-            (2, Some(4), 2),
-            (3, Some(0), 0),
-        ];
-        assert_vertices(&dcel, &vertices, &rt);
-    }
-    Ok(())
-}
-
-#[test]
-fn the_ends_of_an_edge_are_swapped(rt: HostRuntime) -> Result<(), Fail> {
-    let mut dcel = grown(rt.alloc(), &FIRST_EDGE, &rt)?;
-    swap(&mut dcel, 0, 1, &rt);
-    assert_links(&dcel, &[&[0, 1]], &[1, 0], &rt);
-    assert_vertices(&dcel, &[(0, Some(1), 1), (1, Some(0), 0)], &rt);
-    Ok(())
-}
-
-#[test]
-fn two_vertices_without_an_edge_are_swapped(rt: HostRuntime) -> Result<(), Fail> {
-    let mut dcel = grown(rt.alloc(), &[Append(7), Append(8)], &rt)?;
-    swap(&mut dcel, 1, 0, &rt);
-    assert_vertices(&dcel, &[(0, None, 8), (1, None, 7)], &rt);
     Ok(())
 }
