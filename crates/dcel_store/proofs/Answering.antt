@@ -2,7 +2,6 @@
 use Rattle.std.proofs.Common.{◌≡◌, All, List, [], ◌∷◌, map, refl, subst}
 use Rattle.std.proofs.lemmas.List.{get_or-map, length-map}
 use Rattle.std.specs.List.{AllZip}
-use Rattle.dcel_store.specs.Records.{pairs_of}
 
 -- what holds of one part of each record
 pub All-from_map : {X D : Type 0} (P : D → Type 0) (part : X → D) (xs : List X) → All P (map part xs) → All (λ x. P (part x)) xs
@@ -25,22 +24,3 @@ module _ {X Y : Type 0} {R : X → Y → Type 0} where
   parts_stay old new part [] (y ∷ ys) zips = absurd zips
   parts_stay old new part (x ∷ xs) [] zips = absurd zips
   parts_stay old new part (x ∷ xs) (y ∷ ys) zips = rw (part x y zips.0, parts_stay old new part xs ys zips.1)
-
-  -- two parts that stay
-  pub pairs_stay : {B : Type 0} (first second : X → B) (first' second' : Y → B) → ((x : X) (y : Y) → R x y → (first' y ≡ first x) × (second' y ≡ second x))
-      → (xs : List X) (ys : List Y) → AllZip R xs ys → pairs_of first' second' ys ≡ pairs_of first second xs
-  pairs_stay first second first' second' part [] [] zips = refl
-  pairs_stay first second first' second' part [] (y ∷ ys) zips = absurd zips
-  pairs_stay first second first' second' part (x ∷ xs) [] zips = absurd zips
-  pairs_stay first second first' second' part (x ∷ xs) (y ∷ ys) zips =
-      let (one, two) = part x y zips.0 in rw (one, two, pairs_stay first second first' second' part xs ys zips.1)
-
-  -- two parts that answer
-  pub pairs_answer : {D E : Type 0} (S : D → E → Type 0) (first second : X → D) (first' second' : Y → E)
-      → ((x : X) (y : Y) → R x y → S (first x) (first' y) × S (second x) (second' y))
-      → (xs : List X) (ys : List Y) → AllZip R xs ys → AllZip S (pairs_of first second xs) (pairs_of first' second' ys)
-  pairs_answer S first second first' second' part [] [] zips = tt
-  pairs_answer S first second first' second' part [] (y ∷ ys) zips = absurd zips
-  pairs_answer S first second first' second' part (x ∷ xs) [] zips = absurd zips
-  pairs_answer S first second first' second' part (x ∷ xs) (y ∷ ys) zips =
-      let (one, two) = part x y zips.0 in (one, (two, pairs_answer S first second first' second' part xs ys zips.1))

@@ -1,22 +1,18 @@
--- The lists that records stand for, when a datum is read or written: each lemma tells the datum that is read, and the lists once
--- another one is written, where they were l.
-use Rattle.std.proofs.Common.{◌≡◌, ℕ, ◌/◌, ◌%◌, ◌<◌, ◌↔◌, IsTrue, Bool, List, length, get_or, set, if◌then◌else◌, Some, refl, ap, ◌∙◌, arith}
+-- The lists that the records of vertices and faces stand for, when a datum is read or written: each lemma tells the datum that is read,
+-- and the lists once another one is written, where they were l.
+use Rattle.std.proofs.Common.{◌≡◌, ℕ, ◌<◌, List, length, get_or, set, Some, refl, ap, ◌∙◌}
 use Rattle.std.specs.Prelude.{map, slice_get}
 use Rattle.std.specs.Option.{option_map}
 use Rattle.std.specs.Vec.{with_item}
 use Rattle.std.proofs.lemmas.List.{length-map, map-set}
-use Rattle.std.proofs.lemmas.Option.{slice_get-get_or, slice_get-map, slice_get_read}
+use Rattle.std.proofs.lemmas.Option.{slice_get-map, slice_get_read}
 use Rattle.std.proofs.Math.Seq.{map-set_same}
-use Rattle.dcel_store.specs.declared.EdgeData.{EdgeData}
-use Rattle.dcel_store.specs.declared.EdgeEntry.{EdgeEntry}
 use Rattle.dcel_store.specs.declared.FaceEntry.{FaceEntry}
 use Rattle.dcel_store.specs.declared.Store.TheInside.{Inside}
 use Rattle.dcel_store.specs.declared.VertexEntry.{VertexEntry}
-use Rattle.dcel_store.specs.Data.{with_vertex_datum, with_directed_datum, with_undirected_datum, with_face_datum}
+use Rattle.dcel_store.specs.Data.{with_vertex_datum, with_face_datum}
 use Rattle.dcel_store.specs.Lists.{Lists}
-use Rattle.dcel_store.specs.Records.{lists_of, pairs_of}
-use Rattle.dcel_store.proofs.RecordLists.{lengths_agree}
-use Rattle.dcel_store.proofs.Pairs.{pairs_of-set_same, get_or-item, set-item}
+use Rattle.dcel_store.specs.Vectors.{lists_of}
 
 -- the record x at i, of which an item is shown
 shown_item : {X B : Type 0} (shown : X → B) (xs : List X) (i : ℕ) (x : X) → x ≡ get_or xs i x → i < length (map shown xs)
@@ -47,55 +43,3 @@ module _ {V DE UE F A : Type 0} (store : Inside V DE UE F A) where
     shown_item (λ e. e.«data») store.faces.items i x read (rw (← is, ← i_is) at within),
     λ datum. rw (kept_item (λ e. e.adjacent_edge) store.faces.items i x (record x { «data» = datum }) read refl) (simp map-set),
   )
-
-  -- the record x at i with other data of its edge
-  abbrev pub with_edge_data : ℕ → EdgeEntry DE UE → EdgeData DE UE → Inside V DE UE F A
-  with_edge_data i x edge_data = record store { edges = with_item store.edges i (record x { edge_data = edge_data }) }
-
-  pub undirected_datum_of : {l : Lists V DE UE F} → lists_of store ≡ l → (u i : ℕ) → i ≡ u
-      → (x : EdgeEntry DE UE) → x ≡ get_or store.edges.items i x → u < length l.undirected_data
-      → (slice_get l.undirected_data u ≡ Some x.edge_data.undirected)
-      × ((datum : UE) → lists_of (with_edge_data i x (record x.edge_data { undirected = datum })) ≡ with_undirected_datum l u datum)
-  undirected_datum_of is u i i_is x read within = rw (← is, ← i_is) (
-    shown_item (λ e. e.edge_data.undirected) store.edges.items i x read (rw (← is, ← i_is) at within),
-    λ datum.
-        let edges = store.edges.items in
-        let y = record x { edge_data = record x.edge_data { undirected = datum } } in
-        rw (
-          pairs_of-set_same (λ e. e.normalized) (λ e. e.reversed) edges i x y read refl refl,
-          pairs_of-set_same (λ e. e.edge_data.normalized) (λ e. e.edge_data.reversed) edges i x y read refl refl,
-        ) (simp map-set),
-  )
-
-  -- of the half edge h, whose record x is: its datum is one of the two
-  pub directed_datum_of : {l : Lists V DE UE F} → lists_of store ≡ l → (h i : ℕ) → i ≡ h / 2
-      → (x : EdgeEntry DE UE) → x ≡ get_or store.edges.items i x → h < length l.next
-      → (normalized : Bool) → IsTrue normalized ↔ (h % 2 ≡ 0)
-      → (slice_get l.directed_data h ≡ Some (if normalized then x.edge_data.normalized else x.edge_data.reversed))
-      × ((datum : DE) → lists_of (with_edge_data i x (record x.edge_data {
-        normalized = if normalized then datum else x.edge_data.normalized;
-        reversed = if normalized then x.edge_data.reversed else datum;
-      })) ≡ with_directed_datum l h datum)
-  directed_datum_of is h i i_is x read within normalized test =
-      let edges = store.edges.items in
-      let first = λ (e : EdgeEntry DE UE). e.edge_data.normalized in
-      let second = λ (e : EdgeEntry DE UE). e.edge_data.reversed in
-      let shown : DE = if normalized then x.edge_data.normalized else x.edge_data.reversed in
-      let agree = lengths_agree store in
-      let inside : h < length (pairs_of first second edges) = let here = rw (← is) at within in omega arith in
-      rw (← is) (
-        slice_get-get_or (pairs_of first second edges) h shown inside
-            ∙ ap Some (get_or-item first second edges h i i_is x read normalized test shown inside),
-        λ datum.
-            let y = record x {
-              edge_data = record x.edge_data {
-                normalized = if normalized then datum else x.edge_data.normalized;
-                reversed = if normalized then x.edge_data.reversed else datum;
-              };
-            } in
-            rw (
-              set-item first second edges h i i_is x read normalized test y datum refl refl,
-              pairs_of-set_same (λ e. e.normalized) (λ e. e.reversed) edges i x y read refl refl,
-              kept_item (λ e. e.edge_data.undirected) edges i x y read refl,
-            ) refl,
-      )

@@ -1,6 +1,5 @@
 pub mod Answering
 pub mod DataLists
 pub mod Exchanges
-pub mod Pairs
-pub mod RecordLists
+pub mod Lengths
 pub mod Taken

@@ -1,6 +1,5 @@
 pub mod Data
-pub mod HalfEdges
 pub mod Lists
-pub mod Records
 pub mod Taking
+pub mod Vectors
 pub mod Whole

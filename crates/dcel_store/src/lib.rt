@@ -4,12 +4,14 @@
 //! datum, for each edge a datum, and for each face a datum and an anchor. It knows nothing of what
 //! makes a sound mesh. Contracts see it as lists by number, the record `Lists` of
 //! `specs/Lists.antt`, and say of each call which items it reads or changes.
+//!
+//! Each of the four links has a vector of its own, as have the data of half edges and those of edges.
+//! A walk reads one or two links of each half edge, and little else comes into the cache with them. A new edge
+//! is written at the end of six vectors, and makes all of them longer where there is no room.
 #![tactic(auto)]
 
 ghost use Rattle.std.specs.Prelude.{◌≡◌, ℕ, ◌+◌, ◌-◌, ◌<◌, ◌≤◌, [], ◌∷◌, ◌++◌, length, slice_index, slice_index_or, slice_set, OnOk, IfOk, IsOk, None};
-ghost use Rattle.std.specs.Borrow.{sem};
 ghost use Rattle.dcel_store.specs.Lists.{empty, LengthsAgree, HasPlaces};
-ghost use Rattle.dcel_store.specs.HalfEdges.{IsHalfEdge, LendsHalfEdge};
 
 mod data;
 mod swap;
@@ -55,14 +57,6 @@ struct VertexEntry<V> {
     out_edge: Option<FixedDirectedEdgeHandle>,
 }
 
-// Both half edges of an edge stand together: edits mostly touch them together.
-#[derive(Drop)]
-struct EdgeEntry<DE, UE> {
-    normalized: HalfEdgeEntry,
-    reversed: HalfEdgeEntry,
-    edge_data: EdgeData<DE, UE>,
-}
-
 #[derive(Drop)]
 struct FaceEntry<F> {
     data: F,
@@ -73,7 +67,18 @@ struct FaceEntry<F> {
 #[derive(Drop)]
 pub struct Store<V, DE, UE, F, A: Allocator = Global> {
     vertices: Vec<VertexEntry<V>, A>,
-    edges: Vec<EdgeEntry<DE, UE>, A>,
+
+    // An item for each half edge: those of an edge stand side by side, the normalized one first.
+    next: Vec<FixedDirectedEdgeHandle, A>,
+    prev: Vec<FixedDirectedEdgeHandle, A>,
+    origin: Vec<FixedVertexHandle, A>,
+    face: Vec<FixedFaceHandle<PossiblyOuterTag>, A>,
+    directed_data: Vec<DE, A>,
+
+    // An item for each edge. Where it has a place left, each vector of half edges has two, so that
+    // one look at this one tells whether there is room for an edge.
+    undirected_data: Vec<UE, A>,
+
     faces: Vec<FaceEntry<F>, A>,
 }
 
@@ -82,23 +87,35 @@ impl<V, DE, UE, F, A: Allocator> Model for Store<V, DE, UE, F, A> {
 
     ghost Value = { Lists V DE UE F };
 
-    ghost use Rattle.dcel_store.specs.Records.{lists_of};
+    ghost use Rattle.dcel_store.specs.Vectors.{lists_of, VectorsAgree};
 
     ghost view = { lists_of };
+
+    ghost invariant = { VectorsAgree };
 }
 
 impl<V, DE, UE, F, A: Allocator + Clone> Store<V, DE, UE, F, A> {
-    /// Makes an empty store, which takes no memory. It clones `alloc`, once for the edges and once
-    /// for the vertices, and answers an error only where that fails. With `Global` or a `&` it
+    /// Makes an empty store, which takes no memory. It clones `alloc`, once for the vertices and six
+    /// times for the edges, and answers an error only where that fails. With `Global` or a `&` it
     /// never does.
     pub fn new(alloc: A) -> Result<Self, AllocError>
         ensures { IfOk result (λ store. store ≡ empty) }
     {
         let alloc_for_vertices = alloc.clone()?;
-        let alloc_for_edges = alloc.clone()?;
+        let alloc_for_next = alloc.clone()?;
+        let alloc_for_prev = alloc.clone()?;
+        let alloc_for_origin = alloc.clone()?;
+        let alloc_for_face = alloc.clone()?;
+        let alloc_for_directed_data = alloc.clone()?;
+        let alloc_for_undirected_data = alloc.clone()?;
         Ok(Store {
             vertices: Vec::new(alloc_for_vertices),
-            edges: Vec::new(alloc_for_edges),
+            next: Vec::new(alloc_for_next),
+            prev: Vec::new(alloc_for_prev),
+            origin: Vec::new(alloc_for_origin),
+            face: Vec::new(alloc_for_face),
+            directed_data: Vec::new(alloc_for_directed_data),
+            undirected_data: Vec::new(alloc_for_undirected_data),
             faces: Vec::new(alloc),
         })
     }
@@ -126,7 +143,7 @@ impl<V, DE, UE, F, A: Allocator> Store<V, DE, UE, F, A> {
         ensures count { result ≡ length self.now.undirected_data }
         ensures lengths { LengthsAgree self.now }
     {
-        self.edges.len()
+        self.undirected_data.len()
     }
 
     /// Answers how many faces there are.
@@ -152,8 +169,44 @@ impl<V, DE, UE, F, A: Allocator> Store<V, DE, UE, F, A> {
         ensures succeeds { HasPlaces self.old vertices edges faces → IsOk result }
     {
         self.vertices.reserve(vertices)?;
-        self.edges.reserve(edges)?;
+        self.reserve_edges(edges)?;
         self.faces.reserve(faces)?;
+        Ok(())
+    }
+
+    // The part of `reserve` for edges: one test for all their vectors.
+    #[inline]
+    fn reserve_edges(&mut self, edges: usize) -> Result<(), AllocError>
+        ensures same { self.new ≡ record self.old { edge_room = self.new.edge_room } }
+        ensures room { OnOk result (edges ≤ self.new.edge_room) }
+        ensures kept { self.old.edge_room ≤ self.new.edge_room }
+        ensures succeeds { edges ≤ self.old.edge_room → IsOk result }
+    {
+        if edges <= self.undirected_data.capacity() - self.undirected_data.len() {
+            return Ok(());
+        }
+        self.grow_edges(edges)
+    }
+
+    // Makes the vectors of half edges and of edges longer. That of the edges' data comes last: where
+    // memory is refused before, it has no more places than the others are sure to have. Out of line,
+    // since it is rare, and edits stay short without it.
+    #[cold]
+    #[inline(never)]
+    fn grow_edges(&mut self, edges: usize) -> Result<(), AllocError>
+        requires { self.old.edge_room < edges }
+        ensures same { self.new ≡ record self.old { edge_room = self.new.edge_room } }
+        ensures room { OnOk result (edges ≤ self.new.edge_room) }
+        ensures kept { self.old.edge_room ≤ self.new.edge_room }
+    {
+        let room = room_for_growth(self.num_edges(), edges);
+        let half_edges = room.checked_mul(2).ok_or(AllocError)?;
+        self.next.reserve_exact(half_edges)?;
+        self.prev.reserve_exact(half_edges)?;
+        self.origin.reserve_exact(half_edges)?;
+        self.face.reserve_exact(half_edges)?;
+        self.directed_data.reserve_exact(half_edges)?;
+        self.undirected_data.reserve_exact(room)?;
         Ok(())
     }
 
@@ -193,11 +246,17 @@ impl<V, DE, UE, F, A: Allocator> Store<V, DE, UE, F, A> {
           edge_room = self.old.edge_room - 1;
         } }
     {
-        self.edges.push_reserved(EdgeEntry {
-            normalized,
-            reversed,
-            edge_data,
-        });
+        self.next.push_reserved(normalized.next);
+        self.next.push_reserved(reversed.next);
+        self.prev.push_reserved(normalized.prev);
+        self.prev.push_reserved(reversed.prev);
+        self.origin.push_reserved(normalized.origin);
+        self.origin.push_reserved(reversed.origin);
+        self.face.push_reserved(normalized.face);
+        self.face.push_reserved(reversed.face);
+        self.directed_data.push_reserved(edge_data.normalized);
+        self.directed_data.push_reserved(edge_data.reversed);
+        self.undirected_data.push_reserved(edge_data.undirected);
     }
 
     /// Appends a face with this anchor. Asks for room, which [`reserve`](Self::reserve) makes.
@@ -279,7 +338,7 @@ impl<V, DE, UE, F, A: Allocator> Store<V, DE, UE, F, A> {
         requires { edge < length self.now.next }
         ensures { result ≡ slice_index self.now.next edge }
     {
-        self.half_edge(edge).next
+        self.next[edge.index()]
     }
 
     /// Replaces `next` of a half edge, and nothing else. Asks what [`next`](Self::next) asks.
@@ -288,7 +347,7 @@ impl<V, DE, UE, F, A: Allocator> Store<V, DE, UE, F, A> {
         requires { edge < length self.old.next }
         ensures { self.new ≡ record self.old { next = slice_set self.old.next edge to } }
     {
-        self.half_edge_mut(edge).next = to;
+        self.next[edge.index()] = to;
     }
 
     /// Answers the half edge before this one. Asks that its edge is below
@@ -298,7 +357,7 @@ impl<V, DE, UE, F, A: Allocator> Store<V, DE, UE, F, A> {
         requires { edge < length self.now.next }
         ensures { result ≡ slice_index self.now.prev edge }
     {
-        self.half_edge(edge).prev
+        self.prev[edge.index()]
     }
 
     /// Replaces `prev` of a half edge, and nothing else. Asks what [`prev`](Self::prev) asks.
@@ -307,7 +366,7 @@ impl<V, DE, UE, F, A: Allocator> Store<V, DE, UE, F, A> {
         requires { edge < length self.old.next }
         ensures { self.new ≡ record self.old { prev = slice_set self.old.prev edge to } }
     {
-        self.half_edge_mut(edge).prev = to;
+        self.prev[edge.index()] = to;
     }
 
     /// Answers the vertex that this half edge starts at. Asks that its edge is below
@@ -317,7 +376,7 @@ impl<V, DE, UE, F, A: Allocator> Store<V, DE, UE, F, A> {
         requires { edge < length self.now.next }
         ensures { result ≡ slice_index self.now.origin edge }
     {
-        self.half_edge(edge).origin
+        self.origin[edge.index()]
     }
 
     /// Replaces `origin` of a half edge, and nothing else. Asks what [`origin`](Self::origin) asks.
@@ -326,7 +385,7 @@ impl<V, DE, UE, F, A: Allocator> Store<V, DE, UE, F, A> {
         requires { edge < length self.old.next }
         ensures { self.new ≡ record self.old { origin = slice_set self.old.origin edge to } }
     {
-        self.half_edge_mut(edge).origin = to;
+        self.origin[edge.index()] = to;
     }
 
     /// Answers the face that this half edge lies on. Asks that its edge is below
@@ -336,7 +395,7 @@ impl<V, DE, UE, F, A: Allocator> Store<V, DE, UE, F, A> {
         requires { edge < length self.now.next }
         ensures { result ≡ slice_index self.now.face edge }
     {
-        self.half_edge(edge).face
+        self.face[edge.index()]
     }
 
     /// Replaces `face` of a half edge, and nothing else. Asks what [`face`](Self::face) asks.
@@ -345,37 +404,19 @@ impl<V, DE, UE, F, A: Allocator> Store<V, DE, UE, F, A> {
         requires { edge < length self.old.next }
         ensures { self.new ≡ record self.old { face = slice_set self.old.face edge to } }
     {
-        self.half_edge_mut(edge).face = to;
+        self.face[edge.index()] = to;
     }
+}
 
-    // The links of a half edge. All that is read or written of links goes through this and the next
-    // function.
-    #[inline]
-    fn half_edge(&self, edge: FixedDirectedEdgeHandle) -> &HalfEdgeEntry
-        requires { edge < length self.now.next }
-        ensures { IsHalfEdge self.now edge result.now }
-    {
-        let entry = &self.edges[edge.as_undirected().index()];
-        if edge.is_normalized() {
-            return &entry.normalized;
-        }
-        &entry.reversed
-    }
-
-    // The same to be written.
-    #[inline]
-    fn half_edge_mut(&mut self, edge: FixedDirectedEdgeHandle) -> &mut HalfEdgeEntry
-        requires { edge < length self.old.next }
-        ensures* writes_back { sem 𝓛
-            (LendsHalfEdge V.row DE.row UE.row F.row A.row A.Allocator self.entry edge result) }
-        ensures links { IsHalfEdge self.old edge result.now }
-    {
-        let entry = &mut self.edges[edge.as_undirected().index()];
-        if edge.is_normalized() {
-            return &mut entry.normalized;
-        }
-        &mut entry.reversed
-    }
+// For how many more edges there is to be room, where a store of `stored` edges has none for `wanted`
+// more. Many pushes are to share the cost of a growth, which asks for memory six times and may move
+// all that is stored: so a store doubles, and a short one, where the six requests cost the most, gets
+// four times as long.
+fn room_for_growth(stored: usize, wanted: usize) -> usize
+    ensures { wanted ≤ result }
+{
+    let more = if stored < 4096 { 3 * stored } else { stored };
+    wanted.max(more).max(16)
 }
 
 #[cfg(test)]

@@ -1,6 +1,6 @@
 //! Elements taken out. The last element of their kind comes to their place, and so gets their number.
 
-ghost use Rattle.std.specs.Prelude.{◌≡◌, ◌+◌, ◌*◌, ◌<◌, length, slice_index_or, swap_remove, None};
+ghost use Rattle.std.specs.Prelude.{◌≡◌, ◌+◌, ◌*◌, ◌%◌, ◌<◌, length, slice_index_or, swap_remove, vec_len, vec_capacity, None};
 ghost use Rattle.dcel_store.specs.Taking.{pair_taken};
 
 use crate::{EdgeData, Store};
@@ -46,7 +46,17 @@ impl<V, DE, UE, F, A: Allocator> Store<V, DE, UE, F, A> {
           edge_room = self.old.edge_room + 1;
         } }
     {
-        self.edges.swap_remove(edge.index()).edge_data
+        let edge = edge.index();
+        take_pair(&mut self.next, edge);
+        take_pair(&mut self.prev, edge);
+        take_pair(&mut self.origin, edge);
+        take_pair(&mut self.face, edge);
+        let (normalized, reversed) = take_pair(&mut self.directed_data, edge);
+        EdgeData {
+            normalized,
+            reversed,
+            undirected: self.undirected_data.swap_remove(edge),
+        }
     }
 
     /// Takes a face out, and answers its datum. The last face comes to its place with its anchor; links
@@ -64,6 +74,23 @@ impl<V, DE, UE, F, A: Allocator> Store<V, DE, UE, F, A> {
     {
         self.faces.swap_remove(face.index()).data
     }
+}
+
+// Takes the two items of an edge out of a vector of half edges. The last two come to their places: the
+// second item goes first, so that the last one comes to its place, and the one before that to the other.
+#[inline]
+fn take_pair<T, A: Allocator>(items: &mut Vec<T, A>, edge: usize) -> (T, T)
+    requires even { vec_len items.old % 2 ≡ 0 }
+    requires within { 2 * edge < vec_len items.old }
+    ensures first { result.0 ≡ slice_index_or items.old.items (2 * edge) result.0 }
+    ensures second { result.1 ≡ slice_index_or items.old.items (2 * edge + 1) result.1 }
+    ensures others { (d : T) → items.new.items ≡ pair_taken items.old.items edge d }
+    ensures len { vec_len items.new + 2 ≡ vec_len items.old }
+    ensures capacity { vec_capacity items.new ≡ vec_capacity items.old }
+{
+    let second = items.swap_remove(2 * edge + 1);
+    let first = items.swap_remove(2 * edge);
+    (first, second)
 }
 
 #[cfg(test)]

@@ -2,10 +2,9 @@
 
 ghost use Rattle.std.specs.Prelude.{◌≡◌, ◌<◌, All, IfOk, IfErr, length, vec_len, vec_capacity};
 ghost use Rattle.std.specs.List.{AllZip};
-ghost use Rattle.dcel_store.specs.Records.{IsEdgeClone};
 ghost use Rattle.dcel_store.specs.Whole.{cleared, with_vertex_data, with_undirected_data, AreClones};
 
-use crate::{EdgeData, EdgeEntry, FaceEntry, HalfEdgeEntry, Store, VertexEntry};
+use crate::{FaceEntry, Store, VertexEntry};
 use std::alloc::{AllocError, AllocFailed, Allocator};
 
 impl<V, DE, UE, F, A: Allocator> Store<V, DE, UE, F, A> {
@@ -21,7 +20,12 @@ impl<V, DE, UE, F, A: Allocator> Store<V, DE, UE, F, A> {
         ensures { self.new ≡ cleared self.old }
     {
         self.vertices.clear();
-        self.edges.clear();
+        self.next.clear();
+        self.prev.clear();
+        self.origin.clear();
+        self.face.clear();
+        self.directed_data.clear();
+        self.undirected_data.clear();
         self.faces.truncate(1);
         let first = &mut self.faces[0];
         first.adjacent_edge = None;
@@ -41,11 +45,6 @@ impl<V, DE, UE, F, A: Allocator> Store<V, DE, UE, F, A> {
         ensures same { IfOk result (λ store. store ≡ with_vertex_data self store.vertex_data) }
         ensures back { IfErr result (λ refused. refused.value ≡ self) }
     {
-        let Store {
-            vertices,
-            edges,
-            faces,
-        } = self;
         let map = |vertex: VertexEntry<V>| -> VertexEntry<V2>
             requires { M.pre f vertex.data }
         {
@@ -54,17 +53,21 @@ impl<V, DE, UE, F, A: Allocator> Store<V, DE, UE, F, A> {
                 out_edge: vertex.out_edge,
             }
         };
-        match mapped(vertices, alloc, map) {
+        match mapped(self.vertices, alloc, map) {
             Ok(vertices) => Ok(Store {
                 vertices,
-                edges,
-                faces,
+                next: self.next,
+                prev: self.prev,
+                origin: self.origin,
+                face: self.face,
+                directed_data: self.directed_data,
+                undirected_data: self.undirected_data,
+                faces: self.faces,
             }),
             Err(refused) => Err(AllocFailed {
                 value: Store {
                     vertices: refused.value,
-                    edges,
-                    faces,
+                    ..self
                 },
             }),
         }
@@ -77,42 +80,27 @@ impl<V, DE, UE, F, A: Allocator> Store<V, DE, UE, F, A> {
         f: M,
     ) -> Result<Store<V, DE, UE2, F, A>, AllocFailed<Self>>
     where
-        DE: Drop,
         UE: Drop,
         requires { All (M.pre f) self.undirected_data }
         ensures answered { IfOk result (λ store. AllZip (M.post f) self.undirected_data store.undirected_data) }
         ensures same { IfOk result (λ store. store ≡ with_undirected_data self store.undirected_data) }
         ensures back { IfErr result (λ refused. refused.value ≡ self) }
     {
-        let Store {
-            vertices,
-            edges,
-            faces,
-        } = self;
-        let map = |edge: EdgeEntry<DE, UE>| -> EdgeEntry<DE, UE2>
-            requires { M.pre f edge.edge_data.undirected }
-        {
-            EdgeEntry {
-                normalized: edge.normalized,
-                reversed: edge.reversed,
-                edge_data: EdgeData {
-                    normalized: edge.edge_data.normalized,
-                    reversed: edge.edge_data.reversed,
-                    undirected: f(edge.edge_data.undirected),
-                },
-            }
-        };
-        match mapped(edges, alloc, map) {
-            Ok(edges) => Ok(Store {
-                vertices,
-                edges,
-                faces,
+        match mapped(self.undirected_data, alloc, f) {
+            Ok(undirected_data) => Ok(Store {
+                vertices: self.vertices,
+                next: self.next,
+                prev: self.prev,
+                origin: self.origin,
+                face: self.face,
+                directed_data: self.directed_data,
+                undirected_data,
+                faces: self.faces,
             }),
             Err(refused) => Err(AllocFailed {
                 value: Store {
-                    vertices,
-                    edges: refused.value,
-                    faces,
+                    undirected_data: refused.value,
+                    ..self
                 },
             }),
         }
@@ -120,19 +108,27 @@ impl<V, DE, UE, F, A: Allocator> Store<V, DE, UE, F, A> {
 }
 
 impl<V: Clone, DE: Clone, UE: Clone, F: Clone, A: Allocator + Clone> Store<V, DE, UE, F, A> {
-    /// A store with a clone of each datum and the same links and anchors. It clones `alloc` twice, for the vertices and the edges. It
-    /// is refused where there is no memory, or where a clone is refused.
+    /// A store with a clone of each datum and the same links and anchors. It clones `alloc`, once for the vertices and six times for
+    /// the edges. It is refused where there is no memory, or where a clone is refused.
     pub fn try_clone(&self, alloc: A) -> Result<Self, AllocError>
         ensures { IfOk result (AreClones V.is_clone DE.is_clone UE.is_clone F.is_clone self.now) }
     {
-        let alloc_for_vertices = alloc.clone()?;
-        let alloc_for_edges = alloc.clone()?;
-        let vertices = self.vertices.to_vec(alloc_for_vertices)?;
-        let edges = cloned_edges(&self.edges, alloc_for_edges)?;
+        let vertices = self.vertices.to_vec(alloc.clone()?)?;
+        let next = Vec::from_slice(alloc.clone()?, &self.next)?;
+        let prev = Vec::from_slice(alloc.clone()?, &self.prev)?;
+        let origin = Vec::from_slice(alloc.clone()?, &self.origin)?;
+        let face = Vec::from_slice(alloc.clone()?, &self.face)?;
+        let directed_data = self.directed_data.to_vec(alloc.clone()?)?;
+        let undirected_data = cloned(&self.undirected_data, alloc.clone()?)?;
         let faces = self.faces.to_vec(alloc)?;
         Ok(Store {
             vertices,
-            edges,
+            next,
+            prev,
+            origin,
+            face,
+            directed_data,
+            undirected_data,
             faces,
         })
     }
@@ -161,37 +157,17 @@ impl<F: Clone> Clone for FaceEntry<F> {
     }
 }
 
-// Records with a clone of each datum and the same links. Each is put together in its place: a record that `Clone` answered would be
-// copied there once more.
-fn cloned_edges<DE: Clone, UE: Clone, A: Allocator>(
-    edges: &[EdgeEntry<DE, UE>],
-    alloc: A,
-) -> Result<Vec<EdgeEntry<DE, UE>, A>, AllocError>
-    ensures { IfOk result (λ clones. AllZip (IsEdgeClone DE.is_clone UE.is_clone) edges.now clones.items) }
+// A clone of each item, in a vector that is just as long. `to_vec` doesn't promise that, and with a place left in the vector of edges'
+// data those of half edges would have to have two.
+fn cloned<X: Clone, A: Allocator>(items: &[X], alloc: A) -> Result<Vec<X, A>, AllocError>
+    ensures clones { IfOk result (λ clones. AllZip X.is_clone items.now clones.items) }
+    ensures exact { IfOk result (λ clones. vec_capacity clones ≡ vec_len clones) }
 {
-    let mut clones = Vec::with_capacity(alloc, edges.len())?;
-    for entry in edges {
-        let edge_data = entry.edge_data.clone()?;
-        clones.push_reserved(EdgeEntry {
-            normalized: same_links(&entry.normalized),
-            reversed: same_links(&entry.reversed),
-            edge_data,
-        });
+    let mut clones = Vec::with_capacity(alloc, items.len())?;
+    for item in items {
+        clones.push_reserved(item.clone()?);
     }
     Ok(clones)
-}
-
-// The same links, read one by one: the compiler copies a whole entry by way of the stack.
-#[inline]
-fn same_links(links: &HalfEdgeEntry) -> HalfEdgeEntry
-    ensures { result ≡ links.now }
-{
-    HalfEdgeEntry {
-        next: links.next,
-        prev: links.prev,
-        face: links.face,
-        origin: links.origin,
-    }
 }
 
 // What the closure answers to each item, in a vector that is just as long. The memory for it is taken before the closure is first

@@ -1,7 +1,7 @@
 use Rattle.std.proofs.Common.{◌<◌, length, None, refl, arith}
 use Rattle.std.proofs.lemmas.List.{length-map}
 use Rattle.dcel_store.proofs.Exchanges.{map-swap, set-set-swap}
-use Rattle.dcel_store.specs.Records.{lists_of}
+use Rattle.dcel_store.specs.Vectors.{lists_of}
 use Rattle.dcel_store.proofs.Store.swap_vertex_data.Goals as goal
 
 pub returns : goal.returns

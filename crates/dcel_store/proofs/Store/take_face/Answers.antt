@@ -1,5 +1,5 @@
 use Rattle.std.proofs.Common.{arith}
-use Rattle.dcel_store.specs.Records.{lists_of}
+use Rattle.dcel_store.specs.Vectors.{lists_of}
 use Rattle.dcel_store.proofs.Taken.{element_taken}
 use Rattle.dcel_store.proofs.Store.take_face.Goals as goal
 
