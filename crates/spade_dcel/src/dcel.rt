@@ -481,7 +481,7 @@ impl<V, DE, UE, F, A: Allocator> Dcel<V, DE, UE, F, A> {
     {
         let before = self.store.prev(handle);
         // It is read before what it is compared with: of two equal numbers the compiler goes on with the first, and an edit that follows
-        // would wait for the other record to know where it writes.
+        // would wait for the other one to know where it writes.
         let after = self.store.next(handle);
         if self.store.prev(before) != after {
             return None;
