@@ -102,27 +102,47 @@ const WRITES: [(Datum, usize, i64); 13] = [
     (Datum::InnerFace(3), 25, 403),
 ];
 
+/// Writes a datum: of the data that are expected it is the only one that changes.
+fn check_write(
+    dcel: &mut Mesh,
+    expected: &mut [i64],
+    (place, index, datum): (Datum, usize, i64),
+    alloc: Global,
+) -> Result<(), Fail> {
+    write(dcel, place, datum)?;
+    require!(index < expected.len());
+    expected[index] = datum;
+    let found = all_data(alloc, dcel)?;
+    same(
+        found.as_slice(),
+        expected,
+        format_args!("data with {datum} at {place:?}"),
+    )
+}
+
+/// 4 vertices with their data, 12 half edges, 6 undirected edges and 4 faces with the default.
+const BEGUN: [i64; 26] = [
+    0, 1, 2, 3, 0, 0, 0, 0, 0, 0, 0, 0, 0, 0, 0, 0, 0, 0, 0, 0, 0, 0, 0, 0, 0, 0,
+];
+
+fn check_begun(dcel: &Mesh, alloc: Global) -> Result<(), Fail> {
+    let found = all_data(alloc, dcel)?;
+    same(found.as_slice(), BEGUN.as_slice(), "data")
+}
+
+fn check_writes(dcel: &mut Mesh, alloc: Global) -> Result<(), Fail> {
+    check_begun(dcel, alloc)?;
+    let mut expected = BEGUN;
+    for write in &WRITES {
+        check_write(dcel, &mut expected, *write, alloc)?;
+    }
+    check_links(dcel, CUT_TRIANGLE.0, CUT_TRIANGLE.1)
+}
+
 #[test]
 fn a_writer_changes_one_datum(rt: HostRuntime) -> Result<(), Fail> {
     let mut dcel = cut_triangle(rt.alloc())?;
-    // 4 vertices with their data, 12 half edges, 6 undirected edges and 4 faces with the default.
-    let mut expected = all_data(rt.alloc(), &dcel)?;
-    let begun = [
-        0, 1, 2, 3, 0, 0, 0, 0, 0, 0, 0, 0, 0, 0, 0, 0, 0, 0, 0, 0, 0, 0, 0, 0, 0, 0,
-    ];
-    same(expected.as_slice(), begun.as_slice(), "data")?;
-    for (place, index, datum) in WRITES {
-        write(&mut dcel, place, datum)?;
-        require!(index < expected.len());
-        expected[index] = datum;
-        let found = all_data(rt.alloc(), &dcel)?;
-        same(
-            &found,
-            &expected,
-            format_args!("data with {datum} at {place:?}"),
-        )?;
-    }
-    check_links(&dcel, CUT_TRIANGLE.0, CUT_TRIANGLE.1)
+    check_writes(&mut dcel, rt.alloc())
 }
 
 /// The number and the datum of the vertex that is found by this number.
@@ -131,21 +151,24 @@ fn looked_up(dcel: &Mesh, index: u32) -> Option<(usize, i64)> {
         .map(|found| (found.index(), *found.data()))
 }
 
-#[test]
-fn vertices_are_looked_up(rt: HostRuntime) -> Result<(), Fail> {
-    let dcel = cut_triangle(rt.alloc())?;
-    for (index, wanted) in [
-        (0, Some((0, 0))),
-        (3, Some((3, 3))),
-        (4, None),
-        (2_147_483_648, None),
-        (4_294_967_295, None),
-    ] {
-        same(
-            looked_up(&dcel, index),
-            wanted,
-            format_args!("vertex {index}"),
-        )?;
+/// Numbers, each with what is found by it.
+const FOUND: [(u32, Option<(usize, i64)>); 5] = [
+    (0, Some((0, 0))),
+    (3, Some((3, 3))),
+    (4, None),
+    (2_147_483_648, None),
+    (4_294_967_295, None),
+];
+
+fn check_looked_up(dcel: &Mesh) -> Result<(), Fail> {
+    for (index, wanted) in &FOUND {
+        let found = looked_up(dcel, *index);
+        same(&found, wanted, format_args!("vertex {index}"))?;
     }
     Ok(())
+}
+
+#[test]
+fn vertices_are_looked_up(rt: HostRuntime) -> Result<(), Fail> {
+    check_looked_up(&cut_triangle(rt.alloc())?)
 }

@@ -131,28 +131,40 @@ mod tests {
         Extend(0, 2),
     ];
 
-    #[test]
-    fn a_shortest_way_along_a_line(rt: HostRuntime) -> Result<(), Fail> {
-        let dcel = grown(rt.alloc(), &LINE_AND_VERTEX)?;
-        let steps = steps_from(&dcel, vertex(2), rt.alloc())?;
+    fn check_steps(dcel: &Mesh, alloc: Global) -> Result<(), Fail> {
+        let steps = steps_from(dcel, vertex(2), alloc)?;
         let wanted = [Some(1), Some(2), Some(0), None];
         same(steps.as_slice(), wanted.as_slice(), "steps")
+    }
+
+    #[test]
+    fn a_shortest_way_along_a_line(rt: HostRuntime) -> Result<(), Fail> {
+        check_steps(&grown(rt.alloc(), &LINE_AND_VERTEX)?, rt.alloc())
+    }
+
+    /// Makes the mesh finer: it has then so many elements.
+    fn check_refined(dcel: &mut Mesh, wanted: [usize; 3]) -> Result<(), Fail> {
+        refine(dcel, 7)?;
+        same(counts(dcel), wanted, "counts")?;
+        holds(dcel.sanity_check(), "a sound mesh")
+    }
+
+    /// That no edge leads from vertex 3 to a corner.
+    fn check_no_spokes(dcel: &Mesh) -> Result<(), Fail> {
+        for corner in 0..3 {
+            let spoke = edge_between(dcel, 3, corner)?;
+            same(spoke, None, format_args!("a spoke to {corner}"))?;
+        }
+        Ok(())
     }
 
     // A triangle, with a vertex inside after the first step and with three more and its inner edges turned after the second.
     #[test]
     fn a_finer_mesh_is_triangulated(rt: HostRuntime) -> Result<(), Fail> {
         let mut dcel = grown(rt.alloc(), &[Triangle(0, 1, 2)])?;
-        for wanted in [[4, 12, 4], [7, 30, 10]] {
-            refine(&mut dcel, 7)?;
-            same(counts(&dcel), wanted, "counts")?;
-            holds(dcel.sanity_check(), "a sound mesh")?;
-        }
-        for corner in 0..3 {
-            let spoke = edge_between(&dcel, 3, corner)?;
-            same(spoke, None, format_args!("a spoke to {corner}"))?;
-        }
-        Ok(())
+        check_refined(&mut dcel, [4, 12, 4])?;
+        check_refined(&mut dcel, [7, 30, 10])?;
+        check_no_spokes(&dcel)
     }
 
     /// The corners of the Voronoi face of a vertex, and whether it is open.
@@ -167,19 +179,23 @@ mod tests {
         Ok((numbers, is_open))
     }
 
+    fn check_corners_round_the_middle(dcel: &Mesh, alloc: Global) -> Result<(), Fail> {
+        let (corners, is_open) = corners(dcel, 3, alloc)?;
+        same(corners.as_slice(), [2, 3, 1].as_slice(), "corners")?;
+        holds(!is_open, "a closed face")
+    }
+
+    fn check_corners_at_a_corner(dcel: &Mesh, alloc: Global) -> Result<(), Fail> {
+        let (corners, is_open) = corners(dcel, 0, alloc)?;
+        same(corners.len(), 2, "corners")?;
+        holds(is_open, "an open face")
+    }
+
     #[test]
     fn corners_of_voronoi_faces(rt: HostRuntime) -> Result<(), Fail> {
         let mut dcel = grown(rt.alloc(), &[Triangle(0, 1, 2)])?;
         refine(&mut dcel, 3)?;
-        let (middle, is_open) = corners(&dcel, 3, rt.alloc())?;
-        same(
-            middle.as_slice(),
-            [2, 3, 1].as_slice(),
-            "corners round the middle",
-        )?;
-        holds(!is_open, "a closed face")?;
-        let (outer, is_open) = corners(&dcel, 0, rt.alloc())?;
-        same(outer.len(), 2, "corners at a corner")?;
-        holds(is_open, "an open face")
+        check_corners_round_the_middle(&dcel, rt.alloc())?;
+        check_corners_at_a_corner(&dcel, rt.alloc())
     }
 }

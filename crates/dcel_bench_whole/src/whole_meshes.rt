@@ -6,7 +6,7 @@ use dcel_bench::growths::{CUT, Growth, cut_triangle, grow, grow_all};
 use dcel_bench::meshes::{
     CUT_TRIANGLE, Links, Mesh, adjacent_edge, check_links, counts, out_edge, vertex,
 };
-use dcel_bench::pictures::picture_of;
+use dcel_bench::pictures::{Picture, picture_of};
 use dcel_bench::refusing::Refusing;
 use dcel_bench::require;
 use spade_dcel::operations::{NoMemory, new, new_with_fixed_vertices};
@@ -52,6 +52,14 @@ fn check_data<A: Allocator + Copy>(dcel: Mesh<A>, alloc: A, wanted: [i64; 2]) ->
     same([vertices, edges], wanted, "data of vertices and of edges")
 }
 
+fn check_picture<A: Allocator>(
+    dcel: &Mesh<A>,
+    before: &Picture,
+    alloc: Global,
+) -> Result<(), Fail> {
+    same(&picture_of(dcel, alloc)?, before, "the mesh")
+}
+
 /// The mesh with other data of its vertices and of its undirected edges.
 fn mapped(dcel: Mesh, alloc: Global) -> Result<Mesh, AllocError> {
     let dcel = made(dcel.map_vertices(alloc, |datum| datum.wrapping_add(10)))?;
@@ -65,19 +73,29 @@ fn reserve<A: Allocator>(dcel: &mut Mesh<A>, room: [usize; 3]) -> Result<bool, F
     Ok(dcel.reserve_capacity(vertices, edges, faces).is_ok())
 }
 
+/// That the mesh is like this, with the data that [`mapped`] gives.
+fn check_mapped(dcel: Mesh, before: &Picture, alloc: Global) -> Result<(), Fail> {
+    check_picture(&dcel, before, alloc)?;
+    check_data(dcel, alloc, [10_11_12_13, 1_01_01_01_01_01])
+}
+
+fn check_clone(dcel: &Mesh, before: &Picture, alloc: Global) -> Result<(), Fail> {
+    check_mapped(dcel.try_clone(alloc)?, before, alloc)
+}
+
+fn check_reserved(dcel: &mut Mesh) -> Result<(), Fail> {
+    holds(reserve(dcel, [9, 9, 9])?, "memory for more")?;
+    check_links(dcel, CUT_TRIANGLE.0, CUT_TRIANGLE.1)
+}
+
 #[test]
 fn data_are_mapped_and_cloned(rt: HostRuntime) -> Result<(), Fail> {
     let dcel = cut_triangle(rt.alloc())?;
     let before = picture_of(&dcel, rt.alloc())?;
     let mut dcel = mapped(dcel, rt.alloc())?;
-    let clone = dcel.try_clone(rt.alloc())?;
-    holds(reserve(&mut dcel, [9, 9, 9])?, "memory for more")?;
-    check_links(&dcel, CUT_TRIANGLE.0, CUT_TRIANGLE.1)?;
-    for dcel in [dcel, clone] {
-        same(&picture_of(&dcel, rt.alloc())?, &before, "the mesh")?;
-        check_data(dcel, rt.alloc(), [10_11_12_13, 1_01_01_01_01_01])?;
-    }
-    Ok(())
+    check_clone(&dcel, &before, rt.alloc())?;
+    check_reserved(&mut dcel)?;
+    check_mapped(dcel, &before, rt.alloc())
 }
 
 #[test]
@@ -92,19 +110,19 @@ fn data_are_mapped_to_another_type(rt: HostRuntime) -> Result<(), Fail> {
 /// The links of three vertices with an edge from vertex 2 to vertex 0.
 const FIXED: Links = (&[&[0, 1]], &[2, 0]);
 
+/// That the mesh has three vertices, and an edge from vertex 2 to vertex 0.
+fn check_fixed_links<A: Allocator>(dcel: &Mesh<A>) -> Result<(), Fail> {
+    same(counts(dcel), [3, 2, 1], "counts")?;
+    check_links(dcel, FIXED.0, FIXED.1)?;
+    let out_edges = [out_edge(dcel, 0)?, out_edge(dcel, 1)?, out_edge(dcel, 2)?];
+    same(out_edges, [Some(1), None, Some(0)], "anchors of vertices")?;
+    let outer = adjacent_edge(dcel, 0)?;
+    same(outer, Some(0), "the anchor of the outer face")
+}
+
 /// That the mesh has vertices 0, 1, 2 with the data 5, 6, 7, and an edge from vertex 2 to vertex 0.
 fn check_fixed<A: Allocator + Copy>(dcel: Mesh<A>, alloc: A) -> Result<(), Fail> {
-    same(counts(&dcel), [3, 2, 1], "counts")?;
-    check_links(&dcel, FIXED.0, FIXED.1)?;
-    for (index, anchor) in [(0, Some(1)), (1, None), (2, Some(0))] {
-        let found = out_edge(&dcel, index)?;
-        same(found, anchor, format_args!("the anchor of vertex {index}"))?;
-    }
-    same(
-        adjacent_edge(&dcel, 0)?,
-        Some(0),
-        "the anchor of the outer face",
-    )?;
+    check_fixed_links(&dcel)?;
     check_data(dcel, alloc, [5_06_07, 0])
 }
 
@@ -125,27 +143,37 @@ fn fixed<'a>(
     Ok(new_with_fixed_vertices(memory, vertices, from, to))
 }
 
-/// Makes a mesh of three vertices and an edge with the request of this number refused, and then again; answers whether so many
-/// requests came.
-fn are_fixed_vertices_refused(number: u64, alloc: Global) -> Result<bool, Fail> {
-    let memory = Refusing::new(alloc);
-    let vertices = vec![in &memory; 5, 6, 7]?;
-    memory.refuse_one(number);
-    let made = fixed(&memory, vertices)?;
-    let is_refused = memory.requests() > number;
-    memory.refuse_one(u64::MAX);
-    same(
-        made.is_err(),
-        is_refused,
-        format_args!("whether request {number} is refused"),
-    )?;
-    let dcel = match made {
-        Ok(dcel) => dcel,
+/// What was made of the vertices 5, 6, 7; where they came back, what is made of them now.
+fn fixed_at_last<'a>(
+    memory: Watching<'a>,
+    made: Result<Watched<'a>, NoMemory<Vec<i64, Watching<'a>>>>,
+) -> Result<Watched<'a>, Fail> {
+    match made {
+        Ok(dcel) => Ok(dcel),
         Err(refused) => {
             same(refused.back.as_slice(), [5, 6, 7].as_slice(), "data")?;
-            fixed(&memory, refused.back)??
+            Ok(fixed(memory, refused.back)??)
         }
-    };
+    }
+}
+
+/// Makes a mesh of three vertices and an edge with the request of this number refused, and then again: whether so many requests came, and
+/// the mesh.
+fn fixed_refused(number: u64, memory: Watching<'_>) -> Result<(bool, Watched<'_>), Fail> {
+    let vertices = vec![in memory; 5, 6, 7]?;
+    memory.refuse_one(number);
+    let made = fixed(memory, vertices)?;
+    let is_refused = memory.requests() > number;
+    memory.refuse_one(u64::MAX);
+    let what = format_args!("whether request {number} is refused");
+    same(made.is_err(), is_refused, what)?;
+    Ok((is_refused, fixed_at_last(memory, made)?))
+}
+
+/// Answers whether so many requests came for a mesh of three vertices and an edge, of which the one with this number was refused.
+fn are_fixed_vertices_refused(number: u64, alloc: Global) -> Result<bool, Fail> {
+    let memory = Refusing::new(alloc);
+    let (is_refused, dcel) = fixed_refused(number, &memory)?;
     check_fixed(dcel, &memory)?;
     Ok(is_refused)
 }
@@ -170,36 +198,60 @@ enum Call {
     ReserveCapacity,
 }
 
+/// Counts a call of a closure, which answers what it is handed.
+fn count(calls: &Cell<u64>, datum: i64) -> i64 {
+    calls.set(calls.get().saturating_add(1));
+    datum
+}
+
+fn map_vertices<'a>(
+    dcel: Watched<'a>,
+    memory: Watching<'a>,
+    calls: &Cell<u64>,
+) -> (bool, Watched<'a>) {
+    match dcel.map_vertices(memory, |datum| count(calls, datum)) {
+        Ok(mapped) => (true, mapped),
+        Err(refused) => (false, refused.back),
+    }
+}
+
+fn map_undirected_edges<'a>(
+    dcel: Watched<'a>,
+    memory: Watching<'a>,
+    calls: &Cell<u64>,
+) -> (bool, Watched<'a>) {
+    match dcel.map_undirected_edges(memory, |datum| count(calls, datum)) {
+        Ok(mapped) => (true, mapped),
+        Err(refused) => (false, refused.back),
+    }
+}
+
+fn try_clone<'a>(dcel: Watched<'a>, memory: Watching<'a>) -> (bool, Watched<'a>) {
+    match dcel.try_clone(memory) {
+        Ok(clone) => (true, clone),
+        Err(_) => (false, dcel),
+    }
+}
+
+fn reserve_nine(mut dcel: Watched<'_>) -> Result<(bool, Watched<'_>), Fail> {
+    let is_made = reserve(&mut dcel, [9, 9, 9])?;
+    Ok((is_made, dcel))
+}
+
 /// Makes the call, and counts how often its closure is called: whether there was memory, and the mesh or its clone. Without memory the
 /// mesh that is answered is the one that came back.
 fn make<'a>(
     call: Call,
-    mut dcel: Watched<'a>,
+    dcel: Watched<'a>,
     memory: Watching<'a>,
     calls: &Cell<u64>,
 ) -> Result<(bool, Watched<'a>), Fail> {
-    let counted = |datum: i64| {
-        calls.set(calls.get().saturating_add(1));
-        datum
-    };
-    Ok(match call {
-        Call::MapVertices => match dcel.map_vertices(memory, counted) {
-            Ok(mapped) => (true, mapped),
-            Err(refused) => (false, refused.back),
-        },
-        Call::MapUndirectedEdges => match dcel.map_undirected_edges(memory, counted) {
-            Ok(mapped) => (true, mapped),
-            Err(refused) => (false, refused.back),
-        },
-        Call::TryClone => match dcel.try_clone(memory) {
-            Ok(clone) => (true, clone),
-            Err(_) => (false, dcel),
-        },
-        Call::ReserveCapacity => {
-            let is_made = reserve(&mut dcel, [9, 9, 9])?;
-            (is_made, dcel)
-        }
-    })
+    match call {
+        Call::MapVertices => Ok(map_vertices(dcel, memory, calls)),
+        Call::MapUndirectedEdges => Ok(map_undirected_edges(dcel, memory, calls)),
+        Call::TryClone => Ok(try_clone(dcel, memory)),
+        Call::ReserveCapacity => reserve_nine(dcel),
+    }
 }
 
 /// A triangle that vertex 3 cuts into three.
@@ -209,27 +261,46 @@ fn cut(memory: Watching<'_>) -> Result<Watched<'_>, Fail> {
     Ok(dcel)
 }
 
+/// Makes the call with the request of this number refused: whether so many requests came, and the mesh. Where they did, its closure wasn't
+/// called.
+fn make_refused<'a>(
+    which: Call,
+    number: u64,
+    dcel: Watched<'a>,
+    memory: Watching<'a>,
+) -> Result<(bool, Watched<'a>), Fail> {
+    memory.refuse_one(number);
+    let calls = Cell::new(0);
+    let (is_made, dcel) = make(which, dcel, memory, &calls)?;
+    let is_refused = memory.requests() > number;
+    memory.refuse_one(u64::MAX);
+    let is_called_in_vain = is_refused && calls.get() > 0;
+    same(
+        (is_made, is_called_in_vain),
+        (!is_refused, false),
+        format_args!("request {number} of {which:?}"),
+    )?;
+    Ok((is_refused, dcel))
+}
+
+/// That the mesh is like this, with the data of a triangle that vertex 3 cuts into three.
+fn check_kept<A: Allocator + Copy>(
+    dcel: Mesh<A>,
+    memory: A,
+    before: &Picture,
+    alloc: Global,
+) -> Result<(), Fail> {
+    check_picture(&dcel, before, alloc)?;
+    check_data(dcel, memory, [1_02_03, 0])
+}
+
 /// Makes the call with the request of this number refused; answers whether so many requests came.
 fn is_call_refused(which: Call, number: u64, alloc: Global) -> Result<bool, Fail> {
     let memory = Refusing::new(alloc);
     let dcel = cut(&memory)?;
     let before = picture_of(&dcel, alloc)?;
-
-    memory.refuse_one(number);
-    let calls = Cell::new(0);
-    let (is_made, dcel) = make(which, dcel, &memory, &calls)?;
-    let is_refused = memory.requests() > number;
-    memory.refuse_one(u64::MAX);
-    let is_called = calls.get() > 0;
-    let made = (is_made, is_refused && is_called);
-    same(
-        made,
-        (!is_refused, false),
-        format_args!("request {number} of {which:?}"),
-    )?;
-    let after = picture_of(&dcel, alloc)?;
-    same(after, before, format_args!("the mesh after {which:?}"))?;
-    check_data(dcel, &memory, [1_02_03, 0])?;
+    let (is_refused, dcel) = make_refused(which, number, dcel, &memory)?;
+    check_kept(dcel, &memory, &before, alloc)?;
     Ok(is_refused)
 }
 
@@ -269,21 +340,29 @@ const CLOSED_LINE: [Growth; 6] = [
     Close(0),
 ];
 
+/// That nothing but the outer face is left.
+fn check_cleared<A: Allocator>(dcel: &Mesh<A>) -> Result<(), Fail> {
+    same(counts(dcel), [0, 0, 1], "counts of a cleared mesh")?;
+    let has_anchor = dcel.outer_face().adjacent_edge().is_some();
+    holds(!has_anchor, "an outer face without an anchor")?;
+    holds(dcel.sanity_check(), "a sound mesh")
+}
+
+/// Clears the mesh, which makes no request, and grows it again in the places that were left.
+fn check_grown_again<'a>(dcel: &mut Watched<'a>, memory: Watching<'a>) -> Result<(), Fail> {
+    memory.refuse_from(0);
+    dcel.clear();
+    check_cleared(dcel)?;
+    grow_all(dcel, memory, &CLOSED_LINE)?;
+    same(counts(dcel), [3, 6, 2], "counts of a grown mesh")?;
+    same(memory.requests(), 0, "requests")
+}
+
 #[test]
 fn a_mesh_is_cleared_without_memory(rt: HostRuntime) -> Result<(), Fail> {
     let memory = Refusing::new(rt.alloc());
     let mut dcel = cut(&memory)?;
-    memory.refuse_from(0);
-    dcel.clear();
-    same(counts(&dcel), [0, 0, 1], "counts of a cleared mesh")?;
-    let has_anchor = dcel.outer_face().adjacent_edge().is_some();
-    holds(!has_anchor, "an outer face without an anchor")?;
-    holds(dcel.sanity_check(), "a sound mesh")?;
-
-    // It grows again in the places that were left.
-    grow_all(&mut dcel, &memory, &CLOSED_LINE)?;
-    same(counts(&dcel), [3, 6, 2], "counts of a grown mesh")?;
-    same(memory.requests(), 0, "requests")
+    check_grown_again(&mut dcel, &memory)
 }
 
 /// A triangle with seven more round it: ten vertices, seventeen edges and eight inner faces.
@@ -318,29 +397,27 @@ const ROOM: [([usize; 3], Growth); 3] = [
 ];
 
 /// Makes room in an empty mesh, which grows there without a request for memory. The next call makes one.
-fn check_room(room: [usize; 3], next: Growth, alloc: Global) -> Result<(), Fail> {
-    let memory = Refusing::new(alloc);
-    let mut dcel: Watched = new(&memory)?;
-    holds(reserve(&mut dcel, room)?, "memory for room")?;
+fn check_room<'a>(
+    dcel: &mut Watched<'a>,
+    memory: Watching<'a>,
+    (room, next): ([usize; 3], Growth),
+) -> Result<(), Fail> {
+    holds(reserve(dcel, room)?, "memory for room")?;
     memory.refuse_from(0);
-    grow_all(&mut dcel, &memory, &EIGHT_TRIANGLES)?;
-    same(
-        memory.requests(),
-        0,
-        format_args!("requests in the room {room:?}"),
-    )?;
-    let is_made = grow(&mut dcel, &memory, next)?;
-    same(
-        (is_made, memory.requests()),
-        (false, 1),
-        format_args!("{next:?} after {room:?}"),
-    )
+    grow_all(dcel, memory, &EIGHT_TRIANGLES)?;
+    same(memory.requests(), 0, format_args!("requests in {room:?}"))?;
+    let is_made = grow(dcel, memory, next)?;
+    let found = (is_made, memory.requests());
+    same(found, (false, 1), format_args!("{next:?} after {room:?}"))
 }
 
 #[test]
 fn a_mesh_grows_in_reserved_room_without_memory(rt: HostRuntime) -> Result<(), Fail> {
-    for (room, next) in ROOM {
-        check_room(room, next, rt.alloc())?;
+    let memory = Refusing::new(rt.alloc());
+    for row in &ROOM {
+        memory.refuse_one(u64::MAX);
+        let mut dcel: Watched = new(&memory)?;
+        check_room(&mut dcel, &memory, *row)?;
     }
     Ok(())
 }
