@@ -1,3 +1,5 @@
+pub mod Counted
+pub mod Headline
 pub mod Liveness
 pub mod Shown
 pub mod Triangulations

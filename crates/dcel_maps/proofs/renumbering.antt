@@ -13,3 +13,4 @@ pub mod AllEdges
 pub mod AllFaces
 pub mod GivenUp
 pub mod Cleanup
+pub mod Renumbered

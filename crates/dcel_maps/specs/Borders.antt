@@ -39,7 +39,7 @@ center_of s [] = 0
 center_of s (h ∷ r) = origin_of s (prev_of s h)
 
 -- the border loop of some vertex, with its edges and the faces round it, each once and in any order
-pub record IsRing (s : Shape) (border edges faces : List ℕ) : Type 0 where
+pub record IsVertexRing (s : Shape) (border edges faces : List ℕ) : Type 0 where
   pub border_loop : IsBorderLoop s border (center_of s border)
   pub each_edge : ListsOnce (IsEdgeAt s (center_of s border)) edges
   pub each_face : ListsOnce (IsFaceAt s (center_of s border)) faces

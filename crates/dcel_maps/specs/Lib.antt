@@ -8,6 +8,7 @@ pub mod Shapes
 pub mod Around
 pub mod Conditions
 pub mod Renumbering
+pub mod Renumbered
 pub mod edits
 pub mod Checked
 pub mod Kinds
@@ -16,14 +17,20 @@ pub mod Voronoi
 pub mod Numbers
 pub mod Walking
 pub mod Borders
+pub mod Regions
 pub mod Hiding
 pub mod Degenerate
 pub mod Strips
 pub mod Triangulations
+pub mod Count
+pub mod Headline
+pub mod Elementary
 pub mod InsertedBack
 pub mod Laws
 pub mod Examples
 pub mod StripExamples
 pub mod PathExamples
+pub mod RegionExamples
+pub mod HeadlineExamples
 -- What only proofs read.
 pub mod theory

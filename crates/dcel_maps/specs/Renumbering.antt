@@ -23,6 +23,11 @@ renumbered n ds = fold (last_put 1) (numbers_between 0 n) ds
 unfoldable pub moved : ℕ → ℕ → ℕ → ℕ
 moved last d k = cond (k == last) d k
 
+-- what number k becomes once each d of a list is taken out in turn
+unfoldable pub new_number : ℕ → List ℕ → ℕ → ℕ
+new_number n [] k = k
+new_number n (d ∷ ds) k = new_number (n - 1) ds (moved (n - 1) d k)
+
 -- where edges have the numbers r, a half edge goes with its edge, and keeps its last bit
 unfoldable pub half_of : (ℕ → ℕ) → ℕ → ℕ
 half_of r h = 2 * r (h / 2) + h % 2

@@ -1,8 +1,9 @@
 //! Laws of the definitions. These calls compute nothing; whoever makes one learns what it ensures.
 
-ghost use Rattle.std.specs.Prelude.{◌≡◌, ◌-◌, ℕ, true, List, [], ◌∷◌, length};
+ghost use Rattle.std.specs.Prelude.{◌≡◌, ◌-◌, ℕ, true, false, List, [], ◌∷◌, length, ◌≢◌, ◌↔◌, ◌*◌, ◌<◌, Bool, slice_index};
 ghost use Rattle.dcel_fixed.specs.HalfEdges.{rev};
 ghost use Rattle.dcel_maps.specs.Conditions.{CanFlip, CanSwapRemove, IsBridge, IsLineEnd};
+ghost use Rattle.dcel_maps.specs.Count.{Counts, IsCounted, live_edges, used_vertices};
 ghost use Rattle.dcel_maps.specs.Degenerate.{CanRemoveDegenerate};
 ghost use Rattle.dcel_maps.specs.edits.Create.{first_edge_added, first_edge_alone, outer_alone, vertex_appended};
 ghost use Rattle.dcel_maps.specs.edits.Degenerate.{removed_degenerate};
@@ -14,17 +15,26 @@ ghost use Rattle.dcel_maps.specs.edits.Split.{edge_split, edge_split_on_line, ha
 ghost use Rattle.dcel_maps.specs.edits.Strip.{strip_cut};
 ghost use Rattle.dcel_maps.specs.edits.Triangle.{triangle_alone, vertex_inserted};
 ghost use Rattle.dcel_maps.specs.edits.Whole.{cleared, with_data};
-ghost use Rattle.dcel_maps.specs.Removals.{Closed};
+ghost use Rattle.dcel_maps.specs.Maps.{Connected, Map};
+ghost use Rattle.dcel_maps.specs.Removals.{Cleaned, Closed, Removal, gives_up_vertex};
+ghost use Rattle.dcel_maps.specs.Renumbered.{AreNumbered, LeavesLive, new_face, new_half};
 ghost use Rattle.dcel_maps.specs.Triangulations.{AllTriangles, KeepsTriangles};
 ghost use Rattle.dcel_maps.specs.Borders.{IsBorderLoop};
 ghost use Rattle.dcel_maps.specs.edits.Flip.{GoesRound};
 ghost use Rattle.dcel_maps.specs.edits.Rename.{vertices_swapped};
 ghost use Rattle.dcel_maps.specs.Examples.{FillsSquare, FillsTriangle, GoesFromHoleToHole, IsRingFrom, gathered, inside_triangle, on_edge, scattered, two_triangles};
+ghost use Rattle.dcel_maps.specs.Elementary.{Chord, FirstEdge, Renamed, Spur, Subdivide, Unchord, Unspur, Unsubdivide};
+ghost use Rattle.dcel_maps.specs.Headline.{CountsTwo, FacesAreCycles, VerticesAreCycles};
+ghost use Rattle.dcel_maps.specs.HeadlineExamples.{pinched, torus, with_idle_face, without_anchors};
 ghost use Rattle.dcel_maps.specs.InsertedBack.{CanInsertLast, IsBackWithoutLast, NewData, inserted_with, removed_with};
 ghost use Rattle.dcel_maps.specs.PathExamples.{BothGone, EndGone, MiddleGone};
-ghost use Rattle.dcel_maps.specs.Renumbering.{cleaned_up, vertex_taken_out};
-ghost use Rattle.dcel_maps.specs.Shapes.{IsMesh, IsSphere, Mesh, face_of, vertex_is_live};
+ghost use Rattle.dcel_maps.specs.RegionExamples.{AreNoRings, FillsOneFace, FillsThreeFaces, FillsTwoFaces};
+ghost use Rattle.dcel_maps.specs.Regions.{IsRegionRing};
+ghost use Rattle.dcel_maps.specs.Renumbering.{cleaned_up, vertex_taken_out, moved, renumbered, with_removal};
+ghost use Rattle.dcel_maps.specs.Shapes.{IsMesh, IsSphere, Mesh, face_of, vertex_is_live, IsAnchored, IsLive, IsSound, Shape, map_of, origin_of};
+ghost use Rattle.dcel_maps.specs.theory.Sound.{Sound, Sphere};
 ghost use Rattle.dcel_maps.specs.StripExamples.{CornerCut, CornerOfThreeCut, EndCut};
+ghost use Rattle.dcel_maps.specs.Words.{total_length};
 
 /// Two triangles that lie beside each other are no sphere: their vertices, minus their edges, plus their faces, are four.
 pub fn two_triangles_are_no_sphere()
@@ -64,6 +74,15 @@ pub fn two_holes_are_filled()
     ensures square { IsRingFrom on_edge.shape (1 ∷ 11 ∷ 8 ∷ 5 ∷ []) 7 × FillsSquare }
 {}
 
+/// Three regions and what fills them: the face of a triangle, and of a triangle with a vertex in it two faces and all three. Cleanup leaves
+/// no removal open. Their ring read from elsewhere, and other faces beside the edge, are none.
+pub fn three_regions_are_filled()
+    ensures one { FillsOneFace }
+    ensures two { FillsTwoFaces }
+    ensures three { FillsThreeFaces }
+    ensures none { AreNoRings }
+{}
+
 /// Elements that are taken out from the largest down: the last one goes from hole to hole until none is left below it.
 pub fn the_last_goes_from_hole_to_hole()
     ensures { GoesFromHoleToHole }
@@ -90,6 +109,16 @@ pub fn an_inserted_vertex_comes_out_again<V, DE, UE, F>()
         (filling : NewData DE UE F (length border - 3) (length border - 2)) → IsMesh m → CanInsertLast m v f
         → IsBorderLoop (inserted_with m v f new).shape border v
         → IsBackWithoutLast m f filling.face_data (removed_with (inserted_with m v f new) v border filling) }
+{}
+
+/// A region filled anew gives up no vertex, and cleanup alone closes its removal.
+pub fn cleanup_closes_a_region<V, DE, UE, F>()
+    ensures no_vertex { (m : Mesh V DE UE F) (border edges faces : List ℕ) (new_halves : List DE) (new_edges : List UE) (new_faces : List F)
+        → IsRegionRing m.shape border edges faces
+        → (v : ℕ) → gives_up_vertex (ring_remeshed m border edges faces new_halves new_edges new_faces).shape.removal v ≡ false }
+    ensures closes { (m : Mesh V DE UE F) (border edges faces : List ℕ) (new_halves : List DE) (new_edges : List UE) (new_faces : List F)
+        → IsRegionRing m.shape border edges faces
+        → (cleaned_up (ring_remeshed m border edges faces new_halves new_edges new_faces)).shape.removal ≡ Closed }
 {}
 
 /// New meshes have no live inner face but triangles.
@@ -143,4 +172,63 @@ pub fn removals_keep_triangles<V, DE, UE, F>()
     ensures cleanup { (m : Mesh V DE UE F) → IsMesh m → KeepsTriangles m (cleaned_up m) }
     ensures remove { (m : Mesh V DE UE F) (v : ℕ) → CanSwapRemove m.shape v → KeepsTriangles m (vertex_taken_out m v) }
     ensures degenerate { (m : Mesh V DE UE F) (v : ℕ) → CanRemoveDegenerate m.shape v → KeepsTriangles m (removed_degenerate m v) }
+{}
+
+/// What is live when a removal is cleaned up, or when a vertex is taken out, stays with its word, its origin, its anchor and its data, all
+/// but this vertex. Only its number may change, by one short rule: write the numbers of all elements of its kind in a list, and put the last
+/// item at the place of each that goes, from the largest down. The new number of what stays is the place where its old one stands then.
+pub fn removals_leave_what_is_live<V, DE, UE, F>()
+    ensures cleanup { (m : Mesh V DE UE F) → IsMesh m → LeavesLive m (cleaned_up m) (new_half m.shape) (λ v. v) (new_face m.shape) }
+    ensures places { (m : Mesh V DE UE F) → IsMesh m → AreNumbered m.shape }
+    ensures vertex { (m : Mesh V DE UE F) (v : ℕ) → IsMesh m → CanSwapRemove m.shape v
+        → LeavesLive (with_removal m (Cleaned v)) (vertex_taken_out m v) (λ h. h) (moved (m.shape.vertices - 1) v) (λ f. f) }
+    ensures vertex_places { (m : Mesh V DE UE F) (v w : ℕ) → IsMesh m → CanSwapRemove m.shape v → w < m.shape.vertices → w ≢ v
+        → slice_index (renumbered m.shape.vertices (v ∷ [])) (moved (m.shape.vertices - 1) v w) ≡ w }
+{}
+
+/// What the headline leaves out, part by part: a triangle of its own beside another one, which isn't connected; a torus, whose vertices,
+/// minus edges, plus faces are none; two triangles with one vertex in common, round which there are two cycles; a vertex that was given up
+/// while an out edge is still live; an inner face without a half edge; and a vertex without an anchor where edges start.
+pub fn the_headline_leaves_out<V, DE, UE, F>()
+    ensures apart { ¬ Connected (map_of two_triangles) }
+    ensures torus { ¬ CountsTwo torus }
+    ensures pinched { ¬ VerticesAreCycles pinched }
+    ensures spokes { (m : Mesh V DE UE F) (given_up : Removal) (h : ℕ) → IsLive (with_removal m given_up).shape h
+        → gives_up_vertex given_up (origin_of m.shape h) ≡ true → ¬ VerticesAreCycles (with_removal m given_up).shape }
+    ensures idle { ¬ FacesAreCycles with_idle_face }
+    ensures unanchored { ¬ IsAnchored without_anchors }
+{}
+
+/// Six elementary edits take a sound map on the sphere to another one: connected, and with vertices that have an edge, minus edges, plus
+/// faces, two. A spur is added, or dropped; an edge is subdivided, or two are joined; a word is cut by a chord, or two words are joined. A
+/// first edge makes such a map, and other numbers keep it one. What is said of maps is said of sound shapes.
+pub fn elementary_edits_keep_a_sphere()
+    ensures first { (T : Map) (h a b : ℕ) → FirstEdge T h a b → Sound T × Sphere T }
+    ensures spur_added { (S T : Map) (a h v : ℕ) → Sound S → Sphere S → Spur S T a h v → Sound T × Sphere T }
+    ensures spur_dropped { (S T : Map) (a h v : ℕ) → Sound T → Sphere T → Unspur S T a h v → Sound S × Sphere S }
+    ensures edge_subdivided { (S T : Map) (h k v : ℕ) → Sound S → Sphere S → Subdivide S T h k v → Sound T × Sphere T }
+    ensures edges_joined { (S T : Map) (h k v : ℕ) → Sound T → Sphere T → Unsubdivide S T h k v → Sound S × Sphere S }
+    ensures word_cut { (S T : Map) (p q h g : ℕ) (arc : ℕ → Bool) → Sound S → Sphere S → Chord S T p q h g arc → Sound T × Sphere T }
+    ensures words_joined { (S T : Map) (p q h g : ℕ) (arc : ℕ → Bool) → Sound T → Sphere T → Unchord S T p q h g arc → Sound S × Sphere S }
+    ensures renumbered { (S T : Map) (half back vertex face : ℕ → ℕ) → Sound S → Sphere S → Renamed S T half back vertex face
+        → Sound T × Sphere T }
+    ensures shapes { (s : Shape) → IsSound s → Sound (map_of s) × (IsSphere s ↔ Sphere (map_of s)) }
+{}
+
+/// The lengths of all words add up to the number of live half edges.
+pub fn words_have_each_half_edge()
+    ensures { (s : Shape) → IsSound s → total_length s.words ≡ 2 * live_edges s }
+{}
+
+/// Where an edge stands and each live inner face is a triangle, the live edges are three times the vertices with a live edge, minus
+/// three, minus the length of the hull.
+pub fn triangles_are_counted<V, DE, UE, F>()
+    ensures { (m : Mesh V DE UE F) → IsMesh m → Counts m }
+{}
+
+/// A triangle with a vertex in it: six edges, four vertices and a hull of three.
+pub fn a_triangle_is_counted()
+    ensures edges { live_edges inside_triangle.shape ≡ 6 }
+    ensures vertices { used_vertices inside_triangle.shape ≡ 4 }
+    ensures count { IsCounted inside_triangle.shape 3 }
 {}

@@ -1,5 +1,5 @@
 -- A chord taken back leaves a map sound and a sphere.
-use Rattle.std.proofs.Common.{◌≡◌, ◌≢◌, inl, inr, ◌/◌, ◌<◌, ℕ, Bool, true, false, sym, refl, ap, ◌∙◌, subst}
+use Rattle.std.proofs.Common.{◌≡◌, ◌≢◌, inl, inr, ◌/◌, ℕ, Bool, true, false, sym, refl, ap, ◌∙◌, subst}
 use Rattle.std.proofs.lemmas.Bool.{cases_eq, cases_Bool, false≢true}
 use Rattle.dcel_fixed.specs.HalfEdges.{rev}
 use Rattle.dcel_maps.specs.Maps.{By, Connected, Live, Map, Reaches, ccw}
@@ -8,21 +8,12 @@ use Rattle.dcel_maps.specs.theory.Sound.{Sound, Sphere}
 use Rattle.dcel_maps.proofs.maps.Chords.{chord_euler, chord_grown}
 use Rattle.dcel_maps.proofs.maps.Counts.{same_tests}
 use Rattle.dcel_maps.proofs.maps.Cycles.{Cycles, undoes}
-use Rattle.dcel_maps.proofs.maps.Edits.{Chord}
+pub use Rattle.dcel_maps.specs.Elementary.{Unchord}
 use Rattle.dcel_maps.proofs.maps.Growth.{Grown, each_live, sphere_less, stay_on}
 use Rattle.dcel_maps.proofs.maps.Halves.{rev-rev}
 use Rattle.dcel_maps.proofs.maps.Reaching.{no_step, step, then}
 use Rattle.dcel_maps.proofs.maps.Soundness.{face_cycles, rev_live, vertex_cycles}
 use Rattle.dcel_maps.proofs.maps.Undone.{connected_less, next_reaches, old_live, retraced, shrunk, stand_in, stand_in-h, stand_in-old, stand_in-rev, stand_in-turns, undrawn_sound, standing_in}
-
--- T has a chord more than S; and what that leaves open of S: its two links over the chord, and its bounds
-pub record Unchord (S T : Map) (p q h g : ℕ) (arc : ℕ → Bool) : Type 0 where
-  pub chord : Chord S T p q h g arc
-  pub open chord use *
-  pub next_a : S.next (S.prev p) ≡ p
-  pub next_b : S.next (S.prev q) ≡ q
-  pub below_edges : (x : ℕ) → Live S x → x / 2 < S.edges
-  pub below_faces : (x : ℕ) → Live S x → S.face x < S.faces
 
 -- a way of f' to b is one of f where the two are the same up to b
 up_to : (P : ℕ → Type 0) (f f' : ℕ → ℕ) (b : ℕ) → ((x : ℕ) → P x → x ≢ b → (f' x ≡ f x) × P (f x))

@@ -1,25 +1,18 @@
 -- A spur taken back leaves a map sound and a sphere.
-use Rattle.std.proofs.Common.{◌≡◌, ◌≢◌, inl, inr, ◌/◌, ◌<◌, ℕ, sym, ap, ◌∙◌, subst, arith}
+use Rattle.std.proofs.Common.{◌≡◌, ◌≢◌, inl, inr, ◌/◌, ℕ, sym, ap, ◌∙◌, subst, arith}
 use Rattle.std.proofs.lemmas.Bool.{cases_eq}
 use Rattle.dcel_maps.specs.Maps.{By, Live, Map, Reaches, ccw}
 use Rattle.dcel_maps.specs.Maps.Reaches.{go, here}
 use Rattle.dcel_maps.specs.theory.Sound.{Sound, Sphere}
 use Rattle.dcel_fixed.specs.HalfEdges.{rev}
 use Rattle.dcel_maps.proofs.maps.Cycles.{Cycles, undoes}
-use Rattle.dcel_maps.proofs.maps.Edits.{Spur}
+pub use Rattle.dcel_maps.specs.Elementary.{Unspur}
 use Rattle.dcel_maps.proofs.maps.Growth.{Grown, each_live, not_h, not_rev, sphere_less, stay_on}
 use Rattle.dcel_maps.proofs.maps.Halves.{rev-rev, rev_differs}
 use Rattle.dcel_maps.proofs.maps.Reaching.{no_step, step}
 use Rattle.dcel_maps.proofs.maps.Soundness.{face_cycles, rev_live, vertex_cycles}
 use Rattle.dcel_maps.proofs.maps.Spurs.{spur_euler, spur_grown}
 use Rattle.dcel_maps.proofs.maps.Undone.{connected_less, next_reaches, old_live, shrunk, stand_in, stand_in-turns, undrawn_sound, standing_in}
-
--- T has a spur more than S; and what that leaves open of S: what comes before the half edge after the spur, and its bound
-pub record Unspur (S T : Map) (a h v : ℕ) : Type 0 where
-  pub spur : Spur S T a h v
-  pub open spur use *
-  pub link : S.prev (S.next a) ≡ a
-  pub below_edges : (x : ℕ) → Live S x → x / 2 < S.edges
 
 module _ (S T : Map) (a h v : ℕ) (e : Unspur S T a h v) (t : Sound T) where
   abbrev b : ℕ

@@ -1,28 +1,19 @@
 -- A subdivision taken back leaves a map sound and a sphere.
-use Rattle.std.proofs.Common.{◌≡◌, ◌≢◌, inl, inr, ◌/◌, ◌<◌, ℕ, sym, refl, ap, ◌∙◌, subst, arith}
+use Rattle.std.proofs.Common.{◌≡◌, ◌≢◌, inl, inr, ◌/◌, ℕ, sym, refl, ap, ◌∙◌, subst, arith}
 use Rattle.std.proofs.lemmas.Bool.{cases_eq}
 use Rattle.dcel_maps.specs.Maps.{By, Live, Map, Reaches, ccw}
 use Rattle.dcel_maps.specs.Maps.Reaches.{go}
 use Rattle.dcel_maps.specs.theory.Sound.{Sound, Sphere}
 use Rattle.dcel_fixed.specs.HalfEdges.{rev}
 use Rattle.dcel_maps.proofs.maps.Cycles.{Cycles}
-use Rattle.dcel_maps.proofs.maps.Edits.{Subdivide, first_part, last_part}
+use Rattle.dcel_maps.proofs.maps.Edits.{first_part, last_part}
+pub use Rattle.dcel_maps.specs.Elementary.{Unsubdivide}
 use Rattle.dcel_maps.proofs.maps.Growth.{Grown, not_h, not_rev, sphere_less, still_live}
 use Rattle.dcel_maps.proofs.maps.Halves.{rev-rev}
 use Rattle.dcel_maps.proofs.maps.Reaching.{no_step, step}
 use Rattle.dcel_maps.proofs.maps.Soundness.{face_cycles, rev_live, sound_from, vertex_cycles}
 use Rattle.dcel_maps.proofs.maps.Subdivides.{by_first, by_last, first-live, first-other, first-rev, first_turns, last-h, last-live, last-other, subdivide_euler, subdivide_grown, within}
 use Rattle.dcel_maps.proofs.maps.Undone.{connected_less, next_reaches, old_live, shrunk, stand_in, stand_in-h, stand_in-old, stand_in-rev, stand_in-turns}
-
--- T has a vertex in the middle of an edge of S; and what that leaves open of S: no link goes over to the edge of k, the
--- numbers of its edges are below the count, and the edge of h is no loop
-pub record Unsubdivide (S T : Map) (h k v : ℕ) : Type 0 where
-  pub subdivide : Subdivide S T h k v
-  pub open subdivide use *
-  pub next_apart : (x : ℕ) → Live S x → S.next x ≢ rev k
-  pub prev_apart : (x : ℕ) → Live S x → S.prev x ≢ k
-  pub two_ends : S.origin h ≢ S.origin (rev h)
-  pub below_edges : (x : ℕ) → Live S x → x / 2 < S.edges
 
 module _ (S T : Map) (h k v : ℕ) (e : Unsubdivide S T h k v) (t : Sound T) where
   grown : Grown S T k

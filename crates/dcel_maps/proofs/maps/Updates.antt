@@ -1,10 +1,7 @@
 -- Functions with another value at one place.
-use Rattle.std.proofs.Common.{◌≡◌, ◌≢◌, ◌==◌, ℕ, cond, eqb, eq-eqb, refl, ◌∙◌}
+use Rattle.std.proofs.Common.{◌≡◌, ◌≢◌, ℕ, eqb, eq-eqb, refl, ◌∙◌}
 use Rattle.std.proofs.lemmas.Bool.{ne_eqb, cond-true, cond-false}
-
--- f, but v at a
-unfoldable pub put : {A : Type 0} → (ℕ → A) → ℕ → A → ℕ → A
-put f a v x = cond (x == a) v (f x)
+unfoldable pub use Rattle.dcel_maps.specs.Elementary.{put}
 
 -- at a it is v
 pub put_same : {A : Type 0} → (f : ℕ → A) (a : ℕ) (v : A) → put f a v a ≡ v

@@ -1,28 +1,23 @@
 -- The shape with its hole filled is sound and a sphere.
-use Rattle.std.proofs.Common.{◌≡◌, ◌≢◌, ◌⊎◌, ◌↔◌, inl, inr, ◌+◌, ◌-◌, ◌*◌, ◌/◌, ◌<◌, ◌≤◌, ℕ, suc, true, false, List, [], ◌∷◌, length, reverse, slice_index, sym, refl, ap, ◌∙◌, subst, arith}
-use Rattle.std.proofs.lemmas.Bool.{both_ways, cases_Bool, cases_eq, cases_lt, false_from_ne_true, ne_eqb}
+use Rattle.std.proofs.Common.{◌≡◌, ◌≢◌, ◌⊎◌, ◌↔◌, inl, inr, ◌+◌, ◌-◌, ◌*◌, ◌/◌, ◌<◌, ◌≤◌, ℕ, suc, true, false, List, [], ◌∷◌, length, slice_index, sym, refl, ap, ◌∙◌, subst, arith}
+use Rattle.std.proofs.lemmas.Bool.{both_ways, cases_Bool, cases_eq, cases_lt, false_from_ne_true}
 use Rattle.std.proofs.lemmas.List.{get_or-append-add, get_or_append_left, length-append}
-use Rattle.dcel_fixed.specs.HalfEdges.{rev}
-use Rattle.dcel_maps.specs.Borders.{GivesUpRound, IsBorderLoop, StartsAlone}
 use Rattle.dcel_maps.specs.Hiding.{kept_words}
 use Rattle.dcel_maps.specs.Maps.{Live, Map}
 use Rattle.dcel_maps.specs.Removals.{Closed, Removal, gives_up_edge, gives_up_face, gives_up_vertex, shown}
-use Rattle.dcel_maps.specs.Shapes.{IsLive, IsMesh, IsSound, IsSphere, Mesh, Shape, edge_is_live, face_count, face_is_live, face_of, map_of, next_of, origin_of, vertex_is_live}
+use Rattle.dcel_maps.specs.Shapes.{IsLive, IsMesh, IsSound, IsSphere, Mesh, Shape, edge_is_live, face_count, face_is_live, face_of, map_of, origin_of, vertex_is_live}
 use Rattle.dcel_maps.specs.theory.Standing.{Stands}
-use Rattle.dcel_maps.specs.Walking.{IsOutEdge}
 use Rattle.dcel_maps.specs.Words.{count_of, word_of}
 use Rattle.dcel_maps.specs.edits.Fill.{ear_origins, ears, ring_filled}
 use Rattle.dcel_maps.proofs.Liveness.{closed-live, gives_up_face-closed, is_live-from, is_live-parts, bare_word}
 use Rattle.dcel_maps.proofs.Shown.{length-shown, slice_index-shown_live}
 use Rattle.dcel_maps.proofs.maps.Agreement.{Agrees, agrees-sound, agrees-sphere}
 use Rattle.dcel_maps.proofs.maps.Counts.{same_tests}
-use Rattle.dcel_maps.proofs.maps.Halves.{rev-rev, rev_or_same}
 use Rattle.dcel_maps.proofs.maps.Triangles.{triangle_from}
-use Rattle.dcel_maps.proofs.removal.Corners.{HoleAt, hole_at}
 use Rattle.dcel_maps.proofs.removal.Ears.{ear_full, ear_words, ears_same, last_first, last_live, last_origin, length-ears, listed_origin, new_origin}
 use Rattle.dcel_maps.proofs.removal.Fans.{EarOrigins, EarTriangles, FanAt, Fanned, fan, fanned, origins_same}
 use Rattle.dcel_maps.proofs.removal.Hiding.{hidden, length-hiding, not_hidden}
-use Rattle.dcel_maps.proofs.removal.Holes.{HoleOf}
+use Rattle.dcel_maps.proofs.removal.Hollows.{HollowOf, StartsOnRing}
 use Rattle.dcel_maps.proofs.removal.Spokes.{path_item}
 use Rattle.dcel_maps.proofs.shapes.Maps.{map-sound, sound-from_map, sphere-from_map}
 use Rattle.dcel_maps.proofs.shapes.Shown.{Shows, shown-agrees, shown-stands}
@@ -30,8 +25,8 @@ use Rattle.dcel_maps.proofs.walks.Links.{links_stand}
 use Rattle.dcel_maps.proofs.words.Counts.{count-later, count-same}
 use Rattle.dcel_maps.proofs.words.Faces.{IsWordOf, KeepsFace, edited_stands, keeps_face-then}
 
--- the ring (p, q, r, ..) of the vertex v, and a record that gives up what lies inside it
-module _ {V DE UE F : Type 0} (m : Mesh V DE UE F) (v p q r : ℕ) (rest border : List ℕ) (halves : List DE) (edges : List UE) (faces : List F) (mesh : IsMesh m) (closed : m.shape.removal ≡ Closed) (removal : Removal) (gives : GivesUpRound m.shape v removal) (l : IsBorderLoop m.shape border v) (ring : reverse border ≡ p ∷ q ∷ r ∷ rest) where
+-- the ring (p, q, r, ..), and a record that gives up what lies inside it
+module _ {V DE UE F : Type 0} (m : Mesh V DE UE F) (p q r : ℕ) (rest : List ℕ) (halves : List DE) (edges : List UE) (faces : List F) (mesh : IsMesh m) (closed : m.shape.removal ≡ Closed) (removal : Removal) (hole : HollowOf m.shape removal (p ∷ q ∷ r ∷ rest) (face_count m.shape + length rest)) where
   abbrev s : Shape
   s = m.shape
 
@@ -44,29 +39,23 @@ module _ {V DE UE F : Type 0} (m : Mesh V DE UE F) (v p q r : ℕ) (rest border 
   abbrev k : ℕ
   k = length rest
 
-  H : HoleAt s v (p ∷ q ∷ r ∷ rest) (L + k)
-  H = subst (λ w. HoleAt s v w (L + k)) ring (hole_at s mesh.sound mesh.sphere border v (L + k) l (omega arith))
-
   abbrev P : Map
-  P = H.map
-
-  abbrev hole : HoleOf (map_of s) P H.spokes (p ∷ q ∷ r ∷ rest) (L + k)
-  hole = H.is_hole
+  P = hole.map
 
   ring_live : (y : ℕ) → 0 < count_of y (p ∷ q ∷ r ∷ rest) → Live P y
   ring_live y found = (path_item P (L + k) p (q ∷ r ∷ rest) p hole.cycle y found).0
 
   -- what is live in the hole was live, and lies on an old face or along the ring
   was_live : (x : ℕ) → Live P x → IsLive s x
-  was_live x live = let below = hole.sound.below_edges x live in closed-live s closed (x / 2) (omega (arith, below, hole.edges))
+  was_live x live = let below = hole.sound.below_edges x live in closed-live s closed (x / 2) (omega (arith, below, hole.edge_count))
 
   old_face : (x : ℕ) → Live P x → (P.face x < L) ⊎ (P.face x ≡ L + k)
   old_face x live = elim (cases_eq (P.face x) (L + k)) [
     | inl same ↦ inr same
     | inr other ↦ elim (hole.cases x live) [
       | inl same ↦ inr same
-      | inr away ↦
-          let was = (hole.keeps_face (P.face x) other away).comes x live refl in
+      | inr kept ↦
+          let was = (hole.keeps_face (P.face x) other kept).comes x live refl in
           let below = (map-sound mesh.sound).below_faces x was.0 in
           inl (omega (arith, below, was.1))
     ]
@@ -74,14 +63,13 @@ module _ {V DE UE F : Type 0} (m : Mesh V DE UE F) (v p q r : ℕ) (rest border 
 
   fan_at : FanAt P s.edges L (L + k) p q r rest
   fan_at =
-      let alone : StartsAlone s (p ∷ q ∷ r ∷ rest) = subst (StartsAlone s) ring l.alone in
       record {
         sound = hole.sound;
         sphere = hole.sphere;
         cycle = hole.cycle;
-        alone = λ y found same. alone y (count-later y q (r ∷ rest) found) (sym (hole.origin y) ∙ same ∙ hole.origin p);
-        edges = hole.edges;
-        faces = omega (arith, hole.faces);
+        alone = λ y found same. hole.alone y (count-later y q (r ∷ rest) found) (sym (hole.origin y) ∙ same ∙ hole.origin p);
+        edges = hole.edge_count;
+        faces = omega (arith, hole.face_number);
         last = refl;
         occupied = old_face;
       }
@@ -93,38 +81,18 @@ module _ {V DE UE F : Type 0} (m : Mesh V DE UE F) (v p q r : ℕ) (rest border 
   unfolding M
   A = fanned rest P s.edges L (L + k) p q r fan_at
 
-  -- the half edges out of v go, and no others
-  gives_edge : (x : ℕ) → IsOutEdge s v x → gives_up_edge removal (x / 2) ≡ true
-  gives_edge x out = (gives.edges (x / 2)).1 (record { half = x; out = out; is = refl })
-
-  gives_face : (x : ℕ) → IsOutEdge s v x → gives_up_face removal (face_of s x) ≡ true
-  gives_face x out = (gives.faces (face_of s x)).1 (record { half = x; out = out; is = refl })
-
-  spoke_gone : (x : ℕ) → IsOutEdge s v x → P.edge (x / 2) ≡ false
-  spoke_gone x out = hole.gone x (H.out x out)
-
   edge_below : (u : ℕ) → gives_up_edge removal u ≡ true → u < s.edges
-  edge_below u given =
-      let at = (gives.edges u).0 given in
-      let parts = is_live-parts (gives_up_edge s.removal) s.edges (at.half / 2) at.out.live in
-      omega (arith, parts.0, at.is)
+  edge_below = hole.within.edges
 
   pub face_below : (f : ℕ) → gives_up_face removal f ≡ true → (0 < f) × (f < L)
-  face_below f given =
-      let at = (gives.faces f).0 given in
-      let inside = (l.triangles at.half at.out).0 in
-      let below = (map-sound mesh.sound).below_faces at.half at.out.live in
-      (omega (arith, inside, at.is), omega (arith, below, at.is))
+  face_below = hole.within.faces
 
   to_map : (u : ℕ) → edge_is_live t u ≡ true → M.edge u ≡ true
   to_map u live =
       let parts = is_live-parts (gives_up_edge removal) (s.edges + k) u live in
       elim (cases_lt u s.edges) [
         | inl below ↦
-            A.edge_old u below
-            ∙ hole.kept u (λ x found same.
-            both_ways (gives_up_edge removal u) parts.1 (subst (λ z. gives_up_edge removal z ≡ true) (sym same) (gives_edge x (H.each_out x found))))
-            ∙ closed-live s closed u below
+            A.edge_old u below ∙ hole.kept u parts.1 ∙ closed-live s closed u below
         | inr past ↦ A.edge_new u past parts.0
       ]
 
@@ -134,8 +102,7 @@ module _ {V DE UE F : Type 0} (m : Mesh V DE UE F) (v p q r : ℕ) (rest border 
       let below = A.sound.below_edges (2 * u) (ap M.edge half ∙ on) in
       is_live-from (gives_up_edge removal) (s.edges + k) u (omega (arith, below, half, A.edges))
       (false_from_ne_true (gives_up_edge removal u) (λ given.
-      let at = (gives.edges u).0 given in
-      both_ways (M.edge u) (A.edge_old u (edge_below u given) ∙ ap P.edge (sym at.is) ∙ spoke_gone at.half at.out) on))
+      both_ways (M.edge u) (A.edge_old u (edge_below u given) ∙ hole.gone u given) on))
 
   edge_test : (u : ℕ) → edge_is_live t u ≡ M.edge u
   edge_test u = same_tests (edge_is_live t u) (M.edge u) (to_map u) (from_map u)
@@ -165,17 +132,15 @@ module _ {V DE UE F : Type 0} (m : Mesh V DE UE F) (v p q r : ℕ) (rest border 
   vacant f given x live at =
       let below = (face_below f given).1 in
       let old = (A.keeps_face f below).comes x live at in
-      let there = (gives.faces f).0 given in
       elim (hole.cases x old.0) [
         | inl along ↦ omega (arith, below, old.1, along)
-        | inr away ↦ away there.half (H.out there.half there.out) (there.is ∙ sym old.1)
+        | inr kept ↦ both_ways (gives_up_face removal f) (ap (gives_up_face removal) (sym old.1) ∙ kept) given
       ]
 
   keeps : (f : ℕ) → f < L → gives_up_face removal f ≡ false → KeepsFace (map_of s) M f
   keeps f below kept =
       keeps_face-then (map_of s) P M f
-      (hole.keeps_face f (λ i. omega (arith, below, i)) (λ x found at.
-      both_ways (gives_up_face removal f) kept (subst (λ g. gives_up_face removal g ≡ true) at (gives_face x (H.each_out x found)))))
+      (hole.keeps_face f (λ i. omega (arith, below, i)) kept)
       (A.keeps_face f below)
 
   words_stand : Stands M t.words
@@ -241,13 +206,13 @@ module _ {V DE UE F : Type 0} (m : Mesh V DE UE F) (v p q r : ℕ) (rest border 
         i (omega (arith, few, A.edges, past)))
   ]
 
-  -- no half edge starts at v any more
-  v_bare : (x : ℕ) → Live M x → M.origin x ≢ v
-  v_bare = each_origin (λ w. w ≢ v) (λ x live at. both_ways (P.edge (x / 2)) (spoke_gone x (record { live = was_live x live; start = at })) live)
+  -- no half edge starts at a vertex that is given up
+  vertex_bare : (v : ℕ) → gives_up_vertex removal v ≡ true → (x : ℕ) → Live M x → M.origin x ≢ v
+  vertex_bare v given = each_origin (λ w. w ≢ v) (λ x live at. hole.bare v given x live (hole.origin x ∙ at))
 
   shows : Shows t M
   shows = record {
-    vertices = sym (A.vertices ∙ hole.vertices);
+    vertices = sym (A.vertices ∙ hole.vertex_count);
     edges = sym A.edges;
     edge = edge_test;
     origin = origin-is;
@@ -282,7 +247,7 @@ module _ {V DE UE F : Type 0} (m : Mesh V DE UE F) (v p q r : ℕ) (rest border 
       let kept : gives_up_face removal 0 ≡ false = false_from_ne_true (gives_up_face removal 0) (λ given. let parts = face_below 0 given in omega (arith, parts.0)) in (
         λ empty.
             let all_dead = mesh.sound.outer.0 (sym (word-kept 0 mesh.sized.outer kept) ∙ empty) in
-            absurd (both_ways (edge_is_live s (l.first / 2)) (all_dead (l.first / 2)) l.out.live),
+            absurd (both_ways (edge_is_live s (p / 2)) (all_dead (p / 2)) (was_live p (ring_live p (omega (arith, count-same p (q ∷ r ∷ rest)))))),
         λ dead.
             let live = A.stays_live p (ring_live p (omega (arith, count-same p (q ∷ r ∷ rest)))) in
             absurd (both_ways (edge_is_live t (p / 2)) (dead (p / 2)) (edge_test (p / 2) ∙ live)),
@@ -293,8 +258,8 @@ module _ {V DE UE F : Type 0} (m : Mesh V DE UE F) (v p q r : ℕ) (rest border 
       let lives = in_map x live in
       let at = origin-is x lives in
       let below = A.sound.below_vertices x lives in
-      is_live-from (gives_up_vertex removal) s.vertices (origin_of t x) (omega (arith, below, at, A.vertices, hole.vertices))
-      (gives.vertices (origin_of t x) ∙ ne_eqb v (origin_of t x) (λ i. v_bare x lives (sym (i ∙ at))))
+      is_live-from (gives_up_vertex removal) s.vertices (origin_of t x) (omega (arith, below, at, A.vertices, hole.vertex_count))
+      (false_from_ne_true (gives_up_vertex removal (origin_of t x)) (λ given. vertex_bare (origin_of t x) given x lives (sym at)))
 
   pub filled-sound : IsSound t
   filled-sound = sound-from_map t (agrees-sound M (map_of t) agrees A.sound) (shown-stands t M shows) bare inner outer starts_live
@@ -302,15 +267,10 @@ module _ {V DE UE F : Type 0} (m : Mesh V DE UE F) (v p q r : ℕ) (rest border 
   pub filled-sphere : IsSphere t
   filled-sphere = sphere-from_map filled-sound (agrees-sphere M (map_of t) agrees A.sound A.sphere)
 
-  -- an old half edge is at v, or live as before
-  pub old_kept : (x : ℕ) → IsLive s x → (IsOutEdge s v x ⊎ IsOutEdge s v (rev x)) ⊎ (IsLive t x × (origin_of t x ≡ origin_of s x))
+  -- an old half edge is given up, or live as before
+  pub old_kept : (x : ℕ) → IsLive s x → StartsOnRing s removal (p ∷ q ∷ r ∷ rest) x ⊎ (IsLive t x × (origin_of t x ≡ origin_of s x))
   old_kept x live = elim (cases_Bool (gives_up_edge removal (x / 2))) [
-    | inl given ↦
-        let at = (gives.edges (x / 2)).0 given in
-        inl (elim (rev_or_same x at.half (sym at.is)) [
-          | inl same ↦ inl (subst (IsOutEdge s v) (sym same) at.out)
-          | inr turned ↦ inr (subst (IsOutEdge s v) (sym (ap rev turned ∙ rev-rev at.half)) at.out)
-        ])
+    | inl given ↦ inl (hole.on_ring x live given)
     | inr kept ↦
         let below = (is_live-parts (gives_up_edge s.removal) s.edges (x / 2) live).0 in
         let lives : IsLive t x = is_live-from (gives_up_edge removal) (s.edges + k) (x / 2) (omega (arith, below)) kept in
@@ -325,9 +285,9 @@ module _ {V DE UE F : Type 0} (m : Mesh V DE UE F) (v p q r : ℕ) (rest border 
       let (y, was, at) = each_origin (λ w. (y : ℕ) × IsLive s y × (origin_of s y ≡ w)) (λ z was. (z, was_live z was, refl)) x lives in
       (y, was, at ∙ sym (origin-is x lives))
 
-  -- none at v, and those of the ring where they did
-  pub none_at : (x : ℕ) → IsLive t x → origin_of t x ≢ v
-  none_at x live at = v_bare x (in_map x live) (sym (origin-is x (in_map x live)) ∙ at)
+  -- none at a vertex that is given up, and those of the ring where they did
+  pub none_at : (v : ℕ) → gives_up_vertex removal v ≡ true → (x : ℕ) → IsLive t x → origin_of t x ≢ v
+  none_at v given x live at = vertex_bare v given x (in_map x live) (sym (origin-is x (in_map x live)) ∙ at)
 
   pub item_kept : (y : ℕ) → 0 < count_of y (p ∷ q ∷ r ∷ rest) → IsLive t y × (origin_of t y ≡ origin_of s y)
   item_kept y found =
@@ -343,10 +303,6 @@ module _ {V DE UE F : Type 0} (m : Mesh V DE UE F) (v p q r : ℕ) (rest border 
         origin-is h live
             ∙ last_origin M s.edges (origin_of s) (origin_of s p) p r rest new_origins (origin-old p (ring_live p (omega (arith, count-same p (q ∷ r ∷ rest))))),
       )
-
-  -- what comes after an out edge of v stands in the ring
-  pub spoke_along : (x : ℕ) → IsOutEdge s v x → 0 < count_of (next_of s x) (p ∷ q ∷ r ∷ rest)
-  spoke_along x out = H.along x (H.out x out)
 
   pub given_below : (u : ℕ) → gives_up_edge removal u ≡ true → u < s.edges
   given_below = edge_below

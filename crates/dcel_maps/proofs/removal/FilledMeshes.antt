@@ -1,24 +1,21 @@
 -- A mesh with its hole filled is a mesh.
-use Rattle.std.proofs.Common.{◌≡◌, ◌≢◌, inl, inr, ◌+◌, ◌-◌, ◌*◌, ◌<◌, ◌≤◌, ℕ, suc, List, [], ◌∷◌, length, reverse, slice_index_or, Option, Some, None, sym, refl, ap, ◌∙◌, subst, arith, eqb-true, eq-eqb}
-use Rattle.std.proofs.lemmas.Bool.{cases_Bool, cases_eq, cases_lt, ne_eqb}
+use Rattle.std.proofs.Common.{◌≡◌, ◌≢◌, inl, inr, ◌+◌, ◌-◌, ◌*◌, ◌<◌, ◌≤◌, ℕ, suc, false, List, [], ◌∷◌, length, reverse, slice_index_or, Option, Some, None, sym, refl, ap, ◌∙◌, subst, arith}
+use Rattle.std.proofs.lemmas.Bool.{cases_Bool, cases_lt, false≢true}
 use Rattle.std.proofs.lemmas.List.{get_or-append-add, get_or_append_left, length-append, length-reverse}
-use Rattle.dcel_fixed.specs.HalfEdges.{rev}
-use Rattle.dcel_maps.specs.Borders.{GivesUpRound, IsBorderLoop}
 use Rattle.dcel_maps.specs.Conditions.{HasRoom}
 use Rattle.dcel_maps.specs.Hiding.{kept_face_anchors}
 use Rattle.dcel_maps.specs.Removals.{Closed, IsWithin, Removal, gives_up_edge, gives_up_face, gives_up_vertex, shown}
-use Rattle.dcel_maps.specs.Shapes.{AnchorsVertex, AnchorsWord, IsMesh, IsSized, Mesh, Shape, face_anchor, face_count, next_of, origin_of, vertex_anchor}
+use Rattle.dcel_maps.specs.Shapes.{AnchorsVertex, AnchorsWord, IsMesh, IsSized, Mesh, Shape, face_anchor, face_count, origin_of, vertex_anchor}
 use Rattle.dcel_maps.specs.Words.{count_of, word_of}
 use Rattle.dcel_maps.specs.edits.Fill.{anchors_round, border_filled, ear_anchors, ear_origins, loop_filled, ring_filled}
-use Rattle.dcel_maps.proofs.Liveness.{vertex_live-parts}
 use Rattle.dcel_maps.proofs.Shown.{length-shown}
-use Rattle.dcel_maps.proofs.maps.Halves.{rev-rev}
 use Rattle.dcel_maps.proofs.removal.Ears.{ear_anchored, length-anchors_round, length-ear_anchors, length-ear_origins, round_anchor}
-use Rattle.dcel_maps.proofs.removal.Filled.{face_below, filled-sound, filled-sphere, from_old, given_below, item_kept, last_kept, none_at, old_kept, spoke_along, word-ear, word-given, word-kept, words_long}
+use Rattle.dcel_maps.proofs.removal.Filled.{face_below, filled-sound, filled-sphere, from_old, given_below, item_kept, last_kept, none_at, old_kept, word-ear, word-given, word-kept, words_long}
 use Rattle.dcel_maps.proofs.removal.Hiding.{hidden, length-hiding, not_hidden}
 use Rattle.dcel_maps.proofs.words.Counts.{count-later, first_or_later}
+use Rattle.dcel_maps.proofs.removal.Hollows.{HollowOf}
 
-module _ {V DE UE F : Type 0} (m : Mesh V DE UE F) (v p q r : ℕ) (rest border : List ℕ) (halves : List DE) (edges : List UE) (faces : List F) (mesh : IsMesh m) (closed : m.shape.removal ≡ Closed) (removal : Removal) (gives : GivesUpRound m.shape v removal) (l : IsBorderLoop m.shape border v) (ring : reverse border ≡ p ∷ q ∷ r ∷ rest) where
+module _ {V DE UE F : Type 0} (m : Mesh V DE UE F) (p q r : ℕ) (rest : List ℕ) (halves : List DE) (edges : List UE) (faces : List F) (mesh : IsMesh m) (closed : m.shape.removal ≡ Closed) (removal : Removal) (hole : HollowOf m.shape removal (p ∷ q ∷ r ∷ rest) (face_count m.shape + length rest)) where
   abbrev s : Shape
   s = m.shape
 
@@ -32,18 +29,17 @@ module _ {V DE UE F : Type 0} (m : Mesh V DE UE F) (v p q r : ℕ) (rest border 
   L = face_count s
 
   -- an old anchor of a vertex off the ring
-  off_ring : (w : ℕ) → w ≢ v → ((y : ℕ) → 0 < count_of y (q ∷ r ∷ rest) → origin_of s y ≢ w) → origin_of s p ≢ w
+  off_ring : (w : ℕ) → gives_up_vertex removal w ≡ false → ((y : ℕ) → 0 < count_of y (q ∷ r ∷ rest) → origin_of s y ≢ w) → origin_of s p ≢ w
       → (a : Option ℕ) → AnchorsVertex s w a → AnchorsVertex t w a
-  off_ring w other off off_p None bare = λ h live at.
-      let (y, was, same) = from_old m v p q r rest border halves edges faces mesh closed removal gives l ring h live in bare y was (same ∙ at)
-  off_ring w other off off_p (Some h) anchors = elim (old_kept m v p q r rest border halves edges faces mesh closed removal gives l ring h anchors.0) [
-    | inl (inl out) ↦ absurd (other (sym anchors.1 ∙ out.start))
-    | inl (inr out) ↦
-        let there = spoke_along m v p q r rest border halves edges faces mesh closed removal gives l ring (rev h) out in
-        let starts : origin_of s (next_of s (rev h)) ≡ w = mesh.sound.joined (rev h) out.live ∙ ap (origin_of s) (rev-rev h) ∙ anchors.1 in
-        absurd (elim (first_or_later (next_of s (rev h)) p (q ∷ r ∷ rest) there) [
+  off_ring w stays off off_p None bare = λ h live at.
+      let (y, was, same) = from_old m p q r rest halves edges faces mesh closed removal hole h live in bare y was (same ∙ at)
+  off_ring w stays off off_p (Some h) anchors = elim (old_kept m p q r rest halves edges faces mesh closed removal hole h anchors.0) [
+    | inl (inl given) ↦ absurd (false≢true (sym stays ∙ ap (gives_up_vertex removal) (sym anchors.1) ∙ given))
+    | inl (inr there) ↦
+        let starts : origin_of s there.0 ≡ w = there.2 ∙ anchors.1 in
+        absurd (elim (first_or_later there.0 p (q ∷ r ∷ rest) there.1) [
           | inl first ↦ off_p (ap (origin_of s) (sym first) ∙ starts)
-          | inr later ↦ off (next_of s (rev h)) later starts
+          | inr later ↦ off there.0 later starts
         ])
     | inr kept ↦ (kept.0, kept.1 ∙ anchors.1)
   ]
@@ -52,18 +48,18 @@ module _ {V DE UE F : Type 0} (m : Mesh V DE UE F) (v p q r : ℕ) (rest border 
   round = anchors_round (origin_of s) (origin_of s p) m.vertex_anchors s.edges p q r rest
 
   vertices_anchored : (w : ℕ) → w < s.vertices → AnchorsVertex t w (vertex_anchor N w)
-  vertices_anchored w below = elim (cases_eq v w) [
-    | inl same ↦
-        subst (AnchorsVertex t w) (sym (hidden (gives_up_vertex removal) None round w (gives.vertices w ∙ eq-eqb v w same)))
-        (λ h live at. none_at m v p q r rest border halves edges faces mesh closed removal gives l ring h live (at ∙ sym same))
-    | inr other ↦
-        subst (AnchorsVertex t w) (sym (not_hidden (gives_up_vertex removal) None round w (gives.vertices w ∙ ne_eqb v w other)))
+  vertices_anchored w below = elim (cases_Bool (gives_up_vertex removal w)) [
+    | inl given ↦
+        subst (AnchorsVertex t w) (sym (hidden (gives_up_vertex removal) None round w given))
+        (none_at m p q r rest halves edges faces mesh closed removal hole w given)
+    | inr stays ↦
+        subst (AnchorsVertex t w) (sym (not_hidden (gives_up_vertex removal) None round w stays))
         (round_anchor (AnchorsVertex t w) (origin_of s) (origin_of s p) w rest m.vertex_anchors s.edges p q r (omega (arith, below, mesh.sized.vertex_anchors))
         (λ y found at.
-        let kept = item_kept m v p q r rest border halves edges faces mesh closed removal gives l ring y (count-later y p (q ∷ r ∷ rest) found) in
+        let kept = item_kept m p q r rest halves edges faces mesh closed removal hole y (count-later y p (q ∷ r ∷ rest) found) in
         (kept.0, kept.1 ∙ at))
-        (λ at. let kept = last_kept m v p q r rest border halves edges faces mesh closed removal gives l ring in (kept.0, kept.1 ∙ at))
-        (λ off off_p. off_ring w (λ i. other (sym i)) off off_p (vertex_anchor m w) (mesh.anchored.vertices w below)))
+        (λ at. let kept = last_kept m p q r rest halves edges faces mesh closed removal hole in (kept.0, kept.1 ∙ at))
+        (λ off off_p. off_ring w stays off off_p (vertex_anchor m w) (mesh.anchored.vertices w below)))
   ]
 
   kept_long : length (kept_face_anchors removal m.face_anchors) ≡ L
@@ -77,11 +73,11 @@ module _ {V DE UE F : Type 0} (m : Mesh V DE UE F) (v p q r : ℕ) (rest border 
         elim (cases_Bool (gives_up_face removal f)) [
           | inl given ↦
               subst (AnchorsWord (word_of t.words f)) (sym (left ∙ hidden (gives_up_face removal) None m.face_anchors f given))
-              (word-given m v p q r rest border halves edges faces mesh closed removal gives l ring f given)
+              (word-given m p q r rest halves edges faces mesh closed removal hole f given)
           | inr kept ↦
               subst (AnchorsWord (word_of t.words f)) (sym (left ∙ not_hidden (gives_up_face removal) None m.face_anchors f kept))
               (subst (λ w. AnchorsWord w (face_anchor m f))
-              (sym (word-kept m v p q r rest border halves edges faces mesh closed removal gives l ring f below kept))
+              (sym (word-kept m p q r rest halves edges faces mesh closed removal hole f below kept))
               (mesh.anchored.faces f below))
         ]
     | inr past ↦
@@ -93,23 +89,22 @@ module _ {V DE UE F : Type 0} (m : Mesh V DE UE F) (v p q r : ℕ) (rest border 
         subst (λ g. AnchorsWord (word_of t.words g) (face_anchor N g)) place
         (subst (λ a. AnchorsWord (word_of t.words (L + i)) a) (sym anchor)
         (subst (λ w. AnchorsWord w (slice_index_or (ear_anchors s.edges p rest) i None))
-        (sym (word-ear m v p q r rest border halves edges faces mesh closed removal gives l ring i))
+        (sym (word-ear m p q r rest halves edges faces mesh closed removal hole i))
         (ear_anchored s.edges p q r rest i
-        (omega (arith, within, past, words_long m v p q r rest border halves edges faces mesh closed removal gives l ring)))))
+        (omega (arith, within, past, words_long m p q r rest halves edges faces mesh closed removal hole)))))
   ]
 
   long : face_count t ≡ L + suc (length rest)
-  long = words_long m v p q r rest border halves edges faces mesh closed removal gives l ring
+  long = words_long m p q r rest halves edges faces mesh closed removal hole
 
   is_within : IsWithin t.removal s.vertices (s.edges + length rest) (face_count t)
   is_within = record {
-    vertices = λ w given.
-        let is : v ≡ w = eqb-true v w (sym (gives.vertices w) ∙ given) in omega (arith, is, (vertex_live-parts s v l.live).0);
-    edges = λ u given. omega (arith, given_below m v p q r rest border halves edges faces mesh closed removal gives l ring u given);
+    vertices = hole.within.vertices;
+    edges = λ u given. omega (arith, given_below m p q r rest halves edges faces mesh closed removal hole u given);
     faces = λ f given.
-        let below = face_below m v p q r rest border halves edges faces mesh closed removal gives l ring f given in
+        let below = face_below m p q r rest halves edges faces mesh closed removal hole f given in
         (below.0, omega (arith, below.1, long));
-    in_order = gives.in_order;
+    in_order = hole.within.in_order;
   }
 
   module _ (room : HasRoom m.shape 0 (length rest) (suc (length rest))) (half_count : length halves ≡ 2 * length rest) (edge_count : length edges ≡ length rest) (new_faces : length faces ≡ suc (length rest)) where
@@ -148,23 +143,23 @@ module _ {V DE UE F : Type 0} (m : Mesh V DE UE F) (v p q r : ℕ) (rest border 
 
     pub ring_filled-mesh : IsMesh (ring_filled m removal p q r rest halves edges faces)
     ring_filled-mesh = record {
-      sound = filled-sound m v p q r rest border halves edges faces mesh closed removal gives l ring;
-      sphere = filled-sphere m v p q r rest border halves edges faces mesh closed removal gives l ring;
+      sound = filled-sound m p q r rest halves edges faces mesh closed removal hole;
+      sphere = filled-sphere m p q r rest halves edges faces mesh closed removal hole;
       anchored = record { vertices = vertices_anchored; faces = faces_anchored };
       sized = is_sized;
     }
 
--- what filling the hole of v asks
-pub record CanFill {V DE UE F : Type 0} (m : Mesh V DE UE F) (v : ℕ) (border : List ℕ) (removal : Removal) (halves : List DE) (edges : List UE) (faces : List F) : Type 0 where
+-- what filling a ring asks: a hole that the record leaves along it, and room
+pub record CanFill {V DE UE F : Type 0} (m : Mesh V DE UE F) (border : List ℕ) (removal : Removal) (halves : List DE) (edges : List UE) (faces : List F) : Type 0 where
   pub closed : m.shape.removal ≡ Closed
-  pub gives : GivesUpRound m.shape v removal
-  pub border_loop : IsBorderLoop m.shape border v
+  pub many : 3 ≤ length border
+  pub hole : HollowOf m.shape removal (reverse border) (face_count m.shape + (length border - 3))
   pub room : HasRoom m.shape 0 (length border - 3) (length border - 2)
   pub half_count : length halves ≡ 2 * (length border - 3)
   pub edge_count : length edges ≡ length border - 3
   pub face_data_count : length faces ≡ length border - 2
 
-module _ {V DE UE F : Type 0} (m : Mesh V DE UE F) (v : ℕ) (border : List ℕ) (removal : Removal) (halves : List DE) (edges : List UE) (faces : List F) (mesh : IsMesh m) (can : CanFill m v border removal halves edges faces) where
+module _ {V DE UE F : Type 0} (m : Mesh V DE UE F) (border : List ℕ) (removal : Removal) (halves : List DE) (edges : List UE) (faces : List F) (mesh : IsMesh m) (can : CanFill m border removal halves edges faces) where
   -- by the items of the ring
   along : (ring : List ℕ) → reverse border ≡ ring → 3 ≤ length ring → IsMesh (loop_filled m removal ring halves edges faces)
   along [] is many = absurd (omega (arith, many))
@@ -172,7 +167,10 @@ module _ {V DE UE F : Type 0} (m : Mesh V DE UE F) (v : ℕ) (border : List ℕ)
   along (p ∷ q ∷ []) is many = absurd (omega (arith, many))
   along (p ∷ q ∷ r ∷ rest) is many =
       let long : length border ≡ suc (suc (suc (length rest))) = sym (length-reverse border) ∙ ap length is in
-      ring_filled-mesh m v p q r rest border halves edges faces mesh can.closed removal can.gives can.border_loop is
+      let number : face_count m.shape + (length border - 3) ≡ face_count m.shape + length rest = omega (arith, long) in
+      ring_filled-mesh m p q r rest halves edges faces mesh can.closed removal
+      (subst (λ n. HollowOf m.shape removal (p ∷ q ∷ r ∷ rest) n) number
+      (subst (λ (w : List ℕ). HollowOf m.shape removal w (face_count m.shape + (length border - 3))) is can.hole))
       record {
         for_vertices = can.room.for_vertices;
         for_edges = omega (arith, can.room.for_edges, long);
@@ -180,4 +178,4 @@ module _ {V DE UE F : Type 0} (m : Mesh V DE UE F) (v : ℕ) (border : List ℕ)
       } (omega (arith, can.half_count, long)) (omega (arith, can.edge_count, long)) (omega (arith, can.face_data_count, long))
 
   pub border_filled-mesh : IsMesh (border_filled m removal border halves edges faces)
-  border_filled-mesh = along (reverse border) refl (omega (arith, can.border_loop.many, length-reverse border))
+  border_filled-mesh = along (reverse border) refl (omega (arith, can.many, length-reverse border))

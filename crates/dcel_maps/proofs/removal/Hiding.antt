@@ -45,6 +45,11 @@ hiding-one test other v items one =
           get_or-set_other items v k other other (λ is. apart (sym is)) ∙ sym (not_hidden test other items k (one k ∙ ne_eqb v k apart))
     ])
 
+-- where none passes, all stay
+pub hiding-none : {A : Type 0} (test : ℕ → Bool) (other : A) (items : List A) → ((k : ℕ) → test k ≡ false) → items ≡ hiding test other items
+hiding-none test other items none =
+    ext_get_or other items (hiding test other items) (sym (length-hiding test other items)) (λ k below. sym (not_hidden test other items k (none k)))
+
 -- where the places of a list pass, and no others, their items are replaced
 pub hiding-each : {A : Type 0} (test : ℕ → Bool) (other : A) (place : ℕ → ℕ) (es : List ℕ) (items : List A)
     → ((k : ℕ) → (test k ≡ true) ↔ ((e : ℕ) × (0 < count_of e es) × (place e ≡ k))) → each_set place (λ e. other) items es ≡ hiding test other items

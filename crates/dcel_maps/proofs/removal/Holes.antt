@@ -1,5 +1,5 @@
 -- A vertex taken away with its triangles: the hole is one face, which goes along the ring.
-use Rattle.std.proofs.Common.{◌≡◌, ◌≢◌, ◌⊎◌, inl, inr, ◌/◌, ◌<◌, ◌≤◌, ℕ, suc, max, false, List, ◌∷◌, sym, refl, ap, ◌∙◌, subst, arith}
+use Rattle.std.proofs.Common.{◌≡◌, ◌≢◌, ◌⊎◌, inl, inr, ◌/◌, ◌<◌, ◌≤◌, ℕ, suc, max, false, List, ◌∷◌, sym, ap, ◌∙◌, subst, arith}
 use Rattle.std.proofs.lemmas.Bool.{cases_eq}
 use Rattle.dcel_fixed.specs.HalfEdges.{rev}
 use Rattle.dcel_maps.specs.Maps.{Live, Map}
@@ -7,61 +7,14 @@ use Rattle.dcel_maps.specs.theory.Sound.{Sound, Sphere}
 use Rattle.dcel_maps.specs.theory.Standing.{Follows}
 use Rattle.dcel_maps.specs.theory.Cycles.{IsCycle}
 use Rattle.dcel_maps.specs.Words.{count_of}
-use Rattle.dcel_maps.proofs.maps.Edits.{Renamed}
 use Rattle.dcel_maps.proofs.maps.Halves.{rev-rev, rev_half}
-use Rattle.dcel_maps.proofs.maps.Renames.{renamed_keeps}
 use Rattle.dcel_maps.proofs.maps.Soundness.{face_cycles}
-use Rattle.dcel_maps.proofs.maps.Updates.{put, put_other, put_same}
 use Rattle.dcel_maps.proofs.words.Counts.{absent_head, count-same, first_or_later}
 use Rattle.dcel_maps.proofs.words.Faces.{KeepsFace, keeps_face-then}
 use Rattle.dcel_maps.proofs.words.Paths.{Path-changed}
+use Rattle.dcel_maps.proofs.removal.RenumberedFaces.{Numbered, numbered, renumbered_face}
 use Rattle.dcel_maps.proofs.removal.Spokes.{Merged, Opened, Untouched, follows, path_item}
 use Rattle.dcel_maps.proofs.removal.Tips.{SpurGone, away_live, live_away, spur_away, spur_away_keeps, spur_gone}
-
--- the face g gets the number n
-unfoldable pub renumbered_face : Map → ℕ → ℕ → Map
-renumbered_face U g n = record U {
-  face = λ x. put (λ f. f) g n (U.face x);
-  faces = max U.faces (suc n);
-}
-
-number_apart : (g n x y : ℕ) → (x ≢ g → x ≢ n) → (y ≢ g → y ≢ n) → put (λ f. f) g n x ≡ put (λ f. f) g n y → x ≡ y
-number_apart g n x y off_x off_y same = elim (cases_eq x g) [
-  | inl at_x ↦ elim (cases_eq y g) [
-    | inl at_y ↦ at_x ∙ sym at_y
-    | inr no_y ↦ absurd (off_y no_y (sym (put_other (λ f. f) g n y no_y) ∙ sym same ∙ ap (put (λ f. f) g n) at_x ∙ put_same (λ f. f) g n))
-  ]
-  | inr no_x ↦ elim (cases_eq y g) [
-    | inl at_y ↦ absurd (off_x no_x (sym (put_other (λ f. f) g n x no_x) ∙ same ∙ ap (put (λ f. f) g n) at_y ∙ put_same (λ f. f) g n))
-    | inr no_y ↦ sym (put_other (λ f. f) g n x no_x) ∙ same ∙ put_other (λ f. f) g n y no_y
-  ]
-]
-
-number_below : (g n x : ℕ) (faces : ℕ) → x < faces → put (λ f. f) g n x < max faces (suc n)
-number_below g n x faces below = elim (cases_eq x g) [
-  | inl at ↦ let new : put (λ f. f) g n x ≡ n = ap (put (λ f. f) g n) at ∙ put_same (λ f. f) g n in omega (arith, new)
-  | inr other ↦ let old : put (λ f. f) g n x ≡ x = put_other (λ f. f) g n x other in omega (arith, old, below)
-]
-
-face_renamed : (U : Map) (g n : ℕ) → Sound U → ((x : ℕ) → Live U x → U.face x ≢ g → U.face x ≢ n)
-    → Renamed U (renumbered_face U g n) (λ x. x) (λ x. x) (λ v. v) (put (λ f. f) g n)
-unfolding renumbered_face
-face_renamed U g n s vacant = record {
-  lives = λ x l. l;
-  comes = λ x l. l;
-  forth = λ x l. refl;
-  back = λ x l. refl;
-  turn = λ x l. refl;
-  next = λ x l. refl;
-  prev = λ x l. refl;
-  origin = λ x l. refl;
-  face = λ x l. refl;
-  apart_origin = λ x y l m e. e;
-  apart_face = λ x y l m e. number_apart g n (U.face x) (U.face y) (vacant x l) (vacant y m) e;
-  below_edges = s.below_edges;
-  below_vertices = s.below_vertices;
-  below_faces = λ x l. number_below g n (U.face x) U.faces (s.below_faces x l);
-}
 
 -- P is S without the spokes; the face n of P goes along the ring
 pub record HoleOf (S P : Map) (spokes ring : List ℕ) (n : ℕ) : Type 0 where
@@ -122,49 +75,22 @@ module _ (S K : Map) (h : ℕ) (ks : List ℕ) (b : ℕ) (rest : List ℕ) (g n 
   vacant : (x : ℕ) → Live U x → U.face x ≢ g → U.face x ≢ n
   vacant x l other at = free x (live_U x l).0 (λ i. other (gone_k.face x ∙ i)) (sym (gone_k.face x) ∙ at)
 
-  keeps_hollow : Sound hollow × Sphere hollow
+  num : Numbered U hollow g n
   unfolding hollow
-  keeps_hollow = renamed_keeps U (renumbered_face U g n) (λ x. x) (λ x. x) (λ v. v) (put (λ f. f) g n) (face_renamed U g n keeps_U.0 vacant) keeps_U.0 keeps_U.1
-
-  -- hollow has the links of U
-  record SameLinks : Type 0 where
-    edge : (u : ℕ) → hollow.edge u ≡ U.edge u
-    next : (x : ℕ) → hollow.next x ≡ U.next x
-    prev : (x : ℕ) → hollow.prev x ≡ U.prev x
-    origin : (x : ℕ) → hollow.origin x ≡ U.origin x
-    face : (x : ℕ) → hollow.face x ≡ put (λ f. f) g n (U.face x)
-    edges : hollow.edges ≡ U.edges
-    vertices : hollow.vertices ≡ U.vertices
-    faces : hollow.faces ≡ max U.faces (suc n)
-
-  same_links : SameLinks
-  unfolding hollow renumbered_face
-  same_links = record {
-    edge = λ u. refl;
-    next = λ x. refl;
-    prev = λ x. refl;
-    origin = λ x. refl;
-    face = λ x. refl;
-    edges = refl;
-    vertices = refl;
-    faces = refl;
-  }
-
-  face_hollow : (x : ℕ) → hollow.face x ≡ put (λ f. f) g n (K.face x)
-  face_hollow x = same_links.face x ∙ ap (put (λ f. f) g n) (gone_k.face x)
+  num = numbered U g n keeps_U.0 keeps_U.1 vacant
 
   face_hollow-other : (x : ℕ) → K.face x ≢ g → hollow.face x ≡ K.face x
-  face_hollow-other x other = face_hollow x ∙ put_other (λ f. f) g n (K.face x) other
+  face_hollow-other x other = num.face_other x (λ i. other (sym (gone_k.face x) ∙ i)) ∙ gone_k.face x
 
   face_hollow-ring : (x : ℕ) → K.face x ≡ g → hollow.face x ≡ n
-  face_hollow-ring x at = face_hollow x ∙ ap (put (λ f. f) g n) at ∙ put_same (λ f. f) g n
+  face_hollow-ring x at = num.face_there x (gone_k.face x ∙ at)
 
   live_hollow : (x : ℕ) → Live K x → x ≢ k → x ≢ h → Live hollow x
   unfolding U
-  live_hollow x l not_k not_h = same_links.edge (x / 2) ∙ away_live K k x l not_k (λ i. not_h (i ∙ turn))
+  live_hollow x l not_k not_h = num.edge (x / 2) ∙ away_live K k x l not_k (λ i. not_h (i ∙ turn))
 
   was_live : (x : ℕ) → Live hollow x → Live U x
-  was_live x l = sym (same_links.edge (x / 2)) ∙ l
+  was_live x l = sym (num.edge (x / 2)) ∙ l
 
   item : (y : ℕ) → 0 < count_of y (b ∷ rest) → Live K y × (K.face y ≡ g)
   item y found = path_item K g h (b ∷ rest) k m.path y (omega (arith, found))
@@ -177,16 +103,16 @@ module _ (S K : Map) (h : ℕ) (ks : List ℕ) (b : ℕ) (rest : List ℕ) (g n 
 
   ring_step : (p q : ℕ) → 0 < count_of p (b ∷ rest) → 0 < count_of q rest → Follows K g p q → Follows hollow n p q
   ring_step p q p_in q_in link =
-      follows hollow keeps_hollow.0 n p q (live_hollow p link.live (not_k p p_in) (not_h p p_in))
-      (same_links.next p
+      follows hollow num.sound n p q (live_hollow p link.live (not_k p p_in) (not_h p p_in))
+      (num.next p
       ∙ gone_k.next_other p (λ i. not_k q (omega (arith, q_in)) (sym link.next ∙ ap K.next i ∙ m.sound.next-prev k live_k))
       ∙ link.next)
       (face_hollow-ring p link.face)
 
   ring_end : (p : ℕ) → 0 < count_of p (b ∷ rest) → Follows K g p k → Follows hollow n p b
   ring_end p p_in link =
-      follows hollow keeps_hollow.0 n p b (live_hollow p link.live (not_k p p_in) (not_h p p_in))
-      (same_links.next p ∙ ap U.next (sym link.prev) ∙ gone_k.next_before ∙ next_h)
+      follows hollow num.sound n p b (live_hollow p link.live (not_k p p_in) (not_h p p_in))
+      (num.next p ∙ ap U.next (sym link.prev) ∙ gone_k.next_before ∙ next_h)
       (face_hollow-ring p link.face)
 
   around : IsCycle (Follows hollow n) (b ∷ rest)
@@ -204,9 +130,9 @@ module _ (S K : Map) (h : ℕ) (ks : List ℕ) (b : ℕ) (rest : List ℕ) (g n 
     );
     live = λ x l at. live_hollow x l (λ i. off_g (sym at ∙ ap K.face i ∙ m.close.face)) (λ i. off_g (sym at ∙ ap K.face i ∙ m.path.0.face));
     next = λ x l at.
-        same_links.next x
+        num.next x
         ∙ gone_k.next_other x (λ i. off_g (sym at ∙ sym ((face_cycles K m.sound).along x l) ∙ ap K.face (ap K.next i ∙ m.sound.next-prev k live_k) ∙ m.close.face));
-    prev = λ x l at. same_links.prev x ∙ gone_k.prev_other x (λ i. off_g (sym at ∙ ap K.face (i ∙ next_h) ∙ (item b (omega (arith, count-same b rest))).1));
+    prev = λ x l at. num.prev x ∙ gone_k.prev_other x (λ i. off_g (sym at ∙ ap K.face (i ∙ next_h) ∙ (item b (omega (arith, count-same b rest))).1));
     face = λ x l at. face_hollow-other x (λ i. off_g (sym at ∙ i)) ∙ at;
   }
 
@@ -221,23 +147,23 @@ module _ (S K : Map) (h : ℕ) (ks : List ℕ) (b : ℕ) (rest : List ℕ) (g n 
 
   pub is_hollow : HoleOf S hollow (h ∷ ks) (b ∷ rest) n
   is_hollow = record {
-    sound = keeps_hollow.0;
-    sphere = keeps_hollow.1;
+    sound = num.sound;
+    sphere = num.sphere;
     cycle = around;
-    origin = λ x. same_links.origin x ∙ gone_k.origin x ∙ o.origin x;
+    origin = λ x. num.origin x ∙ gone_k.origin x ∙ o.origin x;
     gone = λ x found. elim (first_or_later x h ks found) [
-      | inl same ↦ ap (λ z. hollow.edge (z / 2)) same ∙ same_links.edge (h / 2) ∙ ap U.edge (sym (rev_half h)) ∙ gone_k.edge_here
+      | inl same ↦ ap (λ z. hollow.edge (z / 2)) same ∙ num.edge (h / 2) ∙ ap U.edge (sym (rev_half h)) ∙ gone_k.edge_here
       | inr later ↦ elim (cases_eq (x / 2) (k / 2)) [
-        | inl half ↦ ap hollow.edge half ∙ same_links.edge (k / 2) ∙ gone_k.edge_here
-        | inr other ↦ same_links.edge (x / 2) ∙ gone_k.edge_other (x / 2) other ∙ o.gone x later
+        | inl half ↦ ap hollow.edge half ∙ num.edge (k / 2) ∙ gone_k.edge_here
+        | inr other ↦ num.edge (x / 2) ∙ gone_k.edge_other (x / 2) other ∙ o.gone x later
       ]
     ];
     kept = λ u apart.
-        same_links.edge u ∙ gone_k.edge_other u (λ i. apart h (omega (arith, count-same h ks)) (i ∙ rev_half h))
+        num.edge u ∙ gone_k.edge_other u (λ i. apart h (omega (arith, count-same h ks)) (i ∙ rev_half h))
         ∙ o.kept u (λ x found. apart x (omega (arith, found)));
-    edges = same_links.edges ∙ gone_k.edges ∙ o.edges;
-    vertices = same_links.vertices ∙ gone_k.vertices ∙ o.vertices;
-    faces = omega (arith, same_links.faces, gone_k.faces, o.faces);
+    edges = num.edge_count ∙ gone_k.edges ∙ o.edges;
+    vertices = num.vertex_count ∙ gone_k.vertices ∙ o.vertices;
+    faces = omega (arith, num.face_number, gone_k.faces, o.faces);
     keeps_face = λ f off away.
         let u = untouched f away in
         keeps_face-then S K hollow f (o.keeps_face f u) (keeps_K f off (merged_off f u));

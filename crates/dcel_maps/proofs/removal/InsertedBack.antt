@@ -14,6 +14,8 @@ use Rattle.dcel_maps.specs.edits.Fill.{edges_at, faces_at, loop_filled, ring_fil
 use Rattle.dcel_maps.specs.edits.Triangle.{vertex_inserted}
 use Rattle.dcel_maps.proofs.Shown.{length-shown, slice_index-shown_live}
 use Rattle.dcel_maps.proofs.removal.Filled.{filled-sound}
+use Rattle.dcel_maps.proofs.removal.Hollows.{HollowOf}
+use Rattle.dcel_maps.proofs.removal.VertexHoles.{vertex_hollow}
 use Rattle.dcel_maps.proofs.removal.GivenUp.{edges_at-lists, opened_faces}
 use Rattle.dcel_maps.proofs.removal.Hiding.{length-hiding, not_hidden}
 use Rattle.dcel_maps.proofs.removal.Inserted.{face-below, inserted-count, inserted-edges, inserted-faces, replaced-other, vertex_inserted-mesh}
@@ -119,7 +121,9 @@ module _ {V DE UE F : Type 0} (m : Mesh V DE UE F) (v f : ℕ) (halves : List DE
     T = left ((e + 2) ∷ (e + 1) ∷ e ∷ []) (suc L ∷ L ∷ f ∷ [])
 
     sound : IsSound G.shape
-    sound = filled-sound K v p q r [] border [] [] (x ∷ []) after closed R gives l ring
+    sound = filled-sound K p q r [] [] [] (x ∷ []) after closed R
+        (subst (λ (w : List ℕ). HollowOf K.shape R w (face_count K.shape + 0)) ring
+        (vertex_hollow K.shape after.sound after.sphere closed border v (face_count K.shape + 0) l R gives (omega arith)))
 
     least : (g : ℕ) → from_least (word_of G.shape.words g) ≡ word_of G.shape.words g
     least g = from_least-kept (word_of G.shape.words g) (sound.least_first g) (λ h. count-le (map_of G.shape) G.shape.words (links_stand sound) h g)

@@ -3,7 +3,7 @@
 use Rattle.std.proofs.Common.{◌≡◌, ◌≢◌, ◌↔◌, inl, inr, ℕ, ◌/◌, ◌<◌, ◌≤◌, List, [], ◌∷◌, ◌++◌, length, map, reverse, refl, sym, ap, ◌∙◌, subst, arith}
 use Rattle.std.proofs.lemmas.Bool.{cases_eq, cases_lt}
 use Rattle.std.proofs.lemmas.List.{length-append, length-map, length-reverse, nil_from_length, reverse-append}
-use Rattle.dcel_maps.specs.Borders.{GivesUpRound, IsBorderLoop, IsEdgeAt, IsFaceAt, IsRing, center_of}
+use Rattle.dcel_maps.specs.Borders.{GivesUpRound, IsBorderLoop, IsEdgeAt, IsFaceAt, IsVertexRing, center_of}
 use Rattle.dcel_maps.specs.Shapes.{IsLive, IsMesh, IsSound, Mesh, Shape, face_of, map_of, next_of, origin_of}
 use Rattle.dcel_maps.specs.Walking.{IsOutEdge, ListsOnce, ccw_of, in_mesh, out_edges_of, walk_of}
 use Rattle.dcel_maps.specs.Words.{count_of}
@@ -227,7 +227,7 @@ loop_item-live s sound border v l x found =
 -- a ring is a border loop with such lists
 pub finds_iff-ring : {V DE UE F : Type 0} (m : Mesh V DE UE F) → IsMesh m → (border edges faces : List ℕ) (center : ℕ) → center ≡ center_of m.shape border
     → IsBorderLoop m.shape border center → length edges ≡ length border → length faces ≡ length border
-    → FindsEach m.shape edges faces (out_edges_of m center) ↔ IsRing m.shape border edges faces
+    → FindsEach m.shape edges faces (out_edges_of m center) ↔ IsVertexRing m.shape border edges faces
 finds_iff-ring m mesh border edges faces center is l edges_long faces_long =
     let lists = finds_iff-lists m mesh border center l edges faces edges_long faces_long in (
       λ finds.
@@ -241,7 +241,7 @@ finds_iff-ring m mesh border edges faces center is l edges_long faces_long =
     )
 
 -- and a record of these gives up what lies inside the ring
-pub at_ring : (s : Shape) (border edges faces : List ℕ) → IsRing s border edges faces
+pub at_ring : (s : Shape) (border edges faces : List ℕ) → IsVertexRing s border edges faces
     → GivesUpRound s (center_of s border) (opened edges faces (center_of s border))
 at_ring s border edges faces ring =
     opened-round s (center_of s border) edges faces (once_lists ring.each_edge) (once_lists ring.each_face) (single ring.each_edge) (single ring.each_face)

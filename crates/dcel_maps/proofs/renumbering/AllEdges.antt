@@ -3,9 +3,9 @@ use Rattle.std.proofs.Common.{◌≡◌, ℕ, ◌-◌, List, [], ◌∷◌, map,
 use Rattle.std.proofs.lemmas.List.{length-map}
 use Rattle.dcel_maps.specs.Cyclic.{from_least}
 use Rattle.dcel_maps.specs.Removals.{gives_up_edge, gives_up_face}
-use Rattle.dcel_maps.specs.Renumbering.{edge_taken_out, edges_taken_out, half_of, moved}
+use Rattle.dcel_maps.specs.Renumbering.{edge_taken_out, edges_taken_out, half_of, moved, new_number}
 use Rattle.dcel_maps.specs.Shapes.{IsMesh, Mesh, Shape, face_count}
-use Rattle.dcel_maps.specs.theory.Renumbering.{new_number, old_number}
+use Rattle.dcel_maps.specs.theory.Renumbering.{old_number}
 use Rattle.dcel_maps.proofs.renumbering.Edges.{IsLastEdgeOut, edge-renamed}
 use Rattle.dcel_maps.proofs.renumbering.Meshes.{edge_out-mesh}
 use Rattle.dcel_maps.proofs.renumbering.Moves.{half_of-same, half_of-then}

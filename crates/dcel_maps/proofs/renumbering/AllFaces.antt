@@ -1,9 +1,9 @@
 -- All faces that are given up are taken out, from the largest down.
 use Rattle.std.proofs.Common.{ℕ, ◌-◌, List, [], ◌∷◌, refl, subst}
 use Rattle.dcel_maps.specs.Removals.{gives_up_edge, gives_up_face}
-use Rattle.dcel_maps.specs.Renumbering.{face_taken_out, faces_taken_out, moved}
+use Rattle.dcel_maps.specs.Renumbering.{face_taken_out, faces_taken_out, moved, new_number}
 use Rattle.dcel_maps.specs.Shapes.{IsMesh, Mesh, Shape, face_count}
-use Rattle.dcel_maps.specs.theory.Renumbering.{new_number, old_number}
+use Rattle.dcel_maps.specs.theory.Renumbering.{old_number}
 use Rattle.dcel_maps.proofs.renumbering.Faces.{IsLastFaceOut, face-renamed, faces-left}
 use Rattle.dcel_maps.proofs.renumbering.Meshes.{face_out-mesh}
 use Rattle.dcel_maps.proofs.renumbering.Records.{without_face-loses}

@@ -1,9 +1,9 @@
 -- Cleanup takes out what was given up, and leaves a mesh: the one that was, under other numbers.
 use Rattle.std.proofs.Common.{◌≡◌, ℕ, false, List, Some, None, refl, sym, ◌∙◌, subst}
 use Rattle.dcel_maps.specs.Removals.{Closed, Cleaned, IsInOrder, IsWithin, Isolated, Removal, gives_up_edge, gives_up_face, gives_up_vertex}
-use Rattle.dcel_maps.specs.Renumbering.{cleaned, cleaned_up, edges_down, edges_taken_out, faces_down, faces_taken_out, half_of}
+use Rattle.dcel_maps.specs.Renumbering.{cleaned, cleaned_up, edges_down, edges_taken_out, faces_down, faces_taken_out, half_of, new_number}
 use Rattle.dcel_maps.specs.Shapes.{IsMesh, Mesh, face_anchor, face_count, vertex_anchor}
-use Rattle.dcel_maps.specs.theory.Renumbering.{GoesDown, new_number, old_number}
+use Rattle.dcel_maps.specs.theory.Renumbering.{GoesDown, old_number}
 use Rattle.dcel_maps.proofs.renumbering.AllEdges.{ListsEdges, edge_steps, edges_out-faces, edges_out-renamed}
 use Rattle.dcel_maps.proofs.renumbering.AllFaces.{ListsFaces, face_steps, faces_out-renamed}
 use Rattle.dcel_maps.proofs.renumbering.GivenUp.{edges_down-list, faces_down-list}

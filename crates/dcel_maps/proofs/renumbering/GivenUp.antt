@@ -23,10 +23,10 @@ any-counted u (x ∷ xs) = (
   ],
 )
 
-reverse_first : (x : ℕ) (xs : List ℕ) → reverse (x ∷ xs) ≡ reverse xs ++ x ∷ []
+pub reverse_first : (x : ℕ) (xs : List ℕ) → reverse (x ∷ xs) ≡ reverse xs ++ x ∷ []
 reverse_first x xs = reverse-append (x ∷ []) xs
 
-count-reverse : (e : ℕ) (xs : List ℕ) → count_of e (reverse xs) ≡ count_of e xs
+pub count-reverse : (e : ℕ) (xs : List ℕ) → count_of e (reverse xs) ≡ count_of e xs
 count-reverse e [] = refl
 count-reverse e (x ∷ xs) =
     let parts = ap (count_of e) (reverse_first x xs) ∙ count-append e (reverse xs) (x ∷ []) in

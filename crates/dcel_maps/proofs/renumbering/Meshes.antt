@@ -16,7 +16,7 @@ use Rattle.dcel_maps.proofs.shapes.Anchors.{AnchorsFollow, renamed-mesh}
 use Rattle.dcel_maps.proofs.shapes.Sizes.{sized_from, sized_vertices, sized_edges, sized_faces}
 
 -- anchors under other numbers, one by one
-anchor-map : (f : ℕ → ℕ) (anchors : List (Option ℕ)) (k : ℕ)
+pub anchor-map : (f : ℕ → ℕ) (anchors : List (Option ℕ)) (k : ℕ)
     → slice_index_or (map (option_map f) anchors) k None ≡ option_map f (slice_index_or anchors k None)
 anchor-map f [] k = refl
 anchor-map f (a ∷ anchors) zero = refl

@@ -3,9 +3,9 @@ use Rattle.std.proofs.Common.{◌≡◌, ◌≢◌, inl, inr, ℕ, ◌-◌, ◌*
 use Rattle.std.proofs.lemmas.Bool.{cases_eq, cases_lt}
 use Rattle.std.proofs.lemmas.List.FromFn.{get_or-range_with_len, length-range_with_len}
 use Rattle.dcel_maps.specs.Numbers.{numbers_between}
-use Rattle.dcel_maps.specs.Renumbering.{half_of, last_put, moved, renumbered}
+use Rattle.dcel_maps.specs.Renumbering.{half_of, last_put, moved, new_number, renumbered}
 use Rattle.dcel_maps.specs.Words.{count_of}
-use Rattle.dcel_maps.specs.theory.Renumbering.{GoesDown, new_number, old_number}
+use Rattle.dcel_maps.specs.theory.Renumbering.{GoesDown, old_number}
 use Rattle.dcel_maps.proofs.renumbering.LastPut.{length-last_put}
 use Rattle.dcel_maps.proofs.renumbering.Moves.{half_of-half, half_of-kept, half_of-then, last_put-half, last_put-moved, moved-back, moved-below, moved-last, moved-other, moved-within}
 use Rattle.dcel_maps.proofs.words.Counts.{count-same, first_or_later}

@@ -54,7 +54,7 @@ module _ {s : Shape} (sound : IsSound s) (f a : ℕ) (lies : IsOnFace s f a) whe
       turns_on turn (record { front = a ∷ next_of s a ∷ []; back = prev_of s a ∷ []; was = refl; is = refl })
 
   -- the walk round a face is its word, written from where the walk begins
-  walk-turn : TurnsTo (word_of s.words f) (walk_of s (next_of s) a)
+  pub walk-turn : TurnsTo (word_of s.words f) (walk_of s (next_of s) a)
   walk-turn =
       let st = links_stand sound in
       let w = written_from (map_of s) s.words st a lies.live in

@@ -1,5 +1,5 @@
 -- A list of half edges of live edges, none of them twice, is at most twice as long as there are live edges.
-use Rattle.std.proofs.Common.{◌≡◌, ℕ, zero, suc, ◌+◌, ◌*◌, ◌/◌, ◌<◌, ◌≤◌, Bool, false, inl, inr, List, [], ◌∷◌, length, refl, ap, ◌∙◌, arith}
+use Rattle.std.proofs.Common.{◌≡◌, ℕ, zero, suc, ◌+◌, ◌*◌, ◌/◌, ◌<◌, ◌≤◌, Bool, true, false, inl, inr, List, [], ◌∷◌, length, refl, ap, ◌∙◌, arith}
 use Rattle.std.proofs.lemmas.Bool.{cases_Bool, cases_eq}
 use Rattle.dcel_maps.specs.Maps.{count}
 use Rattle.dcel_maps.specs.Words.{count_of}
@@ -52,6 +52,24 @@ tally-le p (suc n) w single none =
 pub length-le_twice : (p : ℕ → Bool) (n : ℕ) (w : List ℕ) → ((h : ℕ) → count_of h w ≤ 1)
     → ((h : ℕ) → 0 < count_of h w → h < 2 * n) → ((h : ℕ) → p (h / 2) ≡ false → count_of h w ≡ 0) → length w ≤ 2 * count p n
 length-le_twice p n w single below none = omega (arith, length-tally w (2 * n) below, tally-le p n w single none)
+
+-- and where each of them stands there, once, it is just as long
+tally-is : (p : ℕ → Bool) (n : ℕ) (w : List ℕ) → ((h : ℕ) → p (h / 2) ≡ true → count_of h w ≡ 1) → ((h : ℕ) → p (h / 2) ≡ false → count_of h w ≡ 0)
+    → tally w (2 * n) ≡ 2 * count p n
+tally-is p zero w once none = omega arith
+tally-is p (suc n) w once none =
+    let rest = tally-is p n w once none in
+    let pair : 2 * suc n ≡ suc (suc (2 * n)) = omega arith in
+    let even : 2 * n / 2 ≡ n = omega arith in
+    let odd : suc (2 * n) / 2 ≡ n = omega arith in
+    rw pair (elim (cases_Bool (p n)) [
+      | inl live ↦ rw live (omega (arith, rest, once (2 * n) (ap p even ∙ live), once (suc (2 * n)) (ap p odd ∙ live)))
+      | inr dead ↦ rw dead (omega (arith, rest, none (2 * n) (ap p even ∙ dead), none (suc (2 * n)) (ap p odd ∙ dead)))
+    ])
+
+pub length-is_twice : (p : ℕ → Bool) (n : ℕ) (w : List ℕ) → ((h : ℕ) → p (h / 2) ≡ true → count_of h w ≡ 1)
+    → ((h : ℕ) → 0 < count_of h w → h < 2 * n) → ((h : ℕ) → p (h / 2) ≡ false → count_of h w ≡ 0) → length w ≡ 2 * count p n
+length-is_twice p n w once below none = length-tally w (2 * n) below ∙ tally-is p n w once none
 
 -- no more numbers pass a test than are tried
 pub count-le : (p : ℕ → Bool) (n : ℕ) → count p n ≤ n

@@ -114,11 +114,11 @@ occurs-alone h (w ∷ ws) (suc f) within others =
     )
 
 -- the items of all words in one list
-count-concat : (h : ℕ) (ws : List (List ℕ)) → count_of h (concat ws) ≡ occurs h ws
+pub count-concat : (h : ℕ) (ws : List (List ℕ)) → count_of h (concat ws) ≡ occurs h ws
 count-concat h [] = refl
 count-concat h (w ∷ ws) = omega (arith, count-append h w (concat ws), count-concat h ws)
 
-length-concat : (ws : List (List ℕ)) → length (concat ws) ≡ total_length ws
+pub length-concat : (ws : List (List ℕ)) → length (concat ws) ≡ total_length ws
 length-concat [] = refl
 length-concat (w ∷ ws) = omega (arith, length-append w (concat ws), length-concat ws)
 

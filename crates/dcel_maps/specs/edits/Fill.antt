@@ -1,10 +1,10 @@
 -- The opening of a removal by filling the hole: what is given up leaves a ring, which is cut into triangles. Before the call there are m
 -- undirected edges; a new edge m has the half edges 2m and 2m + 1. Whatever an edit doesn't name stays as it was.
 use Rattle.std.specs.Prelude.{ℕ, suc, ◌+◌, ◌*◌, ◌/◌, List, [], ◌∷◌, ◌++◌, length, map, reverse, slice_set, Option, Some}
-use Rattle.dcel_maps.specs.Borders.{center_of}
 use Rattle.dcel_maps.specs.Cyclic.{from_least}
 use Rattle.dcel_maps.specs.Hiding.{kept_words, kept_vertex_anchors, kept_face_anchors}
-use Rattle.dcel_maps.specs.Removals.{Removal, gives_up_edge, opened, shown}
+use Rattle.dcel_maps.specs.Regions.{inside}
+use Rattle.dcel_maps.specs.Removals.{Removal, gives_up_edge, opened, opened_with, shown}
 use Rattle.dcel_maps.specs.Shapes.{Mesh, face_of, origin_of}
 use Rattle.dcel_maps.specs.Walking.{out_edges_of}
 
@@ -71,6 +71,7 @@ module _ {V DE UE F : Type 0} where
   abbrev pub hole_filled : Mesh V DE UE F → ℕ → List ℕ → List DE → List UE → List F → Mesh V DE UE F
   hole_filled mesh v border = border_filled mesh (opened (edges_at mesh v) (faces_at mesh v) v) border
 
-  -- `remesh_edge_ring`: the vertex inside the ring is given up with these edges and faces
+  -- `remesh_edge_ring`: these edges and faces are given up, and the vertex inside the ring if there is one
   abbrev pub ring_remeshed : Mesh V DE UE F → List ℕ → List ℕ → List ℕ → List DE → List UE → List F → Mesh V DE UE F
-  ring_remeshed mesh border gone_edges gone_faces = border_filled mesh (opened gone_edges gone_faces (center_of mesh.shape border)) border
+  ring_remeshed mesh border gone_edges gone_faces =
+      border_filled mesh (opened_with gone_edges gone_faces (inside mesh.shape border gone_edges gone_faces)) border

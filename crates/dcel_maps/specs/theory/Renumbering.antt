@@ -13,11 +13,7 @@ pub record ListsDown (passes : ℕ → Type 0) (n : ℕ) (ds : List ℕ) : Type 
   pub down : GoesDown n ds
   pub each : (k : ℕ) → passes k ↔ (0 < count_of k ds)
 
--- what number k becomes once each d of the list is taken out in turn, and which number was to become j
-unfoldable pub new_number : ℕ → List ℕ → ℕ → ℕ
-new_number n [] k = k
-new_number n (d ∷ ds) k = new_number (n - 1) ds (moved (n - 1) d k)
-
+-- which number was to become j, once each d of the list is taken out in turn
 unfoldable pub old_number : ℕ → List ℕ → ℕ → ℕ
 old_number n [] j = j
 old_number n (d ∷ ds) j = moved d (n - 1) (old_number (n - 1) ds j)

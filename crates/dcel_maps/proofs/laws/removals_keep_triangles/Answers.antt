@@ -1,6 +1,6 @@
 use Rattle.std.proofs.Common.{reverse}
-use Rattle.dcel_maps.specs.Borders.{center_of}
-use Rattle.dcel_maps.specs.Removals.{opened}
+use Rattle.dcel_maps.specs.Regions.{inside}
+use Rattle.dcel_maps.specs.Removals.{opened, opened_with}
 use Rattle.dcel_maps.specs.edits.Fill.{edges_at, faces_at}
 use Rattle.dcel_maps.proofs.Triangulations.{cleaned, degenerate_gone, ring_filled_in, strip_off, vertex_gone}
 use Rattle.dcel_maps.proofs.laws.removals_keep_triangles.Goals as goal
@@ -11,7 +11,7 @@ returns-clause-isolate g c = λ m v border halves edges faces closed all.
 
 pub returns-clause-remesh : goal.returns-clause-remesh
 returns-clause-remesh g c = λ m border gone_edges gone_faces halves edges faces closed all.
-    ring_filled_in m all closed (opened gone_edges gone_faces (center_of m.shape border)) (reverse border) halves edges faces
+    ring_filled_in m all closed (opened_with gone_edges gone_faces (inside m.shape border gone_edges gone_faces)) (reverse border) halves edges faces
 
 pub returns-clause-strip : goal.returns-clause-strip
 returns-clause-strip g c = λ m list closed all. strip_off m all closed list
