@@ -4,7 +4,7 @@
 #![tactic(auto)]
 
 ghost use Rattle.std.specs.Prelude.{◌≡◌, ◌↔◌, IfOk, OnOk, OnErr, IsTrue};
-ghost use Rattle.dcel_maps.specs.Removals.{Closed, opened, gives_up_vertex, gives_up_edge, gives_up_face, IsInOrder, IsListed};
+ghost use Rattle.dcel_maps.specs.Removals.{Closed, opened_with, gives_up_vertex, gives_up_edge, gives_up_face, IsInOrder, IsListed};
 ghost use Rattle.dcel_maps.specs.Renumbering.{cleaned};
 ghost use Rattle.dcel_record.specs.Lists.{edges_of, faces_of};
 ghost use Rattle.dcel_record.specs.Record.{state_of};
@@ -29,12 +29,13 @@ pub enum RemovalState {
     /// One is open: what it has given up is still there, and to be cleaned up.
     Isolated,
 
-    /// One is open: the edges and faces that it has given up are gone, and its vertex is still to be taken out.
+    /// One is open: the edges and faces that it has given up are gone, and its vertex is still to be taken out. A removal without a vertex
+    /// is closed instead.
     Cleaned,
 }
 
-/// What an open removal has given up: nothing while none is open; edges, faces and a vertex until they are cleaned up; and then
-/// the vertex alone.
+/// What an open removal has given up: nothing while none is open; edges, faces and, if there is one, a vertex until they are cleaned up;
+/// and then the vertex alone.
 #[derive(Drop)]
 pub struct RemovalRecord<A: Allocator> {
     state: State,
@@ -46,6 +47,7 @@ pub struct RemovalRecord<A: Allocator> {
 #[derive(Clone, Copy)]
 enum State {
     Closed,
+    // A region of faces is given up without a vertex.
     Isolated(Option<FixedVertexHandle>),
     Cleaned(FixedVertexHandle),
 }
@@ -76,21 +78,21 @@ impl<A: Allocator + Clone> RemovalRecord<A> {
 }
 
 impl<A: Allocator> RemovalRecord<A> {
-    /// Opens a removal: these edges and faces, in any order, and this vertex are given up. It asks that none is open. It takes memory
-    /// once for the edges and once for the faces, where earlier removals had fewer; without memory none is open.
+    /// Opens a removal: these edges and faces, in any order, are given up, and this vertex if there is one. It asks that none is open. It
+    /// takes memory once for the edges and once for the faces, where earlier removals had fewer; without memory none is open.
     pub fn open(
         &mut self,
         edges: &[FixedUndirectedEdgeHandle],
         faces: &[FixedFaceHandle<InnerTag>],
-        vertex: FixedVertexHandle,
+        vertex: &Option<FixedVertexHandle>,
     ) -> Result<(), AllocError>
         requires { self.old ≡ Closed }
-        ensures opened { OnOk result (self.new ≡ opened edges.now faces.now vertex) }
+        ensures opened { OnOk result (self.new ≡ opened_with edges.now faces.now vertex.now) }
         ensures refused { OnErr result (self.new ≡ self.old) }
     {
         self.edges.give_up(edges)?;
         self.faces.give_up(faces)?;
-        self.state = State::Isolated(Some(vertex));
+        self.state = State::Isolated(*vertex);
         Ok(())
     }
 
