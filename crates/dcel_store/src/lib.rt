@@ -14,6 +14,7 @@ ghost use Rattle.std.specs.Prelude.{◌≡◌, ℕ, ◌+◌, ◌-◌, ◌<◌, �
 ghost use Rattle.dcel_store.specs.Lists.{empty, LengthsAgree, HasPlaces};
 
 mod data;
+mod push;
 mod swap;
 mod take;
 mod whole;
@@ -49,6 +50,19 @@ pub struct EdgeData<DE, UE> {
 
     /// That of the edge itself.
     pub undirected: UE,
+}
+
+/// An edge as [`Store::push_three_edges`] takes it: the links of its half edges, and its data.
+#[derive(Drop)]
+pub struct EdgeEntry<DE, UE> {
+    /// The links of the normalized half edge.
+    pub normalized: HalfEdgeEntry,
+
+    /// The links of the other half edge.
+    pub reversed: HalfEdgeEntry,
+
+    /// The data of both, and of the edge itself.
+    pub edge_data: EdgeData<DE, UE>,
 }
 
 #[derive(Drop)]

@@ -1,0 +1,137 @@
+//! Edges appended together: the items of all of them in one vector, then those in the next.
+
+ghost use Rattle.std.specs.Prelude.{◌≡◌, ◌+◌, ◌-◌, ◌≤◌, [], ◌∷◌, ◌++◌, vec_len, vec_capacity};
+
+use crate::{EdgeEntry, Store};
+use std::alloc::Allocator;
+
+impl<V, DE, UE, F, A: Allocator> Store<V, DE, UE, F, A> {
+    /// Appends three edges, in this order: what [`push_edge`](Self::push_edge) makes of them one after
+    /// another, but the place and the length of each vector are read once. Asks for room for all three,
+    /// which [`reserve`](Self::reserve) makes.
+    #[inline]
+    pub fn push_three_edges(
+        &mut self,
+        first: EdgeEntry<DE, UE>,
+        second: EdgeEntry<DE, UE>,
+        third: EdgeEntry<DE, UE>,
+    )
+        requires { 3 ≤ self.old.edge_room }
+        ensures { self.new ≡ record self.old {
+          next = self.old.next ++ first.normalized.next ∷ first.reversed.next
+              ∷ second.normalized.next ∷ second.reversed.next ∷ third.normalized.next ∷ third.reversed.next ∷ [];
+          prev = self.old.prev ++ first.normalized.prev ∷ first.reversed.prev
+              ∷ second.normalized.prev ∷ second.reversed.prev ∷ third.normalized.prev ∷ third.reversed.prev ∷ [];
+          origin = self.old.origin ++ first.normalized.origin ∷ first.reversed.origin
+              ∷ second.normalized.origin ∷ second.reversed.origin ∷ third.normalized.origin ∷ third.reversed.origin ∷ [];
+          face = self.old.face ++ first.normalized.face ∷ first.reversed.face
+              ∷ second.normalized.face ∷ second.reversed.face ∷ third.normalized.face ∷ third.reversed.face ∷ [];
+          directed_data = self.old.directed_data ++ first.edge_data.normalized ∷ first.edge_data.reversed
+              ∷ second.edge_data.normalized ∷ second.edge_data.reversed ∷ third.edge_data.normalized ∷ third.edge_data.reversed ∷ [];
+          undirected_data = self.old.undirected_data
+              ++ first.edge_data.undirected ∷ second.edge_data.undirected ∷ third.edge_data.undirected ∷ [];
+          edge_room = self.old.edge_room - 3;
+        } }
+    {
+        let (a, b) = (first.normalized, first.reversed);
+        let (c, d) = (second.normalized, second.reversed);
+        let (e, f) = (third.normalized, third.reversed);
+        let (ab, cd, ef) = (first.edge_data, second.edge_data, third.edge_data);
+        push_pairs(
+            &mut self.next,
+            (a.next, b.next),
+            (c.next, d.next),
+            (e.next, f.next),
+        );
+        push_pairs(
+            &mut self.prev,
+            (a.prev, b.prev),
+            (c.prev, d.prev),
+            (e.prev, f.prev),
+        );
+        push_pairs(
+            &mut self.origin,
+            (a.origin, b.origin),
+            (c.origin, d.origin),
+            (e.origin, f.origin),
+        );
+        push_pairs(
+            &mut self.face,
+            (a.face, b.face),
+            (c.face, d.face),
+            (e.face, f.face),
+        );
+        push_pairs(
+            &mut self.directed_data,
+            (ab.normalized, ab.reversed),
+            (cd.normalized, cd.reversed),
+            (ef.normalized, ef.reversed),
+        );
+        self.undirected_data.push_reserved(ab.undirected);
+        self.undirected_data.push_reserved(cd.undirected);
+        self.undirected_data.push_reserved(ef.undirected);
+    }
+}
+
+// Appends the two items of each of three edges to a vector of half edges.
+#[inline]
+fn push_pairs<T, A: Allocator>(items: &mut Vec<T, A>, first: (T, T), second: (T, T), third: (T, T))
+    requires { vec_len items.old + 6 ≤ vec_capacity items.old }
+    ensures items { items.new.items ≡ items.old.items
+        ++ first.0 ∷ first.1 ∷ second.0 ∷ second.1 ∷ third.0 ∷ third.1 ∷ [] }
+    ensures len { vec_len items.new ≡ vec_len items.old + 6 }
+    ensures capacity { vec_capacity items.new ≡ vec_capacity items.old }
+{
+    items.push_reserved(first.0);
+    items.push_reserved(first.1);
+    items.push_reserved(second.0);
+    items.push_reserved(second.1);
+    items.push_reserved(third.0);
+    items.push_reserved(third.1);
+}
+
+#[cfg(test)]
+mod tests {
+    use super::*;
+    use crate::EdgeData;
+    use crate::tests::alone;
+    use dcel_fixed::{FixedDirectedEdgeHandle, FixedUndirectedEdgeHandle};
+    use std::test::Fail;
+
+    /// An edge with these data, whose half edges are alone on their faces.
+    fn entry(
+        edge: FixedDirectedEdgeHandle,
+        [normalized, reversed, undirected]: [char; 3],
+    ) -> EdgeEntry<char, char> {
+        EdgeEntry {
+            normalized: alone(edge),
+            reversed: alone(edge.rev()),
+            edge_data: EdgeData {
+                normalized,
+                reversed,
+                undirected,
+            },
+        }
+    }
+
+    #[test]
+    fn edges_come_in_their_order(rt: HostRuntime) -> Result<(), Fail> {
+        let mut store: Store<(), char, char, ()> = Store::new(rt.alloc())?;
+        store.reserve(0, 3, 0)?;
+        store.push_three_edges(
+            entry(FixedDirectedEdgeHandle::new(0), ['a', 'b', 'c']),
+            entry(FixedDirectedEdgeHandle::new(2), ['d', 'e', 'f']),
+            entry(FixedDirectedEdgeHandle::new(4), ['g', 'h', 'i']),
+        );
+        let last = FixedDirectedEdgeHandle::new(5);
+        assert_eq!(rt; store.num_edges(), 3);
+        assert_eq!(rt; store.next(last).index(), 5);
+        assert_eq!(rt; store.prev(last).index(), 5);
+        assert_eq!(rt; *store.directed_data(last), 'h');
+        assert_eq!(rt;
+            *store.undirected_data(FixedUndirectedEdgeHandle::new(1)),
+            'f'
+        );
+        Ok(())
+    }
+}
