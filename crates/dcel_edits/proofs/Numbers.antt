@@ -17,6 +17,3 @@ third_back m = omega arith
 -- places taken one at a time
 pub two_places : (places : ℕ) → places - 1 - 1 ≡ places - 2
 two_places places = omega arith
-
-pub three_places : (places : ℕ) → places - 1 - 1 - 1 ≡ places - 3
-three_places places = omega arith

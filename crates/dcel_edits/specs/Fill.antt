@@ -1,5 +1,5 @@
 -- What cutting a ring into ears leaves in the stored lists, ear by ear, and where it can be cut.
-use Rattle.std.specs.Prelude.{◌≡◌, ℕ, ◌+◌, ◌-◌, ◌*◌, ◌<◌, List, [], ◌∷◌, ◌++◌, length, slice_index, slice_set, Some, None}
+use Rattle.std.specs.Prelude.{◌≡◌, ℕ, ◌+◌, ◌-◌, ◌*◌, ◌<◌, List, [], ◌∷◌, ◌++◌, length, slice_index, slice_set, Option, Some, None, IfSome}
 use Rattle.dcel_maps.specs.edits.DefaultData.{AddsEdgesAndFaces}
 use Rattle.dcel_maps.specs.edits.Strip.{each_set}
 use Rattle.dcel_maps.specs.Words.{count_of}
@@ -11,6 +11,11 @@ use Rattle.dcel_edits.specs.Outside.{two_set}
 abbrev pub closing : ℕ → ℕ → List ℕ → ℕ
 closing m r [] = r
 closing m r (x ∷ rest) = 2 * m
+
+-- a vertex, if there is one, has no anchor
+abbrev pub without_anchor : List (Option ℕ) → Option ℕ → List (Option ℕ)
+without_anchor anchors None = anchors
+without_anchor anchors (Some v) = slice_set anchors v None
 
 module _ {V DE UE F : Type 0} where
   -- the half edge `first` begins an ear of a new face
@@ -82,17 +87,17 @@ module _ {V DE UE F : Type 0} where
     pub third_in : IsRingItem s third
     pub items : (h : ℕ) → 0 < count_of h left → IsRingItem s h
 
-  -- faces lose their anchors, and so does a vertex
+  -- faces lose their anchors, and so does a vertex, if there is one
   abbrev pub faces_dropped : Lists V DE UE F → List ℕ → Lists V DE UE F
   faces_dropped s faces = record s { face_anchors = each_set (λ f. f) (λ f. None) s.face_anchors faces }
 
-  abbrev pub given_up : Lists V DE UE F → ℕ → List ℕ → Lists V DE UE F
-  given_up s v faces = record (faces_dropped s faces) { vertex_anchors = slice_set s.vertex_anchors v None }
+  abbrev pub given_up : Lists V DE UE F → Option ℕ → List ℕ → Lists V DE UE F
+  given_up s v faces = record (faces_dropped s faces) { vertex_anchors = without_anchor s.vertex_anchors v }
 
   -- where they can
   abbrev pub AreFaces : Lists V DE UE F → List ℕ → Type 0
   AreFaces s faces = (f : ℕ) → 0 < count_of f faces → f < length s.face_anchors
 
-  pub record CanGiveUp (s : Lists V DE UE F) (v : ℕ) (faces : List ℕ) : Type 0 where
-    pub vertex_in : v < length s.vertex_anchors
+  pub record CanGiveUp (s : Lists V DE UE F) (v : Option ℕ) (faces : List ℕ) : Type 0 where
+    pub vertex_in : IfSome v (λ w. w < length s.vertex_anchors)
     pub faces_in : AreFaces s faces

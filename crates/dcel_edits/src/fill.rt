@@ -43,17 +43,19 @@ pub fn put_ears<V, DE: Default, UE: Default, F: Default, A: Allocator>(
     put_last_ear(store, apex, beginning, middle, end);
 }
 
-/// Takes the anchors of a vertex and of faces away, which are given up.
+/// Takes the anchors of faces away, and of a vertex if there is one, which are given up.
 pub fn give_up<V, DE, UE, F, A: Allocator>(
     store: &mut Store<V, DE, UE, F, A>,
-    vertex: FixedVertexHandle,
+    vertex: &Option<FixedVertexHandle>,
     faces: &[FixedFaceHandle<InnerTag>],
 )
-    requires { CanGiveUp store.old vertex faces.now }
-    ensures { store.new ≡ given_up store.old vertex faces.now }
+    requires { CanGiveUp store.old vertex.now faces.now }
+    ensures { store.new ≡ given_up store.old vertex.now faces.now }
 {
     drop_anchors(store, faces);
-    store.set_vertex_anchor(vertex, None);
+    if let Some(vertex) = vertex {
+        store.set_vertex_anchor(*vertex, None);
+    }
 }
 
 fn drop_anchors<V, DE, UE, F, A: Allocator>(
@@ -135,10 +137,10 @@ fn put_last_ear<V, DE, UE, F: Default, A: Allocator>(
     let from_second = store.origin(second);
     let from_third = store.origin(third);
     store.set_next(second, third);
-    store.set_prev(second, first);
-    store.set_face(second, face);
     store.set_next(third, first);
+    store.set_prev(second, first);
     store.set_prev(third, second);
+    store.set_face(second, face);
     store.set_face(third, face);
     store.push_face(F::default(), Some(first));
     store.set_vertex_anchor(from_third, Some(third));

@@ -31,8 +31,8 @@ pub fn put_beside<V, DE: Default, UE: Default, F: Default, A: Allocator>(
     store.set_next(before, back_rev);
     store.set_next(edge, forth);
     store.set_prev(edge, back);
-    store.set_face(edge, inside);
     store.set_prev(after, forth_rev);
+    store.set_face(edge, inside);
     store.push_edge(
         links(back, edge, inside, to),
         links(after, back_rev, outside, tip),
@@ -67,11 +67,11 @@ pub fn put_closing<V, DE: Default, UE: Default, F: Default, A: Allocator>(
     let inner = FixedDirectedEdgeHandle::new_normalized(store.num_edges());
     let outer = inner.rev();
     store.set_next(before, outer);
-    store.set_prev(edge, inner);
-    store.set_face(edge, face);
     store.set_next(second, inner);
-    store.set_face(second, face);
+    store.set_prev(edge, inner);
     store.set_prev(after, outer);
+    store.set_face(edge, face);
+    store.set_face(second, face);
     store.push_edge(
         links(edge, second, face, to),
         links(after, before, OUTER_FACE, from),

@@ -27,11 +27,11 @@ pub fn put_middle<V, DE: Default, UE: Default, F, A: Allocator>(
     let face = store.face(edge);
     let new_edge = FixedDirectedEdgeHandle::new_normalized(store.num_edges());
     let new_twin = new_edge.rev();
-    // At a tip these two are `twin` and `edge` themselves, and linked anew by the two lines below.
-    store.set_prev(after, new_edge);
+    // At a tip `before` is `edge` and `after` is `twin`: of two writes of one link the second stands.
     store.set_next(before, new_twin);
-    store.set_prev(twin, new_twin);
     store.set_next(edge, new_edge);
+    store.set_prev(after, new_edge);
+    store.set_prev(twin, new_twin);
     store.set_origin(twin, middle);
     store.push_edge(
         links(substitute(after, twin, new_twin), edge, face, middle),

@@ -1,13 +1,14 @@
 //! Vertices in the middle of edges that have a triangle beside them, which is cut in two.
 
-ghost use Rattle.std.specs.Prelude.{◌≡◌, ◌+◌, ◌*◌, length, slice_index};
+ghost use Rattle.std.specs.Prelude.{◌≡◌, ◌+◌, ◌*◌, ◌<◌, length, slice_index, slice_set};
 ghost use Rattle.dcel_fixed.specs.HalfEdges.{rev};
 ghost use Rattle.dcel_maps.specs.edits.DefaultData.{AddsEdgesAndFaces};
 ghost use Rattle.dcel_edits.specs.Adding.{HasSpace};
+ghost use Rattle.dcel_edits.specs.Triangle.{three_set};
 ghost use Rattle.dcel_edits.specs.SplitTriangles.{CanSplitBoth, CanSplitOne, IsHeld, both_stored, one_stored, sector};
 
 use crate::links::links;
-use crate::sectors::{Sector, close_sector, push_spoke};
+use crate::sectors::{Sector, close_sector, push_spoke, spoke};
 use dcel_fixed::{FixedDirectedEdgeHandle, FixedFaceHandle, FixedVertexHandle};
 use dcel_store::{EdgeData, Store};
 use std::alloc::Allocator;
@@ -58,6 +59,45 @@ impl Round {
             before_edge: Sector::between(store, store.prev(edge), store.face(edge), edge, last),
         }
     }
+
+    /// Links the half edges of the sectors into their triangles, and `edge` and its other half between them, one link of all of them
+    /// after another.
+    fn close<V, DE, UE, F, A: Allocator>(
+        &self,
+        store: &mut Store<V, DE, UE, F, A>,
+        edge: FixedDirectedEdgeHandle,
+    )
+        requires edge_in { edge < length store.old.next }
+        requires twin_in { rev edge < length store.old.next }
+        requires after_twin_in { self.now.after_twin.edge < length store.old.next }
+        requires before_twin_in { self.now.before_twin.edge < length store.old.next }
+        requires after_edge_in { self.now.after_edge.edge < length store.old.next }
+        requires before_edge_in { self.now.before_edge.edge < length store.old.next }
+        ensures { let a = self.now.after_twin in
+            let b = self.now.before_twin in
+            let c = self.now.after_edge in
+            let d = self.now.before_edge in
+            store.new ≡ record store.old {
+              next = slice_set (slice_set (three_set store.old.next a.edge a.next b.edge b.next c.edge c.next) d.edge d.next) edge d.prev;
+              prev = slice_set (slice_set (three_set store.old.prev a.edge a.prev b.edge b.prev c.edge c.prev) d.edge d.prev) (rev edge) a.next;
+              face = slice_set (three_set store.old.face a.edge a.face b.edge b.face c.edge c.face) d.edge d.face;
+            } }
+    {
+        store.set_next(self.after_twin.edge, self.after_twin.next);
+        store.set_next(self.before_twin.edge, self.before_twin.next);
+        store.set_next(self.after_edge.edge, self.after_edge.next);
+        store.set_next(self.before_edge.edge, self.before_edge.next);
+        store.set_next(edge, self.before_edge.prev);
+        store.set_prev(self.after_twin.edge, self.after_twin.prev);
+        store.set_prev(self.before_twin.edge, self.before_twin.prev);
+        store.set_prev(self.after_edge.edge, self.after_edge.prev);
+        store.set_prev(self.before_edge.edge, self.before_edge.prev);
+        store.set_prev(edge.rev(), self.after_twin.next);
+        store.set_face(self.after_twin.edge, self.after_twin.face);
+        store.set_face(self.before_twin.edge, self.before_twin.face);
+        store.set_face(self.after_edge.edge, self.after_edge.face);
+        store.set_face(self.before_edge.edge, self.before_edge.face);
+    }
 }
 
 /// Puts the vertex `middle` into an edge between two triangles, and joins it to their other corners: `edge` ends there now, and the half
@@ -75,20 +115,17 @@ pub fn put_middle_of_both<V, DE: Default, UE: Default, F: Default, A: Allocator>
     let round = Round::new(store, edge);
     let (first, second) = (round.after_twin, round.before_twin);
     let (third, fourth) = (round.after_edge, round.before_edge);
-    close_sector(store, &first);
-    close_sector(store, &second);
-    close_sector(store, &third);
-    close_sector(store, &fourth);
-    store.set_next(edge, fourth.prev);
-    store.set_prev(twin, first.next);
+    round.close(store, edge);
     store.set_origin(twin, middle);
     store.set_face_anchor(fourth.face, Some(edge));
     store.set_face_anchor(first.face, Some(first.next));
     store.set_vertex_anchor(third.origin, Some(second.next));
     store.set_vertex_anchor(middle, Some(twin));
-    push_spoke(store, &first, &second, middle, EdgeData::default());
-    push_spoke(store, &second, &third, middle, EdgeData::default());
-    push_spoke(store, &third, &fourth, middle, EdgeData::default());
+    store.push_three_edges(
+        spoke(&first, &second, middle, EdgeData::default()),
+        spoke(&second, &third, middle, EdgeData::default()),
+        spoke(&third, &fourth, middle, EdgeData::default()),
+    );
     store.push_face(F::default(), Some(second.next));
     store.push_face(F::default(), Some(third.next));
     third.prev

@@ -6,7 +6,7 @@ ghost use Rattle.dcel_maps.specs.edits.DefaultData.{AddsEdgesAndFaces};
 ghost use Rattle.dcel_edits.specs.Triangle.{CanInsert, IsEmpty, insertion_stored, triangle_stored};
 
 use crate::links::links;
-use crate::sectors::{Sector, close_sector, push_spoke};
+use crate::sectors::{Sector, close_three_sectors, spoke};
 use dcel_fixed::{FixedDirectedEdgeHandle, FixedFaceHandle, FixedVertexHandle};
 use dcel_store::{EdgeData, HalfEdgeEntry, Store};
 use std::alloc::Allocator;
@@ -69,12 +69,12 @@ pub fn put_insertion<V, DE: Default, UE: Default, F: Default, A: Allocator>(
         edges + 2,
         edges + 1,
     );
-    close_sector(store, &a);
-    close_sector(store, &b);
-    close_sector(store, &c);
-    push_spoke(store, &a, &b, tip, EdgeData::default());
-    push_spoke(store, &b, &c, tip, EdgeData::default());
-    push_spoke(store, &c, &a, tip, EdgeData::default());
+    close_three_sectors(store, &a, &b, &c);
+    store.push_three_edges(
+        spoke(&a, &b, tip, EdgeData::default()),
+        spoke(&b, &c, tip, EdgeData::default()),
+        spoke(&c, &a, tip, EdgeData::default()),
+    );
     store.push_face(F::default(), Some(b.edge));
     store.push_face(F::default(), Some(c.edge));
     store.set_vertex_anchor(tip, Some(b.prev));

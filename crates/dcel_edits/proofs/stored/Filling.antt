@@ -3,7 +3,6 @@ use Rattle.std.proofs.Common.{◌≡◌, inl, inr, ◌+◌, ◌-◌, ◌*◌, �
 use Rattle.std.proofs.lemmas.Bool.{cases_lt, false_from_ne_true}
 use Rattle.std.proofs.lemmas.List.{ext_get_or, get_or-append-add, get_or_append_left, length-append}
 use Rattle.dcel_store.specs.Lists.{Lists, LengthsAgree}
-use Rattle.dcel_maps.specs.Borders.{GivesUpRound, IsBorderLoop}
 use Rattle.dcel_maps.specs.Conditions.{HasRoom}
 use Rattle.dcel_maps.specs.Maps.{Live, Map}
 use Rattle.dcel_maps.specs.Removals.{Closed, Removal, gives_up_edge, shown}
@@ -18,6 +17,7 @@ use Rattle.dcel_maps.proofs.removal.Ears.{ring_in_ears}
 use Rattle.dcel_maps.proofs.removal.Fans.{EarTriangles}
 use Rattle.dcel_maps.proofs.removal.Filled.{ears_held, face_held, filled-sound, given_below, new_or_held, words_long}
 use Rattle.dcel_maps.proofs.removal.FilledMeshes.{ring_filled-mesh}
+use Rattle.dcel_maps.proofs.removal.Hollows.{HollowOf}
 use Rattle.dcel_maps.proofs.shapes.Maps.{map-sound}
 use Rattle.dcel_edits.proofs.stored.Changes.{held_edges, held_faces, held_lists, held_mesh, held_removal}
 use Rattle.dcel_edits.proofs.stored.Held.{ListsMesh, lists_hold, HasData}
@@ -101,7 +101,7 @@ pub record LeavesFilled {V DE UE F : Type 0} (s u : Lists V DE UE F) (m : Mesh V
   pub has_data : HasData u s.vertex_data (s.directed_data ++ halves) (s.undirected_data ++ edges) (s.face_data ++ faces)
   pub open has_data use *
 
-module _ {V DE UE F : Type 0} (s u : Lists V DE UE F) (m : Mesh V DE UE F) (held : Holds s Closed m) (v p q r : ℕ) (rest border : List ℕ) (halves : List DE) (edges : List UE) (faces : List F) (removal : Removal) (gives : GivesUpRound m.shape v removal) (l : IsBorderLoop m.shape border v) (ring : reverse border ≡ p ∷ q ∷ r ∷ rest) (left : LeavesFilled s u m removal p q r rest halves edges faces) where
+module _ {V DE UE F : Type 0} (s u : Lists V DE UE F) (m : Mesh V DE UE F) (held : Holds s Closed m) (p q r : ℕ) (rest : List ℕ) (halves : List DE) (edges : List UE) (faces : List F) (removal : Removal) (hole : HollowOf m.shape removal (p ∷ q ∷ r ∷ rest) (face_count m.shape + length rest)) (left : LeavesFilled s u m removal p q r rest halves edges faces) where
   mesh : IsMesh m
   mesh = held_mesh s Closed m held
 
@@ -115,10 +115,10 @@ module _ {V DE UE F : Type 0} (s u : Lists V DE UE F) (m : Mesh V DE UE F) (held
   t = (ring_filled m removal p q r rest halves edges faces).shape
 
   sound : Sound (map_of t)
-  sound = map-sound (filled-sound m v p q r rest border halves edges faces mesh closed removal gives l ring)
+  sound = map-sound (filled-sound m p q r rest halves edges faces mesh closed removal hole)
 
   triangles : EarTriangles (map_of t) m.shape.edges (face_count m.shape) p q r rest
-  triangles = ears_held m v p q r rest border halves edges faces mesh closed removal gives l ring
+  triangles = ears_held m p q r rest halves edges faces mesh closed removal hole
 
   many_edges : length s.undirected_data ≡ m.shape.edges
   many_edges = held_edges s Closed m held
@@ -127,16 +127,16 @@ module _ {V DE UE F : Type 0} (s u : Lists V DE UE F) (m : Mesh V DE UE F) (held
   many_faces = held_faces s Closed m held
 
   links : (x : ℕ) → IsLive t x → SameLinks u (map_of t) x
-  links x live = elim (new_or_held m v p q r rest border halves edges faces mesh closed removal gives l ring x live) [
+  links x live = elim (new_or_held m p q r rest halves edges faces mesh closed removal hole x live) [
     | inl above ↦
         let below = sound.below_faces x live in
         ears_same u (map_of t) sound m.shape.edges (face_count m.shape) p q r rest triangles
         (subst (λ n. EarsLinked u n (face_count m.shape) p q r rest) many_edges
         (subst (λ g. EarsLinked u (length s.undirected_data) g p q r rest) many_faces left.ears))
         x (face_of t x - face_count m.shape) live (omega (arith, above))
-        (omega (arith, above, below, words_long m v p q r rest border halves edges faces mesh closed removal gives l ring))
+        (omega (arith, above, below, words_long m p q r rest halves edges faces mesh closed removal hole))
     | inr (below, kept) ↦
-        let keeps = face_held m v p q r rest border halves edges faces mesh closed removal gives l ring (face_of t x) below kept in
+        let keeps = face_held m p q r rest halves edges faces mesh closed removal hole (face_of t x) below kept in
         let (was, at) = keeps.comes x live refl in
         let in_range : x < length s.next = let e = (map-sound mesh.sound).below_edges x was in omega (arith, e, many_edges, lists.lengths.of_next) in
         let off : count_of x (p ∷ q ∷ r ∷ rest) ≡ 0 =
@@ -155,7 +155,7 @@ module _ {V DE UE F : Type 0} (s u : Lists V DE UE F) (m : Mesh V DE UE F) (held
 
   not_given : (n : ℕ) → m.shape.edges ≤ n → gives_up_edge removal n ≡ false
   not_given n past = false_from_ne_true (gives_up_edge removal n) (λ given.
-      let below = given_below m v p q r rest border halves edges faces mesh closed removal gives l ring n given in omega (arith, past, below))
+      let below = given_below m p q r rest halves edges faces mesh closed removal hole n given in omega (arith, past, below))
 
   old_origins : s.origin ≡ m.shape.origins
   old_origins = same_origins s m held
@@ -177,7 +177,7 @@ module _ {V DE UE F : Type 0} (s u : Lists V DE UE F) (m : Mesh V DE UE F) (held
     pub filled_holds : Holds u removal (ring_filled m removal p q r rest halves edges faces)
     filled_holds =
         lists_hold u (ring_filled m removal p q r rest halves edges faces)
-        (ring_filled-mesh m v p q r rest border halves edges faces mesh closed removal gives l ring room half_count edge_count new_faces)
+        (ring_filled-mesh m p q r rest halves edges faces mesh closed removal hole room half_count edge_count new_faces)
         record {
           lengths = left.lengths;
           links = record { next = λ x live. (links x live).next; prev = λ x live. (links x live).prev; origin = origin; face = λ x live. (links x live).face };

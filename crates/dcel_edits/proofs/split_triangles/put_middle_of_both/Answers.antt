@@ -4,7 +4,7 @@ use Rattle.std.proofs.lemmas.List.Elements.{All-from_recursion}
 use Rattle.dcel_maps.proofs.edits.Adding.{adds_edges_and_faces}
 use Rattle.dcel_edits.specs.SplitTriangles.{both_stored}
 use Rattle.dcel_edits.specs.declared.split_triangles.Round.{Round}
-use Rattle.dcel_edits.proofs.Numbers.{three_places, two_places}
+use Rattle.dcel_edits.proofs.Numbers.{two_places}
 use Rattle.dcel_edits.proofs.split_triangles.put_middle_of_both.Goals as goal
 
 pub returns-clause-stored : goal.returns-clause-stored
@@ -19,19 +19,15 @@ returns-clause-stored g c =
     let third = ap (λ (r : Round). r.after_edge) c.new-round.ensures in
     let fourth = ap (λ (r : Round). r.before_edge) c.new-round.ensures in
     let twin = c.rev-twin.ensures in
-    let next = rw fourth at c.set_next.ensures in
-    let prev = rw (twin, first) at c.set_prev.ensures in
     let origin = rw twin at c.set_origin.ensures in
     let near_anchor = rw fourth at c.set_face_anchor.ensures in
     let far_anchor = rw first at c.set_face_anchor-2.ensures in
     let middle_anchor = rw twin at c.set_vertex_anchor-2.ensures in
-    let close_after_twin = rw first at c.close_sector.ensures in
-    let close_before_twin = rw second at c.close_sector-2.ensures in
-    let close_after_edge = rw third at c.close_sector-3.ensures in
-    let close_before_edge = rw fourth at c.close_sector-4.ensures in
-    let spoke_after_twin = rw (first, second) at c.push_spoke.ensures in
-    let spoke_before_twin = rw (second, third) at c.push_spoke-2.ensures in
-    let spoke_after_edge = rw (third, fourth) at c.push_spoke-3.ensures in
+    let closed = rw (first, second, third, fourth) at c.close.ensures in
+    let spoke_after_twin = rw (first, second) at c.spoke.ensures in
+    let spoke_before_twin = rw (second, third) at c.spoke-2.ensures in
+    let spoke_after_edge = rw (third, fourth) at c.spoke-3.ensures in
+    let spokes = rw (spoke_after_twin, spoke_before_twin, spoke_after_edge) at c.push_three_edges.ensures in
     let face_before_twin = rw second at c.push_face.ensures in
     let face_after_edge = rw third at c.push_face-2.ensures in
     let anchor = rw (third, second) at c.set_vertex_anchor.ensures in
@@ -43,19 +39,12 @@ returns-clause-stored g c =
     (rw (
       face_after_edge,
       face_before_twin,
-      spoke_after_edge,
-      spoke_before_twin,
-      spoke_after_twin,
+      spokes,
       middle_anchor,
       anchor,
       far_anchor,
       near_anchor,
       origin,
-      prev,
-      next,
-      close_before_edge,
-      close_after_edge,
-      close_before_twin,
-      close_after_twin,
+      closed,
     )
-    (rw (three_places, two_places) (simp append_assoc)))
+    (rw two_places (simp append_assoc)))

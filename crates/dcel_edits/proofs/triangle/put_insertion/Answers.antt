@@ -3,7 +3,7 @@ use Rattle.std.proofs.lemmas.List.{append_assoc}
 use Rattle.std.proofs.lemmas.List.Elements.{All-from_recursion}
 use Rattle.dcel_maps.proofs.edits.Adding.{adds_edges_and_faces}
 use Rattle.dcel_edits.specs.Triangle.{insertion_stored}
-use Rattle.dcel_edits.proofs.Numbers.{second_back, second_half, third_back, third_half, three_places, two_places}
+use Rattle.dcel_edits.proofs.Numbers.{second_back, second_half, third_back, third_half, two_places}
 use Rattle.dcel_edits.proofs.triangle.put_insertion.Goals as goal
 
 pub returns : goal.returns
@@ -22,12 +22,11 @@ returns g c =
       c.set_vertex_anchor.ensures,
       c.push_face-2.ensures,
       c.push_face.ensures,
-      c.push_spoke-3.ensures,
-      c.push_spoke-2.ensures,
-      c.push_spoke.ensures,
-      c.close_sector-3.ensures,
-      c.close_sector-2.ensures,
-      c.close_sector.ensures,
+      c.push_three_edges.ensures,
+      c.spoke-3.ensures,
+      c.spoke-2.ensures,
+      c.spoke.ensures,
+      c.close_three_sectors.ensures,
       c.new-c.ensures,
       c.new-b.ensures,
       c.new-a.ensures,
@@ -41,4 +40,4 @@ returns g c =
       c.prev-third.ensures,
       c.next-second.ensures,
     )
-    (rw (second_half, third_half, second_back, third_back, three_places, two_places) (simp append_assoc))))
+    (rw (second_half, third_half, second_back, third_back, two_places) (simp append_assoc))))
