@@ -14,6 +14,7 @@ mod borders;
 mod data;
 mod degenerate;
 mod elements;
+mod regions;
 mod removals;
 mod strips;
 mod whole;

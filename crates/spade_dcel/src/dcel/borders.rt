@@ -1,7 +1,8 @@
 //! Tests of what a removal opens with: the half edges round what is given up.
 
 ghost use Rattle.std.specs.Prelude.{◌↔◌, ◌<◌, IsTrue, reverse};
-ghost use Rattle.dcel_maps.specs.Borders.{IsBorderLoop, IsRing};
+ghost use Rattle.dcel_maps.specs.Borders.{IsBorderLoop, IsVertexRing};
+ghost use Rattle.dcel_maps.specs.Regions.{IsRing};
 ghost use Rattle.dcel_maps.specs.Shapes.{IsLive, origin_of};
 ghost use Rattle.dcel_maps.specs.theory.Sectors.{FindsEach, IsSector, Sectors};
 ghost use Rattle.dcel_maps.specs.Walking.{ccw_of, out_edges_of};
@@ -46,9 +47,15 @@ impl<V, DE, UE, F, A: Allocator> Dcel<V, DE, UE, F, A> {
         self.goes_round(out_edge, last, others)
     }
 
-    /// Whether these half edges are the border loop of some vertex, and these are the edges at that vertex and the faces round it, each
-    /// once and in any order. Any numbers may be asked about. The edges and faces are looked for at the places where they stand in the
-    /// order of out edges first, so that lists in this order are gone through once.
+    /// Whether these half edges are the ring of these edges and faces, each once and in any order. Any numbers may be asked about.
+    ///
+    /// Either they are the border loop of a vertex, with the edges at that vertex and the faces round it, which are as many. Or they are the
+    /// ring of a region, which is inner faces and the edges between them, one fewer: read from its end, the list leads round all half edges
+    /// of the faces that are of none of the edges, three or more, each from the one before by the next one, past the edges; and the last
+    /// half edge of the list starts where no other one does.
+    ///
+    /// It takes no memory, and at most time with the square of the lengths; linear time for a vertex whose edges and faces come in the
+    /// order of its out edges.
     pub fn is_ring(
         &self,
         list: &[FixedDirectedEdgeHandle],
@@ -56,6 +63,24 @@ impl<V, DE, UE, F, A: Allocator> Dcel<V, DE, UE, F, A> {
         faces: &[FixedFaceHandle<InnerTag>],
     ) -> bool
         ensures { IsTrue result ↔ IsRing self.now.shape list.now edges.now faces.now }
+    {
+        every_mesh(self);
+        if edges.len() == faces.len() {
+            return self.is_vertex_ring(list, edges, faces);
+        }
+        self.is_region_ring(list, edges, faces)
+    }
+
+    // Whether these half edges are the border loop of some vertex, and these are the edges at that vertex and the faces round it, each
+    // once and in any order. The edges and faces are looked for at the places where they stand in the order of out edges first, so that
+    // lists in this order are gone through once.
+    fn is_vertex_ring(
+        &self,
+        list: &[FixedDirectedEdgeHandle],
+        edges: &[FixedUndirectedEdgeHandle],
+        faces: &[FixedFaceHandle<InnerTag>],
+    ) -> bool
+        ensures { IsTrue result ↔ IsVertexRing self.now.shape list.now edges.now faces.now }
     {
         every_mesh(self);
         let Some((&first, _)) = list.split_first() else {

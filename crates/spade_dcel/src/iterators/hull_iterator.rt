@@ -1,8 +1,10 @@
-ghost use Rattle.std.specs.Prelude.{◌≡◌, ℕ, ◌≤◌, ◌^◌, ◌↔◌, IfSome, [], false, length};
+ghost use Rattle.std.specs.Prelude.{◌≡◌, ℕ, ◌<◌, ◌≤◌, ◌^◌, ◌↔◌, IfSome, [], false, length, reverse};
 ghost use Rattle.std.specs.Iterator.{YieldsFirstBy, YieldsLastBy, item_count};
 ghost use Rattle.spade_dcel.specs.Handles.{mesh_behind, number_of};
-ghost use Rattle.dcel_maps.specs.Shapes.{edge_is_live, face_anchor, next_of};
-ghost use Rattle.dcel_maps.specs.Walking.{IsOnFace, IsRoundTrip, ListsOnce, hull_of, in_mesh, live_half_edges};
+ghost use Rattle.dcel_maps.specs.Count.{IsCounted};
+ghost use Rattle.dcel_maps.specs.Shapes.{edge_is_live, face_anchor, next_of, prev_of};
+ghost use Rattle.dcel_maps.specs.Triangulations.{AllTriangles};
+ghost use Rattle.dcel_maps.specs.Walking.{IsOnFace, IsRoundTrip, ListsOnce, hull_of, in_mesh, live_half_edges, walk_of};
 ghost use Rattle.dcel_maps.specs.Words.{TurnsTo, word_of};
 
 use crate::dcel::Dcel;
@@ -17,7 +19,8 @@ use std::marker::Model;
 /// no edge stands.
 ///
 /// It takes no memory. Contracts see its mesh, and the half edges to come: `next` takes their first and `next_back` their last, in any
-/// mixture. So the hull from the back is the hull reversed.
+/// mixture. The hull from the back is the hull reversed: the half edge before the anchor, and on in the order of
+/// [`prev`](DirectedEdgeHandle::prev).
 #[derive(Drop)]
 pub struct HullIterator<'a, V, DE, UE, F, A: Allocator = Global> {
     inner_iterator: CircularIterator<'a, V, DE, UE, F, HullNextBackFn, A>,
@@ -32,7 +35,8 @@ impl<'a, V, DE, UE, F, A: Allocator> Model for HullIterator<'a, V, DE, UE, F, A>
 }
 
 impl<'a, V, DE, UE, F, A: Allocator> HullIterator<'a, V, DE, UE, F, A> {
-    /// Will list the word of the outer face, written from its anchor.
+    /// Will list the word of the outer face, written from its anchor. Where each inner face is a triangle, its length counts the live edges:
+    /// three times the vertices with an edge, minus three, minus the half edges of the hull.
     #[inline]
     pub fn new(dcel: &'a Dcel<V, DE, UE, F, A>) -> Self
         ensures mesh { result.mesh ≡ dcel.now }
@@ -40,7 +44,9 @@ impl<'a, V, DE, UE, F, A: Allocator> HullIterator<'a, V, DE, UE, F, A> {
         ensures word { TurnsTo (word_of dcel.now.shape.words 0) (hull_of dcel.now) }
         ensures each { ListsOnce (IsOnFace dcel.now.shape 0) (hull_of dcel.now) }
         ensures round { IfSome (face_anchor dcel.now 0) (λ edge. IsRoundTrip (next_of dcel.now.shape) edge (hull_of dcel.now)) }
+        ensures back { IfSome (face_anchor dcel.now 0) (λ edge. reverse (hull_of dcel.now) ≡ walk_of dcel.now.shape (prev_of dcel.now.shape) (prev_of dcel.now.shape edge)) }
         ensures none { (hull_of dcel.now ≡ []) ↔ ((u : ℕ) → edge_is_live dcel.now.shape u ≡ false) }
+        ensures count { AllTriangles dcel.now.shape → 0 < length result.items → IsCounted dcel.now.shape (length result.items) }
         ensures bound { length result.items ≤ live_half_edges dcel.now.shape }
         ensures few { length result.items ≤ 2 ^ 32 }
     {

@@ -14,7 +14,7 @@ use std::alloc::Allocator;
 
 /// Takes out the edges and the faces that an open removal has given up, each kind from the largest number down: the last one gets the number
 /// of the one that goes, and half edges go with their edge. Words, origins, data and anchors follow. The vertex that was given up is still
-/// there, for [`swap_remove_vertex`] to take out. The lists of `opened` are in ascending order afterwards, and `new_edges` keep the numbers
+/// there, for [`swap_remove_vertex`] to take out; a removal that gave none up is closed. The lists of `opened` are in ascending order afterwards, and `new_edges` keep the numbers
 /// that they had. It takes no memory, and asks that `opened` lists what is given up, in any order ([`is_listed`](Dcel::is_listed)).
 pub fn cleanup_isolated_vertex<V, DE: Drop, UE: Drop, F: Drop, A: Allocator, B: Allocator>(
     dcel: &mut Dcel<V, DE, UE, F, A>,
@@ -37,8 +37,7 @@ pub fn cleanup_isolated_vertex<V, DE: Drop, UE: Drop, F: Drop, A: Allocator, B: 
 
 /// Takes a vertex out, and answers its datum. The last vertex gets its number, with its datum, its anchor and its out edges; the answer
 /// tells the number that it had, if it was another one. No removal is open afterwards. It takes no memory, and asks that no removal is open
-/// ([`removal_state`](Dcel::removal_state)) and the vertex is unconnected ([`is_unconnected`](Dcel::is_unconnected)), or that it is the one
-/// of a removal that is cleaned up: then it is the one vertex that isn't live ([`is_live_vertex`](Dcel::is_live_vertex)).
+/// and the vertex is unconnected, or that it is the one of a removal that is cleaned up ([`can_swap_remove`](Dcel::can_swap_remove)).
 pub fn swap_remove_vertex<V, DE, UE, F, A: Allocator>(
     dcel: &mut Dcel<V, DE, UE, F, A>,
     vertex: FixedVertexHandle,

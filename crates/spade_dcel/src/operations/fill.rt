@@ -1,12 +1,14 @@
-//! A vertex given up with its edges and the triangles round it, and the hole that they leave filled.
+//! A vertex given up with its edges and the triangles round it, or a region of faces with the edges between them; and the hole that they
+//! leave filled.
 
 ghost use Rattle.std.specs.Prelude.{◌≡◌, ◌+◌, ◌-◌, ◌^◌, ◌<◌, ◌≤◌, IfOk, OnErr, OnOk, length};
-ghost use Rattle.dcel_maps.specs.Borders.{GivesUpRound, IsBorderLoop, IsRing, center_of};
+ghost use Rattle.dcel_maps.specs.Borders.{IsBorderLoop};
 ghost use Rattle.dcel_maps.specs.Conditions.{HasRoom};
 ghost use Rattle.dcel_maps.specs.edits.DefaultData.{AddsEdgesAndFaces};
 ghost use Rattle.dcel_maps.specs.edits.Fill.{border_filled, edges_at, faces_at, hole_filled, ring_remeshed};
 ghost use Rattle.dcel_maps.specs.Numbers.{numbers_between};
-ghost use Rattle.dcel_maps.specs.Removals.{Closed, opened};
+ghost use Rattle.dcel_maps.specs.Regions.{IsRing, LiesInside, inside};
+ghost use Rattle.dcel_maps.specs.Removals.{Closed, opened_with};
 ghost use Rattle.dcel_maps.specs.Shapes.{IsMesh};
 
 use crate::dcel::Dcel;
@@ -58,13 +60,18 @@ pub fn isolate_vertex_and_fill_hole<
 {
     every_mesh(dcel);
     let (edges, faces) = lists_round(dcel, vertex, border_loop.len())?;
-    open(dcel, &border_loop, vertex, edges, faces)
+    open(dcel, &border_loop, &Some(vertex), edges, faces)
 }
 
-/// Gives the vertex inside a ring up, with these edges and faces, which are those at it, and cuts the hole into new triangles as
-/// [`isolate_vertex_and_fill_hole`] does. It answers the lists as they were given, and the new edges in ascending order. It asks that no
-/// removal is open ([`removal_state`](Dcel::removal_state)), that the lists are a ring with what lies inside it
-/// ([`is_ring`](Dcel::is_ring)), and for room for the new edges and faces. Without memory the mesh is as it was.
+/// Gives these edges and faces up, which lie inside a ring, with the vertex inside it if there is one, and cuts the hole into new
+/// triangles as [`isolate_vertex_and_fill_hole`] does.
+///
+/// There is a vertex inside where the edges are as many as the faces. Without one, which is a region of faces with the edges between them,
+/// no vertex is given up, and [`cleanup_isolated_vertex`](super::cleanup_isolated_vertex) alone closes the removal.
+///
+/// It answers the lists as they were given, and the new edges in ascending order. It asks that no removal is open
+/// ([`removal_state`](Dcel::removal_state)), that the lists are a ring with what lies inside it ([`is_ring`](Dcel::is_ring)), and for room
+/// for the new edges and faces. Without memory the mesh is as it was.
 pub fn remesh_edge_ring<
     V,
     DE: Default,
@@ -92,27 +99,50 @@ pub fn remesh_edge_ring<
     ensures mesh { IsMesh dcel.new }
 {
     every_mesh(dcel);
-    let Some((&first, _)) = border_loop.split_first() else {
-        unreachable!()
-    };
-    let center = dcel.origin(dcel.prev_edge(first));
-    open(dcel, &border_loop, center, edges_to_remove, faces_to_remove)
+    let vertex = inside(dcel, &border_loop, &edges_to_remove, &faces_to_remove);
+    open(
+        dcel,
+        &border_loop,
+        &vertex,
+        edges_to_remove,
+        faces_to_remove,
+    )
 }
 
-// Gives the vertex inside a border up with these edges and faces, and fills the hole.
+// The vertex inside a ring: a vertex has as many edges as faces round it, and a region, which has none, has a face more.
+fn inside<V, DE, UE, F, A: Allocator>(
+    dcel: &Dcel<V, DE, UE, F, A>,
+    border: &[FixedDirectedEdgeHandle],
+    edges: &[FixedUndirectedEdgeHandle],
+    faces: &[FixedFaceHandle<InnerTag>],
+) -> Option<FixedVertexHandle>
+    requires { IsRing dcel.now.shape border.now edges.now faces.now }
+    ensures { result ≡ inside dcel.now.shape border.now edges.now faces.now }
+{
+    every_mesh(dcel);
+    if edges.len() != faces.len() {
+        return None;
+    }
+    let Some((&first, _)) = border.split_first() else {
+        unreachable!()
+    };
+    Some(dcel.origin(dcel.prev_edge(first)))
+}
+
+// Gives these edges and faces up, and the vertex inside a border if there is one, and fills the hole.
 fn open<V, DE: Default, UE: Default, F: Default, A: Allocator + Clone>(
     dcel: &mut Dcel<V, DE, UE, F, A>,
     border: &[FixedDirectedEdgeHandle],
-    vertex: FixedVertexHandle,
+    vertex: &Option<FixedVertexHandle>,
     edges_to_remove: Vec<FixedUndirectedEdgeHandle, A>,
     faces_to_remove: Vec<FixedFaceHandle<InnerTag>, A>,
 ) -> Result<IsolateVertexResult<A>, AllocError>
     requires closed { dcel.old.shape.removal ≡ Closed }
-    requires border { IsBorderLoop dcel.old.shape border.now vertex }
-    requires round { GivesUpRound dcel.old.shape vertex (opened edges_to_remove.items faces_to_remove.items vertex) }
+    requires many { 3 ≤ length border.now }
+    requires inside { LiesInside dcel.old.shape border.now edges_to_remove.items faces_to_remove.items vertex.now }
     requires room { HasRoom dcel.old.shape 0 (length border.now - 3) (length border.now - 2) }
     ensures edit { OnOk result (AddsEdgesAndFaces DE.is_default UE.is_default F.is_default (length border.now - 3) (length border.now - 2)
-        dcel.new (border_filled dcel.old (opened edges_to_remove.items faces_to_remove.items vertex) border.now)) }
+        dcel.new (border_filled dcel.old (opened_with edges_to_remove.items faces_to_remove.items vertex.now) border.now)) }
     ensures edges { IfOk result (λ opened. opened.edges_to_remove ≡ edges_to_remove) }
     ensures faces { IfOk result (λ opened. opened.faces_to_remove ≡ faces_to_remove) }
     ensures new_edges { IfOk result (λ opened. opened.new_edges.items
@@ -133,20 +163,20 @@ fn open<V, DE: Default, UE: Default, F: Default, A: Allocator + Clone>(
     })
 }
 
-// Cuts the ring of a border, read from its end, into ears, and gives the vertex inside up with these edges and faces.
+// Cuts the ring of a border, read from its end, into ears, and gives these edges and faces up, and the vertex inside if there is one.
 fn fill<V, DE: Default, UE: Default, F: Default, A: Allocator>(
     dcel: &mut Dcel<V, DE, UE, F, A>,
     border: &[FixedDirectedEdgeHandle],
-    vertex: FixedVertexHandle,
+    vertex: &Option<FixedVertexHandle>,
     edges: &[FixedUndirectedEdgeHandle],
     faces: &[FixedFaceHandle<InnerTag>],
 ) -> Result<(), AllocError>
     requires closed { dcel.old.shape.removal ≡ Closed }
-    requires border { IsBorderLoop dcel.old.shape border.now vertex }
-    requires round { GivesUpRound dcel.old.shape vertex (opened edges.now faces.now vertex) }
+    requires many { 3 ≤ length border.now }
+    requires inside { LiesInside dcel.old.shape border.now edges.now faces.now vertex.now }
     requires room { HasRoom dcel.old.shape 0 (length border.now - 3) (length border.now - 2) }
     ensures edit { OnOk result (AddsEdgesAndFaces DE.is_default UE.is_default F.is_default (length border.now - 3) (length border.now - 2)
-        dcel.new (border_filled dcel.old (opened edges.now faces.now vertex) border.now)) }
+        dcel.new (border_filled dcel.old (opened_with edges.now faces.now vertex.now) border.now)) }
     ensures refused { OnErr result (dcel.new ≡ dcel.old) }
     ensures mesh { IsMesh dcel.new }
 {

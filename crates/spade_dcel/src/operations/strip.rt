@@ -68,7 +68,7 @@ fn cut<V, DE, UE, F, A: Allocator>(
 {
     every_mesh(dcel);
     let vertex = dcel.origin(dcel.prev_edge(last));
-    dcel.removal.open(edges, faces, vertex)?;
+    dcel.removal.open(edges, faces, &Some(vertex))?;
     put_strip_cut(&mut dcel.store, items, last);
     Ok(())
 }

@@ -1,10 +1,13 @@
 use Rattle.dcel_maps.proofs.removal.RingLists.{at_border}
 use Rattle.spade_dcel.proofs.operations.fill.isolate_vertex_and_fill_hole.Goals as goal
 
-pub open-requires-clause-round : goal.open-requires-clause-round
-open-requires-clause-round g c =
-    rw (c.in_ok-edges.ensures.edges, c.in_ok-edges.ensures.faces)
-    (at_border c.args.dcel.now c.every_mesh.ensures c.args.border_loop.items c.args.vertex c.requires.border)
+pub open-requires-clause-many : goal.open-requires-clause-many
+open-requires-clause-many g c = rw c.deref.ensures.value c.requires.border.many
+
+pub open-requires-clause-inside : goal.open-requires-clause-inside
+open-requires-clause-inside g c =
+    rw (c.in_ok-edges.ensures.edges, c.in_ok-edges.ensures.faces, c.deref.ensures.value)
+    (c.requires.border, at_border c.args.dcel.now c.every_mesh.ensures c.args.border_loop.items c.args.vertex c.requires.border)
 
 pub returns-clause-edit : goal.returns-clause-edit
 returns-clause-edit g c =
