@@ -8,7 +8,7 @@ use std::rt::Env;
 
 /// The workloads, and the sizes, where no argument names others.
 const ALL_WORKLOADS: &str =
-    "insert,insert_reserved,walk,walk_both_ends,faces,extend,hull,neighbors,split,flip,swap,clone,map,remove";
+    "insert,insert_reserved,walk,walk_both_ends,faces,extend,hull,neighbors,split,flip,swap,clone,map,remove,legalize";
 
 const ALL_SIZES: &str = "1000,100000,1000000";
 

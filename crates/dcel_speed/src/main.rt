@@ -11,6 +11,7 @@ mod copies;
 mod digest;
 mod fault;
 mod flip;
+mod legalize;
 mod measure;
 mod neighbors;
 mod random;

@@ -9,6 +9,7 @@ ghost use Rattle.dcel_speed.specs.Growth.{IsGrown, IsTriangulated};
 use crate::copies::{clone, map};
 use crate::fault::{BuildError, Fault};
 use crate::flip::flip;
+use crate::legalize::legalize;
 use crate::measure::{time_building, time_reading};
 use crate::neighbors::neighbors;
 use crate::random::Random;
@@ -79,6 +80,9 @@ pub enum Workload {
 
     /// Takes vertices inside triangles out.
     Remove,
+
+    /// Turns edges until none is wanted any more.
+    Legalize,
 }
 
 impl Workload {
@@ -99,6 +103,7 @@ impl Workload {
             Workload::Clone => "clone",
             Workload::Map => "map",
             Workload::Remove => "remove",
+            Workload::Legalize => "legalize",
         }
     }
 
@@ -119,6 +124,7 @@ impl Workload {
             "clone" => Some(Workload::Clone),
             "map" => Some(Workload::Map),
             "remove" => Some(Workload::Remove),
+            "legalize" => Some(Workload::Legalize),
             _ => None,
         }
     }
@@ -176,6 +182,7 @@ pub fn measured<D: Default + Drop + Clone>(
         Workload::Clone => clone::<D>(rt, size),
         Workload::Map => map::<D>(rt, size),
         Workload::Remove => remove::<D>(rt, size),
+        Workload::Legalize => legalize::<D>(rt, size),
     }
 }
 

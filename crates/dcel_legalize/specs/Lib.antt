@@ -1,0 +1,3 @@
+pub mod ByNumber
+pub mod Flipping
+pub mod Outcome

@@ -1,0 +1,62 @@
+//! Edges flipped until none is left that is wanted.
+
+use crate::fault::{BuildError, Fault};
+use crate::measure::{FEWEST_EDITING, least_of};
+use crate::workloads::{Mesh, Outcome, Timed, triangulated};
+use dcel_legalize::{Legalized, legalize_by_number};
+use spade_dcel::handles::FixedUndirectedEdgeHandle;
+use std::alloc::{AllocError, Global};
+use std::rt::Clock;
+use std::time::Instant;
+
+/// How many edges come to the list at a flip.
+const BESIDE: u64 = 5;
+
+/// Times the flips of a mesh of triangles, from all its edges on: those that are wanted by the numbers of their vertices.
+pub fn legalize<D: Default + Drop + Clone>(
+    rt: &(impl Clock + AllocGlobal),
+    size: u32,
+) -> Result<Timed, Fault> {
+    let built = triangulated::<D>(rt.alloc(), size)?;
+    least_of(FEWEST_EDITING, || {
+        let mut dcel = built.try_clone(rt.alloc())?;
+        let list = all_edges(rt.alloc(), &dcel)?;
+        let start = Instant::now(rt)?;
+        let flips = flip_all(&mut dcel, list)?;
+        let elapsed = start.elapsed(rt)?;
+        let outcome = Outcome {
+            checksum: flips,
+            operations: looked_at(&dcel, flips),
+        };
+        Ok(Timed { elapsed, outcome })
+    })
+}
+
+/// How many edges were looked at until none was left in the list: those of the mesh, and the ones that flips put there.
+fn looked_at<D>(dcel: &Mesh<D>, flips: u64) -> u64 {
+    (dcel.num_undirected_edges() as u64).wrapping_add(flips.wrapping_mul(BESIDE))
+}
+
+/// The edges of a mesh.
+fn all_edges<D>(
+    alloc: Global,
+    dcel: &Mesh<D>,
+) -> Result<Vec<FixedUndirectedEdgeHandle>, AllocError> {
+    let edges = dcel.num_undirected_edges();
+    let mut list = Vec::with_capacity(alloc, edges)?;
+    for index in 0..edges {
+        list.push(FixedUndirectedEdgeHandle::new(index))?;
+    }
+    Ok(list)
+}
+
+/// Flips edges from these on until none is wanted any more: how many flips that took.
+fn flip_all<D>(
+    dcel: &mut Mesh<D>,
+    list: Vec<FixedUndirectedEdgeHandle>,
+) -> Result<u64, BuildError> {
+    match legalize_by_number(dcel, list, usize::MAX) {
+        Legalized::Done { flips } | Legalized::Stopped { flips } => Ok(flips as u64),
+        Legalized::OutOfMemory { .. } => Err(BuildError::NoMemory),
+    }
+}
