@@ -2,7 +2,7 @@
 use Rattle.std.proofs.Common.{◌≡◌, ◌⊎◌, ℕ, zero, suc, ◌+◌, ◌<◌, ◌≤◌, ◌&&◌, Bool, true, nat_lt, ltb-true, List, [], ◌∷◌, inl, inr, length, get_or, arith, subst, sym, refl, ap, ◌∙◌}
 use Rattle.std.specs.List.Sorted.{IsNonDecreasingBy}
 use Rattle.std.proofs.lemmas.Bool.{and_parts}
-use Rattle.dcel_commands.specs.Instructions.{Instruction, Append, Triangle, Setup, Extend, Line, Close, Outside, Insert, Half, Split, Flip, Swap, Put, Isolate, Remesh, Strip, Cleanup, Remove, Degenerate, Clear}
+use Rattle.dcel_commands.specs.Instructions.{Instruction, Append, Triangle, Setup, Extend, Line, Close, Outside, Insert, Half, Split, Flip, Swap, Put, Isolate, Remesh, Strip, Cleanup, Remove, Degenerate, Legalize, Clear}
 use Rattle.dcel_commands.specs.declared.refusal.Refusal.{Refusal}
 use Rattle.dcel_commands.specs.Conditions.{Entry, Meets, AllMet, FirstUnmet, IsLeast, IsReason, IsRefused, entry_number}
 use Rattle.dcel_commands.specs.Refusal.{refusal_number}
@@ -127,6 +127,7 @@ command-column limit (Strip hs) = refl
 command-column limit (Cleanup us fs) = refl
 command-column limit (Remove v) = refl
 command-column limit (Degenerate v) = refl
+command-column limit (Legalize n us) = refl
 command-column limit Clear = refl
 
 pub command-ascends : {V : Type 0} (limit : ℕ) (command : Instruction V) → IsNonDecreasingBy entry_number (asks limit command)

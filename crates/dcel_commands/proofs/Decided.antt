@@ -9,7 +9,12 @@ use Rattle.dcel_maps.specs.Degenerate.{CanRemoveDegenerate, HasFewOutEdges, IsOu
 use Rattle.dcel_maps.specs.Removals.{Removal, Closed, Isolated, Cleaned, IsListed, ascending, gives_up_edge}
 use Rattle.dcel_maps.specs.Shapes.{Shape, IsLive, edge_is_live, end_of, face_count, face_is_live, face_of, next_of, origin_of, prev_of, vertex_is_live}
 use Rattle.dcel_maps.specs.Strips.{IsEdgeStrip, IsStripAround, strip_of}
-use Rattle.dcel_maps.specs.Borders.{IsBorderLoop, IsEdgeAt, IsFaceAt, IsRing, StartsAlone, center_of}
+use Rattle.dcel_maps.specs.Borders.{IsBorderLoop, IsEdgeAt, IsFaceAt, IsVertexRing, StartsAlone, center_of}
+use Rattle.dcel_maps.specs.Regions.{IsRegion, IsRegionRing, IsRim, IsRing, LeadsPast}
+use Rattle.dcel_maps.specs.Regions.IsRing.{of_region, of_vertex}
+use Rattle.dcel_maps.specs.theory.Cycles.{IsCycle, Path}
+use Rattle.dcel_maps.proofs.maps.Halves.{rev-rev, rev_half, rev_or_same}
+use Rattle.dcel_maps.proofs.removal.Passing.{leads_or_not}
 use Rattle.dcel_maps.specs.Walking.{IsOutEdge, ListsOnce, ccw_of, walk_of}
 use Rattle.dcel_maps.specs.Words.{count_of, word_of}
 use Rattle.dcel_maps.proofs.words.Counts.{count-later, count-same, first_or_later}
@@ -328,11 +333,81 @@ lists_faces s v w = as_well
     (both (all_below (λ h. IsOutEdge s v h → count_of (face_of s h) w ≡ 1) (λ h. implied (out_edge s v h) (cases_eq (count_of (face_of s h) w) 1)) (2 * s.edges))
     (items_have (face_at s v) w))
 
+vertex_ring : (s : Shape) (border edges faces : List ℕ) → Decided (IsVertexRing s border edges faces)
+vertex_ring s border edges faces = as_well
+    (λ p. record { border_loop = p.0; each_edge = p.1.0; each_face = p.1.1 })
+    (λ (is : IsVertexRing s border edges faces). (is.border_loop, (is.each_edge, is.each_face)))
+    (both (border_loop s border (center_of s border)) (both (lists_edges s (center_of s border) edges) (lists_faces s (center_of s border) faces)))
+
+-- no number stands twice in a list
+once : (w : List ℕ) → Decided ((k : ℕ) → count_of k w ≤ 1)
+once w = as_well
+    (λ p k. elim (cases_lt 0 (count_of k w)) [ inl found ↦ p k found | inr none ↦ omega (arith, none) ])
+    (λ all k found. all k)
+    (items_have (λ k. is_within (count_of k w) 1) w)
+
+-- the halves of listed edges lie on two of the faces
+abbrev Parts : Shape → List ℕ → ℕ → Type 0
+Parts s faces h = (0 < count_of (face_of s h) faces) × (face_of s h ≢ face_of s (rev h))
+
+parts : (s : Shape) (faces : List ℕ) (h : ℕ) → Decided (Parts s faces h)
+parts s faces h = both (is_below 0 (count_of (face_of s h) faces)) (neither (cases_eq (face_of s h) (face_of s (rev h))))
+
+each_half : (Q : ℕ → Type 0) → ((h : ℕ) → Decided (Q h)) → (edges : List ℕ) → Decided ((h : ℕ) → 0 < count_of (h / 2) edges → Q h)
+each_half Q decide edges = as_well
+    (λ p h found.
+    let even : 2 * (h / 2) / 2 ≡ h / 2 = omega arith in
+    let two = p (h / 2) found in
+    elim (rev_or_same h (2 * (h / 2)) (sym even)) [ inl same ↦ subst Q (sym same) two.0 | inr turned ↦ subst Q (sym turned) two.1 ])
+    (λ all u found.
+    let even : 2 * u / 2 ≡ u = omega arith in
+    (all (2 * u) (subst (λ z. 0 < count_of z edges) (sym even) found), all (rev (2 * u)) (subst (λ z. 0 < count_of z edges) (sym (rev_half (2 * u) ∙ even)) found)))
+    (items_have (λ u. both (decide (2 * u)) (decide (rev (2 * u)))) edges)
+
+region : (s : Shape) (edges faces : List ℕ) → Decided (IsRegion s edges faces)
+region s edges faces = as_well
+    (λ p. record { edges_once = p.0; faces_once = p.1.0; fewer = p.1.1.0; inner = p.1.1.1.0; live = p.1.1.1.1.0; between = p.1.1.1.1.1 })
+    (λ (r : IsRegion s edges faces). (r.edges_once, (r.faces_once, (r.fewer, (r.inner, (r.live, r.between))))))
+    (both (once edges)
+    (both (once faces)
+    (both (cases_eq (length faces) (suc (length edges)))
+    (both (items_have (λ f. both (is_below 0 f) (is_true (face_is_live s f))) faces)
+    (both (items_have (λ u. is_true (edge_is_live s u)) edges) (each_half (Parts s faces) (parts s faces) edges))))))
+
+rim : (s : Shape) (edges faces : List ℕ) (h : ℕ) → Decided (IsRim s edges faces h)
+rim s edges faces h = as_well
+    (λ p. record { live = p.0; on_face = p.1.0; unlisted = p.1.1 })
+    (λ (r : IsRim s edges faces h). (r.live, (r.on_face, r.unlisted)))
+    (both (is_true (edge_is_live s (h / 2))) (both (is_below 0 (count_of (face_of s h) faces)) (cases_eq (count_of (h / 2) edges) 0)))
+
+path_past : (next : ℕ → ℕ) (edges : List ℕ) (x : ℕ) (r : List ℕ) (e : ℕ) → Decided (Path (LeadsPast next edges) x r e)
+path_past next edges x [] e = leads_or_not next edges x e
+path_past next edges x (y ∷ r) e = both (leads_or_not next edges x y) (path_past next edges y r e)
+
+round_past : (next : ℕ → ℕ) (edges w : List ℕ) → Decided (IsCycle (LeadsPast next edges) w)
+round_past next edges [] = inl tt
+round_past next edges (x ∷ r) = path_past next edges x r x
+
+whole_rim : (s : Shape) (edges faces w : List ℕ) → Decided (ListsOnce (IsRim s edges faces) w)
+whole_rim s edges faces w = as_well
+    (λ p. record { each = λ h has. p.0 h (live_below s h has.live) has; no_other = p.1 })
+    (λ (l : ListsOnce (IsRim s edges faces) w). ((λ h below has. l.each h has), l.no_other))
+    (both (all_below (λ h. IsRim s edges faces h → count_of h w ≡ 1) (λ h. implied (rim s edges faces h) (cases_eq (count_of h w) 1)) (2 * s.edges))
+    (items_have (rim s edges faces) w))
+
+region_ring : (s : Shape) (border edges faces : List ℕ) → Decided (IsRegionRing s border edges faces)
+region_ring s border edges faces = as_well
+    (λ p. record { region = p.0; many = p.1.0; ring = p.1.1.0; whole = p.1.1.1.0; alone = p.1.1.1.1 })
+    (λ (r : IsRegionRing s border edges faces). (r.region, (r.many, (r.ring, (r.whole, r.alone)))))
+    (both (region s edges faces)
+    (both (is_within 3 (length border))
+    (both (round_past (next_of s) edges (reverse border)) (both (whole_rim s edges faces (reverse border)) (starts_alone s (reverse border))))))
+
 ring : (s : Shape) (border edges faces : List ℕ) → Decided (IsRing s border edges faces)
 ring s border edges faces = as_well
-    (λ p. record { border_loop = p.0; each_edge = p.1.0; each_face = p.1.1 })
-    (λ (is : IsRing s border edges faces). (is.border_loop, (is.each_edge, is.each_face)))
-    (both (border_loop s border (center_of s border)) (both (lists_edges s (center_of s border) edges) (lists_faces s (center_of s border) faces)))
+    (λ p. elim p [ inl vertex ↦ of_vertex vertex | inr region ↦ of_region region ])
+    (λ (is : IsRing s border edges faces). elim is [ of_vertex vertex ↦ inl vertex | of_region region ↦ inr region ])
+    (either (vertex_ring s border edges faces) (region_ring s border edges faces))
 
 pub meets : (s : Shape) (condition : Condition) → Decided (Meets s condition)
 meets s (VertexInRange v) = is_below v s.vertices

@@ -2,10 +2,14 @@ pub mod Columns
 pub mod Decided
 pub mod Ending
 pub mod FaceWalks
+pub mod Flipping
 pub mod Lists
+pub mod OneRemoval
 pub mod OutEdges
 pub mod Refusing
 pub mod Rounds
+pub mod Runs
 pub mod Serving
 pub mod Spelling
+pub mod Triangles
 pub mod WithoutMemory

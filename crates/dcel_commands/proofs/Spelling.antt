@@ -14,7 +14,7 @@ use Rattle.std.proofs.lemmas.Str.Parse.{digit_from_value}
 use Rattle.dcel_commands.specs.declared.request.Query.TheVariants.{Counts, Words, Hull, Out, Origin, Between, Get, Check}
 use Rattle.dcel_commands.specs.declared.request.Request.{Request}
 use Rattle.dcel_commands.specs.Grammar.{Item, Number, Datum, Slash, item_text, IsInRange, numbers}
-use Rattle.dcel_commands.specs.Instructions.{Append, Triangle, Setup, Extend, Line, Close, Outside, Insert, Half, Split, Flip, Swap, Put, Isolate, Remesh, Strip, Cleanup, Remove, Degenerate, Clear, Saying, Edit, Ask}
+use Rattle.dcel_commands.specs.Instructions.{Append, Triangle, Setup, Extend, Line, Close, Outside, Insert, Half, Split, Flip, Swap, Put, Isolate, Remesh, Strip, Cleanup, Remove, Degenerate, Legalize, Clear, Saying, Edit, Ask}
 use Rattle.dcel_commands.specs.Spelling.{Reads, Says, Spells, given, word, written}
 use Rattle.dcel_text.specs.Items.{items_of, slash, spaced}
 use Rattle.dcel_text.proofs.Cutting.{has_no_space, NoSpaces, spaced-items_of, items_of-spaced}
@@ -174,6 +174,7 @@ request_of = request_in (
     (codes "cleanup", λ values. Some (Edit (Cleanup (front values) (front (back values))))) ∷
     (codes "remove", one (λ v. Edit (Remove (number_in v)))) ∷
     (codes "degenerate", one (λ v. Edit (Degenerate (number_in v)))) ∷
+    (codes "legalize", led (λ n us. Edit (Legalize (number_in n) us))) ∷
     (codes "clear", nothing (Edit Clear)) ∷
     (codes "counts", nothing (Ask Counts)) ∷
     (codes "words", nothing (Ask Words)) ∷
@@ -197,6 +198,7 @@ request_of-word (Edit (Strip hs)) = ap (λ (ns : List ℕ). Some (Edit (Strip ns
 request_of-word (Edit (Cleanup us fs)) =
     ap (λ (ns : List ℕ). Some (Edit (Cleanup ns (front (back (map value_of (numbers us ++ Slash ∷ numbers fs))))))) (front_first us (numbers fs))
     ∙ ap (λ (ns : List ℕ). Some (Edit (Cleanup us ns))) (ap front (back_last us (numbers fs)) ∙ front_alone fs)
+request_of-word (Edit (Legalize n us)) = ap (λ (ns : List ℕ). Some (Edit (Legalize n ns))) (front_alone us)
 request_of-word (Ask Counts) = refl
 request_of-word _ = refl
 

@@ -2,7 +2,8 @@
 use Rattle.std.specs.Prelude.{◌≡◌, ◌≢◌, ◌⊎◌, ℕ, ◌+◌, ◌*◌, ◌<◌, ◌≤◌, true, List, [], ◌∷◌, All, Contains}
 use Rattle.dcel_commands.specs.declared.refusal.Refusal.{Refusal}
 use Rattle.dcel_commands.specs.Refusal.{refusal_number}
-use Rattle.dcel_maps.specs.Borders.{IsBorderLoop, IsRing}
+use Rattle.dcel_maps.specs.Borders.{IsBorderLoop}
+use Rattle.dcel_maps.specs.Regions.{IsRing}
 use Rattle.dcel_maps.specs.Conditions.{IsUnconnected, IsLineEnd, IsTriangle, IsBridge, CanFlip, CanCloseOutside, CanSwapRemove}
 use Rattle.dcel_maps.specs.Degenerate.{CanRemoveDegenerate}
 use Rattle.dcel_maps.specs.Removals.{Removal, Closed, Isolated, Cleaned, IsListed}

@@ -27,6 +27,7 @@ pub data Instruction (V : Type 0) : Type 0 where
   Cleanup : List ℕ → List ℕ → Instruction V
   Remove : ℕ → Instruction V
   Degenerate : ℕ → Instruction V
+  Legalize : ℕ → List ℕ → Instruction V
   Clear : Instruction V
 
 abbrev pub instruction : {V A : Type 0} → Command V A → Instruction V
@@ -49,6 +50,7 @@ instruction (commands.Strip hs) = Strip hs.items
 instruction (commands.Cleanup us fs) = Cleanup us.items fs.items
 instruction (commands.Remove v) = Remove v
 instruction (commands.Degenerate v) = Degenerate v
+instruction (commands.Legalize n us) = Legalize n us.items
 instruction commands.Clear = Clear
 
 -- how many numbers stand in its lists, which take memory before anything is asked
@@ -57,6 +59,7 @@ in_lists (Isolate v hs) = length hs
 in_lists (Remesh hs us fs) = length hs + length us + length fs
 in_lists (Strip hs) = length hs
 in_lists (Cleanup us fs) = length us + length fs
+in_lists (Legalize n us) = length us
 in_lists _ = 0
 
 -- what a line says: a command to be carried out, or a query to be told

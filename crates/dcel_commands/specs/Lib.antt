@@ -4,6 +4,8 @@ pub mod Answering
 pub mod Conditions
 pub mod Grammar
 pub mod Instructions
+pub mod Lists
+pub mod OneRemoval
 pub mod Queries
 pub mod Refusal
 pub mod Replies
@@ -14,5 +16,6 @@ pub mod Spelling
 pub mod Stage
 pub mod Steps
 pub mod Talk
+pub mod Triangles
 pub mod Vocabulary
 pub mod request

@@ -5,7 +5,10 @@ use Rattle.dcel_commands.specs.declared.commands.reply.Handed.TheVariants.{Nothi
 use Rattle.dcel_commands.specs.declared.commands.reply.Refused.{Refused}
 use Rattle.dcel_commands.specs.declared.refusal.Refusal.{Refusal}
 use Rattle.dcel_commands.specs.Refusal.{refusal_text}
-use Rattle.dcel_commands.specs.Responses.{Response, Done, Vertex, Half, Halves, Opened, Removed}
+use Rattle.dcel_commands.specs.Responses.{Response, Done, Vertex, Half, Halves, Opened, Removed, Flips}
+use Rattle.dcel_legalize.specs.Outcome.{flips_told}
+use Rattle.dcel_legalize.specs.declared.legalized.Legalized.{Legalized}
+use Rattle.dcel_legalize.specs.declared.legalized.Legalized.TheVariants as runs
 use Rattle.dcel_text.specs.Texts.{ended, listed, numbered}
 
 -- a refusal that hands nothing back
@@ -25,6 +28,16 @@ opened_text edges faces new_edges = ended (codes "opened edges" ++ listed edges 
 abbrev pub removed_text : ℤ → Option ℕ → List ℕ
 removed_text datum moved = ended (codes "removed " ++ signed_decimal datum ++ moved_text moved)
 
+-- how edges were flipped to the end, or to the limit, or as far as there was memory
+abbrev pub ending_of : Legalized → List ℕ
+ending_of (runs.Done n) = codes " done"
+ending_of (runs.Stopped n) = codes " stopped"
+ending_of (runs.OutOfMemory n) = codes " memory"
+
+-- how many were, and that
+abbrev pub flips_text : Legalized → List ℕ
+flips_text legalized = ended (numbered (codes "flips ") (flips_told legalized) ++ ending_of legalized)
+
 -- how a reply is written
 abbrev pub reply_text : Response ℤ → List ℕ
 reply_text Done = ended (codes "ok")
@@ -33,6 +46,7 @@ reply_text (Half h) = ended (numbered (codes "half ") h)
 reply_text (Halves hs) = ended (codes "halves" ++ listed hs)
 reply_text (Opened edges faces new_edges smallest) = opened_text edges faces new_edges
 reply_text (Removed datum moved) = removed_text datum moved
+reply_text (Flips legalized) = flips_text legalized
 
 -- how the outcome of a command is written
 abbrev pub outcome_text : Result (Response ℤ) (Refused ℤ) → List ℕ

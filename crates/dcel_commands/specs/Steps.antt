@@ -4,7 +4,7 @@ use Rattle.dcel_commands.specs.declared.commands.reply.Refused.{Refused}
 use Rattle.dcel_commands.specs.declared.refusal.Refusal.{Refusal}
 use Rattle.dcel_commands.specs.declared.refusal.Refusal.TheVariants.{OutOfMemory}
 use Rattle.dcel_commands.specs.Conditions.{Entry, AllMet, FirstUnmet}
-use Rattle.dcel_commands.specs.Instructions.{Instruction, Append, Triangle, Setup, Extend, Line, Close, Outside, Insert, Half, Split, Flip, Swap, Put, Isolate, Remesh, Strip, Cleanup, Remove, Degenerate, Clear}
+use Rattle.dcel_commands.specs.Instructions.{Instruction, Append, Triangle, Setup, Extend, Line, Close, Outside, Insert, Half, Split, Flip, Swap, Put, Isolate, Remesh, Strip, Cleanup, Remove, Degenerate, Legalize, Clear}
 use Rattle.dcel_commands.specs.Responses.{Response}
 use Rattle.dcel_commands.specs.Rules.{CommandRule}
 use Rattle.dcel_commands.specs.request.Append.{append}
@@ -16,6 +16,7 @@ use Rattle.dcel_commands.specs.request.Degenerate.{degenerate}
 use Rattle.dcel_commands.specs.request.Flip.{flip}
 use Rattle.dcel_commands.specs.request.Insert.{insert}
 use Rattle.dcel_commands.specs.request.Isolate.{isolate}
+use Rattle.dcel_commands.specs.request.Legalize.{legalize}
 use Rattle.dcel_commands.specs.request.Put.{put}
 use Rattle.dcel_commands.specs.request.Remesh.{remesh}
 use Rattle.dcel_commands.specs.request.Remove.{remove}
@@ -45,6 +46,7 @@ command_rule (Strip hs) = strip hs
 command_rule (Cleanup us fs) = cleanup us fs
 command_rule (Remove v) = remove v
 command_rule (Degenerate v) = degenerate v
+command_rule (Legalize n us) = legalize n us
 command_rule Clear = clear
 
 -- the conditions of a command, each after the refusal that answers where it isn't met, in the order of checking

@@ -1,7 +1,7 @@
 -- What the clauses of the files in `request` cite of this crate and of those below.
 pub use Rattle.dcel_commands.specs.Answering.{WritesSome}
 pub use Rattle.dcel_commands.specs.Conditions.{AllMet, FirstUnmet, NoOtherOpen, Removable}
-pub use Rattle.dcel_commands.specs.Instructions.{Append, Triangle, Close, Insert, Flip, Put, Isolate, Remesh, Strip, Cleanup, Remove, Degenerate, Clear}
+pub use Rattle.dcel_commands.specs.Instructions.{Append, Triangle, Close, Insert, Flip, Put, Isolate, Remesh, Strip, Cleanup, Remove, Degenerate, Legalize, Clear}
 pub use Rattle.dcel_commands.specs.Queries.{TellsOrRefuses}
 pub use Rattle.dcel_commands.specs.Responses.{answered, response}
 pub use Rattle.dcel_commands.specs.Spelling.{Says}

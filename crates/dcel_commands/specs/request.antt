@@ -11,6 +11,7 @@ pub mod Flip
 pub mod Get
 pub mod Insert
 pub mod Isolate
+pub mod Legalize
 pub mod Origin
 pub mod Out
 pub mod Put

@@ -3,6 +3,7 @@
 
 mod command;
 mod dispatch;
+mod lists;
 mod reply;
 
 pub use crate::faults::RunFault;
@@ -13,4 +14,5 @@ pub use dcel_text::faults::Failed;
 pub use dcel_text::sink::{LineSink, StdSink};
 pub use dcel_text::source::{LineSource, StdSource};
 pub use dispatch::{MAX_LIMIT, apply};
+pub use lists::{StoppedAt, apply_all};
 pub use reply::{Handed, Refused, Reply};

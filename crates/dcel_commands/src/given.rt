@@ -339,6 +339,19 @@ pub fn degenerate<'a, A: Allocator>(rest: Rest<'a>) -> Said<A>
     Some(Ok(Request::Edit(Command::Degenerate(one_number(rest)?))))
 }
 
+pub fn legalize<'a, A: Allocator>(rest: Rest<'a>, memory: A) -> Said<A>
+    ensures { Says (codes "legalize") (left rest.entry) result }
+{
+    let (number, others) = number_then(rest)?;
+    match one_list(others, memory)? {
+        Ok(list) => {
+            let max_flips = number as usize;
+            Some(Ok(Request::Edit(Command::Legalize(max_flips, list))))
+        }
+        Err(error) => Some(Err(error)),
+    }
+}
+
 pub fn clear<'a, A: Allocator>(rest: Rest<'a>) -> Said<A>
     ensures { Says (codes "clear") (left rest.entry) result }
 {

@@ -1,20 +1,25 @@
 //! Laws: what follows from the definitions alone. These calls compute nothing; whoever makes one learns what it ensures.
 
-ghost use Rattle.std.specs.Prelude.{◌≡◌, ◌⊎◌, ◌↔◌, ℕ, List};
+ghost use Rattle.std.specs.Prelude.{◌≡◌, ◌⊎◌, ◌↔◌, ℕ, List, Option, Some};
 ghost use Rattle.std.specs.List.Sorted.{IsNonDecreasingBy};
 ghost use Rattle.dcel_commands.specs.Conditions.{entry_number, AllMet, FirstUnmet, IsLeast, IsRefused};
-ghost use Rattle.dcel_commands.specs.Instructions.{Instruction, Saying};
+ghost use Rattle.dcel_commands.specs.Instructions.{Cleanup, Instruction, Remove, Saying};
+ghost use Rattle.dcel_commands.specs.Lists.{Run, Takes};
+ghost use Rattle.dcel_commands.specs.OneRemoval.{CleansUp, Closes, GoesOn, Opens, record_after};
 ghost use Rattle.dcel_commands.specs.Queries.{query_asks};
 ghost use Rattle.dcel_commands.specs.Refusal.{refusal_text};
+ghost use Rattle.dcel_commands.specs.Responses.{Response};
 ghost use Rattle.dcel_commands.specs.Spelling.{Spells};
 ghost use Rattle.dcel_commands.specs.Steps.{asks, IsRefusal, Legal, Refuses};
 ghost use Rattle.dcel_commands.specs.Rules.{State};
 ghost use Rattle.dcel_commands.specs.Talk.{asked, Does};
+ghost use Rattle.dcel_commands.specs.Triangles.{TrianglesStay};
 ghost use Rattle.dcel_commands.specs.declared.commands.reply.Refused.{Refused};
 ghost use Rattle.dcel_commands.specs.declared.refusal.Refusal.{Refusal};
 ghost use Rattle.dcel_commands.specs.declared.refusal.Refusal.TheVariants.{OutOfMemory};
 ghost use Rattle.dcel_commands.specs.declared.request.Query.{Query};
-ghost use Rattle.dcel_maps.specs.Shapes.{Shape};
+ghost use Rattle.dcel_maps.specs.Removals.{opened_with};
+ghost use Rattle.dcel_maps.specs.Shapes.{IsMesh, Mesh, Shape};
 
 /// The conditions of each command and of each query stand in ascending order of their refusals' numbers.
 pub fn columns_ascend<V>()
@@ -52,4 +57,40 @@ pub fn an_illegal_request_changes_nothing()
 /// A line is at most one command or query.
 pub fn a_line_is_at_most_one_command()
     ensures { (p q : Saying) (line : List ℕ) → Spells p line → Spells q line → p ≡ q }
+{}
+
+/// Where each live inner face of a mesh is a triangle, it is so after a list of commands; or one of them puts a face beside a half edge of
+/// an inner face, or splits one side of an edge whose other half lies on an inner face.
+pub fn runs_keep_triangles<V, DE: Default, UE: Default, F: Default>()
+    ensures { (limit : ℕ) (old new : Mesh V DE UE F) (commands : List (Instruction V)) (replies : List (Response V)) → IsMesh old →
+        Run DE.is_default UE.is_default F.is_default limit old commands replies new →
+        TrianglesStay DE.is_default UE.is_default F.is_default limit old commands replies new }
+{}
+
+/// What each command leaves of the removal record: an opening writes what it gives up; cleanup leaves the vertex that is still there, or
+/// closes it where there is none; `Remove`, `Clear` and `Triangle` close it; and all others leave it as it was.
+pub fn records_are_written_by_few<V, DE: Default, UE: Default, F: Default>()
+    ensures { (limit : ℕ) (old new : Mesh V DE UE F) (command : Instruction V) (reply : Response V) →
+        Takes DE.is_default UE.is_default F.is_default limit old command reply new → new.shape.removal ≡ record_after old command }
+{}
+
+/// A removal is one removal. What an opening is answered is what the mesh has given up then. Whatever other commands are carried out after
+/// it, cleanup takes out these edges and faces, and its lists name them; and whatever others are carried out after that, `Remove` takes
+/// out the vertex that was given up. Each leaves what is live with its words, its origins and its data, under new numbers.
+pub fn a_removal_is_one_removal<V, DE: Default, UE: Default, F: Default>()
+    ensures opened { (limit : ℕ) (before begun : Mesh V DE UE F) (edges faces : List ℕ) (vertex : Option ℕ) →
+        Opens DE.is_default UE.is_default F.is_default limit before edges faces vertex begun →
+        begun.shape.removal ≡ opened_with edges faces vertex }
+    ensures cleaned { (limit : ℕ) (before begun middle cleaned : Mesh V DE UE F) (edges faces us fs : List ℕ) (vertex : Option ℕ) (reply : Response V) →
+        Opens DE.is_default UE.is_default F.is_default limit before edges faces vertex begun →
+        GoesOn DE.is_default UE.is_default F.is_default limit begun middle →
+        Takes DE.is_default UE.is_default F.is_default limit middle (Cleanup us fs) reply cleaned →
+        CleansUp middle edges faces us fs vertex cleaned }
+    ensures closed { (limit : ℕ) (before begun middle cleaned later closed : Mesh V DE UE F) (edges faces us fs : List ℕ) (vertex given : ℕ) (reply last_reply : Response V) →
+        Opens DE.is_default UE.is_default F.is_default limit before edges faces (Some vertex) begun →
+        GoesOn DE.is_default UE.is_default F.is_default limit begun middle →
+        Takes DE.is_default UE.is_default F.is_default limit middle (Cleanup us fs) reply cleaned →
+        GoesOn DE.is_default UE.is_default F.is_default limit cleaned later →
+        Takes DE.is_default UE.is_default F.is_default limit later (Remove given) last_reply closed →
+        Closes later vertex given closed }
 {}

@@ -8,6 +8,7 @@ pub mod commands;
 mod faults;
 mod given;
 pub mod laws;
+pub mod legalize;
 mod reading;
 mod refusal;
 mod replies;

@@ -36,6 +36,7 @@ fn read_after<'a, A: Allocator + Copy>(word: &[u8], rest: Rest<'a>, memory: A) -
         _ if word == b"cleanup".as_slice() => given::cleanup(rest, memory),
         _ if word == b"remove".as_slice() => given::remove(rest),
         _ if word == b"degenerate".as_slice() => given::degenerate(rest),
+        _ if word == b"legalize".as_slice() => given::legalize(rest, memory),
         _ if word == b"clear".as_slice() => given::clear(rest),
         _ if word == b"counts".as_slice() => given::counts(rest),
         _ if word == b"words".as_slice() => given::words(rest),

@@ -1,14 +1,17 @@
 //! How replies and refusals are written.
 
+ghost use Rattle.std.specs.Prelude.{◌≡◌};
 ghost use Rattle.dcel_text.specs.Output.{Writes};
 ghost use Rattle.dcel_commands.specs.Refusal.{refusal_text};
-ghost use Rattle.dcel_commands.specs.Replies.{moved_text, opened_text, removed_text, reply_text};
+ghost use Rattle.dcel_commands.specs.Replies.{ending_of, flips_text, moved_text, opened_text, removed_text, reply_text};
 ghost use Rattle.dcel_commands.specs.Responses.{response};
+ghost use Rattle.dcel_legalize.specs.Outcome.{flips_told};
 ghost use Rattle.dcel_text.specs.Texts.{listed};
 
 use crate::commands::Reply;
 use crate::refusal::Refusal;
 use dcel_fixed::{FixedHandleImpl, FixedVertexHandle, InnerOuterMarker};
+use dcel_legalize::Legalized;
 use dcel_text::output::Writer;
 use dcel_text::sink::LineSink;
 use spade_dcel::operations::{IsolateVertexResult, RemovalResult};
@@ -71,6 +74,37 @@ fn write_removed<K: LineSink>(out: &mut Writer<'_, K>, removed: &RemovalResult<i
     out.write(b"\n");
 }
 
+/// How many edges were flipped.
+fn flips(legalized: Legalized) -> usize
+    ensures { result ≡ flips_told legalized }
+{
+    match legalized {
+        Legalized::Done { flips } => flips,
+        Legalized::Stopped { flips } => flips,
+        Legalized::OutOfMemory { flips } => flips,
+    }
+}
+
+/// How a run of flips ended, in a word.
+fn ending(legalized: Legalized) -> &'static str
+    ensures { result.now ≡ ending_of legalized }
+{
+    match legalized {
+        Legalized::Done { .. } => " done",
+        Legalized::Stopped { .. } => " stopped",
+        Legalized::OutOfMemory { .. } => " memory",
+    }
+}
+
+/// Writes how many edges were flipped, and how that ended.
+fn write_flips<K: LineSink>(out: &mut Writer<'_, K>, legalized: Legalized)
+    ensures { Writes K.has_failed K.contents out.old out.new (flips_text legalized) }
+{
+    out.numbered(b"flips ", flips(legalized) as u64);
+    out.write(ending(legalized).as_bytes());
+    out.write(b"\n");
+}
+
 /// Writes a reply.
 pub fn write_reply<A: Allocator, K: LineSink>(out: &mut Writer<'_, K>, reply: Reply<i64, A>)
     ensures { Writes K.has_failed K.contents out.old out.new (reply_text (response reply)) }
@@ -92,5 +126,6 @@ pub fn write_reply<A: Allocator, K: LineSink>(out: &mut Writer<'_, K>, reply: Re
         }
         Reply::Opened(opened) => write_opened(out, &opened),
         Reply::Removed(removed) => write_removed(out, &removed),
+        Reply::Flips(legalized) => write_flips(out, legalized),
     }
 }

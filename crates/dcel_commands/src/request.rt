@@ -14,6 +14,7 @@ pub mod flip;
 pub mod get;
 pub mod insert;
 pub mod isolate;
+pub mod legalize;
 pub mod origin;
 pub mod out;
 pub mod put;

@@ -1,4 +1,4 @@
--- `cleanup U.. / F..`: what the open removal has given up is taken out, all but its vertex.
+-- `cleanup U.. / F..`: what the open removal has given up is taken out, all but its vertex; one that has none is closed.
 use Rattle.std.specs.Prelude.{◌≡◌, ℕ, false, List, [], ◌∷◌, ◌++◌, codes}
 use Rattle.dcel_commands.specs.declared.commands.reply.Handed.TheVariants.{Nothing}
 use Rattle.dcel_commands.specs.declared.refusal.Refusal.TheVariants.{NoSuchEdge, NoSuchFace, NoRemoval, WrongLists}

@@ -1,4 +1,5 @@
--- `remesh H.. / U.. / F..`: what lies inside the ring goes, which are these edges and faces and a vertex, and new triangles fill the hole.
+-- `remesh H.. / U.. / F..`: what lies inside the ring goes, which are these edges and faces, and a vertex or none, and new triangles fill
+-- the hole.
 use Rattle.std.specs.Prelude.{◌≡◌, ℕ, ◌+◌, ◌-◌, true, List, [], ◌∷◌, ◌++◌, codes, length}
 use Rattle.dcel_commands.specs.declared.commands.reply.Handed.TheVariants.{Nothing}
 use Rattle.dcel_commands.specs.declared.refusal.Refusal.TheVariants.{NoSuchEdge, NoSuchFace, RemovalOpen, BadRing, NoRoom}

@@ -74,8 +74,9 @@ pub enum Command<V, A: Allocator = Global> {
     /// It asks for a vertex and half edges in range, for no open removal, for the border loop of the vertex, and for room for as many
     /// edges as the loop has half edges, less three, and a face more.
     Isolate(FixedVertexHandle, Vec<FixedDirectedEdgeHandle, A>),
-    /// Gives up what lies inside the ring of these half edges, which are these edges and faces and one vertex, and fills the hole with new
-    /// triangles. A removal is open then. The reply is that of `Isolate`, with the lists as they were given.
+    /// Gives up what lies inside the ring of these half edges, which are these edges and faces, and a vertex if there are as many edges as
+    /// faces; and fills the hole with new triangles. A removal is open then. The reply is that of `Isolate`, with the lists as they were
+    /// given.
     ///
     /// It asks for half edges, edges and inner faces in range, for no open removal, for a ring with these edges and faces inside, and for
     /// room as `Isolate` does.
@@ -89,7 +90,8 @@ pub enum Command<V, A: Allocator = Global> {
     ///
     /// It asks for half edges in range, for no open removal, and for a strip.
     Strip(Vec<FixedDirectedEdgeHandle, A>),
-    /// Takes out the edges and the faces that an open removal has given up. Its vertex is still to be taken out. It takes no memory.
+    /// Takes out the edges and the faces that an open removal has given up. Its vertex is still to be taken out; a removal that has none is
+    /// closed. It takes no memory.
     ///
     /// It asks for edges and inner faces in range, for an open removal that isn't cleaned up, and that the lists name what it has given
     /// up, each once.
@@ -104,6 +106,13 @@ pub enum Command<V, A: Allocator = Global> {
     ///
     /// It asks for a vertex in range, for no open removal, and for such a mesh.
     Degenerate(FixedVertexHandle),
+    /// Flips edges, at most so many, from the last of these on: where the lesser of the corners opposite an edge is below the lesser of its
+    /// ends, it is flipped if it can be, and it and the other edges of its two triangles come next, after those of the list. The reply is
+    /// the number of flips and how they ended ([`Legalized`](crate::legalize::Legalized)): where the list finds no memory to grow, the
+    /// command is carried out all the same, as far as it came.
+    ///
+    /// It asks for edges in range. Those that are given up are skipped.
+    Legalize(usize, Vec<FixedUndirectedEdgeHandle, A>),
     /// Takes all vertices and edges away, and all faces but the outer one, which keeps its datum. It takes no memory, and asks for nothing.
     Clear,
 }

@@ -11,8 +11,8 @@ use crate::commands::reply::{Refused, Reply};
 use crate::request::at_edge::AtEdge::{Beside, OnBothSides, OnBridge, OnOneSide};
 use crate::request::vertices::OfVertices::{Exchanged, Joined, Longer};
 use crate::request::{
-    append, at_edge, cleanup, clear, close, degenerate, flip, insert, isolate, put, remesh, remove,
-    strip, triangle, vertices,
+    append, at_edge, cleanup, clear, close, degenerate, flip, insert, isolate, legalize, put,
+    remesh, remove, strip, triangle, vertices,
 };
 use spade_dcel::dcel::Dcel;
 use spade_dcel::laws;
@@ -73,6 +73,7 @@ pub fn apply<
         Command::Cleanup(edges, faces) => cleanup::carry_out(dcel, edges, faces),
         Command::Remove(vertex) => remove::carry_out(dcel, vertex),
         Command::Degenerate(vertex) => degenerate::carry_out(dcel, vertex),
+        Command::Legalize(max_flips, list) => legalize::carry_out(dcel, max_flips, list),
         Command::Clear => clear::carry_out(dcel),
     };
     laws::every_mesh(dcel);

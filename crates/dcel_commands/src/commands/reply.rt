@@ -2,6 +2,7 @@
 
 use crate::refusal::Refusal;
 use dcel_fixed::{FixedDirectedEdgeHandle, FixedVertexHandle};
+use dcel_legalize::Legalized;
 use spade_dcel::operations::{IsolateVertexResult, RemovalResult};
 use std::alloc::{AllocError, Allocator, Global};
 
@@ -20,6 +21,8 @@ pub enum Reply<V, A: Allocator = Global> {
     Opened(IsolateVertexResult<A>),
     /// The vertex that was taken out.
     Removed(RemovalResult<V>),
+    /// How many edges were flipped, and how that ended.
+    Flips(Legalized),
 }
 
 /// The data that a refused command carried, in their order.

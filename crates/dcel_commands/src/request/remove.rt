@@ -1,26 +1,24 @@
 //! `remove V`
 
-ghost use Rattle.std.specs.Prelude.{ℕ, ◌<◌, [], ◌∷◌, MatchResult};
+ghost use Rattle.std.specs.Prelude.{ℕ, [], ◌∷◌, MatchResult};
 ghost use Rattle.dcel_commands.specs.Vocabulary.{AllMet, Carries, FirstUnmet, NoOtherOpen, Removable, Remove, answered};
 ghost use Rattle.dcel_commands.specs.declared.refusal.Refusal.TheVariants.{RemovalOpen, VertexInUse};
 
 use super::*;
 use spade_dcel::operations::swap_remove_vertex;
 
-/// Asks for a vertex in range that can be taken out.
+/// Asks for a vertex that can be taken out. Where it can't, an open removal stands in the way, or else an edge.
 fn ask_removable<V, DE, UE, F, A: Allocator>(
     dcel: &Dcel<V, DE, UE, F, A>,
     vertex: FixedVertexHandle,
 ) -> Result<(), Refusal>
-    requires { vertex < dcel.now.shape.vertices }
     ensures { let asks = (RemovalOpen, NoOtherOpen vertex) ∷ (VertexInUse, Removable vertex) ∷ [] in
         MatchResult result (λ _. AllMet dcel.now.shape asks) (λ why. FirstUnmet dcel.now.shape asks why) }
 {
     if is_closed(dcel) {
-        return ask(dcel.is_unconnected(vertex), Refusal::VertexInUse);
+        return ask(dcel.can_swap_remove(vertex), Refusal::VertexInUse);
     }
-    ask(!is_isolated(dcel), Refusal::RemovalOpen)?;
-    ask(!dcel.is_live_vertex(vertex), Refusal::RemovalOpen)
+    ask(dcel.can_swap_remove(vertex), Refusal::RemovalOpen)
 }
 
 /// Carries the command out.

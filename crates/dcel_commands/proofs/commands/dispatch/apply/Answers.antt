@@ -8,7 +8,7 @@ use Rattle.dcel_commands.specs.Steps.{Carries, IsRefusal, Legal, Step}
 use Rattle.dcel_maps.specs.Shapes.{Mesh}
 use Rattle.dcel_commands.proofs.commands.dispatch.apply.Given.{Over}
 use Rattle.dcel_commands.proofs.commands.dispatch.apply.Goals as goal
-use Rattle.dcel_commands.proofs.commands.dispatch.apply.Goals.{in-Append, in-Triangle, in-Setup, in-Extend, in-Line, in-Close, in-Outside, in-Insert, in-Half, in-Split, in-Flip, in-Swap, in-Put, in-Isolate, in-Remesh, in-Strip, in-Cleanup, in-Remove, in-Degenerate, in-Clear}
+use Rattle.dcel_commands.proofs.commands.dispatch.apply.Goals.{in-Append, in-Triangle, in-Setup, in-Extend, in-Line, in-Close, in-Outside, in-Insert, in-Half, in-Split, in-Flip, in-Swap, in-Put, in-Isolate, in-Remesh, in-Strip, in-Cleanup, in-Remove, in-Degenerate, in-Legalize, in-Clear}
 
 -- each line carries out its command
 carries : (g : Over) (c : goal.After-every_mesh g)
@@ -33,6 +33,7 @@ carries g c = elim c.match-command.branch [
   | in-Cleanup w ↦ rw (w.answer-is, w.dcel-is, w.in-Cleanup.is) (w.carry_out-answer-in-Cleanup.ensures c.args.limit)
   | in-Remove w ↦ rw (w.answer-is, w.dcel-is, w.in-Remove.is) (w.carry_out-answer-in-Remove.ensures c.args.limit)
   | in-Degenerate w ↦ rw (w.answer-is, w.dcel-is, w.in-Degenerate.is) (w.carry_out-answer-in-Degenerate.ensures c.args.limit)
+  | in-Legalize w ↦ rw (w.answer-is, w.dcel-is, w.in-Legalize.is) (w.carry_out-answer-in-Legalize.ensures c.args.limit)
   | in-Clear w ↦ rw (w.answer-is, w.dcel-is, w.in-Clear.is) (w.carry_out-answer-in-Clear.ensures c.args.limit)
 ]
 

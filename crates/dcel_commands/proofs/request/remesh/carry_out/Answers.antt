@@ -1,7 +1,19 @@
-use Rattle.std.proofs.Common.{refl, rules}
+use Rattle.std.proofs.Common.{◌≡◌, refl, rules}
 use Rattle.dcel_commands.specs.Instructions.{Remesh}
 use Rattle.dcel_commands.proofs.WithoutMemory.{no_memory}
 use Rattle.dcel_commands.proofs.request.remesh.carry_out.Goals as goal
+
+pub returns : goal.returns
+returns g c =
+    let opened = c.in_ok-opened.ensures in
+    let same_edges : c.in_ok-edges.edges.items ≡ c.args.edges.items = search rules in
+    let same_faces : c.in_ok-faces.faces.items ≡ c.args.faces.items = search rules in (
+      search rules,
+      (
+        rw (opened.edges, opened.faces, opened.new_edges, opened.smallest, same_edges, same_faces) refl,
+        rw (same_edges, same_faces) at opened.edit,
+      ),
+    )
 
 pub returns-in_err-opened : goal.returns-in_err-opened
 returns-in_err-opened g c =
