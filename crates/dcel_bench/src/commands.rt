@@ -12,7 +12,8 @@ use dcel_commands::commands::{Command, Handed, Refusal, Refused, Reply, apply};
 use std::alloc::{Allocator, Global};
 use std::test::Fail;
 
-fn command_of(growth: Growth) -> Command<i64> {
+/// The command that makes the call.
+pub fn growing<A: Allocator>(growth: Growth) -> Command<i64, A> {
     match growth {
         Triangle(first, second, third) => Command::Triangle(first, second, third),
         Append(datum) => Command::Append(datum),
@@ -71,7 +72,7 @@ pub fn carry_out<A: Allocator + Clone>(
 ) -> Result<bool, Fail> {
     require!(limit <= NO_LIMIT);
     let reply = reply_to(dcel, growth)?;
-    match apply(dcel, command_of(growth), limit) {
+    match apply(dcel, growing::<Global>(growth), limit) {
         Ok(answer) => {
             holds(is_same_reply(&answer, &reply), "the reply to a command")?;
             Ok(true)
@@ -97,7 +98,7 @@ pub fn check_refused<A: Allocator + Clone>(
     let before = counts(dcel);
     let back = handed_in(growth);
     let refused = Refused { why, back };
-    let answer = apply(dcel, command_of(growth), limit).err();
+    let answer = apply(dcel, growing::<Global>(growth), limit).err();
     same(answer, Some(refused), "the refusal of a command")?;
     same(counts(dcel), before, "counts after a refusal")
 }

@@ -102,3 +102,11 @@ pub fn write<A: Allocator>(dcel: &mut Mesh<A>, place: Datum, datum: i64) -> Resu
         Datum::InnerFace(index) => write_inner_face(dcel, inner_face(index), datum),
     }
 }
+
+/// Writes each datum, and reads it back.
+pub fn write_all<A: Allocator>(dcel: &mut Mesh<A>, data: &[(Datum, i64)]) -> Result<(), Fail> {
+    for (place, datum) in data {
+        write(dcel, *place, *datum)?;
+    }
+    Ok(())
+}

@@ -8,6 +8,7 @@ pub mod checks;
 pub mod commands;
 pub mod data;
 pub mod growths;
+pub mod lists;
 pub mod meshes;
 pub mod openers;
 pub mod pictures;

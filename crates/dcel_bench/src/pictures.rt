@@ -2,17 +2,23 @@
 
 use crate::meshes::{Mesh, adjacent_edge, out_edge};
 use crate::require;
-use spade_dcel::handles::FixedDirectedEdgeHandle;
+use spade_dcel::handles::{
+    FixedDirectedEdgeHandle, FixedFaceHandle, FixedVertexHandle, PossiblyOuterTag,
+};
 use std::alloc::{Allocator, Global};
 use std::test::Fail;
 
-/// The anchors and the links of a mesh.
+/// The anchors, the links and the data of a mesh.
 #[derive(Debug, Drop, PartialEq, Eq)]
 pub struct Picture {
     out_edges: Vec<Option<usize>>,
     adjacent_edges: Vec<Option<usize>>,
     /// The next half edge, the one before, the origin and the face of each half edge.
     links: Vec<[usize; 4]>,
+    vertex_data: Vec<i64>,
+    face_data: Vec<i64>,
+    /// The datum of each half edge, and that of its edge.
+    edge_data: Vec<[i64; 2]>,
 }
 
 /// The next half edge, the one before, the origin and the face of a live half edge.
@@ -29,21 +35,51 @@ fn links_of<A: Allocator>(dcel: &Mesh<A>, index: usize) -> Result<[usize; 4], Fa
     ])
 }
 
+fn vertex_datum<A: Allocator>(dcel: &Mesh<A>, index: usize) -> Result<i64, Fail> {
+    require!(index < dcel.num_vertices());
+    let handle = FixedVertexHandle::new(index);
+    Ok(*dcel.vertex_data(handle))
+}
+
+fn face_datum<A: Allocator>(dcel: &Mesh<A>, index: usize) -> Result<i64, Fail> {
+    require!(index < dcel.num_faces());
+    let handle: FixedFaceHandle<PossiblyOuterTag> = FixedFaceHandle::new(index);
+    Ok(*dcel.face_data(handle))
+}
+
+/// The datum of a half edge, and that of its edge.
+fn edge_data<A: Allocator>(dcel: &Mesh<A>, index: usize) -> Result<[i64; 2], Fail> {
+    require!(index < dcel.num_directed_edges());
+    let handle = FixedDirectedEdgeHandle::new(index);
+    let edge = handle.as_undirected();
+    require!(edge.index() < dcel.num_undirected_edges());
+    Ok([
+        *dcel.directed_edge_data(handle),
+        *dcel.undirected_edge_data(edge),
+    ])
+}
+
 /// What the mesh is like, whose half edges are all live.
 pub fn picture_of<A: Allocator>(dcel: &Mesh<A>, alloc: Global) -> Result<Picture, Fail> {
     let mut seen = Picture {
         out_edges: Vec::new(alloc),
         adjacent_edges: Vec::new(alloc),
         links: Vec::new(alloc),
+        vertex_data: Vec::new(alloc),
+        face_data: Vec::new(alloc),
+        edge_data: Vec::new(alloc),
     };
     for index in 0..dcel.num_vertices() {
         seen.out_edges.push(out_edge(dcel, index)?)?;
+        seen.vertex_data.push(vertex_datum(dcel, index)?)?;
     }
     for index in 0..dcel.num_faces() {
         seen.adjacent_edges.push(adjacent_edge(dcel, index)?)?;
+        seen.face_data.push(face_datum(dcel, index)?)?;
     }
     for index in 0..dcel.num_directed_edges() {
         seen.links.push(links_of(dcel, index)?)?;
+        seen.edge_data.push(edge_data(dcel, index)?)?;
     }
     Ok(seen)
 }

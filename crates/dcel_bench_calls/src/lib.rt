@@ -16,6 +16,8 @@ mod flips;
 #[cfg(test)]
 mod links;
 #[cfg(test)]
+mod lists;
+#[cfg(test)]
 mod memoryless;
 #[cfg(test)]
 mod removals;

@@ -17,18 +17,42 @@ fn push_append(
     push_line(replies, &format!(in alloc; "vertex {vertex}")?)
 }
 
-/// Adds lines that append vertices and put each into face 1, which keeps its anchor and is a triangle again.
+/// Adds lines that append vertices, up to so many, to a triangle and put each into face 1, which keeps its anchor and is a triangle again.
 fn push_inserts(
     alloc: Global,
     lines: &mut Vec<u8>,
     replies: &mut Vec<u8>,
+    vertices: u32,
 ) -> Result<(), AllocError> {
-    for vertex in 3..2003 {
+    for vertex in 3..vertices {
         push_append(alloc, lines, replies, vertex)?;
         push_line(lines, &format!(in alloc; "insert {vertex} 1")?)?;
         push_line(replies, &format!(in alloc; "vertex {vertex}")?)?;
     }
     Ok(())
+}
+
+/// That the lines are answered so.
+fn check_talk(alloc: Global, lines: &[u8], replies: &[u8]) -> Result<(), Fail> {
+    let (ended, written) = answers(alloc, NO_LIMIT, lines, PLENTY, PLENTY, PLENTY);
+    ended?;
+    same(written.as_slice(), replies, "the replies")
+}
+
+#[test]
+fn a_hundred_insertions_are_answered(rt: HostRuntime) -> Result<(), Fail> {
+    let alloc = rt.alloc();
+    let mut lines = Vec::new(alloc);
+    let mut replies = Vec::new(alloc);
+    push_talk(&mut lines, &mut replies, &TRIANGLE)?;
+    push_inserts(alloc, &mut lines, &mut replies, 103)?;
+    let seen = [
+        ("counts", "vertices 103 edges 303 faces 202"),
+        ("hull", "hull 0 2 4"),
+        ("check", "true"),
+    ];
+    push_talk(&mut lines, &mut replies, &seen)?;
+    check_talk(alloc, &lines, &replies)
 }
 
 #[test]
@@ -37,14 +61,12 @@ fn far_growth_is_answered(rt: HostRuntime) -> Result<(), Fail> {
     let mut lines = Vec::new(alloc);
     let mut replies = Vec::new(alloc);
     push_talk(&mut lines, &mut replies, &TRIANGLE)?;
-    push_inserts(alloc, &mut lines, &mut replies)?;
+    push_inserts(alloc, &mut lines, &mut replies, 2003)?;
     push_talk(&mut lines, &mut replies, &[("check", "true")])?;
     for vertex in 2003..7003 {
         push_append(alloc, &mut lines, &mut replies, vertex)?;
     }
     let counts = [("counts", "vertices 7003 edges 6003 faces 4002")];
     push_talk(&mut lines, &mut replies, &counts)?;
-    let (ended, written) = answers(alloc, NO_LIMIT, &lines, PLENTY, PLENTY, PLENTY);
-    ended?;
-    same(written.as_slice(), replies.as_slice(), "the replies")
+    check_talk(alloc, &lines, &replies)
 }

@@ -10,11 +10,15 @@ mod far_growth;
 #[cfg(test)]
 mod hole_rows;
 #[cfg(test)]
+mod legalize_rows;
+#[cfg(test)]
 mod lines;
 #[cfg(test)]
 mod memoryless_rows;
 #[cfg(test)]
 mod refused_rows;
+#[cfg(test)]
+mod region_rows;
 #[cfg(test)]
 mod removal_rows;
 #[cfg(test)]

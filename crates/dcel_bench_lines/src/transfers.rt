@@ -221,7 +221,7 @@ type Run = (
 );
 
 /// Runs in which transfers fail, and some in which none does.
-const RUNS: [Run; 9] = [
+const RUNS: [Run; 13] = [
     // Whichever read fails, it is the last one, and what came before is answered.
     (&[None], &[], "read failed", 1, 0, ""),
     (&[Some("wor"), None], &[], "read failed", 2, 0, ""),
@@ -241,6 +241,17 @@ const RUNS: [Run; 9] = [
         2,
         "F0\nbad line\n",
     ),
+    (
+        &[Some("append 0\nappend"), None],
+        &[Some(9)],
+        "read failed",
+        2,
+        1,
+        "vertex 0\n",
+    ),
+    // No byte at all, and a line without a line feed.
+    (&[Some("")], &[], "", 1, 0, ""),
+    (&[Some("words"), Some("")], &[Some(9)], "", 2, 1, "F0\n"),
     // A write that takes a part is followed by another one.
     (
         &[Some("words\n"), Some("")],
@@ -268,6 +279,16 @@ const RUNS: [Run; 9] = [
         1,
         3,
         "F0",
+    ),
+    (
+        &[Some(
+            "append 0\nappend 1\nsetup 0 1\nappend 2\nextend 0 2\nwords\nappend 3\nextend 1 3\nwords\nappend 4\nextend 0 4\n",
+        )],
+        &[Some(5), None],
+        "write failed",
+        1,
+        2,
+        "verte",
     ),
 ];
 

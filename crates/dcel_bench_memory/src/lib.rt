@@ -2,6 +2,8 @@
 #![tactic(auto)]
 
 #[cfg(test)]
+mod lists;
+#[cfg(test)]
 mod memoryless;
 #[cfg(test)]
 mod openers;
@@ -9,5 +11,7 @@ mod openers;
 mod refused_lines;
 #[cfg(test)]
 mod refused_memory;
+#[cfg(test)]
+mod requests;
 #[cfg(test)]
 mod watched;

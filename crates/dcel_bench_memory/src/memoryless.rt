@@ -2,7 +2,7 @@
 
 use crate::watched::Watched;
 use dcel_bench::checks::{holds, same};
-use dcel_bench::data::{Datum, write};
+use dcel_bench::data::{Datum, write_all};
 use dcel_bench::growths::{CUT, grow_all};
 use dcel_bench::meshes::{NO_LIMIT, counts, edge_between, flip, swap, undirected_edge, vertex};
 use dcel_bench::openers::handles;
@@ -51,14 +51,6 @@ fn check_joined(dcel: &Watched, is_joined: bool) -> Result<(), Fail> {
     holds(dcel.sanity_check(), "a sound mesh")
 }
 
-/// Writes data of all kinds.
-fn write_data(dcel: &mut Watched) -> Result<(), Fail> {
-    for (place, datum) in WRITTEN {
-        write(dcel, place, datum)?;
-    }
-    Ok(())
-}
-
 /// Joins vertices 1 and 2 in the place of 0 and 3, and then exchanges 0 and 1.
 fn turn_and_exchange(dcel: &mut Watched) -> Result<(), Fail> {
     check_joined(dcel, true)?;
@@ -70,7 +62,7 @@ fn turn_and_exchange(dcel: &mut Watched) -> Result<(), Fail> {
 
 /// Makes the calls that take no memory, on a cut triangle.
 fn make_calls(dcel: &mut Watched) -> Result<(), Fail> {
-    write_data(dcel)?;
+    write_all(dcel, &WRITTEN)?;
     same(degree(dcel, 3)?, 3, "the degree of vertex 3")?;
     turn_and_exchange(dcel)?;
     same(counts(dcel), [4, 12, 4], "counts")?;
@@ -156,5 +148,32 @@ fn removals_are_closed_without_memory(rt: HostRuntime) -> Result<(), Fail> {
     let memory = Refusing::new(rt.alloc());
     let mut dcel = opened_without_memory(&memory, rt.alloc())?;
     close_removal(&mut dcel, rt.alloc())?;
+    same(memory.requests(), 0, "requests for memory")
+}
+
+/// Gives two faces of a cut triangle up, with the edge between them.
+fn open_region(dcel: &mut Watched, alloc: Global) -> Result<(), Fail> {
+    let ring = handles(&[1, 11, 8, 5], alloc)?;
+    let edges = handles(&[3], alloc)?;
+    let faces = handles(&[1, 2], alloc)?;
+    check_answer(dcel, Command::Remesh(ring, edges, faces), Answer::Opened)
+}
+
+/// Cleans these up, which closes the removal.
+fn close_region(dcel: &mut Watched, alloc: Global) -> Result<(), Fail> {
+    let edges = handles(&[3], alloc)?;
+    let faces = handles(&[2, 1], alloc)?;
+    check_answer(dcel, Command::Cleanup(edges, faces), Answer::Done)?;
+    same(counts(dcel), [4, 12, 4], "counts after the cleanup")?;
+    holds(dcel.sanity_check(), "a sound mesh")
+}
+
+#[test]
+fn a_region_is_closed_without_memory(rt: HostRuntime) -> Result<(), Fail> {
+    let memory = Refusing::new(rt.alloc());
+    let mut dcel = cut(&memory)?;
+    open_region(&mut dcel, rt.alloc())?;
+    memory.refuse_from(0);
+    close_region(&mut dcel, rt.alloc())?;
     same(memory.requests(), 0, "requests for memory")
 }

@@ -2,6 +2,7 @@
 
 use crate::watched::{MANY, Watched, fit};
 use dcel_bench::checks::{holds, same};
+use dcel_bench::data::{Datum, write_all};
 use dcel_bench::growths::Growth::{Append, Insert, SplitBothSides, Triangle};
 use dcel_bench::growths::{CUT, Growth, grow_all};
 use dcel_bench::meshes::{Links, check_links, inner_face, out_edge, undirected_edge, vertex};
@@ -17,7 +18,8 @@ use std::alloc::Global;
 use std::test::Fail;
 
 /// A removal: the calls that the mesh grows by, the opener, and the edges and faces that it gives up and the edges that it puts in; the
-/// links and the anchors of the vertices while it is open; and the links once it is cleaned up, and the vertex that is then left.
+/// links and the anchors of the vertices while it is open; and the links once it is cleaned up, and the vertex that is then left, if there
+/// is one.
 #[derive(Clone, Copy)]
 struct Row {
     growths: &'static [Growth],
@@ -28,7 +30,7 @@ struct Row {
     opened: Links,
     anchors: &'static [Option<usize>],
     cleaned: Links,
-    vertex: u32,
+    vertex: Option<u32>,
 }
 
 const TRIANGLE: Links = (&[&[0, 2, 4], &[1, 5, 3]], &[0, 1, 1, 2, 2, 0]);
@@ -43,7 +45,7 @@ const FILLED_QUAD: Links = (
     &[0, 1, 1, 2, 2, 0, 3, 0, 2, 3, 1, 3],
 );
 
-const ROWS: [Row; 4] = [
+const ROWS: [Row; 7] = [
     Row {
         growths: &CUT,
         opener: Isolate(3, &[1, 3, 5]),
@@ -53,7 +55,7 @@ const ROWS: [Row; 4] = [
         opened: CUT_HOLE,
         anchors: &[Some(5), Some(1), Some(3), None],
         cleaned: TRIANGLE,
-        vertex: 3,
+        vertex: Some(3),
     },
     // A hole of four half edges, which a new edge cuts.
     Row {
@@ -83,7 +85,7 @@ const ROWS: [Row; 4] = [
         ),
         anchors: &[Some(19), Some(1), Some(8), Some(11), None],
         cleaned: FILLED_QUAD,
-        vertex: 4,
+        vertex: Some(4),
     },
     Row {
         growths: &CUT,
@@ -94,7 +96,7 @@ const ROWS: [Row; 4] = [
         opened: CUT_HOLE,
         anchors: &[Some(5), Some(1), Some(3), None],
         cleaned: TRIANGLE,
-        vertex: 3,
+        vertex: Some(3),
     },
     Row {
         growths: &CUT,
@@ -108,8 +110,68 @@ const ROWS: [Row; 4] = [
         ),
         anchors: &[Some(6), None, Some(4), Some(9)],
         cleaned: (&[&[0, 3, 4], &[1, 5, 2]], &[0, 3, 2, 3, 2, 0]),
-        vertex: 1,
+        vertex: Some(1),
     },
+    // Regions of one face, of two and of three: no vertex is left.
+    Row {
+        growths: &[Triangle(0, 1, 2)],
+        opener: Remesh(&[1, 3, 5], &[], &[1]),
+        edges: &[],
+        faces: &[1],
+        new_edges: &[],
+        opened: (&[&[0, 2, 4], &[], &[1, 5, 3]], &[0, 1, 1, 2, 2, 0]),
+        anchors: &[Some(5), Some(1), Some(3)],
+        cleaned: TRIANGLE,
+        vertex: None,
+    },
+    Row {
+        growths: &CUT,
+        opener: Remesh(&[1, 11, 8, 5], &[3], &[1, 2]),
+        edges: &[3],
+        faces: &[1, 2],
+        new_edges: &[6],
+        opened: (
+            &[&[0, 2, 4], &[], &[], &[3, 10, 9], &[5, 8, 12], &[1, 13, 11]],
+            &[0, 1, 1, 2, 2, 0, 0, 0, 2, 3, 1, 3, 3, 0],
+        ),
+        anchors: &[Some(13), Some(1), Some(8), Some(11)],
+        cleaned: FILLED_QUAD,
+        vertex: None,
+    },
+    Row {
+        growths: &CUT,
+        opener: Remesh(&[1, 11, 10, 3, 5], &[3, 4], &[1, 2, 3]),
+        edges: &[3, 4],
+        faces: &[1, 2, 3],
+        new_edges: &[6, 7],
+        opened: (
+            &[
+                &[0, 2, 4],
+                &[],
+                &[],
+                &[],
+                &[3, 12, 5],
+                &[10, 14, 13],
+                &[1, 15, 11],
+            ],
+            &[0, 1, 1, 2, 2, 0, 0, 0, 0, 0, 1, 3, 1, 0, 3, 0],
+        ),
+        anchors: &[Some(15), Some(1), Some(3), Some(11)],
+        cleaned: (
+            &[&[0, 2, 4], &[3, 6, 5], &[7, 10, 8], &[1, 9, 11]],
+            &[0, 1, 1, 2, 2, 0, 1, 0, 3, 0, 1, 3],
+        ),
+        vertex: None,
+    },
+];
+
+/// Data that are written before a removal, so that each kind has one of its own.
+const WRITTEN: [(Datum, i64); 5] = [
+    (Datum::HalfEdge(0), 200),
+    (Datum::HalfEdge(1), 201),
+    (Datum::Edge(2), 302),
+    (Datum::Face(0), 400),
+    (Datum::InnerFace(1), 401),
 ];
 
 /// What an opener answers.
@@ -170,6 +232,14 @@ fn check_new_edges(opened: &Opened, edges: &[u32]) -> Result<(), Fail> {
     Ok(())
 }
 
+/// That the vertex, if there is one, isn't live.
+fn check_vertex(dcel: &Watched, given_up: Option<u32>) -> Result<(), Fail> {
+    match given_up {
+        Some(index) => holds(!dcel.is_live_vertex(vertex(index)), "its vertex is live"),
+        None => Ok(()),
+    }
+}
+
 /// That the mesh is as the row says while the removal is open: what is given up isn't live, and the links and the anchors are those of
 /// the row.
 fn check_open(dcel: &Watched, row: Row) -> Result<(), Fail> {
@@ -179,10 +249,7 @@ fn check_open(dcel: &Watched, row: Row) -> Result<(), Fail> {
         "an open removal",
     )?;
     holds(!dcel.sanity_check(), "an open mesh is checked")?;
-    holds(
-        !dcel.is_live_vertex(vertex(row.vertex)),
-        "its vertex is live",
-    )?;
+    check_vertex(dcel, row.vertex)?;
     check_edges(dcel, row.new_edges, true)?;
     check_edges(dcel, row.edges, false)?;
     check_faces_given_up(dcel, row.faces)?;
@@ -190,11 +257,19 @@ fn check_open(dcel: &Watched, row: Row) -> Result<(), Fail> {
     check_anchors(dcel, row.anchors)
 }
 
-/// Cleans up what an opener has given up: the links are those of the row, and its vertex is still given up.
+/// How far a cleanup gets: to the vertex that is still given up, or to the end.
+fn cleaned_state(row: Row) -> RemovalState {
+    match row.vertex {
+        Some(_) => RemovalState::Cleaned,
+        None => RemovalState::Closed,
+    }
+}
+
+/// Cleans up what an opener has given up: the links are those of the row, and its vertex, if there is one, is still given up.
 fn clean_up(dcel: &mut Watched, opened: &mut Opened, row: Row) -> Result<(), Fail> {
     require!(dcel.is_listed(opened));
     cleanup_isolated_vertex(dcel, opened);
-    same(dcel.removal_state(), RemovalState::Cleaned, "a cleanup")?;
+    same(dcel.removal_state(), cleaned_state(row), "a cleanup")?;
     check_links(dcel, row.cleaned.0, row.cleaned.1)
 }
 
@@ -268,6 +343,7 @@ fn refuse_row<'a>(
     alloc: Global,
 ) -> Result<bool, Fail> {
     grow_all(dcel, memory, row.growths)?;
+    write_all(dcel, &WRITTEN)?;
     fit(dcel, memory)?;
     let (is_refused, mut opened) = open_refused(dcel, memory, row.opener, number, alloc)?;
     check_removal(dcel, &mut opened, row, alloc)?;

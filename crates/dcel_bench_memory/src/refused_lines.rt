@@ -262,7 +262,7 @@ type Edit = (
     &'static str,
 );
 
-const EDITS: [Edit; 10] = [
+const EDITS: [Edit; 11] = [
     (
         &FULL,
         ("extend 6 10", "vertex 10"),
@@ -313,6 +313,15 @@ const EDITS: [Edit; 10] = [
         ),
         CUT_WORDS,
         "F0 0 2 4\nF4 1 5 3",
+    ),
+    (
+        &CUT_TRIANGLE,
+        (
+            "remesh 1 11 8 5 / 3 / 1 2",
+            "opened edges 3 faces 1 2 new 6",
+        ),
+        CUT_WORDS,
+        "F0 0 2 4\nF3 3 10 9\nF4 5 8 12\nF5 1 13 11",
     ),
     (
         &CUT_TRIANGLE,
@@ -400,6 +409,85 @@ fn check_list_refused((line, reply): (&str, &str), lists: u64, alloc: Global) ->
 fn lists_are_refused_memory(rt: HostRuntime) -> Result<(), Fail> {
     for (line, lists) in &LISTS {
         check_list_refused(*line, *lists, rt.alloc())?;
+    }
+    Ok(())
+}
+
+/// A triangle that is cut into three, and four vertices more, each in a triangle beside the one before.
+const FINE: [(&str, &str); 11] = [
+    ("triangle 0 1 2", "ok"),
+    ("append 3", "vertex 3"),
+    ("insert 3 1", "vertex 3"),
+    ("append 4", "vertex 4"),
+    ("insert 4 2", "vertex 4"),
+    ("append 5", "vertex 5"),
+    ("insert 5 4", "vertex 5"),
+    ("append 6", "vertex 6"),
+    ("insert 6 6", "vertex 6"),
+    ("append 7", "vertex 7"),
+    ("insert 7 8", "vertex 7"),
+];
+
+/// Its words.
+const FINE_WORDS: &str =
+    "F0 0 2 4\nF1 1 6 11\nF2 5 12 17\nF3 3 10 9\nF4 8 18 23\nF5 7 16 15\nF6 14 24 29\nF7 13 22 21\nF8 20 30 35\nF9 19 28 27\nF10 26 32 31\nF11 25 34 33";
+
+/// Lines that have memory; a line that flips edges; and what it is answered where a request of it is refused, the first, the second and so
+/// on, with the words after it. The first request is for the list that it names, and the others come before flips.
+type Flips = (Talk, &'static str, &'static [(&'static str, &'static str)]);
+
+const FLIPS: [Flips; 3] = [
+    (
+        &CUT_TRIANGLE,
+        "legalize 5 4",
+        &[
+            ("refused 20 OutOfMemory", CUT_WORDS),
+            ("flips 0 memory", CUT_WORDS),
+        ],
+    ),
+    // Edge 3 isn't wanted, so the list stays as it is.
+    (
+        &CUT_TRIANGLE,
+        "legalize 5 3",
+        &[("refused 20 OutOfMemory", CUT_WORDS)],
+    ),
+    (
+        &FINE,
+        "legalize 99 0 1 2 3 4 5 6 7 8 9 10 11 12 13 14 15 16 17",
+        &[
+            ("refused 20 OutOfMemory", FINE_WORDS),
+            ("flips 0 memory", FINE_WORDS),
+            (
+                "flips 5 memory",
+                "F0 0 2 4\nF1 1 6 11\nF2 5 12 17\nF3 3 10 9\nF4 8 18 23\nF5 7 16 15\nF6 24 26 29\nF7 13 21 31\nF8 30 33 35\nF9 19 28 27\nF10 14 34 32\nF11 20 22 25",
+            ),
+        ],
+    ),
+];
+
+/// That a line of flips makes so many requests for memory, and that what was flipped stands where one of them is refused.
+fn check_flips((begun, line, replies): Flips, alloc: Global) -> Result<(), Fail> {
+    let begun = Script::begun(begun, alloc)?;
+    let requests = requests_after(&begun, line, alloc)?;
+    let end = requests.0.saturating_add(replies.len() as u64);
+    same(requests.1, end, format_args!("requests of {line}"))?;
+    let mut number = requests.0;
+    for (reply, words) in replies {
+        let mut script = Script {
+            lines: begun.lines.clone()?,
+            replies: begun.replies.clone()?,
+        };
+        script.push(&[(line, reply), ("words", words)])?;
+        script.check_refused(number, alloc)?;
+        number = number.saturating_add(1);
+    }
+    Ok(())
+}
+
+#[test]
+fn flips_are_refused_memory(rt: HostRuntime) -> Result<(), Fail> {
+    for flips in &FLIPS {
+        check_flips(*flips, rt.alloc())?;
     }
     Ok(())
 }

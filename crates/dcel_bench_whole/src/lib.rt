@@ -1,6 +1,10 @@
-//! What holds of whole meshes: data mapped and written, meshes cloned, cleared and made of their vertices, and programs over the layer.
+//! What holds of whole meshes: data mapped and written, meshes cloned, cleared and made of their vertices, elements counted,
+//! and programs over the layer.
 #![tactic(auto)]
 
+#[cfg(test)]
+mod counted;
+pub mod delaunay;
 #[cfg(test)]
 mod elements_data;
 #[cfg(test)]

@@ -1,21 +1,23 @@
 //! The example of the README.
 
 use spade_dcel::dcel::Dcel;
+use spade_dcel::handles::{FixedFaceHandle, FixedUndirectedEdgeHandle};
 use spade_dcel::operations::{
-    append_unconnected_vertex, extend_line, new, setup_initial_two_vertices,
+    append_unconnected_vertex, flip_cw, insert_into_triangle, new_triangle,
 };
 use std::test::Fail;
 
 #[test]
-fn a_line_of_three_vertices(rt: HostRuntime) -> Result<(), Fail> {
-    let mut dcel: Dcel<&str> = new(rt.alloc())?;
-    let a = append_unconnected_vertex(&mut dcel, "a")?;
-    let b = append_unconnected_vertex(&mut dcel, "b")?;
-    let c = append_unconnected_vertex(&mut dcel, "c")?;
-    assert!(rt; dcel.is_live_vertex(a) && dcel.is_live_vertex(b));
-    setup_initial_two_vertices(&mut dcel, a, b)?; // half edge 0 leads from a to b, 1 back
-    assert!(rt; dcel.is_line_end(a) && dcel.is_unconnected(c));
-    extend_line(&mut dcel, a, c)?; // half edge 2 leads from c to a, 3 back
-    // The outer face is now the loop 0, 1, 3, 2.
+fn a_triangle_with_a_vertex_inside(rt: HostRuntime) -> Result<(), Fail> {
+    let corners = ("a", "b", "c");
+    let mut dcel: Dcel<&str> = new_triangle(rt.alloc(), corners)?;
+    let d = append_unconnected_vertex(&mut dcel, "d")?;
+    let face = FixedFaceHandle::new(1); // face 0 is the outer one
+    assert!(rt; dcel.is_triangle(face) && dcel.is_unconnected(d));
+    insert_into_triangle(&mut dcel, d, face)?;
+    assert_eq!(rt; dcel.vertex(d).out_edges().count(), 3); // to "c", to "b" and to "a"
+    let edge = FixedUndirectedEdgeHandle::new(3);
+    assert!(rt; dcel.can_flip(edge));
+    flip_cw(&mut dcel, edge);
     Ok(())
 }

@@ -1,6 +1,7 @@
 //! Calls on whole meshes: data mapped, a mesh cloned, cleared and given room, and one made of its vertices.
 
 use dcel_bench::checks::{holds, same};
+use dcel_bench::data::{Datum, write};
 use dcel_bench::growths::Growth::{Append, Close, Extend, PutBeside, SetUp};
 use dcel_bench::growths::{CUT, Growth, cut_triangle, grow, grow_all};
 use dcel_bench::meshes::{
@@ -54,16 +55,44 @@ fn check_data<A: Allocator + Copy>(dcel: Mesh<A>, alloc: A, wanted: [i64; 2]) ->
 
 fn check_picture<A: Allocator>(
     dcel: &Mesh<A>,
-    before: &Picture,
+    wanted: &Picture,
     alloc: Global,
 ) -> Result<(), Fail> {
-    same(&picture_of(dcel, alloc)?, before, "the mesh")
+    same(&picture_of(dcel, alloc)?, wanted, "the mesh")
 }
 
 /// The mesh with other data of its vertices and of its undirected edges.
 fn mapped(dcel: Mesh, alloc: Global) -> Result<Mesh, AllocError> {
     let dcel = made(dcel.map_vertices(alloc, |datum| datum.wrapping_add(10)))?;
     made(dcel.map_undirected_edges(alloc, |datum| datum.wrapping_add(1)))
+}
+
+/// The data of a cut triangle that [`mapped`] gives others.
+const MAPPED: [(Datum, i64); 10] = [
+    (Datum::Vertex(0), 10),
+    (Datum::Vertex(1), 11),
+    (Datum::Vertex(2), 12),
+    (Datum::Vertex(3), 13),
+    (Datum::Edge(0), 1),
+    (Datum::Edge(1), 1),
+    (Datum::Edge(2), 1),
+    (Datum::Edge(3), 1),
+    (Datum::Edge(4), 1),
+    (Datum::Edge(5), 1),
+];
+
+fn write_mapped(dcel: &mut Mesh) -> Result<(), Fail> {
+    for (place, datum) in MAPPED {
+        write(dcel, place, datum)?;
+    }
+    Ok(())
+}
+
+/// What a cut triangle is like with these data, written one by one.
+fn mapped_picture(alloc: Global) -> Result<Picture, Fail> {
+    let mut dcel = cut_triangle(alloc)?;
+    write_mapped(&mut dcel)?;
+    picture_of(&dcel, alloc)
 }
 
 /// Makes room for so many more vertices, undirected edges and faces: whether there was memory.
@@ -74,13 +103,13 @@ fn reserve<A: Allocator>(dcel: &mut Mesh<A>, room: [usize; 3]) -> Result<bool, F
 }
 
 /// That the mesh is like this, with the data that [`mapped`] gives.
-fn check_mapped(dcel: Mesh, before: &Picture, alloc: Global) -> Result<(), Fail> {
-    check_picture(&dcel, before, alloc)?;
+fn check_mapped(dcel: Mesh, wanted: &Picture, alloc: Global) -> Result<(), Fail> {
+    check_picture(&dcel, wanted, alloc)?;
     check_data(dcel, alloc, [10_11_12_13, 1_01_01_01_01_01])
 }
 
-fn check_clone(dcel: &Mesh, before: &Picture, alloc: Global) -> Result<(), Fail> {
-    check_mapped(dcel.try_clone(alloc)?, before, alloc)
+fn check_clone(dcel: &Mesh, wanted: &Picture, alloc: Global) -> Result<(), Fail> {
+    check_mapped(dcel.try_clone(alloc)?, wanted, alloc)
 }
 
 fn check_reserved(dcel: &mut Mesh) -> Result<(), Fail> {
@@ -91,11 +120,11 @@ fn check_reserved(dcel: &mut Mesh) -> Result<(), Fail> {
 #[test]
 fn data_are_mapped_and_cloned(rt: HostRuntime) -> Result<(), Fail> {
     let dcel = cut_triangle(rt.alloc())?;
-    let before = picture_of(&dcel, rt.alloc())?;
+    let wanted = mapped_picture(rt.alloc())?;
     let mut dcel = mapped(dcel, rt.alloc())?;
-    check_clone(&dcel, &before, rt.alloc())?;
+    check_clone(&dcel, &wanted, rt.alloc())?;
     check_reserved(&mut dcel)?;
-    check_mapped(dcel, &before, rt.alloc())
+    check_mapped(dcel, &wanted, rt.alloc())
 }
 
 #[test]

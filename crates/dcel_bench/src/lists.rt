@@ -1,0 +1,147 @@
+//! Lists of commands, and what they are answered.
+
+use crate::checks::{holds, same};
+use crate::commands::growing;
+use crate::growths::Growth;
+use crate::meshes::vertex;
+use crate::openers::{Opener, handles};
+use Opener::{Isolate, Remesh, Strip};
+use dcel_commands::commands::{Command, Handed, Reply};
+use spade_dcel::handles::{FixedHandleImpl, InnerTag};
+use spade_dcel::operations::{IsolateVertexResult, RemovalResult};
+use std::alloc::{AllocError, Allocator};
+use std::test::Fail;
+
+/// A command, by the numbers of its elements.
+#[derive(Clone, Copy)]
+pub enum Said {
+    /// The mesh grows.
+    Grow(Growth),
+    /// A removal is opened.
+    Open(Opener),
+    /// These edges and faces, which are given up, are taken out.
+    CleanUp(&'static [u32], &'static [u32]),
+    /// The vertex is taken out.
+    Remove(u32),
+}
+
+use Said::{CleanUp, Grow, Open, Remove};
+
+/// What a command is answered.
+#[derive(Clone, Copy)]
+pub enum Answer {
+    /// It was carried out.
+    Done,
+    /// A vertex.
+    Vertex(u32),
+    /// A half edge.
+    Half(u32),
+    /// Two half edges.
+    Halves(u32, u32),
+    /// The edges and the faces that are given up, and the new edges.
+    Opened(&'static [u32], &'static [u32], &'static [u32]),
+    /// The datum of a vertex that was taken out, and the number of the vertex that moved in.
+    Removed(i64, Option<u32>),
+}
+
+/// Commands, with their lists, in a memory.
+pub type Commands<A> = Vec<Command<i64, A>, A>;
+
+fn opening<A: Allocator + Copy>(opener: Opener, memory: A) -> Result<Command<i64, A>, AllocError> {
+    Ok(match opener {
+        Isolate(center, border) => Command::Isolate(vertex(center), handles(border, memory)?),
+        Remesh(border, edges, faces) => Command::Remesh(
+            handles(border, memory)?,
+            handles(edges, memory)?,
+            handles(faces, memory)?,
+        ),
+        Strip(strip) => Command::Strip(handles(strip, memory)?),
+    })
+}
+
+fn command_of<A: Allocator + Copy>(said: Said, memory: A) -> Result<Command<i64, A>, AllocError> {
+    Ok(match said {
+        Grow(growth) => growing(growth),
+        Open(opener) => opening(opener, memory)?,
+        CleanUp(edges, faces) => {
+            Command::Cleanup(handles(edges, memory)?, handles(faces, memory)?)
+        }
+        Remove(index) => Command::Remove(vertex(index)),
+    })
+}
+
+/// These commands.
+pub fn commands_of<A: Allocator + Copy>(
+    said: &[Said],
+    memory: A,
+) -> Result<Commands<A>, AllocError> {
+    let mut commands = Vec::with_capacity(memory, said.len())?;
+    for command in said {
+        commands.push(command_of(*command, memory)?)?;
+    }
+    Ok(commands)
+}
+
+/// Whether the elements have these numbers.
+fn are<Kind>(elements: &[FixedHandleImpl<Kind, InnerTag>], numbers: &[u32]) -> bool {
+    if elements.len() != numbers.len() {
+        return false;
+    }
+    for (element, number) in elements.iter().zip(numbers) {
+        if element.index() != *number as usize {
+            return false;
+        }
+    }
+    true
+}
+
+fn is_opened<A: Allocator>(
+    opened: &IsolateVertexResult<A>,
+    [edges, faces, new_edges]: [&[u32]; 3],
+) -> bool {
+    are(&opened.edges_to_remove, edges)
+        && are(&opened.faces_to_remove, faces)
+        && are(&opened.new_edges, new_edges)
+}
+
+fn is_removed(removed: &RemovalResult<i64>, datum: i64, moved: Option<u32>) -> bool {
+    removed.removed_vertex == datum && removed.swapped_in_vertex == moved.map(vertex)
+}
+
+/// Whether a command was answered so.
+fn is_answer<A: Allocator>(reply: &Reply<i64, A>, answer: Answer) -> bool {
+    match (reply, answer) {
+        (Reply::Ok, Answer::Done) => true,
+        (Reply::Vertex(found), Answer::Vertex(index)) => found.index() == index as usize,
+        (Reply::Half(found), Answer::Half(index)) => found.index() == index as usize,
+        (Reply::Halves(found), Answer::Halves(first, second)) => are(found, &[first, second]),
+        (Reply::Opened(opened), Answer::Opened(edges, faces, new_edges)) => {
+            is_opened(opened, [edges, faces, new_edges])
+        }
+        (Reply::Removed(removed), Answer::Removed(datum, moved)) => {
+            is_removed(removed, datum, moved)
+        }
+        _ => false,
+    }
+}
+
+/// That commands were answered so.
+pub fn check_replies<A: Allocator>(
+    replies: &[Reply<i64, A>],
+    answers: &[Answer],
+) -> Result<(), Fail> {
+    same(replies.len(), answers.len(), "how many replies")?;
+    for (place, (reply, answer)) in replies.iter().zip(answers).enumerate() {
+        holds(is_answer(reply, *answer), format_args!("reply {place}"))?;
+    }
+    Ok(())
+}
+
+/// These data, handed back: none, one or three.
+pub fn handed(data: &[i64]) -> Handed<i64> {
+    match data.len() {
+        1 => Handed::One(data[0]),
+        3 => Handed::Three(data[0], data[1], data[2]),
+        _ => Handed::Nothing,
+    }
+}
