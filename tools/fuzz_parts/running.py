@@ -1,0 +1,42 @@
+"""The program run on a script, whose bytes come in pieces of one size."""
+
+import array
+import fcntl
+import os
+import subprocess
+import termios
+import threading
+
+
+def is_read(pipe):
+    """Whether all that was written to a pipe is read."""
+    waiting = array.array('i', [0])
+    fcntl.ioctl(pipe, termios.FIONREAD, waiting)
+    return waiting[0] == 0
+
+
+def feed(process, text, size):
+    """Writes the text in pieces, each only once the one before it is read: so no read gets more than a piece."""
+    pipe = process.stdin.fileno()
+    try:
+        for at in range(0, len(text), size):
+            os.write(pipe, text[at:at + size])
+            while not is_read(pipe) and process.poll() is None:
+                os.sched_yield()
+    except BrokenPipeError:
+        pass
+    finally:
+        process.stdin.close()
+
+
+def output_of(program, text, size=None):
+    """What the program writes, and the status that it ends with. Without a size the text comes whole."""
+    if size is None:
+        ended = subprocess.run([program], input=text, capture_output=True, check=False)
+        return ended.stdout, ended.returncode
+    process = subprocess.Popen([program], stdin=subprocess.PIPE, stdout=subprocess.PIPE, stderr=subprocess.DEVNULL, bufsize=0)
+    feeder = threading.Thread(target=feed, args=(process, text, size))
+    feeder.start()
+    output = process.stdout.read()
+    feeder.join()
+    return output, process.wait()
