@@ -8,7 +8,7 @@ use dcel_fixed::{FixedDirectedEdgeHandle, FixedFaceHandle, FixedVertexHandle, Po
 use dcel_store::Store;
 use std::alloc::Allocator;
 
-/// One side of an edge that is turned: its half edge there and the triangle of that.
+/// One side of an edge that is turned: the half edge there and its triangle.
 ///
 /// `origin` is where the half edge starts before the turn, and `corner`, which lies opposite, is
 /// where it starts afterwards.
