@@ -23,11 +23,12 @@ use std::alloc::Allocator;
 ///
 /// `wanted` is called with four vertices: the start and the end of the edge's normalized half, and
 /// the corners opposite the edge, the one on the side of this half first. It must be callable with
-/// any four. The clause `run` holds if it always returns the same for the same four vertices.
+/// any four. The clause `run` says something only if `wanted` always returns the same for the same
+/// four vertices.
 ///
-/// After [`Legalized::Done`], no edge of the list can be flipped and is wanted, and neither can any
-/// edge that came to lie beside a flipped one. So no edge of the mesh can, if the list had every such
-/// edge. Some tests would go on forever, hence `max_flips`.
+/// After [`Legalized::Done`], nothing is left to flip: no edge of the list, and no edge that came
+/// to lie beside a flipped one, can be flipped and is wanted. If the list had every such edge of the
+/// mesh, then none is left in the mesh. Some tests would go on forever, hence `max_flips`.
 ///
 /// After [`Legalized::Stopped`], and after [`Legalized::OutOfMemory`] if the list cannot grow, such
 /// an edge is left. The flips made so far remain in each case.

@@ -3,7 +3,7 @@
 /// How [`legalize_edges`](crate::legalize_edges) ended, with the number of flips made.
 #[derive(Clone, Copy, PartialEq, Eq, Debug)]
 pub enum Legalized {
-    /// No edge of the list, and none beside a flipped one, is left to flip.
+    /// No edge of the list, and none that came to lie beside a flipped one, is left to flip.
     Done {
         /// The number of flips.
         flips: usize,

@@ -23,7 +23,8 @@ pub type VertexIterator<'a, V, DE, UE, F, A = Global> = DynamicHandleIterator<
 /// The numbers of all vertices ([`Dcel::fixed_vertices`](crate::dcel::Dcel::fixed_vertices)).
 pub type FixedVertexIterator = FixedHandleIterator<VertexTag, InnerTag>;
 
-/// All half edges of a mesh, borrowed ([`Dcel::directed_edges`](crate::dcel::Dcel::directed_edges)).
+/// All half edges of a mesh, borrowed
+/// ([`Dcel::directed_edges`](crate::dcel::Dcel::directed_edges)).
 pub type DirectedEdgeIterator<'a, V, DE, UE, F, A = Global> = DynamicHandleIterator<
     'a,
     V,

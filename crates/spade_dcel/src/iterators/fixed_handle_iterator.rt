@@ -11,8 +11,8 @@ use std::marker::{Model, PhantomData};
 ///
 /// Use the aliases, such as [`FixedVertexIterator`](crate::iterators::FixedVertexIterator).
 ///
-/// Does not allocate. Contracts see the numbers that it has still to give. `next` and `next_back` may
-/// be mixed freely.
+/// Does not allocate. Contracts see the numbers that it has still to give. `next` and `next_back`
+/// may be mixed freely.
 #[derive(Drop)]
 pub struct FixedHandleIterator<Kind, InnerOuter: InnerOuterMarker> {
     // The first number still to give, and the one past the last.

@@ -20,8 +20,8 @@ use std::marker::Model;
 /// The half edges of the outer face, each once.
 ///
 /// They come in the order of [`next`](DirectedEdgeHandle::next), beginning with the anchor of the
-/// outer face. From the back they come in the order of [`prev`](DirectedEdgeHandle::prev), beginning
-/// with the half edge before the anchor. There are none in a mesh without live edges.
+/// outer face. From the back they come in the order of [`prev`](DirectedEdgeHandle::prev),
+/// beginning with the half edge before the anchor. There are none in a mesh without live edges.
 ///
 /// Does not allocate. Contracts see its mesh, and the half edges that it has still to give. `next`
 /// and `next_back` may be mixed freely.

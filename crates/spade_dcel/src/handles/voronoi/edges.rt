@@ -60,8 +60,8 @@ impl<'a, V, DE, UE, F, A: Allocator> DirectedVoronoiEdge<'a, V, DE, UE, F, A> {
     /// Returns the edge after it around its face.
     ///
     /// It is the dual of the half edge after its own out of the same vertex
-    /// ([`ccw`](crate::handles::DirectedEdgeHandle::ccw)). It ends where this one starts, if that is
-    /// the dual of an inner face.
+    /// ([`ccw`](crate::handles::DirectedEdgeHandle::ccw)). It ends where this one starts, if that
+    /// is the dual of an inner face.
     ///
     /// Asks for a live edge ([`is_live_edge`](crate::dcel::Dcel::is_live_edge)).
     #[inline]
