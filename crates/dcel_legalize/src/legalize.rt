@@ -27,8 +27,8 @@ use std::alloc::Allocator;
 /// four vertices.
 ///
 /// After [`Legalized::Done`], nothing is left to flip: no edge of the list, and no edge that came
-/// to lie beside a flipped one, can be flipped and is wanted. If the list had every such edge of the
-/// mesh, then none is left in the mesh. Some tests would go on forever, hence `max_flips`.
+/// to lie beside a flipped one, can be flipped and is wanted. If the list had every such edge of
+/// the mesh, then none is left in the mesh. Some tests would go on forever, hence `max_flips`.
 ///
 /// After [`Legalized::Stopped`], and after [`Legalized::OutOfMemory`] if the list cannot grow, such
 /// an edge is left. The flips made so far remain in each case.
