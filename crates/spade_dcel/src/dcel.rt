@@ -17,6 +17,7 @@ mod elements;
 mod regions;
 mod removals;
 mod strips;
+mod swap;
 mod whole;
 
 use crate::handles::{DirectedEdgeHandle, FaceHandle, UndirectedEdgeHandle, VertexHandle};

@@ -8,14 +8,14 @@ mod fill;
 mod flip;
 mod line;
 mod outside;
-mod rename;
 mod results;
 mod split;
 mod split_triangles;
 mod strip;
+mod swap_remove;
 mod triangle;
 
-pub use cleanup::{cleanup_isolated_vertex, swap_remove_vertex};
+pub use cleanup::cleanup_isolated_vertex;
 pub use create::{
     append_unconnected_vertex, new, new_with_fixed_vertices, setup_initial_two_vertices,
 };
@@ -28,6 +28,7 @@ pub use results::{IsolateVertexResult, RemovalResult};
 pub use split::split_edge_when_all_vertices_on_line;
 pub use split_triangles::{split_edge, split_half_edge};
 pub use strip::disconnect_edge_strip;
+pub use swap_remove::swap_remove_vertex;
 pub use triangle::{insert_into_triangle, new_triangle};
 
 /// That a growth found no memory, with what was handed in.

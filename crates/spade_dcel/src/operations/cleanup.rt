@@ -1,15 +1,13 @@
 //! Removals closed: what was given up is taken out, and the last elements of its kinds get its numbers.
 
-ghost use Rattle.std.specs.Prelude.{◌≡◌, ◌-◌, ◌==◌, cond, slice_index_or, IsTrue, Some, None};
-ghost use Rattle.dcel_maps.specs.Conditions.{CanSwapRemove};
+ghost use Rattle.std.specs.Prelude.{◌≡◌};
 ghost use Rattle.dcel_maps.specs.Removals.{IsListed, ascending};
-ghost use Rattle.dcel_maps.specs.Renumbering.{cleaned_up, vertex_taken_out};
+ghost use Rattle.dcel_maps.specs.Renumbering.{cleaned_up};
 ghost use Rattle.dcel_maps.specs.Shapes.{IsMesh};
 
 use crate::dcel::Dcel;
-use crate::operations::{IsolateVertexResult, RemovalResult};
-use dcel_edits::removal::take_out::{take_out_edges, take_out_faces, take_out_vertex};
-use dcel_fixed::FixedVertexHandle;
+use crate::operations::IsolateVertexResult;
+use dcel_edits::removal::take_out::{take_out_edges, take_out_faces};
 use std::alloc::Allocator;
 
 /// Takes out the edges and the faces that an open removal has given up, each kind from the largest number down: the last one gets the number
@@ -33,29 +31,4 @@ pub fn cleanup_isolated_vertex<V, DE: Drop, UE: Drop, F: Drop, A: Allocator, B: 
     take_out_edges(&mut dcel.store, &opened.edges_to_remove);
     take_out_faces(&mut dcel.store, &opened.faces_to_remove);
     dcel.removal.clean_up();
-}
-
-/// Takes a vertex out, and answers its datum. The last vertex gets its number, with its datum, its anchor and its out edges; the answer
-/// tells the number that it had, if it was another one. No removal is open afterwards. It takes no memory, and asks that no removal is open
-/// and the vertex is unconnected, or that it is the one of a removal that is cleaned up ([`can_swap_remove`](Dcel::can_swap_remove)).
-pub fn swap_remove_vertex<V, DE, UE, F, A: Allocator>(
-    dcel: &mut Dcel<V, DE, UE, F, A>,
-    vertex: FixedVertexHandle,
-) -> RemovalResult<V>
-    requires { CanSwapRemove dcel.old.shape vertex }
-    ensures edit { dcel.new ≡ vertex_taken_out dcel.old vertex }
-    ensures datum { result.removed_vertex
-        ≡ slice_index_or dcel.old.vertex_data vertex result.removed_vertex }
-    ensures moved { result.swapped_in_vertex
-        ≡ cond (vertex == dcel.old.shape.vertices - 1) None (Some (dcel.old.shape.vertices - 1)) }
-    ensures mesh { IsMesh dcel.new }
-{
-    let last = FixedVertexHandle::new(dcel.num_vertices() - 1);
-    let removed_vertex = take_out_vertex(&mut dcel.store, vertex);
-    dcel.removal.close();
-    let swapped_in_vertex = if vertex == last { None } else { Some(last) };
-    RemovalResult {
-        removed_vertex,
-        swapped_in_vertex,
-    }
 }

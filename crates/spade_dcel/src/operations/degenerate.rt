@@ -31,9 +31,5 @@ pub fn remove_when_degenerate<V, DE: Drop, UE: Drop, F, A: Allocator>(
 {
     let last = FixedVertexHandle::new(dcel.num_vertices() - 1);
     let removed_vertex = take_out_degenerate(&mut dcel.store, vertex);
-    let swapped_in_vertex = if vertex == last { None } else { Some(last) };
-    RemovalResult {
-        removed_vertex,
-        swapped_in_vertex,
-    }
+    RemovalResult::of(removed_vertex, vertex, last)
 }

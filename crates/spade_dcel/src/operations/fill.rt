@@ -60,7 +60,7 @@ pub fn isolate_vertex_and_fill_hole<
 {
     every_mesh(dcel);
     let (edges, faces) = lists_round(dcel, vertex, border_loop.len())?;
-    open(dcel, &border_loop, &Some(vertex), edges, faces)
+    isolate_and_answer(dcel, &border_loop, &Some(vertex), edges, faces)
 }
 
 /// Gives these edges and faces up, which lie inside a ring, with the vertex inside it if there is one, and cuts the hole into new
@@ -100,7 +100,7 @@ pub fn remesh_edge_ring<
 {
     every_mesh(dcel);
     let vertex = inside(dcel, &border_loop, &edges_to_remove, &faces_to_remove);
-    open(
+    isolate_and_answer(
         dcel,
         &border_loop,
         &vertex,
@@ -130,7 +130,7 @@ fn inside<V, DE, UE, F, A: Allocator>(
 }
 
 // Gives these edges and faces up, and the vertex inside a border if there is one, and fills the hole.
-fn open<V, DE: Default, UE: Default, F: Default, A: Allocator + Clone>(
+fn isolate_and_answer<V, DE: Default, UE: Default, F: Default, A: Allocator + Clone>(
     dcel: &mut Dcel<V, DE, UE, F, A>,
     border: &[FixedDirectedEdgeHandle],
     vertex: &Option<FixedVertexHandle>,
@@ -154,7 +154,7 @@ fn open<V, DE: Default, UE: Default, F: Default, A: Allocator + Clone>(
     every_mesh(dcel);
     let begin = dcel.num_undirected_edges();
     let new_edges = edges_between(begin, begin + (border.len() - 3), dcel.allocator().clone()?)?;
-    fill(dcel, border, vertex, &edges_to_remove, &faces_to_remove)?;
+    give_up_and_fill(dcel, border, vertex, &edges_to_remove, &faces_to_remove)?;
     Ok(IsolateVertexResult {
         new_edges,
         smallest_new_edge: FixedUndirectedEdgeHandle::new(begin),
@@ -164,7 +164,7 @@ fn open<V, DE: Default, UE: Default, F: Default, A: Allocator + Clone>(
 }
 
 // Cuts the ring of a border, read from its end, into ears, and gives these edges and faces up, and the vertex inside if there is one.
-fn fill<V, DE: Default, UE: Default, F: Default, A: Allocator>(
+fn give_up_and_fill<V, DE: Default, UE: Default, F: Default, A: Allocator>(
     dcel: &mut Dcel<V, DE, UE, F, A>,
     border: &[FixedDirectedEdgeHandle],
     vertex: &Option<FixedVertexHandle>,

@@ -1,6 +1,6 @@
 //! What removals answer.
 
-ghost use Rattle.std.specs.Prelude.{◌↔◌, ◌≤◌, IsTrue};
+ghost use Rattle.std.specs.Prelude.{◌≡◌, ◌↔◌, ◌≤◌, ◌==◌, cond, IsTrue, Some, None};
 
 use dcel_fixed::{FixedFaceHandle, FixedUndirectedEdgeHandle, FixedVertexHandle, InnerTag};
 use std::alloc::{Allocator, Global};
@@ -39,4 +39,18 @@ pub struct RemovalResult<V> {
 
     /// The number that the vertex had which has its number now, if another one has.
     pub swapped_in_vertex: Option<FixedVertexHandle>,
+}
+
+impl<V> RemovalResult<V> {
+    // The result of taking a vertex out where `last` was the last one, which has its number now.
+    pub(crate) fn of(removed_vertex: V, vertex: FixedVertexHandle, last: FixedVertexHandle) -> Self
+        ensures datum { result.removed_vertex ≡ removed_vertex }
+        ensures moved { result.swapped_in_vertex ≡ cond (vertex == last) None (Some last) }
+    {
+        let swapped_in_vertex = if vertex == last { None } else { Some(last) };
+        RemovalResult {
+            removed_vertex,
+            swapped_in_vertex,
+        }
+    }
 }
