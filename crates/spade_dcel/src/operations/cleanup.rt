@@ -1,4 +1,4 @@
-//! Removals closed: what was given up is taken out, and the last elements of its kinds get its numbers.
+//! An open removal cleaned up: the edges and faces that it gave up are taken out.
 
 ghost use Rattle.std.specs.Prelude.{◌≡◌};
 ghost use Rattle.dcel_maps.specs.Removals.{IsListed, ascending};
@@ -10,10 +10,23 @@ use crate::operations::IsolateVertexResult;
 use dcel_edits::removal::take_out::{take_out_edges, take_out_faces};
 use std::alloc::Allocator;
 
-/// Takes out the edges and the faces that an open removal has given up, each kind from the largest number down: the last one gets the number
-/// of the one that goes, and half edges go with their edge. Words, origins, data and anchors follow. The vertex that was given up is still
-/// there, for [`swap_remove_vertex`] to take out; a removal that gave none up is closed. The lists of `opened` are in ascending order afterwards, and `new_edges` keep the numbers
-/// that they had. It takes no memory, and asks that `opened` lists what is given up, in any order ([`is_listed`](Dcel::is_listed)).
+/// Takes out the edges and the faces that an open removal has given up.
+///
+/// It takes them out from the largest number down, the edges and then the faces, and each time the
+/// last one of the kind gets the number of the one that goes. Half edges go with their edge; links,
+/// origins, data and anchors follow.
+///
+/// ```text
+/// edges 0 1 2 3 4 5, of which 2 and 4 are given up
+///
+/// 0 1 2 3 4 5   without 4   0 1 2 3 5   without 2   0 1 5 3      so edge 5 is edge 2 now
+/// ```
+///
+/// A vertex that was given up stays, for [`swap_remove_vertex`](super::swap_remove_vertex) to take
+/// out; a removal that gave none up is closed. The lists of `opened` ascend afterwards. Its
+/// `new_edges` are left as they are, so they name the new edges by their old numbers.
+///
+/// Asks that `opened` lists what is given up, in any order ([`is_listed`](Dcel::is_listed)).
 pub fn cleanup_isolated_vertex<V, DE: Drop, UE: Drop, F: Drop, A: Allocator, B: Allocator>(
     dcel: &mut Dcel<V, DE, UE, F, A>,
     opened: &mut IsolateVertexResult<B>,

@@ -11,9 +11,18 @@ use dcel_edits::removal::take_out::take_out_vertex;
 use dcel_fixed::FixedVertexHandle;
 use std::alloc::Allocator;
 
-/// Takes a vertex out, and answers its datum. The last vertex gets its number, with its datum, its anchor and its out edges; the answer
-/// tells the number that it had, if it was another one. No removal is open afterwards. It takes no memory, and asks that no removal is open
-/// and the vertex is unconnected, or that it is the one of a removal that is cleaned up ([`can_swap_remove`](Dcel::can_swap_remove)).
+/// Takes out a vertex that has no edge, and returns its datum.
+///
+/// The last vertex gets its number, with its datum, its anchor and its out edges; the result tells
+/// if one was moved so. No removal is open afterwards.
+///
+/// ```text
+/// before                        after
+/// vertex       last ---> ..     vertex ---> ..
+/// ```
+///
+/// Asks that no removal is open and no edge meets the vertex, or that the vertex is the one that a
+/// removal gave up and the removal is cleaned up ([`can_swap_remove`](Dcel::can_swap_remove)).
 pub fn swap_remove_vertex<V, DE, UE, F, A: Allocator>(
     dcel: &mut Dcel<V, DE, UE, F, A>,
     vertex: FixedVertexHandle,
