@@ -27,9 +27,9 @@ type GivenUpLists<A> = (
     Vec<FixedFaceHandle<InnerTag>, A>,
 );
 
-/// Gives up a vertex that lies inside triangles alone, with its edges and these triangles, and
-/// fills the hole with new triangles.
+/// Gives up a vertex that lies inside triangles alone, and fills the hole with new triangles.
 ///
+/// Its edges and the triangles around it are given up too.
 /// A loop of `k` half edges is filled with `k - 2` triangles by `k - 3` new edges, which all start
 /// where the last half edge of `border_loop` starts, at `a` in the picture.
 ///

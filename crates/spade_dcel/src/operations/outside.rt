@@ -13,7 +13,7 @@ use std::alloc::{AllocError, Allocator};
 
 /// Puts a triangle on `edge`, with `new_vertex` as its third corner, and returns `new_vertex`.
 ///
-/// The triangle lies on the side of `edge`, whose old face goes round it now.
+/// The triangle lies on the side of `edge`, whose old face goes around it now.
 ///
 /// ```text
 /// before                        after  new_vertex
@@ -46,8 +46,10 @@ pub fn create_new_face_adjacent_to_edge<V, DE: Default, UE: Default, F: Default,
     Ok(new_vertex)
 }
 
-/// Closes a triangle between a half edge of the outer face and the next one, and returns the outer
-/// half of the new edge.
+/// Closes a triangle between a half edge of the outer face and the next one.
+///
+/// It returns the outer half of the new edge, which leads from the start of `edge` to the end of
+/// the next one.
 ///
 /// ```text
 /// before     outer face         after     outer face
@@ -55,7 +57,7 @@ pub fn create_new_face_adjacent_to_edge<V, DE: Default, UE: Default, F: Default,
 ///         a           c                 a -----------> c
 ///          \         /                   \  L, with n /
 ///      edge \       / next           edge  \         /  next
-///             \> b /                        \> b > /
+///            \> b > /                       \> b > /
 /// ```
 ///
 /// Asks that `edge` is live and on the outer face and that the next one does not lead back to where

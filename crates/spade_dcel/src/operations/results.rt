@@ -22,10 +22,10 @@ pub struct IsolateVertexResult<A: Allocator = Global> {
 }
 
 impl<A: Allocator> IsolateVertexResult<A> {
-    /// Returns whether the number of the edge is at least that of the first new edge.
+    /// Returns whether the edge has at least the number of the first new edge.
     ///
     /// Before cleanup this holds for exactly the new edges. After a strip was cut off, which adds
-    /// none, it holds for every edge. After cleanup it says nothing, since edges have other
+    /// none, it holds for every edge. After cleanup it says nothing, since edges may have other
     /// numbers.
     pub fn is_new_edge(&self, edge: FixedUndirectedEdgeHandle) -> bool
         ensures { IsTrue result ↔ (self.now.smallest_new_edge ≤ edge) }

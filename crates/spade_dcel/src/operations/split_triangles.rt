@@ -53,13 +53,12 @@ pub fn split_edge<V, DE: Default, UE: Default, F: Default, A: Allocator>(
     Ok([edge, second_half])
 }
 
-/// Splits an edge with a triangle on the side of `edge`, and returns the two half edges along
-/// `edge`.
+/// Splits an edge that has a triangle on the side of `edge`.
 ///
-/// The first is `edge`, which ends at `new_vertex` now; the second is new and leads on to where
-/// `edge` ended. One more edge joins `new_vertex`, `v` in the picture, to the opposite corner and
-/// cuts the triangle in two; it may be the outer face. The face on the other side gets one half
-/// edge more.
+/// It returns the two half edges along the old one: the first is `edge`, which ends at `new_vertex`
+/// now; the second is new and leads on to where `edge` ended. One more edge joins `new_vertex`, `v`
+/// in the picture, to the opposite corner and cuts the triangle in two; the triangle may be the
+/// outer face. The face on the other side gets one half edge more.
 ///
 /// ```text
 /// before     c                  after      c

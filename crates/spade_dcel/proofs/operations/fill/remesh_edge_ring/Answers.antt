@@ -1,5 +1,3 @@
-use Rattle.std.proofs.Common.{◌≡◌, ◌∙◌, subst, sym, length, ◌≤◌}
-use Rattle.dcel_maps.specs.Regions.{LiesInside, inside}
 use Rattle.dcel_maps.proofs.removal.Insides.{inside_lies, many_items}
 use Rattle.spade_dcel.proofs.operations.fill.remesh_edge_ring.Goals as goal
 
