@@ -6,7 +6,7 @@ use Rattle.dcel_edits.proofs.stored.Rings.{hole_can, hole_given_up, hole_holds}
 use Rattle.dcel_edits.specs.Fill.{given_up}
 use Rattle.dcel_maps.specs.edits.Fill.{border_filled}
 use Rattle.dcel_maps.specs.Removals.{opened_with}
-use Rattle.spade_dcel.proofs.operations.fill.fill.Goals as goal
+use Rattle.spade_dcel.proofs.operations.fill.give_up_and_fill.Goals as goal
 
 pub invariant_of-dcel : goal.invariant_of-dcel
 invariant_of-dcel g c = (reserved_holds c.reserve.ensures.same c.dcel.invariant c.dcel.view_is).stored
