@@ -45,8 +45,8 @@ pub fn put_ears<V, DE: Default, UE: Default, F: Default, A: Allocator>(
     put_last_ear(store, apex, beginning, middle, end);
 }
 
-/// Drops the anchors of the faces that are given up, and of the vertex if there is one.
-pub fn give_up<V, DE, UE, F, A: Allocator>(
+/// Drops the anchors of the faces that are given up, and that of the vertex if there is one.
+pub fn drop_all_anchors<V, DE, UE, F, A: Allocator>(
     store: &mut Store<V, DE, UE, F, A>,
     vertex: &Option<FixedVertexHandle>,
     faces: &[FixedFaceHandle<InnerTag>],

@@ -14,7 +14,7 @@ ghost use Rattle.dcel_maps.specs.Shapes.{IsMesh};
 use crate::dcel::Dcel;
 use crate::laws::every_mesh;
 use crate::operations::IsolateVertexResult;
-use dcel_edits::fill::{give_up, put_ears};
+use dcel_edits::fill::{drop_all_anchors, put_ears};
 use dcel_fixed::{
     FixedDirectedEdgeHandle, FixedFaceHandle, FixedUndirectedEdgeHandle, FixedVertexHandle,
     InnerTag,
@@ -222,7 +222,7 @@ fn give_up_and_fill<V, DE: Default, UE: Default, F: Default, A: Allocator>(
     dcel.store.reserve(0, left.len(), left.len() + 1)?;
     dcel.removal.open(edges, faces, vertex)?;
     put_ears(&mut dcel.store, first, second, third, left);
-    give_up(&mut dcel.store, vertex, faces);
+    drop_all_anchors(&mut dcel.store, vertex, faces);
     Ok(())
 }
 
