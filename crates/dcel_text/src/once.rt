@@ -16,7 +16,7 @@ pub trait ReadOnce {
     // the bytes that reads will give, where they are known
     ghost remaining: { Self → Option (List ℕ) };
 
-    // one read, by a reader and into a buffer that were so, gave this and left the buffer and the reader so
+    // the reader and the buffer before one read, its result, and the buffer and the reader after it
     ghost read_gives: { Self → List ℕ → Result ℕ Failed → List ℕ → Self → Type 0 };
 
     /// Reads once into `buf`, and returns how many bytes came.
@@ -46,7 +46,7 @@ pub trait WriteOnce {
     // the bytes that the writer holds, where they are known
     ghost contents: { Self → Option (List ℕ) };
 
-    // one write, to a writer that was so, of this text gave this and left the writer so
+    // the writer before one write, the text, its result, and the writer after it
     ghost write_gives: { Self → List ℕ → Result ℕ Failed → Self → Type 0 };
 
     /// Writes once, and returns how many of the bytes were taken.
