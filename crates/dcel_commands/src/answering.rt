@@ -1,4 +1,4 @@
-//! A line's answer: what it says is carried out or told, and written.
+//! The answer to a line: it is read, carried out or told, and the reply is written.
 
 ghost use Rattle.std.specs.Prelude.{◌≤◌, ◌^◌};
 ghost use Rattle.dcel_commands.specs.Answering.{WritesSome};
@@ -16,7 +16,7 @@ use dcel_text::output::Writer;
 use dcel_text::sink::LineSink;
 use std::alloc::Allocator;
 
-/// Writes what a query is told, or refuses it, by the line that it is.
+/// Writes the reply to a query, or refuses it and writes nothing.
 fn tell<A: Allocator, K: LineSink>(
     out: &mut Writer<'_, K>,
     mesh: &LineMesh<A>,
@@ -37,7 +37,9 @@ fn tell<A: Allocator, K: LineSink>(
     Ok(())
 }
 
-/// Does what a line says, with its lists in this memory, and writes the answer.
+/// Does what a line says, and writes the reply.
+///
+/// The lists of the line are allocated in `memory`.
 pub fn answer<A: Allocator + Clone, B: Allocator + Copy, K: LineSink>(
     out: &mut Writer<'_, K>,
     mesh: &mut LineMesh<A>,

@@ -1,4 +1,4 @@
-//! The parts of what lines ask of a mesh.
+//! Conditions that lines ask of a mesh, each of which several lines share.
 
 ghost use Rattle.std.specs.Prelude.{◌≡◌, ◌↔◌, ◌+◌, ◌*◌, ◌<◌, ◌≤◌, ◌^◌, [], ◌∷◌, false, All, IsTrue, MatchResult};
 ghost use Rattle.dcel_maps.specs.Conditions.{HasRoom};
@@ -19,14 +19,14 @@ use spade_dcel::dcel::{Dcel, RemovalState};
 use spade_dcel::handles::DirectedEdgeHandle;
 use std::alloc::Allocator;
 
-/// Refuses where a condition isn't met.
+/// Refuses with `why` unless the condition is met.
 pub fn ask(is_met: bool, why: Refusal) -> Result<(), Refusal>
     ensures { MatchResult result (λ _. IsTrue is_met) (λ refusal. (is_met ≡ false) × (refusal ≡ why)) }
 {
     if is_met { Ok(()) } else { Err(why) }
 }
 
-/// Whether the vertex's number is in range.
+/// Returns whether the number of the vertex is in range.
 pub fn has_vertex<V, DE, UE, F, A: Allocator>(
     dcel: &Dcel<V, DE, UE, F, A>,
     vertex: FixedVertexHandle,
@@ -36,7 +36,7 @@ pub fn has_vertex<V, DE, UE, F, A: Allocator>(
     vertex.index() < dcel.num_vertices()
 }
 
-/// Whether the half edge's number is in range.
+/// Returns whether the number of the half edge is in range.
 pub fn has_half_edge<V, DE, UE, F, A: Allocator>(
     dcel: &Dcel<V, DE, UE, F, A>,
     edge: FixedDirectedEdgeHandle,
@@ -46,7 +46,7 @@ pub fn has_half_edge<V, DE, UE, F, A: Allocator>(
     edge.index() < dcel.num_directed_edges()
 }
 
-/// Whether the edge's number is in range.
+/// Returns whether the number of the edge is in range.
 pub fn has_edge<V, DE, UE, F, A: Allocator>(
     dcel: &Dcel<V, DE, UE, F, A>,
     edge: FixedUndirectedEdgeHandle,
@@ -56,7 +56,7 @@ pub fn has_edge<V, DE, UE, F, A: Allocator>(
     edge.index() < dcel.num_undirected_edges()
 }
 
-/// Whether each of the elements has a number below this one.
+/// Returns whether the number of each element is below `count`.
 pub fn are_below<Kind, InnerOuter: InnerOuterMarker>(
     elements: &[FixedHandleImpl<Kind, InnerOuter>],
     count: usize,
@@ -71,7 +71,7 @@ pub fn are_below<Kind, InnerOuter: InnerOuterMarker>(
     true
 }
 
-/// Whether each of the faces has a number below this one, and is none that is outside.
+/// Returns whether the number of each face is below `count`, and none is the outer face.
 pub fn are_inner_faces(faces: &[FixedFaceHandle<InnerTag>], count: usize) -> bool
     ensures { IsTrue result ↔ All (λ f. (0 < f) × (f < count)) faces.now }
 {
@@ -83,21 +83,21 @@ pub fn are_inner_faces(faces: &[FixedFaceHandle<InnerTag>], count: usize) -> boo
     true
 }
 
-/// Whether no removal is open.
+/// Returns whether no removal is open.
 pub fn is_closed<V, DE, UE, F, A: Allocator>(dcel: &Dcel<V, DE, UE, F, A>) -> bool
     ensures { IsTrue result ↔ (dcel.now.shape.removal ≡ Closed) }
 {
     dcel.removal_state() == RemovalState::Closed
 }
 
-/// Whether a removal is open and not yet cleaned up.
+/// Returns whether a removal is open and not yet cleaned up.
 pub fn is_isolated<V, DE, UE, F, A: Allocator>(dcel: &Dcel<V, DE, UE, F, A>) -> bool
     ensures { IsTrue result ↔ IsIsolated dcel.now.shape.removal }
 {
     dcel.removal_state() == RemovalState::Isolated
 }
 
-/// Asks for a triangle where a live half edge of the mesh lies.
+/// Refuses unless the face of this live half edge is a triangle.
 pub fn ask_triangle<V, DE, UE, F, A: Allocator>(
     dcel: &Dcel<V, DE, UE, F, A>,
     edge: DirectedEdgeHandle<'_, V, DE, UE, F, A>,
@@ -110,7 +110,7 @@ pub fn ask_triangle<V, DE, UE, F, A: Allocator>(
     ask(dcel.is_triangle(edge.face().fix()), Refusal::NotTriangle)
 }
 
-/// Asks for two live vertices, which may be one.
+/// Refuses unless both vertices are live. They may be the same.
 pub fn ask_live_vertices<V, DE, UE, F, A: Allocator>(
     dcel: &Dcel<V, DE, UE, F, A>,
     first: FixedVertexHandle,
@@ -125,7 +125,7 @@ pub fn ask_live_vertices<V, DE, UE, F, A: Allocator>(
     ask(dcel.is_live_vertex(second), Refusal::GivenUp)
 }
 
-/// Asks for two different live vertices.
+/// Refuses unless both vertices are live and they differ.
 pub fn ask_two_vertices<V, DE, UE, F, A: Allocator>(
     dcel: &Dcel<V, DE, UE, F, A>,
     first: FixedVertexHandle,
@@ -138,7 +138,10 @@ pub fn ask_two_vertices<V, DE, UE, F, A: Allocator>(
     ask(first != second, Refusal::SameVertex)
 }
 
-/// Asks for a live half edge, and a live vertex without an edge.
+/// Refuses unless the half edge is live, and the vertex is live and has no edge.
+///
+/// [`Dcel::is_unconnected`] asks again whether the vertex is live: the test before it is there for
+/// the name of the refusal.
 pub fn ask_edge_and_vertex<V, DE, UE, F, A: Allocator>(
     dcel: &Dcel<V, DE, UE, F, A>,
     edge: FixedDirectedEdgeHandle,
@@ -154,7 +157,7 @@ pub fn ask_edge_and_vertex<V, DE, UE, F, A: Allocator>(
     ask(dcel.is_unconnected(vertex), Refusal::VertexInUse)
 }
 
-/// Whether so many more vertices, edges and faces pass no limit.
+/// Returns whether the limit leaves room for this many more vertices, edges and faces.
 pub fn has_room<V, DE, UE, F, A: Allocator>(
     dcel: &Dcel<V, DE, UE, F, A>,
     limit: usize,
@@ -165,7 +168,7 @@ pub fn has_room<V, DE, UE, F, A: Allocator>(
     requires { limit ≤ 2 ^ 31 }
     ensures within { let shape = dcel.now.shape in
         IsTrue result ↔ AreWithin limit (shape.vertices + vertices) (shape.edges + edges) (face_count shape + faces) }
-    // The limit is so low that numbers are left where it isn't passed.
+    // The limit is so low that handles don't run out below it.
     ensures room { IsTrue result → HasRoom dcel.now.shape vertices edges faces }
 {
     dcel.num_vertices().saturating_add(vertices) <= limit

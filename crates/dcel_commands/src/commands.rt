@@ -1,5 +1,5 @@
-//! Commands that a mesh carries out, or refuses by name; and the runner, which reads them and queries as lines and writes the
-//! replies.
+//! Commands that a mesh carries out or refuses by name; and the runner, which reads commands and
+//! queries as lines and writes the replies.
 
 mod command;
 mod dispatch;

@@ -1,8 +1,8 @@
-//! Why a run stops early.
+//! The faults that end a run early.
 
 use thiserror::Error;
 
-/// Why a run stopped before its end.
+/// The reason why a run stopped early.
 #[derive(Debug, Drop, Error)]
 pub enum RunFault {
     /// The source failed.

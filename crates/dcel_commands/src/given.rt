@@ -1,4 +1,4 @@
-//! What lines say after their words.
+//! Reads what comes after the word of a line, by one reader for each word.
 #![tactic(auto, unfolding(crate::specs::Spelling::Says))]
 
 ghost use Rattle.std.specs.Prelude.{◌≡◌, ◌≢◌, ◌<◌, ◌+◌, [], ◌∷◌, ◌++◌, ℕ, ℤ, List, length, map, MatchOption, MatchResult, codes};
@@ -17,21 +17,22 @@ use dcel_fixed::{
 use dcel_text::items::{Rest, count_numbers, datum_then, nothing, number_then, slash_then};
 use std::alloc::{AllocError, Allocator};
 
-/// What a line says, if it is a command or a query; or that there is no memory for its lists.
+/// What a line says, or that there is no memory for its lists; `None` for a bad line.
 pub type Said<A> = Option<Result<Request<A>, AllocError>>;
 
-/// The numbers of a line's elements, or that there is no memory for them.
+/// A list of elements, or that there is no memory for it.
 type Made<Kind, InnerOuter, A> = Result<Vec<FixedHandleImpl<Kind, InnerOuter>, A>, AllocError>;
 
-/// The same of two lists.
+/// Two lists of elements, or that there is no memory for them.
 type TwoMade<K, I, L, J, A> = Result<
     (Vec<FixedHandleImpl<K, I>, A>, Vec<FixedHandleImpl<L, J>, A>),
     AllocError,
 >;
 
-/// The edges and faces inside a ring, and these after the ring's half edges.
+/// The edges and the faces inside a ring.
 type OfRing<A> = TwoMade<UndirectedEdgeTag, InnerTag, FaceTag, InnerTag, A>;
 
+/// The half edges of a ring, with the edges and the faces inside it.
 type ThreeMade<A> = Result<
     (
         Vec<FixedDirectedEdgeHandle, A>,
@@ -41,7 +42,7 @@ type ThreeMade<A> = Result<
     AllocError,
 >;
 
-/// Three data and nothing else.
+/// Reads three data and nothing else.
 fn three_data<'a>(rest: Rest<'a>) -> Option<(i64, i64, i64)>
     ensures { MatchOption result
         ((x y z : ℤ) → IsDatum x → IsDatum y → IsDatum z → left rest.entry ≢ signed_decimal x ∷ signed_decimal y ∷ signed_decimal z ∷ [])
@@ -54,7 +55,7 @@ fn three_data<'a>(rest: Rest<'a>) -> Option<(i64, i64, i64)>
     Some((x, y, z))
 }
 
-/// The number of an element and nothing else.
+/// Reads the number of an element and nothing else.
 fn one_number<'a, Kind, InnerOuter: InnerOuterMarker>(
     rest: Rest<'a>,
 ) -> Option<FixedHandleImpl<Kind, InnerOuter>>
@@ -67,7 +68,7 @@ fn one_number<'a, Kind, InnerOuter: InnerOuterMarker>(
     Some(FixedHandleImpl::new(n as usize))
 }
 
-/// The numbers of two elements and nothing else.
+/// Reads the numbers of two elements and nothing else.
 fn two_numbers<'a, K, L, I: InnerOuterMarker, J: InnerOuterMarker>(
     rest: Rest<'a>,
 ) -> Option<(FixedHandleImpl<K, I>, FixedHandleImpl<L, J>)>
@@ -84,7 +85,7 @@ fn two_numbers<'a, K, L, I: InnerOuterMarker, J: InnerOuterMarker>(
     ))
 }
 
-/// The number of an element, a datum and nothing else.
+/// Reads the number of an element, a datum and nothing else.
 fn number_and_datum<'a, Kind, InnerOuter: InnerOuterMarker>(
     rest: Rest<'a>,
 ) -> Option<(FixedHandleImpl<Kind, InnerOuter>, i64)>
@@ -98,7 +99,9 @@ fn number_and_datum<'a, Kind, InnerOuter: InnerOuterMarker>(
     Some((FixedHandleImpl::new(n as usize), d))
 }
 
-/// The numbers of elements that come next, of which there are so many.
+/// Reads the `count` numbers that come next into a list.
+///
+/// They were counted first, so that a bad line takes no memory.
 fn numbers<'a, Kind, InnerOuter: InnerOuterMarker, A: Allocator>(
     rest: Rest<'a>,
     count: usize,
@@ -116,7 +119,7 @@ fn numbers<'a, Kind, InnerOuter: InnerOuterMarker, A: Allocator>(
     Ok(list)
 }
 
-/// The numbers that come next in two places, of which there are so many.
+/// Reads the numbers that come next in two places into two lists.
 fn both<'a, K, L, I: InnerOuterMarker, J: InnerOuterMarker, A: Allocator + Copy>(
     first: Rest<'a>,
     first_count: usize,
@@ -133,7 +136,7 @@ fn both<'a, K, L, I: InnerOuterMarker, J: InnerOuterMarker, A: Allocator + Copy>
     Ok((first_list, second_list))
 }
 
-/// A list of elements and nothing else.
+/// Reads a list of elements and nothing else.
 fn one_list<'a, Kind, InnerOuter: InnerOuterMarker, A: Allocator>(
     rest: Rest<'a>,
     memory: A,
@@ -148,7 +151,7 @@ fn one_list<'a, Kind, InnerOuter: InnerOuterMarker, A: Allocator>(
     Some(numbers(rest, count, memory))
 }
 
-/// Two lists of elements with a slash between them, and nothing else.
+/// Reads two lists of elements with a slash between them, and nothing else.
 fn two_lists<'a, K, L, I: InnerOuterMarker, J: InnerOuterMarker, A: Allocator + Copy>(
     rest: Rest<'a>,
     memory: A,
@@ -166,7 +169,7 @@ fn two_lists<'a, K, L, I: InnerOuterMarker, J: InnerOuterMarker, A: Allocator + 
     Some(both(rest, first_count, second, second_count, memory))
 }
 
-/// A list of elements, which is counted, and then two more that may have found no memory.
+/// Reads a list of elements before two that are read already, or found no memory.
 fn and_two<'a, A: Allocator + Copy>(
     first: Rest<'a>,
     first_count: usize,
@@ -182,7 +185,7 @@ fn and_two<'a, A: Allocator + Copy>(
     Ok((list, second, third))
 }
 
-/// Three lists of elements with slashes between them, and nothing else.
+/// Reads three lists of elements with slashes between them, and nothing else.
 fn three_lists<'a, A: Allocator + Copy>(rest: Rest<'a>, memory: A) -> Option<ThreeMade<A>>
     ensures { MatchOption result
         ((ls ms ns : List ℕ) → AllByRecursion IsNumber ls → AllByRecursion IsNumber ms → AllByRecursion IsNumber ns
@@ -197,6 +200,7 @@ fn three_lists<'a, A: Allocator + Copy>(rest: Rest<'a>, memory: A) -> Option<Thr
     Some(and_two(rest, count, made, memory))
 }
 
+/// Reads the rest of `append D`.
 pub fn append<'a, A: Allocator>(rest: Rest<'a>) -> Said<A>
     ensures { Says (codes "append") (left rest.entry) result }
 {
@@ -205,6 +209,7 @@ pub fn append<'a, A: Allocator>(rest: Rest<'a>) -> Said<A>
     Some(Ok(Request::Edit(Command::Append(datum))))
 }
 
+/// Reads the rest of `triangle D D D`.
 pub fn triangle<'a, A: Allocator>(rest: Rest<'a>) -> Said<A>
     ensures { Says (codes "triangle") (left rest.entry) result }
 {
@@ -212,6 +217,7 @@ pub fn triangle<'a, A: Allocator>(rest: Rest<'a>) -> Said<A>
     Some(Ok(Request::Edit(Command::Triangle(x, y, z))))
 }
 
+/// Reads the rest of `setup A B`.
 pub fn setup<'a, A: Allocator>(rest: Rest<'a>) -> Said<A>
     ensures { Says (codes "setup") (left rest.entry) result }
 {
@@ -219,6 +225,7 @@ pub fn setup<'a, A: Allocator>(rest: Rest<'a>) -> Said<A>
     Some(Ok(Request::Edit(Command::Setup(first, second))))
 }
 
+/// Reads the rest of `extend A B`.
 pub fn extend<'a, A: Allocator>(rest: Rest<'a>) -> Said<A>
     ensures { Says (codes "extend") (left rest.entry) result }
 {
@@ -226,6 +233,7 @@ pub fn extend<'a, A: Allocator>(rest: Rest<'a>) -> Said<A>
     Some(Ok(Request::Edit(Command::Extend(first, second))))
 }
 
+/// Reads the rest of `line H B`.
 pub fn line<'a, A: Allocator>(rest: Rest<'a>) -> Said<A>
     ensures { Says (codes "line") (left rest.entry) result }
 {
@@ -233,12 +241,14 @@ pub fn line<'a, A: Allocator>(rest: Rest<'a>) -> Said<A>
     Some(Ok(Request::Edit(Command::Line(first, second))))
 }
 
+/// Reads the rest of `close H`.
 pub fn close<'a, A: Allocator>(rest: Rest<'a>) -> Said<A>
     ensures { Says (codes "close") (left rest.entry) result }
 {
     Some(Ok(Request::Edit(Command::Close(one_number(rest)?))))
 }
 
+/// Reads the rest of `outside H B`.
 pub fn outside<'a, A: Allocator>(rest: Rest<'a>) -> Said<A>
     ensures { Says (codes "outside") (left rest.entry) result }
 {
@@ -246,6 +256,7 @@ pub fn outside<'a, A: Allocator>(rest: Rest<'a>) -> Said<A>
     Some(Ok(Request::Edit(Command::Outside(first, second))))
 }
 
+/// Reads the rest of `insert B F`.
 pub fn insert<'a, A: Allocator>(rest: Rest<'a>) -> Said<A>
     ensures { Says (codes "insert") (left rest.entry) result }
 {
@@ -253,6 +264,7 @@ pub fn insert<'a, A: Allocator>(rest: Rest<'a>) -> Said<A>
     Some(Ok(Request::Edit(Command::Insert(first, second))))
 }
 
+/// Reads the rest of `half H B`.
 pub fn half<'a, A: Allocator>(rest: Rest<'a>) -> Said<A>
     ensures { Says (codes "half") (left rest.entry) result }
 {
@@ -260,6 +272,7 @@ pub fn half<'a, A: Allocator>(rest: Rest<'a>) -> Said<A>
     Some(Ok(Request::Edit(Command::Half(first, second))))
 }
 
+/// Reads the rest of `split H B`.
 pub fn split<'a, A: Allocator>(rest: Rest<'a>) -> Said<A>
     ensures { Says (codes "split") (left rest.entry) result }
 {
@@ -267,12 +280,14 @@ pub fn split<'a, A: Allocator>(rest: Rest<'a>) -> Said<A>
     Some(Ok(Request::Edit(Command::Split(first, second))))
 }
 
+/// Reads the rest of `flip U`.
 pub fn flip<'a, A: Allocator>(rest: Rest<'a>) -> Said<A>
     ensures { Says (codes "flip") (left rest.entry) result }
 {
     Some(Ok(Request::Edit(Command::Flip(one_number(rest)?))))
 }
 
+/// Reads the rest of `swap A B`.
 pub fn swap<'a, A: Allocator>(rest: Rest<'a>) -> Said<A>
     ensures { Says (codes "swap") (left rest.entry) result }
 {
@@ -280,6 +295,7 @@ pub fn swap<'a, A: Allocator>(rest: Rest<'a>) -> Said<A>
     Some(Ok(Request::Edit(Command::Swap(first, second))))
 }
 
+/// Reads the rest of `put V D`.
 pub fn put<'a, A: Allocator>(rest: Rest<'a>) -> Said<A>
     ensures { Says (codes "put") (left rest.entry) result }
 {
@@ -287,6 +303,7 @@ pub fn put<'a, A: Allocator>(rest: Rest<'a>) -> Said<A>
     Some(Ok(Request::Edit(Command::Put(vertex, datum))))
 }
 
+/// Reads the rest of `isolate V H..`.
 pub fn isolate<'a, A: Allocator>(rest: Rest<'a>, memory: A) -> Said<A>
     ensures { Says (codes "isolate") (left rest.entry) result }
 {
@@ -300,6 +317,7 @@ pub fn isolate<'a, A: Allocator>(rest: Rest<'a>, memory: A) -> Said<A>
     }
 }
 
+/// Reads the rest of `remesh H.. / U.. / F..`.
 pub fn remesh<'a, A: Allocator + Copy>(rest: Rest<'a>, memory: A) -> Said<A>
     ensures { Says (codes "remesh") (left rest.entry) result }
 {
@@ -309,6 +327,7 @@ pub fn remesh<'a, A: Allocator + Copy>(rest: Rest<'a>, memory: A) -> Said<A>
     }
 }
 
+/// Reads the rest of `strip H..`.
 pub fn strip<'a, A: Allocator>(rest: Rest<'a>, memory: A) -> Said<A>
     ensures { Says (codes "strip") (left rest.entry) result }
 {
@@ -318,6 +337,7 @@ pub fn strip<'a, A: Allocator>(rest: Rest<'a>, memory: A) -> Said<A>
     }
 }
 
+/// Reads the rest of `cleanup U.. / F..`.
 pub fn cleanup<'a, A: Allocator + Copy>(rest: Rest<'a>, memory: A) -> Said<A>
     ensures { Says (codes "cleanup") (left rest.entry) result }
 {
@@ -327,18 +347,21 @@ pub fn cleanup<'a, A: Allocator + Copy>(rest: Rest<'a>, memory: A) -> Said<A>
     }
 }
 
+/// Reads the rest of `remove V`.
 pub fn remove<'a, A: Allocator>(rest: Rest<'a>) -> Said<A>
     ensures { Says (codes "remove") (left rest.entry) result }
 {
     Some(Ok(Request::Edit(Command::Remove(one_number(rest)?))))
 }
 
+/// Reads the rest of `degenerate V`.
 pub fn degenerate<'a, A: Allocator>(rest: Rest<'a>) -> Said<A>
     ensures { Says (codes "degenerate") (left rest.entry) result }
 {
     Some(Ok(Request::Edit(Command::Degenerate(one_number(rest)?))))
 }
 
+/// Reads the rest of `legalize N U..`.
 pub fn legalize<'a, A: Allocator>(rest: Rest<'a>, memory: A) -> Said<A>
     ensures { Says (codes "legalize") (left rest.entry) result }
 {
@@ -352,6 +375,7 @@ pub fn legalize<'a, A: Allocator>(rest: Rest<'a>, memory: A) -> Said<A>
     }
 }
 
+/// Reads the rest of `clear`.
 pub fn clear<'a, A: Allocator>(rest: Rest<'a>) -> Said<A>
     ensures { Says (codes "clear") (left rest.entry) result }
 {
@@ -359,6 +383,7 @@ pub fn clear<'a, A: Allocator>(rest: Rest<'a>) -> Said<A>
     Some(Ok(Request::Edit(Command::Clear)))
 }
 
+/// Reads the rest of `counts`.
 pub fn counts<'a, A: Allocator>(rest: Rest<'a>) -> Said<A>
     ensures { Says (codes "counts") (left rest.entry) result }
 {
@@ -366,6 +391,7 @@ pub fn counts<'a, A: Allocator>(rest: Rest<'a>) -> Said<A>
     Some(Ok(Request::Ask(Query::Counts)))
 }
 
+/// Reads the rest of `words`.
 pub fn words<'a, A: Allocator>(rest: Rest<'a>) -> Said<A>
     ensures { Says (codes "words") (left rest.entry) result }
 {
@@ -373,6 +399,7 @@ pub fn words<'a, A: Allocator>(rest: Rest<'a>) -> Said<A>
     Some(Ok(Request::Ask(Query::Words)))
 }
 
+/// Reads the rest of `hull`.
 pub fn hull<'a, A: Allocator>(rest: Rest<'a>) -> Said<A>
     ensures { Says (codes "hull") (left rest.entry) result }
 {
@@ -380,18 +407,21 @@ pub fn hull<'a, A: Allocator>(rest: Rest<'a>) -> Said<A>
     Some(Ok(Request::Ask(Query::Hull)))
 }
 
+/// Reads the rest of `out V`.
 pub fn out<'a, A: Allocator>(rest: Rest<'a>) -> Said<A>
     ensures { Says (codes "out") (left rest.entry) result }
 {
     Some(Ok(Request::Ask(Query::Out(one_number(rest)?))))
 }
 
+/// Reads the rest of `origin H`.
 pub fn origin<'a, A: Allocator>(rest: Rest<'a>) -> Said<A>
     ensures { Says (codes "origin") (left rest.entry) result }
 {
     Some(Ok(Request::Ask(Query::Origin(one_number(rest)?))))
 }
 
+/// Reads the rest of `between A B`.
 pub fn between<'a, A: Allocator>(rest: Rest<'a>) -> Said<A>
     ensures { Says (codes "between") (left rest.entry) result }
 {
@@ -399,12 +429,14 @@ pub fn between<'a, A: Allocator>(rest: Rest<'a>) -> Said<A>
     Some(Ok(Request::Ask(Query::Between(first, second))))
 }
 
+/// Reads the rest of `get V`.
 pub fn get<'a, A: Allocator>(rest: Rest<'a>) -> Said<A>
     ensures { Says (codes "get") (left rest.entry) result }
 {
     Some(Ok(Request::Ask(Query::Get(one_number(rest)?))))
 }
 
+/// Reads the rest of `check`.
 pub fn check<'a, A: Allocator>(rest: Rest<'a>) -> Said<A>
     ensures { Says (codes "check") (left rest.entry) result }
 {

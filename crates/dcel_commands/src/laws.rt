@@ -1,4 +1,5 @@
-//! Laws: what follows from the definitions alone. These calls compute nothing; whoever makes one learns what it ensures.
+//! Laws, which follow from the definitions alone. These calls compute nothing: a caller learns what
+//! they ensure.
 
 ghost use Rattle.std.specs.Prelude.{◌≡◌, ◌⊎◌, ◌↔◌, ℕ, List, Option, Some};
 ghost use Rattle.std.specs.List.Sorted.{IsNonDecreasingBy};
@@ -21,14 +22,16 @@ ghost use Rattle.dcel_commands.specs.declared.request.Query.{Query};
 ghost use Rattle.dcel_maps.specs.Removals.{opened_with};
 ghost use Rattle.dcel_maps.specs.Shapes.{IsMesh, Mesh, Shape};
 
-/// The conditions of each command and of each query stand in ascending order of their refusals' numbers.
+/// Orders conditions: those of each command and each query ascend by the numbers of their refusals.
 pub fn columns_ascend<V>()
     ensures commands { (limit : ℕ) (command : Instruction V) → IsNonDecreasingBy entry_number (asks limit command) }
     ensures queries { (query : Query) → IsNonDecreasingBy entry_number (query_asks query) }
 {}
 
-/// A command that is refused isn't legal, and its refusal has the least number among those of the conditions that aren't met. So it is
-/// with queries.
+/// Relates refusals to conditions: the least condition that isn't met is the one that refuses.
+///
+/// A command that is refused isn't legal, and its refusal has the least number among those of the
+/// conditions that aren't met. The same holds of queries.
 pub fn refusals_are_least<V>()
     ensures illegal { (s : Shape) (limit : ℕ) (command : Instruction V) (why : Refusal) → Refuses s limit command why → ¬ Legal s limit command }
     ensures least { (s : Shape) (limit : ℕ) (command : Instruction V) (why : Refusal) → Refuses s limit command why → IsLeast s (asks limit command) why }
@@ -38,8 +41,10 @@ pub fn refusals_are_least<V>()
     columns_ascend::<V>();
 }
 
-/// A command is legal, or exactly one refusal answers it: that of the first condition that isn't met. Want of memory refuses what is legal,
-/// and nothing else. A query is answered, or refused as a command is.
+/// Decides each command: it is legal, or there is exactly one refusal for it.
+///
+/// That is the refusal of the first condition that isn't met. Running out of memory refuses
+/// commands that are legal, and no others. A query is answered, or refused as a command is.
 pub fn a_command_is_legal_or_refused<V>()
     ensures commands { (s : Shape) (limit : ℕ) (command : Instruction V) → Legal s limit command ⊎ IsRefused s (asks limit command) }
     ensures memory { (s : Shape) (limit : ℕ) (command : Instruction V) (refused : Refused V) →
@@ -47,36 +52,47 @@ pub fn a_command_is_legal_or_refused<V>()
     ensures queries { (s : Shape) (query : Query) → AllMet s (query_asks query) ⊎ IsRefused s (query_asks query) }
 {}
 
-/// The text that answers a command or query which asks for what isn't met is its refusal, and the mesh stays as it was.
+/// Keeps the mesh: a command or query with a condition that isn't met changes nothing.
+///
+/// The reply to it is the text of its refusal. A line can also be refused for want of memory
+/// before anything is asked, if it has a list that isn't empty; this law isn't about that.
 pub fn an_illegal_request_changes_nothing()
     ensures { (limit : ℕ) (old new : State) (said : Saying) (text : List ℕ) → let asks = asked limit said in
         Does limit old said text new → ¬ AllMet old.shape asks →
         (why : Refusal) × FirstUnmet old.shape asks why × (text ≡ refusal_text why) × (new ≡ old) }
 {}
 
-/// A line is at most one command or query.
+/// Reads a line in one way: it is at most one command or query.
 pub fn a_line_is_at_most_one_command()
     ensures { (p q : Saying) (line : List ℕ) → Spells p line → Spells q line → p ≡ q }
 {}
 
-/// Where each live inner face of a mesh is a triangle, it is so after a list of commands; or one of them puts a face beside a half edge of
-/// an inner face, or splits one side of an edge whose other half lies on an inner face.
+/// Keeps triangles: if each live inner face is a triangle, that holds after a list of commands too.
+///
+/// Unless one of them puts a face beside a half edge of an inner face, or splits one side of an
+/// edge whose other half lies on an inner face.
 pub fn runs_keep_triangles<V, DE: Default, UE: Default, F: Default>()
     ensures { (limit : ℕ) (old new : Mesh V DE UE F) (commands : List (Instruction V)) (replies : List (Response V)) → IsMesh old →
         Run DE.is_default UE.is_default F.is_default limit old commands replies new →
         TrianglesStay DE.is_default UE.is_default F.is_default limit old commands replies new }
 {}
 
-/// What each command leaves of the removal record: an opening writes what it gives up; cleanup leaves the vertex that is still there, or
-/// closes it where there is none; `Remove`, `Clear` and `Triangle` close it; and all others leave it as it was.
+/// Tells what each command does with the removal record.
+///
+/// A command that opens a removal writes down what it gives up. `Cleanup` leaves the vertex that is
+/// still there, or closes the removal if there is none. `Remove`, `Clear` and `Triangle` close it,
+/// and all others leave it as it was.
 pub fn records_are_written_by_few<V, DE: Default, UE: Default, F: Default>()
     ensures { (limit : ℕ) (old new : Mesh V DE UE F) (command : Instruction V) (reply : Response V) →
         Takes DE.is_default UE.is_default F.is_default limit old command reply new → new.shape.removal ≡ record_after old command }
 {}
 
-/// A removal is one removal. What an opening is answered is what the mesh has given up then. Whatever other commands are carried out after
-/// it, cleanup takes out these edges and faces, and its lists name them; and whatever others are carried out after that, `Remove` takes
-/// out the vertex that was given up. Each leaves what is live with its words, its origins and its data, under new numbers.
+/// Ties the commands of a removal together, whatever other commands come between them.
+///
+/// The reply to the command that opens it lists what the mesh has then given up. `Cleanup` takes
+/// out these edges and faces, and its lists name them. After it `Remove` takes out the vertex that
+/// was given up. Each leaves the live elements with their words, origins and data, under new
+/// numbers.
 pub fn a_removal_is_one_removal<V, DE: Default, UE: Default, F: Default>()
     ensures opened { (limit : ℕ) (before begun : Mesh V DE UE F) (edges faces : List ℕ) (vertex : Option ℕ) →
         Opens DE.is_default UE.is_default F.is_default limit before edges faces vertex begun →

@@ -1,3 +1,4 @@
-//! Edges flipped until none is left that can be flipped and is wanted, by a rule of the caller's.
+//! Legalization: edges are flipped until the caller's rule wants no more of the flips that can be
+//! done.
 
 pub use dcel_legalize::{Legalized, legalize_edges};

@@ -1,5 +1,6 @@
-//! Commands over a half-edge mesh: each is tested and carried out, or refused by name and without effect. The runner reads
-//! commands, and queries of the mesh, as lines of text from a source of bytes and writes the replies to a sink.
+//! Commands for a half-edge mesh: each is tested and carried out, or refused by name and without
+//! effect. The runner reads commands and queries as lines of text from a source of bytes, and
+//! writes the replies to a sink.
 #![tactic(auto)]
 
 mod answering;

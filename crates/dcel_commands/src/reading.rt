@@ -1,4 +1,4 @@
-//! From the bytes of a line to what it says.
+//! Reads what a line says from its bytes.
 
 ghost use Rattle.dcel_text.specs.Items.{left};
 ghost use Rattle.dcel_commands.specs.Spelling.{Reads, Says};
@@ -8,10 +8,10 @@ use crate::given::Said;
 use dcel_text::items::{Rest, first};
 use std::alloc::Allocator;
 
-/// The most bytes that a line may have before its line feed.
+/// How many bytes a line may have before its line feed.
 const LONGEST: usize = 4096;
 
-/// What a line says after its first item, by that item.
+/// Reads what comes after the first item of a line, by the reader for that word.
 #[tactic(auto, using(crate::proofs::Spelling::same_word, crate::proofs::Spelling::no_word))]
 fn read_after<'a, A: Allocator + Copy>(word: &[u8], rest: Rest<'a>, memory: A) -> Said<A>
     ensures { Says word.now (left rest.entry) result }
@@ -50,7 +50,9 @@ fn read_after<'a, A: Allocator + Copy>(word: &[u8], rest: Rest<'a>, memory: A) -
     }
 }
 
-/// What a line says, if it is a command or a query, with its lists in this memory; or that there is none for them.
+/// Reads what a line says, with its lists in `memory`.
+///
+/// Returns `None` if the line is neither a command nor a query.
 pub fn read<A: Allocator + Copy>(line: &[u8], memory: A) -> Said<A>
     ensures { Reads line.now result }
 {

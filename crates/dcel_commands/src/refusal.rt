@@ -1,15 +1,15 @@
-//! Why a command isn't carried out.
+//! The refusals, by number and by name.
 
 ghost use Rattle.std.specs.Prelude.{◌≡◌};
 
-/// Why a command was refused, from the first reason that is looked at to the last.
+/// The reason why a command was refused, in the order in which reasons are tested.
 #[derive(Clone, Copy, Debug, PartialEq, Eq)]
 pub enum Refusal {
     /// A vertex's number is out of range.
     NoSuchVertex = 1,
     /// An edge's number is out of range.
     NoSuchEdge,
-    /// A face's number is out of range, or the outer face stands where an inner one is asked for.
+    /// A face's number is out of range, or it is the outer face where an inner one is asked for.
     NoSuchFace,
     /// A removal is open.
     RemovalOpen,
@@ -29,13 +29,13 @@ pub enum Refusal {
     NotBridge,
     /// The half edge isn't on the outer face.
     NotOuter,
-    /// A face that must have three half edges hasn't.
+    /// A face that must have three half edges doesn't.
     NotTriangle,
     /// An edge would join a vertex to itself.
     WouldLoop,
-    /// The half edges are no ring.
+    /// The half edges aren't the ring that is asked for.
     BadRing,
-    /// The half edges are no strip.
+    /// The half edges aren't the strip of a vertex.
     BadStrip,
     /// The lists aren't those of the open removal.
     WrongLists,
@@ -50,14 +50,14 @@ pub enum Refusal {
 impl Refusal {
     ghost use Rattle.dcel_commands.specs.Refusal.{refusal_number, name_of};
 
-    /// The number, from 1 to 20.
+    /// Returns the number, from 1 to 20.
     pub fn number(self) -> u8
         ensures { result ≡ refusal_number self }
     {
         self as u8
     }
 
-    /// The name, as in the code.
+    /// Returns the name, as in the code.
     pub fn name(self) -> &'static str
         ensures { result.now ≡ name_of self }
     {

@@ -1,4 +1,4 @@
-//! How replies and refusals are written.
+//! Writes replies and refusals as lines of text.
 
 ghost use Rattle.std.specs.Prelude.{◌≡◌};
 ghost use Rattle.dcel_text.specs.Output.{Writes};
@@ -17,7 +17,7 @@ use dcel_text::sink::LineSink;
 use spade_dcel::operations::{IsolateVertexResult, RemovalResult};
 use std::alloc::Allocator;
 
-/// Writes a refusal.
+/// Writes the line of a refusal.
 pub fn write_refusal<K: LineSink>(out: &mut Writer<'_, K>, why: Refusal)
     ensures { Writes K.has_failed K.contents out.old out.new (refusal_text why) }
 {
@@ -40,7 +40,7 @@ fn write_numbers<Kind, InnerOuter: InnerOuterMarker, K: LineSink>(
     }
 }
 
-/// Writes what a removal has given up, and the edges that it has put in.
+/// Writes the line of what a removal has given up, and of the edges that it has put in.
 fn write_opened<A: Allocator, K: LineSink>(out: &mut Writer<'_, K>, opened: &IsolateVertexResult<A>)
     ensures { Writes K.has_failed K.contents out.old out.new
         (opened_text opened.now.edges_to_remove.items opened.now.faces_to_remove.items opened.now.new_edges.items) }
@@ -54,7 +54,7 @@ fn write_opened<A: Allocator, K: LineSink>(out: &mut Writer<'_, K>, opened: &Iso
     out.write(b"\n");
 }
 
-/// Writes the vertex that moved in, if one did.
+/// Writes the vertex that moved into the place of another, if one did.
 fn write_moved<K: LineSink>(out: &mut Writer<'_, K>, moved: Option<FixedVertexHandle>)
     ensures { Writes K.has_failed K.contents out.old out.new (moved_text moved) }
 {
@@ -63,7 +63,7 @@ fn write_moved<K: LineSink>(out: &mut Writer<'_, K>, moved: Option<FixedVertexHa
     }
 }
 
-/// Writes the datum of a vertex that was taken out, and the vertex that moved in.
+/// Writes the line of a vertex that was taken out: its datum, and the vertex that moved in.
 fn write_removed<K: LineSink>(out: &mut Writer<'_, K>, removed: &RemovalResult<i64>)
     ensures { Writes K.has_failed K.contents out.old out.new
         (removed_text removed.now.removed_vertex removed.now.swapped_in_vertex) }
@@ -74,7 +74,7 @@ fn write_removed<K: LineSink>(out: &mut Writer<'_, K>, removed: &RemovalResult<i
     out.write(b"\n");
 }
 
-/// How many edges were flipped.
+/// Returns how many edges were flipped.
 fn flips(legalized: Legalized) -> usize
     ensures { result ≡ flips_told legalized }
 {
@@ -85,7 +85,7 @@ fn flips(legalized: Legalized) -> usize
     }
 }
 
-/// How a run of flips ended, in a word.
+/// Returns a word for how the flips ended, after a space.
 fn ending(legalized: Legalized) -> &'static str
     ensures { result.now ≡ ending_of legalized }
 {
@@ -96,7 +96,7 @@ fn ending(legalized: Legalized) -> &'static str
     }
 }
 
-/// Writes how many edges were flipped, and how that ended.
+/// Writes the line of how many edges were flipped, and how that ended.
 fn write_flips<K: LineSink>(out: &mut Writer<'_, K>, legalized: Legalized)
     ensures { Writes K.has_failed K.contents out.old out.new (flips_text legalized) }
 {
@@ -105,7 +105,7 @@ fn write_flips<K: LineSink>(out: &mut Writer<'_, K>, legalized: Legalized)
     out.write(b"\n");
 }
 
-/// Writes a reply.
+/// Writes the line of a reply.
 pub fn write_reply<A: Allocator, K: LineSink>(out: &mut Writer<'_, K>, reply: Reply<i64, A>)
     ensures { Writes K.has_failed K.contents out.old out.new (reply_text (response reply)) }
 {

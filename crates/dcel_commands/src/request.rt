@@ -1,5 +1,5 @@
-//! What a line says: a command, or a query. What each asks, and how it is carried out or told, stands in a file of its own, or in one
-//! with the lines of its form.
+//! What a line says: a command or a query. What each asks, and how it is carried out or told, has a
+//! file of its own, or shares one with the lines of the same form.
 
 pub mod append;
 pub mod at_edge;
@@ -40,13 +40,13 @@ use dcel_text::sink::LineSink;
 use spade_dcel::dcel::Dcel;
 use std::alloc::Allocator;
 
-/// The mesh that lines are about: all data are numbers.
+/// The mesh that lines are about, whose data are numbers.
 pub type LineMesh<A> = Dcel<i64, i64, i64, i64, A>;
 
-/// What a line can be told about a mesh, which stays as it is.
+/// A question about a mesh, which stays as it is.
 #[derive(Clone, Copy)]
 pub enum Query {
-    /// The numbers of vertices, edges and faces.
+    /// How many vertices, edges and faces there are.
     Counts,
     /// The word of each face.
     Words,
@@ -60,15 +60,15 @@ pub enum Query {
     Between(FixedVertexHandle, FixedVertexHandle),
     /// The datum of a vertex.
     Get(FixedVertexHandle),
-    /// Whether the mesh is checked.
+    /// Whether `sanity_check` finds the mesh triangulated.
     Check,
 }
 
-/// What a line says, with its lists in some memory.
+/// What a line says. Its lists are in the memory of `A`.
 #[derive(Drop)]
 pub enum Request<A: Allocator> {
-    /// It edits the mesh.
+    /// A command, which edits the mesh.
     Edit(Command<i64, A>),
-    /// It asks about the mesh.
+    /// A query about the mesh.
     Ask(Query),
 }

@@ -1,4 +1,4 @@
-//! A run over all lines of a source.
+//! The runner, which answers all lines of a source.
 
 ghost use Rattle.std.specs.Prelude.{◌≡◌, ◌≤◌, ◌^◌, true, false, OnOk};
 ghost use Rattle.dcel_commands.specs.Run.{AnswersAll, AnswersWholeLines, AnswersInPart};
@@ -10,17 +10,22 @@ use dcel_text::sink::LineSink;
 use dcel_text::source::LineSource;
 use std::alloc::Allocator;
 
-/// The most bytes that are read at once.
+/// How many bytes are read at once.
 const PIECE: usize = 16384;
 
-/// Reads lines to the end of the source and writes the reply to each, starting from an empty mesh. A line is a command, a query or
-/// a bad line; one that is refused changes nothing, and the run goes on.
+/// Reads lines to the end of the source, and writes the reply to each.
 ///
-/// It asks that neither the source nor the sink has failed, and for a `limit` of at most 2^31: no more vertices, edges or faces are
-/// made. At `Ok` all bytes were read and the sink took all replies; where a writer below it holds bytes back, as a `BufWriter`, the
-/// caller still has to flush it. [`RunFault::Memory`] comes where there is none for the first mesh, before anything is read;
-/// [`RunFault::Read`] where the source failed, and then each line that was read whole is answered; [`RunFault::Write`] where the sink
-/// failed, and then a beginning of the replies stands written.
+/// It starts from an empty mesh. A line is a command, a query or a bad line. One that is refused
+/// changes nothing, and the run goes on.
+///
+/// Asks that neither the source nor the sink has failed, and for a `limit` of at most 2^31: a
+/// command that would make more vertices, edges or faces than that is refused.
+///
+/// After `Ok` all bytes were read and the sink took all replies. If a writer below the sink holds
+/// bytes back, such as a `BufWriter`, the caller still has to flush it. Returns
+/// [`RunFault::Memory`] if there is no memory for the first mesh, before anything is read;
+/// [`RunFault::Read`] if the source failed, and each line that was read whole is answered then;
+/// [`RunFault::Write`] if the sink failed, and the sink has a beginning of the replies then.
 pub fn run<A: Allocator + Clone, S: LineSource, K: LineSink>(
     alloc: A,
     source: &mut S,

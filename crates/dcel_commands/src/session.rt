@@ -1,4 +1,4 @@
-//! A conversation: the bytes of its lines come in pieces, and the replies go to a writer.
+//! A session: the bytes of lines come in pieces, and the replies go to a writer.
 
 ghost use Rattle.std.specs.Prelude.{◌≡◌, ◌≤◌, ◌^◌, ◌++◌, ◌∷◌, ℕ, [], IfOk};
 ghost use Rattle.dcel_text.specs.Lines.{HasNoFeed, line_feed};
@@ -15,10 +15,11 @@ use spade_dcel::operations;
 use std::alloc::{AllocError, Allocator};
 use std::marker::Model;
 
-/// One byte more than a line may have: a line that fills the buffer is too long, however it goes on.
+/// One byte more than a line may have, so that a line which fills the buffer is too long however it
+/// goes on.
 const FULL: usize = 4097;
 
-/// The mesh, the memory that lines have their lists in, and the line that has begun.
+/// The mesh, the memory for the lists of lines, and the line that has begun.
 #[derive(Drop)]
 pub struct Session<A: Allocator> {
     mesh: LineMesh<A>,
@@ -35,7 +36,7 @@ impl<A: Allocator> Model for Session<A> {
 }
 
 impl<A: Allocator + Clone> Session<A> {
-    /// Nothing was read.
+    /// Starts with an empty mesh, before anything is read.
     pub fn new(alloc: A) -> Result<Self, AllocError>
         ensures { IfOk result (λ session. session ≡ record { mesh = start; begun = [] }) }
     {
@@ -49,7 +50,7 @@ impl<A: Allocator + Clone> Session<A> {
 }
 
 impl<A: Allocator + Clone> Session<A> {
-    /// Takes the last bytes of a line and answers it.
+    /// Takes the last bytes of a line, and answers it.
     fn end_line<K: LineSink>(&mut self, out: &mut Writer<'_, K>, limit: usize, last: &[u8])
         requires no_feed { HasNoFeed last.now }
         requires in_range { limit ≤ 2 ^ 31 }
@@ -72,7 +73,7 @@ impl<A: Allocator + Clone> Session<A> {
         }
     }
 
-    /// Takes the next bytes, and answers the lines that end in them.
+    /// Takes the next bytes, and answers each line that ends in them.
     pub fn feed<K: LineSink>(&mut self, out: &mut Writer<'_, K>, limit: usize, piece: &[u8])
         requires { limit ≤ 2 ^ 31 }
         ensures { Serves K.has_failed K.contents limit self.old self.new piece.now out.old out.new }
@@ -85,7 +86,7 @@ impl<A: Allocator + Clone> Session<A> {
         self.line.add_some(rest);
     }
 
-    /// Answers a last line without a line feed.
+    /// Answers a last line that has no line feed, unless it is empty.
     pub fn finish<K: LineSink>(&mut self, out: &mut Writer<'_, K>, limit: usize)
         requires { limit ≤ 2 ^ 31 }
         ensures { Ends K.has_failed K.contents limit self.old out.old out.new }

@@ -1,7 +1,9 @@
-//! Reads commands to a half-edge mesh from standard input, a line each, and writes the replies to standard output.
+//! Reads commands for a half-edge mesh from standard input, one a line, and writes the replies to
+//! standard output.
 //!
-//! It ends with status 0 at the end of the input, also where commands were refused. Where a read or a write fails, or there is no memory for
-//! the first mesh, it says so on standard error and ends with status 1.
+//! At the end of the input it exits with status 0, even if commands were refused. If a read or a
+//! write fails, or there is no memory for the first mesh, it says so on standard error and exits
+//! with status 1.
 #![tactic(auto)]
 
 ghost use Rattle.std.specs.Prelude.{◌≡◌, ◌^◌, false, OnOk};
@@ -23,7 +25,9 @@ fn main(rt: HostRuntime) -> ExitCode {
     }
 }
 
-/// Answers all lines of the source, under the greatest limit: there may be 2^31 vertices, as many edges and as many faces.
+/// Answers all lines of the source, under the greatest limit.
+///
+/// There may be 2^31 vertices, as many edges and as many faces.
 fn answer_all<A: Allocator + Clone, S: LineSource, K: LineSink>(
     alloc: A,
     source: &mut S,

@@ -1,10 +1,10 @@
-//! Bytes, up to a number of them.
+//! A buffer of bytes with a fixed capacity.
 
 ghost use Rattle.std.specs.Prelude.{◌≡◌, ◌↔◌, ◌+◌, ◌≤◌, ◌++◌, [], IsTrue, length, take};
 
 use std::marker::Model;
 
-/// At most N bytes.
+/// A list of at most `N` bytes, held in place: it never allocates.
 #[derive(Drop)]
 pub struct Buffer<const N: usize> {
     bytes: [u8; N],
@@ -22,7 +22,7 @@ impl<const N: usize> Model for Buffer<N> {
 }
 
 impl<const N: usize> Buffer<N> {
-    /// No byte.
+    /// Creates an empty buffer.
     pub fn new() -> Self
         ensures { result ≡ [] }
     {
@@ -32,14 +32,16 @@ impl<const N: usize> Buffer<N> {
         }
     }
 
-    /// How many more there is room for.
+    /// Returns how many more bytes fit.
     pub fn room(&self) -> usize
         ensures { length self.now + result ≡ N }
     {
         N - self.len
     }
 
-    /// Adds the bytes.
+    /// Appends the bytes.
+    ///
+    /// Asks that they fit ([`room`](Self::room)).
     pub fn add(&mut self, bytes: &[u8])
         requires { length self.old + length bytes.now ≤ N }
         ensures { self.new ≡ self.old ++ bytes.now }
@@ -50,7 +52,7 @@ impl<const N: usize> Buffer<N> {
         self.len = end;
     }
 
-    /// Adds the bytes, as far as there is room for them.
+    /// Appends as many of the bytes as fit, and drops the others.
     pub fn add_some(&mut self, bytes: &[u8])
         ensures { self.new ≡ take N (self.old ++ bytes.now) }
     {
@@ -58,7 +60,7 @@ impl<const N: usize> Buffer<N> {
         self.add(&bytes[..count]);
     }
 
-    /// The bytes.
+    /// Returns the bytes.
     pub fn as_slice(&self) -> &[u8]
         ensures { result.now ≡ self.now }
     {
@@ -66,14 +68,14 @@ impl<const N: usize> Buffer<N> {
         &all[..self.len]
     }
 
-    /// Whether there is none.
+    /// Returns whether there is no byte.
     pub fn is_empty(&self) -> bool
         ensures { IsTrue result ↔ (self.now ≡ []) }
     {
         self.len == 0
     }
 
-    /// Takes all bytes away.
+    /// Removes all bytes.
     pub fn clear(&mut self)
         ensures { self.new ≡ [] }
     {

@@ -1,5 +1,5 @@
-//! Why a transfer stops early.
+//! The fault of a read or a write.
 
-/// A read or a write failed.
+/// The error of a read or a write that failed. It doesn't say why.
 #[derive(Debug, Drop)]
 pub struct Failed;

@@ -1,4 +1,4 @@
-//! The items of a line, which one space parts from one another.
+//! The items of a line, which are separated by single spaces.
 
 ghost use Rattle.std.specs.Prelude.{◌≡◌, ◌≢◌, [], ◌∷◌, ℕ, ℤ, List, IfSome, MatchOption, length};
 ghost use Rattle.std.specs.Fmt.{decimal, signed_decimal};
@@ -7,10 +7,14 @@ ghost use Rattle.dcel_text.specs.Items.{items_of, left, BeginsWith, slash};
 
 use crate::numbers::{datum, natural};
 
-/// The items that are still to be read: none, or those of the bytes.
+/// The items of a line that are still to be read: none, or the items of these bytes.
+///
+/// `Some` of no bytes is one empty item.
 pub type Rest<'a> = Option<&'a [u8]>;
 
-/// The first item of the bytes, and the others.
+/// Splits off the first item of the bytes.
+///
+/// Returns that item and the others. Empty bytes are one empty item.
 pub fn first(bytes: &[u8]) -> (&[u8], Rest<'_>)
     ensures { items_of bytes.now ≡ result.0.now ∷ left result.1 }
 {
@@ -22,7 +26,10 @@ pub fn first(bytes: &[u8]) -> (&[u8], Rest<'_>)
     (bytes, None)
 }
 
-/// The number that comes next, and what comes after it.
+/// Reads the number that comes next.
+///
+/// Returns it with the items after it, or `None` if the next item isn't a number below 2^32
+/// in decimals without leading zeros.
 pub fn number_then<'a>(rest: Rest<'a>) -> Option<(u32, Rest<'a>)>
     ensures read { MatchOption result
         ((n : ℕ) (more : List (List ℕ)) → IsNumber n → left rest.entry ≢ decimal n ∷ more)
@@ -38,7 +45,10 @@ pub fn number_then<'a>(rest: Rest<'a>) -> Option<(u32, Rest<'a>)>
     }
 }
 
-/// The datum that comes next, and what comes after it.
+/// Reads the datum that comes next.
+///
+/// Returns it with the items after it, or `None` if the next item isn't an `i64` in decimals
+/// without leading zeros.
 pub fn datum_then<'a>(rest: Rest<'a>) -> Option<(i64, Rest<'a>)>
     ensures { MatchOption result
         ((d : ℤ) (more : List (List ℕ)) → IsDatum d → left rest.entry ≢ signed_decimal d ∷ more)
@@ -48,7 +58,9 @@ pub fn datum_then<'a>(rest: Rest<'a>) -> Option<(i64, Rest<'a>)>
     Some((datum(item)?, others))
 }
 
-/// How many numbers come next, and what comes after them.
+/// Counts the numbers that come next, up to the first item that isn't a number.
+///
+/// Returns the count with the items after these numbers. It does not allocate.
 pub fn count_numbers<'a>(rest: Rest<'a>) -> (usize, Rest<'a>)
     ensures { (numbers : List ℕ) × BeginsWith (left rest.entry) numbers (left result.1) × (result.0 ≡ length numbers) }
 {
@@ -66,7 +78,9 @@ pub fn count_numbers<'a>(rest: Rest<'a>) -> (usize, Rest<'a>)
     (most, others)
 }
 
-/// The slash that comes next, and what comes after it.
+/// Reads the slash that comes next.
+///
+/// Returns the items after it, or `None` if the next item isn't a slash.
 pub fn slash_then<'a>(rest: Rest<'a>) -> Option<Rest<'a>>
     ensures { MatchOption result
         ((more : List (List ℕ)) → left rest.entry ≢ slash ∷ more)
@@ -80,7 +94,7 @@ pub fn slash_then<'a>(rest: Rest<'a>) -> Option<Rest<'a>>
     }
 }
 
-/// Nothing more.
+/// Returns `Some` if no item is left.
 pub fn nothing(rest: Rest<'_>) -> Option<()>
     ensures { MatchOption result (left rest.entry ≢ []) (λ _. left rest.entry ≡ []) }
 {

@@ -1,4 +1,5 @@
-//! Text: bytes from a source, cut into lines and their items; numbers in digits; and text on its way to a sink.
+//! Text: bytes from a source, split into lines and their items; numbers in decimals; and text on
+//! its way to a sink.
 #![tactic(auto)]
 
 pub mod buffer;

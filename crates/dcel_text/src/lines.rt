@@ -1,9 +1,11 @@
-//! Lines, cut off at their line feeds.
+//! Lines, which end at line feeds.
 
 ghost use Rattle.std.specs.Prelude.{◌≡◌, ◌++◌, ◌∷◌, MatchOption};
 ghost use Rattle.dcel_text.specs.Lines.{HasNoFeed, line_feed};
 
-/// The bytes before the first line feed, and those after it.
+/// Splits the bytes at the first line feed.
+///
+/// Returns what comes before it and what comes after it, or `None` if there is no line feed.
 pub fn split_line(bytes: &[u8]) -> Option<(&[u8], &[u8])>
     ensures { MatchOption result
         (HasNoFeed bytes.now)

@@ -1,10 +1,13 @@
-//! Numbers read from digits.
+//! Numbers read from their decimals.
 
 ghost use Rattle.std.specs.Prelude.{◌≡◌, ◌≢◌, ◌<◌, ◌^◌, ℕ, ℤ, MatchOption};
 ghost use Rattle.std.specs.Fmt.{decimal, signed_decimal};
 ghost use Rattle.dcel_text.specs.Numbers.{IsDatum};
 
-/// The number below 10^19 that the item is the decimals of.
+/// Reads a number below 10^19 from its decimals.
+///
+/// Returns `None` if the item isn't the decimals of such a number; a leading zero makes it none.
+/// Every `u32` is below that, and every sum here fits into a `u64`.
 pub fn natural(item: &[u8]) -> Option<u64>
     ensures { MatchOption result ((n : ℕ) → n < 10 ^ 19 → item.now ≢ decimal n) (λ n. item.now ≡ decimal n) }
 {
@@ -27,7 +30,9 @@ pub fn natural(item: &[u8]) -> Option<u64>
     Some(value)
 }
 
-/// The datum that the item is the decimals of.
+/// Reads an `i64` from its decimals.
+///
+/// Returns `None` if the item isn't the decimals of an `i64`. `-0` is none.
 pub fn datum(item: &[u8]) -> Option<i64>
     ensures { MatchOption result ((d : ℤ) → IsDatum d → item.now ≢ signed_decimal d) (λ d. item.now ≡ signed_decimal d) }
 {

@@ -1,4 +1,4 @@
-//! Text on its way to a sink.
+//! A writer that collects text before it goes to a sink.
 
 ghost use Rattle.std.specs.Prelude.{◌≡◌, ◌∷◌, []};
 ghost use Rattle.std.specs.Fmt.{decimal, signed_decimal};
@@ -8,13 +8,15 @@ ghost use Rattle.dcel_text.specs.Texts.{numbered};
 use crate::buffer::Buffer;
 use crate::sink::LineSink;
 
-/// The most bytes that are held.
+/// How many bytes a [`Writer`] holds at most.
 const ROOM: usize = 4096;
 
-/// The most digits that a number has.
+/// How many digits a `u64` has at most.
 const MOST_DIGITS: usize = 20;
 
-/// Puts the bytes, as long as the sink doesn't fail.
+/// Puts the bytes into the sink until all are taken or the sink fails.
+///
+/// A sink that has failed gets none.
 fn send<K: LineSink>(sink: &mut K, bytes: &[u8])
     ensures { Writing K.has_failed K.contents sink.old [] sink.new [] bytes.now }
 {
@@ -30,7 +32,10 @@ fn send<K: LineSink>(sink: &mut K, bytes: &[u8])
     }
 }
 
-/// A sink, and text that is held until there is enough of it to be put. Once a `put` has failed, nothing more is.
+/// A writer to a sink, which holds text until there is enough of it to be put.
+///
+/// It has no `Result`: once the sink has failed, nothing more is put, and
+/// [`failed`](Self::failed) tells so.
 #[derive(Drop)]
 pub struct Writer<'a, K: LineSink> {
     sink: &'a mut K,
@@ -38,7 +43,7 @@ pub struct Writer<'a, K: LineSink> {
 }
 
 impl<'a, K: LineSink> Writer<'a, K> {
-    /// Holds nothing.
+    /// Creates a writer that holds nothing.
     pub fn new(sink: &'a mut K) -> Writer<'a, K>
         ensures same_reference { result.sink.ghost_name ≡ sink.entry.ghost_name }
         ensures sink { result.sink.now ≡ sink.old }
@@ -50,14 +55,14 @@ impl<'a, K: LineSink> Writer<'a, K> {
         }
     }
 
-    /// Whether the sink has failed.
+    /// Returns whether the sink has failed.
     pub fn failed(&self) -> bool
         ensures { result ≡ K.has_failed self.now.sink.now }
     {
         self.sink.failed()
     }
 
-    /// Puts what is held.
+    /// Puts what is held into the sink.
     pub fn flush(&mut self)
         ensures writes { Writes K.has_failed K.contents self.old self.new [] }
         ensures empty { self.new.held ≡ [] }
@@ -67,6 +72,8 @@ impl<'a, K: LineSink> Writer<'a, K> {
     }
 
     /// Writes the bytes.
+    ///
+    /// They stay here until more come than fit, or until [`flush`](Self::flush).
     pub fn write(&mut self, bytes: &[u8])
         ensures { Writes K.has_failed K.contents self.old self.new bytes.now }
     {
@@ -82,7 +89,7 @@ impl<'a, K: LineSink> Writer<'a, K> {
         }
     }
 
-    /// Writes the decimals of a number.
+    /// Writes a number in decimals.
     pub fn number(&mut self, n: u64)
         ensures { Writes K.has_failed K.contents self.old self.new (decimal n) }
     {
@@ -98,7 +105,7 @@ impl<'a, K: LineSink> Writer<'a, K> {
         self.write(&slot[at..]);
     }
 
-    /// Writes the decimals of a datum.
+    /// Writes a datum in decimals, with a minus sign if it is below zero.
     pub fn datum(&mut self, d: i64)
         ensures { Writes K.has_failed K.contents self.old self.new (signed_decimal d) }
     {
@@ -108,7 +115,7 @@ impl<'a, K: LineSink> Writer<'a, K> {
         self.number(d.unsigned_abs());
     }
 
-    /// Writes a word and a number after it.
+    /// Writes a word and then a number.
     pub fn numbered(&mut self, word: &[u8], n: u64)
         ensures { Writes K.has_failed K.contents self.old self.new (numbered word.now n) }
     {
@@ -116,7 +123,7 @@ impl<'a, K: LineSink> Writer<'a, K> {
         self.number(n);
     }
 
-    /// Writes a number after a space.
+    /// Writes a space and then a number.
     pub fn spaced_number(&mut self, n: u64)
         ensures { Writes K.has_failed K.contents self.old self.new (32 ∷ decimal n) }
     {

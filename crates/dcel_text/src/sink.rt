@@ -1,4 +1,4 @@
-//! Where replies go.
+//! Sinks, which take the bytes of replies.
 
 ghost use Rattle.std.specs.Prelude.{◌≡◌, ◌<◌, ℕ, Bool, true, false, List, Option, IfOk, OnOk, OnErr, length};
 ghost use Rattle.std.specs.Io.{WritesAtMost};
@@ -7,7 +7,9 @@ ghost use Rattle.dcel_text.specs.Transfer.{PutTakes, PutsOnce};
 use crate::faults::Failed;
 use crate::once::WriteOnce;
 
-/// A sink of bytes. It may tell a contract the bytes that it took, or not.
+/// A sink of bytes.
+///
+/// A contract may know the bytes that it took, or not.
 pub trait LineSink {
     // the bytes taken, where the sink tells them
     ghost contents: { Self → Option (List ℕ) };
@@ -15,9 +17,10 @@ pub trait LineSink {
     // whether a call has failed
     ghost has_failed: { Self → Bool };
 
-    /// Takes the first n bytes and answers `Ok(n)`, with n at 0 only for empty `bytes`: what was taken
-    /// before stays in front of them. After an `Err` the sink has failed, and the bytes taken are as
-    /// before, or told no more.
+    /// Takes the first bytes of `bytes`, and returns how many.
+    ///
+    /// At least one is taken, unless `bytes` is empty; they come after those taken before. After
+    /// an `Err` the sink has failed, and the bytes taken are as before, or no longer known.
     fn put(&mut self, bytes: &[u8]) -> Result<usize, Failed>
         ensures bound { WritesAtMost result bytes.now }
         ensures bytes { PutTakes (contents self.old) (contents self.new) result bytes.now }
@@ -25,15 +28,15 @@ pub trait LineSink {
         ensures calm { OnOk result (has_failed self.new ≡ has_failed self.old) }
         ensures fails { OnErr result (has_failed self.new ≡ true) };
 
-    /// Whether a call of `put` has failed.
+    /// Returns whether a call of [`put`](Self::put) has failed.
     fn failed(&self) -> bool
         ensures { result ≡ has_failed self.now };
 }
 
-/// A sink of bytes that go to a writer. Each call of `put` writes once.
+/// A sink whose bytes go to a writer. Each call of `put` writes once.
 ///
-/// What is taken is what the writer took. One that holds bytes back, as a `BufWriter`, may not have passed them on: flush it after
-/// `into_inner`.
+/// The bytes taken are those that the writer took. A writer that holds bytes back, such as a
+/// `BufWriter`, may not have passed them on: flush it after [`into_inner`](Self::into_inner).
 #[derive(Drop)]
 pub struct StdSink<W: WriteOnce + Drop> {
     writer: W,
@@ -41,7 +44,7 @@ pub struct StdSink<W: WriteOnce + Drop> {
 }
 
 impl<W: WriteOnce + Drop> StdSink<W> {
-    /// A sink whose bytes come after what the writer has, and which hasn't failed.
+    /// Creates a sink that hasn't failed, and whose bytes come after those that the writer has.
     pub fn new(writer: W) -> Self
         ensures bytes { ⟦<StdSink<W> as LineSink>⟧.contents result ≡ W.contents writer }
         ensures calm { ⟦<StdSink<W> as LineSink>⟧.has_failed result ≡ false }
@@ -53,7 +56,7 @@ impl<W: WriteOnce + Drop> StdSink<W> {
         }
     }
 
-    /// The writer, as the writes left it.
+    /// Returns the writer, as the writes left it.
     pub fn into_inner(self) -> W
         ensures writer { result ≡ self.writer }
         ensures bytes { W.contents result ≡ ⟦<StdSink<W> as LineSink>⟧.contents self }
@@ -67,7 +70,9 @@ impl<W: WriteOnce + Drop> LineSink for StdSink<W> {
 
     ghost has_failed = { λ s. s.failed };
 
-    /// Writes once and answers what that write took. It fails where that write failed, or took no byte of a text that isn't empty.
+    /// Writes once, and returns how many bytes that write took.
+    ///
+    /// Fails if that write failed, or took no byte although `bytes` isn't empty.
     fn put(&mut self, bytes: &[u8]) -> Result<usize, Failed>
         // As at every sink.
         ensures bound { WritesAtMost result bytes.now }

@@ -1,4 +1,4 @@
-//! Where lines come from.
+//! Sources, which give the bytes of lines.
 
 ghost use Rattle.std.specs.Prelude.{◌≡◌, ◌<◌, ◌+◌, ◌-◌, ◌^◌, ◌↔◌, ℕ, Bool, true, false, List, Option, IfOk, OnOk, OnErr, IsErr, length};
 ghost use Rattle.std.specs.Io.{ReadsAtMost};
@@ -8,7 +8,9 @@ ghost use Rattle.dcel_text.specs.Transfer.{FillGives, IsAtEnd-prop};
 use crate::faults::Failed;
 use crate::once::ReadOnce;
 
-/// A source of bytes. It may tell a contract the bytes to come, or not.
+/// A source of bytes.
+///
+/// A contract may know the bytes to come, or not.
 pub trait LineSource {
     // the bytes to come, where the source tells them
     ghost remaining: { Self → Option (List ℕ) };
@@ -19,9 +21,10 @@ pub trait LineSource {
     // a number that falls with each call that gives a byte
     ghost calls_left: { Self → ℕ };
 
-    /// Puts the next n bytes at the front of `buf` and answers `Ok(n)`, with n at 0 only at the end or
-    /// for an empty `buf`. After an `Err` the source has failed, and the bytes to come are as before, or
-    /// told no more.
+    /// Puts the next bytes at the front of `buf`, and returns how many.
+    ///
+    /// Returns 0 only at the end or for an empty `buf`. After an `Err` the source has failed, and
+    /// the bytes to come are as before, or no longer known.
     fn fill(&mut self, buf: &mut [u8]) -> Result<usize, Failed>
         ensures bound { ReadsAtMost result buf.new }
         ensures bytes { FillGives (remaining self.old) (remaining self.new) result buf.new }
@@ -29,18 +32,20 @@ pub trait LineSource {
         ensures calm { OnOk result (has_failed self.new ≡ has_failed self.old) }
         ensures fails { OnErr result (has_failed self.new ≡ true) };
 
-    /// Whether a call of `fill` has failed.
+    /// Returns whether a call of [`fill`](Self::fill) has failed.
     fn failed(&self) -> bool
         ensures { result ≡ has_failed self.now };
 }
 
-/// A source of the bytes that a reader gives. Each call of `fill` reads at most once.
+/// A source whose bytes come from a reader. Each call of `fill` reads at most once.
+///
+/// It reads at most 2^64 - 1 times, so that a loop over it ends whatever the reader gives.
 #[derive(Drop)]
 pub struct StdSource<R: ReadOnce + Drop> {
     reader: R,
-    /// How many reads are left.
+    /// The number of reads that are left.
     reads_left: u64,
-    /// Whether a read came to the reader's end.
+    /// Whether a read reached the reader's end.
     ended: bool,
     failed: bool,
     // an ended reader has no known byte left
@@ -48,7 +53,7 @@ pub struct StdSource<R: ReadOnce + Drop> {
 }
 
 impl<R: ReadOnce + Drop> StdSource<R> {
-    /// A source of what the reader has left: it has 2^64 - 1 reads left, and has neither ended nor failed.
+    /// Creates a source of what the reader has left, which has neither ended nor failed.
     pub fn new(reader: R) -> Self
         ensures bytes { ⟦<StdSource<R> as LineSource>⟧.remaining result ≡ R.remaining reader }
         ensures calm { ⟦<StdSource<R> as LineSource>⟧.has_failed result ≡ false }
@@ -64,7 +69,7 @@ impl<R: ReadOnce + Drop> StdSource<R> {
         }
     }
 
-    /// The reader, as the reads left it.
+    /// Returns the reader, as the reads left it.
     pub fn into_inner(self) -> R
         ensures reader { result ≡ self.reader }
         ensures bytes { R.remaining result ≡ ⟦<StdSource<R> as LineSource>⟧.remaining self }
@@ -80,8 +85,10 @@ impl<R: ReadOnce + Drop> LineSource for StdSource<R> {
 
     ghost calls_left = { λ s. s.reads_left };
 
-    /// Reads once and answers what that read gave, failing where it failed; it fails without a read after 2^64 - 1 reads. When a
-    /// read with room in `buf` has given nothing, the source has ended: from then on it answers 0 and reads no more.
+    /// Reads once, and returns what that read gave.
+    ///
+    /// Fails if that read failed, and without a read after 2^64 - 1 reads. If a read gives nothing
+    /// although `buf` has room, the source has ended: from then on this returns 0 and doesn't read.
     #[tactic(auto, using(crate::proofs::Reading::reads_nothing))]
     fn fill(&mut self, buf: &mut [u8]) -> Result<usize, Failed>
         // As at every source.
@@ -96,7 +103,7 @@ impl<R: ReadOnce + Drop> LineSource for StdSource<R> {
         ensures counts { self.old.ended ≡ false → 0 < self.old.reads_left → self.new.reads_left + 1 ≡ self.old.reads_left }
         ensures ends { self.old.ended ≡ false → (self.new.ended ≡ true) ↔ ((result ≡ Ok 0) × 0 < length buf.old) }
 
-        // After the end nothing is read, and where no read is left.
+        // Nothing is read after the end, or if no read is left.
         ensures ended { self.old.ended ≡ true → (result ≡ Ok 0) × (self.new ≡ self.old) × (buf.new ≡ buf.old) }
         ensures used_up { self.old.ended ≡ false → self.old.reads_left ≡ 0 →
             IsErr result × (self.new.reader ≡ self.old.reader) × (self.new.reads_left ≡ 0) × (buf.new ≡ buf.old) }

@@ -1,4 +1,4 @@
-//! How commands are carried out.
+//! Carries commands out, each by its file in `request`.
 
 ghost use Rattle.std.specs.Prelude.{◌≡◌, ◌≤◌, ◌^◌, IfOk, IfErr, OnOk, OnErr};
 ghost use Rattle.dcel_commands.specs.Instructions.{instruction};
@@ -18,20 +18,23 @@ use spade_dcel::dcel::Dcel;
 use spade_dcel::laws;
 use std::alloc::Allocator;
 
-/// The greatest limit that [`apply`] and [`run`](crate::run::run) take, 2^31: there are numbers for so many edges.
+/// The greatest limit that [`apply`] and [`run`](crate::run::run) take, 2^31.
+///
+/// Handles have numbers for that many edges.
 pub const MAX_LIMIT: usize = 2_147_483_648;
 
 /// Carries a command out, or refuses it and leaves the mesh as it was.
 ///
-/// What the command asks is tested in the order of the refusals' numbers, and the first condition that isn't met says which
-/// refusal comes. Where all are met, the reply is that of the edit, or the command is refused as [`Refusal::OutOfMemory`] where a
-/// growth found no memory. A refusal hands back the data that the command carried.
+/// The conditions of the command are tested in the order of the refusals' numbers, and the first
+/// that isn't met decides which refusal is returned. If all are met, the command is carried out, or
+/// refused as [`Refusal::OutOfMemory`](crate::commands::Refusal) if the mesh finds no memory to
+/// grow. A refusal hands back the data that the command carried.
 ///
-/// The limit, at most 2^31, bounds the counts of vertices, undirected edges and faces: a command that adds elements is refused as
-/// [`Refusal::NoRoom`] where one of these counts, with what the command adds to it, is above the limit, and `Triangle` where one of the
-/// counts of the new mesh is.
+/// The limit, at most 2^31, bounds the counts of vertices, undirected edges and faces. A command
+/// that adds elements is refused as [`Refusal::NoRoom`](crate::commands::Refusal) if one of these
+/// counts would be above the limit, and so is `Triangle` if a count of the new mesh would be.
 ///
-/// While a removal is open, all else is as ever with the elements that are live.
+/// While a removal is open, the live elements can be edited as ever.
 pub fn apply<
     V: Drop,
     DE: Default + Drop,

@@ -1,4 +1,4 @@
-//! Commands one after another.
+//! Lists of commands, carried out one after another.
 
 ghost use Rattle.std.specs.Prelude.{◌≡◌, ◌≤◌, ◌^◌, IfOk, IfErr, map};
 ghost use Rattle.dcel_commands.specs.Instructions.{instruction};
@@ -16,26 +16,32 @@ use spade_dcel::dcel::Dcel;
 use spade_dcel::laws;
 use std::alloc::{Allocator, Global};
 
-/// That a list of commands came to a stop: one of them was refused, or there was no memory for the replies.
+/// How far a list of commands was carried out before it stopped.
+///
+/// One of them was refused, or there was no memory for the replies.
 #[derive(Drop)]
 pub struct StoppedAt<V, A: Allocator = Global, B: Allocator = Global> {
     /// The replies to the commands that were carried out.
     pub done: Vec<Reply<V, A>, B>,
-    /// How many these are: the place in the list of the command that was refused.
+    /// How many these are, which is the index of the command that was refused.
     pub at: usize,
     /// Its refusal, with the data that it carried.
     pub refused: Refused<V>,
 }
 
-/// Carries the commands out, one after another, and gives the reply to each; or stops at the first that is refused.
+/// Carries the commands out one after another, up to the first that is refused.
 ///
-/// The limit, at most 2^31, is that of [`apply`] for each of them. The memory for the replies is taken first, from the allocator of the
-/// list. Where there is none, the refusal is [`Refusal::OutOfMemory`] at 0, no data come back, and the mesh is as it was. Else the mesh
-/// is that of the commands before the one that was refused, whose replies come back. The commands after it are let go. Either way the
-/// mesh that is left is a connected map on the sphere, as [`the_headline`](spade_dcel::laws::the_headline) says.
+/// Asks for a limit of at most 2^31, which holds for each of them as in [`apply`].
 ///
-/// Where each live inner face is a triangle it is so afterwards, unless a command that was carried out puts a face beside a half edge
-/// of an inner face, or splits one side of an edge whose other half lies on an inner face.
+/// Returns the reply to each command. The memory for the replies is taken first, from the allocator
+/// of the list. If there is none, the refusal is [`Refusal::OutOfMemory`] at 0, no data come back,
+/// and the mesh is as it was. If a command is refused, the commands before it stay carried out and
+/// their replies come back; those after it are dropped. In each case the mesh that is left is a
+/// connected map on the sphere, as [`the_headline`](spade_dcel::laws::the_headline) says.
+///
+/// If each live inner face is a triangle, that holds afterwards too, unless a command that was
+/// carried out puts a face beside a half edge of an inner face, or splits one side of an edge whose
+/// other half lies on an inner face.
 pub fn apply_all<
     V: Drop,
     DE: Default + Drop,

@@ -1,4 +1,4 @@
-//! What a command is answered.
+//! The replies to commands, and their refusals with the data handed back.
 
 use crate::refusal::Refusal;
 use dcel_fixed::{FixedDirectedEdgeHandle, FixedVertexHandle};
@@ -6,18 +6,18 @@ use dcel_legalize::Legalized;
 use spade_dcel::operations::{IsolateVertexResult, RemovalResult};
 use std::alloc::{AllocError, Allocator, Global};
 
-/// The answer to a command that was carried out.
+/// The reply to a command that was carried out.
 #[derive(Drop)]
 pub enum Reply<V, A: Allocator = Global> {
-    /// It was carried out, and there is nothing more to say.
+    /// There is nothing more to say.
     Ok,
     /// The vertex that was added, or that an edge now leads to.
     Vertex(FixedVertexHandle),
     /// A half edge that was added.
     Half(FixedDirectedEdgeHandle),
-    /// The two parts that a half edge was split into, in their order.
+    /// The two parts of a half edge that was split, in their order.
     Halves([FixedDirectedEdgeHandle; 2]),
-    /// What a removal that is open now has given up, and the edges that it has put in.
+    /// What the removal that is now open has given up, and the edges that it has put in.
     Opened(IsolateVertexResult<A>),
     /// The vertex that was taken out.
     Removed(RemovalResult<V>),
@@ -36,10 +36,10 @@ pub enum Handed<V> {
     Three(V, V, V),
 }
 
-/// That a command was refused.
+/// The refusal of a command, with the data that it carried.
 #[derive(Debug, Drop, PartialEq, Eq)]
 pub struct Refused<V> {
-    /// Why.
+    /// The reason.
     pub why: Refusal,
     /// The data that the command carried.
     pub back: Handed<V>,
@@ -67,7 +67,7 @@ impl<V> From<AllocError> for Refused<V> {
 
     ghost from_gives = { λ _ refused. refused ≡ bare OutOfMemory };
 
-    /// Refuses a command that carried no datum, for want of memory.
+    /// Refuses a command that carried no datum, because memory ran out.
     fn from(_error: AllocError) -> Refused<V> {
         Refused::from(Refusal::OutOfMemory)
     }

@@ -1,4 +1,4 @@
-//! `append D`
+//! The line `append D`: what it asks, and how it is carried out.
 
 ghost use Rattle.std.specs.Prelude.{◌≤◌, ◌^◌};
 ghost use Rattle.dcel_commands.specs.Vocabulary.{Append, Carries, answered};
@@ -6,7 +6,7 @@ ghost use Rattle.dcel_commands.specs.Vocabulary.{Append, Carries, answered};
 use super::*;
 use spade_dcel::operations::{NoMemory, append_unconnected_vertex};
 
-/// Carries the command out.
+/// Carries the command out, or refuses it and leaves the mesh as it was.
 pub fn carry_out<V, DE: Default, UE: Default, F: Default, A: Allocator>(
     dcel: &mut Dcel<V, DE, UE, F, A>,
     datum: V,

@@ -1,4 +1,5 @@
-//! Lines about a half edge and a vertex that has no edge: `line H B`, `outside H B`, `half H B`, `split H B`
+//! The lines `line H B`, `outside H B`, `half H B` and `split H B`, about a half edge and a vertex
+//! that has no edge.
 
 ghost use Rattle.std.specs.Prelude.{◌≤◌, ◌^◌};
 ghost use Rattle.dcel_commands.specs.Vocabulary.{Carries, answered, at_edge};
@@ -9,7 +10,7 @@ use spade_dcel::operations::{
     split_half_edge,
 };
 
-/// Where the vertex comes.
+/// The place where the vertex is put.
 #[derive(Clone, Copy)]
 pub enum AtEdge {
     /// Into the middle of a bridge: `line`.
@@ -22,7 +23,7 @@ pub enum AtEdge {
     OnBothSides,
 }
 
-/// Carries the command out.
+/// Carries the command out, or refuses it and leaves the mesh as it was.
 pub fn carry_out<V, DE: Default, UE: Default, F: Default, A: Allocator>(
     dcel: &mut Dcel<V, DE, UE, F, A>,
     place: AtEdge,

@@ -1,11 +1,11 @@
-//! `check`
+//! The line `check`: what it asks, and how it is answered.
 
 ghost use Rattle.dcel_commands.specs.Vocabulary.{WritesSome};
 ghost use Rattle.dcel_commands.specs.request.Check.{check};
 
 use super::*;
 
-/// Writes whether the mesh is checked.
+/// Writes whether `sanity_check` finds the mesh triangulated.
 pub fn write_check<A: Allocator, K: LineSink>(out: &mut Writer<'_, K>, dcel: &LineMesh<A>)
     ensures { WritesSome K.has_failed K.contents out.old out.new (check.Tells dcel.now) }
 {

@@ -1,4 +1,4 @@
-//! `cleanup U.. / F..`
+//! The line `cleanup U.. / F..`: what it asks, and how it is carried out.
 
 ghost use Rattle.std.specs.Prelude.{ℕ};
 ghost use Rattle.dcel_commands.specs.Vocabulary.{Carries, Cleanup, answered};
@@ -6,7 +6,7 @@ ghost use Rattle.dcel_commands.specs.Vocabulary.{Carries, Cleanup, answered};
 use super::*;
 use spade_dcel::operations::{IsolateVertexResult, cleanup_isolated_vertex};
 
-/// Carries the command out.
+/// Carries the command out, or refuses it and leaves the mesh as it was.
 pub fn carry_out<
     V,
     DE: Default + Drop,

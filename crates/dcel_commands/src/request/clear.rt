@@ -1,11 +1,11 @@
-//! `clear`
+//! The line `clear`: what it asks, and how it is carried out.
 
 ghost use Rattle.std.specs.Prelude.{ℕ};
 ghost use Rattle.dcel_commands.specs.Vocabulary.{Carries, Clear, answered};
 
 use super::*;
 
-/// Carries the command out.
+/// Carries the command out, or refuses it and leaves the mesh as it was.
 pub fn carry_out<V: Drop, DE: Default + Drop, UE: Default + Drop, F: Default + Drop, A: Allocator>(
     dcel: &mut Dcel<V, DE, UE, F, A>,
 ) -> Result<Reply<V, A>, Refused<V>>

@@ -1,11 +1,11 @@
-//! `counts`
+//! The line `counts`: what it asks, and how it is answered.
 
 ghost use Rattle.dcel_commands.specs.Vocabulary.{Writes};
 ghost use Rattle.dcel_commands.specs.request.Counts.{counts_text};
 
 use super::*;
 
-/// Writes the line of a mesh's counts.
+/// Writes the line of the counts of a mesh.
 pub fn write_counts<V, DE, UE, F, A: Allocator, K: LineSink>(
     out: &mut Writer<'_, K>,
     dcel: &Dcel<V, DE, UE, F, A>,

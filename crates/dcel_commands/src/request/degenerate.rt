@@ -1,4 +1,4 @@
-//! `degenerate V`
+//! The line `degenerate V`: what it asks, and how it is carried out.
 
 ghost use Rattle.std.specs.Prelude.{ℕ};
 ghost use Rattle.dcel_commands.specs.Vocabulary.{Carries, Degenerate, answered};
@@ -6,7 +6,7 @@ ghost use Rattle.dcel_commands.specs.Vocabulary.{Carries, Degenerate, answered};
 use super::*;
 use spade_dcel::operations::remove_when_degenerate;
 
-/// Carries the command out.
+/// Carries the command out, or refuses it and leaves the mesh as it was.
 pub fn carry_out<V, DE: Default + Drop, UE: Default + Drop, F: Default, A: Allocator>(
     dcel: &mut Dcel<V, DE, UE, F, A>,
     vertex: FixedVertexHandle,

@@ -1,10 +1,10 @@
-//! `get V`
+//! The line `get V`: what it asks, and how it is answered.
 
 ghost use Rattle.dcel_commands.specs.Vocabulary.{TellsOrRefuses};
 
 use super::*;
 
-/// Writes the answer, or refuses and writes nothing.
+/// Writes the reply, or refuses and writes nothing.
 pub fn tell<A: Allocator, K: LineSink>(
     out: &mut Writer<'_, K>,
     dcel: &LineMesh<A>,

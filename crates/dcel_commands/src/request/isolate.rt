@@ -1,4 +1,4 @@
-//! `isolate V H..`
+//! The line `isolate V H..`: what it asks, and how it is carried out.
 
 ghost use Rattle.std.specs.Prelude.{◌≤◌, ◌^◌};
 ghost use Rattle.dcel_commands.specs.Vocabulary.{Carries, Isolate, answered};
@@ -6,7 +6,7 @@ ghost use Rattle.dcel_commands.specs.Vocabulary.{Carries, Isolate, answered};
 use super::*;
 use spade_dcel::operations::isolate_vertex_and_fill_hole;
 
-/// Carries the command out.
+/// Carries the command out, or refuses it and leaves the mesh as it was.
 pub fn carry_out<V, DE: Default, UE: Default, F: Default, A: Allocator + Clone, B: Allocator>(
     dcel: &mut Dcel<V, DE, UE, F, A>,
     vertex: FixedVertexHandle,

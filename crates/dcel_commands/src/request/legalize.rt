@@ -1,4 +1,4 @@
-//! `legalize N U..`
+//! The line `legalize N U..`: what it asks, and how it is carried out.
 
 ghost use Rattle.std.specs.Prelude.{ℕ};
 ghost use Rattle.dcel_commands.specs.Vocabulary.{Carries, Legalize, answered};
@@ -6,7 +6,7 @@ ghost use Rattle.dcel_commands.specs.Vocabulary.{Carries, Legalize, answered};
 use super::*;
 use dcel_legalize::legalize_by_number;
 
-/// Carries the command out.
+/// Carries the command out, or refuses it and leaves the mesh as it was.
 pub fn carry_out<V, DE: Default, UE: Default, F: Default, A: Allocator, B: Allocator>(
     dcel: &mut Dcel<V, DE, UE, F, A>,
     max_flips: usize,

@@ -1,11 +1,11 @@
-//! `origin H`
+//! The line `origin H`: what it asks, and how it is answered.
 
 ghost use Rattle.dcel_commands.specs.Vocabulary.{TellsOrRefuses};
 
 use super::*;
 use crate::replies::write_reply;
 
-/// Writes the answer, or refuses and writes nothing.
+/// Writes the reply, or refuses and writes nothing.
 pub fn tell<A: Allocator, K: LineSink>(
     out: &mut Writer<'_, K>,
     dcel: &LineMesh<A>,

@@ -1,4 +1,4 @@
-//! `out V`
+//! The line `out V`: what it asks, and how it is answered.
 
 ghost use Rattle.std.specs.Prelude.{◌≡◌, ◌<◌, IfSome};
 ghost use Rattle.std.specs.Option.{option_map};
@@ -9,7 +9,7 @@ use super::*;
 use spade_dcel::handles::{DirectedEdgeHandle, VertexHandle};
 use spade_dcel::iterators::{CCWEdgesNextBackFn, CircularIterator};
 
-/// Writes the answer, or refuses and writes nothing.
+/// Writes the reply, or refuses and writes nothing.
 pub fn tell<A: Allocator, K: LineSink>(
     out: &mut Writer<'_, K>,
     dcel: &LineMesh<A>,
@@ -23,7 +23,7 @@ pub fn tell<A: Allocator, K: LineSink>(
     Ok(())
 }
 
-/// The least half edge that starts at the vertex.
+/// Returns the least half edge that starts at the vertex.
 fn least_out_edge<'a, V, DE, UE, F, A: Allocator>(
     vertex: VertexHandle<'a, V, DE, UE, F, A>,
 ) -> Option<DirectedEdgeHandle<'a, V, DE, UE, F, A>>
@@ -40,7 +40,7 @@ fn least_out_edge<'a, V, DE, UE, F, A: Allocator>(
     Some(least)
 }
 
-/// Writes the half edges round the origin of this one, each after a space.
+/// Writes the half edges around the origin of this one, each after a space.
 fn write_turn<V, DE, UE, F, A: Allocator, K: LineSink>(
     out: &mut Writer<'_, K>,
     first: DirectedEdgeHandle<'_, V, DE, UE, F, A>,
@@ -57,7 +57,7 @@ fn write_turn<V, DE, UE, F, A: Allocator, K: LineSink>(
     }
 }
 
-/// Writes the half edges that start at a vertex, if there are any, from the least on.
+/// Writes the half edges that start at a vertex, from the least on, if there are any.
 fn write_half_edges<V, DE, UE, F, A: Allocator, K: LineSink>(
     out: &mut Writer<'_, K>,
     vertex: VertexHandle<'_, V, DE, UE, F, A>,

@@ -1,4 +1,4 @@
-//! `remesh H.. / U.. / F..`
+//! The line `remesh H.. / U.. / F..`: what it asks, and how it is carried out.
 
 ghost use Rattle.std.specs.Prelude.{◌≤◌, ◌^◌};
 ghost use Rattle.dcel_commands.specs.Vocabulary.{Carries, Remesh, answered};
@@ -6,7 +6,9 @@ ghost use Rattle.dcel_commands.specs.Vocabulary.{Carries, Remesh, answered};
 use super::*;
 use spade_dcel::operations::remesh_edge_ring;
 
-/// Carries the command out. The answered lists are in the mesh's memory.
+/// Carries the command out, or refuses it and leaves the mesh as it was.
+///
+/// The lists in the reply are in the memory of the mesh.
 pub fn carry_out<V, DE: Default, UE: Default, F: Default, A: Allocator + Clone, B: Allocator>(
     dcel: &mut Dcel<V, DE, UE, F, A>,
     list: Vec<FixedDirectedEdgeHandle, B>,

@@ -1,4 +1,4 @@
-//! `remove V`
+//! The line `remove V`: what it asks, and how it is carried out.
 
 ghost use Rattle.std.specs.Prelude.{ℕ, [], ◌∷◌, MatchResult};
 ghost use Rattle.dcel_commands.specs.Vocabulary.{AllMet, Carries, FirstUnmet, NoOtherOpen, Removable, Remove, answered};
@@ -7,7 +7,7 @@ ghost use Rattle.dcel_commands.specs.declared.refusal.Refusal.TheVariants.{Remov
 use super::*;
 use spade_dcel::operations::swap_remove_vertex;
 
-/// Asks for a vertex that can be taken out. Where it can't, an open removal stands in the way, or else an edge.
+/// Refuses unless the vertex can be taken out: an open removal or an edge is in the way.
 fn ask_removable<V, DE, UE, F, A: Allocator>(
     dcel: &Dcel<V, DE, UE, F, A>,
     vertex: FixedVertexHandle,
@@ -21,7 +21,7 @@ fn ask_removable<V, DE, UE, F, A: Allocator>(
     ask(dcel.can_swap_remove(vertex), Refusal::RemovalOpen)
 }
 
-/// Carries the command out.
+/// Carries the command out, or refuses it and leaves the mesh as it was.
 pub fn carry_out<V, DE: Default, UE: Default, F: Default, A: Allocator>(
     dcel: &mut Dcel<V, DE, UE, F, A>,
     vertex: FixedVertexHandle,

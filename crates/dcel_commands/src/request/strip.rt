@@ -1,4 +1,4 @@
-//! `strip H..`
+//! The line `strip H..`: what it asks, and how it is carried out.
 
 ghost use Rattle.std.specs.Prelude.{ℕ};
 ghost use Rattle.dcel_commands.specs.Vocabulary.{Carries, Strip, answered};
@@ -6,7 +6,7 @@ ghost use Rattle.dcel_commands.specs.Vocabulary.{Carries, Strip, answered};
 use super::*;
 use spade_dcel::operations::disconnect_edge_strip;
 
-/// Carries the command out.
+/// Carries the command out, or refuses it and leaves the mesh as it was.
 pub fn carry_out<V, DE: Default, UE: Default, F: Default, A: Allocator + Clone, B: Allocator>(
     dcel: &mut Dcel<V, DE, UE, F, A>,
     list: Vec<FixedDirectedEdgeHandle, B>,

@@ -1,4 +1,4 @@
-//! `triangle D D D`
+//! The line `triangle D D D`: what it asks, and how it is carried out.
 
 ghost use Rattle.std.specs.Prelude.{◌≡◌};
 ghost use Rattle.dcel_commands.specs.Vocabulary.{Carries, Triangle, answered};
@@ -6,7 +6,7 @@ ghost use Rattle.dcel_commands.specs.Vocabulary.{Carries, Triangle, answered};
 use super::*;
 use spade_dcel::operations::{NoMemory, new_triangle};
 
-/// Carries the command out.
+/// Carries the command out, or refuses it and leaves the mesh as it was.
 pub fn carry_out<
     V: Drop,
     DE: Default + Drop,
@@ -36,7 +36,7 @@ pub fn carry_out<
     }
 }
 
-// Refuses a command that carried these data.
+/// Returns the refusal of a command that carried these data.
 fn refused<V>(why: Refusal, vertices: (V, V, V)) -> Refused<V>
     ensures { result ≡ record { why = why; back = Handed.Three vertices.0 vertices.1 vertices.2 } }
 {

@@ -1,4 +1,4 @@
-//! Lines about two vertices: `setup A B`, `extend A B`, `swap A B`
+//! The lines `setup A B`, `extend A B` and `swap A B`, about two vertices.
 
 ghost use Rattle.std.specs.Prelude.{◌≤◌, ◌^◌};
 ghost use Rattle.dcel_commands.specs.Vocabulary.{Carries, answered, of_vertices};
@@ -6,18 +6,18 @@ ghost use Rattle.dcel_commands.specs.Vocabulary.{Carries, answered, of_vertices}
 use super::*;
 use spade_dcel::operations::{extend_line, setup_initial_two_vertices};
 
-/// What becomes of two vertices.
+/// What is done with two vertices.
 #[derive(Clone, Copy)]
 pub enum OfVertices {
     /// The first edge joins them: `setup`.
     Joined,
-    /// The line that ends at the first is made longer by the second: `extend`.
+    /// The line that ends at the first goes on to the second: `extend`.
     Longer,
     /// They are exchanged: `swap`.
     Exchanged,
 }
 
-/// Carries the command out.
+/// Carries the command out, or refuses it and leaves the mesh as it was.
 pub fn carry_out<V, DE: Default, UE: Default, F: Default, A: Allocator>(
     dcel: &mut Dcel<V, DE, UE, F, A>,
     what: OfVertices,

@@ -1,4 +1,4 @@
-//! Lines about the half edges round faces: `words`, `hull`
+//! The lines `words` and `hull`: the half edges around faces, and how they are written.
 
 ghost use Rattle.std.specs.Prelude.{◌≡◌, ◌<◌};
 ghost use Rattle.dcel_commands.specs.Vocabulary.{IsLive, IsMesh, IsSound, Writes, face_count, face_of, listed, mesh_behind, number_of, word_of};
@@ -10,7 +10,7 @@ use spade_dcel::handles::{
 };
 use spade_dcel::laws::every_mesh;
 
-/// The least half edge of the face that the anchor lies on.
+/// Returns the least half edge of the face that the anchor lies on.
 fn least_on_face<'a, V, DE, UE, F, A: Allocator>(
     anchor: DirectedEdgeHandle<'a, V, DE, UE, F, A>,
 ) -> DirectedEdgeHandle<'a, V, DE, UE, F, A>
@@ -32,7 +32,7 @@ fn least_on_face<'a, V, DE, UE, F, A: Allocator>(
     least
 }
 
-/// Writes the half edges round a face from this one, the least of them, each after a space.
+/// Writes the half edges around a face, each after a space, from the least of them on.
 fn write_word<V, DE, UE, F, A: Allocator, K: LineSink>(
     out: &mut Writer<'_, K>,
     least: DirectedEdgeHandle<'_, V, DE, UE, F, A>,
@@ -50,7 +50,7 @@ fn write_word<V, DE, UE, F, A: Allocator, K: LineSink>(
     }
 }
 
-/// Writes the half edges round a face, if it has any, from its least.
+/// Writes the half edges around a face, from the least on, if it has any.
 fn write_half_edges<V, DE, UE, F, A: Allocator, K: LineSink>(
     out: &mut Writer<'_, K>,
     dcel: &Dcel<V, DE, UE, F, A>,
@@ -66,7 +66,7 @@ fn write_half_edges<V, DE, UE, F, A: Allocator, K: LineSink>(
     write_word(out, least_on_face(dcel.directed_edge(anchor)));
 }
 
-/// Writes the line of a face where it is live, and nothing where it isn't.
+/// Writes the line of a face if it is live, and nothing if it isn't.
 fn write_face<V, DE, UE, F, A: Allocator, K: LineSink>(
     out: &mut Writer<'_, K>,
     dcel: &Dcel<V, DE, UE, F, A>,
@@ -85,7 +85,7 @@ fn write_face<V, DE, UE, F, A: Allocator, K: LineSink>(
     out.write(b"\n");
 }
 
-/// Writes a line for each live face: its number, and the half edges round it from the least on.
+/// Writes a line for each live face: its number, and the half edges around it from the least on.
 pub fn write_words<V, DE, UE, F, A: Allocator, K: LineSink>(
     out: &mut Writer<'_, K>,
     dcel: &Dcel<V, DE, UE, F, A>,
@@ -98,7 +98,7 @@ pub fn write_words<V, DE, UE, F, A: Allocator, K: LineSink>(
     }
 }
 
-/// Writes the line of the half edges round the outer face, from the least on.
+/// Writes the line of the half edges around the outer face, from the least on.
 pub fn write_hull<V, DE, UE, F, A: Allocator, K: LineSink>(
     out: &mut Writer<'_, K>,
     dcel: &Dcel<V, DE, UE, F, A>,
