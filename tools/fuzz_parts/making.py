@@ -10,6 +10,7 @@ BROKEN = ["", " ", "words ", " words", "append", "append -0", "append 01", "appe
 GROWING = ["insert"] * 6 + ["outside"] * 3 + ["close"] * 3 + ["half"] * 2 + ["split"] * 4 + ["line"] * 2 + ["extend"] * 3 + ["setup"]
 CHANGING = ["flip"] * 5 + ["legalize"] * 3 + ["swap"] * 2 + ["put"] * 2
 OPENING = ["isolate"] * 4 + ["vertex ring"] * 2 + ["region"] * 4 + ["strip"] * 4
+LOOKS = ["words", "hull", "counts", "out", "out", "out"]
 ASKING = ["counts", "words", "hull", "out", "origin", "between", "get", "check"]
 
 
@@ -84,6 +85,12 @@ class Maker:
     def asking(self, mesh):
         word = self.random.choice(ASKING)
         return " ".join([word] + [str(self.vertex(mesh)) if word != "origin" else str(self.number(len(mesh.origins))) for _ in TAKES[word]])
+
+    def look(self, mesh):
+        """A line that shows something of the mesh: what starts at a vertex is looked at where it grew last, or anywhere."""
+        word = self.random.choice(LOOKS)
+        starts = mesh.origins[-6:] if self.random.random() < 0.5 else range(len(mesh.data))
+        return word if word != "out" else f"out {self.pick(vertex for vertex in starts if mesh.is_live_vertex(vertex))}"
 
     def changing(self, mesh):
         word = self.random.choice(CHANGING)
