@@ -7,8 +7,9 @@ import subprocess
 import termios
 import threading
 
-# The program of the folder built as it is, and run with no proof. The run that is counted in steps would take long, and ends at once.
-UNPROVED = ["rt", "try", "--steps", "1"]
+# The program of the folder built as it is, and run with no proof, for ten seconds. The run that is counted in steps would take long, and
+# ends at once.
+UNPROVED = ["rt", "try", "--steps", "1", "--seconds", "10"]
 
 
 def is_read(pipe):
