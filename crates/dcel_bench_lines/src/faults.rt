@@ -1,5 +1,6 @@
-//! A talk with every word of the language, in which each read and each write fails in turn; and faults by name.
+//! A talk with every word of the language, in which each read and each write fails in turn.
 
+use crate::transfers::fault_name;
 use dcel_bench::checks::same;
 use dcel_bench::meshes::NO_LIMIT;
 use dcel_bench::talks::{PLENTY, answers, push_line};
@@ -59,13 +60,13 @@ const EVERY_WORD: [(&str, &str); 42] = [
     ("words", "F0"),
 ];
 
-/// The talk as text, and what of the replies is due by each byte of it.
+/// The talk as text, and how much of the replies is due by each byte of it.
 #[derive(Drop)]
 struct Whole {
     lines: Vec<u8>,
     replies: Vec<u8>,
 
-    /// How many bytes of the replies answer the lines that end within so many bytes.
+    /// How many bytes of the replies answer the lines that end within so many bytes of the talk.
     due: Vec<usize>,
 }
 
@@ -80,12 +81,13 @@ impl Whole {
         for (line, reply) in EVERY_WORD {
             whole.push(line, reply)?;
         }
+        whole.due.push(whole.replies.len())?;
         Ok(whole)
     }
 
     /// Adds a line with its reply.
     fn push(&mut self, line: &str, reply: &str) -> Result<(), AllocError> {
-        // By the line feed, and not before it, the reply is due.
+        // The reply is due by the line feed, and not before it.
         for _ in 0..=line.len() {
             self.due.push(self.replies.len())?;
         }
@@ -94,35 +96,45 @@ impl Whole {
     }
 }
 
-/// That a run ended with this fault, and wrote this.
+/// Compares how a run ended, by name, and what it wrote.
 fn check_fault(
     (ended, written): (Result<(), RunFault>, Vec<u8>),
     fault: &str,
     wanted: &[u8],
     what: &str,
 ) -> Result<(), Fail> {
-    let name = match ended {
-        Ok(()) => "none",
-        Err(RunFault::Read) => "read failed",
-        Err(RunFault::Write) => "write failed",
-        Err(RunFault::Memory) => "out of memory",
-    };
-    same(name, fault, what)?;
+    same(fault_name(ended), fault, what)?;
     same(written.as_slice(), wanted, what)
+}
+
+/// Has each read of `chunk` bytes fail in turn, the last one too, which finds no byte left: the lines
+/// that were read whole are answered.
+fn check_reads(alloc: Global, whole: &Whole, chunk: usize) -> Result<(), Fail> {
+    let mut bytes = 0usize;
+    for reads in 0..whole.due.len() {
+        let ran = answers(alloc, NO_LIMIT, &whole.lines, chunk, reads, PLENTY);
+        let due = whole.due.get(bytes).copied().unwrap_or(0);
+        let wanted = whole.replies.get(..due).unwrap_or(&[]);
+        check_fault(ran, "read failed", wanted, "a read that fails")?;
+        if bytes == whole.lines.len() {
+            break;
+        }
+        bytes = bytes.saturating_add(chunk).min(whole.lines.len());
+    }
+    Ok(())
 }
 
 #[test]
 fn each_read_fails(rt: HostRuntime) -> Result<(), Fail> {
     let whole = Whole::new(rt.alloc())?;
-    for (reads, due) in whole.due.iter().enumerate() {
-        let ran = answers(rt.alloc(), NO_LIMIT, &whole.lines, 1, reads, PLENTY);
-        let wanted = whole.replies.get(..*due).unwrap_or(&[]);
-        check_fault(ran, "read failed", wanted, "a read that fails")?;
+    for chunk in [1, 3, PLENTY] {
+        check_reads(rt.alloc(), &whole, chunk)?;
     }
     Ok(())
 }
 
-/// That the replies are written up to any byte where a write fails, in reads and writes of `chunk` bytes.
+/// Has a write fail after each number of bytes, in reads and writes of `chunk` bytes: that many are
+/// written.
 fn check_writes(alloc: Global, whole: &Whole, chunk: usize) -> Result<(), Fail> {
     for room in 0..whole.replies.len() {
         let ran = answers(alloc, NO_LIMIT, &whole.lines, chunk, PLENTY, room);
@@ -141,14 +153,14 @@ fn each_write_fails(rt: HostRuntime) -> Result<(), Fail> {
     Ok(())
 }
 
-/// That the talk is answered where nothing fails, and that a read of no byte is its end.
 #[test]
 fn nothing_fails(rt: HostRuntime) -> Result<(), Fail> {
     let whole = Whole::new(rt.alloc())?;
     let ran = answers(rt.alloc(), NO_LIMIT, &whole.lines, PLENTY, PLENTY, PLENTY);
-    check_fault(ran, "none", &whole.replies, "a talk without a fault")?;
+    check_fault(ran, "", &whole.replies, "a talk without a fault")?;
+    // A read of no byte is the end.
     let ran = answers(rt.alloc(), NO_LIMIT, &whole.lines, 0, PLENTY, PLENTY);
-    check_fault(ran, "none", &[], "no byte")
+    check_fault(ran, "", &[], "a talk without a byte")
 }
 
 #[test]

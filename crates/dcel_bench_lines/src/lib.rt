@@ -1,4 +1,6 @@
-//! Tests of lines: bad and long ones, and readers and writers that fail. What lines are answered else stands in the talks of `dcel_talks`.
+//! Tests of lines that are bad or long, and of readers and writers that fail.
+//!
+//! The other lines stand with their replies in the talks of `dcel_talks`.
 #![tactic(auto)]
 
 #[cfg(test)]

@@ -55,7 +55,8 @@ fn long_lines_are_one_bad_line(rt: HostRuntime) -> Result<(), Fail> {
     Ok(())
 }
 
-/// What a line begins with, how many zeros follow in a list, and how it is answered: a line has 4096 bytes at most.
+/// What a line begins with, how many zeros follow in a list, and the reply: a line has 4096 bytes at
+/// most.
 const LONG_LISTS: [(&str, usize, &str); 4] = [
     ("strip 10", 2044, "refused 2 NoSuchEdge"),
     ("strip 10", 2045, "bad line"),
@@ -63,7 +64,7 @@ const LONG_LISTS: [(&str, usize, &str); 4] = [
     ("isolate 10", 2044, "bad line"),
 ];
 
-/// That a line with such a list is answered so, and that `words` gives the same before and after it.
+/// Compares the reply to a line with such a list, and `words` before and after it.
 fn check_long_list(alloc: Global, (begin, count, reply): (&str, usize, &str)) -> Result<(), Fail> {
     let mut lines = Vec::new(alloc);
     push_line(&mut lines, "words")?;

@@ -1,11 +1,11 @@
-//! A talk: its lines, what they are to be answered, and how they are compared with what `run` answers.
+//! A talk: its lines with their replies, and how these are compared with what `run` writes.
 
 use anyhow::{Context, Result, bail, ensure};
 use dcel_bench::talks::{PLENTY, answers, push_line};
 use dcel_commands::commands::MAX_LIMIT;
 use std::alloc::{AllocError, Global};
 
-/// The lines of a talk, and what they are to be answered.
+/// The lines of a talk with their replies.
 #[derive(Drop)]
 pub struct Script {
     name: String,
@@ -24,7 +24,7 @@ pub struct Script {
 }
 
 impl Script {
-    /// A talk without a line.
+    /// Returns a talk without a line.
     pub fn new(alloc: Global, name: &str) -> Result<Script, AllocError> {
         Ok(Script {
             name: format!(in alloc; "{name}")?,
@@ -37,7 +37,7 @@ impl Script {
         })
     }
 
-    /// Takes what stands in a line of the file.
+    /// Takes a line of the file.
     pub fn take(&mut self, alloc: Global, text: &str) -> Result<()> {
         if let Some(line) = text.strip_prefix("> ") {
             push_line(&mut self.lines, line)?;
@@ -56,9 +56,8 @@ impl Script {
         let Some(line) = self.asked.take() else {
             return Ok(());
         };
-        let changes_nothing = is_turned_down(reply);
         push_line(&mut self.watched, line.as_str())?;
-        if changes_nothing {
+        if is_turned_down(reply) {
             push_line(&mut self.watched, "words")?;
             push_line(&mut self.spared, "words")
         } else {
@@ -66,8 +65,8 @@ impl Script {
         }
     }
 
-    /// Checks that the lines are answered so in reads of one, three and all bytes, and that `words` gives the same text before and after each
-    /// that is refused or bad.
+    /// Compares the replies in reads of one, three and all bytes, and the text of `words` before and
+    /// after each line that is refused or bad.
     pub fn check(&self, alloc: Global) -> Result<()> {
         for chunk in [1, 3, PLENTY] {
             let written = self.written(alloc, &self.lines, chunk)?;
@@ -78,7 +77,7 @@ impl Script {
         self.compare(alloc, &without_turned_down(alloc, &after)?, &before)
     }
 
-    /// What the lines are answered in reads of so many bytes.
+    /// Returns the replies to these lines in reads of so many bytes.
     fn written(&self, alloc: Global, lines: &[u8], chunk: usize) -> Result<Vec<u8>> {
         let limit = self.limit;
         ensure!(limit <= MAX_LIMIT, "{}: a limit above 2^31", self.name);
@@ -87,7 +86,7 @@ impl Script {
         Ok(written)
     }
 
-    /// Says where the texts differ, if they do.
+    /// Fails at the first line in which the texts differ.
     fn compare(&self, alloc: Global, found: &[u8], wanted: &[u8]) -> Result<()> {
         let found = String::from_utf8_lossy(alloc, found)?;
         let wanted = String::from_utf8_lossy(alloc, wanted)?;
@@ -105,7 +104,7 @@ fn is_turned_down(reply: &str) -> bool {
     reply.starts_with("refused ") || reply == "bad line"
 }
 
-/// The replies but those to lines that are refused or bad.
+/// Returns the replies without those to lines that are refused or bad.
 fn without_turned_down(alloc: Global, replies: &[u8]) -> Result<Vec<u8>> {
     let replies = String::from_utf8_lossy(alloc, replies)?;
     let mut left = Vec::new(alloc);
