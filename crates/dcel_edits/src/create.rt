@@ -1,4 +1,4 @@
-//! Vertices, and the first edge.
+//! Vertices without edges, and the first edge.
 
 ghost use Rattle.std.specs.Prelude.{◌≡◌, ◌≤◌, vec_len};
 ghost use Rattle.dcel_maps.specs.edits.DefaultData.{AddsEdge};
@@ -22,7 +22,7 @@ pub fn put_vertices<V: Drop, DE, UE, F, A: Allocator>(
     }
 }
 
-/// Writes edge 0 into a store without edges.
+/// Writes edge 0, between two vertices, into a store without edges.
 pub fn put_first_edge<V, DE: Default, UE: Default, F, A: Allocator>(
     store: &mut Store<V, DE, UE, F, A>,
     first_vertex: FixedVertexHandle,

@@ -9,8 +9,10 @@ use dcel_fixed::{FixedDirectedEdgeHandle, FixedFaceHandle, FixedVertexHandle, In
 use dcel_store::{EdgeData, Store};
 use std::alloc::Allocator;
 
-/// Cuts the ring of these three half edges and of those in `left`, which is read from its end, into ears that meet where the first one
-/// starts.
+/// Cuts a ring into ears that meet where `first` starts.
+///
+/// The ring consists of `first`, `second`, `third` and the half edges of `left`, from its end to
+/// its beginning.
 pub fn put_ears<V, DE: Default, UE: Default, F: Default, A: Allocator>(
     store: &mut Store<V, DE, UE, F, A>,
     first: FixedDirectedEdgeHandle,
@@ -43,8 +45,8 @@ pub fn put_ears<V, DE: Default, UE: Default, F: Default, A: Allocator>(
     put_last_ear(store, apex, beginning, middle, end);
 }
 
-/// Takes the anchors of faces away, and of a vertex if there is one, which are given up.
-pub fn give_up<V, DE, UE, F, A: Allocator>(
+/// Drops the anchors of the faces that are given up, and that of the vertex if there is one.
+pub fn drop_all_anchors<V, DE, UE, F, A: Allocator>(
     store: &mut Store<V, DE, UE, F, A>,
     vertex: &Option<FixedVertexHandle>,
     faces: &[FixedFaceHandle<InnerTag>],
@@ -72,8 +74,8 @@ fn drop_anchors<V, DE, UE, F, A: Allocator>(
     }
 }
 
-// The half edge that closes the first ear of a ring with this third half edge: that of the new edge, or the third one where no more are
-// left.
+// Returns the half edge that closes the first ear of a ring: a half of the new edge, or `third` if
+// no half edges are left.
 fn closing_half(
     edge: usize,
     third: FixedDirectedEdgeHandle,
@@ -88,8 +90,8 @@ fn closing_half(
     FixedDirectedEdgeHandle::new_normalized(edge)
 }
 
-// Cuts the ear of two half edges of a ring off by a new edge, and answers the half of it that begins the next ear, which `closing`
-// closes and `third` goes on.
+// Cuts off the ear of `first` and `second` by a new edge, and returns the half of it that begins
+// the next ear, which `third` continues and `closing` closes.
 fn put_ear<V, DE: Default, UE: Default, F: Default, A: Allocator>(
     store: &mut Store<V, DE, UE, F, A>,
     apex: FixedVertexHandle,
@@ -122,7 +124,7 @@ fn put_ear<V, DE: Default, UE: Default, F: Default, A: Allocator>(
     outer
 }
 
-// Closes the last three half edges of a ring to an ear.
+// Makes an ear of the last three half edges of a ring.
 fn put_last_ear<V, DE, UE, F: Default, A: Allocator>(
     store: &mut Store<V, DE, UE, F, A>,
     apex: FixedVertexHandle,

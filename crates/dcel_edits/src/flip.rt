@@ -8,8 +8,10 @@ use dcel_fixed::{FixedDirectedEdgeHandle, FixedFaceHandle, FixedVertexHandle, Po
 use dcel_store::Store;
 use std::alloc::Allocator;
 
-/// A half edge of an edge that is turned, and its triangle: the half edges beside it, the face, the vertex that it starts at, and the
-/// corner that lies opposite, where it starts once it is turned.
+/// One side of an edge that is turned: the half edge there and its triangle.
+///
+/// `origin` is where the half edge starts before the turn, and `corner`, which lies opposite, is
+/// where it starts afterwards.
 #[derive(Clone, Copy)]
 struct Side {
     edge: FixedDirectedEdgeHandle,
@@ -21,7 +23,7 @@ struct Side {
 }
 
 impl Side {
-    /// The side of a half edge.
+    /// Reads the side of a half edge.
     fn new<V, DE, UE, F, A: Allocator>(
         store: &Store<V, DE, UE, F, A>,
         edge: FixedDirectedEdgeHandle,
@@ -53,12 +55,13 @@ pub fn put_flip<V, DE, UE, F, A: Allocator>(
     let far = Side::new(store, edge.rev());
     turn_side(store, &near, &far);
     turn_side(store, &far, &near);
-    // Anchors lie far from the links, so they come last: what waits for them holds no link up.
+    // Anchors lie far from the links, so they come last: waiting for them holds up no link.
     anchor_side(store, &near, &far);
     anchor_side(store, &far, &near);
 }
 
-// Turns one side: its half edge starts at the opposite corner, and its triangle gets the last half edge of the other one.
+// Turns one side: its half edge starts at the opposite corner, and its triangle gets the half edge
+// before the one on the other side.
 fn turn_side<V, DE, UE, F, A: Allocator>(
     store: &mut Store<V, DE, UE, F, A>,
     side: &Side,
@@ -77,8 +80,8 @@ fn turn_side<V, DE, UE, F, A: Allocator>(
     store.set_prev(side.next, beyond.prev);
 }
 
-// Anchors one side that is turned: the vertex where its half edge started gets the half edge that came after the other one, and its face
-// gets its half edge.
+// Anchors one side that was turned. The vertex where its half edge started gets the half edge that
+// came after the one on the other side; its face gets its half edge.
 fn anchor_side<V, DE, UE, F, A: Allocator>(
     store: &mut Store<V, DE, UE, F, A>,
     side: &Side,

@@ -1,5 +1,7 @@
-//! What each edit of a mesh writes into its store: private writers of the mesh, each with one equation over lists, and the proofs that
-//! lists which hold a mesh hold the edited one afterwards.
+//! What each edit of a mesh writes into its store: writers for the mesh alone, each with one
+//! equation over lists.
+//!
+//! Its proofs say that lists which hold a mesh hold the edited mesh afterwards.
 #![tactic(auto)]
 
 pub mod create;

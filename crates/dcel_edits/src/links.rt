@@ -5,7 +5,7 @@ ghost use Rattle.std.specs.Prelude.{◌≡◌};
 use dcel_fixed::{FixedDirectedEdgeHandle, FixedFaceHandle, FixedVertexHandle, PossiblyOuterTag};
 use dcel_store::HalfEdgeEntry;
 
-/// The links of a half edge: those after it and before it, its face, and the vertex that it starts at.
+/// Makes the links of a half edge: the half edges after it and before it, its face, and its origin.
 pub fn links(
     next: FixedDirectedEdgeHandle,
     prev: FixedDirectedEdgeHandle,

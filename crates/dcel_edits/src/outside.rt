@@ -48,8 +48,9 @@ pub fn put_beside<V, DE: Default, UE: Default, F: Default, A: Allocator>(
     store.set_vertex_anchor(tip, Some(back));
 }
 
-/// Closes a face between the half edge `edge` of the outer face and the next one by an edge, and answers the half of it that takes
-/// their place.
+/// Closes a triangle by an edge after the half edge `edge` of the outer face and the next one.
+///
+/// It returns the half of the new edge that takes their place on the outer face.
 pub fn put_closing<V, DE: Default, UE: Default, F: Default, A: Allocator>(
     store: &mut Store<V, DE, UE, F, A>,
     edge: FixedDirectedEdgeHandle,

@@ -1,4 +1,4 @@
-//! Elements that a removal gives up.
+//! Elements taken out of the store, when a removal is cleaned up or a mesh is degenerate.
 
 pub mod degenerate;
 pub mod take_out;

@@ -1,9 +1,10 @@
-//! Vertices that exchange their names.
+//! Vertices and faces under new numbers: the links that name them, and two vertices exchanged.
 
 ghost use Rattle.std.specs.Prelude.{◌≡◌};
 ghost use Rattle.dcel_edits.specs.Rename.{CanExchange, CanTurn, turn_renamed, vertices_exchanged};
+ghost use Rattle.dcel_edits.specs.TakingOut.{CanWalk, word_renamed};
 
-use dcel_fixed::FixedVertexHandle;
+use dcel_fixed::{FixedFaceHandle, FixedVertexHandle, PossiblyOuterTag};
 use dcel_store::Store;
 use std::alloc::Allocator;
 
@@ -21,13 +22,16 @@ pub fn exchange_vertices<V, DE, UE, F, A: Allocator>(
     store.swap_vertex_data(first, second);
     store.set_vertex_anchor(first, out_of_second);
     store.set_vertex_anchor(second, out_of_first);
-    // Between the two calls the edges of both vertices start at one, but turning goes by other links than origins.
+    // Between the two calls the out edges of both vertices start at one, but turning doesn't read
+    // origins.
     rename_turn(store, first);
     rename_turn(store, second);
 }
 
-/// Has half edges start at a vertex: its anchor, and those that turning leads to from there. It goes on from the anchor and back from
-/// it, until the two meet: each half edge is known only from the one before it, and the reads of two ends don't wait for each other.
+/// Sets the origin of every half edge out of `vertex`, starting from its anchor.
+///
+/// It turns from the anchor in both directions until the two meet. Each half edge is known only
+/// from the one before it, and the reads at the two ends don't wait for each other.
 pub(crate) fn rename_turn<V, DE, UE, F, A: Allocator>(
     store: &mut Store<V, DE, UE, F, A>,
     vertex: FixedVertexHandle,
@@ -51,6 +55,36 @@ pub(crate) fn rename_turn<V, DE, UE, F, A: Allocator>(
             return;
         }
         last = store.next(last.rev());
+        first = after;
+    }
+}
+
+/// Sets the face of every half edge on `face`, starting from its anchor.
+///
+/// It goes from both ends, as [`rename_turn`] does.
+pub(crate) fn rename_word<V, DE, UE, F, A: Allocator>(
+    store: &mut Store<V, DE, UE, F, A>,
+    face: FixedFaceHandle<PossiblyOuterTag>,
+)
+    requires { CanWalk store.old face }
+    ensures { store.new ≡ word_renamed store.old face }
+{
+    let Some(adjacent_edge) = store.face_anchor(face) else {
+        return;
+    };
+    let mut first = adjacent_edge;
+    let mut last = store.prev(adjacent_edge);
+    loop {
+        store.set_face(first, face);
+        if first == last {
+            return;
+        }
+        store.set_face(last, face);
+        let after = store.next(first);
+        if after == last {
+            return;
+        }
+        last = store.prev(last);
         first = after;
     }
 }

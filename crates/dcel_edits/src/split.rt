@@ -1,4 +1,4 @@
-//! Vertices in the middle of edges.
+//! Vertices in the middle of edges that have one face on both sides.
 
 ghost use Rattle.std.specs.Prelude.{◌≡◌, ◌*◌, length};
 ghost use Rattle.dcel_maps.specs.edits.DefaultData.{AddsEdge};
@@ -9,8 +9,9 @@ use dcel_fixed::{FixedDirectedEdgeHandle, FixedVertexHandle};
 use dcel_store::{EdgeData, Store};
 use std::alloc::Allocator;
 
-/// Puts the vertex `middle` into an edge whose halves lie on one face: `edge` ends there now, and the half edge that it answers leads
-/// on to where `edge` ended.
+/// Puts the vertex `middle` into an edge whose halves lie on one face.
+///
+/// Afterwards `edge` ends there, and the half edge that is returned leads on to where `edge` ended.
 pub fn put_middle<V, DE: Default, UE: Default, F, A: Allocator>(
     store: &mut Store<V, DE, UE, F, A>,
     edge: FixedDirectedEdgeHandle,
@@ -27,7 +28,7 @@ pub fn put_middle<V, DE: Default, UE: Default, F, A: Allocator>(
     let face = store.face(edge);
     let new_edge = FixedDirectedEdgeHandle::new_normalized(store.num_edges());
     let new_twin = new_edge.rev();
-    // At a tip `before` is `edge` and `after` is `twin`: of two writes of one link the second stands.
+    // At a tip `before` is `edge` and `after` is `twin`, and the second write to a link counts.
     store.set_next(before, new_twin);
     store.set_next(edge, new_edge);
     store.set_prev(after, new_edge);
@@ -43,7 +44,7 @@ pub fn put_middle<V, DE: Default, UE: Default, F, A: Allocator>(
     new_edge
 }
 
-// This half edge, but `new` where it is `old`.
+// Returns `edge`, or `new` if it is `old`.
 fn substitute(
     edge: FixedDirectedEdgeHandle,
     old: FixedDirectedEdgeHandle,

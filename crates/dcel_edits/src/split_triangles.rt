@@ -1,4 +1,4 @@
-//! Vertices in the middle of edges that have a triangle beside them, which is cut in two.
+//! Vertices in the middle of edges, where the triangle on one side or on each is cut in two.
 
 ghost use Rattle.std.specs.Prelude.{◌≡◌, ◌+◌, ◌*◌, ◌<◌, length, slice_index, slice_set};
 ghost use Rattle.dcel_fixed.specs.HalfEdges.{rev};
@@ -13,8 +13,8 @@ use dcel_fixed::{FixedDirectedEdgeHandle, FixedFaceHandle, FixedVertexHandle};
 use dcel_store::{EdgeData, Store};
 use std::alloc::Allocator;
 
-/// The half edges of the triangles on both sides of an edge, each with the sector that a vertex in the middle of the edge makes of it, in
-/// their order round that vertex.
+/// The sectors that a vertex in the middle of an edge makes of the triangles on both sides, in
+/// their order around that vertex.
 #[derive(Clone, Copy)]
 struct Round {
     after_twin: Sector,
@@ -24,7 +24,7 @@ struct Round {
 }
 
 impl Round {
-    /// The sectors round the middle of an edge, with three new edges between them.
+    /// Makes the sectors around the middle of an edge, with three new edges between them.
     fn new<V, DE, UE, F, A: Allocator>(
         store: &Store<V, DE, UE, F, A>,
         edge: FixedDirectedEdgeHandle,
@@ -60,8 +60,10 @@ impl Round {
         }
     }
 
-    /// Links the half edges of the sectors into their triangles, and `edge` and its other half between them, one link of all of them
-    /// after another.
+    /// Links the half edges of the sectors into their triangles, and `edge` and its other half
+    /// between them.
+    ///
+    /// All `next` are written first, then all `prev`, then all faces.
     fn close<V, DE, UE, F, A: Allocator>(
         &self,
         store: &mut Store<V, DE, UE, F, A>,
@@ -100,8 +102,10 @@ impl Round {
     }
 }
 
-/// Puts the vertex `middle` into an edge between two triangles, and joins it to their other corners: `edge` ends there now, and the half
-/// edge that it answers leads on to where `edge` ended.
+/// Puts the vertex `middle` into an edge between two triangles, and joins it to their other
+/// corners.
+///
+/// Afterwards `edge` ends there, and the half edge that is returned leads on to where `edge` ended.
 pub fn put_middle_of_both<V, DE: Default, UE: Default, F: Default, A: Allocator>(
     store: &mut Store<V, DE, UE, F, A>,
     edge: FixedDirectedEdgeHandle,
@@ -131,8 +135,10 @@ pub fn put_middle_of_both<V, DE: Default, UE: Default, F: Default, A: Allocator>
     third.prev
 }
 
-/// Puts the vertex `middle` into an edge that has a triangle on the side of `edge`, and joins it to the other corner of that triangle:
-/// `edge` ends there now, and the half edge that it answers leads on to where `edge` ended.
+/// Puts the vertex `middle` into an edge that has a triangle on the side of `edge`, and joins it to
+/// the other corner of that triangle.
+///
+/// Afterwards `edge` ends there, and the half edge that is returned leads on to where `edge` ended.
 pub fn put_middle_of_one<V, DE: Default, UE: Default, F: Default, A: Allocator>(
     store: &mut Store<V, DE, UE, F, A>,
     edge: FixedDirectedEdgeHandle,

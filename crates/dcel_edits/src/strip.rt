@@ -1,4 +1,4 @@
-//! A vertex of the outer face cut off, with the triangles round it.
+//! A vertex of the outer face cut off, with the triangles around it.
 
 ghost use Rattle.std.specs.Prelude.{◌≡◌, [], ◌∷◌};
 ghost use Rattle.dcel_edits.specs.Strip.{CanCutStrip, CanLeadAlong, CanMoveOut, all_moved_out, led_along, strip_stored};
@@ -8,7 +8,7 @@ use dcel_fixed::{FixedDirectedEdgeHandle, OUTER_FACE};
 use dcel_store::Store;
 use std::alloc::Allocator;
 
-/// Cuts a strip: the outer face goes along these half edges and `last`, past the vertex before `last`.
+/// Cuts off a strip: the outer face goes along `items` and `last`, past the vertex before `last`.
 pub fn put_strip_cut<V, DE, UE, F, A: Allocator>(
     store: &mut Store<V, DE, UE, F, A>,
     items: &[FixedDirectedEdgeHandle],
@@ -20,6 +20,7 @@ pub fn put_strip_cut<V, DE, UE, F, A: Allocator>(
     let outer_out = store.prev(last);
     let vertex = store.origin(outer_out);
     let before = store.prev(store.prev(outer_out));
+    // `last` lies on the outer face already, and stays there.
     store.set_face_anchor(OUTER_FACE, Some(last));
     move_out(store, items);
     let end = lead_along(store, before, items);
@@ -27,7 +28,7 @@ pub fn put_strip_cut<V, DE, UE, F, A: Allocator>(
     store.set_vertex_anchor(vertex, None);
 }
 
-// Moves half edges to the outer face; their faces lose their anchors.
+// Moves half edges to the outer face. The faces that they leave lose their anchors.
 fn move_out<V, DE, UE, F, A: Allocator>(
     store: &mut Store<V, DE, UE, F, A>,
     items: &[FixedDirectedEdgeHandle],
@@ -44,7 +45,7 @@ fn move_out<V, DE, UE, F, A: Allocator>(
     }
 }
 
-// Leads the links from a half edge along others, as `lead` does, and answers the last one.
+// Links a half edge and those of a list in their order, as `lead` does, and returns the last one.
 fn lead_along<V, DE, UE, F, A: Allocator>(
     store: &mut Store<V, DE, UE, F, A>,
     before: FixedDirectedEdgeHandle,
@@ -64,7 +65,7 @@ fn lead_along<V, DE, UE, F, A: Allocator>(
     end
 }
 
-// Leads the links from one half edge to another, which becomes the anchor of the vertex that it starts at.
+// Links one half edge to another, which becomes the anchor of the vertex that it starts at.
 fn lead<V, DE, UE, F, A: Allocator>(
     store: &mut Store<V, DE, UE, F, A>,
     from: FixedDirectedEdgeHandle,

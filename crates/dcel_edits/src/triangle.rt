@@ -11,7 +11,7 @@ use dcel_fixed::{FixedDirectedEdgeHandle, FixedFaceHandle, FixedVertexHandle};
 use dcel_store::{EdgeData, HalfEdgeEntry, Store};
 use std::alloc::Allocator;
 
-/// Writes a triangle into an empty store.
+/// Writes a triangle and the outer face into an empty store.
 pub fn put_triangle<V, DE: Default, UE: Default, F: Default, A: Allocator>(
     store: &mut Store<V, DE, UE, F, A>,
     vertices: (V, V, V),
@@ -31,7 +31,7 @@ pub fn put_triangle<V, DE: Default, UE: Default, F: Default, A: Allocator>(
     store.push_edge(entry(0, 2, 0, 2), entry(3, 1, 1, 0), EdgeData::default());
 }
 
-// The links of a half edge, by their numbers.
+// The links of a half edge, given as numbers.
 fn entry(next: usize, prev: usize, face: usize, origin: usize) -> HalfEdgeEntry
     requires few_next { next < 2 ^ 32 }
     requires few_prev { prev < 2 ^ 32 }
@@ -47,7 +47,7 @@ fn entry(next: usize, prev: usize, face: usize, origin: usize) -> HalfEdgeEntry
     )
 }
 
-/// Cuts the triangle of the half edge `first` into three, which meet at `tip`.
+/// Cuts the triangle of the half edge `first` into three, which meet at the vertex `tip`.
 pub fn put_insertion<V, DE: Default, UE: Default, F: Default, A: Allocator>(
     store: &mut Store<V, DE, UE, F, A>,
     first: FixedDirectedEdgeHandle,

@@ -33,33 +33,37 @@ pub struct UndirectedEdgeTag;
 #[derive(Clone, Copy, PartialEq, Eq, PartialOrd, Ord, Debug, Default, Hash)]
 pub struct FaceTag;
 
-/// Marks handles of half edges of the Voronoi diagram. Each has the number of the half edge that it
-/// is dual to.
+/// Marks handles of half edges of the Voronoi diagram.
+///
+/// Each has the number of the half edge that it is dual to.
 #[derive(Clone, Copy, PartialEq, Eq, PartialOrd, Ord, Debug, Default, Hash)]
 pub struct DirectedVoronoiEdgeTag;
 
-/// Marks handles of edges of the Voronoi diagram. Each has the number of the edge that it is dual
-/// to.
+/// Marks handles of edges of the Voronoi diagram.
+///
+/// Each has the number of the edge that it is dual to.
 #[derive(Clone, Copy, PartialEq, Eq, PartialOrd, Ord, Debug, Default, Hash)]
 pub struct UndirectedVoronoiEdgeTag;
 
-/// Marks handles of faces of the Voronoi diagram. Each has the number of the vertex that it is dual
-/// to.
+/// Marks handles of faces of the Voronoi diagram.
+///
+/// Each has the number of the vertex that it is dual to.
 #[derive(Clone, Copy, PartialEq, Eq, PartialOrd, Ord, Debug, Default, Hash)]
 pub struct VoronoiFaceTag;
 
 /// Tells whether a handle may name the outer face: [`InnerTag`] or [`PossiblyOuterTag`].
 pub trait InnerOuterMarker: Copy + Ord + Debug + Default + Hash {
-    // The bytes that `debug_string` answers.
+    // The bytes that `debug_string` returns.
     ghost name: { List ℕ };
 
-    /// Answers what the marker says, as `Inner`.
+    /// Returns the name of the marker, such as `Inner`.
     fn debug_string() -> &'static str
         ensures { result.now ≡ name };
 }
 
-/// Marks handles that aren't meant for the outer face. No call tests that a face so marked isn't
-/// face 0: whoever makes the handle sees to it.
+/// Marks handles that aren't meant for the outer face.
+///
+/// No call tests that a face so marked isn't face 0: whoever makes the handle sees to it.
 #[derive(Clone, Copy, PartialEq, Eq, PartialOrd, Ord, Debug, Default, Hash)]
 pub struct InnerTag;
 
@@ -83,10 +87,10 @@ impl InnerOuterMarker for PossiblyOuterTag {
     }
 }
 
-/// The number of an element, below 2^32, with its kind and its marker as types. Contracts see the
-/// number alone, and so do `==`, `<` and the hash.
+/// The number of an element, below 2^32, with its kind and its marker as types.
 ///
-/// Use it by its aliases, as [`FixedVertexHandle`].
+/// Contracts see the number alone, and so do `==`, `<` and the hash. Use it by its aliases, such as
+/// [`FixedVertexHandle`].
 #[derive_where(Clone, Copy, PartialEq, Eq, PartialOrd, Ord, Hash)]
 pub struct FixedHandleImpl<Kind, InnerOuter: InnerOuterMarker> {
     index: u32,
@@ -113,7 +117,7 @@ pub type FixedDirectedEdgeHandle = FixedHandleImpl<DirectedEdgeTag, InnerTag>;
 /// The number of an edge.
 pub type FixedUndirectedEdgeHandle = FixedHandleImpl<UndirectedEdgeTag, InnerTag>;
 
-/// The number of a face, which may be the outer one only with [`PossiblyOuterTag`].
+/// The number of a face, the outer one only with [`PossiblyOuterTag`].
 pub type FixedFaceHandle<InnerOuter> = FixedHandleImpl<FaceTag, InnerOuter>;
 
 /// The outer face, which every mesh has: face 0.
@@ -126,7 +130,9 @@ pub const OUTER_FACE: FixedFaceHandle<PossiblyOuterTag> = FixedHandleImpl {
 /// The same as [`OUTER_FACE`].
 pub const OUTER_FACE_HANDLE: FixedFaceHandle<PossiblyOuterTag> = OUTER_FACE;
 
-/// Makes the handle of the face `index`. Asks that the number is below 2^32.
+/// Makes the handle of the face `index`.
+///
+/// Asks that the number is below 2^32.
 #[inline]
 pub fn new_fixed_face_handle(index: usize) -> FixedFaceHandle<PossiblyOuterTag>
     requires { index < 2 ^ 32 }
@@ -136,7 +142,9 @@ pub fn new_fixed_face_handle(index: usize) -> FixedFaceHandle<PossiblyOuterTag>
 }
 
 impl<Kind, InnerOuter: InnerOuterMarker> FixedHandleImpl<Kind, InnerOuter> {
-    /// Makes the handle of the element `index`. Asks that the number is below 2^32.
+    /// Makes the handle of the element `index`.
+    ///
+    /// Asks that the number is below 2^32.
     #[inline]
     pub fn new(index: usize) -> Self
         requires { index < 2 ^ 32 }
@@ -145,7 +153,7 @@ impl<Kind, InnerOuter: InnerOuterMarker> FixedHandleImpl<Kind, InnerOuter> {
         FixedHandleImpl::new_internal(index as u32)
     }
 
-    /// Answers the number, which is below 2^32.
+    /// Returns the number of the element, which is below 2^32.
     #[inline]
     pub fn index(&self) -> usize
         ensures value { result ≡ self.now }
@@ -154,8 +162,10 @@ impl<Kind, InnerOuter: InnerOuterMarker> FixedHandleImpl<Kind, InnerOuter> {
         self.index as usize
     }
 
-    /// Answers the handle with the same number and another marker. [`InnerTag`] is given to face 0
-    /// too: [`as_inner`](FixedFaceHandle::as_inner) is the call that rules the outer face out.
+    /// Returns the handle with the same number and another marker.
+    ///
+    /// [`InnerTag`] is given to face 0 too: [`as_inner`](FixedFaceHandle::as_inner) is the call
+    /// that rules the outer face out.
     #[inline]
     pub fn adjust_inner_outer<TargetInnerOuter: InnerOuterMarker>(
         &self,
@@ -178,7 +188,9 @@ impl<Kind, InnerOuter: InnerOuterMarker> FixedHandleImpl<Kind, InnerOuter> {
 }
 
 impl FixedVertexHandle {
-    /// Makes the handle of the vertex `index`. Asks that the number is below 2^32.
+    /// Makes the handle of the vertex `index`.
+    ///
+    /// Asks that the number is below 2^32.
     #[inline]
     pub fn from_index(index: usize) -> Self
         requires { index < 2 ^ 32 }
@@ -189,8 +201,9 @@ impl FixedVertexHandle {
 }
 
 impl FixedDirectedEdgeHandle {
-    /// Makes the handle of the normalized half edge of the edge `index`. Asks that the edge's
-    /// number is below 2^31, so that the half edge's is below 2^32.
+    /// Makes the handle of the normalized half edge of the edge `index`.
+    ///
+    /// Asks that the edge's number is below 2^31, so that the half edge's is below 2^32.
     #[inline]
     pub fn new_normalized(index: usize) -> Self
         requires { index < 2 ^ 31 }
@@ -199,7 +212,7 @@ impl FixedDirectedEdgeHandle {
         Self::new(2 * index)
     }
 
-    /// Tells whether this is the normalized half edge of its edge, the one with the even number.
+    /// Returns whether this is the normalized half edge of its edge, the one with the even number.
     #[inline]
     pub fn is_normalized(self) -> bool
         ensures { IsTrue result ↔ (self % 2 ≡ 0) }
@@ -207,7 +220,9 @@ impl FixedDirectedEdgeHandle {
         self.index % 2 == 0
     }
 
-    /// Answers the other half edge of the same edge. Its number differs in the last bit alone.
+    /// Returns the other half edge of the same edge.
+    ///
+    /// Its number differs in the last bit alone.
     #[inline]
     #[tactic(auto, using(crate::proofs::Halves::xor_one))]
     pub fn rev(self) -> Self
@@ -216,7 +231,7 @@ impl FixedDirectedEdgeHandle {
         Self::new_internal(self.index ^ 1)
     }
 
-    /// Answers the edge that this half edge belongs to.
+    /// Returns the edge that this half edge belongs to.
     #[inline]
     pub fn as_undirected(self) -> FixedUndirectedEdgeHandle
         ensures { result ≡ self / 2 }
@@ -226,7 +241,9 @@ impl FixedDirectedEdgeHandle {
 }
 
 impl FixedUndirectedEdgeHandle {
-    /// Answers the edge's normalized half edge. Asks that the edge's number is below 2^31.
+    /// Returns the edge's normalized half edge.
+    ///
+    /// Asks that the edge's number is below 2^31.
     #[inline]
     pub fn as_directed(self) -> FixedDirectedEdgeHandle
         requires { self < 2 ^ 31 }
@@ -235,8 +252,9 @@ impl FixedUndirectedEdgeHandle {
         FixedDirectedEdgeHandle::new_normalized(self.index())
     }
 
-    /// Answers both half edges of the edge, the normalized one first. Asks that the edge's number
-    /// is below 2^31.
+    /// Returns both half edges of the edge, the normalized one first.
+    ///
+    /// Asks that the edge's number is below 2^31.
     #[inline]
     #[tactic(auto, using(crate::proofs::Halves::halves))]
     pub fn directed_edges(self) -> [FixedDirectedEdgeHandle; 2]
@@ -249,7 +267,7 @@ impl FixedUndirectedEdgeHandle {
 }
 
 impl FixedFaceHandle<PossiblyOuterTag> {
-    /// Tells whether this is the outer face.
+    /// Returns whether this is the outer face.
     #[inline]
     pub fn is_outer(self) -> bool
         ensures { IsTrue result ↔ (self ≡ 0) }
@@ -257,7 +275,7 @@ impl FixedFaceHandle<PossiblyOuterTag> {
         self == OUTER_FACE
     }
 
-    /// Answers the same face with the marker of inner faces, or None for the outer face.
+    /// Returns the same face with the marker of inner faces, or None for the outer face.
     #[inline]
     pub fn as_inner(self) -> Option<FixedFaceHandle<InnerTag>>
         ensures outer { IsNone result ↔ (self ≡ 0) }
@@ -272,7 +290,7 @@ impl FixedFaceHandle<PossiblyOuterTag> {
 }
 
 impl<Kind, InnerOuter: InnerOuterMarker> Debug for FixedHandleImpl<Kind, InnerOuter> {
-    /// Writes the number alone, as `FixedHandle { index: 3 }`.
+    /// Writes the number alone, as in `FixedHandle { index: 3 }`.
     fn fmt<W: fmt::Write>(&self, f: &mut fmt::Formatter<W>) -> fmt::Result {
         f.debug_struct("FixedHandle")
             .field("index", &self.index)

@@ -1,3 +1,5 @@
+//! What contracts don't say of fixed handles: their hashes, and the texts that `Debug` writes.
+
 ghost use Rattle.std.specs.Prelude.{◌≡◌, ◌==◌, nat_lt};
 
 use super::*;
@@ -24,7 +26,7 @@ fn is_below<Kind, InnerOuter: InnerOuterMarker>(
     a < b
 }
 
-/// Asserts that `{:?}` writes this text for the value.
+/// Asserts that `{:?}` writes the text `want` for the value.
 fn assert_prints<R, T>(rt: &R, value: T, want: &str) -> Result<(), Fail>
 where
     R: Abort + AllocGlobal,
@@ -70,7 +72,7 @@ fn comparisons_see_the_number_alone(rt: HostRuntime) {
     assert!(rt; is_below(three, four) && !is_below(four, three));
 }
 
-/// Asserts that the handle, and another one with its number, are hashed as the number is.
+/// Asserts that the handle, and another one with its number, have the hash of the number.
 fn assert_hashed_as<Kind, InnerOuter: InnerOuterMarker>(
     handle: FixedHandleImpl<Kind, InnerOuter>,
     index: u32,

@@ -1,4 +1,4 @@
-//! Edges flipped by the numbers of their vertices.
+//! Legalization by the numbers of vertices: an example of a test that needs no positions.
 
 ghost use Rattle.std.specs.Prelude.{◌≡◌};
 ghost use Rattle.dcel_legalize.specs.ByNumber.{MakesFlips, has_lesser_corner};
@@ -10,7 +10,10 @@ use spade_dcel::dcel::Dcel;
 use spade_dcel::handles::{FixedUndirectedEdgeHandle, FixedVertexHandle};
 use std::alloc::Allocator;
 
-/// Flips edges as [`legalize_edges`] does: an edge is wanted where the lesser of the corners opposite it is below the lesser of its ends.
+/// Flips edges towards vertices with lower numbers, as [`legalize_edges`] does.
+///
+/// An edge is wanted if the lesser of the two corners opposite it is below the lesser of its two
+/// ends.
 pub fn legalize_by_number<V, DE, UE, F, A: Allocator, L: Allocator>(
     dcel: &mut Dcel<V, DE, UE, F, A>,
     list: Vec<FixedUndirectedEdgeHandle, L>,
@@ -22,7 +25,6 @@ pub fn legalize_by_number<V, DE, UE, F, A: Allocator, L: Allocator>(
     legalize_edges(dcel, list, |vertices| is_wanted(vertices), max_flips)
 }
 
-/// Whether the lesser of the last two is below the lesser of the first two.
 fn is_wanted(vertices: &[FixedVertexHandle; 4]) -> bool
     ensures { result ≡ has_lesser_corner vertices.now }
 {

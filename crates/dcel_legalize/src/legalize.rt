@@ -1,4 +1,4 @@
-//! Edges flipped, one after another, until none is left that can be flipped and is wanted.
+//! Legalization by a test that the caller passes: one flip after another, from a list of edges.
 
 ghost use Rattle.std.specs.Prelude.{◌≡◌, ◌+◌, ◌≤◌, ◌↔◌, ◌++◌, ℕ, Bool, List, IsTrue, true, vec_len, vec_capacity};
 ghost use Rattle.std.specs.Fn.{FnReturnsAt};
@@ -14,19 +14,24 @@ use spade_dcel::laws::every_mesh;
 use spade_dcel::operations::flip_cw;
 use std::alloc::Allocator;
 
-/// Flips edges until none is left that can be flipped and is wanted, or `max_flips` of them are flipped, or the list finds no memory.
+/// Flips edges until none is left that can be flipped and is wanted, or `max_flips` are flipped.
 ///
-/// The last edge is taken off the list, again and again. It is flipped ([`flip_cw`]) where it can be
-/// ([`can_flip`](Dcel::can_flip)) and is wanted, and then it and the other edges of its two triangles are put at the end of the list; else
-/// it is skipped, as are edges given up and numbers out of range.
+/// It takes the last edge off the list, again and again. If the edge can be flipped
+/// ([`can_flip`](Dcel::can_flip)) and is wanted, it flips it ([`flip_cw`]) and appends it and the
+/// other edges of its two triangles to the list. Otherwise it skips the edge. Given-up edges and
+/// numbers out of range are skipped too.
 ///
-/// `wanted` is asked with four vertices: where the edge's normalized half starts and ends, and the corners opposite the edge, first that
-/// on the side of this half. It is asked that it may be called with any four; what the answer promises is promised where it gives one
-/// answer for one argument.
+/// `wanted` is called with four vertices: the start and the end of the edge's normalized half, and
+/// the corners opposite the edge, the one on the side of this half first. It must be callable with
+/// any four. The clause `run` says something only if `wanted` always returns the same for the same
+/// four vertices.
 ///
-/// After [`Legalized::Done`] no edge of the list, and none that came to lie beside a flipped one, can be flipped and is wanted: so none of
-/// the mesh, where each such edge was in the list. Whether that comes to an end is the caller's concern, and `max_flips` bounds it. After
-/// [`Legalized::Stopped`] and [`Legalized::OutOfMemory`] such an edge is left. The flips that were made stand in each case.
+/// After [`Legalized::Done`], nothing is left to flip: no edge of the list, and no edge that came
+/// to lie beside a flipped one, can be flipped and is wanted. If the list had every such edge of
+/// the mesh, then none is left in the mesh. Some tests would go on forever, hence `max_flips`.
+///
+/// After [`Legalized::Stopped`], and after [`Legalized::OutOfMemory`] if the list cannot grow, such
+/// an edge is left. The flips made so far remain in each case.
 pub fn legalize_edges<V, DE, UE, F, A, L, W>(
     dcel: &mut Dcel<V, DE, UE, F, A>,
     mut list: Vec<FixedUndirectedEdgeHandle, L>,
@@ -60,7 +65,6 @@ where
     Legalized::Done { flips }
 }
 
-/// Whether the edge can be flipped and is wanted.
 fn is_due<V, DE, UE, F, A, W>(
     dcel: &Dcel<V, DE, UE, F, A>,
     edge: FixedUndirectedEdgeHandle,
@@ -80,7 +84,6 @@ where
     wanted(&corners_round(dcel, edge))
 }
 
-/// The vertices where the edge's normalized half starts and ends, and the corners opposite the edge on both sides.
 fn corners_round<V, DE, UE, F, A: Allocator>(
     dcel: &Dcel<V, DE, UE, F, A>,
     edge: FixedUndirectedEdgeHandle,
@@ -98,7 +101,7 @@ fn corners_round<V, DE, UE, F, A: Allocator>(
     ]
 }
 
-/// Puts the edge and those of the half edges after and before its halves at the end of the list, which has room for them.
+// Appends the flipped edge too: between its new ends, `wanted` may want it flipped again.
 fn append_beside<V, DE, UE, F, A: Allocator, L: Allocator>(
     dcel: &Dcel<V, DE, UE, F, A>,
     edge: FixedUndirectedEdgeHandle,

@@ -1,6 +1,7 @@
-//! Legalization: edges of a list are flipped, and then those beside them, until none is left that can be flipped and is wanted.
+//! Legalization: flips the edges of a list, and then those beside them, until no edge is left that
+//! can be flipped and is wanted.
 //!
-//! It stands on the public calls of the mesh alone, so a caller can write the like.
+//! It uses only public calls of the mesh, so a caller can write a variant of it.
 #![tactic(auto)]
 
 mod by_number;

@@ -2,52 +2,55 @@
 
 ghost use Rattle.std.specs.Prelude.{◌≡◌, ◌-◌, ℕ, true, false, List, [], ◌∷◌, length, ◌≢◌, ◌↔◌, ◌*◌, ◌<◌, Bool, slice_index};
 ghost use Rattle.dcel_fixed.specs.HalfEdges.{rev};
+ghost use Rattle.dcel_maps.specs.Borders.{IsBorderLoop};
 ghost use Rattle.dcel_maps.specs.Conditions.{CanFlip, CanSwapRemove, IsBridge, IsLineEnd};
 ghost use Rattle.dcel_maps.specs.Count.{Counts, IsCounted, live_edges, used_vertices};
 ghost use Rattle.dcel_maps.specs.Degenerate.{CanRemoveDegenerate};
 ghost use Rattle.dcel_maps.specs.edits.Create.{first_edge_added, first_edge_alone, outer_alone, vertex_appended};
 ghost use Rattle.dcel_maps.specs.edits.Degenerate.{removed_degenerate};
 ghost use Rattle.dcel_maps.specs.edits.Fill.{hole_filled, ring_remeshed};
-ghost use Rattle.dcel_maps.specs.edits.Flip.{edge_flipped};
+ghost use Rattle.dcel_maps.specs.edits.Flip.{GoesRound, edge_flipped};
 ghost use Rattle.dcel_maps.specs.edits.Line.{line_extended};
 ghost use Rattle.dcel_maps.specs.edits.Outside.{face_closed, face_put_beside};
+ghost use Rattle.dcel_maps.specs.edits.Rename.{vertices_swapped};
 ghost use Rattle.dcel_maps.specs.edits.Split.{edge_split, edge_split_on_line, half_edge_split};
 ghost use Rattle.dcel_maps.specs.edits.Strip.{strip_cut};
 ghost use Rattle.dcel_maps.specs.edits.Triangle.{triangle_alone, vertex_inserted};
 ghost use Rattle.dcel_maps.specs.edits.Whole.{cleared, with_data};
-ghost use Rattle.dcel_maps.specs.Maps.{Connected, Map};
-ghost use Rattle.dcel_maps.specs.Removals.{Cleaned, Closed, Removal, gives_up_vertex};
-ghost use Rattle.dcel_maps.specs.Renumbered.{AreNumbered, LeavesLive, new_face, new_half};
-ghost use Rattle.dcel_maps.specs.Triangulations.{AllTriangles, KeepsTriangles};
-ghost use Rattle.dcel_maps.specs.Borders.{IsBorderLoop};
-ghost use Rattle.dcel_maps.specs.edits.Flip.{GoesRound};
-ghost use Rattle.dcel_maps.specs.edits.Rename.{vertices_swapped};
-ghost use Rattle.dcel_maps.specs.Examples.{FillsSquare, FillsTriangle, GoesFromHoleToHole, IsRingFrom, gathered, inside_triangle, on_edge, scattered, two_triangles};
 ghost use Rattle.dcel_maps.specs.Elementary.{Chord, FirstEdge, Renamed, Spur, Subdivide, Unchord, Unspur, Unsubdivide};
+ghost use Rattle.dcel_maps.specs.Examples.{FillsSquare, FillsTriangle, GoesFromHoleToHole, IsRingFrom, gathered, inside_triangle, on_edge, scattered, two_triangles};
 ghost use Rattle.dcel_maps.specs.Headline.{CountsTwo, FacesAreCycles, VerticesAreCycles};
 ghost use Rattle.dcel_maps.specs.HeadlineExamples.{pinched, torus, with_idle_face, without_anchors};
 ghost use Rattle.dcel_maps.specs.InsertedBack.{CanInsertLast, IsBackWithoutLast, NewData, inserted_with, removed_with};
+ghost use Rattle.dcel_maps.specs.Maps.{Connected, Map};
 ghost use Rattle.dcel_maps.specs.PathExamples.{BothGone, EndGone, MiddleGone};
 ghost use Rattle.dcel_maps.specs.RegionExamples.{AreNoRings, FillsOneFace, FillsThreeFaces, FillsTwoFaces};
 ghost use Rattle.dcel_maps.specs.Regions.{IsRegionRing};
+ghost use Rattle.dcel_maps.specs.Removals.{Cleaned, Closed, Removal, gives_up_vertex};
+ghost use Rattle.dcel_maps.specs.Renumbered.{AreNumbered, LeavesLive, new_face, new_half};
 ghost use Rattle.dcel_maps.specs.Renumbering.{cleaned_up, vertex_taken_out, moved, renumbered, with_removal};
 ghost use Rattle.dcel_maps.specs.Shapes.{IsMesh, IsSphere, Mesh, face_of, vertex_is_live, IsAnchored, IsLive, IsSound, Shape, map_of, origin_of};
-ghost use Rattle.dcel_maps.specs.theory.Sound.{Sound, Sphere};
 ghost use Rattle.dcel_maps.specs.StripExamples.{CornerCut, CornerOfThreeCut, EndCut};
+ghost use Rattle.dcel_maps.specs.theory.Sound.{Sound, Sphere};
+ghost use Rattle.dcel_maps.specs.Triangulations.{AllTriangles, KeepsTriangles};
 ghost use Rattle.dcel_maps.specs.Words.{total_length};
 
-/// Two triangles that lie beside each other are no sphere: their vertices, minus their edges, plus their faces, are four.
+/// Two triangles that lie beside each other are no sphere: their vertices, minus their edges, plus
+/// their faces, are four.
 pub fn two_triangles_are_no_sphere()
     ensures { ¬ IsSphere two_triangles }
 {}
 
-/// An edge of a mesh that can be flipped can be flipped three times more, and after the fourth flip each half edge has its `next`, its
-/// `prev`, its origin and its face again. No datum has moved. Only anchors may be others.
+/// An edge of a mesh that can be flipped can be flipped three times more, and after the fourth flip
+/// each half edge has its `next`, its `prev`, its origin and its face again.
+///
+/// No datum has moved. Only anchors may be others.
 pub fn four_flips_go_round<V, DE, UE, F>()
     ensures { (m : Mesh V DE UE F) (u : ℕ) → IsMesh m → CanFlip m.shape u → GoesRound m u }
 {}
 
-/// A swap is its own way back: two vertices of a mesh that are swapped twice are what they were, and so is all else.
+/// A swap is its own way back: two vertices of a mesh that are swapped twice are what they were,
+/// and so is all else.
 pub fn two_swaps_change_nothing<V, DE, UE, F>()
     ensures { (m : Mesh V DE UE F) (a b : ℕ) → IsMesh m
         → vertex_is_live m.shape a ≡ true → vertex_is_live m.shape b ≡ true
@@ -59,23 +62,29 @@ pub fn a_swap_of_one_vertex_changes_nothing<V, DE, UE, F>()
     ensures { (m : Mesh V DE UE F) (v : ℕ) → IsMesh m → vertex_is_live m.shape v ≡ true → vertices_swapped m v v ≡ m }
 {}
 
-/// What is left of three examples once a vertex is cut off: a corner of a triangle that has a vertex in it, a corner of a triangle alone,
-/// and an end of a line, which is a strip without triangles.
+/// What is left of three examples once a vertex is cut off: a corner of a triangle that has a
+/// vertex in it, a corner of a triangle alone, and an end of a line, which is a strip without
+/// triangles.
 pub fn strips_are_cut_off()
     ensures corner_of_three { CornerOfThreeCut }
     ensures corner { CornerCut }
     ensures end { EndCut }
 {}
 
-/// Two holes and what fills them: of a vertex inside a triangle, one face, and of a vertex on an edge, two faces with an edge between
-/// them. Each ring is what comes after the out edges of the vertex.
+/// Two holes and what fills them: of a vertex inside a triangle, one face, and of a vertex on an
+/// edge, two faces with an edge between them.
+///
+/// Each ring is what comes after the out edges of the vertex.
 pub fn two_holes_are_filled()
     ensures triangle { IsRingFrom inside_triangle.shape (1 ∷ 3 ∷ 5 ∷ []) 7 × FillsTriangle }
     ensures square { IsRingFrom on_edge.shape (1 ∷ 11 ∷ 8 ∷ 5 ∷ []) 7 × FillsSquare }
 {}
 
-/// Three regions and what fills them: the face of a triangle, and of a triangle with a vertex in it two faces and all three. Cleanup leaves
-/// no removal open. Their ring read from elsewhere, and other faces beside the edge, are none.
+/// Three regions and what fills them: the face of a triangle, and of a triangle with a vertex in it
+/// two faces and all three.
+///
+/// Cleanup leaves no removal open. Their ring read from elsewhere, and other faces beside the edge,
+/// are none.
 pub fn three_regions_are_filled()
     ensures one { FillsOneFace }
     ensures two { FillsTwoFaces }
@@ -83,27 +92,32 @@ pub fn three_regions_are_filled()
     ensures none { AreNoRings }
 {}
 
-/// Elements that are taken out from the largest down: the last one goes from hole to hole until none is left below it.
+/// Elements that are taken out from the largest down: the last one goes from hole to hole until
+/// none is left below it.
 pub fn the_last_goes_from_hole_to_hole()
     ensures { GoesFromHoleToHole }
 {}
 
-/// A removal closed: a triangle with an edge, a face and a vertex given up becomes one without them.
+/// A removal closed: a triangle with an edge, a face and a vertex given up becomes one without
+/// them.
 pub fn a_scattered_triangle_is_gathered()
     ensures { vertex_taken_out (cleaned_up scattered) 1 ≡ gathered }
 {}
 
-/// What is left of three degenerate meshes once a vertex is removed: of a line without an end, of two vertices without one and then without
-/// the other, and of a line without a vertex in its middle.
+/// What is left of three degenerate meshes once a vertex is removed: of a line without an end, of
+/// two vertices without one and then without the other, and of a line without a vertex in its
+/// middle.
 pub fn vertices_of_lines_are_removed()
     ensures end { EndGone }
     ensures both { BothGone }
     ensures middle { MiddleGone }
 {}
 
-/// An insertion taken back: a vertex, the last one, that is inserted into a triangle and then isolated along any of its border loops,
-/// cleaned up and taken out leaves each word, origin, number and datum of before, without the vertex. Only the triangle's datum is a new
-/// one, and only anchors may be others.
+/// An insertion taken back: a vertex, the last one, that is inserted into a triangle and then
+/// isolated along any of its border loops, cleaned up and taken out leaves each word, origin,
+/// number and datum of before, without the vertex.
+///
+/// Only the triangle's datum is a new one, and only anchors may be others.
 pub fn an_inserted_vertex_comes_out_again<V, DE, UE, F>()
     ensures { (m : Mesh V DE UE F) (v f : ℕ) (border : List ℕ) (new : NewData DE UE F 3 2)
         (filling : NewData DE UE F (length border - 3) (length border - 2)) → IsMesh m → CanInsertLast m v f
@@ -130,9 +144,11 @@ pub fn new_meshes_are_triangulated<V, DE, UE, F>()
         → AllTriangles (triangle_alone vertices halves edges faces).shape }
 {}
 
-/// Where each live inner face of a mesh is a triangle, it is so after each edit that adds something: with a half edge of the outer face
-/// where a face is put beside one, and with one whose other half lies on the outer face where one side of an edge is split. Elsewhere these
-/// two leave an inner face with a half edge more.
+/// Where each live inner face of a mesh is a triangle, it is so after each edit that adds
+/// something: with a half edge of the outer face where a face is put beside one, and with one whose
+/// other half lies on the outer face where one side of an edge is split.
+///
+/// Elsewhere these two leave an inner face with a half edge more.
 pub fn growth_keeps_triangles<V, DE, UE, F>()
     ensures append { (m : Mesh V DE UE F) (datum : V) → KeepsTriangles m (vertex_appended m datum) }
     ensures setup { (m : Mesh V DE UE F) (a b : ℕ) (halves : List DE) (edges : List UE) → KeepsTriangles m (first_edge_added m a b halves edges) }
@@ -152,7 +168,8 @@ pub fn growth_keeps_triangles<V, DE, UE, F>()
         → KeepsTriangles m (edge_split m e middle halves edges faces) }
 {}
 
-/// The same for edits that add nothing: an edge flipped, vertices swapped, other data, and a mesh cleared.
+/// The same for edits that add nothing: an edge flipped, vertices swapped, other data, and a mesh
+/// cleared.
 pub fn changes_keep_triangles<V, DE, UE, F, W, DX, UX, G>()
     ensures flip { (m : Mesh V DE UE F) (u : ℕ) → KeepsTriangles m (edge_flipped m u) }
     ensures swap { (m : Mesh V DE UE F) (a b : ℕ) → KeepsTriangles m (vertices_swapped m a b) }
@@ -161,8 +178,8 @@ pub fn changes_keep_triangles<V, DE, UE, F, W, DX, UX, G>()
     ensures clear { (m : Mesh V DE UE F) → KeepsTriangles m (cleared m) }
 {}
 
-/// The same for removals, from the opening to the end: what is given up is no live face, new faces are triangles, and renumbering keeps
-/// the words.
+/// The same for removals, from the opening to the end: what is given up is no live face, new faces
+/// are triangles, and renumbering keeps the words.
 pub fn removals_keep_triangles<V, DE, UE, F>()
     ensures isolate { (m : Mesh V DE UE F) (v : ℕ) (border : List ℕ) (halves : List DE) (edges : List UE) (faces : List F)
         → m.shape.removal ≡ Closed → KeepsTriangles m (hole_filled m v border halves edges faces) }
@@ -174,9 +191,12 @@ pub fn removals_keep_triangles<V, DE, UE, F>()
     ensures degenerate { (m : Mesh V DE UE F) (v : ℕ) → CanRemoveDegenerate m.shape v → KeepsTriangles m (removed_degenerate m v) }
 {}
 
-/// What is live when a removal is cleaned up, or when a vertex is taken out, stays with its word, its origin, its anchor and its data, all
-/// but this vertex. Only its number may change, by one short rule: write the numbers of all elements of its kind in a list, and put the last
-/// item at the place of each that goes, from the largest down. The new number of what stays is the place where its old one stands then.
+/// What is live when a removal is cleaned up, or when a vertex is taken out, stays with its word,
+/// its origin, its anchor and its data, all but this vertex.
+///
+/// Only its number may change, by one short rule: write the numbers of all elements of its kind in
+/// a list, and put the last item at the place of each that goes, from the largest down. The new
+/// number of what stays is the place where its old one stands then.
 pub fn removals_leave_what_is_live<V, DE, UE, F>()
     ensures cleanup { (m : Mesh V DE UE F) → IsMesh m → LeavesLive m (cleaned_up m) (new_half m.shape) (λ v. v) (new_face m.shape) }
     ensures places { (m : Mesh V DE UE F) → IsMesh m → AreNumbered m.shape }
@@ -186,9 +206,11 @@ pub fn removals_leave_what_is_live<V, DE, UE, F>()
         → slice_index (renumbered m.shape.vertices (v ∷ [])) (moved (m.shape.vertices - 1) v w) ≡ w }
 {}
 
-/// What the headline leaves out, part by part: a triangle of its own beside another one, which isn't connected; a torus, whose vertices,
-/// minus edges, plus faces are none; two triangles with one vertex in common, round which there are two cycles; a vertex that was given up
-/// while an out edge is still live; an inner face without a half edge; and a vertex without an anchor where edges start.
+/// What the headline leaves out, part by part: a triangle of its own beside another one, which
+/// isn't connected; a torus, whose vertices, minus edges, plus faces are none; two triangles with
+/// one vertex in common, round which there are two cycles; a vertex that was given up while an out
+/// edge is still live; an inner face without a half edge; and a vertex without an anchor where
+/// edges start.
 pub fn the_headline_leaves_out<V, DE, UE, F>()
     ensures apart { ¬ Connected (map_of two_triangles) }
     ensures torus { ¬ CountsTwo torus }
@@ -199,9 +221,12 @@ pub fn the_headline_leaves_out<V, DE, UE, F>()
     ensures unanchored { ¬ IsAnchored without_anchors }
 {}
 
-/// Six elementary edits take a sound map on the sphere to another one: connected, and with vertices that have an edge, minus edges, plus
-/// faces, two. A spur is added, or dropped; an edge is subdivided, or two are joined; a word is cut by a chord, or two words are joined. A
-/// first edge makes such a map, and other numbers keep it one. What is said of maps is said of sound shapes.
+/// Six elementary edits take a sound map on the sphere to another one: connected, and with vertices
+/// that have an edge, minus edges, plus faces, two.
+///
+/// A spur is added, or dropped; an edge is subdivided, or two are joined; a word is cut by a chord,
+/// or two words are joined. A first edge makes such a map, and other numbers keep it one. What is
+/// said of maps is said of sound shapes.
 pub fn elementary_edits_keep_a_sphere()
     ensures first { (T : Map) (h a b : ℕ) → FirstEdge T h a b → Sound T × Sphere T }
     ensures spur_added { (S T : Map) (a h v : ℕ) → Sound S → Sphere S → Spur S T a h v → Sound T × Sphere T }
@@ -220,8 +245,8 @@ pub fn words_have_each_half_edge()
     ensures { (s : Shape) → IsSound s → total_length s.words ≡ 2 * live_edges s }
 {}
 
-/// Where an edge stands and each live inner face is a triangle, the live edges are three times the vertices with a live edge, minus
-/// three, minus the length of the hull.
+/// Where an edge stands and each live inner face is a triangle, the live edges are three times the
+/// vertices with a live edge, minus three, minus the length of the hull.
 pub fn triangles_are_counted<V, DE, UE, F>()
     ensures { (m : Mesh V DE UE F) → IsMesh m → Counts m }
 {}

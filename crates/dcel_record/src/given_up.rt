@@ -1,4 +1,4 @@
-//! Elements of a kind that an open removal has given up.
+//! The elements of one kind that an open removal has given up.
 
 ghost use Rattle.std.specs.Prelude.{◌≡◌, ℕ, ◌<◌, ◌==◌, ◌↔◌, IfOk, IsTrue, drop, false, length, slice_index, suc, true, [], OnOk, OnErr};
 ghost use Rattle.std.specs.List.{list_any};
@@ -9,11 +9,13 @@ use dcel_fixed::{FixedHandleImpl, InnerTag};
 use std::alloc::{AllocError, Allocator};
 use std::marker::Model;
 
-/// The elements of a kind that are given up. Contracts see their numbers in ascending order.
+/// The elements of one kind that are given up.
+///
+/// Contracts see their numbers in ascending order.
 #[derive(Drop)]
 pub struct GivenUp<Kind, A: Allocator> {
-    // First in ascending order, to be searched by halves, and then in the order in which they were given, since a list that is asked
-    // about is mostly that one.
+    // The elements twice: in ascending order, for binary search, and then in the order in which
+    // they were given, since a list to be matched mostly is that one.
     handles: Vec<FixedHandleImpl<Kind, InnerTag>, A>,
 }
 
@@ -30,7 +32,7 @@ impl<Kind, A: Allocator> Model for GivenUp<Kind, A> {
 }
 
 impl<Kind, A: Allocator> GivenUp<Kind, A> {
-    /// None. It takes no memory.
+    /// Makes a set of no elements, without allocating.
     #[inline]
     pub fn none(alloc: A) -> Self
         ensures { result ≡ [] }
@@ -40,7 +42,7 @@ impl<Kind, A: Allocator> GivenUp<Kind, A> {
         }
     }
 
-    /// They, in ascending order.
+    /// Returns the elements in ascending order.
     #[inline]
     pub fn as_slice(&self) -> &[FixedHandleImpl<Kind, InnerTag>]
         ensures { result.now ≡ self.now }
@@ -48,7 +50,7 @@ impl<Kind, A: Allocator> GivenUp<Kind, A> {
         &self.handles[..self.handles.len() / 2]
     }
 
-    /// Whether the element is one of them. It is searched by halves.
+    /// Returns whether the element is one of them, by binary search.
     pub fn contains(&self, handle: &FixedHandleImpl<Kind, InnerTag>) -> bool
         ensures { result ≡ list_any (λ given_up. given_up == handle.now) self.now }
     {
@@ -59,8 +61,10 @@ impl<Kind, A: Allocator> GivenUp<Kind, A> {
 }
 
 impl<Kind: Copy, A: Allocator> GivenUp<Kind, A> {
-    /// Gives those of the list up, in any order, and no others. It takes memory once, where what it has isn't enough; without memory
-    /// none are given up.
+    /// Gives up the elements of the list, which may be in any order, and no others.
+    ///
+    /// It allocates at most once, if the memory that it has isn't enough. If memory runs out it
+    /// returns `AllocError`, and no element is given up.
     pub fn give_up(&mut self, list: &[FixedHandleImpl<Kind, InnerTag>]) -> Result<(), AllocError>
         ensures given_up { OnOk result (self.new ≡ ascending list.now) }
         ensures refused { OnErr result (self.new ≡ []) }
@@ -74,10 +78,11 @@ impl<Kind: Copy, A: Allocator> GivenUp<Kind, A> {
     }
 }
 
-/// Lists that are asked about.
 impl<Kind, A: Allocator> GivenUp<Kind, A> {
-    /// Whether the list names them, each once, in any order. It looks at each place of the list once where the order is the one in which
-    /// they were given up; else the time may grow with the square of its length.
+    /// Returns whether the list names all of them and nothing else, each once, in any order.
+    ///
+    /// A list in the order in which they were given up takes time linear in its length, any other
+    /// list up to its square.
     pub fn matches(&self, list: &[FixedHandleImpl<Kind, InnerTag>]) -> bool
         requires { GoesUp self.now }
         ensures { IsTrue result ↔ (ascending list.now ≡ self.now) }
@@ -118,7 +123,7 @@ fn names_none_twice<Kind>(list: &[FixedHandleImpl<Kind, InnerTag>]) -> bool
 }
 
 impl<Kind, A: Allocator> GivenUp<Kind, A> {
-    /// The same, in memory of this allocator. It is refused where there is none.
+    /// Returns a copy in memory of `alloc`, or `AllocError` if there is none.
     pub fn try_clone(&self, alloc: A) -> Result<Self, AllocError>
         ensures { IfOk result (λ copy. copy ≡ self.now) }
     {

@@ -1,6 +1,6 @@
-//! The removal record: what an open removal has given up, so that each other call can tell what is live.
+//! The removal record: what an open removal has given up, so that every call can tell what is live.
 //!
-//! Contracts see it as the record of a mesh, `Removal` of `dcel_maps/specs/Removals`.
+//! Contracts see it as the removal of a mesh, `Removal` of `dcel_maps/specs/Removals`.
 #![tactic(auto)]
 
 ghost use Rattle.std.specs.Prelude.{◌≡◌, ◌↔◌, IfOk, OnOk, OnErr, IsTrue};
@@ -20,26 +20,28 @@ use given_up::GivenUp;
 use std::alloc::{AllocError, Allocator};
 use std::marker::Model;
 
-/// How far a removal has come.
+/// How far the removal of a mesh has come.
 #[derive(Clone, Copy, PartialEq, Eq, Debug)]
 pub enum RemovalState {
     /// No removal is open.
     Closed,
 
-    /// One is open: what it has given up is still there, and to be cleaned up.
+    /// One is open: what it has given up is still stored, and to be cleaned up.
     Isolated,
 
-    /// One is open: the edges and faces that it has given up are gone, and its vertex is still to be taken out. A removal without a vertex
-    /// is closed instead.
+    /// One is open: the edges and faces that it has given up are gone, and its vertex is still to
+    /// be taken out. A removal without a vertex is closed instead.
     Cleaned,
 }
 
-/// What an open removal has given up: nothing while none is open; edges, faces and, if there is one, a vertex until they are cleaned up;
-/// and then the vertex alone.
+/// What an open removal has given up.
+///
+/// That is nothing while none is open. It is edges and faces, and a vertex if there is one, until
+/// they are cleaned up; afterwards it is the vertex alone.
 #[derive(Drop)]
 pub struct RemovalRecord<A: Allocator> {
     state: State,
-    // What is given up until it is cleaned up. Afterwards their memory is kept for the next opening.
+    // These hold until the removal is cleaned up. Their memory is kept for the next one.
     edges: GivenUp<UndirectedEdgeTag, A>,
     faces: GivenUp<FaceTag, A>,
 }
@@ -47,7 +49,7 @@ pub struct RemovalRecord<A: Allocator> {
 #[derive(Clone, Copy)]
 enum State {
     Closed,
-    // A region of faces is given up without a vertex.
+    // None if a region of faces is given up without a vertex.
     Isolated(Option<FixedVertexHandle>),
     Cleaned(FixedVertexHandle),
 }
@@ -63,7 +65,10 @@ impl<A: Allocator> Model for RemovalRecord<A> {
 }
 
 impl<A: Allocator + Clone> RemovalRecord<A> {
-    /// That of a mesh where no removal is open. What removals give up is held in memory that clones of `alloc` give; none is taken yet.
+    /// Makes the record of a mesh where no removal is open.
+    ///
+    /// Later calls hold what is given up in memory of two clones of `alloc`. This one only clones
+    /// it, and returns `AllocError` only if that fails.
     pub fn closed(alloc: &A) -> Result<Self, AllocError>
         ensures { IfOk result (λ closed. closed ≡ Closed) }
     {
@@ -78,8 +83,12 @@ impl<A: Allocator + Clone> RemovalRecord<A> {
 }
 
 impl<A: Allocator> RemovalRecord<A> {
-    /// Opens a removal: these edges and faces, in any order, are given up, and this vertex if there is one. It asks that none is open. It
-    /// takes memory once for the edges and once for the faces, where earlier removals had fewer; without memory none is open.
+    /// Opens a removal, which gives up these edges and faces, and the vertex if there is one.
+    ///
+    /// The lists may be in any order. Asks that no removal is open
+    /// ([`is_closed`](Self::is_closed)). It allocates once for the edges and once for the faces, if
+    /// earlier removals had fewer. If memory runs out it returns `AllocError`, and no removal is
+    /// open.
     pub fn open(
         &mut self,
         edges: &[FixedUndirectedEdgeHandle],
@@ -96,7 +105,7 @@ impl<A: Allocator> RemovalRecord<A> {
         Ok(())
     }
 
-    /// No removal is open. It takes no memory, and keeps what it has.
+    /// Closes the removal, if one is open, without allocating. It keeps its memory.
     #[inline]
     pub fn close(&mut self)
         ensures { self.new ≡ Closed }
@@ -104,7 +113,9 @@ impl<A: Allocator> RemovalRecord<A> {
         self.state = State::Closed;
     }
 
-    /// Leaves the vertex alone given up, if there is one, and else closes the removal: the edges and faces are gone.
+    /// Gives up the edges and faces no longer, since they are gone.
+    ///
+    /// The vertex stays given up. If there is none, the removal is closed.
     pub fn clean_up(&mut self)
         ensures { self.new ≡ cleaned self.old }
     {
@@ -116,7 +127,7 @@ impl<A: Allocator> RemovalRecord<A> {
         }
     }
 
-    /// Whether no removal is open.
+    /// Returns whether no removal is open.
     #[inline]
     pub fn is_closed(&self) -> bool
         ensures { IsTrue result ↔ (self.now ≡ Closed) }
@@ -124,7 +135,7 @@ impl<A: Allocator> RemovalRecord<A> {
         matches!(self.state, State::Closed)
     }
 
-    /// How far the removal has come.
+    /// Returns how far the removal has come.
     #[inline]
     pub fn state(&self) -> RemovalState
         ensures { result ≡ state_of self.now }
@@ -136,8 +147,11 @@ impl<A: Allocator> RemovalRecord<A> {
         }
     }
 
-    /// Whether edges and faces are given up and not yet gone, and the lists name these, each once, in any order. It looks at each place
-    /// of the lists once where their order is the one in which they were given up; else the time may grow with the square of their lengths.
+    /// Returns whether the lists name all edges and faces that are given up and not yet gone.
+    ///
+    /// They name each once, in any order, and nothing else; if no removal is open or it was cleaned
+    /// up, the result is false. Lists in the order in which the elements were given up take time
+    /// linear in their lengths, any others up to the square of that.
     pub fn lists(
         &self,
         edges: &[FixedUndirectedEdgeHandle],
@@ -152,7 +166,7 @@ impl<A: Allocator> RemovalRecord<A> {
         }
     }
 
-    /// The edges that are given up and not yet gone, in ascending order.
+    /// Returns the edges that are given up and not yet gone, in ascending order.
     #[inline]
     pub fn edges(&self) -> &[FixedUndirectedEdgeHandle]
         ensures { result.now ≡ edges_of self.now }
@@ -163,7 +177,7 @@ impl<A: Allocator> RemovalRecord<A> {
         }
     }
 
-    /// The faces that are given up and not yet gone, in ascending order.
+    /// Returns the faces that are given up and not yet gone, in ascending order.
     #[inline]
     pub fn faces(&self) -> &[FixedFaceHandle<InnerTag>]
         ensures { result.now ≡ faces_of self.now }
@@ -174,7 +188,7 @@ impl<A: Allocator> RemovalRecord<A> {
         }
     }
 
-    /// Whether the vertex is given up.
+    /// Returns whether the vertex is given up.
     #[inline]
     #[tactic(auto, unfolding(dcel_maps::specs::Removals::gives_up_vertex))]
     pub fn gives_up_vertex(&self, vertex: FixedVertexHandle) -> bool
@@ -187,7 +201,7 @@ impl<A: Allocator> RemovalRecord<A> {
         }
     }
 
-    /// Whether the edge is given up.
+    /// Returns whether the edge is given up and not yet gone.
     #[inline]
     #[tactic(auto, unfolding(dcel_maps::specs::Removals::gives_up_edge))]
     pub fn gives_up_edge(&self, edge: FixedUndirectedEdgeHandle) -> bool
@@ -199,7 +213,7 @@ impl<A: Allocator> RemovalRecord<A> {
         }
     }
 
-    /// Whether the face is given up.
+    /// Returns whether the face is given up and not yet gone.
     #[inline]
     #[tactic(auto, unfolding(dcel_maps::specs::Removals::gives_up_face))]
     pub fn gives_up_face(&self, face: FixedFaceHandle<InnerTag>) -> bool
@@ -213,7 +227,7 @@ impl<A: Allocator> RemovalRecord<A> {
 }
 
 impl<A: Allocator + Clone> RemovalRecord<A> {
-    /// The same record, in memory that clones of `alloc` give. It is refused where there is none.
+    /// Returns a copy in memory of clones of `alloc`, or `AllocError` if there is none.
     pub fn try_clone(&self, alloc: &A) -> Result<Self, AllocError>
         ensures { IfOk result (λ copy. copy ≡ self.now) }
     {

@@ -5,9 +5,10 @@
 //! makes a sound mesh. Contracts see it as lists by number, the record `Lists` of
 //! `specs/Lists.antt`, and say of each call which items it reads or changes.
 //!
-//! Each of the four links has a vector of its own, as have the data of half edges and those of edges.
-//! A walk reads one or two links of each half edge, and little else comes into the cache with them. A new edge
-//! is written at the end of six vectors, and makes all of them longer where there is no room.
+//! Each of the four links has a vector of its own, and so have the data of half edges and those of
+//! edges. A walk reads one or two links of each half edge, and little else comes into the cache
+//! with them. A new edge is written at the end of six vectors, and lengthens all of them if there
+//! is no room.
 #![tactic(auto)]
 
 ghost use Rattle.std.specs.Prelude.{◌≡◌, ℕ, ◌+◌, ◌-◌, ◌<◌, ◌≤◌, [], ◌∷◌, ◌++◌, length, slice_index, slice_index_or, slice_set, OnOk, IfOk, IsOk, None};
@@ -39,20 +40,20 @@ pub struct HalfEdgeEntry {
     pub origin: FixedVertexHandle,
 }
 
-/// The data of an edge: of its half edges, and of itself.
+/// The data of an edge: one of each half edge, and one of the edge itself.
 #[derive(Clone, Drop, Default)]
 pub struct EdgeData<DE, UE> {
-    /// That of the normalized half edge.
+    /// The datum of the normalized half edge.
     pub normalized: DE,
 
-    /// That of the other half edge.
+    /// The datum of the other half edge.
     pub reversed: DE,
 
-    /// That of the edge itself.
+    /// The datum of the edge itself.
     pub undirected: UE,
 }
 
-/// An edge as [`Store::push_three_edges`] takes it: the links of its half edges, and its data.
+/// An edge, as [`Store::push_three_edges`] takes it: the links of its half edges, and its data.
 #[derive(Drop)]
 pub struct EdgeEntry<DE, UE> {
     /// The links of the normalized half edge.
@@ -61,7 +62,7 @@ pub struct EdgeEntry<DE, UE> {
     /// The links of the other half edge.
     pub reversed: HalfEdgeEntry,
 
-    /// The data of both, and of the edge itself.
+    /// The data of both half edges, and of the edge itself.
     pub edge_data: EdgeData<DE, UE>,
 }
 
@@ -82,15 +83,15 @@ struct FaceEntry<F> {
 pub struct Store<V, DE, UE, F, A: Allocator = Global> {
     vertices: Vec<VertexEntry<V>, A>,
 
-    // An item for each half edge: those of an edge stand side by side, the normalized one first.
+    // An item for each half edge: the two of an edge stand side by side, the normalized one first.
     next: Vec<FixedDirectedEdgeHandle, A>,
     prev: Vec<FixedDirectedEdgeHandle, A>,
     origin: Vec<FixedVertexHandle, A>,
     face: Vec<FixedFaceHandle<PossiblyOuterTag>, A>,
     directed_data: Vec<DE, A>,
 
-    // An item for each edge. Where it has a place left, each vector of half edges has two, so that
-    // one look at this one tells whether there is room for an edge.
+    // An item for each edge. For each place left here, each vector of half edges has two, so that
+    // the capacity of this vector tells whether there is room for an edge.
     undirected_data: Vec<UE, A>,
 
     faces: Vec<FaceEntry<F>, A>,
@@ -109,9 +110,10 @@ impl<V, DE, UE, F, A: Allocator> Model for Store<V, DE, UE, F, A> {
 }
 
 impl<V, DE, UE, F, A: Allocator + Clone> Store<V, DE, UE, F, A> {
-    /// Makes an empty store, which takes no memory. It clones `alloc`, once for the vertices and six
-    /// times for the edges, and answers an error only where that fails. With `Global` or a `&` it
-    /// never does.
+    /// Makes an empty store, without allocating.
+    ///
+    /// It clones `alloc` once for the vertices and six times for the edges, and returns
+    /// `AllocError` only if that fails. With `Global` or a `&` it never does.
     pub fn new(alloc: A) -> Result<Self, AllocError>
         ensures { IfOk result (λ store. store ≡ empty) }
     {
@@ -136,13 +138,15 @@ impl<V, DE, UE, F, A: Allocator + Clone> Store<V, DE, UE, F, A> {
 }
 
 impl<V, DE, UE, F, A: Allocator> Store<V, DE, UE, F, A> {
-    /// Answers an allocator that it was made with. Contracts see nothing of it.
+    /// Returns the allocator that the store was made with.
+    ///
+    /// Contracts see nothing of it.
     #[inline]
     pub fn allocator(&self) -> &A {
         self.faces.allocator()
     }
 
-    /// Answers how many vertices there are.
+    /// Returns the number of vertices.
     #[inline]
     pub fn num_vertices(&self) -> usize
         ensures count { result ≡ length self.now.vertex_data }
@@ -151,7 +155,7 @@ impl<V, DE, UE, F, A: Allocator> Store<V, DE, UE, F, A> {
         self.vertices.len()
     }
 
-    /// Answers how many edges there are, each with two half edges.
+    /// Returns the number of edges, each with two half edges.
     #[inline]
     pub fn num_edges(&self) -> usize
         ensures count { result ≡ length self.now.undirected_data }
@@ -160,7 +164,7 @@ impl<V, DE, UE, F, A: Allocator> Store<V, DE, UE, F, A> {
         self.undirected_data.len()
     }
 
-    /// Answers how many faces there are.
+    /// Returns the number of faces.
     #[inline]
     pub fn num_faces(&self) -> usize
         ensures count { result ≡ length self.now.face_data }
@@ -169,8 +173,10 @@ impl<V, DE, UE, F, A: Allocator> Store<V, DE, UE, F, A> {
         self.faces.len()
     }
 
-    /// Makes room for so many more vertices, edges and faces. Where there is room for all of them
-    /// already, it succeeds and asks for no memory. An error leaves all as it was, but for room.
+    /// Makes room for this many more vertices, edges and faces.
+    ///
+    /// If there is room for all of them already, it succeeds without allocating. If memory runs out
+    /// it returns `AllocError`, and nothing has changed but that there may be more room.
     #[inline]
     pub fn reserve(&mut self, vertices: usize, edges: usize, faces: usize) -> Result<(), AllocError>
         ensures same { self.new ≡ record self.old {
@@ -188,7 +194,7 @@ impl<V, DE, UE, F, A: Allocator> Store<V, DE, UE, F, A> {
         Ok(())
     }
 
-    // The part of `reserve` for edges: one test for all their vectors.
+    // One test is enough for all six vectors of edges.
     #[inline]
     fn reserve_edges(&mut self, edges: usize) -> Result<(), AllocError>
         ensures same { self.new ≡ record self.old { edge_room = self.new.edge_room } }
@@ -202,9 +208,9 @@ impl<V, DE, UE, F, A: Allocator> Store<V, DE, UE, F, A> {
         self.grow_edges(edges)
     }
 
-    // Makes the vectors of half edges and of edges longer. That of the edges' data comes last: where
-    // memory is refused before, it has no more places than the others are sure to have. Out of line,
-    // since it is rare, and edits stay short without it.
+    // The vector of the edges' data comes last: if memory runs out before, it has no more places
+    // than the others are sure to have. Out of line, since it is rare, and edits stay short without
+    // it.
     #[cold]
     #[inline(never)]
     fn grow_edges(&mut self, edges: usize) -> Result<(), AllocError>
@@ -224,7 +230,9 @@ impl<V, DE, UE, F, A: Allocator> Store<V, DE, UE, F, A> {
         Ok(())
     }
 
-    /// Appends a vertex with this anchor. Asks for room, which [`reserve`](Self::reserve) makes.
+    /// Appends a vertex with this datum and anchor.
+    ///
+    /// Asks for room for a vertex, which [`reserve`](Self::reserve) makes.
     #[inline]
     pub fn push_vertex(&mut self, datum: V, anchor: Option<FixedDirectedEdgeHandle>)
         requires { 0 < self.old.vertex_room }
@@ -240,8 +248,9 @@ impl<V, DE, UE, F, A: Allocator> Store<V, DE, UE, F, A> {
         });
     }
 
-    /// Appends an edge, with the links of its half edges and its data. Asks for room, which
-    /// [`reserve`](Self::reserve) makes.
+    /// Appends an edge with the links of its half edges and its data.
+    ///
+    /// Asks for room for an edge, which [`reserve`](Self::reserve) makes.
     #[inline]
     pub fn push_edge(
         &mut self,
@@ -273,7 +282,9 @@ impl<V, DE, UE, F, A: Allocator> Store<V, DE, UE, F, A> {
         self.undirected_data.push_reserved(edge_data.undirected);
     }
 
-    /// Appends a face with this anchor. Asks for room, which [`reserve`](Self::reserve) makes.
+    /// Appends a face with this datum and anchor.
+    ///
+    /// Asks for room for a face, which [`reserve`](Self::reserve) makes.
     #[inline]
     pub fn push_face(&mut self, datum: F, anchor: Option<FixedDirectedEdgeHandle>)
         requires { 0 < self.old.face_room }
@@ -289,8 +300,9 @@ impl<V, DE, UE, F, A: Allocator> Store<V, DE, UE, F, A> {
         });
     }
 
-    /// Answers the anchor of a vertex. Asks for a number below
-    /// [`num_vertices`](Self::num_vertices).
+    /// Returns the anchor of a vertex.
+    ///
+    /// Asks for a number below [`num_vertices`](Self::num_vertices).
     #[inline]
     pub fn vertex_anchor(&self, vertex: FixedVertexHandle) -> Option<FixedDirectedEdgeHandle>
         requires { vertex < length self.now.vertex_anchors }
@@ -299,8 +311,9 @@ impl<V, DE, UE, F, A: Allocator> Store<V, DE, UE, F, A> {
         self.vertices[vertex.index()].out_edge
     }
 
-    /// Replaces the anchor of a vertex, and nothing else. Asks for a number below
-    /// [`num_vertices`](Self::num_vertices).
+    /// Replaces the anchor of a vertex, and nothing else.
+    ///
+    /// Asks for a number below [`num_vertices`](Self::num_vertices).
     #[inline]
     pub fn set_vertex_anchor(
         &mut self,
@@ -316,7 +329,9 @@ impl<V, DE, UE, F, A: Allocator> Store<V, DE, UE, F, A> {
         entry.out_edge = to;
     }
 
-    /// Answers the anchor of a face. Asks for a number below [`num_faces`](Self::num_faces).
+    /// Returns the anchor of a face.
+    ///
+    /// Asks for a number below [`num_faces`](Self::num_faces).
     #[inline]
     pub fn face_anchor(
         &self,
@@ -328,8 +343,9 @@ impl<V, DE, UE, F, A: Allocator> Store<V, DE, UE, F, A> {
         self.faces[face.index()].adjacent_edge
     }
 
-    /// Replaces the anchor of a face, and nothing else. Asks for a number below
-    /// [`num_faces`](Self::num_faces).
+    /// Replaces the anchor of a face, and nothing else.
+    ///
+    /// Asks for a number below [`num_faces`](Self::num_faces).
     #[inline]
     pub fn set_face_anchor(
         &mut self,
@@ -345,8 +361,9 @@ impl<V, DE, UE, F, A: Allocator> Store<V, DE, UE, F, A> {
         entry.adjacent_edge = to;
     }
 
-    /// Answers the half edge after this one. Asks that its edge is below
-    /// [`num_edges`](Self::num_edges).
+    /// Returns the half edge after this one.
+    ///
+    /// Asks that its edge is below [`num_edges`](Self::num_edges).
     #[inline]
     pub fn next(&self, edge: FixedDirectedEdgeHandle) -> FixedDirectedEdgeHandle
         requires { edge < length self.now.next }
@@ -355,7 +372,9 @@ impl<V, DE, UE, F, A: Allocator> Store<V, DE, UE, F, A> {
         self.next[edge.index()]
     }
 
-    /// Replaces `next` of a half edge, and nothing else. Asks what [`next`](Self::next) asks.
+    /// Replaces `next` of a half edge, and nothing else.
+    ///
+    /// Asks what [`next`](Self::next) asks.
     #[inline]
     pub fn set_next(&mut self, edge: FixedDirectedEdgeHandle, to: FixedDirectedEdgeHandle)
         requires { edge < length self.old.next }
@@ -364,8 +383,9 @@ impl<V, DE, UE, F, A: Allocator> Store<V, DE, UE, F, A> {
         self.next[edge.index()] = to;
     }
 
-    /// Answers the half edge before this one. Asks that its edge is below
-    /// [`num_edges`](Self::num_edges).
+    /// Returns the half edge before this one.
+    ///
+    /// Asks that its edge is below [`num_edges`](Self::num_edges).
     #[inline]
     pub fn prev(&self, edge: FixedDirectedEdgeHandle) -> FixedDirectedEdgeHandle
         requires { edge < length self.now.next }
@@ -374,7 +394,9 @@ impl<V, DE, UE, F, A: Allocator> Store<V, DE, UE, F, A> {
         self.prev[edge.index()]
     }
 
-    /// Replaces `prev` of a half edge, and nothing else. Asks what [`prev`](Self::prev) asks.
+    /// Replaces `prev` of a half edge, and nothing else.
+    ///
+    /// Asks what [`prev`](Self::prev) asks.
     #[inline]
     pub fn set_prev(&mut self, edge: FixedDirectedEdgeHandle, to: FixedDirectedEdgeHandle)
         requires { edge < length self.old.next }
@@ -383,8 +405,9 @@ impl<V, DE, UE, F, A: Allocator> Store<V, DE, UE, F, A> {
         self.prev[edge.index()] = to;
     }
 
-    /// Answers the vertex that this half edge starts at. Asks that its edge is below
-    /// [`num_edges`](Self::num_edges).
+    /// Returns the vertex that this half edge starts at.
+    ///
+    /// Asks that its edge is below [`num_edges`](Self::num_edges).
     #[inline]
     pub fn origin(&self, edge: FixedDirectedEdgeHandle) -> FixedVertexHandle
         requires { edge < length self.now.next }
@@ -393,7 +416,9 @@ impl<V, DE, UE, F, A: Allocator> Store<V, DE, UE, F, A> {
         self.origin[edge.index()]
     }
 
-    /// Replaces `origin` of a half edge, and nothing else. Asks what [`origin`](Self::origin) asks.
+    /// Replaces `origin` of a half edge, and nothing else.
+    ///
+    /// Asks what [`origin`](Self::origin) asks.
     #[inline]
     pub fn set_origin(&mut self, edge: FixedDirectedEdgeHandle, to: FixedVertexHandle)
         requires { edge < length self.old.next }
@@ -402,8 +427,9 @@ impl<V, DE, UE, F, A: Allocator> Store<V, DE, UE, F, A> {
         self.origin[edge.index()] = to;
     }
 
-    /// Answers the face that this half edge lies on. Asks that its edge is below
-    /// [`num_edges`](Self::num_edges).
+    /// Returns the face that this half edge lies on.
+    ///
+    /// Asks that its edge is below [`num_edges`](Self::num_edges).
     #[inline]
     pub fn face(&self, edge: FixedDirectedEdgeHandle) -> FixedFaceHandle<PossiblyOuterTag>
         requires { edge < length self.now.next }
@@ -412,7 +438,9 @@ impl<V, DE, UE, F, A: Allocator> Store<V, DE, UE, F, A> {
         self.face[edge.index()]
     }
 
-    /// Replaces `face` of a half edge, and nothing else. Asks what [`face`](Self::face) asks.
+    /// Replaces `face` of a half edge, and nothing else.
+    ///
+    /// Asks what [`face`](Self::face) asks.
     #[inline]
     pub fn set_face(&mut self, edge: FixedDirectedEdgeHandle, to: FixedFaceHandle<PossiblyOuterTag>)
         requires { edge < length self.old.next }
@@ -422,10 +450,10 @@ impl<V, DE, UE, F, A: Allocator> Store<V, DE, UE, F, A> {
     }
 }
 
-// For how many more edges there is to be room, where a store of `stored` edges has none for `wanted`
-// more. Many pushes are to share the cost of a growth, which asks for memory six times and may move
-// all that is stored: so a store doubles, and a short one, where the six requests cost the most, gets
-// four times as long.
+// How many more edges to make room for, when a store of `stored` edges has no room for `wanted`
+// more. A growth asks for memory six times and may move all that is stored, so many pushes should
+// share its cost: a store doubles, and a short one, for which the six requests cost most, grows
+// fourfold.
 fn room_for_growth(stored: usize, wanted: usize) -> usize
     ensures { wanted ≤ result }
 {

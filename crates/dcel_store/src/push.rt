@@ -1,4 +1,4 @@
-//! Edges appended together: the items of all of them in one vector, then those in the next.
+//! Three edges appended together, vector by vector.
 
 ghost use Rattle.std.specs.Prelude.{◌≡◌, ◌+◌, ◌-◌, ◌≤◌, [], ◌∷◌, ◌++◌, vec_len, vec_capacity};
 
@@ -6,9 +6,11 @@ use crate::{EdgeEntry, Store};
 use std::alloc::Allocator;
 
 impl<V, DE, UE, F, A: Allocator> Store<V, DE, UE, F, A> {
-    /// Appends three edges, in this order: what [`push_edge`](Self::push_edge) makes of them one after
-    /// another, but the place and the length of each vector are read once. Asks for room for all three,
-    /// which [`reserve`](Self::reserve) makes.
+    /// Appends three edges, in this order.
+    ///
+    /// The result is that of three calls of [`push_edge`](Self::push_edge), but the vectors are
+    /// written one after another, each of them once. Asks for room for three edges, which
+    /// [`reserve`](Self::reserve) makes.
     #[inline]
     pub fn push_three_edges(
         &mut self,

@@ -1,4 +1,4 @@
-//! Elements taken out. The last element of their kind comes to their place, and so gets their number.
+//! Elements taken out: the last element of the kind moves into the place, and so gets the number.
 
 ghost use Rattle.std.specs.Prelude.{◌≡◌, ◌+◌, ◌*◌, ◌%◌, ◌<◌, length, slice_index_or, swap_remove, vec_len, vec_capacity, None};
 ghost use Rattle.dcel_store.specs.Taking.{pair_taken};
@@ -8,9 +8,11 @@ use dcel_fixed::{FixedFaceHandle, FixedUndirectedEdgeHandle, FixedVertexHandle, 
 use std::alloc::Allocator;
 
 impl<V, DE, UE, F, A: Allocator> Store<V, DE, UE, F, A> {
-    /// Takes a vertex out, and answers its datum. The last vertex comes to its place with its anchor;
-    /// links that name it aren't changed. It takes no memory, and there is room for one vertex more.
-    /// Asks for a number below [`num_vertices`](Self::num_vertices).
+    /// Takes out a vertex, and returns its datum.
+    ///
+    /// The last vertex moves into its place with its anchor; links that name it aren't changed. It
+    /// does not allocate, and there is room for one more vertex. Asks for a number below
+    /// [`num_vertices`](Self::num_vertices).
     #[inline]
     pub fn take_vertex(&mut self, vertex: FixedVertexHandle) -> V
         requires { vertex < length self.old.vertex_data }
@@ -24,9 +26,11 @@ impl<V, DE, UE, F, A: Allocator> Store<V, DE, UE, F, A> {
         self.vertices.swap_remove(vertex.index()).data
     }
 
-    /// Takes an edge out, and answers its data. The last edge comes to its place with its links; links
-    /// and anchors that name its half edges aren't changed. It takes no memory, and there is room for
-    /// one edge more. Asks for a number below [`num_edges`](Self::num_edges).
+    /// Takes out an edge, and returns its data.
+    ///
+    /// The last edge moves into its place with its links; links and anchors that name its half
+    /// edges aren't changed. It does not allocate, and there is room for one more edge. Asks for a
+    /// number below [`num_edges`](Self::num_edges).
     #[inline]
     pub fn take_edge(&mut self, edge: FixedUndirectedEdgeHandle) -> EdgeData<DE, UE>
         requires { edge < length self.old.undirected_data }
@@ -59,9 +63,11 @@ impl<V, DE, UE, F, A: Allocator> Store<V, DE, UE, F, A> {
         }
     }
 
-    /// Takes a face out, and answers its datum. The last face comes to its place with its anchor; links
-    /// that name it aren't changed. It takes no memory, and there is room for one face more. Asks for a
-    /// number below [`num_faces`](Self::num_faces).
+    /// Takes out a face, and returns its datum.
+    ///
+    /// The last face moves into its place with its anchor; links that name it aren't changed. It
+    /// does not allocate, and there is room for one more face. Asks for a number below
+    /// [`num_faces`](Self::num_faces).
     #[inline]
     pub fn take_face(&mut self, face: FixedFaceHandle<PossiblyOuterTag>) -> F
         requires { face < length self.old.face_data }
@@ -76,8 +82,8 @@ impl<V, DE, UE, F, A: Allocator> Store<V, DE, UE, F, A> {
     }
 }
 
-// Takes the two items of an edge out of a vector of half edges. The last two come to their places: the
-// second item goes first, so that the last one comes to its place, and the one before that to the other.
+// Takes the two items of an edge out of a vector of half edges. The second item goes first, so that
+// the last two items move into the two places in their order.
 #[inline]
 fn take_pair<T, A: Allocator>(items: &mut Vec<T, A>, edge: usize) -> (T, T)
     requires even { vec_len items.old % 2 ≡ 0 }

@@ -8,8 +8,10 @@ use crate::{FaceEntry, Store, VertexEntry};
 use std::alloc::{AllocError, AllocFailed, Allocator};
 
 impl<V, DE, UE, F, A: Allocator> Store<V, DE, UE, F, A> {
-    /// Takes out all vertices, all edges and all faces but the first, which loses its anchor. Asks for a face. It takes no memory and
-    /// gives none back: what was taken out leaves its places.
+    /// Takes out all vertices, all edges and all faces but the first, which loses its anchor.
+    ///
+    /// Asks that there is a face. It neither allocates nor frees memory: there is room for what was
+    /// taken out.
     pub fn clear(&mut self)
     where
         V: Drop,
@@ -31,8 +33,10 @@ impl<V, DE, UE, F, A: Allocator> Store<V, DE, UE, F, A> {
         first.adjacent_edge = None;
     }
 
-    /// The store with other data of the vertices, each an answer of the closure to the old one. Asks that the closure may be called on
-    /// each of them. All memory is taken before it is first called, by `alloc`; where there is none, the store comes back.
+    /// Replaces the datum of each vertex by what `f` makes of it.
+    ///
+    /// Asks that `f` may be called on each of them. It allocates by `alloc`, before `f` is first
+    /// called. If memory runs out it returns `AllocFailed` with the store as it was.
     pub fn map_vertices<V2: Drop, M: Fn(V) -> V2 + Drop>(
         self,
         alloc: A,
@@ -73,7 +77,9 @@ impl<V, DE, UE, F, A: Allocator> Store<V, DE, UE, F, A> {
         }
     }
 
-    /// The same with the data of the edges. Those of the half edges stay.
+    /// Replaces the datum of each edge by what `f` makes of it.
+    ///
+    /// The data of half edges stay. Otherwise it is as [`map_vertices`](Self::map_vertices).
     pub fn map_undirected_edges<UE2: Drop, M: Fn(UE) -> UE2 + Drop>(
         self,
         alloc: A,
@@ -108,8 +114,10 @@ impl<V, DE, UE, F, A: Allocator> Store<V, DE, UE, F, A> {
 }
 
 impl<V: Clone, DE: Clone, UE: Clone, F: Clone, A: Allocator + Clone> Store<V, DE, UE, F, A> {
-    /// A store with a clone of each datum and the same links and anchors. It clones `alloc`, once for the vertices and six times for
-    /// the edges. It is refused where there is no memory, or where a clone is refused.
+    /// Returns a store with a clone of each datum and the same links and anchors.
+    ///
+    /// It clones `alloc` once for the vertices and six times for the edges. If memory runs out or a
+    /// clone fails it returns `AllocError`.
     pub fn try_clone(&self, alloc: A) -> Result<Self, AllocError>
         ensures { IfOk result (AreClones V.is_clone DE.is_clone UE.is_clone F.is_clone self.now) }
     {
@@ -157,8 +165,8 @@ impl<F: Clone> Clone for FaceEntry<F> {
     }
 }
 
-// A clone of each item, in a vector that is just as long. `to_vec` doesn't promise that, and with a place left in the vector of edges'
-// data those of half edges would have to have two.
+// Clones each item into a vector without a place left. `to_vec` doesn't promise that, and for a
+// place left in the vector of the edges' data those of half edges would need two.
 fn cloned<X: Clone, A: Allocator>(items: &[X], alloc: A) -> Result<Vec<X, A>, AllocError>
     ensures clones { IfOk result (λ clones. AllZip X.is_clone items.now clones.items) }
     ensures exact { IfOk result (λ clones. vec_capacity clones ≡ vec_len clones) }
@@ -170,8 +178,8 @@ fn cloned<X: Clone, A: Allocator>(items: &[X], alloc: A) -> Result<Vec<X, A>, Al
     Ok(clones)
 }
 
-// What the closure answers to each item, in a vector that is just as long. The memory for it is taken before the closure is first
-// called; where there is none, the items come back.
+// Maps each item into a vector without a place left, which is allocated before `f` is first called.
+// If memory runs out, the items are handed back.
 fn mapped<X: Drop, Y: Drop, A: Allocator, M: Fn(X) -> Y + Drop>(
     items: Vec<X, A>,
     alloc: A,

@@ -1,4 +1,5 @@
-//! The mesh: its counts, its elements by number, their anchors, and the tests of what operations ask.
+//! The mesh: its counts, its elements by number, their anchors, and the tests of what operations
+//! ask.
 
 ghost use Rattle.std.specs.Prelude.{◌≡◌, ℕ, ◌*◌, ◌^◌, ◌<◌, ◌≤◌, ◌↔◌, IfSome, IsSome, IsTrue, MatchOption, length, true};
 ghost use Rattle.std.specs.Option.{option_map};
@@ -17,6 +18,7 @@ mod elements;
 mod regions;
 mod removals;
 mod strips;
+mod swap;
 mod whole;
 
 use crate::handles::{DirectedEdgeHandle, FaceHandle, UndirectedEdgeHandle, VertexHandle};
@@ -36,9 +38,11 @@ const INDEX_SPACE: usize = 4_294_967_296;
 // How many numbers there are for undirected edges, each of which has two half edges.
 const EDGE_SPACE: usize = 2_147_483_648;
 
-/// A half-edge mesh with a datum for each vertex (`V`), half edge (`DE`), undirected edge (`UE`) and face (`F`).
+/// A half-edge mesh with a datum for each vertex, half edge, undirected edge and face.
 ///
-/// Every value is a sound map on the sphere. Its operations are in [`operations`](crate::operations).
+/// These have the types `V`, `DE`, `UE` and `F`. Every value is a sound map on the sphere.
+/// [`operations`](crate::operations) has the edits, and [`laws`](crate::laws) what is true of every
+/// mesh.
 #[derive(Drop)]
 pub struct Dcel<V, DE = (), UE = (), F = (), A: Allocator = Global> {
     pub(crate) store: Store<V, DE, UE, F, A>,
@@ -59,7 +63,9 @@ impl<V, DE, UE, F, A: Allocator> Model for Dcel<V, DE, UE, F, A> {
 
 /// The allocator.
 impl<V, DE, UE, F, A: Allocator> Dcel<V, DE, UE, F, A> {
-    /// The allocator that it was made with, which another mesh may be made with. Contracts see nothing of it.
+    /// Lends the allocator that the mesh was made with, from which another mesh may be made.
+    ///
+    /// Contracts see nothing of it.
     #[inline]
     pub fn allocator(&self) -> &A {
         self.store.allocator()
@@ -68,7 +74,9 @@ impl<V, DE, UE, F, A: Allocator> Dcel<V, DE, UE, F, A> {
 
 /// Counts.
 impl<V, DE, UE, F, A: Allocator> Dcel<V, DE, UE, F, A> {
-    /// The number of vertices, those without an edge and a given-up one included. Vertex numbers are below it.
+    /// Returns the number of vertices, those without an edge and a given-up one included.
+    ///
+    /// The numbers of vertices are below it.
     #[inline]
     pub fn num_vertices(&self) -> usize
         ensures count { result ≡ self.now.shape.vertices }
@@ -77,7 +85,9 @@ impl<V, DE, UE, F, A: Allocator> Dcel<V, DE, UE, F, A> {
         self.store.num_vertices()
     }
 
-    /// The number of half edges, twice that of undirected edges. Their numbers are below it.
+    /// Returns the number of half edges, twice the number of undirected edges.
+    ///
+    /// The numbers of half edges are below it.
     #[inline]
     pub fn num_directed_edges(&self) -> usize
         ensures count { result ≡ 2 * self.now.shape.edges }
@@ -86,7 +96,9 @@ impl<V, DE, UE, F, A: Allocator> Dcel<V, DE, UE, F, A> {
         2 * self.num_undirected_edges()
     }
 
-    /// The number of undirected edges, given-up ones included. Their numbers are below it.
+    /// Returns the number of undirected edges, given-up ones included.
+    ///
+    /// The numbers of undirected edges are below it.
     #[inline]
     pub fn num_undirected_edges(&self) -> usize
         ensures count { result ≡ self.now.shape.edges }
@@ -95,7 +107,9 @@ impl<V, DE, UE, F, A: Allocator> Dcel<V, DE, UE, F, A> {
         self.store.num_edges()
     }
 
-    /// The number of faces, the outer one and given-up ones included. Face numbers are below it.
+    /// Returns the number of faces, the outer face and given-up ones included.
+    ///
+    /// The numbers of faces are below it.
     #[inline]
     pub fn num_faces(&self) -> usize
         ensures count { result ≡ face_count self.now.shape }
@@ -108,7 +122,9 @@ impl<V, DE, UE, F, A: Allocator> Dcel<V, DE, UE, F, A> {
 
 /// Elements by number.
 impl<V, DE, UE, F, A: Allocator> Dcel<V, DE, UE, F, A> {
-    /// The vertex with this number, borrowed. It asks for a number below [`num_vertices`](Self::num_vertices).
+    /// Returns a handle to the vertex with this number.
+    ///
+    /// Asks for a number below [`num_vertices`](Self::num_vertices).
     #[inline]
     pub fn vertex(&self, handle: FixedVertexHandle) -> VertexHandle<'_, V, DE, UE, F, A>
         requires { handle < self.now.shape.vertices }
@@ -118,7 +134,9 @@ impl<V, DE, UE, F, A: Allocator> Dcel<V, DE, UE, F, A> {
         VertexHandle::new(self, handle)
     }
 
-    /// The vertex with this number, borrowed, where the number is below [`num_vertices`](Self::num_vertices), and else None.
+    /// Returns a handle to the vertex with this number, or None if there is no such vertex.
+    ///
+    /// A vertex that is given up has one too.
     #[inline]
     pub fn get_vertex(&self, handle: FixedVertexHandle) -> Option<VertexHandle<'_, V, DE, UE, F, A>>
         ensures some { IsSome result ↔ (handle < self.now.shape.vertices) }
@@ -131,8 +149,9 @@ impl<V, DE, UE, F, A: Allocator> Dcel<V, DE, UE, F, A> {
         Some(self.vertex(handle))
     }
 
-    /// The half edge with this number, borrowed. It asks for a number below
-    /// [`num_directed_edges`](Self::num_directed_edges).
+    /// Returns a handle to the half edge with this number.
+    ///
+    /// Asks for a number below [`num_directed_edges`](Self::num_directed_edges).
     #[inline]
     pub fn directed_edge(
         &self,
@@ -145,8 +164,9 @@ impl<V, DE, UE, F, A: Allocator> Dcel<V, DE, UE, F, A> {
         DirectedEdgeHandle::new(self, handle)
     }
 
-    /// The undirected edge with this number, borrowed. It asks for a number below
-    /// [`num_undirected_edges`](Self::num_undirected_edges).
+    /// Returns a handle to the undirected edge with this number.
+    ///
+    /// Asks for a number below [`num_undirected_edges`](Self::num_undirected_edges).
     #[inline]
     pub fn undirected_edge(
         &self,
@@ -159,7 +179,9 @@ impl<V, DE, UE, F, A: Allocator> Dcel<V, DE, UE, F, A> {
         UndirectedEdgeHandle::new(self, handle)
     }
 
-    /// The face with this number, borrowed. It asks for a number below [`num_faces`](Self::num_faces).
+    /// Returns a handle to the face with this number.
+    ///
+    /// Asks for a number below [`num_faces`](Self::num_faces).
     #[inline]
     pub fn face<InnerOuter: InnerOuterMarker>(
         &self,
@@ -172,7 +194,7 @@ impl<V, DE, UE, F, A: Allocator> Dcel<V, DE, UE, F, A> {
         FaceHandle::new(self, handle)
     }
 
-    /// The outer face, borrowed: face 0, which every mesh has.
+    /// Returns a handle to the outer face, face 0, which every mesh has.
     #[inline]
     pub fn outer_face(&self) -> FaceHandle<'_, PossiblyOuterTag, V, DE, UE, F, A>
         ensures mesh { mesh_behind result ≡ self.now }
@@ -182,8 +204,10 @@ impl<V, DE, UE, F, A: Allocator> Dcel<V, DE, UE, F, A> {
         self.face(OUTER_FACE)
     }
 
-    /// The anchor of a vertex: a live half edge that starts there, and None where there is none. It asks for a number below
-    /// [`num_vertices`](Self::num_vertices).
+    /// Returns the anchor of a vertex, or None if it has none.
+    ///
+    /// The anchor is a live half edge that starts at the vertex; it has one unless no live half
+    /// edge starts there. Asks for a number below [`num_vertices`](Self::num_vertices).
     #[inline]
     pub fn vertex_out_edge(&self, handle: FixedVertexHandle) -> Option<FixedDirectedEdgeHandle>
         requires { handle < self.now.shape.vertices }
@@ -192,8 +216,10 @@ impl<V, DE, UE, F, A: Allocator> Dcel<V, DE, UE, F, A> {
         self.store.vertex_anchor(handle)
     }
 
-    /// The anchor of a face: a half edge of its word, and None where the word is empty. It asks for a number below
-    /// [`num_faces`](Self::num_faces).
+    /// Returns the anchor of a face, or None if it has none.
+    ///
+    /// The anchor is a half edge on the face; it has one unless no half edge lies on it. Asks for a
+    /// number below [`num_faces`](Self::num_faces).
     #[inline]
     pub fn face_adjacent_edge<InnerOuter: InnerOuterMarker>(
         &self,
@@ -205,9 +231,13 @@ impl<V, DE, UE, F, A: Allocator> Dcel<V, DE, UE, F, A> {
         self.store.face_anchor(handle.adjust_inner_outer())
     }
 
-    /// The first of the half edges out of one vertex, as [`out_edges`](VertexHandle::out_edges) lists them, that ends at another.
-    /// It answers None only where no live half edge leads from the first vertex to the second, and asks for a first number below
-    /// [`num_vertices`](Self::num_vertices). Where several lead so, which one is the first depends on the anchor.
+    /// Returns the first half edge that leads from one vertex to another, or None if there is none.
+    ///
+    /// The first is the one that [`out_edges`](VertexHandle::out_edges) of `from` lists first. If
+    /// several lead there, which one this is depends on the anchor of `from`. Any number may be
+    /// given for `to`.
+    ///
+    /// Asks for a number `from` below [`num_vertices`](Self::num_vertices).
     pub fn get_edge_from_neighbors(
         &self,
         from: FixedVertexHandle,
@@ -219,7 +249,7 @@ impl<V, DE, UE, F, A: Allocator> Dcel<V, DE, UE, F, A> {
         ensures joined { let shape = self.now.shape in
             MatchOption result ((h : ℕ) → ¬ Leads shape from to h) (λ edge. Leads shape from to (number_of edge)) }
     {
-        // From both ends, since the reads of two walks don't wait for each other.
+        // From both ends, since the reads of two walks do not wait for each other.
         let mut edges = self.vertex(from).out_edges();
         let mut found = None;
         while let Some(edge) = edges.next() {
@@ -238,8 +268,10 @@ impl<V, DE, UE, F, A: Allocator> Dcel<V, DE, UE, F, A> {
 
 /// Public tests of what the operations ask.
 impl<V, DE, UE, F, A: Allocator> Dcel<V, DE, UE, F, A> {
-    /// Whether there are numbers left for so many more vertices, undirected edges and faces: vertices and faces have numbers below
-    /// 2^32, undirected edges below 2^31.
+    /// Returns whether there are numbers left for that many more elements.
+    ///
+    /// Vertices and faces have numbers below 2^32, undirected edges below 2^31. This is about
+    /// numbers, not about memory.
     pub fn has_room(&self, vertices: usize, undirected_edges: usize, faces: usize) -> bool
         ensures { IsTrue result ↔ HasRoom self.now.shape vertices undirected_edges faces }
     {
@@ -248,21 +280,28 @@ impl<V, DE, UE, F, A: Allocator> Dcel<V, DE, UE, F, A> {
             && faces <= INDEX_SPACE - self.num_faces()
     }
 
-    /// Whether the vertex is live: its number is in range, and no open removal has given it up.
+    /// Returns whether the vertex is live.
+    ///
+    /// It is live if its number is in range and no open removal has given it up.
     pub fn is_live_vertex(&self, handle: FixedVertexHandle) -> bool
         ensures { result ≡ vertex_is_live self.now.shape handle }
     {
         handle.index() < self.num_vertices() && !self.removal.gives_up_vertex(handle)
     }
 
-    /// Whether the edge is live: its number is in range, and no open removal has given it up. A half edge is live where its edge is.
+    /// Returns whether the edge is live.
+    ///
+    /// It is live if its number is in range and no open removal has given it up. A half edge is
+    /// live if its edge is.
     pub fn is_live_edge(&self, handle: FixedUndirectedEdgeHandle) -> bool
         ensures { result ≡ edge_is_live self.now.shape handle }
     {
         handle.index() < self.num_undirected_edges() && !self.removal.gives_up_edge(handle)
     }
 
-    /// Whether the face is live: its number is in range, and no open removal has given it up.
+    /// Returns whether the face is live.
+    ///
+    /// It is live if its number is in range and no open removal has given it up.
     pub fn is_live_face<InnerOuter: InnerOuterMarker>(
         &self,
         handle: FixedFaceHandle<InnerOuter>,
@@ -273,14 +312,14 @@ impl<V, DE, UE, F, A: Allocator> Dcel<V, DE, UE, F, A> {
             && !self.removal.gives_up_face(handle.adjust_inner_outer())
     }
 
-    /// Whether the vertex is live and no live half edge starts there.
+    /// Returns whether the vertex is live and no live half edge starts there.
     pub fn is_unconnected(&self, handle: FixedVertexHandle) -> bool
         ensures { IsTrue result ↔ IsUnconnected self.now.shape handle }
     {
         self.is_live_vertex(handle) && self.store.vertex_anchor(handle).is_none()
     }
 
-    /// Whether the vertex is live with exactly one out edge: the end of a line.
+    /// Returns whether the vertex is live and exactly one half edge starts there.
     pub fn is_line_end(&self, handle: FixedVertexHandle) -> bool
         ensures { IsTrue result ↔ IsLineEnd self.now.shape handle }
     {
@@ -293,7 +332,7 @@ impl<V, DE, UE, F, A: Allocator> Dcel<V, DE, UE, F, A> {
         }
     }
 
-    /// Whether the face is live and its word has three half edges.
+    /// Returns whether the face is live and has three half edges.
     pub fn is_triangle<InnerOuter: InnerOuterMarker>(
         &self,
         handle: FixedFaceHandle<InnerOuter>,
@@ -309,7 +348,7 @@ impl<V, DE, UE, F, A: Allocator> Dcel<V, DE, UE, F, A> {
         }
     }
 
-    /// Whether the half edge is live and both halves of its edge lie on one face.
+    /// Returns whether the half edge is live and both halves of its edge lie on one face.
     #[tactic(auto, using(dcel_fixed::proofs::Halves::halves))]
     pub fn is_bridge(&self, handle: FixedDirectedEdgeHandle) -> bool
         ensures { IsTrue result ↔ IsBridge self.now.shape handle }
@@ -318,8 +357,10 @@ impl<V, DE, UE, F, A: Allocator> Dcel<V, DE, UE, F, A> {
             && self.face_of_edge(handle) == self.face_of_edge(handle.rev())
     }
 
-    /// Whether the half edge is live and on the outer face, and the next half edge doesn't end where it starts: an edge that closes the
-    /// two to a triangle would join two different vertices.
+    /// Returns whether a triangle can be closed between the half edge and the next one.
+    ///
+    /// This holds if the half edge is live and on the outer face, and the next one does not end
+    /// where it starts: so the new edge joins two different vertices.
     #[tactic(auto, using(dcel_fixed::proofs::Halves::halves))]
     pub fn can_close_outside(&self, handle: FixedDirectedEdgeHandle) -> bool
         ensures { IsTrue result ↔ CanCloseOutside self.now.shape handle }
@@ -329,9 +370,11 @@ impl<V, DE, UE, F, A: Allocator> Dcel<V, DE, UE, F, A> {
             && self.origin(self.next_edge(handle).rev()) != self.origin(handle)
     }
 
-    /// Whether the edge is live between two triangles, one of which may be the outer face, and the corners opposite it are two vertices:
-    /// so it can be turned to join these ([`flip_cw`](crate::operations::flip_cw)).
-    // Out of line, since a loop that tests edges and turns them was faster so.
+    /// Returns whether the edge can be flipped ([`flip_cw`](crate::operations::flip_cw)).
+    ///
+    /// This holds if it is live, lies between two triangles, one of which may be the outer face,
+    /// and the corners opposite it are two vertices.
+    // Out of line: a loop that tests edges and flips them was measured to be faster so.
     #[inline(never)]
     pub fn can_flip(&self, handle: FixedUndirectedEdgeHandle) -> bool
         ensures { IsTrue result ↔ CanFlip self.now.shape handle }
@@ -353,9 +396,12 @@ impl<V, DE, UE, F, A: Allocator> Dcel<V, DE, UE, F, A> {
 
 /// The sanity check.
 impl<V, DE, UE, F, A: Allocator> Dcel<V, DE, UE, F, A> {
-    /// Whether no removal is open, and the mesh has at most one vertex or looks triangulated: an edge stands, no vertex is
-    /// unconnected, each even half edge on an inner face lies on a word of three, and with more than one face no edge has one face on
-    /// both sides. It looks at even half edges alone: an inner face whose half edges are all odd may have a longer word.
+    /// Returns whether the mesh has at most one vertex or looks triangulated, with no removal open.
+    ///
+    /// It looks triangulated if there is an edge, no vertex is unconnected, each even half edge on
+    /// an inner face lies on a triangle, and no edge of a mesh with several faces has one face on
+    /// both sides. Odd half edges are not looked at: an inner face whose half edges are all odd may
+    /// have more than three.
     pub fn sanity_check(&self) -> bool
         ensures { IsTrue result ↔ IsChecked self.now.shape }
     {
@@ -439,7 +485,8 @@ impl<V, DE, UE, F, A: Allocator> Dcel<V, DE, UE, F, A> {
         self.store.origin(handle)
     }
 
-    // What is stored as the origin, also of a given-up half edge, where it may be stale.
+    // As stored, without checking that the half edge is live: the origin of a given-up one may be
+    // stale.
     #[inline]
     pub(crate) fn stored_origin(&self, handle: FixedDirectedEdgeHandle) -> FixedVertexHandle
         requires { handle < 2 * self.now.shape.edges }
@@ -460,7 +507,6 @@ impl<V, DE, UE, F, A: Allocator> Dcel<V, DE, UE, F, A> {
         self.store.face(handle)
     }
 
-    // Whether the word of a half edge has three items.
     #[inline]
     pub(crate) fn is_on_triangle(&self, handle: FixedDirectedEdgeHandle) -> bool
         requires { IsLive self.now.shape handle }
@@ -471,8 +517,8 @@ impl<V, DE, UE, F, A: Allocator> Dcel<V, DE, UE, F, A> {
         self.store.next(self.store.next(handle)) == before
     }
 
-    // The corner of the triangle of a half edge that lies opposite it, and None where its word has not three items. The half edge before
-    // tells whether it has three, the one after where the corner is: neither waits for the other, and an edit that follows finds both read.
+    // The half edge before tells whether the face is a triangle, and the one after where the corner
+    // is: neither read waits for the other, and an edit that follows finds both done.
     #[inline]
     fn opposite_corner(&self, handle: FixedDirectedEdgeHandle) -> Option<FixedVertexHandle>
         requires { IsLive self.now.shape handle }
@@ -481,8 +527,8 @@ impl<V, DE, UE, F, A: Allocator> Dcel<V, DE, UE, F, A> {
             MatchOption result (¬ is_triangle) (λ corner. is_triangle × (corner ≡ origin_of shape (prev_of shape handle))) }
     {
         let before = self.store.prev(handle);
-        // It is read before what it is compared with: of two equal numbers the compiler goes on with the first, and an edit that follows
-        // would wait for the other one to know where it writes.
+        // Read before what it is compared with: of two equal numbers the compiler goes on with the
+        // first, and an edit that follows would wait for the other to know where it writes.
         let after = self.store.next(handle);
         if self.store.prev(before) != after {
             return None;

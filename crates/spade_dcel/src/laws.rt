@@ -1,4 +1,6 @@
-//! Laws: what is true of each mesh. These calls compute nothing; whoever makes one learns what it ensures.
+//! Laws: what holds for every mesh.
+//!
+//! These calls compute nothing. A caller makes one for the sake of what it ensures.
 
 ghost use Rattle.dcel_maps.specs.Headline.{CountsTwo, FacesAreCycles, VerticesAreCycles};
 ghost use Rattle.dcel_maps.specs.Maps.{Connected};
@@ -15,28 +17,38 @@ pub use dcel_maps::laws::{
 };
 use std::alloc::Allocator;
 
-/// Each mesh is sound, a sphere, anchored and sized.
+/// Ensures that the mesh is sound, a sphere, anchored and sized, as every mesh is.
 ///
-/// - Sound: each live half edge stands in one word, once; edges join different live vertices, end to start along each word; and two half
-///   edges start at one vertex just where turning round it leads from one to the other.
-/// - A sphere: the live edges hang together, and vertices with a live edge, minus live edges, plus live faces, is two once an edge is live.
-/// - Anchored: the anchor of a vertex starts there and that of a face stands in its word, and there is none just where nothing does.
-/// - Sized: each element has its datum and its anchor, and numbers of vertices, half edges and faces are below 2^32.
+/// - Sound: each live half edge stands in exactly one word, once. Edges join different live
+///   vertices, end to start along each word. Two half edges start at the same vertex exactly if
+///   turning around it leads from one to the other.
+/// - A sphere: the live edges are connected, and once an edge is live, the number of vertices with
+///   a live edge, minus the number of live edges, plus the number of live faces, is two.
+/// - Anchored: the anchor of a vertex starts there, and the anchor of a face stands in its word.
+///   An element has no anchor exactly if there is no such half edge.
+/// - Sized: each element has its datum, and each vertex and face a place for its anchor. The
+///   numbers of vertices, half edges and faces are below 2^32.
 pub fn every_mesh<V, DE, UE, F, A: Allocator>(dcel: &Dcel<V, DE, UE, F, A>)
     ensures { IsMesh dcel.now }
 {
     let _ = &dcel.store;
 }
 
-/// The headline: whatever calls made a mesh, and also while a removal is open, its stored half edges are a connected map on the sphere.
+/// Ensures that the stored half edges are a connected map on the sphere.
 ///
-/// - The cycles of `next` are the live faces: each live face's word is the walk by `next` from each of its half edges.
-/// - The cycles of `ccw` are the vertices with a live edge: the live half edges that start at a vertex are the walk by `ccw` from each of them.
+/// This is the headline. It holds whatever calls made the mesh, and also while a removal is open.
+///
+/// - The cycles of `next` are the live faces: the word of a live face is the walk by `next` from
+///   each of its half edges.
+/// - The cycles of `ccw` are the vertices with a live edge: the live half edges that start at a
+///   vertex are the walk by `ccw` from each of them.
 /// - The live half edges are connected.
-/// - Vertices with a live edge, minus live edges, plus live faces, is two once an edge is live.
-/// - The anchor of a vertex starts there and that of a face stands in its word, and there is none just where nothing does.
+/// - Once an edge is live, the number of vertices with a live edge, minus the number of live
+///   edges, plus the number of live faces, is two.
+/// - The anchor of a vertex starts there, and the anchor of a face stands in its word. An element
+///   has no anchor exactly if there is no such half edge.
 ///
-/// [`the_headline_leaves_out`] has a map for each of these that it refuses.
+/// [`the_headline_leaves_out`] has, for each of these, a map that it excludes.
 pub fn the_headline<V, DE, UE, F, A: Allocator>(dcel: &Dcel<V, DE, UE, F, A>)
     ensures faces { FacesAreCycles dcel.now.shape }
     ensures vertices { VerticesAreCycles dcel.now.shape }

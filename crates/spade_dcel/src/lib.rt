@@ -1,7 +1,8 @@
-//! The half-edge mesh layer of `spade`, proved: a mesh of vertices, edges and faces on the sphere, linked by half edges.
+//! The half-edge mesh layer of `spade`, proved: vertices, edges and faces on the sphere, linked by
+//! half edges.
 //!
-//! Module [`handles`] has the names of elements, [`dcel`] the mesh and what it answers, [`iterators`] the walks round it,
-//! [`operations`] the edits, [`laws`] what is true of each mesh.
+//! Module [`handles`] has the names of elements, [`dcel`] the mesh and its queries, [`iterators`]
+//! the walks around it, [`operations`] the edits, and [`laws`] what holds for every mesh.
 #![tactic(auto)]
 
 pub mod dcel;

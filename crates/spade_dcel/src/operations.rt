@@ -1,5 +1,14 @@
-//! Edits of a mesh. A call asks for what its contract requires, which its caller can test; it is refused only for want of memory, and
-//! then the mesh is as it was. Words, origins, anchors, numbers and answers are those that `docs/MODEL.md` draws.
+//! Edits of a mesh.
+//!
+//! What a call asks is in its contract, and a public test of [`Dcel`](crate::dcel::Dcel) tells
+//! whether it holds. A call that returns a `Result` is refused only if memory runs out, and the
+//! mesh is then as it was. A call that returns none allocates nothing; its contract says only that
+//! it cannot fail.
+//!
+//! In the pictures each face lies to the left of its half edges, and `t` is the other half of
+//! `edge` or `e`. `n` is twice the number of undirected edges before the call, so the first new
+//! half edge has this number; `L` is the number of faces before it, so the first new face has that
+//! one. `docs/MODEL.md` draws each edit on a mesh with numbers.
 
 mod cleanup;
 mod create;
@@ -8,14 +17,14 @@ mod fill;
 mod flip;
 mod line;
 mod outside;
-mod rename;
 mod results;
 mod split;
 mod split_triangles;
 mod strip;
+mod swap_remove;
 mod triangle;
 
-pub use cleanup::{cleanup_isolated_vertex, swap_remove_vertex};
+pub use cleanup::cleanup_isolated_vertex;
 pub use create::{
     append_unconnected_vertex, new, new_with_fixed_vertices, setup_initial_two_vertices,
 };
@@ -28,11 +37,12 @@ pub use results::{IsolateVertexResult, RemovalResult};
 pub use split::split_edge_when_all_vertices_on_line;
 pub use split_triangles::{split_edge, split_half_edge};
 pub use strip::disconnect_edge_strip;
+pub use swap_remove::swap_remove_vertex;
 pub use triangle::{insert_into_triangle, new_triangle};
 
-/// That a growth found no memory, with what was handed in.
+/// What was handed in, given back because memory ran out.
 #[derive(Debug, Drop)]
 pub struct NoMemory<T> {
-    /// What was handed in.
+    /// The value that was handed in.
     pub back: T,
 }

@@ -11,7 +11,8 @@ use dcel_fixed::{
 use dcel_store::Store;
 use std::alloc::Allocator;
 
-/// Takes the only vertex out, or a vertex of a path with an edge of it, and answers the vertex's datum.
+/// Takes out the only vertex, or a vertex of a path with one of its edges, and returns the datum of
+/// the vertex.
 pub fn take_out_degenerate<V, DE: Drop, UE: Drop, F, A: Allocator>(
     store: &mut Store<V, DE, UE, F, A>,
     vertex: FixedVertexHandle,
@@ -28,8 +29,9 @@ pub fn take_out_degenerate<V, DE: Drop, UE: Drop, F, A: Allocator>(
     take_out_vertex(store, vertex)
 }
 
-// Gives up a vertex of a path with an edge, and answers that: the one of the out edge after the vertex's anchor, which is the anchor itself
-// at an end of the path. Else the anchor's edge joins the two neighbours afterwards.
+// Unlinks a vertex of a path and one of its edges, and returns that edge: the one of the out edge
+// after the anchor of the vertex, which is the anchor itself at an end of the path. Elsewhere the
+// edge of the anchor joins the two neighbors afterwards.
 fn give_up_on_path<V, DE, UE, F, A: Allocator>(
     store: &mut Store<V, DE, UE, F, A>,
     vertex: FixedVertexHandle,
@@ -57,8 +59,8 @@ fn give_up_on_path<V, DE, UE, F, A: Allocator>(
     edge
 }
 
-// What takes the place of an anchor on the edge that goes: nothing where no other edge is left, at an end of the path the next half edge, and
-// else the other out edge.
+// Returns what replaces an anchor on the edge that goes: None if no other edge is left, the next
+// half edge at an end of the path, and else the other out edge.
 fn anchor_instead<V, DE, UE, F, A: Allocator>(
     store: &Store<V, DE, UE, F, A>,
     anchor: FixedDirectedEdgeHandle,
@@ -76,7 +78,7 @@ fn anchor_instead<V, DE, UE, F, A: Allocator>(
     Some(anchor)
 }
 
-// An anchor, but another one in the place of a half of this edge.
+// Returns the anchor, or `other` if the anchor is a half of `edge`.
 fn off_edge(
     anchor: Option<FixedDirectedEdgeHandle>,
     edge: FixedUndirectedEdgeHandle,
@@ -93,7 +95,7 @@ fn off_edge(
     anchor
 }
 
-// Links what comes before a half edge with what comes after it.
+// Links the half edge before `edge` to the one after it.
 fn unlink<V, DE, UE, F, A: Allocator>(
     store: &mut Store<V, DE, UE, F, A>,
     edge: FixedDirectedEdgeHandle,

@@ -1,12 +1,12 @@
-//! Elements taken out. The last element of their kind gets their number: it comes to their place, and what named it is mended in one
-//! pass, without memory.
+//! Elements taken out: the last element of the kind gets the number, and what named it is renamed
+//! in one pass, without allocating.
 
 ghost use Rattle.std.specs.Prelude.{◌≡◌, ◌<◌, ◌^◌, Some, cond, length, reverse, slice_index_or};
 ghost use Rattle.dcel_maps.specs.Removals.{is_this};
 ghost use Rattle.dcel_maps.specs.Renumbering.{half_of, moved};
-ghost use Rattle.dcel_edits.specs.TakingOut.{CanLoseEdge, CanLoseEdges, CanLoseFace, CanLoseFaces, CanLoseVertex, CanRename, CanWalk, anchor_renamed, edge_out, edges_out, face_out, faces_out, half_renamed, links_moved, vertex_out, word_renamed};
+ghost use Rattle.dcel_edits.specs.TakingOut.{CanLoseEdge, CanLoseEdges, CanLoseFace, CanLoseFaces, CanLoseVertex, CanRename, anchor_renamed, edge_out, edges_out, face_out, faces_out, half_renamed, links_moved, vertex_out};
 
-use crate::rename::rename_turn;
+use crate::rename::{rename_turn, rename_word};
 use dcel_fixed::{
     FixedDirectedEdgeHandle, FixedFaceHandle, FixedUndirectedEdgeHandle, FixedVertexHandle,
     InnerTag, PossiblyOuterTag,
@@ -14,8 +14,9 @@ use dcel_fixed::{
 use dcel_store::{HalfEdgeEntry, Store};
 use std::alloc::Allocator;
 
-/// Takes an edge out, and drops its data. The neighbours of the last edge, and the anchors that named one of its half edges, name it by
-/// its new number.
+/// Takes out an edge, and drops its data.
+///
+/// The links and anchors that named a half edge of the last edge name it by its new number.
 pub fn take_out_edge<V, DE: Drop, UE: Drop, F, A: Allocator>(
     store: &mut Store<V, DE, UE, F, A>,
     edge: FixedUndirectedEdgeHandle,
@@ -37,7 +38,9 @@ pub fn take_out_edge<V, DE: Drop, UE: Drop, F, A: Allocator>(
     rename_half(store, reversed, from.rev(), to.rev());
 }
 
-/// Takes a face out, and drops its datum. The half edges of the last face lie on its new number.
+/// Takes out a face, and drops its datum.
+///
+/// The half edges of the last face name it by its new number.
 pub fn take_out_face<V, DE, UE, F: Drop, A: Allocator>(
     store: &mut Store<V, DE, UE, F, A>,
     face: FixedFaceHandle<PossiblyOuterTag>,
@@ -52,7 +55,7 @@ pub fn take_out_face<V, DE, UE, F: Drop, A: Allocator>(
     }
 }
 
-/// Takes the edges of a list out, from its last one to its first.
+/// Takes out the edges of a list, from its last one to its first.
 pub fn take_out_edges<V, DE: Drop, UE: Drop, F, A: Allocator>(
     store: &mut Store<V, DE, UE, F, A>,
     edges: &[FixedUndirectedEdgeHandle],
@@ -67,7 +70,7 @@ pub fn take_out_edges<V, DE: Drop, UE: Drop, F, A: Allocator>(
     }
 }
 
-/// Takes the faces of a list out, from its last one to its first.
+/// Takes out the faces of a list, from its last one to its first.
 pub fn take_out_faces<V, DE, UE, F: Drop, A: Allocator>(
     store: &mut Store<V, DE, UE, F, A>,
     faces: &[FixedFaceHandle<InnerTag>],
@@ -82,7 +85,9 @@ pub fn take_out_faces<V, DE, UE, F: Drop, A: Allocator>(
     }
 }
 
-/// Takes a vertex out, and answers its datum. The half edges of the last vertex start at its new number.
+/// Takes out a vertex, and returns its datum.
+///
+/// The half edges of the last vertex name it by its new number.
 pub fn take_out_vertex<V, DE, UE, F, A: Allocator>(
     store: &mut Store<V, DE, UE, F, A>,
     vertex: FixedVertexHandle,
@@ -99,7 +104,7 @@ pub fn take_out_vertex<V, DE, UE, F, A: Allocator>(
     datum
 }
 
-// The links of a half edge, where those that lead to the edge `last` lead to `to` in its place.
+// Returns the links of a half edge, where those that lead to the edge `last` lead to `to` instead.
 fn moved_links<V, DE, UE, F, A: Allocator>(
     store: &Store<V, DE, UE, F, A>,
     edge: FixedDirectedEdgeHandle,
@@ -118,7 +123,7 @@ fn moved_links<V, DE, UE, F, A: Allocator>(
     }
 }
 
-// A half edge goes with its edge, where `last` becomes `to`.
+// Returns `edge`, or the same half of `to` if it is a half of `last`.
 #[tactic(auto, unfolding(dcel_maps::specs::Renumbering::half_of, dcel_maps::specs::Renumbering::moved))]
 fn moved_half(
     edge: FixedDirectedEdgeHandle,
@@ -138,7 +143,7 @@ fn moved_half(
     moved.rev()
 }
 
-// Has the neighbours of a half edge, and the anchors that named it, name it by a new number.
+// Renames a half edge in the links of its neighbors and in the anchors that named it.
 fn rename_half<V, DE, UE, F, A: Allocator>(
     store: &mut Store<V, DE, UE, F, A>,
     links: HalfEdgeEntry,
@@ -184,8 +189,8 @@ fn rename_face_anchor<V, DE, UE, F, A: Allocator>(
     store.set_face_anchor(face, renamed(anchor, from, to));
 }
 
-// An anchor, by its new number where it is the half edge that moved. It is written either way: which one it is can't be foreseen, and a
-// branch on it would wait for the anchor.
+// Returns the anchor, by its new number if it is the half edge that moved. The callers write it
+// unconditionally: a branch would be unpredictable and would stall on loading the anchor.
 #[inline]
 fn renamed(
     anchor: Option<FixedDirectedEdgeHandle>,
@@ -196,32 +201,4 @@ fn renamed(
 {
     let edge = anchor?;
     Some(if edge == from { to } else { edge })
-}
-
-/// Has half edges lie on a face: its anchor, and those that follow it. As [`rename_turn`], it goes from both ends.
-fn rename_word<V, DE, UE, F, A: Allocator>(
-    store: &mut Store<V, DE, UE, F, A>,
-    face: FixedFaceHandle<PossiblyOuterTag>,
-)
-    requires { CanWalk store.old face }
-    ensures { store.new ≡ word_renamed store.old face }
-{
-    let Some(adjacent_edge) = store.face_anchor(face) else {
-        return;
-    };
-    let mut first = adjacent_edge;
-    let mut last = store.prev(adjacent_edge);
-    loop {
-        store.set_face(first, face);
-        if first == last {
-            return;
-        }
-        store.set_face(last, face);
-        let after = store.next(first);
-        if after == last {
-            return;
-        }
-        last = store.prev(last);
-        first = after;
-    }
 }

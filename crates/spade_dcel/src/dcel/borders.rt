@@ -1,4 +1,4 @@
-//! Tests of what a removal opens with: the half edges round what is given up.
+//! Tests of what a removal opens with: the half edges around what is given up.
 
 ghost use Rattle.std.specs.Prelude.{◌↔◌, ◌<◌, IsTrue, reverse};
 ghost use Rattle.dcel_maps.specs.Borders.{IsBorderLoop, IsVertexRing};
@@ -17,9 +17,13 @@ use dcel_fixed::{
 use std::alloc::Allocator;
 
 impl<V, DE, UE, F, A: Allocator> Dcel<V, DE, UE, F, A> {
-    /// Whether these half edges are the border loop of the vertex, which lies inside triangles alone, three or more: read from its end,
-    /// the list is what comes after the out edges of the vertex, in the order of `ccw` from one of them on, and the last half edge of
-    /// the list starts where no other one of it does. Any numbers may be asked about.
+    /// Returns whether these half edges are the border loop of the vertex.
+    ///
+    /// The vertex lies inside triangles alone, three or more. Read from its end, the list names
+    /// what comes after its out edges, in the order of `ccw` from one of them on; and the last half
+    /// edge of the list starts where no other one of it does.
+    ///
+    /// Any numbers may be given.
     pub fn is_border_loop(
         &self,
         list: &[FixedDirectedEdgeHandle],
@@ -47,15 +51,18 @@ impl<V, DE, UE, F, A: Allocator> Dcel<V, DE, UE, F, A> {
         self.goes_round(out_edge, last, others)
     }
 
-    /// Whether these half edges are the ring of these edges and faces, each once and in any order. Any numbers may be asked about.
+    /// Returns whether these half edges are the ring of these edges and faces.
     ///
-    /// Either they are the border loop of a vertex, with the edges at that vertex and the faces round it, which are as many. Or they are the
-    /// ring of a region, which is inner faces and the edges between them, one fewer: read from its end, the list leads round all half edges
-    /// of the faces that are of none of the edges, three or more, each from the one before by the next one, past the edges; and the last
-    /// half edge of the list starts where no other one does.
+    /// Each edge and each face is listed once, in any order. Either the list is the border loop of
+    /// a vertex, with the edges at that vertex and the faces around it, which are as many. Or it is
+    /// the ring of a region, which is inner faces and the edges between them, one fewer: read from
+    /// its end, the list leads around all half edges of the faces that are of none of the edges,
+    /// three or more, each from the one before by the next one, past the edges; and the last half
+    /// edge of the list starts where no other one does.
     ///
-    /// It takes no memory, and at most time with the square of the lengths; linear time for a vertex whose edges and faces come in the
-    /// order of its out edges.
+    /// Any numbers may be given. It allocates nothing. Its time grows with the square of the
+    /// lengths at most, and linearly for a vertex whose edges and faces come in the order of its
+    /// out edges.
     pub fn is_ring(
         &self,
         list: &[FixedDirectedEdgeHandle],
@@ -71,9 +78,6 @@ impl<V, DE, UE, F, A: Allocator> Dcel<V, DE, UE, F, A> {
         self.is_region_ring(list, edges, faces)
     }
 
-    // Whether these half edges are the border loop of some vertex, and these are the edges at that vertex and the faces round it, each
-    // once and in any order. The edges and faces are looked for at the places where they stand in the order of out edges first, so that
-    // lists in this order are gone through once.
     fn is_vertex_ring(
         &self,
         list: &[FixedDirectedEdgeHandle],
@@ -102,7 +106,8 @@ impl<V, DE, UE, F, A: Allocator> Dcel<V, DE, UE, F, A> {
         self.finds_each(center, edges, faces)
     }
 
-    // Whether the edge and the face of each out edge of the vertex are among these.
+    // Each is looked for first at the place where it stands if the lists are in the order of out
+    // edges, so that such lists are read once.
     fn finds_each(
         &self,
         vertex: FixedVertexHandle,
@@ -130,7 +135,6 @@ impl<V, DE, UE, F, A: Allocator> Dcel<V, DE, UE, F, A> {
         true
     }
 
-    // Whether a half edge comes after another one, which lies on an inner triangle.
     pub(crate) fn is_sector(
         &self,
         out_edge: FixedDirectedEdgeHandle,
@@ -144,8 +148,7 @@ impl<V, DE, UE, F, A: Allocator> Dcel<V, DE, UE, F, A> {
             && self.is_on_triangle(out_edge)
     }
 
-    // Whether the list, read from its end, goes round from the out edge after the first one back to it, and none of it starts where
-    // `last` does.
+    // The list is read from its end, from the out edge after the first one back to it.
     fn goes_round(
         &self,
         first_out: FixedDirectedEdgeHandle,
@@ -175,7 +178,6 @@ impl<V, DE, UE, F, A: Allocator> Dcel<V, DE, UE, F, A> {
     }
 }
 
-// Whether an item stands in the list: it is looked for at this place first.
 fn stands_near<Kind, InnerOuter: InnerOuterMarker>(
     items: &[FixedHandleImpl<Kind, InnerOuter>],
     place: usize,

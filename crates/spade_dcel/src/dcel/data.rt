@@ -1,4 +1,5 @@
-//! The data of a mesh: read, lent to be written, and replaced. Elements that an open removal has given up keep theirs.
+//! The data of a mesh: read, lent to be written, and replaced. Elements that an open removal has
+//! given up keep theirs.
 
 ghost use Rattle.std.specs.Prelude.{◌≡◌, ◌*◌, ◌<◌, slice_get};
 ghost use Rattle.std.specs.Borrow.{sem};
@@ -16,7 +17,9 @@ use std::alloc::Allocator;
 
 /// Data, read.
 impl<V, DE, UE, F, A: Allocator> Dcel<V, DE, UE, F, A> {
-    /// The datum of a vertex. It asks for a number below [`num_vertices`](Self::num_vertices).
+    /// Lends the datum of a vertex.
+    ///
+    /// Asks for a number below [`num_vertices`](Self::num_vertices).
     #[inline]
     pub fn vertex_data(&self, handle: FixedVertexHandle) -> &V
         requires { handle < self.now.shape.vertices }
@@ -25,8 +28,9 @@ impl<V, DE, UE, F, A: Allocator> Dcel<V, DE, UE, F, A> {
         self.store.vertex_data(handle)
     }
 
-    /// The datum of a half edge, which is its own: the other half has another. It asks for a number below
-    /// [`num_directed_edges`](Self::num_directed_edges).
+    /// Lends the datum of a half edge, which is its own: the other half has another.
+    ///
+    /// Asks for a number below [`num_directed_edges`](Self::num_directed_edges).
     #[inline]
     pub fn directed_edge_data(&self, handle: FixedDirectedEdgeHandle) -> &DE
         requires { handle < 2 * self.now.shape.edges }
@@ -35,7 +39,9 @@ impl<V, DE, UE, F, A: Allocator> Dcel<V, DE, UE, F, A> {
         self.store.directed_data(handle)
     }
 
-    /// The datum of an undirected edge. It asks for a number below [`num_undirected_edges`](Self::num_undirected_edges).
+    /// Lends the datum of an undirected edge.
+    ///
+    /// Asks for a number below [`num_undirected_edges`](Self::num_undirected_edges).
     #[inline]
     pub fn undirected_edge_data(&self, handle: FixedUndirectedEdgeHandle) -> &UE
         requires { handle < self.now.shape.edges }
@@ -44,7 +50,9 @@ impl<V, DE, UE, F, A: Allocator> Dcel<V, DE, UE, F, A> {
         self.store.undirected_data(handle)
     }
 
-    /// The datum of a face. It asks for a number below [`num_faces`](Self::num_faces).
+    /// Lends the datum of a face.
+    ///
+    /// Asks for a number below [`num_faces`](Self::num_faces).
     #[inline]
     pub fn face_data<InnerOuter: InnerOuterMarker>(&self, handle: FixedFaceHandle<InnerOuter>) -> &F
         requires { handle < face_count self.now.shape }
@@ -54,9 +62,11 @@ impl<V, DE, UE, F, A: Allocator> Dcel<V, DE, UE, F, A> {
     }
 }
 
-/// Data, written. A writer changes that datum and nothing else of the mesh, and takes no memory.
+/// Data, written. A writer changes that datum and nothing else of the mesh, and allocates nothing.
 impl<V, DE, UE, F, A: Allocator> Dcel<V, DE, UE, F, A> {
-    /// The datum of a vertex, to be written. It asks for a number below [`num_vertices`](Self::num_vertices).
+    /// Lends the datum of a vertex to be written.
+    ///
+    /// Asks for a number below [`num_vertices`](Self::num_vertices).
     #[inline]
     pub fn vertex_data_mut(&mut self, handle: FixedVertexHandle) -> &mut V
         requires { handle < self.old.shape.vertices }
@@ -66,7 +76,9 @@ impl<V, DE, UE, F, A: Allocator> Dcel<V, DE, UE, F, A> {
         self.store.vertex_data_mut(handle)
     }
 
-    /// The datum of a half edge, to be written. It asks for a number below [`num_directed_edges`](Self::num_directed_edges).
+    /// Lends the datum of a half edge to be written.
+    ///
+    /// Asks for a number below [`num_directed_edges`](Self::num_directed_edges).
     #[inline]
     pub fn directed_edge_data_mut(&mut self, handle: FixedDirectedEdgeHandle) -> &mut DE
         requires { handle < 2 * self.old.shape.edges }
@@ -76,7 +88,9 @@ impl<V, DE, UE, F, A: Allocator> Dcel<V, DE, UE, F, A> {
         self.store.directed_data_mut(handle)
     }
 
-    /// The datum of an undirected edge, to be written. It asks for a number below [`num_undirected_edges`](Self::num_undirected_edges).
+    /// Lends the datum of an undirected edge to be written.
+    ///
+    /// Asks for a number below [`num_undirected_edges`](Self::num_undirected_edges).
     #[inline]
     pub fn undirected_edge_data_mut(&mut self, handle: FixedUndirectedEdgeHandle) -> &mut UE
         requires { handle < self.old.shape.edges }
@@ -86,7 +100,9 @@ impl<V, DE, UE, F, A: Allocator> Dcel<V, DE, UE, F, A> {
         self.store.undirected_data_mut(handle)
     }
 
-    /// The datum of a face, to be written. It asks for a number below [`num_faces`](Self::num_faces).
+    /// Lends the datum of a face to be written.
+    ///
+    /// Asks for a number below [`num_faces`](Self::num_faces).
     #[inline]
     pub fn face_data_mut<InnerOuter: InnerOuterMarker>(
         &mut self,
@@ -99,8 +115,9 @@ impl<V, DE, UE, F, A: Allocator> Dcel<V, DE, UE, F, A> {
         self.store.face_data_mut(handle.adjust_inner_outer())
     }
 
-    /// Replaces the datum of a vertex, and drops the old one. It asks for a number below [`num_vertices`](Self::num_vertices), and
-    /// takes no memory.
+    /// Replaces the datum of a vertex, and drops the old one.
+    ///
+    /// Asks for a number below [`num_vertices`](Self::num_vertices).
     #[inline]
     pub fn update_vertex(&mut self, handle: FixedVertexHandle, datum: V)
     where

@@ -9,8 +9,11 @@ use dcel_fixed::FixedVertexHandle;
 use std::alloc::Allocator;
 
 impl<V, DE, UE, F, A: Allocator> Dcel<V, DE, UE, F, A> {
-    /// Whether no removal is open and the vertex is the only one, or one of a mesh with one face where each vertex has one or two out
-    /// edges. Any number may be asked about.
+    /// Returns whether the vertex is one that a degenerate mesh can lose.
+    ///
+    /// This is what [`remove_when_degenerate`](crate::operations::remove_when_degenerate) asks. It
+    /// holds if no removal is open and the vertex is the only one, or one of a mesh with one
+    /// face where one or two half edges start at each vertex. Any number may be given.
     pub fn can_remove_degenerate(&self, handle: FixedVertexHandle) -> bool
         ensures { IsTrue result ↔ CanRemoveDegenerate self.now.shape handle }
     {
@@ -40,7 +43,6 @@ impl<V, DE, UE, F, A: Allocator> Dcel<V, DE, UE, F, A> {
         true
     }
 
-    // Whether a vertex has one out edge, or two.
     fn has_few_out_edges(&self, handle: FixedVertexHandle) -> bool
         requires { handle < self.now.shape.vertices }
         ensures { IsTrue result ↔ HasFewOutEdges self.now.shape handle }

@@ -1,3 +1,5 @@
+//! Iterators over all elements of a kind.
+
 ghost use Rattle.std.specs.Prelude.{◌≡◌, ◌+◌, ◌*◌, ◌≤◌, ◌^◌, length};
 ghost use Rattle.dcel_maps.specs.Numbers.{numbers_between};
 ghost use Rattle.dcel_maps.specs.Shapes.{face_count};
@@ -10,9 +12,11 @@ use crate::iterators::{
 };
 use std::alloc::Allocator;
 
-/// All elements of a kind, in the order of their numbers and from both ends, given-up ones included.
+/// All elements of a kind, in the order of their numbers.
+///
+/// The iterators run from both ends, and given-up elements are included.
 impl<V, DE, UE, F, A: Allocator> Dcel<V, DE, UE, F, A> {
-    /// The vertices, borrowed.
+    /// Returns the vertices, as handles.
     #[inline]
     pub fn vertices(&self) -> VertexIterator<'_, V, DE, UE, F, A>
         ensures items { result ≡ in_mesh self.now (numbers_between 0 self.now.shape.vertices) }
@@ -22,7 +26,7 @@ impl<V, DE, UE, F, A: Allocator> Dcel<V, DE, UE, F, A> {
         VertexIterator::new(self)
     }
 
-    /// The vertices by number.
+    /// Returns the numbers of the vertices.
     #[inline]
     pub fn fixed_vertices(&self) -> FixedVertexIterator
         ensures items { result ≡ numbers_between 0 self.now.shape.vertices }
@@ -32,7 +36,7 @@ impl<V, DE, UE, F, A: Allocator> Dcel<V, DE, UE, F, A> {
         FixedVertexIterator::new(self.num_vertices())
     }
 
-    /// The half edges, borrowed.
+    /// Returns the half edges, as handles.
     #[inline]
     pub fn directed_edges(&self) -> DirectedEdgeIterator<'_, V, DE, UE, F, A>
         ensures items { result ≡ in_mesh self.now (numbers_between 0 (2 * self.now.shape.edges)) }
@@ -42,7 +46,7 @@ impl<V, DE, UE, F, A: Allocator> Dcel<V, DE, UE, F, A> {
         DirectedEdgeIterator::new(self)
     }
 
-    /// The undirected edges, borrowed.
+    /// Returns the undirected edges, as handles.
     #[inline]
     pub fn undirected_edges(&self) -> UndirectedEdgeIterator<'_, V, DE, UE, F, A>
         ensures items { result ≡ in_mesh self.now (numbers_between 0 self.now.shape.edges) }
@@ -52,7 +56,7 @@ impl<V, DE, UE, F, A: Allocator> Dcel<V, DE, UE, F, A> {
         UndirectedEdgeIterator::new(self)
     }
 
-    /// The faces, borrowed, the outer one first.
+    /// Returns the faces, as handles, the outer one first.
     #[inline]
     pub fn faces(&self) -> FaceIterator<'_, V, DE, UE, F, A>
         ensures items { result ≡ in_mesh self.now (numbers_between 0 (face_count self.now.shape)) }
@@ -62,7 +66,7 @@ impl<V, DE, UE, F, A: Allocator> Dcel<V, DE, UE, F, A> {
         FaceIterator::new(self)
     }
 
-    /// The inner faces, borrowed: all but the outer one.
+    /// Returns the inner faces, as handles: all but the outer one.
     #[inline]
     pub fn inner_faces(&self) -> InnerFaceIterator<'_, V, DE, UE, F, A>
         ensures items { result ≡ in_mesh self.now (numbers_between 1 (face_count self.now.shape)) }
@@ -75,7 +79,7 @@ impl<V, DE, UE, F, A: Allocator> Dcel<V, DE, UE, F, A> {
         faces
     }
 
-    /// The faces by number, the outer one first.
+    /// Returns the numbers of the faces, the outer one first.
     #[inline]
     pub fn fixed_faces(&self) -> FixedFaceIterator
         ensures items { result ≡ numbers_between 0 (face_count self.now.shape) }

@@ -1,6 +1,8 @@
-//! The test of a region ring: faces that the edges between them join to one, and the half edges round them.
+//! The test of a region ring: faces that the edges between them join to one, and the half edges
+//! around them.
 //!
-//! It takes no memory, so it looks each item up in the lists, and the time may grow with the square of their lengths.
+//! It allocates nothing, so it looks each item up in the lists, and its time may grow with the
+//! square of their lengths.
 
 ghost use Rattle.std.specs.Prelude.{◌≡◌, ◌≢◌, ◌⊎◌, ◌↔◌, ◌/◌, ◌*◌, ◌<◌, ◌≤◌, ℕ, IsTrue, length, reverse, true};
 ghost use Rattle.dcel_maps.specs.Regions.{IsRegionRing};
@@ -18,7 +20,6 @@ use dcel_fixed::{
 use std::alloc::Allocator;
 
 impl<V, DE, UE, F, A: Allocator> Dcel<V, DE, UE, F, A> {
-    // Whether these half edges are the ring of a region with these edges and faces. Any numbers may be asked about.
     pub(crate) fn is_region_ring(
         &self,
         list: &[FixedDirectedEdgeHandle],
@@ -52,7 +53,6 @@ impl<V, DE, UE, F, A: Allocator> Dcel<V, DE, UE, F, A> {
         self.are_covered(faces, edges, list)
     }
 
-    // Whether these are inner faces that are live, each once.
     fn are_inner_faces(&self, faces: &[FixedFaceHandle<InnerTag>]) -> bool
         ensures { IsTrue result ↔ (((face : ℕ) → count_of face faces.now ≤ 1)
             × ((face : ℕ) → 0 < count_of face faces.now → (0 < face) × (face_is_live self.now.shape face ≡ true))) }
@@ -63,7 +63,6 @@ impl<V, DE, UE, F, A: Allocator> Dcel<V, DE, UE, F, A> {
         self.are_inner(faces)
     }
 
-    // Whether each of the faces is an inner one and live.
     fn are_inner(&self, faces: &[FixedFaceHandle<InnerTag>]) -> bool
         ensures { IsTrue result ↔ ((face : ℕ) → 0 < count_of face faces.now → (0 < face) × (face_is_live self.now.shape face ≡ true)) }
     {
@@ -80,7 +79,6 @@ impl<V, DE, UE, F, A: Allocator> Dcel<V, DE, UE, F, A> {
         true
     }
 
-    // Whether each of the edges is live and has its halves on two different ones of the faces.
     fn lie_between(
         &self,
         edges: &[FixedUndirectedEdgeHandle],
@@ -98,8 +96,7 @@ impl<V, DE, UE, F, A: Allocator> Dcel<V, DE, UE, F, A> {
         true
     }
 
-    // Whether the list, read from its end, leads round past the edges, begins on one of the faces, and none of it but the first one starts
-    // where that does.
+    // The list is read from its end.
     fn leads_round(
         &self,
         list: &[FixedDirectedEdgeHandle],
@@ -120,7 +117,7 @@ impl<V, DE, UE, F, A: Allocator> Dcel<V, DE, UE, F, A> {
         self.leads_along(first, others, edges)
     }
 
-    // Whether the list, read from its end, leads from the first half edge back to it past the edges, and none of it starts where that does.
+    // The list is read from its end; the first half edge starts where no other one does.
     fn leads_along(
         &self,
         first: FixedDirectedEdgeHandle,
@@ -144,7 +141,6 @@ impl<V, DE, UE, F, A: Allocator> Dcel<V, DE, UE, F, A> {
         self.steps_to(half, first, edges)
     }
 
-    // Whether the way past the edges leads from one half edge to the other, which doesn't start at the apex.
     fn goes_on(
         &self,
         half: FixedDirectedEdgeHandle,
@@ -162,7 +158,6 @@ impl<V, DE, UE, F, A: Allocator> Dcel<V, DE, UE, F, A> {
         self.origin(following) != apex
     }
 
-    // Whether the way past the edges leads from one half edge to the other.
     fn steps_to(
         &self,
         half: FixedDirectedEdgeHandle,
@@ -179,7 +174,6 @@ impl<V, DE, UE, F, A: Allocator> Dcel<V, DE, UE, F, A> {
         !is_among(edges, &following.as_undirected())
     }
 
-    // Whether each half edge round each of the faces, which are live inner ones, is one of these edges or stands in the list.
     fn are_covered(
         &self,
         faces: &[FixedFaceHandle<InnerTag>],
@@ -199,7 +193,6 @@ impl<V, DE, UE, F, A: Allocator> Dcel<V, DE, UE, F, A> {
         true
     }
 
-    // Whether each half edge round the face is one of these edges or stands in the list.
     fn is_covered(
         &self,
         face: FixedFaceHandle<InnerTag>,
@@ -224,7 +217,6 @@ impl<V, DE, UE, F, A: Allocator> Dcel<V, DE, UE, F, A> {
         true
     }
 
-    // Whether the edge is live and has its halves on two different ones of the faces.
     #[tactic(auto, using(dcel_fixed::proofs::Halves::halves))]
     fn lies_between(
         &self,
@@ -249,8 +241,7 @@ impl<V, DE, UE, F, A: Allocator> Dcel<V, DE, UE, F, A> {
         near != far
     }
 
-    // Where the way past the edges leads: to the next half edge, and while that is a half of one of them, to the next one of its other
-    // half. It passes as many halves as there are edges, at most.
+    // Bounded by the number of edges, so that it ends whatever the lists are.
     fn past(
         &self,
         half: FixedDirectedEdgeHandle,
@@ -271,7 +262,6 @@ impl<V, DE, UE, F, A: Allocator> Dcel<V, DE, UE, F, A> {
     }
 }
 
-// Whether the half edge is one of these edges or stands in the list.
 fn is_edge_or_item(
     half: FixedDirectedEdgeHandle,
     edges: &[FixedUndirectedEdgeHandle],
@@ -285,7 +275,6 @@ fn is_edge_or_item(
     is_among(list, &half)
 }
 
-// Whether no item stands twice in the list.
 fn are_different<Kind, InnerOuter: InnerOuterMarker>(
     items: &[FixedHandleImpl<Kind, InnerOuter>],
 ) -> bool
@@ -301,7 +290,6 @@ fn are_different<Kind, InnerOuter: InnerOuterMarker>(
     true
 }
 
-// Whether an item stands in the list.
 fn is_among<Kind, InnerOuter: InnerOuterMarker>(
     items: &[FixedHandleImpl<Kind, InnerOuter>],
     item: &FixedHandleImpl<Kind, InnerOuter>,

@@ -13,8 +13,10 @@ use std::alloc::Allocator;
 
 /// Removals.
 impl<V, DE, UE, F, A: Allocator> Dcel<V, DE, UE, F, A> {
-    /// How far a removal has come: whether one is open, and whether what it has given up is cleaned up, all but its vertex. One that has no
-    /// vertex is closed then.
+    /// Returns how far a removal has come.
+    ///
+    /// Either none is open, or one is open and not cleaned up, or one is cleaned up and its vertex
+    /// is still there. Cleanup closes a removal that gave up no vertex.
     #[inline]
     pub fn removal_state(&self) -> RemovalState
         ensures { result ≡ state_of self.now.shape.removal }
@@ -22,8 +24,11 @@ impl<V, DE, UE, F, A: Allocator> Dcel<V, DE, UE, F, A> {
         self.removal.state()
     }
 
-    /// Whether a removal is open and not yet cleaned up, and `opened` lists the edges and the faces that it has given up, each once, in
-    /// any order. Where that is the order in which they were given up it takes linear time, and else at most the square of it.
+    /// Returns whether `opened` lists what an open removal has given up.
+    ///
+    /// The removal has to be open and not yet cleaned up, and each edge and each face that it gave
+    /// up listed once, in any order. The test takes linear time if that is the order in which they
+    /// were given up, and otherwise at most the square of it.
     pub fn is_listed<B: Allocator>(&self, opened: &IsolateVertexResult<B>) -> bool
         ensures { IsTrue result ↔ IsListed self.now.shape.removal opened.now.edges_to_remove.items opened.now.faces_to_remove.items }
     {
@@ -31,8 +36,11 @@ impl<V, DE, UE, F, A: Allocator> Dcel<V, DE, UE, F, A> {
             .lists(&opened.edges_to_remove, &opened.faces_to_remove)
     }
 
-    /// Whether [`swap_remove_vertex`](crate::operations::swap_remove_vertex) can take the vertex out: no removal is open and the vertex is
-    /// unconnected, or a removal is cleaned up and the vertex is the one that it gave up. Any number may be asked about.
+    /// Returns whether the vertex can be taken out.
+    ///
+    /// This is what [`swap_remove_vertex`](crate::operations::swap_remove_vertex) asks. It holds if
+    /// no removal is open and the vertex is unconnected, or if a removal is cleaned up and the
+    /// vertex is the one that it gave up. Any number may be given.
     pub fn can_swap_remove(&self, handle: FixedVertexHandle) -> bool
         ensures { IsTrue result ↔ CanSwapRemove self.now.shape handle }
     {

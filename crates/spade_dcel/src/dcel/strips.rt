@@ -12,9 +12,12 @@ use dcel_fixed::FixedDirectedEdgeHandle;
 use std::alloc::Allocator;
 
 impl<V, DE, UE, F, A: Allocator> Dcel<V, DE, UE, F, A> {
-    /// Whether these half edges are the strip of a vertex that has exactly one out edge on the outer face, whose other faces are triangles,
-    /// while the outer face has three half edges or more: the list is what comes after the other out edges, in the order of `ccw` from
-    /// the outer one on, and last what comes after that one. Any numbers may be asked about.
+    /// Returns whether these half edges are the strip of a vertex of the outer face.
+    ///
+    /// Exactly one half edge out of the vertex lies on the outer face, its other faces are
+    /// triangles, and the outer face has three half edges or more. The list names what comes after
+    /// the other out edges, in the order of `ccw` from the outer one on, and last what comes after
+    /// the outer one. Any numbers may be given.
     pub fn is_edge_strip(&self, list: &[FixedDirectedEdgeHandle]) -> bool
         ensures { IsTrue result ↔ IsEdgeStrip self.now.shape list.now }
     {
@@ -35,7 +38,6 @@ impl<V, DE, UE, F, A: Allocator> Dcel<V, DE, UE, F, A> {
         self.goes_along(outer_out, others)
     }
 
-    // Whether the list goes along the sectors of the out edges after the first one, and so round back to it.
     fn goes_along(
         &self,
         first_out: FixedDirectedEdgeHandle,

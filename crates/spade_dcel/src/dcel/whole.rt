@@ -1,4 +1,4 @@
-//! Calls on a whole mesh: room reserved, all taken out, data mapped, a clone.
+//! Calls on a whole mesh: room made, all taken out, data mapped, a clone.
 
 ghost use Rattle.std.specs.Prelude.{◌≡◌, All, IfOk, IfErr};
 ghost use Rattle.std.specs.List.{AllZip};
@@ -12,8 +12,14 @@ use std::alloc::{AllocError, Allocator};
 
 /// Calls on the whole mesh.
 impl<V, DE, UE, F, A: Allocator> Dcel<V, DE, UE, F, A> {
-    /// Reserves memory for so many more vertices, undirected edges and faces. It asks that there are numbers left for them
-    /// ([`has_room`](Self::has_room)). The mesh stays as it was, with memory and without.
+    /// Makes room in memory for that many more vertices, undirected edges and faces.
+    ///
+    /// The contract says only that the mesh does not change, whether there was memory or not: no
+    /// clause sees room. If the call succeeds, that many elements can be added without a further
+    /// request.
+    ///
+    /// Asks that there are numbers left for them ([`has_room`](Self::has_room)). If memory runs out
+    /// it returns `AllocError`; some of the room may have been made by then.
     pub fn reserve_capacity(
         &mut self,
         vertices: usize,
@@ -26,8 +32,11 @@ impl<V, DE, UE, F, A: Allocator> Dcel<V, DE, UE, F, A> {
         self.store.reserve(vertices, undirected_edges, faces)
     }
 
-    /// Takes out all vertices, all edges and all inner faces: the outer face is left alone, with its datum. An open removal is closed.
-    /// It takes no memory and gives none back, so the mesh can grow to its old size without memory.
+    /// Takes out all vertices, all edges and all inner faces.
+    ///
+    /// The outer face stays, with its datum. An open removal is closed. It allocates nothing and
+    /// gives no memory back: elements that are added up to the old counts find room, which no
+    /// clause of this contract sees.
     pub fn clear(&mut self)
     where
         V: Drop,
@@ -41,8 +50,11 @@ impl<V, DE, UE, F, A: Allocator> Dcel<V, DE, UE, F, A> {
         self.removal.close();
     }
 
-    /// The mesh with other data of the vertices: for each datum one that the closure answers to it. It asks that the closure may be
-    /// called on each of them. All memory is taken before it is first called, by `alloc`; without memory the whole mesh comes back.
+    /// Maps the data of the vertices with a closure.
+    ///
+    /// Returns the mesh with the new data. Asks that the closure may be called on each of the old
+    /// ones. All memory is requested from `alloc` before the first call; if it runs out
+    /// [`NoMemory`] gives back the whole mesh.
     pub fn map_vertices<V2: Drop, M: Fn(V) -> V2 + Drop>(
         self,
         alloc: A,
@@ -68,8 +80,11 @@ impl<V, DE, UE, F, A: Allocator> Dcel<V, DE, UE, F, A> {
         }
     }
 
-    /// The mesh with other data of the undirected edges: for each datum one that the closure answers to it. It asks that the closure may
-    /// be called on each of them. All memory is taken before it is first called, by `alloc`; without memory the whole mesh comes back.
+    /// Maps the data of the undirected edges with a closure.
+    ///
+    /// Returns the mesh with the new data. Asks that the closure may be called on each of the old
+    /// ones. All memory is requested from `alloc` before the first call; if it runs out
+    /// [`NoMemory`] gives back the whole mesh.
     pub fn map_undirected_edges<UE2: Drop, M: Fn(UE) -> UE2 + Drop>(
         self,
         alloc: A,
@@ -99,8 +114,10 @@ impl<V, DE, UE, F, A: Allocator> Dcel<V, DE, UE, F, A> {
 
 /// The clone.
 impl<V: Clone, DE: Clone, UE: Clone, F: Clone, A: Allocator + Clone> Dcel<V, DE, UE, F, A> {
-    /// A mesh with a clone of each datum, and all else the same: an equal mesh where clones are equal. It is refused where there is no
-    /// memory, or a clone is refused. Its memory is taken by clones of `alloc`.
+    /// Clones the mesh, with a clone of each datum, in memory of `alloc`.
+    ///
+    /// All else is the same, so the meshes are equal if clones are. If memory runs out, or a datum
+    /// cannot be cloned, it returns `AllocError`.
     pub fn try_clone(&self, alloc: A) -> Result<Self, AllocError>
         ensures clone { IfOk result (IsClone V.is_clone DE.is_clone UE.is_clone F.is_clone self.now) }
         ensures equal { ClonesEqual V.is_clone → ClonesEqual DE.is_clone → ClonesEqual UE.is_clone → ClonesEqual F.is_clone

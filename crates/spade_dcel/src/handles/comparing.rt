@@ -1,3 +1,5 @@
+//! Equality, order and hash of borrowed handles, all by their numbers.
+
 ghost use Rattle.std.specs.Prelude.{nat_eq, refl};
 ghost use Rattle.std.specs.Cmp.{nat_cmp_total, nat_eq_equiv, on_equiv, on_per, on_po, on_total, partial_equiv_from_equiv, unsigned_Decides, unsigned_po, unsigned_ties};
 ghost use Rattle.std.specs.Hash.{on_Alike, same_Alike};
@@ -12,7 +14,7 @@ use std::alloc::Allocator;
 use std::cmp::Ordering;
 use std::hash::{Hash, Hasher};
 
-/// Two handles of one kind are equal where their numbers are, also in different meshes.
+/// Handles of one kind are equal if their numbers are, even in different meshes.
 impl<'a, V, DE, UE, F, Kind, InnerOuter, A> PartialEq
     for DynamicHandleImpl<'a, V, DE, UE, F, Kind, InnerOuter, A>
 where
@@ -69,7 +71,7 @@ impl<'a, V, DE, UE, F, Kind: DelaunayElementType, InnerOuter: InnerOuterMarker, 
     }
 }
 
-/// A handle is hashed as its fixed handle is, by its number; so equal handles have equal hashes.
+/// A handle is hashed by its number, as its fixed handle is.
 impl<'a, V, DE, UE, F, Kind: DelaunayElementType, InnerOuter: InnerOuterMarker, A: Allocator> Hash
     for DynamicHandleImpl<'a, V, DE, UE, F, Kind, InnerOuter, A> {
     ghost hash_input = { λ handle. fed.u32 (number_of handle) };

@@ -1,4 +1,4 @@
-//! The data of borrowed elements, which last as long as the borrow of the mesh.
+//! The data of borrowed elements, lent for as long as the mesh is borrowed.
 
 ghost use Rattle.std.specs.Prelude.{◌≡◌, slice_get};
 ghost use Rattle.spade_dcel.specs.Handles.{mesh_behind, number_of};
@@ -10,7 +10,7 @@ use dcel_fixed::InnerOuterMarker;
 use std::alloc::Allocator;
 
 impl<'a, V, DE, UE, F, A: Allocator> VertexHandle<'a, V, DE, UE, F, A> {
-    /// Its datum.
+    /// Returns the datum of the vertex.
     #[inline]
     pub fn data(&self) -> &'a V
         ensures { slice_get (mesh_behind self.now).vertex_data (number_of self.now) ≡ Some result.now }
@@ -20,7 +20,7 @@ impl<'a, V, DE, UE, F, A: Allocator> VertexHandle<'a, V, DE, UE, F, A> {
 }
 
 impl<'a, V, DE, UE, F, A: Allocator> DirectedEdgeHandle<'a, V, DE, UE, F, A> {
-    /// Its datum. The other half has its own.
+    /// Returns the datum of the half edge. The other half has its own.
     #[inline]
     pub fn data(&self) -> &'a DE
         ensures { slice_get (mesh_behind self.now).directed_data (number_of self.now) ≡ Some result.now }
@@ -30,7 +30,7 @@ impl<'a, V, DE, UE, F, A: Allocator> DirectedEdgeHandle<'a, V, DE, UE, F, A> {
 }
 
 impl<'a, V, DE, UE, F, A: Allocator> UndirectedEdgeHandle<'a, V, DE, UE, F, A> {
-    /// Its datum. The two halves have theirs.
+    /// Returns the datum of the edge. Its two halves have their own.
     #[inline]
     pub fn data(&self) -> &'a UE
         ensures { slice_get (mesh_behind self.now).undirected_data (number_of self.now) ≡ Some result.now }
@@ -48,7 +48,7 @@ impl<'a, InnerOuter: InnerOuterMarker, V, DE, UE, F, A: Allocator> FaceHandle<
     F,
     A,
 > {
-    /// Its datum.
+    /// Returns the datum of the face.
     #[inline]
     pub fn data(&self) -> &'a F
         ensures { slice_get (mesh_behind self.now).face_data (number_of self.now) ≡ Some result.now }

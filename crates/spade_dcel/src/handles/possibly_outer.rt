@@ -1,3 +1,5 @@
+//! Telling the outer face from inner faces.
+
 ghost use Rattle.std.specs.Prelude.{◌≡◌, ◌<◌, ◌↔◌, IfSome, IsNone, IsTrue};
 ghost use Rattle.spade_dcel.specs.Handles.{mesh_behind, number_of};
 
@@ -6,7 +8,7 @@ use dcel_fixed::{InnerTag, PossiblyOuterTag};
 use std::alloc::Allocator;
 
 impl<'a, V, DE, UE, F, A: Allocator> FaceHandle<'a, PossiblyOuterTag, V, DE, UE, F, A> {
-    /// Whether it is the outer face.
+    /// Returns whether it is the outer face.
     #[inline]
     pub fn is_outer(&self) -> bool
         ensures { IsTrue result ↔ (number_of self.now ≡ 0) }
@@ -14,7 +16,7 @@ impl<'a, V, DE, UE, F, A: Allocator> FaceHandle<'a, PossiblyOuterTag, V, DE, UE,
         self.fix().is_outer()
     }
 
-    /// The same face with the marker of inner faces, and None for the outer face.
+    /// Returns the same face marked as an inner one, or None for the outer face.
     #[inline]
     pub fn as_inner(&self) -> Option<FaceHandle<'a, InnerTag, V, DE, UE, F, A>>
         ensures outer { IsNone result ↔ (number_of self.now ≡ 0) }

@@ -1,3 +1,5 @@
+//! The ends of a half edge, the vertex opposite it, and whether it lies on the hull.
+
 ghost use Rattle.std.specs.Prelude.{◌≡◌, ◌↔◌, [], ◌∷◌, All, IfSome, IsNone, IsTrue, map};
 ghost use Rattle.spade_dcel.specs.Handles.{mesh_behind, number_of};
 ghost use Rattle.dcel_maps.specs.Shapes.{IsLive, vertex_is_live, end_of, face_of, origin_of, prev_of};
@@ -6,9 +8,10 @@ ghost use Rattle.dcel_maps.specs.Sides.{IsOnHull};
 use crate::handles::definitions::{DirectedEdgeHandle, VertexHandle};
 use std::alloc::Allocator;
 
-/// The ends of a half edge, and its two sides.
 impl<'a, V, DE, UE, F, A: Allocator> DirectedEdgeHandle<'a, V, DE, UE, F, A> {
-    /// The vertices where it starts and where it ends, which are live. It asks for a live edge.
+    /// Returns the vertices where it starts and where it ends.
+    ///
+    /// Asks for a live edge ([`is_live_edge`](crate::dcel::Dcel::is_live_edge)).
     #[inline]
     pub fn vertices(&self) -> [VertexHandle<'a, V, DE, UE, F, A>; 2]
         requires { IsLive (mesh_behind self.now).shape (number_of self.now) }
@@ -21,8 +24,12 @@ impl<'a, V, DE, UE, F, A: Allocator> DirectedEdgeHandle<'a, V, DE, UE, F, A> {
         [self.from(), self.to()]
     }
 
-    /// The vertex that lies opposite of it on its face: where the half edge before it starts. It answers None where its own face is
-    /// the outer one, whatever lies on the other side, and asks for a live edge.
+    /// Returns the vertex opposite it on its face, where the half edge before it starts.
+    ///
+    /// Returns None if it lies on the outer face itself, whatever lies on the other side. The face
+    /// need not be a triangle.
+    ///
+    /// Asks for a live edge ([`is_live_edge`](crate::dcel::Dcel::is_live_edge)).
     #[inline]
     pub fn opposite_vertex(&self) -> Option<VertexHandle<'a, V, DE, UE, F, A>>
         requires { IsLive (mesh_behind self.now).shape (number_of self.now) }
@@ -39,7 +46,9 @@ impl<'a, V, DE, UE, F, A: Allocator> DirectedEdgeHandle<'a, V, DE, UE, F, A> {
         }
     }
 
-    /// Whether it lies on the outer face itself. It asks for a live edge.
+    /// Returns whether it lies on the outer face itself; the other half does not count.
+    ///
+    /// Asks for a live edge ([`is_live_edge`](crate::dcel::Dcel::is_live_edge)).
     #[inline]
     pub fn is_outer_edge(&self) -> bool
         requires { IsLive (mesh_behind self.now).shape (number_of self.now) }
@@ -48,7 +57,9 @@ impl<'a, V, DE, UE, F, A: Allocator> DirectedEdgeHandle<'a, V, DE, UE, F, A> {
         self.face().is_outer()
     }
 
-    /// Whether the half edge or its other half lies on the outer face. It asks for a live edge.
+    /// Returns whether it or its other half lies on the outer face.
+    ///
+    /// Asks for a live edge ([`is_live_edge`](crate::dcel::Dcel::is_live_edge)).
     #[inline]
     pub fn is_part_of_convex_hull(&self) -> bool
         requires { IsLive (mesh_behind self.now).shape (number_of self.now) }

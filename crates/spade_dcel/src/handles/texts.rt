@@ -1,3 +1,7 @@
+//! How borrowed handles are printed for debugging.
+//!
+//! No clause says what is written.
+
 ghost use Rattle.std.specs.Prelude.{◌*◌, ◌<◌};
 
 use crate::dcel::Dcel;
@@ -19,7 +23,9 @@ impl<'a, V, DE, UE, F, A: Allocator> Debug for VertexHandle<'a, V, DE, UE, F, A>
 
 impl<'a, V, DE, UE, F, A: Allocator> Debug for DirectedEdgeHandle<'a, V, DE, UE, F, A> {
     /// Writes its number and the vertices where it starts and ends, as
-    /// `DirectedEdgeHandle - id: 6 (FixedHandle { index: 0 } -> FixedHandle { index: 3 })`. Those of a given-up half edge may be stale.
+    /// `DirectedEdgeHandle - id: 6 (FixedHandle { index: 0 } -> FixedHandle { index: 3 })`.
+    ///
+    /// The vertices of a given-up half edge may be stale.
     fn fmt<W: fmt::Write>(&self, f: &mut fmt::Formatter<W>) -> fmt::Result {
         let [start, end] = stored_ends(self.dcel, self.fix());
         write!(
@@ -32,7 +38,9 @@ impl<'a, V, DE, UE, F, A: Allocator> Debug for DirectedEdgeHandle<'a, V, DE, UE,
 
 impl<'a, V, DE, UE, F, A: Allocator> Debug for UndirectedEdgeHandle<'a, V, DE, UE, F, A> {
     /// Writes its number and the vertices where its normalized half edge starts and ends, as
-    /// `UndirectedEdgeHandle - id: 3 (FixedHandle { index: 0 } <-> FixedHandle { index: 3 })`. Those of a given-up edge may be stale.
+    /// `UndirectedEdgeHandle - id: 3 (FixedHandle { index: 0 } <-> FixedHandle { index: 3 })`.
+    ///
+    /// The vertices of a given-up edge may be stale.
     fn fmt<W: fmt::Write>(&self, f: &mut fmt::Formatter<W>) -> fmt::Result {
         let [start, end] = stored_ends(self.dcel, self.as_directed().fix());
         write!(
@@ -44,7 +52,7 @@ impl<'a, V, DE, UE, F, A: Allocator> Debug for UndirectedEdgeHandle<'a, V, DE, U
 }
 
 impl<'a, V, DE, UE, F, A: Allocator> Debug for FaceHandle<'a, PossiblyOuterTag, V, DE, UE, F, A> {
-    /// Writes `OuterFace`, or what an inner face writes.
+    /// Writes `OuterFace` for the outer face, and the text of an inner face for any other.
     fn fmt<W: fmt::Write>(&self, f: &mut fmt::Formatter<W>) -> fmt::Result {
         match self.as_inner() {
             Some(face) => Debug::fmt(&face, f),
@@ -54,8 +62,10 @@ impl<'a, V, DE, UE, F, A: Allocator> Debug for FaceHandle<'a, PossiblyOuterTag, 
 }
 
 impl<'a, V, DE, UE, F, A: Allocator> Debug for FaceHandle<'a, InnerTag, V, DE, UE, F, A> {
-    /// Writes its number and those of its [`vertices`](FaceHandle::vertices), as `FaceHandle - id: 1 (3, 1, 0)`; without an anchor, as a
-    /// given-up face, `FaceHandle - id: 1 (none)`.
+    /// Writes its number and the numbers of its [`vertices`](FaceHandle::vertices), as
+    /// `FaceHandle - id: 1 (3, 1, 0)`.
+    ///
+    /// A face without an anchor, such as a given-up one, is written `FaceHandle - id: 1 (none)`.
     fn fmt<W: fmt::Write>(&self, f: &mut fmt::Formatter<W>) -> fmt::Result {
         let face = self
             .dcel
@@ -74,7 +84,8 @@ impl<'a, V, DE, UE, F, A: Allocator> Debug for FaceHandle<'a, InnerTag, V, DE, U
     }
 }
 
-// Where a half edge starts and ends, as it is stored: without a look at whether it is live.
+// Reads the ends as stored, without checking that the half edge is live: printing must work for
+// given-up edges too.
 #[tactic(auto, using(dcel_fixed::proofs::Halves::halves))]
 fn stored_ends<V, DE, UE, F, A: Allocator>(
     dcel: &Dcel<V, DE, UE, F, A>,

@@ -1,3 +1,5 @@
+//! From an undirected edge to its half edge and its ends, and whether it lies on the hull.
+
 ghost use Rattle.std.specs.Prelude.{◌≡◌, ◌*◌, ◌↔◌, true, [], ◌∷◌, All, IsTrue, map};
 ghost use Rattle.spade_dcel.specs.Handles.{mesh_behind, number_of};
 ghost use Rattle.dcel_maps.specs.Shapes.{IsLive, edge_is_live, vertex_is_live, end_of, origin_of};
@@ -10,7 +12,7 @@ use crate::laws::every_mesh;
 use std::alloc::Allocator;
 
 impl<'a, V, DE, UE, F, A: Allocator> UndirectedEdgeHandle<'a, V, DE, UE, F, A> {
-    /// Its normalized half edge, the one with the even number, which is live where the edge is.
+    /// Returns its normalized half edge, the one with the even number.
     #[inline]
     pub fn as_directed(&self) -> DirectedEdgeHandle<'a, V, DE, UE, F, A>
         ensures mesh { mesh_behind result ≡ mesh_behind self.now }
@@ -21,7 +23,9 @@ impl<'a, V, DE, UE, F, A: Allocator> UndirectedEdgeHandle<'a, V, DE, UE, F, A> {
         DynamicHandleImpl::new(self.dcel, self.fix().as_directed())
     }
 
-    /// The vertices where its normalized half edge starts and ends, which are live. It asks for a live edge.
+    /// Returns the vertices where its normalized half edge starts and ends.
+    ///
+    /// Asks for a live edge ([`is_live_edge`](crate::dcel::Dcel::is_live_edge)).
     #[inline]
     pub fn vertices(&self) -> [VertexHandle<'a, V, DE, UE, F, A>; 2]
         requires { edge_is_live (mesh_behind self.now).shape (number_of self.now) ≡ true }
@@ -34,7 +38,9 @@ impl<'a, V, DE, UE, F, A: Allocator> UndirectedEdgeHandle<'a, V, DE, UE, F, A> {
         self.as_directed().vertices()
     }
 
-    /// Whether one of its halves lies on the outer face. It asks for a live edge.
+    /// Returns whether one of its halves lies on the outer face.
+    ///
+    /// Asks for a live edge ([`is_live_edge`](crate::dcel::Dcel::is_live_edge)).
     #[inline]
     pub fn is_part_of_convex_hull(&self) -> bool
         requires { edge_is_live (mesh_behind self.now).shape (number_of self.now) ≡ true }

@@ -1,4 +1,7 @@
-//! Handles of the Voronoi diagram, each with the number of the element that it is dual to.
+//! Handles of the Voronoi diagram, the dual of the mesh.
+//!
+//! Each has the number of the element that it is dual to: directed edges are dual to half edges,
+//! undirected edges to edges, faces to vertices, and inner vertices to faces.
 
 mod duals;
 mod edges;
@@ -13,7 +16,7 @@ pub use faces::VoronoiFaceEdges;
 use std::alloc::Global;
 pub use vertices::VoronoiVertex;
 
-/// A directed edge of the Voronoi diagram, borrowed: the dual of a half edge.
+/// A borrowed directed edge of the Voronoi diagram, the dual of a half edge.
 pub type DirectedVoronoiEdge<'a, V, DE, UE, F, A = Global> = DynamicHandleImpl<
     'a,
     V,
@@ -25,7 +28,7 @@ pub type DirectedVoronoiEdge<'a, V, DE, UE, F, A = Global> = DynamicHandleImpl<
     A,
 >;
 
-/// An edge of the Voronoi diagram, borrowed: the dual of an undirected edge.
+/// A borrowed undirected edge of the Voronoi diagram, the dual of an undirected edge.
 pub type UndirectedVoronoiEdge<'a, V, DE, UE, F, A = Global> = DynamicHandleImpl<
     'a,
     V,
@@ -37,7 +40,7 @@ pub type UndirectedVoronoiEdge<'a, V, DE, UE, F, A = Global> = DynamicHandleImpl
     A,
 >;
 
-/// A face of the Voronoi diagram, borrowed: the dual of a vertex.
+/// A borrowed face of the Voronoi diagram, the dual of a vertex.
 pub type VoronoiFace<'a, V, DE, UE, F, A = Global> = DynamicHandleImpl<
     'a,
     V,

@@ -1,3 +1,5 @@
+//! Names for the iterators over each kind of element.
+
 use crate::iterators::dynamic_handle_iterator::DynamicHandleIterator;
 use crate::iterators::fixed_handle_iterator::FixedHandleIterator;
 use dcel_fixed::{
@@ -6,7 +8,7 @@ use dcel_fixed::{
 };
 use std::alloc::Global;
 
-/// All vertices of a mesh, borrowed: [`Dcel::vertices`](crate::dcel::Dcel::vertices).
+/// All vertices of a mesh, borrowed ([`Dcel::vertices`](crate::dcel::Dcel::vertices)).
 pub type VertexIterator<'a, V, DE, UE, F, A = Global> = DynamicHandleIterator<
     'a,
     V,
@@ -18,10 +20,11 @@ pub type VertexIterator<'a, V, DE, UE, F, A = Global> = DynamicHandleIterator<
     A,
 >;
 
-/// The numbers of all vertices: [`Dcel::fixed_vertices`](crate::dcel::Dcel::fixed_vertices).
+/// The numbers of all vertices ([`Dcel::fixed_vertices`](crate::dcel::Dcel::fixed_vertices)).
 pub type FixedVertexIterator = FixedHandleIterator<VertexTag, InnerTag>;
 
-/// All half edges of a mesh, borrowed: [`Dcel::directed_edges`](crate::dcel::Dcel::directed_edges).
+/// All half edges of a mesh, borrowed
+/// ([`Dcel::directed_edges`](crate::dcel::Dcel::directed_edges)).
 pub type DirectedEdgeIterator<'a, V, DE, UE, F, A = Global> = DynamicHandleIterator<
     'a,
     V,
@@ -33,10 +36,11 @@ pub type DirectedEdgeIterator<'a, V, DE, UE, F, A = Global> = DynamicHandleItera
     A,
 >;
 
-/// Half edges by number.
+/// The numbers of half edges.
 pub type FixedDirectedEdgeIterator = FixedHandleIterator<DirectedEdgeTag, InnerTag>;
 
-/// All undirected edges of a mesh, borrowed: [`Dcel::undirected_edges`](crate::dcel::Dcel::undirected_edges).
+/// All undirected edges of a mesh, borrowed
+/// ([`Dcel::undirected_edges`](crate::dcel::Dcel::undirected_edges)).
 pub type UndirectedEdgeIterator<'a, V, DE, UE, F, A = Global> = DynamicHandleIterator<
     'a,
     V,
@@ -48,10 +52,10 @@ pub type UndirectedEdgeIterator<'a, V, DE, UE, F, A = Global> = DynamicHandleIte
     A,
 >;
 
-/// Undirected edges by number.
+/// The numbers of undirected edges.
 pub type FixedUndirectedEdgeIterator = FixedHandleIterator<UndirectedEdgeTag, InnerTag>;
 
-/// All faces of the Voronoi diagram, borrowed: one for each vertex of the mesh, under its number.
+/// All faces of the Voronoi diagram, borrowed, one for each vertex of the mesh.
 pub type VoronoiFaceIterator<'a, V, DE, UE, F, A = Global> = DynamicHandleIterator<
     'a,
     V,
@@ -63,7 +67,7 @@ pub type VoronoiFaceIterator<'a, V, DE, UE, F, A = Global> = DynamicHandleIterat
     A,
 >;
 
-/// All half edges of the Voronoi diagram, borrowed: one for each half edge of the mesh, under its number.
+/// All directed edges of the Voronoi diagram, borrowed, one for each half edge of the mesh.
 pub type DirectedVoronoiEdgeIterator<'a, V, DE, UE, F, A = Global> = DynamicHandleIterator<
     'a,
     V,
@@ -75,7 +79,7 @@ pub type DirectedVoronoiEdgeIterator<'a, V, DE, UE, F, A = Global> = DynamicHand
     A,
 >;
 
-/// All undirected edges of the Voronoi diagram, borrowed: one for each undirected edge of the mesh, under its number.
+/// All undirected edges of the Voronoi diagram, borrowed, one for each undirected edge of the mesh.
 pub type UndirectedVoronoiEdgeIterator<'a, V, DE, UE, F, A = Global> = DynamicHandleIterator<
     'a,
     V,
@@ -87,7 +91,7 @@ pub type UndirectedVoronoiEdgeIterator<'a, V, DE, UE, F, A = Global> = DynamicHa
     A,
 >;
 
-/// All faces of a mesh, borrowed, the outer one first: [`Dcel::faces`](crate::dcel::Dcel::faces).
+/// All faces of a mesh, borrowed, the outer one first ([`Dcel::faces`](crate::dcel::Dcel::faces)).
 pub type FaceIterator<'a, V, DE, UE, F, A = Global> = DynamicHandleIterator<
     'a,
     V,
@@ -99,8 +103,9 @@ pub type FaceIterator<'a, V, DE, UE, F, A = Global> = DynamicHandleIterator<
     A,
 >;
 
-/// The inner faces of a mesh, borrowed: [`Dcel::inner_faces`](crate::dcel::Dcel::inner_faces), which leaves face 0 out. One that is
-/// made by `new` lists face 0 too.
+/// The inner faces of a mesh, borrowed ([`Dcel::inner_faces`](crate::dcel::Dcel::inner_faces)).
+///
+/// An iterator made by `new` lists face 0, the outer face, too.
 pub type InnerFaceIterator<'a, V, DE, UE, F, A = Global> = DynamicHandleIterator<
     'a,
     V,
@@ -112,8 +117,10 @@ pub type InnerFaceIterator<'a, V, DE, UE, F, A = Global> = DynamicHandleIterator
     A,
 >;
 
-/// The numbers of all faces: [`Dcel::fixed_faces`](crate::dcel::Dcel::fixed_faces).
+/// The numbers of all faces ([`Dcel::fixed_faces`](crate::dcel::Dcel::fixed_faces)).
 pub type FixedFaceIterator = FixedHandleIterator<FaceTag, PossiblyOuterTag>;
 
-/// Faces by number, marked as inner ones. One that is made by `new` lists face 0 too.
+/// The numbers of faces, marked as inner ones.
+///
+/// An iterator made by `new` lists face 0, the outer face, too.
 pub type FixedInnerFaceIterator = FixedHandleIterator<FaceTag, InnerTag>;

@@ -1,3 +1,5 @@
+//! The elements of one kind, borrowed, in the order of their numbers.
+
 ghost use Rattle.std.specs.Prelude.{◌≡◌, ◌≤◌, ◌^◌, length};
 ghost use Rattle.std.specs.Iterator.{YieldsFirstBy, YieldsLastBy, item_count};
 ghost use Rattle.spade_dcel.specs.Handles.{mesh_behind, number_of};
@@ -12,11 +14,12 @@ use dcel_fixed::InnerOuterMarker;
 use std::alloc::{Allocator, Global};
 use std::marker::Model;
 
-/// The elements of one kind, borrowed, in the order of their numbers, from both ends. Use the aliases, such as
-/// [`VertexIterator`](crate::iterators::VertexIterator).
+/// The elements of one kind, borrowed, in the order of their numbers.
 ///
-/// It takes no memory. Contracts see the elements to come, each as its mesh and its number: `next` takes their first and `next_back`
-/// their last, in any mixture.
+/// Use the aliases, such as [`VertexIterator`](crate::iterators::VertexIterator).
+///
+/// Does not allocate. Contracts see the elements that it has still to give, each as its mesh and
+/// its number. `next` and `next_back` may be mixed freely.
 #[derive(Drop)]
 pub struct DynamicHandleIterator<
     'a,
@@ -61,7 +64,7 @@ where
     InnerOuter: InnerOuterMarker,
     A: Allocator,
 {
-    /// Will list all elements of its kind, given-up ones too.
+    /// Creates an iterator over all elements of its kind, given-up ones included.
     #[inline]
     pub fn new(dcel: &'a Dcel<V, DE, UE, F, A>) -> Self
         ensures items { result ≡ in_mesh dcel.now (numbers_between 0 (number_of_elements Kind.kind dcel.now.shape)) }

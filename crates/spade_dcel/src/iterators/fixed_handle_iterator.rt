@@ -1,3 +1,5 @@
+//! Fixed handles of one kind, in the order of their numbers.
+
 ghost use Rattle.std.specs.Prelude.{◌≡◌, ◌≤◌, ◌^◌, length};
 ghost use Rattle.std.specs.Iterator.{YieldsFirst, YieldsLast, item_count};
 ghost use Rattle.dcel_maps.specs.Numbers.{numbers_between};
@@ -5,13 +7,15 @@ ghost use Rattle.dcel_maps.specs.Numbers.{numbers_between};
 use dcel_fixed::{FixedHandleImpl, InnerOuterMarker};
 use std::marker::{Model, PhantomData};
 
-/// Fixed handles of one kind by number, in order, from both ends. Use the aliases, such as
-/// [`FixedVertexIterator`](crate::iterators::FixedVertexIterator).
+/// Fixed handles of one kind, in the order of their numbers.
 ///
-/// It takes no memory. Contracts see the numbers to come: `next` takes their first and `next_back` their last, in any mixture.
+/// Use the aliases, such as [`FixedVertexIterator`](crate::iterators::FixedVertexIterator).
+///
+/// Does not allocate. Contracts see the numbers that it has still to give. `next` and `next_back`
+/// may be mixed freely.
 #[derive(Drop)]
 pub struct FixedHandleIterator<Kind, InnerOuter: InnerOuterMarker> {
-    // The first number to come, and the one past the last.
+    // The first number still to give, and the one past the last.
     start: usize,
     end: usize,
     kind: PhantomData<Kind>,
@@ -30,7 +34,9 @@ impl<Kind, InnerOuter: InnerOuterMarker> Model for FixedHandleIterator<Kind, Inn
 }
 
 impl<Kind, InnerOuter: InnerOuterMarker> FixedHandleIterator<Kind, InnerOuter> {
-    /// Will list the handles with the numbers from 0 to `to - 1`. It asks that `to` is at most 2^32: numbers of handles are below that.
+    /// Creates an iterator over the handles with the numbers from 0 to `to - 1`.
+    ///
+    /// Asks that `to` is at most 2^32, since the number of a handle is below that.
     #[inline]
     pub fn new(to: usize) -> Self
         requires { to ≤ 2 ^ 32 }

@@ -1,3 +1,5 @@
+//! The hull: the half edges of the outer face.
+
 ghost use Rattle.std.specs.Prelude.{◌≡◌, ℕ, ◌<◌, ◌≤◌, ◌^◌, ◌↔◌, IfSome, [], false, length, reverse};
 ghost use Rattle.std.specs.Iterator.{YieldsFirstBy, YieldsLastBy, item_count};
 ghost use Rattle.spade_dcel.specs.Handles.{mesh_behind, number_of};
@@ -15,12 +17,14 @@ use crate::laws::every_mesh;
 use std::alloc::{Allocator, Global};
 use std::marker::Model;
 
-/// The half edges of the outer face, each once: from its anchor on in the order of [`next`](DirectedEdgeHandle::next), and none where
-/// no edge stands.
+/// The half edges of the outer face, each once.
 ///
-/// It takes no memory. Contracts see its mesh, and the half edges to come: `next` takes their first and `next_back` their last, in any
-/// mixture. The hull from the back is the hull reversed: the half edge before the anchor, and on in the order of
-/// [`prev`](DirectedEdgeHandle::prev).
+/// They come in the order of [`next`](DirectedEdgeHandle::next), beginning with the anchor of the
+/// outer face. From the back they come in the order of [`prev`](DirectedEdgeHandle::prev),
+/// beginning with the half edge before the anchor. There are none in a mesh without live edges.
+///
+/// Does not allocate. Contracts see its mesh, and the half edges that it has still to give. `next`
+/// and `next_back` may be mixed freely.
 #[derive(Drop)]
 pub struct HullIterator<'a, V, DE, UE, F, A: Allocator = Global> {
     inner_iterator: CircularIterator<'a, V, DE, UE, F, HullNextBackFn, A>,
@@ -35,8 +39,10 @@ impl<'a, V, DE, UE, F, A: Allocator> Model for HullIterator<'a, V, DE, UE, F, A>
 }
 
 impl<'a, V, DE, UE, F, A: Allocator> HullIterator<'a, V, DE, UE, F, A> {
-    /// Will list the word of the outer face, written from its anchor. Where each inner face is a triangle, its length counts the live edges:
-    /// three times the vertices with an edge, minus three, minus the half edges of the hull.
+    /// Creates an iterator over the hull of the mesh.
+    ///
+    /// If every inner face is a triangle, the length of the hull tells the number of live edges:
+    /// three times the number of vertices with an edge, minus three, minus the length of the hull.
     #[inline]
     pub fn new(dcel: &'a Dcel<V, DE, UE, F, A>) -> Self
         ensures mesh { result.mesh ≡ dcel.now }

@@ -1,21 +1,32 @@
-//! Removals closed: what was given up is taken out, and the last elements of its kinds get its numbers.
+//! An open removal cleaned up: the edges and faces that it gave up are taken out.
 
-ghost use Rattle.std.specs.Prelude.{◌≡◌, ◌-◌, ◌==◌, cond, slice_index_or, IsTrue, Some, None};
-ghost use Rattle.dcel_maps.specs.Conditions.{CanSwapRemove};
+ghost use Rattle.std.specs.Prelude.{◌≡◌};
 ghost use Rattle.dcel_maps.specs.Removals.{IsListed, ascending};
-ghost use Rattle.dcel_maps.specs.Renumbering.{cleaned_up, vertex_taken_out};
+ghost use Rattle.dcel_maps.specs.Renumbering.{cleaned_up};
 ghost use Rattle.dcel_maps.specs.Shapes.{IsMesh};
 
 use crate::dcel::Dcel;
-use crate::operations::{IsolateVertexResult, RemovalResult};
-use dcel_edits::removal::take_out::{take_out_edges, take_out_faces, take_out_vertex};
-use dcel_fixed::FixedVertexHandle;
+use crate::operations::IsolateVertexResult;
+use dcel_edits::removal::take_out::{take_out_edges, take_out_faces};
 use std::alloc::Allocator;
 
-/// Takes out the edges and the faces that an open removal has given up, each kind from the largest number down: the last one gets the number
-/// of the one that goes, and half edges go with their edge. Words, origins, data and anchors follow. The vertex that was given up is still
-/// there, for [`swap_remove_vertex`] to take out; a removal that gave none up is closed. The lists of `opened` are in ascending order afterwards, and `new_edges` keep the numbers
-/// that they had. It takes no memory, and asks that `opened` lists what is given up, in any order ([`is_listed`](Dcel::is_listed)).
+/// Takes out the edges and the faces that an open removal has given up.
+///
+/// It takes them out from the largest number down, the edges and then the faces, and each time the
+/// last one of the kind gets the number of the one that goes. Half edges go with their edge; links,
+/// origins, data and anchors follow.
+///
+/// ```text
+/// edges 0 1 2 3 4 5, of which 2 and 4 are given up
+///
+/// 0 1 2 3 4 5   without 4   0 1 2 3 5   without 2   0 1 5 3      so edge 5 is edge 2 now
+/// ```
+///
+/// A vertex that was given up stays, for [`swap_remove_vertex`](super::swap_remove_vertex) to take
+/// out; a removal that gave none up is closed. The lists of `opened` ascend afterwards. Its
+/// `new_edges` are left as they are, so they name the new edges by their old numbers.
+///
+/// Asks that `opened` lists what is given up, in any order ([`is_listed`](Dcel::is_listed)).
 pub fn cleanup_isolated_vertex<V, DE: Drop, UE: Drop, F: Drop, A: Allocator, B: Allocator>(
     dcel: &mut Dcel<V, DE, UE, F, A>,
     opened: &mut IsolateVertexResult<B>,
@@ -33,29 +44,4 @@ pub fn cleanup_isolated_vertex<V, DE: Drop, UE: Drop, F: Drop, A: Allocator, B: 
     take_out_edges(&mut dcel.store, &opened.edges_to_remove);
     take_out_faces(&mut dcel.store, &opened.faces_to_remove);
     dcel.removal.clean_up();
-}
-
-/// Takes a vertex out, and answers its datum. The last vertex gets its number, with its datum, its anchor and its out edges; the answer
-/// tells the number that it had, if it was another one. No removal is open afterwards. It takes no memory, and asks that no removal is open
-/// and the vertex is unconnected, or that it is the one of a removal that is cleaned up ([`can_swap_remove`](Dcel::can_swap_remove)).
-pub fn swap_remove_vertex<V, DE, UE, F, A: Allocator>(
-    dcel: &mut Dcel<V, DE, UE, F, A>,
-    vertex: FixedVertexHandle,
-) -> RemovalResult<V>
-    requires { CanSwapRemove dcel.old.shape vertex }
-    ensures edit { dcel.new ≡ vertex_taken_out dcel.old vertex }
-    ensures datum { result.removed_vertex
-        ≡ slice_index_or dcel.old.vertex_data vertex result.removed_vertex }
-    ensures moved { result.swapped_in_vertex
-        ≡ cond (vertex == dcel.old.shape.vertices - 1) None (Some (dcel.old.shape.vertices - 1)) }
-    ensures mesh { IsMesh dcel.new }
-{
-    let last = FixedVertexHandle::new(dcel.num_vertices() - 1);
-    let removed_vertex = take_out_vertex(&mut dcel.store, vertex);
-    dcel.removal.close();
-    let swapped_in_vertex = if vertex == last { None } else { Some(last) };
-    RemovalResult {
-        removed_vertex,
-        swapped_in_vertex,
-    }
 }

@@ -1,4 +1,4 @@
-//! A mesh, its vertices and its first edge.
+//! A new mesh, its vertices and its first edge.
 
 ghost use Rattle.std.specs.Prelude.{◌≡◌, ◌≢◌, ◌^◌, ◌<◌, ◌≤◌, IfOk, IfErr, OnErr, OnOk, true, vec_len};
 ghost use Rattle.dcel_maps.specs.Conditions.{HasRoom};
@@ -16,7 +16,9 @@ use dcel_record::RemovalRecord;
 use dcel_store::Store;
 use std::alloc::{AllocError, Allocator};
 
-/// An empty mesh: no vertex, no edge, and the outer face with a default datum. It is refused where there is no memory.
+/// Creates an empty mesh: no vertex, no edge, and the outer face with a default datum.
+///
+/// If memory runs out it returns `AllocError`.
 pub fn new<V: Drop, DE: Drop, UE: Drop, F: Default + Drop, A: Allocator + Clone>(
     alloc: A,
 ) -> Result<Dcel<V, DE, UE, F, A>, AllocError>
@@ -28,9 +30,17 @@ pub fn new<V: Drop, DE: Drop, UE: Drop, F: Default + Drop, A: Allocator + Clone>
     Ok(Dcel { store, removal })
 }
 
-/// A mesh of these vertices and of edge 0 between two of them: half edge 0 leads from `first_vertex` to `second_vertex`, and 1 back, and
-/// both lie on the outer face. It asks for two different numbers below that of the vertices, which is at most 2^32. Without memory it
-/// hands the vertices back.
+/// Creates a mesh of these vertices and one edge between two of them.
+///
+/// ```text
+///               0
+/// first_vertex ---> second_vertex        the outer face lies on both sides
+///              <---
+///               1
+/// ```
+///
+/// Asks that the two are different numbers below the number of vertices, and that there are at most
+/// 2^32 vertices. If memory runs out it returns [`NoMemory`] with the vertices.
 pub fn new_with_fixed_vertices<
     V: Drop,
     DE: Default + Drop,
@@ -60,7 +70,6 @@ pub fn new_with_fixed_vertices<
     Ok(Dcel { store, removal })
 }
 
-// What a mesh begins with: an empty store with room for so many elements, and no open removal.
 pub(crate) fn with_room<V: Drop, DE: Drop, UE: Drop, F: Drop, A: Allocator + Clone>(
     alloc: A,
     vertices: usize,
@@ -81,8 +90,10 @@ pub(crate) fn with_room<V: Drop, DE: Drop, UE: Drop, F: Drop, A: Allocator + Clo
     Ok((store, removal))
 }
 
-/// Adds a vertex without an edge, and answers its number, which is the old count. It asks for room for one vertex
-/// ([`has_room`](Dcel::has_room)). Without memory it hands the datum back, and the mesh is as it was.
+/// Appends a vertex without an edge and returns its number, the old number of vertices.
+///
+/// Asks for room for one vertex ([`has_room`](Dcel::has_room)). If memory runs out it returns
+/// [`NoMemory`] with the datum, and the mesh is as it was.
 pub fn append_unconnected_vertex<V, DE, UE, F, A: Allocator>(
     dcel: &mut Dcel<V, DE, UE, F, A>,
     datum: V,
@@ -102,9 +113,20 @@ pub fn append_unconnected_vertex<V, DE, UE, F, A: Allocator>(
     Ok(vertex)
 }
 
-/// Adds edge 0 between two vertices of a mesh that has no edge: half edge 0 leads from `first_vertex` to `second_vertex`, and 1 back.
-/// It asks that no edge stands, for two different live vertices ([`is_live_vertex`](Dcel::is_live_vertex)) and for room for one edge.
-/// Without memory the mesh is as it was.
+/// Adds the first edge, between two vertices of a mesh that has none.
+///
+/// ```text
+/// before                        after
+///                                              0
+/// first_vertex  second_vertex   first_vertex ----> second_vertex
+///                                            <----
+///                                              1
+/// ```
+///
+/// Asks that there is no edge ([`num_undirected_edges`](Dcel::num_undirected_edges)), that the two
+/// vertices are different and live ([`is_live_vertex`](Dcel::is_live_vertex)), and for room for one
+/// edge ([`has_room`](Dcel::has_room)). If memory runs out it returns `AllocError`, and the mesh is
+/// as it was.
 pub fn setup_initial_two_vertices<V, DE: Default, UE: Default, F, A: Allocator>(
     dcel: &mut Dcel<V, DE, UE, F, A>,
     first_vertex: FixedVertexHandle,

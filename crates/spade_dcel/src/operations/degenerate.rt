@@ -11,12 +11,25 @@ use dcel_edits::removal::degenerate::take_out_degenerate;
 use dcel_fixed::FixedVertexHandle;
 use std::alloc::Allocator;
 
-/// Removes a vertex of a mesh that is one vertex, or a path: one face, with one or two out edges at each vertex. The end of a path goes
-/// with its edge. Of a vertex between two others, the edge of the out edge that is `ccw` of its anchor goes, and its other edge joins them.
-/// An anchor on the edge that goes is replaced: by None with two vertices, at an end by the half edge after the one that starts there, and
-/// else by the vertex's anchor. The last edge and the last vertex get the numbers of those that go. It answers the vertex's datum, and the
-/// number that the vertex had which has its number now, if another one has. It takes no memory, and asks that the vertex is one of such a
-/// mesh ([`can_remove_degenerate`](Dcel::can_remove_degenerate)).
+/// Removes a vertex of a mesh that is a single vertex or a path, and returns its datum.
+///
+/// An end goes with its edge. Between two others, the edge goes whose half edge is `ccw` of the
+/// vertex's anchor, and the other edge joins the neighbours.
+///
+/// ```text
+/// before                        after
+/// v ---- b ---- ..              b ---- ..
+///
+/// before                        after
+/// .. a ---- v ---- b ..         .. a ---- b ..
+/// ```
+///
+/// An anchor on the edge that goes becomes None if there were two vertices; for an end, the half
+/// edge after the one that starts there; and otherwise the anchor of the vertex. The last edge and
+/// the last vertex get the numbers of those that go; the result tells which vertex was moved.
+///
+/// Asks that the vertex is one of such a mesh and that no removal is open
+/// ([`can_remove_degenerate`](Dcel::can_remove_degenerate)).
 pub fn remove_when_degenerate<V, DE: Drop, UE: Drop, F, A: Allocator>(
     dcel: &mut Dcel<V, DE, UE, F, A>,
     vertex: FixedVertexHandle,
@@ -31,9 +44,5 @@ pub fn remove_when_degenerate<V, DE: Drop, UE: Drop, F, A: Allocator>(
 {
     let last = FixedVertexHandle::new(dcel.num_vertices() - 1);
     let removed_vertex = take_out_degenerate(&mut dcel.store, vertex);
-    let swapped_in_vertex = if vertex == last { None } else { Some(last) };
-    RemovalResult {
-        removed_vertex,
-        swapped_in_vertex,
-    }
+    RemovalResult::of(removed_vertex, vertex, last)
 }

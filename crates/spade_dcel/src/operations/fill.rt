@@ -1,5 +1,5 @@
-//! A vertex given up with its edges and the triangles round it, or a region of faces with the edges between them; and the hole that they
-//! leave filled.
+//! Holes filled: a vertex is given up with its edges and the triangles around it, or a region of
+//! faces with the edges between them.
 
 ghost use Rattle.std.specs.Prelude.{◌≡◌, ◌+◌, ◌-◌, ◌^◌, ◌<◌, ◌≤◌, IfOk, OnErr, OnOk, length};
 ghost use Rattle.dcel_maps.specs.Borders.{IsBorderLoop};
@@ -14,25 +14,42 @@ ghost use Rattle.dcel_maps.specs.Shapes.{IsMesh};
 use crate::dcel::Dcel;
 use crate::laws::every_mesh;
 use crate::operations::IsolateVertexResult;
-use dcel_edits::fill::{give_up, put_ears};
+use dcel_edits::fill::{drop_all_anchors, put_ears};
 use dcel_fixed::{
     FixedDirectedEdgeHandle, FixedFaceHandle, FixedUndirectedEdgeHandle, FixedVertexHandle,
     InnerTag,
 };
 use std::alloc::{AllocError, Allocator};
 
-// What is given up: edges, and faces.
+// The edges and the faces that are given up.
 type GivenUpLists<A> = (
     Vec<FixedUndirectedEdgeHandle, A>,
     Vec<FixedFaceHandle<InnerTag>, A>,
 );
 
-/// Gives a vertex up that lies inside triangles alone, with its edges and these triangles, and cuts the hole into new triangles that
-/// meet where the last half edge of `border_loop` starts: `n - 2` of them by `n - 3` new edges, where the loop has `n` half edges. It
-/// answers the new edges in ascending order, and the edges and the faces that are given up in the order of the out edges of the vertex.
-/// What is given up is still there, for [`cleanup_isolated_vertex`](super::cleanup_isolated_vertex) to take out. It asks that no
-/// removal is open ([`removal_state`](Dcel::removal_state)), that the list is the border loop of the vertex
-/// ([`is_border_loop`](Dcel::is_border_loop)), and for room for the new edges and faces. Without memory the mesh is as it was.
+/// Gives up a vertex that lies inside triangles alone, and fills the hole with new triangles.
+///
+/// Its edges and the triangles around it are given up too.
+/// A loop of `k` half edges is filled with `k - 2` triangles by `k - 3` new edges, which all start
+/// where the last half edge of `border_loop` starts, at `a` in the picture.
+///
+/// ```text
+/// before      c                 after       c
+///           / | \                         / | \
+///          d -v- b                       d  |  b
+///           \ | /                         \ | /
+///             a                             a
+/// ```
+///
+/// The result has the new edges in ascending order, and the edges and faces that are given up in
+/// the order of the out edges of the vertex. All these are still there, for
+/// [`cleanup_isolated_vertex`](super::cleanup_isolated_vertex) to take out, and then the vertex for
+/// [`swap_remove_vertex`](super::swap_remove_vertex).
+///
+/// Asks that no removal is open ([`removal_state`](Dcel::removal_state)), that the list is the
+/// border loop of the vertex ([`is_border_loop`](Dcel::is_border_loop)), and for room for the new
+/// edges and faces ([`has_room`](Dcel::has_room)). If memory runs out it returns `AllocError`, what
+/// was handed in is dropped, and the mesh is as it was.
 pub fn isolate_vertex_and_fill_hole<
     V,
     DE: Default,
@@ -60,18 +77,31 @@ pub fn isolate_vertex_and_fill_hole<
 {
     every_mesh(dcel);
     let (edges, faces) = lists_round(dcel, vertex, border_loop.len())?;
-    open(dcel, &border_loop, &Some(vertex), edges, faces)
+    isolate_and_answer(dcel, &border_loop, &Some(vertex), edges, faces)
 }
 
-/// Gives these edges and faces up, which lie inside a ring, with the vertex inside it if there is one, and cuts the hole into new
-/// triangles as [`isolate_vertex_and_fill_hole`] does.
+/// Gives up these edges and faces, which lie inside a ring, and fills the hole with new triangles.
 ///
-/// There is a vertex inside where the edges are as many as the faces. Without one, which is a region of faces with the edges between them,
-/// no vertex is given up, and [`cleanup_isolated_vertex`](super::cleanup_isolated_vertex) alone closes the removal.
+/// If there are as many edges as faces, they lie around a vertex, which is given up too, as
+/// [`isolate_vertex_and_fill_hole`] does. Otherwise they are a region: faces with the edges between
+/// them, one fewer. Then no vertex is given up, and
+/// [`cleanup_isolated_vertex`](super::cleanup_isolated_vertex) alone closes the removal. The new
+/// edges start where the last half edge of `border_loop` starts, at `a` in the picture.
 ///
-/// It answers the lists as they were given, and the new edges in ascending order. It asks that no removal is open
-/// ([`removal_state`](Dcel::removal_state)), that the lists are a ring with what lies inside it ([`is_ring`](Dcel::is_ring)), and for room
-/// for the new edges and faces. Without memory the mesh is as it was.
+/// ```text
+/// before      c                 after       c
+///           /   \                         / | \
+///          d --- b                       d  |  b
+///           \   /                         \ | /
+///             a                             a
+/// ```
+///
+/// The result has the lists as they were given, and the new edges in ascending order.
+///
+/// Asks that no removal is open ([`removal_state`](Dcel::removal_state)), that the lists are a ring
+/// with what lies inside it ([`is_ring`](Dcel::is_ring)), and for room for the new edges and faces
+/// ([`has_room`](Dcel::has_room)). If memory runs out it returns `AllocError`, what was handed in
+/// is dropped, and the mesh is as it was.
 pub fn remesh_edge_ring<
     V,
     DE: Default,
@@ -100,7 +130,7 @@ pub fn remesh_edge_ring<
 {
     every_mesh(dcel);
     let vertex = inside(dcel, &border_loop, &edges_to_remove, &faces_to_remove);
-    open(
+    isolate_and_answer(
         dcel,
         &border_loop,
         &vertex,
@@ -109,7 +139,7 @@ pub fn remesh_edge_ring<
     )
 }
 
-// The vertex inside a ring: a vertex has as many edges as faces round it, and a region, which has none, has a face more.
+// Around a vertex there are as many edges as faces; a region has one face more.
 fn inside<V, DE, UE, F, A: Allocator>(
     dcel: &Dcel<V, DE, UE, F, A>,
     border: &[FixedDirectedEdgeHandle],
@@ -129,8 +159,8 @@ fn inside<V, DE, UE, F, A: Allocator>(
     Some(dcel.origin(dcel.prev_edge(first)))
 }
 
-// Gives these edges and faces up, and the vertex inside a border if there is one, and fills the hole.
-fn open<V, DE: Default, UE: Default, F: Default, A: Allocator + Clone>(
+// The result is made first: nothing may be refused once the mesh has changed.
+fn isolate_and_answer<V, DE: Default, UE: Default, F: Default, A: Allocator + Clone>(
     dcel: &mut Dcel<V, DE, UE, F, A>,
     border: &[FixedDirectedEdgeHandle],
     vertex: &Option<FixedVertexHandle>,
@@ -154,7 +184,7 @@ fn open<V, DE: Default, UE: Default, F: Default, A: Allocator + Clone>(
     every_mesh(dcel);
     let begin = dcel.num_undirected_edges();
     let new_edges = edges_between(begin, begin + (border.len() - 3), dcel.allocator().clone()?)?;
-    fill(dcel, border, vertex, &edges_to_remove, &faces_to_remove)?;
+    give_up_and_fill(dcel, border, vertex, &edges_to_remove, &faces_to_remove)?;
     Ok(IsolateVertexResult {
         new_edges,
         smallest_new_edge: FixedUndirectedEdgeHandle::new(begin),
@@ -163,8 +193,8 @@ fn open<V, DE: Default, UE: Default, F: Default, A: Allocator + Clone>(
     })
 }
 
-// Cuts the ring of a border, read from its end, into ears, and gives these edges and faces up, and the vertex inside if there is one.
-fn fill<V, DE: Default, UE: Default, F: Default, A: Allocator>(
+// The ring is the border read from its end.
+fn give_up_and_fill<V, DE: Default, UE: Default, F: Default, A: Allocator>(
     dcel: &mut Dcel<V, DE, UE, F, A>,
     border: &[FixedDirectedEdgeHandle],
     vertex: &Option<FixedVertexHandle>,
@@ -192,11 +222,10 @@ fn fill<V, DE: Default, UE: Default, F: Default, A: Allocator>(
     dcel.store.reserve(0, left.len(), left.len() + 1)?;
     dcel.removal.open(edges, faces, vertex)?;
     put_ears(&mut dcel.store, first, second, third, left);
-    give_up(&mut dcel.store, vertex, faces);
+    drop_all_anchors(&mut dcel.store, vertex, faces);
     Ok(())
 }
 
-// The edges from one number on that are below another one.
 fn edges_between<A: Allocator>(
     begin: usize,
     end: usize,
@@ -213,7 +242,8 @@ fn edges_between<A: Allocator>(
     Ok(edges)
 }
 
-// The edges and the faces of the out edges of a vertex, of which there are so many.
+// Walks the out edges once more, though the border loop was walked by the test: the lists come in
+// their order, which begins at the anchor, and the loop may begin elsewhere.
 #[inline]
 fn lists_round<V, DE, UE, F, A: Allocator + Clone>(
     dcel: &Dcel<V, DE, UE, F, A>,

@@ -1,4 +1,4 @@
-//! Edges turned between two triangles.
+//! An edge flipped between two triangles.
 
 ghost use Rattle.std.specs.Prelude.{◌≡◌};
 ghost use Rattle.dcel_maps.specs.Conditions.{CanFlip};
@@ -10,10 +10,24 @@ use dcel_edits::flip::put_flip;
 use dcel_fixed::FixedUndirectedEdgeHandle;
 use std::alloc::Allocator;
 
-/// Turns an edge clockwise between the triangles on its two sides, one of which may be the outer face: it joins their other two corners
-/// afterwards, and the two triangles lie on its two sides then, each with one corner of the old edge. It keeps its number and its data, and
-/// so do all other elements. It asks that the faces on both sides have words of three half edges and that the corners opposite the edge are
-/// two vertices ([`can_flip`](Dcel::can_flip)), and takes no memory.
+/// Flips an edge clockwise between the triangles on its two sides.
+///
+/// It joins their other two corners afterwards. It keeps its number and its data, and so does every
+/// other element. Either triangle may be the outer face. In the picture `e` is the even half, which
+/// leads from `a` to `b` before and from `c` to `d` afterwards.
+///
+/// ```text
+/// before     c                  after      c
+///           / \                           /|\
+///          / f \                         / | \
+///         a -e-> b                      a g|f b          f    (e, d to b, b to c)
+///          \ g /                         \ | /           g    (t, c to a, a to d)
+///           \ /                           \v/
+///            d                             d
+/// ```
+///
+/// Asks that the edge can be flipped: both faces are triangles, and the corners opposite the edge
+/// are two vertices ([`can_flip`](Dcel::can_flip)).
 pub fn flip_cw<V, DE, UE, F, A: Allocator>(
     dcel: &mut Dcel<V, DE, UE, F, A>,
     edge: FixedUndirectedEdgeHandle,

@@ -1,4 +1,4 @@
-//! Lines.
+//! A line extended at its end.
 
 ghost use Rattle.std.specs.Prelude.{◌≡◌, IfOk, OnErr, OnOk};
 ghost use Rattle.dcel_maps.specs.Conditions.{HasRoom, IsUnconnected, IsLineEnd};
@@ -11,9 +11,19 @@ use dcel_edits::line::put_spur;
 use dcel_fixed::FixedVertexHandle;
 use std::alloc::{AllocError, Allocator};
 
-/// Makes a line longer at an end: a new edge leads from `end_vertex` to `new_vertex`, which it answers. It asks that `end_vertex` has
-/// one out edge ([`is_line_end`](Dcel::is_line_end)), that `new_vertex` has none ([`is_unconnected`](Dcel::is_unconnected)), and for room
-/// for one edge. Without memory the mesh is as it was.
+/// Extends a line at one of its ends by an edge to `new_vertex`, and returns `new_vertex`.
+///
+/// ```text
+/// before        out             after        n            out
+///    end_vertex ---> ..         new_vertex ---> end_vertex ---> ..
+///               <---                       <---            <---
+///                in                        n + 1            in
+/// ```
+///
+/// Asks that exactly one half edge leaves `end_vertex` ([`is_line_end`](Dcel::is_line_end)), that
+/// no edge meets `new_vertex` ([`is_unconnected`](Dcel::is_unconnected)), and for room for one edge
+/// ([`has_room`](Dcel::has_room)). If memory runs out it returns `AllocError`, and the mesh is as
+/// it was.
 pub fn extend_line<V, DE: Default, UE: Default, F, A: Allocator>(
     dcel: &mut Dcel<V, DE, UE, F, A>,
     end_vertex: FixedVertexHandle,

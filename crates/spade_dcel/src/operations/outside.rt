@@ -1,4 +1,4 @@
-//! Faces put beside an edge.
+//! Triangles put outside an edge, or into a corner of the outer face.
 
 ghost use Rattle.std.specs.Prelude.{◌≡◌, ◌+◌, ◌*◌, IfOk, OnErr, OnOk};
 ghost use Rattle.dcel_maps.specs.Conditions.{CanCloseOutside, HasRoom, IsUnconnected};
@@ -11,10 +11,23 @@ use dcel_edits::outside::{put_beside, put_closing};
 use dcel_fixed::{FixedDirectedEdgeHandle, FixedVertexHandle};
 use std::alloc::{AllocError, Allocator};
 
-/// Puts a triangle beside a half edge, on its own face: new edges lead from the end of `edge` to `new_vertex`, which it answers, and
-/// from there to the start of `edge`. `edge` is then on the new face, and the far halves of the two take its place on the old one. It
-/// asks that `edge` is live ([`is_live_edge`](Dcel::is_live_edge)), that no edge meets `new_vertex`
-/// ([`is_unconnected`](Dcel::is_unconnected)), and for room for two edges and one face. Without memory the mesh is as it was.
+/// Puts a triangle on `edge`, with `new_vertex` as its third corner, and returns `new_vertex`.
+///
+/// The triangle lies on the side of `edge`, whose old face goes around it now.
+///
+/// ```text
+/// before                        after  new_vertex
+///                                         / \
+///            f                    n + 2  /   \  n        L    (edge, n, n + 2)
+///        a -----> b                     /  L  \          f    (.., n + 3, n + 1, ..)
+///          edge                        a -----> b
+///                                        edge
+/// ```
+///
+/// Asks that `edge` is live ([`is_live_edge`](Dcel::is_live_edge)), that no edge meets `new_vertex`
+/// ([`is_unconnected`](Dcel::is_unconnected)), and for room for two edges and one face
+/// ([`has_room`](Dcel::has_room)). If memory runs out it returns `AllocError`, and the mesh is as
+/// it was.
 pub fn create_new_face_adjacent_to_edge<V, DE: Default, UE: Default, F: Default, A: Allocator>(
     dcel: &mut Dcel<V, DE, UE, F, A>,
     edge: FixedDirectedEdgeHandle,
@@ -33,10 +46,24 @@ pub fn create_new_face_adjacent_to_edge<V, DE: Default, UE: Default, F: Default,
     Ok(new_vertex)
 }
 
-/// Closes a triangle between a half edge of the outer face and the next one: a new edge leads from the end of the next one to the
-/// start of `edge`. It answers the half of it that takes the place of the two on the outer face. It asks that `edge` is live and on
-/// the outer face, that the next one doesn't lead back to where `edge` starts ([`can_close_outside`](Dcel::can_close_outside)), and for
-/// room for one edge and one face. Without memory the mesh is as it was.
+/// Closes a triangle between a half edge of the outer face and the next one.
+///
+/// It returns the outer half of the new edge, which leads from the start of `edge` to the end of
+/// the next one.
+///
+/// ```text
+/// before     outer face         after     outer face
+///                                           n + 1
+///         a           c                 a -----------> c
+///          \         /                   \  L, with n /
+///      edge \       / next           edge  \         /  next
+///            \> b > /                       \> b > /
+/// ```
+///
+/// Asks that `edge` is live and on the outer face and that the next one does not lead back to where
+/// `edge` starts ([`can_close_outside`](Dcel::can_close_outside)), and for room for one edge and
+/// one face ([`has_room`](Dcel::has_room)). If memory runs out it returns `AllocError`, and the
+/// mesh is as it was.
 pub fn create_single_face_between_edge_and_next<
     V,
     DE: Default,

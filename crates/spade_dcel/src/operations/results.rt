@@ -1,29 +1,32 @@
-//! What removals answer.
+//! What removals return.
 
-ghost use Rattle.std.specs.Prelude.{◌↔◌, ◌≤◌, IsTrue};
+ghost use Rattle.std.specs.Prelude.{◌≡◌, ◌↔◌, ◌≤◌, ◌==◌, cond, IsTrue, Some, None};
 
 use dcel_fixed::{FixedFaceHandle, FixedUndirectedEdgeHandle, FixedVertexHandle, InnerTag};
 use std::alloc::{Allocator, Global};
 
-/// What a removal has given up, and the edges that it has put in.
+/// What a removal gave up, and the edges that it added.
 #[derive(PartialEq, Eq, PartialOrd, Ord, Hash, Drop)]
 pub struct IsolateVertexResult<A: Allocator = Global> {
-    /// The edges that it has put in.
+    /// The edges that it added, by the numbers that they have before cleanup.
     pub new_edges: Vec<FixedUndirectedEdgeHandle, A>,
 
-    /// The least number that an edge which it has put in can have.
+    /// The smallest number that an added edge can have, 0 if a strip was cut off.
     pub smallest_new_edge: FixedUndirectedEdgeHandle,
 
-    /// The edges that it has given up.
+    /// The edges that it gave up.
     pub edges_to_remove: Vec<FixedUndirectedEdgeHandle, A>,
 
-    /// The faces that it has given up.
+    /// The faces that it gave up.
     pub faces_to_remove: Vec<FixedFaceHandle<InnerTag>, A>,
 }
 
 impl<A: Allocator> IsolateVertexResult<A> {
-    /// Whether the edge has at least the number of the first new edge. Before cleanup it is true of just the new edges, and where there are
-    /// none, and that number is 0, of every edge.
+    /// Returns whether the edge has at least the number of the first new edge.
+    ///
+    /// Before cleanup this holds for exactly the new edges. After a strip was cut off, which adds
+    /// none, it holds for every edge. After cleanup it says nothing, since edges may have other
+    /// numbers.
     pub fn is_new_edge(&self, edge: FixedUndirectedEdgeHandle) -> bool
         ensures { IsTrue result ↔ (self.now.smallest_new_edge ≤ edge) }
     {
@@ -31,12 +34,26 @@ impl<A: Allocator> IsolateVertexResult<A> {
     }
 }
 
-/// The vertex that was taken out.
+/// The result of taking out a vertex.
 #[derive(Drop)]
 pub struct RemovalResult<V> {
-    /// Its datum.
+    /// The datum of the vertex.
     pub removed_vertex: V,
 
-    /// The number that the vertex had which has its number now, if another one has.
+    /// The old number of the vertex that was moved into its place, if one was.
     pub swapped_in_vertex: Option<FixedVertexHandle>,
+}
+
+impl<V> RemovalResult<V> {
+    // `last` is the last vertex before the removal, which has the number of `vertex` now.
+    pub(crate) fn of(removed_vertex: V, vertex: FixedVertexHandle, last: FixedVertexHandle) -> Self
+        ensures datum { result.removed_vertex ≡ removed_vertex }
+        ensures moved { result.swapped_in_vertex ≡ cond (vertex == last) None (Some last) }
+    {
+        let swapped_in_vertex = if vertex == last { None } else { Some(last) };
+        RemovalResult {
+            removed_vertex,
+            swapped_in_vertex,
+        }
+    }
 }

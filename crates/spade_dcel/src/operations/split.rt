@@ -1,4 +1,4 @@
-//! Vertices in the middle of edges.
+//! A bridge split: a vertex put into the middle of an edge with one face on both sides.
 
 ghost use Rattle.std.specs.Prelude.{◌≡◌, ◌*◌, [], ◌∷◌, IfOk, OnErr, OnOk};
 ghost use Rattle.dcel_maps.specs.Conditions.{HasRoom, IsBridge, IsUnconnected};
@@ -11,10 +11,22 @@ use dcel_edits::split::put_middle;
 use dcel_fixed::{FixedDirectedEdgeHandle, FixedVertexHandle};
 use std::alloc::{AllocError, Allocator};
 
-/// Puts `new_vertex` into the middle of an edge that has one face on both sides. It answers the two halves of the way along `edge`:
-/// `edge` itself, which ends at `new_vertex` now, and a new half edge, which leads on to where `edge` ended. It asks that both halves
-/// of the edge lie on one face ([`is_bridge`](Dcel::is_bridge)), that `new_vertex` has no edge
-/// ([`is_unconnected`](Dcel::is_unconnected)), and for room for one edge. Without memory the mesh is as it was.
+/// Splits an edge that has one face on both sides, and returns the two half edges along `edge`.
+///
+/// The first is `edge`, which ends at `new_vertex` now; the second is new and leads on to where
+/// `edge` ended.
+///
+/// ```text
+/// before    edge                after    edge           n
+///         a ----> b                   a ----> new_vertex ----> b
+///           <----                       <----            <----
+///            t                           t               n + 1
+/// ```
+///
+/// Asks that both halves of the edge lie on one face ([`is_bridge`](Dcel::is_bridge)), that no edge
+/// meets `new_vertex` ([`is_unconnected`](Dcel::is_unconnected)), and for room for one edge
+/// ([`has_room`](Dcel::has_room)). If memory runs out it returns `AllocError`, and the mesh is as
+/// it was.
 pub fn split_edge_when_all_vertices_on_line<V, DE: Default, UE: Default, F, A: Allocator>(
     dcel: &mut Dcel<V, DE, UE, F, A>,
     edge: FixedDirectedEdgeHandle,

@@ -1,4 +1,4 @@
-//! Vertices in the middle of edges that have a triangle beside them, which is cut in two.
+//! Edges split that have a triangle on one side or on both, which is cut in two.
 
 ghost use Rattle.std.specs.Prelude.{◌≡◌, ◌+◌, ◌*◌, [], ◌∷◌, IfOk, OnErr, OnOk};
 ghost use Rattle.dcel_fixed.specs.HalfEdges.{rev};
@@ -12,11 +12,27 @@ use dcel_edits::split_triangles::{put_middle_of_both, put_middle_of_one};
 use dcel_fixed::{FixedDirectedEdgeHandle, FixedVertexHandle};
 use std::alloc::{AllocError, Allocator};
 
-/// Puts `new_vertex` into the middle of an edge between two triangles, one of which may be the outer face, and joins it to the corner
-/// of each that lies opposite: both are cut in two. It answers the two halves of the way along `edge`: `edge` itself, which ends at
-/// `new_vertex` now, and a new half edge, which leads on to where `edge` ended. It asks that the faces of both halves have words of
-/// three half edges ([`is_triangle`](Dcel::is_triangle)), that `new_vertex` has no edge ([`is_unconnected`](Dcel::is_unconnected)), and
-/// for room for three edges and two faces. Without memory the mesh is as it was.
+/// Splits an edge between two triangles, and returns the two half edges along `edge`.
+///
+/// The first is `edge`, which ends at `new_vertex` now; the second is new and leads on to where
+/// `edge` ended. Two more edges join `new_vertex`, `v` in the picture, to the opposite corners and
+/// cut both triangles in two. Either triangle may be the outer face.
+///
+/// ```text
+/// before     c                  after      c
+///           / \                           /|\            f        (edge, n + 5, c to a)
+///          / f \                         / | \           L + 1    (b to c, n + 4, n + 3)
+///         a ---> b                      a - v - b
+///          \ g /  edge                   \ | /           g        (t, a to d, n)
+///           \ /                           \|/            L        (d to b, n + 2, n + 1)
+///            d                             d
+/// ```
+///
+/// Asks that the half edge is live ([`is_live_edge`](Dcel::is_live_edge)), that the faces of both
+/// halves are triangles ([`is_triangle`](Dcel::is_triangle)), that no edge meets `new_vertex`
+/// ([`is_unconnected`](Dcel::is_unconnected)), and for room for three edges and two faces
+/// ([`has_room`](Dcel::has_room)). If memory runs out it returns `AllocError`, and the mesh is as
+/// it was.
 pub fn split_edge<V, DE: Default, UE: Default, F: Default, A: Allocator>(
     dcel: &mut Dcel<V, DE, UE, F, A>,
     edge: FixedDirectedEdgeHandle,
@@ -37,11 +53,26 @@ pub fn split_edge<V, DE: Default, UE: Default, F: Default, A: Allocator>(
     Ok([edge, second_half])
 }
 
-/// Puts `new_vertex` into the middle of an edge that has a triangle on the side of `edge`, which may be the outer face, and joins it to
-/// the corner that lies opposite: that triangle is cut in two, and the face on the other side has one half edge more. It answers the
-/// two halves of the way along `edge`: `edge` itself, which ends at `new_vertex` now, and a new half edge, which leads on to where
-/// `edge` ended. It asks that the face of `edge` has a word of three half edges ([`is_triangle`](Dcel::is_triangle)), that `new_vertex`
-/// has no edge ([`is_unconnected`](Dcel::is_unconnected)), and for room for two edges and a face. Without memory the mesh is as it was.
+/// Splits an edge that has a triangle on the side of `edge`.
+///
+/// It returns the two half edges along the old one: the first is `edge`, which ends at `new_vertex`
+/// now; the second is new and leads on to where `edge` ended. One more edge joins `new_vertex`, `v`
+/// in the picture, to the opposite corner and cuts the triangle in two; the triangle may be the
+/// outer face. The face on the other side gets one half edge more.
+///
+/// ```text
+/// before     c                  after      c
+///           / \                           /|\            f    (edge, n + 1, c to a)
+///          / f \                         / | \           L    (b to c, n, n + 2)
+///         a ---> b                      a > v > b
+///           edge                      edge   n + 2       below: n + 3, t in place of t
+/// ```
+///
+/// Asks that the half edge is live ([`is_live_edge`](Dcel::is_live_edge)), that its face is a
+/// triangle ([`is_triangle`](Dcel::is_triangle)), that no edge meets `new_vertex`
+/// ([`is_unconnected`](Dcel::is_unconnected)), and for room for two edges and one face
+/// ([`has_room`](Dcel::has_room)). If memory runs out it returns `AllocError`, and the mesh is as
+/// it was.
 pub fn split_half_edge<V, DE: Default, UE: Default, F: Default, A: Allocator>(
     dcel: &mut Dcel<V, DE, UE, F, A>,
     edge: FixedDirectedEdgeHandle,

@@ -1,4 +1,4 @@
-//! A vertex of the outer face cut off, with its edges and the triangles round it.
+//! A vertex of the outer face cut off, with its edges and the triangles around it.
 
 ghost use Rattle.std.specs.Prelude.{◌≡◌, ◌<◌, [], ◌∷◌, ◌++◌, ℕ, IfOk, OnErr, OnOk, map};
 ghost use Rattle.dcel_maps.specs.edits.Strip.{strip_cut, strip_edges, strip_faces};
@@ -14,12 +14,29 @@ use dcel_edits::strip::put_strip_cut;
 use dcel_fixed::{FixedDirectedEdgeHandle, FixedFaceHandle, FixedUndirectedEdgeHandle, InnerTag};
 use std::alloc::{AllocError, Allocator};
 
-/// Cuts a vertex of the outer face off, with its edges and the triangles round it, which are given up: the outer face goes along the strip
-/// instead, each half edge of which becomes the anchor of its origin, one after another, and the last one that of the outer face. It
-/// answers the edges before the half edges of the list and the faces of all but the last, in the order of the list, and no new edge. What
-/// is given up is still there, for [`cleanup_isolated_vertex`](super::cleanup_isolated_vertex) to take out. It asks that no removal is open
-/// ([`removal_state`](Dcel::removal_state)) and the list is a strip ([`is_edge_strip`](Dcel::is_edge_strip)). Without memory the mesh is
-/// as it was.
+/// Cuts off a vertex of the outer face, with its edges and the triangles around it.
+///
+/// The vertex, `v` in the picture, and all that goes with it are given up, and the outer face goes
+/// along the strip instead. The list names `p to r`, `r to s`, `s to q` and then the half edge that
+/// leads on from `q`.
+///
+/// ```text
+/// before   outer face           after   outer face
+/// .. p ----- v ----- q ..       .. p             q ..
+///     \     / \     /               \           /
+///      \   /   \   /                 \         /
+///       \ /     \ /                   \       /
+///        r ----- s                     r --- s
+/// ```
+///
+/// Each half edge of the list becomes the anchor of its origin, one after another, and the last one
+/// becomes the anchor of the outer face. The result has the edges before the half edges of the list
+/// and the faces of all but the last, in the order of the list, and no new edge. What is given up
+/// is still there, for [`cleanup_isolated_vertex`](super::cleanup_isolated_vertex) to take out.
+///
+/// Asks that no removal is open ([`removal_state`](Dcel::removal_state)) and that the list is a
+/// strip ([`is_edge_strip`](Dcel::is_edge_strip)). If memory runs out it returns `AllocError`, the
+/// list is dropped, and the mesh is as it was.
 pub fn disconnect_edge_strip<V, DE, UE, F, A: Allocator + Clone, B: Allocator>(
     dcel: &mut Dcel<V, DE, UE, F, A>,
     list: Vec<FixedDirectedEdgeHandle, B>,
@@ -50,7 +67,7 @@ pub fn disconnect_edge_strip<V, DE, UE, F, A: Allocator + Clone, B: Allocator>(
     })
 }
 
-// Cuts the strip of these half edges and `last`, and gives these edges and faces up, which are those beside it.
+// Records first, since that alone can be refused, and then writes.
 fn cut<V, DE, UE, F, A: Allocator>(
     dcel: &mut Dcel<V, DE, UE, F, A>,
     items: &[FixedDirectedEdgeHandle],
@@ -73,7 +90,6 @@ fn cut<V, DE, UE, F, A: Allocator>(
     Ok(())
 }
 
-// The edges of what comes before these half edges.
 fn edges_before<V, DE, UE, F, A: Allocator + Clone>(
     dcel: &Dcel<V, DE, UE, F, A>,
     list: &[FixedDirectedEdgeHandle],
@@ -90,7 +106,6 @@ fn edges_before<V, DE, UE, F, A: Allocator + Clone>(
     Ok(edges)
 }
 
-// The faces of these half edges.
 fn faces_beside<V, DE, UE, F, A: Allocator + Clone>(
     dcel: &Dcel<V, DE, UE, F, A>,
     list: &[FixedDirectedEdgeHandle],

@@ -1,4 +1,4 @@
-//! Triangles.
+//! A triangle made, and a vertex inserted into one.
 
 ghost use Rattle.std.specs.Prelude.{◌≡◌, ◌<◌, IfOk, IfErr, OnErr, OnOk};
 ghost use Rattle.dcel_maps.specs.Conditions.{HasRoom, IsUnconnected, IsTriangle};
@@ -13,8 +13,18 @@ use dcel_edits::triangle::{put_insertion, put_triangle};
 use dcel_fixed::{FixedFaceHandle, FixedVertexHandle, InnerTag};
 use std::alloc::{AllocError, Allocator};
 
-/// A mesh of one triangle, with this datum for each vertex: half edges 0, 2, 4 lead from vertex 0 to 1, from 1 to 2 and from 2 to 0
-/// round the outer face, and 1, 3, 5 back round face 1. Without memory it hands the data back.
+/// Creates a mesh of one triangle, with these data for its vertices 0, 1 and 2.
+///
+/// ```text
+///          2
+///         / \
+///      2 /   \ 4         outer face    (0, 2, 4)
+///       /  F1 \          face 1        (1, 5, 3)
+///      1 <---- 0
+///          0
+/// ```
+///
+/// If memory runs out it returns [`NoMemory`] with the data.
 pub fn new_triangle<
     V: Drop,
     DE: Default + Drop,
@@ -33,10 +43,25 @@ pub fn new_triangle<
     Ok(Dcel { store, removal })
 }
 
-/// Puts a vertex into a triangle: three new edges lead from its corners to `v`, which it answers, and cut it into three. The face `f0`
-/// keeps its anchor. It asks that `f0` is an inner face with a word of three half edges ([`is_triangle`](Dcel::is_triangle)), that no
-/// edge meets `v` ([`is_unconnected`](Dcel::is_unconnected)), and for room for three edges and two faces. Without memory the mesh is
-/// as it was.
+/// Inserts the vertex `v` into the triangle `f0`, and returns `v`.
+///
+/// Three new edges lead from the corners to `v` and cut the triangle into three. `f0` keeps its
+/// anchor, `a` in the picture.
+///
+/// ```text
+/// before      C                 after       C
+///            / \                           /|\
+///         c /   \ b                     c / | \ b         f0       (a, n, n + 5)
+///          / f0  \                       / .v. \          L        (b, n + 2, n + 1)
+///         /       \                     /.' f0'.\         L + 1    (c, n + 4, n + 3)
+///        A ------> B                   A -------> B
+///            a                              a
+/// ```
+///
+/// Asks that `f0` is a triangle ([`is_triangle`](Dcel::is_triangle)) and not the outer face, that
+/// no edge meets `v` ([`is_unconnected`](Dcel::is_unconnected)), and for room for three edges and
+/// two faces ([`has_room`](Dcel::has_room)). If memory runs out it returns `AllocError`, and the
+/// mesh is as it was.
 pub fn insert_into_triangle<V, DE: Default, UE: Default, F: Default, A: Allocator>(
     dcel: &mut Dcel<V, DE, UE, F, A>,
     v: FixedVertexHandle,

@@ -1,3 +1,5 @@
+//! From an element to its dual, and back.
+
 ghost use Rattle.std.specs.Prelude.{◌≡◌, ◌<◌};
 ghost use Rattle.spade_dcel.specs.Handles.{mesh_behind, number_of};
 ghost use Rattle.dcel_maps.specs.Kinds.{number_of_elements};
@@ -16,7 +18,7 @@ where
     InnerOuter: InnerOuterMarker,
     A: Allocator,
 {
-    // The element of another kind with the same number, which has to be in range there.
+    // Duals share a number, so all six conversions are this one.
     #[inline]
     fn of_kind<OtherKind: DelaunayElementType, OtherInnerOuter: InnerOuterMarker>(
         &self,
@@ -29,9 +31,8 @@ where
     }
 }
 
-/// Its dual.
 impl<'a, V, DE, UE, F, A: Allocator> DirectedEdgeHandle<'a, V, DE, UE, F, A> {
-    /// The Voronoi edge that is dual to it, with the same number.
+    /// Returns the Voronoi edge that is dual to it, with the same number.
     #[inline]
     pub fn as_voronoi_edge(&self) -> DirectedVoronoiEdge<'a, V, DE, UE, F, A>
         ensures mesh { mesh_behind result ≡ mesh_behind self.now }
@@ -41,9 +42,8 @@ impl<'a, V, DE, UE, F, A: Allocator> DirectedEdgeHandle<'a, V, DE, UE, F, A> {
     }
 }
 
-/// Its dual.
 impl<'a, V, DE, UE, F, A: Allocator> UndirectedEdgeHandle<'a, V, DE, UE, F, A> {
-    /// The Voronoi edge that is dual to it, with the same number.
+    /// Returns the Voronoi edge that is dual to it, with the same number.
     #[inline]
     pub fn as_voronoi_edge(&self) -> UndirectedVoronoiEdge<'a, V, DE, UE, F, A>
         ensures mesh { mesh_behind result ≡ mesh_behind self.now }
@@ -53,9 +53,8 @@ impl<'a, V, DE, UE, F, A: Allocator> UndirectedEdgeHandle<'a, V, DE, UE, F, A> {
     }
 }
 
-/// Its dual.
 impl<'a, V, DE, UE, F, A: Allocator> VertexHandle<'a, V, DE, UE, F, A> {
-    /// The Voronoi face that is dual to it, with the same number.
+    /// Returns the Voronoi face that is dual to it, with the same number.
     #[inline]
     pub fn as_voronoi_face(&self) -> VoronoiFace<'a, V, DE, UE, F, A>
         ensures mesh { mesh_behind result ≡ mesh_behind self.now }
@@ -65,9 +64,8 @@ impl<'a, V, DE, UE, F, A: Allocator> VertexHandle<'a, V, DE, UE, F, A> {
     }
 }
 
-/// Its dual.
 impl<'a, V, DE, UE, F, A: Allocator> DirectedVoronoiEdge<'a, V, DE, UE, F, A> {
-    /// The half edge that it is dual to, with the same number.
+    /// Returns the half edge that it is dual to, with the same number.
     #[inline]
     pub fn as_delaunay_edge(&self) -> DirectedEdgeHandle<'a, V, DE, UE, F, A>
         ensures mesh { mesh_behind result ≡ mesh_behind self.now }
@@ -77,9 +75,8 @@ impl<'a, V, DE, UE, F, A: Allocator> DirectedVoronoiEdge<'a, V, DE, UE, F, A> {
     }
 }
 
-/// Its dual.
 impl<'a, V, DE, UE, F, A: Allocator> UndirectedVoronoiEdge<'a, V, DE, UE, F, A> {
-    /// The undirected edge that it is dual to, with the same number.
+    /// Returns the undirected edge that it is dual to, with the same number.
     #[inline]
     pub fn as_delaunay_edge(&self) -> UndirectedEdgeHandle<'a, V, DE, UE, F, A>
         ensures mesh { mesh_behind result ≡ mesh_behind self.now }
@@ -89,9 +86,8 @@ impl<'a, V, DE, UE, F, A: Allocator> UndirectedVoronoiEdge<'a, V, DE, UE, F, A> 
     }
 }
 
-/// Its dual.
 impl<'a, V, DE, UE, F, A: Allocator> VoronoiFace<'a, V, DE, UE, F, A> {
-    /// The vertex that it is dual to, with the same number.
+    /// Returns the vertex that it is dual to, with the same number.
     #[inline]
     pub fn as_delaunay_vertex(&self) -> VertexHandle<'a, V, DE, UE, F, A>
         ensures mesh { mesh_behind result ≡ mesh_behind self.now }

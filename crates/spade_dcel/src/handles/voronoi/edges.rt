@@ -1,3 +1,5 @@
+//! Edges of the Voronoi diagram: their ends, their neighbors and their face.
+
 ghost use Rattle.std.specs.Prelude.{◌≡◌, ℕ, ◌*◌, ◌/◌, true, [], ◌∷◌, All, map};
 ghost use Rattle.dcel_fixed.specs.HalfEdges.{rev};
 ghost use Rattle.spade_dcel.specs.Handles.{mesh_behind, number_of};
@@ -13,8 +15,12 @@ use crate::laws::every_mesh;
 use std::alloc::Allocator;
 
 impl<'a, V, DE, UE, F, A: Allocator> DirectedVoronoiEdge<'a, V, DE, UE, F, A> {
-    /// The vertex where it starts: that of the face on which its half edge lies, or, on the outer face, one that it has to itself. It
-    /// asks for a live edge.
+    /// Returns the vertex where it starts.
+    ///
+    /// That is the dual of the face that its half edge lies on. On the outer face each edge has a
+    /// vertex of its own.
+    ///
+    /// Asks for a live edge ([`is_live_edge`](crate::dcel::Dcel::is_live_edge)).
     #[inline]
     pub fn from(&self) -> VoronoiVertex<'a, V, DE, UE, F, A>
         requires { IsLive (mesh_behind self.now).shape (number_of self.now) }
@@ -28,7 +34,9 @@ impl<'a, V, DE, UE, F, A: Allocator> DirectedVoronoiEdge<'a, V, DE, UE, F, A> {
         }
     }
 
-    /// The vertex where it ends: where its other half starts. It asks for a live edge.
+    /// Returns the vertex where it ends, which is where its other half starts.
+    ///
+    /// Asks for a live edge ([`is_live_edge`](crate::dcel::Dcel::is_live_edge)).
     #[inline]
     pub fn to(&self) -> VoronoiVertex<'a, V, DE, UE, F, A>
         requires { IsLive (mesh_behind self.now).shape (number_of self.now) }
@@ -39,7 +47,7 @@ impl<'a, V, DE, UE, F, A: Allocator> DirectedVoronoiEdge<'a, V, DE, UE, F, A> {
         self.rev().from()
     }
 
-    /// The edge in the other direction, which is live where this one is.
+    /// Returns the edge in the other direction.
     #[inline]
     pub fn rev(&self) -> Self
         ensures mesh { mesh_behind result ≡ mesh_behind self.now }
@@ -49,9 +57,13 @@ impl<'a, V, DE, UE, F, A: Allocator> DirectedVoronoiEdge<'a, V, DE, UE, F, A> {
         self.as_delaunay_edge().rev().as_voronoi_edge()
     }
 
-    /// The edge after it round its face, whose half edge comes after its own out of the same vertex
-    /// ([`ccw`](crate::handles::DirectedEdgeHandle::ccw)). Where this one starts at an inner face, that one ends at the same. It asks
-    /// for a live edge.
+    /// Returns the edge after it around its face.
+    ///
+    /// It is the dual of the half edge after its own out of the same vertex
+    /// ([`ccw`](crate::handles::DirectedEdgeHandle::ccw)). It ends where this one starts, if that
+    /// is the dual of an inner face.
+    ///
+    /// Asks for a live edge ([`is_live_edge`](crate::dcel::Dcel::is_live_edge)).
     #[inline]
     pub fn next(&self) -> Self
         requires { IsLive (mesh_behind self.now).shape (number_of self.now) }
@@ -65,8 +77,12 @@ impl<'a, V, DE, UE, F, A: Allocator> DirectedVoronoiEdge<'a, V, DE, UE, F, A> {
         self.as_delaunay_edge().ccw().as_voronoi_edge()
     }
 
-    /// The edge before it round its face, whose half edge comes before its own out of the same vertex
-    /// ([`cw`](crate::handles::DirectedEdgeHandle::cw)). It asks for a live edge.
+    /// Returns the edge before it around its face.
+    ///
+    /// It is the dual of the half edge before its own out of the same vertex
+    /// ([`cw`](crate::handles::DirectedEdgeHandle::cw)).
+    ///
+    /// Asks for a live edge ([`is_live_edge`](crate::dcel::Dcel::is_live_edge)).
     #[inline]
     pub fn prev(&self) -> Self
         requires { IsLive (mesh_behind self.now).shape (number_of self.now) }
@@ -77,7 +93,9 @@ impl<'a, V, DE, UE, F, A: Allocator> DirectedVoronoiEdge<'a, V, DE, UE, F, A> {
         self.as_delaunay_edge().cw().as_voronoi_edge()
     }
 
-    /// The face that it goes round: the dual of the vertex where its half edge starts. It asks for a live edge.
+    /// Returns the face that it goes around: the dual of the vertex where its half edge starts.
+    ///
+    /// Asks for a live edge ([`is_live_edge`](crate::dcel::Dcel::is_live_edge)).
     #[inline]
     pub fn face(&self) -> VoronoiFace<'a, V, DE, UE, F, A>
         requires { IsLive (mesh_behind self.now).shape (number_of self.now) }
@@ -87,7 +105,7 @@ impl<'a, V, DE, UE, F, A: Allocator> DirectedVoronoiEdge<'a, V, DE, UE, F, A> {
         self.as_delaunay_edge().from().as_voronoi_face()
     }
 
-    /// The edge without its direction.
+    /// Returns the edge without its direction.
     #[inline]
     pub fn as_undirected(&self) -> UndirectedVoronoiEdge<'a, V, DE, UE, F, A>
         ensures mesh { mesh_behind result ≡ mesh_behind self.now }
@@ -98,7 +116,9 @@ impl<'a, V, DE, UE, F, A: Allocator> DirectedVoronoiEdge<'a, V, DE, UE, F, A> {
 }
 
 impl<'a, V, DE, UE, F, A: Allocator> UndirectedVoronoiEdge<'a, V, DE, UE, F, A> {
-    /// Where the edge of its normalized half edge starts and ends. It asks for a live edge.
+    /// Returns the vertices where the dual of its normalized half edge starts and ends.
+    ///
+    /// Asks for a live edge ([`is_live_edge`](crate::dcel::Dcel::is_live_edge)).
     #[inline]
     pub fn vertices(&self) -> [VoronoiVertex<'a, V, DE, UE, F, A>; 2]
         requires { edge_is_live (mesh_behind self.now).shape (number_of self.now) ≡ true }
@@ -112,7 +132,7 @@ impl<'a, V, DE, UE, F, A: Allocator> UndirectedVoronoiEdge<'a, V, DE, UE, F, A> 
         [edge.from(), edge.to()]
     }
 
-    /// The edge in the direction of its normalized half edge, the one with the even number; live where the edge is.
+    /// Returns the dual of its normalized half edge, the one with the even number.
     #[inline]
     pub fn as_directed(&self) -> DirectedVoronoiEdge<'a, V, DE, UE, F, A>
         ensures mesh { mesh_behind result ≡ mesh_behind self.now }

@@ -1,3 +1,5 @@
+//! Faces of the Voronoi diagram, and the edges around them.
+
 ghost use Rattle.std.specs.Prelude.{◌≡◌, ◌≤◌, ◌^◌, IfSome, length};
 ghost use Rattle.std.specs.Iterator.{YieldsFirstBy, YieldsLastBy, item_count};
 ghost use Rattle.spade_dcel.specs.Handles.{mesh_behind, number_of};
@@ -10,7 +12,9 @@ use std::alloc::{Allocator, Global};
 use std::marker::Model;
 
 impl<'a, V, DE, UE, F, A: Allocator> VoronoiFace<'a, V, DE, UE, F, A> {
-    /// The edges round it: the duals of the half edges that start at its vertex, each once, in the order of its
+    /// Returns the edges around it, each once.
+    ///
+    /// They are the duals of the half edges that start at its vertex, in the order of the vertex's
     /// [`out_edges`](crate::handles::VertexHandle::out_edges).
     #[inline]
     pub fn adjacent_edges(&self) -> VoronoiFaceEdges<'a, V, DE, UE, F, A>
@@ -31,10 +35,10 @@ impl<'a, V, DE, UE, F, A: Allocator> VoronoiFace<'a, V, DE, UE, F, A> {
     }
 }
 
-/// The edges round a face of the Voronoi diagram.
+/// The edges around a face of the Voronoi diagram.
 ///
-/// It takes no memory. Contracts see its mesh, and the edges to come: `next` takes their first and `next_back` their last, in any
-/// mixture.
+/// Does not allocate. Contracts see its mesh, and the edges that it has still to give. `next` and
+/// `next_back` may be mixed freely.
 #[derive(Drop)]
 pub struct VoronoiFaceEdges<'a, V, DE, UE, F, A: Allocator = Global> {
     out_edges: CircularIterator<'a, V, DE, UE, F, CCWEdgesNextBackFn, A>,

@@ -1,3 +1,5 @@
+//! Vertices of the Voronoi diagram, and the edges that start there.
+
 ghost use Rattle.std.specs.Prelude.{◌≡◌, ◌∷◌, [], All, IfSome, map};
 ghost use Rattle.std.specs.Option.{option_map};
 ghost use Rattle.spade_dcel.specs.Handles.{mesh_behind, number_of};
@@ -15,12 +17,12 @@ use std::alloc::{Allocator, Global};
 pub enum VoronoiVertex<'a, V, DE, UE, F, A: Allocator = Global> {
     /// The dual of an inner face.
     Inner(FaceHandle<'a, InnerTag, V, DE, UE, F, A>),
-    /// Where a Voronoi edge starts on the outer face. Each has a vertex of its own there.
+    /// The start of a Voronoi edge on the outer face, where each edge has a vertex of its own.
     Outer(DirectedVoronoiEdge<'a, V, DE, UE, F, A>),
 }
 
 impl<'a, V, DE, UE, F, A: Allocator> VoronoiVertex<'a, V, DE, UE, F, A> {
-    /// The face that it is dual to, and None for an outer vertex.
+    /// Returns the face that it is dual to, or None for an outer vertex.
     #[inline]
     pub fn as_delaunay_face(&self) -> Option<FaceHandle<'a, InnerTag, V, DE, UE, F, A>>
         ensures face { option_map (λ face. number_of face) result ≡ face_dual_to (dual_vertex self.now) }
@@ -32,9 +34,13 @@ impl<'a, V, DE, UE, F, A: Allocator> VoronoiVertex<'a, V, DE, UE, F, A> {
         }
     }
 
-    /// The three edges of an inner vertex: those of the face's [`adjacent_edges`](FaceHandle::adjacent_edges), which start there. It
-    /// answers None for an outer vertex, and asks for an inner one that its face is live
-    /// ([`is_live_face`](crate::dcel::Dcel::is_live_face)) with a number of at least 1.
+    /// Returns three edges that start at an inner vertex, or None for an outer one.
+    ///
+    /// They are the duals of the face's [`adjacent_edges`](FaceHandle::adjacent_edges), and so all
+    /// that start there if the face is a triangle.
+    ///
+    /// Asks that the face of an inner vertex is live
+    /// ([`is_live_face`](crate::dcel::Dcel::is_live_face)) and not the outer one.
     #[inline]
     pub fn out_edges(&self) -> Option<[DirectedVoronoiEdge<'a, V, DE, UE, F, A>; 3]>
         requires { IsLiveDual (mesh_around self.now).shape (dual_vertex self.now) }
@@ -46,8 +52,12 @@ impl<'a, V, DE, UE, F, A: Allocator> VoronoiVertex<'a, V, DE, UE, F, A> {
         self.as_delaunay_face().map(edges_from)
     }
 
-    /// One edge that starts there: that of the face's anchor, and an outer vertex's own. It asks for an inner vertex that its face is
-    /// live ([`is_live_face`](crate::dcel::Dcel::is_live_face)) with a number of at least 1.
+    /// Returns one edge that starts there.
+    ///
+    /// At an inner vertex it is the dual of the face's anchor, at an outer vertex its only edge.
+    ///
+    /// Asks that the face of an inner vertex is live
+    /// ([`is_live_face`](crate::dcel::Dcel::is_live_face)) and not the outer one.
     #[inline]
     pub fn out_edge(&self) -> DirectedVoronoiEdge<'a, V, DE, UE, F, A>
         requires { IsLiveDual (mesh_around self.now).shape (dual_vertex self.now) }
@@ -62,7 +72,6 @@ impl<'a, V, DE, UE, F, A: Allocator> VoronoiVertex<'a, V, DE, UE, F, A> {
     }
 }
 
-// The Voronoi edges that start at a face.
 #[inline]
 fn edges_from<'a, V, DE, UE, F, A: Allocator>(
     face: FaceHandle<'a, InnerTag, V, DE, UE, F, A>,

@@ -1,14 +1,14 @@
 use Rattle.dcel_maps.proofs.removal.RingLists.{at_border}
 use Rattle.spade_dcel.proofs.operations.fill.isolate_vertex_and_fill_hole.Goals as goal
 
-pub open-requires-clause-many : goal.open-requires-clause-many
-open-requires-clause-many g c = rw c.deref.ensures.value c.requires.border.many
+pub isolate_and_answer-requires-clause-many : goal.isolate_and_answer-requires-clause-many
+isolate_and_answer-requires-clause-many g c = rw c.deref.ensures.value c.requires.border.many
 
-pub open-requires-clause-inside : goal.open-requires-clause-inside
-open-requires-clause-inside g c =
+pub isolate_and_answer-requires-clause-inside : goal.isolate_and_answer-requires-clause-inside
+isolate_and_answer-requires-clause-inside g c =
     rw (c.in_ok-edges.ensures.edges, c.in_ok-edges.ensures.faces, c.deref.ensures.value)
     (c.requires.border, at_border c.args.dcel.now c.every_mesh.ensures c.args.border_loop.items c.args.vertex c.requires.border)
 
 pub returns-clause-edit : goal.returns-clause-edit
 returns-clause-edit g c =
-    rw (c.in_ok-edges.ensures.edges, c.in_ok-edges.ensures.faces, c.deref.ensures.value) at c.open.ensures.edit
+    rw (c.in_ok-edges.ensures.edges, c.in_ok-edges.ensures.faces, c.deref.ensures.value) at c.isolate_and_answer.ensures.edit

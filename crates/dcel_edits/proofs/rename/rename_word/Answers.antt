@@ -1,7 +1,7 @@
 use Rattle.std.proofs.Common.{sym, ◌∙◌, rules}
 use Rattle.dcel_edits.proofs.Rounds.{anchor_stands, next_write, write_meets, writing_begins, writing_stands}
 use Rattle.dcel_edits.proofs.Turning.{faces_part}
-use Rattle.dcel_edits.proofs.removal.take_out.rename_word.Goals as goal
+use Rattle.dcel_edits.proofs.rename.rename_word.Goals as goal
 
 pub prev-last-requires : goal.prev-last-requires
 prev-last-requires g c =

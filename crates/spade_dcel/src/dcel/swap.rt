@@ -1,4 +1,4 @@
-//! Vertices under other numbers.
+//! Two vertices swapped.
 
 ghost use Rattle.std.specs.Prelude.{◌≡◌, true};
 ghost use Rattle.dcel_maps.specs.edits.Rename.{vertices_swapped};
@@ -9,11 +9,18 @@ use dcel_edits::rename::exchange_vertices;
 use dcel_fixed::FixedVertexHandle;
 use std::alloc::Allocator;
 
-/// Renaming.
+/// Swaps.
 impl<V, DE, UE, F, A: Allocator> Dcel<V, DE, UE, F, A> {
-    /// Puts two vertices in each other's place: their data and anchors are exchanged, and live half edges that started at the one start
-    /// at the other. The two may be one vertex, and then nothing changes. It takes no memory, and asks that both are live
-    /// ([`is_live_vertex`](Self::is_live_vertex)).
+    /// Swaps two vertices: their data, their anchors and the half edges that start there.
+    ///
+    /// ```text
+    /// before                                   after
+    /// first ---> x       y <--- second         second ---> x       y <--- first
+    /// ```
+    ///
+    /// The two may be the same vertex, and then nothing changes. It allocates nothing.
+    ///
+    /// Asks that both are live ([`is_live_vertex`](Self::is_live_vertex)).
     pub fn swap_vertices(&mut self, first: FixedVertexHandle, second: FixedVertexHandle)
         requires first_live { vertex_is_live self.old.shape first ≡ true }
         requires second_live { vertex_is_live self.old.shape second ≡ true }

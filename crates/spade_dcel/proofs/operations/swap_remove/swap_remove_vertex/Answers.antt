@@ -4,7 +4,7 @@ use Rattle.dcel_edits.proofs.Public.{mesh-is-mesh}
 use Rattle.dcel_edits.proofs.stored.Changes.{held_mesh}
 use Rattle.dcel_edits.proofs.stored.Holding.{holds}
 use Rattle.dcel_edits.proofs.stored.TakingOut.{lose_vertex}
-use Rattle.spade_dcel.proofs.operations.cleanup.swap_remove_vertex.Goals as goal
+use Rattle.spade_dcel.proofs.operations.swap_remove.swap_remove_vertex.Goals as goal
 
 pub overflow_sub-num_vertices : goal.overflow_sub-num_vertices
 overflow_sub-num_vertices g c =

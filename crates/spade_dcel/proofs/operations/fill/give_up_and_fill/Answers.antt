@@ -6,7 +6,7 @@ use Rattle.dcel_edits.proofs.stored.Rings.{hole_can, hole_given_up, hole_holds}
 use Rattle.dcel_edits.specs.Fill.{given_up}
 use Rattle.dcel_maps.specs.edits.Fill.{border_filled}
 use Rattle.dcel_maps.specs.Removals.{opened_with}
-use Rattle.spade_dcel.proofs.operations.fill.fill.Goals as goal
+use Rattle.spade_dcel.proofs.operations.fill.give_up_and_fill.Goals as goal
 
 pub invariant_of-dcel : goal.invariant_of-dcel
 invariant_of-dcel g c = (reserved_holds c.reserve.ensures.same c.dcel.invariant c.dcel.view_is).stored
@@ -27,8 +27,8 @@ put_ears-requires g c =
     c.in-Some-split_last-2.left.now c.in-Some-split_last.others.now c.in-Some.others.now c.args.border.now c.args.edges.now c.args.faces.now c.args.vertex.now c.requires.inside
     c.in-Some.ensures.cases.0 c.in-Some-split_last.ensures.cases.0 c.in-Some-split_last-2.ensures.cases.0 c.requires.room c.in_ok-reserve.ensures.room
 
-pub give_up-requires : goal.give_up-requires
-give_up-requires g c =
+pub drop_all_anchors-requires : goal.drop_all_anchors-requires
+drop_all_anchors-requires g c =
     let held = reserved_holds c.reserve.ensures.same c.dcel.invariant c.dcel.view_is in
     hole_given_up held c.requires.closed c.in-Some.field-0-0.now c.in-Some-split_last.field-0-0.now c.in-Some-split_last-2.field-0-0.now
     c.in-Some-split_last-2.left.now c.in-Some-split_last.others.now c.in-Some.others.now c.args.border.now c.args.edges.now c.args.faces.now c.args.vertex.now c.requires.inside
@@ -36,7 +36,7 @@ give_up-requires g c =
     g.DE.Default.is_default g.UE.Default.is_default g.F.Default.is_default _ c.put_ears.ensures
 
 -- the hole is filled
-filled : (g : _) (c : goal.After-give_up g)
+filled : (g : _) (c : goal.After-drop_all_anchors g)
     → HoldsAdded g.DE.Default.is_default g.UE.Default.is_default g.F.Default.is_default (length c.args.border.now - 3) (length c.args.border.now - 2)
     (given_up c.put_ears.new.store c.args.vertex.now c.args.faces.now) (opened_with c.args.edges.now c.args.faces.now c.args.vertex.now)
     (border_filled c.args.dcel.now (opened_with c.args.edges.now c.args.faces.now c.args.vertex.now) c.args.border.now)
@@ -48,10 +48,10 @@ filled g c =
     g.DE.Default.is_default g.UE.Default.is_default g.F.Default.is_default _ c.put_ears.ensures
 
 pub invariant_of-dcel-2 : goal.invariant_of-dcel-2
-invariant_of-dcel-2 g c = rw (c.give_up.ensures, c.in_ok-open.ensures.opened) (filled g c).stored
+invariant_of-dcel-2 g c = rw (c.drop_all_anchors.ensures, c.in_ok-open.ensures.opened) (filled g c).stored
 
 pub returns-clause-edit : goal.returns-clause-edit
-returns-clause-edit g c = rw (c.give_up.ensures, c.in_ok-open.ensures.opened) (filled g c).edit
+returns-clause-edit g c = rw (c.drop_all_anchors.ensures, c.in_ok-open.ensures.opened) (filled g c).edit
 
 pub returns-clause-mesh : goal.returns-clause-mesh
 returns-clause-mesh g c = mesh-is-mesh _ _ (invariant_of-dcel-2 g c)
