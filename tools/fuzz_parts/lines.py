@@ -9,6 +9,10 @@ NAMES = ("NoSuchVertex NoSuchEdge NoSuchFace RemovalOpen NoRemoval GivenUp SameV
 NUMBER = re.compile(r"0|[1-9][0-9]*")
 DATUM = re.compile(r"0|-?[1-9][0-9]*")
 
+# How many vertices, edges and faces a line adds; filling a hole adds as many as its ring is long, less three and two.
+ADDS = {"append": (1, 0, 0), "setup": (0, 1, 0), "extend": (0, 1, 0), "line": (0, 1, 0), "close": (0, 1, 1), "outside": (0, 2, 1),
+        "insert": (0, 3, 2), "half": (0, 2, 1), "split": (0, 3, 2)}
+
 # What stands after each word: D a datum, N a number, L a list; lists have a slash between them.
 TAKES = {
     "append": "D", "triangle": "DDD", "setup": "NN", "extend": "NN", "line": "NN", "close": "N", "outside": "NN", "insert": "NN",
@@ -51,19 +55,19 @@ def is_datum(item):
     return DATUM.fullmatch(item) is not None and -2 ** 63 <= int(item) < 2 ** 63
 
 
-def answer(mesh, line):
-    """The mesh after a line, and its reply."""
+def answer(mesh, line, limit=2 ** 31):
+    """The mesh after a line, and its reply, where no count of the mesh may be above the limit."""
     request = read(line)
     if request is None:
         return mesh, "bad line"
     word, given = request
-    if word == "triangle":
-        return triangle(given), "ok"
     if word == "clear":
         return Mesh(), "ok"
-    for number, is_broken in asked(mesh, word, given):
+    for number, is_broken in [*asked(mesh, word, given), room(mesh, word, given, limit)]:
         if is_broken():
             return mesh, f"refused {number} {NAMES[number - 1]}"
+    if word == "triangle":
+        return triangle(given), "ok"
     return mesh, REPLIES[word](mesh, *given)
 
 
@@ -106,6 +110,16 @@ def live_half(mesh, half):
 
 def unconnected(mesh, vertex):
     return 8, lambda: not mesh.is_unconnected(vertex)
+
+
+def room(mesh, word, given, limit):
+    counts, adds = (len(mesh.data), mesh.edge_count(), len(mesh.words)), ADDS.get(word, (0, 0, 0))
+    if word == "triangle":
+        counts, adds = (0, 0, 0), (3, 3, 2)
+    if word in ("isolate", "remesh"):
+        ring = given[1] if word == "isolate" else given[0]
+        adds = (0, len(ring) - 3, len(ring) - 2)
+    return 19, lambda: any(more and count + more > limit for count, more in zip(counts, adds))
 
 
 def triangles(mesh, *sides):

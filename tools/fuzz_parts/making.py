@@ -10,6 +10,7 @@ BROKEN = ["", " ", "words ", " words", "append", "append -0", "append 01", "appe
 GROWING = ["insert"] * 6 + ["outside"] * 3 + ["close"] * 3 + ["half"] * 2 + ["split"] * 4 + ["line"] * 2 + ["extend"] * 3 + ["setup"]
 CHANGING = ["flip"] * 5 + ["legalize"] * 3 + ["swap"] * 2 + ["put"] * 2
 OPENING = ["isolate"] * 4 + ["vertex ring"] * 2 + ["region"] * 4 + ["strip"] * 4
+LOOKS = ["words", "hull", "counts", "out", "out", "origin", "origin"]
 ASKING = ["counts", "words", "hull", "out", "origin", "between", "get", "check"]
 
 
@@ -84,6 +85,18 @@ class Maker:
     def asking(self, mesh):
         word = self.random.choice(ASKING)
         return " ".join([word] + [str(self.vertex(mesh)) if word != "origin" else str(self.number(len(mesh.origins))) for _ in TAKES[word]])
+
+    def look(self, mesh, line):
+        """A line that shows something of the mesh: of its vertices one that the line names, one where it grew last, or any."""
+        word = self.random.choice(LOOKS)
+        if word not in ("out", "origin"):
+            return word
+        named = [int(item) for item in line.split(" ")[1:] if item.isdigit()]
+        vertices = named + mesh.origins[-6:] if self.random.random() < 0.7 else range(len(mesh.data))
+        vertex = self.pick(vertex for vertex in vertices if mesh.is_live_vertex(vertex))
+        if word == "out" or not mesh.is_live_vertex(vertex) or mesh.is_unconnected(vertex):
+            return f"out {vertex}"
+        return f"origin {self.pick(mesh.out_edges(mesh.vertex_anchors[vertex]))}"
 
     def changing(self, mesh):
         word = self.random.choice(CHANGING)

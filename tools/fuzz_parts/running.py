@@ -7,6 +7,10 @@ import subprocess
 import termios
 import threading
 
+# The program of the folder built as it is, and run with no proof, for ten seconds. The run that is counted in steps would take long, and
+# ends at once.
+UNPROVED = ["rt", "try", "--steps", "1", "--seconds", "10"]
+
 
 def is_read(pipe):
     """Whether all that was written to a pipe is read."""
@@ -29,12 +33,12 @@ def feed(process, text, size):
         process.stdin.close()
 
 
-def output_of(program, text, size=None):
-    """What the program writes, and the status that it ends with. Without a size the text comes whole."""
+def output_of(command, text, size=None, folder=None):
+    """What a command writes, and the status that it ends with. Without a size the text comes whole."""
     if size is None:
-        ended = subprocess.run([program], input=text, capture_output=True, check=False)
+        ended = subprocess.run(command, input=text, capture_output=True, check=False, cwd=folder)
         return ended.stdout, ended.returncode
-    process = subprocess.Popen([program], stdin=subprocess.PIPE, stdout=subprocess.PIPE, stderr=subprocess.DEVNULL, bufsize=0)
+    process = subprocess.Popen(command, stdin=subprocess.PIPE, stdout=subprocess.PIPE, stderr=subprocess.DEVNULL, bufsize=0)
     feeder = threading.Thread(target=feed, args=(process, text, size))
     feeder.start()
     output = process.stdout.read()

@@ -14,49 +14,8 @@ use std::test::Fail;
 /// Lines with what each is answered.
 pub type Talk = &'static [(&'static str, &'static str)];
 
-/// An edge from vertex 0 to vertex 1.
-pub const FIRST_EDGE: [(&str, &str); 3] = [
-    ("append 0", "vertex 0"),
-    ("append 1", "vertex 1"),
-    ("setup 0 1", "ok"),
-];
-
-/// The same, and vertex 2 beside it.
-pub const EDGE_AND_VERTEX: [(&str, &str); 4] = [
-    ("append 0", "vertex 0"),
-    ("append 1", "vertex 1"),
-    ("setup 0 1", "ok"),
-    ("append 2", "vertex 2"),
-];
-
-/// The line 0, 2, 1.
-pub const SPLIT_EDGE: [(&str, &str); 5] = [
-    ("append 0", "vertex 0"),
-    ("append 1", "vertex 1"),
-    ("setup 0 1", "ok"),
-    ("append 2", "vertex 2"),
-    ("line 0 2", "halves 0 2"),
-];
-
-/// The line 0, 1, 2, 3.
-pub const LINE: [(&str, &str); 7] = [
-    ("append 0", "vertex 0"),
-    ("append 1", "vertex 1"),
-    ("setup 0 1", "ok"),
-    ("append 2", "vertex 2"),
-    ("extend 1 2", "vertex 2"),
-    ("append 3", "vertex 3"),
-    ("extend 2 3", "vertex 3"),
-];
-
 /// A triangle.
 pub const TRIANGLE: [(&str, &str); 1] = [("triangle 0 1 2", "ok")];
-
-/// A triangle, and vertex 3 beside it.
-pub const TRIANGLE_AND_VERTEX: [(&str, &str); 2] = [
-    ("triangle 0 1 2", "ok"),
-    ("append 3", "vertex 3"),
-];
 
 /// A triangle that vertex 3 cuts into three.
 pub const CUT_TRIANGLE: [(&str, &str); 3] = [
@@ -223,12 +182,4 @@ pub fn check_text_answered(
         )?;
     }
     Ok(())
-}
-
-/// Runs the lines with reads of one, three and all bytes: each is answered by the text beside it.
-pub fn check_answered(alloc: Global, limit: usize, talk: &[(&str, &str)]) -> Result<(), Fail> {
-    let mut lines = Vec::new(alloc);
-    let mut replies = Vec::new(alloc);
-    push_talk(&mut lines, &mut replies, talk)?;
-    check_text_answered(alloc, limit, &lines, &replies)
 }

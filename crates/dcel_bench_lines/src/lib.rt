@@ -1,28 +1,16 @@
-//! Tests of lines: worked rows with their replies, bad and long lines, and readers and writers that fail.
+//! Tests of lines that are bad or long, and of readers and writers that fail.
+//!
+//! The other lines stand with their replies in the talks of `dcel_talks`.
 #![tactic(auto)]
 
 #[cfg(test)]
 mod bad_lines;
 #[cfg(test)]
-mod edge_rows;
-#[cfg(test)]
 mod far_growth;
 #[cfg(test)]
-mod hole_rows;
-#[cfg(test)]
-mod legalize_rows;
+mod faults;
 #[cfg(test)]
 mod lines;
-#[cfg(test)]
-mod memoryless_rows;
-#[cfg(test)]
-mod refused_rows;
-#[cfg(test)]
-mod region_rows;
-#[cfg(test)]
-mod removal_rows;
-#[cfg(test)]
-mod rows;
 pub mod texts;
 #[cfg(test)]
 mod transfers;

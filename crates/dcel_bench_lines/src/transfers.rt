@@ -293,7 +293,7 @@ const RUNS: [Run; 13] = [
 ];
 
 /// How a run ended, by name.
-fn fault_name(ended: Result<(), RunFault>) -> &'static str {
+pub fn fault_name(ended: Result<(), RunFault>) -> &'static str {
     match ended {
         Ok(()) => "",
         Err(RunFault::Read) => "read failed",

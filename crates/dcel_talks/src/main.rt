@@ -1,0 +1,39 @@
+//! Runs the talks of the files that are named, and compares each reply with the one that stands under its line.
+//!
+//! In a file `# NAME` begins a talk, from an empty mesh. `limit N` gives it another limit than 2^31,
+//! `> LINE` is a line, and the lines under it are its reply. Empty lines say nothing. If a reply is
+//! another one, the program says which and ends with status 1.
+#![tactic(auto)]
+
+mod script;
+
+use crate::script::Script;
+use anyhow::{Context, Result};
+use std::alloc::Global;
+use std::{env, fs};
+
+fn main(rt: HostRuntime) -> Result<()> {
+    for name in env::args(&rt)?.skip(1) {
+        let text = fs::read_to_string(&rt, name.as_str()).context(&name)?;
+        let count = check_talks(rt.alloc(), text.as_str()).context(&name)?;
+        println!(rt; "{name}: {count} talks")?;
+    }
+    Ok(())
+}
+
+/// Checks the talks of a file. Returns how many there are.
+fn check_talks(alloc: Global, text: &str) -> Result<usize> {
+    let mut script = Script::new(alloc, "what stands above the first talk")?;
+    let mut count = 0usize;
+    for line in text.split('\n') {
+        if let Some(name) = line.strip_prefix("# ") {
+            script.check(alloc)?;
+            script = Script::new(alloc, name)?;
+            count = count.saturating_add(1);
+        } else {
+            script.take(alloc, line)?;
+        }
+    }
+    script.check(alloc)?;
+    Ok(count)
+}
