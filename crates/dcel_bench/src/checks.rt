@@ -5,7 +5,7 @@
 use std::fmt::{Debug, Display};
 use std::test::Fail;
 
-/// Goes on where the condition holds, which is known from there on, and fails the test where it doesn't.
+/// Fails the test unless the condition holds, which is known from there on.
 #[macro_export]
 macro_rules! require {
     ($condition:expr) => {
@@ -18,7 +18,7 @@ macro_rules! require {
     };
 }
 
-/// Fails the test where the two values differ, with both and with what they are.
+/// Fails the test if the two values differ, naming both and what they are.
 pub fn same<T: PartialEq + Debug + Drop, W: Display + Drop>(
     found: T,
     wanted: T,
@@ -30,7 +30,7 @@ pub fn same<T: PartialEq + Debug + Drop, W: Display + Drop>(
     Err(Fail::new(format_args!("{what}: {found:?}, and not {wanted:?}")))
 }
 
-/// Fails the test where this isn't so.
+/// Fails the test unless this is so.
 pub fn holds<W: Display + Drop>(is_so: bool, what: W) -> Result<(), Fail> {
     if is_so {
         return Ok(());

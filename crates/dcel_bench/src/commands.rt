@@ -28,7 +28,7 @@ pub fn growing<A: Allocator>(growth: Growth) -> Command<i64, A> {
     }
 }
 
-// What the mesh answers the command where there is memory. New half edges are `first`, `first + 1`, ..
+// The mesh's reply to the command if there is memory. New half edges are `first`, `first + 1`, ..
 fn reply_to<A: Allocator>(dcel: &Mesh<A>, growth: Growth) -> Result<Reply<i64>, Fail> {
     let count = dcel.num_vertices();
     require!(count < NO_LIMIT);
@@ -64,7 +64,7 @@ fn handed_in(growth: Growth) -> Handed<i64> {
     }
 }
 
-/// Has the mesh carry the call out as a command under the limit: whether there was memory. Without it what was handed in comes back.
+/// Makes the call as a command under the limit, and returns whether there was memory. Without memory, the data are handed back.
 pub fn carry_out<A: Allocator + Clone>(
     dcel: &mut Mesh<A>,
     growth: Growth,
@@ -86,7 +86,7 @@ pub fn carry_out<A: Allocator + Clone>(
     }
 }
 
-/// That the mesh refuses the call as a command under the limit by this name, hands back what was handed in, and is then as large as
+/// Checks that the mesh refuses the call as a command under the limit by this name, hands the data back, and is then as large as
 /// before.
 pub fn check_refused<A: Allocator + Clone>(
     dcel: &mut Mesh<A>,

@@ -1,4 +1,4 @@
-//! Data of elements, written by the numbers of the elements and read back.
+//! Data written by element numbers and read back.
 
 use crate::checks::same;
 use crate::meshes::{Mesh, half_edge, inner_face, undirected_edge, vertex};
@@ -14,17 +14,17 @@ use std::test::Fail;
 /// A datum of a mesh, by the number of its element.
 #[derive(Clone, Copy, Debug)]
 pub enum Datum {
-    /// That of a vertex.
+    /// A vertex's datum.
     Vertex(u32),
-    /// That of a vertex, which is written by `update_vertex`.
+    /// A vertex's datum, written by `update_vertex`.
     UpdatedVertex(u32),
-    /// That of a half edge.
+    /// A half edge's datum.
     HalfEdge(u32),
-    /// That of an undirected edge.
+    /// An undirected edge's datum.
     Edge(u32),
-    /// That of a face, which may be the outer one.
+    /// The datum of a face, which may be the outer one.
     Face(u32),
-    /// That of an inner face.
+    /// An inner face's datum.
     InnerFace(u32),
 }
 

@@ -1,4 +1,4 @@
-//! Calls that a mesh grows by.
+//! Calls that make a mesh grow.
 
 use crate::checks::{holds, same};
 use crate::meshes::{Mesh, half_edge, inner_face, vertex};
@@ -16,15 +16,15 @@ use std::test::Fail;
 /// A call that takes memory, by the numbers of its elements.
 #[derive(Clone, Copy, Debug)]
 pub enum Growth {
-    /// A mesh of one triangle takes the place of the mesh.
+    /// One triangle replaces the mesh.
     Triangle(i64, i64, i64),
     /// A vertex without an edge.
     Append(i64),
     /// The first edge, from vertex to vertex.
     SetUp(u32, u32),
-    /// From the vertex that ends a line to the other one.
+    /// From the end of a line to the other vertex.
     Extend(u32, u32),
-    /// Into the middle of a half edge's edge, which has one face on both sides, comes a vertex.
+    /// A vertex splits the edge of a half edge, with one face on both sides.
     SplitOnLine(u32, u32),
     /// A new edge closes a triangle of the half edge and the next one.
     Close(u32),
@@ -32,9 +32,9 @@ pub enum Growth {
     PutBeside(u32, u32),
     /// The vertex cuts the triangle into three.
     Insert(u32, u32),
-    /// Into the middle of the half edge's edge comes the vertex, and is joined to the corner of the triangle that the half edge lies on.
+    /// The vertex splits the half edge's edge, and is joined to the corner of the triangle on the half edge's side.
     SplitOneSide(u32, u32),
-    /// Into the middle of the half edge's edge comes the vertex, and is joined to the corners of the triangles on both sides.
+    /// The vertex splits the half edge's edge, and is joined to the corners of the triangles on both sides.
     SplitBothSides(u32, u32),
 }
 
@@ -72,7 +72,7 @@ pub const TRIANGLE_AND_VERTEX: [Growth; 2] = [Triangle(0, 1, 2), Append(3)];
 /// A triangle that vertex 3 cuts into three.
 pub const CUT: [Growth; 3] = [Triangle(0, 1, 2), Append(3), Insert(3, 1)];
 
-/// Whether a call had memory. Where it had, this is what it is to answer.
+/// Whether a call had memory, and if so, what it must return.
 fn is_answered<T: PartialEq + Debug + Drop>(
     answer: Result<T, AllocError>,
     wanted: T,
@@ -110,7 +110,7 @@ fn close<A: Allocator>(dcel: &mut Mesh<A>, index: u32) -> Result<bool, Fail> {
     is_answered(answer, outer, Close(index))
 }
 
-/// Joins a vertex that has no edge to the end of a line, to the ends of a half edge, or to the corners of a triangle.
+/// Joins an unconnected vertex to the end of a line, to the ends of a half edge, or to the corners of a triangle.
 fn join<A: Allocator>(
     dcel: &mut Mesh<A>,
     growth: Growth,
@@ -142,7 +142,7 @@ fn join<A: Allocator>(
     is_answered(answer, added, growth)
 }
 
-/// Puts a vertex that has no edge into the middle of an edge: one with one face on both sides, or with triangles on one or both.
+/// Splits an edge by an unconnected vertex: one with one face on both sides, or with triangles on one or both.
 fn split<A: Allocator>(
     dcel: &mut Mesh<A>,
     growth: Growth,
@@ -180,7 +180,7 @@ fn split<A: Allocator>(
     is_answered(answer, [edge, FixedDirectedEdgeHandle::new(second)], growth)
 }
 
-/// Appends a vertex. Without memory its datum comes back.
+/// Appends a vertex. Without memory, its datum is handed back.
 fn append<A: Allocator>(dcel: &mut Mesh<A>, datum: i64) -> Result<bool, Fail> {
     require!(dcel.has_room(1, 0, 0));
     let count = dcel.num_vertices();
@@ -196,7 +196,7 @@ fn append<A: Allocator>(dcel: &mut Mesh<A>, datum: i64) -> Result<bool, Fail> {
     }
 }
 
-/// Puts a mesh of one triangle in the place of the mesh. Without memory the data come back.
+/// Replaces the mesh by one triangle. Without memory, the data are handed back.
 fn replace<A: Allocator + Clone>(
     dcel: &mut Mesh<A>,
     memory: A,
@@ -214,7 +214,7 @@ fn replace<A: Allocator + Clone>(
     }
 }
 
-/// Makes the call, whose conditions it tests first: whether there was memory. Without it what was handed in comes back.
+/// Makes the call after testing its conditions, and returns whether there was memory. Without memory, the data are handed back.
 pub fn grow<A: Allocator + Clone>(
     dcel: &mut Mesh<A>,
     memory: A,
@@ -234,7 +234,7 @@ pub fn grow<A: Allocator + Clone>(
     }
 }
 
-/// Makes these calls, for which there is memory.
+/// Makes these calls, for which there is enough memory.
 pub fn grow_all<A: Allocator + Copy>(
     dcel: &mut Mesh<A>,
     memory: A,
@@ -247,14 +247,14 @@ pub fn grow_all<A: Allocator + Copy>(
     Ok(())
 }
 
-/// The mesh after these calls, from an empty one.
+/// Makes these calls on an empty mesh.
 pub fn grown(alloc: Global, growths: &[Growth]) -> Result<Mesh, Fail> {
     let mut dcel: Mesh = new(alloc)?;
     grow_all(&mut dcel, alloc, growths)?;
     Ok(dcel)
 }
 
-/// The mesh after these calls and then those.
+/// Makes these calls and then the others on an empty mesh.
 pub fn grown_on(alloc: Global, begun: &[Growth], growths: &[Growth]) -> Result<Mesh, Fail> {
     let mut dcel = grown(alloc, begun)?;
     grow_all(&mut dcel, alloc, growths)?;

@@ -1,4 +1,4 @@
-//! Lists of commands, and what they are answered.
+//! Lists of commands, and the replies to them.
 
 use crate::checks::{holds, same};
 use crate::commands::growing;
@@ -19,15 +19,15 @@ pub enum Said {
     Grow(Growth),
     /// A removal is opened.
     Open(Opener),
-    /// These edges and faces, which are given up, are taken out.
+    /// These edges and faces, which are given up, are removed.
     CleanUp(&'static [u32], &'static [u32]),
-    /// The vertex is taken out.
+    /// The vertex is removed.
     Remove(u32),
 }
 
 use Said::{CleanUp, Grow, Open, Remove};
 
-/// What a command is answered.
+/// The reply to a command.
 #[derive(Clone, Copy)]
 pub enum Answer {
     /// It was carried out.
@@ -40,11 +40,11 @@ pub enum Answer {
     Halves(u32, u32),
     /// The edges and the faces that are given up, and the new edges.
     Opened(&'static [u32], &'static [u32], &'static [u32]),
-    /// The datum of a vertex that was taken out, and the number of the vertex that moved in.
+    /// The datum of a removed vertex, and the old number of the vertex that moved into its place.
     Removed(i64, Option<u32>),
 }
 
-/// Commands, with their lists, in a memory.
+/// Commands, with their lists in an allocator's memory.
 pub type Commands<A> = Vec<Command<i64, A>, A>;
 
 fn opening<A: Allocator + Copy>(opener: Opener, memory: A) -> Result<Command<i64, A>, AllocError> {
@@ -108,7 +108,7 @@ fn is_removed(removed: &RemovalResult<i64>, datum: i64, moved: Option<u32>) -> b
     removed.removed_vertex == datum && removed.swapped_in_vertex == moved.map(vertex)
 }
 
-/// Whether a command was answered so.
+/// Returns whether this is the reply.
 fn is_answer<A: Allocator>(reply: &Reply<i64, A>, answer: Answer) -> bool {
     match (reply, answer) {
         (Reply::Ok, Answer::Done) => true,
@@ -125,7 +125,7 @@ fn is_answer<A: Allocator>(reply: &Reply<i64, A>, answer: Answer) -> bool {
     }
 }
 
-/// That commands were answered so.
+/// Checks that these are the replies.
 pub fn check_replies<A: Allocator>(
     replies: &[Reply<i64, A>],
     answers: &[Answer],

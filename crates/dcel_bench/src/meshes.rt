@@ -46,13 +46,13 @@ pub fn inner_face(index: u32) -> FixedFaceHandle<InnerTag> {
     FixedFaceHandle::new(index as usize)
 }
 
-/// Appends a vertex, and answers its handle.
+/// Appends a vertex, and returns its handle.
 pub fn append<A: Allocator>(dcel: &mut Mesh<A>, datum: i64) -> Result<FixedVertexHandle, Fail> {
     require!(dcel.has_room(1, 0, 0));
     Ok(append_unconnected_vertex(dcel, datum)?)
 }
 
-/// Turns an edge between two triangles.
+/// Flips an edge between two triangles.
 pub fn flip<A: Allocator>(dcel: &mut Mesh<A>, edge: u32) -> Result<(), Fail> {
     let edge = undirected_edge(edge);
     require!(dcel.can_flip(edge));
@@ -105,7 +105,7 @@ pub fn adjacent_edge<A: Allocator>(dcel: &Mesh<A>, index: usize) -> Result<Optio
     Ok(dcel.face_adjacent_edge(handle).map(|edge| edge.index()))
 }
 
-/// That all vertices have anchors, and these.
+/// Checks that all vertices have anchors, and these.
 pub fn check_out_edges<A: Allocator>(dcel: &Mesh<A>, anchors: &[u32]) -> Result<(), Fail> {
     same(dcel.num_vertices(), anchors.len(), "vertices")?;
     for (index, anchor) in anchors.iter().enumerate() {
@@ -116,7 +116,7 @@ pub fn check_out_edges<A: Allocator>(dcel: &Mesh<A>, anchors: &[u32]) -> Result<
     Ok(())
 }
 
-/// That all faces have anchors, and these.
+/// Checks that all faces have anchors, and these.
 pub fn check_adjacent_edges<A: Allocator>(dcel: &Mesh<A>, anchors: &[u32]) -> Result<(), Fail> {
     same(dcel.num_faces(), anchors.len(), "faces")?;
     for (index, anchor) in anchors.iter().enumerate() {
@@ -127,7 +127,7 @@ pub fn check_adjacent_edges<A: Allocator>(dcel: &Mesh<A>, anchors: &[u32]) -> Re
     Ok(())
 }
 
-/// What stands round a half edge: the next one and the one before that, where it starts and where the one before it ends, its face, its other
+/// The links of a half edge: the next one and the one before that, its origin and the end of the one before, its face, its other
 /// half and its edge.
 fn around<A: Allocator>(dcel: &Mesh<A>, edge: FixedDirectedEdgeHandle) -> Result<[usize; 7], Fail> {
     require!(edge.index() < dcel.num_directed_edges());
@@ -144,7 +144,7 @@ fn around<A: Allocator>(dcel: &Mesh<A>, edge: FixedDirectedEdgeHandle) -> Result
     ])
 }
 
-/// That a half edge leads so to the next one, from a vertex, along a face.
+/// Checks the next half edge, the origin and the face of a half edge.
 fn check_link<A: Allocator>(
     dcel: &Mesh<A>,
     [edge, next, from]: [u32; 3],
@@ -166,7 +166,7 @@ fn count_live_half_edges<A: Allocator>(dcel: &Mesh<A>) -> usize {
     count
 }
 
-/// That a face has this word. Answers how long that is.
+/// Checks that a face has this word, and returns its length.
 fn check_word<A: Allocator>(
     dcel: &Mesh<A>,
     face: usize,
@@ -186,7 +186,7 @@ fn check_word<A: Allocator>(
     Ok(word.len())
 }
 
-/// That the faces have these words and the half edges in them these origins, and that no other half edge is live.
+/// Checks that the faces have these words and the half edges in them these origins, and that no other half edge is live.
 pub fn check_links<A: Allocator>(
     dcel: &Mesh<A>,
     words: &[&[u32]],

@@ -35,7 +35,7 @@ pub fn handles<Kind, A: Allocator>(
     Ok(list)
 }
 
-/// What an opener answers; None where its lists or the mesh found no memory.
+/// What an opener returns; None if its lists or the mesh found no memory.
 pub type Opened<A> = Option<IsolateVertexResult<A>>;
 
 fn isolate<A: Allocator + Clone>(
@@ -85,7 +85,7 @@ fn cut_off<A: Allocator + Clone>(
     Ok(disconnect_edge_strip(dcel, strip).ok())
 }
 
-/// Opens a removal, once what the call asks is tested.
+/// Opens a removal after testing its conditions.
 pub fn open<A: Allocator + Copy>(
     dcel: &mut Mesh<A>,
     memory: A,

@@ -17,7 +17,7 @@ pub struct Picture {
     links: Vec<[usize; 4]>,
     vertex_data: Vec<i64>,
     face_data: Vec<i64>,
-    /// The datum of each half edge, and that of its edge.
+    /// The data of each half edge and of its edge.
     edge_data: Vec<[i64; 2]>,
 }
 
@@ -47,7 +47,7 @@ fn face_datum<A: Allocator>(dcel: &Mesh<A>, index: usize) -> Result<i64, Fail> {
     Ok(*dcel.face_data(handle))
 }
 
-/// The datum of a half edge, and that of its edge.
+/// The data of a half edge and of its edge.
 fn edge_data<A: Allocator>(dcel: &Mesh<A>, index: usize) -> Result<[i64; 2], Fail> {
     require!(index < dcel.num_directed_edges());
     let handle = FixedDirectedEdgeHandle::new(index);
@@ -59,7 +59,7 @@ fn edge_data<A: Allocator>(dcel: &Mesh<A>, index: usize) -> Result<[i64; 2], Fai
     ])
 }
 
-/// What the mesh is like, whose half edges are all live.
+/// Reads a mesh whose half edges are all live.
 pub fn picture_of<A: Allocator>(dcel: &Mesh<A>, alloc: Global) -> Result<Picture, Fail> {
     let mut seen = Picture {
         out_edges: Vec::new(alloc),

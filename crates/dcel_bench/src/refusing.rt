@@ -6,16 +6,16 @@ use std::cell::Cell;
 /// Which requests for memory are refused, by their numbers.
 #[derive(Drop)]
 struct Plan {
-    /// How many requests came.
+    /// The number of requests so far.
     requests: Cell<u64>,
-    /// The first that is refused.
+    /// The first refused request.
     first: Cell<u64>,
-    /// How many are refused from there on.
+    /// The number of refused requests from there on.
     count: Cell<u64>,
 }
 
 impl Plan {
-    /// Counts a request: whether it is refused.
+    /// Counts a request, and returns whether it is refused.
     fn refuses(&self) -> bool {
         let number = self.requests.get();
         self.requests.set(number.saturating_add(1));
@@ -23,7 +23,7 @@ impl Plan {
         number >= first && number - first < self.count.get()
     }
 
-    /// Counts from 0 again, and refuses so many requests from the first on.
+    /// Counts from 0 again, and refuses `count` requests from `first` on.
     fn refuse(&self, first: u64, count: u64) {
         self.requests.set(0);
         self.first.set(first);
@@ -31,7 +31,7 @@ impl Plan {
     }
 }
 
-/// Passes requests for memory on to another allocator, but for those that it was told to refuse. Blocks are given back to the other
+/// Passes requests for memory on to another allocator, except those that it is told to refuse. Blocks are given back to the other
 /// one. Contracts see nothing of what is refused. A mesh takes a `&Refusing`, which is an allocator that clones without memory.
 #[derive(Drop)]
 pub struct Refusing<B> {
@@ -62,7 +62,7 @@ impl<B> Refusing<B> {
         self.plan.refuse(number, u64::MAX);
     }
 
-    /// How many requests came since it was last told what to refuse.
+    /// The number of requests since it was last told what to refuse.
     pub fn requests(&self) -> u64 {
         self.plan.requests.get()
     }

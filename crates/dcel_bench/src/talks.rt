@@ -1,4 +1,4 @@
-//! Lines, the replies to them, and what a run over known lines answers.
+//! Lines, the replies to them, and the outcome of a run over known lines.
 
 ghost use Rattle.std.specs.Prelude.{◌≤◌, ◌^◌};
 
@@ -11,7 +11,7 @@ use std::io;
 use std::io::{Error, ErrorKind, Read, Write};
 use std::test::Fail;
 
-/// Lines with what each is answered.
+/// Lines with their replies.
 pub type Talk = &'static [(&'static str, &'static str)];
 
 /// A triangle.
@@ -31,7 +31,7 @@ pub fn push_line(text: &mut Vec<u8>, line: &str) -> Result<(), AllocError> {
     Ok(())
 }
 
-/// Adds the lines and what each is answered.
+/// Adds the lines and their replies.
 pub fn push_talk(
     lines: &mut Vec<u8>,
     replies: &mut Vec<u8>,
@@ -68,7 +68,7 @@ impl<'a> Read for Giver<'a> {
     }
 }
 
-/// Takes some bytes at a time, and fails where there is no room left.
+/// Takes some bytes at a time, and fails once there is no room left.
 #[derive(Drop)]
 struct Taker {
     bytes: Vec<u8>,
@@ -92,7 +92,7 @@ impl Write for Taker {
     }
 }
 
-/// What a run did.
+/// The outcome of a run.
 #[derive(Drop)]
 pub struct Ran {
     /// How it ended.
@@ -104,7 +104,7 @@ pub struct Ran {
 }
 
 /// Runs the lines with reads of `chunk` bytes that fail after `calls`, and writes of as many that fail
-/// after `room` bytes; answers how the run ended and what was written.
+/// after `room` bytes; returns how the run ended and what it wrote.
 pub fn answers(
     alloc: Global,
     limit: usize,
@@ -164,7 +164,7 @@ fn run_in<'a, A: Allocator + Clone>(
     }
 }
 
-/// Runs the lines with reads of one, three and all bytes: they are answered by these replies.
+/// Checks the replies to the lines in reads of one, three and all bytes.
 pub fn check_text_answered(
     alloc: Global,
     limit: usize,

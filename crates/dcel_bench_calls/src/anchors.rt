@@ -8,7 +8,7 @@ use dcel_bench::meshes::{Mesh, check_adjacent_edges, check_out_edges};
 use std::alloc::Global;
 use std::test::Fail;
 
-/// Calls that make a mesh and calls on it, and then the anchors of the vertices and those of the faces, each of which has one.
+/// Calls that make a mesh and calls on it, and then the anchors of the vertices and of the faces, each of which has one.
 type Row = (
     &'static [Growth],
     &'static [Growth],
@@ -85,7 +85,7 @@ const ROWS: [Row; 16] = [
     ),
 ];
 
-/// That these are the anchors of all vertices and faces.
+/// Checks that these are the anchors of all vertices and faces.
 pub fn check_anchors(dcel: &Mesh, out_edges: &[u32], adjacent_edges: &[u32]) -> Result<(), Fail> {
     check_out_edges(dcel, out_edges)?;
     check_adjacent_edges(dcel, adjacent_edges)

@@ -1,4 +1,4 @@
-//! Calls on a mesh, with their answers where there is memory.
+//! Calls on a mesh, with their results if there is memory.
 
 use dcel_bench::checks::same;
 use dcel_bench::growths::Growth::{Append, Close, Extend, SetUp};
@@ -13,7 +13,7 @@ use spade_dcel::operations::new;
 use std::alloc::Global;
 use std::test::Fail;
 
-/// Vertices, edges and faces, and whether an empty mesh has room for so many.
+/// Vertices, edges and faces, and whether an empty mesh has room for them.
 const ROOM: [([usize; 3], bool); 8] = [
     ([4_294_967_296, 2_147_483_648, 4_294_967_295], true),
     ([4_294_967_297, 0, 0], false),
@@ -46,7 +46,7 @@ fn room_is_counted(rt: HostRuntime) -> Result<(), Fail> {
 /// The anchor of a vertex, its number once it is borrowed, whether it ends a line, and whether it has no edge.
 type Asked = (Option<usize>, usize, bool, bool);
 
-/// The answers of the vertices where the first edge leads from vertex 1 to vertex 0, and vertex 2 stands beside it.
+/// The vertices of a mesh whose first edge leads from vertex 1 to vertex 0, with vertex 2 beside it.
 const VERTICES: [Asked; 3] = [
     (Some(1), 0, true, false),
     (Some(0), 1, true, false),
@@ -102,7 +102,7 @@ fn anchors_and_tests_answer(rt: HostRuntime) -> Result<(), Fail> {
     check_anchors_and_tests(&dcel)
 }
 
-/// Calls; half edges of the mesh then, and numbers that are none; and of these the bridges, and those where a face can be closed.
+/// Calls; half edges of the mesh then, and numbers out of range; the bridges among these, and those where a face can be closed.
 type Edges = (
     &'static [Growth],
     &'static [u32],
@@ -137,7 +137,7 @@ const EDGES: [Edges; 3] = [
     ),
 ];
 
-/// That of these half edges those are bridges, and at those a face can be closed.
+/// Checks which of these half edges are bridges, and at which a face can be closed.
 fn check_edges(dcel: &Mesh, edges: &[u32], bridges: &[u32], corners: &[u32]) -> Result<(), Fail> {
     for index in edges {
         let edge = half_edge(*index);
@@ -191,7 +191,7 @@ fn edges_are_found_by_their_ends(rt: HostRuntime) -> Result<(), Fail> {
     check_between(&dcel)
 }
 
-/// How many elements of each kind there are: those of the mesh, and those of its dual.
+/// The number of elements of each kind: of the mesh, and of its dual.
 fn elements(dcel: &Mesh) -> [usize; 7] {
     [
         VertexTag::num_elements(dcel),

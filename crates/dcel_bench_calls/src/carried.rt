@@ -17,13 +17,13 @@ use spade_dcel::operations::{
 use std::alloc::Global;
 use std::test::Fail;
 
-/// That the mesh is sound, and has so many vertices, half edges and faces.
+/// Checks that the mesh is sound, and its counts of vertices, half edges and faces.
 fn check(dcel: &Mesh, wanted: [usize; 3]) -> Result<(), Fail> {
     same(counts(dcel), wanted, "counts")?;
     holds(dcel.sanity_check(), "a sound mesh")
 }
 
-/// That the mesh after these calls and then those is sound, and has so many vertices, half edges and faces.
+/// Checks that the mesh after these calls and then the others is sound, and its counts of vertices, half edges and faces.
 fn check_grown(
     alloc: Global,
     begun: &[Growth],
@@ -152,7 +152,7 @@ fn check_not_listed(dcel: &Mesh, opened: &IsolateVertexResult<Global>) -> Result
     holds(!is_listed, "nothing is listed once it is cleaned up")
 }
 
-/// Takes a vertex out: it is given up with its border loop, and the hole is filled and cleaned up.
+/// Removes a vertex: it is given up with its border loop, and the hole is filled and cleaned up.
 fn take_out(
     dcel: &mut Mesh,
     center: FixedVertexHandle,
@@ -172,7 +172,7 @@ fn take_out(
     Ok(())
 }
 
-/// Takes a vertex inside triangles out: the mesh is then sound, and has so many vertices, half edges and faces.
+/// Removes a vertex inside triangles, and checks that the mesh is sound, and its counts of vertices, half edges and faces.
 fn check_removed(
     dcel: &mut Mesh,
     index: u32,

@@ -1,4 +1,4 @@
-//! Commands and the refusals that they get.
+//! Commands and their refusals.
 
 use dcel_bench::checks::{holds, same};
 use dcel_bench::commands::{carry_out, check_refused};
@@ -16,13 +16,13 @@ use dcel_commands::commands::{MAX_LIMIT, Refusal};
 use std::alloc::Global;
 use std::test::Fail;
 
-/// A limit, why commands are refused under it, and these commands.
+/// A limit, the refusal under it, and the commands refused.
 type Refused = (usize, Refusal, &'static [Growth]);
 
-/// A command, a limit that lets it be carried out, and how many vertices, half edges and faces there are then.
+/// A command, a limit that allows it, and the counts of vertices, half edges and faces after it.
 type CarriedOut = (Growth, usize, [usize; 3]);
 
-/// Calls that make a mesh, and more of them; commands that it refuses; and commands of which each is carried out on such a mesh.
+/// Calls that make a mesh, and more of them; commands that it refuses; and commands each carried out on such a mesh.
 type Row = (
     &'static [Growth],
     &'static [Growth],
@@ -178,7 +178,7 @@ fn the_greatest_limit_is_that_of_the_program(_rt: HostRuntime) -> Result<(), Fai
     same(MAX_LIMIT, NO_LIMIT, "the greatest limit")
 }
 
-/// That each of these commands is refused so.
+/// Checks that each of these commands gets its refusal.
 fn check_each_refused(dcel: &mut Mesh, refused: &Refused) -> Result<(), Fail> {
     let (limit, why, growths) = *refused;
     for growth in growths {
@@ -187,7 +187,7 @@ fn check_each_refused(dcel: &mut Mesh, refused: &Refused) -> Result<(), Fail> {
     Ok(())
 }
 
-/// That the mesh refuses what it is to refuse, and carries the command out then.
+/// Checks that the mesh refuses the commands to be refused, and then carries out the command.
 fn check_command(
     dcel: &mut Mesh,
     refused: &[Refused],
@@ -206,7 +206,7 @@ fn check_command(
     )
 }
 
-/// That each command of a row is carried out on a mesh that has refused what it is to refuse.
+/// Checks that each command of a row is carried out on a mesh that has refused the commands to be refused.
 fn check_row(alloc: Global, row: &Row) -> Result<(), Fail> {
     let (begun, growths, refused, carried_out) = *row;
     for command in carried_out {

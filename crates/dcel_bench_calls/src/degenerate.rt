@@ -11,10 +11,10 @@ use spade_dcel::operations::remove_when_degenerate;
 use std::alloc::{Allocator, Global};
 use std::test::Fail;
 
-/// A vertex's datum, and the number that the vertex had which gets its number.
+/// A vertex's datum, and the old number of the vertex that moves into its place.
 pub type Removed = (i64, Option<usize>);
 
-/// Calls that make a path, a vertex of it that is removed, and the answer; then the links that are left, the anchors of the vertices, and that
+/// Calls that make a path, the vertex to remove, and the result; then the links that are left, the anchors of the vertices, and the anchor
 /// of the outer face.
 type Row = (
     &'static [Growth],
@@ -106,7 +106,7 @@ pub fn remove<A: Allocator>(dcel: &mut Mesh<A>, index: u32) -> Result<Removed, F
     Ok((removed.removed_vertex, moved))
 }
 
-/// That the vertex of the row is removed as it says.
+/// Checks the removal of the row's vertex.
 fn check_removed(dcel: &mut Mesh, row: &Row) -> Result<(), Fail> {
     let (_, index, answer, links, out_edges, adjacent_edges) = *row;
     let found = remove(dcel, index)?;
@@ -128,7 +128,7 @@ fn vertices_of_paths_are_removed(rt: HostRuntime) -> Result<(), Fail> {
     Ok(())
 }
 
-/// That one vertex without an edge is left, and the outer face.
+/// Checks that one vertex without an edge is left, and the outer face.
 fn check_alone(dcel: &Mesh) -> Result<(), Fail> {
     same(counts(dcel), [1, 0, 1], "counts of one vertex")?;
     same(out_edge(dcel, 0)?, None, "the anchor of the vertex")?;
@@ -140,7 +140,7 @@ fn check_alone(dcel: &Mesh) -> Result<(), Fail> {
     holds(!dcel.can_remove_degenerate(vertex(1)), "no vertex 1")
 }
 
-/// That the last two vertices are removed with these answers.
+/// Checks that the last two vertices are removed with these results.
 fn check_both_removed(
     dcel: &mut Mesh,
     index: u32,

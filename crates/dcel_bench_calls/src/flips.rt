@@ -1,4 +1,4 @@
-//! Edges turned between two triangles.
+//! Edges flipped between two triangles.
 
 use crate::anchors::check_anchors;
 use crate::carried::number_between;
@@ -65,7 +65,7 @@ fn edges_are_flipped(rt: HostRuntime) -> Result<(), Fail> {
     Ok(())
 }
 
-/// That the anchors of the vertices and of the faces are these once an edge of a cut triangle is flipped.
+/// Checks that the anchors of the vertices and of the faces are these once an edge of a cut triangle is flipped.
 fn check_moved(
     alloc: Global,
     edge: u32,
@@ -83,7 +83,7 @@ fn anchors_move_on(rt: HostRuntime) -> Result<(), Fail> {
     check_moved(rt.alloc(), 0, &[6, 2, 4, 7], &[0, 1, 5, 3])
 }
 
-/// Flips the edge of two vertices, which it then joins no longer.
+/// Flips the edge between two vertices, which it then no longer joins.
 fn check_flip(dcel: &mut Mesh) -> Result<(), Fail> {
     let edge = number_between(dcel, 0, 3)?;
     flip(dcel, edge / 2)?;
@@ -97,7 +97,7 @@ fn test_flip(rt: HostRuntime) -> Result<(), Fail> {
     check_flip(&mut dcel)
 }
 
-/// Calls and then flips, and edges of which it is said whether they can be flipped then.
+/// Calls and then flips, and whether edges can be flipped then.
 type Flippable = (&'static [Growth], &'static [u32], &'static [(u32, bool)]);
 
 const FLIPPABLE: [Flippable; 5] = [
@@ -144,7 +144,7 @@ const FLIPPABLE: [Flippable; 5] = [
     ),
 ];
 
-/// That of these edges those can be flipped of which it is said.
+/// Checks which of these edges can be flipped.
 fn check_flippable(dcel: &Mesh, edges: &[(u32, bool)]) -> Result<(), Fail> {
     for (edge, is_flippable) in edges {
         let found = dcel.can_flip(undirected_edge(*edge));

@@ -1,4 +1,4 @@
-//! Tests of calls: what they answer, and the links and anchors that they leave.
+//! Tests of calls: what they return, and the links and anchors that they leave.
 #![tactic(auto)]
 
 #[cfg(test)]

@@ -72,7 +72,7 @@ const ROWS: [Row; 8] = [
     ),
 ];
 
-/// That these are the links of the mesh, which is sound.
+/// Checks that these are the links of the mesh, which is sound.
 pub fn check_sound(dcel: &Mesh, (words, origins): Links) -> Result<(), Fail> {
     check_links(dcel, words, origins)?;
     holds(dcel.sanity_check(), "a sound mesh")

@@ -14,8 +14,8 @@ use spade_dcel::operations::new;
 use std::alloc::Global;
 use std::test::Fail;
 
-/// A list of commands under a limit: what those are answered that are carried out; why the next one is refused, if one is, and the data
-/// that come back; and how many vertices there are then, and the links.
+/// A list of commands under a limit: the replies of those carried out; the refusal of the next one, if any, and the data
+/// handed back; and the count of vertices and the links at the end.
 struct Row {
     limit: usize,
     commands: &'static [Said],
@@ -50,7 +50,7 @@ const ROWS: [Row; 7] = [
         vertices: 2,
         links: (&[&[0, 1]], &[0, 1]),
     },
-    // The limit is passed, and the data come back.
+    // The limit is passed, and the data are handed back.
     Row {
         limit: 1,
         commands: &[Grow(Append(5)), Grow(Append(6))],
@@ -124,7 +124,7 @@ const ROWS: [Row; 7] = [
     },
 ];
 
-/// That the list was carried out, or stopped, as the row says.
+/// Checks that the list was carried out, or stopped, as the row says.
 fn check_outcome(outcome: Result<Vec<Reply<i64>>, StoppedAt<i64>>, row: &Row) -> Result<(), Fail> {
     match (outcome, row.refused) {
         (Ok(replies), None) => check_replies(&replies, row.answers),
@@ -139,7 +139,7 @@ fn check_outcome(outcome: Result<Vec<Reply<i64>>, StoppedAt<i64>>, row: &Row) ->
     }
 }
 
-/// That the commands of a row are answered as it says on an empty mesh, and leave the mesh that it says.
+/// Checks the replies to the commands of a row on an empty mesh, and the mesh that they leave.
 fn check_row(row: &Row, alloc: Global) -> Result<(), Fail> {
     require!(row.limit <= NO_LIMIT);
     let mut dcel = new(alloc)?;

@@ -1,4 +1,4 @@
-//! Calls that take no memory, where every request for it is refused.
+//! Calls that take no memory, with every request refused.
 
 use crate::degenerate::remove;
 use crate::flips::FLIPPED_ONCE;

@@ -1,4 +1,4 @@
-//! The tests of what calls ask that open a removal.
+//! The tests of the conditions of openers.
 
 use dcel_bench::checks::same;
 use dcel_bench::growths::cut_triangle;
@@ -11,7 +11,7 @@ use spade_dcel::handles::{
 use std::alloc::{AllocError, Global};
 use std::test::Fail;
 
-/// Calls on a cut triangle, and whether it has what they ask.
+/// Calls on a cut triangle, and whether it meets their conditions.
 const OPENERS: [(Opener, bool); 10] = [
     (Isolate(3, &[1, 3, 5]), true),
     (Isolate(0, &[1, 3, 5]), false),
@@ -49,7 +49,7 @@ fn is_strip(dcel: &Mesh, alloc: Global, strip: &[u32]) -> Result<bool, AllocErro
     Ok(dcel.is_edge_strip(&strip))
 }
 
-/// Whether the mesh has what the call asks.
+/// Returns whether the mesh meets the conditions of the call.
 fn can_open(dcel: &Mesh, alloc: Global, opener: Opener) -> Result<bool, AllocError> {
     match opener {
         Isolate(center, border) => is_border(dcel, alloc, center, border),

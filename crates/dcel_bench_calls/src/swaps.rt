@@ -11,7 +11,7 @@ use std::test::Fail;
 /// The anchor of a vertex, and its datum.
 type Vertex = (Option<usize>, i64);
 
-/// Two vertices that are swapped, and the numbers that the vertices of the mesh have then.
+/// Two vertices that are swapped, and the numbers of the mesh's vertices after that.
 type Swap = (u32, u32, &'static [u32]);
 
 /// Calls that make a mesh, its links, its vertices, and whether it is sound; and swaps one after another.
@@ -47,7 +47,7 @@ const ROWS: [Row; 6] = [
             (1, 1, &[0, 1, 3, 2]),
         ],
     },
-    // Two swaps are none.
+    // A swap is undone by another.
     Row {
         growths: &CUT,
         links: CUT_TRIANGLE,
@@ -108,7 +108,7 @@ fn read_vertex(dcel: &Mesh, number: u32) -> Result<(Vertex, bool), Fail> {
     Ok(((anchor, datum), dcel.is_unconnected(handle)))
 }
 
-/// That the vertices with these numbers are these, and there are no others.
+/// Checks the vertices with these numbers, and that there are no others.
 fn check_vertices(dcel: &Mesh, vertices: &[Vertex], numbers: &[u32]) -> Result<(), Fail> {
     same(dcel.num_vertices(), vertices.len(), "vertices")?;
     same(numbers.len(), vertices.len(), "numbers")?;
@@ -136,7 +136,7 @@ fn renumbered(origins: &[u32], numbers: &[u32], alloc: Global) -> Result<Vec<u32
     Ok(list)
 }
 
-/// That the mesh is that of the row, but for the numbers of its vertices, which are these.
+/// Checks that the mesh is the row's, except that its vertices have these numbers.
 fn check_numbers(dcel: &Mesh, row: Row, numbers: &[u32], alloc: Global) -> Result<(), Fail> {
     let (words, origins) = row.links;
     let origins = renumbered(origins, numbers, alloc)?;
@@ -149,7 +149,7 @@ fn check_numbers(dcel: &Mesh, row: Row, numbers: &[u32], alloc: Global) -> Resul
     )
 }
 
-/// That each swap leaves the numbers that the row says.
+/// Checks that each swap leaves the numbers that the row says.
 fn check_swaps(dcel: &mut Mesh, row: Row, alloc: Global) -> Result<(), Fail> {
     for (first, second, numbers) in row.swaps {
         swap(dcel, *first, *second)?;

@@ -1,4 +1,4 @@
-//! What `{:?}` writes for borrowed handles.
+//! The `{:?}` texts of borrowed handles.
 
 use crate::borrowed::{live_half_edge, vertex_of};
 use dcel_bench::checks::{holds, same};
@@ -74,7 +74,7 @@ fn face_text(dcel: &Mesh, index: u32, alloc: Global) -> Result<String, Fail> {
     Ok(format!(in alloc; "{face:?}")?)
 }
 
-/// What `{:?}` writes for the handle.
+/// Returns the `{:?}` text of the handle.
 fn text_of(dcel: &Mesh, handle: Handle, alloc: Global) -> Result<String, Fail> {
     match handle {
         Vertex(index) => Ok(format!(in alloc; "{:?}", vertex_of(dcel, index)?)?),

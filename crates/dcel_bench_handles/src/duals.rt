@@ -159,7 +159,7 @@ fn numbers(edges: [DirectedVoronoiEdge<'_, i64, i64, i64, i64>; 3]) -> [usize; 3
     [first.index(), second.index(), third.index()]
 }
 
-/// Of a vertex of the Voronoi diagram the face, the edges out of it, and one of them.
+/// The face of a vertex of the Voronoi diagram, the edges out of it, and one of them.
 type Corner = (Option<usize>, Option<[usize; 3]>, usize);
 
 /// Half edges, each with the start of its dual.
@@ -206,7 +206,7 @@ fn round_face(dcel: &Mesh, index: u32, alloc: Global) -> Result<Vec<usize>, Fail
     Ok(listed)
 }
 
-/// The first four answers from the back of the edges round the Voronoi face of a vertex.
+/// The first four results of `next_back` on the edges round the Voronoi face of a vertex.
 fn round_face_from_the_back(dcel: &Mesh, index: u32) -> Result<[Option<usize>; 4], Fail> {
     let mut edges = vertex_of(dcel, index)?.as_voronoi_face().adjacent_edges();
     let mut taken = [None; 4];

@@ -1,4 +1,4 @@
-//! Steps of a caller's own, written against the public trait alone.
+//! A caller's own steps, over the public trait alone.
 
 ghost use Rattle.dcel_bench_handles.specs.Steps.{rev_lawful};
 ghost use Rattle.dcel_fixed.specs.HalfEdges.{rev};

@@ -25,7 +25,7 @@ enum End {
 
 use End::{Back, Front};
 
-/// A vertex or a half edge that a walk begins at, the ends that are taken from, and the half edges that these are, one after another, and
+/// A vertex or a half edge where a walk begins, the ends to take from, and the half edges taken, one after another, and
 /// then none.
 type Walk = (u32, &'static [End], &'static [usize]);
 
@@ -110,7 +110,7 @@ fn own_steps_lead_round(rt: HostRuntime) -> Result<(), Fail> {
     check_walks::<PrevNextBackFn>(&dcel, &PREV_WALKS)
 }
 
-/// How many inner faces were left, and which one then came from the back, four times; and whether none then comes from the front.
+/// The number of inner faces left and the next one from the back, four times; and whether none then comes from the front.
 fn inner_faces_from_the_back(dcel: &Mesh) -> ([(usize, Option<usize>); 4], bool) {
     let mut faces = dcel.inner_faces();
     let mut taken = [(0, None); 4];
@@ -132,7 +132,7 @@ fn inner_faces_come_from_the_back(rt: HostRuntime) -> Result<(), Fail> {
     )
 }
 
-/// How many half edges come out of a vertex, from the front and from the back.
+/// The number of half edges out of a vertex, from the front and from the back.
 fn degrees(dcel: &Mesh, index: u32) -> Result<[usize; 2], Fail> {
     let start = vertex_of(dcel, index)?;
     Ok([start.out_edges().count(), start.out_edges().rev().count()])
@@ -158,7 +158,7 @@ fn origin(dcel: &Mesh, index: usize) -> Result<usize, Fail> {
     Ok(dcel.directed_edge(handle).from().index())
 }
 
-/// That the half edges out of a vertex start there, and are listed the other way round from the back.
+/// Checks that the half edges out of a vertex start there, and are listed in reverse from the back.
 fn check_places(dcel: &Mesh, index: u32) -> Result<(), Fail> {
     for place in 0..3 {
         let edge = at_place(dcel, index, place)?;
@@ -178,7 +178,7 @@ fn test_cw_iterator(rt: HostRuntime) -> Result<(), Fail> {
     check_places(&dcel, 0)
 }
 
-/// How many items the iterators of a mesh list: its vertices, half edges, undirected edges, faces, inner faces, and hull, and the fixed
+/// The lengths of a mesh's iterators: its vertices, half edges, undirected edges, faces, inner faces, and hull, and the fixed
 /// handles of vertices and faces.
 type Lengths = [usize; 8];
 
@@ -212,7 +212,7 @@ fn elements_are_counted(rt: HostRuntime) -> Result<(), Fail> {
     Ok(())
 }
 
-/// How many faces, half edges and edges the Voronoi diagram lists.
+/// The numbers of faces, half edges and edges that the Voronoi diagram lists.
 fn dual_lengths(dcel: &Mesh) -> [usize; 3] {
     [
         VoronoiFaceIterator::new(dcel).len(),

@@ -1,4 +1,4 @@
-//! Lines that are none: words with other numbers or other lists than they want.
+//! Bad lines: words with the wrong numbers or lists.
 
 use dcel_bench::meshes::NO_LIMIT;
 use dcel_bench::talks::{check_text_answered, push_line};
@@ -109,7 +109,7 @@ const BAD: [(&str, &[&str]); 17] = [
     ("remesh", &NOT_THREE_LISTS),
 ];
 
-/// That the word with each of these behind it makes a bad line.
+/// Checks that the word with each of these behind it makes a bad line.
 fn check_bad(alloc: Global, word: &str, endings: &[&str]) -> Result<(), Fail> {
     let mut lines = Vec::new(alloc);
     let mut replies = Vec::new(alloc);

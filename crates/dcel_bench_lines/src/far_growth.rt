@@ -17,7 +17,7 @@ fn push_append(
     push_line(replies, &format!(in alloc; "vertex {vertex}")?)
 }
 
-/// Adds lines that append vertices, up to so many, to a triangle and put each into face 1, which keeps its anchor and is a triangle again.
+/// Adds lines that append the vertices from 3 on to a triangle and put each into face 1, which keeps its anchor and is a triangle again.
 fn push_inserts(
     alloc: Global,
     lines: &mut Vec<u8>,
@@ -32,7 +32,7 @@ fn push_inserts(
     Ok(())
 }
 
-/// That the lines are answered so.
+/// Checks the replies to the lines.
 fn check_talk(alloc: Global, lines: &[u8], replies: &[u8]) -> Result<(), Fail> {
     let (ended, written) = answers(alloc, NO_LIMIT, lines, PLENTY, PLENTY, PLENTY);
     ended?;

@@ -66,7 +66,7 @@ struct Whole {
     lines: Vec<u8>,
     replies: Vec<u8>,
 
-    /// How many bytes of the replies answer the lines that end within so many bytes of the talk.
+    /// For each number of bytes of the talk, the length of the replies to the lines that end within them.
     due: Vec<usize>,
 }
 
@@ -107,8 +107,8 @@ fn check_fault(
     same(written.as_slice(), wanted, what)
 }
 
-/// Has each read of `chunk` bytes fail in turn, the last one too, which finds no byte left: the lines
-/// that were read whole are answered.
+/// Makes each read of `chunk` bytes fail in turn, also the last one, which finds no byte left: the lines
+/// read whole get their replies.
 fn check_reads(alloc: Global, whole: &Whole, chunk: usize) -> Result<(), Fail> {
     let mut bytes = 0usize;
     for reads in 0..whole.due.len() {
@@ -133,7 +133,7 @@ fn each_read_fails(rt: HostRuntime) -> Result<(), Fail> {
     Ok(())
 }
 
-/// Has a write fail after each number of bytes, in reads and writes of `chunk` bytes: that many are
+/// Makes a write fail after each number of bytes, in reads and writes of `chunk` bytes: that many are
 /// written.
 fn check_writes(alloc: Global, whole: &Whole, chunk: usize) -> Result<(), Fail> {
     for room in 0..whole.replies.len() {

@@ -17,7 +17,7 @@ fn many_lines_are_answered(rt: HostRuntime) -> Result<(), Fail> {
     check_text_answered(rt.alloc(), 3, &lines, &replies)
 }
 
-/// What comes after many bytes `x`, and what all is answered.
+/// What comes after many bytes `x`, and the reply to it all.
 const AFTER_BYTES: [(&str, &str); 4] = [
     ("", "bad line\n"),
     ("\n", "bad line\n"),
@@ -25,7 +25,7 @@ const AFTER_BYTES: [(&str, &str); 4] = [
     ("\nappend 5", "bad line\nvertex 0\n"),
 ];
 
-/// That the lines are answered so in reads of one byte, of 4096 and of all.
+/// Checks the replies to the lines in reads of one byte, of 4096 and of all.
 fn check_long(alloc: Global, lines: &[u8], replies: &[u8]) -> Result<(), Fail> {
     for chunk in [1, 4096, PLENTY] {
         let (ended, written) = answers(alloc, 3, lines, chunk, PLENTY, PLENTY);
@@ -37,7 +37,7 @@ fn check_long(alloc: Global, lines: &[u8], replies: &[u8]) -> Result<(), Fail> {
     Ok(())
 }
 
-/// That so many bytes `x` are one bad line, whatever comes after them.
+/// Checks that this many bytes `x` are one bad line, whatever comes after them.
 fn check_after_bytes(alloc: Global, count: usize) -> Result<(), Fail> {
     for (text, replies) in AFTER_BYTES {
         let mut lines = vec![in alloc; b'x'; count]?;
@@ -55,7 +55,7 @@ fn long_lines_are_one_bad_line(rt: HostRuntime) -> Result<(), Fail> {
     Ok(())
 }
 
-/// What a line begins with, how many zeros follow in a list, and the reply: a line has 4096 bytes at
+/// The beginning of a line, the number of zeros that follow in a list, and the reply: a line has 4096 bytes at
 /// most.
 const LONG_LISTS: [(&str, usize, &str); 4] = [
     ("strip 10", 2044, "refused 2 NoSuchEdge"),

@@ -1,4 +1,4 @@
-//! Std readers and writers below sources and sinks: how often they are asked, and what each call answers.
+//! Std readers and writers below sources and sinks: how often they are called, and what each call returns.
 
 use crate::texts::answer_text;
 use dcel_bench::checks::{holds, same};
@@ -59,7 +59,7 @@ impl Write for ScriptedWriter<'_, '_> {
     }
 }
 
-/// How much room there is (up to 8), what is given, and how many reads were made by then.
+/// The room (up to 8), what is given, and the number of reads so far.
 type Fill = (usize, Option<&'static str>, usize);
 
 /// The script of a reader, and calls of `fill`.
@@ -110,7 +110,7 @@ const FILLS: [(&[Option<&str>], &[Fill]); 6] = [
             (8, Some(""), 4),
         ],
     ),
-    // The end is remembered. Where there is no room, nothing is no end.
+    // The end is remembered. An empty read into no room is not the end.
     (
         &[Some("ab"), Some(""), None, Some(""), Some("more")],
         &[
@@ -125,7 +125,7 @@ const FILLS: [(&[Option<&str>], &[Fill]); 6] = [
     ),
 ];
 
-/// That a source over the script fills so, one call after another.
+/// Checks what a source over the script fills, one call after another.
 fn check_fills(script: &[Option<&'static str>], calls: &[Fill]) -> Result<(), Fail> {
     let reads = Cell::new(0);
     let mut source = StdSource::new(ScriptedReader {
@@ -155,10 +155,10 @@ fn a_source_reads_once_a_call(rt: HostRuntime) -> Result<(), Fail> {
     Ok(())
 }
 
-/// A text that is put, how many bytes are taken, and how many writes were made by then.
+/// A text that is put, the number of bytes taken, and the number of writes so far.
 const PUTS: [(&str, Option<usize>, usize); 6] = [
     ("abc", Some(2), 1),
-    // To take nothing of a text is a failure, and of none it isn't.
+    // Taking nothing of a text is a failure, but not if the text is empty.
     ("c", None, 2),
     ("c", None, 3),
     ("cd", Some(2), 4),
@@ -185,14 +185,14 @@ fn a_sink_writes_once_a_call(rt: HostRuntime) -> Result<(), Fail> {
     same(bytes.as_slice(), b"abcd".as_slice(), "what is written")
 }
 
-/// That the text is read at once, into a buffer that is longer or as long.
+/// Checks that the text is read at once, into a buffer that is longer or as long.
 fn check_read(text: &[u8], buf: &mut [u8]) -> Result<(), Fail> {
     let mut source = StdSource::new(text);
     same(source.fill(buf).ok(), Some(text.len()), "bytes given")?;
     holds(source.into_inner().is_empty(), "nothing left")
 }
 
-/// That the text is put at once.
+/// Checks that the text is put at once.
 fn check_put(alloc: Global, text: &[u8]) -> Result<(), Fail> {
     let mut sink = StdSink::new(Vec::new(alloc));
     same(sink.put(text).ok(), Some(text.len()), "bytes taken")?;
@@ -210,7 +210,7 @@ fn texts_of_each_length_are_read_and_put(rt: HostRuntime) -> Result<(), Fail> {
     Ok(())
 }
 
-/// The script of a reader, that of a writer, how a run between them ended, how many reads and writes were made, and what was written.
+/// The scripts of a reader and a writer, how a run between them ended, the numbers of reads and writes, and what was written.
 type Run = (
     &'static [Option<&'static str>],
     &'static [Option<usize>],
@@ -222,7 +222,7 @@ type Run = (
 
 /// Runs in which transfers fail, and some in which none does.
 const RUNS: [Run; 13] = [
-    // Whichever read fails, it is the last one, and what came before is answered.
+    // Whichever read fails, it is the last one, and what came before gets its replies.
     (&[None], &[], "read failed", 1, 0, ""),
     (&[Some("wor"), None], &[], "read failed", 2, 0, ""),
     (
@@ -302,7 +302,7 @@ pub fn fault_name(ended: Result<(), RunFault>) -> &'static str {
     }
 }
 
-/// That a run between a reader and a writer with these scripts is as the row says.
+/// Checks that a run between a reader and a writer with these scripts is as the row says.
 fn check_run(alloc: Global, wanted: Run) -> Result<(), Fail> {
     let (reader, writer, fault, reads_made, writes_made, written) = wanted;
     let reads = Cell::new(0);

@@ -19,8 +19,8 @@ use std::alloc::{AllocError, Global};
 /// A point with whole-number coordinates.
 pub type Point = (i32, i32);
 
-/// Flips edges of a mesh until none is left that can be flipped and is wanted. Answers whether it came to that with so many flips and the
-/// memory that there was.
+/// Flips edges of a mesh until none is left that can be flipped and is wanted. Returns whether it got that far with this many flips and the
+/// memory there was.
 pub fn settle<V, DE, UE, F, W>(
     dcel: &mut Dcel<V, DE, UE, F>,
     wanted: W,
@@ -40,7 +40,7 @@ where
     }
 }
 
-/// The edges of a mesh, those that are given up too.
+/// The edges of a mesh, also those given up.
 fn all_edges<V, DE, UE, F>(
     dcel: &Dcel<V, DE, UE, F>,
     alloc: Global,
@@ -69,11 +69,11 @@ pub fn is_in_circle(points: &[Point], [a, b, c, d]: &[FixedVertexHandle; 4]) -> 
     first.wrapping_add(second).wrapping_add(third) > 0
 }
 
-/// The way from the point of one vertex to that of another. The sums of products of four such numbers fit
+/// The vector between the points of two vertices. The sums of products of four such numbers fit
 /// 128 bits where coordinates are below 2^29.
 type Way = (i128, i128);
 
-/// The way to the point of a vertex from that of another one.
+/// The vector to the point of a vertex from the point of another one.
 fn from(points: &[Point], vertex: FixedVertexHandle, other: FixedVertexHandle) -> Option<Way> {
     let (x, y) = *points.get(vertex.index())?;
     let (other_x, other_y) = *points.get(other.index())?;
@@ -83,18 +83,18 @@ fn from(points: &[Point], vertex: FixedVertexHandle, other: FixedVertexHandle) -
     ))
 }
 
-/// The square of a way's length.
+/// The square of a vector's length.
 fn square((x, y): Way) -> i128 {
     x.wrapping_mul(x).wrapping_add(y.wrapping_mul(y))
 }
 
-/// Above 0 where the second way leads to the left of the first.
+/// Above 0 if the second vector leads to the left of the first.
 fn cross((x, y): Way, (other_x, other_y): Way) -> i128 {
     x.wrapping_mul(other_y)
         .wrapping_sub(y.wrapping_mul(other_x))
 }
 
-/// Whether the way from one vertex to another has a third vertex on its left.
+/// Returns whether a third vertex lies on the left of the way from one vertex to another.
 fn is_left(points: &[Point], [a, b]: [FixedVertexHandle; 2], vertex: FixedVertexHandle) -> bool {
     match (from(points, a, vertex), from(points, b, vertex)) {
         (Some(a), Some(b)) => cross(a, b) > 0,
@@ -200,7 +200,7 @@ mod tests {
         (6, 8),
     ];
 
-    /// That the mesh has these edges and no other.
+    /// Checks that the mesh has these edges and no other.
     fn check_edges(dcel: &Mesh, edges: &[(u32, u32)]) -> Result<(), Fail> {
         same(dcel.num_undirected_edges(), edges.len(), "edges")?;
         for (first, second) in edges {

@@ -57,7 +57,7 @@ fn face_data(dcel: &Mesh, index: usize) -> Result<[i64; 2], Fail> {
     Ok([*dcel.face_data(handle), *dcel.face(handle).data()])
 }
 
-/// The datum of an element. The element that is borrowed answers the same.
+/// Reads the datum of an element, also through the borrowed element.
 fn datum_of(dcel: &Mesh, kind: Kind, index: usize) -> Result<i64, Fail> {
     let [datum, borrowed] = match kind {
         Kind::Vertex => vertex_data(dcel, index)?,
@@ -102,7 +102,7 @@ const WRITES: [(Datum, usize, i64); 13] = [
     (Datum::InnerFace(3), 25, 403),
 ];
 
-/// Writes a datum: of the data that are expected it is the only one that changes.
+/// Writes a datum, and checks that no other changes.
 fn check_write(
     dcel: &mut Mesh,
     expected: &mut [i64],
@@ -145,13 +145,13 @@ fn a_writer_changes_one_datum(rt: HostRuntime) -> Result<(), Fail> {
     check_writes(&mut dcel, rt.alloc())
 }
 
-/// The number and the datum of the vertex that is found by this number.
+/// The number and the datum of the vertex found by this number.
 fn looked_up(dcel: &Mesh, index: u32) -> Option<(usize, i64)> {
     dcel.get_vertex(vertex(index))
         .map(|found| (found.index(), *found.data()))
 }
 
-/// Numbers, each with what is found by it.
+/// Numbers, each with the vertex found by it.
 const FOUND: [(u32, Option<(usize, i64)>); 5] = [
     (0, Some((0, 0))),
     (3, Some((3, 3))),

@@ -1,4 +1,4 @@
-//! What is written over this layer, with spade's names: a walk on the graph of a mesh, an editor that makes a mesh finer, and a reader
+//! Programs over this layer, with spade's names: a walk on the graph of a mesh, an editor that refines a mesh, and a reader
 //! of the Voronoi diagram. Each is proved for all data.
 
 ghost use Rattle.std.specs.Prelude.{◌<◌};
@@ -12,7 +12,7 @@ use spade_dcel::handles::{
 use spade_dcel::operations::{append_unconnected_vertex, flip_cw, insert_into_triangle};
 use std::alloc::{AllocError, Global};
 
-/// A graph walk: how many edges a shortest way has from one vertex to each other one, and None where none leads there.
+/// A graph walk: the length of a shortest way from one vertex to each other one, and None if there is no way.
 pub fn steps_from<V, DE, UE, F>(
     dcel: &Dcel<V, DE, UE, F>,
     start: FixedVertexHandle,
@@ -33,7 +33,7 @@ pub fn steps_from<V, DE, UE, F>(
     Ok(steps)
 }
 
-// Each neighbor that wasn't reached is, by so many steps.
+// Each neighbor not reached yet is reached in this many steps.
 fn reach_neighbors<V, DE, UE, F>(
     vertex: VertexHandle<'_, V, DE, UE, F>,
     step: usize,
@@ -49,8 +49,8 @@ fn reach_neighbors<V, DE, UE, F>(
     }
 }
 
-/// A mesh editor: puts a vertex into each inner triangle, and then turns each edge of before that has such a triangle on both sides. Where
-/// memory or numbers run out, the mesh is finer so far.
+/// A mesh editor: puts a vertex into each inner triangle, and then flips each old edge with such a triangle on both sides. If
+/// memory or numbers run out, the mesh is refined as far as that.
 pub fn refine<V: Copy + Drop, DE: Default + Drop, UE: Default + Drop, F: Default + Drop>(
     dcel: &mut Dcel<V, DE, UE, F>,
     datum: V,
@@ -76,7 +76,7 @@ fn is_on_hull<V, DE, UE, F>(dcel: &Dcel<V, DE, UE, F>, edge: FixedUndirectedEdge
         .is_part_of_convex_hull()
 }
 
-// A new vertex comes into the face, where that is a triangle.
+// Puts a new vertex into the face if it is a triangle.
 fn put_into<V: Drop, DE: Default + Drop, UE: Default + Drop, F: Default + Drop>(
     dcel: &mut Dcel<V, DE, UE, F>,
     datum: V,
@@ -142,14 +142,14 @@ mod tests {
         check_steps(&grown(rt.alloc(), &LINE_AND_VERTEX)?, rt.alloc())
     }
 
-    /// Makes the mesh finer: it has then so many elements.
+    /// Refines the mesh, and checks its counts.
     fn check_refined(dcel: &mut Mesh, wanted: [usize; 3]) -> Result<(), Fail> {
         refine(dcel, 7)?;
         same(counts(dcel), wanted, "counts")?;
         holds(dcel.sanity_check(), "a sound mesh")
     }
 
-    /// That no edge leads from vertex 3 to a corner.
+    /// Checks that no edge leads from vertex 3 to a corner.
     fn check_no_spokes(dcel: &Mesh) -> Result<(), Fail> {
         for corner in 0..3 {
             let spoke = edge_between(dcel, 3, corner)?;

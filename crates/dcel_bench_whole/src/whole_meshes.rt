@@ -21,12 +21,12 @@ pub const MANY: u64 = 20;
 /// A mesh whose memory may be refused.
 type Watched<'a> = Mesh<&'a Refusing<Global>>;
 
-/// What was made, or that there was no memory.
+/// The result, or that there was no memory.
 fn made<T, B: Drop>(made: Result<T, NoMemory<B>>) -> Result<T, AllocError> {
     made.map_err(|_| AllocError)
 }
 
-/// Puts a datum behind those that a closure was handed before, two digits each.
+/// Appends a datum to those that a closure got before, two digits each.
 fn see(seen: &Cell<i64>, datum: i64) -> i64 {
     seen.set(seen.get().wrapping_mul(100).wrapping_add(datum));
     datum
@@ -46,7 +46,7 @@ fn edge_data<A: Allocator>(dcel: Mesh<A>, alloc: A) -> Result<i64, AllocError> {
     Ok(seen.get())
 }
 
-/// That the data of the vertices and those of the undirected edges are these, each list written as one number.
+/// Checks the data of the vertices and of the undirected edges, each list written as one number.
 fn check_data<A: Allocator + Copy>(dcel: Mesh<A>, alloc: A, wanted: [i64; 2]) -> Result<(), Fail> {
     let (vertices, dcel) = vertex_data(dcel, alloc)?;
     let edges = edge_data(dcel, alloc)?;
@@ -88,21 +88,21 @@ fn write_mapped(dcel: &mut Mesh) -> Result<(), Fail> {
     Ok(())
 }
 
-/// What a cut triangle is like with these data, written one by one.
+/// Reads a cut triangle with these data, written one by one.
 fn mapped_picture(alloc: Global) -> Result<Picture, Fail> {
     let mut dcel = cut_triangle(alloc)?;
     write_mapped(&mut dcel)?;
     picture_of(&dcel, alloc)
 }
 
-/// Makes room for so many more vertices, undirected edges and faces: whether there was memory.
+/// Reserves room for more vertices, undirected edges and faces, and returns whether there was memory.
 fn reserve<A: Allocator>(dcel: &mut Mesh<A>, room: [usize; 3]) -> Result<bool, Fail> {
     let [vertices, edges, faces] = room;
     require!(dcel.has_room(vertices, edges, faces));
     Ok(dcel.reserve_capacity(vertices, edges, faces).is_ok())
 }
 
-/// That the mesh is like this, with the data that [`mapped`] gives.
+/// Checks the mesh, with the data that [`mapped`] gives.
 fn check_mapped(dcel: Mesh, wanted: &Picture, alloc: Global) -> Result<(), Fail> {
     check_picture(&dcel, wanted, alloc)?;
     check_data(dcel, alloc, [10_11_12_13, 1_01_01_01_01_01])
@@ -139,7 +139,7 @@ fn data_are_mapped_to_another_type(rt: HostRuntime) -> Result<(), Fail> {
 /// The links of three vertices with an edge from vertex 2 to vertex 0.
 const FIXED: Links = (&[&[0, 1]], &[2, 0]);
 
-/// That the mesh has three vertices, and an edge from vertex 2 to vertex 0.
+/// Checks that the mesh has three vertices, and an edge from vertex 2 to vertex 0.
 fn check_fixed_links<A: Allocator>(dcel: &Mesh<A>) -> Result<(), Fail> {
     same(counts(dcel), [3, 2, 1], "counts")?;
     check_links(dcel, FIXED.0, FIXED.1)?;
@@ -149,7 +149,7 @@ fn check_fixed_links<A: Allocator>(dcel: &Mesh<A>) -> Result<(), Fail> {
     same(outer, Some(0), "the anchor of the outer face")
 }
 
-/// That the mesh has vertices 0, 1, 2 with the data 5, 6, 7, and an edge from vertex 2 to vertex 0.
+/// Checks that the mesh has vertices 0, 1, 2 with the data 5, 6, 7, and an edge from vertex 2 to vertex 0.
 fn check_fixed<A: Allocator + Copy>(dcel: Mesh<A>, alloc: A) -> Result<(), Fail> {
     check_fixed_links(&dcel)?;
     check_data(dcel, alloc, [5_06_07, 0])
@@ -158,7 +158,7 @@ fn check_fixed<A: Allocator + Copy>(dcel: Mesh<A>, alloc: A) -> Result<(), Fail>
 /// Memory that may be refused.
 type Watching<'a> = &'a Refusing<Global>;
 
-/// A mesh of these vertices with an edge from vertex 2 to vertex 0. Without memory they come back.
+/// Makes a mesh of these vertices with an edge from vertex 2 to vertex 0. Without memory, the vertices are handed back.
 fn fixed<'a>(
     memory: Watching<'a>,
     vertices: Vec<i64, Watching<'a>>,
@@ -172,7 +172,7 @@ fn fixed<'a>(
     Ok(new_with_fixed_vertices(memory, vertices, from, to))
 }
 
-/// What was made of the vertices 5, 6, 7; where they came back, what is made of them now.
+/// The mesh of the vertices 5, 6, 7. If they were handed back, the mesh made of them now.
 fn fixed_at_last<'a>(
     memory: Watching<'a>,
     made: Result<Watched<'a>, NoMemory<Vec<i64, Watching<'a>>>>,
@@ -186,7 +186,7 @@ fn fixed_at_last<'a>(
     }
 }
 
-/// Makes a mesh of three vertices and an edge with the request of this number refused, and then again: whether so many requests came, and
+/// Makes a mesh of three vertices and an edge with the request of this number refused, and then again. Returns whether the request came, and
 /// the mesh.
 fn fixed_refused(number: u64, memory: Watching<'_>) -> Result<(bool, Watched<'_>), Fail> {
     let vertices = vec![in memory; 5, 6, 7]?;
@@ -199,7 +199,7 @@ fn fixed_refused(number: u64, memory: Watching<'_>) -> Result<(bool, Watched<'_>
     Ok((is_refused, fixed_at_last(memory, made)?))
 }
 
-/// Answers whether so many requests came for a mesh of three vertices and an edge, of which the one with this number was refused.
+/// Returns whether the making of a mesh of three vertices and an edge came to the request of this number, which is refused.
 fn are_fixed_vertices_refused(number: u64, alloc: Global) -> Result<bool, Fail> {
     let memory = Refusing::new(alloc);
     let (is_refused, dcel) = fixed_refused(number, &memory)?;
@@ -227,7 +227,7 @@ enum Call {
     ReserveCapacity,
 }
 
-/// Counts a call of a closure, which answers what it is handed.
+/// Counts a call of a closure, which returns what it is given.
 fn count(calls: &Cell<u64>, datum: i64) -> i64 {
     calls.set(calls.get().saturating_add(1));
     datum
@@ -267,8 +267,8 @@ fn reserve_nine(mut dcel: Watched<'_>) -> Result<(bool, Watched<'_>), Fail> {
     Ok((is_made, dcel))
 }
 
-/// Makes the call, and counts how often its closure is called: whether there was memory, and the mesh or its clone. Without memory the
-/// mesh that is answered is the one that came back.
+/// Makes the call, and counts the calls of its closure. Returns whether there was memory, and the mesh or its clone. Without memory, the
+/// mesh is the one handed back.
 fn make<'a>(
     call: Call,
     dcel: Watched<'a>,
@@ -290,7 +290,7 @@ fn cut(memory: Watching<'_>) -> Result<Watched<'_>, Fail> {
     Ok(dcel)
 }
 
-/// Makes the call with the request of this number refused: whether so many requests came, and the mesh. Where they did, its closure wasn't
+/// Makes the call with the request of this number refused. Returns whether the request came, and the mesh. If it came, the closure wasn't
 /// called.
 fn make_refused<'a>(
     which: Call,
@@ -312,7 +312,7 @@ fn make_refused<'a>(
     Ok((is_refused, dcel))
 }
 
-/// That the mesh is like this, with the data of a triangle that vertex 3 cuts into three.
+/// Checks the mesh, with the data of a triangle that vertex 3 cuts into three.
 fn check_kept<A: Allocator + Copy>(
     dcel: Mesh<A>,
     memory: A,
@@ -323,7 +323,7 @@ fn check_kept<A: Allocator + Copy>(
     check_data(dcel, memory, [1_02_03, 0])
 }
 
-/// Makes the call with the request of this number refused; answers whether so many requests came.
+/// Makes the call with the request of this number refused, and returns whether the request came.
 fn is_call_refused(which: Call, number: u64, alloc: Global) -> Result<bool, Fail> {
     let memory = Refusing::new(alloc);
     let dcel = cut(&memory)?;
@@ -333,7 +333,7 @@ fn is_call_refused(which: Call, number: u64, alloc: Global) -> Result<bool, Fail
     Ok(is_refused)
 }
 
-/// How many requests for memory a call makes, each of which is refused once.
+/// Returns the number of requests that a call makes, each of which is refused once.
 fn requests_of(which: Call, alloc: Global) -> Result<u64, Fail> {
     let mut requests = 0;
     for number in 0..MANY {
@@ -369,7 +369,7 @@ const CLOSED_LINE: [Growth; 6] = [
     Close(0),
 ];
 
-/// That nothing but the outer face is left.
+/// Checks that nothing but the outer face is left.
 fn check_cleared<A: Allocator>(dcel: &Mesh<A>) -> Result<(), Fail> {
     same(counts(dcel), [0, 0, 1], "counts of a cleared mesh")?;
     let has_anchor = dcel.outer_face().adjacent_edge().is_some();
@@ -418,14 +418,14 @@ const EIGHT_TRIANGLES: [Growth; 20] = [
     PutBeside(27, 9),
 ];
 
-/// Room for so many vertices, edges and faces, and a call that finds none left of one kind after the eight triangles.
+/// Room for vertices, edges and faces, and a call that finds none left of one kind after the eight triangles.
 const ROOM: [([usize; 3], Growth); 3] = [
     ([10, 17, 8], Append(10)),
     ([10, 17, 9], Close(9)),
     ([10, 18, 8], Close(9)),
 ];
 
-/// Makes room in an empty mesh, which grows there without a request for memory. The next call makes one.
+/// Reserves room in an empty mesh, which then grows without a request. The next call makes one.
 fn check_room<'a>(
     dcel: &mut Watched<'a>,
     memory: Watching<'a>,

@@ -6,13 +6,13 @@ use std::alloc::Global;
 use std::env;
 use std::rt::Env;
 
-/// The workloads, and the sizes, where no argument names others.
+/// The workloads, and the sizes, if no argument names others.
 const ALL_WORKLOADS: &str =
     "insert,insert_reserved,walk,walk_both_ends,faces,extend,hull,neighbors,split,flip,swap,clone,map,remove,legalize";
 
 const ALL_SIZES: &str = "1000,100000,1000000";
 
-/// What to run, and what to print of it.
+/// What to run, and what to print.
 #[derive(Drop)]
 pub struct Arguments {
     pub workloads: Vec<Workload>,
@@ -21,7 +21,7 @@ pub struct Arguments {
     /// Whether half edges, edges and faces have data too.
     pub is_full: bool,
 
-    /// Whether a line shows how long an operation took.
+    /// Whether a line shows the time of an operation.
     pub shows_times: bool,
 }
 
@@ -46,7 +46,7 @@ impl Arguments {
         Ok(arguments)
     }
 
-    /// Takes a word that stands after the lists.
+    /// Reads a word after the two lists.
     fn heed(&mut self, word: &str) -> Result<(), Fault> {
         match word {
             "full" => self.is_full = true,
@@ -57,14 +57,14 @@ impl Arguments {
     }
 }
 
-/// The workloads of a list, whose names have commas between them.
+/// Reads a list of workloads, separated by commas.
 fn workloads_of(alloc: Global, list: &str) -> Result<Vec<Workload>, Fault> {
     list.split(',')
         .map(|name| Workload::parse(name).ok_or(Fault::BadArguments))
         .try_collect(alloc)
 }
 
-/// The sizes of a list, with commas between them.
+/// Reads a list of sizes, separated by commas.
 fn sizes_of(alloc: Global, list: &str) -> Result<Vec<u32>, Fault> {
     list.split(',')
         .map(|digits| digits.parse().map_err(|_| Fault::BadArguments))

@@ -1,4 +1,4 @@
-//! Whole meshes, cloned, and with other data.
+//! Whole meshes, cloned or mapped to other data.
 
 use crate::digest::{digest_of, mix};
 use crate::fault::{BuildError, Fault};
@@ -45,13 +45,13 @@ pub fn map<D: Default + Drop + Clone>(
     })
 }
 
-/// The mesh with 3x + 1 in the place of each vertex's datum x.
+/// Maps the datum x of each vertex to 3x + 1.
 fn with_other_data<D: Drop>(dcel: Mesh<D>, alloc: Global) -> Result<Mesh<D>, BuildError> {
     let mapped = dcel.map_vertices(alloc, |datum| datum.wrapping_mul(3).wrapping_add(1))?;
     Ok(mapped)
 }
 
-/// The data of the vertices, mixed together in their order.
+/// Mixes the data of the vertices into one number, in order.
 fn folded_data<D>(dcel: &Mesh<D>) -> u64 {
     let mut sum: u64 = 0;
     for vertex in dcel.vertices() {

@@ -1,4 +1,4 @@
-//! A digest of a mesh, by which two runs, or two implementations, can be told apart.
+//! A digest of a mesh, which tells two runs or two implementations apart.
 
 ghost use Rattle.std.specs.Prelude.{◌≡◌, true};
 ghost use Rattle.spade_dcel.specs.Handles.{mesh_behind, number_of};
@@ -42,8 +42,8 @@ impl Digest {
     }
 }
 
-/// The digest of a mesh: its counts, and the links of each half edge. Anchors and data play no part, nor do half edges that an open
-/// removal has given up.
+/// Returns the digest of a mesh: its counts and the links of its half edges. Anchors, data and the half edges that an open removal has
+/// given up play no part.
 pub fn digest_of<V, DE, UE, F, A: Allocator>(dcel: &Dcel<V, DE, UE, F, A>) -> u64 {
     let mut digest = Digest::new();
     digest.add(dcel.num_vertices());
@@ -58,7 +58,7 @@ pub fn digest_of<V, DE, UE, F, A: Allocator>(dcel: &Dcel<V, DE, UE, F, A>) -> u6
     digest.state
 }
 
-/// A digest that a number is added to.
+/// A digest under construction.
 pub fn mix(digest: u64, number: u64) -> u64 {
     (digest ^ number).wrapping_mul(PRIME).rotate_left(17)
 }

@@ -4,7 +4,7 @@ use spade_dcel::operations::NoMemory;
 use std::alloc::{AllocError, AllocFailed};
 use std::{fmt, io};
 
-/// Why a mesh was not built. It fits a register, so that to answer one costs an edit nothing.
+/// Why a mesh was not built. It fits a register, so returning one costs an edit nothing.
 #[derive(Clone, Copy, Debug)]
 pub enum BuildError {
     /// There is no memory.
@@ -13,7 +13,7 @@ pub enum BuildError {
     /// The size asks for more elements than there are numbers.
     NoRoom,
 
-    /// No edge was drawn that can be split.
+    /// None of the edges drawn can be split.
     NoEdge,
 }
 
@@ -41,7 +41,7 @@ pub enum Fault {
     /// A mesh, or a list of the arguments, was not built.
     Build(BuildError),
 
-    /// An argument isn't one that the program knows.
+    /// The program doesn't know an argument.
     BadArguments,
 
     /// A read of the clock or of the arguments failed, or a write.

@@ -1,4 +1,4 @@
-//! Edges between triangles, turned.
+//! Edges between triangles, flipped.
 
 use crate::fault::Fault;
 use crate::measure::time_editing;
@@ -8,10 +8,10 @@ use spade_dcel::handles::FixedUndirectedEdgeHandle;
 use spade_dcel::operations::flip_cw;
 use std::rt::Clock;
 
-/// By how much its random numbers begin past those of `insert`.
+/// Offset of its random seed from that of `insert`.
 const OWN: u64 = 3;
 
-/// Times `size` draws of an edge, each of which is flipped where it can be, on a mesh of triangles.
+/// Times `size` draws of an edge of a mesh of triangles; each edge that can be flipped is.
 pub fn flip<D: Default + Drop + Clone>(
     rt: &(impl Clock + AllocGlobal),
     size: u32,
@@ -19,7 +19,7 @@ pub fn flip<D: Default + Drop + Clone>(
     time_editing(rt, size, |dcel: &mut Mesh<D>| Some(flip_drawn(dcel, size)))
 }
 
-/// Draws so many edges and flips those that can be flipped: how many these were.
+/// Draws `size` edges, flips those that can be flipped, and returns how many were.
 fn flip_drawn<D>(dcel: &mut Mesh<D>, draws: u32) -> u64 {
     let edges = dcel.num_undirected_edges();
     if edges == 0 {

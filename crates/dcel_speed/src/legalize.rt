@@ -1,4 +1,4 @@
-//! Edges flipped until none is left that is wanted.
+//! Edges flipped until no more are wanted.
 
 use crate::fault::{BuildError, Fault};
 use crate::measure::{FEWEST_EDITING, least_of};
@@ -9,10 +9,10 @@ use std::alloc::{AllocError, Global};
 use std::rt::Clock;
 use std::time::Instant;
 
-/// How many edges come to the list at a flip.
+/// The number of edges that a flip adds to the list.
 const BESIDE: u64 = 5;
 
-/// Times the flips of a mesh of triangles, from all its edges on: those that are wanted by the numbers of their vertices.
+/// Times a legalization by vertex numbers that begins with all edges of a mesh of triangles.
 pub fn legalize<D: Default + Drop + Clone>(
     rt: &(impl Clock + AllocGlobal),
     size: u32,
@@ -32,12 +32,12 @@ pub fn legalize<D: Default + Drop + Clone>(
     })
 }
 
-/// How many edges were looked at until none was left in the list: those of the mesh, and the ones that flips put there.
+/// The number of edges looked at: all of the mesh, and those that flips added to the list.
 fn looked_at<D>(dcel: &Mesh<D>, flips: u64) -> u64 {
     (dcel.num_undirected_edges() as u64).wrapping_add(flips.wrapping_mul(BESIDE))
 }
 
-/// The edges of a mesh.
+/// Lists the edges of a mesh.
 fn all_edges<D>(
     alloc: Global,
     dcel: &Mesh<D>,
@@ -50,7 +50,7 @@ fn all_edges<D>(
     Ok(list)
 }
 
-/// Flips edges from these on until none is wanted any more: how many flips that took.
+/// Legalizes from these edges on, and returns the number of flips.
 fn flip_all<D>(
     dcel: &mut Mesh<D>,
     list: Vec<FixedUndirectedEdgeHandle>,

@@ -1,4 +1,4 @@
-//! Runs a workload again and again, and the line that is printed of it.
+//! Repeats a workload, and prints its line.
 
 use crate::digest::{digest_of, mix};
 use crate::fault::{BuildError, Fault};
@@ -7,14 +7,14 @@ use std::fmt;
 use std::rt::Clock;
 use std::time::{Duration, Instant};
 
-/// Runs are repeated until they have taken so many milliseconds together.
+/// Runs are repeated until they have taken this many milliseconds together.
 const LONG_ENOUGH: u64 = 100;
 
-/// However short they are, there are no more than so many.
+/// The most runs, however short they are.
 const MOST_RUNS: u32 = 1_000_000;
 
-/// How often at least a workload is run that edits, and one that only reads: what only reads goes over the same mesh again, since a first
-/// pass over a mesh that was just built measures the caches.
+/// The fewest runs of a workload that edits, and of one that only reads. A reader goes over the same mesh again, since its first pass over
+/// a new mesh measures the caches.
 pub const FEWEST_EDITING: u32 = 3;
 
 const FEWEST_READING: u32 = 5;
@@ -39,7 +39,7 @@ pub fn time_building<D: Drop, B: Fn() -> Result<Mesh<D>, BuildError>>(
     })
 }
 
-/// Times `size` edits of a mesh of triangles, each time of a clone. What `edit` answers is mixed into the checksum, if it answers a number.
+/// Times `size` edits of a mesh of triangles, each run on a clone. If `edit` returns a number, it is mixed into the checksum.
 pub fn time_editing<D: Default + Drop + Clone, E: Fn(&mut Mesh<D>) -> Option<u64>>(
     rt: &(impl Clock + AllocGlobal),
     size: u32,
@@ -66,7 +66,7 @@ pub fn time_editing<D: Default + Drop + Clone, E: Fn(&mut Mesh<D>) -> Option<u64
     })
 }
 
-/// Times what reads a mesh and leaves it as it is.
+/// Times a workload that only reads.
 pub fn time_reading<R: Fn() -> Outcome>(rt: &impl Clock, read: R) -> Result<Timed, Fault>
     requires { R.IsAlwaysCallable read }
 {
@@ -78,7 +78,7 @@ pub fn time_reading<R: Fn() -> Outcome>(rt: &impl Clock, read: R) -> Result<Time
     })
 }
 
-/// The run that took the least time, of at least `fewest` runs and as many as fill a tenth of a second.
+/// Returns the fastest of at least `fewest` runs, and as many as fill a tenth of a second.
 pub fn least_of<R: Fn() -> Result<Timed, Fault>>(fewest: u32, run: R) -> Result<Timed, Fault>
     requires { R.IsAlwaysCallable run }
 {
@@ -97,7 +97,7 @@ pub fn least_of<R: Fn() -> Result<Timed, Fault>>(fewest: u32, run: R) -> Result<
     Ok(best)
 }
 
-/// What is printed of a workload at a size.
+/// The line of a workload at a size.
 #[derive(Drop)]
 pub struct Line {
     pub workload: Workload,

@@ -13,17 +13,17 @@ use spade_dcel::laws::every_mesh;
 use std::alloc::{AllocError, Global};
 use std::rt::Clock;
 
-/// By how much its random numbers begin past those of `insert`.
+/// Offset of its random seed from that of `insert`.
 const OWN: u64 = 5;
 
-/// Two vertices, between which an edge is sought.
+/// Two vertices between which an edge is sought.
 #[derive(Clone, Copy)]
 struct Pair {
     from: FixedVertexHandle,
     to: FixedVertexHandle,
 }
 
-/// Times the search for `size` pairs of vertices, which are drawn beforehand.
+/// Times the search for `size` pairs of vertices, drawn beforehand.
 pub fn neighbors<D: Default + Drop>(
     rt: &(impl Clock + AllocGlobal),
     size: u32,
@@ -36,7 +36,7 @@ pub fn neighbors<D: Default + Drop>(
     time_reading(rt, pass)
 }
 
-/// Seeks the half edge from the first to the second vertex of each pair: the sum of the numbers of those found, each plus 1.
+/// Seeks the half edge from the first to the second vertex of each pair, and returns the sum of the numbers found, each plus 1.
 fn edges_between<D>(dcel: &Mesh<D>, pairs: &[Pair]) -> Outcome
     requires { All (λ pair. pair.from < dcel.now.shape.vertices) pairs.now }
 {
@@ -52,7 +52,7 @@ fn edges_between<D>(dcel: &Mesh<D>, pairs: &[Pair]) -> Outcome
     }
 }
 
-/// So many pairs: by turns two vertices drawn at random, and two with an edge between them.
+/// Draws `size` pairs: by turns any two vertices, and two with an edge between them.
 fn drawn_pairs<D>(alloc: Global, dcel: &Mesh<D>, count: u32) -> Result<Vec<Pair>, AllocError>
     requires { IsTriangulated dcel.now.shape }
     ensures { IfOk result (λ pairs. All (λ pair. pair.from < dcel.now.shape.vertices) pairs.items) }
@@ -66,7 +66,7 @@ fn drawn_pairs<D>(alloc: Global, dcel: &Mesh<D>, count: u32) -> Result<Vec<Pair>
     Ok(pairs)
 }
 
-/// A pair that is drawn at random: two vertices with an edge between them where `are_neighbors`, and any two otherwise.
+/// Draws a pair: two vertices with an edge between them if `are_neighbors`, and any two otherwise.
 fn drawn_pair<D>(dcel: &Mesh<D>, random: &mut Random, are_neighbors: bool) -> Pair
     requires { 0 < dcel.now.shape.vertices }
     ensures { result.from < dcel.now.shape.vertices }
@@ -80,7 +80,7 @@ fn drawn_pair<D>(dcel: &Mesh<D>, random: &mut Random, are_neighbors: bool) -> Pa
     Pair { from, to }
 }
 
-/// A vertex that is drawn at random.
+/// Draws a vertex.
 fn drawn_vertex<D>(dcel: &Mesh<D>, random: &mut Random) -> FixedVertexHandle
     requires { 0 < dcel.now.shape.vertices }
     ensures { result < dcel.now.shape.vertices }
@@ -88,8 +88,8 @@ fn drawn_vertex<D>(dcel: &Mesh<D>, random: &mut Random) -> FixedVertexHandle
     FixedVertexHandle::new(random.below(dcel.num_vertices()))
 }
 
-/// Where an edge at a vertex ends that is drawn at random: its half edges are counted by `ccw` from the least one on. It is the
-/// vertex itself where it has no edge.
+/// Draws a neighbor of a vertex: the out edges are counted by `ccw` from the least one on. A vertex without edges is its own
+/// neighbor.
 fn drawn_neighbor<D>(
     vertex: VertexHandle<'_, i64, D, D, D>,
     random: &mut Random,

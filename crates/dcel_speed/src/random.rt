@@ -16,14 +16,14 @@ pub struct Random {
 }
 
 impl Random {
-    /// The generator of a workload. Workloads that draw differ in `own`, and so in their numbers.
+    /// Makes the generator of a workload. Each workload has a seed of its own, `own`.
     pub fn new(own: u64) -> Self {
         Random {
             state: SEED.wrapping_add(own),
         }
     }
 
-    /// The next number, brought below `count`. It asks for a count from 1 to 2^32.
+    /// Returns the next number, reduced below `count`. Asks for a count from 1 to 2^32.
     #[inline]
     pub fn below(&mut self, count: usize) -> usize
         requires some { 0 < count }

@@ -1,4 +1,4 @@
-//! Vertices inside triangles, taken out.
+//! Vertices inside triangles, removed.
 
 ghost use Rattle.std.specs.Prelude.{◌≤◌, ◌^◌, length};
 
@@ -17,13 +17,13 @@ use std::alloc::{AllocError, Global};
 use std::rt::Clock;
 use std::time::Instant;
 
-/// By how much its random numbers begin past those of `insert`.
+/// Offset of its random seed from that of `insert`.
 const OWN: u64 = 6;
 
 /// The first vertices are the corners of the first triangle, and all others lie inside.
 const CORNERS: usize = 3;
 
-/// Times the removal of the vertices inside a mesh of triangles, in an order that is drawn beforehand.
+/// Times the removal of the vertices inside a mesh of triangles, in an order drawn beforehand.
 pub fn remove<D: Default + Drop + Clone>(
     rt: &(impl Clock + AllocGlobal),
     size: u32,
@@ -43,7 +43,7 @@ pub fn remove<D: Default + Drop + Clone>(
     })
 }
 
-/// Takes the vertices of a plan out, and answers their data: the sum of each with 31 times what came before it.
+/// Removes the vertices of a plan, and returns a hash of their data: each is added to 31 times the hash so far.
 fn remove_all<D: Default + Drop>(
     alloc: Global,
     dcel: &mut Mesh<D>,
@@ -58,7 +58,7 @@ fn remove_all<D: Default + Drop>(
     Ok(sum)
 }
 
-/// Takes a vertex out, and answers its datum: None where its border is no border loop, and the mesh is as it was.
+/// Removes a vertex, and returns its datum. Returns None, and leaves the mesh as it was, if its border is no border loop.
 #[inline]
 fn remove_next<D: Default + Drop>(
     alloc: Global,
@@ -81,7 +81,7 @@ fn remove_next<D: Default + Drop>(
     Ok(Some(removal.removed_vertex))
 }
 
-/// What comes after the half edges out of a vertex, which is counted from the least of them by `ccw` and taken from the back.
+/// The half edges after the out edges of a vertex, counted by `ccw` from the least out edge and listed from the back.
 #[inline]
 fn border_of<D>(
     alloc: Global,
@@ -100,7 +100,7 @@ fn border_of<D>(
     Ok(border)
 }
 
-/// The vertices that can be taken out one after another, in an order drawn at random, each under the number that it has then. Those
+/// Draws an order in which vertices can be removed one after another, each under the number that it has by then. Those
 /// whose border is no border loop when their turn comes are left out.
 fn plan_of<D: Default + Drop + Clone>(
     alloc: Global,
@@ -124,7 +124,7 @@ fn plan_of<D: Default + Drop + Clone>(
     Ok(plan)
 }
 
-/// Brings vertices into an order that is drawn at random.
+/// Shuffles vertices.
 fn shuffle(vertices: &mut [FixedVertexHandle])
     requires { length vertices.old ≤ 2 ^ 32 }
 {
@@ -136,7 +136,7 @@ fn shuffle(vertices: &mut [FixedVertexHandle])
     }
 }
 
-/// Notes that a vertex has this number now. Its datum is the number that it had first.
+/// Notes the present number of a vertex. Its datum is its first number.
 fn renumber<D>(dcel: &Mesh<D>, numbers: &mut [FixedVertexHandle], vertex: FixedVertexHandle) {
     if vertex.index() >= dcel.num_vertices() {
         return;

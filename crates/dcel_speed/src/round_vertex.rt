@@ -10,7 +10,7 @@ use spade_dcel::iterators::{CCWEdgesNextBackFn, CircularIterator};
 /// The half edges out of a vertex, from one of them on.
 type RoundVertex<'a, D> = CircularIterator<'a, i64, D, D, D, CCWEdgesNextBackFn>;
 
-/// How many half edges start where this one does.
+/// Returns the number of half edges with the same origin.
 pub fn degree<D>(out_edge: DirectedEdgeHandle<'_, i64, D, D, D>) -> usize
     requires { IsLive (mesh_behind out_edge).shape (number_of out_edge) }
     ensures some { 0 < result }
@@ -19,7 +19,7 @@ pub fn degree<D>(out_edge: DirectedEdgeHandle<'_, i64, D, D, D>) -> usize
     RoundVertex::new(out_edge).count()
 }
 
-/// The least of the half edges that start where this one does, and how many they are.
+/// Returns the least of the half edges with the same origin, and their number.
 #[inline]
 pub fn least_and_count<D>(
     out_edge: DirectedEdgeHandle<'_, i64, D, D, D>,
@@ -38,7 +38,7 @@ pub fn least_and_count<D>(
     (least, count)
 }
 
-/// The half edge so many steps further round the vertex where this one starts.
+/// Returns the half edge this many steps further round the origin.
 pub fn turned<D>(
     out_edge: DirectedEdgeHandle<'_, i64, D, D, D>,
     steps: usize,

@@ -16,16 +16,16 @@ use spade_dcel::operations::{append_unconnected_vertex, split_edge};
 use std::rt::Clock;
 use std::time::Instant;
 
-/// By how much its random numbers begin past those of `insert`.
+/// Offset of its random seed from that of `insert`.
 const OWN: u64 = 2;
 
-/// The mesh that it begins with is that of `insert` with so many vertices put in.
+/// It begins with the mesh of `insert` after this many insertions.
 const INSERTED: u32 = 1;
 
-/// How many half edges are drawn at most until one of them lies inside. In the first mesh every second one does, and later more do.
+/// The most draws until a half edge lies inside. In the first mesh every second one does, and later more do.
 const MOST_DRAWS: u32 = 10_000;
 
-/// Times `size` splits of edges that are drawn at random.
+/// Times `size` splits of edges drawn at random.
 pub fn split<D: Default + Drop>(
     rt: &(impl Clock + AllocGlobal),
     size: u32,
@@ -43,7 +43,7 @@ pub fn split<D: Default + Drop>(
     })
 }
 
-/// Splits so many edges, and answers the sum of the numbers of the new half edges that lead on from the middle.
+/// Splits `size` edges, and returns the sum of the numbers of the new half edges that lead on from the middle.
 fn split_edges<D: Default>(dcel: &mut Mesh<D>, count: u32) -> Result<u64, BuildError>
     requires { IsTriangulated dcel.old.shape }
 {
@@ -61,7 +61,7 @@ fn split_edges<D: Default>(dcel: &mut Mesh<D>, count: u32) -> Result<u64, BuildE
     Ok(sum)
 }
 
-/// A half edge with an inner face on both sides, drawn at random, and None where too many others came first.
+/// Draws a half edge with an inner face on both sides. Returns None after too many draws.
 #[inline]
 fn drawn_inside<D>(dcel: &Mesh<D>, random: &mut Random) -> Option<FixedDirectedEdgeHandle>
     requires { IsTriangulated dcel.now.shape }
@@ -87,7 +87,7 @@ fn is_inside<D>(dcel: &Mesh<D>, edge: FixedDirectedEdgeHandle) -> bool
     !edge.face().fix().is_outer() && !edge.rev().face().fix().is_outer()
 }
 
-/// Splits an edge by a new vertex, and answers the new half edge that leads on from there.
+/// Splits an edge by a new vertex, and returns the new half edge that leads on from there.
 #[inline]
 fn split_next<D: Default>(
     dcel: &mut Mesh<D>,

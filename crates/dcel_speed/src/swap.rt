@@ -7,10 +7,10 @@ use crate::workloads::{Mesh, Timed};
 use spade_dcel::handles::FixedVertexHandle;
 use std::rt::Clock;
 
-/// By how much its random numbers begin past those of `insert`.
+/// Offset of its random seed from that of `insert`.
 const OWN: u64 = 7;
 
-/// Times `size` swaps of vertices that are drawn at random, on a mesh of triangles.
+/// Times `size` swaps of vertices drawn at random, on a mesh of triangles.
 pub fn swap<D: Default + Drop + Clone>(
     rt: &(impl Clock + AllocGlobal),
     size: u32,
@@ -21,7 +21,7 @@ pub fn swap<D: Default + Drop + Clone>(
     })
 }
 
-/// Draws so many pairs of vertices, and swaps each.
+/// Draws `size` pairs of vertices, and swaps each.
 fn swap_drawn<D>(dcel: &mut Mesh<D>, pairs: u32) {
     let vertices = dcel.num_vertices();
     if vertices == 0 {

@@ -1,4 +1,4 @@
-//! The workloads: what each builds, does and answers. Only the work itself is timed.
+//! The workloads: what each builds, does and returns. Only the work itself is timed.
 
 ghost use Rattle.std.specs.Prelude.{◌≡◌, ◌*◌, IfOk, OnOk};
 ghost use Rattle.dcel_maps.specs.Conditions.{HasRoom, IsLineEnd};
@@ -30,10 +30,10 @@ use std::alloc::Global;
 use std::rt::Clock;
 use std::time::Duration;
 
-/// The meshes that are measured: each vertex has a number, and all else a `D`.
+/// The meshes measured: each vertex has a number, and all else a `D`.
 pub type Mesh<D> = Dcel<i64, D, D, D>;
 
-/// The half edges of a face, from one of them on: the step round the hull goes round any face.
+/// A walk round a face: the step round the hull goes round any face.
 type RoundFace<'a, D> = CircularIterator<'a, i64, D, D, D, HullNextBackFn>;
 
 /// What can be measured.
@@ -42,7 +42,7 @@ pub enum Workload {
     /// Puts vertices into faces of a triangle.
     Insert,
 
-    /// Does the same with room for all of them from the beginning.
+    /// Does the same with room reserved for all.
     InsertReserved,
 
     /// Goes round each vertex.
@@ -54,7 +54,7 @@ pub enum Workload {
     /// Goes round each inner face.
     Faces,
 
-    /// Makes a line longer at one end.
+    /// Extends a line at one end.
     Extend,
 
     /// Goes round the outer face of a line.
@@ -66,7 +66,7 @@ pub enum Workload {
     /// Puts vertices into the middle of edges.
     Split,
 
-    /// Turns edges between triangles.
+    /// Flips edges between triangles.
     Flip,
 
     /// Swaps vertices.
@@ -78,15 +78,15 @@ pub enum Workload {
     /// Replaces the data of the vertices.
     Map,
 
-    /// Takes vertices inside triangles out.
+    /// Removes vertices inside triangles.
     Remove,
 
-    /// Turns edges until none is wanted any more.
+    /// Flips edges until no more are wanted.
     Legalize,
 }
 
 impl Workload {
-    /// Its name in the arguments and in the lines.
+    /// Returns its name in the arguments and in the output.
     pub fn name(self) -> &'static str {
         match self {
             Workload::Insert => "insert",
@@ -107,7 +107,7 @@ impl Workload {
         }
     }
 
-    /// The workload with this name.
+    /// Returns the workload with this name.
     pub fn parse(name: &str) -> Option<Workload> {
         match name {
             "insert" => Some(Workload::Insert),
@@ -130,7 +130,7 @@ impl Workload {
     }
 }
 
-/// What came out of a workload.
+/// The outcome of a workload.
 #[derive(Clone, Copy, Default)]
 pub struct Outcome {
     pub checksum: u64,
@@ -138,7 +138,7 @@ pub struct Outcome {
 }
 
 impl Outcome {
-    /// Adds the number of a vertex to the checksum: one operation more.
+    /// Adds the number of a vertex to the checksum, and counts an operation.
     #[inline]
     fn add<D>(&mut self, vertex: VertexHandle<'_, i64, D, D, D>) {
         self.checksum = self.checksum.wrapping_add(vertex.index() as u64);
@@ -154,14 +154,14 @@ pub struct Timed {
 }
 
 impl Timed {
-    /// How long an operation took, in tenths of a nanosecond. Where there was none, how long all took.
+    /// Returns the time of an operation in tenths of a nanosecond, or of the whole run if there was no operation.
     pub fn tenths_of_nanoseconds(&self) -> u128 {
         let operations = u128::from(self.outcome.operations.max(1));
         self.elapsed.as_nanos().saturating_mul(10) / operations
     }
 }
 
-/// Runs a workload, over meshes with data `D`, and answers the run that took the least time.
+/// Runs a workload over meshes with data `D`, and returns the fastest run.
 pub fn measured<D: Default + Drop + Clone>(
     rt: &(impl Clock + AllocGlobal),
     workload: Workload,
@@ -191,7 +191,7 @@ fn insert<D: Default + Drop>(rt: &(impl Clock + AllocGlobal), size: u32) -> Resu
     time_building(rt, size, || triangulated::<D>(rt.alloc(), size))
 }
 
-/// Times the building of the same mesh where room for it is made first.
+/// Times the building of the same mesh with room reserved first.
 fn insert_reserved<D: Default + Drop>(
     rt: &(impl Clock + AllocGlobal),
     size: u32,
@@ -234,7 +234,7 @@ fn hull<D: Default + Drop>(rt: &(impl Clock + AllocGlobal), size: u32) -> Result
     time_reading(rt, || numbers_round_hull(&dcel))
 }
 
-/// A triangle, and `size` vertices more, each put into an inner face that is drawn at random.
+/// Builds a triangle, and puts `size` more vertices into inner faces drawn at random.
 pub fn triangulated<D: Default + Drop>(alloc: Global, size: u32) -> Result<Mesh<D>, BuildError>
     ensures { IfOk result (λ dcel. IsTriangulated dcel.shape) }
 {
@@ -243,7 +243,7 @@ pub fn triangulated<D: Default + Drop>(alloc: Global, size: u32) -> Result<Mesh<
     Ok(dcel)
 }
 
-/// The same, where room for all of them is made first.
+/// Builds the same mesh with room reserved first.
 fn triangulated_in_room<D: Default + Drop>(
     alloc: Global,
     size: u32,
@@ -255,7 +255,7 @@ fn triangulated_in_room<D: Default + Drop>(
     Ok(dcel)
 }
 
-/// A triangle, where there are numbers left for so many insertions.
+/// Builds a triangle, if there are numbers left for `size` insertions.
 fn triangle_with_numbers_left<D: Default + Drop>(
     alloc: Global,
     size: u32,
@@ -271,7 +271,7 @@ fn triangle_with_numbers_left<D: Default + Drop>(
     Ok(dcel)
 }
 
-/// Puts so many vertices into inner faces that are drawn at random.
+/// Puts `size` vertices into inner faces drawn at random.
 fn insert_all<D: Default + Drop>(dcel: &mut Mesh<D>, size: u32) -> Result<(), BuildError>
     requires triangulated { IsTriangulated dcel.old.shape }
     requires room { HasRoom dcel.old.shape size (3 * size) (2 * size) }
@@ -284,7 +284,7 @@ fn insert_all<D: Default + Drop>(dcel: &mut Mesh<D>, size: u32) -> Result<(), Bu
     Ok(())
 }
 
-/// Puts one more vertex into an inner face that is drawn at random.
+/// Puts one more vertex into an inner face drawn at random.
 #[inline]
 fn insert_next<D: Default + Drop>(
     dcel: &mut Mesh<D>,
@@ -303,7 +303,7 @@ fn insert_next<D: Default + Drop>(
     Ok(())
 }
 
-/// A line of an edge, made longer at its second vertex by `size` vertices.
+/// Builds an edge, and extends it at its second vertex by `size` vertices.
 fn line<D: Default + Drop>(alloc: Global, size: u32) -> Result<Mesh<D>, BuildError> {
     let mut dcel = new(alloc)?;
     let count = size as usize;
@@ -317,7 +317,7 @@ fn line<D: Default + Drop>(alloc: Global, size: u32) -> Result<Mesh<D>, BuildErr
     Ok(dcel)
 }
 
-/// Adds an edge with its two vertices to an empty mesh, and answers the second vertex.
+/// Adds an edge with its two vertices to an empty mesh, and returns the second vertex.
 fn first_edge<D: Default + Drop>(dcel: &mut Mesh<D>) -> Result<FixedVertexHandle, BuildError>
     requires no_edge { dcel.old.shape.edges ≡ 0 }
     requires room { HasRoom dcel.old.shape 2 1 0 }
@@ -331,7 +331,7 @@ fn first_edge<D: Default + Drop>(dcel: &mut Mesh<D>) -> Result<FixedVertexHandle
     Ok(second)
 }
 
-/// Makes a line longer by one more vertex, which it answers.
+/// Extends a line by one more vertex, and returns it.
 #[inline]
 fn extend_next<D: Default + Drop>(
     dcel: &mut Mesh<D>,
@@ -348,7 +348,7 @@ fn extend_next<D: Default + Drop>(
     Ok(extend_line(dcel, end, vertex)?)
 }
 
-/// Goes round each vertex: the sum of the numbers of the vertices where its half edges end.
+/// Goes round each vertex, and sums the numbers of its neighbors.
 fn ends_of_out_edges<D>(dcel: &Mesh<D>) -> Outcome {
     let mut sum = Outcome::default();
     for index in 0..dcel.num_vertices() {
@@ -357,7 +357,7 @@ fn ends_of_out_edges<D>(dcel: &Mesh<D>) -> Outcome {
     sum
 }
 
-/// Adds the vertices where the half edges out of a vertex end.
+/// Adds the neighbors of a vertex.
 #[inline]
 fn add_ends<D>(sum: &mut Outcome, vertex: VertexHandle<'_, i64, D, D, D>) {
     for edge in vertex.out_edges() {
@@ -365,7 +365,7 @@ fn add_ends<D>(sum: &mut Outcome, vertex: VertexHandle<'_, i64, D, D, D>) {
     }
 }
 
-/// Goes round each vertex, from both ends in turn: the same sum.
+/// Goes round each vertex from both ends in turn, for the same sum.
 fn ends_from_both_ends<D>(dcel: &Mesh<D>) -> Outcome {
     let mut sum = Outcome::default();
     for index in 0..dcel.num_vertices() {
@@ -374,7 +374,7 @@ fn ends_from_both_ends<D>(dcel: &Mesh<D>) -> Outcome {
     sum
 }
 
-/// Adds the vertices where the half edges out of a vertex end: that of the first, of the last, of the second, and so on.
+/// Adds the neighbors of a vertex: the first, the last, the second, and so on.
 #[inline]
 fn add_ends_from_both_ends<D>(sum: &mut Outcome, vertex: VertexHandle<'_, i64, D, D, D>) {
     let mut edges = vertex.out_edges();
@@ -386,7 +386,7 @@ fn add_ends_from_both_ends<D>(sum: &mut Outcome, vertex: VertexHandle<'_, i64, D
     }
 }
 
-/// Goes round each inner face: the sum of the numbers of the vertices where its half edges start.
+/// Goes round each inner face, and sums the numbers of its vertices.
 fn origins_round_faces<D>(dcel: &Mesh<D>) -> Outcome
     requires { IsTriangulated dcel.now.shape }
 {
@@ -398,7 +398,7 @@ fn origins_round_faces<D>(dcel: &Mesh<D>) -> Outcome
     sum
 }
 
-/// Adds the vertices where the half edges of a face start, from one of them on.
+/// Adds the vertices of a face, from one of its half edges on.
 #[inline]
 fn add_origins<D>(sum: &mut Outcome, first: DirectedEdgeHandle<'_, i64, D, D, D>)
     requires { IsLive (mesh_behind first).shape (number_of first) }
@@ -408,7 +408,7 @@ fn add_origins<D>(sum: &mut Outcome, first: DirectedEdgeHandle<'_, i64, D, D, D>
     }
 }
 
-/// Goes round the outer face: the numbers of its half edges, one after another.
+/// Goes round the outer face, and mixes the numbers of its half edges.
 fn numbers_round_hull<D>(dcel: &Mesh<D>) -> Outcome {
     let mut sum = Outcome::default();
     for edge in HullIterator::new(dcel) {

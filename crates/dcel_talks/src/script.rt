@@ -37,7 +37,7 @@ impl Script {
         })
     }
 
-    /// Takes a line of the file.
+    /// Reads a line of the file.
     pub fn take(&mut self, alloc: Global, text: &str) -> Result<()> {
         if let Some(line) = text.strip_prefix("> ") {
             push_line(&mut self.lines, line)?;
@@ -50,7 +50,7 @@ impl Script {
         Ok(())
     }
 
-    /// Takes a reply, or a further line of one.
+    /// Reads a reply, or a further line of one.
     fn take_reply(&mut self, reply: &str) -> Result<(), AllocError> {
         push_line(&mut self.replies, reply)?;
         let Some(line) = self.asked.take() else {
@@ -77,7 +77,7 @@ impl Script {
         self.compare(alloc, &without_turned_down(alloc, &after)?, &before)
     }
 
-    /// Returns the replies to these lines in reads of so many bytes.
+    /// Returns the replies to these lines in reads of `chunk` bytes.
     fn written(&self, alloc: Global, lines: &[u8], chunk: usize) -> Result<Vec<u8>> {
         let limit = self.limit;
         ensure!(limit <= MAX_LIMIT, "{}: a limit above 2^31", self.name);
@@ -99,7 +99,7 @@ impl Script {
     }
 }
 
-/// Whether a reply says that its line changed nothing.
+/// Returns whether a reply says that its line changed nothing.
 fn is_turned_down(reply: &str) -> bool {
     reply.starts_with("refused ") || reply == "bad line"
 }
