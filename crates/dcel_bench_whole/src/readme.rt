@@ -20,7 +20,7 @@ fn a_vertex_comes_and_goes(rt: HostRuntime) -> Result<(), Fail> {
     assert!(rt; dcel.is_triangle(face) && dcel.is_unconnected(e));
     insert_into_triangle(&mut dcel, e, face)?;
 
-    let edge = FixedUndirectedEdgeHandle::new(3); // from d to "b", beside e
+    let edge = FixedUndirectedEdgeHandle::new(3); // from "a" to d, beside e
     assert!(rt; dcel.can_flip(edge));
     flip_cw(&mut dcel, edge);
 
