@@ -1,12 +1,15 @@
 -- Lists of numbers among the items of a line.
-use Rattle.std.proofs.Common.{◌≡◌, ◌≢◌, ℕ, List, [], ◌∷◌, ◌++◌, map, refl, sym, ap, ◌∙◌, append-nil}
+use Rattle.std.proofs.Common.{◌≡◌, ◌≢◌, ℕ, List, [], ◌∷◌, ◌++◌, map, refl, sym, ap, subst, ◌∙◌, append-nil, Option, Some, None}
 use Rattle.std.specs.Prelude.{ℤ}
 use Rattle.std.specs.Fmt.{decimal}
 use Rattle.std.specs.List.{AllByRecursion}
 use Rattle.dcel_commands.specs.Grammar.{Item, Number, Slash, item_text, IsInRange, numbers}
+use Rattle.dcel_commands.specs.Instructions.{Saying}
+use Rattle.dcel_commands.specs.Spelling.{Says, given}
 use Rattle.dcel_text.specs.Items.{BeginsWith, slash}
 use Rattle.dcel_text.specs.Numbers.{IsNumber}
 use Rattle.dcel_text.proofs.Runs.{begins_one, nothing_ends, slash_ends}
+use Rattle.dcel_commands.proofs.Spelling.{Value, Of, Stroke, back, front, led, none_said, number_in, other_items, request_of, some_injective}
 
 -- ---- what was read, and what stands there
 
@@ -80,7 +83,7 @@ pub one_said : (word : List ℕ) (items : List (List ℕ)) (ns : List ℕ) → A
     → AllByRecursion IsInRange (numbers ns) × (word ∷ items ≡ word ∷ map item_text (numbers ns))
 one_said word items ns in_range is = (in_range-numbers ns in_range, ap (λ (x : List (List ℕ)). word ∷ x) (is ∙ sym (item_text-numbers ns)))
 
-pub not_one_said : (items : List (List ℕ)) → ((ns : List ℕ) → AllByRecursion IsNumber ns → items ≢ map decimal ns)
+not_one_said : (items : List (List ℕ)) → ((ns : List ℕ) → AllByRecursion IsNumber ns → items ≢ map decimal ns)
     → (ns : List ℕ) → AllByRecursion IsInRange (numbers ns) → items ≢ map item_text (numbers ns)
 not_one_said items none ns in_range is = none ns (numbers-in_range ns in_range) (is ∙ item_text-numbers ns)
 
@@ -90,7 +93,7 @@ pub two_said : (word : List ℕ) (items : List (List ℕ)) (ms ns : List ℕ) �
 two_said word items ms ns in_range others is =
     (in_range-two ms (numbers ns) in_range (in_range-numbers ns others), ap (λ (x : List (List ℕ)). word ∷ x) (is ∙ sym (item_text-two_lists ms ns)))
 
-pub not_two_said : (items : List (List ℕ)) → ((ms ns : List ℕ) → AllByRecursion IsNumber ms → AllByRecursion IsNumber ns → items ≢ map decimal ms ++ slash ∷ map decimal ns)
+not_two_said : (items : List (List ℕ)) → ((ms ns : List ℕ) → AllByRecursion IsNumber ms → AllByRecursion IsNumber ns → items ≢ map decimal ms ++ slash ∷ map decimal ns)
     → (ms ns : List ℕ) → AllByRecursion IsInRange (numbers ms ++ Slash ∷ numbers ns) → items ≢ map item_text (numbers ms ++ Slash ∷ numbers ns)
 not_two_said items none ms ns in_range is =
     let parts = two-in_range ms (numbers ns) in_range in
@@ -125,7 +128,7 @@ three_said word items ls ms ns first second third is = (
   ap (λ (x : List (List ℕ)). word ∷ x) (is ∙ sym (item_text-three ls ms ns)),
 )
 
-pub not_three_said : (items : List (List ℕ)) → ((ls ms ns : List ℕ) → AllByRecursion IsNumber ls → AllByRecursion IsNumber ms → AllByRecursion IsNumber ns
+not_three_said : (items : List (List ℕ)) → ((ls ms ns : List ℕ) → AllByRecursion IsNumber ls → AllByRecursion IsNumber ms → AllByRecursion IsNumber ns
     → items ≢ map decimal ls ++ slash ∷ (map decimal ms ++ slash ∷ map decimal ns))
     → (ls ms ns : List ℕ) → AllByRecursion IsInRange (numbers ls ++ Slash ∷ (numbers ms ++ Slash ∷ numbers ns)) → items ≢ map item_text (numbers ls ++ Slash ∷ (numbers ms ++ Slash ∷ numbers ns))
 not_three_said items none ls ms ns in_range is =
@@ -140,7 +143,56 @@ pub led_said : (word : List ℕ) (items : List (List ℕ)) (n : ℕ) (ns : List 
 led_said word items n ns first in_range is =
     ((first, in_range-numbers ns in_range), ap (λ (x : List (List ℕ)). word ∷ x) (is ∙ ap (λ (x : List (List ℕ)). decimal n ∷ x) (sym (item_text-numbers ns))))
 
-pub not_led_said : (items : List (List ℕ)) → ((n : ℕ) (ns : List ℕ) → IsNumber n → AllByRecursion IsNumber ns → items ≢ decimal n ∷ map decimal ns)
+not_led_said : (items : List (List ℕ)) → ((n : ℕ) (ns : List ℕ) → IsNumber n → AllByRecursion IsNumber ns → items ≢ decimal n ∷ map decimal ns)
     → (n : ℕ) (ns : List ℕ) → AllByRecursion IsInRange (Number n ∷ numbers ns) → items ≢ map item_text (Number n ∷ numbers ns)
 not_led_said items none n ns in_range is =
     none n ns in_range.0 (numbers-in_range ns in_range.1) (is ∙ ap (λ (x : List (List ℕ)). decimal n ∷ x) (item_text-numbers ns))
+
+-- after the number there is no list
+pub no_list_after : (items others : List (List ℕ)) (item : List ℕ) → items ≡ item ∷ others → ((ns : List ℕ) → AllByRecursion IsNumber ns → others ≢ map decimal ns)
+    → (n : ℕ) (ns : List ℕ) → IsNumber n → AllByRecursion IsNumber ns → items ≢ decimal n ∷ map decimal ns
+no_list_after items others item e none n ns in_range all is = none ns all (other_items item (decimal n) others (map decimal ns) (sym e ∙ is))
+
+-- ---- lines that are none, since what stands after the word isn't what the word makes commands of
+
+module _ (A : Type 0) (first : List ℕ) (items : List (List ℕ)) where
+  pub bad_one : (make : List ℕ → Saying) → ((ns : List ℕ) → given (make ns) ≡ numbers ns) → ((values : List Value) → request_of first values ≡ Some (make (front values)))
+      → ((ns : List ℕ) → AllByRecursion IsNumber ns → items ≢ map decimal ns) → Says {A = A} first items None
+  bad_one make gives makes none = none_said A first items (λ values said is in_range e.
+      let ns = front values in
+      let shown = ap (λ (s : Saying). given s) (some_injective said (make ns) (request_of first values) is (makes values)) ∙ gives ns in
+      not_one_said items none ns (subst (λ (x : List (Item ℤ)). AllByRecursion IsInRange x) shown in_range) (e ∙ ap (λ (x : List (Item ℤ)). map item_text x) shown))
+
+  pub bad_two : (make : List ℕ → List ℕ → Saying) → ((ms ns : List ℕ) → given (make ms ns) ≡ numbers ms ++ Slash ∷ numbers ns)
+      → ((values : List Value) → request_of first values ≡ Some (make (front values) (front (back values))))
+      → ((ms ns : List ℕ) → AllByRecursion IsNumber ms → AllByRecursion IsNumber ns → items ≢ map decimal ms ++ slash ∷ map decimal ns) → Says {A = A} first items None
+  bad_two make gives makes none = none_said A first items (λ values said is in_range e.
+      let ms = front values in
+      let ns = front (back values) in
+      let shown = ap (λ (s : Saying). given s) (some_injective said (make ms ns) (request_of first values) is (makes values)) ∙ gives ms ns in
+      not_two_said items none ms ns (subst (λ (x : List (Item ℤ)). AllByRecursion IsInRange x) shown in_range) (e ∙ ap (λ (x : List (Item ℤ)). map item_text x) shown))
+
+  pub bad_three : (make : List ℕ → List ℕ → List ℕ → Saying) → ((ls ms ns : List ℕ) → given (make ls ms ns) ≡ numbers ls ++ Slash ∷ (numbers ms ++ Slash ∷ numbers ns))
+      → ((values : List Value) → request_of first values ≡ Some (make (front values) (front (back values)) (front (back (back values)))))
+      → ((ls ms ns : List ℕ) → AllByRecursion IsNumber ls → AllByRecursion IsNumber ms → AllByRecursion IsNumber ns
+      → items ≢ map decimal ls ++ slash ∷ (map decimal ms ++ slash ∷ map decimal ns)) → Says {A = A} first items None
+  bad_three make gives makes none = none_said A first items (λ values said is in_range e.
+      let ls = front values in
+      let ms = front (back values) in
+      let ns = front (back (back values)) in
+      let shown = ap (λ (s : Saying). given s) (some_injective said (make ls ms ns) (request_of first values) is (makes values)) ∙ gives ls ms ns in
+      not_three_said items none ls ms ns (subst (λ (x : List (Item ℤ)). AllByRecursion IsInRange x) shown in_range) (e ∙ ap (λ (x : List (Item ℤ)). map item_text x) shown))
+
+  led_made : (make : ℕ → List ℕ → Saying) (values : List Value) (said : Saying) → led (λ x ns. make (number_in x) ns) values ≡ Some said → (n : ℕ) × (ns : List ℕ) × (said ≡ make n ns)
+  unfolding led
+  led_made make [] said is = absurd cc
+  led_made make (Of x ∷ values) said is = (number_in x, front values, some_injective said (make (number_in x) (front values)) (Some (make (number_in x) (front values))) is refl)
+  led_made make (Stroke ∷ values) said is = absurd cc
+
+  pub bad_led : (make : ℕ → List ℕ → Saying) → ((n : ℕ) (ns : List ℕ) → given (make n ns) ≡ Number n ∷ numbers ns)
+      → ((values : List Value) → request_of first values ≡ led (λ x ns. make (number_in x) ns) values)
+      → ((n : ℕ) (ns : List ℕ) → IsNumber n → AllByRecursion IsNumber ns → items ≢ decimal n ∷ map decimal ns) → Says {A = A} first items None
+  bad_led make gives makes none = none_said A first items (λ values said is in_range e.
+      let made = led_made make values said (sym (makes values) ∙ is) in
+      let shown = ap (λ (s : Saying). given s) made.2 ∙ gives made.0 made.1 in
+      not_led_said items none made.0 made.1 (subst (λ (x : List (Item ℤ)). AllByRecursion IsInRange x) shown in_range) (e ∙ ap (λ (x : List (Item ℤ)). map item_text x) shown))

@@ -85,16 +85,16 @@ no_word A first others none said in_range e = none said (first_item first (word 
 -- ---- a line says one thing
 
 -- an item by its value
-data Value : Type 0 where
+pub data Value : Type 0 where
   Of : ℤ → Value
   Stroke : Value
 
-value_of : Item ℤ → Value
+pub value_of : Item ℤ → Value
 value_of (Number n) = Of (pos n)
 value_of (Datum d) = Of d
 value_of Slash = Stroke
 
-number_in : ℤ → ℕ
+pub number_in : ℤ → ℕ
 number_in (pos n) = n
 number_in (negsuc n) = 0
 
@@ -115,12 +115,12 @@ three make (Of x ∷ Of y ∷ Of z ∷ []) = Some (make x y z)
 three make _ = None
 
 -- the numbers before the first stroke, and the values after it
-front : List Value → List ℕ
+pub front : List Value → List ℕ
 front [] = []
 front (Of x ∷ values) = number_in x ∷ front values
 front (Stroke ∷ values) = []
 
-back : List Value → List Value
+pub back : List Value → List Value
 back [] = []
 back (Of x ∷ values) = back values
 back (Stroke ∷ values) = values
@@ -141,19 +141,19 @@ back_last [] items = refl
 back_last (n ∷ ns) items = back_last ns items
 
 -- a number, and a list after it
-led : (ℤ → List ℕ → Saying) → List Value → Option Saying
+pub led : (ℤ → List ℕ → Saying) → List Value → Option Saying
 led make (Of x ∷ values) = Some (make x (front values))
 led make _ = None
 
 remeshed : (a b c hs us fs : List ℕ) → a ≡ hs → b ≡ us → c ≡ fs → Some (Edit (Remesh a b c)) ≡ Some (Edit (Remesh hs us fs))
 remeshed a b c hs us fs first second third = rw (first, second, third) refl
 
-request_in : List (List ℕ × (List Value → Option Saying)) → List ℕ → List Value → Option Saying
+pub request_in : List (List ℕ × (List Value → Option Saying)) → List ℕ → List Value → Option Saying
 request_in [] first values = None
 request_in (row ∷ rows) first values = cond (bytes_eq first row.0) (row.1 values) (request_in rows first values)
 
 -- the request that a word makes of values
-request_of : List ℕ → List Value → Option Saying
+pub request_of : List ℕ → List Value → Option Saying
 request_of = request_in (
     (codes "append", one (λ d. Edit (Append d))) ∷
     (codes "triangle", three (λ x y z. Edit (Triangle x y z))) ∷
@@ -227,8 +227,18 @@ same_values (i ∷ is) (j ∷ js) r q e =
     let there = same_values is js r.1 q.1 (other_items (item_text i) (item_text j) (map item_text is) (map item_text js) e) in
     rw (here, there) refl
 
-some_injective : (p q : Saying) (said : Option Saying) → said ≡ Some p → said ≡ Some q → p ≡ q
+pub some_injective : (p q : Saying) (said : Option Saying) → said ≡ Some p → said ≡ Some q → p ≡ q
 some_injective p q said e f = cc
+
+-- a line is none, where the items after its word are those of nothing that the word makes of values
+pub none_said : (A : Type 0) (first : List ℕ) (items : List (List ℕ))
+    → ((values : List Value) (said : Saying) → request_of first values ≡ Some said → AllByRecursion IsInRange (given said) → items ≢ map item_text (given said))
+    → Says {A = A} first items None
+unfolding Says
+none_said A first items none said in_range e =
+    let values = map value_of (given said) in
+    none values said (ap (λ (w : List ℕ). request_of w values) (first_item first (word said) items (map item_text (given said)) e) ∙ request_of-word said) in_range
+    (other_items first (word said) items (map item_text (given said)) e)
 
 -- a line is at most one command or query
 pub one_spelling : (p q : Saying) (line : List ℕ) → Spells p line → Spells q line → p ≡ q

@@ -1,5 +1,5 @@
 -- What commands and queries ask of a mesh, and which refusal answers where one of these conditions isn't met.
-use Rattle.std.specs.Prelude.{◌≡◌, ◌≢◌, ◌⊎◌, ℕ, ◌+◌, ◌*◌, ◌<◌, ◌≤◌, true, List, [], ◌∷◌, All, Contains}
+use Rattle.std.specs.Prelude.{◌≡◌, ◌≢◌, ◌⊎◌, ℕ, ◌+◌, ◌*◌, ◌<◌, ◌≤◌, true, List, [], ◌∷◌, All, Contains, MatchResult, Result}
 use Rattle.dcel_commands.specs.declared.refusal.Refusal.{Refusal}
 use Rattle.dcel_commands.specs.Refusal.{refusal_number}
 use Rattle.dcel_maps.specs.Borders.{IsBorderLoop}
@@ -112,6 +112,10 @@ abbrev pub FirstUnmet : Shape → List Entry → Refusal → Type 0
 FirstUnmet s [] why = ⊥
 FirstUnmet s (entry ∷ rest) why =
     ((¬ Meets s entry.1) × (why ≡ entry.0)) ⊎ (Meets s entry.1 × FirstUnmet s rest why)
+
+-- each is met, or the first that isn't refuses
+abbrev pub PassesOrRefuses : {U : Type 0} → Shape → List Entry → Result U Refusal → Type 0
+PassesOrRefuses s entries result = MatchResult result (λ _. AllMet s entries) (λ why. FirstUnmet s entries why)
 
 -- the number of the refusal of an entry
 abbrev pub entry_number : Entry → ℕ

@@ -1,6 +1,7 @@
 pub use Rattle.dcel_text.specs.Lines
 pub use Rattle.dcel_text.specs.Transfer
 pub mod Answering
+pub mod Asking
 pub mod Conditions
 pub mod Grammar
 pub mod Instructions

@@ -15,6 +15,14 @@ use Rattle.dcel_text.specs.Texts.{ended, listed, numbered}
 abbrev pub bare : {V : Type 0} → Refusal → Refused V
 bare why = record { why = why; back = Nothing }
 
+-- `vertex V`
+abbrev pub vertex_text : ℕ → List ℕ
+vertex_text v = ended (numbered (codes "vertex ") v)
+
+-- `half H`
+abbrev pub half_edge_text : ℕ → List ℕ
+half_edge_text h = ended (numbered (codes "half ") h)
+
 -- ` moved N` where the vertex N moved in
 abbrev pub moved_text : Option ℕ → List ℕ
 moved_text (Some n) = numbered (codes " moved ") n
@@ -41,8 +49,8 @@ flips_text legalized = ended (numbered (codes "flips ") (flips_told legalized) +
 -- how a reply is written
 abbrev pub reply_text : Response ℤ → List ℕ
 reply_text Done = ended (codes "ok")
-reply_text (Vertex v) = ended (numbered (codes "vertex ") v)
-reply_text (Half h) = ended (numbered (codes "half ") h)
+reply_text (Vertex v) = vertex_text v
+reply_text (Half h) = half_edge_text h
 reply_text (Halves hs) = ended (codes "halves" ++ listed hs)
 reply_text (Opened edges faces new_edges smallest) = opened_text edges faces new_edges
 reply_text (Removed datum moved) = removed_text datum moved

@@ -8,21 +8,26 @@ use Rattle.dcel_commands.specs.Instructions.{Instruction, Append, Triangle, Setu
 use Rattle.dcel_commands.specs.Responses.{Response}
 use Rattle.dcel_commands.specs.Rules.{CommandRule}
 use Rattle.dcel_commands.specs.request.Append.{append}
-use Rattle.dcel_commands.specs.request.AtEdge.{line, outside, half, split}
 use Rattle.dcel_commands.specs.request.Cleanup.{cleanup}
 use Rattle.dcel_commands.specs.request.Clear.{clear}
 use Rattle.dcel_commands.specs.request.Close.{close}
 use Rattle.dcel_commands.specs.request.Degenerate.{degenerate}
+use Rattle.dcel_commands.specs.request.Extend.{extend}
 use Rattle.dcel_commands.specs.request.Flip.{flip}
+use Rattle.dcel_commands.specs.request.Half.{half}
 use Rattle.dcel_commands.specs.request.Insert.{insert}
 use Rattle.dcel_commands.specs.request.Isolate.{isolate}
 use Rattle.dcel_commands.specs.request.Legalize.{legalize}
+use Rattle.dcel_commands.specs.request.Line.{line}
+use Rattle.dcel_commands.specs.request.Outside.{outside}
 use Rattle.dcel_commands.specs.request.Put.{put}
 use Rattle.dcel_commands.specs.request.Remesh.{remesh}
 use Rattle.dcel_commands.specs.request.Remove.{remove}
+use Rattle.dcel_commands.specs.request.Setup.{setup}
+use Rattle.dcel_commands.specs.request.Split.{split}
 use Rattle.dcel_commands.specs.request.Strip.{strip}
+use Rattle.dcel_commands.specs.request.Swap.{swap}
 use Rattle.dcel_commands.specs.request.Triangle.{triangle}
-use Rattle.dcel_commands.specs.request.Vertices.{setup, extend, swap}
 use Rattle.dcel_maps.specs.Shapes.{Mesh, Shape}
 
 -- the commands

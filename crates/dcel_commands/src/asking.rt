@@ -4,9 +4,8 @@ ghost use Rattle.std.specs.Prelude.{◌≡◌, ◌↔◌, ◌+◌, ◌*◌, ◌<
 ghost use Rattle.dcel_maps.specs.Conditions.{HasRoom};
 ghost use Rattle.dcel_maps.specs.Removals.{Closed};
 ghost use Rattle.dcel_maps.specs.Shapes.{IsLive, face_count};
-ghost use Rattle.dcel_commands.specs.Conditions.{AllMet, AreWithin, FirstUnmet, IsIsolated, OnTriangle};
-ghost use Rattle.dcel_commands.specs.request.AtEdge.{edge_and_vertex};
-ghost use Rattle.dcel_commands.specs.request.Vertices.{live_vertices, two_vertices};
+ghost use Rattle.dcel_commands.specs.Asking.{edge_and_vertex, edges_and_faces, live_vertices, two_vertices};
+ghost use Rattle.dcel_commands.specs.Conditions.{AreWithin, IsIsolated, OnTriangle, PassesOrRefuses};
 ghost use Rattle.spade_dcel.specs.Handles.{mesh_behind, number_of};
 ghost use Rattle.dcel_commands.specs.declared.refusal.Refusal.TheVariants.{NotTriangle};
 
@@ -104,8 +103,7 @@ pub fn ask_triangle<V, DE, UE, F, A: Allocator>(
 ) -> Result<(), Refusal>
     requires mesh { mesh_behind edge ≡ dcel.now }
     requires live { IsLive (mesh_behind edge).shape (number_of edge) }
-    ensures { let asks = (NotTriangle, OnTriangle (number_of edge.entry)) ∷ [] in
-        MatchResult result (λ _. AllMet dcel.now.shape asks) (λ why. FirstUnmet dcel.now.shape asks why) }
+    ensures { PassesOrRefuses dcel.now.shape ((NotTriangle, OnTriangle (number_of edge.entry)) ∷ []) result }
 {
     ask(dcel.is_triangle(edge.face().fix()), Refusal::NotTriangle)
 }
@@ -116,8 +114,7 @@ pub fn ask_live_vertices<V, DE, UE, F, A: Allocator>(
     first: FixedVertexHandle,
     second: FixedVertexHandle,
 ) -> Result<(), Refusal>
-    ensures { let asks = live_vertices first second in
-        MatchResult result (λ _. AllMet dcel.now.shape asks) (λ why. FirstUnmet dcel.now.shape asks why) }
+    ensures { PassesOrRefuses dcel.now.shape (live_vertices first second) result }
 {
     ask(first.index() < dcel.num_vertices(), Refusal::NoSuchVertex)?;
     ask(second.index() < dcel.num_vertices(), Refusal::NoSuchVertex)?;
@@ -131,8 +128,7 @@ pub fn ask_two_vertices<V, DE, UE, F, A: Allocator>(
     first: FixedVertexHandle,
     second: FixedVertexHandle,
 ) -> Result<(), Refusal>
-    ensures { let asks = two_vertices first second in
-        MatchResult result (λ _. AllMet dcel.now.shape asks) (λ why. FirstUnmet dcel.now.shape asks why) }
+    ensures { PassesOrRefuses dcel.now.shape (two_vertices first second) result }
 {
     ask_live_vertices(dcel, first, second)?;
     ask(first != second, Refusal::SameVertex)
@@ -147,14 +143,31 @@ pub fn ask_edge_and_vertex<V, DE, UE, F, A: Allocator>(
     edge: FixedDirectedEdgeHandle,
     vertex: FixedVertexHandle,
 ) -> Result<(), Refusal>
-    ensures { let asks = edge_and_vertex edge vertex in
-        MatchResult result (λ _. AllMet dcel.now.shape asks) (λ why. FirstUnmet dcel.now.shape asks why) }
+    ensures { PassesOrRefuses dcel.now.shape (edge_and_vertex edge vertex) result }
 {
     ask(has_vertex(dcel, vertex), Refusal::NoSuchVertex)?;
     ask(has_half_edge(dcel, edge), Refusal::NoSuchEdge)?;
     ask(dcel.is_live_edge(edge.as_undirected()), Refusal::GivenUp)?;
     ask(dcel.is_live_vertex(vertex), Refusal::GivenUp)?;
     ask(dcel.is_unconnected(vertex), Refusal::VertexInUse)
+}
+
+/// Refuses unless each edge is in range, and each face is in range and not the outer face.
+pub fn ask_elements<V, DE, UE, F, A: Allocator>(
+    dcel: &Dcel<V, DE, UE, F, A>,
+    edges: &[FixedUndirectedEdgeHandle],
+    faces: &[FixedFaceHandle<InnerTag>],
+) -> Result<(), Refusal>
+    ensures { PassesOrRefuses dcel.now.shape (edges_and_faces edges.now faces.now) result }
+{
+    ask(
+        are_below(edges, dcel.num_undirected_edges()),
+        Refusal::NoSuchEdge,
+    )?;
+    ask(
+        are_inner_faces(faces, dcel.num_faces()),
+        Refusal::NoSuchFace,
+    )
 }
 
 /// Returns whether the limit leaves room for this many more vertices, edges and faces.

@@ -23,6 +23,12 @@ pub type Said<A> = Option<Result<Request<A>, AllocError>>;
 /// A list of elements, or that there is no memory for it.
 type Made<Kind, InnerOuter, A> = Result<Vec<FixedHandleImpl<Kind, InnerOuter>, A>, AllocError>;
 
+/// A number and a list of elements, or that there is no memory for the list.
+type NumberAndMade<Kind, InnerOuter, A> = Result<
+    (usize, Vec<FixedHandleImpl<Kind, InnerOuter>, A>),
+    AllocError,
+>;
+
 /// Two lists of elements, or that there is no memory for them.
 type TwoMade<K, I, L, J, A> = Result<
     (Vec<FixedHandleImpl<K, I>, A>, Vec<FixedHandleImpl<L, J>, A>),
@@ -149,6 +155,23 @@ fn one_list<'a, Kind, InnerOuter: InnerOuterMarker, A: Allocator>(
     let (count, others) = count_numbers(rest);
     nothing(others)?;
     Some(numbers(rest, count, memory))
+}
+
+/// Reads a number, a list of elements and nothing else.
+fn number_and_list<'a, Kind, InnerOuter: InnerOuterMarker, A: Allocator>(
+    rest: Rest<'a>,
+    memory: A,
+) -> Option<NumberAndMade<Kind, InnerOuter, A>>
+    ensures { MatchOption result
+        ((n : ℕ) (ns : List ℕ) → IsNumber n → AllByRecursion IsNumber ns → left rest.entry ≢ decimal n ∷ map decimal ns)
+        (λ made. (n : ℕ) × (ns : List ℕ) × IsNumber n × AllByRecursion IsNumber ns × (left rest.entry ≡ decimal n ∷ map decimal ns)
+        × MatchResult made (λ read. (read.0 ≡ n) × (read.1.items ≡ ns)) (λ _. 0 < length ns)) }
+{
+    let (number, others) = number_then(rest)?;
+    match one_list(others, memory)? {
+        Ok(list) => Some(Ok((number as usize, list))),
+        Err(error) => Some(Err(error)),
+    }
 }
 
 /// Reads two lists of elements with a slash between them, and nothing else.
@@ -307,10 +330,9 @@ pub fn put<'a, A: Allocator>(rest: Rest<'a>) -> Said<A>
 pub fn isolate<'a, A: Allocator>(rest: Rest<'a>, memory: A) -> Said<A>
     ensures { Says (codes "isolate") (left rest.entry) result }
 {
-    let (number, others) = number_then(rest)?;
-    match one_list(others, memory)? {
-        Ok(list) => {
-            let vertex = FixedHandleImpl::new(number as usize);
+    match number_and_list(rest, memory)? {
+        Ok((number, list)) => {
+            let vertex = FixedHandleImpl::new(number);
             Some(Ok(Request::Edit(Command::Isolate(vertex, list))))
         }
         Err(error) => Some(Err(error)),
@@ -365,12 +387,8 @@ pub fn degenerate<'a, A: Allocator>(rest: Rest<'a>) -> Said<A>
 pub fn legalize<'a, A: Allocator>(rest: Rest<'a>, memory: A) -> Said<A>
     ensures { Says (codes "legalize") (left rest.entry) result }
 {
-    let (number, others) = number_then(rest)?;
-    match one_list(others, memory)? {
-        Ok(list) => {
-            let max_flips = number as usize;
-            Some(Ok(Request::Edit(Command::Legalize(max_flips, list))))
-        }
+    match number_and_list(rest, memory)? {
+        Ok((max_flips, list)) => Some(Ok(Request::Edit(Command::Legalize(max_flips, list)))),
         Err(error) => Some(Err(error)),
     }
 }

@@ -3,14 +3,14 @@
 ghost use Rattle.std.specs.Prelude.{◌≡◌};
 ghost use Rattle.dcel_text.specs.Output.{Writes};
 ghost use Rattle.dcel_commands.specs.Refusal.{refusal_text};
-ghost use Rattle.dcel_commands.specs.Replies.{ending_of, flips_text, moved_text, opened_text, removed_text, reply_text};
+ghost use Rattle.dcel_commands.specs.Replies.{ending_of, flips_text, half_edge_text, moved_text, opened_text, removed_text, reply_text, vertex_text};
 ghost use Rattle.dcel_commands.specs.Responses.{response};
 ghost use Rattle.dcel_legalize.specs.Outcome.{flips_told};
 ghost use Rattle.dcel_text.specs.Texts.{listed};
 
 use crate::commands::Reply;
 use crate::refusal::Refusal;
-use dcel_fixed::{FixedHandleImpl, FixedVertexHandle, InnerOuterMarker};
+use dcel_fixed::{FixedDirectedEdgeHandle, FixedHandleImpl, FixedVertexHandle, InnerOuterMarker};
 use dcel_legalize::Legalized;
 use dcel_text::output::Writer;
 use dcel_text::sink::LineSink;
@@ -25,6 +25,22 @@ pub fn write_refusal<K: LineSink>(out: &mut Writer<'_, K>, why: Refusal)
     out.number(u64::from(why.number()));
     out.write(b" ");
     out.write(why.name().as_bytes());
+    out.write(b"\n");
+}
+
+/// Writes the line of a vertex.
+pub fn write_vertex<K: LineSink>(out: &mut Writer<'_, K>, vertex: FixedVertexHandle)
+    ensures { Writes K.has_failed K.contents out.old out.new (vertex_text vertex) }
+{
+    out.numbered(b"vertex ", vertex.index() as u64);
+    out.write(b"\n");
+}
+
+/// Writes the line of a half edge.
+pub fn write_half_edge<K: LineSink>(out: &mut Writer<'_, K>, edge: FixedDirectedEdgeHandle)
+    ensures { Writes K.has_failed K.contents out.old out.new (half_edge_text edge) }
+{
+    out.numbered(b"half ", edge.index() as u64);
     out.write(b"\n");
 }
 
@@ -111,14 +127,8 @@ pub fn write_reply<A: Allocator, K: LineSink>(out: &mut Writer<'_, K>, reply: Re
 {
     match reply {
         Reply::Ok => out.write(b"ok\n"),
-        Reply::Vertex(vertex) => {
-            out.numbered(b"vertex ", vertex.index() as u64);
-            out.write(b"\n");
-        }
-        Reply::Half(edge) => {
-            out.numbered(b"half ", edge.index() as u64);
-            out.write(b"\n");
-        }
+        Reply::Vertex(vertex) => write_vertex(out, vertex),
+        Reply::Half(edge) => write_half_edge(out, edge),
         Reply::Halves(halves) => {
             out.write(b"halves");
             write_numbers(out, &halves);

@@ -1,8 +1,7 @@
 //! What a line says: a command or a query. What each asks, and how it is carried out or told, has a
-//! file of its own, or shares one with the lines of the same form.
+//! file of its own; `words` and `hull` share one.
 
 pub mod append;
-pub mod at_edge;
 pub mod between;
 pub mod check;
 pub mod cleanup;
@@ -10,33 +9,29 @@ pub mod clear;
 pub mod close;
 pub mod counts;
 pub mod degenerate;
+pub mod extend;
 pub mod flip;
 pub mod get;
+pub mod half;
 pub mod insert;
 pub mod isolate;
 pub mod legalize;
+pub mod line;
 pub mod origin;
 pub mod out;
+pub mod outside;
 pub mod put;
 pub mod remesh;
 pub mod remove;
+pub mod setup;
+pub mod split;
 pub mod strip;
+pub mod swap;
 pub mod triangle;
-pub mod vertices;
 pub mod words;
 
-use crate::asking::{
-    are_below, are_inner_faces, ask, ask_edge_and_vertex, ask_live_vertices, ask_triangle,
-    ask_two_vertices, has_edge, has_half_edge, has_room, has_vertex, is_closed, is_isolated,
-};
-use crate::commands::{Command, Handed, Refused, Reply};
-use crate::refusal::Refusal;
-use dcel_fixed::{
-    FixedDirectedEdgeHandle, FixedFaceHandle, FixedUndirectedEdgeHandle, FixedVertexHandle,
-    InnerTag,
-};
-use dcel_text::output::Writer;
-use dcel_text::sink::LineSink;
+use crate::commands::Command;
+use dcel_fixed::{FixedDirectedEdgeHandle, FixedVertexHandle};
 use spade_dcel::dcel::Dcel;
 use std::alloc::Allocator;
 

@@ -1,8 +1,9 @@
 -- `cleanup U.. / F..`: what the open removal has given up is taken out, all but its vertex; one that has none is closed.
 use Rattle.std.specs.Prelude.{◌≡◌, ℕ, false, List, [], ◌∷◌, ◌++◌, codes}
 use Rattle.dcel_commands.specs.declared.commands.reply.Handed.TheVariants.{Nothing}
-use Rattle.dcel_commands.specs.declared.refusal.Refusal.TheVariants.{NoSuchEdge, NoSuchFace, NoRemoval, WrongLists}
-use Rattle.dcel_commands.specs.Conditions.{EdgesInRange, InnerFacesInRange, NotCleaned, Listed}
+use Rattle.dcel_commands.specs.declared.refusal.Refusal.TheVariants.{NoRemoval, WrongLists}
+use Rattle.dcel_commands.specs.Asking.{edges_and_faces}
+use Rattle.dcel_commands.specs.Conditions.{NotCleaned, Listed}
 use Rattle.dcel_commands.specs.Grammar.{Slash, numbers}
 use Rattle.dcel_commands.specs.Responses.{Done}
 use Rattle.dcel_commands.specs.Rules.{CommandRule}
@@ -13,9 +14,8 @@ cleanup us fs = record {
   word = codes "cleanup";
   given = numbers us ++ Slash ∷ numbers fs;
   asks = λ limit.
-      (NoSuchEdge, EdgesInRange us)
-      ∷ (NoSuchFace, InnerFacesInRange fs)
-      ∷ (NoRemoval, NotCleaned)
+      edges_and_faces us fs
+      ++ (NoRemoval, NotCleaned)
       ∷ (WrongLists, Listed us fs)
       ∷ [];
   takes_memory = false;

@@ -1,10 +1,9 @@
 -- `origin H`: the vertex that H starts at.
 use Rattle.std.specs.Prelude.{◌≡◌, ℕ, [], ◌∷◌, codes}
-use Rattle.dcel_commands.specs.Responses.{Vertex}
 use Rattle.dcel_commands.specs.declared.refusal.Refusal.TheVariants.{NoSuchEdge, GivenUp}
 use Rattle.dcel_commands.specs.Conditions.{HalfEdgeInRange, HalfEdgeLive}
 use Rattle.dcel_commands.specs.Grammar.{Number}
-use Rattle.dcel_commands.specs.Replies.{reply_text}
+use Rattle.dcel_commands.specs.Replies.{vertex_text}
 use Rattle.dcel_commands.specs.Rules.{QueryRule}
 use Rattle.dcel_maps.specs.Shapes.{origin_of}
 
@@ -13,5 +12,5 @@ origin h = record {
   word = codes "origin";
   given = Number h ∷ [];
   asks = (NoSuchEdge, HalfEdgeInRange h) ∷ (GivenUp, HalfEdgeLive h) ∷ [];
-  Tells = λ m text. text ≡ reply_text (Vertex (origin_of m.shape h));
+  Tells = λ m text. text ≡ vertex_text (origin_of m.shape h);
 }

@@ -2,8 +2,9 @@
 -- the hole.
 use Rattle.std.specs.Prelude.{◌≡◌, ℕ, ◌+◌, ◌-◌, true, List, [], ◌∷◌, ◌++◌, codes, length}
 use Rattle.dcel_commands.specs.declared.commands.reply.Handed.TheVariants.{Nothing}
-use Rattle.dcel_commands.specs.declared.refusal.Refusal.TheVariants.{NoSuchEdge, NoSuchFace, RemovalOpen, BadRing, NoRoom}
-use Rattle.dcel_commands.specs.Conditions.{HalfEdgesInRange, EdgesInRange, InnerFacesInRange, NoneOpen, RingOf, RoomFor}
+use Rattle.dcel_commands.specs.declared.refusal.Refusal.TheVariants.{NoSuchEdge, RemovalOpen, BadRing, NoRoom}
+use Rattle.dcel_commands.specs.Asking.{edges_and_faces}
+use Rattle.dcel_commands.specs.Conditions.{HalfEdgesInRange, NoneOpen, RingOf, RoomFor}
 use Rattle.dcel_commands.specs.Grammar.{Slash, numbers}
 use Rattle.dcel_commands.specs.Responses.{Opened}
 use Rattle.dcel_commands.specs.Rules.{CommandRule}
@@ -17,9 +18,8 @@ remesh hs us fs = record {
   given = numbers hs ++ Slash ∷ (numbers us ++ Slash ∷ numbers fs);
   asks = λ limit.
       (NoSuchEdge, HalfEdgesInRange hs)
-      ∷ (NoSuchEdge, EdgesInRange us)
-      ∷ (NoSuchFace, InnerFacesInRange fs)
-      ∷ (RemovalOpen, NoneOpen)
+      ∷ edges_and_faces us fs
+      ++ (RemovalOpen, NoneOpen)
       ∷ (BadRing, RingOf hs us fs)
       ∷ (NoRoom, RoomFor limit 0 (length hs - 3) (length hs - 2))
       ∷ [];

@@ -8,11 +8,9 @@ ghost use Rattle.dcel_maps.specs.Shapes.{IsMesh};
 
 use crate::commands::command::Command;
 use crate::commands::reply::{Refused, Reply};
-use crate::request::at_edge::AtEdge::{Beside, OnBothSides, OnBridge, OnOneSide};
-use crate::request::vertices::OfVertices::{Exchanged, Joined, Longer};
 use crate::request::{
-    append, at_edge, cleanup, clear, close, degenerate, flip, insert, isolate, legalize, put,
-    remesh, remove, strip, triangle, vertices,
+    append, cleanup, clear, close, degenerate, extend, flip, half, insert, isolate, legalize, line,
+    outside, put, remesh, remove, setup, split, strip, swap, triangle,
 };
 use spade_dcel::dcel::Dcel;
 use spade_dcel::laws;
@@ -57,16 +55,16 @@ pub fn apply<
     let answer = match command {
         Command::Append(datum) => append::carry_out(dcel, datum, limit),
         Command::Triangle(x, y, z) => triangle::carry_out(dcel, (x, y, z), limit),
-        Command::Setup(first, second) => vertices::carry_out(dcel, Joined, first, second, limit),
-        Command::Extend(end, new) => vertices::carry_out(dcel, Longer, end, new, limit),
-        Command::Line(edge, vertex) => at_edge::carry_out(dcel, OnBridge, edge, vertex, limit),
+        Command::Setup(first, second) => setup::carry_out(dcel, first, second, limit),
+        Command::Extend(end, new) => extend::carry_out(dcel, end, new, limit),
+        Command::Line(edge, vertex) => line::carry_out(dcel, edge, vertex, limit),
         Command::Close(edge) => close::carry_out(dcel, edge, limit),
-        Command::Outside(edge, vertex) => at_edge::carry_out(dcel, Beside, edge, vertex, limit),
+        Command::Outside(edge, vertex) => outside::carry_out(dcel, edge, vertex, limit),
         Command::Insert(vertex, face) => insert::carry_out(dcel, vertex, face, limit),
-        Command::Half(edge, vertex) => at_edge::carry_out(dcel, OnOneSide, edge, vertex, limit),
-        Command::Split(edge, vertex) => at_edge::carry_out(dcel, OnBothSides, edge, vertex, limit),
+        Command::Half(edge, vertex) => half::carry_out(dcel, edge, vertex, limit),
+        Command::Split(edge, vertex) => split::carry_out(dcel, edge, vertex, limit),
         Command::Flip(edge) => flip::carry_out(dcel, edge),
-        Command::Swap(first, second) => vertices::carry_out(dcel, Exchanged, first, second, limit),
+        Command::Swap(first, second) => swap::carry_out(dcel, first, second),
         Command::Put(vertex, datum) => put::carry_out(dcel, vertex, datum),
         Command::Isolate(vertex, list) => isolate::carry_out(dcel, vertex, list, limit),
         Command::Remesh(list, edges, faces) => {

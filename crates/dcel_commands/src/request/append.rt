@@ -3,8 +3,12 @@
 ghost use Rattle.std.specs.Prelude.{◌≤◌, ◌^◌};
 ghost use Rattle.dcel_commands.specs.Vocabulary.{Append, Carries, answered};
 
-use super::*;
+use crate::asking::has_room;
+use crate::commands::{Handed, Refused, Reply};
+use crate::refusal::Refusal;
+use spade_dcel::dcel::Dcel;
 use spade_dcel::operations::{NoMemory, append_unconnected_vertex};
+use std::alloc::Allocator;
 
 /// Carries the command out, or refuses it and leaves the mesh as it was.
 pub fn carry_out<V, DE: Default, UE: Default, F: Default, A: Allocator>(

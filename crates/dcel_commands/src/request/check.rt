@@ -3,7 +3,10 @@
 ghost use Rattle.dcel_commands.specs.Vocabulary.{WritesSome};
 ghost use Rattle.dcel_commands.specs.request.Check.{check};
 
-use super::*;
+use crate::request::LineMesh;
+use dcel_text::output::Writer;
+use dcel_text::sink::LineSink;
+use std::alloc::Allocator;
 
 /// Writes whether `sanity_check` finds the mesh triangulated.
 pub fn write_check<A: Allocator, K: LineSink>(out: &mut Writer<'_, K>, dcel: &LineMesh<A>)

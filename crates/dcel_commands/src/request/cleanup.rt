@@ -3,8 +3,13 @@
 ghost use Rattle.std.specs.Prelude.{ℕ};
 ghost use Rattle.dcel_commands.specs.Vocabulary.{Carries, Cleanup, answered};
 
-use super::*;
+use crate::asking::{ask, ask_elements, is_isolated};
+use crate::commands::{Refused, Reply};
+use crate::refusal::Refusal;
+use dcel_fixed::{FixedFaceHandle, FixedUndirectedEdgeHandle, InnerTag};
+use spade_dcel::dcel::Dcel;
 use spade_dcel::operations::{IsolateVertexResult, cleanup_isolated_vertex};
+use std::alloc::Allocator;
 
 /// Carries the command out, or refuses it and leaves the mesh as it was.
 pub fn carry_out<
@@ -21,14 +26,7 @@ pub fn carry_out<
 ) -> Result<Reply<V, A>, Refused<V>>
     ensures { (limit : ℕ) → Carries DE.is_default UE.is_default F.is_default limit dcel.old (Cleanup edges.items faces.items) (answered result) dcel.new }
 {
-    ask(
-        are_below(&edges, dcel.num_undirected_edges()),
-        Refusal::NoSuchEdge,
-    )?;
-    ask(
-        are_inner_faces(&faces, dcel.num_faces()),
-        Refusal::NoSuchFace,
-    )?;
+    ask_elements(dcel, &edges, &faces)?;
     ask(is_isolated(dcel), Refusal::NoRemoval)?;
     let mut opened = IsolateVertexResult {
         new_edges: Vec::new(*edges.allocator()),

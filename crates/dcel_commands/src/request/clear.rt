@@ -3,7 +3,9 @@
 ghost use Rattle.std.specs.Prelude.{ℕ};
 ghost use Rattle.dcel_commands.specs.Vocabulary.{Carries, Clear, answered};
 
-use super::*;
+use crate::commands::{Refused, Reply};
+use spade_dcel::dcel::Dcel;
+use std::alloc::Allocator;
 
 /// Carries the command out, or refuses it and leaves the mesh as it was.
 pub fn carry_out<V: Drop, DE: Default + Drop, UE: Default + Drop, F: Default + Drop, A: Allocator>(

@@ -3,8 +3,13 @@
 ghost use Rattle.std.specs.Prelude.{◌≤◌, ◌^◌};
 ghost use Rattle.dcel_commands.specs.Vocabulary.{Carries, Close, answered};
 
-use super::*;
+use crate::asking::{ask, has_half_edge, has_room};
+use crate::commands::{Refused, Reply};
+use crate::refusal::Refusal;
+use dcel_fixed::FixedDirectedEdgeHandle;
+use spade_dcel::dcel::Dcel;
 use spade_dcel::operations::create_single_face_between_edge_and_next;
+use std::alloc::Allocator;
 
 /// Carries the command out, or refuses it and leaves the mesh as it was.
 pub fn carry_out<V, DE: Default, UE: Default, F: Default, A: Allocator>(

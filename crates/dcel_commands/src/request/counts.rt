@@ -3,7 +3,10 @@
 ghost use Rattle.dcel_commands.specs.Vocabulary.{Writes};
 ghost use Rattle.dcel_commands.specs.request.Counts.{counts_text};
 
-use super::*;
+use dcel_text::output::Writer;
+use dcel_text::sink::LineSink;
+use spade_dcel::dcel::Dcel;
+use std::alloc::Allocator;
 
 /// Writes the line of the counts of a mesh.
 pub fn write_counts<V, DE, UE, F, A: Allocator, K: LineSink>(

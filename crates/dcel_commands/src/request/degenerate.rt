@@ -3,8 +3,13 @@
 ghost use Rattle.std.specs.Prelude.{ℕ};
 ghost use Rattle.dcel_commands.specs.Vocabulary.{Carries, Degenerate, answered};
 
-use super::*;
+use crate::asking::{ask, has_vertex, is_closed};
+use crate::commands::{Refused, Reply};
+use crate::refusal::Refusal;
+use dcel_fixed::FixedVertexHandle;
+use spade_dcel::dcel::Dcel;
 use spade_dcel::operations::remove_when_degenerate;
+use std::alloc::Allocator;
 
 /// Carries the command out, or refuses it and leaves the mesh as it was.
 pub fn carry_out<V, DE: Default + Drop, UE: Default + Drop, F: Default, A: Allocator>(

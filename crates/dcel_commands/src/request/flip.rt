@@ -3,8 +3,13 @@
 ghost use Rattle.std.specs.Prelude.{ℕ};
 ghost use Rattle.dcel_commands.specs.Vocabulary.{Carries, Flip, answered};
 
-use super::*;
+use crate::asking::{ask, ask_triangle, has_edge};
+use crate::commands::{Refused, Reply};
+use crate::refusal::Refusal;
+use dcel_fixed::FixedUndirectedEdgeHandle;
+use spade_dcel::dcel::Dcel;
 use spade_dcel::operations::flip_cw;
+use std::alloc::Allocator;
 
 /// Carries the command out, or refuses it and leaves the mesh as it was.
 pub fn carry_out<V, DE: Default, UE: Default, F: Default, A: Allocator>(

@@ -1,8 +1,14 @@
 //! The line `get V`: what it asks, and how it is answered.
 
-ghost use Rattle.dcel_commands.specs.Vocabulary.{TellsOrRefuses};
+ghost use Rattle.dcel_commands.specs.Vocabulary.{Get, TellsOrRefuses};
 
-use super::*;
+use crate::asking::{ask, has_vertex};
+use crate::refusal::Refusal;
+use crate::request::LineMesh;
+use dcel_fixed::FixedVertexHandle;
+use dcel_text::output::Writer;
+use dcel_text::sink::LineSink;
+use std::alloc::Allocator;
 
 /// Writes the reply, or refuses and writes nothing.
 pub fn tell<A: Allocator, K: LineSink>(
@@ -10,7 +16,7 @@ pub fn tell<A: Allocator, K: LineSink>(
     dcel: &LineMesh<A>,
     vertex: FixedVertexHandle,
 ) -> Result<(), Refusal>
-    ensures { TellsOrRefuses K.has_failed K.contents out.old dcel.now (Query.Get vertex) result out.new }
+    ensures { TellsOrRefuses K.has_failed K.contents out.old dcel.now (Get vertex) result out.new }
 {
     ask(has_vertex(dcel, vertex), Refusal::NoSuchVertex)?;
     let datum = *dcel.vertex_data(vertex);

@@ -3,8 +3,13 @@
 ghost use Rattle.std.specs.Prelude.{◌≤◌, ◌^◌};
 ghost use Rattle.dcel_commands.specs.Vocabulary.{Carries, Insert, answered};
 
-use super::*;
+use crate::asking::{ask, has_room, has_vertex};
+use crate::commands::{Refused, Reply};
+use crate::refusal::Refusal;
+use dcel_fixed::{FixedFaceHandle, FixedVertexHandle, InnerTag};
+use spade_dcel::dcel::Dcel;
 use spade_dcel::operations::insert_into_triangle;
+use std::alloc::Allocator;
 
 /// Carries the command out, or refuses it and leaves the mesh as it was.
 pub fn carry_out<V, DE: Default, UE: Default, F: Default, A: Allocator>(

@@ -3,8 +3,13 @@
 ghost use Rattle.std.specs.Prelude.{◌≤◌, ◌^◌};
 ghost use Rattle.dcel_commands.specs.Vocabulary.{Carries, Isolate, answered};
 
-use super::*;
+use crate::asking::{are_below, ask, has_room, has_vertex, is_closed};
+use crate::commands::{Refused, Reply};
+use crate::refusal::Refusal;
+use dcel_fixed::{FixedDirectedEdgeHandle, FixedVertexHandle};
+use spade_dcel::dcel::Dcel;
 use spade_dcel::operations::isolate_vertex_and_fill_hole;
+use std::alloc::Allocator;
 
 /// Carries the command out, or refuses it and leaves the mesh as it was.
 pub fn carry_out<V, DE: Default, UE: Default, F: Default, A: Allocator + Clone, B: Allocator>(

@@ -3,8 +3,13 @@
 ghost use Rattle.std.specs.Prelude.{ℕ};
 ghost use Rattle.dcel_commands.specs.Vocabulary.{Carries, Legalize, answered};
 
-use super::*;
+use crate::asking::{are_below, ask};
+use crate::commands::{Refused, Reply};
+use crate::refusal::Refusal;
+use dcel_fixed::FixedUndirectedEdgeHandle;
 use dcel_legalize::legalize_by_number;
+use spade_dcel::dcel::Dcel;
+use std::alloc::Allocator;
 
 /// Carries the command out, or refuses it and leaves the mesh as it was.
 pub fn carry_out<V, DE: Default, UE: Default, F: Default, A: Allocator, B: Allocator>(

@@ -1,9 +1,15 @@
 //! The line `origin H`: what it asks, and how it is answered.
 
-ghost use Rattle.dcel_commands.specs.Vocabulary.{TellsOrRefuses};
+ghost use Rattle.dcel_commands.specs.Vocabulary.{Origin, TellsOrRefuses};
 
-use super::*;
-use crate::replies::write_reply;
+use crate::asking::{ask, has_half_edge};
+use crate::refusal::Refusal;
+use crate::replies::write_vertex;
+use crate::request::LineMesh;
+use dcel_fixed::FixedDirectedEdgeHandle;
+use dcel_text::output::Writer;
+use dcel_text::sink::LineSink;
+use std::alloc::Allocator;
 
 /// Writes the reply, or refuses and writes nothing.
 pub fn tell<A: Allocator, K: LineSink>(
@@ -11,13 +17,10 @@ pub fn tell<A: Allocator, K: LineSink>(
     dcel: &LineMesh<A>,
     edge: FixedDirectedEdgeHandle,
 ) -> Result<(), Refusal>
-    ensures { TellsOrRefuses K.has_failed K.contents out.old dcel.now (Query.Origin edge) result out.new }
+    ensures { TellsOrRefuses K.has_failed K.contents out.old dcel.now (Origin edge) result out.new }
 {
     ask(has_half_edge(dcel, edge), Refusal::NoSuchEdge)?;
     ask(dcel.is_live_edge(edge.as_undirected()), Refusal::GivenUp)?;
-    write_reply(
-        out,
-        Reply::<i64, A>::Vertex(dcel.directed_edge(edge).from().fix()),
-    );
+    write_vertex(out, dcel.directed_edge(edge).from().fix());
     Ok(())
 }

@@ -2,12 +2,19 @@
 
 ghost use Rattle.std.specs.Prelude.{◌≡◌, ◌<◌, IfSome};
 ghost use Rattle.std.specs.Option.{option_map};
-ghost use Rattle.dcel_commands.specs.Vocabulary.{IsLive, TellsOrRefuses, Writes, ccw_of, listed, mesh_behind, number_of, walk_of};
+ghost use Rattle.dcel_commands.specs.Vocabulary.{IsLive, Out, TellsOrRefuses, Writes, ccw_of, listed, mesh_behind, number_of, walk_of};
 ghost use Rattle.dcel_commands.specs.request.Out.{least_out, turn_of, turn_text};
 
-use super::*;
+use crate::asking::{ask, has_vertex};
+use crate::refusal::Refusal;
+use crate::request::LineMesh;
+use dcel_fixed::FixedVertexHandle;
+use dcel_text::output::Writer;
+use dcel_text::sink::LineSink;
+use spade_dcel::dcel::Dcel;
 use spade_dcel::handles::{DirectedEdgeHandle, VertexHandle};
 use spade_dcel::iterators::{CCWEdgesNextBackFn, CircularIterator};
+use std::alloc::Allocator;
 
 /// Writes the reply, or refuses and writes nothing.
 pub fn tell<A: Allocator, K: LineSink>(
@@ -15,7 +22,7 @@ pub fn tell<A: Allocator, K: LineSink>(
     dcel: &LineMesh<A>,
     vertex: FixedVertexHandle,
 ) -> Result<(), Refusal>
-    ensures { TellsOrRefuses K.has_failed K.contents out.old dcel.now (Query.Out vertex) result out.new }
+    ensures { TellsOrRefuses K.has_failed K.contents out.old dcel.now (Out vertex) result out.new }
 {
     ask(has_vertex(dcel, vertex), Refusal::NoSuchVertex)?;
     ask(dcel.is_live_vertex(vertex), Refusal::GivenUp)?;

@@ -3,7 +3,12 @@
 ghost use Rattle.std.specs.Prelude.{ℕ};
 ghost use Rattle.dcel_commands.specs.Vocabulary.{Carries, Put, answered};
 
-use super::*;
+use crate::asking::has_vertex;
+use crate::commands::{Handed, Refused, Reply};
+use crate::refusal::Refusal;
+use dcel_fixed::FixedVertexHandle;
+use spade_dcel::dcel::Dcel;
+use std::alloc::Allocator;
 
 /// Carries the command out, or refuses it and leaves the mesh as it was.
 pub fn carry_out<V: Drop, DE: Default, UE: Default, F: Default, A: Allocator>(

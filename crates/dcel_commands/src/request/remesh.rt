@@ -3,8 +3,13 @@
 ghost use Rattle.std.specs.Prelude.{◌≤◌, ◌^◌};
 ghost use Rattle.dcel_commands.specs.Vocabulary.{Carries, Remesh, answered};
 
-use super::*;
+use crate::asking::{are_below, ask, ask_elements, has_room, is_closed};
+use crate::commands::{Refused, Reply};
+use crate::refusal::Refusal;
+use dcel_fixed::{FixedDirectedEdgeHandle, FixedFaceHandle, FixedUndirectedEdgeHandle, InnerTag};
+use spade_dcel::dcel::Dcel;
 use spade_dcel::operations::remesh_edge_ring;
+use std::alloc::Allocator;
 
 /// Carries the command out, or refuses it and leaves the mesh as it was.
 ///
@@ -23,14 +28,7 @@ pub fn carry_out<V, DE: Default, UE: Default, F: Default, A: Allocator + Clone, 
         are_below(&list, dcel.num_directed_edges()),
         Refusal::NoSuchEdge,
     )?;
-    ask(
-        are_below(&edges, dcel.num_undirected_edges()),
-        Refusal::NoSuchEdge,
-    )?;
-    ask(
-        are_inner_faces(&faces, dcel.num_faces()),
-        Refusal::NoSuchFace,
-    )?;
+    ask_elements(dcel, &edges, &faces)?;
     ask(is_closed(dcel), Refusal::RemovalOpen)?;
     ask(dcel.is_ring(&list, &edges, &faces), Refusal::BadRing)?;
     ask(

@@ -1,11 +1,16 @@
 //! The line `remove V`: what it asks, and how it is carried out.
 
-ghost use Rattle.std.specs.Prelude.{ℕ, [], ◌∷◌, MatchResult};
-ghost use Rattle.dcel_commands.specs.Vocabulary.{AllMet, Carries, FirstUnmet, NoOtherOpen, Removable, Remove, answered};
+ghost use Rattle.std.specs.Prelude.{ℕ, [], ◌∷◌};
+ghost use Rattle.dcel_commands.specs.Vocabulary.{Carries, NoOtherOpen, PassesOrRefuses, Removable, Remove, answered};
 ghost use Rattle.dcel_commands.specs.declared.refusal.Refusal.TheVariants.{RemovalOpen, VertexInUse};
 
-use super::*;
+use crate::asking::{ask, has_vertex, is_closed};
+use crate::commands::{Refused, Reply};
+use crate::refusal::Refusal;
+use dcel_fixed::FixedVertexHandle;
+use spade_dcel::dcel::Dcel;
 use spade_dcel::operations::swap_remove_vertex;
+use std::alloc::Allocator;
 
 /// Refuses unless the vertex can be taken out: an open removal or an edge is in the way.
 fn ask_removable<V, DE, UE, F, A: Allocator>(
@@ -13,7 +18,7 @@ fn ask_removable<V, DE, UE, F, A: Allocator>(
     vertex: FixedVertexHandle,
 ) -> Result<(), Refusal>
     ensures { let asks = (RemovalOpen, NoOtherOpen vertex) ∷ (VertexInUse, Removable vertex) ∷ [] in
-        MatchResult result (λ _. AllMet dcel.now.shape asks) (λ why. FirstUnmet dcel.now.shape asks why) }
+        PassesOrRefuses dcel.now.shape asks result }
 {
     if is_closed(dcel) {
         return ask(dcel.can_swap_remove(vertex), Refusal::VertexInUse);

@@ -3,8 +3,13 @@
 ghost use Rattle.std.specs.Prelude.{ℕ};
 ghost use Rattle.dcel_commands.specs.Vocabulary.{Carries, Strip, answered};
 
-use super::*;
+use crate::asking::{are_below, ask, is_closed};
+use crate::commands::{Refused, Reply};
+use crate::refusal::Refusal;
+use dcel_fixed::FixedDirectedEdgeHandle;
+use spade_dcel::dcel::Dcel;
 use spade_dcel::operations::disconnect_edge_strip;
+use std::alloc::Allocator;
 
 /// Carries the command out, or refuses it and leaves the mesh as it was.
 pub fn carry_out<V, DE: Default, UE: Default, F: Default, A: Allocator + Clone, B: Allocator>(

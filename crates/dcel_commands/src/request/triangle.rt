@@ -3,8 +3,11 @@
 ghost use Rattle.std.specs.Prelude.{◌≡◌};
 ghost use Rattle.dcel_commands.specs.Vocabulary.{Carries, Triangle, answered};
 
-use super::*;
+use crate::commands::{Handed, Refused, Reply};
+use crate::refusal::Refusal;
+use spade_dcel::dcel::Dcel;
 use spade_dcel::operations::{NoMemory, new_triangle};
+use std::alloc::Allocator;
 
 /// Carries the command out, or refuses it and leaves the mesh as it was.
 pub fn carry_out<

@@ -4,11 +4,15 @@ ghost use Rattle.std.specs.Prelude.{◌≡◌, ◌<◌};
 ghost use Rattle.dcel_commands.specs.Vocabulary.{IsLive, IsMesh, IsSound, Writes, face_count, face_of, listed, mesh_behind, number_of, word_of};
 ghost use Rattle.dcel_commands.specs.request.Words.{hull_text, line_of, words_text, word_round, IsLeastOnFace};
 
-use super::*;
+use dcel_fixed::FixedFaceHandle;
+use dcel_text::output::Writer;
+use dcel_text::sink::LineSink;
+use spade_dcel::dcel::Dcel;
 use spade_dcel::handles::{
     DirectedEdgeHandle, OUTER_FACE, PossiblyOuterTag, new_fixed_face_handle,
 };
 use spade_dcel::laws::every_mesh;
+use std::alloc::Allocator;
 
 /// Returns the least half edge of the face that the anchor lies on.
 fn least_on_face<'a, V, DE, UE, F, A: Allocator>(

@@ -2,11 +2,5 @@ use Rattle.std.proofs.Common.{refl}
 use Rattle.dcel_text.proofs.Writing.{writes_and, writes_text}
 use Rattle.dcel_commands.proofs.replies.write_reply.Goals as goal
 
-pub returns-in-Vertex : goal.returns-in-Vertex
-returns-in-Vertex g c = writes_text (rw (c.in-Vertex.is, c.index.ensures.value) refl) (writes_and c.numbered.ensures c.write-in-Vertex.ensures)
-
-pub returns-in-Half : goal.returns-in-Half
-returns-in-Half g c = writes_text (rw (c.in-Half.is, c.index-in-Half.ensures.value) refl) (writes_and c.numbered-in-Half.ensures c.write-in-Half.ensures)
-
 pub returns-in-Halves : goal.returns-in-Halves
 returns-in-Halves g c = writes_text (rw c.in-Halves.is refl) (writes_and (writes_and c.write-in-Halves.ensures c.write_numbers.ensures) c.write-in-Halves-2.ensures)

@@ -25,7 +25,7 @@ carries g c = elim c.match-command.branch [
   | in-Half w ↦ rw (w.answer-is, w.dcel-is, w.in-Half.is) w.carry_out-answer-in-Half.ensures
   | in-Split w ↦ rw (w.answer-is, w.dcel-is, w.in-Split.is) w.carry_out-answer-in-Split.ensures
   | in-Flip w ↦ rw (w.answer-is, w.dcel-is, w.in-Flip.is) (w.carry_out-answer-in-Flip.ensures c.args.limit)
-  | in-Swap w ↦ rw (w.answer-is, w.dcel-is, w.in-Swap.is) w.carry_out-answer-in-Swap.ensures
+  | in-Swap w ↦ rw (w.answer-is, w.dcel-is, w.in-Swap.is) (w.carry_out-answer-in-Swap.ensures c.args.limit)
   | in-Put w ↦ rw (w.answer-is, w.dcel-is, w.in-Put.is) (w.carry_out-answer-in-Put.ensures c.args.limit)
   | in-Isolate w ↦ rw (w.answer-is, w.dcel-is, w.in-Isolate.is) w.carry_out-answer-in-Isolate.ensures
   | in-Remesh w ↦ rw (w.answer-is, w.dcel-is, w.in-Remesh.is) w.carry_out-answer-in-Remesh.ensures
