@@ -98,19 +98,19 @@ pub number_in : ℤ → ℕ
 number_in (pos n) = n
 number_in (negsuc n) = 0
 
-nothing : Saying → List Value → Option Saying
+pub nothing : Saying → List Value → Option Saying
 nothing make [] = Some make
 nothing make _ = None
 
-one : (ℤ → Saying) → List Value → Option Saying
+pub one : (ℤ → Saying) → List Value → Option Saying
 one make (Of x ∷ []) = Some (make x)
 one make _ = None
 
-two : (ℤ → ℤ → Saying) → List Value → Option Saying
+pub two : (ℤ → ℤ → Saying) → List Value → Option Saying
 two make (Of x ∷ Of y ∷ []) = Some (make x y)
 two make _ = None
 
-three : (ℤ → ℤ → ℤ → Saying) → List Value → Option Saying
+pub three : (ℤ → ℤ → ℤ → Saying) → List Value → Option Saying
 three make (Of x ∷ Of y ∷ Of z ∷ []) = Some (make x y z)
 three make _ = None
 
@@ -141,19 +141,19 @@ back_last [] items = refl
 back_last (n ∷ ns) items = back_last ns items
 
 -- a number, and a list after it
-pub led : (ℤ → List ℕ → Saying) → List Value → Option Saying
+unfoldable pub led : (ℤ → List ℕ → Saying) → List Value → Option Saying
 led make (Of x ∷ values) = Some (make x (front values))
 led make _ = None
 
 remeshed : (a b c hs us fs : List ℕ) → a ≡ hs → b ≡ us → c ≡ fs → Some (Edit (Remesh a b c)) ≡ Some (Edit (Remesh hs us fs))
 remeshed a b c hs us fs first second third = rw (first, second, third) refl
 
-pub request_in : List (List ℕ × (List Value → Option Saying)) → List ℕ → List Value → Option Saying
+unfoldable pub request_in : List (List ℕ × (List Value → Option Saying)) → List ℕ → List Value → Option Saying
 request_in [] first values = None
 request_in (row ∷ rows) first values = cond (bytes_eq first row.0) (row.1 values) (request_in rows first values)
 
 -- the request that a word makes of values
-pub request_of : List ℕ → List Value → Option Saying
+unfoldable pub request_of : List ℕ → List Value → Option Saying
 request_of = request_in (
     (codes "append", one (λ d. Edit (Append d))) ∷
     (codes "triangle", three (λ x y z. Edit (Triangle x y z))) ∷
