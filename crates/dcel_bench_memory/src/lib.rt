@@ -2,16 +2,10 @@
 #![tactic(auto)]
 
 #[cfg(test)]
-mod lists;
-#[cfg(test)]
 mod memoryless;
 #[cfg(test)]
-mod openers;
-#[cfg(test)]
-mod refused_lines;
-#[cfg(test)]
-mod refused_memory;
-#[cfg(test)]
 mod requests;
+#[cfg(test)]
+mod sweep;
 #[cfg(test)]
 mod watched;
