@@ -16,6 +16,9 @@ use dcel_commands::commands::{Refusal, Refused, Reply, StoppedAt, apply_all};
 use std::alloc::Global;
 use std::test::Fail;
 
+/// The function that carries out lists.
+const CALL: &str = "apply_all";
+
 /// A call, as a command says it, its reply, and the data that come back if it is refused.
 type Step = (Said, Answer, &'static [i64]);
 
@@ -212,7 +215,7 @@ fn is_list_refused(row: Row, number: u64, alloc: Global) -> Result<bool, Fail> {
     same(
         outcome.is_err(),
         is_refused,
-        format_args!("request {number}"),
+        format_args!("{CALL}: request {number}"),
     )?;
     match outcome {
         Ok(found) => check_replies(&found, &replies(row, 0, row.len(), alloc)?)?,
