@@ -1,7 +1,7 @@
 //! What takes no memory, where every request for it is refused.
 
 use crate::sweep::standing::Quiet;
-use crate::sweep::{Way, make, standing};
+use crate::sweep::{WAYS, Way, make, standing};
 use crate::watched::{Memory, Watched, left_after, made};
 use dcel_bench::checks::{holds, same};
 use dcel_bench::data::{Datum, write_all};
@@ -20,8 +20,6 @@ use spade_dcel::iterators::HullIterator;
 use spade_dcel::operations::IsolateVertexResult;
 use std::alloc::{AllocError, Allocator, Global};
 use std::test::Fail;
-
-const WAYS: [Way; 2] = [Way::Operation, Way::Apply];
 
 /// Makes the call of a row with every request refused.
 fn check_quiet((mesh, said): Quiet, way: Way, alloc: Global) -> Result<(), Fail> {

@@ -5,6 +5,7 @@
 //! that met the refusal tells it. Then the call is made again, and leaves what it leaves if nothing
 //! is refused. The rows stand in files by subject; `tools/check_sweep` looks for calls without one.
 
+mod after;
 mod flips;
 mod growing;
 mod lines;
@@ -63,10 +64,10 @@ pub enum Way {
     Apply,
 }
 
-const WAYS: [Way; 2] = [Way::Operation, Way::Apply];
+pub const WAYS: [Way; 2] = [Way::Operation, Way::Apply];
 
 /// Returns the function that is called.
-pub fn name(said: Said, way: Way) -> &'static str {
+fn name(said: Said, way: Way) -> &'static str {
     match way {
         Way::Operation => operation(said),
         Way::Apply => "apply",
@@ -324,7 +325,7 @@ fn openers_are_refused_memory(rt: HostRuntime) -> Result<(), Fail> {
 }
 
 /// Returns the row of a call that makes no request.
-pub fn quiet((mesh, said): Quiet) -> Row {
+fn quiet((mesh, said): Quiet) -> Row {
     Row {
         mesh,
         said,
