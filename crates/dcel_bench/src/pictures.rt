@@ -27,7 +27,9 @@ pub struct Picture {
     edge_data: Vec<[i64; 2]>,
 }
 
-/// Returns the next half edge, the one before, the origin and the face; None if the edge is given up.
+/// Returns the next half edge, the one before, the origin and the face.
+///
+/// They are None if the edge is given up.
 fn links_of<A: Allocator>(dcel: &Mesh<A>, index: usize) -> Result<Option<[usize; 4]>, Fail> {
     require!(index < dcel.num_directed_edges());
     let handle = FixedDirectedEdgeHandle::new(index);

@@ -1,4 +1,5 @@
-//! Tests of memory: calls and lines of which each request is refused in turn, and those that make none.
+//! Tests of memory: calls and lines of which each request is refused in turn, and those that make
+//! none.
 #![tactic(auto)]
 
 #[cfg(test)]

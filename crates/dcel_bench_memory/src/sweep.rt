@@ -154,8 +154,9 @@ fn operate<'a>(dcel: &mut Watched<'a>, memory: Memory<'a>, said: Said) -> Result
     Ok(true)
 }
 
-/// Makes the call by its operation, once its lists are made, with these requests refused. Returns
-/// whether there was memory.
+/// Makes the call by its operation, once its lists are made, with these requests refused.
+///
+/// Returns whether there was memory.
 fn call<'a>(
     dcel: &mut Watched<'a>,
     memory: Memory<'a>,
@@ -186,8 +187,9 @@ fn call<'a>(
     }
 }
 
-/// Has the mesh carry out the command, once it is made, with these requests refused. Returns whether
-/// there was memory. Without it these data come back.
+/// Has the mesh carry out the command, once it is made, with these requests refused.
+///
+/// Returns whether there was memory. Without it these data come back.
 fn command<'a>(
     dcel: &mut Watched<'a>,
     memory: Memory<'a>,
@@ -224,8 +226,9 @@ pub fn make<'a>(
     }
 }
 
-/// Makes the call of a row with the request of this number refused, and makes it again if that
-/// request came. Returns whether it came.
+/// Makes the call of a row with the request of this number refused.
+///
+/// If that request came, the call is made again. Returns whether it came.
 fn is_refused<'a>(
     dcel: &mut Watched<'a>,
     memory: Memory<'a>,
@@ -257,6 +260,7 @@ fn is_refused<'a>(
 }
 
 /// Refuses the call of a row this request on a new mesh, and compares what it leaves in the end.
+///
 /// Returns whether the request came.
 fn is_refused_anew(
     row: &Row,
@@ -274,8 +278,9 @@ fn is_refused_anew(
     Ok(is_refused)
 }
 
-/// Returns how many requests a command makes more than the operation: one for each list that it
-/// copies into the memory of the mesh.
+/// Returns how many more requests the command makes than the operation.
+///
+/// It makes one for each list that it copies into the memory of the mesh.
 fn copies(said: Said, way: Way) -> u64 {
     match (said, way) {
         (Open(Remesh(_, edges, faces)), Way::Apply) => {

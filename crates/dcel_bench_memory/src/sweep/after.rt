@@ -14,9 +14,10 @@ use dcel_commands::commands::{Handed, Refusal, Refused, apply};
 use std::alloc::Global;
 use std::test::Fail;
 
-/// A command that is refused each of its requests in turn, with the data that come back, and the
-/// command after it, with why that is refused; and then the counts, whether vertex 3 has no edge, and
-/// whether the mesh is sound.
+/// A command that is refused each of its requests in turn, and the command after it.
+///
+/// The second one is refused too, for this reason. Then the row has the counts, whether vertex 3 has
+/// no edge, and whether the mesh is sound.
 struct Row {
     mesh: &'static [Said],
     said: Said,

@@ -18,8 +18,10 @@ use spade_dcel::handles::{FixedUndirectedEdgeHandle, FixedVertexHandle};
 use std::alloc::Global;
 use std::test::Fail;
 
-/// Flips a list of edges. `flips` has how many flips stand before each request of the list, and then
-/// how many there are in the end.
+/// A list of edges that are flipped.
+///
+/// `flips` has how many flips stand before each request of the list, and then how many there are in
+/// the end.
 struct Row {
     mesh: &'static [Said],
     edges: &'static [u32],

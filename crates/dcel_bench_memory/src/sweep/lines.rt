@@ -1,4 +1,4 @@
-//! Lines: the one that meets the refusal is answered so, and the run goes on as if it weren't there.
+//! Lines: the one that meets the refusal is refused, and the run goes on as if it weren't there.
 
 use dcel_bench::checks::{holds, same};
 use dcel_bench::refusing::{Refusals, Refusing};
@@ -152,8 +152,10 @@ fn push_from(text: &mut Vec<u8>, (_, lines): Row, place: usize) -> Result<(), Al
     push_lines(text, &SEEN)
 }
 
-/// Returns what is written if the line at this place is refused: the replies to those before it, the
-/// refusal, and then what those after it are answered if it isn't there.
+/// Returns what is written if the line at this place is refused.
+///
+/// These are the replies to the lines before it, the refusal, and the replies that the lines after it
+/// get if it isn't there.
 fn wanted(row: Row, place: usize, alloc: Global) -> Result<Vec<u8>, Fail> {
     let mut lines = before(row, place, alloc)?;
     let (mut wanted, _) = run(&lines, Refusals::None, alloc)?;
@@ -305,7 +307,7 @@ const TOLD: [Told; 3] = [
         requests: (0, 1),
         replies: &["ok", "vertex 3", "vertex 3", "refused 20 OutOfMemory"],
     },
-    // The first request is that of the line's list, the second that of the list before its first flip.
+    // The first request is for the line's list, the second for more room in it before a flip.
     Told {
         lines: &[
             "triangle 0 1 2",
@@ -365,8 +367,8 @@ fn requests_before(lines: &[&str], count: usize, alloc: Global) -> Result<u64, F
     Ok(requests)
 }
 
-/// That the line of the row makes these requests, and that the lines are answered so where any one of
-/// them is refused.
+/// That the line of the row makes so many requests, and that these are the replies where one of them
+/// is refused.
 fn check_told(told: &Told, alloc: Global) -> Result<(), Fail> {
     let begin = requests_before(told.lines, told.place, alloc)?;
     let end = requests_before(told.lines, told.place.saturating_add(1), alloc)?;

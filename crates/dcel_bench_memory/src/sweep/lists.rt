@@ -80,8 +80,9 @@ fn check_left(dcel: &Watched, row: Row, calls: usize, alloc: Global) -> Result<(
     same(picture_of(dcel, alloc)?, left, what)
 }
 
-/// Makes the calls of a row from this place on, up to the one that meets the request of this number,
-/// which is refused. Returns its place.
+/// Makes the calls of a row from this place on, with the request of this number refused.
+///
+/// It ends at the call that meets that request, and returns its place.
 fn make_calls<'a>(
     dcel: &mut Watched<'a>,
     memory: Memory<'a>,

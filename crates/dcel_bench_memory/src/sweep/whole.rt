@@ -175,8 +175,9 @@ fn make_new<'a>(dcel: Watched<'a>, memory: Memory<'a>) -> Result<Made<'a>, Fail>
     }
 }
 
-/// Makes a mesh of three vertices; if there is no memory, they come back, and the old mesh stands for
-/// it.
+/// Makes a mesh of three vertices; if there is no memory, they come back.
+///
+/// The old mesh stands for it then.
 fn make_fixed<'a>(
     dcel: Watched<'a>,
     memory: Memory<'a>,
