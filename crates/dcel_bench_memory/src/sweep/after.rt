@@ -16,8 +16,8 @@ use std::test::Fail;
 
 /// A command that is refused each of its requests in turn, and the command after it.
 ///
-/// The second one is refused too, for this reason. Then the row has the counts, whether vertex 3 has
-/// no edge, and whether the mesh is sound.
+/// The second one is refused too, for this reason. Then the row has the counts, whether vertex 3
+/// has no edge, and whether the mesh is sound.
 struct Row {
     mesh: &'static [Said],
     said: Said,

@@ -154,8 +154,8 @@ fn push_from(text: &mut Vec<u8>, (_, lines): Row, place: usize) -> Result<(), Al
 
 /// Returns what is written if the line at this place is refused.
 ///
-/// These are the replies to the lines before it, the refusal, and the replies that the lines after it
-/// get if it isn't there.
+/// These are the replies to the lines before it, the refusal, and the replies that the lines after
+/// it get if it isn't there.
 fn wanted(row: Row, place: usize, alloc: Global) -> Result<Vec<u8>, Fail> {
     let mut lines = before(row, place, alloc)?;
     let (mut wanted, _) = run(&lines, Refusals::None, alloc)?;
@@ -367,8 +367,8 @@ fn requests_before(lines: &[&str], count: usize, alloc: Global) -> Result<u64, F
     Ok(requests)
 }
 
-/// That the line of the row makes so many requests, and that these are the replies where one of them
-/// is refused.
+/// That the line of the row makes so many requests, and that these are the replies where one of
+/// them is refused.
 fn check_told(told: &Told, alloc: Global) -> Result<(), Fail> {
     let begin = requests_before(told.lines, told.place, alloc)?;
     let end = requests_before(told.lines, told.place.saturating_add(1), alloc)?;
