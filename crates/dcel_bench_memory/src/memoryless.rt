@@ -15,7 +15,7 @@ use dcel_bench::pictures::picture_of;
 use dcel_bench::refusing::{Refusals, Refusing};
 use dcel_bench::require;
 use dcel_bench::talks::{Talk, push_talk, run_lines};
-use spade_dcel::handles::FixedDirectedEdgeHandle;
+use spade_dcel::handles::{FixedDirectedEdgeHandle, FixedVertexHandle};
 use spade_dcel::iterators::HullIterator;
 use spade_dcel::operations::IsolateVertexResult;
 use std::alloc::{AllocError, Allocator, Global};
@@ -83,33 +83,55 @@ const LINE: [Said; 5] = [
 
 const MESHES: [&[Said]; 4] = [&[], &CUT, &OPEN, &LINE];
 
-/// The numbers that walks and iterators give, from the front and from the back, one after another.
-fn walked<A: Allocator>(dcel: &Mesh<A>, alloc: Global) -> Result<Vec<usize>, AllocError> {
-    let mut seen = Vec::new(alloc);
-    for start in dcel.vertices() {
-        for edge in start.out_edges() {
-            seen.push(edge.to().index())?;
-        }
-        for edge in start.out_edges().rev() {
-            seen.push(edge.index())?;
-        }
+/// Adds the half edges out of a vertex, from the front and from the back.
+fn push_out_edges<A: Allocator>(
+    seen: &mut Vec<usize>,
+    dcel: &Mesh<A>,
+    start: FixedVertexHandle,
+) -> Result<(), Fail> {
+    require!(start.index() < dcel.num_vertices());
+    for edge in dcel.vertex(start).out_edges() {
+        seen.push(edge.index())?;
     }
+    for edge in dcel.vertex(start).out_edges().rev() {
+        seen.push(edge.index())?;
+    }
+    Ok(())
+}
+
+/// Adds the hull, from the front and from the back.
+fn push_hull<A: Allocator>(seen: &mut Vec<usize>, dcel: &Mesh<A>) -> Result<(), AllocError> {
     for edge in HullIterator::new(dcel) {
         seen.push(edge.index())?;
     }
     for edge in HullIterator::new(dcel).rev() {
-        seen.push(edge.rev().index())?;
+        seen.push(edge.index())?;
     }
-    for face in dcel.inner_faces().rev() {
-        seen.push(face.index())?;
+    Ok(())
+}
+
+/// How many elements of each kind are listed.
+fn listed<A: Allocator>(dcel: &Mesh<A>) -> [usize; 5] {
+    [
+        dcel.vertices().count(),
+        dcel.directed_edges().count(),
+        dcel.undirected_edges().count(),
+        dcel.faces().count(),
+        dcel.inner_faces().count(),
+    ]
+}
+
+/// Returns the half edges that walks give, one after another.
+fn walked<A: Allocator>(dcel: &Mesh<A>, alloc: Global) -> Result<Vec<usize>, Fail> {
+    let mut seen = Vec::new(alloc);
+    for start in dcel.fixed_vertices() {
+        push_out_edges(&mut seen, dcel, start)?;
     }
-    seen.push(dcel.directed_edges().count())?;
-    seen.push(dcel.undirected_edges().count())?;
-    seen.push(dcel.faces().count())?;
+    push_hull(&mut seen, dcel)?;
     Ok(seen)
 }
 
-/// The tests that are about one element, for elements with this number, and those of pairs.
+/// The tests that are about one element, for those with this number.
 fn tested_at<A: Allocator>(dcel: &Mesh<A>, index: u32) -> [bool; 12] {
     let at = vertex(index);
     let edge = half_edge(index);
@@ -189,6 +211,7 @@ fn check_read(dcel: &Watched, wanted: &Mesh, lists: &Lists, alloc: Global) -> Re
         walked(wanted, alloc)?,
         "what is walked",
     )?;
+    same(listed(dcel), listed(wanted), "what is listed")?;
     for index in 0..13 {
         same(
             tested_at(dcel, index),

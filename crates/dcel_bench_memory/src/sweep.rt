@@ -284,7 +284,7 @@ fn is_refused_anew(
 fn copies(said: Said, way: Way) -> u64 {
     match (said, way) {
         (Open(Remesh(_, edges, faces)), Way::Apply) => {
-            u64::from(!edges.is_empty()) + u64::from(!faces.is_empty())
+            u64::from(!edges.is_empty()).saturating_add(u64::from(!faces.is_empty()))
         }
         _ => 0,
     }

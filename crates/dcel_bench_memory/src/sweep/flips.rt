@@ -164,7 +164,7 @@ fn refuse(row: &Row, way: Way, number: usize, flips: usize, alloc: Global) -> Re
     let refusals = Refusals::One(number as u64);
     let ended = legalize(&mut dcel, &memory, (MOST, row.edges), way, refusals)?;
     let what = format_args!("{}: request {number} refused", name(way));
-    if number + 1 < row.flips.len() {
+    if number.saturating_add(1) < row.flips.len() {
         same(ended, Legalized::OutOfMemory { flips }, what)?;
         check_flipped(&dcel, row, flips, Legalized::Stopped { flips }, alloc)
     } else {

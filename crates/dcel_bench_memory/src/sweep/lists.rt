@@ -168,9 +168,10 @@ fn met_by(row: Row, number: u64, alloc: Global) -> Result<(usize, &'static [i64]
     if number == 0 {
         return Ok((0, &[]));
     }
-    match refuse_calls(row, Way::Apply, number - 1, alloc)? {
-        Some(place) if place < row.len() => Ok((place, row[place].2)),
-        _ => Err(Fail::new("no command meets the request")),
+    let met = refuse_calls(row, Way::Apply, number - 1, alloc)?;
+    match met.and_then(|place| row.get(place).map(|step| (place, step.2))) {
+        Some(met) => Ok(met),
+        None => Err(Fail::new("no command meets the request")),
     }
 }
 
