@@ -110,3 +110,17 @@ pub fn write_all<A: Allocator>(dcel: &mut Mesh<A>, data: &[(Datum, i64)]) -> Res
     }
     Ok(())
 }
+
+/// Writes a datum of its own to each half edge, edge and face.
+pub fn write_distinct<A: Allocator>(dcel: &mut Mesh<A>) -> Result<(), Fail> {
+    for index in 0..dcel.num_directed_edges() {
+        write(dcel, Datum::HalfEdge(index as u32), 1000 + index as i64)?;
+    }
+    for index in 0..dcel.num_undirected_edges() {
+        write(dcel, Datum::Edge(index as u32), 2000 + index as i64)?;
+    }
+    for index in 0..dcel.num_faces() {
+        write(dcel, Datum::Face(index as u32), 3000 + index as i64)?;
+    }
+    Ok(())
+}

@@ -3,16 +3,15 @@
 use crate::checks::{holds, same};
 use crate::commands::growing;
 use crate::growths::Growth;
-use crate::meshes::vertex;
-use crate::openers::{Opener, handles};
-use Opener::{Isolate, Remesh, Strip};
+use crate::meshes::{undirected_edge, vertex};
+use crate::openers::{Lists, Opener, handles, lists_of};
 use dcel_commands::commands::{Command, Handed, Reply};
 use spade_dcel::handles::{FixedHandleImpl, InnerTag};
 use spade_dcel::operations::{IsolateVertexResult, RemovalResult};
 use std::alloc::{AllocError, Allocator};
 use std::test::Fail;
 
-/// A command, by the numbers of its elements.
+/// A command, by the numbers of its elements. Each command can be said.
 #[derive(Clone, Copy)]
 pub enum Said {
     /// The mesh grows.
@@ -23,9 +22,21 @@ pub enum Said {
     CleanUp(&'static [u32], &'static [u32]),
     /// The vertex is removed.
     Remove(u32),
+    /// The vertex of a path is taken out.
+    Degenerate(u32),
+    /// The edge is turned.
+    Flip(u32),
+    /// The vertices are exchanged.
+    Swap(u32, u32),
+    /// The vertex gets this datum.
+    Put(u32, i64),
+    /// At most so many edges are flipped, beginning with these.
+    Legalize(usize, &'static [u32]),
+    /// All is taken out.
+    Clear,
 }
 
-use Said::{CleanUp, Grow, Open, Remove};
+use Said::{CleanUp, Clear, Degenerate, Flip, Grow, Legalize, Open, Put, Remove, Swap};
 
 /// The reply to a command.
 #[derive(Clone, Copy)]
@@ -48,18 +59,18 @@ pub enum Answer {
 pub type Commands<A> = Vec<Command<i64, A>, A>;
 
 fn opening<A: Allocator + Copy>(opener: Opener, memory: A) -> Result<Command<i64, A>, AllocError> {
-    Ok(match opener {
-        Isolate(center, border) => Command::Isolate(vertex(center), handles(border, memory)?),
-        Remesh(border, edges, faces) => Command::Remesh(
-            handles(border, memory)?,
-            handles(edges, memory)?,
-            handles(faces, memory)?,
-        ),
-        Strip(strip) => Command::Strip(handles(strip, memory)?),
+    Ok(match lists_of(opener, memory)? {
+        Lists::Isolate(center, border) => Command::Isolate(center, border),
+        Lists::Remesh(border, edges, faces) => Command::Remesh(border, edges, faces),
+        Lists::Strip(strip) => Command::Strip(strip),
     })
 }
 
-fn command_of<A: Allocator + Copy>(said: Said, memory: A) -> Result<Command<i64, A>, AllocError> {
+/// Makes the command.
+pub fn command_of<A: Allocator + Copy>(
+    said: Said,
+    memory: A,
+) -> Result<Command<i64, A>, AllocError> {
     Ok(match said {
         Grow(growth) => growing(growth),
         Open(opener) => opening(opener, memory)?,
@@ -67,6 +78,12 @@ fn command_of<A: Allocator + Copy>(said: Said, memory: A) -> Result<Command<i64,
             Command::Cleanup(handles(edges, memory)?, handles(faces, memory)?)
         }
         Remove(index) => Command::Remove(vertex(index)),
+        Degenerate(index) => Command::Degenerate(vertex(index)),
+        Flip(edge) => Command::Flip(undirected_edge(edge)),
+        Swap(first, second) => Command::Swap(vertex(first), vertex(second)),
+        Put(index, datum) => Command::Put(vertex(index), datum),
+        Legalize(most, edges) => Command::Legalize(most, handles(edges, memory)?),
+        Clear => Command::Clear,
     })
 }
 

@@ -3,7 +3,10 @@
 use crate::meshes::{Mesh, vertex};
 use crate::require;
 use spade_dcel::dcel::RemovalState;
-use spade_dcel::handles::{FixedHandleImpl, InnerTag};
+use spade_dcel::handles::{
+    FixedDirectedEdgeHandle, FixedFaceHandle, FixedHandleImpl, FixedUndirectedEdgeHandle,
+    FixedVertexHandle, InnerTag,
+};
 use spade_dcel::operations::{
     IsolateVertexResult, disconnect_edge_strip, isolate_vertex_and_fill_hole, remesh_edge_ring,
 };
@@ -35,37 +38,54 @@ pub fn handles<Kind, A: Allocator>(
     Ok(list)
 }
 
-/// What an opener returns; None if its lists or the mesh found no memory.
+/// The lists of an opener, made.
+#[derive(Drop)]
+pub enum Lists<A: Allocator> {
+    /// A vertex and its border loop.
+    Isolate(FixedVertexHandle, Vec<FixedDirectedEdgeHandle, A>),
+    /// A ring, and the edges and the faces inside.
+    Remesh(
+        Vec<FixedDirectedEdgeHandle, A>,
+        Vec<FixedUndirectedEdgeHandle, A>,
+        Vec<FixedFaceHandle<InnerTag>, A>,
+    ),
+    /// The strip of a vertex.
+    Strip(Vec<FixedDirectedEdgeHandle, A>),
+}
+
+/// Makes the lists of an opener.
+pub fn lists_of<A: Allocator + Copy>(opener: Opener, memory: A) -> Result<Lists<A>, AllocError> {
+    Ok(match opener {
+        Isolate(center, border) => Lists::Isolate(vertex(center), handles(border, memory)?),
+        Remesh(border, edges, faces) => Lists::Remesh(
+            handles(border, memory)?,
+            handles(edges, memory)?,
+            handles(faces, memory)?,
+        ),
+        Strip(strip) => Lists::Strip(handles(strip, memory)?),
+    })
+}
+
+/// What an opener returns; None if it found no memory.
 pub type Opened<A> = Option<IsolateVertexResult<A>>;
 
 fn isolate<A: Allocator + Clone>(
     dcel: &mut Mesh<A>,
-    memory: A,
-    center: u32,
-    border: &[u32],
+    center: FixedVertexHandle,
+    border: Vec<FixedDirectedEdgeHandle, A>,
 ) -> Result<Opened<A>, Fail> {
-    let Ok(border) = handles(border, memory) else {
-        return Ok(None);
-    };
-    let center = vertex(center);
     require!(dcel.removal_state() == RemovalState::Closed);
     require!(dcel.is_border_loop(&border, center));
     require!(dcel.has_room(0, border.len() - 3, border.len() - 2));
     Ok(isolate_vertex_and_fill_hole(dcel, border, center).ok())
 }
 
-fn remesh<A: Allocator + Copy>(
+fn remesh<A: Allocator + Clone>(
     dcel: &mut Mesh<A>,
-    memory: A,
-    [border, edges, faces]: [&[u32]; 3],
+    border: Vec<FixedDirectedEdgeHandle, A>,
+    edges: Vec<FixedUndirectedEdgeHandle, A>,
+    faces: Vec<FixedFaceHandle<InnerTag>, A>,
 ) -> Result<Opened<A>, Fail> {
-    let (Ok(border), Ok(edges), Ok(faces)) = (
-        handles(border, memory),
-        handles(edges, memory),
-        handles(faces, memory),
-    ) else {
-        return Ok(None);
-    };
     require!(dcel.removal_state() == RemovalState::Closed);
     require!(dcel.is_ring(&border, &edges, &faces));
     require!(dcel.has_room(0, border.len() - 3, border.len() - 2));
@@ -74,26 +94,30 @@ fn remesh<A: Allocator + Copy>(
 
 fn cut_off<A: Allocator + Clone>(
     dcel: &mut Mesh<A>,
-    memory: A,
-    strip: &[u32],
+    strip: Vec<FixedDirectedEdgeHandle, A>,
 ) -> Result<Opened<A>, Fail> {
-    let Ok(strip) = handles(strip, memory) else {
-        return Ok(None);
-    };
     require!(dcel.removal_state() == RemovalState::Closed);
     require!(dcel.is_edge_strip(&strip));
     Ok(disconnect_edge_strip(dcel, strip).ok())
 }
 
-/// Opens a removal after testing its conditions.
+/// Opens a removal by these lists, once what the call asks is tested.
+pub fn open_by<A: Allocator + Clone>(
+    dcel: &mut Mesh<A>,
+    lists: Lists<A>,
+) -> Result<Opened<A>, Fail> {
+    match lists {
+        Lists::Isolate(center, border) => isolate(dcel, center, border),
+        Lists::Remesh(border, edges, faces) => remesh(dcel, border, edges, faces),
+        Lists::Strip(strip) => cut_off(dcel, strip),
+    }
+}
+
+/// Makes the lists, and opens the removal.
 pub fn open<A: Allocator + Copy>(
     dcel: &mut Mesh<A>,
     memory: A,
     opener: Opener,
 ) -> Result<Opened<A>, Fail> {
-    match opener {
-        Isolate(center, border) => isolate(dcel, memory, center, border),
-        Remesh(border, edges, faces) => remesh(dcel, memory, [border, edges, faces]),
-        Strip(strip) => cut_off(dcel, memory, strip),
-    }
+    open_by(dcel, lists_of(opener, memory)?)
 }

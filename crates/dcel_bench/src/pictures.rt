@@ -2,37 +2,58 @@
 
 use crate::meshes::{Mesh, adjacent_edge, out_edge};
 use crate::require;
+use spade_dcel::dcel::RemovalState;
 use spade_dcel::handles::{
     FixedDirectedEdgeHandle, FixedFaceHandle, FixedVertexHandle, PossiblyOuterTag,
 };
 use std::alloc::{Allocator, Global};
 use std::test::Fail;
 
-/// The anchors, the links and the data of a mesh.
+/// All that can be seen of a mesh: its counts, the links that make its words, its anchors and data,
+/// and what an open removal has given up.
 #[derive(Debug, Drop, PartialEq, Eq)]
 pub struct Picture {
+    removal: RemovalState,
+    live_vertices: Vec<bool>,
+    live_faces: Vec<bool>,
     out_edges: Vec<Option<usize>>,
     adjacent_edges: Vec<Option<usize>>,
-    /// The next half edge, the one before, the origin and the face of each half edge.
-    links: Vec<[usize; 4]>,
+    /// The next half edge, the one before, the origin and the face of each half edge; None if its
+    /// edge is given up.
+    links: Vec<Option<[usize; 4]>>,
     vertex_data: Vec<i64>,
     face_data: Vec<i64>,
     /// The data of each half edge and of its edge.
     edge_data: Vec<[i64; 2]>,
 }
 
-/// The next half edge, the one before, the origin and the face of a live half edge.
-fn links_of<A: Allocator>(dcel: &Mesh<A>, index: usize) -> Result<[usize; 4], Fail> {
+/// Returns the next half edge, the one before, the origin and the face.
+///
+/// They are None if the edge is given up.
+fn links_of<A: Allocator>(dcel: &Mesh<A>, index: usize) -> Result<Option<[usize; 4]>, Fail> {
     require!(index < dcel.num_directed_edges());
     let handle = FixedDirectedEdgeHandle::new(index);
-    require!(dcel.is_live_edge(handle.as_undirected()));
+    if !dcel.is_live_edge(handle.as_undirected()) {
+        return Ok(None);
+    }
     let edge = dcel.directed_edge(handle);
-    Ok([
+    Ok(Some([
         edge.next().index(),
         edge.prev().index(),
         edge.from().index(),
         edge.face().index(),
-    ])
+    ]))
+}
+
+fn is_live_vertex<A: Allocator>(dcel: &Mesh<A>, index: usize) -> Result<bool, Fail> {
+    require!(index < dcel.num_vertices());
+    Ok(dcel.is_live_vertex(FixedVertexHandle::new(index)))
+}
+
+fn is_live_face<A: Allocator>(dcel: &Mesh<A>, index: usize) -> Result<bool, Fail> {
+    require!(index < dcel.num_faces());
+    let handle: FixedFaceHandle<PossiblyOuterTag> = FixedFaceHandle::new(index);
+    Ok(dcel.is_live_face(handle))
 }
 
 fn vertex_datum<A: Allocator>(dcel: &Mesh<A>, index: usize) -> Result<i64, Fail> {
@@ -47,7 +68,7 @@ fn face_datum<A: Allocator>(dcel: &Mesh<A>, index: usize) -> Result<i64, Fail> {
     Ok(*dcel.face_data(handle))
 }
 
-/// The data of a half edge and of its edge.
+/// Returns the datum of a half edge, and that of its edge.
 fn edge_data<A: Allocator>(dcel: &Mesh<A>, index: usize) -> Result<[i64; 2], Fail> {
     require!(index < dcel.num_directed_edges());
     let handle = FixedDirectedEdgeHandle::new(index);
@@ -59,9 +80,12 @@ fn edge_data<A: Allocator>(dcel: &Mesh<A>, index: usize) -> Result<[i64; 2], Fai
     ])
 }
 
-/// Reads a mesh whose half edges are all live.
+/// Returns what the mesh is like.
 pub fn picture_of<A: Allocator>(dcel: &Mesh<A>, alloc: Global) -> Result<Picture, Fail> {
     let mut seen = Picture {
+        removal: dcel.removal_state(),
+        live_vertices: Vec::new(alloc),
+        live_faces: Vec::new(alloc),
         out_edges: Vec::new(alloc),
         adjacent_edges: Vec::new(alloc),
         links: Vec::new(alloc),
@@ -70,10 +94,12 @@ pub fn picture_of<A: Allocator>(dcel: &Mesh<A>, alloc: Global) -> Result<Picture
         edge_data: Vec::new(alloc),
     };
     for index in 0..dcel.num_vertices() {
+        seen.live_vertices.push(is_live_vertex(dcel, index)?)?;
         seen.out_edges.push(out_edge(dcel, index)?)?;
         seen.vertex_data.push(vertex_datum(dcel, index)?)?;
     }
     for index in 0..dcel.num_faces() {
+        seen.live_faces.push(is_live_face(dcel, index)?)?;
         seen.adjacent_edges.push(adjacent_edge(dcel, index)?)?;
         seen.face_data.push(face_datum(dcel, index)?)?;
     }

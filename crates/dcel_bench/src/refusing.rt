@@ -3,6 +3,17 @@
 use std::alloc::{AllocError, Allocator};
 use std::cell::Cell;
 
+/// Requests for memory that are refused, by their numbers from 0 on.
+#[derive(Clone, Copy)]
+pub enum Refusals {
+    /// None is.
+    None,
+    /// The one with this number is.
+    One(u64),
+    /// Those from this number on are.
+    From(u64),
+}
+
 /// Which requests for memory are refused, by their numbers.
 #[derive(Drop)]
 struct Plan {
@@ -40,7 +51,7 @@ pub struct Refusing<B> {
 }
 
 impl<B> Refusing<B> {
-    /// Refuses no request.
+    /// Makes one that refuses no request.
     pub fn new(inner: B) -> Refusing<B> {
         Refusing {
             inner,
@@ -52,17 +63,16 @@ impl<B> Refusing<B> {
         }
     }
 
-    /// Counts requests from 0 again, and refuses the one with this number.
-    pub fn refuse_one(&self, number: u64) {
-        self.plan.refuse(number, 1);
+    /// Counts requests from 0 again, and refuses these.
+    pub fn refuse(&self, refusals: Refusals) {
+        match refusals {
+            Refusals::None => self.plan.refuse(0, 0),
+            Refusals::One(number) => self.plan.refuse(number, 1),
+            Refusals::From(number) => self.plan.refuse(number, u64::MAX),
+        }
     }
 
-    /// Counts requests from 0 again, and refuses those from this number on.
-    pub fn refuse_from(&self, number: u64) {
-        self.plan.refuse(number, u64::MAX);
-    }
-
-    /// The number of requests since it was last told what to refuse.
+    /// Returns how many requests came since it was last told what to refuse.
     pub fn requests(&self) -> u64 {
         self.plan.requests.get()
     }

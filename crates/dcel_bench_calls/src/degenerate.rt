@@ -8,11 +8,11 @@ use dcel_bench::growths::{CUT, FIRST_EDGE, Growth, LINE, SPLIT_EDGE, grown};
 use dcel_bench::meshes::{Links, Mesh, adjacent_edge, counts, out_edge, vertex};
 use dcel_bench::require;
 use spade_dcel::operations::remove_when_degenerate;
-use std::alloc::{Allocator, Global};
+use std::alloc::Global;
 use std::test::Fail;
 
 /// A vertex's datum, and the old number of the vertex that moves into its place.
-pub type Removed = (i64, Option<usize>);
+type Removed = (i64, Option<usize>);
 
 /// Calls that make a path, the vertex to remove, and the result; then the links that are left, the anchors of the vertices, and the anchor
 /// of the outer face.
@@ -98,7 +98,7 @@ const ROWS: [Row; 6] = [
 ];
 
 /// Removes a vertex.
-pub fn remove<A: Allocator>(dcel: &mut Mesh<A>, index: u32) -> Result<Removed, Fail> {
+fn remove(dcel: &mut Mesh, index: u32) -> Result<Removed, Fail> {
     let handle = vertex(index);
     require!(dcel.can_remove_degenerate(handle));
     let removed = remove_when_degenerate(dcel, handle);

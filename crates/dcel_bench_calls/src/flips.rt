@@ -11,7 +11,7 @@ use std::alloc::Global;
 use std::test::Fail;
 
 /// The links of a cut triangle whose edge 3 was flipped once.
-pub const FLIPPED_ONCE: Links = (
+const FLIPPED_ONCE: Links = (
     &[&[0, 2, 4], &[6, 8, 11], &[1, 5, 7], &[3, 10, 9]],
     &[0, 1, 1, 2, 2, 0, 1, 2, 2, 3, 1, 3],
 );

@@ -18,7 +18,7 @@ mod links;
 #[cfg(test)]
 mod lists;
 #[cfg(test)]
-mod memoryless;
+mod openers;
 #[cfg(test)]
 mod removals;
 #[cfg(test)]

@@ -1,17 +1,49 @@
-//! Calls and commands that take no memory, where every request for it is refused.
+//! What takes no memory, where every request for it is refused.
 
-use crate::watched::Watched;
+use crate::sweep::standing::Quiet;
+use crate::sweep::{WAYS, Way, make, standing};
+use crate::watched::{Memory, Watched, left_after, made};
 use dcel_bench::checks::{holds, same};
 use dcel_bench::data::{Datum, write_all};
-use dcel_bench::growths::{CUT, grow_all};
-use dcel_bench::meshes::{NO_LIMIT, counts, edge_between, flip, swap, undirected_edge, vertex};
+use dcel_bench::growths::Growth::{Append, Extend, Insert, SetUp, Triangle};
+use dcel_bench::lists::Said;
+use dcel_bench::lists::Said::{Grow, Open};
+use dcel_bench::meshes::{Mesh, half_edge, inner_face, undirected_edge, vertex};
+use dcel_bench::openers::Opener::Isolate;
 use dcel_bench::openers::handles;
-use dcel_bench::refusing::Refusing;
+use dcel_bench::pictures::picture_of;
+use dcel_bench::refusing::{Refusals, Refusing};
 use dcel_bench::require;
-use dcel_commands::commands::{Command, Reply, apply};
-use spade_dcel::operations::new;
-use std::alloc::Global;
+use dcel_bench::talks::{Talk, push_talk, run_lines};
+use spade_dcel::handles::{FixedDirectedEdgeHandle, FixedVertexHandle};
+use spade_dcel::iterators::HullIterator;
+use spade_dcel::operations::IsolateVertexResult;
+use std::alloc::{AllocError, Allocator, Global};
 use std::test::Fail;
+
+/// Makes the call of a row with every request refused.
+fn check_quiet((mesh, said): Quiet, way: Way, alloc: Global) -> Result<(), Fail> {
+    let memory = Refusing::new(alloc);
+    let mut dcel = made(&memory, mesh)?;
+    let is_made = make(&mut dcel, &memory, (said, &[]), way, Refusals::From(0))?;
+    same(
+        (is_made, memory.requests()),
+        (true, 0),
+        "a call, and its requests",
+    )?;
+    let left = left_after(mesh, &[said], alloc)?;
+    same(picture_of(&dcel, alloc)?, left, "the mesh that is left")
+}
+
+#[test]
+fn calls_take_no_memory(rt: HostRuntime) -> Result<(), Fail> {
+    for row in &standing::ROWS {
+        for way in &WAYS {
+            check_quiet(*row, *way, rt.alloc())?;
+        }
+    }
+    Ok(())
+}
 
 /// Data that are written.
 const WRITTEN: [(Datum, i64); 6] = [
@@ -23,157 +55,292 @@ const WRITTEN: [(Datum, i64); 6] = [
     (Datum::InnerFace(3), 403),
 ];
 
-/// A triangle that vertex 3 cuts into three.
-fn cut<'a>(memory: &'a Refusing<Global>) -> Result<Watched<'a>, Fail> {
-    let mut dcel = new(memory)?;
-    grow_all(&mut dcel, memory, &CUT)?;
-    Ok(dcel)
+/// A triangle that vertex 3 cuts into three, and vertex 4 beside it.
+const CUT: [Said; 4] = [
+    Grow(Triangle(7, -8, 9)),
+    Grow(Append(10)),
+    Grow(Insert(3, 1)),
+    Grow(Append(11)),
+];
+
+/// The same, and vertex 3 is given up.
+const OPEN: [Said; 5] = [
+    Grow(Triangle(7, -8, 9)),
+    Grow(Append(10)),
+    Grow(Insert(3, 1)),
+    Grow(Append(11)),
+    Open(Isolate(3, &[1, 3, 5])),
+];
+
+/// The line 2, 0, 1.
+const LINE: [Said; 5] = [
+    Grow(Append(7)),
+    Grow(Append(-8)),
+    Grow(SetUp(0, 1)),
+    Grow(Append(9)),
+    Grow(Extend(0, 2)),
+];
+
+const MESHES: [&[Said]; 4] = [&[], &CUT, &OPEN, &LINE];
+
+/// Adds the half edges out of a vertex, from the front and from the back.
+fn push_out_edges<A: Allocator>(
+    seen: &mut Vec<usize>,
+    dcel: &Mesh<A>,
+    start: FixedVertexHandle,
+) -> Result<(), Fail> {
+    require!(start.index() < dcel.num_vertices());
+    for edge in dcel.vertex(start).out_edges() {
+        seen.push(edge.index())?;
+    }
+    for edge in dcel.vertex(start).out_edges().rev() {
+        seen.push(edge.index())?;
+    }
+    Ok(())
 }
 
-/// The same, and from there on the memory is refused.
-fn cut_without_memory<'a>(memory: &'a Refusing<Global>) -> Result<Watched<'a>, Fail> {
-    let dcel = cut(memory)?;
-    memory.refuse_from(0);
-    Ok(dcel)
+/// Adds the hull, from the front and from the back.
+fn push_hull<A: Allocator>(seen: &mut Vec<usize>, dcel: &Mesh<A>) -> Result<(), AllocError> {
+    for edge in HullIterator::new(dcel) {
+        seen.push(edge.index())?;
+    }
+    for edge in HullIterator::new(dcel).rev() {
+        seen.push(edge.index())?;
+    }
+    Ok(())
 }
 
-/// How many half edges start at a vertex, by a walk round it.
-fn degree(dcel: &Watched, index: u32) -> Result<usize, Fail> {
-    let handle = vertex(index);
-    require!(handle.index() < dcel.num_vertices());
-    Ok(dcel.vertex(handle).out_edges().count())
+/// How many elements of each kind are listed.
+fn listed<A: Allocator>(dcel: &Mesh<A>) -> [usize; 5] {
+    [
+        dcel.vertices().count(),
+        dcel.directed_edges().count(),
+        dcel.undirected_edges().count(),
+        dcel.faces().count(),
+        dcel.inner_faces().count(),
+    ]
 }
 
-/// That the mesh is sound, and whether there is a half edge from vertex 0 to vertex 3.
-fn check_joined(dcel: &Watched, is_joined: bool) -> Result<(), Fail> {
-    let found = edge_between(dcel, 0, 3)?.is_some();
-    same(found, is_joined, "whether 0 and 3 are joined")?;
-    holds(dcel.sanity_check(), "a sound mesh")
+/// Returns the half edges that walks give, one after another.
+fn walked<A: Allocator>(dcel: &Mesh<A>, alloc: Global) -> Result<Vec<usize>, Fail> {
+    let mut seen = Vec::new(alloc);
+    for start in dcel.fixed_vertices() {
+        push_out_edges(&mut seen, dcel, start)?;
+    }
+    push_hull(&mut seen, dcel)?;
+    Ok(seen)
 }
 
-/// Joins vertices 1 and 2 in the place of 0 and 3, and then exchanges 0 and 1.
-fn turn_and_exchange(dcel: &mut Watched) -> Result<(), Fail> {
-    check_joined(dcel, true)?;
-    flip(dcel, 3)?;
-    check_joined(dcel, false)?;
-    swap(dcel, 0, 1)?;
-    check_joined(dcel, true)
+/// The tests that are about one element, for those with this number.
+fn tested_at<A: Allocator>(dcel: &Mesh<A>, index: u32) -> [bool; 12] {
+    let at = vertex(index);
+    let edge = half_edge(index);
+    let face = inner_face(index);
+    [
+        dcel.is_live_vertex(at),
+        dcel.is_unconnected(at),
+        dcel.is_line_end(at),
+        dcel.can_swap_remove(at),
+        dcel.can_remove_degenerate(at),
+        dcel.is_live_edge(undirected_edge(index)),
+        dcel.can_flip(undirected_edge(index)),
+        dcel.is_bridge(edge),
+        dcel.can_close_outside(edge),
+        dcel.is_live_face(face),
+        dcel.is_triangle(face),
+        dcel.get_vertex(at).is_some(),
+    ]
 }
 
-/// Makes the calls that take no memory, on a cut triangle.
-fn make_calls(dcel: &mut Watched) -> Result<(), Fail> {
-    write_all(dcel, &WRITTEN)?;
-    same(degree(dcel, 3)?, 3, "the degree of vertex 3")?;
-    turn_and_exchange(dcel)?;
-    same(counts(dcel), [4, 12, 4], "counts")?;
-    dcel.clear();
-    same(counts(dcel), [0, 0, 1], "counts when cleared")
+/// The lists that tests are about.
+#[derive(Drop)]
+struct Lists {
+    border: Vec<FixedDirectedEdgeHandle>,
+    opened: IsolateVertexResult,
+}
+
+fn make_lists(alloc: Global) -> Result<Lists, AllocError> {
+    Ok(Lists {
+        border: handles(&[1, 3, 5], alloc)?,
+        opened: IsolateVertexResult {
+            new_edges: Vec::new(alloc),
+            smallest_new_edge: undirected_edge(0),
+            edges_to_remove: handles(&[3, 4, 5], alloc)?,
+            faces_to_remove: handles(&[2, 3, 1], alloc)?,
+        },
+    })
+}
+
+/// The tests that are about lists and the whole mesh.
+fn tested_whole<A: Allocator>(dcel: &Mesh<A>, lists: &Lists) -> [bool; 7] {
+    let border = lists.border.as_slice();
+    let edges = lists.opened.edges_to_remove.as_slice();
+    let faces = lists.opened.faces_to_remove.as_slice();
+    [
+        dcel.is_border_loop(border, vertex(3)),
+        dcel.is_ring(border, edges, faces),
+        dcel.is_edge_strip(border),
+        dcel.is_listed(&lists.opened),
+        dcel.has_room(1, 2, 3),
+        dcel.has_room(4_294_967_296, 0, 0),
+        dcel.sanity_check(),
+    ]
+}
+
+/// The first half edge from one vertex to another.
+fn joined<A: Allocator>(dcel: &Mesh<A>, from: u32, to: u32) -> Result<Option<usize>, Fail> {
+    let from = vertex(from);
+    if from.index() >= dcel.num_vertices() {
+        return Ok(None);
+    }
+    Ok(
+        dcel.get_edge_from_neighbors(from, vertex(to))
+            .map(|edge| edge.index()),
+    )
+}
+
+/// That a mesh is read, walked and tested as one that has memory.
+fn check_read(dcel: &Watched, wanted: &Mesh, lists: &Lists, alloc: Global) -> Result<(), Fail> {
+    same(
+        picture_of(dcel, alloc)?,
+        picture_of(wanted, alloc)?,
+        "what is read",
+    )?;
+    same(
+        walked(dcel, alloc)?,
+        walked(wanted, alloc)?,
+        "what is walked",
+    )?;
+    same(listed(dcel), listed(wanted), "what is listed")?;
+    for index in 0..13 {
+        same(
+            tested_at(dcel, index),
+            tested_at(wanted, index),
+            "what is tested",
+        )?;
+        same(
+            joined(dcel, index, 0)?,
+            joined(wanted, index, 0)?,
+            "who is joined",
+        )?;
+    }
+    same(
+        tested_whole(dcel, lists),
+        tested_whole(wanted, lists),
+        "what is tested of all",
+    )
+}
+
+/// Reads a mesh with every request refused, and writes its data.
+fn check_mesh(commands: &[Said], alloc: Global) -> Result<(), Fail> {
+    let memory = Refusing::new(alloc);
+    let dcel = made(&memory, commands)?;
+    let wanted = made(alloc, commands)?;
+    let lists = make_lists(alloc)?;
+    memory.refuse(Refusals::From(0));
+    check_read(&dcel, &wanted, &lists, alloc)?;
+    same(memory.requests(), 0, "requests")
 }
 
 #[test]
-fn calls_take_no_memory(rt: HostRuntime) -> Result<(), Fail> {
-    let memory = Refusing::new(rt.alloc());
-    let mut dcel = cut_without_memory(&memory)?;
-    make_calls(&mut dcel)?;
-    same(memory.requests(), 0, "requests for memory")
-}
-
-/// What a command is answered.
-#[derive(Debug, Clone, Copy, PartialEq, Eq)]
-enum Answer {
-    Done,
-    Opened,
-    Removed,
-    Another,
-    Refused,
-}
-
-/// Has the mesh carry out a command, which is to be answered so.
-fn check_answer(dcel: &mut Watched, command: Command<i64>, wanted: Answer) -> Result<(), Fail> {
-    let answer = match apply(dcel, command, NO_LIMIT) {
-        Ok(Reply::Ok) => Answer::Done,
-        Ok(Reply::Opened(_)) => Answer::Opened,
-        Ok(Reply::Removed(_)) => Answer::Removed,
-        Ok(_) => Answer::Another,
-        Err(_) => Answer::Refused,
-    };
-    same(answer, wanted, "the answer to a command")
-}
-
-/// Gives the commands that take no memory, on a cut triangle.
-fn give_commands(dcel: &mut Watched) -> Result<(), Fail> {
-    check_answer(dcel, Command::Flip(undirected_edge(3)), Answer::Done)?;
-    check_answer(dcel, Command::Swap(vertex(0), vertex(1)), Answer::Done)?;
-    check_answer(dcel, Command::Put(vertex(3), 30), Answer::Done)?;
-    check_answer(dcel, Command::Clear, Answer::Done)?;
-    same(counts(dcel), [0, 0, 1], "counts when cleared")
+fn reads_walks_and_tests_take_no_memory(rt: HostRuntime) -> Result<(), Fail> {
+    for commands in &MESHES {
+        check_mesh(*commands, rt.alloc())?;
+    }
+    Ok(())
 }
 
 #[test]
-fn commands_take_no_memory(rt: HostRuntime) -> Result<(), Fail> {
+fn data_are_written_without_memory(rt: HostRuntime) -> Result<(), Fail> {
     let memory = Refusing::new(rt.alloc());
-    let mut dcel = cut_without_memory(&memory)?;
-    give_commands(&mut dcel)?;
-    same(memory.requests(), 0, "requests for memory")
+    let mut dcel = made(&memory, &CUT)?;
+    memory.refuse(Refusals::From(0));
+    write_all(&mut dcel, &WRITTEN)?;
+    same(memory.requests(), 0, "requests")
 }
 
-/// Cuts vertex 1 off from a cut triangle.
-fn open_removal(dcel: &mut Watched, alloc: Global) -> Result<(), Fail> {
-    let strip = handles(&[6, 9, 4], alloc)?;
-    check_answer(dcel, Command::Strip(strip), Answer::Opened)
+/// Lines that have memory, and lines after them where there is none any more.
+type Row = (Talk, Talk);
+
+const LINES: [Row; 2] = [
+    (
+        &[
+            ("triangle 0 1 2", "ok"),
+            ("append 3", "vertex 3"),
+            ("insert 3 1", "vertex 3"),
+        ],
+        &[
+            ("counts", "vertices 4 edges 6 faces 4"),
+            ("out 3", "out 7 9 11"),
+            ("out 4", "refused 1 NoSuchVertex"),
+            ("origin 11", "vertex 3"),
+            ("between 3 2", "half 9"),
+            ("check", "true"),
+            ("insert 3 2", "refused 8 VertexInUse"),
+            ("line 0 3", "refused 8 VertexInUse"),
+            ("outside 0 4", "refused 1 NoSuchVertex"),
+            ("split 12 3", "refused 2 NoSuchEdge"),
+            ("close 1", "refused 12 NotOuter"),
+            ("nothing", "bad line"),
+            ("isolate 3 1 3 5", "refused 20 OutOfMemory"),
+            ("cleanup 3 / 1", "refused 20 OutOfMemory"),
+            ("triangle 7 8 9", "refused 20 OutOfMemory"),
+            ("words", "F0 0 2 4\nF1 1 6 11\nF2 5 8 7\nF3 3 10 9"),
+            ("flip 3", "ok"),
+            ("swap 0 1", "ok"),
+            ("put 3 4", "ok"),
+            ("words", "F0 0 2 4\nF1 6 8 11\nF2 1 5 7\nF3 3 10 9"),
+            ("clear", "ok"),
+            ("words", "F0"),
+        ],
+    ),
+    (
+        &[
+            ("append 0", "vertex 0"),
+            ("append 1", "vertex 1"),
+            ("setup 0 1", "ok"),
+            ("append 2", "vertex 2"),
+            ("extend 1 2", "vertex 2"),
+        ],
+        &[
+            ("degenerate 0", "removed 0 moved 2"),
+            ("words", "F0 0 1"),
+            ("degenerate 0", "removed 2 moved 1"),
+            ("remove 0", "removed 1"),
+            ("counts", "vertices 0 edges 0 faces 1"),
+        ],
+    ),
+];
+
+/// How many requests the lines of a talk make, with the one for the first mesh.
+fn requests_of(talk: Talk, alloc: Global) -> Result<u64, Fail> {
+    let memory = Refusing::new(alloc);
+    let (mut lines, mut replies) = (Vec::new(alloc), Vec::new(alloc));
+    push_talk(&mut lines, &mut replies, talk)?;
+    let _ = run_lines(&memory, &lines, alloc);
+    Ok(memory.requests())
 }
 
-/// A cut triangle with that removal open. From there on the memory is refused.
-fn opened_without_memory<'a>(
-    memory: &'a Refusing<Global>,
-    alloc: Global,
-) -> Result<Watched<'a>, Fail> {
-    let mut dcel = cut(memory)?;
-    open_removal(&mut dcel, alloc)?;
-    memory.refuse_from(0);
-    Ok(dcel)
-}
-
-/// Cleans up what that has given up, and takes the vertex out.
-fn close_removal(dcel: &mut Watched, alloc: Global) -> Result<(), Fail> {
-    let edges = handles(&[5, 0, 1], alloc)?;
-    let faces = handles(&[3, 1], alloc)?;
-    check_answer(dcel, Command::Cleanup(edges, faces), Answer::Done)?;
-    check_answer(dcel, Command::Remove(vertex(1)), Answer::Removed)?;
-    same(counts(dcel), [3, 6, 2], "counts after the removal")
+fn check_lines((begun, talk): Row, alloc: Global) -> Result<(), Fail> {
+    let memory = Refusing::new(alloc);
+    memory.refuse(Refusals::From(requests_of(begun, alloc)?));
+    let (mut lines, mut replies) = (Vec::new(alloc), Vec::new(alloc));
+    push_talk(&mut lines, &mut replies, begun)?;
+    push_talk(&mut lines, &mut replies, talk)?;
+    let ran = run_lines(&memory, &lines, alloc);
+    ran.ended?;
+    let written = String::from_utf8_lossy(alloc, &ran.written)?;
+    same(
+        written,
+        String::from_utf8_lossy(alloc, &replies)?,
+        "replies",
+    )
 }
 
 #[test]
-fn removals_are_closed_without_memory(rt: HostRuntime) -> Result<(), Fail> {
-    let memory = Refusing::new(rt.alloc());
-    let mut dcel = opened_without_memory(&memory, rt.alloc())?;
-    close_removal(&mut dcel, rt.alloc())?;
-    same(memory.requests(), 0, "requests for memory")
-}
-
-/// Gives two faces of a cut triangle up, with the edge between them.
-fn open_region(dcel: &mut Watched, alloc: Global) -> Result<(), Fail> {
-    let ring = handles(&[1, 11, 8, 5], alloc)?;
-    let edges = handles(&[3], alloc)?;
-    let faces = handles(&[1, 2], alloc)?;
-    check_answer(dcel, Command::Remesh(ring, edges, faces), Answer::Opened)
-}
-
-/// Cleans these up, which closes the removal.
-fn close_region(dcel: &mut Watched, alloc: Global) -> Result<(), Fail> {
-    let edges = handles(&[3], alloc)?;
-    let faces = handles(&[2, 1], alloc)?;
-    check_answer(dcel, Command::Cleanup(edges, faces), Answer::Done)?;
-    same(counts(dcel), [4, 12, 4], "counts after the cleanup")?;
-    holds(dcel.sanity_check(), "a sound mesh")
-}
-
-#[test]
-fn a_region_is_closed_without_memory(rt: HostRuntime) -> Result<(), Fail> {
-    let memory = Refusing::new(rt.alloc());
-    let mut dcel = cut(&memory)?;
-    open_region(&mut dcel, rt.alloc())?;
-    memory.refuse_from(0);
-    close_region(&mut dcel, rt.alloc())?;
-    same(memory.requests(), 0, "requests for memory")
+fn lines_take_no_memory(rt: HostRuntime) -> Result<(), Fail> {
+    for row in &LINES {
+        check_lines(*row, rt.alloc())?;
+    }
+    Ok(())
 }

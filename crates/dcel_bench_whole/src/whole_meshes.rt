@@ -8,15 +8,12 @@ use dcel_bench::meshes::{
     CUT_TRIANGLE, Links, Mesh, adjacent_edge, check_links, counts, out_edge, vertex,
 };
 use dcel_bench::pictures::{Picture, picture_of};
-use dcel_bench::refusing::Refusing;
+use dcel_bench::refusing::{Refusals, Refusing};
 use dcel_bench::require;
 use spade_dcel::operations::{NoMemory, new, new_with_fixed_vertices};
 use std::alloc::{AllocError, Allocator, Global};
 use std::cell::Cell;
 use std::test::Fail;
-
-/// More requests than any call here makes.
-pub const MANY: u64 = 20;
 
 /// A mesh whose memory may be refused.
 type Watched<'a> = Mesh<&'a Refusing<Global>>;
@@ -158,129 +155,18 @@ fn check_fixed<A: Allocator + Copy>(dcel: Mesh<A>, alloc: A) -> Result<(), Fail>
 /// Memory that may be refused.
 type Watching<'a> = &'a Refusing<Global>;
 
-/// Makes a mesh of these vertices with an edge from vertex 2 to vertex 0. Without memory, the vertices are handed back.
-fn fixed<'a>(
-    memory: Watching<'a>,
-    vertices: Vec<i64, Watching<'a>>,
-) -> Result<Result<Watched<'a>, NoMemory<Vec<i64, Watching<'a>>>>, Fail> {
+#[test]
+fn a_mesh_is_made_of_its_vertices(rt: HostRuntime) -> Result<(), Fail> {
+    let alloc = rt.alloc();
+    let vertices: Vec<i64> = vec![in alloc; 5, 6, 7]?;
     let from = vertex(2);
     let to = vertex(0);
     require!(from.index() < vertices.len());
     require!(to.index() < vertices.len());
     require!(vertices.len() <= 4_294_967_296);
     require!(from.index() != to.index());
-    Ok(new_with_fixed_vertices(memory, vertices, from, to))
-}
-
-/// The mesh of the vertices 5, 6, 7. If they were handed back, the mesh made of them now.
-fn fixed_at_last<'a>(
-    memory: Watching<'a>,
-    made: Result<Watched<'a>, NoMemory<Vec<i64, Watching<'a>>>>,
-) -> Result<Watched<'a>, Fail> {
-    match made {
-        Ok(dcel) => Ok(dcel),
-        Err(refused) => {
-            same(refused.back.as_slice(), [5, 6, 7].as_slice(), "data")?;
-            Ok(fixed(memory, refused.back)??)
-        }
-    }
-}
-
-/// Makes a mesh of three vertices and an edge with the request of this number refused, and then again. Returns whether the request came, and
-/// the mesh.
-fn fixed_refused(number: u64, memory: Watching<'_>) -> Result<(bool, Watched<'_>), Fail> {
-    let vertices = vec![in memory; 5, 6, 7]?;
-    memory.refuse_one(number);
-    let made = fixed(memory, vertices)?;
-    let is_refused = memory.requests() > number;
-    memory.refuse_one(u64::MAX);
-    let what = format_args!("whether request {number} is refused");
-    same(made.is_err(), is_refused, what)?;
-    Ok((is_refused, fixed_at_last(memory, made)?))
-}
-
-/// Returns whether the making of a mesh of three vertices and an edge came to the request of this number, which is refused.
-fn are_fixed_vertices_refused(number: u64, alloc: Global) -> Result<bool, Fail> {
-    let memory = Refusing::new(alloc);
-    let (is_refused, dcel) = fixed_refused(number, &memory)?;
-    check_fixed(dcel, &memory)?;
-    Ok(is_refused)
-}
-
-#[test]
-fn a_mesh_is_made_of_its_vertices(rt: HostRuntime) -> Result<(), Fail> {
-    let mut requests = 0;
-    for number in 0..MANY {
-        if are_fixed_vertices_refused(number, rt.alloc())? {
-            requests = number + 1;
-        }
-    }
-    holds(0 < requests && requests < MANY, "requests")
-}
-
-/// A call on a whole mesh that takes memory.
-#[derive(Debug, Clone, Copy)]
-enum Call {
-    MapVertices,
-    MapUndirectedEdges,
-    TryClone,
-    ReserveCapacity,
-}
-
-/// Counts a call of a closure, which returns what it is given.
-fn count(calls: &Cell<u64>, datum: i64) -> i64 {
-    calls.set(calls.get().saturating_add(1));
-    datum
-}
-
-fn map_vertices<'a>(
-    dcel: Watched<'a>,
-    memory: Watching<'a>,
-    calls: &Cell<u64>,
-) -> (bool, Watched<'a>) {
-    match dcel.map_vertices(memory, |datum| count(calls, datum)) {
-        Ok(mapped) => (true, mapped),
-        Err(refused) => (false, refused.back),
-    }
-}
-
-fn map_undirected_edges<'a>(
-    dcel: Watched<'a>,
-    memory: Watching<'a>,
-    calls: &Cell<u64>,
-) -> (bool, Watched<'a>) {
-    match dcel.map_undirected_edges(memory, |datum| count(calls, datum)) {
-        Ok(mapped) => (true, mapped),
-        Err(refused) => (false, refused.back),
-    }
-}
-
-fn try_clone<'a>(dcel: Watched<'a>, memory: Watching<'a>) -> (bool, Watched<'a>) {
-    match dcel.try_clone(memory) {
-        Ok(clone) => (true, clone),
-        Err(_) => (false, dcel),
-    }
-}
-
-fn reserve_nine(mut dcel: Watched<'_>) -> Result<(bool, Watched<'_>), Fail> {
-    let is_made = reserve(&mut dcel, [9, 9, 9])?;
-    Ok((is_made, dcel))
-}
-
-/// Makes the call, and counts the calls of its closure. Returns whether there was memory, and the mesh or its clone. Without memory, the
-/// mesh is the one handed back.
-fn make<'a>(
-    call: Call,
-    dcel: Watched<'a>,
-    memory: Watching<'a>,
-    calls: &Cell<u64>,
-) -> Result<(bool, Watched<'a>), Fail> {
-    match call {
-        Call::MapVertices => Ok(map_vertices(dcel, memory, calls)),
-        Call::MapUndirectedEdges => Ok(map_undirected_edges(dcel, memory, calls)),
-        Call::TryClone => Ok(try_clone(dcel, memory)),
-        Call::ReserveCapacity => reserve_nine(dcel),
-    }
+    let dcel = made(new_with_fixed_vertices(alloc, vertices, from, to))?;
+    check_fixed(dcel, alloc)
 }
 
 /// A triangle that vertex 3 cuts into three.
@@ -288,75 +174,6 @@ fn cut(memory: Watching<'_>) -> Result<Watched<'_>, Fail> {
     let mut dcel: Watched = new(memory)?;
     grow_all(&mut dcel, memory, &CUT)?;
     Ok(dcel)
-}
-
-/// Makes the call with the request of this number refused. Returns whether the request came, and the mesh. If it came, the closure wasn't
-/// called.
-fn make_refused<'a>(
-    which: Call,
-    number: u64,
-    dcel: Watched<'a>,
-    memory: Watching<'a>,
-) -> Result<(bool, Watched<'a>), Fail> {
-    memory.refuse_one(number);
-    let calls = Cell::new(0);
-    let (is_made, dcel) = make(which, dcel, memory, &calls)?;
-    let is_refused = memory.requests() > number;
-    memory.refuse_one(u64::MAX);
-    let is_called_in_vain = is_refused && calls.get() > 0;
-    same(
-        (is_made, is_called_in_vain),
-        (!is_refused, false),
-        format_args!("request {number} of {which:?}"),
-    )?;
-    Ok((is_refused, dcel))
-}
-
-/// Checks the mesh, with the data of a triangle that vertex 3 cuts into three.
-fn check_kept<A: Allocator + Copy>(
-    dcel: Mesh<A>,
-    memory: A,
-    before: &Picture,
-    alloc: Global,
-) -> Result<(), Fail> {
-    check_picture(&dcel, before, alloc)?;
-    check_data(dcel, memory, [1_02_03, 0])
-}
-
-/// Makes the call with the request of this number refused, and returns whether the request came.
-fn is_call_refused(which: Call, number: u64, alloc: Global) -> Result<bool, Fail> {
-    let memory = Refusing::new(alloc);
-    let dcel = cut(&memory)?;
-    let before = picture_of(&dcel, alloc)?;
-    let (is_refused, dcel) = make_refused(which, number, dcel, &memory)?;
-    check_kept(dcel, &memory, &before, alloc)?;
-    Ok(is_refused)
-}
-
-/// Returns the number of requests that a call makes, each of which is refused once.
-fn requests_of(which: Call, alloc: Global) -> Result<u64, Fail> {
-    let mut requests = 0;
-    for number in 0..MANY {
-        if is_call_refused(which, number, alloc)? {
-            requests = number + 1;
-        }
-    }
-    Ok(requests)
-}
-
-#[test]
-fn calls_on_a_whole_mesh_are_refused_memory(rt: HostRuntime) -> Result<(), Fail> {
-    for which in [
-        Call::MapVertices,
-        Call::MapUndirectedEdges,
-        Call::TryClone,
-        Call::ReserveCapacity,
-    ] {
-        let requests = requests_of(which, rt.alloc())?;
-        let is_told = 0 < requests && requests < MANY;
-        holds(is_told, format_args!("{requests} requests of {which:?}"))?;
-    }
-    Ok(())
 }
 
 /// A triangle, a line first that is then closed.
@@ -379,7 +196,7 @@ fn check_cleared<A: Allocator>(dcel: &Mesh<A>) -> Result<(), Fail> {
 
 /// Clears the mesh, which makes no request, and grows it again in the places that were left.
 fn check_grown_again<'a>(dcel: &mut Watched<'a>, memory: Watching<'a>) -> Result<(), Fail> {
-    memory.refuse_from(0);
+    memory.refuse(Refusals::From(0));
     dcel.clear();
     check_cleared(dcel)?;
     grow_all(dcel, memory, &CLOSED_LINE)?;
@@ -432,7 +249,7 @@ fn check_room<'a>(
     (room, next): ([usize; 3], Growth),
 ) -> Result<(), Fail> {
     holds(reserve(dcel, room)?, "memory for room")?;
-    memory.refuse_from(0);
+    memory.refuse(Refusals::From(0));
     grow_all(dcel, memory, &EIGHT_TRIANGLES)?;
     same(memory.requests(), 0, format_args!("requests in {room:?}"))?;
     let is_made = grow(dcel, memory, next)?;
@@ -444,7 +261,7 @@ fn check_room<'a>(
 fn a_mesh_grows_in_reserved_room_without_memory(rt: HostRuntime) -> Result<(), Fail> {
     let memory = Refusing::new(rt.alloc());
     for row in &ROOM {
-        memory.refuse_one(u64::MAX);
+        memory.refuse(Refusals::None);
         let mut dcel: Watched = new(&memory)?;
         check_room(&mut dcel, &memory, *row)?;
     }

@@ -1,19 +1,16 @@
-//! Removals from the opening to the end: what openers answer and leave, what cleanup makes of it, and openers that are refused memory.
+//! Removals from the opening to the end: what openers return and leave, and what cleanup makes of it.
 
-use crate::watched::{MANY, Watched, fit};
 use dcel_bench::checks::{holds, same};
 use dcel_bench::data::{Datum, write_all};
 use dcel_bench::growths::Growth::{Append, Insert, SplitBothSides, Triangle};
-use dcel_bench::growths::{CUT, Growth, grow_all};
-use dcel_bench::meshes::{Links, check_links, inner_face, out_edge, undirected_edge, vertex};
+use dcel_bench::growths::{CUT, Growth, grown};
+use dcel_bench::meshes::{Links, Mesh, check_links, inner_face, out_edge, undirected_edge, vertex};
 use dcel_bench::openers::Opener::{Isolate, Remesh, Strip};
 use dcel_bench::openers::{Opener, handles, open};
-use dcel_bench::pictures::{Picture, picture_of};
-use dcel_bench::refusing::Refusing;
 use dcel_bench::require;
 use spade_dcel::dcel::RemovalState;
 use spade_dcel::handles::{FixedFaceHandle, FixedUndirectedEdgeHandle, InnerTag};
-use spade_dcel::operations::{IsolateVertexResult, cleanup_isolated_vertex, new};
+use spade_dcel::operations::{IsolateVertexResult, cleanup_isolated_vertex};
 use std::alloc::Global;
 use std::test::Fail;
 
@@ -174,11 +171,11 @@ const WRITTEN: [(Datum, i64); 5] = [
     (Datum::InnerFace(1), 401),
 ];
 
-/// What an opener answers.
-type Opened<'a> = IsolateVertexResult<&'a Refusing<Global>>;
+/// What an opener returns.
+type Opened = IsolateVertexResult;
 
-/// That the vertices have these anchors, and there are no others.
-fn check_anchors(dcel: &Watched, anchors: &[Option<usize>]) -> Result<(), Fail> {
+/// Checks that the vertices have these anchors, and there are no others.
+fn check_anchors(dcel: &Mesh, anchors: &[Option<usize>]) -> Result<(), Fail> {
     same(dcel.num_vertices(), anchors.len(), "vertices")?;
     for (index, anchor) in anchors.iter().enumerate() {
         let found = out_edge(dcel, index)?;
@@ -187,7 +184,7 @@ fn check_anchors(dcel: &Watched, anchors: &[Option<usize>]) -> Result<(), Fail> 
     Ok(())
 }
 
-/// That the opener has answered the lists of the row.
+/// Checks that the opener has answered the lists of the row.
 fn check_lists(opened: &Opened, row: Row, alloc: Global) -> Result<(), Fail> {
     let edges: Vec<FixedUndirectedEdgeHandle> = handles(row.edges, alloc)?;
     let faces: Vec<FixedFaceHandle<InnerTag>> = handles(row.faces, alloc)?;
@@ -201,8 +198,8 @@ fn check_lists(opened: &Opened, row: Row, alloc: Global) -> Result<(), Fail> {
     )
 }
 
-/// That these edges are live, or that none of them is.
-fn check_edges(dcel: &Watched, edges: &[u32], are_live: bool) -> Result<(), Fail> {
+/// Checks that these edges are live, or that none of them is.
+fn check_edges(dcel: &Mesh, edges: &[u32], are_live: bool) -> Result<(), Fail> {
     for edge in edges {
         let is_live = dcel.is_live_edge(undirected_edge(*edge));
         same(
@@ -214,8 +211,8 @@ fn check_edges(dcel: &Watched, edges: &[u32], are_live: bool) -> Result<(), Fail
     Ok(())
 }
 
-/// That these faces aren't live.
-fn check_faces_given_up(dcel: &Watched, faces: &[u32]) -> Result<(), Fail> {
+/// Checks that these faces aren't live.
+fn check_faces_given_up(dcel: &Mesh, faces: &[u32]) -> Result<(), Fail> {
     for face in faces {
         let is_live = dcel.is_live_face(inner_face(*face));
         holds(!is_live, format_args!("face {face} is live"))?;
@@ -223,7 +220,7 @@ fn check_faces_given_up(dcel: &Watched, faces: &[u32]) -> Result<(), Fail> {
     Ok(())
 }
 
-/// That the answer calls the new edges new.
+/// Checks that the answer calls the new edges new.
 fn check_new_edges(opened: &Opened, edges: &[u32]) -> Result<(), Fail> {
     for edge in edges {
         let is_new = opened.is_new_edge(undirected_edge(*edge));
@@ -232,17 +229,17 @@ fn check_new_edges(opened: &Opened, edges: &[u32]) -> Result<(), Fail> {
     Ok(())
 }
 
-/// That the vertex, if there is one, isn't live.
-fn check_vertex(dcel: &Watched, given_up: Option<u32>) -> Result<(), Fail> {
+/// Checks that the vertex, if there is one, isn't live.
+fn check_vertex(dcel: &Mesh, given_up: Option<u32>) -> Result<(), Fail> {
     match given_up {
         Some(index) => holds(!dcel.is_live_vertex(vertex(index)), "its vertex is live"),
         None => Ok(()),
     }
 }
 
-/// That the mesh is as the row says while the removal is open: what is given up isn't live, and the links and the anchors are those of
+/// Checks that the mesh is as the row says while the removal is open: what is given up isn't live, and the links and the anchors are those of
 /// the row.
-fn check_open(dcel: &Watched, row: Row) -> Result<(), Fail> {
+fn check_open(dcel: &Mesh, row: Row) -> Result<(), Fail> {
     same(
         dcel.removal_state(),
         RemovalState::Isolated,
@@ -266,63 +263,16 @@ fn cleaned_state(row: Row) -> RemovalState {
 }
 
 /// Cleans up what an opener has given up: the links are those of the row, and its vertex, if there is one, is still given up.
-fn clean_up(dcel: &mut Watched, opened: &mut Opened, row: Row) -> Result<(), Fail> {
+fn clean_up(dcel: &mut Mesh, opened: &mut Opened, row: Row) -> Result<(), Fail> {
     require!(dcel.is_listed(opened));
     cleanup_isolated_vertex(dcel, opened);
     same(dcel.removal_state(), cleaned_state(row), "a cleanup")?;
     check_links(dcel, row.cleaned.0, row.cleaned.1)
 }
 
-/// That the mesh is as it was before a removal that was refused, and that there is memory for it then.
-fn open_again<'a>(
-    dcel: &mut Watched<'a>,
-    memory: &'a Refusing<Global>,
-    opener: Opener,
-    before: Picture,
-    alloc: Global,
-) -> Result<Opened<'a>, Fail> {
-    same(
-        dcel.removal_state(),
-        RemovalState::Closed,
-        "a refused removal",
-    )?;
-    same(picture_of(dcel, alloc)?, before, "the mesh when refused")?;
-    match open(dcel, memory, opener)? {
-        Some(opened) => Ok(opened),
-        None => Err(Fail::new("no memory for an opener")),
-    }
-}
-
-/// Opens the removal with the request of this number refused, in which case it is opened again. Answers whether so many requests came,
-/// and what the opener answers.
-fn open_refused<'a>(
-    dcel: &mut Watched<'a>,
-    memory: &'a Refusing<Global>,
-    opener: Opener,
-    number: u64,
-    alloc: Global,
-) -> Result<(bool, Opened<'a>), Fail> {
-    let before = picture_of(dcel, alloc)?;
-    memory.refuse_one(number);
-    let answer = open(dcel, memory, opener)?;
-    let is_refused = memory.requests() > number;
-    memory.refuse_one(u64::MAX);
-    match answer {
-        Some(opened) => {
-            holds(!is_refused, format_args!("a lost refusal of {number}"))?;
-            Ok((false, opened))
-        }
-        None => {
-            holds(is_refused, format_args!("no refusal of {number}"))?;
-            let opened = open_again(dcel, memory, opener, before, alloc)?;
-            Ok((true, opened))
-        }
-    }
-}
-
-/// That a removal has been opened as the row says, and is cleaned up so.
+/// Checks that a removal has been opened as the row says, and is cleaned up so.
 fn check_removal(
-    dcel: &mut Watched,
+    dcel: &mut Mesh,
     opened: &mut Opened,
     row: Row,
     alloc: Global,
@@ -333,38 +283,14 @@ fn check_removal(
     clean_up(dcel, opened, row)
 }
 
-/// Grows an empty mesh to that of a row, opens the removal with the request of this number refused, and cleans it up. Answers whether so
-/// many requests came.
-fn refuse_row<'a>(
-    dcel: &mut Watched<'a>,
-    memory: &'a Refusing<Global>,
-    row: Row,
-    number: u64,
-    alloc: Global,
-) -> Result<bool, Fail> {
-    grow_all(dcel, memory, row.growths)?;
-    write_all(dcel, &WRITTEN)?;
-    fit(dcel, memory)?;
-    let (is_refused, mut opened) = open_refused(dcel, memory, row.opener, number, alloc)?;
-    check_removal(dcel, &mut opened, row, alloc)?;
-    Ok(is_refused)
-}
-
-/// Opens the removal of a row with the request of this number refused, and cleans it up. Answers whether so many requests came.
-fn is_opener_refused(row: Row, number: u64, alloc: Global) -> Result<bool, Fail> {
-    let memory = Refusing::new(alloc);
-    let mut dcel = new(&memory)?;
-    refuse_row(&mut dcel, &memory, row, number, alloc)
-}
-
-/// That the opener of a row may be refused each of its requests, of which there are some.
+/// Checks that the removal of a row is opened and cleaned up as it says.
 fn check_row(row: Row, alloc: Global) -> Result<(), Fail> {
-    let mut is_refused = is_opener_refused(row, 0, alloc)?;
-    holds(is_refused, "a request of an opener")?;
-    for number in 1..MANY {
-        is_refused = is_opener_refused(row, number, alloc)?;
+    let mut dcel = grown(alloc, row.growths)?;
+    write_all(&mut dcel, &WRITTEN)?;
+    match open(&mut dcel, alloc, row.opener)? {
+        Some(mut opened) => check_removal(&mut dcel, &mut opened, row, alloc),
+        None => Err(Fail::new("no memory for an opener")),
     }
-    holds(!is_refused, "no more requests than MANY")
 }
 
 #[test]
