@@ -1,20 +1,12 @@
 -- A vertex inserted into a triangle and removed again: what is left is the mesh before, without the vertex.
-use Rattle.std.specs.Prelude.{◌≡◌, ℕ, suc, ◌-◌, ◌*◌, List, [], ◌∷◌, length, slice_set, take}
+use Rattle.std.specs.Prelude.{◌≡◌, ℕ, suc, ◌-◌, List, [], ◌∷◌, length, slice_set, take}
 use Rattle.dcel_maps.specs.Conditions.{HasRoom, IsTriangle, IsUnconnected}
 use Rattle.dcel_maps.specs.Removals.{Closed}
 use Rattle.dcel_maps.specs.Renumbering.{cleaned_up, vertex_taken_out}
 use Rattle.dcel_maps.specs.Shapes.{Mesh}
+use Rattle.dcel_maps.specs.edits.DefaultData.{NewData}
 use Rattle.dcel_maps.specs.edits.Fill.{hole_filled}
 use Rattle.dcel_maps.specs.edits.Triangle.{vertex_inserted}
-
--- the data of so many new edges and faces: two for the halves of each edge, one for itself, one for a face
-pub record NewData (DE UE F : Type 0) (edges faces : ℕ) : Type 0 where
-  pub directed_data : List DE
-  pub undirected_data : List UE
-  pub face_data : List F
-  pub directed_count : length directed_data ≡ 2 * edges
-  pub undirected_count : length undirected_data ≡ edges
-  pub face_data_count : length face_data ≡ faces
 
 module _ {V DE UE F : Type 0} where
   -- v is the last vertex, and can be inserted into f while no removal is open

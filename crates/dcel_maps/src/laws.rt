@@ -7,6 +7,7 @@ ghost use Rattle.dcel_maps.specs.Conditions.{CanFlip, CanSwapRemove, IsBridge, I
 ghost use Rattle.dcel_maps.specs.Count.{Counts, IsCounted, live_edges, used_vertices};
 ghost use Rattle.dcel_maps.specs.Degenerate.{CanRemoveDegenerate};
 ghost use Rattle.dcel_maps.specs.edits.Create.{first_edge_added, first_edge_alone, outer_alone, vertex_appended};
+ghost use Rattle.dcel_maps.specs.edits.DefaultData.{NewData};
 ghost use Rattle.dcel_maps.specs.edits.Degenerate.{removed_degenerate};
 ghost use Rattle.dcel_maps.specs.edits.Fill.{hole_filled, ring_remeshed};
 ghost use Rattle.dcel_maps.specs.edits.Flip.{GoesRound, edge_flipped};
@@ -21,7 +22,7 @@ ghost use Rattle.dcel_maps.specs.Elementary.{Chord, FirstEdge, Renamed, Spur, Su
 ghost use Rattle.dcel_maps.specs.Examples.{FillsSquare, FillsTriangle, GoesFromHoleToHole, IsRingFrom, gathered, inside_triangle, on_edge, scattered, two_triangles};
 ghost use Rattle.dcel_maps.specs.Headline.{CountsTwo, FacesAreCycles, VerticesAreCycles};
 ghost use Rattle.dcel_maps.specs.HeadlineExamples.{pinched, torus, with_idle_face, without_anchors};
-ghost use Rattle.dcel_maps.specs.InsertedBack.{CanInsertLast, IsBackWithoutLast, NewData, inserted_with, removed_with};
+ghost use Rattle.dcel_maps.specs.InsertedBack.{CanInsertLast, IsBackWithoutLast, inserted_with, removed_with};
 ghost use Rattle.dcel_maps.specs.Maps.{Connected, Map};
 ghost use Rattle.dcel_maps.specs.PathExamples.{BothGone, EndGone, MiddleGone};
 ghost use Rattle.dcel_maps.specs.RegionExamples.{AreNoRings, FillsOneFace, FillsThreeFaces, FillsTwoFaces};

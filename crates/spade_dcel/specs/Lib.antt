@@ -1,3 +1,4 @@
 pub mod Handles
 pub mod Lending
+pub mod Opened
 pub mod Voronoi

@@ -220,12 +220,14 @@ module _ {V DE UE F : Type 0} (is_half : DE → Type 0) (is_edge : UE → Type 0
     opened_holds = record {
       stored = holds_filled.stored;
       edit = record {
-        directed_data = cut.halves;
-        undirected_data = cut.edges;
-        face_data = cut.faces;
-        directed_count = cut.half_count;
-        undirected_count = cut.edge_count;
-        face_data_count = cut.face_count;
+        added = record {
+          directed_data = cut.halves;
+          undirected_data = cut.edges;
+          face_data = cut.faces;
+          directed_count = cut.half_count;
+          undirected_count = cut.edge_count;
+          face_data_count = cut.face_count;
+        };
         directed_default = cut.half_default;
         undirected_default = cut.edge_default;
         face_default = cut.face_default;

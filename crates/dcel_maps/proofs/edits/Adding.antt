@@ -14,12 +14,7 @@ module _ {X DE UE F : Type 0} {is_half : DE → Type 0} {is_edge : UE → Type 0
       → ForData k l (λ halves edges faces. see (edit halves edges faces) ≡ seen halves edges faces)
       → AddsEdgesAndFaces is_half is_edge is_face k l (see x) seen
   adds_as see seen same = record {
-    directed_data = added.directed_data;
-    undirected_data = added.undirected_data;
-    face_data = added.face_data;
-    directed_count = added.directed_count;
-    undirected_count = added.undirected_count;
-    face_data_count = added.face_data_count;
+    added = added.added;
     directed_default = added.directed_default;
     undirected_default = added.undirected_default;
     face_default = added.face_default;
@@ -62,12 +57,14 @@ module _ {DE UE : Type 0} (is_half : DE → Type 0) (is_edge : UE → Type 0) wh
       (made : List (DE × DE × UE)) (faces : List F) → AreDefault is_half is_edge made → All is_face faces
       → x ≡ edit (halves_of made) (edges_of made) faces → AddsEdgesAndFaces is_half is_edge is_face (length made) (length faces) x edit
   adds_edges_and_faces is_face edit made faces default face_default is = record {
-    directed_data = halves_of made;
-    undirected_data = edges_of made;
-    face_data = faces;
-    directed_count = halves_count made;
-    undirected_count = edges_count made;
-    face_data_count = refl;
+    added = record {
+      directed_data = halves_of made;
+      undirected_data = edges_of made;
+      face_data = faces;
+      directed_count = halves_count made;
+      undirected_count = edges_count made;
+      face_data_count = refl;
+    };
     directed_default = halves_default made default;
     undirected_default = edges_default made default;
     face_default = face_default;
@@ -86,12 +83,14 @@ pub adds_faces : {X DE UE F : Type 0} {is_half : DE → Type 0} {is_edge : UE �
     → ((halves : List DE) (edges : List UE) → add halves edges ≡ edit halves edges faces)
     → AddsEdgesAndFaces is_half is_edge is_face 1 (length faces) x edit
 adds_faces added faces default same = record {
-  directed_data = added.directed_data;
-  undirected_data = added.undirected_data;
-  face_data = faces;
-  directed_count = added.directed_count;
-  undirected_count = added.undirected_count;
-  face_data_count = refl;
+  added = record {
+    directed_data = added.directed_data;
+    undirected_data = added.undirected_data;
+    face_data = faces;
+    directed_count = added.directed_count;
+    undirected_count = added.undirected_count;
+    face_data_count = refl;
+  };
   directed_default = added.directed_default;
   undirected_default = added.undirected_default;
   face_default = default;

@@ -5,11 +5,12 @@ use Rattle.std.proofs.lemmas.List.{ext_get_or, get_or-set_other, get_or-set_same
 use Rattle.dcel_maps.specs.Borders.{GivesUpRound, IsBorderLoop}
 use Rattle.dcel_maps.specs.Cyclic.{from_least}
 use Rattle.dcel_maps.specs.Hiding.{kept_words}
-use Rattle.dcel_maps.specs.InsertedBack.{CanInsertLast, IsBackWithoutLast, NewData, inserted_with, removed_with}
+use Rattle.dcel_maps.specs.InsertedBack.{CanInsertLast, IsBackWithoutLast, inserted_with, removed_with}
 use Rattle.dcel_maps.specs.Removals.{Closed, Removal, ascending, gives_up_edge, gives_up_face, opened, shown}
 use Rattle.dcel_maps.specs.Renumbering.{cleaned, cleaned_up, edges_down, edges_taken_out, faces_down, faces_taken_out, half_of, last_put, moved, vertex_taken_out, with_removal}
 use Rattle.dcel_maps.specs.Shapes.{IsMesh, IsSound, Mesh, adjacent_edge_of, face_count, map_of, next_of, origin_of, prev_of}
 use Rattle.dcel_maps.specs.Words.{count_of, word_of}
+use Rattle.dcel_maps.specs.edits.DefaultData.{NewData}
 use Rattle.dcel_maps.specs.edits.Fill.{edges_at, faces_at, loop_filled, ring_filled}
 use Rattle.dcel_maps.specs.edits.Triangle.{vertex_inserted}
 use Rattle.dcel_maps.proofs.Shown.{length-shown, slice_index-shown_live}

@@ -1,12 +1,27 @@
 -- The opening of a removal by filling the hole: what is given up leaves a ring, which is cut into triangles. Before the call there are m
 -- undirected edges; a new edge m has the half edges 2m and 2m + 1. Whatever an edit doesn't name stays as it was.
-use Rattle.std.specs.Prelude.{ℕ, suc, ◌+◌, ◌*◌, ◌/◌, List, [], ◌∷◌, ◌++◌, length, map, reverse, slice_set, Option, Some}
+use Rattle.std.specs.Prelude.{◌≡◌, ℕ, suc, ◌+◌, ◌-◌, ◌*◌, ◌/◌, ◌≤◌, List, [], ◌∷◌, ◌++◌, length, map, reverse, slice_set, Option, Some}
+use Rattle.dcel_maps.specs.Conditions.{HasRoom}
 use Rattle.dcel_maps.specs.Cyclic.{from_least}
 use Rattle.dcel_maps.specs.Hiding.{kept_words, kept_vertex_anchors, kept_face_anchors}
-use Rattle.dcel_maps.specs.Regions.{inside}
-use Rattle.dcel_maps.specs.Removals.{Removal, gives_up_edge, opened, opened_with, shown}
-use Rattle.dcel_maps.specs.Shapes.{Mesh, face_of, origin_of}
+use Rattle.dcel_maps.specs.Regions.{LiesInside, inside}
+use Rattle.dcel_maps.specs.Removals.{Closed, Removal, gives_up_edge, opened, opened_with, shown}
+use Rattle.dcel_maps.specs.Shapes.{Mesh, Shape, face_of, origin_of}
 use Rattle.dcel_maps.specs.Walking.{out_edges_of}
+use Rattle.dcel_maps.specs.edits.DefaultData.{AddsEdgesAndFaces}
+
+-- what filling asks: no removal is open, these edges and faces, and this vertex if there is one, lie inside the border, and there are numbers
+-- for the new edges and faces
+pub record CanFill (s : Shape) (border edges faces : List ℕ) (vertex : Option ℕ) : Type 0 where
+  pub closed : s.removal ≡ Closed
+  pub many : 3 ≤ length border
+  pub inside : LiesInside s border edges faces vertex
+  pub room : HasRoom s 0 (length border - 3) (length border - 2)
+
+-- an edit that fills the hole inside a border: three fewer edges than the border has, and two fewer faces, with default data
+abbrev pub FillsHole : {X DE UE F : Type 0} → (DE → Type 0) → (UE → Type 0) → (F → Type 0) → List ℕ → X → (List DE → List UE → List F → X) → Type 0
+FillsHole is_half is_edge is_face border new edit =
+    AddsEdgesAndFaces is_half is_edge is_face (length border - 3) (length border - 2) new edit
 
 -- The ears of a ring (p, q, r, ..): the new edge m cuts off (p, q, 2m), and its other half leads the ring that is left,
 -- (2m + 1, r, ..), which the next edge cuts; a ring of three is the last ear.

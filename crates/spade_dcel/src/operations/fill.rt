@@ -1,15 +1,15 @@
 //! Holes filled: a vertex is given up with its edges and the triangles around it, or a region of
 //! faces with the edges between them.
 
-ghost use Rattle.std.specs.Prelude.{◌≡◌, ◌+◌, ◌-◌, ◌^◌, ◌<◌, ◌≤◌, IfOk, OnErr, OnOk, length};
+ghost use Rattle.std.specs.Prelude.{◌≡◌, ◌-◌, ◌^◌, ◌<◌, ◌≤◌, IfOk, OnErr, OnOk, length};
 ghost use Rattle.dcel_maps.specs.Borders.{IsBorderLoop};
 ghost use Rattle.dcel_maps.specs.Conditions.{HasRoom};
-ghost use Rattle.dcel_maps.specs.edits.DefaultData.{AddsEdgesAndFaces};
-ghost use Rattle.dcel_maps.specs.edits.Fill.{border_filled, edges_at, faces_at, hole_filled, ring_remeshed};
+ghost use Rattle.dcel_maps.specs.edits.Fill.{CanFill, FillsHole, border_filled, edges_at, faces_at, hole_filled, ring_remeshed};
 ghost use Rattle.dcel_maps.specs.Numbers.{numbers_between};
-ghost use Rattle.dcel_maps.specs.Regions.{IsRing, LiesInside, inside};
+ghost use Rattle.dcel_maps.specs.Regions.{IsRing, inside};
 ghost use Rattle.dcel_maps.specs.Removals.{Closed, opened_with};
 ghost use Rattle.dcel_maps.specs.Shapes.{IsMesh};
+ghost use Rattle.spade_dcel.specs.Opened.{HasFilled};
 
 use crate::dcel::Dcel;
 use crate::laws::every_mesh;
@@ -65,13 +65,8 @@ pub fn isolate_vertex_and_fill_hole<
     requires closed { dcel.old.shape.removal ≡ Closed }
     requires border { IsBorderLoop dcel.old.shape border_loop.items vertex }
     requires room { HasRoom dcel.old.shape 0 (length border_loop.items - 3) (length border_loop.items - 2) }
-    ensures edit { OnOk result (AddsEdgesAndFaces DE.is_default UE.is_default F.is_default (length border_loop.items - 3) (length border_loop.items - 2)
-        dcel.new (hole_filled dcel.old vertex border_loop.items)) }
-    ensures edges { IfOk result (λ opened. opened.edges_to_remove.items ≡ edges_at dcel.old vertex) }
-    ensures faces { IfOk result (λ opened. opened.faces_to_remove.items ≡ faces_at dcel.old vertex) }
-    ensures new_edges { IfOk result (λ opened. opened.new_edges.items
-        ≡ numbers_between dcel.old.shape.edges (dcel.old.shape.edges + (length border_loop.items - 3))) }
-    ensures smallest { IfOk result (λ opened. opened.smallest_new_edge ≡ dcel.old.shape.edges) }
+    ensures edit { OnOk result (FillsHole DE.is_default UE.is_default F.is_default border_loop.items dcel.new (hole_filled dcel.old vertex border_loop.items)) }
+    ensures answer { IfOk result (HasFilled dcel.old.shape border_loop.items (edges_at dcel.old vertex) (faces_at dcel.old vertex)) }
     ensures refused { OnErr result (dcel.new ≡ dcel.old) }
     ensures mesh { IsMesh dcel.new }
 {
@@ -118,13 +113,9 @@ pub fn remesh_edge_ring<
     requires closed { dcel.old.shape.removal ≡ Closed }
     requires ring { IsRing dcel.old.shape border_loop.items edges_to_remove.items faces_to_remove.items }
     requires room { HasRoom dcel.old.shape 0 (length border_loop.items - 3) (length border_loop.items - 2) }
-    ensures edit { OnOk result (AddsEdgesAndFaces DE.is_default UE.is_default F.is_default (length border_loop.items - 3) (length border_loop.items - 2)
+    ensures edit { OnOk result (FillsHole DE.is_default UE.is_default F.is_default border_loop.items
         dcel.new (ring_remeshed dcel.old border_loop.items edges_to_remove.items faces_to_remove.items)) }
-    ensures edges { IfOk result (λ opened. opened.edges_to_remove.items ≡ edges_to_remove.items) }
-    ensures faces { IfOk result (λ opened. opened.faces_to_remove.items ≡ faces_to_remove.items) }
-    ensures new_edges { IfOk result (λ opened. opened.new_edges.items
-        ≡ numbers_between dcel.old.shape.edges (dcel.old.shape.edges + (length border_loop.items - 3))) }
-    ensures smallest { IfOk result (λ opened. opened.smallest_new_edge ≡ dcel.old.shape.edges) }
+    ensures answer { IfOk result (HasFilled dcel.old.shape border_loop.items edges_to_remove.items faces_to_remove.items) }
     ensures refused { OnErr result (dcel.new ≡ dcel.old) }
     ensures mesh { IsMesh dcel.new }
 {
@@ -167,17 +158,10 @@ fn isolate_and_answer<V, DE: Default, UE: Default, F: Default, A: Allocator + Cl
     edges_to_remove: Vec<FixedUndirectedEdgeHandle, A>,
     faces_to_remove: Vec<FixedFaceHandle<InnerTag>, A>,
 ) -> Result<IsolateVertexResult<A>, AllocError>
-    requires closed { dcel.old.shape.removal ≡ Closed }
-    requires many { 3 ≤ length border.now }
-    requires inside { LiesInside dcel.old.shape border.now edges_to_remove.items faces_to_remove.items vertex.now }
-    requires room { HasRoom dcel.old.shape 0 (length border.now - 3) (length border.now - 2) }
-    ensures edit { OnOk result (AddsEdgesAndFaces DE.is_default UE.is_default F.is_default (length border.now - 3) (length border.now - 2)
+    requires { CanFill dcel.old.shape border.now edges_to_remove.items faces_to_remove.items vertex.now }
+    ensures edit { OnOk result (FillsHole DE.is_default UE.is_default F.is_default border.now
         dcel.new (border_filled dcel.old (opened_with edges_to_remove.items faces_to_remove.items vertex.now) border.now)) }
-    ensures edges { IfOk result (λ opened. opened.edges_to_remove ≡ edges_to_remove) }
-    ensures faces { IfOk result (λ opened. opened.faces_to_remove ≡ faces_to_remove) }
-    ensures new_edges { IfOk result (λ opened. opened.new_edges.items
-        ≡ numbers_between dcel.old.shape.edges (dcel.old.shape.edges + (length border.now - 3))) }
-    ensures smallest { IfOk result (λ opened. opened.smallest_new_edge ≡ dcel.old.shape.edges) }
+    ensures answer { IfOk result (HasFilled dcel.old.shape border.now edges_to_remove.items faces_to_remove.items) }
     ensures refused { OnErr result (dcel.new ≡ dcel.old) }
     ensures mesh { IsMesh dcel.new }
 {
@@ -201,11 +185,8 @@ fn give_up_and_fill<V, DE: Default, UE: Default, F: Default, A: Allocator>(
     edges: &[FixedUndirectedEdgeHandle],
     faces: &[FixedFaceHandle<InnerTag>],
 ) -> Result<(), AllocError>
-    requires closed { dcel.old.shape.removal ≡ Closed }
-    requires many { 3 ≤ length border.now }
-    requires inside { LiesInside dcel.old.shape border.now edges.now faces.now vertex.now }
-    requires room { HasRoom dcel.old.shape 0 (length border.now - 3) (length border.now - 2) }
-    ensures edit { OnOk result (AddsEdgesAndFaces DE.is_default UE.is_default F.is_default (length border.now - 3) (length border.now - 2)
+    requires { CanFill dcel.old.shape border.now edges.now faces.now vertex.now }
+    ensures edit { OnOk result (FillsHole DE.is_default UE.is_default F.is_default border.now
         dcel.new (border_filled dcel.old (opened_with edges.now faces.now vertex.now) border.now)) }
     ensures refused { OnErr result (dcel.new ≡ dcel.old) }
     ensures mesh { IsMesh dcel.new }

@@ -6,6 +6,7 @@ ghost use Rattle.dcel_maps.specs.Removals.{Closed};
 ghost use Rattle.dcel_maps.specs.Shapes.{IsLive, IsMesh, face_of};
 ghost use Rattle.dcel_maps.specs.Strips.{IsEdgeStrip};
 ghost use Rattle.dcel_maps.specs.Words.{count_of};
+ghost use Rattle.spade_dcel.specs.Opened.{HasOpened};
 
 use crate::dcel::Dcel;
 use crate::laws::every_mesh;
@@ -44,10 +45,7 @@ pub fn disconnect_edge_strip<V, DE, UE, F, A: Allocator + Clone, B: Allocator>(
     requires closed { dcel.old.shape.removal ≡ Closed }
     requires strip { IsEdgeStrip dcel.old.shape list.items }
     ensures edit { OnOk result (dcel.new ≡ strip_cut dcel.old list.items) }
-    ensures edges { IfOk result (λ opened. opened.edges_to_remove.items ≡ strip_edges dcel.old.shape list.items) }
-    ensures faces { IfOk result (λ opened. opened.faces_to_remove.items ≡ strip_faces dcel.old.shape list.items) }
-    ensures new_edges { IfOk result (λ opened. opened.new_edges.items ≡ []) }
-    ensures smallest { IfOk result (λ opened. opened.smallest_new_edge ≡ 0) }
+    ensures answer { IfOk result (HasOpened (strip_edges dcel.old.shape list.items) (strip_faces dcel.old.shape list.items) [] 0) }
     ensures refused { OnErr result (dcel.new ≡ dcel.old) }
     ensures mesh { IsMesh dcel.new }
 {

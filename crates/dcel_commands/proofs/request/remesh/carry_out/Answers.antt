@@ -10,7 +10,7 @@ returns g c =
     let same_faces : c.in_ok-faces.faces.items ≡ c.args.faces.items = search rules in (
       search rules,
       (
-        rw (opened.edges, opened.faces, opened.new_edges, opened.smallest, same_edges, same_faces) refl,
+        rw (opened.answer.edges, opened.answer.faces, opened.answer.new_edges, opened.answer.smallest, same_edges, same_faces) refl,
         rw (same_edges, same_faces) at opened.edit,
       ),
     )

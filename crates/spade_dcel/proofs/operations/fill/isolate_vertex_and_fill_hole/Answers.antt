@@ -1,13 +1,14 @@
 use Rattle.dcel_maps.proofs.removal.RingLists.{at_border}
 use Rattle.spade_dcel.proofs.operations.fill.isolate_vertex_and_fill_hole.Goals as goal
 
-pub isolate_and_answer-requires-clause-many : goal.isolate_and_answer-requires-clause-many
-isolate_and_answer-requires-clause-many g c = rw c.deref.ensures.value c.requires.border.many
-
-pub isolate_and_answer-requires-clause-inside : goal.isolate_and_answer-requires-clause-inside
-isolate_and_answer-requires-clause-inside g c =
-    rw (c.in_ok-edges.ensures.edges, c.in_ok-edges.ensures.faces, c.deref.ensures.value)
-    (c.requires.border, at_border c.args.dcel.now c.every_mesh.ensures c.args.border_loop.items c.args.vertex c.requires.border)
+pub isolate_and_answer-requires : goal.isolate_and_answer-requires
+isolate_and_answer-requires g c =
+    rw (c.in_ok-edges.ensures.edges, c.in_ok-edges.ensures.faces, c.deref.ensures.value) record {
+      closed = c.requires.closed;
+      many = c.requires.border.many;
+      inside = (c.requires.border, at_border c.args.dcel.now c.every_mesh.ensures c.args.border_loop.items c.args.vertex c.requires.border);
+      room = c.requires.room;
+    }
 
 pub returns-clause-edit : goal.returns-clause-edit
 returns-clause-edit g c =

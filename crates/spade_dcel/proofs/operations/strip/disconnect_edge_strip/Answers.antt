@@ -1,4 +1,4 @@
-use Rattle.std.proofs.Common.{[], ◌∷◌, sym, ap, ◌∙◌, subst, arith, map}
+use Rattle.std.proofs.Common.{[], ◌∷◌, rules, sym, ap, ◌∙◌, subst, arith, map}
 use Rattle.dcel_maps.specs.edits.Strip.{but_last}
 use Rattle.dcel_maps.specs.Shapes.{face_of}
 use Rattle.dcel_maps.specs.Strips.{IsEdgeStrip}
@@ -29,8 +29,14 @@ cut-requires-clause-faces g c =
     c.deref-4.ensures.value ∙ c.in_ok-faces_to_remove.ensures
     ∙ sym (ap (map (face_of c.args.dcel.now.shape)) (but_last-is c.in-Some.others.now c.in-Some.field-0-0.now))
 
-pub returns-clause-faces : goal.returns-clause-faces
-returns-clause-faces g c =
+pub returns-clause-answer : goal.returns-clause-answer
+returns-clause-answer g c =
     let is = sym c.deref.ensures.value ∙ c.in-Some.ensures.cases.0 in
-    c.in_ok-faces_to_remove.ensures
-    ∙ sym (ap (map (face_of c.args.dcel.now.shape)) (ap but_last is ∙ but_last-is c.in-Some.others.now c.in-Some.field-0-0.now))
+    record {
+      edges = search rules;
+      faces =
+          c.in_ok-faces_to_remove.ensures
+          ∙ sym (ap (map (face_of c.args.dcel.now.shape)) (ap but_last is ∙ but_last-is c.in-Some.others.now c.in-Some.field-0-0.now));
+      new_edges = search rules;
+      smallest = search rules;
+    }
