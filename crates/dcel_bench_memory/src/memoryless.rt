@@ -199,7 +199,7 @@ fn joined<A: Allocator>(dcel: &Mesh<A>, from: u32, to: u32) -> Result<Option<usi
     )
 }
 
-/// That a mesh is read, walked and tested as one that has memory.
+/// Checks that a mesh is read, walked and tested as one that has memory.
 fn check_read(dcel: &Watched, wanted: &Mesh, lists: &Lists, alloc: Global) -> Result<(), Fail> {
     same(
         picture_of(dcel, alloc)?,

@@ -1,4 +1,4 @@
-//! What commands are answered after one that was refused memory, on a mesh without spare room.
+//! Replies to commands after one that was refused memory, on a mesh without spare room.
 //!
 //! Lines can't tell it of a triangle, which has room for a vertex more and for more edges.
 
@@ -58,7 +58,7 @@ const ROWS: [Row; 2] = [
 /// The words and the origins of a triangle.
 const TRIANGLE: Links = (&[&[0, 2, 4], &[1, 5, 3]], &[0, 1, 1, 2, 2, 0]);
 
-/// That the mesh has the words of a triangle, and is as the row says.
+/// Checks that the mesh has the words of a triangle, and is as the row says.
 fn check_left(dcel: &Watched, row: &Row) -> Result<(), Fail> {
     check_links(dcel, TRIANGLE.0, TRIANGLE.1)?;
     same(counts(dcel), row.counts, "counts")?;

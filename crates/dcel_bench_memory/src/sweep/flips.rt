@@ -115,7 +115,7 @@ fn command<'a>(
     }
 }
 
-/// Flips edges, at most so many times, with these requests refused.
+/// Flips edges, at most `most` times, with these requests refused.
 fn legalize<'a>(
     dcel: &mut Watched<'a>,
     memory: Memory<'a>,
@@ -134,7 +134,7 @@ fn legalize<'a>(
     }
 }
 
-/// That the mesh is as so many flips leave it, after which it ends so.
+/// Checks the mesh after these flips, and how the run ended.
 fn check_flipped(
     dcel: &Watched,
     row: &Row,
@@ -156,8 +156,8 @@ fn check_flipped(
     same(left, picture_of(&wanted, alloc)?, "the mesh that is left")
 }
 
-/// Flips the edges of a row with the request of this number refused, before which so many flips
-/// stand, or with none refused.
+/// Flips the edges of a row with the request of this number refused, after `flips` flips, or with
+/// none refused.
 fn refuse(row: &Row, way: Way, number: usize, flips: usize, alloc: Global) -> Result<(), Fail> {
     let memory = Refusing::new(alloc);
     let mut dcel = made(&memory, row.mesh)?;

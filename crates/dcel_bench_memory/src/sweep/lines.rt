@@ -167,7 +167,7 @@ fn wanted(row: Row, place: usize, alloc: Global) -> Result<Vec<u8>, Fail> {
     Ok(wanted)
 }
 
-/// That these texts are the same.
+/// Checks that these texts are the same.
 fn check_text(written: &[u8], wanted: &[u8], what: &str, alloc: Global) -> Result<(), Fail> {
     let written = String::from_utf8_lossy(alloc, written)?;
     let wanted = String::from_utf8_lossy(alloc, wanted)?;
@@ -208,7 +208,7 @@ fn refuse_line(row: Row, place: usize, line: (&str, u64), alloc: Global) -> Resu
     Ok(())
 }
 
-/// That what comes after a row makes no request.
+/// Checks that what comes after a row makes no request.
 fn check_seen(row: Row, alloc: Global) -> Result<(), Fail> {
     let mut lines = before(row, row.1.len(), alloc)?;
     let (_, first) = run(&lines, Refusals::None, alloc)?;
@@ -243,7 +243,7 @@ const CUT_AND_READ: [&str; 7] = [
     "check",
 ];
 
-/// That a run whose request of this number is refused ends before it reads or writes.
+/// Checks that a run whose request of this number is refused ends before it reads or writes.
 fn check_no_run(number: u64, lines: &[u8], alloc: Global) -> Result<(), Fail> {
     let memory = Refusing::new(alloc);
     memory.refuse(Refusals::One(number));
@@ -322,7 +322,7 @@ const TOLD: [Told; 3] = [
     },
 ];
 
-/// Returns what `words` is answered after the first lines, with these requests refused.
+/// Returns the reply to `words` after the first lines, with these requests refused.
 fn words_after(
     lines: &[&str],
     count: usize,
@@ -343,7 +343,7 @@ fn words_after(
     Ok(words)
 }
 
-/// That `words` is answered the same before and after each line that is refused or bad.
+/// Checks that `words` has the same reply before and after each line that is refused or bad.
 fn check_words(told: &Told, refusals: Refusals, alloc: Global) -> Result<(), Fail> {
     for (place, reply) in told.replies.iter().enumerate() {
         if reply.starts_with("refused ") || *reply == "bad line" {
@@ -367,7 +367,7 @@ fn requests_before(lines: &[&str], count: usize, alloc: Global) -> Result<u64, F
     Ok(requests)
 }
 
-/// That the line of the row makes so many requests, and that these are the replies where one of
+/// Checks the number of requests that the row's line makes, and the replies if one of
 /// them is refused.
 fn check_told(told: &Told, alloc: Global) -> Result<(), Fail> {
     let begin = requests_before(told.lines, told.place, alloc)?;

@@ -72,7 +72,7 @@ fn replies(row: Row, from: usize, to: usize, alloc: Global) -> Result<Vec<Answer
     Ok(replies)
 }
 
-/// That the mesh is the one that the first calls of a row leave.
+/// Checks that the mesh is the one that the first calls of a row leave.
 fn check_left(dcel: &Watched, row: Row, calls: usize, alloc: Global) -> Result<(), Fail> {
     let commands = commands(row, 0, calls, alloc)?;
     let left = left_after(&[], &commands, alloc)?;
@@ -175,7 +175,7 @@ fn met_by(row: Row, number: u64, alloc: Global) -> Result<(usize, &'static [i64]
     }
 }
 
-/// That the list stopped at the command that met the request of this number, with those before it
+/// Checks that the list stopped at the command that met the request of this number, with those before it
 /// carried out.
 fn check_stopped<'a>(
     dcel: &Watched<'a>,

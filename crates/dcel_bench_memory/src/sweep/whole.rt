@@ -25,7 +25,7 @@ enum Call {
     MapVertices,
     MapUndirectedEdges,
     TryClone,
-    /// For so many vertices, edges and faces.
+    /// Room for vertices, edges and faces.
     ReserveCapacity(usize, usize, usize),
 }
 
@@ -207,7 +207,7 @@ fn count(calls: &Cell<usize>, datum: i64) -> i64 {
     datum
 }
 
-/// That the closure was called for each datum, or if there is no memory not once.
+/// Checks that the closure was called for each datum, or if there is no memory not once.
 fn check_calls(calls: &Cell<usize>, is_made: bool, data: usize) -> Result<(), Fail> {
     let wanted = if is_made { data } else { 0 };
     same(calls.get(), wanted, "calls of a closure")
@@ -272,7 +272,7 @@ fn make<'a>(
     }
 }
 
-/// That the mesh is as before.
+/// Checks that the mesh is as before.
 fn check_kept(
     dcel: &Watched,
     before: &Picture,
