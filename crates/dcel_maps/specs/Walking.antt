@@ -1,5 +1,5 @@
 -- Walks round a mesh: steps that undo each other, the half edges that they lead through, and what is still to come of a walk.
-use Rattle.std.specs.Prelude.{◌≡◌, ℕ, ◌*◌, ◌^◌, ◌<◌, ◌≤◌, ◌==◌, Bool, false, cond, IfSome, List, [], ◌∷◌, length, map, find, Option, Some, None}
+use Rattle.std.specs.Prelude.{◌≡◌, ℕ, ◌*◌, ◌<◌, ◌≤◌, ◌==◌, Bool, false, cond, List, [], ◌∷◌, length, map, find, Option, Some, None}
 use Rattle.dcel_fixed.specs.HalfEdges.{rev}
 use Rattle.dcel_maps.specs.Maps.{By, count}
 use Rattle.dcel_maps.specs.Shapes.{Shape, Mesh, IsLive, edge_is_live, next_of, prev_of, face_of, origin_of, end_of, vertex_anchor, face_anchor}
@@ -104,20 +104,3 @@ module _ {V DE UE F : Type 0} where
   -- the first out edge of the vertex v that ends at the vertex w
   abbrev pub edge_between : Mesh V DE UE F → ℕ → ℕ → Option ℕ
   edge_between m v w = find (λ h. end_of m.shape h == w) (out_edges_of m v)
-
-  -- The half edges to come are those with the property, each once, in the order of the step from the anchor round to it again; where there
-  -- is no anchor, there are none.
-  pub record ListsRound (m : Mesh V DE UE F) (step : ℕ → ℕ) (anchor : Option ℕ) (P : ℕ → Type 0) (walking : Walking V DE UE F) : Type 0 where
-    pub mesh : walking.mesh ≡ m
-    pub items : walking.items ≡ in_mesh m (walk_from m.shape step anchor)
-    pub each : ListsOnce P (walk_from m.shape step anchor)
-    pub round : IfSome anchor (λ h. IsRoundTrip step h (walk_from m.shape step anchor))
-    pub bound : length walking.items ≤ live_half_edges m.shape
-    pub few : length walking.items ≤ 2 ^ 32
-
-  -- the half edges to come are the out edges of the vertex v, and those of the hull
-  abbrev pub ListsOutEdges : Mesh V DE UE F → ℕ → Walking V DE UE F → Type 0
-  ListsOutEdges m v walking = ListsRound m (ccw_of m.shape) (vertex_anchor m v) (IsOutEdge m.shape v) walking
-
-  abbrev pub ListsHull : Mesh V DE UE F → Walking V DE UE F → Type 0
-  ListsHull m walking = ListsRound m (next_of m.shape) (face_anchor m 0) (IsOnFace m.shape 0) walking

@@ -1,12 +1,12 @@
 //! The hull: the half edges of the outer face.
 
-ghost use Rattle.std.specs.Prelude.{◌≡◌, ℕ, ◌<◌, ◌↔◌, IfSome, [], false, length, reverse};
+ghost use Rattle.std.specs.Prelude.{◌≡◌, ℕ, ◌<◌, ◌≤◌, ◌^◌, ◌↔◌, IfSome, [], false, length, reverse};
 ghost use Rattle.std.specs.Iterator.{YieldsFirstBy, YieldsLastBy, item_count};
 ghost use Rattle.spade_dcel.specs.Handles.{mesh_behind, number_of};
 ghost use Rattle.dcel_maps.specs.Count.{IsCounted};
-ghost use Rattle.dcel_maps.specs.Shapes.{edge_is_live, face_anchor, prev_of};
+ghost use Rattle.dcel_maps.specs.Shapes.{edge_is_live, face_anchor, next_of, prev_of};
 ghost use Rattle.dcel_maps.specs.Triangulations.{AllTriangles};
-ghost use Rattle.dcel_maps.specs.Walking.{ListsHull, hull_of, walk_of};
+ghost use Rattle.dcel_maps.specs.Walking.{IsOnFace, IsRoundTrip, ListsOnce, hull_of, in_mesh, live_half_edges, walk_of};
 ghost use Rattle.dcel_maps.specs.Words.{TurnsTo, word_of};
 
 use crate::dcel::Dcel;
@@ -45,11 +45,16 @@ impl<'a, V, DE, UE, F, A: Allocator> HullIterator<'a, V, DE, UE, F, A> {
     /// three times the number of vertices with an edge, minus three, minus the length of the hull.
     #[inline]
     pub fn new(dcel: &'a Dcel<V, DE, UE, F, A>) -> Self
-        ensures lists { ListsHull dcel.now result }
+        ensures mesh { result.mesh ≡ dcel.now }
+        ensures items { result.items ≡ in_mesh dcel.now (hull_of dcel.now) }
         ensures word { TurnsTo (word_of dcel.now.shape.words 0) (hull_of dcel.now) }
+        ensures each { ListsOnce (IsOnFace dcel.now.shape 0) (hull_of dcel.now) }
+        ensures round { IfSome (face_anchor dcel.now 0) (λ edge. IsRoundTrip (next_of dcel.now.shape) edge (hull_of dcel.now)) }
         ensures back { IfSome (face_anchor dcel.now 0) (λ edge. reverse (hull_of dcel.now) ≡ walk_of dcel.now.shape (prev_of dcel.now.shape) (prev_of dcel.now.shape edge)) }
         ensures none { (hull_of dcel.now ≡ []) ↔ ((u : ℕ) → edge_is_live dcel.now.shape u ≡ false) }
         ensures count { AllTriangles dcel.now.shape → 0 < length result.items → IsCounted dcel.now.shape (length result.items) }
+        ensures bound { length result.items ≤ live_half_edges dcel.now.shape }
+        ensures few { length result.items ≤ 2 ^ 32 }
     {
         every_mesh(dcel);
         let inner_iterator = match dcel.outer_face().adjacent_edge() {

@@ -1,8 +1,10 @@
 //! Faces of the Voronoi diagram, and the edges around them.
 
+ghost use Rattle.std.specs.Prelude.{◌≡◌, ◌≤◌, ◌^◌, IfSome, length};
 ghost use Rattle.std.specs.Iterator.{YieldsFirstBy, YieldsLastBy, item_count};
 ghost use Rattle.spade_dcel.specs.Handles.{mesh_behind, number_of};
-ghost use Rattle.dcel_maps.specs.Walking.{ListsOutEdges};
+ghost use Rattle.dcel_maps.specs.Shapes.{vertex_anchor};
+ghost use Rattle.dcel_maps.specs.Walking.{IsOutEdge, IsRoundTrip, ListsOnce, ccw_of, in_mesh, live_half_edges, out_edges_of};
 
 use crate::handles::voronoi::{DirectedVoronoiEdge, VoronoiFace};
 use crate::iterators::{CCWEdgesNextBackFn, CircularIterator};
@@ -16,7 +18,16 @@ impl<'a, V, DE, UE, F, A: Allocator> VoronoiFace<'a, V, DE, UE, F, A> {
     /// [`out_edges`](crate::handles::VertexHandle::out_edges).
     #[inline]
     pub fn adjacent_edges(&self) -> VoronoiFaceEdges<'a, V, DE, UE, F, A>
-        ensures { ListsOutEdges (mesh_behind self.now) (number_of self.now) result }
+        ensures mesh { result.mesh ≡ mesh_behind self.now }
+        ensures items { let mesh = mesh_behind self.now in
+            result.items ≡ in_mesh mesh (out_edges_of mesh (number_of self.now)) }
+        ensures each { let mesh = mesh_behind self.now in
+            ListsOnce (IsOutEdge mesh.shape (number_of self.now)) (out_edges_of mesh (number_of self.now)) }
+        ensures round { let mesh = mesh_behind self.now in
+            IfSome (vertex_anchor mesh (number_of self.now))
+            (λ out. IsRoundTrip (ccw_of mesh.shape) out (out_edges_of mesh (number_of self.now))) }
+        ensures bound { length result.items ≤ live_half_edges (mesh_behind self.now).shape }
+        ensures few { length result.items ≤ 2 ^ 32 }
     {
         VoronoiFaceEdges {
             out_edges: self.as_delaunay_vertex().out_edges(),

@@ -1,19 +1,7 @@
 use Rattle.std.proofs.Common.{◌/◌}
 use Rattle.dcel_maps.specs.Shapes.{face_of}
-use Rattle.spade_dcel.proofs.Gathering.{round_begins, round_comes, round_ends}
+use Rattle.spade_dcel.proofs.Gathering.{round_comes, round_ends}
 use Rattle.spade_dcel.proofs.operations.fill.lists_round.Goals as goal
-
-pub loop-out_edge-init : goal.loop-out_edge-init
-loop-out_edge-init g c =
-    let lists = rw (c.vertex.ensures.mesh, c.vertex.ensures.number) at c.out_edges-out_edge-items.ensures in
-    record {
-      edges =
-          rw (c.in_ok-edges.ensures.items, c.into_iter-out_edge-iterator.ensures.into_iter_gives)
-          (round_begins c.args.dcel.now c.args.vertex (λ h. h / 2) _ lists.items lists.each);
-      faces =
-          rw (c.in_ok-faces.ensures.items, c.into_iter-out_edge-iterator.ensures.into_iter_gives)
-          (round_begins c.args.dcel.now c.args.vertex (face_of c.args.dcel.now.shape) _ lists.items lists.each);
-    }
 
 pub face_of_edge-requires : goal.face_of_edge-requires
 face_of_edge-requires g c =

@@ -18,15 +18,11 @@ counted_items m mesh items is all some =
 pub returns-clause-word : goal.returns-clause-word
 returns-clause-word g c = hull-turn c.every_mesh.ensures
 
-pub returns-clause-lists : goal.returns-clause-lists
-returns-clause-lists g c = record {
-  mesh = search rules;
-  items = search rules;
-  each = hull-lists c.every_mesh.ensures;
-  round = hull-round c.every_mesh.ensures;
-  bound = search rules;
-  few = search rules;
-}
+pub returns-clause-each : goal.returns-clause-each
+returns-clause-each g c = hull-lists c.every_mesh.ensures
+
+pub returns-clause-round : goal.returns-clause-round
+returns-clause-round g c = hull-round c.every_mesh.ensures
 
 pub returns-clause-back : goal.returns-clause-back
 returns-clause-back g c = hull-reversed c.every_mesh.ensures
