@@ -1,0 +1,3 @@
+pub mod Corners
+pub mod Written
+pub mod Inserted
