@@ -5,6 +5,8 @@ use Rattle.dcel_fixed.proofs.Halves.{rev-double}
 use Rattle.dcel_predicates.specs.declared.point.Point.{Point}
 use Rattle.dcel_predicates.specs.Determinants.{incircle_of}
 use Rattle.dcel_predicates.proofs.Convex.{AreFlipped, flipped}
+use Rattle.dcel_predicates.proofs.Points.{incircle-third}
+use Rattle.dcel_predicates.proofs.Signs.{ordered}
 use Rattle.dcel_maps.specs.Conditions.{CanFlip}
 use Rattle.dcel_maps.specs.Cyclic.{from_least}
 use Rattle.dcel_maps.specs.edits.Flip.{edge_flipped}
@@ -171,3 +173,17 @@ module _ {V DE UE F : Type 0} (m : Mesh V DE UE F) (mesh : IsMesh m) (u : ℕ) (
           (λ inner h found. of_least (λ x. 0 < count_of (x / 2) list) t ep tn h at_t (listed_at list 1 (omega arith)) (listed_at list 2 (omega arith)) found, tt),
         )
         tt lists
+
+-- a corner that is the other one as well is not inside the circle
+corners_differ : (at : ℕ → Point) (a b c d : ℕ) → pos 0 <ℤ incircle_of (at a) (at b) (at c) (at d) → c ≡ d → ⊥
+corners_differ at a b c d inside is =
+    let none : incircle_of (at a) (at b) (at c) (at d) ≡ pos 0 = ap (λ k. incircle_of (at a) (at b) (at c) (at k)) (sym is) ∙ incircle-third (at a) (at b) (at c) in
+    omega (arith, ordered, none, inside)
+
+pub circled_can_flip : {V DE UE F : Type 0} (m : Mesh V DE UE F) → IsMesh m → (u : ℕ) (at : ℕ → Point) → IsInner m.shape u → IsCircled at m.shape u → CanFlip m.shape u
+circled_can_flip m mesh u at inner circled = record {
+  live = inner.live;
+  triangle = inner.triangle;
+  facing = inner.facing;
+  corners = corners_differ at (origin_of m.shape (2 * u)) (origin_of m.shape (2 * u + 1)) (origin_of m.shape (prev_of m.shape (2 * u))) (origin_of m.shape (prev_of m.shape (2 * u + 1))) circled;
+}

@@ -1,0 +1,9 @@
+use Rattle.dcel_plane.proofs.laws.insertions_keep_the_plane.Goals as goal
+use Rattle.dcel_plane.proofs.Inserted.{inserted_lists, inserted_plane}
+
+pub returns-clause-plane : goal.returns-clause-plane
+returns-clause-plane g c = λ at m v f halves edges faces mesh triangle lies plane. inserted_plane m mesh v f triangle halves edges faces at lies plane
+
+pub returns-clause-due : goal.returns-clause-due
+returns-clause-due g c =
+    λ at m v f halves edges faces due mesh triangle after lists. inserted_lists m mesh v f triangle halves edges faces at due after lists
