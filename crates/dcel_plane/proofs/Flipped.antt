@@ -141,16 +141,25 @@ module _ {V DE UE F : Type 0} (m : Mesh V DE UE F) (mesh : IsMesh m) (u : ℕ) (
     pub new_corners : IsPlane at s → 0 < f → 0 < g → IsCircled at s u → AreFlipped start end near far
     new_corners plane f_inner g_inner circled = flipped start end near far (left_before plane f_inner) (right_before plane g_inner) circled
 
-    -- where the corners of the new ones stand
-    pub first_after : AreFlipped start end near far → LeftOf at n e tp en
-    first_after new =
-        corners_are at (sym origin_e) (sym (origin_same at tp facing.live_z apart.z_off.0 (λ is. facing.x≢z (sym is))))
-        (sym from_end ∙ sym (origin_same at en was.live_y (λ is. was.x≢y (sym is)) (λ is. apart.x_off.1 (sym is)))) new.first
+    -- the other half edges start where they did
+    pub origin_far : origin_of n tp ≡ origin_of s tp
+    origin_far = origin_same at tp facing.live_z apart.z_off.0 (λ is. facing.x≢z (sym is))
 
-    pub second_after : AreFlipped start end near far → LeftOf at n t ep tn
-    second_after new =
-        corners_are at (sym origin_t) (sym (origin_same at ep was.live_z (λ is. was.x≢z (sym is)) (λ is. apart.x_off.2 (sym is))))
-        (sym from_start ∙ sym (origin_same at tn facing.live_y apart.y_off.0 (λ is. facing.x≢y (sym is)))) new.second
+    pub origin_after : origin_of n en ≡ origin_of s en
+    origin_after = origin_same at en was.live_y (λ is. was.x≢y (sym is)) (λ is. apart.x_off.1 (sym is))
+
+    pub origin_near : origin_of n ep ≡ origin_of s ep
+    origin_near = origin_same at ep was.live_z (λ is. was.x≢z (sym is)) (λ is. apart.x_off.2 (sym is))
+
+    pub origin_t_after : origin_of n tn ≡ origin_of s tn
+    origin_t_after = origin_same at tn facing.live_y apart.y_off.0 (λ is. facing.x≢y (sym is))
+
+    -- the new triangles
+    first_after : AreFlipped start end near far → LeftOf at n e tp en
+    first_after new = corners_are at (sym origin_e) (sym origin_far) (sym from_end ∙ sym origin_after) new.first
+
+    second_after : AreFlipped start end near far → LeftOf at n t ep tn
+    second_after new = corners_are at (sym origin_t) (sym origin_near) (sym from_start ∙ sym origin_t_after) new.second
 
     pub flip_plane : 0 < f → 0 < g → IsCircled at s u → IsPlane at s → IsPlane at n
     flip_plane f_inner g_inner circled plane =

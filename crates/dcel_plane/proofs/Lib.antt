@@ -6,3 +6,4 @@ pub mod Outside
 pub mod Flipped
 pub mod Alone
 pub mod Moved
+pub mod Volumes

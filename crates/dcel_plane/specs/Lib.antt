@@ -1,2 +1,3 @@
 pub mod Plane
 pub mod Edges
+pub mod Volume
