@@ -17,6 +17,7 @@ ghost use Rattle.dcel_maps.specs.edits.Split.{edge_split, half_edge_split};
 ghost use Rattle.dcel_maps.specs.edits.Triangle.{triangle_alone, vertex_inserted};
 ghost use Rattle.dcel_maps.specs.Shapes.{IsLive, IsMesh, Mesh, end_of, face_count, face_of, next_of};
 ghost use Rattle.dcel_plane.specs.Edges.{edges_beside, edges_closed, edges_half_split, edges_inserted, edges_round, edges_split};
+ghost use Rattle.dcel_plane.specs.Volume.{volume_below};
 ghost use Rattle.dcel_plane.specs.Plane.{IsCircled, IsDelaunay, IsInner, IsLeftOf, IsPlane, LiesAcross, LiesInside, ListsCircled, TurnsLeft, point_at};
 
 /// A mesh in the plane is Delaunay if no edge is left to list.
@@ -127,4 +128,12 @@ pub fn flips_keep_the_plane<V, DE, UE, F>()
         → IsPlane at m.shape → IsPlane at (edge_flipped m u).shape }
     ensures due { (at : ℕ → Point) (m : Mesh V DE UE F) (u : ℕ) (due : List ℕ) → IsMesh m → CanFlip m.shape u
         → ListsCircled at m.shape due → ListsCircled at (edge_flipped m u).shape (due ++ edges_round m.shape u) }
+{}
+
+/// Such a flip makes the volume less that lies below the mesh, lifted onto a paraboloid.
+///
+/// So no run of such flips is longer than the volume was at first.
+pub fn flips_lower_the_volume_below<V, DE, UE, F>()
+    ensures { (at : ℕ → Point) (m : Mesh V DE UE F) (u : ℕ) → IsMesh m → IsInner m.shape u → IsCircled at m.shape u → IsPlane at m.shape
+        → volume_below at (edge_flipped m u).shape < volume_below at m.shape }
 {}
