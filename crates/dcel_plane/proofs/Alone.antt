@@ -1,13 +1,13 @@
 -- Meshes with the outer face alone, and a triangle alone.
-use Rattle.std.proofs.Common.{◌≡◌, ℕ, zero, suc, ◌+◌, ◌*◌, ◌<◌, List, [], ◌∷◌, length, refl, sym, ap, ◌∙◌, arith}
+use Rattle.std.proofs.Common.{◌≡◌, ℕ, zero, suc, ◌*◌, ◌<◌, List, [], ◌∷◌, length, refl, sym, ap, ◌∙◌, arith}
 use Rattle.std.proofs.lemmas.List.{get_or_past}
 use Rattle.dcel_predicates.specs.declared.point.Point.{Point}
 use Rattle.dcel_maps.specs.edits.Triangle.{triangle_alone}
-use Rattle.dcel_maps.specs.Shapes.{IsMesh, Mesh, Shape, face_count, face_of, map_of}
+use Rattle.dcel_maps.specs.Shapes.{IsMesh, Mesh, Shape, face_count}
 use Rattle.dcel_maps.specs.Words.{word_of}
-use Rattle.dcel_maps.proofs.Liveness.{even_live, odd_live}
+use Rattle.dcel_maps.proofs.Liveness.{even_live}
 use Rattle.dcel_maps.proofs.shapes.Maps.{map-sound}
-use Rattle.dcel_plane.specs.Plane.{IsDelaunay, IsInner, IsPlane, TurnsLeft}
+use Rattle.dcel_plane.specs.Plane.{IsDelaunay, IsPlane, TurnsLeft}
 use Rattle.dcel_plane.proofs.Corners.{LeftOf, left_same}
 
 pub outer_alone_delaunay : {V DE UE F : Type 0} (at : ℕ → Point) (m : Mesh V DE UE F) → IsMesh m → face_count m.shape ≡ 1 → IsDelaunay at m.shape

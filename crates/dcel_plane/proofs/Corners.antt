@@ -3,7 +3,7 @@ use Rattle.std.proofs.Common.{◌≡◌, inl, inr, ℕ, zero, suc, ◌<◌, List
 use Rattle.dcel_predicates.specs.declared.point.Point.{Point}
 use Rattle.dcel_predicates.proofs.Points.{orient2d-turned}
 use Rattle.dcel_maps.specs.Cyclic.{from_least}
-use Rattle.dcel_maps.specs.Shapes.{IsLive, IsSound, Shape, end_of, face_of, map_of, origin_of}
+use Rattle.dcel_maps.specs.Shapes.{IsLive, IsSound, Shape, end_of, map_of, origin_of}
 use Rattle.dcel_maps.specs.Words.{TurnsTo, count_of, word_of}
 use Rattle.dcel_maps.proofs.maps.Triangles.{IsTriangleOf}
 use Rattle.dcel_maps.proofs.shapes.Maps.{map-sound}

@@ -11,7 +11,7 @@ use Rattle.dcel_maps.specs.Conditions.{CanFlip}
 use Rattle.dcel_maps.specs.Cyclic.{from_least}
 use Rattle.dcel_maps.specs.edits.Flip.{edge_flipped}
 use Rattle.dcel_maps.specs.theory.Sound.{Sound}
-use Rattle.dcel_maps.specs.Shapes.{IsLive, IsMesh, Mesh, Shape, face_count, face_of, map_of, next_of, origin_of, prev_of}
+use Rattle.dcel_maps.specs.Shapes.{IsLive, IsMesh, Mesh, Shape, face_of, map_of, next_of, origin_of, prev_of}
 use Rattle.dcel_maps.specs.Words.{count_of}
 use Rattle.dcel_maps.proofs.Liveness.{even_live, odd_live}
 use Rattle.dcel_maps.proofs.edits.Changes.{edit_makes_mesh}
@@ -26,7 +26,7 @@ use Rattle.dcel_plane.specs.Edges.{edges_round}
 use Rattle.dcel_plane.specs.Plane.{IsCircled, IsInner, IsPlane, ListsCircled, TurnsLeft}
 use Rattle.dcel_plane.proofs.Corners.{LeftOf, corners_are, left-from_least, left_of_triangle, listed_at, of_least}
 use Rattle.dcel_plane.proofs.Splits.{listed_as}
-use Rattle.dcel_plane.proofs.Written.{IsWritten, Leads, Offers, origin_away, written_lists, written_plane}
+use Rattle.dcel_plane.proofs.Written.{IsWritten, origin_away, written_lists, written_plane}
 
 module _ {V DE UE F : Type 0} (m : Mesh V DE UE F) (mesh : IsMesh m) (u : ℕ) (can : CanFlip m.shape u) where
   abbrev s : Shape
@@ -164,8 +164,7 @@ module _ {V DE UE F : Type 0} (m : Mesh V DE UE F) (mesh : IsMesh m) (u : ℕ) (
     pub flip_plane : 0 < f → 0 < g → IsCircled at s u → IsPlane at s → IsPlane at n
     flip_plane f_inner g_inner circled plane =
         let new = new_corners plane f_inner g_inner circled in
-        written_plane at s n words origins flip_written mesh.sound plane
-        (
+        written_plane at s n words origins flip_written mesh.sound plane (
           (λ x y z inner is. left-from_least at n e tp en x y z is (first_after new)),
           (λ x y z inner is. left-from_least at n t ep tn x y z is (second_after new), tt),
         )
@@ -176,8 +175,7 @@ module _ {V DE UE F : Type 0} (m : Mesh V DE UE F) (mesh : IsMesh m) (u : ℕ) (
         let list = edges_round s u in
         let at_e = listed_as list e u (omega arith) (listed_at list 4 (omega arith)) in
         let at_t = listed_as list t u (omega arith) (listed_at list 4 (omega arith)) in
-        written_lists at s n words origins flip_written mesh.sound list due flipped_mesh.sound
-        (
+        written_lists at s n words origins flip_written mesh.sound list due flipped_mesh.sound (
           λ inner h found. of_least (λ x. 0 < count_of (x / 2) list) e tp en h at_e (listed_at list 3 (omega arith)) (listed_at list 0 (omega arith)) found,
           (λ inner h found. of_least (λ x. 0 < count_of (x / 2) list) t ep tn h at_t (listed_at list 1 (omega arith)) (listed_at list 2 (omega arith)) found, tt),
         )

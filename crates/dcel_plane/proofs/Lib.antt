@@ -7,3 +7,5 @@ pub mod Flipped
 pub mod Alone
 pub mod Moved
 pub mod Volumes
+pub mod Spokes
+pub mod Across

@@ -1,17 +1,17 @@
 -- Where the vertices of a mesh stand matters, and where other numbers would stand does not.
-use Rattle.std.proofs.Common.{◌≡◌, ℕ, ◌+◌, ◌*◌, ◌<◌, List, [], ◌∷◌, ◌++◌, length, slice_index_or, refl, sym, ap, ◌∙◌, subst, pos, ◌<ℤ◌, arith}
+use Rattle.std.proofs.Common.{◌≡◌, ℕ, ◌+◌, ◌*◌, ◌<◌, List, [], ◌∷◌, length, sym, ap, ◌∙◌, subst, pos, ◌<ℤ◌, arith}
 use Rattle.std.proofs.lemmas.List.{get_or-append-add, get_or_append_left}
 use Rattle.dcel_predicates.specs.declared.point.Point.{Point}
-use Rattle.dcel_predicates.specs.Determinants.{incircle_of, orient2d_of}
+use Rattle.dcel_predicates.specs.Determinants.{incircle_of}
 use Rattle.dcel_maps.specs.edits.Create.{vertex_appended}
 use Rattle.dcel_maps.specs.Shapes.{IsLive, IsMesh, IsSound, Mesh, Shape, map_of, origin_of, prev_of}
-use Rattle.dcel_maps.specs.Words.{count_of, word_of}
+use Rattle.dcel_maps.specs.Words.{count_of}
 use Rattle.dcel_maps.proofs.Liveness.{even_live, odd_live}
 use Rattle.dcel_maps.proofs.shapes.Maps.{map-sound}
 use Rattle.dcel_maps.proofs.walks.Links.{links_stand}
 use Rattle.dcel_maps.proofs.words.Counts.{count-later, count-same}
 use Rattle.dcel_maps.proofs.words.Reading.{live_in}
-use Rattle.dcel_plane.specs.Plane.{IsCircled, IsDelaunay, IsInner, IsPlane, ListsCircled, TurnsLeft, origin_point, point_at}
+use Rattle.dcel_plane.specs.Plane.{IsCircled, IsInner, IsPlane, ListsCircled, TurnsLeft, origin_point, point_at}
 
 module _ (at to : ℕ → Point) (s : Shape) (sound : IsSound s) (same : (v : ℕ) → v < s.vertices → at v ≡ to v) where
   stands_same : (h : ℕ) → IsLive s h → at (origin_of s h) ≡ to (origin_of s h)

@@ -1,17 +1,17 @@
 -- Triangles put beside an edge of the outer face of a mesh in the plane, and closed on it.
-use Rattle.std.proofs.Common.{◌≡◌, ℕ, ◌+◌, ◌*◌, ◌/◌, ◌<◌, List, [], ◌∷◌, ◌++◌, refl, sym, ap, ◌∙◌, subst, arith}
+use Rattle.std.proofs.Common.{◌≡◌, ℕ, ◌+◌, ◌*◌, ◌/◌, ◌<◌, List, [], ◌∷◌, ◌++◌, refl, sym, ◌∙◌, arith}
 use Rattle.dcel_predicates.specs.declared.point.Point.{Point}
 use Rattle.dcel_maps.specs.Cyclic.{from_least}
 use Rattle.dcel_maps.specs.edits.Outside.{face_closed, face_put_beside}
-use Rattle.dcel_maps.specs.Shapes.{IsLive, IsMesh, Mesh, Shape, end_of, face_count, face_of, map_of, next_of, origin_of, prev_of}
+use Rattle.dcel_maps.specs.Shapes.{IsLive, IsMesh, Mesh, Shape, end_of, face_of, next_of, origin_of}
 use Rattle.dcel_maps.specs.Words.{become, count_of, word_of}
 use Rattle.dcel_maps.proofs.edits.Patches.{Patch, pushing}
 use Rattle.dcel_maps.proofs.shapes.Maps.{map-sound}
 use Rattle.dcel_plane.specs.Edges.{edges_beside, edges_closed}
-use Rattle.dcel_plane.specs.Plane.{IsLeftOf, IsPlane, ListsCircled, TurnsLeft}
+use Rattle.dcel_plane.specs.Plane.{IsLeftOf, IsPlane, ListsCircled}
 use Rattle.dcel_plane.proofs.Corners.{corners_are, left-from_least, left_same, listed_at, of_least, of_three}
 use Rattle.dcel_plane.proofs.Splits.{listed_as}
-use Rattle.dcel_plane.proofs.Written.{IsWritten, Leads, Offers, origin_away, origin_more, written_lists, written_plane}
+use Rattle.dcel_plane.proofs.Written.{IsWritten, origin_away, origin_more, written_lists, written_plane}
 
 module _ {V DE UE F : Type 0} (m : Mesh V DE UE F) (mesh : IsMesh m) (e : ℕ) (live : IsLive m.shape e) (halves : List DE) (edges : List UE) (faces : List F) (at : ℕ → Point) where
   abbrev s : Shape
@@ -41,8 +41,7 @@ module _ {V DE UE F : Type 0} (m : Mesh V DE UE F) (mesh : IsMesh m) (e : ℕ) (
     beside_plane left plane =
         let starts = origin_more at s r words origins written mesh.sound in
         written_plane at s r words origins written mesh.sound plane
-        (λ x y z inner is. absurd (omega (arith, inner, outer)), tt)
-        (
+        (λ x y z inner is. absurd (omega (arith, inner, outer)), tt) (
           (λ x y z inner is.
               left_same at r e n (n + 2) x y z is
               (corners_are at (sym (origin_away at s r words origins written mesh.sound e live tt)) (sym (starts n 0 (omega arith))) (sym (starts (n + 2) 2 refl)) left)),
@@ -87,8 +86,7 @@ module _ {V DE UE F : Type 0} (m : Mesh V DE UE F) (mesh : IsMesh m) (e : ℕ) (
       let starts = origin_more at s q closing_words closing_origins closing_written mesh.sound in
       let live_x : IsLive s x = (map-sound mesh.sound).live_next e live in
       written_plane at s q closing_words closing_origins closing_written mesh.sound plane
-      (λ a b c inner is. absurd (omega (arith, inner)), tt)
-      (
+      (λ a b c inner is. absurd (omega (arith, inner)), tt) (
         (λ a b c inner is.
             left-from_least at q e x n a b c is
             (corners_are at (closing_old e live) (sym (mesh.sound.joined e live) ∙ closing_old x live_x) (sym (starts n 0 (omega arith))) left)),

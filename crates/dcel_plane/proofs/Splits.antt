@@ -1,14 +1,13 @@
 -- A vertex put into an edge of a mesh in the plane, between two triangles, or of one triangle.
-use Rattle.std.proofs.Common.{◌≡◌, ◌≢◌, ℕ, ◌+◌, ◌*◌, ◌/◌, ◌<◌, List, [], ◌∷◌, ◌++◌, refl, sym, ap, ◌∙◌, slice_set, subst, arith}
+use Rattle.std.proofs.Common.{◌≡◌, ◌≢◌, ℕ, ◌+◌, ◌/◌, ◌<◌, List, [], ◌∷◌, ◌++◌, refl, sym, ap, ◌∙◌, slice_set, subst, arith}
 use Rattle.std.proofs.lemmas.List.{get_or-set_same, get_or_append_left, length-set}
-use Rattle.dcel_fixed.specs.HalfEdges.{rev}
 use Rattle.dcel_fixed.proofs.Halves.{rev-half, rev-ne}
 use Rattle.dcel_predicates.specs.declared.point.Point.{Point}
 use Rattle.dcel_maps.specs.Around.{around}
 use Rattle.dcel_maps.specs.Conditions.{IsTriangle}
 use Rattle.dcel_maps.specs.Cyclic.{from_least}
 use Rattle.dcel_maps.specs.edits.Split.{edge_split, half_edge_split}
-use Rattle.dcel_maps.specs.Shapes.{IsLive, IsMesh, Mesh, Shape, face_count, face_of, map_of, next_of, origin_of, prev_of}
+use Rattle.dcel_maps.specs.Shapes.{IsLive, IsMesh, Mesh, Shape, face_of, map_of, origin_of}
 use Rattle.dcel_maps.specs.Words.{become, count_of, word_of}
 use Rattle.dcel_maps.proofs.edits.Linking.{triangle_of}
 use Rattle.dcel_maps.proofs.edits.Patches.{Patch}
@@ -17,9 +16,9 @@ use Rattle.dcel_maps.proofs.maps.Triangles.{IsTriangleOf, facing_differ}
 use Rattle.dcel_maps.proofs.shapes.Maps.{map-sound}
 use Rattle.dcel_maps.proofs.walks.Links.{half-below}
 use Rattle.dcel_plane.specs.Edges.{edges_half_split, edges_split}
-use Rattle.dcel_plane.specs.Plane.{IsLeftOf, IsPlane, LiesAcross, ListsCircled, TurnsLeft}
+use Rattle.dcel_plane.specs.Plane.{IsPlane, LiesAcross, ListsCircled, TurnsLeft}
 use Rattle.dcel_plane.proofs.Corners.{corners_are, left-from_least, left_same, left_turned, listed_at, of_least, of_three, seen}
-use Rattle.dcel_plane.proofs.Written.{IsWritten, Leads, Offers, origin_away, origin_more, written_lists, written_plane}
+use Rattle.dcel_plane.proofs.Written.{IsWritten, origin_away, origin_more, written_lists, written_plane}
 
 -- the triangle of a half edge e, with p on the left of the other two sides
 module _ {V DE UE F : Type 0} (m : Mesh V DE UE F) (mesh : IsMesh m) (at : ℕ → Point) (p : Point) (e : ℕ) (live : IsLive m.shape e)
@@ -105,26 +104,30 @@ module _ {V DE UE F : Type 0} (m : Mesh V DE UE F) (mesh : IsMesh m) (e middle :
     split_plane across across_t plane =
         let starts = origin_more at s r words origins written mesh.sound in
         let from_t : middle ≡ origin_of r t = sym (get_or_append_left (slice_set s.origins t middle) origins.more 0 t (omega (arith, mesh.sized.origins, half-below s t live_t, length-set s.origins t middle)) ∙ get_or-set_same s.origins t middle 0 (omega (arith, mesh.sized.origins, half-below s t live_t))) in
-        written_plane at s r words origins written mesh.sound plane
-        (
+        written_plane at s r words origins written mesh.sound plane (
           (λ x y z inner is.
               left-from_least at r e (n + 5) ep x y z is
               (corners_are at (old e live (λ i. rev-ne e (sym i))) (sym (starts (n + 5) 5 refl)) (old ep near.live_z (on_f ep near.face_z))
               (between m mesh at (at middle) e live triangle across))),
-          (λ x y z inner is.
-              left-from_least at r t tn n x y z is
-              (corners_are at from_t (old tn far.live_y (λ i. far.x≢y (sym i))) (sym (starts n 0 (omega arith)))
-              (before_after m mesh at (at middle) t live_t facing across_t)), tt),
-        )
-        (
+          (
+            λ x y z inner is.
+                left-from_least at r t tn n x y z is
+                (corners_are at from_t (old tn far.live_y (λ i. far.x≢y (sym i))) (sym (starts n 0 (omega arith)))
+                (before_after m mesh at (at middle) t live_t facing across_t)),
+            tt,
+          ),
+        ) (
           (λ x y z inner is.
               left_same at r tp (n + 2) (n + 1) x y z is
               (corners_are at (old tp far.live_z (λ i. far.x≢z (sym i))) (sym (starts (n + 2) 2 refl)) (sym (starts (n + 1) 1 refl))
               (seen_before m mesh at (at middle) t live_t facing across_t))),
-          (λ x y z inner is.
-              left_same at r en (n + 4) (n + 3) x y z is
-              (corners_are at (old en near.live_y (on_f en near.face_y)) (sym (starts (n + 4) 4 refl)) (sym (starts (n + 3) 3 refl))
-              (seen_after m mesh at (at middle) e live triangle across)), tt),
+          (
+            λ x y z inner is.
+                left_same at r en (n + 4) (n + 3) x y z is
+                (corners_are at (old en near.live_y (on_f en near.face_y)) (sym (starts (n + 4) 4 refl)) (sym (starts (n + 3) 3 refl))
+                (seen_after m mesh at (at middle) e live triangle across)),
+            tt,
+          ),
         )
 
     pub split_lists : (due : List ℕ) → IsMesh (edge_split m e middle halves edges faces) → ListsCircled at s due → ListsCircled at r (due ++ edges_split s e)
@@ -138,12 +141,10 @@ module _ {V DE UE F : Type 0} (m : Mesh V DE UE F) (mesh : IsMesh m) (e middle :
         let at_4 = listed_as list (n + 4) (k + 2) (omega arith) (listed_at list 7 (omega arith)) in
         let at_5 = listed_as list (n + 5) (k + 2) (omega arith) (listed_at list 7 (omega arith)) in
         let at_t = listed_as list t (e / 2) (rev-half e) (listed_at list 4 (omega arith)) in
-        written_lists at s r words origins written mesh.sound list due result.sound
-        (
+        written_lists at s r words origins written mesh.sound list due result.sound (
           λ inner h found. of_least (λ x. 0 < count_of (x / 2) list) e (n + 5) ep h (listed_at list 4 (omega arith)) at_5 (listed_at list 1 (omega arith)) found,
           (λ inner h found. of_least (λ x. 0 < count_of (x / 2) list) t tn n h at_t (listed_at list 2 (omega arith)) at_0 found, tt),
-        )
-        (
+        ) (
           λ inner h found. of_three (λ x. 0 < count_of (x / 2) list) tp (n + 2) (n + 1) h (listed_at list 3 (omega arith)) at_2 at_1 found,
           (λ inner h found. of_three (λ x. 0 < count_of (x / 2) list) en (n + 4) (n + 3) h (listed_at list 0 (omega arith)) at_4 at_3 found, tt),
         )
@@ -182,19 +183,18 @@ module _ {V DE UE F : Type 0} (m : Mesh V DE UE F) (mesh : IsMesh m) (e middle :
     pub half_split_plane : LiesAcross at s e (at middle) → IsPlane at s → IsPlane at q
     half_split_plane across plane =
         let starts = origin_more at s q half_words half_origins half_written mesh.sound in
-        written_plane at s q half_words half_origins half_written mesh.sound plane
-        (
+        written_plane at s q half_words half_origins half_written mesh.sound plane (
           (λ x y z inner is.
               left-from_least at q e (n + 1) ep x y z is
               (corners_are at (half_old e live refl) (sym (starts (n + 1) 1 refl)) (half_old ep one.live_z one.face_z)
               (between m mesh at (at middle) e live triangle across))),
           (λ x y z inner is. absurd (omega (arith, inner, outer)), tt),
-        )
-        (
+        ) (
           (λ x y z inner is.
               left_same at q en n (n + 2) x y z is
               (corners_are at (half_old en one.live_y one.face_y) (sym (starts n 0 (omega arith))) (sym (starts (n + 2) 2 refl))
-              (seen_after m mesh at (at middle) e live triangle across))), tt,
+              (seen_after m mesh at (at middle) e live triangle across))),
+          tt,
         )
 
     pub half_split_lists : (due : List ℕ) → IsMesh (half_edge_split m e middle halves edges faces) → ListsCircled at s due
@@ -205,8 +205,7 @@ module _ {V DE UE F : Type 0} (m : Mesh V DE UE F) (mesh : IsMesh m) (e middle :
         let at_0 = listed_as list n k (omega arith) (listed_at list 3 (omega arith)) in
         let at_1 = listed_as list (n + 1) k (omega arith) (listed_at list 3 (omega arith)) in
         let at_2 = listed_as list (n + 2) (k + 1) (omega arith) (listed_at list 4 (omega arith)) in
-        written_lists at s q half_words half_origins half_written mesh.sound list due result.sound
-        (
+        written_lists at s q half_words half_origins half_written mesh.sound list due result.sound (
           λ inner h found. of_least (λ x. 0 < count_of (x / 2) list) e (n + 1) ep h (listed_at list 2 (omega arith)) at_1 (listed_at list 1 (omega arith)) found,
           (λ inner h found. absurd (omega (arith, inner, outer)), tt),
         )

@@ -1,12 +1,11 @@
 -- A flip of an edge with a corner inside the circle of the other side makes the volume below a mesh less.
-use Rattle.std.proofs.Common.{◌≡◌, ◌≢◌, inl, inr, ℕ, zero, suc, ◌+◌, ◌*◌, ◌<◌, List, [], ◌∷◌, length, slice_index_or, slice_set, refl, sym, ap, ◌∙◌, subst, ℤ, pos, negsuc, unsigned_abs, ◌+ℤ◌, ◌*ℤ◌, ◌<ℤ◌, ◌≤ℤ◌, arith}
+use Rattle.std.proofs.Common.{◌≡◌, ◌≢◌, inl, inr, ℕ, suc, ◌+◌, ◌*◌, ◌<◌, List, [], ◌∷◌, length, slice_set, refl, sym, ap, ◌∙◌, subst, ℤ, pos, negsuc, unsigned_abs, ◌+ℤ◌, ◌<ℤ◌, ◌≤ℤ◌, arith}
 use Rattle.std.specs.List.{sum_by}
 use Rattle.std.proofs.lemmas.Bool.{cases_eq}
 use Rattle.std.proofs.lemmas.List.{get_or-set_other, get_or-set_same, length-set}
 use Rattle.std.proofs.lemmas.List.Sums.{sum_by-cons, sum_by-set}
 use Rattle.dcel_predicates.specs.declared.point.Point.{Point}
 use Rattle.dcel_predicates.specs.Determinants.{height_of, incircle_of, orient2d_of, volume_of}
-use Rattle.dcel_predicates.proofs.Convex.{AreFlipped}
 use Rattle.dcel_predicates.proofs.Lifted.{flip-lowers, volume-turned}
 use Rattle.dcel_predicates.proofs.Signs.{ordered, square, times}
 use Rattle.dcel_maps.specs.Conditions.{CanFlip}
@@ -14,17 +13,16 @@ use Rattle.dcel_maps.specs.Cyclic.{from_least}
 use Rattle.dcel_maps.specs.edits.Flip.{edge_flipped}
 use Rattle.dcel_maps.specs.Shapes.{IsLive, IsMesh, Mesh, Shape, face_count, face_of, map_of, next_of, origin_of, prev_of}
 use Rattle.dcel_maps.specs.Words.{TurnsTo, count_of, word_of}
-use Rattle.dcel_maps.proofs.edits.Patches.{Untouched}
 use Rattle.dcel_maps.proofs.shapes.Maps.{map-sound}
 use Rattle.dcel_maps.proofs.walks.Links.{links_stand}
 use Rattle.dcel_maps.proofs.words.Counts.{count-later, count-same}
 use Rattle.dcel_maps.proofs.words.Reading.{face_in_word, live_in}
 use Rattle.dcel_maps.proofs.words.Triangles.{triangle_written}
 use Rattle.dcel_maps.proofs.words.Turns.{from_least-turn, length-turn}
-use Rattle.dcel_plane.specs.Plane.{IsCircled, IsInner, IsPlane, TurnsLeft}
+use Rattle.dcel_plane.specs.Plane.{IsCircled, IsPlane, TurnsLeft}
 use Rattle.dcel_plane.specs.Volume.{volume_below, volume_under}
 use Rattle.dcel_plane.proofs.Corners.{three_items, turned_along}
-use Rattle.dcel_plane.proofs.Flipped.{differ, facing, flip_written, from_end, from_start, left_before, new_corners, origin_after, origin_e, origin_far, origin_near, origin_same, origin_t, origin_t_after, right_before, was}
+use Rattle.dcel_plane.proofs.Flipped.{differ, facing, from_end, from_start, left_before, new_corners, origin_after, origin_e, origin_far, origin_near, origin_same, origin_t, origin_t_after, right_before, was}
 
 -- sums of items that are the same
 sums_agree : (a b : List ℕ → ℕ) (l : List (List ℕ)) → ((k : ℕ) → k < length l → a (word_of l k) ≡ b (word_of l k)) → sum_by a l ≡ sum_by b l

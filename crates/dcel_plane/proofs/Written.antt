@@ -1,12 +1,11 @@
 -- Shapes of which some words and origins are rewritten: they stay in the plane where the new triangles turn left, and no edge is circled
 -- that wasn't, but for those of new words.
-use Rattle.std.proofs.Common.{◌≡◌, ◌≢◌, ◌⊎◌, inl, inr, ℕ, ◌+◌, ◌*◌, ◌/◌, ◌<◌, ◌≤◌, true, List, [], ◌∷◌, ◌++◌, length, slice_index, slice_index_or, slice_set, refl, sym, ap, ◌∙◌, subst, pos, ◌<ℤ◌, arith}
+use Rattle.std.proofs.Common.{◌≡◌, ◌⊎◌, inl, inr, ℕ, ◌+◌, ◌*◌, ◌/◌, ◌<◌, true, List, [], ◌∷◌, ◌++◌, length, slice_index, slice_set, refl, sym, ap, ◌∙◌, subst, pos, ◌<ℤ◌, arith}
 use Rattle.std.proofs.lemmas.Bool.{cases_lt, true_from_ne_false}
 use Rattle.std.proofs.lemmas.List.{get_or-append-add, get_or-set_other, get_or_append_left, get_or_past}
 use Rattle.dcel_predicates.specs.declared.point.Point.{Point}
 use Rattle.dcel_predicates.specs.Determinants.{incircle_of}
 use Rattle.dcel_maps.specs.Conditions.{IsTriangle}
-use Rattle.dcel_maps.specs.theory.Sound.{Sound}
 use Rattle.dcel_maps.specs.theory.Standing.{Stands}
 use Rattle.dcel_maps.specs.Shapes.{IsLive, IsSound, Shape, edge_is_live, face_count, face_is_live, face_of, map_of, origin_of, prev_of}
 use Rattle.dcel_maps.specs.Words.{count_of, prev_in_word, word_of}
@@ -28,7 +27,7 @@ replaced-away l (c ∷ r) k away = replaced-away (slice_set l c.0 c.1) r k away.
 before-word : (s : Shape) → IsSound s → (h : ℕ) → IsLive s h → prev_of s h ≡ prev_in_word h (word_of s.words (face_of s h))
 before-word s sound h live = (says h s.words (omega (arith, (links_stand sound).once h live))).prev
 
-circle_are : (at : ℕ → Point) {a b c d a' b' c' d' : ℕ} → a ≡ a' → b ≡ b' → c ≡ c' → d ≡ d' → pos 0 <ℤ incircle_of (at a) (at b) (at c) (at d)
+pub circle_are : (at : ℕ → Point) {a b c d a' b' c' d' : ℕ} → a ≡ a' → b ≡ b' → c ≡ c' → d ≡ d' → pos 0 <ℤ incircle_of (at a) (at b) (at c) (at d)
     → pos 0 <ℤ incircle_of (at a') (at b') (at c') (at d')
 circle_are at {a} {b} {c} {d} {a'} {b'} {c'} {d'} ea eb ec ed inside =
     subst (λ (k : ℕ). pos 0 <ℤ incircle_of (at a') (at b') (at c') (at k)) ed

@@ -1,15 +1,14 @@
--- The edges of the triangles that an edit makes or changes: an edge that breaks Delaunay's condition afterwards, and didn't before, is one of
--- them. A new edge has the number of edges before the call, or one or two more.
+-- Edges of the triangles that an edit makes or changes: an edge that breaks Delaunay's condition afterwards, and didn't before, is one of
+-- these. A new edge has the number of edges before the call, or one or two more.
 use Rattle.std.specs.Prelude.{ℕ, ◌+◌, ◌*◌, ◌/◌, List, [], ◌∷◌}
 use Rattle.dcel_maps.specs.Around.{around}
 use Rattle.dcel_maps.specs.Shapes.{Mesh, Shape, adjacent_edge_of, next_of, prev_of}
 
--- `insert_into_triangle`: the three sides of the triangle, and the three edges from the vertex to its corners
+-- `insert_into_triangle`: the three sides of the triangle
 abbrev pub edges_inserted : {V DE UE F : Type 0} → Mesh V DE UE F → ℕ → List ℕ
 edges_inserted m f =
     let a = adjacent_edge_of m f in
-    let l = m.shape.edges in
-    a / 2 ∷ next_of m.shape a / 2 ∷ prev_of m.shape a / 2 ∷ l ∷ (l + 1) ∷ (l + 2) ∷ []
+    a / 2 ∷ next_of m.shape a / 2 ∷ prev_of m.shape a / 2 ∷ []
 
 -- `split_edge`: the other sides of both triangles, the edge, its new half and the edges from the vertex to both corners
 abbrev pub edges_split : Shape → ℕ → List ℕ

@@ -6,16 +6,17 @@
 //! inside the circle of the other side has each such edge again, with a few edges more. A mesh in
 //! the plane for which nothing is listed is Delaunay.
 
-ghost use Rattle.std.specs.Prelude.{◌≡◌, ◌<◌, ◌++◌, ◌*◌, ◌+◌, ℕ, List, []};
+ghost use Rattle.std.specs.Prelude.{◌≡◌, ◌<◌, ◌++◌, ◌*◌, ◌+◌, ℕ, List, [], pos};
 ghost use Rattle.dcel_fixed.specs.HalfEdges.{rev};
 ghost use Rattle.dcel_predicates.specs.declared.point.Point.{Point};
+ghost use Rattle.dcel_predicates.specs.Determinants.{orient2d_of};
 ghost use Rattle.dcel_maps.specs.Conditions.{CanFlip, IsTriangle};
 ghost use Rattle.dcel_maps.specs.edits.Create.{vertex_appended};
 ghost use Rattle.dcel_maps.specs.edits.Flip.{edge_flipped};
 ghost use Rattle.dcel_maps.specs.edits.Outside.{face_closed, face_put_beside};
 ghost use Rattle.dcel_maps.specs.edits.Split.{edge_split, half_edge_split};
 ghost use Rattle.dcel_maps.specs.edits.Triangle.{triangle_alone, vertex_inserted};
-ghost use Rattle.dcel_maps.specs.Shapes.{IsLive, IsMesh, Mesh, end_of, face_count, face_of, next_of};
+ghost use Rattle.dcel_maps.specs.Shapes.{IsLive, IsMesh, Mesh, end_of, face_count, face_of, next_of, origin_of};
 ghost use Rattle.dcel_plane.specs.Edges.{edges_beside, edges_closed, edges_half_split, edges_inserted, edges_round, edges_split};
 ghost use Rattle.dcel_plane.specs.Volume.{volume_below};
 ghost use Rattle.dcel_plane.specs.Plane.{IsCircled, IsDelaunay, IsInner, IsLeftOf, IsPlane, LiesAcross, LiesInside, ListsCircled, TurnsLeft, point_at};
@@ -68,7 +69,7 @@ pub fn insertions_keep_the_plane<V, DE, UE, F>()
         → IsMesh m → IsTriangle m.shape f → LiesInside at m.shape f (at v)
         → IsPlane at m.shape → IsPlane at (vertex_inserted m v f halves edges faces).shape }
     ensures due { (at : ℕ → Point) (m : Mesh V DE UE F) (v f : ℕ) (halves : List DE) (edges : List UE) (faces : List F) (due : List ℕ)
-        → IsMesh m → IsTriangle m.shape f → IsMesh (vertex_inserted m v f halves edges faces)
+        → IsMesh m → IsTriangle m.shape f → LiesInside at m.shape f (at v) → IsMesh (vertex_inserted m v f halves edges faces)
         → ListsCircled at m.shape due → ListsCircled at (vertex_inserted m v f halves edges faces).shape (due ++ edges_inserted m f) }
 {}
 
@@ -136,4 +137,14 @@ pub fn flips_keep_the_plane<V, DE, UE, F>()
 pub fn flips_lower_the_volume_below<V, DE, UE, F>()
     ensures { (at : ℕ → Point) (m : Mesh V DE UE F) (u : ℕ) → IsMesh m → IsInner m.shape u → IsCircled at m.shape u → IsPlane at m.shape
         → volume_below at (edge_flipped m u).shape < volume_below at m.shape }
+{}
+
+/// A point that is on an edge between two inner triangles, and on the left of the other sides of
+/// one of them, is so of the other one too.
+pub fn points_on_an_edge_lie_across_both_sides<V, DE, UE, F>()
+    ensures { (at : ℕ → Point) (m : Mesh V DE UE F) (e : ℕ) (p : Point)
+        → IsMesh m → IsLive m.shape e → IsTriangle m.shape (face_of m.shape e) → IsTriangle m.shape (face_of m.shape (rev e))
+        → 0 < face_of m.shape e → 0 < face_of m.shape (rev e) → IsPlane at m.shape
+        → orient2d_of (at (origin_of m.shape e)) (at (end_of m.shape e)) p ≡ pos 0
+        → LiesAcross at m.shape e p → LiesAcross at m.shape (rev e) p }
 {}
