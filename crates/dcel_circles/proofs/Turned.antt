@@ -1,5 +1,5 @@
 -- A run of flips that is under way: what it keeps, and that it ends.
-use Rattle.std.proofs.Common.{◌≡◌, ◌≢◌, ◌⊎◌, inl, inr, ℕ, ◌+◌, ◌*◌, ◌<◌, List, [], ◌∷◌, ◌++◌, length, length-append, append_assoc, append-nil, refl, sym, ap, ◌∙◌, subst, arith}
+use Rattle.std.proofs.Common.{◌≡◌, ◌≢◌, ◌⊎◌, inl, inr, ℕ, ◌+◌, ◌-◌, ◌*◌, ◌<◌, List, [], ◌∷◌, ◌++◌, length, slice_get, take, Some, refl, sym, ap, ◌∙◌, subst, arith}
 use Rattle.dcel_predicates.specs.declared.point.Point.{Point}
 use Rattle.dcel_maps.specs.Conditions.{CanFlip}
 use Rattle.dcel_maps.specs.edits.Flip.{edge_flipped}
@@ -20,6 +20,17 @@ last_or_before v u (x ∷ front) found = elim (first_or_later v x (front ++ u �
   | inl is ↦ inr (omega (arith, count-equal v x front is))
   | inr in_rest ↦ elim (last_or_before v u front in_rest) [ inl is ↦ inl is | inr in_front ↦ inr (count-later v x front in_front) ]
 ]
+
+-- a list by what stands before its last item
+last_at : (x : ℕ) (r : List ℕ) (u : ℕ) → slice_get (x ∷ r) (length r) ≡ Some u → x ∷ r ≡ take (length r) (x ∷ r) ++ u ∷ []
+last_at x [] u is = let same : x ≡ u = cc in ap (λ (k : ℕ). k ∷ []) same
+last_at x (y ∷ r) u is = ap (λ (l : List ℕ). x ∷ l) (last_at y r u is)
+
+pub last_is : (l : List ℕ) (u : ℕ) → slice_get l (length l - 1) ≡ Some u → l ≡ take (length l - 1) l ++ u ∷ []
+last_is [] u is = absurd (cc)
+last_is (x ∷ r) u is =
+    let at : length (x ∷ r) - 1 ≡ length r = omega arith in
+    subst (λ (i : ℕ). x ∷ r ≡ take i (x ∷ r) ++ u ∷ []) (sym at) (last_at x r u (ap (slice_get (x ∷ r)) (sym at) ∙ is))
 
 module _ {DE UE F : Type 0} where
   -- one more flip

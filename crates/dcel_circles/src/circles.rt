@@ -39,7 +39,9 @@ fn is_on_hull<DE, UE, F, A: Allocator>(
     requires { edge_is_live dcel.now.shape edge ≡ true }
     ensures { IsTrue result ↔ IsOnHull dcel.now.shape (2 * edge) }
 {
-    dcel.undirected_edge(edge).as_directed().is_part_of_convex_hull()
+    dcel.undirected_edge(edge)
+        .as_directed()
+        .is_part_of_convex_hull()
 }
 
 // The circle test alone.
@@ -60,7 +62,9 @@ fn has_corner_inside<DE, UE, F, A: Allocator>(
 }
 
 // Where a vertex stands.
-pub(crate) fn point_of<DE, UE, F, A: Allocator>(vertex: VertexHandle<'_, Point, DE, UE, F, A>) -> Point
+pub(crate) fn point_of<DE, UE, F, A: Allocator>(
+    vertex: VertexHandle<'_, Point, DE, UE, F, A>,
+) -> Point
     ensures { result ≡ point_at (mesh_behind vertex) (number_of vertex) }
 {
     *vertex.data()

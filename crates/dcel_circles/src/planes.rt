@@ -59,5 +59,9 @@ fn turns_left<DE, UE, F, A: Allocator>(
         return true;
     }
     let edge = dcel.face(face).adjacent_edge();
-    orient2d(point_of(edge.from()), point_of(edge.to()), point_of(edge.prev().from())) > 0
+    orient2d(
+        point_of(edge.from()),
+        point_of(edge.to()),
+        point_of(edge.prev().from()),
+    ) > 0
 }
