@@ -1,5 +1,5 @@
 -- A run of flips that is under way: what it keeps, and that it ends.
-use Rattle.std.proofs.Common.{◌≡◌, ◌≢◌, ◌⊎◌, inl, inr, ℕ, ◌+◌, ◌-◌, ◌*◌, ◌<◌, List, [], ◌∷◌, ◌++◌, length, slice_get, take, Some, refl, sym, ap, ◌∙◌, subst, arith}
+use Rattle.std.proofs.Common.{◌≡◌, ◌≢◌, ◌⊎◌, inl, inr, ℕ, ◌+◌, ◌-◌, ◌*◌, ◌<◌, List, [], ◌∷◌, ◌++◌, length, slice_get, take, Option, Some, None, refl, sym, ap, ◌∙◌, subst, arith}
 use Rattle.dcel_predicates.specs.declared.point.Point.{Point}
 use Rattle.dcel_maps.specs.Conditions.{CanFlip}
 use Rattle.dcel_maps.specs.edits.Flip.{edge_flipped}
@@ -31,6 +31,20 @@ last_is [] u is = absurd (cc)
 last_is (x ∷ r) u is =
     let at : length (x ∷ r) - 1 ≡ length r = omega arith in
     subst (λ (i : ℕ). x ∷ r ≡ take i (x ∷ r) ++ u ∷ []) (sym at) (last_at x r u (ap (slice_get (x ∷ r)) (sym at) ∙ is))
+
+-- the same by what `pop` leaves
+pub popped : (l front : List ℕ) (k u : ℕ) → k ≡ length l → front ≡ take (k - 1) l → slice_get l (length l - 1) ≡ Some u → l ≡ front ++ u ∷ []
+popped l front k u many rest is =
+    last_is l u is ∙ ap (λ (r : List ℕ). r ++ u ∷ []) (ap (λ (i : ℕ). take (i - 1) l) (sym many) ∙ sym rest)
+
+none_at : (x : ℕ) (r : List ℕ) → slice_get (x ∷ r) (length r) ≡ None → ⊥
+none_at x [] is = cc
+none_at x (y ∷ r) is = none_at y r is
+
+-- a list without a last item
+pub no_last : (l : List ℕ) → slice_get l (length l - 1) ≡ None → l ≡ []
+no_last [] is = refl
+no_last (x ∷ r) is = let at : length r ≡ length (x ∷ r) - 1 = omega arith in absurd (none_at x r (ap (slice_get (x ∷ r)) at ∙ is))
 
 module _ {DE UE F : Type 0} where
   -- one more flip
@@ -101,6 +115,22 @@ module _ {DE UE F : Type 0} where
 
       pub falls : volume_below (point_at (edge_flipped n u)) (edge_flipped n u).shape < volume_below (point_at n) n.shape
       falls = volume_falls n way.mesh u can_flip (point_at n) inner.inner inner.inner_facing circled way.plane
+
+  -- the same for a list that is known to end so
+  module _ (m : Mesh Point DE UE F) (list : List ℕ) (n : Mesh Point DE UE F) (rest front : List ℕ) (u : ℕ) (is : rest ≡ front ++ u ∷ []) (way : IsUnderWay m list n rest) where
+    pub passes_by : ¬ (IsInner n.shape u × IsCircled (point_at n) n.shape u) → IsUnderWay m list n front
+    passes_by not = passes m list n front u (subst (λ (l : List ℕ). IsUnderWay m list n l) is way) not
+
+    pub turns_by : IsInner n.shape u → IsCircled (point_at n) n.shape u → IsUnderWay m list (edge_flipped n u) (rest ++ sides_round n.shape u)
+    turns_by inner circled =
+        subst (λ (l : List ℕ). IsUnderWay m list (edge_flipped n u) (l ++ sides_round n.shape u)) (sym is)
+        (turns m list n front u (subst (λ (l : List ℕ). IsUnderWay m list n l) is way) inner circled)
+
+    pub falls_by : (after : Mesh Point DE UE F) → after ≡ edge_flipped n u → IsInner n.shape u → IsCircled (point_at n) n.shape u
+        → volume_below (point_at after) after.shape < volume_below (point_at n) n.shape
+    falls_by after edit inner circled =
+        subst (λ (k : Mesh Point DE UE F). volume_below (point_at k) k.shape < volume_below (point_at n) n.shape) (sym edit)
+        (falls m list n front u (subst (λ (l : List ℕ). IsUnderWay m list n l) is way) inner circled)
 
   -- with an empty list all is done
   pub delaunay : (m : Mesh Point DE UE F) (list : List ℕ) (n : Mesh Point DE UE F) (rest : List ℕ) → IsUnderWay m list n rest → rest ≡ []

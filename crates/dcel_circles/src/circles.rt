@@ -9,6 +9,7 @@ ghost use Rattle.dcel_plane.specs.Plane.{IsCircled, IsInner, point_at};
 use dcel_predicates::{Point, in_circle};
 use spade_dcel::dcel::Dcel;
 use spade_dcel::handles::{FixedUndirectedEdgeHandle, VertexHandle};
+use spade_dcel::laws::every_mesh;
 use std::alloc::Allocator;
 
 /// Returns whether an edge lies between two inner triangles, and the corner of one inside the
@@ -22,6 +23,7 @@ pub fn is_circled<DE, UE, F, A: Allocator>(
 ) -> bool
     ensures { IsTrue result ↔ (IsInner dcel.now.shape edge × IsCircled (point_at dcel.now) dcel.now.shape edge) }
 {
+    every_mesh(dcel);
     if !dcel.can_flip(edge) {
         return false;
     }
@@ -65,7 +67,7 @@ fn has_corner_inside<DE, UE, F, A: Allocator>(
 pub(crate) fn point_of<DE, UE, F, A: Allocator>(
     vertex: VertexHandle<'_, Point, DE, UE, F, A>,
 ) -> Point
-    ensures { result ≡ point_at (mesh_behind vertex) (number_of vertex) }
+    ensures { result ≡ point_at (mesh_behind vertex.entry) (number_of vertex.entry) }
 {
     *vertex.data()
 }

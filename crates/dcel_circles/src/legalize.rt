@@ -58,7 +58,8 @@ fn append_sides<DE, UE, F, A: Allocator, L: Allocator>(
 )
     requires live { edge_is_live dcel.now.shape edge ≡ true }
     requires room { vec_len due.old + 4 ≤ vec_capacity due.old }
-    ensures { due.new.items ≡ due.old.items ++ sides_round dcel.now.shape edge }
+    ensures items { due.new.items ≡ due.old.items ++ sides_round dcel.now.shape edge }
+    ensures len { vec_len due.new ≡ vec_len due.old + 4 }
 {
     let half = dcel.undirected_edge(edge).as_directed();
     let facing = half.rev();

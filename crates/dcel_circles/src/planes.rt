@@ -1,9 +1,9 @@
 //! Tests of whole meshes: whether one lies in the plane, and whether it is Delaunay.
 
-ghost use Rattle.std.specs.Prelude.{◌≡◌, ◌<◌, ◌↔◌, IsTrue, ℕ, [], ◌∷◌};
-ghost use Rattle.dcel_maps.specs.Shapes.{face_count, origin_of};
-ghost use Rattle.dcel_maps.specs.Words.{word_of};
-ghost use Rattle.dcel_plane.specs.Plane.{IsDelaunay, IsPlane, TurnsLeft, point_at};
+ghost use Rattle.std.specs.Prelude.{◌<◌, ◌↔◌, IsTrue};
+ghost use Rattle.dcel_maps.specs.Shapes.{face_count};
+ghost use Rattle.dcel_plane.specs.Plane.{IsDelaunay, IsPlane, point_at};
+ghost use Rattle.dcel_circles.specs.Turning.{GoesLeft};
 
 use crate::circles::{is_circled, point_of};
 use dcel_predicates::{Point, orient2d};
@@ -52,9 +52,9 @@ fn turns_left<DE, UE, F, A: Allocator>(
 ) -> bool
     requires inner { 0 < face }
     requires within { face < face_count dcel.now.shape }
-    ensures { IsTrue result ↔ ((x y z : ℕ) → word_of dcel.now.shape.words face ≡ x ∷ y ∷ z ∷ []
-        → TurnsLeft (point_at dcel.now (origin_of dcel.now.shape x)) (point_at dcel.now (origin_of dcel.now.shape y)) (point_at dcel.now (origin_of dcel.now.shape z))) }
+    ensures { IsTrue result ↔ GoesLeft (point_at dcel.now) dcel.now.shape face }
 {
+    every_mesh(dcel);
     if !dcel.is_triangle(face) {
         return true;
     }

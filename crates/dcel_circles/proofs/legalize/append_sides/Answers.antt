@@ -2,8 +2,8 @@ use Rattle.std.proofs.Common.{append_assoc}
 use Rattle.dcel_fixed.proofs.Halves.{rev-double}
 use Rattle.dcel_circles.proofs.legalize.append_sides.Goals as goal
 
-pub returns : goal.returns
-returns g c =
+pub returns-clause-items : goal.returns-clause-items
+returns-clause-items g c =
     rw (
       c.push_reserved-4.ensures.items,
       c.push_reserved-3.ensures.items,
