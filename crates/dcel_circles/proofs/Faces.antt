@@ -6,6 +6,7 @@ use Rattle.dcel_predicates.specs.declared.point.Point.{Point}
 use Rattle.dcel_maps.specs.Conditions.{IsTriangle}
 use Rattle.dcel_maps.specs.Cyclic.{from_least}
 use Rattle.dcel_maps.specs.Shapes.{IsLive, IsMesh, Mesh, Shape, end_of, face_count, face_is_live, face_of, map_of, next_of, origin_of, prev_of}
+use Rattle.dcel_maps.specs.Walking.{IsOnFace}
 use Rattle.dcel_maps.specs.Words.{TurnsTo, word_of}
 use Rattle.dcel_maps.proofs.edits.Linking.{triangle_of}
 use Rattle.dcel_maps.proofs.maps.Triangles.{IsTriangleOf}
@@ -15,7 +16,7 @@ use Rattle.dcel_maps.proofs.words.Triangles.{triangle_written}
 use Rattle.dcel_maps.proofs.words.Turns.{from_least-turn, turns_back}
 use Rattle.dcel_maps.proofs.Liveness.{is_live-parts}
 use Rattle.dcel_maps.specs.Removals.{gives_up_edge}
-use Rattle.dcel_plane.specs.Plane.{IsCircled, IsDelaunay, IsInner, IsPlane, TurnsLeft}
+use Rattle.dcel_plane.specs.Plane.{IsCircled, IsDelaunay, IsInner, IsPlane, TurnsLeft, point_at}
 use Rattle.dcel_plane.proofs.Corners.{LeftOf, left-from_least, three_items, turn_left, turned_along}
 use Rattle.dcel_circles.specs.Turning.{GoesLeft}
 
@@ -88,3 +89,13 @@ no_corners m mesh at f not x y z is =
       live = true_from_ne_false (face_is_live m.shape f) (λ dead. let none = ap length (sym (mesh.sound.bare f dead) ∙ is) in omega (arith, none));
       three = ap length is;
     })
+
+-- what is read of a mesh that is known by another name
+pub known_as : {DE UE F : Type 0} (m k l : Mesh Point DE UE F) (p : Point) (v : ℕ) (f : Shape → ℕ) → p ≡ point_at k v → k ≡ l → v ≡ f l.shape → l ≡ m → p ≡ point_at m (f m.shape)
+known_as {DE} {UE} {F} m k l p v f is same number at =
+    subst (λ (x : Mesh Point DE UE F). p ≡ point_at x (f x.shape)) at
+    (subst (λ (i : ℕ). p ≡ point_at l i) number (subst (λ (x : Mesh Point DE UE F). p ≡ point_at x v) same is))
+
+pub lies_as : {DE UE F : Type 0} (m k : Mesh Point DE UE F) (f g e : ℕ) → k ≡ m → f ≡ g → IsOnFace k.shape f e → IsOnFace m.shape g e
+lies_as {DE} {UE} {F} m k f g e same is on =
+    subst (λ (x : Mesh Point DE UE F). IsOnFace x.shape g e) same (subst (λ (i : ℕ). IsOnFace k.shape i e) is on)

@@ -23,7 +23,7 @@ pub returns : goal.returns
 returns g c = (
   λ yes. (
     inner_from c.args.dcel.now.shape c.args.edge (c.can_flip.ensures.0 c.if-not-can_flip.false)
-    (λ hull. let is = c.is_on_hull.ensures.1 hull in let no = c.if-is_on_hull.false in cc),
+        (λ hull. let is = c.is_on_hull.ensures.1 hull in let no = c.if-is_on_hull.false in cc),
     c.has_corner_inside.ensures.0 yes,
   ),
   λ both. c.has_corner_inside.ensures.1 both.1,
