@@ -1,17 +1,16 @@
 -- What the circle test at an edge tells.
-use Rattle.std.proofs.Common.{◌≡◌, ◌↔◌, ◌⊎◌, inl, inr, ℕ, ◌+◌, ◌*◌, ◌^◌, ◌<◌, ◌≤◌, Bool, true, IsTrue, sym, ap, ◌∙◌, subst, ℤ, pos, int_lt, unsigned_abs, w64, to_z, of_z, ◌<ℤ◌, arith}
+use Rattle.std.proofs.Common.{◌≡◌, ◌↔◌, inl, inr, ℕ, ◌+◌, ◌*◌, ◌^◌, ◌≤◌, Bool, true, IsTrue, sym, ap, ◌∙◌, subst, ℤ, pos, int_lt, unsigned_abs, w64, to_z, of_z, ◌<ℤ◌, arith}
 use Rattle.std.proofs.lemmas.Int.{to_z-of_z}
 use borrow.Author.Differences.{below_in, lt-true, lt_out, true_is_lt}
 use Rattle.dcel_predicates.proofs.Machine.{fits_64}
 use Rattle.std.proofs.lemmas.Bool.{cases_eq}
-use Rattle.dcel_fixed.specs.HalfEdges.{rev}
 use Rattle.dcel_fixed.proofs.Halves.{rev-double}
 use Rattle.dcel_predicates.specs.declared.point.Point.{Point}
 use Rattle.dcel_predicates.specs.Determinants.{incircle_of, orient2d_of}
 use Rattle.dcel_maps.specs.Conditions.{CanFlip}
-use Rattle.dcel_maps.specs.Shapes.{Mesh, Shape, face_of, origin_of, prev_of}
+use Rattle.dcel_maps.specs.Shapes.{Shape, face_of}
 use Rattle.dcel_maps.specs.Sides.{IsOnHull}
-use Rattle.dcel_plane.specs.Plane.{IsCircled, IsInner, origin_point, point_at}
+use Rattle.dcel_plane.specs.Plane.{IsInner}
 
 -- an edge that can be flipped and isn't on the hull lies between inner triangles
 pub inner_from : (s : Shape) (u : ℕ) → CanFlip s u → ¬ IsOnHull s (2 * u) → IsInner s u

@@ -1,12 +1,11 @@
 -- A run of flips that is under way: what it keeps, and that it ends.
-use Rattle.std.proofs.Common.{◌≡◌, ◌≢◌, ◌⊎◌, inl, inr, ℕ, ◌+◌, ◌-◌, ◌*◌, ◌<◌, List, [], ◌∷◌, ◌++◌, length, slice_get, take, Option, Some, None, refl, sym, ap, ◌∙◌, subst, arith}
+use Rattle.std.proofs.Common.{◌≡◌, ◌⊎◌, inl, inr, ℕ, ◌-◌, ◌<◌, List, [], ◌∷◌, ◌++◌, length, slice_get, take, Some, None, refl, sym, ap, ◌∙◌, subst, arith}
 use Rattle.dcel_predicates.specs.declared.point.Point.{Point}
 use Rattle.dcel_maps.specs.Conditions.{CanFlip}
 use Rattle.dcel_maps.specs.edits.Flip.{edge_flipped}
-use Rattle.dcel_maps.specs.Shapes.{IsMesh, Mesh, Shape, face_count}
+use Rattle.dcel_maps.specs.Shapes.{IsMesh, Mesh}
 use Rattle.dcel_maps.specs.Words.{count_of}
 use Rattle.dcel_maps.proofs.words.Counts.{count-append, count-equal, count-later, first_or_later}
-use Rattle.dcel_plane.specs.Edges.{edges_round}
 use Rattle.dcel_plane.specs.Plane.{IsCircled, IsDelaunay, IsInner, IsPlane, ListsCircled, point_at}
 use Rattle.dcel_plane.specs.Volume.{volume_below}
 use Rattle.dcel_plane.proofs.Flipped.{circled_can_flip, flip_lists, flip_plane, flipped_mesh}
