@@ -1,0 +1,196 @@
+-- A flip of an edge whose circle test is positive keeps a mesh in the plane.
+use Rattle.std.proofs.Common.{◌≡◌, ◌≢◌, ℕ, ◌+◌, ◌*◌, ◌/◌, ◌<◌, List, [], ◌∷◌, ◌++◌, slice_set, append-nil, refl, sym, ap, ◌∙◌, subst, pos, ◌<ℤ◌, arith}
+use Rattle.std.proofs.lemmas.List.{get_or-set_other, get_or-set_same, length-set}
+use Rattle.dcel_fixed.proofs.Halves.{rev-double}
+use Rattle.dcel_predicates.specs.declared.point.Point.{Point}
+use Rattle.dcel_predicates.specs.Determinants.{incircle_of}
+use Rattle.dcel_predicates.proofs.Convex.{AreFlipped, flipped}
+use Rattle.dcel_predicates.proofs.Points.{incircle-third}
+use Rattle.dcel_predicates.proofs.Signs.{ordered}
+use Rattle.dcel_maps.specs.Conditions.{CanFlip}
+use Rattle.dcel_maps.specs.Cyclic.{from_least}
+use Rattle.dcel_maps.specs.edits.Flip.{edge_flipped}
+use Rattle.dcel_maps.specs.theory.Sound.{Sound}
+use Rattle.dcel_maps.specs.Shapes.{IsLive, IsMesh, Mesh, Shape, face_of, map_of, next_of, origin_of, prev_of}
+use Rattle.dcel_maps.specs.Words.{count_of}
+use Rattle.dcel_maps.proofs.Liveness.{even_live, odd_live}
+use Rattle.dcel_maps.proofs.edits.Changes.{edit_makes_mesh}
+use Rattle.dcel_maps.proofs.edits.Flips.{edge_flipping, edge_flipping_is, edge_flipping_is_edit}
+use Rattle.dcel_maps.proofs.edits.Linking.{triangle_of}
+use Rattle.dcel_maps.proofs.edits.Patches.{Patch, replacing}
+use Rattle.dcel_maps.proofs.maps.Halves.{turn_back}
+use Rattle.dcel_maps.proofs.maps.Triangles.{IsApart, IsTriangleOf, facing_differ, triangles_apart}
+use Rattle.dcel_maps.proofs.shapes.Maps.{map-sound}
+use Rattle.dcel_maps.proofs.walks.Links.{half-below}
+use Rattle.dcel_plane.specs.Edges.{edges_round}
+use Rattle.dcel_plane.specs.Plane.{IsCircled, IsInner, IsPlane, ListsCircled, TurnsLeft}
+use Rattle.dcel_plane.proofs.Corners.{LeftOf, corners_are, left-from_least, left_of_triangle, listed_at, of_least}
+use Rattle.dcel_plane.proofs.Splits.{listed_as}
+use Rattle.dcel_plane.proofs.Written.{IsWritten, origin_away, written_lists, written_plane}
+
+module _ {V DE UE F : Type 0} (m : Mesh V DE UE F) (mesh : IsMesh m) (u : ℕ) (can : CanFlip m.shape u) where
+  abbrev s : Shape
+  s = m.shape
+
+  abbrev n : Shape
+  n = (edge_flipped m u).shape
+
+  pub flipped_mesh : IsMesh (edge_flipped m u)
+  flipped_mesh =
+      subst (λ (k : Mesh V DE UE F). IsMesh k) (edge_flipping_is m u) (edit_makes_mesh m (edge_flipping m u) mesh (edge_flipping_is_edit m u mesh can))
+
+  abbrev e : ℕ
+  e = 2 * u
+
+  abbrev t : ℕ
+  t = 2 * u + 1
+
+  abbrev f : ℕ
+  f = face_of s e
+
+  abbrev g : ℕ
+  g = face_of s t
+
+  abbrev ep : ℕ
+  ep = prev_of s e
+
+  abbrev en : ℕ
+  en = next_of s e
+
+  abbrev tp : ℕ
+  tp = prev_of s t
+
+  abbrev tn : ℕ
+  tn = next_of s t
+
+  sound : Sound (map_of s)
+  sound = map-sound mesh.sound
+
+  live_e : IsLive s e
+  live_e = even_live s u can.live
+
+  live_t : IsLive s t
+  live_t = odd_live s u can.live
+
+  pub was : IsTriangleOf (map_of s) f e en ep
+  was = triangle_of m mesh e live_e can.triangle
+
+  pub facing : IsTriangleOf (map_of s) g t tn tp
+  facing = triangle_of m mesh t live_t can.facing
+
+  pub differ : f ≢ g
+  differ = facing_differ (map_of s) sound f e en ep g t tn tp was facing (rev-double u)
+
+  apart : IsApart e en ep t tn tp
+  apart = triangles_apart (map_of s) f e en ep g t tn tp was facing differ
+
+  -- where each half edge of the two starts
+  pub from_end : origin_of s en ≡ origin_of s t
+  from_end = sound.origin-next e live_e ∙ ap (origin_of s) (rev-double u)
+
+  pub from_start : origin_of s tn ≡ origin_of s e
+  from_start = sound.origin-next t live_t ∙ ap (origin_of s) (turn_back e t (rev-double u))
+
+  abbrev words : Patch (List ℕ)
+  words = replacing ((f, from_least (e ∷ tp ∷ en ∷ [])) ∷ (g, from_least (t ∷ ep ∷ tn ∷ [])) ∷ [])
+
+  abbrev origins : Patch ℕ
+  origins = replacing ((e, origin_of s ep) ∷ (t, origin_of s tp) ∷ [])
+
+  pub flip_written : IsWritten s n words origins
+  flip_written = record {
+    words_are = sym (append-nil (slice_set (slice_set s.words f (from_least (e ∷ tp ∷ en ∷ []))) g (from_least (t ∷ ep ∷ tn ∷ []))));
+    origins_are = sym (append-nil (slice_set (slice_set s.origins e (origin_of s ep)) t (origin_of s tp)));
+    many = mesh.sized.origins;
+    starts_stay = λ h live inner away. (λ is. away.0 (ap (face_of s) is), (λ is. away.1.0 (ap (face_of s) is), tt));
+  }
+
+  pub origin_e : origin_of n e ≡ origin_of s ep
+  origin_e =
+      get_or-set_other (slice_set s.origins e (origin_of s ep)) t e (origin_of s tp) 0 (λ is. omega (arith, is))
+      ∙ get_or-set_same s.origins e (origin_of s ep) 0 (omega (arith, mesh.sized.origins, half-below s e live_e))
+
+  pub origin_t : origin_of n t ≡ origin_of s tp
+  origin_t =
+      get_or-set_same (slice_set s.origins e (origin_of s ep)) t (origin_of s tp) 0
+      (omega (arith, mesh.sized.origins, half-below s t live_t, length-set s.origins e (origin_of s ep)))
+
+  pub origin_same : (at : ℕ → Point) (h : ℕ) → IsLive s h → h ≢ e → h ≢ t → origin_of n h ≡ origin_of s h
+  origin_same at h live not_e not_t = origin_away at s n words origins flip_written mesh.sound h live (not_e, (not_t, tt))
+
+  module _ (at : ℕ → Point) where
+    abbrev start : Point
+    start = at (origin_of s e)
+
+    abbrev end : Point
+    end = at (origin_of s t)
+
+    abbrev near : Point
+    near = at (origin_of s ep)
+
+    abbrev far : Point
+    far = at (origin_of s tp)
+
+    -- the two triangles before the flip
+    pub left_before : IsPlane at s → 0 < f → TurnsLeft start end near
+    left_before plane inner = corners_are at refl from_end refl (left_of_triangle at s mesh.sound plane f e en ep inner was)
+
+    pub right_before : IsPlane at s → 0 < g → TurnsLeft end start far
+    right_before plane inner = corners_are at refl from_start refl (left_of_triangle at s mesh.sound plane g t tn tp inner facing)
+
+    pub new_corners : IsPlane at s → 0 < f → 0 < g → IsCircled at s u → AreFlipped start end near far
+    new_corners plane f_inner g_inner circled = flipped start end near far (left_before plane f_inner) (right_before plane g_inner) circled
+
+    -- the other half edges start where they did
+    pub origin_far : origin_of n tp ≡ origin_of s tp
+    origin_far = origin_same at tp facing.live_z apart.z_off.0 (λ is. facing.x≢z (sym is))
+
+    pub origin_after : origin_of n en ≡ origin_of s en
+    origin_after = origin_same at en was.live_y (λ is. was.x≢y (sym is)) (λ is. apart.x_off.1 (sym is))
+
+    pub origin_near : origin_of n ep ≡ origin_of s ep
+    origin_near = origin_same at ep was.live_z (λ is. was.x≢z (sym is)) (λ is. apart.x_off.2 (sym is))
+
+    pub origin_t_after : origin_of n tn ≡ origin_of s tn
+    origin_t_after = origin_same at tn facing.live_y apart.y_off.0 (λ is. facing.x≢y (sym is))
+
+    -- the new triangles
+    first_after : AreFlipped start end near far → LeftOf at n e tp en
+    first_after new = corners_are at (sym origin_e) (sym origin_far) (sym from_end ∙ sym origin_after) new.first
+
+    second_after : AreFlipped start end near far → LeftOf at n t ep tn
+    second_after new = corners_are at (sym origin_t) (sym origin_near) (sym from_start ∙ sym origin_t_after) new.second
+
+    pub flip_plane : 0 < f → 0 < g → IsCircled at s u → IsPlane at s → IsPlane at n
+    flip_plane f_inner g_inner circled plane =
+        let new = new_corners plane f_inner g_inner circled in
+        written_plane at s n words origins flip_written mesh.sound plane (
+          (λ x y z inner is. left-from_least at n e tp en x y z is (first_after new)),
+          (λ x y z inner is. left-from_least at n t ep tn x y z is (second_after new), tt),
+        )
+        tt
+
+    pub flip_lists : (due : List ℕ) → ListsCircled at s due → ListsCircled at n (due ++ edges_round s u)
+    flip_lists due lists =
+        let list = edges_round s u in
+        let at_e = listed_as list e u (omega arith) (listed_at list 4 (omega arith)) in
+        let at_t = listed_as list t u (omega arith) (listed_at list 4 (omega arith)) in
+        written_lists at s n words origins flip_written mesh.sound list due flipped_mesh.sound (
+          λ inner h found. of_least (λ x. 0 < count_of (x / 2) list) e tp en h at_e (listed_at list 3 (omega arith)) (listed_at list 0 (omega arith)) found,
+          (λ inner h found. of_least (λ x. 0 < count_of (x / 2) list) t ep tn h at_t (listed_at list 1 (omega arith)) (listed_at list 2 (omega arith)) found, tt),
+        )
+        tt lists
+
+-- a corner that is the other one as well is not inside the circle
+corners_differ : (at : ℕ → Point) (a b c d : ℕ) → pos 0 <ℤ incircle_of (at a) (at b) (at c) (at d) → c ≡ d → ⊥
+corners_differ at a b c d inside is =
+    let none : incircle_of (at a) (at b) (at c) (at d) ≡ pos 0 = ap (λ k. incircle_of (at a) (at b) (at c) (at k)) (sym is) ∙ incircle-third (at a) (at b) (at c) in
+    omega (arith, ordered, none, inside)
+
+pub circled_can_flip : {V DE UE F : Type 0} (m : Mesh V DE UE F) → IsMesh m → (u : ℕ) (at : ℕ → Point) → IsInner m.shape u → IsCircled at m.shape u → CanFlip m.shape u
+circled_can_flip m mesh u at inner circled = record {
+  live = inner.live;
+  triangle = inner.triangle;
+  facing = inner.facing;
+  corners = corners_differ at (origin_of m.shape (2 * u)) (origin_of m.shape (2 * u + 1)) (origin_of m.shape (prev_of m.shape (2 * u))) (origin_of m.shape (prev_of m.shape (2 * u + 1))) circled;
+}
