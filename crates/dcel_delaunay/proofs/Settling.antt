@@ -1,0 +1,35 @@
+-- What flips and triangles at the hull leave of the vertices.
+use Rattle.std.proofs.Common.{◌≡◌, ◌≢◌, ◌∙◌, inl, inr, ℕ, List, [], ◌∷◌, ◌++◌, sym, subst}
+use Rattle.dcel_maps.specs.edits.Flip.{edge_flipped}
+use Rattle.dcel_maps.specs.Removals.{Closed}
+use Rattle.dcel_maps.specs.Shapes.{Mesh}
+use Rattle.dcel_predicates.specs.declared.point.Point.{Point}
+use Rattle.dcel_circles.specs.Turning.{IsTurnedTo, edges_turned}
+use Rattle.dcel_plane.specs.Plane.{IsPlane, ListsCircled, point_at}
+use Rattle.dcel_delaunay.specs.Growing.{Gains, IsUnderWay, Keeps, Refuses}
+use Rattle.dcel_delaunay.specs.declared.errors.InsertionError.{InsertionError}
+use Rattle.dcel_delaunay.specs.declared.errors.InsertionError.TheVariants.{Unfinished}
+use Rattle.dcel_delaunay.proofs.Growth.{flipped-keeps, gains-keeps, keeps-refl, keeps-trans}
+
+module _ {DE UE F : Type 0} where
+  turned_keeps : (m : Mesh Point DE UE F) (us : List ℕ) → m.shape.removal ≡ Closed → Keeps m (edges_turned m us)
+  turned_keeps m [] closed = keeps-refl m closed
+  turned_keeps m (u ∷ us) closed =
+      keeps-trans m (edge_flipped m u) (edges_turned (edge_flipped m u) us) (flipped-keeps m closed u) (turned_keeps (edge_flipped m u) us closed)
+
+  pub flips_keep : (m n : Mesh Point DE UE F) → m.shape.removal ≡ Closed → IsTurnedTo m n → Keeps m n
+  flips_keep m n closed turned = subst (λ (k : Mesh Point DE UE F). Keeps m k) (sym turned.is) (turned_keeps m turned.turned closed)
+
+  -- and what is still to be looked at is listed
+  pub flips_under_way : (m n : Mesh Point DE UE F) (due items : List ℕ) → IsUnderWay m due → IsTurnedTo m n → IsPlane (point_at n) n.shape
+      → (ListsCircled (point_at m) m.shape due → ListsCircled (point_at n) n.shape items) → IsUnderWay n items
+  flips_under_way m n due items way turned plane lists = record {
+    closed = (flips_keep m n way.closed turned).closed;
+    plane = plane;
+    listed = lists way.listed;
+  }
+
+  -- the vertex stands, and the rest is still to be done
+  pub stands_unfinished : (old mid new : Mesh Point DE UE F) (p : Point) (v : ℕ) (e : InsertionError) → Gains old mid p v → Keeps mid new → e ≡ Unfinished → Refuses old new p e
+  stands_unfinished old mid new p v e gains keeps is =
+      inr (is, subst (λ (k : ℕ). Gains old new p k) gains.vertex (gains-keeps old mid new p v gains keeps))

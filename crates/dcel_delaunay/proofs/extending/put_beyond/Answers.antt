@@ -1,0 +1,16 @@
+use Rattle.std.proofs.Common.{rules}
+use Rattle.dcel_delaunay.proofs.Paths.{extended_alone}
+use Rattle.dcel_delaunay.proofs.Puts.{put_back}
+use Rattle.dcel_delaunay.proofs.extending.put_beyond.Goals as goal
+
+pub returns-in_default-clause-refused : goal.returns-in_default-clause-refused
+returns-in_default-clause-refused g c = (
+  search (rules, c.take_back.ensures.answer),
+  put_back c.args.dcel.now _ _ _ c.args.point _ c.every_mesh.ensures c.requires.closed c.in_ok-vertex.ensures.edit
+      c.in_ok-vertex.ensures.answer c.in_default.ensures.refused c.take_back.ensures.edit,
+)
+
+pub returns-clause-alone : goal.returns-clause-alone
+returns-clause-alone g c =
+    extended_alone _ _ c.args.dcel.now c.append.new.dcel c.extend_line.new.dcel c.args.point c.in_ok-vertex.vertex c.in_ok-vertex.ensures.edit c.requires.alone c.args.end
+    c.in-Ok.ensures.edit

@@ -1,0 +1,9 @@
+use Rattle.std.proofs.Common.{◌≡◌}
+use Rattle.dcel_delaunay.proofs.Taking.{takes_has, takes_points}
+use Rattle.dcel_delaunay.proofs.triangulation.Triangulation.insert.Goals as goal
+
+pub returns-clause-inserts : goal.returns-clause-inserts
+returns-clause-inserts g c = record {
+  has = takes_has _ _ _ c.args.point _ c.every_mesh.ensures c.in_ok-vertex.ensures.inserts c.begin_at.ensures.mesh;
+  points = takes_points _ _ _ _ c.args.point _ c.finish.ensures.points c.in_ok-vertex.ensures.inserts c.begin_at.ensures.mesh;
+}

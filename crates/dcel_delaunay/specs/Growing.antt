@@ -1,0 +1,40 @@
+-- What an insertion finds, and what it leaves.
+use Rattle.std.specs.Prelude.{◌≡◌, ◌≢◌, ◌⊎◌, ◌≤◌, ◌+◌, ◌++◌, ℕ, List, [], ◌∷◌}
+use Rattle.dcel_maps.specs.Removals.{Closed}
+use Rattle.dcel_maps.specs.Shapes.{Mesh}
+use Rattle.dcel_plane.specs.Plane.{IsPlane, ListsCircled, point_at}
+use Rattle.dcel_delaunay.specs.Places.{HasPoint}
+use Rattle.dcel_delaunay.specs.declared.errors.InsertionError.{InsertionError}
+use Rattle.dcel_delaunay.specs.declared.errors.InsertionError.TheVariants.{Unfinished}
+use Rattle.dcel_predicates.specs.declared.point.Point.{Point}
+
+module _ {DE UE F : Type 0} where
+  -- no removal is open, each triangle goes round counterclockwise, and each edge between two of them that has a corner inside the circle of
+  -- the other side is in the list
+  pub record IsUnderWay (m : Mesh Point DE UE F) (due : List ℕ) : Type 0 where
+    pub closed : m.shape.removal ≡ Closed
+    pub plane : IsPlane (point_at m) m.shape
+    pub listed : ListsCircled (point_at m) m.shape due
+
+  -- the vertices with their points stay, no edge is taken out, and no removal is open
+  pub record Keeps (old new : Mesh Point DE UE F) : Type 0 where
+    pub closed : new.shape.removal ≡ Closed
+    pub vertices : new.shape.vertices ≡ old.shape.vertices
+    pub points : new.vertex_data ≡ old.vertex_data
+    pub edges : old.shape.edges ≤ new.shape.edges
+
+  -- there is one more vertex, the last one, with this point
+  pub record Gains (old new : Mesh Point DE UE F) (p : Point) (v : ℕ) : Type 0 where
+    pub closed : new.shape.removal ≡ Closed
+    pub vertices : new.shape.vertices ≡ old.shape.vertices + 1
+    pub vertex : v ≡ old.shape.vertices
+    pub points : new.vertex_data ≡ old.vertex_data ++ p ∷ []
+    pub edges : old.shape.edges ≤ new.shape.edges
+
+  -- the vertex v has the point: it stood there before, and nothing has changed, or it is new
+  abbrev pub Inserts : Mesh Point DE UE F → Mesh Point DE UE F → Point → ℕ → Type 0
+  Inserts old new p v = (HasPoint old p v × (new ≡ old)) ⊎ Gains old new p v
+
+  -- nothing has changed, or a new vertex has the point and not all is done that belongs to it
+  abbrev pub Refuses : Mesh Point DE UE F → Mesh Point DE UE F → Point → InsertionError → Type 0
+  Refuses old new p e = ((e ≢ Unfinished) × (new ≡ old)) ⊎ ((e ≡ Unfinished) × Gains old new p old.shape.vertices)

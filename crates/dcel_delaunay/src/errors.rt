@@ -1,0 +1,40 @@
+//! Why an insertion was refused.
+
+use dcel_predicates::Point;
+use std::alloc::AllocError;
+use thiserror::Error;
+
+/// Why a point was not inserted, or not all was done that belongs to it.
+#[derive(Clone, Copy, PartialEq, Eq, Debug, Drop, Error)]
+pub enum InsertionError {
+    /// A coordinate is below -2^30 or above 2^30. Nothing has changed.
+    #[error("a coordinate is out of range")]
+    OutOfRange,
+    /// There are no numbers left for another vertex and its edges. Nothing has changed.
+    #[error("there are too many points")]
+    TooManyPoints,
+    /// There was no memory. Nothing has changed.
+    #[error("out of memory")]
+    OutOfMemory,
+    /// The vertex stands, but there was no memory to make the triangulation whole again.
+    ///
+    /// The next insertion goes on with that first.
+    #[error("out of memory, with some edges not yet looked at")]
+    Unfinished,
+    /// A walk or a search was longer than the mesh allows. It has never come.
+    #[error("the search for the point did not end")]
+    Lost,
+}
+
+impl From<AllocError> for InsertionError {
+    fn from(_: AllocError) -> Self {
+        InsertionError::OutOfMemory
+    }
+}
+
+/// Returns the point with these coordinates.
+///
+/// They must be from -2^30 to 2^30.
+pub fn point(x: i64, y: i64) -> Result<Point, InsertionError> {
+    Point::new(x, y).ok_or(InsertionError::OutOfRange)
+}

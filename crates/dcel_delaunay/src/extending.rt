@@ -1,0 +1,84 @@
+//! The edits while all vertices stand on a line: the first vertices, an edge of the path split, and
+//! the path extended. The outer face is the only one, so nothing is to be listed.
+
+ghost use Rattle.std.specs.Prelude.{◌≡◌, ◌≢◌, IfErr, IfOk};
+ghost use Rattle.dcel_maps.specs.Conditions.{IsBridge, IsLineEnd};
+ghost use Rattle.dcel_maps.specs.Removals.{Closed};
+ghost use Rattle.dcel_maps.specs.Shapes.{face_count};
+ghost use Rattle.dcel_delaunay.specs.Growing.{Gains};
+
+use crate::errors::InsertionError;
+use crate::inserting::{append, take_back};
+use crate::mesh::Mesh;
+use dcel_predicates::Point;
+use spade_dcel::handles::{FixedDirectedEdgeHandle, FixedVertexHandle};
+use spade_dcel::laws::every_mesh;
+use spade_dcel::operations::{
+    extend_line, setup_initial_two_vertices, split_edge_when_all_vertices_on_line,
+};
+use std::alloc::Allocator;
+
+/// Puts a point on an edge of the path.
+pub(crate) fn put_on_line<A: Allocator>(
+    dcel: &mut Mesh<A>,
+    edge: FixedDirectedEdgeHandle,
+    point: Point,
+) -> Result<FixedVertexHandle, InsertionError>
+    requires closed { dcel.old.shape.removal ≡ Closed }
+    requires alone { face_count dcel.old.shape ≡ 1 }
+    requires bridge { IsBridge dcel.old.shape edge }
+    ensures gains { IfOk result (Gains dcel.old dcel.new point) }
+    ensures alone { face_count dcel.new.shape ≡ 1 }
+    ensures refused { IfErr result (λ e. (e ≢ InsertionError.Unfinished) × (dcel.new ≡ dcel.old)) }
+{
+    every_mesh(dcel);
+    let vertex = append(dcel, point)?;
+    let Ok(_) = split_edge_when_all_vertices_on_line(dcel, edge, vertex) else {
+        return Err(take_back(dcel, vertex));
+    };
+    Ok(vertex)
+}
+
+/// Puts a point beyond an end of the path.
+pub(crate) fn put_beyond<A: Allocator>(
+    dcel: &mut Mesh<A>,
+    end: FixedVertexHandle,
+    point: Point,
+) -> Result<FixedVertexHandle, InsertionError>
+    requires closed { dcel.old.shape.removal ≡ Closed }
+    requires alone { face_count dcel.old.shape ≡ 1 }
+    requires line_end { IsLineEnd dcel.old.shape end }
+    ensures gains { IfOk result (Gains dcel.old dcel.new point) }
+    ensures alone { face_count dcel.new.shape ≡ 1 }
+    ensures refused { IfErr result (λ e. (e ≢ InsertionError.Unfinished) × (dcel.new ≡ dcel.old)) }
+{
+    every_mesh(dcel);
+    let vertex = append(dcel, point)?;
+    let Ok(_) = extend_line(dcel, end, vertex) else {
+        return Err(take_back(dcel, vertex));
+    };
+    Ok(vertex)
+}
+
+/// Puts in the first point, or the second one with the first edge.
+pub(crate) fn put_first<A: Allocator>(
+    dcel: &mut Mesh<A>,
+    point: Point,
+) -> Result<FixedVertexHandle, InsertionError>
+    requires closed { dcel.old.shape.removal ≡ Closed }
+    requires alone { face_count dcel.old.shape ≡ 1 }
+    requires no_edge { dcel.old.shape.edges ≡ 0 }
+    ensures gains { IfOk result (Gains dcel.old dcel.new point) }
+    ensures alone { face_count dcel.new.shape ≡ 1 }
+    ensures refused { IfErr result (λ e. (e ≢ InsertionError.Unfinished) × (dcel.new ≡ dcel.old)) }
+{
+    every_mesh(dcel);
+    let vertex = append(dcel, point)?;
+    if vertex.index() == 0 {
+        return Ok(vertex);
+    }
+    let Ok(_) = setup_initial_two_vertices(dcel, FixedVertexHandle::new(0), vertex) else {
+        return Err(take_back(dcel, vertex));
+    };
+    Ok(vertex)
+}

@@ -1,0 +1,34 @@
+//! Delaunay triangulations of points with whole coordinates, over the half-edge mesh of
+//! `spade_dcel`.
+//!
+//! A [`Triangulation`] is made by inserting points, one after another
+//! ([`insert`](Triangulation::insert)) or all at once ([`insert_all`](Triangulation::insert_all)).
+//! Its mesh is read as it is ([`dcel`](Triangulation::dcel)): the vertices are the points, the
+//! inner faces the triangles, and the outer face lies around the hull. No other point or face is
+//! there.
+#![tactic(auto)]
+
+mod bulk;
+mod closing;
+mod curve;
+mod errors;
+mod extending;
+mod inserting;
+mod legalizing;
+mod line;
+mod locating;
+mod mesh;
+mod placing;
+mod points;
+mod position;
+mod triangulation;
+
+pub use curve::insertion_order;
+pub use dcel_predicates::Point;
+pub use errors::{InsertionError, point};
+pub use mesh::Mesh;
+pub use position::PositionInTriangulation;
+pub use triangulation::Triangulation;
+
+#[cfg(test)]
+mod tests;

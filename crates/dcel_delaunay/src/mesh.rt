@@ -1,0 +1,64 @@
+//! The mesh of a triangulation.
+
+ghost use Rattle.std.specs.Prelude.{◌≡◌, ◌↔◌, IsTrue};
+ghost use Rattle.std.specs.Bool.{OnTrue};
+ghost use Rattle.spade_dcel.specs.Handles.{mesh_behind, number_of};
+ghost use Rattle.dcel_maps.specs.Shapes.{IsLive};
+ghost use Rattle.dcel_plane.specs.Plane.{point_at};
+ghost use Rattle.dcel_delaunay.specs.Places.{HasLeft, HasPoint, IsOnLine};
+
+use dcel_predicates::{Point, Side, orientation};
+use spade_dcel::dcel::Dcel;
+use spade_dcel::handles::{DirectedEdgeHandle, VertexHandle};
+use std::alloc::{Allocator, Global};
+
+/// A mesh whose vertices are points.
+pub type Mesh<A = Global> = Dcel<Point, (), (), (), A>;
+
+/// A half edge of such a mesh.
+pub(crate) type Edge<'a, A> = DirectedEdgeHandle<'a, Point, (), (), (), A>;
+
+/// A vertex of such a mesh.
+pub(crate) type Vertex<'a, A> = VertexHandle<'a, Point, (), (), (), A>;
+
+/// Returns where a vertex stands.
+#[inline]
+pub(crate) fn point_of<A: Allocator>(vertex: Vertex<'_, A>) -> Point
+    ensures { result ≡ point_at (mesh_behind vertex.entry) (number_of vertex.entry) }
+{
+    *vertex.data()
+}
+
+/// Tells on which side of a half edge a point lies.
+#[inline]
+pub(crate) fn side<A: Allocator>(edge: Edge<'_, A>, point: Point) -> Side
+    requires { IsLive (mesh_behind edge).shape (number_of edge) }
+    ensures left { (result ≡ Side.Left) ↔ HasLeft (mesh_behind edge.entry) point (number_of edge.entry) }
+    ensures on { (result ≡ Side.On) ↔ IsOnLine (mesh_behind edge.entry) point (number_of edge.entry) }
+{
+    orientation(point_of(edge.from()), point_of(edge.to()), point)
+}
+
+/// Returns whether a point lies on the left of a half edge.
+#[inline]
+pub(crate) fn has_left<A: Allocator>(edge: Edge<'_, A>, point: Point) -> bool
+    requires { IsLive (mesh_behind edge).shape (number_of edge) }
+    ensures { IsTrue result ↔ HasLeft (mesh_behind edge.entry) point (number_of edge.entry) }
+{
+    side(edge, point) == Side::Left
+}
+
+/// Returns whether a point is where a vertex stands.
+#[inline]
+pub(crate) fn stands_at<A: Allocator>(vertex: Vertex<'_, A>, point: Point) -> bool
+    ensures { OnTrue result (HasPoint (mesh_behind vertex.entry) point (number_of vertex.entry)) }
+{
+    let own = *vertex.data();
+    if own.x != point.x {
+        return false;
+    }
+    if own.y != point.y {
+        return false;
+    }
+    true
+}
