@@ -10,6 +10,8 @@ mod carried;
 #[cfg(test)]
 mod commands;
 #[cfg(test)]
+mod conditions;
+#[cfg(test)]
 mod degenerate;
 #[cfg(test)]
 mod flips;
@@ -17,6 +19,8 @@ mod flips;
 mod links;
 #[cfg(test)]
 mod lists;
+#[cfg(test)]
+mod live;
 #[cfg(test)]
 mod openers;
 #[cfg(test)]

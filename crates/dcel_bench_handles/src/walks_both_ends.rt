@@ -5,10 +5,12 @@ ghost use Rattle.std.specs.Iterator.{IsFinite};
 use crate::borrowed::{live_half_edge, vertex_of};
 use crate::own_steps::{PrevNextBackFn, RevNextBackFn};
 use dcel_bench::checks::{holds, same};
-use dcel_bench::growths::{CUT, FIRST_EDGE, Growth, cut_triangle, grown};
+use dcel_bench::growths::{CUT, FIRST_EDGE, Growth, LINE, cut_triangle, grown};
 use dcel_bench::meshes::Mesh;
 use dcel_bench::require;
-use spade_dcel::handles::{DirectedEdgeHandle, FixedDirectedEdgeHandle};
+use spade_dcel::handles::{
+    DirectedEdgeHandle, FixedDirectedEdgeHandle, FixedFaceHandle, PossiblyOuterTag,
+};
 use spade_dcel::iterators::{
     CircularIterator, DirectedVoronoiEdgeIterator, FixedDirectedEdgeIterator,
     FixedInnerFaceIterator, FixedUndirectedEdgeIterator, HullIterator, NextBackFn,
@@ -72,6 +74,37 @@ fn check_out_edges(dcel: &Mesh) -> Result<(), Fail> {
 #[test]
 fn out_edges_come_from_both_ends(rt: HostRuntime) -> Result<(), Fail> {
     check_out_edges(&cut_triangle(rt.alloc())?)
+}
+
+/// Walks round faces: of a triangle that vertex 3 cuts into three, of the line 2, 0, 1, 3, and of a mesh without an edge.
+const FACE_EDGES: [(&[Growth], Walk); 5] = [
+    (&CUT, (0, &[Front, Front, Front, Front], &[0, 2, 4])),
+    (&CUT, (1, &[Front, Front, Front, Front], &[1, 6, 11])),
+    (&CUT, (2, &[Back, Front, Back, Back], &[7, 5, 8])),
+    (
+        &LINE,
+        (
+            0,
+            &[Front, Back, Front, Front, Front, Front, Front],
+            &[0, 2, 5, 4, 1, 3],
+        ),
+    ),
+    (&[], (0, &[Front, Back], &[])),
+];
+
+fn check_face_edges(dcel: &Mesh, (index, ends, wanted): Walk) -> Result<(), Fail> {
+    let face: FixedFaceHandle<PossiblyOuterTag> = FixedFaceHandle::new(index as usize);
+    let face = dcel.get_face(face);
+    let face = face.ok_or("no such face")?;
+    check_taken(face.directed_edges(), ends, wanted)
+}
+
+#[test]
+fn half_edges_of_faces_come_from_both_ends(rt: HostRuntime) -> Result<(), Fail> {
+    for (growths, walk) in FACE_EDGES {
+        check_face_edges(&grown(rt.alloc(), growths)?, walk)?;
+    }
+    Ok(())
 }
 
 #[test]

@@ -87,8 +87,10 @@ fn put_into<V: Drop, DE: Default + Drop, UE: Default + Drop, F: Default + Drop>(
     if !dcel.is_triangle(face) || !dcel.has_room(1, 3, 2) {
         return Ok(());
     }
-    let vertex = append_unconnected_vertex(dcel, datum).map_err(|_| AllocError)?;
-    if dcel.is_triangle(face) && dcel.is_unconnected(vertex) && dcel.has_room(0, 3, 2) {
+    let vertex = append_unconnected_vertex(dcel, datum)?;
+    if dcel.can_insert_into_triangle(vertex, face)
+        && dcel.has_room_for(Room::INSERT_INTO_TRIANGLE)
+    {
         insert_into_triangle(dcel, vertex, face)?;
     }
     Ok(())

@@ -1,3 +1,4 @@
+pub mod Faces
 pub mod Handles
 pub mod Lending
 pub mod Opened

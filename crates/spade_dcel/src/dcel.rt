@@ -12,6 +12,7 @@ ghost use Rattle.dcel_maps.specs.Walking.{Leads, edge_between};
 ghost use Rattle.dcel_maps.specs.Words.{word_of};
 
 mod borders;
+mod conditions;
 mod data;
 mod degenerate;
 mod elements;
@@ -22,6 +23,7 @@ mod swap;
 mod whole;
 
 use crate::handles::{DirectedEdgeHandle, FaceHandle, UndirectedEdgeHandle, VertexHandle};
+use crate::operations::Room;
 use dcel_fixed::{
     FixedDirectedEdgeHandle, FixedFaceHandle, FixedUndirectedEdgeHandle, FixedVertexHandle,
     InnerOuterMarker, OUTER_FACE, PossiblyOuterTag,
@@ -147,6 +149,67 @@ impl<V, DE, UE, F, A: Allocator> Dcel<V, DE, UE, F, A> {
             return None;
         }
         Some(self.vertex(handle))
+    }
+
+    /// Returns a handle to the half edge with this number, or None if there is no such live one.
+    ///
+    /// It is live if its number is in range and no open removal has given up its edge. Any number
+    /// may be given.
+    #[inline]
+    pub fn get_directed_edge(
+        &self,
+        handle: FixedDirectedEdgeHandle,
+    ) -> Option<DirectedEdgeHandle<'_, V, DE, UE, F, A>>
+        ensures some { IsSome result ↔ IsLive self.now.shape handle }
+        ensures mesh { IfSome result (λ edge. mesh_behind edge ≡ self.now) }
+        ensures number { IfSome result (λ edge. number_of edge ≡ handle) }
+        ensures live { IfSome result (λ edge. IsLive (mesh_behind edge).shape (number_of edge)) }
+    {
+        if !self.is_live_edge(handle.as_undirected()) {
+            return None;
+        }
+        Some(self.directed_edge(handle))
+    }
+
+    /// Returns a handle to the undirected edge with this number, or None if there is no such live
+    /// one.
+    ///
+    /// It is live if its number is in range and no open removal has given it up. Any number may be
+    /// given.
+    #[inline]
+    pub fn get_undirected_edge(
+        &self,
+        handle: FixedUndirectedEdgeHandle,
+    ) -> Option<UndirectedEdgeHandle<'_, V, DE, UE, F, A>>
+        ensures some { IsSome result ↔ (edge_is_live self.now.shape handle ≡ true) }
+        ensures mesh { IfSome result (λ edge. mesh_behind edge ≡ self.now) }
+        ensures number { IfSome result (λ edge. number_of edge ≡ handle) }
+        ensures live { IfSome result (λ edge. edge_is_live (mesh_behind edge).shape (number_of edge) ≡ true) }
+    {
+        if !self.is_live_edge(handle) {
+            return None;
+        }
+        Some(self.undirected_edge(handle))
+    }
+
+    /// Returns a handle to the face with this number, or None if there is no such live one.
+    ///
+    /// It is live if its number is in range and no open removal has given it up; the outer face is
+    /// always live. Any number may be given.
+    #[inline]
+    pub fn get_face<InnerOuter: InnerOuterMarker>(
+        &self,
+        handle: FixedFaceHandle<InnerOuter>,
+    ) -> Option<FaceHandle<'_, InnerOuter, V, DE, UE, F, A>>
+        ensures some { IsSome result ↔ (face_is_live self.now.shape handle ≡ true) }
+        ensures mesh { IfSome result (λ face. mesh_behind face ≡ self.now) }
+        ensures number { IfSome result (λ face. number_of face ≡ handle) }
+        ensures live { IfSome result (λ face. face_is_live (mesh_behind face).shape (number_of face) ≡ true) }
+    {
+        if !self.is_live_face(handle) {
+            return None;
+        }
+        Some(self.face(handle))
     }
 
     /// Returns a handle to the half edge with this number.
@@ -278,6 +341,16 @@ impl<V, DE, UE, F, A: Allocator> Dcel<V, DE, UE, F, A> {
         vertices <= INDEX_SPACE - self.num_vertices()
             && undirected_edges <= EDGE_SPACE - self.num_undirected_edges()
             && faces <= INDEX_SPACE - self.num_faces()
+    }
+
+    /// Returns whether there are numbers left for what a call adds, as [`has_room`](Self::has_room)
+    /// does.
+    ///
+    /// [`Room`] has a constant for each call that grows.
+    pub fn has_room_for(&self, room: Room) -> bool
+        ensures { IsTrue result ↔ HasRoom self.now.shape room.vertices room.undirected_edges room.faces }
+    {
+        self.has_room(room.vertices, room.undirected_edges, room.faces)
     }
 
     /// Returns whether the vertex is live.

@@ -18,6 +18,7 @@ mod flip;
 mod line;
 mod outside;
 mod results;
+mod room;
 mod split;
 mod split_triangles;
 mod strip;
@@ -34,15 +35,26 @@ pub use flip::flip_cw;
 pub use line::extend_line;
 pub use outside::{create_new_face_adjacent_to_edge, create_single_face_between_edge_and_next};
 pub use results::{IsolateVertexResult, RemovalResult};
+pub use room::Room;
 pub use split::split_edge_when_all_vertices_on_line;
 pub use split_triangles::{split_edge, split_half_edge};
+use std::alloc::AllocError;
 pub use strip::disconnect_edge_strip;
 pub use swap_remove::swap_remove_vertex;
 pub use triangle::{insert_into_triangle, new_triangle};
 
 /// What was handed in, given back because memory ran out.
+///
+/// It converts to `AllocError`, so that `?` passes it on where the value may be dropped.
 #[derive(Debug, Drop)]
 pub struct NoMemory<T> {
     /// The value that was handed in.
     pub back: T,
+}
+
+impl<T: Drop> From<NoMemory<T>> for AllocError {
+    /// Drops the value.
+    fn from(_refused: NoMemory<T>) -> AllocError {
+        AllocError
+    }
 }

@@ -1,0 +1,67 @@
+//! Borrowed elements by number, None for those that an open removal has given up or that there aren't.
+
+use dcel_bench::checks::same;
+use dcel_bench::growths::cut_triangle;
+use dcel_bench::meshes::{Mesh, half_edge, inner_face, undirected_edge};
+use dcel_bench::openers::Opener::Isolate;
+use dcel_bench::openers::open;
+use std::test::Fail;
+
+/// A number, and whether a half edge, an edge and a face with it are lent.
+type Row = (u32, [bool; 3]);
+
+/// A triangle that vertex 3 cuts into three: 12 half edges, 6 edges and 4 faces.
+const CLOSED: [Row; 7] = [
+    (0, [true, true, true]),
+    (3, [true, true, true]),
+    (4, [true, true, false]),
+    (5, [true, true, false]),
+    (6, [true, false, false]),
+    (11, [true, false, false]),
+    (12, [false, false, false]),
+];
+
+/// The same once vertex 3 is given up with edges 3, 4 and 5 and faces 1, 2 and 3, and face 4 fills the hole.
+const OPEN: [Row; 9] = [
+    (0, [true, true, true]),
+    (1, [true, true, false]),
+    (2, [true, true, false]),
+    (3, [true, false, false]),
+    (4, [true, false, true]),
+    (5, [true, false, false]),
+    (6, [false, false, false]),
+    (12, [false, false, false]),
+    (4_294_967_295, [false, false, false]),
+];
+
+/// The numbers of the half edge, the edge and the face that are lent by a number.
+fn lent(dcel: &Mesh, index: u32) -> [Option<usize>; 3] {
+    let edge = dcel.get_directed_edge(half_edge(index));
+    let undirected = dcel.get_undirected_edge(undirected_edge(index));
+    let face = dcel.get_face(inner_face(index));
+    [
+        edge.map(|edge| edge.index()),
+        undirected.map(|edge| edge.index()),
+        face.map(|face| face.index()),
+    ]
+}
+
+fn check_lent(dcel: &Mesh, rows: &[Row]) -> Result<(), Fail> {
+    for (index, are_lent) in rows {
+        let wanted = are_lent.map(|is_lent| is_lent.then_some(*index as usize));
+        same(
+            lent(dcel, *index),
+            wanted,
+            format_args!("what is lent by {index}"),
+        )?;
+    }
+    Ok(())
+}
+
+#[test]
+fn what_is_live_is_lent(rt: HostRuntime) -> Result<(), Fail> {
+    let mut dcel = cut_triangle(rt.alloc())?;
+    check_lent(&dcel, &CLOSED)?;
+    let _opened = open(&mut dcel, rt.alloc(), Isolate(3, &[1, 3, 5]))?;
+    check_lent(&dcel, &OPEN)
+}
