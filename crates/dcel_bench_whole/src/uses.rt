@@ -9,7 +9,7 @@ use spade_dcel::handles::{
     FixedFaceHandle, FixedUndirectedEdgeHandle, FixedVertexHandle, InnerTag, VertexHandle,
     VoronoiFace, VoronoiVertex,
 };
-use spade_dcel::operations::{append_unconnected_vertex, flip_cw, insert_into_triangle};
+use spade_dcel::operations::{Room, append_unconnected_vertex, flip_cw, insert_into_triangle};
 use std::alloc::{AllocError, Global};
 
 /// A graph walk: the length of a shortest way from one vertex to each other one, and None if there is no way.
