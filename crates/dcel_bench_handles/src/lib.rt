@@ -7,6 +7,8 @@ mod borrowed;
 mod debug_texts;
 #[cfg(test)]
 mod duals;
+#[cfg(test)]
+mod loops;
 pub mod own_steps;
 #[cfg(test)]
 mod triangles;

@@ -1,3 +1,5 @@
 pub mod Gathering
+pub mod InnerFaces
 pub mod Listed
+pub mod LiveOnes
 pub mod StripItems

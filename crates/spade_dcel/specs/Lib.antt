@@ -1,5 +1,6 @@
 pub mod Faces
 pub mod Handles
 pub mod Lending
+pub mod Live
 pub mod Opened
 pub mod Voronoi

@@ -2,13 +2,16 @@
 
 ghost use Rattle.std.specs.Prelude.{◌≡◌, ◌+◌, ◌*◌, ◌≤◌, ◌^◌, length};
 ghost use Rattle.dcel_maps.specs.Numbers.{numbers_between};
+ghost use Rattle.dcel_maps.specs.Kinds.{DirectedEdges, Faces, UndirectedEdges, Vertices};
 ghost use Rattle.dcel_maps.specs.Shapes.{face_count};
 ghost use Rattle.dcel_maps.specs.Walking.{in_mesh};
+ghost use Rattle.spade_dcel.specs.Live.{live_ones};
 
 use crate::dcel::Dcel;
 use crate::iterators::{
     DirectedEdgeIterator, FaceIterator, FixedFaceIterator, FixedVertexIterator, InnerFaceIterator,
-    UndirectedEdgeIterator, VertexIterator,
+    LiveDirectedEdgeIterator, LiveFaceIterator, LiveInnerFaceIterator, LiveUndirectedEdgeIterator,
+    LiveVertexIterator, UndirectedEdgeIterator, VertexIterator,
 };
 use std::alloc::Allocator;
 
@@ -87,5 +90,51 @@ impl<V, DE, UE, F, A: Allocator> Dcel<V, DE, UE, F, A> {
         ensures few { length result ≤ 2 ^ 32 }
     {
         FixedFaceIterator::new(self.num_faces())
+    }
+}
+
+/// The live elements of a kind, in the order of their numbers.
+///
+/// If no removal is open, these are all elements. The iterators run from both ends, and pass over
+/// given-up elements; a loop over one needn't test that its items are live.
+impl<V, DE, UE, F, A: Allocator> Dcel<V, DE, UE, F, A> {
+    /// Returns the live vertices, as handles.
+    #[inline]
+    pub fn live_vertices(&self) -> LiveVertexIterator<'_, V, DE, UE, F, A>
+        ensures items { result ≡ live_ones Vertices (in_mesh self.now (numbers_between 0 self.now.shape.vertices)) }
+    {
+        LiveVertexIterator::new(self)
+    }
+
+    /// Returns the live half edges, as handles.
+    #[inline]
+    pub fn live_directed_edges(&self) -> LiveDirectedEdgeIterator<'_, V, DE, UE, F, A>
+        ensures items { result ≡ live_ones DirectedEdges (in_mesh self.now (numbers_between 0 (2 * self.now.shape.edges))) }
+    {
+        LiveDirectedEdgeIterator::new(self)
+    }
+
+    /// Returns the live undirected edges, as handles.
+    #[inline]
+    pub fn live_undirected_edges(&self) -> LiveUndirectedEdgeIterator<'_, V, DE, UE, F, A>
+        ensures items { result ≡ live_ones UndirectedEdges (in_mesh self.now (numbers_between 0 self.now.shape.edges)) }
+    {
+        LiveUndirectedEdgeIterator::new(self)
+    }
+
+    /// Returns the live faces, as handles, the outer one first.
+    #[inline]
+    pub fn live_faces(&self) -> LiveFaceIterator<'_, V, DE, UE, F, A>
+        ensures items { result ≡ live_ones Faces (in_mesh self.now (numbers_between 0 (face_count self.now.shape))) }
+    {
+        LiveFaceIterator::new(self)
+    }
+
+    /// Returns the live inner faces, as handles: all but the outer one.
+    #[inline]
+    pub fn live_inner_faces(&self) -> LiveInnerFaceIterator<'_, V, DE, UE, F, A>
+        ensures items { result ≡ live_ones Faces (in_mesh self.now (numbers_between 1 (face_count self.now.shape))) }
+    {
+        LiveInnerFaceIterator::new(self)
     }
 }

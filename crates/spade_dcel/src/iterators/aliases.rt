@@ -2,6 +2,7 @@
 
 use crate::iterators::dynamic_handle_iterator::DynamicHandleIterator;
 use crate::iterators::fixed_handle_iterator::FixedHandleIterator;
+use crate::iterators::live_iterator::LiveIterator;
 use dcel_fixed::{
     DirectedEdgeTag, DirectedVoronoiEdgeTag, FaceTag, InnerTag, PossiblyOuterTag,
     UndirectedEdgeTag, UndirectedVoronoiEdgeTag, VertexTag, VoronoiFaceTag,
@@ -124,3 +125,55 @@ pub type FixedFaceIterator = FixedHandleIterator<FaceTag, PossiblyOuterTag>;
 ///
 /// An iterator made by `new` lists face 0, the outer face, too.
 pub type FixedInnerFaceIterator = FixedHandleIterator<FaceTag, InnerTag>;
+
+/// The live vertices of a mesh, borrowed
+/// ([`Dcel::live_vertices`](crate::dcel::Dcel::live_vertices)).
+pub type LiveVertexIterator<'a, V, DE, UE, F, A = Global> = LiveIterator<
+    'a,
+    V,
+    DE,
+    UE,
+    F,
+    VertexTag,
+    InnerTag,
+    A,
+>;
+
+/// The live half edges of a mesh, borrowed
+/// ([`Dcel::live_directed_edges`](crate::dcel::Dcel::live_directed_edges)).
+pub type LiveDirectedEdgeIterator<'a, V, DE, UE, F, A = Global> = LiveIterator<
+    'a,
+    V,
+    DE,
+    UE,
+    F,
+    DirectedEdgeTag,
+    InnerTag,
+    A,
+>;
+
+/// The live undirected edges of a mesh, borrowed
+/// ([`Dcel::live_undirected_edges`](crate::dcel::Dcel::live_undirected_edges)).
+pub type LiveUndirectedEdgeIterator<'a, V, DE, UE, F, A = Global> = LiveIterator<
+    'a,
+    V,
+    DE,
+    UE,
+    F,
+    UndirectedEdgeTag,
+    InnerTag,
+    A,
+>;
+
+/// The live faces of a mesh, borrowed
+/// ([`Dcel::live_faces`](crate::dcel::Dcel::live_faces)).
+pub type LiveFaceIterator<'a, V, DE, UE, F, A = Global> = LiveIterator<
+    'a,
+    V,
+    DE,
+    UE,
+    F,
+    FaceTag,
+    PossiblyOuterTag,
+    A,
+>;

@@ -4,7 +4,7 @@ ghost use Rattle.std.specs.Prelude.{◌≡◌, ℕ, ◌<◌, ◌≤◌, ◌^◌,
 ghost use Rattle.std.specs.Iterator.{YieldsFirstBy, YieldsLastBy, item_count};
 ghost use Rattle.spade_dcel.specs.Handles.{mesh_behind, number_of};
 ghost use Rattle.dcel_maps.specs.Count.{IsCounted};
-ghost use Rattle.dcel_maps.specs.Shapes.{edge_is_live, face_anchor, next_of, prev_of};
+ghost use Rattle.dcel_maps.specs.Shapes.{IsLive, edge_is_live, face_anchor, next_of, prev_of};
 ghost use Rattle.dcel_maps.specs.Triangulations.{AllTriangles};
 ghost use Rattle.dcel_maps.specs.Walking.{IsOnFace, IsRoundTrip, ListsOnce, hull_of, in_mesh, live_half_edges, walk_of};
 ghost use Rattle.dcel_maps.specs.Words.{TurnsTo, word_of};
@@ -23,8 +23,9 @@ use std::marker::Model;
 /// outer face. From the back they come in the order of [`prev`](DirectedEdgeHandle::prev),
 /// beginning with the half edge before the anchor. There are none in a mesh without live edges.
 ///
-/// Does not allocate. Contracts see its mesh, and the half edges that it has still to give. `next`
-/// and `next_back` may be mixed freely.
+/// Does not allocate. Contracts see its mesh, and the half edges that it has still to give. That a
+/// half edge is live is known where it is given, so a loop needn't test it. `next` and `next_back`
+/// may be mixed freely.
 #[derive(Drop)]
 pub struct HullIterator<'a, V, DE, UE, F, A: Allocator = Global> {
     inner_iterator: CircularIterator<'a, V, DE, UE, F, HullNextBackFn, A>,
@@ -68,7 +69,8 @@ impl<'a, V, DE, UE, F, A: Allocator> HullIterator<'a, V, DE, UE, F, A> {
 impl<'a, V, DE, UE, F, A: Allocator> Iterator for HullIterator<'a, V, DE, UE, F, A> {
     type Item = DirectedEdgeHandle<'a, V, DE, UE, F, A>;
 
-    ghost next_gives = { YieldsFirstBy (λ edge. (mesh_behind edge, number_of edge)) (λ hull. hull.items) };
+    ghost next_gives = { λ s r t. YieldsFirstBy (λ edge. (mesh_behind edge, number_of edge)) (λ hull. hull.items) s r t
+        × IfSome r (λ edge. IsLive (mesh_behind edge).shape (number_of edge)) };
 
     ghost remaining = { item_count (λ hull. hull.items) };
 
@@ -79,7 +81,8 @@ impl<'a, V, DE, UE, F, A: Allocator> Iterator for HullIterator<'a, V, DE, UE, F,
 }
 
 impl<'a, V, DE, UE, F, A: Allocator> DoubleEndedIterator for HullIterator<'a, V, DE, UE, F, A> {
-    ghost next_back_gives = { YieldsLastBy (λ edge. (mesh_behind edge, number_of edge)) (λ hull. hull.items) };
+    ghost next_back_gives = { λ s r t. YieldsLastBy (λ edge. (mesh_behind edge, number_of edge)) (λ hull. hull.items) s r t
+        × IfSome r (λ edge. IsLive (mesh_behind edge).shape (number_of edge)) };
 
     #[inline]
     fn next_back(&mut self) -> Option<DirectedEdgeHandle<'a, V, DE, UE, F, A>> {

@@ -1,9 +1,5 @@
 use Rattle.std.proofs.Common.{ℕ, length}
-use Rattle.dcel_maps.proofs.walks.Listing.{AllLive}
 use Rattle.dcel_speed.proofs.workloads.add_ends_from_both_ends.Given as goal
-
-abbrev pub invariant-loop-edge : goal.invariant-loop-edge
-invariant-loop-edge g l = AllLive l.edges.items
 
 abbrev pub decreases-loop-edge : goal.decreases-loop-edge
 decreases-loop-edge g l = length l.edges.items

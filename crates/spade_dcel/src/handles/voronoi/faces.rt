@@ -3,7 +3,7 @@
 ghost use Rattle.std.specs.Prelude.{◌≡◌, ◌≤◌, ◌^◌, IfSome, length};
 ghost use Rattle.std.specs.Iterator.{YieldsFirstBy, YieldsLastBy, item_count};
 ghost use Rattle.spade_dcel.specs.Handles.{mesh_behind, number_of};
-ghost use Rattle.dcel_maps.specs.Shapes.{vertex_anchor};
+ghost use Rattle.dcel_maps.specs.Shapes.{IsLive, vertex_anchor};
 ghost use Rattle.dcel_maps.specs.Walking.{IsOutEdge, IsRoundTrip, ListsOnce, ccw_of, in_mesh, live_half_edges, out_edges_of};
 
 use crate::handles::voronoi::{DirectedVoronoiEdge, VoronoiFace};
@@ -37,8 +37,9 @@ impl<'a, V, DE, UE, F, A: Allocator> VoronoiFace<'a, V, DE, UE, F, A> {
 
 /// The edges around a face of the Voronoi diagram.
 ///
-/// Does not allocate. Contracts see its mesh, and the edges that it has still to give. `next` and
-/// `next_back` may be mixed freely.
+/// Does not allocate. Contracts see its mesh, and the edges that it has still to give. That an edge
+/// is live is known where it is given, so a loop needn't test it. `next` and `next_back` may be
+/// mixed freely.
 #[derive(Drop)]
 pub struct VoronoiFaceEdges<'a, V, DE, UE, F, A: Allocator = Global> {
     out_edges: CircularIterator<'a, V, DE, UE, F, CCWEdgesNextBackFn, A>,
@@ -55,7 +56,8 @@ impl<'a, V, DE, UE, F, A: Allocator> Model for VoronoiFaceEdges<'a, V, DE, UE, F
 impl<'a, V, DE, UE, F, A: Allocator> Iterator for VoronoiFaceEdges<'a, V, DE, UE, F, A> {
     type Item = DirectedVoronoiEdge<'a, V, DE, UE, F, A>;
 
-    ghost next_gives = { YieldsFirstBy (λ edge. (mesh_behind edge, number_of edge)) (λ edges. edges.items) };
+    ghost next_gives = { λ s r t. YieldsFirstBy (λ edge. (mesh_behind edge, number_of edge)) (λ edges. edges.items) s r t
+        × IfSome r (λ edge. IsLive (mesh_behind edge).shape (number_of edge)) };
 
     ghost remaining = { item_count (λ edges. edges.items) };
 
@@ -67,7 +69,8 @@ impl<'a, V, DE, UE, F, A: Allocator> Iterator for VoronoiFaceEdges<'a, V, DE, UE
 }
 
 impl<'a, V, DE, UE, F, A: Allocator> DoubleEndedIterator for VoronoiFaceEdges<'a, V, DE, UE, F, A> {
-    ghost next_back_gives = { YieldsLastBy (λ edge. (mesh_behind edge, number_of edge)) (λ edges. edges.items) };
+    ghost next_back_gives = { λ s r t. YieldsLastBy (λ edge. (mesh_behind edge, number_of edge)) (λ edges. edges.items) s r t
+        × IfSome r (λ edge. IsLive (mesh_behind edge).shape (number_of edge)) };
 
     #[inline]
     fn next_back(&mut self) -> Option<DirectedVoronoiEdge<'a, V, DE, UE, F, A>> {

@@ -12,12 +12,12 @@ returns-in_err-least-clause-least g c =
 
 pub loop-edge-preserved-then-index : goal.loop-edge-preserved-then-index
 loop-edge-preserved-then-index g c =
-    let next = least_goes_on _ _ _ _ _ _ _ c.loop-edge.invariant.seen c.in-Some.ensures.steps in
+    let next = least_goes_on _ _ _ _ _ _ _ c.loop-edge.invariant.seen c.in-Some.ensures.steps.0 in
     record { mesh = next.0; seen = next.2 (omega (arith, c.index.ensures.value, c.index-in-loop-edge.ensures.value, c.if-index.true)) }
 
 pub loop-edge-preserved : goal.loop-edge-preserved
 loop-edge-preserved g c =
-    let next = least_goes_on _ _ _ _ _ _ _ c.loop-edge.invariant.seen c.in-Some.ensures.steps in
+    let next = least_goes_on _ _ _ _ _ _ _ c.loop-edge.invariant.seen c.in-Some.ensures.steps.0 in
     record { mesh = c.loop-edge.invariant.mesh; seen = next.3 (omega (arith, c.index.ensures.value, c.index-in-loop-edge.ensures.value, c.if-index.false)) }
 
 pub returns-clause-least : goal.returns-clause-least
@@ -26,4 +26,4 @@ returns-clause-least g c =
     let v = number_of c.args.vertex in
     let h = number_of c.loop-edge.least in
     let seen = c.loop-edge.invariant.seen in
-    sym (least_out-some shape v h (live_below shape h seen.stands.live) seen.stands (least_is_found _ _ _ _ seen c.in-None.ensures.steps.0))
+    sym (least_out-some shape v h (live_below shape h seen.stands.live) seen.stands (least_is_found _ _ _ _ seen c.in-None.ensures.steps.0.0))

@@ -15,8 +15,8 @@ loop-edge-init g c =
 pub loop-edge-preserved : goal.loop-edge-preserved
 loop-edge-preserved g c =
     let so_far = c.loop-edge.invariant.0 in
-    let next = listing_goes_on _ _ _ _ (mesh_behind c.in-Some.edge) (number_of c.in-Some.edge) so_far c.in-Some.ensures.steps in
+    let next = listing_goes_on _ _ _ _ (mesh_behind c.in-Some.edge) (number_of c.in-Some.edge) so_far c.in-Some.ensures.steps.0 in
     (next.0, writes_text (ap (λ n. listed so_far.passed ++ 32 ∷ decimal n) c.index.ensures.value ∙ sym next.1) (writes_and c.loop-edge.invariant.1 c.spaced_number.ensures))
 
 pub returns : goal.returns
-returns g c = writes_text (ap listed (listing_ends _ _ _ c.loop-edge.invariant.0 c.in-None.ensures.steps.0)) c.loop-edge.invariant.1
+returns g c = writes_text (ap listed (listing_ends _ _ _ c.loop-edge.invariant.0 c.in-None.ensures.steps.0.0)) c.loop-edge.invariant.1

@@ -39,12 +39,12 @@ loop-edge-init g c = (
 
 pub to-requires : goal.to-requires
 to-requires g c =
-    let came = search_continues c.args.self.now c.args.from c.args.to _ _ _ _ _ c.loop-edge.invariant.0 c.in-Some.ensures.steps in
+    let came = search_continues c.args.self.now c.args.from c.args.to _ _ _ _ _ c.loop-edge.invariant.0 c.in-Some.ensures.steps.0 in
     rw came.0 came.1.starts.live
 
 pub returns-then-eq : goal.returns-then-eq
 returns-then-eq g c =
-    let came = search_continues c.args.self.now c.args.from c.args.to _ _ _ _ _ c.loop-edge.invariant.0 c.in-Some.ensures.steps in
+    let came = search_continues c.args.self.now c.args.from c.args.to _ _ _ _ _ c.loop-edge.invariant.0 c.in-Some.ensures.steps.0 in
     let end : c.fix.result ≡ end_of c.args.self.now.shape (number_of c.in-Some.edge) = c.fix.ensures.value ∙ rw came.0 at c.to.ensures.number in
     let ends = sym end ∙ eqb-true c.fix.result c.args.to (sym c.eq.ensures ∙ c.if-eq.true) in
     record {
@@ -55,12 +55,12 @@ returns-then-eq g c =
 
 pub to-requires-in-Some-next_back : goal.to-requires-in-Some-next_back
 to-requires-in-Some-next_back g c =
-    let came = search_from_back c.args.self.now c.args.from c.args.to _ _ _ _ _ (past_first c.args.self.now c.args.from c.args.to _ _ _ _ _ _ _ c.loop-edge.invariant.0 c.in-Some.ensures.steps (c.fix.ensures.value ∙ c.to.ensures.number) c.eq.ensures c.if-eq.false) c.in-Some-next_back.ensures.steps in
+    let came = search_from_back c.args.self.now c.args.from c.args.to _ _ _ _ _ (past_first c.args.self.now c.args.from c.args.to _ _ _ _ _ _ _ c.loop-edge.invariant.0 c.in-Some.ensures.steps.0 (c.fix.ensures.value ∙ c.to.ensures.number) c.eq.ensures c.if-eq.false) c.in-Some-next_back.ensures.steps.0 in
     rw came.0 came.1.starts.live
 
 pub loop-edge-preserved-then-eq-2 : goal.loop-edge-preserved-then-eq-2
 loop-edge-preserved-then-eq-2 g c =
-    let came = search_from_back c.args.self.now c.args.from c.args.to _ _ _ _ _ (past_first c.args.self.now c.args.from c.args.to _ _ _ _ _ _ _ c.loop-edge.invariant.0 c.in-Some.ensures.steps (c.fix.ensures.value ∙ c.to.ensures.number) c.eq.ensures c.if-eq.false) c.in-Some-next_back.ensures.steps in
+    let came = search_from_back c.args.self.now c.args.from c.args.to _ _ _ _ _ (past_first c.args.self.now c.args.from c.args.to _ _ _ _ _ _ _ c.loop-edge.invariant.0 c.in-Some.ensures.steps.0 (c.fix.ensures.value ∙ c.to.ensures.number) c.eq.ensures c.if-eq.false) c.in-Some-next_back.ensures.steps.0 in
     let end : c.fix-in-Some-next_back.result ≡ end_of c.args.self.now.shape (number_of c.in-Some-next_back.edge) =
     c.fix-in-Some-next_back.ensures.value ∙ rw came.0 at c.to-in-Some-next_back.ensures.number in
     let ends = sym end ∙ eqb-true c.fix-in-Some-next_back.result c.args.to (sym c.eq-in-Some-next_back.ensures ∙ c.if-eq-2.true) in
@@ -68,22 +68,22 @@ loop-edge-preserved-then-eq-2 g c =
 
 pub loop-edge-preserved-else-eq-2 : goal.loop-edge-preserved-else-eq-2
 loop-edge-preserved-else-eq-2 g c = (
-  past_last c.args.self.now c.args.from c.args.to _ _ _ _ _ _ _ (past_first c.args.self.now c.args.from c.args.to _ _ _ _ _ _ _ c.loop-edge.invariant.0 c.in-Some.ensures.steps (c.fix.ensures.value ∙ c.to.ensures.number) c.eq.ensures c.if-eq.false) c.in-Some-next_back.ensures.steps
+  past_last c.args.self.now c.args.from c.args.to _ _ _ _ _ _ _ (past_first c.args.self.now c.args.from c.args.to _ _ _ _ _ _ _ c.loop-edge.invariant.0 c.in-Some.ensures.steps.0 (c.fix.ensures.value ∙ c.to.ensures.number) c.eq.ensures c.if-eq.false) c.in-Some-next_back.ensures.steps.0
       (c.fix-in-Some-next_back.ensures.value ∙ c.to-in-Some-next_back.ensures.number) c.eq-in-Some-next_back.ensures c.if-eq-2.false,
   c.loop-edge.invariant.1,
 )
 
 pub loop-edge-preserved : goal.loop-edge-preserved
 loop-edge-preserved g c =
-    let both_empty = c.in_default-next_back.ensures.steps in (
+    let both_empty = c.in_default-next_back.ensures.steps.0 in (
       subst (λ items. IsSearching c.args.self.now c.args.from c.args.to items (option_map (λ edge. number_of edge) c.loop-edge.found))
-          (both_empty.0 ∙ sym both_empty.1) (past_first c.args.self.now c.args.from c.args.to _ _ _ _ _ _ _ c.loop-edge.invariant.0 c.in-Some.ensures.steps (c.fix.ensures.value ∙ c.to.ensures.number) c.eq.ensures c.if-eq.false),
+          (both_empty.0 ∙ sym both_empty.1) (past_first c.args.self.now c.args.from c.args.to _ _ _ _ _ _ _ c.loop-edge.invariant.0 c.in-Some.ensures.steps.0 (c.fix.ensures.value ∙ c.to.ensures.number) c.eq.ensures c.if-eq.false),
       c.loop-edge.invariant.1,
     )
 
 pub returns : goal.returns
 returns g c =
-    let first = search_ends c.args.self.now c.args.from c.args.to _ _ c.loop-edge.invariant.0 c.in_default.ensures.steps.0 in
+    let first = search_ends c.args.self.now c.args.from c.args.to _ _ c.loop-edge.invariant.0 c.in_default.ensures.steps.0.0 in
     let lists = rw (c.vertex.ensures.mesh, c.vertex.ensures.number) at c.out_edges-edges.ensures.each in
     record {
       first = first;

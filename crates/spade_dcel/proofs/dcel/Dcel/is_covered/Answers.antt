@@ -29,7 +29,7 @@ pub loop-edge-preserved : goal.loop-edge-preserved
 loop-edge-preserved g c =
     let m = c.args.self.now in
     covering_goes_on m (IsCovered c.args.edges.now c.args.list.now) (walk_from m.shape (next_of m.shape) (face_anchor m c.args.face)) _ _ _ _
-    c.loop-edge.invariant c.in-Some-edge.ensures.steps
+    c.loop-edge.invariant c.in-Some-edge.ensures.steps.0
     (rw c.fix.ensures.value at (c.is_edge_or_item.ensures.0 c.if-not-is_edge_or_item.false))
 
 pub returns-then-not-is_edge_or_item : goal.returns-then-not-is_edge_or_item
@@ -37,7 +37,7 @@ returns-then-not-is_edge_or_item g c =
     let m = c.args.self.now in (
       λ is. absurd (false≢true is),
       λ all. absurd (covering_fails m (IsCovered c.args.edges.now c.args.list.now) (walk_from m.shape (next_of m.shape) (face_anchor m c.args.face)) _ _ _ _
-          c.loop-edge.invariant c.in-Some-edge.ensures.steps
+          c.loop-edge.invariant c.in-Some-edge.ensures.steps.0
           (λ has. both_ways c.is_edge_or_item.result c.if-not-is_edge_or_item.true (c.is_edge_or_item.ensures.1 (rw c.fix.ensures.value has)))
           ((walk_covers m c.every_mesh.ensures c.args.face c.requires (IsCovered c.args.edges.now c.args.list.now)).1 all)),
     )
@@ -48,6 +48,6 @@ returns g c =
       λ is.
           (walk_covers m c.every_mesh.ensures c.args.face c.requires (IsCovered c.args.edges.now c.args.list.now)).0
           (covering_ends m (IsCovered c.args.edges.now c.args.list.now) (walk_from m.shape (next_of m.shape) (face_anchor m c.args.face)) _
-          c.loop-edge.invariant c.in-None.ensures.steps.0),
+          c.loop-edge.invariant c.in-None.ensures.steps.0.0),
       λ all. refl,
     )

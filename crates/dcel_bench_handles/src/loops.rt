@@ -1,0 +1,102 @@
+//! Loops over walks and over live elements. That an item is live is known without a test.
+
+use dcel_bench::checks::same;
+use dcel_bench::growths::cut_triangle;
+use dcel_bench::meshes::Mesh;
+use dcel_bench::openers::Opener::Isolate;
+use dcel_bench::openers::open;
+use spade_dcel::iterators::HullIterator;
+use std::alloc::{AllocError, Global};
+use std::test::Fail;
+
+/// The ends of each edge that is live.
+fn ends_of_edges(dcel: &Mesh, alloc: Global) -> Result<Vec<[usize; 2]>, AllocError> {
+    let mut ends = Vec::new(alloc);
+    for edge in dcel.live_undirected_edges() {
+        ends.push(edge.vertices().map(|vertex| vertex.index()))?;
+    }
+    Ok(ends)
+}
+
+/// The vertices round the outer face.
+fn hull(dcel: &Mesh, alloc: Global) -> Result<Vec<usize>, AllocError> {
+    let mut vertices = Vec::new(alloc);
+    for edge in HullIterator::new(dcel) {
+        vertices.push(edge.from().index())?;
+    }
+    Ok(vertices)
+}
+
+/// The number of each live vertex, and then its neighbors from the back.
+fn neighbors(dcel: &Mesh, alloc: Global) -> Result<Vec<usize>, AllocError> {
+    let mut numbers = Vec::new(alloc);
+    for vertex in dcel.live_vertices() {
+        numbers.push(vertex.index())?;
+        for edge in vertex.out_edges().rev() {
+            numbers.push(edge.to().index())?;
+        }
+    }
+    Ok(numbers)
+}
+
+/// The number of each live face, and then its vertices.
+fn faces(dcel: &Mesh, alloc: Global) -> Result<Vec<usize>, AllocError> {
+    let mut numbers = Vec::new(alloc);
+    for face in dcel.live_faces() {
+        numbers.push(face.index())?;
+        for edge in face.directed_edges() {
+            numbers.push(edge.from().index())?;
+        }
+    }
+    Ok(numbers)
+}
+
+/// The number of each live inner face from the back, and then its three vertices.
+fn triangles(dcel: &Mesh, alloc: Global) -> Result<Vec<usize>, AllocError> {
+    let mut numbers = Vec::new(alloc);
+    for face in dcel.live_inner_faces().rev() {
+        numbers.push(face.index())?;
+        for vertex in face.vertices() {
+            numbers.push(vertex.index())?;
+        }
+    }
+    Ok(numbers)
+}
+
+/// How many half edges lie on the outer face.
+fn outer_edges(dcel: &Mesh) -> usize {
+    let mut count: usize = 0;
+    for edge in dcel.live_directed_edges() {
+        if edge.is_outer_edge() {
+            count = count.wrapping_add(1);
+        }
+    }
+    count
+}
+
+/// Checks what loops find in a cut triangle, once its vertex 3 is given up and face 4 fills the hole.
+fn check_loops(dcel: &Mesh, alloc: Global) -> Result<(), Fail> {
+    let ends = ends_of_edges(dcel, alloc)?;
+    same(ends.as_slice(), [[0, 1], [1, 2], [2, 0]].as_slice(), "ends")?;
+    same(
+        hull(dcel, alloc)?.as_slice(),
+        [0, 1, 2].as_slice(),
+        "the hull",
+    )?;
+    let around = neighbors(dcel, alloc)?;
+    let wanted = [0, 1, 2, 1, 2, 0, 2, 0, 1];
+    same(around.as_slice(), wanted.as_slice(), "neighbors")?;
+    let around = faces(dcel, alloc)?;
+    let wanted = [0, 0, 1, 2, 4, 0, 2, 1];
+    same(around.as_slice(), wanted.as_slice(), "faces")?;
+    let around = triangles(dcel, alloc)?;
+    same(around.as_slice(), [4, 1, 0, 2].as_slice(), "triangles")?;
+    same(outer_edges(dcel), 3, "half edges on the outer face")
+}
+
+#[test]
+fn loops_go_over_what_is_live(rt: HostRuntime) -> Result<(), Fail> {
+    let mut dcel = cut_triangle(rt.alloc())?;
+    let _opened = open(&mut dcel, rt.alloc(), Isolate(3, &[1, 3, 5]))?;
+    check_loops(&dcel, rt.alloc())
+}

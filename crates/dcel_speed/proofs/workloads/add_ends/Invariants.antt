@@ -1,8 +1,0 @@
-use Rattle.dcel_maps.proofs.walks.Listing.{AllLive}
-use Rattle.dcel_speed.proofs.workloads.add_ends.Given as goal
-
-abbrev pub invariant-loop-edge : goal.invariant-loop-edge
-invariant-loop-edge g l =
-    (goal.iterator-loop-edge g).can_next l.edge-iterator
-    × (goal.iterator-loop-edge g).is_finite l.edge-iterator
-    × AllLive l.edge-iterator.items
