@@ -22,7 +22,7 @@ inner-above {V} {DE} {UE} {F} m n faces is =
     let P : Mesh V DE UE F × ℕ → Type 0 = λ face. 0 < face.1 in
     subst (All P) (sym is)
     (All-filter (λ face. element_is_live Faces face.0.shape face.1) P (in_mesh m (numbers_between 1 n))
-        (All-map P (λ k. (m, k)) (numbers_between 1 n) (numbers-above n)))
+    (All-map P (λ k. (m, k)) (numbers_between 1 n) (numbers-above n)))
 
 -- what holds of all to come holds of one that is taken, and of those left
 module _ {A X : Type 0} (P : X → Type 0) (view : A → X) where

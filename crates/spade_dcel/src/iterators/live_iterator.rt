@@ -67,7 +67,7 @@ where
     pub(crate) fn among(
         elements: DynamicHandleIterator<'a, V, DE, UE, F, Kind, InnerOuter, A>,
     ) -> Self
-        ensures { result ≡ live_ones Kind.kind elements }
+        ensures { result ≡ live_ones Kind.kind elements.entry }
     {
         LiveIterator { elements }
     }
