@@ -1,4 +1,4 @@
-use Rattle.std.proofs.Common.{◌≡◌, ◌↔◌, ◌<◌, ℕ, true, length}
+use Rattle.std.proofs.Common.{◌≡◌, ◌↔◌, ◌<◌, true, length}
 use Rattle.dcel_maps.specs.Shapes.{face_is_live}
 use Rattle.dcel_maps.specs.theory.RingTests.{EachOf}
 use Rattle.spade_dcel.proofs.dcel.Dcel.are_inner.Given as goal

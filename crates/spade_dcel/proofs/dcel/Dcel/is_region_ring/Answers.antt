@@ -1,6 +1,5 @@
-use Rattle.std.proofs.Common.{◌≡◌, ◌≤◌, inl, inr, suc, length, arith}
+use Rattle.std.proofs.Common.{inl, inr, arith}
 use Rattle.std.proofs.lemmas.Bool.{both_ways, false≢true}
-use Rattle.dcel_maps.specs.theory.RingTests.{PassesTest}
 use Rattle.std.proofs.lemmas.Grind.{common_steps}
 use Rattle.dcel_maps.proofs.removal.RingLists.{count-reverse}
 use Rattle.dcel_maps.proofs.removal.RingTests.{test_iff-ring}

@@ -1,4 +1,4 @@
-use Rattle.std.proofs.Common.{◌≡◌, ◌-◌, ◌≤◌, length}
+use Rattle.std.proofs.Common.{◌≡◌, ◌-◌, length}
 use Rattle.dcel_maps.specs.Shapes.{IsLive, next_of}
 use Rattle.dcel_maps.specs.theory.RingTests.{past_listed, rim_step}
 use Rattle.spade_dcel.proofs.dcel.Dcel.past.Given as goal
