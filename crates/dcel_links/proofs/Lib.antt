@@ -9,4 +9,5 @@ pub mod Parts
 pub mod Searching
 pub mod Turns
 pub mod Surfaces
+pub mod Meshes
 pub mod Handed
