@@ -1,5 +1,5 @@
 -- What writing given edges, faces and anchors leaves in the stored lists.
-use Rattle.std.specs.Prelude.{◌≡◌, ℕ, ◌+◌, ◌-◌, ◌*◌, ◌<◌, List, [], ◌∷◌, ◌++◌, length, map, replicate, slice_index, slice_set, Option, Some, None}
+use Rattle.std.specs.Prelude.{◌≡◌, ◌≢◌, ℕ, ◌+◌, ◌-◌, ◌*◌, ◌<◌, List, [], ◌∷◌, ◌++◌, length, map, replicate, slice_index, slice_set, Option, Some, None}
 use Rattle.dcel_store.specs.Lists.{Lists}
 use Rattle.dcel_store.specs.declared.EdgeData.{EdgeData}
 
@@ -26,6 +26,11 @@ edges_data edges = map (λ e. e.undirected) edges
 abbrev pub anchored_from : ℕ → List ℕ → List (Option ℕ) → List (Option ℕ)
 anchored_from h [] anchors = anchors
 anchored_from h (x ∷ rest) anchors = anchored_from (h + 1) rest (slice_set anchors x (Some h))
+
+-- the last half edge that the list labels with v, and None where it labels none so
+abbrev pub IsLast : List ℕ → ℕ → Option ℕ → Type 0
+IsLast labels v None = (h : ℕ) → h < length labels → slice_index labels h ≢ v
+IsLast labels v (Some h) = (h < length labels) × (slice_index labels h ≡ v) × ((k : ℕ) → h < k → k < length labels → slice_index labels k ≢ v)
 
 module _ {V DE UE F : Type 0} where
   -- more edges
@@ -54,3 +59,21 @@ module _ {V DE UE F : Type 0} where
 
   abbrev pub faces_anchored : Lists V DE UE F → List ℕ → Lists V DE UE F
   faces_anchored s face = record s { face_anchors = anchored_from 0 face s.face_anchors }
+
+  -- all that is given, in an empty store
+  abbrev pub mesh_stored : Lists V DE UE F → List ℕ → List ℕ → List ℕ → List ℕ → List V → List (EdgeData DE UE) → List F → Lists V DE UE F
+  mesh_stored s next prev origin face vertices edges faces = record {
+    vertex_data = vertices;
+    vertex_anchors = anchored_from 0 origin (replicate (length vertices) None);
+    next = next;
+    prev = prev;
+    origin = origin;
+    face = face;
+    directed_data = halves_data edges;
+    undirected_data = edges_data edges;
+    face_data = faces;
+    face_anchors = anchored_from 0 face (replicate (length faces) None);
+    vertex_room = s.vertex_room - length vertices;
+    edge_room = s.edge_room - length edges;
+    face_room = s.face_room - length faces;
+  }
