@@ -83,3 +83,8 @@ stage (VertexInParts v) = 8
 stage (UnusedFace f) = 9
 stage (NotConnected h) = 10
 stage NotSphere = 11
+
+-- this is wrong, and nothing that is looked for before
+pub record IsFirst (c : Claim) (fault : Fault) : Type 0 where
+  pub means : Means c fault
+  pub first : (other : Fault) → stage other < stage fault → ¬ Means c other

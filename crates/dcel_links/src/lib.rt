@@ -7,11 +7,10 @@
 //! edge 0, 2 and 3 edge 1, and so on. Face 0 is the outer face.
 #![tactic(auto)]
 
-ghost use Rattle.std.specs.Prelude.{◌≡◌, ℕ, ◌<◌, IfErr, IfOk, List};
+ghost use Rattle.std.specs.Prelude.{◌≡◌, ℕ, IfErr, IfOk, List};
 ghost use Rattle.dcel_fixed.specs.HalfEdges.{rev};
 ghost use Rattle.dcel_links.specs.Claims.{IsMeshOf, claim};
-ghost use Rattle.dcel_links.specs.Faults.{Means, stage};
-ghost use Rattle.dcel_links.specs.declared.fault.Fault.{Fault};
+ghost use Rattle.dcel_links.specs.Faults.{IsFirst};
 
 mod fault;
 mod links;
@@ -50,10 +49,8 @@ pub fn check_links<A: Allocator + Clone>(
         → IsMeshOf (claim next.now origin.now face.now vertices faces) other → other ≡ prev.items)) }
     ensures refused { IfOk result (λ found. IfErr found (λ fault. (prev : List ℕ)
         → ¬ IsMeshOf (claim next.now origin.now face.now vertices faces) prev)) }
-    ensures fault { IfOk result (λ found. IfErr found (λ fault.
-        Means (claim next.now origin.now face.now vertices faces) fault)) }
-    ensures first { IfOk result (λ found. IfErr found (λ fault. (other : Fault)
-        → stage other < stage fault → ¬ Means (claim next.now origin.now face.now vertices faces) other)) }
+    ensures first { IfOk result (λ found. IfErr found (λ fault.
+        IsFirst (claim next.now origin.now face.now vertices faces) fault)) }
 {
     let halves = next.len();
     let mut prev = vec![in alloc.clone()?; 0; halves]?;

@@ -1,3 +1,4 @@
 pub mod Gathering
+pub mod Linked
 pub mod Listed
 pub mod StripItems

@@ -16,7 +16,7 @@ returns-in-Err-clause-refused g c =
 pub returns-in-Err-clause-first : goal.returns-in-Err-clause-first
 returns-in-Err-clause-first g c =
     let claimed : Claim = claim c.args.next.now c.args.origin.now c.args.face.now c.args.vertices c.args.faces in
-    rules_out claimed (stage c.in-Err.fault) c.in-Err.ensures.before
+    record { means = c.in-Err.ensures.fault; first = rules_out claimed (stage c.in-Err.fault) c.in-Err.ensures.before }
 
 pub returns-in-Err-check_all-clause-refused : goal.returns-in-Err-check_all-clause-refused
 returns-in-Err-check_all-clause-refused g c =
@@ -36,7 +36,10 @@ returns-in-Err-check_all-clause-first g c =
     let before : Passes claimed (stage c.in-Err-check_all.fault) =
     subst₂ (λ (a b : ℕ). Passes (claim c.args.next.now c.args.origin.now c.args.face.now a b) (stage c.in-Err-check_all.fault)) v f
     c.in-Err-check_all.ensures.before in
-    rules_out claimed (stage c.in-Err-check_all.fault) before
+    let fault : Means claimed c.in-Err-check_all.fault =
+    subst₂ (λ (a b : ℕ). Means (claim c.args.next.now c.args.origin.now c.args.face.now a b) c.in-Err-check_all.fault) v f
+    c.in-Err-check_all.ensures.fault in
+    record { means = fault; first = rules_out claimed (stage c.in-Err-check_all.fault) before }
 
 pub returns-in-Ok-clause-mesh : goal.returns-in-Ok-clause-mesh
 returns-in-Ok-clause-mesh g c =
