@@ -1,6 +1,6 @@
 -- The links of a claim that passes, written into a store, hold a mesh that has them; no mesh has those of one that is refused.
-use Rattle.std.proofs.Common.{◌≡◌, ◌≢◌, ℕ, ◌*◌, ◌/◌, ◌<◌, ◌≤◌, ◌^◌, true, List, [], ◌∷◌, length, length-map, replicate, slice_index, slice_index_or, Option, Some, None, refl, sym, ap, ◌∙◌, subst, arith}
-use Rattle.std.proofs.lemmas.List.{length-replicate}
+use Rattle.std.proofs.Common.{◌≡◌, ◌≢◌, ℕ, ◌*◌, ◌/◌, ◌<◌, ◌≤◌, ◌^◌, true, List, [], ◌∷◌, length, replicate, slice_index, slice_index_or, Option, Some, None, refl, sym, ap, ◌∙◌, subst, subst₂, arith}
+use Rattle.std.proofs.lemmas.List.{length-map, length-replicate}
 use Rattle.dcel_store.specs.Lists.{Lists}
 use Rattle.dcel_store.specs.declared.EdgeData.{EdgeData}
 use Rattle.dcel_maps.specs.Maps.{Live, Map}
@@ -137,3 +137,12 @@ made {V} {DE} {UE} {F} s t r next prev origin face vertices edges faces mesh as_
       faces = face_last s next prev origin face vertices edges faces mesh as_many;
     } in
     subst (λ q. Made t q c) (sym closed) (subst (λ (u : Lists V DE UE F). Made u Closed c) (sym written) here)
+
+-- the same, with how many there are and the list backwards as a caller has them
+pub made_of : {V DE UE F : Type 0} (s t : Lists V DE UE F) (r : Removal) (next prev back origin face : List ℕ) (vertices : List V) (edges : List (EdgeData DE UE)) (faces : List F) (a b : ℕ)
+    → IsMeshOf (claim next origin face a b) prev → a ≡ length vertices → b ≡ length faces → back ≡ prev → length next / 2 ≡ length edges
+    → t ≡ mesh_stored s next back origin face vertices edges faces → r ≡ Closed → Made t r (claim next origin face (length vertices) (length faces))
+made_of {V} {DE} {UE} {F} s t r next prev back origin face vertices edges faces a b mesh v f same as_many written closed =
+    made s t r next back origin face vertices edges faces
+    (subst₂ (λ (n m : ℕ). IsMeshOf (claim next origin face n m) back) v f (subst (IsMeshOf (claim next origin face a b)) (sym same) mesh))
+    as_many written closed
