@@ -4,7 +4,7 @@ ghost use Rattle.std.specs.Prelude.{◌≡◌, ℕ, ◌<◌, IfErr, IfOk, length
 ghost use Rattle.dcel_edits.specs.Given.{IsLast, edges_data, halves_data};
 ghost use Rattle.dcel_links.specs.Claims.{claim};
 ghost use Rattle.dcel_links.specs.Meshes.{IsLinked};
-ghost use Rattle.dcel_maps.specs.Shapes.{IsMesh, face_anchor, face_count, vertex_anchor};
+ghost use Rattle.dcel_maps.specs.Shapes.{IsMesh, Mesh, face_anchor, face_count, vertex_anchor};
 ghost use Rattle.spade_dcel.specs.Linked.{Refuses};
 
 use crate::dcel::Dcel;
@@ -58,9 +58,9 @@ pub struct RefusedLinks<T> {
 /// face 0 is the outer face. Each vertex and each face is anchored at its last half edge, and no
 /// removal is open.
 ///
-/// It takes any lists. If there is a mesh that has these links, this is it; if there is none, the
-/// data come back with the first [`Fault`], and if memory runs out they come back too. It goes over
-/// the lists a fixed number of times.
+/// It takes any lists. If there is a mesh that has these links, this is it, with that mesh's words;
+/// if there is none, the data come back with the first [`Fault`], and if memory runs out they come
+/// back too. It goes over the lists a fixed number of times.
 pub fn from_links<V: Drop, DE: Drop, UE: Drop, F: Drop, A: Allocator + Clone>(
     alloc: A,
     next: &[u32],
@@ -69,6 +69,8 @@ pub fn from_links<V: Drop, DE: Drop, UE: Drop, F: Drop, A: Allocator + Clone>(
     given: MeshData<V, DE, UE, F, A>,
 ) -> Result<Dcel<V, DE, UE, F, A>, RefusedLinks<MeshData<V, DE, UE, F, A>>>
     ensures links { IfOk result (λ dcel. IsLinked dcel.shape (claim next.now origin.now face.now (length given.vertices.items) (length given.faces.items))) }
+    ensures only { IfOk result (λ dcel. (m : Mesh V DE UE F) → IsMesh m
+        → IsLinked m.shape (claim next.now origin.now face.now (length given.vertices.items) (length given.faces.items)) → m.shape ≡ dcel.shape) }
     ensures vertices { IfOk result (λ dcel. dcel.vertex_data ≡ given.vertices.items) }
     ensures halves { IfOk result (λ dcel. dcel.directed_data ≡ halves_data given.edges.items) }
     ensures edges { IfOk result (λ dcel. dcel.undirected_data ≡ edges_data given.edges.items) }

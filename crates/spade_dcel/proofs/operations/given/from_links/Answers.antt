@@ -3,6 +3,7 @@ use Rattle.dcel_edits.proofs.Public.{mesh-is-mesh}
 use Rattle.dcel_links.specs.Claims.{Claim, IsMeshOf, claim}
 use Rattle.dcel_links.specs.Faults.{IsFirst}
 use Rattle.spade_dcel.proofs.Linked.{Made, made_of, none_linked, origins_below, sides_below}
+use Rattle.spade_dcel.proofs.OneShape.{one_shape}
 use Rattle.spade_dcel.proofs.operations.given.from_links.Goals as goal
 
 pub returns-in-Ok-Err-clause-reason : goal.returns-in-Ok-Err-clause-reason
@@ -67,3 +68,8 @@ pub returns-clause-face_anchors : goal.returns-clause-face_anchors
 returns-clause-face_anchors g c =
     let made = made_then g c in
     λ f below. made.faces f (let as_many = made.linked.faces in omega arith)
+
+pub returns-clause-only : goal.returns-clause-only
+returns-clause-only g c =
+    let made = made_then g c in
+    λ m mesh linked. one_shape m _ _ mesh (mesh-is-mesh _ _ made.stored) linked made.linked
