@@ -9,6 +9,7 @@ mod after;
 mod flips;
 mod growing;
 mod lines;
+mod links;
 mod lists;
 mod opening;
 pub mod standing;

@@ -1,4 +1,4 @@
-//! What holds of whole meshes: data mapped and written, meshes cloned, cleared and made of their vertices, elements counted,
+//! What holds of whole meshes: data mapped and written, meshes cloned, cleared, made of their vertices and of links, elements counted,
 //! and programs over the layer.
 #![tactic(auto)]
 
@@ -7,6 +7,8 @@ mod counted;
 pub mod delaunay;
 #[cfg(test)]
 mod elements_data;
+#[cfg(test)]
+mod given;
 #[cfg(test)]
 mod readme;
 pub mod uses;

@@ -1,5 +1,6 @@
 pub mod Along
 pub mod AlongLinks
+pub mod Anchoring
 pub mod Descending
 pub mod Dropping
 pub mod Ears

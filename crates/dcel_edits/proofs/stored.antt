@@ -11,6 +11,7 @@ pub mod EdgesOut
 pub mod FacesOut
 pub mod Filling
 pub mod Flips
+pub mod Given
 pub mod Halves
 pub mod Held
 pub mod Holding

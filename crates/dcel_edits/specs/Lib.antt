@@ -3,6 +3,7 @@ pub mod Create
 pub mod Degenerate
 pub mod Fill
 pub mod Flip
+pub mod Given
 pub mod Line
 pub mod Outside
 pub mod Rename

@@ -7,6 +7,7 @@
 pub mod create;
 pub mod fill;
 pub mod flip;
+pub mod given;
 pub mod line;
 mod links;
 pub mod outside;

@@ -1,4 +1,6 @@
 pub mod Gathering
 pub mod InnerFaces
+pub mod Linked
 pub mod Listed
+pub mod OneShape
 pub mod StripItems

@@ -15,6 +15,7 @@ mod create;
 mod degenerate;
 mod fill;
 mod flip;
+mod given;
 mod line;
 mod outside;
 mod results;
@@ -32,6 +33,7 @@ pub use create::{
 pub use degenerate::remove_when_degenerate;
 pub use fill::{isolate_vertex_and_fill_hole, remesh_edge_ring};
 pub use flip::flip_cw;
+pub use given::{EdgeData, Fault, LinksError, MeshData, RefusedLinks, from_links};
 pub use line::extend_line;
 pub use outside::{create_new_face_adjacent_to_edge, create_single_face_between_edge_and_next};
 pub use results::{IsolateVertexResult, RemovalResult};

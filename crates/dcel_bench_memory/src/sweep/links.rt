@@ -1,0 +1,147 @@
+//! Meshes made of links: `from_links` with each request refused in turn.
+
+use crate::watched::{MANY, Memory, Watched};
+use dcel_bench::checks::same;
+use dcel_bench::pictures::{Picture, picture_of};
+use dcel_bench::refusing::{Refusals, Refusing};
+use spade_dcel::operations::{EdgeData, LinksError, MeshData, RefusedLinks, from_links};
+use std::alloc::{AllocError, Global};
+use std::test::Fail;
+
+/// The call of all rows.
+const CALL: &str = "from_links";
+
+type Data<'a> = MeshData<i64, i64, i64, i64, Memory<'a>>;
+
+/// Links, the data that are given with them, and how many requests for memory the call makes.
+struct Row {
+    next: &'static [u32],
+    origin: &'static [u32],
+    face: &'static [u32],
+    vertices: &'static [i64],
+    edges: &'static [[i64; 3]],
+    faces: &'static [i64],
+    requests: u64,
+}
+
+const ROWS: [Row; 2] = [
+    Row {
+        next: &[2, 5, 4, 1, 0, 3],
+        origin: &[0, 1, 1, 2, 2, 0],
+        face: &[0, 1, 0, 1, 0, 1],
+        vertices: &[5, -6, 7],
+        edges: &[[1, 2, 3], [4, 5, 6], [7, 8, 9]],
+        faces: &[10, 11],
+        requests: 15,
+    },
+    Row {
+        next: &[],
+        origin: &[],
+        face: &[],
+        vertices: &[5, -6],
+        edges: &[],
+        faces: &[10],
+        requests: 4,
+    },
+];
+
+/// The data of a row, for which there is memory.
+fn data<'a>(memory: Memory<'a>, row: &Row) -> Result<Data<'a>, AllocError> {
+    let mut data = MeshData {
+        vertices: Vec::new(memory),
+        edges: Vec::new(memory),
+        faces: Vec::new(memory),
+    };
+    for datum in row.vertices {
+        data.vertices.push(*datum)?;
+    }
+    for [normalized, reversed, undirected] in row.edges {
+        data.edges.push(EdgeData {
+            normalized: *normalized,
+            reversed: *reversed,
+            undirected: *undirected,
+        })?;
+    }
+    for datum in row.faces {
+        data.faces.push(*datum)?;
+    }
+    Ok(data)
+}
+
+/// Checks that these are the data of a row.
+fn check_data(data: &Data, row: &Row) -> Result<(), Fail> {
+    same(data.vertices.as_slice(), row.vertices, "data of vertices")?;
+    same(data.faces.as_slice(), row.faces, "data of faces")?;
+    same(data.edges.len(), row.edges.len(), "data of edges")?;
+    for (found, wanted) in data.edges.iter().zip(row.edges) {
+        let found = [found.normalized, found.reversed, found.undirected];
+        same(&found, wanted, "data of an edge")?;
+    }
+    Ok(())
+}
+
+/// Makes the mesh of a row with these requests refused.
+fn make<'a>(
+    memory: Memory<'a>,
+    row: &Row,
+    data: Data<'a>,
+    refusals: Refusals,
+) -> Result<Watched<'a>, RefusedLinks<Data<'a>>> {
+    memory.refuse(refusals);
+    from_links(memory, row.next, row.origin, row.face, data)
+}
+
+/// Makes the mesh of a row if nothing is refused.
+fn left(row: &Row, alloc: Global) -> Result<Picture, Fail> {
+    let memory = Refusing::new(alloc);
+    let data = data(&memory, row)?;
+    match make(&memory, row, data, Refusals::None) {
+        Ok(made) => picture_of(&made, alloc),
+        Err(_) => Err(Fail::new("the links of a row are refused")),
+    }
+}
+
+/// Makes the mesh of a row with the request of this number refused, and again of the data that come
+/// back if that request came. Returns whether it came.
+fn is_refused(row: &Row, number: u64, left: &Picture, alloc: Global) -> Result<bool, Fail> {
+    let memory = Refusing::new(alloc);
+    let data = data(&memory, row)?;
+    match make(&memory, row, data, Refusals::One(number)) {
+        Ok(made) => {
+            same(
+                memory.requests() > number,
+                false,
+                format_args!("{CALL}: request {number}"),
+            )?;
+            same(&picture_of(&made, alloc)?, left, CALL)?;
+            Ok(false)
+        }
+        Err(refused) => {
+            same(refused.reason, LinksError::OutOfMemory, CALL)?;
+            check_data(&refused.back, row)?;
+            match make(&memory, row, refused.back, Refusals::None) {
+                Ok(made) => same(&picture_of(&made, alloc)?, left, CALL)?,
+                Err(_) => return Err(Fail::new("no memory for the data that came back")),
+            }
+            Ok(true)
+        }
+    }
+}
+
+fn sweep(row: &Row, alloc: Global) -> Result<(), Fail> {
+    let left = left(row, alloc)?;
+    for number in 0..MANY {
+        if !is_refused(row, number, &left, alloc)? {
+            return same(number, row.requests, format_args!("requests of {CALL}"));
+        }
+    }
+    Err(Fail::new("more requests than MANY"))
+}
+
+#[test]
+fn meshes_of_links_are_refused_memory(rt: HostRuntime) -> Result<(), Fail> {
+    for row in &ROWS {
+        sweep(row, rt.alloc())?;
+    }
+    Ok(())
+}

@@ -1,0 +1,163 @@
+//! Meshes made from lists of links, and lists that are refused.
+
+use dcel_bench::checks::{holds, same};
+use dcel_bench::growths::cut_triangle;
+use dcel_bench::meshes::{
+    CUT_TRIANGLE, Mesh, check_adjacent_edges, check_links, check_out_edges, counts,
+};
+use dcel_bench::require;
+use spade_dcel::handles::FixedDirectedEdgeHandle;
+use spade_dcel::operations::{EdgeData, Fault, LinksError, MeshData, from_links};
+use std::alloc::{AllocError, Global};
+use std::test::Fail;
+
+type Data = MeshData<i64, i64, i64, i64>;
+
+/// Links, and the numbers of vertices, edges and faces whose data are given with them.
+struct Row {
+    next: &'static [u32],
+    origin: &'static [u32],
+    face: &'static [u32],
+    counts: [u32; 3],
+    reason: LinksError,
+}
+
+const TRIANGLE: &[u32] = &[2, 5, 4, 1, 0, 3];
+
+const CORNERS: &[u32] = &[0, 1, 1, 2, 2, 0];
+
+const SIDES: &[u32] = &[0, 1, 0, 1, 0, 1];
+
+const REFUSED: [Row; 5] = [
+    Row {
+        next: TRIANGLE,
+        origin: CORNERS,
+        face: SIDES,
+        counts: [3, 2, 2],
+        reason: LinksError::Edges,
+    },
+    Row {
+        next: TRIANGLE,
+        origin: CORNERS,
+        face: SIDES,
+        counts: [2, 3, 2],
+        reason: LinksError::Links(Fault::OriginOutOfRange(3)),
+    },
+    Row {
+        next: TRIANGLE,
+        origin: CORNERS,
+        face: SIDES,
+        counts: [3, 3, 3],
+        reason: LinksError::Links(Fault::UnusedFace(2)),
+    },
+    // Face 0 lies on one side of an edge only, but its half edge comes back to itself.
+    Row {
+        next: &[0, 1],
+        origin: &[0, 1],
+        face: &[0, 1],
+        counts: [2, 1, 2],
+        reason: LinksError::Links(Fault::Apart(0)),
+    },
+    // A torus of four squares.
+    Row {
+        next: &[10, 13, 8, 15, 14, 9, 12, 11, 7, 0, 5, 2, 3, 4, 1, 6],
+        origin: &[0, 1, 1, 0, 2, 3, 3, 2, 0, 2, 1, 3, 2, 0, 3, 1],
+        face: &[0, 2, 1, 3, 2, 0, 3, 1, 1, 0, 0, 1, 3, 2, 2, 3],
+        counts: [4, 8, 4],
+        reason: LinksError::Links(Fault::NotSphere),
+    },
+];
+
+/// Data that tell their elements apart.
+fn data(alloc: Global, [vertices, edges, faces]: [u32; 3]) -> Result<Data, AllocError> {
+    let mut data = MeshData {
+        vertices: Vec::new(alloc),
+        edges: Vec::new(alloc),
+        faces: Vec::new(alloc),
+    };
+    for vertex in 0..vertices {
+        data.vertices.push(i64::from(vertex))?;
+    }
+    for edge in 0..edges {
+        let edge = i64::from(edge);
+        data.edges.push(EdgeData {
+            normalized: 100 + edge,
+            reversed: 200 + edge,
+            undirected: 300 + edge,
+        })?;
+    }
+    for face in 0..faces {
+        data.faces.push(400 + i64::from(face))?;
+    }
+    Ok(data)
+}
+
+/// The half edge after this one, its origin and its face.
+fn links_at(dcel: &Mesh, index: usize) -> Result<[u32; 3], Fail> {
+    require!(index < dcel.num_directed_edges());
+    let edge = FixedDirectedEdgeHandle::new(index);
+    require!(dcel.is_live_edge(edge.as_undirected()));
+    let edge = dcel.directed_edge(edge);
+    Ok([
+        edge.next().fix().index() as u32,
+        edge.from().fix().index() as u32,
+        edge.face().fix().index() as u32,
+    ])
+}
+
+#[test]
+fn a_mesh_is_made_of_its_links(rt: HostRuntime) -> Result<(), Fail> {
+    let dcel = cut_triangle(rt.alloc())?;
+    let mut next = Vec::new(rt.alloc());
+    let mut origin = Vec::new(rt.alloc());
+    let mut face = Vec::new(rt.alloc());
+    for index in 0..dcel.num_directed_edges() {
+        let [after, from, side] = links_at(&dcel, index)?;
+        next.push(after)?;
+        origin.push(from)?;
+        face.push(side)?;
+    }
+    let data = data(rt.alloc(), [4, 6, 4])?;
+    let Ok(made) = from_links(rt.alloc(), &next, &origin, &face, data) else {
+        return Err(Fail::new("the links of a mesh are refused"));
+    };
+    let (words, origins) = CUT_TRIANGLE;
+    check_links(&made, words, origins)?;
+    check_out_edges(&made, &[6, 10, 8, 11])?;
+    check_adjacent_edges(&made, &[4, 11, 8, 10])
+}
+
+#[test]
+fn vertices_alone_are_a_mesh(rt: HostRuntime) -> Result<(), Fail> {
+    let data = data(rt.alloc(), [3, 0, 1])?;
+    let Ok(made) = from_links(rt.alloc(), &[], &[], &[], data) else {
+        return Err(Fail::new("vertices without links are refused"));
+    };
+    same(counts(&made), [3, 0, 1], "counts")
+}
+
+/// Checks that the links are refused for this reason, and that the data come back.
+fn check_refused(row: &Row, alloc: Global) -> Result<(), Fail> {
+    let given = data(alloc, row.counts)?;
+    match from_links(alloc, row.next, row.origin, row.face, given) {
+        Ok(_) => Err(Fail::new("links of no mesh are taken")),
+        Err(refused) => {
+            same(refused.reason, row.reason, "the reason")?;
+            let [vertices, edges, faces] = row.counts;
+            let back = refused.back;
+            same(back.vertices.len(), vertices as usize, "vertices")?;
+            same(back.edges.len(), edges as usize, "edges")?;
+            same(back.faces.len(), faces as usize, "faces")?;
+            let last = back.faces.last().is_some_and(|datum| *datum >= 400);
+            holds(last, "the data of the last face")
+        }
+    }
+}
+
+#[test]
+fn other_links_are_refused(rt: HostRuntime) -> Result<(), Fail> {
+    for row in &REFUSED {
+        check_refused(row, rt.alloc())?;
+    }
+    Ok(())
+}

@@ -1,0 +1,122 @@
+//! Edges and faces as lists have them, all at once, and anchors for what is stored.
+
+ghost use Rattle.std.specs.Prelude.{◌≡◌, ◌<◌, ◌≤◌, ◌^◌, length, slice_index, vec_len};
+ghost use Rattle.dcel_store.specs.Lists.{HasPlaces, empty};
+ghost use Rattle.dcel_edits.specs.Given.{AreBelow, AreLists, edges_stored, faces_anchored, faces_stored, mesh_stored, vertices_anchored};
+
+use crate::create::put_vertices;
+use crate::links::links;
+use dcel_fixed::{FixedDirectedEdgeHandle, FixedFaceHandle, FixedVertexHandle};
+use dcel_store::{EdgeData, HalfEdgeEntry, Store};
+use std::alloc::Allocator;
+
+/// Writes vertices, edges and faces into an empty store, with the links that the lists have and the
+/// last half edge of each vertex and face as its anchor.
+pub fn put_mesh<V: Drop, DE: Drop, UE: Drop, F: Drop, A: Allocator>(
+    store: &mut Store<V, DE, UE, F, A>,
+    next: &[u32],
+    prev: &[u32],
+    origin: &[u32],
+    face: &[u32],
+    vertices: Vec<V, A>,
+    edges: Vec<EdgeData<DE, UE>, A>,
+    faces: Vec<F, A>,
+)
+    requires empty { store.old ≡ record empty {
+      vertex_room = store.old.vertex_room;
+      edge_room = store.old.edge_room;
+      face_room = store.old.face_room;
+    } }
+    requires places { HasPlaces store.old (vec_len vertices) (vec_len edges) (vec_len faces) }
+    requires lists { AreLists next.now prev.now origin.now face.now (vec_len edges) }
+    requires few { length next.now ≤ 2 ^ 32 }
+    requires vertices_below { AreBelow (vec_len vertices) origin.now }
+    requires faces_below { AreBelow (vec_len faces) face.now }
+    ensures { store.new ≡ mesh_stored store.old next.now prev.now origin.now face.now vertices.items edges.items faces.items }
+{
+    put_vertices(store, vertices);
+    put_edges(store, next, prev, origin, face, edges);
+    put_faces(store, faces);
+    anchor_vertices(store, origin);
+    anchor_faces(store, face);
+}
+
+/// Appends an edge for each datum, with the links that the lists have for its half edges.
+fn put_edges<V, DE: Drop, UE: Drop, F, A: Allocator>(
+    store: &mut Store<V, DE, UE, F, A>,
+    next: &[u32],
+    prev: &[u32],
+    origin: &[u32],
+    face: &[u32],
+    edges: Vec<EdgeData<DE, UE>, A>,
+)
+    requires lists { AreLists next.now prev.now origin.now face.now (vec_len edges) }
+    requires places { vec_len edges ≤ store.old.edge_room }
+    ensures { store.new ≡ edges_stored store.old next.now prev.now origin.now face.now edges.items }
+{
+    let mut half = 0;
+    for edge_data in edges {
+        store.push_edge(
+            entry(next, prev, origin, face, half),
+            entry(next, prev, origin, face, half + 1),
+            edge_data,
+        );
+        half += 2;
+    }
+}
+
+/// Appends a face without an anchor for each datum.
+fn put_faces<V, DE, UE, F: Drop, A: Allocator>(store: &mut Store<V, DE, UE, F, A>, faces: Vec<F, A>)
+    requires { vec_len faces ≤ store.old.face_room }
+    ensures { store.new ≡ faces_stored store.old faces.items }
+{
+    for datum in faces {
+        store.push_face(datum, None);
+    }
+}
+
+/// Anchors vertices at the half edges that start there, one after another: the last one stays.
+fn anchor_vertices<V, DE, UE, F, A: Allocator>(store: &mut Store<V, DE, UE, F, A>, origin: &[u32])
+    requires below { AreBelow (length store.old.vertex_anchors) origin.now }
+    requires few { length origin.now ≤ 2 ^ 32 }
+    ensures { store.new ≡ vertices_anchored store.old origin.now }
+{
+    for half in 0..origin.len() {
+        let vertex = FixedVertexHandle::new(origin[half] as usize);
+        store.set_vertex_anchor(vertex, Some(FixedDirectedEdgeHandle::new(half)));
+    }
+}
+
+/// Anchors faces at the half edges that lie there, one after another: the last one stays.
+fn anchor_faces<V, DE, UE, F, A: Allocator>(store: &mut Store<V, DE, UE, F, A>, face: &[u32])
+    requires below { AreBelow (length store.old.face_anchors) face.now }
+    requires few { length face.now ≤ 2 ^ 32 }
+    ensures { store.new ≡ faces_anchored store.old face.now }
+{
+    for half in 0..face.len() {
+        let number = FixedFaceHandle::new(face[half] as usize);
+        store.set_face_anchor(number, Some(FixedDirectedEdgeHandle::new(half)));
+    }
+}
+
+// The links that the lists have for a half edge.
+#[inline]
+fn entry(next: &[u32], prev: &[u32], origin: &[u32], face: &[u32], half: usize) -> HalfEdgeEntry
+    requires next_in { half < length next.now }
+    requires prev_in { half < length prev.now }
+    requires origin_in { half < length origin.now }
+    requires face_in { half < length face.now }
+    ensures { result ≡ record {
+      next = slice_index next.now half;
+      prev = slice_index prev.now half;
+      face = slice_index face.now half;
+      origin = slice_index origin.now half;
+    } }
+{
+    links(
+        FixedDirectedEdgeHandle::new(next[half] as usize),
+        FixedDirectedEdgeHandle::new(prev[half] as usize),
+        FixedFaceHandle::new(face[half] as usize),
+        FixedVertexHandle::new(origin[half] as usize),
+    )
+}

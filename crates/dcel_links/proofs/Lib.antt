@@ -1,0 +1,13 @@
+pub mod Paths
+pub mod Passing
+pub mod Stages
+pub mod Claiming
+pub mod Refuting
+pub mod Marking
+pub mod RoundWalks
+pub mod Parts
+pub mod Searching
+pub mod Turns
+pub mod Surfaces
+pub mod Meshes
+pub mod Handed

@@ -1,0 +1,34 @@
+-- What marks on faces and a count say of a claim.
+use Rattle.std.proofs.Common.{◌≡◌, ◌≢◌, ◌⊎◌, ℕ, ◌+◌, ◌/◌, ◌<◌, ◌≤◌, Bool, false, List, length, get_or, sym, ◌∙◌, arith}
+use Rattle.dcel_maps.specs.Maps.{count}
+use Rattle.dcel_links.specs.Checks.{HasEuler, HasRounds, UsesFaces}
+use Rattle.dcel_links.specs.Claims.{Claim, halves}
+use Rattle.dcel_links.specs.Faults.{IsNoSphere, IsUnused}
+use Rattle.dcel_links.specs.Marks.{Marked, MarksLabels}
+use Rattle.dcel_links.proofs.Claiming.{counts_agree}
+
+module _ (c : Claim) (sides : length c.face ≡ halves c) (marks : List Bool) (len : length marks ≡ c.faces) (marked : MarksLabels c.face marks) where
+  -- each face from `first` on is marked, and those before it need no half edge
+  pub uses_marked : (first : ℕ) → ((k : ℕ) → first ≤ k → k < length marks → Marked marks k)
+      → ((f : ℕ) → (0 < f) ⊎ (0 < halves c) → first ≤ f) → UsesFaces c
+  uses_marked first all wanted f below want =
+      let (h, b, e) = (marked f).0 (all f (wanted f want) (omega arith)) in
+      (h, omega arith, e)
+
+  pub unused_unmarked : (f : ℕ) → f < length marks → ¬ Marked marks f → (0 < f) ⊎ (0 < halves c) → IsUnused c f
+  unused_unmarked f below unmarked wanted = record {
+    below = omega arith;
+    wanted = wanted;
+    empty = λ h b e. unmarked ((marked f).1 (h, omega arith, e));
+  }
+
+module _ (c : Claim) (rounds : HasRounds c) (vertices faces : List Bool) (v : MarksLabels c.origin vertices) (f : MarksLabels c.face faces) where
+  pub euler_counted : count (λ k. get_or vertices k false) c.vertices + count (λ k. get_or faces k false) c.faces ≡ halves c / 2 + 2 → HasEuler c
+  euler_counted e some = counts_agree c rounds vertices faces v f ∙ e
+
+  pub no_sphere_counted : 0 < halves c
+      → count (λ k. get_or vertices k false) c.vertices + count (λ k. get_or faces k false) c.faces ≢ halves c / 2 + 2 → IsNoSphere c
+  no_sphere_counted some d = record {
+    some_edge = some;
+    euler = λ e. d (sym (counts_agree c rounds vertices faces v f) ∙ e);
+  }

@@ -1,0 +1,90 @@
+-- What each fault says of a claim, and in which order faults are looked for.
+use Rattle.std.specs.Prelude.{◌≡◌, ◌≢◌, ◌⊎◌, ℕ, ◌+◌, ◌/◌, ◌<◌, ◌≤◌, List, [], length, slice_index}
+use Rattle.dcel_fixed.specs.HalfEdges.{rev}
+use Rattle.dcel_maps.specs.Maps.{By, NextOrRev, Reaches, count, starts_edge}
+use Rattle.dcel_maps.specs.theory.Sound.{has_word}
+use Rattle.dcel_links.specs.Claims.{Claim, HasFewFaces, HasLists, IsFew, claimed_map, halves}
+use Rattle.dcel_links.specs.declared.fault.Fault.{Fault}
+use Rattle.dcel_links.specs.declared.fault.Fault.TheVariants.{Lengths, TooMany, NoFace, MoreFaces, NextOutOfRange, OriginOutOfRange, FaceOutOfRange, TwoLeadTo, OneEnd, Apart, LeavesFace, FaceInParts, VertexInParts, UnusedFace, NotConnected, NotSphere}
+
+-- the next half edge out of the same vertex, the other way round: `ccw` undoes it
+abbrev pub turned : List ℕ → ℕ → ℕ
+turned next h = slice_index next (rev h)
+
+-- two different half edges lead to k
+pub record TwoLead (next : List ℕ) (k : ℕ) : Type 0 where
+  pub one : ℕ
+  pub other : ℕ
+  pub one_in : one < length next
+  pub other_in : other < length next
+  pub apart : one ≢ other
+  pub one_leads : slice_index next one ≡ k
+  pub other_leads : slice_index next other ≡ k
+
+-- two half edges have the label, and steps don't lead from one to the other
+pub record InParts (n : ℕ) (step label : ℕ → ℕ) (v : ℕ) : Type 0 where
+  pub one : ℕ
+  pub other : ℕ
+  pub one_in : one < n
+  pub other_in : other < n
+  pub one_label : label one ≡ v
+  pub other_label : label other ≡ v
+  pub apart : ¬ Reaches (By step) one other
+
+-- no half edge lies on the face f, which is an inner one or that of an edge
+pub record IsUnused (c : Claim) (f : ℕ) : Type 0 where
+  pub below : f < c.faces
+  pub wanted : (0 < f) ⊎ (0 < halves c)
+  pub empty : (h : ℕ) → h < halves c → slice_index c.face h ≢ f
+
+-- h isn't reached from half edge 0
+pub record IsCutOff (c : Claim) (h : ℕ) : Type 0 where
+  pub below : h < halves c
+  pub apart : ¬ Reaches (NextOrRev (claimed_map c [])) 0 h
+
+-- vertices with a half edge, and faces with one, are not two more than the edges
+pub record IsNoSphere (c : Claim) : Type 0 where
+  pub some_edge : 0 < halves c
+  pub euler : count (starts_edge (claimed_map c [])) c.vertices + count (has_word (claimed_map c [])) c.faces ≢ halves c / 2 + 2
+
+abbrev pub Means : Claim → Fault → Type 0
+Means c Lengths = ¬ HasLists c
+Means c TooMany = ¬ IsFew c
+Means c NoFace = c.faces ≡ 0
+Means c MoreFaces = ¬ HasFewFaces c
+Means c (NextOutOfRange h) = (h < halves c) × (halves c ≤ slice_index c.next h)
+Means c (OriginOutOfRange h) = (h < halves c) × (c.vertices ≤ slice_index c.origin h)
+Means c (FaceOutOfRange h) = (h < halves c) × (c.faces ≤ slice_index c.face h)
+Means c (TwoLeadTo k) = TwoLead c.next k
+Means c (OneEnd h) = (h < halves c) × (slice_index c.origin h ≡ slice_index c.origin (rev h))
+Means c (Apart h) = (h < halves c) × (slice_index c.origin (slice_index c.next h) ≢ slice_index c.origin (rev h))
+Means c (LeavesFace h) = (h < halves c) × (slice_index c.face (slice_index c.next h) ≢ slice_index c.face h)
+Means c (FaceInParts f) = InParts (halves c) (λ h. slice_index c.next h) (λ h. slice_index c.face h) f
+Means c (VertexInParts v) = InParts (halves c) (turned c.next) (λ h. slice_index c.origin h) v
+Means c (UnusedFace f) = IsUnused c f
+Means c (NotConnected h) = IsCutOff c h
+Means c NotSphere = IsNoSphere c
+
+-- faults of an earlier stage are looked for first
+abbrev pub stage : Fault → ℕ
+stage Lengths = 0
+stage TooMany = 1
+stage NoFace = 2
+stage MoreFaces = 3
+stage (NextOutOfRange h) = 4
+stage (OriginOutOfRange h) = 4
+stage (FaceOutOfRange h) = 4
+stage (TwoLeadTo k) = 5
+stage (OneEnd h) = 6
+stage (Apart h) = 6
+stage (LeavesFace h) = 6
+stage (FaceInParts f) = 7
+stage (VertexInParts v) = 8
+stage (UnusedFace f) = 9
+stage (NotConnected h) = 10
+stage NotSphere = 11
+
+-- this is wrong, and nothing that is looked for before
+pub record IsFirst (c : Claim) (fault : Fault) : Type 0 where
+  pub means : Means c fault
+  pub first : (other : Fault) → stage other < stage fault → ¬ Means c other

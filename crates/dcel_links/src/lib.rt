@@ -1,0 +1,91 @@
+//! Claimed meshes, given as links: lists that say of each half edge what comes after it, where it
+//! starts and on which face it lies.
+//!
+//! Files, other languages and tests hold meshes in this way. [`check_links`] decides whether such
+//! lists are the links of a mesh, as `dcel_maps` has it, and if not says what is wrong: the first
+//! [`Fault`] in a fixed order. The two halves of an edge stand side by side: half edges 0 and 1 are
+//! edge 0, 2 and 3 edge 1, and so on. Face 0 is the outer face.
+#![tactic(auto)]
+
+ghost use Rattle.std.specs.Prelude.{◌≡◌, ℕ, IfErr, IfOk, List};
+ghost use Rattle.dcel_fixed.specs.HalfEdges.{rev};
+ghost use Rattle.dcel_links.specs.Claims.{IsMeshOf, claim};
+ghost use Rattle.dcel_links.specs.Faults.{IsFirst};
+
+mod fault;
+mod links;
+mod marks;
+mod rounds;
+mod search;
+mod sizes;
+mod whole;
+
+pub use fault::Fault;
+use std::alloc::{AllocError, Allocator};
+use whole::{check_all, check_each};
+
+/// Checks a claimed mesh of so many vertices and faces, whose lists have an item for each half
+/// edge: the half edge after it, the vertex that it starts at and the face that it lies on.
+///
+/// If it is a mesh, the answer is the list of half edges before each, the only one that fits. Else
+/// it is what is wrong: of all that is, one of the kind that comes first in [`Fault`]. It takes any
+/// lists and numbers.
+///
+/// It goes over the lists a fixed number of times. For each half edge it takes less than twelve
+/// bytes, and for each vertex one, once the links have passed one by one; claims of more faces than
+/// the lists can have are refused before. If memory runs out it returns `AllocError`, and says
+/// nothing.
+pub fn check_links<A: Allocator + Clone>(
+    alloc: &A,
+    next: &[u32],
+    origin: &[u32],
+    face: &[u32],
+    vertices: usize,
+    faces: usize,
+) -> Result<Result<Vec<u32, A>, Fault>, AllocError>
+    ensures mesh { IfOk result (λ found. IfOk found (λ prev.
+        IsMeshOf (claim next.now origin.now face.now vertices faces) prev.items)) }
+    ensures only { IfOk result (λ found. IfOk found (λ prev. (other : List ℕ)
+        → IsMeshOf (claim next.now origin.now face.now vertices faces) other → other ≡ prev.items)) }
+    ensures refused { IfOk result (λ found. IfErr found (λ fault. (prev : List ℕ)
+        → ¬ IsMeshOf (claim next.now origin.now face.now vertices faces) prev)) }
+    ensures first { IfOk result (λ found. IfErr found (λ fault.
+        IsFirst (claim next.now origin.now face.now vertices faces) fault)) }
+{
+    let halves = next.len();
+    let mut prev = vec![in alloc.clone()?; 0; halves]?;
+    if let Err(fault) = check_each(next, origin, face, vertices, faces, &mut prev) {
+        return Ok(Err(fault));
+    }
+    let mut turns = vec![in alloc.clone()?; 0; halves]?;
+    let mut seen = vec![in alloc.clone()?; false; halves]?;
+    let mut turned = vec![in alloc.clone()?; false; halves]?;
+    let mut reached = vec![in alloc.clone()?; false; halves]?;
+    let mut used_vertices = vec![in alloc.clone()?; false; vertices]?;
+    let mut used_faces = vec![in alloc.clone()?; false; faces]?;
+    match check_all(
+        next,
+        origin,
+        face,
+        &mut turns,
+        &mut seen,
+        &mut turned,
+        &mut reached,
+        &mut used_vertices,
+        &mut used_faces,
+    ) {
+        Ok(()) => Ok(Ok(prev)),
+        Err(fault) => Ok(Err(fault)),
+    }
+}
+
+// The other half of an edge.
+#[inline]
+pub(crate) fn other_half(half: usize) -> usize
+    ensures { result ≡ rev half }
+{
+    half ^ 1
+}
+
+#[cfg(test)]
+mod tests;

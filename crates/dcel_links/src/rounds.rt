@@ -1,0 +1,57 @@
+//! Rounds of steps, each marked whole.
+
+ghost use Rattle.std.specs.Prelude.{◌≡◌, ℕ, ◌<◌, ◌≤◌, ◌^◌, IfErr, OnOk, false, length, slice_index, slice_index_or};
+ghost use Rattle.dcel_links.specs.Checks.{AreBelow, IsWhole};
+ghost use Rattle.dcel_links.specs.Faults.{InParts};
+ghost use Rattle.dcel_links.specs.Marks.{IsBlank, IsClosed, IsOneToOne, MarksLabels, MarksRound};
+
+// Marks what steps lead to from a number, until they lead back to it.
+fn mark_round(steps: &[u32], start: usize, seen: &mut [bool])
+    requires lengths { length seen.old ≡ length steps.now }
+    requires below { AreBelow (length steps.now) steps.now }
+    requires apart { IsOneToOne steps.now }
+    requires start { start < length steps.now }
+    requires unmarked { slice_index_or seen.old start false ≡ false }
+    requires closed { IsClosed steps.now seen.old }
+    ensures { MarksRound steps.now start seen.old seen.new }
+{
+    seen[start] = true;
+    let mut at = steps[start] as usize;
+    while at != start {
+        seen[at] = true;
+        at = steps[at] as usize;
+    }
+}
+
+/// Looks for a label whose numbers are no single round of the steps. Where there is none, it marks the labels that stand.
+pub(crate) fn find_parts(
+    steps: &[u32],
+    labels: &[u32],
+    seen: &mut [bool],
+    used: &mut [bool],
+) -> Result<(), usize>
+    requires lengths { length seen.old ≡ length steps.now }
+    requires labels_length { length labels.now ≡ length steps.now }
+    requires below { AreBelow (length steps.now) steps.now }
+    requires labels_below { AreBelow (length used.old) labels.now }
+    requires apart { IsOneToOne steps.now }
+    requires along { (x : ℕ) → x < length steps.now
+        → slice_index labels.now (slice_index steps.now x) ≡ slice_index labels.now x }
+    requires blank { IsBlank seen.old }
+    requires blank_labels { IsBlank used.old }
+    ensures whole { OnOk result (IsWhole (length steps.now) (λ x. slice_index steps.now x) (λ x. slice_index labels.now x)) }
+    ensures used { OnOk result (MarksLabels labels.now used.new) }
+    ensures parts { IfErr result (λ v. InParts (length steps.now) (λ x. slice_index steps.now x) (λ x. slice_index labels.now x) v) }
+{
+    for start in 0..steps.len() {
+        if !seen[start] {
+            let label = labels[start] as usize;
+            if used[label] {
+                return Err(label);
+            }
+            used[label] = true;
+            mark_round(steps, start, seen);
+        }
+    }
+    Ok(())
+}

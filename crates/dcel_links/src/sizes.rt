@@ -1,0 +1,66 @@
+//! How many there are of each kind, and Euler's formula.
+
+ghost use Rattle.std.specs.Prelude.{◌≡◌, ◌+◌, ◌/◌, ◌<◌, ◌≤◌, ◌^◌, ◌↔◌, IfErr, IsTrue, OnOk};
+ghost use Rattle.dcel_links.specs.Checks.{Passes};
+ghost use Rattle.dcel_links.specs.Claims.{HasLists, IsFew, claim};
+ghost use Rattle.dcel_links.specs.Faults.{Means, stage};
+
+use crate::Fault;
+
+// So many numbers of 32 bits there are.
+const MOST: usize = 1 << 32;
+
+/// Looks for what is wrong with how many there are.
+///
+/// A claim that passes has no more faces than edges and two, so that marks on them take no more
+/// memory than its lists.
+pub(crate) fn find_wrong_sizes(
+    next: &[u32],
+    origin: &[u32],
+    face: &[u32],
+    vertices: usize,
+    faces: usize,
+) -> Result<(), Fault>
+    ensures lists { OnOk result (HasLists (claim next.now origin.now face.now vertices faces)) }
+    ensures few { OnOk result (IsFew (claim next.now origin.now face.now vertices faces)) }
+    ensures some_face { OnOk result (0 < faces) }
+    ensures passed { OnOk result (Passes (claim next.now origin.now face.now vertices faces) 4) }
+    ensures fault { IfErr result (Means (claim next.now origin.now face.now vertices faces)) }
+    ensures before { IfErr result (λ fault. Passes (claim next.now origin.now face.now vertices faces) (stage fault)) }
+{
+    if next.len() % 2 != 0 {
+        return Err(Fault::Lengths);
+    }
+    if origin.len() != next.len() {
+        return Err(Fault::Lengths);
+    }
+    if face.len() != next.len() {
+        return Err(Fault::Lengths);
+    }
+    if next.len() > MOST {
+        return Err(Fault::TooMany);
+    }
+    if vertices > MOST {
+        return Err(Fault::TooMany);
+    }
+    if faces > MOST {
+        return Err(Fault::TooMany);
+    }
+    if faces == 0 {
+        return Err(Fault::NoFace);
+    }
+    if faces > next.len() / 2 + 2 {
+        return Err(Fault::MoreFaces);
+    }
+    Ok(())
+}
+
+/// Whether so many vertices, half edges and faces are those of a sphere.
+#[inline]
+pub(crate) fn is_sphere(vertices: usize, half_edges: usize, faces: usize) -> bool
+    requires few_vertices { vertices ≤ 2 ^ 32 }
+    requires few_faces { faces ≤ 2 ^ 32 }
+    ensures { IsTrue result ↔ (vertices + faces ≡ half_edges / 2 + 2) }
+{
+    vertices + faces == half_edges / 2 + 2
+}

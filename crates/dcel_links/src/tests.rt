@@ -1,0 +1,227 @@
+use crate::{Fault, check_links};
+use std::alloc::Global;
+use std::process::Abort;
+use std::test::Fail;
+
+/// A claim, and the list backwards or the fault that is wanted.
+#[derive(Clone, Copy, Drop)]
+struct Row {
+    next: &'static [u32],
+    origin: &'static [u32],
+    face: &'static [u32],
+    vertices: usize,
+    faces: usize,
+    wanted: Result<&'static [u32], Fault>,
+}
+
+const TRIANGLE: &[u32] = &[2, 5, 4, 1, 0, 3];
+
+const CORNERS: &[u32] = &[0, 1, 1, 2, 2, 0];
+
+const SIDES: &[u32] = &[0, 1, 0, 1, 0, 1];
+
+const TWO_TRIANGLES: &[u32] = &[2, 5, 4, 1, 0, 3, 8, 11, 10, 7, 6, 9];
+
+fn check(rt: &impl Abort, alloc: Global, rows: &[Row]) -> Result<(), Fail> {
+    for row in rows {
+        let found = check_links(
+            &alloc,
+            row.next,
+            row.origin,
+            row.face,
+            row.vertices,
+            row.faces,
+        )?;
+        match (found, row.wanted) {
+            (Ok(prev), Ok(list)) => assert!(rt; prev.as_slice() == list),
+            (Err(fault), Err(wanted)) => assert!(rt; fault == wanted),
+            _ => assert!(rt; false),
+        }
+    }
+    Ok(())
+}
+
+/// A triangle with these lists in place of its own, where they are given.
+fn triangle(
+    next: &'static [u32],
+    origin: &'static [u32],
+    face: &'static [u32],
+    wanted: Result<&'static [u32], Fault>,
+) -> Row {
+    Row {
+        next,
+        origin,
+        face,
+        vertices: 3,
+        faces: 2,
+        wanted,
+    }
+}
+
+#[test]
+fn meshes_are_told(rt: HostRuntime) -> Result<(), Fail> {
+    let edge = Row {
+        next: &[1, 0],
+        origin: &[0, 1],
+        face: &[0, 0],
+        vertices: 2,
+        faces: 1,
+        wanted: Ok(&[1, 0]),
+    };
+    let bare_vertices = Row {
+        next: &[],
+        origin: &[],
+        face: &[],
+        vertices: 5,
+        faces: 1,
+        wanted: Ok(&[]),
+    };
+    let bare_vertex = Row {
+        next: TRIANGLE,
+        origin: CORNERS,
+        face: SIDES,
+        vertices: 4,
+        faces: 2,
+        wanted: Ok(&[4, 3, 0, 5, 2, 1]),
+    };
+    let alone = triangle(TRIANGLE, CORNERS, SIDES, Ok(&[4, 3, 0, 5, 2, 1]));
+    check(&rt, rt.alloc(), &[edge, bare_vertices, bare_vertex, alone])
+}
+
+#[test]
+fn links_that_do_not_fit_are_told(rt: HostRuntime) -> Result<(), Fail> {
+    let two_lead = triangle(
+        &[2, 5, 4, 1, 0, 1],
+        CORNERS,
+        SIDES,
+        Err(Fault::TwoLeadTo(1)),
+    );
+    let no_next = triangle(
+        &[2, 5, 4, 1, 0, 6],
+        CORNERS,
+        SIDES,
+        Err(Fault::NextOutOfRange(5)),
+    );
+    let no_origin = triangle(
+        TRIANGLE,
+        &[0, 1, 1, 2, 2, 3],
+        SIDES,
+        Err(Fault::OriginOutOfRange(5)),
+    );
+    let no_face = triangle(
+        TRIANGLE,
+        CORNERS,
+        &[0, 1, 0, 1, 2, 1],
+        Err(Fault::FaceOutOfRange(4)),
+    );
+    let loops = triangle(TRIANGLE, &[0, 0, 0, 0, 0, 0], SIDES, Err(Fault::OneEnd(0)));
+    let apart = triangle(TRIANGLE, &[0, 2, 1, 2, 2, 0], SIDES, Err(Fault::Apart(0)));
+    let leaves = triangle(
+        TRIANGLE,
+        CORNERS,
+        &[0, 1, 0, 1, 1, 1],
+        Err(Fault::LeavesFace(2)),
+    );
+    check(
+        &rt,
+        rt.alloc(),
+        &[two_lead, no_next, no_origin, no_face, loops, apart, leaves],
+    )
+}
+
+#[test]
+fn numbers_that_do_not_fit_are_told(rt: HostRuntime) -> Result<(), Fail> {
+    let bare = |vertices, faces, wanted| Row {
+        next: &[],
+        origin: &[],
+        face: &[],
+        vertices,
+        faces,
+        wanted: Err(wanted),
+    };
+    let odd = Row {
+        next: &[0],
+        origin: &[0],
+        face: &[0],
+        vertices: 1,
+        faces: 1,
+        wanted: Err(Fault::Lengths),
+    };
+    let short = triangle(TRIANGLE, &[0, 1, 1, 2], SIDES, Err(Fault::Lengths));
+    check(
+        &rt,
+        rt.alloc(),
+        &[
+            odd,
+            short,
+            bare(1 << 33, 1, Fault::TooMany),
+            bare(0, 0, Fault::NoFace),
+            bare(0, 3, Fault::MoreFaces),
+            bare(0, 2, Fault::UnusedFace(1)),
+        ],
+    )
+}
+
+#[test]
+fn surfaces_are_told(rt: HostRuntime) -> Result<(), Fail> {
+    let two = |origin, face, vertices, faces, wanted| Row {
+        next: TWO_TRIANGLES,
+        origin,
+        face,
+        vertices,
+        faces,
+        wanted: Err(wanted),
+    };
+    let torus = Row {
+        next: &[10, 13, 8, 15, 14, 9, 12, 11, 7, 0, 5, 2, 3, 4, 1, 6],
+        origin: &[0, 1, 1, 0, 2, 3, 3, 2, 0, 2, 1, 3, 2, 0, 3, 1],
+        face: &[0, 2, 1, 3, 2, 0, 3, 1, 1, 0, 0, 1, 3, 2, 2, 3],
+        vertices: 4,
+        faces: 4,
+        wanted: Err(Fault::NotSphere),
+    };
+    let unused = Row {
+        next: TRIANGLE,
+        origin: CORNERS,
+        face: SIDES,
+        vertices: 3,
+        faces: 3,
+        wanted: Err(Fault::UnusedFace(2)),
+    };
+    check(
+        &rt,
+        rt.alloc(),
+        &[
+            torus,
+            unused,
+            two(
+                &[0, 1, 1, 2, 2, 0, 3, 4, 4, 5, 5, 3],
+                &[0, 1, 0, 1, 0, 1, 2, 3, 2, 3, 2, 3],
+                6,
+                4,
+                Fault::NotConnected(6),
+            ),
+            two(
+                &[0, 1, 1, 2, 2, 0, 3, 4, 4, 5, 5, 3],
+                &[0, 1, 0, 1, 0, 1, 0, 2, 0, 2, 0, 2],
+                6,
+                3,
+                Fault::FaceInParts(0),
+            ),
+            two(
+                &[0, 1, 1, 2, 2, 0, 0, 3, 3, 4, 4, 0],
+                &[0, 1, 0, 1, 0, 1, 2, 3, 2, 3, 2, 3],
+                5,
+                4,
+                Fault::VertexInParts(0),
+            ),
+        ],
+    )
+}
+
+#[test]
+fn faults_are_sentences(rt: HostRuntime) -> Result<(), Fail> {
+    let text = format!(in rt.alloc(); "{}", Fault::TwoLeadTo(7))?;
+    assert_eq!(rt; text.as_str(), "two half edges lead to half edge 7");
+    Ok(())
+}
