@@ -86,6 +86,13 @@ impl<A: Allocator + Clone> Session<A> {
         self.line.add_some(rest);
     }
 
+    /// Lends the mesh, as the lines that were answered have left it.
+    pub fn mesh(&self) -> &LineMesh<A>
+        ensures { result.now ≡ self.now.mesh }
+    {
+        &self.mesh
+    }
+
     /// Answers a last line that has no line feed, unless it is empty.
     pub fn finish<K: LineSink>(&mut self, out: &mut Writer<'_, K>, limit: usize)
         requires { limit ≤ 2 ^ 31 }
