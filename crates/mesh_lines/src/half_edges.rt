@@ -1,6 +1,7 @@
 //! The links of half edges.
 
-ghost use Rattle.std.specs.Prelude.{◌≡◌, ◌≤◌, length};
+ghost use Rattle.std.specs.Prelude.{◌≡◌, ◌≢◌, ◌*◌, ◌≤◌, ◌<◌, IfOk, length};
+ghost use Rattle.mesh_lines.specs.HalfEdges.{links_of, links_filled, Leaves, HasHalfEdges};
 
 use crate::status::{NO_MEMORY, done_or_short};
 use dcel_commands::commands::{LineMesh, MAX_LIMIT, Session, StdSink, Writer};
@@ -27,7 +28,9 @@ pub struct MeshLinesHalfEdge {
 }
 
 /// Answers the lines on an empty mesh, and returns the conversation when all are answered.
-fn converse(alloc: Global, lines: &[u8]) -> Result<Session<Global>, AllocError> {
+fn converse(alloc: Global, lines: &[u8]) -> Result<Session<Global>, AllocError>
+    ensures { IfOk result (λ session. Leaves lines.now session.mesh) }
+{
     let mut session = Session::new(alloc)?;
     let mut nowhere = StdSink::new(io::sink());
     let mut out = Writer::new(&mut nowhere);
@@ -39,7 +42,10 @@ fn converse(alloc: Global, lines: &[u8]) -> Result<Session<Global>, AllocError> 
 /// Returns the links of a half edge.
 ///
 /// Asks for a number in range.
-fn links(mesh: &LineMesh<Global>, number: FixedDirectedEdgeHandle) -> MeshLinesHalfEdge {
+fn links(mesh: &LineMesh<Global>, number: FixedDirectedEdgeHandle) -> MeshLinesHalfEdge
+    requires { number < 2 * mesh.now.shape.edges }
+    ensures { result ≡ links_of mesh.now.shape number }
+{
     if !mesh.is_live_edge(number.as_undirected()) {
         return MeshLinesHalfEdge {
             next: NONE,
@@ -58,10 +64,14 @@ fn links(mesh: &LineMesh<Global>, number: FixedDirectedEdgeHandle) -> MeshLinesH
 }
 
 /// Puts the links of the half edges into the buffer by their numbers, as many as fit.
-fn put_links(mesh: &LineMesh<Global>, half_edges: &mut [MeshLinesHalfEdge]) {
+fn put_links(mesh: &LineMesh<Global>, half_edges: &mut [MeshLinesHalfEdge])
+    ensures { half_edges.new ≡ links_filled mesh.now.shape half_edges.old }
+{
     let fitting = mesh.num_directed_edges().min(half_edges.len());
-    for number in 0..fitting {
+    let mut number = 0;
+    while number < fitting {
         half_edges[number] = links(mesh, FixedDirectedEdgeHandle::new(number));
+        number += 1;
     }
 }
 
@@ -78,7 +88,13 @@ pub extern "C" fn mesh_lines_half_edges(
     lines: &[u8],
     half_edges: &mut [MeshLinesHalfEdge],
     needed: &mut u64,
-) -> u32 {
+) -> u32
+    ensures half_edges { result ≢ 2 → HasHalfEdges lines.now half_edges.old half_edges.new needed.new }
+    ensures done { result ≡ 0 → needed.new ≤ length half_edges.old }
+    ensures short { result ≡ 1 → length half_edges.old < needed.new }
+    ensures no_memory { result ≡ 2 → (half_edges.new ≡ half_edges.old) × (needed.new ≡ 0) }
+    ensures no_other { result ≤ 2 }
+{
     let session = match converse(alloc, lines) {
         Err(_) => {
             *needed = 0;

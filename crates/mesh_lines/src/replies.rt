@@ -1,6 +1,7 @@
 //! The replies to lines.
 
-ghost use Rattle.std.specs.Prelude.{◌≡◌, ◌≤◌, length};
+ghost use Rattle.std.specs.Prelude.{◌≡◌, ◌≢◌, ◌≤◌, ◌<◌, length};
+ghost use Rattle.mesh_lines.specs.Replies.{HasReplies};
 
 use crate::status::{NO_MEMORY, done_or_short};
 use dcel_commands::commands::{MAX_LIMIT, StdSink, StdSource, run};
@@ -18,7 +19,13 @@ pub extern "C" fn mesh_lines_replies(
     lines: &[u8],
     replies: &mut [u8],
     needed: &mut u64,
-) -> u32 {
+) -> u32
+    ensures replies { result ≢ 2 → HasReplies lines.now replies.old replies.new needed.new }
+    ensures done { result ≡ 0 → needed.new ≤ length replies.old }
+    ensures short { result ≡ 1 → length replies.old < needed.new }
+    ensures no_memory { result ≡ 2 → (replies.new ≡ replies.old) × (needed.new ≡ 0) }
+    ensures no_other { result ≤ 2 }
+{
     let mut source = StdSource::new(lines);
     let mut sink = StdSink::new(Vec::new(alloc));
     if run(alloc, &mut source, &mut sink, MAX_LIMIT).is_err() {
