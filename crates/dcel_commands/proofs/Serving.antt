@@ -9,7 +9,7 @@ use Rattle.dcel_text.specs.Output.{Writes}
 use Rattle.dcel_commands.specs.Answering.{WritesSome}
 use Rattle.dcel_commands.specs.Rules.{State}
 use Rattle.dcel_commands.specs.Talk.{Answers, Talk, bad_line, good_line, no_list}
-use Rattle.dcel_commands.specs.Stage.{Stage, Goes, Leads, Serves, Ends}
+use Rattle.dcel_commands.specs.Stage.{Stage, Goes, Leads, Serves, Ends, closing}
 use Rattle.dcel_text.proofs.LineEnds.{lines-nil, lines-feed, joined-append, joined-cons, joined-whole, joined-unended, lines-begun, lines-line}
 use Rattle.dcel_text.proofs.Writing.{writes_nothing, writes_and, writes_text}
 
@@ -85,6 +85,10 @@ leads_line limit m t begun xs text h a u rest more g =
 goes_nowhere : (limit : ℕ) (p : Stage) → p.begun ≡ [] → Goes limit true p [] []
 goes_nowhere limit p e = subst (λ (x : List (List ℕ)). Talk limit p.mesh x []) (sym (ap (λ (x : List ℕ). joined true x (lines true [])) e ∙ lines-nil true)) refl
 
+closing-begun : (begun : List ℕ) → begun ≢ [] → closing begun ≡ line_feed ∷ []
+closing-begun [] some = absurd (some refl)
+closing-begun (b ∷ begun) some = refl
+
 -- ---- the same with what was written
 
 module _ {K : Type 0} {has_failed : K → Bool} {contents : K → Option (List ℕ)} where
@@ -127,6 +131,12 @@ module _ {K : Type 0} {has_failed : K → Bool} {contents : K → Option (List �
   serves_bytes {limit} {p} {q} {xs} {ys} {out} {new} e f = subst (λ (x : List ℕ). Serves has_failed contents limit p q x out new) e f
 
   -- ---- the end
+
+  pub serves_unbegun : {limit : ℕ} {p : Stage} {out : Writer K} → p.begun ≡ [] → Serves has_failed contents limit p p (closing p.begun) out out
+  serves_unbegun {limit} {p} {out} e = subst (λ (x : List ℕ). Serves has_failed contents limit p p (closing x) out out) (sym e) serves_nothing
+
+  pub serves_begun : {limit : ℕ} {p q : Stage} {out new : Writer K} → p.begun ≢ [] → Serves has_failed contents limit p q ([] ++ line_feed ∷ []) out new → Serves has_failed contents limit p q (closing p.begun) out new
+  serves_begun {p} some f = serves_bytes (sym (closing-begun p.begun some)) f
 
   pub ends_nothing : {limit : ℕ} {p : Stage} {out : Writer K} → p.begun ≡ [] → Ends has_failed contents limit p out out
   ends_nothing {limit} {p} e = record { text = []; writes = writes_nothing; goes = goes_nowhere limit p e }

@@ -1,6 +1,6 @@
 -- A conversation that has come some way.
-use Rattle.std.specs.Prelude.{ℕ, Bool, true, List, [], ◌++◌, Option}
-use Rattle.dcel_text.specs.Lines.{lines, joined}
+use Rattle.std.specs.Prelude.{ℕ, Bool, true, List, [], ◌∷◌, ◌++◌, Option}
+use Rattle.dcel_text.specs.Lines.{lines, joined, line_feed}
 use Rattle.dcel_text.specs.declared.output.Writer.{Writer}
 use Rattle.dcel_text.specs.Output.{Writes}
 use Rattle.dcel_commands.specs.Rules.{State}
@@ -10,6 +10,11 @@ use Rattle.dcel_commands.specs.Talk.{Talk}
 pub record Stage : Type 0 where
   pub mesh : State
   pub begun : List ℕ
+
+-- what ends a line that has begun
+abbrev pub closing : List ℕ → List ℕ
+closing [] = []
+closing (b ∷ bs) = line_feed ∷ []
 
 -- from there the bytes to come may be answered by this text
 abbrev pub Goes : ℕ → Bool → Stage → List ℕ → List ℕ → Type 0

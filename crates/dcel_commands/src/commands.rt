@@ -8,9 +8,12 @@ mod reply;
 
 pub use crate::faults::RunFault;
 pub use crate::refusal::Refusal;
+pub use crate::request::LineMesh;
 pub use crate::run::run;
+pub use crate::session::Session;
 pub use command::Command;
 pub use dcel_text::faults::Failed;
+pub use dcel_text::output::Writer;
 pub use dcel_text::sink::{LineSink, StdSink};
 pub use dcel_text::source::{LineSource, StdSource};
 pub use dispatch::{MAX_LIMIT, apply};

@@ -2,7 +2,7 @@
 
 ghost use Rattle.std.specs.Prelude.{◌≡◌, ◌≤◌, ◌^◌, ◌++◌, ◌∷◌, ℕ, [], IfOk};
 ghost use Rattle.dcel_text.specs.Lines.{HasNoFeed, line_feed};
-ghost use Rattle.dcel_commands.specs.Stage.{Stage, Serves, Ends};
+ghost use Rattle.dcel_commands.specs.Stage.{Stage, Serves, Ends, closing};
 ghost use Rattle.dcel_commands.specs.Talk.{start};
 
 use crate::answering::answer;
@@ -86,10 +86,21 @@ impl<A: Allocator + Clone> Session<A> {
         self.line.add_some(rest);
     }
 
+    /// Lends the mesh, as the lines that were answered have left it.
+    pub fn mesh(&self) -> &LineMesh<A>
+        ensures { result.now ≡ self.now.mesh }
+    {
+        &self.mesh
+    }
+
     /// Answers a last line that has no line feed, unless it is empty.
+    ///
+    /// No line has begun then, as if a line feed had ended the last one.
     pub fn finish<K: LineSink>(&mut self, out: &mut Writer<'_, K>, limit: usize)
         requires { limit ≤ 2 ^ 31 }
-        ensures { Ends K.has_failed K.contents limit self.old out.old out.new }
+        ensures ends { Ends K.has_failed K.contents limit self.old out.old out.new }
+        ensures serves { Serves K.has_failed K.contents limit self.old self.new (closing self.old.begun) out.old out.new }
+        ensures empty { self.new.begun ≡ [] }
     {
         if self.line.is_empty() {
             return;

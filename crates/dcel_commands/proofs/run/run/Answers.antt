@@ -29,14 +29,14 @@ returns-then-failed-clause-write g c = λ _.
     let so_far = c.loop-session.invariant in
     let begun = c.new-out.ensures in
     last_write_failed (read_out _ _ _ so_far.bytes c.fill.new.buf c.in-Ok-fill.n so_far.read c.in-Ok-fill.ensures.bytes (search rules) (search rules))
-    so_far.served (ends_flushed c.finish.ensures c.flush.ensures.writes) begun.sink begun.empty (search rules)
+    so_far.served (ends_flushed c.finish.ensures.ends c.flush.ensures.writes) begun.sink begun.empty (search rules)
 
 pub returns-then-n-eq0-clause-ok : goal.returns-then-n-eq0-clause-ok
 returns-then-n-eq0-clause-ok g c =
     let so_far = c.loop-session.invariant in
     let begun = c.new-out.ensures in
     answered_all (read_out _ _ _ so_far.bytes c.fill.new.buf c.in-Ok-fill.n so_far.read c.in-Ok-fill.ensures.bytes (search rules) (search rules))
-    so_far.served (ends_flushed c.finish.ensures c.flush.ensures.writes) begun.sink begun.empty (search rules) c.flush.ensures.empty (sym c.failed.ensures ∙ c.if-failed.false)
+    so_far.served (ends_flushed c.finish.ensures.ends c.flush.ensures.writes) begun.sink begun.empty (search rules) c.flush.ensures.empty (sym c.failed.ensures ∙ c.if-failed.false)
 
 pub returns-then-failed-2-clause-write : goal.returns-then-failed-2-clause-write
 returns-then-failed-2-clause-write g c = λ _.

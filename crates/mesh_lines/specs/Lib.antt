@@ -1,0 +1,2 @@
+pub mod HalfEdges
+pub mod Replies

@@ -1,0 +1,57 @@
+/* Talks with a mesh by lines: a triangle, a vertex in it, a line that is refused, and one that is
+   none. */
+#include "mesh_lines.h"
+
+#include <inttypes.h>
+#include <stdio.h>
+#include <stdlib.h>
+#include <string.h>
+
+static const char LINES[] = "triangle 7 8 9\nappend 10\ninsert 3 1\nflip 9\nfoo\nout 3\n";
+static const size_t LENGTH = sizeof LINES - 1;
+
+/* Returns the replies, how many bytes they are, and NULL if there was no memory. */
+static uint8_t *replies_to(const char *lines, size_t length, uint64_t *needed) {
+    uint8_t first[16];
+    uint32_t status = mesh_lines_replies((const uint8_t *)lines, length, first, sizeof first, needed);
+    printf("a buffer of %zu bytes: status %" PRIu32 ", %" PRIu64 " needed\n", sizeof first, status,
+           *needed);
+    if (status == MESH_LINES_NO_MEMORY)
+        return NULL;
+    size_t room = (size_t)*needed + 1; /* never 0 bytes */
+    uint8_t *replies = malloc(room);
+    if (replies == NULL)
+        return NULL;
+    status = mesh_lines_replies((const uint8_t *)lines, length, replies, room, needed);
+    printf("a buffer of %zu bytes: status %" PRIu32 "\n", room, status);
+    if (status != MESH_LINES_DONE) {
+        free(replies);
+        return NULL;
+    }
+    return replies;
+}
+
+/* Prints the half edges of the mesh that the lines leave, and returns whether all were there. */
+static int show_half_edges(const char *lines, size_t length) {
+    mesh_lines_half_edge half_edges[32];
+    uint64_t needed;
+    uint32_t status = mesh_lines_half_edges((const uint8_t *)lines, length, half_edges, 32, &needed);
+    if (status != MESH_LINES_DONE)
+        return 0;
+    for (uint64_t h = 0; h < needed; h++)
+        printf("half edge %" PRIu64 ": from %" PRIu32 " to %" PRIu32 ", next %" PRIu32
+               ", prev %" PRIu32 ", face %" PRIu32 "\n",
+               h, half_edges[h].origin, half_edges[h ^ 1].origin, half_edges[h].next,
+               half_edges[h].prev, half_edges[h].face);
+    return 1;
+}
+
+int main(void) {
+    uint64_t needed;
+    uint8_t *replies = replies_to(LINES, LENGTH, &needed);
+    if (replies == NULL)
+        return EXIT_FAILURE;
+    fwrite(replies, 1, (size_t)needed, stdout);
+    free(replies);
+    return show_half_edges(LINES, LENGTH) ? EXIT_SUCCESS : EXIT_FAILURE;
+}
