@@ -104,7 +104,7 @@ fn off_line(place: Place, from: Place, to: Place) -> Place {
     let way = to.minus(from);
     let left = way.unit().left();
     let distance = left.dot(place.minus(from));
-    let free = 0.2 * way.length();
+    let free = 0.13 * way.length();
     if distance < free && -distance < free {
         place.plus(left.times(free - distance))
     } else {

@@ -1,7 +1,7 @@
 //! What is drawn of a mesh: a stroke for each half edge, a patch for each face, a dot for each
 //! vertex.
 
-ghost use Rattle.std.specs.Prelude.{◌≡◌, ◌*◌, IfOk, All, map};
+ghost use Rattle.std.specs.Prelude.{◌≡◌, ◌⊎◌, ◌*◌, IfOk, IfSome, IsNone, Some, None, All, map};
 ghost use Rattle.dcel_maps.specs.Numbers.{numbers_between};
 ghost use Rattle.dcel_maps.specs.Shapes.{IsLive, face_count};
 ghost use Rattle.spade_dcel.specs.Handles.{mesh_behind, number_of};
@@ -59,7 +59,10 @@ pub struct Stroke {
 
 impl Stroke {
     /// Returns the line along which the half edge is drawn, if its ends have places.
-    pub fn line(&self) -> Option<Line> {
+    pub fn line(&self) -> Option<Line>
+        ensures some { IfSome result (λ line. (self.now.from ≡ Some line.from) × (self.now.to ≡ Some line.to) × (line.bend ≡ self.now.bend)) }
+        ensures none { IsNone result → (self.now.from ≡ None) ⊎ (self.now.to ≡ None) }
+    {
         Some(Line {
             from: self.from?,
             to: self.to?,

@@ -1,5 +1,7 @@
 //! Points of the plane of a picture, in which y goes up.
 
+ghost use Rattle.std.specs.Prelude.{◌≡◌};
+
 /// A point, or the way from one point to another.
 #[derive(Clone, Copy, PartialEq, Debug, Drop)]
 pub struct Place {
@@ -11,7 +13,9 @@ pub struct Place {
 
 impl Place {
     /// The point with these coordinates.
-    pub const fn new(x: f64, y: f64) -> Self {
+    pub const fn new(x: f64, y: f64) -> Self
+        ensures { (result.x ≡ x) × (result.y ≡ y) }
+    {
         Place { x, y }
     }
 

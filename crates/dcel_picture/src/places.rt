@@ -49,7 +49,9 @@ pub fn bow<V, DE, UE, F, A: Allocator, B: Allocator + Copy>(
     mesh: &Dcel<V, DE, UE, F, A>,
     before: Option<&Dcel<V, DE, UE, F, A>>,
     places: &mut Places<B>,
-) -> Result<(), AllocError> {
+) -> Result<(), AllocError>
+    ensures { places.new.vertices.items ≡ places.old.vertices.items }
+{
     let ranks = ranks(alloc, mesh, before)?;
     for number in 0..mesh.num_undirected_edges() {
         let half = FixedUndirectedEdgeHandle::new(number).as_directed();

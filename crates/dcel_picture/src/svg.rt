@@ -1,9 +1,11 @@
 //! Pictures as SVG.
 
+mod arrow;
 mod dots;
 mod labels;
 mod numbers;
 mod patches;
+mod room;
 mod strokes;
 
 use crate::frame::Frame;
@@ -12,6 +14,7 @@ use crate::svg::dots::write_dots;
 use crate::svg::labels::write_labels;
 use crate::svg::numbers::{At, Tenths};
 use crate::svg::patches::{write_given_up_patches, write_live_patches};
+use crate::svg::room::Room;
 use crate::svg::strokes::{write_edges, write_strokes};
 use std::alloc::Allocator;
 use std::io::{self, Write};
@@ -73,8 +76,9 @@ pub fn write_svg<B: Allocator + Copy>(
     write_live_patches(picture, &frame, out)?;
     write_given_up_patches(picture, &frame, out)?;
     write_edges(picture, &frame, out)?;
-    write_strokes(picture, &frame, style, out)?;
-    write_labels(picture, &frame, out)?;
+    let mut room = Room::around(picture, &frame)?;
+    write_strokes(picture, &frame, style, &mut room, out)?;
+    write_labels(picture, &frame, &mut room, out)?;
     write_dots(picture, &frame, out)?;
     writeln!(out, "</svg>")
 }

@@ -7,6 +7,9 @@ use crate::svg::numbers::Tenths;
 use std::alloc::Allocator;
 use std::io::{self, Write};
 
+/// How large a vertex is.
+pub(crate) const RADIUS: f64 = 12.0;
+
 /// Writes all vertices: those without a place in rows below the others.
 pub(crate) fn write_dots<B: Allocator>(
     picture: &Picture<B>,
@@ -35,9 +38,10 @@ fn write_dot(dot: Dot, place: Place, out: &mut impl Write) -> io::Result<()> {
     };
     writeln!(
         out,
-        "<circle class=\"{class}\" cx=\"{}\" cy=\"{}\" r=\"12\"/><text class=\"name\" x=\"{}\" y=\"{}\">{}</text>",
+        "<circle class=\"{class}\" cx=\"{}\" cy=\"{}\" r=\"{}\"/><text class=\"name\" x=\"{}\" y=\"{}\">{}</text>",
         Tenths(place.x),
         Tenths(-place.y),
+        Tenths(RADIUS),
         Tenths(place.x),
         Tenths(4.3 - place.y),
         dot.number

@@ -4,38 +4,34 @@ use crate::frame::Frame;
 use crate::picture::{Line, Patch, Picture, State};
 use crate::place::Place;
 use crate::svg::numbers::Tenths;
-use std::alloc::{AllocError, Allocator};
+use crate::svg::room::{Area, Room};
+use std::alloc::Allocator;
 use std::io::{self, Write};
 use std::num::nearest_usize_to_f64;
 
 /// How many places are tried in each direction.
 const TRIED: usize = 18;
 
-/// How far the number of a face stays from all else, if it can.
-const FREE: f64 = 24.0;
-
 /// Writes the numbers of faces: that of the outer face in the corner, each other one inside.
-pub(crate) fn write_labels<B: Allocator + Copy>(
+pub(crate) fn write_labels<B: Allocator>(
     picture: &Picture<B>,
     frame: &Frame,
+    room: &mut Room<B>,
     out: &mut impl Write,
 ) -> io::Result<()> {
     let corner = frame.corner().plus(Place::new(22.0, -24.0));
     write_label("face", 0, corner, out)?;
-    let nothing = Taken::nothing(*picture.strokes.allocator());
-    let mut taken = Taken::by_given_up(picture, frame)?;
     for patch in picture.patches.iter().skip(1) {
-        if patch.state == State::GivenUp && !patch.outline.is_empty() {
-            let place = free_place(Inside::of(patch, frame), &nothing);
-            write_label("face over", patch.number, place, out)?;
-            taken.spots.push(place)?;
+        if patch.outline.is_empty() {
+            continue;
         }
-    }
-    for patch in picture.patches.iter().skip(1) {
-        if patch.state == State::Live && !patch.outline.is_empty() {
-            let place = free_place(Inside::of(patch, frame), &taken);
-            write_label("face", patch.number, place, out)?;
-        }
+        let class = match patch.state {
+            State::Live => "face",
+            State::GivenUp => "face over",
+        };
+        let place = free_place(Inside::of(patch, frame), room);
+        room.take(label_area(place))?;
+        write_label(class, patch.number, place, out)?;
     }
     Ok(())
 }
@@ -49,50 +45,9 @@ fn write_label(class: &str, number: usize, place: Place, out: &mut impl Write) -
     )
 }
 
-/// What the numbers of live faces are to leave free: edges, vertices and numbers that are given up.
-#[derive(Drop)]
-struct Taken<B: Allocator> {
-    lines: Vec<Line, B>,
-    spots: Vec<Place, B>,
-}
-
-impl<B: Allocator + Copy> Taken<B> {
-    fn nothing(alloc: B) -> Self {
-        Taken {
-            lines: Vec::new(alloc),
-            spots: Vec::new(alloc),
-        }
-    }
-
-    /// The edges and vertices that are given up.
-    fn by_given_up(picture: &Picture<B>, frame: &Frame) -> Result<Self, AllocError> {
-        let mut taken = Taken::nothing(*picture.strokes.allocator());
-        for stroke in &picture.strokes {
-            if let (State::GivenUp, Some(line)) = (stroke.state, stroke.line()) {
-                taken.lines.push(frame.shown_line(line))?;
-            }
-        }
-        for dot in &picture.dots {
-            if let (State::GivenUp, Some(place)) = (dot.state, dot.place) {
-                taken.spots.push(frame.shown(place))?;
-            }
-        }
-        Ok(taken)
-    }
-}
-
-impl<B: Allocator> Taken<B> {
-    /// How far a place is from all of it, or `most` if it is farther.
-    fn distance(&self, place: Place, most: f64) -> f64 {
-        let mut least = most;
-        for line in &self.lines {
-            least = least.min(Way::along(*line).distance(place));
-        }
-        for spot in &self.spots {
-            least = least.min(spot.minus(place).length());
-        }
-        least
-    }
+/// The box in which the number of a face stands.
+fn label_area(place: Place) -> Area {
+    Area::new(place, 30.0, 11.0)
 }
 
 /// The inside of a face.
@@ -150,12 +105,12 @@ impl<'a> Inside<'a> {
     }
 }
 
-/// A place inside a face, away from what is taken: the middle of a triangle's circle, if that is
-/// free; else the best place of those that are tried.
-fn free_place<B: Allocator>(inside: Inside, taken: &Taken<B>) -> Place {
+/// A place inside a face: the middle of a triangle's circle, if nothing stands there; else the best
+/// place of those that are tried.
+fn free_place<B: Allocator>(inside: Inside, room: &Room<B>) -> Place {
     if let Some(corners) = inside.triangle() {
         let middle = middle_of_circle(corners);
-        if taken.distance(middle, FREE) >= FREE {
+        if worth(inside, middle, room) > 0.9 * inside.depth(middle) {
             return middle;
         }
     }
@@ -166,12 +121,26 @@ fn free_place<B: Allocator>(inside: Inside, taken: &Taken<B>) -> Place {
         let x = low.x + step.x * (0.5 + nearest_usize_to_f64(number % TRIED));
         let y = low.y + step.y * (0.5 + nearest_usize_to_f64(number / TRIED));
         let place = Place::new(x, y);
-        let found = taken.distance(place, inside.depth(place));
+        let found = worth(inside, place, room);
         if found > most {
             (best, most) = (place, found);
         }
     }
     best
+}
+
+/// How far a place is from the outline and from what is given up; much less if something stands
+/// there.
+fn worth<B: Allocator>(inside: Inside, place: Place, room: &Room<B>) -> f64 {
+    let mut least = inside.depth(place);
+    for line in &room.lines {
+        least = least.min(Way::along(*line).distance(place));
+    }
+    if room.is_free(label_area(place)) {
+        least
+    } else {
+        least - 1000.0
+    }
 }
 
 /// The middle of the circle inside a triangle.

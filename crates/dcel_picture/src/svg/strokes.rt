@@ -4,15 +4,11 @@ use crate::frame::Frame;
 use crate::picture::{Line, Picture, State, Stroke};
 use crate::place::Place;
 use crate::svg::Style;
+use crate::svg::arrow::{Arrow, area_of};
 use crate::svg::numbers::{At, Tenths};
+use crate::svg::room::Room;
 use std::alloc::Allocator;
 use std::io::{self, Write};
-
-/// How far an arrow is from its edge.
-const GAP: f64 = 4.0;
-
-/// How far an arrow stays away from the vertices, if the edge is long enough.
-const TRIM: f64 = 17.0;
 
 /// Writes a thin line for each edge.
 pub(crate) fn write_edges<B: Allocator>(
@@ -54,11 +50,18 @@ pub(crate) fn write_strokes<B: Allocator>(
     picture: &Picture<B>,
     frame: &Frame,
     style: Style,
+    room: &mut Room<B>,
     out: &mut impl Write,
 ) -> io::Result<()> {
     for stroke in &picture.strokes {
         if let Some(line) = stroke.line() {
-            write_stroke(stroke, Arrow::beside(frame.shown_line(line)), style, out)?;
+            let arrow = Arrow::beside(frame.shown_line(line));
+            let place = arrow.place_of(stroke.number, room);
+            room.take(area_of(place, stroke.number))?;
+            write_stroke(stroke, arrow, place, out)?;
+            if style.anchors {
+                write_anchors(stroke, arrow, out)?;
+            }
         }
     }
     Ok(())
@@ -67,7 +70,7 @@ pub(crate) fn write_strokes<B: Allocator>(
 fn write_stroke(
     stroke: &Stroke,
     arrow: Arrow,
-    style: Style,
+    place: Place,
     out: &mut impl Write,
 ) -> io::Result<()> {
     let (class, tip, number) = match stroke.state {
@@ -79,18 +82,13 @@ fn write_stroke(
         "<path class=\"{class}\" marker-end=\"url(#{tip})\" d=\""
     )?;
     write_line(arrow.line, out)?;
-    let text = arrow.text(stroke.number);
     writeln!(
         out,
         "\"/><text class=\"{number}\" x=\"{}\" y=\"{}\">{}</text>",
-        Tenths(text.x),
-        Tenths(3.6 - text.y),
+        Tenths(place.x),
+        Tenths(3.6 - place.y),
         stroke.number
-    )?;
-    if style.anchors {
-        write_anchors(stroke, arrow, out)?;
-    }
-    Ok(())
+    )
 }
 
 /// Marks the half edge by a dot where it starts if it is the anchor of its vertex, and by a square
@@ -117,61 +115,4 @@ fn write_anchors(stroke: &Stroke, arrow: Arrow, out: &mut impl Write) -> io::Res
         )?;
     }
     Ok(())
-}
-
-/// The arrow of a half edge, on the left of its edge.
-#[derive(Clone, Copy)]
-struct Arrow {
-    line: Line,
-    /// The direction in which it starts.
-    along: Place,
-    /// The direction away from the edge, in the middle.
-    aside: Place,
-}
-
-impl Arrow {
-    /// The arrow beside an edge.
-    fn beside(edge: Line) -> Arrow {
-        let way = edge.to.minus(edge.from);
-        let trim = TRIM.min(0.3 * way.length());
-        let (first, last) = match edge.bend {
-            Some(bend) => (bend.minus(edge.from).unit(), edge.to.minus(bend).unit()),
-            None => (way.unit(), way.unit()),
-        };
-        let aside = way.unit().left();
-        let from = edge.from.plus(first.times(trim));
-        let to = edge.to.minus(last.times(trim));
-        let bend = match edge.bend {
-            // So far that it is as far from both straight parts.
-            Some(bend) => {
-                let across = first.left().plus(last.left());
-                let factor = GAP * 2.0 / across.dot(across).max(0.5);
-                Some(bend.plus(across.times(factor)))
-            }
-            None => None,
-        };
-        Arrow {
-            line: Line {
-                from: from.plus(first.left().times(GAP)),
-                to: to.plus(last.left().times(GAP)),
-                bend,
-            },
-            along: first,
-            aside,
-        }
-    }
-
-    /// Where its number stands, farther away the wider it is across.
-    fn text(self, number: usize) -> Place {
-        let middle = self.line.middle();
-        let width = if number < 10 {
-            3.0
-        } else if number < 100 {
-            6.0
-        } else {
-            9.0
-        };
-        let across = self.aside.x.max(-self.aside.x);
-        middle.plus(self.aside.times(7.0 + width * across))
-    }
 }
