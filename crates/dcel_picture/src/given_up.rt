@@ -1,0 +1,113 @@
+//! The vertex that an open removal has given up.
+
+use crate::place::Place;
+use crate::reading::live;
+use spade_dcel::dcel::Dcel;
+use spade_dcel::handles::{FixedUndirectedEdgeHandle, FixedVertexHandle};
+use std::alloc::Allocator;
+
+/// Gives a vertex that is given up a place: inside, in the middle of its neighbors before; on the
+/// outer face, beyond them.
+pub(crate) fn set_given_up<V, DE, UE, F, A: Allocator>(
+    mesh: &Dcel<V, DE, UE, F, A>,
+    before: &Dcel<V, DE, UE, F, A>,
+    places: &mut [Option<Place>],
+) {
+    for number in 0..mesh.num_vertices() {
+        let vertex = FixedVertexHandle::new(number);
+        if !mesh.is_live_vertex(vertex) {
+            let place = place_among(before, vertex, places);
+            if let Some(one) = places.get_mut(number) {
+                *one = place;
+            }
+        }
+    }
+}
+
+fn place_among<V, DE, UE, F, A: Allocator>(
+    before: &Dcel<V, DE, UE, F, A>,
+    vertex: FixedVertexHandle,
+    places: &[Option<Place>],
+) -> Option<Place> {
+    let mut sum = Place::new(0.0, 0.0);
+    let mut count: f64 = 0.0;
+    // The way along the neighbors, with the outer face on its left, if the vertex was there.
+    let mut along = Place::new(0.0, 0.0);
+    for out in before.get_vertex(vertex)?.out_edges() {
+        let Some(edge) = live(before, out.fix()) else {
+            continue;
+        };
+        let Some(Some(place)) = places.get(edge.to().index()) else {
+            continue;
+        };
+        sum = sum.plus(*place);
+        count += 1.0;
+        if edge.face().index() == 0 {
+            along = along.plus(*place);
+        }
+        if edge.rev().face().index() == 0 {
+            along = along.minus(*place);
+        }
+    }
+    if count == 0.0 {
+        return None;
+    }
+    let middle = sum.times(1.0 / count);
+    if along.length() == 0.0 {
+        return Some(middle);
+    }
+    Some(middle.plus(along.left()))
+}
+
+/// Moves a vertex that is given up off the edges that have been put in since.
+pub(crate) fn set_aside<V, DE, UE, F, A: Allocator>(
+    mesh: &Dcel<V, DE, UE, F, A>,
+    before: &Dcel<V, DE, UE, F, A>,
+    places: &mut [Option<Place>],
+) {
+    for number in 0..mesh.num_vertices() {
+        if mesh.is_live_vertex(FixedVertexHandle::new(number)) {
+            continue;
+        }
+        if let Some(Some(place)) = places.get(number) {
+            let free = off_new_edges(mesh, before, places, *place);
+            if let Some(one) = places.get_mut(number) {
+                *one = Some(free);
+            }
+        }
+    }
+}
+
+/// A place moved off each edge that has been put in.
+fn off_new_edges<V, DE, UE, F, A: Allocator>(
+    mesh: &Dcel<V, DE, UE, F, A>,
+    before: &Dcel<V, DE, UE, F, A>,
+    places: &[Option<Place>],
+    place: Place,
+) -> Place {
+    let mut place = place;
+    for number in 0..mesh.num_undirected_edges() {
+        let half = FixedUndirectedEdgeHandle::new(number).as_directed();
+        if let (Some(edge), None) = (live(mesh, half), live(before, half)) {
+            let from = places.get(edge.from().index());
+            let to = places.get(edge.to().index());
+            if let (Some(Some(from)), Some(Some(to))) = (from, to) {
+                place = off_line(place, *from, *to);
+            }
+        }
+    }
+    place
+}
+
+/// A place moved to the left of a line if it is all but on it.
+fn off_line(place: Place, from: Place, to: Place) -> Place {
+    let way = to.minus(from);
+    let left = way.unit().left();
+    let distance = left.dot(place.minus(from));
+    let free = 0.13 * way.length();
+    if distance < free && -distance < free {
+        place.plus(left.times(free - distance))
+    } else {
+        place
+    }
+}

@@ -1,0 +1,26 @@
+//! Pictures of meshes: places for the vertices of any mesh, what of it is drawn where, and SVG.
+//!
+//! A mesh has no geometry. [`spread`] finds places for its vertices. A [`Picture`] has a stroke for
+//! each half edge, a patch for each face and a dot for each vertex, and [`write_svg`] writes it.
+#![tactic(auto)]
+
+mod bends;
+mod curve;
+mod frame;
+mod given_up;
+mod net;
+mod picture;
+mod place;
+mod places;
+mod reading;
+mod relaxing;
+mod rows;
+mod spreading;
+mod svg;
+mod wings;
+
+pub use picture::{Dot, Line, Patch, Picture, State, Stroke};
+pub use place::Place;
+pub use places::{Places, bow};
+pub use spreading::spread;
+pub use svg::{Style, write_svg};

@@ -1,0 +1,103 @@
+//! Where vertices stand, and where edges bend.
+
+ghost use Rattle.std.specs.Prelude.{◌≡◌};
+ghost use Rattle.dcel_picture.specs.Drawn.{place_of};
+
+use crate::bends::ranks;
+use crate::place::Place;
+use crate::reading::drawn;
+use spade_dcel::dcel::Dcel;
+use spade_dcel::handles::FixedUndirectedEdgeHandle;
+use std::alloc::{AllocError, Allocator, Global};
+
+/// Where the vertices of a mesh stand, and where its edges bend, by their numbers.
+#[derive(Drop)]
+pub struct Places<B: Allocator = Global> {
+    /// The place of each vertex. One without a place is drawn at the side.
+    pub vertices: Vec<Option<Place>, B>,
+    /// The point that each edge that is an arc bends toward. The others are straight.
+    pub bends: Vec<Option<Place>, B>,
+}
+
+impl<B: Allocator> Places<B> {
+    /// Returns the place of a vertex, if it has one.
+    pub fn vertex(&self, number: usize) -> Option<Place>
+        ensures { result ≡ place_of self.now.vertices.items number }
+    {
+        match self.vertices.get(number) {
+            Some(place) => *place,
+            None => None,
+        }
+    }
+
+    /// Returns the point that an edge bends toward, if it is an arc.
+    pub fn bend(&self, edge: usize) -> Option<Place>
+        ensures { result ≡ place_of self.now.bends.items edge }
+    {
+        match self.bends.get(edge) {
+            Some(place) => *place,
+            None => None,
+        }
+    }
+}
+
+/// Bends edges that join the same two vertices, and are straight so far, to both sides.
+///
+/// Those that a removal has given up are bent too if it is told where they lay `before`.
+pub fn bow<V, DE, UE, F, A: Allocator, B: Allocator + Copy>(
+    alloc: B,
+    mesh: &Dcel<V, DE, UE, F, A>,
+    before: Option<&Dcel<V, DE, UE, F, A>>,
+    places: &mut Places<B>,
+) -> Result<(), AllocError>
+    ensures { places.new.vertices.items ≡ places.old.vertices.items }
+{
+    let ranks = ranks(alloc, mesh, before)?;
+    for number in 0..mesh.num_undirected_edges() {
+        let half = FixedUndirectedEdgeHandle::new(number).as_directed();
+        let mut bend = places.bend(number);
+        if let (None, Some(rank), Some(edge)) = (
+            bend,
+            ranks.get(number),
+            drawn(mesh, before, half),
+        ) {
+            let (from, to) = (edge.from().index(), edge.to().index());
+            if rank.count > 1 {
+                bend = tip_of_arc(
+                    places.vertex(from.min(to)),
+                    places.vertex(from.max(to)),
+                    offset(rank.place, rank.count),
+                );
+            }
+        }
+        put(&mut places.bends, number, bend)?;
+    }
+    Ok(())
+}
+
+/// How far on the left of the straight line an arc bends, for its length.
+fn offset(place: usize, count: usize) -> f64 {
+    let place = std::num::nearest_usize_to_f64(place);
+    let count = std::num::nearest_usize_to_f64(count);
+    (place - (count - 1.0) / 2.0) * 0.36
+}
+
+fn tip_of_arc(from: Option<Place>, to: Option<Place>, offset: f64) -> Option<Place> {
+    let (from, to) = (from?, to?);
+    let aside = to.minus(from).left().times(offset);
+    Some(from.middle(to).plus(aside))
+}
+
+/// Puts an entry into a list at its number, or at the end if the list is that long.
+fn put<T: Copy, B: Allocator>(
+    list: &mut Vec<Option<T>, B>,
+    number: usize,
+    entry: Option<T>,
+) -> Result<(), AllocError> {
+    if let Some(old) = list.get_mut(number) {
+        *old = entry;
+        return Ok(());
+    }
+    list.push(entry)?;
+    Ok(())
+}

@@ -1,0 +1,84 @@
+//! Pictures as SVG.
+
+mod arrow;
+mod dots;
+mod labels;
+mod numbers;
+mod patches;
+mod room;
+mod strokes;
+
+use crate::frame::Frame;
+use crate::picture::Picture;
+use crate::svg::dots::write_dots;
+use crate::svg::labels::write_labels;
+use crate::svg::numbers::{At, Tenths};
+use crate::svg::patches::{write_given_up_patches, write_live_patches};
+use crate::svg::room::Room;
+use crate::svg::strokes::{write_edges, write_strokes};
+use std::alloc::Allocator;
+use std::io::{self, Write};
+
+/// How a picture is written.
+#[derive(Clone, Copy, PartialEq, Eq, Debug)]
+pub struct Style {
+    /// Whether the anchors of vertices and faces are marked.
+    pub anchors: bool,
+}
+
+const STYLE: &str = "\
+<style>
+text { font-family: 'DejaVu Sans', Verdana, sans-serif; text-anchor: middle; }
+.page { fill: #eceae4; }
+.edge { stroke: #8b8b8b; stroke-width: 1; fill: none; }
+.half { stroke: #222222; stroke-width: 1.1; fill: none; }
+.number { font-size: 10px; fill: #222222; }
+.vertex { fill: #ffffff; stroke: #222222; stroke-width: 1.4; }
+.name { font-size: 12px; font-weight: bold; fill: #222222; }
+.face { font-size: 13px; font-weight: bold; fill: #0b4f8a; }
+.gone { stroke-dasharray: 5 4; stroke: #a23b3b; fill: none; }
+.vertex.gone { fill: #ffffff; }
+.over { fill: #a23b3b; }
+.hatch { fill: url(#hatch); stroke: none; }
+.anchor { fill: #222222; stroke: none; }
+.c0 { fill: #fbe3c0; } .c1 { fill: #cfe8d5; } .c2 { fill: #d6dcf5; } .c3 { fill: #f6d3d6; }
+.c4 { fill: #d3eef2; } .c5 { fill: #f3f0bd; } .c6 { fill: #e6d5ee; }
+</style>
+<defs>
+<marker id=\"tip\" viewBox=\"0 0 8 6\" refX=\"7\" refY=\"3\" markerWidth=\"8\" markerHeight=\"6\" orient=\"auto\"><path d=\"M0 0L8 3L0 6z\" fill=\"#222222\"/></marker>
+<marker id=\"tip-gone\" viewBox=\"0 0 8 6\" refX=\"7\" refY=\"3\" markerWidth=\"8\" markerHeight=\"6\" orient=\"auto\"><path d=\"M0 0L8 3L0 6z\" fill=\"#a23b3b\"/></marker>
+<pattern id=\"hatch\" width=\"8\" height=\"8\" patternUnits=\"userSpaceOnUse\" patternTransform=\"rotate(45)\"><path d=\"M0 0V8\" stroke=\"#c98b8b\" stroke-width=\"1\"/></pattern>
+</defs>
+";
+
+/// Writes a picture as an SVG document.
+///
+/// Each half edge is an arrow beside its edge, on the side of its face, with its number; faces are
+/// areas with their numbers after an F, and the outer face, F0, is all around them. What an open
+/// removal has given up is dashed and hatched. Vertices without a place stand below.
+pub fn write_svg<B: Allocator + Copy>(
+    picture: &Picture<B>,
+    style: Style,
+    out: &mut impl Write,
+) -> io::Result<()> {
+    let frame = Frame::around(picture);
+    let (corner, size) = (frame.corner(), frame.size());
+    writeln!(
+        out,
+        "<svg xmlns=\"http://www.w3.org/2000/svg\" viewBox=\"{} {} {}\" width=\"{}\" height=\"{}\">",
+        At(corner),
+        Tenths(size.x),
+        Tenths(size.y),
+        Tenths(size.x),
+        Tenths(size.y)
+    )?;
+    write!(out, "{STYLE}")?;
+    write_live_patches(picture, &frame, out)?;
+    write_given_up_patches(picture, &frame, out)?;
+    write_edges(picture, &frame, out)?;
+    let mut room = Room::around(picture, &frame)?;
+    write_strokes(picture, &frame, style, &mut room, out)?;
+    write_labels(picture, &frame, &mut room, out)?;
+    write_dots(picture, &frame, out)?;
+    writeln!(out, "</svg>")
+}

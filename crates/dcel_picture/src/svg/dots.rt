@@ -1,0 +1,49 @@
+//! Vertices, as circles with their numbers.
+
+use crate::frame::Frame;
+use crate::picture::{Dot, Picture, State};
+use crate::place::Place;
+use crate::svg::numbers::Tenths;
+use std::alloc::Allocator;
+use std::io::{self, Write};
+
+/// How large a vertex is.
+pub(crate) const RADIUS: f64 = 12.0;
+
+/// Writes all vertices: those without a place in rows below the others.
+pub(crate) fn write_dots<B: Allocator>(
+    picture: &Picture<B>,
+    frame: &Frame,
+    out: &mut impl Write,
+) -> io::Result<()> {
+    let mut aside = 0usize;
+    for dot in &picture.dots {
+        let place = match dot.place {
+            Some(place) => frame.shown(place),
+            None => {
+                let place = frame.aside(aside);
+                aside = aside.saturating_add(1);
+                place
+            }
+        };
+        write_dot(*dot, place, out)?;
+    }
+    Ok(())
+}
+
+fn write_dot(dot: Dot, place: Place, out: &mut impl Write) -> io::Result<()> {
+    let class = match dot.state {
+        State::Live => "vertex",
+        State::GivenUp => "vertex gone",
+    };
+    writeln!(
+        out,
+        "<circle class=\"{class}\" cx=\"{}\" cy=\"{}\" r=\"{}\"/><text class=\"name\" x=\"{}\" y=\"{}\">{}</text>",
+        Tenths(place.x),
+        Tenths(-place.y),
+        Tenths(RADIUS),
+        Tenths(place.x),
+        Tenths(4.3 - place.y),
+        dot.number
+    )
+}

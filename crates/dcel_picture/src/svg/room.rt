@@ -1,0 +1,90 @@
+//! Room for numbers on the page: what stands there already.
+
+use crate::frame::Frame;
+use crate::picture::{Line, Picture, State};
+use crate::place::Place;
+use crate::svg::arrow::Arrow;
+use crate::svg::dots::RADIUS;
+use std::alloc::{AllocError, Allocator};
+
+/// The most vertices that a picture may have so that its numbers make room for one another.
+const MOST: usize = 100;
+
+/// A box on the page.
+#[derive(Clone, Copy)]
+pub(crate) struct Area {
+    middle: Place,
+    // Half of the width and of the height.
+    half: Place,
+}
+
+impl Area {
+    /// The box with this middle, width and height.
+    pub fn new(middle: Place, width: f64, height: f64) -> Self {
+        let half = Place::new(width / 2.0, height / 2.0);
+        Area { middle, half }
+    }
+
+    fn meets(self, other: Area) -> bool {
+        let way = other.middle.minus(self.middle);
+        let reach = other.half.plus(self.half);
+        way.x < reach.x && -way.x < reach.x && way.y < reach.y && -way.y < reach.y
+    }
+}
+
+/// What stands on the page.
+#[derive(Drop)]
+pub(crate) struct Room<B: Allocator> {
+    areas: Vec<Area, B>,
+    /// The lines of half edges that are given up.
+    pub lines: Vec<Line, B>,
+    is_kept: bool,
+}
+
+impl<B: Allocator + Copy> Room<B> {
+    /// The room that vertices and the heads of arrows leave.
+    pub fn around(picture: &Picture<B>, frame: &Frame) -> Result<Self, AllocError> {
+        let alloc = *picture.strokes.allocator();
+        let mut room = Room {
+            areas: Vec::new(alloc),
+            lines: Vec::new(alloc),
+            is_kept: picture.dots.len() <= MOST,
+        };
+        for dot in &picture.dots {
+            if let Some(place) = dot.place {
+                let across = 2.0 * RADIUS;
+                room.take(Area::new(frame.shown(place), across, across))?;
+            }
+        }
+        for stroke in &picture.strokes {
+            if let Some(line) = stroke.line() {
+                let shown = frame.shown_line(line);
+                room.take(Area::new(Arrow::beside(shown).line.to, 5.0, 5.0))?;
+                if stroke.state == State::GivenUp {
+                    room.lines.push(shown)?;
+                }
+            }
+        }
+        Ok(room)
+    }
+}
+
+impl<B: Allocator> Room<B> {
+    /// Returns whether nothing stands in a box.
+    pub fn is_free(&self, area: Area) -> bool {
+        for other in &self.areas {
+            if other.meets(area) {
+                return false;
+            }
+        }
+        true
+    }
+
+    /// Notes that something stands in a box, unless the picture is a large one.
+    pub fn take(&mut self, area: Area) -> Result<(), AllocError> {
+        if self.is_kept {
+            self.areas.push(area)?;
+        }
+        Ok(())
+    }
+}
