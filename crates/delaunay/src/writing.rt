@@ -4,6 +4,7 @@ use crate::arguments::Output;
 use crate::fault::Fault;
 use crate::triangulating::Drawn;
 use dcel_delaunay::Mesh;
+use spade_dcel::handles::{FixedFaceHandle, InnerTag};
 use spade_dcel::iterators::HullIterator;
 use std::io::{self, BufWriter, Write};
 
@@ -26,20 +27,27 @@ pub fn write_asked(
 
 /// Writes the corners of each triangle, counterclockwise, the least number first.
 fn write_triangles(writer: &mut impl Write, drawn: &Drawn) -> io::Result<()> {
-    let mesh = drawn.triangulation.dcel();
-    for face in mesh.inner_faces() {
-        let face = face.fix();
-        if mesh.is_live_face(face) {
-            let [a, b, c] = mesh.face(face).vertices();
-            let [a, b, c] = least_first([
-                drawn.number(a.fix()),
-                drawn.number(b.fix()),
-                drawn.number(c.fix()),
-            ]);
+    for face in drawn.triangulation.dcel().inner_faces() {
+        if let Some(corners) = corners(drawn, face.fix()) {
+            let [a, b, c] = least_first(corners);
             writeln!(writer, "{a} {b} {c}")?;
         }
     }
     Ok(())
+}
+
+/// The points at the corners of a triangle, counterclockwise.
+fn corners(drawn: &Drawn, face: FixedFaceHandle<InnerTag>) -> Option<[usize; 3]> {
+    let mesh = drawn.triangulation.dcel();
+    if face.index() == 0 || !mesh.is_live_face(face) {
+        return None;
+    }
+    let [a, b, c] = mesh.face(face).vertices();
+    Some([
+        drawn.number(a.fix()),
+        drawn.number(b.fix()),
+        drawn.number(c.fix()),
+    ])
 }
 
 /// The same three numbers in the same round, the least first.
