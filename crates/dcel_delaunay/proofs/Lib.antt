@@ -1,7 +1,9 @@
 pub mod Growth
+pub mod Orders
 pub mod Paths
 pub mod Puts
 pub mod Settling
 pub mod Sides
+pub mod Standing
 pub mod Taking
 pub mod UnderWay

@@ -1,3 +1,4 @@
-pub mod Places
+pub mod Bulk
 pub mod Growing
+pub mod Places
 pub mod Triangulated

@@ -1,5 +1,9 @@
 //! Many points inserted at once.
 
+ghost use Rattle.std.specs.Prelude.{◌≡◌, IfOk, OnOk, slice_get, slice_set};
+ghost use Rattle.dcel_delaunay.specs.Bulk.{AddsVertices, StandAt, StandsToo};
+ghost use Rattle.dcel_delaunay.specs.Triangulated.{IsWhole, mesh_in};
+
 use crate::curve::insertion_order;
 use crate::errors::InsertionError;
 use crate::triangulation::Triangulation;
@@ -10,24 +14,64 @@ use std::alloc::Allocator;
 impl<A: Allocator + Clone> Triangulation<A> {
     /// Inserts points in an order of its own, in which walks are short.
     ///
-    /// Returns the vertex of each point, in the order of the points.
+    /// Returns the vertex of each point, in the order of the points. If it fails, the points that
+    /// were inserted so far stay.
     pub fn insert_all(
         &mut self,
         alloc: A,
         points: &[Point],
-    ) -> Result<Vec<FixedVertexHandle, A>, InsertionError> {
-        let mut vertices = Vec::with_capacity(alloc.clone()?, points.len())?;
-        for _ in points {
-            vertices
-                .push(FixedVertexHandle::new(0))
-                .map_err(|_| InsertionError::OutOfMemory)?;
-        }
-        let order = insertion_order(alloc, points)?;
+    ) -> Result<Vec<FixedVertexHandle, A>, InsertionError>
+        ensures stand { IfOk result (λ vertices. StandAt (mesh_in self.new) points.now vertices.items) }
+        ensures whole { OnOk result (IsWhole self.new) }
+        ensures adds { AddsVertices (mesh_in self.old) (mesh_in self.new) }
+    {
+        let order = insertion_order(alloc.clone()?, points)?;
+        let mut vertices = vec![in alloc; FixedVertexHandle::new(0); points.len()]?;
+        self.finish()?;
         for number in &order {
-            if let (Some(point), Some(place)) = (points.get(*number), vertices.get_mut(*number)) {
-                *place = self.insert(*point)?;
-            }
+            self.insert_numbered(points, *number, &mut vertices)?;
         }
         Ok(vertices)
+    }
+}
+
+impl<A: Allocator> Triangulation<A> {
+    /// Inserts the point with this number, and notes its vertex in that place.
+    fn insert_numbered(
+        &mut self,
+        points: &[Point],
+        number: usize,
+        vertices: &mut Vec<FixedVertexHandle, A>,
+    ) -> Result<(), InsertionError>
+        requires { IsWhole self.old }
+        ensures stands { OnOk result (StandsToo (mesh_in self.old) (mesh_in self.new) points.now number vertices.old.items vertices.new.items) }
+        ensures whole { OnOk result (IsWhole self.new) }
+        ensures adds { AddsVertices (mesh_in self.old) (mesh_in self.new) }
+    {
+        if let Some(point) = point_of(points, number) {
+            let vertex = self.insert(point)?;
+            note(vertices, number, vertex);
+        }
+        Ok(())
+    }
+}
+
+// The point with this number, if there is one.
+fn point_of(points: &[Point], number: usize) -> Option<Point>
+    ensures { result ≡ slice_get points.now number }
+{
+    points.get(number).copied()
+}
+
+// Writes into a list, if it has the place.
+fn note<A: Allocator>(
+    vertices: &mut Vec<FixedVertexHandle, A>,
+    number: usize,
+    vertex: FixedVertexHandle,
+)
+    ensures { vertices.new.items ≡ slice_set vertices.old.items number vertex }
+{
+    if number < vertices.len() {
+        vertices[number] = vertex;
     }
 }

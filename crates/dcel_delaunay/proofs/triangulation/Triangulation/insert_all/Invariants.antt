@@ -1,0 +1,11 @@
+use Rattle.std.proofs.Common.{take}
+use Rattle.dcel_delaunay.specs.Bulk.{AddsVertices, StandSoFar}
+use Rattle.dcel_delaunay.specs.Triangulated.{IsWhole, mesh_in}
+use Rattle.dcel_delaunay.proofs.triangulation.Triangulation.insert_all.Given as goal
+
+abbrev pub invariant-loop-number : goal.invariant-loop-number
+invariant-loop-number g l = record {
+  whole : IsWhole l.self;
+  adds : AddsVertices (mesh_in l.fn.self) (mesh_in l.self);
+  stand : StandSoFar (mesh_in l.self) l.points (take l.number-index l.number-items) l.vertices.items;
+}

@@ -1,0 +1,17 @@
+use Rattle.std.proofs.Common.{◌≡◌, List, ℕ, sym, subst, ◌∙◌}
+use Rattle.dcel_delaunay.proofs.Standing.{adds_one, stands_too, stands_none_too}
+use Rattle.dcel_delaunay.specs.Bulk.{StandsToo}
+use Rattle.dcel_delaunay.specs.Triangulated.{mesh_in}
+use Rattle.dcel_delaunay.proofs.triangulation.Triangulation.insert_numbered.Goals as goal
+
+pub returns-in_ok-vertex-clause-stands : goal.returns-in_ok-vertex-clause-stands
+returns-in_ok-vertex-clause-stands g c =
+    let old = mesh_in c.args.self.now in
+    let new = mesh_in c.insert.new.self in
+    let takes = c.in_ok-vertex.ensures.inserts in
+    subst (StandsToo old new c.args.points.now c.args.number c.args.vertices.now.items) (sym c.note.ensures)
+    (stands_too old new c.args.points.now c.args.vertices.now.items c.args.number _ c.in-Some.point (sym c.point_of.ensures ∙ c.in-Some.is) (adds_one old new c.in-Some.point takes.points) takes.has)
+
+pub returns-in_default-clause-stands : goal.returns-in_default-clause-stands
+returns-in_default-clause-stands g c =
+    stands_none_too (mesh_in c.args.self.now) c.args.points.now c.args.vertices.now.items c.args.number (sym c.point_of.ensures ∙ c.in_default.is)

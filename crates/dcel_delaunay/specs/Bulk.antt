@@ -1,0 +1,31 @@
+-- Many points inserted at once.
+use Rattle.std.specs.Prelude.{◌≡◌, ◌<◌, ◌≤◌, ◌++◌, ℕ, List, [], ◌∷◌, length, slice_get, Some}
+use Rattle.dcel_maps.specs.Words.{count_of}
+use Rattle.dcel_maps.specs.Shapes.{Mesh}
+use Rattle.dcel_predicates.specs.declared.point.Point.{Point}
+use Rattle.dcel_delaunay.specs.Places.{HasPoint}
+
+-- each number below `count` stands there once, and no other
+pub record ListsEach (count : ℕ) (numbers : List ℕ) : Type 0 where
+  pub once : (i : ℕ) → i < count → count_of i numbers ≡ 1
+  pub no_other : (i : ℕ) → count ≤ i → count_of i numbers ≡ 0
+
+module _ {DE UE F : Type 0} where
+  -- each point stands at the vertex in its place of the other list
+  pub record StandAt (m : Mesh Point DE UE F) (points : List Point) (vertices : List ℕ) : Type 0 where
+    pub length_is : length vertices ≡ length points
+    pub each : (i : ℕ) (p : Point) (v : ℕ) → slice_get points i ≡ Some p → slice_get vertices i ≡ Some v → HasPoint m p v
+
+  -- so do the points whose numbers were taken
+  pub record StandSoFar (m : Mesh Point DE UE F) (points : List Point) (taken vertices : List ℕ) : Type 0 where
+    pub length_is : length vertices ≡ length points
+    pub each : (i : ℕ) (p : Point) (v : ℕ) → 0 < count_of i taken → slice_get points i ≡ Some p → slice_get vertices i ≡ Some v → HasPoint m p v
+
+  -- one more point does, that of the number n
+  abbrev pub StandsToo : Mesh Point DE UE F → Mesh Point DE UE F → List Point → ℕ → List ℕ → List ℕ → Type 0
+  StandsToo old new points n before after = (taken : List ℕ) → StandSoFar old points taken before → StandSoFar new points (taken ++ n ∷ []) after
+
+  -- the vertices of before stay, and those that are new come after them
+  pub record AddsVertices (old new : Mesh Point DE UE F) : Type 0 where
+    pub added : List Point
+    pub points : new.vertex_data ≡ old.vertex_data ++ added
