@@ -4,7 +4,9 @@ use thiserror::Error;
 
 /// The reason why claimed links are refused, in the order in which reasons are looked for.
 ///
-/// Half edges, vertices and faces are told by their numbers.
+/// The three ranges are looked at together, half edge by half edge, and so is whether links fit:
+/// [`OneEnd`](Self::OneEnd), [`Apart`](Self::Apart) and [`LeavesFace`](Self::LeavesFace). Half
+/// edges, vertices and faces are told by their numbers.
 #[derive(Clone, Copy, PartialEq, Eq, Debug, Drop, Error)]
 pub enum Fault {
     /// The lists are not of one length, or it is odd.

@@ -28,8 +28,8 @@ use whole::{check_all, check_each};
 /// edge: the half edge after it, the vertex that it starts at and the face that it lies on.
 ///
 /// If it is a mesh, the answer is the list of half edges before each, the only one that fits. Else
-/// it is what is wrong: of all that is, one of the kind that comes first in [`Fault`]. It takes any
-/// lists and numbers.
+/// it is a [`Fault`], and nothing is wrong that is looked for before it. It takes any lists and
+/// numbers.
 ///
 /// It goes over the lists a fixed number of times. For each half edge it takes less than twelve
 /// bytes, and for each vertex one, once the links have passed one by one; claims of more faces than
