@@ -20,7 +20,7 @@ fn main() -> Result<(), Fault> {
     }
 
     let dcel = edits.dcel()?;
-    let first = dcel.directed_edge(6).expect("the insertion put it in");
+    let first = dcel.directed_edge(7).expect("the insertion put it in");
     let mut edge = first;
     loop {
         println!("half edge {} leads from {} to {}", edge.fix(), edge.from(), edge.to());
@@ -30,7 +30,7 @@ fn main() -> Result<(), Fault> {
         }
     }
 
-    edits.isolate_vertex_and_fill_hole(3, &[1, 5, 3]);
+    edits.isolate_vertex_and_fill_hole(3, &[1, 3, 5]);
     println!("{:?}", edits.replies()?.last());
     let left = edits.dcel()?;
     let live = left.directed_edges().map(|edge| (edge.fix(), edge.next().fix(), edge.face()));
