@@ -60,33 +60,24 @@ fn write_svg(writer: &mut impl Write, drawn: &Drawn) -> io::Result<()> {
 
 /// Writes a line for each edge.
 fn write_edges(writer: &mut impl Write, frame: &Frame, drawn: &Drawn) -> io::Result<()> {
-    let mesh = drawn.triangulation.dcel();
     writeln!(writer, "<g class=\"edges\">")?;
-    for edge in mesh.undirected_edges() {
-        let edge = edge.fix();
-        if mesh.is_live_edge(edge) {
-            let [from, to] = mesh.undirected_edge(edge).vertices();
-            let (from, to) = (frame.place(*from.data()), frame.place(*to.data()));
-            writeln!(
-                writer,
-                "<line x1=\"{}\" y1=\"{}\" x2=\"{}\" y2=\"{}\"/>",
-                from.x, from.y, to.x, to.y
-            )?;
-        }
+    for edge in drawn.triangulation.dcel().live_undirected_edges() {
+        let [from, to] = edge.vertices().map(|end| frame.place(*end.data()));
+        writeln!(
+            writer,
+            "<line x1=\"{}\" y1=\"{}\" x2=\"{}\" y2=\"{}\"/>",
+            from.x, from.y, to.x, to.y
+        )?;
     }
     writeln!(writer, "</g>")
 }
 
 /// Writes the hull as a polygon.
 fn write_hull(writer: &mut impl Write, frame: &Frame, drawn: &Drawn) -> io::Result<()> {
-    let mesh = drawn.triangulation.dcel();
     write!(writer, "<polygon class=\"hull\" points=\"")?;
-    for edge in HullIterator::new(mesh) {
-        let edge = edge.fix();
-        if mesh.is_live_edge(edge.as_undirected()) {
-            let place = frame.place(*mesh.directed_edge(edge).from().data());
-            write!(writer, " {},{}", place.x, place.y)?;
-        }
+    for edge in HullIterator::new(drawn.triangulation.dcel()) {
+        let place = frame.place(*edge.from().data());
+        write!(writer, " {},{}", place.x, place.y)?;
     }
     writeln!(writer, "\"/>")
 }

@@ -4,7 +4,6 @@ use crate::arguments::Output;
 use crate::fault::Fault;
 use crate::triangulating::Drawn;
 use dcel_delaunay::Mesh;
-use spade_dcel::handles::{FixedFaceHandle, InnerTag};
 use spade_dcel::iterators::HullIterator;
 use std::io::{self, BufWriter, Write};
 
@@ -27,27 +26,11 @@ pub fn write_asked(
 
 /// Writes the corners of each triangle, counterclockwise, the least number first.
 fn write_triangles(writer: &mut impl Write, drawn: &Drawn) -> io::Result<()> {
-    for face in drawn.triangulation.dcel().inner_faces() {
-        if let Some(corners) = corners(drawn, face.fix()) {
-            let [a, b, c] = least_first(corners);
-            writeln!(writer, "{a} {b} {c}")?;
-        }
+    for face in drawn.triangulation.dcel().live_inner_faces() {
+        let [a, b, c] = least_first(face.vertices().map(|corner| drawn.number(corner.fix())));
+        writeln!(writer, "{a} {b} {c}")?;
     }
     Ok(())
-}
-
-/// The points at the corners of a triangle, counterclockwise.
-fn corners(drawn: &Drawn, face: FixedFaceHandle<InnerTag>) -> Option<[usize; 3]> {
-    let mesh = drawn.triangulation.dcel();
-    if face.index() == 0 || !mesh.is_live_face(face) {
-        return None;
-    }
-    let [a, b, c] = mesh.face(face).vertices();
-    Some([
-        drawn.number(a.fix()),
-        drawn.number(b.fix()),
-        drawn.number(c.fix()),
-    ])
 }
 
 /// The same three numbers in the same round, the least first.
@@ -63,14 +46,9 @@ fn least_first([a, b, c]: [usize; 3]) -> [usize; 3] {
 
 /// Writes the ends of each edge, the lesser number first.
 fn write_edges(writer: &mut impl Write, drawn: &Drawn) -> io::Result<()> {
-    let mesh = drawn.triangulation.dcel();
-    for edge in mesh.undirected_edges() {
-        let edge = edge.fix();
-        if mesh.is_live_edge(edge) {
-            let [from, to] = mesh.undirected_edge(edge).vertices();
-            let (from, to) = (drawn.number(from.fix()), drawn.number(to.fix()));
-            writeln!(writer, "{} {}", from.min(to), from.max(to))?;
-        }
+    for edge in drawn.triangulation.dcel().live_undirected_edges() {
+        let [from, to] = edge.vertices().map(|end| drawn.number(end.fix()));
+        writeln!(writer, "{} {}", from.min(to), from.max(to))?;
     }
     Ok(())
 }
@@ -80,11 +58,7 @@ fn write_hull(writer: &mut impl Write, drawn: &Drawn) -> io::Result<()> {
     let mesh = drawn.triangulation.dcel();
     // The outer face lies on the left of its half edges, so they go round clockwise.
     for edge in HullIterator::new(mesh).rev() {
-        let edge = edge.fix();
-        if mesh.is_live_edge(edge.as_undirected()) {
-            let from = mesh.directed_edge(edge).from();
-            writeln!(writer, "{}", drawn.number(from.fix()))?;
-        }
+        writeln!(writer, "{}", drawn.number(edge.from().fix()))?;
     }
     if mesh.num_vertices() == 1 {
         writeln!(writer, "0")?;
