@@ -16,8 +16,8 @@ closes [] = inl refl
 closes (b ∷ begun) = inr refl
 
 -- the bytes are answered from the start, and then what ends the last line
-pub leaves : {p q r : Stage} (bytes text more : List ℕ) → p ≡ record { mesh = start; begun = [] } → Leads (2 ^ 31) p q bytes text → Leads (2 ^ 31) q r (closing q.begun) more → r.begun ≡ [] → Leaves bytes r.mesh
-leaves {p} {q} {r} bytes text more begins f g ends = record {
+pub leaves : (p q r : Stage) (bytes text more : List ℕ) → p ≡ record { mesh = start; begun = [] } → Leads (2 ^ 31) p q bytes text → Leads (2 ^ 31) q r (closing q.begun) more → r.begun ≡ [] → Leaves bytes r.mesh
+leaves p q r bytes text more begins f g ends = record {
   text = text ++ more;
   closing = closing q.begun;
   closes = closes q.begun;

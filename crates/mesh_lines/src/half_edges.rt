@@ -1,7 +1,7 @@
 //! The links of half edges.
 
-ghost use Rattle.std.specs.Prelude.{◌≡◌, ◌≢◌, ◌*◌, ◌≤◌, ◌<◌, IfOk, length};
-ghost use Rattle.mesh_lines.specs.HalfEdges.{links_of, links_filled, Leaves, HasHalfEdges};
+ghost use Rattle.std.specs.Prelude.{◌≡◌, ◌≢◌, ◌*◌, ◌≤◌, ◌<◌, ◌++◌, IfOk, length, drop};
+ghost use Rattle.mesh_lines.specs.HalfEdges.{links_of, links_below, links_filled, Leaves, HasHalfEdges};
 
 use crate::status::{NO_MEMORY, done_or_short};
 use dcel_commands::commands::{LineMesh, MAX_LIMIT, Session, StdSink, Writer};
@@ -63,16 +63,28 @@ fn links(mesh: &LineMesh<Global>, number: FixedDirectedEdgeHandle) -> MeshLinesH
     }
 }
 
+/// Puts the links of so many half edges into the buffer, each at its number.
+///
+/// Asks for as many half edges, and for a buffer that holds them.
+fn put_first(mesh: &LineMesh<Global>, half_edges: &mut [MeshLinesHalfEdge], count: usize)
+    requires few { count ≤ 2 * mesh.now.shape.edges }
+    requires room { count ≤ length half_edges.old }
+    ensures { half_edges.new ≡ links_below mesh.now.shape count ++ drop count half_edges.old }
+{
+    prove!(mesh.num_directed_edges() <= 4_294_967_296);
+    let mut number = 0;
+    while number < count {
+        half_edges[number] = links(mesh, FixedDirectedEdgeHandle::new(number));
+        number += 1;
+    }
+}
+
 /// Puts the links of the half edges into the buffer by their numbers, as many as fit.
 fn put_links(mesh: &LineMesh<Global>, half_edges: &mut [MeshLinesHalfEdge])
     ensures { half_edges.new ≡ links_filled mesh.now.shape half_edges.old }
 {
     let fitting = mesh.num_directed_edges().min(half_edges.len());
-    let mut number = 0;
-    while number < fitting {
-        half_edges[number] = links(mesh, FixedDirectedEdgeHandle::new(number));
-        number += 1;
-    }
+    put_first(mesh, half_edges, fitting);
 }
 
 /// Answers the lines on an empty mesh, and puts the links of the half edges of the mesh that they

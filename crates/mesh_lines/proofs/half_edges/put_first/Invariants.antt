@@ -1,13 +1,13 @@
 use Rattle.std.proofs.Common.{◌≡◌, ◌≤◌, ◌-◌, ◌++◌, ℕ, drop}
 use Rattle.mesh_lines.specs.HalfEdges.{links_below}
-use Rattle.mesh_lines.proofs.half_edges.put_links.Given as goal
+use Rattle.mesh_lines.proofs.half_edges.put_first.Given as goal
 
 -- the half edges below a number were put
 abbrev pub invariant-loop-number : goal.invariant-loop-number
-invariant-loop-number g l = record {
-  up_to : l.number ≤ l.fitting;
+invariant-loop-number l = record {
+  up_to : l.number ≤ l.count;
   put : l.half_edges ≡ links_below l.mesh.shape l.number ++ drop l.number l.fn.half_edges;
 }
 
 abbrev pub decreases-loop-number : goal.decreases-loop-number
-decreases-loop-number g l = l.fitting - l.number
+decreases-loop-number l = l.count - l.number
