@@ -34,7 +34,10 @@ fn half_edges_come_by_number(rt: HostRuntime) -> Result<(), Fail> {
     let status = mesh_lines_half_edges(rt.alloc(), LINES, &mut half_edges, &mut needed);
     assert_eq!(rt; (status, needed), (0, 6));
     let first = half_edges[0];
-    assert_eq!(rt; (first.next, first.prev, first.origin, first.face), (2, 4, 0, 0));
+    assert_eq!(rt;
+        (first.next, first.prev, first.origin, first.face),
+        (2, 4, 0, 0)
+    );
     assert_eq!(rt; half_edges[6].face, 9);
     let status = mesh_lines_half_edges(rt.alloc(), LINES, &mut half_edges[..2], &mut needed);
     assert_eq!(rt; (status, needed), (1, 6));
