@@ -45,6 +45,12 @@ fn take_out(
         return Ok(None);
     }
     let mut opened = isolate_vertex_and_fill_hole(dcel, border, center)?;
+    if !dcel.is_listed(&opened) {
+        return Ok(None);
+    }
     cleanup_isolated_vertex(dcel, &mut opened);
+    if !dcel.can_swap_remove(center) {
+        return Ok(None);
+    }
     Ok(Some(swap_remove_vertex(dcel, center).removed_vertex))
 }
