@@ -2,7 +2,7 @@
 
 ghost use Rattle.std.specs.Prelude.{◌≡◌, ◌<◌, [], IfErr, IfOk, IsTrue, OnOk};
 ghost use Rattle.dcel_maps.specs.Conditions.{IsTriangle};
-ghost use Rattle.dcel_maps.specs.Shapes.{IsLive, face_count, face_of};
+ghost use Rattle.dcel_maps.specs.Shapes.{IsLive, face_of};
 ghost use Rattle.dcel_plane.specs.Plane.{LiesInside, point_at};
 ghost use Rattle.dcel_delaunay.specs.Growing.{Gains, Inserts, IsUnderWay, Keeps, Refuses};
 ghost use Rattle.dcel_delaunay.specs.Places.{HasLeft, IsAcross, IsPlace};

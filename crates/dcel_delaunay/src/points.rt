@@ -1,7 +1,6 @@
 //! Points inserted one after another, and located.
 
 ghost use Rattle.std.specs.Prelude.{◌≡◌, ◌⊎◌, ◌++◌, [], ◌∷◌, IfErr, IfOk, IfSome, IsTrue, OnOk};
-ghost use Rattle.dcel_maps.specs.edits.Create.{outer_alone};
 ghost use Rattle.dcel_plane.specs.Plane.{IsDelaunay, point_at};
 ghost use Rattle.dcel_delaunay.specs.Growing.{Keeps};
 ghost use Rattle.dcel_delaunay.specs.Places.{HasPoint, IsPlace};

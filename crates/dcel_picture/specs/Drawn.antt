@@ -1,12 +1,11 @@
 -- What is drawn of a mesh, whose vertices stand at the places of a list.
-use Rattle.std.specs.Prelude.{◌≡◌, ◌*◌, ◌/◌, ℕ, List, Option, Some, None, All, length, map, true, false}
+use Rattle.std.specs.Prelude.{◌≡◌, ◌*◌, ◌/◌, ℕ, List, Option, Some, None, All, map, true, false}
 use Rattle.std.specs.List.{slice_get}
 use Rattle.dcel_maps.specs.Numbers.{numbers_between}
-use Rattle.dcel_maps.specs.Shapes.{Mesh, IsLive, edge_is_live, end_of, face_count, face_is_live, origin_of, vertex_is_live}
+use Rattle.dcel_maps.specs.Shapes.{Mesh, IsLive, edge_is_live, end_of, face_count, face_of, face_is_live, origin_of, vertex_is_live}
 use Rattle.dcel_picture.specs.declared.picture.Dot.{Dot}
 use Rattle.dcel_picture.specs.declared.picture.Patch.{Patch}
 use Rattle.dcel_picture.specs.declared.picture.Picture.{Picture}
-use Rattle.dcel_picture.specs.declared.picture.State.{State}
 use Rattle.dcel_picture.specs.declared.picture.State.TheVariants.{Live, GivenUp}
 use Rattle.dcel_picture.specs.declared.picture.Stroke.{Stroke}
 use Rattle.dcel_picture.specs.declared.place.Place.{Place}
@@ -20,10 +19,10 @@ abbrev pub place_of : List (Option Place) → ℕ → Option Place
 place_of places v = one_place (slice_get places v)
 
 module _ {V DE UE F : Type 0} where
-  -- a live half edge leads from the place of its origin to the place of its end; any other one is drawn as given up
+  -- a live half edge leads from the place of its origin to the place of its end, beside its face; any other one is drawn as given up
   abbrev pub IsStroke : Mesh V DE UE F → List (Option Place) → Stroke → Type 0
   IsStroke m places stroke =
-      (IsLive m.shape stroke.number → (stroke.state ≡ Live) × (stroke.from ≡ place_of places (origin_of m.shape stroke.number)) × (stroke.to ≡ place_of places (end_of m.shape stroke.number)))
+      (IsLive m.shape stroke.number → (stroke.state ≡ Live) × (stroke.from ≡ place_of places (origin_of m.shape stroke.number)) × (stroke.to ≡ place_of places (end_of m.shape stroke.number)) × (stroke.face ≡ Some (face_of m.shape stroke.number)))
       × (edge_is_live m.shape (stroke.number / 2) ≡ false → stroke.state ≡ GivenUp)
 
   -- a face is drawn as live just if it is

@@ -33,3 +33,57 @@ impl Line {
         [self.from, first, near, middle, far, last, self.to]
     }
 }
+
+/// A line or an arc as a way of straight steps.
+#[derive(Clone, Copy)]
+pub(crate) struct Way {
+    /// The points from its start to its end.
+    pub places: [Place; 7],
+}
+
+impl Way {
+    /// The way along a line.
+    pub fn along(line: Line) -> Way {
+        Way {
+            places: line.steps(),
+        }
+    }
+
+    /// How far a place is from it.
+    pub fn distance(&self, place: Place) -> f64 {
+        let mut least = f64::INFINITY;
+        let mut from = self.places[0];
+        for to in &self.places {
+            least = least.min(distance_to_step(place, from, *to));
+            from = *to;
+        }
+        least
+    }
+
+    /// Whether a ray to the right crosses it an odd number of times.
+    pub fn is_crossed(&self, place: Place) -> bool {
+        let mut is_odd = false;
+        let mut from = self.places[0];
+        for to in &self.places {
+            if (from.y > place.y) != (to.y > place.y) {
+                let side = to.minus(from).cross(place.minus(from));
+                if (side > 0.0) == (to.y > from.y) {
+                    is_odd = !is_odd;
+                }
+            }
+            from = *to;
+        }
+        is_odd
+    }
+}
+
+/// How far a place is from a straight step.
+fn distance_to_step(place: Place, from: Place, to: Place) -> f64 {
+    let way = to.minus(from);
+    let length = way.dot(way);
+    if length <= 0.0 {
+        return place.minus(from).length();
+    }
+    let along = (place.minus(from).dot(way) / length).max(0.0).min(1.0);
+    place.minus(from.plus(way.times(along))).length()
+}

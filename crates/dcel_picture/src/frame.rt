@@ -127,7 +127,9 @@ fn corners<B: Allocator>(picture: &Picture<B>) -> (Place, Place) {
     }
     for stroke in &picture.strokes {
         if let Some(line) = stroke.line() {
-            corners = widened(corners, Some(line.middle()));
+            for place in line.steps() {
+                corners = widened(corners, Some(place));
+            }
         }
     }
     let middle = Place::new(0.0, 0.0);

@@ -59,18 +59,20 @@ fn place_among<V, DE, UE, F, A: Allocator>(
     Some(middle.plus(along.left()))
 }
 
-/// Moves a vertex that is given up off the edges that have been put in since.
+/// Moves a vertex that is given up off the edges that have been put in since, and off vertices.
 pub(crate) fn set_aside<V, DE, UE, F, A: Allocator>(
     mesh: &Dcel<V, DE, UE, F, A>,
     before: &Dcel<V, DE, UE, F, A>,
     places: &mut [Option<Place>],
 ) {
     for number in 0..mesh.num_vertices() {
-        if mesh.is_live_vertex(FixedVertexHandle::new(number)) {
+        let vertex = FixedVertexHandle::new(number);
+        if mesh.is_live_vertex(vertex) {
             continue;
         }
         if let Some(Some(place)) = places.get(number) {
             let free = off_new_edges(mesh, before, places, *place);
+            let free = off_vertices(before, places, vertex, free);
             if let Some(one) = places.get_mut(number) {
                 *one = Some(free);
             }
@@ -110,4 +112,44 @@ fn off_line(place: Place, from: Place, to: Place) -> Place {
     } else {
         place
     }
+}
+
+/// A place for a vertex moved off each other one that stands all but there.
+fn off_vertices<V, DE, UE, F, A: Allocator>(
+    before: &Dcel<V, DE, UE, F, A>,
+    places: &[Option<Place>],
+    vertex: FixedVertexHandle,
+    place: Place,
+) -> Place {
+    let near = 0.15 * reach_of(before, places, vertex, place);
+    let mut place = place;
+    for (number, other) in places.iter().enumerate() {
+        if let Some(other) = other {
+            let way = place.minus(*other);
+            if number != vertex.index() && way.length() < near {
+                place = other.plus(way.unit().times(near));
+            }
+        }
+    }
+    place
+}
+
+/// How far the farthest neighbor that a vertex had before is from a place.
+fn reach_of<V, DE, UE, F, A: Allocator>(
+    before: &Dcel<V, DE, UE, F, A>,
+    places: &[Option<Place>],
+    vertex: FixedVertexHandle,
+    place: Place,
+) -> f64 {
+    let mut reach: f64 = 0.0;
+    if let Some(center) = before.get_vertex(vertex) {
+        for out in center.out_edges() {
+            if let Some(edge) = live(before, out.fix()) {
+                if let Some(Some(neighbor)) = places.get(edge.to().index()) {
+                    reach = reach.max(neighbor.minus(place).length());
+                }
+            }
+        }
+    }
+    reach
 }

@@ -51,6 +51,8 @@ pub struct Stroke {
     pub to: Option<Place>,
     /// The point that it bends toward, if it is an arc.
     pub bend: Option<Place>,
+    /// The face on its left, if it is live.
+    pub face: Option<usize>,
     /// Whether it is the anchor of the vertex where it starts.
     pub anchors_vertex: bool,
     /// Whether it is the anchor of the face on its left.
@@ -165,6 +167,7 @@ fn stroke_of<V, DE, UE, F, A: Allocator, B: Allocator>(
             from: places.vertex(half.from().index()),
             to: places.vertex(half.to().index()),
             bend,
+            face: Some(half.face().index()),
             anchors_vertex: mesh.vertex_out_edge(half.from().fix()) == Some(edge),
             anchors_face: is_anchor_of_face(half),
         },
@@ -176,6 +179,7 @@ fn stroke_of<V, DE, UE, F, A: Allocator, B: Allocator>(
                 from,
                 to,
                 bend,
+                face: None,
                 anchors_vertex: false,
                 anchors_face: false,
             }

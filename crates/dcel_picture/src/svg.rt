@@ -1,6 +1,7 @@
 //! Pictures as SVG.
 
 mod arrow;
+mod colors;
 mod dots;
 mod labels;
 mod numbers;

@@ -1,6 +1,6 @@
 //! The arrow of a half edge, on the left of its edge.
 
-use crate::picture::Line;
+use crate::picture::{Line, State};
 use crate::place::Place;
 use crate::svg::room::{Area, Room};
 use std::alloc::Allocator;
@@ -10,6 +10,9 @@ const GAP: f64 = 4.0;
 
 /// How far an arrow stays away from the vertices, if the edge is long enough.
 const TRIM: f64 = 17.0;
+
+/// How far a number is better away from an edge that is drawn over its own.
+const CLEAR: f64 = 12.0;
 
 /// The arrow of a half edge.
 #[derive(Clone, Copy)]
@@ -55,17 +58,21 @@ impl Arrow {
 
     /// Where its number stands: beside its middle, or a little before or after it if there is room
     /// there alone.
-    pub fn place_of<B: Allocator>(self, number: usize, room: &Room<B>) -> Place {
+    pub fn place_of<B: Allocator>(self, number: usize, state: State, room: &Room<B>) -> Place {
         let width = width_of(number);
         let [_, _, near, middle, far, _, _] = self.line.steps();
         let points = [middle, near.middle(middle), middle.middle(far), near, far];
+        let mut best = None;
         for point in points {
             let place = self.beside_point(point, width);
             if room.is_free(area_of(place, number)) {
-                return place;
+                if room.distance(place, state) > CLEAR {
+                    return place;
+                }
+                best = best.or(Some(place));
             }
         }
-        self.beside_point(middle, width)
+        best.unwrap_or(self.beside_point(middle, width))
     }
 
     /// A place beside a point, farther away the wider it is across.

@@ -1,5 +1,6 @@
 //! The numbers of faces, each where there is room for it.
 
+use crate::curve::Way;
 use crate::frame::Frame;
 use crate::picture::{Line, Patch, Picture, State};
 use crate::place::Place;
@@ -50,10 +51,16 @@ fn label_area(place: Place) -> Area {
     Area::new(place, 30.0, 11.0)
 }
 
+/// The same with what is better left free around it.
+fn wide_area(place: Place) -> Area {
+    Area::new(place, 42.0, 26.0)
+}
+
 /// The inside of a face.
 #[derive(Clone, Copy)]
 struct Inside<'a> {
     outline: &'a [Line],
+    state: State,
     frame: &'a Frame,
 }
 
@@ -61,6 +68,7 @@ impl<'a> Inside<'a> {
     fn of<B: Allocator>(patch: &'a Patch<B>, frame: &'a Frame) -> Self {
         Inside {
             outline: patch.outline.as_slice(),
+            state: patch.state,
             frame,
         }
     }
@@ -129,17 +137,16 @@ fn free_place<B: Allocator>(inside: Inside, room: &Room<B>) -> Place {
     best
 }
 
-/// How far a place is from the outline and from what is given up; much less if something stands
-/// there.
+/// How far a place is from the outline, and from half edges that are given up where the face is
+/// live, or the other way round; less if something stands near, and much less if it stands there.
 fn worth<B: Allocator>(inside: Inside, place: Place, room: &Room<B>) -> f64 {
-    let mut least = inside.depth(place);
-    for line in &room.lines {
-        least = least.min(Way::along(*line).distance(place));
-    }
-    if room.is_free(label_area(place)) {
-        least
+    let far = inside.depth(place).min(room.distance(place, inside.state));
+    if !room.is_free(label_area(place)) {
+        far - 1000.0
+    } else if !room.is_free(wide_area(place)) {
+        far - 14.0
     } else {
-        least - 1000.0
+        far
     }
 }
 
@@ -158,55 +165,4 @@ fn middle_of_circle([a, b, c]: [Place; 3]) -> Place {
     } else {
         a
     }
-}
-
-/// A line or an arc as a way of straight steps.
-#[derive(Clone, Copy)]
-struct Way {
-    places: [Place; 7],
-}
-
-impl Way {
-    fn along(line: Line) -> Way {
-        Way {
-            places: line.steps(),
-        }
-    }
-
-    fn distance(&self, place: Place) -> f64 {
-        let mut least = f64::INFINITY;
-        let mut from = self.places[0];
-        for to in &self.places {
-            least = least.min(distance_to_step(place, from, *to));
-            from = *to;
-        }
-        least
-    }
-
-    /// Whether a ray to the right crosses it an odd number of times.
-    fn is_crossed(&self, place: Place) -> bool {
-        let mut is_odd = false;
-        let mut from = self.places[0];
-        for to in &self.places {
-            if (from.y > place.y) != (to.y > place.y) {
-                let side = to.minus(from).cross(place.minus(from));
-                if (side > 0.0) == (to.y > from.y) {
-                    is_odd = !is_odd;
-                }
-            }
-            from = *to;
-        }
-        is_odd
-    }
-}
-
-/// How far a place is from a straight step.
-fn distance_to_step(place: Place, from: Place, to: Place) -> f64 {
-    let way = to.minus(from);
-    let length = way.dot(way);
-    if length <= 0.0 {
-        return place.minus(from).length();
-    }
-    let along = (place.minus(from).dot(way) / length).max(0.0).min(1.0);
-    place.minus(from.plus(way.times(along))).length()
 }

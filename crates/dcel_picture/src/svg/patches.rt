@@ -2,16 +2,14 @@
 
 use crate::frame::Frame;
 use crate::picture::{Patch, Picture, State};
+use crate::svg::colors::colors_of;
 use crate::svg::numbers::{At, Tenths};
 use crate::svg::strokes::write_way;
 use std::alloc::Allocator;
 use std::io::{self, Write};
 
-/// How many colors there are.
-const COLORS: usize = 7;
-
 /// Writes the outer face, which is the whole page, and over it the areas of inner faces.
-pub(crate) fn write_live_patches<B: Allocator>(
+pub(crate) fn write_live_patches<B: Allocator + Copy>(
     picture: &Picture<B>,
     frame: &Frame,
     out: &mut impl Write,
@@ -25,9 +23,10 @@ pub(crate) fn write_live_patches<B: Allocator>(
         Tenths(size.x),
         Tenths(size.y)
     )?;
-    for patch in picture.patches.iter().skip(1) {
+    let colors = colors_of(picture)?;
+    for (patch, color) in picture.patches.iter().zip(&colors).skip(1) {
         if patch.state == State::Live && !patch.outline.is_empty() {
-            write!(out, "<path class=\"c{}\" d=\"", patch.number % COLORS)?;
+            write!(out, "<path class=\"c{color}\" d=\"")?;
             write_outline(patch, frame, out)?;
             writeln!(out, "\"/>")?;
         }

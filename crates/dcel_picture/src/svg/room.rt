@@ -1,5 +1,6 @@
 //! Room for numbers on the page: what stands there already.
 
+use crate::curve::Way;
 use crate::frame::Frame;
 use crate::picture::{Line, Picture, State};
 use crate::place::Place;
@@ -36,8 +37,8 @@ impl Area {
 #[derive(Drop)]
 pub(crate) struct Room<B: Allocator> {
     areas: Vec<Area, B>,
-    /// The lines of half edges that are given up.
-    pub lines: Vec<Line, B>,
+    live: Vec<Line, B>,
+    given_up: Vec<Line, B>,
     is_kept: bool,
 }
 
@@ -47,7 +48,8 @@ impl<B: Allocator + Copy> Room<B> {
         let alloc = *picture.strokes.allocator();
         let mut room = Room {
             areas: Vec::new(alloc),
-            lines: Vec::new(alloc),
+            live: Vec::new(alloc),
+            given_up: Vec::new(alloc),
             is_kept: picture.dots.len() <= MOST,
         };
         for dot in &picture.dots {
@@ -60,9 +62,7 @@ impl<B: Allocator + Copy> Room<B> {
             if let Some(line) = stroke.line() {
                 let shown = frame.shown_line(line);
                 room.take(Area::new(Arrow::beside(shown).line.to, 5.0, 5.0))?;
-                if stroke.state == State::GivenUp {
-                    room.lines.push(shown)?;
-                }
+                room.note(stroke.state, shown)?;
             }
         }
         Ok(room)
@@ -78,6 +78,31 @@ impl<B: Allocator> Room<B> {
             }
         }
         true
+    }
+
+    /// How far a place is from what is drawn over things of this state: from half edges that are
+    /// given up, or from live ones.
+    pub fn distance(&self, place: Place, state: State) -> f64 {
+        let lines = match state {
+            State::Live => &self.given_up,
+            State::GivenUp => &self.live,
+        };
+        let mut least = f64::INFINITY;
+        for line in lines {
+            least = least.min(Way::along(*line).distance(place));
+        }
+        least
+    }
+
+    /// Notes where a half edge lies, unless the picture is a large one.
+    fn note(&mut self, state: State, line: Line) -> Result<(), AllocError> {
+        if self.is_kept {
+            match state {
+                State::Live => self.live.push(line)?,
+                State::GivenUp => self.given_up.push(line)?,
+            }
+        }
+        Ok(())
     }
 
     /// Notes that something stands in a box, unless the picture is a large one.

@@ -1,0 +1,111 @@
+//! The words that the program is started with.
+
+use clap::{Arg, ArgAction, ArgMatches, Command, Error};
+use std::alloc::{AllocError, Global};
+
+/// How a file says vertices and faces.
+#[derive(Clone, Copy, PartialEq, Eq, Debug)]
+pub enum Format {
+    /// The Object File Format.
+    Off,
+    /// Wavefront's OBJ.
+    Obj,
+}
+
+/// What is written to standard output.
+#[derive(Clone, Copy, PartialEq, Eq, Debug)]
+pub enum Output {
+    /// The mesh, in a format.
+    Mesh(Format),
+    /// A picture of it.
+    Svg,
+    /// Nothing but whether the file has a mesh.
+    Check,
+}
+
+/// What the program is asked to do.
+#[derive(Clone, Copy)]
+pub struct Arguments<'a> {
+    /// The file; if there is none, standard input.
+    pub file: Option<&'a str>,
+    /// What the file is written in.
+    pub format: Format,
+    /// What to write.
+    pub output: Output,
+}
+
+/// What the words say.
+#[derive(Drop)]
+pub enum Asked<'a> {
+    /// To do this.
+    Run(Arguments<'a>),
+    /// To show help, or they are wrong.
+    Told(Error),
+}
+
+const ABOUT: &str = "Converts a mesh of vertices and faces, or tells what is wrong with it";
+
+const DETAILS: &str = "\
+The file is read as OFF, or as OBJ if its name ends in .obj. Faces list their corners
+counterclockwise, as seen from outside. A surface without a border is a mesh, and so is one with a
+single border; the border, or else the first face, is the outer face. What isn't vertices and faces
+is left out, and named on standard error. A file that has no mesh is refused with the first thing
+that is wrong with it.";
+
+/// Reads the words, the program's name first.
+pub fn read_arguments<'a>(alloc: Global, words: &'a [String]) -> Result<Asked<'a>, AllocError> {
+    match command(alloc)?.try_get_matches_from(words) {
+        Ok(matches) => Ok(Asked::Run(arguments_of(&matches))),
+        Err(error) => Ok(Asked::Told(error)),
+    }
+}
+
+/// The arguments that there are.
+fn command<'a>(alloc: Global) -> Result<Command<'a>, AllocError> {
+    let file = Arg::new(alloc, "file")
+        .value_name("FILE")
+        .help("The file; without it, or with -, standard input");
+    Command::new(alloc, "dcel_convert")
+        .about(ABOUT)
+        .after_help(DETAILS)
+        .arg(file)?
+        .arg(choice(alloc, "check", "Writes nothing but what is wrong")?)?
+        .arg(choice(alloc, "off", "Writes OFF, as it does without a choice")?)?
+        .arg(choice(alloc, "obj", "Writes OBJ")?)?
+        .arg(choice(alloc, "svg", "Draws the mesh")?)
+}
+
+/// One of the choices of what is written.
+fn choice<'a>(alloc: Global, name: &'a str, help: &'a str) -> Result<Arg<'a>, AllocError> {
+    let mut arg = Arg::new(alloc, name)
+        .long(name)
+        .action(ArgAction::SetTrue)
+        .help(help);
+    for other in ["check", "off", "obj", "svg"] {
+        if other != name {
+            arg = arg.conflicts_with(other)?;
+        }
+    }
+    Ok(arg)
+}
+
+fn arguments_of<'a>(matches: &ArgMatches<'a>) -> Arguments<'a> {
+    let file = matches.get_str("file").filter(|name| *name != "-");
+    let output = if matches.get_flag("check") {
+        Output::Check
+    } else if matches.get_flag("svg") {
+        Output::Svg
+    } else if matches.get_flag("obj") {
+        Output::Mesh(Format::Obj)
+    } else {
+        Output::Mesh(Format::Off)
+    };
+    Arguments {
+        file,
+        format: match file {
+            Some(name) if name.ends_with(".obj") => Format::Obj,
+            _ => Format::Off,
+        },
+        output,
+    }
+}

@@ -1,0 +1,81 @@
+//! What is written to standard output.
+
+use crate::arguments::{Format, Output};
+use crate::fault::Fault;
+use crate::meshing::{Mesh, Solid, list_corners};
+use dcel_picture::{Picture, Style, spread, write_svg};
+use std::alloc::Global;
+use std::io::{self, BufWriter, Write};
+
+/// Writes what is asked for.
+pub fn write_asked(
+    rt: &(impl Print + AllocGlobal),
+    output: Output,
+    solid: &Solid,
+) -> Result<(), Fault> {
+    let alloc = rt.alloc();
+    let mut writer = BufWriter::new(alloc, io::writer(rt))?;
+    match output {
+        Output::Check => (),
+        Output::Svg => draw(alloc, &mut writer, &solid.mesh)?,
+        Output::Mesh(Format::Off) => write_off(alloc, &mut writer, solid)?,
+        Output::Mesh(Format::Obj) => write_obj(alloc, &mut writer, solid)?,
+    }
+    writer.flush()?;
+    Ok(())
+}
+
+/// Draws the mesh, with places of its own for the vertices.
+fn draw(alloc: Global, writer: &mut impl Write, mesh: &Mesh) -> Result<(), Fault> {
+    let places = spread(alloc, mesh, None)?;
+    let picture = Picture::new(alloc, mesh, None, &places)?;
+    write_svg(&picture, Style { anchors: false }, writer)?;
+    Ok(())
+}
+
+/// Writes the mesh in the Object File Format.
+fn write_off(alloc: Global, writer: &mut impl Write, solid: &Solid) -> Result<(), Fault> {
+    writeln!(writer, "OFF")?;
+    writeln!(
+        writer,
+        "{} {} 0",
+        solid.mesh.num_vertices(),
+        solid.num_faces()
+    )?;
+    for vertex in solid.mesh.vertices() {
+        writeln!(writer, "{}", vertex.data())?;
+    }
+    let mut corners = Vec::new(alloc);
+    for face in solid.mesh.faces() {
+        if solid.has_face(face.fix()) {
+            list_corners(face, &mut corners)?;
+            write!(writer, "{}", corners.len())?;
+            write_numbers(writer, &corners, 0)?;
+        }
+    }
+    Ok(())
+}
+
+/// Writes the mesh as OBJ, which counts vertices from 1.
+fn write_obj(alloc: Global, writer: &mut impl Write, solid: &Solid) -> Result<(), Fault> {
+    for vertex in solid.mesh.vertices() {
+        writeln!(writer, "v {}", vertex.data())?;
+    }
+    let mut corners = Vec::new(alloc);
+    for face in solid.mesh.faces() {
+        if solid.has_face(face.fix()) {
+            list_corners(face, &mut corners)?;
+            write!(writer, "f")?;
+            write_numbers(writer, &corners, 1)?;
+        }
+    }
+    Ok(())
+}
+
+/// Writes the numbers of vertices, counted from `first` on, and ends the line.
+fn write_numbers(writer: &mut impl Write, corners: &[usize], first: usize) -> io::Result<()> {
+    for corner in corners {
+        write!(writer, " {}", corner.saturating_add(first))?;
+    }
+    writeln!(writer)
+}

@@ -1,0 +1,127 @@
+-- Which sides are known, and which of them lead back.
+use Rattle.std.proofs.Common.{◌≡◌, ◌⊎◌, inl, inr, ℕ, zero, suc, ◌+◌, ◌<◌, ◌≤◌, ◌==◌, ◌&&◌, Bool, true, false, cond, List, slice_index, unwrap_or, Option, Some, None, refl, sym, ap, ◌∙◌, subst, eq-eqb, arith}
+use Rattle.std.proofs.lemmas.Bool.{and_from, and_parts, cases_Bool, cases_eq, cases_lt, eqb-true, false≢true, not_from_false, not_from_true, or_cases, or_left, or_right}
+use Rattle.dcel_maps.specs.Maps.{any_below, count}
+use Rattle.dcel_exchange.specs.Corners.{LeadsBack, is_first, leads_back}
+use Rattle.dcel_exchange.specs.Numbering.{AreKnown}
+
+-- what holds of each number below i, and of i
+pub each_below : (P : ℕ → Type 0) (i : ℕ) → ((p : ℕ) → p < i → P p) → P i → (p : ℕ) → p < i + 1 → P p
+each_below P i old new p below = elim (cases_lt p i) [
+  | inl less ↦ old p less
+  | inr past ↦ let same : i ≡ p = omega (arith, below, past) in subst P same new
+]
+
+pub one_of : (p q : ℕ) → Some p ≡ Some q → p ≡ q
+one_of p q same = ap (λ o. unwrap_or o 0) same
+
+abbrev is_some : Option ℕ → Bool
+is_some None = false
+is_some (Some p) = true
+
+pub not_none : (p : ℕ) → Some p ≡ None → ⊥
+not_none p same = false≢true (sym (ap is_some same))
+
+any_from : (p : ℕ → Bool) (n k : ℕ) → k < n → p k ≡ true → any_below p n ≡ true
+any_from p zero k l t = absurd (omega arith)
+any_from p (suc n) k l t = elim (cases_eq k n) [
+  | inl i ↦ or_left (p n) (any_below p n) (ap p (sym i) ∙ t)
+  | inr d ↦ or_right (p n) (any_below p n) (any_from p n k (omega arith) t)
+]
+
+any_gives : (p : ℕ → Bool) (n : ℕ) → any_below p n ≡ true → (k : ℕ) × (k < n) × (p k ≡ true)
+any_gives p zero t = absurd (false≢true t)
+any_gives p (suc n) t = elim (or_cases (p n) (any_below p n) t) [
+  | inl i ↦ (n, omega arith, i)
+  | inr i ↦ let r = any_gives p n i in (r.0, omega arith, r.2)
+]
+
+module _ (from to : List ℕ) where
+  back_test : (p q : ℕ) → LeadsBack from to p q → leads_back from to p q ≡ true
+  back_test p q back = and_from _ _ (eq-eqb _ _ back.0) (eq-eqb _ _ back.1)
+
+  test_back : (p q : ℕ) → leads_back from to p q ≡ true → LeadsBack from to p q
+  test_back p q test = let both = and_parts (slice_index from q == slice_index to p) (slice_index to q == slice_index from p) test in (eqb-true _ _ both.0, eqb-true _ _ both.1)
+
+  -- where no side before it leads back, a side is the first of its edge
+  pub first_from : (p : ℕ) → ((q : ℕ) → q < p → ¬ LeadsBack from to p q) → is_first from to p ≡ true
+  first_from p none = elim (cases_Bool (any_below (leads_back from to p) p)) [
+    | inl some ↦ let r = any_gives (leads_back from to p) p some in absurd (none r.0 r.1 (test_back p r.0 r.2))
+    | inr alone ↦ not_from_false _ alone
+  ]
+
+  pub second_from : (p q : ℕ) → q < p → LeadsBack from to p q → is_first from to p ≡ false
+  second_from p q below back = not_from_true _ (any_from (leads_back from to p) p q below (back_test p q back))
+
+  pub first_none : (p q : ℕ) → is_first from to p ≡ true → q < p → ¬ LeadsBack from to p q
+  first_none p q first below back = false≢true (sym (second_from p q below back) ∙ first)
+
+  pub first_cases : (p : ℕ) → (is_first from to p ≡ true) ⊎ ((q : ℕ) × (q < p) × LeadsBack from to p q)
+  first_cases p = elim (cases_Bool (any_below (leads_back from to p) p)) [
+    | inl some ↦ let r = any_gives (leads_back from to p) p some in inr (r.0, r.1, test_back p r.0 r.2)
+    | inr alone ↦ inl (not_from_false _ alone)
+  ]
+
+  pub count_first : (i : ℕ) → is_first from to i ≡ true → count (is_first from to) (i + 1) ≡ count (is_first from to) i + 1
+  count_first i first =
+      let next : i + 1 ≡ suc i = omega arith in
+      let more : count (is_first from to) (suc i) ≡ suc (count (is_first from to) i) = rw first refl in
+      ap (count (is_first from to)) next ∙ more ∙ omega arith
+
+  pub count_second : (i : ℕ) → is_first from to i ≡ false → count (is_first from to) (i + 1) ≡ count (is_first from to) i
+  count_second i second =
+      let next : i + 1 ≡ suc i = omega arith in
+      let same : count (is_first from to) (suc i) ≡ count (is_first from to) i = rw second refl in
+      ap (count (is_first from to)) next ∙ same
+
+  pub count_few : (i : ℕ) → count (is_first from to) i ≤ i
+  count_few zero = omega arith
+  count_few (suc i) = elim (cases_Bool (is_first from to i)) [
+    | inl first ↦ rw first (omega (arith, count_few i))
+    | inr second ↦ rw second (omega (arith, count_few i))
+  ]
+
+  module _ (i : ℕ) (known : ℕ → ℕ → Option ℕ) (k : AreKnown from to i known) where
+    -- no two known sides have the same ends
+    pub one_side : (p q : ℕ) → p < i → q < i → slice_index from p ≡ slice_index from q → slice_index to p ≡ slice_index to q → p ≡ q
+    one_side p q lp lq starts ends =
+        one_of p q (sym (k.each p lp) ∙ ap (λ a. known a (slice_index to p)) starts ∙ ap (known (slice_index from q)) ends ∙ k.each q lq)
+
+    -- a side that isn't known is none of these
+    pub fresh_side : known (slice_index from i) (slice_index to i) ≡ None → (q : ℕ) → q < i → slice_index from q ≡ slice_index from i → slice_index to q ≡ slice_index to i → ⊥
+    fresh_side new q below starts ends =
+        not_none q (sym (k.each q below) ∙ ap (λ a. known a (slice_index to q)) starts ∙ ap (known (slice_index from i)) ends ∙ new)
+
+    pub none_back : known (slice_index to i) (slice_index from i) ≡ None → (q : ℕ) → q < i → ¬ LeadsBack from to i q
+    none_back none q below back =
+        not_none q (sym (k.each q below) ∙ ap (λ a. known a (slice_index to q)) back.0 ∙ ap (known (slice_index to i)) back.1 ∙ none)
+
+    -- one more side is known
+    module _ (known' : ℕ → ℕ → Option ℕ) (new : known (slice_index from i) (slice_index to i) ≡ None)
+        (put : (a b : ℕ) → known' a b ≡ cond (slice_index from i == a && slice_index to i == b) (Some i) (known a b)) where
+      here : known' (slice_index from i) (slice_index to i) ≡ Some i
+      here =
+          let test = and_from (slice_index from i == slice_index from i) (slice_index to i == slice_index to i) (eq-eqb _ _ refl) (eq-eqb _ _ refl) in
+          put (slice_index from i) (slice_index to i) ∙ ap (λ t. cond t (Some i) (known (slice_index from i) (slice_index to i))) test
+
+      there : (a b : ℕ) → (slice_index from i == a && slice_index to i == b) ≡ false → known' a b ≡ known a b
+      there a b other = put a b ∙ ap (λ t. cond t (Some i) (known a b)) other
+
+      apart_test : (p : ℕ) → p < i → (slice_index from i == slice_index from p && slice_index to i == slice_index to p) ≡ false
+      apart_test p below = elim (cases_Bool (slice_index from i == slice_index from p && slice_index to i == slice_index to p)) [
+        | inl same ↦ let both = and_parts (slice_index from i == slice_index from p) (slice_index to i == slice_index to p) same in
+            absurd (fresh_side new p below (sym (eqb-true _ _ both.0)) (sym (eqb-true _ _ both.1)))
+        | inr other ↦ other
+      ]
+
+      pub known_more : AreKnown from to (i + 1) known'
+      known_more = record {
+        each = each_below (λ p. known' (slice_index from p) (slice_index to p) ≡ Some p) i
+            (λ p below. there (slice_index from p) (slice_index to p) (apart_test p below) ∙ k.each p below) here;
+        only = λ a b p found. elim (cases_Bool (slice_index from i == a && slice_index to i == b)) [
+          | inl same ↦ let both = and_parts (slice_index from i == a) (slice_index to i == b) same in
+              let is : i ≡ p = one_of i p (sym (ap (λ t. cond t (Some i) (known a b)) same) ∙ sym (put a b) ∙ found) in
+              subst (λ n. (n < i + 1) × (slice_index from n ≡ a) × (slice_index to n ≡ b)) is (omega arith, eqb-true _ _ both.0, eqb-true _ _ both.1)
+          | inr other ↦ let was = k.only a b p (sym (there a b other) ∙ found) in (omega (arith, was.0), was.1, was.2)
+        ];
+      }

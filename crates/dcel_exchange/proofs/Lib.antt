@@ -1,0 +1,9 @@
+pub mod Listing
+pub mod Again
+pub mod KnownSides
+pub mod NumberedSides
+pub mod Rows
+pub mod Borders
+pub mod FaceWords
+pub mod Ranges
+pub mod Defaulted

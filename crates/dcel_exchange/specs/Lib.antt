@@ -1,0 +1,7 @@
+pub mod Links
+pub mod Corners
+pub mod Numbering
+pub mod Meshes
+pub mod Reasons
+pub mod Bordering
+pub mod Defaults

@@ -1,0 +1,165 @@
+//! A mesh made of faces with their corners.
+
+ghost use Rattle.std.specs.Prelude.{◌≡◌, ◌+◌, ◌*◌, ◌/◌, All, IfErr, IfOk, length};
+ghost use Rattle.dcel_exchange.specs.Corners.{corners_of};
+ghost use Rattle.dcel_exchange.specs.Defaults.{HasDefaults};
+ghost use Rattle.dcel_exchange.specs.Meshes.{AreLinks, HasFaces};
+ghost use Rattle.dcel_exchange.specs.Reasons.{Means, reason_for};
+ghost use Rattle.dcel_links.specs.Claims.{claim};
+ghost use Rattle.dcel_maps.specs.Removals.{Closed};
+ghost use Rattle.dcel_maps.specs.Shapes.{IsMesh};
+
+use crate::linking::{find_border, list_links};
+use crate::lists::LinkLists;
+use crate::numbering::{Numbering, number_sides};
+use crate::refusal::{FacesError, RefusedFaces};
+use crate::sides::{check_ends, list_sides};
+use spade_dcel::dcel::Dcel;
+use spade_dcel::laws::the_headline;
+use spade_dcel::operations::{EdgeData, LinksError, MeshData, from_links};
+use std::alloc::{AllocError, Allocator};
+
+/// Makes a mesh of faces, each the list of its corners, counterclockwise.
+///
+/// The faces keep their order, from number 1 on; face 0, the outer one, is what they leave. So of
+/// a closed surface one face is left out. The vertices keep their numbers, and one may be no corner.
+/// The edges are numbered in the order in which their first sides come, face by face, and such a
+/// side is the even half edge. Data of edges and faces are defaults, and no removal is open.
+///
+/// It takes any lists. If there is no mesh, or none that the rule tells, or memory runs out, the
+/// vertices come back with a reason ([`FacesError`]). Two faces that meet at a vertex alone are
+/// refused ([`BorderTwice`](FacesError::BorderTwice)), since the lists don't tell how they lie
+/// round it. It goes over the sides a fixed number of times, and looks up each in a hash map.
+pub fn from_faces<
+    V: Drop,
+    DE: Drop + Default,
+    UE: Drop + Default,
+    F: Drop + Default,
+    A: Allocator + Clone,
+    B: Allocator,
+>(
+    alloc: A,
+    vertices: Vec<V, A>,
+    faces: &[Vec<u32, B>],
+) -> Result<Dcel<V, DE, UE, F, A>, RefusedFaces<Vec<V, A>>>
+    ensures faces { IfOk result (λ dcel. HasFaces dcel.shape (length vertices.items) (corners_of faces.now)) }
+    ensures vertices { IfOk result (λ dcel. dcel.vertex_data ≡ vertices.items) }
+    ensures half_data { IfOk result (λ dcel. All DE.is_default dcel.directed_data) }
+    ensures edge_data { IfOk result (λ dcel. All UE.is_default dcel.undirected_data) }
+    ensures face_data { IfOk result (λ dcel. All F.is_default dcel.face_data) }
+    ensures closed { IfOk result (λ dcel. dcel.shape.removal ≡ Closed) }
+    ensures mesh { IfOk result IsMesh }
+    ensures reason { IfErr result (λ refused. Means (length vertices.items) (corners_of faces.now) refused.reason) }
+    ensures back { IfErr result (λ refused. refused.back ≡ vertices) }
+{
+    let links = match link_faces(&alloc, vertices.len(), faces) {
+        Ok(links) => links,
+        Err(reason) => {
+            return Err(RefusedFaces {
+                reason,
+                back: vertices,
+            });
+        }
+    };
+    let Ok((edge_data, face_data)) = make_data(&alloc, links.next.len() / 2, faces.len()) else {
+        return Err(RefusedFaces {
+            reason: FacesError::OutOfMemory,
+            back: vertices,
+        });
+    };
+    let given = MeshData {
+        vertices,
+        edges: edge_data,
+        faces: face_data,
+    };
+    match from_links(alloc, &links.next, &links.origin, &links.face, given) {
+        Ok(dcel) => {
+            the_headline(&dcel);
+            Ok(dcel)
+        }
+        Err(refused) => Err(RefusedFaces {
+            reason: reason_of(refused.reason),
+            back: refused.back.vertices,
+        }),
+    }
+}
+
+// What a refusal by `from_links` says of the faces.
+fn reason_of(reason: LinksError) -> FacesError
+    ensures { result ≡ reason_for reason }
+{
+    match reason {
+        LinksError::Edges => FacesError::OutOfMemory,
+        LinksError::Links(fault) => FacesError::Links(fault),
+        LinksError::OutOfMemory => FacesError::OutOfMemory,
+    }
+}
+
+/// Lists the links of the half edges of these faces and of the border that they leave.
+fn link_faces<A: Allocator + Clone, B: Allocator>(
+    alloc: &A,
+    vertices: usize,
+    faces: &[Vec<u32, B>],
+) -> Result<LinkLists<A>, FacesError>
+    ensures links { IfOk result (λ links. AreLinks vertices (corners_of faces.now) (claim links.next.items links.origin.items links.face.items vertices (length faces.now + 1))) }
+    ensures reason { IfErr result (Means vertices (corners_of faces.now)) }
+{
+    let sides = list_sides(alloc, faces)?;
+    check_ends(&sides, vertices)?;
+    let numbering = number_sides(alloc, &sides)?;
+    let border = find_border(alloc, &sides, &numbering, vertices)?;
+    let (next, face) = list_links(alloc, &sides, &numbering, &border)?;
+    let Numbering { origin, .. } = numbering;
+    Ok(LinkLists { next, origin, face })
+}
+
+/// Makes default data for edges, and for faces and the outer one.
+fn make_data<DE: Drop + Default, UE: Drop + Default, F: Drop + Default, A: Allocator + Clone>(
+    alloc: &A,
+    edges: usize,
+    faces: usize,
+) -> Result<(Vec<EdgeData<DE, UE>, A>, Vec<F, A>), AllocError>
+    ensures edges { IfOk result (λ made. length made.0.items ≡ edges) }
+    ensures faces { IfOk result (λ made. length made.1.items ≡ faces + 1) }
+    ensures each_edge { IfOk result (λ made. All (HasDefaults DE.is_default UE.is_default) made.0.items) }
+    ensures each_face { IfOk result (λ made. All F.is_default made.1.items) }
+{
+    let edge_data = make_edges(alloc.clone()?, edges)?;
+    let face_data = make_faces(alloc.clone()?, faces)?;
+    Ok((edge_data, face_data))
+}
+
+/// Makes default data for that many edges.
+fn make_edges<DE: Drop + Default, UE: Drop + Default, A: Allocator>(
+    alloc: A,
+    count: usize,
+) -> Result<Vec<EdgeData<DE, UE>, A>, AllocError>
+    ensures count { IfOk result (λ made. length made.items ≡ count) }
+    ensures each { IfOk result (λ made. All (HasDefaults DE.is_default UE.is_default) made.items) }
+{
+    let mut made = Vec::new(alloc);
+    for number in 0..count {
+        made.push(EdgeData {
+            normalized: DE::default(),
+            reversed: DE::default(),
+            undirected: UE::default(),
+        })?;
+    }
+    Ok(made)
+}
+
+/// Makes default data for that many faces and the outer one.
+fn make_faces<F: Drop + Default, A: Allocator>(
+    alloc: A,
+    count: usize,
+) -> Result<Vec<F, A>, AllocError>
+    ensures count { IfOk result (λ made. length made.items ≡ count + 1) }
+    ensures each { IfOk result (λ made. All F.is_default made.items) }
+{
+    let mut made = Vec::new(alloc);
+    made.push(F::default())?;
+    for number in 0..count {
+        made.push(F::default())?;
+    }
+    Ok(made)
+}

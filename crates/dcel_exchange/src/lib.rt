@@ -1,0 +1,22 @@
+//! Meshes in and out: as lists of links, and as faces with their corners.
+//!
+//! [`links`] and [`link_lists`] give what `from_links` of `spade_dcel` takes, and [`with_data`]
+//! makes the same mesh again over other data. [`from_faces`] makes a mesh of faces that are given
+//! as lists of vertices.
+#![tactic(auto)]
+
+mod faces;
+mod linking;
+mod lists;
+mod numbering;
+mod refusal;
+mod sides;
+mod steps;
+
+pub use faces::from_faces;
+pub use lists::{LinkLists, link_lists, with_data};
+pub use refusal::{FacesError, RefusedFaces};
+pub use steps::{Link, LinkIterator, links};
+
+#[cfg(test)]
+mod tests;

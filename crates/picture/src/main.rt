@@ -1,0 +1,77 @@
+//! Reads commands for a half-edge mesh, one a line, and draws the mesh that is left.
+//!
+//! `picture --help` tells what it reads and writes. It exits with status 0; with 1, and with no
+//! picture, if a line is bad or refused, a read or a write failed, or there was no memory; and with
+//! 2 if its arguments are bad.
+#![tactic(auto)]
+
+mod arguments;
+mod drawing;
+mod fault;
+mod files;
+mod items;
+mod language;
+mod placing;
+
+use crate::arguments::{Arguments, Asked, read_arguments};
+use crate::drawing::Drawing;
+use crate::fault::Fault;
+use crate::files::read_lines;
+use crate::placing::read_places;
+use dcel_picture::{Picture, Style, bow, spread, write_svg};
+use std::env;
+use std::io::{self, BufWriter, Write};
+use std::process::ExitCode;
+use std::rt::{Env, Files};
+
+fn main(rt: HostRuntime) -> ExitCode {
+    match run(&rt) {
+        Ok(code) => code,
+        Err(fault) => {
+            let _ = eprintln!(rt; "picture: {fault}");
+            ExitCode::FAILURE
+        }
+    }
+}
+
+/// Does what the arguments ask for.
+fn run(rt: &(impl Env + Files + Input + Print + Eprint + AllocGlobal)) -> Result<ExitCode, Fault> {
+    let words: Vec<String> = env::args(rt)?.collect(rt.alloc())?;
+    match read_arguments(rt.alloc(), words.as_slice())? {
+        Asked::Run(arguments) => {
+            draw(rt, &arguments)?;
+            Ok(ExitCode::SUCCESS)
+        }
+        Asked::Told(message) => {
+            message.print(rt)?;
+            Ok(ExitCode::from(message.exit_code() as u8))
+        }
+    }
+}
+
+/// Reads the lines, and draws the mesh that they leave.
+fn draw(
+    rt: &(impl Files + Input + Print + AllocGlobal),
+    arguments: &Arguments,
+) -> Result<(), Fault> {
+    let alloc = rt.alloc();
+    let mut drawing = Drawing::new(alloc)?;
+    read_lines(rt, arguments.file, &mut drawing)?;
+    let (mesh, before) = (drawing.mesh(), drawing.before());
+    let places = match arguments.places {
+        None => spread(alloc, mesh, before)?,
+        Some(path) => {
+            let mut places = read_places(rt, path, mesh)?;
+            bow(alloc, mesh, before, &mut places)?;
+            places
+        }
+    };
+    let picture = Picture::new(alloc, mesh, before, &places)?;
+    let style = Style {
+        anchors: arguments.anchors,
+    };
+    let mut writer = BufWriter::new(alloc, io::writer(rt))?;
+    write_svg(&picture, style, &mut writer)?;
+    writer.flush()?;
+    Ok(())
+}
