@@ -1,5 +1,5 @@
-//! Commands that a mesh carries out or refuses by name; and the runner, which reads commands and
-//! queries as lines and writes the replies.
+//! Commands that a mesh carries out or refuses by name; the reader of lines, each a command or a
+//! query; and the runner, which writes the replies to lines.
 
 mod command;
 mod dispatch;
@@ -7,8 +7,10 @@ mod lists;
 mod reply;
 
 pub use crate::faults::RunFault;
+pub use crate::given::Said;
+pub use crate::reading::read;
 pub use crate::refusal::Refusal;
-pub use crate::request::LineMesh;
+pub use crate::request::{LineMesh, Query, Request};
 pub use crate::run::run;
 pub use crate::session::Session;
 pub use command::Command;

@@ -50,9 +50,11 @@ fn read_after<'a, A: Allocator + Copy>(word: &[u8], rest: Rest<'a>, memory: A) -
     }
 }
 
-/// Reads what a line says, with its lists in `memory`.
+/// Reads what a line says, without its line feed and with its lists in `memory`.
 ///
-/// Returns `None` if the line is neither a command nor a query.
+/// Answers `None` if the line is neither a command nor a query, or has more than 4,096 bytes, and
+/// `AllocError` if it has a list that finds no memory. No mesh is asked: what a command asks of one
+/// is tested by [`apply`](crate::commands::apply). The table in docs/LINES.md has all lines.
 pub fn read<A: Allocator + Copy>(line: &[u8], memory: A) -> Said<A>
     ensures { Reads line.now result }
 {

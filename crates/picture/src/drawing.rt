@@ -5,8 +5,7 @@ ghost use Rattle.dcel_maps.specs.Shapes.{vertex_is_live};
 ghost use Rattle.picture.specs.Queries.{HasAsked};
 
 use crate::fault::Wrong;
-use crate::language::{Query, Said, read};
-use dcel_commands::commands::{Command, MAX_LIMIT, Refusal, apply};
+use dcel_commands::commands::{Command, MAX_LIMIT, Query, Refusal, Request, apply, read};
 use dcel_fixed::FixedVertexHandle;
 use spade_dcel::dcel::{Dcel, RemovalState};
 use spade_dcel::operations;
@@ -46,14 +45,18 @@ impl Drawing {
         self.before.as_ref()
     }
 
-    /// Does what a line says. One that is bad or refused leaves the mesh as it was.
+    /// Does what a line says, without the comment that it may have. One that is bad or refused
+    /// leaves the mesh as it was.
     pub fn take(&mut self, line: &str) -> Result<(), Wrong>
         ensures { OnErr result (self.new.mesh ≡ self.old.mesh) }
     {
-        match read(self.alloc, line)? {
-            Said::Nothing => Ok(()),
-            Said::Edit(command) => self.carry_out(command),
-            Said::Ask(query) => match refusal_of(&self.mesh, query) {
+        let line = before_comment(line).trim_ascii_end();
+        if line.is_empty() {
+            return Ok(());
+        }
+        match read(line.as_bytes(), self.alloc).ok_or(Wrong::BadLine)?? {
+            Request::Edit(command) => self.carry_out(command),
+            Request::Ask(query) => match refusal_of(&self.mesh, query) {
                 Some(why) => Err(Wrong::Refused(why)),
                 None => Ok(()),
             },
@@ -77,6 +80,13 @@ impl Drawing {
             self.before = None;
         }
         Ok(())
+    }
+}
+
+fn before_comment(line: &str) -> &str {
+    match line.split_once('#') {
+        Some((before, _)) => before,
+        None => line,
     }
 }
 
@@ -111,11 +121,11 @@ fn refusal_of(mesh: &Mesh, query: Query) -> Option<Refusal>
     ensures { IsNone result ↔ HasAsked mesh.now.shape query }
 {
     match query {
-        Query::Whole => None,
-        Query::Datum(vertex) => refusal_of_number(mesh, vertex),
-        Query::Vertex(vertex) => refusal_of_vertex(mesh, vertex),
-        Query::Vertices(first, second) => refusal_of_vertices(mesh, first, second),
-        Query::HalfEdge(edge) => {
+        Query::Counts | Query::Words | Query::Hull | Query::Check => None,
+        Query::Get(vertex) => refusal_of_number(mesh, vertex),
+        Query::Out(vertex) => refusal_of_vertex(mesh, vertex),
+        Query::Between(first, second) => refusal_of_vertices(mesh, first, second),
+        Query::Origin(edge) => {
             if edge.index() >= mesh.num_directed_edges() {
                 Some(Refusal::NoSuchEdge)
             } else if !mesh.is_live_edge(edge.as_undirected()) {

@@ -53,27 +53,12 @@ pub enum Fault {
 /// What is wrong with a line.
 #[derive(Clone, Copy, PartialEq, Eq, Debug, Drop, Error)]
 pub enum Wrong {
-    /// Its first word is none of the language.
-    #[error("no line begins with this word")]
-    NoSuchWord,
-    /// Something is missing.
-    #[error("there are too few numbers")]
-    TooFew,
-    /// There is more than there should be.
-    #[error("there are too many numbers")]
-    TooMany,
-    /// A list does not end with a slash.
-    #[error("there is no slash between two lists")]
-    NoSlash,
-    /// The number of an element is not written as one.
-    #[error("the number of an element is a whole number below 4294967296, without leading zeros")]
-    NoNumber,
-    /// A datum is not written as one.
-    #[error("a datum is a whole number of 64 bits, without leading zeros")]
-    NoDatum,
-    /// It has more bytes than a line may have.
-    #[error("a line has at most 4096 bytes")]
-    TooLong,
+    /// It is neither a command nor a query.
+    #[error("bad line")]
+    BadLine,
+    /// It does not say a vertex and two coordinates.
+    #[error("a place is a vertex and two coordinates")]
+    NoPlace,
     /// A coordinate is no number.
     #[error("a coordinate is no number")]
     NoCoordinate,

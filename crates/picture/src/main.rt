@@ -9,8 +9,6 @@ mod arguments;
 mod drawing;
 mod fault;
 mod files;
-mod items;
-mod language;
 mod placing;
 
 use crate::arguments::{Arguments, Asked, read_arguments};

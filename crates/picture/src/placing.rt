@@ -54,11 +54,11 @@ fn set_place(places: &mut [Option<Place>], line: &str) -> Result<(), Wrong> {
     let Some(vertex) = items.next() else {
         return Ok(());
     };
-    let vertex = vertex.parse::<usize>().map_err(|_| Wrong::NoNumber)?;
+    let vertex = vertex.parse::<usize>().map_err(|_| Wrong::NoPlace)?;
     let x = coordinate(items.next())?;
     let y = coordinate(items.next())?;
     if items.next().is_some() {
-        return Err(Wrong::TooMany);
+        return Err(Wrong::NoPlace);
     }
     let place = places.get_mut(vertex).ok_or(Wrong::NoSuchVertex)?;
     *place = Some(Place::new(x, y));
@@ -67,7 +67,7 @@ fn set_place(places: &mut [Option<Place>], line: &str) -> Result<(), Wrong> {
 
 fn coordinate(item: Option<&str>) -> Result<f64, Wrong> {
     let number = item
-        .ok_or(Wrong::TooFew)?
+        .ok_or(Wrong::NoPlace)?
         .parse::<f64>()
         .map_err(|_| Wrong::NoCoordinate)?;
     if number.is_finite() {
