@@ -13,6 +13,3 @@ mod planes;
 pub use circles::is_circled;
 pub use legalize::legalize_by_circles;
 pub use planes::{is_delaunay, is_plane};
-
-#[cfg(test)]
-mod tests;

@@ -29,6 +29,3 @@ pub use errors::{InsertionError, point};
 pub use mesh::Mesh;
 pub use position::PositionInTriangulation;
 pub use triangulation::Triangulation;
-
-#[cfg(test)]
-mod tests;

@@ -17,6 +17,3 @@ pub use faces::from_faces;
 pub use lists::{LinkLists, link_lists, with_data};
 pub use refusal::{FacesError, RefusedFaces};
 pub use steps::{Link, LinkIterator, links};
-
-#[cfg(test)]
-mod tests;

@@ -297,6 +297,3 @@ impl<Kind, InnerOuter: InnerOuterMarker> Debug for FixedHandleImpl<Kind, InnerOu
             .finish()
     }
 }
-
-#[cfg(test)]
-mod tests;

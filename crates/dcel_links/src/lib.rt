@@ -86,6 +86,3 @@ pub(crate) fn other_half(half: usize) -> usize
 {
     half ^ 1
 }
-
-#[cfg(test)]
-mod tests;

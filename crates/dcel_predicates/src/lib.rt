@@ -13,6 +13,3 @@ mod predicates;
 
 pub use point::Point;
 pub use predicates::{Side, in_circle, incircle, orient2d, orientation};
-
-#[cfg(test)]
-mod tests;

@@ -1,4 +1,6 @@
-use crate::{
+//! Delaunay triangulations: their counts, positions in them, and what is out of range.
+
+use dcel_delaunay::{
     InsertionError, Point, PositionInTriangulation, Triangulation, insertion_order, point,
 };
 use std::alloc::Global;

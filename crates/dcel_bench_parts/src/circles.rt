@@ -1,4 +1,6 @@
-use crate::{is_circled, is_delaunay, is_plane, legalize_by_circles};
+//! Legalization by circles.
+
+use dcel_circles::{is_circled, is_delaunay, is_plane, legalize_by_circles};
 use dcel_predicates::Point;
 use spade_dcel::dcel::Dcel;
 use spade_dcel::handles::{FixedDirectedEdgeHandle, FixedUndirectedEdgeHandle};

@@ -1,4 +1,6 @@
-use crate::{Fault, check_links};
+//! Links that are given as lists: small meshes, and what is wrong with lists that are none.
+
+use dcel_links::{Fault, check_links};
 use std::alloc::Global;
 use std::process::Abort;
 use std::test::Fail;

@@ -1,6 +1,6 @@
 //! Faces of surfaces that everybody knows, and what is wrong with them.
 
-use crate::{FacesError, LinkLists, from_faces, link_lists, links, with_data};
+use dcel_exchange::{FacesError, LinkLists, from_faces, link_lists, links, with_data};
 use spade_dcel::dcel::{Dcel, RemovalState};
 use spade_dcel::operations::{EdgeData, Fault, MeshData};
 use std::alloc::{AllocError, Global};

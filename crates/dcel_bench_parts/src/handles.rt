@@ -2,8 +2,13 @@
 
 ghost use Rattle.std.specs.Prelude.{◌≡◌, ◌==◌, nat_lt};
 
-use super::*;
+use dcel_fixed::{
+    DirectedEdgeTag, DirectedVoronoiEdgeTag, FaceTag, FixedHandleImpl, FixedUndirectedEdgeHandle,
+    FixedVertexHandle, InnerOuterMarker, InnerTag, OUTER_FACE, OUTER_FACE_HANDLE, PossiblyOuterTag,
+    UndirectedEdgeTag, UndirectedVoronoiEdgeTag, VertexTag, VoronoiFaceTag, new_fixed_face_handle,
+};
 use std::alloc::AllocGlobal;
+use std::fmt::Debug;
 use std::hash::{BuildHasher, BuildHasherDefault, FoldHasher};
 use std::process::Abort;
 use std::test::Fail;

@@ -1,0 +1,18 @@
+//! Tests of the crates below and beside `spade_dcel`: fixed handles, the store, links that are given, predicates, circles, meshes in and
+//! out, and Delaunay triangulations.
+#![tactic(auto)]
+
+#[cfg(test)]
+mod circles;
+#[cfg(test)]
+mod delaunay;
+#[cfg(test)]
+mod exchange;
+#[cfg(test)]
+mod handles;
+#[cfg(test)]
+mod links;
+#[cfg(test)]
+mod predicates;
+#[cfg(test)]
+mod store;
