@@ -15,18 +15,30 @@ struct Row {
     wanted: Result<&'static [u32], FacesError>,
 }
 
-/// The links of the mesh that is made, or the reason.
-fn told(alloc: Global, row: Row) -> Result<Result<LinkLists, FacesError>, AllocError> {
+/// The faces as vectors.
+fn faces_of(alloc: Global, row: Row) -> Result<Vec<Vec<u32>>, AllocError> {
     let mut faces = Vec::new(alloc);
     for corners in row.faces {
         let mut face = Vec::new(alloc);
         face.extend_from_slice(corners)?;
         faces.push(face)?;
     }
+    Ok(faces)
+}
+
+/// The vertices, with their numbers as data.
+fn vertices_of(alloc: Global, row: Row) -> Result<Vec<u32>, AllocError> {
     let mut vertices = Vec::new(alloc);
     for vertex in 0..row.vertices {
         vertices.push(vertex)?;
     }
+    Ok(vertices)
+}
+
+/// The links of the mesh that is made, or the reason.
+fn told(alloc: Global, row: Row) -> Result<Result<LinkLists, FacesError>, AllocError> {
+    let faces = faces_of(alloc, row)?;
+    let vertices = vertices_of(alloc, row)?;
     let made: Result<Dcel<u32>, _> = from_faces(alloc, vertices, &faces);
     match made {
         Ok(dcel) => {
@@ -269,19 +281,26 @@ fn same_again(
         return Ok(false);
     }
     match with_data(alloc, dcel, given) {
-        Ok(again) => {
-            if again.removal_state() != RemovalState::Closed {
-                return Ok(false);
-            }
-            let back = link_lists(alloc, &again)?;
-            Ok(
-                back.next.as_slice() == lists.next.as_slice()
-                    && back.origin.as_slice() == lists.origin.as_slice()
-                    && back.face.as_slice() == lists.face.as_slice(),
-            )
-        }
+        Ok(again) => has_links(alloc, &again, lists),
         Err(_) => Ok(false),
     }
+}
+
+/// Whether no removal is open, and the links are those of the lists.
+fn has_links(
+    alloc: Global,
+    dcel: &Dcel<bool, (), u8, ()>,
+    lists: &LinkLists,
+) -> Result<bool, AllocError> {
+    if dcel.removal_state() != RemovalState::Closed {
+        return Ok(false);
+    }
+    let own = link_lists(alloc, dcel)?;
+    Ok(
+        own.next.as_slice() == lists.next.as_slice()
+            && own.origin.as_slice() == lists.origin.as_slice()
+            && own.face.as_slice() == lists.face.as_slice(),
+    )
 }
 
 #[test]
