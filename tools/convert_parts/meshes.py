@@ -1,0 +1,114 @@
+"""Meshes of plain lists, and what their faces tell of them: found by half edges, of which dcel_convert sees nothing."""
+
+import random
+from collections import Counter
+from copy import deepcopy
+from pathlib import Path
+
+from fuzz_parts.lines import answer
+from fuzz_parts.making import Maker
+from fuzz_parts.mesh import CLOSED, Mesh, other
+
+from .surface import Surface
+
+ROOT = Path(__file__).resolve().parent.parent.parent
+
+
+def stored():
+    """The meshes without an open removal that stored lines leave: those of the pictures, and after any line of a talk, once each."""
+    for path in sorted(ROOT.glob("docs/pictures/*.lines")):
+        for mesh in [*states(path.read_text().splitlines())][-1:]:
+            yield path.name, mesh
+    seen = []
+    for path in sorted(ROOT.glob("crates/dcel_talks/data/*.talk")):
+        for talk in path.read_text().split("\n# "):
+            for mesh in states([line[2:] for line in talk.split("\n") if line.startswith("> ")]):
+                looks = (len(mesh.data), corners_of(mesh))
+                if looks not in seen:
+                    seen.append(looks)
+                    yield f"{path.name}, {talk.splitlines()[0].removeprefix('# ')}", mesh
+
+
+def states(lines):
+    """A copy of the mesh after each line that leaves no removal open."""
+    mesh = Mesh()
+    for line in lines:
+        mesh, _ = answer(mesh, line)
+        if mesh.removal == CLOSED:
+            yield deepcopy(mesh)
+
+
+def at_random(seed):
+    """A mesh after lines of the fuzzer, from a seed. For every second seed lines are left out after which faces wouldn't tell the mesh."""
+    maker, mesh = Maker(random.Random(seed), 12), Mesh()
+    for _ in range(20 + seed % 50):
+        after, _ = answer(deepcopy(mesh), maker.lawful(mesh))
+        if seed % 2 or after.removal != CLOSED or len(after.words) == 1 or inner_faces(after)[2]:
+            mesh = after
+    while mesh.removal != CLOSED:
+        mesh, _ = answer(mesh, maker.closing(mesh))
+    return mesh
+
+
+def ways_of(mesh, halves):
+    """From where to where these half edges lead."""
+    return [(mesh.origins[half], mesh.to(half)) for half in halves]
+
+
+def corners_of(mesh):
+    return [[mesh.origins[half] for half in word] for word in mesh.words]
+
+
+def inner_faces(mesh):
+    """The surface of the inner faces, why they are no mesh by themselves, and whether they are this one."""
+    words = mesh.words[1:]
+    ways = ways_of(mesh, [half for word in words for half in word])
+    border = [half for half in mesh.words[0] if mesh.face(other(half)) != 0 and ways_of(mesh, [half])[0] not in ways]
+    reason = why_refused(words, ways) or why_no_border(ways_of(mesh, border)) or why_apart([ways_of(mesh, word) for word in words])
+    return Surface(len(mesh.data), corners_of(mesh)[1:]), reason, reason is None and border == mesh.words[0]
+
+
+def all_faces(mesh):
+    """The same of all faces, where the first one comes to no vertex twice: it is made the outer one. None, if they all do."""
+    faces = corners_of(mesh)
+    first = next((place for place, face in enumerate(faces) if len(set(face)) == len(face)), None)
+    if first is None:
+        return None
+    words = mesh.words[first:] + mesh.words[:first]
+    reason = why_refused(words, ways_of(mesh, [half for word in words for half in word]))
+    return Surface(len(mesh.data), faces[first:] + faces[:first]), reason, reason is None
+
+
+def why_refused(words, ways):
+    """What is wrong with faces of these half edges, that lead these ways, if anything."""
+    if any(len(word) < 3 for word in words):
+        return "has fewer than three corners"
+    if len(set(ways)) < len(ways):
+        return "both have the side"
+    return None
+
+
+def why_no_border(ways):
+    """What keeps these ways from being a border, if anything."""
+    if max(Counter(start for start, _ in ways).values(), default=0) > 1:
+        return "two sides without a neighbor end at vertex"
+    after = dict(ways)
+    vertex = start = next(iter(after), None)
+    while after:
+        vertex = after.pop(vertex)
+        if vertex == start and after:
+            return "the half edges of face 0 are no single loop"
+    return None
+
+
+def why_apart(faces):
+    """What is wrong where faces with these sides don't hang together by edges: two edges between two vertices, laid upon one another, have
+    closed some of them up."""
+    reached, left = set(), [0] if faces else []
+    while left:
+        face = left.pop()
+        if face not in reached:
+            reached.add(face)
+            back = {(end, start) for start, end in faces[face]}
+            left += [place for place, sides in enumerate(faces) if back.intersection(sides)]
+    return None if len(reached) == len(faces) else "no mesh has these faces"

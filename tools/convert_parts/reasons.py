@@ -1,0 +1,37 @@
+"""Whether the reason holds that dcel_convert gives where it refuses an OFF file."""
+
+import re
+
+from .surface import sides_of
+
+# What may be said; which of its numbers, if any, is the face whose line is named; and whether that is so.
+REASONS = [
+    (r"face (\d+) has fewer than three corners", 0, lambda s, face: face in s.few()),
+    (r"face (\d+) has corner (\d+), and there is no such vertex", 0, lambda s, face, corner: (face, corner) in s.strange()),
+    (r"face (\d+) has corner (\d+) twice in a row", 0, lambda s, face, corner: (face, corner) in s.flat()),
+    (r"faces (\d+) and (\d+) both have the side from (\d+) to (\d+)", 1,
+     lambda s, one, two, start, end: (start, end) in s.twice() and all((start, end) in sides_of(s.faces[it]) for it in (one, two))
+     and (one != two or sides_of(s.faces[one]).count((start, end)) > 1)),
+    (r"two sides without a neighbor end at vertex (\d+)", None, lambda s, vertex: vertex in s.doubled()),
+    (r"no mesh has these faces: the half edges of face 0 are no single loop", None, lambda s: s.loops() > 1),
+    (r"no mesh has these faces: the half edges of vertex (\d+) are no single turn", None, lambda s, vertex: s.turns()[vertex] > 1),
+    (r"no mesh has these faces: half edge \d+ isn't reached from half edge 0", None, lambda s: s.parts() > 1),
+    (r"no mesh has these faces: vertices with an edge, minus edges, plus faces, are not two", None, lambda s: s.parts() == 1 and s.euler() != 2),
+]
+UNREADABLE = "a number of an element is missing or out of range"
+
+
+def holds(surface, words):
+    """Whether what the program says of the surface's file is so, and of the line that it names."""
+    found = re.fullmatch(r"dcel_convert: (?:line (\d+): )?(.*)\n", words)
+    if not found:
+        return False
+    line, said = found.groups()
+    if said == UNREADABLE:
+        return line in {str(surface.line_of(place)) for place in surface.unreadable()}
+    for pattern, named, check in REASONS:
+        if found := re.fullmatch(pattern, said):
+            numbers = [int(number) for number in found.groups()]
+            wanted = None if named is None else str(surface.line_of(numbers[named]))
+            return line == wanted and not surface.unreadable() and check(surface, *numbers)
+    return False
