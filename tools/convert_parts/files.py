@@ -25,15 +25,3 @@ def read_obj(lines):
             numbers = [int(word.split("/")[0]) for word in words]
             faces.append([number - 1 if number > 0 else len(points) + number for number in numbers])
     return points, faces
-
-
-def is_same(text, other):
-    """Whether two OFF files are the same, but that a face which comes to its first corner twice may begin at either place."""
-    lines, others = text.split("\n"), other.split("\n")
-    return len(lines) == len(others) and all(one == two or is_turned(one.split(), two.split()) for one, two in zip(lines, others))
-
-
-def is_turned(one, two):
-    """Whether a line of corners is another one that begins elsewhere with the same corner."""
-    turns = [place for place, corner in enumerate(one) if place > 1 and corner == one[1]]
-    return any([one[0], *one[place:], *one[1:place]] == two for place in turns)

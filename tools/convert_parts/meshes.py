@@ -69,14 +69,12 @@ def inner_faces(mesh):
 
 
 def all_faces(mesh):
-    """The same of all faces, where the first one comes to no vertex twice: it is made the outer one. None, if they all do."""
+    """The same of all faces, of which the first that comes to no vertex twice is made the outer one."""
     faces = corners_of(mesh)
-    first = next((place for place, face in enumerate(faces) if len(set(face)) == len(face)), None)
-    if first is None:
-        return None
-    words = mesh.words[first:] + mesh.words[:first]
-    reason = why_refused(words, ways_of(mesh, [half for word in words for half in word]))
-    return Surface(len(mesh.data), faces[first:] + faces[:first]), reason, reason is None
+    reason = why_refused(mesh.words, ways_of(mesh, [half for word in mesh.words for half in word]))
+    if reason is None and all(len(set(face)) < len(face) for face in faces):
+        reason = "there is no border, and each face comes to a vertex twice"
+    return Surface(len(mesh.data), faces), reason, reason is None
 
 
 def why_refused(words, ways):

@@ -13,6 +13,7 @@ REASONS = [
      lambda s, one, two, start, end: (start, end) in s.twice() and all((start, end) in sides_of(s.faces[it]) for it in (one, two))
      and (one != two or sides_of(s.faces[one]).count((start, end)) > 1)),
     (r"two sides without a neighbor end at vertex (\d+)", None, lambda s, vertex: vertex in s.doubled()),
+    (r"there is no border, and each face comes to a vertex twice", None, lambda s: s.lacks_outer_face()),
     (r"no mesh has these faces: the half edges of face 0 are no single loop", None, lambda s: s.loops() > 1),
     (r"no mesh has these faces: the half edges of vertex (\d+) are no single turn", None, lambda s, vertex: s.turns()[vertex] > 1),
     (r"no mesh has these faces: half edge \d+ isn't reached from half edge 0", None, lambda s: s.parts() > 1),

@@ -91,8 +91,12 @@ class Surface:
         used = {corner for face in self.faces for corner in face}
         return len(used) - len(self.edges()) + len(self.faces) + (1 if self.border() else 0)
 
+    def lacks_outer_face(self):
+        """Whether there is no border, and no face that comes to each vertex once."""
+        return bool(self.faces) and not self.border() and all(len(set(face)) < len(face) for face in self.faces)
+
     def is_mesh(self):
-        if self.few() or self.strange() or self.flat() or self.twice() or self.doubled() or self.loops() > 1:
+        if self.few() or self.strange() or self.flat() or self.twice() or self.doubled() or self.loops() > 1 or self.lacks_outer_face():
             return False
         return not self.faces or (max(self.turns().values()) == 1 and self.parts() == 1 and self.euler() == 2)
 

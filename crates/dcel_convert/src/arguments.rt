@@ -48,9 +48,9 @@ const ABOUT: &str = "Converts a mesh of vertices and faces, or tells what is wro
 const DETAILS: &str = "\
 The file is read as OFF, or as OBJ if its name ends in .obj. Faces list their corners
 counterclockwise, as seen from outside. A surface without a border is a mesh, and so is one with a
-single border; the border, or else the first face, is the outer face. What isn't vertices and faces
-is left out, and named on standard error. A file that has no mesh is refused with the first thing
-that is wrong with it.";
+single border; the border, or else the first face that comes to no vertex twice, is the outer face.
+What isn't vertices and faces is left out, and named on standard error. A file that has no mesh is
+refused with the first thing that is wrong with it.";
 
 /// Reads the words, the program's name first.
 pub fn read_arguments<'a>(alloc: Global, words: &'a [String]) -> Result<Asked<'a>, AllocError> {

@@ -35,6 +35,9 @@ pub enum Fault {
     /// The faces are no mesh.
     #[error("{0}")]
     Faces(FacesError),
+    /// There is no border, and no face can stand for it.
+    #[error("there is no border, and each face comes to a vertex twice")]
+    NoOuterFace,
     /// A file could not be opened.
     #[error("{path}: {error}")]
     File {

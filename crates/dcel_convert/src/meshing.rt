@@ -8,21 +8,23 @@ use spade_dcel::handles::{FaceHandle, FixedFaceHandle, PossiblyOuterTag};
 use spade_dcel::operations::Fault as LinkFault;
 use std::alloc::{AllocError, Global};
 
-/// A mesh whose vertices have their coordinates as text, and whose faces have the corner that the
-/// file lists first.
-pub type Mesh = Dcel<String, (), (), u32>;
+/// A mesh whose vertices have their coordinates as text, and whose faces have the number of steps
+/// from their anchor to the corner that the file lists first.
+pub type Mesh = Dcel<String, (), (), usize>;
 
-/// A mesh, and whether its outer face is a face of the file.
+/// A mesh, and which face of the file is its outer face.
 #[derive(Drop)]
 pub struct Solid {
     /// The mesh.
     pub mesh: Mesh,
-    /// Whether the surface has no border, so that its first face is the outer one.
-    pub is_closed: bool,
+    /// The place of the outer face among those of the file. There is none where the outer face is
+    /// the border.
+    outer: Option<usize>,
 }
 
 impl Solid {
-    /// Makes the mesh of a surface. A surface without a border lends its first face as the outer one.
+    /// Makes the mesh of a surface. A surface without a border lends the first face that comes to no
+    /// vertex twice as the outer one.
     pub fn of(alloc: Global, surface: Surface) -> Result<Solid, Fault> {
         let Surface {
             places,
@@ -31,16 +33,39 @@ impl Solid {
             ..
         } = surface;
         match from_faces(alloc, places, &faces) {
-            Ok(mesh) => Ok(marked(mesh, &faces, false)),
-            Err(refused) => match faces.split_first() {
-                Some((_, others)) if has_no_border(refused.reason) => {
-                    match from_faces(alloc, refused.back, others) {
-                        Ok(mesh) => Ok(marked(mesh, &faces, true)),
-                        Err(refused) => Err(fault_of(refused.reason, &lines)),
-                    }
-                }
-                _ => Err(fault_of(refused.reason, &lines)),
-            },
+            Ok(mesh) => Ok(Solid {
+                mesh: marked(alloc, mesh, &faces)?,
+                outer: None,
+            }),
+            Err(refused) if has_no_border(refused.reason) => {
+                Solid::closed(alloc, refused.back, faces, lines)
+            }
+            Err(refused) => Err(fault_of(refused.reason, &lines)),
+        }
+    }
+
+    fn closed(
+        alloc: Global,
+        places: Vec<String>,
+        mut faces: Vec<Vec<u32>>,
+        mut lines: Vec<usize>,
+    ) -> Result<Solid, Fault> {
+        let place = simple_face(alloc, &faces)?.ok_or(Fault::NoOuterFace)?;
+        if place >= faces.len() || place >= lines.len() {
+            return Err(Fault::NoOuterFace);
+        }
+        let corners = faces.remove(place);
+        let _ = lines.remove(place);
+        match from_faces(alloc, places, &faces) {
+            Ok(mesh) => {
+                let mut mesh = marked(alloc, mesh, &faces)?;
+                mark(&mut mesh, 0, &corners, &mut Vec::new(alloc))?;
+                Ok(Solid {
+                    mesh,
+                    outer: Some(place),
+                })
+            }
+            Err(refused) => Err(fault_of(refused.reason, &lines)),
         }
     }
 }
@@ -48,47 +73,122 @@ impl Solid {
 impl Solid {
     /// How many faces the file has.
     pub fn num_faces(&self) -> usize {
-        if self.is_closed {
-            self.mesh.num_faces()
-        } else {
-            self.mesh.num_faces() - 1
+        match self.outer {
+            Some(_) => self.mesh.num_faces(),
+            None => self.mesh.num_faces() - 1,
         }
     }
 
-    /// Returns whether a face is one of the file, and not the border.
-    pub fn has_face(&self, face: FixedFaceHandle<PossiblyOuterTag>) -> bool {
-        self.is_closed || !face.is_outer()
+    /// The face that has this place in the file, if there is one.
+    pub fn face(
+        &self,
+        place: usize,
+    ) -> Option<FaceHandle<'_, PossiblyOuterTag, String, (), (), usize>> {
+        let number = match self.outer {
+            Some(outer) if place == outer => 0,
+            Some(outer) if place > outer => place,
+            _ => place.saturating_add(1),
+        };
+        if number < self.mesh.num_faces() {
+            self.mesh
+                .get_face(FixedFaceHandle::<PossiblyOuterTag>::new(number))
+        } else {
+            None
+        }
     }
 }
 
 /// Lists the corners of a face, from the one on that the file lists first.
 pub fn list_corners(
-    face: FaceHandle<'_, PossiblyOuterTag, String, (), (), u32>,
+    face: FaceHandle<'_, PossiblyOuterTag, String, (), (), usize>,
     corners: &mut Vec<usize>,
 ) -> Result<(), AllocError> {
     corners.clear();
     for edge in face.directed_edges() {
         corners.push(edge.from().fix().index())?;
     }
-    let first = *face.data() as usize;
-    if let Some(place) = corners.iter().position(|corner| *corner == first) {
-        corners.rotate_left(place);
+    let steps = *face.data();
+    if steps <= corners.len() {
+        corners.rotate_left(steps);
     }
     Ok(())
 }
 
-/// Notes at each face the corner that its list begins with.
-fn marked(mut mesh: Mesh, faces: &[Vec<u32>], is_closed: bool) -> Solid {
-    let first = if is_closed { 0 } else { 1 };
-    for (place, corners) in faces.iter().enumerate() {
-        let face = place.saturating_add(first);
-        if face < mesh.num_faces() {
-            if let Some(corner) = corners.first() {
-                *mesh.face_data_mut(FixedFaceHandle::<PossiblyOuterTag>::new(face)) = *corner;
-            }
+/// Notes at each inner face where the list of the file begins. These are in the order of the faces.
+fn marked(alloc: Global, mut mesh: Mesh, faces: &[Vec<u32>]) -> Result<Mesh, AllocError> {
+    let mut corners = Vec::new(alloc);
+    for (place, listed) in faces.iter().enumerate() {
+        mark(&mut mesh, place.saturating_add(1), listed, &mut corners)?;
+    }
+    Ok(mesh)
+}
+
+/// Notes at a face where the list of the file begins.
+fn mark(
+    mesh: &mut Mesh,
+    number: usize,
+    listed: &[u32],
+    corners: &mut Vec<usize>,
+) -> Result<(), AllocError> {
+    if number >= mesh.num_faces() {
+        return Ok(());
+    }
+    let face = FixedFaceHandle::<PossiblyOuterTag>::new(number);
+    if let Some(face) = mesh.get_face(face) {
+        list_corners(face, corners)?;
+    }
+    *mesh.face_data_mut(face) = steps_to(listed, corners);
+    Ok(())
+}
+
+/// After how many of the corners the list begins, if it is all of them in their cyclic order.
+fn steps_to(listed: &[u32], corners: &[usize]) -> usize {
+    for steps in 0..corners.len() {
+        if begins_after(steps, listed, corners) {
+            return steps;
         }
     }
-    Solid { mesh, is_closed }
+    0
+}
+
+fn begins_after(steps: usize, listed: &[u32], corners: &[usize]) -> bool {
+    for (place, corner) in listed.iter().enumerate() {
+        let place = steps.saturating_add(place);
+        let found = match corners.get(place) {
+            Some(found) => Some(found),
+            None => corners.get(place.saturating_sub(corners.len())),
+        };
+        if found != Some(&(*corner as usize)) {
+            return false;
+        }
+    }
+    true
+}
+
+/// The place of the first face that comes to no vertex twice.
+fn simple_face(alloc: Global, faces: &[Vec<u32>]) -> Result<Option<usize>, AllocError> {
+    for (place, corners) in faces.iter().enumerate() {
+        if is_simple(alloc, corners)? {
+            return Ok(Some(place));
+        }
+    }
+    Ok(None)
+}
+
+fn is_simple(alloc: Global, corners: &[u32]) -> Result<bool, AllocError> {
+    let mut sorted = Vec::new(alloc);
+    for corner in corners {
+        sorted.push(*corner)?;
+    }
+    sorted.sort()?;
+    let mut last = None;
+    for corner in sorted {
+        if last == Some(corner) {
+            return Ok(false);
+        }
+        last = Some(corner);
+    }
+    Ok(true)
 }
 
 /// Whether the reason is that no border is left for the outer face.

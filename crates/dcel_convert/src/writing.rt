@@ -46,8 +46,8 @@ fn write_off(alloc: Global, writer: &mut impl Write, solid: &Solid) -> Result<()
         writeln!(writer, "{}", vertex.data())?;
     }
     let mut corners = Vec::new(alloc);
-    for face in solid.mesh.faces() {
-        if solid.has_face(face.fix()) {
+    for place in 0..solid.num_faces() {
+        if let Some(face) = solid.face(place) {
             list_corners(face, &mut corners)?;
             write!(writer, "{}", corners.len())?;
             write_numbers(writer, &corners, 0)?;
@@ -62,8 +62,8 @@ fn write_obj(alloc: Global, writer: &mut impl Write, solid: &Solid) -> Result<()
         writeln!(writer, "v {}", vertex.data())?;
     }
     let mut corners = Vec::new(alloc);
-    for face in solid.mesh.faces() {
-        if solid.has_face(face.fix()) {
+    for place in 0..solid.num_faces() {
+        if let Some(face) = solid.face(place) {
             list_corners(face, &mut corners)?;
             write!(writer, "f")?;
             write_numbers(writer, &corners, 1)?;
