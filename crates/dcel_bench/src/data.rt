@@ -8,11 +8,10 @@ use spade_dcel::handles::{
     InnerTag, PossiblyOuterTag,
 };
 use std::alloc::Allocator;
-use std::fmt::Debug;
 use std::test::Fail;
 
 /// A datum of a mesh, by the number of its element.
-#[derive(Clone, Copy, Debug)]
+#[derive(Clone, Copy)]
 pub enum Datum {
     /// A vertex's datum.
     Vertex(u32),

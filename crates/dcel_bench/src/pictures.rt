@@ -14,17 +14,33 @@ use std::test::Fail;
 #[derive(Debug, Drop, PartialEq, Eq)]
 pub struct Picture {
     removal: RemovalState,
-    live_vertices: Vec<bool>,
-    live_faces: Vec<bool>,
-    out_edges: Vec<Option<usize>>,
-    adjacent_edges: Vec<Option<usize>>,
-    /// The next half edge, the one before, the origin and the face of each half edge; None if its
-    /// edge is given up.
-    links: Vec<Option<[usize; 4]>>,
-    vertex_data: Vec<i64>,
-    face_data: Vec<i64>,
-    /// The data of each half edge and of its edge.
-    edge_data: Vec<[i64; 2]>,
+    vertices: Vec<Seen>,
+    faces: Vec<Seen>,
+    half_edges: Vec<SeenEdge>,
+}
+
+/// Whether a vertex or a face is live, the half edge that it is anchored at, and its datum.
+type Seen = (bool, Option<usize>, i64);
+
+/// The links of a half edge, its datum and that of its edge.
+type SeenEdge = (Option<[usize; 4]>, [i64; 2]);
+
+fn see_vertex<A: Allocator>(dcel: &Mesh<A>, index: usize) -> Result<Seen, Fail> {
+    require!(index < dcel.num_vertices());
+    let handle = FixedVertexHandle::new(index);
+    let anchor = out_edge(dcel, index)?;
+    Ok((
+        dcel.is_live_vertex(handle),
+        anchor,
+        *dcel.vertex_data(handle),
+    ))
+}
+
+fn see_face<A: Allocator>(dcel: &Mesh<A>, index: usize) -> Result<Seen, Fail> {
+    require!(index < dcel.num_faces());
+    let handle: FixedFaceHandle<PossiblyOuterTag> = FixedFaceHandle::new(index);
+    let anchor = adjacent_edge(dcel, index)?;
+    Ok((dcel.is_live_face(handle), anchor, *dcel.face_data(handle)))
 }
 
 /// Returns the next half edge, the one before, the origin and the face.
@@ -45,29 +61,6 @@ fn links_of<A: Allocator>(dcel: &Mesh<A>, index: usize) -> Result<Option<[usize;
     ]))
 }
 
-fn is_live_vertex<A: Allocator>(dcel: &Mesh<A>, index: usize) -> Result<bool, Fail> {
-    require!(index < dcel.num_vertices());
-    Ok(dcel.is_live_vertex(FixedVertexHandle::new(index)))
-}
-
-fn is_live_face<A: Allocator>(dcel: &Mesh<A>, index: usize) -> Result<bool, Fail> {
-    require!(index < dcel.num_faces());
-    let handle: FixedFaceHandle<PossiblyOuterTag> = FixedFaceHandle::new(index);
-    Ok(dcel.is_live_face(handle))
-}
-
-fn vertex_datum<A: Allocator>(dcel: &Mesh<A>, index: usize) -> Result<i64, Fail> {
-    require!(index < dcel.num_vertices());
-    let handle = FixedVertexHandle::new(index);
-    Ok(*dcel.vertex_data(handle))
-}
-
-fn face_datum<A: Allocator>(dcel: &Mesh<A>, index: usize) -> Result<i64, Fail> {
-    require!(index < dcel.num_faces());
-    let handle: FixedFaceHandle<PossiblyOuterTag> = FixedFaceHandle::new(index);
-    Ok(*dcel.face_data(handle))
-}
-
 /// Returns the datum of a half edge, and that of its edge.
 fn edge_data<A: Allocator>(dcel: &Mesh<A>, index: usize) -> Result<[i64; 2], Fail> {
     require!(index < dcel.num_directed_edges());
@@ -80,32 +73,37 @@ fn edge_data<A: Allocator>(dcel: &Mesh<A>, index: usize) -> Result<[i64; 2], Fai
     ])
 }
 
+fn vertices_of<A: Allocator>(dcel: &Mesh<A>, alloc: Global) -> Result<Vec<Seen>, Fail> {
+    let mut vertices = Vec::new(alloc);
+    for index in 0..dcel.num_vertices() {
+        vertices.push(see_vertex(dcel, index)?)?;
+    }
+    Ok(vertices)
+}
+
+fn faces_of<A: Allocator>(dcel: &Mesh<A>, alloc: Global) -> Result<Vec<Seen>, Fail> {
+    let mut faces = Vec::new(alloc);
+    for index in 0..dcel.num_faces() {
+        faces.push(see_face(dcel, index)?)?;
+    }
+    Ok(faces)
+}
+
+fn half_edges_of<A: Allocator>(dcel: &Mesh<A>, alloc: Global) -> Result<Vec<SeenEdge>, Fail> {
+    let mut half_edges = Vec::new(alloc);
+    for index in 0..dcel.num_directed_edges() {
+        let links = links_of(dcel, index)?;
+        half_edges.push((links, edge_data(dcel, index)?))?;
+    }
+    Ok(half_edges)
+}
+
 /// Returns what the mesh is like.
 pub fn picture_of<A: Allocator>(dcel: &Mesh<A>, alloc: Global) -> Result<Picture, Fail> {
-    let mut seen = Picture {
+    Ok(Picture {
         removal: dcel.removal_state(),
-        live_vertices: Vec::new(alloc),
-        live_faces: Vec::new(alloc),
-        out_edges: Vec::new(alloc),
-        adjacent_edges: Vec::new(alloc),
-        links: Vec::new(alloc),
-        vertex_data: Vec::new(alloc),
-        face_data: Vec::new(alloc),
-        edge_data: Vec::new(alloc),
-    };
-    for index in 0..dcel.num_vertices() {
-        seen.live_vertices.push(is_live_vertex(dcel, index)?)?;
-        seen.out_edges.push(out_edge(dcel, index)?)?;
-        seen.vertex_data.push(vertex_datum(dcel, index)?)?;
-    }
-    for index in 0..dcel.num_faces() {
-        seen.live_faces.push(is_live_face(dcel, index)?)?;
-        seen.adjacent_edges.push(adjacent_edge(dcel, index)?)?;
-        seen.face_data.push(face_datum(dcel, index)?)?;
-    }
-    for index in 0..dcel.num_directed_edges() {
-        seen.links.push(links_of(dcel, index)?)?;
-        seen.edge_data.push(edge_data(dcel, index)?)?;
-    }
-    Ok(seen)
+        vertices: vertices_of(dcel, alloc)?,
+        faces: faces_of(dcel, alloc)?,
+        half_edges: half_edges_of(dcel, alloc)?,
+    })
 }

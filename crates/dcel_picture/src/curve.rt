@@ -3,35 +3,32 @@
 //! An arc starts straight toward the point that it bends toward, goes round before it, and ends
 //! straight: so it stays near the two straight lines over that point.
 
-use crate::picture::Line;
-use crate::place::Place;
+use dcel_drawing::{Line, Place};
 
-impl Line {
-    /// The point in the middle.
-    pub(crate) fn middle(self) -> Place {
-        let straight = self.from.middle(self.to);
-        match self.bend {
-            Some(bend) => straight.times(0.25).plus(bend.times(0.75)),
-            None => straight,
-        }
+/// The point in the middle of a line.
+fn middle_of(line: Line) -> Place {
+    let straight = line.from.middle(line.to);
+    match line.bend {
+        Some(bend) => straight.times(0.25).plus(bend.times(0.75)),
+        None => straight,
     }
+}
 
-    /// Some points along it, from its start to its end.
-    pub(crate) fn steps(self) -> [Place; 7] {
-        let Some(bend) = self.bend else {
-            let middle = self.middle();
-            let [from, to] = [self.from.middle(middle), middle.middle(self.to)];
-            return [self.from, self.from, from, middle, to, self.to, self.to];
-        };
-        let (first, last) = (self.from.middle(bend), bend.middle(self.to));
-        let (before, after) = (first.middle(bend), bend.middle(last));
-        let middle = before.middle(after);
-        let (near, far) = (
-            first.middle(before).middle(before.middle(middle)),
-            last.middle(after).middle(after.middle(middle)),
-        );
-        [self.from, first, near, middle, far, last, self.to]
-    }
+/// Some points along a line, from its start to its end.
+pub(crate) fn steps_of(line: Line) -> [Place; 7] {
+    let Some(bend) = line.bend else {
+        let middle = middle_of(line);
+        let [from, to] = [line.from.middle(middle), middle.middle(line.to)];
+        return [line.from, line.from, from, middle, to, line.to, line.to];
+    };
+    let (first, last) = (line.from.middle(bend), bend.middle(line.to));
+    let (before, after) = (first.middle(bend), bend.middle(last));
+    let middle = before.middle(after);
+    let (near, far) = (
+        first.middle(before).middle(before.middle(middle)),
+        last.middle(after).middle(after.middle(middle)),
+    );
+    [line.from, first, near, middle, far, last, line.to]
 }
 
 /// A line or an arc as a way of straight steps.
@@ -45,7 +42,7 @@ impl Way {
     /// The way along a line.
     pub fn along(line: Line) -> Way {
         Way {
-            places: line.steps(),
+            places: steps_of(line),
         }
     }
 

@@ -1,7 +1,7 @@
 //! The part of the plane that a picture shows, and how large things are in it.
 
-use crate::picture::{Line, Picture};
-use crate::place::Place;
+use crate::curve::steps_of;
+use dcel_drawing::{Line, Picture, Place};
 use std::alloc::Allocator;
 use std::num::{nearest_usize_to_f64, saturating_f64_to_usize};
 
@@ -127,7 +127,7 @@ fn corners<B: Allocator>(picture: &Picture<B>) -> (Place, Place) {
     }
     for stroke in &picture.strokes {
         if let Some(line) = stroke.line() {
-            for place in line.steps() {
+            for place in steps_of(line) {
                 corners = widened(corners, Some(place));
             }
         }

@@ -1,7 +1,6 @@
 //! The vertex that an open removal has given up.
 
-use crate::place::Place;
-use crate::reading::live;
+use dcel_drawing::{Place, live};
 use spade_dcel::dcel::Dcel;
 use spade_dcel::handles::{FixedUndirectedEdgeHandle, FixedVertexHandle};
 use std::alloc::Allocator;
@@ -33,10 +32,7 @@ fn place_among<V, DE, UE, F, A: Allocator>(
     let mut count: f64 = 0.0;
     // The way along the neighbors, with the outer face on its left, if the vertex was there.
     let mut along = Place::new(0.0, 0.0);
-    for out in before.get_vertex(vertex)?.out_edges() {
-        let Some(edge) = live(before, out.fix()) else {
-            continue;
-        };
+    for edge in before.get_vertex(vertex)?.out_edges() {
         let Some(Some(place)) = places.get(edge.to().index()) else {
             continue;
         };
@@ -143,11 +139,9 @@ fn reach_of<V, DE, UE, F, A: Allocator>(
 ) -> f64 {
     let mut reach: f64 = 0.0;
     if let Some(center) = before.get_vertex(vertex) {
-        for out in center.out_edges() {
-            if let Some(edge) = live(before, out.fix()) {
-                if let Some(Some(neighbor)) = places.get(edge.to().index()) {
-                    reach = reach.max(neighbor.minus(place).length());
-                }
+        for edge in center.out_edges() {
+            if let Some(Some(neighbor)) = places.get(edge.to().index()) {
+                reach = reach.max(neighbor.minus(place).length());
             }
         }
     }

@@ -9,7 +9,6 @@ mod curve;
 mod frame;
 mod given_up;
 mod net;
-mod picture;
 mod place;
 mod places;
 mod reading;
@@ -19,8 +18,7 @@ mod spreading;
 mod svg;
 mod wings;
 
-pub use picture::{Dot, Line, Patch, Picture, State, Stroke};
-pub use place::Place;
-pub use places::{Places, bow};
+pub use dcel_drawing::{Dot, Line, Patch, Picture, Place, Places, State, Stroke};
+pub use places::bow;
 pub use spreading::spread;
 pub use svg::{Style, write_svg};

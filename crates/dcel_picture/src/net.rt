@@ -5,7 +5,7 @@
 //! round it all. So each node that isn't on the ring is inside, whatever the outer face looks like.
 
 use crate::bends::ranks;
-use crate::reading::{live, round};
+use dcel_drawing::round;
 use spade_dcel::dcel::Dcel;
 use spade_dcel::handles::{FixedFaceHandle, OUTER_FACE, PossiblyOuterTag};
 use std::alloc::{AllocError, Allocator};
@@ -80,12 +80,10 @@ impl<B: Allocator + Copy> Net<B> {
         face: FixedFaceHandle<PossiblyOuterTag>,
     ) -> Result<Vec<usize, B>, AllocError> {
         let mut corners = Vec::new(alloc);
-        for half in round(mesh, face) {
-            if let Some(edge) = live(mesh, half.fix()) {
-                corners.push(edge.from().index())?;
-                if let Some(Some(bend)) = self.bends.get(edge.fix().as_undirected().index()) {
-                    corners.push(*bend)?;
-                }
+        for edge in round(mesh, face) {
+            corners.push(edge.from().index())?;
+            if let Some(Some(bend)) = self.bends.get(edge.fix().as_undirected().index()) {
+                corners.push(*bend)?;
             }
         }
         Ok(corners)

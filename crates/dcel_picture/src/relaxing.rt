@@ -4,8 +4,9 @@
 //! In the first places no triangle lies over another, and no move turns one over.
 
 use crate::net::Net;
-use crate::place::{Place, at};
+use crate::place::{at, toward};
 use crate::wings::{Wing, Wings};
+use dcel_drawing::Place;
 use std::alloc::{AllocError, Allocator};
 use std::f64::consts::PI;
 use std::num::nearest_usize_to_f64;
@@ -28,7 +29,7 @@ pub(crate) fn ring_places<B: Allocator + Copy>(
     let count = net.nodes.saturating_sub(net.ring);
     let step: f64 = 2.0 * PI / nearest_usize_to_f64(count);
     for number in 0..count {
-        places.push(Place::toward(-step * nearest_usize_to_f64(number)))?;
+        places.push(toward(-step * nearest_usize_to_f64(number)))?;
     }
     Ok(places)
 }

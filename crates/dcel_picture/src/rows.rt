@@ -1,8 +1,6 @@
 //! Paths, which stand in a row.
 
-use crate::place::Place;
-use crate::places::Places;
-use crate::reading::live;
+use dcel_drawing::{Place, live};
 use spade_dcel::dcel::Dcel;
 use spade_dcel::handles::{FixedDirectedEdgeHandle, FixedFaceHandle, FixedVertexHandle, InnerTag};
 use spade_dcel::iterators::HullIterator;
@@ -18,11 +16,9 @@ pub(crate) fn is_path<V, DE, UE, F, A: Allocator>(mesh: &Dcel<V, DE, UE, F, A>) 
             return false;
         }
     }
-    for half in HullIterator::new(mesh) {
-        if let Some(edge) = live(mesh, half.fix()) {
-            if edge.ccw().ccw().fix() != edge.fix() {
-                return false;
-            }
+    for edge in HullIterator::new(mesh) {
+        if edge.ccw().ccw().fix() != edge.fix() {
+            return false;
         }
     }
     true

@@ -2,12 +2,12 @@
 
 use crate::given_up::{set_aside, set_given_up};
 use crate::net::{Net, net_of};
-use crate::place::{Place, at};
-use crate::places::{Places, bow};
-use crate::reading::live;
+use crate::place::at;
+use crate::places::bow;
 use crate::relaxing::{level, relax, ring_places, wanted_area};
 use crate::rows::{is_path, set_row};
 use crate::wings::wings_of;
+use dcel_drawing::{Place, Places, live};
 use spade_dcel::dcel::Dcel;
 use spade_dcel::handles::{FixedDirectedEdgeHandle, FixedFaceHandle, FixedVertexHandle, InnerTag};
 use std::alloc::{AllocError, Allocator};

@@ -10,13 +10,13 @@ mod room;
 mod strokes;
 
 use crate::frame::Frame;
-use crate::picture::Picture;
 use crate::svg::dots::write_dots;
 use crate::svg::labels::write_labels;
 use crate::svg::numbers::{At, Tenths};
 use crate::svg::patches::{write_given_up_patches, write_live_patches};
 use crate::svg::room::Room;
 use crate::svg::strokes::{write_edges, write_strokes};
+use dcel_drawing::Picture;
 use std::alloc::Allocator;
 use std::io::{self, Write};
 

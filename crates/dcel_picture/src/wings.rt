@@ -1,7 +1,8 @@
 //! The triangles of a net, seen from each of their corners.
 
 use crate::net::Net;
-use crate::place::{Place, at};
+use crate::place::at;
+use dcel_drawing::Place;
 use std::alloc::{AllocError, Allocator};
 
 /// A triangle seen from one of its corners: the other two, counterclockwise.

@@ -1,8 +1,8 @@
 //! The arrow of a half edge, on the left of its edge.
 
-use crate::picture::{Line, State};
-use crate::place::Place;
+use crate::curve::steps_of;
 use crate::svg::room::{Area, Room};
+use dcel_drawing::{Line, Place, State};
 use std::alloc::Allocator;
 
 /// How far an arrow is from its edge.
@@ -60,7 +60,7 @@ impl Arrow {
     /// there alone.
     pub fn place_of<B: Allocator>(self, number: usize, state: State, room: &Room<B>) -> Place {
         let width = width_of(number);
-        let [_, _, near, middle, far, _, _] = self.line.steps();
+        let [_, _, near, middle, far, _, _] = steps_of(self.line);
         let points = [middle, near.middle(middle), middle.middle(far), near, far];
         let mut best = None;
         for point in points {

@@ -1,6 +1,6 @@
 //! Colors of faces.
 
-use crate::picture::Picture;
+use dcel_drawing::Picture;
 use std::alloc::{AllocError, Allocator};
 
 /// How many colors there are.

@@ -1,9 +1,8 @@
 //! Vertices, as circles with their numbers.
 
 use crate::frame::Frame;
-use crate::picture::{Dot, Picture, State};
-use crate::place::Place;
 use crate::svg::numbers::Tenths;
+use dcel_drawing::{Dot, Picture, Place, State};
 use std::alloc::Allocator;
 use std::io::{self, Write};
 

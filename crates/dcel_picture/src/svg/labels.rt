@@ -2,10 +2,9 @@
 
 use crate::curve::Way;
 use crate::frame::Frame;
-use crate::picture::{Line, Patch, Picture, State};
-use crate::place::Place;
 use crate::svg::numbers::Tenths;
 use crate::svg::room::{Area, Room};
+use dcel_drawing::{Line, Patch, Picture, Place, State};
 use std::alloc::Allocator;
 use std::io::{self, Write};
 use std::num::nearest_usize_to_f64;

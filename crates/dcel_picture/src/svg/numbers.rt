@@ -1,6 +1,6 @@
 //! Numbers of an SVG document.
 
-use crate::place::Place;
+use dcel_drawing::Place;
 use std::fmt::{self, Formatter};
 use std::num::saturating_f64_to_i64;
 

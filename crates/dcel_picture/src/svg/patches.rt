@@ -1,10 +1,10 @@
 //! Faces, as areas.
 
 use crate::frame::Frame;
-use crate::picture::{Patch, Picture, State};
 use crate::svg::colors::colors_of;
 use crate::svg::numbers::{At, Tenths};
 use crate::svg::strokes::write_way;
+use dcel_drawing::{Patch, Picture, State};
 use std::alloc::Allocator;
 use std::io::{self, Write};
 
@@ -28,7 +28,6 @@ pub(crate) fn write_live_patches<B: Allocator + Copy>(
         if patch.state == State::Live && !patch.outline.is_empty() {
             write!(out, "<path class=\"c{color}\" d=\"")?;
             write_outline(patch, frame, out)?;
-            writeln!(out, "\"/>")?;
         }
     }
     Ok(())
@@ -44,12 +43,12 @@ pub(crate) fn write_given_up_patches<B: Allocator>(
         if patch.state == State::GivenUp && !patch.outline.is_empty() {
             write!(out, "<path class=\"hatch\" d=\"")?;
             write_outline(patch, frame, out)?;
-            writeln!(out, "\"/>")?;
         }
     }
     Ok(())
 }
 
+/// Writes the way round a face, and the end of its area.
 fn write_outline<B: Allocator>(
     patch: &Patch<B>,
     frame: &Frame,
@@ -61,5 +60,5 @@ fn write_outline<B: Allocator>(
     for line in &patch.outline {
         write_way(frame.shown_line(*line), out)?;
     }
-    write!(out, "z")
+    writeln!(out, "z\"/>")
 }

@@ -2,10 +2,9 @@
 
 use crate::curve::Way;
 use crate::frame::Frame;
-use crate::picture::{Line, Picture, State};
-use crate::place::Place;
 use crate::svg::arrow::Arrow;
 use crate::svg::dots::RADIUS;
+use dcel_drawing::{Line, Picture, Place, State};
 use std::alloc::{AllocError, Allocator};
 
 /// The most vertices that a picture may have so that its numbers make room for one another.

@@ -1,12 +1,11 @@
 //! Edges as thin lines, and half edges as arrows beside them, with their numbers.
 
 use crate::frame::Frame;
-use crate::picture::{Line, Picture, State, Stroke};
-use crate::place::Place;
 use crate::svg::Style;
 use crate::svg::arrow::{Arrow, area_of};
 use crate::svg::numbers::{At, Tenths};
 use crate::svg::room::Room;
+use dcel_drawing::{Line, Picture, Place, State, Stroke};
 use std::alloc::Allocator;
 use std::io::{self, Write};
 

@@ -1,7 +1,7 @@
 use Rattle.std.proofs.Common.{◌∙◌}
-use Rattle.dcel_picture.proofs.Listing.{lists_more, lists_none}
-use Rattle.dcel_picture.specs.Drawn.{IsDot}
-use Rattle.dcel_picture.proofs.picture.dots_of.Goals as goal
+use Rattle.dcel_drawing.proofs.Listing.{lists_more, lists_none}
+use Rattle.dcel_drawing.specs.Drawn.{IsDot}
+use Rattle.dcel_drawing.proofs.picture.dots_of.Goals as goal
 
 pub loop-number-init : goal.loop-number-init
 loop-number-init g c = lists_none _ (IsDot c.args.mesh.now c.args.places.now.vertices.items) c.new-dots.result.items c.new-dots.ensures.items

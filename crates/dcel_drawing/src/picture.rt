@@ -5,7 +5,7 @@ ghost use Rattle.std.specs.Prelude.{◌≡◌, ◌⊎◌, ◌*◌, IfOk, IfSome,
 ghost use Rattle.dcel_maps.specs.Numbers.{numbers_between};
 ghost use Rattle.dcel_maps.specs.Shapes.{IsLive, face_count};
 ghost use Rattle.spade_dcel.specs.Handles.{mesh_behind, number_of};
-ghost use Rattle.dcel_picture.specs.Drawn.{IsDot, IsPatch, IsPicture, IsStroke};
+ghost use Rattle.dcel_drawing.specs.Drawn.{IsDot, IsPatch, IsPicture, IsStroke};
 
 use crate::place::Place;
 use crate::places::Places;

@@ -1,7 +1,7 @@
 use Rattle.std.proofs.Common.{◌∙◌}
-use Rattle.dcel_picture.proofs.Listing.{lists_more, lists_none}
-use Rattle.dcel_picture.specs.Drawn.{IsPatch}
-use Rattle.dcel_picture.proofs.picture.patches_of.Goals as goal
+use Rattle.dcel_drawing.proofs.Listing.{lists_more, lists_none}
+use Rattle.dcel_drawing.specs.Drawn.{IsPatch}
+use Rattle.dcel_drawing.proofs.picture.patches_of.Goals as goal
 
 pub loop-number-init : goal.loop-number-init
 loop-number-init g c = lists_none _ (IsPatch c.args.mesh.now) c.new-patches.result.items c.new-patches.ensures.items

@@ -1,7 +1,7 @@
 use Rattle.std.proofs.Common.{◌∙◌}
-use Rattle.dcel_picture.proofs.Listing.{lists_more, lists_none}
-use Rattle.dcel_picture.specs.Drawn.{IsStroke}
-use Rattle.dcel_picture.proofs.picture.strokes_of.Goals as goal
+use Rattle.dcel_drawing.proofs.Listing.{lists_more, lists_none}
+use Rattle.dcel_drawing.specs.Drawn.{IsStroke}
+use Rattle.dcel_drawing.proofs.picture.strokes_of.Goals as goal
 
 pub loop-number-init : goal.loop-number-init
 loop-number-init g c = lists_none _ (IsStroke c.args.mesh.now c.args.places.now.vertices.items) c.new-strokes.result.items c.new-strokes.ensures.items

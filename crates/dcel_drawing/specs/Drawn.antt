@@ -3,12 +3,12 @@ use Rattle.std.specs.Prelude.{◌≡◌, ◌*◌, ◌/◌, ℕ, List, Option, So
 use Rattle.std.specs.List.{slice_get}
 use Rattle.dcel_maps.specs.Numbers.{numbers_between}
 use Rattle.dcel_maps.specs.Shapes.{Mesh, IsLive, edge_is_live, end_of, face_count, face_of, face_is_live, origin_of, vertex_is_live}
-use Rattle.dcel_picture.specs.declared.picture.Dot.{Dot}
-use Rattle.dcel_picture.specs.declared.picture.Patch.{Patch}
-use Rattle.dcel_picture.specs.declared.picture.Picture.{Picture}
-use Rattle.dcel_picture.specs.declared.picture.State.TheVariants.{Live, GivenUp}
-use Rattle.dcel_picture.specs.declared.picture.Stroke.{Stroke}
-use Rattle.dcel_picture.specs.declared.place.Place.{Place}
+use Rattle.dcel_drawing.specs.declared.picture.Dot.{Dot}
+use Rattle.dcel_drawing.specs.declared.picture.Patch.{Patch}
+use Rattle.dcel_drawing.specs.declared.picture.Picture.{Picture}
+use Rattle.dcel_drawing.specs.declared.picture.State.TheVariants.{Live, GivenUp}
+use Rattle.dcel_drawing.specs.declared.picture.Stroke.{Stroke}
+use Rattle.dcel_drawing.specs.declared.place.Place.{Place}
 
 -- the place of vertex v, if it has one
 abbrev pub one_place : Option (Option Place) → Option Place
