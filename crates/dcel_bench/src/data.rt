@@ -8,10 +8,11 @@ use spade_dcel::handles::{
     InnerTag, PossiblyOuterTag,
 };
 use std::alloc::Allocator;
+use std::fmt::Debug;
 use std::test::Fail;
 
 /// A datum of a mesh, by the number of its element.
-#[derive(Clone, Copy)]
+#[derive(Clone, Copy, Debug)]
 pub enum Datum {
     /// A vertex's datum.
     Vertex(u32),
