@@ -16,7 +16,7 @@ use crate::drawing::Drawing;
 use crate::fault::Fault;
 use crate::files::read_lines;
 use crate::placing::read_places;
-use dcel_picture::{Picture, Style, bow, spread, write_svg};
+use dcel_picture::{Picture, Places, Style, bow, spread, write_svg};
 use std::env;
 use std::io::{self, BufWriter, Write};
 use std::process::ExitCode;
@@ -52,24 +52,40 @@ fn draw(
     rt: &(impl Files + Input + Print + AllocGlobal),
     arguments: &Arguments,
 ) -> Result<(), Fault> {
-    let alloc = rt.alloc();
-    let mut drawing = Drawing::new(alloc)?;
+    let mut drawing = Drawing::new(rt.alloc())?;
     read_lines(rt, arguments.file, &mut drawing)?;
+    let places = find_places(rt, arguments.places, &drawing)?;
+    write_picture(rt, &drawing, &places, arguments.anchors)
+}
+
+/// Finds places for the vertices, or reads them from a file.
+fn find_places(
+    rt: &(impl Files + AllocGlobal),
+    file: Option<&str>,
+    drawing: &Drawing,
+) -> Result<Places, Fault> {
     let (mesh, before) = (drawing.mesh(), drawing.before());
-    let places = match arguments.places {
-        None => spread(alloc, mesh, before)?,
+    match file {
+        None => Ok(spread(rt.alloc(), mesh, before)?),
         Some(path) => {
             let mut places = read_places(rt, path, mesh)?;
-            bow(alloc, mesh, before, &mut places)?;
-            places
+            bow(rt.alloc(), mesh, before, &mut places)?;
+            Ok(places)
         }
-    };
-    let picture = Picture::new(alloc, mesh, before, &places)?;
-    let style = Style {
-        anchors: arguments.anchors,
-    };
+    }
+}
+
+/// Writes the picture to standard output.
+fn write_picture(
+    rt: &(impl Print + AllocGlobal),
+    drawing: &Drawing,
+    places: &Places,
+    anchors: bool,
+) -> Result<(), Fault> {
+    let alloc = rt.alloc();
+    let picture = Picture::new(alloc, drawing.mesh(), drawing.before(), places)?;
     let mut writer = BufWriter::new(alloc, io::writer(rt))?;
-    write_svg(&picture, style, &mut writer)?;
+    write_svg(&picture, Style { anchors }, &mut writer)?;
     writer.flush()?;
     Ok(())
 }
