@@ -11,4 +11,4 @@ mod reading;
 pub use picture::{Dot, Line, Patch, Picture, State, Stroke};
 pub use place::Place;
 pub use places::Places;
-pub use reading::{Round, live, round};
+pub use reading::{Round, round};

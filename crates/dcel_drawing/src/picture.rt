@@ -9,7 +9,7 @@ ghost use Rattle.dcel_drawing.specs.Drawn.{IsDot, IsPatch, IsPicture, IsStroke};
 
 use crate::place::Place;
 use crate::places::Places;
-use crate::reading::{live, round};
+use crate::reading::round;
 use spade_dcel::dcel::Dcel;
 use spade_dcel::handles::{
     DirectedEdgeHandle, FixedDirectedEdgeHandle, FixedFaceHandle, FixedVertexHandle,
@@ -160,7 +160,7 @@ fn stroke_of<V, DE, UE, F, A: Allocator, B: Allocator>(
 {
     let bend = places.bend(edge.as_undirected().index());
     let number = edge.index();
-    match live(mesh, edge) {
+    match mesh.get_directed_edge(edge) {
         Some(half) => Stroke {
             number,
             state: State::Live,
@@ -206,7 +206,7 @@ fn ends_before<V, DE, UE, F, A: Allocator, B: Allocator>(
     edge: FixedDirectedEdgeHandle,
 ) -> [Option<Place>; 2] {
     if let Some(before) = before {
-        if let Some(half) = live(before, edge) {
+        if let Some(half) = before.get_directed_edge(edge) {
             return [
                 places.vertex(half.from().index()),
                 places.vertex(half.to().index()),

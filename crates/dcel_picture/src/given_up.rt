@@ -1,6 +1,6 @@
 //! The vertex that an open removal has given up.
 
-use dcel_drawing::{Place, live};
+use dcel_drawing::Place;
 use spade_dcel::dcel::Dcel;
 use spade_dcel::handles::{FixedUndirectedEdgeHandle, FixedVertexHandle};
 use std::alloc::Allocator;
@@ -86,7 +86,7 @@ fn off_new_edges<V, DE, UE, F, A: Allocator>(
     let mut place = place;
     for number in 0..mesh.num_undirected_edges() {
         let half = FixedUndirectedEdgeHandle::new(number).as_directed();
-        if let (Some(edge), None) = (live(mesh, half), live(before, half)) {
+        if let (Some(edge), None) = (mesh.get_directed_edge(half), before.get_directed_edge(half)) {
             let from = places.get(edge.from().index());
             let to = places.get(edge.to().index());
             if let (Some(Some(from)), Some(Some(to))) = (from, to) {

@@ -4,7 +4,6 @@ ghost use Rattle.std.specs.Prelude.{IfSome};
 ghost use Rattle.spade_dcel.specs.Handles.{mesh_behind, number_of};
 ghost use Rattle.dcel_maps.specs.Shapes.{IsLive};
 
-use dcel_drawing::live;
 use spade_dcel::dcel::Dcel;
 use spade_dcel::handles::{DirectedEdgeHandle, FixedDirectedEdgeHandle};
 use std::alloc::Allocator;
@@ -18,8 +17,8 @@ pub(crate) fn drawn<'a, V, DE, UE, F, A: Allocator>(
 ) -> Option<DirectedEdgeHandle<'a, V, DE, UE, F, A>>
     ensures live { IfSome result (λ found. IsLive (mesh_behind found).shape (number_of found)) }
 {
-    match live(mesh, edge) {
+    match mesh.get_directed_edge(edge) {
         Some(found) => Some(found),
-        None => live(before?, edge),
+        None => before?.get_directed_edge(edge),
     }
 }

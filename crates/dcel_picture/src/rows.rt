@@ -1,6 +1,6 @@
 //! Paths, which stand in a row.
 
-use dcel_drawing::{Place, live};
+use dcel_drawing::Place;
 use spade_dcel::dcel::Dcel;
 use spade_dcel::handles::{FixedDirectedEdgeHandle, FixedFaceHandle, FixedVertexHandle, InnerTag};
 use spade_dcel::iterators::HullIterator;
@@ -35,7 +35,7 @@ pub(crate) fn set_row<V, DE, UE, F, A: Allocator>(
     let direction = if leads_along(mesh, start) { 1.0 } else { -1.0 };
     let mut half = start;
     for step in 0..mesh.num_directed_edges() {
-        let Some(edge) = live(mesh, half) else {
+        let Some(edge) = mesh.get_directed_edge(half) else {
             return;
         };
         let x = direction * nearest_usize_to_f64(step);
@@ -75,7 +75,7 @@ fn leads_along<V, DE, UE, F, A: Allocator>(
     let mut least = start;
     let mut half = start;
     for _ in 0..mesh.num_directed_edges() {
-        let Some(edge) = live(mesh, half) else {
+        let Some(edge) = mesh.get_directed_edge(half) else {
             break;
         };
         if half.as_undirected().index() < least.as_undirected().index() {

@@ -7,7 +7,7 @@ use crate::places::bow;
 use crate::relaxing::{level, relax, ring_places, wanted_area};
 use crate::rows::{is_path, set_row};
 use crate::wings::wings_of;
-use dcel_drawing::{Place, Places, live};
+use dcel_drawing::{Place, Places};
 use spade_dcel::dcel::Dcel;
 use spade_dcel::handles::{FixedDirectedEdgeHandle, FixedFaceHandle, FixedVertexHandle, InnerTag};
 use std::alloc::{AllocError, Allocator};
@@ -146,7 +146,7 @@ fn has_edge<V, DE, UE, F, A: Allocator>(mesh: &Dcel<V, DE, UE, F, A>, vertex: us
 /// so lies at the bottom.
 fn upright<V, DE, UE, F, A: Allocator>(mesh: &Dcel<V, DE, UE, F, A>, nodes: &[Place]) -> Place {
     for number in 0..mesh.num_directed_edges() {
-        if let Some(edge) = live(mesh, FixedDirectedEdgeHandle::new(number)) {
+        if let Some(edge) = mesh.get_directed_edge(FixedDirectedEdgeHandle::new(number)) {
             if edge.face().index() == 0 {
                 let (from, to) = (edge.from().index(), edge.to().index());
                 return at(nodes, to).minus(at(nodes, from)).unit();
