@@ -10,7 +10,7 @@ BROKEN = ["", " ", "words ", " words", "append", "append -0", "append 01", "appe
 GROWING = ["insert"] * 6 + ["outside"] * 3 + ["close"] * 3 + ["half"] * 2 + ["split"] * 4 + ["line"] * 2 + ["extend"] * 3 + ["setup"]
 CHANGING = ["flip"] * 5 + ["legalize"] * 3 + ["swap"] * 2 + ["put"] * 2
 OPENING = ["isolate"] * 4 + ["vertex ring"] * 2 + ["region"] * 4 + ["strip"] * 4
-LOOKS = ["words", "hull", "counts", "out", "out", "origin", "origin"]
+LOOKS = ["words", "hull", "counts", "check", "out", "out", "origin", "origin"]
 ASKING = ["counts", "words", "hull", "out", "origin", "between", "get", "check"]
 
 
@@ -42,6 +42,8 @@ class Maker:
             return "triangle 7 8 9"
         if mesh.removal != CLOSED and self.random.random() < 0.35:
             return self.closing(mesh)
+        if mesh.removal != CLOSED and self.random.random() < 0.05:
+            return self.opening(mesh)
         if mesh.removal == CLOSED and self.random.random() < (0.5 if len(mesh.data) > self.most_vertices else 0.12):
             return self.opening(mesh)
         if self.random.random() < 0.3:
