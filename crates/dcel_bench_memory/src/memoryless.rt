@@ -17,7 +17,7 @@ use dcel_bench::require;
 use dcel_bench::talks::{Talk, push_talk, run_lines};
 use spade_dcel::handles::{FixedDirectedEdgeHandle, FixedVertexHandle};
 use spade_dcel::iterators::HullIterator;
-use spade_dcel::operations::IsolateVertexResult;
+use spade_dcel::operations::{IsolateVertexResult, Room};
 use std::alloc::{AllocError, Allocator, Global};
 use std::test::Fail;
 
@@ -110,15 +110,55 @@ fn push_hull<A: Allocator>(seen: &mut Vec<usize>, dcel: &Mesh<A>) -> Result<(), 
     Ok(())
 }
 
-/// How many elements of each kind are listed.
-fn listed<A: Allocator>(dcel: &Mesh<A>) -> [usize; 5] {
+/// Returns how many elements of each kind are listed.
+fn listed<A: Allocator>(dcel: &Mesh<A>) -> [usize; 6] {
     [
         dcel.vertices().count(),
         dcel.directed_edges().count(),
         dcel.undirected_edges().count(),
         dcel.faces().count(),
         dcel.inner_faces().count(),
+        dcel.fixed_faces().count(),
     ]
+}
+
+/// Returns how many live elements of each kind are listed.
+fn listed_live<A: Allocator>(dcel: &Mesh<A>) -> [usize; 5] {
+    [
+        dcel.live_vertices().count(),
+        dcel.live_directed_edges().count(),
+        dcel.live_undirected_edges().count(),
+        dcel.live_faces().count(),
+        dcel.live_inner_faces().count(),
+    ]
+}
+
+/// Adds where the steps from each live half edge lead, on the mesh and on its dual.
+fn push_steps<A: Allocator>(seen: &mut Vec<usize>, dcel: &Mesh<A>) -> Result<(), AllocError> {
+    for edge in dcel.live_directed_edges() {
+        for next in [edge.next(), edge.prev(), edge.rev(), edge.cw(), edge.ccw()] {
+            seen.push(next.index())?;
+        }
+        for end in [edge.from(), edge.to()] {
+            seen.push(end.index())?;
+        }
+        if let Some(corner) = edge.opposite_vertex() {
+            seen.push(corner.index())?;
+        }
+        seen.push(usize::from(edge.is_part_of_convex_hull()))?;
+        seen.push(edge.as_voronoi_edge().next().as_delaunay_edge().index())?;
+    }
+    Ok(())
+}
+
+/// Adds the half edges of each live face.
+fn push_faces<A: Allocator>(seen: &mut Vec<usize>, dcel: &Mesh<A>) -> Result<(), AllocError> {
+    for face in dcel.live_faces() {
+        for edge in face.directed_edges() {
+            seen.push(edge.index())?;
+        }
+    }
+    Ok(())
 }
 
 /// Returns the half edges that walks give, one after another.
@@ -128,11 +168,13 @@ fn walked<A: Allocator>(dcel: &Mesh<A>, alloc: Global) -> Result<Vec<usize>, Fai
         push_out_edges(&mut seen, dcel, start)?;
     }
     push_hull(&mut seen, dcel)?;
+    push_steps(&mut seen, dcel)?;
+    push_faces(&mut seen, dcel)?;
     Ok(seen)
 }
 
-/// The tests that are about one element, for those with this number.
-fn tested_at<A: Allocator>(dcel: &Mesh<A>, index: u32) -> [bool; 12] {
+/// Returns the tests that are about one element, for those with this number.
+fn tested_at<A: Allocator>(dcel: &Mesh<A>, index: u32) -> [bool; 15] {
     let at = vertex(index);
     let edge = half_edge(index);
     let face = inner_face(index);
@@ -149,6 +191,24 @@ fn tested_at<A: Allocator>(dcel: &Mesh<A>, index: u32) -> [bool; 12] {
         dcel.is_live_face(face),
         dcel.is_triangle(face),
         dcel.get_vertex(at).is_some(),
+        dcel.get_directed_edge(edge).is_some(),
+        dcel.get_undirected_edge(undirected_edge(index)).is_some(),
+        dcel.get_face(face).is_some(),
+    ]
+}
+
+/// Returns the tests of all that a call asks, for the elements with this number and vertex 4.
+fn tested_for_calls<A: Allocator>(dcel: &Mesh<A>, index: u32) -> [bool; 7] {
+    let new_vertex = vertex(4);
+    let edge = half_edge(index);
+    [
+        dcel.can_setup_initial_two_vertices(vertex(index), new_vertex),
+        dcel.can_extend_line(vertex(index), new_vertex),
+        dcel.can_split_edge_when_all_vertices_on_line(edge, new_vertex),
+        dcel.can_create_new_face_adjacent_to_edge(edge, new_vertex),
+        dcel.can_insert_into_triangle(new_vertex, inner_face(index)),
+        dcel.can_split_edge(edge, new_vertex),
+        dcel.can_split_half_edge(edge, new_vertex),
     ]
 }
 
@@ -171,8 +231,8 @@ fn make_lists(alloc: Global) -> Result<Lists, AllocError> {
     })
 }
 
-/// The tests that are about lists and the whole mesh.
-fn tested_whole<A: Allocator>(dcel: &Mesh<A>, lists: &Lists) -> [bool; 7] {
+/// Returns the tests that are about lists and the whole mesh.
+fn tested_whole<A: Allocator>(dcel: &Mesh<A>, lists: &Lists) -> [bool; 11] {
     let border = lists.border.as_slice();
     let edges = lists.opened.edges_to_remove.as_slice();
     let faces = lists.opened.faces_to_remove.as_slice();
@@ -181,13 +241,17 @@ fn tested_whole<A: Allocator>(dcel: &Mesh<A>, lists: &Lists) -> [bool; 7] {
         dcel.is_ring(border, edges, faces),
         dcel.is_edge_strip(border),
         dcel.is_listed(&lists.opened),
+        dcel.can_isolate_vertex_and_fill_hole(border, vertex(3)),
+        dcel.can_remesh_edge_ring(border, edges, faces),
+        dcel.can_disconnect_edge_strip(border),
+        dcel.has_room_for(Room::SPLIT_EDGE),
         dcel.has_room(1, 2, 3),
         dcel.has_room(4_294_967_296, 0, 0),
         dcel.sanity_check(),
     ]
 }
 
-/// The first half edge from one vertex to another.
+/// Returns the first half edge from one vertex to another.
 fn joined<A: Allocator>(dcel: &Mesh<A>, from: u32, to: u32) -> Result<Option<usize>, Fail> {
     let from = vertex(from);
     if from.index() >= dcel.num_vertices() {
@@ -212,11 +276,17 @@ fn check_read(dcel: &Watched, wanted: &Mesh, lists: &Lists, alloc: Global) -> Re
         "what is walked",
     )?;
     same(listed(dcel), listed(wanted), "what is listed")?;
+    same(listed_live(dcel), listed_live(wanted), "what is live")?;
     for index in 0..13 {
         same(
             tested_at(dcel, index),
             tested_at(wanted, index),
             "what is tested",
+        )?;
+        same(
+            tested_for_calls(dcel, index),
+            tested_for_calls(wanted, index),
+            "what is tested for calls",
         )?;
         same(
             joined(dcel, index, 0)?,
