@@ -16,6 +16,7 @@ use dcel_fixed::{
 };
 use spade_dcel::dcel::{Dcel, RemovalState};
 use spade_dcel::handles::DirectedEdgeHandle;
+use spade_dcel::operations::Room;
 use std::alloc::Allocator;
 
 /// Refuses with `why` unless the condition is met.
@@ -170,21 +171,22 @@ pub fn ask_elements<V, DE, UE, F, A: Allocator>(
     )
 }
 
-/// Returns whether the limit leaves room for this many more vertices, edges and faces.
+/// Returns whether the limit leaves room for what a call adds.
 pub fn has_room<V, DE, UE, F, A: Allocator>(
     dcel: &Dcel<V, DE, UE, F, A>,
     limit: usize,
-    vertices: usize,
-    edges: usize,
-    faces: usize,
+    room: Room,
 ) -> bool
     requires { limit ≤ 2 ^ 31 }
     ensures within { let shape = dcel.now.shape in
-        IsTrue result ↔ AreWithin limit (shape.vertices + vertices) (shape.edges + edges) (face_count shape + faces) }
+        IsTrue result ↔ AreWithin limit (shape.vertices + room.vertices) (shape.edges + room.undirected_edges) (face_count shape + room.faces) }
     // The limit is so low that handles don't run out below it.
-    ensures room { IsTrue result → HasRoom dcel.now.shape vertices edges faces }
+    ensures room { IsTrue result → HasRoom dcel.now.shape room.vertices room.undirected_edges room.faces }
 {
-    dcel.num_vertices().saturating_add(vertices) <= limit
-        && dcel.num_undirected_edges().saturating_add(edges) <= limit
-        && dcel.num_faces().saturating_add(faces) <= limit
+    dcel.num_vertices().saturating_add(room.vertices) <= limit
+        && dcel
+            .num_undirected_edges()
+            .saturating_add(room.undirected_edges)
+            <= limit
+        && dcel.num_faces().saturating_add(room.faces) <= limit
 }

@@ -7,7 +7,7 @@ use crate::asking::has_room;
 use crate::commands::{Handed, Refused, Reply};
 use crate::refusal::Refusal;
 use spade_dcel::dcel::Dcel;
-use spade_dcel::operations::{NoMemory, append_unconnected_vertex};
+use spade_dcel::operations::{NoMemory, Room, append_unconnected_vertex};
 use std::alloc::Allocator;
 
 /// Carries the command out, or refuses it and leaves the mesh as it was.
@@ -19,7 +19,7 @@ pub fn carry_out<V, DE: Default, UE: Default, F: Default, A: Allocator>(
     requires { limit ≤ 2 ^ 31 }
     ensures { Carries DE.is_default UE.is_default F.is_default limit dcel.old (Append datum) (answered result) dcel.new }
 {
-    if !has_room(dcel, limit, 1, 0, 0) {
+    if !has_room(dcel, limit, Room::APPEND_UNCONNECTED_VERTEX) {
         return Err(Refused {
             why: Refusal::NoRoom,
             back: Handed::One(datum),

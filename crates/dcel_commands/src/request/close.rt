@@ -8,7 +8,7 @@ use crate::commands::{Refused, Reply};
 use crate::refusal::Refusal;
 use dcel_fixed::FixedDirectedEdgeHandle;
 use spade_dcel::dcel::Dcel;
-use spade_dcel::operations::create_single_face_between_edge_and_next;
+use spade_dcel::operations::{Room, create_single_face_between_edge_and_next};
 use std::alloc::Allocator;
 
 /// Carries the command out, or refuses it and leaves the mesh as it was.
@@ -27,7 +27,10 @@ pub fn carry_out<V, DE: Default, UE: Default, F: Default, A: Allocator>(
         Refusal::NotOuter,
     )?;
     ask(dcel.can_close_outside(edge), Refusal::WouldLoop)?;
-    ask(has_room(dcel, limit, 0, 1, 1), Refusal::NoRoom)?;
+    ask(
+        has_room(dcel, limit, Room::CREATE_SINGLE_FACE_BETWEEN_EDGE_AND_NEXT),
+        Refusal::NoRoom,
+    )?;
     let half = create_single_face_between_edge_and_next(dcel, edge)?;
     Ok(Reply::Half(half))
 }

@@ -8,7 +8,7 @@ use crate::commands::{Refused, Reply};
 use crate::refusal::Refusal;
 use dcel_fixed::FixedVertexHandle;
 use spade_dcel::dcel::Dcel;
-use spade_dcel::operations::extend_line;
+use spade_dcel::operations::{Room, extend_line};
 use std::alloc::Allocator;
 
 /// Carries the command out, or refuses it and leaves the mesh as it was.
@@ -24,7 +24,7 @@ pub fn carry_out<V, DE: Default, UE: Default, F: Default, A: Allocator>(
     ask_two_vertices(dcel, end, new_vertex)?;
     ask(dcel.is_unconnected(new_vertex), Refusal::VertexInUse)?;
     ask(dcel.is_line_end(end), Refusal::NotLineEnd)?;
-    ask(has_room(dcel, limit, 0, 1, 0), Refusal::NoRoom)?;
+    ask(has_room(dcel, limit, Room::EXTEND_LINE), Refusal::NoRoom)?;
     let vertex = extend_line(dcel, end, new_vertex)?;
     Ok(Reply::Vertex(vertex))
 }

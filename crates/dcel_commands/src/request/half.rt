@@ -8,7 +8,7 @@ use crate::commands::{Refused, Reply};
 use crate::refusal::Refusal;
 use dcel_fixed::{FixedDirectedEdgeHandle, FixedVertexHandle};
 use spade_dcel::dcel::Dcel;
-use spade_dcel::operations::split_half_edge;
+use spade_dcel::operations::{Room, split_half_edge};
 use std::alloc::Allocator;
 
 /// Carries the command out, or refuses it and leaves the mesh as it was.
@@ -23,7 +23,10 @@ pub fn carry_out<V, DE: Default, UE: Default, F: Default, A: Allocator>(
 {
     ask_edge_and_vertex(dcel, edge, new_vertex)?;
     ask_triangle(dcel, dcel.directed_edge(edge))?;
-    ask(has_room(dcel, limit, 0, 2, 1), Refusal::NoRoom)?;
+    ask(
+        has_room(dcel, limit, Room::SPLIT_HALF_EDGE),
+        Refusal::NoRoom,
+    )?;
     let halves = split_half_edge(dcel, edge, new_vertex)?;
     Ok(Reply::Halves(halves))
 }

@@ -8,7 +8,7 @@ use crate::commands::{Refused, Reply};
 use crate::refusal::Refusal;
 use dcel_fixed::{FixedFaceHandle, FixedVertexHandle, InnerTag};
 use spade_dcel::dcel::Dcel;
-use spade_dcel::operations::insert_into_triangle;
+use spade_dcel::operations::{Room, insert_into_triangle};
 use std::alloc::Allocator;
 
 /// Carries the command out, or refuses it and leaves the mesh as it was.
@@ -30,7 +30,10 @@ pub fn carry_out<V, DE: Default, UE: Default, F: Default, A: Allocator>(
     ask(dcel.is_live_face(face), Refusal::GivenUp)?;
     ask(dcel.is_unconnected(vertex), Refusal::VertexInUse)?;
     ask(dcel.is_triangle(face), Refusal::NotTriangle)?;
-    ask(has_room(dcel, limit, 0, 3, 2), Refusal::NoRoom)?;
+    ask(
+        has_room(dcel, limit, Room::INSERT_INTO_TRIANGLE),
+        Refusal::NoRoom,
+    )?;
     let inserted = insert_into_triangle(dcel, vertex, face)?;
     Ok(Reply::Vertex(inserted))
 }

@@ -8,7 +8,7 @@ use crate::commands::{Refused, Reply};
 use crate::refusal::Refusal;
 use dcel_fixed::{FixedDirectedEdgeHandle, FixedVertexHandle};
 use spade_dcel::dcel::Dcel;
-use spade_dcel::operations::isolate_vertex_and_fill_hole;
+use spade_dcel::operations::{Room, isolate_vertex_and_fill_hole};
 use std::alloc::Allocator;
 
 /// Carries the command out, or refuses it and leaves the mesh as it was.
@@ -29,7 +29,7 @@ pub fn carry_out<V, DE: Default, UE: Default, F: Default, A: Allocator + Clone, 
     ask(is_closed(dcel), Refusal::RemovalOpen)?;
     ask(dcel.is_border_loop(&list, vertex), Refusal::BadRing)?;
     ask(
-        has_room(dcel, limit, 0, list.len() - 3, list.len() - 2),
+        has_room(dcel, limit, Room::filling(list.len())),
         Refusal::NoRoom,
     )?;
     let opened = isolate_vertex_and_fill_hole(dcel, list, vertex)?;

@@ -8,7 +8,7 @@ use crate::commands::{Refused, Reply};
 use crate::refusal::Refusal;
 use dcel_fixed::{FixedDirectedEdgeHandle, FixedVertexHandle};
 use spade_dcel::dcel::Dcel;
-use spade_dcel::operations::split_edge_when_all_vertices_on_line;
+use spade_dcel::operations::{Room, split_edge_when_all_vertices_on_line};
 use std::alloc::Allocator;
 
 /// Carries the command out, or refuses it and leaves the mesh as it was.
@@ -23,7 +23,10 @@ pub fn carry_out<V, DE: Default, UE: Default, F: Default, A: Allocator>(
 {
     ask_edge_and_vertex(dcel, edge, new_vertex)?;
     ask(dcel.is_bridge(edge), Refusal::NotBridge)?;
-    ask(has_room(dcel, limit, 0, 1, 0), Refusal::NoRoom)?;
+    ask(
+        has_room(dcel, limit, Room::SPLIT_EDGE_WHEN_ALL_VERTICES_ON_LINE),
+        Refusal::NoRoom,
+    )?;
     let halves = split_edge_when_all_vertices_on_line(dcel, edge, new_vertex)?;
     Ok(Reply::Halves(halves))
 }

@@ -8,7 +8,7 @@ use crate::commands::{Refused, Reply};
 use crate::refusal::Refusal;
 use dcel_fixed::{FixedDirectedEdgeHandle, FixedVertexHandle};
 use spade_dcel::dcel::Dcel;
-use spade_dcel::operations::create_new_face_adjacent_to_edge;
+use spade_dcel::operations::{Room, create_new_face_adjacent_to_edge};
 use std::alloc::Allocator;
 
 /// Carries the command out, or refuses it and leaves the mesh as it was.
@@ -22,7 +22,10 @@ pub fn carry_out<V, DE: Default, UE: Default, F: Default, A: Allocator>(
     ensures { Carries DE.is_default UE.is_default F.is_default limit dcel.old (Outside edge new_vertex) (answered result) dcel.new }
 {
     ask_edge_and_vertex(dcel, edge, new_vertex)?;
-    ask(has_room(dcel, limit, 0, 2, 1), Refusal::NoRoom)?;
+    ask(
+        has_room(dcel, limit, Room::CREATE_NEW_FACE_ADJACENT_TO_EDGE),
+        Refusal::NoRoom,
+    )?;
     let vertex = create_new_face_adjacent_to_edge(dcel, edge, new_vertex)?;
     Ok(Reply::Vertex(vertex))
 }

@@ -8,7 +8,7 @@ use crate::commands::{Refused, Reply};
 use crate::refusal::Refusal;
 use dcel_fixed::{FixedDirectedEdgeHandle, FixedFaceHandle, FixedUndirectedEdgeHandle, InnerTag};
 use spade_dcel::dcel::Dcel;
-use spade_dcel::operations::remesh_edge_ring;
+use spade_dcel::operations::{Room, remesh_edge_ring};
 use std::alloc::Allocator;
 
 /// Carries the command out, or refuses it and leaves the mesh as it was.
@@ -32,7 +32,7 @@ pub fn carry_out<V, DE: Default, UE: Default, F: Default, A: Allocator + Clone, 
     ask(is_closed(dcel), Refusal::RemovalOpen)?;
     ask(dcel.is_ring(&list, &edges, &faces), Refusal::BadRing)?;
     ask(
-        has_room(dcel, limit, 0, list.len() - 3, list.len() - 2),
+        has_room(dcel, limit, Room::filling(list.len())),
         Refusal::NoRoom,
     )?;
     let edges = edges.to_vec(dcel.allocator().clone()?)?;

@@ -8,7 +8,7 @@ use crate::commands::{Refused, Reply};
 use crate::refusal::Refusal;
 use dcel_fixed::FixedVertexHandle;
 use spade_dcel::dcel::Dcel;
-use spade_dcel::operations::setup_initial_two_vertices;
+use spade_dcel::operations::{Room, setup_initial_two_vertices};
 use std::alloc::Allocator;
 
 /// Carries the command out, or refuses it and leaves the mesh as it was.
@@ -23,7 +23,10 @@ pub fn carry_out<V, DE: Default, UE: Default, F: Default, A: Allocator>(
 {
     ask_two_vertices(dcel, first, second)?;
     ask(dcel.num_undirected_edges() == 0, Refusal::EdgesStand)?;
-    ask(has_room(dcel, limit, 0, 1, 0), Refusal::NoRoom)?;
+    ask(
+        has_room(dcel, limit, Room::SETUP_INITIAL_TWO_VERTICES),
+        Refusal::NoRoom,
+    )?;
     setup_initial_two_vertices(dcel, first, second)?;
     Ok(Reply::Ok)
 }

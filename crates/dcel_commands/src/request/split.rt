@@ -8,7 +8,7 @@ use crate::commands::{Refused, Reply};
 use crate::refusal::Refusal;
 use dcel_fixed::{FixedDirectedEdgeHandle, FixedVertexHandle};
 use spade_dcel::dcel::Dcel;
-use spade_dcel::operations::split_edge;
+use spade_dcel::operations::{Room, split_edge};
 use std::alloc::Allocator;
 
 /// Carries the command out, or refuses it and leaves the mesh as it was.
@@ -25,7 +25,7 @@ pub fn carry_out<V, DE: Default, UE: Default, F: Default, A: Allocator>(
     let half_edge = dcel.directed_edge(edge);
     ask_triangle(dcel, half_edge)?;
     ask_triangle(dcel, half_edge.rev())?;
-    ask(has_room(dcel, limit, 0, 3, 2), Refusal::NoRoom)?;
+    ask(has_room(dcel, limit, Room::SPLIT_EDGE), Refusal::NoRoom)?;
     let halves = split_edge(dcel, edge, new_vertex)?;
     Ok(Reply::Halves(halves))
 }
