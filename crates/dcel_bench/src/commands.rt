@@ -64,7 +64,8 @@ fn handed_in(growth: Growth) -> Handed<i64> {
     }
 }
 
-/// Makes the call as a command under the limit, and returns whether there was memory. Without memory, the data are handed back.
+/// Makes the call as a command under the limit, and returns whether there was memory. Without
+/// memory, the data are handed back.
 pub fn carry_out<A: Allocator + Clone>(
     dcel: &mut Mesh<A>,
     growth: Growth,
@@ -86,8 +87,8 @@ pub fn carry_out<A: Allocator + Clone>(
     }
 }
 
-/// Checks that the mesh refuses the call as a command under the limit by this name, hands the data back, and is then as large as
-/// before.
+/// Checks that the mesh refuses the call as a command under the limit by this name, hands the data
+/// back, and is then as large as before.
 pub fn check_refused<A: Allocator + Clone>(
     dcel: &mut Mesh<A>,
     growth: Growth,

@@ -1,4 +1,5 @@
-//! Meshes of numbers: their elements by number, calls that test first what they ask, and what is read off a mesh.
+//! Meshes of numbers: their elements by number, calls that test first what they ask, and what is
+//! read off a mesh.
 
 use crate::checks::same;
 use crate::require;
@@ -14,7 +15,8 @@ use std::test::Fail;
 /// A mesh whose data are numbers.
 pub type Mesh<A = Global> = Dcel<i64, i64, i64, i64, A>;
 
-/// The words of the faces, one after another, and the origins of the half edges. Half edges in no word are not live.
+/// The words of the faces, one after another, and the origins of the half edges. Half edges in no
+/// word are not live.
 pub type Links = (&'static [&'static [u32]], &'static [u32]);
 
 /// The limit of the program: no count of a mesh is above it.
@@ -127,8 +129,8 @@ pub fn check_adjacent_edges<A: Allocator>(dcel: &Mesh<A>, anchors: &[u32]) -> Re
     Ok(())
 }
 
-/// The links of a half edge: the next one and the one before that, its origin and the end of the one before, its face, its other
-/// half and its edge.
+/// The links of a half edge: the next one and the one before that, its origin and the end of the
+/// one before, its face, its other half and its edge.
 fn around<A: Allocator>(dcel: &Mesh<A>, edge: FixedDirectedEdgeHandle) -> Result<[usize; 7], Fail> {
     require!(edge.index() < dcel.num_directed_edges());
     require!(dcel.is_live_edge(edge.as_undirected()));
@@ -186,7 +188,8 @@ fn check_word<A: Allocator>(
     Ok(word.len())
 }
 
-/// Checks that the faces have these words and the half edges in them these origins, and that no other half edge is live.
+/// Checks that the faces have these words and the half edges in them these origins, and that no
+/// other half edge is live.
 pub fn check_links<A: Allocator>(
     dcel: &Mesh<A>,
     words: &[&[u32]],

@@ -103,8 +103,8 @@ pub struct Ran {
     pub written: Vec<u8>,
 }
 
-/// Runs the lines with reads of `chunk` bytes that fail after `calls`, and writes of as many that fail
-/// after `room` bytes; returns how the run ended and what it wrote.
+/// Runs the lines with reads of `chunk` bytes that fail after `calls`, and writes of as many that
+/// fail after `room` bytes; returns how the run ended and what it wrote.
 pub fn answers(
     alloc: Global,
     limit: usize,

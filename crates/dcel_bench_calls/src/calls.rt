@@ -43,10 +43,12 @@ fn room_is_counted(rt: HostRuntime) -> Result<(), Fail> {
     check_room(&dcel)
 }
 
-/// The anchor of a vertex, its number once it is borrowed, whether it ends a line, and whether it has no edge.
+/// The anchor of a vertex, its number once it is borrowed, whether it ends a line, and whether it
+/// has no edge.
 type Asked = (Option<usize>, usize, bool, bool);
 
-/// The vertices of a mesh whose first edge leads from vertex 1 to vertex 0, with vertex 2 beside it.
+/// The vertices of a mesh whose first edge leads from vertex 1 to vertex 0, with vertex 2 beside
+/// it.
 const VERTICES: [Asked; 3] = [
     (Some(1), 0, true, false),
     (Some(0), 1, true, false),
@@ -102,7 +104,8 @@ fn anchors_and_tests_answer(rt: HostRuntime) -> Result<(), Fail> {
     check_anchors_and_tests(&dcel)
 }
 
-/// Calls; half edges of the mesh then, and numbers out of range; the bridges among these, and those where a face can be closed.
+/// Calls; half edges of the mesh then, and numbers out of range; the bridges among these, and those
+/// where a face can be closed.
 type Edges = (
     &'static [Growth],
     &'static [u32],

@@ -23,7 +23,8 @@ fn check(dcel: &Mesh, wanted: [usize; 3]) -> Result<(), Fail> {
     holds(dcel.sanity_check(), "a sound mesh")
 }
 
-/// Checks that the mesh after these calls and then the others is sound, and its counts of vertices, half edges and faces.
+/// Checks that the mesh after these calls and then the others is sound, and its counts of vertices,
+/// half edges and faces.
 fn check_grown(
     alloc: Global,
     begun: &[Growth],
@@ -43,8 +44,8 @@ pub fn number_between(dcel: &Mesh, from: u32, to: u32) -> Result<u32, Fail> {
     Ok(index as u32)
 }
 
-/// The number of a half edge, whether it and its other half are the even one of the two, whether they are one, and whether the other half
-/// of that is the half edge.
+/// The number of a half edge, whether it and its other half are the even one of the two, whether
+/// they are one, and whether the other half of that is the half edge.
 fn turned(index: usize) -> Result<(usize, [bool; 4]), Fail> {
     require!(index < 10);
     let handle = FixedDirectedEdgeHandle::new_normalized(index);
@@ -172,7 +173,8 @@ fn take_out(
     Ok(())
 }
 
-/// Removes a vertex inside triangles, and checks that the mesh is sound, and its counts of vertices, half edges and faces.
+/// Removes a vertex inside triangles, and checks that the mesh is sound, and its counts of
+/// vertices, half edges and faces.
 fn check_removed(
     dcel: &mut Mesh,
     index: u32,

@@ -77,7 +77,8 @@ const ROWS: [Row; 4] = [
             (Extend(0, 3), false),
         ],
     ),
-    // The outer face has four half edges, 4, 6, 8 and 2 among them, and half edge 1 lies on a triangle.
+    // The outer face has four half edges, 4, 6, 8 and 2 among them, and half edge 1 lies on a
+    // triangle.
     (
         &[Triangle(0, 1, 2), Append(3), PutBeside(0, 3), Append(4)],
         &[

@@ -1,4 +1,5 @@
-//! Borrowed elements by number, None for those that an open removal has given up or that there aren't.
+//! Borrowed elements by number, None for those that an open removal has given up or that there
+//! aren't.
 
 use dcel_bench::checks::same;
 use dcel_bench::growths::cut_triangle;
@@ -21,7 +22,8 @@ const CLOSED: [Row; 7] = [
     (12, [false, false, false]),
 ];
 
-/// The same once vertex 3 is given up with edges 3, 4 and 5 and faces 1, 2 and 3, and face 4 fills the hole.
+/// The same once vertex 3 is given up with edges 3, 4 and 5 and faces 1, 2 and 3, and face 4 fills
+/// the hole.
 const OPEN: [Row; 9] = [
     (0, [true, true, true]),
     (1, [true, true, false]),

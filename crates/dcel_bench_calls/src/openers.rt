@@ -1,4 +1,5 @@
-//! Removals from the opening to the end: what openers return and leave, and what cleanup makes of it.
+//! Removals from the opening to the end: what openers return and leave, and what cleanup makes of
+//! it.
 
 use dcel_bench::checks::{holds, same};
 use dcel_bench::data::{Datum, write_all};
@@ -14,9 +15,9 @@ use spade_dcel::operations::{IsolateVertexResult, cleanup_isolated_vertex};
 use std::alloc::Global;
 use std::test::Fail;
 
-/// A removal: the calls that the mesh grows by, the opener, and the edges and faces that it gives up and the edges that it puts in; the
-/// links and the anchors of the vertices while it is open; and the links once it is cleaned up, and the vertex that is then left, if there
-/// is one.
+/// A removal: the calls that the mesh grows by, the opener, and the edges and faces that it gives
+/// up and the edges that it puts in; the links and the anchors of the vertices while it is open;
+/// and the links once it is cleaned up, and the vertex that is then left, if there is one.
 #[derive(Clone, Copy)]
 struct Row {
     growths: &'static [Growth],
@@ -237,8 +238,8 @@ fn check_vertex(dcel: &Mesh, given_up: Option<u32>) -> Result<(), Fail> {
     }
 }
 
-/// Checks that the mesh is as the row says while the removal is open: what is given up isn't live, and the links and the anchors are those of
-/// the row.
+/// Checks that the mesh is as the row says while the removal is open: what is given up isn't live,
+/// and the links and the anchors are those of the row.
 fn check_open(dcel: &Mesh, row: Row) -> Result<(), Fail> {
     same(
         dcel.removal_state(),
@@ -262,7 +263,8 @@ fn cleaned_state(row: Row) -> RemovalState {
     }
 }
 
-/// Cleans up what an opener has given up: the links are those of the row, and its vertex, if there is one, is still given up.
+/// Cleans up what an opener has given up: the links are those of the row, and its vertex, if there
+/// is one, is still given up.
 fn clean_up(dcel: &mut Mesh, opened: &mut Opened, row: Row) -> Result<(), Fail> {
     require!(dcel.is_listed(opened));
     cleanup_isolated_vertex(dcel, opened);

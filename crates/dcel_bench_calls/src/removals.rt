@@ -25,7 +25,8 @@ const OPENERS: [(Opener, bool); 10] = [
     (Strip(&[99]), false),
 ];
 
-/// Whether the half edges are the border loop of the vertex, and whether the call asks nothing more but room.
+/// Whether the half edges are the border loop of the vertex, and whether the call asks nothing more
+/// but room.
 fn is_border(
     dcel: &Mesh,
     alloc: Global,
@@ -39,8 +40,8 @@ fn is_border(
     ])
 }
 
-/// Whether the half edges are a border loop, and these the edges and the faces inside, and whether the call asks nothing
-/// more but room.
+/// Whether the half edges are a border loop, and these the edges and the faces inside, and whether
+/// the call asks nothing more but room.
 fn is_ring(
     dcel: &Mesh,
     alloc: Global,

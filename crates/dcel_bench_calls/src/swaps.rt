@@ -14,7 +14,8 @@ type Vertex = (Option<usize>, i64);
 /// Two vertices that are swapped, and the numbers of the mesh's vertices after that.
 type Swap = (u32, u32, &'static [u32]);
 
-/// Calls that make a mesh, its links, its vertices, and whether it is sound; and swaps one after another.
+/// Calls that make a mesh, its links, its vertices, and whether it is sound; and swaps one after
+/// another.
 #[derive(Clone, Copy)]
 struct Row {
     growths: &'static [Growth],

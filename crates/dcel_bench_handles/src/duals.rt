@@ -1,4 +1,5 @@
-//! The ends and sides of edges, the Voronoi diagram, and comparisons of borrowed handles, on a triangle that vertex 3 cuts into three.
+//! The ends and sides of edges, the Voronoi diagram, and comparisons of borrowed handles, on a
+//! triangle that vertex 3 cuts into three.
 
 use crate::borrowed::{live_half_edge, vertex_of};
 use dcel_bench::checks::same;
@@ -26,7 +27,8 @@ fn by_number(vertex: &VoronoiVertex<'_, i64, i64, i64, i64>) -> Dual {
     }
 }
 
-/// The ends of a half edge, the vertex opposite, whether it is outer, and whether its edge is on the hull.
+/// The ends of a half edge, the vertex opposite, whether it is outer, and whether its edge is on
+/// the hull.
 type Sides = ([usize; 2], Option<usize>, bool, bool);
 
 /// Half edges, each with its sides.
@@ -107,7 +109,8 @@ fn face_0_alone_is_outer(rt: HostRuntime) -> Result<(), Fail> {
     check_faces(&cut_triangle(rt.alloc())?)
 }
 
-/// The dual of a half edge: its start and its end, and the next, the one before, the face, and the half edge that the turned dual is of.
+/// The dual of a half edge: its start and its end, and the next, the one before, the face, and the
+/// half edge that the turned dual is of.
 type Edge = ([Dual; 2], [usize; 4]);
 
 /// Half edges, each with its dual.
@@ -229,7 +232,8 @@ fn voronoi_faces_list_the_edges_round_them(rt: HostRuntime) -> Result<(), Fail> 
     check_round_face(&cut_triangle(rt.alloc())?, rt.alloc())
 }
 
-/// Whether two vertices are equal, and whether they aren't; whether the first is less, and whether it is greater.
+/// Whether two vertices are equal, and whether they aren't; whether the first is less, and whether
+/// it is greater.
 fn compared(
     first: VertexHandle<'_, i64, i64, i64, i64>,
     second: VertexHandle<'_, i64, i64, i64, i64>,

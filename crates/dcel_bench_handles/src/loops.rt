@@ -74,7 +74,8 @@ fn outer_edges(dcel: &Mesh) -> usize {
     count
 }
 
-/// Checks what loops find in a cut triangle, once its vertex 3 is given up and face 4 fills the hole.
+/// Checks what loops find in a cut triangle, once its vertex 3 is given up and face 4 fills the
+/// hole.
 fn check_loops(dcel: &Mesh, alloc: Global) -> Result<(), Fail> {
     let ends = ends_of_edges(dcel, alloc)?;
     same(ends.as_slice(), [[0, 1], [1, 2], [2, 0]].as_slice(), "ends")?;

@@ -1,6 +1,7 @@
-//! A Delaunay triangulation over this layer: points are put into the triangles that they lie in, and then edges are flipped until no
-//! triangle's circle has the corner of a triangle beside it inside. The points stand in a slice beside the mesh, the one of vertex n at
-//! place n, since the mesh is lent while edges are flipped.
+//! A Delaunay triangulation over this layer: points are put into the triangles that they lie in,
+//! and then edges are flipped until no triangle's circle has the corner of a triangle beside it
+//! inside. The points stand in a slice beside the mesh, the one of vertex n at place n, since the
+//! mesh is lent while edges are flipped.
 
 ghost use Rattle.std.specs.Prelude.{ℕ, Bool, List, IsTrue, IfOk, IfSome, ◌<◌};
 ghost use Rattle.std.specs.Fn.{FnReturnsAt};
@@ -19,8 +20,8 @@ use std::alloc::{AllocError, Global};
 /// A point with whole-number coordinates.
 pub type Point = (i32, i32);
 
-/// Flips edges of a mesh until none is left that can be flipped and is wanted. Returns whether it got that far with this many flips and the
-/// memory there was.
+/// Flips edges of a mesh until none is left that can be flipped and is wanted. Returns whether it
+/// got that far with this many flips and the memory there was.
 pub fn settle<V, DE, UE, F, W>(
     dcel: &mut Dcel<V, DE, UE, F>,
     wanted: W,
@@ -54,8 +55,9 @@ fn all_edges<V, DE, UE, F>(
     Ok(list)
 }
 
-/// Whether the last of four vertices lies inside the circle through the first three, if these go round counterclockwise: the rule by which
-/// edges are flipped. A vertex without a point lies nowhere.
+/// Whether the last of four vertices lies inside the circle through the first three, if these go
+/// round counterclockwise: the rule by which edges are flipped. A vertex without a point lies
+/// nowhere.
 pub fn is_in_circle(points: &[Point], [a, b, c, d]: &[FixedVertexHandle; 4]) -> bool {
     let (Some(a), Some(b)) = (from(points, *a, *d), from(points, *b, *d)) else {
         return false;
@@ -134,7 +136,8 @@ fn triangle_round<V, DE, UE, F>(
     None
 }
 
-/// Adds a vertex, and puts it into the triangle that its point lies inside of, if there is one and there are numbers left.
+/// Adds a vertex, and puts it into the triangle that its point lies inside of, if there is one and
+/// there are numbers left.
 pub fn insert<V: Drop, DE: Default + Drop, UE: Default + Drop, F: Default + Drop>(
     dcel: &mut Dcel<V, DE, UE, F>,
     points: &[Point],
@@ -162,7 +165,8 @@ mod tests {
     use dcel_bench::meshes::{Mesh, edge_between};
     use std::test::Fail;
 
-    /// The corners of a triangle, clockwise, so that its inner face goes round counterclockwise, and points inside it.
+    /// The corners of a triangle, clockwise, so that its inner face goes round counterclockwise,
+    /// and points inside it.
     const POINTS: [Point; 9] = [
         (-1000, -900),
         (0, 1000),

@@ -1,4 +1,5 @@
-//! Calls on whole meshes: data mapped, a mesh cloned, cleared and given room, and one made of its vertices.
+//! Calls on whole meshes: data mapped, a mesh cloned, cleared and given room, and one made of its
+//! vertices.
 
 use dcel_bench::checks::{holds, same};
 use dcel_bench::data::{Datum, write};
@@ -92,7 +93,8 @@ fn mapped_picture(alloc: Global) -> Result<Picture, Fail> {
     picture_of(&dcel, alloc)
 }
 
-/// Reserves room for more vertices, undirected edges and faces, and returns whether there was memory.
+/// Reserves room for more vertices, undirected edges and faces, and returns whether there was
+/// memory.
 fn reserve<A: Allocator>(dcel: &mut Mesh<A>, room: [usize; 3]) -> Result<bool, Fail> {
     let [vertices, edges, faces] = room;
     require!(dcel.has_room(vertices, edges, faces));
@@ -146,7 +148,8 @@ fn check_fixed_links<A: Allocator>(dcel: &Mesh<A>) -> Result<(), Fail> {
     same(outer, Some(0), "the anchor of the outer face")
 }
 
-/// Checks that the mesh has vertices 0, 1, 2 with the data 5, 6, 7, and an edge from vertex 2 to vertex 0.
+/// Checks that the mesh has vertices 0, 1, 2 with the data 5, 6, 7, and an edge from vertex 2 to
+/// vertex 0.
 fn check_fixed<A: Allocator + Copy>(dcel: Mesh<A>, alloc: A) -> Result<(), Fail> {
     check_fixed_links(&dcel)?;
     check_data(dcel, alloc, [5_06_07, 0])
@@ -235,7 +238,8 @@ const EIGHT_TRIANGLES: [Growth; 20] = [
     PutBeside(27, 9),
 ];
 
-/// Room for vertices, edges and faces, and a call that finds none left of one kind after the eight triangles.
+/// Room for vertices, edges and faces, and a call that finds none left of one kind after the eight
+/// triangles.
 const ROOM: [([usize; 3], Growth); 3] = [
     ([10, 17, 8], Append(10)),
     ([10, 17, 9], Close(9)),

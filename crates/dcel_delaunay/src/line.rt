@@ -1,4 +1,5 @@
-//! Points that all stand on one line: the mesh is a path along it, and the outer face is its only face.
+//! Points that all stand on one line: the mesh is a path along it, and the outer face is its only
+//! face.
 
 ghost use Rattle.std.specs.Prelude.{◌≡◌, IfSome};
 ghost use Rattle.spade_dcel.specs.Handles.{mesh_behind, number_of};
