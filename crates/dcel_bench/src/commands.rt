@@ -12,7 +12,7 @@ use dcel_commands::commands::{Command, Handed, Refusal, Refused, Reply, apply};
 use std::alloc::{Allocator, Global};
 use std::test::Fail;
 
-/// The command that makes the call.
+/// Returns the command that makes the call.
 pub fn growing<A: Allocator>(growth: Growth) -> Command<i64, A> {
     match growth {
         Triangle(first, second, third) => Command::Triangle(first, second, third),
@@ -28,7 +28,8 @@ pub fn growing<A: Allocator>(growth: Growth) -> Command<i64, A> {
     }
 }
 
-// The mesh's reply to the command if there is memory. New half edges are `first`, `first + 1`, ..
+// Returns the mesh's reply to the command if there is memory. New half edges are `first`,
+// `first + 1`, ..
 fn reply_to<A: Allocator>(dcel: &Mesh<A>, growth: Growth) -> Result<Reply<i64>, Fail> {
     let count = dcel.num_vertices();
     require!(count < NO_LIMIT);
@@ -45,7 +46,7 @@ fn reply_to<A: Allocator>(dcel: &Mesh<A>, growth: Growth) -> Result<Reply<i64>, 
     })
 }
 
-// Whether two replies are the same, of those that growths get.
+// Returns whether two replies are the same, of those that growths get.
 fn is_same_reply<A: Allocator>(answer: &Reply<i64, A>, reply: &Reply<i64>) -> bool {
     match (answer, reply) {
         (Reply::Ok, Reply::Ok) => true,

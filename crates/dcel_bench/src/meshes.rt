@@ -28,22 +28,22 @@ pub const CUT_TRIANGLE: Links = (
     &[0, 1, 1, 2, 2, 0, 0, 3, 2, 3, 1, 3],
 );
 
-/// The vertex with this number.
+/// Returns the vertex with this number.
 pub fn vertex(index: u32) -> FixedVertexHandle {
     FixedVertexHandle::new(index as usize)
 }
 
-/// The half edge with this number.
+/// Returns the half edge with this number.
 pub fn half_edge(index: u32) -> FixedDirectedEdgeHandle {
     FixedDirectedEdgeHandle::new(index as usize)
 }
 
-/// The edge with this number.
+/// Returns the edge with this number.
 pub fn undirected_edge(index: u32) -> FixedUndirectedEdgeHandle {
     FixedUndirectedEdgeHandle::new(index as usize)
 }
 
-/// The face with this number, which isn't 0.
+/// Returns the face with this number, which isn't 0.
 pub fn inner_face(index: u32) -> FixedFaceHandle<InnerTag> {
     FixedFaceHandle::new(index as usize)
 }
@@ -72,7 +72,7 @@ pub fn swap<A: Allocator>(dcel: &mut Mesh<A>, first: u32, second: u32) -> Result
     Ok(())
 }
 
-/// The number of the half edge that leads from one vertex to another, as the mesh finds it.
+/// Returns the number of the half edge that leads from one vertex to another, as the mesh finds it.
 pub fn edge_between<A: Allocator>(
     dcel: &Mesh<A>,
     from: u32,
@@ -84,7 +84,7 @@ pub fn edge_between<A: Allocator>(
     Ok(found.map(|edge| edge.index()))
 }
 
-/// How many vertices, half edges and faces there are.
+/// Returns how many vertices, half edges and faces there are.
 pub fn counts<A: Allocator>(dcel: &Mesh<A>) -> [usize; 3] {
     [
         dcel.num_vertices(),
@@ -93,14 +93,14 @@ pub fn counts<A: Allocator>(dcel: &Mesh<A>) -> [usize; 3] {
     ]
 }
 
-/// The number of the half edge that the vertex is anchored at.
+/// Returns the number of the half edge that the vertex is anchored at.
 pub fn out_edge<A: Allocator>(dcel: &Mesh<A>, index: usize) -> Result<Option<usize>, Fail> {
     require!(index < dcel.num_vertices());
     let handle = FixedVertexHandle::new(index);
     Ok(dcel.vertex_out_edge(handle).map(|edge| edge.index()))
 }
 
-/// The number of the half edge that the face is anchored at.
+/// Returns the number of the half edge that the face is anchored at.
 pub fn adjacent_edge<A: Allocator>(dcel: &Mesh<A>, index: usize) -> Result<Option<usize>, Fail> {
     require!(index < dcel.num_faces());
     let handle: FixedFaceHandle<PossiblyOuterTag> = FixedFaceHandle::new(index);
@@ -129,8 +129,8 @@ pub fn check_adjacent_edges<A: Allocator>(dcel: &Mesh<A>, anchors: &[u32]) -> Re
     Ok(())
 }
 
-/// The links of a half edge: the next one and the one before that, its origin and the end of the
-/// one before, its face, its other half and its edge.
+/// Returns the links of a half edge: the next one and the one before that, its origin and the end
+/// of the one before, its face, its other half and its edge.
 fn around<A: Allocator>(dcel: &Mesh<A>, edge: FixedDirectedEdgeHandle) -> Result<[usize; 7], Fail> {
     require!(edge.index() < dcel.num_directed_edges());
     require!(dcel.is_live_edge(edge.as_undirected()));

@@ -66,7 +66,7 @@ fn asked(dcel: &Mesh, index: usize) -> Result<Asked, Fail> {
     ))
 }
 
-/// Whether the outer face, vertex 3 and edge 1 are live.
+/// Returns whether the outer face, vertex 3 and edge 1 are live.
 fn are_live(dcel: &Mesh) -> [bool; 3] {
     [
         dcel.is_live_face(OUTER_FACE),
@@ -83,7 +83,7 @@ fn check_answers(dcel: &Mesh) -> Result<(), Fail> {
     Ok(())
 }
 
-/// The anchor of the outer face in an empty mesh, where its word is empty.
+/// Returns the anchor of the outer face in an empty mesh, where its word is empty.
 fn anchor_of_nothing(alloc: Global) -> Result<Option<usize>, Fail> {
     let empty: Mesh = new(alloc)?;
     adjacent_edge(&empty, 0)
@@ -194,7 +194,7 @@ fn edges_are_found_by_their_ends(rt: HostRuntime) -> Result<(), Fail> {
     check_between(&dcel)
 }
 
-/// The number of elements of each kind: of the mesh, and of its dual.
+/// Returns the number of elements of each kind: of the mesh, and of its dual.
 fn elements(dcel: &Mesh) -> [usize; 7] {
     [
         VertexTag::num_elements(dcel),

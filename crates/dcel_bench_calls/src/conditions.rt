@@ -92,7 +92,7 @@ const ROWS: [Row; 4] = [
     ),
 ];
 
-/// Whether the mesh meets all that a growth of two elements asks but room.
+/// Returns whether the mesh meets all that a growth of two elements asks but room.
 fn can_grow(dcel: &Mesh, growth: Growth) -> Option<bool> {
     Some(match growth {
         SetUp(first, second) => dcel.can_setup_initial_two_vertices(vertex(first), vertex(second)),

@@ -36,7 +36,7 @@ const OPEN: [Row; 9] = [
     (4_294_967_295, [false, false, false]),
 ];
 
-/// The numbers of the half edge, the edge and the face that are lent by a number.
+/// Returns the numbers of the half edge, the edge and the face that are lent by a number.
 fn lent(dcel: &Mesh, index: u32) -> [Option<usize>; 3] {
     let edge = dcel.get_directed_edge(half_edge(index));
     let undirected = dcel.get_undirected_edge(undirected_edge(index));

@@ -255,7 +255,7 @@ fn check_open(dcel: &Mesh, row: Row) -> Result<(), Fail> {
     check_anchors(dcel, row.anchors)
 }
 
-/// How far a cleanup gets: to the vertex that is still given up, or to the end.
+/// Returns how far a cleanup gets: to the vertex that is still given up, or to the end.
 fn cleaned_state(row: Row) -> RemovalState {
     match row.vertex {
         Some(_) => RemovalState::Cleaned,

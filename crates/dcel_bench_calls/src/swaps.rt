@@ -100,7 +100,7 @@ const ROWS: [Row; 6] = [
     },
 ];
 
-/// The anchor of a vertex and its datum, and whether no edge is there.
+/// Returns the anchor of a vertex and its datum, and whether no edge is there.
 fn read_vertex(dcel: &Mesh, number: u32) -> Result<(Vertex, bool), Fail> {
     let handle = vertex(number);
     require!(handle.index() < dcel.num_vertices());
@@ -126,7 +126,7 @@ fn check_vertices(dcel: &Mesh, vertices: &[Vertex], numbers: &[u32]) -> Result<(
     Ok(())
 }
 
-/// The origins, by the numbers that the vertices have now.
+/// Returns the origins, by the numbers that the vertices have now.
 fn renumbered(origins: &[u32], numbers: &[u32], alloc: Global) -> Result<Vec<u32>, Fail> {
     let mut list = Vec::new(alloc);
     for origin in origins {

@@ -145,8 +145,8 @@ fn own_steps_lead_round(rt: HostRuntime) -> Result<(), Fail> {
     check_walks::<PrevNextBackFn>(&dcel, &PREV_WALKS)
 }
 
-/// The number of inner faces left and the next one from the back, four times; and whether none then
-/// comes from the front.
+/// Returns the number of inner faces left and the next one from the back, four times; and whether
+/// none then comes from the front.
 fn inner_faces_from_the_back(dcel: &Mesh) -> ([(usize, Option<usize>); 4], bool) {
     let mut faces = dcel.inner_faces();
     let mut taken = [(0, None); 4];
@@ -168,25 +168,25 @@ fn inner_faces_come_from_the_back(rt: HostRuntime) -> Result<(), Fail> {
     )
 }
 
-/// The number of half edges out of a vertex, from the front and from the back.
+/// Returns the number of half edges out of a vertex, from the front and from the back.
 fn degrees(dcel: &Mesh, index: u32) -> Result<[usize; 2], Fail> {
     let start = vertex_of(dcel, index)?;
     Ok([start.out_edges().count(), start.out_edges().rev().count()])
 }
 
-/// The half edge at this place of those that come out of a vertex, from the front.
+/// Returns the half edge at this place of those that come out of a vertex, from the front.
 fn at_place(dcel: &Mesh, index: u32, place: usize) -> Result<Option<usize>, Fail> {
     let edge = vertex_of(dcel, index)?.out_edges().nth(place);
     Ok(edge.map(|edge| edge.index()))
 }
 
-/// The half edge at this place of those that come out of a vertex, from the back.
+/// Returns the half edge at this place of those that come out of a vertex, from the back.
 fn at_place_from_the_back(dcel: &Mesh, index: u32, place: usize) -> Result<Option<usize>, Fail> {
     let edge = vertex_of(dcel, index)?.out_edges().nth_back(place);
     Ok(edge.map(|edge| edge.index()))
 }
 
-/// The number of the vertex that a half edge comes out of.
+/// Returns the number of the vertex that a half edge comes out of.
 fn origin(dcel: &Mesh, index: usize) -> Result<usize, Fail> {
     require!(index < dcel.num_directed_edges());
     let handle = FixedDirectedEdgeHandle::new(index);
@@ -248,7 +248,7 @@ fn elements_are_counted(rt: HostRuntime) -> Result<(), Fail> {
     Ok(())
 }
 
-/// The numbers of faces, half edges and edges that the Voronoi diagram lists.
+/// Returns the numbers of faces, half edges and edges that the Voronoi diagram lists.
 fn dual_lengths(dcel: &Mesh) -> [usize; 3] {
     [
         VoronoiFaceIterator::new(dcel).len(),

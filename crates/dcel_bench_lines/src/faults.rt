@@ -72,7 +72,7 @@ struct Whole {
 }
 
 impl Whole {
-    /// The talk with every word.
+    /// Makes the talk with every word.
     fn new(alloc: Global) -> Result<Whole, AllocError> {
         let mut whole = Whole {
             lines: Vec::new(alloc),

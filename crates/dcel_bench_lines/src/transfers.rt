@@ -295,7 +295,7 @@ const RUNS: [Run; 13] = [
     ),
 ];
 
-/// How a run ended, by name.
+/// Returns how a run ended, by name.
 pub fn fault_name(ended: Result<(), RunFault>) -> &'static str {
     match ended {
         Ok(()) => "",

@@ -41,7 +41,7 @@ where
     }
 }
 
-/// The edges of a mesh, also those given up.
+/// Returns the edges of a mesh, also those given up.
 fn all_edges<V, DE, UE, F>(
     dcel: &Dcel<V, DE, UE, F>,
     alloc: Global,
@@ -55,9 +55,9 @@ fn all_edges<V, DE, UE, F>(
     Ok(list)
 }
 
-/// Whether the last of four vertices lies inside the circle through the first three, if these go
-/// round counterclockwise: the rule by which edges are flipped. A vertex without a point lies
-/// nowhere.
+/// Returns whether the last of four vertices lies inside the circle through the first three, if
+/// these go round counterclockwise: the rule by which edges are flipped. A vertex without a point
+/// lies nowhere.
 pub fn is_in_circle(points: &[Point], [a, b, c, d]: &[FixedVertexHandle; 4]) -> bool {
     let (Some(a), Some(b)) = (from(points, *a, *d), from(points, *b, *d)) else {
         return false;
@@ -75,7 +75,7 @@ pub fn is_in_circle(points: &[Point], [a, b, c, d]: &[FixedVertexHandle; 4]) -> 
 /// 128 bits where coordinates are below 2^29.
 type Way = (i128, i128);
 
-/// The vector to the point of a vertex from the point of another one.
+/// Returns the vector to the point of a vertex from the point of another one.
 fn from(points: &[Point], vertex: FixedVertexHandle, other: FixedVertexHandle) -> Option<Way> {
     let (x, y) = *points.get(vertex.index())?;
     let (other_x, other_y) = *points.get(other.index())?;
@@ -85,12 +85,12 @@ fn from(points: &[Point], vertex: FixedVertexHandle, other: FixedVertexHandle) -
     ))
 }
 
-/// The square of a vector's length.
+/// Returns the square of a vector's length.
 fn square((x, y): Way) -> i128 {
     x.wrapping_mul(x).wrapping_add(y.wrapping_mul(y))
 }
 
-/// Above 0 if the second vector leads to the left of the first.
+/// Returns a number above 0 if the second vector leads to the left of the first.
 fn cross((x, y): Way, (other_x, other_y): Way) -> i128 {
     x.wrapping_mul(other_y)
         .wrapping_sub(y.wrapping_mul(other_x))
@@ -104,7 +104,8 @@ fn is_left(points: &[Point], [a, b]: [FixedVertexHandle; 2], vertex: FixedVertex
     }
 }
 
-/// Whether a vertex lies inside the triangle of three others, which go round counterclockwise.
+/// Returns whether a vertex lies inside the triangle of three others, which go round
+/// counterclockwise.
 fn is_inside(
     points: &[Point],
     [a, b, c]: [FixedVertexHandle; 3],
@@ -115,7 +116,7 @@ fn is_inside(
         && is_left(points, [c, a], vertex)
 }
 
-/// The inner triangle that a vertex lies inside of.
+/// Returns the inner triangle that a vertex lies inside of.
 fn triangle_round<V, DE, UE, F>(
     dcel: &Dcel<V, DE, UE, F>,
     points: &[Point],

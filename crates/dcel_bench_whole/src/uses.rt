@@ -12,8 +12,8 @@ use spade_dcel::handles::{
 use spade_dcel::operations::{Room, append_unconnected_vertex, flip_cw, insert_into_triangle};
 use std::alloc::{AllocError, Global};
 
-/// A graph walk: the length of a shortest way from one vertex to each other one, and None if there
-/// is no way.
+/// Walks the graph of a mesh: returns the length of a shortest way from one vertex to each other
+/// one, and None where there is no way.
 pub fn steps_from<V, DE, UE, F>(
     dcel: &Dcel<V, DE, UE, F>,
     start: FixedVertexHandle,
@@ -34,7 +34,7 @@ pub fn steps_from<V, DE, UE, F>(
     Ok(steps)
 }
 
-// Each neighbor not reached yet is reached in this many steps.
+// Notes that each neighbor not reached yet is reached in this many steps.
 fn reach_neighbors<V, DE, UE, F>(
     vertex: VertexHandle<'_, V, DE, UE, F>,
     step: usize,
@@ -50,7 +50,7 @@ fn reach_neighbors<V, DE, UE, F>(
     }
 }
 
-/// A mesh editor: puts a vertex into each inner triangle, and then flips each old edge with such a
+/// Edits a mesh: puts a vertex into each inner triangle, and then flips each old edge with such a
 /// triangle on both sides. If memory or numbers run out, the mesh is refined as far as that.
 pub fn refine<V: Copy + Drop, DE: Default + Drop, UE: Default + Drop, F: Default + Drop>(
     dcel: &mut Dcel<V, DE, UE, F>,
@@ -97,7 +97,7 @@ fn put_into<V: Drop, DE: Default + Drop, UE: Default + Drop, F: Default + Drop>(
     Ok(())
 }
 
-/// A reader of the Voronoi diagram: the corners of one of its faces, each a face of the mesh, and
+/// Reads the Voronoi diagram: returns the corners of one of its faces, each a face of the mesh, and
 /// whether it is open, with an edge that comes from none.
 pub fn corners_of<V, DE, UE, F>(
     face: VoronoiFace<'_, V, DE, UE, F>,
@@ -171,7 +171,7 @@ mod tests {
         check_no_spokes(&dcel)
     }
 
-    /// The corners of the Voronoi face of a vertex, and whether it is open.
+    /// Returns the corners of the Voronoi face of a vertex, and whether it is open.
     fn corners(dcel: &Mesh, index: u32, alloc: Global) -> Result<(Vec<usize>, bool), Fail> {
         let handle = vertex(index);
         require!(handle.index() < dcel.num_vertices());

@@ -19,7 +19,7 @@ use std::test::Fail;
 /// A mesh whose memory may be refused.
 type Watched<'a> = Mesh<&'a Refusing<Global>>;
 
-/// The result, or that there was no memory.
+/// Returns the result, or that there was no memory.
 fn made<T, B: Drop>(made: Result<T, NoMemory<B>>) -> Result<T, AllocError> {
     made.map_err(|_| AllocError)
 }
@@ -30,14 +30,14 @@ fn see(seen: &Cell<i64>, datum: i64) -> i64 {
     datum
 }
 
-/// The data of the vertices, written as one number, two digits a datum; and the mesh again.
+/// Returns the data of the vertices, written as one number, two digits a datum; and the mesh again.
 fn vertex_data<A: Allocator>(dcel: Mesh<A>, alloc: A) -> Result<(i64, Mesh<A>), AllocError> {
     let seen = Cell::new(0);
     let dcel = made(dcel.map_vertices(alloc, |datum| see(&seen, datum)))?;
     Ok((seen.get(), dcel))
 }
 
-/// The data of the undirected edges, written as one number, two digits a datum.
+/// Returns the data of the undirected edges, written as one number, two digits a datum.
 fn edge_data<A: Allocator>(dcel: Mesh<A>, alloc: A) -> Result<i64, AllocError> {
     let seen = Cell::new(0);
     made(dcel.map_undirected_edges(alloc, |datum| see(&seen, datum)))?;
@@ -59,7 +59,7 @@ fn check_picture<A: Allocator>(
     same(&picture_of(dcel, alloc)?, wanted, "the mesh")
 }
 
-/// The mesh with other data of its vertices and of its undirected edges.
+/// Returns the mesh with other data of its vertices and of its undirected edges.
 fn mapped(dcel: Mesh, alloc: Global) -> Result<Mesh, AllocError> {
     let dcel = made(dcel.map_vertices(alloc, |datum| datum.wrapping_add(10)))?;
     made(dcel.map_undirected_edges(alloc, |datum| datum.wrapping_add(1)))
@@ -172,7 +172,7 @@ fn a_mesh_is_made_of_its_vertices(rt: HostRuntime) -> Result<(), Fail> {
     check_fixed(dcel, alloc)
 }
 
-/// A triangle that vertex 3 cuts into three.
+/// Returns a triangle that vertex 3 cuts into three.
 fn cut(memory: Watching<'_>) -> Result<Watched<'_>, Fail> {
     let mut dcel: Watched = new(memory)?;
     grow_all(&mut dcel, memory, &CUT)?;
