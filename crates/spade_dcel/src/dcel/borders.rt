@@ -78,8 +78,8 @@ impl<V, DE, UE, F, A: Allocator> Dcel<V, DE, UE, F, A> {
         self.is_region_ring(list, edges, faces)
     }
 
-    // Returns whether the list is the border loop of a vertex, and the edges and the faces are those
-    // at it, each listed once.
+    // Returns whether the list is the border loop of a vertex, and the edges and the faces are
+    // those at it, each listed once.
     fn is_vertex_ring(
         &self,
         list: &[FixedDirectedEdgeHandle],
