@@ -22,6 +22,9 @@ pub type Links = (&'static [&'static [u32]], &'static [u32]);
 /// The limit of the program: no count of a mesh is above it.
 pub const NO_LIMIT: usize = 2_147_483_648;
 
+/// The links of a triangle.
+pub const TRIANGLE: Links = (&[&[0, 2, 4], &[1, 5, 3]], &[0, 1, 1, 2, 2, 0]);
+
 /// The links of a triangle that vertex 3 cuts into three.
 pub const CUT_TRIANGLE: Links = (
     &[&[0, 2, 4], &[1, 6, 11], &[5, 8, 7], &[3, 10, 9]],

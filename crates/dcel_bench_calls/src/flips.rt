@@ -16,8 +16,8 @@ const FLIPPED_ONCE: Links = (
     &[0, 1, 1, 2, 2, 0, 1, 2, 2, 3, 1, 3],
 );
 
-/// Twice.
-const FLIPPED_TWICE: Links = (
+/// The links of a cut triangle whose edge 3 was flipped twice.
+pub const FLIPPED_TWICE: Links = (
     &[&[0, 2, 4], &[5, 8, 6], &[1, 7, 11], &[3, 10, 9]],
     &[0, 1, 1, 2, 2, 0, 3, 0, 2, 3, 1, 3],
 );

@@ -1,11 +1,14 @@
 //! Removals from the opening to the end: what openers return and leave, and what cleanup makes of
 //! it.
 
+use crate::flips::FLIPPED_TWICE;
 use dcel_bench::checks::{holds, same};
 use dcel_bench::data::{Datum, write_all};
 use dcel_bench::growths::Growth::{Append, Insert, SplitBothSides, Triangle};
 use dcel_bench::growths::{CUT, Growth, grown};
-use dcel_bench::meshes::{Links, Mesh, check_links, inner_face, out_edge, undirected_edge, vertex};
+use dcel_bench::meshes::{
+    Links, Mesh, TRIANGLE, check_links, inner_face, out_edge, undirected_edge, vertex,
+};
 use dcel_bench::openers::Opener::{Isolate, Remesh, Strip};
 use dcel_bench::openers::{Opener, handles, open};
 use dcel_bench::require;
@@ -31,16 +34,9 @@ struct Row {
     vertex: Option<u32>,
 }
 
-const TRIANGLE: Links = (&[&[0, 2, 4], &[1, 5, 3]], &[0, 1, 1, 2, 2, 0]);
-
 const CUT_HOLE: Links = (
     &[&[0, 2, 4], &[], &[], &[], &[1, 5, 3]],
     &[0, 1, 1, 2, 2, 0, 0, 0, 0, 0, 0, 0],
-);
-
-const FILLED_QUAD: Links = (
-    &[&[0, 2, 4], &[5, 8, 6], &[1, 7, 11], &[3, 10, 9]],
-    &[0, 1, 1, 2, 2, 0, 3, 0, 2, 3, 1, 3],
 );
 
 const ROWS: [Row; 7] = [
@@ -55,7 +51,8 @@ const ROWS: [Row; 7] = [
         cleaned: TRIANGLE,
         vertex: Some(3),
     },
-    // A hole of four half edges, which a new edge cuts.
+    // A hole of four half edges, which a new edge cuts. What is left is as if edge 3 of a cut
+    // triangle had been flipped twice.
     Row {
         growths: &[
             Triangle(0, 1, 2),
@@ -82,7 +79,7 @@ const ROWS: [Row; 7] = [
             &[0, 1, 1, 2, 2, 0, 0, 0, 2, 3, 1, 3, 0, 0, 0, 0, 0, 0, 3, 0],
         ),
         anchors: &[Some(19), Some(1), Some(8), Some(11), None],
-        cleaned: FILLED_QUAD,
+        cleaned: FLIPPED_TWICE,
         vertex: Some(4),
     },
     Row {
@@ -133,7 +130,7 @@ const ROWS: [Row; 7] = [
             &[0, 1, 1, 2, 2, 0, 0, 0, 2, 3, 1, 3, 3, 0],
         ),
         anchors: &[Some(13), Some(1), Some(8), Some(11)],
-        cleaned: FILLED_QUAD,
+        cleaned: FLIPPED_TWICE,
         vertex: None,
     },
     Row {

@@ -3,7 +3,7 @@
 use dcel_bench::checks::same;
 use dcel_bench::growths::Growth::Append;
 use dcel_bench::growths::{CUT, FIRST_EDGE, Growth, TRIANGLE_AND_VERTEX, grown};
-use dcel_bench::meshes::{CUT_TRIANGLE, Links, Mesh, check_links, swap, vertex};
+use dcel_bench::meshes::{CUT_TRIANGLE, Links, Mesh, TRIANGLE, check_links, swap, vertex};
 use dcel_bench::require;
 use std::alloc::Global;
 use std::test::Fail;
@@ -27,9 +27,7 @@ struct Row {
 
 const CUT_VERTICES: [Vertex; 4] = [(Some(0), 0), (Some(2), 1), (Some(4), 2), (Some(7), 3)];
 
-/// The links of a triangle, and its vertices with one beside it.
-const TRIANGLE: Links = (&[&[0, 2, 4], &[1, 5, 3]], &[0, 1, 1, 2, 2, 0]);
-
+/// The vertices of a triangle, and one beside it.
 const TRIANGLE_VERTICES: [Vertex; 4] = [(Some(0), 0), (Some(2), 1), (Some(4), 2), (None, 3)];
 
 const ROWS: [Row; 6] = [
