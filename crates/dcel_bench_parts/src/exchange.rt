@@ -7,7 +7,7 @@ use std::alloc::{AllocError, Global};
 use std::process::Abort;
 use std::test::Fail;
 
-/// Faces over so many vertices, and the half edges after each, or the reason that is wanted.
+/// Faces over this many vertices, and the half edges after each, or the reason that is wanted.
 #[derive(Clone, Copy, Drop)]
 struct Row {
     faces: &'static [&'static [u32]],

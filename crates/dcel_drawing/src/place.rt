@@ -29,7 +29,7 @@ impl Place {
         Place::new(self.x - other.x, self.y - other.y)
     }
 
-    /// Returns the way so many times as long.
+    /// Returns the way this many times as long.
     pub fn times(self, factor: f64) -> Place {
         Place::new(self.x * factor, self.y * factor)
     }

@@ -86,7 +86,7 @@ impl Room {
         faces: 1,
     };
 
-    /// Returns what a call adds that fills a hole inside so many half edges.
+    /// Returns what a call adds that fills a hole inside this many half edges.
     ///
     /// The calls are [`isolate_vertex_and_fill_hole`](super::isolate_vertex_and_fill_hole) and
     /// [`remesh_edge_ring`](super::remesh_edge_ring). Three half edges are the least that they
