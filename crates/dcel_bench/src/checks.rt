@@ -1,6 +1,7 @@
 //! Comparisons and conditions that make a test fail.
 //!
-//! A function that compares has no clause. What a test compares only to see it, the prover needn't carry along.
+//! A function that compares has no clause. What a test compares only to see it, the prover needn't
+//! carry along.
 
 use std::fmt::{Debug, Display};
 use std::test::Fail;

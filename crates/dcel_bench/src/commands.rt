@@ -12,7 +12,7 @@ use dcel_commands::commands::{Command, Handed, Refusal, Refused, Reply, apply};
 use std::alloc::{Allocator, Global};
 use std::test::Fail;
 
-/// The command that makes the call.
+/// Returns the command that makes the call.
 pub fn growing<A: Allocator>(growth: Growth) -> Command<i64, A> {
     match growth {
         Triangle(first, second, third) => Command::Triangle(first, second, third),
@@ -28,7 +28,8 @@ pub fn growing<A: Allocator>(growth: Growth) -> Command<i64, A> {
     }
 }
 
-// The mesh's reply to the command if there is memory. New half edges are `first`, `first + 1`, ..
+// Returns the mesh's reply to the command if there is memory. New half edges are `first`,
+// `first + 1`, ..
 fn reply_to<A: Allocator>(dcel: &Mesh<A>, growth: Growth) -> Result<Reply<i64>, Fail> {
     let count = dcel.num_vertices();
     require!(count < NO_LIMIT);
@@ -45,7 +46,7 @@ fn reply_to<A: Allocator>(dcel: &Mesh<A>, growth: Growth) -> Result<Reply<i64>, 
     })
 }
 
-// Whether two replies are the same, of those that growths get.
+// Returns whether two replies are the same, of those that growths get.
 fn is_same_reply<A: Allocator>(answer: &Reply<i64, A>, reply: &Reply<i64>) -> bool {
     match (answer, reply) {
         (Reply::Ok, Reply::Ok) => true,
@@ -64,7 +65,8 @@ fn handed_in(growth: Growth) -> Handed<i64> {
     }
 }
 
-/// Makes the call as a command under the limit, and returns whether there was memory. Without memory, the data are handed back.
+/// Makes the call as a command under the limit, and returns whether there was memory. Without
+/// memory, the data are handed back.
 pub fn carry_out<A: Allocator + Clone>(
     dcel: &mut Mesh<A>,
     growth: Growth,
@@ -86,8 +88,8 @@ pub fn carry_out<A: Allocator + Clone>(
     }
 }
 
-/// Checks that the mesh refuses the call as a command under the limit by this name, hands the data back, and is then as large as
-/// before.
+/// Checks that the mesh refuses the call as a command under the limit by this name, hands the data
+/// back, and is then as large as before.
 pub fn check_refused<A: Allocator + Clone>(
     dcel: &mut Mesh<A>,
     growth: Growth,

@@ -1,7 +1,8 @@
-//! What the tests of the mesh and of its runner share: meshes by the calls that make them, what is read off them, removals, lines with
-//! their replies, and an allocator that refuses.
+//! What the tests of the mesh and of its runner share: meshes by the calls that make them, what is
+//! read off them, removals, lines with their replies, and an allocator that refuses.
 //!
-//! Nothing here ends the process: a failed comparison is returned as a [`Fail`](std::test::Fail), which a test passes on.
+//! Nothing here ends the process: a failed comparison is returned as a [`Fail`](std::test::Fail),
+//! which a test passes on.
 #![tactic(auto)]
 
 pub mod checks;

@@ -30,7 +30,7 @@ pub enum Said {
     Swap(u32, u32),
     /// The vertex gets this datum.
     Put(u32, i64),
-    /// At most so many edges are flipped, beginning with these.
+    /// At most this many edges are flipped, beginning with these.
     Legalize(usize, &'static [u32]),
     /// All is taken out.
     Clear,
@@ -87,7 +87,7 @@ pub fn command_of<A: Allocator + Copy>(
     })
 }
 
-/// These commands.
+/// Makes a list of these commands.
 pub fn commands_of<A: Allocator + Copy>(
     said: &[Said],
     memory: A,
@@ -99,7 +99,7 @@ pub fn commands_of<A: Allocator + Copy>(
     Ok(commands)
 }
 
-/// Whether the elements have these numbers.
+/// Returns whether the elements have these numbers.
 fn are<Kind>(elements: &[FixedHandleImpl<Kind, InnerTag>], numbers: &[u32]) -> bool {
     if elements.len() != numbers.len() {
         return false;
@@ -154,7 +154,7 @@ pub fn check_replies<A: Allocator>(
     Ok(())
 }
 
-/// These data, handed back: none, one or three.
+/// Returns these data, handed back: none, one or three.
 pub fn handed(data: &[i64]) -> Handed<i64> {
     match data.len() {
         1 => Handed::One(data[0]),

@@ -1,4 +1,5 @@
-//! Meshes of numbers: their elements by number, calls that test first what they ask, and what is read off a mesh.
+//! Meshes of numbers: their elements by number, calls that test first what they ask, and what is
+//! read off a mesh.
 
 use crate::checks::same;
 use crate::require;
@@ -14,11 +15,15 @@ use std::test::Fail;
 /// A mesh whose data are numbers.
 pub type Mesh<A = Global> = Dcel<i64, i64, i64, i64, A>;
 
-/// The words of the faces, one after another, and the origins of the half edges. Half edges in no word are not live.
+/// The words of the faces, one after another, and the origins of the half edges. Half edges in no
+/// word are not live.
 pub type Links = (&'static [&'static [u32]], &'static [u32]);
 
 /// The limit of the program: no count of a mesh is above it.
 pub const NO_LIMIT: usize = 2_147_483_648;
+
+/// The links of a triangle.
+pub const TRIANGLE: Links = (&[&[0, 2, 4], &[1, 5, 3]], &[0, 1, 1, 2, 2, 0]);
 
 /// The links of a triangle that vertex 3 cuts into three.
 pub const CUT_TRIANGLE: Links = (
@@ -26,22 +31,22 @@ pub const CUT_TRIANGLE: Links = (
     &[0, 1, 1, 2, 2, 0, 0, 3, 2, 3, 1, 3],
 );
 
-/// The vertex with this number.
+/// Returns the vertex with this number.
 pub fn vertex(index: u32) -> FixedVertexHandle {
     FixedVertexHandle::new(index as usize)
 }
 
-/// The half edge with this number.
+/// Returns the half edge with this number.
 pub fn half_edge(index: u32) -> FixedDirectedEdgeHandle {
     FixedDirectedEdgeHandle::new(index as usize)
 }
 
-/// The edge with this number.
+/// Returns the edge with this number.
 pub fn undirected_edge(index: u32) -> FixedUndirectedEdgeHandle {
     FixedUndirectedEdgeHandle::new(index as usize)
 }
 
-/// The face with this number, which isn't 0.
+/// Returns the face with this number, which isn't 0.
 pub fn inner_face(index: u32) -> FixedFaceHandle<InnerTag> {
     FixedFaceHandle::new(index as usize)
 }
@@ -70,7 +75,7 @@ pub fn swap<A: Allocator>(dcel: &mut Mesh<A>, first: u32, second: u32) -> Result
     Ok(())
 }
 
-/// The number of the half edge that leads from one vertex to another, as the mesh finds it.
+/// Returns the number of the half edge that leads from one vertex to another, as the mesh finds it.
 pub fn edge_between<A: Allocator>(
     dcel: &Mesh<A>,
     from: u32,
@@ -82,7 +87,7 @@ pub fn edge_between<A: Allocator>(
     Ok(found.map(|edge| edge.index()))
 }
 
-/// How many vertices, half edges and faces there are.
+/// Returns how many vertices, half edges and faces there are.
 pub fn counts<A: Allocator>(dcel: &Mesh<A>) -> [usize; 3] {
     [
         dcel.num_vertices(),
@@ -91,14 +96,14 @@ pub fn counts<A: Allocator>(dcel: &Mesh<A>) -> [usize; 3] {
     ]
 }
 
-/// The number of the half edge that the vertex is anchored at.
+/// Returns the number of the half edge that the vertex is anchored at.
 pub fn out_edge<A: Allocator>(dcel: &Mesh<A>, index: usize) -> Result<Option<usize>, Fail> {
     require!(index < dcel.num_vertices());
     let handle = FixedVertexHandle::new(index);
     Ok(dcel.vertex_out_edge(handle).map(|edge| edge.index()))
 }
 
-/// The number of the half edge that the face is anchored at.
+/// Returns the number of the half edge that the face is anchored at.
 pub fn adjacent_edge<A: Allocator>(dcel: &Mesh<A>, index: usize) -> Result<Option<usize>, Fail> {
     require!(index < dcel.num_faces());
     let handle: FixedFaceHandle<PossiblyOuterTag> = FixedFaceHandle::new(index);
@@ -127,8 +132,8 @@ pub fn check_adjacent_edges<A: Allocator>(dcel: &Mesh<A>, anchors: &[u32]) -> Re
     Ok(())
 }
 
-/// The links of a half edge: the next one and the one before that, its origin and the end of the one before, its face, its other
-/// half and its edge.
+/// Returns the links of a half edge: the next one and the one before that, its origin and the end
+/// of the one before, its face, its other half and its edge.
 fn around<A: Allocator>(dcel: &Mesh<A>, edge: FixedDirectedEdgeHandle) -> Result<[usize; 7], Fail> {
     require!(edge.index() < dcel.num_directed_edges());
     require!(dcel.is_live_edge(edge.as_undirected()));
@@ -186,7 +191,8 @@ fn check_word<A: Allocator>(
     Ok(word.len())
 }
 
-/// Checks that the faces have these words and the half edges in them these origins, and that no other half edge is live.
+/// Checks that the faces have these words and the half edges in them these origins, and that no
+/// other half edge is live.
 pub fn check_links<A: Allocator>(
     dcel: &Mesh<A>,
     words: &[&[u32]],

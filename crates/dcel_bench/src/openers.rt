@@ -26,7 +26,7 @@ pub enum Opener {
 
 use Opener::{Isolate, Remesh, Strip};
 
-/// The elements of a kind with these numbers.
+/// Returns the elements of a kind with these numbers.
 pub fn handles<Kind, A: Allocator>(
     numbers: &[u32],
     memory: A,

@@ -42,8 +42,9 @@ impl Plan {
     }
 }
 
-/// Passes requests for memory on to another allocator, except those that it is told to refuse. Blocks are given back to the other
-/// one. Contracts see nothing of what is refused. A mesh takes a `&Refusing`, which is an allocator that clones without memory.
+/// Passes requests for memory on to another allocator, except those that it is told to refuse.
+/// Blocks are given back to the other one. Contracts see nothing of what is refused. A mesh takes a
+/// `&Refusing`, which is an allocator that clones without memory.
 #[derive(Drop)]
 pub struct Refusing<B> {
     inner: B,

@@ -17,13 +17,6 @@ pub type Talk = &'static [(&'static str, &'static str)];
 /// A triangle.
 pub const TRIANGLE: [(&str, &str); 1] = [("triangle 0 1 2", "ok")];
 
-/// A triangle that vertex 3 cuts into three.
-pub const CUT_TRIANGLE: [(&str, &str); 3] = [
-    ("triangle 0 1 2", "ok"),
-    ("append 3", "vertex 3"),
-    ("insert 3 1", "vertex 3"),
-];
-
 /// Adds a line and its line feed.
 pub fn push_line(text: &mut Vec<u8>, line: &str) -> Result<(), AllocError> {
     text.extend_from_slice(line.as_bytes())?;
@@ -103,8 +96,8 @@ pub struct Ran {
     pub written: Vec<u8>,
 }
 
-/// Runs the lines with reads of `chunk` bytes that fail after `calls`, and writes of as many that fail
-/// after `room` bytes; returns how the run ended and what it wrote.
+/// Runs the lines with reads of `chunk` bytes that fail after `calls`, and writes of as many that
+/// fail after `room` bytes; returns how the run ended and what it wrote.
 pub fn answers(
     alloc: Global,
     limit: usize,

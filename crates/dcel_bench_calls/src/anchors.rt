@@ -8,7 +8,8 @@ use dcel_bench::meshes::{Mesh, check_adjacent_edges, check_out_edges};
 use std::alloc::Global;
 use std::test::Fail;
 
-/// Calls that make a mesh and calls on it, and then the anchors of the vertices and of the faces, each of which has one.
+/// Calls that make a mesh and calls on it, and then the anchors of the vertices and of the faces,
+/// each of which has one.
 type Row = (
     &'static [Growth],
     &'static [Growth],

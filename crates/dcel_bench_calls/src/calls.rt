@@ -43,10 +43,12 @@ fn room_is_counted(rt: HostRuntime) -> Result<(), Fail> {
     check_room(&dcel)
 }
 
-/// The anchor of a vertex, its number once it is borrowed, whether it ends a line, and whether it has no edge.
+/// The anchor of a vertex, its number once it is borrowed, whether it ends a line, and whether it
+/// has no edge.
 type Asked = (Option<usize>, usize, bool, bool);
 
-/// The vertices of a mesh whose first edge leads from vertex 1 to vertex 0, with vertex 2 beside it.
+/// The vertices of a mesh whose first edge leads from vertex 1 to vertex 0, with vertex 2 beside
+/// it.
 const VERTICES: [Asked; 3] = [
     (Some(1), 0, true, false),
     (Some(0), 1, true, false),
@@ -64,7 +66,7 @@ fn asked(dcel: &Mesh, index: usize) -> Result<Asked, Fail> {
     ))
 }
 
-/// Whether the outer face, vertex 3 and edge 1 are live.
+/// Returns whether the outer face, vertex 3 and edge 1 are live.
 fn are_live(dcel: &Mesh) -> [bool; 3] {
     [
         dcel.is_live_face(OUTER_FACE),
@@ -81,7 +83,7 @@ fn check_answers(dcel: &Mesh) -> Result<(), Fail> {
     Ok(())
 }
 
-/// The anchor of the outer face in an empty mesh, where its word is empty.
+/// Returns the anchor of the outer face in an empty mesh, where its word is empty.
 fn anchor_of_nothing(alloc: Global) -> Result<Option<usize>, Fail> {
     let empty: Mesh = new(alloc)?;
     adjacent_edge(&empty, 0)
@@ -102,7 +104,8 @@ fn anchors_and_tests_answer(rt: HostRuntime) -> Result<(), Fail> {
     check_anchors_and_tests(&dcel)
 }
 
-/// Calls; half edges of the mesh then, and numbers out of range; the bridges among these, and those where a face can be closed.
+/// Calls; half edges of the mesh then, and numbers out of range; the bridges among these, and those
+/// where a face can be closed.
 type Edges = (
     &'static [Growth],
     &'static [u32],
@@ -191,7 +194,7 @@ fn edges_are_found_by_their_ends(rt: HostRuntime) -> Result<(), Fail> {
     check_between(&dcel)
 }
 
-/// The number of elements of each kind: of the mesh, and of its dual.
+/// Returns the number of elements of each kind: of the mesh, and of its dual.
 fn elements(dcel: &Mesh) -> [usize; 7] {
     [
         VertexTag::num_elements(dcel),

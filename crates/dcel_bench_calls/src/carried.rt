@@ -23,7 +23,8 @@ fn check(dcel: &Mesh, wanted: [usize; 3]) -> Result<(), Fail> {
     holds(dcel.sanity_check(), "a sound mesh")
 }
 
-/// Checks that the mesh after these calls and then the others is sound, and its counts of vertices, half edges and faces.
+/// Checks that the mesh after these calls and then the others is sound, and its counts of vertices,
+/// half edges and faces.
 fn check_grown(
     alloc: Global,
     begun: &[Growth],
@@ -34,7 +35,7 @@ fn check_grown(
     check(&dcel, wanted)
 }
 
-/// The number of the half edge that leads from one vertex to another.
+/// Returns the number of the half edge that leads from one vertex to another.
 pub fn number_between(dcel: &Mesh, from: u32, to: u32) -> Result<u32, Fail> {
     let Some(index) = edge_between(dcel, from, to)? else {
         return Err(Fail::new(format_args!("no edge from {from} to {to}")));
@@ -43,8 +44,8 @@ pub fn number_between(dcel: &Mesh, from: u32, to: u32) -> Result<u32, Fail> {
     Ok(index as u32)
 }
 
-/// The number of a half edge, whether it and its other half are the even one of the two, whether they are one, and whether the other half
-/// of that is the half edge.
+/// Returns the number of a half edge, whether it and its other half are the even one of the two,
+/// whether they are one, and whether the other half of that is the half edge.
 fn turned(index: usize) -> Result<(usize, [bool; 4]), Fail> {
     require!(index < 10);
     let handle = FixedDirectedEdgeHandle::new_normalized(index);
@@ -126,14 +127,14 @@ fn test_create_new_face_adjacent_to_edge(rt: HostRuntime) -> Result<(), Fail> {
     check_grown(rt.alloc(), &TRIANGLE_AND_VERTEX, &growths, [4, 10, 3])
 }
 
-/// The half edge that comes after a live one.
+/// Returns the half edge that comes after a live one.
 fn after(dcel: &Mesh, edge: FixedDirectedEdgeHandle) -> Result<FixedDirectedEdgeHandle, Fail> {
     require!(edge.index() < dcel.num_directed_edges());
     require!(dcel.is_live_edge(edge.as_undirected()));
     Ok(dcel.directed_edge(edge).next().fix())
 }
 
-/// The border loop of a vertex inside triangles, walked from the last out edge back.
+/// Returns the border loop of a vertex inside triangles, walked from the last out edge back.
 fn border_of(
     dcel: &Mesh,
     center: FixedVertexHandle,
@@ -172,7 +173,8 @@ fn take_out(
     Ok(())
 }
 
-/// Removes a vertex inside triangles, and checks that the mesh is sound, and its counts of vertices, half edges and faces.
+/// Removes a vertex inside triangles, and checks that the mesh is sound, and its counts of
+/// vertices, half edges and faces.
 fn check_removed(
     dcel: &mut Mesh,
     index: u32,
@@ -191,7 +193,8 @@ fn test_insert_into_and_remove_from_triangle(rt: HostRuntime) -> Result<(), Fail
     check_removed(&mut dcel, 3, [3, 6, 2], rt.alloc())
 }
 
-/// A cut triangle with vertex 4 in the middle of the edge from 0 to 3, which is found by its ends.
+/// Returns a cut triangle with vertex 4 in the middle of the edge from 0 to 3, which is found by
+/// its ends.
 fn split_inside(alloc: Global) -> Result<Mesh, Fail> {
     let mut dcel = cut_triangle(alloc)?;
     let edge = number_between(&dcel, 0, 3)?;

@@ -22,7 +22,8 @@ type Refused = (usize, Refusal, &'static [Growth]);
 /// A command, a limit that allows it, and the counts of vertices, half edges and faces after it.
 type CarriedOut = (Growth, usize, [usize; 3]);
 
-/// Calls that make a mesh, and more of them; commands that it refuses; and commands each carried out on such a mesh.
+/// Calls that make a mesh, and more of them; commands that it refuses; and commands each carried
+/// out on such a mesh.
 type Row = (
     &'static [Growth],
     &'static [Growth],
@@ -206,7 +207,8 @@ fn check_command(
     )
 }
 
-/// Checks that each command of a row is carried out on a mesh that has refused the commands to be refused.
+/// Checks that each command of a row is carried out on a mesh that has refused the commands to be
+/// refused.
 fn check_row(alloc: Global, row: &Row) -> Result<(), Fail> {
     let (begun, growths, refused, carried_out) = *row;
     for command in carried_out {

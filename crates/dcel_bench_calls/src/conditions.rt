@@ -77,7 +77,8 @@ const ROWS: [Row; 4] = [
             (Extend(0, 3), false),
         ],
     ),
-    // The outer face has four half edges, 4, 6, 8 and 2 among them, and half edge 1 lies on a triangle.
+    // The outer face has four half edges, 4, 6, 8 and 2 among them, and half edge 1 lies on a
+    // triangle.
     (
         &[Triangle(0, 1, 2), Append(3), PutBeside(0, 3), Append(4)],
         &[
@@ -91,7 +92,7 @@ const ROWS: [Row; 4] = [
     ),
 ];
 
-/// Whether the mesh meets all that a growth of two elements asks but room.
+/// Returns whether the mesh meets all that a growth of two elements asks but room.
 fn can_grow(dcel: &Mesh, growth: Growth) -> Option<bool> {
     Some(match growth {
         SetUp(first, second) => dcel.can_setup_initial_two_vertices(vertex(first), vertex(second)),

@@ -14,8 +14,8 @@ use std::test::Fail;
 /// A vertex's datum, and the old number of the vertex that moves into its place.
 type Removed = (i64, Option<usize>);
 
-/// Calls that make a path, the vertex to remove, and the result; then the links that are left, the anchors of the vertices, and the anchor
-/// of the outer face.
+/// Calls that make a path, the vertex to remove, and the result; then the links that are left, the
+/// anchors of the vertices, and the anchor of the outer face.
 type Row = (
     &'static [Growth],
     u32,

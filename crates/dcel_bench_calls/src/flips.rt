@@ -16,8 +16,8 @@ const FLIPPED_ONCE: Links = (
     &[0, 1, 1, 2, 2, 0, 1, 2, 2, 3, 1, 3],
 );
 
-/// Twice.
-const FLIPPED_TWICE: Links = (
+/// The links of a cut triangle whose edge 3 was flipped twice.
+pub const FLIPPED_TWICE: Links = (
     &[&[0, 2, 4], &[5, 8, 6], &[1, 7, 11], &[3, 10, 9]],
     &[0, 1, 1, 2, 2, 0, 3, 0, 2, 3, 1, 3],
 );
@@ -42,7 +42,8 @@ fn flip_all(dcel: &mut Mesh, edges: &[u32]) -> Result<(), Fail> {
     Ok(())
 }
 
-/// Edges of a cut triangle that are flipped one after another, and the links then. Four flips of an edge go round.
+/// Edges of a cut triangle that are flipped one after another, and the links then. Four flips of an
+/// edge go round.
 const LINKS: [(&[u32], Links); 5] = [
     (&[3], FLIPPED_ONCE),
     (&[3, 3], FLIPPED_TWICE),
@@ -65,7 +66,8 @@ fn edges_are_flipped(rt: HostRuntime) -> Result<(), Fail> {
     Ok(())
 }
 
-/// Checks that the anchors of the vertices and of the faces are these once an edge of a cut triangle is flipped.
+/// Checks that the anchors of the vertices and of the faces are these once an edge of a cut
+/// triangle is flipped.
 fn check_moved(
     alloc: Global,
     edge: u32,
@@ -122,7 +124,8 @@ const FLIPPABLE: [Flippable; 5] = [
             (4_294_967_295, false),
         ],
     ),
-    // Vertices 0 and 3 have two edges each then, and on both sides of these the opposite corner is one vertex.
+    // Vertices 0 and 3 have two edges each then, and on both sides of these the opposite corner is
+    // one vertex.
     (
         &CUT,
         &[3],

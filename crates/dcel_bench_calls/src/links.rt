@@ -9,7 +9,8 @@ use dcel_bench::meshes::{CUT_TRIANGLE, Links, Mesh, check_links};
 use std::alloc::Global;
 use std::test::Fail;
 
-/// Calls, and then the number of vertices, the words of the faces, and the origins of the half edges. Each mesh is checked.
+/// Calls, and then the number of vertices, the words of the faces, and the origins of the half
+/// edges. Each mesh is checked.
 type Row = (&'static [Growth], usize, Links);
 
 const ROWS: [Row; 8] = [

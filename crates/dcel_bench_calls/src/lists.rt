@@ -14,8 +14,8 @@ use spade_dcel::operations::new;
 use std::alloc::Global;
 use std::test::Fail;
 
-/// A list of commands under a limit: the replies of those carried out; the refusal of the next one, if any, and the data
-/// handed back; and the count of vertices and the links at the end.
+/// A list of commands under a limit: the replies of those carried out; the refusal of the next one,
+/// if any, and the data handed back; and the count of vertices and the links at the end.
 struct Row {
     limit: usize,
     commands: &'static [Said],

@@ -1,4 +1,5 @@
-//! Borrowed elements by number, None for those that an open removal has given up or that there aren't.
+//! Borrowed elements by number, None for those that an open removal has given up or that there
+//! aren't.
 
 use dcel_bench::checks::same;
 use dcel_bench::growths::cut_triangle;
@@ -21,7 +22,8 @@ const CLOSED: [Row; 7] = [
     (12, [false, false, false]),
 ];
 
-/// The same once vertex 3 is given up with edges 3, 4 and 5 and faces 1, 2 and 3, and face 4 fills the hole.
+/// The same once vertex 3 is given up with edges 3, 4 and 5 and faces 1, 2 and 3, and face 4 fills
+/// the hole.
 const OPEN: [Row; 9] = [
     (0, [true, true, true]),
     (1, [true, true, false]),
@@ -34,7 +36,7 @@ const OPEN: [Row; 9] = [
     (4_294_967_295, [false, false, false]),
 ];
 
-/// The numbers of the half edge, the edge and the face that are lent by a number.
+/// Returns the numbers of the half edge, the edge and the face that are lent by a number.
 fn lent(dcel: &Mesh, index: u32) -> [Option<usize>; 3] {
     let edge = dcel.get_directed_edge(half_edge(index));
     let undirected = dcel.get_undirected_edge(undirected_edge(index));

@@ -1,10 +1,14 @@
-//! Removals from the opening to the end: what openers return and leave, and what cleanup makes of it.
+//! Removals from the opening to the end: what openers return and leave, and what cleanup makes of
+//! it.
 
+use crate::flips::FLIPPED_TWICE;
 use dcel_bench::checks::{holds, same};
 use dcel_bench::data::{Datum, write_all};
 use dcel_bench::growths::Growth::{Append, Insert, SplitBothSides, Triangle};
 use dcel_bench::growths::{CUT, Growth, grown};
-use dcel_bench::meshes::{Links, Mesh, check_links, inner_face, out_edge, undirected_edge, vertex};
+use dcel_bench::meshes::{
+    Links, Mesh, TRIANGLE, check_links, inner_face, out_edge, undirected_edge, vertex,
+};
 use dcel_bench::openers::Opener::{Isolate, Remesh, Strip};
 use dcel_bench::openers::{Opener, handles, open};
 use dcel_bench::require;
@@ -14,9 +18,9 @@ use spade_dcel::operations::{IsolateVertexResult, cleanup_isolated_vertex};
 use std::alloc::Global;
 use std::test::Fail;
 
-/// A removal: the calls that the mesh grows by, the opener, and the edges and faces that it gives up and the edges that it puts in; the
-/// links and the anchors of the vertices while it is open; and the links once it is cleaned up, and the vertex that is then left, if there
-/// is one.
+/// A removal: the calls that the mesh grows by, the opener, and the edges and faces that it gives
+/// up and the edges that it puts in; the links and the anchors of the vertices while it is open;
+/// and the links once it is cleaned up, and the vertex that is then left, if there is one.
 #[derive(Clone, Copy)]
 struct Row {
     growths: &'static [Growth],
@@ -30,16 +34,9 @@ struct Row {
     vertex: Option<u32>,
 }
 
-const TRIANGLE: Links = (&[&[0, 2, 4], &[1, 5, 3]], &[0, 1, 1, 2, 2, 0]);
-
 const CUT_HOLE: Links = (
     &[&[0, 2, 4], &[], &[], &[], &[1, 5, 3]],
     &[0, 1, 1, 2, 2, 0, 0, 0, 0, 0, 0, 0],
-);
-
-const FILLED_QUAD: Links = (
-    &[&[0, 2, 4], &[5, 8, 6], &[1, 7, 11], &[3, 10, 9]],
-    &[0, 1, 1, 2, 2, 0, 3, 0, 2, 3, 1, 3],
 );
 
 const ROWS: [Row; 7] = [
@@ -54,7 +51,8 @@ const ROWS: [Row; 7] = [
         cleaned: TRIANGLE,
         vertex: Some(3),
     },
-    // A hole of four half edges, which a new edge cuts.
+    // A hole of four half edges, which a new edge cuts. What is left is as if edge 3 of a cut
+    // triangle had been flipped twice.
     Row {
         growths: &[
             Triangle(0, 1, 2),
@@ -81,7 +79,7 @@ const ROWS: [Row; 7] = [
             &[0, 1, 1, 2, 2, 0, 0, 0, 2, 3, 1, 3, 0, 0, 0, 0, 0, 0, 3, 0],
         ),
         anchors: &[Some(19), Some(1), Some(8), Some(11), None],
-        cleaned: FILLED_QUAD,
+        cleaned: FLIPPED_TWICE,
         vertex: Some(4),
     },
     Row {
@@ -132,7 +130,7 @@ const ROWS: [Row; 7] = [
             &[0, 1, 1, 2, 2, 0, 0, 0, 2, 3, 1, 3, 3, 0],
         ),
         anchors: &[Some(13), Some(1), Some(8), Some(11)],
-        cleaned: FILLED_QUAD,
+        cleaned: FLIPPED_TWICE,
         vertex: None,
     },
     Row {
@@ -237,8 +235,8 @@ fn check_vertex(dcel: &Mesh, given_up: Option<u32>) -> Result<(), Fail> {
     }
 }
 
-/// Checks that the mesh is as the row says while the removal is open: what is given up isn't live, and the links and the anchors are those of
-/// the row.
+/// Checks that the mesh is as the row says while the removal is open: what is given up isn't live,
+/// and the links and the anchors are those of the row.
 fn check_open(dcel: &Mesh, row: Row) -> Result<(), Fail> {
     same(
         dcel.removal_state(),
@@ -254,7 +252,7 @@ fn check_open(dcel: &Mesh, row: Row) -> Result<(), Fail> {
     check_anchors(dcel, row.anchors)
 }
 
-/// How far a cleanup gets: to the vertex that is still given up, or to the end.
+/// Returns how far a cleanup gets: to the vertex that is still given up, or to the end.
 fn cleaned_state(row: Row) -> RemovalState {
     match row.vertex {
         Some(_) => RemovalState::Cleaned,
@@ -262,7 +260,8 @@ fn cleaned_state(row: Row) -> RemovalState {
     }
 }
 
-/// Cleans up what an opener has given up: the links are those of the row, and its vertex, if there is one, is still given up.
+/// Cleans up what an opener has given up: the links are those of the row, and its vertex, if there
+/// is one, is still given up.
 fn clean_up(dcel: &mut Mesh, opened: &mut Opened, row: Row) -> Result<(), Fail> {
     require!(dcel.is_listed(opened));
     cleanup_isolated_vertex(dcel, opened);

@@ -25,7 +25,8 @@ const OPENERS: [(Opener, bool); 10] = [
     (Strip(&[99]), false),
 ];
 
-/// Whether the half edges are the border loop of the vertex, and whether the call asks nothing more but room.
+/// Returns whether the half edges are the border loop of the vertex, and whether the call asks
+/// nothing more but room.
 fn is_border(
     dcel: &Mesh,
     alloc: Global,
@@ -39,8 +40,8 @@ fn is_border(
     ])
 }
 
-/// Whether the half edges are a border loop, and these the edges and the faces inside, and whether the call asks nothing
-/// more but room.
+/// Returns whether the half edges are a border loop, and these the edges and the faces inside, and
+/// whether the call asks nothing more but room.
 fn is_ring(
     dcel: &Mesh,
     alloc: Global,
@@ -55,7 +56,8 @@ fn is_ring(
     ])
 }
 
-/// Whether the half edges are the strip of a vertex, and whether the call asks nothing more.
+/// Returns whether the half edges are the strip of a vertex, and whether the call asks nothing
+/// more.
 fn is_strip(dcel: &Mesh, alloc: Global, strip: &[u32]) -> Result<[bool; 2], AllocError> {
     let strip: Vec<FixedDirectedEdgeHandle> = handles(strip, alloc)?;
     Ok([
@@ -64,7 +66,7 @@ fn is_strip(dcel: &Mesh, alloc: Global, strip: &[u32]) -> Result<[bool; 2], Allo
     ])
 }
 
-/// Whether the lists of the call fit, and whether it asks nothing more but room.
+/// Returns whether the lists of the call fit, and whether it asks nothing more but room.
 fn can_open(dcel: &Mesh, alloc: Global, opener: Opener) -> Result<[bool; 2], AllocError> {
     match opener {
         Isolate(center, border) => is_border(dcel, alloc, center, border),

@@ -3,7 +3,7 @@
 use dcel_bench::checks::same;
 use dcel_bench::growths::Growth::Append;
 use dcel_bench::growths::{CUT, FIRST_EDGE, Growth, TRIANGLE_AND_VERTEX, grown};
-use dcel_bench::meshes::{CUT_TRIANGLE, Links, Mesh, check_links, swap, vertex};
+use dcel_bench::meshes::{CUT_TRIANGLE, Links, Mesh, TRIANGLE, check_links, swap, vertex};
 use dcel_bench::require;
 use std::alloc::Global;
 use std::test::Fail;
@@ -14,7 +14,8 @@ type Vertex = (Option<usize>, i64);
 /// Two vertices that are swapped, and the numbers of the mesh's vertices after that.
 type Swap = (u32, u32, &'static [u32]);
 
-/// Calls that make a mesh, its links, its vertices, and whether it is sound; and swaps one after another.
+/// Calls that make a mesh, its links, its vertices, and whether it is sound; and swaps one after
+/// another.
 #[derive(Clone, Copy)]
 struct Row {
     growths: &'static [Growth],
@@ -26,9 +27,7 @@ struct Row {
 
 const CUT_VERTICES: [Vertex; 4] = [(Some(0), 0), (Some(2), 1), (Some(4), 2), (Some(7), 3)];
 
-/// The links of a triangle, and its vertices with one beside it.
-const TRIANGLE: Links = (&[&[0, 2, 4], &[1, 5, 3]], &[0, 1, 1, 2, 2, 0]);
-
+/// The vertices of a triangle, and one beside it.
 const TRIANGLE_VERTICES: [Vertex; 4] = [(Some(0), 0), (Some(2), 1), (Some(4), 2), (None, 3)];
 
 const ROWS: [Row; 6] = [
@@ -99,7 +98,7 @@ const ROWS: [Row; 6] = [
     },
 ];
 
-/// The anchor of a vertex and its datum, and whether no edge is there.
+/// Returns the anchor of a vertex and its datum, and whether no edge is there.
 fn read_vertex(dcel: &Mesh, number: u32) -> Result<(Vertex, bool), Fail> {
     let handle = vertex(number);
     require!(handle.index() < dcel.num_vertices());
@@ -125,7 +124,7 @@ fn check_vertices(dcel: &Mesh, vertices: &[Vertex], numbers: &[u32]) -> Result<(
     Ok(())
 }
 
-/// The origins, by the numbers that the vertices have now.
+/// Returns the origins, by the numbers that the vertices have now.
 fn renumbered(origins: &[u32], numbers: &[u32], alloc: Global) -> Result<Vec<u32>, Fail> {
     let mut list = Vec::new(alloc);
     for origin in origins {

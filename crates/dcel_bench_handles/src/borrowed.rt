@@ -9,7 +9,7 @@ use dcel_bench::require;
 use spade_dcel::handles::{DirectedEdgeHandle, VertexHandle};
 use std::test::Fail;
 
-/// A half edge of the mesh, which is live.
+/// Returns a half edge of the mesh, which is live.
 pub fn live_half_edge<'a>(
     dcel: &'a Mesh,
     index: u32,
@@ -22,7 +22,7 @@ pub fn live_half_edge<'a>(
     Ok(dcel.directed_edge(handle))
 }
 
-/// A vertex of the mesh.
+/// Returns a vertex of the mesh.
 pub fn vertex_of<'a>(
     dcel: &'a Mesh,
     index: u32,

@@ -1,4 +1,5 @@
-//! The ends and sides of edges, the Voronoi diagram, and comparisons of borrowed handles, on a triangle that vertex 3 cuts into three.
+//! The ends and sides of edges, the Voronoi diagram, and comparisons of borrowed handles, on a
+//! triangle that vertex 3 cuts into three.
 
 use crate::borrowed::{live_half_edge, vertex_of};
 use dcel_bench::checks::same;
@@ -26,7 +27,8 @@ fn by_number(vertex: &VoronoiVertex<'_, i64, i64, i64, i64>) -> Dual {
     }
 }
 
-/// The ends of a half edge, the vertex opposite, whether it is outer, and whether its edge is on the hull.
+/// The ends of a half edge, the vertex opposite, whether it is outer, and whether its edge is on
+/// the hull.
 type Sides = ([usize; 2], Option<usize>, bool, bool);
 
 /// Half edges, each with its sides.
@@ -91,7 +93,7 @@ fn undirected_edges_are_their_normalized_halves(rt: HostRuntime) -> Result<(), F
     check_wholes(&cut_triangle(rt.alloc())?)
 }
 
-/// Whether the face is outer, and its number as an inner one.
+/// Returns whether the face is outer, and its number as an inner one.
 fn side_of(face: FaceHandle<'_, PossiblyOuterTag, i64, i64, i64, i64>) -> (bool, Option<usize>) {
     (face.is_outer(), face.as_inner().map(|inner| inner.index()))
 }
@@ -107,7 +109,8 @@ fn face_0_alone_is_outer(rt: HostRuntime) -> Result<(), Fail> {
     check_faces(&cut_triangle(rt.alloc())?)
 }
 
-/// The dual of a half edge: its start and its end, and the next, the one before, the face, and the half edge that the turned dual is of.
+/// The dual of a half edge: its start and its end, and the next, the one before, the face, and the
+/// half edge that the turned dual is of.
 type Edge = ([Dual; 2], [usize; 4]);
 
 /// Half edges, each with its dual.
@@ -129,7 +132,7 @@ fn dual_of(dcel: &Mesh, index: u32) -> Result<Edge, Fail> {
     ))
 }
 
-/// The ends of the dual of a half edge's edge.
+/// Returns the ends of the dual of a half edge's edge.
 fn undirected_dual_of(dcel: &Mesh, index: u32) -> Result<[Dual; 2], Fail> {
     let edge = live_half_edge(dcel, index)?
         .as_voronoi_edge()
@@ -153,7 +156,7 @@ fn voronoi_edges_lead_from_face_to_face(rt: HostRuntime) -> Result<(), Fail> {
     check_duals(&cut_triangle(rt.alloc())?)
 }
 
-/// The numbers of three Voronoi edges.
+/// Returns the numbers of three Voronoi edges.
 fn numbers(edges: [DirectedVoronoiEdge<'_, i64, i64, i64, i64>; 3]) -> [usize; 3] {
     let [first, second, third] = edges;
     [first.index(), second.index(), third.index()]
@@ -191,13 +194,13 @@ fn voronoi_vertices_are_faces_or_lie_outside(rt: HostRuntime) -> Result<(), Fail
     check_corners(&cut_triangle(rt.alloc())?)
 }
 
-/// The vertex of the Voronoi face of a vertex.
+/// Returns the vertex of the Voronoi face of a vertex.
 fn center_of(dcel: &Mesh, index: u32) -> Result<usize, Fail> {
     let face = vertex_of(dcel, index)?.as_voronoi_face();
     Ok(face.as_delaunay_vertex().index())
 }
 
-/// The edges round the Voronoi face of a vertex.
+/// Returns the edges round the Voronoi face of a vertex.
 fn round_face(dcel: &Mesh, index: u32, alloc: Global) -> Result<Vec<usize>, Fail> {
     let mut listed = Vec::new(alloc);
     for edge in vertex_of(dcel, index)?.as_voronoi_face().adjacent_edges() {
@@ -206,7 +209,7 @@ fn round_face(dcel: &Mesh, index: u32, alloc: Global) -> Result<Vec<usize>, Fail
     Ok(listed)
 }
 
-/// The first four results of `next_back` on the edges round the Voronoi face of a vertex.
+/// Returns the first four results of `next_back` on the edges round the Voronoi face of a vertex.
 fn round_face_from_the_back(dcel: &Mesh, index: u32) -> Result<[Option<usize>; 4], Fail> {
     let mut edges = vertex_of(dcel, index)?.as_voronoi_face().adjacent_edges();
     let mut taken = [None; 4];
@@ -229,7 +232,8 @@ fn voronoi_faces_list_the_edges_round_them(rt: HostRuntime) -> Result<(), Fail> 
     check_round_face(&cut_triangle(rt.alloc())?, rt.alloc())
 }
 
-/// Whether two vertices are equal, and whether they aren't; whether the first is less, and whether it is greater.
+/// Returns whether two vertices are equal, and whether they aren't; whether the first is less, and
+/// whether it is greater.
 fn compared(
     first: VertexHandle<'_, i64, i64, i64, i64>,
     second: VertexHandle<'_, i64, i64, i64, i64>,
@@ -257,13 +261,13 @@ fn check_order(dcel: &Mesh, other: &Mesh) -> Result<(), Fail> {
     Ok(())
 }
 
-/// The hash of a vertex that is borrowed.
+/// Returns the hash of a vertex that is borrowed.
 fn hash_of(dcel: &Mesh, index: u32) -> Result<u64, Fail> {
     let hasher = BuildHasherDefault::<FoldHasher>::default();
     Ok(hasher.hash_one(vertex_of(dcel, index)?))
 }
 
-/// The hash of a vertex that isn't.
+/// Returns the hash of a vertex that isn't.
 fn hash_of_fixed(index: u32) -> u64 {
     BuildHasherDefault::<FoldHasher>::default().hash_one(vertex(index))
 }

@@ -1,4 +1,5 @@
-//! Tests of borrowed handles: their ends, sides and duals, their walks from both ends, how they compare and what they print.
+//! Tests of borrowed handles: their ends, sides and duals, their walks from both ends, how they
+//! compare and what they print.
 #![tactic(auto)]
 
 #[cfg(test)]

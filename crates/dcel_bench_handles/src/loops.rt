@@ -9,7 +9,7 @@ use spade_dcel::iterators::HullIterator;
 use std::alloc::{AllocError, Global};
 use std::test::Fail;
 
-/// The ends of each edge that is live.
+/// Returns the ends of each edge that is live.
 fn ends_of_edges(dcel: &Mesh, alloc: Global) -> Result<Vec<[usize; 2]>, AllocError> {
     let mut ends = Vec::new(alloc);
     for edge in dcel.live_undirected_edges() {
@@ -18,7 +18,7 @@ fn ends_of_edges(dcel: &Mesh, alloc: Global) -> Result<Vec<[usize; 2]>, AllocErr
     Ok(ends)
 }
 
-/// The vertices round the outer face.
+/// Returns the vertices round the outer face.
 fn hull(dcel: &Mesh, alloc: Global) -> Result<Vec<usize>, AllocError> {
     let mut vertices = Vec::new(alloc);
     for edge in HullIterator::new(dcel) {
@@ -27,7 +27,7 @@ fn hull(dcel: &Mesh, alloc: Global) -> Result<Vec<usize>, AllocError> {
     Ok(vertices)
 }
 
-/// The number of each live vertex, and then its neighbors from the back.
+/// Returns the number of each live vertex, and then its neighbors from the back.
 fn neighbors(dcel: &Mesh, alloc: Global) -> Result<Vec<usize>, AllocError> {
     let mut numbers = Vec::new(alloc);
     for vertex in dcel.live_vertices() {
@@ -39,7 +39,7 @@ fn neighbors(dcel: &Mesh, alloc: Global) -> Result<Vec<usize>, AllocError> {
     Ok(numbers)
 }
 
-/// The number of each live face, and then its vertices.
+/// Returns the number of each live face, and then its vertices.
 fn faces(dcel: &Mesh, alloc: Global) -> Result<Vec<usize>, AllocError> {
     let mut numbers = Vec::new(alloc);
     for face in dcel.live_faces() {
@@ -51,7 +51,7 @@ fn faces(dcel: &Mesh, alloc: Global) -> Result<Vec<usize>, AllocError> {
     Ok(numbers)
 }
 
-/// The number of each live inner face from the back, and then its three vertices.
+/// Returns the number of each live inner face from the back, and then its three vertices.
 fn triangles(dcel: &Mesh, alloc: Global) -> Result<Vec<usize>, AllocError> {
     let mut numbers = Vec::new(alloc);
     for face in dcel.live_inner_faces().rev() {
@@ -63,7 +63,7 @@ fn triangles(dcel: &Mesh, alloc: Global) -> Result<Vec<usize>, AllocError> {
     Ok(numbers)
 }
 
-/// How many half edges lie on the outer face.
+/// Returns how many half edges lie on the outer face.
 fn outer_edges(dcel: &Mesh) -> usize {
     let mut count: usize = 0;
     for edge in dcel.live_directed_edges() {
@@ -74,7 +74,8 @@ fn outer_edges(dcel: &Mesh) -> usize {
     count
 }
 
-/// Checks what loops find in a cut triangle, once its vertex 3 is given up and face 4 fills the hole.
+/// Checks what loops find in a cut triangle, once its vertex 3 is given up and face 4 fills the
+/// hole.
 fn check_loops(dcel: &Mesh, alloc: Global) -> Result<(), Fail> {
     let ends = ends_of_edges(dcel, alloc)?;
     same(ends.as_slice(), [[0, 1], [1, 2], [2, 0]].as_slice(), "ends")?;

@@ -6,7 +6,7 @@ use dcel_bench::meshes::{Mesh, adjacent_edge, inner_face};
 use dcel_bench::require;
 use std::test::Fail;
 
-/// The half edges round a triangle.
+/// Returns the half edges round a triangle.
 fn triangle(dcel: &Mesh, index: u32) -> Result<[usize; 3], Fail> {
     let handle = inner_face(index);
     require!(handle.index() != 0);

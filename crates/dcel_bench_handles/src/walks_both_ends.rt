@@ -27,11 +27,12 @@ enum End {
 
 use End::{Back, Front};
 
-/// A vertex or a half edge where a walk begins, the ends to take from, and the half edges taken, one after another, and
-/// then none.
+/// A vertex or a half edge where a walk begins, the ends to take from, and the half edges taken,
+/// one after another, and then none.
 type Walk = (u32, &'static [End], &'static [usize]);
 
-/// Takes from these ends of an iterator: they are these half edges, one after another, and then none.
+/// Takes from these ends of an iterator: they are these half edges, one after another, and then
+/// none.
 fn check_taken<'a, I: DoubleEndedIterator<Item = DirectedEdgeHandle<'a, i64, i64, i64, i64>>>(
     mut edges: I,
     ends: &[End],
@@ -76,7 +77,8 @@ fn out_edges_come_from_both_ends(rt: HostRuntime) -> Result<(), Fail> {
     check_out_edges(&cut_triangle(rt.alloc())?)
 }
 
-/// Walks round faces: of a triangle that vertex 3 cuts into three, of the line 2, 0, 1, 3, and of a mesh without an edge.
+/// Walks round faces: of a triangle that vertex 3 cuts into three, of the line 2, 0, 1, 3, and of a
+/// mesh without an edge.
 const FACE_EDGES: [(&[Growth], Walk); 5] = [
     (&CUT, (0, &[Front, Front, Front, Front], &[0, 2, 4])),
     (&CUT, (1, &[Front, Front, Front, Front], &[1, 6, 11])),
@@ -143,7 +145,8 @@ fn own_steps_lead_round(rt: HostRuntime) -> Result<(), Fail> {
     check_walks::<PrevNextBackFn>(&dcel, &PREV_WALKS)
 }
 
-/// The number of inner faces left and the next one from the back, four times; and whether none then comes from the front.
+/// Returns the number of inner faces left and the next one from the back, four times; and whether
+/// none then comes from the front.
 fn inner_faces_from_the_back(dcel: &Mesh) -> ([(usize, Option<usize>); 4], bool) {
     let mut faces = dcel.inner_faces();
     let mut taken = [(0, None); 4];
@@ -165,25 +168,25 @@ fn inner_faces_come_from_the_back(rt: HostRuntime) -> Result<(), Fail> {
     )
 }
 
-/// The number of half edges out of a vertex, from the front and from the back.
+/// Returns the number of half edges out of a vertex, from the front and from the back.
 fn degrees(dcel: &Mesh, index: u32) -> Result<[usize; 2], Fail> {
     let start = vertex_of(dcel, index)?;
     Ok([start.out_edges().count(), start.out_edges().rev().count()])
 }
 
-/// The half edge at this place of those that come out of a vertex, from the front.
+/// Returns the half edge at this place of those that come out of a vertex, from the front.
 fn at_place(dcel: &Mesh, index: u32, place: usize) -> Result<Option<usize>, Fail> {
     let edge = vertex_of(dcel, index)?.out_edges().nth(place);
     Ok(edge.map(|edge| edge.index()))
 }
 
-/// The half edge at this place of those that come out of a vertex, from the back.
+/// Returns the half edge at this place of those that come out of a vertex, from the back.
 fn at_place_from_the_back(dcel: &Mesh, index: u32, place: usize) -> Result<Option<usize>, Fail> {
     let edge = vertex_of(dcel, index)?.out_edges().nth_back(place);
     Ok(edge.map(|edge| edge.index()))
 }
 
-/// The number of the vertex that a half edge comes out of.
+/// Returns the number of the vertex that a half edge comes out of.
 fn origin(dcel: &Mesh, index: usize) -> Result<usize, Fail> {
     require!(index < dcel.num_directed_edges());
     let handle = FixedDirectedEdgeHandle::new(index);
@@ -211,8 +214,8 @@ fn test_cw_iterator(rt: HostRuntime) -> Result<(), Fail> {
     check_places(&dcel, 0)
 }
 
-/// The lengths of a mesh's iterators: its vertices, half edges, undirected edges, faces, inner faces, and hull, and the fixed
-/// handles of vertices and faces.
+/// The lengths of a mesh's iterators: its vertices, half edges, undirected edges, faces, inner
+/// faces, and hull, and the fixed handles of vertices and faces.
 type Lengths = [usize; 8];
 
 fn lengths(dcel: &Mesh) -> Lengths {
@@ -245,7 +248,7 @@ fn elements_are_counted(rt: HostRuntime) -> Result<(), Fail> {
     Ok(())
 }
 
-/// The numbers of faces, half edges and edges that the Voronoi diagram lists.
+/// Returns the numbers of faces, half edges and edges that the Voronoi diagram lists.
 fn dual_lengths(dcel: &Mesh) -> [usize; 3] {
     [
         VoronoiFaceIterator::new(dcel).len(),

@@ -17,7 +17,8 @@ fn push_append(
     push_line(replies, &format!(in alloc; "vertex {vertex}")?)
 }
 
-/// Adds lines that append the vertices from 3 on to a triangle and put each into face 1, which keeps its anchor and is a triangle again.
+/// Adds lines that append the vertices from 3 on to a triangle and put each into face 1, which
+/// keeps its anchor and is a triangle again.
 fn push_inserts(
     alloc: Global,
     lines: &mut Vec<u8>,

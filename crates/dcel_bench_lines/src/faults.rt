@@ -66,12 +66,13 @@ struct Whole {
     lines: Vec<u8>,
     replies: Vec<u8>,
 
-    /// For each number of bytes of the talk, the length of the replies to the lines that end within them.
+    /// For each number of bytes of the talk, the length of the replies to the lines that end within
+    /// them.
     due: Vec<usize>,
 }
 
 impl Whole {
-    /// The talk with every word.
+    /// Makes the talk with every word.
     fn new(alloc: Global) -> Result<Whole, AllocError> {
         let mut whole = Whole {
             lines: Vec::new(alloc),
@@ -107,8 +108,8 @@ fn check_fault(
     same(written.as_slice(), wanted, what)
 }
 
-/// Makes each read of `chunk` bytes fail in turn, also the last one, which finds no byte left: the lines
-/// read whole get their replies.
+/// Makes each read of `chunk` bytes fail in turn, also the last one, which finds no byte left: the
+/// lines read whole get their replies.
 fn check_reads(alloc: Global, whole: &Whole, chunk: usize) -> Result<(), Fail> {
     let mut bytes = 0usize;
     for reads in 0..whole.due.len() {
@@ -133,8 +134,8 @@ fn each_read_fails(rt: HostRuntime) -> Result<(), Fail> {
     Ok(())
 }
 
-/// Makes a write fail after each number of bytes, in reads and writes of `chunk` bytes: that many are
-/// written.
+/// Makes a write fail after each number of bytes, in reads and writes of `chunk` bytes: that many
+/// are written.
 fn check_writes(alloc: Global, whole: &Whole, chunk: usize) -> Result<(), Fail> {
     for room in 0..whole.replies.len() {
         let ran = answers(alloc, NO_LIMIT, &whole.lines, chunk, PLENTY, room);

@@ -55,8 +55,8 @@ fn long_lines_are_one_bad_line(rt: HostRuntime) -> Result<(), Fail> {
     Ok(())
 }
 
-/// The beginning of a line, the number of zeros that follow in a list, and the reply: a line has 4096 bytes at
-/// most.
+/// The beginning of a line, the number of zeros that follow in a list, and the reply: a line has
+/// 4096 bytes at most.
 const LONG_LISTS: [(&str, usize, &str); 4] = [
     ("strip 10", 2044, "refused 2 NoSuchEdge"),
     ("strip 10", 2045, "bad line"),

@@ -1,4 +1,5 @@
-//! Std readers and writers below sources and sinks: how often they are called, and what each call returns.
+//! Std readers and writers below sources and sinks: how often they are called, and what each call
+//! returns.
 
 use crate::texts::answer_text;
 use dcel_bench::checks::{holds, same};
@@ -32,7 +33,8 @@ impl Read for ScriptedReader<'_, '_> {
     }
 }
 
-/// Each write takes as many bytes as the script says, and fails where it says nothing. Writes are counted.
+/// Each write takes as many bytes as the script says, and fails where it says nothing. Writes are
+/// counted.
 #[derive(Drop)]
 struct ScriptedWriter<'s, 'c> {
     script: &'s [Option<usize>],
@@ -210,7 +212,8 @@ fn texts_of_each_length_are_read_and_put(rt: HostRuntime) -> Result<(), Fail> {
     Ok(())
 }
 
-/// The scripts of a reader and a writer, how a run between them ended, the numbers of reads and writes, and what was written.
+/// The scripts of a reader and a writer, how a run between them ended, the numbers of reads and
+/// writes, and what was written.
 type Run = (
     &'static [Option<&'static str>],
     &'static [Option<usize>],
@@ -292,7 +295,7 @@ const RUNS: [Run; 13] = [
     ),
 ];
 
-/// How a run ended, by name.
+/// Returns how a run ended, by name.
 pub fn fault_name(ended: Result<(), RunFault>) -> &'static str {
     match ended {
         Ok(()) => "",

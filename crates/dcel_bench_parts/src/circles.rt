@@ -22,7 +22,7 @@ fn point(x: i64, y: i64) -> Result<Point, &'static str> {
     Point::new(x, y).ok_or("out of range")
 }
 
-// A kite whose edge 0 leads along its length, from (0, 0) to (8, 0).
+// Returns a kite whose edge 0 leads along its length, from (0, 0) to (8, 0).
 fn kite(rt: HostRuntime) -> Result<Dcel<Point>, Fail> {
     let corners = (point(8, 0)?, point(0, 0)?, point(4, 2)?);
     let mut dcel: Dcel<Point> = new_triangle(rt.alloc(), corners)?;

@@ -6,7 +6,7 @@ use dcel_delaunay::{
 use std::alloc::Global;
 use std::test::Fail;
 
-/// A triangulation of these points, and the number of the vertex of each.
+/// Returns a triangulation of these points, and the number of the vertex of each.
 fn triangulated(alloc: Global, places: &[(i64, i64)]) -> Result<(Triangulation, Vec<usize>), Fail> {
     let mut points = Vec::new(alloc);
     for (x, y) in places {
@@ -20,7 +20,7 @@ fn triangulated(alloc: Global, places: &[(i64, i64)]) -> Result<(Triangulation, 
     Ok((triangulation, vertices))
 }
 
-/// The numbers of vertices, edges and inner faces.
+/// Returns the numbers of vertices, edges and inner faces.
 fn counts(triangulation: &Triangulation) -> (usize, usize, usize) {
     let mesh = triangulation.dcel();
     (

@@ -7,7 +7,7 @@ use std::alloc::{AllocError, Global};
 use std::process::Abort;
 use std::test::Fail;
 
-/// Faces over so many vertices, and the half edges after each, or the reason that is wanted.
+/// Faces over this many vertices, and the half edges after each, or the reason that is wanted.
 #[derive(Clone, Copy, Drop)]
 struct Row {
     faces: &'static [&'static [u32]],
@@ -15,7 +15,7 @@ struct Row {
     wanted: Result<&'static [u32], FacesError>,
 }
 
-/// The faces as vectors.
+/// Returns the faces as vectors.
 fn faces_of(alloc: Global, row: Row) -> Result<Vec<Vec<u32>>, AllocError> {
     let mut faces = Vec::new(alloc);
     for corners in row.faces {
@@ -26,7 +26,7 @@ fn faces_of(alloc: Global, row: Row) -> Result<Vec<Vec<u32>>, AllocError> {
     Ok(faces)
 }
 
-/// The vertices, with their numbers as data.
+/// Returns the vertices, with their numbers as data.
 fn vertices_of(alloc: Global, row: Row) -> Result<Vec<u32>, AllocError> {
     let mut vertices = Vec::new(alloc);
     for vertex in 0..row.vertices {
@@ -35,7 +35,7 @@ fn vertices_of(alloc: Global, row: Row) -> Result<Vec<u32>, AllocError> {
     Ok(vertices)
 }
 
-/// The links of the mesh that is made, or the reason.
+/// Returns the links of the mesh that is made, or the reason why none is.
 fn told(alloc: Global, row: Row) -> Result<Result<LinkLists, FacesError>, AllocError> {
     let faces = faces_of(alloc, row)?;
     let vertices = vertices_of(alloc, row)?;
@@ -68,7 +68,7 @@ fn check(rt: &impl Abort, alloc: Global, rows: &[Row]) -> Result<(), Fail> {
     Ok(())
 }
 
-/// Faces that are refused.
+/// Returns a row of faces that are refused.
 fn refused(faces: &'static [&'static [u32]], vertices: u32, reason: FacesError) -> Row {
     Row {
         faces,
@@ -211,7 +211,7 @@ fn other_surfaces_are_told(rt: HostRuntime) -> Result<(), Fail> {
     )
 }
 
-/// A mesh of two triangles, and what it is made of.
+/// Returns a mesh of two triangles, or None if they are refused.
 fn two_triangles(alloc: Global) -> Result<Option<Dcel<u32>>, AllocError> {
     let mut faces = Vec::new(alloc);
     faces.push(vec![in alloc; 0, 1, 2]?)?;
@@ -223,7 +223,8 @@ fn two_triangles(alloc: Global) -> Result<Option<Dcel<u32>>, AllocError> {
     }
 }
 
-/// Whether a mesh comes back from its links over other data, and its links are those of the lists.
+/// Returns whether a mesh comes back from its links over other data, and its links are those of the
+/// lists.
 fn comes_back(alloc: Global, dcel: &Dcel<u32>) -> Result<bool, AllocError> {
     if dcel.removal_state() != RemovalState::Closed {
         return Ok(false);
@@ -266,7 +267,7 @@ fn comes_back(alloc: Global, dcel: &Dcel<u32>) -> Result<bool, AllocError> {
     same_again(alloc, dcel, &lists, given)
 }
 
-/// Whether the mesh made again over these data has the same links.
+/// Returns whether the mesh made again over these data has the same links.
 fn same_again(
     alloc: Global,
     dcel: &Dcel<u32>,
@@ -286,7 +287,7 @@ fn same_again(
     }
 }
 
-/// Whether no removal is open, and the links are those of the lists.
+/// Returns whether no removal is open, and the links are those of the lists.
 fn has_links(
     alloc: Global,
     dcel: &Dcel<bool, (), u8, ()>,

@@ -1,5 +1,5 @@
-//! Tests of the crates below and beside `spade_dcel`: fixed handles, the store, links that are given, predicates, circles, meshes in and
-//! out, and Delaunay triangulations.
+//! Tests of the crates below and beside `spade_dcel`: fixed handles, the store, links that are
+//! given, predicates, circles, meshes in and out, and Delaunay triangulations.
 #![tactic(auto)]
 
 #[cfg(test)]

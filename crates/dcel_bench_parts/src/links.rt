@@ -43,7 +43,7 @@ fn check(rt: &impl Abort, alloc: Global, rows: &[Row]) -> Result<(), Fail> {
     Ok(())
 }
 
-/// A triangle with these lists in place of its own, where they are given.
+/// Returns the row of a triangle with these lists in place of its own.
 fn triangle(
     next: &'static [u32],
     origin: &'static [u32],

@@ -7,7 +7,7 @@ use dcel_fixed::{
 use dcel_store::{EdgeData, EdgeEntry, HalfEdgeEntry, Store};
 use std::test::Fail;
 
-/// The links of a half edge that is alone on its face, and starts at the first vertex.
+/// Returns the links of a half edge that is alone on its face, and starts at the first vertex.
 fn alone(edge: FixedDirectedEdgeHandle) -> HalfEdgeEntry {
     HalfEdgeEntry {
         next: edge,
@@ -88,7 +88,7 @@ fn each_datum(rt: HostRuntime) -> Result<(), Fail> {
     Ok(())
 }
 
-/// An edge with these data, whose half edges are alone on their faces.
+/// Returns an edge with these data, whose half edges are alone on their faces.
 fn entry(
     edge: FixedDirectedEdgeHandle,
     [normalized, reversed, undirected]: [char; 3],

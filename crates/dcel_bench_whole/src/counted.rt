@@ -1,4 +1,5 @@
-//! Edges, vertices and half edges of whole meshes, counted: by the hull where all inner faces are triangles, and vertex by vertex.
+//! Edges, vertices and half edges of whole meshes, counted: by the hull where all inner faces are
+//! triangles, and vertex by vertex.
 
 use dcel_bench::checks::same;
 use dcel_bench::growths::Growth::{
@@ -13,7 +14,8 @@ use std::test::Fail;
 /// A mesh, and its live edges, its vertices with a live edge and the half edges of its hull.
 type HullRow = (&'static [Growth], [usize; 3]);
 
-/// Each mesh has triangles alone, so the first number is three times the second, minus three, minus the third.
+/// Each mesh has triangles alone, so the first number is three times the second, minus three, minus
+/// the third.
 const BY_HULL: [HullRow; 4] = [
     (&[Triangle(0, 1, 2)], [3, 3, 3]),
     (&[Triangle(0, 1, 2), Append(3), Insert(3, 1)], [6, 4, 3]),

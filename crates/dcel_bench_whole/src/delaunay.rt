@@ -1,6 +1,7 @@
-//! A Delaunay triangulation over this layer: points are put into the triangles that they lie in, and then edges are flipped until no
-//! triangle's circle has the corner of a triangle beside it inside. The points stand in a slice beside the mesh, the one of vertex n at
-//! place n, since the mesh is lent while edges are flipped.
+//! A Delaunay triangulation over this layer: points are put into the triangles that they lie in,
+//! and then edges are flipped until no triangle's circle has the corner of a triangle beside it
+//! inside. The points stand in a slice beside the mesh, the one of vertex n at place n, since the
+//! mesh is lent while edges are flipped.
 
 ghost use Rattle.std.specs.Prelude.{ℕ, Bool, List, IsTrue, IfOk, IfSome, ◌<◌};
 ghost use Rattle.std.specs.Fn.{FnReturnsAt};
@@ -19,8 +20,8 @@ use std::alloc::{AllocError, Global};
 /// A point with whole-number coordinates.
 pub type Point = (i32, i32);
 
-/// Flips edges of a mesh until none is left that can be flipped and is wanted. Returns whether it got that far with this many flips and the
-/// memory there was.
+/// Flips edges of a mesh until none is left that can be flipped and is wanted. Returns whether it
+/// got that far with this many flips and the memory there was.
 pub fn settle<V, DE, UE, F, W>(
     dcel: &mut Dcel<V, DE, UE, F>,
     wanted: W,
@@ -40,7 +41,7 @@ where
     }
 }
 
-/// The edges of a mesh, also those given up.
+/// Returns the edges of a mesh, also those given up.
 fn all_edges<V, DE, UE, F>(
     dcel: &Dcel<V, DE, UE, F>,
     alloc: Global,
@@ -54,8 +55,9 @@ fn all_edges<V, DE, UE, F>(
     Ok(list)
 }
 
-/// Whether the last of four vertices lies inside the circle through the first three, if these go round counterclockwise: the rule by which
-/// edges are flipped. A vertex without a point lies nowhere.
+/// Returns whether the last of four vertices lies inside the circle through the first three, if
+/// these go round counterclockwise: the rule by which edges are flipped. A vertex without a point
+/// lies nowhere.
 pub fn is_in_circle(points: &[Point], [a, b, c, d]: &[FixedVertexHandle; 4]) -> bool {
     let (Some(a), Some(b)) = (from(points, *a, *d), from(points, *b, *d)) else {
         return false;
@@ -73,7 +75,7 @@ pub fn is_in_circle(points: &[Point], [a, b, c, d]: &[FixedVertexHandle; 4]) -> 
 /// 128 bits where coordinates are below 2^29.
 type Way = (i128, i128);
 
-/// The vector to the point of a vertex from the point of another one.
+/// Returns the vector to the point of a vertex from the point of another one.
 fn from(points: &[Point], vertex: FixedVertexHandle, other: FixedVertexHandle) -> Option<Way> {
     let (x, y) = *points.get(vertex.index())?;
     let (other_x, other_y) = *points.get(other.index())?;
@@ -83,12 +85,12 @@ fn from(points: &[Point], vertex: FixedVertexHandle, other: FixedVertexHandle) -
     ))
 }
 
-/// The square of a vector's length.
+/// Returns the square of a vector's length.
 fn square((x, y): Way) -> i128 {
     x.wrapping_mul(x).wrapping_add(y.wrapping_mul(y))
 }
 
-/// Above 0 if the second vector leads to the left of the first.
+/// Returns a number above 0 if the second vector leads to the left of the first.
 fn cross((x, y): Way, (other_x, other_y): Way) -> i128 {
     x.wrapping_mul(other_y)
         .wrapping_sub(y.wrapping_mul(other_x))
@@ -102,7 +104,8 @@ fn is_left(points: &[Point], [a, b]: [FixedVertexHandle; 2], vertex: FixedVertex
     }
 }
 
-/// Whether a vertex lies inside the triangle of three others, which go round counterclockwise.
+/// Returns whether a vertex lies inside the triangle of three others, which go round
+/// counterclockwise.
 fn is_inside(
     points: &[Point],
     [a, b, c]: [FixedVertexHandle; 3],
@@ -113,7 +116,7 @@ fn is_inside(
         && is_left(points, [c, a], vertex)
 }
 
-/// The inner triangle that a vertex lies inside of.
+/// Returns the inner triangle that a vertex lies inside of.
 fn triangle_round<V, DE, UE, F>(
     dcel: &Dcel<V, DE, UE, F>,
     points: &[Point],
@@ -134,7 +137,8 @@ fn triangle_round<V, DE, UE, F>(
     None
 }
 
-/// Adds a vertex, and puts it into the triangle that its point lies inside of, if there is one and there are numbers left.
+/// Adds a vertex, and puts it into the triangle that its point lies inside of, if there is one and
+/// there are numbers left.
 pub fn insert<V: Drop, DE: Default + Drop, UE: Default + Drop, F: Default + Drop>(
     dcel: &mut Dcel<V, DE, UE, F>,
     points: &[Point],
@@ -162,7 +166,8 @@ mod tests {
     use dcel_bench::meshes::{Mesh, edge_between};
     use std::test::Fail;
 
-    /// The corners of a triangle, clockwise, so that its inner face goes round counterclockwise, and points inside it.
+    /// The corners of a triangle, clockwise, so that its inner face goes round counterclockwise,
+    /// and points inside it.
     const POINTS: [Point; 9] = [
         (-1000, -900),
         (0, 1000),

@@ -76,7 +76,7 @@ fn push_data(data: &mut Vec<i64>, dcel: &Mesh, kind: Kind) -> Result<(), Fail> {
     Ok(())
 }
 
-/// The data of the vertices, half edges, undirected edges and faces, one after another.
+/// Returns the data of the vertices, half edges, undirected edges and faces, one after another.
 fn all_data(alloc: Global, dcel: &Mesh) -> Result<Vec<i64>, Fail> {
     let mut data = Vec::new(alloc);
     for kind in [Kind::Vertex, Kind::HalfEdge, Kind::Edge, Kind::Face] {
@@ -145,7 +145,7 @@ fn a_writer_changes_one_datum(rt: HostRuntime) -> Result<(), Fail> {
     check_writes(&mut dcel, rt.alloc())
 }
 
-/// The number and the datum of the vertex found by this number.
+/// Returns the number and the datum of the vertex found by this number.
 fn looked_up(dcel: &Mesh, index: u32) -> Option<(usize, i64)> {
     dcel.get_vertex(vertex(index))
         .map(|found| (found.index(), *found.data()))

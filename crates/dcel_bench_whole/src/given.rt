@@ -68,7 +68,7 @@ const REFUSED: [Row; 5] = [
     },
 ];
 
-/// Data that tell their elements apart.
+/// Returns data that tell their elements apart.
 fn data(alloc: Global, [vertices, edges, faces]: [u32; 3]) -> Result<Data, AllocError> {
     let mut data = MeshData {
         vertices: Vec::new(alloc),
@@ -92,7 +92,7 @@ fn data(alloc: Global, [vertices, edges, faces]: [u32; 3]) -> Result<Data, Alloc
     Ok(data)
 }
 
-/// The half edge after this one, its origin and its face.
+/// Returns the half edge after this one, its origin and its face.
 fn links_at(dcel: &Mesh, index: usize) -> Result<[u32; 3], Fail> {
     require!(index < dcel.num_directed_edges());
     let edge = FixedDirectedEdgeHandle::new(index);

@@ -1,5 +1,5 @@
-//! What holds of whole meshes: data mapped and written, meshes cloned, cleared, made of their vertices and of links, elements counted,
-//! and programs over the layer.
+//! What holds of whole meshes: data mapped and written, meshes cloned, cleared, made of their
+//! vertices and of links, elements counted, and programs over the layer.
 #![tactic(auto)]
 
 #[cfg(test)]

@@ -1,5 +1,5 @@
-//! Programs over this layer, with spade's names: a walk on the graph of a mesh, an editor that refines a mesh, and a reader
-//! of the Voronoi diagram. Each is proved for all data.
+//! Programs over this layer, with spade's names: a walk on the graph of a mesh, an editor that
+//! refines a mesh, and a reader of the Voronoi diagram. Each is proved for all data.
 
 ghost use Rattle.std.specs.Prelude.{◌<◌};
 ghost use Rattle.dcel_maps.specs.Conditions.{CanFlip};
@@ -12,7 +12,8 @@ use spade_dcel::handles::{
 use spade_dcel::operations::{Room, append_unconnected_vertex, flip_cw, insert_into_triangle};
 use std::alloc::{AllocError, Global};
 
-/// A graph walk: the length of a shortest way from one vertex to each other one, and None if there is no way.
+/// Walks the graph of a mesh: returns the length of a shortest way from one vertex to each other
+/// one, and None where there is no way.
 pub fn steps_from<V, DE, UE, F>(
     dcel: &Dcel<V, DE, UE, F>,
     start: FixedVertexHandle,
@@ -33,7 +34,7 @@ pub fn steps_from<V, DE, UE, F>(
     Ok(steps)
 }
 
-// Each neighbor not reached yet is reached in this many steps.
+// Notes that each neighbor not reached yet is reached in this many steps.
 fn reach_neighbors<V, DE, UE, F>(
     vertex: VertexHandle<'_, V, DE, UE, F>,
     step: usize,
@@ -49,8 +50,8 @@ fn reach_neighbors<V, DE, UE, F>(
     }
 }
 
-/// A mesh editor: puts a vertex into each inner triangle, and then flips each old edge with such a triangle on both sides. If
-/// memory or numbers run out, the mesh is refined as far as that.
+/// Edits a mesh: puts a vertex into each inner triangle, and then flips each old edge with such a
+/// triangle on both sides. If memory or numbers run out, the mesh is refined as far as that.
 pub fn refine<V: Copy + Drop, DE: Default + Drop, UE: Default + Drop, F: Default + Drop>(
     dcel: &mut Dcel<V, DE, UE, F>,
     datum: V,
@@ -96,8 +97,8 @@ fn put_into<V: Drop, DE: Default + Drop, UE: Default + Drop, F: Default + Drop>(
     Ok(())
 }
 
-/// A reader of the Voronoi diagram: the corners of one of its faces, each a face of the mesh, and whether it is open, with an edge that
-/// comes from none.
+/// Reads the Voronoi diagram: returns the corners of one of its faces, each a face of the mesh, and
+/// whether it is open, with an edge that comes from none.
 pub fn corners_of<V, DE, UE, F>(
     face: VoronoiFace<'_, V, DE, UE, F>,
     alloc: Global,
@@ -160,7 +161,8 @@ mod tests {
         Ok(())
     }
 
-    // A triangle, with a vertex inside after the first step and with three more and its inner edges turned after the second.
+    // A triangle, with a vertex inside after the first step and with three more and its inner edges
+    // turned after the second.
     #[test]
     fn a_finer_mesh_is_triangulated(rt: HostRuntime) -> Result<(), Fail> {
         let mut dcel = grown(rt.alloc(), &[Triangle(0, 1, 2)])?;
@@ -169,7 +171,7 @@ mod tests {
         check_no_spokes(&dcel)
     }
 
-    /// The corners of the Voronoi face of a vertex, and whether it is open.
+    /// Returns the corners of the Voronoi face of a vertex, and whether it is open.
     fn corners(dcel: &Mesh, index: u32, alloc: Global) -> Result<(Vec<usize>, bool), Fail> {
         let handle = vertex(index);
         require!(handle.index() < dcel.num_vertices());

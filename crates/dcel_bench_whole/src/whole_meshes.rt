@@ -1,4 +1,5 @@
-//! Calls on whole meshes: data mapped, a mesh cloned, cleared and given room, and one made of its vertices.
+//! Calls on whole meshes: data mapped, a mesh cloned, cleared and given room, and one made of its
+//! vertices.
 
 use dcel_bench::checks::{holds, same};
 use dcel_bench::data::{Datum, write};
@@ -18,7 +19,7 @@ use std::test::Fail;
 /// A mesh whose memory may be refused.
 type Watched<'a> = Mesh<&'a Refusing<Global>>;
 
-/// The result, or that there was no memory.
+/// Returns the result, or that there was no memory.
 fn made<T, B: Drop>(made: Result<T, NoMemory<B>>) -> Result<T, AllocError> {
     made.map_err(|_| AllocError)
 }
@@ -29,14 +30,14 @@ fn see(seen: &Cell<i64>, datum: i64) -> i64 {
     datum
 }
 
-/// The data of the vertices, written as one number, two digits a datum; and the mesh again.
+/// Returns the data of the vertices, written as one number, two digits a datum; and the mesh again.
 fn vertex_data<A: Allocator>(dcel: Mesh<A>, alloc: A) -> Result<(i64, Mesh<A>), AllocError> {
     let seen = Cell::new(0);
     let dcel = made(dcel.map_vertices(alloc, |datum| see(&seen, datum)))?;
     Ok((seen.get(), dcel))
 }
 
-/// The data of the undirected edges, written as one number, two digits a datum.
+/// Returns the data of the undirected edges, written as one number, two digits a datum.
 fn edge_data<A: Allocator>(dcel: Mesh<A>, alloc: A) -> Result<i64, AllocError> {
     let seen = Cell::new(0);
     made(dcel.map_undirected_edges(alloc, |datum| see(&seen, datum)))?;
@@ -58,7 +59,7 @@ fn check_picture<A: Allocator>(
     same(&picture_of(dcel, alloc)?, wanted, "the mesh")
 }
 
-/// The mesh with other data of its vertices and of its undirected edges.
+/// Returns the mesh with other data of its vertices and of its undirected edges.
 fn mapped(dcel: Mesh, alloc: Global) -> Result<Mesh, AllocError> {
     let dcel = made(dcel.map_vertices(alloc, |datum| datum.wrapping_add(10)))?;
     made(dcel.map_undirected_edges(alloc, |datum| datum.wrapping_add(1)))
@@ -92,7 +93,8 @@ fn mapped_picture(alloc: Global) -> Result<Picture, Fail> {
     picture_of(&dcel, alloc)
 }
 
-/// Reserves room for more vertices, undirected edges and faces, and returns whether there was memory.
+/// Reserves room for more vertices, undirected edges and faces, and returns whether there was
+/// memory.
 fn reserve<A: Allocator>(dcel: &mut Mesh<A>, room: [usize; 3]) -> Result<bool, Fail> {
     let [vertices, edges, faces] = room;
     require!(dcel.has_room(vertices, edges, faces));
@@ -146,7 +148,8 @@ fn check_fixed_links<A: Allocator>(dcel: &Mesh<A>) -> Result<(), Fail> {
     same(outer, Some(0), "the anchor of the outer face")
 }
 
-/// Checks that the mesh has vertices 0, 1, 2 with the data 5, 6, 7, and an edge from vertex 2 to vertex 0.
+/// Checks that the mesh has vertices 0, 1, 2 with the data 5, 6, 7, and an edge from vertex 2 to
+/// vertex 0.
 fn check_fixed<A: Allocator + Copy>(dcel: Mesh<A>, alloc: A) -> Result<(), Fail> {
     check_fixed_links(&dcel)?;
     check_data(dcel, alloc, [5_06_07, 0])
@@ -169,7 +172,7 @@ fn a_mesh_is_made_of_its_vertices(rt: HostRuntime) -> Result<(), Fail> {
     check_fixed(dcel, alloc)
 }
 
-/// A triangle that vertex 3 cuts into three.
+/// Returns a triangle that vertex 3 cuts into three.
 fn cut(memory: Watching<'_>) -> Result<Watched<'_>, Fail> {
     let mut dcel: Watched = new(memory)?;
     grow_all(&mut dcel, memory, &CUT)?;
@@ -235,7 +238,8 @@ const EIGHT_TRIANGLES: [Growth; 20] = [
     PutBeside(27, 9),
 ];
 
-/// Room for vertices, edges and faces, and a call that finds none left of one kind after the eight triangles.
+/// Room for vertices, edges and faces, and a call that finds none left of one kind after the eight
+/// triangles.
 const ROOM: [([usize; 3], Growth); 3] = [
     ([10, 17, 8], Append(10)),
     ([10, 17, 9], Close(9)),

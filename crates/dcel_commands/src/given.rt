@@ -75,6 +75,8 @@ fn one_number<'a, Kind, InnerOuter: InnerOuterMarker>(
 }
 
 /// Reads the numbers of two elements and nothing else.
+///
+/// `K` and `I` are the first element's kind and marker, `L` and `J` the second's.
 fn two_numbers<'a, K, L, I: InnerOuterMarker, J: InnerOuterMarker>(
     rest: Rest<'a>,
 ) -> Option<(FixedHandleImpl<K, I>, FixedHandleImpl<L, J>)>
@@ -126,6 +128,8 @@ fn numbers<'a, Kind, InnerOuter: InnerOuterMarker, A: Allocator>(
 }
 
 /// Reads the numbers that come next in two places into two lists.
+///
+/// `K` and `I` are the first list's kind and marker, `L` and `J` the second's.
 fn both<'a, K, L, I: InnerOuterMarker, J: InnerOuterMarker, A: Allocator + Copy>(
     first: Rest<'a>,
     first_count: usize,
@@ -175,6 +179,8 @@ fn number_and_list<'a, Kind, InnerOuter: InnerOuterMarker, A: Allocator>(
 }
 
 /// Reads two lists of elements with a slash between them, and nothing else.
+///
+/// `K` and `I` are the first list's kind and marker, `L` and `J` the second's.
 fn two_lists<'a, K, L, I: InnerOuterMarker, J: InnerOuterMarker, A: Allocator + Copy>(
     rest: Rest<'a>,
     memory: A,

@@ -56,7 +56,7 @@ impl<A: Allocator> Triangulation<A> {
     }
 }
 
-// The point with this number, if there is one.
+// Returns the point with this number, if there is one.
 fn point_of(points: &[Point], number: usize) -> Option<Point>
     ensures { result ≡ slice_get points.now number }
 {

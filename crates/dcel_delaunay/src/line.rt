@@ -1,4 +1,5 @@
-//! Points that all stand on one line: the mesh is a path along it, and the outer face is its only face.
+//! Points that all stand on one line: the mesh is a path along it, and the outer face is its only
+//! face.
 
 ghost use Rattle.std.specs.Prelude.{◌≡◌, IfSome};
 ghost use Rattle.spade_dcel.specs.Handles.{mesh_behind, number_of};
@@ -12,7 +13,7 @@ use dcel_predicates::{Point, Side};
 use spade_dcel::handles::{FixedDirectedEdgeHandle, FixedVertexHandle};
 use std::alloc::Allocator;
 
-/// Where a point lies in a mesh of one face: beside a path, or on its line, or there is none.
+/// Returns where a point lies in a mesh of one face, which is a path or has no edge.
 pub(crate) fn locate<A: Allocator>(
     dcel: &Mesh<A>,
     start: FixedDirectedEdgeHandle,
@@ -37,7 +38,7 @@ pub(crate) fn locate<A: Allocator>(
     outside(edge.rev(), point)
 }
 
-/// Where a point lies if there is no edge.
+/// Returns where a point lies if there is no edge.
 fn without_edges<A: Allocator>(dcel: &Mesh<A>, point: Point) -> PositionInTriangulation
     requires none { dcel.now.shape.edges ≡ 0 }
     requires alone { face_count dcel.now.shape ≡ 1 }
@@ -52,7 +53,8 @@ fn without_edges<A: Allocator>(dcel: &Mesh<A>, point: Point) -> PositionInTriang
     PositionInTriangulation::NoTriangulation
 }
 
-/// Whether a point comes before another one, from left to right, and upwards where both have one x.
+/// Returns whether a point comes before another one, from left to right, and upwards where both
+/// have one x.
 fn is_before(first: Point, second: Point) -> bool {
     if first.x == second.x {
         first.y < second.y
@@ -61,7 +63,7 @@ fn is_before(first: Point, second: Point) -> bool {
     }
 }
 
-/// The half of an edge that starts at the end that comes first.
+/// Returns the half of an edge that starts at the end that comes first.
 fn upwards<A: Allocator>(edge: Edge<'_, A>) -> Edge<'_, A>
     requires { IsLive (mesh_behind edge).shape (number_of edge) }
     ensures mesh { mesh_behind result ≡ mesh_behind edge.entry }
@@ -108,7 +110,7 @@ fn walk<'a, A: Allocator>(
     None
 }
 
-/// Where a point lies between the ends of a half edge, or at one of them.
+/// Returns where a point lies between the ends of a half edge, or at one of them.
 fn between<A: Allocator>(edge: Edge<'_, A>, point: Point) -> Option<PositionInTriangulation>
     requires { IsLive (mesh_behind edge).shape (number_of edge) }
     ensures { IfSome result (IsPlace (mesh_behind edge.entry) point) }

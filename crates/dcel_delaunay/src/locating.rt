@@ -34,8 +34,8 @@ pub(crate) fn locate<A: Allocator>(
     place(dcel, last, point)
 }
 
-/// The half of an edge that does not have the point on its right; of the hull, the inner one if the
-/// point is on the edge's line.
+/// Returns the half of an edge that does not have the point on its right; of the hull, the inner
+/// one if the point is on the edge's line.
 fn first_step<A: Allocator>(edge: Edge<'_, A>, point: Point) -> Edge<'_, A>
     requires { IsLive (mesh_behind edge).shape (number_of edge) }
     ensures mesh { mesh_behind result ≡ mesh_behind edge.entry }
@@ -85,8 +85,8 @@ fn walk<'a, A: Allocator>(
     None
 }
 
-/// Where a point lies that is on the right of none of the half edges of a triangle, or outside of
-/// the hull.
+/// Returns where a point lies that is on the right of none of the half edges of a triangle, or
+/// outside of the hull.
 fn place<A: Allocator>(
     dcel: &Mesh<A>,
     edge: Edge<'_, A>,
@@ -113,7 +113,8 @@ fn place<A: Allocator>(
     inside(dcel, edge, point)
 }
 
-/// A half edge of the outer face that has a point on its left.
+/// Returns a place outside of the hull if the half edge lies on the outer face and has the point on
+/// its left.
 pub(crate) fn outside<A: Allocator>(
     edge: Edge<'_, A>,
     point: Point,
@@ -130,7 +131,7 @@ pub(crate) fn outside<A: Allocator>(
     Some(PositionInTriangulation::OutsideOfConvexHull(edge.fix()))
 }
 
-/// Where a point lies that is on a half edge, or at one of its ends.
+/// Returns where a point lies that is on a half edge, or at one of its ends.
 fn on_line_of<A: Allocator>(edge: Edge<'_, A>, point: Point) -> PositionInTriangulation
     requires live { IsLive (mesh_behind edge).shape (number_of edge) }
     requires on { IsOnLine (mesh_behind edge) point (number_of edge) }
@@ -145,7 +146,7 @@ fn on_line_of<A: Allocator>(edge: Edge<'_, A>, point: Point) -> PositionInTriang
     PositionInTriangulation::OnEdge(edge.fix())
 }
 
-/// The triangle of a half edge, if a point lies inside of it.
+/// Returns the triangle of a half edge, if a point lies inside of it.
 fn inside<A: Allocator>(
     dcel: &Mesh<A>,
     edge: Edge<'_, A>,

@@ -148,7 +148,7 @@ fn strokes_of<V, DE, UE, F, A: Allocator, B: Allocator + Copy>(
     Ok(strokes)
 }
 
-/// The stroke of a half edge.
+/// Returns the stroke of a half edge.
 fn stroke_of<V, DE, UE, F, A: Allocator, B: Allocator>(
     mesh: &Dcel<V, DE, UE, F, A>,
     before: Option<&Dcel<V, DE, UE, F, A>>,
@@ -199,7 +199,7 @@ fn is_anchor_of_face<V, DE, UE, F, A: Allocator>(
     }
 }
 
-/// The places of the vertices between which a half edge lay before.
+/// Returns the places of the vertices between which a half edge lay before.
 fn ends_before<V, DE, UE, F, A: Allocator, B: Allocator>(
     before: Option<&Dcel<V, DE, UE, F, A>>,
     places: &Places<B>,
@@ -235,7 +235,7 @@ fn patches_of<V, DE, UE, F, A: Allocator, B: Allocator + Copy>(
     Ok(patches)
 }
 
-/// The patch of a face.
+/// Returns the patch of a face.
 fn patch_of<V, DE, UE, F, A: Allocator, B: Allocator + Copy>(
     alloc: B,
     mesh: &Dcel<V, DE, UE, F, A>,
@@ -300,7 +300,7 @@ fn dots_of<V, DE, UE, F, A: Allocator, B: Allocator + Copy>(
     Ok(dots)
 }
 
-/// The dot of a vertex.
+/// Returns the dot of a vertex.
 fn dot_of<V, DE, UE, F, A: Allocator, B: Allocator>(
     mesh: &Dcel<V, DE, UE, F, A>,
     places: &Places<B>,

@@ -47,8 +47,8 @@ module _ {V DE UE F : Type 0} where
   abbrev pub degenerate_out : Lists V DE UE F → ℕ → Lists V DE UE F
   degenerate_out s v = cond (length s.vertex_data == 1) (vertex_out s v) (vertex_out (edge_out (path_stored s v) (going_from s v / 2)) v)
 
-  -- where a vertex of a path can be given up
-  pub record CanGiveUpOnPath (s : Lists V DE UE F) (v : ℕ) : Type 0 where
+  -- where a vertex of a path can be unlinked, with one of its edges
+  pub record CanUnlinkOnPath (s : Lists V DE UE F) (v : ℕ) : Type 0 where
     pub vertex_in : v < length s.vertex_anchors
     pub anchored : slice_index_or s.vertex_anchors v None ≢ None
     pub anchor_in : anchor_at s v < length s.next
@@ -59,7 +59,7 @@ module _ {V DE UE F : Type 0} where
 
   -- where it can be taken out with its edge
   pub record CanLoseOnPath (s : Lists V DE UE F) (v : ℕ) : Type 0 where
-    pub given_up : CanGiveUpOnPath s v
+    pub given_up : CanUnlinkOnPath s v
     pub edge : CanLoseEdge (path_stored s v) (going_from s v / 2)
     pub vertex : CanLoseVertex (edge_out (path_stored s v) (going_from s v / 2)) v
 

@@ -60,6 +60,7 @@ pub fn drop_all_anchors<V, DE, UE, F, A: Allocator>(
     }
 }
 
+// Drops the anchors of these faces.
 fn drop_anchors<V, DE, UE, F, A: Allocator>(
     store: &mut Store<V, DE, UE, F, A>,
     faces: &[FixedFaceHandle<InnerTag>],

@@ -31,7 +31,7 @@ pub fn put_triangle<V, DE: Default, UE: Default, F: Default, A: Allocator>(
     store.push_edge(entry(0, 2, 0, 2), entry(3, 1, 1, 0), EdgeData::default());
 }
 
-// The links of a half edge, given as numbers.
+// Returns the links of a half edge, given as numbers.
 fn entry(next: usize, prev: usize, face: usize, origin: usize) -> HalfEdgeEntry
     requires few_next { next < 2 ^ 32 }
     requires few_prev { prev < 2 ^ 32 }

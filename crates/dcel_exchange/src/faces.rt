@@ -22,9 +22,9 @@ use std::alloc::{AllocError, Allocator};
 /// Makes a mesh of faces, each the list of its corners, counterclockwise.
 ///
 /// The faces keep their order, from number 1 on; face 0, the outer one, is what they leave. So of
-/// a closed surface one face is left out. The vertices keep their numbers, and one may be no corner.
-/// The edges are numbered in the order in which their first sides come, face by face, and such a
-/// side is the even half edge. Data of edges and faces are defaults, and no removal is open.
+/// a closed surface one face is left out. The vertices keep their numbers, and one may be no
+/// corner. The edges are numbered in the order in which their first sides come, face by face, and
+/// such a side is the even half edge. Data of edges and faces are defaults, and no removal is open.
 ///
 /// It takes any lists. If there is no mesh, or none that the rule tells, or memory runs out, the
 /// vertices come back with a reason ([`FacesError`]). Two faces that meet at a vertex alone are

@@ -24,12 +24,11 @@ pub use fault::Fault;
 use std::alloc::{AllocError, Allocator};
 use whole::{check_all, check_each};
 
-/// Checks a claimed mesh of so many vertices and faces, whose lists have an item for each half
+/// Checks a claimed mesh of this many vertices and faces, whose lists have an item for each half
 /// edge: the half edge after it, the vertex that it starts at and the face that it lies on.
 ///
-/// If it is a mesh, the answer is the list of half edges before each, the only one that fits. Else
-/// it is a [`Fault`], and nothing is wrong that is looked for before it. It takes any lists and
-/// numbers.
+/// For a mesh it returns the half edge before each one, the only list that fits; otherwise a
+/// [`Fault`], and nothing is wrong that is looked for before it. It takes any lists and numbers.
 ///
 /// It goes over the lists a fixed number of times. For each half edge it takes less than twelve
 /// bytes, and for each vertex one, once the links have passed one by one; claims of more faces than

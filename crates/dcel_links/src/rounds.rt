@@ -23,7 +23,8 @@ fn mark_round(steps: &[u32], start: usize, seen: &mut [bool])
     }
 }
 
-/// Looks for a label whose numbers are no single round of the steps. Where there is none, it marks the labels that stand.
+/// Looks for a label whose numbers are no single round of the steps. Where there is none, it marks
+/// the labels that stand.
 pub(crate) fn find_parts(
     steps: &[u32],
     labels: &[u32],

@@ -55,7 +55,7 @@ pub(crate) fn find_wrong_sizes(
     Ok(())
 }
 
-/// Whether so many vertices, half edges and faces are those of a sphere.
+/// Returns whether this many vertices, half edges and faces are those of a sphere.
 #[inline]
 pub(crate) fn is_sphere(vertices: usize, half_edges: usize, faces: usize) -> bool
     requires few_vertices { vertices ≤ 2 ^ 32 }

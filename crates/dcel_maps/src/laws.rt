@@ -63,9 +63,10 @@ pub fn a_swap_of_one_vertex_changes_nothing<V, DE, UE, F>()
     ensures { (m : Mesh V DE UE F) (v : ℕ) → IsMesh m → vertex_is_live m.shape v ≡ true → vertices_swapped m v v ≡ m }
 {}
 
-/// What is left of three examples once a vertex is cut off: a corner of a triangle that has a
-/// vertex in it, a corner of a triangle alone, and an end of a line, which is a strip without
-/// triangles.
+/// Three examples say what is left once a vertex is cut off.
+///
+/// This vertex is a corner of a triangle that has a vertex in it, a corner of a triangle alone, or
+/// an end of a line, which is a strip without triangles.
 pub fn strips_are_cut_off()
     ensures corner_of_three { CornerOfThreeCut }
     ensures corner { CornerCut }
@@ -105,8 +106,9 @@ pub fn a_scattered_triangle_is_gathered()
     ensures { vertex_taken_out (cleaned_up scattered) 1 ≡ gathered }
 {}
 
-/// What is left of three degenerate meshes once a vertex is removed: of a line without an end, of
-/// two vertices without one and then without the other, and of a line without a vertex in its
+/// Three examples say what is left of a degenerate mesh once a vertex is removed.
+///
+/// A line loses an end, two vertices lose one and then the other, and a line loses a vertex in its
 /// middle.
 pub fn vertices_of_lines_are_removed()
     ensures end { EndGone }
@@ -114,11 +116,11 @@ pub fn vertices_of_lines_are_removed()
     ensures middle { MiddleGone }
 {}
 
-/// An insertion taken back: a vertex, the last one, that is inserted into a triangle and then
-/// isolated along any of its border loops, cleaned up and taken out leaves each word, origin,
-/// number and datum of before, without the vertex.
+/// An insertion can be taken back.
 ///
-/// Only the triangle's datum is a new one, and only anchors may be others.
+/// The last vertex, if it is inserted into a triangle and then isolated along any of its border
+/// loops, cleaned up and taken out, leaves each word, origin, number and datum of before, without
+/// the vertex. Only the triangle's datum is a new one, and only anchors may be others.
 pub fn an_inserted_vertex_comes_out_again<V, DE, UE, F>()
     ensures { (m : Mesh V DE UE F) (v f : ℕ) (border : List ℕ) (new : NewData DE UE F 3 2)
         (filling : NewData DE UE F (length border - 3) (length border - 2)) → IsMesh m → CanInsertLast m v f
@@ -145,11 +147,11 @@ pub fn new_meshes_are_triangulated<V, DE, UE, F>()
         → AllTriangles (triangle_alone vertices halves edges faces).shape }
 {}
 
-/// Where each live inner face of a mesh is a triangle, it is so after each edit that adds
-/// something: with a half edge of the outer face where a face is put beside one, and with one whose
-/// other half lies on the outer face where one side of an edge is split.
+/// Where each live inner face of a mesh is a triangle, it is so after an edit that adds something.
 ///
-/// Elsewhere these two leave an inner face with a half edge more.
+/// Two edits ask for more: where a face is put beside a half edge, this lies on the outer face, and
+/// where one side of an edge is split, the other half does. Elsewhere these two leave an inner face
+/// with a half edge more.
 pub fn growth_keeps_triangles<V, DE, UE, F>()
     ensures append { (m : Mesh V DE UE F) (datum : V) → KeepsTriangles m (vertex_appended m datum) }
     ensures setup { (m : Mesh V DE UE F) (a b : ℕ) (halves : List DE) (edges : List UE) → KeepsTriangles m (first_edge_added m a b halves edges) }
@@ -207,11 +209,12 @@ pub fn removals_leave_what_is_live<V, DE, UE, F>()
         → slice_index (renumbered m.shape.vertices (v ∷ [])) (moved (m.shape.vertices - 1) v w) ≡ w }
 {}
 
-/// What the headline leaves out, part by part: a triangle of its own beside another one, which
-/// isn't connected; a torus, whose vertices, minus edges, plus faces are none; two triangles with
-/// one vertex in common, round which there are two cycles; a vertex that was given up while an out
-/// edge is still live; an inner face without a half edge; and a vertex without an anchor where
-/// edges start.
+/// Each part of the headline leaves something out.
+///
+/// In turn these are a triangle of its own beside another one, which isn't connected; a torus,
+/// whose vertices, minus edges, plus faces are none; two triangles with one vertex in common, round
+/// which there are two cycles; a vertex that was given up while an out edge is still live; an inner
+/// face without a half edge; and a vertex without an anchor where edges start.
 pub fn the_headline_leaves_out<V, DE, UE, F>()
     ensures apart { ¬ Connected (map_of two_triangles) }
     ensures torus { ¬ CountsTwo torus }

@@ -5,7 +5,7 @@
 
 use dcel_drawing::{Line, Place};
 
-/// The point in the middle of a line.
+/// Returns the point in the middle of a line.
 fn middle_of(line: Line) -> Place {
     let straight = line.from.middle(line.to);
     match line.bend {
@@ -14,7 +14,7 @@ fn middle_of(line: Line) -> Place {
     }
 }
 
-/// Some points along a line, from its start to its end.
+/// Returns some points along a line, from its start to its end.
 pub(crate) fn steps_of(line: Line) -> [Place; 7] {
     let Some(bend) = line.bend else {
         let middle = middle_of(line);
@@ -39,14 +39,14 @@ pub(crate) struct Way {
 }
 
 impl Way {
-    /// The way along a line.
+    /// Returns the way along a line.
     pub fn along(line: Line) -> Way {
         Way {
             places: steps_of(line),
         }
     }
 
-    /// How far a place is from it.
+    /// Returns how far a place is from it.
     pub fn distance(&self, place: Place) -> f64 {
         let mut least = f64::INFINITY;
         let mut from = self.places[0];
@@ -57,7 +57,7 @@ impl Way {
         least
     }
 
-    /// Whether a ray to the right crosses it an odd number of times.
+    /// Returns whether a ray to the right crosses it an odd number of times.
     pub fn is_crossed(&self, place: Place) -> bool {
         let mut is_odd = false;
         let mut from = self.places[0];
@@ -74,7 +74,7 @@ impl Way {
     }
 }
 
-/// How far a place is from a straight step.
+/// Returns how far a place is from a straight step.
 fn distance_to_step(place: Place, from: Place, to: Place) -> f64 {
     let way = to.minus(from);
     let length = way.dot(way);

@@ -28,8 +28,8 @@ pub(crate) struct Frame {
 }
 
 impl Frame {
-    /// The part that has all of a picture, so large that the least things can be seen, unless the
-    /// whole became too large then.
+    /// Returns the part that has all of a picture, so large that the least things can be seen,
+    /// unless the whole became too large then.
     pub fn around<B: Allocator>(picture: &Picture<B>) -> Frame {
         let (low, high) = corners(picture);
         let size = high.minus(low);
@@ -58,12 +58,12 @@ impl Frame {
         }
     }
 
-    /// Where a place is shown.
+    /// Returns where a place is shown.
     pub fn shown(&self, place: Place) -> Place {
         place.times(self.scale)
     }
 
-    /// Where a line is shown.
+    /// Returns where a line is shown.
     pub fn shown_line(&self, line: Line) -> Line {
         Line {
             from: self.shown(line.from),
@@ -75,7 +75,7 @@ impl Frame {
         }
     }
 
-    /// The upper left corner.
+    /// Returns the upper left corner.
     pub fn corner(&self) -> Place {
         Place::new(
             self.low.x * self.scale - MARGIN,
@@ -83,7 +83,7 @@ impl Frame {
         )
     }
 
-    /// The width and the height.
+    /// Returns the width and the height.
     pub fn size(&self) -> Place {
         let size = self.high.minus(self.low).times(self.scale);
         let aside = Place::new(
@@ -96,7 +96,7 @@ impl Frame {
         )
     }
 
-    /// The place of a vertex at the side, by its number among those.
+    /// Returns the place of a vertex at the side, by its number among those.
     pub fn aside(&self, number: usize) -> Place {
         let column = nearest_usize_to_f64(number % self.columns.max(1));
         let row = nearest_usize_to_f64(number / self.columns.max(1));
@@ -108,7 +108,7 @@ impl Frame {
     }
 }
 
-/// How many vertices have no place.
+/// Returns how many vertices have no place.
 fn count_aside<B: Allocator>(picture: &Picture<B>) -> usize {
     let mut count = 0usize;
     for dot in &picture.dots {
@@ -119,7 +119,7 @@ fn count_aside<B: Allocator>(picture: &Picture<B>) -> usize {
     count
 }
 
-/// The lower left and the upper right corner of all places.
+/// Returns the lower left and the upper right corner of all places.
 fn corners<B: Allocator>(picture: &Picture<B>) -> (Place, Place) {
     let mut corners = None;
     for dot in &picture.dots {
@@ -147,7 +147,7 @@ fn widened(corners: Option<(Place, Place)>, place: Option<Place>) -> Option<(Pla
     ))
 }
 
-/// How large the unit has to be, so that edges and inner faces are large enough.
+/// Returns how large the unit has to be, so that edges and inner faces are large enough.
 fn wanted_scale<B: Allocator>(picture: &Picture<B>) -> f64 {
     let mut scale: f64 = 0.0;
     for stroke in &picture.strokes {
@@ -161,7 +161,8 @@ fn wanted_scale<B: Allocator>(picture: &Picture<B>) -> f64 {
     scale
 }
 
-/// The scale, or a larger one if without it something of this length became less than is wanted.
+/// Returns the scale, or a larger one if without it something of this length became less than is
+/// wanted.
 fn larger(scale: f64, wanted: f64, length: f64) -> f64 {
     if length * 1e9 > wanted {
         scale.max(wanted / length)
@@ -170,7 +171,7 @@ fn larger(scale: f64, wanted: f64, length: f64) -> f64 {
     }
 }
 
-/// Twice the area of a face for the length of its sides: the radius of the circle inside a
+/// Returns twice the area of a face for the length of its sides: the radius of the circle inside a
 /// triangle.
 fn radius(outline: &[Line]) -> f64 {
     let (mut area, mut length) = (0.0, 0.0);

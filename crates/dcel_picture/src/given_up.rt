@@ -76,7 +76,7 @@ pub(crate) fn set_aside<V, DE, UE, F, A: Allocator>(
     }
 }
 
-/// A place moved off each edge that has been put in.
+/// Returns a place moved off each edge that has been put in.
 fn off_new_edges<V, DE, UE, F, A: Allocator>(
     mesh: &Dcel<V, DE, UE, F, A>,
     before: &Dcel<V, DE, UE, F, A>,
@@ -97,7 +97,7 @@ fn off_new_edges<V, DE, UE, F, A: Allocator>(
     place
 }
 
-/// A place moved to the left of a line if it is all but on it.
+/// Returns a place moved to the left of a line if it is all but on it.
 fn off_line(place: Place, from: Place, to: Place) -> Place {
     let way = to.minus(from);
     let left = way.unit().left();
@@ -110,7 +110,7 @@ fn off_line(place: Place, from: Place, to: Place) -> Place {
     }
 }
 
-/// A place for a vertex moved off each other one that stands all but there.
+/// Returns a place for a vertex moved off each other one that stands all but there.
 fn off_vertices<V, DE, UE, F, A: Allocator>(
     before: &Dcel<V, DE, UE, F, A>,
     places: &[Option<Place>],
@@ -130,7 +130,7 @@ fn off_vertices<V, DE, UE, F, A: Allocator>(
     place
 }
 
-/// How far the farthest neighbor that a vertex had before is from a place.
+/// Returns how far the farthest neighbor that a vertex had before is from a place.
 fn reach_of<V, DE, UE, F, A: Allocator>(
     before: &Dcel<V, DE, UE, F, A>,
     places: &[Option<Place>],

@@ -2,7 +2,7 @@
 
 use dcel_drawing::Place;
 
-/// The way of length one with this angle from the right, in radians from -10 to 10.
+/// Returns the way of length one with this angle from the right, in radians from -10 to 10.
 ///
 /// By the series of sine and cosine, which std has not.
 pub(crate) fn toward(angle: f64) -> Place {
@@ -19,7 +19,7 @@ pub(crate) fn toward(angle: f64) -> Place {
     Place::new(x - less_x, y - less_y)
 }
 
-/// The place with this number, and the middle of the plane if there is none.
+/// Returns the place with this number, and the middle of the plane if there is none.
 pub(crate) fn at(places: &[Place], number: usize) -> Place {
     places.get(number).copied().unwrap_or(Place::new(0.0, 0.0))
 }

@@ -43,7 +43,7 @@ pub fn bow<V, DE, UE, F, A: Allocator, B: Allocator + Copy>(
     Ok(())
 }
 
-/// How far on the left of the straight line an arc bends, for its length.
+/// Returns how far on the left of the straight line an arc bends, for its length.
 fn offset(place: usize, count: usize) -> f64 {
     let place = std::num::nearest_usize_to_f64(place);
     let count = std::num::nearest_usize_to_f64(count);

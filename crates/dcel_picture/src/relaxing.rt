@@ -52,7 +52,7 @@ pub(crate) fn level<B: Allocator>(wings: &Wings<B>, places: &mut [Place], rounds
     }
 }
 
-/// The middle of the nodes round a node, if there are any.
+/// Returns the middle of the nodes round a node, if there are any.
 fn middle_of(star: &[Wing], places: &[Place]) -> Option<Place> {
     let mut sum = Place::new(0.0, 0.0);
     for wing in star {
@@ -65,7 +65,7 @@ fn middle_of(star: &[Wing], places: &[Place]) -> Option<Place> {
     Some(sum.times(1.0 / nearest_usize_to_f64(star.len())))
 }
 
-/// The area that a triangle inside is to have.
+/// Returns the area that a triangle inside is to have.
 pub(crate) fn wanted_area<B: Allocator>(net: &Net<B>) -> f64 {
     let mut count: f64 = 0.0;
     for triangle in &net.triangles {
@@ -94,7 +94,7 @@ pub(crate) fn relax<B: Allocator>(
     }
 }
 
-/// A place near `here` for a node with these triangles that costs less, if one is found.
+/// Returns a place near `here` for a node with these triangles that costs less, if one is found.
 fn better_place(star: &[Wing], places: &[Place], here: Place, area: f64) -> Option<Place> {
     let now = cost_of_star(star, places, here, area);
     let mut way = way_down(star, places, here, area);
@@ -116,7 +116,7 @@ fn cost_of_star(star: &[Wing], places: &[Place], here: Place, area: f64) -> f64 
     sum
 }
 
-/// The way on which the cost falls fastest, some part of the way to the neighbors long.
+/// Returns the way on which the cost falls fastest, some part of the way to the neighbors long.
 fn way_down(star: &[Wing], places: &[Place], here: Place, area: f64) -> Place {
     let mut slope = Place::new(0.0, 0.0);
     let mut reach = 0.0;
@@ -151,14 +151,14 @@ impl Sides {
         self.near.cross(self.far) / 2.0
     }
 
-    /// The squares of the three sides, added up.
+    /// Returns the squares of the three sides, added up.
     fn squares(self) -> f64 {
         let third = self.far.minus(self.near);
         self.near.dot(self.near) + self.far.dot(self.far) + third.dot(third)
     }
 
-    /// What the triangle costs: inside, the least where it is equilateral and has the area that is
-    /// wanted; outside, where it is equilateral. Without end as it becomes flat.
+    /// Returns what the triangle costs: inside, the least where it is equilateral and has the area
+    /// that is wanted; outside, where it is equilateral. Without end as it becomes flat.
     fn cost(self, wanted: f64) -> f64 {
         let area = self.area();
         if area <= 0.0 {
@@ -172,7 +172,7 @@ impl Sides {
         }
     }
 
-    /// How the cost grows as the corner moves.
+    /// Returns how the cost grows as the corner moves.
     fn slope(self, wanted: f64) -> Place {
         let area = self.area();
         let squares_slope = self.near.plus(self.far).times(-2.0);

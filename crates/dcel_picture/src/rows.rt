@@ -54,7 +54,7 @@ fn set(places: &mut [Option<Place>], vertex: usize, place: Place) {
     }
 }
 
-/// The half edge out of the first end of the path.
+/// Returns the half edge out of the first end of the path.
 fn start_of_path<V, DE, UE, F, A: Allocator>(
     mesh: &Dcel<V, DE, UE, F, A>,
 ) -> Option<FixedDirectedEdgeHandle> {

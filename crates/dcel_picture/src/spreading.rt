@@ -142,8 +142,8 @@ fn has_edge<V, DE, UE, F, A: Allocator>(mesh: &Dcel<V, DE, UE, F, A>, vertex: us
             .is_some()
 }
 
-/// The direction that is to lead to the left: that of the least half edge of the outer face, which
-/// so lies at the bottom.
+/// Returns the direction that is to lead to the left: that of the least half edge of the outer
+/// face, which so lies at the bottom.
 fn upright<V, DE, UE, F, A: Allocator>(mesh: &Dcel<V, DE, UE, F, A>, nodes: &[Place]) -> Place {
     for number in 0..mesh.num_directed_edges() {
         if let Some(edge) = mesh.get_directed_edge(FixedDirectedEdgeHandle::new(number)) {
@@ -156,7 +156,7 @@ fn upright<V, DE, UE, F, A: Allocator>(mesh: &Dcel<V, DE, UE, F, A>, nodes: &[Pl
     Place::new(-1.0, 0.0)
 }
 
-/// A place after the turn that lets this direction lead to the left.
+/// Returns a place after the turn that lets this direction lead to the left.
 fn turned(place: Place, direction: Place) -> Place {
     Place::new(-place.dot(direction), -direction.cross(place))
 }

@@ -14,7 +14,7 @@ pub(crate) struct Wing {
 }
 
 impl Wing {
-    /// The places of the other two corners.
+    /// Returns the places of the other two corners.
     pub fn corners(self, places: &[Place]) -> (Place, Place) {
         (at(places, self.near), at(places, self.far))
     }

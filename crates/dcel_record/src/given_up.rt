@@ -95,6 +95,7 @@ impl<Kind, A: Allocator> GivenUp<Kind, A> {
     }
 }
 
+// Returns whether each element of the list is among the ascending ones, by binary search.
 fn all_stand_in<Kind>(
     list: &[FixedHandleImpl<Kind, InnerTag>],
     ascending: &[FixedHandleImpl<Kind, InnerTag>],
@@ -110,6 +111,7 @@ fn all_stand_in<Kind>(
     true
 }
 
+// Returns whether no element is listed twice, comparing each with those after it.
 fn names_none_twice<Kind>(list: &[FixedHandleImpl<Kind, InnerTag>]) -> bool
     ensures { IsTrue result ↔ ((i : ℕ) → i < length list.now → list_any (λ other. other == slice_index list.now i) (drop (suc i) list.now) ≡ false) }
 {

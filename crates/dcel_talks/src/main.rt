@@ -1,8 +1,9 @@
-//! Runs the talks of the files that are named, and compares each reply with the one that stands under its line.
+//! Runs the talks of the files that are named, and compares each reply with the one that stands
+//! under its line.
 //!
-//! In a file `# NAME` begins a talk, from an empty mesh. `limit N` gives it another limit than 2^31,
-//! `> LINE` is a line, and the lines under it are its reply. Empty lines say nothing. If a reply is
-//! another one, the program says which and ends with status 1.
+//! In a file `# NAME` begins a talk, from an empty mesh. `limit N` gives it another limit than
+//! 2^31, `> LINE` is a line, and the lines under it are its reply. Empty lines say nothing. If a
+//! reply is another one, the program says which and ends with status 1.
 #![tactic(auto)]
 
 mod script;

@@ -65,8 +65,8 @@ impl Script {
         }
     }
 
-    /// Compares the replies in reads of one, three and all bytes, and the text of `words` before and
-    /// after each line that is refused or bad.
+    /// Compares the replies in reads of one, three and all bytes, and the text of `words` before
+    /// and after each line that is refused or bad.
     pub fn check(&self, alloc: Global) -> Result<()> {
         for chunk in [1, 3, PLENTY] {
             let written = self.written(alloc, &self.lines, chunk)?;

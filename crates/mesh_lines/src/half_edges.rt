@@ -63,7 +63,7 @@ fn links(mesh: &LineMesh<Global>, number: FixedDirectedEdgeHandle) -> MeshLinesH
     }
 }
 
-/// Puts the links of so many half edges into the buffer, each at its number.
+/// Puts the links of this many half edges into the buffer, each at its number.
 ///
 /// Asks for as many half edges, and for a buffer that holds them.
 fn put_first(mesh: &LineMesh<Global>, half_edges: &mut [MeshLinesHalfEdge], count: usize)

@@ -11,7 +11,7 @@ pub const SHORT: u32 = 1;
 /// There was no memory, and nothing was put into the buffer.
 pub const NO_MEMORY: u32 = 2;
 
-/// Returns whether a result of so many items was done or short of the room that there is.
+/// Returns whether a result of this many items was done or short of the room that there is.
 pub fn done_or_short(needed: usize, room: usize) -> u32
     ensures done { result ≡ 0 → needed ≤ room }
     ensures short { result ≡ 1 → room < needed }

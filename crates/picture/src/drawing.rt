@@ -32,15 +32,15 @@ impl Drawing {
         })
     }
 
-    /// The mesh.
+    /// Returns the mesh.
     pub fn mesh(&self) -> &Mesh
         ensures { result.now ≡ self.now.mesh }
     {
         &self.mesh
     }
 
-    /// What the mesh was before the removal that is open, as long as the edges and faces that this
-    /// has given up are there.
+    /// Returns what the mesh was before the removal that is open, as long as the edges and faces
+    /// that this has given up are there.
     pub fn before(&self) -> Option<&Mesh> {
         self.before.as_ref()
     }
@@ -107,7 +107,8 @@ fn opens_removal(command: &Command<i64>) -> bool {
     )
 }
 
-/// What is done to the mesh of before as well, so that its vertices have the numbers of the mesh's.
+/// Returns what is done to the mesh of before as well, so that its vertices have the numbers of the
+/// mesh's.
 fn echo_of(command: &Command<i64>) -> Option<Command<i64>> {
     match command {
         Command::Append(datum) => Some(Command::Append(*datum)),
@@ -116,7 +117,7 @@ fn echo_of(command: &Command<i64>) -> Option<Command<i64>> {
     }
 }
 
-/// Why a query is refused, if it is.
+/// Returns why a query is refused, if it is.
 fn refusal_of(mesh: &Mesh, query: Query) -> Option<Refusal>
     ensures { IsNone result ↔ HasAsked mesh.now.shape query }
 {
@@ -137,7 +138,7 @@ fn refusal_of(mesh: &Mesh, query: Query) -> Option<Refusal>
     }
 }
 
-/// Why two vertices are refused where live ones are asked for.
+/// Returns why two vertices are refused where live ones are asked for.
 fn refusal_of_vertices(
     mesh: &Mesh,
     first: FixedVertexHandle,
@@ -154,7 +155,7 @@ fn refusal_of_vertices(
     refusal_of_vertex(mesh, second)
 }
 
-/// Why a vertex is refused where one that may be given up is asked for.
+/// Returns why a vertex is refused where one that may be given up is asked for.
 fn refusal_of_number(mesh: &Mesh, vertex: FixedVertexHandle) -> Option<Refusal>
     ensures { IsNone result ↔ (vertex < mesh.now.shape.vertices) }
 {
@@ -165,7 +166,7 @@ fn refusal_of_number(mesh: &Mesh, vertex: FixedVertexHandle) -> Option<Refusal>
     }
 }
 
-/// Why a vertex is refused where a live one is asked for.
+/// Returns why a vertex is refused where a live one is asked for.
 fn refusal_of_vertex(mesh: &Mesh, vertex: FixedVertexHandle) -> Option<Refusal>
     ensures { IsNone result ↔ (vertex_is_live mesh.now.shape vertex ≡ true) }
 {

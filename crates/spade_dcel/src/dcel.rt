@@ -481,6 +481,7 @@ impl<V, DE, UE, F, A: Allocator> Dcel<V, DE, UE, F, A> {
         self.removal.is_closed() && (self.num_vertices() <= 1 || self.looks_triangulated())
     }
 
+    // Tests what `sanity_check` asks of a mesh with more than one vertex.
     fn looks_triangulated(&self) -> bool
         requires { self.now.shape.removal ≡ Closed }
         ensures { IsTrue result ↔ LooksTriangulated self.now.shape }

@@ -8,7 +8,7 @@ use dcel_bench::checks::same;
 use dcel_bench::growths::Growth::{Append, Insert, Triangle};
 use dcel_bench::lists::Said::Grow;
 use dcel_bench::lists::{Said, command_of};
-use dcel_bench::meshes::{Links, NO_LIMIT, check_links, counts, vertex};
+use dcel_bench::meshes::{NO_LIMIT, TRIANGLE, check_links, counts, vertex};
 use dcel_bench::refusing::{Refusals, Refusing};
 use dcel_commands::commands::{Handed, Refusal, Refused, apply};
 use std::alloc::Global;
@@ -54,9 +54,6 @@ const ROWS: [Row; 2] = [
         is_sound: false,
     },
 ];
-
-/// The words and the origins of a triangle.
-const TRIANGLE: Links = (&[&[0, 2, 4], &[1, 5, 3]], &[0, 1, 1, 2, 2, 0]);
 
 /// Checks that the mesh has the words of a triangle, and is as the row says.
 fn check_left(dcel: &Watched, row: &Row) -> Result<(), Fail> {

@@ -95,7 +95,7 @@ pub fn flip_all<'a>(
     !matches!(ended, Legalized::OutOfMemory { .. })
 }
 
-/// The rule by number: the lesser corner is below the lesser end.
+/// Returns whether the lesser corner is below the lesser end: the rule by number.
 fn is_wanted([from, to, near, far]: &[FixedVertexHandle; 4]) -> bool {
     near.index().min(far.index()) < from.index().min(to.index())
 }

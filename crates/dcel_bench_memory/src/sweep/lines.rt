@@ -114,7 +114,8 @@ const ROWS: [Row; 23] = [
     ),
 ];
 
-/// What a run over the lines writes with these requests refused, and how many requests it makes.
+/// Returns what a run over the lines writes with these requests refused, and how many requests it
+/// makes.
 fn run(lines: &[u8], refusals: Refusals, alloc: Global) -> Result<(Vec<u8>, u64), Fail> {
     let memory = Refusing::new(alloc);
     memory.refuse(refusals);

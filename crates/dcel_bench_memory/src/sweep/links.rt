@@ -45,7 +45,7 @@ const ROWS: [Row; 2] = [
     },
 ];
 
-/// The data of a row, for which there is memory.
+/// Returns the data of a row, for which there is memory.
 fn data<'a>(memory: Memory<'a>, row: &Row) -> Result<Data<'a>, AllocError> {
     let mut data = MeshData {
         vertices: Vec::new(memory),

@@ -175,8 +175,8 @@ fn met_by(row: Row, number: u64, alloc: Global) -> Result<(usize, &'static [i64]
     }
 }
 
-/// Checks that the list stopped at the command that met the request of this number, with those before it
-/// carried out.
+/// Checks that the list stopped at the command that met the request of this number, with those
+/// before it carried out.
 fn check_stopped<'a>(
     dcel: &Watched<'a>,
     stopped: StoppedAt<i64, Memory<'a>, Memory<'a>>,

@@ -1,5 +1,6 @@
 //! Calls that take no memory.
 
+use crate::sweep::opening::CUT;
 use dcel_bench::growths::Growth::{Append, Extend, Insert, SetUp, SplitBothSides, Triangle};
 use dcel_bench::lists::Said;
 use dcel_bench::lists::Said::{
@@ -7,15 +8,8 @@ use dcel_bench::lists::Said::{
 };
 use dcel_bench::openers::Opener::{Isolate, Remesh, Strip};
 
-/// A triangle that vertex 3 cuts into three.
-const CUT: [Said; 3] = [
-    Grow(Triangle(7, -8, 9)),
-    Grow(Append(10)),
-    Grow(Insert(3, 1)),
-];
-
-/// A triangle of which vertex 3 was given up, which had cut it; that removal is open.
-const OPEN: [Said; 4] = [
+/// A triangle of which vertex 3 is given up, which had cut it; that removal is open.
+pub const OPEN: [Said; 4] = [
     Grow(Triangle(7, -8, 9)),
     Grow(Append(10)),
     Grow(Insert(3, 1)),
@@ -49,7 +43,7 @@ const REGION: [Said; 4] = [
 ];
 
 /// Only vertex 3 is still given up.
-const CLEANED: [Said; 5] = [
+pub const CLEANED: [Said; 5] = [
     Grow(Triangle(7, -8, 9)),
     Grow(Append(10)),
     Grow(Insert(3, 1)),

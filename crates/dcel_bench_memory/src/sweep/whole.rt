@@ -1,14 +1,14 @@
 //! Calls that make a mesh or are on a whole mesh, and aren't commands.
 
 use crate::sweep::opening::CUT;
+use crate::sweep::standing::{CLEANED, OPEN};
 use crate::watched::{MANY, Memory, Watched, fitted};
 use dcel_bench::checks::{holds, same};
 use dcel_bench::data::write_distinct;
-use dcel_bench::growths::Growth::{Append, Insert, SetUp, Triangle};
+use dcel_bench::growths::Growth::{Append, SetUp};
 use dcel_bench::lists::Said;
-use dcel_bench::lists::Said::{CleanUp, Grow, Open};
+use dcel_bench::lists::Said::Grow;
 use dcel_bench::meshes::vertex;
-use dcel_bench::openers::Opener::Isolate;
 use dcel_bench::pictures::{Picture, picture_of};
 use dcel_bench::refusing::{Refusals, Refusing};
 use dcel_bench::require;
@@ -59,23 +59,6 @@ const FIXED: [Said; 4] = [
     Grow(SetUp(2, 0)),
 ];
 
-/// A triangle of which vertex 3 is given up, which had cut it; that removal is open.
-const OPEN_CUT: [Said; 4] = [
-    Grow(Triangle(7, -8, 9)),
-    Grow(Append(10)),
-    Grow(Insert(3, 1)),
-    Open(Isolate(3, &[1, 3, 5])),
-];
-
-/// Only vertex 3 is still given up.
-const CLEANED: [Said; 5] = [
-    Grow(Triangle(7, -8, 9)),
-    Grow(Append(10)),
-    Grow(Insert(3, 1)),
-    Open(Isolate(3, &[1, 3, 5])),
-    CleanUp(&[3, 4, 5], &[1, 2, 3]),
-];
-
 const ROWS: [Row; 16] = [
     Row {
         mesh: &[],
@@ -93,7 +76,7 @@ const ROWS: [Row; 16] = [
         requests: 1,
     },
     Row {
-        mesh: &OPEN_CUT,
+        mesh: &OPEN,
         call: MapVertices,
         requests: 1,
     },
@@ -103,7 +86,7 @@ const ROWS: [Row; 16] = [
         requests: 1,
     },
     Row {
-        mesh: &OPEN_CUT,
+        mesh: &OPEN,
         call: MapUndirectedEdges,
         requests: 1,
     },
@@ -114,7 +97,7 @@ const ROWS: [Row; 16] = [
     },
     // What is given up is cloned too.
     Row {
-        mesh: &OPEN_CUT,
+        mesh: &OPEN,
         call: TryClone,
         requests: 10,
     },
@@ -129,7 +112,7 @@ const ROWS: [Row; 16] = [
         requests: 8,
     },
     Row {
-        mesh: &OPEN_CUT,
+        mesh: &OPEN,
         call: ReserveCapacity(9, 9, 9),
         requests: 8,
     },

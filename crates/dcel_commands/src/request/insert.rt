@@ -26,6 +26,7 @@ pub fn carry_out<V, DE: Default, UE: Default, F: Default, A: Allocator>(
         0 < face.index() && face.index() < dcel.num_faces(),
         Refusal::NoSuchFace,
     )?;
+    // The tests of live elements come first only to name the refusal.
     ask(dcel.is_live_vertex(vertex), Refusal::GivenUp)?;
     ask(dcel.is_live_face(face), Refusal::GivenUp)?;
     ask(dcel.is_unconnected(vertex), Refusal::VertexInUse)?;

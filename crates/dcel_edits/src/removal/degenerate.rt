@@ -2,7 +2,7 @@
 
 ghost use Rattle.std.specs.Prelude.{◌≡◌, ◌/◌, ◌<◌, length, slice_index_or};
 ghost use Rattle.dcel_maps.specs.edits.Degenerate.{anchor_off};
-ghost use Rattle.dcel_edits.specs.Degenerate.{CanGiveUpOnPath, CanLoseDegenerate, CanUnlink, degenerate_out, going_from, path_stored, stand_in, unlinked};
+ghost use Rattle.dcel_edits.specs.Degenerate.{CanLoseDegenerate, CanUnlink, CanUnlinkOnPath, degenerate_out, going_from, path_stored, stand_in, unlinked};
 
 use crate::removal::take_out::{take_out_edge, take_out_vertex};
 use dcel_fixed::{
@@ -24,7 +24,7 @@ pub fn take_out_degenerate<V, DE: Drop, UE: Drop, F, A: Allocator>(
     if store.num_vertices() == 1 {
         return take_out_vertex(store, vertex);
     }
-    let edge = give_up_on_path(store, vertex);
+    let edge = unlink_on_path(store, vertex);
     take_out_edge(store, edge);
     take_out_vertex(store, vertex)
 }
@@ -32,11 +32,11 @@ pub fn take_out_degenerate<V, DE: Drop, UE: Drop, F, A: Allocator>(
 // Unlinks a vertex of a path and one of its edges, and returns that edge: the one of the out edge
 // after the anchor of the vertex, which is the anchor itself at an end of the path. Elsewhere the
 // edge of the anchor joins the two neighbors afterwards.
-fn give_up_on_path<V, DE, UE, F, A: Allocator>(
+fn unlink_on_path<V, DE, UE, F, A: Allocator>(
     store: &mut Store<V, DE, UE, F, A>,
     vertex: FixedVertexHandle,
 ) -> FixedUndirectedEdgeHandle
-    requires { CanGiveUpOnPath store.old vertex }
+    requires { CanUnlinkOnPath store.old vertex }
     ensures edge { result ≡ going_from store.old vertex / 2 }
     ensures lists { store.new ≡ path_stored store.old vertex }
 {

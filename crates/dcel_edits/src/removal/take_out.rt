@@ -159,6 +159,7 @@ fn rename_half<V, DE, UE, F, A: Allocator>(
     rename_face_anchor(store, links.face, from, to);
 }
 
+// Anchors the vertex at `to` if it is anchored at `from`.
 fn rename_vertex_anchor<V, DE, UE, F, A: Allocator>(
     store: &mut Store<V, DE, UE, F, A>,
     vertex: FixedVertexHandle,
@@ -174,6 +175,7 @@ fn rename_vertex_anchor<V, DE, UE, F, A: Allocator>(
     store.set_vertex_anchor(vertex, renamed(anchor, from, to));
 }
 
+// Anchors the face at `to` if it is anchored at `from`.
 fn rename_face_anchor<V, DE, UE, F, A: Allocator>(
     store: &mut Store<V, DE, UE, F, A>,
     face: FixedFaceHandle<PossiblyOuterTag>,

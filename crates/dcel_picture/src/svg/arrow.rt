@@ -26,7 +26,7 @@ pub(crate) struct Arrow {
 }
 
 impl Arrow {
-    /// The arrow beside an edge.
+    /// Returns the arrow beside an edge.
     pub fn beside(edge: Line) -> Arrow {
         let way = edge.to.minus(edge.from);
         let trim = TRIM.min(0.3 * way.length());
@@ -56,8 +56,8 @@ impl Arrow {
         }
     }
 
-    /// Where its number stands: beside its middle, or a little before or after it if there is room
-    /// there alone.
+    /// Returns where its number stands: beside its middle, or a little before or after it if there
+    /// is room there alone.
     pub fn place_of<B: Allocator>(self, number: usize, state: State, room: &Room<B>) -> Place {
         let width = width_of(number);
         let [_, _, near, middle, far, _, _] = steps_of(self.line);
@@ -75,19 +75,19 @@ impl Arrow {
         best.unwrap_or(self.beside_point(middle, width))
     }
 
-    /// A place beside a point, farther away the wider it is across.
+    /// Returns a place beside a point, farther away the wider it is across.
     fn beside_point(self, point: Place, width: f64) -> Place {
         let across = self.aside.x.max(-self.aside.x);
         point.plus(self.aside.times(7.0 + 0.5 * width * across))
     }
 }
 
-/// The box in which a number stands.
+/// Returns the box in which a number stands.
 pub(crate) fn area_of(place: Place, number: usize) -> Area {
     Area::new(place, width_of(number), 8.4)
 }
 
-/// How wide a number is.
+/// Returns how wide a number is.
 fn width_of(number: usize) -> f64 {
     let mut width = 6.6;
     let mut rest = number / 10;

@@ -69,7 +69,7 @@ fn mark(taken: &mut [bool], color: Option<&usize>) {
     }
 }
 
-/// The first color that isn't taken, from the one of this face on.
+/// Returns the first color that isn't taken, from the one of this face on.
 fn free_color(taken: &[bool], face: usize) -> usize {
     for step in 0..COLORS {
         let color = (face % COLORS + step) % COLORS;

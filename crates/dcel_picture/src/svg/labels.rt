@@ -45,12 +45,12 @@ fn write_label(class: &str, number: usize, place: Place, out: &mut impl Write) -
     )
 }
 
-/// The box in which the number of a face stands.
+/// Returns the box in which the number of a face stands.
 fn label_area(place: Place) -> Area {
     Area::new(place, 30.0, 11.0)
 }
 
-/// The same with what is better left free around it.
+/// Returns the same box with what is better left free around it.
 fn wide_area(place: Place) -> Area {
     Area::new(place, 42.0, 26.0)
 }
@@ -72,7 +72,7 @@ impl<'a> Inside<'a> {
         }
     }
 
-    /// The three corners of a face that is a triangle with straight sides.
+    /// Returns the three corners of a face that is a triangle with straight sides.
     fn triangle(&self) -> Option<[Place; 3]> {
         match self.outline {
             [a, b, c] if a.bend.is_none() && b.bend.is_none() && c.bend.is_none() => Some([
@@ -84,7 +84,7 @@ impl<'a> Inside<'a> {
         }
     }
 
-    /// How far a place inside is from the outline; outside, the distance is negative.
+    /// Returns how far a place inside is from the outline; outside, the distance is negative.
     fn depth(&self, place: Place) -> f64 {
         let mut least = f64::INFINITY;
         let mut is_inside = false;
@@ -98,7 +98,7 @@ impl<'a> Inside<'a> {
         if is_inside { least } else { -least }
     }
 
-    /// The lower left and the upper right corner.
+    /// Returns the lower left and the upper right corner.
     fn corners(&self) -> (Place, Place) {
         let mut low = Place::new(f64::INFINITY, f64::INFINITY);
         let mut high = Place::new(-f64::INFINITY, -f64::INFINITY);
@@ -112,8 +112,8 @@ impl<'a> Inside<'a> {
     }
 }
 
-/// A place inside a face: the middle of a triangle's circle, if nothing stands there; else the best
-/// place of those that are tried.
+/// Returns a place inside a face: the middle of a triangle's circle, if nothing stands there; else
+/// the best place of those that are tried.
 fn free_place<B: Allocator>(inside: Inside, room: &Room<B>) -> Place {
     if let Some(corners) = inside.triangle() {
         let middle = middle_of_circle(corners);
@@ -136,8 +136,9 @@ fn free_place<B: Allocator>(inside: Inside, room: &Room<B>) -> Place {
     best
 }
 
-/// How far a place is from the outline, and from half edges that are given up where the face is
-/// live, or the other way round; less if something stands near, and much less if it stands there.
+/// Returns how far a place is from the outline, and from half edges that are given up where the
+/// face is live, or the other way round; less if something stands near, and much less if it stands
+/// there.
 fn worth<B: Allocator>(inside: Inside, place: Place, room: &Room<B>) -> f64 {
     let far = inside.depth(place).min(room.distance(place, inside.state));
     if !room.is_free(label_area(place)) {
@@ -149,7 +150,7 @@ fn worth<B: Allocator>(inside: Inside, place: Place, room: &Room<B>) -> f64 {
     }
 }
 
-/// The middle of the circle inside a triangle.
+/// Returns the middle of the circle inside a triangle.
 fn middle_of_circle([a, b, c]: [Place; 3]) -> Place {
     let opposite_a = c.minus(b).length();
     let opposite_b = a.minus(c).length();

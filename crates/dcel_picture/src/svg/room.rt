@@ -19,7 +19,7 @@ pub(crate) struct Area {
 }
 
 impl Area {
-    /// The box with this middle, width and height.
+    /// Returns the box with this middle, width and height.
     pub fn new(middle: Place, width: f64, height: f64) -> Self {
         let half = Place::new(width / 2.0, height / 2.0);
         Area { middle, half }
@@ -42,7 +42,7 @@ pub(crate) struct Room<B: Allocator> {
 }
 
 impl<B: Allocator + Copy> Room<B> {
-    /// The room that vertices and the heads of arrows leave.
+    /// Returns the room that vertices and the heads of arrows leave.
     pub fn around(picture: &Picture<B>, frame: &Frame) -> Result<Self, AllocError> {
         let alloc = *picture.strokes.allocator();
         let mut room = Room {
@@ -79,8 +79,8 @@ impl<B: Allocator> Room<B> {
         true
     }
 
-    /// How far a place is from what is drawn over things of this state: from half edges that are
-    /// given up, or from live ones.
+    /// Returns how far a place is from what is drawn over things of this state: from half edges
+    /// that are given up, or from live ones.
     pub fn distance(&self, place: Place, state: State) -> f64 {
         let lines = match state {
             State::Live => &self.given_up,

@@ -78,6 +78,8 @@ impl<V, DE, UE, F, A: Allocator> Dcel<V, DE, UE, F, A> {
         self.is_region_ring(list, edges, faces)
     }
 
+    // Returns whether the list is the border loop of a vertex, and the edges and the faces are
+    // those at it, each listed once.
     fn is_vertex_ring(
         &self,
         list: &[FixedDirectedEdgeHandle],
@@ -135,6 +137,7 @@ impl<V, DE, UE, F, A: Allocator> Dcel<V, DE, UE, F, A> {
         true
     }
 
+    // Returns whether `edge` comes after `out_edge` on an inner face that is a triangle.
     pub(crate) fn is_sector(
         &self,
         out_edge: FixedDirectedEdgeHandle,
@@ -178,6 +181,7 @@ impl<V, DE, UE, F, A: Allocator> Dcel<V, DE, UE, F, A> {
     }
 }
 
+// Returns whether the list has the item, which is looked for first at this place.
 fn stands_near<Kind, InnerOuter: InnerOuterMarker>(
     items: &[FixedHandleImpl<Kind, InnerOuter>],
     place: usize,

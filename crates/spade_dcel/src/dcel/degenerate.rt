@@ -29,6 +29,7 @@ impl<V, DE, UE, F, A: Allocator> Dcel<V, DE, UE, F, A> {
         self.is_path()
     }
 
+    // Returns whether there is one face, and one or two half edges start at each vertex.
     fn is_path(&self) -> bool
         ensures { IsTrue result ↔ IsPath self.now.shape }
     {
@@ -43,6 +44,7 @@ impl<V, DE, UE, F, A: Allocator> Dcel<V, DE, UE, F, A> {
         true
     }
 
+    // Returns whether one or two half edges start at the vertex: turning twice leads back.
     fn has_few_out_edges(&self, handle: FixedVertexHandle) -> bool
         requires { handle < self.now.shape.vertices }
         ensures { IsTrue result ↔ HasFewOutEdges self.now.shape handle }

@@ -20,6 +20,7 @@ use dcel_fixed::{
 use std::alloc::Allocator;
 
 impl<V, DE, UE, F, A: Allocator> Dcel<V, DE, UE, F, A> {
+    // Returns whether the list is the ring of the region that these faces and edges make up.
     pub(crate) fn is_region_ring(
         &self,
         list: &[FixedDirectedEdgeHandle],
@@ -53,6 +54,7 @@ impl<V, DE, UE, F, A: Allocator> Dcel<V, DE, UE, F, A> {
         self.are_covered(faces, edges, list)
     }
 
+    // Returns whether the faces are inner ones that are live, each listed once.
     fn are_inner_faces(&self, faces: &[FixedFaceHandle<InnerTag>]) -> bool
         ensures { IsTrue result ↔ (((face : ℕ) → count_of face faces.now ≤ 1)
             × ((face : ℕ) → 0 < count_of face faces.now → (0 < face) × (face_is_live self.now.shape face ≡ true))) }
@@ -63,6 +65,7 @@ impl<V, DE, UE, F, A: Allocator> Dcel<V, DE, UE, F, A> {
         self.are_inner(faces)
     }
 
+    // Returns whether each of the faces is an inner one that is live.
     fn are_inner(&self, faces: &[FixedFaceHandle<InnerTag>]) -> bool
         ensures { IsTrue result ↔ ((face : ℕ) → 0 < count_of face faces.now → (0 < face) × (face_is_live self.now.shape face ≡ true)) }
     {
@@ -79,6 +82,7 @@ impl<V, DE, UE, F, A: Allocator> Dcel<V, DE, UE, F, A> {
         true
     }
 
+    // Returns whether each of the edges lies between two of the faces.
     fn lie_between(
         &self,
         edges: &[FixedUndirectedEdgeHandle],
@@ -141,6 +145,8 @@ impl<V, DE, UE, F, A: Allocator> Dcel<V, DE, UE, F, A> {
         self.steps_to(half, first, edges)
     }
 
+    // Returns whether the walk around the region leads from `half` to `following`, which does not
+    // start at the apex.
     fn goes_on(
         &self,
         half: FixedDirectedEdgeHandle,
@@ -158,6 +164,7 @@ impl<V, DE, UE, F, A: Allocator> Dcel<V, DE, UE, F, A> {
         self.origin(following) != apex
     }
 
+    // Returns whether `following` comes after `half` past the edges, and is a half of none.
     fn steps_to(
         &self,
         half: FixedDirectedEdgeHandle,
@@ -174,6 +181,7 @@ impl<V, DE, UE, F, A: Allocator> Dcel<V, DE, UE, F, A> {
         !is_among(edges, &following.as_undirected())
     }
 
+    // Returns whether each half edge of the faces is in the list, or a half of one of the edges.
     fn are_covered(
         &self,
         faces: &[FixedFaceHandle<InnerTag>],
@@ -193,6 +201,7 @@ impl<V, DE, UE, F, A: Allocator> Dcel<V, DE, UE, F, A> {
         true
     }
 
+    // Returns whether each half edge of the face is in the list, or a half of one of the edges.
     fn is_covered(
         &self,
         face: FixedFaceHandle<InnerTag>,
@@ -217,6 +226,7 @@ impl<V, DE, UE, F, A: Allocator> Dcel<V, DE, UE, F, A> {
         true
     }
 
+    // Returns whether the edge is live and lies between two of the faces.
     #[tactic(auto, using(dcel_fixed::proofs::Halves::halves))]
     fn lies_between(
         &self,
@@ -262,6 +272,7 @@ impl<V, DE, UE, F, A: Allocator> Dcel<V, DE, UE, F, A> {
     }
 }
 
+// Returns whether the half edge is in the list, or a half of one of the edges.
 fn is_edge_or_item(
     half: FixedDirectedEdgeHandle,
     edges: &[FixedUndirectedEdgeHandle],
@@ -275,6 +286,7 @@ fn is_edge_or_item(
     is_among(list, &half)
 }
 
+// Returns whether no item is listed twice.
 fn are_different<Kind, InnerOuter: InnerOuterMarker>(
     items: &[FixedHandleImpl<Kind, InnerOuter>],
 ) -> bool
@@ -290,6 +302,7 @@ fn are_different<Kind, InnerOuter: InnerOuterMarker>(
     true
 }
 
+// Returns whether the item is in the list.
 fn is_among<Kind, InnerOuter: InnerOuterMarker>(
     items: &[FixedHandleImpl<Kind, InnerOuter>],
     item: &FixedHandleImpl<Kind, InnerOuter>,

@@ -38,6 +38,8 @@ impl<V, DE, UE, F, A: Allocator> Dcel<V, DE, UE, F, A> {
         self.goes_along(outer_out, others)
     }
 
+    // Returns whether the out edges after `first_out`, in turn until it comes again, lie on inner
+    // triangles with these half edges after them.
     fn goes_along(
         &self,
         first_out: FixedDirectedEdgeHandle,

@@ -17,8 +17,8 @@ use std::marker::Model;
 
 /// The live elements of one kind, borrowed, in the order of their numbers.
 ///
-/// Those that an open removal has given up are passed over; if none is open, these are all elements.
-/// That an element is live is known where it is given, so that a loop needn't test it.
+/// Those that an open removal has given up are passed over; if none is open, these are all
+/// elements. That an element is live is known where it is given, so that a loop needn't test it.
 ///
 /// Use the aliases, such as [`LiveVertexIterator`](crate::iterators::LiveVertexIterator).
 ///

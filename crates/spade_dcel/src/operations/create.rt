@@ -70,6 +70,7 @@ pub fn new_with_fixed_vertices<
     Ok(Dcel { store, removal })
 }
 
+// Makes an empty store with room for this many elements, and a record that no removal is open.
 pub(crate) fn with_room<V: Drop, DE: Drop, UE: Drop, F: Drop, A: Allocator + Clone>(
     alloc: A,
     vertices: usize,

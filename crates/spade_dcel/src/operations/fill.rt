@@ -207,6 +207,7 @@ fn give_up_and_fill<V, DE: Default, UE: Default, F: Default, A: Allocator>(
     Ok(())
 }
 
+// Lists the edges with the numbers from `begin` up to `end`, which is left out.
 fn edges_between<A: Allocator>(
     begin: usize,
     end: usize,

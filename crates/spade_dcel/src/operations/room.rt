@@ -5,7 +5,8 @@ ghost use Rattle.std.specs.Prelude.{◌≡◌, ◌-◌};
 /// How many more elements of each kind a call adds.
 ///
 /// [`has_room_for`](crate::dcel::Dcel::has_room_for) tells whether there are numbers left for them.
-/// Each call that grows has its constant, and those that fill a hole have [`filling`](Self::filling).
+/// Each call that grows has its constant, and those that fill a hole have
+/// [`filling`](Self::filling).
 #[derive(Clone, Copy, PartialEq, Eq, Debug)]
 pub struct Room {
     /// How many more vertices.
@@ -85,7 +86,7 @@ impl Room {
         faces: 1,
     };
 
-    /// Returns what a call adds that fills a hole inside so many half edges.
+    /// Returns what a call adds that fills a hole inside this many half edges.
     ///
     /// The calls are [`isolate_vertex_and_fill_hole`](super::isolate_vertex_and_fill_hole) and
     /// [`remesh_edge_ring`](super::remesh_edge_ring). Three half edges are the least that they

@@ -88,6 +88,7 @@ fn cut<V, DE, UE, F, A: Allocator>(
     Ok(())
 }
 
+// Lists the edge of the half edge before each of these: the spokes of a strip.
 fn edges_before<V, DE, UE, F, A: Allocator + Clone>(
     dcel: &Dcel<V, DE, UE, F, A>,
     list: &[FixedDirectedEdgeHandle],
@@ -104,6 +105,7 @@ fn edges_before<V, DE, UE, F, A: Allocator + Clone>(
     Ok(edges)
 }
 
+// Lists the face of each of these half edges.
 fn faces_beside<V, DE, UE, F, A: Allocator + Clone>(
     dcel: &Dcel<V, DE, UE, F, A>,
     list: &[FixedDirectedEdgeHandle],
