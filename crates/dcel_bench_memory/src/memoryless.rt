@@ -1,15 +1,13 @@
 //! What takes no memory, where every request for it is refused.
 
-use crate::sweep::standing::Quiet;
+use crate::sweep::growing::{CUT, OPEN};
+use crate::sweep::standing::{LINE, Quiet};
 use crate::sweep::{WAYS, Way, make, standing};
 use crate::watched::{Memory, Watched, left_after, made};
 use dcel_bench::checks::{holds, same};
 use dcel_bench::data::{Datum, write_all};
-use dcel_bench::growths::Growth::{Append, Extend, Insert, SetUp, Triangle};
 use dcel_bench::lists::Said;
-use dcel_bench::lists::Said::{Grow, Open};
 use dcel_bench::meshes::{Mesh, half_edge, inner_face, undirected_edge, vertex};
-use dcel_bench::openers::Opener::Isolate;
 use dcel_bench::openers::handles;
 use dcel_bench::pictures::picture_of;
 use dcel_bench::refusing::{Refusals, Refusing};
@@ -53,32 +51,6 @@ const WRITTEN: [(Datum, i64); 6] = [
     (Datum::Edge(5), 305),
     (Datum::Face(0), 400),
     (Datum::InnerFace(3), 403),
-];
-
-/// A triangle that vertex 3 cuts into three, and vertex 4 beside it.
-const CUT: [Said; 4] = [
-    Grow(Triangle(7, -8, 9)),
-    Grow(Append(10)),
-    Grow(Insert(3, 1)),
-    Grow(Append(11)),
-];
-
-/// The same, and vertex 3 is given up.
-const OPEN: [Said; 5] = [
-    Grow(Triangle(7, -8, 9)),
-    Grow(Append(10)),
-    Grow(Insert(3, 1)),
-    Grow(Append(11)),
-    Open(Isolate(3, &[1, 3, 5])),
-];
-
-/// The line 2, 0, 1.
-const LINE: [Said; 5] = [
-    Grow(Append(7)),
-    Grow(Append(-8)),
-    Grow(SetUp(0, 1)),
-    Grow(Append(9)),
-    Grow(Extend(0, 2)),
 ];
 
 const MESHES: [&[Said]; 4] = [&[], &CUT, &OPEN, &LINE];

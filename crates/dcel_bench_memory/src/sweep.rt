@@ -7,7 +7,7 @@
 
 mod after;
 mod flips;
-mod growing;
+pub mod growing;
 mod lines;
 mod links;
 mod lists;

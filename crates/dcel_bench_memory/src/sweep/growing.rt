@@ -24,7 +24,7 @@ const EDGE: [Said; 4] = [
 const TRIANGLE: [Said; 2] = [Grow(Triangle(7, -8, 9)), Grow(Append(10))];
 
 /// A triangle that vertex 3 cuts into three, and vertex 4 beside it.
-const CUT: [Said; 4] = [
+pub const CUT: [Said; 4] = [
     Grow(Triangle(7, -8, 9)),
     Grow(Append(10)),
     Grow(Insert(3, 1)),
@@ -32,7 +32,7 @@ const CUT: [Said; 4] = [
 ];
 
 /// The same, but vertex 3 is given up again; that removal is open.
-const OPEN: [Said; 5] = [
+pub const OPEN: [Said; 5] = [
     Grow(Triangle(7, -8, 9)),
     Grow(Append(10)),
     Grow(Insert(3, 1)),

@@ -52,7 +52,7 @@ pub const CLEANED: [Said; 5] = [
 ];
 
 /// The line 2, 0, 1.
-const LINE: [Said; 5] = [
+pub const LINE: [Said; 5] = [
     Grow(Append(7)),
     Grow(Append(-8)),
     Grow(SetUp(0, 1)),
