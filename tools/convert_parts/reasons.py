@@ -17,7 +17,8 @@ REASONS = [
     (r"no mesh has these faces: the half edges of face 0 are no single loop", None, lambda s: s.loops() > 1),
     (r"no mesh has these faces: the half edges of vertex (\d+) are no single turn", None, lambda s, vertex: s.turns()[vertex] > 1),
     (r"no mesh has these faces: half edge \d+ isn't reached from half edge 0", None, lambda s: s.parts() > 1),
-    (r"no mesh has these faces: vertices with an edge, minus edges, plus faces, are not two", None, lambda s: s.parts() == 1 and s.euler() != 2),
+    (r"no mesh has these faces: the surface has genus (\d+), so it is not a sphere", None,
+     lambda s, genus: genus > 0 and s.parts() == 1 and s.euler() == 2 - 2 * genus),
 ]
 UNREADABLE = "a number of an element is missing or out of range"
 

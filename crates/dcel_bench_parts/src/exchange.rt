@@ -195,7 +195,7 @@ fn other_surfaces_are_told(rt: HostRuntime) -> Result<(), Fail> {
             &[5, 1, 0],
         ],
         7,
-        FacesError::Links(Fault::NotSphere),
+        FacesError::Links(Fault::NotSphere(1)),
     );
     check(
         &rt,
@@ -321,11 +321,11 @@ fn reasons_are_told(rt: HostRuntime) -> Result<(), Fail> {
         text.as_str(),
         "faces 0 and 2 both have the side from 4 to 7"
     );
-    let reason = FacesError::Links(Fault::NotSphere);
+    let reason = FacesError::Links(Fault::NotSphere(2));
     let text = format!(in rt.alloc(); "{reason}")?;
     assert_eq!(rt;
         text.as_str(),
-        "no mesh has these faces: vertices with an edge, minus edges, plus faces, are not two"
+        "no mesh has these faces: the surface has genus 2, so it is not a sphere"
     );
     Ok(())
 }

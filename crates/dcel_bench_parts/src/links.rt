@@ -180,7 +180,7 @@ fn surfaces_are_told(rt: HostRuntime) -> Result<(), Fail> {
         face: &[0, 2, 1, 3, 2, 0, 3, 1, 1, 0, 0, 1, 3, 2, 2, 3],
         vertices: 4,
         faces: 4,
-        wanted: Err(Fault::NotSphere),
+        wanted: Err(Fault::NotSphere(1)),
     };
     let unused = Row {
         next: TRIANGLE,

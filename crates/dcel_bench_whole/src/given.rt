@@ -64,7 +64,7 @@ const REFUSED: [Row; 5] = [
         origin: &[0, 1, 1, 0, 2, 3, 3, 2, 0, 2, 1, 3, 2, 0, 3, 1],
         face: &[0, 2, 1, 3, 2, 0, 3, 1, 1, 0, 0, 1, 3, 2, 2, 3],
         counts: [4, 8, 4],
-        reason: LinksError::Links(Fault::NotSphere),
+        reason: LinksError::Links(Fault::NotSphere(1)),
     },
 ];
 

@@ -27,6 +27,10 @@ abbrev pub anchored_from : ℕ → List ℕ → List (Option ℕ) → List (Opti
 anchored_from h [] anchors = anchors
 anchored_from h (x ∷ rest) anchors = anchored_from (h + 1) rest (slice_set anchors x (Some h))
 
+-- each of so many items anchored at the last half edge that the list labels with it
+abbrev pub last_anchors : List ℕ → ℕ → List (Option ℕ)
+last_anchors labels items = anchored_from 0 labels (replicate items None)
+
 -- the last half edge that the list labels with v, and None where it labels none so
 abbrev pub IsLast : List ℕ → ℕ → Option ℕ → Type 0
 IsLast labels v None = (h : ℕ) → h < length labels → slice_index labels h ≢ v
@@ -60,11 +64,12 @@ module _ {V DE UE F : Type 0} where
   abbrev pub faces_anchored : Lists V DE UE F → List ℕ → Lists V DE UE F
   faces_anchored s face = record s { face_anchors = anchored_from 0 face s.face_anchors }
 
-  -- all that is given, in an empty store
-  abbrev pub mesh_stored : Lists V DE UE F → List ℕ → List ℕ → List ℕ → List ℕ → List V → List (EdgeData DE UE) → List F → Lists V DE UE F
-  mesh_stored s next prev origin face vertices edges faces = record {
+  -- all that is given, with these anchors of vertices and of faces, in an empty store
+  abbrev pub mesh_stored : Lists V DE UE F → List ℕ → List ℕ → List ℕ → List ℕ → List (Option ℕ) → List (Option ℕ)
+      → List V → List (EdgeData DE UE) → List F → Lists V DE UE F
+  mesh_stored s next prev origin face vertex_anchors face_anchors vertices edges faces = record {
     vertex_data = vertices;
-    vertex_anchors = anchored_from 0 origin (replicate (length vertices) None);
+    vertex_anchors = vertex_anchors;
     next = next;
     prev = prev;
     origin = origin;
@@ -72,7 +77,7 @@ module _ {V DE UE F : Type 0} where
     directed_data = halves_data edges;
     undirected_data = edges_data edges;
     face_data = faces;
-    face_anchors = anchored_from 0 face (replicate (length faces) None);
+    face_anchors = face_anchors;
     vertex_room = s.vertex_room - length vertices;
     edge_room = s.edge_room - length edges;
     face_room = s.face_room - length faces;

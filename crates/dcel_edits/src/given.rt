@@ -1,8 +1,8 @@
-//! Edges and faces as lists have them, all at once, and anchors for what is stored.
+//! Vertices, edges and faces as lists have them, all at once, with anchors that are chosen or given.
 
-ghost use Rattle.std.specs.Prelude.{◌≡◌, ◌<◌, ◌≤◌, ◌^◌, length, slice_index, vec_len};
+ghost use Rattle.std.specs.Prelude.{◌≡◌, ◌<◌, ◌≤◌, ◌^◌, None, length, replicate, slice_index, vec_len};
 ghost use Rattle.dcel_store.specs.Lists.{HasPlaces, empty};
-ghost use Rattle.dcel_edits.specs.Given.{AreBelow, AreLists, edges_stored, faces_anchored, faces_stored, mesh_stored, vertices_anchored};
+ghost use Rattle.dcel_edits.specs.Given.{AreBelow, AreLists, edges_stored, faces_anchored, faces_stored, last_anchors, mesh_stored, vertices_anchored};
 
 use crate::create::put_vertices;
 use crate::links::links;
@@ -32,13 +32,70 @@ pub fn put_mesh<V: Drop, DE: Drop, UE: Drop, F: Drop, A: Allocator>(
     requires few { length next.now ≤ 2 ^ 32 }
     requires vertices_below { AreBelow (vec_len vertices) origin.now }
     requires faces_below { AreBelow (vec_len faces) face.now }
-    ensures { store.new ≡ mesh_stored store.old next.now prev.now origin.now face.now vertices.items edges.items faces.items }
+    ensures { store.new ≡ mesh_stored store.old next.now prev.now origin.now face.now
+        (last_anchors origin.now (vec_len vertices)) (last_anchors face.now (vec_len faces)) vertices.items edges.items faces.items }
+{
+    put_without_anchors(store, next, prev, origin, face, vertices, edges, faces);
+    anchor_vertices(store, origin);
+    anchor_faces(store, face);
+}
+
+/// Writes vertices, edges and faces into an empty store, with the links that the lists have and
+/// these anchors.
+pub fn put_anchored_mesh<V: Drop, DE: Drop, UE: Drop, F: Drop, A: Allocator>(
+    store: &mut Store<V, DE, UE, F, A>,
+    next: &[u32],
+    prev: &[u32],
+    origin: &[u32],
+    face: &[u32],
+    vertex_anchors: &[Option<u32>],
+    face_anchors: &[Option<u32>],
+    vertices: Vec<V, A>,
+    edges: Vec<EdgeData<DE, UE>, A>,
+    faces: Vec<F, A>,
+)
+    requires empty { store.old ≡ record empty {
+      vertex_room = store.old.vertex_room;
+      edge_room = store.old.edge_room;
+      face_room = store.old.face_room;
+    } }
+    requires places { HasPlaces store.old (vec_len vertices) (vec_len edges) (vec_len faces) }
+    requires lists { AreLists next.now prev.now origin.now face.now (vec_len edges) }
+    requires vertices_anchored { length vertex_anchors.now ≡ vec_len vertices }
+    requires faces_anchored { length face_anchors.now ≡ vec_len faces }
+    requires few_vertices { vec_len vertices ≤ 2 ^ 32 }
+    requires few_faces { vec_len faces ≤ 2 ^ 32 }
+    ensures { store.new ≡ mesh_stored store.old next.now prev.now origin.now face.now vertex_anchors.now face_anchors.now vertices.items edges.items faces.items }
+{
+    put_without_anchors(store, next, prev, origin, face, vertices, edges, faces);
+    set_vertex_anchors(store, vertex_anchors);
+    set_face_anchors(store, face_anchors);
+}
+
+/// Writes vertices, edges and faces into an empty store, and no anchors.
+fn put_without_anchors<V: Drop, DE: Drop, UE: Drop, F: Drop, A: Allocator>(
+    store: &mut Store<V, DE, UE, F, A>,
+    next: &[u32],
+    prev: &[u32],
+    origin: &[u32],
+    face: &[u32],
+    vertices: Vec<V, A>,
+    edges: Vec<EdgeData<DE, UE>, A>,
+    faces: Vec<F, A>,
+)
+    requires empty { store.old ≡ record empty {
+      vertex_room = store.old.vertex_room;
+      edge_room = store.old.edge_room;
+      face_room = store.old.face_room;
+    } }
+    requires places { HasPlaces store.old (vec_len vertices) (vec_len edges) (vec_len faces) }
+    requires lists { AreLists next.now prev.now origin.now face.now (vec_len edges) }
+    ensures { store.new ≡ mesh_stored store.old next.now prev.now origin.now face.now
+        (replicate (vec_len vertices) None) (replicate (vec_len faces) None) vertices.items edges.items faces.items }
 {
     put_vertices(store, vertices);
     put_edges(store, next, prev, origin, face, edges);
     put_faces(store, faces);
-    anchor_vertices(store, origin);
-    anchor_faces(store, face);
 }
 
 /// Appends an edge for each datum, with the links that the lists have for its half edges.
@@ -96,6 +153,45 @@ fn anchor_faces<V, DE, UE, F, A: Allocator>(store: &mut Store<V, DE, UE, F, A>, 
     for half in 0..face.len() {
         let number = FixedFaceHandle::new(face[half] as usize);
         store.set_face_anchor(number, Some(FixedDirectedEdgeHandle::new(half)));
+    }
+}
+
+/// Sets the anchor of each vertex.
+fn set_vertex_anchors<V, DE, UE, F, A: Allocator>(
+    store: &mut Store<V, DE, UE, F, A>,
+    anchors: &[Option<u32>],
+)
+    requires each { length anchors.now ≡ length store.old.vertex_anchors }
+    requires few { length anchors.now ≤ 2 ^ 32 }
+    ensures { store.new ≡ record store.old { vertex_anchors = anchors.now } }
+{
+    for number in 0..anchors.len() {
+        store.set_vertex_anchor(FixedVertexHandle::new(number), anchor(anchors[number]));
+    }
+}
+
+/// Sets the anchor of each face.
+fn set_face_anchors<V, DE, UE, F, A: Allocator>(
+    store: &mut Store<V, DE, UE, F, A>,
+    anchors: &[Option<u32>],
+)
+    requires each { length anchors.now ≡ length store.old.face_anchors }
+    requires few { length anchors.now ≤ 2 ^ 32 }
+    ensures { store.new ≡ record store.old { face_anchors = anchors.now } }
+{
+    for number in 0..anchors.len() {
+        store.set_face_anchor(FixedFaceHandle::new(number), anchor(anchors[number]));
+    }
+}
+
+// An anchor that is given by number.
+#[inline]
+fn anchor(half: Option<u32>) -> Option<FixedDirectedEdgeHandle>
+    ensures { result ≡ half }
+{
+    match half {
+        Some(half) => Some(FixedDirectedEdgeHandle::new(half as usize)),
+        None => None,
     }
 }
 

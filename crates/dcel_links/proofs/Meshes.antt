@@ -1,9 +1,9 @@
 -- The links of a mesh are those of a claim that passes.
-use Rattle.std.proofs.Common.{◌≡◌, ◌≢◌, inl, inr, ℕ, zero, suc, ◌*◌, ◌/◌, ◌<◌, ◌≤◌, true, false, List, [], ◌∷◌, length, slice_index, refl, sym, ap, ◌∙◌, subst, arith}
+use Rattle.std.proofs.Common.{◌≡◌, ◌≢◌, inl, inr, ℕ, zero, suc, ◌/◌, ◌<◌, true, false, List, [], ◌∷◌, length, slice_index, refl, sym, ap, ◌∙◌, arith}
 use Rattle.std.proofs.lemmas.Bool.{both_ways}
-use Rattle.dcel_maps.specs.Maps.{Live, Map}
-use Rattle.dcel_maps.specs.Removals.{Closed, gives_up_edge, gives_up_face, is_live}
-use Rattle.dcel_maps.specs.Shapes.{IsLive, IsMesh, IsSound, Mesh, Shape, edge_is_live, face_count, face_is_live, face_of, map_of, prev_of}
+use Rattle.dcel_maps.specs.Maps.{Map}
+use Rattle.dcel_maps.specs.Removals.{gives_up_edge, gives_up_face}
+use Rattle.dcel_maps.specs.Shapes.{IsLive, IsMesh, Mesh, Shape, edge_is_live, face_count, face_of, map_of, prev_of}
 use Rattle.dcel_maps.specs.Words.{word_of}
 use Rattle.dcel_maps.specs.theory.Sound.{Sound, has_word}
 use Rattle.dcel_maps.proofs.Liveness.{closed-live, gives_up_face-closed, is_live-from, is_live-parts}

@@ -103,7 +103,7 @@ module _ (c : Claim) (prev : List ℕ) (mesh : IsMeshOf c prev) where
   refutes (VertexInParts v) m = no_vertex_in_parts v m
   refutes (UnusedFace f) m = no_unused f m
   refutes (NotConnected h) m = no_cut_off h m
-  refutes NotSphere m = no_sphere m
+  refutes (NotSphere genus) m = no_sphere m.0
 
 -- and there is one list backwards at most
 pub only_prev : (c : Claim) (prev other : List ℕ) → IsMeshOf c prev → IsMeshOf c other → other ≡ prev

@@ -33,7 +33,7 @@ rules_out c k passes (VertexInParts v) less m =
 rules_out c k passes (UnusedFace f) less m =
     let (h, below, at) = passes.found 9 less f m.below m.wanted in m.empty h below at
 rules_out c k passes (NotConnected h) less m = m.apart (passes.found 10 less h m.below)
-rules_out c k passes NotSphere less m = m.euler (passes.found 11 less m.some_edge)
+rules_out c k passes (NotSphere genus) less m = m.0.euler (passes.found 11 less m.0.some_edge)
 
 -- one stage more
 pub passes_none : (c : Claim) → Passes c 0

@@ -1,9 +1,9 @@
 -- What marks on faces and a count say of a claim.
-use Rattle.std.proofs.Common.{◌≡◌, ◌≢◌, ◌⊎◌, ℕ, ◌+◌, ◌/◌, ◌<◌, ◌≤◌, Bool, false, List, length, get_or, sym, ◌∙◌, arith}
+use Rattle.std.proofs.Common.{◌≡◌, ◌≢◌, ◌⊎◌, ℕ, ◌+◌, ◌-◌, ◌/◌, ◌<◌, ◌≤◌, Bool, false, List, length, get_or, sym, ap, ◌∙◌, arith}
 use Rattle.dcel_maps.specs.Maps.{count}
 use Rattle.dcel_links.specs.Checks.{HasEuler, HasRounds, UsesFaces}
 use Rattle.dcel_links.specs.Claims.{Claim, halves}
-use Rattle.dcel_links.specs.Faults.{IsNoSphere, IsUnused}
+use Rattle.dcel_links.specs.Faults.{IsNoSphere, IsUnused, genus_of}
 use Rattle.dcel_links.specs.Marks.{Marked, MarksLabels}
 use Rattle.dcel_links.proofs.Claiming.{counts_agree}
 
@@ -32,3 +32,6 @@ module _ (c : Claim) (rounds : HasRounds c) (vertices faces : List Bool) (v : Ma
     some_edge = some;
     euler = λ e. d (sym (counts_agree c rounds vertices faces v f) ∙ e);
   }
+
+  pub genus_counted : (halves c / 2 + 2 - (count (λ k. get_or vertices k false) c.vertices + count (λ k. get_or faces k false) c.faces)) / 2 ≡ genus_of c
+  genus_counted = ap (λ n. (halves c / 2 + 2 - n) / 2) (sym (counts_agree c rounds vertices faces v f))

@@ -1,5 +1,5 @@
 -- What each fault says of a claim, and in which order faults are looked for.
-use Rattle.std.specs.Prelude.{◌≡◌, ◌≢◌, ◌⊎◌, ℕ, ◌+◌, ◌/◌, ◌<◌, ◌≤◌, List, [], length, slice_index}
+use Rattle.std.specs.Prelude.{◌≡◌, ◌≢◌, ◌⊎◌, ℕ, ◌+◌, ◌-◌, ◌/◌, ◌<◌, ◌≤◌, List, [], length, slice_index}
 use Rattle.dcel_fixed.specs.HalfEdges.{rev}
 use Rattle.dcel_maps.specs.Maps.{By, NextOrRev, Reaches, count, starts_edge}
 use Rattle.dcel_maps.specs.theory.Sound.{has_word}
@@ -47,6 +47,10 @@ pub record IsNoSphere (c : Claim) : Type 0 where
   pub some_edge : 0 < halves c
   pub euler : count (starts_edge (claimed_map c [])) c.vertices + count (has_word (claimed_map c [])) c.faces ≢ halves c / 2 + 2
 
+-- Euler's formula: half of what vertices with a half edge, and faces with one, lack to two more than the edges
+abbrev pub genus_of : Claim → ℕ
+genus_of c = (halves c / 2 + 2 - (count (starts_edge (claimed_map c [])) c.vertices + count (has_word (claimed_map c [])) c.faces)) / 2
+
 abbrev pub Means : Claim → Fault → Type 0
 Means c Lengths = ¬ HasLists c
 Means c TooMany = ¬ IsFew c
@@ -63,7 +67,7 @@ Means c (FaceInParts f) = InParts (halves c) (λ h. slice_index c.next h) (λ h.
 Means c (VertexInParts v) = InParts (halves c) (turned c.next) (λ h. slice_index c.origin h) v
 Means c (UnusedFace f) = IsUnused c f
 Means c (NotConnected h) = IsCutOff c h
-Means c NotSphere = IsNoSphere c
+Means c (NotSphere genus) = IsNoSphere c × (genus ≡ genus_of c)
 
 -- faults of an earlier stage are looked for first
 abbrev pub stage : Fault → ℕ
@@ -82,7 +86,7 @@ stage (FaceInParts f) = 7
 stage (VertexInParts v) = 8
 stage (UnusedFace f) = 9
 stage (NotConnected h) = 10
-stage NotSphere = 11
+stage (NotSphere genus) = 11
 
 -- this is wrong, and nothing that is looked for before
 pub record IsFirst (c : Claim) (fault : Fault) : Type 0 where

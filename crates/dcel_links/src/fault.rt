@@ -54,7 +54,8 @@ pub enum Fault {
     /// This half edge isn't reached from half edge 0.
     #[error("half edge {0} isn't reached from half edge 0")]
     NotConnected(usize),
-    /// Euler's formula doesn't give the sphere.
-    #[error("vertices with an edge, minus edges, plus faces, are not two")]
-    NotSphere,
+    /// The surface has this genus, by Euler's formula: vertices with an edge, minus edges, plus
+    /// faces with one, are two minus twice the genus.
+    #[error("the surface has genus {0}, so it is not a sphere")]
+    NotSphere(usize),
 }

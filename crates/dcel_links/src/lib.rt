@@ -4,7 +4,8 @@
 //! Files, other languages and tests hold meshes in this way. [`check_links`] decides whether such
 //! lists are the links of a mesh, as `dcel_maps` has it, and if not says what is wrong: the first
 //! [`Fault`] in a fixed order. The two halves of an edge stand side by side: half edges 0 and 1 are
-//! edge 0, 2 and 3 edge 1, and so on. Face 0 is the outer face.
+//! edge 0, 2 and 3 edge 1, and so on. Face 0 is the outer face. [`find_wrong_anchor`] looks at half
+//! edges that are given for vertices or faces.
 #![tactic(auto)]
 
 ghost use Rattle.std.specs.Prelude.{◌≡◌, ℕ, IfErr, IfOk, List};
@@ -12,6 +13,7 @@ ghost use Rattle.dcel_fixed.specs.HalfEdges.{rev};
 ghost use Rattle.dcel_links.specs.Claims.{IsMeshOf, claim};
 ghost use Rattle.dcel_links.specs.Faults.{IsFirst};
 
+mod anchors;
 mod fault;
 mod links;
 mod marks;
@@ -20,6 +22,7 @@ mod search;
 mod sizes;
 mod whole;
 
+pub use anchors::find_wrong_anchor;
 pub use fault::Fault;
 use std::alloc::{AllocError, Allocator};
 use whole::{check_all, check_each};

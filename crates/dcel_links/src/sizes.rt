@@ -1,6 +1,6 @@
 //! How many there are of each kind, and Euler's formula.
 
-ghost use Rattle.std.specs.Prelude.{◌≡◌, ◌+◌, ◌/◌, ◌<◌, ◌≤◌, ◌^◌, ◌↔◌, IfErr, IsTrue, OnOk};
+ghost use Rattle.std.specs.Prelude.{◌≡◌, ◌+◌, ◌-◌, ◌/◌, ◌<◌, ◌≤◌, ◌^◌, ◌↔◌, IfErr, IsTrue, OnOk};
 ghost use Rattle.dcel_links.specs.Checks.{Passes};
 ghost use Rattle.dcel_links.specs.Claims.{HasLists, IsFew, claim};
 ghost use Rattle.dcel_links.specs.Faults.{Means, stage};
@@ -63,4 +63,14 @@ pub(crate) fn is_sphere(vertices: usize, half_edges: usize, faces: usize) -> boo
     ensures { IsTrue result ↔ (vertices + faces ≡ half_edges / 2 + 2) }
 {
     vertices + faces == half_edges / 2 + 2
+}
+
+/// Returns the genus of a connected surface of so many vertices, half edges and faces.
+#[inline]
+pub(crate) fn genus(vertices: usize, half_edges: usize, faces: usize) -> usize
+    requires few_vertices { vertices ≤ 2 ^ 32 }
+    requires few_faces { faces ≤ 2 ^ 32 }
+    ensures { result ≡ (half_edges / 2 + 2 - (vertices + faces)) / 2 }
+{
+    (half_edges / 2 + 2).saturating_sub(vertices + faces) / 2
 }

@@ -11,7 +11,7 @@ use crate::links::{find_out_of_range, find_two_leading, find_unfit, write_turns}
 use crate::marks::{count_marks, find_unmarked};
 use crate::rounds::find_parts;
 use crate::search::find_cut_off;
-use crate::sizes::{find_wrong_sizes, is_sphere};
+use crate::sizes::{find_wrong_sizes, genus, is_sphere};
 
 /// Checks the links one by one, and makes the list of links backwards.
 pub(crate) fn check_each(
@@ -163,7 +163,7 @@ fn check_surface(
     let vertices = count_marks(used_vertices);
     let faces = count_marks(used_faces);
     if !is_sphere(vertices, next.len(), faces) {
-        return Err(Fault::NotSphere);
+        return Err(Fault::NotSphere(genus(vertices, next.len(), faces)));
     }
     Ok(())
 }

@@ -1,20 +1,20 @@
 -- The links of a claim that passes, written into a store, hold a mesh that has them; no mesh has those of one that is refused.
-use Rattle.std.proofs.Common.{◌≡◌, ◌≢◌, ℕ, ◌*◌, ◌/◌, ◌<◌, ◌≤◌, ◌^◌, true, List, [], ◌∷◌, length, replicate, slice_index, slice_index_or, Option, Some, None, refl, sym, ap, ◌∙◌, subst, subst₂, arith}
+use Rattle.std.proofs.Common.{◌≡◌, ℕ, ◌*◌, ◌/◌, ◌<◌, true, List, [], ◌∷◌, length, replicate, slice_index, slice_index_or, Option, Some, None, refl, sym, ap, ◌∙◌, subst, arith}
 use Rattle.std.proofs.lemmas.List.{length-map, length-replicate}
 use Rattle.dcel_store.specs.Lists.{Lists}
 use Rattle.dcel_store.specs.declared.EdgeData.{EdgeData}
 use Rattle.dcel_maps.specs.Maps.{Live, Map}
 use Rattle.dcel_maps.specs.Removals.{Closed, Removal, gives_up_edge}
 use Rattle.dcel_maps.specs.theory.Sound.{Sound, Sphere, has_word}
-use Rattle.dcel_maps.specs.theory.Standing.{Stands}
 use Rattle.dcel_maps.proofs.Liveness.{gives_up_edge-closed}
 use Rattle.dcel_maps.proofs.Shown.{shown-kept}
 use Rattle.dcel_maps.proofs.maps.Labels.{Labelled}
 use Rattle.dcel_maps.proofs.words.Reading.{face_in-is, next_in-is}
-use Rattle.dcel_edits.specs.Given.{AreBelow, IsLast, edges_data, halves_data, mesh_stored}
+use Rattle.dcel_edits.specs.Given.{AreBelow, IsLast, edges_data, halves_data, last_anchors, mesh_stored}
 use Rattle.dcel_edits.specs.Stored.{IsStored, mesh_of, stored_map, stored_words}
 use Rattle.dcel_edits.proofs.Anchoring.{anchored_last, length-anchored}
 use Rattle.dcel_edits.proofs.stored.Given.{IsGiven, given_stored}
+use Rattle.dcel_links.specs.Anchors.{AreAnchors, IsAnchor, anchor_of}
 use Rattle.dcel_links.specs.Claims.{Claim, IsMeshOf, claim, claimed_map, halves}
 use Rattle.dcel_links.specs.Meshes.{IsLinked, NoMesh}
 use Rattle.dcel_links.proofs.Claiming.{is_below, is_half}
@@ -37,13 +37,47 @@ length-halves : {DE UE : Type 0} (edges : List (EdgeData DE UE)) → length (hal
 length-halves [] = refl
 length-halves (e ∷ rest) = omega (arith, length-halves rest)
 
-module _ {V DE UE F : Type 0} (s : Lists V DE UE F) (next prev origin face : List ℕ) (vertices : List V) (edges : List (EdgeData DE UE)) (faces : List F)
-    (mesh : IsMeshOf (claim next origin face (length vertices) (length faces)) prev) (as_many : length next / 2 ≡ length edges) where
+-- the anchors that are given for so many vertices and faces are right
+pub record Anchored (origin face : List ℕ) (vertex_anchors face_anchors : List (Option ℕ)) (vertices faces : ℕ) : Type 0 where
+  pub of_vertices : length vertex_anchors ≡ vertices
+  pub of_faces : length face_anchors ≡ faces
+  pub vertices_right : AreAnchors origin vertex_anchors
+  pub faces_right : AreAnchors face face_anchors
+
+-- and so is the last half edge of each
+last_is : (labels : List ℕ) (v : ℕ) (o : Option ℕ) → IsLast labels v o → IsAnchor labels v o
+last_is labels v None none = none
+last_is labels v (Some h) last = (last.0, last.1)
+
+length-last : (labels : List ℕ) (n : ℕ) → length (last_anchors labels n) ≡ n
+length-last labels n = length-anchored 0 labels (replicate n None) ∙ length-replicate n None
+
+last_right : (labels : List ℕ) (n : ℕ) → AreAnchors labels (last_anchors labels n)
+last_right labels n v below =
+    last_is labels v (anchor_of (last_anchors labels n) v) (anchored_last labels n v (omega (arith, length-last labels n)))
+
+pub lasts_anchored : (origin face : List ℕ) (a b vertices faces : ℕ) → a ≡ vertices → b ≡ faces
+    → Anchored origin face (last_anchors origin a) (last_anchors face b) vertices faces
+lasts_anchored origin face a b vertices faces v f = record {
+  of_vertices = length-last origin a ∙ v;
+  of_faces = length-last face b ∙ f;
+  vertices_right = last_right origin a;
+  faces_right = last_right face b;
+}
+
+pub stays_last : (labels : List ℕ) (n v : ℕ) (anchors : List (Option ℕ)) → anchors ≡ last_anchors labels n → v < n → IsLast labels v (slice_index_or anchors v None)
+stays_last labels n v anchors same below =
+    subst (λ (list : List (Option ℕ)). IsLast labels v (slice_index_or list v None)) (sym same) (anchored_last labels n v below)
+
+module _ {V DE UE F : Type 0} (s : Lists V DE UE F) (next prev origin face : List ℕ) (vertex_anchors face_anchors : List (Option ℕ))
+    (vertices : List V) (edges : List (EdgeData DE UE)) (faces : List F)
+    (mesh : IsMeshOf (claim next origin face (length vertices) (length faces)) prev) (as_many : length next / 2 ≡ length edges)
+    (right : Anchored origin face vertex_anchors face_anchors (length vertices) (length faces)) where
   abbrev c : Claim
   c = claim next origin face (length vertices) (length faces)
 
   abbrev t : Lists V DE UE F
-  t = mesh_stored s next prev origin face vertices edges faces
+  t = mesh_stored s next prev origin face vertex_anchors face_anchors vertices edges faces
 
   abbrev T : Map
   T = claimed_map c prev
@@ -58,27 +92,20 @@ module _ {V DE UE F : Type 0} (s : Lists V DE UE F) (next prev origin face : Lis
   same : stored_map t Closed ≡ T
   same = rw edges_long refl
 
-  -- the last half edge with a label is an anchor
-  labelled : (labels : List ℕ) → length labels ≡ halves c → (v : ℕ) (o : Option ℕ) → IsLast labels v o → Labelled T (λ h. slice_index labels h) v o
+  labelled : (labels : List ℕ) → length labels ≡ halves c → (v : ℕ) (o : Option ℕ) → IsAnchor labels v o → Labelled T (λ h. slice_index labels h) v o
   labelled labels long v None none = λ h live at. none h (let below = is_below c prev h live in omega arith) at
-  labelled labels long v (Some h) last = (is_half c prev h mesh.lists.even (omega (arith, last.0)), last.1)
-
-  pub vertex_last : (v : ℕ) → v < length vertices → IsLast origin v (slice_index_or t.vertex_anchors v None)
-  vertex_last v below = anchored_last origin (length vertices) v below
-
-  pub face_last : (f : ℕ) → f < length faces → IsLast face f (slice_index_or t.face_anchors f None)
-  face_last f below = anchored_last face (length faces) f below
+  labelled labels long v (Some h) here = (is_half c prev h mesh.lists.even (omega (arith, here.0)), here.1)
 
   is_given : IsGiven t
   is_given = record {
     lengths = record {
-      of_vertex_anchors = length-anchored 0 origin (replicate (length vertices) None) ∙ length-replicate (length vertices) None;
+      of_vertex_anchors = right.of_vertices;
       of_next = twice ∙ ap (λ n. 2 * n) (sym (length-map edges (λ e. e.undirected)));
       of_prev = mesh.backwards;
       of_origin = mesh.lists.origins;
       of_face = mesh.lists.sides;
       of_directed_data = length-halves edges ∙ sym twice;
-      of_face_anchors = length-anchored 0 face (replicate (length faces) None) ∙ length-replicate (length faces) None;
+      of_face_anchors = right.of_faces;
     };
     few_vertices = mesh.few.vertices;
     few_edges = let few = mesh.few.half_edges in omega (arith, edges_long);
@@ -88,10 +115,10 @@ module _ {V DE UE F : Type 0} (s : Lists V DE UE F) (next prev origin face : Lis
     sphere = subst Sphere (sym same) mesh.sphere;
     vertices = λ v below.
         subst (λ (M : Map). Labelled M M.origin v (slice_index_or t.vertex_anchors v None)) (sym same)
-        (labelled origin mesh.lists.origins v (slice_index_or t.vertex_anchors v None) (vertex_last v below));
+        (labelled origin mesh.lists.origins v (slice_index_or t.vertex_anchors v None) (right.vertices_right v (let as_long = right.of_vertices in omega arith)));
     faces = λ f below.
         subst (λ (M : Map). Labelled M M.face f (slice_index_or t.face_anchors f None)) (sym same)
-        (labelled face mesh.lists.sides f (slice_index_or t.face_anchors f None) (face_last f below));
+        (labelled face mesh.lists.sides f (slice_index_or t.face_anchors f None) (right.faces_right f (let as_long = right.of_faces in omega arith)));
     inner = λ f inside below. subst (λ (M : Map). has_word M f ≡ true) (sym same) (mesh.inner f inside below);
     outer = λ some. subst (λ (M : Map). has_word M 0 ≡ true) (sym same) (mesh.outer (omega (arith, edges_long)));
   }
@@ -117,32 +144,29 @@ module _ {V DE UE F : Type 0} (s : Lists V DE UE F) (next prev origin face : Lis
         face = λ h below. face_in-is (stored_map t Closed) (stored_words t) stands h (live h below);
       }
 
--- lists that hold a mesh with the links of the claim, each anchor of which is the last half edge
-pub record Made {V DE UE F : Type 0} (t : Lists V DE UE F) (r : Removal) (c : Claim) : Type 0 where
+-- lists that hold a mesh with the links of the claim and these anchors
+pub record Made {V DE UE F : Type 0} (t : Lists V DE UE F) (r : Removal) (c : Claim) (vertex_anchors face_anchors : List (Option ℕ)) : Type 0 where
   pub stored : IsStored t r
   pub linked : IsLinked (mesh_of t r).shape c
-  pub vertices : (v : ℕ) → v < c.vertices → IsLast c.origin v (slice_index_or t.vertex_anchors v None)
-  pub faces : (f : ℕ) → f < c.faces → IsLast c.face f (slice_index_or t.face_anchors f None)
+  pub vertices : t.vertex_anchors ≡ vertex_anchors
+  pub faces : t.face_anchors ≡ face_anchors
 
-pub made : {V DE UE F : Type 0} (s t : Lists V DE UE F) (r : Removal) (next prev origin face : List ℕ) (vertices : List V) (edges : List (EdgeData DE UE)) (faces : List F)
-    → IsMeshOf (claim next origin face (length vertices) (length faces)) prev → length next / 2 ≡ length edges
-    → t ≡ mesh_stored s next prev origin face vertices edges faces → r ≡ Closed → Made t r (claim next origin face (length vertices) (length faces))
-made {V} {DE} {UE} {F} s t r next prev origin face vertices edges faces mesh as_many written closed =
+pub made : {V DE UE F : Type 0} (s t : Lists V DE UE F) (r : Removal) (next prev back origin face : List ℕ) (vertex_anchors face_anchors : List (Option ℕ))
+    (vertices : List V) (edges : List (EdgeData DE UE)) (faces : List F)
+    → IsMeshOf (claim next origin face (length vertices) (length faces)) prev → back ≡ prev → length next / 2 ≡ length edges
+    → Anchored origin face vertex_anchors face_anchors (length vertices) (length faces)
+    → t ≡ mesh_stored s next back origin face vertex_anchors face_anchors vertices edges faces → r ≡ Closed
+    → Made t r (claim next origin face (length vertices) (length faces)) vertex_anchors face_anchors
+made {V} {DE} {UE} {F} s t r next prev back origin face vertex_anchors face_anchors vertices edges faces mesh same as_many right written closed =
     let c : Claim = claim next origin face (length vertices) (length faces) in
-    let here : Made (mesh_stored s next prev origin face vertices edges faces) Closed c =
+    let here : Made (mesh_stored s next prev origin face vertex_anchors face_anchors vertices edges faces) Closed c vertex_anchors face_anchors =
     record {
-      stored = linked_stored s next prev origin face vertices edges faces mesh as_many;
-      linked = linked_is s next prev origin face vertices edges faces mesh as_many;
-      vertices = vertex_last s next prev origin face vertices edges faces mesh as_many;
-      faces = face_last s next prev origin face vertices edges faces mesh as_many;
+      stored = linked_stored s next prev origin face vertex_anchors face_anchors vertices edges faces mesh as_many right;
+      linked = linked_is s next prev origin face vertex_anchors face_anchors vertices edges faces mesh as_many right;
+      vertices = refl;
+      faces = refl;
     } in
-    subst (λ q. Made t q c) (sym closed) (subst (λ (u : Lists V DE UE F). Made u Closed c) (sym written) here)
-
--- the same, with how many there are and the list backwards as a caller has them
-pub made_of : {V DE UE F : Type 0} (s t : Lists V DE UE F) (r : Removal) (next prev back origin face : List ℕ) (vertices : List V) (edges : List (EdgeData DE UE)) (faces : List F) (a b : ℕ)
-    → IsMeshOf (claim next origin face a b) prev → a ≡ length vertices → b ≡ length faces → back ≡ prev → length next / 2 ≡ length edges
-    → t ≡ mesh_stored s next back origin face vertices edges faces → r ≡ Closed → Made t r (claim next origin face (length vertices) (length faces))
-made_of {V} {DE} {UE} {F} s t r next prev back origin face vertices edges faces a b mesh v f same as_many written closed =
-    made s t r next back origin face vertices edges faces
-    (subst₂ (λ (n m : ℕ). IsMeshOf (claim next origin face n m) back) v f (subst (IsMeshOf (claim next origin face a b)) (sym same) mesh))
-    as_many written closed
+    let written_so : t ≡ mesh_stored s next prev origin face vertex_anchors face_anchors vertices edges faces =
+    written ∙ ap (λ list. mesh_stored s next list origin face vertex_anchors face_anchors vertices edges faces) same in
+    subst (λ q. Made t q c vertex_anchors face_anchors) (sym closed)
+    (subst (λ (u : Lists V DE UE F). Made u Closed c vertex_anchors face_anchors) (sym written_so) here)

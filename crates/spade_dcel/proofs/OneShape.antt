@@ -1,8 +1,7 @@
 -- Two meshes that have the same links have one shape.
-use Rattle.std.proofs.Common.{◌≡◌, ℕ, ◌*◌, ◌/◌, ◌<◌, ◌≤◌, List, length, slice_index, slice_index_or, None, refl, sym, ap, ◌∙◌, arith}
+use Rattle.std.proofs.Common.{◌≡◌, ℕ, ◌*◌, ◌/◌, ◌<◌, length, slice_index, slice_index_or, None, refl, sym, ap, ◌∙◌, arith}
 use Rattle.dcel_maps.specs.Removals.{gives_up_edge}
-use Rattle.dcel_maps.specs.Shapes.{AnchorsWord, IsLive, IsMesh, IsSound, Mesh, Shape, edge_is_live, face_count, face_of, map_of, next_of, prev_of}
-use Rattle.dcel_maps.specs.Walks.{anchored_words}
+use Rattle.dcel_maps.specs.Shapes.{AnchorsWord, IsLive, IsMesh, Mesh, edge_is_live, face_count, map_of, next_of, prev_of}
 use Rattle.dcel_maps.specs.Words.{word_of}
 use Rattle.dcel_maps.specs.theory.Standing.{Stands}
 use Rattle.dcel_maps.proofs.Liveness.{is_live-parts}

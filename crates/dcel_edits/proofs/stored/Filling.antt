@@ -1,5 +1,5 @@
 -- Lists that are written as the hole of a vertex is filled hold the mesh with the hole filled.
-use Rattle.std.proofs.Common.{◌≡◌, inl, inr, ◌+◌, ◌-◌, ◌*◌, ◌/◌, ◌<◌, ◌≤◌, ℕ, Bool, zero, suc, cond, false, List, [], ◌∷◌, ◌++◌, length, reverse, slice_index, sym, refl, ap, ◌∙◌, subst, arith}
+use Rattle.std.proofs.Common.{◌≡◌, inl, inr, ◌+◌, ◌-◌, ◌*◌, ◌/◌, ◌<◌, ◌≤◌, ℕ, Bool, zero, suc, cond, false, List, [], ◌∷◌, ◌++◌, length, slice_index, sym, refl, ap, ◌∙◌, subst, arith}
 use Rattle.std.proofs.lemmas.Bool.{cases_lt, false_from_ne_true}
 use Rattle.std.proofs.lemmas.List.{ext_get_or, get_or-append-add, get_or_append_left, length-append}
 use Rattle.dcel_store.specs.Lists.{Lists, LengthsAgree}

@@ -1,15 +1,15 @@
 -- Lists that were given hold a mesh where their map is sound and a sphere, and their anchors are right.
-use Rattle.std.proofs.Common.{◌≡◌, ◌≢◌, ℕ, ◌*◌, ◌/◌, ◌<◌, ◌≤◌, ◌^◌, true, List, [], ◌∷◌, length, slice_index_or, Option, Some, None, refl, sym, ap, ◌∙◌, subst, arith}
+use Rattle.std.proofs.Common.{◌≡◌, ◌≢◌, ℕ, ◌/◌, ◌<◌, ◌≤◌, ◌^◌, true, List, [], ◌∷◌, length, slice_index_or, Option, Some, None, refl, sym, ap, ◌∙◌, subst, arith}
 use Rattle.std.proofs.lemmas.Bool.{false≢true}
 use Rattle.std.proofs.lemmas.List.{get_or-map, length-map}
 use Rattle.dcel_store.specs.Lists.{Lists, LengthsAgree}
 use Rattle.dcel_maps.specs.Cyclic.{from_least}
 use Rattle.dcel_maps.specs.Maps.{By, Live, Map, Starts}
-use Rattle.dcel_maps.specs.Removals.{Closed, Removal, gives_up_edge, gives_up_face, gives_up_vertex}
+use Rattle.dcel_maps.specs.Removals.{Closed, Removal, gives_up_edge}
 use Rattle.dcel_maps.specs.Shapes.{Shape}
 use Rattle.dcel_maps.specs.Walking.{IsLawful, IsUnderWay, StepsTo}
 use Rattle.dcel_maps.specs.Walks.{anchored_word, anchored_words}
-use Rattle.dcel_maps.specs.theory.Cycles.{IsCycle, Path}
+use Rattle.dcel_maps.specs.theory.Cycles.{Path}
 use Rattle.dcel_maps.specs.theory.Sound.{Sound, Sphere, has_word}
 use Rattle.dcel_maps.specs.theory.Standing.{Follows, Stands}
 use Rattle.dcel_maps.proofs.Liveness.{IsWithin-closed, gives_up_face-closed, gives_up_vertex-closed, is_live-parts}

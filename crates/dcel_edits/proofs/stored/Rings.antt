@@ -1,12 +1,11 @@
 -- The hole inside a border, whose ring is read from the border's end: it can be filled, and the lists hold the mesh with the hole filled.
-use Rattle.std.proofs.Common.{◌≡◌, ◌↔◌, ℕ, suc, ◌+◌, ◌-◌, ◌<◌, true, List, [], ◌∷◌, ◌++◌, length, reverse, slice_index, Option, refl, sym, ap, ◌∙◌, subst, arith}
+use Rattle.std.proofs.Common.{◌≡◌, ℕ, suc, ◌+◌, ◌-◌, List, [], ◌∷◌, ◌++◌, length, reverse, slice_index, Option, refl, sym, ap, ◌∙◌, subst, arith}
 use Rattle.std.proofs.lemmas.List.{length-append, length-reverse, reverse-append}
 use Rattle.dcel_store.specs.Lists.{HasPlaces, Lists}
 use Rattle.dcel_maps.specs.Conditions.{HasRoom}
 use Rattle.dcel_maps.specs.Regions.{LiesInside}
 use Rattle.dcel_maps.specs.Removals.{Closed, Removal, opened_with}
 use Rattle.dcel_maps.specs.Shapes.{Mesh, face_count}
-use Rattle.dcel_maps.specs.Words.{count_of}
 use Rattle.dcel_maps.specs.edits.Fill.{border_filled, loop_filled}
 use Rattle.dcel_maps.proofs.removal.Hollows.{HollowOf}
 use Rattle.dcel_maps.proofs.removal.Insides.{inside_hollow, opened_with-faces, opened_with-vertex}

@@ -1,19 +1,22 @@
-//! A mesh made from links that are given as lists.
+//! A mesh made from links that are given as lists, with anchors that are chosen or given.
 
-ghost use Rattle.std.specs.Prelude.{◌≡◌, ℕ, ◌<◌, IfErr, IfOk, length};
+ghost use Rattle.std.specs.Prelude.{◌≡◌, ◌↔◌, ℕ, ◌/◌, ◌<◌, IfErr, IfOk, IsTrue, OnOk, length};
 ghost use Rattle.dcel_edits.specs.Given.{IsLast, edges_data, halves_data};
-ghost use Rattle.dcel_links.specs.Claims.{claim};
+ghost use Rattle.dcel_links.specs.Anchors.{AreAnchors};
+ghost use Rattle.dcel_links.specs.Claims.{IsMeshOf, claim};
 ghost use Rattle.dcel_links.specs.Meshes.{IsLinked};
 ghost use Rattle.dcel_maps.specs.Shapes.{IsMesh, Mesh, face_anchor, face_count, vertex_anchor};
-ghost use Rattle.spade_dcel.specs.Linked.{Refuses};
+ghost use Rattle.spade_dcel.specs.Linked.{Refuses, RefusesAnchored, RefusesLinks};
 
 use crate::dcel::Dcel;
 use crate::operations::create::with_room;
-use dcel_edits::given::put_mesh;
+use dcel_edits::given::{put_anchored_mesh, put_mesh};
 pub use dcel_links::Fault;
-use dcel_links::check_links;
+use dcel_links::{check_links, find_wrong_anchor};
 pub use dcel_store::EdgeData;
 use std::alloc::{Allocator, Global};
+use std::error::Error;
+use std::fmt;
 
 /// The data of a mesh, by number.
 #[derive(Drop)]
@@ -28,18 +31,65 @@ pub struct MeshData<V, DE, UE, F, A: Allocator = Global> {
     pub faces: Vec<F, A>,
 }
 
+/// The anchors of a mesh, by number.
+#[derive(Clone, Copy, PartialEq, Eq, Debug)]
+pub struct Anchors<'a> {
+    /// A half edge that starts at each vertex, or None where none does.
+    pub vertices: &'a [Option<u32>],
+
+    /// A half edge that lies on each face, or None where none does.
+    pub faces: &'a [Option<u32>],
+}
+
 /// The reason why links were refused, in the order in which reasons are looked for.
 #[derive(Clone, Copy, PartialEq, Eq, Debug, Drop)]
 pub enum LinksError {
     /// There are not the data of as many edges as the lists have.
     Edges,
 
+    /// There are not anchors of as many vertices and faces as there are data.
+    Anchors,
+
     /// No mesh has these links, and this is the first thing that is wrong with them.
     Links(Fault),
+
+    /// The anchor of this vertex is no half edge that starts there, or is missing though one does.
+    VertexAnchor(usize),
+
+    /// The anchor of this face is no half edge that lies there, or is missing though one does.
+    FaceAnchor(usize),
 
     /// There was no memory. That can come at any time, also before what is wrong is found.
     OutOfMemory,
 }
+
+impl fmt::Display for LinksError {
+    fn fmt<W: fmt::Write>(&self, f: &mut fmt::Formatter<W>) -> fmt::Result {
+        match *self {
+            LinksError::Edges => write!(f, "there are not data of as many edges as the lists have"),
+            LinksError::Anchors => write!(
+                f,
+                "there are not anchors of as many vertices and faces as there are data"
+            ),
+            LinksError::Links(fault) => write!(f, "no mesh has these links: {fault}"),
+            LinksError::VertexAnchor(vertex) => {
+                write!(
+                    f,
+                    "vertex {vertex} is not anchored at a half edge that starts there"
+                )
+            }
+            LinksError::FaceAnchor(face) => {
+                write!(
+                    f,
+                    "face {face} is not anchored at a half edge that lies there"
+                )
+            }
+            LinksError::OutOfMemory => write!(f, "out of memory"),
+        }
+    }
+}
+
+impl Error for LinksError {}
 
 /// The data that were handed in, given back with the reason why there is no mesh.
 #[derive(Drop)]
@@ -82,29 +132,17 @@ pub fn from_links<V: Drop, DE: Drop, UE: Drop, F: Drop, A: Allocator + Clone>(
         Refuses V DE UE F (claim next.now origin.now face.now (length given.vertices.items) (length given.faces.items)) (length given.edges.items) refused.reason) }
     ensures back { IfErr result (λ refused. refused.back ≡ given) }
 {
-    if next.len() / 2 != given.edges.len() {
-        return Err(RefusedLinks {
-            reason: LinksError::Edges,
-            back: given,
-        });
-    }
-    let (vertices, faces) = (given.vertices.len(), given.faces.len());
-    let prev = match check_links(&alloc, next, origin, face, vertices, faces) {
-        Ok(Ok(prev)) => prev,
-        Ok(Err(fault)) => {
+    let prev = match check(&alloc, next, origin, face, &given) {
+        Ok(prev) => prev,
+        Err(reason) => {
             return Err(RefusedLinks {
-                reason: LinksError::Links(fault),
-                back: given,
-            });
-        }
-        Err(_) => {
-            return Err(RefusedLinks {
-                reason: LinksError::OutOfMemory,
+                reason,
                 back: given,
             });
         }
     };
-    let Ok((mut store, removal)) = with_room(alloc, vertices, given.edges.len(), faces) else {
+    let (vertices, edges, faces) = (given.vertices.len(), given.edges.len(), given.faces.len());
+    let Ok((mut store, removal)) = with_room(alloc, vertices, edges, faces) else {
         return Err(RefusedLinks {
             reason: LinksError::OutOfMemory,
             back: given,
@@ -119,4 +157,159 @@ pub fn from_links<V: Drop, DE: Drop, UE: Drop, F: Drop, A: Allocator + Clone>(
         &mut store, next, &prev, origin, face, vertices, edges, faces,
     );
     Ok(Dcel { store, removal })
+}
+
+/// Makes a mesh with these links, anchors and data.
+///
+/// Links and data are as [`from_links`] takes them. Each vertex and each face has the anchor that
+/// is given for it: a half edge that starts there or lies there, or None if there is none. So walks
+/// begin where they begin in the mesh that the links and anchors come from.
+///
+/// It takes any lists. If no mesh has these links and anchors, the data come back with the reason,
+/// and if memory runs out they come back too. It goes over the lists a fixed number of times.
+pub fn from_anchored_links<V: Drop, DE: Drop, UE: Drop, F: Drop, A: Allocator + Clone>(
+    alloc: A,
+    next: &[u32],
+    origin: &[u32],
+    face: &[u32],
+    anchors: Anchors<'_>,
+    given: MeshData<V, DE, UE, F, A>,
+) -> Result<Dcel<V, DE, UE, F, A>, RefusedLinks<MeshData<V, DE, UE, F, A>>>
+    ensures links { IfOk result (λ dcel. IsLinked dcel.shape (claim next.now origin.now face.now (length given.vertices.items) (length given.faces.items))) }
+    ensures only { IfOk result (λ dcel. (m : Mesh V DE UE F) → IsMesh m
+        → IsLinked m.shape (claim next.now origin.now face.now (length given.vertices.items) (length given.faces.items)) → m.shape ≡ dcel.shape) }
+    ensures vertices { IfOk result (λ dcel. dcel.vertex_data ≡ given.vertices.items) }
+    ensures halves { IfOk result (λ dcel. dcel.directed_data ≡ halves_data given.edges.items) }
+    ensures edges { IfOk result (λ dcel. dcel.undirected_data ≡ edges_data given.edges.items) }
+    ensures faces { IfOk result (λ dcel. dcel.face_data ≡ given.faces.items) }
+    ensures vertex_anchors { IfOk result (λ dcel. dcel.vertex_anchors ≡ anchors.entry.vertices.now) }
+    ensures face_anchors { IfOk result (λ dcel. dcel.face_anchors ≡ anchors.entry.faces.now) }
+    ensures mesh { IfOk result IsMesh }
+    ensures reason { IfErr result (λ refused.
+        RefusesAnchored V DE UE F (claim next.now origin.now face.now (length given.vertices.items) (length given.faces.items)) (length given.edges.items)
+        anchors.entry.vertices.now anchors.entry.faces.now refused.reason) }
+    ensures back { IfErr result (λ refused. refused.back ≡ given) }
+{
+    let prev = match check_anchored(&alloc, next, origin, face, anchors, &given) {
+        Ok(prev) => prev,
+        Err(reason) => {
+            return Err(RefusedLinks {
+                reason,
+                back: given,
+            });
+        }
+    };
+    let (vertices, edges, faces) = (given.vertices.len(), given.edges.len(), given.faces.len());
+    let Ok((mut store, removal)) = with_room(alloc, vertices, edges, faces) else {
+        return Err(RefusedLinks {
+            reason: LinksError::OutOfMemory,
+            back: given,
+        });
+    };
+    let MeshData {
+        vertices,
+        edges,
+        faces,
+    } = given;
+    put_anchored_mesh(
+        &mut store,
+        next,
+        &prev,
+        origin,
+        face,
+        anchors.vertices,
+        anchors.faces,
+        vertices,
+        edges,
+        faces,
+    );
+    Ok(Dcel { store, removal })
+}
+
+// Looks for what is wrong with links and the number of data; if it is nothing, returns the links
+// backwards.
+fn check<V, DE, UE, F, A: Allocator + Clone>(
+    alloc: &A,
+    next: &[u32],
+    origin: &[u32],
+    face: &[u32],
+    given: &MeshData<V, DE, UE, F, A>,
+) -> Result<Vec<u32, A>, LinksError>
+    ensures edges { OnOk result (length next.now / 2 ≡ length given.now.edges.items) }
+    ensures mesh { IfOk result (λ prev. IsMeshOf (claim next.now origin.now face.now (length given.now.vertices.items) (length given.now.faces.items)) prev.items) }
+    ensures reason { IfErr result (Refuses V DE UE F (claim next.now origin.now face.now (length given.now.vertices.items) (length given.now.faces.items)) (length given.now.edges.items)) }
+{
+    if !has_edges(next, given) {
+        return Err(LinksError::Edges);
+    }
+    find_prev(alloc, next, origin, face, given)
+}
+
+// The same with anchors.
+fn check_anchored<V, DE, UE, F, A: Allocator + Clone>(
+    alloc: &A,
+    next: &[u32],
+    origin: &[u32],
+    face: &[u32],
+    anchors: Anchors<'_>,
+    given: &MeshData<V, DE, UE, F, A>,
+) -> Result<Vec<u32, A>, LinksError>
+    ensures edges { OnOk result (length next.now / 2 ≡ length given.now.edges.items) }
+    ensures vertices { OnOk result (length anchors.entry.vertices.now ≡ length given.now.vertices.items) }
+    ensures faces { OnOk result (length anchors.entry.faces.now ≡ length given.now.faces.items) }
+    ensures mesh { IfOk result (λ prev. IsMeshOf (claim next.now origin.now face.now (length given.now.vertices.items) (length given.now.faces.items)) prev.items) }
+    ensures vertex_anchors { OnOk result (AreAnchors origin.now anchors.entry.vertices.now) }
+    ensures face_anchors { OnOk result (AreAnchors face.now anchors.entry.faces.now) }
+    ensures reason { IfErr result (RefusesAnchored V DE UE F (claim next.now origin.now face.now (length given.now.vertices.items) (length given.now.faces.items)) (length given.now.edges.items)
+        anchors.entry.vertices.now anchors.entry.faces.now) }
+{
+    if !has_edges(next, given) {
+        return Err(LinksError::Edges);
+    }
+    if anchors.vertices.len() != given.vertices.len() {
+        return Err(LinksError::Anchors);
+    }
+    if anchors.faces.len() != given.faces.len() {
+        return Err(LinksError::Anchors);
+    }
+    let prev = find_prev(alloc, next, origin, face, given)?;
+    if let Err(vertex) = find_wrong_anchor(origin, anchors.vertices) {
+        return Err(LinksError::VertexAnchor(vertex));
+    }
+    if let Err(face) = find_wrong_anchor(face, anchors.faces) {
+        return Err(LinksError::FaceAnchor(face));
+    }
+    Ok(prev)
+}
+
+// Whether there are the data of as many edges as the lists have.
+fn has_edges<V, DE, UE, F, A: Allocator>(next: &[u32], given: &MeshData<V, DE, UE, F, A>) -> bool
+    ensures { IsTrue result ↔ (length next.now / 2 ≡ length given.now.edges.items) }
+{
+    next.len() / 2 == given.edges.len()
+}
+
+// Looks for what is wrong with links; if it is nothing, returns the links backwards.
+fn find_prev<V, DE, UE, F, A: Allocator + Clone>(
+    alloc: &A,
+    next: &[u32],
+    origin: &[u32],
+    face: &[u32],
+    given: &MeshData<V, DE, UE, F, A>,
+) -> Result<Vec<u32, A>, LinksError>
+    ensures mesh { IfOk result (λ prev. IsMeshOf (claim next.now origin.now face.now (length given.now.vertices.items) (length given.now.faces.items)) prev.items) }
+    ensures reason { IfErr result (RefusesLinks V DE UE F (claim next.now origin.now face.now (length given.now.vertices.items) (length given.now.faces.items))) }
+{
+    match check_links(
+        alloc,
+        next,
+        origin,
+        face,
+        given.vertices.len(),
+        given.faces.len(),
+    ) {
+        Ok(Ok(prev)) => Ok(prev),
+        Ok(Err(fault)) => Err(LinksError::Links(fault)),
+        Err(_) => Err(LinksError::OutOfMemory),
+    }
 }

@@ -4,7 +4,7 @@ use Rattle.dcel_maps.specs.Maps.{count}
 use Rattle.dcel_links.specs.Checks.{Passes}
 use Rattle.dcel_links.specs.Claims.{Claim, claim}
 use Rattle.dcel_links.proofs.Stages.{passes_more}
-use Rattle.dcel_links.proofs.Surfaces.{euler_counted, no_sphere_counted, uses_marked}
+use Rattle.dcel_links.proofs.Surfaces.{euler_counted, genus_counted, no_sphere_counted, uses_marked}
 use Rattle.dcel_links.proofs.whole.check_surface.Goals as goal
 
 pub returns-then-not-is_sphere-clause-fault : goal.returns-then-not-is_sphere-clause-fault
@@ -13,10 +13,13 @@ returns-then-not-is_sphere-clause-fault c =
     let vertices : c.count_marks-vertices.result ≡ count (λ k. get_or c.args.used_vertices.now k false) (length c.args.used_vertices.now) =
     c.count_marks-vertices.ensures.number in
     let faces : c.count_marks-faces.result ≡ count (λ k. get_or c.args.used_faces.now k false) (length c.args.used_faces.now) =
-    c.count_marks-faces.ensures.number in
-    no_sphere_counted claimed c.requires.rounds c.args.used_vertices.now c.args.used_faces.now c.requires.vertices c.requires.faces
-    (search rules)
-    (λ e. false≢true (sym c.if-not-is_sphere.true ∙ c.is_sphere.ensures.1 (rw (vertices, faces) e)))
+    c.count_marks-faces.ensures.number in (
+      no_sphere_counted claimed c.requires.rounds c.args.used_vertices.now c.args.used_faces.now c.requires.vertices c.requires.faces
+          (search rules)
+          (λ e. false≢true (sym c.if-not-is_sphere.true ∙ c.is_sphere.ensures.1 (rw (vertices, faces) e))),
+      c.genus.ensures ∙ rw (vertices, faces)
+          (genus_counted claimed c.requires.rounds c.args.used_vertices.now c.args.used_faces.now c.requires.vertices c.requires.faces),
+    )
 
 pub returns-clause-uses : goal.returns-clause-uses
 returns-clause-uses c =
