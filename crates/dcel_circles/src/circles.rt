@@ -33,7 +33,7 @@ pub fn is_circled<DE, UE, F, A: Allocator>(
     has_corner_inside(dcel, edge)
 }
 
-// Whether one of its halves lies on the outer face.
+// Returns whether one of its halves lies on the outer face.
 fn is_on_hull<DE, UE, F, A: Allocator>(
     dcel: &Dcel<Point, DE, UE, F, A>,
     edge: FixedUndirectedEdgeHandle,
@@ -46,7 +46,7 @@ fn is_on_hull<DE, UE, F, A: Allocator>(
         .is_part_of_convex_hull()
 }
 
-// The circle test alone.
+// Returns what the circle test alone tells.
 fn has_corner_inside<DE, UE, F, A: Allocator>(
     dcel: &Dcel<Point, DE, UE, F, A>,
     edge: FixedUndirectedEdgeHandle,
@@ -63,7 +63,7 @@ fn has_corner_inside<DE, UE, F, A: Allocator>(
     )
 }
 
-// Where a vertex stands.
+// Returns where a vertex stands.
 pub(crate) fn point_of<DE, UE, F, A: Allocator>(
     vertex: VertexHandle<'_, Point, DE, UE, F, A>,
 ) -> Point

@@ -50,7 +50,7 @@ pub fn legalize_by_circles<DE, UE, F, A: Allocator, L: Allocator>(
     Ok(())
 }
 
-// The other sides of the two triangles at an edge.
+// Appends the other sides of the two triangles at an edge.
 fn append_sides<DE, UE, F, A: Allocator, L: Allocator>(
     dcel: &Dcel<Point, DE, UE, F, A>,
     edge: FixedUndirectedEdgeHandle,

@@ -45,7 +45,7 @@ pub fn is_delaunay<DE, UE, F, A: Allocator>(dcel: &Dcel<Point, DE, UE, F, A>) ->
     true
 }
 
-// Whether the corners of a face go round counterclockwise, if there are three.
+// Returns whether the corners of a face go round counterclockwise, if there are three.
 fn turns_left<DE, UE, F, A: Allocator>(
     dcel: &Dcel<Point, DE, UE, F, A>,
     face: FixedFaceHandle<InnerTag>,

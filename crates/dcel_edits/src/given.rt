@@ -184,7 +184,7 @@ fn set_face_anchors<V, DE, UE, F, A: Allocator>(
     }
 }
 
-// An anchor that is given by number.
+// Returns an anchor that is given by number.
 #[inline]
 fn anchor(half: Option<u32>) -> Option<FixedDirectedEdgeHandle>
     ensures { result ≡ half }
@@ -195,7 +195,7 @@ fn anchor(half: Option<u32>) -> Option<FixedDirectedEdgeHandle>
     }
 }
 
-// The links that the lists have for a half edge.
+// Returns the links that the lists have for a half edge.
 #[inline]
 fn entry(next: &[u32], prev: &[u32], origin: &[u32], face: &[u32], half: usize) -> HalfEdgeEntry
     requires next_in { half < length next.now }

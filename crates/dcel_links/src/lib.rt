@@ -81,7 +81,7 @@ pub fn check_links<A: Allocator + Clone>(
     }
 }
 
-// The other half of an edge.
+// Returns the other half of an edge.
 #[inline]
 pub(crate) fn other_half(half: usize) -> usize
     ensures { result ≡ rev half }

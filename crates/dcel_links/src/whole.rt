@@ -124,7 +124,7 @@ fn check_rounds(
     Ok(())
 }
 
-/// Checks that each face has a half edge, that all of it is connected, and Euler's formula.
+/// Checks that each face has a half edge, that the mesh is connected, and Euler's formula.
 fn check_surface(
     next: &[u32],
     origin: &[u32],

@@ -58,7 +58,7 @@ pub fn digest_of<V, DE, UE, F, A: Allocator>(dcel: &Dcel<V, DE, UE, F, A>) -> u6
     digest.state
 }
 
-/// A digest under construction.
+/// Mixes a number into a digest.
 pub fn mix(digest: u64, number: u64) -> u64 {
     (digest ^ number).wrapping_mul(PRIME).rotate_left(17)
 }

@@ -32,7 +32,7 @@ pub fn legalize<D: Default + Drop + Clone>(
     })
 }
 
-/// The number of edges looked at: all of the mesh, and those that flips added to the list.
+/// Counts the edges looked at: all of the mesh, and those that flips added to the list.
 fn looked_at<D>(dcel: &Mesh<D>, flips: u64) -> u64 {
     (dcel.num_undirected_edges() as u64).wrapping_add(flips.wrapping_mul(BESIDE))
 }

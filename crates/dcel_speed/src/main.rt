@@ -50,7 +50,7 @@ fn run(rt: &(impl Env + Clock + Print + AllocGlobal)) -> Result<(), Fault> {
     Ok(())
 }
 
-/// The line of a workload at a size, over the meshes that the arguments ask for.
+/// Makes the line of a workload at a size, over the meshes that the arguments ask for.
 fn line_of(
     rt: &(impl Clock + AllocGlobal),
     arguments: &Arguments,

@@ -81,7 +81,7 @@ fn remove_next<D: Default + Drop>(
     Ok(Some(removal.removed_vertex))
 }
 
-/// The half edges after the out edges of a vertex, counted by `ccw` from the least out edge and listed from the back.
+/// Lists the half edges after the out edges of a vertex, counted by `ccw` from the least out edge, from the back.
 #[inline]
 fn border_of<D>(
     alloc: Global,

@@ -77,7 +77,7 @@ fn drawn_inside<D>(dcel: &Mesh<D>, random: &mut Random) -> Option<FixedDirectedE
     None
 }
 
-/// Whether a half edge has an inner face on both sides.
+/// Returns whether a half edge has an inner face on both sides.
 #[inline]
 fn is_inside<D>(dcel: &Mesh<D>, edge: FixedDirectedEdgeHandle) -> bool
     requires { IsLive dcel.now.shape edge }

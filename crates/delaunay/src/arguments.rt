@@ -56,7 +56,7 @@ pub fn read_arguments<'a>(alloc: Global, words: &'a [String]) -> Result<Asked<'a
     }
 }
 
-/// The arguments that there are.
+/// Returns the arguments that there are.
 fn command<'a>(alloc: Global) -> Result<Command<'a>, AllocError> {
     let file = Arg::new(alloc, "file")
         .value_name("FILE")

@@ -125,7 +125,7 @@ struct Frame {
 }
 
 impl Frame {
-    /// The least rectangle around all points.
+    /// Returns the least rectangle around all points.
     fn around(drawn: &Drawn) -> Self {
         let mut corners: Option<[i64; 4]> = None;
         for vertex in drawn.triangulation.dcel().vertices() {
@@ -142,18 +142,18 @@ impl Frame {
         }
     }
 
-    /// How long something is in the picture, with a margin on both sides.
+    /// Returns how long something is in the picture, with a margin on both sides.
     fn length(&self, along: u64) -> u64 {
         self.scaled(along).saturating_add(2 * MARGIN)
     }
 
-    /// A distance, so that the longer side has the length of the picture.
+    /// Scales a distance, so that the longer side has the length of the picture.
     fn scaled(&self, distance: u64) -> u64 {
         let longer = self.width.max(self.height).max(1);
         distance.saturating_mul(SIDE) / longer
     }
 
-    /// Where a point stands. Upwards in the plane is upwards in the picture.
+    /// Returns where a point stands. Upwards in the plane is upwards in the picture.
     fn place(&self, point: Point) -> Place {
         let x = self.scaled(point.x.abs_diff(self.left));
         let y = self.scaled(self.top.abs_diff(point.y));

@@ -45,7 +45,7 @@ fn points_of(alloc: Global, input: impl Read + Drop) -> Result<Vec<Point>, Fault
     Ok(points)
 }
 
-/// The point of a line, if it has one.
+/// Returns the point of a line, if it has one.
 fn point_of(line: &str) -> Result<Option<Point>, BadLine> {
     let mut words = before_comment(line).split_ascii_whitespace();
     let Some(x) = words.next() else {
@@ -63,7 +63,7 @@ fn point_of(line: &str) -> Result<Option<Point>, BadLine> {
     }
 }
 
-/// What stands before the first `#`.
+/// Returns what stands before the first `#`.
 fn before_comment(line: &str) -> &str {
     match line.split_once('#') {
         Some((before, _)) => before,
@@ -71,7 +71,7 @@ fn before_comment(line: &str) -> &str {
     }
 }
 
-/// The number that a word says. One that is far out of range is told apart from what is no number.
+/// Returns the number that a word says. One far out of range is told apart from what is no number.
 fn coordinate(word: &str) -> Result<i64, BadLine> {
     match word.parse::<i128>() {
         Ok(number) => i64::try_from(number).map_err(|_| BadLine::OutOfRange),

@@ -18,7 +18,7 @@ pub struct Drawn {
 }
 
 impl Drawn {
-    /// The number of the point at a vertex.
+    /// Returns the number of the point at a vertex.
     pub fn number(&self, vertex: FixedVertexHandle) -> usize {
         self.numbers.get(vertex.index()).copied().unwrap_or(0)
     }

@@ -33,7 +33,7 @@ fn write_triangles(writer: &mut impl Write, drawn: &Drawn) -> io::Result<()> {
     Ok(())
 }
 
-/// The same three numbers in the same round, the least first.
+/// Returns the same three numbers in the same round, the least first.
 fn least_first([a, b, c]: [usize; 3]) -> [usize; 3] {
     if a <= b && a <= c {
         [a, b, c]
@@ -76,7 +76,7 @@ fn write_stats(writer: &mut impl Write, drawn: &Drawn) -> io::Result<()> {
     writeln!(writer, "{} vertices on the hull", hull_size(mesh))
 }
 
-/// How many vertices stand on the hull: all that there are, if they stand on one line.
+/// Counts the vertices on the hull: all that there are, if they stand on one line.
 fn hull_size(mesh: &Mesh) -> usize {
     if mesh.num_faces() == 1 {
         mesh.num_vertices()

@@ -8,7 +8,7 @@
 //! In the pictures each face lies to the left of its half edges, and `t` is the other half of
 //! `edge` or `e`. `n` is twice the number of undirected edges before the call, so the first new
 //! half edge has this number; `L` is the number of faces before it, so the first new face has that
-//! one. `docs/MODEL.md` draws each edit on a mesh with numbers.
+//! one. `docs/PICTURES.md` draws each on a mesh with numbers.
 
 mod cleanup;
 mod create;

@@ -109,7 +109,7 @@ where
     }
 }
 
-// The first live element of those to come, which is taken with all before it.
+// Returns the first live element of those to come, and takes it with all before it.
 fn first_live<'a, V, DE, UE, F, Kind, InnerOuter, A>(
     elements: &mut DynamicHandleIterator<'a, V, DE, UE, F, Kind, InnerOuter, A>,
 ) -> Option<DynamicHandleImpl<'a, V, DE, UE, F, Kind, InnerOuter, A>>
@@ -128,7 +128,7 @@ where
     None
 }
 
-// The last one, which is taken with all behind it.
+// Returns the last one, and takes it with all behind it.
 fn last_live<'a, V, DE, UE, F, Kind, InnerOuter, A>(
     elements: &mut DynamicHandleIterator<'a, V, DE, UE, F, Kind, InnerOuter, A>,
 ) -> Option<DynamicHandleImpl<'a, V, DE, UE, F, Kind, InnerOuter, A>>

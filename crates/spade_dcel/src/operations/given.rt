@@ -245,7 +245,7 @@ fn check<V, DE, UE, F, A: Allocator + Clone>(
     find_prev(alloc, next, origin, face, given)
 }
 
-// The same with anchors.
+// Does the same with anchors.
 fn check_anchored<V, DE, UE, F, A: Allocator + Clone>(
     alloc: &A,
     next: &[u32],
@@ -282,7 +282,7 @@ fn check_anchored<V, DE, UE, F, A: Allocator + Clone>(
     Ok(prev)
 }
 
-// Whether there are the data of as many edges as the lists have.
+// Returns whether there are the data of as many edges as the lists have.
 fn has_edges<V, DE, UE, F, A: Allocator>(next: &[u32], given: &MeshData<V, DE, UE, F, A>) -> bool
     ensures { IsTrue result ↔ (length next.now / 2 ≡ length given.now.edges.items) }
 {
