@@ -1,4 +1,4 @@
-//! Vertices, edges and faces as lists have them, all at once, with anchors that are chosen or given.
+//! Vertices, edges and faces as lists have them, with anchors that are chosen or given.
 
 ghost use Rattle.std.specs.Prelude.{◌≡◌, ◌<◌, ◌≤◌, ◌^◌, None, length, replicate, slice_index, vec_len};
 ghost use Rattle.dcel_store.specs.Lists.{HasPlaces, empty};
