@@ -266,7 +266,7 @@ fn comes_back(alloc: Global, dcel: &Dcel<u32>) -> Result<bool, AllocError> {
     same_again(alloc, dcel, &lists, given)
 }
 
-/// Whether the mesh made again over these data has the same links.
+/// Whether the mesh made again over these data has the same links and anchors.
 fn same_again(
     alloc: Global,
     dcel: &Dcel<u32>,
@@ -286,7 +286,7 @@ fn same_again(
     }
 }
 
-/// Whether no removal is open, and the links are those of the lists.
+/// Whether no removal is open, and links and anchors are those of the lists.
 fn has_links(
     alloc: Global,
     dcel: &Dcel<bool, (), u8, ()>,
@@ -299,7 +299,9 @@ fn has_links(
     Ok(
         own.next.as_slice() == lists.next.as_slice()
             && own.origin.as_slice() == lists.origin.as_slice()
-            && own.face.as_slice() == lists.face.as_slice(),
+            && own.face.as_slice() == lists.face.as_slice()
+            && own.vertex_anchors.as_slice() == lists.vertex_anchors.as_slice()
+            && own.face_anchors.as_slice() == lists.face_anchors.as_slice(),
     )
 }
 
