@@ -267,7 +267,7 @@ fn comes_back(alloc: Global, dcel: &Dcel<u32>) -> Result<bool, AllocError> {
     same_again(alloc, dcel, &lists, given)
 }
 
-/// Returns whether the mesh made again over these data has the same links.
+/// Returns whether the mesh made again over these data has the same links and anchors.
 fn same_again(
     alloc: Global,
     dcel: &Dcel<u32>,
@@ -287,7 +287,7 @@ fn same_again(
     }
 }
 
-/// Returns whether no removal is open, and the links are those of the lists.
+/// Returns whether no removal is open, and links and anchors are those of the lists.
 fn has_links(
     alloc: Global,
     dcel: &Dcel<bool, (), u8, ()>,
@@ -300,7 +300,9 @@ fn has_links(
     Ok(
         own.next.as_slice() == lists.next.as_slice()
             && own.origin.as_slice() == lists.origin.as_slice()
-            && own.face.as_slice() == lists.face.as_slice(),
+            && own.face.as_slice() == lists.face.as_slice()
+            && own.vertex_anchors.as_slice() == lists.vertex_anchors.as_slice()
+            && own.face_anchors.as_slice() == lists.face_anchors.as_slice(),
     )
 }
 

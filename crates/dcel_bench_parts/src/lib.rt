@@ -1,7 +1,9 @@
-//! Tests of the crates below and beside `spade_dcel`: fixed handles, the store, links that are
-//! given, predicates, circles, meshes in and out, and Delaunay triangulations.
+//! Tests of the crates below and beside `spade_dcel`: fixed handles, the store, links and anchors
+//! that are given, predicates, circles, meshes in and out, and Delaunay triangulations.
 #![tactic(auto)]
 
+#[cfg(test)]
+mod anchors;
 #[cfg(test)]
 mod circles;
 #[cfg(test)]

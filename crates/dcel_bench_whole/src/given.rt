@@ -7,7 +7,9 @@ use dcel_bench::meshes::{
 };
 use dcel_bench::require;
 use spade_dcel::handles::FixedDirectedEdgeHandle;
-use spade_dcel::operations::{EdgeData, Fault, LinksError, MeshData, from_links};
+use spade_dcel::operations::{
+    Anchors, EdgeData, Fault, LinksError, MeshData, from_anchored_links, from_links,
+};
 use std::alloc::{AllocError, Global};
 use std::test::Fail;
 
@@ -65,6 +67,77 @@ const REFUSED: [Row; 5] = [
         face: &[0, 2, 1, 3, 2, 0, 3, 1, 1, 0, 0, 1, 3, 2, 2, 3],
         counts: [4, 8, 4],
         reason: LinksError::Links(Fault::NotSphere(1)),
+    },
+];
+
+/// Anchors that are given with the links of a triangle, numbers of data as above, and the reason if
+/// they are refused.
+struct Anchored {
+    vertices: &'static [Option<u32>],
+    faces: &'static [Option<u32>],
+    counts: [u32; 3],
+    reason: Option<LinksError>,
+}
+
+const ANCHORED: [Anchored; 9] = [
+    // Not all of them are the last half edges.
+    Anchored {
+        vertices: &[Some(0), Some(2), Some(3)],
+        faces: &[Some(2), Some(1)],
+        counts: [3, 3, 2],
+        reason: None,
+    },
+    // There are data of another edge too.
+    Anchored {
+        vertices: &[],
+        faces: &[],
+        counts: [3, 4, 2],
+        reason: Some(LinksError::Edges),
+    },
+    Anchored {
+        vertices: &[Some(0), Some(2)],
+        faces: &[Some(2), Some(1)],
+        counts: [3, 3, 2],
+        reason: Some(LinksError::Anchors),
+    },
+    Anchored {
+        vertices: &[Some(0), Some(2), Some(3)],
+        faces: &[Some(2), Some(1), None],
+        counts: [3, 3, 2],
+        reason: Some(LinksError::Anchors),
+    },
+    // The links are looked at before the anchors.
+    Anchored {
+        vertices: &[Some(0), None, Some(3)],
+        faces: &[Some(2), Some(1), None],
+        counts: [3, 3, 3],
+        reason: Some(LinksError::Links(Fault::UnusedFace(2))),
+    },
+    // Half edge 0 starts at another vertex.
+    Anchored {
+        vertices: &[Some(0), Some(0), Some(3)],
+        faces: &[Some(2), Some(1)],
+        counts: [3, 3, 2],
+        reason: Some(LinksError::VertexAnchor(1)),
+    },
+    Anchored {
+        vertices: &[Some(0), Some(2), None],
+        faces: &[Some(2), Some(1)],
+        counts: [3, 3, 2],
+        reason: Some(LinksError::VertexAnchor(2)),
+    },
+    // There is no half edge 6.
+    Anchored {
+        vertices: &[Some(0), Some(2), Some(3)],
+        faces: &[Some(2), Some(6)],
+        counts: [3, 3, 2],
+        reason: Some(LinksError::FaceAnchor(1)),
+    },
+    Anchored {
+        vertices: &[Some(0), Some(2), Some(3)],
+        faces: &[None, Some(1)],
+        counts: [3, 3, 2],
+        reason: Some(LinksError::FaceAnchor(0)),
     },
 ];
 
@@ -143,15 +216,18 @@ fn check_refused(row: &Row, alloc: Global) -> Result<(), Fail> {
         Ok(_) => Err(Fail::new("links of no mesh are taken")),
         Err(refused) => {
             same(refused.reason, row.reason, "the reason")?;
-            let [vertices, edges, faces] = row.counts;
-            let back = refused.back;
-            same(back.vertices.len(), vertices as usize, "vertices")?;
-            same(back.edges.len(), edges as usize, "edges")?;
-            same(back.faces.len(), faces as usize, "faces")?;
-            let last = back.faces.last().is_some_and(|datum| *datum >= 400);
-            holds(last, "the data of the last face")
+            check_back(&refused.back, row.counts)
         }
     }
+}
+
+/// Checks that these are the data of so many vertices, edges and faces.
+fn check_back(back: &Data, [vertices, edges, faces]: [u32; 3]) -> Result<(), Fail> {
+    same(back.vertices.len(), vertices as usize, "vertices")?;
+    same(back.edges.len(), edges as usize, "edges")?;
+    same(back.faces.len(), faces as usize, "faces")?;
+    let last = back.faces.last().is_some_and(|datum| *datum >= 400);
+    holds(last, "the data of the last face")
 }
 
 #[test]
@@ -160,4 +236,45 @@ fn other_links_are_refused(rt: HostRuntime) -> Result<(), Fail> {
         check_refused(row, rt.alloc())?;
     }
     Ok(())
+}
+
+/// Checks that the mesh has these anchors, or is refused for this reason.
+fn check_anchored(row: &Anchored, alloc: Global) -> Result<(), Fail> {
+    let given = data(alloc, row.counts)?;
+    let anchors = Anchors {
+        vertices: row.vertices,
+        faces: row.faces,
+    };
+    match from_anchored_links(alloc, TRIANGLE, CORNERS, SIDES, anchors, given) {
+        Ok(made) => {
+            same(None, row.reason, "the reason")?;
+            check_out_edges(&made, &[0, 2, 3])?;
+            check_adjacent_edges(&made, &[2, 1])
+        }
+        Err(refused) => {
+            same(Some(refused.reason), row.reason, "the reason")?;
+            check_back(&refused.back, row.counts)
+        }
+    }
+}
+
+#[test]
+fn anchors_are_kept_or_refused(rt: HostRuntime) -> Result<(), Fail> {
+    for row in &ANCHORED {
+        check_anchored(row, rt.alloc())?;
+    }
+    Ok(())
+}
+
+#[test]
+fn vertices_alone_have_no_anchors(rt: HostRuntime) -> Result<(), Fail> {
+    let anchors = Anchors {
+        vertices: &[None, None],
+        faces: &[None],
+    };
+    let data = data(rt.alloc(), [2, 0, 1])?;
+    let Ok(made) = from_anchored_links(rt.alloc(), &[], &[], &[], anchors, data) else {
+        return Err(Fail::new("vertices without links are refused"));
+    };
+    same(counts(&made), [2, 0, 1], "counts")
 }

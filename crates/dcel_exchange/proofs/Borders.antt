@@ -150,5 +150,8 @@ passed_on P (Err y) e both p = subst P (sym both.1) p
 pub reason_told : (V DE UE F : Type 0) (c : Claim) (edges vertices : ℕ) (faces : List (List ℕ)) → AreLinks vertices faces c → (reason : LinksError)
     → Refuses V DE UE F c edges reason → Means vertices faces (reason_for reason)
 reason_told V DE UE F c edges vertices faces links refused.Edges refuses = tt
+reason_told V DE UE F c edges vertices faces links refused.Anchors refuses = tt
 reason_told V DE UE F c edges vertices faces links (refused.Links fault) refuses = (c, links, refuses.0)
+reason_told V DE UE F c edges vertices faces links (refused.VertexAnchor v) refuses = tt
+reason_told V DE UE F c edges vertices faces links (refused.FaceAnchor f) refuses = tt
 reason_told V DE UE F c edges vertices faces links refused.OutOfMemory refuses = tt

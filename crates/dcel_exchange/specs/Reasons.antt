@@ -72,6 +72,5 @@ Means vertices faces OutOfMemory = Unit {0}
 
 -- the reason that `from_links` gives, told of the faces
 abbrev pub reason_for : LinksError → FacesError
-reason_for refused.Edges = OutOfMemory
 reason_for (refused.Links fault) = Links fault
-reason_for refused.OutOfMemory = OutOfMemory
+reason_for other = OutOfMemory

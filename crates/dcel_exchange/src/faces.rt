@@ -10,7 +10,6 @@ ghost use Rattle.dcel_maps.specs.Removals.{Closed};
 ghost use Rattle.dcel_maps.specs.Shapes.{IsMesh};
 
 use crate::linking::{find_border, list_links};
-use crate::lists::LinkLists;
 use crate::numbering::{Numbering, number_sides};
 use crate::refusal::{FacesError, RefusedFaces};
 use crate::sides::{check_ends, list_sides};
@@ -89,10 +88,17 @@ fn reason_of(reason: LinksError) -> FacesError
     ensures { result ≡ reason_for reason }
 {
     match reason {
-        LinksError::Edges => FacesError::OutOfMemory,
         LinksError::Links(fault) => FacesError::Links(fault),
-        LinksError::OutOfMemory => FacesError::OutOfMemory,
+        _ => FacesError::OutOfMemory,
     }
+}
+
+// The links of half edges.
+#[derive(Drop)]
+struct HalfEdgeLinks<A: Allocator> {
+    next: Vec<u32, A>,
+    origin: Vec<u32, A>,
+    face: Vec<u32, A>,
 }
 
 /// Lists the links of the half edges of these faces and of the border that they leave.
@@ -100,7 +106,7 @@ fn link_faces<A: Allocator + Clone, B: Allocator>(
     alloc: &A,
     vertices: usize,
     faces: &[Vec<u32, B>],
-) -> Result<LinkLists<A>, FacesError>
+) -> Result<HalfEdgeLinks<A>, FacesError>
     ensures links { IfOk result (λ links. AreLinks vertices (corners_of faces.now) (claim links.next.items links.origin.items links.face.items vertices (length faces.now + 1))) }
     ensures reason { IfErr result (Means vertices (corners_of faces.now)) }
 {
@@ -110,7 +116,7 @@ fn link_faces<A: Allocator + Clone, B: Allocator>(
     let border = find_border(alloc, &sides, &numbering, vertices)?;
     let (next, face) = list_links(alloc, &sides, &numbering, &border)?;
     let Numbering { origin, .. } = numbering;
-    Ok(LinkLists { next, origin, face })
+    Ok(HalfEdgeLinks { next, origin, face })
 }
 
 /// Makes default data for edges, and for faces and the outer one.

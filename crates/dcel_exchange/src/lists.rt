@@ -1,19 +1,22 @@
-//! Links as lists, and a mesh made again from them.
+//! Links and anchors as lists, and a mesh made again from them.
 
 ghost use Rattle.std.specs.Prelude.{◌≡◌, IfErr, IfOk, length};
+ghost use Rattle.std.specs.Option.{option_map};
 ghost use Rattle.dcel_edits.specs.Given.{edges_data, halves_data};
 ghost use Rattle.dcel_exchange.specs.Links.{lists_claim};
 ghost use Rattle.dcel_links.specs.Meshes.{IsLinked};
 ghost use Rattle.dcel_maps.specs.Removals.{Closed};
 ghost use Rattle.dcel_maps.specs.Shapes.{IsMesh, face_count};
+ghost use Rattle.spade_dcel.specs.Handles.{number_of};
 
 use crate::steps::links;
 use spade_dcel::dcel::Dcel;
+use spade_dcel::handles::DirectedEdgeHandle;
 use spade_dcel::laws::every_mesh;
-use spade_dcel::operations::{LinksError, MeshData, RefusedLinks, from_links};
+use spade_dcel::operations::{Anchors, LinksError, MeshData, RefusedLinks, from_anchored_links};
 use std::alloc::{AllocError, Allocator, Global};
 
-/// The links of a mesh as three lists, with an item for each half edge.
+/// The links of a mesh as lists, with an item for each half edge, and its anchors.
 #[derive(Drop)]
 pub struct LinkLists<A: Allocator = Global> {
     /// The half edge after each one on its face.
@@ -22,9 +25,13 @@ pub struct LinkLists<A: Allocator = Global> {
     pub origin: Vec<u32, A>,
     /// The face that each one lies on.
     pub face: Vec<u32, A>,
+    /// The anchor of each vertex: a half edge that starts there, or None where none does.
+    pub vertex_anchors: Vec<Option<u32>, A>,
+    /// The anchor of each face: a half edge that lies there, or None where none does.
+    pub face_anchors: Vec<Option<u32>, A>,
 }
 
-/// Returns the links of a mesh as lists, as `from_links` takes them.
+/// Returns the links and anchors of a mesh as lists, as `from_anchored_links` takes them.
 ///
 /// Asks that no removal is open ([`removal_state`](Dcel::removal_state) is `Closed`). If memory
 /// runs out it returns `AllocError`.
@@ -33,26 +40,77 @@ pub fn link_lists<V, DE, UE, F, A: Allocator, B: Allocator + Clone>(
     dcel: &Dcel<V, DE, UE, F, A>,
 ) -> Result<LinkLists<B>, AllocError>
     requires { dcel.now.shape.removal ≡ Closed }
-    ensures { IfOk result (λ lists. IsLinked dcel.now.shape (lists_claim dcel.now.shape lists)) }
+    ensures links { IfOk result (λ lists. IsLinked dcel.now.shape (lists_claim dcel.now.shape lists)) }
+    ensures vertex_anchors { IfOk result (λ lists. lists.vertex_anchors.items ≡ dcel.now.vertex_anchors) }
+    ensures face_anchors { IfOk result (λ lists. lists.face_anchors.items ≡ dcel.now.face_anchors) }
 {
     every_mesh(dcel);
     let mut next = Vec::new(alloc.clone()?);
     let mut origin = Vec::new(alloc.clone()?);
-    let mut face = Vec::new(alloc);
+    let mut face = Vec::new(alloc.clone()?);
     for link in links(dcel) {
         next.push(link.next)?;
         origin.push(link.origin)?;
         face.push(link.face)?;
     }
-    Ok(LinkLists { next, origin, face })
+    Ok(LinkLists {
+        next,
+        origin,
+        face,
+        vertex_anchors: list_vertex_anchors(alloc.clone()?, dcel)?,
+        face_anchors: list_face_anchors(alloc, dcel)?,
+    })
+}
+
+// The anchors of the vertices, in the order of their numbers.
+fn list_vertex_anchors<V, DE, UE, F, A: Allocator, B: Allocator>(
+    alloc: B,
+    dcel: &Dcel<V, DE, UE, F, A>,
+) -> Result<Vec<Option<u32>, B>, AllocError>
+    ensures { IfOk result (λ anchors. anchors.items ≡ dcel.now.vertex_anchors) }
+{
+    every_mesh(dcel);
+    let mut anchors = Vec::new(alloc);
+    for vertex in dcel.vertices() {
+        anchors.push(anchor(vertex.out_edge()))?;
+    }
+    Ok(anchors)
+}
+
+// The anchors of the faces, in the order of their numbers.
+fn list_face_anchors<V, DE, UE, F, A: Allocator, B: Allocator>(
+    alloc: B,
+    dcel: &Dcel<V, DE, UE, F, A>,
+) -> Result<Vec<Option<u32>, B>, AllocError>
+    ensures { IfOk result (λ anchors. anchors.items ≡ dcel.now.face_anchors) }
+{
+    every_mesh(dcel);
+    let mut anchors = Vec::new(alloc);
+    for face in dcel.faces() {
+        anchors.push(anchor(face.adjacent_edge()))?;
+    }
+    Ok(anchors)
+}
+
+// The number of an anchor.
+#[inline]
+fn anchor<V, DE, UE, F, A: Allocator>(
+    edge: Option<DirectedEdgeHandle<'_, V, DE, UE, F, A>>,
+) -> Option<u32>
+    ensures { result ≡ option_map (λ half. number_of half) edge.entry }
+{
+    match edge {
+        Some(edge) => Some(edge.fix().index() as u32),
+        None => None,
+    }
 }
 
 /// Makes the mesh again, over other data, which may be of other types.
 ///
-/// It has the same shape: the same vertices, half edges and faces with the same numbers, links and
-/// words. This is the law of the way there and back: `from_links` of the lists of [`link_lists`]
-/// makes the mesh that they were read from, and says so unless memory runs out. The anchors are the
-/// last half edge of each vertex and face, so walks may begin elsewhere than in the old mesh.
+/// It has the same vertices, half edges and faces with the same numbers, links, words and anchors,
+/// so that walks begin where they began. This is the law of the way there and back:
+/// `from_anchored_links` of the lists of [`link_lists`] makes the mesh that they were read from, and
+/// says so unless memory runs out.
 ///
 /// Asks that no removal is open ([`removal_state`](Dcel::removal_state) is `Closed`), and for a
 /// datum for each vertex, edge and face (`num_vertices`, `num_undirected_edges`, `num_faces`). If
@@ -78,6 +136,8 @@ pub fn with_data<
     requires edges { length given.edges.items ≡ dcel.now.shape.edges }
     requires faces { length given.faces.items ≡ face_count dcel.now.shape }
     ensures shape { IfOk result (λ made. made.shape ≡ dcel.now.shape) }
+    ensures vertex_anchors { IfOk result (λ made. made.vertex_anchors ≡ dcel.now.vertex_anchors) }
+    ensures face_anchors { IfOk result (λ made. made.face_anchors ≡ dcel.now.face_anchors) }
     ensures vertices { IfOk result (λ made. made.vertex_data ≡ given.vertices.items) }
     ensures halves { IfOk result (λ made. made.directed_data ≡ halves_data given.edges.items) }
     ensures edges { IfOk result (λ made. made.undirected_data ≡ edges_data given.edges.items) }
@@ -93,7 +153,18 @@ pub fn with_data<
             back: given,
         });
     };
-    from_links(alloc, &lists.next, &lists.origin, &lists.face, given)
+    let anchors = Anchors {
+        vertices: &lists.vertex_anchors,
+        faces: &lists.face_anchors,
+    };
+    from_anchored_links(
+        alloc,
+        &lists.next,
+        &lists.origin,
+        &lists.face,
+        anchors,
+        given,
+    )
 }
 
 // The lists, in memory of the same kind.
@@ -102,7 +173,9 @@ fn clone_and_list<V, DE, UE, F, A: Allocator, B: Allocator + Clone>(
     dcel: &Dcel<V, DE, UE, F, A>,
 ) -> Result<LinkLists<B>, AllocError>
     requires { dcel.now.shape.removal ≡ Closed }
-    ensures { IfOk result (λ lists. IsLinked dcel.now.shape (lists_claim dcel.now.shape lists)) }
+    ensures links { IfOk result (λ lists. IsLinked dcel.now.shape (lists_claim dcel.now.shape lists)) }
+    ensures vertex_anchors { IfOk result (λ lists. lists.vertex_anchors.items ≡ dcel.now.vertex_anchors) }
+    ensures face_anchors { IfOk result (λ lists. lists.face_anchors.items ≡ dcel.now.face_anchors) }
 {
     link_lists(alloc.clone()?, dcel)
 }

@@ -1,20 +1,37 @@
-//! Meshes made of links: `from_links` with each request refused in turn.
+//! Meshes made of links, alone or with anchors, with each request refused in turn.
 
 use crate::watched::{MANY, Memory, Watched};
 use dcel_bench::checks::same;
 use dcel_bench::pictures::{Picture, picture_of};
 use dcel_bench::refusing::{Refusals, Refusing};
-use spade_dcel::operations::{EdgeData, LinksError, MeshData, RefusedLinks, from_links};
+use spade_dcel::operations::{
+    Anchors, EdgeData, LinksError, MeshData, RefusedLinks, from_anchored_links, from_links,
+};
 use std::alloc::{AllocError, Global};
 use std::test::Fail;
 
-/// The call of all rows.
-const CALL: &str = "from_links";
+#[derive(Clone, Copy)]
+enum Call {
+    FromLinks,
+    /// With anchors of the vertices and of the faces.
+    FromAnchoredLinks(&'static [Option<u32>], &'static [Option<u32>]),
+}
+
+use Call::{FromAnchoredLinks, FromLinks};
+
+/// Returns the function that is called.
+fn name(call: Call) -> &'static str {
+    match call {
+        FromLinks => "from_links",
+        FromAnchoredLinks(_, _) => "from_anchored_links",
+    }
+}
 
 type Data<'a> = MeshData<i64, i64, i64, i64, Memory<'a>>;
 
-/// Links, the data that are given with them, and how many requests for memory the call makes.
+/// A call, its links, the data that are given with them, and how many requests for memory it makes.
 struct Row {
+    call: Call,
     next: &'static [u32],
     origin: &'static [u32],
     face: &'static [u32],
@@ -24,8 +41,9 @@ struct Row {
     requests: u64,
 }
 
-const ROWS: [Row; 2] = [
+const ROWS: [Row; 3] = [
     Row {
+        call: FromLinks,
         next: &[2, 5, 4, 1, 0, 3],
         origin: &[0, 1, 1, 2, 2, 0],
         face: &[0, 1, 0, 1, 0, 1],
@@ -35,6 +53,17 @@ const ROWS: [Row; 2] = [
         requests: 15,
     },
     Row {
+        call: FromAnchoredLinks(&[Some(0), Some(2), Some(3)], &[Some(2), Some(1)]),
+        next: &[2, 5, 4, 1, 0, 3],
+        origin: &[0, 1, 1, 2, 2, 0],
+        face: &[0, 1, 0, 1, 0, 1],
+        vertices: &[5, -6, 7],
+        edges: &[[1, 2, 3], [4, 5, 6], [7, 8, 9]],
+        faces: &[10, 11],
+        requests: 15,
+    },
+    Row {
+        call: FromLinks,
         next: &[],
         origin: &[],
         face: &[],
@@ -88,7 +117,13 @@ fn make<'a>(
     refusals: Refusals,
 ) -> Result<Watched<'a>, RefusedLinks<Data<'a>>> {
     memory.refuse(refusals);
-    from_links(memory, row.next, row.origin, row.face, data)
+    match row.call {
+        FromLinks => from_links(memory, row.next, row.origin, row.face, data),
+        FromAnchoredLinks(vertices, faces) => {
+            let anchors = Anchors { vertices, faces };
+            from_anchored_links(memory, row.next, row.origin, row.face, anchors, data)
+        }
+    }
 }
 
 /// Makes the mesh of a row if nothing is refused.
@@ -104,6 +139,7 @@ fn left(row: &Row, alloc: Global) -> Result<Picture, Fail> {
 /// Makes the mesh of a row with the request of this number refused, and again of the data that come
 /// back if that request came. Returns whether it came.
 fn is_refused(row: &Row, number: u64, left: &Picture, alloc: Global) -> Result<bool, Fail> {
+    let call = name(row.call);
     let memory = Refusing::new(alloc);
     let data = data(&memory, row)?;
     match make(&memory, row, data, Refusals::One(number)) {
@@ -111,16 +147,16 @@ fn is_refused(row: &Row, number: u64, left: &Picture, alloc: Global) -> Result<b
             same(
                 memory.requests() > number,
                 false,
-                format_args!("{CALL}: request {number}"),
+                format_args!("{call}: request {number}"),
             )?;
-            same(&picture_of(&made, alloc)?, left, CALL)?;
+            same(&picture_of(&made, alloc)?, left, call)?;
             Ok(false)
         }
         Err(refused) => {
-            same(refused.reason, LinksError::OutOfMemory, CALL)?;
+            same(refused.reason, LinksError::OutOfMemory, call)?;
             check_data(&refused.back, row)?;
             match make(&memory, row, refused.back, Refusals::None) {
-                Ok(made) => same(&picture_of(&made, alloc)?, left, CALL)?,
+                Ok(made) => same(&picture_of(&made, alloc)?, left, call)?,
                 Err(_) => return Err(Fail::new("no memory for the data that came back")),
             }
             Ok(true)
@@ -132,7 +168,11 @@ fn sweep(row: &Row, alloc: Global) -> Result<(), Fail> {
     let left = left(row, alloc)?;
     for number in 0..MANY {
         if !is_refused(row, number, &left, alloc)? {
-            return same(number, row.requests, format_args!("requests of {CALL}"));
+            return same(
+                number,
+                row.requests,
+                format_args!("requests of {}", name(row.call)),
+            );
         }
     }
     Err(Fail::new("more requests than MANY"))

@@ -1,0 +1,99 @@
+//! Anchors that are given as lists, and the words for what is wrong with them.
+
+use dcel_links::find_wrong_anchor;
+use spade_dcel::operations::{Fault, LinksError};
+use std::alloc::Global;
+use std::process::Abort;
+use std::test::Fail;
+
+/// Anchors, and the number of the wrong one, if one is.
+#[derive(Clone, Copy, Drop)]
+struct Row {
+    anchors: &'static [Option<u32>],
+    wanted: Result<(), usize>,
+}
+
+/// The vertices at which six half edges start; there is no vertex 3.
+const ORIGINS: &[u32] = &[0, 1, 1, 2, 2, 0];
+
+const ROWS: [Row; 7] = [
+    Row {
+        anchors: &[Some(5), Some(1), Some(3)],
+        wanted: Ok(()),
+    },
+    Row {
+        anchors: &[Some(0), Some(2), Some(4), None],
+        wanted: Ok(()),
+    },
+    // Half edges of numbers that have no place are passed over.
+    Row {
+        anchors: &[Some(0)],
+        wanted: Ok(()),
+    },
+    Row {
+        anchors: &[Some(0), None, Some(4)],
+        wanted: Err(1),
+    },
+    Row {
+        anchors: &[Some(0), Some(1), Some(5)],
+        wanted: Err(2),
+    },
+    Row {
+        anchors: &[Some(6), Some(1), Some(3)],
+        wanted: Err(0),
+    },
+    Row {
+        anchors: &[Some(0), Some(1), Some(3), Some(4)],
+        wanted: Err(3),
+    },
+];
+
+#[test]
+fn wrong_anchors_are_found(rt: HostRuntime) -> Result<(), Fail> {
+    for row in &ROWS {
+        assert!(rt; find_wrong_anchor(ORIGINS, row.anchors) == row.wanted);
+    }
+    Ok(())
+}
+
+fn check_text(
+    rt: &impl Abort,
+    alloc: Global,
+    reason: LinksError,
+    wanted: &str,
+) -> Result<(), Fail> {
+    let text = format!(in alloc; "{reason}")?;
+    assert!(rt; text.as_str() == wanted);
+    Ok(())
+}
+
+#[test]
+fn reasons_of_links_are_told(rt: HostRuntime) -> Result<(), Fail> {
+    let table = [
+        (
+            LinksError::Edges,
+            "there are not data of as many edges as the lists have",
+        ),
+        (
+            LinksError::Anchors,
+            "there are not anchors of as many vertices and faces as there are data",
+        ),
+        (
+            LinksError::Links(Fault::NotSphere(1)),
+            "no mesh has these links: the surface has genus 1, so it is not a sphere",
+        ),
+        (
+            LinksError::VertexAnchor(7),
+            "vertex 7 is not anchored at a half edge that starts there",
+        ),
+        (
+            LinksError::FaceAnchor(0),
+            "face 0 is not anchored at a half edge that lies there",
+        ),
+        (LinksError::OutOfMemory, "out of memory"),
+    ];
+    for (reason, wanted) in &table {
+        check_text(&rt, rt.alloc(), *reason, wanted)?;
+    }
+    Ok(())
+}
