@@ -7,3 +7,8 @@ pub mod Borders
 pub mod FaceWords
 pub mod Ranges
 pub mod Defaulted
+pub mod Placed
+pub mod SameEnds
+pub mod Refusals
+pub mod Excluding
+pub mod FaceCorners
