@@ -7,7 +7,7 @@ use Rattle.dcel_links.specs.Claims.{Claim, claim}
 use Rattle.dcel_exchange.specs.Bordering.{AreFound, AreLinked}
 use Rattle.dcel_exchange.specs.Corners.{AreSides, afters, ends, owners, starts}
 use Rattle.dcel_exchange.specs.Meshes.{AreLinks, side_count}
-use Rattle.dcel_exchange.specs.Numbering.{AreNumbered}
+use Rattle.dcel_exchange.specs.Numbering.{AreDistinct, AreNumbered}
 use Rattle.dcel_exchange.specs.Reasons.{EndTwice, Means, Tells, reason_for}
 use Rattle.dcel_exchange.specs.declared.refusal.FacesError.{FacesError}
 use Rattle.dcel_exchange.specs.declared.refusal.FacesError.TheVariants.{BorderTwice, FewCorners, Links, NoVertex, OneEnd, OutOfMemory, SideTwice, TooManyCorners}
@@ -115,12 +115,14 @@ told vertices faces from to face after s OutOfMemory tells = tt
 module _ (vertices : ℕ) (faces : List (List ℕ)) (half : List ℕ) (side : List (Option ℕ)) (origin nexts on : List ℕ) (border : List (Option ℕ))
     (u : AreNumbered (starts faces) (ends faces) (side_count faces) half side origin) (f : AreFound side origin (length origin) border)
     (l : AreLinked side half (afters 0 faces) (owners 0 faces) origin border (length origin) nexts on)
-    (long : (f : ℕ) → f < length faces → 3 ≤ length (slice_index_or faces f [])) (few : side_count faces ≤ 2 ^ 31) where
+    (long : (f : ℕ) → f < length faces → 3 ≤ length (slice_index_or faces f [])) (few : side_count faces ≤ 2 ^ 31)
+    (distinct : AreDistinct (starts faces) (ends faces) (side_count faces)) where
   are_links : AreLinks vertices faces (claim nexts origin on vertices (length faces + 1))
   are_links =
       let many = l.as_many in record {
         long = long;
         few = few;
+        distinct = distinct;
         number = λ p. slice_index half p;
         numbered = record { first = u.first; second = u.second };
         lists = record { even = let e = u.edges in omega (arith, many, e); origins = sym many; sides = l.as_many_faces ∙ sym many };
@@ -150,12 +152,12 @@ module _ (vertices : ℕ) (faces : List (List ℕ)) (half : List ℕ) (side : Li
           of_option (Some p) none_such = absurd (none_such p refl)
 
 pub made_links : (vertices : ℕ) (faces : List (List ℕ)) (from to face after half : List ℕ) (side : List (Option ℕ)) (origin nexts on : List ℕ) (border : List (Option ℕ))
-    → AreSides faces from to face after → AreNumbered from to (length from) half side origin → AreFound side origin (length origin) border
-    → AreLinked side half after face origin border (length origin) nexts on
+    → AreSides faces from to face after → AreNumbered from to (length from) half side origin → AreDistinct from to (length from)
+    → AreFound side origin (length origin) border → AreLinked side half after face origin border (length origin) nexts on
     → AreLinks vertices faces (claim nexts origin on vertices (length faces + 1))
-made_links vertices faces from to face after half side origin nexts on border s u f l =
+made_links vertices faces from to face after half side origin nexts on border s u d f l =
     are_links vertices faces half side origin nexts on border (rw (← s.from_is, ← s.to_is) u) f (rw (← s.after_is, ← s.face_is) l) s.long
-    (let many = ap length s.from_is in let most = s.few in omega (arith, many, most))
+    (let many = ap length s.from_is in let most = s.few in omega (arith, many, most)) (rw (← s.from_is, ← s.to_is) d)
 
 -- an error that is passed on
 pub passed_on : {T : Type 0} (P : FacesError → Type 0) (r : Result T FacesError) (e : FacesError) → IsErr r × IsErrAnd r (λ y. y ≡ e) → P e → IfErr r P

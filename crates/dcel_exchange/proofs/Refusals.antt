@@ -26,6 +26,7 @@ use Rattle.dcel_maps.proofs.words.Turns.{count-turn}
 use Rattle.dcel_exchange.specs.Corners.{LeadsBack, afters, ends, starts}
 use Rattle.dcel_exchange.specs.Meshes.{AreLinks, IsNoSide, side_count}
 use Rattle.dcel_exchange.specs.Simple.{HasCorners, IsSimple}
+use Rattle.dcel_exchange.proofs.FaceCorners.{told_by_ends}
 use Rattle.dcel_exchange.proofs.KnownSides.{count_few}
 use Rattle.dcel_exchange.proofs.Placed.{Placed, as_many, find_below, item_of, placed, round_cycle}
 use Rattle.dcel_exchange.proofs.SameEnds.{Matches, SameEnds, matched_mesh, prevs}
@@ -208,32 +209,6 @@ module _ {V DE UE F : Type 0} (m : Mesh V DE UE F) (mesh : IsMesh m) (simple : I
           (rev (item b.side), back_live (item b.side) (sides.live b.side b.within), beyond_same b.side h b.within b.turn)
     ]
 
-    -- a half edge of the claim is told by its ends
-    side_told : (p h k : ℕ) → p < n → h < halves c → k < halves c → l.number p ≡ h → slice_index c.origin h ≡ slice_index c.origin k
-        → slice_index c.origin (rev h) ≡ slice_index c.origin (rev k) → h ≡ k
-    side_told p h k p_in h_in k_in is start end =
-        let same : SameEnds M c (item p) h = side_same p h p_in is in
-        let moved : SameEnds M c (item p) k = record { start = same.start ∙ start; end = same.end ∙ end } in
-        elim (which k) [
-          | inl (q, q_in, is_k) ↦
-              let one : p ≡ q = sides.apart p q p_in q_in (one_with (item p) (item q) k (sides.live p p_in) (sides.live q q_in) moved (side_same q k q_in is_k)) in
-              sym is ∙ ap l.number one ∙ is_k
-          | inr bare ↦ absurd (omega (arith, sides.face p p_in, bare_outer (item p) k (sides.live p p_in) k_in moved bare))
-        ]
-
-    told : (h k : ℕ) → h < halves c → k < halves c → slice_index c.origin h ≡ slice_index c.origin k
-        → slice_index c.origin (rev h) ≡ slice_index c.origin (rev k) → h ≡ k
-    told h k h_in k_in start end = elim (which h) [
-      | inl (p, p_in, is) ↦ side_told p h k p_in h_in k_in is start end
-      | inr bare ↦
-          let b = l.beyond h h_in bare in
-          let turn : l.number b.side ≡ rev h = sym (rev-rev (l.number b.side)) ∙ ap rev b.turn in
-          let one : rev h ≡ rev k =
-          side_told b.side (rev h) (rev k) b.within (rev_below h h_in) (rev_below k k_in) turn end
-          (ap (slice_index c.origin) (rev-rev h) ∙ start ∙ ap (slice_index c.origin) (sym (rev-rev k))) in
-          sym (rev-rev h) ∙ ap rev one ∙ rev-rev k
-    ]
-
     next : (x h : ℕ) → IsLive s x → h < halves c → SameEnds M c x h
         → (slice_index c.next h < halves c) × SameEnds M c (next_of s x) (slice_index c.next h)
     next x h live below same = elim (which h) [
@@ -266,7 +241,7 @@ module _ {V DE UE F : Type 0} (m : Mesh V DE UE F) (mesh : IsMesh m) (simple : I
     matches : Matches M c
     matches = record {
       told = simple;
-      told_claim = told;
+      told_claim = told_by_ends vertices faces c l;
       forth = forth;
       back = back;
       next = next;

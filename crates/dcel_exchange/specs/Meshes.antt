@@ -7,6 +7,7 @@ use Rattle.dcel_maps.specs.Numbers.{numbers_between}
 use Rattle.dcel_maps.specs.Shapes.{Shape, face_count, origin_of}
 use Rattle.dcel_maps.specs.Words.{TurnsTo, word_of}
 use Rattle.dcel_exchange.specs.Corners.{IsNumbered, LeadsBack, afters, ends, is_first, owners, starts}
+use Rattle.dcel_exchange.specs.Numbering.{AreDistinct}
 
 -- how many sides there are, and how many edges
 abbrev pub side_count : List (List ℕ) → ℕ
@@ -43,11 +44,12 @@ pub record IsBeyond (faces : List (List ℕ)) (number : ℕ → ℕ) (h : ℕ) :
   pub turn : rev (number side) ≡ h
   pub alone : (q : ℕ) → q < side_count faces → ¬ LeadsBack (starts faces) (ends faces) side q
 
--- These are links of half edges for the sides of the faces, numbered so: each side is followed by the next one of its face. What is no side
--- lies on the outer face, beyond a side that none leads back from, and is followed by what is no side and starts where it ends, if there is one.
+-- These are links of half edges for the sides of the faces, numbered so: each side is followed by the next one of its face, and no two have
+-- the same ends. What is no side lies on the outer face, beyond a side that none leads back from, and is followed by what is no side and starts where it ends, if there is one.
 pub record AreLinks (vertices : ℕ) (faces : List (List ℕ)) (c : Claim) : Type 0 where
   pub long : (f : ℕ) → f < length faces → 3 ≤ length (slice_index_or faces f [])
   pub few : side_count faces ≤ 2 ^ 31
+  pub distinct : AreDistinct (starts faces) (ends faces) (side_count faces)
   pub number : ℕ → ℕ
   pub numbered : IsNumbered (starts faces) (ends faces) number
   pub lists : HasLists c

@@ -5,7 +5,7 @@ ghost use Rattle.dcel_exchange.specs.Corners.{corners_of};
 ghost use Rattle.dcel_exchange.specs.Defaults.{HasDefaults};
 ghost use Rattle.dcel_exchange.specs.Meshes.{AreLinks, HasFaces};
 ghost use Rattle.dcel_exchange.specs.Reasons.{Excludes, Means, reason_for};
-ghost use Rattle.dcel_exchange.specs.Simple.{HasCorners};
+ghost use Rattle.dcel_exchange.specs.Simple.{HasCorners, IsSimple};
 ghost use Rattle.dcel_links.specs.Claims.{claim};
 ghost use Rattle.dcel_maps.specs.Removals.{Closed};
 ghost use Rattle.dcel_maps.specs.Shapes.{IsMesh};
@@ -53,6 +53,7 @@ pub fn from_faces<
     ensures closed { IfOk result (λ dcel. dcel.shape.removal ≡ Closed) }
     ensures mesh { IfOk result IsMesh }
     ensures corners { IfOk result (λ dcel. HasCorners dcel.shape (length vertices.items) (corners_of faces.now)) }
+    ensures simple { IfOk result (λ dcel. IsSimple dcel.shape) }
     ensures reason { IfErr result (λ refused. Means (length vertices.items) (corners_of faces.now) refused.reason) }
     ensures none { IfErr result (λ refused. Excludes V DE UE F (length vertices.items) (corners_of faces.now) refused.reason) }
     ensures back { IfErr result (λ refused. refused.back ≡ vertices) }

@@ -9,7 +9,7 @@ use Rattle.spade_dcel.specs.Linked.{Refuses}
 use Rattle.dcel_exchange.proofs.Borders.{reason_told}
 use Rattle.dcel_exchange.proofs.Defaulted.{edges_default, halves_default}
 use Rattle.dcel_exchange.proofs.Excluding.{excludes}
-use Rattle.dcel_exchange.proofs.FaceCorners.{has_corners}
+use Rattle.dcel_exchange.proofs.FaceCorners.{has_corners, is_simple}
 use Rattle.dcel_exchange.proofs.FaceWords.{has_faces}
 use Rattle.dcel_exchange.proofs.faces.from_faces.Goals as goal
 
@@ -46,6 +46,12 @@ returns-in-Ok-from_links-clause-corners g c =
     has_corners c.in-Ok-from_links.dcel.shape (length c.args.vertices.items) (corners_of c.args.faces.now)
     (claim c.in-Ok.links.next.items c.in-Ok.links.origin.items c.in-Ok.links.face.items (length c.args.vertices.items) (length c.args.faces.now + 1))
     (linked g c) (links g c) (faces g c)
+
+pub returns-in-Ok-from_links-clause-simple : goal.returns-in-Ok-from_links-clause-simple
+returns-in-Ok-from_links-clause-simple g c =
+    is_simple c.in-Ok-from_links.dcel.shape (length c.args.vertices.items) (corners_of c.args.faces.now)
+    (claim c.in-Ok.links.next.items c.in-Ok.links.origin.items c.in-Ok.links.face.items (length c.args.vertices.items) (length c.args.faces.now + 1))
+    (linked g c) (links g c)
 
 pub returns-in-Ok-from_links-clause-half_data : goal.returns-in-Ok-from_links-clause-half_data
 returns-in-Ok-from_links-clause-half_data g c =
