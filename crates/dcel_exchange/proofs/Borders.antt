@@ -1,5 +1,5 @@
 -- The border that numbered sides leave, and the links.
-use Rattle.std.proofs.Common.{◌≡◌, ◌≢◌, inl, inr, ℕ, ◌+◌, ◌<◌, ◌≤◌, List, [], ◌∷◌, ◌++◌, length, slice_index, slice_index_or, slice_set, Option, Some, None, Result, Ok, Err, IfErr, IsErr, IsErrAnd, refl, sym, ap, ◌∙◌, subst, arith}
+use Rattle.std.proofs.Common.{◌≡◌, ◌≢◌, inl, inr, ℕ, ◌+◌, ◌^◌, ◌<◌, ◌≤◌, List, [], ◌∷◌, ◌++◌, length, slice_index, slice_index_or, slice_set, Option, Some, None, Result, Ok, Err, IfErr, IsErr, IsErrAnd, refl, sym, ap, ◌∙◌, subst, arith}
 use Rattle.std.proofs.lemmas.Bool.{cases_eq}
 use Rattle.std.proofs.lemmas.List.{get_or-set_other, get_or-set_same, get_or_append_left, get_or_at, length_push}
 use Rattle.dcel_fixed.specs.HalfEdges.{rev}
@@ -7,7 +7,7 @@ use Rattle.dcel_links.specs.Claims.{Claim, claim}
 use Rattle.dcel_exchange.specs.Bordering.{AreFound, AreLinked}
 use Rattle.dcel_exchange.specs.Corners.{AreSides, afters, ends, owners, starts}
 use Rattle.dcel_exchange.specs.Meshes.{AreLinks, side_count}
-use Rattle.dcel_exchange.specs.Numbering.{AreNumbered}
+use Rattle.dcel_exchange.specs.Numbering.{AreDistinct, AreNumbered}
 use Rattle.dcel_exchange.specs.Reasons.{EndTwice, Means, Tells, reason_for}
 use Rattle.dcel_exchange.specs.declared.refusal.FacesError.{FacesError}
 use Rattle.dcel_exchange.specs.declared.refusal.FacesError.TheVariants.{BorderTwice, FewCorners, Links, NoVertex, OneEnd, OutOfMemory, SideTwice, TooManyCorners}
@@ -62,22 +62,25 @@ end_twice from to face half side origin border n v h u f within bare at found =
       other_alone = two.3;
     }
 
-module _ (side : List (Option ℕ)) (half after face : List ℕ) where
-  pub linked_none : AreLinked side half after face 0 [] []
+module _ (side : List (Option ℕ)) (half after face origin : List ℕ) (border : List (Option ℕ)) where
+  pub linked_none : AreLinked side half after face origin border 0 [] []
   linked_none = record {
     as_many = refl;
     as_many_faces = refl;
     next = λ h p below. absurd (omega arith);
     face = λ h p below. absurd (omega arith);
-    border = λ h below. absurd (omega arith);
+    outer = λ h below. absurd (omega arith);
+    around = λ h k below. absurd (omega arith);
   }
 
-  pub linked_one : (n : ℕ) (nexts faces nexts' faces' : List ℕ) (x y : ℕ) → AreLinked side half after face n nexts faces
+  pub linked_one : (n : ℕ) (nexts faces nexts' faces' : List ℕ) (x y : ℕ) → AreLinked side half after face origin border n nexts faces
       → nexts' ≡ nexts ++ x ∷ [] → faces' ≡ faces ++ y ∷ []
       → ((p : ℕ) → slice_index_or side n None ≡ Some p → x ≡ slice_index half (slice_index after p))
       → ((p : ℕ) → slice_index_or side n None ≡ Some p → y ≡ slice_index face p + 1)
-      → (slice_index_or side n None ≡ None → y ≡ 0) → AreLinked side half after face (n + 1) nexts' faces'
-  linked_one n nexts faces nexts' faces' x y l nexts_is faces_is next on bare =
+      → (slice_index_or side n None ≡ None → y ≡ 0)
+      → ((k : ℕ) → slice_index_or side n None ≡ None → slice_index_or border (slice_index origin (rev n)) None ≡ Some k → x ≡ k)
+      → AreLinked side half after face origin border (n + 1) nexts' faces'
+  linked_one n nexts faces nexts' faces' x y l nexts_is faces_is next on bare around =
       let old_next : (h : ℕ) → h < n → slice_index nexts' h ≡ slice_index nexts h =
       λ h below. ap (λ list. slice_index list h) nexts_is ∙ get_or_append_left nexts (x ∷ []) 0 h (let many = l.as_many in omega arith) in
       let old_face : (h : ℕ) → h < n → slice_index faces' h ≡ slice_index faces h =
@@ -90,8 +93,10 @@ module _ (side : List (Option ℕ)) (half after face : List ℕ) where
             (λ k less is. old_next k less ∙ l.next k p less is) (λ is. new_next ∙ next p is) h below;
         face = λ h p below. each_below (λ k. slice_index_or side k None ≡ Some p → slice_index faces' k ≡ slice_index face p + 1) n
             (λ k less is. old_face k less ∙ l.face k p less is) (λ is. new_face ∙ on p is) h below;
-        border = each_below (λ k. slice_index_or side k None ≡ None → slice_index faces' k ≡ 0) n
-            (λ k less is. old_face k less ∙ l.border k less is) (λ is. new_face ∙ bare is);
+        outer = each_below (λ k. slice_index_or side k None ≡ None → slice_index faces' k ≡ 0) n
+            (λ k less is. old_face k less ∙ l.outer k less is) (λ is. new_face ∙ bare is);
+        around = λ h k below. each_below (λ h. slice_index_or side h None ≡ None → slice_index_or border (slice_index origin (rev h)) None ≡ Some k → slice_index nexts' h ≡ k) n
+            (λ h less is found. old_next h less ∙ l.around h k less is found) (λ is found. new_next ∙ around k is found) h below;
       }
 
 -- what is told of the lists of sides is told of the faces
@@ -107,15 +112,20 @@ told vertices faces from to face after s (Links fault) tells = absurd tells
 told vertices faces from to face after s OutOfMemory tells = tt
 
 -- the links of numbered sides are links of the faces
-module _ (vertices : ℕ) (faces : List (List ℕ)) (half : List ℕ) (side : List (Option ℕ)) (origin nexts on : List ℕ)
-    (u : AreNumbered (starts faces) (ends faces) (side_count faces) half side origin) (l : AreLinked side half (afters 0 faces) (owners 0 faces) (length origin) nexts on)
-    (long : (f : ℕ) → f < length faces → 3 ≤ length (slice_index_or faces f [])) where
+module _ (vertices : ℕ) (faces : List (List ℕ)) (half : List ℕ) (side : List (Option ℕ)) (origin nexts on : List ℕ) (border : List (Option ℕ))
+    (u : AreNumbered (starts faces) (ends faces) (side_count faces) half side origin) (f : AreFound side origin (length origin) border)
+    (l : AreLinked side half (afters 0 faces) (owners 0 faces) origin border (length origin) nexts on)
+    (long : (f : ℕ) → f < length faces → 3 ≤ length (slice_index_or faces f [])) (few : side_count faces ≤ 2 ^ 31)
+    (distinct : AreDistinct (starts faces) (ends faces) (side_count faces)) where
   are_links : AreLinks vertices faces (claim nexts origin on vertices (length faces + 1))
   are_links =
       let many = l.as_many in record {
         long = long;
+        few = few;
+        distinct = distinct;
         number = λ p. slice_index half p;
         numbered = record { first = u.first; second = u.second };
+        lists = record { even = let e = u.edges in omega (arith, many, e); origins = sym many; sides = l.as_many_faces ∙ sym many };
         vertices_are = refl;
         half_edges = l.as_many ∙ u.edges;
         faces_are = refl;
@@ -125,7 +135,13 @@ module _ (vertices : ℕ) (faces : List (List ℕ)) (half : List ℕ) (side : Li
         start = u.start;
         end = u.end;
         face = λ p below. l.face (slice_index half p) p (u.in_range p below) (u.placed p below);
-        border = λ h below none. l.border h (omega (arith, below, many)) (bare h none);
+        border = λ h below none. l.outer h (omega (arith, below, many)) (bare h none);
+        beyond = λ h below none.
+            let b = u.bare h (omega (arith, below, many)) (bare h none) in
+            record { side = b.0; within = b.1; turn = b.2; alone = b.3 };
+        around = λ h k h_in k_in h_none k_none start.
+            l.around h k (omega (arith, h_in, many)) (bare h h_none)
+            (ap (λ v. slice_index_or border v None) (sym start) ∙ f.each k (omega (arith, k_in, many)) (bare k k_none));
       }
     where
       bare : (h : ℕ) → ((p : ℕ) → p < side_count faces → slice_index half p ≢ h) → slice_index_or side h None ≡ None
@@ -135,11 +151,13 @@ module _ (vertices : ℕ) (faces : List (List ℕ)) (half : List ℕ) (side : Li
           of_option None none_such = refl
           of_option (Some p) none_such = absurd (none_such p refl)
 
-pub made_links : (vertices : ℕ) (faces : List (List ℕ)) (from to face after half : List ℕ) (side : List (Option ℕ)) (origin nexts on : List ℕ)
-    → AreSides faces from to face after → AreNumbered from to (length from) half side origin → AreLinked side half after face (length origin) nexts on
+pub made_links : (vertices : ℕ) (faces : List (List ℕ)) (from to face after half : List ℕ) (side : List (Option ℕ)) (origin nexts on : List ℕ) (border : List (Option ℕ))
+    → AreSides faces from to face after → AreNumbered from to (length from) half side origin → AreDistinct from to (length from)
+    → AreFound side origin (length origin) border → AreLinked side half after face origin border (length origin) nexts on
     → AreLinks vertices faces (claim nexts origin on vertices (length faces + 1))
-made_links vertices faces from to face after half side origin nexts on s u l =
-    are_links vertices faces half side origin nexts on (rw (← s.from_is, ← s.to_is) u) (rw (← s.after_is, ← s.face_is) l) s.long
+made_links vertices faces from to face after half side origin nexts on border s u d f l =
+    are_links vertices faces half side origin nexts on border (rw (← s.from_is, ← s.to_is) u) f (rw (← s.after_is, ← s.face_is) l) s.long
+    (let many = ap length s.from_is in let most = s.few in omega (arith, many, most)) (rw (← s.from_is, ← s.to_is) d)
 
 -- an error that is passed on
 pub passed_on : {T : Type 0} (P : FacesError → Type 0) (r : Result T FacesError) (e : FacesError) → IsErr r × IsErrAnd r (λ y. y ≡ e) → P e → IfErr r P

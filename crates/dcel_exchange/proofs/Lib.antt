@@ -8,3 +8,8 @@ pub mod FaceWords
 pub mod Ranges
 pub mod Defaulted
 pub mod AnchorLists
+pub mod Placed
+pub mod SameEnds
+pub mod Refusals
+pub mod Excluding
+pub mod FaceCorners

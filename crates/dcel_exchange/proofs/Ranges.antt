@@ -31,7 +31,7 @@ all_numbers a b =
     All-from_get_or (λ k. k < b) (numbers_between a b) 0
     (λ k below. let l = length-numbers a b in let at = number_at a b k (omega (arith, below)) in omega (arith, below))
 
-all_afters : (p : ℕ) (faces : List (List ℕ)) → All (λ k. k < p + length (starts faces)) (afters p faces)
+pub all_afters : (p : ℕ) (faces : List (List ℕ)) → All (λ k. k < p + length (starts faces)) (afters p faces)
 all_afters p [] = All-nil (λ k. k < p + 0)
 all_afters p (w ∷ ws) =
     let long = length-append w (starts ws) in

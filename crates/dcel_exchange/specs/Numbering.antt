@@ -28,6 +28,10 @@ pub record AreNumbered (from to : List ℕ) (i : ℕ) (half : List ℕ) (side : 
       → (p : ℕ) × (p < i) × (rev (slice_index half p) ≡ h) × ((q : ℕ) → q < i → ¬ LeadsBack from to p q)
   pub free : (p : ℕ) → p < i → ((q : ℕ) → q < i → ¬ LeadsBack from to p q) → slice_index_or side (rev (slice_index half p)) None ≡ None
 
+-- no two of the first i sides have the same ends
+abbrev pub AreDistinct : List ℕ → List ℕ → ℕ → Type 0
+AreDistinct from to i = (p q : ℕ) → p < i → q < i → slice_index from p ≡ slice_index from q → slice_index to p ≡ slice_index to q → p ≡ q
+
 -- these sides, and no others, are known by their ends
 pub record AreKnown (from to : List ℕ) (i : ℕ) (known : ℕ → ℕ → Option ℕ) : Type 0 where
   pub each : (p : ℕ) → p < i → known (slice_index from p) (slice_index to p) ≡ Some p

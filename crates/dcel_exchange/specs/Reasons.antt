@@ -2,6 +2,7 @@
 use Rattle.std.specs.Prelude.{◌≡◌, ◌≢◌, ℕ, ◌^◌, ◌<◌, ◌≤◌, List, [], length, slice_index, slice_index_or}
 use Rattle.dcel_exchange.specs.Corners.{LeadsBack, ends, owners, starts}
 use Rattle.dcel_exchange.specs.Meshes.{AreLinks}
+use Rattle.dcel_exchange.specs.Simple.{NoSimpleMesh}
 use Rattle.dcel_exchange.specs.declared.refusal.FacesError.{FacesError}
 use Rattle.dcel_links.specs.Claims.{Claim}
 use Rattle.dcel_links.specs.Faults.{IsFirst}
@@ -74,3 +75,10 @@ Means vertices faces OutOfMemory = Unit {0}
 abbrev pub reason_for : LinksError → FacesError
 reason_for (refused.Links fault) = Links fault
 reason_for other = OutOfMemory
+
+-- No simple mesh has these corners, unless the reason is a limit, or that faces meet at a vertex alone: then one may have them.
+abbrev pub Excludes : Type 0 → Type 0 → Type 0 → Type 0 → ℕ → List (List ℕ) → FacesError → Type 0
+Excludes V DE UE F vertices faces TooManyCorners = Unit {0}
+Excludes V DE UE F vertices faces (BorderTwice a) = Unit {0}
+Excludes V DE UE F vertices faces OutOfMemory = Unit {0}
+Excludes V DE UE F vertices faces _ = NoSimpleMesh V DE UE F vertices faces

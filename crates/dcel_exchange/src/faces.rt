@@ -4,7 +4,8 @@ ghost use Rattle.std.specs.Prelude.{◌≡◌, ◌+◌, ◌*◌, ◌/◌, All, I
 ghost use Rattle.dcel_exchange.specs.Corners.{corners_of};
 ghost use Rattle.dcel_exchange.specs.Defaults.{HasDefaults};
 ghost use Rattle.dcel_exchange.specs.Meshes.{AreLinks, HasFaces};
-ghost use Rattle.dcel_exchange.specs.Reasons.{Means, reason_for};
+ghost use Rattle.dcel_exchange.specs.Reasons.{Excludes, Means, reason_for};
+ghost use Rattle.dcel_exchange.specs.Simple.{HasCorners, IsSimple};
 ghost use Rattle.dcel_links.specs.Claims.{claim};
 ghost use Rattle.dcel_maps.specs.Removals.{Closed};
 ghost use Rattle.dcel_maps.specs.Shapes.{IsMesh};
@@ -25,10 +26,12 @@ use std::alloc::{AllocError, Allocator};
 /// corner. The edges are numbered in the order in which their first sides come, face by face, and
 /// such a side is the even half edge. Data of edges and faces are defaults, and no removal is open.
 ///
-/// It takes any lists. If there is no mesh, or none that the rule tells, or memory runs out, the
-/// vertices come back with a reason ([`FacesError`]). Two faces that meet at a vertex alone are
-/// refused ([`BorderTwice`](FacesError::BorderTwice)), since the lists don't tell how they lie
-/// round it. It goes over the sides a fixed number of times, and looks up each in a hash map.
+/// It takes any lists. If it refuses them, the vertices come back with a reason ([`FacesError`]).
+/// Then no mesh in which no two edges join the same two vertices has these corners, unless memory
+/// ran out, there are too many corners, or two faces meet at a vertex alone
+/// ([`BorderTwice`](FacesError::BorderTwice)), since the lists don't tell how they lie round it.
+///
+/// It goes over the sides a fixed number of times, and looks up each in a hash map.
 pub fn from_faces<
     V: Drop,
     DE: Drop + Default,
@@ -48,7 +51,10 @@ pub fn from_faces<
     ensures face_data { IfOk result (λ dcel. All F.is_default dcel.face_data) }
     ensures closed { IfOk result (λ dcel. dcel.shape.removal ≡ Closed) }
     ensures mesh { IfOk result IsMesh }
+    ensures corners { IfOk result (λ dcel. HasCorners dcel.shape (length vertices.items) (corners_of faces.now)) }
+    ensures simple { IfOk result (λ dcel. IsSimple dcel.shape) }
     ensures reason { IfErr result (λ refused. Means (length vertices.items) (corners_of faces.now) refused.reason) }
+    ensures none { IfErr result (λ refused. Excludes V DE UE F (length vertices.items) (corners_of faces.now) refused.reason) }
     ensures back { IfErr result (λ refused. refused.back ≡ vertices) }
 {
     let links = match link_faces(&alloc, vertices.len(), faces) {

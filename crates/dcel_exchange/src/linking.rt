@@ -86,7 +86,7 @@ pub(crate) fn list_links<A: Allocator + Clone>(
     requires after { (p : ℕ) → p < length sides.now.from.items → slice_index sides.now.after.items p < length sides.now.from.items }
     requires few { (p : ℕ) → p < length sides.now.from.items → slice_index sides.now.face.items p + 1 < 2 ^ 32 }
     requires below { (h : ℕ) → h < length numbering.now.origin.items → slice_index numbering.now.origin.items h < length border.now.items }
-    ensures { IfOk result (λ lists. AreLinked numbering.now.side.items numbering.now.half.items sides.now.after.items sides.now.face.items (length numbering.now.origin.items) lists.0.items lists.1.items) }
+    ensures { IfOk result (λ lists. AreLinked numbering.now.side.items numbering.now.half.items sides.now.after.items sides.now.face.items numbering.now.origin.items border.now.items (length numbering.now.origin.items) lists.0.items lists.1.items) }
 {
     let mut next = Vec::new(alloc.clone()?);
     let mut face = Vec::new(alloc.clone()?);
@@ -109,7 +109,8 @@ fn next_after<A: Allocator>(
     requires after { (p : ℕ) → p < length sides.now.from.items → slice_index sides.now.after.items p < length sides.now.from.items }
     requires below { (h : ℕ) → h < length numbering.now.origin.items → slice_index numbering.now.origin.items h < length border.now.items }
     requires within { half < length numbering.now.origin.items }
-    ensures { (p : ℕ) → slice_index_or numbering.now.side.items half None ≡ Some p → result ≡ slice_index numbering.now.half.items (slice_index sides.now.after.items p) }
+    ensures side { (p : ℕ) → slice_index_or numbering.now.side.items half None ≡ Some p → result ≡ slice_index numbering.now.half.items (slice_index sides.now.after.items p) }
+    ensures border { (k : ℕ) → slice_index_or numbering.now.side.items half None ≡ None → slice_index_or border.now.items (slice_index numbering.now.origin.items (rev half)) None ≡ Some k → result ≡ k }
 {
     match numbering.side(half) {
         Some(side) => numbering.half(sides.after(side as usize) as usize),

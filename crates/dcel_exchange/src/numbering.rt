@@ -1,7 +1,7 @@
 //! Numbers for the half edges of sides.
 
 ghost use Rattle.std.specs.Prelude.{◌≡◌, ◌≢◌, ℕ, ◌+◌, ◌^◌, ◌<◌, ◌≤◌, [], ◌∷◌, ◌++◌, ◌==◌, ◌&&◌, cond, IfErr, IfOk, None, OnOk, Some, length, slice_index, slice_index_or, slice_set};
-ghost use Rattle.dcel_exchange.specs.Numbering.{AreKnown, AreNumbered, side_between};
+ghost use Rattle.dcel_exchange.specs.Numbering.{AreDistinct, AreKnown, AreNumbered, side_between};
 ghost use Rattle.dcel_exchange.specs.Reasons.{Tells};
 ghost use Rattle.dcel_fixed.specs.HalfEdges.{rev};
 
@@ -36,6 +36,7 @@ pub(crate) fn number_sides<A: Allocator + Clone>(
     requires few { length sides.now.from.items ≤ 2 ^ 31 }
     requires apart { (p : ℕ) → p < length sides.now.from.items → slice_index sides.now.from.items p ≢ slice_index sides.now.to.items p }
     ensures numbered { IfOk result (λ n. AreNumbered sides.now.from.items sides.now.to.items (length sides.now.from.items) n.half.items n.side.items n.origin.items) }
+    ensures distinct { IfOk result (λ n. AreDistinct sides.now.from.items sides.now.to.items (length sides.now.from.items)) }
     ensures reason { (vertices : ℕ) → IfErr result (Tells sides.now.from.items sides.now.to.items sides.now.face.items vertices) }
 {
     let mut known = HashMap::new(alloc.clone()?);

@@ -72,4 +72,5 @@ returns-clause-links g c =
     (length-map c.args.faces.now (λ face. face.items))
     (made_links c.args.vertices (corners_of c.args.faces.now) c.in_ok-sides.sides.from.items c.in_ok-sides.sides.to.items c.in_ok-sides.sides.face.items
     c.in_ok-sides.sides.after.items c.in_ok-numbering.numbering.half.items c.in_ok-numbering.numbering.side.items c.in_ok-numbering.numbering.origin.items
-    c.in_ok-next.next.items c.in_ok-next.face.items c.in_ok-sides.ensures.sides c.in_ok-numbering.ensures.numbered c.in_ok-next.ensures)
+    c.in_ok-next.next.items c.in_ok-next.face.items c.in_ok-border.border.items c.in_ok-sides.ensures.sides c.in_ok-numbering.ensures.numbered
+    c.in_ok-numbering.ensures.distinct c.in_ok-border.ensures.border c.in_ok-next.ensures)

@@ -1,4 +1,6 @@
-use Rattle.std.proofs.Common.{◌∙◌, sym, arith}
+use Rattle.std.proofs.Common.{◌≡◌, ◌∙◌, length, subst, sym, arith}
+use Rattle.dcel_exchange.specs.Numbering.{AreDistinct, side_between}
+use Rattle.dcel_exchange.proofs.KnownSides.{one_side}
 use Rattle.dcel_exchange.proofs.numbering.number_sides.Goals as goal
 
 pub owner-requires : goal.owner-requires
@@ -26,3 +28,9 @@ returns-in-Some-clause-reason g c =
         end = sym c.ends-from.ensures.end;
       };
     }
+
+pub returns-clause-distinct : goal.returns-clause-distinct
+returns-clause-distinct g c =
+    let all : c.loop-side.side ≡ length c.args.sides.now.from.items = omega (arith, c.loop-side-test.false, c.loop-side.auto.side-end, c.len-side-end.ensures) in
+    subst (AreDistinct c.args.sides.now.from.items c.args.sides.now.to.items) all
+    (one_side c.args.sides.now.from.items c.args.sides.now.to.items c.loop-side.side (side_between c.loop-side.known) c.loop-side.invariant.known)
