@@ -106,7 +106,7 @@ fn link_faces<A: Allocator + Clone, B: Allocator>(
 {
     let sides = list_sides(alloc, faces)?;
     check_ends(&sides, vertices)?;
-    let numbering = number_sides(alloc, &sides)?;
+    let numbering = number_sides(alloc, &sides, vertices)?;
     let border = find_border(alloc, &sides, &numbering, vertices)?;
     let (next, face) = list_links(alloc, &sides, &numbering, &border)?;
     let Numbering { origin, .. } = numbering;
