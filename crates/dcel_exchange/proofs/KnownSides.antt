@@ -1,9 +1,8 @@
--- Which sides are known, and which of them lead back.
+-- Which sides lead back, and which are the first of their edges.
 use Rattle.std.proofs.Common.{◌≡◌, ◌⊎◌, inl, inr, ℕ, zero, suc, ◌+◌, ◌<◌, ◌≤◌, ◌==◌, ◌&&◌, Bool, true, false, cond, List, slice_index, unwrap_or, Option, Some, None, refl, sym, ap, ◌∙◌, subst, eq-eqb, arith}
 use Rattle.std.proofs.lemmas.Bool.{and_from, and_parts, cases_Bool, cases_eq, cases_lt, eqb-true, false≢true, not_from_false, not_from_true, or_cases, or_left, or_right}
 use Rattle.dcel_maps.specs.Maps.{any_below, count}
 use Rattle.dcel_exchange.specs.Corners.{LeadsBack, is_first, leads_back}
-use Rattle.dcel_exchange.specs.Numbering.{AreKnown}
 
 -- what holds of each number below i, and of i
 pub each_below : (P : ℕ → Type 0) (i : ℕ) → ((p : ℕ) → p < i → P p) → P i → (p : ℕ) → p < i + 1 → P p
@@ -80,48 +79,3 @@ module _ (from to : List ℕ) where
     | inl first ↦ rw first (omega (arith, count_few i))
     | inr second ↦ rw second (omega (arith, count_few i))
   ]
-
-  module _ (i : ℕ) (known : ℕ → ℕ → Option ℕ) (k : AreKnown from to i known) where
-    -- no two known sides have the same ends
-    pub one_side : (p q : ℕ) → p < i → q < i → slice_index from p ≡ slice_index from q → slice_index to p ≡ slice_index to q → p ≡ q
-    one_side p q lp lq starts ends =
-        one_of p q (sym (k.each p lp) ∙ ap (λ a. known a (slice_index to p)) starts ∙ ap (known (slice_index from q)) ends ∙ k.each q lq)
-
-    -- a side that isn't known is none of these
-    pub fresh_side : known (slice_index from i) (slice_index to i) ≡ None → (q : ℕ) → q < i → slice_index from q ≡ slice_index from i → slice_index to q ≡ slice_index to i → ⊥
-    fresh_side new q below starts ends =
-        not_none q (sym (k.each q below) ∙ ap (λ a. known a (slice_index to q)) starts ∙ ap (known (slice_index from i)) ends ∙ new)
-
-    pub none_back : known (slice_index to i) (slice_index from i) ≡ None → (q : ℕ) → q < i → ¬ LeadsBack from to i q
-    none_back none q below back =
-        not_none q (sym (k.each q below) ∙ ap (λ a. known a (slice_index to q)) back.0 ∙ ap (known (slice_index to i)) back.1 ∙ none)
-
-    -- one more side is known
-    module _ (known' : ℕ → ℕ → Option ℕ) (new : known (slice_index from i) (slice_index to i) ≡ None)
-        (put : (a b : ℕ) → known' a b ≡ cond (slice_index from i == a && slice_index to i == b) (Some i) (known a b)) where
-      here : known' (slice_index from i) (slice_index to i) ≡ Some i
-      here =
-          let test = and_from (slice_index from i == slice_index from i) (slice_index to i == slice_index to i) (eq-eqb _ _ refl) (eq-eqb _ _ refl) in
-          put (slice_index from i) (slice_index to i) ∙ ap (λ t. cond t (Some i) (known (slice_index from i) (slice_index to i))) test
-
-      there : (a b : ℕ) → (slice_index from i == a && slice_index to i == b) ≡ false → known' a b ≡ known a b
-      there a b other = put a b ∙ ap (λ t. cond t (Some i) (known a b)) other
-
-      apart_test : (p : ℕ) → p < i → (slice_index from i == slice_index from p && slice_index to i == slice_index to p) ≡ false
-      apart_test p below = elim (cases_Bool (slice_index from i == slice_index from p && slice_index to i == slice_index to p)) [
-        | inl same ↦ let both = and_parts (slice_index from i == slice_index from p) (slice_index to i == slice_index to p) same in
-            absurd (fresh_side new p below (sym (eqb-true _ _ both.0)) (sym (eqb-true _ _ both.1)))
-        | inr other ↦ other
-      ]
-
-      pub known_more : AreKnown from to (i + 1) known'
-      known_more = record {
-        each = each_below (λ p. known' (slice_index from p) (slice_index to p) ≡ Some p) i
-            (λ p below. there (slice_index from p) (slice_index to p) (apart_test p below) ∙ k.each p below) here;
-        only = λ a b p found. elim (cases_Bool (slice_index from i == a && slice_index to i == b)) [
-          | inl same ↦ let both = and_parts (slice_index from i == a) (slice_index to i == b) same in
-              let is : i ≡ p = one_of i p (sym (ap (λ t. cond t (Some i) (known a b)) same) ∙ sym (put a b) ∙ found) in
-              subst (λ n. (n < i + 1) × (slice_index from n ≡ a) × (slice_index to n ≡ b)) is (omega arith, eqb-true _ _ both.0, eqb-true _ _ both.1)
-          | inr other ↦ let was = k.only a b p (sym (there a b other) ∙ found) in (omega (arith, was.0), was.1, was.2)
-        ];
-      }

@@ -1,6 +1,7 @@
 pub mod Listing
 pub mod Again
 pub mod KnownSides
+pub mod Chained
 pub mod NumberedSides
 pub mod Rows
 pub mod Borders

@@ -6,8 +6,9 @@ use Rattle.dcel_fixed.proofs.Halves.{rev-even, rev-rev, rev_within}
 use Rattle.dcel_fixed.specs.HalfEdges.{rev}
 use Rattle.dcel_maps.specs.Maps.{count}
 use Rattle.dcel_exchange.specs.Corners.{LeadsBack, is_first}
-use Rattle.dcel_exchange.specs.Numbering.{AreKnown, AreNumbered}
-use Rattle.dcel_exchange.proofs.KnownSides.{count_few, count_first, count_second, each_below, first_from, fresh_side, known_more, none_back, not_none, one_of, one_side, second_from}
+use Rattle.dcel_exchange.specs.Chains.{IsFound, Leads}
+use Rattle.dcel_exchange.specs.Numbering.{AreDistinct, AreNumbered, side_of_found}
+use Rattle.dcel_exchange.proofs.KnownSides.{count_few, count_first, count_second, each_below, first_from, not_none, one_of, second_from}
 
 -- leading back is mutual
 pub back_again : (from to : List ℕ) (p q : ℕ) → LeadsBack from to p q → LeadsBack from to q p
@@ -251,31 +252,74 @@ module _ (from to : List ℕ) (i : ℕ) (half : List ℕ) (side : List (Option �
   pub room : i < 2 ^ 31 → length origin < 2 ^ 32
   room few = let e = u.edges in let c = count_few from to i in omega arith
 
--- one more side, by what was known
-module _ (from to : List ℕ) (i : ℕ) (half : List ℕ) (side : List (Option ℕ)) (origin : List ℕ) (known : ℕ → ℕ → Option ℕ) (a b : ℕ)
-    (a_is : a ≡ slice_index from i) (b_is : b ≡ slice_index to i)
-    (u : AreNumbered from to i half side origin) (k : AreKnown from to i known) (new : known (slice_index from i) (slice_index to i) ≡ None) where
-  pub known_put : (known' : ℕ → ℕ → Option ℕ) → ((x y : ℕ) → known' x y ≡ cond (a == x && b == y) (Some i) (known x y)) → AreKnown from to (i + 1) known'
-  known_put known' put = known_more from to i known k known' new (rw (← a_is, ← b_is) put)
+-- one more side, and the half edge that was found where it leads
+module _ (from to : List ℕ) (i : ℕ) (half : List ℕ) (side : List (Option ℕ)) (origin : List ℕ) (u : AreNumbered from to i half side origin)
+    (distinct : AreDistinct from to i) where
+  -- no side so far has the ends of this one
+  abbrev IsNew : Type 0
+  IsNew = (q : ℕ) → q < i → slice_index from q ≡ slice_index from i → slice_index to q ≡ slice_index to i → ⊥
 
-  pub number_first : slice_index from i ≢ slice_index to i → known b a ≡ None → (half' : List ℕ) (side' : List (Option ℕ)) (origin' : List ℕ)
-      → half' ≡ half ++ length origin ∷ [] → side' ≡ side ++ Some i ∷ None ∷ [] → origin' ≡ origin ++ a ∷ b ∷ [] → AreNumbered from to (i + 1) half' side' origin'
-  number_first apart none half' side' origin' halves sides origins =
-      let unknown : known (slice_index to i) (slice_index from i) ≡ None = rw (← a_is, ← b_is) none in
-      rw (halves, sides, origins, a_is, b_is) (first_numbered from to i half side origin u apart (none_back from to i known k unknown))
+  distinct_more : IsNew → AreDistinct from to (i + 1)
+  distinct_more new p q lp lq starts ends = elim (cases_lt p i) [
+    | inl before ↦ elim (cases_lt q i) [
+      | inl also ↦ distinct p q before also starts ends
+      | inr past ↦ let here : q ≡ i = omega (arith, lq, past) in
+          absurd (new p before (starts ∙ ap (slice_index from) here) (ends ∙ ap (slice_index to) here))
+    ]
+    | inr past ↦ let here : p ≡ i = omega (arith, lp, past) in elim (cases_lt q i) [
+      | inl before ↦ absurd (new q before (sym starts ∙ ap (slice_index from) here) (sym ends ∙ ap (slice_index to) here))
+      | inr also ↦ omega (arith, here, lq, also)
+    ]
+  ]
 
-  module _ (j : ℕ) (found : known b a ≡ Some j) where
-    there : known (slice_index to i) (slice_index from i) ≡ Some j
-    there = rw (← a_is, ← b_is) found
+  module _ (none : (h : ℕ) → ¬ Leads origin h (slice_index from i) (slice_index to i)) where
+    none_new : IsNew
+    none_new q below starts ends = none (slice_index half q) (record { below = u.in_range q below; start = u.start q below ∙ starts; end = u.end q below ∙ ends })
 
-    pub back_below : j < i
-    back_below = (k.only _ _ j there).0
+    none_back : (q : ℕ) → q < i → ¬ LeadsBack from to i q
+    none_back q below back = none (rev (slice_index half q)) (record {
+      below = rev_in_range from to i half side origin u q below;
+      start = u.end q below ∙ back.1;
+      end = ap (slice_index origin) (rev-rev (slice_index half q)) ∙ u.start q below ∙ back.0;
+    })
 
-    pub back_placed : rev (slice_index half j) < length side
-    back_placed = let r = rev_in_range from to i half side origin u j back_below in let s = u.sides in omega arith
+    pub distinct_first : AreDistinct from to (i + 1)
+    distinct_first = distinct_more none_new
+
+    pub number_first : slice_index from i ≢ slice_index to i → (half' : List ℕ) (side' : List (Option ℕ)) (origin' : List ℕ)
+        → half' ≡ half ++ length origin ∷ [] → side' ≡ side ++ Some i ∷ None ∷ [] → origin' ≡ origin ++ slice_index from i ∷ slice_index to i ∷ []
+        → AreNumbered from to (i + 1) half' side' origin'
+    number_first apart half' side' origin' halves sides origins = rw (halves, sides, origins) (first_numbered from to i half side origin u apart none_back)
+
+  module _ (h : ℕ) (leads : Leads origin h (slice_index from i) (slice_index to i)) (free : slice_index_or side h None ≡ None) where
+    -- the side beyond it
+    beyond : (p : ℕ) × (p < i) × (rev (slice_index half p) ≡ h) × ((q : ℕ) → q < i → ¬ LeadsBack from to p q)
+    beyond = u.bare h leads.below free
+
+    back : LeadsBack from to i beyond.0
+    back =
+        let b = beyond in
+        (sym (u.start b.0 b.1) ∙ ap (slice_index origin) (sym (rev-rev (slice_index half b.0)) ∙ ap rev b.2) ∙ leads.end,
+        sym (u.end b.0 b.1) ∙ ap (slice_index origin) b.2 ∙ leads.start)
+
+    found_new : IsNew
+    found_new q below starts ends = let b = beyond in let l = back in b.3 q below (starts ∙ sym l.1, ends ∙ sym l.0)
+
+    pub distinct_second : AreDistinct from to (i + 1)
+    distinct_second = distinct_more found_new
 
     pub number_second : (half' : List ℕ) (side' : List (Option ℕ)) (origin' : List ℕ)
-        → half' ≡ half ++ rev (slice_index half j) ∷ [] → side' ≡ slice_set side (rev (slice_index half j)) (Some i) → origin' ≡ origin → AreNumbered from to (i + 1) half' side' origin'
+        → half' ≡ half ++ h ∷ [] → side' ≡ slice_set side h (Some i) → origin' ≡ origin → AreNumbered from to (i + 1) half' side' origin'
     number_second half' side' origin' halves sides origins =
-        let only = k.only _ _ j there in
-        rw (halves, sides, origins) (second_numbered from to i half side origin u j only.0 (only.1, only.2) (one_side from to i known k) (fresh_side from to i known k new))
+        let b = beyond in
+        rw (halves, sides, origins)
+        (subst (λ k. AreNumbered from to (i + 1) (half ++ k ∷ []) (slice_set side k (Some i)) origin) b.2
+        (second_numbered from to i half side origin u b.0 b.1 back distinct found_new))
+
+  -- if a half edge was found and is a side, that side leads there
+  pub taken : (found : Option ℕ) (p : ℕ) → IsFound origin (slice_index from i) (slice_index to i) found → side_of_found side found ≡ Some p
+      → (p < i) × (slice_index from p ≡ slice_index from i) × (slice_index to p ≡ slice_index to i)
+  taken None p none is = absurd (not_none p (sym is))
+  taken (Some h) p leads is =
+      let was = u.only h p is in
+      (was.0, sym (u.start p was.0) ∙ ap (slice_index origin) was.1 ∙ leads.start, sym (u.end p was.0) ∙ ap (λ k. slice_index origin (rev k)) was.1 ∙ leads.end)

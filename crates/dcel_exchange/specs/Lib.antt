@@ -1,5 +1,6 @@
 pub mod Links
 pub mod Corners
+pub mod Chains
 pub mod Numbering
 pub mod Meshes
 pub mod Simple

@@ -1,15 +1,8 @@
 -- What is known while sides are numbered, one after another.
-use Rattle.std.specs.Prelude.{◌≡◌, ℕ, ◌*◌, ◌<◌, ◌&&◌, nat_eq, true, List, length, slice_index, slice_index_or, Option, Some, None}
-use Rattle.std.specs.HashMap.{HashMap, get}
-use Rattle.std.specs.declared.hash.BuildHasherDefault.{BuildHasherDefault}
-use Rattle.std.specs.declared.hash.FoldHasher.{FoldHasher}
+use Rattle.std.specs.Prelude.{◌≡◌, ℕ, ◌*◌, ◌<◌, true, List, length, slice_index, slice_index_or, option_and_then, Option, Some, None}
 use Rattle.dcel_fixed.specs.HalfEdges.{rev}
 use Rattle.dcel_maps.specs.Maps.{count}
 use Rattle.dcel_exchange.specs.Corners.{LeadsBack, is_first}
-
--- the side that leads from one vertex to another, if one is known
-abbrev pub side_between : HashMap (ℕ × ℕ) ℕ (BuildHasherDefault FoldHasher) → ℕ → ℕ → Option ℕ
-side_between known a b = get (λ (x y : ℕ × ℕ). nat_eq x.0 y.0 && nat_eq x.1 y.1) known (a, b)
 
 -- the first i sides are numbered: their half edges, the side of each half edge, and where each one starts
 pub record AreNumbered (from to : List ℕ) (i : ℕ) (half : List ℕ) (side : List (Option ℕ)) (origin : List ℕ) : Type 0 where
@@ -32,7 +25,6 @@ pub record AreNumbered (from to : List ℕ) (i : ℕ) (half : List ℕ) (side : 
 abbrev pub AreDistinct : List ℕ → List ℕ → ℕ → Type 0
 AreDistinct from to i = (p q : ℕ) → p < i → q < i → slice_index from p ≡ slice_index from q → slice_index to p ≡ slice_index to q → p ≡ q
 
--- these sides, and no others, are known by their ends
-pub record AreKnown (from to : List ℕ) (i : ℕ) (known : ℕ → ℕ → Option ℕ) : Type 0 where
-  pub each : (p : ℕ) → p < i → known (slice_index from p) (slice_index to p) ≡ Some p
-  pub only : (a b p : ℕ) → known a b ≡ Some p → (p < i) × (slice_index from p ≡ a) × (slice_index to p ≡ b)
+-- the side of a half edge that was found
+abbrev pub side_of_found : List (Option ℕ) → Option ℕ → Option ℕ
+side_of_found side found = option_and_then (λ h. slice_index_or side h None) found

@@ -5,6 +5,7 @@
 //! as lists of vertices.
 #![tactic(auto)]
 
+mod chains;
 mod faces;
 mod linking;
 mod lists;

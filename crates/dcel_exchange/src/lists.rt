@@ -167,7 +167,7 @@ pub fn with_data<
     )
 }
 
-// The lists, in memory of the same kind.
+// Returns the lists, in memory of the same kind.
 fn clone_and_list<V, DE, UE, F, A: Allocator, B: Allocator + Clone>(
     alloc: &B,
     dcel: &Dcel<V, DE, UE, F, A>,

@@ -1,18 +1,15 @@
 //! Numbers for the half edges of sides.
 
-ghost use Rattle.std.specs.Prelude.{◌≡◌, ◌≢◌, ℕ, ◌+◌, ◌^◌, ◌<◌, ◌≤◌, [], ◌∷◌, ◌++◌, ◌==◌, ◌&&◌, cond, IfErr, IfOk, None, OnOk, Some, length, slice_index, slice_index_or, slice_set};
-ghost use Rattle.dcel_exchange.specs.Numbering.{AreDistinct, AreKnown, AreNumbered, side_between};
+ghost use Rattle.std.specs.Prelude.{◌≡◌, ◌≢◌, ℕ, ◌+◌, ◌^◌, ◌<◌, ◌≤◌, [], ◌∷◌, ◌++◌, IfErr, IfOk, IfSome, None, OnOk, Some, length, slice_index, slice_index_or, slice_set};
+ghost use Rattle.dcel_exchange.specs.Chains.{AreChained, IsFound};
+ghost use Rattle.dcel_exchange.specs.Numbering.{AreDistinct, AreNumbered, side_of_found};
 ghost use Rattle.dcel_exchange.specs.Reasons.{Tells};
 ghost use Rattle.dcel_fixed.specs.HalfEdges.{rev};
 
+use crate::chains::Chains;
 use crate::refusal::FacesError;
 use crate::sides::Sides;
 use std::alloc::{AllocError, Allocator};
-use std::collections::HashMap;
-use std::hash::{BuildHasherDefault, FoldHasher};
-
-/// The side that leads from one vertex to another.
-type Known<A> = HashMap<(u32, u32), u32, BuildHasherDefault<FoldHasher>, A>;
 
 /// Which half edge each side is, and which side, if any, each half edge.
 #[derive(Drop)]
@@ -30,24 +27,24 @@ pub(crate) struct Numbering<A: Allocator> {
 pub(crate) fn number_sides<A: Allocator + Clone>(
     alloc: &A,
     sides: &Sides<A>,
+    vertices: usize,
 ) -> Result<Numbering<A>, FacesError>
     requires ends { length sides.now.to.items ≡ length sides.now.from.items }
     requires faces { length sides.now.face.items ≡ length sides.now.from.items }
     requires few { length sides.now.from.items ≤ 2 ^ 31 }
+    requires starts { (p : ℕ) → p < length sides.now.from.items → slice_index sides.now.from.items p < vertices }
+    requires stops { (p : ℕ) → p < length sides.now.from.items → slice_index sides.now.to.items p < vertices }
     requires apart { (p : ℕ) → p < length sides.now.from.items → slice_index sides.now.from.items p ≢ slice_index sides.now.to.items p }
     ensures numbered { IfOk result (λ n. AreNumbered sides.now.from.items sides.now.to.items (length sides.now.from.items) n.half.items n.side.items n.origin.items) }
     ensures distinct { IfOk result (λ n. AreDistinct sides.now.from.items sides.now.to.items (length sides.now.from.items)) }
-    ensures reason { (vertices : ℕ) → IfErr result (Tells sides.now.from.items sides.now.to.items sides.now.face.items vertices) }
+    ensures reason { (count : ℕ) → IfErr result (Tells sides.now.from.items sides.now.to.items sides.now.face.items count) }
 {
-    let mut known = HashMap::new(alloc.clone()?);
-    let mut numbering = Numbering {
-        half: Vec::new(alloc.clone()?),
-        side: Vec::new(alloc.clone()?),
-        origin: Vec::new(alloc.clone()?),
-    };
+    let mut chains = Chains::new(alloc, &sides.from, vertices)?;
+    let mut numbering = Numbering::with_capacity(alloc, sides.from.len())?;
     for side in 0..sides.from.len() {
         let (from, to) = sides.ends(side);
-        if let Some(other) = find_side(&known, from, to) {
+        let found = chains.find(&numbering.origin, from, to);
+        if let Some(other) = numbering.side_of(found) {
             return Err(FacesError::SideTwice(
                 sides.owner(other as usize),
                 sides.owner(side),
@@ -55,57 +52,69 @@ pub(crate) fn number_sides<A: Allocator + Clone>(
                 to,
             ));
         }
-        numbering.number(&mut known, sides, side)?;
+        numbering.number(&mut chains, sides, side, found)?;
     }
     Ok(numbering)
 }
 
-/// Returns the side that leads from one vertex to another.
-fn find_side<A: Allocator>(known: &Known<A>, from: u32, to: u32) -> Option<u32>
-    ensures { result ≡ side_between known.now from to }
-{
-    known.get(&(from, to)).copied()
-}
-
-/// Notes that this side leads from one vertex to another.
-fn put_side<A: Allocator + Clone>(
-    known: &mut Known<A>,
-    from: u32,
-    to: u32,
-    side: u32,
-) -> Result<(), AllocError>
-    ensures { OnOk result ((a b : ℕ) → side_between known.new a b ≡ cond (from == a && to == b) (Some side) (side_between known.old a b)) }
-{
-    known.insert((from, to), side)?;
-    Ok(())
-}
-
 impl<A: Allocator> Numbering<A> {
-    /// Numbers a side that leads where none has led yet.
-    fn number(
-        &mut self,
-        known: &mut Known<A>,
-        sides: &Sides<A>,
-        side: usize,
-    ) -> Result<(), AllocError>
+    /// Makes an empty one with room for so many sides.
+    fn with_capacity(alloc: &A, sides: usize) -> Result<Self, AllocError>
     where
         A: Clone,
+        ensures half { IfOk result (λ n. n.half.items ≡ []) }
+        ensures side { IfOk result (λ n. n.side.items ≡ []) }
+        ensures origin { IfOk result (λ n. n.origin.items ≡ []) }
+    {
+        Ok(Numbering {
+            half: Vec::with_capacity(alloc.clone()?, sides)?,
+            side: Vec::with_capacity(alloc.clone()?, sides)?,
+            origin: Vec::with_capacity(alloc.clone()?, sides)?,
+        })
+    }
+
+    /// Returns the side of a half edge, if one was found and has a side.
+    fn side_of(&self, found: Option<u32>) -> Option<u32>
+        requires { IfSome found (λ h. h < length self.now.side.items) }
+        ensures { result ≡ side_of_found self.now.side.items found }
+    {
+        match found {
+            Some(half) => self.side[half as usize],
+            None => None,
+        }
+    }
+
+    /// Numbers a side that leads where none has led yet. It is the half edge that was found there,
+    /// or one of a new edge.
+    fn number(
+        &mut self,
+        chains: &mut Chains<A>,
+        sides: &Sides<A>,
+        side: usize,
+        found: Option<u32>,
+    ) -> Result<(), AllocError>
         requires ends { length sides.now.to.items ≡ length sides.now.from.items }
         requires below { side < length sides.now.from.items }
         requires few { length sides.now.from.items ≤ 2 ^ 31 }
+        requires start { slice_index sides.now.from.items side < length chains.old.last.items }
+        requires end { slice_index sides.now.to.items side < length chains.old.last.items }
         requires apart { slice_index sides.now.from.items side ≢ slice_index sides.now.to.items side }
         requires numbered { AreNumbered sides.now.from.items sides.now.to.items side self.old.half.items self.old.side.items self.old.origin.items }
-        requires known { AreKnown sides.now.from.items sides.now.to.items side (side_between known.old) }
-        requires new { side_between known.old (slice_index sides.now.from.items side) (slice_index sides.now.to.items side) ≡ None }
+        requires distinct { AreDistinct sides.now.from.items sides.now.to.items side }
+        requires chained { AreChained (length chains.old.last.items) chains.old.starts.items self.old.origin.items chains.old.last.items chains.old.before.items }
+        requires found { IsFound self.old.origin.items (slice_index sides.now.from.items side) (slice_index sides.now.to.items side) found }
+        requires free { side_of_found self.old.side.items found ≡ None }
         ensures numbered { OnOk result (AreNumbered sides.now.from.items sides.now.to.items (side + 1) self.new.half.items self.new.side.items self.new.origin.items) }
-        ensures known { OnOk result (AreKnown sides.now.from.items sides.now.to.items (side + 1) (side_between known.new)) }
+        ensures distinct { OnOk result (AreDistinct sides.now.from.items sides.now.to.items (side + 1)) }
+        ensures chained { OnOk result (AreChained (length chains.old.last.items) chains.new.starts.items self.new.origin.items chains.new.last.items chains.new.before.items) }
     {
-        let (from, to) = sides.ends(side);
-        let back = find_side(known, to, from);
-        put_side(known, from, to, side as u32)?;
-        match back {
-            Some(other) => self.add_second(other as usize, side as u32)?,
-            None => self.add_first(from, to, side as u32)?,
+        match found {
+            Some(half) => self.add_second(half, side as u32)?,
+            None => {
+                let (from, to) = sides.ends(side);
+                chains.add(&self.origin, from, to)?;
+                self.add_first(from, to, side as u32)?;
+            }
         }
         Ok(())
     }
@@ -127,14 +136,12 @@ impl<A: Allocator> Numbering<A> {
     }
 
     /// Gives a side the other half of the edge of a side that leads back.
-    fn add_second(&mut self, other: usize, side: u32) -> Result<(), AllocError>
-        requires below { other < length self.old.half.items }
-        requires placed { rev (slice_index self.old.half.items other) < length self.old.side.items }
-        ensures half { OnOk result (self.new.half.items ≡ self.old.half.items ++ rev (slice_index self.old.half.items other) ∷ []) }
-        ensures side { OnOk result (self.new.side.items ≡ slice_set self.old.side.items (rev (slice_index self.old.half.items other)) (Some side)) }
+    fn add_second(&mut self, half: u32, side: u32) -> Result<(), AllocError>
+        requires { half < length self.old.side.items }
+        ensures half { OnOk result (self.new.half.items ≡ self.old.half.items ++ half ∷ []) }
+        ensures side { OnOk result (self.new.side.items ≡ slice_set self.old.side.items half (Some side)) }
         ensures origin { OnOk result (self.new.origin.items ≡ self.old.origin.items) }
     {
-        let half = other_half(self.half[other]);
         self.half.push(half)?;
         self.side[half as usize] = Some(side);
         Ok(())
@@ -166,12 +173,4 @@ impl<A: Allocator> Numbering<A> {
     {
         self.origin[half]
     }
-}
-
-/// Returns the other half of an edge.
-#[tactic(auto, using(dcel_fixed::proofs::Halves::xor_one))]
-pub(crate) fn other_half(half: u32) -> u32
-    ensures { result ≡ rev half }
-{
-    half ^ 1
 }

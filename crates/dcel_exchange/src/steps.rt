@@ -59,7 +59,7 @@ impl<'a, V, DE, UE, F, A: Allocator> Iterator for LinkIterator<'a, V, DE, UE, F,
     }
 }
 
-// The links of a live half edge.
+// Returns the links of a live half edge.
 #[inline]
 fn read_link<V, DE, UE, F, A: Allocator>(edge: DirectedEdgeHandle<'_, V, DE, UE, F, A>) -> Link
     requires { IsLive (mesh_behind edge).shape (number_of edge) }

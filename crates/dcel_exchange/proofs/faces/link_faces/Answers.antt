@@ -26,6 +26,10 @@ number_sides-requires-clause-ends g c = as_many_ends (corners_of c.args.faces.no
 pub number_sides-requires-clause-faces : goal.number_sides-requires-clause-faces
 number_sides-requires-clause-faces g c = as_many_owners (corners_of c.args.faces.now) c.in_ok-sides.sides.from.items c.in_ok-sides.sides.to.items c.in_ok-sides.sides.face.items c.in_ok-sides.sides.after.items c.in_ok-sides.ensures.sides
 
+pub number_sides-requires-clause-stops : goal.number_sides-requires-clause-stops
+number_sides-requires-clause-stops g c =
+    ends_below (corners_of c.args.faces.now) c.in_ok-sides.sides.from.items c.in_ok-sides.sides.to.items c.in_ok-sides.sides.face.items c.in_ok-sides.sides.after.items c.in_ok-sides.ensures.sides c.args.vertices c.in_ok-check_ends.ensures.below
+
 pub returns-in_err-numbering-clause-reason : goal.returns-in_err-numbering-clause-reason
 returns-in_err-numbering-clause-reason g c =
     passed_on (Means c.args.vertices (corners_of c.args.faces.now)) c.from_residual-in_err-numbering.result c.in_err-numbering.field-0.0
