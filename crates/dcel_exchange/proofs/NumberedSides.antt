@@ -298,9 +298,10 @@ module _ (from to : List ℕ) (i : ℕ) (half : List ℕ) (side : List (Option �
 
     back : LeadsBack from to i beyond.0
     back =
-        let b = beyond in
-        (sym (u.start b.0 b.1) ∙ ap (slice_index origin) (sym (rev-rev (slice_index half b.0)) ∙ ap rev b.2) ∙ leads.end,
-        sym (u.end b.0 b.1) ∙ ap (slice_index origin) b.2 ∙ leads.start)
+        let b = beyond in (
+          sym (u.start b.0 b.1) ∙ ap (slice_index origin) (sym (rev-rev (slice_index half b.0)) ∙ ap rev b.2) ∙ leads.end,
+          sym (u.end b.0 b.1) ∙ ap (slice_index origin) b.2 ∙ leads.start,
+        )
 
     found_new : IsNew
     found_new q below starts ends = let b = beyond in let l = back in b.3 q below (starts ∙ sym l.1, ends ∙ sym l.0)
