@@ -72,11 +72,11 @@ fn reasons_of_links_are_told(rt: HostRuntime) -> Result<(), Fail> {
     let table = [
         (
             LinksError::Edges,
-            "there are not data of as many edges as the lists have",
+            "the lists and the data differ in the number of edges",
         ),
         (
             LinksError::Anchors,
-            "there are not anchors of as many vertices and faces as there are data",
+            "the anchors and the data differ in the number of vertices or faces",
         ),
         (
             LinksError::Links(Fault::NotSphere(1)),

@@ -66,10 +66,10 @@ pub enum LinksError {
 impl fmt::Display for LinksError {
     fn fmt<W: fmt::Write>(&self, f: &mut fmt::Formatter<W>) -> fmt::Result {
         match *self {
-            LinksError::Edges => write!(f, "there are not data of as many edges as the lists have"),
+            LinksError::Edges => write!(f, "the lists and the data differ in the number of edges"),
             LinksError::Anchors => write!(
                 f,
-                "there are not anchors of as many vertices and faces as there are data"
+                "the anchors and the data differ in the number of vertices or faces"
             ),
             LinksError::Links(fault) => write!(f, "no mesh has these links: {fault}"),
             LinksError::VertexAnchor(vertex) => {
