@@ -12,5 +12,5 @@ pub mod AnchorLists
 pub mod Placed
 pub mod SameEnds
 pub mod Refusals
-pub mod Excluding
+pub mod Leaving
 pub mod FaceCorners

@@ -23,9 +23,10 @@ use Rattle.dcel_maps.proofs.walks.Links.{links_stand, next-live}
 use Rattle.dcel_maps.proofs.words.Counts.{count-same}
 use Rattle.dcel_maps.proofs.words.Reading.{face-next, face_in_word, live_in}
 use Rattle.dcel_maps.proofs.words.Turns.{count-turn}
-use Rattle.dcel_exchange.specs.Corners.{LeadsBack, afters, ends, starts}
+use Rattle.dcel_exchange.specs.Corners.{LeadsBack, afters, ends, owners, starts}
 use Rattle.dcel_exchange.specs.Meshes.{AreLinks, IsNoSide, side_count}
-use Rattle.dcel_exchange.specs.Simple.{HasCorners, IsSimple}
+use Rattle.dcel_exchange.specs.Reasons.{EndTwice}
+use Rattle.dcel_exchange.specs.Simple.{HasCorners, IsSimple, PassesTwice}
 use Rattle.dcel_exchange.proofs.FaceCorners.{told_by_ends}
 use Rattle.dcel_exchange.proofs.KnownSides.{count_few}
 use Rattle.dcel_exchange.proofs.Placed.{Placed, as_many, find_below, item_of, placed, round_cycle}
@@ -85,6 +86,34 @@ module _ {V DE UE F : Type 0} (m : Mesh V DE UE F) (mesh : IsMesh m) (simple : I
 
   pub two_ends : (i : ℕ) → i < n → slice_index (starts faces) i ≢ slice_index (ends faces) i
   two_ends i below same = mesh.sound.two_ends (item i) (sides.live i below) (sides.start i below ∙ same ∙ sym (sides.end i below))
+
+  -- the half edge beyond a side that none leads back from lies on the outer face
+  alone_outer : (q : ℕ) → q < n → ((i : ℕ) → i < n → ¬ LeadsBack (starts faces) (ends faces) q i) → face_of s (rev (item q)) ≡ 0
+  alone_outer q below alone = elim (cases_eq (face_of s (rev (item q))) 0) [
+    | inl outer ↦ outer
+    | inr inner ↦
+        let r = sides.onto (rev (item q)) (back_live (item q) (sides.live q below)) inner in
+        absurd (alone r.0 r.1 (
+          sym (sides.start r.0 r.1) ∙ ap (origin_of s) r.2 ∙ sides.end q below,
+          sym (sides.end r.0 r.1) ∙ ap (end_of s) r.2 ∙ ap (origin_of s) (rev-rev (item q)) ∙ sides.start q below,
+        ))
+  ]
+
+  -- and where two such start at one vertex, the outer face passes it twice
+  pub passes_twice : (a : ℕ) → EndTwice (starts faces) (ends faces) (owners 0 faces) a → PassesTwice s a
+  passes_twice a e =
+      let start : (i : ℕ) → i < n → slice_index (ends faces) i ≡ a → origin_of s (rev (item i)) ≡ a = λ i below is. sides.end i below ∙ is in record {
+        one = rev (item e.one);
+        other = rev (item e.other);
+        apart = λ same.
+            e.apart (sides.apart e.one e.other e.one_below e.other_below (sym (rev-rev (item e.one)) ∙ ap rev same ∙ rev-rev (item e.other)));
+        one_live = back_live (item e.one) (sides.live e.one e.one_below);
+        other_live = back_live (item e.other) (sides.live e.other e.other_below);
+        one_outer = alone_outer e.one e.one_below e.one_alone;
+        other_outer = alone_outer e.other e.other_below e.other_alone;
+        one_starts = start e.one e.one_below e.one_ends;
+        other_starts = start e.other e.other_below e.other_ends;
+      }
 
   -- a round of two half edges is a whole edge, with nothing outside
   no_two : (f x : ℕ) → 0 < f → IsLive s x → face_of s x ≡ f → next_of s x ≡ rev x → next_of s (rev x) ≡ x → ⊥
@@ -159,18 +188,6 @@ module _ {V DE UE F : Type 0} (m : Mesh V DE UE F) (mesh : IsMesh m) (simple : I
     one_with : (x y h : ℕ) → IsLive s x → IsLive s y → SameEnds M c x h → SameEnds M c y h → x ≡ y
     one_with x y h live_x live_y same_x same_y =
         simple x y live_x live_y (same_x.start ∙ sym same_y.start) (same_x.end ∙ sym same_y.end)
-
-    -- the half edge beyond a side that none leads back from lies on the outer face
-    alone_outer : (q : ℕ) → q < n → ((i : ℕ) → i < n → ¬ LeadsBack (starts faces) (ends faces) q i) → face_of s (rev (item q)) ≡ 0
-    alone_outer q below alone = elim (cases_eq (face_of s (rev (item q))) 0) [
-      | inl outer ↦ outer
-      | inr inner ↦
-          let r = sides.onto (rev (item q)) (back_live (item q) (sides.live q below)) inner in
-          absurd (alone r.0 r.1 (
-            sym (sides.start r.0 r.1) ∙ ap (origin_of s) r.2 ∙ sides.end q below,
-            sym (sides.end r.0 r.1) ∙ ap (end_of s) r.2 ∙ ap (origin_of s) (rev-rev (item q)) ∙ sides.start q below,
-          ))
-    ]
 
     which : (h : ℕ) → ((p : ℕ) × (p < n) × (l.number p ≡ h)) ⊎ IsNoSide faces l.number h
     which h = find_below l.number h n

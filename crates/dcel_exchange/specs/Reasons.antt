@@ -2,7 +2,7 @@
 use Rattle.std.specs.Prelude.{◌≡◌, ◌≢◌, ℕ, ◌^◌, ◌<◌, ◌≤◌, List, [], length, slice_index, slice_index_or}
 use Rattle.dcel_exchange.specs.Corners.{LeadsBack, ends, owners, starts}
 use Rattle.dcel_exchange.specs.Meshes.{AreLinks}
-use Rattle.dcel_exchange.specs.Simple.{NoSimpleMesh}
+use Rattle.dcel_exchange.specs.Simple.{EachSimpleMesh, NoSimpleMesh, PassesTwice}
 use Rattle.dcel_exchange.specs.declared.refusal.FacesError.{FacesError}
 use Rattle.dcel_links.specs.Claims.{Claim}
 use Rattle.dcel_links.specs.Faults.{IsFirst}
@@ -76,9 +76,10 @@ abbrev pub reason_for : LinksError → FacesError
 reason_for (refused.Links fault) = Links fault
 reason_for other = OutOfMemory
 
--- No simple mesh has these corners, unless the reason is a limit, or that faces meet at a vertex alone: then one may have them.
-abbrev pub Excludes : Type 0 → Type 0 → Type 0 → Type 0 → ℕ → List (List ℕ) → FacesError → Type 0
-Excludes V DE UE F vertices faces TooManyCorners = Unit {0}
-Excludes V DE UE F vertices faces (BorderTwice a) = Unit {0}
-Excludes V DE UE F vertices faces OutOfMemory = Unit {0}
-Excludes V DE UE F vertices faces _ = NoSimpleMesh V DE UE F vertices faces
+-- Which simple meshes a refusal leaves: none has these corners, or, where two faces meet at the vertex a alone, only one whose outer face
+-- passes a twice. Of a limit nothing is said.
+abbrev pub Leaves : Type 0 → Type 0 → Type 0 → Type 0 → ℕ → List (List ℕ) → FacesError → Type 0
+Leaves V DE UE F vertices faces TooManyCorners = Unit {0}
+Leaves V DE UE F vertices faces (BorderTwice a) = EachSimpleMesh V DE UE F vertices faces (λ s. PassesTwice s a)
+Leaves V DE UE F vertices faces OutOfMemory = Unit {0}
+Leaves V DE UE F vertices faces _ = NoSimpleMesh V DE UE F vertices faces

@@ -20,6 +20,22 @@ pub record HasCorners (s : Shape) (vertices : ℕ) (faces : List (List ℕ)) : T
   pub corners : map (map (origin_of s)) rounds ≡ faces
   pub inside : (h : ℕ) → IsLive s h → face_of s h ≡ 0 → face_of s (rev h) ≢ 0
 
--- no simple mesh has these corners, whatever its data
+-- each simple mesh with these corners, whatever its data, has a shape with this property
+abbrev pub EachSimpleMesh : Type 0 → Type 0 → Type 0 → Type 0 → ℕ → List (List ℕ) → (Shape → Type 0) → Type 0
+EachSimpleMesh V DE UE F vertices faces P = (m : Mesh V DE UE F) → IsMesh m → IsSimple m.shape → HasCorners m.shape vertices faces → P m.shape
+
+-- no simple mesh has them
 abbrev pub NoSimpleMesh : Type 0 → Type 0 → Type 0 → Type 0 → ℕ → List (List ℕ) → Type 0
-NoSimpleMesh V DE UE F vertices faces = (m : Mesh V DE UE F) → IsMesh m → IsSimple m.shape → ¬ HasCorners m.shape vertices faces
+NoSimpleMesh V DE UE F vertices faces = EachSimpleMesh V DE UE F vertices faces (λ s. ⊥)
+
+-- the outer face passes the vertex a twice: two of its half edges start there
+pub record PassesTwice (s : Shape) (a : ℕ) : Type 0 where
+  pub one : ℕ
+  pub other : ℕ
+  pub apart : one ≢ other
+  pub one_live : IsLive s one
+  pub other_live : IsLive s other
+  pub one_outer : face_of s one ≡ 0
+  pub other_outer : face_of s other ≡ 0
+  pub one_starts : origin_of s one ≡ a
+  pub other_starts : origin_of s other ≡ a

@@ -4,7 +4,7 @@ ghost use Rattle.std.specs.Prelude.{◌≡◌, ◌+◌, ◌*◌, ◌/◌, All, I
 ghost use Rattle.dcel_exchange.specs.Corners.{corners_of};
 ghost use Rattle.dcel_exchange.specs.Defaults.{HasDefaults};
 ghost use Rattle.dcel_exchange.specs.Meshes.{AreLinks, HasFaces};
-ghost use Rattle.dcel_exchange.specs.Reasons.{Excludes, Means, reason_for};
+ghost use Rattle.dcel_exchange.specs.Reasons.{Leaves, Means, reason_for};
 ghost use Rattle.dcel_exchange.specs.Simple.{HasCorners, IsSimple};
 ghost use Rattle.dcel_links.specs.Claims.{claim};
 ghost use Rattle.dcel_maps.specs.Removals.{Closed};
@@ -28,8 +28,9 @@ use std::alloc::{AllocError, Allocator};
 ///
 /// It takes any lists. If it refuses them, the vertices come back with a reason ([`FacesError`]).
 /// Then no mesh in which no two edges join the same two vertices has these corners, unless memory
-/// ran out, there are too many corners, or two faces meet at a vertex alone
-/// ([`BorderTwice`](FacesError::BorderTwice)), since the lists don't tell how they lie round it.
+/// ran out or there are too many corners. After [`BorderTwice`](FacesError::BorderTwice) such a mesh
+/// may have them, but its outer face passes that vertex twice, and the lists don't tell how the
+/// faces lie round it.
 ///
 /// It goes over the sides a fixed number of times, and looks each up once by its ends. For the
 /// faces of a mesh that takes linear time in all, and at most the sides times their square root for
@@ -56,7 +57,7 @@ pub fn from_faces<
     ensures corners { IfOk result (λ dcel. HasCorners dcel.shape (length vertices.items) (corners_of faces.now)) }
     ensures simple { IfOk result (λ dcel. IsSimple dcel.shape) }
     ensures reason { IfErr result (λ refused. Means (length vertices.items) (corners_of faces.now) refused.reason) }
-    ensures none { IfErr result (λ refused. Excludes V DE UE F (length vertices.items) (corners_of faces.now) refused.reason) }
+    ensures left { IfErr result (λ refused. Leaves V DE UE F (length vertices.items) (corners_of faces.now) refused.reason) }
     ensures back { IfErr result (λ refused. refused.back ≡ vertices) }
 {
     let links = match link_faces(&alloc, vertices.len(), faces) {

@@ -3,19 +3,19 @@ use Rattle.dcel_links.specs.Claims.{claim}
 use Rattle.dcel_links.specs.Meshes.{IsLinked}
 use Rattle.dcel_exchange.specs.Corners.{corners_of}
 use Rattle.dcel_exchange.specs.Meshes.{AreLinks, HasFaces}
-use Rattle.dcel_exchange.specs.Reasons.{Excludes, Means, reason_for}
+use Rattle.dcel_exchange.specs.Reasons.{Leaves, Means, reason_for}
 use Rattle.std.specs.List.{All}
 use Rattle.spade_dcel.specs.Linked.{Refuses}
 use Rattle.dcel_exchange.proofs.Borders.{reason_told}
 use Rattle.dcel_exchange.proofs.Defaulted.{edges_default, halves_default}
-use Rattle.dcel_exchange.proofs.Excluding.{excludes}
+use Rattle.dcel_exchange.proofs.Leaving.{leaves}
 use Rattle.dcel_exchange.proofs.FaceCorners.{has_corners, is_simple}
 use Rattle.dcel_exchange.proofs.FaceWords.{has_faces}
 use Rattle.dcel_exchange.proofs.faces.from_faces.Goals as goal
 
-pub returns-in-Err-clause-none : goal.returns-in-Err-clause-none
-returns-in-Err-clause-none g c =
-    excludes g.row.V.Denot g.row.DE.Denot g.row.UE.Denot g.row.F.Denot (length c.args.vertices.items) (corners_of c.args.faces.now) c.in-Err.reason
+pub returns-in-Err-clause-left : goal.returns-in-Err-clause-left
+returns-in-Err-clause-left g c =
+    leaves g.row.V.Denot g.row.DE.Denot g.row.UE.Denot g.row.F.Denot (length c.args.vertices.items) (corners_of c.args.faces.now) c.in-Err.reason
     (subst (λ n. Means n (corners_of c.args.faces.now) c.in-Err.reason) (omega (arith, c.len.ensures, c.args.vertices.ok)) c.in-Err.ensures.reason)
 
 -- the links that were listed are those of the faces, and of the mesh that was made
@@ -67,8 +67,8 @@ pub returns-in-Ok-from_links-clause-face_data : goal.returns-in-Ok-from_links-cl
 returns-in-Ok-from_links-clause-face_data g c =
     subst (All g.F.Default.is_default) (sym c.in-Ok-from_links.ensures.faces) c.in-Ok-make_data.ensures.each_face
 
-pub returns-clause-none : goal.returns-clause-none
-returns-clause-none g c =
+pub returns-clause-left : goal.returns-clause-left
+returns-clause-left g c =
     let vertices : c.len.result ≡ length c.args.vertices.items = omega (arith, c.len.ensures, c.args.vertices.ok) in
     let faces : length c.in-Ok-make_data.face_data.items ≡ length c.args.faces.now + 1 = omega (arith, c.in-Ok-make_data.ensures.faces) in
     let links : AreLinks (length c.args.vertices.items) (corners_of c.args.faces.now)
@@ -79,8 +79,8 @@ returns-clause-none g c =
     (claim c.in-Ok.links.next.items c.in-Ok.links.origin.items c.in-Ok.links.face.items (length c.args.vertices.items) (length c.args.faces.now + 1))
     (length c.in-Ok-make_data.edge_data.items) c.in-Err-from_links.refused.reason =
     rw (← c.deref.ensures.value, ← c.deref-2.ensures.value, ← c.deref-3.ensures.value, ← faces) c.in-Err-from_links.ensures.reason in
-    subst (Excludes g.row.V.Denot g.row.DE.Denot g.row.UE.Denot g.row.F.Denot (length c.args.vertices.items) (corners_of c.args.faces.now)) (sym c.reason_of.ensures)
-    (excludes g.row.V.Denot g.row.DE.Denot g.row.UE.Denot g.row.F.Denot (length c.args.vertices.items) (corners_of c.args.faces.now)
+    subst (Leaves g.row.V.Denot g.row.DE.Denot g.row.UE.Denot g.row.F.Denot (length c.args.vertices.items) (corners_of c.args.faces.now)) (sym c.reason_of.ensures)
+    (leaves g.row.V.Denot g.row.DE.Denot g.row.UE.Denot g.row.F.Denot (length c.args.vertices.items) (corners_of c.args.faces.now)
     (reason_for c.in-Err-from_links.refused.reason)
     (reason_told g.row.V.Denot g.row.DE.Denot g.row.UE.Denot g.row.F.Denot
     (claim c.in-Ok.links.next.items c.in-Ok.links.origin.items c.in-Ok.links.face.items (length c.args.vertices.items) (length c.args.faces.now + 1))
