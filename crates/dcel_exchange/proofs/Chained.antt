@@ -1,10 +1,10 @@
 -- Edges in chains: what a look-up has passed, and one more edge.
-use Rattle.std.proofs.Common.{◌≡◌, ◌≢◌, ◌⊎◌, inl, inr, ℕ, ◌+◌, ◌*◌, ◌/◌, ◌%◌, ◌<◌, ◌≤◌, ◌==◌, ◌&&◌, nat_lt, eq-eqb, Bool, true, false, List, [], ◌∷◌, ◌++◌, length, slice_index, slice_index_or, slice_set, Option, Some, None, Result, Ok, Err, OnOk, refl, sym, ap, ◌∙◌, subst, arith}
+use Rattle.std.proofs.Common.{◌≡◌, ◌≢◌, ◌⊎◌, inl, inr, ℕ, ◌+◌, ◌/◌, ◌%◌, ◌<◌, ◌≤◌, ◌==◌, ◌&&◌, nat_lt, eq-eqb, true, false, List, [], ◌∷◌, ◌++◌, length, slice_index, slice_index_or, slice_set, Option, Some, None, Result, Ok, Err, OnOk, refl, sym, ap, ◌∙◌, subst, arith}
 use Rattle.std.proofs.lemmas.Bool.{and_from, and_parts, cases_Bool, cases_eq, cases_lt, eqb-true, false≢true, lt-ltb, ltb-true, or_cases, or_left, or_right}
 use Rattle.std.proofs.lemmas.List.{get_or-append-add, get_or_default, get_or-set_other, get_or-set_same, get_or_append_left, get_or_at, length-append, length-set, length_push}
-use Rattle.dcel_fixed.proofs.Halves.{rev-even, rev-half, rev-ne, rev-odd, rev-rev, rev_within}
+use Rattle.dcel_fixed.proofs.Halves.{rev-even, rev-rev, rev_within}
 use Rattle.dcel_fixed.specs.HalfEdges.{rev}
-use Rattle.dcel_exchange.specs.Chains.{AreChained, HangsAt, IsFound, IsLastBelow, Leads, hangs}
+use Rattle.dcel_exchange.specs.Chains.{AreChained, HangsAt, IsLastBelow, Leads, hangs}
 
 module _ (starts : List ℕ) (a b : ℕ) where
   hangs_gives : hangs starts a b ≡ true → (slice_index starts a < slice_index starts b) ⊎ ((slice_index starts a ≡ slice_index starts b) × (a < b))
@@ -71,13 +71,17 @@ module _ (P Q : ℕ → Type 0) (n : ℕ) where
       | inr beyond ↦ passed.2 j (omega (arith, past, beyond)) below is
     ]
   ]
-  passed_one k (Some m) passed not last = (omega (arith, last.0, passed.0), last.1, λ j above below is. elim (cases_lt j k) [
-    | inl less ↦ absurd (last.2 j above less is)
-    | inr past ↦ elim (cases_eq j k) [
-      | inl here ↦ subst (λ m. ¬ Q m) (sym here) not
-      | inr beyond ↦ passed.2 j (omega (arith, past, beyond)) below is
-    ]
-  ])
+  passed_one k (Some m) passed not last = (
+    omega (arith, last.0, passed.0),
+    last.1,
+    λ j above below is. elim (cases_lt j k) [
+      | inl less ↦ absurd (last.2 j above less is)
+      | inr past ↦ elim (cases_eq j k) [
+        | inl here ↦ subst (λ m. ¬ Q m) (sym here) not
+        | inr beyond ↦ passed.2 j (omega (arith, past, beyond)) below is
+      ]
+    ],
+  )
 
 pub left_less : (P : ℕ → Type 0) (k : ℕ) (o : Option ℕ) → IsLastBelow P k o → left o < k + 1
 left_less P k None last = omega arith
@@ -126,10 +130,14 @@ last_more P P' m n more back there not None none = λ k below is. elim (cases_lt
   | inl less ↦ none k less (back k less is)
   | inr past ↦ not k past below is
 ]
-last_more P P' m n more back there not (Some k) last = (omega (arith, last.0, more), there k last.0 last.1, λ j above below is. elim (cases_lt j m) [
-  | inl less ↦ last.2 j above less (back j less is)
-  | inr past ↦ not j past below is
-])
+last_more P P' m n more back there not (Some k) last = (
+  omega (arith, last.0, more),
+  there k last.0 last.1,
+  λ j above below is. elim (cases_lt j m) [
+    | inl less ↦ last.2 j above less (back j less is)
+    | inr past ↦ not j past below is
+  ],
+)
 
 -- one more edge, with the ends a and b, whose half edge h starts at c, where it hangs
 module _ (vertices : ℕ) (starts origin : List ℕ) (last before : List (Option ℕ)) (chained : AreChained vertices starts origin last before) (a b : ℕ) where
@@ -213,9 +221,11 @@ module _ (vertices : ℕ) (starts origin : List ℕ) (last before : List (Option
         elim (cases_eq v c) [
           | inl here ↦
               let at : slice_index_or last_1 v None ≡ Some h = ap (λ k. slice_index_or last_1 k None) here ∙ get_or-set_same last c (Some h) None (let l = chained.as_many_lasts in omega arith) in
-              subst (IsLastBelow (HangsAt starts origin_1 v) (length origin_1)) (sym at)
-              (let w = bounds in omega arith, subst (λ k. HangsAt starts origin_1 k h) (sym here) hangs_here,
-              λ j above less. let w = bounds in other_hangs v j (omega arith) (omega arith) (omega arith))
+              subst (IsLastBelow (HangsAt starts origin_1 v) (length origin_1)) (sym at) (
+                let w = bounds in omega arith,
+                subst (λ k. HangsAt starts origin_1 k h) (sym here) hangs_here,
+                λ j above less. let w = bounds in other_hangs v j (omega arith) (omega arith) (omega arith),
+              )
           | inr other ↦
               let at : slice_index_or last_1 v None ≡ slice_index_or last v None = get_or-set_other last c v (Some h) None other in
               subst (IsLastBelow (HangsAt starts origin_1 v) (length origin_1)) (sym at)

@@ -8,3 +8,4 @@ pub mod Borders
 pub mod FaceWords
 pub mod Ranges
 pub mod Defaulted
+pub mod FaceLists

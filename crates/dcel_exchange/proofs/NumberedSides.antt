@@ -1,5 +1,5 @@
 -- One more side is numbered.
-use Rattle.std.proofs.Common.{◌≡◌, ◌≢◌, ◌⊎◌, inl, inr, ℕ, ◌+◌, ◌*◌, ◌^◌, ◌%◌, ◌<◌, ◌≤◌, ◌==◌, ◌&&◌, cond, true, false, List, [], ◌∷◌, ◌++◌, length, slice_index, slice_index_or, slice_set, Option, Some, None, refl, sym, ap, ◌∙◌, subst, arith}
+use Rattle.std.proofs.Common.{◌≡◌, ◌≢◌, ◌⊎◌, inl, inr, ℕ, ◌+◌, ◌*◌, ◌^◌, ◌%◌, ◌<◌, ◌≤◌, true, false, List, [], ◌∷◌, ◌++◌, length, slice_index, slice_index_or, slice_set, Option, Some, None, refl, sym, ap, ◌∙◌, subst, arith}
 use Rattle.std.proofs.lemmas.Bool.{cases_eq, cases_lt, false≢true}
 use Rattle.std.proofs.lemmas.List.{get_or-append-add, get_or-set_other, get_or-set_same, get_or_append_left, get_or_at, get_or_past, length-append, length-set, length_push}
 use Rattle.dcel_fixed.proofs.Halves.{rev-even, rev-rev, rev_within}
@@ -298,9 +298,10 @@ module _ (from to : List ℕ) (i : ℕ) (half : List ℕ) (side : List (Option �
 
     back : LeadsBack from to i beyond.0
     back =
-        let b = beyond in
-        (sym (u.start b.0 b.1) ∙ ap (slice_index origin) (sym (rev-rev (slice_index half b.0)) ∙ ap rev b.2) ∙ leads.end,
-        sym (u.end b.0 b.1) ∙ ap (slice_index origin) b.2 ∙ leads.start)
+        let b = beyond in (
+          sym (u.start b.0 b.1) ∙ ap (slice_index origin) (sym (rev-rev (slice_index half b.0)) ∙ ap rev b.2) ∙ leads.end,
+          sym (u.end b.0 b.1) ∙ ap (slice_index origin) b.2 ∙ leads.start,
+        )
 
     found_new : IsNew
     found_new q below starts ends = let b = beyond in let l = back in b.3 q below (starts ∙ sym l.1, ends ∙ sym l.0)

@@ -2,10 +2,11 @@
 //!
 //! [`links`] and [`link_lists`] give what `from_links` of `spade_dcel` takes, and [`with_data`]
 //! makes the same mesh again over other data. [`from_faces`] makes a mesh of faces that are given
-//! as lists of vertices.
+//! as lists of vertices, and [`face_corners`] and [`face_lists`] give these.
 #![tactic(auto)]
 
 mod chains;
+mod corners;
 mod faces;
 mod linking;
 mod lists;
@@ -14,6 +15,7 @@ mod refusal;
 mod sides;
 mod steps;
 
+pub use corners::{CornerIterator, FaceIterator, face_corners, face_lists};
 pub use faces::from_faces;
 pub use lists::{LinkLists, link_lists, with_data};
 pub use refusal::{FacesError, RefusedFaces};

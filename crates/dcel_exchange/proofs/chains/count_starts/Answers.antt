@@ -1,12 +1,12 @@
-use Rattle.std.proofs.Common.{◌≡◌, ◌≢◌, ◌∙◌, inl, inr, ℕ, ◌+◌, ◌^◌, ◌<◌, ◌≤◌, ◌==◌, Bool, true, false, List, count_by, length, slice_index, slice_set, take, get_or, eq-eqb, ap, sym, arith}
-use Rattle.std.proofs.lemmas.Bool.{cases_Bool, cases_eq, eqb-true, false≢true}
+use Rattle.std.proofs.Common.{◌≡◌, ◌≢◌, ◌∙◌, inl, inr, ℕ, ◌+◌, ◌^◌, ◌<◌, ◌≤◌, ◌==◌, false, List, count_by, length, slice_index, slice_set, take, get_or, eq-eqb, ap, sym, arith}
+use Rattle.std.proofs.lemmas.Bool.{cases_Bool, cases_eq, eqb-true}
 use Rattle.std.proofs.lemmas.List.{get_or-set_other, get_or-set_same, length-set, length-take-le}
 use Rattle.std.proofs.lemmas.Grind.{get_or_default_zero}
 use Rattle.std.proofs.lemmas.List.Sums.{count_by-le-length, count_by_more_no, count_by_more_yes}
 use Rattle.dcel_exchange.proofs.chains.count_starts.Goals as goal
 
 other_test : (a b : ℕ) → a ≢ b → (a == b) ≡ false
-other_test a b apart = elim (cases_Bool (a == b)) [ | inl same ↦ absurd (apart (eqb-true a b same)) | inr other ↦ other ]
+other_test a b apart = elim (cases_Bool (a == b)) [ inl same ↦ absurd (apart (eqb-true a b same)) | inr other ↦ other ]
 
 -- one more start s is counted, where x were before
 module _ (from counts : List ℕ) (vertices i x : ℕ) (within : i < length from) (places : length counts ≡ vertices) (below : get_or from i 0 < vertices)
@@ -45,5 +45,5 @@ pub loop-start-preserved : goal.loop-start-preserved
 loop-start-preserved g c = record {
   places = length-set _ _ _ ∙ c.loop-start.invariant.places;
   counts = one_more c.args.from.now c.loop-start.counts.items c.args.vertices c.loop-start.start-index c.index_mut.result.now c.loop-start-test.true
-    c.loop-start.invariant.places (c.requires.below c.loop-start.start-index c.loop-start-test.true) c.loop-start.invariant.counts c.index_mut.ensures.value;
+      c.loop-start.invariant.places (c.requires.below c.loop-start.start-index c.loop-start-test.true) c.loop-start.invariant.counts c.index_mut.ensures.value;
 }
