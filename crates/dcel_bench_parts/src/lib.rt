@@ -15,6 +15,8 @@ mod handles;
 #[cfg(test)]
 mod links;
 #[cfg(test)]
+mod memory;
+#[cfg(test)]
 mod predicates;
 #[cfg(test)]
 mod store;

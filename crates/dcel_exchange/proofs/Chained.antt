@@ -1,10 +1,10 @@
 -- Edges in chains: what a look-up has passed, and one more edge.
-use Rattle.std.proofs.Common.{◌≡◌, ◌≢◌, ◌⊎◌, inl, inr, ℕ, ◌+◌, ◌*◌, ◌/◌, ◌%◌, ◌<◌, ◌≤◌, ◌==◌, ◌&&◌, nat_lt, eq-eqb, Bool, true, false, List, [], ◌∷◌, ◌++◌, length, slice_index, slice_index_or, slice_set, Option, Some, None, Result, Ok, Err, OnOk, refl, sym, ap, ◌∙◌, subst, arith}
+use Rattle.std.proofs.Common.{◌≡◌, ◌≢◌, ◌⊎◌, inl, inr, ℕ, ◌+◌, ◌/◌, ◌%◌, ◌<◌, ◌≤◌, ◌==◌, ◌&&◌, nat_lt, eq-eqb, true, false, List, [], ◌∷◌, ◌++◌, length, slice_index, slice_index_or, slice_set, Option, Some, None, Result, Ok, Err, OnOk, refl, sym, ap, ◌∙◌, subst, arith}
 use Rattle.std.proofs.lemmas.Bool.{and_from, and_parts, cases_Bool, cases_eq, cases_lt, eqb-true, false≢true, lt-ltb, ltb-true, or_cases, or_left, or_right}
 use Rattle.std.proofs.lemmas.List.{get_or-append-add, get_or_default, get_or-set_other, get_or-set_same, get_or_append_left, get_or_at, length-append, length-set, length_push}
-use Rattle.dcel_fixed.proofs.Halves.{rev-even, rev-half, rev-ne, rev-odd, rev-rev, rev_within}
+use Rattle.dcel_fixed.proofs.Halves.{rev-even, rev-rev, rev_within}
 use Rattle.dcel_fixed.specs.HalfEdges.{rev}
-use Rattle.dcel_exchange.specs.Chains.{AreChained, HangsAt, IsFound, IsLastBelow, Leads, hangs}
+use Rattle.dcel_exchange.specs.Chains.{AreChained, HangsAt, IsLastBelow, Leads, hangs}
 
 module _ (starts : List ℕ) (a b : ℕ) where
   hangs_gives : hangs starts a b ≡ true → (slice_index starts a < slice_index starts b) ⊎ ((slice_index starts a ≡ slice_index starts b) × (a < b))

@@ -14,3 +14,4 @@ pub mod SameEnds
 pub mod Refusals
 pub mod Leaving
 pub mod FaceCorners
+pub mod FaceLists

@@ -26,7 +26,7 @@ module _ (P : ℕ → Type 0) where
   all_ends (w ∷ ws) all =
       All-append P (turned w) (ends ws) (all_turned w (all_front w (starts ws) all)) (all_ends ws (all_back w (starts ws) all))
 
-all_numbers : (a b : ℕ) → All (λ k. k < b) (numbers_between a b)
+pub all_numbers : (a b : ℕ) → All (λ k. k < b) (numbers_between a b)
 all_numbers a b =
     All-from_get_or (λ k. k < b) (numbers_between a b) 0
     (λ k below. let l = length-numbers a b in let at = number_at a b k (omega (arith, below)) in omega (arith, below))

@@ -1,5 +1,5 @@
 -- Half edges found by their ends: the edge of each hangs at one of them, in a chain.
-use Rattle.std.specs.Prelude.{◌≡◌, ℕ, ◌+◌, ◌*◌, ◌/◌, ◌<◌, ◌==◌, ◌&&◌, ◌||◌, nat_lt, Bool, true, List, length, slice_index, slice_index_or, Option, Some, None}
+use Rattle.std.specs.Prelude.{◌≡◌, ℕ, ◌*◌, ◌/◌, ◌<◌, ◌==◌, ◌&&◌, ◌||◌, nat_lt, Bool, true, List, length, slice_index, slice_index_or, Option, Some, None}
 use Rattle.dcel_fixed.specs.HalfEdges.{rev}
 
 -- h is one of the half edges with these origins, and leads from a to b

@@ -2,6 +2,7 @@ pub mod Links
 pub mod Corners
 pub mod Chains
 pub mod Numbering
+pub mod FaceCorners
 pub mod Meshes
 pub mod Simple
 pub mod Reasons

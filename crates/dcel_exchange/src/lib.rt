@@ -1,11 +1,12 @@
 //! Meshes in and out: as lists of links, and as faces with their corners.
 //!
 //! [`links`] and [`link_lists`] give what `from_links` and `from_anchored_links` of `spade_dcel`
-//! take, and [`with_data`] makes the same mesh again over other data. [`from_faces`] makes a mesh of faces that are given
-//! as lists of vertices.
+//! take, and [`with_data`] makes the same mesh again over other data. [`from_faces`] makes a mesh of
+//! faces that are given as lists of vertices, and [`face_corners`] and [`face_lists`] give these.
 #![tactic(auto)]
 
 mod chains;
+mod corners;
 mod faces;
 mod linking;
 mod lists;
@@ -14,6 +15,7 @@ mod refusal;
 mod sides;
 mod steps;
 
+pub use corners::{CornerIterator, FaceIterator, face_corners, face_lists};
 pub use faces::from_faces;
 pub use lists::{LinkLists, link_lists, with_data};
 pub use refusal::{FacesError, RefusedFaces};

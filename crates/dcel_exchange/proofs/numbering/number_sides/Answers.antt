@@ -1,4 +1,4 @@
-use Rattle.std.proofs.Common.{◌≡◌, ◌∙◌, length, slice_index, subst, sym, arith}
+use Rattle.std.proofs.Common.{◌≡◌, ◌∙◌, length, subst, sym, arith}
 use Rattle.dcel_exchange.specs.Numbering.{AreDistinct, AreNumbered}
 use Rattle.dcel_exchange.proofs.NumberedSides.{taken}
 use Rattle.dcel_exchange.proofs.numbering.number_sides.Goals as goal

@@ -1,4 +1,4 @@
-use Rattle.std.proofs.Common.{◌≡◌, ◌∙◌, ◌++◌, [], ◌∷◌, inl, inr, length, refl, slice_index, sym, ap}
+use Rattle.std.proofs.Common.{◌∙◌, ◌++◌, [], ◌∷◌, inl, inr, length, refl, slice_index, sym, ap}
 use Rattle.dcel_fixed.proofs.Halves.{rev-rev}
 use Rattle.dcel_fixed.specs.HalfEdges.{rev}
 use Rattle.dcel_exchange.proofs.Chained.{both_ok, chained_put, first_starts, hangs_there, rev_next, second_starts}

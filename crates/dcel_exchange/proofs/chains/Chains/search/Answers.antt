@@ -1,5 +1,5 @@
-use Rattle.std.proofs.Common.{◌∙◌, length, sym, ap, subst, slice_index}
-use Rattle.dcel_exchange.proofs.Chained.{Searched, search_begins, search_ends, search_found, search_goes_on, search_nears, search_within}
+use Rattle.std.proofs.Common.{◌∙◌, length, ap, slice_index}
+use Rattle.dcel_exchange.proofs.Chained.{search_begins, search_ends, search_goes_on, search_within}
 use Rattle.dcel_exchange.proofs.chains.Chains.search.Goals as goal
 
 pub loop-next-init : goal.loop-next-init

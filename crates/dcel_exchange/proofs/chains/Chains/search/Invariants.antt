@@ -1,4 +1,4 @@
-use Rattle.std.proofs.Common.{◌≡◌, ℕ, length, slice_index}
+use Rattle.std.proofs.Common.{◌≡◌, length, slice_index}
 use Rattle.dcel_fixed.specs.HalfEdges.{rev}
 use Rattle.dcel_exchange.specs.Chains.{HangsAt}
 use Rattle.dcel_exchange.proofs.Chained.{HasPassed, left}

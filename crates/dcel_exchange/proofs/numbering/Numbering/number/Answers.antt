@@ -1,4 +1,4 @@
-use Rattle.std.proofs.Common.{◌∙◌, length, sym, ap, arith}
+use Rattle.std.proofs.Common.{arith}
 use Rattle.dcel_exchange.proofs.NumberedSides.{distinct_first, distinct_second, number_first, number_second, room}
 use Rattle.dcel_exchange.proofs.numbering.Numbering.number.Goals as goal
 

@@ -1,0 +1,165 @@
+//! Meshes in and out, with each request for memory refused in turn.
+
+use dcel_bench::checks::{holds, same};
+use dcel_bench::refusing::{Refusals, Refusing};
+use dcel_bench::require;
+use dcel_exchange::{FacesError, RefusedFaces, face_lists, from_faces, link_lists};
+use spade_dcel::dcel::{Dcel, RemovalState};
+use std::alloc::{AllocError, Global};
+use std::test::Fail;
+
+/// More requests for memory than any call here makes.
+const MANY: u64 = 100;
+
+/// Memory that may be refused.
+type Memory<'a> = &'a Refusing<Global>;
+
+/// A mesh in such memory.
+type Watched<'a> = Dcel<i64, (), (), (), Memory<'a>>;
+
+/// Faces over so many vertices, and the reason why they are no mesh, if they are none.
+struct Row {
+    faces: &'static [&'static [u32]],
+    vertices: i64,
+    refused: Option<FacesError>,
+}
+
+const ROWS: [Row; 2] = [
+    Row {
+        faces: &[&[0, 1, 2], &[2, 1, 3]],
+        vertices: 5,
+        refused: None,
+    },
+    Row {
+        faces: &[&[0, 1, 2], &[3, 0, 1]],
+        vertices: 4,
+        refused: Some(FacesError::SideTwice(0, 1, 0, 1)),
+    },
+];
+
+/// The faces of a row as vectors.
+fn faces_of(row: &Row, alloc: Global) -> Result<Vec<Vec<u32>>, AllocError> {
+    let mut faces = Vec::new(alloc);
+    for corners in row.faces {
+        let mut face = Vec::new(alloc);
+        face.extend_from_slice(corners)?;
+        faces.push(face)?;
+    }
+    Ok(faces)
+}
+
+/// The vertices of a row, with their numbers as data.
+fn vertices_of<'a>(row: &Row, memory: Memory<'a>) -> Result<Vec<i64, Memory<'a>>, AllocError> {
+    let mut vertices = Vec::new(memory);
+    for vertex in 0..row.vertices {
+        vertices.push(vertex)?;
+    }
+    Ok(vertices)
+}
+
+/// Makes the mesh of a row with these requests refused.
+fn make<'a>(
+    memory: Memory<'a>,
+    faces: &[Vec<u32>],
+    vertices: Vec<i64, Memory<'a>>,
+    refusals: Refusals,
+) -> Result<Watched<'a>, RefusedFaces<Vec<i64, Memory<'a>>>> {
+    memory.refuse(refusals);
+    from_faces(memory, vertices, faces)
+}
+
+/// Checks that the data of a row came back whole.
+fn check_back(row: &Row, back: &[i64]) -> Result<(), Fail> {
+    same(
+        back.len() as u64,
+        row.vertices as u64,
+        "data that came back",
+    )?;
+    for (place, datum) in back.iter().enumerate() {
+        same(*datum, place as i64, "a datum that came back")?;
+    }
+    Ok(())
+}
+
+/// Makes the mesh of a row with the request of this number refused, and returns whether it came.
+fn is_refused(row: &Row, faces: &[Vec<u32>], number: u64, alloc: Global) -> Result<bool, Fail> {
+    let memory = Refusing::new(alloc);
+    let vertices = vertices_of(row, &memory)?;
+    let made = make(&memory, faces, vertices, Refusals::One(number));
+    let came = memory.requests() > number;
+    let wanted = if came {
+        Some(FacesError::OutOfMemory)
+    } else {
+        row.refused
+    };
+    match made {
+        Ok(_) => same(None, wanted, "the reason")?,
+        Err(refused) => {
+            same(Some(refused.reason), wanted, "the reason")?;
+            check_back(row, &refused.back)?;
+        }
+    }
+    Ok(came)
+}
+
+fn sweep(row: &Row, alloc: Global) -> Result<(), Fail> {
+    let faces = faces_of(row, alloc)?;
+    for number in 0..MANY {
+        if !is_refused(row, &faces, number, alloc)? {
+            return holds(number > 0, "faces ask for memory");
+        }
+    }
+    Err(Fail::new("more requests than MANY"))
+}
+
+#[test]
+fn faces_are_refused_memory(rt: HostRuntime) -> Result<(), Fail> {
+    for row in &ROWS {
+        sweep(row, rt.alloc())?;
+    }
+    Ok(())
+}
+
+/// Lists the links of a mesh with the request of this number refused, and returns whether it came.
+fn links_are_refused(dcel: &Dcel<i64>, number: u64, alloc: Global) -> Result<bool, Fail> {
+    require!(dcel.removal_state() == RemovalState::Closed);
+    let memory = Refusing::new(alloc);
+    memory.refuse(Refusals::One(number));
+    let listed = link_lists(&memory, dcel).is_ok();
+    let came = memory.requests() > number;
+    same(listed, !came, "links are listed")?;
+    Ok(came)
+}
+
+/// The same of the corners of its faces.
+fn corners_are_refused(dcel: &Dcel<i64>, number: u64, alloc: Global) -> Result<bool, Fail> {
+    require!(dcel.removal_state() == RemovalState::Closed);
+    let memory = Refusing::new(alloc);
+    memory.refuse(Refusals::One(number));
+    let listed = face_lists(&memory, dcel).is_ok();
+    let came = memory.requests() > number;
+    same(listed, !came, "corners are listed")?;
+    Ok(came)
+}
+
+fn sweep_lists(dcel: &Dcel<i64>, alloc: Global) -> Result<(), Fail> {
+    for number in 0..MANY {
+        let links = links_are_refused(dcel, number, alloc)?;
+        let corners = corners_are_refused(dcel, number, alloc)?;
+        if !links && !corners {
+            return holds(number > 0, "lists ask for memory");
+        }
+    }
+    Err(Fail::new("more requests than MANY"))
+}
+
+#[test]
+fn lists_are_refused_memory(rt: HostRuntime) -> Result<(), Fail> {
+    let alloc = rt.alloc();
+    let row = &ROWS[0];
+    let vertices = vec![in alloc; 0; 5]?;
+    match from_faces(alloc, vertices, &faces_of(row, alloc)?) {
+        Ok(dcel) => sweep_lists(&dcel, alloc),
+        Err(_) => Err(Fail::new("the faces of a row are refused")),
+    }
+}
