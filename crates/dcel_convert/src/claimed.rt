@@ -58,18 +58,15 @@ fn check_turns(mesh: &Mesh, claim: &Claim) -> Result<(), Fault> {
 }
 
 fn check_turn(mesh: &Mesh, turn: &[u32]) -> Result<(), Wrong> {
-    let Some(mut before) = turn.last() else {
-        return Ok(());
-    };
-    for half in turn {
-        let edge = FixedDirectedEdgeHandle::new(*before as usize);
+    let behind = turn.iter().skip(1).chain(turn.first());
+    for (half, said) in turn.iter().zip(behind) {
+        let edge = FixedDirectedEdgeHandle::new(*half as usize);
         if let Some(edge) = mesh.get_directed_edge(edge) {
             let after = edge.ccw().index();
-            if after != *half as usize {
-                return Err(Wrong::OtherTurn(*before, after, *half));
+            if after != *said as usize {
+                return Err(Wrong::OtherTurn(*half, after, *said));
             }
         }
-        before = half;
     }
     Ok(())
 }

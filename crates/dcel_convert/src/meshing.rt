@@ -136,18 +136,16 @@ impl Solid {
 
 /// Lists the corners of a face, from the one on that the file lists first.
 pub fn list_corners(face: Face<'_>, corners: &mut Vec<usize>) -> Result<(), AllocError> {
-    list_word(face, corners)?;
-    let least = corners.first().copied();
     corners.clear();
-    let mut before = 0;
+    let (mut before, mut least) = (0, usize::MAX);
     for edge in face.directed_edges() {
-        if Some(edge.index()) == least {
-            before = corners.len();
+        if edge.index() < least {
+            (before, least) = (corners.len(), edge.index());
         }
         corners.push(edge.from().index())?;
     }
-    turn(corners, before);
-    turn(corners, *face.data());
+    rotate(corners, before);
+    rotate(corners, *face.data());
     Ok(())
 }
 
@@ -171,7 +169,7 @@ pub fn list_turn(vertex: Vertex<'_>, halves: &mut Vec<usize>) -> Result<(), Allo
     Ok(())
 }
 
-/// Turns a cyclic list so that its least item is first.
+/// Rotates half edges so that the least is first.
 fn begin_with_least(halves: &mut Vec<usize>) {
     let (mut before, mut least) = (0, usize::MAX);
     for (place, half) in halves.iter().enumerate() {
@@ -179,11 +177,11 @@ fn begin_with_least(halves: &mut Vec<usize>) {
             (before, least) = (place, *half);
         }
     }
-    turn(halves, before);
+    rotate(halves, before);
 }
 
-/// Turns a cyclic list so that as many items as it has before its new first one come last.
-fn turn(list: &mut Vec<usize>, before: usize) {
+/// Rotates a list so that so many of its first items come last.
+fn rotate(list: &mut Vec<usize>, before: usize) {
     if before <= list.len() {
         list.rotate_left(before);
     }

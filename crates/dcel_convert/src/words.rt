@@ -80,8 +80,7 @@ impl WordsReader {
         match counts {
             Some(counts)
                 if words.len() == counts.faces as usize
-                    && turns.len() == counts.vertices as usize =>
-            {
+                    && turns.len() == counts.vertices as usize => {
                 Ok(Claim {
                     edges: counts.edges as usize,
                     words,
