@@ -3,12 +3,11 @@
 import re
 from collections import Counter
 
+from fuzz_parts.lines import from_least
+from fuzz_parts.mesh import other
+
 COUNTS = re.compile(r"vertices (\d+) edges (\d+) faces (\d+)")
 NUMBERS = range(2 ** 32)
-
-
-def other(half):
-    return half ^ 1
 
 
 def numbers_of(tokens):
@@ -18,11 +17,6 @@ def numbers_of(tokens):
 
 def pairs_of(cyclic):
     return list(zip(cyclic, cyclic[1:] + cyclic[:1]))
-
-
-def from_least(cyclic):
-    place = cyclic.index(min(cyclic)) if cyclic else 0
-    return cyclic[place:] + cyclic[:place]
 
 
 class Claim:
@@ -54,7 +48,8 @@ class Claim:
 
     def is_listed(self):
         """Whether each half edge stands once in the words, and once in the turns."""
-        return all(sorted(half for item in lists for half in item) == list(self.halves) for lists in (self.words, self.turns))
+        listed = [sorted(half for found in lists for half in found) for lists in (self.words, self.turns)]
+        return all(len(halves) == len(self.halves) and halves == list(self.halves) for halves in listed)
 
     def count(self, half, lists):
         return Counter(item for found in lists for item in found)[half]

@@ -2,7 +2,9 @@
 
 import re
 
-from .claim import NUMBERS, numbers_of, other, pairs_of
+from fuzz_parts.mesh import other
+
+from .claim import NUMBERS, numbers_of, pairs_of
 
 KINDS = r"(words|out lines)"
 

@@ -1,6 +1,8 @@
 """Files of words made at random: those of meshes, damaged ones, and such as lie on no sphere."""
 
-from .claim import other, text_of_surface
+from fuzz_parts.mesh import other
+
+from .claim import text_of_surface
 from .made import grid, sphere
 
 
@@ -125,7 +127,7 @@ DAMAGES = {
     "two words joined": lambda l, c: join_lines(l, c, "F"),
     "two vertices joined": lambda l, c: join_lines(l, c, "out"),
     "an edge turned over": turn_over,
-    "another count": lambda l, c: count(l, c, c.choice([1, 3, 5]), c.choice([-1, 1, 2 ** 32 - 1, 2 ** 32])),
+    "another count": lambda l, c: count(l, c, c.choice([1, 3, 5]), c.choice([-1, 1, 2 ** 31, 2 ** 32])),
     "two parts": lambda l, c: put_beside(l, c, False),
     "two parts at a vertex": lambda l, c: put_beside(l, c, True),
 }
