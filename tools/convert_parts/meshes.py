@@ -3,9 +3,10 @@
 import random
 from collections import Counter
 from copy import deepcopy
+from math import isfinite
 from pathlib import Path
 
-from fuzz_parts.lines import answer
+from fuzz_parts.lines import answer, from_least
 from fuzz_parts.making import Maker
 from fuzz_parts.mesh import CLOSED, Mesh, other
 
@@ -57,6 +58,33 @@ def ways_of(mesh, halves):
 
 def corners_of(mesh):
     return [[mesh.origins[half] for half in word] for word in mesh.words]
+
+
+def corners_from_least(mesh):
+    """The corners of each face, from where its least half edge starts on."""
+    return [[mesh.origins[half] for half in from_least(word)] for word in mesh.words]
+
+
+def words_of(mesh):
+    """The file of words, as the lines are answered."""
+    lines = ["counts", "words", *(f"out {vertex}" for vertex in range(len(mesh.data)))]
+    return "".join(answer(mesh, line)[1] + "\n" for line in lines)
+
+
+def left_out_of_faces(mesh):
+    """What is said where a file of faces is made of the mesh."""
+    count = sum(1 for half in mesh.words[0] if mesh.face(other(half)) == 0) // 2
+    return f"left out {count} times: an edge with the outer face on both sides\n" if count else ""
+
+
+def fault_of_points(mesh, points):
+    """What is wrong with points that are found for the vertices: one for each, those of vertices with an edge different, the others at 0."""
+    used = set(mesh.origins)
+    if len(points) != len(mesh.data) or any(not isfinite(float(word)) for point in points for word in point):
+        return f"these are no points of the vertices: {points}"
+    if any(point[2] != "0" for point in points) or any(points[vertex] != ("0", "0", "0") for vertex in range(len(points)) if vertex not in used):
+        return f"a vertex without an edge doesn't lie at 0, or a point not in the plane: {points}"
+    return None if len({points[vertex] for vertex in used}) == len(used) else f"two vertices lie at one place: {points}"
 
 
 def inner_faces(mesh):

@@ -3,13 +3,15 @@
 use clap::{Arg, ArgAction, ArgMatches, Command, Error};
 use std::alloc::{AllocError, Global};
 
-/// How a file says vertices and faces.
+/// How a file says a mesh.
 #[derive(Clone, Copy, PartialEq, Eq, Debug)]
 pub enum Format {
     /// The Object File Format.
     Off,
     /// Wavefront's OBJ.
     Obj,
+    /// What `dcel_run` answers to `counts`, to `words`, and to `out` for each vertex.
+    Words,
 }
 
 /// What is written to standard output.
@@ -43,14 +45,20 @@ pub enum Asked<'a> {
     Told(Error),
 }
 
-const ABOUT: &str = "Converts a mesh of vertices and faces, or tells what is wrong with it";
+const ABOUT: &str = "Converts a file of a mesh, or tells what is wrong with it";
 
 const DETAILS: &str = "\
 The file is read as OFF, or as OBJ if its name ends in .obj. Faces list their corners
 counterclockwise, as seen from outside. A surface without a border is a mesh, and so is one with a
 single border; the border, or else the first face that comes to no vertex twice, is the outer face.
-What isn't vertices and faces is left out, and named on standard error. A file that has no mesh is
-refused with the first thing that is wrong with it.";
+
+If its name ends in .words it has what dcel_run answers to counts, to words, and to out for each
+vertex in their order. A word may begin anywhere. Vertices, half edges and faces keep their numbers
+as words; as OFF and OBJ the mesh has the inner faces in their order, and the places that a picture
+gives to its vertices, or 0 0 0 to one without an edge.
+
+What the output has no place for is left out, and named on standard error. A file that has no mesh
+is refused with the first thing that is wrong with it.";
 
 /// Reads the words, the program's name first.
 pub fn read_arguments<'a>(alloc: Global, words: &'a [String]) -> Result<Asked<'a>, AllocError> {
@@ -72,6 +80,7 @@ fn command<'a>(alloc: Global) -> Result<Command<'a>, AllocError> {
         .arg(choice(alloc, "check", "Writes nothing but what is wrong")?)?
         .arg(choice(alloc, "off", "Writes OFF, as it does without a choice")?)?
         .arg(choice(alloc, "obj", "Writes OBJ")?)?
+        .arg(choice(alloc, "words", "Writes words")?)?
         .arg(choice(alloc, "svg", "Draws the mesh")?)
 }
 
@@ -81,7 +90,7 @@ fn choice<'a>(alloc: Global, name: &'a str, help: &'a str) -> Result<Arg<'a>, Al
         .long(name)
         .action(ArgAction::SetTrue)
         .help(help);
-    for other in ["check", "off", "obj", "svg"] {
+    for other in ["check", "off", "obj", "words", "svg"] {
         if other != name {
             arg = arg.conflicts_with(other)?;
         }
@@ -97,6 +106,8 @@ fn arguments_of<'a>(matches: &ArgMatches<'a>) -> Arguments<'a> {
         Output::Svg
     } else if matches.get_flag("obj") {
         Output::Mesh(Format::Obj)
+    } else if matches.get_flag("words") {
+        Output::Mesh(Format::Words)
     } else {
         Output::Mesh(Format::Off)
     };
@@ -104,6 +115,7 @@ fn arguments_of<'a>(matches: &ArgMatches<'a>) -> Arguments<'a> {
         file,
         format: match file {
             Some(name) if name.ends_with(".obj") => Format::Obj,
+            Some(name) if name.ends_with(".words") => Format::Words,
             _ => Format::Off,
         },
         output,

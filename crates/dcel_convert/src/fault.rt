@@ -1,6 +1,8 @@
 //! Why the program gave up.
 
+use crate::claim::Lines;
 use dcel_exchange::FacesError;
+use spade_dcel::operations::{Fault as LinkFault, LinksError};
 use std::alloc::AllocError;
 use std::io;
 use thiserror::Error;
@@ -35,6 +37,20 @@ pub enum Fault {
     /// The faces are no mesh.
     #[error("{0}")]
     Faces(FacesError),
+    /// The words are no mesh, for a reason that a line shows.
+    #[error("line {line}: {fault}")]
+    Link {
+        /// The line of the counts, of a face or of a vertex.
+        line: usize,
+        /// What is wrong.
+        fault: LinkFault,
+    },
+    /// The words are no mesh.
+    #[error("{0}")]
+    Links(LinkFault),
+    /// No mesh was made of the words for a reason that their lines can't give.
+    #[error("no mesh was made: {0:?}")]
+    Other(LinksError),
     /// There is no border, and no face can stand for it.
     #[error("there is no border, and each face comes to a vertex twice")]
     NoOuterFace,
@@ -69,6 +85,27 @@ pub enum Wrong {
     /// A coordinate is no number.
     #[error("a coordinate is no number")]
     NoCoordinate,
+    /// The first line of a file of words has no counts.
+    #[error("the file doesn't begin with 'vertices N edges N faces N'")]
+    NoCounts,
+    /// The word of this face should stand there.
+    #[error("the word of face {0} is missing, a line that begins with F{0}")]
+    NoWord(usize),
+    /// The half edges out of this vertex should stand there.
+    #[error("the half edges out of vertex {0} are missing, a line that begins with out")]
+    NoTurn(usize),
+    /// This half edge is above those that the count of edges allows.
+    #[error("there is no half edge {0}")]
+    NoHalfEdge(u32),
+    /// This half edge stands in the lines of a kind already.
+    #[error("half edge {0} stands twice in the {1}")]
+    Twice(u32, Lines),
+    /// This half edge stands in no line of a kind, and by the count of edges there is one.
+    #[error("half edge {0} stands nowhere in the {1}")]
+    Nowhere(usize, Lines),
+    /// After the first half edge comes the second by `ccw`, and the third in the line.
+    #[error("after half edge {0} comes half edge {1} by ccw, and not {2}")]
+    OtherTurn(u32, usize, u32),
     /// There are more lines than the counts say.
     #[error("there are more vertices and faces than the counts say")]
     MoreLines,

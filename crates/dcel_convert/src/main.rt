@@ -1,10 +1,13 @@
-//! Converts meshes between files of vertices and faces, checks them, and draws them.
+//! Converts meshes between files of vertices and faces and the words of half edges, checks them, and
+//! draws them.
 //!
 //! `dcel_convert --help` tells what it reads and writes. It exits with status 0; with 1 if the file
 //! has no mesh, or a read, a write or memory failed; and with 2 if its arguments are bad.
 #![tactic(auto)]
 
 mod arguments;
+mod claim;
+mod claimed;
 mod fault;
 mod meshing;
 mod obj;
@@ -12,16 +15,18 @@ mod off;
 mod progress;
 mod reading;
 mod surface;
+mod words;
 mod writing;
 
-use crate::arguments::{Arguments, Asked, read_arguments};
+use crate::arguments::{Arguments, Asked, Format, Output, read_arguments};
+use crate::claimed::claimed_mesh;
 use crate::fault::Fault;
 use crate::meshing::Solid;
 use crate::progress::Progress;
-use crate::reading::read_surface;
+use crate::reading::{Content, read_file};
 use crate::writing::write_asked;
 use std::env;
-use std::io::IsTerminal;
+use std::io::{self, IsTerminal};
 use std::process::ExitCode;
 use std::rt::{Env, Files};
 
@@ -62,10 +67,45 @@ fn convert(
     progress: Progress,
     arguments: &Arguments,
 ) -> Result<(), Fault> {
-    let surface = read_surface(rt, progress, arguments)?;
-    for (what, lines) in surface.left_out.iter() {
-        eprintln!(rt; "left out {lines} times: {what}")?;
-    }
-    let solid = Solid::of(rt.alloc(), surface)?;
+    let content = read_file(rt, progress, arguments)?;
+    let solid = solid_of(rt, content, arguments.output)?;
     write_asked(rt, arguments.output, &solid)
+}
+
+/// Makes the mesh of a file, and names what is left out of the file or the output.
+fn solid_of(
+    rt: &(impl Eprint + AllocGlobal),
+    content: Content,
+    output: Output,
+) -> Result<Solid, Fault> {
+    match content {
+        Content::Faces(surface) => {
+            for (what, lines) in surface.left_out.iter() {
+                tell_left_out(rt, what, *lines)?;
+            }
+            let solid = Solid::of(rt.alloc(), surface)?;
+            if output == Output::Mesh(Format::Words) {
+                tell_left_out(rt, "a vertex's coordinates", solid.mesh.num_vertices())?;
+            }
+            Ok(solid)
+        }
+        Content::Words(claim) => {
+            let mut solid = Solid::of_inner_faces(claimed_mesh(rt.alloc(), &claim)?);
+            if output == Output::Mesh(Format::Off) || output == Output::Mesh(Format::Obj) {
+                tell_left_out(rt, EDGE_OUTSIDE, solid.num_edges_outside())?;
+                solid.place_vertices(rt.alloc())?;
+            }
+            Ok(solid)
+        }
+    }
+}
+
+const EDGE_OUTSIDE: &str = "an edge with the outer face on both sides";
+
+/// Names what is left out, and how often.
+fn tell_left_out(rt: &impl Eprint, what: &str, times: usize) -> io::Result<()> {
+    if times > 0 {
+        eprintln!(rt; "left out {times} times: {what}")?;
+    }
+    Ok(())
 }

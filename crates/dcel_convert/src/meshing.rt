@@ -1,16 +1,25 @@
-//! The mesh of a surface.
+//! The mesh of a file, and its lists of corners and of half edges.
 
 use crate::fault::Fault;
 use crate::surface::Surface;
 use dcel_exchange::{FacesError, from_faces};
+use dcel_picture::{Place, spread};
 use spade_dcel::dcel::Dcel;
-use spade_dcel::handles::{FaceHandle, FixedFaceHandle, PossiblyOuterTag};
+use spade_dcel::handles::{
+    FaceHandle, FixedFaceHandle, FixedVertexHandle, PossiblyOuterTag, VertexHandle,
+};
 use spade_dcel::operations::Fault as LinkFault;
 use std::alloc::{AllocError, Global};
 
 /// A mesh whose vertices have their coordinates as text, and whose faces have the number of steps
-/// from their anchor to the corner that the file lists first.
+/// from their least half edge to the corner that the file lists first.
 pub type Mesh = Dcel<String, (), (), usize>;
+
+/// A face of the mesh.
+pub type Face<'a> = FaceHandle<'a, PossiblyOuterTag, String, (), (), usize>;
+
+/// A vertex of the mesh.
+pub type Vertex<'a> = VertexHandle<'a, String, (), (), usize>;
 
 /// A mesh, and which face of the file is its outer face.
 #[derive(Drop)]
@@ -71,6 +80,36 @@ impl Solid {
 }
 
 impl Solid {
+    /// The mesh whose faces of the file are its inner faces.
+    pub fn of_inner_faces(mesh: Mesh) -> Solid {
+        Solid { mesh, outer: None }
+    }
+
+    /// How many edges have the outer face on both sides.
+    pub fn num_edges_outside(&self) -> usize {
+        let mut count: usize = 0;
+        for edge in self.mesh.live_undirected_edges() {
+            let half = edge.as_directed();
+            if half.face().is_outer() && half.rev().face().is_outer() {
+                count = count.saturating_add(1);
+            }
+        }
+        count
+    }
+
+    /// Gives each vertex the place that a picture finds for it, and 0 0 0 if it has no edge.
+    pub fn place_vertices(&mut self, alloc: Global) -> Result<(), AllocError> {
+        let places = spread(alloc, &self.mesh, None)?;
+        for number in 0..self.mesh.num_vertices() {
+            if number < self.mesh.num_vertices() {
+                let Place { x, y } = places.vertex(number).unwrap_or(Place::new(0.0, 0.0));
+                let vertex = FixedVertexHandle::new(number);
+                *self.mesh.vertex_data_mut(vertex) = format!(in alloc; "{x} {y} 0")?;
+            }
+        }
+        Ok(())
+    }
+
     /// How many faces the file has.
     pub fn num_faces(&self) -> usize {
         match self.outer {
@@ -80,10 +119,7 @@ impl Solid {
     }
 
     /// The face that has this place in the file, if there is one.
-    pub fn face(
-        &self,
-        place: usize,
-    ) -> Option<FaceHandle<'_, PossiblyOuterTag, String, (), (), usize>> {
+    pub fn face(&self, place: usize) -> Option<Face<'_>> {
         let number = match self.outer {
             Some(outer) if place == outer => 0,
             Some(outer) if place > outer => place,
@@ -99,19 +135,56 @@ impl Solid {
 }
 
 /// Lists the corners of a face, from the one on that the file lists first.
-pub fn list_corners(
-    face: FaceHandle<'_, PossiblyOuterTag, String, (), (), usize>,
-    corners: &mut Vec<usize>,
-) -> Result<(), AllocError> {
+pub fn list_corners(face: Face<'_>, corners: &mut Vec<usize>) -> Result<(), AllocError> {
     corners.clear();
+    let (mut before, mut least) = (0, usize::MAX);
     for edge in face.directed_edges() {
-        corners.push(edge.from().fix().index())?;
+        if edge.index() < least {
+            (before, least) = (corners.len(), edge.index());
+        }
+        corners.push(edge.from().index())?;
     }
-    let steps = *face.data();
-    if steps <= corners.len() {
-        corners.rotate_left(steps);
-    }
+    rotate(corners, before);
+    rotate(corners, *face.data());
     Ok(())
+}
+
+/// Lists the half edges round a face by `next`, from the least on.
+pub fn list_word(face: Face<'_>, halves: &mut Vec<usize>) -> Result<(), AllocError> {
+    halves.clear();
+    for edge in face.directed_edges() {
+        halves.push(edge.index())?;
+    }
+    begin_with_least(halves);
+    Ok(())
+}
+
+/// Lists the half edges out of a vertex by `ccw`, from the least on.
+pub fn list_turn(vertex: Vertex<'_>, halves: &mut Vec<usize>) -> Result<(), AllocError> {
+    halves.clear();
+    for edge in vertex.out_edges() {
+        halves.push(edge.index())?;
+    }
+    begin_with_least(halves);
+    Ok(())
+}
+
+/// Rotates half edges so that the least is first.
+fn begin_with_least(halves: &mut Vec<usize>) {
+    let (mut before, mut least) = (0, usize::MAX);
+    for (place, half) in halves.iter().enumerate() {
+        if *half < least {
+            (before, least) = (place, *half);
+        }
+    }
+    rotate(halves, before);
+}
+
+/// Rotates a list so that so many of its first items come last.
+fn rotate(list: &mut Vec<usize>, before: usize) {
+    if before <= list.len() {
+        list.rotate_left(before);
+    }
 }
 
 /// Notes at each inner face where the list of the file begins. These are in the order of the faces.

@@ -16,29 +16,13 @@ pub fn take_line(
     let mut words = text.split_ascii_whitespace();
     match words.next() {
         None => Ok(()),
-        Some("v") => take_vertex(alloc, words, surface),
+        Some("v") => surface.take_vertex(alloc, words),
         Some("f") => take_face(alloc, line, words, surface),
         Some(other) => {
             surface.leave_out(alloc, other)?;
             Ok(())
         }
     }
-}
-
-/// Reads a vertex: three coordinates. A weight or a color behind them is left out.
-fn take_vertex(
-    alloc: Global,
-    mut words: SplitAsciiWhitespace,
-    surface: &mut Surface,
-) -> Result<(), Wrong> {
-    let x = words.next().ok_or(Wrong::TooFew)?;
-    let y = words.next().ok_or(Wrong::TooFew)?;
-    let z = words.next().ok_or(Wrong::TooFew)?;
-    surface.add_vertex(alloc, [x, y, z])?;
-    if words.next().is_some() {
-        surface.leave_out(alloc, "what follows a vertex's coordinates")?;
-    }
-    Ok(())
 }
 
 /// Reads a face: its corners. What follows a corner's slash is left out.

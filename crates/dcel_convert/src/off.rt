@@ -52,7 +52,7 @@ impl OffReader {
             Stage::Counts => self.take_counts(first, words),
             Stage::Elements => {
                 if surface.places.len() < self.vertices {
-                    take_vertex(alloc, first, words, surface)
+                    surface.take_vertex(alloc, text.split_ascii_whitespace())
                 } else if surface.faces.len() < self.faces {
                     take_face(alloc, line, first, words, surface)
                 } else {
@@ -92,22 +92,6 @@ impl OffReader {
         self.stage = Stage::Elements;
         Ok(())
     }
-}
-
-/// Reads a vertex: three coordinates. Colors behind them are left out.
-fn take_vertex(
-    alloc: Global,
-    x: &str,
-    mut words: SplitAsciiWhitespace,
-    surface: &mut Surface,
-) -> Result<(), Wrong> {
-    let y = words.next().ok_or(Wrong::TooFew)?;
-    let z = words.next().ok_or(Wrong::TooFew)?;
-    surface.add_vertex(alloc, [x, y, z])?;
-    if words.next().is_some() {
-        surface.leave_out(alloc, "what follows a vertex's coordinates")?;
-    }
-    Ok(())
 }
 
 /// Reads a face: how many corners it has, and these. Colors behind them are left out.

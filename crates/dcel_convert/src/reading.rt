@@ -1,26 +1,37 @@
 //! Files read line by line.
 
 use crate::arguments::{Arguments, Format};
+use crate::claim::Claim;
 use crate::fault::{Fault, Wrong};
 use crate::obj;
 use crate::off::OffReader;
 use crate::progress::Progress;
 use crate::surface::Surface;
+use crate::words::WordsReader;
 use std::alloc::Global;
 use std::fs;
 use std::io::{BufRead, BufReader, Read};
 use std::rt::Files;
 
-/// Reads the vertices and faces of the file, or of standard input.
-pub fn read_surface(
+/// What a file has.
+#[derive(Drop)]
+pub enum Content {
+    /// Vertices and faces.
+    Faces(Surface),
+    /// Words and turns.
+    Words(Claim),
+}
+
+/// Reads the file, or standard input.
+pub fn read_file(
     rt: &(impl Files + Input + Eprint + AllocGlobal),
     progress: Progress,
     arguments: &Arguments,
-) -> Result<Surface, Fault> {
+) -> Result<Content, Fault> {
     match arguments.file {
-        None => surface_of(rt, progress, rt.reader(), arguments.format),
+        None => content_of(rt, progress, rt.reader(), arguments.format),
         Some(path) => match fs::open(rt, path) {
-            Ok(opened) => surface_of(rt, progress, opened, arguments.format),
+            Ok(opened) => content_of(rt, progress, opened, arguments.format),
             Err(error) => Err(Fault::File {
                 path: String::from_str(rt.alloc(), path)?,
                 error,
@@ -30,15 +41,14 @@ pub fn read_surface(
 }
 
 /// Reads all lines.
-fn surface_of(
+fn content_of(
     rt: &(impl Eprint + AllocGlobal),
     progress: Progress,
     input: impl Read + Drop,
     format: Format,
-) -> Result<Surface, Fault> {
+) -> Result<Content, Fault> {
     let alloc = rt.alloc();
-    let mut surface = Surface::new(alloc);
-    let mut off = OffReader::new();
+    let mut reader = Reader::new(alloc, format);
     let mut number: usize = 0;
     for line in BufReader::new(alloc, input)?.lines(alloc) {
         number = number.saturating_add(1);
@@ -47,24 +57,58 @@ fn surface_of(
             line: number,
             error,
         })?;
-        let said = before_comment(text.as_str());
-        let taken = match format {
-            Format::Off => off.take(alloc, number, said, &mut surface),
-            Format::Obj => obj::take_line(alloc, number, said, &mut surface),
-        };
-        taken.map_err(|wrong| Fault::Line {
-            line: number,
-            wrong,
-        })?;
+        reader
+            .take(alloc, number, text.as_str())
+            .map_err(|wrong| Fault::Line {
+                line: number,
+                wrong,
+            })?;
     }
     progress.clear(rt, number)?;
-    if format == Format::Off {
-        off.end(&surface).map_err(|wrong| Fault::Line {
-            line: number.saturating_add(1),
-            wrong,
-        })?;
+    reader.end().map_err(|wrong| Fault::Line {
+        line: number.saturating_add(1),
+        wrong,
+    })
+}
+
+/// A file that is read line by line.
+#[derive(Drop)]
+enum Reader {
+    Off(OffReader, Surface),
+    Obj(Surface),
+    Words(WordsReader),
+}
+
+impl Reader {
+    /// A reader at the beginning of a file.
+    fn new(alloc: Global, format: Format) -> Self {
+        match format {
+            Format::Off => Reader::Off(OffReader::new(), Surface::new(alloc)),
+            Format::Obj => Reader::Obj(Surface::new(alloc)),
+            Format::Words => Reader::Words(WordsReader::new(alloc)),
+        }
     }
-    Ok(surface)
+
+    /// Reads a line.
+    fn take(&mut self, alloc: Global, line: usize, text: &str) -> Result<(), Wrong> {
+        match self {
+            Reader::Off(off, surface) => off.take(alloc, line, before_comment(text), surface),
+            Reader::Obj(surface) => obj::take_line(alloc, line, before_comment(text), surface),
+            Reader::Words(words) => words.take(alloc, text),
+        }
+    }
+
+    /// What the file has, if it may end here.
+    fn end(self) -> Result<Content, Wrong> {
+        match self {
+            Reader::Off(off, surface) => {
+                off.end(&surface)?;
+                Ok(Content::Faces(surface))
+            }
+            Reader::Obj(surface) => Ok(Content::Faces(surface)),
+            Reader::Words(words) => Ok(Content::Words(words.end()?)),
+        }
+    }
 }
 
 /// What stands before the first `#`.

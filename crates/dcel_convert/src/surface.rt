@@ -2,6 +2,7 @@
 
 use crate::fault::Wrong;
 use std::alloc::{AllocError, Global};
+use std::str::SplitAsciiWhitespace;
 
 /// The vertices and faces of a file.
 #[derive(Drop)]
@@ -27,8 +28,25 @@ impl Surface {
         }
     }
 
+    /// Reads a vertex: three coordinates. What stands behind them, as a weight or a color, is left
+    /// out.
+    pub fn take_vertex(
+        &mut self,
+        alloc: Global,
+        mut words: SplitAsciiWhitespace,
+    ) -> Result<(), Wrong> {
+        let x = words.next().ok_or(Wrong::TooFew)?;
+        let y = words.next().ok_or(Wrong::TooFew)?;
+        let z = words.next().ok_or(Wrong::TooFew)?;
+        self.add_vertex(alloc, [x, y, z])?;
+        if words.next().is_some() {
+            self.leave_out(alloc, "what follows a vertex's coordinates")?;
+        }
+        Ok(())
+    }
+
     /// Adds a vertex at three coordinates.
-    pub fn add_vertex(&mut self, alloc: Global, coordinates: [&str; 3]) -> Result<(), Wrong> {
+    fn add_vertex(&mut self, alloc: Global, coordinates: [&str; 3]) -> Result<(), Wrong> {
         let [x, y, z] = coordinates;
         for word in coordinates {
             if word.parse::<f64>().is_err() {

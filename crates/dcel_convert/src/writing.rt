@@ -2,7 +2,7 @@
 
 use crate::arguments::{Format, Output};
 use crate::fault::Fault;
-use crate::meshing::{Mesh, Solid, list_corners};
+use crate::meshing::{Mesh, Solid, list_corners, list_turn, list_word};
 use dcel_picture::{Picture, Style, spread, write_svg};
 use std::alloc::Global;
 use std::io::{self, BufWriter, Write};
@@ -20,6 +20,7 @@ pub fn write_asked(
         Output::Svg => draw(alloc, &mut writer, &solid.mesh)?,
         Output::Mesh(Format::Off) => write_off(alloc, &mut writer, solid)?,
         Output::Mesh(Format::Obj) => write_obj(alloc, &mut writer, solid)?,
+        Output::Mesh(Format::Words) => write_words(alloc, &mut writer, &solid.mesh)?,
     }
     writer.flush()?;
     Ok(())
@@ -72,10 +73,33 @@ fn write_obj(alloc: Global, writer: &mut impl Write, solid: &Solid) -> Result<()
     Ok(())
 }
 
-/// Writes the numbers of vertices, counted from `first` on, and ends the line.
-fn write_numbers(writer: &mut impl Write, corners: &[usize], first: usize) -> io::Result<()> {
-    for corner in corners {
-        write!(writer, " {}", corner.saturating_add(first))?;
+/// Writes the counts, the word of each face, and the half edges out of each vertex.
+fn write_words(alloc: Global, writer: &mut impl Write, mesh: &Mesh) -> Result<(), Fault> {
+    writeln!(
+        writer,
+        "vertices {} edges {} faces {}",
+        mesh.num_vertices(),
+        mesh.num_undirected_edges(),
+        mesh.num_faces()
+    )?;
+    let mut halves = Vec::new(alloc);
+    for face in mesh.live_faces() {
+        write!(writer, "F{}", face.index())?;
+        list_word(face, &mut halves)?;
+        write_numbers(writer, &halves, 0)?;
+    }
+    for vertex in mesh.live_vertices() {
+        write!(writer, "out")?;
+        list_turn(vertex, &mut halves)?;
+        write_numbers(writer, &halves, 0)?;
+    }
+    Ok(())
+}
+
+/// Writes these numbers, counted from `first` on, and ends the line.
+fn write_numbers(writer: &mut impl Write, numbers: &[usize], first: usize) -> io::Result<()> {
+    for number in numbers {
+        write!(writer, " {}", number.saturating_add(first))?;
     }
     writeln!(writer)
 }

@@ -1,0 +1,104 @@
+//! The mesh that a file of words claims.
+
+use crate::claim::{Claim, Lines};
+use crate::fault::{Fault, Wrong};
+use crate::meshing::Mesh;
+use dcel_exchange::LinkLists;
+use spade_dcel::handles::FixedDirectedEdgeHandle;
+use spade_dcel::operations::{EdgeData, Fault as LinkFault, LinksError, MeshData, from_links};
+use std::alloc::{AllocError, Global};
+
+/// Makes the mesh that is claimed, with no coordinates. If there is none, the line is told that
+/// shows it, where one does.
+pub fn claimed_mesh(alloc: Global, claim: &Claim) -> Result<Mesh, Fault> {
+    let links = claim.links(alloc)?;
+    let given = MeshData {
+        vertices: no_places(alloc, claim.turns.len())?,
+        edges: no_data(alloc, links.next.len() / 2)?,
+        faces: vec![in alloc; 0; claim.words.len()]?,
+    };
+    match from_links(alloc, &links.next, &links.origin, &links.face, given) {
+        Ok(mesh) => {
+            check_turns(&mesh, claim)?;
+            Ok(mesh)
+        }
+        Err(refused) => Err(fault_of(refused.reason, claim, &links)),
+    }
+}
+
+fn no_places(alloc: Global, count: usize) -> Result<Vec<String>, AllocError> {
+    let mut places = Vec::new(alloc);
+    for _ in 0..count {
+        places.push(String::new(alloc))?;
+    }
+    Ok(places)
+}
+
+fn no_data(alloc: Global, edges: usize) -> Result<Vec<EdgeData<(), ()>>, AllocError> {
+    let mut data = Vec::new(alloc);
+    for _ in 0..edges {
+        data.push(EdgeData {
+            normalized: (),
+            reversed: (),
+            undirected: (),
+        })?;
+    }
+    Ok(data)
+}
+
+/// Looks for a turn in another order than that of `ccw` in the mesh.
+fn check_turns(mesh: &Mesh, claim: &Claim) -> Result<(), Fault> {
+    for (vertex, turn) in claim.turns.iter().enumerate() {
+        check_turn(mesh, turn).map_err(|wrong| Fault::Line {
+            line: claim.line_of(Lines::Turns, vertex),
+            wrong,
+        })?;
+    }
+    Ok(())
+}
+
+fn check_turn(mesh: &Mesh, turn: &[u32]) -> Result<(), Wrong> {
+    let behind = turn.iter().skip(1).chain(turn.first());
+    for (half, said) in turn.iter().zip(behind) {
+        let edge = FixedDirectedEdgeHandle::new(*half as usize);
+        if let Some(edge) = mesh.get_directed_edge(edge) {
+            let after = edge.ccw().index();
+            if after != *said as usize {
+                return Err(Wrong::OtherTurn(*half, after, *said));
+            }
+        }
+    }
+    Ok(())
+}
+
+/// The reason, with the line that shows it, if one does.
+fn fault_of(reason: LinksError, claim: &Claim, links: &LinkLists) -> Fault {
+    match reason {
+        LinksError::Links(fault) => match line_of(fault, claim, links) {
+            Some(line) => Fault::Link { line, fault },
+            None => Fault::Links(fault),
+        },
+        LinksError::OutOfMemory => Fault::OutOfMemory(AllocError),
+        other => Fault::Other(other),
+    }
+}
+
+/// The line that shows a fault: the counts, a word or a turn.
+fn line_of(fault: LinkFault, claim: &Claim, links: &LinkLists) -> Option<usize> {
+    match fault {
+        LinkFault::NoFace | LinkFault::MoreFaces => Some(1),
+        LinkFault::OneEnd(half) => {
+            let vertex = links.origin.get(half)?;
+            Some(claim.line_of(Lines::Turns, *vertex as usize))
+        }
+        LinkFault::Apart(half) | LinkFault::NotConnected(half) => {
+            let face = links.face.get(half)?;
+            Some(claim.line_of(Lines::Words, *face as usize))
+        }
+        LinkFault::FaceInParts(face) | LinkFault::UnusedFace(face) => {
+            Some(claim.line_of(Lines::Words, face))
+        }
+        LinkFault::VertexInParts(vertex) => Some(claim.line_of(Lines::Turns, vertex)),
+        _ => None,
+    }
+}

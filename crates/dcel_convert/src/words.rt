@@ -1,0 +1,137 @@
+//! Files of words: what `dcel_run` answers to `counts`, to `words`, and to `out` for each vertex in
+//! the order of their numbers.
+
+use crate::claim::Claim;
+use crate::fault::Wrong;
+use crate::reading::number;
+use std::alloc::Global;
+use std::str::SplitAsciiWhitespace;
+
+/// How many elements of each kind there are.
+#[derive(Clone, Copy)]
+struct Counts {
+    vertices: u32,
+    edges: u32,
+    faces: u32,
+}
+
+/// A file of words that is read line by line.
+#[derive(Drop)]
+pub struct WordsReader {
+    counts: Option<Counts>,
+    words: Vec<Vec<u32>>,
+    turns: Vec<Vec<u32>>,
+}
+
+impl WordsReader {
+    /// A reader at the beginning of a file.
+    pub fn new(alloc: Global) -> Self {
+        WordsReader {
+            counts: None,
+            words: Vec::new(alloc),
+            turns: Vec::new(alloc),
+        }
+    }
+
+    /// Reads a line.
+    pub fn take(&mut self, alloc: Global, text: &str) -> Result<(), Wrong> {
+        let words = text.split_ascii_whitespace();
+        match self.counts {
+            None => {
+                self.counts = Some(counts_of(words)?);
+                Ok(())
+            }
+            Some(counts) => self.take_list(alloc, counts, words),
+        }
+    }
+
+    /// Reads a line of half edges: the next word, or once all are read the next turn.
+    fn take_list(
+        &mut self,
+        alloc: Global,
+        counts: Counts,
+        mut words: SplitAsciiWhitespace,
+    ) -> Result<(), Wrong> {
+        let first = words.next().unwrap_or("");
+        if self.words.len() < counts.faces as usize {
+            let face = self.words.len();
+            if face_named(first) != Some(face) {
+                return Err(Wrong::NoWord(face));
+            }
+            self.words.push(halves_of(alloc, counts, words)?)?;
+        } else if self.turns.len() < counts.vertices as usize {
+            if first != "out" {
+                return Err(Wrong::NoTurn(self.turns.len()));
+            }
+            self.turns.push(halves_of(alloc, counts, words)?)?;
+        } else {
+            return Err(Wrong::MoreLines);
+        }
+        Ok(())
+    }
+
+    /// What the file claims, if it may end here.
+    pub fn end(self) -> Result<Claim, Wrong> {
+        let WordsReader {
+            counts,
+            words,
+            turns,
+        } = self;
+        match counts {
+            Some(counts)
+                if words.len() == counts.faces as usize
+                    && turns.len() == counts.vertices as usize => {
+                Ok(Claim {
+                    edges: counts.edges as usize,
+                    words,
+                    turns,
+                })
+            }
+            _ => Err(Wrong::FewerLines),
+        }
+    }
+}
+
+/// Reads the line of counts.
+fn counts_of(mut words: SplitAsciiWhitespace) -> Result<Counts, Wrong> {
+    let counts = Counts {
+        vertices: count_of("vertices", &mut words)?,
+        edges: count_of("edges", &mut words)?,
+        faces: count_of("faces", &mut words)?,
+    };
+    match words.next() {
+        Some(_) => Err(Wrong::NoCounts),
+        None => Ok(counts),
+    }
+}
+
+/// Reads the count that follows this word.
+fn count_of(word: &str, words: &mut SplitAsciiWhitespace) -> Result<u32, Wrong> {
+    if words.next() != Some(word) {
+        return Err(Wrong::NoCounts);
+    }
+    number(words.next().ok_or(Wrong::NoCounts)?)
+}
+
+/// The face whose word begins so.
+fn face_named(first: &str) -> Option<usize> {
+    let face = number(first.strip_prefix('F')?).ok()?;
+    Some(face as usize)
+}
+
+/// Reads the half edges of a line.
+fn halves_of(
+    alloc: Global,
+    counts: Counts,
+    words: SplitAsciiWhitespace,
+) -> Result<Vec<u32>, Wrong> {
+    let mut halves = Vec::new(alloc);
+    for word in words {
+        let half = number(word)?;
+        if half / 2 >= counts.edges {
+            return Err(Wrong::NoHalfEdge(half));
+        }
+        halves.push(half)?;
+    }
+    Ok(halves)
+}
