@@ -70,7 +70,6 @@ OF_LINKS = [
     (r"the half edges of vertex (\d+) are no single turn", turn_line, lambda c, vertex: vertex in c.parted()),
     (r"no half edge lies on face (\d+)", lambda c, face: face + 2, lambda c, face: face in c.unused()),
     (r"half edge (\d+) isn't reached from half edge 0", word_line, lambda c, half: half in c.halves and half not in c.reached()),
-    (r"vertices with an edge, minus edges, plus faces, are not two", lambda c: None, lambda c: genus(c) != 0),
     (r"the surface has genus (\d+), so it is not a sphere", lambda c, number: None, lambda c, number: genus(c) == number > 0),
     (r"after half edge (\d+) comes half edge (\d+) by ccw, and not (\d+)", lambda c, half, *_: turn_line(c, c.origins()[half]),
      lambda c, half, after, said: c.next()[other(after)] == half and after != said and (half, said) in pairs_of(c.turns[c.origins()[half]])),

@@ -1,9 +1,8 @@
 //! The mesh that a file of words claims.
 
-use crate::claim::{Claim, Lines};
+use crate::claim::{Claim, Lines, Links};
 use crate::fault::{Fault, Wrong};
 use crate::meshing::Mesh;
-use dcel_exchange::LinkLists;
 use spade_dcel::handles::FixedDirectedEdgeHandle;
 use spade_dcel::operations::{EdgeData, Fault as LinkFault, LinksError, MeshData, from_links};
 use std::alloc::{AllocError, Global};
@@ -72,7 +71,7 @@ fn check_turn(mesh: &Mesh, turn: &[u32]) -> Result<(), Wrong> {
 }
 
 /// The reason, with the line that shows it, if one does.
-fn fault_of(reason: LinksError, claim: &Claim, links: &LinkLists) -> Fault {
+fn fault_of(reason: LinksError, claim: &Claim, links: &Links) -> Fault {
     match reason {
         LinksError::Links(fault) => match line_of(fault, claim, links) {
             Some(line) => Fault::Link { line, fault },
@@ -84,7 +83,7 @@ fn fault_of(reason: LinksError, claim: &Claim, links: &LinkLists) -> Fault {
 }
 
 /// The line that shows a fault: the counts, a word or a turn.
-fn line_of(fault: LinkFault, claim: &Claim, links: &LinkLists) -> Option<usize> {
+fn line_of(fault: LinkFault, claim: &Claim, links: &Links) -> Option<usize> {
     match fault {
         LinkFault::NoFace | LinkFault::MoreFaces => Some(1),
         LinkFault::OneEnd(half) => {

@@ -49,7 +49,7 @@ pub enum Fault {
     #[error("{0}")]
     Links(LinkFault),
     /// No mesh was made of the words for a reason that their lines can't give.
-    #[error("no mesh was made: {0:?}")]
+    #[error("{0}")]
     Other(LinksError),
     /// There is no border, and no face can stand for it.
     #[error("there is no border, and each face comes to a vertex twice")]
