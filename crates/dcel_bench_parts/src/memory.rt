@@ -15,12 +15,12 @@ const MANY: u64 = 100;
 type Memory<'a> = &'a Refusing<Global>;
 
 /// A mesh in such memory.
-type Watched<'a> = Dcel<i64, (), (), (), Memory<'a>>;
+type Watched<'a> = Dcel<u32, (), (), (), Memory<'a>>;
 
 /// Faces over so many vertices, and the reason why they are no mesh, if they are none.
 struct Row {
     faces: &'static [&'static [u32]],
-    vertices: i64,
+    vertices: u32,
     refused: Option<FacesError>,
 }
 
@@ -49,7 +49,7 @@ fn faces_of(row: &Row, alloc: Global) -> Result<Vec<Vec<u32>>, AllocError> {
 }
 
 /// The vertices of a row, with their numbers as data.
-fn vertices_of<'a>(row: &Row, memory: Memory<'a>) -> Result<Vec<i64, Memory<'a>>, AllocError> {
+fn vertices_of<'a>(row: &Row, memory: Memory<'a>) -> Result<Vec<u32, Memory<'a>>, AllocError> {
     let mut vertices = Vec::new(memory);
     for vertex in 0..row.vertices {
         vertices.push(vertex)?;
@@ -61,22 +61,22 @@ fn vertices_of<'a>(row: &Row, memory: Memory<'a>) -> Result<Vec<i64, Memory<'a>>
 fn make<'a>(
     memory: Memory<'a>,
     faces: &[Vec<u32>],
-    vertices: Vec<i64, Memory<'a>>,
+    vertices: Vec<u32, Memory<'a>>,
     refusals: Refusals,
-) -> Result<Watched<'a>, RefusedFaces<Vec<i64, Memory<'a>>>> {
+) -> Result<Watched<'a>, RefusedFaces<Vec<u32, Memory<'a>>>> {
     memory.refuse(refusals);
     from_faces(memory, vertices, faces)
 }
 
 /// Checks that the data of a row came back whole.
-fn check_back(row: &Row, back: &[i64]) -> Result<(), Fail> {
+fn check_back(row: &Row, back: &[u32]) -> Result<(), Fail> {
     same(
         back.len() as u64,
         row.vertices as u64,
         "data that came back",
     )?;
     for (place, datum) in back.iter().enumerate() {
-        same(*datum, place as i64, "a datum that came back")?;
+        same(*datum as usize, place, "a datum that came back")?;
     }
     Ok(())
 }
@@ -121,7 +121,7 @@ fn faces_are_refused_memory(rt: HostRuntime) -> Result<(), Fail> {
 }
 
 /// Lists the links of a mesh with the request of this number refused, and returns whether it came.
-fn links_are_refused(dcel: &Dcel<i64>, number: u64, alloc: Global) -> Result<bool, Fail> {
+fn links_are_refused(dcel: &Dcel<u32>, number: u64, alloc: Global) -> Result<bool, Fail> {
     require!(dcel.removal_state() == RemovalState::Closed);
     let memory = Refusing::new(alloc);
     memory.refuse(Refusals::One(number));
@@ -132,7 +132,7 @@ fn links_are_refused(dcel: &Dcel<i64>, number: u64, alloc: Global) -> Result<boo
 }
 
 /// The same of the corners of its faces.
-fn corners_are_refused(dcel: &Dcel<i64>, number: u64, alloc: Global) -> Result<bool, Fail> {
+fn corners_are_refused(dcel: &Dcel<u32>, number: u64, alloc: Global) -> Result<bool, Fail> {
     require!(dcel.removal_state() == RemovalState::Closed);
     let memory = Refusing::new(alloc);
     memory.refuse(Refusals::One(number));
@@ -142,7 +142,7 @@ fn corners_are_refused(dcel: &Dcel<i64>, number: u64, alloc: Global) -> Result<b
     Ok(came)
 }
 
-fn sweep_lists(dcel: &Dcel<i64>, alloc: Global) -> Result<(), Fail> {
+fn sweep_lists(dcel: &Dcel<u32>, alloc: Global) -> Result<(), Fail> {
     for number in 0..MANY {
         let links = links_are_refused(dcel, number, alloc)?;
         let corners = corners_are_refused(dcel, number, alloc)?;
