@@ -25,8 +25,9 @@ const MOST: usize = 400;
 /// The vertices of a path stand in a row. Vertices without an edge get no place.
 ///
 /// If a removal is open, and it is told what the mesh was `before`, what was given up gets places
-/// too. All places are those of before if the faces that are live now lie well there; else the
-/// vertex that was given up stands among those that were its neighbors.
+/// too. All places are those of before if the faces that are live now lie well there, and no vertex
+/// has got its first edge since; else the vertex that was given up stands among those that were its
+/// neighbors.
 pub fn spread<V, DE, UE, F, A: Allocator, B: Allocator + Copy>(
     alloc: B,
     mesh: &Dcel<V, DE, UE, F, A>,
@@ -42,7 +43,7 @@ pub fn spread<V, DE, UE, F, A: Allocator, B: Allocator + Copy>(
     match before {
         Some(before) => {
             set_live(alloc, before, &mut places)?;
-            if !fits(mesh, &places) {
+            if !has_places(mesh, &places) || !fits(mesh, &places) {
                 places.vertices.fill(None);
                 places.bends.clear();
                 set_live(alloc, mesh, &mut places)?;
@@ -54,6 +55,19 @@ pub fn spread<V, DE, UE, F, A: Allocator, B: Allocator + Copy>(
     }
     bow(alloc, mesh, before, &mut places)?;
     Ok(places)
+}
+
+/// Returns whether each vertex that has an edge has a place.
+fn has_places<V, DE, UE, F, A: Allocator, B: Allocator>(
+    mesh: &Dcel<V, DE, UE, F, A>,
+    places: &Places<B>,
+) -> bool {
+    for number in 0..mesh.num_vertices() {
+        if has_edge(mesh, number) && places.vertex(number).is_none() {
+            return false;
+        }
+    }
+    true
 }
 
 /// Returns whether the corners of each live triangle have places that go round counterclockwise.
