@@ -32,9 +32,11 @@ pub enum Growth {
     PutBeside(u32, u32),
     /// The vertex cuts the triangle into three.
     Insert(u32, u32),
-    /// The vertex splits the half edge's edge, and is joined to the corner of the triangle on the half edge's side.
+    /// The vertex splits the half edge's edge, and is joined to the corner of the triangle on the
+    /// half edge's side.
     SplitOneSide(u32, u32),
-    /// The vertex splits the half edge's edge, and is joined to the corners of the triangles on both sides.
+    /// The vertex splits the half edge's edge, and is joined to the corners of the triangles on
+    /// both sides.
     SplitBothSides(u32, u32),
 }
 
@@ -110,7 +112,8 @@ fn close<A: Allocator>(dcel: &mut Mesh<A>, index: u32) -> Result<bool, Fail> {
     is_answered(answer, outer, Close(index))
 }
 
-/// Joins an unconnected vertex to the end of a line, to the ends of a half edge, or to the corners of a triangle.
+/// Joins an unconnected vertex to the end of a line, to the ends of a half edge, or to the corners
+/// of a triangle.
 fn join<A: Allocator>(
     dcel: &mut Mesh<A>,
     growth: Growth,
@@ -142,7 +145,8 @@ fn join<A: Allocator>(
     is_answered(answer, added, growth)
 }
 
-/// Splits an edge by an unconnected vertex: one with one face on both sides, or with triangles on one or both.
+/// Splits an edge by an unconnected vertex: one with one face on both sides, or with triangles on
+/// one or both.
 fn split<A: Allocator>(
     dcel: &mut Mesh<A>,
     growth: Growth,
@@ -214,7 +218,8 @@ fn replace<A: Allocator + Clone>(
     }
 }
 
-/// Makes the call after testing its conditions, and returns whether there was memory. Without memory, the data are handed back.
+/// Makes the call after testing its conditions, and returns whether there was memory. Without
+/// memory, the data are handed back.
 pub fn grow<A: Allocator + Clone>(
     dcel: &mut Mesh<A>,
     memory: A,

@@ -25,7 +25,7 @@ const ROWS: [Row; 7] = [
         anchors: &[Some(0), Some(2), Some(4), None],
         wanted: Ok(()),
     },
-    // Half edges of numbers that have no place are passed over.
+    // Half edges that start at a vertex without a place are passed over.
     Row {
         anchors: &[Some(0)],
         wanted: Ok(()),
@@ -56,6 +56,7 @@ fn wrong_anchors_are_found(rt: HostRuntime) -> Result<(), Fail> {
     Ok(())
 }
 
+/// Checks that a reason is told in these words.
 fn check_text(
     rt: &impl Abort,
     alloc: Global,

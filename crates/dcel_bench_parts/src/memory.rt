@@ -8,7 +8,7 @@ use spade_dcel::dcel::{Dcel, RemovalState};
 use std::alloc::{AllocError, Global};
 use std::test::Fail;
 
-/// More requests for memory than any call here makes.
+/// No call here makes so many requests for memory.
 const MANY: u64 = 100;
 
 /// Memory that may be refused.
@@ -37,7 +37,7 @@ const ROWS: [Row; 2] = [
     },
 ];
 
-/// The faces of a row as vectors.
+/// Makes vectors of the faces of a row.
 fn faces_of(row: &Row, alloc: Global) -> Result<Vec<Vec<u32>>, AllocError> {
     let mut faces = Vec::new(alloc);
     for corners in row.faces {
@@ -48,7 +48,7 @@ fn faces_of(row: &Row, alloc: Global) -> Result<Vec<Vec<u32>>, AllocError> {
     Ok(faces)
 }
 
-/// The vertices of a row, with their numbers as data.
+/// Makes the vertices of a row, with their numbers as data.
 fn vertices_of<'a>(row: &Row, memory: Memory<'a>) -> Result<Vec<u32, Memory<'a>>, AllocError> {
     let mut vertices = Vec::new(memory);
     for vertex in 0..row.vertices {
@@ -102,6 +102,7 @@ fn is_refused(row: &Row, faces: &[Vec<u32>], number: u64, alloc: Global) -> Resu
     Ok(came)
 }
 
+/// Refuses each request for the mesh of a row in turn.
 fn sweep(row: &Row, alloc: Global) -> Result<(), Fail> {
     let faces = faces_of(row, alloc)?;
     for number in 0..MANY {
@@ -131,7 +132,7 @@ fn links_are_refused(dcel: &Dcel<u32>, number: u64, alloc: Global) -> Result<boo
     Ok(came)
 }
 
-/// The same of the corners of its faces.
+/// Lists the corners of its faces so.
 fn corners_are_refused(dcel: &Dcel<u32>, number: u64, alloc: Global) -> Result<bool, Fail> {
     require!(dcel.removal_state() == RemovalState::Closed);
     let memory = Refusing::new(alloc);
@@ -142,6 +143,7 @@ fn corners_are_refused(dcel: &Dcel<u32>, number: u64, alloc: Global) -> Result<b
     Ok(came)
 }
 
+/// Refuses each request for the lists of a mesh in turn.
 fn sweep_lists(dcel: &Dcel<u32>, alloc: Global) -> Result<(), Fail> {
     for number in 0..MANY {
         let links = links_are_refused(dcel, number, alloc)?;

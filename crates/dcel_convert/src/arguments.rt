@@ -68,7 +68,7 @@ pub fn read_arguments<'a>(alloc: Global, words: &'a [String]) -> Result<Asked<'a
     }
 }
 
-/// The arguments that there are.
+/// Returns the arguments that there are.
 fn command<'a>(alloc: Global) -> Result<Command<'a>, AllocError> {
     let file = Arg::new(alloc, "file")
         .value_name("FILE")
@@ -84,7 +84,7 @@ fn command<'a>(alloc: Global) -> Result<Command<'a>, AllocError> {
         .arg(choice(alloc, "svg", "Draws the mesh")?)
 }
 
-/// One of the choices of what is written.
+/// Returns one of the choices of what is written.
 fn choice<'a>(alloc: Global, name: &'a str, help: &'a str) -> Result<Arg<'a>, AllocError> {
     let mut arg = Arg::new(alloc, name)
         .long(name)

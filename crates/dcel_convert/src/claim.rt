@@ -46,7 +46,7 @@ pub struct Claim {
 }
 
 impl Claim {
-    /// The lists of one kind.
+    /// Returns the lists of one kind.
     pub fn lists(&self, lines: Lines) -> &[Vec<u32>] {
         match lines {
             Lines::Words => &self.words,
@@ -54,7 +54,7 @@ impl Claim {
         }
     }
 
-    /// The line of a list: counts stand before the words, and these before the turns.
+    /// Returns the line of a list: counts stand before the words, and these before the turns.
     pub fn line_of(&self, lines: Lines, place: usize) -> usize {
         let before = match lines {
             Lines::Words => 0,
@@ -63,8 +63,8 @@ impl Claim {
         place.saturating_add(before).saturating_add(2)
     }
 
-    /// The links that the lists say. A half edge that stands in no list of a kind, or in two, is
-    /// refused.
+    /// Returns the links that the lists say. A half edge that stands in no list of a kind, or in
+    /// two, is refused.
     pub fn links(&self, alloc: Global) -> Result<Links, Fault> {
         let face = self.owners(alloc, Lines::Words)?;
         let origin = self.owners(alloc, Lines::Turns)?;
@@ -75,7 +75,7 @@ impl Claim {
         Ok(Links { next, origin, face })
     }
 
-    /// The list of a kind that each half edge stands in.
+    /// Returns the list of a kind that each half edge stands in.
     fn owners(&self, alloc: Global, lines: Lines) -> Result<Vec<u32>, Fault> {
         let lists = self.lists(lines);
         let mut owners = vec![in alloc; None; self.num_looked_for(lists)]?;
@@ -91,8 +91,8 @@ impl Claim {
         })
     }
 
-    /// How many half edges are looked for in the lists: all, or if the lists are too short for
-    /// them one more than they have, of which one must be missing. So the memory that is taken
+    /// Counts the half edges that are looked for in the lists: all, or if the lists are too short
+    /// for them one more than they have, of which one must be missing. So the memory that is taken
     /// goes by what the file has, and not by its count of edges.
     fn num_looked_for(&self, lists: &[Vec<u32>]) -> usize {
         let mut listed: usize = 0;
@@ -116,7 +116,7 @@ fn note(list: &[u32], owner: u32, owners: &mut [Option<u32>]) -> Result<(), u32>
     Ok(())
 }
 
-/// The list of each half edge, or the first half edge that has none.
+/// Returns the list of each half edge, or the first half edge that has none.
 fn all_noted(
     alloc: Global,
     owners: Vec<Option<u32>>,

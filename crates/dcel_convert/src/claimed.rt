@@ -70,7 +70,7 @@ fn check_turn(mesh: &Mesh, turn: &[u32]) -> Result<(), Wrong> {
     Ok(())
 }
 
-/// The reason, with the line that shows it, if one does.
+/// Returns the reason, with the line that shows it, if one does.
 fn fault_of(reason: LinksError, claim: &Claim, links: &Links) -> Fault {
     match reason {
         LinksError::Links(fault) => match line_of(fault, claim, links) {
@@ -82,7 +82,7 @@ fn fault_of(reason: LinksError, claim: &Claim, links: &Links) -> Fault {
     }
 }
 
-/// The line that shows a fault: the counts, a word or a turn.
+/// Returns the line that shows a fault: the counts, a word or a turn.
 fn line_of(fault: LinkFault, claim: &Claim, links: &Links) -> Option<usize> {
     match fault {
         LinkFault::NoFace | LinkFault::MoreFaces => Some(1),

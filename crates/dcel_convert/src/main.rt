@@ -1,5 +1,5 @@
-//! Converts meshes between files of vertices and faces and the words of half edges, checks them, and
-//! draws them.
+//! Converts meshes between files of vertices and faces and the words of half edges, checks them,
+//! and draws them.
 //!
 //! `dcel_convert --help` tells what it reads and writes. It exits with status 0; with 1 if the file
 //! has no mesh, or a read, a write or memory failed; and with 2 if its arguments are bad.

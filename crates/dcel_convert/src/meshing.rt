@@ -32,8 +32,8 @@ pub struct Solid {
 }
 
 impl Solid {
-    /// Makes the mesh of a surface. A surface without a border lends the first face that comes to no
-    /// vertex twice as the outer one.
+    /// Makes the mesh of a surface. A surface without a border lends the first face that comes to
+    /// no vertex twice as the outer one.
     pub fn of(alloc: Global, surface: Surface) -> Result<Solid, Fault> {
         let Surface {
             places,
@@ -80,12 +80,12 @@ impl Solid {
 }
 
 impl Solid {
-    /// The mesh whose faces of the file are its inner faces.
+    /// Makes the mesh whose inner faces are the faces of the file.
     pub fn of_inner_faces(mesh: Mesh) -> Solid {
         Solid { mesh, outer: None }
     }
 
-    /// How many edges have the outer face on both sides.
+    /// Counts the edges that have the outer face on both sides.
     pub fn num_edges_outside(&self) -> usize {
         let mut count: usize = 0;
         for edge in self.mesh.live_undirected_edges() {
@@ -110,7 +110,7 @@ impl Solid {
         Ok(())
     }
 
-    /// How many faces the file has.
+    /// Counts the faces of the file.
     pub fn num_faces(&self) -> usize {
         match self.outer {
             Some(_) => self.mesh.num_faces(),
@@ -118,7 +118,7 @@ impl Solid {
         }
     }
 
-    /// The face that has this place in the file, if there is one.
+    /// Returns the face that has this place in the file, if there is one.
     pub fn face(&self, place: usize) -> Option<Face<'_>> {
         let number = match self.outer {
             Some(outer) if place == outer => 0,
@@ -214,7 +214,8 @@ fn mark(
     Ok(())
 }
 
-/// After how many of the corners the list begins, if it is all of them in their cyclic order.
+/// Returns after how many of the corners the list begins, if it is all of them in their cyclic
+/// order.
 fn steps_to(listed: &[u32], corners: &[usize]) -> usize {
     for steps in 0..corners.len() {
         if begins_after(steps, listed, corners) {
@@ -238,7 +239,7 @@ fn begins_after(steps: usize, listed: &[u32], corners: &[usize]) -> bool {
     true
 }
 
-/// The place of the first face that comes to no vertex twice.
+/// Returns the place of the first face that comes to no vertex twice.
 fn simple_face(alloc: Global, faces: &[Vec<u32>]) -> Result<Option<usize>, AllocError> {
     for (place, corners) in faces.iter().enumerate() {
         if is_simple(alloc, corners)? {
@@ -264,12 +265,12 @@ fn is_simple(alloc: Global, corners: &[u32]) -> Result<bool, AllocError> {
     Ok(true)
 }
 
-/// Whether the reason is that no border is left for the outer face.
+/// Returns whether the reason is that no border is left for the outer face.
 fn has_no_border(reason: FacesError) -> bool {
     reason == FacesError::Links(LinkFault::UnusedFace(0))
 }
 
-/// The reason, with the line of the face that it names, if it names one.
+/// Returns the reason, with the line of the face that it names, if it names one.
 fn fault_of(reason: FacesError, lines: &[usize]) -> Fault {
     let face = match reason {
         FacesError::FewCorners(face) => face,

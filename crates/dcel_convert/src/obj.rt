@@ -51,7 +51,8 @@ fn take_face(
     Ok(())
 }
 
-/// The number of a vertex, from 0 on. A file counts from 1, and below 0 back from the last one.
+/// Returns the number of a vertex, from 0 on. A file counts from 1, and below 0 back from the last
+/// one.
 fn vertex_of(word: &str, vertices: usize) -> Result<u32, Wrong> {
     match word.strip_prefix('-') {
         None => number(word)?.checked_sub(1).ok_or(Wrong::NoNumber),

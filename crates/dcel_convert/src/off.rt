@@ -26,7 +26,7 @@ pub struct OffReader {
 }
 
 impl OffReader {
-    /// A reader at the beginning of a file.
+    /// Makes a reader at the beginning of a file.
     pub fn new() -> Self {
         OffReader {
             stage: Stage::Word,

@@ -80,7 +80,7 @@ enum Reader {
 }
 
 impl Reader {
-    /// A reader at the beginning of a file.
+    /// Makes a reader at the beginning of a file.
     fn new(alloc: Global, format: Format) -> Self {
         match format {
             Format::Off => Reader::Off(OffReader::new(), Surface::new(alloc)),
@@ -98,7 +98,7 @@ impl Reader {
         }
     }
 
-    /// What the file has, if it may end here.
+    /// Returns what the file has, if it may end here.
     fn end(self) -> Result<Content, Wrong> {
         match self {
             Reader::Off(off, surface) => {
@@ -111,7 +111,7 @@ impl Reader {
     }
 }
 
-/// What stands before the first `#`.
+/// Returns what stands before the first `#`.
 fn before_comment(line: &str) -> &str {
     match line.split_once('#') {
         Some((before, _)) => before,
@@ -119,7 +119,7 @@ fn before_comment(line: &str) -> &str {
     }
 }
 
-/// The number that a word says.
+/// Returns the number that a word says.
 pub fn number(word: &str) -> Result<u32, Wrong> {
     word.parse::<u32>().map_err(|_| Wrong::NoNumber)
 }

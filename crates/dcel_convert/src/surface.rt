@@ -18,7 +18,7 @@ pub struct Surface {
 }
 
 impl Surface {
-    /// A surface without vertices and faces.
+    /// Makes a surface without vertices and faces.
     pub fn new(alloc: Global) -> Self {
         Surface {
             places: Vec::new(alloc),

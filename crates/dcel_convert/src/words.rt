@@ -24,7 +24,7 @@ pub struct WordsReader {
 }
 
 impl WordsReader {
-    /// A reader at the beginning of a file.
+    /// Makes a reader at the beginning of a file.
     pub fn new(alloc: Global) -> Self {
         WordsReader {
             counts: None,
@@ -70,7 +70,7 @@ impl WordsReader {
         Ok(())
     }
 
-    /// What the file claims, if it may end here.
+    /// Returns what the file claims, if it may end here.
     pub fn end(self) -> Result<Claim, Wrong> {
         let WordsReader {
             counts,
@@ -113,7 +113,7 @@ fn count_of(word: &str, words: &mut SplitAsciiWhitespace) -> Result<u32, Wrong> 
     number(words.next().ok_or(Wrong::NoCounts)?)
 }
 
-/// The face whose word begins so.
+/// Returns the face whose word begins so.
 fn face_named(first: &str) -> Option<usize> {
     let face = number(first.strip_prefix('F')?).ok()?;
     Some(face as usize)

@@ -14,7 +14,7 @@ use Rattle.dcel_exchange.specs.declared.refusal.FacesError.TheVariants.{BorderTw
 use Rattle.spade_dcel.specs.Linked.{Refuses}
 use Rattle.spade_dcel.specs.declared.operations.given.LinksError.{LinksError}
 use Rattle.spade_dcel.specs.declared.operations.given.LinksError.TheVariants as refused
-use Rattle.dcel_exchange.proofs.KnownSides.{each_below, not_none, one_of}
+use Rattle.dcel_exchange.proofs.FirstSides.{each_below, not_none, one_of}
 
 module _ (side : List (Option ℕ)) (origin : List ℕ) where
   module _ (n : ℕ) (border : List (Option ℕ)) (f : AreFound side origin n border) where
@@ -63,16 +63,6 @@ end_twice from to face half side origin border n v h u f within bare at found =
     }
 
 module _ (side : List (Option ℕ)) (half after face origin : List ℕ) (border : List (Option ℕ)) where
-  pub linked_none : AreLinked side half after face origin border 0 [] []
-  linked_none = record {
-    as_many = refl;
-    as_many_faces = refl;
-    next = λ h p below. absurd (omega arith);
-    face = λ h p below. absurd (omega arith);
-    outer = λ h below. absurd (omega arith);
-    around = λ h k below. absurd (omega arith);
-  }
-
   pub linked_one : (n : ℕ) (nexts faces nexts' faces' : List ℕ) (x y : ℕ) → AreLinked side half after face origin border n nexts faces
       → nexts' ≡ nexts ++ x ∷ [] → faces' ≡ faces ++ y ∷ []
       → ((p : ℕ) → slice_index_or side n None ≡ Some p → x ≡ slice_index half (slice_index after p))

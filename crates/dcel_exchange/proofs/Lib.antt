@@ -1,6 +1,6 @@
 pub mod Listing
 pub mod Again
-pub mod KnownSides
+pub mod FirstSides
 pub mod Chained
 pub mod NumberedSides
 pub mod Rows

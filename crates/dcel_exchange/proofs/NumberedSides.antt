@@ -8,7 +8,7 @@ use Rattle.dcel_maps.specs.Maps.{count}
 use Rattle.dcel_exchange.specs.Corners.{LeadsBack, is_first}
 use Rattle.dcel_exchange.specs.Chains.{IsFound, Leads}
 use Rattle.dcel_exchange.specs.Numbering.{AreDistinct, AreNumbered, side_of_found}
-use Rattle.dcel_exchange.proofs.KnownSides.{count_few, count_first, count_second, each_below, first_from, not_none, one_of, second_from}
+use Rattle.dcel_exchange.proofs.FirstSides.{count_few, count_first, count_second, each_below, first_from, not_none, one_of, second_from}
 
 -- leading back is mutual
 pub back_again : (from to : List ℕ) (p q : ℕ) → LeadsBack from to p q → LeadsBack from to q p

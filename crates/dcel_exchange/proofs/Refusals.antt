@@ -28,7 +28,7 @@ use Rattle.dcel_exchange.specs.Meshes.{AreLinks, IsNoSide, side_count}
 use Rattle.dcel_exchange.specs.Reasons.{EndTwice}
 use Rattle.dcel_exchange.specs.Simple.{HasCorners, IsSimple, PassesTwice}
 use Rattle.dcel_exchange.proofs.FaceCorners.{told_by_ends}
-use Rattle.dcel_exchange.proofs.KnownSides.{count_few}
+use Rattle.dcel_exchange.proofs.FirstSides.{count_few}
 use Rattle.dcel_exchange.proofs.Placed.{Placed, as_many, find_below, item_of, placed, round_cycle}
 use Rattle.dcel_exchange.proofs.SameEnds.{Matches, SameEnds, matched_mesh, prevs}
 

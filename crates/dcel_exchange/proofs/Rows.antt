@@ -4,7 +4,7 @@ use Rattle.std.proofs.lemmas.List.{append-nil, append_assoc, drop_all, drop_more
 use Rattle.dcel_maps.specs.Numbers.{numbers_between}
 use Rattle.dcel_maps.proofs.walks.Numbers.{length-numbers}
 use Rattle.dcel_exchange.specs.Corners.{AreSides, afters, ends, owners, starts, turned}
-use Rattle.dcel_exchange.proofs.KnownSides.{each_below}
+use Rattle.dcel_exchange.proofs.FirstSides.{each_below}
 
 -- the sides of the first i faces are listed; what is to come completes the lists
 pub record SoFar (faces : List (List ℕ)) (i : ℕ) (from to face after : List ℕ) : Type 0 where

@@ -120,7 +120,8 @@ pub fn face_corners<V, DE, UE, F, A: Allocator>(
     }
 }
 
-/// Returns the corners of each inner face as lists, as [`from_faces`](crate::from_faces) takes them.
+/// Returns the corners of each inner face as lists, as [`from_faces`](crate::from_faces) takes
+/// them.
 ///
 /// Asks that no removal is open ([`removal_state`](Dcel::removal_state) is `Closed`). If memory
 /// runs out it returns `AllocError`.

@@ -28,9 +28,9 @@ use std::alloc::{AllocError, Allocator};
 ///
 /// It takes any lists. If it refuses them, the vertices come back with a reason ([`FacesError`]).
 /// Then no mesh in which no two edges join the same two vertices has these corners, unless memory
-/// ran out or there are too many corners. After [`BorderTwice`](FacesError::BorderTwice) such a mesh
-/// may have them, but its outer face passes that vertex twice, and the lists don't tell how the
-/// faces lie round it.
+/// ran out or there are too many corners. After [`BorderTwice`](FacesError::BorderTwice) such a
+/// mesh may have them, but its outer face passes that vertex twice, and the lists don't tell how
+/// the faces lie round it.
 ///
 /// It goes over the sides a fixed number of times, and looks each up once by its ends. For the
 /// faces of a mesh that takes linear time in all, and at most the sides times their square root for

@@ -1,8 +1,9 @@
 //! Meshes in and out: as lists of links, and as faces with their corners.
 //!
 //! [`links`] and [`link_lists`] give what `from_links` and `from_anchored_links` of `spade_dcel`
-//! take, and [`with_data`] makes the same mesh again over other data. [`from_faces`] makes a mesh of
-//! faces that are given as lists of vertices, and [`face_corners`] and [`face_lists`] give these.
+//! take, and [`with_data`] makes the same mesh again over other data. [`from_faces`] makes a mesh
+//! of faces that are given as lists of vertices, and [`face_corners`] and [`face_lists`] give
+//! these.
 #![tactic(auto)]
 
 mod chains;

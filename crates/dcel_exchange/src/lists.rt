@@ -62,7 +62,7 @@ pub fn link_lists<V, DE, UE, F, A: Allocator, B: Allocator + Clone>(
     })
 }
 
-// The anchors of the vertices, in the order of their numbers.
+// Lists the anchors of the vertices, in the order of their numbers.
 fn list_vertex_anchors<V, DE, UE, F, A: Allocator, B: Allocator>(
     alloc: B,
     dcel: &Dcel<V, DE, UE, F, A>,
@@ -77,7 +77,7 @@ fn list_vertex_anchors<V, DE, UE, F, A: Allocator, B: Allocator>(
     Ok(anchors)
 }
 
-// The anchors of the faces, in the order of their numbers.
+// Lists the anchors of the faces, in the order of their numbers.
 fn list_face_anchors<V, DE, UE, F, A: Allocator, B: Allocator>(
     alloc: B,
     dcel: &Dcel<V, DE, UE, F, A>,
@@ -92,7 +92,7 @@ fn list_face_anchors<V, DE, UE, F, A: Allocator, B: Allocator>(
     Ok(anchors)
 }
 
-// The number of an anchor.
+// Returns the number of an anchor.
 #[inline]
 fn anchor<V, DE, UE, F, A: Allocator>(
     edge: Option<DirectedEdgeHandle<'_, V, DE, UE, F, A>>,
@@ -109,8 +109,8 @@ fn anchor<V, DE, UE, F, A: Allocator>(
 ///
 /// It has the same vertices, half edges and faces with the same numbers, links, words and anchors,
 /// so that walks begin where they began. This is the law of the way there and back:
-/// `from_anchored_links` of the lists of [`link_lists`] makes the mesh that they were read from, and
-/// says so unless memory runs out.
+/// `from_anchored_links` of the lists of [`link_lists`] makes the mesh that they were read from,
+/// and says so unless memory runs out.
 ///
 /// Asks that no removal is open ([`removal_state`](Dcel::removal_state) is `Closed`), and for a
 /// datum for each vertex, edge and face (`num_vertices`, `num_undirected_edges`, `num_faces`). If

@@ -26,7 +26,8 @@ pub struct Arguments {
 }
 
 impl Arguments {
-    /// Reads the program's arguments: a list of workloads, a list of sizes, and then any of `full` and `checksums`.
+    /// Reads the program's arguments: a list of workloads, a list of sizes, and then any of `full`
+    /// and `checksums`.
     pub fn read(rt: &(impl Env + AllocGlobal)) -> Result<Arguments, Fault> {
         let mut words = env::args(rt)?;
         let _program = words.next();

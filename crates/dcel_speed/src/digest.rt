@@ -42,8 +42,8 @@ impl Digest {
     }
 }
 
-/// Returns the digest of a mesh: its counts and the links of its half edges. Anchors, data and the half edges that an open removal has
-/// given up play no part.
+/// Returns the digest of a mesh: its counts and the links of its half edges. Anchors, data and the
+/// half edges that an open removal has given up play no part.
 pub fn digest_of<V, DE, UE, F, A: Allocator>(dcel: &Dcel<V, DE, UE, F, A>) -> u64 {
     let mut digest = Digest::new();
     digest.add(dcel.num_vertices());

@@ -1,9 +1,10 @@
 //! Measures the mesh: how long each workload takes for one operation.
 //!
-//! `dcel_speed insert,walk 1000,100000` runs these workloads at these sizes, and `dcel_speed` all of them at all sizes. Each line of its
-//! output has a workload, its size, the nanoseconds for an operation, the checksum of the result, and the number of operations.
-//! With the further word `full` every half edge, edge and face has a datum too. With the word `checksums` the time is left out, so
-//! that each run prints the same.
+//! `dcel_speed insert,walk 1000,100000` runs these workloads at these sizes, and `dcel_speed` all
+//! of them at all sizes. Each line of its output has a workload, its size, the nanoseconds for an
+//! operation, the checksum of the result, and the number of operations. With the further word
+//! `full` every half edge, edge and face has a datum too. With the word `checksums` the time is
+//! left out, so that each run prints the same.
 #![tactic(auto)]
 
 mod arguments;

@@ -13,8 +13,8 @@ const LONG_ENOUGH: u64 = 100;
 /// The most runs, however short they are.
 const MOST_RUNS: u32 = 1_000_000;
 
-/// The fewest runs of a workload that edits, and of one that only reads. A reader goes over the same mesh again, since its first pass over
-/// a new mesh measures the caches.
+/// The fewest runs of a workload that edits, and of one that only reads. A reader goes over the
+/// same mesh again, since its first pass over a new mesh measures the caches.
 pub const FEWEST_EDITING: u32 = 3;
 
 const FEWEST_READING: u32 = 5;
@@ -39,7 +39,8 @@ pub fn time_building<D: Drop, B: Fn() -> Result<Mesh<D>, BuildError>>(
     })
 }
 
-/// Times `size` edits of a mesh of triangles, each run on a clone. If `edit` returns a number, it is mixed into the checksum.
+/// Times `size` edits of a mesh of triangles, each run on a clone. If `edit` returns a number, it
+/// is mixed into the checksum.
 pub fn time_editing<D: Default + Drop + Clone, E: Fn(&mut Mesh<D>) -> Option<u64>>(
     rt: &(impl Clock + AllocGlobal),
     size: u32,

@@ -36,7 +36,8 @@ pub fn neighbors<D: Default + Drop>(
     time_reading(rt, pass)
 }
 
-/// Seeks the half edge from the first to the second vertex of each pair, and returns the sum of the numbers found, each plus 1.
+/// Seeks the half edge from the first to the second vertex of each pair, and returns the sum of the
+/// numbers found, each plus 1.
 fn edges_between<D>(dcel: &Mesh<D>, pairs: &[Pair]) -> Outcome
     requires { All (λ pair. pair.from < dcel.now.shape.vertices) pairs.now }
 {
@@ -88,8 +89,8 @@ fn drawn_vertex<D>(dcel: &Mesh<D>, random: &mut Random) -> FixedVertexHandle
     FixedVertexHandle::new(random.below(dcel.num_vertices()))
 }
 
-/// Draws a neighbor of a vertex: the out edges are counted by `ccw` from the least one on. A vertex without edges is its own
-/// neighbor.
+/// Draws a neighbor of a vertex: the out edges are counted by `ccw` from the least one on. A vertex
+/// without edges is its own neighbor.
 fn drawn_neighbor<D>(
     vertex: VertexHandle<'_, i64, D, D, D>,
     random: &mut Random,

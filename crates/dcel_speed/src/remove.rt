@@ -43,7 +43,8 @@ pub fn remove<D: Default + Drop + Clone>(
     })
 }
 
-/// Removes the vertices of a plan, and returns a hash of their data: each is added to 31 times the hash so far.
+/// Removes the vertices of a plan, and returns a hash of their data: each is added to 31 times the
+/// hash so far.
 fn remove_all<D: Default + Drop>(
     alloc: Global,
     dcel: &mut Mesh<D>,
@@ -58,7 +59,8 @@ fn remove_all<D: Default + Drop>(
     Ok(sum)
 }
 
-/// Removes a vertex, and returns its datum. Returns None, and leaves the mesh as it was, if its border is no border loop.
+/// Removes a vertex, and returns its datum. Returns None, and leaves the mesh as it was, if its
+/// border is no border loop.
 #[inline]
 fn remove_next<D: Default + Drop>(
     alloc: Global,
@@ -81,7 +83,8 @@ fn remove_next<D: Default + Drop>(
     Ok(Some(removal.removed_vertex))
 }
 
-/// Lists the half edges after the out edges of a vertex, counted by `ccw` from the least out edge, from the back.
+/// Lists the half edges after the out edges of a vertex, counted by `ccw` from the least out edge,
+/// from the back.
 #[inline]
 fn border_of<D>(
     alloc: Global,
@@ -100,8 +103,8 @@ fn border_of<D>(
     Ok(border)
 }
 
-/// Draws an order in which vertices can be removed one after another, each under the number that it has by then. Those
-/// whose border is no border loop when their turn comes are left out.
+/// Draws an order in which vertices can be removed one after another, each under the number that it
+/// has by then. Those whose border is no border loop when their turn comes are left out.
 fn plan_of<D: Default + Drop + Clone>(
     alloc: Global,
     built: &Mesh<D>,

@@ -22,7 +22,8 @@ const OWN: u64 = 2;
 /// It begins with the mesh of `insert` after this many insertions.
 const INSERTED: u32 = 1;
 
-/// The most draws until a half edge lies inside. In the first mesh every second one does, and later more do.
+/// The most draws until a half edge lies inside. In the first mesh every second one does, and later
+/// more do.
 const MOST_DRAWS: u32 = 10_000;
 
 /// Times `size` splits of edges drawn at random.
@@ -43,7 +44,8 @@ pub fn split<D: Default + Drop>(
     })
 }
 
-/// Splits `size` edges, and returns the sum of the numbers of the new half edges that lead on from the middle.
+/// Splits `size` edges, and returns the sum of the numbers of the new half edges that lead on from
+/// the middle.
 fn split_edges<D: Default>(dcel: &mut Mesh<D>, count: u32) -> Result<u64, BuildError>
     requires { IsTriangulated dcel.old.shape }
 {

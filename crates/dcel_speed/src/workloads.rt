@@ -154,7 +154,8 @@ pub struct Timed {
 }
 
 impl Timed {
-    /// Returns the time of an operation in tenths of a nanosecond, or of the whole run if there was no operation.
+    /// Returns the time of an operation in tenths of a nanosecond, or of the whole run if there was
+    /// no operation.
     pub fn tenths_of_nanoseconds(&self) -> u128 {
         let operations = u128::from(self.outcome.operations.max(1));
         self.elapsed.as_nanos().saturating_mul(10) / operations

@@ -88,7 +88,7 @@ fn command<'a>(alloc: Global) -> Result<Command<'a>, AllocError> {
         )?)
 }
 
-/// One of the choices of what is written.
+/// Returns one of the choices of what is written.
 fn choice<'a>(alloc: Global, name: &'a str, help: &'a str) -> Result<Arg<'a>, AllocError> {
     let mut arg = Arg::new(alloc, name)
         .long(name)

@@ -5,7 +5,7 @@ use Rattle.dcel_exchange.specs.Corners.{corners_of}
 use Rattle.dcel_exchange.specs.Meshes.{AreLinks}
 use Rattle.dcel_exchange.specs.Reasons.{Means}
 use Rattle.dcel_exchange.proofs.Borders.{made_links, passed_on, told}
-use Rattle.dcel_exchange.proofs.KnownSides.{count_few}
+use Rattle.dcel_exchange.proofs.FirstSides.{count_few}
 use Rattle.dcel_exchange.proofs.Ranges.{afters_below, as_many_afters, as_many_ends, as_many_owners, ends_below, origins_below, owners_small}
 use Rattle.dcel_exchange.proofs.faces.link_faces.Goals as goal
 

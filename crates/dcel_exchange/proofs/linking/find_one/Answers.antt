@@ -1,6 +1,6 @@
 use Rattle.std.proofs.Common.{◌∙◌, sym, ap, None, slice_index_or}
 use Rattle.dcel_exchange.proofs.Borders.{found_one, found_side}
-use Rattle.dcel_exchange.proofs.KnownSides.{not_none}
+use Rattle.dcel_exchange.proofs.FirstSides.{not_none}
 use Rattle.dcel_exchange.proofs.linking.find_one.Goals as goal
 
 pub returns-in-Some-clause-found : goal.returns-in-Some-clause-found
