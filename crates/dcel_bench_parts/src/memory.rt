@@ -3,8 +3,9 @@
 use dcel_bench::checks::{holds, same};
 use dcel_bench::refusing::{Refusals, Refusing};
 use dcel_bench::require;
-use dcel_exchange::{FacesError, RefusedFaces, face_lists, from_faces, link_lists};
+use dcel_exchange::{FacesError, RefusedFaces, face_lists, from_faces, link_lists, with_data};
 use spade_dcel::dcel::{Dcel, RemovalState};
+use spade_dcel::operations::{EdgeData, MeshData};
 use std::alloc::{AllocError, Global};
 use std::test::Fail;
 
@@ -68,13 +69,9 @@ fn make<'a>(
     from_faces(memory, vertices, faces)
 }
 
-/// Checks that the data of a row came back whole.
-fn check_back(row: &Row, back: &[u32]) -> Result<(), Fail> {
-    same(
-        back.len() as u64,
-        row.vertices as u64,
-        "data that came back",
-    )?;
+/// Checks that the data of so many vertices came back whole.
+fn check_back(vertices: usize, back: &[u32]) -> Result<(), Fail> {
+    same(back.len(), vertices, "data that came back")?;
     for (place, datum) in back.iter().enumerate() {
         same(*datum as usize, place, "a datum that came back")?;
     }
@@ -96,7 +93,7 @@ fn is_refused(row: &Row, faces: &[Vec<u32>], number: u64, alloc: Global) -> Resu
         Ok(_) => same(None, wanted, "the reason")?,
         Err(refused) => {
             same(Some(refused.reason), wanted, "the reason")?;
-            check_back(row, &refused.back)?;
+            check_back(row.vertices as usize, &refused.back)?;
         }
     }
     Ok(came)
@@ -143,12 +140,62 @@ fn corners_are_refused(dcel: &Dcel<u32>, number: u64, alloc: Global) -> Result<b
     Ok(came)
 }
 
-/// Refuses each request for the lists of a mesh in turn.
+/// Makes data for a mesh, those of the vertices their numbers.
+fn data_for<'a>(
+    dcel: &Dcel<u32>,
+    memory: Memory<'a>,
+) -> Result<MeshData<u32, (), (), (), Memory<'a>>, AllocError> {
+    let mut vertices = Vec::new(memory);
+    for vertex in dcel.fixed_vertices() {
+        vertices.push(vertex.index() as u32)?;
+    }
+    let mut edges = Vec::new(memory);
+    for _edge in 0..dcel.num_undirected_edges() {
+        edges.push(EdgeData {
+            normalized: (),
+            reversed: (),
+            undirected: (),
+        })?;
+    }
+    let mut faces = Vec::new(memory);
+    for _face in dcel.fixed_faces() {
+        faces.push(())?;
+    }
+    Ok(MeshData {
+        vertices,
+        edges,
+        faces,
+    })
+}
+
+/// Makes the mesh again with the request of this number refused, and returns whether it came.
+fn again_is_refused(dcel: &Dcel<u32>, number: u64, alloc: Global) -> Result<bool, Fail> {
+    let memory = Refusing::new(alloc);
+    let given = data_for(dcel, &memory)?;
+    require!(dcel.removal_state() == RemovalState::Closed);
+    require!(given.vertices.len() == dcel.num_vertices());
+    require!(given.edges.len() == dcel.num_undirected_edges());
+    require!(given.faces.len() == dcel.num_faces());
+    memory.refuse(Refusals::One(number));
+    let made = with_data(&memory, dcel, given);
+    let came = memory.requests() > number;
+    match made {
+        Ok(_) => holds(!came, "the mesh is made again")?,
+        Err(refused) => {
+            holds(came, "memory for the mesh is refused")?;
+            check_back(dcel.num_vertices(), &refused.back.vertices)?;
+        }
+    }
+    Ok(came)
+}
+
+/// Refuses each request for the lists of a mesh, and for the mesh made again, in turn.
 fn sweep_lists(dcel: &Dcel<u32>, alloc: Global) -> Result<(), Fail> {
     for number in 0..MANY {
         let links = links_are_refused(dcel, number, alloc)?;
         let corners = corners_are_refused(dcel, number, alloc)?;
-        if !links && !corners {
+        let again = again_is_refused(dcel, number, alloc)?;
+        if !links && !corners && !again {
             return holds(number > 0, "lists ask for memory");
         }
     }
