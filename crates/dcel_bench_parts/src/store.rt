@@ -126,7 +126,7 @@ fn edges_come_in_their_order(rt: HostRuntime) -> Result<(), Fail> {
 }
 
 #[test]
-fn data_change_places_and_anchors_stay(rt: HostRuntime) -> Result<(), Fail> {
+fn vertices_change_places(rt: HostRuntime) -> Result<(), Fail> {
     let edge = FixedDirectedEdgeHandle::new(0);
     let first = FixedVertexHandle::new(0);
     let second = FixedVertexHandle::new(1);
@@ -134,16 +134,16 @@ fn data_change_places_and_anchors_stay(rt: HostRuntime) -> Result<(), Fail> {
     store.reserve(2, 0, 0)?;
     store.push_vertex('v', Some(edge));
     store.push_vertex('w', None);
-    store.swap_vertex_data(first, second);
-    store.swap_vertex_data(second, second);
+    store.swap_vertices(first, second);
+    store.swap_vertices(second, second);
 
     assert_eq!(rt; store.num_vertices(), 2);
     assert_eq!(rt;
         [*store.vertex_data(first), *store.vertex_data(second)],
         ['w', 'v']
     );
-    assert_eq!(rt; store.vertex_anchor(first), Some(edge));
-    assert_eq!(rt; store.vertex_anchor(second), None);
+    assert_eq!(rt; store.vertex_anchor(first), None);
+    assert_eq!(rt; store.vertex_anchor(second), Some(edge));
     Ok(())
 }
 

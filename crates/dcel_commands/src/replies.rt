@@ -5,7 +5,6 @@ ghost use Rattle.dcel_text.specs.Output.{Writes};
 ghost use Rattle.dcel_commands.specs.Refusal.{refusal_text};
 ghost use Rattle.dcel_commands.specs.Replies.{ending_of, flips_text, half_edge_text, moved_text, opened_text, removed_text, reply_text, vertex_text};
 ghost use Rattle.dcel_commands.specs.Responses.{response};
-ghost use Rattle.dcel_legalize.specs.Outcome.{flips_told};
 ghost use Rattle.dcel_text.specs.Texts.{listed};
 
 use crate::commands::Reply;
@@ -90,17 +89,6 @@ fn write_removed<K: LineSink>(out: &mut Writer<'_, K>, removed: &RemovalResult<i
     out.write(b"\n");
 }
 
-/// Returns how many edges were flipped.
-fn flips(legalized: Legalized) -> usize
-    ensures { result ≡ flips_told legalized }
-{
-    match legalized {
-        Legalized::Done { flips } => flips,
-        Legalized::Stopped { flips } => flips,
-        Legalized::OutOfMemory { flips } => flips,
-    }
-}
-
 /// Returns a word for how the flips ended, after a space.
 fn ending(legalized: Legalized) -> &'static str
     ensures { result.now ≡ ending_of legalized }
@@ -116,7 +104,7 @@ fn ending(legalized: Legalized) -> &'static str
 fn write_flips<K: LineSink>(out: &mut Writer<'_, K>, legalized: Legalized)
     ensures { Writes K.has_failed K.contents out.old out.new (flips_text legalized) }
 {
-    out.numbered(b"flips ", flips(legalized) as u64);
+    out.numbered(b"flips ", legalized.flips() as u64);
     out.write(ending(legalized).as_bytes());
     out.write(b"\n");
 }

@@ -39,7 +39,7 @@ module _ {V DE UE F : Type 0} where
     origin = slice_index s.origin h;
   }
 
-  -- the half edge with these links has a new number: its neighbours, and the anchors that named it, name the new one
+  -- the half edge with these links has a new number: its neighbors, and the anchors that named it, name the new one
   abbrev pub half_renamed : Lists V DE UE F → HalfEdgeEntry → ℕ → ℕ → Lists V DE UE F
   half_renamed s links old new = record s {
     next = slice_set s.next links.prev new;

@@ -8,10 +8,10 @@ use dcel_fixed::{FixedDirectedEdgeHandle, FixedFaceHandle, FixedVertexHandle, Po
 use dcel_store::Store;
 use std::alloc::Allocator;
 
-/// One side of an edge that is turned: the half edge there and its triangle.
-///
-/// `origin` is where the half edge starts before the turn, and `corner`, which lies opposite, is
-/// where it starts afterwards.
+// One side of an edge that is turned: the half edge there and its triangle.
+//
+// `origin` is where the half edge starts before the turn, and `corner`, which lies opposite, is
+// where it starts afterwards.
 #[derive(Clone, Copy)]
 struct Side {
     edge: FixedDirectedEdgeHandle,
@@ -23,7 +23,7 @@ struct Side {
 }
 
 impl Side {
-    /// Reads the side of a half edge.
+    // Reads the side of a half edge.
     fn new<V, DE, UE, F, A: Allocator>(
         store: &Store<V, DE, UE, F, A>,
         edge: FixedDirectedEdgeHandle,

@@ -5,7 +5,7 @@ ghost use Rattle.dcel_store.specs.Lists.{HasPlaces, empty};
 ghost use Rattle.dcel_edits.specs.Given.{AreBelow, AreLists, edges_stored, faces_anchored, faces_stored, last_anchors, mesh_stored, vertices_anchored};
 
 use crate::create::put_vertices;
-use crate::links::links;
+use crate::links::numbered_links;
 use dcel_fixed::{FixedDirectedEdgeHandle, FixedFaceHandle, FixedVertexHandle};
 use dcel_store::{EdgeData, HalfEdgeEntry, Store};
 use std::alloc::Allocator;
@@ -72,7 +72,7 @@ pub fn put_anchored_mesh<V: Drop, DE: Drop, UE: Drop, F: Drop, A: Allocator>(
     set_face_anchors(store, face_anchors);
 }
 
-/// Writes vertices, edges and faces into an empty store, and no anchors.
+// Writes vertices, edges and faces into an empty store, and no anchors.
 fn put_without_anchors<V: Drop, DE: Drop, UE: Drop, F: Drop, A: Allocator>(
     store: &mut Store<V, DE, UE, F, A>,
     next: &[u32],
@@ -98,7 +98,7 @@ fn put_without_anchors<V: Drop, DE: Drop, UE: Drop, F: Drop, A: Allocator>(
     put_faces(store, faces);
 }
 
-/// Appends an edge for each datum, with the links that the lists have for its half edges.
+// Appends an edge for each datum, with the links that the lists have for its half edges.
 fn put_edges<V, DE: Drop, UE: Drop, F, A: Allocator>(
     store: &mut Store<V, DE, UE, F, A>,
     next: &[u32],
@@ -122,7 +122,7 @@ fn put_edges<V, DE: Drop, UE: Drop, F, A: Allocator>(
     }
 }
 
-/// Appends a face without an anchor for each datum.
+// Appends a face without an anchor for each datum.
 fn put_faces<V, DE, UE, F: Drop, A: Allocator>(store: &mut Store<V, DE, UE, F, A>, faces: Vec<F, A>)
     requires { vec_len faces ≤ store.old.face_room }
     ensures { store.new ≡ faces_stored store.old faces.items }
@@ -132,7 +132,7 @@ fn put_faces<V, DE, UE, F: Drop, A: Allocator>(store: &mut Store<V, DE, UE, F, A
     }
 }
 
-/// Anchors vertices at the half edges that start there, one after another: the last one stays.
+// Anchors vertices at the half edges that start there, one after another: the last one stays.
 fn anchor_vertices<V, DE, UE, F, A: Allocator>(store: &mut Store<V, DE, UE, F, A>, origin: &[u32])
     requires below { AreBelow (length store.old.vertex_anchors) origin.now }
     requires few { length origin.now ≤ 2 ^ 32 }
@@ -144,7 +144,7 @@ fn anchor_vertices<V, DE, UE, F, A: Allocator>(store: &mut Store<V, DE, UE, F, A
     }
 }
 
-/// Anchors faces at the half edges that lie there, one after another: the last one stays.
+// Anchors faces at the half edges that lie there, one after another: the last one stays.
 fn anchor_faces<V, DE, UE, F, A: Allocator>(store: &mut Store<V, DE, UE, F, A>, face: &[u32])
     requires below { AreBelow (length store.old.face_anchors) face.now }
     requires few { length face.now ≤ 2 ^ 32 }
@@ -156,7 +156,7 @@ fn anchor_faces<V, DE, UE, F, A: Allocator>(store: &mut Store<V, DE, UE, F, A>, 
     }
 }
 
-/// Sets the anchor of each vertex.
+// Sets the anchor of each vertex.
 fn set_vertex_anchors<V, DE, UE, F, A: Allocator>(
     store: &mut Store<V, DE, UE, F, A>,
     anchors: &[Option<u32>],
@@ -170,7 +170,7 @@ fn set_vertex_anchors<V, DE, UE, F, A: Allocator>(
     }
 }
 
-/// Sets the anchor of each face.
+// Sets the anchor of each face.
 fn set_face_anchors<V, DE, UE, F, A: Allocator>(
     store: &mut Store<V, DE, UE, F, A>,
     anchors: &[Option<u32>],
@@ -209,10 +209,10 @@ fn entry(next: &[u32], prev: &[u32], origin: &[u32], face: &[u32], half: usize) 
       origin = slice_index origin.now half;
     } }
 {
-    links(
-        FixedDirectedEdgeHandle::new(next[half] as usize),
-        FixedDirectedEdgeHandle::new(prev[half] as usize),
-        FixedFaceHandle::new(face[half] as usize),
-        FixedVertexHandle::new(origin[half] as usize),
+    numbered_links(
+        next[half] as usize,
+        prev[half] as usize,
+        face[half] as usize,
+        origin[half] as usize,
     )
 }

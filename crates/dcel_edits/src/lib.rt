@@ -1,7 +1,9 @@
-//! What each edit of a mesh writes into its store: writers for the mesh alone, each with one
-//! equation over lists.
+//! Writers: what each edit of a mesh writes into its store, links, anchors and data.
 //!
-//! Its proofs say that lists which hold a mesh hold the edited mesh afterwards.
+//! Each asks that what it names is stored, and that the store has places for what it appends, which
+//! [`Store::reserve`](dcel_store::Store::reserve) makes. So none allocates or is refused. The
+//! contract of each is one equation over lists, and the proofs say that lists which hold a mesh hold
+//! the edited mesh afterwards.
 #![tactic(auto)]
 
 pub mod create;

@@ -1,6 +1,6 @@
 //! The links of a new half edge.
 
-ghost use Rattle.std.specs.Prelude.{◌≡◌};
+ghost use Rattle.std.specs.Prelude.{◌≡◌, ◌<◌, ◌^◌};
 
 use dcel_fixed::{FixedDirectedEdgeHandle, FixedFaceHandle, FixedVertexHandle, PossiblyOuterTag};
 use dcel_store::HalfEdgeEntry;
@@ -20,4 +20,20 @@ pub fn links(
         face,
         origin,
     }
+}
+
+/// Makes the links of a half edge from numbers.
+pub(crate) fn numbered_links(next: usize, prev: usize, face: usize, origin: usize) -> HalfEdgeEntry
+    requires few_next { next < 2 ^ 32 }
+    requires few_prev { prev < 2 ^ 32 }
+    requires few_faces { face < 2 ^ 32 }
+    requires few_vertices { origin < 2 ^ 32 }
+    ensures { result ≡ record { next = next; prev = prev; face = face; origin = origin } }
+{
+    links(
+        FixedDirectedEdgeHandle::new(next),
+        FixedDirectedEdgeHandle::new(prev),
+        FixedFaceHandle::new(face),
+        FixedVertexHandle::new(origin),
+    )
 }

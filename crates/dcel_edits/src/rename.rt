@@ -17,11 +17,7 @@ pub fn exchange_vertices<V, DE, UE, F, A: Allocator>(
     requires { CanExchange store.old first second }
     ensures { store.new ≡ vertices_exchanged store.old first second }
 {
-    let out_of_first = store.vertex_anchor(first);
-    let out_of_second = store.vertex_anchor(second);
-    store.swap_vertex_data(first, second);
-    store.set_vertex_anchor(first, out_of_second);
-    store.set_vertex_anchor(second, out_of_first);
+    store.swap_vertices(first, second);
     // Between the two calls the out edges of both vertices start at one, but turning doesn't read
     // origins.
     rename_turn(store, first);

@@ -13,8 +13,8 @@ use dcel_fixed::{FixedDirectedEdgeHandle, FixedFaceHandle, FixedVertexHandle};
 use dcel_store::{EdgeData, Store};
 use std::alloc::Allocator;
 
-/// The sectors that a vertex in the middle of an edge makes of the triangles on both sides, in
-/// their order around that vertex.
+// The sectors that a vertex in the middle of an edge makes of the triangles on both sides, in
+// their order around that vertex.
 #[derive(Clone, Copy)]
 struct Round {
     after_twin: Sector,
@@ -24,7 +24,7 @@ struct Round {
 }
 
 impl Round {
-    /// Makes the sectors around the middle of an edge, with three new edges between them.
+    // Makes the sectors around the middle of an edge, with three new edges between them.
     fn new<V, DE, UE, F, A: Allocator>(
         store: &Store<V, DE, UE, F, A>,
         edge: FixedDirectedEdgeHandle,
@@ -60,10 +60,10 @@ impl Round {
         }
     }
 
-    /// Links the half edges of the sectors into their triangles, and `edge` and its other half
-    /// between them.
-    ///
-    /// All `next` are written first, then all `prev`, then all faces.
+    // Links the half edges of the sectors into their triangles, and `edge` and its other half
+    // between them.
+    //
+    // All `next` are written first, then all `prev`, then all faces.
     fn close<V, DE, UE, F, A: Allocator>(
         &self,
         store: &mut Store<V, DE, UE, F, A>,

@@ -5,7 +5,7 @@ ghost use Rattle.dcel_store.specs.Lists as lists;
 ghost use Rattle.dcel_maps.specs.edits.DefaultData.{AddsEdgesAndFaces};
 ghost use Rattle.dcel_edits.specs.Triangle.{CanInsert, IsEmpty, insertion_stored, triangle_stored};
 
-use crate::links::links;
+use crate::links::numbered_links;
 use crate::sectors::{Sector, close_three_sectors, spoke};
 use dcel_fixed::{FixedDirectedEdgeHandle, FixedFaceHandle, FixedVertexHandle};
 use dcel_store::{EdgeData, HalfEdgeEntry, Store};
@@ -26,25 +26,21 @@ pub fn put_triangle<V, DE: Default, UE: Default, F: Default, A: Allocator>(
     store.push_vertex(third, Some(FixedDirectedEdgeHandle::new(4)));
     store.push_face(F::default(), Some(FixedDirectedEdgeHandle::new(0)));
     store.push_face(F::default(), Some(FixedDirectedEdgeHandle::new(1)));
-    store.push_edge(entry(2, 4, 0, 0), entry(5, 3, 1, 1), EdgeData::default());
-    store.push_edge(entry(4, 0, 0, 1), entry(1, 5, 1, 2), EdgeData::default());
-    store.push_edge(entry(0, 2, 0, 2), entry(3, 1, 1, 0), EdgeData::default());
-}
-
-// Returns the links of a half edge, given as numbers.
-fn entry(next: usize, prev: usize, face: usize, origin: usize) -> HalfEdgeEntry
-    requires few_next { next < 2 ^ 32 }
-    requires few_prev { prev < 2 ^ 32 }
-    requires few_faces { face < 2 ^ 32 }
-    requires few_vertices { origin < 2 ^ 32 }
-    ensures { result ≡ record { next = next; prev = prev; face = face; origin = origin } }
-{
-    links(
-        FixedDirectedEdgeHandle::new(next),
-        FixedDirectedEdgeHandle::new(prev),
-        FixedFaceHandle::new(face),
-        FixedVertexHandle::new(origin),
-    )
+    store.push_edge(
+        numbered_links(2, 4, 0, 0),
+        numbered_links(5, 3, 1, 1),
+        EdgeData::default(),
+    );
+    store.push_edge(
+        numbered_links(4, 0, 0, 1),
+        numbered_links(1, 5, 1, 2),
+        EdgeData::default(),
+    );
+    store.push_edge(
+        numbered_links(0, 2, 0, 2),
+        numbered_links(3, 1, 1, 0),
+        EdgeData::default(),
+    );
 }
 
 /// Cuts the triangle of the half edge `first` into three, which meet at the vertex `tip`.

@@ -63,7 +63,8 @@ pub trait InnerOuterMarker: Copy + Ord + Debug + Default + Hash {
 
 /// Marks handles that aren't meant for the outer face.
 ///
-/// No call tests that a face so marked isn't face 0: whoever makes the handle sees to it.
+/// The number of a face so marked may still be 0: whoever makes the handle sees to it. Calls that want
+/// an inner face ask for one.
 #[derive(Clone, Copy, PartialEq, Eq, PartialOrd, Ord, Debug, Default, Hash)]
 pub struct InnerTag;
 

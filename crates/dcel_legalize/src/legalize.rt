@@ -30,6 +30,9 @@ use std::alloc::Allocator;
 /// to lie beside a flipped one, can be flipped and is wanted. If the list had every such edge of
 /// the mesh, then none is left in the mesh. Some tests would go on forever, hence `max_flips`.
 ///
+/// These are the flips of C. L. Lawson ("Software for C1 surface interpolation", 1977), as `spade` makes
+/// them for a triangulation.
+///
 /// After [`Legalized::Stopped`], and after [`Legalized::OutOfMemory`] if the list cannot grow, such
 /// an edge is left. The flips made so far remain in each case.
 pub fn legalize_edges<V, DE, UE, F, A, L, W>(

@@ -1,5 +1,8 @@
 //! How a legalization ends.
 
+ghost use Rattle.std.specs.Prelude.{◌≡◌};
+ghost use Rattle.dcel_legalize.specs.Outcome.{flips_told};
+
 /// How [`legalize_edges`](crate::legalize_edges) ended, with the number of flips made.
 #[derive(Clone, Copy, PartialEq, Eq, Debug)]
 pub enum Legalized {
@@ -18,4 +21,17 @@ pub enum Legalized {
         /// The number of flips.
         flips: usize,
     },
+}
+
+impl Legalized {
+    /// Returns the number of flips made, however it ended.
+    pub fn flips(self) -> usize
+        ensures { result ≡ flips_told self }
+    {
+        match self {
+            Legalized::Done { flips } => flips,
+            Legalized::Stopped { flips } => flips,
+            Legalized::OutOfMemory { flips } => flips,
+        }
+    }
 }

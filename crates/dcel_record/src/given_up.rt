@@ -81,8 +81,8 @@ impl<Kind: Copy, A: Allocator> GivenUp<Kind, A> {
 impl<Kind, A: Allocator> GivenUp<Kind, A> {
     /// Returns whether the list names all of them and nothing else, each once, in any order.
     ///
-    /// A list in the order in which they were given up takes time linear in its length, any other
-    /// list up to its square.
+    /// Asks that none was given up twice. The time is linear for a list in the order in which they
+    /// were given up; for another it may grow with the square of its length.
     pub fn matches(&self, list: &[FixedHandleImpl<Kind, InnerTag>]) -> bool
         requires { GoesUp self.now }
         ensures { IsTrue result ↔ (ascending list.now ≡ self.now) }

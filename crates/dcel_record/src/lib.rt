@@ -150,8 +150,9 @@ impl<A: Allocator> RemovalRecord<A> {
     /// Returns whether the lists name all edges and faces that are given up and not yet gone.
     ///
     /// They name each once, in any order, and nothing else; if no removal is open or it was cleaned
-    /// up, the result is false. Lists in the order in which the elements were given up take time
-    /// linear in their lengths, any others up to the square of that.
+    /// up, the result is false. Asks that no element was given up twice. The time is linear for lists
+    /// in the order in which the elements were given up; for others it may grow with the square of
+    /// their lengths.
     pub fn lists(
         &self,
         edges: &[FixedUndirectedEdgeHandle],

@@ -11,7 +11,7 @@
 //! is no room.
 #![tactic(auto)]
 
-ghost use Rattle.std.specs.Prelude.{◌≡◌, ℕ, ◌+◌, ◌-◌, ◌<◌, ◌≤◌, [], ◌∷◌, ◌++◌, length, slice_index, slice_index_or, slice_set, OnOk, IfOk, IsOk, None};
+ghost use Rattle.std.specs.Prelude.{◌≡◌, ◌+◌, ◌-◌, ◌<◌, ◌≤◌, [], ◌∷◌, ◌++◌, length, slice_index, slice_index_or, slice_set, OnOk, IfOk, IsOk, None};
 ghost use Rattle.dcel_store.specs.Lists.{empty, LengthsAgree, HasPlaces};
 
 mod data;
@@ -194,7 +194,7 @@ impl<V, DE, UE, F, A: Allocator> Store<V, DE, UE, F, A> {
         Ok(())
     }
 
-    // One test is enough for all six vectors of edges.
+    // Makes room for this many more edges. One test is enough for all six vectors of edges.
     #[inline]
     fn reserve_edges(&mut self, edges: usize) -> Result<(), AllocError>
         ensures same { self.new ≡ record self.old { edge_room = self.new.edge_room } }
@@ -208,9 +208,9 @@ impl<V, DE, UE, F, A: Allocator> Store<V, DE, UE, F, A> {
         self.grow_edges(edges)
     }
 
-    // The vector of the edges' data comes last: if memory runs out before, it has no more places
-    // than the others are sure to have. Out of line, since it is rare, and edits stay short without
-    // it.
+    // Lengthens the six vectors of edges. That of the edges' data comes last: if memory runs out
+    // before, it has no more places than the others are sure to have. Out of line, since it is rare,
+    // and edits stay short without it.
     #[cold]
     #[inline(never)]
     fn grow_edges(&mut self, edges: usize) -> Result<(), AllocError>
@@ -450,7 +450,7 @@ impl<V, DE, UE, F, A: Allocator> Store<V, DE, UE, F, A> {
     }
 }
 
-// How many more edges to make room for, when a store of `stored` edges has no room for `wanted`
+// Returns how many more edges to make room for, when a store of `stored` edges has no room for `wanted`
 // more. A growth asks for memory six times and may move all that is stored, so many pushes should
 // share its cost: a store doubles, and a short one, for which the six requests cost most, grows
 // fourfold.

@@ -447,7 +447,7 @@ impl<V, DE, UE, F, A: Allocator> Dcel<V, DE, UE, F, A> {
     ///
     /// This holds if it is live, lies between two triangles, one of which may be the outer face,
     /// and the corners opposite it are two vertices.
-    // Out of line: a loop that tests edges and flips them was measured to be faster so.
+    // Out of line: a loop that tests edges and flips them runs faster so.
     #[inline(never)]
     pub fn can_flip(&self, handle: FixedUndirectedEdgeHandle) -> bool
         ensures { IsTrue result ↔ CanFlip self.now.shape handle }
@@ -474,7 +474,8 @@ impl<V, DE, UE, F, A: Allocator> Dcel<V, DE, UE, F, A> {
     /// It looks triangulated if there is an edge, no vertex is unconnected, each even half edge on
     /// an inner face lies on a triangle, and no edge of a mesh with several faces has one face on
     /// both sides. Odd half edges are not looked at: an inner face whose half edges are all odd may
-    /// have more than three.
+    /// have more than three. It is what `sanity_check` of `spade` asks, but for what holds of every
+    /// mesh.
     pub fn sanity_check(&self) -> bool
         ensures { IsTrue result ↔ IsChecked self.now.shape }
     {
@@ -559,8 +560,8 @@ impl<V, DE, UE, F, A: Allocator> Dcel<V, DE, UE, F, A> {
         self.store.origin(handle)
     }
 
-    // As stored, without checking that the half edge is live: the origin of a given-up one may be
-    // stale.
+    // Returns the origin as stored, without checking that the half edge is live: that of a given-up
+    // one may be stale.
     #[inline]
     pub(crate) fn stored_origin(&self, handle: FixedDirectedEdgeHandle) -> FixedVertexHandle
         requires { handle < 2 * self.now.shape.edges }
@@ -591,8 +592,9 @@ impl<V, DE, UE, F, A: Allocator> Dcel<V, DE, UE, F, A> {
         self.store.next(self.store.next(handle)) == before
     }
 
-    // The half edge before tells whether the face is a triangle, and the one after where the corner
-    // is: neither read waits for the other, and an edit that follows finds both done.
+    // Returns the corner opposite the half edge, or None if its face is no triangle. The half edge
+    // before tells whether it is one, and the one after where the corner is: neither read waits for
+    // the other, and an edit that follows finds both done.
     #[inline]
     fn opposite_corner(&self, handle: FixedDirectedEdgeHandle) -> Option<FixedVertexHandle>
         requires { IsLive self.now.shape handle }

@@ -20,14 +20,14 @@ use std::alloc::Allocator;
 /// Ensures that the mesh is sound, a sphere, anchored and sized, as every mesh is.
 ///
 /// - Sound: each live half edge stands in exactly one word, once. Edges join different live
-///   vertices, end to start along each word. Two half edges start at the same vertex exactly if
+///   vertices, end to start along each word. Two live half edges start at the same vertex exactly if
 ///   turning around it leads from one to the other.
 /// - A sphere: the live edges are connected, and once an edge is live, the number of vertices with
 ///   a live edge, minus the number of live edges, plus the number of live faces, is two.
 /// - Anchored: the anchor of a vertex starts there, and the anchor of a face stands in its word.
 ///   An element has no anchor exactly if there is no such half edge.
-/// - Sized: each element has its datum, and each vertex and face a place for its anchor. The
-///   numbers of vertices, half edges and faces are below 2^32.
+/// - Sized: each element has its datum, and each vertex and face a place for its anchor. There are
+///   at most 2^32 vertices, 2^31 undirected edges and 2^32 faces.
 pub fn every_mesh<V, DE, UE, F, A: Allocator>(dcel: &Dcel<V, DE, UE, F, A>)
     ensures { IsMesh dcel.now }
 {

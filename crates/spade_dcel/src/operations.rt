@@ -2,8 +2,8 @@
 //!
 //! What a call asks is in its contract, and a public test of [`Dcel`](crate::dcel::Dcel) tells
 //! whether it holds. A call that returns a `Result` is refused only if memory runs out, and the
-//! mesh is then as it was. A call that returns none allocates nothing; its contract says only that
-//! it cannot fail.
+//! mesh is then as it was; [`from_links`] and [`from_anchored_links`] refuse what no mesh has, too.
+//! A call that returns none allocates nothing; its contract says only that it cannot fail.
 //!
 //! In the pictures each face lies to the left of its half edges, and `t` is the other half of
 //! `edge` or `e`. `n` is twice the number of undirected edges before the call, so the first new

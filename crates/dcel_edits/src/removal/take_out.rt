@@ -17,7 +17,7 @@ use std::alloc::Allocator;
 /// Takes out an edge, and drops its data.
 ///
 /// The links and anchors that named a half edge of the last edge name it by its new number.
-pub fn take_out_edge<V, DE: Drop, UE: Drop, F, A: Allocator>(
+pub(crate) fn take_out_edge<V, DE: Drop, UE: Drop, F, A: Allocator>(
     store: &mut Store<V, DE, UE, F, A>,
     edge: FixedUndirectedEdgeHandle,
 )
@@ -38,10 +38,8 @@ pub fn take_out_edge<V, DE: Drop, UE: Drop, F, A: Allocator>(
     rename_half(store, reversed, from.rev(), to.rev());
 }
 
-/// Takes out a face, and drops its datum.
-///
-/// The half edges of the last face name it by its new number.
-pub fn take_out_face<V, DE, UE, F: Drop, A: Allocator>(
+// Takes out a face, and drops its datum. The half edges of the last face name it by its new number.
+fn take_out_face<V, DE, UE, F: Drop, A: Allocator>(
     store: &mut Store<V, DE, UE, F, A>,
     face: FixedFaceHandle<PossiblyOuterTag>,
 )

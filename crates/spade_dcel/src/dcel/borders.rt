@@ -108,8 +108,9 @@ impl<V, DE, UE, F, A: Allocator> Dcel<V, DE, UE, F, A> {
         self.finds_each(center, edges, faces)
     }
 
-    // Each is looked for first at the place where it stands if the lists are in the order of out
-    // edges, so that such lists are read once.
+    // Returns whether the lists have the edge and the face of each out edge. Each is looked for first
+    // at the place where it stands if the lists are in the order of out edges, so that such lists are
+    // read once.
     fn finds_each(
         &self,
         vertex: FixedVertexHandle,
@@ -151,7 +152,8 @@ impl<V, DE, UE, F, A: Allocator> Dcel<V, DE, UE, F, A> {
             && self.is_on_triangle(out_edge)
     }
 
-    // The list is read from its end, from the out edge after the first one back to it.
+    // Returns whether the list, read from its end, is what comes after the out edges, from the second
+    // one back to the first.
     fn goes_round(
         &self,
         first_out: FixedDirectedEdgeHandle,

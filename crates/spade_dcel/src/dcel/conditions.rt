@@ -16,7 +16,7 @@ use dcel_fixed::{
 };
 use std::alloc::Allocator;
 
-/// Tests of all that an operation that grows asks but room. Any numbers may be given.
+/// Tests, for operations that grow, of all that they ask but room. Any numbers may be given.
 impl<V, DE, UE, F, A: Allocator> Dcel<V, DE, UE, F, A> {
     /// Returns whether the first edge can be made between two vertices.
     ///
@@ -163,7 +163,8 @@ impl<V, DE, UE, F, A: Allocator> Dcel<V, DE, UE, F, A> {
     }
 }
 
-/// Tests of all that an operation asks that opens a removal. Any numbers may be given.
+/// Tests, for operations that open a removal, of all that they ask but room. Any numbers may be
+/// given.
 impl<V, DE, UE, F, A: Allocator> Dcel<V, DE, UE, F, A> {
     /// Returns whether a vertex can be given up and the hole filled.
     ///

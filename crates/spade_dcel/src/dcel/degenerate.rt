@@ -12,8 +12,9 @@ impl<V, DE, UE, F, A: Allocator> Dcel<V, DE, UE, F, A> {
     /// Returns whether the vertex is one that a degenerate mesh can lose.
     ///
     /// This is what [`remove_when_degenerate`](crate::operations::remove_when_degenerate) asks. It
-    /// holds if no removal is open and the vertex is the only one, or one of a mesh with one
-    /// face where one or two half edges start at each vertex. Any number may be given.
+    /// holds if no removal is open and the vertex is the only one, or one of a mesh with one face
+    /// where one or two half edges start at each vertex. It may look at every vertex. Any number may
+    /// be given.
     pub fn can_remove_degenerate(&self, handle: FixedVertexHandle) -> bool
         ensures { IsTrue result ↔ CanRemoveDegenerate self.now.shape handle }
     {

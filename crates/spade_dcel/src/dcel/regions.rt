@@ -100,7 +100,7 @@ impl<V, DE, UE, F, A: Allocator> Dcel<V, DE, UE, F, A> {
         true
     }
 
-    // The list is read from its end.
+    // Returns whether the list, read from its end, leads around the faces.
     fn leads_round(
         &self,
         list: &[FixedDirectedEdgeHandle],
@@ -121,7 +121,8 @@ impl<V, DE, UE, F, A: Allocator> Dcel<V, DE, UE, F, A> {
         self.leads_along(first, others, edges)
     }
 
-    // The list is read from its end; the first half edge starts where no other one does.
+    // Returns whether the list, read from its end, goes on around them after the first half edge,
+    // which starts where no other one does.
     fn leads_along(
         &self,
         first: FixedDirectedEdgeHandle,
@@ -251,7 +252,8 @@ impl<V, DE, UE, F, A: Allocator> Dcel<V, DE, UE, F, A> {
         near != far
     }
 
-    // Bounded by the number of edges, so that it ends whatever the lists are.
+    // Returns the half edge after this one once the edges are passed. It takes no more steps than
+    // there are edges, so that it ends whatever the lists are.
     fn past(
         &self,
         half: FixedDirectedEdgeHandle,

@@ -27,8 +27,8 @@ impl<V, DE, UE, F, A: Allocator> Dcel<V, DE, UE, F, A> {
     /// Returns whether `opened` lists what an open removal has given up.
     ///
     /// The removal has to be open and not yet cleaned up, and each edge and each face that it gave
-    /// up listed once, in any order. The test takes linear time if that is the order in which they
-    /// were given up, and otherwise at most the square of it.
+    /// up listed once, in any order. The time is linear for lists in the order in which the elements
+    /// were given up; for others it may grow with the square of their lengths.
     pub fn is_listed<B: Allocator>(&self, opened: &IsolateVertexResult<B>) -> bool
         ensures { IsTrue result ↔ IsListed self.now.shape.removal opened.now.edges_to_remove.items opened.now.faces_to_remove.items }
     {

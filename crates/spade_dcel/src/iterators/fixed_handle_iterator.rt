@@ -11,7 +11,7 @@ use std::marker::{Model, PhantomData};
 ///
 /// Use the aliases, such as [`FixedVertexIterator`](crate::iterators::FixedVertexIterator).
 ///
-/// Does not allocate. Contracts see the numbers that it has still to give. `next` and `next_back`
+/// It does not allocate. Contracts see the numbers that it has still to give. `next` and `next_back`
 /// may be mixed freely.
 #[derive(Drop)]
 pub struct FixedHandleIterator<Kind, InnerOuter: InnerOuterMarker> {

@@ -23,7 +23,7 @@ use std::marker::Model;
 /// outer face. From the back they come in the order of [`prev`](DirectedEdgeHandle::prev),
 /// beginning with the half edge before the anchor. There are none in a mesh without live edges.
 ///
-/// Does not allocate. Contracts see its mesh, and the half edges that it has still to give. That a
+/// It does not allocate. Contracts see its mesh, and the half edges that it has still to give. That a
 /// half edge is live is known where it is given, so a loop needn't test it. `next` and `next_back`
 /// may be mixed freely.
 #[derive(Drop)]
@@ -42,8 +42,9 @@ impl<'a, V, DE, UE, F, A: Allocator> Model for HullIterator<'a, V, DE, UE, F, A>
 impl<'a, V, DE, UE, F, A: Allocator> HullIterator<'a, V, DE, UE, F, A> {
     /// Creates an iterator over the hull of the mesh.
     ///
-    /// If every inner face is a triangle, the length of the hull tells the number of live edges:
-    /// three times the number of vertices with an edge, minus three, minus the length of the hull.
+    /// If an edge is live and every live inner face is a triangle, the length of the hull tells the
+    /// number of live edges: three times the number of vertices with a live edge, minus three, minus
+    /// that length.
     #[inline]
     pub fn new(dcel: &'a Dcel<V, DE, UE, F, A>) -> Self
         ensures mesh { result.mesh ≡ dcel.now }
@@ -58,11 +59,9 @@ impl<'a, V, DE, UE, F, A: Allocator> HullIterator<'a, V, DE, UE, F, A> {
         ensures few { length result.items ≤ 2 ^ 32 }
     {
         every_mesh(dcel);
-        let inner_iterator = match dcel.outer_face().adjacent_edge() {
-            Some(edge) => CircularIterator::new(edge),
-            None => CircularIterator::empty_of(dcel),
-        };
-        HullIterator { inner_iterator }
+        HullIterator {
+            inner_iterator: dcel.outer_face().directed_edges(),
+        }
     }
 }
 

@@ -21,7 +21,7 @@ use std::marker::Model;
 /// That a face is live and not the outer one is known where it is given, so that a loop needn't
 /// test it ([`Dcel::live_inner_faces`](crate::dcel::Dcel::live_inner_faces)).
 ///
-/// Does not allocate. Contracts see the faces that it has still to give, each as its mesh and its
+/// It does not allocate. Contracts see the faces that it has still to give, each as its mesh and its
 /// number. `next` and `next_back` may be mixed freely.
 #[derive(Drop)]
 pub struct LiveInnerFaceIterator<'a, V, DE, UE, F, A: Allocator = Global> {

@@ -22,7 +22,7 @@ use std::marker::Model;
 ///
 /// Use the aliases, such as [`LiveVertexIterator`](crate::iterators::LiveVertexIterator).
 ///
-/// Does not allocate. Contracts see the elements that it has still to give, each as its mesh and
+/// It does not allocate. Contracts see the elements that it has still to give, each as its mesh and
 /// its number. `next` and `next_back` may be mixed freely.
 #[derive(Drop)]
 pub struct LiveIterator<

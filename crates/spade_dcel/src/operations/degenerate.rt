@@ -13,8 +13,8 @@ use std::alloc::Allocator;
 
 /// Removes a vertex of a mesh that is a single vertex or a path, and returns its datum.
 ///
-/// An end goes with its edge. Between two others, the edge goes whose half edge is `ccw` of the
-/// vertex's anchor, and the other edge joins the neighbours.
+/// A vertex at an end goes with its edge. A vertex between two others goes with the edge of the half
+/// edge that is `ccw` of its anchor, and its other edge joins the two neighbors.
 ///
 /// ```text
 /// before                        after

@@ -29,9 +29,9 @@ type GivenUpLists<A> = (
 
 /// Gives up a vertex that lies inside triangles alone, and fills the hole with new triangles.
 ///
-/// Its edges and the triangles around it are given up too.
-/// A loop of `k` half edges is filled with `k - 2` triangles by `k - 3` new edges, which all start
-/// where the last half edge of `border_loop` starts, at `a` in the picture.
+/// Its edges and the triangles around it are given up too. A loop of `k` half edges is filled with
+/// `k - 2` triangles by `k - 3` new edges, which all start where the last half edge of
+/// `border_loop` starts, at `a` in the picture.
 ///
 /// ```text
 /// before      c                 after       c
@@ -42,9 +42,10 @@ type GivenUpLists<A> = (
 /// ```
 ///
 /// The result has the new edges in ascending order, and the edges and faces that are given up in
-/// the order of the out edges of the vertex. All these are still there, for
-/// [`cleanup_isolated_vertex`](super::cleanup_isolated_vertex) to take out, and then the vertex for
-/// [`swap_remove_vertex`](super::swap_remove_vertex).
+/// the order of the out edges of the vertex. What is given up is still there: the edges and faces
+/// for [`cleanup_isolated_vertex`](super::cleanup_isolated_vertex) to take out, and then the vertex
+/// for [`swap_remove_vertex`](super::swap_remove_vertex). Each vertex of the loop is anchored
+/// anew.
 ///
 /// Asks that no removal is open ([`removal_state`](Dcel::removal_state)), that the list is the
 /// border loop of the vertex ([`is_border_loop`](Dcel::is_border_loop)), and for room for the new
@@ -91,7 +92,8 @@ pub fn isolate_vertex_and_fill_hole<
 ///             a                             a
 /// ```
 ///
-/// The result has the lists as they were given, and the new edges in ascending order.
+/// The result has the lists as they were given, and the new edges in ascending order. Each vertex of
+/// the loop is anchored anew.
 ///
 /// Asks that no removal is open ([`removal_state`](Dcel::removal_state)), that the lists are a ring
 /// with what lies inside it ([`is_ring`](Dcel::is_ring)), and for room for the new edges and faces
@@ -130,7 +132,8 @@ pub fn remesh_edge_ring<
     )
 }
 
-// Around a vertex there are as many edges as faces; a region has one face more.
+// Returns the vertex inside the ring, or None for a region: around a vertex there are as many edges
+// as faces, and a region has one face more.
 fn inside<V, DE, UE, F, A: Allocator>(
     dcel: &Dcel<V, DE, UE, F, A>,
     border: &[FixedDirectedEdgeHandle],
@@ -150,7 +153,8 @@ fn inside<V, DE, UE, F, A: Allocator>(
     Some(dcel.origin(dcel.prev_edge(first)))
 }
 
-// The result is made first: nothing may be refused once the mesh has changed.
+// Gives these elements up, fills the hole, and returns the result. That is made first: nothing may be
+// refused once the mesh has changed.
 fn isolate_and_answer<V, DE: Default, UE: Default, F: Default, A: Allocator + Clone>(
     dcel: &mut Dcel<V, DE, UE, F, A>,
     border: &[FixedDirectedEdgeHandle],
@@ -177,7 +181,7 @@ fn isolate_and_answer<V, DE: Default, UE: Default, F: Default, A: Allocator + Cl
     })
 }
 
-// The ring is the border read from its end.
+// Gives these elements up and cuts the ring, which is the border read from its end, into ears.
 fn give_up_and_fill<V, DE: Default, UE: Default, F: Default, A: Allocator>(
     dcel: &mut Dcel<V, DE, UE, F, A>,
     border: &[FixedDirectedEdgeHandle],

@@ -26,7 +26,8 @@ use std::alloc::Allocator;
 ///            d                             d
 /// ```
 ///
-/// Asks that the edge can be flipped: both faces are triangles, and the corners opposite the edge
+/// The half edges `a to d` and `b to c` become the anchors of `a` and `b`, and `e` and `t` those of
+/// `f` and `g`. Asks that the edge is live, both its faces are triangles, and the corners opposite it
 /// are two vertices ([`can_flip`](Dcel::can_flip)).
 pub fn flip_cw<V, DE, UE, F, A: Allocator>(
     dcel: &mut Dcel<V, DE, UE, F, A>,

@@ -44,13 +44,13 @@ pub struct Anchors<'a> {
 /// The reason why links were refused, in the order in which reasons are looked for.
 #[derive(Clone, Copy, PartialEq, Eq, Debug, Drop)]
 pub enum LinksError {
-    /// There are not the data of as many edges as the lists have.
+    /// The data are those of more or fewer edges than the lists have.
     Edges,
 
-    /// There are not anchors of as many vertices and faces as there are data.
+    /// The anchors are more or fewer than the data of vertices, or than those of faces.
     Anchors,
 
-    /// No mesh has these links, and this is the first thing that is wrong with them.
+    /// No mesh has these links, and this is wrong with them, and nothing of an earlier stage.
     Links(Fault),
 
     /// The anchor of this vertex is no half edge that starts there, or is missing though one does.
@@ -92,6 +92,8 @@ impl fmt::Display for LinksError {
 impl Error for LinksError {}
 
 /// The data that were handed in, given back with the reason why there is no mesh.
+///
+/// It converts to [`LinksError`], so that `?` passes the reason on where the data may be dropped.
 #[derive(Drop)]
 pub struct RefusedLinks<T> {
     /// The reason.
@@ -101,16 +103,28 @@ pub struct RefusedLinks<T> {
     pub back: T,
 }
 
+impl<T: Drop> From<RefusedLinks<T>> for LinksError {
+    ghost from_gives = { λ refused reason. reason ≡ refused.reason };
+
+    /// Returns the reason, and drops the value.
+    fn from(refused: RefusedLinks<T>) -> LinksError {
+        refused.reason
+    }
+}
+
 /// Makes a mesh with these links and data.
 ///
 /// The lists have an item for each half edge: the half edge after it on its face, the vertex that
 /// it starts at, and the face that it lies on. Half edges `2 * u` and `2 * u + 1` are edge `u`, and
-/// face 0 is the outer face. Each vertex and each face is anchored at its last half edge, and no
-/// removal is open.
+/// face 0 is the outer face. There are as many vertices and faces as `given` has data for. Each
+/// vertex and each face is anchored at its half edge with the greatest number, and no removal is
+/// open.
 ///
-/// It takes any lists. If there is a mesh that has these links, this is it, with that mesh's words;
-/// if there is none, the data come back with the first [`Fault`], and if memory runs out they come
-/// back too. It goes over the lists a fixed number of times.
+/// It takes any lists. Data of more or fewer edges than the lists have are refused as
+/// [`LinksError::Edges`]. Otherwise, if some mesh has these links, this is it, with that mesh's
+/// words; if none has, the reason is [`LinksError::Links`] with a [`Fault`] that comes first. A
+/// refusal gives the data back, also if memory runs out. It goes over the lists a fixed number of
+/// times.
 pub fn from_links<V: Drop, DE: Drop, UE: Drop, F: Drop, A: Allocator + Clone>(
     alloc: A,
     next: &[u32],

@@ -24,9 +24,9 @@ pub struct IsolateVertexResult<A: Allocator = Global> {
 impl<A: Allocator> IsolateVertexResult<A> {
     /// Returns whether the edge has at least the number of the first new edge.
     ///
-    /// Before cleanup this holds for exactly the new edges. After a strip was cut off, which adds
-    /// none, it holds for every edge. After cleanup it says nothing, since edges may have other
-    /// numbers.
+    /// Before cleanup this holds for exactly the new edges and those that later calls have added.
+    /// After a strip was cut off, which adds none, it holds for every edge. After cleanup it says
+    /// nothing, since edges may have other numbers.
     pub fn is_new_edge(&self, edge: FixedUndirectedEdgeHandle) -> bool
         ensures { IsTrue result ↔ (self.now.smallest_new_edge ≤ edge) }
     {
@@ -45,7 +45,8 @@ pub struct RemovalResult<V> {
 }
 
 impl<V> RemovalResult<V> {
-    // `last` is the last vertex before the removal, which has the number of `vertex` now.
+    // Makes the result of taking out `vertex`. Its number went to `last`, the last vertex before, if
+    // that is another one.
     pub(crate) fn of(removed_vertex: V, vertex: FixedVertexHandle, last: FixedVertexHandle) -> Self
         ensures datum { result.removed_vertex ≡ removed_vertex }
         ensures moved { result.swapped_in_vertex ≡ cond (vertex == last) None (Some last) }

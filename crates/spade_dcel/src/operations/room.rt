@@ -89,8 +89,8 @@ impl Room {
     /// Returns what a call adds that fills a hole inside this many half edges.
     ///
     /// The calls are [`isolate_vertex_and_fill_hole`](super::isolate_vertex_and_fill_hole) and
-    /// [`remesh_edge_ring`](super::remesh_edge_ring). Three half edges are the least that they
-    /// take: they add no edge and one face, and two faces and one edge for four.
+    /// [`remesh_edge_ring`](super::remesh_edge_ring). They take three half edges at least, for
+    /// which they add one face and no edge; for four they add two faces and one edge.
     pub fn filling(half_edges: usize) -> Room
         ensures vertices { result.vertices ≡ 0 }
         ensures edges { result.undirected_edges ≡ half_edges - 3 }

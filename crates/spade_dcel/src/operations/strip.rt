@@ -33,7 +33,9 @@ use std::alloc::{AllocError, Allocator};
 /// Each half edge of the list becomes the anchor of its origin, one after another, and the last one
 /// becomes the anchor of the outer face. The result has the edges before the half edges of the list
 /// and the faces of all but the last, in the order of the list, and no new edge. What is given up
-/// is still there, for [`cleanup_isolated_vertex`](super::cleanup_isolated_vertex) to take out.
+/// is still there: the edges and faces for
+/// [`cleanup_isolated_vertex`](super::cleanup_isolated_vertex) to take out, and then the vertex for
+/// [`swap_remove_vertex`](super::swap_remove_vertex).
 ///
 /// Asks that no removal is open ([`removal_state`](Dcel::removal_state)) and that the list is a
 /// strip ([`is_edge_strip`](Dcel::is_edge_strip)). If memory runs out it returns `AllocError`, the

@@ -32,12 +32,12 @@ returns g c =
       c.push_vertex.ensures,
     )
     (rw (
-      c.entry-6.ensures,
-      c.entry-5.ensures,
-      c.entry-4.ensures,
-      c.entry-3.ensures,
-      c.entry-2.ensures,
-      c.entry.ensures,
+      c.numbered_links-6.ensures,
+      c.numbered_links-5.ensures,
+      c.numbered_links-4.ensures,
+      c.numbered_links-3.ensures,
+      c.numbered_links-2.ensures,
+      c.numbered_links.ensures,
       c.new-5.ensures,
       c.new-4.ensures,
       c.new-3.ensures,

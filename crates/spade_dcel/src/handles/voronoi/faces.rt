@@ -37,7 +37,7 @@ impl<'a, V, DE, UE, F, A: Allocator> VoronoiFace<'a, V, DE, UE, F, A> {
 
 /// The edges around a face of the Voronoi diagram.
 ///
-/// Does not allocate. Contracts see its mesh, and the edges that it has still to give. That an edge
+/// It does not allocate. Contracts see its mesh, and the edges that it has still to give. That an edge
 /// is live is known where it is given, so a loop needn't test it. `next` and `next_back` may be
 /// mixed freely.
 #[derive(Drop)]

@@ -1,8 +1,7 @@
-use Rattle.std.proofs.Common.{◌<◌, length, None, refl, arith}
+use Rattle.std.proofs.Common.{◌<◌, length, refl, arith}
 use Rattle.std.proofs.lemmas.List.{length-map}
-use Rattle.dcel_store.proofs.Exchanges.{map-swap, set-set-swap}
-use Rattle.dcel_store.specs.Vectors.{lists_of}
-use Rattle.dcel_store.proofs.Store.swap_vertex_data.Goals as goal
+use Rattle.dcel_store.proofs.Exchanges.{map-swap}
+use Rattle.dcel_store.proofs.Store.swap_vertices.Goals as goal
 
 pub returns : goal.returns
 returns g c =
@@ -10,14 +9,9 @@ returns g c =
     let b = c.args.second in
     let entries = c.self.inside.vertices.items in
     let long = length-map entries (λ v. v.«data») in
-    let anchors = length-map entries (λ v. v.out_edge) in
     let a_in : a < length entries = omega (arith, long, rw (← c.self.view_is) at c.requires.first_in) in
     let b_in : b < length entries = omega (arith, long, rw (← c.self.view_is) at c.requires.second_in) in
     rw (
-      c.set_vertex_anchor-2.ensures,
-      c.set_vertex_anchor.ensures,
-      c.vertex_anchor-anchor_of_first.ensures,
-      c.vertex_anchor-anchor_of_second.ensures,
       ← c.self.view_is,
       c.swap.ensures.items,
       c.swap.ensures.len,
@@ -26,5 +20,4 @@ returns g c =
       c.index-2.ensures.value,
       map-swap (λ v. v.«data») entries a b a_in b_in,
       map-swap (λ v. v.out_edge) entries a b a_in b_in,
-      set-set-swap (lists_of c.self.inside).vertex_anchors a b None (omega (arith, anchors, a_in)) (omega (arith, anchors, b_in)),
     ) refl
