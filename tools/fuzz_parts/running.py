@@ -11,6 +11,9 @@ import threading
 # ends at once.
 UNPROVED = ["rt", "try", "--steps", "1", "--seconds", "10"]
 
+# Bounds how long a command may take.
+SECONDS = 600
+
 
 def is_read(pipe):
     """Whether all that was written to a pipe is read."""
@@ -34,13 +37,26 @@ def feed(process, text, size):
 
 
 def output_of(command, text, size=None, folder=None):
-    """What a command writes, and the status that it ends with. Without a size the text comes whole."""
-    if size is None:
-        ended = subprocess.run(command, input=text, capture_output=True, check=False, cwd=folder)
-        return ended.stdout, ended.returncode
+    """What a command writes, and the status that it ends with, or "timeout". Without a size the text comes whole."""
+    if size is not None:
+        return output_in_pieces(command, text, size)
+    try:
+        ended = subprocess.run(command, input=text, capture_output=True, check=False, cwd=folder, timeout=SECONDS)
+    except subprocess.TimeoutExpired as late:
+        return late.stdout or b"", "timeout"
+    return ended.stdout, ended.returncode
+
+
+def output_in_pieces(command, text, size):
+    """Returns what a command writes that gets the text in pieces of this size, and the status that it ends with, or "timeout"."""
+    is_late = threading.Event()
     process = subprocess.Popen(command, stdin=subprocess.PIPE, stdout=subprocess.PIPE, stderr=subprocess.DEVNULL, bufsize=0)
+    timer = threading.Timer(SECONDS, lambda: (is_late.set(), process.kill()))
+    timer.start()
     feeder = threading.Thread(target=feed, args=(process, text, size))
     feeder.start()
     output = process.stdout.read()
     feeder.join()
-    return output, process.wait()
+    status = process.wait()
+    timer.cancel()
+    return output, "timeout" if is_late.is_set() else status
