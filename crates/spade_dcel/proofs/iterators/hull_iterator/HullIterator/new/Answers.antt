@@ -1,4 +1,4 @@
-use Rattle.std.proofs.Common.{◌≡◌, ◌<◌, ℕ, List, length, rules, sym, ap, ◌∙◌, subst}
+use Rattle.std.proofs.Common.{◌≡◌, ◌<◌, ℕ, List, length, sym, ap, ◌∙◌, subst}
 use Rattle.std.proofs.lemmas.List.{length-map}
 use Rattle.dcel_maps.specs.Count.{IsCounted}
 use Rattle.dcel_maps.specs.Shapes.{IsMesh, Mesh}
@@ -30,8 +30,8 @@ returns-clause-back g c = hull-reversed c.every_mesh.ensures
 pub returns-clause-count : goal.returns-clause-count
 returns-clause-count g c =
     let m = c.args.dcel.now in
-    let items = c.match-adjacent_edge.inner_iterator.items in
-    let are : items ≡ in_mesh m (hull_of m) = search rules in
+    let items = c.directed_edges.result.items in
+    let are : items ≡ in_mesh m (hull_of m) = rw (c.outer_face.ensures.mesh, c.outer_face.ensures.number) at c.directed_edges.ensures.items in
     counted_items m c.every_mesh.ensures items are
 
 pub returns-clause-none : goal.returns-clause-none
