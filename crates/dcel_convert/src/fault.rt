@@ -62,7 +62,7 @@ pub enum Fault {
         /// What the system says.
         error: io::Error,
     },
-    /// The output could not be written.
+    /// The arguments could not be read, or a write failed.
     #[error("{0}")]
     Io(#[from] io::Error),
     /// There was no memory.

@@ -84,8 +84,8 @@ impl<A: Allocator> Numbering<A> {
         }
     }
 
-    /// Numbers a side that leads where none has led yet. It is the half edge that was found there,
-    /// or one of a new edge.
+    /// Numbers a side that leads where none has led yet. It becomes the half edge that was found
+    /// there, or one of a new edge.
     fn number(
         &mut self,
         chains: &mut Chains<A>,

@@ -12,15 +12,20 @@ use spade_dcel::dcel::Dcel;
 use spade_dcel::handles::{FixedDirectedEdgeHandle, FixedFaceHandle, FixedVertexHandle, InnerTag};
 use std::alloc::{AllocError, Allocator};
 
-/// How many moves of nodes are made at most, and how many rounds of them at least and at most.
+/// About how many moves of nodes a pass makes, within the rounds below.
 const MOVES: usize = 2_000_000;
 
+/// The fewest rounds of `relax`.
 const FEWEST: usize = 40;
 
+/// The most rounds of `relax`, and the fewest that `level` may make; it stops once nothing moves.
 const MOST: usize = 400;
 
-/// Finds places for the vertices of a mesh, so that no edge crosses another and all faces are large
-/// enough to be seen.
+/// Finds places for the vertices of a mesh: in a small one no edge crosses another, and all faces
+/// are large enough to be seen.
+///
+/// In a large one, or where triangles are nested some forty deep, edges may cross, since the rounds
+/// are bounded and the numbers rounded. If memory runs out it returns `AllocError`.
 ///
 /// The vertices of a path stand in a row. Vertices without an edge get no place.
 ///

@@ -8,7 +8,8 @@ use spade_dcel::dcel::Dcel;
 use spade_dcel::handles::{DirectedEdgeHandle, FixedDirectedEdgeHandle};
 use std::alloc::Allocator;
 
-/// The state before the first number, and what it is multiplied by after each.
+/// The state before the first number, and what it is multiplied by after each: FNV-1a's offset
+/// basis and its prime, over numbers in place of bytes.
 const START: u64 = 0xcbf2_9ce4_8422_2325;
 
 const PRIME: u64 = 0x0000_0100_0000_01b3;

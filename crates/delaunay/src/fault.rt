@@ -32,7 +32,7 @@ pub enum Fault {
         /// What the system says.
         error: io::Error,
     },
-    /// The output could not be written.
+    /// The arguments or the clock could not be read, or a write failed.
     #[error("{0}")]
     Io(#[from] io::Error),
     /// A point could not be inserted.
