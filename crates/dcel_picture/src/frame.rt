@@ -37,7 +37,8 @@ impl Frame {
         let vertices = nearest_usize_to_f64(picture.dots.len());
         let room = 600.0 + 180.0 * vertices.sqrt();
         let mut scale = wanted_scale(picture);
-        if longest * scale > room {
+        // Where no edge is drawn no scale is wanted, and the places fill the room.
+        if longest > 0.0 && (scale <= 0.0 || longest * scale > room) {
             scale = room / longest;
         }
         let width = size.x * scale + 2.0 * MARGIN;

@@ -1,9 +1,9 @@
 //! Places for the vertices of any mesh.
 
+use crate::bowing::bow;
 use crate::given_up::{set_aside, set_given_up};
 use crate::net::{Net, net_of};
 use crate::place::at;
-use crate::places::bow;
 use crate::relaxing::{level, relax, ring_places, wanted_area};
 use crate::rows::{is_path, set_row};
 use crate::wings::wings_of;
@@ -82,7 +82,7 @@ fn fits<V, DE, UE, F, A: Allocator, B: Allocator>(
 ) -> bool {
     for number in 1..mesh.num_faces() {
         let face: FixedFaceHandle<InnerTag> = FixedFaceHandle::new(number);
-        if number > 0 && mesh.is_triangle(face) && mesh.is_live_face(face) {
+        if mesh.is_triangle(face) {
             let [a, b, c] = mesh.face(face).vertices();
             let corners = (
                 places.vertex(a.index()),
