@@ -24,7 +24,7 @@ pub enum Fault {
         /// What the system says.
         error: io::Error,
     },
-    /// A file could not be opened or made.
+    /// A file could not be opened, made or written.
     #[error("{path}: {error}")]
     File {
         /// The file.
