@@ -1,6 +1,6 @@
 //! Edges flipped by the circle test.
 
-ghost use Rattle.std.specs.Prelude.{◌≡◌, ◌≢◌, ◌+◌, ◌≤◌, ◌++◌, [], true, OnOk, vec_len, vec_capacity};
+ghost use Rattle.std.specs.Prelude.{◌≡◌, ◌+◌, ◌≤◌, ◌++◌, [], true, OnOk, vec_len, vec_capacity};
 ghost use Rattle.dcel_maps.specs.Shapes.{IsMesh, edge_is_live};
 ghost use Rattle.dcel_plane.specs.Plane.{IsDelaunay, IsPlane, ListsCircled, point_at};
 ghost use Rattle.dcel_circles.specs.Turning.{IsTurnedTo, sides_round};

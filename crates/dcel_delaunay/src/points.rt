@@ -1,9 +1,8 @@
 //! Points inserted one after another, and located.
 
-ghost use Rattle.std.specs.Prelude.{◌≡◌, ◌⊎◌, ◌++◌, [], ◌∷◌, IfErr, IfOk, IfSome, IsTrue, OnOk};
+ghost use Rattle.std.specs.Prelude.{◌≡◌, [], IfErr, IfOk, IfSome, IsTrue, OnOk};
 ghost use Rattle.dcel_plane.specs.Plane.{IsDelaunay, point_at};
-ghost use Rattle.dcel_delaunay.specs.Growing.{Keeps};
-ghost use Rattle.dcel_delaunay.specs.Places.{HasPoint, IsPlace};
+ghost use Rattle.dcel_delaunay.specs.Places.{IsPlace};
 ghost use Rattle.dcel_delaunay.specs.Triangulated.{IsWhole, Stays, Takes, mesh_in};
 
 use crate::closing::close_hull;

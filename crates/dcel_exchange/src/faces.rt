@@ -1,6 +1,6 @@
 //! A mesh made of faces with their corners.
 
-ghost use Rattle.std.specs.Prelude.{◌≡◌, ◌+◌, ◌*◌, ◌/◌, All, IfErr, IfOk, length};
+ghost use Rattle.std.specs.Prelude.{◌≡◌, ◌+◌, ◌/◌, All, IfErr, IfOk, length};
 ghost use Rattle.dcel_exchange.specs.Corners.{corners_of};
 ghost use Rattle.dcel_exchange.specs.Defaults.{HasDefaults};
 ghost use Rattle.dcel_exchange.specs.Meshes.{AreLinks, HasFaces};

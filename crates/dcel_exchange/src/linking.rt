@@ -1,6 +1,6 @@
 //! The links of numbered sides, and of the border that they leave.
 
-ghost use Rattle.std.specs.Prelude.{◌≡◌, ◌≢◌, ℕ, ◌+◌, ◌^◌, ◌<◌, ◌≤◌, IfErr, IfOk, OnOk, None, Some, length, slice_index, slice_index_or};
+ghost use Rattle.std.specs.Prelude.{◌≡◌, ℕ, ◌+◌, ◌^◌, ◌<◌, ◌≤◌, IfErr, IfOk, OnOk, None, Some, length, slice_index, slice_index_or};
 ghost use Rattle.dcel_exchange.specs.Bordering.{AreFound, AreLinked};
 ghost use Rattle.dcel_exchange.specs.Numbering.{AreNumbered};
 ghost use Rattle.dcel_exchange.specs.Reasons.{Tells};

@@ -4,7 +4,6 @@ ghost use Rattle.std.specs.Prelude.{◌≡◌, ◌≢◌, ℕ, ◌+◌, ◌^◌,
 ghost use Rattle.dcel_exchange.specs.Chains.{AreChained, IsFound};
 ghost use Rattle.dcel_exchange.specs.Numbering.{AreDistinct, AreNumbered, side_of_found};
 ghost use Rattle.dcel_exchange.specs.Reasons.{Tells};
-ghost use Rattle.dcel_fixed.specs.HalfEdges.{rev};
 
 use crate::chains::Chains;
 use crate::refusal::FacesError;
