@@ -32,7 +32,8 @@ typedef struct {
 uint32_t mesh_lines_replies(const uint8_t *lines, size_t lines_len, uint8_t *replies,
                             size_t replies_len, uint64_t *needed);
 
-/* Puts the half edges of the mesh that the lines leave into the buffer, each at its number. */
+/* Puts the half edges of the mesh that the lines leave into the buffer, each at its number. A line
+   that is refused, also for lack of memory, changes nothing; only the replies show it. */
 uint32_t mesh_lines_half_edges(const uint8_t *lines, size_t lines_len,
                                mesh_lines_half_edge *half_edges, size_t half_edges_len,
                                uint64_t *needed);

@@ -20,7 +20,8 @@ def pairs_of(cyclic):
 
 
 class Claim:
-    """The lines of a file, and what stands in them. Line 1 has the counts, then come a word for each face and a turn for each vertex."""
+    """The lines of a file, and what stands in them. Line 1 has the counts, then come a word for each face and a turn for each vertex. Blank
+    lines behind these are none."""
 
     def __init__(self, text):
         self.lines = [line.split() for line in text.split("\n")[:-1]]
@@ -28,6 +29,8 @@ class Claim:
         self.counts = [int(count) for count in found.groups()] if found and all(int(count) in NUMBERS for count in found.groups()) else None
         if self.counts:
             self.vertices, self.edges, self.faces = self.counts
+            while len(self.lines) > 1 + self.faces + self.vertices and not self.lines[-1]:
+                self.lines.pop()
             words, turns = self.lines[1:1 + self.faces], self.lines[1 + self.faces:]
             self.words, self.turns = ([numbers_of(line[1:]) or [] for line in lists] for lists in (words, turns))
             self.halves = range(2 * self.edges)

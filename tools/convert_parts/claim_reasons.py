@@ -46,7 +46,7 @@ def genus(claim):
 # Before the links: what may be said, and whether that is so of a line.
 OF_LINES = [
     (r"the file doesn't begin with 'vertices N edges N faces N'", lambda c, line: line == 1 and c.counts is None),
-    (r"a number of an element is missing or out of range",
+    (r"a number is not written as one, or out of range",
      lambda c, line: (c.counts is None if line == 1 else numbers_of(tokens(c, line)) is None)),
     (r"the word of face (\d+) is missing, a line that begins with F\1",
      lambda c, line, face: line == face + 2 and face < c.faces and is_misnamed(c, line)),
@@ -55,7 +55,7 @@ OF_LINES = [
     (r"there is no half edge (\d+)", lambda c, line, half: half not in c.halves and half in NUMBERS and str(half) in tokens(c, line)),
     (r"there are more vertices and faces than the counts say", lambda c, line: line == c.faces + c.vertices + 2 <= len(c.lines)),
     (r"the file ends before all vertices and faces that the counts say",
-     lambda c, line: line == len(c.lines) + 1 and (c.counts is None or len(c.lines) < 1 + c.faces + c.vertices)),
+     lambda c, line: line == len(c.lines) + 1 and c.counts is not None and len(c.lines) < 1 + c.faces + c.vertices),
     (rf"half edge (\d+) stands twice in the {KINDS}", lambda c, line, half, kind: c.is_readable() and is_second(c, line, half, kind)),
     (rf"half edge (\d+) stands nowhere in the {KINDS}",
      lambda c, line, half, kind: line == 1 and c.is_readable() and half in c.halves and c.count(half, lists(c, kind)) == 0),

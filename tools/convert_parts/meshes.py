@@ -74,7 +74,7 @@ def words_of(mesh):
 def left_out_of_faces(mesh):
     """What is said where a file of faces is made of the mesh."""
     count = sum(1 for half in mesh.words[0] if mesh.face(other(half)) == 0) // 2
-    return f"left out {count} times: an edge with the outer face on both sides\n" if count else ""
+    return f"dcel_convert: left out: an edge with the outer face on both sides ({count})\n" if count else ""
 
 
 def fault_of_points(mesh, points):
@@ -123,7 +123,7 @@ def why_no_border(ways):
     while after:
         vertex = after.pop(vertex)
         if vertex == start and after:
-            return "the half edges of face 0 are no single loop"
+            return "the faces leave more than one border"
     return None
 
 
@@ -137,4 +137,4 @@ def why_apart(faces):
             reached.add(face)
             back = {(end, start) for start, end in faces[face]}
             left += [place for place, sides in enumerate(faces) if back.intersection(sides)]
-    return None if len(reached) == len(faces) else "no mesh has these faces"
+    return None if len(reached) == len(faces) else "no mesh has these faces|the faces are in several parts"

@@ -14,13 +14,13 @@ REASONS = [
      and (one != two or sides_of(s.faces[one]).count((start, end)) > 1)),
     (r"two sides without a neighbor end at vertex (\d+)", None, lambda s, vertex: vertex in s.doubled()),
     (r"there is no border, and each face comes to a vertex twice", None, lambda s: s.lacks_outer_face()),
-    (r"no mesh has these faces: the half edges of face 0 are no single loop", None, lambda s: s.loops() > 1),
+    (r"the faces leave more than one border", None, lambda s: s.loops() > 1),
     (r"no mesh has these faces: the half edges of vertex (\d+) are no single turn", None, lambda s, vertex: s.turns()[vertex] > 1),
-    (r"no mesh has these faces: half edge \d+ isn't reached from half edge 0", None, lambda s: s.parts() > 1),
+    (r"the faces are in several parts", None, lambda s: s.parts() > 1),
     (r"no mesh has these faces: the surface has genus (\d+), so it is not a sphere", None,
      lambda s, genus: genus > 0 and s.parts() == 1 and s.euler() == 2 - 2 * genus),
 ]
-UNREADABLE = "a number of an element is missing or out of range"
+UNREADABLE = "a number is not written as one, or out of range"
 
 
 def holds(surface, words):

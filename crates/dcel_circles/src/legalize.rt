@@ -1,6 +1,6 @@
 //! Edges flipped by the circle test.
 
-ghost use Rattle.std.specs.Prelude.{◌≡◌, ◌≢◌, ◌+◌, ◌≤◌, ◌++◌, [], true, OnOk, vec_len, vec_capacity};
+ghost use Rattle.std.specs.Prelude.{◌≡◌, ◌+◌, ◌≤◌, ◌++◌, [], true, OnOk, vec_len, vec_capacity};
 ghost use Rattle.dcel_maps.specs.Shapes.{IsMesh, edge_is_live};
 ghost use Rattle.dcel_plane.specs.Plane.{IsDelaunay, IsPlane, ListsCircled, point_at};
 ghost use Rattle.dcel_circles.specs.Turning.{IsTurnedTo, sides_round};
@@ -19,9 +19,9 @@ use std::alloc::{AllocError, Allocator};
 /// triangles, and the corner of one inside the circle of the other ([`is_circled`]), it flips the
 /// edge, and appends the other sides of the two triangles. Otherwise it takes it off the list.
 ///
-/// The triangles must go round counterclockwise at first, and then do so after each flip. If the
-/// list has each edge that is to be flipped, it has so afterwards too, and the mesh is Delaunay
-/// once the list is empty. The order of the list doesn't matter for that.
+/// Asks for inner triangles that go round counterclockwise ([`is_plane`](crate::is_plane)); they do
+/// so after each flip. If the list has each edge that is to be flipped, it does afterwards too, and
+/// the mesh is Delaunay once the list is empty. The order of the list doesn't matter for that.
 ///
 /// Fails if the list can't grow for lack of memory. The flips made so far remain, and a later call
 /// with the same list goes on from there.

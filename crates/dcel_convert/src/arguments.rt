@@ -41,7 +41,7 @@ pub struct Arguments<'a> {
 pub enum Asked<'a> {
     /// To do this.
     Run(Arguments<'a>),
-    /// To show help, or they are wrong.
+    /// To print this: help that was asked for, or what is wrong with them.
     Told(Error),
 }
 
@@ -53,12 +53,13 @@ counterclockwise, as seen from outside. A surface without a border is a mesh, an
 single border; the border, or else the first face that comes to no vertex twice, is the outer face.
 
 If its name ends in .words it has what dcel_run answers to counts, to words, and to out for each
-vertex in their order. A word may begin anywhere. Vertices, half edges and faces keep their numbers
-as words; as OFF and OBJ the mesh has the inner faces in their order, and the places that a picture
-gives to its vertices, or 0 0 0 to one without an edge.
+vertex in their order. A word or an out line may begin with any of its half edges. Vertices, half
+edges and faces keep their numbers as words; as OFF and OBJ the mesh has the inner faces in their
+order, and the places that a picture gives to its vertices, or 0 0 0 to one without an edge.
 
 What the output has no place for is left out, and named on standard error. A file that has no mesh
-is refused with the first thing that is wrong with it.";
+is refused with the first thing that is wrong with it. Messages number vertices and faces from 0,
+those of OBJ files too.";
 
 /// Reads the words, the program's name first.
 pub fn read_arguments<'a>(alloc: Global, words: &'a [String]) -> Result<Asked<'a>, AllocError> {
@@ -68,7 +69,7 @@ pub fn read_arguments<'a>(alloc: Global, words: &'a [String]) -> Result<Asked<'a
     }
 }
 
-/// Returns the arguments that there are.
+/// Describes the arguments that the program takes.
 fn command<'a>(alloc: Global) -> Result<Command<'a>, AllocError> {
     let file = Arg::new(alloc, "file")
         .value_name("FILE")
@@ -81,7 +82,11 @@ fn command<'a>(alloc: Global) -> Result<Command<'a>, AllocError> {
         .arg(choice(alloc, "off", "Writes OFF, as it does without a choice")?)?
         .arg(choice(alloc, "obj", "Writes OBJ")?)?
         .arg(choice(alloc, "words", "Writes words")?)?
-        .arg(choice(alloc, "svg", "Draws the mesh")?)
+        .arg(choice(
+            alloc,
+            "svg",
+            "Draws the mesh, with places of its own for the vertices",
+        )?)
 }
 
 /// Returns one of the choices of what is written.
@@ -114,10 +119,18 @@ fn arguments_of<'a>(matches: &ArgMatches<'a>) -> Arguments<'a> {
     Arguments {
         file,
         format: match file {
-            Some(name) if name.ends_with(".obj") => Format::Obj,
-            Some(name) if name.ends_with(".words") => Format::Words,
-            _ => Format::Off,
+            Some(name) => format_of(name),
+            None => Format::Off,
         },
         output,
+    }
+}
+
+/// Returns what a file of this name is written in, by its ending in upper or lower case.
+fn format_of(name: &str) -> Format {
+    match name.rsplit_once('.') {
+        Some((_, ending)) if ending.eq_ignore_ascii_case("obj") => Format::Obj,
+        Some((_, ending)) if ending.eq_ignore_ascii_case("words") => Format::Words,
+        _ => Format::Off,
     }
 }

@@ -54,6 +54,12 @@ pub enum Fault {
     /// There is no border, and no face can stand for it.
     #[error("there is no border, and each face comes to a vertex twice")]
     NoOuterFace,
+    /// The outer face would have to be several borders.
+    #[error("the faces leave more than one border")]
+    MoreBorders,
+    /// Some faces can't be reached from others.
+    #[error("the faces are in several parts")]
+    InParts,
     /// A file could not be opened.
     #[error("{path}: {error}")]
     File {
@@ -62,7 +68,7 @@ pub enum Fault {
         /// What the system says.
         error: io::Error,
     },
-    /// The output could not be written.
+    /// The arguments could not be read, or a write failed.
     #[error("{0}")]
     Io(#[from] io::Error),
     /// There was no memory.
@@ -80,9 +86,9 @@ pub enum Wrong {
     #[error("there are too few numbers")]
     TooFew,
     /// A number is not written as one, or out of range.
-    #[error("a number of an element is missing or out of range")]
+    #[error("a number is not written as one, or out of range")]
     NoNumber,
-    /// A coordinate is no number.
+    /// A coordinate is no number, or none that is finite.
     #[error("a coordinate is no number")]
     NoCoordinate,
     /// The first line of a file of words has no counts.

@@ -72,7 +72,8 @@ fn convert(
     write_asked(rt, arguments.output, &solid)
 }
 
-/// Makes the mesh of a file, and names what is left out of the file or the output.
+/// Makes the mesh of a file, and names what is left out of the file or the output, if there is
+/// output.
 fn solid_of(
     rt: &(impl Eprint + AllocGlobal),
     content: Content,
@@ -80,11 +81,13 @@ fn solid_of(
 ) -> Result<Solid, Fault> {
     match content {
         Content::Faces(surface) => {
-            for (what, lines) in surface.left_out.iter() {
-                tell_left_out(rt, what, *lines)?;
+            if output != Output::Check {
+                for (what, lines) in surface.left_out.iter() {
+                    tell_left_out(rt, what, *lines)?;
+                }
             }
             let solid = Solid::of(rt.alloc(), surface)?;
-            if output == Output::Mesh(Format::Words) {
+            if output == Output::Mesh(Format::Words) || output == Output::Svg {
                 tell_left_out(rt, "a vertex's coordinates", solid.mesh.num_vertices())?;
             }
             Ok(solid)
@@ -105,7 +108,7 @@ const EDGE_OUTSIDE: &str = "an edge with the outer face on both sides";
 /// Names what is left out, and how often.
 fn tell_left_out(rt: &impl Eprint, what: &str, times: usize) -> io::Result<()> {
     if times > 0 {
-        eprintln!(rt; "left out {times} times: {what}")?;
+        eprintln!(rt; "dcel_convert: left out: {what} ({times})")?;
     }
     Ok(())
 }

@@ -276,6 +276,8 @@ fn fault_of(reason: FacesError, lines: &[usize]) -> Fault {
         FacesError::FewCorners(face) => face,
         FacesError::NoVertex(face, _) | FacesError::OneEnd(face, _) => face as usize,
         FacesError::SideTwice(_, face, _, _) => face as usize,
+        FacesError::Links(LinkFault::FaceInParts(0)) => return Fault::MoreBorders,
+        FacesError::Links(LinkFault::NotConnected(_)) => return Fault::InParts,
         _ => return Fault::Faces(reason),
     };
     match lines.get(face) {

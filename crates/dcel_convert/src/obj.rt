@@ -52,13 +52,15 @@ fn take_face(
 }
 
 /// Returns the number of a vertex, from 0 on. A file counts from 1, and below 0 back from the last
-/// one.
+/// one: -1 is that one, so -0 is none.
 fn vertex_of(word: &str, vertices: usize) -> Result<u32, Wrong> {
     match word.strip_prefix('-') {
         None => number(word)?.checked_sub(1).ok_or(Wrong::NoNumber),
         Some(back) => {
-            let place = vertices.checked_sub(number(back)? as usize);
-            u32::try_from(place.ok_or(Wrong::NoNumber)?).map_err(|_| Wrong::NoNumber)
+            let behind = number(back)?.checked_sub(1).ok_or(Wrong::NoNumber)?;
+            let last = vertices.checked_sub(1).ok_or(Wrong::NoNumber)?;
+            let place = last.checked_sub(behind as usize).ok_or(Wrong::NoNumber)?;
+            u32::try_from(place).map_err(|_| Wrong::NoNumber)
         }
     }
 }

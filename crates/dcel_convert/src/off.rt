@@ -64,13 +64,16 @@ impl OffReader {
 
     /// Tells whether the file may end here.
     pub fn end(&self, surface: &Surface) -> Result<(), Wrong> {
-        if self.stage != Stage::Elements
-            || surface.places.len() < self.vertices
-            || surface.faces.len() < self.faces
-        {
-            return Err(Wrong::FewerLines);
+        match self.stage {
+            Stage::Word => Err(Wrong::NoOff),
+            Stage::Counts => Err(Wrong::TooFew),
+            Stage::Elements => {
+                if surface.places.len() < self.vertices || surface.faces.len() < self.faces {
+                    return Err(Wrong::FewerLines);
+                }
+                Ok(())
+            }
         }
-        Ok(())
     }
 
     /// Reads the word `OFF`, which the counts may follow.

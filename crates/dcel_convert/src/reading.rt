@@ -119,7 +119,10 @@ fn before_comment(line: &str) -> &str {
     }
 }
 
-/// Returns the number that a word says.
+/// Returns the number that a word says, which has no sign.
 pub fn number(word: &str) -> Result<u32, Wrong> {
+    if word.starts_with('+') {
+        return Err(Wrong::NoNumber);
+    }
     word.parse::<u32>().map_err(|_| Wrong::NoNumber)
 }

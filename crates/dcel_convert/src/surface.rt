@@ -49,7 +49,8 @@ impl Surface {
     fn add_vertex(&mut self, alloc: Global, coordinates: [&str; 3]) -> Result<(), Wrong> {
         let [x, y, z] = coordinates;
         for word in coordinates {
-            if word.parse::<f64>().is_err() {
+            let number = word.parse::<f64>().map_err(|_| Wrong::NoCoordinate)?;
+            if !number.is_finite() {
                 return Err(Wrong::NoCoordinate);
             }
         }

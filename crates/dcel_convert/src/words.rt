@@ -45,7 +45,8 @@ impl WordsReader {
         }
     }
 
-    /// Reads a line of half edges: the next word, or once all are read the next turn.
+    /// Reads a line of half edges: the next word, or once all are read the next turn. Blank lines
+    /// may follow the last one.
     fn take_list(
         &mut self,
         alloc: Global,
@@ -64,7 +65,7 @@ impl WordsReader {
                 return Err(Wrong::NoTurn(self.turns.len()));
             }
             self.turns.push(halves_of(alloc, counts, words)?)?;
-        } else {
+        } else if !first.is_empty() {
             return Err(Wrong::MoreLines);
         }
         Ok(())
@@ -87,7 +88,8 @@ impl WordsReader {
                     turns,
                 })
             }
-            _ => Err(Wrong::FewerLines),
+            Some(_) => Err(Wrong::FewerLines),
+            None => Err(Wrong::NoCounts),
         }
     }
 }

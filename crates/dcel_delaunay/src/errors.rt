@@ -5,23 +5,28 @@ use std::alloc::AllocError;
 use thiserror::Error;
 
 /// Why a point was not inserted, or not all was done that belongs to it.
+///
+/// With any other error than `Unfinished` the point has no new vertex, and the mesh of a whole
+/// triangulation is as it was; points that `insert_all` put in before stay.
 #[derive(Clone, Copy, PartialEq, Eq, Debug, Drop, Error)]
 pub enum InsertionError {
-    /// A coordinate is below -2^30 or above 2^30. Nothing has changed.
+    /// A coordinate is below -2^30 or above 2^30.
     #[error("a coordinate is out of range")]
     OutOfRange,
-    /// There are no numbers left for another vertex and its edges. Nothing has changed.
+    /// There are no numbers left for another vertex and its edges.
     #[error("there are too many points")]
     TooManyPoints,
-    /// There was no memory. Nothing has changed.
+    /// There was no memory.
     #[error("out of memory")]
     OutOfMemory,
-    /// The vertex stands, but there was no memory to make the triangulation whole again.
+    /// The vertex stands, but there was no memory, or no number, to make the triangulation whole
+    /// again.
     ///
     /// The next insertion goes on with that first.
     #[error("out of memory, with some edges not yet looked at")]
     Unfinished,
-    /// A walk or a search was longer than the mesh allows. It has never come.
+    /// The walk did not arrive, or no triangle has the point where it ended. No contract excludes
+    /// it; no input is known for which it comes.
     #[error("the search for the point did not end")]
     Lost,
 }
@@ -32,9 +37,8 @@ impl From<AllocError> for InsertionError {
     }
 }
 
-/// Returns the point with these coordinates.
-///
-/// They must be from -2^30 to 2^30.
+/// Returns the point with these coordinates, or [`OutOfRange`](InsertionError::OutOfRange) unless
+/// both are from -2^30 to 2^30.
 pub fn point(x: i64, y: i64) -> Result<Point, InsertionError> {
     Point::new(x, y).ok_or(InsertionError::OutOfRange)
 }

@@ -9,7 +9,7 @@ use crate::mesh::Mesh;
 use dcel_circles::legalize_by_circles;
 use std::alloc::Allocator;
 
-/// Flips edges from the list on, until none is left to be looked at.
+/// Flips edges, beginning with those listed, until none is left to be looked at.
 ///
 /// If there is no memory for the list, what is left to be looked at is listed.
 pub(crate) fn legalize<A: Allocator, L: Allocator>(

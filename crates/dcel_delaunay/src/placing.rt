@@ -203,7 +203,7 @@ fn close_sides<A: Allocator, L: Allocator>(
     close_before(dcel, due, before)
 }
 
-/// Flips edges from the list on, and returns the vertex.
+/// Flips edges, beginning with those listed, and returns the vertex.
 fn settled<A: Allocator, L: Allocator>(
     dcel: &mut Mesh<A>,
     due: &mut Due<L>,

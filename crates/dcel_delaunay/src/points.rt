@@ -1,9 +1,8 @@
 //! Points inserted one after another, and located.
 
-ghost use Rattle.std.specs.Prelude.{◌≡◌, ◌⊎◌, ◌++◌, [], ◌∷◌, IfErr, IfOk, IfSome, IsTrue, OnOk};
+ghost use Rattle.std.specs.Prelude.{◌≡◌, [], IfErr, IfOk, IfSome, IsTrue, OnOk};
 ghost use Rattle.dcel_plane.specs.Plane.{IsDelaunay, point_at};
-ghost use Rattle.dcel_delaunay.specs.Growing.{Keeps};
-ghost use Rattle.dcel_delaunay.specs.Places.{HasPoint, IsPlace};
+ghost use Rattle.dcel_delaunay.specs.Places.{IsPlace};
 ghost use Rattle.dcel_delaunay.specs.Triangulated.{IsWhole, Stays, Takes, mesh_in};
 
 use crate::closing::close_hull;
@@ -21,7 +20,7 @@ use spade_dcel::operations::new;
 use std::alloc::{AllocError, Allocator};
 
 impl<A: Allocator + Clone> Triangulation<A> {
-    /// Creates a triangulation of no points.
+    /// Creates a triangulation of no points. If memory runs out it returns `AllocError`.
     pub fn new(alloc: A) -> Result<Self, AllocError>
         ensures empty { IfOk result (λ t. (mesh_in t).vertex_data ≡ []) }
         ensures whole { IfOk result IsWhole }
@@ -56,8 +55,9 @@ impl<A: Allocator> Triangulation<A> {
 
     /// Returns where a point lies.
     ///
-    /// The walk begins at the vertex that was inserted last. It has as many steps as there are half
-    /// edges, which is enough in a Delaunay triangulation; `None` if it did not arrive.
+    /// The walk begins at the vertex that the last insertion returned, and takes at most as many
+    /// steps as there are half edges, which is enough in a Delaunay triangulation. Returns `None`
+    /// if it did not arrive.
     pub fn locate(&self, point: Point) -> Option<PositionInTriangulation>
         ensures { IfSome result (IsPlace (mesh_in self.now) point) }
     {

@@ -80,7 +80,8 @@ pub struct Patch<B: Allocator = Global> {
     pub number: usize,
     /// Whether it is live.
     pub state: State,
-    /// The lines round it, with the face on their left.
+    /// The lines round it whose ends have places, with the face on their left; none if it is given
+    /// up and nobody tells where it lay.
     pub outline: Vec<Line, B>,
 }
 
@@ -110,7 +111,7 @@ impl<B: Allocator + Copy> Picture<B> {
     /// Returns what is drawn of a mesh whose vertices stand at these places.
     ///
     /// What an open removal has given up is drawn where it lay `before` the removal was opened, if
-    /// that is told.
+    /// that is told. If memory runs out it returns `AllocError`.
     pub fn new<V, DE, UE, F, A: Allocator>(
         alloc: B,
         mesh: &Dcel<V, DE, UE, F, A>,

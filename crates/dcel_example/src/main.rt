@@ -19,14 +19,14 @@ fn triangle(alloc: Global) -> Result<Mesh, AllocError> {
     Ok(new_triangle(alloc, (7, 8, 9))?)
 }
 
-/// Proved: what a step asks, the function asks of its own callers.
+/// Returns the vertex before a half edge. Proved: what a step asks, it asks of its own callers.
 fn before(dcel: &Mesh, edge: FixedDirectedEdgeHandle) -> FixedVertexHandle
     requires { IsLive dcel.now.shape edge }
 {
     dcel.directed_edge(edge).prev().from().fix()
 }
 
-/// Tested: puts a new vertex into the face, and returns whether that could be done.
+/// Puts a new vertex into the face, and returns whether that could be done. Tested.
 fn refine(
     dcel: &mut Mesh,
     datum: i64,
@@ -45,7 +45,7 @@ fn refine(
     Ok(true)
 }
 
-/// By `apply`, which tests all that the command asks.
+/// Carries a command out by `apply`, which tests all that it asks.
 fn carry_out(dcel: &mut Mesh, command: Command<i64>) -> &'static str {
     match apply(dcel, command, MAX_LIMIT) {
         Ok(_) => "done",

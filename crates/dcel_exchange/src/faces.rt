@@ -1,6 +1,6 @@
 //! A mesh made of faces with their corners.
 
-ghost use Rattle.std.specs.Prelude.{◌≡◌, ◌+◌, ◌*◌, ◌/◌, All, IfErr, IfOk, length};
+ghost use Rattle.std.specs.Prelude.{◌≡◌, ◌+◌, ◌/◌, All, IfErr, IfOk, length};
 ghost use Rattle.dcel_exchange.specs.Corners.{corners_of};
 ghost use Rattle.dcel_exchange.specs.Defaults.{HasDefaults};
 ghost use Rattle.dcel_exchange.specs.Meshes.{AreLinks, HasFaces};
@@ -21,9 +21,10 @@ use std::alloc::{AllocError, Allocator};
 
 /// Makes a mesh of faces, each the list of its corners, counterclockwise.
 ///
-/// The faces keep their order, from number 1 on; face 0, the outer one, is what they leave. So of
-/// a closed surface one face is left out. The vertices keep their numbers, and one may be no
-/// corner. The edges are numbered in the order in which their first sides come, face by face, and
+/// The faces keep their order, from number 1 on; face 0, the outer one, is what they leave. So the
+/// caller leaves out one face of a closed surface; with all of them there is no outer face, and
+/// they are refused. The vertices keep their numbers, and a vertex need not be a corner. The edges
+/// are numbered in the order in which their first sides come, face by face, and
 /// such a side is the even half edge. Data of edges and faces are defaults, and no removal is open.
 ///
 /// It takes any lists. If it refuses them, the vertices come back with a reason ([`FacesError`]).
@@ -33,8 +34,8 @@ use std::alloc::{AllocError, Allocator};
 /// the faces lie round it.
 ///
 /// It goes over the sides a fixed number of times, and looks each up once by its ends. For the
-/// faces of a mesh that takes linear time in all, and at most the sides times their square root for
-/// any other faces.
+/// faces of a mesh that takes linear time in all, and for any other faces at most their number of
+/// sides times its square root.
 pub fn from_faces<
     V: Drop,
     DE: Drop + Default,

@@ -1,6 +1,6 @@
 //! The links of numbered sides, and of the border that they leave.
 
-ghost use Rattle.std.specs.Prelude.{◌≡◌, ◌≢◌, ℕ, ◌+◌, ◌^◌, ◌<◌, ◌≤◌, IfErr, IfOk, OnOk, None, Some, length, slice_index, slice_index_or};
+ghost use Rattle.std.specs.Prelude.{◌≡◌, ℕ, ◌+◌, ◌^◌, ◌<◌, ◌≤◌, IfErr, IfOk, OnOk, None, Some, length, slice_index, slice_index_or};
 ghost use Rattle.dcel_exchange.specs.Bordering.{AreFound, AreLinked};
 ghost use Rattle.dcel_exchange.specs.Numbering.{AreNumbered};
 ghost use Rattle.dcel_exchange.specs.Reasons.{Tells};
@@ -27,7 +27,7 @@ pub(crate) fn find_border<A: Allocator + Clone>(
 {
     let mut border = vec![in alloc.clone()?; None; vertices]?;
     for half in 0..numbering.origin.len() {
-        if let Err(origin) = find_one(numbering, half, &mut border) {
+        if let Err(origin) = note_border(numbering, half, &mut border) {
             return Err(FacesError::BorderTwice(origin));
         }
     }
@@ -36,7 +36,7 @@ pub(crate) fn find_border<A: Allocator + Clone>(
 
 /// Notes a half edge, if it is no side, at the vertex where it starts, or returns a vertex where
 /// one was noted before.
-fn find_one<A: Allocator>(
+fn note_border<A: Allocator>(
     numbering: &Numbering<A>,
     half: usize,
     border: &mut Vec<Option<u32>, A>,

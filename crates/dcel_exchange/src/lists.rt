@@ -110,11 +110,11 @@ fn anchor<V, DE, UE, F, A: Allocator>(
 /// It has the same vertices, half edges and faces with the same numbers, links, words and anchors,
 /// so that walks begin where they began. This is the law of the way there and back:
 /// `from_anchored_links` of the lists of [`link_lists`] makes the mesh that they were read from,
-/// and says so unless memory runs out.
+/// unless memory runs out.
 ///
 /// Asks that no removal is open ([`removal_state`](Dcel::removal_state) is `Closed`), and for a
-/// datum for each vertex, edge and face (`num_vertices`, `num_undirected_edges`, `num_faces`). If
-/// memory runs out the data come back, and for no other reason.
+/// datum for each vertex, edge and face (`num_vertices`, `num_undirected_edges`, `num_faces`). The
+/// data come back if memory runs out, and for no other reason.
 pub fn with_data<
     V: Drop,
     DE: Drop,

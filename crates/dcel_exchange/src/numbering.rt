@@ -4,7 +4,6 @@ ghost use Rattle.std.specs.Prelude.{◌≡◌, ◌≢◌, ℕ, ◌+◌, ◌^◌,
 ghost use Rattle.dcel_exchange.specs.Chains.{AreChained, IsFound};
 ghost use Rattle.dcel_exchange.specs.Numbering.{AreDistinct, AreNumbered, side_of_found};
 ghost use Rattle.dcel_exchange.specs.Reasons.{Tells};
-ghost use Rattle.dcel_fixed.specs.HalfEdges.{rev};
 
 use crate::chains::Chains;
 use crate::refusal::FacesError;
@@ -84,8 +83,8 @@ impl<A: Allocator> Numbering<A> {
         }
     }
 
-    /// Numbers a side that leads where none has led yet. It is the half edge that was found there,
-    /// or one of a new edge.
+    /// Numbers a side that leads where none has led yet. It becomes the half edge that was found
+    /// there, or one of a new edge.
     fn number(
         &mut self,
         chains: &mut Chains<A>,

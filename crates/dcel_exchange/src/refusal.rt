@@ -30,7 +30,9 @@ pub enum FacesError {
     /// Two sides that no face lies beyond end at this vertex.
     #[error("two sides without a neighbor end at vertex {0}")]
     BorderTwice(u32),
-    /// With these corners, the first thing that is wrong with the links of the half edges.
+    /// With these corners, the first thing that is wrong with the links of the half edges. In it
+    /// half edges, vertices and faces have the numbers of the mesh: face 0 is the outer one, and
+    /// place `k` of the list is face `k + 1`.
     #[error("no mesh has these faces: {0}")]
     Links(Fault),
     /// There was no memory. That can come at any time, also before what is wrong is found.

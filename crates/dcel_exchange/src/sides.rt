@@ -1,6 +1,6 @@
 //! The sides of all faces in one row, face by face.
 
-ghost use Rattle.std.specs.Prelude.{◌≡◌, ◌≢◌, ℕ, ◌+◌, ◌^◌, ◌<◌, ◌≤◌, ◌++◌, IfErr, IfOk, OnOk, length, map, replicate, slice_index};
+ghost use Rattle.std.specs.Prelude.{◌≡◌, ◌≢◌, ℕ, ◌+◌, ◌^◌, ◌<◌, ◌≤◌, ◌++◌, IfErr, IfOk, OnOk, length, replicate, slice_index};
 ghost use Rattle.dcel_exchange.specs.Corners.{AreSides, corners_of, turned};
 ghost use Rattle.dcel_exchange.specs.Reasons.{Means, Tells};
 ghost use Rattle.dcel_maps.specs.Numbers.{numbers_between};

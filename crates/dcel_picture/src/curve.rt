@@ -5,19 +5,10 @@
 
 use dcel_drawing::{Line, Place};
 
-/// Returns the point in the middle of a line.
-fn middle_of(line: Line) -> Place {
-    let straight = line.from.middle(line.to);
-    match line.bend {
-        Some(bend) => straight.times(0.25).plus(bend.times(0.75)),
-        None => straight,
-    }
-}
-
 /// Returns some points along a line, from its start to its end.
 pub(crate) fn steps_of(line: Line) -> [Place; 7] {
     let Some(bend) = line.bend else {
-        let middle = middle_of(line);
+        let middle = line.from.middle(line.to);
         let [from, to] = [line.from.middle(middle), middle.middle(line.to)];
         return [line.from, line.from, from, middle, to, line.to, line.to];
     };

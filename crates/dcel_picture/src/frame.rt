@@ -29,7 +29,7 @@ pub(crate) struct Frame {
 
 impl Frame {
     /// Returns the part that has all of a picture, so large that the least things can be seen,
-    /// unless the whole became too large then.
+    /// unless the whole would become too large.
     pub fn around<B: Allocator>(picture: &Picture<B>) -> Frame {
         let (low, high) = corners(picture);
         let size = high.minus(low);
@@ -37,7 +37,8 @@ impl Frame {
         let vertices = nearest_usize_to_f64(picture.dots.len());
         let room = 600.0 + 180.0 * vertices.sqrt();
         let mut scale = wanted_scale(picture);
-        if longest * scale > room {
+        // Where no edge is drawn no scale is wanted, and the places fill the room.
+        if longest > 0.0 && (scale <= 0.0 || longest * scale > room) {
             scale = room / longest;
         }
         let width = size.x * scale + 2.0 * MARGIN;
@@ -161,8 +162,8 @@ fn wanted_scale<B: Allocator>(picture: &Picture<B>) -> f64 {
     scale
 }
 
-/// Returns the scale, or a larger one if without it something of this length became less than is
-/// wanted.
+/// Returns the scale, made larger if something of this length would be drawn shorter than wanted.
+/// What would need a scale of 10^9 is passed over.
 fn larger(scale: f64, wanted: f64, length: f64) -> f64 {
     if length * 1e9 > wanted {
         scale.max(wanted / length)

@@ -5,12 +5,12 @@
 #![tactic(auto)]
 
 mod bends;
+mod bowing;
 mod curve;
 mod frame;
 mod given_up;
 mod net;
 mod place;
-mod places;
 mod reading;
 mod relaxing;
 mod rows;
@@ -18,7 +18,7 @@ mod spreading;
 mod svg;
 mod wings;
 
+pub use bowing::bow;
 pub use dcel_drawing::{Dot, Line, Patch, Picture, Place, Places, State, Stroke};
-pub use places::bow;
 pub use spreading::spread;
 pub use svg::{Style, write_svg};

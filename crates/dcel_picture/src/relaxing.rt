@@ -1,7 +1,8 @@
 //! Places of the nodes of a net: first each in the middle of its neighbors, then moved until the
 //! triangles inside are much alike.
 //!
-//! In the first places no triangle lies over another, and no move turns one over.
+//! If the first places were exact, no triangle would lie over another (W. T. Tutte, "How to draw a
+//! graph", 1963). No move turns one over.
 
 use crate::net::Net;
 use crate::place::{at, toward};

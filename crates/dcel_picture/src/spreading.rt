@@ -1,9 +1,9 @@
 //! Places for the vertices of any mesh.
 
+use crate::bowing::bow;
 use crate::given_up::{set_aside, set_given_up};
 use crate::net::{Net, net_of};
 use crate::place::at;
-use crate::places::bow;
 use crate::relaxing::{level, relax, ring_places, wanted_area};
 use crate::rows::{is_path, set_row};
 use crate::wings::wings_of;
@@ -12,15 +12,20 @@ use spade_dcel::dcel::Dcel;
 use spade_dcel::handles::{FixedDirectedEdgeHandle, FixedFaceHandle, FixedVertexHandle, InnerTag};
 use std::alloc::{AllocError, Allocator};
 
-/// How many moves of nodes are made at most, and how many rounds of them at least and at most.
+/// About how many moves of nodes a pass makes, within the rounds below.
 const MOVES: usize = 2_000_000;
 
+/// The fewest rounds of `relax`.
 const FEWEST: usize = 40;
 
+/// The most rounds of `relax`, and the fewest that `level` may make; it stops once nothing moves.
 const MOST: usize = 400;
 
-/// Finds places for the vertices of a mesh, so that no edge crosses another and all faces are large
-/// enough to be seen.
+/// Finds places for the vertices of a mesh: in a small one no edge crosses another, and all faces
+/// are large enough to be seen.
+///
+/// In a large one, or where triangles are nested some forty deep, edges may cross, since the rounds
+/// are bounded and the numbers rounded. If memory runs out it returns `AllocError`.
 ///
 /// The vertices of a path stand in a row. Vertices without an edge get no place.
 ///
@@ -77,7 +82,7 @@ fn fits<V, DE, UE, F, A: Allocator, B: Allocator>(
 ) -> bool {
     for number in 1..mesh.num_faces() {
         let face: FixedFaceHandle<InnerTag> = FixedFaceHandle::new(number);
-        if number > 0 && mesh.is_triangle(face) && mesh.is_live_face(face) {
+        if mesh.is_triangle(face) {
             let [a, b, c] = mesh.face(face).vertices();
             let corners = (
                 places.vertex(a.index()),

@@ -57,6 +57,8 @@ text { font-family: 'DejaVu Sans', Verdana, sans-serif; text-anchor: middle; }
 /// Each half edge is an arrow beside its edge, on the side of its face, with its number; faces are
 /// areas with their numbers after an F, and the outer face, F0, is all around them. What an open
 /// removal has given up is dashed and hatched. Vertices without a place stand below.
+///
+/// Fails if a write fails or memory runs out; a part may be written by then.
 pub fn write_svg<B: Allocator + Copy>(
     picture: &Picture<B>,
     style: Style,

@@ -42,7 +42,7 @@ pub fn orientation(a: Point, b: Point, c: Point) -> Side
     }
 }
 
-// The square of the distance between two points.
+// Returns the square of the distance between two points.
 #[tactic(auto, using(crate::proofs::Machine::squares_fit))]
 fn lift(p: Point, from: Point) -> i128
     ensures value { result ≡ lift_of p from }

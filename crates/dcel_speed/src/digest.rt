@@ -1,6 +1,5 @@
 //! A digest of a mesh, which tells two runs or two implementations apart.
 
-ghost use Rattle.std.specs.Prelude.{◌≡◌, true};
 ghost use Rattle.spade_dcel.specs.Handles.{mesh_behind, number_of};
 ghost use Rattle.dcel_maps.specs.Shapes.{IsLive};
 
@@ -8,7 +7,8 @@ use spade_dcel::dcel::Dcel;
 use spade_dcel::handles::{DirectedEdgeHandle, FixedDirectedEdgeHandle};
 use std::alloc::Allocator;
 
-/// The state before the first number, and what it is multiplied by after each.
+/// The state before the first number, and what it is multiplied by after each: FNV-1a's offset
+/// basis and its prime, over numbers in place of bytes.
 const START: u64 = 0xcbf2_9ce4_8422_2325;
 
 const PRIME: u64 = 0x0000_0100_0000_01b3;

@@ -4,7 +4,8 @@
 //! of them at all sizes. Each line of its output has a workload, its size, the nanoseconds for an
 //! operation, the checksum of the result, and the number of operations. With the further word
 //! `full` every half edge, edge and face has a datum too. With the word `checksums` the time is
-//! left out, so that each run prints the same.
+//! left out, so that each run prints the same. It exits with status 0, with 2 if its arguments are
+//! bad, and with 1 if anything else fails.
 #![tactic(auto)]
 
 mod arguments;
@@ -33,8 +34,11 @@ fn main(rt: HostRuntime) -> ExitCode {
     match run(&rt) {
         Ok(()) => ExitCode::SUCCESS,
         Err(fault) => {
-            let _ = eprintln!(rt; "{fault}");
-            ExitCode::FAILURE
+            let _ = eprintln!(rt; "dcel_speed: {fault}");
+            match fault {
+                Fault::BadArguments => ExitCode::from(2),
+                _ => ExitCode::FAILURE,
+            }
         }
     }
 }

@@ -9,7 +9,8 @@ const MULTIPLIER: u64 = 6_364_136_223_846_793_005;
 
 const INCREMENT: u64 = 1_442_695_040_888_963_407;
 
-/// A linear congruential generator with a state of 64 bits, of which the upper 31 make a number.
+/// A linear congruential generator with the constants of D. E. Knuth's MMIX, and with a state of 64
+/// bits, of which the upper 31 make a number.
 #[derive(Drop)]
 pub struct Random {
     state: u64,

@@ -24,7 +24,7 @@ pub enum Fault {
         /// What the system says.
         error: io::Error,
     },
-    /// A file could not be opened or made.
+    /// A file could not be opened, made or written.
     #[error("{path}: {error}")]
     File {
         /// The file.
@@ -32,7 +32,7 @@ pub enum Fault {
         /// What the system says.
         error: io::Error,
     },
-    /// The output could not be written.
+    /// The arguments or the clock could not be read, or a write failed.
     #[error("{0}")]
     Io(#[from] io::Error),
     /// A point could not be inserted.

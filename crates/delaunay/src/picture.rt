@@ -4,7 +4,6 @@ use crate::fault::Fault;
 use crate::triangulating::Drawn;
 use dcel_delaunay::Point;
 use spade_dcel::iterators::HullIterator;
-use std::alloc::Global;
 use std::io::{self, BufWriter, Write};
 use std::rt::Files;
 use std::{fmt, fs};
@@ -15,24 +14,28 @@ const SIDE: u64 = 80_000;
 /// How much is left free around it, in the same.
 const MARGIN: u64 = 2_000;
 
-/// Draws a triangulation into a file: edges, the hull over them, and points over both.
+/// Draws a triangulation into a file: edges, the hull over them, and points over both. Where that
+/// fails, it tells the file.
 pub fn write_picture(
     rt: &(impl Files + AllocGlobal),
     path: &str,
     drawn: &Drawn,
 ) -> Result<(), Fault> {
-    match fs::create(rt, path) {
-        Ok(file) => {
-            let mut writer = BufWriter::new(rt.alloc(), file)?;
-            write_svg(&mut writer, drawn)?;
-            writer.flush()?;
-            Ok(())
-        }
+    match write_file(rt, path, drawn) {
+        Ok(()) => Ok(()),
         Err(error) => Err(Fault::File {
             path: String::from_str(rt.alloc(), path)?,
             error,
         }),
     }
+}
+
+/// Makes the file, and writes the picture into it.
+fn write_file(rt: &(impl Files + AllocGlobal), path: &str, drawn: &Drawn) -> io::Result<()> {
+    let file = fs::create(rt, path)?;
+    let mut writer = BufWriter::new(rt.alloc(), file)?;
+    write_svg(&mut writer, drawn)?;
+    writer.flush()
 }
 
 /// Writes the picture.

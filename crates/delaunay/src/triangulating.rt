@@ -4,7 +4,7 @@ use crate::fault::Fault;
 use crate::progress::Progress;
 use dcel_delaunay::{Point, Triangulation, insertion_order};
 use spade_dcel::handles::FixedVertexHandle;
-use std::alloc::{AllocError, Global};
+use std::alloc::AllocError;
 
 /// A triangulation, and which point stands at each vertex.
 #[derive(Drop)]

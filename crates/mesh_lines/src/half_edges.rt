@@ -88,7 +88,8 @@ fn put_links(mesh: &LineMesh<Global>, half_edges: &mut [MeshLinesHalfEdge])
 }
 
 /// Answers the lines on an empty mesh, and puts the links of the half edges of the mesh that they
-/// leave into `half_edges`, each at its number.
+/// leave into `half_edges`, each at its number. A line that is refused, also for lack of
+/// memory, changes nothing; only the replies show it.
 ///
 /// As many as fit are put there, from the front, and what lies behind them stays. `needed` is how
 /// many half edges there are. While a removal is open, all four numbers of a half edge that it has

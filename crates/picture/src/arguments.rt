@@ -19,7 +19,7 @@ pub struct Arguments<'a> {
 pub enum Asked<'a> {
     /// To do this.
     Run(Arguments<'a>),
-    /// To show help, or they are wrong.
+    /// To print this: help that was asked for, or what is wrong with them.
     Told(Error),
 }
 
@@ -45,7 +45,7 @@ pub fn read_arguments<'a>(alloc: Global, words: &'a [String]) -> Result<Asked<'a
     }
 }
 
-/// Returns the arguments that there are.
+/// Describes the arguments that the program takes.
 fn command<'a>(alloc: Global) -> Result<Command<'a>, AllocError> {
     let file = Arg::new(alloc, "file")
         .value_name("FILE")

@@ -107,8 +107,8 @@ fn opens_removal(command: &Command<i64>) -> bool {
     )
 }
 
-/// Returns what is done to the mesh of before as well, so that its vertices have the numbers of the
-/// mesh's.
+/// Returns the command that the mesh of before must carry out too, so that vertices have the same
+/// numbers in both.
 fn echo_of(command: &Command<i64>) -> Option<Command<i64>> {
     match command {
         Command::Append(datum) => Some(Command::Append(*datum)),

@@ -26,9 +26,19 @@ pub enum Fault {
         /// What is wrong with it.
         wrong: Wrong,
     },
-    /// A line has bytes that are no text, or could not be read.
+    /// A line of the input has bytes that are no text, or could not be read.
     #[error("line {line}: {error}")]
     Read {
+        /// The line's number, from 1.
+        line: usize,
+        /// What the system says.
+        error: io::Error,
+    },
+    /// A line of the file with places has bytes that are no text, or could not be read.
+    #[error("{path}, line {line}: {error}")]
+    ReadPlace {
+        /// The file.
+        path: String,
         /// The line's number, from 1.
         line: usize,
         /// What the system says.
@@ -42,7 +52,7 @@ pub enum Fault {
         /// What the system says.
         error: io::Error,
     },
-    /// The picture could not be written.
+    /// The arguments could not be read, or a write failed.
     #[error("{0}")]
     Io(#[from] io::Error),
     /// There was no memory.

@@ -1,8 +1,8 @@
 //! Reads commands for a half-edge mesh, one a line, and draws the mesh that is left.
 //!
 //! `picture --help` tells what it reads and writes. It exits with status 0; with 1, and with no
-//! picture, if a line is bad or refused, a read or a write failed, or there was no memory; and with
-//! 2 if its arguments are bad.
+//! whole picture, if a line is bad or refused, a read or a write failed, or there was no memory;
+//! and with 2 if its arguments are bad.
 #![tactic(auto)]
 
 mod arguments;

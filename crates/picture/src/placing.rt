@@ -33,10 +33,16 @@ pub fn read_places(
     let mut number: usize = 0;
     for line in BufReader::new(alloc, opened)?.lines(alloc) {
         number = number.saturating_add(1);
-        let text = line.map_err(|error| Fault::Read {
-            line: number,
-            error,
-        })?;
+        let text = match line {
+            Ok(text) => text,
+            Err(error) => {
+                return Err(Fault::ReadPlace {
+                    path: String::from_str(alloc, path)?,
+                    line: number,
+                    error,
+                });
+            }
+        };
         if let Err(wrong) = set_place(&mut places.vertices, text.as_str()) {
             return Err(Fault::Place {
                 path: String::from_str(alloc, path)?,

@@ -11,7 +11,7 @@ const GAP: f64 = 4.0;
 /// How far an arrow stays away from the vertices, if the edge is long enough.
 const TRIM: f64 = 17.0;
 
-/// How far a number is better away from an edge that is drawn over its own.
+/// How far a number should stay from an edge that is drawn over its own.
 const CLEAR: f64 = 12.0;
 
 /// The arrow of a half edge.

@@ -1,7 +1,7 @@
 use Rattle.std.proofs.Common.{◌∙◌, sym, ap, None, slice_index_or}
 use Rattle.dcel_exchange.proofs.Borders.{found_one, found_side}
 use Rattle.dcel_exchange.proofs.FirstSides.{not_none}
-use Rattle.dcel_exchange.proofs.linking.find_one.Goals as goal
+use Rattle.dcel_exchange.proofs.linking.note_border.Goals as goal
 
 pub returns-in-Some-clause-found : goal.returns-in-Some-clause-found
 returns-in-Some-clause-found g c =

@@ -11,7 +11,8 @@ use std::alloc::{AllocError, Allocator};
 
 /// Bends edges that join the same two vertices, and are straight so far, to both sides.
 ///
-/// Those that a removal has given up are bent too if it is told where they lay `before`.
+/// Those that a removal has given up are bent too if it is told where they lay `before`. If memory
+/// runs out it returns `AllocError`, and some edges may be bent by then.
 pub fn bow<V, DE, UE, F, A: Allocator, B: Allocator + Copy>(
     alloc: B,
     mesh: &Dcel<V, DE, UE, F, A>,
@@ -43,7 +44,7 @@ pub fn bow<V, DE, UE, F, A: Allocator, B: Allocator + Copy>(
     Ok(())
 }
 
-/// Returns how far on the left of the straight line an arc bends, for its length.
+/// Returns how far on the left of the straight line an arc bends, as a part of its length.
 fn offset(place: usize, count: usize) -> f64 {
     let place = std::num::nearest_usize_to_f64(place);
     let count = std::num::nearest_usize_to_f64(count);
