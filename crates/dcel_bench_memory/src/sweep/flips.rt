@@ -1,7 +1,8 @@
-//! Legalization: of the requests that the list makes before flips one is refused after another. The
-//! flips before it stand, and no other.
+//! Legalization: each request that the list makes before a flip is refused in turn. The flips
+//! before it stand, and no others.
 
 use crate::sweep::opening::CUT;
+use crate::sweep::standing::OPEN_FOUR;
 use crate::watched::{Memory, Watched, made};
 use dcel_bench::checks::same;
 use dcel_bench::growths::Growth::{Append, Insert, Triangle};
@@ -44,7 +45,7 @@ const FINE: [Said; 11] = [
     Grow(Insert(7, 8)),
 ];
 
-const ROWS: [Row; 3] = [
+const ROWS: [Row; 4] = [
     Row {
         mesh: &CUT,
         edges: &[4],
@@ -55,6 +56,12 @@ const ROWS: [Row; 3] = [
         mesh: &CUT,
         edges: &[3],
         flips: &[0],
+    },
+    // Edge 3 is given up.
+    Row {
+        mesh: &OPEN_FOUR,
+        edges: &[3, 4],
+        flips: &[0, 1],
     },
     // The list has room for 18 edges, and then for four times as many.
     Row {
