@@ -40,7 +40,7 @@ pub fn made<A: Allocator + Copy>(memory: A, commands: &[Said]) -> Result<Mesh<A>
     Ok(dcel)
 }
 
-/// Makes a mesh by these commands, which has no spare room.
+/// Makes a mesh without spare room by these commands.
 pub fn fitted<'a>(memory: Memory<'a>, commands: &[Said]) -> Result<Watched<'a>, Fail> {
     let mut dcel = made(memory, commands)?;
     fit(&mut dcel, memory)?;

@@ -1,6 +1,6 @@
 //! Replies to commands after one that was refused memory, on a mesh without spare room.
 //!
-//! Lines can't tell it of a triangle, which has room for a vertex more and for more edges.
+//! Lines can't show this on a triangle, which has room for one more vertex and more edges.
 
 use crate::sweep::{Way, make};
 use crate::watched::{Watched, fitted};
