@@ -11,6 +11,8 @@ mod delaunay;
 #[cfg(test)]
 mod exchange;
 #[cfg(test)]
+mod faces;
+#[cfg(test)]
 mod handles;
 #[cfg(test)]
 mod links;
