@@ -9,6 +9,8 @@ mod circles;
 #[cfg(test)]
 mod delaunay;
 #[cfg(test)]
+mod delaunay_memory;
+#[cfg(test)]
 mod exchange;
 #[cfg(test)]
 mod faces;
