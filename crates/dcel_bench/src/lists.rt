@@ -30,7 +30,7 @@ pub enum Said {
     Swap(u32, u32),
     /// The vertex gets this datum.
     Put(u32, i64),
-    /// At most this many edges are flipped, beginning with these.
+    /// At most this many flips are made, beginning with these edges.
     Legalize(usize, &'static [u32]),
     /// All is taken out.
     Clear,

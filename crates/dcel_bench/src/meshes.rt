@@ -5,7 +5,7 @@ use crate::checks::same;
 use crate::require;
 use spade_dcel::dcel::Dcel;
 use spade_dcel::handles::{
-    DirectedEdgeHandle, FixedDirectedEdgeHandle, FixedFaceHandle, FixedUndirectedEdgeHandle,
+    FixedDirectedEdgeHandle, FixedFaceHandle, FixedUndirectedEdgeHandle,
     FixedVertexHandle, InnerTag, PossiblyOuterTag,
 };
 use spade_dcel::operations::{append_unconnected_vertex, flip_cw};
