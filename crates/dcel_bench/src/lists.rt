@@ -126,7 +126,7 @@ fn is_removed(removed: &RemovalResult<i64>, datum: i64, moved: Option<u32>) -> b
 }
 
 /// Returns whether this is the reply.
-fn is_answer<A: Allocator>(reply: &Reply<i64, A>, answer: Answer) -> bool {
+pub fn is_answer<A: Allocator>(reply: &Reply<i64, A>, answer: Answer) -> bool {
     match (reply, answer) {
         (Reply::Ok, Answer::Done) => true,
         (Reply::Vertex(found), Answer::Vertex(index)) => found.index() == index as usize,

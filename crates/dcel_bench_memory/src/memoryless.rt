@@ -2,14 +2,14 @@
 
 use crate::sweep::growing::{CLEANED, CUT, OPEN};
 use crate::sweep::standing::LINE;
-use crate::watched::{Watched, made};
+use crate::watched::made;
 use dcel_bench::checks::same;
 use dcel_bench::data::{Datum, write_all};
 use dcel_bench::lists::Said;
 use dcel_bench::meshes::{Mesh, half_edge, inner_face, undirected_edge, vertex};
 use dcel_bench::openers::handles;
 use dcel_bench::pictures::picture_of;
-use dcel_bench::refusing::{Refusals, Refusing};
+use dcel_bench::refusing::{Refusals, Refusing, Watched};
 use dcel_bench::require;
 use dcel_bench::talks::{Talk, push_talk, run_lines};
 use spade_dcel::handles::{FixedDirectedEdgeHandle, FixedVertexHandle};

@@ -3,7 +3,7 @@
 
 use dcel_bench::checks::{holds, same};
 use dcel_bench::openers::handles;
-use dcel_bench::refusing::{Refusals, Refusing};
+use dcel_bench::refusing::{Memory, Refusals, Refusing};
 use dcel_bench::require;
 use dcel_circles::{is_delaunay, is_plane, legalize_by_circles};
 use dcel_delaunay::{InsertionError, Point, Triangulation, point};
@@ -17,9 +17,6 @@ use std::test::Fail;
 
 /// No call here makes so many requests for memory.
 const MANY: u64 = 200;
-
-/// Memory that may be refused.
-type Memory<'a> = &'a Refusing<Global>;
 
 /// A triangulation in such memory.
 type Watched<'a> = Triangulation<Memory<'a>>;

@@ -4,7 +4,7 @@ use crate::faces::{
     Data, Outcome, Row, check_lists, check_made, check_vertices, data_for, faces_of, vertices_of,
 };
 use dcel_bench::checks::{holds, same};
-use dcel_bench::refusing::{Refusals, Refusing};
+use dcel_bench::refusing::{Memory, Refusals, Refusing};
 use dcel_bench::require;
 use dcel_exchange::{FacesError, face_lists, from_faces, link_lists, with_data};
 use spade_dcel::dcel::{Dcel, RemovalState};
@@ -13,9 +13,6 @@ use std::test::Fail;
 
 /// No call here makes so many requests for memory.
 const MANY: u64 = 100;
-
-/// Memory that may be refused.
-type Memory<'a> = &'a Refusing<Global>;
 
 const ROWS: [Row; 2] = [
     Row {

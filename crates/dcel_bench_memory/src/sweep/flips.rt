@@ -3,7 +3,7 @@
 
 use crate::sweep::opening::CUT;
 use crate::sweep::standing::OPEN_FOUR;
-use crate::watched::{Memory, Watched, made};
+use crate::watched::made;
 use dcel_bench::checks::same;
 use dcel_bench::growths::Growth::{Append, Insert, Triangle};
 use dcel_bench::lists::Said::{Grow, Legalize};
@@ -11,7 +11,7 @@ use dcel_bench::lists::{Said, command_of};
 use dcel_bench::meshes::NO_LIMIT;
 use dcel_bench::openers::handles;
 use dcel_bench::pictures::picture_of;
-use dcel_bench::refusing::{Refusals, Refusing};
+use dcel_bench::refusing::{Memory, Refusals, Refusing, Watched};
 use dcel_commands::commands::{Reply, apply};
 use dcel_commands::legalize::{Legalized, legalize_edges};
 use dcel_legalize::legalize_by_number;

@@ -1,9 +1,9 @@
 //! Meshes made of links, alone or with anchors, with each request refused in turn.
 
-use crate::watched::{MANY, Memory, Watched};
+use crate::watched::MANY;
 use dcel_bench::checks::same;
 use dcel_bench::pictures::{Picture, picture_of};
-use dcel_bench::refusing::{Refusals, Refusing};
+use dcel_bench::refusing::{Memory, Refusals, Refusing, Watched};
 use spade_dcel::operations::{
     Anchors, EdgeData, Fault, LinksError, MeshData, RefusedLinks, from_anchored_links, from_links,
 };

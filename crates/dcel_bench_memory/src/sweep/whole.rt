@@ -2,7 +2,7 @@
 
 use crate::sweep::opening::CUT;
 use crate::sweep::standing::{CLEANED, OPEN};
-use crate::watched::{MANY, Memory, Watched, fitted};
+use crate::watched::{MANY, fitted};
 use dcel_bench::checks::{holds, same};
 use dcel_bench::data::write_distinct;
 use dcel_bench::growths::Growth::{Append, SetUp, Triangle};
@@ -11,7 +11,7 @@ use dcel_bench::lists::Said::{Grow, Open};
 use dcel_bench::meshes::vertex;
 use dcel_bench::openers::Opener::Remesh;
 use dcel_bench::pictures::{Picture, picture_of};
-use dcel_bench::refusing::{Refusals, Refusing};
+use dcel_bench::refusing::{Memory, Refusals, Refusing, Watched};
 use dcel_bench::require;
 use spade_dcel::operations::{new, new_with_fixed_vertices};
 use std::alloc::{AllocError, Global};
