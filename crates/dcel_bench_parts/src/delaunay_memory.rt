@@ -227,6 +227,7 @@ fn join(
     place: (i64, i64),
 ) -> Result<FixedVertexHandle, Fail> {
     let apex = FixedVertexHandle::new(0);
+    require!(dcel.has_room(1, 0, 0));
     let added = append_unconnected_vertex(dcel, point(place.0, place.1)?)?;
     require!(apex.index() < dcel.num_vertices());
     let Some(edge) = dcel.get_edge_from_neighbors(apex, last) else {
