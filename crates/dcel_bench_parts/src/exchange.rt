@@ -164,11 +164,11 @@ fn check_links(dcel: &Dcel<u32>, lists: &LinkLists) -> Result<(), Fail> {
     require!(dcel.removal_state() == RemovalState::Closed);
     let mut number: usize = 0;
     for link in links(dcel) {
-        let found = [Some(&link.next), Some(&link.origin), Some(&link.face)];
+        let found = [Some(link.next), Some(link.origin), Some(link.face)];
         let wanted = [
-            lists.next.get(number),
-            lists.origin.get(number),
-            lists.face.get(number),
+            lists.next.get(number).copied(),
+            lists.origin.get(number).copied(),
+            lists.face.get(number).copied(),
         ];
         same(found, wanted, format_args!("links of half edge {number}"))?;
         number = number.wrapping_add(1);
