@@ -2,13 +2,14 @@
 
 use crate::checks::{holds, same};
 use crate::growths::Growth;
+use crate::lists::{Answer, is_answer};
 use crate::meshes::{Mesh, NO_LIMIT, counts, half_edge, inner_face, vertex};
 use crate::require;
 use Growth::{
     Append, Close, Extend, Insert, PutBeside, SetUp, SplitBothSides, SplitOnLine, SplitOneSide,
     Triangle,
 };
-use dcel_commands::commands::{Command, Handed, Refusal, Refused, Reply, apply};
+use dcel_commands::commands::{Command, Handed, Refusal, Refused, apply};
 use std::alloc::{Allocator, Global};
 use std::test::Fail;
 
@@ -28,33 +29,22 @@ pub fn growing<A: Allocator>(growth: Growth) -> Command<i64, A> {
     }
 }
 
-// Returns the mesh's reply to the command if there is memory. New half edges are `first`,
-// `first + 1`, ..
-fn reply_to<A: Allocator>(dcel: &Mesh<A>, growth: Growth) -> Result<Reply<i64>, Fail> {
+/// Returns the mesh's reply to the command if there is memory. New half edges are `first`,
+/// `first + 1`, ..
+fn answer_to<A: Allocator>(dcel: &Mesh<A>, growth: Growth) -> Result<Answer, Fail> {
     let count = dcel.num_vertices();
     require!(count < NO_LIMIT);
     require!(dcel.num_directed_edges() < NO_LIMIT);
     let first = dcel.num_directed_edges() as u32;
     Ok(match growth {
-        Triangle(_, _, _) | SetUp(_, _) => Reply::Ok,
-        Append(_) => Reply::Vertex(vertex(count as u32)),
-        Extend(_, added) | PutBeside(_, added) | Insert(added, _) => Reply::Vertex(vertex(added)),
-        SplitOnLine(edge, _) => Reply::Halves([half_edge(edge), half_edge(first)]),
-        SplitOneSide(edge, _) => Reply::Halves([half_edge(edge), half_edge(first + 2)]),
-        SplitBothSides(edge, _) => Reply::Halves([half_edge(edge), half_edge(first + 3)]),
-        Close(_) => Reply::Half(half_edge(first + 1)),
+        Triangle(_, _, _) | SetUp(_, _) => Answer::Done,
+        Append(_) => Answer::Vertex(count as u32),
+        Extend(_, added) | PutBeside(_, added) | Insert(added, _) => Answer::Vertex(added),
+        SplitOnLine(edge, _) => Answer::Halves(edge, first),
+        SplitOneSide(edge, _) => Answer::Halves(edge, first + 2),
+        SplitBothSides(edge, _) => Answer::Halves(edge, first + 3),
+        Close(_) => Answer::Half(first + 1),
     })
-}
-
-// Returns whether two replies are the same, of those that growths get.
-fn is_same_reply<A: Allocator>(answer: &Reply<i64, A>, reply: &Reply<i64>) -> bool {
-    match (answer, reply) {
-        (Reply::Ok, Reply::Ok) => true,
-        (Reply::Vertex(answered), Reply::Vertex(vertex)) => answered == vertex,
-        (Reply::Half(answered), Reply::Half(edge)) => answered == edge,
-        (Reply::Halves(answered), Reply::Halves(halves)) => answered == halves,
-        _ => false,
-    }
 }
 
 fn handed_in(growth: Growth) -> Handed<i64> {
@@ -73,10 +63,10 @@ pub fn carry_out<A: Allocator + Clone>(
     limit: usize,
 ) -> Result<bool, Fail> {
     require!(limit <= NO_LIMIT);
-    let reply = reply_to(dcel, growth)?;
+    let answer = answer_to(dcel, growth)?;
     match apply(dcel, growing::<Global>(growth), limit) {
-        Ok(answer) => {
-            holds(is_same_reply(&answer, &reply), "the reply to a command")?;
+        Ok(reply) => {
+            holds(is_answer(&reply, answer), "the reply to a command")?;
             Ok(true)
         }
         Err(refused) => {

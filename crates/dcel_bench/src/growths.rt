@@ -74,7 +74,7 @@ pub const TRIANGLE_AND_VERTEX: [Growth; 2] = [Triangle(0, 1, 2), Append(3)];
 /// A triangle that vertex 3 cuts into three.
 pub const CUT: [Growth; 3] = [Triangle(0, 1, 2), Append(3), Insert(3, 1)];
 
-/// Whether a call had memory, and if so, what it must return.
+/// Returns whether a call had memory, and if it had, checks what it returned.
 fn is_answered<T: PartialEq + Debug + Drop>(
     answer: Result<T, AllocError>,
     wanted: T,
@@ -266,7 +266,7 @@ pub fn grown_on(alloc: Global, begun: &[Growth], growths: &[Growth]) -> Result<M
     Ok(dcel)
 }
 
-/// A triangle that vertex 3 cuts into three.
+/// Makes a triangle that vertex 3 cuts into three.
 pub fn cut_triangle(alloc: Global) -> Result<Mesh, Fail> {
     grown(alloc, &CUT)
 }

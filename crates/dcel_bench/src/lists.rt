@@ -30,7 +30,7 @@ pub enum Said {
     Swap(u32, u32),
     /// The vertex gets this datum.
     Put(u32, i64),
-    /// At most this many edges are flipped, beginning with these.
+    /// At most this many flips are made, beginning with these edges.
     Legalize(usize, &'static [u32]),
     /// All is taken out.
     Clear,
@@ -126,7 +126,7 @@ fn is_removed(removed: &RemovalResult<i64>, datum: i64, moved: Option<u32>) -> b
 }
 
 /// Returns whether this is the reply.
-fn is_answer<A: Allocator>(reply: &Reply<i64, A>, answer: Answer) -> bool {
+pub fn is_answer<A: Allocator>(reply: &Reply<i64, A>, answer: Answer) -> bool {
     match (reply, answer) {
         (Reply::Ok, Answer::Done) => true,
         (Reply::Vertex(found), Answer::Vertex(index)) => found.index() == index as usize,

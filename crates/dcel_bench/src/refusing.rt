@@ -1,6 +1,7 @@
 //! An allocator that refuses.
 
-use std::alloc::{AllocError, Allocator};
+use crate::meshes::Mesh;
+use std::alloc::{AllocError, Allocator, Global};
 use std::cell::Cell;
 
 /// Requests for memory that are refused, by their numbers from 0 on.
@@ -93,3 +94,9 @@ unsafe impl<B: Allocator> Allocator for Refusing<B> {
         self.inner.deallocate(ptr, size, align);
     }
 }
+
+/// Memory that may be refused.
+pub type Memory<'a> = &'a Refusing<Global>;
+
+/// A mesh in such memory.
+pub type Watched<'a> = Mesh<Memory<'a>>;

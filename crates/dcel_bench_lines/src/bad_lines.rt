@@ -74,9 +74,10 @@ const NOT_TWO_LISTS: [&str; 13] = [
 /// What makes a bad line after `remove` and `degenerate`.
 const NO_VERTEX: [&str; 4] = ["", " 0 1", " /", " 00"];
 
-/// What makes a bad line after `isolate`, and what after `remesh`.
+/// What makes a bad line after `isolate`.
 const NO_LEADER: [&str; 6] = ["", " ", " /", " 3 /", " 3 1 / 3", " 3 01"];
 
+/// What makes a bad line after `remesh`.
 const NOT_THREE_LISTS: [&str; 8] = [
     "",
     " ",

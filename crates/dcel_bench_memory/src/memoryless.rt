@@ -1,16 +1,15 @@
 //! What takes no memory, where every request for it is refused.
 
-use crate::sweep::growing::{CUT, OPEN};
-use crate::sweep::standing::{LINE, Quiet};
-use crate::sweep::{WAYS, Way, make, standing};
-use crate::watched::{Memory, Watched, left_after, made};
-use dcel_bench::checks::{holds, same};
+use crate::sweep::growing::{CLEANED, CUT, OPEN};
+use crate::sweep::standing::LINE;
+use crate::watched::made;
+use dcel_bench::checks::same;
 use dcel_bench::data::{Datum, write_all};
 use dcel_bench::lists::Said;
 use dcel_bench::meshes::{Mesh, half_edge, inner_face, undirected_edge, vertex};
 use dcel_bench::openers::handles;
 use dcel_bench::pictures::picture_of;
-use dcel_bench::refusing::{Refusals, Refusing};
+use dcel_bench::refusing::{Refusals, Refusing, Watched};
 use dcel_bench::require;
 use dcel_bench::talks::{Talk, push_talk, run_lines};
 use spade_dcel::handles::{FixedDirectedEdgeHandle, FixedVertexHandle};
@@ -18,30 +17,6 @@ use spade_dcel::iterators::HullIterator;
 use spade_dcel::operations::{IsolateVertexResult, Room};
 use std::alloc::{AllocError, Allocator, Global};
 use std::test::Fail;
-
-/// Makes the call of a row with every request refused.
-fn check_quiet((mesh, said): Quiet, way: Way, alloc: Global) -> Result<(), Fail> {
-    let memory = Refusing::new(alloc);
-    let mut dcel = made(&memory, mesh)?;
-    let is_made = make(&mut dcel, &memory, (said, &[]), way, Refusals::From(0))?;
-    same(
-        (is_made, memory.requests()),
-        (true, 0),
-        "a call, and its requests",
-    )?;
-    let left = left_after(mesh, &[said], alloc)?;
-    same(picture_of(&dcel, alloc)?, left, "the mesh that is left")
-}
-
-#[test]
-fn calls_take_no_memory(rt: HostRuntime) -> Result<(), Fail> {
-    for row in &standing::ROWS {
-        for way in &WAYS {
-            check_quiet(*row, *way, rt.alloc())?;
-        }
-    }
-    Ok(())
-}
 
 /// Data that are written.
 const WRITTEN: [(Datum, i64); 6] = [
@@ -53,7 +28,7 @@ const WRITTEN: [(Datum, i64); 6] = [
     (Datum::InnerFace(3), 403),
 ];
 
-const MESHES: [&[Said]; 4] = [&[], &CUT, &OPEN, &LINE];
+const MESHES: [&[Said]; 5] = [&[], &CUT, &OPEN, &CLEANED, &LINE];
 
 /// Adds the half edges out of a vertex, from the front and from the back.
 fn push_out_edges<A: Allocator>(
@@ -276,7 +251,7 @@ fn check_read(dcel: &Watched, wanted: &Mesh, lists: &Lists, alloc: Global) -> Re
     )
 }
 
-/// Reads a mesh with every request refused, and writes its data.
+/// Checks that a mesh is read, walked and tested with every request refused.
 fn check_mesh(commands: &[Said], alloc: Global) -> Result<(), Fail> {
     let memory = Refusing::new(alloc);
     let dcel = made(&memory, commands)?;
@@ -320,6 +295,8 @@ const LINES: [Row; 2] = [
             ("out 4", "refused 1 NoSuchVertex"),
             ("origin 11", "vertex 3"),
             ("between 3 2", "half 9"),
+            ("hull", "hull 0 2 4"),
+            ("get 3", "datum 3"),
             ("check", "true"),
             ("insert 3 2", "refused 8 VertexInUse"),
             ("line 0 3", "refused 8 VertexInUse"),
@@ -328,6 +305,9 @@ const LINES: [Row; 2] = [
             ("close 1", "refused 12 NotOuter"),
             ("nothing", "bad line"),
             ("isolate 3 1 3 5", "refused 20 OutOfMemory"),
+            ("remesh 1 3 5 / 3 / 1", "refused 20 OutOfMemory"),
+            ("strip 6 9 4", "refused 20 OutOfMemory"),
+            ("legalize 5 4", "refused 20 OutOfMemory"),
             ("cleanup 3 / 1", "refused 20 OutOfMemory"),
             ("triangle 7 8 9", "refused 20 OutOfMemory"),
             ("words", "F0 0 2 4\nF1 1 6 11\nF2 5 8 7\nF3 3 10 9"),
@@ -357,12 +337,12 @@ const LINES: [Row; 2] = [
     ),
 ];
 
-/// How many requests the lines of a talk make, with the one for the first mesh.
+/// Returns how many requests the lines of a talk make, with the one for the first mesh.
 fn requests_of(talk: Talk, alloc: Global) -> Result<u64, Fail> {
     let memory = Refusing::new(alloc);
     let (mut lines, mut replies) = (Vec::new(alloc), Vec::new(alloc));
     push_talk(&mut lines, &mut replies, talk)?;
-    let _ = run_lines(&memory, &lines, alloc);
+    run_lines(&memory, &lines, alloc).ended?;
     Ok(memory.requests())
 }
 

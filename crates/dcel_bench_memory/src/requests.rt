@@ -1,10 +1,9 @@
 //! How seldom a line of many edges asks for memory.
 
-use crate::watched::{Memory, Watched};
 use dcel_bench::checks::{holds, same};
 use dcel_bench::growths::Growth::{Append, Extend};
 use dcel_bench::growths::{FIRST_EDGE, Growth, grow, grow_all};
-use dcel_bench::refusing::{Refusals, Refusing};
+use dcel_bench::refusing::{Memory, Refusals, Refusing, Watched};
 use spade_dcel::operations::new;
 use std::test::Fail;
 

@@ -17,7 +17,7 @@ mod whole;
 
 use crate::sweep::flips::flip_all;
 use crate::sweep::standing::Quiet;
-use crate::watched::{MANY, Memory, Watched, fitted, left_after};
+use crate::watched::{MANY, fitted, left_after};
 use dcel_bench::checks::{holds, same};
 use dcel_bench::data::{Datum, write};
 use dcel_bench::growths::Growth::{
@@ -33,7 +33,7 @@ use dcel_bench::meshes::{NO_LIMIT, flip, swap, vertex};
 use dcel_bench::openers::Opener::{Isolate, Remesh, Strip};
 use dcel_bench::openers::{handles, lists_of, open_by};
 use dcel_bench::pictures::{Picture, picture_of};
-use dcel_bench::refusing::{Refusals, Refusing};
+use dcel_bench::refusing::{Memory, Refusals, Refusing, Watched};
 use dcel_bench::require;
 use dcel_commands::commands::{Command, Refusal, Refused, apply};
 use spade_dcel::handles::FixedUndirectedEdgeHandle;

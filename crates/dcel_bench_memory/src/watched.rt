@@ -5,7 +5,7 @@ use dcel_bench::data::write_distinct;
 use dcel_bench::lists::{Said, commands_of};
 use dcel_bench::meshes::{Mesh, NO_LIMIT};
 use dcel_bench::pictures::{Picture, picture_of};
-use dcel_bench::refusing::Refusing;
+use dcel_bench::refusing::{Memory, Watched};
 use dcel_commands::commands::apply_all;
 use spade_dcel::operations::new;
 use std::alloc::{Allocator, Global};
@@ -13,12 +13,6 @@ use std::test::Fail;
 
 /// More requests for memory than any call here makes.
 pub const MANY: u64 = 40;
-
-/// Memory that may be refused.
-pub type Memory<'a> = &'a Refusing<Global>;
-
-/// A mesh in such memory.
-pub type Watched<'a> = Mesh<Memory<'a>>;
 
 /// Replaces the mesh by a clone, which has no spare room.
 ///
@@ -40,7 +34,7 @@ pub fn made<A: Allocator + Copy>(memory: A, commands: &[Said]) -> Result<Mesh<A>
     Ok(dcel)
 }
 
-/// Makes a mesh by these commands, which has no spare room.
+/// Makes a mesh without spare room by these commands.
 pub fn fitted<'a>(memory: Memory<'a>, commands: &[Said]) -> Result<Watched<'a>, Fail> {
     let mut dcel = made(memory, commands)?;
     fit(&mut dcel, memory)?;

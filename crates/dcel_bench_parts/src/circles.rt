@@ -1,7 +1,8 @@
 //! Legalization by circles.
 
+use dcel_bench::require;
 use dcel_circles::{is_circled, is_delaunay, is_plane, legalize_by_circles};
-use dcel_predicates::Point;
+use dcel_delaunay::{Point, point};
 use spade_dcel::dcel::Dcel;
 use spade_dcel::handles::{FixedDirectedEdgeHandle, FixedUndirectedEdgeHandle};
 use spade_dcel::operations::{
@@ -9,20 +10,7 @@ use spade_dcel::operations::{
 };
 use std::test::Fail;
 
-// Ends the test where a condition fails, which is known from there on.
-macro_rules! require {
-    ($condition:expr) => {
-        if !$condition {
-            return Err(Fail::from("a condition fails"));
-        }
-    };
-}
-
-fn point(x: i64, y: i64) -> Result<Point, &'static str> {
-    Point::new(x, y).ok_or("out of range")
-}
-
-// Returns a kite whose edge 0 leads along its length, from (0, 0) to (8, 0).
+/// Returns a kite whose edge 0 leads along its length, from (0, 0) to (8, 0).
 fn kite(rt: HostRuntime) -> Result<Dcel<Point>, Fail> {
     let corners = (point(8, 0)?, point(0, 0)?, point(4, 2)?);
     let mut dcel: Dcel<Point> = new_triangle(rt.alloc(), corners)?;

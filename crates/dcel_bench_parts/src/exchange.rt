@@ -1,69 +1,20 @@
 //! Faces of surfaces that everybody knows, and what is wrong with them.
 
+use crate::faces::{Row, check_lists, check_made, data_for, faces_of, vertices_of};
+use dcel_bench::checks::same;
+use dcel_bench::require;
 use dcel_exchange::{FacesError, LinkLists, from_faces, link_lists, links, with_data};
 use spade_dcel::dcel::{Dcel, RemovalState};
-use spade_dcel::operations::{EdgeData, Fault, MeshData};
-use std::alloc::{AllocError, Global};
-use std::process::Abort;
+use spade_dcel::operations::Fault;
+use std::alloc::Global;
 use std::test::Fail;
 
-/// Faces over this many vertices, and the half edges after each, or the reason that is wanted.
-#[derive(Clone, Copy, Drop)]
-struct Row {
-    faces: &'static [&'static [u32]],
-    vertices: u32,
-    wanted: Result<&'static [u32], FacesError>,
-}
-
-/// Returns the faces as vectors.
-fn faces_of(alloc: Global, row: Row) -> Result<Vec<Vec<u32>>, AllocError> {
-    let mut faces = Vec::new(alloc);
-    for corners in row.faces {
-        let mut face = Vec::new(alloc);
-        face.extend_from_slice(corners)?;
-        faces.push(face)?;
-    }
-    Ok(faces)
-}
-
-/// Returns the vertices, with their numbers as data.
-fn vertices_of(alloc: Global, row: Row) -> Result<Vec<u32>, AllocError> {
-    let mut vertices = Vec::new(alloc);
-    for vertex in 0..row.vertices {
-        vertices.push(vertex)?;
-    }
-    Ok(vertices)
-}
-
-/// Returns the links of the mesh that is made, or the reason why none is.
-fn told(alloc: Global, row: Row) -> Result<Result<LinkLists, FacesError>, AllocError> {
-    let faces = faces_of(alloc, row)?;
-    let vertices = vertices_of(alloc, row)?;
-    let made: Result<Dcel<u32>, _> = from_faces(alloc, vertices, &faces);
-    match made {
-        Ok(dcel) => {
-            if dcel.removal_state() != RemovalState::Closed {
-                return Err(AllocError);
-            }
-            Ok(Ok(link_lists(alloc, &dcel)?))
-        }
-        Err(refused) => {
-            if refused.back.len() != row.vertices as usize {
-                return Err(AllocError);
-            }
-            Ok(Err(refused.reason))
-        }
-    }
-}
-
-fn check(rt: &impl Abort, alloc: Global, rows: &[Row]) -> Result<(), Fail> {
+/// Checks what comes of the faces of each row.
+fn check(alloc: Global, rows: &[Row]) -> Result<(), Fail> {
     for row in rows {
-        match (told(alloc, *row)?, row.wanted) {
-            (Ok(lists), Ok(next)) => assert!(rt; lists.next.as_slice() == next),
-            (Err(reason), Err(wanted)) => assert!(rt; reason == wanted, "{reason}"),
-            (Ok(_), Err(_)) => assert!(rt; false, "made"),
-            (Err(reason), Ok(_)) => assert!(rt; false, "{reason}"),
-        }
+        let faces = faces_of(row, alloc)?;
+        let vertices = vertices_of(row, alloc)?;
+        check_made(from_faces(alloc, vertices, &faces), row, alloc)?;
     }
     Ok(())
 }
@@ -109,7 +60,6 @@ fn faces_become_meshes(rt: HostRuntime) -> Result<(), Fail> {
         wanted: Ok(&[]),
     };
     check(
-        &rt,
         rt.alloc(),
         &[
             triangle,
@@ -125,7 +75,6 @@ fn faces_become_meshes(rt: HostRuntime) -> Result<(), Fail> {
 #[test]
 fn faces_that_do_not_fit_are_told(rt: HostRuntime) -> Result<(), Fail> {
     check(
-        &rt,
         rt.alloc(),
         &[
             refused(&[&[0, 1, 2], &[2, 1]], 3, FacesError::FewCorners(1)),
@@ -198,7 +147,6 @@ fn other_surfaces_are_told(rt: HostRuntime) -> Result<(), Fail> {
         FacesError::Links(Fault::NotSphere(1)),
     );
     check(
-        &rt,
         rt.alloc(),
         &[
             sphere,
@@ -211,108 +159,49 @@ fn other_surfaces_are_told(rt: HostRuntime) -> Result<(), Fail> {
     )
 }
 
-/// Returns a mesh of two triangles, or None if they are refused.
-fn two_triangles(alloc: Global) -> Result<Option<Dcel<u32>>, AllocError> {
-    let mut faces = Vec::new(alloc);
-    faces.push(vec![in alloc; 0, 1, 2]?)?;
-    faces.push(vec![in alloc; 2, 1, 3]?)?;
-    let vertices = vec![in alloc; 10, 11, 12, 13]?;
-    match from_faces(alloc, vertices, &faces) {
-        Ok(dcel) => Ok(Some(dcel)),
-        Err(_) => Ok(None),
-    }
-}
-
-/// Returns whether a mesh comes back from its links over other data, and its links are those of the
-/// lists.
-fn comes_back(alloc: Global, dcel: &Dcel<u32>) -> Result<bool, AllocError> {
-    if dcel.removal_state() != RemovalState::Closed {
-        return Ok(false);
-    }
-    let lists = link_lists(alloc, dcel)?;
-    let mut number = 0;
+/// Checks that the links, one after another, are those of the lists.
+fn check_links(dcel: &Dcel<u32>, lists: &LinkLists) -> Result<(), Fail> {
+    require!(dcel.removal_state() == RemovalState::Closed);
+    let mut number: usize = 0;
     for link in links(dcel) {
-        if lists.next.get(number) != Some(&link.next)
-            || lists.origin.get(number) != Some(&link.origin)
-            || lists.face.get(number) != Some(&link.face)
-        {
-            return Ok(false);
-        }
+        let found = [Some(link.next), Some(link.origin), Some(link.face)];
+        let wanted = [
+            lists.next.get(number).copied(),
+            lists.origin.get(number).copied(),
+            lists.face.get(number).copied(),
+        ];
+        same(found, wanted, format_args!("links of half edge {number}"))?;
         number = number.wrapping_add(1);
     }
-    if number != lists.next.len() {
-        return Ok(false);
-    }
-    let mut vertices = Vec::new(alloc);
-    for _vertex in dcel.fixed_vertices() {
-        vertices.push(true)?;
-    }
-    let mut edges = Vec::new(alloc);
-    for _edge in 0..dcel.num_undirected_edges() {
-        edges.push(EdgeData {
-            normalized: (),
-            reversed: (),
-            undirected: 7,
-        })?;
-    }
-    let mut faces = Vec::new(alloc);
-    for _face in dcel.fixed_faces() {
-        faces.push(())?;
-    }
-    let given = MeshData {
-        vertices,
-        edges,
-        faces,
-    };
-    same_again(alloc, dcel, &lists, given)
+    same(number, lists.next.len(), "half edges")
 }
 
-/// Returns whether the mesh made again over these data has the same links and anchors.
-fn same_again(
-    alloc: Global,
-    dcel: &Dcel<u32>,
-    lists: &LinkLists,
-    given: MeshData<bool, (), u8, ()>,
-) -> Result<bool, AllocError> {
-    if dcel.removal_state() != RemovalState::Closed
-        || given.vertices.len() != dcel.num_vertices()
-        || given.edges.len() != dcel.num_undirected_edges()
-        || given.faces.len() != dcel.num_faces()
-    {
-        return Ok(false);
-    }
+/// Checks that the mesh made again over other data has the same links and anchors.
+fn check_made_again(dcel: &Dcel<u32>, lists: &LinkLists, alloc: Global) -> Result<(), Fail> {
+    let given = data_for(dcel, alloc)?;
+    require!(dcel.removal_state() == RemovalState::Closed);
+    require!(given.vertices.len() == dcel.num_vertices());
+    require!(given.edges.len() == dcel.num_undirected_edges());
+    require!(given.faces.len() == dcel.num_faces());
     match with_data(alloc, dcel, given) {
-        Ok(again) => has_links(alloc, &again, lists),
-        Err(_) => Ok(false),
+        Ok(again) => check_lists(&again, lists, alloc),
+        Err(_) => Err(Fail::new("the data for a mesh are refused")),
     }
-}
-
-/// Returns whether no removal is open, and links and anchors are those of the lists.
-fn has_links(
-    alloc: Global,
-    dcel: &Dcel<bool, (), u8, ()>,
-    lists: &LinkLists,
-) -> Result<bool, AllocError> {
-    if dcel.removal_state() != RemovalState::Closed {
-        return Ok(false);
-    }
-    let own = link_lists(alloc, dcel)?;
-    Ok(
-        own.next.as_slice() == lists.next.as_slice()
-            && own.origin.as_slice() == lists.origin.as_slice()
-            && own.face.as_slice() == lists.face.as_slice()
-            && own.vertex_anchors.as_slice() == lists.vertex_anchors.as_slice()
-            && own.face_anchors.as_slice() == lists.face_anchors.as_slice(),
-    )
 }
 
 #[test]
 fn meshes_come_back(rt: HostRuntime) -> Result<(), Fail> {
-    match two_triangles(rt.alloc())? {
-        Some(dcel) => assert!(rt; comes_back(rt.alloc(), &dcel)?),
-        None => assert!(rt; false),
-    }
-    Ok(())
+    let alloc = rt.alloc();
+    let mut faces = Vec::new(alloc);
+    faces.push(vec![in alloc; 0, 1, 2]?)?;
+    faces.push(vec![in alloc; 2, 1, 3]?)?;
+    let Ok(dcel) = from_faces(alloc, vec![in alloc; 10, 11, 12, 13]?, &faces) else {
+        return Err(Fail::new("two triangles are refused"));
+    };
+    require!(dcel.removal_state() == RemovalState::Closed);
+    let lists = link_lists(alloc, &dcel)?;
+    check_links(&dcel, &lists)?;
+    check_made_again(&dcel, &lists, alloc)
 }
 
 #[test]

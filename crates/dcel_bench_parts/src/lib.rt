@@ -9,7 +9,11 @@ mod circles;
 #[cfg(test)]
 mod delaunay;
 #[cfg(test)]
+mod delaunay_memory;
+#[cfg(test)]
 mod exchange;
+#[cfg(test)]
+mod faces;
 #[cfg(test)]
 mod handles;
 #[cfg(test)]

@@ -1,6 +1,6 @@
 //! Meshes made from lists of links, and lists that are refused.
 
-use dcel_bench::checks::{holds, same};
+use dcel_bench::checks::same;
 use dcel_bench::growths::cut_triangle;
 use dcel_bench::meshes::{
     CUT_TRIANGLE, Mesh, check_adjacent_edges, check_links, check_out_edges, counts,
@@ -216,18 +216,26 @@ fn check_refused(row: &Row, alloc: Global) -> Result<(), Fail> {
         Ok(_) => Err(Fail::new("links of no mesh are taken")),
         Err(refused) => {
             same(refused.reason, row.reason, "the reason")?;
-            check_back(&refused.back, row.counts)
+            check_back(&refused.back, row.counts, alloc)
         }
     }
 }
 
-/// Checks that these are the data of so many vertices, edges and faces.
-fn check_back(back: &Data, [vertices, edges, faces]: [u32; 3]) -> Result<(), Fail> {
-    same(back.vertices.len(), vertices as usize, "vertices")?;
-    same(back.edges.len(), edges as usize, "edges")?;
-    same(back.faces.len(), faces as usize, "faces")?;
-    let last = back.faces.last().is_some_and(|datum| *datum >= 400);
-    holds(last, "the data of the last face")
+/// Checks that these are the data that were given of so many vertices, edges and faces.
+fn check_back(back: &Data, counts: [u32; 3], alloc: Global) -> Result<(), Fail> {
+    let given = data(alloc, counts)?;
+    same(&back.vertices, &given.vertices, "data of vertices")?;
+    same(&back.faces, &given.faces, "data of faces")?;
+    same(back.edges.len(), given.edges.len(), "data of edges")?;
+    for (found, wanted) in back.edges.iter().zip(&given.edges) {
+        same(data_of(found), data_of(wanted), "data of an edge")?;
+    }
+    Ok(())
+}
+
+/// Returns the data of both half edges and of the edge.
+fn data_of(edge: &EdgeData<i64, i64>) -> [i64; 3] {
+    [edge.normalized, edge.reversed, edge.undirected]
 }
 
 #[test]
@@ -253,7 +261,7 @@ fn check_anchored(row: &Anchored, alloc: Global) -> Result<(), Fail> {
         }
         Err(refused) => {
             same(Some(refused.reason), row.reason, "the reason")?;
-            check_back(&refused.back, row.counts)
+            check_back(&refused.back, row.counts, alloc)
         }
     }
 }

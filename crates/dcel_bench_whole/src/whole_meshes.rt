@@ -9,15 +9,12 @@ use dcel_bench::meshes::{
     CUT_TRIANGLE, Links, Mesh, adjacent_edge, check_links, counts, out_edge, vertex,
 };
 use dcel_bench::pictures::{Picture, picture_of};
-use dcel_bench::refusing::{Refusals, Refusing};
+use dcel_bench::refusing::{Memory, Refusals, Refusing, Watched};
 use dcel_bench::require;
 use spade_dcel::operations::{NoMemory, new, new_with_fixed_vertices};
 use std::alloc::{AllocError, Allocator, Global};
 use std::cell::Cell;
 use std::test::Fail;
-
-/// A mesh whose memory may be refused.
-type Watched<'a> = Mesh<&'a Refusing<Global>>;
 
 /// Returns the result, or that there was no memory.
 fn made<T, B: Drop>(made: Result<T, NoMemory<B>>) -> Result<T, AllocError> {
@@ -155,9 +152,6 @@ fn check_fixed<A: Allocator + Copy>(dcel: Mesh<A>, alloc: A) -> Result<(), Fail>
     check_data(dcel, alloc, [5_06_07, 0])
 }
 
-/// Memory that may be refused.
-type Watching<'a> = &'a Refusing<Global>;
-
 #[test]
 fn a_mesh_is_made_of_its_vertices(rt: HostRuntime) -> Result<(), Fail> {
     let alloc = rt.alloc();
@@ -173,7 +167,7 @@ fn a_mesh_is_made_of_its_vertices(rt: HostRuntime) -> Result<(), Fail> {
 }
 
 /// Returns a triangle that vertex 3 cuts into three.
-fn cut(memory: Watching<'_>) -> Result<Watched<'_>, Fail> {
+fn cut(memory: Memory<'_>) -> Result<Watched<'_>, Fail> {
     let mut dcel: Watched = new(memory)?;
     grow_all(&mut dcel, memory, &CUT)?;
     Ok(dcel)
@@ -198,7 +192,7 @@ fn check_cleared<A: Allocator>(dcel: &Mesh<A>) -> Result<(), Fail> {
 }
 
 /// Clears the mesh, which makes no request, and grows it again in the places that were left.
-fn check_grown_again<'a>(dcel: &mut Watched<'a>, memory: Watching<'a>) -> Result<(), Fail> {
+fn check_grown_again<'a>(dcel: &mut Watched<'a>, memory: Memory<'a>) -> Result<(), Fail> {
     memory.refuse(Refusals::From(0));
     dcel.clear();
     check_cleared(dcel)?;
@@ -249,7 +243,7 @@ const ROOM: [([usize; 3], Growth); 3] = [
 /// Reserves room in an empty mesh, which then grows without a request. The next call makes one.
 fn check_room<'a>(
     dcel: &mut Watched<'a>,
-    memory: Watching<'a>,
+    memory: Memory<'a>,
     (room, next): ([usize; 3], Growth),
 ) -> Result<(), Fail> {
     holds(reserve(dcel, room)?, "memory for room")?;

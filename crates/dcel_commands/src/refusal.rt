@@ -13,7 +13,7 @@ pub enum Refusal {
     NoSuchFace,
     /// A removal is open.
     RemovalOpen,
-    /// No removal is open.
+    /// No removal is open that is still to be cleaned up.
     NoRemoval,
     /// An element was given up.
     GivenUp,
@@ -39,7 +39,7 @@ pub enum Refusal {
     BadStrip,
     /// The lists aren't those of the open removal.
     WrongLists,
-    /// The vertex isn't the end or the middle of a path.
+    /// The mesh is neither one vertex nor a path.
     NotPath,
     /// The limit or the range of numbers is passed.
     NoRoom,

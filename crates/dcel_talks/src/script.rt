@@ -86,7 +86,7 @@ impl Script {
         Ok(written)
     }
 
-    /// Fails at the first line in which the texts differ.
+    /// Fails at the first line in which the texts differ, or if one of them ends before the other.
     fn compare(&self, alloc: Global, found: &[u8], wanted: &[u8]) -> Result<()> {
         let found = String::from_utf8_lossy(alloc, found)?;
         let wanted = String::from_utf8_lossy(alloc, wanted)?;
@@ -95,6 +95,11 @@ impl Script {
                 bail!("{}: '{found}', and not '{wanted}'", self.name);
             }
         }
+        ensure!(
+            found.len() == wanted.len(),
+            "{}: a text ends early",
+            self.name
+        );
         Ok(())
     }
 }

@@ -1,15 +1,15 @@
 //! Replies to commands after one that was refused memory, on a mesh without spare room.
 //!
-//! Lines can't tell it of a triangle, which has room for a vertex more and for more edges.
+//! Lines can't show this on a triangle, which has room for one more vertex and more edges.
 
 use crate::sweep::{Way, make};
-use crate::watched::{Watched, fitted};
+use crate::watched::fitted;
 use dcel_bench::checks::same;
 use dcel_bench::growths::Growth::{Append, Insert, Triangle};
 use dcel_bench::lists::Said::Grow;
 use dcel_bench::lists::{Said, command_of};
 use dcel_bench::meshes::{NO_LIMIT, TRIANGLE, check_links, counts, vertex};
-use dcel_bench::refusing::{Refusals, Refusing};
+use dcel_bench::refusing::{Refusals, Refusing, Watched};
 use dcel_commands::commands::{Handed, Refusal, Refused, apply};
 use std::alloc::Global;
 use std::test::Fail;

@@ -1,8 +1,9 @@
-//! Legalization: of the requests that the list makes before flips one is refused after another. The
-//! flips before it stand, and no other.
+//! Legalization: each request that the list makes before a flip is refused in turn. The flips
+//! before it stand, and no others.
 
 use crate::sweep::opening::CUT;
-use crate::watched::{Memory, Watched, made};
+use crate::sweep::standing::OPEN_FOUR;
+use crate::watched::made;
 use dcel_bench::checks::same;
 use dcel_bench::growths::Growth::{Append, Insert, Triangle};
 use dcel_bench::lists::Said::{Grow, Legalize};
@@ -10,7 +11,7 @@ use dcel_bench::lists::{Said, command_of};
 use dcel_bench::meshes::NO_LIMIT;
 use dcel_bench::openers::handles;
 use dcel_bench::pictures::picture_of;
-use dcel_bench::refusing::{Refusals, Refusing};
+use dcel_bench::refusing::{Memory, Refusals, Refusing, Watched};
 use dcel_commands::commands::{Reply, apply};
 use dcel_commands::legalize::{Legalized, legalize_edges};
 use dcel_legalize::legalize_by_number;
@@ -44,7 +45,7 @@ const FINE: [Said; 11] = [
     Grow(Insert(7, 8)),
 ];
 
-const ROWS: [Row; 3] = [
+const ROWS: [Row; 4] = [
     Row {
         mesh: &CUT,
         edges: &[4],
@@ -55,6 +56,12 @@ const ROWS: [Row; 3] = [
         mesh: &CUT,
         edges: &[3],
         flips: &[0],
+    },
+    // Edge 3 is given up.
+    Row {
+        mesh: &OPEN_FOUR,
+        edges: &[3, 4],
+        flips: &[0, 1],
     },
     // The list has room for 18 edges, and then for four times as many.
     Row {

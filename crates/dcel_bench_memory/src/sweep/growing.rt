@@ -41,7 +41,7 @@ pub const OPEN: [Said; 5] = [
 ];
 
 /// The same, but the removal is cleaned up, and only vertex 3 is still given up.
-const CLEANED: [Said; 6] = [
+pub const CLEANED: [Said; 6] = [
     Grow(Triangle(7, -8, 9)),
     Grow(Append(10)),
     Grow(Insert(3, 1)),
@@ -59,7 +59,24 @@ const REGION: [Said; 5] = [
     Open(Remesh(&[1, 11, 8, 5], &[3], &[1, 2])),
 ];
 
-pub const ROWS: [Row; 19] = [
+/// A triangle with a line at a corner and vertex 5 beside it. Vertex 4, which cut the triangle, is
+/// given up; that removal is open.
+const SPUR: [Said; 12] = [
+    Grow(Append(7)),
+    Grow(Append(-8)),
+    Grow(SetUp(0, 1)),
+    Grow(Append(9)),
+    Grow(Extend(1, 2)),
+    Grow(Append(10)),
+    Grow(Extend(2, 3)),
+    Grow(Close(0)),
+    Grow(Append(11)),
+    Grow(Insert(4, 1)),
+    Grow(Append(12)),
+    Open(Isolate(4, &[6, 3, 0])),
+];
+
+pub const ROWS: [Row; 23] = [
     Row {
         mesh: &[],
         said: Grow(Append(-9)),
@@ -173,6 +190,30 @@ pub const ROWS: [Row; 19] = [
     Row {
         mesh: &CLEANED,
         said: Grow(SplitOneSide(1, 4)),
+        requests: 7,
+        back: &[],
+    },
+    Row {
+        mesh: &SPUR,
+        said: Grow(Extend(3, 5)),
+        requests: 6,
+        back: &[],
+    },
+    Row {
+        mesh: &SPUR,
+        said: Grow(SplitOnLine(4, 5)),
+        requests: 6,
+        back: &[],
+    },
+    Row {
+        mesh: &SPUR,
+        said: Grow(Close(1)),
+        requests: 7,
+        back: &[],
+    },
+    Row {
+        mesh: &SPUR,
+        said: Grow(PutBeside(7, 5)),
         requests: 7,
         back: &[],
     },

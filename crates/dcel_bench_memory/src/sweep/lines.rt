@@ -323,6 +323,17 @@ const TOLD: [Told; 3] = [
     },
 ];
 
+/// Returns so many of the first lines.
+fn first_lines(lines: &[&str], count: usize, alloc: Global) -> Result<Vec<u8>, AllocError> {
+    let mut text = Vec::new(alloc);
+    for (place, line) in lines.iter().enumerate() {
+        if place < count {
+            push_line(&mut text, line)?;
+        }
+    }
+    Ok(text)
+}
+
 /// Returns the reply to `words` after the first lines, with these requests refused.
 fn words_after(
     lines: &[&str],
@@ -330,12 +341,7 @@ fn words_after(
     refusals: Refusals,
     alloc: Global,
 ) -> Result<Vec<u8>, Fail> {
-    let mut text = Vec::new(alloc);
-    for (place, line) in lines.iter().enumerate() {
-        if place < count {
-            push_line(&mut text, line)?;
-        }
-    }
+    let mut text = first_lines(lines, count, alloc)?;
     let (replies, _) = run(&text, refusals, alloc)?;
     push_line(&mut text, "words")?;
     let (written, _) = run(&text, refusals, alloc)?;
@@ -358,12 +364,7 @@ fn check_words(told: &Told, refusals: Refusals, alloc: Global) -> Result<(), Fai
 
 /// Returns how many requests the first lines make, with the one for the first mesh.
 fn requests_before(lines: &[&str], count: usize, alloc: Global) -> Result<u64, Fail> {
-    let mut text = Vec::new(alloc);
-    for (place, line) in lines.iter().enumerate() {
-        if place < count {
-            push_line(&mut text, line)?;
-        }
-    }
+    let text = first_lines(lines, count, alloc)?;
     let (_, requests) = run(&text, Refusals::None, alloc)?;
     Ok(requests)
 }

@@ -1,11 +1,11 @@
 //! Meshes made of links, alone or with anchors, with each request refused in turn.
 
-use crate::watched::{MANY, Memory, Watched};
+use crate::watched::MANY;
 use dcel_bench::checks::same;
 use dcel_bench::pictures::{Picture, picture_of};
-use dcel_bench::refusing::{Refusals, Refusing};
+use dcel_bench::refusing::{Memory, Refusals, Refusing, Watched};
 use spade_dcel::operations::{
-    Anchors, EdgeData, LinksError, MeshData, RefusedLinks, from_anchored_links, from_links,
+    Anchors, EdgeData, Fault, LinksError, MeshData, RefusedLinks, from_anchored_links, from_links,
 };
 use std::alloc::{AllocError, Global};
 use std::test::Fail;
@@ -29,7 +29,8 @@ fn name(call: Call) -> &'static str {
 
 type Data<'a> = MeshData<i64, i64, i64, i64, Memory<'a>>;
 
-/// A call, its links, the data that are given with them, and how many requests for memory it makes.
+/// A call, its links, the data that are given with them, how many requests for memory it makes, and
+/// the reason if the links are refused when there is memory.
 struct Row {
     call: Call,
     next: &'static [u32],
@@ -39,9 +40,10 @@ struct Row {
     edges: &'static [[i64; 3]],
     faces: &'static [i64],
     requests: u64,
+    refused: Option<LinksError>,
 }
 
-const ROWS: [Row; 3] = [
+const ROWS: [Row; 6] = [
     Row {
         call: FromLinks,
         next: &[2, 5, 4, 1, 0, 3],
@@ -51,6 +53,7 @@ const ROWS: [Row; 3] = [
         edges: &[[1, 2, 3], [4, 5, 6], [7, 8, 9]],
         faces: &[10, 11],
         requests: 15,
+        refused: None,
     },
     Row {
         call: FromAnchoredLinks(&[Some(0), Some(2), Some(3)], &[Some(2), Some(1)]),
@@ -61,6 +64,7 @@ const ROWS: [Row; 3] = [
         edges: &[[1, 2, 3], [4, 5, 6], [7, 8, 9]],
         faces: &[10, 11],
         requests: 15,
+        refused: None,
     },
     Row {
         call: FromLinks,
@@ -71,6 +75,43 @@ const ROWS: [Row; 3] = [
         edges: &[],
         faces: &[10],
         requests: 4,
+        refused: None,
+    },
+    // Half edge 4 lies in face 1, and half edge 2, the one before, in face 0.
+    Row {
+        call: FromLinks,
+        next: &[2, 5, 4, 1, 0, 3],
+        origin: &[0, 1, 1, 2, 2, 0],
+        face: &[0, 1, 0, 1, 1, 1],
+        vertices: &[5, -6, 7],
+        edges: &[[1, 2, 3], [4, 5, 6], [7, 8, 9]],
+        faces: &[10, 11],
+        requests: 1,
+        refused: Some(LinksError::Links(Fault::LeavesFace(2))),
+    },
+    // A torus of one hexagon.
+    Row {
+        call: FromLinks,
+        next: &[3, 2, 5, 4, 1, 0],
+        origin: &[0, 1, 0, 1, 0, 1],
+        face: &[0, 0, 0, 0, 0, 0],
+        vertices: &[5, -6],
+        edges: &[[1, 2, 3], [4, 5, 6], [7, 8, 9]],
+        faces: &[10],
+        requests: 7,
+        refused: Some(LinksError::Links(Fault::NotSphere(1))),
+    },
+    // Half edge 0 starts at another vertex.
+    Row {
+        call: FromAnchoredLinks(&[Some(0), Some(0), Some(3)], &[Some(2), Some(1)]),
+        next: &[2, 5, 4, 1, 0, 3],
+        origin: &[0, 1, 1, 2, 2, 0],
+        face: &[0, 1, 0, 1, 0, 1],
+        vertices: &[5, -6, 7],
+        edges: &[[1, 2, 3], [4, 5, 6], [7, 8, 9]],
+        faces: &[10, 11],
+        requests: 7,
+        refused: Some(LinksError::VertexAnchor(1)),
     },
 ];
 
@@ -109,13 +150,11 @@ fn check_data(data: &Data, row: &Row) -> Result<(), Fail> {
     Ok(())
 }
 
+/// What making a mesh comes to.
+type Outcome<'a> = Result<Watched<'a>, RefusedLinks<Data<'a>>>;
+
 /// Makes the mesh of a row with these requests refused.
-fn make<'a>(
-    memory: Memory<'a>,
-    row: &Row,
-    data: Data<'a>,
-    refusals: Refusals,
-) -> Result<Watched<'a>, RefusedLinks<Data<'a>>> {
+fn make<'a>(memory: Memory<'a>, row: &Row, data: Data<'a>, refusals: Refusals) -> Outcome<'a> {
     memory.refuse(refusals);
     match row.call {
         FromLinks => from_links(memory, row.next, row.origin, row.face, data),
@@ -126,39 +165,54 @@ fn make<'a>(
     }
 }
 
-/// Makes the mesh of a row if nothing is refused.
-fn left(row: &Row, alloc: Global) -> Result<Picture, Fail> {
+/// Returns what the mesh of a row is like if nothing is refused, or None if its links are.
+fn left(row: &Row, alloc: Global) -> Result<Option<Picture>, Fail> {
     let memory = Refusing::new(alloc);
     let data = data(&memory, row)?;
     match make(&memory, row, data, Refusals::None) {
-        Ok(made) => picture_of(&made, alloc),
-        Err(_) => Err(Fail::new("the links of a row are refused")),
+        Ok(made) => Ok(Some(picture_of(&made, alloc)?)),
+        Err(_) => Ok(None),
+    }
+}
+
+/// Checks that where there was memory the mesh is made, or its links are refused for the row's
+/// reason.
+fn check_made(
+    outcome: Outcome,
+    row: &Row,
+    left: &Option<Picture>,
+    alloc: Global,
+) -> Result<(), Fail> {
+    let call = name(row.call);
+    match outcome {
+        Ok(made) => {
+            same(None, row.refused, call)?;
+            same(&Some(picture_of(&made, alloc)?), left, call)
+        }
+        Err(refused) => {
+            same(Some(refused.reason), row.refused, call)?;
+            check_data(&refused.back, row)
+        }
     }
 }
 
 /// Makes the mesh of a row with the request of this number refused, and again of the data that come
 /// back if that request came. Returns whether it came.
-fn is_refused(row: &Row, number: u64, left: &Picture, alloc: Global) -> Result<bool, Fail> {
-    let call = name(row.call);
+fn is_refused(row: &Row, number: u64, left: &Option<Picture>, alloc: Global) -> Result<bool, Fail> {
     let memory = Refusing::new(alloc);
     let data = data(&memory, row)?;
-    match make(&memory, row, data, Refusals::One(number)) {
-        Ok(made) => {
-            same(
-                memory.requests() > number,
-                false,
-                format_args!("{call}: request {number}"),
-            )?;
-            same(&picture_of(&made, alloc)?, left, call)?;
-            Ok(false)
-        }
+    let outcome = make(&memory, row, data, Refusals::One(number));
+    if memory.requests() <= number {
+        check_made(outcome, row, left, alloc)?;
+        return Ok(false);
+    }
+    match outcome {
+        Ok(_) => Err(Fail::new("a mesh is made though a request was refused")),
         Err(refused) => {
-            same(refused.reason, LinksError::OutOfMemory, call)?;
+            same(refused.reason, LinksError::OutOfMemory, name(row.call))?;
             check_data(&refused.back, row)?;
-            match make(&memory, row, refused.back, Refusals::None) {
-                Ok(made) => same(&picture_of(&made, alloc)?, left, call)?,
-                Err(_) => return Err(Fail::new("no memory for the data that came back")),
-            }
+            let again = make(&memory, row, refused.back, Refusals::None);
+            check_made(again, row, left, alloc)?;
             Ok(true)
         }
     }

@@ -2,7 +2,7 @@
 //! before it carried out.
 
 use crate::sweep::{WAYS, Way, make};
-use crate::watched::{MANY, Memory, Watched, fitted, left_after};
+use crate::watched::{MANY, fitted, left_after};
 use dcel_bench::checks::{holds, same};
 use dcel_bench::growths::Growth::{Append, Insert, Triangle};
 use dcel_bench::lists::Answer::{Done, Opened, Removed, Vertex};
@@ -11,7 +11,7 @@ use dcel_bench::lists::{Answer, Said, check_replies, commands_of, handed};
 use dcel_bench::meshes::NO_LIMIT;
 use dcel_bench::openers::Opener::Isolate;
 use dcel_bench::pictures::picture_of;
-use dcel_bench::refusing::{Refusals, Refusing};
+use dcel_bench::refusing::{Memory, Refusals, Refusing, Watched};
 use dcel_commands::commands::{Refusal, Refused, Reply, StoppedAt, apply_all};
 use std::alloc::Global;
 use std::test::Fail;

@@ -2,15 +2,16 @@
 
 use crate::sweep::opening::CUT;
 use crate::sweep::standing::{CLEANED, OPEN};
-use crate::watched::{MANY, Memory, Watched, fitted};
+use crate::watched::{MANY, fitted};
 use dcel_bench::checks::{holds, same};
 use dcel_bench::data::write_distinct;
-use dcel_bench::growths::Growth::{Append, SetUp};
+use dcel_bench::growths::Growth::{Append, SetUp, Triangle};
 use dcel_bench::lists::Said;
-use dcel_bench::lists::Said::Grow;
+use dcel_bench::lists::Said::{Grow, Open};
 use dcel_bench::meshes::vertex;
+use dcel_bench::openers::Opener::Remesh;
 use dcel_bench::pictures::{Picture, picture_of};
-use dcel_bench::refusing::{Refusals, Refusing};
+use dcel_bench::refusing::{Memory, Refusals, Refusing, Watched};
 use dcel_bench::require;
 use spade_dcel::operations::{new, new_with_fixed_vertices};
 use std::alloc::{AllocError, Global};
@@ -59,7 +60,13 @@ const FIXED: [Said; 4] = [
     Grow(SetUp(2, 0)),
 ];
 
-const ROWS: [Row; 16] = [
+/// A triangle whose face is given up, and no edge.
+const OPEN_FACE: [Said; 2] = [
+    Grow(Triangle(7, -8, 9)),
+    Open(Remesh(&[1, 3, 5], &[], &[1])),
+];
+
+const ROWS: [Row; 17] = [
     Row {
         mesh: &[],
         call: New,
@@ -100,6 +107,11 @@ const ROWS: [Row; 16] = [
         mesh: &OPEN,
         call: TryClone,
         requests: 10,
+    },
+    Row {
+        mesh: &OPEN_FACE,
+        call: TryClone,
+        requests: 9,
     },
     Row {
         mesh: &CLEANED,
