@@ -1,5 +1,7 @@
 -- A run of flips that is under way: what it keeps, and that it ends.
 use Rattle.std.proofs.Common.{◌≡◌, ◌⊎◌, inl, inr, ℕ, ◌-◌, ◌<◌, List, [], ◌∷◌, ◌++◌, length, slice_get, take, Some, None, refl, sym, ap, ◌∙◌, subst, arith}
+use Rattle.std.proofs.lemmas.Bool.{cases_lt}
+use Rattle.std.proofs.lemmas.List.{append-nil}
 use Rattle.dcel_predicates.specs.declared.point.Point.{Point}
 use Rattle.dcel_maps.specs.Conditions.{CanFlip}
 use Rattle.dcel_maps.specs.edits.Flip.{edge_flipped}
@@ -65,26 +67,61 @@ module _ {DE UE F : Type 0} where
     pub plane : IsPlane (point_at n) n.shape
     pub turned : IsTurnedTo m n
     pub due : ListsCircled (point_at m) m.shape list → ListsCircled (point_at n) n.shape rest
+    pub others : (lacking : List ℕ) → ListsCircled (point_at m) m.shape (list ++ lacking) → ListsCircled (point_at n) n.shape (rest ++ lacking)
+
+  -- a list that lacks none
+  none_lack : (m n : Mesh Point DE UE F) (list rest : List ℕ)
+      → ((lacking : List ℕ) → ListsCircled (point_at m) m.shape (list ++ lacking) → ListsCircled (point_at n) n.shape (rest ++ lacking))
+      → ListsCircled (point_at m) m.shape list → ListsCircled (point_at n) n.shape rest
+  none_lack m n list rest others lists =
+      subst (λ (l : List ℕ). ListsCircled (point_at n) n.shape l) (append-nil rest)
+      (others [] (subst (λ (l : List ℕ). ListsCircled (point_at m) m.shape l) (sym (append-nil list)) lists))
 
   pub begins : (m : Mesh Point DE UE F) (list : List ℕ) → IsMesh m → IsPlane (point_at m) m.shape → IsUnderWay m list m list
-  begins m list mesh plane = record { mesh = mesh; plane = plane; turned = unturned m; due = λ lists. lists }
+  begins m list mesh plane = record { mesh = mesh; plane = plane; turned = unturned m; due = λ lists. lists; others = λ lacking lists. lists }
 
   module _ (m : Mesh Point DE UE F) (list : List ℕ) (n : Mesh Point DE UE F) (front : List ℕ) (u : ℕ) (way : IsUnderWay m list n (front ++ u ∷ [])) where
     -- an edge that isn't circled is taken off
     pub passes : ¬ (IsInner n.shape u × IsCircled (point_at n) n.shape u) → IsUnderWay m list n front
-    passes not = record {
-      mesh = way.mesh;
-      plane = way.plane;
-      turned = way.turned;
-      due = λ lists v inner circled. elim (last_or_before v u front (way.due lists v inner circled)) [
-        | inl is ↦ absurd (not (subst (λ (k : ℕ). IsInner n.shape k × IsCircled (point_at n) n.shape k) is (inner, circled)))
-        | inr there ↦ there
-      ];
-    }
+    passes not =
+        let others : (lacking : List ℕ) → ListsCircled (point_at m) m.shape (list ++ lacking) → ListsCircled (point_at n) n.shape (front ++ lacking) =
+        λ lacking lists v inner circled.
+        let found = way.others lacking lists v inner circled in
+        let whole = count-append v (front ++ u ∷ []) lacking in
+        let wanted = count-append v front lacking in
+        elim (cases_lt 0 (count_of v (front ++ u ∷ []))) [
+          | inl listed ↦ elim (last_or_before v u front listed) [
+            | inl is ↦ absurd (not (subst (λ (k : ℕ). IsInner n.shape k × IsCircled (point_at n) n.shape k) is (inner, circled)))
+            | inr there ↦ omega (arith, wanted, there)
+          ]
+          | inr unlisted ↦ omega (arith, found, whole, wanted, unlisted)
+        ] in
+        record {
+          mesh = way.mesh;
+          plane = way.plane;
+          turned = way.turned;
+          due = none_lack m n list front others;
+          others = others;
+        }
 
     module _ (inner : IsInner n.shape u) (circled : IsCircled (point_at n) n.shape u) where
       pub can_flip : CanFlip n.shape u
       can_flip = circled_can_flip n way.mesh u (point_at n) inner circled
+
+      turns_others : (lacking : List ℕ) → ListsCircled (point_at m) m.shape (list ++ lacking)
+          → ListsCircled (point_at (edge_flipped n u)) (edge_flipped n u).shape (((front ++ u ∷ []) ++ sides_round n.shape u) ++ lacking)
+      turns_others lacking lists v in_v circled_v =
+          let whole = front ++ u ∷ [] in
+          let sides = sides_round n.shape u in
+          let found : 0 < count_of v ((whole ++ lacking) ++ (sides ++ u ∷ [])) =
+          flip_lists n way.mesh u can_flip (point_at n) (whole ++ lacking) (way.others lacking lists) v in_v circled_v in
+          let in_all = count-append v (whole ++ lacking) (sides ++ u ∷ []) in
+          let in_whole = count-append v whole lacking in
+          let in_sides = count-append v sides (u ∷ []) in
+          let own = count-append v front (u ∷ []) in
+          let wanted = count-append v (whole ++ sides) lacking in
+          let wanted_whole = count-append v whole sides in
+          omega (arith, found, in_all, in_whole, in_sides, own, wanted, wanted_whole)
 
       -- one that is is flipped
       pub turns : IsUnderWay m list (edge_flipped n u) ((front ++ u ∷ []) ++ sides_round n.shape u)
@@ -101,15 +138,8 @@ module _ {DE UE F : Type 0} where
                   (subst (λ (k : Mesh Point DE UE F). IsInner k.shape u × IsCircled (point_at k) k.shape u) at (inner, circled));
               is = ap (λ (k : Mesh Point DE UE F). edge_flipped k u) at ∙ sym (turned-append m before.turned u);
             };
-        due = λ lists v in_v circled_v.
-            let whole = front ++ u ∷ [] in
-            let sides = sides_round n.shape u in
-            let found : 0 < count_of v (whole ++ (sides ++ u ∷ [])) = flip_lists n way.mesh u can_flip (point_at n) whole (way.due lists) v in_v circled_v in
-            let in_whole = count-append v whole (sides ++ u ∷ []) in
-            let in_sides = count-append v sides (u ∷ []) in
-            let wanted = count-append v whole sides in
-            let own = count-append v front (u ∷ []) in
-            omega (arith, found, in_whole, in_sides, wanted, own);
+        due = none_lack m (edge_flipped n u) list ((front ++ u ∷ []) ++ sides_round n.shape u) turns_others;
+        others = turns_others;
       }
 
       pub falls : volume_below (point_at (edge_flipped n u)) (edge_flipped n u).shape < volume_below (point_at n) n.shape

@@ -1,6 +1,6 @@
 //! Edges flipped by the circle test.
 
-ghost use Rattle.std.specs.Prelude.{◌≡◌, ◌+◌, ◌≤◌, ◌++◌, [], true, OnOk, vec_len, vec_capacity};
+ghost use Rattle.std.specs.Prelude.{◌≡◌, ℕ, ◌+◌, ◌≤◌, List, ◌++◌, [], true, OnOk, vec_len, vec_capacity};
 ghost use Rattle.dcel_maps.specs.Shapes.{IsMesh, edge_is_live};
 ghost use Rattle.dcel_plane.specs.Plane.{IsDelaunay, IsPlane, ListsCircled, point_at};
 ghost use Rattle.dcel_circles.specs.Turning.{IsTurnedTo, sides_round};
@@ -33,6 +33,8 @@ pub fn legalize_by_circles<DE, UE, F, A: Allocator, L: Allocator>(
     ensures flips { IsTurnedTo dcel.old dcel.new }
     ensures plane { IsPlane (point_at dcel.new) dcel.new.shape }
     ensures due { ListsCircled (point_at dcel.old) dcel.old.shape due.old.items → ListsCircled (point_at dcel.new) dcel.new.shape due.new.items }
+    ensures others { (lacking : List ℕ) → ListsCircled (point_at dcel.old) dcel.old.shape (due.old.items ++ lacking)
+        → ListsCircled (point_at dcel.new) dcel.new.shape (due.new.items ++ lacking) }
     ensures done { OnOk result (due.new.items ≡ []) }
     ensures delaunay { OnOk result (ListsCircled (point_at dcel.old) dcel.old.shape due.old.items → IsDelaunay (point_at dcel.new) dcel.new.shape) }
     ensures mesh { IsMesh dcel.new }

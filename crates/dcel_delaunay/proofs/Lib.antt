@@ -1,3 +1,4 @@
+pub mod Counting
 pub mod Growth
 pub mod Orders
 pub mod Paths

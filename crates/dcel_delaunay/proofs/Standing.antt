@@ -1,8 +1,10 @@
 -- Points that are inserted one after another, in any order.
-use Rattle.std.proofs.Common.{◌≡◌, ◌≢◌, ◌⊎◌, ◌∙◌, ◌+◌, ◌<◌, inl, inr, ℕ, zero, suc, List, [], ◌∷◌, ◌++◌, length, refl, sym, ap, subst, arith, slice_get, slice_index_or, slice_set, take, None, Some}
+use Rattle.std.proofs.Common.{◌≡◌, ◌≢◌, ◌⊎◌, ◌∙◌, ◌+◌, ◌<◌, ◌≤◌, inl, inr, ℕ, zero, suc, List, [], ◌∷◌, ◌++◌, length, refl, sym, ap, subst, arith, slice_get, slice_index_or, slice_set, take, None, Some}
 use Rattle.std.proofs.lemmas.Bool.{cases_eq}
-use Rattle.std.proofs.lemmas.List.{append-nil, append_assoc}
+use Rattle.std.proofs.lemmas.List.{append-nil, append_assoc, length-append}
+use Rattle.std.proofs.lemmas.List.Elements.{All-append, All-cons, All-nil}
 use Rattle.std.proofs.lemmas.Option.{none-some, slice_get_within}
+use Rattle.std.specs.List.{Contains}
 use Rattle.std.specs.Option.{option_map}
 use Rattle.dcel_maps.proofs.words.Counts.{count-append, count-other}
 use Rattle.dcel_maps.specs.Shapes.{Mesh}
@@ -38,6 +40,15 @@ length_set (y ∷ r) (suc k) x = ap suc (length_set r k x)
 some_injective : {A : Type 0} (x y : A) → Some x ≡ Some y → x ≡ y
 some_injective x y same = cc
 
+-- what stands at a place is among the items
+item_at : {A : Type 0} (xs : List A) (k : ℕ) (x y : A) → slice_get xs k ≡ Some x → slice_index_or xs k y ≡ x
+item_at [] k x y at = absurd (none-some x at)
+item_at (z ∷ r) zero x y at = some_injective z x at
+item_at (z ∷ r) (suc k) x y at = item_at r k x y at
+
+contains_at : {A : Type 0} (xs : List A) (k : ℕ) (x : A) → slice_get xs k ≡ Some x → Contains xs x
+contains_at xs k x at = (k, slice_get_within xs k x at, item_at xs k x x at)
+
 -- one item more is taken
 take_more : (k : ℕ) (xs : List ℕ) → k < length xs → take (suc k) xs ≡ take k xs ++ slice_index_or xs k 0 ∷ []
 take_more k [] below = absurd (omega (arith, below))
@@ -48,8 +59,8 @@ pub take_next : (k : ℕ) (xs : List ℕ) → k < length xs → take (k + 1) xs 
 take_next k xs below = let more : k + 1 ≡ suc k = omega arith in ap (λ n. take n xs) more ∙ take_more k xs below
 
 module _ {DE UE F : Type 0} where
-  has_stays : (old new : Mesh Point DE UE F) (p : Point) (v : ℕ) → AddsVertices old new → HasPoint old p v → HasPoint new p v
-  has_stays old new p v adds (x, y) = (
+  has_stays : (old new : Mesh Point DE UE F) (given : List Point) (most : ℕ) (p : Point) (v : ℕ) → AddsVertices old new given most → HasPoint old p v → HasPoint new p v
+  has_stays old new given most p v adds (x, y) = (
     ap (λ (ps : List Point). option_map (λ (q : Point). q.x) (slice_get ps v)) adds.points ∙ kept (λ (q : Point). q.x) old.vertex_data adds.added v p.x x,
     ap (λ (ps : List Point). option_map (λ (q : Point). q.y) (slice_get ps v)) adds.points ∙ kept (λ (q : Point). q.y) old.vertex_data adds.added v p.y y,
   )
@@ -59,26 +70,54 @@ module _ {DE UE F : Type 0} where
       subst (λ (r : Point). HasPoint m r w) (some_injective p q point) (subst (λ (u : ℕ). HasPoint m p u) (some_injective v w vertex) has)
 
   -- nothing is added, one vertex is, or two times some
-  pub adds_none : (old new : Mesh Point DE UE F) → new.vertex_data ≡ old.vertex_data → AddsVertices old new
-  adds_none old new same = record { added = []; points = same ∙ sym (append-nil old.vertex_data) }
+  pub adds_none : (old new : Mesh Point DE UE F) (given : List Point) (most : ℕ) → new.vertex_data ≡ old.vertex_data → AddsVertices old new given most
+  adds_none old new given most same = record {
+    added = [];
+    points = same ∙ sym (append-nil old.vertex_data);
+    from = All-nil (Contains given);
+    few = omega arith;
+  }
 
-  pub adds_one : (old new : Mesh Point DE UE F) (p : Point) → (new.vertex_data ≡ old.vertex_data) ⊎ (new.vertex_data ≡ old.vertex_data ++ p ∷ []) → AddsVertices old new
-  adds_one old new p (inl same) = adds_none old new same
-  adds_one old new p (inr one) = record { added = p ∷ []; points = one }
+  pub adds_one : (old new : Mesh Point DE UE F) (given : List Point) (k : ℕ) (p : Point) → slice_get given k ≡ Some p
+      → (new.vertex_data ≡ old.vertex_data) ⊎ (new.vertex_data ≡ old.vertex_data ++ p ∷ []) → AddsVertices old new given 1
+  adds_one old new given k p at (inl same) = adds_none old new given 1 same
+  adds_one old new given k p at (inr one) = record {
+    added = p ∷ [];
+    points = one;
+    from = All-cons (Contains given) p [] (contains_at given k p at) (All-nil (Contains given));
+    few = omega arith;
+  }
 
-  pub adds_both : (old mid new : Mesh Point DE UE F) → AddsVertices old mid → AddsVertices mid new → AddsVertices old new
-  adds_both old mid new first second = record {
+  -- a refused insertion adds its point, or nothing
+  pub refused_adds : (X Y Z : Type 0) (old new : Mesh Point DE UE F) (given : List Point) (k : ℕ) (p : Point) → slice_get given k ≡ Some p
+      → (X × (new.vertex_data ≡ old.vertex_data) × Y) ⊎ (Z × (new.vertex_data ≡ old.vertex_data ++ p ∷ [])) → AddsVertices old new given 1
+  refused_adds X Y Z old new given k p at (inl (x, same, y)) = adds_none old new given 1 same
+  refused_adds X Y Z old new given k p at (inr (z, one)) = adds_one old new given k p at (inr one)
+
+  pub adds_both : (old mid new : Mesh Point DE UE F) (given : List Point) (k j : ℕ) → AddsVertices old mid given k → AddsVertices mid new given j
+      → AddsVertices old new given (k + j)
+  adds_both old mid new given k j first second = record {
     added = first.added ++ second.added;
     points = second.points ∙ ap (λ (ps : List Point). ps ++ second.added) first.points ∙ append_assoc old.vertex_data first.added second.added;
+    from = All-append (Contains given) first.added second.added first.from second.from;
+    few = omega (arith, length-append first.added second.added, first.few, second.few);
+  }
+
+  pub adds_more : (old new : Mesh Point DE UE F) (given : List Point) (k j : ℕ) → k ≤ j → AddsVertices old new given k → AddsVertices old new given j
+  adds_more old new given k j less adds = record {
+    added = adds.added;
+    points = adds.points;
+    from = adds.from;
+    few = omega (arith, less, adds.few);
   }
 
   pub stand_none : (m : Mesh Point DE UE F) (points : List Point) (vertices : List ℕ) → length vertices ≡ length points → StandSoFar m points [] vertices
   stand_none m points vertices same = record { length_is = same; each = λ i p v none. absurd (omega (arith, none)) }
 
   -- the vertex of one more point is noted
-  pub stands_too : (old new : Mesh Point DE UE F) (points : List Point) (before : List ℕ) (k v : ℕ) (p : Point)
-      → slice_get points k ≡ Some p → AddsVertices old new → HasPoint new p v → StandsToo old new points k before (slice_set before k v)
-  stands_too old new points before k v p is adds has taken stand = record {
+  pub stands_too : (old new : Mesh Point DE UE F) (points : List Point) (before : List ℕ) (k v : ℕ) (p : Point) (most : ℕ)
+      → slice_get points k ≡ Some p → AddsVertices old new points most → HasPoint new p v → StandsToo old new points k before (slice_set before k v)
+  stands_too old new points before k v p most is adds has taken stand = record {
     length_is = length_set before k v ∙ stand.length_is;
     each = λ i q w among at put_at. elim (cases_eq i k) [
       | inl same ↦
@@ -86,7 +125,7 @@ module _ {DE UE F : Type 0} where
           let vertex : Some v ≡ Some w = put before k v w (ap (slice_get (slice_set before k v)) (sym same) ∙ put_at) in
           has_same new p q v w own vertex has
       | inr other ↦
-          has_stays old new q w adds (stand.each i q w (omega (arith, among, count-append i taken (k ∷ []), count-other i k [] other)) at
+          has_stays old new points most q w adds (stand.each i q w (omega (arith, among, count-append i taken (k ∷ []), count-other i k [] other)) at
           (replaced before k i v w put_at other))
     ];
   }

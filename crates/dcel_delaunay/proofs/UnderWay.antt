@@ -2,12 +2,13 @@
 use Rattle.std.proofs.Common.{◌≡◌, ◌∙◌, ℕ, ◌+◌, ◌*◌, ◌/◌, ◌<◌, List, [], ◌∷◌, ◌++◌, refl, sym, ap, subst, arith}
 use Rattle.dcel_fixed.specs.HalfEdges.{rev}
 use Rattle.dcel_maps.specs.Conditions.{IsTriangle}
-use Rattle.dcel_maps.specs.edits.Create.{vertex_appended}
+use Rattle.dcel_maps.specs.edits.Create.{IsNew, vertex_appended}
 use Rattle.dcel_maps.specs.edits.Outside.{face_closed, face_put_beside}
 use Rattle.dcel_maps.specs.edits.Split.{edge_split, half_edge_split}
 use Rattle.dcel_maps.specs.edits.Triangle.{vertex_inserted}
 use Rattle.dcel_maps.specs.Removals.{Closed}
-use Rattle.dcel_maps.specs.Shapes.{IsLive, IsMesh, Mesh, end_of, face_count, face_of, map_of, next_of, origin_of}
+use Rattle.dcel_maps.specs.Shapes.{IsLive, IsMesh, Mesh, Shape, end_of, face_count, face_of, map_of, next_of, origin_of}
+use Rattle.dcel_maps.proofs.Triangulations.{closed_outside, inserted, put_beside, split_both_sides, split_one_side}
 use Rattle.dcel_maps.proofs.maps.Halves.{rev_half}
 use Rattle.dcel_maps.proofs.shapes.Maps.{map-sound}
 use Rattle.dcel_predicates.specs.declared.point.Point.{Point}
@@ -19,7 +20,8 @@ use Rattle.dcel_plane.proofs.Spokes.{sides_listed}
 use Rattle.dcel_plane.proofs.Moved.{appended_lists, appended_plane, appended_stands, others_stand}
 use Rattle.dcel_plane.proofs.Outside.{beside_lists, beside_plane, closed_lists, closed_plane}
 use Rattle.dcel_plane.proofs.Splits.{half_split_lists, half_split_plane, split_lists, split_plane}
-use Rattle.dcel_delaunay.specs.Growing.{IsUnderWay}
+use Rattle.dcel_delaunay.proofs.Counting.{alone_triangles, beside_joined, closed_joined, face_vertices, half_split_joined, inserted_joined, live_vertices, split_joined}
+use Rattle.dcel_delaunay.specs.Growing.{IsJoined, IsUnderWay}
 
 left_there : (a b c x y z : Point) → a ≡ x → b ≡ y → c ≡ z → TurnsLeft a b c → TurnsLeft x y z
 left_there a b c x y z ax by cz left =
@@ -27,10 +29,23 @@ left_there a b c x y z ax by cz left =
 
 module _ {DE UE F : Type 0} where
   -- a mesh with one face is under way, whatever is listed
-  pub alone-under_way : (m : Mesh Point DE UE F) (due : List ℕ) → IsMesh m → m.shape.removal ≡ Closed → face_count m.shape ≡ 1 → IsUnderWay m due
-  alone-under_way m due mesh closed one =
+  pub alone-under_way : (m : Mesh Point DE UE F) (due : List ℕ) → IsMesh m → m.shape.removal ≡ Closed → face_count m.shape ≡ 1 → IsJoined m.shape → IsUnderWay m due
+  alone-under_way m due mesh closed one joined =
       let delaunay = outer_alone_delaunay (point_at m) m mesh one in
-      record { closed = closed; plane = delaunay.plane; listed = λ u inner circled. absurd (delaunay.empty u inner circled) }
+      record {
+        closed = closed;
+        joined = joined;
+        triangles = alone_triangles m.shape one;
+        plane = delaunay.plane;
+        listed = λ u inner circled. absurd (delaunay.empty u inner circled);
+      }
+
+  -- so is a new mesh
+  pub new-under_way : (is_face : F → Type 0) (m : Mesh Point DE UE F) (due : List ℕ) → IsMesh m → IsNew is_face m → IsUnderWay m due
+  new-under_way is_face m due mesh new =
+      let shape = ap (λ (k : Mesh Point DE UE F). k.shape) new.is in
+      alone-under_way m due mesh (ap (λ (s : Shape). s.removal) shape) (ap face_count shape)
+      (subst IsJoined (sym shape) record { euler = λ some. absurd (omega (arith, some)); empty = λ none. refl })
 
   -- a vertex appended with the point p
   module _ (m : Mesh Point DE UE F) (mesh : IsMesh m) (p : Point) where
@@ -56,14 +71,19 @@ module _ {DE UE F : Type 0} where
     across_after : (e : ℕ) → LiesAcross (point_at m) m.shape e p → LiesAcross (point_at n) n.shape e (point_at n v)
     across_after e lies k live on apart = left_after k live (lies k live on apart)
 
+    some_vertices : (h : ℕ) → IsLive m.shape h → 0 < m.shape.vertices
+    some_vertices h live = live_vertices m mesh h live
+
     same_triangle : (f : ℕ) → IsTriangle m.shape f → IsTriangle n.shape f
     same_triangle f triangle = record { live = triangle.live; three = triangle.three }
 
     module _ (due : List ℕ) (way : IsUnderWay m due) (after : IsMesh n) (h : List DE) (e : List UE) (g : List F) where
-      pub inserted-under_way : (f : ℕ) → IsTriangle m.shape f → LiesInside (point_at m) m.shape f p → IsMesh (vertex_inserted n v f h e g)
+      pub inserted-under_way : (f : ℕ) → 0 < f → IsTriangle m.shape f → LiesInside (point_at m) m.shape f p → IsMesh (vertex_inserted n v f h e g)
           → IsUnderWay (vertex_inserted n v f h e g) (due ++ edges_inserted m f)
-      inserted-under_way f triangle lies done = record {
+      inserted-under_way f inner triangle lies done = record {
         closed = way.closed;
+        joined = inserted_joined m p v f h e g (face_vertices m.shape f way.joined inner triangle) way.joined;
+        triangles = inserted n way.triangles v f h e g;
         plane = inserted_plane n after v f (same_triangle f triangle) h e g (point_at n) (inside_after f lies) (appended_plane m mesh p way.plane);
         listed =
             sides_listed n after v f (same_triangle f triangle) h e g (point_at n) done (inside_after f lies) due (appended_lists m mesh p due way.listed);
@@ -74,6 +94,8 @@ module _ {DE UE F : Type 0} where
           → IsUnderWay (edge_split n x v h e g) (due ++ edges_split m.shape x)
       split-under_way x live near far across across_rev done = record {
         closed = way.closed;
+        joined = split_joined m p x v h e g (some_vertices x live) way.joined;
+        triangles = split_both_sides n way.triangles x v h e g;
         plane =
             split_plane n after x v live h e g (point_at n) (same_triangle (face_of m.shape x) near) (same_triangle (face_of m.shape (rev x)) far)
             (across_after x across) (across_after (rev x) across_rev) (appended_plane m mesh p way.plane);
@@ -87,6 +109,8 @@ module _ {DE UE F : Type 0} where
           → IsUnderWay (half_edge_split n x v h e g) (due ++ edges_half_split m.shape x)
       half_split-under_way x live near inner outer across done = record {
         closed = way.closed;
+        joined = half_split_joined m p x v h e g (some_vertices x live) way.joined;
+        triangles = split_one_side n way.triangles x v h e g outer;
         plane =
             half_split_plane n after x v live h e g (point_at n) (same_triangle (face_of m.shape x) near) inner outer
             (across_after x across) (appended_plane m mesh p way.plane);
@@ -99,6 +123,8 @@ module _ {DE UE F : Type 0} where
           → IsUnderWay (face_put_beside n x v h e g) (due ++ edges_beside m.shape x)
       beside-under_way x live outer left done = record {
         closed = way.closed;
+        joined = beside_joined m p x v h e g (some_vertices x live) way.joined;
+        triangles = put_beside n way.triangles x v h e g outer;
         plane = beside_plane n after x live h e g (point_at n) v outer (left_after x live left) (appended_plane m mesh p way.plane);
         listed = beside_lists n after x live h e g (point_at n) v outer due done (appended_lists m mesh p due way.listed);
       }
@@ -109,6 +135,8 @@ module _ {DE UE F : Type 0} where
       → IsUnderWay (face_closed m x h e g) (due ++ edges_closed m.shape x)
   closed-under_way m due x h e g mesh way live left done = record {
     closed = way.closed;
+    joined = closed_joined m x h e g (live_vertices m mesh x live) way.joined;
+    triangles = closed_outside m way.triangles x h e g;
     plane = closed_plane m mesh x live h e g (point_at m) left way.plane;
     listed = closed_lists m mesh x live h e g (point_at m) due done way.listed;
   }

@@ -1,5 +1,5 @@
 -- Many points inserted at once.
-use Rattle.std.specs.Prelude.{◌≡◌, ◌<◌, ◌≤◌, ◌++◌, ℕ, List, [], ◌∷◌, length, slice_get, Some}
+use Rattle.std.specs.Prelude.{◌≡◌, ◌<◌, ◌≤◌, ◌++◌, ℕ, List, [], ◌∷◌, length, slice_get, Some, All, Contains}
 use Rattle.dcel_maps.specs.Words.{count_of}
 use Rattle.dcel_maps.specs.Shapes.{Mesh}
 use Rattle.dcel_predicates.specs.declared.point.Point.{Point}
@@ -7,6 +7,7 @@ use Rattle.dcel_delaunay.specs.Places.{HasPoint}
 
 -- each number below `count` stands there once, and no other
 pub record ListsEach (count : ℕ) (numbers : List ℕ) : Type 0 where
+  pub length_is : length numbers ≡ count
   pub once : (i : ℕ) → i < count → count_of i numbers ≡ 1
   pub no_other : (i : ℕ) → count ≤ i → count_of i numbers ≡ 0
 
@@ -25,7 +26,9 @@ module _ {DE UE F : Type 0} where
   abbrev pub StandsToo : Mesh Point DE UE F → Mesh Point DE UE F → List Point → ℕ → List ℕ → List ℕ → Type 0
   StandsToo old new points n before after = (taken : List ℕ) → StandSoFar old points taken before → StandSoFar new points (taken ++ n ∷ []) after
 
-  -- the vertices of before stay, and those that are new come after them
-  pub record AddsVertices (old new : Mesh Point DE UE F) : Type 0 where
+  -- the vertices of before stay, and those that are new come after them: at most so many, each at one of these points
+  pub record AddsVertices (old new : Mesh Point DE UE F) (given : List Point) (most : ℕ) : Type 0 where
     pub added : List Point
     pub points : new.vertex_data ≡ old.vertex_data ++ added
+    pub from : All (Contains given) added
+    pub few : length added ≤ most

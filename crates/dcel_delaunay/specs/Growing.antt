@@ -1,18 +1,36 @@
 -- What an insertion finds, and what it leaves.
-use Rattle.std.specs.Prelude.{◌≡◌, ◌≢◌, ◌⊎◌, ◌≤◌, ◌+◌, ◌++◌, ℕ, List, [], ◌∷◌}
+use Rattle.std.specs.Prelude.{◌≡◌, ◌⊎◌, ◌<◌, ◌≤◌, ◌+◌, ◌++◌, ℕ, List, [], ◌∷◌}
 use Rattle.dcel_maps.specs.Removals.{Closed}
-use Rattle.dcel_maps.specs.Shapes.{Mesh}
+use Rattle.dcel_maps.specs.Conditions.{HasRoom}
+use Rattle.dcel_maps.specs.Shapes.{Mesh, Shape, face_count}
+use Rattle.dcel_maps.specs.Triangulations.{AllTriangles}
 use Rattle.dcel_plane.specs.Plane.{IsPlane, ListsCircled, point_at}
 use Rattle.dcel_delaunay.specs.Places.{HasPoint}
 use Rattle.dcel_delaunay.specs.declared.errors.InsertionError.{InsertionError}
-use Rattle.dcel_delaunay.specs.declared.errors.InsertionError.TheVariants.{Unfinished}
+use Rattle.dcel_delaunay.specs.declared.errors.InsertionError.TheVariants.{Lost, OutOfMemory, OutOfRange, TooManyPoints, Unfinished}
 use Rattle.dcel_predicates.specs.declared.point.Point.{Point}
 
+-- an insertion may give this error and leave the mesh as it was: there are too many points only if no numbers are left for another vertex
+-- with its edges and faces
+abbrev pub MayRefuse : Shape → InsertionError → Type 0
+MayRefuse s OutOfRange = ⊥
+MayRefuse s TooManyPoints = ¬ HasRoom s 1 3 2
+MayRefuse s OutOfMemory = Unit {0}
+MayRefuse s Unfinished = ⊥
+MayRefuse s Lost = Unit {0}
+
+-- Euler's formula for all vertices: none is without an edge, once there are two
+pub record IsJoined (s : Shape) : Type 0 where
+  pub euler : 0 < s.vertices → s.vertices + face_count s ≡ s.edges + 2
+  pub empty : s.vertices ≡ 0 → face_count s ≡ 1
+
 module _ {DE UE F : Type 0} where
-  -- no removal is open, each triangle goes round counterclockwise, and each edge between two of them that has a corner inside the circle of
-  -- the other side is in the list
+  -- no removal is open, the vertices are joined, each inner face is a triangle that goes round counterclockwise, and each edge between two of
+  -- them that has a corner inside the circle of the other side is in the list
   pub record IsUnderWay (m : Mesh Point DE UE F) (due : List ℕ) : Type 0 where
     pub closed : m.shape.removal ≡ Closed
+    pub joined : IsJoined m.shape
+    pub triangles : AllTriangles m.shape
     pub plane : IsPlane (point_at m) m.shape
     pub listed : ListsCircled (point_at m) m.shape due
 
@@ -37,4 +55,4 @@ module _ {DE UE F : Type 0} where
 
   -- nothing has changed, or a new vertex has the point and not all is done that belongs to it
   abbrev pub Refuses : Mesh Point DE UE F → Mesh Point DE UE F → Point → InsertionError → Type 0
-  Refuses old new p e = ((e ≢ Unfinished) × (new ≡ old)) ⊎ ((e ≡ Unfinished) × Gains old new p old.shape.vertices)
+  Refuses old new p e = (MayRefuse old.shape e × (new ≡ old)) ⊎ ((e ≡ Unfinished) × Gains old new p old.shape.vertices)

@@ -1,7 +1,8 @@
 -- What contracts see of a triangulation.
-use Rattle.std.specs.Prelude.{◌≡◌, ◌≢◌, ◌⊎◌, ◌++◌, ℕ, List, [], ◌∷◌}
+use Rattle.std.specs.Prelude.{◌≡◌, ◌⊎◌, ◌++◌, ℕ, List, [], ◌∷◌}
 use Rattle.dcel_maps.specs.Shapes.{Mesh}
 use Rattle.dcel_predicates.specs.declared.point.Point.{Point}
+use Rattle.dcel_delaunay.specs.Growing.{MayRefuse}
 use Rattle.dcel_delaunay.specs.Places.{HasPoint}
 use Rattle.dcel_delaunay.specs.declared.errors.InsertionError.{InsertionError}
 use Rattle.dcel_delaunay.specs.declared.errors.InsertionError.TheVariants.{Unfinished}
@@ -24,5 +25,5 @@ module _ {A : Type 0} where
   -- no vertex is new, and what was whole is as it was; or the vertex is new, and not all is done that belongs to it
   abbrev pub Stays : Triangulation A → Triangulation A → Point → InsertionError → Type 0
   Stays old new p e =
-      ((e ≢ Unfinished) × ((mesh_in new).vertex_data ≡ (mesh_in old).vertex_data) × (IsWhole old → mesh_in new ≡ mesh_in old))
+      (MayRefuse (mesh_in new).shape e × ((mesh_in new).vertex_data ≡ (mesh_in old).vertex_data) × (IsWhole old → mesh_in new ≡ mesh_in old))
       ⊎ ((e ≡ Unfinished) × ((mesh_in new).vertex_data ≡ (mesh_in old).vertex_data ++ p ∷ []))

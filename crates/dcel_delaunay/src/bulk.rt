@@ -1,6 +1,6 @@
 //! Many points inserted at once.
 
-ghost use Rattle.std.specs.Prelude.{◌≡◌, IfOk, OnOk, slice_get, slice_set};
+ghost use Rattle.std.specs.Prelude.{◌≡◌, ◌≤◌, IfOk, OnOk, length, slice_get, slice_set};
 ghost use Rattle.dcel_delaunay.specs.Bulk.{AddsVertices, StandAt, StandsToo};
 ghost use Rattle.dcel_delaunay.specs.Triangulated.{IsWhole, mesh_in};
 
@@ -23,7 +23,8 @@ impl<A: Allocator + Clone> Triangulation<A> {
     ) -> Result<Vec<FixedVertexHandle, A>, InsertionError>
         ensures stand { IfOk result (λ vertices. StandAt (mesh_in self.new) points.now vertices.items) }
         ensures whole { OnOk result (IsWhole self.new) }
-        ensures adds { AddsVertices (mesh_in self.old) (mesh_in self.new) }
+        ensures adds { AddsVertices (mesh_in self.old) (mesh_in self.new) points.now (length points.now) }
+        ensures edges { (mesh_in self.old).shape.edges ≤ (mesh_in self.new).shape.edges }
     {
         let order = insertion_order(alloc.clone()?, points)?;
         let mut vertices = vec![in alloc; FixedVertexHandle::new(0); points.len()]?;
@@ -46,7 +47,8 @@ impl<A: Allocator> Triangulation<A> {
         requires { IsWhole self.old }
         ensures stands { OnOk result (StandsToo (mesh_in self.old) (mesh_in self.new) points.now number vertices.old.items vertices.new.items) }
         ensures whole { OnOk result (IsWhole self.new) }
-        ensures adds { AddsVertices (mesh_in self.old) (mesh_in self.new) }
+        ensures adds { AddsVertices (mesh_in self.old) (mesh_in self.new) points.now 1 }
+        ensures edges { (mesh_in self.old).shape.edges ≤ (mesh_in self.new).shape.edges }
     {
         if let Some(point) = point_of(points, number) {
             let vertex = self.insert(point)?;

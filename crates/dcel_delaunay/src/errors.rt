@@ -1,5 +1,7 @@
 //! Why an insertion was refused.
 
+ghost use Rattle.std.specs.Prelude.{◌≡◌, ◌≤◌, ◌^◌, ◌↔◌, IfErr, IfOk, IsOk, unsigned_abs};
+
 use dcel_predicates::Point;
 use std::alloc::AllocError;
 use thiserror::Error;
@@ -32,6 +34,11 @@ pub enum InsertionError {
 }
 
 impl From<AllocError> for InsertionError {
+    ghost use Rattle.std.specs.Prelude.{◌≡◌};
+    ghost use Rattle.dcel_delaunay.specs.declared.errors.InsertionError.TheVariants.{OutOfMemory};
+
+    ghost from_gives = { λ _ error. error ≡ OutOfMemory };
+
     fn from(_: AllocError) -> Self {
         InsertionError::OutOfMemory
     }
@@ -39,6 +46,11 @@ impl From<AllocError> for InsertionError {
 
 /// Returns the point with these coordinates, or [`OutOfRange`](InsertionError::OutOfRange) unless
 /// both are from -2^30 to 2^30.
-pub fn point(x: i64, y: i64) -> Result<Point, InsertionError> {
+pub fn point(x: i64, y: i64) -> Result<Point, InsertionError>
+    ensures in_range { IsOk result ↔ ((unsigned_abs x ≤ 2 ^ 30) × (unsigned_abs y ≤ 2 ^ 30)) }
+    ensures x { IfOk result (λ p. p.x ≡ x) }
+    ensures y { IfOk result (λ p. p.y ≡ y) }
+    ensures refused { IfErr result (λ e. e ≡ InsertionError.OutOfRange) }
+{
     Point::new(x, y).ok_or(InsertionError::OutOfRange)
 }

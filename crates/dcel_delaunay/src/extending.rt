@@ -1,11 +1,11 @@
 //! The edits while all vertices stand on a line: the first vertices, an edge of the path split, and
 //! the path extended. The outer face is the only one, so nothing is to be listed.
 
-ghost use Rattle.std.specs.Prelude.{◌≡◌, ◌≢◌, IfErr, IfOk};
+ghost use Rattle.std.specs.Prelude.{◌≡◌, IfErr, IfOk};
 ghost use Rattle.dcel_maps.specs.Conditions.{IsBridge, IsLineEnd};
 ghost use Rattle.dcel_maps.specs.Removals.{Closed};
 ghost use Rattle.dcel_maps.specs.Shapes.{face_count};
-ghost use Rattle.dcel_delaunay.specs.Growing.{Gains};
+ghost use Rattle.dcel_delaunay.specs.Growing.{Gains, IsJoined, MayRefuse};
 
 use crate::errors::InsertionError;
 use crate::inserting::{append, take_back};
@@ -29,7 +29,8 @@ pub(crate) fn put_on_line<A: Allocator>(
     requires bridge { IsBridge dcel.old.shape edge }
     ensures gains { IfOk result (Gains dcel.old dcel.new point) }
     ensures alone { face_count dcel.new.shape ≡ 1 }
-    ensures refused { IfErr result (λ e. (e ≢ InsertionError.Unfinished) × (dcel.new ≡ dcel.old)) }
+    ensures joined { IsJoined dcel.old.shape → IsJoined dcel.new.shape }
+    ensures refused { IfErr result (λ e. MayRefuse dcel.old.shape e × (dcel.new ≡ dcel.old)) }
 {
     every_mesh(dcel);
     let vertex = append(dcel, point)?;
@@ -50,7 +51,8 @@ pub(crate) fn put_beyond<A: Allocator>(
     requires line_end { IsLineEnd dcel.old.shape end }
     ensures gains { IfOk result (Gains dcel.old dcel.new point) }
     ensures alone { face_count dcel.new.shape ≡ 1 }
-    ensures refused { IfErr result (λ e. (e ≢ InsertionError.Unfinished) × (dcel.new ≡ dcel.old)) }
+    ensures joined { IsJoined dcel.old.shape → IsJoined dcel.new.shape }
+    ensures refused { IfErr result (λ e. MayRefuse dcel.old.shape e × (dcel.new ≡ dcel.old)) }
 {
     every_mesh(dcel);
     let vertex = append(dcel, point)?;
@@ -70,7 +72,8 @@ pub(crate) fn put_first<A: Allocator>(
     requires no_edge { dcel.old.shape.edges ≡ 0 }
     ensures gains { IfOk result (Gains dcel.old dcel.new point) }
     ensures alone { face_count dcel.new.shape ≡ 1 }
-    ensures refused { IfErr result (λ e. (e ≢ InsertionError.Unfinished) × (dcel.new ≡ dcel.old)) }
+    ensures joined { IsJoined dcel.old.shape → IsJoined dcel.new.shape }
+    ensures refused { IfErr result (λ e. MayRefuse dcel.old.shape e × (dcel.new ≡ dcel.old)) }
 {
     every_mesh(dcel);
     let vertex = append(dcel, point)?;

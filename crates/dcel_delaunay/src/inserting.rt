@@ -3,7 +3,7 @@
 //!
 //! If memory runs out before the vertex is connected, it is taken out again.
 
-ghost use Rattle.std.specs.Prelude.{◌≡◌, ◌≢◌, ◌<◌, ◌/◌, [], ◌∷◌, IfErr, IfOk, OnOk};
+ghost use Rattle.std.specs.Prelude.{◌≡◌, ◌<◌, ◌/◌, [], ◌∷◌, IfErr, IfOk, OnOk};
 ghost use Rattle.dcel_fixed.specs.HalfEdges.{rev};
 ghost use Rattle.dcel_maps.specs.Conditions.{HasRoom, IsTriangle, IsUnconnected};
 ghost use Rattle.dcel_maps.specs.edits.Create.{vertex_appended};
@@ -12,7 +12,7 @@ ghost use Rattle.dcel_maps.specs.Renumbering.{vertex_taken_out};
 ghost use Rattle.dcel_maps.specs.Shapes.{IsLive, IsMesh, face_of, next_of, prev_of};
 ghost use Rattle.dcel_plane.specs.Edges.{edges_inserted};
 ghost use Rattle.dcel_plane.specs.Plane.{LiesAcross, LiesInside, point_at};
-ghost use Rattle.dcel_delaunay.specs.Growing.{Gains, IsUnderWay};
+ghost use Rattle.dcel_delaunay.specs.Growing.{Gains, IsUnderWay, MayRefuse};
 ghost use Rattle.dcel_delaunay.specs.Places.{HasLeft};
 
 use crate::errors::InsertionError;
@@ -43,7 +43,7 @@ pub(crate) fn append<A: Allocator>(
     ensures unconnected { IfOk result (λ v. IsUnconnected dcel.new.shape v) }
     ensures room { OnOk result (HasRoom dcel.new.shape 0 3 2) }
     ensures mesh { OnOk result (IsMesh dcel.new) }
-    ensures refused { IfErr result (λ e. (e ≢ InsertionError.Unfinished) × (dcel.new ≡ dcel.old)) }
+    ensures refused { IfErr result (λ e. MayRefuse dcel.old.shape e × (dcel.new ≡ dcel.old)) }
 {
     every_mesh(dcel);
     if !dcel.has_room(1, 3, 2) {
@@ -116,7 +116,7 @@ pub(crate) fn put_in_face<A: Allocator, L: Allocator>(
     requires triangle { IsTriangle dcel.old.shape face }
     requires inside { LiesInside (point_at dcel.old) dcel.old.shape face point }
     ensures gains { IfOk result (Gains dcel.old dcel.new point) }
-    ensures refused { IfErr result (λ e. (e ≢ InsertionError.Unfinished) × (dcel.new ≡ dcel.old)) }
+    ensures refused { IfErr result (λ e. MayRefuse dcel.old.shape e × (dcel.new ≡ dcel.old)) }
     ensures under_way { IsUnderWay dcel.new due.new.items }
 {
     every_mesh(dcel);
@@ -148,7 +148,7 @@ pub(crate) fn put_on_edge<A: Allocator, L: Allocator>(
     requires across { LiesAcross (point_at dcel.old) dcel.old.shape edge point }
     requires across_facing { LiesAcross (point_at dcel.old) dcel.old.shape (rev edge) point }
     ensures gains { IfOk result (Gains dcel.old dcel.new point) }
-    ensures refused { IfErr result (λ e. (e ≢ InsertionError.Unfinished) × (dcel.new ≡ dcel.old)) }
+    ensures refused { IfErr result (λ e. MayRefuse dcel.old.shape e × (dcel.new ≡ dcel.old)) }
     ensures under_way { IsUnderWay dcel.new due.new.items }
 {
     every_mesh(dcel);
@@ -187,7 +187,7 @@ pub(crate) fn put_on_hull<A: Allocator, L: Allocator>(
     requires outer { face_of dcel.old.shape (rev edge) ≡ 0 }
     requires across { LiesAcross (point_at dcel.old) dcel.old.shape edge point }
     ensures gains { IfOk result (Gains dcel.old dcel.new point) }
-    ensures refused { IfErr result (λ e. (e ≢ InsertionError.Unfinished) × (dcel.new ≡ dcel.old)) }
+    ensures refused { IfErr result (λ e. MayRefuse dcel.old.shape e × (dcel.new ≡ dcel.old)) }
     ensures under_way { IsUnderWay dcel.new due.new.items }
 {
     every_mesh(dcel);
@@ -220,7 +220,7 @@ pub(crate) fn put_beside<A: Allocator, L: Allocator>(
     requires outer { face_of dcel.old.shape edge ≡ 0 }
     requires left { HasLeft dcel.old point edge }
     ensures gains { IfOk result (Gains dcel.old dcel.new point) }
-    ensures refused { IfErr result (λ e. (e ≢ InsertionError.Unfinished) × (dcel.new ≡ dcel.old)) }
+    ensures refused { IfErr result (λ e. MayRefuse dcel.old.shape e × (dcel.new ≡ dcel.old)) }
     ensures under_way { IsUnderWay dcel.new due.new.items }
 {
     every_mesh(dcel);

@@ -1,6 +1,9 @@
 //! Points inserted one after another, and located.
 
-ghost use Rattle.std.specs.Prelude.{◌≡◌, [], IfErr, IfOk, IfSome, IsTrue, OnOk};
+ghost use Rattle.std.specs.Prelude.{◌≡◌, ◌↔◌, ℕ, ◌<◌, ◌≤◌, [], IfErr, IfOk, IfSome, IsTrue, OnOk};
+ghost use Rattle.dcel_maps.specs.Conditions.{IsUnconnected};
+ghost use Rattle.dcel_maps.specs.Removals.{Closed};
+ghost use Rattle.dcel_maps.specs.Triangulations.{AllTriangles};
 ghost use Rattle.dcel_plane.specs.Plane.{IsDelaunay, point_at};
 ghost use Rattle.dcel_delaunay.specs.Places.{IsPlace};
 ghost use Rattle.dcel_delaunay.specs.Triangulated.{IsWhole, Stays, Takes, mesh_in};
@@ -41,14 +44,18 @@ impl<A: Allocator> Triangulation<A> {
     /// Each vertex has its point as datum. The mesh is Delaunay if the triangulation is whole.
     pub fn dcel(&self) -> &Mesh<A>
         ensures mesh { result.now ≡ mesh_in self.now }
+        ensures closed { (mesh_in self.now).shape.removal ≡ Closed }
+        ensures triangles { AllTriangles (mesh_in self.now).shape }
+        ensures joined { (v : ℕ) → 1 < (mesh_in self.now).shape.vertices → ¬ IsUnconnected (mesh_in self.now).shape v }
         ensures delaunay { IsWhole self.now → IsDelaunay (point_at (mesh_in self.now)) (mesh_in self.now).shape }
     {
+        every_mesh(&self.dcel);
         &self.dcel
     }
 
     /// Returns whether no insertion has left something undone for want of memory.
     pub fn is_whole(&self) -> bool
-        ensures { IsTrue result → IsWhole self.now }
+        ensures { IsTrue result ↔ IsWhole self.now }
     {
         self.due.is_empty()
     }
@@ -73,6 +80,7 @@ impl<A: Allocator> Triangulation<A> {
         ensures inserts { IfOk result (Takes self.old self.new point) }
         ensures whole { OnOk result (IsWhole self.new) }
         ensures refuses { IfErr result (Stays self.old self.new point) }
+        ensures edges { (mesh_in self.old).shape.edges ≤ (mesh_in self.new).shape.edges }
     {
         self.finish()?;
         every_mesh(&self.dcel);
@@ -92,6 +100,7 @@ impl<A: Allocator> Triangulation<A> {
         ensures whole { OnOk result (IsWhole self.new) }
         ensures same { IsWhole self.old → mesh_in self.new ≡ mesh_in self.old }
         ensures refused { IfErr result (λ e. e ≡ InsertionError.OutOfMemory) }
+        ensures edges { (mesh_in self.old).shape.edges ≤ (mesh_in self.new).shape.edges }
     {
         if self.due.is_empty() {
             return Ok(());

@@ -25,6 +25,9 @@ loop-edge-preserved-then-not-is_circled g c =
 pub returns-in_err-reserve-clause-due : goal.returns-in_err-reserve-clause-due
 returns-in_err-reserve-clause-due g c = λ lists. rw c.reserve.ensures.items (c.loop-edge.invariant.way.due lists)
 
+pub returns-in_err-reserve-clause-others : goal.returns-in_err-reserve-clause-others
+returns-in_err-reserve-clause-others g c = λ lacking lists. rw c.reserve.ensures.items (c.loop-edge.invariant.way.others lacking lists)
+
 pub flip_cw-requires : goal.flip_cw-requires
 flip_cw-requires g c =
     let both = c.is_circled.ensures.0 c.if-not-is_circled.false in

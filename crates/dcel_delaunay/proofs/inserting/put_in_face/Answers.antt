@@ -1,6 +1,7 @@
-use Rattle.std.proofs.Common.{◌≡◌, ◌≢◌, rules, append_assoc}
+use Rattle.std.proofs.Common.{append_assoc, subst, sym}
 use Rattle.dcel_maps.specs.edits.Triangle.{vertex_inserted}
 use Rattle.dcel_plane.specs.Edges.{edges_inserted}
+use Rattle.dcel_delaunay.specs.Growing.{MayRefuse}
 use Rattle.dcel_delaunay.proofs.Growth.{inserted-keeps}
 use Rattle.dcel_delaunay.proofs.Puts.{as_it_was, put_back, put_gains, put_under_way}
 use Rattle.dcel_delaunay.proofs.UnderWay.{inserted-under_way}
@@ -8,7 +9,7 @@ use Rattle.dcel_delaunay.proofs.inserting.put_in_face.Goals as goal
 
 pub returns-in_default-clause-refused : goal.returns-in_default-clause-refused
 returns-in_default-clause-refused g c = (
-  search (rules, c.take_back.ensures.answer),
+  subst (MayRefuse c.args.dcel.now.shape) (sym c.take_back.ensures.answer) tt,
   put_back c.args.dcel.now _ _ _ c.args.point _ c.every_mesh.ensures c.requires.under_way.closed c.in_ok-vertex.ensures.edit
       c.in_ok-vertex.ensures.answer c.in_default.ensures.refused c.take_back.ensures.edit,
 )
@@ -25,7 +26,7 @@ returns-clause-under_way g c =
     let old = c.args.dcel.now in
     let due = c.args.due.now.items in
     put_under_way (λ m v h e f. vertex_inserted m v c.args.face h e f) _ _ _ 3 2 old _ _ c.args.point _ due (edges_inserted old c.args.face) _
-    (λ h e f mid done. inserted-under_way old c.every_mesh.ensures c.args.point due c.requires.under_way mid h e f c.args.face c.requires.triangle c.requires.inside done)
+    (λ h e f mid done. inserted-under_way old c.every_mesh.ensures c.args.point due c.requires.under_way mid h e f c.args.face c.requires.inner c.requires.triangle c.requires.inside done)
     c.in_ok-vertex.ensures.edit c.in_ok-vertex.ensures.answer c.in-Ok.ensures.edit c.in_ok-vertex.ensures.mesh c.insert_into_triangle.ensures.mesh
     (rw (
       c.push_reserved-3.ensures.items,

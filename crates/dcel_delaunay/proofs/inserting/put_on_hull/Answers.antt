@@ -1,6 +1,7 @@
-use Rattle.std.proofs.Common.{◌≡◌, ◌≢◌, rules, append_assoc}
+use Rattle.std.proofs.Common.{append_assoc, subst, sym}
 use Rattle.dcel_maps.specs.edits.Split.{half_edge_split}
 use Rattle.dcel_plane.specs.Edges.{edges_half_split}
+use Rattle.dcel_delaunay.specs.Growing.{MayRefuse}
 use Rattle.dcel_delaunay.proofs.Growth.{half_split-keeps}
 use Rattle.dcel_delaunay.proofs.Puts.{as_it_was, put_back, put_gains, put_under_way}
 use Rattle.dcel_delaunay.proofs.UnderWay.{half_split-under_way}
@@ -8,7 +9,7 @@ use Rattle.dcel_delaunay.proofs.inserting.put_on_hull.Goals as goal
 
 pub returns-in_default-clause-refused : goal.returns-in_default-clause-refused
 returns-in_default-clause-refused g c = (
-  search (rules, c.take_back.ensures.answer),
+  subst (MayRefuse c.args.dcel.now.shape) (sym c.take_back.ensures.answer) tt,
   put_back c.args.dcel.now _ _ _ c.args.point _ c.every_mesh.ensures c.requires.under_way.closed c.in_ok-vertex.ensures.edit
       c.in_ok-vertex.ensures.answer c.in_default.ensures.refused c.take_back.ensures.edit,
 )

@@ -1,5 +1,5 @@
-use Rattle.std.proofs.Common.{◌≡◌, length, sym, subst, take, take_all, List, ℕ}
-use Rattle.dcel_delaunay.proofs.Standing.{adds_both, stand_all, stand_more}
+use Rattle.std.proofs.Common.{◌≡◌, ◌+◌, arith, length, sym, subst, take, take_all, List, ℕ}
+use Rattle.dcel_delaunay.proofs.Standing.{adds_both, adds_more, stand_all, stand_more}
 use Rattle.dcel_delaunay.specs.Bulk.{ListsEach, StandSoFar}
 use Rattle.dcel_delaunay.specs.Triangulated.{mesh_in}
 use Rattle.dcel_delaunay.proofs.triangulation.Triangulation.insert_all.Goals as goal
@@ -7,7 +7,10 @@ use Rattle.dcel_delaunay.proofs.triangulation.Triangulation.insert_all.Goals as 
 pub loop-number-preserved : goal.loop-number-preserved
 loop-number-preserved g c = record {
   whole = c.in_ok-insert_numbered.ensures.whole;
-  adds = adds_both (mesh_in c.args.self.now) (mesh_in c.loop-number.self) (mesh_in c.insert_numbered.new.self) c.loop-number.invariant.adds c.insert_numbered.ensures.adds;
+  adds = adds_both (mesh_in c.args.self.now) (mesh_in c.loop-number.self) (mesh_in c.insert_numbered.new.self) c.args.points.now c.loop-number.number-index 1
+      c.loop-number.invariant.adds c.insert_numbered.ensures.adds;
+  edges = omega (arith, c.loop-number.invariant.edges, c.insert_numbered.ensures.edges);
+  within = omega (arith, c.loop-number-test.true);
   stand = stand_more (mesh_in c.loop-number.self) (mesh_in c.insert_numbered.new.self) c.args.points.now c.deref-number-items.result.now
       c.loop-number.vertices.items c.insert_numbered.new.vertices.items c.loop-number.number-index c.loop-number-test.true c.loop-number.invariant.stand
       c.in_ok-insert_numbered.ensures.stands;
@@ -21,3 +24,14 @@ returns-clause-stand g c =
     (subst (ListsEach (length c.args.points.now)) (sym c.deref-number-items.ensures.value) c.in_ok-order.ensures.each)
     (subst (λ (taken : List ℕ). StandSoFar (mesh_in c.loop-number.self) c.args.points.now taken vertices)
     (take_all c.loop-number.number-index order c.loop-number-test.false) c.loop-number.invariant.stand)
+
+pub returns-in_err-insert_numbered-clause-adds : goal.returns-in_err-insert_numbered-clause-adds
+returns-in_err-insert_numbered-clause-adds g c =
+    let old = mesh_in c.args.self.now in
+    let mid = mesh_in c.loop-number.self in
+    let new = mesh_in c.insert_numbered.new.self in
+    let points = c.args.points.now in
+    let index = c.loop-number.number-index in
+    let long = (subst (ListsEach (length points)) (sym c.deref-number-items.ensures.value) c.in_ok-order.ensures.each).length_is in
+    adds_more old new points (index + 1) (length points) (omega (arith, c.loop-number-test.true, long))
+    (adds_both old mid new points index 1 c.loop-number.invariant.adds c.insert_numbered.ensures.adds)

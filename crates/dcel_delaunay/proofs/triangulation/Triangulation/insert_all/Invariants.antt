@@ -1,4 +1,4 @@
-use Rattle.std.proofs.Common.{take}
+use Rattle.std.proofs.Common.{◌≤◌, length, take}
 use Rattle.dcel_delaunay.specs.Bulk.{AddsVertices, StandSoFar}
 use Rattle.dcel_delaunay.specs.Triangulated.{IsWhole, mesh_in}
 use Rattle.dcel_delaunay.proofs.triangulation.Triangulation.insert_all.Given as goal
@@ -6,6 +6,8 @@ use Rattle.dcel_delaunay.proofs.triangulation.Triangulation.insert_all.Given as 
 abbrev pub invariant-loop-number : goal.invariant-loop-number
 invariant-loop-number g l = record {
   whole : IsWhole l.self;
-  adds : AddsVertices (mesh_in l.fn.self) (mesh_in l.self);
+  adds : AddsVertices (mesh_in l.fn.self) (mesh_in l.self) l.points l.number-index;
+  edges : (mesh_in l.fn.self).shape.edges ≤ (mesh_in l.self).shape.edges;
+  within : l.number-index ≤ length l.number-items;
   stand : StandSoFar (mesh_in l.self) l.points (take l.number-index l.number-items) l.vertices.items;
 }

@@ -1,5 +1,5 @@
 use Rattle.std.proofs.Common.{◌≡◌, List, ℕ, sym, subst, ◌∙◌}
-use Rattle.dcel_delaunay.proofs.Standing.{adds_one, stands_too, stands_none_too}
+use Rattle.dcel_delaunay.proofs.Standing.{adds_one, refused_adds, stands_too, stands_none_too}
 use Rattle.dcel_delaunay.specs.Bulk.{StandsToo}
 use Rattle.dcel_delaunay.specs.Triangulated.{mesh_in}
 use Rattle.dcel_delaunay.proofs.triangulation.Triangulation.insert_numbered.Goals as goal
@@ -9,9 +9,21 @@ returns-in_ok-vertex-clause-stands g c =
     let old = mesh_in c.args.self.now in
     let new = mesh_in c.insert.new.self in
     let takes = c.in_ok-vertex.ensures.inserts in
+    let at = sym c.point_of.ensures ∙ c.in-Some.is in
     subst (StandsToo old new c.args.points.now c.args.number c.args.vertices.now.items) (sym c.note.ensures)
-    (stands_too old new c.args.points.now c.args.vertices.now.items c.args.number _ c.in-Some.point (sym c.point_of.ensures ∙ c.in-Some.is) (adds_one old new c.in-Some.point takes.points) takes.has)
+    (stands_too old new c.args.points.now c.args.vertices.now.items c.args.number _ c.in-Some.point 1 at
+    (adds_one old new c.args.points.now c.args.number c.in-Some.point at takes.points) takes.has)
+
+pub returns-in_ok-vertex-clause-adds : goal.returns-in_ok-vertex-clause-adds
+returns-in_ok-vertex-clause-adds g c =
+    adds_one (mesh_in c.args.self.now) (mesh_in c.insert.new.self) c.args.points.now c.args.number c.in-Some.point (sym c.point_of.ensures ∙ c.in-Some.is)
+    c.in_ok-vertex.ensures.inserts.points
 
 pub returns-in_default-clause-stands : goal.returns-in_default-clause-stands
 returns-in_default-clause-stands g c =
     stands_none_too (mesh_in c.args.self.now) c.args.points.now c.args.vertices.now.items c.args.number (sym c.point_of.ensures ∙ c.in_default.is)
+
+pub returns-in_err-vertex-clause-adds : goal.returns-in_err-vertex-clause-adds
+returns-in_err-vertex-clause-adds g c =
+    refused_adds _ _ _ (mesh_in c.args.self.now) (mesh_in c.insert.new.self) c.args.points.now c.args.number c.in-Some.point (sym c.point_of.ensures ∙ c.in-Some.is)
+    c.in_err-vertex.ensures.refuses
