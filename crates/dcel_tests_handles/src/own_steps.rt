@@ -1,6 +1,6 @@
 //! A caller's own steps, over the public trait alone.
 
-ghost use Rattle.dcel_bench_handles.specs.Steps.{rev_lawful};
+ghost use Rattle.dcel_tests_handles.specs.Steps.{rev_lawful};
 ghost use Rattle.dcel_fixed.specs.HalfEdges.{rev};
 ghost use Rattle.dcel_maps.specs.Laws.{back_lawful};
 ghost use Rattle.dcel_maps.specs.Shapes.{next_of, prev_of};
