@@ -2,10 +2,8 @@
 //! aren't.
 
 use dcel_bench::checks::same;
-use dcel_bench::growths::cut_triangle;
+use dcel_bench::lines::{CUT, carry_out, grown};
 use dcel_bench::meshes::{Mesh, half_edge, inner_face, undirected_edge};
-use dcel_bench::openers::Opener::Isolate;
-use dcel_bench::openers::open;
 use std::test::Fail;
 
 /// A number, and whether a half edge, an edge and a face with it are lent.
@@ -62,8 +60,8 @@ fn check_lent(dcel: &Mesh, rows: &[Row]) -> Result<(), Fail> {
 
 #[test]
 fn what_is_live_is_lent(rt: HostRuntime) -> Result<(), Fail> {
-    let mut dcel = cut_triangle(rt.alloc())?;
+    let mut dcel = grown(rt.alloc(), CUT)?;
     check_lent(&dcel, &CLOSED)?;
-    let _opened = open(&mut dcel, rt.alloc(), Isolate(3, &[1, 3, 5]))?;
+    carry_out(&mut dcel, "isolate 3 1 3 5", rt.alloc())?;
     check_lent(&dcel, &OPEN)
 }
