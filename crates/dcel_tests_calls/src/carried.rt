@@ -4,10 +4,10 @@ use dcel_bench::checks::{holds, same};
 use dcel_bench::lines::{CUT, FIRST_EDGE, LINE, SPLIT_EDGE, carry_out, grown};
 use dcel_bench::meshes::{Mesh, counts, edge_between, vertex};
 use dcel_bench::require;
-use spade_dcel::dcel::RemovalState;
 use spade_dcel::handles::{FixedDirectedEdgeHandle, FixedVertexHandle};
 use spade_dcel::operations::{
-    IsolateVertexResult, cleanup_isolated_vertex, isolate_vertex_and_fill_hole, swap_remove_vertex,
+    IsolateVertexResult, Room, cleanup_isolated_vertex, isolate_vertex_and_fill_hole,
+    swap_remove_vertex,
 };
 use std::alloc::Global;
 use std::test::Fail;
@@ -139,27 +139,35 @@ fn border_of(
     Ok(border)
 }
 
-fn check_not_listed(dcel: &Mesh, opened: &IsolateVertexResult<Global>) -> Result<(), Fail> {
-    let is_listed = dcel.is_listed(opened);
-    holds(!is_listed, "nothing is listed once it is cleaned up")
+/// Takes out what is given up, which is listed no longer then.
+fn clean_up(dcel: &mut Mesh, opened: &mut IsolateVertexResult) -> Result<(), Fail> {
+    require!(dcel.is_listed(opened));
+    cleanup_isolated_vertex(dcel, opened);
+    holds(
+        !dcel.is_listed(opened),
+        "nothing is listed once it is cleaned up",
+    )
 }
 
-/// Removes a vertex: it is given up with its border loop, and the hole is filled and cleaned up.
-fn take_out(
+/// Gives up a vertex with its border loop, fills the hole and cleans it up.
+fn give_up(
     dcel: &mut Mesh,
     center: FixedVertexHandle,
     border: Vec<FixedDirectedEdgeHandle>,
 ) -> Result<(), Fail> {
-    require!(center.index() < dcel.num_vertices());
-    require!(dcel.removal_state() == RemovalState::Closed);
-    require!(dcel.is_border_loop(&border, center));
-    require!(dcel.has_room(0, border.len() - 3, border.len() - 2));
+    require!(
+        dcel.can_isolate_vertex_and_fill_hole(&border, center)
+            && dcel.has_room_for(Room::filling(border.len()))
+    );
     let mut opened = isolate_vertex_and_fill_hole(dcel, border, center)?;
-    require!(dcel.is_listed(&opened));
-    cleanup_isolated_vertex(dcel, &mut opened);
-    check_not_listed(dcel, &opened)?;
-    require!(dcel.removal_state() == RemovalState::Cleaned);
-    require!(!dcel.is_live_vertex(center));
+    clean_up(dcel, &mut opened)
+}
+
+/// Removes a vertex: it is given up with its border loop, and the hole is filled and cleaned up.
+fn take_out(dcel: &mut Mesh, center: FixedVertexHandle, alloc: Global) -> Result<(), Fail> {
+    let border = border_of(dcel, center, alloc)?;
+    give_up(dcel, center, border)?;
+    require!(dcel.can_swap_remove(center));
     swap_remove_vertex(dcel, center);
     Ok(())
 }
@@ -172,9 +180,7 @@ fn check_removed(
     wanted: [usize; 3],
     alloc: Global,
 ) -> Result<(), Fail> {
-    let center = vertex(index);
-    let border = border_of(dcel, center, alloc)?;
-    take_out(dcel, center, border)?;
+    take_out(dcel, vertex(index), alloc)?;
     check(dcel, wanted)
 }
 
@@ -184,20 +190,23 @@ fn test_insert_into_and_remove_from_triangle(rt: HostRuntime) -> Result<(), Fail
     check_removed(&mut dcel, 3, [3, 6, 2], rt.alloc())
 }
 
-/// Returns a cut triangle with vertex 4 in the middle of the edge from 0 to 3, which is found by
-/// its ends.
-fn split_inside(alloc: Global) -> Result<Mesh, Fail> {
-    let mut dcel = grown(alloc, CUT)?;
-    let edge = number_between(&dcel, 0, 3)?;
+/// Puts vertex 4 into the middle of the edge from 0 to 3, which is found by its ends.
+fn split_inside(dcel: &mut Mesh, alloc: Global) -> Result<(), Fail> {
+    let edge = number_between(dcel, 0, 3)?;
     let lines = format!(in alloc; "append 4\nsplit {edge} 4")?;
-    carry_out(&mut dcel, &lines, alloc)?;
-    Ok(dcel)
+    carry_out(dcel, &lines, alloc)
+}
+
+/// Removes the vertex that splits an edge.
+fn check_split_undone(dcel: &mut Mesh, alloc: Global) -> Result<(), Fail> {
+    split_inside(dcel, alloc)?;
+    check_removed(dcel, 4, [4, 12, 4], alloc)
 }
 
 #[test]
 fn test_insert_into_and_remove_from_quad(rt: HostRuntime) -> Result<(), Fail> {
-    let mut dcel = split_inside(rt.alloc())?;
-    check_removed(&mut dcel, 4, [4, 12, 4], rt.alloc())
+    let mut dcel = grown(rt.alloc(), CUT)?;
+    check_split_undone(&mut dcel, rt.alloc())
 }
 
 #[test]
@@ -206,13 +215,14 @@ fn test_half_edge_split(rt: HostRuntime) -> Result<(), Fail> {
     check_grown(rt.alloc(), lines, [4, 10, 3])
 }
 
-fn check_split(dcel: &Mesh) -> Result<(), Fail> {
+fn check_split(dcel: &mut Mesh, alloc: Global) -> Result<(), Fail> {
+    split_inside(dcel, alloc)?;
     same(edge_between(dcel, 0, 3)?, None, "between 0 and 3")?;
     check(dcel, [5, 18, 6])
 }
 
 #[test]
 fn test_split(rt: HostRuntime) -> Result<(), Fail> {
-    let dcel = split_inside(rt.alloc())?;
-    check_split(&dcel)
+    let mut dcel = grown(rt.alloc(), CUT)?;
+    check_split(&mut dcel, rt.alloc())
 }

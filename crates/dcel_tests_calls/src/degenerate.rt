@@ -134,11 +134,15 @@ const LAST: [[Removal; 2]; 2] = [
     [("degenerate 1", "removed 1"), ("degenerate 0", "removed 0")],
 ];
 
+fn check_pair(alloc: Global, removals: [Removal; 2]) -> Result<(), Fail> {
+    let mut dcel = grown(alloc, FIRST_EDGE)?;
+    check_both_removed(&mut dcel, removals, alloc)
+}
+
 #[test]
 fn the_last_vertices_are_removed(rt: HostRuntime) -> Result<(), Fail> {
     for removals in LAST {
-        let mut dcel = grown(rt.alloc(), FIRST_EDGE)?;
-        check_both_removed(&mut dcel, removals, rt.alloc())?;
+        check_pair(rt.alloc(), removals)?;
     }
     Ok(())
 }

@@ -33,7 +33,7 @@ const FLIPPED_OUTSIDE: Links = (
     &[2, 3, 1, 2, 2, 0, 0, 3, 2, 3, 1, 3],
 );
 
-/// Lines on a cut triangle, and the links then. Four flips of an edge go round.
+/// Flips of a cut triangle, and the links then. Four flips of an edge go round.
 const LINKS: [(&str, Links); 5] = [
     ("flip 3", FLIPPED_ONCE),
     ("flip 3\nflip 3", FLIPPED_TWICE),
@@ -42,40 +42,53 @@ const LINKS: [(&str, Links); 5] = [
     ("flip 0", FLIPPED_OUTSIDE),
 ];
 
-fn check_flips(dcel: &mut Mesh, (flips, links): (&str, Links), alloc: Global) -> Result<(), Fail> {
+/// Checks the links of a cut triangle after these flips.
+fn check_flipped(dcel: &mut Mesh, flips: &str, links: Links, alloc: Global) -> Result<(), Fail> {
     carry_out(dcel, flips, alloc)?;
     check_sound(dcel, links)
 }
 
+fn check_flips(alloc: Global, flips: &str, links: Links) -> Result<(), Fail> {
+    let mut dcel = grown(alloc, CUT)?;
+    check_flipped(&mut dcel, flips, links, alloc)
+}
+
 #[test]
 fn edges_are_flipped(rt: HostRuntime) -> Result<(), Fail> {
-    for row in LINKS {
-        let mut dcel = grown(rt.alloc(), CUT)?;
-        check_flips(&mut dcel, row, rt.alloc())?;
+    for (flips, links) in LINKS {
+        check_flips(rt.alloc(), flips, links)?;
     }
     Ok(())
 }
 
-/// Lines that flip an edge of a cut triangle, and the anchors of the vertices and of the faces then.
+/// Lines, and the anchors of the vertices and of the faces then.
 const ANCHORS: [(&str, [u32; 4], [u32; 4]); 2] = [
-    ("flip 3", [5, 2, 4, 11], [0, 6, 7, 3]),
-    ("flip 0", [6, 2, 4, 7], [0, 1, 5, 3]),
+    (
+        "triangle 0 1 2\nappend 3\ninsert 3 1\nflip 3",
+        [5, 2, 4, 11],
+        [0, 6, 7, 3],
+    ),
+    (
+        "triangle 0 1 2\nappend 3\ninsert 3 1\nflip 0",
+        [6, 2, 4, 7],
+        [0, 1, 5, 3],
+    ),
 ];
 
 fn check_moved(
-    dcel: &mut Mesh,
-    (flip, out_edges, adjacent_edges): (&str, [u32; 4], [u32; 4]),
     alloc: Global,
+    lines: &str,
+    out_edges: &[u32],
+    adjacent_edges: &[u32],
 ) -> Result<(), Fail> {
-    carry_out(dcel, flip, alloc)?;
-    check_anchors(dcel, &out_edges, &adjacent_edges)
+    let dcel = grown(alloc, lines)?;
+    check_anchors(&dcel, out_edges, adjacent_edges)
 }
 
 #[test]
 fn anchors_move_on(rt: HostRuntime) -> Result<(), Fail> {
-    for row in ANCHORS {
-        let mut dcel = grown(rt.alloc(), CUT)?;
-        check_moved(&mut dcel, row, rt.alloc())?;
+    for (lines, out_edges, adjacent_edges) in ANCHORS {
+        check_moved(rt.alloc(), lines, &out_edges, &adjacent_edges)?;
     }
     Ok(())
 }

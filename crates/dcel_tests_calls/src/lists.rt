@@ -126,12 +126,16 @@ fn check_outcome(dcel: &mut Mesh, row: &Row, alloc: Global) -> Result<(), Fail> 
     }
 }
 
-/// Checks the replies to the commands of a row on an empty mesh, and the mesh that they leave.
+/// Checks the replies to the commands of a row, and the mesh that they leave.
+fn check_list(dcel: &mut Mesh, row: &Row, alloc: Global) -> Result<(), Fail> {
+    check_outcome(dcel, row, alloc)?;
+    same(dcel.num_vertices(), row.vertices, "vertices")?;
+    check_links(dcel, row.links.0, row.links.1)
+}
+
 fn check_row(row: &Row, alloc: Global) -> Result<(), Fail> {
     let mut dcel = new(alloc)?;
-    check_outcome(&mut dcel, row, alloc)?;
-    same(dcel.num_vertices(), row.vertices, "vertices")?;
-    check_links(&dcel, row.links.0, row.links.1)
+    check_list(&mut dcel, row, alloc)
 }
 
 #[test]

@@ -4,6 +4,7 @@
 use dcel_bench::checks::same;
 use dcel_bench::lines::{CUT, carry_out, grown};
 use dcel_bench::meshes::{Mesh, half_edge, inner_face, undirected_edge};
+use std::alloc::Global;
 use std::test::Fail;
 
 /// A number, and whether a half edge, an edge and a face with it are lent.
@@ -58,10 +59,15 @@ fn check_lent(dcel: &Mesh, rows: &[Row]) -> Result<(), Fail> {
     Ok(())
 }
 
+/// Checks what is lent of a cut triangle before and after vertex 3 is given up.
+fn check_lent_and_opened(dcel: &mut Mesh, alloc: Global) -> Result<(), Fail> {
+    check_lent(dcel, &CLOSED)?;
+    carry_out(dcel, "isolate 3 1 3 5", alloc)?;
+    check_lent(dcel, &OPEN)
+}
+
 #[test]
 fn what_is_live_is_lent(rt: HostRuntime) -> Result<(), Fail> {
     let mut dcel = grown(rt.alloc(), CUT)?;
-    check_lent(&dcel, &CLOSED)?;
-    carry_out(&mut dcel, "isolate 3 1 3 5", rt.alloc())?;
-    check_lent(&dcel, &OPEN)
+    check_lent_and_opened(&mut dcel, rt.alloc())
 }

@@ -6,11 +6,11 @@ use dcel_bench::checks::{holds, same};
 use dcel_bench::data::{Datum, write_all};
 use dcel_bench::lines::{CUT, grown, opened};
 use dcel_bench::meshes::{
-    Links, Mesh, TRIANGLE, check_links, handles, inner_face, out_edge, undirected_edge, vertex,
+    Links, Mesh, TRIANGLE, check_links, inner_face, out_edge, undirected_edge, vertex,
 };
 use dcel_bench::require;
 use spade_dcel::dcel::RemovalState;
-use spade_dcel::handles::{FixedFaceHandle, FixedUndirectedEdgeHandle, InnerTag};
+use spade_dcel::handles::{FixedHandleImpl, InnerTag};
 use spade_dcel::operations::{IsolateVertexResult, cleanup_isolated_vertex};
 use std::alloc::Global;
 use std::test::Fail;
@@ -173,18 +173,23 @@ fn check_anchors(dcel: &Mesh, anchors: &[Option<usize>]) -> Result<(), Fail> {
     Ok(())
 }
 
-/// Checks that the opener has answered the lists of the row.
-fn check_lists(opened: &Opened, row: Row, alloc: Global) -> Result<(), Fail> {
-    let edges: Vec<FixedUndirectedEdgeHandle> = handles(row.edges, alloc)?;
-    let faces: Vec<FixedFaceHandle<InnerTag>> = handles(row.faces, alloc)?;
-    let new_edges: Vec<FixedUndirectedEdgeHandle> = handles(row.new_edges, alloc)?;
-    same(opened.edges_to_remove.as_slice(), edges.as_slice(), "edges")?;
-    same(opened.faces_to_remove.as_slice(), faces.as_slice(), "faces")?;
-    same(
-        opened.new_edges.as_slice(),
-        new_edges.as_slice(),
-        "new edges",
-    )
+/// Checks that the elements have these numbers.
+fn check_listed<Kind>(
+    elements: &[FixedHandleImpl<Kind, InnerTag>],
+    numbers: &[u32],
+) -> Result<(), Fail> {
+    same(elements.len(), numbers.len(), "how many are listed")?;
+    for (element, number) in elements.iter().zip(numbers) {
+        same(element.index(), *number as usize, "what is listed")?;
+    }
+    Ok(())
+}
+
+/// Checks that the opener has returned the lists of the row.
+fn check_lists(opened: &Opened, row: Row) -> Result<(), Fail> {
+    check_listed(&opened.edges_to_remove, row.edges)?;
+    check_listed(&opened.faces_to_remove, row.faces)?;
+    check_listed(&opened.new_edges, row.new_edges)
 }
 
 /// Checks that these edges are live, or that none of them is.
@@ -261,13 +266,8 @@ fn clean_up(dcel: &mut Mesh, opened: &mut Opened, row: Row) -> Result<(), Fail> 
 }
 
 /// Checks that a removal has been opened as the row says, and is cleaned up so.
-fn check_removal(
-    dcel: &mut Mesh,
-    opened: &mut Opened,
-    row: Row,
-    alloc: Global,
-) -> Result<(), Fail> {
-    check_lists(opened, row, alloc)?;
+fn check_removal(dcel: &mut Mesh, opened: &mut Opened, row: Row) -> Result<(), Fail> {
+    check_lists(opened, row)?;
     check_new_edges(opened, row.new_edges)?;
     check_open(dcel, row)?;
     clean_up(dcel, opened, row)
@@ -277,7 +277,7 @@ fn check_removal(
 fn open(dcel: &mut Mesh, row: Row, alloc: Global) -> Result<(), Fail> {
     write_all(dcel, &WRITTEN)?;
     let mut opened = opened(dcel, row.opener, alloc)?;
-    check_removal(dcel, &mut opened, row, alloc)
+    check_removal(dcel, &mut opened, row)
 }
 
 /// Checks that the removal of a row is opened and cleaned up as it says.

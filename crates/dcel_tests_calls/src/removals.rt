@@ -70,10 +70,15 @@ fn check_none_opens(dcel: &Mesh, alloc: Global) -> Result<(), Fail> {
     check_asked(dcel, "strip 1 0", [true, false], alloc)
 }
 
+/// Checks what is asked of a cut triangle before and after vertex 3 is given up.
+fn check_asked_and_opened(dcel: &mut Mesh, alloc: Global) -> Result<(), Fail> {
+    check_openers(dcel, alloc)?;
+    carry_out(dcel, "isolate 3 1 3 5", alloc)?;
+    check_none_opens(dcel, alloc)
+}
+
 #[test]
 fn what_openers_ask_is_told(rt: HostRuntime) -> Result<(), Fail> {
     let mut dcel = grown(rt.alloc(), CUT)?;
-    check_openers(&dcel, rt.alloc())?;
-    carry_out(&mut dcel, "isolate 3 1 3 5", rt.alloc())?;
-    check_none_opens(&dcel, rt.alloc())
+    check_asked_and_opened(&mut dcel, rt.alloc())
 }

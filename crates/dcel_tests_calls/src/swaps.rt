@@ -134,11 +134,20 @@ fn renumbered(origins: &[u32], numbers: &[u32], alloc: Global) -> Result<Vec<u32
     Ok(list)
 }
 
+/// Checks that the mesh has these links, except that its vertices have these numbers.
+fn check_renumbered(
+    dcel: &Mesh,
+    (words, origins): Links,
+    numbers: &[u32],
+    alloc: Global,
+) -> Result<(), Fail> {
+    let origins = renumbered(origins, numbers, alloc)?;
+    check_links(dcel, words, &origins)
+}
+
 /// Checks that the mesh is the row's, except that its vertices have these numbers.
 fn check_numbers(dcel: &Mesh, row: Row, numbers: &[u32], alloc: Global) -> Result<(), Fail> {
-    let (words, origins) = row.links;
-    let origins = renumbered(origins, numbers, alloc)?;
-    check_links(dcel, words, &origins)?;
+    check_renumbered(dcel, row.links, numbers, alloc)?;
     check_vertices(dcel, row.vertices, numbers)?;
     same(
         dcel.sanity_check(),
