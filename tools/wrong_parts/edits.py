@@ -9,6 +9,7 @@ import prover
 
 FUNCTION = re.compile(r'(?m)^([ \t]*)(?:pub(?:\([^)]*\))? )?(?:const |unsafe |extern "C" )*fn (\w+)')
 IMPL = re.compile(r"(?m)^(?:unsafe )?(impl\b[^{]*)")
+TYPE = re.compile(r"(?m)^[ \t]*(?:pub(?:\([^)]*\))? )?(?:struct|enum|union) (\w+)")
 # Comments, strings and characters, whose braces don't count.
 OTHER = re.compile(r"//[^\n]*|\"(?:[^\"\\]|\\.)*\"|b?'(?:[^'\\]|\\.)'", re.DOTALL)
 
@@ -30,37 +31,49 @@ def code_of(text):
     return OTHER.sub(lambda it: re.sub(r"[^\n]", " ", it[0]), text)
 
 
-def owner_of(head):
-    """How the prover spells the head of an impl: its type, and behind that its trait, without what stands in angle brackets."""
-    names, depth = "", 0
-    for it in head.replace("->", "").partition(" where ")[0]:
-        depth += (it == "<") - (it == ">")
-        names += it if depth == 0 and it != ">" else ""
-    trait, _, owner = names.removeprefix("impl").rpartition(" for ")
-    return "".join(it.strip().split("::")[-1] for it in (owner, trait))
+def split_at_angles(text):
+    """What stands outside of the outermost angle brackets of a type or the head of an impl, and the items inside of the last ones."""
+    outside, inside, depth = "", [""], 0
+    for it in text.replace("->", ""):
+        depth -= it == ">"
+        if depth == 0:
+            outside, inside = outside + it.strip("<>"), [""] if it == "<" else inside
+        elif depth == 1 and it == ",":
+            inside.append("")
+        else:
+            inside[-1] += it
+        depth += it == "<"
+    return outside, [it.strip() for it in inside if it.strip()]
 
 
-def function_round(text, place):
+def owner_of(head, declared):
+    """How the prover spells the head of an impl: its type, and behind that its trait. Of a type that isn't declared in the crate, as an
+    alias, it has the arguments too, without lifetimes."""
+    outside, arguments = split_at_angles(head.partition(" where ")[0])
+    trait, _, owner = outside.removeprefix("impl").rpartition(" for ")
+    trait, owner = (it.strip().split("::")[-1] for it in (trait, owner))
+    if owner not in declared:
+        owner += "".join(f"+{it}" for it in arguments if not it.startswith("'"))
+    return owner + trait
+
+
+def function_round(text, place, declared):
     """The name and the impl of the function round this place of a file; None and "" where there is none. A function ends with the brace
-    that is indented as it is."""
+    that is indented as it is. These types are declared in the crate."""
     code = code_of(text)
     begun = [it for it in FUNCTION.finditer(code) if it.start() <= place]
     end = re.compile(rf"(?m)^{begun[-1][1]}\}}").search(code, begun[-1].end()) if begun else None
     if not end or end.start() <= place:
         return None, ""
     heads = [it for it in IMPL.finditer(code) if it.start() < place] if begun[-1][1] else []
-    return begun[-1][2], owner_of(" ".join(heads[-1][1].split())) if heads else ""
+    return begun[-1][2], owner_of(" ".join(heads[-1][1].split()), declared) if heads else ""
 
 
 @functools.cache
-def times_of_names(crate):
-    """How often each name of a function stands in the crate."""
-    found = {}
-    for file in prover.sources(crate):
-        if file.suffix == ".rt":
-            for _, name in FUNCTION.findall(code_of(file.read_text())):
-                found[name] = found.get(name, 0) + 1
-    return found
+def names_in(crate):
+    """The names of the functions of the crate, as often as they stand there, and those of its types."""
+    code = "\n".join(code_of(it.read_text()) for it in prover.sources(crate) if it.suffix == ".rt")
+    return [name for _, name in FUNCTION.findall(code)], set(TYPE.findall(code))
 
 
 class Edit:
@@ -94,7 +107,7 @@ class Edit:
             if old == new:
                 raise ValueError("it changes nothing")
             if path.startswith("src/"):
-                places.add(Place(path, *function_round(text, text.index(old))))
+                places.add(Place(path, *function_round(text, text.index(old), names_in(self.crate)[1])))
             texts[path] = text.replace(old, new)
         if not places:
             raise ValueError("it changes no body")

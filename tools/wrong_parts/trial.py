@@ -6,7 +6,7 @@ import tempfile
 from pathlib import Path
 
 import prover
-from wrong_parts.edits import times_of_names
+from wrong_parts.edits import names_in
 
 JUDGED = re.compile(r"(?m)^(?:fn|impl) (\S+): (.*)$")
 REFUSED = re.compile(r"not proved|no proof: expected")
@@ -131,7 +131,7 @@ class Trial:
     def part(self, place):
         module, names = place.module(), []
         if place.function:
-            if times_of_names(self.crate)[place.function] == 1:
+            if names_in(self.crate)[0].count(place.function) == 1:
                 names.append(place.function)
             names.append("::".join(it for it in [module, place.owner, place.function] if it))
         return next((it for it in [*names, module] if it and it not in self.unknown), None)
