@@ -26,6 +26,12 @@ def kit():
 
 
 @functools.cache
+def version():
+    """The line that names the kit."""
+    return subprocess.run(["rt", "version"], capture_output=True, check=True).stdout
+
+
+@functools.cache
 def crates():
     """The crates of crates.txt: for each its kind, as `staticlib` or "", and the libraries that it lists."""
     found = {}

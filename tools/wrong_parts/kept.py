@@ -14,7 +14,7 @@ TOOL = [Path(prover.__file__), *sorted(Path(__file__).parent.glob("*.py"))]
 @functools.cache
 def sum_of(crate):
     """A sum of the kit, of this tool, and of the files of the crate and of those below it."""
-    found = hashlib.sha256((prover.kit() / "KIT-ID").read_bytes())
+    found = hashlib.sha256(prover.version())
     for file in TOOL:
         found.update(file.read_bytes())
     for name in [crate, *prover.below(crate)]:
