@@ -1,4 +1,5 @@
 pub mod Columns
+pub mod Courses
 pub mod Decided
 pub mod Ending
 pub mod FaceWalks

@@ -2,10 +2,14 @@
 use Rattle.std.proofs.Common.{◌≡◌, ◌⊎◌, inl, inr, ℕ, suc, ◌<◌, ◌≤◌, Bool, List, [], ◌∷◌, ◌++◌, length, refl, sym, ap, subst, arith}
 use Rattle.std.proofs.lemmas.Bool.{cases_lt}
 use Rattle.dcel_maps.specs.edits.Flip.{edge_flipped}
-use Rattle.dcel_maps.specs.Shapes.{IsMesh, Mesh}
+use Rattle.dcel_maps.specs.EditLists.{EditedBy}
+use Rattle.dcel_maps.specs.EditLists.EditKind.{ear_cut, words_joined}
+use Rattle.dcel_maps.specs.Shapes.{IsMesh, Mesh, map_of}
+use Rattle.dcel_maps.proofs.lists.Growing.{flip_listed}
+use Rattle.dcel_maps.proofs.maps.Lists.{comes_then, extends_same}
 use Rattle.dcel_maps.specs.Words.{count_of}
 use Rattle.dcel_maps.proofs.words.Counts.{count-append, first_or_later}
-use Rattle.dcel_legalize.specs.Flipping.{EachInTurn, Ending, Follows, IsDue, IsOffered, IsSettled, IsTurn, SomeDue, edges_beside, edges_flipped}
+use Rattle.dcel_legalize.specs.Flipping.{EachInTurn, Ending, Follows, IsDue, IsOffered, IsSettled, IsTurn, SomeDue, edges_beside, edges_flipped, flip_list}
 use Rattle.dcel_legalize.specs.Flipping.Ending.{Settled, AtLimit, NoMemory}
 use Rattle.dcel_legalize.specs.Flipping.Follows.{settles, skips, stops, gives_up, flips}
 use Rattle.dcel_legalize.proofs.Untouched.{beside-listed, due_was, flipped_mesh, its_own, listed-beside, own-listed}
@@ -76,6 +80,18 @@ module _ {V DE UE F : Type 0} (w : List ℕ → Bool) where
       | inr not ↦ inl (λ due. omega (arith, not, each v due))
     ]);
   }
+
+  -- a run is a list of flips
+  pub run_listed : (m : Mesh V DE UE F) (list : List ℕ) (left : ℕ) (us : List ℕ) (end : Ending) → IsMesh m → Follows w m list left us end
+      → EditedBy (flip_list us) m (edges_flipped m us)
+  run_listed m list left us end mesh (settles _ _) = extends_same (map_of m.shape)
+  run_listed m list left us end mesh (skips _ rest u _ _ _ undue run) = run_listed m rest left us end mesh run
+  run_listed m list left us end mesh (stops _ rest u due) = extends_same (map_of m.shape)
+  run_listed m list left us end mesh (gives_up _ rest u less due) = extends_same (map_of m.shape)
+  run_listed m list left us end mesh (flips _ rest u less more _ due run) =
+      let n = edge_flipped m u in
+      comes_then (words_joined ∷ ear_cut ∷ []) (flip_list more) (map_of m.shape) (map_of n.shape) (map_of (edges_flipped n more).shape)
+      (flip_listed m mesh u due.can) (run_listed n (rest ++ edges_beside n.shape u) less more end (flipped_mesh m mesh u due.can) run)
 
   -- no more are flipped than were allowed
   pub few : (m : Mesh V DE UE F) (list : List ℕ) (left : ℕ) (us : List ℕ) (end : Ending) → Follows w m list left us end → length us ≤ left

@@ -5,6 +5,7 @@
 #![tactic(auto)]
 
 mod by_number;
+pub mod laws;
 mod legalize;
 mod legalized;
 

@@ -12,6 +12,7 @@ use Rattle.dcel_maps.proofs.edits.Starting.{starts-still}
 use Rattle.dcel_maps.proofs.maps.Agreement.{Extends, extends_keeps}
 use Rattle.dcel_maps.proofs.maps.Labels.{Labelled}
 use Rattle.dcel_maps.proofs.shapes.Maps.{map-sound, map-sphere}
+use Rattle.dcel_maps.specs.EditLists.{ComesBy}
 
 -- the mesh with more vertices, last, without anchors
 abbrev pub vertices_appended : {V DE UE F : Type 0} → Mesh V DE UE F → List V → Mesh V DE UE F
@@ -67,6 +68,9 @@ module _ {V DE UE F : Type 0} (m : Mesh V DE UE F) (vertices : List V) where
       edge = edge;
       links = record { next = after-next m.shape c; prev = after-prev m.shape c; origin = after-origin m.shape c; face = after-face m.shape c };
     }
+
+    pub appending_made : ComesBy [] S T
+    appending_made = extends
 
     keeps : Sound T × Sphere T
     keeps = extends_keeps S T extends (map-sound mesh.sound) (map-sphere mesh.sound mesh.sphere)

@@ -14,7 +14,7 @@ use Rattle.dcel_maps.proofs.edits.Growing.{after-each, after-edge, after-face, a
 use Rattle.dcel_maps.proofs.edits.Linking.{linked-corner, linked-old, triangle_full-least, linked-new}
 use Rattle.dcel_maps.proofs.edits.Patches.{patched_at-first, patched_at-new, pushing, puts_away, puts_here, replacing}
 use Rattle.dcel_maps.proofs.edits.Starting.{NewStart, start_labelled, starts-new}
-use Rattle.dcel_maps.proofs.maps.Beside.{Beside, beside_keeps}
+use Rattle.dcel_maps.proofs.maps.Beside.{Beside, beside_comes, beside_keeps}
 use Rattle.dcel_maps.proofs.maps.Soundness.{prev_differs, next_differs}
 use Rattle.dcel_maps.proofs.maps.Triangles.{Alone, IsTriangleOf, IsLinked}
 use Rattle.dcel_maps.proofs.shapes.Maps.{face-live, map-sphere}
@@ -23,6 +23,8 @@ use Rattle.dcel_maps.proofs.words.Beside.{beside-keeps_face, beside_word}
 use Rattle.dcel_maps.proofs.words.Faces.{word_full, word_of_face}
 use Rattle.dcel_maps.specs.Around.{around}
 use Rattle.dcel_maps.proofs.edits.Around.{edited, known}
+use Rattle.dcel_maps.specs.EditLists.{ComesBy}
+use Rattle.dcel_maps.specs.EditLists.EditKind.{ear_cut, spur_added}
 
 module _ {V DE UE F : Type 0} (m : Mesh V DE UE F) where
   -- two edges from the ends of the half edge e, which stands between `before` and `after` on the face f, to the vertex `tip`: the half
@@ -150,6 +152,9 @@ module _ {V DE UE F : Type 0} (m : Mesh V DE UE F) where
           vertices = add-zero m.shape.vertices;
           faces = refl;
         }
+
+        pub beside_made : ComesBy (spur_added ∷ ear_cut ∷ []) S T
+        beside_made = beside_comes S T e tip n sound is_beside (map-sphere mesh.sound mesh.sphere)
 
         keeps : Sound T × Sphere T
         keeps = beside_keeps S T e tip n sound is_beside (map-sphere mesh.sound mesh.sphere)

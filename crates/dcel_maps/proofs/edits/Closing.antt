@@ -26,6 +26,9 @@ use Rattle.dcel_maps.proofs.words.Cuts.{cut-keeps_face, cut_triangle, cut_word}
 use Rattle.dcel_maps.proofs.words.Faces.{IsWordOf, word_full, word_of_face}
 use Rattle.dcel_maps.specs.Around.{around}
 use Rattle.dcel_maps.proofs.edits.Around.{edited, known}
+use Rattle.dcel_maps.specs.EditLists.{ComesBy}
+use Rattle.dcel_maps.specs.EditLists.EditKind.{ear_cut}
+use Rattle.dcel_maps.proofs.maps.Lists.{comes_once, ear_edit}
 
 module _ {V DE UE F : Type 0} (m : Mesh V DE UE F) where
   -- an edge from the end of x to the start of e, which follow each other between `before` and `after` on the outer face: its half edges
@@ -149,6 +152,9 @@ module _ {V DE UE F : Type 0} (m : Mesh V DE UE F) where
               face_below = omega arith;
             };
           }
+
+      pub closing_comes : ComesBy (ear_cut ∷ []) S T
+      closing_comes = comes_once ear_cut S T (ear_edit S T e x after (n + 1) l is_ear sound)
 
       pub keeps : Sound T × Sphere T
       keeps = ear_keeps S T e x after (n + 1) l is_ear sound (map-sphere mesh.sound mesh.sphere)

@@ -11,10 +11,13 @@ use Rattle.dcel_maps.proofs.edits.Changes.{Change, IsEdit, fits_with, map_after}
 use Rattle.dcel_maps.proofs.edits.Alone.{alone_is_mesh}
 use Rattle.dcel_maps.proofs.edits.Growing.{after-new}
 use Rattle.dcel_maps.proofs.edits.Patches.{Patch, patched_at, patched_at-new, pushing}
-use Rattle.dcel_maps.proofs.maps.Agreement.{Agrees, agrees_keeps}
-use Rattle.dcel_maps.proofs.maps.FirstTriangle.{triangle, triangle_keeps}
+use Rattle.dcel_maps.proofs.maps.Agreement.{Agrees, agrees_extends, agrees_keeps}
+use Rattle.dcel_maps.proofs.maps.FirstTriangle.{triangle, triangle_keeps, triangle_made}
 use Rattle.dcel_maps.proofs.maps.Triangles.{IsTriangleOf}
 use Rattle.dcel_maps.proofs.words.Triangles.{triangle-word}
+use Rattle.dcel_maps.specs.EditLists.{ComesBy, nothing}
+use Rattle.dcel_maps.specs.EditLists.EditKind.{ear_cut, first_edge, spur_added}
+use Rattle.dcel_maps.proofs.maps.Lists.{comes_after}
 
 abbrev pub first_triangle : {V DE UE F : Type 0} → V × V × V → List DE → List UE → F → Change V DE UE F
 first_triangle vertices halves edges datum = record {
@@ -60,6 +63,9 @@ module _ {V DE UE F : Type 0} (vertices : V × V × V) (halves : List DE) (edges
       face = λ x live. listed _ c.face x;
     };
   }
+
+  pub first_triangle_made : ComesBy (first_edge ∷ spur_added ∷ ear_cut ∷ []) nothing T
+  first_triangle_made = comes_after (first_edge ∷ spur_added ∷ ear_cut ∷ []) nothing triangle T triangle_made (agrees_extends triangle T agrees)
 
   keeps : Sound T × Sphere T
   keeps = agrees_keeps triangle T agrees triangle_keeps.0 triangle_keeps.1

@@ -17,7 +17,7 @@ use Rattle.dcel_maps.proofs.edits.Linking.{linked-corner, face_live-at, linked-n
 use Rattle.dcel_maps.proofs.edits.Patches.{patched_at-first, patched_at-new, puts_away, puts_here, replacing}
 use Rattle.dcel_maps.proofs.edits.Starting.{NewStart, moved_labelled, starts-moved}
 use Rattle.dcel_maps.proofs.maps.Counts.{Used}
-use Rattle.dcel_maps.proofs.maps.HalfSplits.{HalfSplit, half_split_keeps}
+use Rattle.dcel_maps.proofs.maps.HalfSplits.{HalfSplit, half_split_comes, half_split_keeps}
 use Rattle.dcel_maps.proofs.maps.Halves.{turn_even}
 use Rattle.dcel_maps.proofs.maps.Labels.{KeepsLabel, labelled-kept}
 use Rattle.dcel_maps.proofs.maps.Soundness.{face_prev, rev_live}
@@ -28,6 +28,8 @@ use Rattle.dcel_maps.proofs.words.Faces.{KeepsFace, word_full, word_of_face}
 use Rattle.dcel_maps.proofs.words.HalfSplits.{half_split_word}
 use Rattle.dcel_maps.specs.Around.{around}
 use Rattle.dcel_maps.proofs.edits.Around.{edited, known}
+use Rattle.dcel_maps.specs.EditLists.{ComesBy}
+use Rattle.dcel_maps.specs.EditLists.EditKind.{ear_cut, edge_subdivided}
 
 -- the vertex `tip` in the middle of e, where (e, a, b) is the triangle of the face f, and the other half t of e comes after `before` on
 -- the face g, whose word becomes w: the half edges from n on, and one face more, l; a starts at y and b at z
@@ -207,6 +209,9 @@ module _ {V DE UE F : Type 0} (m : Mesh V DE UE F) (e tip : ℕ) (halves : List 
       edges = refl;
       faces = refl;
     }
+
+    pub half_made : ComesBy (edge_subdivided ∷ ear_cut ∷ []) S T
+    half_made = half_split_comes S T f e a b t tip n sound is_split (map-sphere mesh.sound mesh.sphere)
 
     keeps : Sound T × Sphere T
     keeps = half_split_keeps S T f e a b t tip n sound is_split (map-sphere mesh.sound mesh.sphere)

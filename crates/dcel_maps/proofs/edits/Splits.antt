@@ -31,6 +31,9 @@ use Rattle.dcel_maps.proofs.words.Reading.{face-below}
 use Rattle.dcel_maps.proofs.words.Subdivides.{stretch, subdivide-keeps_face, subdivide_face, subdivide_word, with_middle-other}
 use Rattle.dcel_maps.specs.Around.{around}
 use Rattle.dcel_maps.proofs.edits.Around.{edited, known}
+use Rattle.dcel_maps.specs.EditLists.{ComesBy}
+use Rattle.dcel_maps.specs.EditLists.EditKind.{edge_subdivided}
+use Rattle.dcel_maps.proofs.maps.Lists.{comes_once}
 
 module _ {V DE UE F : Type 0} (m : Mesh V DE UE F) where
   -- the edge n / 2 behind the half edge e, which ends at `end`, on the face f: a is the half edge after e, t the other half of e, and
@@ -159,6 +162,9 @@ module _ {V DE UE F : Type 0} (m : Mesh V DE UE F) where
       origin_k = patched_at-first _ n c.origin;
       origin_rev = after-origin m.shape c t live_t ∙ put_same _ t tip;
     }
+
+    pub middle_made : ComesBy (edge_subdivided ∷ []) S T
+    middle_made = comes_once edge_subdivided S T (e, n, tip, is_subdivision)
 
     keeps : Sound T × Sphere T
     keeps = subdivide_keeps S T e n tip is_subdivision sound (map-sphere mesh.sound mesh.sphere)

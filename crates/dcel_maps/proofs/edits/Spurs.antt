@@ -29,6 +29,9 @@ use Rattle.dcel_maps.proofs.words.Reading.{face-below}
 use Rattle.dcel_maps.proofs.words.Spurs.{spur-keeps_face, spur_word}
 use Rattle.dcel_maps.specs.Around.{around}
 use Rattle.dcel_maps.proofs.edits.Around.{edited, known}
+use Rattle.dcel_maps.specs.EditLists.{ComesBy}
+use Rattle.dcel_maps.specs.EditLists.EditKind.{spur_added}
+use Rattle.dcel_maps.proofs.maps.Lists.{comes_once}
 
 module _ {V DE UE F : Type 0} (m : Mesh V DE UE F) where
   -- the edge n / 2 put in after the half edge `before`, with `after` behind it on the face f; `from` is where the two meet
@@ -91,6 +94,9 @@ module _ {V DE UE F : Type 0} (m : Mesh V DE UE F) where
       face_other = after-face m.shape c;
       faces = add-zero (length m.shape.words);
     }
+
+    pub spur_comes : ComesBy (spur_added ∷ []) S T
+    spur_comes = comes_once spur_added S T (before, n + 1, tip, is_spur)
 
     keeps : Sound T × Sphere T
     keeps = spur_keeps S T before (n + 1) tip is_spur sound (map-sphere mesh.sound mesh.sphere)

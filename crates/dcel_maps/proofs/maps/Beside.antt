@@ -1,5 +1,5 @@
 -- A triangle put beside a half edge, with its third corner at a vertex that had no edge: a spur and an ear.
-use Rattle.std.proofs.Common.{◌≡◌, ◌≢◌, inl, inr, ◌+◌, ◌*◌, ◌/◌, ◌<◌, ℕ, sym, refl, ap, ◌∙◌, arith}
+use Rattle.std.proofs.Common.{◌≡◌, ◌≢◌, [], ◌∷◌, inl, inr, ◌+◌, ◌*◌, ◌/◌, ◌<◌, ℕ, sym, refl, ap, ◌∙◌, arith}
 use Rattle.std.proofs.lemmas.Bool.{cases_eq}
 use Rattle.std.proofs.lemmas.Bool.Decides.{nat_tests}
 use Rattle.dcel_fixed.specs.HalfEdges.{rev}
@@ -14,6 +14,9 @@ use Rattle.dcel_maps.proofs.maps.Soundness.{face_prev, prev_differs, next_differ
 use Rattle.dcel_maps.proofs.maps.Spurs.{spur_keeps}
 use Rattle.dcel_maps.proofs.maps.Triangles.{Alone, IsTriangleOf, IsLinked}
 use Rattle.dcel_maps.proofs.maps.Updates.{put}
+use Rattle.dcel_maps.specs.EditLists.{ComesBy}
+use Rattle.dcel_maps.specs.EditLists.EditKind.{ear_cut, spur_added}
+use Rattle.dcel_maps.proofs.maps.Lists.{comes_once, ear_after}
 
 -- the triangle (e, n, n + 2) is the last face, and (.. e ..) is (.. n + 3, n + 1 ..) on the face where e was; n + 1 and n + 2 start at v
 pub record Beside (S T : Map) (e v n : ℕ) : Type 0 where
@@ -151,6 +154,11 @@ module _ (S T : Map) (e v n : ℕ) (s : Sound S) (b : Beside S T e v n) where
 
   pub is_last_ear : Ear before_ear T e n (n + 1) (n + 3) S.faces
   is_last_ear = is_ear T e n (n + 1) (n + 3) S.faces (S.prev e) (n + 2) (S.face e) has_ear
+
+  -- a spur and an ear
+  pub beside_comes : Sphere S → ComesBy (spur_added ∷ ear_cut ∷ []) S T
+  beside_comes sphere =
+      ear_after (spur_added ∷ []) S before_ear T e n (n + 1) (n + 3) S.faces s sphere (comes_once spur_added S before_ear (e, n, v, is_spur)) is_last_ear
 
   -- the triangle beside a half edge keeps a map sound and a sphere
   pub beside_keeps : Sphere S → Sound T × Sphere T

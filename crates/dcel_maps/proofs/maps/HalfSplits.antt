@@ -1,5 +1,5 @@
 -- A vertex put into an edge of a triangle, which is cut in two: a subdivision and an ear.
-use Rattle.std.proofs.Common.{◌≡◌, ◌≢◌, inl, inr, ◌+◌, ◌/◌, ◌<◌, ℕ, sym, refl, ◌∙◌, arith}
+use Rattle.std.proofs.Common.{◌≡◌, ◌≢◌, [], ◌∷◌, inl, inr, ◌+◌, ◌/◌, ◌<◌, ℕ, sym, refl, ◌∙◌, arith}
 use Rattle.std.proofs.lemmas.Bool.{cases_eq}
 use Rattle.std.proofs.lemmas.Bool.Decides.{nat_tests}
 use Rattle.dcel_fixed.specs.HalfEdges.{rev}
@@ -14,6 +14,9 @@ use Rattle.dcel_maps.proofs.maps.Soundness.{face_prev}
 use Rattle.dcel_maps.proofs.maps.Subdivides.{subdivide_keeps}
 use Rattle.dcel_maps.proofs.maps.Triangles.{Off, by_triangle, off_face}
 use Rattle.dcel_maps.proofs.maps.Updates.{put}
+use Rattle.dcel_maps.specs.EditLists.{ComesBy}
+use Rattle.dcel_maps.specs.EditLists.EditKind.{ear_cut, edge_subdivided}
+use Rattle.dcel_maps.proofs.maps.Lists.{comes_once, ear_after}
 
 -- the vertex v put into e, with the half edges from n on: (e, a, b) on the face f becomes (e, n + 1, b), (n + 2, a, n) is a new
 -- face, and the other half t of e, on another face, becomes (n + 3, t)
@@ -132,6 +135,12 @@ module _ (S T : Map) (f e a b t v n : ℕ) (s : Sound S) (x : HalfSplit S T f e 
   -- without the ear it is a subdivision
   pub half_subdivides : Subdivide S half_uncut e (n + 2) v
   half_subdivides = between_subdivides S half_uncut e (n + 2) v s is_between
+
+  -- a subdivision and an ear
+  pub half_split_comes : Sphere S → ComesBy (edge_subdivided ∷ ear_cut ∷ []) S T
+  half_split_comes sphere =
+      ear_after (edge_subdivided ∷ []) S half_uncut T (n + 2) a b (n + 1) S.faces s sphere
+      (comes_once edge_subdivided S half_uncut (e, n + 2, v, half_subdivides)) half_is_ear
 
   -- a half edge that is split keeps a map sound and a sphere
   pub half_split_keeps : Sphere S → Sound T × Sphere T

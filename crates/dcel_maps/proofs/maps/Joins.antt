@@ -9,6 +9,8 @@ use Rattle.dcel_maps.proofs.maps.Halves.{rev-rev}
 use Rattle.dcel_maps.proofs.maps.Soundness.{face_cycles, next_differs, not_of_dead, rev_live, less-was_live, less-still_live}
 use Rattle.dcel_maps.proofs.maps.Unchords.{Unchord, unchord_keeps}
 use Rattle.dcel_maps.proofs.maps.Updates.{put, put_other, put_same, put_twice-first, put_twice-other}
+use Rattle.dcel_maps.specs.EditLists.{Edit}
+use Rattle.dcel_maps.specs.EditLists.EditKind.{words_joined}
 
 -- what a join asks: an edge with two faces
 pub record JoinAt (S : Map) (h : ℕ) : Type 0 where
@@ -329,3 +331,8 @@ module _ (S : Map) (h : ℕ) where
   -- a join keeps a map sound and a sphere
   pub join_keeps : Sound S → Sphere S → Live S h → S.face h ≢ S.face (rev h) → Sound (join S h) × Sphere (join S h)
   join_keeps s m lives two_faces = joined_keeps S (join S h) h s (join_is s (record { lives = lives; two_faces = two_faces })) m
+
+  pub join_edit : Sound S → Live S h → S.face h ≢ S.face (rev h) → Edit words_joined S (join S h)
+  join_edit s lives two_faces =
+      let at : JoinAt S h = record { lives = lives; two_faces = two_faces } in
+      (S.next (rev h), S.next h, h, S.face (rev h), is_beyond S h, join_unchords S (join S h) h s (join_is s at))

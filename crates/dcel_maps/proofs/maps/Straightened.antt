@@ -14,6 +14,8 @@ use Rattle.dcel_maps.proofs.maps.Undone.{stand_in, stand_in-h, stand_in-rev}
 use Rattle.dcel_maps.proofs.maps.Unsubdivides.{Unsubdivide, unsubdivide_keeps}
 use Rattle.dcel_maps.proofs.maps.Updates.{put, put_other, put_same}
 use Rattle.dcel_maps.proofs.maps.Growth.{grows_back}
+use Rattle.dcel_maps.specs.EditLists.{Edit}
+use Rattle.dcel_maps.specs.EditLists.EditKind.{edges_joined}
 
 -- the half edge of which another one is a part: k is the last part of h, and its other half the first part of that of h
 abbrev pub whole : ℕ → ℕ → ℕ → ℕ
@@ -246,6 +248,9 @@ module _ (T : Map) (h k : ℕ) (t : Sound T) (e : StraightensAt T h k) where
 
   pub straightened_keeps : Sphere T → Sound S × Sphere S
   straightened_keeps sphere = unsubdivide_keeps S T h k (T.origin k) unsubdivides t sphere
+
+  pub straightened_edit : Edit edges_joined T S
+  straightened_edit = (h, k, T.origin k, unsubdivides)
 
   -- a link that comes from neither h nor the other half of k
   pub straightened_follows : Sound S → (f p q : ℕ) → p ≢ h → p ≢ rev k → Follows T f p q → Follows S f (whole h k p) (whole h k q)

@@ -19,6 +19,9 @@ use Rattle.dcel_maps.proofs.words.Faces.{KeepsFace, keeps_face-then}
 use Rattle.dcel_maps.proofs.words.Paths.{Path-changed}
 use Rattle.dcel_maps.proofs.removal.Spokes.{follows, path_item}
 use Rattle.dcel_maps.proofs.removal.Without.{keeps-itself}
+use Rattle.dcel_maps.specs.EditLists.{ComesBy}
+use Rattle.dcel_maps.specs.EditLists.EditKind.{ear_cut}
+use Rattle.dcel_maps.proofs.maps.Lists.{comes_first, ear_edit, extends_same, one_each}
 
 -- the face of (p, q, r, ..) cut into ears: edges from m on, faces from g on
 unfoldable pub fan : Map → ℕ → ℕ → ℕ → ℕ → ℕ → List ℕ → Map
@@ -297,3 +300,12 @@ fanned [] S m g n p q r a =
 fanned (x ∷ rest) S m g n p q r a =
     then_fanned S m g n p q r x rest a (fan (ear S p q r (2 * m + 1) g) (suc m) (suc g) (2 * m + 1) r x rest)
     (fanned rest (ear S p q r (2 * m + 1) g) (suc m) (suc g) n (2 * m + 1) r x (next_at S m g n p q r x rest a))
+
+-- it is an ear for each item after the third
+pub fan_comes : (rest : List ℕ) (S : Map) (m g n p q r : ℕ) → FanAt S m g n p q r rest → ComesBy (one_each ear_cut rest) S (fan S m g p q r rest)
+unfolding fan T
+fan_comes [] S m g n p q r a = extends_same S
+fan_comes (x ∷ rest) S m g n p q r a =
+    comes_first ear_cut (one_each ear_cut rest) S (ear S p q r (2 * m + 1) g) (fan (ear S p q r (2 * m + 1) g) (suc m) (suc g) (2 * m + 1) r x rest)
+    (ear_edit S (ear S p q r (2 * m + 1) g) p q r (2 * m + 1) g (e S m g n p q r x rest a) a.sound)
+    (fan_comes rest (ear S p q r (2 * m + 1) g) (suc m) (suc g) n (2 * m + 1) r x (next_at S m g n p q r x rest a))

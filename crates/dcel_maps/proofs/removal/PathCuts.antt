@@ -12,7 +12,7 @@ use Rattle.dcel_maps.specs.theory.Standing.{Stands}
 use Rattle.dcel_maps.specs.Words.{become, count_of, word_of}
 use Rattle.dcel_maps.proofs.Liveness.{gives_up_edge-closed, is_live-cases, is_live-from, is_live-given_up, is_live-parts}
 use Rattle.dcel_maps.proofs.Shown.{slice_index-shown_live}
-use Rattle.dcel_maps.proofs.maps.Agreement.{agrees-sound, agrees-sphere}
+use Rattle.dcel_maps.proofs.maps.Agreement.{agrees-sound, agrees-sphere, agrees_extends}
 use Rattle.dcel_maps.proofs.shapes.Maps.{sound-from_map, sphere-from_map, word_cases}
 use Rattle.dcel_maps.proofs.shapes.Shown.{Shows, shown-agrees, shown-stands}
 use Rattle.dcel_maps.proofs.words.Becoming.{count-replaced}
@@ -20,6 +20,8 @@ use Rattle.dcel_maps.proofs.words.Counts.{count-other, count-same}
 use Rattle.dcel_maps.proofs.words.Faces.{IsWordOf, stands_from_faces}
 use Rattle.dcel_maps.proofs.words.Reading.{live_in, stands_in_face}
 use Rattle.dcel_maps.proofs.words.Turns.{count-turn, from_least-turn}
+use Rattle.dcel_maps.specs.EditLists.{ComesBy, EditKind}
+use Rattle.dcel_maps.proofs.maps.Lists.{comes_after}
 
 -- what is counted where an item is taken out of a list
 pub count-out_same : (x : ℕ) (w : List ℕ) → count_of x (become x [] w) ≡ 0
@@ -128,6 +130,10 @@ module _ (s : Shape) (v a b : ℕ) (closed : s.removal ≡ Closed) (one : face_c
       origin = λ h live. origin-after h (left_edge (h / 2) ∙ live) ∙ sym (e.origin h live);
       stands = left_stands;
     }
+
+    pub left_comes : (kinds : List EditKind) → ComesBy kinds (map_of s) M → ComesBy kinds (map_of s) (map_of after)
+    left_comes kinds comes =
+        comes_after kinds (map_of s) M (map_of after) comes (agrees_extends M (map_of after) (shown-agrees after M left_shows))
 
     -- a live half edge stands in the outer word
     pub on_outer : (h : ℕ) → IsLive after h → 0 < count_of h (word_of after.words 0)

@@ -7,6 +7,8 @@ use Rattle.dcel_maps.proofs.maps.Edits.{Renamed}
 use Rattle.dcel_maps.proofs.maps.Renames.{renamed_keeps}
 use Rattle.dcel_maps.proofs.maps.Updates.{put, put_other, put_same}
 use Rattle.dcel_maps.proofs.words.Faces.{KeepsFace}
+use Rattle.dcel_maps.specs.EditLists.{Edit}
+use Rattle.dcel_maps.specs.EditLists.EditKind.{numbers_changed}
 
 -- the face g gets the number n
 unfoldable pub renumbered_face : Map → ℕ → ℕ → Map
@@ -95,3 +97,6 @@ numbered U g n sound sphere vacant =
       vertex_count = refl;
       face_number = refl;
     }
+
+pub renumbered_edit : (U : Map) (g n : ℕ) → Sound U → ((x : ℕ) → Live U x → U.face x ≢ g → U.face x ≢ n) → Edit numbers_changed U (renumbered_face U g n)
+renumbered_edit U g n sound vacant = (λ x. x, λ x. x, λ v. v, put (λ f. f) g n, face_renamed U g n sound vacant)

@@ -23,6 +23,7 @@ use Rattle.dcel_maps.proofs.words.Paths.{Path-split}
 use Rattle.dcel_maps.proofs.words.Reading.{stands_in_face}
 use Rattle.dcel_maps.proofs.words.Triangles.{WrittenFrom, is_triangle, triangle_turn, written_from}
 use Rattle.dcel_maps.proofs.words.Turns.{count-turn, length-turn}
+use Rattle.dcel_maps.proofs.maps.Lists.{extends_same}
 
 -- a list that is not empty has a last item
 last_split : (r : List ℕ) → 0 < length r → (front : List ℕ) × (last : ℕ) × (r ≡ front ++ last ∷ [])
@@ -54,6 +55,7 @@ nothing_away T f h w m = record {
     | inl same ↦ inl same
     | inr other ↦ inr record { off = other; away = λ y found. absurd (omega (arith, found)) }
   ];
+  comes = extends_same T;
 }
 
 module _ (s : Shape) (sound : IsSound s) (sphere : IsSphere s) (v h : ℕ) (around : IsStripAround s v h) where

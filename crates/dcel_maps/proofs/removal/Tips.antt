@@ -10,6 +10,8 @@ use Rattle.dcel_maps.proofs.maps.Soundness.{face_cycles, next_differs, rev_live}
 use Rattle.dcel_maps.proofs.maps.Updates.{put}
 use Rattle.dcel_maps.proofs.maps.Unspurs.{Unspur, unspur_keeps}
 use Rattle.dcel_maps.proofs.maps.Growth.{grows_back}
+use Rattle.dcel_maps.specs.EditLists.{Edit}
+use Rattle.dcel_maps.specs.EditLists.EditKind.{spur_dropped}
 
 -- the edge of h, which leads to the tip of a spur, is taken away
 unfoldable pub spur_away : Map → ℕ → Map
@@ -162,3 +164,6 @@ pub spur_away_keeps : (T : Map) (h : ℕ) → Sound T → Sphere T → Live T h 
     → Sound (spur_away T h) × Sphere (spur_away T h)
 spur_away_keeps T h s m live turns more =
     unspur_keeps (spur_away T h) T (T.prev h) h (T.origin (rev h)) (spur_away_is T h s live turns more) s m
+
+pub spur_away_edit : (T : Map) (h : ℕ) → Sound T → Live T h → T.next h ≡ rev h → T.next (rev h) ≢ h → Edit spur_dropped T (spur_away T h)
+spur_away_edit T h s live turns more = (T.prev h, h, T.origin (rev h), spur_away_is T h s live turns more)
