@@ -5,7 +5,6 @@
 #![tactic(auto)]
 
 mod by_number;
-pub mod laws;
 mod legalize;
 mod legalized;
 

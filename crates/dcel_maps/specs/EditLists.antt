@@ -86,9 +86,9 @@ edges_after [] n = n
 edges_after (kind ∷ kinds) n = edges_after kinds (edges_then kind n)
 
 -- so many flips: each joins two words and cuts an ear
-abbrev pub flips : ℕ → List EditKind
-flips zero = []
-flips (suc n) = words_joined ∷ ear_cut ∷ flips n
+abbrev pub flip_edits : ℕ → List EditKind
+flip_edits zero = []
+flip_edits (suc n) = words_joined ∷ ear_cut ∷ flip_edits n
 
 -- a vertex with n edges goes: all but one are joined away, and the last one is a spur then; the face that is left gets its number
 abbrev pub vertex_cut_off : ℕ → List EditKind

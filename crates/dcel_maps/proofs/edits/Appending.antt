@@ -2,6 +2,7 @@
 use Rattle.std.proofs.Common.{◌≡◌, inl, ℕ, ◌+◌, ◌/◌, List, [], ◌++◌, length, replicate, None, add-zero, append-nil, refl, sym, ◌∙◌, arith}
 use Rattle.std.proofs.lemmas.List.{length-replicate}
 use Rattle.dcel_maps.specs.Conditions.{HasRoom}
+use Rattle.dcel_maps.specs.EditLists.{ComesBy}
 use Rattle.dcel_maps.specs.Maps.{Live, Map}
 use Rattle.dcel_maps.specs.theory.Sound.{Sound, Sphere}
 use Rattle.dcel_maps.specs.Shapes.{IsLive, IsMesh, Mesh, map_of, origin_of}
@@ -12,7 +13,6 @@ use Rattle.dcel_maps.proofs.edits.Starting.{starts-still}
 use Rattle.dcel_maps.proofs.maps.Agreement.{Extends, extends_keeps}
 use Rattle.dcel_maps.proofs.maps.Labels.{Labelled}
 use Rattle.dcel_maps.proofs.shapes.Maps.{map-sound, map-sphere}
-use Rattle.dcel_maps.specs.EditLists.{ComesBy}
 
 -- the mesh with more vertices, last, without anchors
 abbrev pub vertices_appended : {V DE UE F : Type 0} → Mesh V DE UE F → List V → Mesh V DE UE F

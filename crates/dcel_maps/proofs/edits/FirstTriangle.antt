@@ -1,6 +1,8 @@
 -- A mesh of one triangle: three vertices, three edges and a face put to the outer face alone.
 use Rattle.std.proofs.Common.{◌≡◌, ◌≢◌, ℕ, ◌<◌, nat_lt, List, [], ◌∷◌, length, slice_index, Some, zero-add, refl, sym, ap, ◌∙◌, arith}
 use Rattle.std.proofs.Math.Bool.{and-true}
+use Rattle.dcel_maps.specs.EditLists.{ComesBy, nothing}
+use Rattle.dcel_maps.specs.EditLists.EditKind.{ear_cut, first_edge, spur_added}
 use Rattle.dcel_maps.specs.edits.Create.{outer_alone}
 use Rattle.dcel_maps.specs.Maps.{Live, Map}
 use Rattle.dcel_maps.specs.theory.Sound.{Sound, Sphere}
@@ -13,11 +15,9 @@ use Rattle.dcel_maps.proofs.edits.Growing.{after-new}
 use Rattle.dcel_maps.proofs.edits.Patches.{Patch, patched_at, patched_at-new, pushing}
 use Rattle.dcel_maps.proofs.maps.Agreement.{Agrees, agrees_extends, agrees_keeps}
 use Rattle.dcel_maps.proofs.maps.FirstTriangle.{triangle, triangle_keeps, triangle_made}
+use Rattle.dcel_maps.proofs.maps.Lists.{comes_after}
 use Rattle.dcel_maps.proofs.maps.Triangles.{IsTriangleOf}
 use Rattle.dcel_maps.proofs.words.Triangles.{triangle-word}
-use Rattle.dcel_maps.specs.EditLists.{ComesBy, nothing}
-use Rattle.dcel_maps.specs.EditLists.EditKind.{ear_cut, first_edge, spur_added}
-use Rattle.dcel_maps.proofs.maps.Lists.{comes_after}
 
 abbrev pub first_triangle : {V DE UE F : Type 0} → V × V × V → List DE → List UE → F → Change V DE UE F
 first_triangle vertices halves edges datum = record {

@@ -5,6 +5,8 @@ use Rattle.std.proofs.lemmas.Bool.{cases_eq}
 use Rattle.dcel_fixed.proofs.Halves.{rev-double-suc}
 use Rattle.dcel_maps.specs.Conditions.{HasRoom, IsTriangle, IsUnconnected}
 use Rattle.dcel_maps.specs.Cyclic.{from_least}
+use Rattle.dcel_maps.specs.EditLists.{ComesBy}
+use Rattle.dcel_maps.specs.EditLists.EditKind.{ear_cut, edge_subdivided}
 use Rattle.dcel_maps.specs.edits.Split.{half_edge_split}
 use Rattle.dcel_maps.specs.Maps.{Live}
 use Rattle.dcel_maps.specs.theory.Sound.{Sound, Sphere}
@@ -28,8 +30,6 @@ use Rattle.dcel_maps.proofs.words.Faces.{KeepsFace, word_full, word_of_face}
 use Rattle.dcel_maps.proofs.words.HalfSplits.{half_split_word}
 use Rattle.dcel_maps.specs.Around.{around}
 use Rattle.dcel_maps.proofs.edits.Around.{edited, known}
-use Rattle.dcel_maps.specs.EditLists.{ComesBy}
-use Rattle.dcel_maps.specs.EditLists.EditKind.{ear_cut, edge_subdivided}
 
 -- the vertex `tip` in the middle of e, where (e, a, b) is the triangle of the face f, and the other half t of e comes after `before` on
 -- the face g, whose word becomes w: the half edges from n on, and one face more, l; a starts at y and b at z

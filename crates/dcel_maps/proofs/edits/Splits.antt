@@ -4,6 +4,8 @@ use Rattle.std.proofs.lemmas.Bool.{cases_eq}
 use Rattle.dcel_fixed.specs.HalfEdges.{rev}
 use Rattle.dcel_fixed.proofs.Halves.{rev-double}
 use Rattle.dcel_maps.specs.Conditions.{HasRoom, IsBridge, IsUnconnected}
+use Rattle.dcel_maps.specs.EditLists.{ComesBy}
+use Rattle.dcel_maps.specs.EditLists.EditKind.{edge_subdivided}
 use Rattle.dcel_maps.specs.edits.Split.{edge_split_on_line, with_middle}
 use Rattle.dcel_maps.specs.Cyclic.{from_least}
 use Rattle.dcel_maps.specs.Maps.{Live}
@@ -20,6 +22,7 @@ use Rattle.dcel_maps.proofs.maps.Counts.{Used}
 use Rattle.dcel_maps.proofs.maps.Edits.{Subdivide, first_part, last_part}
 use Rattle.dcel_maps.proofs.maps.Growth.{spur_at}
 use Rattle.dcel_maps.proofs.maps.Labels.{KeepsLabel, labelled-kept}
+use Rattle.dcel_maps.proofs.maps.Lists.{comes_once}
 use Rattle.dcel_maps.proofs.maps.Soundness.{rev_live}
 use Rattle.dcel_maps.proofs.maps.Subdivides.{by_first, by_part, first-other, first-rev, last-h, last-other, subdivide_keeps}
 use Rattle.dcel_maps.proofs.maps.Updates.{put, put_other, put_same}
@@ -31,9 +34,6 @@ use Rattle.dcel_maps.proofs.words.Reading.{face-below}
 use Rattle.dcel_maps.proofs.words.Subdivides.{stretch, subdivide-keeps_face, subdivide_face, subdivide_word, with_middle-other}
 use Rattle.dcel_maps.specs.Around.{around}
 use Rattle.dcel_maps.proofs.edits.Around.{edited, known}
-use Rattle.dcel_maps.specs.EditLists.{ComesBy}
-use Rattle.dcel_maps.specs.EditLists.EditKind.{edge_subdivided}
-use Rattle.dcel_maps.proofs.maps.Lists.{comes_once}
 
 module _ {V DE UE F : Type 0} (m : Mesh V DE UE F) where
   -- the edge n / 2 behind the half edge e, which ends at `end`, on the face f: a is the half edge after e, t the other half of e, and

@@ -14,14 +14,14 @@ use Rattle.dcel_maps.specs.edits.Split.{edge_split, edge_split_on_line, half_edg
 use Rattle.dcel_maps.specs.edits.Triangle.{vertex_inserted}
 use Rattle.dcel_maps.proofs.edits.Changes.{Change, IsEdit, changed, map_after}
 use Rattle.dcel_maps.proofs.edits.Appending.{appending, appending_is, appending_is_edit, appending_made}
-use Rattle.dcel_maps.proofs.edits.Beginning.{beginning, beginning_is, beginning_is_edit, begun}
+use Rattle.dcel_maps.proofs.edits.Beginning.{beginning, beginning_is, beginning_is_edit, beginning_made}
 use Rattle.dcel_maps.proofs.edits.Beside.{beside, beside_is, beside_is_edit, beside_made}
-use Rattle.dcel_maps.proofs.edits.Closing.{closing, closing_comes, closing_is, closing_is_edit}
+use Rattle.dcel_maps.proofs.edits.Closing.{closing, closing_made, closing_is, closing_is_edit}
 use Rattle.dcel_maps.proofs.edits.EdgeSplits.{edge_splitting, edge_splitting_is, edge_splitting_is_edit, edge_splitting_made}
 use Rattle.dcel_maps.proofs.edits.Flips.{edge_flipping, edge_flipping_is, edge_flipping_is_edit, edge_flipping_made}
 use Rattle.dcel_maps.proofs.edits.HalfSplits.{half_edge_splitting, half_edge_splitting_is, half_edge_splitting_is_edit, half_made}
 use Rattle.dcel_maps.proofs.edits.Inserts.{inserted, inserted_is, inserted_is_edit, inserted_made}
-use Rattle.dcel_maps.proofs.edits.Lines.{extension, extension_comes, extension_is, extension_is_edit, line_end}
+use Rattle.dcel_maps.proofs.edits.Lines.{extension, extension_made, extension_is, extension_is_edit, line_end}
 use Rattle.dcel_maps.proofs.edits.Splits.{middle_is, middle_is_edit, middle_made}
 use Rattle.dcel_maps.proofs.removal.Inserted.{anchor-is}
 use Rattle.dcel_maps.proofs.lists.Made.{changed_by}
@@ -50,7 +50,7 @@ module _ {V DE UE F : Type 0} (m : Mesh V DE UE F) (mesh : IsMesh m) where
         by (beginning (2 * m.shape.edges) a b halves edges) (first_edge ∷ []) t
         (beginning_is_edit m mesh none a b halves edges a_live b_live apart room adds.directed_count adds.undirected_count)
         (adds.is ∙ sym (beginning_is m mesh none a b halves edges))
-        (begun m mesh none a b halves edges a_live b_live apart room adds.directed_count adds.undirected_count)
+        (beginning_made m mesh none a b halves edges a_live b_live apart room adds.directed_count adds.undirected_count)
 
     pub extend_listed : (end tip : ℕ) → AddsEdge is_half is_edge t (line_extended m end tip)
         → IsLineEnd m.shape end → IsUnconnected m.shape tip → HasRoom m.shape 0 1 0 → EditedBy (spur_added ∷ []) m t
@@ -61,7 +61,7 @@ module _ {V DE UE F : Type 0} (m : Mesh V DE UE F) (mesh : IsMesh m) where
         by (extension m end out tip halves edges) (spur_added ∷ []) t
         (extension_is_edit m end out tip halves edges mesh at unconnected room adds.directed_count adds.undirected_count)
         (adds.is ∙ sym (extension_is m end out tip halves edges mesh at))
-        (extension_comes m end out tip halves edges mesh at unconnected room adds.directed_count adds.undirected_count)
+        (extension_made m end out tip halves edges mesh at unconnected room adds.directed_count adds.undirected_count)
 
     pub on_line_listed : (e middle : ℕ) → AddsEdge is_half is_edge t (edge_split_on_line m e middle)
         → IsBridge m.shape e → IsUnconnected m.shape middle → HasRoom m.shape 0 1 0 → EditedBy (edge_subdivided ∷ []) m t
@@ -83,7 +83,7 @@ module _ {V DE UE F : Type 0} (m : Mesh V DE UE F) (mesh : IsMesh m) where
           by (closing m e halves edges faces) (ear_cut ∷ []) t
           (closing_is_edit m e halves edges faces mesh can room adds.directed_count adds.undirected_count adds.face_data_count)
           (adds.is ∙ sym (closing_is m e halves edges faces mesh can))
-          (closing_comes m e halves edges faces mesh can)
+          (closing_made m e halves edges faces mesh can)
 
       pub beside_listed : (e tip : ℕ) → AddsEdgesAndFaces is_half is_edge is_face 2 1 t (face_put_beside m e tip)
           → IsLive m.shape e → IsUnconnected m.shape tip → HasRoom m.shape 0 2 1 → EditedBy (spur_added ∷ ear_cut ∷ []) m t

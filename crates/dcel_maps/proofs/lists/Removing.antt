@@ -13,7 +13,7 @@ use Rattle.dcel_maps.specs.Strips.{IsEdgeStrip}
 use Rattle.dcel_maps.specs.edits.Degenerate.{going, path_given_up, removed_degenerate}
 use Rattle.dcel_maps.specs.edits.Rename.{vertices_swapped}
 use Rattle.dcel_maps.specs.edits.Strip.{strip_cut}
-use Rattle.dcel_maps.proofs.edits.Swaps.{swapped-comes}
+use Rattle.dcel_maps.proofs.edits.Swaps.{swapped_made}
 use Rattle.dcel_maps.proofs.lists.Made.{so}
 use Rattle.dcel_maps.proofs.maps.Lists.{comes_once, comes_then, renumbered_once, second_once}
 use Rattle.dcel_maps.proofs.removal.DegenerateMeshes.{PathGone, alone, path_gone, path_out}
@@ -46,7 +46,7 @@ module _ {V DE UE F : Type 0} (m : Mesh V DE UE F) (mesh : IsMesh m) (t : Mesh V
   pub swap_listed : (a b : ℕ) → t ≡ vertices_swapped m a b → vertex_is_live m.shape a ≡ true → vertex_is_live m.shape b ≡ true
       → EditedBy (numbers_changed ∷ []) m t
   swap_listed a b is a_live b_live =
-      so (numbers_changed ∷ []) (map_of m.shape) t (vertices_swapped m a b) is (swapped-comes m mesh a b a_live b_live)
+      so (numbers_changed ∷ []) (map_of m.shape) t (vertices_swapped m a b) is (swapped_made m mesh a b a_live b_live)
 
 module _ {V DE UE F : Type 0} (m : Mesh V DE UE F) (mesh : IsMesh m) (v : ℕ) (can : CanRemoveDegenerate m.shape v) where
   -- a vertex alone has no edge

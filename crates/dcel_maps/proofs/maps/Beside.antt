@@ -3,6 +3,8 @@ use Rattle.std.proofs.Common.{◌≡◌, ◌≢◌, [], ◌∷◌, inl, inr, ◌
 use Rattle.std.proofs.lemmas.Bool.{cases_eq}
 use Rattle.std.proofs.lemmas.Bool.Decides.{nat_tests}
 use Rattle.dcel_fixed.specs.HalfEdges.{rev}
+use Rattle.dcel_maps.specs.EditLists.{ComesBy}
+use Rattle.dcel_maps.specs.EditLists.EditKind.{ear_cut, spur_added}
 use Rattle.dcel_maps.specs.Maps.{IsBare, Live, Map}
 use Rattle.dcel_maps.specs.theory.Sound.{Sound, Sphere}
 use Rattle.dcel_maps.proofs.maps.Counts.{edge_past}
@@ -10,13 +12,11 @@ use Rattle.dcel_maps.proofs.maps.Eared.{HasEar, has_ear-keeps, is_ear, without_e
 use Rattle.dcel_maps.proofs.maps.Edits.{Ear, Spur}
 use Rattle.dcel_maps.proofs.maps.Growth.{spur_at}
 use Rattle.dcel_maps.proofs.maps.Halves.{turn_even, turn_odd}
+use Rattle.dcel_maps.proofs.maps.Lists.{comes_once, ear_after}
 use Rattle.dcel_maps.proofs.maps.Soundness.{face_prev, prev_differs, next_differs}
 use Rattle.dcel_maps.proofs.maps.Spurs.{spur_keeps}
 use Rattle.dcel_maps.proofs.maps.Triangles.{Alone, IsTriangleOf, IsLinked}
 use Rattle.dcel_maps.proofs.maps.Updates.{put}
-use Rattle.dcel_maps.specs.EditLists.{ComesBy}
-use Rattle.dcel_maps.specs.EditLists.EditKind.{ear_cut, spur_added}
-use Rattle.dcel_maps.proofs.maps.Lists.{comes_once, ear_after}
 
 -- the triangle (e, n, n + 2) is the last face, and (.. e ..) is (.. n + 3, n + 1 ..) on the face where e was; n + 1 and n + 2 start at v
 pub record Beside (S T : Map) (e v n : ℕ) : Type 0 where

@@ -3,15 +3,15 @@ use Rattle.std.proofs.Common.{◌≡◌, ◌≢◌, ℕ, zero, suc, ◌+◌, ◌
 use Rattle.std.proofs.lemmas.Bool.{false≢true}
 use Rattle.std.proofs.lemmas.Bool.Decides.{nat_tests}
 use Rattle.dcel_fixed.specs.HalfEdges.{rev}
+use Rattle.dcel_maps.specs.EditLists.{ComesBy, nothing}
+use Rattle.dcel_maps.specs.EditLists.EditKind.{ear_cut, first_edge, spur_added}
 use Rattle.dcel_maps.specs.Maps.{Map, Live}
 use Rattle.dcel_maps.specs.theory.Sound.{Sound, Sphere}
 use Rattle.dcel_maps.proofs.maps.Edits.{FirstEdge, Grows, Spur, Ear, two as pair}
 use Rattle.dcel_maps.proofs.maps.Firsts.{first_keeps}
+use Rattle.dcel_maps.proofs.maps.Lists.{comes_first, comes_once, ear_after}
 use Rattle.dcel_maps.proofs.maps.Spurs.{spur_keeps}
 use Rattle.dcel_maps.proofs.maps.Ears.{ear_keeps}
-use Rattle.dcel_maps.specs.EditLists.{ComesBy, nothing}
-use Rattle.dcel_maps.specs.EditLists.EditKind.{ear_cut, first_edge, spur_added}
-use Rattle.dcel_maps.proofs.maps.Lists.{comes_first, comes_once, ear_after}
 
 -- what holds of the first two, four or six numbers holds of each below
 pub below_two : (P : ℕ → Type 0) → P 0 → P 1 → (x : ℕ) → x < 2 → P x

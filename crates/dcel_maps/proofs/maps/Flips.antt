@@ -2,17 +2,17 @@
 use Rattle.std.proofs.Common.{◌≡◌, ◌≢◌, [], ◌∷◌, ◌/◌, ℕ, false, refl, sym, ap, ◌∙◌, arith}
 use Rattle.std.proofs.lemmas.Bool.Decides.{nat_tests}
 use Rattle.dcel_fixed.specs.HalfEdges.{rev}
+use Rattle.dcel_maps.specs.EditLists.{ComesBy}
+use Rattle.dcel_maps.specs.EditLists.EditKind.{ear_cut, words_joined}
 use Rattle.dcel_maps.specs.Maps.{Live, Map}
 use Rattle.dcel_maps.specs.theory.Sound.{Sound, Sphere}
 use Rattle.dcel_maps.proofs.maps.Ears.{ear_keeps, two_in}
 use Rattle.dcel_maps.proofs.maps.Edits.{Ear, two}
 use Rattle.dcel_maps.proofs.maps.Halves.{rev_half, turn_back}
 use Rattle.dcel_maps.proofs.maps.Joins.{Join, join, join_edit, join_is, join_keeps, join_still_live, join_vacant, join_was_live}
+use Rattle.dcel_maps.proofs.maps.Lists.{comes_once, ear_after}
 use Rattle.dcel_maps.proofs.maps.Triangles.{IsTriangleOf, Off, SameLinks, by_triangle, facing_differ, off_triangle}
 use Rattle.dcel_maps.proofs.maps.Updates.{put}
-use Rattle.dcel_maps.specs.EditLists.{ComesBy}
-use Rattle.dcel_maps.specs.EditLists.EditKind.{ear_cut, words_joined}
-use Rattle.dcel_maps.proofs.maps.Lists.{comes_once, ear_after}
 
 -- the edge of e and t between the triangles (e, a, b) of f and (t, c, d) of g: these become (e, d, a) and (t, b, c)
 pub record Flip (S T : Map) (f g e a b t c d : ℕ) : Type 0 where

@@ -3,20 +3,20 @@ use Rattle.std.proofs.Common.{◌≡◌, ◌≢◌, [], ◌∷◌, inl, inr, ◌
 use Rattle.std.proofs.lemmas.Bool.{cases_eq}
 use Rattle.std.proofs.lemmas.Bool.Decides.{nat_tests}
 use Rattle.dcel_fixed.specs.HalfEdges.{rev}
+use Rattle.dcel_maps.specs.EditLists.{ComesBy}
+use Rattle.dcel_maps.specs.EditLists.EditKind.{ear_cut, edge_subdivided}
 use Rattle.dcel_maps.specs.Maps.{Live, Map}
 use Rattle.dcel_maps.specs.theory.Sound.{Sound, Sphere}
 use Rattle.dcel_maps.proofs.maps.Between.{Between, between_subdivides}
 use Rattle.dcel_maps.proofs.maps.Counts.{edge_past}
 use Rattle.dcel_maps.proofs.maps.Eared.{HasEar, has_ear-keeps, is_ear, without_ear}
 use Rattle.dcel_maps.proofs.maps.Edits.{Ear, Subdivide}
+use Rattle.dcel_maps.proofs.maps.Lists.{comes_once, ear_after}
 use Rattle.dcel_maps.proofs.maps.Middles.{Joined, joined_at, joined_below, joined_ear, joined_leads_on, joined_live, joined_off, joined_starts}
 use Rattle.dcel_maps.proofs.maps.Soundness.{face_prev}
 use Rattle.dcel_maps.proofs.maps.Subdivides.{subdivide_keeps}
 use Rattle.dcel_maps.proofs.maps.Triangles.{Off, by_triangle, off_face}
 use Rattle.dcel_maps.proofs.maps.Updates.{put}
-use Rattle.dcel_maps.specs.EditLists.{ComesBy}
-use Rattle.dcel_maps.specs.EditLists.EditKind.{ear_cut, edge_subdivided}
-use Rattle.dcel_maps.proofs.maps.Lists.{comes_once, ear_after}
 
 -- the vertex v put into e, with the half edges from n on: (e, a, b) on the face f becomes (e, n + 1, b), (n + 2, a, n) is a new
 -- face, and the other half t of e, on another face, becomes (n + 3, t)

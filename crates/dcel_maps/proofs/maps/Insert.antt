@@ -3,6 +3,8 @@ use Rattle.std.proofs.Common.{◌≡◌, ◌≢◌, [], ◌∷◌, inl, inr, ◌
 use Rattle.std.proofs.lemmas.Bool.{cases_eq}
 use Rattle.std.proofs.lemmas.Bool.Decides.{nat_tests}
 use Rattle.dcel_fixed.specs.HalfEdges.{rev}
+use Rattle.dcel_maps.specs.EditLists.{ComesBy}
+use Rattle.dcel_maps.specs.EditLists.EditKind.{ear_cut, spur_added}
 use Rattle.dcel_maps.specs.Maps.{Live, Map}
 use Rattle.dcel_maps.specs.theory.Sound.{Sound, Sphere}
 use Rattle.dcel_maps.proofs.maps.Counts.{edge_past}
@@ -10,12 +12,10 @@ use Rattle.dcel_maps.proofs.maps.Eared.{HasEar, corner_ear, ear_keeps_both, has_
 use Rattle.dcel_maps.proofs.maps.Edits.{Spur}
 use Rattle.dcel_maps.proofs.maps.Growth.{spur_at}
 use Rattle.dcel_maps.proofs.maps.Halves.{turn_even, turn_odd}
+use Rattle.dcel_maps.proofs.maps.Lists.{comes_once, ear_after}
 use Rattle.dcel_maps.proofs.maps.Spurs.{spur_keeps}
 use Rattle.dcel_maps.proofs.maps.Triangles.{Alone, IsTriangleOf, Off, alone_turned, by_triangle, triangle_turned, SameLinks}
 use Rattle.dcel_maps.proofs.maps.Updates.{put}
-use Rattle.dcel_maps.specs.EditLists.{ComesBy}
-use Rattle.dcel_maps.specs.EditLists.EditKind.{ear_cut, spur_added}
-use Rattle.dcel_maps.proofs.maps.Lists.{comes_once, ear_after}
 
 -- the vertex v put into the triangle (a, b, c) of the face f, with the half edges from n on: f keeps a, and b and c get new faces
 pub record Insert (S T : Map) (f a b c v n : ℕ) : Type 0 where

@@ -2,6 +2,8 @@
 use Rattle.std.proofs.Common.{◌≡◌, ◌≢◌, inl, inr, ◌/◌, ◌<◌, ◌≤◌, ◌==◌, ℕ, Bool, true, false, cond, eqb-true, eq-eqb, sym, refl, ap, ◌∙◌, arith}
 use Rattle.std.proofs.lemmas.Bool.{cases_eq, cond-true, cond-false, false≢true, ne_eqb}
 use Rattle.dcel_fixed.specs.HalfEdges.{rev}
+use Rattle.dcel_maps.specs.EditLists.{Edit}
+use Rattle.dcel_maps.specs.EditLists.EditKind.{words_joined}
 use Rattle.dcel_maps.specs.Maps.{Live, Map}
 use Rattle.dcel_maps.specs.theory.Sound.{Sound, Sphere}
 use Rattle.dcel_maps.proofs.maps.Edits.{ChordAt, Cut}
@@ -9,8 +11,6 @@ use Rattle.dcel_maps.proofs.maps.Halves.{rev-rev}
 use Rattle.dcel_maps.proofs.maps.Soundness.{face_cycles, next_differs, not_of_dead, rev_live, less-was_live, less-still_live}
 use Rattle.dcel_maps.proofs.maps.Unchords.{Unchord, unchord_keeps}
 use Rattle.dcel_maps.proofs.maps.Updates.{put, put_other, put_same, put_twice-first, put_twice-other}
-use Rattle.dcel_maps.specs.EditLists.{Edit}
-use Rattle.dcel_maps.specs.EditLists.EditKind.{words_joined}
 
 -- what a join asks: an edge with two faces
 pub record JoinAt (S : Map) (h : ℕ) : Type 0 where

@@ -3,19 +3,19 @@ use Rattle.std.proofs.Common.{◌≡◌, ◌≢◌, [], ◌∷◌, inl, inr, ◌
 use Rattle.std.proofs.lemmas.Bool.{cases_eq}
 use Rattle.std.proofs.lemmas.Bool.Decides.{nat_tests}
 use Rattle.dcel_fixed.specs.HalfEdges.{rev}
+use Rattle.dcel_maps.specs.EditLists.{ComesBy}
+use Rattle.dcel_maps.specs.EditLists.EditKind.{ear_cut, edge_subdivided}
 use Rattle.dcel_maps.specs.Maps.{Live, Map}
 use Rattle.dcel_maps.specs.theory.Sound.{Sound, Sphere}
 use Rattle.dcel_maps.proofs.maps.Between.{Between, between_subdivides}
 use Rattle.dcel_maps.proofs.maps.Counts.{edge_past}
 use Rattle.dcel_maps.proofs.maps.Eared.{HasEar, corner_ear, ear_keeps_both, ear_keeps_triangle, has_ear-keeps, is_ear, without_ear}
 use Rattle.dcel_maps.proofs.maps.Halves.{turn_even}
+use Rattle.dcel_maps.proofs.maps.Lists.{comes_once, ear_after}
 use Rattle.dcel_maps.proofs.maps.Middles.{Joined, joined_at, joined_below, joined_ear, joined_face, joined_leads_on, joined_starts}
 use Rattle.dcel_maps.proofs.maps.Subdivides.{subdivide_keeps}
 use Rattle.dcel_maps.proofs.maps.Triangles.{Alone, IsTriangleOf, Off, by_triangle, off_face, SameLinks}
 use Rattle.dcel_maps.proofs.maps.Updates.{put}
-use Rattle.dcel_maps.specs.EditLists.{ComesBy}
-use Rattle.dcel_maps.specs.EditLists.EditKind.{ear_cut, edge_subdivided}
-use Rattle.dcel_maps.proofs.maps.Lists.{comes_once, ear_after}
 
 -- the vertex v put into e, with the half edges from n on: (e, a, b) on the face f becomes (e, n + 5, b), and the other half t of e, with
 -- (t, c, d) on the face g, becomes (t, c, n); (d, n + 2, n + 1) and (n + 3, a, n + 4) are new faces

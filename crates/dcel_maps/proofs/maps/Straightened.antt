@@ -2,6 +2,8 @@
 use Rattle.std.proofs.Common.{◌≡◌, ◌≢◌, ◌⊎◌, inl, inr, ◌/◌, ℕ, false, sym, refl, ap, ◌∙◌, subst, arith}
 use Rattle.std.proofs.lemmas.Bool.{cases_eq}
 use Rattle.dcel_fixed.specs.HalfEdges.{rev}
+use Rattle.dcel_maps.specs.EditLists.{Edit}
+use Rattle.dcel_maps.specs.EditLists.EditKind.{edges_joined}
 use Rattle.dcel_maps.specs.Maps.{By, Live, Map, ccw}
 use Rattle.dcel_maps.specs.theory.Sound.{Sound, Sphere}
 use Rattle.dcel_maps.specs.theory.Standing.{Follows}
@@ -14,8 +16,6 @@ use Rattle.dcel_maps.proofs.maps.Undone.{stand_in, stand_in-h, stand_in-rev}
 use Rattle.dcel_maps.proofs.maps.Unsubdivides.{Unsubdivide, unsubdivide_keeps}
 use Rattle.dcel_maps.proofs.maps.Updates.{put, put_other, put_same}
 use Rattle.dcel_maps.proofs.maps.Growth.{grows_back}
-use Rattle.dcel_maps.specs.EditLists.{Edit}
-use Rattle.dcel_maps.specs.EditLists.EditKind.{edges_joined}
 
 -- the half edge of which another one is a part: k is the last part of h, and its other half the first part of that of h
 abbrev pub whole : ℕ → ℕ → ℕ → ℕ

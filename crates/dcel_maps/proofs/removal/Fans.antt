@@ -2,6 +2,8 @@
 use Rattle.std.proofs.Common.{◌≡◌, ◌≢◌, ◌⊎◌, inl, inr, ◌+◌, ◌*◌, ◌/◌, ◌<◌, ◌≤◌, ℕ, suc, true, List, [], ◌∷◌, length, sym, refl, ap, ◌∙◌, subst, arith}
 use Rattle.std.proofs.lemmas.Bool.{cases_eq}
 use Rattle.dcel_fixed.specs.HalfEdges.{rev}
+use Rattle.dcel_maps.specs.EditLists.{ComesBy}
+use Rattle.dcel_maps.specs.EditLists.EditKind.{ear_cut}
 use Rattle.dcel_maps.specs.Maps.{Live, Map}
 use Rattle.dcel_maps.specs.theory.Sound.{Sound, Sphere}
 use Rattle.dcel_maps.specs.theory.Standing.{Follows}
@@ -11,6 +13,7 @@ use Rattle.dcel_maps.proofs.maps.Counts.{edge_past}
 use Rattle.dcel_maps.proofs.maps.Ears.{EarSite, ear_keeps, ear_site}
 use Rattle.dcel_maps.proofs.maps.Edits.{Ear, EarAt}
 use Rattle.dcel_maps.proofs.maps.Growth.{Grown, drawn_grown, each_live, live_cases, still_live}
+use Rattle.dcel_maps.proofs.maps.Lists.{comes_first, ear_edit, extends_same, one_each}
 use Rattle.dcel_maps.proofs.removal.Eared.{ear, ear_face-h, ear_face-n, ear_face-other, ear_face-p, ear_is, ear_next-n, ear_next-other}
 use Rattle.dcel_maps.proofs.maps.Soundness.{face_cycles, rev_live}
 use Rattle.dcel_maps.proofs.maps.Triangles.{IsTriangleOf, SameLinks, triangle_from, triangle_kept}
@@ -19,9 +22,6 @@ use Rattle.dcel_maps.proofs.words.Faces.{KeepsFace, keeps_face-then}
 use Rattle.dcel_maps.proofs.words.Paths.{Path-changed}
 use Rattle.dcel_maps.proofs.removal.Spokes.{follows, path_item}
 use Rattle.dcel_maps.proofs.removal.Without.{keeps-itself}
-use Rattle.dcel_maps.specs.EditLists.{ComesBy}
-use Rattle.dcel_maps.specs.EditLists.EditKind.{ear_cut}
-use Rattle.dcel_maps.proofs.maps.Lists.{comes_first, ear_edit, extends_same, one_each}
 
 -- the face of (p, q, r, ..) cut into ears: edges from m on, faces from g on
 unfoldable pub fan : Map → ℕ → ℕ → ℕ → ℕ → ℕ → List ℕ → Map

@@ -2,6 +2,8 @@
 use Rattle.std.proofs.Common.{◌≡◌, ◌≢◌, ◌⊎◌, ◌↔◌, inl, inr, ◌+◌, ◌-◌, ◌*◌, ◌/◌, ◌<◌, ◌≤◌, ℕ, suc, true, false, List, [], ◌∷◌, length, slice_index, sym, refl, ap, ◌∙◌, subst, arith, ◌++◌}
 use Rattle.std.proofs.lemmas.Bool.{both_ways, cases_Bool, cases_eq, cases_lt, false_from_ne_true}
 use Rattle.std.proofs.lemmas.List.{get_or-append-add, get_or_append_left, length-append}
+use Rattle.dcel_maps.specs.EditLists.{ComesBy, EditKind}
+use Rattle.dcel_maps.specs.EditLists.EditKind.{ear_cut}
 use Rattle.dcel_maps.specs.Hiding.{kept_words}
 use Rattle.dcel_maps.specs.Maps.{Live, Map}
 use Rattle.dcel_maps.specs.Removals.{Closed, Removal, gives_up_edge, gives_up_face, gives_up_vertex, shown}
@@ -10,6 +12,7 @@ use Rattle.dcel_maps.specs.theory.Standing.{Stands}
 use Rattle.dcel_maps.specs.Words.{count_of, word_of}
 use Rattle.dcel_maps.specs.edits.Fill.{ear_origins, ears, ring_filled}
 use Rattle.dcel_maps.proofs.Liveness.{closed-live, gives_up_face-closed, is_live-from, is_live-parts, bare_word}
+use Rattle.dcel_maps.proofs.maps.Lists.{comes_after, comes_then, one_each}
 use Rattle.dcel_maps.proofs.Shown.{length-shown, slice_index-shown_live}
 use Rattle.dcel_maps.proofs.maps.Agreement.{Agrees, agrees-sound, agrees-sphere, agrees_extends}
 use Rattle.dcel_maps.proofs.maps.Counts.{same_tests}
@@ -24,9 +27,6 @@ use Rattle.dcel_maps.proofs.shapes.Shown.{Shows, shown-agrees, shown-stands}
 use Rattle.dcel_maps.proofs.walks.Links.{links_stand}
 use Rattle.dcel_maps.proofs.words.Counts.{count-later, count-same}
 use Rattle.dcel_maps.proofs.words.Faces.{IsWordOf, KeepsFace, edited_stands, keeps_face-then}
-use Rattle.dcel_maps.specs.EditLists.{ComesBy, EditKind}
-use Rattle.dcel_maps.specs.EditLists.EditKind.{ear_cut}
-use Rattle.dcel_maps.proofs.maps.Lists.{comes_after, comes_then, one_each}
 
 -- the ring (p, q, r, ..), and a record that gives up what lies inside it
 module _ {V DE UE F : Type 0} (m : Mesh V DE UE F) (p q r : ℕ) (rest : List ℕ) (halves : List DE) (edges : List UE) (faces : List F) (mesh : IsMesh m) (closed : m.shape.removal ≡ Closed) (removal : Removal) (hole : HollowOf m.shape removal (p ∷ q ∷ r ∷ rest) (face_count m.shape + length rest)) where

@@ -2,12 +2,15 @@
 use Rattle.std.proofs.Common.{◌≡◌, ◌≢◌, ◌⊎◌, ◌-◌, inl, inr, ◌/◌, ◌<◌, ◌≤◌, ℕ, suc, max, false, List, [], ◌∷◌, ◌++◌, sym, ap, ◌∙◌, subst, arith, length, replicate}
 use Rattle.std.proofs.lemmas.Bool.{cases_eq}
 use Rattle.dcel_fixed.specs.HalfEdges.{rev}
+use Rattle.dcel_maps.specs.EditLists.{ComesBy, EditKind, vertex_cut_off}
+use Rattle.dcel_maps.specs.EditLists.EditKind.{numbers_changed, spur_dropped, words_joined}
 use Rattle.dcel_maps.specs.Maps.{Live, Map}
 use Rattle.dcel_maps.specs.theory.Sound.{Sound, Sphere}
 use Rattle.dcel_maps.specs.theory.Standing.{Follows}
 use Rattle.dcel_maps.specs.theory.Cycles.{IsCycle}
 use Rattle.dcel_maps.specs.Words.{count_of}
 use Rattle.dcel_maps.proofs.maps.Halves.{rev-rev, rev_half}
+use Rattle.dcel_maps.proofs.maps.Lists.{comes_first, comes_once, comes_then, one_each, one_each-replicate}
 use Rattle.dcel_maps.proofs.maps.Soundness.{face_cycles}
 use Rattle.dcel_maps.proofs.words.Counts.{absent_head, count-same, first_or_later}
 use Rattle.dcel_maps.proofs.words.Faces.{KeepsFace, keeps_face-then}
@@ -15,9 +18,6 @@ use Rattle.dcel_maps.proofs.words.Paths.{Path-changed}
 use Rattle.dcel_maps.proofs.removal.RenumberedFaces.{Numbered, numbered, renumbered_face, renumbered_edit}
 use Rattle.dcel_maps.proofs.removal.Spokes.{Merged, Opened, Untouched, follows, path_item}
 use Rattle.dcel_maps.proofs.removal.Tips.{SpurGone, away_live, live_away, spur_away, spur_away_keeps, spur_gone, spur_away_edit}
-use Rattle.dcel_maps.specs.EditLists.{ComesBy, EditKind, vertex_cut_off}
-use Rattle.dcel_maps.specs.EditLists.EditKind.{numbers_changed, spur_dropped, words_joined}
-use Rattle.dcel_maps.proofs.maps.Lists.{comes_first, comes_once, comes_then, one_each, one_each-replicate}
 
 -- the spokes but the first are joined away, this one is a spur then, and the face gets its number
 abbrev pub hole_kinds : List ℕ → List EditKind

@@ -3,6 +3,7 @@ use Rattle.std.proofs.Common.{◌≡◌, ◌≤◌, ◌==◌, ℕ, false, List, 
 use Rattle.std.proofs.lemmas.Bool.{cond-true, cond-false, ne_eqb}
 use Rattle.std.proofs.lemmas.List.{length-reverse}
 use Rattle.dcel_maps.specs.Borders.{IsVertexRing, StartsAlone, center_of}
+use Rattle.dcel_maps.specs.EditLists.EditKind.{numbers_changed, words_joined}
 use Rattle.dcel_maps.specs.Removals.{opened_with, Closed, Removal, gives_up_face, gives_up_vertex, is_this}
 use Rattle.dcel_maps.specs.Renumbering.{cleaned, cleaned_up}
 use Rattle.dcel_maps.specs.Shapes.{IsLive, IsMesh, IsSound, IsSphere, Mesh, Shape, face_count, map_of}
@@ -18,7 +19,6 @@ use Rattle.dcel_maps.specs.Regions.IsRing.{of_region, of_vertex}
 use Rattle.dcel_maps.proofs.removal.Hollows.{HollowOf, HollowBy}
 use Rattle.dcel_maps.proofs.removal.RegionHoles.{region_hole, region_by}
 use Rattle.dcel_maps.proofs.removal.VertexHoles.{vertex_hollow}
-use Rattle.dcel_maps.specs.EditLists.EditKind.{numbers_changed, words_joined}
 
 -- the hole of a region
 pub region_hollow : (s : Shape) → IsSound s → IsSphere s → (border edges faces : List ℕ) → IsRegionRing s border edges faces

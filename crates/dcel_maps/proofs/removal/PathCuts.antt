@@ -3,6 +3,7 @@ use Rattle.std.proofs.Common.{◌≡◌, ◌≢◌, ◌↔◌, inl, inr, ◌*◌
 use Rattle.std.proofs.lemmas.Bool.{both_ways, cases_eq, false_from_ne_true, ne_eqb}
 use Rattle.std.proofs.lemmas.List.{get_or-set_same, get_or_past, length-set}
 use Rattle.dcel_fixed.specs.HalfEdges.{rev}
+use Rattle.dcel_maps.specs.EditLists.{ComesBy, EditKind}
 use Rattle.dcel_maps.specs.edits.Degenerate.{word_without}
 use Rattle.dcel_maps.specs.Maps.{Live, Map}
 use Rattle.dcel_maps.specs.Removals.{Closed, Removal, gives_up_edge, gives_up_face, gives_up_vertex, is_live, opened, shown}
@@ -11,6 +12,7 @@ use Rattle.dcel_maps.specs.theory.Sound.{Sound, Sphere}
 use Rattle.dcel_maps.specs.theory.Standing.{Stands}
 use Rattle.dcel_maps.specs.Words.{become, count_of, word_of}
 use Rattle.dcel_maps.proofs.Liveness.{gives_up_edge-closed, is_live-cases, is_live-from, is_live-given_up, is_live-parts}
+use Rattle.dcel_maps.proofs.maps.Lists.{comes_after}
 use Rattle.dcel_maps.proofs.Shown.{slice_index-shown_live}
 use Rattle.dcel_maps.proofs.maps.Agreement.{agrees-sound, agrees-sphere, agrees_extends}
 use Rattle.dcel_maps.proofs.shapes.Maps.{sound-from_map, sphere-from_map, word_cases}
@@ -20,8 +22,6 @@ use Rattle.dcel_maps.proofs.words.Counts.{count-other, count-same}
 use Rattle.dcel_maps.proofs.words.Faces.{IsWordOf, stands_from_faces}
 use Rattle.dcel_maps.proofs.words.Reading.{live_in, stands_in_face}
 use Rattle.dcel_maps.proofs.words.Turns.{count-turn, from_least-turn}
-use Rattle.dcel_maps.specs.EditLists.{ComesBy, EditKind}
-use Rattle.dcel_maps.proofs.maps.Lists.{comes_after}
 
 -- what is counted where an item is taken out of a list
 pub count-out_same : (x : ℕ) (w : List ℕ) → count_of x (become x [] w) ≡ 0

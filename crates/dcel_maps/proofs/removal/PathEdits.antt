@@ -5,6 +5,8 @@ use Rattle.std.proofs.lemmas.List.{get_or-set_other, get_or-set_same}
 use Rattle.dcel_fixed.specs.HalfEdges.{rev}
 use Rattle.dcel_maps.specs.Cyclic.{from_least}
 use Rattle.dcel_maps.specs.Degenerate.{IsPath}
+use Rattle.dcel_maps.specs.EditLists.{ComesBy}
+use Rattle.dcel_maps.specs.EditLists.EditKind.{numbers_changed, spur_dropped}
 use Rattle.dcel_maps.specs.edits.Degenerate.{word_without}
 use Rattle.dcel_maps.specs.Maps.{By, Live, Map}
 use Rattle.dcel_maps.specs.Removals.{Closed, gives_up_edge}
@@ -32,8 +34,6 @@ use Rattle.dcel_maps.proofs.words.Faces.{IsWordOf}
 use Rattle.dcel_maps.proofs.words.Reading.{live_in}
 use Rattle.dcel_maps.proofs.words.Triangles.{WrittenFrom, written_from}
 use Rattle.dcel_maps.proofs.words.Turns.{length-turn}
-use Rattle.dcel_maps.specs.EditLists.{ComesBy}
-use Rattle.dcel_maps.specs.EditLists.EditKind.{numbers_changed, spur_dropped}
 
 -- what can stand where a half edge of the edge that goes was an anchor: at the vertex w, and of the outer face
 pub record IsStandIn (s : Shape) (w : ℕ) (r : Option ℕ) : Type 0 where

@@ -5,6 +5,8 @@ use Rattle.std.proofs.lemmas.List.{get_or-set_other, get_or-set_same}
 use Rattle.dcel_fixed.specs.HalfEdges.{rev}
 use Rattle.dcel_maps.specs.Cyclic.{from_least}
 use Rattle.dcel_maps.specs.Degenerate.{IsPath}
+use Rattle.dcel_maps.specs.EditLists.{ComesBy}
+use Rattle.dcel_maps.specs.EditLists.EditKind.{edges_joined}
 use Rattle.dcel_maps.specs.Maps.{Map}
 use Rattle.dcel_maps.specs.Removals.{Closed}
 use Rattle.dcel_maps.specs.Shapes.{IsLive, IsSound, IsSphere, Shape, end_of, face_of, map_of, origin_of}
@@ -13,6 +15,7 @@ use Rattle.dcel_maps.specs.Walking.{IsOutEdge, ccw_of}
 use Rattle.dcel_maps.specs.Words.{become, word_of}
 use Rattle.dcel_maps.proofs.maps.Edits.{first_part}
 use Rattle.dcel_maps.proofs.maps.Halves.{rev-rev, rev_or_same}
+use Rattle.dcel_maps.proofs.maps.Lists.{comes_once}
 use Rattle.dcel_maps.proofs.maps.Soundness.{rev_live}
 use Rattle.dcel_maps.proofs.maps.Straightened.{Left, StraightensAt, left, middle_bare, straightened, straightened_keeps, straightened_edit}
 use Rattle.dcel_maps.proofs.maps.Subdivides.{first-other, first-rev}
@@ -23,9 +26,6 @@ use Rattle.dcel_maps.proofs.shapes.Maps.{map-sound, map-sphere}
 use Rattle.dcel_maps.proofs.walks.Links.{links_stand}
 use Rattle.dcel_maps.proofs.words.Faces.{IsWordOf}
 use Rattle.dcel_maps.proofs.words.Straightened.{straightened_word}
-use Rattle.dcel_maps.specs.EditLists.{ComesBy}
-use Rattle.dcel_maps.specs.EditLists.EditKind.{edges_joined}
-use Rattle.dcel_maps.proofs.maps.Lists.{comes_once}
 
 module _ (s : Shape) (sound : IsSound s) (sphere : IsSphere s) (path : IsPath s) (closed : s.removal ≡ Closed)
     (long : length s.origins ≡ 2 * s.edges) (v a : ℕ) (within : v < s.vertices) (out : IsOutEdge s v a) (many : 2 < s.vertices)

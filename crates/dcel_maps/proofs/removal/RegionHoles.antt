@@ -3,6 +3,8 @@ use Rattle.std.proofs.Common.{◌≡◌, inl, inr, ◌*◌, ◌/◌, ◌<◌, �
 use Rattle.std.proofs.lemmas.Bool.{cases_eq, false_from_ne_true, false≢true}
 use Rattle.dcel_fixed.specs.HalfEdges.{rev}
 use Rattle.dcel_maps.specs.Borders.{StartsAlone}
+use Rattle.dcel_maps.specs.EditLists.{ComesBy}
+use Rattle.dcel_maps.specs.EditLists.EditKind.{numbers_changed, words_joined}
 use Rattle.dcel_maps.specs.Maps.{Live, Map, NextOrRev, Reaches}
 use Rattle.dcel_maps.specs.Maps.Reaches.{go, here}
 use Rattle.dcel_maps.specs.Removals.{opened_with, Removal, gives_up_edge, gives_up_face, gives_up_vertex}
@@ -14,6 +16,7 @@ use Rattle.dcel_maps.specs.Walking.{ListsOnce}
 use Rattle.dcel_maps.specs.Words.{count_of, word_of}
 use Rattle.dcel_maps.proofs.Liveness.{is_live-parts}
 use Rattle.dcel_maps.proofs.maps.Halves.{rev-rev, rev_half, rev_or_same}
+use Rattle.dcel_maps.proofs.maps.Lists.{comes_once, comes_then, one_each, one_each-replicate}
 use Rattle.dcel_maps.proofs.maps.Reaching.{no_step, step, then}
 use Rattle.dcel_maps.proofs.maps.Soundness.{face_cycles, rev_live}
 use Rattle.dcel_maps.proofs.removal.RenumberedFaces.{Numbered, numbered, renumbered_face, renumbered_edit}
@@ -30,9 +33,6 @@ use Rattle.dcel_maps.specs.Regions.LeadsPast.{on, past}
 use Rattle.dcel_maps.proofs.removal.Hollows.{HollowOf, HollowBy}
 use Rattle.dcel_maps.proofs.removal.Linked.{Links, back, forth}
 use Rattle.dcel_maps.proofs.removal.RegionJoins.{CanJoin, Joined, joined, left_face, right_face, stands_or_not}
-use Rattle.dcel_maps.specs.EditLists.{ComesBy}
-use Rattle.dcel_maps.specs.EditLists.EditKind.{numbers_changed, words_joined}
-use Rattle.dcel_maps.proofs.maps.Lists.{comes_once, comes_then, one_each, one_each-replicate}
 
 module _ (s : Shape) (sound : IsSound s) (sphere : IsSphere s) (edges faces : List ℕ) (region : IsRegion s edges faces) (p : ℕ) (rest : List ℕ)
     (cycle : IsCycle (LeadsPast (map_of s).next edges) (p ∷ rest)) (whole : ListsOnce (IsRim s edges faces) (p ∷ rest)) where

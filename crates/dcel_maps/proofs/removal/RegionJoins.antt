@@ -2,12 +2,15 @@
 use Rattle.std.proofs.Common.{◌≡◌, ◌≢◌, ◌⊎◌, inl, inr, ◌*◌, ◌/◌, ◌<◌, ◌≤◌, ℕ, suc, true, false, List, [], ◌∷◌, length, sym, refl, ap, ◌∙◌, subst, arith}
 use Rattle.std.proofs.lemmas.Bool.{cases_eq, cases_lt}
 use Rattle.dcel_fixed.specs.HalfEdges.{rev}
+use Rattle.dcel_maps.specs.EditLists.{ComesBy}
+use Rattle.dcel_maps.specs.EditLists.EditKind.{words_joined}
 use Rattle.dcel_maps.specs.Maps.{Live, Map, Reaches}
 use Rattle.dcel_maps.specs.Maps.Reaches.{go, here}
 use Rattle.dcel_maps.specs.theory.Sound.{Sound, Sphere}
 use Rattle.dcel_maps.specs.Words.{count_of}
 use Rattle.dcel_maps.proofs.maps.Halves.{rev-rev, rev_half, rev_or_same}
 use Rattle.dcel_maps.proofs.maps.Joins.{JoinAt, JoinSite, join, join_is, join_keeps, join_live-after_h, join_live-after_rev, join_site, join_vacant, join_edit}
+use Rattle.dcel_maps.proofs.maps.Lists.{comes_first, extends_same, one_each}
 use Rattle.dcel_maps.proofs.maps.Soundness.{face_cycles, next_differs, rev_live}
 use Rattle.dcel_maps.proofs.removal.Without.{Without, keeps-itself, without, without-keeps}
 use Rattle.dcel_maps.proofs.words.Counts.{count-later, count-other, count-same, first_or_later}
@@ -15,9 +18,6 @@ use Rattle.dcel_maps.proofs.words.Faces.{KeepsFace, keeps_face-then}
 use Rattle.dcel_maps.specs.Regions.{LeadsPast}
 use Rattle.dcel_maps.specs.Regions.LeadsPast.{on, past}
 use Rattle.dcel_maps.proofs.removal.Linked.{Links, back, forth, left_out, left_out-from, left_out-length, left_out-once, left_out-other, merged_links, no_links, onto, onto-at, onto-end, onto-other, two_ends}
-use Rattle.dcel_maps.specs.EditLists.{ComesBy}
-use Rattle.dcel_maps.specs.EditLists.EditKind.{words_joined}
-use Rattle.dcel_maps.proofs.maps.Lists.{comes_first, extends_same, one_each}
 
 -- the faces at the two halves of an edge
 abbrev pub left_face : Map → ℕ → ℕ

@@ -1,14 +1,14 @@
 -- A face gets a new number, or that of no other face.
 use Rattle.std.proofs.Common.{◌≡◌, ◌≢◌, inl, inr, ◌<◌, ℕ, suc, max, sym, refl, ap, ◌∙◌, arith}
 use Rattle.std.proofs.lemmas.Bool.{cases_eq}
+use Rattle.dcel_maps.specs.EditLists.{Edit}
+use Rattle.dcel_maps.specs.EditLists.EditKind.{numbers_changed}
 use Rattle.dcel_maps.specs.Maps.{Live, Map}
 use Rattle.dcel_maps.specs.theory.Sound.{Sound, Sphere}
 use Rattle.dcel_maps.proofs.maps.Edits.{Renamed}
 use Rattle.dcel_maps.proofs.maps.Renames.{renamed_keeps}
 use Rattle.dcel_maps.proofs.maps.Updates.{put, put_other, put_same}
 use Rattle.dcel_maps.proofs.words.Faces.{KeepsFace}
-use Rattle.dcel_maps.specs.EditLists.{Edit}
-use Rattle.dcel_maps.specs.EditLists.EditKind.{numbers_changed}
 
 -- the face g gets the number n
 unfoldable pub renumbered_face : Map → ℕ → ℕ → Map

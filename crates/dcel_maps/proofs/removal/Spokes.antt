@@ -3,21 +3,21 @@ use Rattle.std.proofs.Common.{◌≡◌, ◌≢◌, ◌⊎◌, inl, inr, ◌/◌
 use Rattle.std.proofs.lemmas.Bool.{cases_eq}
 use Rattle.std.proofs.lemmas.List.{append_assoc}
 use Rattle.dcel_fixed.specs.HalfEdges.{rev}
+use Rattle.dcel_maps.specs.EditLists.{ComesBy}
+use Rattle.dcel_maps.specs.EditLists.EditKind.{words_joined}
 use Rattle.dcel_maps.specs.Maps.{Live, Map}
 use Rattle.dcel_maps.specs.theory.Sound.{Sound, Sphere}
 use Rattle.dcel_maps.specs.theory.Standing.{Follows}
 use Rattle.dcel_maps.specs.theory.Cycles.{Path}
 use Rattle.dcel_maps.specs.Words.{count_of}
 use Rattle.dcel_maps.proofs.maps.Halves.{rev_or_same}
+use Rattle.dcel_maps.proofs.maps.Lists.{comes_first, comes_once, one_each}
 use Rattle.dcel_maps.proofs.maps.Soundness.{face_cycles, next_differs}
 use Rattle.dcel_maps.proofs.words.Counts.{count-append, count-later, count-none, count-other, count-same, first_or_later}
 use Rattle.dcel_maps.proofs.words.Faces.{KeepsFace, keeps_face-then}
 use Rattle.dcel_maps.proofs.words.Paths.{Path-append, Path-changed}
 use Rattle.dcel_maps.proofs.maps.Joins.{join, join_keeps, join_edit}
 use Rattle.dcel_maps.proofs.removal.Without.{Without, live_join, without, without-keeps}
-use Rattle.dcel_maps.specs.EditLists.{ComesBy}
-use Rattle.dcel_maps.specs.EditLists.EditKind.{words_joined}
-use Rattle.dcel_maps.proofs.maps.Lists.{comes_first, comes_once, one_each}
 
 -- a triangle between two spokes: p, what comes after it, and the other half of q
 pub record Sector (J : Map) (p q : ℕ) : Type 0 where

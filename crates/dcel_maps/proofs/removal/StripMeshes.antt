@@ -3,12 +3,14 @@ use Rattle.std.proofs.Common.{◌≡◌, ◌≢◌, inl, inr, ◌<◌, ℕ, eqb-
 use Rattle.std.proofs.lemmas.Bool.{cases_Bool, cases_eq, ne_eqb}
 use Rattle.std.proofs.lemmas.List.{get_or-set_other, get_or-set_same, length-set, length-map}
 use Rattle.dcel_maps.specs.Cyclic.{from_least}
+use Rattle.dcel_maps.specs.EditLists.{EditedBy, vertex_cut_off}
 use Rattle.dcel_maps.specs.edits.Strip.{each_set, strip_cut, strip_given_up, strip_record, strip_word}
 use Rattle.dcel_maps.specs.Hiding.{kept_face_anchors, kept_vertex_anchors, kept_words}
 use Rattle.dcel_maps.specs.Removals.{Closed, IsWithin, Removal, gives_up_edge, gives_up_face, gives_up_vertex, shown}
 use Rattle.dcel_maps.specs.Shapes.{AnchorsVertex, AnchorsWord, IsLive, IsMesh, IsSized, Mesh, Shape, face_anchor, face_count, next_of, origin_of, vertex_anchor}
 use Rattle.dcel_maps.specs.Strips.{IsEdgeStrip, IsStripAround}
 use Rattle.dcel_maps.specs.Words.{count_of, last_of, word_of}
+use Rattle.dcel_maps.proofs.removal.Holes.{hole_kinds, hole_kinds-is}
 use Rattle.dcel_maps.proofs.Shown.{length-shown}
 use Rattle.dcel_maps.proofs.maps.Halves.{rev_or_same}
 use Rattle.dcel_maps.proofs.removal.Hiding.{hidden, length-hiding, not_hidden}
@@ -18,8 +20,6 @@ use Rattle.dcel_maps.proofs.removal.StripSpokes.{OuterWord, outer_word, trip}
 use Rattle.dcel_maps.proofs.shapes.Maps.{map-sound}
 use Rattle.dcel_maps.proofs.words.Counts.{count-append, count-same}
 use Rattle.dcel_maps.proofs.words.EachSet.{each_set-cases, last_of-is, length-each_set}
-use Rattle.dcel_maps.specs.EditLists.{EditedBy, vertex_cut_off}
-use Rattle.dcel_maps.proofs.removal.Holes.{hole_kinds, hole_kinds-is}
 
 module _ {V DE UE F : Type 0} (m : Mesh V DE UE F) (mesh : IsMesh m) (v h : ℕ) (around : IsStripAround m.shape v h)
     (closed : m.shape.removal ≡ Closed) (removal : Removal) (gives : GivesUpStrip m.shape v removal)

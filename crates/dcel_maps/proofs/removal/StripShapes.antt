@@ -4,6 +4,7 @@ use Rattle.std.proofs.lemmas.Bool.{both_ways, cases_Bool, cases_eq, cases_lt, fa
 use Rattle.std.proofs.lemmas.List.{get_or-set_other, get_or-set_same, length-set}
 use Rattle.dcel_maps.specs.Borders.{IsEdgeAt, IsFaceAt}
 use Rattle.dcel_maps.specs.Cyclic.{from_least}
+use Rattle.dcel_maps.specs.EditLists.{ComesBy}
 use Rattle.dcel_maps.specs.Hiding.{kept_words}
 use Rattle.dcel_maps.specs.Maps.{Live, Map}
 use Rattle.dcel_maps.specs.Removals.{Closed, IsInOrder, Removal, gives_up_edge, gives_up_face, gives_up_vertex, is_live, shown}
@@ -13,6 +14,7 @@ use Rattle.dcel_maps.specs.theory.Standing.{Stands}
 use Rattle.dcel_maps.specs.Walking.{IsOutEdge}
 use Rattle.dcel_maps.specs.Words.{count_of, word_of}
 use Rattle.dcel_maps.proofs.Liveness.{gives_up_edge-closed, gives_up_face-closed, is_live-from, is_live-given_up, is_live-parts, bare_word}
+use Rattle.dcel_maps.proofs.maps.Lists.{comes_after}
 use Rattle.dcel_maps.proofs.Shown.{slice_index-shown_live}
 use Rattle.dcel_maps.proofs.maps.Agreement.{Agrees, agrees-sound, agrees-sphere, agrees_extends}
 use Rattle.dcel_maps.proofs.maps.Soundness.{face_cycles}
@@ -30,8 +32,6 @@ use Rattle.dcel_maps.proofs.words.Faces.{IsWordOf, KeepsFace, edited_stands}
 use Rattle.dcel_maps.proofs.words.Mapped.{mapped_from}
 use Rattle.dcel_maps.proofs.words.Reading.{face_in_word}
 use Rattle.dcel_maps.proofs.words.Turns.{count-turn, from_least-turn}
-use Rattle.dcel_maps.specs.EditLists.{ComesBy}
-use Rattle.dcel_maps.proofs.maps.Lists.{comes_after}
 
 -- the record gives up the vertex v, its edges and the triangles round it, and nothing else
 pub record GivesUpStrip (s : Shape) (v : ℕ) (r : Removal) : Type 0 where

@@ -11,6 +11,7 @@ use Rattle.dcel_maps.specs.theory.Standing.{Follows, Stands}
 use Rattle.dcel_maps.specs.Walking.{IsOutEdge, IsRoundTrip, ccw_of, walk_of}
 use Rattle.dcel_maps.specs.Words.{TurnsTo, count_of, word_of}
 use Rattle.dcel_maps.proofs.maps.Halves.{rev-rev}
+use Rattle.dcel_maps.proofs.maps.Lists.{extends_same}
 use Rattle.dcel_maps.proofs.maps.Soundness.{ccw_live, vertex_cycles}
 use Rattle.dcel_maps.proofs.removal.Holes.{HoleOf, hollow, is_hollow}
 use Rattle.dcel_maps.proofs.removal.Spokes.{Different, Merged, Opened, Sector, opened}
@@ -23,7 +24,6 @@ use Rattle.dcel_maps.proofs.words.Paths.{Path-split}
 use Rattle.dcel_maps.proofs.words.Reading.{stands_in_face}
 use Rattle.dcel_maps.proofs.words.Triangles.{WrittenFrom, is_triangle, triangle_turn, written_from}
 use Rattle.dcel_maps.proofs.words.Turns.{count-turn, length-turn}
-use Rattle.dcel_maps.proofs.maps.Lists.{extends_same}
 
 -- a list that is not empty has a last item
 last_split : (r : List ℕ) → 0 < length r → (front : List ℕ) × (last : ℕ) × (r ≡ front ++ last ∷ [])

@@ -2,6 +2,8 @@
 use Rattle.std.proofs.Common.{◌≡◌, ◌≢◌, inl, inr, ◌/◌, ℕ, true, false, sym, refl, ap, ◌∙◌, arith}
 use Rattle.std.proofs.lemmas.Bool.Decides.{nat_tests}
 use Rattle.dcel_fixed.specs.HalfEdges.{rev}
+use Rattle.dcel_maps.specs.EditLists.{Edit}
+use Rattle.dcel_maps.specs.EditLists.EditKind.{spur_dropped}
 use Rattle.dcel_maps.specs.Maps.{By, Live, Map, ccw}
 use Rattle.dcel_maps.specs.theory.Sound.{Sound, Sphere}
 use Rattle.dcel_maps.proofs.maps.Halves.{rev-rev, rev_half, rev_or_same}
@@ -10,8 +12,6 @@ use Rattle.dcel_maps.proofs.maps.Soundness.{face_cycles, next_differs, rev_live}
 use Rattle.dcel_maps.proofs.maps.Updates.{put}
 use Rattle.dcel_maps.proofs.maps.Unspurs.{Unspur, unspur_keeps}
 use Rattle.dcel_maps.proofs.maps.Growth.{grows_back}
-use Rattle.dcel_maps.specs.EditLists.{Edit}
-use Rattle.dcel_maps.specs.EditLists.EditKind.{spur_dropped}
 
 -- the edge of h, which leads to the tip of a spur, is taken away
 unfoldable pub spur_away : Map → ℕ → Map

@@ -4,6 +4,8 @@ use Rattle.std.proofs.lemmas.Bool.{both_ways, cases_lt, false_from_ne_true}
 use Rattle.std.proofs.lemmas.List.{get_or_past}
 use Rattle.dcel_fixed.specs.HalfEdges.{rev}
 use Rattle.dcel_maps.specs.Cyclic.{from_least}
+use Rattle.dcel_maps.specs.EditLists.{ComesBy}
+use Rattle.dcel_maps.specs.EditLists.EditKind.{numbers_changed}
 use Rattle.dcel_maps.specs.Maps.{Map}
 use Rattle.dcel_maps.specs.Removals.{gives_up_edge, gives_up_face, gives_up_vertex}
 use Rattle.dcel_maps.specs.Shapes.{IsLive, IsSound, IsSphere, Shape, edge_is_live, face_count, face_is_live, face_of, map_of, next_of, origin_of, prev_of, vertex_is_live}
@@ -13,15 +15,13 @@ use Rattle.dcel_maps.specs.theory.Standing.{Stands}
 use Rattle.dcel_maps.proofs.Liveness.{is_live-parts}
 use Rattle.dcel_maps.proofs.maps.Agreement.{Agrees, agrees-sound, agrees-sphere, agrees_extends}
 use Rattle.dcel_maps.proofs.maps.Edits.{Renamed}
+use Rattle.dcel_maps.proofs.maps.Lists.{comes_after, comes_once}
 use Rattle.dcel_maps.proofs.maps.Renames.{renamed_sound, renamed_sphere}
 use Rattle.dcel_maps.proofs.shapes.Maps.{face-live, map-sound, map-sphere, sound-from_map, sphere-from_map}
 use Rattle.dcel_maps.proofs.walks.Links.{links_stand}
 use Rattle.dcel_maps.proofs.words.Agreement.{same_words_stand}
 use Rattle.dcel_maps.proofs.words.Reading.{face_in-is, next_in-is, prev_in-is}
 use Rattle.dcel_maps.proofs.words.Renames.{WordsRenamed, renamed_empty, renamed_stand}
-use Rattle.dcel_maps.specs.EditLists.{ComesBy}
-use Rattle.dcel_maps.specs.EditLists.EditKind.{numbers_changed}
-use Rattle.dcel_maps.proofs.maps.Lists.{comes_after, comes_once}
 
 -- the faces of T are those of S with other numbers, given by w (back by w'), where half edges have others by f
 pub record FacesRenamed (S T : Shape) (f w w' : ℕ → ℕ) : Type 0 where
