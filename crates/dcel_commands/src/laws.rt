@@ -4,8 +4,8 @@
 ghost use Rattle.std.specs.Prelude.{◌≡◌, ◌⊎◌, ◌↔◌, ◌≤◌, ◌^◌, ℕ, List, Option, Some};
 ghost use Rattle.std.specs.List.Sorted.{IsNonDecreasingBy};
 ghost use Rattle.dcel_commands.specs.Conditions.{entry_number, AllMet, FirstUnmet, IsLeast, IsRefused};
-ghost use Rattle.dcel_commands.specs.Courses.{Comes, HasBegun, course, course_of};
-ghost use Rattle.dcel_commands.specs.Instructions.{Cleanup, Instruction, Remove, Saying, Setup};
+ghost use Rattle.dcel_commands.specs.Edits.{edits_of, edits_of_run};
+ghost use Rattle.dcel_commands.specs.Instructions.{Cleanup, Instruction, Remove, Saying};
 ghost use Rattle.dcel_commands.specs.Lists.{Run, Takes};
 ghost use Rattle.dcel_commands.specs.OneRemoval.{CleansUp, Closes, GoesOn, Opens, record_after};
 ghost use Rattle.dcel_commands.specs.Queries.{query_asks};
@@ -20,7 +20,7 @@ ghost use Rattle.dcel_commands.specs.declared.commands.reply.Refused.{Refused};
 ghost use Rattle.dcel_commands.specs.declared.refusal.Refusal.{Refusal};
 ghost use Rattle.dcel_commands.specs.declared.refusal.Refusal.TheVariants.{OutOfMemory};
 ghost use Rattle.dcel_commands.specs.declared.request.Query.{Query};
-ghost use Rattle.dcel_maps.specs.EditLists.{IsEdgeless};
+ghost use Rattle.dcel_maps.specs.EditLists.{EditedBy};
 ghost use Rattle.dcel_maps.specs.Removals.{opened_with};
 ghost use Rattle.dcel_maps.specs.Shapes.{IsMesh, Mesh, Shape};
 
@@ -79,30 +79,13 @@ pub fn runs_keep_triangles<V, DE: Default, UE: Default, F: Default>()
         TrianglesStay DE.is_default UE.is_default F.is_default limit old commands replies new }
 {}
 
-/// Tells what each command makes of a mesh by elementary edits.
-///
-/// The mesh goes on by a list of them, which may be empty; or it begins with a first edge, and a list
-/// may follow; or no edge is left. `Setup` begins where there is no edge, and `Triangle` puts a mesh
-/// that has begun so in place of the old one.
-pub fn a_command_is_a_list<V, DE: Default, UE: Default, F: Default>()
-    ensures comes { (limit : ℕ) (old new : Mesh V DE UE F) (command : Instruction V) (reply : Response V) → limit ≤ 2 ^ 31 → IsMesh old →
-        Takes DE.is_default UE.is_default F.is_default limit old command reply new → Comes (course old command reply) old new }
-    ensures setup { (limit : ℕ) (old new : Mesh V DE UE F) (a b : ℕ) (reply : Response V) →
-        Takes DE.is_default UE.is_default F.is_default limit old (Setup a b) reply new → IsEdgeless old }
-{}
-
-/// The same of a list of commands: what they make of the mesh, one after another.
-///
-/// Either all their lists in a row lead from the mesh before to the mesh after; or no edge is left;
-/// or the mesh began with a first edge, and what followed is the lists of the commands since then.
-/// From a mesh without edges, as a new one, it is one of the last two.
-pub fn a_run_is_a_list<V, DE: Default, UE: Default, F: Default>()
-    ensures comes { (limit : ℕ) (old new : Mesh V DE UE F) (commands : List (Instruction V)) (replies : List (Response V)) → limit ≤ 2 ^ 31 → IsMesh old →
-        (run : Run DE.is_default UE.is_default F.is_default limit old commands replies new) →
-        Comes (course_of DE.is_default UE.is_default F.is_default limit old new commands replies run) old new }
-    ensures from_none { (limit : ℕ) (old new : Mesh V DE UE F) (commands : List (Instruction V)) (replies : List (Response V)) → limit ≤ 2 ^ 31 → IsMesh old →
-        IsEdgeless old → (run : Run DE.is_default UE.is_default F.is_default limit old commands replies new) →
-        IsEdgeless new ⊎ HasBegun (course_of DE.is_default UE.is_default F.is_default limit old new commands replies run) new }
+/// Tells which elementary edits commands are: one of them, and a list of them, one after another.
+pub fn commands_are_lists_of_edits<V, DE: Default, UE: Default, F: Default>()
+    ensures command { (limit : ℕ) (old new : Mesh V DE UE F) (command : Instruction V) (reply : Response V) → limit ≤ 2 ^ 31 → IsMesh old
+        → Takes DE.is_default UE.is_default F.is_default limit old command reply new → EditedBy (edits_of old command reply) old new }
+    ensures run { (limit : ℕ) (old new : Mesh V DE UE F) (commands : List (Instruction V)) (replies : List (Response V)) → limit ≤ 2 ^ 31 → IsMesh old
+        → (run : Run DE.is_default UE.is_default F.is_default limit old commands replies new)
+        → EditedBy (edits_of_run DE.is_default UE.is_default F.is_default limit old new commands replies run) old new }
 {}
 
 /// Tells what each command does with the removal record.
