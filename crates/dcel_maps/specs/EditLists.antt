@@ -5,8 +5,9 @@ use Rattle.dcel_maps.specs.Maps.{Live, Map}
 use Rattle.dcel_maps.specs.Shapes.{Mesh, map_of, out_edge_of}
 use Rattle.dcel_maps.specs.edits.Degenerate.{going}
 
--- What stands in such lists: the six elementary edits; an ear, which is a chord over two neighbours; a first edge; a renumbering; and that
--- no edge is left.
+-- What stands in such lists: the six elementary edits, which are Euler operators (mev and kev for a spur, semv and jekv for the vertex in an
+-- edge, mef and kef for a word and its parts); an ear, which is a chord over two neighbours; a first edge; other numbers; and that no edge
+-- is left.
 pub data EditKind : Type 0 where
   spur_added : EditKind
   spur_dropped : EditKind
@@ -19,6 +20,7 @@ pub data EditKind : Type 0 where
   numbers_changed : EditKind
   emptied : EditKind
 
+-- no edge is live
 abbrev pub HasNoEdge : Map → Type 0
 HasNoEdge M = (u : ℕ) → M.edge u ≡ false
 
