@@ -1,11 +1,12 @@
 //! Laws of the definitions. These calls compute nothing; whoever makes one learns what it ensures.
 
-ghost use Rattle.std.specs.Prelude.{◌≡◌, ◌-◌, ℕ, true, false, List, [], ◌∷◌, length, ◌≢◌, ◌↔◌, ◌*◌, ◌<◌, Bool, slice_index};
+ghost use Rattle.std.specs.Prelude.{◌≡◌, ◌-◌, ℕ, true, false, List, [], ◌∷◌, ◌++◌, length, ◌≢◌, ◌↔◌, ◌*◌, ◌<◌, Bool, slice_index};
 ghost use Rattle.dcel_fixed.specs.HalfEdges.{rev};
 ghost use Rattle.dcel_maps.specs.Borders.{IsBorderLoop};
 ghost use Rattle.dcel_maps.specs.Conditions.{CanFlip, CanSwapRemove, IsBridge, IsLineEnd};
 ghost use Rattle.dcel_maps.specs.Count.{Counts, IsCounted, live_edges, used_vertices};
 ghost use Rattle.dcel_maps.specs.Degenerate.{CanRemoveDegenerate};
+ghost use Rattle.dcel_maps.specs.EditLists.{ComesBy, EditKind, edges_after, nothing};
 ghost use Rattle.dcel_maps.specs.edits.Create.{first_edge_added, first_edge_alone, outer_alone, vertex_appended};
 ghost use Rattle.dcel_maps.specs.edits.DefaultData.{NewData};
 ghost use Rattle.dcel_maps.specs.edits.Degenerate.{removed_degenerate};
@@ -23,7 +24,7 @@ ghost use Rattle.dcel_maps.specs.Examples.{FillsSquare, FillsTriangle, GoesFromH
 ghost use Rattle.dcel_maps.specs.Headline.{CountsTwo, FacesAreCycles, VerticesAreCycles};
 ghost use Rattle.dcel_maps.specs.HeadlineExamples.{pinched, torus, with_idle_face, without_anchors};
 ghost use Rattle.dcel_maps.specs.InsertedBack.{CanInsertLast, IsBackWithoutLast, inserted_with, removed_with};
-ghost use Rattle.dcel_maps.specs.Maps.{Connected, Map};
+ghost use Rattle.dcel_maps.specs.Maps.{Connected, Map, count};
 ghost use Rattle.dcel_maps.specs.PathExamples.{BothGone, EndGone, MiddleGone};
 ghost use Rattle.dcel_maps.specs.RegionExamples.{AreNoRings, FillsOneFace, FillsThreeFaces, FillsTwoFaces};
 ghost use Rattle.dcel_maps.specs.Regions.{IsRegionRing};
@@ -242,6 +243,18 @@ pub fn elementary_edits_keep_a_sphere()
     ensures renumbered { (S T : Map) (half back vertex face : ℕ → ℕ) → Sound S → Sphere S → Renamed S T half back vertex face
         → Sound T × Sphere T }
     ensures shapes { (s : Shape) → IsSound s → Sound (map_of s) × (IsSphere s ↔ Sphere (map_of s)) }
+{}
+
+/// Tells what lists of elementary edits do.
+///
+/// A list leads from a sound map on the sphere, as the map of nothing is, to another one, and its
+/// kinds tell how many edges are live then. One list can come after another.
+pub fn lists_of_edits_keep_a_sphere()
+    ensures nothing { Sound nothing × Sphere nothing }
+    ensures keeps { (kinds : List EditKind) (S T : Map) → Sound S → Sphere S → ComesBy kinds S T → Sound T × Sphere T }
+    ensures counts { (kinds : List EditKind) (S T : Map) → Sound S → Sphere S → ComesBy kinds S T
+        → count T.edge T.edges ≡ edges_after kinds (count S.edge S.edges) }
+    ensures then { (kinds more : List EditKind) (S M T : Map) → ComesBy kinds S M → ComesBy more M T → ComesBy (kinds ++ more) S T }
 {}
 
 /// The lengths of all words add up to the number of live half edges.

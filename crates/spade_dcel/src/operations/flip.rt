@@ -1,7 +1,9 @@
 //! An edge flipped between two triangles.
 
-ghost use Rattle.std.specs.Prelude.{◌≡◌};
+ghost use Rattle.std.specs.Prelude.{◌≡◌, ◌∷◌, []};
 ghost use Rattle.dcel_maps.specs.Conditions.{CanFlip};
+ghost use Rattle.dcel_maps.specs.EditLists.{EditedBy};
+ghost use Rattle.dcel_maps.specs.EditLists.EditKind.{ear_cut, words_joined};
 ghost use Rattle.dcel_maps.specs.edits.Flip.{edge_flipped};
 ghost use Rattle.dcel_maps.specs.Shapes.{IsMesh};
 
@@ -35,6 +37,7 @@ pub fn flip_cw<V, DE, UE, F, A: Allocator>(
 )
     requires { CanFlip dcel.old.shape edge }
     ensures edit { dcel.new ≡ edge_flipped dcel.old edge }
+    ensures edits { EditedBy (words_joined ∷ ear_cut ∷ []) dcel.old dcel.new }
     ensures mesh { IsMesh dcel.new }
 {
     put_flip(&mut dcel.store, edge.as_directed());
