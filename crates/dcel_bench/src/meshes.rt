@@ -5,11 +5,11 @@ use crate::checks::same;
 use crate::require;
 use spade_dcel::dcel::Dcel;
 use spade_dcel::handles::{
-    FixedDirectedEdgeHandle, FixedFaceHandle, FixedUndirectedEdgeHandle, FixedVertexHandle,
-    InnerTag, PossiblyOuterTag,
+    FixedDirectedEdgeHandle, FixedFaceHandle, FixedHandleImpl, FixedUndirectedEdgeHandle,
+    FixedVertexHandle, InnerTag, PossiblyOuterTag,
 };
 use spade_dcel::operations::{append_unconnected_vertex, flip_cw};
-use std::alloc::{Allocator, Global};
+use std::alloc::{AllocError, Allocator, Global};
 use std::test::Fail;
 
 /// A mesh whose data are numbers.
@@ -49,6 +49,18 @@ pub fn undirected_edge(index: u32) -> FixedUndirectedEdgeHandle {
 /// Returns the face with this number, which isn't 0.
 pub fn inner_face(index: u32) -> FixedFaceHandle<InnerTag> {
     FixedFaceHandle::new(index as usize)
+}
+
+/// Returns the elements of a kind with these numbers.
+pub fn handles<Kind, A: Allocator>(
+    numbers: &[u32],
+    memory: A,
+) -> Result<Vec<FixedHandleImpl<Kind, InnerTag>, A>, AllocError> {
+    let mut list = Vec::with_capacity(memory, numbers.len())?;
+    for number in numbers {
+        list.push(FixedHandleImpl::new(*number as usize))?;
+    }
+    Ok(list)
 }
 
 /// Appends a vertex, and returns its handle.

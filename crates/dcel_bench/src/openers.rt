@@ -1,11 +1,12 @@
 //! Calls that open a removal.
 
+pub use crate::meshes::handles;
 use crate::meshes::{Mesh, vertex};
 use crate::require;
 use spade_dcel::dcel::RemovalState;
 use spade_dcel::handles::{
-    FixedDirectedEdgeHandle, FixedFaceHandle, FixedHandleImpl, FixedUndirectedEdgeHandle,
-    FixedVertexHandle, InnerTag,
+    FixedDirectedEdgeHandle, FixedFaceHandle, FixedUndirectedEdgeHandle, FixedVertexHandle,
+    InnerTag,
 };
 use spade_dcel::operations::{
     IsolateVertexResult, disconnect_edge_strip, isolate_vertex_and_fill_hole, remesh_edge_ring,
@@ -25,18 +26,6 @@ pub enum Opener {
 }
 
 use Opener::{Isolate, Remesh, Strip};
-
-/// Returns the elements of a kind with these numbers.
-pub fn handles<Kind, A: Allocator>(
-    numbers: &[u32],
-    memory: A,
-) -> Result<Vec<FixedHandleImpl<Kind, InnerTag>, A>, AllocError> {
-    let mut list = Vec::with_capacity(memory, numbers.len())?;
-    for number in numbers {
-        list.push(FixedHandleImpl::new(*number as usize))?;
-    }
-    Ok(list)
-}
 
 /// The lists of an opener, made.
 #[derive(Drop)]

@@ -9,7 +9,7 @@ ghost use Rattle.dcel_maps.specs.Degenerate.{CanRemoveDegenerate};
 ghost use Rattle.dcel_maps.specs.EditLists.{ComesBy, EditKind, edges_after, nothing};
 ghost use Rattle.dcel_maps.specs.edits.Create.{first_edge_added, first_edge_alone, outer_alone, vertex_appended};
 ghost use Rattle.dcel_maps.specs.edits.DefaultData.{NewData};
-ghost use Rattle.dcel_maps.specs.edits.Degenerate.{removed_degenerate};
+ghost use Rattle.dcel_maps.specs.edits.Degenerate.{path_given_up, removed_degenerate};
 ghost use Rattle.dcel_maps.specs.edits.Fill.{hole_filled, ring_remeshed};
 ghost use Rattle.dcel_maps.specs.edits.Flip.{GoesRound, edge_flipped};
 ghost use Rattle.dcel_maps.specs.edits.Line.{line_extended};
@@ -196,7 +196,8 @@ pub fn removals_keep_triangles<V, DE, UE, F>()
 {}
 
 /// What is live when a removal is cleaned up, or when a vertex is taken out, stays with its word,
-/// its origin, its anchor and its data, all but this vertex.
+/// its origin, its anchor and its data, all but this vertex. So does what is live once a vertex of a
+/// path and one of its edges are given up, when both are taken out at once.
 ///
 /// Only its number may change, by one short rule: write the numbers of all elements of its kind in
 /// a list, and put the last item at the place of each that goes, from the largest down. The new
@@ -207,6 +208,14 @@ pub fn removals_leave_what_is_live<V, DE, UE, F>()
     ensures vertex { (m : Mesh V DE UE F) (v : ℕ) → IsMesh m → CanSwapRemove m.shape v
         → LeavesLive (with_removal m (Cleaned v)) (vertex_taken_out m v) (λ h. h) (moved (m.shape.vertices - 1) v) (λ f. f) }
     ensures vertex_places { (m : Mesh V DE UE F) (v w : ℕ) → IsMesh m → CanSwapRemove m.shape v → w < m.shape.vertices → w ≢ v
+        → slice_index (renumbered m.shape.vertices (v ∷ [])) (moved (m.shape.vertices - 1) v w) ≡ w }
+    ensures degenerate { (m : Mesh V DE UE F) (v : ℕ) → IsMesh m → CanRemoveDegenerate m.shape v → m.shape.vertices ≢ 1
+        → LeavesLive (path_given_up m v) (removed_degenerate m v) (new_half (path_given_up m v).shape) (moved (m.shape.vertices - 1) v) (λ f. f) }
+    ensures degenerate_places { (m : Mesh V DE UE F) (v : ℕ) → IsMesh m → CanRemoveDegenerate m.shape v → m.shape.vertices ≢ 1
+        → AreNumbered (path_given_up m v).shape }
+    ensures degenerate_alone { (m : Mesh V DE UE F) (v : ℕ) → IsMesh m → CanRemoveDegenerate m.shape v → m.shape.vertices ≡ 1
+        → LeavesLive (with_removal m (Cleaned v)) (removed_degenerate m v) (λ h. h) (moved (m.shape.vertices - 1) v) (λ f. f) }
+    ensures degenerate_vertex_places { (m : Mesh V DE UE F) (v w : ℕ) → IsMesh m → CanRemoveDegenerate m.shape v → w < m.shape.vertices → w ≢ v
         → slice_index (renumbered m.shape.vertices (v ∷ [])) (moved (m.shape.vertices - 1) v w) ≡ w }
 {}
 

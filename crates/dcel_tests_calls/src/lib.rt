@@ -8,13 +8,11 @@ mod calls;
 #[cfg(test)]
 mod carried;
 #[cfg(test)]
-mod commands;
-#[cfg(test)]
-mod conditions;
-#[cfg(test)]
 mod degenerate;
 #[cfg(test)]
 mod flips;
+#[cfg(test)]
+mod limits;
 #[cfg(test)]
 mod links;
 #[cfg(test)]

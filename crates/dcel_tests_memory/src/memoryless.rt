@@ -8,9 +8,9 @@ use dcel_bench::data::{Datum, write_all};
 use dcel_bench::lists::Said;
 use dcel_bench::meshes::{Mesh, half_edge, inner_face, undirected_edge, vertex};
 use dcel_bench::openers::handles;
-use dcel_bench::pictures::picture_of;
 use dcel_bench::refusing::{Refusals, Refusing, Watched};
 use dcel_bench::require;
+use dcel_bench::snapshots::snapshot_of;
 use dcel_bench::talks::{Talk, push_talk, run_lines};
 use spade_dcel::handles::{FixedDirectedEdgeHandle, FixedVertexHandle};
 use spade_dcel::iterators::HullIterator;
@@ -217,8 +217,8 @@ fn joined<A: Allocator>(dcel: &Mesh<A>, from: u32, to: u32) -> Result<Option<usi
 /// Checks that a mesh is read, walked and tested as one that has memory.
 fn check_read(dcel: &Watched, wanted: &Mesh, lists: &Lists, alloc: Global) -> Result<(), Fail> {
     same(
-        picture_of(dcel, alloc)?,
-        picture_of(wanted, alloc)?,
+        snapshot_of(dcel, alloc)?,
+        snapshot_of(wanted, alloc)?,
         "what is read",
     )?;
     same(

@@ -32,9 +32,9 @@ use dcel_bench::lists::{Said, command_of, handed};
 use dcel_bench::meshes::{NO_LIMIT, flip, swap, vertex};
 use dcel_bench::openers::Opener::{Isolate, Remesh, Strip};
 use dcel_bench::openers::{handles, lists_of, open_by};
-use dcel_bench::pictures::{Picture, picture_of};
 use dcel_bench::refusing::{Memory, Refusals, Refusing, Watched};
 use dcel_bench::require;
+use dcel_bench::snapshots::{Snapshot, snapshot_of};
 use dcel_commands::commands::{Command, Refusal, Refused, apply};
 use spade_dcel::handles::FixedUndirectedEdgeHandle;
 use spade_dcel::operations::{
@@ -239,7 +239,7 @@ fn is_refused<'a>(
     alloc: Global,
 ) -> Result<bool, Fail> {
     let called = (row.said, row.back);
-    let before = picture_of(dcel, alloc)?;
+    let before = snapshot_of(dcel, alloc)?;
     let is_made = make(dcel, memory, called, way, Refusals::One(number))?;
     let is_refused = memory.requests() > number;
     let name = name(row.said, way);
@@ -250,7 +250,7 @@ fn is_refused<'a>(
     )?;
     if is_refused {
         let what = format_args!("{name}: the mesh after request {number} was refused");
-        same(picture_of(dcel, alloc)?, before, what)?;
+        same(snapshot_of(dcel, alloc)?, before, what)?;
         let is_made = make(dcel, memory, called, way, Refusals::None)?;
         holds(
             is_made,
@@ -267,7 +267,7 @@ fn is_refused_anew(
     row: &Row,
     way: Way,
     number: u64,
-    left: &Picture,
+    left: &Snapshot,
     alloc: Global,
 ) -> Result<bool, Fail> {
     let memory = Refusing::new(alloc);
@@ -275,7 +275,7 @@ fn is_refused_anew(
     let is_refused = is_refused(&mut dcel, &memory, row, way, number, alloc)?;
     let name = name(row.said, way);
     let what = format_args!("{name}: the mesh in the end, request {number} refused");
-    same(&picture_of(&dcel, alloc)?, left, what)?;
+    same(&snapshot_of(&dcel, alloc)?, left, what)?;
     Ok(is_refused)
 }
 

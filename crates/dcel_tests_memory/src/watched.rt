@@ -4,8 +4,8 @@ use dcel_bench::checks::holds;
 use dcel_bench::data::write_distinct;
 use dcel_bench::lists::{Said, commands_of};
 use dcel_bench::meshes::{Mesh, NO_LIMIT};
-use dcel_bench::pictures::{Picture, picture_of};
 use dcel_bench::refusing::{Memory, Watched};
+use dcel_bench::snapshots::{Snapshot, snapshot_of};
 use dcel_commands::commands::apply_all;
 use spade_dcel::operations::new;
 use std::alloc::{Allocator, Global};
@@ -42,10 +42,10 @@ pub fn fitted<'a>(memory: Memory<'a>, commands: &[Said]) -> Result<Watched<'a>, 
 }
 
 /// Returns what these commands leave of the mesh that those make, if nothing is refused.
-pub fn left_after(mesh: &[Said], commands: &[Said], alloc: Global) -> Result<Picture, Fail> {
+pub fn left_after(mesh: &[Said], commands: &[Said], alloc: Global) -> Result<Snapshot, Fail> {
     let mut dcel = made(alloc, mesh)?;
     let commands = commands_of(commands, alloc)?;
     let is_made = apply_all(&mut dcel, commands, NO_LIMIT).is_ok();
     holds(is_made, "the commands of a row")?;
-    picture_of(&dcel, alloc)
+    snapshot_of(&dcel, alloc)
 }

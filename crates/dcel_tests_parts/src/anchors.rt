@@ -1,7 +1,7 @@
 //! Anchors that are given as lists, and the words for what is wrong with them.
 
 use dcel_links::find_wrong_anchor;
-use spade_dcel::operations::{Fault, LinksError};
+use spade_dcel::operations::{Fault, LinksError, RefusedLinks};
 use std::alloc::Global;
 use std::process::Abort;
 use std::test::Fail;
@@ -89,12 +89,30 @@ fn reasons_of_links_are_told(rt: HostRuntime) -> Result<(), Fail> {
         ),
         (
             LinksError::FaceAnchor(0),
-            "face 0 is not anchored at a half edge that lies there",
+            "the outer face is not anchored at a half edge that lies there",
+        ),
+        (
+            LinksError::FaceAnchor(1),
+            "face 1 is not anchored at a half edge that lies there",
         ),
         (LinksError::OutOfMemory, "out of memory"),
     ];
     for (reason, wanted) in &table {
         check_text(&rt, rt.alloc(), *reason, wanted)?;
     }
+    Ok(())
+}
+
+#[test]
+fn refused_links_tell_the_reason(rt: HostRuntime) -> Result<(), Fail> {
+    let refused = RefusedLinks {
+        reason: LinksError::Links(Fault::UnusedFace(0)),
+        back: (),
+    };
+    let text = format!(in rt.alloc(); "{refused}, {refused:?}")?;
+    assert_eq!(rt;
+        text.as_str(),
+        "no mesh has these links: no half edge lies on the outer face, RefusedLinks { reason: Links(UnusedFace(0)), .. }"
+    );
     Ok(())
 }

@@ -3,10 +3,13 @@
 use crate::faces::{Row, check_lists, check_made, data_for, faces_of, vertices_of};
 use dcel_bench::checks::same;
 use dcel_bench::require;
-use dcel_exchange::{FacesError, LinkLists, from_faces, link_lists, links, with_data};
+use dcel_exchange::{
+    FacesError, LinkLists, RefusedFaces, from_faces, link_lists, links, with_data,
+};
 use spade_dcel::dcel::{Dcel, RemovalState};
 use spade_dcel::operations::Fault;
 use std::alloc::Global;
+use std::process::Abort;
 use std::test::Fail;
 
 /// Checks what comes of the faces of each row.
@@ -206,17 +209,55 @@ fn meshes_come_back(rt: HostRuntime) -> Result<(), Fail> {
 
 #[test]
 fn reasons_are_told(rt: HostRuntime) -> Result<(), Fail> {
-    let reason = FacesError::SideTwice(0, 2, 4, 7);
-    let text = format!(in rt.alloc(); "{reason}")?;
+    let table = [
+        (
+            FacesError::SideTwice(0, 2, 4, 7),
+            "faces 0 and 2 of the list both have the side from 4 to 7",
+        ),
+        (
+            FacesError::Links(Fault::NotSphere(2)),
+            "no mesh has these faces: the surface has genus 2, so it is not a sphere",
+        ),
+        (
+            FacesError::Links(Fault::UnusedFace(0)),
+            "no side is left for the outer face",
+        ),
+        (
+            FacesError::Links(Fault::FaceInParts(0)),
+            "the faces leave more than one border",
+        ),
+    ];
+    for (reason, wanted) in &table {
+        check_text(&rt, rt.alloc(), *reason, wanted)?;
+    }
+    Ok(())
+}
+
+/// Checks that a reason is told in these words, alone and with what is given back.
+fn check_text(
+    rt: &impl Abort,
+    alloc: Global,
+    reason: FacesError,
+    wanted: &str,
+) -> Result<(), Fail> {
+    let text = format!(in alloc; "{reason}")?;
+    assert!(rt; text.as_str() == wanted);
+    let refused = RefusedFaces { reason, back: () };
+    let text = format!(in alloc; "{refused}")?;
+    assert!(rt; text.as_str() == wanted);
+    Ok(())
+}
+
+#[test]
+fn refused_faces_show_the_reason(rt: HostRuntime) -> Result<(), Fail> {
+    let refused = RefusedFaces {
+        reason: FacesError::TooManyCorners,
+        back: (),
+    };
+    let text = format!(in rt.alloc(); "{refused:?}")?;
     assert_eq!(rt;
         text.as_str(),
-        "faces 0 and 2 both have the side from 4 to 7"
-    );
-    let reason = FacesError::Links(Fault::NotSphere(2));
-    let text = format!(in rt.alloc(); "{reason}")?;
-    assert_eq!(rt;
-        text.as_str(),
-        "no mesh has these faces: the surface has genus 2, so it is not a sphere"
+        "RefusedFaces { reason: TooManyCorners, .. }"
     );
     Ok(())
 }

@@ -4,12 +4,12 @@ use dcel_fixed::{
     FixedDirectedEdgeHandle, FixedFaceHandle, FixedUndirectedEdgeHandle, FixedVertexHandle,
     OUTER_FACE,
 };
-use dcel_store::{EdgeData, EdgeEntry, HalfEdgeEntry, Store};
+use dcel_store::{EdgeData, HalfEdgeLinks, NewEdge, Store};
 use std::test::Fail;
 
 /// Returns the links of a half edge that is alone on its face, and starts at the first vertex.
-fn alone(edge: FixedDirectedEdgeHandle) -> HalfEdgeEntry {
-    HalfEdgeEntry {
+fn alone(edge: FixedDirectedEdgeHandle) -> HalfEdgeLinks {
+    HalfEdgeLinks {
         next: edge,
         prev: edge,
         face: OUTER_FACE,
@@ -89,11 +89,11 @@ fn each_datum(rt: HostRuntime) -> Result<(), Fail> {
 }
 
 /// Returns an edge with these data, whose half edges are alone on their faces.
-fn entry(
+fn edge_of(
     edge: FixedDirectedEdgeHandle,
     [normalized, reversed, undirected]: [char; 3],
-) -> EdgeEntry<char, char> {
-    EdgeEntry {
+) -> NewEdge<char, char> {
+    NewEdge {
         normalized: alone(edge),
         reversed: alone(edge.rev()),
         edge_data: EdgeData {
@@ -109,9 +109,9 @@ fn edges_come_in_their_order(rt: HostRuntime) -> Result<(), Fail> {
     let mut store: Store<(), char, char, ()> = Store::new(rt.alloc())?;
     store.reserve(0, 3, 0)?;
     store.push_three_edges(
-        entry(FixedDirectedEdgeHandle::new(0), ['a', 'b', 'c']),
-        entry(FixedDirectedEdgeHandle::new(2), ['d', 'e', 'f']),
-        entry(FixedDirectedEdgeHandle::new(4), ['g', 'h', 'i']),
+        edge_of(FixedDirectedEdgeHandle::new(0), ['a', 'b', 'c']),
+        edge_of(FixedDirectedEdgeHandle::new(2), ['d', 'e', 'f']),
+        edge_of(FixedDirectedEdgeHandle::new(4), ['g', 'h', 'i']),
     );
     let last = FixedDirectedEdgeHandle::new(5);
     assert_eq!(rt; store.num_edges(), 3);

@@ -8,9 +8,9 @@ use dcel_bench::growths::{CUT, Growth, cut_triangle, grow, grow_all};
 use dcel_bench::meshes::{
     CUT_TRIANGLE, Links, Mesh, adjacent_edge, check_links, counts, out_edge, vertex,
 };
-use dcel_bench::pictures::{Picture, picture_of};
 use dcel_bench::refusing::{Memory, Refusals, Refusing, Watched};
 use dcel_bench::require;
+use dcel_bench::snapshots::{Snapshot, snapshot_of};
 use spade_dcel::operations::{NoMemory, new, new_with_fixed_vertices};
 use std::alloc::{AllocError, Allocator, Global};
 use std::cell::Cell;
@@ -48,12 +48,12 @@ fn check_data<A: Allocator + Copy>(dcel: Mesh<A>, alloc: A, wanted: [i64; 2]) ->
     same([vertices, edges], wanted, "data of vertices and of edges")
 }
 
-fn check_picture<A: Allocator>(
+fn check_snapshot<A: Allocator>(
     dcel: &Mesh<A>,
-    wanted: &Picture,
+    wanted: &Snapshot,
     alloc: Global,
 ) -> Result<(), Fail> {
-    same(&picture_of(dcel, alloc)?, wanted, "the mesh")
+    same(&snapshot_of(dcel, alloc)?, wanted, "the mesh")
 }
 
 /// Returns the mesh with other data of its vertices and of its undirected edges.
@@ -84,10 +84,10 @@ fn write_mapped(dcel: &mut Mesh) -> Result<(), Fail> {
 }
 
 /// Reads a cut triangle with these data, written one by one.
-fn mapped_picture(alloc: Global) -> Result<Picture, Fail> {
+fn mapped_snapshot(alloc: Global) -> Result<Snapshot, Fail> {
     let mut dcel = cut_triangle(alloc)?;
     write_mapped(&mut dcel)?;
-    picture_of(&dcel, alloc)
+    snapshot_of(&dcel, alloc)
 }
 
 /// Reserves room for more vertices, undirected edges and faces, and returns whether there was
@@ -99,12 +99,12 @@ fn reserve<A: Allocator>(dcel: &mut Mesh<A>, room: [usize; 3]) -> Result<bool, F
 }
 
 /// Checks the mesh, with the data that [`mapped`] gives.
-fn check_mapped(dcel: Mesh, wanted: &Picture, alloc: Global) -> Result<(), Fail> {
-    check_picture(&dcel, wanted, alloc)?;
+fn check_mapped(dcel: Mesh, wanted: &Snapshot, alloc: Global) -> Result<(), Fail> {
+    check_snapshot(&dcel, wanted, alloc)?;
     check_data(dcel, alloc, [10_11_12_13, 1_01_01_01_01_01])
 }
 
-fn check_clone(dcel: &Mesh, wanted: &Picture, alloc: Global) -> Result<(), Fail> {
+fn check_clone(dcel: &Mesh, wanted: &Snapshot, alloc: Global) -> Result<(), Fail> {
     check_mapped(dcel.try_clone(alloc)?, wanted, alloc)
 }
 
@@ -116,7 +116,7 @@ fn check_reserved(dcel: &mut Mesh) -> Result<(), Fail> {
 #[test]
 fn data_are_mapped_and_cloned(rt: HostRuntime) -> Result<(), Fail> {
     let dcel = cut_triangle(rt.alloc())?;
-    let wanted = mapped_picture(rt.alloc())?;
+    let wanted = mapped_snapshot(rt.alloc())?;
     let mut dcel = mapped(dcel, rt.alloc())?;
     check_clone(&dcel, &wanted, rt.alloc())?;
     check_reserved(&mut dcel)?;

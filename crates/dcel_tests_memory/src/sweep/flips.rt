@@ -10,8 +10,8 @@ use dcel_bench::lists::Said::{Grow, Legalize};
 use dcel_bench::lists::{Said, command_of};
 use dcel_bench::meshes::NO_LIMIT;
 use dcel_bench::openers::handles;
-use dcel_bench::pictures::picture_of;
 use dcel_bench::refusing::{Memory, Refusals, Refusing, Watched};
+use dcel_bench::snapshots::snapshot_of;
 use dcel_commands::commands::{Reply, apply};
 use dcel_commands::legalize::{Legalized, legalize_edges};
 use dcel_legalize::legalize_by_number;
@@ -159,8 +159,8 @@ fn check_flipped(
         Refusals::None,
     )?;
     same(found, ended, format_args!("{flips} flips and no more"))?;
-    let left = picture_of(dcel, alloc)?;
-    same(left, picture_of(&wanted, alloc)?, "the mesh that is left")
+    let left = snapshot_of(dcel, alloc)?;
+    same(left, snapshot_of(&wanted, alloc)?, "the mesh that is left")
 }
 
 /// Flips the edges of a row with the request of this number refused, after `flips` flips, or with

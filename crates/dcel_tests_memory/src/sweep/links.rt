@@ -2,8 +2,8 @@
 
 use crate::watched::MANY;
 use dcel_bench::checks::same;
-use dcel_bench::pictures::{Picture, picture_of};
 use dcel_bench::refusing::{Memory, Refusals, Refusing, Watched};
+use dcel_bench::snapshots::{Snapshot, snapshot_of};
 use spade_dcel::operations::{
     Anchors, EdgeData, Fault, LinksError, MeshData, RefusedLinks, from_anchored_links, from_links,
 };
@@ -166,11 +166,11 @@ fn make<'a>(memory: Memory<'a>, row: &Row, data: Data<'a>, refusals: Refusals) -
 }
 
 /// Returns what the mesh of a row is like if nothing is refused, or None if its links are.
-fn left(row: &Row, alloc: Global) -> Result<Option<Picture>, Fail> {
+fn left(row: &Row, alloc: Global) -> Result<Option<Snapshot>, Fail> {
     let memory = Refusing::new(alloc);
     let data = data(&memory, row)?;
     match make(&memory, row, data, Refusals::None) {
-        Ok(made) => Ok(Some(picture_of(&made, alloc)?)),
+        Ok(made) => Ok(Some(snapshot_of(&made, alloc)?)),
         Err(_) => Ok(None),
     }
 }
@@ -180,14 +180,14 @@ fn left(row: &Row, alloc: Global) -> Result<Option<Picture>, Fail> {
 fn check_made(
     outcome: Outcome,
     row: &Row,
-    left: &Option<Picture>,
+    left: &Option<Snapshot>,
     alloc: Global,
 ) -> Result<(), Fail> {
     let call = name(row.call);
     match outcome {
         Ok(made) => {
             same(None, row.refused, call)?;
-            same(&Some(picture_of(&made, alloc)?), left, call)
+            same(&Some(snapshot_of(&made, alloc)?), left, call)
         }
         Err(refused) => {
             same(Some(refused.reason), row.refused, call)?;
@@ -198,7 +198,12 @@ fn check_made(
 
 /// Makes the mesh of a row with the request of this number refused, and again of the data that come
 /// back if that request came. Returns whether it came.
-fn is_refused(row: &Row, number: u64, left: &Option<Picture>, alloc: Global) -> Result<bool, Fail> {
+fn is_refused(
+    row: &Row,
+    number: u64,
+    left: &Option<Snapshot>,
+    alloc: Global,
+) -> Result<bool, Fail> {
     let memory = Refusing::new(alloc);
     let data = data(&memory, row)?;
     let outcome = make(&memory, row, data, Refusals::One(number));

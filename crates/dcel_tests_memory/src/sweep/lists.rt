@@ -10,8 +10,8 @@ use dcel_bench::lists::Said::{CleanUp, Grow, Open, Remove};
 use dcel_bench::lists::{Answer, Said, check_replies, commands_of, handed};
 use dcel_bench::meshes::NO_LIMIT;
 use dcel_bench::openers::Opener::Isolate;
-use dcel_bench::pictures::picture_of;
 use dcel_bench::refusing::{Memory, Refusals, Refusing, Watched};
+use dcel_bench::snapshots::snapshot_of;
 use dcel_commands::commands::{Refusal, Refused, Reply, StoppedAt, apply_all};
 use std::alloc::Global;
 use std::test::Fail;
@@ -77,7 +77,7 @@ fn check_left(dcel: &Watched, row: Row, calls: usize, alloc: Global) -> Result<(
     let commands = commands(row, 0, calls, alloc)?;
     let left = left_after(&[], &commands, alloc)?;
     let what = format_args!("the mesh after {calls} calls");
-    same(picture_of(dcel, alloc)?, left, what)
+    same(snapshot_of(dcel, alloc)?, left, what)
 }
 
 /// Makes the calls of a row from this place on, with the request of this number refused.

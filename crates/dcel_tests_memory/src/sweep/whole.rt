@@ -10,9 +10,9 @@ use dcel_bench::lists::Said;
 use dcel_bench::lists::Said::{Grow, Open};
 use dcel_bench::meshes::vertex;
 use dcel_bench::openers::Opener::Remesh;
-use dcel_bench::pictures::{Picture, picture_of};
 use dcel_bench::refusing::{Memory, Refusals, Refusing, Watched};
 use dcel_bench::require;
+use dcel_bench::snapshots::{Snapshot, snapshot_of};
 use spade_dcel::operations::{new, new_with_fixed_vertices};
 use std::alloc::{AllocError, Global};
 use std::cell::Cell;
@@ -270,12 +270,12 @@ fn make<'a>(
 /// Checks that the mesh is as before.
 fn check_kept(
     dcel: &Watched,
-    before: &Picture,
+    before: &Snapshot,
     (call, number): (Call, u64),
     alloc: Global,
 ) -> Result<(), Fail> {
     let what = format_args!("{}: the mesh, request {number} refused", name(call));
-    same(&picture_of(dcel, alloc)?, before, what)
+    same(&snapshot_of(dcel, alloc)?, before, what)
 }
 
 /// Makes the call of a row with the request of this number refused, and makes it again if that
@@ -283,7 +283,7 @@ fn check_kept(
 fn is_refused(row: &Row, number: u64, alloc: Global) -> Result<bool, Fail> {
     let memory = Refusing::new(alloc);
     let dcel = fitted(&memory, row.mesh)?;
-    let before = picture_of(&dcel, alloc)?;
+    let before = snapshot_of(&dcel, alloc)?;
     let (is_made, dcel) = make(dcel, &memory, row.call, Refusals::One(number))?;
     let is_refused = memory.requests() > number;
     let name = name(row.call);

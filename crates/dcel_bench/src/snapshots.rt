@@ -12,7 +12,7 @@ use std::test::Fail;
 /// All that can be seen of a mesh: its counts, the links that make its words, its anchors and data,
 /// and what an open removal has given up.
 #[derive(Debug, Drop, PartialEq, Eq)]
-pub struct Picture {
+pub struct Snapshot {
     removal: RemovalState,
     vertices: Vec<Seen>,
     faces: Vec<Seen>,
@@ -99,8 +99,8 @@ fn half_edges_of<A: Allocator>(dcel: &Mesh<A>, alloc: Global) -> Result<Vec<Seen
 }
 
 /// Returns what the mesh is like.
-pub fn picture_of<A: Allocator>(dcel: &Mesh<A>, alloc: Global) -> Result<Picture, Fail> {
-    Ok(Picture {
+pub fn snapshot_of<A: Allocator>(dcel: &Mesh<A>, alloc: Global) -> Result<Snapshot, Fail> {
+    Ok(Snapshot {
         removal: dcel.removal_state(),
         vertices: vertices_of(dcel, alloc)?,
         faces: faces_of(dcel, alloc)?,
