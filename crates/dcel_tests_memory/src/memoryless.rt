@@ -1,13 +1,9 @@
 //! What takes no memory, where every request for it is refused.
 
-use crate::sweep::growing::{CLEANED, CUT, OPEN};
-use crate::sweep::standing::LINE;
-use crate::watched::made;
 use dcel_bench::checks::same;
-use dcel_bench::data::{Datum, write_all};
-use dcel_bench::lists::Said;
-use dcel_bench::meshes::{Mesh, half_edge, inner_face, undirected_edge, vertex};
-use dcel_bench::openers::handles;
+use dcel_bench::data::{Datum, write_all, write_distinct};
+use dcel_bench::lines::grown;
+use dcel_bench::meshes::{Mesh, half_edge, handles, inner_face, undirected_edge, vertex};
 use dcel_bench::refusing::{Refusals, Refusing, Watched};
 use dcel_bench::require;
 use dcel_bench::snapshots::snapshot_of;
@@ -18,6 +14,19 @@ use spade_dcel::operations::{IsolateVertexResult, Room};
 use std::alloc::{AllocError, Allocator, Global};
 use std::test::Fail;
 
+/// A triangle that vertex 3 cuts into three, and vertex 4 beside it.
+const CUT: &str = "triangle 7 -8 9\nappend 10\ninsert 3 1\nappend 11";
+
+/// Empty; cut; with vertex 3 given up while a removal is open, and once it is cleaned up; the line
+/// 2, 0, 1.
+const MESHES: [&str; 5] = [
+    "",
+    CUT,
+    "triangle 7 -8 9\nappend 10\ninsert 3 1\nappend 11\nisolate 3 1 3 5",
+    "triangle 7 -8 9\nappend 10\ninsert 3 1\nappend 11\nisolate 3 1 3 5\ncleanup 3 4 5 / 1 2 3",
+    "append 7\nappend -8\nsetup 0 1\nappend 9\nextend 0 2",
+];
+
 /// Data that are written.
 const WRITTEN: [(Datum, i64); 6] = [
     (Datum::Vertex(0), 100),
@@ -27,8 +36,6 @@ const WRITTEN: [(Datum, i64); 6] = [
     (Datum::Face(0), 400),
     (Datum::InnerFace(3), 403),
 ];
-
-const MESHES: [&[Said]; 5] = [&[], &CUT, &OPEN, &CLEANED, &LINE];
 
 /// Adds the half edges out of a vertex, from the front and from the back.
 fn push_out_edges<A: Allocator>(
@@ -251,11 +258,18 @@ fn check_read(dcel: &Watched, wanted: &Mesh, lists: &Lists, alloc: Global) -> Re
     )
 }
 
+/// Makes a mesh whose elements have data of their own.
+fn made<A: Allocator + Copy>(memory: A, lines: &str) -> Result<Mesh<A>, Fail> {
+    let mut dcel = grown(memory, lines)?;
+    write_distinct(&mut dcel)?;
+    Ok(dcel)
+}
+
 /// Checks that a mesh is read, walked and tested with every request refused.
-fn check_mesh(commands: &[Said], alloc: Global) -> Result<(), Fail> {
+fn check_mesh(lines: &str, alloc: Global) -> Result<(), Fail> {
     let memory = Refusing::new(alloc);
-    let dcel = made(&memory, commands)?;
-    let wanted = made(alloc, commands)?;
+    let dcel = made(&memory, lines)?;
+    let wanted = made(alloc, lines)?;
     let lists = make_lists(alloc)?;
     memory.refuse(Refusals::From(0));
     check_read(&dcel, &wanted, &lists, alloc)?;
@@ -264,8 +278,8 @@ fn check_mesh(commands: &[Said], alloc: Global) -> Result<(), Fail> {
 
 #[test]
 fn reads_walks_and_tests_take_no_memory(rt: HostRuntime) -> Result<(), Fail> {
-    for commands in &MESHES {
-        check_mesh(*commands, rt.alloc())?;
+    for lines in &MESHES {
+        check_mesh(*lines, rt.alloc())?;
     }
     Ok(())
 }
@@ -273,7 +287,7 @@ fn reads_walks_and_tests_take_no_memory(rt: HostRuntime) -> Result<(), Fail> {
 #[test]
 fn data_are_written_without_memory(rt: HostRuntime) -> Result<(), Fail> {
     let memory = Refusing::new(rt.alloc());
-    let mut dcel = made(&memory, &CUT)?;
+    let mut dcel = made(&memory, CUT)?;
     memory.refuse(Refusals::From(0));
     write_all(&mut dcel, &WRITTEN)?;
     same(memory.requests(), 0, "requests")
