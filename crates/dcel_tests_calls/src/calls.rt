@@ -1,8 +1,7 @@
 //! Calls on a mesh, with their results if there is memory.
 
 use dcel_bench::checks::same;
-use dcel_bench::growths::Growth::{Append, Close, Extend, SetUp};
-use dcel_bench::growths::{Growth, LINE, TRIANGLE_AND_VERTEX, cut_triangle, grown};
+use dcel_bench::lines::{CUT, LINE, TRIANGLE_AND_VERTEX, grown};
 use dcel_bench::meshes::{Mesh, adjacent_edge, edge_between, half_edge, undirected_edge, vertex};
 use dcel_bench::require;
 use spade_dcel::handles::{
@@ -100,40 +99,26 @@ fn check_anchors_and_tests(dcel: &Mesh) -> Result<(), Fail> {
 fn anchors_and_tests_answer(rt: HostRuntime) -> Result<(), Fail> {
     let none = anchor_of_nothing(rt.alloc())?;
     same(none, None, "the anchor of an empty word")?;
-    let dcel = grown(rt.alloc(), &[Append(7), Append(7), Append(7), SetUp(1, 0)])?;
+    let dcel = grown(rt.alloc(), "append 7\nappend 7\nappend 7\nsetup 1 0")?;
     check_anchors_and_tests(&dcel)
 }
 
-/// Calls; half edges of the mesh then, and numbers out of range; the bridges among these, and those
+/// Lines; half edges of the mesh then, and numbers out of range; the bridges among these, and those
 /// where a face can be closed.
-type Edges = (
-    &'static [Growth],
-    &'static [u32],
-    &'static [u32],
-    &'static [u32],
-);
+type Edges = (&'static str, &'static [u32], &'static [u32], &'static [u32]);
 
 const EDGES: [Edges; 3] = [
     // The outer word is 0, 5, 4, 1, 3, 2, round the line 2, 0, 1, 3.
     (
-        &LINE,
+        LINE,
         &[0, 1, 2, 3, 4, 5, 6, 4_294_967_295],
         &[0, 1, 2, 3, 4, 5],
         &[0, 1, 2, 4],
     ),
-    (&TRIANGLE_AND_VERTEX, &[0, 1, 2, 3, 6], &[], &[0, 2]),
+    (TRIANGLE_AND_VERTEX, &[0, 1, 2, 3, 6], &[], &[0, 2]),
     // The words are 0, 7, 4, 2, 1 and 3, 5, 6: a triangle of 1, 2 and 3, and the edge from 0 to 1.
     (
-        &[
-            Append(0),
-            Append(1),
-            SetUp(0, 1),
-            Append(2),
-            Extend(1, 2),
-            Append(3),
-            Extend(2, 3),
-            Close(3),
-        ],
+        "append 0\nappend 1\nsetup 0 1\nappend 2\nextend 1 2\nappend 3\nextend 2 3\nclose 3",
         &[0, 1, 2, 3, 4, 5, 6, 7, 8],
         &[0, 1],
         &[0, 2, 4, 7],
@@ -156,8 +141,8 @@ fn check_edges(dcel: &Mesh, edges: &[u32], bridges: &[u32], corners: &[u32]) -> 
 }
 
 fn check_row(alloc: Global, row: &Edges) -> Result<(), Fail> {
-    let (growths, edges, bridges, corners) = *row;
-    let dcel = grown(alloc, growths)?;
+    let (lines, edges, bridges, corners) = *row;
+    let dcel = grown(alloc, lines)?;
     check_edges(&dcel, edges, bridges, corners)
 }
 
@@ -190,7 +175,7 @@ fn check_between(dcel: &Mesh) -> Result<(), Fail> {
 
 #[test]
 fn edges_are_found_by_their_ends(rt: HostRuntime) -> Result<(), Fail> {
-    let dcel = cut_triangle(rt.alloc())?;
+    let dcel = grown(rt.alloc(), CUT)?;
     check_between(&dcel)
 }
 
@@ -209,6 +194,6 @@ fn elements(dcel: &Mesh) -> [usize; 7] {
 
 #[test]
 fn elements_are_counted(rt: HostRuntime) -> Result<(), Fail> {
-    let dcel = grown(rt.alloc(), &[Append(7)])?;
+    let dcel = grown(rt.alloc(), "append 7")?;
     same(elements(&dcel), [1, 1, 0, 0, 0, 0, 1], "elements")
 }

@@ -1,18 +1,13 @@
 //! Tests of the Rust crate, under their names there.
 
 use dcel_bench::checks::{holds, same};
-use dcel_bench::growths::Growth::{
-    Append, Close, PutBeside, SplitBothSides, SplitOnLine, SplitOneSide, Triangle,
-};
-use dcel_bench::growths::{
-    CUT, FIRST_EDGE, Growth, LINE, TRIANGLE_AND_VERTEX, cut_triangle, grow_all, grown_on,
-};
+use dcel_bench::lines::{CUT, FIRST_EDGE, LINE, SPLIT_EDGE, carry_out, grown};
 use dcel_bench::meshes::{Mesh, counts, edge_between, vertex};
 use dcel_bench::require;
-use spade_dcel::dcel::RemovalState;
 use spade_dcel::handles::{FixedDirectedEdgeHandle, FixedVertexHandle};
 use spade_dcel::operations::{
-    IsolateVertexResult, cleanup_isolated_vertex, isolate_vertex_and_fill_hole, swap_remove_vertex,
+    IsolateVertexResult, Room, cleanup_isolated_vertex, isolate_vertex_and_fill_hole,
+    swap_remove_vertex,
 };
 use std::alloc::Global;
 use std::test::Fail;
@@ -23,15 +18,10 @@ fn check(dcel: &Mesh, wanted: [usize; 3]) -> Result<(), Fail> {
     holds(dcel.sanity_check(), "a sound mesh")
 }
 
-/// Checks that the mesh after these calls and then the others is sound, and its counts of vertices,
-/// half edges and faces.
-fn check_grown(
-    alloc: Global,
-    begun: &[Growth],
-    growths: &[Growth],
-    wanted: [usize; 3],
-) -> Result<(), Fail> {
-    let dcel = grown_on(alloc, begun, growths)?;
+/// Checks that the mesh after these lines is sound, and its counts of vertices, half edges and
+/// faces.
+fn check_grown(alloc: Global, lines: &str, wanted: [usize; 3]) -> Result<(), Fail> {
+    let dcel = grown(alloc, lines)?;
     check(&dcel, wanted)
 }
 
@@ -74,23 +64,24 @@ fn test_new_normalized_and_index_and_sym(_rt: HostRuntime) -> Result<(), Fail> {
 
 #[test]
 fn test_create_triangle(rt: HostRuntime) -> Result<(), Fail> {
-    check_grown(rt.alloc(), &[Triangle(0, 1, 2)], &[], [3, 6, 2])
+    check_grown(rt.alloc(), "triangle 0 1 2", [3, 6, 2])
 }
 
 #[test]
 fn test_insert_into_triangle(rt: HostRuntime) -> Result<(), Fail> {
-    check_grown(rt.alloc(), &CUT, &[], [4, 12, 4])
+    check_grown(rt.alloc(), CUT, [4, 12, 4])
 }
 
 #[test]
 fn test_insert_first_and_second(rt: HostRuntime) -> Result<(), Fail> {
-    check_grown(rt.alloc(), &FIRST_EDGE, &[], [2, 2, 1])
+    check_grown(rt.alloc(), FIRST_EDGE, [2, 2, 1])
 }
 
 #[test]
 fn test_extend_line(rt: HostRuntime) -> Result<(), Fail> {
-    check_grown(rt.alloc(), &LINE[..5], &[], [3, 4, 1])?;
-    check_grown(rt.alloc(), &LINE, &[], [4, 6, 1])
+    let extended = "append 0\nappend 1\nsetup 0 1\nappend 2\nextend 0 2";
+    check_grown(rt.alloc(), extended, [3, 4, 1])?;
+    check_grown(rt.alloc(), LINE, [4, 6, 1])
 }
 
 /// Splits one of the halves of a split edge, which it finds by its ends.
@@ -99,7 +90,8 @@ fn split_again(dcel: &mut Mesh, alloc: Global) -> Result<(), Fail> {
     let second = edge_between(dcel, 1, 2)?;
     holds(second.is_some(), "an edge from 1 to 2")?;
     let edge = number_between(dcel, 0, 2)?;
-    grow_all(dcel, alloc, &[Append(3), SplitOnLine(edge, 3)])
+    let lines = format!(in alloc; "append 3\nline {edge} 3")?;
+    carry_out(dcel, &lines, alloc)
 }
 
 fn check_split_again(dcel: &mut Mesh, alloc: Global) -> Result<(), Fail> {
@@ -110,21 +102,20 @@ fn check_split_again(dcel: &mut Mesh, alloc: Global) -> Result<(), Fail> {
 
 #[test]
 fn test_split_non_triangle_edge(rt: HostRuntime) -> Result<(), Fail> {
-    let growths = [Append(2), SplitOnLine(0, 2)];
-    let mut dcel = grown_on(rt.alloc(), &FIRST_EDGE, &growths)?;
+    let mut dcel = grown(rt.alloc(), SPLIT_EDGE)?;
     check_split_again(&mut dcel, rt.alloc())
 }
 
 #[test]
 fn test_create_single_face_between_edge_and_next(rt: HostRuntime) -> Result<(), Fail> {
-    let growths = [Append(2), SplitOnLine(0, 2), Close(0)];
-    check_grown(rt.alloc(), &FIRST_EDGE, &growths, [3, 6, 2])
+    let lines = "append 0\nappend 1\nsetup 0 1\nappend 2\nline 0 2\nclose 0";
+    check_grown(rt.alloc(), lines, [3, 6, 2])
 }
 
 #[test]
 fn test_create_new_face_adjacent_to_edge(rt: HostRuntime) -> Result<(), Fail> {
-    let growths = [PutBeside(0, 3)];
-    check_grown(rt.alloc(), &TRIANGLE_AND_VERTEX, &growths, [4, 10, 3])
+    let lines = "triangle 0 1 2\nappend 3\noutside 0 3";
+    check_grown(rt.alloc(), lines, [4, 10, 3])
 }
 
 /// Returns the half edge that comes after a live one.
@@ -148,27 +139,35 @@ fn border_of(
     Ok(border)
 }
 
-fn check_not_listed(dcel: &Mesh, opened: &IsolateVertexResult<Global>) -> Result<(), Fail> {
-    let is_listed = dcel.is_listed(opened);
-    holds(!is_listed, "nothing is listed once it is cleaned up")
+/// Takes out what is given up, which is listed no longer then.
+fn clean_up(dcel: &mut Mesh, opened: &mut IsolateVertexResult) -> Result<(), Fail> {
+    require!(dcel.is_listed(opened));
+    cleanup_isolated_vertex(dcel, opened);
+    holds(
+        !dcel.is_listed(opened),
+        "nothing is listed once it is cleaned up",
+    )
 }
 
-/// Removes a vertex: it is given up with its border loop, and the hole is filled and cleaned up.
-fn take_out(
+/// Gives up a vertex with its border loop, fills the hole and cleans it up.
+fn give_up(
     dcel: &mut Mesh,
     center: FixedVertexHandle,
     border: Vec<FixedDirectedEdgeHandle>,
 ) -> Result<(), Fail> {
-    require!(center.index() < dcel.num_vertices());
-    require!(dcel.removal_state() == RemovalState::Closed);
-    require!(dcel.is_border_loop(&border, center));
-    require!(dcel.has_room(0, border.len() - 3, border.len() - 2));
+    require!(
+        dcel.can_isolate_vertex_and_fill_hole(&border, center)
+            && dcel.has_room_for(Room::filling(border.len()))
+    );
     let mut opened = isolate_vertex_and_fill_hole(dcel, border, center)?;
-    require!(dcel.is_listed(&opened));
-    cleanup_isolated_vertex(dcel, &mut opened);
-    check_not_listed(dcel, &opened)?;
-    require!(dcel.removal_state() == RemovalState::Cleaned);
-    require!(!dcel.is_live_vertex(center));
+    clean_up(dcel, &mut opened)
+}
+
+/// Removes a vertex: it is given up with its border loop, and the hole is filled and cleaned up.
+fn take_out(dcel: &mut Mesh, center: FixedVertexHandle, alloc: Global) -> Result<(), Fail> {
+    let border = border_of(dcel, center, alloc)?;
+    give_up(dcel, center, border)?;
+    require!(dcel.can_swap_remove(center));
     swap_remove_vertex(dcel, center);
     Ok(())
 }
@@ -181,46 +180,49 @@ fn check_removed(
     wanted: [usize; 3],
     alloc: Global,
 ) -> Result<(), Fail> {
-    let center = vertex(index);
-    let border = border_of(dcel, center, alloc)?;
-    take_out(dcel, center, border)?;
+    take_out(dcel, vertex(index), alloc)?;
     check(dcel, wanted)
 }
 
 #[test]
 fn test_insert_into_and_remove_from_triangle(rt: HostRuntime) -> Result<(), Fail> {
-    let mut dcel = cut_triangle(rt.alloc())?;
+    let mut dcel = grown(rt.alloc(), CUT)?;
     check_removed(&mut dcel, 3, [3, 6, 2], rt.alloc())
 }
 
-/// Returns a cut triangle with vertex 4 in the middle of the edge from 0 to 3, which is found by
-/// its ends.
-fn split_inside(alloc: Global) -> Result<Mesh, Fail> {
-    let mut dcel = cut_triangle(alloc)?;
-    let edge = number_between(&dcel, 0, 3)?;
-    grow_all(&mut dcel, alloc, &[Append(4), SplitBothSides(edge, 4)])?;
-    Ok(dcel)
+/// Puts vertex 4 into the middle of the edge from 0 to 3, which is found by its ends.
+fn split_inside(dcel: &mut Mesh, alloc: Global) -> Result<(), Fail> {
+    let edge = number_between(dcel, 0, 3)?;
+    let lines = format!(in alloc; "append 4\nsplit {edge} 4")?;
+    carry_out(dcel, &lines, alloc)
+}
+
+/// Removes the vertex that splits an edge.
+fn check_split_undone(dcel: &mut Mesh, alloc: Global) -> Result<(), Fail> {
+    split_inside(dcel, alloc)?;
+    check_removed(dcel, 4, [4, 12, 4], alloc)
 }
 
 #[test]
 fn test_insert_into_and_remove_from_quad(rt: HostRuntime) -> Result<(), Fail> {
-    let mut dcel = split_inside(rt.alloc())?;
-    check_removed(&mut dcel, 4, [4, 12, 4], rt.alloc())
+    let mut dcel = grown(rt.alloc(), CUT)?;
+    check_split_undone(&mut dcel, rt.alloc())
 }
 
 #[test]
 fn test_half_edge_split(rt: HostRuntime) -> Result<(), Fail> {
-    let growths = [SplitOneSide(0, 3)];
-    check_grown(rt.alloc(), &TRIANGLE_AND_VERTEX, &growths, [4, 10, 3])
+    let lines = "triangle 0 1 2\nappend 3\nhalf 0 3";
+    check_grown(rt.alloc(), lines, [4, 10, 3])
 }
 
-fn check_split(dcel: &Mesh) -> Result<(), Fail> {
+fn check_split(dcel: &mut Mesh, alloc: Global) -> Result<(), Fail> {
+    split_inside(dcel, alloc)?;
     same(edge_between(dcel, 0, 3)?, None, "between 0 and 3")?;
     check(dcel, [5, 18, 6])
 }
 
 #[test]
 fn test_split(rt: HostRuntime) -> Result<(), Fail> {
-    let dcel = split_inside(rt.alloc())?;
-    check_split(&dcel)
+    let mut dcel = grown(rt.alloc(), CUT)?;
+    check_split(&mut dcel, rt.alloc())
 }

@@ -3,121 +3,88 @@
 use crate::anchors::check_anchors;
 use crate::links::check_sound;
 use dcel_bench::checks::{holds, same};
-use dcel_bench::growths::Growth::{Append, Extend, SetUp};
-use dcel_bench::growths::{CUT, FIRST_EDGE, Growth, LINE, SPLIT_EDGE, grown};
-use dcel_bench::meshes::{Links, Mesh, adjacent_edge, counts, out_edge, vertex};
-use dcel_bench::require;
-use spade_dcel::operations::remove_when_degenerate;
+use dcel_bench::lines::{CUT, FIRST_EDGE, LINE, SPLIT_EDGE, grown};
+use dcel_bench::meshes::{Links, Mesh, NO_LIMIT, adjacent_edge, counts, out_edge, vertex};
+use dcel_bench::replies::check_answer;
 use std::alloc::Global;
 use std::test::Fail;
 
-/// A vertex's datum, and the old number of the vertex that moves into its place.
-type Removed = (i64, Option<usize>);
+/// A line that removes a vertex, and its reply.
+type Removal = (&'static str, &'static str);
 
-/// Calls that make a path, the vertex to remove, and the result; then the links that are left, the
-/// anchors of the vertices, and the anchor of the outer face.
-type Row = (
-    &'static [Growth],
-    u32,
-    Removed,
-    Links,
-    &'static [u32],
-    &'static [u32],
-);
+/// Lines that make a path, and a removal; then the links that are left, the anchors of the
+/// vertices, and the anchor of the outer face.
+type Row = (&'static str, Removal, Links, &'static [u32], &'static [u32]);
 
 /// The line 0, 1, 2.
-const EXTENDED: [Growth; 5] = [Append(0), Append(1), SetUp(0, 1), Append(2), Extend(1, 2)];
+const EXTENDED: &str = "append 0\nappend 1\nsetup 0 1\nappend 2\nextend 1 2";
 
 /// The line 4, 2, 0, 1, 3.
-const LONG_LINE: [Growth; 9] = [
-    Append(0),
-    Append(1),
-    SetUp(0, 1),
-    Append(2),
-    Extend(0, 2),
-    Append(3),
-    Extend(1, 3),
-    Append(4),
-    Extend(2, 4),
-];
+const LONG_LINE: &str =
+    "append 0\nappend 1\nsetup 0 1\nappend 2\nextend 0 2\nappend 3\nextend 1 3\n\
+    append 4\nextend 2 4";
 
 const ROWS: [Row; 6] = [
     // An end, whose edge is no anchor of another vertex.
     (
-        &LINE,
-        2,
-        (2, Some(3)),
+        LINE,
+        ("degenerate 2", "removed 2 moved 3"),
         (&[&[0, 3, 2, 1]], &[0, 1, 2, 1]),
         &[0, 1, 2],
         &[0],
     ),
     // An end whose edge is the anchor of the next vertex and of the outer face.
     (
-        &EXTENDED,
-        0,
-        (0, Some(2)),
+        EXTENDED,
+        ("degenerate 0", "removed 0 moved 2"),
         (&[&[0, 1]], &[0, 1]),
         &[0, 1],
         &[1],
     ),
     // The last vertex.
     (
-        &EXTENDED,
-        2,
-        (2, None),
+        EXTENDED,
+        ("degenerate 2", "removed 2"),
         (&[&[0, 1]], &[0, 1]),
         &[0, 1],
         &[0],
     ),
     // A vertex between two others, whose other edge joins them.
     (
-        &SPLIT_EDGE,
-        2,
-        (2, None),
+        SPLIT_EDGE,
+        ("degenerate 2", "removed 2"),
         (&[&[0, 1]], &[0, 1]),
         &[0, 1],
         &[0],
     ),
     (
-        &LINE,
-        0,
-        (0, Some(3)),
+        LINE,
+        ("degenerate 0", "removed 0 moved 3"),
         (&[&[0, 3, 2, 1]], &[2, 1, 0, 1]),
         &[2, 1, 0],
         &[0],
     ),
     // The path goes on beyond both neighbours.
     (
-        &LONG_LINE,
-        0,
-        (0, Some(4)),
+        LONG_LINE,
+        ("degenerate 0", "removed 0 moved 4"),
         (&[&[0, 5, 4, 1, 3, 2]], &[2, 1, 0, 2, 3, 1]),
         &[2, 1, 0, 4],
         &[0],
     ),
 ];
 
-/// Removes a vertex.
-fn remove(dcel: &mut Mesh, index: u32) -> Result<Removed, Fail> {
-    let handle = vertex(index);
-    require!(dcel.can_remove_degenerate(handle));
-    let removed = remove_when_degenerate(dcel, handle);
-    let moved = removed.swapped_in_vertex.map(|old| old.index());
-    Ok((removed.removed_vertex, moved))
-}
-
-/// Checks the removal of the row's vertex.
-fn check_removed(dcel: &mut Mesh, row: &Row) -> Result<(), Fail> {
-    let (_, index, answer, links, out_edges, adjacent_edges) = *row;
-    let found = remove(dcel, index)?;
-    same(found, answer, format_args!("vertex {index}"))?;
+/// Checks the removal of a row.
+fn check_removed(dcel: &mut Mesh, row: &Row, alloc: Global) -> Result<(), Fail> {
+    let (_, removal, links, out_edges, adjacent_edges) = *row;
+    check_answer(dcel, removal, NO_LIMIT, alloc)?;
     check_sound(dcel, links)?;
     check_anchors(dcel, out_edges, adjacent_edges)
 }
 
 fn check_row(alloc: Global, row: &Row) -> Result<(), Fail> {
     let mut dcel = grown(alloc, row.0)?;
-    check_removed(&mut dcel, row)
+    check_removed(&mut dcel, row, alloc)
 }
 
 #[test]
@@ -140,49 +107,59 @@ fn check_alone(dcel: &Mesh) -> Result<(), Fail> {
     holds(!dcel.can_remove_degenerate(vertex(1)), "no vertex 1")
 }
 
-/// Checks that the last two vertices are removed with these results.
-fn check_both_removed(
-    dcel: &mut Mesh,
-    index: u32,
-    [first, last]: [Removed; 2],
-) -> Result<(), Fail> {
-    let found = remove(dcel, index)?;
-    same(found, first, format_args!("vertex {index}"))?;
-    check_alone(dcel)?;
-    let found = remove(dcel, 0)?;
-    same(found, last, "the last vertex")?;
+/// Checks that no vertex is left.
+fn check_nothing(dcel: &Mesh) -> Result<(), Fail> {
     same(counts(dcel), [0, 0, 1], "counts of no vertex")?;
     holds(!dcel.can_remove_degenerate(vertex(0)), "no vertex 0")
 }
 
-fn check_pair(alloc: Global, index: u32, answers: [Removed; 2]) -> Result<(), Fail> {
-    let mut dcel = grown(alloc, &FIRST_EDGE)?;
-    check_both_removed(&mut dcel, index, answers)
+/// Checks that the last two vertices are removed with these replies.
+fn check_both_removed(
+    dcel: &mut Mesh,
+    [first, last]: [Removal; 2],
+    alloc: Global,
+) -> Result<(), Fail> {
+    check_answer(dcel, first, NO_LIMIT, alloc)?;
+    check_alone(dcel)?;
+    check_answer(dcel, last, NO_LIMIT, alloc)?;
+    check_nothing(dcel)
+}
+
+/// The removals of both ends of an edge, either of them first.
+const LAST: [[Removal; 2]; 2] = [
+    [
+        ("degenerate 0", "removed 0 moved 1"),
+        ("degenerate 0", "removed 1"),
+    ],
+    [("degenerate 1", "removed 1"), ("degenerate 0", "removed 0")],
+];
+
+fn check_pair(alloc: Global, removals: [Removal; 2]) -> Result<(), Fail> {
+    let mut dcel = grown(alloc, FIRST_EDGE)?;
+    check_both_removed(&mut dcel, removals, alloc)
 }
 
 #[test]
 fn the_last_vertices_are_removed(rt: HostRuntime) -> Result<(), Fail> {
-    check_pair(rt.alloc(), 0, [(0, Some(1)), (1, None)])?;
-    check_pair(rt.alloc(), 1, [(1, None), (0, None)])
+    for removals in LAST {
+        check_pair(rt.alloc(), removals)?;
+    }
+    Ok(())
 }
 
-/// Calls, a vertex of the mesh then or a number that is none, and whether it can be removed.
-const REMOVABLE: [(&[Growth], u32, bool); 3] = [
-    (&CUT, 0, false),
-    (&LINE, 0, true),
-    (&LINE, 9, false),
-];
+/// Lines, a vertex of the mesh then or a number that is none, and whether it can be removed.
+const REMOVABLE: [(&str, u32, bool); 3] = [(CUT, 0, false), (LINE, 0, true), (LINE, 9, false)];
 
-fn can_remove(alloc: Global, growths: &[Growth], index: u32) -> Result<bool, Fail> {
-    let dcel = grown(alloc, growths)?;
+fn can_remove(alloc: Global, lines: &str, index: u32) -> Result<bool, Fail> {
+    let dcel = grown(alloc, lines)?;
     Ok(dcel.can_remove_degenerate(vertex(index)))
 }
 
 #[test]
 fn vertices_of_paths_can_be_removed(rt: HostRuntime) -> Result<(), Fail> {
-    for (growths, index, can) in REMOVABLE {
-        let found = can_remove(rt.alloc(), growths, index)?;
-        same(found, can, format_args!("vertex {index} of {growths:?}"))?;
+    for (lines, index, can) in REMOVABLE {
+        let found = can_remove(rt.alloc(), lines, index)?;
+        same(found, can, format_args!("vertex {index} after {lines}"))?;
     }
     Ok(())
 }

@@ -4,9 +4,8 @@ use crate::anchors::check_anchors;
 use crate::carried::number_between;
 use crate::links::check_sound;
 use dcel_bench::checks::{holds, same};
-use dcel_bench::growths::Growth::{Append, PutBeside, Triangle};
-use dcel_bench::growths::{CUT, Growth, LINE, cut_triangle, grown};
-use dcel_bench::meshes::{CUT_TRIANGLE, Links, Mesh, edge_between, flip, undirected_edge};
+use dcel_bench::lines::{CUT, LINE, carry_out, grown};
+use dcel_bench::meshes::{CUT_TRIANGLE, Links, Mesh, edge_between, undirected_edge};
 use std::alloc::Global;
 use std::test::Fail;
 
@@ -34,84 +33,92 @@ const FLIPPED_OUTSIDE: Links = (
     &[2, 3, 1, 2, 2, 0, 0, 3, 2, 3, 1, 3],
 );
 
-/// Flips these edges, one after another.
-fn flip_all(dcel: &mut Mesh, edges: &[u32]) -> Result<(), Fail> {
-    for edge in edges {
-        flip(dcel, *edge)?;
-    }
-    Ok(())
-}
-
-/// Edges of a cut triangle that are flipped one after another, and the links then. Four flips of an
-/// edge go round.
-const LINKS: [(&[u32], Links); 5] = [
-    (&[3], FLIPPED_ONCE),
-    (&[3, 3], FLIPPED_TWICE),
-    (&[3, 3, 3], FLIPPED_THRICE),
-    (&[3, 3, 3, 3], CUT_TRIANGLE),
-    (&[0], FLIPPED_OUTSIDE),
+/// Flips of a cut triangle, and the links then. Four flips of an edge go round.
+const LINKS: [(&str, Links); 5] = [
+    ("flip 3", FLIPPED_ONCE),
+    ("flip 3\nflip 3", FLIPPED_TWICE),
+    ("flip 3\nflip 3\nflip 3", FLIPPED_THRICE),
+    ("flip 3\nflip 3\nflip 3\nflip 3", CUT_TRIANGLE),
+    ("flip 0", FLIPPED_OUTSIDE),
 ];
 
-fn check_flips(alloc: Global, edges: &[u32], links: Links) -> Result<(), Fail> {
-    let mut dcel = cut_triangle(alloc)?;
-    flip_all(&mut dcel, edges)?;
-    check_sound(&dcel, links)
+/// Checks the links of a cut triangle after these flips.
+fn check_flipped(dcel: &mut Mesh, flips: &str, links: Links, alloc: Global) -> Result<(), Fail> {
+    carry_out(dcel, flips, alloc)?;
+    check_sound(dcel, links)
+}
+
+fn check_flips(alloc: Global, flips: &str, links: Links) -> Result<(), Fail> {
+    let mut dcel = grown(alloc, CUT)?;
+    check_flipped(&mut dcel, flips, links, alloc)
 }
 
 #[test]
 fn edges_are_flipped(rt: HostRuntime) -> Result<(), Fail> {
-    for (edges, links) in LINKS {
-        check_flips(rt.alloc(), edges, links)?;
+    for (flips, links) in LINKS {
+        check_flips(rt.alloc(), flips, links)?;
     }
     Ok(())
 }
 
-/// Checks that the anchors of the vertices and of the faces are these once an edge of a cut
-/// triangle is flipped.
+/// Lines, and the anchors of the vertices and of the faces then.
+const ANCHORS: [(&str, [u32; 4], [u32; 4]); 2] = [
+    (
+        "triangle 0 1 2\nappend 3\ninsert 3 1\nflip 3",
+        [5, 2, 4, 11],
+        [0, 6, 7, 3],
+    ),
+    (
+        "triangle 0 1 2\nappend 3\ninsert 3 1\nflip 0",
+        [6, 2, 4, 7],
+        [0, 1, 5, 3],
+    ),
+];
+
 fn check_moved(
     alloc: Global,
-    edge: u32,
+    lines: &str,
     out_edges: &[u32],
     adjacent_edges: &[u32],
 ) -> Result<(), Fail> {
-    let mut dcel = cut_triangle(alloc)?;
-    flip(&mut dcel, edge)?;
+    let dcel = grown(alloc, lines)?;
     check_anchors(&dcel, out_edges, adjacent_edges)
 }
 
 #[test]
 fn anchors_move_on(rt: HostRuntime) -> Result<(), Fail> {
-    check_moved(rt.alloc(), 3, &[5, 2, 4, 11], &[0, 6, 7, 3])?;
-    check_moved(rt.alloc(), 0, &[6, 2, 4, 7], &[0, 1, 5, 3])
+    for (lines, out_edges, adjacent_edges) in ANCHORS {
+        check_moved(rt.alloc(), lines, &out_edges, &adjacent_edges)?;
+    }
+    Ok(())
 }
 
 /// Flips the edge between two vertices, which it then no longer joins.
-fn check_flip(dcel: &mut Mesh) -> Result<(), Fail> {
-    let edge = number_between(dcel, 0, 3)?;
-    flip(dcel, edge / 2)?;
+fn check_flip(dcel: &mut Mesh, alloc: Global) -> Result<(), Fail> {
+    let edge = number_between(dcel, 0, 3)? / 2;
+    let flip = format!(in alloc; "flip {edge}")?;
+    carry_out(dcel, &flip, alloc)?;
     holds(dcel.sanity_check(), "a sound mesh")?;
     same(edge_between(dcel, 0, 3)?, None, "between 0 and 3")
 }
 
 #[test]
 fn test_flip(rt: HostRuntime) -> Result<(), Fail> {
-    let mut dcel = cut_triangle(rt.alloc())?;
-    check_flip(&mut dcel)
+    let mut dcel = grown(rt.alloc(), CUT)?;
+    check_flip(&mut dcel, rt.alloc())
 }
 
-/// Calls and then flips, and whether edges can be flipped then.
-type Flippable = (&'static [Growth], &'static [u32], &'static [(u32, bool)]);
+/// Lines, and whether edges can be flipped then.
+type Flippable = (&'static str, &'static [(u32, bool)]);
 
 const FLIPPABLE: [Flippable; 5] = [
     // Both corners opposite an edge are the third vertex.
     (
-        &[Triangle(0, 1, 2)],
-        &[],
+        "triangle 0 1 2",
         &[(0, false), (1, false), (2, false), (3, false)],
     ),
     (
-        &CUT,
-        &[],
+        CUT,
         &[
             (0, true),
             (1, true),
@@ -127,8 +134,7 @@ const FLIPPABLE: [Flippable; 5] = [
     // Vertices 0 and 3 have two edges each then, and on both sides of these the opposite corner is
     // one vertex.
     (
-        &CUT,
-        &[3],
+        "triangle 0 1 2\nappend 3\ninsert 3 1\nflip 3",
         &[
             (0, false),
             (1, true),
@@ -138,11 +144,10 @@ const FLIPPABLE: [Flippable; 5] = [
             (5, false),
         ],
     ),
-    (&LINE, &[], &[(0, false), (1, false), (2, false)]),
+    (LINE, &[(0, false), (1, false), (2, false)]),
     // The outer word has four half edges.
     (
-        &[Triangle(0, 1, 2), Append(3), PutBeside(0, 3)],
-        &[],
+        "triangle 0 1 2\nappend 3\noutside 0 3",
         &[(0, true), (1, false), (2, false), (3, false), (4, false)],
     ),
 ];
@@ -157,9 +162,8 @@ fn check_flippable(dcel: &Mesh, edges: &[(u32, bool)]) -> Result<(), Fail> {
 }
 
 fn check_row(alloc: Global, row: &Flippable) -> Result<(), Fail> {
-    let (growths, flips, edges) = *row;
-    let mut dcel = grown(alloc, growths)?;
-    flip_all(&mut dcel, flips)?;
+    let (lines, edges) = *row;
+    let dcel = grown(alloc, lines)?;
     check_flippable(&dcel, edges)
 }
 

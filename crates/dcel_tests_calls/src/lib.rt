@@ -8,8 +8,6 @@ mod calls;
 #[cfg(test)]
 mod carried;
 #[cfg(test)]
-mod conditions;
-#[cfg(test)]
 mod degenerate;
 #[cfg(test)]
 mod flips;

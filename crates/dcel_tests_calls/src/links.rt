@@ -1,24 +1,21 @@
 //! The links that calls leave.
 
 use dcel_bench::checks::{holds, same};
-use dcel_bench::growths::Growth::{
-    Append, Close, Extend, PutBeside, SetUp, SplitBothSides, SplitOnLine, SplitOneSide, Triangle,
-};
-use dcel_bench::growths::{CUT, Growth, LINE, grown};
+use dcel_bench::lines::{CUT, LINE, grown};
 use dcel_bench::meshes::{CUT_TRIANGLE, Links, Mesh, check_links};
 use std::alloc::Global;
 use std::test::Fail;
 
-/// Calls, and then the number of vertices, the words of the faces, and the origins of the half
+/// Lines, and then the number of vertices, the words of the faces, and the origins of the half
 /// edges. Each mesh is checked.
-type Row = (&'static [Growth], usize, Links);
+type Row = (&'static str, usize, Links);
 
 const ROWS: [Row; 8] = [
-    (&LINE, 4, (&[&[0, 5, 4, 1, 3, 2]], &[0, 1, 2, 0, 3, 1])),
-    (&CUT, 4, CUT_TRIANGLE),
+    (LINE, 4, (&[&[0, 5, 4, 1, 3, 2]], &[0, 1, 2, 0, 3, 1])),
+    (CUT, 4, CUT_TRIANGLE),
     // A triangle with another one beside half edge 0, outside, and beside half edge 1, inside.
     (
-        &[Triangle(0, 1, 2), Append(3), PutBeside(0, 3)],
+        "triangle 0 1 2\nappend 3\noutside 0 3",
         4,
         (
             &[&[2, 4, 9, 7], &[1, 5, 3], &[0, 6, 8]],
@@ -26,7 +23,7 @@ const ROWS: [Row; 8] = [
         ),
     ),
     (
-        &[Triangle(0, 1, 2), Append(3), PutBeside(1, 3)],
+        "triangle 0 1 2\nappend 3\noutside 1 3",
         4,
         (
             &[&[0, 2, 4], &[3, 9, 7, 5], &[1, 6, 8]],
@@ -35,7 +32,7 @@ const ROWS: [Row; 8] = [
     ),
     // A triangle and a line with a face closed outside.
     (
-        &[Triangle(0, 1, 2), Close(0)],
+        "triangle 0 1 2\nclose 0",
         3,
         (
             &[&[4, 7], &[1, 5, 3], &[0, 2, 6]],
@@ -43,20 +40,13 @@ const ROWS: [Row; 8] = [
         ),
     ),
     (
-        &[
-            Append(0),
-            Append(1),
-            SetUp(0, 1),
-            Append(2),
-            Extend(1, 2),
-            Close(0),
-        ],
+        "append 0\nappend 1\nsetup 0 1\nappend 2\nextend 1 2\nclose 0",
         3,
         (&[&[1, 5, 2], &[0, 3, 4]], &[0, 1, 2, 1, 2, 0]),
     ),
     // A triangle whose half edge 0 vertex 3 splits, outside alone and on both sides.
     (
-        &[Triangle(0, 1, 2), Append(3), SplitOneSide(0, 3)],
+        "triangle 0 1 2\nappend 3\nhalf 0 3",
         4,
         (
             &[&[0, 7, 4], &[1, 5, 3, 9], &[2, 6, 8]],
@@ -64,7 +54,7 @@ const ROWS: [Row; 8] = [
         ),
     ),
     (
-        &[Triangle(0, 1, 2), Append(3), SplitBothSides(0, 3)],
+        "triangle 0 1 2\nappend 3\nsplit 0 3",
         4,
         (
             &[&[0, 11, 4], &[1, 5, 6], &[3, 8, 7], &[2, 10, 9]],
@@ -76,19 +66,7 @@ const ROWS: [Row; 8] = [
 /// One call after another, of one kind. The meshes need not be triangulated.
 const CHAINS: [Row; 6] = [
     (
-        &[
-            Append(0),
-            Append(1),
-            Append(2),
-            Append(3),
-            Append(4),
-            Append(5),
-            SetUp(0, 1),
-            Extend(1, 2),
-            Extend(2, 3),
-            Extend(3, 4),
-            Extend(4, 5),
-        ],
+        "append 0\nappend 1\nappend 2\nappend 3\nappend 4\nappend 5\nsetup 0 1\nextend 1 2\nextend 2 3\nextend 3 4\nextend 4 5",
         6,
         (
             &[&[0, 3, 5, 7, 9, 8, 6, 4, 2, 1]],
@@ -96,19 +74,7 @@ const CHAINS: [Row; 6] = [
         ),
     ),
     (
-        &[
-            Append(0),
-            Append(1),
-            Append(2),
-            Append(3),
-            Append(4),
-            Append(5),
-            SetUp(0, 1),
-            SplitOnLine(0, 2),
-            SplitOnLine(1, 3),
-            SplitOnLine(2, 4),
-            SplitOnLine(5, 5),
-        ],
+        "append 0\nappend 1\nappend 2\nappend 3\nappend 4\nappend 5\nsetup 0 1\nline 0 2\nline 1 3\nline 2 4\nline 5 5",
         6,
         (
             &[&[0, 2, 6, 7, 3, 1, 9, 4, 5, 8]],
@@ -116,23 +82,7 @@ const CHAINS: [Row; 6] = [
         ),
     ),
     (
-        &[
-            Append(0),
-            Append(1),
-            Append(2),
-            Append(3),
-            Append(4),
-            Append(5),
-            SetUp(0, 1),
-            Extend(1, 2),
-            Extend(2, 3),
-            Extend(3, 4),
-            Extend(4, 5),
-            Close(0),
-            Close(5),
-            Close(2),
-            Close(6),
-        ],
+        "append 0\nappend 1\nappend 2\nappend 3\nappend 4\nappend 5\nsetup 0 1\nextend 1 2\nextend 2 3\nextend 3 4\nextend 4 5\nclose 0\nclose 5\nclose 2\nclose 6",
         6,
         (
             &[
@@ -146,15 +96,7 @@ const CHAINS: [Row; 6] = [
         ),
     ),
     (
-        &[
-            Triangle(0, 1, 2),
-            Append(3),
-            Append(4),
-            Append(5),
-            PutBeside(0, 3),
-            PutBeside(1, 4),
-            PutBeside(7, 5),
-        ],
+        "triangle 0 1 2\nappend 3\nappend 4\nappend 5\noutside 0 3\noutside 1 4\noutside 7 5",
         6,
         (
             &[
@@ -168,15 +110,7 @@ const CHAINS: [Row; 6] = [
         ),
     ),
     (
-        &[
-            Triangle(0, 1, 2),
-            Append(3),
-            Append(4),
-            Append(5),
-            SplitOneSide(0, 3),
-            SplitOneSide(4, 4),
-            SplitOneSide(8, 5),
-        ],
+        "triangle 0 1 2\nappend 3\nappend 4\nappend 5\nhalf 0 3\nhalf 4 4\nhalf 8 5",
         6,
         (
             &[
@@ -190,13 +124,7 @@ const CHAINS: [Row; 6] = [
         ),
     ),
     (
-        &[
-            Triangle(0, 1, 2),
-            Append(3),
-            Append(4),
-            SplitBothSides(0, 3),
-            SplitBothSides(7, 4),
-        ],
+        "triangle 0 1 2\nappend 3\nappend 4\nsplit 0 3\nsplit 7 4",
         5,
         (
             &[
@@ -218,10 +146,10 @@ pub fn check_sound(dcel: &Mesh, (words, origins): Links) -> Result<(), Fail> {
     holds(dcel.sanity_check(), "a sound mesh")
 }
 
-/// Checks that the calls of a row leave what it says. Returns the mesh.
+/// Checks that the lines of a row leave what it says. Returns the mesh.
 fn check_row(alloc: Global, row: &Row) -> Result<Mesh, Fail> {
-    let (growths, vertices, links) = *row;
-    let dcel = grown(alloc, growths)?;
+    let (lines, vertices, links) = *row;
+    let dcel = grown(alloc, lines)?;
     same(dcel.num_vertices(), vertices, "vertices")?;
     check_links(&dcel, links.0, links.1)?;
     Ok(dcel)

@@ -1,26 +1,24 @@
 //! Lists of commands: each reply, where they stop and why, and the mesh that is left.
 
 use dcel_bench::checks::same;
-use dcel_bench::growths::Growth::{Append, Close, Extend, Insert, SetUp, SplitOnLine, Triangle};
-use dcel_bench::lists::Answer::{Done, Half, Halves, Opened, Removed, Vertex};
-use dcel_bench::lists::Said::{CleanUp, Grow, Open, Remove};
-use dcel_bench::lists::{Answer, Said, check_replies, commands_of, handed};
-use dcel_bench::meshes::{Links, NO_LIMIT, check_links};
-use dcel_bench::openers::Opener::Isolate;
+use dcel_bench::lines::read_commands;
+use dcel_bench::meshes::{Links, Mesh, NO_LIMIT, check_links};
+use dcel_bench::replies::check_replies;
 use dcel_bench::require;
+use dcel_commands::commands::Handed::{Nothing, One, Three};
 use dcel_commands::commands::Refusal::{NoRoom, NoSuchVertex, SameVertex};
-use dcel_commands::commands::{Refusal, Refused, Reply, StoppedAt, apply_all};
+use dcel_commands::commands::{Handed, Refusal, Reply, StoppedAt, apply_all};
 use spade_dcel::operations::new;
 use std::alloc::Global;
 use std::test::Fail;
 
-/// A list of commands under a limit: the replies of those carried out; the refusal of the next one,
-/// if any, and the data handed back; and the count of vertices and the links at the end.
+/// Lines under a limit: the replies to those carried out; the refusal of the next one, if any, and
+/// the data handed back; and the count of vertices and the links at the end.
 struct Row {
     limit: usize,
-    commands: &'static [Said],
-    answers: &'static [Answer],
-    refused: Option<(Refusal, &'static [i64])>,
+    lines: &'static str,
+    replies: &'static [&'static str],
+    refused: Option<(Refusal, Handed<i64>)>,
     vertices: usize,
     links: Links,
 }
@@ -30,8 +28,8 @@ const NO_LINKS: Links = (&[&[]], &[]);
 const ROWS: [Row; 7] = [
     Row {
         limit: 0,
-        commands: &[],
-        answers: &[],
+        lines: "",
+        replies: &[],
         refused: None,
         vertices: 0,
         links: NO_LINKS,
@@ -39,53 +37,42 @@ const ROWS: [Row; 7] = [
     // A line can't end where it begins.
     Row {
         limit: NO_LIMIT,
-        commands: &[
-            Grow(Append(0)),
-            Grow(Append(1)),
-            Grow(SetUp(0, 1)),
-            Grow(Extend(0, 0)),
-        ],
-        answers: &[Vertex(0), Vertex(1), Done],
-        refused: Some((SameVertex, &[])),
+        lines: "append 0\nappend 1\nsetup 0 1\nextend 0 0",
+        replies: &["vertex 0", "vertex 1", "ok"],
+        refused: Some((SameVertex, Nothing)),
         vertices: 2,
         links: (&[&[0, 1]], &[0, 1]),
     },
     // The limit is passed, and the data are handed back.
     Row {
         limit: 1,
-        commands: &[Grow(Append(5)), Grow(Append(6))],
-        answers: &[Vertex(0)],
-        refused: Some((NoRoom, &[6])),
+        lines: "append 5\nappend 6",
+        replies: &["vertex 0"],
+        refused: Some((NoRoom, One(6))),
         vertices: 1,
         links: NO_LINKS,
     },
     Row {
         limit: 2,
-        commands: &[Grow(Triangle(1, 2, 3))],
-        answers: &[],
-        refused: Some((NoRoom, &[1, 2, 3])),
+        lines: "triangle 1 2 3",
+        replies: &[],
+        refused: Some((NoRoom, Three(1, 2, 3))),
         vertices: 0,
         links: NO_LINKS,
     },
     // What comes after a refusal isn't carried out.
     Row {
         limit: NO_LIMIT,
-        commands: &[Grow(Append(1)), Remove(7), Grow(Append(2)), Remove(0)],
-        answers: &[Vertex(0)],
-        refused: Some((NoSuchVertex, &[])),
+        lines: "append 1\nremove 7\nappend 2\nremove 0",
+        replies: &["vertex 0"],
+        refused: Some((NoSuchVertex, Nothing)),
         vertices: 1,
         links: NO_LINKS,
     },
     Row {
         limit: 3,
-        commands: &[
-            Grow(Append(0)),
-            Grow(Append(-1)),
-            Grow(SetUp(0, 1)),
-            Grow(Append(2)),
-            Grow(SplitOnLine(0, 2)),
-        ],
-        answers: &[Vertex(0), Vertex(1), Done, Vertex(2), Halves(0, 2)],
+        lines: "append 0\nappend -1\nsetup 0 1\nappend 2\nline 0 2",
+        replies: &["vertex 0", "vertex 1", "ok", "vertex 2", "halves 0 2"],
         refused: None,
         vertices: 3,
         links: (&[&[0, 2, 3, 1]], &[0, 2, 2, 1]),
@@ -93,27 +80,17 @@ const ROWS: [Row; 7] = [
     // A removal among other commands, from its opening to its end.
     Row {
         limit: NO_LIMIT,
-        commands: &[
-            Grow(Triangle(0, 1, 2)),
-            Grow(Append(3)),
-            Grow(Insert(3, 1)),
-            Open(Isolate(3, &[1, 3, 5])),
-            Grow(Append(-4)),
-            CleanUp(&[5, 3, 4], &[3, 1, 2]),
-            Grow(Append(-5)),
-            Remove(3),
-            Grow(Close(0)),
-        ],
-        answers: &[
-            Done,
-            Vertex(3),
-            Vertex(3),
-            Opened(&[3, 4, 5], &[2, 3, 1], &[]),
-            Vertex(4),
-            Done,
-            Vertex(5),
-            Removed(3, Some(5)),
-            Half(7),
+        lines: "triangle 0 1 2\nappend 3\ninsert 3 1\nisolate 3 1 3 5\nappend -4\ncleanup 5 3 4 / 3 1 2\nappend -5\nremove 3\nclose 0",
+        replies: &[
+            "ok",
+            "vertex 3",
+            "vertex 3",
+            "opened edges 3 4 5 faces 2 3 1 new",
+            "vertex 4",
+            "ok",
+            "vertex 5",
+            "removed 3 moved 5",
+            "half 7",
         ],
         refused: None,
         vertices: 5,
@@ -124,30 +101,41 @@ const ROWS: [Row; 7] = [
     },
 ];
 
-/// Checks that the list was carried out, or stopped, as the row says.
-fn check_outcome(outcome: Result<Vec<Reply<i64>>, StoppedAt<i64>>, row: &Row) -> Result<(), Fail> {
-    match (outcome, row.refused) {
-        (Ok(replies), None) => check_replies(&replies, row.answers),
-        (Err(stopped), Some((why, data))) => {
-            let back = handed(data);
-            same(stopped.refused, Refused { why, back }, "the refusal")?;
-            same(stopped.at, row.answers.len(), "where the list stopped")?;
-            check_replies(&stopped.done, row.answers)
-        }
-        (Ok(_), Some(_)) => Err(Fail::new("a list that should stop was carried out")),
-        (Err(_), None) => Err(Fail::new("a list stopped")),
+/// Checks where a list stopped and why, and the replies up to there.
+fn check_stopped(stopped: &StoppedAt<i64>, row: &Row, alloc: Global) -> Result<(), Fail> {
+    let found = Some((stopped.refused.why, &stopped.refused.back));
+    let wanted = row.refused.as_ref().map(|(why, back)| (*why, back));
+    same(found, wanted, "the refusal")?;
+    same(stopped.at, row.replies.len(), "where the list stopped")?;
+    check_replies(&stopped.done, row.replies, alloc)
+}
+
+/// Checks the replies to a list that was carried out.
+fn check_done(replies: &[Reply<i64>], row: &Row, alloc: Global) -> Result<(), Fail> {
+    same(None, row.refused.as_ref(), "the refusal")?;
+    check_replies(replies, row.replies, alloc)
+}
+
+/// Checks the replies to the commands of a row.
+fn check_outcome(dcel: &mut Mesh, row: &Row, alloc: Global) -> Result<(), Fail> {
+    require!(row.limit <= NO_LIMIT);
+    let commands = read_commands(row.lines, alloc)?;
+    match apply_all(dcel, commands, row.limit) {
+        Ok(replies) => check_done(&replies, row, alloc),
+        Err(stopped) => check_stopped(&stopped, row, alloc),
     }
 }
 
-/// Checks the replies to the commands of a row on an empty mesh, and the mesh that they leave.
-fn check_row(row: &Row, alloc: Global) -> Result<(), Fail> {
-    require!(row.limit <= NO_LIMIT);
-    let mut dcel = new(alloc)?;
-    let commands = commands_of(row.commands, alloc)?;
-    let outcome = apply_all(&mut dcel, commands, row.limit);
-    check_outcome(outcome, row)?;
+/// Checks the replies to the commands of a row, and the mesh that they leave.
+fn check_list(dcel: &mut Mesh, row: &Row, alloc: Global) -> Result<(), Fail> {
+    check_outcome(dcel, row, alloc)?;
     same(dcel.num_vertices(), row.vertices, "vertices")?;
-    check_links(&dcel, row.links.0, row.links.1)
+    check_links(dcel, row.links.0, row.links.1)
+}
+
+fn check_row(row: &Row, alloc: Global) -> Result<(), Fail> {
+    let mut dcel = new(alloc)?;
+    check_list(&mut dcel, row, alloc)
 }
 
 #[test]

@@ -2,10 +2,9 @@
 //! aren't.
 
 use dcel_bench::checks::same;
-use dcel_bench::growths::cut_triangle;
+use dcel_bench::lines::{CUT, carry_out, grown};
 use dcel_bench::meshes::{Mesh, half_edge, inner_face, undirected_edge};
-use dcel_bench::openers::Opener::Isolate;
-use dcel_bench::openers::open;
+use std::alloc::Global;
 use std::test::Fail;
 
 /// A number, and whether a half edge, an edge and a face with it are lent.
@@ -60,10 +59,15 @@ fn check_lent(dcel: &Mesh, rows: &[Row]) -> Result<(), Fail> {
     Ok(())
 }
 
+/// Checks what is lent of a cut triangle before and after vertex 3 is given up.
+fn check_lent_and_opened(dcel: &mut Mesh, alloc: Global) -> Result<(), Fail> {
+    check_lent(dcel, &CLOSED)?;
+    carry_out(dcel, "isolate 3 1 3 5", alloc)?;
+    check_lent(dcel, &OPEN)
+}
+
 #[test]
 fn what_is_live_is_lent(rt: HostRuntime) -> Result<(), Fail> {
-    let mut dcel = cut_triangle(rt.alloc())?;
-    check_lent(&dcel, &CLOSED)?;
-    let _opened = open(&mut dcel, rt.alloc(), Isolate(3, &[1, 3, 5]))?;
-    check_lent(&dcel, &OPEN)
+    let mut dcel = grown(rt.alloc(), CUT)?;
+    check_lent_and_opened(&mut dcel, rt.alloc())
 }

@@ -4,27 +4,24 @@
 use crate::flips::FLIPPED_TWICE;
 use dcel_bench::checks::{holds, same};
 use dcel_bench::data::{Datum, write_all};
-use dcel_bench::growths::Growth::{Append, Insert, SplitBothSides, Triangle};
-use dcel_bench::growths::{CUT, Growth, grown};
+use dcel_bench::lines::{CUT, grown, opened};
 use dcel_bench::meshes::{
     Links, Mesh, TRIANGLE, check_links, inner_face, out_edge, undirected_edge, vertex,
 };
-use dcel_bench::openers::Opener::{Isolate, Remesh, Strip};
-use dcel_bench::openers::{Opener, handles, open};
 use dcel_bench::require;
 use spade_dcel::dcel::RemovalState;
-use spade_dcel::handles::{FixedFaceHandle, FixedUndirectedEdgeHandle, InnerTag};
+use spade_dcel::handles::{FixedHandleImpl, InnerTag};
 use spade_dcel::operations::{IsolateVertexResult, cleanup_isolated_vertex};
 use std::alloc::Global;
 use std::test::Fail;
 
-/// A removal: the calls that the mesh grows by, the opener, and the edges and faces that it gives
-/// up and the edges that it puts in; the links and the anchors of the vertices while it is open;
-/// and the links once it is cleaned up, and the vertex that is then left, if there is one.
+/// A removal: the lines that make the mesh, the one that opens it, and the edges and faces that it
+/// gives up and the edges that it puts in; the links and the anchors of the vertices while it is
+/// open; and the links once it is cleaned up, and the vertex that is then left, if there is one.
 #[derive(Clone, Copy)]
 struct Row {
-    growths: &'static [Growth],
-    opener: Opener,
+    lines: &'static str,
+    opener: &'static str,
     edges: &'static [u32],
     faces: &'static [u32],
     new_edges: &'static [u32],
@@ -41,8 +38,8 @@ const CUT_HOLE: Links = (
 
 const ROWS: [Row; 7] = [
     Row {
-        growths: &CUT,
-        opener: Isolate(3, &[1, 3, 5]),
+        lines: CUT,
+        opener: "isolate 3 1 3 5",
         edges: &[3, 4, 5],
         faces: &[2, 3, 1],
         new_edges: &[],
@@ -54,14 +51,8 @@ const ROWS: [Row; 7] = [
     // A hole of four half edges, which a new edge cuts. What is left is as if edge 3 of a cut
     // triangle had been flipped twice.
     Row {
-        growths: &[
-            Triangle(0, 1, 2),
-            Append(3),
-            Insert(3, 1),
-            Append(4),
-            SplitBothSides(6, 4),
-        ],
-        opener: Isolate(4, &[1, 11, 8, 5]),
+        lines: "triangle 0 1 2\nappend 3\ninsert 3 1\nappend 4\nsplit 6 4",
+        opener: "isolate 4 1 11 8 5",
         edges: &[3, 6, 7, 8],
         faces: &[2, 4, 5, 1],
         new_edges: &[9],
@@ -83,8 +74,8 @@ const ROWS: [Row; 7] = [
         vertex: Some(4),
     },
     Row {
-        growths: &CUT,
-        opener: Remesh(&[1, 3, 5], &[5, 4, 3], &[1, 2, 3]),
+        lines: CUT,
+        opener: "remesh 1 3 5 / 5 4 3 / 1 2 3",
         edges: &[5, 4, 3],
         faces: &[1, 2, 3],
         new_edges: &[],
@@ -94,8 +85,8 @@ const ROWS: [Row; 7] = [
         vertex: Some(3),
     },
     Row {
-        growths: &CUT,
-        opener: Strip(&[6, 9, 4]),
+        lines: CUT,
+        opener: "strip 6 9 4",
         edges: &[0, 5, 1],
         faces: &[1, 3],
         new_edges: &[],
@@ -109,8 +100,8 @@ const ROWS: [Row; 7] = [
     },
     // Regions of one face, of two and of three: no vertex is left.
     Row {
-        growths: &[Triangle(0, 1, 2)],
-        opener: Remesh(&[1, 3, 5], &[], &[1]),
+        lines: "triangle 0 1 2",
+        opener: "remesh 1 3 5 / / 1",
         edges: &[],
         faces: &[1],
         new_edges: &[],
@@ -120,8 +111,8 @@ const ROWS: [Row; 7] = [
         vertex: None,
     },
     Row {
-        growths: &CUT,
-        opener: Remesh(&[1, 11, 8, 5], &[3], &[1, 2]),
+        lines: CUT,
+        opener: "remesh 1 11 8 5 / 3 / 1 2",
         edges: &[3],
         faces: &[1, 2],
         new_edges: &[6],
@@ -134,8 +125,8 @@ const ROWS: [Row; 7] = [
         vertex: None,
     },
     Row {
-        growths: &CUT,
-        opener: Remesh(&[1, 11, 10, 3, 5], &[3, 4], &[1, 2, 3]),
+        lines: CUT,
+        opener: "remesh 1 11 10 3 5 / 3 4 / 1 2 3",
         edges: &[3, 4],
         faces: &[1, 2, 3],
         new_edges: &[6, 7],
@@ -182,18 +173,23 @@ fn check_anchors(dcel: &Mesh, anchors: &[Option<usize>]) -> Result<(), Fail> {
     Ok(())
 }
 
-/// Checks that the opener has answered the lists of the row.
-fn check_lists(opened: &Opened, row: Row, alloc: Global) -> Result<(), Fail> {
-    let edges: Vec<FixedUndirectedEdgeHandle> = handles(row.edges, alloc)?;
-    let faces: Vec<FixedFaceHandle<InnerTag>> = handles(row.faces, alloc)?;
-    let new_edges: Vec<FixedUndirectedEdgeHandle> = handles(row.new_edges, alloc)?;
-    same(opened.edges_to_remove.as_slice(), edges.as_slice(), "edges")?;
-    same(opened.faces_to_remove.as_slice(), faces.as_slice(), "faces")?;
-    same(
-        opened.new_edges.as_slice(),
-        new_edges.as_slice(),
-        "new edges",
-    )
+/// Checks that the elements have these numbers.
+fn check_listed<Kind>(
+    elements: &[FixedHandleImpl<Kind, InnerTag>],
+    numbers: &[u32],
+) -> Result<(), Fail> {
+    same(elements.len(), numbers.len(), "how many are listed")?;
+    for (element, number) in elements.iter().zip(numbers) {
+        same(element.index(), *number as usize, "what is listed")?;
+    }
+    Ok(())
+}
+
+/// Checks that the opener has returned the lists of the row.
+fn check_lists(opened: &Opened, row: Row) -> Result<(), Fail> {
+    check_listed(&opened.edges_to_remove, row.edges)?;
+    check_listed(&opened.faces_to_remove, row.faces)?;
+    check_listed(&opened.new_edges, row.new_edges)
 }
 
 /// Checks that these edges are live, or that none of them is.
@@ -270,26 +266,24 @@ fn clean_up(dcel: &mut Mesh, opened: &mut Opened, row: Row) -> Result<(), Fail> 
 }
 
 /// Checks that a removal has been opened as the row says, and is cleaned up so.
-fn check_removal(
-    dcel: &mut Mesh,
-    opened: &mut Opened,
-    row: Row,
-    alloc: Global,
-) -> Result<(), Fail> {
-    check_lists(opened, row, alloc)?;
+fn check_removal(dcel: &mut Mesh, opened: &mut Opened, row: Row) -> Result<(), Fail> {
+    check_lists(opened, row)?;
     check_new_edges(opened, row.new_edges)?;
     check_open(dcel, row)?;
     clean_up(dcel, opened, row)
 }
 
+/// Writes data, opens the removal of a row, and checks it.
+fn open(dcel: &mut Mesh, row: Row, alloc: Global) -> Result<(), Fail> {
+    write_all(dcel, &WRITTEN)?;
+    let mut opened = opened(dcel, row.opener, alloc)?;
+    check_removal(dcel, &mut opened, row)
+}
+
 /// Checks that the removal of a row is opened and cleaned up as it says.
 fn check_row(row: Row, alloc: Global) -> Result<(), Fail> {
-    let mut dcel = grown(alloc, row.growths)?;
-    write_all(&mut dcel, &WRITTEN)?;
-    match open(&mut dcel, alloc, row.opener)? {
-        Some(mut opened) => check_removal(&mut dcel, &mut opened, row, alloc),
-        None => Err(Fail::new("no memory for an opener")),
-    }
+    let mut dcel = grown(alloc, row.lines)?;
+    open(&mut dcel, row, alloc)
 }
 
 #[test]

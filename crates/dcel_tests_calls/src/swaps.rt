@@ -1,9 +1,8 @@
 //! Vertices that are swapped.
 
 use dcel_bench::checks::same;
-use dcel_bench::growths::Growth::Append;
-use dcel_bench::growths::{CUT, FIRST_EDGE, Growth, TRIANGLE_AND_VERTEX, grown};
-use dcel_bench::meshes::{CUT_TRIANGLE, Links, Mesh, TRIANGLE, check_links, swap, vertex};
+use dcel_bench::lines::{CUT, FIRST_EDGE, TRIANGLE_AND_VERTEX, carry_out, grown};
+use dcel_bench::meshes::{CUT_TRIANGLE, Links, Mesh, TRIANGLE, check_links, vertex};
 use dcel_bench::require;
 use std::alloc::Global;
 use std::test::Fail;
@@ -11,14 +10,14 @@ use std::test::Fail;
 /// The anchor of a vertex, and its datum.
 type Vertex = (Option<usize>, i64);
 
-/// Two vertices that are swapped, and the numbers of the mesh's vertices after that.
-type Swap = (u32, u32, &'static [u32]);
+/// A line that swaps two vertices, and the numbers of the mesh's vertices after that.
+type Swap = (&'static str, &'static [u32]);
 
-/// Calls that make a mesh, its links, its vertices, and whether it is sound; and swaps one after
+/// Lines that make a mesh, its links, its vertices, and whether it is sound; and swaps one after
 /// another.
 #[derive(Clone, Copy)]
 struct Row {
-    growths: &'static [Growth],
+    lines: &'static str,
     links: Links,
     vertices: &'static [Vertex],
     is_sound: bool,
@@ -32,69 +31,69 @@ const TRIANGLE_VERTICES: [Vertex; 4] = [(Some(0), 0), (Some(2), 1), (Some(4), 2)
 
 const ROWS: [Row; 6] = [
     Row {
-        growths: &CUT,
+        lines: CUT,
         links: CUT_TRIANGLE,
         vertices: &CUT_VERTICES,
         is_sound: true,
         swaps: &[
-            (0, 1, &[1, 0, 2, 3]),
-            (0, 2, &[1, 2, 0, 3]),
-            (1, 2, &[2, 1, 0, 3]),
-            (3, 2, &[3, 1, 0, 2]),
-            (3, 0, &[0, 1, 3, 2]),
-            (0, 0, &[0, 1, 3, 2]),
-            (1, 1, &[0, 1, 3, 2]),
+            ("swap 0 1", &[1, 0, 2, 3]),
+            ("swap 0 2", &[1, 2, 0, 3]),
+            ("swap 1 2", &[2, 1, 0, 3]),
+            ("swap 3 2", &[3, 1, 0, 2]),
+            ("swap 3 0", &[0, 1, 3, 2]),
+            ("swap 0 0", &[0, 1, 3, 2]),
+            ("swap 1 1", &[0, 1, 3, 2]),
         ],
     },
     // A swap is undone by another.
     Row {
-        growths: &CUT,
+        lines: CUT,
         links: CUT_TRIANGLE,
         vertices: &CUT_VERTICES,
         is_sound: true,
         swaps: &[
-            (0, 1, &[1, 0, 2, 3]),
-            (0, 1, &[0, 1, 2, 3]),
-            (1, 0, &[1, 0, 2, 3]),
-            (1, 0, &[0, 1, 2, 3]),
-            (2, 3, &[0, 1, 3, 2]),
-            (2, 3, &[0, 1, 2, 3]),
-            (3, 0, &[3, 1, 2, 0]),
-            (3, 0, &[0, 1, 2, 3]),
-            (2, 2, &[0, 1, 2, 3]),
-            (2, 2, &[0, 1, 2, 3]),
+            ("swap 0 1", &[1, 0, 2, 3]),
+            ("swap 0 1", &[0, 1, 2, 3]),
+            ("swap 1 0", &[1, 0, 2, 3]),
+            ("swap 1 0", &[0, 1, 2, 3]),
+            ("swap 2 3", &[0, 1, 3, 2]),
+            ("swap 2 3", &[0, 1, 2, 3]),
+            ("swap 3 0", &[3, 1, 2, 0]),
+            ("swap 3 0", &[0, 1, 2, 3]),
+            ("swap 2 2", &[0, 1, 2, 3]),
+            ("swap 2 2", &[0, 1, 2, 3]),
         ],
     },
     // A vertex without an edge.
     Row {
-        growths: &TRIANGLE_AND_VERTEX,
+        lines: TRIANGLE_AND_VERTEX,
         links: TRIANGLE,
         vertices: &TRIANGLE_VERTICES,
         is_sound: false,
-        swaps: &[(0, 3, &[3, 1, 2, 0])],
+        swaps: &[("swap 0 3", &[3, 1, 2, 0])],
     },
     Row {
-        growths: &TRIANGLE_AND_VERTEX,
+        lines: TRIANGLE_AND_VERTEX,
         links: TRIANGLE,
         vertices: &TRIANGLE_VERTICES,
         is_sound: false,
-        swaps: &[(3, 0, &[3, 1, 2, 0])],
+        swaps: &[("swap 3 0", &[3, 1, 2, 0])],
     },
     // The ends of an edge.
     Row {
-        growths: &FIRST_EDGE,
+        lines: FIRST_EDGE,
         links: (&[&[0, 1]], &[0, 1]),
         vertices: &[(Some(0), 0), (Some(1), 1)],
         is_sound: true,
-        swaps: &[(0, 1, &[1, 0])],
+        swaps: &[("swap 0 1", &[1, 0])],
     },
     // Two vertices without an edge.
     Row {
-        growths: &[Append(7), Append(8)],
+        lines: "append 7\nappend 8",
         links: (&[&[]], &[]),
         vertices: &[(None, 7), (None, 8)],
         is_sound: false,
-        swaps: &[(1, 0, &[1, 0])],
+        swaps: &[("swap 1 0", &[1, 0])],
     },
 ];
 
@@ -135,11 +134,20 @@ fn renumbered(origins: &[u32], numbers: &[u32], alloc: Global) -> Result<Vec<u32
     Ok(list)
 }
 
+/// Checks that the mesh has these links, except that its vertices have these numbers.
+fn check_renumbered(
+    dcel: &Mesh,
+    (words, origins): Links,
+    numbers: &[u32],
+    alloc: Global,
+) -> Result<(), Fail> {
+    let origins = renumbered(origins, numbers, alloc)?;
+    check_links(dcel, words, &origins)
+}
+
 /// Checks that the mesh is the row's, except that its vertices have these numbers.
 fn check_numbers(dcel: &Mesh, row: Row, numbers: &[u32], alloc: Global) -> Result<(), Fail> {
-    let (words, origins) = row.links;
-    let origins = renumbered(origins, numbers, alloc)?;
-    check_links(dcel, words, &origins)?;
+    check_renumbered(dcel, row.links, numbers, alloc)?;
     check_vertices(dcel, row.vertices, numbers)?;
     same(
         dcel.sanity_check(),
@@ -150,15 +158,15 @@ fn check_numbers(dcel: &Mesh, row: Row, numbers: &[u32], alloc: Global) -> Resul
 
 /// Checks that each swap leaves the numbers that the row says.
 fn check_swaps(dcel: &mut Mesh, row: Row, alloc: Global) -> Result<(), Fail> {
-    for (first, second, numbers) in row.swaps {
-        swap(dcel, *first, *second)?;
+    for (swap, numbers) in row.swaps {
+        carry_out(dcel, swap, alloc)?;
         check_numbers(dcel, row, numbers, alloc)?;
     }
     Ok(())
 }
 
 fn check_row(row: Row, alloc: Global) -> Result<(), Fail> {
-    let mut dcel = grown(alloc, row.growths)?;
+    let mut dcel = grown(alloc, row.lines)?;
     check_swaps(&mut dcel, row, alloc)
 }
 

@@ -1,10 +1,8 @@
-//! Tests of lines that are bad or long, and of readers and writers that fail.
+//! Tests of lines that are many, long or odd, and of readers and writers that fail.
 //!
 //! The other lines stand with their replies in the talks of `dcel_talks`.
 #![tactic(auto)]
 
-#[cfg(test)]
-mod bad_lines;
 #[cfg(test)]
 mod far_growth;
 #[cfg(test)]
