@@ -8,8 +8,10 @@ use crate::watched::{fitted, made};
 use crate::whole;
 use dcel_bench::checks::{holds, same};
 use dcel_bench::lines::{has_memory, read_command};
+use dcel_bench::meshes::Mesh;
 use dcel_bench::refusing::{Memory, Refusals, Refusing, Watched};
 use dcel_bench::snapshots::{Snapshot, snapshot_of};
+use dcel_commands::commands::Command;
 use std::alloc::Global;
 use std::fmt;
 use std::test::Fail;
@@ -55,6 +57,19 @@ fn function(line: &str, way: Way, alloc: Global) -> Result<&'static str, Fail> {
     }
 }
 
+/// Has the mesh carry out a command by its operation, or by `apply`.
+fn carry_out<'a>(
+    dcel: &mut Watched<'a>,
+    memory: Memory<'a>,
+    command: Command<i64, Memory<'a>>,
+    way: Way,
+) -> Result<bool, Fail> {
+    match way {
+        Way::Apply => has_memory(dcel, command),
+        _ => operate(dcel, memory, command),
+    }
+}
+
 /// Makes the call with these requests refused. Returns whether there was memory.
 ///
 /// Without memory, what was handed in has come back.
@@ -72,75 +87,75 @@ pub fn make<'a>(
     // There is memory for the lists of the command.
     let command = read_command(line, memory)?;
     memory.refuse(refusals);
-    if let Way::Apply = way {
-        return has_memory(dcel, command);
-    }
-    operate(dcel, memory, command)
+    carry_out(dcel, memory, command, way)
 }
 
-/// Makes the call with its request refused, and checks that it met the refusal exactly if it made
-/// the request, and then left the mesh as it was.
-///
-/// Returns whether it did.
-fn is_refused<'a>(
-    dcel: &mut Watched<'a>,
-    memory: Memory<'a>,
-    case: Case,
-    alloc: Global,
-) -> Result<bool, Fail> {
-    let before = snapshot_of(dcel, alloc)?;
-    let is_made = make(
-        dcel,
-        memory,
-        case.row.line,
-        case.way,
-        Refusals::One(case.number),
-    )?;
+/// Makes the call with its request refused. Returns whether the request came, after checking that
+/// the call met the refusal exactly if it did.
+fn is_refused<'a>(dcel: &mut Watched<'a>, memory: Memory<'a>, case: Case) -> Result<bool, Fail> {
+    let refusals = Refusals::One(case.number);
+    let is_made = make(dcel, memory, case.row.line, case.way, refusals)?;
     let is_refused = memory.requests() > case.number;
     same(is_made, !is_refused, case)?;
-    if is_refused {
-        same(snapshot_of(dcel, alloc)?, before, case)?;
-    }
     Ok(is_refused)
 }
 
-/// Makes the call with its request refused, and again if it was. Returns whether it was.
-fn make_twice<'a>(
+/// Checks that the call has left the mesh as it was, and makes it again.
+fn make_again<'a>(
     dcel: &mut Watched<'a>,
     memory: Memory<'a>,
     case: Case,
+    before: &Snapshot,
     alloc: Global,
-) -> Result<bool, Fail> {
-    let is_refused = is_refused(dcel, memory, case, alloc)?;
-    if is_refused {
-        let is_made = make(dcel, memory, case.row.line, case.way, Refusals::None)?;
-        holds(is_made, format_args!("no memory after {case}"))?;
-    }
-    Ok(is_refused)
+) -> Result<(), Fail> {
+    same(&snapshot_of(dcel, alloc)?, before, case)?;
+    let is_made = make(dcel, memory, case.row.line, case.way, Refusals::None)?;
+    holds(is_made, format_args!("no memory after {case}"))
 }
 
-/// Refuses the call its request on a new mesh, and compares what is left in the end.
-///
-/// Returns whether the request came.
-fn comes(case: Case, left: &Snapshot, alloc: Global) -> Result<bool, Fail> {
-    let memory = Refusing::new(alloc);
-    let mut dcel = fitted(&memory, case.row.block)?;
-    let comes = make_twice(&mut dcel, &memory, case, alloc)?;
-    same(&snapshot_of(&dcel, alloc)?, left, case)?;
+/// Makes the call with its request refused, and again if that came. Returns whether it came, after
+/// comparing what is left in the end.
+fn comes_to<'a>(
+    dcel: &mut Watched<'a>,
+    memory: Memory<'a>,
+    case: Case,
+    [before, left]: [&Snapshot; 2],
+    alloc: Global,
+) -> Result<bool, Fail> {
+    let comes = is_refused(dcel, memory, case)?;
+    if comes {
+        make_again(dcel, memory, case, before, alloc)?;
+    }
+    same(&snapshot_of(dcel, alloc)?, left, case)?;
     Ok(comes)
 }
 
-/// Returns what the call leaves of the mesh if nothing is refused.
-fn left_by(row: Row, way: Way, alloc: Global) -> Result<Snapshot, Fail> {
-    let mut dcel = made(alloc, row.block)?;
-    // A call on a whole mesh leaves it as it is.
-    if !matches!(way, Way::Whole) {
-        holds(
-            has_memory(&mut dcel, read_command(row.line, alloc)?)?,
-            row.line,
-        )?;
+/// Refuses the call its request on a new mesh, which is as `before`, and in the end as `left`.
+///
+/// Returns whether the request came.
+fn comes(case: Case, snapshots: [&Snapshot; 2], alloc: Global) -> Result<bool, Fail> {
+    let memory = Refusing::new(alloc);
+    let mut dcel = fitted(&memory, case.row.block)?;
+    comes_to(&mut dcel, &memory, case, snapshots, alloc)
+}
+
+/// Makes the call of a row on a mesh that isn't refused memory.
+///
+/// A call on a whole mesh leaves it as it is.
+fn carry_out_row(dcel: &mut Mesh, row: Row, way: Way, alloc: Global) -> Result<(), Fail> {
+    if let Way::Whole = way {
+        return Ok(());
     }
-    snapshot_of(&dcel, alloc)
+    let is_made = has_memory(dcel, read_command(row.line, alloc)?)?;
+    holds(is_made, row.line)
+}
+
+/// Returns what the mesh of a row is like before the call, and after it if nothing is refused.
+fn snapshots(row: Row, way: Way, alloc: Global) -> Result<[Snapshot; 2], Fail> {
+    let mut dcel = made(alloc, row.block)?;
+    let before = snapshot_of(&dcel, alloc)?;
+    carry_out_row(&mut dcel, row, way, alloc)?;
+    Ok([before, snapshot_of(&dcel, alloc)?])
 }
 
 /// Returns how many requests the call makes: `3+2` are 3 by the operation, and 5 as a command,
@@ -158,7 +173,7 @@ fn requests(row: Row, way: Way) -> Result<u64, Fail> {
 fn sweep(row: Row, way: Way, swept: &mut Swept, alloc: Global) -> Result<(), Fail> {
     let function = function(row.line, way, alloc)?;
     let requests = requests(row, way)?;
-    let left = left_by(row, way, alloc)?;
+    let [before, left] = snapshots(row, way, alloc)?;
     for number in 0..=requests {
         let case = Case {
             row,
@@ -166,7 +181,8 @@ fn sweep(row: Row, way: Way, swept: &mut Swept, alloc: Global) -> Result<(), Fai
             function,
             number,
         };
-        same(comes(case, &left, alloc)?, number < requests, case)?;
+        let comes = comes(case, [&before, &left], alloc)?;
+        same(comes, number < requests, case)?;
     }
     Ok(swept.note(function, requests)?)
 }

@@ -9,7 +9,7 @@ use crate::swept::Swept;
 use crate::watched::made;
 use dcel_bench::checks::same;
 use dcel_bench::lines::read_command;
-use dcel_bench::meshes::NO_LIMIT;
+use dcel_bench::meshes::{Mesh, NO_LIMIT};
 use dcel_bench::refusing::{Memory, Refusals, Refusing, Watched};
 use dcel_bench::snapshots::{Snapshot, snapshot_of};
 use dcel_commands::commands::{Command, Reply, apply};
@@ -85,54 +85,64 @@ fn legalize<'a>(
     }
 }
 
-/// Returns how a run of so many flips and no more ends, and what it leaves.
-fn flipped(row: Row, flips: usize, alloc: Global) -> Result<(Legalized, Snapshot), Fail> {
-    let mut dcel = made(alloc, row.block)?;
-    let (_, edges) = read_edges(row.line, alloc)?;
-    let ended = legalize_by_number(&mut dcel, edges, flips);
-    Ok((ended, snapshot_of(&dcel, alloc)?))
+/// How a run ended, and what it left.
+type Outcome = (Legalized, Snapshot);
+
+/// Flips the edges of a line on a mesh that isn't refused memory, so many times and no more.
+fn flip(dcel: &mut Mesh, line: &str, flips: usize, alloc: Global) -> Result<Outcome, Fail> {
+    let (_, edges) = read_edges(line, alloc)?;
+    let ended = legalize_by_number(dcel, edges, flips);
+    Ok((ended, snapshot_of(dcel, alloc)?))
 }
 
-/// Flips the edges of a row with the request of this number refused. Returns how that ended, and
-/// what it leaves.
-fn refused(row: Row, way: Way, number: u64, alloc: Global) -> Result<(Legalized, Snapshot), Fail> {
+fn flipped(row: Row, flips: usize, alloc: Global) -> Result<Outcome, Fail> {
+    let mut dcel = made(alloc, row.block)?;
+    flip(&mut dcel, row.line, flips, alloc)
+}
+
+/// Flips the edges of a line with the request of this number refused.
+fn refuse<'a>(
+    dcel: &mut Watched<'a>,
+    memory: Memory<'a>,
+    line: &str,
+    (way, number): (Way, u64),
+    alloc: Global,
+) -> Result<Outcome, Fail> {
+    let ended = legalize(dcel, memory, line, way, number)?;
+    Ok((ended, snapshot_of(dcel, alloc)?))
+}
+
+fn refused(row: Row, way: Way, number: u64, alloc: Global) -> Result<Outcome, Fail> {
     let memory = Refusing::new(alloc);
     let mut dcel = made(&memory, row.block)?;
-    let ended = legalize(&mut dcel, &memory, row.line, way, number)?;
-    Ok((ended, snapshot_of(&dcel, alloc)?))
+    refuse(&mut dcel, &memory, row.line, (way, number), alloc)
 }
 
-/// Checks a run whose request of this number is refused after these flips, or which makes these and
-/// no more requests.
+/// Checks a run whose request of this number is refused, and ends so, beside one of so many flips
+/// and no more, which stops so.
 fn check(
     row: Row,
-    way: Way,
-    number: u64,
-    flips: usize,
-    is_last: bool,
+    (way, number): (Way, u64),
+    [ended, stopped]: [Legalized; 2],
     alloc: Global,
 ) -> Result<(), Fail> {
-    let what = function(way);
-    let ends = if is_last {
-        (Legalized::Done { flips }, Legalized::Done { flips })
-    } else {
-        (
-            Legalized::OutOfMemory { flips },
-            Legalized::Stopped { flips },
-        )
-    };
-    let (ended, left) = refused(row, way, number, alloc)?;
-    let (stopped, wanted) = flipped(row, flips, alloc)?;
+    let found = refused(row, way, number, alloc)?;
+    let wanted = flipped(row, ended.flips(), alloc)?;
+    let what = format_args!("{}: request {number} of {}", function(way), row.line);
     same(
-        (ended, stopped),
-        ends,
-        format_args!("{what}: request {number} of {}", row.line),
-    )?;
-    same(
-        left,
-        wanted,
-        format_args!("{what}: the mesh after {flips} flips of {}", row.line),
+        (found.0, wanted.0, found.1),
+        (ended, stopped, wanted.1),
+        what,
     )
+}
+
+/// Checks a run whose request of this number is refused after these flips.
+fn check_refused(row: Row, way: Way, number: u64, flips: usize, alloc: Global) -> Result<(), Fail> {
+    let ends = [
+        Legalized::OutOfMemory { flips },
+        Legalized::Stopped { flips },
+    ];
+    check(row, (way, number), ends, alloc)
 }
 
 /// Refuses the list of a row each of its requests in turn, and none at last.
@@ -140,11 +150,13 @@ fn sweep(row: Row, way: Way, swept: &mut Swept, alloc: Global) -> Result<(), Fai
     let mut requests: u64 = 0;
     let mut flips = row.requests;
     while let Some((before, later)) = flips.split_once(' ') {
-        check(row, way, requests, number(before)? as usize, false, alloc)?;
+        check_refused(row, way, requests, number(before)? as usize, alloc)?;
         requests = requests.saturating_add(1);
         flips = later;
     }
-    check(row, way, requests, number(flips)? as usize, true, alloc)?;
+    let flips = number(flips)? as usize;
+    let done = Legalized::Done { flips };
+    check(row, (way, requests), [done, done], alloc)?;
     Ok(swept.note(function(way), requests)?)
 }
 

@@ -94,6 +94,18 @@ fn first_request(block: Block, place: usize, requests: u64, alloc: Global) -> Re
     Ok(first)
 }
 
+/// Checks what a run over these lines writes if the request of this number is refused.
+fn check_refused(
+    lines: &[u8],
+    number: u64,
+    wanted: &[u8],
+    line: &str,
+    alloc: Global,
+) -> Result<(), Fail> {
+    let (written, _) = run(lines, Refusals::One(number), alloc)?;
+    check_text(&written, wanted, line, alloc)
+}
+
 /// Refuses the row at this place each of its requests in turn.
 fn refuse(block: Block, place: usize, row: Row, alloc: Global) -> Result<u64, Fail> {
     let requests = number(row.requests)?;
@@ -102,9 +114,8 @@ fn refuse(block: Block, place: usize, row: Row, alloc: Global) -> Result<u64, Fa
     let mut lines = before(block, place, alloc)?;
     push_from(&mut lines, block, place)?;
     for number in 0..requests {
-        let refusals = Refusals::One(first.saturating_add(number));
-        let (written, _) = run(&lines, refusals, alloc)?;
-        check_text(&written, &wanted, row.line, alloc)?;
+        let number = first.saturating_add(number);
+        check_refused(&lines, number, &wanted, row.line, alloc)?;
     }
     Ok(requests)
 }
