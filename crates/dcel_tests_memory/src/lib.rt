@@ -9,4 +9,6 @@ mod memoryless;
 #[cfg(test)]
 mod requests;
 #[cfg(test)]
+mod runs;
+#[cfg(test)]
 mod told;

@@ -1,8 +1,8 @@
 //! Literal replies where a line is refused memory.
 
+use crate::runs::run;
 use dcel_bench::checks::same;
-use dcel_bench::refusing::{Refusals, Refusing};
-use dcel_bench::talks::run_lines;
+use dcel_bench::refusing::Refusals;
 use std::alloc::{AllocError, Global};
 use std::test::Fail;
 
@@ -57,16 +57,6 @@ fn joined(lines: &[&str], alloc: Global) -> Result<Vec<u8>, AllocError> {
         text.extend_from_slice(part.as_bytes())?;
     }
     Ok(text)
-}
-
-/// Returns what a run over the lines writes with these requests refused, and how many requests it
-/// makes.
-fn run(lines: &[u8], refusals: Refusals, alloc: Global) -> Result<(Vec<u8>, u64), Fail> {
-    let memory = Refusing::new(alloc);
-    memory.refuse(refusals);
-    let ran = run_lines(&memory, lines, alloc);
-    ran.ended?;
-    Ok((ran.written, memory.requests()))
 }
 
 /// Returns how many requests a run over these lines makes.
