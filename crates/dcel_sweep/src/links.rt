@@ -1,6 +1,6 @@
 //! Meshes made of links, alone or with anchors, with each request refused in turn.
 
-use crate::watched::MANY;
+use crate::swept::Swept;
 use dcel_bench::checks::same;
 use dcel_bench::refusing::{Memory, Refusals, Refusing, Watched};
 use dcel_bench::snapshots::{Snapshot, snapshot_of};
@@ -223,24 +223,21 @@ fn is_refused(
     }
 }
 
-fn sweep(row: &Row, alloc: Global) -> Result<(), Fail> {
+/// Refuses the row each of its requests in turn, and none at last.
+fn sweep(row: &Row, swept: &mut Swept, alloc: Global) -> Result<(), Fail> {
     let left = left(row, alloc)?;
-    for number in 0..MANY {
-        if !is_refused(row, number, &left, alloc)? {
-            return same(
-                number,
-                row.requests,
-                format_args!("requests of {}", name(row.call)),
-            );
-        }
+    for number in 0..=row.requests {
+        let is_refused = is_refused(row, number, &left, alloc)?;
+        let what = format_args!("{}: request {number}", name(row.call));
+        same(is_refused, number < row.requests, what)?;
     }
-    Err(Fail::new("more requests than MANY"))
+    Ok(swept.note(name(row.call), row.requests)?)
 }
 
-#[test]
-fn meshes_of_links_are_refused_memory(rt: HostRuntime) -> Result<(), Fail> {
+/// Sweeps all rows.
+pub fn sweep_all(swept: &mut Swept, alloc: Global) -> Result<(), Fail> {
     for row in &ROWS {
-        sweep(row, rt.alloc())?;
+        sweep(row, swept, alloc)?;
     }
     Ok(())
 }
