@@ -1,5 +1,5 @@
-//! Tests of the crates below and beside `spade_dcel`: fixed handles, the store, links and anchors
-//! that are given, predicates, circles, meshes in and out, and Delaunay triangulations.
+//! Tests of the crates below and beside `spade_dcel`: fixed handles, links and anchors that are
+//! given, predicates, circles, meshes in and out, and Delaunay triangulations.
 #![tactic(auto)]
 
 #[cfg(test)]
@@ -22,5 +22,3 @@ mod links;
 mod memory;
 #[cfg(test)]
 mod predicates;
-#[cfg(test)]
-mod store;
