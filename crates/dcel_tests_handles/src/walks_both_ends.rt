@@ -5,7 +5,7 @@ ghost use Rattle.std.specs.Iterator.{IsFinite};
 use crate::borrowed::{live_half_edge, vertex_of};
 use crate::own_steps::{PrevNextBackFn, RevNextBackFn};
 use dcel_bench::checks::{holds, same};
-use dcel_bench::growths::{CUT, FIRST_EDGE, Growth, LINE, cut_triangle, grown};
+use dcel_bench::lines::{CUT, FIRST_EDGE, LINE, grown};
 use dcel_bench::meshes::Mesh;
 use dcel_bench::require;
 use spade_dcel::handles::{
@@ -74,24 +74,24 @@ fn check_out_edges(dcel: &Mesh) -> Result<(), Fail> {
 
 #[test]
 fn out_edges_come_from_both_ends(rt: HostRuntime) -> Result<(), Fail> {
-    check_out_edges(&cut_triangle(rt.alloc())?)
+    check_out_edges(&grown(rt.alloc(), CUT)?)
 }
 
 /// Walks round faces: of a triangle that vertex 3 cuts into three, of the line 2, 0, 1, 3, and of a
 /// mesh without an edge.
-const FACE_EDGES: [(&[Growth], Walk); 5] = [
-    (&CUT, (0, &[Front, Front, Front, Front], &[0, 2, 4])),
-    (&CUT, (1, &[Front, Front, Front, Front], &[1, 6, 11])),
-    (&CUT, (2, &[Back, Front, Back, Back], &[7, 5, 8])),
+const FACE_EDGES: [(&str, Walk); 5] = [
+    (CUT, (0, &[Front, Front, Front, Front], &[0, 2, 4])),
+    (CUT, (1, &[Front, Front, Front, Front], &[1, 6, 11])),
+    (CUT, (2, &[Back, Front, Back, Back], &[7, 5, 8])),
     (
-        &LINE,
+        LINE,
         (
             0,
             &[Front, Back, Front, Front, Front, Front, Front],
             &[0, 2, 5, 4, 1, 3],
         ),
     ),
-    (&[], (0, &[Front, Back], &[])),
+    ("", (0, &[Front, Back], &[])),
 ];
 
 fn check_face_edges(dcel: &Mesh, (index, ends, wanted): Walk) -> Result<(), Fail> {
@@ -103,15 +103,15 @@ fn check_face_edges(dcel: &Mesh, (index, ends, wanted): Walk) -> Result<(), Fail
 
 #[test]
 fn half_edges_of_faces_come_from_both_ends(rt: HostRuntime) -> Result<(), Fail> {
-    for (growths, walk) in FACE_EDGES {
-        check_face_edges(&grown(rt.alloc(), growths)?, walk)?;
+    for (lines, walk) in FACE_EDGES {
+        check_face_edges(&grown(rt.alloc(), lines)?, walk)?;
     }
     Ok(())
 }
 
 #[test]
 fn the_hull_comes_from_both_ends(rt: HostRuntime) -> Result<(), Fail> {
-    let dcel = cut_triangle(rt.alloc())?;
+    let dcel = grown(rt.alloc(), CUT)?;
     let mixed = [Back, Front, Back, Front];
     check_taken(HullIterator::new(&dcel), &mixed, &[4, 0, 2])
 }
@@ -138,11 +138,15 @@ const PREV_WALKS: [Walk; 2] = [
     (1, &[Back, Front, Back, Back], &[6, 1, 11]),
 ];
 
+fn check_own_steps(dcel: &Mesh) -> Result<(), Fail> {
+    check_walks::<RevNextBackFn>(dcel, &REV_WALKS)?;
+    check_walks::<PrevNextBackFn>(dcel, &PREV_WALKS)
+}
+
 #[test]
 fn own_steps_lead_round(rt: HostRuntime) -> Result<(), Fail> {
-    let dcel = cut_triangle(rt.alloc())?;
-    check_walks::<RevNextBackFn>(&dcel, &REV_WALKS)?;
-    check_walks::<PrevNextBackFn>(&dcel, &PREV_WALKS)
+    let dcel = grown(rt.alloc(), CUT)?;
+    check_own_steps(&dcel)
 }
 
 /// Returns the number of inner faces left and the next one from the back, four times; and whether
@@ -159,7 +163,7 @@ fn inner_faces_from_the_back(dcel: &Mesh) -> ([(usize, Option<usize>); 4], bool)
 
 #[test]
 fn inner_faces_come_from_the_back(rt: HostRuntime) -> Result<(), Fail> {
-    let dcel = cut_triangle(rt.alloc())?;
+    let dcel = grown(rt.alloc(), CUT)?;
     let taken = [(3, Some(3)), (2, Some(2)), (1, Some(1)), (0, None)];
     same(
         inner_faces_from_the_back(&dcel),
@@ -207,11 +211,15 @@ fn check_places(dcel: &Mesh, index: u32) -> Result<(), Fail> {
     Ok(())
 }
 
+fn check_both_ways(dcel: &Mesh, index: u32) -> Result<(), Fail> {
+    same(degrees(dcel, index)?, [3, 3], "half edges out of a vertex")?;
+    check_places(dcel, index)
+}
+
 #[test]
 fn test_cw_iterator(rt: HostRuntime) -> Result<(), Fail> {
-    let dcel = cut_triangle(rt.alloc())?;
-    same(degrees(&dcel, 0)?, [3, 3], "half edges out of vertex 0")?;
-    check_places(&dcel, 0)
+    let dcel = grown(rt.alloc(), CUT)?;
+    check_both_ways(&dcel, 0)
 }
 
 /// The lengths of a mesh's iterators: its vertices, half edges, undirected edges, faces, inner
@@ -231,18 +239,18 @@ fn lengths(dcel: &Mesh) -> Lengths {
     ]
 }
 
-/// Meshes by the calls that they grow by, each with its lengths.
-const LENGTHS: [(&[Growth], Lengths); 4] = [
-    (&[], [0, 0, 0, 1, 0, 0, 0, 1]),
-    (&[Growth::Append(0)], [1, 0, 0, 1, 0, 0, 1, 1]),
-    (&FIRST_EDGE, [2, 2, 1, 1, 0, 2, 2, 1]),
-    (&CUT, [4, 12, 6, 4, 3, 3, 4, 4]),
+/// Meshes by their lines, each with its lengths.
+const LENGTHS: [(&str, Lengths); 4] = [
+    ("", [0, 0, 0, 1, 0, 0, 0, 1]),
+    ("append 0", [1, 0, 0, 1, 0, 0, 1, 1]),
+    (FIRST_EDGE, [2, 2, 1, 1, 0, 2, 2, 1]),
+    (CUT, [4, 12, 6, 4, 3, 3, 4, 4]),
 ];
 
 #[test]
 fn elements_are_counted(rt: HostRuntime) -> Result<(), Fail> {
-    for (growths, wanted) in &LENGTHS {
-        let found = lengths(&grown(rt.alloc(), growths)?);
+    for (lines, wanted) in &LENGTHS {
+        let found = lengths(&grown(rt.alloc(), lines)?);
         same(&found, wanted, "lengths")?;
     }
     Ok(())
@@ -259,7 +267,7 @@ fn dual_lengths(dcel: &Mesh) -> [usize; 3] {
 
 #[test]
 fn duals_have_the_numbers_of_their_elements(rt: HostRuntime) -> Result<(), Fail> {
-    let dcel = cut_triangle(rt.alloc())?;
+    let dcel = grown(rt.alloc(), CUT)?;
     same(dual_lengths(&dcel), [4, 12, 6], "lengths of the diagram")
 }
 
