@@ -2,7 +2,7 @@
 //! turn. What a refusal leaves undone is done afterwards.
 
 use dcel_bench::checks::{holds, same};
-use dcel_bench::openers::handles;
+use dcel_bench::meshes::handles;
 use dcel_bench::refusing::{Memory, Refusals, Refusing};
 use dcel_bench::require;
 use dcel_circles::{is_delaunay, is_plane, legalize_by_circles};

@@ -72,11 +72,21 @@ fn face_text(dcel: &Mesh, index: u32, alloc: Global) -> Result<String, Fail> {
     Ok(format!(in alloc; "{face:?}")?)
 }
 
+fn vertex_text(dcel: &Mesh, index: u32, alloc: Global) -> Result<String, Fail> {
+    let vertex = vertex_of(dcel, index)?;
+    Ok(format!(in alloc; "{vertex:?}")?)
+}
+
+fn half_edge_text(dcel: &Mesh, index: u32, alloc: Global) -> Result<String, Fail> {
+    let edge = live_half_edge(dcel, index)?;
+    Ok(format!(in alloc; "{edge:?}")?)
+}
+
 /// Returns the `{:?}` text of the handle.
 fn text_of(dcel: &Mesh, handle: Handle, alloc: Global) -> Result<String, Fail> {
     match handle {
-        Vertex(index) => Ok(format!(in alloc; "{:?}", vertex_of(dcel, index)?)?),
-        HalfEdge(index) => Ok(format!(in alloc; "{:?}", live_half_edge(dcel, index)?)?),
+        Vertex(index) => vertex_text(dcel, index, alloc),
+        HalfEdge(index) => half_edge_text(dcel, index, alloc),
         EdgeOf(index) => edge_text(dcel, index, alloc),
         Outer => Ok(format!(in alloc; "{:?}", dcel.outer_face())?),
         Inner(index) => inner_text(dcel, index, alloc),

@@ -16,6 +16,7 @@ use spade_dcel::iterators::{
     FixedInnerFaceIterator, FixedUndirectedEdgeIterator, HullIterator, NextBackFn,
     UndirectedVoronoiEdgeIterator, VoronoiFaceIterator,
 };
+use std::alloc::Global;
 use std::test::Fail;
 
 /// The end that an item is taken from.
@@ -77,9 +78,12 @@ fn out_edges_come_from_both_ends(rt: HostRuntime) -> Result<(), Fail> {
     check_out_edges(&grown(rt.alloc(), CUT)?)
 }
 
+/// The lines of a mesh, and a walk round one of its faces.
+type FaceWalk = (&'static str, Walk);
+
 /// Walks round faces: of a triangle that vertex 3 cuts into three, of the line 2, 0, 1, 3, and of a
 /// mesh without an edge.
-const FACE_EDGES: [(&str, Walk); 5] = [
+const FACE_EDGES: [FaceWalk; 5] = [
     (CUT, (0, &[Front, Front, Front, Front], &[0, 2, 4])),
     (CUT, (1, &[Front, Front, Front, Front], &[1, 6, 11])),
     (CUT, (2, &[Back, Front, Back, Back], &[7, 5, 8])),
@@ -101,10 +105,15 @@ fn check_face_edges(dcel: &Mesh, (index, ends, wanted): Walk) -> Result<(), Fail
     check_taken(face.directed_edges(), ends, wanted)
 }
 
+fn check_face_walk((lines, walk): FaceWalk, alloc: Global) -> Result<(), Fail> {
+    let dcel = grown(alloc, lines)?;
+    check_face_edges(&dcel, walk)
+}
+
 #[test]
 fn half_edges_of_faces_come_from_both_ends(rt: HostRuntime) -> Result<(), Fail> {
-    for (lines, walk) in FACE_EDGES {
-        check_face_edges(&grown(rt.alloc(), lines)?, walk)?;
+    for row in &FACE_EDGES {
+        check_face_walk(*row, rt.alloc())?;
     }
     Ok(())
 }
@@ -247,11 +256,15 @@ const LENGTHS: [(&str, Lengths); 4] = [
     (CUT, [4, 12, 6, 4, 3, 3, 4, 4]),
 ];
 
+fn check_lengths(lines: &str, wanted: Lengths, alloc: Global) -> Result<(), Fail> {
+    let dcel = grown(alloc, lines)?;
+    same(lengths(&dcel), wanted, "lengths")
+}
+
 #[test]
 fn elements_are_counted(rt: HostRuntime) -> Result<(), Fail> {
     for (lines, wanted) in &LENGTHS {
-        let found = lengths(&grown(rt.alloc(), lines)?);
-        same(&found, wanted, "lengths")?;
+        check_lengths(lines, *wanted, rt.alloc())?;
     }
     Ok(())
 }
@@ -271,26 +284,22 @@ fn duals_have_the_numbers_of_their_elements(rt: HostRuntime) -> Result<(), Fail>
     same(dual_lengths(&dcel), [4, 12, 6], "lengths of the diagram")
 }
 
-#[test]
-fn fixed_handles_are_listed_to_the_last_number(rt: HostRuntime) -> Result<(), Fail> {
-    let last = 4_294_967_295;
-    let mut edges = FixedDirectedEdgeIterator::new(4_294_967_296);
+/// Takes half edges from both ends of the longest list of fixed handles that there is.
+fn check_longest(edges: &mut FixedDirectedEdgeIterator) -> Result<(), Fail> {
     let hint = edges.size_hint();
     same(hint, (4_294_967_296, Some(4_294_967_296)), "the hint")?;
-    same(
-        edges.next_back().map(|edge| edge.index()),
-        Some(last),
-        "the last",
-    )?;
-    same(edges.next().map(|edge| edge.index()), Some(0), "the first")?;
-    same(edges.len(), last - 1, "those left")?;
-    holds(
-        FixedUndirectedEdgeIterator::new(0).next().is_none(),
-        "no edge",
-    )?;
-    same(
-        FixedInnerFaceIterator::new(2).rev().count(),
-        2,
-        "inner faces",
-    )
+    let last = edges.next_back().map(|edge| edge.index());
+    let first = edges.next().map(|edge| edge.index());
+    let wanted = [Some(4_294_967_295), Some(0)];
+    same([last, first], wanted, "the last and the first")?;
+    same(edges.len(), 4_294_967_294, "those left")
+}
+
+#[test]
+fn fixed_handles_are_listed_to_the_last_number() -> Result<(), Fail> {
+    check_longest(&mut FixedDirectedEdgeIterator::new(4_294_967_296))?;
+    let no_edge = FixedUndirectedEdgeIterator::new(0).next();
+    holds(no_edge.is_none(), "no edge")?;
+    let faces = FixedInnerFaceIterator::new(2).rev().count();
+    same(faces, 2, "inner faces")
 }

@@ -5,6 +5,7 @@ use dcel_bench::checks::same;
 use dcel_bench::lines::grown;
 use dcel_bench::meshes::Mesh;
 use spade_dcel::iterators::HullIterator;
+use std::alloc::Global;
 use std::test::Fail;
 
 /// The lines of a mesh, and its live edges, its vertices with a live edge and the half edges of its
@@ -59,7 +60,7 @@ fn out_edges(dcel: &Mesh) -> usize {
     together
 }
 
-fn check_hull(dcel: &Mesh, wanted: [usize; 3]) -> Result<(), Fail> {
+fn check_hull_of(dcel: &Mesh, wanted: [usize; 3]) -> Result<(), Fail> {
     let hull = HullIterator::new(dcel).count();
     let found = [live_edges(dcel), vertices_with_an_edge(dcel), hull];
     same(found, wanted, "edges, vertices and the hull")?;
@@ -71,23 +72,33 @@ fn check_hull(dcel: &Mesh, wanted: [usize; 3]) -> Result<(), Fail> {
     )
 }
 
-fn check_out_edges(dcel: &Mesh, wanted: usize) -> Result<(), Fail> {
+fn check_out_edges_of(dcel: &Mesh, wanted: usize) -> Result<(), Fail> {
     same(out_edges(dcel), wanted, "out edges of all vertices")?;
     same(dcel.num_directed_edges(), wanted, "half edges")
 }
 
+fn check_hull((lines, wanted): HullRow, alloc: Global) -> Result<(), Fail> {
+    let dcel = grown(alloc, lines)?;
+    check_hull_of(&dcel, wanted)
+}
+
 #[test]
 fn triangles_are_counted_by_their_hull(rt: HostRuntime) -> Result<(), Fail> {
-    for (lines, wanted) in BY_HULL {
-        check_hull(&grown(rt.alloc(), lines)?, wanted)?;
+    for row in &BY_HULL {
+        check_hull(*row, rt.alloc())?;
     }
     Ok(())
 }
 
+fn check_out_edges((lines, wanted): OutRow, alloc: Global) -> Result<(), Fail> {
+    let dcel = grown(alloc, lines)?;
+    check_out_edges_of(&dcel, wanted)
+}
+
 #[test]
 fn each_half_edge_is_an_out_edge_of_one_vertex(rt: HostRuntime) -> Result<(), Fail> {
-    for (lines, wanted) in BY_VERTEX {
-        check_out_edges(&grown(rt.alloc(), lines)?, wanted)?;
+    for row in &BY_VERTEX {
+        check_out_edges(*row, rt.alloc())?;
     }
     Ok(())
 }

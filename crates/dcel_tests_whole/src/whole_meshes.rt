@@ -214,7 +214,7 @@ const ROOM: [([usize; 3], &str); 3] = [
 ];
 
 /// Reserves room in an empty mesh, which then grows without a request. The next call makes one.
-fn check_room<'a>(
+fn check_room_in<'a>(
     dcel: &mut Watched<'a>,
     memory: Memory<'a>,
     (room, next): ([usize; 3], &str),
@@ -228,13 +228,17 @@ fn check_room<'a>(
     same(found, (false, 1), format_args!("{next} after {room:?}"))
 }
 
+fn check_room(memory: Memory, row: ([usize; 3], &str)) -> Result<(), Fail> {
+    memory.refuse(Refusals::None);
+    let mut dcel: Watched = new(memory)?;
+    check_room_in(&mut dcel, memory, row)
+}
+
 #[test]
 fn a_mesh_grows_in_reserved_room_without_memory(rt: HostRuntime) -> Result<(), Fail> {
     let memory = Refusing::new(rt.alloc());
     for row in &ROOM {
-        memory.refuse(Refusals::None);
-        let mut dcel: Watched = new(&memory)?;
-        check_room(&mut dcel, &memory, *row)?;
+        check_room(&memory, *row)?;
     }
     Ok(())
 }
