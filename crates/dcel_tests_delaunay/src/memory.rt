@@ -2,13 +2,13 @@
 //! turn. What a refusal leaves undone is done afterwards.
 
 use dcel_bench::checks::{holds, same};
-use dcel_bench::openers::handles;
+use dcel_bench::meshes::handles;
 use dcel_bench::refusing::{Memory, Refusals, Refusing};
 use dcel_bench::require;
 use dcel_circles::{is_delaunay, is_plane, legalize_by_circles};
 use dcel_delaunay::{InsertionError, Point, Triangulation, point};
 use spade_dcel::dcel::Dcel;
-use spade_dcel::handles::FixedVertexHandle;
+use spade_dcel::handles::{FixedUndirectedEdgeHandle, FixedVertexHandle};
 use spade_dcel::operations::{
     append_unconnected_vertex, create_new_face_adjacent_to_edge, new_triangle,
 };
@@ -114,58 +114,94 @@ fn check_whole(triangulation: &Watched, wanted: [usize; 3]) -> Result<(), Fail> 
     holds(is_delaunay(triangulation.dcel()), "circles are empty")
 }
 
+/// Points, how they are inserted, and the vertices, edges and faces that there are then.
+#[derive(Clone, Copy)]
+struct Insertion<'p> {
+    points: &'p [Point],
+    way: Way,
+    wanted: [usize; 3],
+}
+
+/// Inserts the points with no request refused. Returns the vertices, edges and faces.
+fn count_inserted(triangulation: &mut Watched, points: &[Point]) -> Result<[usize; 3], Fail> {
+    same(insert_each(triangulation, points), None, "points")?;
+    Ok(counts(triangulation))
+}
+
 /// Returns how many vertices, edges and faces there are if no request is refused.
 fn undisturbed(points: &[Point], alloc: Global) -> Result<[usize; 3], Fail> {
     let memory = Refusing::new(alloc);
     let mut triangulation = Triangulation::new(&memory)?;
-    same(insert_each(&mut triangulation, points), None, "points")?;
-    Ok(counts(&triangulation))
+    count_inserted(&mut triangulation, points)
+}
+
+/// Does what this error left undone, and inserts the points again.
+fn insert_again<'a>(
+    triangulation: &mut Watched<'a>,
+    memory: Memory<'a>,
+    insertion: Insertion,
+    error: Option<InsertionError>,
+) -> Result<(), Fail> {
+    let is_unfinished = error == Some(InsertionError::Unfinished);
+    same(
+        triangulation.is_whole(),
+        !is_unfinished,
+        "nothing is left undone",
+    )?;
+    triangulation.finish()?;
+    holds(triangulation.is_whole(), "nothing is left undone")?;
+    holds(is_delaunay(triangulation.dcel()), "circles are empty")?;
+    let again = insert(triangulation, memory, insertion.points, insertion.way);
+    same(again, None, "points that are inserted again")
 }
 
 /// Inserts the points with the request of this number refused. If that request came, it does what
 /// is left undone, and inserts them again. Returns why one wasn't inserted at first.
-fn refuse(
-    points: &[Point],
-    way: Way,
+fn insert_refused<'a>(
+    triangulation: &mut Watched<'a>,
+    memory: Memory<'a>,
+    insertion: Insertion,
     number: u64,
-    wanted: [usize; 3],
-    alloc: Global,
 ) -> Result<Option<InsertionError>, Fail> {
-    let memory = Refusing::new(alloc);
-    let mut triangulation = Triangulation::new(&memory)?;
+    let way = insertion.way;
     memory.refuse(Refusals::One(number));
-    let error = insert(&mut triangulation, &memory, points, way);
+    let error = insert(triangulation, memory, insertion.points, way);
     let came = memory.requests() > number;
+    memory.refuse(Refusals::None);
     same(
         error.is_some(),
         came,
         format_args!("{way:?}: request {number} refused"),
     )?;
-    memory.refuse(Refusals::None);
     if came {
-        let is_unfinished = error == Some(InsertionError::Unfinished);
-        same(
-            triangulation.is_whole(),
-            !is_unfinished,
-            "nothing is left undone",
-        )?;
-        triangulation.finish()?;
-        holds(triangulation.is_whole(), "nothing is left undone")?;
-        holds(is_delaunay(triangulation.dcel()), "circles are empty")?;
-        let again = insert(&mut triangulation, &memory, points, way);
-        same(again, None, "points that are inserted again")?;
+        insert_again(triangulation, memory, insertion, error)?;
     }
-    check_whole(&triangulation, wanted)?;
+    check_whole(triangulation, insertion.wanted)?;
     Ok(error)
 }
 
+/// Refuses the request of this number in a triangulation of its own.
+fn refuse(
+    insertion: Insertion,
+    number: u64,
+    alloc: Global,
+) -> Result<Option<InsertionError>, Fail> {
+    let memory = Refusing::new(alloc);
+    let mut triangulation = Triangulation::new(&memory)?;
+    insert_refused(&mut triangulation, &memory, insertion, number)
+}
+
 /// Refuses each request for these points in turn. Returns how often something was left undone.
-fn sweep(places: Places, way: Way, alloc: Global) -> Result<usize, Fail> {
-    let points = points_at(places, alloc)?;
-    let wanted = undisturbed(&points, alloc)?;
+fn refuse_each(points: &[Point], way: Way, alloc: Global) -> Result<usize, Fail> {
+    let wanted = undisturbed(points, alloc)?;
+    let insertion = Insertion {
+        points,
+        way,
+        wanted,
+    };
     let mut unfinished: usize = 0;
     for number in 0..MANY {
-        match refuse(&points, way, number, wanted, alloc)? {
+        match refuse(insertion, number, alloc)? {
             None => {
                 holds(number > 0, format_args!("{way:?} asks for memory"))?;
                 return Ok(unfinished);
@@ -176,6 +212,13 @@ fn sweep(places: Places, way: Way, alloc: Global) -> Result<usize, Fail> {
         }
     }
     Err(Fail::new("more requests than MANY"))
+}
+
+/// Refuses each request for points at these places in turn. Returns how often something was left
+/// undone.
+fn sweep(places: Places, way: Way, alloc: Global) -> Result<usize, Fail> {
+    let points = points_at(places, alloc)?;
+    refuse_each(&points, way, alloc)
 }
 
 #[test]
@@ -227,50 +270,69 @@ fn join(
     place: (i64, i64),
 ) -> Result<FixedVertexHandle, Fail> {
     let apex = FixedVertexHandle::new(0);
-    require!(dcel.has_room(1, 0, 0));
-    let added = append_unconnected_vertex(dcel, point(place.0, place.1)?)?;
-    require!(apex.index() < dcel.num_vertices());
+    let point = point(place.0, place.1)?;
+    require!(dcel.has_room(1, 0, 0) && apex.index() < dcel.num_vertices());
     let Some(edge) = dcel.get_edge_from_neighbors(apex, last) else {
         return Err(Fail::new("no edge from the first vertex"));
     };
     let edge = edge.fix();
-    require!(dcel.is_live_edge(edge.as_undirected()));
-    require!(dcel.is_unconnected(added));
-    require!(dcel.has_room(0, 2, 1));
+    let added = append_unconnected_vertex(dcel, point)?;
+    require!(dcel.can_create_new_face_adjacent_to_edge(edge, added) && dcel.has_room(0, 2, 1));
     create_new_face_adjacent_to_edge(dcel, edge, added)?;
     Ok(added)
+}
+
+/// Joins all points but the first three.
+fn join_all(dcel: &mut Dcel<Point>) -> Result<(), Fail> {
+    let mut last = FixedVertexHandle::new(1);
+    for place in FAN.iter().skip(3) {
+        last = join(dcel, last, *place)?;
+    }
+    Ok(())
 }
 
 fn fan(alloc: Global) -> Result<Dcel<Point>, Fail> {
     let [a, b, c] = [FAN[0], FAN[1], FAN[2]];
     let corners = (point(a.0, a.1)?, point(b.0, b.1)?, point(c.0, c.1)?);
     let mut dcel: Dcel<Point> = new_triangle(alloc, corners)?;
-    let mut last = FixedVertexHandle::new(1);
-    for place in FAN.iter().skip(3) {
-        last = join(&mut dcel, last, *place)?;
-    }
+    join_all(&mut dcel)?;
     Ok(dcel)
 }
 
-/// Flips edges of the fan with the request of this number refused, and goes on with the same list
-/// if that request came. Returns whether it came.
-fn is_flipping_refused(number: u64, alloc: Global) -> Result<bool, Fail> {
-    let memory = Refusing::new(alloc);
-    let mut dcel = fan(alloc)?;
-    let mut due = handles(&INNER, &memory)?;
-    require!(is_plane(&dcel));
+/// Flips these edges with the request of this number refused, and goes on with the same list if
+/// that request came. Returns whether it came.
+fn flip_refused<'a>(
+    dcel: &mut Dcel<Point>,
+    due: &mut Vec<FixedUndirectedEdgeHandle, Memory<'a>>,
+    memory: Memory<'a>,
+    number: u64,
+) -> Result<bool, Fail> {
+    require!(is_plane(dcel));
     memory.refuse(Refusals::One(number));
-    let is_done = legalize_by_circles(&mut dcel, &mut due).is_ok();
+    let is_done = legalize_by_circles(dcel, due).is_ok();
     let came = memory.requests() > number;
+    memory.refuse(Refusals::None);
     same(is_done, !came, format_args!("request {number} refused"))?;
     same(due.is_empty(), !came, "an empty list")?;
-    memory.refuse(Refusals::None);
     if came {
-        legalize_by_circles(&mut dcel, &mut due)?;
+        legalize_by_circles(dcel, due)?;
     }
     holds(due.is_empty(), "an empty list")?;
-    holds(is_delaunay(&dcel), "circles are empty")?;
+    holds(is_delaunay(dcel), "circles are empty")?;
     Ok(came)
+}
+
+/// Flips edges of the fan with the request of this number refused. Returns whether it came.
+fn is_refused_on(dcel: &mut Dcel<Point>, number: u64, alloc: Global) -> Result<bool, Fail> {
+    let memory = Refusing::new(alloc);
+    let mut due = handles(&INNER, &memory)?;
+    flip_refused(dcel, &mut due, &memory, number)
+}
+
+/// Flips edges of a new fan with the request of this number refused. Returns whether it came.
+fn is_flipping_refused(number: u64, alloc: Global) -> Result<bool, Fail> {
+    let mut dcel = fan(alloc)?;
+    is_refused_on(&mut dcel, number, alloc)
 }
 
 #[test]

@@ -1,45 +1,39 @@
-//! An editor of meshes.
+//! A mesh edited by calls, each in front of it the test of what it asks for.
 
 use spade_dcel::dcel::Dcel;
-use spade_dcel::handles::{FixedFaceHandle, FixedVertexHandle, InnerTag};
+use spade_dcel::handles::{
+    FixedFaceHandle, FixedUndirectedEdgeHandle, FixedVertexHandle, InnerTag,
+};
 use spade_dcel::operations::{
     Room, append_unconnected_vertex, cleanup_isolated_vertex, flip_cw, insert_into_triangle,
-    isolate_vertex_and_fill_hole, swap_remove_vertex,
+    isolate_vertex_and_fill_hole, new_triangle, swap_remove_vertex,
 };
 use std::alloc::{AllocError, Global};
+use std::io;
 
-/// Puts a vertex into each inner triangle, and then flips the edges between those triangles.
-///
-/// If memory or numbers run out, the mesh is finer as far as that.
-pub fn refine<V: Copy + Drop, DE: Default + Drop, UE: Default + Drop, F: Default + Drop>(
-    dcel: &mut Dcel<V, DE, UE, F>,
-    datum: V,
-    alloc: Global,
-) -> Result<(), AllocError> {
-    let mut faces = Vec::new(alloc);
-    for face in dcel.live_inner_faces() {
-        faces.push(face.fix())?;
+/// Edits a triangle, and shows what is taken out of it and what is left.
+pub fn show(rt: &impl Print, alloc: Global) -> io::Result<()> {
+    let mut dcel = triangle(alloc)?;
+    let face = FixedFaceHandle::new(1); // face 0 is the outer one
+    put_into(&mut dcel, "d", face)?;
+    put_into(&mut dcel, "e", face)?;
+    let edge = FixedUndirectedEdgeHandle::new(3); // from "a" to "d", beside "e"
+    if dcel.can_flip(edge) {
+        flip_cw(&mut dcel, edge);
     }
-    let mut edges = Vec::new(alloc);
-    for edge in dcel.live_undirected_edges() {
-        if !edge.is_part_of_convex_hull() {
-            edges.push(edge.fix())?;
-        }
-    }
-    for &face in &faces {
-        put_into(dcel, datum, face)?;
-    }
-    for &edge in &edges {
-        if dcel.can_flip(edge) {
-            flip_cw(dcel, edge);
-        }
-    }
-    Ok(())
+    let taken = take_out(&mut dcel, FixedVertexHandle::new(4), alloc)?;
+    let left = dcel.num_vertices();
+    println!(rt; "taken out: {taken:?}, vertices left: {left}")
 }
 
-/// Puts a vertex into the face if it is a triangle.
-fn put_into<V: Drop, DE: Default + Drop, UE: Default + Drop, F: Default + Drop>(
-    dcel: &mut Dcel<V, DE, UE, F>,
+/// Returns a mesh of one triangle, with these data for its vertices.
+pub fn triangle(alloc: Global) -> Result<Dcel<&'static str>, AllocError> {
+    Ok(new_triangle(alloc, ("a", "b", "c"))?)
+}
+
+/// Puts a new vertex into an inner triangle, as far as numbers are left for it and its edges.
+pub fn put_into<V: Drop>(
+    dcel: &mut Dcel<V>,
     datum: V,
     face: FixedFaceHandle<InnerTag>,
 ) -> Result<(), AllocError> {
@@ -55,10 +49,10 @@ fn put_into<V: Drop, DE: Default + Drop, UE: Default + Drop, F: Default + Drop>(
     Ok(())
 }
 
-/// Takes out a vertex that lies inside triangles, fills the hole, and returns its datum, or None if
+/// Takes out a vertex inside triangles, fills the hole, and returns the vertex's datum, or None if
 /// it doesn't lie so.
-pub fn take_out<V: Drop, DE: Default + Drop, UE: Default + Drop, F: Default + Drop>(
-    dcel: &mut Dcel<V, DE, UE, F>,
+fn take_out<V: Drop>(
+    dcel: &mut Dcel<V>,
     center: FixedVertexHandle,
     alloc: Global,
 ) -> Result<Option<V>, AllocError> {

@@ -1,12 +1,15 @@
 //! Ways on the graph of a mesh.
 
+use crate::refining::fine_triangle;
 use spade_dcel::dcel::Dcel;
 use spade_dcel::handles::{FixedVertexHandle, VertexHandle};
+use spade_dcel::operations::{Room, append_unconnected_vertex};
 use std::alloc::{AllocError, Global};
+use std::io;
 
 /// Returns for each vertex over how many edges a shortest way from `start` leads there, and None if
 /// no way does.
-pub fn steps_from<V, DE, UE, F>(
+fn steps_from<V, DE, UE, F>(
     dcel: &Dcel<V, DE, UE, F>,
     start: FixedVertexHandle,
     alloc: Global,
@@ -48,4 +51,42 @@ fn reach_neighbors<V, DE, UE, F>(
         }
     }
     Ok(())
+}
+
+/// Shows the lengths of the ways between all vertices of a mesh, one of which stands alone.
+pub fn show(rt: &impl Print, alloc: Global) -> io::Result<()> {
+    let mut dcel = fine_triangle(alloc)?;
+    append(&mut dcel, "f")?;
+    show_ways(rt, &dcel, alloc)
+}
+
+fn show_ways(rt: &impl Print, dcel: &Dcel<&'static str>, alloc: Global) -> io::Result<()> {
+    for start in dcel.live_vertices() {
+        print!(rt; "ways from {} {}:", start.index(), start.data())?;
+        show_steps(rt, dcel, start.fix(), alloc)?;
+    }
+    Ok(())
+}
+
+fn append<V: Drop>(dcel: &mut Dcel<V>, datum: V) -> Result<(), AllocError> {
+    if dcel.has_room_for(Room::APPEND_UNCONNECTED_VERTEX) {
+        append_unconnected_vertex(dcel, datum)?;
+    }
+    Ok(())
+}
+
+/// Shows the length of a shortest way to each vertex.
+fn show_steps<V>(
+    rt: &impl Print,
+    dcel: &Dcel<V>,
+    start: FixedVertexHandle,
+    alloc: Global,
+) -> io::Result<()> {
+    for steps in steps_from(dcel, start, alloc)?.iter() {
+        match steps {
+            Some(steps) => print!(rt; " {steps}")?,
+            None => print!(rt; " -")?,
+        }
+    }
+    println!(rt)
 }

@@ -7,7 +7,7 @@ use Rattle.dcel_maps.specs.Shapes.{Mesh}
 use Rattle.dcel_maps.specs.Words.{count_of}
 use Rattle.dcel_maps.proofs.Liveness.{is_live-parts}
 use Rattle.dcel_maps.specs.Removals.{gives_up_edge}
-use Rattle.dcel_tests_whole.proofs.delaunay.settle.Goals as goal
+use Rattle.dcel_example.proofs.settling.settle.Goals as goal
 
 -- done from a list with all edges, none is left
 none_left : {V DE UE F : Type 0} (w : List ℕ → Bool) (old new : Mesh V DE UE F) (list : List ℕ) (max n : ℕ) (answer : Legalized) → answer ≡ Done n

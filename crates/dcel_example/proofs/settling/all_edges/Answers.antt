@@ -2,7 +2,7 @@ use Rattle.std.proofs.Common.{inl, inr, ℕ, ◌+◌, ◌<◌, List, [], ◌∷�
 use Rattle.std.proofs.lemmas.Bool.{cases_eq}
 use Rattle.dcel_maps.specs.Words.{count_of}
 use Rattle.dcel_maps.proofs.words.Counts.{count-append, count-equal}
-use Rattle.dcel_tests_whole.proofs.delaunay.all_edges.Goals as goal
+use Rattle.dcel_example.proofs.settling.all_edges.Goals as goal
 
 -- a list with all numbers below n, and n at its end, has all numbers up to n
 one_more : (list : List ℕ) (n : ℕ) → ((u : ℕ) → u < n → 0 < count_of u list) → (u : ℕ) → u < n + 1 → 0 < count_of u (list ++ n ∷ [])
