@@ -5,7 +5,7 @@ ghost use Rattle.dcel_maps.specs.Shapes.{IsLive};
 use crate::editing::triangle;
 use dcel_commands::commands::{Command, MAX_LIMIT, apply};
 use spade_dcel::dcel::Dcel;
-use spade_dcel::handles::{FixedDirectedEdgeHandle, FixedUndirectedEdgeHandle, FixedVertexHandle};
+use spade_dcel::handles::{FixedDirectedEdgeHandle, FixedVertexHandle};
 use spade_dcel::operations::{Room, split_half_edge};
 use std::alloc::{AllocError, Global};
 use std::io;
@@ -38,23 +38,27 @@ fn carry_out<V: Drop>(dcel: &mut Dcel<V>, command: Command<V>) -> &'static str {
     }
 }
 
-/// Shows each way with a number that fits, and with one that doesn't.
+/// Shows each way with a half edge that is there, and with one that isn't.
 pub fn show(rt: &impl Print, alloc: Global) -> io::Result<()> {
     let mut dcel = triangle(alloc)?;
     println!(rt; "append: {}", carry_out(&mut dcel, Command::Append("d")))?;
     for number in [1, 99] {
-        show_at(rt, &mut dcel, number)?;
+        show_at(rt, &mut dcel, FixedDirectedEdgeHandle::new(number))?;
     }
     Ok(())
 }
 
-fn show_at<V: Drop>(rt: &impl Print, dcel: &mut Dcel<V>, number: usize) -> io::Result<()> {
-    let edge = FixedDirectedEdgeHandle::new(number);
+fn show_at<V: Drop>(
+    rt: &impl Print,
+    dcel: &mut Dcel<V>,
+    edge: FixedDirectedEdgeHandle,
+) -> io::Result<()> {
+    let number = edge.index();
     if dcel.is_live_edge(edge.as_undirected()) {
         println!(rt; "before {number}: {}", before(dcel, edge).index())?;
     }
     let is_split = split(dcel, edge, FixedVertexHandle::new(3))?;
     println!(rt; "split {number}: {is_split}")?;
-    let flip = Command::Flip(FixedUndirectedEdgeHandle::new(number));
-    println!(rt; "flip {number}: {}", carry_out(dcel, flip))
+    let flip = Command::Flip(edge.as_undirected());
+    println!(rt; "flip the edge of {number}: {}", carry_out(dcel, flip))
 }
