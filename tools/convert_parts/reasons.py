@@ -6,10 +6,10 @@ from .surface import sides_of
 
 # What may be said; which of its numbers, if any, is the face whose line is named; and whether that is so.
 REASONS = [
-    (r"face (\d+) has fewer than three corners", 0, lambda s, face: face in s.few()),
-    (r"face (\d+) has corner (\d+), and there is no such vertex", 0, lambda s, face, corner: (face, corner) in s.strange()),
-    (r"face (\d+) has corner (\d+) twice in a row", 0, lambda s, face, corner: (face, corner) in s.flat()),
-    (r"faces (\d+) and (\d+) both have the side from (\d+) to (\d+)", 1,
+    (r"face (\d+) of the list has fewer than three corners", 0, lambda s, face: face in s.few()),
+    (r"face (\d+) of the list has corner (\d+), and there is no such vertex", 0, lambda s, face, corner: (face, corner) in s.strange()),
+    (r"face (\d+) of the list has corner (\d+) twice in a row", 0, lambda s, face, corner: (face, corner) in s.flat()),
+    (r"faces (\d+) and (\d+) of the list both have the side from (\d+) to (\d+)", 1,
      lambda s, one, two, start, end: (start, end) in s.twice() and all((start, end) in sides_of(s.faces[it]) for it in (one, two))
      and (one != two or sides_of(s.faces[one]).count((start, end)) > 1)),
     (r"two sides without a neighbor end at vertex (\d+)", None, lambda s, vertex: vertex in s.doubled()),

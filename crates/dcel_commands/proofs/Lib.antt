@@ -1,5 +1,6 @@
 pub mod Columns
 pub mod Decided
+pub mod Edits
 pub mod Ending
 pub mod FaceWalks
 pub mod Flipping

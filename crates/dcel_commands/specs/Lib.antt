@@ -3,6 +3,7 @@ pub use Rattle.dcel_text.specs.Transfer
 pub mod Answering
 pub mod Asking
 pub mod Conditions
+pub mod Edits
 pub mod Grammar
 pub mod Instructions
 pub mod Lists

@@ -1,9 +1,10 @@
 //! Laws, which follow from the definitions alone. These calls compute nothing: a caller learns what
 //! they ensure.
 
-ghost use Rattle.std.specs.Prelude.{◌≡◌, ◌⊎◌, ◌↔◌, ℕ, List, Option, Some};
+ghost use Rattle.std.specs.Prelude.{◌≡◌, ◌⊎◌, ◌↔◌, ◌≤◌, ◌^◌, ℕ, List, Option, Some};
 ghost use Rattle.std.specs.List.Sorted.{IsNonDecreasingBy};
 ghost use Rattle.dcel_commands.specs.Conditions.{entry_number, AllMet, FirstUnmet, IsLeast, IsRefused};
+ghost use Rattle.dcel_commands.specs.Edits.{edits_of, edits_of_run};
 ghost use Rattle.dcel_commands.specs.Instructions.{Cleanup, Instruction, Remove, Saying};
 ghost use Rattle.dcel_commands.specs.Lists.{Run, Takes};
 ghost use Rattle.dcel_commands.specs.OneRemoval.{CleansUp, Closes, GoesOn, Opens, record_after};
@@ -19,6 +20,7 @@ ghost use Rattle.dcel_commands.specs.declared.commands.reply.Refused.{Refused};
 ghost use Rattle.dcel_commands.specs.declared.refusal.Refusal.{Refusal};
 ghost use Rattle.dcel_commands.specs.declared.refusal.Refusal.TheVariants.{OutOfMemory};
 ghost use Rattle.dcel_commands.specs.declared.request.Query.{Query};
+ghost use Rattle.dcel_maps.specs.EditLists.{EditedBy};
 ghost use Rattle.dcel_maps.specs.Removals.{opened_with};
 ghost use Rattle.dcel_maps.specs.Shapes.{IsMesh, Mesh, Shape};
 
@@ -75,6 +77,15 @@ pub fn runs_keep_triangles<V, DE: Default, UE: Default, F: Default>()
     ensures { (limit : ℕ) (old new : Mesh V DE UE F) (commands : List (Instruction V)) (replies : List (Response V)) → IsMesh old →
         Run DE.is_default UE.is_default F.is_default limit old commands replies new →
         TrianglesStay DE.is_default UE.is_default F.is_default limit old commands replies new }
+{}
+
+/// Tells which elementary edits commands are: one of them, and a list of them, one after another.
+pub fn commands_are_lists_of_edits<V, DE: Default, UE: Default, F: Default>()
+    ensures command { (limit : ℕ) (old new : Mesh V DE UE F) (command : Instruction V) (reply : Response V) → limit ≤ 2 ^ 31 → IsMesh old
+        → Takes DE.is_default UE.is_default F.is_default limit old command reply new → EditedBy (edits_of old command reply) old new }
+    ensures run { (limit : ℕ) (old new : Mesh V DE UE F) (commands : List (Instruction V)) (replies : List (Response V)) → limit ≤ 2 ^ 31 → IsMesh old
+        → (run : Run DE.is_default UE.is_default F.is_default limit old commands replies new)
+        → EditedBy (edits_of_run DE.is_default UE.is_default F.is_default limit old new commands replies run) old new }
 {}
 
 /// Tells what each command does with the removal record.

@@ -3,7 +3,7 @@ use Rattle.std.proofs.Common.{◌≡◌, ◌≢◌, ℕ, suc, ◌+◌, ◌-◌, 
 use Rattle.std.proofs.lemmas.Bool.{cond_both, ne_eqb}
 use Rattle.std.proofs.lemmas.List.{drop_all, drop_more, length-set}
 use Rattle.dcel_fixed.specs.HalfEdges.{rev}
-use Rattle.dcel_store.specs.declared.HalfEdgeEntry.{HalfEdgeEntry}
+use Rattle.dcel_store.specs.declared.HalfEdgeLinks.{HalfEdgeLinks}
 use Rattle.dcel_store.specs.Lists.{Lists, LengthsAgree}
 use Rattle.dcel_store.specs.Taking.{pair_taken}
 use Rattle.dcel_maps.specs.Removals.{is_this}
@@ -115,7 +115,7 @@ length-anchor_renamed anchors k old new =
     cond_both (is_this old (slice_index_or anchors k None)) (slice_set anchors k (Some new)) anchors (λ l. length l ≡ length anchors)
     (λ named. length-set anchors k (Some new)) (λ other. refl)
 
-pub still_can_rename : {V DE UE F : Type 0} (s : Lists V DE UE F) (written links : HalfEdgeEntry) (old new : ℕ) → CanRename s links
+pub still_can_rename : {V DE UE F : Type 0} (s : Lists V DE UE F) (written links : HalfEdgeLinks) (old new : ℕ) → CanRename s links
     → CanRename (half_renamed s written old new) links
 still_can_rename s written links old new can =
     let nexts = length-set s.next written.prev new in

@@ -1,7 +1,7 @@
 -- What taking an element out leaves in the stored lists, and which can be taken out. The last element of its kind gets its number.
 use Rattle.std.specs.Prelude.{◌≢◌, ℕ, ◌+◌, ◌-◌, ◌*◌, ◌<◌, ◌≤◌, ◌^◌, ◌==◌, List, [], ◌∷◌, cond, fold, length, slice_index, slice_index_or, slice_set, Option, Some, None}
 use Rattle.dcel_fixed.specs.HalfEdges.{rev}
-use Rattle.dcel_store.specs.declared.HalfEdgeEntry.{HalfEdgeEntry}
+use Rattle.dcel_store.specs.declared.HalfEdgeLinks.{HalfEdgeLinks}
 use Rattle.dcel_store.specs.Lists.{Lists}
 use Rattle.dcel_maps.specs.Removals.{is_this}
 use Rattle.dcel_maps.specs.Renumbering.{half_of, last_put, moved}
@@ -31,7 +31,7 @@ module _ {V DE UE F : Type 0} where
   }
 
   -- the links of a half edge, where edge `last` has the number d
-  abbrev pub links_moved : Lists V DE UE F → ℕ → ℕ → ℕ → HalfEdgeEntry
+  abbrev pub links_moved : Lists V DE UE F → ℕ → ℕ → ℕ → HalfEdgeLinks
   links_moved s last d h = record {
     next = half_of (moved last d) (slice_index s.next h);
     prev = half_of (moved last d) (slice_index s.prev h);
@@ -40,7 +40,7 @@ module _ {V DE UE F : Type 0} where
   }
 
   -- the half edge with these links has a new number: its neighbors, and the anchors that named it, name the new one
-  abbrev pub half_renamed : Lists V DE UE F → HalfEdgeEntry → ℕ → ℕ → Lists V DE UE F
+  abbrev pub half_renamed : Lists V DE UE F → HalfEdgeLinks → ℕ → ℕ → Lists V DE UE F
   half_renamed s links old new = record s {
     next = slice_set s.next links.prev new;
     prev = slice_set s.prev links.next new;
@@ -89,7 +89,7 @@ module _ {V DE UE F : Type 0} where
   vertex_out s d = cond (d == length s.vertex_data - 1) (vertex_dropped s d) (turn_renamed (vertex_dropped s d) d)
 
   -- where what names a half edge can be written
-  pub record CanRename (s : Lists V DE UE F) (links : HalfEdgeEntry) : Type 0 where
+  pub record CanRename (s : Lists V DE UE F) (links : HalfEdgeLinks) : Type 0 where
     pub next_in : links.next < length s.next
     pub prev_in : links.prev < length s.next
     pub origin_in : links.origin < length s.vertex_anchors

@@ -7,7 +7,7 @@ ghost use Rattle.dcel_edits.specs.Given.{AreBelow, AreLists, edges_stored, faces
 use crate::create::put_vertices;
 use crate::links::numbered_links;
 use dcel_fixed::{FixedDirectedEdgeHandle, FixedFaceHandle, FixedVertexHandle};
-use dcel_store::{EdgeData, HalfEdgeEntry, Store};
+use dcel_store::{EdgeData, HalfEdgeLinks, Store};
 use std::alloc::Allocator;
 
 /// Writes vertices, edges and faces into an empty store, with the links that the lists have and the
@@ -114,8 +114,8 @@ fn put_edges<V, DE: Drop, UE: Drop, F, A: Allocator>(
     let mut half = 0;
     for edge_data in edges {
         store.push_edge(
-            entry(next, prev, origin, face, half),
-            entry(next, prev, origin, face, half + 1),
+            links_at(next, prev, origin, face, half),
+            links_at(next, prev, origin, face, half + 1),
             edge_data,
         );
         half += 2;
@@ -197,7 +197,7 @@ fn anchor(half: Option<u32>) -> Option<FixedDirectedEdgeHandle>
 
 // Returns the links that the lists have for a half edge.
 #[inline]
-fn entry(next: &[u32], prev: &[u32], origin: &[u32], face: &[u32], half: usize) -> HalfEdgeEntry
+fn links_at(next: &[u32], prev: &[u32], origin: &[u32], face: &[u32], half: usize) -> HalfEdgeLinks
     requires next_in { half < length next.now }
     requires prev_in { half < length prev.now }
     requires origin_in { half < length origin.now }

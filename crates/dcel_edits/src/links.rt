@@ -3,7 +3,7 @@
 ghost use Rattle.std.specs.Prelude.{◌≡◌, ◌<◌, ◌^◌};
 
 use dcel_fixed::{FixedDirectedEdgeHandle, FixedFaceHandle, FixedVertexHandle, PossiblyOuterTag};
-use dcel_store::HalfEdgeEntry;
+use dcel_store::HalfEdgeLinks;
 
 /// Makes the links of a half edge: the half edges after it and before it, its face, and its origin.
 pub fn links(
@@ -11,10 +11,10 @@ pub fn links(
     prev: FixedDirectedEdgeHandle,
     face: FixedFaceHandle<PossiblyOuterTag>,
     origin: FixedVertexHandle,
-) -> HalfEdgeEntry
+) -> HalfEdgeLinks
     ensures { result ≡ record { next = next; prev = prev; face = face; origin = origin } }
 {
-    HalfEdgeEntry {
+    HalfEdgeLinks {
         next,
         prev,
         face,
@@ -23,7 +23,7 @@ pub fn links(
 }
 
 /// Makes the links of a half edge from numbers.
-pub(crate) fn numbered_links(next: usize, prev: usize, face: usize, origin: usize) -> HalfEdgeEntry
+pub(crate) fn numbered_links(next: usize, prev: usize, face: usize, origin: usize) -> HalfEdgeLinks
     requires few_next { next < 2 ^ 32 }
     requires few_prev { prev < 2 ^ 32 }
     requires few_faces { face < 2 ^ 32 }

@@ -8,7 +8,7 @@ ghost use Rattle.dcel_edits.specs.Triangle.{CanInsert, IsEmpty, insertion_stored
 use crate::links::numbered_links;
 use crate::sectors::{Sector, close_three_sectors, spoke};
 use dcel_fixed::{FixedDirectedEdgeHandle, FixedFaceHandle, FixedVertexHandle};
-use dcel_store::{EdgeData, HalfEdgeEntry, Store};
+use dcel_store::{EdgeData, HalfEdgeLinks, Store};
 use std::alloc::Allocator;
 
 /// Writes a triangle and the outer face into an empty store.

@@ -103,9 +103,9 @@ fn reason_of(reason: LinksError) -> FacesError
     }
 }
 
-// The links of half edges.
+// The links of half edges, by number.
 #[derive(Drop)]
-struct HalfEdgeLinks<A: Allocator> {
+struct LinksByNumber<A: Allocator> {
     next: Vec<u32, A>,
     origin: Vec<u32, A>,
     face: Vec<u32, A>,
@@ -116,7 +116,7 @@ fn link_faces<A: Allocator + Clone, B: Allocator>(
     alloc: &A,
     vertices: usize,
     faces: &[Vec<u32, B>],
-) -> Result<HalfEdgeLinks<A>, FacesError>
+) -> Result<LinksByNumber<A>, FacesError>
     ensures links { IfOk result (λ links. AreLinks vertices (corners_of faces.now) (claim links.next.items links.origin.items links.face.items vertices (length faces.now + 1))) }
     ensures reason { IfErr result (Means vertices (corners_of faces.now)) }
 {
@@ -126,7 +126,7 @@ fn link_faces<A: Allocator + Clone, B: Allocator>(
     let border = find_border(alloc, &sides, &numbering, vertices)?;
     let (next, face) = list_links(alloc, &sides, &numbering, &border)?;
     let Numbering { origin, .. } = numbering;
-    Ok(HalfEdgeLinks { next, origin, face })
+    Ok(LinksByNumber { next, origin, face })
 }
 
 /// Makes default data for edges, and for faces and the outer one.

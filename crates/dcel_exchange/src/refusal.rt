@@ -2,42 +2,79 @@
 
 use spade_dcel::operations::Fault;
 use std::alloc::AllocError;
-use thiserror::Error;
+use std::error::Error;
+use std::fmt;
 
 /// The reason why no mesh was made of faces.
 ///
 /// Faces are told by their places in the list, from 0 on, and corners by their vertices.
-#[derive(Clone, Copy, PartialEq, Eq, Debug, Drop, Error)]
+#[derive(Clone, Copy, PartialEq, Eq, Debug, Drop)]
 pub enum FacesError {
     /// This face has fewer than three corners.
-    #[error("face {0} has fewer than three corners")]
     FewCorners(usize),
     /// There are more than 2^31 corners.
-    #[error("there are more than 2^31 corners")]
     TooManyCorners,
     /// This face has this corner, which is no vertex.
-    #[error("face {0} has corner {1}, and there is no such vertex")]
     NoVertex(u32, u32),
     /// A side of this face starts and ends at this vertex.
-    #[error("face {0} has corner {1} twice in a row")]
     OneEnd(u32, u32),
     /// These two faces, or one face twice, have a side from this vertex to that one.
     ///
     /// So it is where three faces meet along an edge, and where two neighbors go round in different
     /// ways.
-    #[error("faces {0} and {1} both have the side from {2} to {3}")]
     SideTwice(u32, u32, u32, u32),
     /// Two sides that no face lies beyond end at this vertex.
-    #[error("two sides without a neighbor end at vertex {0}")]
     BorderTwice(u32),
     /// With these corners, the first thing that is wrong with the links of the half edges. In it
     /// half edges, vertices and faces have the numbers of the mesh: face 0 is the outer one, and
     /// place `k` of the list is face `k + 1`.
-    #[error("no mesh has these faces: {0}")]
     Links(Fault),
     /// There was no memory. That can come at any time, also before what is wrong is found.
-    #[error("out of memory")]
     OutOfMemory,
+}
+
+impl fmt::Display for FacesError {
+    fn fmt<W: fmt::Write>(&self, f: &mut fmt::Formatter<W>) -> fmt::Result {
+        match *self {
+            FacesError::FewCorners(face) => {
+                write!(f, "face {face} of the list has fewer than three corners")
+            }
+            FacesError::TooManyCorners => write!(f, "there are more than 2^31 corners"),
+            FacesError::NoVertex(face, corner) => write!(
+                f,
+                "face {face} of the list has corner {corner}, and there is no such vertex"
+            ),
+            FacesError::OneEnd(face, corner) => {
+                write!(
+                    f,
+                    "face {face} of the list has corner {corner} twice in a row"
+                )
+            }
+            FacesError::SideTwice(first, second, from, to) => write!(
+                f,
+                "faces {first} and {second} of the list both have the side from {from} to {to}"
+            ),
+            FacesError::BorderTwice(vertex) => {
+                write!(f, "two sides without a neighbor end at vertex {vertex}")
+            }
+            FacesError::Links(fault) => write_fault(f, fault),
+            FacesError::OutOfMemory => write!(f, "out of memory"),
+        }
+    }
+}
+
+impl Error for FacesError {}
+
+// Writes what is wrong with the links that faces give.
+fn write_fault<W: fmt::Write>(f: &mut fmt::Formatter<W>, fault: Fault) -> fmt::Result {
+    match fault {
+        Fault::UnusedFace(0) => write!(f, "no side is left for the outer face"),
+        Fault::FaceInParts(0) => write!(f, "the faces leave more than one border"),
+        Fault::UnusedFace(_) | Fault::FaceInParts(_) => {
+            write!(f, "no mesh has these faces: by the mesh's numbers, {fault}")
+        }
+        _ => write!(f, "no mesh has these faces: {fault}"),
+    }
 }
 
 impl From<AllocError> for FacesError {
@@ -59,3 +96,20 @@ pub struct RefusedFaces<T> {
     /// The value that was handed in.
     pub back: T,
 }
+
+impl<T> fmt::Debug for RefusedFaces<T> {
+    /// Shows the reason alone, so that the value may be of any type.
+    fn fmt<W: fmt::Write>(&self, f: &mut fmt::Formatter<W>) -> fmt::Result {
+        f.debug_struct("RefusedFaces")
+            .field("reason", &self.reason)
+            .finish_non_exhaustive()
+    }
+}
+
+impl<T> fmt::Display for RefusedFaces<T> {
+    fn fmt<W: fmt::Write>(&self, f: &mut fmt::Formatter<W>) -> fmt::Result {
+        write!(f, "{}", self.reason)
+    }
+}
+
+impl<T: Drop> Error for RefusedFaces<T> {}

@@ -1,9 +1,13 @@
 -- What the rule gives.
-use Rattle.std.proofs.Common.{◌≡◌, ◌⊎◌, inl, inr, ℕ, suc, ◌<◌, ◌≤◌, Bool, List, [], ◌∷◌, ◌++◌, length, refl, sym, ap, subst, arith}
+use Rattle.std.proofs.Common.{◌≡◌, ◌⊎◌, inl, inr, ℕ, zero, suc, ◌+◌, ◌<◌, ◌≤◌, Bool, List, [], ◌∷◌, ◌++◌, length, add-one, refl, sym, ap, ◌∙◌, subst, arith}
 use Rattle.std.proofs.lemmas.Bool.{cases_lt}
 use Rattle.dcel_maps.specs.edits.Flip.{edge_flipped}
-use Rattle.dcel_maps.specs.Shapes.{IsMesh, Mesh}
+use Rattle.dcel_maps.specs.EditLists.{EditKind, EditedBy, flip_edits}
+use Rattle.dcel_maps.specs.EditLists.EditKind.{ear_cut, words_joined}
+use Rattle.dcel_maps.specs.Shapes.{IsMesh, Mesh, map_of}
 use Rattle.dcel_maps.specs.Words.{count_of}
+use Rattle.dcel_maps.proofs.lists.Growing.{flip_listed}
+use Rattle.dcel_maps.proofs.maps.Lists.{comes_then, extends_same}
 use Rattle.dcel_maps.proofs.words.Counts.{count-append, first_or_later}
 use Rattle.dcel_legalize.specs.Flipping.{EachInTurn, Ending, Follows, IsDue, IsOffered, IsSettled, IsTurn, SomeDue, edges_beside, edges_flipped}
 use Rattle.dcel_legalize.specs.Flipping.Ending.{Settled, AtLimit, NoMemory}
@@ -34,6 +38,17 @@ in_either v list more found =
 none_before : (x : ℕ) (before after : List ℕ) → [] ≡ before ++ (x ∷ after) → ⊥
 none_before x [] after is = cc
 none_before x (b ∷ before) after is = cc
+
+-- one flip more
+flip_edits-next : (n : ℕ) → flip_edits n ++ words_joined ∷ ear_cut ∷ [] ≡ flip_edits (suc n)
+flip_edits-next zero = refl
+flip_edits-next (suc n) = ap (λ (kinds : List EditKind). words_joined ∷ ear_cut ∷ kinds) (flip_edits-next n)
+
+pub flips_once_more : {V DE UE F : Type 0} (n : ℕ) (old m new : Mesh V DE UE F) → EditedBy (flip_edits n) old m → EditedBy (words_joined ∷ ear_cut ∷ []) m new
+    → EditedBy (flip_edits (n + 1)) old new
+flips_once_more n old m new first last =
+    subst (λ (kinds : List EditKind). EditedBy kinds old new) (flip_edits-next n ∙ ap flip_edits (sym (add-one n)))
+    (comes_then (flip_edits n) (words_joined ∷ ear_cut ∷ []) (map_of old.shape) (map_of m.shape) (map_of new.shape) first last)
 
 module _ {V DE UE F : Type 0} (w : List ℕ → Bool) where
   -- an edge that was not due, or stands in the list, or comes to lie beside a flipped edge, is not due at the end of a run that settles
@@ -76,6 +91,18 @@ module _ {V DE UE F : Type 0} (w : List ℕ → Bool) where
       | inr not ↦ inl (λ due. omega (arith, not, each v due))
     ]);
   }
+
+  -- a run is so many flips
+  pub run_listed : (m : Mesh V DE UE F) (list : List ℕ) (left : ℕ) (us : List ℕ) (end : Ending) → IsMesh m → Follows w m list left us end
+      → EditedBy (flip_edits (length us)) m (edges_flipped m us)
+  run_listed m list left us end mesh (settles _ _) = extends_same (map_of m.shape)
+  run_listed m list left us end mesh (skips _ rest u _ _ _ undue run) = run_listed m rest left us end mesh run
+  run_listed m list left us end mesh (stops _ rest u due) = extends_same (map_of m.shape)
+  run_listed m list left us end mesh (gives_up _ rest u less due) = extends_same (map_of m.shape)
+  run_listed m list left us end mesh (flips _ rest u less more _ due run) =
+      let n = edge_flipped m u in
+      comes_then (words_joined ∷ ear_cut ∷ []) (flip_edits (length more)) (map_of m.shape) (map_of n.shape) (map_of (edges_flipped n more).shape)
+      (flip_listed m mesh u n refl due.can) (run_listed n (rest ++ edges_beside n.shape u) less more end (flipped_mesh m mesh u due.can) run)
 
   -- no more are flipped than were allowed
   pub few : (m : Mesh V DE UE F) (list : List ℕ) (left : ℕ) (us : List ℕ) (end : Ending) → Follows w m list left us end → length us ≤ left

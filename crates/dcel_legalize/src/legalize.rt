@@ -3,8 +3,9 @@
 ghost use Rattle.std.specs.Prelude.{◌≡◌, ◌+◌, ◌≤◌, ◌↔◌, ◌++◌, ℕ, Bool, List, IsTrue, true, vec_len, vec_capacity};
 ghost use Rattle.std.specs.Fn.{FnReturnsAt};
 ghost use Rattle.dcel_legalize.specs.Flipping.{AnswersAs, AreVertices, IsDue, corners_of, edges_beside};
-ghost use Rattle.dcel_legalize.specs.Outcome.{IsLegalized};
+ghost use Rattle.dcel_legalize.specs.Outcome.{IsLegalized, flips_told};
 ghost use Rattle.dcel_maps.specs.Conditions.{CanFlip};
+ghost use Rattle.dcel_maps.specs.EditLists.{EditedBy, flip_edits};
 ghost use Rattle.dcel_maps.specs.Shapes.{IsMesh, edge_is_live};
 
 use crate::legalized::Legalized;
@@ -47,6 +48,7 @@ where
     W: Fn(&[FixedVertexHandle; 4]) -> bool + Drop,
     requires { W.IsAlwaysCallable wanted }
     ensures run { (w : List ℕ → Bool) → AnswersAs (FnReturnsAt W.Fn wanted) w → IsLegalized w dcel.old list.items max_flips result dcel.new }
+    ensures edits { EditedBy (flip_edits (flips_told result)) dcel.old dcel.new }
     ensures mesh { IsMesh dcel.new }
 {
     every_mesh(dcel);

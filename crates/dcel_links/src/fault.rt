@@ -74,6 +74,10 @@ impl fmt::Display for Fault {
                 f,
                 "what comes after half edge {half} lies on another face"
             ),
+            Fault::FaceInParts(0) => write!(
+                f,
+                "the half edges of the outer face are no single loop"
+            ),
             Fault::FaceInParts(face) => write!(
                 f,
                 "the half edges of face {face} are no single loop"
@@ -82,6 +86,7 @@ impl fmt::Display for Fault {
                 f,
                 "the half edges of vertex {vertex} are no single turn"
             ),
+            Fault::UnusedFace(0) => write!(f, "no half edge lies on the outer face"),
             Fault::UnusedFace(face) => write!(f, "no half edge lies on face {face}"),
             Fault::NotConnected(half) => write!(
                 f,

@@ -4,6 +4,7 @@ pub mod Liveness
 pub mod Shown
 pub mod Triangulations
 pub mod edits
+pub mod lists
 pub mod maps
 pub mod removal
 pub mod renumbering

@@ -12,6 +12,8 @@ pub mod Flips
 pub mod Growth
 pub mod Halves
 pub mod Labels
+pub mod Lists
+pub mod ListCounts
 pub mod Middles
 pub mod Insert
 pub mod Joins

@@ -1,5 +1,6 @@
 -- Removals: what is given up, what it leaves, and that a mesh comes of it.
 pub mod Corners
+pub mod DegenerateLeft
 pub mod DegenerateMeshes
 pub mod Eared
 pub mod Ears

@@ -25,6 +25,7 @@ pub mod Triangulations
 pub mod Count
 pub mod Headline
 pub mod Elementary
+pub mod EditLists
 pub mod InsertedBack
 pub mod Laws
 pub mod Examples

@@ -1,14 +1,15 @@
 //! Laws of the definitions. These calls compute nothing; whoever makes one learns what it ensures.
 
-ghost use Rattle.std.specs.Prelude.{◌≡◌, ◌-◌, ℕ, true, false, List, [], ◌∷◌, length, ◌≢◌, ◌↔◌, ◌*◌, ◌<◌, Bool, slice_index};
+ghost use Rattle.std.specs.Prelude.{◌≡◌, ◌-◌, ℕ, true, false, List, [], ◌∷◌, ◌++◌, length, ◌≢◌, ◌↔◌, ◌*◌, ◌<◌, Bool, slice_index};
 ghost use Rattle.dcel_fixed.specs.HalfEdges.{rev};
 ghost use Rattle.dcel_maps.specs.Borders.{IsBorderLoop};
 ghost use Rattle.dcel_maps.specs.Conditions.{CanFlip, CanSwapRemove, IsBridge, IsLineEnd};
 ghost use Rattle.dcel_maps.specs.Count.{Counts, IsCounted, live_edges, used_vertices};
 ghost use Rattle.dcel_maps.specs.Degenerate.{CanRemoveDegenerate};
+ghost use Rattle.dcel_maps.specs.EditLists.{ComesBy, EditKind, edges_after, nothing};
 ghost use Rattle.dcel_maps.specs.edits.Create.{first_edge_added, first_edge_alone, outer_alone, vertex_appended};
 ghost use Rattle.dcel_maps.specs.edits.DefaultData.{NewData};
-ghost use Rattle.dcel_maps.specs.edits.Degenerate.{removed_degenerate};
+ghost use Rattle.dcel_maps.specs.edits.Degenerate.{path_given_up, removed_degenerate};
 ghost use Rattle.dcel_maps.specs.edits.Fill.{hole_filled, ring_remeshed};
 ghost use Rattle.dcel_maps.specs.edits.Flip.{GoesRound, edge_flipped};
 ghost use Rattle.dcel_maps.specs.edits.Line.{line_extended};
@@ -23,7 +24,7 @@ ghost use Rattle.dcel_maps.specs.Examples.{FillsSquare, FillsTriangle, GoesFromH
 ghost use Rattle.dcel_maps.specs.Headline.{CountsTwo, FacesAreCycles, VerticesAreCycles};
 ghost use Rattle.dcel_maps.specs.HeadlineExamples.{pinched, torus, with_idle_face, without_anchors};
 ghost use Rattle.dcel_maps.specs.InsertedBack.{CanInsertLast, IsBackWithoutLast, inserted_with, removed_with};
-ghost use Rattle.dcel_maps.specs.Maps.{Connected, Map};
+ghost use Rattle.dcel_maps.specs.Maps.{Connected, Map, count};
 ghost use Rattle.dcel_maps.specs.PathExamples.{BothGone, EndGone, MiddleGone};
 ghost use Rattle.dcel_maps.specs.RegionExamples.{AreNoRings, FillsOneFace, FillsThreeFaces, FillsTwoFaces};
 ghost use Rattle.dcel_maps.specs.Regions.{IsRegionRing};
@@ -195,7 +196,8 @@ pub fn removals_keep_triangles<V, DE, UE, F>()
 {}
 
 /// What is live when a removal is cleaned up, or when a vertex is taken out, stays with its word,
-/// its origin, its anchor and its data, all but this vertex.
+/// its origin, its anchor and its data, all but this vertex. So does what is live once a vertex of a
+/// path and one of its edges are given up, when both are taken out at once.
 ///
 /// Only its number may change, by one short rule: write the numbers of all elements of its kind in
 /// a list, and put the last item at the place of each that goes, from the largest down. The new
@@ -206,6 +208,14 @@ pub fn removals_leave_what_is_live<V, DE, UE, F>()
     ensures vertex { (m : Mesh V DE UE F) (v : ℕ) → IsMesh m → CanSwapRemove m.shape v
         → LeavesLive (with_removal m (Cleaned v)) (vertex_taken_out m v) (λ h. h) (moved (m.shape.vertices - 1) v) (λ f. f) }
     ensures vertex_places { (m : Mesh V DE UE F) (v w : ℕ) → IsMesh m → CanSwapRemove m.shape v → w < m.shape.vertices → w ≢ v
+        → slice_index (renumbered m.shape.vertices (v ∷ [])) (moved (m.shape.vertices - 1) v w) ≡ w }
+    ensures degenerate { (m : Mesh V DE UE F) (v : ℕ) → IsMesh m → CanRemoveDegenerate m.shape v → m.shape.vertices ≢ 1
+        → LeavesLive (path_given_up m v) (removed_degenerate m v) (new_half (path_given_up m v).shape) (moved (m.shape.vertices - 1) v) (λ f. f) }
+    ensures degenerate_places { (m : Mesh V DE UE F) (v : ℕ) → IsMesh m → CanRemoveDegenerate m.shape v → m.shape.vertices ≢ 1
+        → AreNumbered (path_given_up m v).shape }
+    ensures degenerate_alone { (m : Mesh V DE UE F) (v : ℕ) → IsMesh m → CanRemoveDegenerate m.shape v → m.shape.vertices ≡ 1
+        → LeavesLive (with_removal m (Cleaned v)) (removed_degenerate m v) (λ h. h) (moved (m.shape.vertices - 1) v) (λ f. f) }
+    ensures degenerate_vertex_places { (m : Mesh V DE UE F) (v w : ℕ) → IsMesh m → CanRemoveDegenerate m.shape v → w < m.shape.vertices → w ≢ v
         → slice_index (renumbered m.shape.vertices (v ∷ [])) (moved (m.shape.vertices - 1) v w) ≡ w }
 {}
 
@@ -242,6 +252,18 @@ pub fn elementary_edits_keep_a_sphere()
     ensures renumbered { (S T : Map) (half back vertex face : ℕ → ℕ) → Sound S → Sphere S → Renamed S T half back vertex face
         → Sound T × Sphere T }
     ensures shapes { (s : Shape) → IsSound s → Sound (map_of s) × (IsSphere s ↔ Sphere (map_of s)) }
+{}
+
+/// Tells what lists of elementary edits do.
+///
+/// A list leads from a sound map on the sphere, as the map of nothing is, to another one, and its
+/// kinds tell how many edges are live then. One list can come after another.
+pub fn lists_of_edits_keep_a_sphere()
+    ensures nothing { Sound nothing × Sphere nothing }
+    ensures keeps { (kinds : List EditKind) (S T : Map) → Sound S → Sphere S → ComesBy kinds S T → Sound T × Sphere T }
+    ensures counts { (kinds : List EditKind) (S T : Map) → Sound S → Sphere S → ComesBy kinds S T
+        → count T.edge T.edges ≡ edges_after kinds (count S.edge S.edges) }
+    ensures then { (kinds more : List EditKind) (S M T : Map) → ComesBy kinds S M → ComesBy more M T → ComesBy (kinds ++ more) S T }
 {}
 
 /// The lengths of all words add up to the number of live half edges.

@@ -26,7 +26,7 @@ use std::marker::Model;
 
 /// The links of a half edge, as [`Store::push_edge`] takes them.
 #[derive(Clone, Copy)]
-pub struct HalfEdgeEntry {
+pub struct HalfEdgeLinks {
     /// The half edge after it on its face.
     pub next: FixedDirectedEdgeHandle,
 
@@ -53,14 +53,14 @@ pub struct EdgeData<DE, UE> {
     pub undirected: UE,
 }
 
-/// An edge, as [`Store::push_three_edges`] takes it: the links of its half edges, and its data.
+/// A new edge, as [`Store::push_three_edges`] takes it: the links of its half edges, and its data.
 #[derive(Drop)]
-pub struct EdgeEntry<DE, UE> {
+pub struct NewEdge<DE, UE> {
     /// The links of the normalized half edge.
-    pub normalized: HalfEdgeEntry,
+    pub normalized: HalfEdgeLinks,
 
     /// The links of the other half edge.
-    pub reversed: HalfEdgeEntry,
+    pub reversed: HalfEdgeLinks,
 
     /// The data of both half edges, and of the edge itself.
     pub edge_data: EdgeData<DE, UE>,
@@ -254,8 +254,8 @@ impl<V, DE, UE, F, A: Allocator> Store<V, DE, UE, F, A> {
     #[inline]
     pub fn push_edge(
         &mut self,
-        normalized: HalfEdgeEntry,
-        reversed: HalfEdgeEntry,
+        normalized: HalfEdgeLinks,
+        reversed: HalfEdgeLinks,
         edge_data: EdgeData<DE, UE>,
     )
         requires { 0 < self.old.edge_room }

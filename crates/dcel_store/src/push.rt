@@ -2,7 +2,7 @@
 
 ghost use Rattle.std.specs.Prelude.{◌≡◌, ◌+◌, ◌-◌, ◌≤◌, [], ◌∷◌, ◌++◌, vec_len, vec_capacity};
 
-use crate::{EdgeEntry, Store};
+use crate::{NewEdge, Store};
 use std::alloc::Allocator;
 
 impl<V, DE, UE, F, A: Allocator> Store<V, DE, UE, F, A> {
@@ -14,9 +14,9 @@ impl<V, DE, UE, F, A: Allocator> Store<V, DE, UE, F, A> {
     #[inline]
     pub fn push_three_edges(
         &mut self,
-        first: EdgeEntry<DE, UE>,
-        second: EdgeEntry<DE, UE>,
-        third: EdgeEntry<DE, UE>,
+        first: NewEdge<DE, UE>,
+        second: NewEdge<DE, UE>,
+        third: NewEdge<DE, UE>,
     )
         requires { 3 ≤ self.old.edge_room }
         ensures { self.new ≡ record self.old {

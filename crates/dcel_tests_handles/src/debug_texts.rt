@@ -1,11 +1,9 @@
 //! The `{:?}` texts of borrowed handles.
 
 use crate::borrowed::{live_half_edge, vertex_of};
-use dcel_bench::checks::{holds, same};
-use dcel_bench::growths::{cut_triangle, grown};
+use dcel_bench::checks::same;
+use dcel_bench::lines::{CUT, grown};
 use dcel_bench::meshes::{Mesh, inner_face};
-use dcel_bench::openers::Opener::Isolate;
-use dcel_bench::openers::open;
 use dcel_bench::require;
 use spade_dcel::handles::PossiblyOuterTag;
 use std::alloc::Global;
@@ -74,11 +72,21 @@ fn face_text(dcel: &Mesh, index: u32, alloc: Global) -> Result<String, Fail> {
     Ok(format!(in alloc; "{face:?}")?)
 }
 
+fn vertex_text(dcel: &Mesh, index: u32, alloc: Global) -> Result<String, Fail> {
+    let vertex = vertex_of(dcel, index)?;
+    Ok(format!(in alloc; "{vertex:?}")?)
+}
+
+fn half_edge_text(dcel: &Mesh, index: u32, alloc: Global) -> Result<String, Fail> {
+    let edge = live_half_edge(dcel, index)?;
+    Ok(format!(in alloc; "{edge:?}")?)
+}
+
 /// Returns the `{:?}` text of the handle.
 fn text_of(dcel: &Mesh, handle: Handle, alloc: Global) -> Result<String, Fail> {
     match handle {
-        Vertex(index) => Ok(format!(in alloc; "{:?}", vertex_of(dcel, index)?)?),
-        HalfEdge(index) => Ok(format!(in alloc; "{:?}", live_half_edge(dcel, index)?)?),
+        Vertex(index) => vertex_text(dcel, index, alloc),
+        HalfEdge(index) => half_edge_text(dcel, index, alloc),
         EdgeOf(index) => edge_text(dcel, index, alloc),
         Outer => Ok(format!(in alloc; "{:?}", dcel.outer_face())?),
         Inner(index) => inner_text(dcel, index, alloc),
@@ -100,25 +108,18 @@ fn check_texts(dcel: &Mesh, texts: Texts, alloc: Global) -> Result<(), Fail> {
 
 #[test]
 fn handles_print_their_numbers(rt: HostRuntime) -> Result<(), Fail> {
-    check_texts(&cut_triangle(rt.alloc())?, TEXTS, rt.alloc())
-}
-
-/// Gives up vertex 3.
-fn give_up(dcel: &mut Mesh, alloc: Global) -> Result<(), Fail> {
-    let opened = open(dcel, alloc, Isolate(3, &[1, 3, 5]))?;
-    holds(opened.is_some(), "memory for a removal")
+    check_texts(&grown(rt.alloc(), CUT)?, TEXTS, rt.alloc())
 }
 
 // A face that a removal has given up has no anchor.
 #[test]
 fn a_face_that_is_given_up_prints_none(rt: HostRuntime) -> Result<(), Fail> {
-    let mut dcel = cut_triangle(rt.alloc())?;
-    give_up(&mut dcel, rt.alloc())?;
-    check_texts(&dcel, GIVEN_UP, rt.alloc())
+    let lines = "triangle 0 1 2\nappend 3\ninsert 3 1\nisolate 3 1 3 5";
+    check_texts(&grown(rt.alloc(), lines)?, GIVEN_UP, rt.alloc())
 }
 
 // Neither has the outer face of a mesh without edges.
 #[test]
 fn a_face_of_an_empty_mesh_prints_none(rt: HostRuntime) -> Result<(), Fail> {
-    check_texts(&grown(rt.alloc(), &[])?, EMPTY, rt.alloc())
+    check_texts(&grown(rt.alloc(), "")?, EMPTY, rt.alloc())
 }

@@ -3,7 +3,7 @@
 
 use crate::borrowed::{live_half_edge, vertex_of};
 use dcel_bench::checks::same;
-use dcel_bench::growths::cut_triangle;
+use dcel_bench::lines::{CUT, grown};
 use dcel_bench::meshes::{Mesh, vertex};
 use dcel_bench::require;
 use spade_dcel::handles::{
@@ -60,7 +60,7 @@ fn check_sides(dcel: &Mesh) -> Result<(), Fail> {
 
 #[test]
 fn edges_have_ends_and_sides(rt: HostRuntime) -> Result<(), Fail> {
-    check_sides(&cut_triangle(rt.alloc())?)
+    check_sides(&grown(rt.alloc(), CUT)?)
 }
 
 /// The half edge that stands for an edge, the ends of the edge, and whether it is on the hull.
@@ -90,7 +90,7 @@ fn check_wholes(dcel: &Mesh) -> Result<(), Fail> {
 
 #[test]
 fn undirected_edges_are_their_normalized_halves(rt: HostRuntime) -> Result<(), Fail> {
-    check_wholes(&cut_triangle(rt.alloc())?)
+    check_wholes(&grown(rt.alloc(), CUT)?)
 }
 
 /// Returns whether the face is outer, and its number as an inner one.
@@ -106,7 +106,7 @@ fn check_faces(dcel: &Mesh) -> Result<(), Fail> {
 
 #[test]
 fn face_0_alone_is_outer(rt: HostRuntime) -> Result<(), Fail> {
-    check_faces(&cut_triangle(rt.alloc())?)
+    check_faces(&grown(rt.alloc(), CUT)?)
 }
 
 /// The dual of a half edge: its start and its end, and the next, the one before, the face, and the
@@ -153,7 +153,7 @@ fn check_duals(dcel: &Mesh) -> Result<(), Fail> {
 
 #[test]
 fn voronoi_edges_lead_from_face_to_face(rt: HostRuntime) -> Result<(), Fail> {
-    check_duals(&cut_triangle(rt.alloc())?)
+    check_duals(&grown(rt.alloc(), CUT)?)
 }
 
 /// Returns the numbers of three Voronoi edges.
@@ -191,7 +191,7 @@ fn check_corners(dcel: &Mesh) -> Result<(), Fail> {
 
 #[test]
 fn voronoi_vertices_are_faces_or_lie_outside(rt: HostRuntime) -> Result<(), Fail> {
-    check_corners(&cut_triangle(rt.alloc())?)
+    check_corners(&grown(rt.alloc(), CUT)?)
 }
 
 /// Returns the vertex of the Voronoi face of a vertex.
@@ -221,15 +221,15 @@ fn round_face_from_the_back(dcel: &Mesh, index: u32) -> Result<[Option<usize>; 4
 
 fn check_round_face(dcel: &Mesh, alloc: Global) -> Result<(), Fail> {
     same(center_of(dcel, 3)?, 3, "the vertex of a face")?;
-    let listed = round_face(dcel, 3, alloc)?;
-    same(listed.as_slice(), [7, 9, 11].as_slice(), "edges")?;
     let taken = round_face_from_the_back(dcel, 3)?;
-    same(taken, [Some(11), Some(9), Some(7), None], "from the back")
+    same(taken, [Some(11), Some(9), Some(7), None], "from the back")?;
+    let listed = round_face(dcel, 3, alloc)?;
+    same(listed.as_slice(), [7, 9, 11].as_slice(), "edges")
 }
 
 #[test]
 fn voronoi_faces_list_the_edges_round_them(rt: HostRuntime) -> Result<(), Fail> {
-    check_round_face(&cut_triangle(rt.alloc())?, rt.alloc())
+    check_round_face(&grown(rt.alloc(), CUT)?, rt.alloc())
 }
 
 /// Returns whether two vertices are equal, and whether they aren't; whether the first is less, and
@@ -278,9 +278,13 @@ fn check_compared(dcel: &Mesh, other: &Mesh) -> Result<(), Fail> {
     same(hashes, [hash_of_fixed(2); 2], "hashes")
 }
 
+fn compare_with_another(dcel: &Mesh, alloc: Global) -> Result<(), Fail> {
+    let other = grown(alloc, CUT)?;
+    check_compared(dcel, &other)
+}
+
 #[test]
 fn handles_are_compared_by_their_numbers(rt: HostRuntime) -> Result<(), Fail> {
-    let dcel = cut_triangle(rt.alloc())?;
-    let other = cut_triangle(rt.alloc())?;
-    check_compared(&dcel, &other)
+    let dcel = grown(rt.alloc(), CUT)?;
+    compare_with_another(&dcel, rt.alloc())
 }

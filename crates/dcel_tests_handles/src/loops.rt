@@ -1,10 +1,8 @@
 //! Loops over walks and over live elements. That an item is live is known without a test.
 
 use dcel_bench::checks::same;
-use dcel_bench::growths::cut_triangle;
+use dcel_bench::lines::grown;
 use dcel_bench::meshes::Mesh;
-use dcel_bench::openers::Opener::Isolate;
-use dcel_bench::openers::open;
 use spade_dcel::iterators::HullIterator;
 use std::alloc::{AllocError, Global};
 use std::test::Fail;
@@ -74,30 +72,35 @@ fn outer_edges(dcel: &Mesh) -> usize {
     count
 }
 
+/// Checks the numbers that a loop found.
+fn check_numbers(
+    found: Result<Vec<usize>, AllocError>,
+    wanted: &[usize],
+    what: &str,
+) -> Result<(), Fail> {
+    let found = found?;
+    same(found.as_slice(), wanted, what)
+}
+
+fn check_ends(dcel: &Mesh, alloc: Global) -> Result<(), Fail> {
+    let ends = ends_of_edges(dcel, alloc)?;
+    same(ends.as_slice(), [[0, 1], [1, 2], [2, 0]].as_slice(), "ends")
+}
+
 /// Checks what loops find in a cut triangle, once its vertex 3 is given up and face 4 fills the
 /// hole.
 fn check_loops(dcel: &Mesh, alloc: Global) -> Result<(), Fail> {
-    let ends = ends_of_edges(dcel, alloc)?;
-    same(ends.as_slice(), [[0, 1], [1, 2], [2, 0]].as_slice(), "ends")?;
-    same(
-        hull(dcel, alloc)?.as_slice(),
-        [0, 1, 2].as_slice(),
-        "the hull",
-    )?;
-    let around = neighbors(dcel, alloc)?;
-    let wanted = [0, 1, 2, 1, 2, 0, 2, 0, 1];
-    same(around.as_slice(), wanted.as_slice(), "neighbors")?;
-    let around = faces(dcel, alloc)?;
-    let wanted = [0, 0, 1, 2, 4, 0, 2, 1];
-    same(around.as_slice(), wanted.as_slice(), "faces")?;
-    let around = triangles(dcel, alloc)?;
-    same(around.as_slice(), [4, 1, 0, 2].as_slice(), "triangles")?;
+    check_ends(dcel, alloc)?;
+    check_numbers(hull(dcel, alloc), &[0, 1, 2], "the hull")?;
+    let wanted = &[0, 1, 2, 1, 2, 0, 2, 0, 1];
+    check_numbers(neighbors(dcel, alloc), wanted, "neighbors")?;
+    check_numbers(faces(dcel, alloc), &[0, 0, 1, 2, 4, 0, 2, 1], "faces")?;
+    check_numbers(triangles(dcel, alloc), &[4, 1, 0, 2], "triangles")?;
     same(outer_edges(dcel), 3, "half edges on the outer face")
 }
 
 #[test]
 fn loops_go_over_what_is_live(rt: HostRuntime) -> Result<(), Fail> {
-    let mut dcel = cut_triangle(rt.alloc())?;
-    let _opened = open(&mut dcel, rt.alloc(), Isolate(3, &[1, 3, 5]))?;
-    check_loops(&dcel, rt.alloc())
+    let lines = "triangle 0 1 2\nappend 3\ninsert 3 1\nisolate 3 1 3 5";
+    check_loops(&grown(rt.alloc(), lines)?, rt.alloc())
 }

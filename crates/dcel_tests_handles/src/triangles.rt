@@ -1,7 +1,7 @@
 //! The walk round a triangle.
 
 use dcel_bench::checks::same;
-use dcel_bench::growths::cut_triangle;
+use dcel_bench::lines::{CUT, grown};
 use dcel_bench::meshes::{Mesh, adjacent_edge, inner_face};
 use dcel_bench::require;
 use std::test::Fail;
@@ -26,5 +26,5 @@ fn check_triangles(dcel: &Mesh) -> Result<(), Fail> {
 
 #[test]
 fn anchors_of_faces_answer(rt: HostRuntime) -> Result<(), Fail> {
-    check_triangles(&cut_triangle(rt.alloc())?)
+    check_triangles(&grown(rt.alloc(), CUT)?)
 }

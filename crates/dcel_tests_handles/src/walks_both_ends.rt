@@ -5,7 +5,7 @@ ghost use Rattle.std.specs.Iterator.{IsFinite};
 use crate::borrowed::{live_half_edge, vertex_of};
 use crate::own_steps::{PrevNextBackFn, RevNextBackFn};
 use dcel_bench::checks::{holds, same};
-use dcel_bench::growths::{CUT, FIRST_EDGE, Growth, LINE, cut_triangle, grown};
+use dcel_bench::lines::{CUT, FIRST_EDGE, LINE, grown};
 use dcel_bench::meshes::Mesh;
 use dcel_bench::require;
 use spade_dcel::handles::{
@@ -16,6 +16,7 @@ use spade_dcel::iterators::{
     FixedInnerFaceIterator, FixedUndirectedEdgeIterator, HullIterator, NextBackFn,
     UndirectedVoronoiEdgeIterator, VoronoiFaceIterator,
 };
+use std::alloc::Global;
 use std::test::Fail;
 
 /// The end that an item is taken from.
@@ -74,24 +75,27 @@ fn check_out_edges(dcel: &Mesh) -> Result<(), Fail> {
 
 #[test]
 fn out_edges_come_from_both_ends(rt: HostRuntime) -> Result<(), Fail> {
-    check_out_edges(&cut_triangle(rt.alloc())?)
+    check_out_edges(&grown(rt.alloc(), CUT)?)
 }
+
+/// The lines of a mesh, and a walk round one of its faces.
+type FaceWalk = (&'static str, Walk);
 
 /// Walks round faces: of a triangle that vertex 3 cuts into three, of the line 2, 0, 1, 3, and of a
 /// mesh without an edge.
-const FACE_EDGES: [(&[Growth], Walk); 5] = [
-    (&CUT, (0, &[Front, Front, Front, Front], &[0, 2, 4])),
-    (&CUT, (1, &[Front, Front, Front, Front], &[1, 6, 11])),
-    (&CUT, (2, &[Back, Front, Back, Back], &[7, 5, 8])),
+const FACE_EDGES: [FaceWalk; 5] = [
+    (CUT, (0, &[Front, Front, Front, Front], &[0, 2, 4])),
+    (CUT, (1, &[Front, Front, Front, Front], &[1, 6, 11])),
+    (CUT, (2, &[Back, Front, Back, Back], &[7, 5, 8])),
     (
-        &LINE,
+        LINE,
         (
             0,
             &[Front, Back, Front, Front, Front, Front, Front],
             &[0, 2, 5, 4, 1, 3],
         ),
     ),
-    (&[], (0, &[Front, Back], &[])),
+    ("", (0, &[Front, Back], &[])),
 ];
 
 fn check_face_edges(dcel: &Mesh, (index, ends, wanted): Walk) -> Result<(), Fail> {
@@ -101,17 +105,22 @@ fn check_face_edges(dcel: &Mesh, (index, ends, wanted): Walk) -> Result<(), Fail
     check_taken(face.directed_edges(), ends, wanted)
 }
 
+fn check_face_walk((lines, walk): FaceWalk, alloc: Global) -> Result<(), Fail> {
+    let dcel = grown(alloc, lines)?;
+    check_face_edges(&dcel, walk)
+}
+
 #[test]
 fn half_edges_of_faces_come_from_both_ends(rt: HostRuntime) -> Result<(), Fail> {
-    for (growths, walk) in FACE_EDGES {
-        check_face_edges(&grown(rt.alloc(), growths)?, walk)?;
+    for row in &FACE_EDGES {
+        check_face_walk(*row, rt.alloc())?;
     }
     Ok(())
 }
 
 #[test]
 fn the_hull_comes_from_both_ends(rt: HostRuntime) -> Result<(), Fail> {
-    let dcel = cut_triangle(rt.alloc())?;
+    let dcel = grown(rt.alloc(), CUT)?;
     let mixed = [Back, Front, Back, Front];
     check_taken(HullIterator::new(&dcel), &mixed, &[4, 0, 2])
 }
@@ -138,11 +147,15 @@ const PREV_WALKS: [Walk; 2] = [
     (1, &[Back, Front, Back, Back], &[6, 1, 11]),
 ];
 
+fn check_own_steps(dcel: &Mesh) -> Result<(), Fail> {
+    check_walks::<RevNextBackFn>(dcel, &REV_WALKS)?;
+    check_walks::<PrevNextBackFn>(dcel, &PREV_WALKS)
+}
+
 #[test]
 fn own_steps_lead_round(rt: HostRuntime) -> Result<(), Fail> {
-    let dcel = cut_triangle(rt.alloc())?;
-    check_walks::<RevNextBackFn>(&dcel, &REV_WALKS)?;
-    check_walks::<PrevNextBackFn>(&dcel, &PREV_WALKS)
+    let dcel = grown(rt.alloc(), CUT)?;
+    check_own_steps(&dcel)
 }
 
 /// Returns the number of inner faces left and the next one from the back, four times; and whether
@@ -159,7 +172,7 @@ fn inner_faces_from_the_back(dcel: &Mesh) -> ([(usize, Option<usize>); 4], bool)
 
 #[test]
 fn inner_faces_come_from_the_back(rt: HostRuntime) -> Result<(), Fail> {
-    let dcel = cut_triangle(rt.alloc())?;
+    let dcel = grown(rt.alloc(), CUT)?;
     let taken = [(3, Some(3)), (2, Some(2)), (1, Some(1)), (0, None)];
     same(
         inner_faces_from_the_back(&dcel),
@@ -207,11 +220,15 @@ fn check_places(dcel: &Mesh, index: u32) -> Result<(), Fail> {
     Ok(())
 }
 
+fn check_both_ways(dcel: &Mesh, index: u32) -> Result<(), Fail> {
+    same(degrees(dcel, index)?, [3, 3], "half edges out of a vertex")?;
+    check_places(dcel, index)
+}
+
 #[test]
 fn test_cw_iterator(rt: HostRuntime) -> Result<(), Fail> {
-    let dcel = cut_triangle(rt.alloc())?;
-    same(degrees(&dcel, 0)?, [3, 3], "half edges out of vertex 0")?;
-    check_places(&dcel, 0)
+    let dcel = grown(rt.alloc(), CUT)?;
+    check_both_ways(&dcel, 0)
 }
 
 /// The lengths of a mesh's iterators: its vertices, half edges, undirected edges, faces, inner
@@ -231,19 +248,23 @@ fn lengths(dcel: &Mesh) -> Lengths {
     ]
 }
 
-/// Meshes by the calls that they grow by, each with its lengths.
-const LENGTHS: [(&[Growth], Lengths); 4] = [
-    (&[], [0, 0, 0, 1, 0, 0, 0, 1]),
-    (&[Growth::Append(0)], [1, 0, 0, 1, 0, 0, 1, 1]),
-    (&FIRST_EDGE, [2, 2, 1, 1, 0, 2, 2, 1]),
-    (&CUT, [4, 12, 6, 4, 3, 3, 4, 4]),
+/// Meshes by their lines, each with its lengths.
+const LENGTHS: [(&str, Lengths); 4] = [
+    ("", [0, 0, 0, 1, 0, 0, 0, 1]),
+    ("append 0", [1, 0, 0, 1, 0, 0, 1, 1]),
+    (FIRST_EDGE, [2, 2, 1, 1, 0, 2, 2, 1]),
+    (CUT, [4, 12, 6, 4, 3, 3, 4, 4]),
 ];
+
+fn check_lengths(lines: &str, wanted: Lengths, alloc: Global) -> Result<(), Fail> {
+    let dcel = grown(alloc, lines)?;
+    same(lengths(&dcel), wanted, "lengths")
+}
 
 #[test]
 fn elements_are_counted(rt: HostRuntime) -> Result<(), Fail> {
-    for (growths, wanted) in &LENGTHS {
-        let found = lengths(&grown(rt.alloc(), growths)?);
-        same(&found, wanted, "lengths")?;
+    for (lines, wanted) in &LENGTHS {
+        check_lengths(lines, *wanted, rt.alloc())?;
     }
     Ok(())
 }
@@ -259,30 +280,26 @@ fn dual_lengths(dcel: &Mesh) -> [usize; 3] {
 
 #[test]
 fn duals_have_the_numbers_of_their_elements(rt: HostRuntime) -> Result<(), Fail> {
-    let dcel = cut_triangle(rt.alloc())?;
+    let dcel = grown(rt.alloc(), CUT)?;
     same(dual_lengths(&dcel), [4, 12, 6], "lengths of the diagram")
 }
 
-#[test]
-fn fixed_handles_are_listed_to_the_last_number(rt: HostRuntime) -> Result<(), Fail> {
-    let last = 4_294_967_295;
-    let mut edges = FixedDirectedEdgeIterator::new(4_294_967_296);
+/// Takes half edges from both ends of the longest list of fixed handles that there is.
+fn check_longest(edges: &mut FixedDirectedEdgeIterator) -> Result<(), Fail> {
     let hint = edges.size_hint();
     same(hint, (4_294_967_296, Some(4_294_967_296)), "the hint")?;
-    same(
-        edges.next_back().map(|edge| edge.index()),
-        Some(last),
-        "the last",
-    )?;
-    same(edges.next().map(|edge| edge.index()), Some(0), "the first")?;
-    same(edges.len(), last - 1, "those left")?;
-    holds(
-        FixedUndirectedEdgeIterator::new(0).next().is_none(),
-        "no edge",
-    )?;
-    same(
-        FixedInnerFaceIterator::new(2).rev().count(),
-        2,
-        "inner faces",
-    )
+    let last = edges.next_back().map(|edge| edge.index());
+    let first = edges.next().map(|edge| edge.index());
+    let wanted = [Some(4_294_967_295), Some(0)];
+    same([last, first], wanted, "the last and the first")?;
+    same(edges.len(), 4_294_967_294, "those left")
+}
+
+#[test]
+fn fixed_handles_are_listed_to_the_last_number() -> Result<(), Fail> {
+    check_longest(&mut FixedDirectedEdgeIterator::new(4_294_967_296))?;
+    let no_edge = FixedUndirectedEdgeIterator::new(0).next();
+    holds(no_edge.is_none(), "no edge")?;
+    let faces = FixedInnerFaceIterator::new(2).rev().count();
+    same(faces, 2, "inner faces")
 }

@@ -1,12 +1,14 @@
-//! Tests of memory: calls and lines of which each request is refused in turn, and those that make
-//! none.
+//! Tests of memory: what takes none, how seldom a mesh asks for it, and what is answered once a
+//! request was refused. `dcel_sweep` refuses each request of each call.
 #![tactic(auto)]
 
+#[cfg(test)]
+mod after;
 #[cfg(test)]
 mod memoryless;
 #[cfg(test)]
 mod requests;
 #[cfg(test)]
-mod sweep;
+mod runs;
 #[cfg(test)]
-mod watched;
+mod told;

@@ -1,22 +1,32 @@
 //! What takes no memory, where every request for it is refused.
 
-use crate::sweep::growing::{CLEANED, CUT, OPEN};
-use crate::sweep::standing::LINE;
-use crate::watched::made;
+use crate::runs::run;
 use dcel_bench::checks::same;
-use dcel_bench::data::{Datum, write_all};
-use dcel_bench::lists::Said;
-use dcel_bench::meshes::{Mesh, half_edge, inner_face, undirected_edge, vertex};
-use dcel_bench::openers::handles;
+use dcel_bench::data::{Datum, write_all, write_distinct};
+use dcel_bench::lines::grown;
+use dcel_bench::meshes::{Mesh, half_edge, handles, inner_face, undirected_edge, vertex};
 use dcel_bench::refusing::{Refusals, Refusing, Watched};
 use dcel_bench::require;
 use dcel_bench::snapshots::snapshot_of;
-use dcel_bench::talks::{Talk, push_talk, run_lines};
+use dcel_bench::talks::{Talk, push_talk};
 use spade_dcel::handles::{FixedDirectedEdgeHandle, FixedVertexHandle};
 use spade_dcel::iterators::HullIterator;
 use spade_dcel::operations::{IsolateVertexResult, Room};
 use std::alloc::{AllocError, Allocator, Global};
 use std::test::Fail;
+
+/// A triangle that vertex 3 cuts into three, and vertex 4 beside it.
+const CUT: &str = "triangle 7 -8 9\nappend 10\ninsert 3 1\nappend 11";
+
+/// Empty; cut; with vertex 3 given up while a removal is open, and once it is cleaned up; the line
+/// 2, 0, 1.
+const MESHES: [&str; 5] = [
+    "",
+    CUT,
+    "triangle 7 -8 9\nappend 10\ninsert 3 1\nappend 11\nisolate 3 1 3 5",
+    "triangle 7 -8 9\nappend 10\ninsert 3 1\nappend 11\nisolate 3 1 3 5\ncleanup 3 4 5 / 1 2 3",
+    "append 7\nappend -8\nsetup 0 1\nappend 9\nextend 0 2",
+];
 
 /// Data that are written.
 const WRITTEN: [(Datum, i64); 6] = [
@@ -27,8 +37,6 @@ const WRITTEN: [(Datum, i64); 6] = [
     (Datum::Face(0), 400),
     (Datum::InnerFace(3), 403),
 ];
-
-const MESHES: [&[Said]; 5] = [&[], &CUT, &OPEN, &CLEANED, &LINE];
 
 /// Adds the half edges out of a vertex, from the front and from the back.
 fn push_out_edges<A: Allocator>(
@@ -214,69 +222,77 @@ fn joined<A: Allocator>(dcel: &Mesh<A>, from: u32, to: u32) -> Result<Option<usi
     )
 }
 
-/// Checks that a mesh is read, walked and tested as one that has memory.
-fn check_read(dcel: &Watched, wanted: &Mesh, lists: &Lists, alloc: Global) -> Result<(), Fail> {
+/// Checks that the elements with a number are tested and joined as in a mesh that has memory.
+fn check_tested(dcel: &Watched, wanted: &Mesh, index: u32) -> Result<(), Fail> {
+    let found = (tested_at(dcel, index), tested_for_calls(dcel, index));
+    let wanted_tests = (tested_at(wanted, index), tested_for_calls(wanted, index));
+    same(found, wanted_tests, "what is tested")?;
     same(
-        snapshot_of(dcel, alloc)?,
-        snapshot_of(wanted, alloc)?,
-        "what is read",
-    )?;
-    same(
-        walked(dcel, alloc)?,
-        walked(wanted, alloc)?,
-        "what is walked",
-    )?;
-    same(listed(dcel), listed(wanted), "what is listed")?;
-    for index in 0..13 {
-        same(
-            tested_at(dcel, index),
-            tested_at(wanted, index),
-            "what is tested",
-        )?;
-        same(
-            tested_for_calls(dcel, index),
-            tested_for_calls(wanted, index),
-            "what is tested for calls",
-        )?;
-        same(
-            joined(dcel, index, 0)?,
-            joined(wanted, index, 0)?,
-            "who is joined",
-        )?;
-    }
-    same(
-        tested_whole(dcel, lists),
-        tested_whole(wanted, lists),
-        "what is tested of all",
+        joined(dcel, index, 0)?,
+        joined(wanted, index, 0)?,
+        "who is joined",
     )
 }
 
-/// Checks that a mesh is read, walked and tested with every request refused.
-fn check_mesh(commands: &[Said], alloc: Global) -> Result<(), Fail> {
+/// Checks that a mesh is read and walked as one that has memory.
+fn check_walked(dcel: &Watched, wanted: &Mesh, alloc: Global) -> Result<(), Fail> {
+    let found = snapshot_of(dcel, alloc)?;
+    same(found, snapshot_of(wanted, alloc)?, "what is read")?;
+    let found = walked(dcel, alloc)?;
+    same(found, walked(wanted, alloc)?, "what is walked")
+}
+
+/// Checks that a mesh is read, walked and tested as one that has memory.
+fn check_read(dcel: &Watched, wanted: &Mesh, lists: &Lists, alloc: Global) -> Result<(), Fail> {
+    check_walked(dcel, wanted, alloc)?;
+    for index in 0..13 {
+        check_tested(dcel, wanted, index)?;
+    }
+    let found = (listed(dcel), tested_whole(dcel, lists));
+    let wanted = (listed(wanted), tested_whole(wanted, lists));
+    same(found, wanted, "what is listed and tested of all")
+}
+
+/// Makes a mesh whose elements have data of their own.
+fn made<A: Allocator + Copy>(memory: A, lines: &str) -> Result<Mesh<A>, Fail> {
+    let mut dcel = grown(memory, lines)?;
+    write_distinct(&mut dcel)?;
+    Ok(dcel)
+}
+
+/// Checks that a mesh is read, walked and tested with every request refused, as this one is.
+fn check_watched(lines: &str, wanted: &Mesh, lists: &Lists, alloc: Global) -> Result<(), Fail> {
     let memory = Refusing::new(alloc);
-    let dcel = made(&memory, commands)?;
-    let wanted = made(alloc, commands)?;
-    let lists = make_lists(alloc)?;
+    let dcel = made(&memory, lines)?;
     memory.refuse(Refusals::From(0));
-    check_read(&dcel, &wanted, &lists, alloc)?;
+    check_read(&dcel, wanted, lists, alloc)?;
     same(memory.requests(), 0, "requests")
+}
+
+fn check_mesh(lines: &str, alloc: Global) -> Result<(), Fail> {
+    let wanted = made(alloc, lines)?;
+    check_watched(lines, &wanted, &make_lists(alloc)?, alloc)
 }
 
 #[test]
 fn reads_walks_and_tests_take_no_memory(rt: HostRuntime) -> Result<(), Fail> {
-    for commands in &MESHES {
-        check_mesh(*commands, rt.alloc())?;
+    for lines in &MESHES {
+        check_mesh(*lines, rt.alloc())?;
     }
     Ok(())
 }
 
-#[test]
-fn data_are_written_without_memory(rt: HostRuntime) -> Result<(), Fail> {
-    let memory = Refusing::new(rt.alloc());
-    let mut dcel = made(&memory, &CUT)?;
+fn check_written(alloc: Global) -> Result<(), Fail> {
+    let memory = Refusing::new(alloc);
+    let mut dcel = made(&memory, CUT)?;
     memory.refuse(Refusals::From(0));
     write_all(&mut dcel, &WRITTEN)?;
     same(memory.requests(), 0, "requests")
+}
+
+#[test]
+fn data_are_written_without_memory(rt: HostRuntime) -> Result<(), Fail> {
+    check_written(rt.alloc())
 }
 
 /// Lines that have memory, and lines after them where there is none any more.
@@ -337,29 +353,34 @@ const LINES: [Row; 2] = [
     ),
 ];
 
+/// The lines of a talk, and the replies to them.
+type Texts = (Vec<u8>, Vec<u8>);
+
+fn texts(talks: &[Talk], alloc: Global) -> Result<Texts, AllocError> {
+    let (mut lines, mut replies) = (Vec::new(alloc), Vec::new(alloc));
+    for talk in talks {
+        push_talk(&mut lines, &mut replies, *talk)?;
+    }
+    Ok((lines, replies))
+}
+
 /// Returns how many requests the lines of a talk make, with the one for the first mesh.
 fn requests_of(talk: Talk, alloc: Global) -> Result<u64, Fail> {
-    let memory = Refusing::new(alloc);
-    let (mut lines, mut replies) = (Vec::new(alloc), Vec::new(alloc));
-    push_talk(&mut lines, &mut replies, talk)?;
-    run_lines(&memory, &lines, alloc).ended?;
-    Ok(memory.requests())
+    let (lines, _) = texts(&[talk], alloc)?;
+    let (_, requests) = run(&lines, Refusals::None, alloc)?;
+    Ok(requests)
+}
+
+/// Checks the replies to a talk whose requests are refused from this number on.
+fn check_talk((lines, replies): &Texts, number: u64, alloc: Global) -> Result<(), Fail> {
+    let (written, _) = run(lines, Refusals::From(number), alloc)?;
+    let written = String::from_utf8_lossy(alloc, &written)?;
+    same(written, String::from_utf8_lossy(alloc, replies)?, "replies")
 }
 
 fn check_lines((begun, talk): Row, alloc: Global) -> Result<(), Fail> {
-    let memory = Refusing::new(alloc);
-    memory.refuse(Refusals::From(requests_of(begun, alloc)?));
-    let (mut lines, mut replies) = (Vec::new(alloc), Vec::new(alloc));
-    push_talk(&mut lines, &mut replies, begun)?;
-    push_talk(&mut lines, &mut replies, talk)?;
-    let ran = run_lines(&memory, &lines, alloc);
-    ran.ended?;
-    let written = String::from_utf8_lossy(alloc, &ran.written)?;
-    same(
-        written,
-        String::from_utf8_lossy(alloc, &replies)?,
-        "replies",
-    )
+    let requests = requests_of(begun, alloc)?;
+    check_talk(&texts(&[begun, talk], alloc)?, requests, alloc)
 }
 
 #[test]

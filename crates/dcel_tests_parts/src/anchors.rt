@@ -1,9 +1,9 @@
 //! Anchors that are given as lists, and the words for what is wrong with them.
 
+use dcel_bench::checks::same;
 use dcel_links::find_wrong_anchor;
-use spade_dcel::operations::{Fault, LinksError};
+use spade_dcel::operations::{Fault, LinksError, RefusedLinks};
 use std::alloc::Global;
-use std::process::Abort;
 use std::test::Fail;
 
 /// Anchors, and the number of the wrong one, if one is.
@@ -49,28 +49,23 @@ const ROWS: [Row; 7] = [
 ];
 
 #[test]
-fn wrong_anchors_are_found(rt: HostRuntime) -> Result<(), Fail> {
+fn wrong_anchors_are_found() -> Result<(), Fail> {
     for row in &ROWS {
-        assert!(rt; find_wrong_anchor(ORIGINS, row.anchors) == row.wanted);
+        let found = find_wrong_anchor(ORIGINS, row.anchors);
+        same(found, row.wanted, "a wrong anchor")?;
     }
     Ok(())
 }
 
 /// Checks that a reason is told in these words.
-fn check_text(
-    rt: &impl Abort,
-    alloc: Global,
-    reason: LinksError,
-    wanted: &str,
-) -> Result<(), Fail> {
+fn check_text(reason: LinksError, wanted: &str, alloc: Global) -> Result<(), Fail> {
     let text = format!(in alloc; "{reason}")?;
-    assert!(rt; text.as_str() == wanted);
-    Ok(())
+    same(text.as_str(), wanted, "the text of a reason")
 }
 
 #[test]
 fn reasons_of_links_are_told(rt: HostRuntime) -> Result<(), Fail> {
-    let table = [
+    for (reason, wanted) in &[
         (
             LinksError::Edges,
             "the lists and the data differ in the number of edges",
@@ -89,12 +84,29 @@ fn reasons_of_links_are_told(rt: HostRuntime) -> Result<(), Fail> {
         ),
         (
             LinksError::FaceAnchor(0),
-            "face 0 is not anchored at a half edge that lies there",
+            "the outer face is not anchored at a half edge that lies there",
+        ),
+        (
+            LinksError::FaceAnchor(1),
+            "face 1 is not anchored at a half edge that lies there",
         ),
         (LinksError::OutOfMemory, "out of memory"),
-    ];
-    for (reason, wanted) in &table {
-        check_text(&rt, rt.alloc(), *reason, wanted)?;
+    ] {
+        check_text(*reason, wanted, rt.alloc())?;
     }
+    Ok(())
+}
+
+#[test]
+fn refused_links_tell_the_reason(rt: HostRuntime) -> Result<(), Fail> {
+    let refused = RefusedLinks {
+        reason: LinksError::Links(Fault::UnusedFace(0)),
+        back: (),
+    };
+    let text = format!(in rt.alloc(); "{refused}, {refused:?}")?;
+    assert_eq!(rt;
+        text.as_str(),
+        "no mesh has these links: no half edge lies on the outer face, RefusedLinks { reason: Links(UnusedFace(0)), .. }"
+    );
     Ok(())
 }

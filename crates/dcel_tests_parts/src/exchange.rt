@@ -1,119 +1,138 @@
 //! Faces of surfaces that everybody knows, and what is wrong with them.
 
-use crate::faces::{Row, check_lists, check_made, data_for, faces_of, vertices_of};
+use crate::faces::{Data, Row, check_lists, check_made, data_for, faces_of, mesh_of, vertices_of};
 use dcel_bench::checks::same;
 use dcel_bench::require;
-use dcel_exchange::{FacesError, LinkLists, from_faces, link_lists, links, with_data};
+use dcel_exchange::{
+    FacesError, LinkLists, RefusedFaces, from_faces, link_lists, links, with_data,
+};
 use spade_dcel::dcel::{Dcel, RemovalState};
 use spade_dcel::operations::Fault;
 use std::alloc::Global;
 use std::test::Fail;
 
+/// Checks what comes of the faces of a row, which are given as vectors.
+fn check_faces(row: &Row, faces: &[Vec<u32>], alloc: Global) -> Result<(), Fail> {
+    let vertices = vertices_of(row, alloc)?;
+    check_made(from_faces(alloc, vertices, faces), row, alloc)
+}
+
+fn check_row(row: &Row, alloc: Global) -> Result<(), Fail> {
+    let faces = faces_of(row, alloc)?;
+    check_faces(row, &faces, alloc)
+}
+
 /// Checks what comes of the faces of each row.
 fn check(alloc: Global, rows: &[Row]) -> Result<(), Fail> {
     for row in rows {
-        let faces = faces_of(row, alloc)?;
-        let vertices = vertices_of(row, alloc)?;
-        check_made(from_faces(alloc, vertices, &faces), row, alloc)?;
+        check_row(row, alloc)?;
     }
     Ok(())
 }
 
-/// Returns a row of faces that are refused.
-fn refused(faces: &'static [&'static [u32]], vertices: u32, reason: FacesError) -> Row {
-    Row {
-        faces,
-        vertices,
-        wanted: Err(reason),
-    }
-}
+const TWO_TRIANGLES: Row = Row {
+    faces: &[&[0, 1, 2], &[2, 1, 3]],
+    vertices: 4,
+    wanted: Ok(&[2, 5, 4, 6, 0, 9, 8, 1, 3, 7]),
+};
 
-#[test]
-fn faces_become_meshes(rt: HostRuntime) -> Result<(), Fail> {
-    let triangle = Row {
+const MADE: [Row; 6] = [
+    Row {
         faces: &[&[0, 1, 2]],
         vertices: 3,
         wanted: Ok(&[2, 5, 4, 1, 0, 3]),
-    };
-    let with_bare_vertex = Row {
+    },
+    // With a vertex in no face.
+    Row {
+        faces: &[&[0, 1, 2]],
         vertices: 4,
-        ..triangle
-    };
-    let two_triangles = Row {
-        faces: &[&[0, 1, 2], &[2, 1, 3]],
-        vertices: 4,
-        wanted: Ok(&[2, 5, 4, 6, 0, 9, 8, 1, 3, 7]),
-    };
-    let tetrahedron = Row {
+        wanted: Ok(&[2, 5, 4, 1, 0, 3]),
+    },
+    TWO_TRIANGLES,
+    // A tetrahedron.
+    Row {
         faces: &[&[0, 1, 3], &[1, 2, 3], &[2, 0, 3]],
         vertices: 4,
         wanted: Ok(&[2, 11, 4, 6, 0, 9, 8, 1, 3, 10, 5, 7]),
-    };
-    let square = Row {
+    },
+    // A square.
+    Row {
         faces: &[&[0, 1, 2, 3]],
         vertices: 4,
         wanted: Ok(&[2, 7, 4, 1, 6, 3, 0, 5]),
-    };
-    let nothing = Row {
+    },
+    Row {
         faces: &[],
         vertices: 2,
         wanted: Ok(&[]),
-    };
-    check(
-        rt.alloc(),
-        &[
-            triangle,
-            with_bare_vertex,
-            two_triangles,
-            tetrahedron,
-            square,
-            nothing,
-        ],
-    )
+    },
+];
+
+#[test]
+fn faces_become_meshes(rt: HostRuntime) -> Result<(), Fail> {
+    check(rt.alloc(), &MADE)
 }
+
+/// Faces over this many vertices, and why they are refused.
+type Refused = (&'static [&'static [u32]], u32, FacesError);
+
+/// Checks that the faces of each row are refused.
+fn check_refused(alloc: Global, rows: &[Refused]) -> Result<(), Fail> {
+    for (faces, vertices, reason) in rows {
+        let row = Row {
+            faces,
+            vertices: *vertices,
+            wanted: Err(*reason),
+        };
+        check_row(&row, alloc)?;
+    }
+    Ok(())
+}
+
+const MISFITS: [Refused; 5] = [
+    (&[&[0, 1, 2], &[2, 1]], 3, FacesError::FewCorners(1)),
+    (&[&[0, 1, 3]], 3, FacesError::NoVertex(0, 3)),
+    (&[&[0, 1, 1, 2]], 3, FacesError::OneEnd(0, 1)),
+    (
+        &[&[0, 1, 2], &[1, 0, 3], &[0, 1, 4]],
+        5,
+        FacesError::SideTwice(0, 2, 0, 1),
+    ),
+    (&[&[0, 1, 2], &[0, 3, 4]], 5, FacesError::BorderTwice(0)),
+];
 
 #[test]
 fn faces_that_do_not_fit_are_told(rt: HostRuntime) -> Result<(), Fail> {
-    check(
-        rt.alloc(),
-        &[
-            refused(&[&[0, 1, 2], &[2, 1]], 3, FacesError::FewCorners(1)),
-            refused(&[&[0, 1, 3]], 3, FacesError::NoVertex(0, 3)),
-            refused(&[&[0, 1, 1, 2]], 3, FacesError::OneEnd(0, 1)),
-            refused(
-                &[&[0, 1, 2], &[1, 0, 3], &[0, 1, 4]],
-                5,
-                FacesError::SideTwice(0, 2, 0, 1),
-            ),
-            refused(&[&[0, 1, 2], &[0, 3, 4]], 5, FacesError::BorderTwice(0)),
-        ],
-    )
+    check_refused(rt.alloc(), &MISFITS)
 }
 
-#[test]
-fn other_surfaces_are_told(rt: HostRuntime) -> Result<(), Fail> {
-    let sphere = refused(
+const SURFACES: [Refused; 6] = [
+    // A sphere.
+    (
         &[&[0, 1, 2], &[0, 2, 1]],
         3,
         FacesError::Links(Fault::UnusedFace(0)),
-    );
-    let two_components = refused(
+    ),
+    // Two components.
+    (
         &[&[0, 1, 2], &[3, 4, 5]],
         6,
         FacesError::Links(Fault::FaceInParts(0)),
-    );
-    // Three quadrangles round, the last of which is turned over.
-    let moebius = refused(
+    ),
+    // Moebius's strip: three quadrangles round, the last of which is turned over.
+    (
         &[&[0, 1, 4, 3], &[1, 2, 5, 4], &[2, 3, 0, 5]],
         6,
         FacesError::SideTwice(0, 2, 3, 0),
-    );
-    let annulus = refused(
+    ),
+    // An annulus.
+    (
         &[&[0, 1, 4, 3], &[1, 2, 5, 4], &[2, 0, 3, 5]],
         6,
         FacesError::Links(Fault::FaceInParts(0)),
-    );
-    let two_at_one_vertex = refused(
+    ),
+    // Two surfaces at one vertex.
+    (
         &[
             &[0, 1, 2],
             &[1, 0, 3],
@@ -125,9 +144,10 @@ fn other_surfaces_are_told(rt: HostRuntime) -> Result<(), Fail> {
         ],
         7,
         FacesError::Links(Fault::VertexInParts(0)),
-    );
-    // Seven vertices, of which each two are neighbors; one of the fourteen triangles is left out.
-    let torus = refused(
+    ),
+    // A torus: seven vertices, of which each two are neighbors. One of the fourteen triangles is
+    // left out.
+    (
         &[
             &[0, 1, 3],
             &[1, 2, 4],
@@ -145,18 +165,12 @@ fn other_surfaces_are_told(rt: HostRuntime) -> Result<(), Fail> {
         ],
         7,
         FacesError::Links(Fault::NotSphere(1)),
-    );
-    check(
-        rt.alloc(),
-        &[
-            sphere,
-            two_components,
-            moebius,
-            annulus,
-            two_at_one_vertex,
-            torus,
-        ],
-    )
+    ),
+];
+
+#[test]
+fn other_surfaces_are_told(rt: HostRuntime) -> Result<(), Fail> {
+    check_refused(rt.alloc(), &SURFACES)
 }
 
 /// Checks that the links, one after another, are those of the lists.
@@ -176,47 +190,88 @@ fn check_links(dcel: &Dcel<u32>, lists: &LinkLists) -> Result<(), Fail> {
     same(number, lists.next.len(), "half edges")
 }
 
-/// Checks that the mesh made again over other data has the same links and anchors.
-fn check_made_again(dcel: &Dcel<u32>, lists: &LinkLists, alloc: Global) -> Result<(), Fail> {
-    let given = data_for(dcel, alloc)?;
-    require!(dcel.removal_state() == RemovalState::Closed);
-    require!(given.vertices.len() == dcel.num_vertices());
-    require!(given.edges.len() == dcel.num_undirected_edges());
-    require!(given.faces.len() == dcel.num_faces());
+/// Checks that the mesh made again over these data has the same links and anchors.
+fn check_made_of(
+    dcel: &Dcel<u32>,
+    given: Data<Global>,
+    lists: &LinkLists,
+    alloc: Global,
+) -> Result<(), Fail> {
+    require!(
+        dcel.removal_state() == RemovalState::Closed
+            && given.vertices.len() == dcel.num_vertices()
+            && given.edges.len() == dcel.num_undirected_edges()
+            && given.faces.len() == dcel.num_faces()
+    );
     match with_data(alloc, dcel, given) {
         Ok(again) => check_lists(&again, lists, alloc),
         Err(_) => Err(Fail::new("the data for a mesh are refused")),
     }
 }
 
+/// Checks the links of the mesh one after another, and those of the mesh made again.
+fn check_again(dcel: &Dcel<u32>, lists: &LinkLists, alloc: Global) -> Result<(), Fail> {
+    check_links(dcel, lists)?;
+    check_made_of(dcel, data_for(dcel, alloc)?, lists, alloc)
+}
+
+fn check_mesh(dcel: &Dcel<u32>, alloc: Global) -> Result<(), Fail> {
+    require!(dcel.removal_state() == RemovalState::Closed);
+    let lists = link_lists(alloc, dcel)?;
+    check_again(dcel, &lists, alloc)
+}
+
 #[test]
 fn meshes_come_back(rt: HostRuntime) -> Result<(), Fail> {
-    let alloc = rt.alloc();
-    let mut faces = Vec::new(alloc);
-    faces.push(vec![in alloc; 0, 1, 2]?)?;
-    faces.push(vec![in alloc; 2, 1, 3]?)?;
-    let Ok(dcel) = from_faces(alloc, vec![in alloc; 10, 11, 12, 13]?, &faces) else {
-        return Err(Fail::new("two triangles are refused"));
-    };
-    require!(dcel.removal_state() == RemovalState::Closed);
-    let lists = link_lists(alloc, &dcel)?;
-    check_links(&dcel, &lists)?;
-    check_made_again(&dcel, &lists, alloc)
+    let dcel = mesh_of(&TWO_TRIANGLES, rt.alloc())?;
+    check_mesh(&dcel, rt.alloc())
+}
+
+/// Checks that a reason is told in these words, alone and with what is given back.
+fn check_text(reason: FacesError, wanted: &str, alloc: Global) -> Result<(), Fail> {
+    let text = format!(in alloc; "{reason}")?;
+    same(text.as_str(), wanted, "the text of a reason")?;
+    let refused = RefusedFaces { reason, back: () };
+    let text = format!(in alloc; "{refused}")?;
+    same(text.as_str(), wanted, "the text of refused faces")
 }
 
 #[test]
 fn reasons_are_told(rt: HostRuntime) -> Result<(), Fail> {
-    let reason = FacesError::SideTwice(0, 2, 4, 7);
-    let text = format!(in rt.alloc(); "{reason}")?;
-    assert_eq!(rt;
-        text.as_str(),
-        "faces 0 and 2 both have the side from 4 to 7"
-    );
-    let reason = FacesError::Links(Fault::NotSphere(2));
-    let text = format!(in rt.alloc(); "{reason}")?;
-    assert_eq!(rt;
-        text.as_str(),
-        "no mesh has these faces: the surface has genus 2, so it is not a sphere"
-    );
+    let table = [
+        (
+            FacesError::SideTwice(0, 2, 4, 7),
+            "faces 0 and 2 of the list both have the side from 4 to 7",
+        ),
+        (
+            FacesError::Links(Fault::NotSphere(2)),
+            "no mesh has these faces: the surface has genus 2, so it is not a sphere",
+        ),
+        (
+            FacesError::Links(Fault::UnusedFace(0)),
+            "no side is left for the outer face",
+        ),
+        (
+            FacesError::Links(Fault::FaceInParts(0)),
+            "the faces leave more than one border",
+        ),
+    ];
+    for (reason, wanted) in &table {
+        check_text(*reason, wanted, rt.alloc())?;
+    }
     Ok(())
+}
+
+#[test]
+fn refused_faces_show_the_reason(rt: HostRuntime) -> Result<(), Fail> {
+    let refused = RefusedFaces {
+        reason: FacesError::TooManyCorners,
+        back: (),
+    };
+    let text = format!(in rt.alloc(); "{refused:?}")?;
+    same(
+        text.as_str(),
+        "RefusedFaces { reason: TooManyCorners, .. }",
+        "what Debug shows of refused faces",
+    )
 }

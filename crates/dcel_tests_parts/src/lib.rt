@@ -1,15 +1,9 @@
-//! Tests of the crates below and beside `spade_dcel`: fixed handles, the store, links and anchors
-//! that are given, predicates, circles, meshes in and out, and Delaunay triangulations.
+//! Tests of crates below and beside `spade_dcel`: fixed handles, links and anchors that are given,
+//! and meshes in and out.
 #![tactic(auto)]
 
 #[cfg(test)]
 mod anchors;
-#[cfg(test)]
-mod circles;
-#[cfg(test)]
-mod delaunay;
-#[cfg(test)]
-mod delaunay_memory;
 #[cfg(test)]
 mod exchange;
 #[cfg(test)]
@@ -20,7 +14,3 @@ mod handles;
 mod links;
 #[cfg(test)]
 mod memory;
-#[cfg(test)]
-mod predicates;
-#[cfg(test)]
-mod store;

@@ -1,8 +1,8 @@
 //! Links that are given as lists: small meshes, and what is wrong with lists that are none.
 
+use dcel_bench::checks::same;
 use dcel_links::{Fault, check_links};
 use std::alloc::Global;
-use std::process::Abort;
 use std::test::Fail;
 
 /// A claim, and the list backwards or the fault that is wanted.
@@ -24,21 +24,24 @@ const SIDES: &[u32] = &[0, 1, 0, 1, 0, 1];
 
 const TWO_TRIANGLES: &[u32] = &[2, 5, 4, 1, 0, 3, 8, 11, 10, 7, 6, 9];
 
-fn check(rt: &impl Abort, alloc: Global, rows: &[Row]) -> Result<(), Fail> {
+fn check_row(row: &Row, alloc: Global) -> Result<(), Fail> {
+    let found = check_links(
+        &alloc,
+        row.next,
+        row.origin,
+        row.face,
+        row.vertices,
+        row.faces,
+    )?;
+    match found {
+        Ok(prev) => same(Ok(prev.as_slice()), row.wanted, "links"),
+        Err(fault) => same(Err(fault), row.wanted, "links"),
+    }
+}
+
+fn check(alloc: Global, rows: &[Row]) -> Result<(), Fail> {
     for row in rows {
-        let found = check_links(
-            &alloc,
-            row.next,
-            row.origin,
-            row.face,
-            row.vertices,
-            row.faces,
-        )?;
-        match (found, row.wanted) {
-            (Ok(prev), Ok(list)) => assert!(rt; prev.as_slice() == list),
-            (Err(fault), Err(wanted)) => assert!(rt; fault == wanted),
-            _ => assert!(rt; false),
-        }
+        check_row(row, alloc)?;
     }
     Ok(())
 }
@@ -87,7 +90,7 @@ fn meshes_are_told(rt: HostRuntime) -> Result<(), Fail> {
         wanted: Ok(&[4, 3, 0, 5, 2, 1]),
     };
     let alone = triangle(TRIANGLE, CORNERS, SIDES, Ok(&[4, 3, 0, 5, 2, 1]));
-    check(&rt, rt.alloc(), &[edge, bare_vertices, bare_vertex, alone])
+    check(rt.alloc(), &[edge, bare_vertices, bare_vertex, alone])
 }
 
 #[test]
@@ -125,7 +128,6 @@ fn links_that_do_not_fit_are_told(rt: HostRuntime) -> Result<(), Fail> {
         Err(Fault::LeavesFace(2)),
     );
     check(
-        &rt,
         rt.alloc(),
         &[two_lead, no_next, no_origin, no_face, loops, apart, leaves],
     )
@@ -151,7 +153,6 @@ fn numbers_that_do_not_fit_are_told(rt: HostRuntime) -> Result<(), Fail> {
     };
     let short = triangle(TRIANGLE, &[0, 1, 1, 2], SIDES, Err(Fault::Lengths));
     check(
-        &rt,
         rt.alloc(),
         &[
             odd,
@@ -191,7 +192,6 @@ fn surfaces_are_told(rt: HostRuntime) -> Result<(), Fail> {
         wanted: Err(Fault::UnusedFace(2)),
     };
     check(
-        &rt,
         rt.alloc(),
         &[
             torus,
@@ -224,6 +224,6 @@ fn surfaces_are_told(rt: HostRuntime) -> Result<(), Fail> {
 #[test]
 fn faults_are_sentences(rt: HostRuntime) -> Result<(), Fail> {
     let text = format!(in rt.alloc(); "{}", Fault::TwoLeadTo(7))?;
-    assert_eq!(rt; text.as_str(), "two half edges lead to half edge 7");
-    Ok(())
+    let wanted = "two half edges lead to half edge 7";
+    same(text.as_str(), wanted, "the text of a fault")
 }

@@ -1,12 +1,13 @@
 //! Meshes in and out, with each request for memory refused in turn.
 
 use crate::faces::{
-    Data, Outcome, Row, check_lists, check_made, check_vertices, data_for, faces_of, vertices_of,
+    Data, Outcome, Row, check_lists, check_made, check_refused, data_for, faces_of, mesh_of,
+    vertices_of,
 };
 use dcel_bench::checks::{holds, same};
 use dcel_bench::refusing::{Memory, Refusals, Refusing};
 use dcel_bench::require;
-use dcel_exchange::{FacesError, face_lists, from_faces, link_lists, with_data};
+use dcel_exchange::{FacesError, RefusedFaces, face_lists, from_faces, link_lists, with_data};
 use spade_dcel::dcel::{Dcel, RemovalState};
 use std::alloc::Global;
 use std::test::Fail;
@@ -38,37 +39,73 @@ fn make<'a>(
     from_faces(memory, vertices, faces)
 }
 
-/// Makes the mesh of a row with the request of this number refused, and again of the vertices that
-/// come back if that request came. Returns whether it came.
-fn is_refused(row: &Row, faces: &[Vec<u32>], number: u64, alloc: Global) -> Result<bool, Fail> {
-    let memory = Refusing::new(alloc);
-    let vertices = vertices_of(row, &memory)?;
-    let outcome = make(&memory, faces, vertices, Refusals::One(number));
-    if memory.requests() <= number {
-        check_made(outcome, row, alloc)?;
-        return Ok(false);
-    }
+/// Makes the mesh of a row of the vertices that came back, once it is checked that they did.
+fn make_of_those_back<'a>(
+    refused: RefusedFaces<Vec<u32, Memory<'a>>>,
+    row: &Row,
+    faces: &[Vec<u32>],
+    memory: Memory<'a>,
+    alloc: Global,
+) -> Result<(), Fail> {
+    check_refused(&refused, Err(FacesError::OutOfMemory), row.vertices)?;
+    let again = make(memory, faces, refused.back, Refusals::None);
+    check_made(again, row, alloc)
+}
+
+/// Makes the mesh of a row again, after a request for it was refused.
+fn make_again<'a>(
+    outcome: Outcome<Memory<'a>>,
+    row: &Row,
+    faces: &[Vec<u32>],
+    memory: Memory<'a>,
+    alloc: Global,
+) -> Result<(), Fail> {
     match outcome {
         Ok(_) => Err(Fail::new("a mesh is made though a request was refused")),
-        Err(refused) => {
-            same(refused.reason, FacesError::OutOfMemory, "the reason")?;
-            check_vertices(&refused.back, row.vertices)?;
-            let again = make(&memory, faces, refused.back, Refusals::None);
-            check_made(again, row, alloc)?;
-            Ok(true)
+        Err(refused) => make_of_those_back(refused, row, faces, memory, alloc),
+    }
+}
+
+/// Makes the mesh of a row with the request of this number refused, and again of the vertices that
+/// come back if that request came. Returns whether it came.
+fn make_refused<'a>(
+    row: &Row,
+    faces: &[Vec<u32>],
+    memory: Memory<'a>,
+    number: u64,
+    alloc: Global,
+) -> Result<bool, Fail> {
+    let vertices = vertices_of(row, memory)?;
+    let outcome = make(memory, faces, vertices, Refusals::One(number));
+    let came = memory.requests() > number;
+    if came {
+        make_again(outcome, row, faces, memory, alloc)?;
+    } else {
+        check_made(outcome, row, alloc)?;
+    }
+    Ok(came)
+}
+
+/// Refuses the request of this number in memory of its own. Returns whether it came.
+fn is_refused(row: &Row, faces: &[Vec<u32>], number: u64, alloc: Global) -> Result<bool, Fail> {
+    let memory = Refusing::new(alloc);
+    make_refused(row, faces, &memory, number, alloc)
+}
+
+/// Refuses each request for a mesh of these faces in turn.
+fn refuse_each(row: &Row, faces: &[Vec<u32>], alloc: Global) -> Result<(), Fail> {
+    for number in 0..MANY {
+        if !is_refused(row, faces, number, alloc)? {
+            return holds(number > 0, "faces ask for memory");
         }
     }
+    Err(Fail::new("more requests than MANY"))
 }
 
 /// Refuses each request for the mesh of a row in turn.
 fn sweep(row: &Row, alloc: Global) -> Result<(), Fail> {
     let faces = faces_of(row, alloc)?;
-    for number in 0..MANY {
-        if !is_refused(row, &faces, number, alloc)? {
-            return holds(number > 0, "faces ask for memory");
-        }
-    }
-    Err(Fail::new("more requests than MANY"))
+    refuse_each(row, &faces, alloc)
 }
 
 #[test]
@@ -91,44 +128,74 @@ use Call::{FaceLists, LinkLists, WithData};
 
 const CALLS: [Call; 3] = [LinkLists, FaceLists, WithData];
 
-/// Makes the mesh again over these data. Returns whether there was memory.
-///
-/// If there was none, the data come back.
-fn is_made_again<'a>(
-    dcel: &Dcel<u32>,
-    memory: Memory<'a>,
-    given: Data<Memory<'a>>,
-    alloc: Global,
-) -> Result<bool, Fail> {
-    require!(dcel.removal_state() == RemovalState::Closed);
-    require!(given.vertices.len() == dcel.num_vertices());
-    require!(given.edges.len() == dcel.num_undirected_edges());
-    require!(given.faces.len() == dcel.num_faces());
-    match with_data(memory, dcel, given) {
-        Ok(made) => {
-            check_lists(&made, &link_lists(alloc, dcel)?, alloc)?;
-            Ok(true)
-        }
-        Err(refused) => {
-            check_data(&refused.back, dcel, alloc)?;
-            Ok(false)
-        }
+/// Checks that edges have the same data.
+fn check_edges(data: &Data<Memory>, wanted: &Data<Global>) -> Result<(), Fail> {
+    same(data.edges.len(), wanted.edges.len(), "data of edges")?;
+    for (found, wanted) in data.edges.iter().zip(&wanted.edges) {
+        same(found.undirected, wanted.undirected, "the datum of an edge")?;
     }
+    Ok(())
 }
 
-/// Checks that these are the data that are made for a mesh.
-fn check_data(data: &Data<Memory>, dcel: &Dcel<u32>, alloc: Global) -> Result<(), Fail> {
-    let wanted = data_for(dcel, alloc)?;
+fn check_data(data: &Data<Memory>, wanted: &Data<Global>) -> Result<(), Fail> {
     same(
         data.vertices.as_slice(),
         wanted.vertices.as_slice(),
         "data of vertices",
     )?;
-    same(data.edges.len(), wanted.edges.len(), "data of edges")?;
-    for (found, wanted) in data.edges.iter().zip(&wanted.edges) {
-        same(found.undirected, wanted.undirected, "the datum of an edge")?;
-    }
+    check_edges(data, wanted)?;
     same(data.faces.len(), wanted.faces.len(), "data of faces")
+}
+
+/// Checks that these are the data that are made for a mesh.
+fn check_back(data: &Data<Memory>, dcel: &Dcel<u32>, alloc: Global) -> Result<(), Fail> {
+    let wanted = data_for(dcel, alloc)?;
+    check_data(data, &wanted)
+}
+
+/// Checks that a mesh made again has the links and anchors of the first one.
+fn check_again(
+    again: &Dcel<u32, (), usize, (), Memory>,
+    dcel: &Dcel<u32>,
+    alloc: Global,
+) -> Result<(), Fail> {
+    require!(dcel.removal_state() == RemovalState::Closed);
+    let lists = link_lists(alloc, dcel)?;
+    check_lists(again, &lists, alloc)
+}
+
+/// Makes the mesh again over these data. Returns whether there was memory.
+///
+/// If there was none, the data come back.
+fn is_made_of<'a>(
+    dcel: &Dcel<u32>,
+    memory: Memory<'a>,
+    given: Data<Memory<'a>>,
+    alloc: Global,
+) -> Result<bool, Fail> {
+    require!(
+        dcel.removal_state() == RemovalState::Closed
+            && given.vertices.len() == dcel.num_vertices()
+            && given.edges.len() == dcel.num_undirected_edges()
+            && given.faces.len() == dcel.num_faces()
+    );
+    match with_data(memory, dcel, given) {
+        Ok(made) => check_again(&made, dcel, alloc).map(|_| true),
+        Err(refused) => check_back(&refused.back, dcel, alloc).map(|_| false),
+    }
+}
+
+/// Makes the mesh again with these requests refused. There is memory for the data.
+fn is_made_again<'a>(
+    dcel: &Dcel<u32>,
+    memory: Memory<'a>,
+    refusals: Refusals,
+    alloc: Global,
+) -> Result<bool, Fail> {
+    memory.refuse(Refusals::None);
+    let given = data_for(dcel, memory)?;
+    memory.refuse(refusals);
+    is_made_of(dcel, memory, given, alloc)
 }
 
 /// Makes the call with these requests refused. Returns whether there was memory.
@@ -140,22 +207,24 @@ fn is_made(
     alloc: Global,
 ) -> Result<bool, Fail> {
     require!(dcel.removal_state() == RemovalState::Closed);
-    // There is memory for the data.
-    memory.refuse(Refusals::None);
-    let given = data_for(dcel, memory)?;
     memory.refuse(refusals);
     match call {
         LinkLists => Ok(link_lists(memory, dcel).is_ok()),
         FaceLists => Ok(face_lists(memory, dcel).is_ok()),
-        WithData => is_made_again(dcel, memory, given, alloc),
+        WithData => is_made_again(dcel, memory, refusals, alloc),
     }
 }
 
 /// Makes the call with the request of this number refused, and again if that request came. Returns
 /// whether it came.
-fn is_call_refused(dcel: &Dcel<u32>, call: Call, number: u64, alloc: Global) -> Result<bool, Fail> {
-    let memory = Refusing::new(alloc);
-    let is_first_made = is_made(dcel, &memory, call, Refusals::One(number), alloc)?;
+fn make_twice(
+    dcel: &Dcel<u32>,
+    memory: Memory,
+    call: Call,
+    number: u64,
+    alloc: Global,
+) -> Result<bool, Fail> {
+    let is_first_made = is_made(dcel, memory, call, Refusals::One(number), alloc)?;
     let came = memory.requests() > number;
     same(
         is_first_made,
@@ -163,13 +232,19 @@ fn is_call_refused(dcel: &Dcel<u32>, call: Call, number: u64, alloc: Global) -> 
         format_args!("{call:?}: request {number} refused"),
     )?;
     if came {
-        let is_made = is_made(dcel, &memory, call, Refusals::None, alloc)?;
+        let is_made = is_made(dcel, memory, call, Refusals::None, alloc)?;
         holds(
             is_made,
             format_args!("{call:?}: no memory after request {number}"),
         )?;
     }
     Ok(came)
+}
+
+/// Refuses the request of this number in memory of its own. Returns whether it came.
+fn is_call_refused(dcel: &Dcel<u32>, call: Call, number: u64, alloc: Global) -> Result<bool, Fail> {
+    let memory = Refusing::new(alloc);
+    make_twice(dcel, &memory, call, number, alloc)
 }
 
 /// Refuses each request of the call in turn.
@@ -182,15 +257,15 @@ fn sweep_call(dcel: &Dcel<u32>, call: Call, alloc: Global) -> Result<(), Fail> {
     Err(Fail::new("more requests than MANY"))
 }
 
-#[test]
-fn lists_are_refused_memory(rt: HostRuntime) -> Result<(), Fail> {
-    let alloc = rt.alloc();
-    let row = &ROWS[0];
-    let Ok(dcel) = from_faces(alloc, vertices_of(row, alloc)?, &faces_of(row, alloc)?) else {
-        return Err(Fail::new("the faces of a row are refused"));
-    };
+fn sweep_calls(dcel: &Dcel<u32>, alloc: Global) -> Result<(), Fail> {
     for call in &CALLS {
-        sweep_call(&dcel, *call, alloc)?;
+        sweep_call(dcel, *call, alloc)?;
     }
     Ok(())
+}
+
+#[test]
+fn lists_are_refused_memory(rt: HostRuntime) -> Result<(), Fail> {
+    let dcel = mesh_of(&ROWS[0], rt.alloc())?;
+    sweep_calls(&dcel, rt.alloc())
 }

@@ -2,61 +2,40 @@
 //! triangles, and vertex by vertex.
 
 use dcel_bench::checks::same;
-use dcel_bench::growths::Growth::{
-    Append, Close, Insert, PutBeside, SetUp, SplitBothSides, SplitOnLine, SplitOneSide, Triangle,
-};
-use dcel_bench::growths::{Growth, grown};
+use dcel_bench::lines::grown;
 use dcel_bench::meshes::Mesh;
 use spade_dcel::iterators::HullIterator;
 use std::alloc::Global;
 use std::test::Fail;
 
-/// A mesh, and its live edges, its vertices with a live edge and the half edges of its hull.
-type HullRow = (&'static [Growth], [usize; 3]);
+/// The lines of a mesh, and its live edges, its vertices with a live edge and the half edges of its
+/// hull.
+type HullRow = (&'static str, [usize; 3]);
 
 /// Each mesh has triangles alone, so the first number is three times the second, minus three, minus
 /// the third.
 const BY_HULL: [HullRow; 4] = [
-    (&[Triangle(0, 1, 2)], [3, 3, 3]),
-    (&[Triangle(0, 1, 2), Append(3), Insert(3, 1)], [6, 4, 3]),
+    ("triangle 0 1 2", [3, 3, 3]),
+    ("triangle 0 1 2\nappend 3\ninsert 3 1", [6, 4, 3]),
     (
-        &[
-            Triangle(0, 1, 2),
-            Append(3),
-            Insert(3, 1),
-            Append(4),
-            SplitBothSides(6, 4),
-        ],
+        "triangle 0 1 2\nappend 3\ninsert 3 1\nappend 4\nsplit 6 4",
         [9, 5, 3],
     ),
-    (&[Triangle(0, 1, 2), Append(3), PutBeside(0, 3)], [5, 4, 4]),
+    ("triangle 0 1 2\nappend 3\noutside 0 3", [5, 4, 4]),
 ];
 
-/// A mesh, and how many out edges its vertices have together.
-type OutRow = (&'static [Growth], usize);
+/// The lines of a mesh, and how many out edges its vertices have together.
+type OutRow = (&'static str, usize);
 
 const BY_VERTEX: [OutRow; 4] = [
-    (&[Triangle(0, 1, 2), Append(3), Insert(3, 1)], 12),
+    ("triangle 0 1 2\nappend 3\ninsert 3 1", 12),
     (
-        &[
-            Triangle(0, 1, 2),
-            Append(3),
-            Insert(3, 1),
-            Append(4),
-            SplitBothSides(6, 4),
-        ],
+        "triangle 0 1 2\nappend 3\ninsert 3 1\nappend 4\nsplit 6 4",
         18,
     ),
-    (&[Triangle(0, 1, 2), Append(3), SplitOneSide(0, 3)], 10),
+    ("triangle 0 1 2\nappend 3\nhalf 0 3", 10),
     (
-        &[
-            Append(0),
-            Append(1),
-            SetUp(0, 1),
-            Append(2),
-            SplitOnLine(0, 2),
-            Close(0),
-        ],
+        "append 0\nappend 1\nsetup 0 1\nappend 2\nline 0 2\nclose 0",
         6,
     ),
 ];
@@ -81,11 +60,9 @@ fn out_edges(dcel: &Mesh) -> usize {
     together
 }
 
-fn check_hull_row(row: &HullRow, alloc: Global) -> Result<(), Fail> {
-    let (growths, wanted) = *row;
-    let dcel = grown(alloc, growths)?;
-    let hull = HullIterator::new(&dcel).count();
-    let found = [live_edges(&dcel), vertices_with_an_edge(&dcel), hull];
+fn check_hull_of(dcel: &Mesh, wanted: [usize; 3]) -> Result<(), Fail> {
+    let hull = HullIterator::new(dcel).count();
+    let found = [live_edges(dcel), vertices_with_an_edge(dcel), hull];
     same(found, wanted, "edges, vertices and the hull")?;
     let [edges, vertices, hull] = found;
     same(
@@ -95,25 +72,33 @@ fn check_hull_row(row: &HullRow, alloc: Global) -> Result<(), Fail> {
     )
 }
 
-fn check_out_row(row: &OutRow, alloc: Global) -> Result<(), Fail> {
-    let (growths, wanted) = *row;
-    let dcel = grown(alloc, growths)?;
-    same(out_edges(&dcel), wanted, "out edges of all vertices")?;
+fn check_out_edges_of(dcel: &Mesh, wanted: usize) -> Result<(), Fail> {
+    same(out_edges(dcel), wanted, "out edges of all vertices")?;
     same(dcel.num_directed_edges(), wanted, "half edges")
+}
+
+fn check_hull((lines, wanted): HullRow, alloc: Global) -> Result<(), Fail> {
+    let dcel = grown(alloc, lines)?;
+    check_hull_of(&dcel, wanted)
 }
 
 #[test]
 fn triangles_are_counted_by_their_hull(rt: HostRuntime) -> Result<(), Fail> {
     for row in &BY_HULL {
-        check_hull_row(row, rt.alloc())?;
+        check_hull(*row, rt.alloc())?;
     }
     Ok(())
+}
+
+fn check_out_edges((lines, wanted): OutRow, alloc: Global) -> Result<(), Fail> {
+    let dcel = grown(alloc, lines)?;
+    check_out_edges_of(&dcel, wanted)
 }
 
 #[test]
 fn each_half_edge_is_an_out_edge_of_one_vertex(rt: HostRuntime) -> Result<(), Fail> {
     for row in &BY_VERTEX {
-        check_out_row(row, rt.alloc())?;
+        check_out_edges(*row, rt.alloc())?;
     }
     Ok(())
 }

@@ -2,7 +2,7 @@
 
 use dcel_bench::checks::same;
 use dcel_bench::data::{Datum, write};
-use dcel_bench::growths::cut_triangle;
+use dcel_bench::lines::{CUT, grown};
 use dcel_bench::meshes::{CUT_TRIANGLE, Mesh, check_links, vertex};
 use dcel_bench::require;
 use spade_dcel::handles::{
@@ -141,7 +141,7 @@ fn check_writes(dcel: &mut Mesh, alloc: Global) -> Result<(), Fail> {
 
 #[test]
 fn a_writer_changes_one_datum(rt: HostRuntime) -> Result<(), Fail> {
-    let mut dcel = cut_triangle(rt.alloc())?;
+    let mut dcel = grown(rt.alloc(), CUT)?;
     check_writes(&mut dcel, rt.alloc())
 }
 
@@ -170,5 +170,5 @@ fn check_looked_up(dcel: &Mesh) -> Result<(), Fail> {
 
 #[test]
 fn vertices_are_looked_up(rt: HostRuntime) -> Result<(), Fail> {
-    check_looked_up(&cut_triangle(rt.alloc())?)
+    check_looked_up(&grown(rt.alloc(), CUT)?)
 }

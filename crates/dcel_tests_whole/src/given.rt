@@ -1,14 +1,14 @@
 //! Meshes made from lists of links, and lists that are refused.
 
 use dcel_bench::checks::same;
-use dcel_bench::growths::cut_triangle;
+use dcel_bench::lines::{CUT, grown};
 use dcel_bench::meshes::{
     CUT_TRIANGLE, Mesh, check_adjacent_edges, check_links, check_out_edges, counts,
 };
 use dcel_bench::require;
 use spade_dcel::handles::FixedDirectedEdgeHandle;
 use spade_dcel::operations::{
-    Anchors, EdgeData, Fault, LinksError, MeshData, from_anchored_links, from_links,
+    Anchors, EdgeData, Fault, LinksError, MeshData, RefusedLinks, from_anchored_links, from_links,
 };
 use std::alloc::{AllocError, Global};
 use std::test::Fail;
@@ -141,28 +141,53 @@ const ANCHORED: [Anchored; 9] = [
     },
 ];
 
-/// Returns data that tell their elements apart.
-fn data(alloc: Global, [vertices, edges, faces]: [u32; 3]) -> Result<Data, AllocError> {
-    let mut data = MeshData {
-        vertices: Vec::new(alloc),
-        edges: Vec::new(alloc),
-        faces: Vec::new(alloc),
-    };
-    for vertex in 0..vertices {
-        data.vertices.push(i64::from(vertex))?;
+fn vertex_data(alloc: Global, count: u32) -> Result<Vec<i64>, AllocError> {
+    let mut data = Vec::new(alloc);
+    for vertex in 0..count {
+        data.push(i64::from(vertex))?;
     }
-    for edge in 0..edges {
+    Ok(data)
+}
+
+fn edge_data(alloc: Global, count: u32) -> Result<Vec<EdgeData<i64, i64>>, AllocError> {
+    let mut data = Vec::new(alloc);
+    for edge in 0..count {
         let edge = i64::from(edge);
-        data.edges.push(EdgeData {
+        data.push(EdgeData {
             normalized: 100 + edge,
             reversed: 200 + edge,
             undirected: 300 + edge,
         })?;
     }
-    for face in 0..faces {
-        data.faces.push(400 + i64::from(face))?;
+    Ok(data)
+}
+
+fn face_data(alloc: Global, count: u32) -> Result<Vec<i64>, AllocError> {
+    let mut data = Vec::new(alloc);
+    for face in 0..count {
+        data.push(400 + i64::from(face))?;
     }
     Ok(data)
+}
+
+/// Returns data that tell their elements apart.
+fn data(alloc: Global, [vertices, edges, faces]: [u32; 3]) -> Result<Data, AllocError> {
+    let vertices = vertex_data(alloc, vertices)?;
+    let edges = edge_data(alloc, edges)?;
+    let faces = face_data(alloc, faces)?;
+    Ok(MeshData {
+        vertices,
+        edges,
+        faces,
+    })
+}
+
+/// The half edge after each, the origin of each and its face.
+#[derive(Drop)]
+struct Lists {
+    next: Vec<u32>,
+    origin: Vec<u32>,
+    face: Vec<u32>,
 }
 
 /// Returns the half edge after this one, its origin and its face.
@@ -178,26 +203,47 @@ fn links_at(dcel: &Mesh, index: usize) -> Result<[u32; 3], Fail> {
     ])
 }
 
+/// Adds the links of all half edges.
+fn push_links(lists: &mut Lists, dcel: &Mesh) -> Result<(), Fail> {
+    for index in 0..dcel.num_directed_edges() {
+        let [after, from, side] = links_at(dcel, index)?;
+        lists.next.push(after)?;
+        lists.origin.push(from)?;
+        lists.face.push(side)?;
+    }
+    Ok(())
+}
+
+/// Makes a mesh of these links.
+fn mesh_of(lists: &Lists, alloc: Global) -> Result<Mesh, Fail> {
+    let data = data(alloc, [4, 6, 4])?;
+    match from_links(alloc, &lists.next, &lists.origin, &lists.face, data) {
+        Ok(made) => Ok(made),
+        Err(_) => Err(Fail::new("the links of a mesh are refused")),
+    }
+}
+
+/// Checks that the mesh is a cut triangle, anchored at the last half edges.
+fn check_cut(made: &Mesh) -> Result<(), Fail> {
+    let (words, origins) = CUT_TRIANGLE;
+    check_links(made, words, origins)?;
+    check_out_edges(made, &[6, 10, 8, 11])?;
+    check_adjacent_edges(made, &[4, 11, 8, 10])
+}
+
+fn check_made_of(lists: &mut Lists, alloc: Global) -> Result<(), Fail> {
+    push_links(lists, &grown(alloc, CUT)?)?;
+    check_cut(&mesh_of(lists, alloc)?)
+}
+
 #[test]
 fn a_mesh_is_made_of_its_links(rt: HostRuntime) -> Result<(), Fail> {
-    let dcel = cut_triangle(rt.alloc())?;
-    let mut next = Vec::new(rt.alloc());
-    let mut origin = Vec::new(rt.alloc());
-    let mut face = Vec::new(rt.alloc());
-    for index in 0..dcel.num_directed_edges() {
-        let [after, from, side] = links_at(&dcel, index)?;
-        next.push(after)?;
-        origin.push(from)?;
-        face.push(side)?;
-    }
-    let data = data(rt.alloc(), [4, 6, 4])?;
-    let Ok(made) = from_links(rt.alloc(), &next, &origin, &face, data) else {
-        return Err(Fail::new("the links of a mesh are refused"));
+    let mut lists = Lists {
+        next: Vec::new(rt.alloc()),
+        origin: Vec::new(rt.alloc()),
+        face: Vec::new(rt.alloc()),
     };
-    let (words, origins) = CUT_TRIANGLE;
-    check_links(&made, words, origins)?;
-    check_out_edges(&made, &[6, 10, 8, 11])?;
-    check_adjacent_edges(&made, &[4, 11, 8, 10])
+    check_made_of(&mut lists, rt.alloc())
 }
 
 #[test]
@@ -209,21 +255,8 @@ fn vertices_alone_are_a_mesh(rt: HostRuntime) -> Result<(), Fail> {
     same(counts(&made), [3, 0, 1], "counts")
 }
 
-/// Checks that the links are refused for this reason, and that the data come back.
-fn check_refused(row: &Row, alloc: Global) -> Result<(), Fail> {
-    let given = data(alloc, row.counts)?;
-    match from_links(alloc, row.next, row.origin, row.face, given) {
-        Ok(_) => Err(Fail::new("links of no mesh are taken")),
-        Err(refused) => {
-            same(refused.reason, row.reason, "the reason")?;
-            check_back(&refused.back, row.counts, alloc)
-        }
-    }
-}
-
-/// Checks that these are the data that were given of so many vertices, edges and faces.
-fn check_back(back: &Data, counts: [u32; 3], alloc: Global) -> Result<(), Fail> {
-    let given = data(alloc, counts)?;
+/// Checks that both are the same data.
+fn check_same(back: &Data, given: &Data) -> Result<(), Fail> {
     same(&back.vertices, &given.vertices, "data of vertices")?;
     same(&back.faces, &given.faces, "data of faces")?;
     same(back.edges.len(), given.edges.len(), "data of edges")?;
@@ -231,6 +264,32 @@ fn check_back(back: &Data, counts: [u32; 3], alloc: Global) -> Result<(), Fail> 
         same(data_of(found), data_of(wanted), "data of an edge")?;
     }
     Ok(())
+}
+
+/// Checks that these are the data that were given of so many vertices, edges and faces.
+fn check_back(back: &Data, counts: [u32; 3], alloc: Global) -> Result<(), Fail> {
+    let given = data(alloc, counts)?;
+    check_same(back, &given)
+}
+
+/// Checks that data of so many elements were refused for this reason, and come back.
+fn check_reason(
+    refused: &RefusedLinks<Data>,
+    reason: Option<LinksError>,
+    counts: [u32; 3],
+    alloc: Global,
+) -> Result<(), Fail> {
+    same(Some(refused.reason), reason, "the reason")?;
+    check_back(&refused.back, counts, alloc)
+}
+
+/// Checks that the links are refused for this reason, and that the data come back.
+fn check_refused(row: &Row, alloc: Global) -> Result<(), Fail> {
+    let given = data(alloc, row.counts)?;
+    match from_links(alloc, row.next, row.origin, row.face, given) {
+        Ok(_) => Err(Fail::new("links of no mesh are taken")),
+        Err(refused) => check_reason(&refused, Some(row.reason), row.counts, alloc),
+    }
 }
 
 /// Returns the data of both half edges and of the edge.
@@ -246,6 +305,13 @@ fn other_links_are_refused(rt: HostRuntime) -> Result<(), Fail> {
     Ok(())
 }
 
+/// Checks that the mesh is wanted, and has the anchors of the first row.
+fn check_taken(made: &Mesh, reason: Option<LinksError>) -> Result<(), Fail> {
+    same(None, reason, "the reason")?;
+    check_out_edges(made, &[0, 2, 3])?;
+    check_adjacent_edges(made, &[2, 1])
+}
+
 /// Checks that the mesh has these anchors, or is refused for this reason.
 fn check_anchored(row: &Anchored, alloc: Global) -> Result<(), Fail> {
     let given = data(alloc, row.counts)?;
@@ -254,15 +320,8 @@ fn check_anchored(row: &Anchored, alloc: Global) -> Result<(), Fail> {
         faces: row.faces,
     };
     match from_anchored_links(alloc, TRIANGLE, CORNERS, SIDES, anchors, given) {
-        Ok(made) => {
-            same(None, row.reason, "the reason")?;
-            check_out_edges(&made, &[0, 2, 3])?;
-            check_adjacent_edges(&made, &[2, 1])
-        }
-        Err(refused) => {
-            same(Some(refused.reason), row.reason, "the reason")?;
-            check_back(&refused.back, row.counts, alloc)
-        }
+        Ok(made) => check_taken(&made, row.reason),
+        Err(refused) => check_reason(&refused, row.reason, row.counts, alloc),
     }
 }
 

@@ -3,8 +3,7 @@
 
 use dcel_bench::checks::{holds, same};
 use dcel_bench::data::{Datum, write};
-use dcel_bench::growths::Growth::{Append, Close, Extend, PutBeside, SetUp};
-use dcel_bench::growths::{CUT, Growth, cut_triangle, grow, grow_all};
+use dcel_bench::lines::{CUT, carry_out, grown, has_memory, read_command};
 use dcel_bench::meshes::{
     CUT_TRIANGLE, Links, Mesh, adjacent_edge, check_links, counts, out_edge, vertex,
 };
@@ -85,7 +84,7 @@ fn write_mapped(dcel: &mut Mesh) -> Result<(), Fail> {
 
 /// Reads a cut triangle with these data, written one by one.
 fn mapped_snapshot(alloc: Global) -> Result<Snapshot, Fail> {
-    let mut dcel = cut_triangle(alloc)?;
+    let mut dcel = grown(alloc, CUT)?;
     write_mapped(&mut dcel)?;
     snapshot_of(&dcel, alloc)
 }
@@ -108,24 +107,28 @@ fn check_clone(dcel: &Mesh, wanted: &Snapshot, alloc: Global) -> Result<(), Fail
     check_mapped(dcel.try_clone(alloc)?, wanted, alloc)
 }
 
-fn check_reserved(dcel: &mut Mesh) -> Result<(), Fail> {
+/// Checks a clone of the mesh, and that the mesh keeps its links where it gets room.
+fn check_clone_and_room(dcel: &mut Mesh, wanted: &Snapshot, alloc: Global) -> Result<(), Fail> {
+    check_clone(dcel, wanted, alloc)?;
     holds(reserve(dcel, [9, 9, 9])?, "memory for more")?;
     check_links(dcel, CUT_TRIANGLE.0, CUT_TRIANGLE.1)
 }
 
+fn check_mapped_and_cloned(wanted: &Snapshot, alloc: Global) -> Result<(), Fail> {
+    let mut dcel = mapped(grown(alloc, CUT)?, alloc)?;
+    check_clone_and_room(&mut dcel, wanted, alloc)?;
+    check_mapped(dcel, wanted, alloc)
+}
+
 #[test]
 fn data_are_mapped_and_cloned(rt: HostRuntime) -> Result<(), Fail> {
-    let dcel = cut_triangle(rt.alloc())?;
     let wanted = mapped_snapshot(rt.alloc())?;
-    let mut dcel = mapped(dcel, rt.alloc())?;
-    check_clone(&dcel, &wanted, rt.alloc())?;
-    check_reserved(&mut dcel)?;
-    check_mapped(dcel, &wanted, rt.alloc())
+    check_mapped_and_cloned(&wanted, rt.alloc())
 }
 
 #[test]
 fn data_are_mapped_to_another_type(rt: HostRuntime) -> Result<(), Fail> {
-    let dcel = cut_triangle(rt.alloc())?;
+    let dcel = grown(rt.alloc(), CUT)?;
     let dcel = made(dcel.map_vertices(rt.alloc(), |datum| datum > 1))?;
     let seen = Cell::new(0);
     made(dcel.map_vertices(rt.alloc(), |is_late| see(&seen, i64::from(is_late))))?;
@@ -158,30 +161,18 @@ fn a_mesh_is_made_of_its_vertices(rt: HostRuntime) -> Result<(), Fail> {
     let vertices: Vec<i64> = vec![in alloc; 5, 6, 7]?;
     let from = vertex(2);
     let to = vertex(0);
-    require!(from.index() < vertices.len());
-    require!(to.index() < vertices.len());
-    require!(vertices.len() <= 4_294_967_296);
-    require!(from.index() != to.index());
+    require!(
+        from.index() < vertices.len()
+            && to.index() < vertices.len()
+            && vertices.len() <= 4_294_967_296
+            && from.index() != to.index()
+    );
     let dcel = made(new_with_fixed_vertices(alloc, vertices, from, to))?;
     check_fixed(dcel, alloc)
 }
 
-/// Returns a triangle that vertex 3 cuts into three.
-fn cut(memory: Memory<'_>) -> Result<Watched<'_>, Fail> {
-    let mut dcel: Watched = new(memory)?;
-    grow_all(&mut dcel, memory, &CUT)?;
-    Ok(dcel)
-}
-
 /// A triangle, a line first that is then closed.
-const CLOSED_LINE: [Growth; 6] = [
-    Append(0),
-    Append(1),
-    Append(2),
-    SetUp(0, 1),
-    Extend(1, 2),
-    Close(0),
-];
+const CLOSED_LINE: &str = "append 0\nappend 1\nappend 2\nsetup 0 1\nextend 1 2\nclose 0";
 
 /// Checks that nothing but the outer face is left.
 fn check_cleared<A: Allocator>(dcel: &Mesh<A>) -> Result<(), Fail> {
@@ -196,7 +187,7 @@ fn check_grown_again<'a>(dcel: &mut Watched<'a>, memory: Memory<'a>) -> Result<(
     memory.refuse(Refusals::From(0));
     dcel.clear();
     check_cleared(dcel)?;
-    grow_all(dcel, memory, &CLOSED_LINE)?;
+    carry_out(dcel, CLOSED_LINE, memory)?;
     same(counts(dcel), [3, 6, 2], "counts of a grown mesh")?;
     same(memory.requests(), 0, "requests")
 }
@@ -204,64 +195,50 @@ fn check_grown_again<'a>(dcel: &mut Watched<'a>, memory: Memory<'a>) -> Result<(
 #[test]
 fn a_mesh_is_cleared_without_memory(rt: HostRuntime) -> Result<(), Fail> {
     let memory = Refusing::new(rt.alloc());
-    let mut dcel = cut(&memory)?;
+    let mut dcel: Watched = grown(&memory, CUT)?;
     check_grown_again(&mut dcel, &memory)
 }
 
 /// A triangle with seven more round it: ten vertices, seventeen edges and eight inner faces.
-const EIGHT_TRIANGLES: [Growth; 20] = [
-    Append(0),
-    Append(1),
-    Append(2),
-    SetUp(0, 1),
-    Extend(1, 2),
-    Close(0),
-    Append(3),
-    PutBeside(1, 3),
-    Append(4),
-    PutBeside(5, 4),
-    Append(5),
-    PutBeside(2, 5),
-    Append(6),
-    PutBeside(7, 6),
-    Append(7),
-    PutBeside(11, 7),
-    Append(8),
-    PutBeside(15, 8),
-    Append(9),
-    PutBeside(27, 9),
-];
+const EIGHT_TRIANGLES: &str = "append 0\nappend 1\nappend 2\nsetup 0 1\nextend 1 2\nclose 0\n\
+    append 3\noutside 1 3\nappend 4\noutside 5 4\nappend 5\noutside 2 5\n\
+    append 6\noutside 7 6\nappend 7\noutside 11 7\nappend 8\noutside 15 8\n\
+    append 9\noutside 27 9";
 
-/// Room for vertices, edges and faces, and a call that finds none left of one kind after the eight
+/// Room for vertices, edges and faces, and a line that finds none left of one kind after the eight
 /// triangles.
-const ROOM: [([usize; 3], Growth); 3] = [
-    ([10, 17, 8], Append(10)),
-    ([10, 17, 9], Close(9)),
-    ([10, 18, 8], Close(9)),
+const ROOM: [([usize; 3], &str); 3] = [
+    ([10, 17, 8], "append 10"),
+    ([10, 17, 9], "close 9"),
+    ([10, 18, 8], "close 9"),
 ];
 
 /// Reserves room in an empty mesh, which then grows without a request. The next call makes one.
-fn check_room<'a>(
+fn check_room_in<'a>(
     dcel: &mut Watched<'a>,
     memory: Memory<'a>,
-    (room, next): ([usize; 3], Growth),
+    (room, next): ([usize; 3], &str),
 ) -> Result<(), Fail> {
     holds(reserve(dcel, room)?, "memory for room")?;
     memory.refuse(Refusals::From(0));
-    grow_all(dcel, memory, &EIGHT_TRIANGLES)?;
+    carry_out(dcel, EIGHT_TRIANGLES, memory)?;
     same(memory.requests(), 0, format_args!("requests in {room:?}"))?;
-    let is_made = grow(dcel, memory, next)?;
+    let is_made = has_memory(dcel, read_command(next, memory)?)?;
     let found = (is_made, memory.requests());
-    same(found, (false, 1), format_args!("{next:?} after {room:?}"))
+    same(found, (false, 1), format_args!("{next} after {room:?}"))
+}
+
+fn check_room(memory: Memory, row: ([usize; 3], &str)) -> Result<(), Fail> {
+    memory.refuse(Refusals::None);
+    let mut dcel: Watched = new(memory)?;
+    check_room_in(&mut dcel, memory, row)
 }
 
 #[test]
 fn a_mesh_grows_in_reserved_room_without_memory(rt: HostRuntime) -> Result<(), Fail> {
     let memory = Refusing::new(rt.alloc());
     for row in &ROOM {
-        memory.refuse(Refusals::None);
-        let mut dcel: Watched = new(&memory)?;
-        check_room(&mut dcel, &memory, *row)?;
+        check_room(&memory, *row)?;
     }
     Ok(())
 }

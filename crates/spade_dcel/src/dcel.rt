@@ -446,7 +446,10 @@ impl<V, DE, UE, F, A: Allocator> Dcel<V, DE, UE, F, A> {
     /// Returns whether the edge can be flipped ([`flip_cw`](crate::operations::flip_cw)).
     ///
     /// This holds if it is live, lies between two triangles, one of which may be the outer face,
-    /// and the corners opposite it are two vertices.
+    /// and the corners opposite it are two vertices. So it can be true of an edge that nobody would
+    /// flip: `is_part_of_convex_hull` of its handle tells an edge of the outer face, and
+    /// [`get_edge_from_neighbors`](Self::get_edge_from_neighbors) whether an edge already joins the
+    /// opposite corners, beside which the flipped one would be a second.
     // Out of line: a loop that tests edges and flips them runs faster so.
     #[inline(never)]
     pub fn can_flip(&self, handle: FixedUndirectedEdgeHandle) -> bool

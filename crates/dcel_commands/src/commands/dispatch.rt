@@ -1,9 +1,11 @@
 //! Carries commands out, each by its file in `request`.
 
 ghost use Rattle.std.specs.Prelude.{◌≡◌, ◌≤◌, ◌^◌, IfOk, IfErr, OnOk, OnErr};
+ghost use Rattle.dcel_commands.specs.Edits.{edits_of};
 ghost use Rattle.dcel_commands.specs.Instructions.{instruction};
 ghost use Rattle.dcel_commands.specs.Responses.{response};
 ghost use Rattle.dcel_commands.specs.Steps.{IsRefusal, Legal, Step};
+ghost use Rattle.dcel_maps.specs.EditLists.{EditedBy};
 ghost use Rattle.dcel_maps.specs.Shapes.{IsMesh};
 
 use crate::commands::command::Command;
@@ -32,7 +34,8 @@ pub const MAX_LIMIT: usize = 2_147_483_648;
 /// that adds elements is refused as [`Refusal::NoRoom`](crate::commands::Refusal) if one of these
 /// counts would be above the limit, and so is `Triangle` if a count of the new mesh would be.
 ///
-/// While a removal is open, the live elements can be edited as ever.
+/// While a removal is open, the live elements can be edited as ever. What a command does is a list of
+/// elementary edits (clause `edits`).
 pub fn apply<
     V: Drop,
     DE: Default + Drop,
@@ -47,11 +50,13 @@ pub fn apply<
 ) -> Result<Reply<V, A>, Refused<V>>
     requires { limit ≤ 2 ^ 31 }
     ensures step { IfOk result (λ reply. Step DE.is_default UE.is_default F.is_default dcel.old (instruction command) (response reply) dcel.new) }
+    ensures edits { IfOk result (λ reply. EditedBy (edits_of dcel.old (instruction command) (response reply)) dcel.old dcel.new) }
     ensures legal { OnOk result (Legal dcel.old.shape limit (instruction command)) }
     ensures refused { IfErr result (λ refused. IsRefusal dcel.old.shape limit (instruction command) refused) }
     ensures unchanged { OnErr result (dcel.new ≡ dcel.old) }
     ensures mesh { IsMesh dcel.new }
 {
+    laws::every_mesh(dcel);
     let answer = match command {
         Command::Append(datum) => append::carry_out(dcel, datum, limit),
         Command::Triangle(x, y, z) => triangle::carry_out(dcel, (x, y, z), limit),

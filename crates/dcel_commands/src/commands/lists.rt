@@ -1,6 +1,7 @@
 //! Lists of commands, carried out one after another.
 
 ghost use Rattle.std.specs.Prelude.{◌≡◌, ◌≤◌, ◌^◌, IfOk, IfErr, map};
+ghost use Rattle.dcel_commands.specs.Edits.{RunEdits};
 ghost use Rattle.dcel_commands.specs.Instructions.{instruction};
 ghost use Rattle.dcel_commands.specs.Lists.{Run, Stops};
 ghost use Rattle.dcel_commands.specs.Responses.{response};
@@ -39,6 +40,9 @@ pub struct StoppedAt<V, A: Allocator = Global, B: Allocator = Global> {
 /// their replies come back; those after it are dropped. In each case the mesh that is left is a
 /// connected map on the sphere, as [`the_headline`](spade_dcel::laws::the_headline) says.
 ///
+/// The mesh that is left comes from the one before by elementary edits: those of the commands that
+/// were carried out, one after another.
+///
 /// If each live inner face is a triangle, that holds afterwards too, unless a command that was
 /// carried out puts a face beside a half edge of an inner face, or splits one side of an edge whose
 /// other half lies on an inner face.
@@ -62,6 +66,7 @@ pub fn apply_all<
     ensures mesh { IsMesh dcel.new }
     ensures headline { Headline dcel.new }
     ensures triangles { TrianglesStay DE.is_default UE.is_default F.is_default limit dcel.old (map instruction commands.items) (replies_of result) dcel.new }
+    ensures edits { RunEdits DE.is_default UE.is_default F.is_default limit dcel.old (map instruction commands.items) (replies_of result) dcel.new }
 {
     laws::every_mesh(dcel);
     let alloc = *commands.allocator();

@@ -11,7 +11,7 @@ use dcel_fixed::{
     FixedDirectedEdgeHandle, FixedFaceHandle, FixedUndirectedEdgeHandle, FixedVertexHandle,
     InnerTag, PossiblyOuterTag,
 };
-use dcel_store::{HalfEdgeEntry, Store};
+use dcel_store::{HalfEdgeLinks, Store};
 use std::alloc::Allocator;
 
 /// Takes out an edge, and drops its data.
@@ -108,12 +108,12 @@ fn moved_links<V, DE, UE, F, A: Allocator>(
     edge: FixedDirectedEdgeHandle,
     last: FixedUndirectedEdgeHandle,
     to: FixedUndirectedEdgeHandle,
-) -> HalfEdgeEntry
+) -> HalfEdgeLinks
     requires held { edge < length store.now.next }
     requires few { to < 2 ^ 31 }
     ensures { result ≡ links_moved store.now last to edge }
 {
-    HalfEdgeEntry {
+    HalfEdgeLinks {
         next: moved_half(store.next(edge), last, to),
         prev: moved_half(store.prev(edge), last, to),
         face: store.face(edge),
@@ -144,7 +144,7 @@ fn moved_half(
 // Renames a half edge in the links of its neighbors and in the anchors that named it.
 fn rename_half<V, DE, UE, F, A: Allocator>(
     store: &mut Store<V, DE, UE, F, A>,
-    links: HalfEdgeEntry,
+    links: HalfEdgeLinks,
     from: FixedDirectedEdgeHandle,
     to: FixedDirectedEdgeHandle,
 )

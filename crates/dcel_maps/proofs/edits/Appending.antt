@@ -2,6 +2,7 @@
 use Rattle.std.proofs.Common.{◌≡◌, inl, ℕ, ◌+◌, ◌/◌, List, [], ◌++◌, length, replicate, None, add-zero, append-nil, refl, sym, ◌∙◌, arith}
 use Rattle.std.proofs.lemmas.List.{length-replicate}
 use Rattle.dcel_maps.specs.Conditions.{HasRoom}
+use Rattle.dcel_maps.specs.EditLists.{ComesBy}
 use Rattle.dcel_maps.specs.Maps.{Live, Map}
 use Rattle.dcel_maps.specs.theory.Sound.{Sound, Sphere}
 use Rattle.dcel_maps.specs.Shapes.{IsLive, IsMesh, Mesh, map_of, origin_of}
@@ -67,6 +68,9 @@ module _ {V DE UE F : Type 0} (m : Mesh V DE UE F) (vertices : List V) where
       edge = edge;
       links = record { next = after-next m.shape c; prev = after-prev m.shape c; origin = after-origin m.shape c; face = after-face m.shape c };
     }
+
+    pub appending_made : ComesBy [] S T
+    appending_made = extends
 
     keeps : Sound T × Sphere T
     keeps = extends_keeps S T extends (map-sound mesh.sound) (map-sphere mesh.sound mesh.sphere)

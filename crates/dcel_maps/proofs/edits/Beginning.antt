@@ -5,6 +5,8 @@ use Rattle.std.proofs.lemmas.List.{nil_from_length}
 use Rattle.dcel_fixed.specs.HalfEdges.{rev}
 use Rattle.dcel_fixed.proofs.Halves.{rev-double}
 use Rattle.dcel_maps.specs.Conditions.{HasRoom}
+use Rattle.dcel_maps.specs.EditLists.{ComesBy}
+use Rattle.dcel_maps.specs.EditLists.EditKind.{first_edge}
 use Rattle.dcel_maps.specs.edits.Create.{first_edge_added}
 use Rattle.dcel_maps.specs.Maps.{Live, Map}
 use Rattle.dcel_maps.specs.theory.Sound.{Sound, Sphere}
@@ -17,6 +19,7 @@ use Rattle.dcel_maps.proofs.edits.Growing.{after-each, after-edge, after-pair, s
 use Rattle.dcel_maps.proofs.edits.Patches.{patched_at-first, patched_at-new, pushing, replacing}
 use Rattle.dcel_maps.proofs.maps.Edits.{FirstEdge}
 use Rattle.dcel_maps.proofs.maps.Firsts.{first_keeps}
+use Rattle.dcel_maps.proofs.maps.Lists.{comes_once}
 use Rattle.dcel_maps.proofs.words.Counts.{count-other}
 use Rattle.dcel_maps.proofs.words.Faces.{IsWordOf}
 
@@ -98,6 +101,9 @@ module _ {V DE UE F : Type 0} (m : Mesh V DE UE F) (mesh : IsMesh m) (none : m.s
       below_b = omega (arith, b_parts.0);
       below_0 = omega (arith, mesh.sized.outer);
     }
+
+    pub beginning_made : ComesBy (first_edge ∷ []) S T
+    beginning_made = comes_once first_edge S T (n, a, b, λ u. is_live-past (gives_up_edge m.shape.removal) m.shape.edges u (omega (arith, none)), is_first)
 
     begins : Sound T × Sphere T
     begins = first_keeps T n a b is_first

@@ -3,6 +3,8 @@ use Rattle.std.proofs.Common.{◌≡◌, ◌≢◌, ◌⊎◌, inl, inr, ℕ, �
 use Rattle.std.proofs.lemmas.Bool.{cases_eq}
 use Rattle.dcel_maps.specs.Conditions.{HasRoom, IsUnconnected}
 use Rattle.dcel_maps.specs.Cyclic.{from_least}
+use Rattle.dcel_maps.specs.EditLists.{ComesBy}
+use Rattle.dcel_maps.specs.EditLists.EditKind.{ear_cut, spur_added}
 use Rattle.dcel_maps.specs.Maps.{Live}
 use Rattle.dcel_maps.specs.theory.Sound.{Sound, Sphere}
 use Rattle.dcel_maps.specs.Shapes.{IsLive, IsMesh, Mesh, end_of, face_count, face_of, next_of, origin_of, prev_of}
@@ -14,7 +16,7 @@ use Rattle.dcel_maps.proofs.edits.Growing.{after-each, after-edge, after-face, a
 use Rattle.dcel_maps.proofs.edits.Linking.{linked-corner, linked-old, triangle_full-least, linked-new}
 use Rattle.dcel_maps.proofs.edits.Patches.{patched_at-first, patched_at-new, pushing, puts_away, puts_here, replacing}
 use Rattle.dcel_maps.proofs.edits.Starting.{NewStart, start_labelled, starts-new}
-use Rattle.dcel_maps.proofs.maps.Beside.{Beside, beside_keeps}
+use Rattle.dcel_maps.proofs.maps.Beside.{Beside, beside_comes, beside_keeps}
 use Rattle.dcel_maps.proofs.maps.Soundness.{prev_differs, next_differs}
 use Rattle.dcel_maps.proofs.maps.Triangles.{Alone, IsTriangleOf, IsLinked}
 use Rattle.dcel_maps.proofs.shapes.Maps.{face-live, map-sphere}
@@ -150,6 +152,9 @@ module _ {V DE UE F : Type 0} (m : Mesh V DE UE F) where
           vertices = add-zero m.shape.vertices;
           faces = refl;
         }
+
+        pub beside_made : ComesBy (spur_added ∷ ear_cut ∷ []) S T
+        beside_made = beside_comes S T e tip n sound is_beside (map-sphere mesh.sound mesh.sphere)
 
         keeps : Sound T × Sphere T
         keeps = beside_keeps S T e tip n sound is_beside (map-sphere mesh.sound mesh.sphere)

@@ -5,6 +5,8 @@ use Rattle.dcel_fixed.specs.HalfEdges.{rev}
 use Rattle.dcel_fixed.proofs.Halves.{rev-double-suc}
 use Rattle.dcel_maps.specs.Conditions.{CanCloseOutside, HasRoom}
 use Rattle.dcel_maps.specs.Cyclic.{from_least}
+use Rattle.dcel_maps.specs.EditLists.{ComesBy}
+use Rattle.dcel_maps.specs.EditLists.EditKind.{ear_cut}
 use Rattle.dcel_maps.specs.Maps.{Live}
 use Rattle.dcel_maps.specs.theory.Sound.{Sound, Sphere}
 use Rattle.dcel_maps.specs.Removals.{gives_up_edge}
@@ -20,6 +22,7 @@ use Rattle.dcel_maps.proofs.edits.Starting.{StartsLive, starts-as, starts-still}
 use Rattle.dcel_maps.proofs.maps.Ears.{EarSite, ear_keeps, ear_site, two_in}
 use Rattle.dcel_maps.proofs.maps.Edits.{Ear, EarAt}
 use Rattle.dcel_maps.proofs.maps.Labels.{KeepsLabel}
+use Rattle.dcel_maps.proofs.maps.Lists.{comes_once, ear_edit}
 use Rattle.dcel_maps.proofs.maps.Triangles.{IsTriangleOf}
 use Rattle.dcel_maps.proofs.shapes.Maps.{map-sphere}
 use Rattle.dcel_maps.proofs.words.Cuts.{cut-keeps_face, cut_triangle, cut_word}
@@ -149,6 +152,9 @@ module _ {V DE UE F : Type 0} (m : Mesh V DE UE F) where
               face_below = omega arith;
             };
           }
+
+      pub closing_made : ComesBy (ear_cut ∷ []) S T
+      closing_made = comes_once ear_cut S T (ear_edit S T e x after (n + 1) l is_ear sound)
 
       pub keeps : Sound T × Sphere T
       keeps = ear_keeps S T e x after (n + 1) l is_ear sound (map-sphere mesh.sound mesh.sphere)

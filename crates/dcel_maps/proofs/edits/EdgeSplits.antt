@@ -4,19 +4,21 @@ use Rattle.std.proofs.Math.Logic.{Ne-symm}
 use Rattle.dcel_fixed.specs.HalfEdges.{rev}
 use Rattle.dcel_maps.specs.Conditions.{HasRoom, IsTriangle, IsUnconnected}
 use Rattle.dcel_maps.specs.Cyclic.{from_least}
+use Rattle.dcel_maps.specs.EditLists.{ComesBy}
+use Rattle.dcel_maps.specs.EditLists.EditKind.{ear_cut, edge_subdivided}
 use Rattle.dcel_maps.specs.edits.Split.{edge_split}
 use Rattle.dcel_maps.specs.Maps.{Live}
 use Rattle.dcel_maps.specs.theory.Sound.{Sound, Sphere}
 use Rattle.dcel_maps.specs.Shapes.{IsLive, IsMesh, Mesh, end_of, face_count, face_of, map_of, next_of, origin_of, prev_of}
 use Rattle.dcel_maps.proofs.Liveness.{vertex_live-parts}
-use Rattle.dcel_maps.proofs.edits.Changes.{Change, IsEdit, changed, fits_with}
+use Rattle.dcel_maps.proofs.edits.Changes.{Change, IsEdit, changed, fits_with, map_after}
 use Rattle.dcel_maps.proofs.edits.Growing.{after-each, after-edge, after-origin, after-still}
 use Rattle.dcel_maps.proofs.edits.Linking.{linked-corner, face_live-at, linked-new, linked-old, triangle_full, triangle_full-least, triangle_linked, triangle_of, stays-linked}
 use Rattle.dcel_maps.proofs.edits.Patches.{patched_at-first, patched_at-new, puts_away, puts_here, replacing}
 use Rattle.dcel_maps.proofs.edits.Starting.{NewStart, moved_labelled, starts-moved}
 use Rattle.dcel_maps.proofs.maps.Halves.{turn_odd}
 use Rattle.dcel_maps.proofs.maps.Soundness.{rev_live}
-use Rattle.dcel_maps.proofs.maps.Splits.{Split, split_keeps}
+use Rattle.dcel_maps.proofs.maps.Splits.{Split, split_comes, split_keeps}
 use Rattle.dcel_maps.proofs.maps.Triangles.{by_triangle, off_another, Alone, IsTriangleOf, Off, alone_turned, off_face, triangle_faces_another, triangle_turned, triangles_apart, IsLinked, SameLinks}
 use Rattle.dcel_maps.proofs.shapes.Maps.{map-sphere}
 use Rattle.dcel_maps.proofs.words.Faces.{KeepsFace}
@@ -227,6 +229,9 @@ module _ {V DE UE F : Type 0} (m : Mesh V DE UE F) (mesh : IsMesh m) (f g e a b 
     faces = refl;
   }
 
+  split_made : ComesBy (edge_subdivided ∷ ear_cut ∷ ear_cut ∷ []) S T
+  split_made = split_comes S T f g e a b t c d tip n sound is_split (map-sphere mesh.sound mesh.sphere)
+
   keeps : Sound T × Sphere T
   keeps = split_keeps S T f g e a b t c d tip n sound is_split (map-sphere mesh.sound mesh.sphere)
 
@@ -310,5 +315,14 @@ module _ {V DE UE F : Type 0} (m : Mesh V DE UE F) (e tip : ℕ) (halves : List 
   edge_splitting_is_edit mesh live triangle facing unconnected room six three two =
       let t = rev e in
       splitting_is_edit m mesh (face_of m.shape e) (face_of m.shape t) e (next_of m.shape e) (prev_of m.shape e) t (next_of m.shape t) (prev_of m.shape t)
+      (end_of m.shape e) tip refl (triangle_of m mesh e live triangle) (triangle_of m mesh t (rev_live (map_of m.shape) e live) facing) refl
+      unconnected room halves edges faces six three two
+
+  pub edge_splitting_made : IsMesh m → IsLive m.shape e → IsTriangle m.shape (face_of m.shape e) → IsTriangle m.shape (face_of m.shape (rev e))
+      → IsUnconnected m.shape tip → HasRoom m.shape 0 3 2 → length halves ≡ 6 → length edges ≡ 3 → length faces ≡ 2
+      → ComesBy (edge_subdivided ∷ ear_cut ∷ ear_cut ∷ []) (map_of m.shape) (map_after m.shape edge_splitting)
+  edge_splitting_made mesh live triangle facing unconnected room six three two =
+      let t = rev e in
+      split_made m mesh (face_of m.shape e) (face_of m.shape t) e (next_of m.shape e) (prev_of m.shape e) t (next_of m.shape t) (prev_of m.shape t)
       (end_of m.shape e) tip refl (triangle_of m mesh e live triangle) (triangle_of m mesh t (rev_live (map_of m.shape) e live) facing) refl
       unconnected room halves edges faces six three two

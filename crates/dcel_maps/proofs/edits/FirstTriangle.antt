@@ -1,6 +1,8 @@
 -- A mesh of one triangle: three vertices, three edges and a face put to the outer face alone.
 use Rattle.std.proofs.Common.{◌≡◌, ◌≢◌, ℕ, ◌<◌, nat_lt, List, [], ◌∷◌, length, slice_index, Some, zero-add, refl, sym, ap, ◌∙◌, arith}
 use Rattle.std.proofs.Math.Bool.{and-true}
+use Rattle.dcel_maps.specs.EditLists.{ComesBy, nothing}
+use Rattle.dcel_maps.specs.EditLists.EditKind.{ear_cut, first_edge, spur_added}
 use Rattle.dcel_maps.specs.edits.Create.{outer_alone}
 use Rattle.dcel_maps.specs.Maps.{Live, Map}
 use Rattle.dcel_maps.specs.theory.Sound.{Sound, Sphere}
@@ -11,8 +13,9 @@ use Rattle.dcel_maps.proofs.edits.Changes.{Change, IsEdit, fits_with, map_after}
 use Rattle.dcel_maps.proofs.edits.Alone.{alone_is_mesh}
 use Rattle.dcel_maps.proofs.edits.Growing.{after-new}
 use Rattle.dcel_maps.proofs.edits.Patches.{Patch, patched_at, patched_at-new, pushing}
-use Rattle.dcel_maps.proofs.maps.Agreement.{Agrees, agrees_keeps}
-use Rattle.dcel_maps.proofs.maps.FirstTriangle.{triangle, triangle_keeps}
+use Rattle.dcel_maps.proofs.maps.Agreement.{Agrees, agrees_extends, agrees_keeps}
+use Rattle.dcel_maps.proofs.maps.FirstTriangle.{triangle, triangle_keeps, triangle_made}
+use Rattle.dcel_maps.proofs.maps.Lists.{comes_after}
 use Rattle.dcel_maps.proofs.maps.Triangles.{IsTriangleOf}
 use Rattle.dcel_maps.proofs.words.Triangles.{triangle-word}
 
@@ -60,6 +63,9 @@ module _ {V DE UE F : Type 0} (vertices : V × V × V) (halves : List DE) (edges
       face = λ x live. listed _ c.face x;
     };
   }
+
+  pub first_triangle_made : ComesBy (first_edge ∷ spur_added ∷ ear_cut ∷ []) nothing T
+  first_triangle_made = comes_after (first_edge ∷ spur_added ∷ ear_cut ∷ []) nothing triangle T triangle_made (agrees_extends triangle T agrees)
 
   keeps : Sound T × Sphere T
   keeps = agrees_keeps triangle T agrees triangle_keeps.0 triangle_keeps.1

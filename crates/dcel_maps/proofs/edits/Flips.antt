@@ -6,17 +6,19 @@ use Rattle.dcel_fixed.specs.HalfEdges.{rev}
 use Rattle.dcel_fixed.proofs.Halves.{rev-double}
 use Rattle.dcel_maps.specs.Conditions.{CanFlip}
 use Rattle.dcel_maps.specs.Cyclic.{from_least}
+use Rattle.dcel_maps.specs.EditLists.{ComesBy}
+use Rattle.dcel_maps.specs.EditLists.EditKind.{ear_cut, words_joined}
 use Rattle.dcel_maps.specs.edits.Flip.{edge_flipped}
 use Rattle.dcel_maps.specs.Maps.{Live}
 use Rattle.dcel_maps.specs.theory.Sound.{Sound, Sphere}
 use Rattle.dcel_maps.specs.Shapes.{IsLive, IsMesh, Mesh, face_count, face_of, map_of, next_of, origin_of, prev_of}
 use Rattle.dcel_maps.proofs.Liveness.{even_live, odd_live}
-use Rattle.dcel_maps.proofs.edits.Changes.{Change, IsEdit, changed, fits_with}
+use Rattle.dcel_maps.proofs.edits.Changes.{Change, IsEdit, changed, fits_with, map_after}
 use Rattle.dcel_maps.proofs.edits.Growing.{after-each, after-edge, after-origin, after-still}
 use Rattle.dcel_maps.proofs.edits.Linking.{face_live-at, linked-old, triangle_full, triangle_linked, triangle_of, stays-linked}
 use Rattle.dcel_maps.proofs.edits.Patches.{Untouched, puts_away, puts_here, replacing}
 use Rattle.dcel_maps.proofs.edits.Starting.{starts-as}
-use Rattle.dcel_maps.proofs.maps.Flips.{Flip, flip_keeps}
+use Rattle.dcel_maps.proofs.maps.Flips.{Flip, flip_comes, flip_keeps}
 use Rattle.dcel_maps.proofs.maps.Halves.{turn_back}
 use Rattle.dcel_maps.proofs.maps.Labels.{KeepsLabel}
 use Rattle.dcel_maps.proofs.maps.Triangles.{IsTriangleOf, Off, SameLinks, by_triangle, facing_differ, off_another, off_face, triangles_apart, IsLinked}
@@ -138,6 +140,9 @@ module _ {V DE UE F : Type 0} (m : Mesh V DE UE F) (mesh : IsMesh m) (f g e a b 
     faces = add-zero (face_count m.shape);
   }
 
+  flip_made : ComesBy (words_joined ∷ ear_cut ∷ []) S T
+  flip_made = flip_comes S T f g e a b t c d sound is_flip (map-sphere mesh.sound mesh.sphere)
+
   keeps : Sound T × Sphere T
   keeps = flip_keeps S T f g e a b t c d sound is_flip (map-sphere mesh.sound mesh.sphere)
 
@@ -251,6 +256,15 @@ module _ {V DE UE F : Type 0} (m : Mesh V DE UE F) (u : ℕ) where
       let e = 2 * u in
       let t = 2 * u + 1 in
       flipping_is_edit m mesh (face_of m.shape e) (face_of m.shape t) e (next_of m.shape e) (prev_of m.shape e) t (next_of m.shape t) (prev_of m.shape t)
+      (origin_of m.shape e) (origin_of m.shape t) (rev-double u)
+      (triangle_of m mesh e (even_live m.shape u can.live) can.triangle) (triangle_of m mesh t (odd_live m.shape u can.live) can.facing)
+      refl refl can.corners
+
+  pub edge_flipping_made : IsMesh m → CanFlip m.shape u → ComesBy (words_joined ∷ ear_cut ∷ []) (map_of m.shape) (map_after m.shape edge_flipping)
+  edge_flipping_made mesh can =
+      let e = 2 * u in
+      let t = 2 * u + 1 in
+      flip_made m mesh (face_of m.shape e) (face_of m.shape t) e (next_of m.shape e) (prev_of m.shape e) t (next_of m.shape t) (prev_of m.shape t)
       (origin_of m.shape e) (origin_of m.shape t) (rev-double u)
       (triangle_of m mesh e (even_live m.shape u can.live) can.triangle) (triangle_of m mesh t (odd_live m.shape u can.live) can.facing)
       refl refl can.corners

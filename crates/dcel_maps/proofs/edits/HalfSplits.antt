@@ -5,6 +5,8 @@ use Rattle.std.proofs.lemmas.Bool.{cases_eq}
 use Rattle.dcel_fixed.proofs.Halves.{rev-double-suc}
 use Rattle.dcel_maps.specs.Conditions.{HasRoom, IsTriangle, IsUnconnected}
 use Rattle.dcel_maps.specs.Cyclic.{from_least}
+use Rattle.dcel_maps.specs.EditLists.{ComesBy}
+use Rattle.dcel_maps.specs.EditLists.EditKind.{ear_cut, edge_subdivided}
 use Rattle.dcel_maps.specs.edits.Split.{half_edge_split}
 use Rattle.dcel_maps.specs.Maps.{Live}
 use Rattle.dcel_maps.specs.theory.Sound.{Sound, Sphere}
@@ -17,7 +19,7 @@ use Rattle.dcel_maps.proofs.edits.Linking.{linked-corner, face_live-at, linked-n
 use Rattle.dcel_maps.proofs.edits.Patches.{patched_at-first, patched_at-new, puts_away, puts_here, replacing}
 use Rattle.dcel_maps.proofs.edits.Starting.{NewStart, moved_labelled, starts-moved}
 use Rattle.dcel_maps.proofs.maps.Counts.{Used}
-use Rattle.dcel_maps.proofs.maps.HalfSplits.{HalfSplit, half_split_keeps}
+use Rattle.dcel_maps.proofs.maps.HalfSplits.{HalfSplit, half_split_comes, half_split_keeps}
 use Rattle.dcel_maps.proofs.maps.Halves.{turn_even}
 use Rattle.dcel_maps.proofs.maps.Labels.{KeepsLabel, labelled-kept}
 use Rattle.dcel_maps.proofs.maps.Soundness.{face_prev, rev_live}
@@ -207,6 +209,9 @@ module _ {V DE UE F : Type 0} (m : Mesh V DE UE F) (e tip : ℕ) (halves : List 
       edges = refl;
       faces = refl;
     }
+
+    pub half_made : ComesBy (edge_subdivided ∷ ear_cut ∷ []) S T
+    half_made = half_split_comes S T f e a b t tip n sound is_split (map-sphere mesh.sound mesh.sphere)
 
     keeps : Sound T × Sphere T
     keeps = half_split_keeps S T f e a b t tip n sound is_split (map-sphere mesh.sound mesh.sphere)

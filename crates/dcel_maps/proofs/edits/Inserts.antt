@@ -2,6 +2,8 @@
 use Rattle.std.proofs.Common.{◌≡◌, ◌≢◌, ◌⊎◌, inl, inr, ℕ, ◌+◌, ◌*◌, ◌/◌, ◌<◌, List, [], ◌∷◌, length, unwrap_or, Some, add-zero, append-nil, refl, sym, ap, ◌∙◌, subst, arith}
 use Rattle.std.proofs.lemmas.Bool.{cases_eq}
 use Rattle.dcel_maps.specs.Conditions.{HasRoom, IsTriangle, IsUnconnected}
+use Rattle.dcel_maps.specs.EditLists.{ComesBy}
+use Rattle.dcel_maps.specs.EditLists.EditKind.{ear_cut, spur_added}
 use Rattle.dcel_maps.specs.Shapes.{adjacent_edge_of, IsLive, IsMesh, Mesh, face_anchor, face_count, face_of, map_of, next_of, origin_of, prev_of}
 use Rattle.dcel_maps.specs.edits.Triangle.{vertex_inserted}
 use Rattle.dcel_maps.specs.Maps.{Live}
@@ -9,12 +11,12 @@ use Rattle.dcel_maps.specs.theory.Sound.{Sound, Sphere}
 use Rattle.dcel_maps.specs.Removals.{gives_up_face}
 use Rattle.dcel_maps.specs.theory.Standing.{Stands}
 use Rattle.dcel_maps.proofs.Liveness.{is_live-parts, vertex_live-parts}
-use Rattle.dcel_maps.proofs.edits.Changes.{Change, IsEdit, changed, fits_with}
+use Rattle.dcel_maps.proofs.edits.Changes.{Change, IsEdit, changed, fits_with, map_after}
 use Rattle.dcel_maps.proofs.edits.Growing.{after-each, after-edge, after-origin, after-still}
 use Rattle.dcel_maps.proofs.edits.Linking.{face_live-at, linked-corner, linked-old, triangle_full-least, triangle_of, stays-linked}
 use Rattle.dcel_maps.proofs.edits.Patches.{patched_at-first, patched_at-new, pushing, puts_here, replacing, Untouched}
 use Rattle.dcel_maps.proofs.edits.Starting.{NewStart, start_labelled, starts-new}
-use Rattle.dcel_maps.proofs.maps.Insert.{Insert, insert_keeps}
+use Rattle.dcel_maps.proofs.maps.Insert.{Insert, insert_comes, insert_keeps}
 use Rattle.dcel_maps.proofs.maps.Labels.{Labelled}
 use Rattle.dcel_maps.proofs.maps.Triangles.{Alone, IsTriangleOf, Off, by_triangle, off_another, off_face, IsLinked, SameLinks}
 use Rattle.dcel_maps.proofs.shapes.Maps.{map-sphere}
@@ -149,6 +151,9 @@ module _ {V DE UE F : Type 0} (m : Mesh V DE UE F) (mesh : IsMesh m) (f a b c ti
     faces = refl;
   }
 
+  insertion_made : ComesBy (spur_added ∷ ear_cut ∷ ear_cut ∷ []) S T
+  insertion_made = insert_comes S T f a b c tip n sound is_insert (map-sphere mesh.sound mesh.sphere)
+
   keeps : Sound T × Sphere T
   keeps = insert_keeps S T f a b c tip n sound is_insert (map-sphere mesh.sound mesh.sphere)
 
@@ -249,3 +254,8 @@ module _ {V DE UE F : Type 0} (m : Mesh V DE UE F) (mesh : IsMesh m) (f a : ℕ)
     pub inserted_is_edit : IsUnconnected m.shape tip → HasRoom m.shape 0 3 2 → length halves ≡ 6 → length edges ≡ 3 → length faces ≡ 2 → IsEdit m inserted
     inserted_is_edit unconnected room six three two =
         insertion_is_edit m mesh f a (next_of m.shape a) (prev_of m.shape a) tip anchored_triangle anchor unconnected room halves edges faces six three two
+
+    pub inserted_made : IsUnconnected m.shape tip → HasRoom m.shape 0 3 2 → length halves ≡ 6 → length edges ≡ 3 → length faces ≡ 2
+        → ComesBy (spur_added ∷ ear_cut ∷ ear_cut ∷ []) (map_of m.shape) (map_after m.shape inserted)
+    inserted_made unconnected room six three two =
+        insertion_made m mesh f a (next_of m.shape a) (prev_of m.shape a) tip anchored_triangle anchor unconnected room halves edges faces six three two

@@ -1,14 +1,16 @@
 -- A line made longer at an end: the out edge of the end, and the spur put in before it.
-use Rattle.std.proofs.Common.{◌≡◌, ℕ, ◌+◌, ◌*◌, List, length, unwrap_or, Option, Some, None, add-zero, append-nil, refl, sym, ap, ◌∙◌, subst}
+use Rattle.std.proofs.Common.{◌≡◌, ℕ, ◌+◌, ◌*◌, List, [], ◌∷◌, length, unwrap_or, Option, Some, None, add-zero, append-nil, refl, sym, ap, ◌∙◌, subst}
 use Rattle.dcel_fixed.specs.HalfEdges.{rev}
 use Rattle.dcel_fixed.proofs.Halves.{rev-rev}
 use Rattle.dcel_maps.specs.Conditions.{HasRoom, IsLineEnd, IsUnconnected}
+use Rattle.dcel_maps.specs.EditLists.{ComesBy}
+use Rattle.dcel_maps.specs.EditLists.EditKind.{spur_added}
 use Rattle.dcel_maps.specs.edits.Line.{line_extended}
 use Rattle.dcel_maps.specs.Shapes.{out_edge_of, IsLive, IsMesh, AnchorsVertex, Mesh, face_of, map_of, next_of, origin_of, vertex_anchor}
 use Rattle.dcel_maps.specs.theory.Sound.{Sound}
 use Rattle.dcel_maps.proofs.Liveness.{vertex_live-parts}
-use Rattle.dcel_maps.proofs.edits.Changes.{Change, IsEdit, changed}
-use Rattle.dcel_maps.proofs.edits.Spurs.{spur, spur_is_edit}
+use Rattle.dcel_maps.proofs.edits.Changes.{Change, IsEdit, changed, map_after}
+use Rattle.dcel_maps.proofs.edits.Spurs.{spur, spur_made, spur_is_edit}
 use Rattle.dcel_maps.proofs.maps.Soundness.{rev_live}
 use Rattle.dcel_maps.proofs.shapes.Maps.{map-sound}
 use Rattle.dcel_maps.proofs.walks.Links.{next-live}
@@ -63,3 +65,12 @@ module _ {V DE UE F : Type 0} (m : Mesh V DE UE F) (end out tip : ℕ) (halves :
         let from : origin_of m.shape (next_of m.shape (rev out)) ≡ end = ap (origin_of m.shape) at.turns ∙ at.from in
         let start : (after v : ℕ) → Change V DE UE F = λ after v. spur m (2 * m.shape.edges) (rev out) after (face_of m.shape (rev out)) v tip halves edges in
         subst (λ after. IsEdit m (start after end)) at.turns (subst (λ v. IsEdit m (start (next_of m.shape (rev out)) v)) from edit)
+
+    pub extension_made : IsUnconnected m.shape tip → HasRoom m.shape 0 1 0 → length halves ≡ 2 → length edges ≡ 1
+        → ComesBy (spur_added ∷ []) (map_of m.shape) (map_after m.shape extension)
+    extension_made unconnected room two one =
+        let edit = spur_made m mesh (rev out) tip at.back unconnected room halves edges two one in
+        let from : origin_of m.shape (next_of m.shape (rev out)) ≡ end = ap (origin_of m.shape) at.turns ∙ at.from in
+        let start : (after v : ℕ) → Change V DE UE F = λ after v. spur m (2 * m.shape.edges) (rev out) after (face_of m.shape (rev out)) v tip halves edges in
+        let Comes : (after v : ℕ) → Type 0 = λ after v. ComesBy (spur_added ∷ []) (map_of m.shape) (map_after m.shape (start after v)) in
+        subst (λ after. Comes after end) at.turns (subst (λ v. Comes (next_of m.shape (rev out)) v) from edit)

@@ -4,6 +4,8 @@ use Rattle.std.proofs.lemmas.Bool.{cases_eq}
 use Rattle.dcel_fixed.specs.HalfEdges.{rev}
 use Rattle.dcel_fixed.proofs.Halves.{rev-double}
 use Rattle.dcel_maps.specs.Conditions.{HasRoom, IsBridge, IsUnconnected}
+use Rattle.dcel_maps.specs.EditLists.{ComesBy}
+use Rattle.dcel_maps.specs.EditLists.EditKind.{edge_subdivided}
 use Rattle.dcel_maps.specs.edits.Split.{edge_split_on_line, with_middle}
 use Rattle.dcel_maps.specs.Cyclic.{from_least}
 use Rattle.dcel_maps.specs.Maps.{Live}
@@ -20,6 +22,7 @@ use Rattle.dcel_maps.proofs.maps.Counts.{Used}
 use Rattle.dcel_maps.proofs.maps.Edits.{Subdivide, first_part, last_part}
 use Rattle.dcel_maps.proofs.maps.Growth.{spur_at}
 use Rattle.dcel_maps.proofs.maps.Labels.{KeepsLabel, labelled-kept}
+use Rattle.dcel_maps.proofs.maps.Lists.{comes_once}
 use Rattle.dcel_maps.proofs.maps.Soundness.{rev_live}
 use Rattle.dcel_maps.proofs.maps.Subdivides.{by_first, by_part, first-other, first-rev, last-h, last-other, subdivide_keeps}
 use Rattle.dcel_maps.proofs.maps.Updates.{put, put_other, put_same}
@@ -159,6 +162,9 @@ module _ {V DE UE F : Type 0} (m : Mesh V DE UE F) where
       origin_k = patched_at-first _ n c.origin;
       origin_rev = after-origin m.shape c t live_t ∙ put_same _ t tip;
     }
+
+    pub middle_made : ComesBy (edge_subdivided ∷ []) S T
+    middle_made = comes_once edge_subdivided S T (e, n, tip, is_subdivision)
 
     keeps : Sound T × Sphere T
     keeps = subdivide_keeps S T e n tip is_subdivision sound (map-sphere mesh.sound mesh.sphere)

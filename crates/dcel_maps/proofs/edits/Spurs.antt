@@ -4,6 +4,8 @@ use Rattle.std.proofs.lemmas.Bool.{cases_eq}
 use Rattle.dcel_fixed.specs.HalfEdges.{rev}
 use Rattle.dcel_fixed.proofs.Halves.{rev-double-suc}
 use Rattle.dcel_maps.specs.Conditions.{HasRoom, IsUnconnected}
+use Rattle.dcel_maps.specs.EditLists.{ComesBy}
+use Rattle.dcel_maps.specs.EditLists.EditKind.{spur_added}
 use Rattle.dcel_maps.specs.Maps.{Live}
 use Rattle.dcel_maps.specs.theory.Sound.{Sound, Sphere}
 use Rattle.dcel_maps.specs.Shapes.{IsLive, IsMesh, Mesh, face_anchor, face_of, next_of, origin_of}
@@ -18,6 +20,7 @@ use Rattle.dcel_maps.proofs.maps.Counts.{Used}
 use Rattle.dcel_maps.proofs.maps.Edits.{Spur}
 use Rattle.dcel_maps.proofs.maps.Growth.{spur_at}
 use Rattle.dcel_maps.proofs.maps.Labels.{KeepsLabel, labelled-kept}
+use Rattle.dcel_maps.proofs.maps.Lists.{comes_once}
 use Rattle.dcel_maps.proofs.maps.Spurs.{spur_keeps}
 use Rattle.dcel_maps.proofs.maps.Updates.{put_other, put_same}
 use Rattle.dcel_maps.proofs.shapes.Maps.{face-live, map-sphere}
@@ -91,6 +94,9 @@ module _ {V DE UE F : Type 0} (m : Mesh V DE UE F) where
       face_other = after-face m.shape c;
       faces = add-zero (length m.shape.words);
     }
+
+    pub spur_made : ComesBy (spur_added ∷ []) S T
+    spur_made = comes_once spur_added S T (before, n + 1, tip, is_spur)
 
     keeps : Sound T × Sphere T
     keeps = spur_keeps S T before (n + 1) tip is_spur sound (map-sphere mesh.sound mesh.sphere)

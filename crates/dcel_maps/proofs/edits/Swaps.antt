@@ -1,5 +1,5 @@
 -- Two vertices in each other's place.
-use Rattle.std.proofs.Common.{◌≡◌, ◌≢◌, inl, inr, ℕ, ◌+◌, ◌/◌, ◌==◌, ◌<◌, true, Bool, false, cond, List, length, Option, Some, None, slice_index, slice_index_or, refl, sym, ap, ◌∙◌, arith}
+use Rattle.std.proofs.Common.{◌≡◌, ◌≢◌, inl, inr, ℕ, ◌+◌, ◌/◌, ◌==◌, ◌<◌, true, Bool, false, cond, List, [], ◌∷◌, length, Option, Some, None, slice_index, slice_index_or, refl, sym, ap, ◌∙◌, arith}
 use Rattle.std.specs.Prelude.{swap}
 use Rattle.std.specs.List.{enumerate_from}
 use Rattle.std.proofs.lemmas.Bool.{cases_eq, cond_both}
@@ -7,11 +7,14 @@ use Rattle.std.proofs.lemmas.Bool.Decides.{nat_tests}
 use Rattle.std.proofs.lemmas.List.{get_or-map, length-map, ext_get_or, same_lists}
 use Rattle.std.proofs.lemmas.List.Edits.{length-swap, swapped_from_swap}
 use Rattle.std.proofs.lemmas.List.FromFn.{get_or-enumerate_from, length-enumerate_from}
+use Rattle.dcel_maps.specs.EditLists.{EditedBy}
+use Rattle.dcel_maps.specs.EditLists.EditKind.{numbers_changed}
 use Rattle.dcel_maps.specs.edits.Rename.{exchanged, renamed_origins, vertices_swapped}
 use Rattle.dcel_maps.specs.Shapes.{AnchorsVertex, IsAnchored, IsLive, IsMesh, IsSized, IsSound, Mesh, Shape, edge_is_live, map_of, origin_of, vertex_anchor, vertex_is_live}
 use Rattle.dcel_maps.specs.theory.Sound.{Sound, Sphere}
 use Rattle.dcel_maps.proofs.Liveness.{vertex_live-parts}
 use Rattle.dcel_maps.proofs.maps.Edits.{Renamed}
+use Rattle.dcel_maps.proofs.maps.Lists.{comes_once}
 use Rattle.dcel_maps.proofs.maps.Renames.{renamed_keeps}
 use Rattle.dcel_maps.proofs.shapes.Maps.{map-sound, map-sphere, sphere-from_map}
 use Rattle.dcel_maps.proofs.walks.Links.{half-below}
@@ -147,6 +150,9 @@ module _ {V DE UE F : Type 0} (m : Mesh V DE UE F) (mesh : IsMesh m) (a b : ℕ)
             rw (swapped-origin h live) (exchanged_keeps (λ v. v < s.vertices) a b (origin_of s h) a_below b_below (sound.below_vertices h live));
         below_faces = sound.below_faces;
       }
+
+  pub swapped_made : EditedBy (numbers_changed ∷ []) m (vertices_swapped m a b)
+  swapped_made = comes_once numbers_changed (map_of s) (map_of t) (λ h. h, λ h. h, exchanged a b, λ f. f, renamed)
 
   swapped_map : Sound (map_of t) × Sphere (map_of t)
   swapped_map =

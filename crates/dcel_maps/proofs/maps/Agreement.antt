@@ -1,17 +1,11 @@
 -- Maps that agree on all that is live, and maps with no live edge.
-use Rattle.std.proofs.Common.{◌≡◌, ◌/◌, ◌≤◌, ℕ, false, sym, refl, ◌∙◌, arith}
+use Rattle.std.proofs.Common.{◌≡◌, ◌/◌, ℕ, false, sym, refl, ◌∙◌, arith}
 use Rattle.std.proofs.lemmas.Bool.{false≢true}
+pub use Rattle.dcel_maps.specs.EditLists.{Extends, LinksAgree}
 use Rattle.dcel_maps.specs.Maps.{Live, Map}
 use Rattle.dcel_maps.specs.theory.Sound.{Sound, Sphere}
 use Rattle.dcel_maps.proofs.maps.Edits.{Renamed}
 use Rattle.dcel_maps.proofs.maps.Renames.{renamed_keeps, renamed_sound}
-
--- T links the live half edges of S as S does
-pub record LinksAgree (S T : Map) : Type 0 where
-  pub next : (x : ℕ) → Live S x → T.next x ≡ S.next x
-  pub prev : (x : ℕ) → Live S x → T.prev x ≡ S.prev x
-  pub origin : (x : ℕ) → Live S x → T.origin x ≡ S.origin x
-  pub face : (x : ℕ) → Live S x → T.face x ≡ S.face x
 
 -- T has the counts of S and its live edges, linked as S links them
 pub record Agrees (S T : Map) : Type 0 where
@@ -22,16 +16,7 @@ pub record Agrees (S T : Map) : Type 0 where
   pub links : LinksAgree S T
   pub open links use *
 
--- T has the live edges of S, linked as S links them, and counts that are no smaller
-pub record Extends (S T : Map) : Type 0 where
-  pub vertices : S.vertices ≤ T.vertices
-  pub edges : S.edges ≤ T.edges
-  pub faces : S.faces ≤ T.faces
-  pub edge : (u : ℕ) → T.edge u ≡ S.edge u
-  pub links : LinksAgree S T
-  pub open links use *
-
-extends_renamed : (S T : Map) → Extends S T → Sound S → Renamed S T (λ x. x) (λ x. x) (λ v. v) (λ f. f)
+pub extends_renamed : (S T : Map) → Extends S T → Sound S → Renamed S T (λ x. x) (λ x. x) (λ v. v) (λ f. f)
 extends_renamed S T a s =
     let live : (x : ℕ) → Live T x → Live S x = λ x l. sym (a.edge (x / 2)) ∙ l in
     record {
@@ -61,7 +46,7 @@ extends_sound S T a s = renamed_sound S T (λ x. x) (λ x. x) (λ v. v) (λ f. f
 pub extends_keeps : (S T : Map) → Extends S T → Sound S → Sphere S → Sound T × Sphere T
 extends_keeps S T a s = renamed_keeps S T (λ x. x) (λ x. x) (λ v. v) (λ f. f) (extends_renamed S T a s) s
 
-agrees_extends : (S T : Map) → Agrees S T → Extends S T
+pub agrees_extends : (S T : Map) → Agrees S T → Extends S T
 agrees_extends S T a = record {
   vertices = let e = a.vertices in omega arith;
   edges = let e = a.edges in omega arith;
@@ -81,7 +66,7 @@ agrees_keeps S T a = extends_keeps S T (agrees_extends S T a)
 pub agrees-sphere : (S T : Map) → Agrees S T → Sound S → Sphere S → Sphere T
 agrees-sphere S T a s m = (agrees_keeps S T a s m).1
 
-none_live : (M : Map) → ((u : ℕ) → M.edge u ≡ false) → (x : ℕ) → Live M x → ⊥
+pub none_live : (M : Map) → ((u : ℕ) → M.edge u ≡ false) → (x : ℕ) → Live M x → ⊥
 none_live M none x l = false≢true (sym (none (x / 2)) ∙ l)
 
 -- a map with no live edge is sound

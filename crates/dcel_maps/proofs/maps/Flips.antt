@@ -1,13 +1,16 @@
 -- An edge turned between two triangles keeps a map sound and a sphere: the two are joined, and the edge is put in again as an ear.
-use Rattle.std.proofs.Common.{◌≡◌, ◌≢◌, ◌/◌, ℕ, false, refl, sym, ap, ◌∙◌, arith}
+use Rattle.std.proofs.Common.{◌≡◌, ◌≢◌, [], ◌∷◌, ◌/◌, ℕ, false, refl, sym, ap, ◌∙◌, arith}
 use Rattle.std.proofs.lemmas.Bool.Decides.{nat_tests}
 use Rattle.dcel_fixed.specs.HalfEdges.{rev}
+use Rattle.dcel_maps.specs.EditLists.{ComesBy}
+use Rattle.dcel_maps.specs.EditLists.EditKind.{ear_cut, words_joined}
 use Rattle.dcel_maps.specs.Maps.{Live, Map}
 use Rattle.dcel_maps.specs.theory.Sound.{Sound, Sphere}
 use Rattle.dcel_maps.proofs.maps.Ears.{ear_keeps, two_in}
 use Rattle.dcel_maps.proofs.maps.Edits.{Ear, two}
 use Rattle.dcel_maps.proofs.maps.Halves.{rev_half, turn_back}
-use Rattle.dcel_maps.proofs.maps.Joins.{Join, join, join_is, join_keeps, join_still_live, join_vacant, join_was_live}
+use Rattle.dcel_maps.proofs.maps.Joins.{Join, join, join_edit, join_is, join_keeps, join_still_live, join_vacant, join_was_live}
+use Rattle.dcel_maps.proofs.maps.Lists.{comes_once, ear_after}
 use Rattle.dcel_maps.proofs.maps.Triangles.{IsTriangleOf, Off, SameLinks, by_triangle, facing_differ, off_triangle}
 use Rattle.dcel_maps.proofs.maps.Updates.{put}
 
@@ -120,6 +123,12 @@ module _ (S T : Map) (f g e a b t c d : ℕ) (s : Sound S) (x : Flip S T f g e a
           face_below = omega (arith, s.below_faces e p.live_x, p.face_x, x.faces);
         };
       }
+
+  -- two words joined, and an ear
+  pub flip_comes : Sphere S → ComesBy (words_joined ∷ ear_cut ∷ []) S T
+  flip_comes sphere =
+      ear_after (words_joined ∷ []) S M T d a b t f s sphere
+      (comes_once words_joined S M (join_edit S t s x.facing.live_x two_faces)) is_ear
 
   pub flip_keeps : Sphere S → Sound T × Sphere T
   flip_keeps sphere =

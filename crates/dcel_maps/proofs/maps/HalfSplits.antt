@@ -1,14 +1,17 @@
 -- A vertex put into an edge of a triangle, which is cut in two: a subdivision and an ear.
-use Rattle.std.proofs.Common.{◌≡◌, ◌≢◌, inl, inr, ◌+◌, ◌/◌, ◌<◌, ℕ, sym, refl, ◌∙◌, arith}
+use Rattle.std.proofs.Common.{◌≡◌, ◌≢◌, [], ◌∷◌, inl, inr, ◌+◌, ◌/◌, ◌<◌, ℕ, sym, refl, ◌∙◌, arith}
 use Rattle.std.proofs.lemmas.Bool.{cases_eq}
 use Rattle.std.proofs.lemmas.Bool.Decides.{nat_tests}
 use Rattle.dcel_fixed.specs.HalfEdges.{rev}
+use Rattle.dcel_maps.specs.EditLists.{ComesBy}
+use Rattle.dcel_maps.specs.EditLists.EditKind.{ear_cut, edge_subdivided}
 use Rattle.dcel_maps.specs.Maps.{Live, Map}
 use Rattle.dcel_maps.specs.theory.Sound.{Sound, Sphere}
 use Rattle.dcel_maps.proofs.maps.Between.{Between, between_subdivides}
 use Rattle.dcel_maps.proofs.maps.Counts.{edge_past}
 use Rattle.dcel_maps.proofs.maps.Eared.{HasEar, has_ear-keeps, is_ear, without_ear}
 use Rattle.dcel_maps.proofs.maps.Edits.{Ear, Subdivide}
+use Rattle.dcel_maps.proofs.maps.Lists.{comes_once, ear_after}
 use Rattle.dcel_maps.proofs.maps.Middles.{Joined, joined_at, joined_below, joined_ear, joined_leads_on, joined_live, joined_off, joined_starts}
 use Rattle.dcel_maps.proofs.maps.Soundness.{face_prev}
 use Rattle.dcel_maps.proofs.maps.Subdivides.{subdivide_keeps}
@@ -132,6 +135,12 @@ module _ (S T : Map) (f e a b t v n : ℕ) (s : Sound S) (x : HalfSplit S T f e 
   -- without the ear it is a subdivision
   pub half_subdivides : Subdivide S half_uncut e (n + 2) v
   half_subdivides = between_subdivides S half_uncut e (n + 2) v s is_between
+
+  -- a subdivision and an ear
+  pub half_split_comes : Sphere S → ComesBy (edge_subdivided ∷ ear_cut ∷ []) S T
+  half_split_comes sphere =
+      ear_after (edge_subdivided ∷ []) S half_uncut T (n + 2) a b (n + 1) S.faces s sphere
+      (comes_once edge_subdivided S half_uncut (e, n + 2, v, half_subdivides)) half_is_ear
 
   -- a half edge that is split keeps a map sound and a sphere
   pub half_split_keeps : Sphere S → Sound T × Sphere T

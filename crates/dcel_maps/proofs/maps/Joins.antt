@@ -2,6 +2,8 @@
 use Rattle.std.proofs.Common.{◌≡◌, ◌≢◌, inl, inr, ◌/◌, ◌<◌, ◌≤◌, ◌==◌, ℕ, Bool, true, false, cond, eqb-true, eq-eqb, sym, refl, ap, ◌∙◌, arith}
 use Rattle.std.proofs.lemmas.Bool.{cases_eq, cond-true, cond-false, false≢true, ne_eqb}
 use Rattle.dcel_fixed.specs.HalfEdges.{rev}
+use Rattle.dcel_maps.specs.EditLists.{Edit}
+use Rattle.dcel_maps.specs.EditLists.EditKind.{words_joined}
 use Rattle.dcel_maps.specs.Maps.{Live, Map}
 use Rattle.dcel_maps.specs.theory.Sound.{Sound, Sphere}
 use Rattle.dcel_maps.proofs.maps.Edits.{ChordAt, Cut}
@@ -329,3 +331,8 @@ module _ (S : Map) (h : ℕ) where
   -- a join keeps a map sound and a sphere
   pub join_keeps : Sound S → Sphere S → Live S h → S.face h ≢ S.face (rev h) → Sound (join S h) × Sphere (join S h)
   join_keeps s m lives two_faces = joined_keeps S (join S h) h s (join_is s (record { lives = lives; two_faces = two_faces })) m
+
+  pub join_edit : Sound S → Live S h → S.face h ≢ S.face (rev h) → Edit words_joined S (join S h)
+  join_edit s lives two_faces =
+      let at : JoinAt S h = record { lives = lives; two_faces = two_faces } in
+      (S.next (rev h), S.next h, h, S.face (rev h), is_beyond S h, join_unchords S (join S h) h s (join_is s at))

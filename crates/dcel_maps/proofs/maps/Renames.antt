@@ -119,7 +119,7 @@ module _ (S T : Map) (f f' o w : ℕ → ℕ) (e : Renamed S T f f' o w) (s : So
       (e.comes x l) (c (f' x) (f' y) (e.comes x l) (e.comes y m)))
 
   -- as many edges are live
-  edges_even : count T.edge T.edges ≡ count S.edge S.edges
+  pub edges_even : count T.edge T.edges ≡ count S.edge S.edges
   edges_even =
       let back : (y : ℕ) → Live T y → rev (f' y) ≡ f' (rev y) = on (λ y. rev (f' y) ≡ f' (rev y))
       (λ x l. ap rev (e.forth x l) ∙ sym (e.forth (rev x) (rev_live S x l)) ∙ ap f' (sym (e.turn x l))) in

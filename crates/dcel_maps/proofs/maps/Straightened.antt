@@ -2,6 +2,8 @@
 use Rattle.std.proofs.Common.{◌≡◌, ◌≢◌, ◌⊎◌, inl, inr, ◌/◌, ℕ, false, sym, refl, ap, ◌∙◌, subst, arith}
 use Rattle.std.proofs.lemmas.Bool.{cases_eq}
 use Rattle.dcel_fixed.specs.HalfEdges.{rev}
+use Rattle.dcel_maps.specs.EditLists.{Edit}
+use Rattle.dcel_maps.specs.EditLists.EditKind.{edges_joined}
 use Rattle.dcel_maps.specs.Maps.{By, Live, Map, ccw}
 use Rattle.dcel_maps.specs.theory.Sound.{Sound, Sphere}
 use Rattle.dcel_maps.specs.theory.Standing.{Follows}
@@ -246,6 +248,9 @@ module _ (T : Map) (h k : ℕ) (t : Sound T) (e : StraightensAt T h k) where
 
   pub straightened_keeps : Sphere T → Sound S × Sphere S
   straightened_keeps sphere = unsubdivide_keeps S T h k (T.origin k) unsubdivides t sphere
+
+  pub straightened_edit : Edit edges_joined T S
+  straightened_edit = (h, k, T.origin k, unsubdivides)
 
   -- a link that comes from neither h nor the other half of k
   pub straightened_follows : Sound S → (f p q : ℕ) → p ≢ h → p ≢ rev k → Follows T f p q → Follows S f (whole h k p) (whole h k q)

@@ -98,6 +98,7 @@ pub record HoleAt (s : Shape) (v : ℕ) (ring : List ℕ) (n : ℕ) : Type 0 whe
   pub spokes : List ℕ
   pub map : Map
   pub is_hole : HoleOf (map_of s) map spokes ring n
+  pub as_long : length spokes ≡ length ring
   pub out : (x : ℕ) → IsOutEdge s v x → 0 < count_of x spokes
   pub each_out : (x : ℕ) → 0 < count_of x spokes → IsOutEdge s v x
   pub along : (x : ℕ) → 0 < count_of x spokes → 0 < count_of (next_of s x) ring
@@ -158,6 +159,7 @@ module _ (s : Shape) (sound : IsSound s) (sphere : IsSphere s) (border : List �
         spokes = l.first ∷ trip.rest;
         map = found.0;
         is_hole = subst (λ (r : List ℕ). HoleOf S found.0 (l.first ∷ trip.rest) r n) (sym ring_is) found.1;
+        as_long = sym (length-map (l.first ∷ trip.rest) (next_of s)) ∙ ap length (sym ring_is);
         out = λ x out. subst (λ (w : List ℕ). 0 < count_of x w) trip.from (let each = (walk-out_edges sound v l.first l.out).each x out in omega (arith, each));
         each_out = lists;
         along = λ x found. subst (λ (w : List ℕ). 0 < count_of (next_of s x) w) (sym ring_is) (count-mapped (next_of s) (l.first ∷ trip.rest) x found);

@@ -2,6 +2,8 @@
 use Rattle.std.proofs.Common.{◌≡◌, ◌≢◌, ◌⊎◌, inl, inr, ◌+◌, ◌*◌, ◌/◌, ◌<◌, ◌≤◌, ℕ, suc, true, List, [], ◌∷◌, length, sym, refl, ap, ◌∙◌, subst, arith}
 use Rattle.std.proofs.lemmas.Bool.{cases_eq}
 use Rattle.dcel_fixed.specs.HalfEdges.{rev}
+use Rattle.dcel_maps.specs.EditLists.{ComesBy}
+use Rattle.dcel_maps.specs.EditLists.EditKind.{ear_cut}
 use Rattle.dcel_maps.specs.Maps.{Live, Map}
 use Rattle.dcel_maps.specs.theory.Sound.{Sound, Sphere}
 use Rattle.dcel_maps.specs.theory.Standing.{Follows}
@@ -11,6 +13,7 @@ use Rattle.dcel_maps.proofs.maps.Counts.{edge_past}
 use Rattle.dcel_maps.proofs.maps.Ears.{EarSite, ear_keeps, ear_site}
 use Rattle.dcel_maps.proofs.maps.Edits.{Ear, EarAt}
 use Rattle.dcel_maps.proofs.maps.Growth.{Grown, drawn_grown, each_live, live_cases, still_live}
+use Rattle.dcel_maps.proofs.maps.Lists.{comes_first, ear_edit, extends_same, one_each}
 use Rattle.dcel_maps.proofs.removal.Eared.{ear, ear_face-h, ear_face-n, ear_face-other, ear_face-p, ear_is, ear_next-n, ear_next-other}
 use Rattle.dcel_maps.proofs.maps.Soundness.{face_cycles, rev_live}
 use Rattle.dcel_maps.proofs.maps.Triangles.{IsTriangleOf, SameLinks, triangle_from, triangle_kept}
@@ -297,3 +300,12 @@ fanned [] S m g n p q r a =
 fanned (x ∷ rest) S m g n p q r a =
     then_fanned S m g n p q r x rest a (fan (ear S p q r (2 * m + 1) g) (suc m) (suc g) (2 * m + 1) r x rest)
     (fanned rest (ear S p q r (2 * m + 1) g) (suc m) (suc g) n (2 * m + 1) r x (next_at S m g n p q r x rest a))
+
+-- it is an ear for each item after the third
+pub fan_comes : (rest : List ℕ) (S : Map) (m g n p q r : ℕ) → FanAt S m g n p q r rest → ComesBy (one_each ear_cut rest) S (fan S m g p q r rest)
+unfolding fan T
+fan_comes [] S m g n p q r a = extends_same S
+fan_comes (x ∷ rest) S m g n p q r a =
+    comes_first ear_cut (one_each ear_cut rest) S (ear S p q r (2 * m + 1) g) (fan (ear S p q r (2 * m + 1) g) (suc m) (suc g) (2 * m + 1) r x rest)
+    (ear_edit S (ear S p q r (2 * m + 1) g) p q r (2 * m + 1) g (e S m g n p q r x rest a) a.sound)
+    (fan_comes rest (ear S p q r (2 * m + 1) g) (suc m) (suc g) n (2 * m + 1) r x (next_at S m g n p q r x rest a))

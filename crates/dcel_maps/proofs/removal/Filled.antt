@@ -1,7 +1,9 @@
 -- The shape with its hole filled is sound and a sphere.
-use Rattle.std.proofs.Common.{◌≡◌, ◌≢◌, ◌⊎◌, ◌↔◌, inl, inr, ◌+◌, ◌-◌, ◌*◌, ◌/◌, ◌<◌, ◌≤◌, ℕ, suc, true, false, List, [], ◌∷◌, length, slice_index, sym, refl, ap, ◌∙◌, subst, arith}
+use Rattle.std.proofs.Common.{◌≡◌, ◌≢◌, ◌⊎◌, ◌↔◌, inl, inr, ◌+◌, ◌-◌, ◌*◌, ◌/◌, ◌<◌, ◌≤◌, ℕ, suc, true, false, List, [], ◌∷◌, length, slice_index, sym, refl, ap, ◌∙◌, subst, arith, ◌++◌}
 use Rattle.std.proofs.lemmas.Bool.{both_ways, cases_Bool, cases_eq, cases_lt, false_from_ne_true}
 use Rattle.std.proofs.lemmas.List.{get_or-append-add, get_or_append_left, length-append}
+use Rattle.dcel_maps.specs.EditLists.{ComesBy, EditKind}
+use Rattle.dcel_maps.specs.EditLists.EditKind.{ear_cut}
 use Rattle.dcel_maps.specs.Hiding.{kept_words}
 use Rattle.dcel_maps.specs.Maps.{Live, Map}
 use Rattle.dcel_maps.specs.Removals.{Closed, Removal, gives_up_edge, gives_up_face, gives_up_vertex, shown}
@@ -10,12 +12,13 @@ use Rattle.dcel_maps.specs.theory.Standing.{Stands}
 use Rattle.dcel_maps.specs.Words.{count_of, word_of}
 use Rattle.dcel_maps.specs.edits.Fill.{ear_origins, ears, ring_filled}
 use Rattle.dcel_maps.proofs.Liveness.{closed-live, gives_up_face-closed, is_live-from, is_live-parts, bare_word}
+use Rattle.dcel_maps.proofs.maps.Lists.{comes_after, comes_then, one_each}
 use Rattle.dcel_maps.proofs.Shown.{length-shown, slice_index-shown_live}
-use Rattle.dcel_maps.proofs.maps.Agreement.{Agrees, agrees-sound, agrees-sphere}
+use Rattle.dcel_maps.proofs.maps.Agreement.{Agrees, agrees-sound, agrees-sphere, agrees_extends}
 use Rattle.dcel_maps.proofs.maps.Counts.{same_tests}
 use Rattle.dcel_maps.proofs.maps.Triangles.{triangle_from}
 use Rattle.dcel_maps.proofs.removal.Ears.{ear_full, ear_words, ears_same, last_first, last_live, last_origin, length-ears, listed_origin, new_origin}
-use Rattle.dcel_maps.proofs.removal.Fans.{EarOrigins, EarTriangles, FanAt, Fanned, fan, fanned, origins_same}
+use Rattle.dcel_maps.proofs.removal.Fans.{EarOrigins, EarTriangles, FanAt, Fanned, fan, fanned, origins_same, fan_comes}
 use Rattle.dcel_maps.proofs.removal.Hiding.{hidden, length-hiding, not_hidden}
 use Rattle.dcel_maps.proofs.removal.Hollows.{HollowOf, StartsOnRing}
 use Rattle.dcel_maps.proofs.removal.Spokes.{path_item}
@@ -221,6 +224,14 @@ module _ {V DE UE F : Type 0} (m : Mesh V DE UE F) (p q r : ℕ) (rest : List �
 
   agrees : Agrees M (map_of t)
   agrees = shown-agrees t M shows
+
+  -- the hole is filled by ears
+  pub filled_comes : (kinds : List EditKind) → ComesBy kinds (map_of s) hole.map → ComesBy (kinds ++ one_each ear_cut rest) (map_of s) (map_of t)
+  unfolding M
+  filled_comes kinds comes =
+      comes_after (kinds ++ one_each ear_cut rest) (map_of s) M (map_of t)
+      (comes_then kinds (one_each ear_cut rest) (map_of s) P M comes (fan_comes rest P s.edges L (L + k) p q r fan_at))
+      (agrees_extends M (map_of t) agrees)
 
   in_map : (x : ℕ) → IsLive t x → Live M x
   in_map x live = sym (edge_test (x / 2)) ∙ live

@@ -1,20 +1,34 @@
 -- A vertex taken away with its triangles: the hole is one face, which goes along the ring.
-use Rattle.std.proofs.Common.{◌≡◌, ◌≢◌, ◌⊎◌, inl, inr, ◌/◌, ◌<◌, ◌≤◌, ℕ, suc, max, false, List, ◌∷◌, sym, ap, ◌∙◌, subst, arith}
+use Rattle.std.proofs.Common.{◌≡◌, ◌≢◌, ◌⊎◌, ◌-◌, inl, inr, ◌/◌, ◌<◌, ◌≤◌, ℕ, suc, max, false, List, [], ◌∷◌, ◌++◌, sym, ap, ◌∙◌, subst, arith, length, replicate}
 use Rattle.std.proofs.lemmas.Bool.{cases_eq}
 use Rattle.dcel_fixed.specs.HalfEdges.{rev}
+use Rattle.dcel_maps.specs.EditLists.{ComesBy, EditKind, vertex_cut_off}
+use Rattle.dcel_maps.specs.EditLists.EditKind.{numbers_changed, spur_dropped, words_joined}
 use Rattle.dcel_maps.specs.Maps.{Live, Map}
 use Rattle.dcel_maps.specs.theory.Sound.{Sound, Sphere}
 use Rattle.dcel_maps.specs.theory.Standing.{Follows}
 use Rattle.dcel_maps.specs.theory.Cycles.{IsCycle}
 use Rattle.dcel_maps.specs.Words.{count_of}
 use Rattle.dcel_maps.proofs.maps.Halves.{rev-rev, rev_half}
+use Rattle.dcel_maps.proofs.maps.Lists.{comes_first, comes_once, comes_then, one_each, one_each-replicate}
 use Rattle.dcel_maps.proofs.maps.Soundness.{face_cycles}
 use Rattle.dcel_maps.proofs.words.Counts.{absent_head, count-same, first_or_later}
 use Rattle.dcel_maps.proofs.words.Faces.{KeepsFace, keeps_face-then}
 use Rattle.dcel_maps.proofs.words.Paths.{Path-changed}
-use Rattle.dcel_maps.proofs.removal.RenumberedFaces.{Numbered, numbered, renumbered_face}
+use Rattle.dcel_maps.proofs.removal.RenumberedFaces.{Numbered, numbered, renumbered_face, renumbered_edit}
 use Rattle.dcel_maps.proofs.removal.Spokes.{Merged, Opened, Untouched, follows, path_item}
-use Rattle.dcel_maps.proofs.removal.Tips.{SpurGone, away_live, live_away, spur_away, spur_away_keeps, spur_gone}
+use Rattle.dcel_maps.proofs.removal.Tips.{SpurGone, away_live, live_away, spur_away, spur_away_keeps, spur_gone, spur_away_edit}
+
+-- the spokes but the first are joined away, this one is a spur then, and the face gets its number
+abbrev pub hole_kinds : List ℕ → List EditKind
+hole_kinds [] = []
+hole_kinds (h ∷ ks) = one_each words_joined ks ++ spur_dropped ∷ numbers_changed ∷ []
+
+pub hole_kinds-is : (spokes : List ℕ) (k : ℕ) → 0 < k → length spokes ≡ k → hole_kinds spokes ≡ vertex_cut_off k
+hole_kinds-is [] k some long = absurd (omega (arith, some, long))
+hole_kinds-is (h ∷ ks) k some long =
+    let same : length ks ≡ k - 1 = omega (arith, long) in
+    ap (λ kinds. kinds ++ spur_dropped ∷ numbers_changed ∷ []) (one_each-replicate words_joined ks ∙ ap (λ n. replicate n words_joined) same)
 
 -- P is S without the spokes; the face n of P goes along the ring
 pub record HoleOf (S P : Map) (spokes ring : List ℕ) (n : ℕ) : Type 0 where
@@ -29,6 +43,7 @@ pub record HoleOf (S P : Map) (spokes ring : List ℕ) (n : ℕ) : Type 0 where
   pub faces : P.faces ≡ max S.faces (suc n)
   pub keeps_face : (f : ℕ) → f ≢ n → ((x : ℕ) → 0 < count_of x spokes → S.face x ≢ f) → KeepsFace S P f
   pub cases : (x : ℕ) → Live P x → (P.face x ≡ n) ⊎ ((y : ℕ) → 0 < count_of y spokes → S.face y ≢ P.face x)
+  pub comes : ComesBy (hole_kinds spokes) S P
 
 module _ (S K : Map) (h : ℕ) (ks : List ℕ) (b : ℕ) (rest : List ℕ) (g n : ℕ) (o : Opened S K (S.face h) h ks (b ∷ rest) g)
     (free : (x : ℕ) → Live K x → K.face x ≢ g → K.face x ≢ n) where
@@ -145,6 +160,14 @@ module _ (S K : Map) (h : ℕ) (ks : List ℕ) (b : ℕ) (rest : List ℕ) (g n 
       let old = (o.keeps_face f u).comes h m.path.0.live (m.path.0.face ∙ sym i) in
       u.off (sym old.1)
 
+  hollow_comes : ComesBy (hole_kinds (h ∷ ks)) S hollow
+  unfolding U hollow
+  hollow_comes =
+      comes_then (one_each words_joined ks) (spur_dropped ∷ numbers_changed ∷ []) S K hollow o.comes
+      (comes_first spur_dropped (numbers_changed ∷ []) K U hollow
+      (spur_away_edit K k m.sound live_k next_k (λ i. b_apart (sym next_h ∙ i)))
+      (comes_once numbers_changed U hollow (renumbered_edit U g n keeps_U.0 vacant)))
+
   pub is_hollow : HoleOf S hollow (h ∷ ks) (b ∷ rest) n
   is_hollow = record {
     sound = num.sound;
@@ -179,6 +202,7 @@ module _ (S K : Map) (h : ℕ) (ks : List ℕ) (b : ℕ) (rest : List ℕ) (g n 
             ])
           ]
         ];
+    comes = hollow_comes;
   }
 
 -- the same where n is no number of a face yet

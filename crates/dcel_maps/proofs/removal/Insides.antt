@@ -1,8 +1,9 @@
 -- What lies inside a ring, with a vertex or without one, and the hole that it leaves.
-use Rattle.std.proofs.Common.{◌≡◌, ◌≤◌, ◌==◌, ℕ, false, List, [], ◌∷◌, length, reverse, Some, None, sym, refl, ap, ◌∙◌, subst, arith, eq-eqb, Option, ◌<◌, ◌↔◌, true}
+use Rattle.std.proofs.Common.{◌≡◌, ◌≤◌, ◌==◌, ℕ, false, List, [], ◌∷◌, length, reverse, Some, None, sym, refl, ap, ◌∙◌, subst, arith, eq-eqb, Option, ◌<◌, ◌↔◌, true, ◌++◌, replicate}
 use Rattle.std.proofs.lemmas.Bool.{cond-true, cond-false, ne_eqb}
 use Rattle.std.proofs.lemmas.List.{length-reverse}
 use Rattle.dcel_maps.specs.Borders.{IsVertexRing, StartsAlone, center_of}
+use Rattle.dcel_maps.specs.EditLists.EditKind.{numbers_changed, words_joined}
 use Rattle.dcel_maps.specs.Removals.{opened_with, Closed, Removal, gives_up_face, gives_up_vertex, is_this}
 use Rattle.dcel_maps.specs.Renumbering.{cleaned, cleaned_up}
 use Rattle.dcel_maps.specs.Shapes.{IsLive, IsMesh, IsSound, IsSphere, Mesh, Shape, face_count, map_of}
@@ -15,8 +16,8 @@ use Rattle.dcel_maps.proofs.words.Mapped.{any_stands, stands_any}
 use Rattle.dcel_maps.specs.Words.{count_of}
 use Rattle.dcel_maps.specs.Regions.{IsRing, LiesInside, inside, IsRegionRing, IsRim, LeadsPast}
 use Rattle.dcel_maps.specs.Regions.IsRing.{of_region, of_vertex}
-use Rattle.dcel_maps.proofs.removal.Hollows.{HollowOf}
-use Rattle.dcel_maps.proofs.removal.RegionHoles.{region_hole}
+use Rattle.dcel_maps.proofs.removal.Hollows.{HollowOf, HollowBy}
+use Rattle.dcel_maps.proofs.removal.RegionHoles.{region_hole, region_by}
 use Rattle.dcel_maps.proofs.removal.VertexHoles.{vertex_hollow}
 
 -- the hole of a region
@@ -30,19 +31,38 @@ region_hollow s sound sphere border edges faces ring n above =
     along [] cycle whole alone many = absurd (omega (arith, many))
     along (p ∷ rest) cycle whole alone many = region_hole s sound sphere edges faces ring.region p rest cycle whole n above alone
 
+-- and by which edits it comes
+pub region_hollow_by : (s : Shape) → IsSound s → IsSphere s → (border edges faces : List ℕ) → IsRegionRing s border edges faces
+    → (n : ℕ) → face_count s ≤ n
+    → HollowBy s (opened_with edges faces None) (reverse border) n (replicate (length edges) words_joined ++ numbers_changed ∷ [])
+region_hollow_by s sound sphere border edges faces ring n above =
+    along (reverse border) ring.ring ring.whole ring.alone (omega (arith, ring.many, length-reverse border))
+  where
+    along : (w : List ℕ) → IsCycle (LeadsPast (map_of s).next edges) w → ListsOnce (IsRim s edges faces) w → StartsAlone s w → 3 ≤ length w
+        → HollowBy s (opened_with edges faces None) w n (replicate (length edges) words_joined ++ numbers_changed ∷ [])
+    along [] cycle whole alone many = absurd (omega (arith, many))
+    along (p ∷ rest) cycle whole alone many = region_by s sound sphere edges faces ring.region p rest cycle whole n above alone
+
+-- round a vertex lie as many edges as faces, and a region has a face more
+pub as_many : {V DE UE F : Type 0} (m : Mesh V DE UE F) → IsMesh m → (border edges faces : List ℕ) → IsVertexRing m.shape border edges faces
+    → (length edges == length faces) ≡ true
+as_many m mesh border edges faces ring =
+    let long = lists-long m mesh border (center_of m.shape border) ring.border_loop edges faces (ring.each_edge, ring.each_face) in
+    eq-eqb (length edges) (length faces) (long.0 ∙ sym long.1)
+
+pub one_more : (s : Shape) (border edges faces : List ℕ) → IsRegionRing s border edges faces → (length edges == length faces) ≡ false
+one_more s border edges faces ring =
+    let longer = ring.region.fewer in ne_eqb (length edges) (length faces) (λ same. omega (arith, same, longer))
+
 -- what is inside: a vertex, or nothing
 pub inside-vertex : {V DE UE F : Type 0} (m : Mesh V DE UE F) → IsMesh m → (border edges faces : List ℕ) → IsVertexRing m.shape border edges faces
     → inside m.shape border edges faces ≡ Some (center_of m.shape border)
 inside-vertex m mesh border edges faces ring =
-    let long = lists-long m mesh border (center_of m.shape border) ring.border_loop edges faces (ring.each_edge, ring.each_face) in
-    cond-true (length edges == length faces) (Some (center_of m.shape border)) None
-    (eq-eqb (length edges) (length faces) (long.0 ∙ sym long.1))
+    cond-true (length edges == length faces) (Some (center_of m.shape border)) None (as_many m mesh border edges faces ring)
 
 pub inside-none : (s : Shape) (border edges faces : List ℕ) → IsRegionRing s border edges faces → inside s border edges faces ≡ None
 inside-none s border edges faces ring =
-    let longer = ring.region.fewer in
-    cond-false (length edges == length faces) (Some (center_of s border)) None
-    (ne_eqb (length edges) (length faces) (λ same. omega (arith, same, longer)))
+    cond-false (length edges == length faces) (Some (center_of s border)) None (one_more s border edges faces ring)
 
 -- what lies inside a border leaves a hole
 pub inside_hollow : (s : Shape) → IsSound s → IsSphere s → s.removal ≡ Closed → (border edges faces : List ℕ) (v : Option ℕ)

@@ -3,6 +3,7 @@ use Rattle.std.proofs.Common.{◌≡◌, ◌≢◌, ◌↔◌, inl, inr, ◌*◌
 use Rattle.std.proofs.lemmas.Bool.{both_ways, cases_eq, false_from_ne_true, ne_eqb}
 use Rattle.std.proofs.lemmas.List.{get_or-set_same, get_or_past, length-set}
 use Rattle.dcel_fixed.specs.HalfEdges.{rev}
+use Rattle.dcel_maps.specs.EditLists.{ComesBy, EditKind}
 use Rattle.dcel_maps.specs.edits.Degenerate.{word_without}
 use Rattle.dcel_maps.specs.Maps.{Live, Map}
 use Rattle.dcel_maps.specs.Removals.{Closed, Removal, gives_up_edge, gives_up_face, gives_up_vertex, is_live, opened, shown}
@@ -11,8 +12,9 @@ use Rattle.dcel_maps.specs.theory.Sound.{Sound, Sphere}
 use Rattle.dcel_maps.specs.theory.Standing.{Stands}
 use Rattle.dcel_maps.specs.Words.{become, count_of, word_of}
 use Rattle.dcel_maps.proofs.Liveness.{gives_up_edge-closed, is_live-cases, is_live-from, is_live-given_up, is_live-parts}
+use Rattle.dcel_maps.proofs.maps.Lists.{comes_after}
 use Rattle.dcel_maps.proofs.Shown.{slice_index-shown_live}
-use Rattle.dcel_maps.proofs.maps.Agreement.{agrees-sound, agrees-sphere}
+use Rattle.dcel_maps.proofs.maps.Agreement.{agrees-sound, agrees-sphere, agrees_extends}
 use Rattle.dcel_maps.proofs.shapes.Maps.{sound-from_map, sphere-from_map, word_cases}
 use Rattle.dcel_maps.proofs.shapes.Shown.{Shows, shown-agrees, shown-stands}
 use Rattle.dcel_maps.proofs.words.Becoming.{count-replaced}
@@ -128,6 +130,10 @@ module _ (s : Shape) (v a b : ℕ) (closed : s.removal ≡ Closed) (one : face_c
       origin = λ h live. origin-after h (left_edge (h / 2) ∙ live) ∙ sym (e.origin h live);
       stands = left_stands;
     }
+
+    pub left_comes : (kinds : List EditKind) → ComesBy kinds (map_of s) M → ComesBy kinds (map_of s) (map_of after)
+    left_comes kinds comes =
+        comes_after kinds (map_of s) M (map_of after) comes (agrees_extends M (map_of after) (shown-agrees after M left_shows))
 
     -- a live half edge stands in the outer word
     pub on_outer : (h : ℕ) → IsLive after h → 0 < count_of h (word_of after.words 0)

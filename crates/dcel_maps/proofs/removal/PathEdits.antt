@@ -5,6 +5,8 @@ use Rattle.std.proofs.lemmas.List.{get_or-set_other, get_or-set_same}
 use Rattle.dcel_fixed.specs.HalfEdges.{rev}
 use Rattle.dcel_maps.specs.Cyclic.{from_least}
 use Rattle.dcel_maps.specs.Degenerate.{IsPath}
+use Rattle.dcel_maps.specs.EditLists.{ComesBy}
+use Rattle.dcel_maps.specs.EditLists.EditKind.{numbers_changed, spur_dropped}
 use Rattle.dcel_maps.specs.edits.Degenerate.{word_without}
 use Rattle.dcel_maps.specs.Maps.{By, Live, Map}
 use Rattle.dcel_maps.specs.Removals.{Closed, gives_up_edge}
@@ -20,7 +22,7 @@ use Rattle.dcel_maps.proofs.maps.Agreement.{empty_sound, empty_sphere}
 use Rattle.dcel_maps.proofs.maps.Halves.{rev_differs, rev_or_same}
 use Rattle.dcel_maps.proofs.maps.Soundness.{next_differs}
 use Rattle.dcel_maps.proofs.removal.Holes.{HoleOf}
-use Rattle.dcel_maps.proofs.removal.PathCuts.{IsLeft, after, count-without_other, count-without_rev, count-without_same, edge_kept, left_edge, left_sound, on_outer, origin-after, starts}
+use Rattle.dcel_maps.proofs.removal.PathCuts.{IsLeft, after, count-without_other, count-without_rev, count-without_same, edge_kept, left_edge, left_sound, on_outer, origin-after, starts, left_comes}
 use Rattle.dcel_maps.proofs.removal.Paths.{edge_count, goes_on, only_two, out_b, prev_a}
 use Rattle.dcel_maps.proofs.removal.StripItems.{outer_cut}
 use Rattle.dcel_maps.proofs.removal.StripSpokes.{OuterWord, StripAway, outer_word, strip_away, trip}
@@ -122,7 +124,7 @@ module _ (s : Shape) (sound : IsSound s) (sphere : IsSphere s) (path : IsPath s)
       isolated = λ h live. absurd (false≢true live);
     }
 
-    none_live : (u : ℕ) → edge_is_live left u ≡ false
+    pub none_live : (u : ℕ) → edge_is_live left u ≡ false
     none_live u = left_edge s v a b closed path.one_face nothing nothing_left u
 
     pub nothing_stands_in : IsStandIn left (end_of s b) None
@@ -233,6 +235,13 @@ module _ (s : Shape) (sound : IsSound s) (sphere : IsSphere s) (path : IsPath s)
     end_left =
         let (y, r, outer) = outer_word s sound sphere v a around in
         subst (λ z. (M : Map) × IsLeft s v a z closed path.one_face M) one (shorter y r outer, end_left_at y r outer)
+
+    -- a spur is dropped
+    pub end_comes : ComesBy (spur_dropped ∷ numbers_changed ∷ []) T (map_of left)
+    end_comes =
+        let (y, r, outer) = outer_word s sound sphere v a around in
+        subst (λ z. ComesBy (spur_dropped ∷ numbers_changed ∷ []) T (map_of (after s v a z closed path.one_face))) one
+        (left_comes s v a a closed path.one_face (shorter y r outer) (end_left_at y r outer) (spur_dropped ∷ numbers_changed ∷ []) (hole y r outer).comes)
 
     pub end_stands_in : IsStandIn left (end_of s b) (Some (next_of s a))
     end_stands_in =

@@ -1,10 +1,12 @@
 -- A path with a vertex between two edges given up, and one of these: its other edge joins the two neighbours.
-use Rattle.std.proofs.Common.{◌≡◌, ◌≢◌, ◌*◌, ◌/◌, ◌<◌, ℕ, [], length, slice_index, Some, sym, ap, ◌∙◌, subst, arith, inl, inr}
+use Rattle.std.proofs.Common.{◌≡◌, ◌≢◌, ◌*◌, ◌/◌, ◌<◌, ℕ, [], ◌∷◌, length, slice_index, Some, sym, ap, ◌∙◌, subst, arith, inl, inr}
 use Rattle.std.proofs.lemmas.Bool.{cases_eq}
 use Rattle.std.proofs.lemmas.List.{get_or-set_other, get_or-set_same}
 use Rattle.dcel_fixed.specs.HalfEdges.{rev}
 use Rattle.dcel_maps.specs.Cyclic.{from_least}
 use Rattle.dcel_maps.specs.Degenerate.{IsPath}
+use Rattle.dcel_maps.specs.EditLists.{ComesBy}
+use Rattle.dcel_maps.specs.EditLists.EditKind.{edges_joined}
 use Rattle.dcel_maps.specs.Maps.{Map}
 use Rattle.dcel_maps.specs.Removals.{Closed}
 use Rattle.dcel_maps.specs.Shapes.{IsLive, IsSound, IsSphere, Shape, end_of, face_of, map_of, origin_of}
@@ -13,10 +15,11 @@ use Rattle.dcel_maps.specs.Walking.{IsOutEdge, ccw_of}
 use Rattle.dcel_maps.specs.Words.{become, word_of}
 use Rattle.dcel_maps.proofs.maps.Edits.{first_part}
 use Rattle.dcel_maps.proofs.maps.Halves.{rev-rev, rev_or_same}
+use Rattle.dcel_maps.proofs.maps.Lists.{comes_once}
 use Rattle.dcel_maps.proofs.maps.Soundness.{rev_live}
-use Rattle.dcel_maps.proofs.maps.Straightened.{Left, StraightensAt, left, middle_bare, straightened, straightened_keeps}
+use Rattle.dcel_maps.proofs.maps.Straightened.{Left, StraightensAt, left, middle_bare, straightened, straightened_keeps, straightened_edit}
 use Rattle.dcel_maps.proofs.maps.Subdivides.{first-other, first-rev}
-use Rattle.dcel_maps.proofs.removal.PathCuts.{IsLeft, after, edge_kept, on_outer, origin-after, starts}
+use Rattle.dcel_maps.proofs.removal.PathCuts.{IsLeft, after, edge_kept, on_outer, origin-after, starts, left_comes}
 use Rattle.dcel_maps.proofs.removal.PathEdits.{IsStandIn}
 use Rattle.dcel_maps.proofs.removal.Paths.{ends_differ, next_rev_a, next_rev_b, out_b}
 use Rattle.dcel_maps.proofs.shapes.Maps.{map-sound, map-sphere}
@@ -108,3 +111,8 @@ module _ (s : Shape) (sound : IsSound s) (sphere : IsSphere s) (path : IsPath s)
         );
         word = on_outer s v a b closed path.one_face M middle_left a live;
       }
+
+  -- two edges are joined
+  pub middle_comes : ComesBy (edges_joined ∷ []) T (map_of (after s v a b closed path.one_face))
+  middle_comes =
+      left_comes s v a b closed path.one_face M middle_left (edges_joined ∷ []) (comes_once edges_joined T M (straightened_edit T (rev a) b t at))

@@ -1,8 +1,10 @@
 -- A region leaves a hole: its faces are one, which goes along the ring.
-use Rattle.std.proofs.Common.{◌≡◌, inl, inr, ◌*◌, ◌/◌, ◌<◌, ◌≤◌, ◌==◌, ℕ, true, false, List, [], ◌∷◌, None, sym, refl, ap, ◌∙◌, subst, arith}
+use Rattle.std.proofs.Common.{◌≡◌, inl, inr, ◌*◌, ◌/◌, ◌<◌, ◌≤◌, ◌==◌, ℕ, true, false, List, [], ◌∷◌, None, sym, refl, ap, ◌∙◌, subst, arith, ◌++◌, length, replicate}
 use Rattle.std.proofs.lemmas.Bool.{cases_eq, false_from_ne_true, false≢true}
 use Rattle.dcel_fixed.specs.HalfEdges.{rev}
 use Rattle.dcel_maps.specs.Borders.{StartsAlone}
+use Rattle.dcel_maps.specs.EditLists.{ComesBy}
+use Rattle.dcel_maps.specs.EditLists.EditKind.{numbers_changed, words_joined}
 use Rattle.dcel_maps.specs.Maps.{Live, Map, NextOrRev, Reaches}
 use Rattle.dcel_maps.specs.Maps.Reaches.{go, here}
 use Rattle.dcel_maps.specs.Removals.{opened_with, Removal, gives_up_edge, gives_up_face, gives_up_vertex}
@@ -14,9 +16,10 @@ use Rattle.dcel_maps.specs.Walking.{ListsOnce}
 use Rattle.dcel_maps.specs.Words.{count_of, word_of}
 use Rattle.dcel_maps.proofs.Liveness.{is_live-parts}
 use Rattle.dcel_maps.proofs.maps.Halves.{rev-rev, rev_half, rev_or_same}
+use Rattle.dcel_maps.proofs.maps.Lists.{comes_once, comes_then, one_each, one_each-replicate}
 use Rattle.dcel_maps.proofs.maps.Reaching.{no_step, step, then}
 use Rattle.dcel_maps.proofs.maps.Soundness.{face_cycles, rev_live}
-use Rattle.dcel_maps.proofs.removal.RenumberedFaces.{Numbered, numbered, renumbered_face}
+use Rattle.dcel_maps.proofs.removal.RenumberedFaces.{Numbered, numbered, renumbered_face, renumbered_edit}
 use Rattle.dcel_maps.proofs.removal.Spokes.{follows}
 use Rattle.dcel_maps.proofs.shapes.Maps.{map-sound, map-sphere, word_cases}
 use Rattle.dcel_maps.proofs.walks.Links.{links_stand}
@@ -27,7 +30,7 @@ use Rattle.dcel_maps.proofs.words.Mapped.{any_stands, stands_any}
 use Rattle.dcel_maps.proofs.words.Paths.{IsCycle-weaker, next_in_word-follows}
 use Rattle.dcel_maps.specs.Regions.{IsRegion, IsRim, LeadsPast}
 use Rattle.dcel_maps.specs.Regions.LeadsPast.{on, past}
-use Rattle.dcel_maps.proofs.removal.Hollows.{HollowOf}
+use Rattle.dcel_maps.proofs.removal.Hollows.{HollowOf, HollowBy}
 use Rattle.dcel_maps.proofs.removal.Linked.{Links, back, forth}
 use Rattle.dcel_maps.proofs.removal.RegionJoins.{CanJoin, Joined, joined, left_face, right_face, stands_or_not}
 
@@ -239,4 +242,14 @@ module _ (s : Shape) (sound : IsSound s) (sphere : IsSphere s) (edges faces : Li
               | inr none ↦ inr (face_kept (P.face x) (ap (λ f. count_of f faces) (num.face_other x other) ∙ none))
             ]
           ];
+    }
+
+    -- its edges are joined away, and the face gets its number
+    pub region_by : HollowBy s removal (p ∷ rest) n (replicate (length edges) words_joined ++ numbers_changed ∷ [])
+    unfolding region_hole
+    region_by = record {
+      hollow = region_hole;
+      comes = subst (λ kinds. ComesBy (kinds ++ numbers_changed ∷ []) (map_of s) P) (one_each-replicate words_joined edges)
+          (comes_then (one_each words_joined edges) (numbers_changed ∷ []) S U P o.comes (comes_once numbers_changed U P
+          (renumbered_edit U g n o.sound (λ x live off at. let below = o.sound.below_faces x live in omega (arith, below, at, above, o.face_count)))));
     }

@@ -2,12 +2,15 @@
 use Rattle.std.proofs.Common.{◌≡◌, ◌≢◌, ◌⊎◌, inl, inr, ◌*◌, ◌/◌, ◌<◌, ◌≤◌, ℕ, suc, true, false, List, [], ◌∷◌, length, sym, refl, ap, ◌∙◌, subst, arith}
 use Rattle.std.proofs.lemmas.Bool.{cases_eq, cases_lt}
 use Rattle.dcel_fixed.specs.HalfEdges.{rev}
+use Rattle.dcel_maps.specs.EditLists.{ComesBy}
+use Rattle.dcel_maps.specs.EditLists.EditKind.{words_joined}
 use Rattle.dcel_maps.specs.Maps.{Live, Map, Reaches}
 use Rattle.dcel_maps.specs.Maps.Reaches.{go, here}
 use Rattle.dcel_maps.specs.theory.Sound.{Sound, Sphere}
 use Rattle.dcel_maps.specs.Words.{count_of}
 use Rattle.dcel_maps.proofs.maps.Halves.{rev-rev, rev_half, rev_or_same}
-use Rattle.dcel_maps.proofs.maps.Joins.{JoinAt, JoinSite, join, join_is, join_keeps, join_live-after_h, join_live-after_rev, join_site, join_vacant}
+use Rattle.dcel_maps.proofs.maps.Joins.{JoinAt, JoinSite, join, join_is, join_keeps, join_live-after_h, join_live-after_rev, join_site, join_vacant, join_edit}
+use Rattle.dcel_maps.proofs.maps.Lists.{comes_first, extends_same, one_each}
 use Rattle.dcel_maps.proofs.maps.Soundness.{face_cycles, next_differs, rev_live}
 use Rattle.dcel_maps.proofs.removal.Without.{Without, keeps-itself, without, without-keeps}
 use Rattle.dcel_maps.proofs.words.Counts.{count-later, count-other, count-same, first_or_later}
@@ -51,6 +54,7 @@ pub record Joined (S P : Map) (edges faces : List ℕ) (g : ℕ) : Type 0 where
   -- past the edges it is one step now, and where one of them starts another half edge on g starts
   pub leads : (x y : ℕ) → Live S x → count_of (x / 2) edges ≡ 0 → LeadsPast S.next edges x y → P.next x ≡ y
   pub starts : (x : ℕ) → 0 < count_of (x / 2) edges → (y : ℕ) × Live P y × (P.origin y ≡ S.origin x) × (P.face y ≡ g)
+  pub comes : ComesBy (one_each words_joined edges) S P
 
 -- stands in the list, or doesn't
 pub stands_or_not : (x : ℕ) (w : List ℕ) → (0 < count_of x w) ⊎ (count_of x w ≡ 0)
@@ -81,6 +85,7 @@ joined_none S faces root can =
       cases = λ x live. elim (stands_or_not (S.face x) faces) [ inl found ↦ inl (one (S.face x) found) | inr none ↦ inr none ];
       leads = λ x y live none way. leads_none S.next x y way;
       starts = λ x found. absurd (omega (arith, found));
+      comes = extends_same S;
     }
   where
     root_stands : (faces : List ℕ) → 1 ≤ length faces → ((f : ℕ) → 0 < count_of f faces → f ≡ root) → 0 < count_of root faces
@@ -287,6 +292,7 @@ module _ (S : Map) (u : ℕ) (edges faces : List ℕ) (root : ℕ) (can : CanJoi
           ]
           | inr later ↦ let (y, live, from, face) = o.starts x later in (y, live, from ∙ w.origin x, face)
         ];
+        comes = comes_first words_joined (one_each words_joined edges) S J P (join_edit S h can.sound live_h sides) o.comes;
       }
 
 -- all edges taken away

@@ -1,6 +1,8 @@
 -- A face gets a new number, or that of no other face.
 use Rattle.std.proofs.Common.{◌≡◌, ◌≢◌, inl, inr, ◌<◌, ℕ, suc, max, sym, refl, ap, ◌∙◌, arith}
 use Rattle.std.proofs.lemmas.Bool.{cases_eq}
+use Rattle.dcel_maps.specs.EditLists.{Edit}
+use Rattle.dcel_maps.specs.EditLists.EditKind.{numbers_changed}
 use Rattle.dcel_maps.specs.Maps.{Live, Map}
 use Rattle.dcel_maps.specs.theory.Sound.{Sound, Sphere}
 use Rattle.dcel_maps.proofs.maps.Edits.{Renamed}
@@ -95,3 +97,6 @@ numbered U g n sound sphere vacant =
       vertex_count = refl;
       face_number = refl;
     }
+
+pub renumbered_edit : (U : Map) (g n : ℕ) → Sound U → ((x : ℕ) → Live U x → U.face x ≢ g → U.face x ≢ n) → Edit numbers_changed U (renumbered_face U g n)
+renumbered_edit U g n sound vacant = (λ x. x, λ x. x, λ v. v, put (λ f. f) g n, face_renamed U g n sound vacant)

@@ -3,17 +3,20 @@ use Rattle.std.proofs.Common.{◌≡◌, ◌≢◌, ◌⊎◌, inl, inr, ◌/◌
 use Rattle.std.proofs.lemmas.Bool.{cases_eq}
 use Rattle.std.proofs.lemmas.List.{append_assoc}
 use Rattle.dcel_fixed.specs.HalfEdges.{rev}
+use Rattle.dcel_maps.specs.EditLists.{ComesBy}
+use Rattle.dcel_maps.specs.EditLists.EditKind.{words_joined}
 use Rattle.dcel_maps.specs.Maps.{Live, Map}
 use Rattle.dcel_maps.specs.theory.Sound.{Sound, Sphere}
 use Rattle.dcel_maps.specs.theory.Standing.{Follows}
 use Rattle.dcel_maps.specs.theory.Cycles.{Path}
 use Rattle.dcel_maps.specs.Words.{count_of}
 use Rattle.dcel_maps.proofs.maps.Halves.{rev_or_same}
+use Rattle.dcel_maps.proofs.maps.Lists.{comes_first, comes_once, one_each}
 use Rattle.dcel_maps.proofs.maps.Soundness.{face_cycles, next_differs}
 use Rattle.dcel_maps.proofs.words.Counts.{count-append, count-later, count-none, count-other, count-same, first_or_later}
 use Rattle.dcel_maps.proofs.words.Faces.{KeepsFace, keeps_face-then}
 use Rattle.dcel_maps.proofs.words.Paths.{Path-append, Path-changed}
-use Rattle.dcel_maps.proofs.maps.Joins.{join, join_keeps}
+use Rattle.dcel_maps.proofs.maps.Joins.{join, join_keeps, join_edit}
 use Rattle.dcel_maps.proofs.removal.Without.{Without, live_join, without, without-keeps}
 
 -- a triangle between two spokes: p, what comes after it, and the other half of q
@@ -173,6 +176,7 @@ pub record Opened (S J : Map) (f h : ℕ) (spokes w : List ℕ) (g : ℕ) : Type
   pub faces : J.faces ≡ S.faces
   pub keeps_face : (n : ℕ) → Untouched S f spokes n → KeepsFace S J n
   pub cases : (x : ℕ) → Live J x → (J.face x ≡ g) ⊎ Untouched S f spokes (J.face x)
+  pub comes : ComesBy (one_each words_joined spokes) S J
 
 -- functions that are the same on a list
 map_same : (f g : ℕ → ℕ) (w : List ℕ) → ((x : ℕ) → 0 < count_of x w → f x ≡ g x) → map f w ≡ map g w
@@ -256,6 +260,7 @@ last_opened J f h w k m sector off =
           away = λ y found at. other (sym at ∙ ap J.face (is_k y found));
         })
       ];
+      comes = comes_once words_joined J (join J k) (join_edit J k m.sound sector.live (one_sides J f h w k m.sound sector.live m.close.face off));
     }
 
 -- one spoke taken away, and then the others
@@ -293,6 +298,8 @@ then_opened J K f h w k ks ring g m live off offs others o =
           ];
         })
       ];
+      comes = comes_first words_joined (one_each words_joined ks) J (join J k) K
+          (join_edit J k m.sound live (one_sides J f h w k m.sound live m.close.face off)) o.comes;
     }
 
 -- all spokes but h taken away

@@ -1,19 +1,21 @@
 -- `disconnect_edge_strip` leaves a mesh.
-use Rattle.std.proofs.Common.{◌≡◌, ◌≢◌, inl, inr, ◌<◌, ℕ, eqb-true, eq-eqb, List, [], ◌∷◌, ◌++◌, map, slice_index_or, slice_set, Option, Some, None, sym, ap, ◌∙◌, subst, arith}
+use Rattle.std.proofs.Common.{◌≡◌, ◌≢◌, inl, inr, ◌<◌, ℕ, eqb-true, eq-eqb, List, [], ◌∷◌, ◌++◌, map, slice_index_or, slice_set, Option, Some, None, sym, ap, ◌∙◌, subst, arith, length, length-append}
 use Rattle.std.proofs.lemmas.Bool.{cases_Bool, cases_eq, ne_eqb}
-use Rattle.std.proofs.lemmas.List.{get_or-set_other, get_or-set_same, length-set}
+use Rattle.std.proofs.lemmas.List.{get_or-set_other, get_or-set_same, length-set, length-map}
 use Rattle.dcel_maps.specs.Cyclic.{from_least}
+use Rattle.dcel_maps.specs.EditLists.{EditedBy, vertex_cut_off}
 use Rattle.dcel_maps.specs.edits.Strip.{each_set, strip_cut, strip_given_up, strip_record, strip_word}
 use Rattle.dcel_maps.specs.Hiding.{kept_face_anchors, kept_vertex_anchors, kept_words}
 use Rattle.dcel_maps.specs.Removals.{Closed, IsWithin, Removal, gives_up_edge, gives_up_face, gives_up_vertex, shown}
 use Rattle.dcel_maps.specs.Shapes.{AnchorsVertex, AnchorsWord, IsLive, IsMesh, IsSized, Mesh, Shape, face_anchor, face_count, next_of, origin_of, vertex_anchor}
 use Rattle.dcel_maps.specs.Strips.{IsEdgeStrip, IsStripAround}
 use Rattle.dcel_maps.specs.Words.{count_of, last_of, word_of}
+use Rattle.dcel_maps.proofs.removal.Holes.{hole_kinds, hole_kinds-is}
 use Rattle.dcel_maps.proofs.Shown.{length-shown}
 use Rattle.dcel_maps.proofs.maps.Halves.{rev_or_same}
 use Rattle.dcel_maps.proofs.removal.Hiding.{hidden, length-hiding, not_hidden}
 use Rattle.dcel_maps.proofs.removal.StripItems.{after_listed, strip-is, strip_gives, word-is}
-use Rattle.dcel_maps.proofs.removal.StripShapes.{GivesUpStrip, along_live, along_outer, cut-sound, cut-sphere, many, none_at, ring_once, same_origin, still_live, was_live, word-given, word-kept}
+use Rattle.dcel_maps.proofs.removal.StripShapes.{GivesUpStrip, along_live, along_outer, cut-sound, cut-sphere, many, none_at, ring_once, same_origin, still_live, was_live, word-given, word-kept, cut_comes}
 use Rattle.dcel_maps.proofs.removal.StripSpokes.{OuterWord, outer_word, trip}
 use Rattle.dcel_maps.proofs.shapes.Maps.{map-sound}
 use Rattle.dcel_maps.proofs.words.Counts.{count-append, count-same}
@@ -184,6 +186,12 @@ module _ {V DE UE F : Type 0} (m : Mesh V DE UE F) (mesh : IsMesh m) (v h : ℕ)
         shape = record t { words = kept_words removal (slice_set m.shape.words 0 w) };
       })) (sym strip_word-is) written_out
 
+  given_up-comes : EditedBy (hole_kinds (h ∷ (trip m.shape mesh.sound mesh.sphere v h around).rest)) m (strip_given_up m removal (items ++ next_of m.shape h ∷ []))
+  given_up-comes =
+      subst (λ (w : List ℕ). EditedBy (hole_kinds (h ∷ (trip m.shape mesh.sound mesh.sphere v h around).rest)) m (record N {
+        shape = record t { words = kept_words removal (slice_set m.shape.words 0 w) };
+      })) (sym strip_word-is) (cut_comes m.shape mesh.sound mesh.sphere v h around closed removal gives mesh.sized.outer y r outer)
+
 -- `disconnect_edge_strip` leaves a mesh
 pub strip_cut-mesh : {V DE UE F : Type 0} (m : Mesh V DE UE F) (strip_list : List ℕ) → IsMesh m → m.shape.removal ≡ Closed
     → IsEdgeStrip m.shape strip_list → IsMesh (strip_cut m strip_list)
@@ -194,3 +202,20 @@ strip_cut-mesh m strip_list mesh closed strip =
     subst (λ l. IsMesh (strip_cut m l)) (sym (strip.is ∙ strip-is m.shape mesh.sound mesh.sphere strip.vertex strip.half strip.around))
     (given_up-mesh m mesh strip.vertex strip.half strip.around closed (strip_record m.shape whole)
     (strip_gives m.shape mesh.sound mesh.sphere strip.vertex strip.half strip.around) y r outer)
+
+-- as many spokes as the strip has items but one are joined away, and the last one is a spur then
+pub strip_cut-comes : {V DE UE F : Type 0} (m : Mesh V DE UE F) (strip_list : List ℕ) → IsMesh m → m.shape.removal ≡ Closed
+    → IsEdgeStrip m.shape strip_list
+    → EditedBy (vertex_cut_off (length strip_list)) m (strip_cut m strip_list)
+strip_cut-comes m strip_list mesh closed strip =
+    let around = trip m.shape mesh.sound mesh.sphere strip.vertex strip.half strip.around in
+    let items = map (next_of m.shape) around.rest in
+    let whole = items ++ next_of m.shape strip.half ∷ [] in
+    let (y, r, outer) = outer_word m.shape mesh.sound mesh.sphere strip.vertex strip.half strip.around in
+    let long : length (strip.half ∷ around.rest) ≡ length whole =
+    omega (arith, length-append items (next_of m.shape strip.half ∷ []), length-map around.rest (next_of m.shape)) in
+    subst (λ l. EditedBy (vertex_cut_off (length l)) m (strip_cut m l))
+    (sym (strip.is ∙ strip-is m.shape mesh.sound mesh.sphere strip.vertex strip.half strip.around))
+    (subst (λ kinds. EditedBy kinds m (strip_cut m whole)) (hole_kinds-is (strip.half ∷ around.rest) (length whole) (omega (arith, long)) long)
+    (given_up-comes m mesh strip.vertex strip.half strip.around closed (strip_record m.shape whole)
+    (strip_gives m.shape mesh.sound mesh.sphere strip.vertex strip.half strip.around) y r outer))

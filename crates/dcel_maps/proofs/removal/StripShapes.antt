@@ -4,6 +4,7 @@ use Rattle.std.proofs.lemmas.Bool.{both_ways, cases_Bool, cases_eq, cases_lt, fa
 use Rattle.std.proofs.lemmas.List.{get_or-set_other, get_or-set_same, length-set}
 use Rattle.dcel_maps.specs.Borders.{IsEdgeAt, IsFaceAt}
 use Rattle.dcel_maps.specs.Cyclic.{from_least}
+use Rattle.dcel_maps.specs.EditLists.{ComesBy}
 use Rattle.dcel_maps.specs.Hiding.{kept_words}
 use Rattle.dcel_maps.specs.Maps.{Live, Map}
 use Rattle.dcel_maps.specs.Removals.{Closed, IsInOrder, Removal, gives_up_edge, gives_up_face, gives_up_vertex, is_live, shown}
@@ -13,11 +14,12 @@ use Rattle.dcel_maps.specs.theory.Standing.{Stands}
 use Rattle.dcel_maps.specs.Walking.{IsOutEdge}
 use Rattle.dcel_maps.specs.Words.{count_of, word_of}
 use Rattle.dcel_maps.proofs.Liveness.{gives_up_edge-closed, gives_up_face-closed, is_live-from, is_live-given_up, is_live-parts, bare_word}
+use Rattle.dcel_maps.proofs.maps.Lists.{comes_after}
 use Rattle.dcel_maps.proofs.Shown.{slice_index-shown_live}
-use Rattle.dcel_maps.proofs.maps.Agreement.{Agrees, agrees-sound, agrees-sphere}
+use Rattle.dcel_maps.proofs.maps.Agreement.{Agrees, agrees-sound, agrees-sphere, agrees_extends}
 use Rattle.dcel_maps.proofs.maps.Soundness.{face_cycles}
 use Rattle.dcel_maps.proofs.removal.Hiding.{hidden, length-hiding, not_hidden}
-use Rattle.dcel_maps.proofs.removal.Holes.{HoleOf}
+use Rattle.dcel_maps.proofs.removal.Holes.{HoleOf, hole_kinds}
 use Rattle.dcel_maps.proofs.removal.Spokes.{path_item}
 use Rattle.dcel_maps.proofs.removal.StripSpokes.{IsSpoke, OuterWord, StripAway, all_out, are_spokes, each_out, spoke_inner, spokes_once, strip_away, trip}
 use Rattle.dcel_maps.proofs.shapes.Chains.{single-map}
@@ -222,6 +224,10 @@ module _ (s : Shape) (sound : IsSound s) (sphere : IsSphere s) (v h : ℕ) (arou
 
   pub agrees : Agrees M (map_of t)
   agrees = shown-agrees t M shows
+
+  -- the spokes but h are joined away, and h is a spur then
+  pub cut_comes : ComesBy (hole_kinds (h ∷ (trip s sound sphere v h around).rest)) T (map_of t)
+  cut_comes = comes_after (hole_kinds (h ∷ (trip s sound sphere v h around).rest)) T M (map_of t) hole.comes (agrees_extends M (map_of t) agrees)
 
   bare : (f : ℕ) → face_is_live t f ≡ false → word_of t.words f ≡ []
   bare = bare_word t word-given

@@ -11,6 +11,7 @@ use Rattle.dcel_maps.specs.theory.Standing.{Follows, Stands}
 use Rattle.dcel_maps.specs.Walking.{IsOutEdge, IsRoundTrip, ccw_of, walk_of}
 use Rattle.dcel_maps.specs.Words.{TurnsTo, count_of, word_of}
 use Rattle.dcel_maps.proofs.maps.Halves.{rev-rev}
+use Rattle.dcel_maps.proofs.maps.Lists.{extends_same}
 use Rattle.dcel_maps.proofs.maps.Soundness.{ccw_live, vertex_cycles}
 use Rattle.dcel_maps.proofs.removal.Holes.{HoleOf, hollow, is_hollow}
 use Rattle.dcel_maps.proofs.removal.Spokes.{Different, Merged, Opened, Sector, opened}
@@ -54,6 +55,7 @@ nothing_away T f h w m = record {
     | inl same ↦ inl same
     | inr other ↦ inr record { off = other; away = λ y found. absurd (omega (arith, found)) }
   ];
+  comes = extends_same T;
 }
 
 module _ (s : Shape) (sound : IsSound s) (sphere : IsSphere s) (v h : ℕ) (around : IsStripAround s v h) where

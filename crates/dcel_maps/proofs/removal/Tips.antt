@@ -2,6 +2,8 @@
 use Rattle.std.proofs.Common.{◌≡◌, ◌≢◌, inl, inr, ◌/◌, ℕ, true, false, sym, refl, ap, ◌∙◌, arith}
 use Rattle.std.proofs.lemmas.Bool.Decides.{nat_tests}
 use Rattle.dcel_fixed.specs.HalfEdges.{rev}
+use Rattle.dcel_maps.specs.EditLists.{Edit}
+use Rattle.dcel_maps.specs.EditLists.EditKind.{spur_dropped}
 use Rattle.dcel_maps.specs.Maps.{By, Live, Map, ccw}
 use Rattle.dcel_maps.specs.theory.Sound.{Sound, Sphere}
 use Rattle.dcel_maps.proofs.maps.Halves.{rev-rev, rev_half, rev_or_same}
@@ -162,3 +164,6 @@ pub spur_away_keeps : (T : Map) (h : ℕ) → Sound T → Sphere T → Live T h 
     → Sound (spur_away T h) × Sphere (spur_away T h)
 spur_away_keeps T h s m live turns more =
     unspur_keeps (spur_away T h) T (T.prev h) h (T.origin (rev h)) (spur_away_is T h s live turns more) s m
+
+pub spur_away_edit : (T : Map) (h : ℕ) → Sound T → Live T h → T.next h ≡ rev h → T.next (rev h) ≢ h → Edit spur_dropped T (spur_away T h)
+spur_away_edit T h s live turns more = (T.prev h, h, T.origin (rev h), spur_away_is T h s live turns more)

@@ -1,7 +1,9 @@
 -- A vertex with a border loop leaves a hole.
-use Rattle.std.proofs.Common.{◌≡◌, inl, inr, ◌/◌, ◌<◌, ◌≤◌, ℕ, true, List, reverse, sym, refl, ap, ◌∙◌, subst, arith, eqb-true, eq-eqb}
+use Rattle.std.proofs.Common.{◌≡◌, inl, inr, ◌/◌, ◌<◌, ◌≤◌, ℕ, true, List, reverse, sym, refl, ap, ◌∙◌, subst, arith, eqb-true, eq-eqb, length}
 use Rattle.std.proofs.lemmas.Bool.{both_ways, false_from_ne_true}
+use Rattle.std.proofs.lemmas.List.{length-reverse}
 use Rattle.dcel_maps.specs.Borders.{GivesUpRound, IsBorderLoop}
+use Rattle.dcel_maps.specs.EditLists.{ComesBy, vertex_cut_off}
 use Rattle.dcel_maps.specs.Maps.{Live}
 use Rattle.dcel_maps.specs.Removals.{Closed, Removal, gives_up_edge, gives_up_face, gives_up_vertex}
 use Rattle.dcel_maps.specs.Shapes.{IsLive, IsSound, IsSphere, Shape, face_count, face_of, map_of, next_of, origin_of}
@@ -9,9 +11,9 @@ use Rattle.dcel_maps.specs.Walking.{IsOutEdge}
 use Rattle.dcel_maps.proofs.Liveness.{closed-live, is_live-parts, vertex_live-parts}
 use Rattle.dcel_maps.proofs.maps.Halves.{rev_or_same}
 use Rattle.dcel_maps.proofs.removal.Corners.{HoleAt, hole_at}
-use Rattle.dcel_maps.proofs.removal.Holes.{HoleOf}
+use Rattle.dcel_maps.proofs.removal.Holes.{HoleOf, hole_kinds-is}
 use Rattle.dcel_maps.proofs.shapes.Maps.{map-sound}
-use Rattle.dcel_maps.proofs.removal.Hollows.{GivesUpWithin, HollowOf, StartsOnRing}
+use Rattle.dcel_maps.proofs.removal.Hollows.{GivesUpWithin, HollowOf, StartsOnRing, HollowBy}
 
 module _ (s : Shape) (sound : IsSound s) (sphere : IsSphere s) (closed : s.removal ≡ Closed) (border : List ℕ) (v n : ℕ)
     (l : IsBorderLoop s border v) (removal : Removal) (gives : GivesUpRound s v removal) (above : face_count s ≤ n) where
@@ -86,4 +88,13 @@ module _ (s : Shape) (sound : IsSound s) (sphere : IsSphere s) (closed : s.remov
           let there = (gives.faces (H.map.face x)).0 given in
           away there.half (H.out there.half there.out) there.is))
     ];
+  }
+
+  -- its spokes but one are joined away, this one is a spur then, and the face gets its number
+  pub vertex_by : HollowBy s removal (reverse border) n (vertex_cut_off (length border))
+  unfolding vertex_hollow
+  vertex_by = record {
+    hollow = vertex_hollow;
+    comes = subst (λ kinds. ComesBy kinds (map_of s) H.map)
+        (hole_kinds-is H.spokes (length border) (omega (arith, l.many)) (H.as_long ∙ length-reverse border)) hole.comes;
   }

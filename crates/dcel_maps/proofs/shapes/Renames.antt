@@ -1,9 +1,11 @@
 -- Other numbers keep a shape sound and a sphere.
-use Rattle.std.proofs.Common.{◌≡◌, ◌≢◌, ◌↔◌, inl, inr, ℕ, ◌*◌, ◌/◌, ◌<◌, true, false, [], map, refl, sym, ap, ◌∙◌, arith}
+use Rattle.std.proofs.Common.{◌≡◌, ◌≢◌, ◌↔◌, inl, inr, ℕ, ◌*◌, ◌/◌, ◌<◌, true, false, [], ◌∷◌, map, refl, sym, ap, ◌∙◌, arith}
 use Rattle.std.proofs.lemmas.Bool.{both_ways, cases_lt, false_from_ne_true}
 use Rattle.std.proofs.lemmas.List.{get_or_past}
 use Rattle.dcel_fixed.specs.HalfEdges.{rev}
 use Rattle.dcel_maps.specs.Cyclic.{from_least}
+use Rattle.dcel_maps.specs.EditLists.{ComesBy}
+use Rattle.dcel_maps.specs.EditLists.EditKind.{numbers_changed}
 use Rattle.dcel_maps.specs.Maps.{Map}
 use Rattle.dcel_maps.specs.Removals.{gives_up_edge, gives_up_face, gives_up_vertex}
 use Rattle.dcel_maps.specs.Shapes.{IsLive, IsSound, IsSphere, Shape, edge_is_live, face_count, face_is_live, face_of, map_of, next_of, origin_of, prev_of, vertex_is_live}
@@ -11,8 +13,9 @@ use Rattle.dcel_maps.specs.Words.{word_of}
 use Rattle.dcel_maps.specs.theory.Sound.{Sound}
 use Rattle.dcel_maps.specs.theory.Standing.{Stands}
 use Rattle.dcel_maps.proofs.Liveness.{is_live-parts}
-use Rattle.dcel_maps.proofs.maps.Agreement.{Agrees, agrees-sound, agrees-sphere}
+use Rattle.dcel_maps.proofs.maps.Agreement.{Agrees, agrees-sound, agrees-sphere, agrees_extends}
 use Rattle.dcel_maps.proofs.maps.Edits.{Renamed}
+use Rattle.dcel_maps.proofs.maps.Lists.{comes_after, comes_once}
 use Rattle.dcel_maps.proofs.maps.Renames.{renamed_sound, renamed_sphere}
 use Rattle.dcel_maps.proofs.shapes.Maps.{face-live, map-sound, map-sphere, sound-from_map, sphere-from_map}
 use Rattle.dcel_maps.proofs.walks.Links.{links_stand}
@@ -120,8 +123,8 @@ module _ (S T : Shape) (f f' o o' w w' : ℕ → ℕ) (e : IsRenamed S T f f' o 
       ((renamed_empty f (word_of S.words (w' g))).0 (sym (e.word g below) ∙ empty))
 
   -- no edge is live just where none was
-  none_live : ((u : ℕ) → edge_is_live S u ≡ false) ↔ ((u : ℕ) → edge_is_live T u ≡ false)
-  none_live = (
+  pub renamed-none : ((u : ℕ) → edge_is_live S u ≡ false) ↔ ((u : ℕ) → edge_is_live T u ≡ false)
+  renamed-none = (
     λ dead u. false_from_ne_true (edge_is_live T u) (λ live.
         let half : 2 * u / 2 ≡ u = omega arith in
         both_ways (edge_is_live S (f' (2 * u) / 2)) (dead (f' (2 * u) / 2)) (e.comes (2 * u) (ap (edge_is_live T) half ∙ live))),
@@ -132,8 +135,8 @@ module _ (S T : Shape) (f f' o o' w w' : ℕ → ℕ) (e : IsRenamed S T f f' o 
 
   outer : (word_of T.words 0 ≡ []) ↔ ((u : ℕ) → edge_is_live T u ≡ false)
   outer = (
-    λ empty. none_live.0 (sound.outer.0 ((renamed_empty f (word_of S.words 0)).0 (sym e.outer ∙ empty))),
-    λ dead. e.outer ∙ (renamed_empty f (word_of S.words 0)).1 (sound.outer.1 (none_live.1 dead)),
+    λ empty. renamed-none.0 (sound.outer.0 ((renamed_empty f (word_of S.words 0)).0 (sym e.outer ∙ empty))),
+    λ dead. e.outer ∙ (renamed_empty f (word_of S.words 0)).1 (sound.outer.1 (renamed-none.1 dead)),
   )
 
   starts_live : (y : ℕ) → IsLive T y → vertex_is_live T (origin_of T y) ≡ true
@@ -146,6 +149,13 @@ module _ (S T : Shape) (f f' o o' w w' : ℕ → ℕ) (e : IsRenamed S T f f' o 
 
   agrees : Agrees (renamed_map S T f f' o w) (map_of T)
   agrees = renamed_agrees good
+
+  -- the map of the new shape comes from that of the old one by other numbers
+  pub renamed-comes : ComesBy (numbers_changed ∷ []) (map_of S) (map_of T)
+  renamed-comes =
+      comes_after (numbers_changed ∷ []) (map_of S) (renamed_map S T f f' o w) (map_of T)
+      (comes_once numbers_changed (map_of S) (renamed_map S T f f' o w) (f, f', o, w, renamed))
+      (agrees_extends (renamed_map S T f f' o w) (map_of T) agrees)
 
   -- the new shape is sound
   pub renamed-sound : IsSound T

@@ -1,6 +1,8 @@
 //! Two vertices swapped.
 
-ghost use Rattle.std.specs.Prelude.{◌≡◌, true};
+ghost use Rattle.std.specs.Prelude.{◌≡◌, ◌∷◌, [], true};
+ghost use Rattle.dcel_maps.specs.EditLists.{EditedBy};
+ghost use Rattle.dcel_maps.specs.EditLists.EditKind.{numbers_changed};
 ghost use Rattle.dcel_maps.specs.edits.Rename.{vertices_swapped};
 ghost use Rattle.dcel_maps.specs.Shapes.{IsMesh, vertex_is_live};
 
@@ -25,6 +27,7 @@ impl<V, DE, UE, F, A: Allocator> Dcel<V, DE, UE, F, A> {
         requires first_live { vertex_is_live self.old.shape first ≡ true }
         requires second_live { vertex_is_live self.old.shape second ≡ true }
         ensures edit { self.new ≡ vertices_swapped self.old first second }
+        ensures edits { EditedBy (numbers_changed ∷ []) self.old self.new }
         ensures mesh { IsMesh self.new }
     {
         exchange_vertices(&mut self.store, first, second);

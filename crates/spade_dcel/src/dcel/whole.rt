@@ -1,8 +1,10 @@
 //! Calls on a whole mesh: room made, all taken out, data mapped, a clone.
 
-ghost use Rattle.std.specs.Prelude.{◌≡◌, All, IfOk, IfErr};
+ghost use Rattle.std.specs.Prelude.{◌≡◌, ◌∷◌, [], All, IfOk, IfErr};
 ghost use Rattle.std.specs.List.{AllZip};
 ghost use Rattle.dcel_maps.specs.Conditions.{HasRoom};
+ghost use Rattle.dcel_maps.specs.EditLists.{EditedBy};
+ghost use Rattle.dcel_maps.specs.EditLists.EditKind.{emptied};
 ghost use Rattle.dcel_maps.specs.edits.Whole.{cleared, with_vertex_data, with_undirected_data, IsClone, ClonesEqual};
 ghost use Rattle.dcel_maps.specs.Shapes.{IsMesh};
 
@@ -44,6 +46,7 @@ impl<V, DE, UE, F, A: Allocator> Dcel<V, DE, UE, F, A> {
         UE: Drop,
         F: Drop,
         ensures edit { self.new ≡ cleared self.old }
+        ensures edits { EditedBy (emptied ∷ []) self.old self.new }
         ensures mesh { IsMesh self.new }
     {
         self.store.clear();
@@ -65,6 +68,7 @@ impl<V, DE, UE, F, A: Allocator> Dcel<V, DE, UE, F, A> {
         requires { All (M.pre f) self.vertex_data }
         ensures answered { IfOk result (λ dcel. AllZip (M.post f) self.vertex_data dcel.vertex_data) }
         ensures same { IfOk result (λ dcel. dcel ≡ with_vertex_data self dcel.vertex_data) }
+        ensures edits { IfOk result (EditedBy [] self) }
         ensures back { IfErr result (λ refused. refused.back ≡ self) }
         ensures mesh { IfOk result IsMesh }
     {
@@ -96,6 +100,7 @@ impl<V, DE, UE, F, A: Allocator> Dcel<V, DE, UE, F, A> {
         requires { All (M.pre f) self.undirected_data }
         ensures answered { IfOk result (λ dcel. AllZip (M.post f) self.undirected_data dcel.undirected_data) }
         ensures same { IfOk result (λ dcel. dcel ≡ with_undirected_data self dcel.undirected_data) }
+        ensures edits { IfOk result (EditedBy [] self) }
         ensures back { IfErr result (λ refused. refused.back ≡ self) }
         ensures mesh { IfOk result IsMesh }
     {
@@ -122,6 +127,7 @@ impl<V: Clone, DE: Clone, UE: Clone, F: Clone, A: Allocator + Clone> Dcel<V, DE,
         ensures clone { IfOk result (IsClone V.is_clone DE.is_clone UE.is_clone F.is_clone self.now) }
         ensures equal { ClonesEqual V.is_clone → ClonesEqual DE.is_clone → ClonesEqual UE.is_clone → ClonesEqual F.is_clone
             → IfOk result (λ dcel. dcel ≡ self.now) }
+        ensures edits { IfOk result (EditedBy [] self.now) }
         ensures mesh { IfOk result IsMesh }
     {
         let removal = self.removal.try_clone(&alloc)?;

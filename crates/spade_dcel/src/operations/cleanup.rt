@@ -1,6 +1,8 @@
 //! An open removal cleaned up: the edges and faces that it gave up are taken out.
 
-ghost use Rattle.std.specs.Prelude.{◌≡◌};
+ghost use Rattle.std.specs.Prelude.{◌≡◌, ◌∷◌, []};
+ghost use Rattle.dcel_maps.specs.EditLists.{EditedBy};
+ghost use Rattle.dcel_maps.specs.EditLists.EditKind.{numbers_changed};
 ghost use Rattle.dcel_maps.specs.Removals.{IsListed, ascending};
 ghost use Rattle.dcel_maps.specs.Renumbering.{cleaned_up};
 ghost use Rattle.dcel_maps.specs.Shapes.{IsMesh};
@@ -33,6 +35,7 @@ pub fn cleanup_isolated_vertex<V, DE: Drop, UE: Drop, F: Drop, A: Allocator, B: 
 )
     requires { IsListed dcel.old.shape.removal opened.old.edges_to_remove.items opened.old.faces_to_remove.items }
     ensures edit { dcel.new ≡ cleaned_up dcel.old }
+    ensures edits { EditedBy (numbers_changed ∷ []) dcel.old dcel.new }
     ensures edges { opened.new.edges_to_remove.items ≡ ascending opened.old.edges_to_remove.items }
     ensures faces { opened.new.faces_to_remove.items ≡ ascending opened.old.faces_to_remove.items }
     ensures new_edges { opened.new.new_edges ≡ opened.old.new_edges }

@@ -1,7 +1,9 @@
 //! A new mesh, its vertices and its first edge.
 
-ghost use Rattle.std.specs.Prelude.{◌≡◌, ◌≢◌, ◌^◌, ◌<◌, ◌≤◌, IfOk, IfErr, OnErr, OnOk, true, vec_len};
+ghost use Rattle.std.specs.Prelude.{◌≡◌, ◌≢◌, ◌^◌, ◌<◌, ◌≤◌, ◌∷◌, [], IfOk, IfErr, OnErr, OnOk, true, vec_len};
 ghost use Rattle.dcel_maps.specs.Conditions.{HasRoom};
+ghost use Rattle.dcel_maps.specs.EditLists.{EditedBy, MadeBy};
+ghost use Rattle.dcel_maps.specs.EditLists.EditKind.{first_edge};
 ghost use Rattle.dcel_maps.specs.Removals.{Closed};
 ghost use Rattle.dcel_store.specs.Lists.{HasPlaces, empty};
 ghost use Rattle.dcel_maps.specs.edits.Create.{IsNew, first_edge_added, first_edge_alone, vertex_appended};
@@ -23,6 +25,7 @@ pub fn new<V: Drop, DE: Drop, UE: Drop, F: Default + Drop, A: Allocator + Clone>
     alloc: A,
 ) -> Result<Dcel<V, DE, UE, F, A>, AllocError>
     ensures new { IfOk result (λ dcel. IsNew F.is_default dcel) }
+    ensures edits { IfOk result (MadeBy []) }
     ensures mesh { IfOk result IsMesh }
 {
     let (mut store, removal) = with_room(alloc, 0, 0, 1)?;
@@ -58,6 +61,7 @@ pub fn new_with_fixed_vertices<
     requires apart { first_vertex ≢ second_vertex }
     requires few { vec_len vertices ≤ 2 ^ 32 }
     ensures edge { IfOk result (λ dcel. AddsEdgesAndFaces DE.is_default UE.is_default F.is_default 1 1 dcel (first_edge_alone vertices.items first_vertex second_vertex)) }
+    ensures edits { IfOk result (MadeBy (first_edge ∷ [])) }
     ensures back { IfErr result (λ refused. refused.back ≡ vertices) }
     ensures mesh { IfOk result IsMesh }
 {
@@ -101,6 +105,7 @@ pub fn append_unconnected_vertex<V, DE, UE, F, A: Allocator>(
 ) -> Result<FixedVertexHandle, NoMemory<V>>
     requires { HasRoom dcel.old.shape 1 0 0 }
     ensures edit { OnOk result (dcel.new ≡ vertex_appended dcel.old datum) }
+    ensures edits { OnOk result (EditedBy [] dcel.old dcel.new) }
     ensures answer { IfOk result (λ vertex. vertex ≡ dcel.old.shape.vertices) }
     ensures refused { OnErr result (dcel.new ≡ dcel.old) }
     ensures back { IfErr result (λ refused. refused.back ≡ datum) }
@@ -139,6 +144,7 @@ pub fn setup_initial_two_vertices<V, DE: Default, UE: Default, F, A: Allocator>(
     requires apart { first_vertex ≢ second_vertex }
     requires room { HasRoom dcel.old.shape 0 1 0 }
     ensures edit { OnOk result (AddsEdge DE.is_default UE.is_default dcel.new (first_edge_added dcel.old first_vertex second_vertex)) }
+    ensures edits { OnOk result (EditedBy (first_edge ∷ []) dcel.old dcel.new) }
     ensures refused { OnErr result (dcel.new ≡ dcel.old) }
     ensures mesh { IsMesh dcel.new }
 {

@@ -2,6 +2,7 @@
 
 ghost use Rattle.std.specs.Prelude.{◌≡◌, ◌-◌, ◌==◌, cond, slice_index_or, Some, None};
 ghost use Rattle.dcel_maps.specs.Degenerate.{CanRemoveDegenerate};
+ghost use Rattle.dcel_maps.specs.EditLists.{EditedBy, path_shortened};
 ghost use Rattle.dcel_maps.specs.edits.Degenerate.{removed_degenerate};
 ghost use Rattle.dcel_maps.specs.Shapes.{IsMesh};
 
@@ -36,6 +37,7 @@ pub fn remove_when_degenerate<V, DE: Drop, UE: Drop, F, A: Allocator>(
 ) -> RemovalResult<V>
     requires { CanRemoveDegenerate dcel.old.shape vertex }
     ensures edit { dcel.new ≡ removed_degenerate dcel.old vertex }
+    ensures edits { EditedBy (path_shortened dcel.old vertex) dcel.old dcel.new }
     ensures datum { result.removed_vertex
         ≡ slice_index_or dcel.old.vertex_data vertex result.removed_vertex }
     ensures moved { result.swapped_in_vertex

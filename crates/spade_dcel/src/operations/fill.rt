@@ -1,9 +1,10 @@
 //! Holes filled: a vertex is given up with its edges and the triangles around it, or a region of
 //! faces with the edges between them.
 
-ghost use Rattle.std.specs.Prelude.{◌≡◌, ◌-◌, ◌^◌, ◌<◌, ◌≤◌, IfOk, OnErr, OnOk, length};
+ghost use Rattle.std.specs.Prelude.{◌≡◌, ◌-◌, ◌^◌, ◌<◌, ◌≤◌, ◌++◌, IfOk, OnErr, OnOk, length};
 ghost use Rattle.dcel_maps.specs.Borders.{IsBorderLoop};
 ghost use Rattle.dcel_maps.specs.Conditions.{HasRoom};
+ghost use Rattle.dcel_maps.specs.EditLists.{EditedBy, ears_cut, filling, vertex_cut_off};
 ghost use Rattle.dcel_maps.specs.edits.Fill.{CanFill, FillsHole, border_filled, edges_at, faces_at, hole_filled, ring_remeshed};
 ghost use Rattle.dcel_maps.specs.Numbers.{numbers_between};
 ghost use Rattle.dcel_maps.specs.Regions.{IsRing, inside};
@@ -67,6 +68,7 @@ pub fn isolate_vertex_and_fill_hole<
     requires border { IsBorderLoop dcel.old.shape border_loop.items vertex }
     requires room { HasRoom dcel.old.shape 0 (length border_loop.items - 3) (length border_loop.items - 2) }
     ensures edit { OnOk result (FillsHole DE.is_default UE.is_default F.is_default border_loop.items dcel.new (hole_filled dcel.old vertex border_loop.items)) }
+    ensures edits { OnOk result (EditedBy (vertex_cut_off (length border_loop.items) ++ ears_cut (length border_loop.items)) dcel.old dcel.new) }
     ensures answer { IfOk result (HasFilled dcel.old.shape border_loop.items (edges_at dcel.old vertex) (faces_at dcel.old vertex)) }
     ensures refused { OnErr result (dcel.new ≡ dcel.old) }
     ensures mesh { IsMesh dcel.new }
@@ -117,6 +119,7 @@ pub fn remesh_edge_ring<
     requires room { HasRoom dcel.old.shape 0 (length border_loop.items - 3) (length border_loop.items - 2) }
     ensures edit { OnOk result (FillsHole DE.is_default UE.is_default F.is_default border_loop.items
         dcel.new (ring_remeshed dcel.old border_loop.items edges_to_remove.items faces_to_remove.items)) }
+    ensures edits { OnOk result (EditedBy (filling border_loop.items edges_to_remove.items faces_to_remove.items) dcel.old dcel.new) }
     ensures answer { IfOk result (HasFilled dcel.old.shape border_loop.items edges_to_remove.items faces_to_remove.items) }
     ensures refused { OnErr result (dcel.new ≡ dcel.old) }
     ensures mesh { IsMesh dcel.new }

@@ -1,7 +1,9 @@
 //! An edge flipped between two triangles.
 
-ghost use Rattle.std.specs.Prelude.{◌≡◌};
+ghost use Rattle.std.specs.Prelude.{◌≡◌, ◌∷◌, []};
 ghost use Rattle.dcel_maps.specs.Conditions.{CanFlip};
+ghost use Rattle.dcel_maps.specs.EditLists.{EditedBy};
+ghost use Rattle.dcel_maps.specs.EditLists.EditKind.{ear_cut, words_joined};
 ghost use Rattle.dcel_maps.specs.edits.Flip.{edge_flipped};
 ghost use Rattle.dcel_maps.specs.Shapes.{IsMesh};
 
@@ -13,8 +15,8 @@ use std::alloc::Allocator;
 /// Flips an edge clockwise between the triangles on its two sides.
 ///
 /// It joins their other two corners afterwards. It keeps its number and its data, and so does every
-/// other element. Either triangle may be the outer face. In the picture `e` is the even half, which
-/// leads from `a` to `b` before and from `c` to `d` afterwards.
+/// other element. In the picture `e` is the even half, which leads from `a` to `b` before and from
+/// `c` to `d` afterwards.
 ///
 /// ```text
 /// before     c                  after      c
@@ -28,13 +30,16 @@ use std::alloc::Allocator;
 ///
 /// The half edges `a to d` and `b to c` become the anchors of `a` and `b`, and `e` and `t` those of
 /// `f` and `g`. Asks that the edge is live, both its faces are triangles, and the corners opposite it
-/// are two vertices ([`can_flip`](Dcel::can_flip)).
+/// are two vertices ([`can_flip`](Dcel::can_flip)). Either triangle may be the outer face: then one of
+/// `a` and `b` leaves the hull. And an edge may join `c` and `d` already, beside which the flipped one
+/// is a second: [`get_edge_from_neighbors`](Dcel::get_edge_from_neighbors) tells.
 pub fn flip_cw<V, DE, UE, F, A: Allocator>(
     dcel: &mut Dcel<V, DE, UE, F, A>,
     edge: FixedUndirectedEdgeHandle,
 )
     requires { CanFlip dcel.old.shape edge }
     ensures edit { dcel.new ≡ edge_flipped dcel.old edge }
+    ensures edits { EditedBy (words_joined ∷ ear_cut ∷ []) dcel.old dcel.new }
     ensures mesh { IsMesh dcel.new }
 {
     put_flip(&mut dcel.store, edge.as_directed());

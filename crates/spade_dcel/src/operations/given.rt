@@ -78,6 +78,10 @@ impl fmt::Display for LinksError {
                     "vertex {vertex} is not anchored at a half edge that starts there"
                 )
             }
+            LinksError::FaceAnchor(0) => write!(
+                f,
+                "the outer face is not anchored at a half edge that lies there"
+            ),
             LinksError::FaceAnchor(face) => {
                 write!(
                     f,
@@ -102,6 +106,23 @@ pub struct RefusedLinks<T> {
     /// The value that was handed in.
     pub back: T,
 }
+
+impl<T> fmt::Debug for RefusedLinks<T> {
+    /// Shows the reason alone, so that the value may be of any type.
+    fn fmt<W: fmt::Write>(&self, f: &mut fmt::Formatter<W>) -> fmt::Result {
+        f.debug_struct("RefusedLinks")
+            .field("reason", &self.reason)
+            .finish_non_exhaustive()
+    }
+}
+
+impl<T> fmt::Display for RefusedLinks<T> {
+    fn fmt<W: fmt::Write>(&self, f: &mut fmt::Formatter<W>) -> fmt::Result {
+        write!(f, "{}", self.reason)
+    }
+}
+
+impl<T: Drop> Error for RefusedLinks<T> {}
 
 impl<T: Drop> From<RefusedLinks<T>> for LinksError {
     ghost from_gives = { λ refused reason. reason ≡ refused.reason };

@@ -1,7 +1,9 @@
 //! A line extended at its end.
 
-ghost use Rattle.std.specs.Prelude.{◌≡◌, IfOk, OnErr, OnOk};
+ghost use Rattle.std.specs.Prelude.{◌≡◌, ◌∷◌, [], IfOk, OnErr, OnOk};
 ghost use Rattle.dcel_maps.specs.Conditions.{HasRoom, IsUnconnected, IsLineEnd};
+ghost use Rattle.dcel_maps.specs.EditLists.{EditedBy};
+ghost use Rattle.dcel_maps.specs.EditLists.EditKind.{spur_added};
 ghost use Rattle.dcel_maps.specs.edits.DefaultData.{AddsEdge};
 ghost use Rattle.dcel_maps.specs.edits.Line.{line_extended};
 ghost use Rattle.dcel_maps.specs.Shapes.{IsMesh};
@@ -33,6 +35,7 @@ pub fn extend_line<V, DE: Default, UE: Default, F, A: Allocator>(
     requires unconnected { IsUnconnected dcel.old.shape new_vertex }
     requires room { HasRoom dcel.old.shape 0 1 0 }
     ensures edit { OnOk result (AddsEdge DE.is_default UE.is_default dcel.new (line_extended dcel.old end_vertex new_vertex)) }
+    ensures edits { OnOk result (EditedBy (spur_added ∷ []) dcel.old dcel.new) }
     ensures answer { IfOk result (λ vertex. vertex ≡ new_vertex) }
     ensures refused { OnErr result (dcel.new ≡ dcel.old) }
     ensures mesh { IsMesh dcel.new }

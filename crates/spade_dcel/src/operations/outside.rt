@@ -1,7 +1,9 @@
 //! Triangles put outside an edge, or into a corner of the outer face.
 
-ghost use Rattle.std.specs.Prelude.{◌≡◌, ◌+◌, ◌*◌, IfOk, OnErr, OnOk};
+ghost use Rattle.std.specs.Prelude.{◌≡◌, ◌+◌, ◌*◌, ◌∷◌, [], IfOk, OnErr, OnOk};
 ghost use Rattle.dcel_maps.specs.Conditions.{CanCloseOutside, HasRoom, IsUnconnected};
+ghost use Rattle.dcel_maps.specs.EditLists.{EditedBy};
+ghost use Rattle.dcel_maps.specs.EditLists.EditKind.{ear_cut, spur_added};
 ghost use Rattle.dcel_maps.specs.edits.DefaultData.{AddsEdgesAndFaces};
 ghost use Rattle.dcel_maps.specs.edits.Outside.{face_closed, face_put_beside};
 ghost use Rattle.dcel_maps.specs.Shapes.{IsLive, IsMesh};
@@ -37,6 +39,7 @@ pub fn create_new_face_adjacent_to_edge<V, DE: Default, UE: Default, F: Default,
     requires unconnected { IsUnconnected dcel.old.shape new_vertex }
     requires room { HasRoom dcel.old.shape 0 2 1 }
     ensures edit { OnOk result (AddsEdgesAndFaces DE.is_default UE.is_default F.is_default 2 1 dcel.new (face_put_beside dcel.old edge new_vertex)) }
+    ensures edits { OnOk result (EditedBy (spur_added ∷ ear_cut ∷ []) dcel.old dcel.new) }
     ensures answer { IfOk result (λ vertex. vertex ≡ new_vertex) }
     ensures refused { OnErr result (dcel.new ≡ dcel.old) }
     ensures mesh { IsMesh dcel.new }
@@ -77,6 +80,7 @@ pub fn create_single_face_between_edge_and_next<
     requires can_close { CanCloseOutside dcel.old.shape edge }
     requires room { HasRoom dcel.old.shape 0 1 1 }
     ensures edit { OnOk result (AddsEdgesAndFaces DE.is_default UE.is_default F.is_default 1 1 dcel.new (face_closed dcel.old edge)) }
+    ensures edits { OnOk result (EditedBy (ear_cut ∷ []) dcel.old dcel.new) }
     ensures answer { IfOk result (λ outer. outer ≡ 2 * dcel.old.shape.edges + 1) }
     ensures refused { OnErr result (dcel.new ≡ dcel.old) }
     ensures mesh { IsMesh dcel.new }

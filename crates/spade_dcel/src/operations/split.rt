@@ -2,6 +2,8 @@
 
 ghost use Rattle.std.specs.Prelude.{◌≡◌, ◌*◌, [], ◌∷◌, IfOk, OnErr, OnOk};
 ghost use Rattle.dcel_maps.specs.Conditions.{HasRoom, IsBridge, IsUnconnected};
+ghost use Rattle.dcel_maps.specs.EditLists.{EditedBy};
+ghost use Rattle.dcel_maps.specs.EditLists.EditKind.{edge_subdivided};
 ghost use Rattle.dcel_maps.specs.edits.DefaultData.{AddsEdge};
 ghost use Rattle.dcel_maps.specs.edits.Split.{edge_split_on_line};
 ghost use Rattle.dcel_maps.specs.Shapes.{IsMesh};
@@ -36,6 +38,7 @@ pub fn split_edge_when_all_vertices_on_line<V, DE: Default, UE: Default, F, A: A
     requires unconnected { IsUnconnected dcel.old.shape new_vertex }
     requires room { HasRoom dcel.old.shape 0 1 0 }
     ensures edit { OnOk result (AddsEdge DE.is_default UE.is_default dcel.new (edge_split_on_line dcel.old edge new_vertex)) }
+    ensures edits { OnOk result (EditedBy (edge_subdivided ∷ []) dcel.old dcel.new) }
     ensures answer { IfOk result (λ halves. halves ≡ edge ∷ 2 * dcel.old.shape.edges ∷ []) }
     ensures refused { OnErr result (dcel.new ≡ dcel.old) }
     ensures mesh { IsMesh dcel.new }

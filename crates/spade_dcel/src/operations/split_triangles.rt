@@ -3,6 +3,8 @@
 ghost use Rattle.std.specs.Prelude.{◌≡◌, ◌+◌, ◌*◌, [], ◌∷◌, IfOk, OnErr, OnOk};
 ghost use Rattle.dcel_fixed.specs.HalfEdges.{rev};
 ghost use Rattle.dcel_maps.specs.Conditions.{HasRoom, IsTriangle, IsUnconnected};
+ghost use Rattle.dcel_maps.specs.EditLists.{EditedBy};
+ghost use Rattle.dcel_maps.specs.EditLists.EditKind.{ear_cut, edge_subdivided};
 ghost use Rattle.dcel_maps.specs.edits.DefaultData.{AddsEdgesAndFaces};
 ghost use Rattle.dcel_maps.specs.edits.Split.{edge_split, half_edge_split};
 ghost use Rattle.dcel_maps.specs.Shapes.{IsLive, IsMesh, face_of};
@@ -44,6 +46,7 @@ pub fn split_edge<V, DE: Default, UE: Default, F: Default, A: Allocator>(
     requires unconnected { IsUnconnected dcel.old.shape new_vertex }
     requires room { HasRoom dcel.old.shape 0 3 2 }
     ensures edit { OnOk result (AddsEdgesAndFaces DE.is_default UE.is_default F.is_default 3 2 dcel.new (edge_split dcel.old edge new_vertex)) }
+    ensures edits { OnOk result (EditedBy (edge_subdivided ∷ ear_cut ∷ ear_cut ∷ []) dcel.old dcel.new) }
     ensures answer { IfOk result (λ halves. halves ≡ edge ∷ (2 * dcel.old.shape.edges + 3) ∷ []) }
     ensures refused { OnErr result (dcel.new ≡ dcel.old) }
     ensures mesh { IsMesh dcel.new }
@@ -83,6 +86,7 @@ pub fn split_half_edge<V, DE: Default, UE: Default, F: Default, A: Allocator>(
     requires unconnected { IsUnconnected dcel.old.shape new_vertex }
     requires room { HasRoom dcel.old.shape 0 2 1 }
     ensures edit { OnOk result (AddsEdgesAndFaces DE.is_default UE.is_default F.is_default 2 1 dcel.new (half_edge_split dcel.old edge new_vertex)) }
+    ensures edits { OnOk result (EditedBy (edge_subdivided ∷ ear_cut ∷ []) dcel.old dcel.new) }
     ensures answer { IfOk result (λ halves. halves ≡ edge ∷ (2 * dcel.old.shape.edges + 2) ∷ []) }
     ensures refused { OnErr result (dcel.new ≡ dcel.old) }
     ensures mesh { IsMesh dcel.new }

@@ -1,6 +1,7 @@
 //! A vertex of the outer face cut off, with its edges and the triangles around it.
 
-ghost use Rattle.std.specs.Prelude.{◌≡◌, ◌<◌, [], ◌∷◌, ◌++◌, ℕ, IfOk, OnErr, OnOk, map};
+ghost use Rattle.std.specs.Prelude.{◌≡◌, ◌<◌, [], ◌∷◌, ◌++◌, length, ℕ, IfOk, OnErr, OnOk, map};
+ghost use Rattle.dcel_maps.specs.EditLists.{EditedBy, vertex_cut_off};
 ghost use Rattle.dcel_maps.specs.edits.Strip.{strip_cut, strip_edges, strip_faces};
 ghost use Rattle.dcel_maps.specs.Removals.{Closed};
 ghost use Rattle.dcel_maps.specs.Shapes.{IsLive, IsMesh, face_of};
@@ -47,6 +48,7 @@ pub fn disconnect_edge_strip<V, DE, UE, F, A: Allocator + Clone, B: Allocator>(
     requires closed { dcel.old.shape.removal ≡ Closed }
     requires strip { IsEdgeStrip dcel.old.shape list.items }
     ensures edit { OnOk result (dcel.new ≡ strip_cut dcel.old list.items) }
+    ensures edits { OnOk result (EditedBy (vertex_cut_off (length list.items)) dcel.old dcel.new) }
     ensures answer { IfOk result (HasOpened (strip_edges dcel.old.shape list.items) (strip_faces dcel.old.shape list.items) [] 0) }
     ensures refused { OnErr result (dcel.new ≡ dcel.old) }
     ensures mesh { IsMesh dcel.new }

@@ -1,7 +1,9 @@
 //! A vertex without edges taken out.
 
-ghost use Rattle.std.specs.Prelude.{◌≡◌, ◌-◌, ◌==◌, cond, slice_index_or, Some, None};
+ghost use Rattle.std.specs.Prelude.{◌≡◌, ◌-◌, ◌==◌, ◌∷◌, [], cond, slice_index_or, Some, None};
 ghost use Rattle.dcel_maps.specs.Conditions.{CanSwapRemove};
+ghost use Rattle.dcel_maps.specs.EditLists.{EditedBy};
+ghost use Rattle.dcel_maps.specs.EditLists.EditKind.{numbers_changed};
 ghost use Rattle.dcel_maps.specs.Renumbering.{vertex_taken_out};
 ghost use Rattle.dcel_maps.specs.Shapes.{IsMesh};
 
@@ -29,6 +31,7 @@ pub fn swap_remove_vertex<V, DE, UE, F, A: Allocator>(
 ) -> RemovalResult<V>
     requires { CanSwapRemove dcel.old.shape vertex }
     ensures edit { dcel.new ≡ vertex_taken_out dcel.old vertex }
+    ensures edits { EditedBy (numbers_changed ∷ []) dcel.old dcel.new }
     ensures datum { result.removed_vertex
         ≡ slice_index_or dcel.old.vertex_data vertex result.removed_vertex }
     ensures moved { result.swapped_in_vertex

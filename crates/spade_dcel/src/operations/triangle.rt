@@ -1,7 +1,9 @@
 //! A triangle made, and a vertex inserted into one.
 
-ghost use Rattle.std.specs.Prelude.{◌≡◌, ◌<◌, IfOk, IfErr, OnErr, OnOk};
+ghost use Rattle.std.specs.Prelude.{◌≡◌, ◌<◌, ◌∷◌, [], IfOk, IfErr, OnErr, OnOk};
 ghost use Rattle.dcel_maps.specs.Conditions.{HasRoom, IsUnconnected, IsTriangle};
+ghost use Rattle.dcel_maps.specs.EditLists.{EditedBy, MadeBy};
+ghost use Rattle.dcel_maps.specs.EditLists.EditKind.{ear_cut, first_edge, spur_added};
 ghost use Rattle.dcel_maps.specs.edits.DefaultData.{AddsEdgesAndFaces};
 ghost use Rattle.dcel_maps.specs.edits.Triangle.{triangle_alone, vertex_inserted};
 ghost use Rattle.dcel_maps.specs.Shapes.{IsMesh};
@@ -33,6 +35,7 @@ pub fn new_triangle<
     A: Allocator + Clone,
 >(alloc: A, vertices: (V, V, V)) -> Result<Dcel<V, DE, UE, F, A>, NoMemory<(V, V, V)>>
     ensures triangle { IfOk result (λ dcel. AddsEdgesAndFaces DE.is_default UE.is_default F.is_default 3 2 dcel (triangle_alone vertices)) }
+    ensures edits { IfOk result (MadeBy (first_edge ∷ spur_added ∷ ear_cut ∷ [])) }
     ensures back { IfErr result (λ refused. refused.back ≡ vertices) }
     ensures mesh { IfOk result IsMesh }
 {
@@ -72,6 +75,7 @@ pub fn insert_into_triangle<V, DE: Default, UE: Default, F: Default, A: Allocato
     requires unconnected { IsUnconnected dcel.old.shape v }
     requires room { HasRoom dcel.old.shape 0 3 2 }
     ensures edit { OnOk result (AddsEdgesAndFaces DE.is_default UE.is_default F.is_default 3 2 dcel.new (vertex_inserted dcel.old v f0)) }
+    ensures edits { OnOk result (EditedBy (spur_added ∷ ear_cut ∷ ear_cut ∷ []) dcel.old dcel.new) }
     ensures answer { IfOk result (λ vertex. vertex ≡ v) }
     ensures refused { OnErr result (dcel.new ≡ dcel.old) }
     ensures mesh { IsMesh dcel.new }

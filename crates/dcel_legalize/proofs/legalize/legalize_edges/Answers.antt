@@ -1,14 +1,23 @@
 use Rattle.std.proofs.Common.{rules, ◌≡◌, ◌<◌, [], arith}
+use Rattle.dcel_maps.specs.Shapes.{map_of}
+use Rattle.dcel_maps.proofs.maps.Lists.{extends_same}
 use Rattle.dcel_legalize.proofs.Course.{begins, done, out_of_memory, passes, stopped, turns}
+use Rattle.dcel_legalize.proofs.Runs.{flips_once_more}
 use Rattle.dcel_legalize.proofs.legalize.legalize_edges.Goals as goal
 
 pub loop-edge-init : goal.loop-edge-init
-loop-edge-init g c = record { mesh = c.every_mesh.ensures; few = omega arith; way = λ w answers. begins w c.args.dcel.now c.args.list.items c.args.max_flips }
+loop-edge-init g c = record {
+  mesh = c.every_mesh.ensures;
+  few = omega arith;
+  edits = extends_same (map_of c.args.dcel.now.shape);
+  way = λ w answers. begins w c.args.dcel.now c.args.list.items c.args.max_flips;
+}
 
 pub loop-edge-preserved-then-not-is_due : goal.loop-edge-preserved-then-not-is_due
 loop-edge-preserved-then-not-is_due g c = record {
   mesh = c.loop-edge.invariant.mesh;
   few = c.loop-edge.invariant.few;
+  edits = c.loop-edge.invariant.edits;
   way = λ w answers.
       passes w c.args.dcel.now c.args.list.items c.args.max_flips c.loop-edge.dcel c.pop.new.self.items c.loop-edge.flips c.in-Some.edge
       (rw c.in-Some.ensures.items at (c.loop-edge.invariant.way w answers))
@@ -35,6 +44,7 @@ loop-edge-preserved g c =
     record {
       mesh = c.flip_cw.ensures.mesh;
       few = omega (arith, less);
+      edits = flips_once_more c.loop-edge.flips c.args.dcel.now c.loop-edge.dcel c.flip_cw.new.dcel c.loop-edge.invariant.edits c.flip_cw.ensures.edits;
       way = λ w answers.
           rw (c.append_beside.ensures, c.flip_cw.ensures.edit, c.reserve.ensures.items)
           (turns w c.args.dcel.now c.args.list.items c.args.max_flips c.loop-edge.dcel c.pop.new.self.items c.loop-edge.flips c.in-Some.edge

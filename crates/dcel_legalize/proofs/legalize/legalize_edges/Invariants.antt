@@ -1,5 +1,6 @@
 use Rattle.std.proofs.Common.{◌+◌, ◌-◌, ◌*◌, ◌≤◌, ℕ, Bool, List, vec_len}
 use Rattle.std.specs.Fn.{FnReturnsAt}
+use Rattle.dcel_maps.specs.EditLists.{EditedBy, flip_edits}
 use Rattle.dcel_maps.specs.Shapes.{IsMesh}
 use Rattle.dcel_legalize.specs.Flipping.{AnswersAs}
 use Rattle.dcel_legalize.proofs.Course.{IsUnderWay}
@@ -10,6 +11,7 @@ abbrev pub invariant-loop-edge : goal.invariant-loop-edge
 invariant-loop-edge g l = record {
   mesh : IsMesh l.dcel;
   few : l.flips ≤ l.max_flips;
+  edits : EditedBy (flip_edits l.flips) l.fn.dcel l.dcel;
   way : (w : List ℕ → Bool) → AnswersAs (FnReturnsAt g.W.Fn l.wanted) w → IsUnderWay w l.fn.dcel l.fn.list.items l.max_flips l.dcel l.list.items l.flips;
 }
 

@@ -1,17 +1,20 @@
-use Rattle.std.proofs.Common.{ℕ, Ok, Err}
+use Rattle.std.proofs.Common.{ℕ, ◌≤◌, ◌^◌, Ok, Err}
 use Rattle.std.specs.Prelude.{◌≡◌, Result, IfOk, IfErr, OnOk, OnErr}
 use Rattle.dcel_commands.specs.declared.commands.reply.Refused.{Refused}
 use Rattle.dcel_commands.specs.declared.commands.reply.Reply.{Reply}
+use Rattle.dcel_commands.specs.Edits.{edits_of}
 use Rattle.dcel_commands.specs.Instructions.{Instruction, instruction}
 use Rattle.dcel_commands.specs.Responses.{answered, response}
 use Rattle.dcel_commands.specs.Steps.{Carries, IsRefusal, Legal, Step}
-use Rattle.dcel_maps.specs.Shapes.{Mesh}
+use Rattle.dcel_maps.specs.EditLists.{EditedBy}
+use Rattle.dcel_maps.specs.Shapes.{IsMesh, Mesh}
+use Rattle.dcel_commands.proofs.Edits.{step_edits}
 use Rattle.dcel_commands.proofs.commands.dispatch.apply.Given.{Over}
 use Rattle.dcel_commands.proofs.commands.dispatch.apply.Goals as goal
 use Rattle.dcel_commands.proofs.commands.dispatch.apply.Goals.{in-Append, in-Triangle, in-Setup, in-Extend, in-Line, in-Close, in-Outside, in-Insert, in-Half, in-Split, in-Flip, in-Swap, in-Put, in-Isolate, in-Remesh, in-Strip, in-Cleanup, in-Remove, in-Degenerate, in-Legalize, in-Clear}
 
 -- each line carries out its command
-carries : (g : Over) (c : goal.After-every_mesh g)
+carries : (g : Over) (c : goal.After-every_mesh-2 g)
     → Carries g.DE.Default.is_default g.UE.Default.is_default g.F.Default.is_default c.args.limit c.args.dcel.now (instruction c.args.command) (answered c.match-command.answer) c.match-command.dcel
 carries g c = elim c.match-command.branch [
   | in-Append w ↦ rw (w.answer-is, w.dcel-is, w.in-Append.is) w.carry_out-answer.ensures
@@ -46,6 +49,17 @@ parts is_half is_edge is_face limit old new command (Err refused) c = (tt, tt, c
 
 pub returns-clause-step : goal.returns-clause-step
 returns-clause-step g c = (parts _ _ _ _ _ _ _ c.match-command.answer (carries g c)).0
+
+-- where it was carried out, it is its elementary edits
+edited : {V A DE UE F : Type 0} (is_half : DE → Type 0) (is_edge : UE → Type 0) (is_face : F → Type 0) (limit : ℕ) → limit ≤ 2 ^ 31 → (old new : Mesh V DE UE F)
+    → IsMesh old → (command : Instruction V) (outcome : Result (Reply V A) (Refused V))
+    → Carries is_half is_edge is_face limit old command (answered outcome) new
+    → IfOk outcome (λ reply. EditedBy (edits_of old command (response reply)) old new)
+edited is_half is_edge is_face limit small old new mesh command (Ok reply) c = step_edits is_half is_edge is_face limit small old mesh command c.0 (response reply) new c.1
+edited is_half is_edge is_face limit small old new mesh command (Err refused) c = tt
+
+pub returns-clause-edits : goal.returns-clause-edits
+returns-clause-edits g c = edited _ _ _ c.args.limit c.requires c.args.dcel.now _ c.every_mesh.ensures _ c.match-command.answer (carries g c)
 
 pub returns-clause-legal : goal.returns-clause-legal
 returns-clause-legal g c = (parts _ _ _ _ _ _ _ c.match-command.answer (carries g c)).1

@@ -1,10 +1,11 @@
-use Rattle.std.proofs.Common.{◌≡◌, ◌∷◌, [], inr, length, map, rules, sym, ap, ◌∙◌, arith, vec_len}
+use Rattle.std.proofs.Common.{◌≡◌, ◌∷◌, [], inr, length, map, refl, rules, sym, ap, ◌∙◌, arith, vec_len}
 use Rattle.std.proofs.lemmas.Grind.{common_steps}
 use Rattle.std.proofs.lemmas.List.{length-map, map-append}
 use Rattle.std.specs.Vec.Iter.{into_iter_items}
 use Rattle.dcel_commands.specs.Instructions.{instruction}
 use Rattle.dcel_commands.specs.Responses.{response}
 use Rattle.dcel_maps.proofs.Headline.{mesh-headline}
+use Rattle.dcel_commands.proofs.Edits.{none_edits, stopped_edits, whole_edits}
 use Rattle.dcel_commands.proofs.Runs.{under_way-start, under_way-next, under_way-end, under_way-stopped}
 use Rattle.dcel_commands.proofs.Triangles.{stopped-triangles, whole-triangles}
 use Rattle.dcel_commands.proofs.commands.lists.apply_all.Goals as goal
@@ -62,6 +63,23 @@ returns-clause-triangles g c =
 pub returns-in-Err-apply-clause-triangles : goal.returns-in-Err-apply-clause-triangles
 returns-in-Err-apply-clause-triangles g c =
     stopped-triangles g.DE.Default.is_default g.UE.Default.is_default g.F.Default.is_default c.args.limit c.args.dcel.now c.apply.new.dcel
+    (map instruction c.args.commands.items) (map response c.loop-command.done.items) c.len-at.result c.in-Err-apply.refused c.every_mesh.ensures
+    (returns-in-Err-apply-clause-stopped g c)
+
+pub returns-clause-edits : goal.returns-clause-edits
+returns-clause-edits g c =
+    whole_edits g.DE.Default.is_default g.UE.Default.is_default g.F.Default.is_default c.args.limit c.requires c.args.dcel.now c.loop-command.dcel
+    (map instruction c.args.commands.items) (map response c.loop-command.done.items) c.every_mesh.ensures (returns-clause-run g c)
+
+pub returns-in-Err-clause-edits : goal.returns-in-Err-clause-edits
+returns-in-Err-clause-edits g c =
+    let none : map response c.new.result.items ≡ [] = grind (arith, common_steps) in
+    none_edits g.DE.Default.is_default g.UE.Default.is_default g.F.Default.is_default c.args.limit c.requires c.args.dcel.now c.args.dcel.now
+    (map instruction c.args.commands.items) (map response c.new.result.items) none refl
+
+pub returns-in-Err-apply-clause-edits : goal.returns-in-Err-apply-clause-edits
+returns-in-Err-apply-clause-edits g c =
+    stopped_edits g.DE.Default.is_default g.UE.Default.is_default g.F.Default.is_default c.args.limit c.requires c.args.dcel.now c.apply.new.dcel
     (map instruction c.args.commands.items) (map response c.loop-command.done.items) c.len-at.result c.in-Err-apply.refused c.every_mesh.ensures
     (returns-in-Err-apply-clause-stopped g c)
 

@@ -1,5 +1,7 @@
 use Rattle.std.proofs.Common.{◌∙◌}
+use Rattle.dcel_maps.proofs.lists.Removing.{cleanup_listed}
 use Rattle.dcel_edits.proofs.Public.{mesh-is-mesh}
+use Rattle.dcel_edits.proofs.stored.Changes.{held_mesh}
 use Rattle.dcel_edits.proofs.stored.CleaningUp.{can_lose_listed_edges, can_lose_listed_faces, listed_out_holds}
 use Rattle.dcel_edits.proofs.stored.Holding.{holds}
 use Rattle.spade_dcel.proofs.Listed.{as_many, edges-listed, faces-listed}
@@ -49,6 +51,10 @@ returns-clause-edit g c =
     (c.deref.ensures.value ∙ edges-listed (holds c.dcel.invariant c.dcel.view_is) _ _ _ c.requires (c.copy_from_slice.ensures.items ∙ c.edges.ensures))
     (c.deref-2.ensures.value ∙ faces-listed (holds c.dcel.invariant c.dcel.view_is) _ _ _ c.requires (c.copy_from_slice-2.ensures.items ∙ c.faces.ensures))
     c.take_out_edges.ensures c.take_out_faces.ensures c.clean_up.ensures).is
+
+pub returns-clause-edits : goal.returns-clause-edits
+returns-clause-edits g c =
+    cleanup_listed c.args.dcel.now (held_mesh _ _ _ (holds c.dcel.invariant c.dcel.view_is)) _ (returns-clause-edit g c)
 
 pub returns-clause-mesh : goal.returns-clause-mesh
 returns-clause-mesh g c = mesh-is-mesh _ _ (invariant_of-dcel g c)

@@ -1,7 +1,9 @@
 use Rattle.std.proofs.Common.{◌∙◌}
+use Rattle.dcel_maps.proofs.lists.Growing.{close_listed}
 use Rattle.dcel_edits.proofs.Public.{mesh-is-mesh}
+use Rattle.dcel_edits.proofs.stored.Changes.{held_mesh}
 use Rattle.dcel_edits.proofs.stored.Closing.{closing_answer, closing_can, closing_holds}
-use Rattle.dcel_edits.proofs.stored.Holding.{reserved_holds}
+use Rattle.dcel_edits.proofs.stored.Holding.{holds, reserved_holds}
 use Rattle.spade_dcel.proofs.operations.outside.create_single_face_between_edge_and_next.Goals as goal
 
 pub invariant_of-dcel : goal.invariant_of-dcel
@@ -29,6 +31,10 @@ pub returns-clause-answer : goal.returns-clause-answer
 returns-clause-answer g c =
     let held = reserved_holds c.reserve.ensures.same c.dcel.invariant c.dcel.view_is in
     c.put_closing.ensures.answer ∙ closing_answer held _ c.requires.can_close c.requires.room
+
+pub returns-clause-edits : goal.returns-clause-edits
+returns-clause-edits g c =
+    close_listed c.args.dcel.now (held_mesh _ _ _ (holds c.dcel.invariant c.dcel.view_is)) _ _ (returns-clause-edit g c) c.requires.can_close c.requires.room
 
 pub returns-clause-mesh : goal.returns-clause-mesh
 returns-clause-mesh g c = mesh-is-mesh _ _ (invariant_of-dcel-2 g c)

@@ -1,5 +1,7 @@
+use Rattle.dcel_maps.proofs.lists.Growing.{both_listed}
 use Rattle.dcel_edits.proofs.Public.{mesh-is-mesh}
-use Rattle.dcel_edits.proofs.stored.Holding.{reserved_holds}
+use Rattle.dcel_edits.proofs.stored.Changes.{held_mesh}
+use Rattle.dcel_edits.proofs.stored.Holding.{holds, reserved_holds}
 use Rattle.dcel_edits.proofs.stored.SplittingTriangles.{split_both, split_can}
 use Rattle.spade_dcel.proofs.operations.split_triangles.split_edge.Goals as goal
 
@@ -25,6 +27,10 @@ returns-clause-edit g c =
     let held = reserved_holds c.reserve.ensures.same c.dcel.invariant c.dcel.view_is in
     let stored = c.put_middle_of_both-second_half.ensures.stored in
     (split_both held _ _ c.requires.live c.requires.unconnected c.requires.triangle c.requires.facing c.requires.room stored).edit
+
+pub returns-clause-edits : goal.returns-clause-edits
+returns-clause-edits g c =
+    both_listed c.args.dcel.now (held_mesh _ _ _ (holds c.dcel.invariant c.dcel.view_is)) _ _ _ (returns-clause-edit g c) c.requires.live c.requires.triangle c.requires.facing c.requires.unconnected c.requires.room
 
 pub returns-clause-mesh : goal.returns-clause-mesh
 returns-clause-mesh g c = mesh-is-mesh _ _ (invariant_of-dcel-2 g c)

@@ -1,5 +1,6 @@
 use Rattle.std.proofs.Common.{[], ◌∷◌, rules, sym, ap, ◌∙◌, subst, arith, map}
-use Rattle.dcel_maps.specs.edits.Strip.{but_last}
+use Rattle.dcel_maps.proofs.lists.Removing.{strip_listed}
+use Rattle.dcel_maps.specs.edits.Strip.{but_last, strip_cut}
 use Rattle.dcel_maps.specs.Shapes.{face_of}
 use Rattle.dcel_maps.specs.Strips.{IsEdgeStrip}
 use Rattle.dcel_maps.specs.Words.{count_of}
@@ -40,3 +41,9 @@ returns-clause-answer g c =
       new_edges = search rules;
       smallest = search rules;
     }
+
+pub returns-clause-edits : goal.returns-clause-edits
+returns-clause-edits g c =
+    let is = sym c.deref.ensures.value ∙ c.in-Some.ensures.cases.0 in
+    strip_listed c.args.dcel.now c.every_mesh.ensures _ c.args.list.items (c.in_ok-cut.ensures.edit ∙ ap (strip_cut c.args.dcel.now) (sym is))
+    c.requires.closed c.requires.strip

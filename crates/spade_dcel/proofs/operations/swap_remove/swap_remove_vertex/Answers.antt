@@ -1,4 +1,5 @@
 use Rattle.std.proofs.Common.{arith}
+use Rattle.dcel_maps.proofs.lists.Removing.{remove_listed}
 use Rattle.dcel_maps.proofs.renumbering.Vertices.{can_swap_remove-out}
 use Rattle.dcel_edits.proofs.Public.{mesh-is-mesh}
 use Rattle.dcel_edits.proofs.stored.Changes.{held_mesh}
@@ -28,6 +29,10 @@ returns-clause-edit g c =
     let held = holds c.dcel.invariant c.dcel.view_is in
     rw (c.close.ensures, c.take_out_vertex-removed_vertex.ensures.lists)
     (lose_vertex held _ (can_swap_remove-out _ (held_mesh _ _ _ held) _ c.requires)).1.is
+
+pub returns-clause-edits : goal.returns-clause-edits
+returns-clause-edits g c =
+    remove_listed c.args.dcel.now (held_mesh _ _ _ (holds c.dcel.invariant c.dcel.view_is)) _ _ (returns-clause-edit g c) c.requires
 
 pub returns-clause-mesh : goal.returns-clause-mesh
 returns-clause-mesh g c = mesh-is-mesh _ _ (invariant_of-dcel g c)

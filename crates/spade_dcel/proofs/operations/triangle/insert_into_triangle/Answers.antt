@@ -1,5 +1,7 @@
+use Rattle.dcel_maps.proofs.lists.Growing.{insert_listed}
 use Rattle.dcel_edits.proofs.Public.{mesh-is-mesh}
-use Rattle.dcel_edits.proofs.stored.Holding.{reserved_holds}
+use Rattle.dcel_edits.proofs.stored.Changes.{held_mesh}
+use Rattle.dcel_edits.proofs.stored.Holding.{holds, reserved_holds}
 use Rattle.dcel_edits.proofs.stored.Inserting.{insert_can, inserted_holds}
 use Rattle.spade_dcel.proofs.operations.triangle.insert_into_triangle.Goals as goal
 
@@ -26,6 +28,10 @@ returns-clause-edit g c =
     let held = reserved_holds c.reserve.ensures.same c.dcel.invariant c.dcel.view_is in
     let some = rw (c.face_anchor.ensures, c.adjust_inner_outer.ensures) at c.in-Some.is in
     (inserted_holds held _ _ _ c.requires.triangle c.requires.unconnected c.requires.room some c.put_insertion.ensures).edit
+
+pub returns-clause-edits : goal.returns-clause-edits
+returns-clause-edits g c =
+    insert_listed c.args.dcel.now (held_mesh _ _ _ (holds c.dcel.invariant c.dcel.view_is)) _ _ _ (returns-clause-edit g c) c.requires.triangle c.requires.unconnected c.requires.room
 
 pub returns-clause-mesh : goal.returns-clause-mesh
 returns-clause-mesh g c = mesh-is-mesh _ _ (invariant_of-dcel-2 g c)

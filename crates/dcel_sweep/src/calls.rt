@@ -1,0 +1,205 @@
+//! Calls alone, each on a mesh of its own without spare room: by the operation itself and as a
+//! command, or on a whole mesh.
+
+use crate::operations::{operate, operation};
+use crate::rows::{Row, number, rows_of};
+use crate::swept::Swept;
+use crate::watched::{fitted, made};
+use crate::whole;
+use dcel_bench::checks::{holds, same};
+use dcel_bench::lines::{has_memory, read_command};
+use dcel_bench::meshes::Mesh;
+use dcel_bench::refusing::{Memory, Refusals, Refusing, Watched};
+use dcel_bench::snapshots::{Snapshot, snapshot_of};
+use dcel_commands::commands::Command;
+use std::alloc::Global;
+use std::fmt;
+use std::test::Fail;
+
+/// How the call of a row is made.
+#[derive(Clone, Copy)]
+pub enum Way {
+    /// By the operation itself.
+    Operation,
+    /// As a command.
+    Apply,
+    /// On a whole mesh, by a call that is no command.
+    Whole,
+}
+
+/// A call that is refused a request.
+#[derive(Clone, Copy)]
+struct Case<'a> {
+    row: Row<'a>,
+    way: Way,
+    /// The function that is called.
+    function: &'static str,
+    /// The number of the request.
+    number: u64,
+}
+
+impl fmt::Display for Case<'_> {
+    fn fmt<W: fmt::Write>(&self, f: &mut fmt::Formatter<W>) -> fmt::Result {
+        write!(
+            f,
+            "{} by {}, request {}",
+            self.row.line, self.function, self.number
+        )
+    }
+}
+
+/// Returns the function that is called.
+fn function(line: &str, way: Way, alloc: Global) -> Result<&'static str, Fail> {
+    match way {
+        Way::Operation => Ok(operation(&read_command(line, alloc)?)),
+        Way::Apply => Ok("apply"),
+        Way::Whole => whole::function(line),
+    }
+}
+
+/// Has the mesh carry out a command by its operation, or by `apply`.
+fn carry_out<'a>(
+    dcel: &mut Watched<'a>,
+    memory: Memory<'a>,
+    command: Command<i64, Memory<'a>>,
+    way: Way,
+) -> Result<bool, Fail> {
+    match way {
+        Way::Apply => has_memory(dcel, command),
+        _ => operate(dcel, memory, command),
+    }
+}
+
+/// Makes the call with these requests refused. Returns whether there was memory.
+///
+/// Without memory, what was handed in has come back.
+pub fn make<'a>(
+    dcel: &mut Watched<'a>,
+    memory: Memory<'a>,
+    line: &str,
+    way: Way,
+    refusals: Refusals,
+) -> Result<bool, Fail> {
+    memory.refuse(Refusals::None);
+    if let Way::Whole = way {
+        return whole::make(dcel, memory, line, refusals);
+    }
+    // There is memory for the lists of the command.
+    let command = read_command(line, memory)?;
+    memory.refuse(refusals);
+    carry_out(dcel, memory, command, way)
+}
+
+/// Makes the call with its request refused. Returns whether the request came, after checking that
+/// the call met the refusal exactly if it did.
+fn is_refused<'a>(dcel: &mut Watched<'a>, memory: Memory<'a>, case: Case) -> Result<bool, Fail> {
+    let refusals = Refusals::One(case.number);
+    let is_made = make(dcel, memory, case.row.line, case.way, refusals)?;
+    let is_refused = memory.requests() > case.number;
+    same(is_made, !is_refused, case)?;
+    Ok(is_refused)
+}
+
+/// Checks that the call has left the mesh as it was, and makes it again.
+fn make_again<'a>(
+    dcel: &mut Watched<'a>,
+    memory: Memory<'a>,
+    case: Case,
+    before: &Snapshot,
+    alloc: Global,
+) -> Result<(), Fail> {
+    same(&snapshot_of(dcel, alloc)?, before, case)?;
+    let is_made = make(dcel, memory, case.row.line, case.way, Refusals::None)?;
+    holds(is_made, format_args!("no memory after {case}"))
+}
+
+/// Makes the call with its request refused, and again if that came. Returns whether it came, after
+/// comparing what is left in the end.
+fn comes_to<'a>(
+    dcel: &mut Watched<'a>,
+    memory: Memory<'a>,
+    case: Case,
+    [before, left]: [&Snapshot; 2],
+    alloc: Global,
+) -> Result<bool, Fail> {
+    let comes = is_refused(dcel, memory, case)?;
+    if comes {
+        make_again(dcel, memory, case, before, alloc)?;
+    }
+    same(&snapshot_of(dcel, alloc)?, left, case)?;
+    Ok(comes)
+}
+
+/// Refuses the call its request on a new mesh, which is as `before`, and in the end as `left`.
+///
+/// Returns whether the request came.
+fn comes(case: Case, snapshots: [&Snapshot; 2], alloc: Global) -> Result<bool, Fail> {
+    let memory = Refusing::new(alloc);
+    let mut dcel = fitted(&memory, case.row.block)?;
+    comes_to(&mut dcel, &memory, case, snapshots, alloc)
+}
+
+/// Makes the call of a row on a mesh that isn't refused memory.
+///
+/// A call on a whole mesh leaves it as it is.
+fn carry_out_row(dcel: &mut Mesh, row: Row, way: Way, alloc: Global) -> Result<(), Fail> {
+    if let Way::Whole = way {
+        return Ok(());
+    }
+    let is_made = has_memory(dcel, read_command(row.line, alloc)?)?;
+    holds(is_made, row.line)
+}
+
+/// Returns what the mesh of a row is like before the call, and after it if nothing is refused.
+fn snapshots(row: Row, way: Way, alloc: Global) -> Result<[Snapshot; 2], Fail> {
+    let mut dcel = made(alloc, row.block)?;
+    let before = snapshot_of(&dcel, alloc)?;
+    carry_out_row(&mut dcel, row, way, alloc)?;
+    Ok([before, snapshot_of(&dcel, alloc)?])
+}
+
+/// Returns how many requests the call makes: `3+2` are 3 by the operation, and 5 as a command,
+/// which copies lists into the memory of the mesh.
+fn requests(row: Row, way: Way) -> Result<u64, Fail> {
+    let (requests, copies) = row.requests.split_once('+').unwrap_or((row.requests, "0"));
+    let requests = number(requests)?;
+    match way {
+        Way::Apply => Ok(requests.saturating_add(number(copies)?)),
+        _ => Ok(requests),
+    }
+}
+
+/// Refuses the call each of its requests in turn, and none at last.
+fn sweep(row: Row, way: Way, swept: &mut Swept, alloc: Global) -> Result<(), Fail> {
+    let function = function(row.line, way, alloc)?;
+    let requests = requests(row, way)?;
+    let [before, left] = snapshots(row, way, alloc)?;
+    for number in 0..=requests {
+        let case = Case {
+            row,
+            way,
+            function,
+            number,
+        };
+        let comes = comes(case, [&before, &left], alloc)?;
+        same(comes, number < requests, case)?;
+    }
+    Ok(swept.note(function, requests)?)
+}
+
+/// Sweeps commands by their operations and by `apply`.
+pub fn sweep_commands(block: &str, swept: &mut Swept, alloc: Global) -> Result<(), Fail> {
+    for row in &rows_of(block, alloc)? {
+        sweep(*row, Way::Operation, swept, alloc)?;
+        sweep(*row, Way::Apply, swept, alloc)?;
+    }
+    Ok(())
+}
+
+/// Sweeps calls that make a mesh or are on a whole one, and aren't commands.
+pub fn sweep_meshes(block: &str, swept: &mut Swept, alloc: Global) -> Result<(), Fail> {
+    for row in &rows_of(block, alloc)? {
+        sweep(*row, Way::Whole, swept, alloc)?;
+    }
+    Ok(())
+}

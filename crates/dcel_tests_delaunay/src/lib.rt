@@ -1,0 +1,12 @@
+//! Tests of what lies in the plane: predicates, legalization by circles, and Delaunay
+//! triangulations, also with each request for memory refused in turn.
+#![tactic(auto)]
+
+#[cfg(test)]
+mod circles;
+#[cfg(test)]
+mod memory;
+#[cfg(test)]
+mod predicates;
+#[cfg(test)]
+mod triangulations;

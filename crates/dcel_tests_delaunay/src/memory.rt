@@ -1,0 +1,346 @@
+//! Delaunay triangulations, and legalization by circles, with each request for memory refused in
+//! turn. What a refusal leaves undone is done afterwards.
+
+use dcel_bench::checks::{holds, same};
+use dcel_bench::meshes::handles;
+use dcel_bench::refusing::{Memory, Refusals, Refusing};
+use dcel_bench::require;
+use dcel_circles::{is_delaunay, is_plane, legalize_by_circles};
+use dcel_delaunay::{InsertionError, Point, Triangulation, point};
+use spade_dcel::dcel::Dcel;
+use spade_dcel::handles::{FixedUndirectedEdgeHandle, FixedVertexHandle};
+use spade_dcel::operations::{
+    append_unconnected_vertex, create_new_face_adjacent_to_edge, new_triangle,
+};
+use std::alloc::Global;
+use std::test::Fail;
+
+/// No call here makes so many requests for memory.
+const MANY: u64 = 200;
+
+/// A triangulation in such memory.
+type Watched<'a> = Triangulation<Memory<'a>>;
+
+/// Points that are inserted.
+type Places = &'static [(i64, i64)];
+
+const PLACES: [Places; 3] = [
+    // On one line.
+    &[(0, 0), (4, 2), (2, 1), (8, 4), (6, 3), (10, 5), (12, 6)],
+    // Along a parabola, and at last a point that has them all before it.
+    &[
+        (0, 0),
+        (1, 1),
+        (2, 4),
+        (3, 9),
+        (4, 16),
+        (5, 25),
+        (6, 36),
+        (7, 49),
+        (8, 64),
+        (9, 81),
+        (40, -60),
+    ],
+    // Corners of a square, points on its sides and inside.
+    &[
+        (0, 0),
+        (8, 0),
+        (8, 8),
+        (0, 8),
+        (4, 0),
+        (4, 4),
+        (2, 2),
+        (6, 6),
+        (3, 5),
+        (8, 4),
+        (1, 7),
+    ],
+];
+
+/// How points are inserted.
+#[derive(Clone, Copy, Debug)]
+enum Way {
+    OneByOne,
+    AllAtOnce,
+}
+
+const WAYS: [Way; 2] = [Way::OneByOne, Way::AllAtOnce];
+
+fn points_at(places: Places, alloc: Global) -> Result<Vec<Point>, Fail> {
+    let mut points = Vec::new(alloc);
+    for (x, y) in places {
+        points.push(point(*x, *y)?)?;
+    }
+    Ok(points)
+}
+
+/// Returns the numbers of vertices, edges and faces.
+fn counts(triangulation: &Watched) -> [usize; 3] {
+    let mesh = triangulation.dcel();
+    [
+        mesh.num_vertices(),
+        mesh.num_undirected_edges(),
+        mesh.num_faces(),
+    ]
+}
+
+/// Inserts the points one by one. Returns why one wasn't, if there is one.
+fn insert_each(triangulation: &mut Watched, points: &[Point]) -> Option<InsertionError> {
+    for point in points {
+        if let Err(error) = triangulation.insert(*point) {
+            return Some(error);
+        }
+    }
+    None
+}
+
+/// Inserts the points. Returns why one wasn't, if there is one.
+fn insert<'a>(
+    triangulation: &mut Watched<'a>,
+    memory: Memory<'a>,
+    points: &[Point],
+    way: Way,
+) -> Option<InsertionError> {
+    match way {
+        Way::OneByOne => insert_each(triangulation, points),
+        Way::AllAtOnce => triangulation.insert_all(memory, points).err(),
+    }
+}
+
+/// Checks that all is done, and that there are so many vertices, edges and faces.
+fn check_whole(triangulation: &Watched, wanted: [usize; 3]) -> Result<(), Fail> {
+    same(counts(triangulation), wanted, "vertices, edges and faces")?;
+    holds(triangulation.is_whole(), "all is done")?;
+    holds(is_delaunay(triangulation.dcel()), "circles are empty")
+}
+
+/// Points, how they are inserted, and the vertices, edges and faces that there are then.
+#[derive(Clone, Copy)]
+struct Insertion<'p> {
+    points: &'p [Point],
+    way: Way,
+    wanted: [usize; 3],
+}
+
+/// Inserts the points with no request refused. Returns the vertices, edges and faces.
+fn count_inserted(triangulation: &mut Watched, points: &[Point]) -> Result<[usize; 3], Fail> {
+    same(insert_each(triangulation, points), None, "points")?;
+    Ok(counts(triangulation))
+}
+
+/// Returns how many vertices, edges and faces there are if no request is refused.
+fn undisturbed(points: &[Point], alloc: Global) -> Result<[usize; 3], Fail> {
+    let memory = Refusing::new(alloc);
+    let mut triangulation = Triangulation::new(&memory)?;
+    count_inserted(&mut triangulation, points)
+}
+
+/// Does what this error left undone, and inserts the points again.
+fn insert_again<'a>(
+    triangulation: &mut Watched<'a>,
+    memory: Memory<'a>,
+    insertion: Insertion,
+    error: Option<InsertionError>,
+) -> Result<(), Fail> {
+    let is_unfinished = error == Some(InsertionError::Unfinished);
+    same(
+        triangulation.is_whole(),
+        !is_unfinished,
+        "nothing is left undone",
+    )?;
+    triangulation.finish()?;
+    holds(triangulation.is_whole(), "nothing is left undone")?;
+    holds(is_delaunay(triangulation.dcel()), "circles are empty")?;
+    let again = insert(triangulation, memory, insertion.points, insertion.way);
+    same(again, None, "points that are inserted again")
+}
+
+/// Inserts the points with the request of this number refused. If that request came, it does what
+/// is left undone, and inserts them again. Returns why one wasn't inserted at first.
+fn insert_refused<'a>(
+    triangulation: &mut Watched<'a>,
+    memory: Memory<'a>,
+    insertion: Insertion,
+    number: u64,
+) -> Result<Option<InsertionError>, Fail> {
+    let way = insertion.way;
+    memory.refuse(Refusals::One(number));
+    let error = insert(triangulation, memory, insertion.points, way);
+    let came = memory.requests() > number;
+    memory.refuse(Refusals::None);
+    same(
+        error.is_some(),
+        came,
+        format_args!("{way:?}: request {number} refused"),
+    )?;
+    if came {
+        insert_again(triangulation, memory, insertion, error)?;
+    }
+    check_whole(triangulation, insertion.wanted)?;
+    Ok(error)
+}
+
+/// Refuses the request of this number in a triangulation of its own.
+fn refuse(
+    insertion: Insertion,
+    number: u64,
+    alloc: Global,
+) -> Result<Option<InsertionError>, Fail> {
+    let memory = Refusing::new(alloc);
+    let mut triangulation = Triangulation::new(&memory)?;
+    insert_refused(&mut triangulation, &memory, insertion, number)
+}
+
+/// Refuses each request for these points in turn. Returns how often something was left undone.
+fn refuse_each(points: &[Point], way: Way, alloc: Global) -> Result<usize, Fail> {
+    let wanted = undisturbed(points, alloc)?;
+    let insertion = Insertion {
+        points,
+        way,
+        wanted,
+    };
+    let mut unfinished: usize = 0;
+    for number in 0..MANY {
+        match refuse(insertion, number, alloc)? {
+            None => {
+                holds(number > 0, format_args!("{way:?} asks for memory"))?;
+                return Ok(unfinished);
+            }
+            Some(InsertionError::OutOfMemory) => (),
+            Some(InsertionError::Unfinished) => unfinished = unfinished.wrapping_add(1),
+            Some(error) => return Err(Fail::new(error)),
+        }
+    }
+    Err(Fail::new("more requests than MANY"))
+}
+
+/// Refuses each request for points at these places in turn. Returns how often something was left
+/// undone.
+fn sweep(places: Places, way: Way, alloc: Global) -> Result<usize, Fail> {
+    let points = points_at(places, alloc)?;
+    refuse_each(&points, way, alloc)
+}
+
+#[test]
+fn insertions_are_refused_memory(rt: HostRuntime) -> Result<(), Fail> {
+    for way in &WAYS {
+        let mut unfinished: usize = 0;
+        for places in &PLACES {
+            unfinished = unfinished.wrapping_add(sweep(*places, *way, rt.alloc())?);
+        }
+        holds(
+            unfinished > 0,
+            format_args!("{way:?}: something is left undone"),
+        )?;
+    }
+    Ok(())
+}
+
+#[test]
+fn a_triangulation_without_points_is_refused_memory(rt: HostRuntime) -> Result<(), Fail> {
+    let memory = Refusing::new(rt.alloc());
+    memory.refuse(Refusals::One(0));
+    holds(Triangulation::new(&memory).is_err(), "a refused request")?;
+    memory.refuse(Refusals::One(1));
+    holds(Triangulation::new(&memory).is_ok(), "no refused request")?;
+    same(memory.requests(), 1, "requests")
+}
+
+/// A fan of triangles on a parabola. All of them have the first point; the first three are a
+/// triangle, and each further one is joined to the one before.
+const FAN: [(i64, i64); 8] = [
+    (7, 49),
+    (1, 1),
+    (0, 0),
+    (2, 4),
+    (3, 9),
+    (4, 16),
+    (5, 25),
+    (6, 36),
+];
+
+/// The edges between two of the triangles.
+const INNER: [u32; 5] = [0, 4, 6, 8, 10];
+
+/// Joins a point to the first vertex and to the end of the hull's half edge from there. Returns
+/// the new vertex.
+fn join(
+    dcel: &mut Dcel<Point>,
+    last: FixedVertexHandle,
+    place: (i64, i64),
+) -> Result<FixedVertexHandle, Fail> {
+    let apex = FixedVertexHandle::new(0);
+    let point = point(place.0, place.1)?;
+    require!(dcel.has_room(1, 0, 0) && apex.index() < dcel.num_vertices());
+    let Some(edge) = dcel.get_edge_from_neighbors(apex, last) else {
+        return Err(Fail::new("no edge from the first vertex"));
+    };
+    let edge = edge.fix();
+    let added = append_unconnected_vertex(dcel, point)?;
+    require!(dcel.can_create_new_face_adjacent_to_edge(edge, added) && dcel.has_room(0, 2, 1));
+    create_new_face_adjacent_to_edge(dcel, edge, added)?;
+    Ok(added)
+}
+
+/// Joins all points but the first three.
+fn join_all(dcel: &mut Dcel<Point>) -> Result<(), Fail> {
+    let mut last = FixedVertexHandle::new(1);
+    for place in FAN.iter().skip(3) {
+        last = join(dcel, last, *place)?;
+    }
+    Ok(())
+}
+
+fn fan(alloc: Global) -> Result<Dcel<Point>, Fail> {
+    let [a, b, c] = [FAN[0], FAN[1], FAN[2]];
+    let corners = (point(a.0, a.1)?, point(b.0, b.1)?, point(c.0, c.1)?);
+    let mut dcel: Dcel<Point> = new_triangle(alloc, corners)?;
+    join_all(&mut dcel)?;
+    Ok(dcel)
+}
+
+/// Flips these edges with the request of this number refused, and goes on with the same list if
+/// that request came. Returns whether it came.
+fn flip_refused<'a>(
+    dcel: &mut Dcel<Point>,
+    due: &mut Vec<FixedUndirectedEdgeHandle, Memory<'a>>,
+    memory: Memory<'a>,
+    number: u64,
+) -> Result<bool, Fail> {
+    require!(is_plane(dcel));
+    memory.refuse(Refusals::One(number));
+    let is_done = legalize_by_circles(dcel, due).is_ok();
+    let came = memory.requests() > number;
+    memory.refuse(Refusals::None);
+    same(is_done, !came, format_args!("request {number} refused"))?;
+    same(due.is_empty(), !came, "an empty list")?;
+    if came {
+        legalize_by_circles(dcel, due)?;
+    }
+    holds(due.is_empty(), "an empty list")?;
+    holds(is_delaunay(dcel), "circles are empty")?;
+    Ok(came)
+}
+
+/// Flips edges of the fan with the request of this number refused. Returns whether it came.
+fn is_refused_on(dcel: &mut Dcel<Point>, number: u64, alloc: Global) -> Result<bool, Fail> {
+    let memory = Refusing::new(alloc);
+    let mut due = handles(&INNER, &memory)?;
+    flip_refused(dcel, &mut due, &memory, number)
+}
+
+/// Flips edges of a new fan with the request of this number refused. Returns whether it came.
+fn is_flipping_refused(number: u64, alloc: Global) -> Result<bool, Fail> {
+    let mut dcel = fan(alloc)?;
+    is_refused_on(&mut dcel, number, alloc)
+}
+
+#[test]
+fn flips_by_circles_are_refused_memory(rt: HostRuntime) -> Result<(), Fail> {
+    for number in 0..MANY {
+        if !is_flipping_refused(number, rt.alloc())? {
+            return same(number, 3, "requests of the list");
+        }
+    }
+    Err(Fail::new("more requests than MANY"))
+}

@@ -1,0 +1,169 @@
+//! Delaunay triangulations: their counts, positions in them, and what is out of range.
+
+use dcel_bench::checks::{holds, same};
+use dcel_bench::require;
+use dcel_delaunay::{
+    InsertionError, Point, PositionInTriangulation, Triangulation, insertion_order, point,
+};
+use spade_dcel::handles::FixedVertexHandle;
+use std::alloc::{AllocError, Global};
+use std::test::Fail;
+
+fn points_at(places: &[(i64, i64)], alloc: Global) -> Result<Vec<Point>, Fail> {
+    let mut points = Vec::new(alloc);
+    for (x, y) in places {
+        points.push(point(*x, *y)?)?;
+    }
+    Ok(points)
+}
+
+/// Returns a triangulation of these points.
+fn triangulated(points: &[Point], alloc: Global) -> Result<Triangulation, Fail> {
+    let mut triangulation = Triangulation::new(alloc)?;
+    triangulation.insert_all(alloc, points)?;
+    Ok(triangulation)
+}
+
+/// Returns a triangulation of the points at these places.
+fn triangulated_at(places: &[(i64, i64)], alloc: Global) -> Result<Triangulation, Fail> {
+    let points = points_at(places, alloc)?;
+    triangulated(&points, alloc)
+}
+
+/// Points, and the numbers of vertices, edges and inner faces of their triangulation.
+type Counted = (&'static [(i64, i64)], [usize; 3]);
+
+/// The corners of a square with its middle, points that come twice, and points on a line, which
+/// are a path.
+const COUNTED: [Counted; 3] = [
+    (&[(0, 0), (4, 0), (4, 4), (0, 4), (2, 2)], [5, 8, 4]),
+    (&TWICE, [3, 3, 1]),
+    (&[(2, 1), (6, 3), (0, 0), (4, 2), (2, 1)], [4, 3, 0]),
+];
+
+/// Returns the numbers of vertices, edges and inner faces.
+fn counts(triangulation: &Triangulation) -> [usize; 3] {
+    let mesh = triangulation.dcel();
+    [
+        mesh.num_vertices(),
+        mesh.num_undirected_edges(),
+        mesh.num_faces() - 1,
+    ]
+}
+
+fn check_counts((places, wanted): Counted, alloc: Global) -> Result<(), Fail> {
+    let triangulation = triangulated_at(places, alloc)?;
+    let found = (counts(&triangulation), triangulation.is_whole());
+    same(found, (wanted, true), "counts, and whether all is done")
+}
+
+#[test]
+fn vertices_edges_and_triangles_are_counted(rt: HostRuntime) -> Result<(), Fail> {
+    for row in &COUNTED {
+        check_counts(*row, rt.alloc())?;
+    }
+    Ok(())
+}
+
+/// The first and the third point are equal, and so are the second and the last.
+const TWICE: [(i64, i64); 5] = [(1, 1), (5, 2), (1, 1), (3, 7), (5, 2)];
+
+fn check_equal(vertices: &[FixedVertexHandle]) -> Result<(), Fail> {
+    require!(vertices.len() == 5);
+    same(vertices[0], vertices[2], "the vertex of the third point")?;
+    same(vertices[1], vertices[4], "the vertex of the last point")
+}
+
+fn insert_equal(
+    triangulation: &mut Triangulation,
+    points: &[Point],
+    alloc: Global,
+) -> Result<(), Fail> {
+    let vertices = triangulation.insert_all(alloc, points)?;
+    check_equal(&vertices)
+}
+
+fn check_twice(triangulation: &mut Triangulation, alloc: Global) -> Result<(), Fail> {
+    let points = points_at(&TWICE, alloc)?;
+    insert_equal(triangulation, &points, alloc)
+}
+
+#[test]
+fn equal_points_are_one_vertex(rt: HostRuntime) -> Result<(), Fail> {
+    let mut triangulation = Triangulation::new(rt.alloc())?;
+    check_twice(&mut triangulation, rt.alloc())
+}
+
+/// Places, with what of the triangle (0, 0), (6, 0), (0, 6) lies there.
+const POSITIONS: [((i64, i64), &str); 4] = [
+    ((1, 1), "face"),
+    ((3, 3), "edge"),
+    ((0, 6), "vertex"),
+    ((7, 0), "outside"),
+];
+
+fn kind_at(triangulation: &Triangulation, (x, y): (i64, i64)) -> Result<&'static str, Fail> {
+    let point = point(x, y)?;
+    Ok(match triangulation.locate(point) {
+        Some(PositionInTriangulation::OnFace(_)) => "face",
+        Some(PositionInTriangulation::OnEdge(_)) => "edge",
+        Some(PositionInTriangulation::OnVertex(_)) => "vertex",
+        Some(PositionInTriangulation::OutsideOfConvexHull(_)) => "outside",
+        _ => "other",
+    })
+}
+
+fn check_positions(triangulation: &Triangulation) -> Result<(), Fail> {
+    for (place, wanted) in &POSITIONS {
+        let found = kind_at(triangulation, *place)?;
+        same(found, *wanted, format_args!("what lies at {place:?}"))?;
+    }
+    Ok(())
+}
+
+#[test]
+fn positions_are_told_apart(rt: HostRuntime) -> Result<(), Fail> {
+    let triangulation = triangulated_at(&[(0, 0), (6, 0), (0, 6)], rt.alloc())?;
+    check_positions(&triangulation)
+}
+
+#[test]
+fn coordinates_are_in_range(rt: HostRuntime) -> Result<(), Fail> {
+    holds(point(1 << 30, -(1 << 30)).is_ok(), "the last coordinates")?;
+    let refused = point((1 << 30) + 1, 0).err();
+    same(refused, Some(InsertionError::OutOfRange), "one further")
+}
+
+fn hundred_points(alloc: Global) -> Result<Vec<Point>, Fail> {
+    let mut points = Vec::new(alloc);
+    for index in 0..100 {
+        points.push(point(index % 7, index % 11)?)?;
+    }
+    Ok(points)
+}
+
+/// Returns the numbers of the points in the order of insertion, sorted.
+fn sorted_order(points: &[Point], alloc: Global) -> Result<Vec<usize>, AllocError> {
+    let mut order = insertion_order(alloc, points)?;
+    order.sort_unstable();
+    Ok(order)
+}
+
+fn check_sorted(order: &[usize]) -> Result<(), Fail> {
+    same(order.len(), 100, "how many numbers")?;
+    for (place, number) in order.iter().enumerate() {
+        same(*number, place, "a number of the order")?;
+    }
+    Ok(())
+}
+
+fn check_order(points: &[Point], alloc: Global) -> Result<(), Fail> {
+    let order = sorted_order(points, alloc)?;
+    check_sorted(&order)
+}
+
+#[test]
+fn an_order_has_each_number(rt: HostRuntime) -> Result<(), Fail> {
+    let points = hundred_points(rt.alloc())?;
+    check_order(&points, rt.alloc())
+}

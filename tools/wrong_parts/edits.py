@@ -1,0 +1,118 @@
+"""Wrong bodies: what they replace, and in which functions."""
+
+import functools
+import re
+from pathlib import Path
+from typing import NamedTuple
+
+import prover
+
+FUNCTION = re.compile(r'(?m)^([ \t]*)(?:pub(?:\([^)]*\))? )?(?:const |unsafe |extern "C" )*fn (\w+)')
+IMPL = re.compile(r"(?m)^(?:unsafe )?(impl\b[^{]*)")
+TYPE = re.compile(r"(?m)^[ \t]*(?:pub(?:\([^)]*\))? )?(?:struct|enum|union) (\w+)")
+# Comments, strings and characters, whose braces don't count.
+OTHER = re.compile(r"//[^\n]*|\"(?:[^\"\\]|\\.)*\"|b?'(?:[^'\\]|\\.)'", re.DOTALL)
+
+
+class Place(NamedTuple):
+    """Where an edit changes something: a file, and the function with its impl, where it is in one."""
+
+    path: str
+    function: str | None
+    owner: str
+
+    def module(self):
+        """The module of the file, as the prover spells it: "" for the root."""
+        return "::".join(it for it in Path(self.path).with_suffix("").parts[1:] if it not in ("lib", "main"))
+
+
+def code_of(text):
+    """The text with blanks in the place of what is no code."""
+    return OTHER.sub(lambda it: re.sub(r"[^\n]", " ", it[0]), text)
+
+
+def split_at_angles(text):
+    """What stands outside of the outermost angle brackets of a type or the head of an impl, and the items inside of the last ones."""
+    outside, inside, depth = "", [""], 0
+    for it in text.replace("->", ""):
+        depth -= it == ">"
+        if depth == 0:
+            outside, inside = outside + it.strip("<>"), [""] if it == "<" else inside
+        elif depth == 1 and it == ",":
+            inside.append("")
+        else:
+            inside[-1] += it
+        depth += it == "<"
+    return outside, [it.strip() for it in inside if it.strip()]
+
+
+def owner_of(head, declared):
+    """How the prover spells the head of an impl: its type, and behind that its trait. Of a type that isn't declared in the crate, as an
+    alias, it has the arguments too, without lifetimes."""
+    outside, arguments = split_at_angles(head.partition(" where ")[0])
+    trait, _, owner = outside.removeprefix("impl").rpartition(" for ")
+    trait, owner = (it.strip().split("::")[-1] for it in (trait, owner))
+    if owner not in declared:
+        owner += "".join(f"+{it}" for it in arguments if not it.startswith("'"))
+    return owner + trait
+
+
+def function_round(text, place, declared):
+    """The name and the impl of the function round this place of a file; None and "" where there is none. A function ends with the brace
+    that is indented as it is. These types are declared in the crate."""
+    code = code_of(text)
+    begun = [it for it in FUNCTION.finditer(code) if it.start() <= place]
+    end = re.compile(rf"(?m)^{begun[-1][1]}\}}").search(code, begun[-1].end()) if begun else None
+    if not end or end.start() <= place:
+        return None, ""
+    heads = [it for it in IMPL.finditer(code) if it.start() < place] if begun[-1][1] else []
+    return begun[-1][2], owner_of(" ".join(heads[-1][1].split()), declared) if heads else ""
+
+
+@functools.cache
+def names_in(crate):
+    """The names of the functions of the crate, as often as they stand there, and those of its types."""
+    code = "\n".join(code_of(it.read_text()) for it in prover.sources(crate) if it.suffix == ".rt")
+    return [name for _, name in FUNCTION.findall(code)], set(TYPE.findall(code))
+
+
+class Edit:
+    """A wrong body: its file, and the texts that it replaces."""
+
+    def __init__(self, file):
+        self.file, self.name, self.crate, self.pairs = file, file.name, file.parent.parent.name, []
+        path = old = None
+        for line in file.read_text().split("\n"):
+            if line.startswith("file: "):
+                path = line[6:].strip()
+            elif line.startswith("old: "):
+                old = line[5:]
+            elif line.startswith("new:"):
+                self.pairs.append((path, old, line[4:].removeprefix(" ")))
+                old = None
+
+    def applied(self, texts=None):
+        """The texts of the crate's files once this edit is made too, and the places that it changes in src/. Raises ValueError where it
+        can't be made."""
+        texts, places = dict(texts or {}), set()
+        for path, old, new in self.pairs:
+            if not path or not old or not re.match(r"(src|proofs)/", path) or ".." in path:
+                raise ValueError("it has a pair without a file of src/ or proofs/, or without an old text")
+            file = prover.CRATES / self.crate / path
+            if not file.is_file():
+                raise ValueError(f"there is no file {path}")
+            text = texts.get(path) or file.read_text()
+            if text.count(old) != 1:
+                raise ValueError(f"an old text stands {text.count(old)} times in {path}, and not once")
+            if old == new:
+                raise ValueError("it changes nothing")
+            if path.startswith("src/"):
+                places.add(Place(path, *function_round(text, text.index(old), names_in(self.crate)[1])))
+            texts[path] = text.replace(old, new)
+        if not places:
+            raise ValueError("it changes no body")
+        return texts, places
+
+
+def edits_of(crate, folder):
+    return [Edit(it) for it in sorted((prover.CRATES / crate / folder).glob("*.edit"))]

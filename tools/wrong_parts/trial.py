@@ -1,0 +1,149 @@
+"""The wrong bodies of one crate, tried by the prover."""
+
+import re
+import shutil
+import tempfile
+from pathlib import Path
+
+import prover
+from wrong_parts.edits import names_in
+
+JUDGED = re.compile(r"(?m)^(?:fn|impl) (\S+): (.*)$")
+REFUSED = re.compile(r"not proved|no proof: expected")
+ENDED = re.compile(r"(?m)^(?:only|logic)=\S.*\n?\Z")
+ERROR = re.compile(r"(?m)^.*\berror(?:\[[\w-]+\])?: .*$")
+# A part that the prover was told to check, and doesn't know by this name.
+UNKNOWN = re.compile(r"(?m)^rattle: error: (?:several functions are named `|`\w+` has no [\w ]+ `)([^`]+)`")
+PLACED = re.compile(r"(?m)^(?:note: )?(\S+):\d+:\d+: .*$")
+# What is said of a proof file that names something that the edit took away.
+TAKEN_AWAY = re.compile(r"has no field|is not in scope|has no `|was not admitted")
+
+
+class Verdict:
+    """What a check of a crate, or of some of its functions, said."""
+
+    def __init__(self, crate, status, said):
+        self.crate, self.status, self.said = crate, status, said
+        self.judged = dict(JUDGED.findall(said))
+        self.ended = bool(ENDED.search(said))
+
+    def refuses(self, place):
+        """Whether it says of this function that it is not proved. One of several with its name suffices, since the others are as ever."""
+        head = "::".join(it for it in [self.crate, place.module()] if it)
+        name = rf"(?:[^:]+::)?{place.function}" if place.function else ".*"
+        is_it = re.compile(rf"{re.escape(head)}::{name}")
+        return any(is_it.fullmatch(name) and REFUSED.match(text) for name, text in self.judged.items())
+
+    def says_little(self, places):
+        """Whether all that it says of these functions is that a proof file names what the edit took away."""
+        files = [f"proofs/{it.module().replace('::', '/')}/" for it in places]
+        names = [f"/{it.function}/" for it in places]
+        told = []
+        for it in PLACED.finditer(self.said):
+            file = it[1].removeprefix("./")
+            is_proof = any(file.startswith(at) for at in files) and any(name in file for name in names)
+            if is_proof or file in {place.path for place in places}:
+                told.append(is_proof and bool(TAKEN_AWAY.search(it[0])))
+        return bool(told) and all(told)
+
+    def why(self):
+        """Why an edit that was tried alone is not refused."""
+        error = ERROR.search(self.said)
+        if self.status == 0:
+            return "NOT REFUSED: all is proved with it"
+        if not self.ended:
+            return f"BAD: the check stopped before any proof: {error[0][:200] if error else self.said[-200:]}"
+        return f"BAD: no function that it changes is refused: {error[0][:200] if error else ''}"
+
+
+class Trial:
+    """Edits of a crate, each tried over the work of those before it."""
+
+    def __init__(self, crate, edits, jobs):
+        self.crate, self.edits, self.jobs = crate, edits, jobs
+        self.unknown = set()  # names that the prover doesn't know, or knows several times
+        self.checks, self.little = 0, []
+
+    def run(self):
+        """Yields each edit with None if it is refused, and else with the reason."""
+        with tempfile.TemporaryDirectory(prefix="wrong-bodies-") as self.kept:
+            left = self.edits
+            while left:
+                batch, left = self.next_batch(left)
+                yield from self.tried(batch)
+
+    def next_batch(self, edits):
+        """As many of the edits as lie in different functions, and the rest. One that changes no function alone is a batch of its own."""
+        texts, batch, used, rest = {}, [], set(), []
+        for edit in edits:
+            _, places = edit.applied()
+            is_single = None in {it.function for it in places}
+            if is_single and not batch:
+                return [edit], [it for it in edits if it is not edit]
+            names = {(it.path, it.function) for it in places}
+            try:
+                made = None if is_single or names & used else edit.applied(texts)[0]
+            except ValueError:
+                made = None
+            if made:
+                texts, batch, used = made, [*batch, edit], used | names
+            else:
+                rest.append(edit)
+        return batch, rest
+
+    def tried(self, batch):
+        """Yields the verdict on each edit of a batch."""
+        texts, places = {}, {}
+        for edit in batch:
+            texts, places[edit] = edit.applied(texts)
+        verdict = self.check(texts, set().union(*places.values()))
+        doubtful = []
+        for edit in batch:
+            if verdict.ended and verdict.status == 1 and any(map(verdict.refuses, places[edit])):
+                self.little += [edit] if verdict.says_little(places[edit]) else []
+                yield edit, None
+            else:
+                doubtful.append(edit)
+        if doubtful and len(batch) == 1:
+            yield batch[0], verdict.why()
+        elif len(doubtful) == len(batch):
+            yield from self.tried(batch[: len(batch) // 2])
+            yield from self.tried(batch[len(batch) // 2 :])
+        elif doubtful:
+            yield from self.tried(doubtful)
+
+    def check(self, texts, places):
+        """Has these functions checked in a copy of the crate that has these texts."""
+        while True:
+            parts = self.parts(places)
+            verdict = self.called(texts, [it for part in parts for it in ("--only", part)])
+            strange = UNKNOWN.search(verdict.said)
+            if not strange or strange[1] not in parts:
+                return verdict
+            self.unknown.add(strange[1])
+
+    def parts(self, places):
+        """What the prover is told to check: each function, or its module where the prover doesn't know it by a name of ours, or nothing,
+        which means the whole crate, where there is no such module."""
+        parts = {self.part(it) for it in places}
+        return [] if None in parts else sorted(parts)
+
+    def part(self, place):
+        module, names = place.module(), []
+        if place.function:
+            if names_in(self.crate)[0].count(place.function) == 1:
+                names.append(place.function)
+            names.append("::".join(it for it in [module, place.owner, place.function] if it))
+        return next((it for it in [*names, module] if it and it not in self.unknown), None)
+
+    def called(self, texts, more):
+        self.checks += 1
+        folder = prover.CRATES / self.crate
+        with tempfile.TemporaryDirectory(prefix="wrong-bodies-") as room:
+            for part in prover.SOURCES:
+                if (folder / part).is_dir():
+                    shutil.copytree(folder / part, f"{room}/{part}")
+            for path, text in texts.items():
+                Path(room, path).write_text(text)
+            more = [*more, "--jobs", str(self.jobs), "--incremental", self.kept]
+            return Verdict(self.crate, *prover.call("check", self.crate, more, room))
