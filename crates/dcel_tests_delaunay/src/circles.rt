@@ -15,6 +15,7 @@ use std::test::Fail;
 /// Puts a triangle with this tip beside half edge 0.
 fn put_tip(dcel: &mut Dcel<Point>, tip: Point) -> Result<(), Fail> {
     let edge = FixedDirectedEdgeHandle::new(0);
+    require!(dcel.has_room(1, 0, 0));
     let added = append_unconnected_vertex(dcel, tip)?;
     require!(dcel.can_create_new_face_adjacent_to_edge(edge, added) && dcel.has_room(0, 2, 1));
     create_new_face_adjacent_to_edge(dcel, edge, added)?;
