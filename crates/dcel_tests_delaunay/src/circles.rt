@@ -1,5 +1,6 @@
 //! Legalization by circles.
 
+use crate::places::three;
 use dcel_bench::checks::holds;
 use dcel_bench::require;
 use dcel_circles::{is_circled, is_delaunay, is_plane, legalize_by_circles};
@@ -24,7 +25,7 @@ fn put_tip(dcel: &mut Dcel<Point>, tip: Point) -> Result<(), Fail> {
 
 /// Returns a kite whose edge 0 leads along its length, from (0, 0) to (8, 0).
 fn kite(alloc: Global) -> Result<Dcel<Point>, Fail> {
-    let corners = (point(8, 0)?, point(0, 0)?, point(4, 2)?);
+    let corners = three([(8, 0), (0, 0), (4, 2)])?;
     let tip = point(4, -2)?;
     let mut dcel: Dcel<Point> = new_triangle(alloc, corners)?;
     put_tip(&mut dcel, tip)?;
