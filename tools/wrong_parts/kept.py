@@ -13,14 +13,17 @@ TOOL = [Path(prover.__file__), *sorted(Path(__file__).parent.glob("*.py"))]
 
 @functools.cache
 def sum_of(crate):
-    """A sum of the kit, of this tool, and of the files of the crate and of those below it."""
+    """A sum of the kit, of this tool, and of the files of the crate; of those below it without their proofs, since a contract that a wrong
+    body breaks stands in their sources and specs."""
     found = hashlib.sha256(prover.version())
     for file in TOOL:
         found.update(file.read_bytes())
     for name in [crate, *prover.below(crate)]:
         found.update(repr((name, prover.crates()[name])).encode())
         for file in prover.sources(name):
-            found.update(repr((str(file.relative_to(prover.CRATES)), file.read_bytes())).encode())
+            path = file.relative_to(prover.CRATES)
+            if name == crate or path.parts[1] != "proofs":
+                found.update(repr((str(path), file.read_bytes())).encode())
     return found.digest()
 
 

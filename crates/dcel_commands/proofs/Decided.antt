@@ -13,7 +13,7 @@ use Rattle.dcel_maps.specs.Borders.{IsBorderLoop, IsEdgeAt, IsFaceAt, IsVertexRi
 use Rattle.dcel_maps.specs.Regions.{IsRegion, IsRegionRing, IsRim, IsRing, LeadsPast}
 use Rattle.dcel_maps.specs.Regions.IsRing.{of_region, of_vertex}
 use Rattle.dcel_maps.specs.theory.Cycles.{IsCycle, Path}
-use Rattle.dcel_maps.proofs.maps.Halves.{rev-rev, rev_half, rev_or_same}
+use Rattle.dcel_maps.proofs.maps.Halves.{rev_half, rev_or_same}
 use Rattle.dcel_maps.proofs.removal.Passing.{leads_or_not}
 use Rattle.dcel_maps.specs.Walking.{IsOutEdge, ListsOnce, ccw_of, walk_of}
 use Rattle.dcel_maps.specs.Words.{count_of, word_of}

@@ -1,6 +1,5 @@
 -- Commands are lists of elementary edits, and so are lists of commands.
-use Rattle.std.proofs.Common.{◌≡◌, inl, inr, ℕ, ◌≤◌, ◌+◌, ◌^◌, List, [], ◌∷◌, ◌++◌, length, append-nil, refl, sym, ap, subst, arith}
-use Rattle.std.specs.Prelude.{Result, IfOk, Ok, Err}
+use Rattle.std.proofs.Common.{◌≡◌, inl, inr, ℕ, ◌≤◌, ◌+◌, ◌^◌, List, [], ◌∷◌, length, append-nil, refl, sym, ap, subst, arith}
 use Rattle.dcel_commands.specs.declared.commands.reply.Refused.{Refused}
 use Rattle.dcel_commands.specs.Conditions.{AreWithin}
 use Rattle.dcel_commands.specs.Edits.{RunEdits, edits_of, edits_of_run, flips_in}

@@ -16,7 +16,7 @@ use Rattle.dcel_maps.specs.Renumbered.{LeavesLive, new_face, new_half}
 use Rattle.dcel_maps.specs.Renumbering.{cleaned, edge_taken_out, edges_down, edges_taken_out, faces_down, faces_taken_out, moved, vertex_taken_out, with_removal}
 use Rattle.dcel_maps.specs.Shapes.{IsMesh, Mesh, Shape, origin_of}
 use Rattle.dcel_maps.specs.edits.Degenerate.{going, path_given_up, removed_degenerate}
-use Rattle.dcel_maps.specs.edits.Fill.{edges_at, faces_at, loop_filled}
+use Rattle.dcel_maps.specs.edits.Fill.{loop_filled}
 use Rattle.dcel_maps.specs.edits.Strip.{strip_half}
 use Rattle.dcel_commands.proofs.Flipping.{flips_made}
 use Rattle.dcel_legalize.specs.Flipping.{edges_flipped}

@@ -8,6 +8,8 @@ mod calls;
 #[cfg(test)]
 mod carried;
 #[cfg(test)]
+mod clears;
+#[cfg(test)]
 mod degenerate;
 #[cfg(test)]
 mod flips;

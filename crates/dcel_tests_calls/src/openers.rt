@@ -16,8 +16,9 @@ use std::alloc::Global;
 use std::test::Fail;
 
 /// A removal: the lines that make the mesh, the one that opens it, and the edges and faces that it
-/// gives up and the edges that it puts in; the links and the anchors of the vertices while it is
-/// open; and the links once it is cleaned up, and the vertex that is then left, if there is one.
+/// gives up and the edges that it puts in; the least edge that counts as new; the links and the
+/// anchors of the vertices while it is open; and the links once it is cleaned up, and the vertex
+/// that is then left, if there is one.
 #[derive(Clone, Copy)]
 struct Row {
     lines: &'static str,
@@ -25,6 +26,7 @@ struct Row {
     edges: &'static [u32],
     faces: &'static [u32],
     new_edges: &'static [u32],
+    smallest_new_edge: usize,
     opened: Links,
     anchors: &'static [Option<usize>],
     cleaned: Links,
@@ -43,6 +45,7 @@ const ROWS: [Row; 7] = [
         edges: &[3, 4, 5],
         faces: &[2, 3, 1],
         new_edges: &[],
+        smallest_new_edge: 6,
         opened: CUT_HOLE,
         anchors: &[Some(5), Some(1), Some(3), None],
         cleaned: TRIANGLE,
@@ -56,6 +59,7 @@ const ROWS: [Row; 7] = [
         edges: &[3, 6, 7, 8],
         faces: &[2, 4, 5, 1],
         new_edges: &[9],
+        smallest_new_edge: 9,
         opened: (
             &[
                 &[0, 2, 4],
@@ -79,6 +83,7 @@ const ROWS: [Row; 7] = [
         edges: &[5, 4, 3],
         faces: &[1, 2, 3],
         new_edges: &[],
+        smallest_new_edge: 6,
         opened: CUT_HOLE,
         anchors: &[Some(5), Some(1), Some(3), None],
         cleaned: TRIANGLE,
@@ -90,6 +95,7 @@ const ROWS: [Row; 7] = [
         edges: &[0, 5, 1],
         faces: &[1, 3],
         new_edges: &[],
+        smallest_new_edge: 0,
         opened: (
             &[&[4, 6, 9], &[], &[5, 8, 7], &[]],
             &[0, 0, 0, 0, 2, 0, 0, 3, 2, 3, 0, 0],
@@ -105,6 +111,7 @@ const ROWS: [Row; 7] = [
         edges: &[],
         faces: &[1],
         new_edges: &[],
+        smallest_new_edge: 3,
         opened: (&[&[0, 2, 4], &[], &[1, 5, 3]], &[0, 1, 1, 2, 2, 0]),
         anchors: &[Some(5), Some(1), Some(3)],
         cleaned: TRIANGLE,
@@ -116,6 +123,7 @@ const ROWS: [Row; 7] = [
         edges: &[3],
         faces: &[1, 2],
         new_edges: &[6],
+        smallest_new_edge: 6,
         opened: (
             &[&[0, 2, 4], &[], &[], &[3, 10, 9], &[5, 8, 12], &[1, 13, 11]],
             &[0, 1, 1, 2, 2, 0, 0, 0, 2, 3, 1, 3, 3, 0],
@@ -130,6 +138,7 @@ const ROWS: [Row; 7] = [
         edges: &[3, 4],
         faces: &[1, 2, 3],
         new_edges: &[6, 7],
+        smallest_new_edge: 6,
         opened: (
             &[
                 &[0, 2, 4],
@@ -214,11 +223,15 @@ fn check_faces_given_up(dcel: &Mesh, faces: &[u32]) -> Result<(), Fail> {
     Ok(())
 }
 
-/// Checks that the answer calls the new edges new.
-fn check_new_edges(opened: &Opened, edges: &[u32]) -> Result<(), Fail> {
-    for edge in edges {
-        let is_new = opened.is_new_edge(undirected_edge(*edge));
-        holds(is_new, format_args!("edge {edge} is not new"))?;
+/// Checks that of all edges the answer calls those new that are no less than this one.
+fn check_new_edges(dcel: &Mesh, opened: &Opened, smallest: usize) -> Result<(), Fail> {
+    for edge in dcel.undirected_edges() {
+        let number = edge.index();
+        same(
+            opened.is_new_edge(edge.fix()),
+            number >= smallest,
+            format_args!("whether edge {number} is new"),
+        )?;
     }
     Ok(())
 }
@@ -268,7 +281,7 @@ fn clean_up(dcel: &mut Mesh, opened: &mut Opened, row: Row) -> Result<(), Fail> 
 /// Checks that a removal has been opened as the row says, and is cleaned up so.
 fn check_removal(dcel: &mut Mesh, opened: &mut Opened, row: Row) -> Result<(), Fail> {
     check_lists(opened, row)?;
-    check_new_edges(opened, row.new_edges)?;
+    check_new_edges(dcel, opened, row.smallest_new_edge)?;
     check_open(dcel, row)?;
     clean_up(dcel, opened, row)
 }

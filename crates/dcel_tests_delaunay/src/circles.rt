@@ -1,5 +1,6 @@
 //! Legalization by circles.
 
+use crate::places::three;
 use dcel_bench::checks::holds;
 use dcel_bench::require;
 use dcel_circles::{is_circled, is_delaunay, is_plane, legalize_by_circles};
@@ -15,6 +16,7 @@ use std::test::Fail;
 /// Puts a triangle with this tip beside half edge 0.
 fn put_tip(dcel: &mut Dcel<Point>, tip: Point) -> Result<(), Fail> {
     let edge = FixedDirectedEdgeHandle::new(0);
+    require!(dcel.has_room(1, 0, 0));
     let added = append_unconnected_vertex(dcel, tip)?;
     require!(dcel.can_create_new_face_adjacent_to_edge(edge, added) && dcel.has_room(0, 2, 1));
     create_new_face_adjacent_to_edge(dcel, edge, added)?;
@@ -23,7 +25,7 @@ fn put_tip(dcel: &mut Dcel<Point>, tip: Point) -> Result<(), Fail> {
 
 /// Returns a kite whose edge 0 leads along its length, from (0, 0) to (8, 0).
 fn kite(alloc: Global) -> Result<Dcel<Point>, Fail> {
-    let corners = (point(8, 0)?, point(0, 0)?, point(4, 2)?);
+    let corners = three([(8, 0), (0, 0), (4, 2)])?;
     let tip = point(4, -2)?;
     let mut dcel: Dcel<Point> = new_triangle(alloc, corners)?;
     put_tip(&mut dcel, tip)?;

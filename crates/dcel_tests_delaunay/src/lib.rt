@@ -7,6 +7,8 @@ mod circles;
 #[cfg(test)]
 mod memory;
 #[cfg(test)]
+mod places;
+#[cfg(test)]
 mod predicates;
 #[cfg(test)]
 mod triangulations;

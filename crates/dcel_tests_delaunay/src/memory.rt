@@ -1,6 +1,7 @@
 //! Delaunay triangulations, and legalization by circles, with each request for memory refused in
 //! turn. What a refusal leaves undone is done afterwards.
 
+use crate::places::{Place, points_at, three};
 use dcel_bench::checks::{holds, same};
 use dcel_bench::meshes::handles;
 use dcel_bench::refusing::{Memory, Refusals, Refusing};
@@ -22,7 +23,7 @@ const MANY: u64 = 200;
 type Watched<'a> = Triangulation<Memory<'a>>;
 
 /// Points that are inserted.
-type Places = &'static [(i64, i64)];
+type Places = &'static [Place];
 
 const PLACES: [Places; 3] = [
     // On one line.
@@ -65,14 +66,6 @@ enum Way {
 }
 
 const WAYS: [Way; 2] = [Way::OneByOne, Way::AllAtOnce];
-
-fn points_at(places: Places, alloc: Global) -> Result<Vec<Point>, Fail> {
-    let mut points = Vec::new(alloc);
-    for (x, y) in places {
-        points.push(point(*x, *y)?)?;
-    }
-    Ok(points)
-}
 
 /// Returns the numbers of vertices, edges and faces.
 fn counts(triangulation: &Watched) -> [usize; 3] {
@@ -236,19 +229,27 @@ fn insertions_are_refused_memory(rt: HostRuntime) -> Result<(), Fail> {
     Ok(())
 }
 
+/// Returns whether there was memory for a triangulation, with these requests refused.
+fn is_begun(memory: Memory, refusals: Refusals) -> bool {
+    memory.refuse(refusals);
+    Triangulation::new(memory).is_ok()
+}
+
+fn check_first_request(memory: Memory) -> Result<(), Fail> {
+    holds(!is_begun(memory, Refusals::One(0)), "a refused request")?;
+    holds(is_begun(memory, Refusals::One(1)), "no refused request")?;
+    same(memory.requests(), 1, "requests")
+}
+
 #[test]
 fn a_triangulation_without_points_is_refused_memory(rt: HostRuntime) -> Result<(), Fail> {
     let memory = Refusing::new(rt.alloc());
-    memory.refuse(Refusals::One(0));
-    holds(Triangulation::new(&memory).is_err(), "a refused request")?;
-    memory.refuse(Refusals::One(1));
-    holds(Triangulation::new(&memory).is_ok(), "no refused request")?;
-    same(memory.requests(), 1, "requests")
+    check_first_request(&memory)
 }
 
 /// A fan of triangles on a parabola. All of them have the first point; the first three are a
 /// triangle, and each further one is joined to the one before.
-const FAN: [(i64, i64); 8] = [
+const FAN: [Place; 8] = [
     (7, 49),
     (1, 1),
     (0, 0),
@@ -267,10 +268,10 @@ const INNER: [u32; 5] = [0, 4, 6, 8, 10];
 fn join(
     dcel: &mut Dcel<Point>,
     last: FixedVertexHandle,
-    place: (i64, i64),
+    (x, y): Place,
 ) -> Result<FixedVertexHandle, Fail> {
     let apex = FixedVertexHandle::new(0);
-    let point = point(place.0, place.1)?;
+    let point = point(x, y)?;
     require!(dcel.has_room(1, 0, 0) && apex.index() < dcel.num_vertices());
     let Some(edge) = dcel.get_edge_from_neighbors(apex, last) else {
         return Err(Fail::new("no edge from the first vertex"));
@@ -292,8 +293,7 @@ fn join_all(dcel: &mut Dcel<Point>) -> Result<(), Fail> {
 }
 
 fn fan(alloc: Global) -> Result<Dcel<Point>, Fail> {
-    let [a, b, c] = [FAN[0], FAN[1], FAN[2]];
-    let corners = (point(a.0, a.1)?, point(b.0, b.1)?, point(c.0, c.1)?);
+    let corners = three([FAN[0], FAN[1], FAN[2]])?;
     let mut dcel: Dcel<Point> = new_triangle(alloc, corners)?;
     join_all(&mut dcel)?;
     Ok(dcel)

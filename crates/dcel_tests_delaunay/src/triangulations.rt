@@ -1,5 +1,6 @@
 //! Delaunay triangulations: their counts, positions in them, and what is out of range.
 
+use crate::places::{Place, points_at};
 use dcel_bench::checks::{holds, same};
 use dcel_bench::require;
 use dcel_delaunay::{
@@ -9,14 +10,6 @@ use spade_dcel::handles::FixedVertexHandle;
 use std::alloc::{AllocError, Global};
 use std::test::Fail;
 
-fn points_at(places: &[(i64, i64)], alloc: Global) -> Result<Vec<Point>, Fail> {
-    let mut points = Vec::new(alloc);
-    for (x, y) in places {
-        points.push(point(*x, *y)?)?;
-    }
-    Ok(points)
-}
-
 /// Returns a triangulation of these points.
 fn triangulated(points: &[Point], alloc: Global) -> Result<Triangulation, Fail> {
     let mut triangulation = Triangulation::new(alloc)?;
@@ -25,13 +18,13 @@ fn triangulated(points: &[Point], alloc: Global) -> Result<Triangulation, Fail> 
 }
 
 /// Returns a triangulation of the points at these places.
-fn triangulated_at(places: &[(i64, i64)], alloc: Global) -> Result<Triangulation, Fail> {
+fn triangulated_at(places: &[Place], alloc: Global) -> Result<Triangulation, Fail> {
     let points = points_at(places, alloc)?;
     triangulated(&points, alloc)
 }
 
 /// Points, and the numbers of vertices, edges and inner faces of their triangulation.
-type Counted = (&'static [(i64, i64)], [usize; 3]);
+type Counted = (&'static [Place], [usize; 3]);
 
 /// The corners of a square with its middle, points that come twice, and points on a line, which
 /// are a path.
@@ -66,7 +59,7 @@ fn vertices_edges_and_triangles_are_counted(rt: HostRuntime) -> Result<(), Fail>
 }
 
 /// The first and the third point are equal, and so are the second and the last.
-const TWICE: [(i64, i64); 5] = [(1, 1), (5, 2), (1, 1), (3, 7), (5, 2)];
+const TWICE: [Place; 5] = [(1, 1), (5, 2), (1, 1), (3, 7), (5, 2)];
 
 fn check_equal(vertices: &[FixedVertexHandle]) -> Result<(), Fail> {
     require!(vertices.len() == 5);
@@ -95,14 +88,14 @@ fn equal_points_are_one_vertex(rt: HostRuntime) -> Result<(), Fail> {
 }
 
 /// Places, with what of the triangle (0, 0), (6, 0), (0, 6) lies there.
-const POSITIONS: [((i64, i64), &str); 4] = [
+const POSITIONS: [(Place, &str); 4] = [
     ((1, 1), "face"),
     ((3, 3), "edge"),
     ((0, 6), "vertex"),
     ((7, 0), "outside"),
 ];
 
-fn kind_at(triangulation: &Triangulation, (x, y): (i64, i64)) -> Result<&'static str, Fail> {
+fn kind_at(triangulation: &Triangulation, (x, y): Place) -> Result<&'static str, Fail> {
     let point = point(x, y)?;
     Ok(match triangulation.locate(point) {
         Some(PositionInTriangulation::OnFace(_)) => "face",

@@ -16,7 +16,8 @@ use Rattle.dcel_maps.proofs.edits.Growing.{after-each, after-edge, after-face, a
 use Rattle.dcel_maps.proofs.edits.Linking.{linked-corner, linked-old, triangle_full-least, linked-new}
 use Rattle.dcel_maps.proofs.edits.Patches.{patched_at-first, patched_at-new, pushing, puts_away, puts_here, replacing}
 use Rattle.dcel_maps.proofs.edits.Starting.{NewStart, start_labelled, starts-new}
-use Rattle.dcel_maps.proofs.maps.Beside.{Beside, beside_comes, beside_keeps}
+use Rattle.dcel_maps.proofs.maps.Beside.{Beside, beside_comes}
+use Rattle.dcel_maps.proofs.maps.Lists.{comes_keeps}
 use Rattle.dcel_maps.proofs.maps.Soundness.{prev_differs, next_differs}
 use Rattle.dcel_maps.proofs.maps.Triangles.{Alone, IsTriangleOf, IsLinked}
 use Rattle.dcel_maps.proofs.shapes.Maps.{face-live, map-sphere}
@@ -157,7 +158,7 @@ module _ {V DE UE F : Type 0} (m : Mesh V DE UE F) where
         beside_made = beside_comes S T e tip n sound is_beside (map-sphere mesh.sound mesh.sphere)
 
         keeps : Sound T × Sphere T
-        keeps = beside_keeps S T e tip n sound is_beside (map-sphere mesh.sound mesh.sphere)
+        keeps = comes_keeps (spur_added ∷ ear_cut ∷ []) S T beside_made sound (map-sphere mesh.sound mesh.sphere)
 
         -- the new half edges start at the tip, where e did, or where it ended
         new_starts : NewStart m.shape g tip

@@ -17,8 +17,9 @@ use Rattle.dcel_maps.proofs.edits.Linking.{linked-corner, face_live-at, linked-n
 use Rattle.dcel_maps.proofs.edits.Patches.{patched_at-first, patched_at-new, puts_away, puts_here, replacing}
 use Rattle.dcel_maps.proofs.edits.Starting.{NewStart, moved_labelled, starts-moved}
 use Rattle.dcel_maps.proofs.maps.Halves.{turn_odd}
+use Rattle.dcel_maps.proofs.maps.Lists.{comes_keeps}
 use Rattle.dcel_maps.proofs.maps.Soundness.{rev_live}
-use Rattle.dcel_maps.proofs.maps.Splits.{Split, split_comes, split_keeps}
+use Rattle.dcel_maps.proofs.maps.Splits.{Split, split_comes}
 use Rattle.dcel_maps.proofs.maps.Triangles.{by_triangle, off_another, Alone, IsTriangleOf, Off, alone_turned, off_face, triangle_faces_another, triangle_turned, triangles_apart, IsLinked, SameLinks}
 use Rattle.dcel_maps.proofs.shapes.Maps.{map-sphere}
 use Rattle.dcel_maps.proofs.words.Faces.{KeepsFace}
@@ -233,7 +234,7 @@ module _ {V DE UE F : Type 0} (m : Mesh V DE UE F) (mesh : IsMesh m) (f g e a b 
   split_made = split_comes S T f g e a b t c d tip n sound is_split (map-sphere mesh.sound mesh.sphere)
 
   keeps : Sound T × Sphere T
-  keeps = split_keeps S T f g e a b t c d tip n sound is_split (map-sphere mesh.sound mesh.sphere)
+  keeps = comes_keeps (edge_subdivided ∷ ear_cut ∷ ear_cut ∷ []) S T split_made sound (map-sphere mesh.sound mesh.sphere)
 
   -- the other faces stay
   keeps_face : (k : ℕ) → k < l → k ≢ f → k ≢ g → KeepsFace S T k

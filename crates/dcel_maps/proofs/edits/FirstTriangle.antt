@@ -13,9 +13,9 @@ use Rattle.dcel_maps.proofs.edits.Changes.{Change, IsEdit, fits_with, map_after}
 use Rattle.dcel_maps.proofs.edits.Alone.{alone_is_mesh}
 use Rattle.dcel_maps.proofs.edits.Growing.{after-new}
 use Rattle.dcel_maps.proofs.edits.Patches.{Patch, patched_at, patched_at-new, pushing}
-use Rattle.dcel_maps.proofs.maps.Agreement.{Agrees, agrees_extends, agrees_keeps}
-use Rattle.dcel_maps.proofs.maps.FirstTriangle.{triangle, triangle_keeps, triangle_made}
-use Rattle.dcel_maps.proofs.maps.Lists.{comes_after}
+use Rattle.dcel_maps.proofs.maps.Agreement.{Agrees, agrees_extends, empty_sound, empty_sphere}
+use Rattle.dcel_maps.proofs.maps.FirstTriangle.{triangle, triangle_made}
+use Rattle.dcel_maps.proofs.maps.Lists.{comes_after, comes_keeps}
 use Rattle.dcel_maps.proofs.maps.Triangles.{IsTriangleOf}
 use Rattle.dcel_maps.proofs.words.Triangles.{triangle-word}
 
@@ -68,7 +68,7 @@ module _ {V DE UE F : Type 0} (vertices : V × V × V) (halves : List DE) (edges
   first_triangle_made = comes_after (first_edge ∷ spur_added ∷ ear_cut ∷ []) nothing triangle T triangle_made (agrees_extends triangle T agrees)
 
   keeps : Sound T × Sphere T
-  keeps = agrees_keeps triangle T agrees triangle_keeps.0 triangle_keeps.1
+  keeps = comes_keeps (first_edge ∷ spur_added ∷ ear_cut ∷ []) nothing T first_triangle_made (empty_sound nothing (λ u. refl)) (empty_sphere nothing (λ u. refl))
 
   mesh : IsMesh alone
   mesh = alone_is_mesh outer

@@ -18,9 +18,10 @@ use Rattle.dcel_maps.proofs.edits.Growing.{after-each, after-edge, after-origin,
 use Rattle.dcel_maps.proofs.edits.Linking.{face_live-at, linked-old, triangle_full, triangle_linked, triangle_of, stays-linked}
 use Rattle.dcel_maps.proofs.edits.Patches.{Untouched, puts_away, puts_here, replacing}
 use Rattle.dcel_maps.proofs.edits.Starting.{starts-as}
-use Rattle.dcel_maps.proofs.maps.Flips.{Flip, flip_comes, flip_keeps}
+use Rattle.dcel_maps.proofs.maps.Flips.{Flip, flip_comes}
 use Rattle.dcel_maps.proofs.maps.Halves.{turn_back}
 use Rattle.dcel_maps.proofs.maps.Labels.{KeepsLabel}
+use Rattle.dcel_maps.proofs.maps.Lists.{comes_keeps}
 use Rattle.dcel_maps.proofs.maps.Triangles.{IsTriangleOf, Off, SameLinks, by_triangle, facing_differ, off_another, off_face, triangles_apart, IsLinked}
 use Rattle.dcel_maps.proofs.shapes.Maps.{map-sphere}
 use Rattle.dcel_maps.proofs.words.Faces.{KeepsFace}
@@ -144,7 +145,7 @@ module _ {V DE UE F : Type 0} (m : Mesh V DE UE F) (mesh : IsMesh m) (f g e a b 
   flip_made = flip_comes S T f g e a b t c d sound is_flip (map-sphere mesh.sound mesh.sphere)
 
   keeps : Sound T × Sphere T
-  keeps = flip_keeps S T f g e a b t c d sound is_flip (map-sphere mesh.sound mesh.sphere)
+  keeps = comes_keeps (words_joined ∷ ear_cut ∷ []) S T flip_made sound (map-sphere mesh.sound mesh.sphere)
 
   -- what holds on both triangles, and of what stays, holds of each live half edge
   each : (P : ℕ → Type 0) → P e × P d × P a → P t × P b × P c → ((h : ℕ) → IsLive m.shape h → Off h e a b → Off h t c d → P h)

@@ -19,9 +19,10 @@ use Rattle.dcel_maps.proofs.edits.Linking.{linked-corner, face_live-at, linked-n
 use Rattle.dcel_maps.proofs.edits.Patches.{patched_at-first, patched_at-new, puts_away, puts_here, replacing}
 use Rattle.dcel_maps.proofs.edits.Starting.{NewStart, moved_labelled, starts-moved}
 use Rattle.dcel_maps.proofs.maps.Counts.{Used}
-use Rattle.dcel_maps.proofs.maps.HalfSplits.{HalfSplit, half_split_comes, half_split_keeps}
+use Rattle.dcel_maps.proofs.maps.HalfSplits.{HalfSplit, half_split_comes}
 use Rattle.dcel_maps.proofs.maps.Halves.{turn_even}
 use Rattle.dcel_maps.proofs.maps.Labels.{KeepsLabel, labelled-kept}
+use Rattle.dcel_maps.proofs.maps.Lists.{comes_keeps}
 use Rattle.dcel_maps.proofs.maps.Soundness.{face_prev, rev_live}
 use Rattle.dcel_maps.proofs.maps.Triangles.{by_triangle, off_another, Alone, IsTriangleOf, Off, alone_turned, off_face, triangle_faces_another, triangle_turned, IsLinked}
 use Rattle.dcel_maps.proofs.shapes.Maps.{map-sphere}
@@ -214,7 +215,7 @@ module _ {V DE UE F : Type 0} (m : Mesh V DE UE F) (e tip : ℕ) (halves : List 
     half_made = half_split_comes S T f e a b t tip n sound is_split (map-sphere mesh.sound mesh.sphere)
 
     keeps : Sound T × Sphere T
-    keeps = half_split_keeps S T f e a b t tip n sound is_split (map-sphere mesh.sound mesh.sphere)
+    keeps = comes_keeps (edge_subdivided ∷ ear_cut ∷ []) S T half_made sound (map-sphere mesh.sound mesh.sphere)
 
     -- the other faces stay
     keeps_face : (k : ℕ) → k < l → k ≢ f → k ≢ g → KeepsFace S T k

@@ -16,8 +16,9 @@ use Rattle.dcel_maps.proofs.edits.Growing.{after-each, after-edge, after-origin,
 use Rattle.dcel_maps.proofs.edits.Linking.{face_live-at, linked-corner, linked-old, triangle_full-least, triangle_of, stays-linked}
 use Rattle.dcel_maps.proofs.edits.Patches.{patched_at-first, patched_at-new, pushing, puts_here, replacing, Untouched}
 use Rattle.dcel_maps.proofs.edits.Starting.{NewStart, start_labelled, starts-new}
-use Rattle.dcel_maps.proofs.maps.Insert.{Insert, insert_comes, insert_keeps}
+use Rattle.dcel_maps.proofs.maps.Insert.{Insert, insert_comes}
 use Rattle.dcel_maps.proofs.maps.Labels.{Labelled}
+use Rattle.dcel_maps.proofs.maps.Lists.{comes_keeps}
 use Rattle.dcel_maps.proofs.maps.Triangles.{Alone, IsTriangleOf, Off, by_triangle, off_another, off_face, IsLinked, SameLinks}
 use Rattle.dcel_maps.proofs.shapes.Maps.{map-sphere}
 use Rattle.dcel_maps.proofs.shapes.Shown.{word-anchored}
@@ -155,7 +156,7 @@ module _ {V DE UE F : Type 0} (m : Mesh V DE UE F) (mesh : IsMesh m) (f a b c ti
   insertion_made = insert_comes S T f a b c tip n sound is_insert (map-sphere mesh.sound mesh.sphere)
 
   keeps : Sound T × Sphere T
-  keeps = insert_keeps S T f a b c tip n sound is_insert (map-sphere mesh.sound mesh.sphere)
+  keeps = comes_keeps (spur_added ∷ ear_cut ∷ ear_cut ∷ []) S T insertion_made sound (map-sphere mesh.sound mesh.sphere)
 
   -- the other faces stay
   keeps_face : (k : ℕ) → k < l → k ≢ f → KeepsFace S T k

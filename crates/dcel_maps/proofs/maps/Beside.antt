@@ -8,13 +8,12 @@ use Rattle.dcel_maps.specs.EditLists.EditKind.{ear_cut, spur_added}
 use Rattle.dcel_maps.specs.Maps.{IsBare, Live, Map}
 use Rattle.dcel_maps.specs.theory.Sound.{Sound, Sphere}
 use Rattle.dcel_maps.proofs.maps.Counts.{edge_past}
-use Rattle.dcel_maps.proofs.maps.Eared.{HasEar, has_ear-keeps, is_ear, without_ear}
+use Rattle.dcel_maps.proofs.maps.Eared.{HasEar, is_ear, without_ear}
 use Rattle.dcel_maps.proofs.maps.Edits.{Ear, Spur}
 use Rattle.dcel_maps.proofs.maps.Growth.{spur_at}
 use Rattle.dcel_maps.proofs.maps.Halves.{turn_even, turn_odd}
 use Rattle.dcel_maps.proofs.maps.Lists.{comes_once, ear_after}
 use Rattle.dcel_maps.proofs.maps.Soundness.{face_prev, prev_differs, next_differs}
-use Rattle.dcel_maps.proofs.maps.Spurs.{spur_keeps}
 use Rattle.dcel_maps.proofs.maps.Triangles.{Alone, IsTriangleOf, IsLinked}
 use Rattle.dcel_maps.proofs.maps.Updates.{put}
 
@@ -159,8 +158,3 @@ module _ (S T : Map) (e v n : ℕ) (s : Sound S) (b : Beside S T e v n) where
   pub beside_comes : Sphere S → ComesBy (spur_added ∷ ear_cut ∷ []) S T
   beside_comes sphere =
       ear_after (spur_added ∷ []) S before_ear T e n (n + 1) (n + 3) S.faces s sphere (comes_once spur_added S before_ear (e, n, v, is_spur)) is_last_ear
-
-  -- the triangle beside a half edge keeps a map sound and a sphere
-  pub beside_keeps : Sphere S → Sound T × Sphere T
-  beside_keeps sphere =
-      has_ear-keeps T e n (n + 1) (n + 3) S.faces (S.prev e) (n + 2) (S.face e) has_ear (spur_keeps S before_ear e n v is_spur s sphere)

@@ -3,8 +3,7 @@ use Rattle.std.proofs.Common.{◌≡◌, ◌≢◌, inl, inr, ◌/◌, ◌<◌, 
 use Rattle.std.proofs.lemmas.Bool.Decides.{nat_tests}
 use Rattle.dcel_fixed.specs.HalfEdges.{rev}
 use Rattle.dcel_maps.specs.Maps.{Live, Map}
-use Rattle.dcel_maps.specs.theory.Sound.{Sound, Sphere}
-use Rattle.dcel_maps.proofs.maps.Ears.{ear_keeps, two_in}
+use Rattle.dcel_maps.proofs.maps.Ears.{two_in}
 use Rattle.dcel_maps.proofs.maps.Edits.{Ear}
 use Rattle.dcel_maps.proofs.maps.Halves.{rev_half, rev_or_same}
 use Rattle.dcel_maps.proofs.maps.Triangles.{Alone, IsTriangleOf, SameLinks, triangle_kept, IsLinked}
@@ -161,10 +160,6 @@ module _ (T : Map) (p n q h g k r f : ℕ) (e : HasEar T p n q h g k r f) where
           face_below = e.face_below;
         };
       }
-
-  -- where the map without the ear is sound and a sphere, so is the map
-  pub has_ear-keeps : Sound M × Sphere M → Sound T × Sphere T
-  has_ear-keeps keeps = ear_keeps M T p n q h g is_ear keeps.0 keeps.1
 
 -- two triangles with the edge of h between them, which start where p does and end where q does: the second one is an ear
 pub corner_ear : (T : Map) (f g k h q p n r : ℕ) → IsTriangleOf T f k h q → IsTriangleOf T g p n r → Alone T g p n r → rev h ≡ r → f ≢ g

@@ -6,12 +6,9 @@ use Rattle.dcel_fixed.specs.HalfEdges.{rev}
 use Rattle.dcel_maps.specs.EditLists.{ComesBy, nothing}
 use Rattle.dcel_maps.specs.EditLists.EditKind.{ear_cut, first_edge, spur_added}
 use Rattle.dcel_maps.specs.Maps.{Map, Live}
-use Rattle.dcel_maps.specs.theory.Sound.{Sound, Sphere}
 use Rattle.dcel_maps.proofs.maps.Edits.{FirstEdge, Grows, Spur, Ear, two as pair}
 use Rattle.dcel_maps.proofs.maps.Firsts.{first_keeps}
 use Rattle.dcel_maps.proofs.maps.Lists.{comes_first, comes_once, ear_after}
-use Rattle.dcel_maps.proofs.maps.Spurs.{spur_keeps}
-use Rattle.dcel_maps.proofs.maps.Ears.{ear_keeps}
 
 -- what holds of the first two, four or six numbers holds of each below
 pub below_two : (P : ℕ → Type 0) → P 0 → P 1 → (x : ℕ) → x < 2 → P x
@@ -161,10 +158,3 @@ triangle_made =
     let begun = first_keeps one 0 0 1 first in
     comes_first first_edge (spur_added ∷ ear_cut ∷ []) nothing one triangle (0, 0, 1, λ u. refl, first)
     (ear_after (spur_added ∷ []) one two triangle 3 1 0 4 1 begun.0 begun.1 (comes_once spur_added one two (0, 2, 2, second)) third)
-
--- a triangle is sound and a sphere
-pub triangle_keeps : Sound triangle × Sphere triangle
-triangle_keeps =
-    let one_keeps = first_keeps one 0 0 1 first in
-    let two_keeps = spur_keeps one two 0 2 2 second one_keeps.0 one_keeps.1 in
-    ear_keeps two triangle 3 1 0 4 1 third two_keeps.0 two_keeps.1

@@ -6,10 +6,10 @@ use Rattle.dcel_maps.specs.EditLists.{ComesBy}
 use Rattle.dcel_maps.specs.EditLists.EditKind.{ear_cut, words_joined}
 use Rattle.dcel_maps.specs.Maps.{Live, Map}
 use Rattle.dcel_maps.specs.theory.Sound.{Sound, Sphere}
-use Rattle.dcel_maps.proofs.maps.Ears.{ear_keeps, two_in}
+use Rattle.dcel_maps.proofs.maps.Ears.{two_in}
 use Rattle.dcel_maps.proofs.maps.Edits.{Ear, two}
 use Rattle.dcel_maps.proofs.maps.Halves.{rev_half, turn_back}
-use Rattle.dcel_maps.proofs.maps.Joins.{Join, join, join_edit, join_is, join_keeps, join_still_live, join_vacant, join_was_live}
+use Rattle.dcel_maps.proofs.maps.Joins.{Join, join, join_edit, join_is, join_still_live, join_vacant, join_was_live}
 use Rattle.dcel_maps.proofs.maps.Lists.{comes_once, ear_after}
 use Rattle.dcel_maps.proofs.maps.Triangles.{IsTriangleOf, Off, SameLinks, by_triangle, facing_differ, off_triangle}
 use Rattle.dcel_maps.proofs.maps.Updates.{put}
@@ -129,8 +129,3 @@ module _ (S T : Map) (f g e a b t c d : ℕ) (s : Sound S) (x : Flip S T f g e a
   flip_comes sphere =
       ear_after (words_joined ∷ []) S M T d a b t f s sphere
       (comes_once words_joined S M (join_edit S t s x.facing.live_x two_faces)) is_ear
-
-  pub flip_keeps : Sphere S → Sound T × Sphere T
-  flip_keeps sphere =
-      let keeps = join_keeps S t s sphere x.facing.live_x two_faces in
-      ear_keeps M T d a b t f is_ear keeps.0 keeps.1

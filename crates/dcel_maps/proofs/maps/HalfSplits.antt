@@ -9,12 +9,11 @@ use Rattle.dcel_maps.specs.Maps.{Live, Map}
 use Rattle.dcel_maps.specs.theory.Sound.{Sound, Sphere}
 use Rattle.dcel_maps.proofs.maps.Between.{Between, between_subdivides}
 use Rattle.dcel_maps.proofs.maps.Counts.{edge_past}
-use Rattle.dcel_maps.proofs.maps.Eared.{HasEar, has_ear-keeps, is_ear, without_ear}
+use Rattle.dcel_maps.proofs.maps.Eared.{HasEar, is_ear, without_ear}
 use Rattle.dcel_maps.proofs.maps.Edits.{Ear, Subdivide}
 use Rattle.dcel_maps.proofs.maps.Lists.{comes_once, ear_after}
 use Rattle.dcel_maps.proofs.maps.Middles.{Joined, joined_at, joined_below, joined_ear, joined_leads_on, joined_live, joined_off, joined_starts}
 use Rattle.dcel_maps.proofs.maps.Soundness.{face_prev}
-use Rattle.dcel_maps.proofs.maps.Subdivides.{subdivide_keeps}
 use Rattle.dcel_maps.proofs.maps.Triangles.{Off, by_triangle, off_face}
 use Rattle.dcel_maps.proofs.maps.Updates.{put}
 
@@ -141,8 +140,3 @@ module _ (S T : Map) (f e a b t v n : ℕ) (s : Sound S) (x : HalfSplit S T f e 
   half_split_comes sphere =
       ear_after (edge_subdivided ∷ []) S half_uncut T (n + 2) a b (n + 1) S.faces s sphere
       (comes_once edge_subdivided S half_uncut (e, n + 2, v, half_subdivides)) half_is_ear
-
-  -- a half edge that is split keeps a map sound and a sphere
-  pub half_split_keeps : Sphere S → Sound T × Sphere T
-  half_split_keeps sphere =
-      has_ear-keeps T (n + 2) a b (n + 1) S.faces e n f has_ear (subdivide_keeps S half_uncut e (n + 2) v half_subdivides s sphere)

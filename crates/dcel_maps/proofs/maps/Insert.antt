@@ -8,12 +8,11 @@ use Rattle.dcel_maps.specs.EditLists.EditKind.{ear_cut, spur_added}
 use Rattle.dcel_maps.specs.Maps.{Live, Map}
 use Rattle.dcel_maps.specs.theory.Sound.{Sound, Sphere}
 use Rattle.dcel_maps.proofs.maps.Counts.{edge_past}
-use Rattle.dcel_maps.proofs.maps.Eared.{HasEar, corner_ear, ear_keeps_both, has_ear-keeps, is_ear, without_ear}
+use Rattle.dcel_maps.proofs.maps.Eared.{HasEar, corner_ear, ear_keeps_both, is_ear, without_ear}
 use Rattle.dcel_maps.proofs.maps.Edits.{Spur}
 use Rattle.dcel_maps.proofs.maps.Growth.{spur_at}
 use Rattle.dcel_maps.proofs.maps.Halves.{turn_even, turn_odd}
 use Rattle.dcel_maps.proofs.maps.Lists.{comes_once, ear_after}
-use Rattle.dcel_maps.proofs.maps.Spurs.{spur_keeps}
 use Rattle.dcel_maps.proofs.maps.Triangles.{Alone, IsTriangleOf, Off, alone_turned, by_triangle, triangle_turned, SameLinks}
 use Rattle.dcel_maps.proofs.maps.Updates.{put}
 
@@ -174,10 +173,3 @@ module _ (S T : Map) (f a b c v n : ℕ) (s : Sound S) (e : Insert S T f a b c v
       (is_ear one_ear (n + 1) b c (n + 3) S.faces n (n + 2) f first_ear) in
       ear_after (spur_added ∷ ear_cut ∷ []) S one_ear T (n + 3) c a (n + 5) (S.faces + 1) s sphere first
       (is_ear T (n + 3) c a (n + 5) (S.faces + 1) n (n + 4) f last_ear)
-
-  -- the vertex in the triangle keeps a map sound and a sphere
-  pub insert_keeps : Sphere S → Sound T × Sphere T
-  insert_keeps sphere =
-      has_ear-keeps T (n + 3) c a (n + 5) (S.faces + 1) n (n + 4) f last_ear
-      (has_ear-keeps one_ear (n + 1) b c (n + 3) S.faces n (n + 2) f first_ear
-      (spur_keeps S no_ear a n v is_spur s sphere))

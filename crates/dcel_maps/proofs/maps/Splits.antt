@@ -9,11 +9,10 @@ use Rattle.dcel_maps.specs.Maps.{Live, Map}
 use Rattle.dcel_maps.specs.theory.Sound.{Sound, Sphere}
 use Rattle.dcel_maps.proofs.maps.Between.{Between, between_subdivides}
 use Rattle.dcel_maps.proofs.maps.Counts.{edge_past}
-use Rattle.dcel_maps.proofs.maps.Eared.{HasEar, corner_ear, ear_keeps_both, ear_keeps_triangle, has_ear-keeps, is_ear, without_ear}
+use Rattle.dcel_maps.proofs.maps.Eared.{HasEar, corner_ear, ear_keeps_both, ear_keeps_triangle, is_ear, without_ear}
 use Rattle.dcel_maps.proofs.maps.Halves.{turn_even}
 use Rattle.dcel_maps.proofs.maps.Lists.{comes_once, ear_after}
 use Rattle.dcel_maps.proofs.maps.Middles.{Joined, joined_at, joined_below, joined_ear, joined_face, joined_leads_on, joined_starts}
-use Rattle.dcel_maps.proofs.maps.Subdivides.{subdivide_keeps}
 use Rattle.dcel_maps.proofs.maps.Triangles.{Alone, IsTriangleOf, Off, by_triangle, off_face, SameLinks}
 use Rattle.dcel_maps.proofs.maps.Updates.{put}
 
@@ -195,10 +194,3 @@ module _ (S T : Map) (f g e a b t c d v n : ℕ) (s : Sound S) (x : Split S T f 
       (is_ear one_ear d (n + 2) t n S.faces c (n + 1) g first_ear) in
       ear_after (edge_subdivided ∷ ear_cut ∷ []) S one_ear T (n + 3) a b (n + 5) (S.faces + 1) s sphere first
       (is_ear T (n + 3) a b (n + 5) (S.faces + 1) e (n + 4) f last_ear)
-
-  -- an edge that is split keeps a map sound and a sphere
-  pub split_keeps : Sphere S → Sound T × Sphere T
-  split_keeps sphere =
-      has_ear-keeps T (n + 3) a b (n + 5) (S.faces + 1) e (n + 4) f last_ear
-      (has_ear-keeps one_ear d (n + 2) t n S.faces c (n + 1) g first_ear
-      (subdivide_keeps S uncut e (n + 3) v (between_subdivides S uncut e (n + 3) v s is_between) s sphere))
