@@ -1,5 +1,4 @@
-//! Meshes of numbers: their elements by number, calls that test first what they ask, and what is
-//! read off a mesh.
+//! Meshes of numbers: their elements by number, and what is read off a mesh.
 
 use crate::checks::same;
 use crate::require;
@@ -8,7 +7,6 @@ use spade_dcel::handles::{
     FixedDirectedEdgeHandle, FixedFaceHandle, FixedHandleImpl, FixedUndirectedEdgeHandle,
     FixedVertexHandle, InnerTag, PossiblyOuterTag,
 };
-use spade_dcel::operations::{append_unconnected_vertex, flip_cw};
 use std::alloc::{AllocError, Allocator, Global};
 use std::test::Fail;
 
@@ -61,30 +59,6 @@ pub fn handles<Kind, A: Allocator>(
         list.push(FixedHandleImpl::new(*number as usize))?;
     }
     Ok(list)
-}
-
-/// Appends a vertex, and returns its handle.
-pub fn append<A: Allocator>(dcel: &mut Mesh<A>, datum: i64) -> Result<FixedVertexHandle, Fail> {
-    require!(dcel.has_room(1, 0, 0));
-    Ok(append_unconnected_vertex(dcel, datum)?)
-}
-
-/// Flips an edge between two triangles.
-pub fn flip<A: Allocator>(dcel: &mut Mesh<A>, edge: u32) -> Result<(), Fail> {
-    let edge = undirected_edge(edge);
-    require!(dcel.can_flip(edge));
-    flip_cw(dcel, edge);
-    Ok(())
-}
-
-/// Swaps two vertices.
-pub fn swap<A: Allocator>(dcel: &mut Mesh<A>, first: u32, second: u32) -> Result<(), Fail> {
-    let first = vertex(first);
-    let second = vertex(second);
-    require!(dcel.is_live_vertex(first));
-    require!(dcel.is_live_vertex(second));
-    dcel.swap_vertices(first, second);
-    Ok(())
 }
 
 /// Returns the number of the half edge that leads from one vertex to another, as the mesh finds it.
