@@ -57,16 +57,21 @@ def owner_of(head, declared):
     return owner + trait
 
 
+def functions_of(text, declared):
+    """The functions of a file whose crate declares these types: of each its name, its impl or "", and where it begins and ends. It ends with
+    the brace that is indented as it is."""
+    code, found = code_of(text), []
+    for it in FUNCTION.finditer(code):
+        end = re.compile(rf"(?m)^{it[1]}\}}").search(code, it.end())
+        heads = [head for head in IMPL.finditer(code) if head.start() < it.start()] if it[1] else []
+        owner = owner_of(" ".join(heads[-1][1].split()), declared) if heads else ""
+        found += [(it[2], owner, it.start(), end.start())] if end else []
+    return found
+
+
 def function_round(text, place, declared):
-    """The name and the impl of the function round this place of a file; None and "" where there is none. A function ends with the brace
-    that is indented as it is. These types are declared in the crate."""
-    code = code_of(text)
-    begun = [it for it in FUNCTION.finditer(code) if it.start() <= place]
-    end = re.compile(rf"(?m)^{begun[-1][1]}\}}").search(code, begun[-1].end()) if begun else None
-    if not end or end.start() <= place:
-        return None, ""
-    heads = [it for it in IMPL.finditer(code) if it.start() < place] if begun[-1][1] else []
-    return begun[-1][2], owner_of(" ".join(heads[-1][1].split()), declared) if heads else ""
+    """The name and the impl of the function round this place of a file; None and "" where there is none."""
+    return next((it[:2] for it in functions_of(text, declared) if it[2] <= place < it[3]), (None, ""))
 
 
 @functools.cache

@@ -6,7 +6,7 @@ import tempfile
 from pathlib import Path
 
 import prover
-from wrong_parts.edits import names_in
+from wrong_parts.edits import functions_of, names_in
 
 JUDGED = re.compile(r"(?m)^(?:fn|impl) (\S+): (.*)$")
 REFUSED = re.compile(r"not proved|no proof: expected")
@@ -14,7 +14,7 @@ ENDED = re.compile(r"(?m)^(?:only|logic)=\S.*\n?\Z")
 ERROR = re.compile(r"(?m)^.*\berror(?:\[[\w-]+\])?: .*$")
 # A part that the prover was told to check, and doesn't know by this name.
 UNKNOWN = re.compile(r"(?m)^rattle: error: (?:several functions are named `|`\w+` has no [\w ]+ `)([^`]+)`")
-PLACED = re.compile(r"(?m)^(?:note: )?(\S+):\d+:\d+: .*$")
+PLACED = re.compile(r"(?m)^(?:note: )?(?:\./)?(\S+?):(\d+):\d+: .*$")
 # What is said of a proof file that names something that the edit took away.
 TAKEN_AWAY = re.compile(r"has no field|is not in scope|has no `|was not admitted")
 
@@ -27,22 +27,29 @@ class Verdict:
         self.judged = dict(JUDGED.findall(said))
         self.ended = bool(ENDED.search(said))
 
+    def names_of(self, place):
+        """The functions that it judges and that may be this one: by their impl, whose name may go on, or by the module of the file."""
+        if not place.function:
+            head = "::".join(it for it in [self.crate, place.module()] if it)
+            return [it for it in self.judged if it.startswith(f"{head}::")]
+        if place.owner:
+            ends = re.compile(rf".*::{re.escape(place.owner)}[^:]*::{place.function}")
+            return [it for it in self.judged if ends.fullmatch(it)]
+        return [it for it in self.judged if it == "::".join(it for it in [self.crate, place.module(), place.function] if it)]
+
     def refuses(self, place):
         """Whether it says of this function that it is not proved. One of several with its name suffices, since the others are as ever."""
-        head = "::".join(it for it in [self.crate, place.module()] if it)
-        name = rf"(?:[^:]+::)?{place.function}" if place.function else ".*"
-        is_it = re.compile(rf"{re.escape(head)}::{name}")
-        return any(is_it.fullmatch(name) and REFUSED.match(text) for name, text in self.judged.items())
+        return any(REFUSED.match(self.judged[it]) for it in self.names_of(place))
 
-    def says_little(self, places):
-        """Whether all that it says of these functions is that a proof file names what the edit took away."""
-        files = [f"proofs/{it.module().replace('::', '/')}/" for it in places]
-        names = [f"/{it.function}/" for it in places]
+    def says_little(self, place, text):
+        """Whether all that it says of this function, which stands in this text, is that a proof file names what the edit took away."""
+        functions = functions_of(text, names_in(self.crate)[1])
+        lines = [[text.count("\n", 0, at) + 1 for at in it[2:]] for it in functions if it[:2] == (place.function, place.owner)]
+        folder = f"{place.owner}/{place.function}/" if place.owner else f"proofs/{place.module().replace('::', '/')}/{place.function}/"
         told = []
         for it in PLACED.finditer(self.said):
-            file = it[1].removeprefix("./")
-            is_proof = any(file.startswith(at) for at in files) and any(name in file for name in names)
-            if is_proof or file in {place.path for place in places}:
+            is_proof = folder in it[1]
+            if is_proof or it[1] == place.path and any(first <= int(it[2]) <= last for first, last in lines):
                 told.append(is_proof and bool(TAKEN_AWAY.search(it[0])))
         return bool(told) and all(told)
 
@@ -100,7 +107,7 @@ class Trial:
         doubtful = []
         for edit in batch:
             if verdict.ended and verdict.status == 1 and any(map(verdict.refuses, places[edit])):
-                self.little += [edit] if verdict.says_little(places[edit]) else []
+                self.little += [edit] if all(verdict.says_little(it, texts[it.path]) for it in places[edit]) else []
                 yield edit, None
             else:
                 doubtful.append(edit)
@@ -133,7 +140,7 @@ class Trial:
         if place.function:
             if names_in(self.crate)[0].count(place.function) == 1:
                 names.append(place.function)
-            names.append("::".join(it for it in [module, place.owner, place.function] if it))
+            names.append("::".join(it for it in [place.owner or module, place.function] if it))
         return next((it for it in [*names, module] if it and it not in self.unknown), None)
 
     def called(self, texts, more):

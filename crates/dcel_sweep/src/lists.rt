@@ -296,10 +296,14 @@ fn sweep(list: List, swept: &mut Swept, alloc: Global) -> Result<(), Fail> {
 pub fn sweep_block(block: &str, swept: &mut Swept, alloc: Global) -> Result<(), Fail> {
     let (mut lines, mut replies) = (Vec::new(alloc), Vec::new(alloc));
     for text in block.lines() {
-        if let Some((line, reply)) = text.split_once(": ") {
-            lines.push(line)?;
-            replies.push(reply)?;
+        if text.is_empty() || text.starts_with('#') {
+            continue;
         }
+        let Some((line, reply)) = text.split_once(": ") else {
+            return Err(Fail::new(format_args!("no reply behind {text}")));
+        };
+        lines.push(line)?;
+        replies.push(reply)?;
     }
     let list = List {
         lines: &lines,

@@ -1,4 +1,5 @@
-use Rattle.std.proofs.Common.{append_assoc, subst, sym}
+use Rattle.std.proofs.Common.{append_assoc, arith, subst, sym}
+use Rattle.std.proofs.lemmas.Grind.{common_steps}
 use Rattle.dcel_maps.specs.edits.Triangle.{vertex_inserted}
 use Rattle.dcel_plane.specs.Edges.{edges_inserted}
 use Rattle.dcel_delaunay.specs.Growing.{MayRefuse}
@@ -40,3 +41,6 @@ pub returns-clause-gains : goal.returns-clause-gains
 returns-clause-gains g c =
     put_gains (λ m v h e f. vertex_inserted m v c.args.face h e f) (λ m closed v h e f. inserted-keeps m closed v c.args.face h e f) _ _ _ 3 2 c.args.dcel.now _ _ c.args.point _
     c.requires.under_way.closed c.in_ok-vertex.ensures.edit c.in_ok-vertex.ensures.answer c.in-Ok.ensures.edit
+
+pub push_reserved-requires-3 : goal.push_reserved-requires-3
+push_reserved-requires-3 g c = grind (arith, common_steps)
