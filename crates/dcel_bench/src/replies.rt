@@ -53,7 +53,10 @@ fn flips_text(ended: Legalized, alloc: Global) -> Result<String, AllocError> {
 }
 
 /// Returns the line that says the reply.
-fn reply_text<A: Allocator>(reply: &Reply<i64, A>, alloc: Global) -> Result<String, AllocError> {
+pub fn reply_text<A: Allocator>(
+    reply: &Reply<i64, A>,
+    alloc: Global,
+) -> Result<String, AllocError> {
     match reply {
         Reply::Ok => format!(in alloc; "ok"),
         Reply::Vertex(vertex) => format!(in alloc; "vertex {}", vertex.index()),
