@@ -71,7 +71,8 @@ def functions_of(text, declared):
 
 def function_round(text, place, declared):
     """The name and the impl of the function round this place of a file; None and "" where there is none."""
-    return next((it[:2] for it in functions_of(text, declared) if it[2] <= place < it[3]), (None, ""))
+    # (a declaration without a body seems to end where a later function does)
+    return next((it[:2] for it in reversed(functions_of(text, declared)) if it[2] <= place < it[3]), (None, ""))
 
 
 @functools.cache
