@@ -7,7 +7,7 @@ from typing import NamedTuple
 
 import prover
 
-FUNCTION = re.compile(r'(?m)^([ \t]*)(?:pub(?:\([^)]*\))? )?(?:const |unsafe |extern "C" )*fn (\w+)')
+FUNCTION = re.compile(r'(?m)^([ \t]*)(?:pub(?:\([^)]*\))? )?(?:const |unsafe |extern\s+)*fn (\w+)')
 IMPL = re.compile(r"(?m)^(?:unsafe )?(impl\b[^{]*)")
 TYPE = re.compile(r"(?m)^[ \t]*(?:pub(?:\([^)]*\))? )?(?:struct|enum|union) (\w+)")
 # Comments, strings and characters, whose braces don't count.
