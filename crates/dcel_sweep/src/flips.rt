@@ -145,18 +145,31 @@ fn check_refused(row: Row, way: Way, number: u64, flips: usize, alloc: Global) -
     check(row, (way, number), ends, alloc)
 }
 
-/// Refuses the list of a row each of its requests in turn, and none at last.
-fn sweep(row: Row, way: Way, swept: &mut Swept, alloc: Global) -> Result<(), Fail> {
-    let mut requests: u64 = 0;
-    let mut flips = row.requests;
-    while let Some((before, later)) = flips.split_once(' ') {
-        check_refused(row, way, requests, number(before)? as usize, alloc)?;
-        requests = requests.saturating_add(1);
-        flips = later;
+/// Returns how many flips stand before each request of a row, and how many there are in the end.
+fn flips_of(row: Row, alloc: Global) -> Result<Vec<usize>, Fail> {
+    let mut flips = Vec::new(alloc);
+    for word in row.requests.split(' ') {
+        flips.push(number(word)? as usize)?;
     }
-    let flips = number(flips)? as usize;
-    let done = Legalized::Done { flips };
-    check(row, (way, requests), [done, done], alloc)?;
+    Ok(flips)
+}
+
+/// Refuses the list of a row each of its requests in turn, and none at last.
+fn refuse_each(row: Row, way: Way, flips: &[usize], alloc: Global) -> Result<(), Fail> {
+    let Some((last, before)) = flips.split_last() else {
+        return Err(Fail::new(format_args!("no flips: {}", row.line)));
+    };
+    for (number, flips) in before.iter().enumerate() {
+        check_refused(row, way, number as u64, *flips, alloc)?;
+    }
+    let done = Legalized::Done { flips: *last };
+    check(row, (way, before.len() as u64), [done, done], alloc)
+}
+
+fn sweep(row: Row, way: Way, swept: &mut Swept, alloc: Global) -> Result<(), Fail> {
+    let flips = flips_of(row, alloc)?;
+    refuse_each(row, way, &flips, alloc)?;
+    let requests = flips.len().saturating_sub(1) as u64;
     Ok(swept.note(function(way), requests)?)
 }
 

@@ -30,11 +30,6 @@ fn is_made<T: PartialEq + Debug + Drop>(
     }
 }
 
-/// Returns the two parts of a half edge that was split, of which the second has this number.
-fn parts(edge: FixedDirectedEdgeHandle, second: usize) -> [FixedDirectedEdgeHandle; 2] {
-    [edge, FixedDirectedEdgeHandle::new(second)]
-}
-
 /// Appends a vertex. Without memory, its datum comes back.
 pub fn append(dcel: &mut Watched, datum: i64) -> Result<bool, Fail> {
     require!(dcel.has_room_for(Room::APPEND_UNCONNECTED_VERTEX));
@@ -102,11 +97,9 @@ pub fn split_on_line(
         dcel.can_split_edge_when_all_vertices_on_line(edge, added)
             && dcel.has_room_for(Room::SPLIT_EDGE_WHEN_ALL_VERTICES_ON_LINE)
     );
-    let wanted = parts(edge, dcel.num_directed_edges());
-    is_made(
-        split_edge_when_all_vertices_on_line(dcel, edge, added),
-        wanted,
-    )
+    let second = FixedDirectedEdgeHandle::new(dcel.num_directed_edges());
+    let split = split_edge_when_all_vertices_on_line(dcel, edge, added);
+    is_made(split, [edge, second])
 }
 
 /// Closes a triangle of a half edge of the outer face and the next one.
@@ -151,8 +144,8 @@ pub fn split_half(
     added: FixedVertexHandle,
 ) -> Result<bool, Fail> {
     require!(dcel.can_split_half_edge(edge, added) && dcel.has_room_for(Room::SPLIT_HALF_EDGE));
-    let wanted = parts(edge, dcel.num_directed_edges() + 2);
-    is_made(split_half_edge(dcel, edge, added), wanted)
+    let second = FixedDirectedEdgeHandle::new(dcel.num_directed_edges() + 2);
+    is_made(split_half_edge(dcel, edge, added), [edge, second])
 }
 
 /// Splits an edge and the triangles on both sides.
@@ -162,6 +155,6 @@ pub fn split_both(
     added: FixedVertexHandle,
 ) -> Result<bool, Fail> {
     require!(dcel.can_split_edge(edge, added) && dcel.has_room_for(Room::SPLIT_EDGE));
-    let wanted = parts(edge, dcel.num_directed_edges() + 3);
-    is_made(split_edge(dcel, edge, added), wanted)
+    let second = FixedDirectedEdgeHandle::new(dcel.num_directed_edges() + 3);
+    is_made(split_edge(dcel, edge, added), [edge, second])
 }
