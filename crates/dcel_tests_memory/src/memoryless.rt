@@ -353,20 +353,23 @@ const LINES: [Row; 2] = [
     ),
 ];
 
+/// A talk without a line.
+const SILENCE: Talk = &[];
+
 /// The lines of a talk, and the replies to them.
 type Texts = (Vec<u8>, Vec<u8>);
 
-fn texts(talks: &[Talk], alloc: Global) -> Result<Texts, AllocError> {
+/// Returns the texts of a talk, and of the one that follows it.
+fn texts(begun: Talk, talk: Talk, alloc: Global) -> Result<Texts, AllocError> {
     let (mut lines, mut replies) = (Vec::new(alloc), Vec::new(alloc));
-    for talk in talks {
-        push_talk(&mut lines, &mut replies, *talk)?;
-    }
+    push_talk(&mut lines, &mut replies, begun)?;
+    push_talk(&mut lines, &mut replies, talk)?;
     Ok((lines, replies))
 }
 
 /// Returns how many requests the lines of a talk make, with the one for the first mesh.
 fn requests_of(talk: Talk, alloc: Global) -> Result<u64, Fail> {
-    let (lines, _) = texts(&[talk], alloc)?;
+    let (lines, _) = texts(talk, SILENCE, alloc)?;
     let (_, requests) = run(&lines, Refusals::None, alloc)?;
     Ok(requests)
 }
@@ -380,7 +383,7 @@ fn check_talk((lines, replies): &Texts, number: u64, alloc: Global) -> Result<()
 
 fn check_lines((begun, talk): Row, alloc: Global) -> Result<(), Fail> {
     let requests = requests_of(begun, alloc)?;
-    check_talk(&texts(&[begun, talk], alloc)?, requests, alloc)
+    check_talk(&texts(begun, talk, alloc)?, requests, alloc)
 }
 
 #[test]
