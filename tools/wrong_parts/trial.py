@@ -130,17 +130,18 @@ class Trial:
             self.unknown.add(strange[1])
 
     def parts(self, places):
-        """What the prover is told to check: each function, or its module where the prover doesn't know it by a name of ours, or nothing,
-        which means the whole crate, where there is no such module."""
+        """What the prover is told to check: each function, or its module where the prover doesn't know it by a name of ours. Nothing, which
+        means the whole crate, where there is no such module, or where something else than a function is changed, as a law of an impl."""
         parts = {self.part(it) for it in places}
         return [] if None in parts else sorted(parts)
 
     def part(self, place):
+        if not place.function:
+            return None
         module, names = place.module(), []
-        if place.function:
-            if names_in(self.crate)[0].count(place.function) == 1:
-                names.append(place.function)
-            names.append("::".join(it for it in [place.owner or module, place.function] if it))
+        if names_in(self.crate)[0].count(place.function) == 1:
+            names.append(place.function)
+        names.append("::".join(it for it in [place.owner or module, place.function] if it))
         return next((it for it in [*names, module] if it and it not in self.unknown), None)
 
     def called(self, texts, more):
