@@ -6,7 +6,7 @@ use Rattle.dcel_maps.specs.Maps.Reaches.{go, here}
 use Rattle.dcel_maps.proofs.maps.Reaching.{reaches_stays, then}
 use Rattle.dcel_links.specs.Checks.{AreBelow, IsWhole}
 use Rattle.dcel_links.specs.Faults.{InParts}
-use Rattle.dcel_links.specs.Marks.{IsBlank, IsClosed, Marked, MarksLabels, MarksRound, step_of}
+use Rattle.dcel_links.specs.Marks.{IsClosed, Marked, MarksLabels, MarksRound, step_of}
 use Rattle.dcel_links.proofs.Marking.{marked_below, marked_cases, marked_kept, marked_new}
 
 -- the label of a number
@@ -32,15 +32,6 @@ module _ (steps labels : List ℕ) (keeps : Labels steps labels) where
   label_reached {x = x} b (go s w) =
       let c = subst (λ z. z < length steps) s (keeps.below x b) in
       sym (keeps.along x b) ∙ ap (label_of labels) s ∙ label_reached c w
-
-  pub rounds_begin : (seen used : List Bool) → IsBlank seen → IsBlank used → Rounds steps labels 0 seen used
-  rounds_begin seen used blank none = record {
-    closed = record { stays = λ x m. absurd (blank x m); comes = λ x m. absurd (blank x m) };
-    done = λ x l. absurd (omega arith);
-    labelled = λ x m. absurd (blank x m);
-    shown = λ v m. absurd (none v m);
-    joined = λ x y m n e. absurd (blank x m);
-  }
 
   module _ (i : ℕ) (seen used : List Bool) (rounds : Rounds steps labels i seen used) where
     below_more : (seen' : List Bool) → ((x : ℕ) → Marked seen x → Marked seen' x) → Marked seen' i → (x : ℕ) → x < i + 1 → Marked seen' x

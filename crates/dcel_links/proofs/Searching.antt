@@ -1,7 +1,6 @@
 -- A search marks all that is reached.
-use Rattle.std.proofs.Common.{◌≡◌, inl, inr, ℕ, ◌+◌, ◌<◌, ◌≤◌, Bool, true, false, not, List, length, get_or, set, sym, refl, ap, ◌∙◌, subst, arith, get_or-set_same, get_or-set_other, length-set}
+use Rattle.std.proofs.Common.{◌≡◌, inl, inr, ℕ, ◌+◌, ◌<◌, ◌≤◌, Bool, true, false, List, length, get_or, set, sym, ap, ◌∙◌, subst, arith, get_or-set_same, get_or-set_other, length-set}
 use Rattle.std.proofs.lemmas.Bool.{cases_eq}
-use Rattle.std.specs.List.{count_by}
 use Rattle.dcel_fixed.specs.HalfEdges.{rev}
 use Rattle.dcel_maps.specs.Maps.{Reaches}
 use Rattle.dcel_maps.specs.Maps.Reaches.{here}
@@ -10,19 +9,7 @@ use Rattle.dcel_links.specs.Marks.{IsBlank, Marked}
 use Rattle.dcel_links.specs.Search.{Leads, Queue, Visits}
 use Rattle.dcel_links.proofs.Marking.{marked_cases, marked_kept, marked_new, marks_fall}
 
--- what is marked already stays
-pub visit_known : (half : ℕ) (marks : List Bool) (order : List ℕ) (tail : ℕ) → Queue marks order tail → Marked marks half
-    → Visits half marks order tail marks order tail
-visit_known half marks order tail queue known = record {
-  queue = queue;
-  marked = known;
-  kept = λ x m. m;
-  new = λ x m. inl m;
-  same = λ p l. refl;
-  grows = omega arith;
-}
-
--- what isn't is put at the end
+-- what isn't marked is put at the end
 pub visit_new : (half : ℕ) (marks : List Bool) (order : List ℕ) (tail : ℕ) → Queue marks order tail → half < length marks
     → get_or marks half false ≡ false → Visits half marks order tail (set marks half true) (set order tail half) (tail + 1)
 visit_new half marks order tail queue below unmarked =
@@ -54,14 +41,6 @@ visit_new half marks order tail queue below unmarked =
       same = same;
       grows = omega arith;
     }
-
--- an empty queue
-pub queue_empty : (marks : List Bool) (order : List ℕ) → IsBlank marks → count_by not marks ≤ length order → Queue marks order 0
-queue_empty marks order blank room = record {
-  listed = λ p l. absurd (omega arith);
-  found = λ x m. absurd (blank x m);
-  room = omega arith;
-}
 
 -- what is marked is reached, and what stands before `head` has led on
 pub record Searches (next : List ℕ) (marks : List Bool) (order : List ℕ) (head tail : ℕ) : Type 0 where

@@ -3,7 +3,7 @@ use Rattle.std.proofs.Common.{◌≡◌, ◌≢◌, ◌⊎◌, ℕ, ◌+◌, ◌
 use Rattle.dcel_maps.specs.Maps.{count}
 use Rattle.dcel_links.specs.Checks.{HasEuler, HasRounds, UsesFaces}
 use Rattle.dcel_links.specs.Claims.{Claim, halves}
-use Rattle.dcel_links.specs.Faults.{IsNoSphere, IsUnused, genus_of}
+use Rattle.dcel_links.specs.Faults.{IsNoSphere, genus_of}
 use Rattle.dcel_links.specs.Marks.{Marked, MarksLabels}
 use Rattle.dcel_links.proofs.Claiming.{counts_agree}
 
@@ -14,13 +14,6 @@ module _ (c : Claim) (sides : length c.face ≡ halves c) (marks : List Bool) (l
   uses_marked first all wanted f below want =
       let (h, b, e) = (marked f).0 (all f (wanted f want) (omega arith)) in
       (h, omega arith, e)
-
-  pub unused_unmarked : (f : ℕ) → f < length marks → ¬ Marked marks f → (0 < f) ⊎ (0 < halves c) → IsUnused c f
-  unused_unmarked f below unmarked wanted = record {
-    below = omega arith;
-    wanted = wanted;
-    empty = λ h b e. unmarked ((marked f).1 (h, omega arith, e));
-  }
 
 module _ (c : Claim) (rounds : HasRounds c) (vertices faces : List Bool) (v : MarksLabels c.origin vertices) (f : MarksLabels c.face faces) where
   pub euler_counted : count (λ k. get_or vertices k false) c.vertices + count (λ k. get_or faces k false) c.faces ≡ halves c / 2 + 2 → HasEuler c

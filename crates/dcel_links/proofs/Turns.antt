@@ -4,7 +4,7 @@ use Rattle.dcel_fixed.specs.HalfEdges.{rev}
 use Rattle.dcel_fixed.proofs.Halves.{rev-rev, rev_within}
 use Rattle.dcel_maps.specs.Maps.{By, Reaches}
 use Rattle.dcel_maps.proofs.maps.Reaching.{reroutes, step}
-use Rattle.dcel_links.specs.Checks.{AreBelow, HasWholeVertices, IsWhole, PassesLinks, Undoes}
+use Rattle.dcel_links.specs.Checks.{HasWholeVertices, IsWhole, PassesLinks, Undoes}
 use Rattle.dcel_links.specs.Claims.{Claim, halves}
 use Rattle.dcel_links.specs.Faults.{InParts, turned}
 use Rattle.dcel_links.specs.Marks.{IsOneToOne}
@@ -29,9 +29,6 @@ module _ (c : Claim) (prev : List ℕ) (links : PassesLinks c prev) (turns : Lis
 
   turn_in : (h : ℕ) → h < halves c → slice_index turns h < halves c
   turn_in h b = subst (λ k. k < halves c) (sym (turn h b)) (turned_in h b)
-
-  pub turns_below : AreBelow (length turns) turns
-  turns_below h b = subst (λ n. slice_index turns h < n) (sym len) (turn_in h (subst (λ n. h < n) len b))
 
   pub turns_apart : IsOneToOne turns
   turns_apart x y b d e =
