@@ -4,7 +4,7 @@ use crate::claim::{Claim, Lines, Links};
 use crate::fault::{Fault, Wrong};
 use crate::meshing::Mesh;
 use spade_dcel::handles::FixedDirectedEdgeHandle;
-use spade_dcel::operations::{EdgeData, Fault as LinkFault, LinksError, MeshData, from_links};
+use spade_dcel::operations::{EdgeData, LinksError, LinksFault, MeshData, from_links};
 use std::alloc::{AllocError, Global};
 
 /// Makes the mesh that is claimed, with no coordinates. If there is none, the line is told that
@@ -83,21 +83,21 @@ fn fault_of(reason: LinksError, claim: &Claim, links: &Links) -> Fault {
 }
 
 /// Returns the line that shows a fault: the counts, a word or a turn.
-fn line_of(fault: LinkFault, claim: &Claim, links: &Links) -> Option<usize> {
+fn line_of(fault: LinksFault, claim: &Claim, links: &Links) -> Option<usize> {
     match fault {
-        LinkFault::NoFace | LinkFault::MoreFaces => Some(1),
-        LinkFault::OneEnd(half) => {
+        LinksFault::NoFace | LinksFault::MoreFaces => Some(1),
+        LinksFault::OneEnd(half) => {
             let vertex = links.origin.get(half)?;
             Some(claim.line_of(Lines::Turns, *vertex as usize))
         }
-        LinkFault::Apart(half) | LinkFault::NotConnected(half) => {
+        LinksFault::Apart(half) | LinksFault::NotConnected(half) => {
             let face = links.face.get(half)?;
             Some(claim.line_of(Lines::Words, *face as usize))
         }
-        LinkFault::FaceInParts(face) | LinkFault::UnusedFace(face) => {
+        LinksFault::FaceInParts(face) | LinksFault::UnusedFace(face) => {
             Some(claim.line_of(Lines::Words, face))
         }
-        LinkFault::VertexInParts(vertex) => Some(claim.line_of(Lines::Turns, vertex)),
+        LinksFault::VertexInParts(vertex) => Some(claim.line_of(Lines::Turns, vertex)),
         _ => None,
     }
 }

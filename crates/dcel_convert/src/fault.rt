@@ -2,7 +2,7 @@
 
 use crate::claim::Lines;
 use dcel_exchange::FacesError;
-use spade_dcel::operations::{Fault as LinkFault, LinksError};
+use spade_dcel::operations::{LinksError, LinksFault};
 use std::alloc::AllocError;
 use std::io;
 use thiserror::Error;
@@ -43,11 +43,11 @@ pub enum Fault {
         /// The line of the counts, of a face or of a vertex.
         line: usize,
         /// What is wrong.
-        fault: LinkFault,
+        fault: LinksFault,
     },
     /// The words are no mesh.
     #[error("{0}")]
-    Links(LinkFault),
+    Links(LinksFault),
     /// No mesh was made of the words for a reason that their lines can't give.
     #[error("{0}")]
     Other(LinksError),

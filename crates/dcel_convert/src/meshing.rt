@@ -8,7 +8,7 @@ use spade_dcel::dcel::Dcel;
 use spade_dcel::handles::{
     FaceHandle, FixedFaceHandle, FixedVertexHandle, PossiblyOuterTag, VertexHandle,
 };
-use spade_dcel::operations::Fault as LinkFault;
+use spade_dcel::operations::LinksFault;
 use std::alloc::{AllocError, Global};
 
 /// A mesh whose vertices have their coordinates as text, and whose faces have the number of steps
@@ -267,7 +267,7 @@ fn is_simple(alloc: Global, corners: &[u32]) -> Result<bool, AllocError> {
 
 /// Returns whether the reason is that no border is left for the outer face.
 fn has_no_border(reason: FacesError) -> bool {
-    reason == FacesError::Links(LinkFault::UnusedFace(0))
+    reason == FacesError::Links(LinksFault::UnusedFace(0))
 }
 
 /// Returns the reason, with the line of the face that it names, if it names one.
@@ -276,8 +276,8 @@ fn fault_of(reason: FacesError, lines: &[usize]) -> Fault {
         FacesError::FewCorners(face) => face,
         FacesError::NoVertex(face, _) | FacesError::OneEnd(face, _) => face as usize,
         FacesError::SideTwice(_, face, _, _) => face as usize,
-        FacesError::Links(LinkFault::FaceInParts(0)) => return Fault::MoreBorders,
-        FacesError::Links(LinkFault::NotConnected(_)) => return Fault::InParts,
+        FacesError::Links(LinksFault::FaceInParts(0)) => return Fault::MoreBorders,
+        FacesError::Links(LinksFault::NotConnected(_)) => return Fault::InParts,
         _ => return Fault::Faces(reason),
     };
     match lines.get(face) {

@@ -6,7 +6,7 @@ use Rattle.dcel_fixed.specs.HalfEdges.{rev}
 use Rattle.dcel_fixed.proofs.Halves.{rev_within}
 use Rattle.dcel_links.specs.Claims.{Claim, IsFew, halves}
 use Rattle.dcel_links.specs.Faults.{Means}
-use Rattle.dcel_links.specs.declared.fault.Fault.{Fault}
+use Rattle.dcel_links.specs.declared.fault.LinksFault.{LinksFault}
 use Rattle.dcel_links.proofs.Refuting.{refutes}
 use Rattle.dcel_maps.specs.Maps.{By, Map, NextOrRev}
 use Rattle.dcel_maps.specs.Removals.{gives_up_face}
@@ -278,7 +278,7 @@ module _ {V DE UE F : Type 0} (m : Mesh V DE UE F) (mesh : IsMesh m) (simple : I
     }
 
     -- so nothing is wrong with them
-    pub no_fault : (fault : Fault) → ¬ Means c fault
+    pub no_fault : (fault : LinksFault) → ¬ Means c fault
     no_fault =
         refutes c (prevs M c (map-sound mesh.sound) l.lists matches)
         (matched_mesh M c (map-sound mesh.sound) l.lists matches (map-sphere mesh.sound mesh.sphere) few

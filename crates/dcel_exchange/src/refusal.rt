@@ -1,6 +1,6 @@
 //! Why faces are refused.
 
-use spade_dcel::operations::Fault;
+use spade_dcel::operations::LinksFault;
 use std::alloc::AllocError;
 use std::error::Error;
 use std::fmt;
@@ -28,7 +28,7 @@ pub enum FacesError {
     /// With these corners, the first thing that is wrong with the links of the half edges. In it
     /// half edges, vertices and faces have the numbers of the mesh: face 0 is the outer one, and
     /// place `k` of the list is face `k + 1`.
-    Links(Fault),
+    Links(LinksFault),
     /// There was no memory. That can come at any time, also before what is wrong is found.
     OutOfMemory,
 }
@@ -66,11 +66,11 @@ impl fmt::Display for FacesError {
 impl Error for FacesError {}
 
 // Writes what is wrong with the links that faces give.
-fn write_fault<W: fmt::Write>(f: &mut fmt::Formatter<W>, fault: Fault) -> fmt::Result {
+fn write_fault<W: fmt::Write>(f: &mut fmt::Formatter<W>, fault: LinksFault) -> fmt::Result {
     match fault {
-        Fault::UnusedFace(0) => write!(f, "no side is left for the outer face"),
-        Fault::FaceInParts(0) => write!(f, "the faces leave more than one border"),
-        Fault::UnusedFace(_) | Fault::FaceInParts(_) => {
+        LinksFault::UnusedFace(0) => write!(f, "no side is left for the outer face"),
+        LinksFault::FaceInParts(0) => write!(f, "the faces leave more than one border"),
+        LinksFault::UnusedFace(_) | LinksFault::FaceInParts(_) => {
             write!(f, "no mesh has these faces: by the mesh's numbers, {fault}")
         }
         _ => write!(f, "no mesh has these faces: {fault}"),

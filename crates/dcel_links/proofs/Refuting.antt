@@ -12,8 +12,8 @@ use Rattle.dcel_maps.proofs.maps.Reaching.{step}
 use Rattle.dcel_maps.proofs.maps.Soundness.{ccw_live}
 use Rattle.dcel_links.specs.Claims.{Claim, HasFewFaces, IsMeshOf, claimed_map, halves}
 use Rattle.dcel_links.specs.Faults.{InParts, IsCutOff, IsNoSphere, IsUnused, Means, TwoLead, turned}
-use Rattle.dcel_links.specs.declared.fault.Fault.{Fault}
-use Rattle.dcel_links.specs.declared.fault.Fault.TheVariants.{Lengths, TooMany, NoFace, MoreFaces, NextOutOfRange, OriginOutOfRange, FaceOutOfRange, TwoLeadTo, OneEnd, Apart, LeavesFace, FaceInParts, VertexInParts, UnusedFace, NotConnected, NotSphere}
+use Rattle.dcel_links.specs.declared.fault.LinksFault.{LinksFault}
+use Rattle.dcel_links.specs.declared.fault.LinksFault.TheVariants.{Lengths, TooMany, NoFace, MoreFaces, NextOutOfRange, OriginOutOfRange, FaceOutOfRange, TwoLeadTo, OneEnd, Apart, LeavesFace, FaceInParts, VertexInParts, UnusedFace, NotConnected, NotSphere}
 use Rattle.dcel_links.proofs.Claiming.{count_all, count_edges, is_below, is_half, same_starts, same_words}
 use Rattle.dcel_links.proofs.Paths.{backwards}
 
@@ -84,7 +84,7 @@ module _ (c : Claim) (prev : List ℕ) (mesh : IsMeshOf c prev) where
   ]
 
   -- no fault is true of a mesh
-  pub refutes : (fault : Fault) → ¬ Means c fault
+  pub refutes : (fault : LinksFault) → ¬ Means c fault
   refutes Lengths m = m mesh.lists
   refutes TooMany m = m mesh.few
   refutes NoFace m = let s = mesh.some_face in omega arith

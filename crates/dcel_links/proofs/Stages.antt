@@ -4,11 +4,11 @@ use Rattle.std.proofs.lemmas.Bool.{cases_eq}
 use Rattle.dcel_links.specs.Checks.{Finds, Passes, Undoes}
 use Rattle.dcel_links.specs.Claims.{Claim, HasFewFaces, HasLists, IsFew}
 use Rattle.dcel_links.specs.Faults.{Means, TwoLead, stage}
-use Rattle.dcel_links.specs.declared.fault.Fault.{Fault}
-use Rattle.dcel_links.specs.declared.fault.Fault.TheVariants.{Lengths, TooMany, NoFace, MoreFaces, NextOutOfRange, OriginOutOfRange, FaceOutOfRange, TwoLeadTo, OneEnd, Apart, LeavesFace, FaceInParts, VertexInParts, UnusedFace, NotConnected, NotSphere}
+use Rattle.dcel_links.specs.declared.fault.LinksFault.{LinksFault}
+use Rattle.dcel_links.specs.declared.fault.LinksFault.TheVariants.{Lengths, TooMany, NoFace, MoreFaces, NextOutOfRange, OriginOutOfRange, FaceOutOfRange, TwoLeadTo, OneEnd, Apart, LeavesFace, FaceInParts, VertexInParts, UnusedFace, NotConnected, NotSphere}
 
 -- no fault of a stage that found none is true
-pub rules_out : (c : Claim) (k : ℕ) → Passes c k → (other : Fault) → stage other < k → ¬ Means c other
+pub rules_out : (c : Claim) (k : ℕ) → Passes c k → (other : LinksFault) → stage other < k → ¬ Means c other
 rules_out c k passes Lengths less m = m (passes.found 0 less)
 rules_out c k passes TooMany less m = m (passes.found 1 less)
 rules_out c k passes NoFace less m = let some : 0 < c.faces = passes.found 2 less in omega arith

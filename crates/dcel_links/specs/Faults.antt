@@ -4,8 +4,8 @@ use Rattle.dcel_fixed.specs.HalfEdges.{rev}
 use Rattle.dcel_maps.specs.Maps.{By, NextOrRev, Reaches, count, starts_edge}
 use Rattle.dcel_maps.specs.theory.Sound.{has_word}
 use Rattle.dcel_links.specs.Claims.{Claim, HasFewFaces, HasLists, IsFew, claimed_map, halves}
-use Rattle.dcel_links.specs.declared.fault.Fault.{Fault}
-use Rattle.dcel_links.specs.declared.fault.Fault.TheVariants.{Lengths, TooMany, NoFace, MoreFaces, NextOutOfRange, OriginOutOfRange, FaceOutOfRange, TwoLeadTo, OneEnd, Apart, LeavesFace, FaceInParts, VertexInParts, UnusedFace, NotConnected, NotSphere}
+use Rattle.dcel_links.specs.declared.fault.LinksFault.{LinksFault}
+use Rattle.dcel_links.specs.declared.fault.LinksFault.TheVariants.{Lengths, TooMany, NoFace, MoreFaces, NextOutOfRange, OriginOutOfRange, FaceOutOfRange, TwoLeadTo, OneEnd, Apart, LeavesFace, FaceInParts, VertexInParts, UnusedFace, NotConnected, NotSphere}
 
 -- the next half edge out of the same vertex, the other way round: `ccw` undoes it
 abbrev pub turned : List ℕ → ℕ → ℕ
@@ -51,7 +51,7 @@ pub record IsNoSphere (c : Claim) : Type 0 where
 abbrev pub genus_of : Claim → ℕ
 genus_of c = (halves c / 2 + 2 - (count (starts_edge (claimed_map c [])) c.vertices + count (has_word (claimed_map c [])) c.faces)) / 2
 
-abbrev pub Means : Claim → Fault → Type 0
+abbrev pub Means : Claim → LinksFault → Type 0
 Means c Lengths = ¬ HasLists c
 Means c TooMany = ¬ IsFew c
 Means c NoFace = c.faces ≡ 0
@@ -70,7 +70,7 @@ Means c (NotConnected h) = IsCutOff c h
 Means c (NotSphere genus) = IsNoSphere c × (genus ≡ genus_of c)
 
 -- faults of an earlier stage are looked for first
-abbrev pub stage : Fault → ℕ
+abbrev pub stage : LinksFault → ℕ
 stage Lengths = 0
 stage TooMany = 1
 stage NoFace = 2
@@ -89,6 +89,6 @@ stage (NotConnected h) = 10
 stage (NotSphere genus) = 11
 
 -- this is wrong, and nothing that is looked for before
-pub record IsFirst (c : Claim) (fault : Fault) : Type 0 where
+pub record IsFirst (c : Claim) (fault : LinksFault) : Type 0 where
   pub means : Means c fault
-  pub first : (other : Fault) → stage other < stage fault → ¬ Means c other
+  pub first : (other : LinksFault) → stage other < stage fault → ¬ Means c other

@@ -9,7 +9,7 @@ use std::fmt;
 /// [`OneEnd`](Self::OneEnd), [`Apart`](Self::Apart) and [`LeavesFace`](Self::LeavesFace). Half
 /// edges, vertices and faces are told by their numbers.
 #[derive(Clone, Copy, PartialEq, Eq, Debug, Drop)]
-pub enum Fault {
+pub enum LinksFault {
     /// The lists are not of one length, or it is odd.
     Lengths,
     /// There are more than 2^32 vertices, half edges or faces.
@@ -45,54 +45,57 @@ pub enum Fault {
     NotSphere(usize),
 }
 
-impl fmt::Display for Fault {
+impl fmt::Display for LinksFault {
     fn fmt<W: fmt::Write>(&self, f: &mut fmt::Formatter<W>) -> fmt::Result {
         match *self {
-            Fault::Lengths => write!(f, "the lists have no item for each half of each edge"),
-            Fault::TooMany => write!(f, "there are more than 2^32 vertices, half edges or faces"),
-            Fault::NoFace => write!(f, "there is no outer face"),
-            Fault::MoreFaces => write!(f, "there are more faces than edges and two"),
-            Fault::NextOutOfRange(half) => write!(
+            LinksFault::Lengths => write!(f, "the lists have no item for each half of each edge"),
+            LinksFault::TooMany => write!(
+                f,
+                "there are more than 2^32 vertices, half edges or faces"
+            ),
+            LinksFault::NoFace => write!(f, "there is no outer face"),
+            LinksFault::MoreFaces => write!(f, "there are more faces than edges and two"),
+            LinksFault::NextOutOfRange(half) => write!(
                 f,
                 "after half edge {half} comes none that there is"
             ),
-            Fault::OriginOutOfRange(half) => write!(
+            LinksFault::OriginOutOfRange(half) => write!(
                 f,
                 "half edge {half} starts at no vertex that there is"
             ),
-            Fault::FaceOutOfRange(half) => write!(
+            LinksFault::FaceOutOfRange(half) => write!(
                 f,
                 "half edge {half} lies on no face that there is"
             ),
-            Fault::TwoLeadTo(half) => write!(f, "two half edges lead to half edge {half}"),
-            Fault::OneEnd(half) => write!(f, "half edge {half} starts and ends at one vertex"),
-            Fault::Apart(half) => write!(
+            LinksFault::TwoLeadTo(half) => write!(f, "two half edges lead to half edge {half}"),
+            LinksFault::OneEnd(half) => write!(f, "half edge {half} starts and ends at one vertex"),
+            LinksFault::Apart(half) => write!(
                 f,
                 "what comes after half edge {half} doesn't start where it ends"
             ),
-            Fault::LeavesFace(half) => write!(
+            LinksFault::LeavesFace(half) => write!(
                 f,
                 "what comes after half edge {half} lies on another face"
             ),
-            Fault::FaceInParts(0) => write!(
+            LinksFault::FaceInParts(0) => write!(
                 f,
                 "the half edges of the outer face are no single loop"
             ),
-            Fault::FaceInParts(face) => write!(
+            LinksFault::FaceInParts(face) => write!(
                 f,
                 "the half edges of face {face} are no single loop"
             ),
-            Fault::VertexInParts(vertex) => write!(
+            LinksFault::VertexInParts(vertex) => write!(
                 f,
                 "the half edges of vertex {vertex} are no single turn"
             ),
-            Fault::UnusedFace(0) => write!(f, "no half edge lies on the outer face"),
-            Fault::UnusedFace(face) => write!(f, "no half edge lies on face {face}"),
-            Fault::NotConnected(half) => write!(
+            LinksFault::UnusedFace(0) => write!(f, "no half edge lies on the outer face"),
+            LinksFault::UnusedFace(face) => write!(f, "no half edge lies on face {face}"),
+            LinksFault::NotConnected(half) => write!(
                 f,
                 "half edge {half} isn't reached from half edge 0"
             ),
-            Fault::NotSphere(genus) => write!(
+            LinksFault::NotSphere(genus) => write!(
                 f,
                 "the surface has genus {genus}, so it is not a sphere"
             ),
@@ -100,4 +103,4 @@ impl fmt::Display for Fault {
     }
 }
 
-impl Error for Fault {}
+impl Error for LinksFault {}

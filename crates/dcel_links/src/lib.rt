@@ -3,7 +3,7 @@
 //!
 //! Files, other languages and tests hold meshes in this way. [`check_links`] decides whether such
 //! lists are the links of a mesh, as `dcel_maps` has it, and if not says what is wrong: the first
-//! [`Fault`] in a fixed order. The two halves of an edge stand side by side: half edges 0 and 1 are
+//! [`LinksFault`] in a fixed order. The two halves of an edge stand side by side: half edges 0 and 1 are
 //! edge 0, 2 and 3 edge 1, and so on. Face 0 is the outer face. [`find_wrong_anchor`] looks at half
 //! edges that are given for vertices or faces.
 #![tactic(auto)]
@@ -23,7 +23,7 @@ mod sizes;
 mod whole;
 
 pub use anchors::find_wrong_anchor;
-pub use fault::Fault;
+pub use fault::LinksFault;
 use std::alloc::{AllocError, Allocator};
 use whole::{check_all, check_each};
 
@@ -31,7 +31,7 @@ use whole::{check_all, check_each};
 /// edge: the half edge after it, the vertex that it starts at and the face that it lies on.
 ///
 /// For a mesh it returns the half edge before each one, the only list that fits; otherwise a
-/// [`Fault`], and nothing is wrong that is looked for before it. It takes any lists and numbers.
+/// [`LinksFault`], and nothing is wrong that is looked for before it. It takes any lists and numbers.
 ///
 /// It goes over the lists a fixed number of times. For each half edge it takes less than twelve
 /// bytes, and for each vertex one, once the links have passed one by one; claims of more faces than
@@ -44,7 +44,7 @@ pub fn check_links<A: Allocator + Clone>(
     face: &[u32],
     vertices: usize,
     faces: usize,
-) -> Result<Result<Vec<u32, A>, Fault>, AllocError>
+) -> Result<Result<Vec<u32, A>, LinksFault>, AllocError>
     ensures mesh { IfOk result (λ found. IfOk found (λ prev.
         IsMeshOf (claim next.now origin.now face.now vertices faces) prev.items)) }
     ensures only { IfOk result (λ found. IfOk found (λ prev. (other : List ℕ)

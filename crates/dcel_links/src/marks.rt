@@ -1,6 +1,6 @@
 //! Marks on numbers, counted and gone over.
 
-ghost use Rattle.std.specs.Prelude.{◌≡◌, ℕ, ◌<◌, ◌≤◌, IfErr, OnOk, false, length, slice_index_or};
+ghost use Rattle.std.specs.Prelude.{◌≡◌, ℕ, ◌<◌, ◌≤◌, IfNone, IfSome, false, length, slice_index_or};
 ghost use Rattle.dcel_maps.specs.Maps.{count};
 ghost use Rattle.dcel_links.specs.Marks.{Marked};
 
@@ -19,14 +19,14 @@ pub(crate) fn count_marks(marks: &[bool]) -> usize
 }
 
 /// Looks for a number, from this one on, that isn't marked.
-pub(crate) fn find_unmarked(marks: &[bool], first: usize) -> Result<(), usize>
-    ensures all { OnOk result ((k : ℕ) → first ≤ k → k < length marks.now → Marked marks.now k) }
-    ensures one { IfErr result (λ k. (first ≤ k) × (k < length marks.now) × ¬ Marked marks.now k) }
+pub(crate) fn find_unmarked(marks: &[bool], first: usize) -> Option<usize>
+    ensures all { IfNone result ((k : ℕ) → first ≤ k → k < length marks.now → Marked marks.now k) }
+    ensures one { IfSome result (λ k. (first ≤ k) × (k < length marks.now) × ¬ Marked marks.now k) }
 {
     for number in first..marks.len() {
         if !marks[number] {
-            return Err(number);
+            return Some(number);
         }
     }
-    Ok(())
+    None
 }

@@ -1,6 +1,6 @@
 //! Rounds of steps, each marked whole.
 
-ghost use Rattle.std.specs.Prelude.{◌≡◌, ℕ, ◌<◌, ◌≤◌, ◌^◌, IfErr, OnOk, false, length, slice_index, slice_index_or};
+ghost use Rattle.std.specs.Prelude.{◌≡◌, ℕ, ◌<◌, ◌≤◌, ◌^◌, IfNone, IfSome, false, length, slice_index, slice_index_or};
 ghost use Rattle.dcel_links.specs.Checks.{AreBelow, IsWhole};
 ghost use Rattle.dcel_links.specs.Faults.{InParts};
 ghost use Rattle.dcel_links.specs.Marks.{IsBlank, IsClosed, IsOneToOne, MarksLabels, MarksRound};
@@ -30,7 +30,7 @@ pub(crate) fn find_parts(
     labels: &[u32],
     seen: &mut [bool],
     used: &mut [bool],
-) -> Result<(), usize>
+) -> Option<usize>
     requires lengths { length seen.old ≡ length steps.now }
     requires labels_length { length labels.now ≡ length steps.now }
     requires below { AreBelow (length steps.now) steps.now }
@@ -40,19 +40,19 @@ pub(crate) fn find_parts(
         → slice_index labels.now (slice_index steps.now x) ≡ slice_index labels.now x }
     requires blank { IsBlank seen.old }
     requires blank_labels { IsBlank used.old }
-    ensures whole { OnOk result (IsWhole (length steps.now) (λ x. slice_index steps.now x) (λ x. slice_index labels.now x)) }
-    ensures used { OnOk result (MarksLabels labels.now used.new) }
-    ensures parts { IfErr result (λ v. InParts (length steps.now) (λ x. slice_index steps.now x) (λ x. slice_index labels.now x) v) }
+    ensures whole { IfNone result (IsWhole (length steps.now) (λ x. slice_index steps.now x) (λ x. slice_index labels.now x)) }
+    ensures used { IfNone result (MarksLabels labels.now used.new) }
+    ensures parts { IfSome result (λ v. InParts (length steps.now) (λ x. slice_index steps.now x) (λ x. slice_index labels.now x) v) }
 {
     for start in 0..steps.len() {
         if !seen[start] {
             let label = labels[start] as usize;
             if used[label] {
-                return Err(label);
+                return Some(label);
             }
             used[label] = true;
             mark_round(steps, start, seen);
         }
     }
-    Ok(())
+    None
 }

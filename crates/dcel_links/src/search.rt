@@ -1,6 +1,6 @@
 //! What is reached from half edge 0.
 
-ghost use Rattle.std.specs.Prelude.{◌≡◌, ℕ, ◌+◌, ◌<◌, ◌≤◌, ◌%◌, ◌^◌, IfErr, OnOk, length, slice_index};
+ghost use Rattle.std.specs.Prelude.{◌≡◌, ℕ, ◌+◌, ◌<◌, ◌≤◌, ◌%◌, ◌^◌, IfNone, IfSome, length, slice_index};
 ghost use Rattle.dcel_maps.specs.Maps.{Reaches};
 ghost use Rattle.dcel_links.specs.Checks.{AreBelow};
 ghost use Rattle.dcel_links.specs.Marks.{IsBlank};
@@ -25,7 +25,7 @@ fn visit(half: usize, marks: &mut [bool], order: &mut [u32], tail: usize) -> usi
 }
 
 /// Looks for a half edge that isn't reached from half edge 0 by what comes next and other halves.
-pub(crate) fn find_cut_off(next: &[u32], marks: &mut [bool], order: &mut [u32]) -> Result<(), usize>
+pub(crate) fn find_cut_off(next: &[u32], marks: &mut [bool], order: &mut [u32]) -> Option<usize>
     requires marks_length { length marks.old ≡ length next.now }
     requires order_length { length order.old ≡ length next.now }
     requires few { length next.now ≤ 2 ^ 32 }
@@ -33,8 +33,8 @@ pub(crate) fn find_cut_off(next: &[u32], marks: &mut [bool], order: &mut [u32]) 
     requires even { length next.now % 2 ≡ 0 }
     requires below { AreBelow (length next.now) next.now }
     requires blank { IsBlank marks.old }
-    ensures one { OnOk result ((h : ℕ) → h < length next.now → Reaches (Leads next.now) 0 h) }
-    ensures cut_off { IfErr result (λ h. (h < length next.now) × ¬ Reaches (Leads next.now) 0 h) }
+    ensures one { IfNone result ((h : ℕ) → h < length next.now → Reaches (Leads next.now) 0 h) }
+    ensures cut_off { IfSome result (λ h. (h < length next.now) × ¬ Reaches (Leads next.now) 0 h) }
 {
     let mut tail = visit(0, marks, order, 0);
     let mut head = 0;
@@ -44,8 +44,8 @@ pub(crate) fn find_cut_off(next: &[u32], marks: &mut [bool], order: &mut [u32]) 
         tail = visit(other_half(half), marks, order, tail);
         head += 1;
     }
-    if let Err(half) = find_unmarked(marks, 0) {
-        return Err(half);
+    if let Some(half) = find_unmarked(marks, 0) {
+        return Some(half);
     }
-    Ok(())
+    None
 }

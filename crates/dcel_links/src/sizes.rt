@@ -5,22 +5,22 @@ ghost use Rattle.dcel_links.specs.Checks.{Passes};
 ghost use Rattle.dcel_links.specs.Claims.{HasLists, IsFew, claim};
 ghost use Rattle.dcel_links.specs.Faults.{Means, stage};
 
-use crate::Fault;
+use crate::LinksFault;
 
-// So many numbers of 32 bits there are.
+// How many numbers of 32 bits there are.
 const MOST: usize = 1 << 32;
 
-/// Looks for what is wrong with how many there are.
+/// Checks how many there are of each kind.
 ///
 /// A claim that passes has no more faces than edges and two, so that marks on them take no more
 /// memory than its lists.
-pub(crate) fn find_wrong_sizes(
+pub(crate) fn check_sizes(
     next: &[u32],
     origin: &[u32],
     face: &[u32],
     vertices: usize,
     faces: usize,
-) -> Result<(), Fault>
+) -> Result<(), LinksFault>
     ensures lists { OnOk result (HasLists (claim next.now origin.now face.now vertices faces)) }
     ensures few { OnOk result (IsFew (claim next.now origin.now face.now vertices faces)) }
     ensures some_face { OnOk result (0 < faces) }
@@ -29,28 +29,28 @@ pub(crate) fn find_wrong_sizes(
     ensures before { IfErr result (λ fault. Passes (claim next.now origin.now face.now vertices faces) (stage fault)) }
 {
     if next.len() % 2 != 0 {
-        return Err(Fault::Lengths);
+        return Err(LinksFault::Lengths);
     }
     if origin.len() != next.len() {
-        return Err(Fault::Lengths);
+        return Err(LinksFault::Lengths);
     }
     if face.len() != next.len() {
-        return Err(Fault::Lengths);
+        return Err(LinksFault::Lengths);
     }
     if next.len() > MOST {
-        return Err(Fault::TooMany);
+        return Err(LinksFault::TooMany);
     }
     if vertices > MOST {
-        return Err(Fault::TooMany);
+        return Err(LinksFault::TooMany);
     }
     if faces > MOST {
-        return Err(Fault::TooMany);
+        return Err(LinksFault::TooMany);
     }
     if faces == 0 {
-        return Err(Fault::NoFace);
+        return Err(LinksFault::NoFace);
     }
     if faces > next.len() / 2 + 2 {
-        return Err(Fault::MoreFaces);
+        return Err(LinksFault::MoreFaces);
     }
     Ok(())
 }

@@ -6,12 +6,12 @@ ghost use Rattle.dcel_links.specs.Claims.{HasFewFaces, IsFew, claim};
 ghost use Rattle.dcel_links.specs.Faults.{Means, stage};
 ghost use Rattle.dcel_links.specs.Marks.{IsBlank, MarksLabels};
 
-use crate::Fault;
-use crate::links::{find_out_of_range, find_two_leading, find_unfit, write_turns};
+use crate::LinksFault;
+use crate::links::{check_fit, check_ranges, find_two_leading, write_turns};
 use crate::marks::{count_marks, find_unmarked};
 use crate::rounds::find_parts;
 use crate::search::find_cut_off;
-use crate::sizes::{find_wrong_sizes, genus, is_sphere};
+use crate::sizes::{check_sizes, genus, is_sphere};
 
 /// Checks the links one by one, and makes the list of links backwards.
 pub(crate) fn check_each(
@@ -21,7 +21,7 @@ pub(crate) fn check_each(
     vertices: usize,
     faces: usize,
     prev: &mut [u32],
-) -> Result<(), Fault>
+) -> Result<(), LinksFault>
     requires { length prev.old ≡ length next.now }
     ensures links { OnOk result (PassesLinks (claim next.now origin.now face.now vertices faces) prev.new) }
     ensures few { OnOk result (IsFew (claim next.now origin.now face.now vertices faces)) }
@@ -30,12 +30,12 @@ pub(crate) fn check_each(
     ensures fault { IfErr result (Means (claim next.now origin.now face.now vertices faces)) }
     ensures before { IfErr result (λ fault. Passes (claim next.now origin.now face.now vertices faces) (stage fault)) }
 {
-    find_wrong_sizes(next, origin, face, vertices, faces)?;
-    find_out_of_range(next, origin, face, vertices, faces)?;
-    if let Err(half) = find_two_leading(next, prev) {
-        return Err(Fault::TwoLeadTo(half));
+    check_sizes(next, origin, face, vertices, faces)?;
+    check_ranges(next, origin, face, vertices, faces)?;
+    if let Some(half) = find_two_leading(next, prev) {
+        return Err(LinksFault::TwoLeadTo(half));
     }
-    find_unfit(next, origin, face, vertices, faces)
+    check_fit(next, origin, face, vertices, faces)
 }
 
 /// Checks faces, vertices and the surface, in this order, where each link fits.
@@ -49,7 +49,7 @@ pub(crate) fn check_all(
     reached: &mut [bool],
     used_vertices: &mut [bool],
     used_faces: &mut [bool],
-) -> Result<(), Fault>
+) -> Result<(), LinksFault>
     requires links { HasLinks (claim next.now origin.now face.now (length used_vertices.old) (length used_faces.old)) }
     requires few { IsFew (claim next.now origin.now face.now (length used_vertices.old) (length used_faces.old)) }
     requires passed { Passes (claim next.now origin.now face.now (length used_vertices.old) (length used_faces.old)) 7 }
@@ -97,7 +97,7 @@ fn check_rounds(
     turned: &mut [bool],
     used_vertices: &mut [bool],
     used_faces: &mut [bool],
-) -> Result<(), Fault>
+) -> Result<(), LinksFault>
     requires links { HasLinks (claim next.now origin.now face.now (length used_vertices.old) (length used_faces.old)) }
     requires passed { Passes (claim next.now origin.now face.now (length used_vertices.old) (length used_faces.old)) 7 }
     requires turns_length { length turns.old ≡ length next.now }
@@ -114,12 +114,12 @@ fn check_rounds(
     ensures fault { IfErr result (Means (claim next.now origin.now face.now (length used_vertices.old) (length used_faces.old))) }
     ensures before { IfErr result (λ fault. Passes (claim next.now origin.now face.now (length used_vertices.old) (length used_faces.old)) (stage fault)) }
 {
-    if let Err(face) = find_parts(next, face, seen, used_faces) {
-        return Err(Fault::FaceInParts(face));
+    if let Some(face) = find_parts(next, face, seen, used_faces) {
+        return Err(LinksFault::FaceInParts(face));
     }
     write_turns(next, turns);
-    if let Err(vertex) = find_parts(turns, origin, turned, used_vertices) {
-        return Err(Fault::VertexInParts(vertex));
+    if let Some(vertex) = find_parts(turns, origin, turned, used_vertices) {
+        return Err(LinksFault::VertexInParts(vertex));
     }
     Ok(())
 }
@@ -133,7 +133,7 @@ fn check_surface(
     used_faces: &[bool],
     reached: &mut [bool],
     queue: &mut [u32],
-) -> Result<(), Fault>
+) -> Result<(), LinksFault>
     requires rounds { HasRounds (claim next.now origin.now face.now (length used_vertices.now) (length used_faces.now)) }
     requires few { IsFew (claim next.now origin.now face.now (length used_vertices.now) (length used_faces.now)) }
     requires passed { Passes (claim next.now origin.now face.now (length used_vertices.now) (length used_faces.now)) 9 }
@@ -149,21 +149,21 @@ fn check_surface(
     ensures before { IfErr result (λ fault. Passes (claim next.now origin.now face.now (length used_vertices.now) (length used_faces.now)) (stage fault)) }
 {
     if next.is_empty() {
-        if let Err(face) = find_unmarked(used_faces, 1) {
-            return Err(Fault::UnusedFace(face));
+        if let Some(face) = find_unmarked(used_faces, 1) {
+            return Err(LinksFault::UnusedFace(face));
         }
         return Ok(());
     }
-    if let Err(face) = find_unmarked(used_faces, 0) {
-        return Err(Fault::UnusedFace(face));
+    if let Some(face) = find_unmarked(used_faces, 0) {
+        return Err(LinksFault::UnusedFace(face));
     }
-    if let Err(half) = find_cut_off(next, reached, queue) {
-        return Err(Fault::NotConnected(half));
+    if let Some(half) = find_cut_off(next, reached, queue) {
+        return Err(LinksFault::NotConnected(half));
     }
     let vertices = count_marks(used_vertices);
     let faces = count_marks(used_faces);
     if !is_sphere(vertices, next.len(), faces) {
-        return Err(Fault::NotSphere(genus(vertices, next.len(), faces)));
+        return Err(LinksFault::NotSphere(genus(vertices, next.len(), faces)));
     }
     Ok(())
 }

@@ -5,7 +5,8 @@ use dcel_bench::checks::same;
 use dcel_bench::refusing::{Memory, Refusals, Refusing, Watched};
 use dcel_bench::snapshots::{Snapshot, snapshot_of};
 use spade_dcel::operations::{
-    Anchors, EdgeData, Fault, LinksError, MeshData, RefusedLinks, from_anchored_links, from_links,
+    Anchors, EdgeData, LinksError, LinksFault, MeshData, RefusedLinks, from_anchored_links,
+    from_links,
 };
 use std::alloc::{AllocError, Global};
 use std::test::Fail;
@@ -87,7 +88,7 @@ const ROWS: [Row; 6] = [
         edges: &[[1, 2, 3], [4, 5, 6], [7, 8, 9]],
         faces: &[10, 11],
         requests: 1,
-        refused: Some(LinksError::Links(Fault::LeavesFace(2))),
+        refused: Some(LinksError::Links(LinksFault::LeavesFace(2))),
     },
     // A torus of one hexagon.
     Row {
@@ -99,7 +100,7 @@ const ROWS: [Row; 6] = [
         edges: &[[1, 2, 3], [4, 5, 6], [7, 8, 9]],
         faces: &[10],
         requests: 7,
-        refused: Some(LinksError::Links(Fault::NotSphere(1))),
+        refused: Some(LinksError::Links(LinksFault::NotSphere(1))),
     },
     // Half edge 0 starts at another vertex.
     Row {

@@ -2,7 +2,7 @@
 
 use dcel_bench::checks::same;
 use dcel_links::find_wrong_anchor;
-use spade_dcel::operations::{Fault, LinksError, RefusedLinks};
+use spade_dcel::operations::{LinksError, LinksFault, RefusedLinks};
 use std::alloc::Global;
 use std::test::Fail;
 
@@ -10,7 +10,7 @@ use std::test::Fail;
 #[derive(Clone, Copy, Drop)]
 struct Row {
     anchors: &'static [Option<u32>],
-    wanted: Result<(), usize>,
+    wanted: Option<usize>,
 }
 
 /// The vertices at which six half edges start; there is no vertex 3.
@@ -19,32 +19,32 @@ const ORIGINS: &[u32] = &[0, 1, 1, 2, 2, 0];
 const ROWS: [Row; 7] = [
     Row {
         anchors: &[Some(5), Some(1), Some(3)],
-        wanted: Ok(()),
+        wanted: None,
     },
     Row {
         anchors: &[Some(0), Some(2), Some(4), None],
-        wanted: Ok(()),
+        wanted: None,
     },
     // Half edges that start at a vertex without a place are passed over.
     Row {
         anchors: &[Some(0)],
-        wanted: Ok(()),
+        wanted: None,
     },
     Row {
         anchors: &[Some(0), None, Some(4)],
-        wanted: Err(1),
+        wanted: Some(1),
     },
     Row {
         anchors: &[Some(0), Some(1), Some(5)],
-        wanted: Err(2),
+        wanted: Some(2),
     },
     Row {
         anchors: &[Some(6), Some(1), Some(3)],
-        wanted: Err(0),
+        wanted: Some(0),
     },
     Row {
         anchors: &[Some(0), Some(1), Some(3), Some(4)],
-        wanted: Err(3),
+        wanted: Some(3),
     },
 ];
 
@@ -75,7 +75,7 @@ fn reasons_of_links_are_told(rt: HostRuntime) -> Result<(), Fail> {
             "the anchors and the data differ in the number of vertices or faces",
         ),
         (
-            LinksError::Links(Fault::NotSphere(1)),
+            LinksError::Links(LinksFault::NotSphere(1)),
             "no mesh has these links: the surface has genus 1, so it is not a sphere",
         ),
         (
@@ -100,7 +100,7 @@ fn reasons_of_links_are_told(rt: HostRuntime) -> Result<(), Fail> {
 #[test]
 fn refused_links_tell_the_reason(rt: HostRuntime) -> Result<(), Fail> {
     let refused = RefusedLinks {
-        reason: LinksError::Links(Fault::UnusedFace(0)),
+        reason: LinksError::Links(LinksFault::UnusedFace(0)),
         back: (),
     };
     let text = format!(in rt.alloc(); "{refused}, {refused:?}")?;

@@ -7,7 +7,7 @@ use dcel_exchange::{
     FacesError, LinkLists, RefusedFaces, from_faces, link_lists, links, with_data,
 };
 use spade_dcel::dcel::{Dcel, RemovalState};
-use spade_dcel::operations::Fault;
+use spade_dcel::operations::LinksFault;
 use std::alloc::Global;
 use std::test::Fail;
 
@@ -111,13 +111,13 @@ const SURFACES: [Refused; 6] = [
     (
         &[&[0, 1, 2], &[0, 2, 1]],
         3,
-        FacesError::Links(Fault::UnusedFace(0)),
+        FacesError::Links(LinksFault::UnusedFace(0)),
     ),
     // Two components.
     (
         &[&[0, 1, 2], &[3, 4, 5]],
         6,
-        FacesError::Links(Fault::FaceInParts(0)),
+        FacesError::Links(LinksFault::FaceInParts(0)),
     ),
     // Moebius's strip: three quadrangles round, the last of which is turned over.
     (
@@ -129,7 +129,7 @@ const SURFACES: [Refused; 6] = [
     (
         &[&[0, 1, 4, 3], &[1, 2, 5, 4], &[2, 0, 3, 5]],
         6,
-        FacesError::Links(Fault::FaceInParts(0)),
+        FacesError::Links(LinksFault::FaceInParts(0)),
     ),
     // Two surfaces at one vertex.
     (
@@ -143,7 +143,7 @@ const SURFACES: [Refused; 6] = [
             &[5, 4, 6],
         ],
         7,
-        FacesError::Links(Fault::VertexInParts(0)),
+        FacesError::Links(LinksFault::VertexInParts(0)),
     ),
     // A torus: seven vertices, of which each two are neighbors. One of the fourteen triangles is
     // left out.
@@ -164,7 +164,7 @@ const SURFACES: [Refused; 6] = [
             &[5, 1, 0],
         ],
         7,
-        FacesError::Links(Fault::NotSphere(1)),
+        FacesError::Links(LinksFault::NotSphere(1)),
     ),
 ];
 
@@ -244,15 +244,15 @@ fn reasons_are_told(rt: HostRuntime) -> Result<(), Fail> {
             "faces 0 and 2 of the list both have the side from 4 to 7",
         ),
         (
-            FacesError::Links(Fault::NotSphere(2)),
+            FacesError::Links(LinksFault::NotSphere(2)),
             "no mesh has these faces: the surface has genus 2, so it is not a sphere",
         ),
         (
-            FacesError::Links(Fault::UnusedFace(0)),
+            FacesError::Links(LinksFault::UnusedFace(0)),
             "no side is left for the outer face",
         ),
         (
-            FacesError::Links(Fault::FaceInParts(0)),
+            FacesError::Links(LinksFault::FaceInParts(0)),
             "the faces leave more than one border",
         ),
     ];

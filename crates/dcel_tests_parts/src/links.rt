@@ -1,7 +1,7 @@
 //! Links that are given as lists: small meshes, and what is wrong with lists that are none.
 
 use dcel_bench::checks::same;
-use dcel_links::{Fault, check_links};
+use dcel_links::{LinksFault, check_links};
 use std::alloc::Global;
 use std::test::Fail;
 
@@ -13,7 +13,7 @@ struct Row {
     face: &'static [u32],
     vertices: usize,
     faces: usize,
-    wanted: Result<&'static [u32], Fault>,
+    wanted: Result<&'static [u32], LinksFault>,
 }
 
 const TRIANGLE: &[u32] = &[2, 5, 4, 1, 0, 3];
@@ -51,7 +51,7 @@ fn triangle(
     next: &'static [u32],
     origin: &'static [u32],
     face: &'static [u32],
-    wanted: Result<&'static [u32], Fault>,
+    wanted: Result<&'static [u32], LinksFault>,
 ) -> Row {
     Row {
         next,
@@ -99,33 +99,43 @@ fn links_that_do_not_fit_are_told(rt: HostRuntime) -> Result<(), Fail> {
         &[2, 5, 4, 1, 0, 1],
         CORNERS,
         SIDES,
-        Err(Fault::TwoLeadTo(1)),
+        Err(LinksFault::TwoLeadTo(1)),
     );
     let no_next = triangle(
         &[2, 5, 4, 1, 0, 6],
         CORNERS,
         SIDES,
-        Err(Fault::NextOutOfRange(5)),
+        Err(LinksFault::NextOutOfRange(5)),
     );
     let no_origin = triangle(
         TRIANGLE,
         &[0, 1, 1, 2, 2, 3],
         SIDES,
-        Err(Fault::OriginOutOfRange(5)),
+        Err(LinksFault::OriginOutOfRange(5)),
     );
     let no_face = triangle(
         TRIANGLE,
         CORNERS,
         &[0, 1, 0, 1, 2, 1],
-        Err(Fault::FaceOutOfRange(4)),
+        Err(LinksFault::FaceOutOfRange(4)),
     );
-    let loops = triangle(TRIANGLE, &[0, 0, 0, 0, 0, 0], SIDES, Err(Fault::OneEnd(0)));
-    let apart = triangle(TRIANGLE, &[0, 2, 1, 2, 2, 0], SIDES, Err(Fault::Apart(0)));
+    let loops = triangle(
+        TRIANGLE,
+        &[0, 0, 0, 0, 0, 0],
+        SIDES,
+        Err(LinksFault::OneEnd(0)),
+    );
+    let apart = triangle(
+        TRIANGLE,
+        &[0, 2, 1, 2, 2, 0],
+        SIDES,
+        Err(LinksFault::Apart(0)),
+    );
     let leaves = triangle(
         TRIANGLE,
         CORNERS,
         &[0, 1, 0, 1, 1, 1],
-        Err(Fault::LeavesFace(2)),
+        Err(LinksFault::LeavesFace(2)),
     );
     check(
         rt.alloc(),
@@ -149,18 +159,18 @@ fn numbers_that_do_not_fit_are_told(rt: HostRuntime) -> Result<(), Fail> {
         face: &[0],
         vertices: 1,
         faces: 1,
-        wanted: Err(Fault::Lengths),
+        wanted: Err(LinksFault::Lengths),
     };
-    let short = triangle(TRIANGLE, &[0, 1, 1, 2], SIDES, Err(Fault::Lengths));
+    let short = triangle(TRIANGLE, &[0, 1, 1, 2], SIDES, Err(LinksFault::Lengths));
     check(
         rt.alloc(),
         &[
             odd,
             short,
-            bare(1 << 33, 1, Fault::TooMany),
-            bare(0, 0, Fault::NoFace),
-            bare(0, 3, Fault::MoreFaces),
-            bare(0, 2, Fault::UnusedFace(1)),
+            bare(1 << 33, 1, LinksFault::TooMany),
+            bare(0, 0, LinksFault::NoFace),
+            bare(0, 3, LinksFault::MoreFaces),
+            bare(0, 2, LinksFault::UnusedFace(1)),
         ],
     )
 }
@@ -181,7 +191,7 @@ fn surfaces_are_told(rt: HostRuntime) -> Result<(), Fail> {
         face: &[0, 2, 1, 3, 2, 0, 3, 1, 1, 0, 0, 1, 3, 2, 2, 3],
         vertices: 4,
         faces: 4,
-        wanted: Err(Fault::NotSphere(1)),
+        wanted: Err(LinksFault::NotSphere(1)),
     };
     let unused = Row {
         next: TRIANGLE,
@@ -189,7 +199,7 @@ fn surfaces_are_told(rt: HostRuntime) -> Result<(), Fail> {
         face: SIDES,
         vertices: 3,
         faces: 3,
-        wanted: Err(Fault::UnusedFace(2)),
+        wanted: Err(LinksFault::UnusedFace(2)),
     };
     check(
         rt.alloc(),
@@ -201,21 +211,21 @@ fn surfaces_are_told(rt: HostRuntime) -> Result<(), Fail> {
                 &[0, 1, 0, 1, 0, 1, 2, 3, 2, 3, 2, 3],
                 6,
                 4,
-                Fault::NotConnected(6),
+                LinksFault::NotConnected(6),
             ),
             two(
                 &[0, 1, 1, 2, 2, 0, 3, 4, 4, 5, 5, 3],
                 &[0, 1, 0, 1, 0, 1, 0, 2, 0, 2, 0, 2],
                 6,
                 3,
-                Fault::FaceInParts(0),
+                LinksFault::FaceInParts(0),
             ),
             two(
                 &[0, 1, 1, 2, 2, 0, 0, 3, 3, 4, 4, 0],
                 &[0, 1, 0, 1, 0, 1, 2, 3, 2, 3, 2, 3],
                 5,
                 4,
-                Fault::VertexInParts(0),
+                LinksFault::VertexInParts(0),
             ),
         ],
     )
@@ -223,7 +233,7 @@ fn surfaces_are_told(rt: HostRuntime) -> Result<(), Fail> {
 
 #[test]
 fn faults_are_sentences(rt: HostRuntime) -> Result<(), Fail> {
-    let text = format!(in rt.alloc(); "{}", Fault::TwoLeadTo(7))?;
+    let text = format!(in rt.alloc(); "{}", LinksFault::TwoLeadTo(7))?;
     let wanted = "two half edges lead to half edge 7";
     same(text.as_str(), wanted, "the text of a fault")
 }

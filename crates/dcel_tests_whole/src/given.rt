@@ -8,7 +8,8 @@ use dcel_bench::meshes::{
 use dcel_bench::require;
 use spade_dcel::handles::FixedDirectedEdgeHandle;
 use spade_dcel::operations::{
-    Anchors, EdgeData, Fault, LinksError, MeshData, RefusedLinks, from_anchored_links, from_links,
+    Anchors, EdgeData, LinksError, LinksFault, MeshData, RefusedLinks, from_anchored_links,
+    from_links,
 };
 use std::alloc::{AllocError, Global};
 use std::test::Fail;
@@ -43,14 +44,14 @@ const REFUSED: [Row; 5] = [
         origin: CORNERS,
         face: SIDES,
         counts: [2, 3, 2],
-        reason: LinksError::Links(Fault::OriginOutOfRange(3)),
+        reason: LinksError::Links(LinksFault::OriginOutOfRange(3)),
     },
     Row {
         next: TRIANGLE,
         origin: CORNERS,
         face: SIDES,
         counts: [3, 3, 3],
-        reason: LinksError::Links(Fault::UnusedFace(2)),
+        reason: LinksError::Links(LinksFault::UnusedFace(2)),
     },
     // Face 0 lies on one side of an edge only, but its half edge comes back to itself.
     Row {
@@ -58,7 +59,7 @@ const REFUSED: [Row; 5] = [
         origin: &[0, 1],
         face: &[0, 1],
         counts: [2, 1, 2],
-        reason: LinksError::Links(Fault::Apart(0)),
+        reason: LinksError::Links(LinksFault::Apart(0)),
     },
     // A torus of four squares.
     Row {
@@ -66,7 +67,7 @@ const REFUSED: [Row; 5] = [
         origin: &[0, 1, 1, 0, 2, 3, 3, 2, 0, 2, 1, 3, 2, 0, 3, 1],
         face: &[0, 2, 1, 3, 2, 0, 3, 1, 1, 0, 0, 1, 3, 2, 2, 3],
         counts: [4, 8, 4],
-        reason: LinksError::Links(Fault::NotSphere(1)),
+        reason: LinksError::Links(LinksFault::NotSphere(1)),
     },
 ];
 
@@ -111,7 +112,7 @@ const ANCHORED: [Anchored; 9] = [
         vertices: &[Some(0), None, Some(3)],
         faces: &[Some(2), Some(1), None],
         counts: [3, 3, 3],
-        reason: Some(LinksError::Links(Fault::UnusedFace(2))),
+        reason: Some(LinksError::Links(LinksFault::UnusedFace(2))),
     },
     // Half edge 0 starts at another vertex.
     Anchored {

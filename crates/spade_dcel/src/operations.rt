@@ -34,7 +34,8 @@ pub use degenerate::remove_when_degenerate;
 pub use fill::{isolate_vertex_and_fill_hole, remesh_edge_ring};
 pub use flip::flip_cw;
 pub use given::{
-    Anchors, EdgeData, Fault, LinksError, MeshData, RefusedLinks, from_anchored_links, from_links,
+    Anchors, EdgeData, LinksError, LinksFault, MeshData, RefusedLinks, from_anchored_links,
+    from_links,
 };
 pub use line::extend_line;
 pub use outside::{create_new_face_adjacent_to_edge, create_single_face_between_edge_and_next};

@@ -11,7 +11,7 @@ ghost use Rattle.spade_dcel.specs.Linked.{Refuses, RefusesAnchored, RefusesLinks
 use crate::dcel::Dcel;
 use crate::operations::create::with_room;
 use dcel_edits::given::{put_anchored_mesh, put_mesh};
-pub use dcel_links::Fault;
+pub use dcel_links::LinksFault;
 use dcel_links::{check_links, find_wrong_anchor};
 pub use dcel_store::EdgeData;
 use std::alloc::{Allocator, Global};
@@ -51,7 +51,7 @@ pub enum LinksError {
     Anchors,
 
     /// No mesh has these links, and this is wrong with them, and nothing of an earlier stage.
-    Links(Fault),
+    Links(LinksFault),
 
     /// The anchor of this vertex is no half edge that starts there, or is missing though one does.
     VertexAnchor(usize),
@@ -143,7 +143,7 @@ impl<T: Drop> From<RefusedLinks<T>> for LinksError {
 ///
 /// It takes any lists. Data of more or fewer edges than the lists have are refused as
 /// [`LinksError::Edges`]. Otherwise, if some mesh has these links, this is it, with that mesh's
-/// words; if none has, the reason is [`LinksError::Links`] with a [`Fault`] that comes first. A
+/// words; if none has, the reason is [`LinksError::Links`] with a [`LinksFault`] that comes first. A
 /// refusal gives the data back, also if memory runs out. It goes over the lists a fixed number of
 /// times.
 pub fn from_links<V: Drop, DE: Drop, UE: Drop, F: Drop, A: Allocator + Clone>(
@@ -308,10 +308,10 @@ fn check_anchored<V, DE, UE, F, A: Allocator + Clone>(
         return Err(LinksError::Anchors);
     }
     let prev = find_prev(alloc, next, origin, face, given)?;
-    if let Err(vertex) = find_wrong_anchor(origin, anchors.vertices) {
+    if let Some(vertex) = find_wrong_anchor(origin, anchors.vertices) {
         return Err(LinksError::VertexAnchor(vertex));
     }
-    if let Err(face) = find_wrong_anchor(face, anchors.faces) {
+    if let Some(face) = find_wrong_anchor(face, anchors.faces) {
         return Err(LinksError::FaceAnchor(face));
     }
     Ok(prev)

@@ -27,10 +27,10 @@ loop-head-preserved c =
     c.loop-head.tail one.result two.result c.loop-head.invariant c.loop-head-test.true one.ensures
     (subst (λ k. Visits k one.new.marks one.new.order one.result two.new.marks two.new.order two.result) c.other_half.ensures two.ensures)
 
-pub returns-in-Err-clause-cut_off : goal.returns-in-Err-clause-cut_off
-returns-in-Err-clause-cut_off c =
-    let (start, below, unmarked) = c.in-Err.ensures.one in (
+pub returns-in-Some-clause-cut_off : goal.returns-in-Some-clause-cut_off
+returns-in-Some-clause-cut_off c =
+    let (start, below, unmarked) = c.in-Some.ensures.one in (
       omega arith,
       λ way. unmarked (search_ends c.args.next.now c.loop-head.marks c.loop-head.order c.loop-head.head c.loop-head.tail c.loop-head.invariant
-          c.loop-head-test.false c.in-Err.half way),
+          c.loop-head-test.false c.in-Some.half way),
     )

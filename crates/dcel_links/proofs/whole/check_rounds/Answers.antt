@@ -17,11 +17,11 @@ find_parts-requires-2-clause-along c =
     turns_along claimed c.requires.links.prev c.requires.links.links c.write_turns.new.turns (c.write_turns.auto.turns ∙ c.requires.turns_length)
     c.write_turns.ensures
 
-pub returns-in-Err-find_parts-clause-fault : goal.returns-in-Err-find_parts-clause-fault
-returns-in-Err-find_parts-clause-fault c =
+pub returns-in-Some-find_parts-clause-fault : goal.returns-in-Some-find_parts-clause-fault
+returns-in-Some-find_parts-clause-fault c =
     let claimed : Claim = claim c.args.next.now c.args.origin.now c.args.face.now (length c.args.used_vertices.now) (length c.args.used_faces.now) in
     turns_parts claimed c.requires.links.prev c.requires.links.links c.write_turns.new.turns (c.write_turns.auto.turns ∙ c.requires.turns_length)
-    c.write_turns.ensures c.in-Err-find_parts.vertex c.in-Err-find_parts.ensures.parts
+    c.write_turns.ensures c.in-Some-find_parts.vertex c.in-Some-find_parts.ensures.parts
 
 pub returns-clause-rounds : goal.returns-clause-rounds
 returns-clause-rounds c =
@@ -33,8 +33,8 @@ returns-clause-rounds c =
           c.write_turns.ensures c.in_default-find_parts.ensures.whole;
     }
 
-pub returns-in-Err-find_parts-clause-before : goal.returns-in-Err-find_parts-clause-before
-returns-in-Err-find_parts-clause-before c =
+pub returns-in-Some-find_parts-clause-before : goal.returns-in-Some-find_parts-clause-before
+returns-in-Some-find_parts-clause-before c =
     let claimed : Claim = claim c.args.next.now c.args.origin.now c.args.face.now (length c.args.used_vertices.now) (length c.args.used_faces.now) in
     passes_more claimed 7 c.requires.passed c.in_default.ensures.whole
 

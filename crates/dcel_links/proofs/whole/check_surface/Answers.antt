@@ -37,8 +37,8 @@ returns-clause-euler c =
     euler_counted claimed c.requires.rounds c.args.used_vertices.now c.args.used_faces.now c.requires.vertices c.requires.faces
     (rw (← vertices, ← faces) (c.is_sphere.ensures.0 c.if-not-is_sphere.false))
 
-pub returns-in-Err-find_cut_off-clause-before : goal.returns-in-Err-find_cut_off-clause-before
-returns-in-Err-find_cut_off-clause-before c =
+pub returns-in-Some-find_cut_off-clause-before : goal.returns-in-Some-find_cut_off-clause-before
+returns-in-Some-find_cut_off-clause-before c =
     let claimed : Claim = claim c.args.next.now c.args.origin.now c.args.face.now (length c.args.used_vertices.now) (length c.args.used_faces.now) in
     passes_more claimed 9 c.requires.passed
     (uses_marked claimed c.requires.rounds.each.links.lists.sides c.args.used_faces.now refl c.requires.faces 0 c.in_default-find_unmarked.ensures.all

@@ -3,7 +3,7 @@ use Rattle.dcel_fixed.proofs.Halves.{rev_within}
 use Rattle.dcel_links.specs.Checks.{Fit}
 use Rattle.dcel_links.specs.Claims.{Claim, claim}
 use Rattle.dcel_links.proofs.Stages.{passes_more}
-use Rattle.dcel_links.proofs.links.find_unfit.Goals as goal
+use Rattle.dcel_links.proofs.links.check_fit.Goals as goal
 
 pub offset_bounds-origin-other_half : goal.offset_bounds-origin-other_half
 offset_bounds-origin-other_half c =

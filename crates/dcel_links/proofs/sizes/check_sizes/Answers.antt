@@ -1,7 +1,7 @@
 use Rattle.std.proofs.Common.{arith, rules}
 use Rattle.dcel_links.specs.Claims.{Claim, HasFewFaces, HasLists, IsFew, claim}
 use Rattle.dcel_links.proofs.Stages.{passes_face, passes_few, passes_lists, passes_sizes}
-use Rattle.dcel_links.proofs.sizes.find_wrong_sizes.Goals as goal
+use Rattle.dcel_links.proofs.sizes.check_sizes.Goals as goal
 
 pub returns-then-next-gt-MOST-clause-before : goal.returns-then-next-gt-MOST-clause-before
 returns-then-next-gt-MOST-clause-before c =

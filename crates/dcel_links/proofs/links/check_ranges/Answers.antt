@@ -2,7 +2,7 @@ use Rattle.std.proofs.Common.{rules}
 use Rattle.dcel_links.specs.Checks.{InRange}
 use Rattle.dcel_links.specs.Claims.{Claim, claim}
 use Rattle.dcel_links.proofs.Stages.{passes_more}
-use Rattle.dcel_links.proofs.links.find_out_of_range.Goals as goal
+use Rattle.dcel_links.proofs.links.check_ranges.Goals as goal
 
 pub returns-clause-passed : goal.returns-clause-passed
 returns-clause-passed c =

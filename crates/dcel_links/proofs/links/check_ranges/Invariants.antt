@@ -1,5 +1,5 @@
 use Rattle.std.proofs.Common.{ℕ, ◌<◌, length, slice_index}
-use Rattle.dcel_links.proofs.links.find_out_of_range.Given as goal
+use Rattle.dcel_links.proofs.links.check_ranges.Given as goal
 
 abbrev pub invariant-loop-half : goal.invariant-loop-half
 invariant-loop-half l = record {

@@ -1,6 +1,6 @@
 use Rattle.std.proofs.Common.{◌≡◌, ◌≢◌, ℕ, ◌<◌, slice_index}
 use Rattle.dcel_fixed.specs.HalfEdges.{rev}
-use Rattle.dcel_links.proofs.links.find_unfit.Given as goal
+use Rattle.dcel_links.proofs.links.check_fit.Given as goal
 
 abbrev pub invariant-loop-half : goal.invariant-loop-half
 invariant-loop-half l = record {
