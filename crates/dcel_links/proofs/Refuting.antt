@@ -105,6 +105,9 @@ module _ (c : Claim) (prev : List ℕ) (mesh : IsMeshOf c prev) where
   refutes (NotConnected h) m = no_cut_off h m
   refutes (NotSphere genus) m = no_sphere m.0
 
+pub no_mesh : (c : Claim) (fault : LinksFault) → Means c fault → (prev : List ℕ) → ¬ IsMeshOf c prev
+no_mesh c fault means prev mesh = refutes c prev mesh fault means
+
 -- and there is one list backwards at most
 pub only_prev : (c : Claim) (prev other : List ℕ) → IsMeshOf c prev → IsMeshOf c other → other ≡ prev
 only_prev c prev other mesh same =

@@ -1,10 +1,11 @@
 -- What each check of a claim finds, where it finds no fault.
-use Rattle.std.specs.Prelude.{◌≡◌, ◌≢◌, ◌⊎◌, ℕ, zero, suc, ◌+◌, ◌/◌, ◌<◌, List, [], length, slice_index}
+use Rattle.std.specs.Prelude.{◌≡◌, ◌≢◌, ◌⊎◌, ℕ, ◌+◌, ◌/◌, ◌<◌, List, [], length, slice_index}
 use Rattle.dcel_fixed.specs.HalfEdges.{rev}
 use Rattle.dcel_maps.specs.Maps.{By, NextOrRev, Reaches, count, starts_edge}
 use Rattle.dcel_maps.specs.theory.Sound.{has_word}
 use Rattle.dcel_links.specs.Claims.{Claim, HasFewFaces, HasLists, IsFew, claimed_map, halves}
 use Rattle.dcel_links.specs.Faults.{TwoLead, turned}
+use Rattle.dcel_links.specs.Stages.{Stage, place, Connection, Euler, FaceCount, FaceRounds, Fitting, Leading, Lengths, OuterFace, Ranges, Sizes, UsedFaces, VertexRounds}
 
 -- each number of the list is below the bound
 abbrev pub AreBelow : ℕ → List ℕ → Type 0
@@ -74,17 +75,21 @@ pub record PassesWhole (c : Claim) : Type 0 where
   pub one : IsOne c
   pub euler : HasEuler c
 
--- at 0 the first, and then the rest
-abbrev pub Then : Type 0 → (ℕ → Type 0) → ℕ → Type 0
-Then first rest zero = first
-Then first rest (suc n) = rest n
-
 -- what the check of each stage finds where it finds no fault
-abbrev pub Finds : Claim → ℕ → Type 0
-Finds c = Then (HasLists c) (Then (IsFew c) (Then (0 < c.faces) (Then (HasFewFaces c) (Then (InRange c)
-    (Then ((h : ℕ) → ¬ TwoLead c.next h) (Then (Fit c) (Then (HasWholeFaces c) (Then (HasWholeVertices c) (Then (UsesFaces c)
-    (Then (IsOne c) (λ n. HasEuler c)))))))))))
+abbrev pub Finds : Claim → Stage → Type 0
+Finds c Lengths = HasLists c
+Finds c Sizes = IsFew c
+Finds c OuterFace = 0 < c.faces
+Finds c FaceCount = HasFewFaces c
+Finds c Ranges = InRange c
+Finds c Leading = (h : ℕ) → ¬ TwoLead c.next h
+Finds c Fitting = Fit c
+Finds c FaceRounds = HasWholeFaces c
+Finds c VertexRounds = HasWholeVertices c
+Finds c UsedFaces = UsesFaces c
+Finds c Connection = IsOne c
+Finds c Euler = HasEuler c
 
--- the checks of the stages before k have found no fault
-pub record Passes (c : Claim) (k : ℕ) : Type 0 where
-  pub found : (n : ℕ) → n < k → Finds c n
+-- the claim comes to a stage: the checks before it have found no fault
+pub record ComesTo (c : Claim) (s : Stage) : Type 0 where
+  pub found : (before : Stage) → place before < place s → Finds c before

@@ -4,6 +4,7 @@ use Rattle.std.specs.Prelude.{◌≡◌, ℕ, ◌+◌, ◌/◌, ◌%◌, ◌<◌
 use Rattle.dcel_maps.specs.Maps.{Map}
 use Rattle.dcel_maps.specs.Removals.{Closed, gives_up_edge, is_live}
 use Rattle.dcel_maps.specs.theory.Sound.{Sound, Sphere, has_word}
+use Rattle.dcel_links.specs.declared.lists.Links.{Links}
 
 -- how many vertices and faces there are, and of each half edge the next one round its face, the vertex it starts at, and its face
 pub record Claim : Type 0 where
@@ -15,6 +16,10 @@ pub record Claim : Type 0 where
 
 abbrev pub claim : List ℕ → List ℕ → List ℕ → ℕ → ℕ → Claim
 claim next origin face vertices faces = record { vertices = vertices; faces = faces; next = next; origin = origin; face = face }
+
+-- what lists claim of so many vertices and faces
+abbrev pub claim_of : Links → ℕ → ℕ → Claim
+claim_of links vertices faces = claim links.next.now links.origin.now links.face.now vertices faces
 
 -- how many half edges there are
 abbrev pub halves : Claim → ℕ

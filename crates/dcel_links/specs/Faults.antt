@@ -4,6 +4,8 @@ use Rattle.dcel_fixed.specs.HalfEdges.{rev}
 use Rattle.dcel_maps.specs.Maps.{By, NextOrRev, Reaches, count, starts_edge}
 use Rattle.dcel_maps.specs.theory.Sound.{has_word}
 use Rattle.dcel_links.specs.Claims.{Claim, HasFewFaces, HasLists, IsFew, claimed_map, halves}
+use Rattle.dcel_links.specs.Stages.{Stage, place}
+use Rattle.dcel_links.specs.Stages as stages
 use Rattle.dcel_links.specs.declared.fault.LinksFault.{LinksFault}
 use Rattle.dcel_links.specs.declared.fault.LinksFault.TheVariants.{Lengths, TooMany, NoFace, MoreFaces, NextOutOfRange, OriginOutOfRange, FaceOutOfRange, TwoLeadTo, OneEnd, Apart, LeavesFace, FaceInParts, VertexInParts, UnusedFace, NotConnected, NotSphere}
 
@@ -70,25 +72,25 @@ Means c (NotConnected h) = IsCutOff c h
 Means c (NotSphere genus) = IsNoSphere c × (genus ≡ genus_of c)
 
 -- faults of an earlier stage are looked for first
-abbrev pub stage : LinksFault → ℕ
-stage Lengths = 0
-stage TooMany = 1
-stage NoFace = 2
-stage MoreFaces = 3
-stage (NextOutOfRange h) = 4
-stage (OriginOutOfRange h) = 4
-stage (FaceOutOfRange h) = 4
-stage (TwoLeadTo k) = 5
-stage (OneEnd h) = 6
-stage (Apart h) = 6
-stage (LeavesFace h) = 6
-stage (FaceInParts f) = 7
-stage (VertexInParts v) = 8
-stage (UnusedFace f) = 9
-stage (NotConnected h) = 10
-stage (NotSphere genus) = 11
+abbrev pub stage : LinksFault → Stage
+stage Lengths = stages.Lengths
+stage TooMany = stages.Sizes
+stage NoFace = stages.OuterFace
+stage MoreFaces = stages.FaceCount
+stage (NextOutOfRange h) = stages.Ranges
+stage (OriginOutOfRange h) = stages.Ranges
+stage (FaceOutOfRange h) = stages.Ranges
+stage (TwoLeadTo k) = stages.Leading
+stage (OneEnd h) = stages.Fitting
+stage (Apart h) = stages.Fitting
+stage (LeavesFace h) = stages.Fitting
+stage (FaceInParts f) = stages.FaceRounds
+stage (VertexInParts v) = stages.VertexRounds
+stage (UnusedFace f) = stages.UsedFaces
+stage (NotConnected h) = stages.Connection
+stage (NotSphere genus) = stages.Euler
 
 -- this is wrong, and nothing that is looked for before
 pub record IsFirst (c : Claim) (fault : LinksFault) : Type 0 where
   pub means : Means c fault
-  pub first : (other : LinksFault) → stage other < stage fault → ¬ Means c other
+  pub first : (other : LinksFault) → place (stage other) < place (stage fault) → ¬ Means c other

@@ -1,4 +1,4 @@
-//! Claimed meshes, given as links: lists that say of each half edge what comes after it, where it
+//! Claimed meshes, given as [`Links`]: lists that say of each half edge what comes after it, where it
 //! starts and on which face it lies.
 //!
 //! Files, other languages and tests hold meshes in this way. [`check_links`] decides whether such
@@ -10,12 +10,13 @@
 
 ghost use Rattle.std.specs.Prelude.{◌≡◌, ℕ, IfErr, IfOk, List};
 ghost use Rattle.dcel_fixed.specs.HalfEdges.{rev};
-ghost use Rattle.dcel_links.specs.Claims.{IsMeshOf, claim};
+ghost use Rattle.dcel_links.specs.Claims.{IsMeshOf, claim_of};
 ghost use Rattle.dcel_links.specs.Faults.{IsFirst};
 
 mod anchors;
 mod fault;
 mod links;
+mod lists;
 mod marks;
 mod rounds;
 mod search;
@@ -24,11 +25,11 @@ mod whole;
 
 pub use anchors::find_wrong_anchor;
 pub use fault::LinksFault;
+pub use lists::Links;
 use std::alloc::{AllocError, Allocator};
-use whole::{check_all, check_each};
+use whole::{check_each, check_whole};
 
-/// Checks a claimed mesh of this many vertices and faces, whose lists have an item for each half
-/// edge: the half edge after it, the vertex that it starts at and the face that it lies on.
+/// Checks whether links are those of a mesh of this many vertices and faces.
 ///
 /// For a mesh it returns the half edge before each one, the only list that fits; otherwise a
 /// [`LinksFault`], and nothing is wrong that is looked for before it. It takes any lists and numbers.
@@ -37,45 +38,27 @@ use whole::{check_all, check_each};
 /// bytes, and for each vertex one, once the links have passed one by one; claims of more faces than
 /// the lists can have are refused before. If memory runs out it returns `AllocError`, and says
 /// nothing.
+#[tactic(auto, using(crate::proofs::Stages::first_fault))]
 pub fn check_links<A: Allocator + Clone>(
     alloc: &A,
-    next: &[u32],
-    origin: &[u32],
-    face: &[u32],
+    links: Links<'_>,
     vertices: usize,
     faces: usize,
 ) -> Result<Result<Vec<u32, A>, LinksFault>, AllocError>
     ensures mesh { IfOk result (λ found. IfOk found (λ prev.
-        IsMeshOf (claim next.now origin.now face.now vertices faces) prev.items)) }
+        IsMeshOf (claim_of links.entry vertices faces) prev.items)) }
     ensures only { IfOk result (λ found. IfOk found (λ prev. (other : List ℕ)
-        → IsMeshOf (claim next.now origin.now face.now vertices faces) other → other ≡ prev.items)) }
+        → IsMeshOf (claim_of links.entry vertices faces) other → other ≡ prev.items)) }
     ensures refused { IfOk result (λ found. IfErr found (λ fault. (prev : List ℕ)
-        → ¬ IsMeshOf (claim next.now origin.now face.now vertices faces) prev)) }
+        → ¬ IsMeshOf (claim_of links.entry vertices faces) prev)) }
     ensures first { IfOk result (λ found. IfErr found (λ fault.
-        IsFirst (claim next.now origin.now face.now vertices faces) fault)) }
+        IsFirst (claim_of links.entry vertices faces) fault)) }
 {
-    let halves = next.len();
-    let mut prev = vec![in alloc.clone()?; 0; halves]?;
-    if let Err(fault) = check_each(next, origin, face, vertices, faces, &mut prev) {
+    let mut prev = vec![in alloc.clone()?; 0; links.next.len()]?;
+    if let Err(fault) = check_each(links, vertices, faces, &mut prev) {
         return Ok(Err(fault));
     }
-    let mut turns = vec![in alloc.clone()?; 0; halves]?;
-    let mut seen = vec![in alloc.clone()?; false; halves]?;
-    let mut turned = vec![in alloc.clone()?; false; halves]?;
-    let mut reached = vec![in alloc.clone()?; false; halves]?;
-    let mut used_vertices = vec![in alloc.clone()?; false; vertices]?;
-    let mut used_faces = vec![in alloc.clone()?; false; faces]?;
-    match check_all(
-        next,
-        origin,
-        face,
-        &mut turns,
-        &mut seen,
-        &mut turned,
-        &mut reached,
-        &mut used_vertices,
-        &mut used_faces,
-    ) {
+    match check_whole(alloc, links, vertices, faces)? {
         Ok(()) => Ok(Ok(prev)),
         Err(fault) => Ok(Err(fault)),
     }

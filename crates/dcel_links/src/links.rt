@@ -1,27 +1,30 @@
 //! Links one by one: their ranges, that no two lead to one half edge, and that they fit each other.
 
-ghost use Rattle.std.specs.Prelude.{◌≡◌, ℕ, ◌<◌, ◌≤◌, ◌%◌, ◌^◌, IfErr, IfNone, IfSome, OnOk, length, slice_index};
-ghost use Rattle.dcel_links.specs.Checks.{AreBelow, Fit, InRange, Passes, Undoes};
-ghost use Rattle.dcel_links.specs.Claims.{HasLists, claim};
-ghost use Rattle.dcel_links.specs.Faults.{Means, TwoLead, stage, turned};
+ghost use Rattle.std.specs.Prelude.{◌≡◌, ◌≤◌, ◌%◌, ◌^◌, IfErr, IfNone, IfOk, IfSome, OnOk, length};
+ghost use Rattle.dcel_links.specs.Checks.{AreBelow, ComesTo, Fit, InRange, Undoes};
+ghost use Rattle.dcel_links.specs.Claims.{HasLists, claim_of};
+ghost use Rattle.dcel_links.specs.Faults.{Means, TwoLead, stage};
+ghost use Rattle.dcel_links.specs.Rounds.{AreTurns};
+ghost use Rattle.dcel_links.specs.Stages.{FaceRounds, Fitting, Leading, Ranges};
 
+use crate::lists::Links;
 use crate::{LinksFault, other_half};
+use std::alloc::{AllocError, Allocator};
 
 /// Checks that each link is a number of its kind.
 pub(crate) fn check_ranges(
-    next: &[u32],
-    origin: &[u32],
-    face: &[u32],
+    links: Links<'_>,
     vertices: usize,
     faces: usize,
 ) -> Result<(), LinksFault>
-    requires lists { HasLists (claim next.now origin.now face.now vertices faces) }
-    requires passed { Passes (claim next.now origin.now face.now vertices faces) 4 }
-    ensures in_range { OnOk result (InRange (claim next.now origin.now face.now vertices faces)) }
-    ensures passed { OnOk result (Passes (claim next.now origin.now face.now vertices faces) 5) }
-    ensures fault { IfErr result (Means (claim next.now origin.now face.now vertices faces)) }
-    ensures before { IfErr result (λ fault. Passes (claim next.now origin.now face.now vertices faces) (stage fault)) }
+    requires lists { HasLists (claim_of links vertices faces) }
+    requires passed { ComesTo (claim_of links vertices faces) Ranges }
+    ensures in_range { OnOk result (InRange (claim_of links.entry vertices faces)) }
+    ensures passed { OnOk result (ComesTo (claim_of links.entry vertices faces) Leading) }
+    ensures fault { IfErr result (Means (claim_of links.entry vertices faces)) }
+    ensures before { IfErr result (λ fault. ComesTo (claim_of links.entry vertices faces) (stage fault)) }
 {
+    let Links { next, origin, face } = links;
     for half in 0..next.len() {
         if next[half] as usize >= next.len() {
             return Err(LinksFault::NextOutOfRange(half));
@@ -57,21 +60,16 @@ pub(crate) fn find_two_leading(next: &[u32], prev: &mut [u32]) -> Option<usize>
 }
 
 /// Checks that each edge has two ends, and that each link fits the one before it.
-pub(crate) fn check_fit(
-    next: &[u32],
-    origin: &[u32],
-    face: &[u32],
-    vertices: usize,
-    faces: usize,
-) -> Result<(), LinksFault>
-    requires lists { HasLists (claim next.now origin.now face.now vertices faces) }
-    requires below { AreBelow (length next.now) next.now }
-    requires passed { Passes (claim next.now origin.now face.now vertices faces) 6 }
-    ensures fit { OnOk result (Fit (claim next.now origin.now face.now vertices faces)) }
-    ensures passed { OnOk result (Passes (claim next.now origin.now face.now vertices faces) 7) }
-    ensures fault { IfErr result (Means (claim next.now origin.now face.now vertices faces)) }
-    ensures before { IfErr result (λ fault. Passes (claim next.now origin.now face.now vertices faces) (stage fault)) }
+pub(crate) fn check_fit(links: Links<'_>, vertices: usize, faces: usize) -> Result<(), LinksFault>
+    requires lists { HasLists (claim_of links vertices faces) }
+    requires below { AreBelow (length links.next.now) links.next.now }
+    requires passed { ComesTo (claim_of links vertices faces) Fitting }
+    ensures fit { OnOk result (Fit (claim_of links.entry vertices faces)) }
+    ensures passed { OnOk result (ComesTo (claim_of links.entry vertices faces) FaceRounds) }
+    ensures fault { IfErr result (Means (claim_of links.entry vertices faces)) }
+    ensures before { IfErr result (λ fault. ComesTo (claim_of links.entry vertices faces) (stage fault)) }
 {
+    let Links { next, origin, face } = links;
     for half in 0..next.len() {
         let after = next[half] as usize;
         let end = origin[other_half(half)];
@@ -88,13 +86,14 @@ pub(crate) fn check_fit(
     Ok(())
 }
 
-/// Writes what comes after the other half of each half edge: a turn about its vertex.
-pub(crate) fn write_turns(next: &[u32], turns: &mut [u32])
-    requires lengths { length turns.old ≡ length next.now }
-    requires even { length next.now % 2 ≡ 0 }
-    ensures { (h : ℕ) → h < length next.now → slice_index turns.new h ≡ turned next.now h }
+/// Lists what comes after the other half of each half edge: a turn about its vertex.
+pub(crate) fn list_turns<A: Allocator>(alloc: A, next: &[u32]) -> Result<Vec<u32, A>, AllocError>
+    requires { length next.now % 2 ≡ 0 }
+    ensures { IfOk result (λ turns. AreTurns next.now turns.items) }
 {
+    let mut turns = Vec::with_capacity(alloc, next.len())?;
     for half in 0..next.len() {
-        turns[half] = next[other_half(half)];
+        turns.push(next[other_half(half)])?;
     }
+    Ok(turns)
 }

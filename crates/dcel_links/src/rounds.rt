@@ -1,9 +1,11 @@
 //! Rounds of steps, each marked whole.
 
-ghost use Rattle.std.specs.Prelude.{◌≡◌, ℕ, ◌<◌, ◌≤◌, ◌^◌, IfNone, IfSome, false, length, slice_index, slice_index_or};
+ghost use Rattle.std.specs.Prelude.{◌≡◌, ℕ, ◌<◌, ◌≤◌, ◌^◌, IfErr, IfNone, IfOk, IfSome, OnOk, false, length, slice_index, slice_index_or};
 ghost use Rattle.dcel_links.specs.Checks.{AreBelow, IsWhole};
 ghost use Rattle.dcel_links.specs.Faults.{InParts};
 ghost use Rattle.dcel_links.specs.Marks.{IsBlank, IsClosed, IsOneToOne, MarksLabels, MarksRound};
+
+use std::alloc::{AllocError, Allocator};
 
 // Marks what steps lead to from a number, until they lead back to it.
 fn mark_round(steps: &[u32], start: usize, seen: &mut [bool])
@@ -23,14 +25,9 @@ fn mark_round(steps: &[u32], start: usize, seen: &mut [bool])
     }
 }
 
-/// Looks for a label whose numbers are no single round of the steps. Where there is none, it marks
-/// the labels that stand.
-pub(crate) fn find_parts(
-    steps: &[u32],
-    labels: &[u32],
-    seen: &mut [bool],
-    used: &mut [bool],
-) -> Option<usize>
+// Looks for a label whose numbers are no single round of the steps. Where there is none, it marks
+// the labels that stand.
+fn find_parts(steps: &[u32], labels: &[u32], seen: &mut [bool], used: &mut [bool]) -> Option<usize>
     requires lengths { length seen.old ≡ length steps.now }
     requires labels_length { length labels.now ≡ length steps.now }
     requires below { AreBelow (length steps.now) steps.now }
@@ -55,4 +52,31 @@ pub(crate) fn find_parts(
         }
     }
     None
+}
+
+/// Marks the labels that stand, all below a count, or returns one whose numbers are no single round
+/// of the steps.
+pub(crate) fn mark_labels<A: Allocator + Clone>(
+    alloc: &A,
+    steps: &[u32],
+    labels: &[u32],
+    count: usize,
+) -> Result<Result<Vec<bool, A>, usize>, AllocError>
+    requires length { length labels.now ≡ length steps.now }
+    requires below { AreBelow (length steps.now) steps.now }
+    requires labels_below { AreBelow count labels.now }
+    requires apart { IsOneToOne steps.now }
+    requires along { (x : ℕ) → x < length steps.now
+        → slice_index labels.now (slice_index steps.now x) ≡ slice_index labels.now x }
+    ensures whole { IfOk result (λ found. OnOk found (IsWhole (length steps.now) (λ x. slice_index steps.now x) (λ x. slice_index labels.now x))) }
+    ensures length { IfOk result (λ found. IfOk found (λ used. length used.items ≡ count)) }
+    ensures used { IfOk result (λ found. IfOk found (λ used. MarksLabels labels.now used.items)) }
+    ensures parts { IfOk result (λ found. IfErr found (InParts (length steps.now) (λ x. slice_index steps.now x) (λ x. slice_index labels.now x))) }
+{
+    let mut seen = vec![in alloc.clone()?; false; steps.len()]?;
+    let mut used = vec![in alloc.clone()?; false; count]?;
+    match find_parts(steps, labels, &mut seen, &mut used) {
+        Some(label) => Ok(Err(label)),
+        None => Ok(Ok(used)),
+    }
 }

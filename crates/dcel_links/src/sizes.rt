@@ -1,11 +1,13 @@
 //! How many there are of each kind, and Euler's formula.
 
 ghost use Rattle.std.specs.Prelude.{◌≡◌, ◌+◌, ◌-◌, ◌/◌, ◌<◌, ◌≤◌, ◌^◌, ◌↔◌, IfErr, IsTrue, OnOk};
-ghost use Rattle.dcel_links.specs.Checks.{Passes};
-ghost use Rattle.dcel_links.specs.Claims.{HasLists, IsFew, claim};
+ghost use Rattle.dcel_links.specs.Checks.{ComesTo};
+ghost use Rattle.dcel_links.specs.Claims.{HasLists, IsFew, claim_of};
 ghost use Rattle.dcel_links.specs.Faults.{Means, stage};
+ghost use Rattle.dcel_links.specs.Stages.{Ranges};
 
 use crate::LinksFault;
+use crate::lists::Links;
 
 // How many numbers of 32 bits there are.
 const MOST: usize = 1 << 32;
@@ -14,20 +16,15 @@ const MOST: usize = 1 << 32;
 ///
 /// A claim that passes has no more faces than edges and two, so that marks on them take no more
 /// memory than its lists.
-pub(crate) fn check_sizes(
-    next: &[u32],
-    origin: &[u32],
-    face: &[u32],
-    vertices: usize,
-    faces: usize,
-) -> Result<(), LinksFault>
-    ensures lists { OnOk result (HasLists (claim next.now origin.now face.now vertices faces)) }
-    ensures few { OnOk result (IsFew (claim next.now origin.now face.now vertices faces)) }
+pub(crate) fn check_sizes(links: Links<'_>, vertices: usize, faces: usize) -> Result<(), LinksFault>
+    ensures lists { OnOk result (HasLists (claim_of links.entry vertices faces)) }
+    ensures few { OnOk result (IsFew (claim_of links.entry vertices faces)) }
     ensures some_face { OnOk result (0 < faces) }
-    ensures passed { OnOk result (Passes (claim next.now origin.now face.now vertices faces) 4) }
-    ensures fault { IfErr result (Means (claim next.now origin.now face.now vertices faces)) }
-    ensures before { IfErr result (λ fault. Passes (claim next.now origin.now face.now vertices faces) (stage fault)) }
+    ensures passed { OnOk result (ComesTo (claim_of links.entry vertices faces) Ranges) }
+    ensures fault { IfErr result (Means (claim_of links.entry vertices faces)) }
+    ensures before { IfErr result (λ fault. ComesTo (claim_of links.entry vertices faces) (stage fault)) }
 {
+    let Links { next, origin, face } = links;
     if next.len() % 2 != 0 {
         return Err(LinksFault::Lengths);
     }

@@ -1,154 +1,137 @@
 //! The checks, in their order.
 
-ghost use Rattle.std.specs.Prelude.{◌≡◌, ℕ, ◌<◌, ◌≤◌, ◌^◌, IfErr, IfOk, OnOk, length};
-ghost use Rattle.dcel_links.specs.Checks.{HasEuler, HasLinks, HasRounds, IsOne, Passes, PassesLinks, PassesWhole, UsesFaces};
-ghost use Rattle.dcel_links.specs.Claims.{HasFewFaces, IsFew, claim};
+ghost use Rattle.std.specs.Prelude.{◌≡◌, ◌<◌, IfErr, IfOk, OnOk, length};
+ghost use Rattle.dcel_links.specs.Checks.{ComesTo, HasEuler, HasLinks, HasRounds, IsOne, PassesLinks, PassesWhole, UsesFaces};
+ghost use Rattle.dcel_links.specs.Claims.{IsFew, claim_of};
 ghost use Rattle.dcel_links.specs.Faults.{Means, stage};
 ghost use Rattle.dcel_links.specs.Marks.{IsBlank, MarksLabels};
+ghost use Rattle.dcel_links.specs.Rounds.{AreMarks};
+ghost use Rattle.dcel_links.specs.Stages.{FaceRounds, UsedFaces};
 
 use crate::LinksFault;
-use crate::links::{check_fit, check_ranges, find_two_leading, write_turns};
+use crate::links::{check_fit, check_ranges, find_two_leading, list_turns};
+use crate::lists::Links;
 use crate::marks::{count_marks, find_unmarked};
-use crate::rounds::find_parts;
+use crate::rounds::mark_labels;
 use crate::search::find_cut_off;
 use crate::sizes::{check_sizes, genus, is_sphere};
+use std::alloc::{AllocError, Allocator};
 
 /// Checks the links one by one, and makes the list of links backwards.
 pub(crate) fn check_each(
-    next: &[u32],
-    origin: &[u32],
-    face: &[u32],
+    links: Links<'_>,
     vertices: usize,
     faces: usize,
     prev: &mut [u32],
 ) -> Result<(), LinksFault>
-    requires { length prev.old ≡ length next.now }
-    ensures links { OnOk result (PassesLinks (claim next.now origin.now face.now vertices faces) prev.new) }
-    ensures few { OnOk result (IsFew (claim next.now origin.now face.now vertices faces)) }
+    requires { length prev.old ≡ length links.next.now }
+    ensures links { OnOk result (PassesLinks (claim_of links.entry vertices faces) prev.new) }
+    ensures few { OnOk result (IsFew (claim_of links.entry vertices faces)) }
     ensures some_face { OnOk result (0 < faces) }
-    ensures passed { OnOk result (Passes (claim next.now origin.now face.now vertices faces) 7) }
-    ensures fault { IfErr result (Means (claim next.now origin.now face.now vertices faces)) }
-    ensures before { IfErr result (λ fault. Passes (claim next.now origin.now face.now vertices faces) (stage fault)) }
+    ensures passed { OnOk result (ComesTo (claim_of links.entry vertices faces) FaceRounds) }
+    ensures fault { IfErr result (Means (claim_of links.entry vertices faces)) }
+    ensures before { IfErr result (λ fault. ComesTo (claim_of links.entry vertices faces) (stage fault)) }
 {
-    check_sizes(next, origin, face, vertices, faces)?;
-    check_ranges(next, origin, face, vertices, faces)?;
-    if let Some(half) = find_two_leading(next, prev) {
+    check_sizes(links, vertices, faces)?;
+    check_ranges(links, vertices, faces)?;
+    if let Some(half) = find_two_leading(links.next, prev) {
         return Err(LinksFault::TwoLeadTo(half));
     }
-    check_fit(next, origin, face, vertices, faces)
+    check_fit(links, vertices, faces)
 }
 
 /// Checks faces, vertices and the surface, in this order, where each link fits.
-pub(crate) fn check_all(
-    next: &[u32],
-    origin: &[u32],
-    face: &[u32],
-    turns: &mut [u32],
-    seen: &mut [bool],
-    turned: &mut [bool],
-    reached: &mut [bool],
-    used_vertices: &mut [bool],
-    used_faces: &mut [bool],
-) -> Result<(), LinksFault>
-    requires links { HasLinks (claim next.now origin.now face.now (length used_vertices.old) (length used_faces.old)) }
-    requires few { IsFew (claim next.now origin.now face.now (length used_vertices.old) (length used_faces.old)) }
-    requires passed { Passes (claim next.now origin.now face.now (length used_vertices.old) (length used_faces.old)) 7 }
-    requires turns_length { length turns.old ≡ length next.now }
-    requires seen_length { length seen.old ≡ length next.now }
-    requires turned_length { length turned.old ≡ length next.now }
-    requires reached_length { length reached.old ≡ length next.now }
-    requires blank_seen { IsBlank seen.old }
-    requires blank_turned { IsBlank turned.old }
-    requires blank_reached { IsBlank reached.old }
-    requires blank_vertices { IsBlank used_vertices.old }
-    requires blank_faces { IsBlank used_faces.old }
-    ensures whole { OnOk result (PassesWhole (claim next.now origin.now face.now (length used_vertices.old) (length used_faces.old))) }
-    ensures fault { IfErr result (Means (claim next.now origin.now face.now (length used_vertices.old) (length used_faces.old))) }
-    ensures before { IfErr result (λ fault. Passes (claim next.now origin.now face.now (length used_vertices.old) (length used_faces.old)) (stage fault)) }
+pub(crate) fn check_whole<A: Allocator + Clone>(
+    alloc: &A,
+    links: Links<'_>,
+    vertices: usize,
+    faces: usize,
+) -> Result<Result<(), LinksFault>, AllocError>
+    requires links { HasLinks (claim_of links vertices faces) }
+    requires few { IsFew (claim_of links vertices faces) }
+    requires passed { ComesTo (claim_of links vertices faces) FaceRounds }
+    ensures whole { IfOk result (λ found. OnOk found (PassesWhole (claim_of links.entry vertices faces))) }
+    ensures fault { IfOk result (λ found. IfErr found (Means (claim_of links.entry vertices faces))) }
+    ensures before { IfOk result (λ found. IfErr found (λ fault. ComesTo (claim_of links.entry vertices faces) (stage fault))) }
 {
-    check_rounds(
-        next,
-        origin,
-        face,
-        turns,
-        seen,
-        turned,
-        used_vertices,
-        used_faces,
-    )?;
-    check_surface(
-        next,
-        origin,
-        face,
-        used_vertices,
-        used_faces,
-        reached,
-        turns,
-    )
+    let mut marks = match check_rounds(alloc, links, vertices, faces)? {
+        Ok(marks) => marks,
+        Err(fault) => return Ok(Err(fault)),
+    };
+    let mut reached = vec![in alloc.clone()?; false; links.next.len()]?;
+    Ok(check_surface(
+        links,
+        &marks.vertices,
+        &marks.faces,
+        &mut reached,
+        &mut marks.turns,
+    ))
+}
+
+/// What is noted while rounds are gone.
+#[derive(Drop)]
+pub(crate) struct Marks<A: Allocator> {
+    /// Which vertices have a half edge.
+    pub vertices: Vec<bool, A>,
+    /// Which faces have one.
+    pub faces: Vec<bool, A>,
+    /// What comes after the other half of each half edge, and then room for a queue of them.
+    pub turns: Vec<u32, A>,
 }
 
 /// Checks that each face and each vertex is one round, and marks those that have a half edge.
-fn check_rounds(
-    next: &[u32],
-    origin: &[u32],
-    face: &[u32],
-    turns: &mut [u32],
-    seen: &mut [bool],
-    turned: &mut [bool],
-    used_vertices: &mut [bool],
-    used_faces: &mut [bool],
-) -> Result<(), LinksFault>
-    requires links { HasLinks (claim next.now origin.now face.now (length used_vertices.old) (length used_faces.old)) }
-    requires passed { Passes (claim next.now origin.now face.now (length used_vertices.old) (length used_faces.old)) 7 }
-    requires turns_length { length turns.old ≡ length next.now }
-    requires seen_length { length seen.old ≡ length next.now }
-    requires turned_length { length turned.old ≡ length next.now }
-    requires blank_seen { IsBlank seen.old }
-    requires blank_turned { IsBlank turned.old }
-    requires blank_vertices { IsBlank used_vertices.old }
-    requires blank_faces { IsBlank used_faces.old }
-    ensures rounds { OnOk result (HasRounds (claim next.now origin.now face.now (length used_vertices.old) (length used_faces.old))) }
-    ensures vertices { OnOk result (MarksLabels origin.now used_vertices.new) }
-    ensures faces { OnOk result (MarksLabels face.now used_faces.new) }
-    ensures passed { OnOk result (Passes (claim next.now origin.now face.now (length used_vertices.old) (length used_faces.old)) 9) }
-    ensures fault { IfErr result (Means (claim next.now origin.now face.now (length used_vertices.old) (length used_faces.old))) }
-    ensures before { IfErr result (λ fault. Passes (claim next.now origin.now face.now (length used_vertices.old) (length used_faces.old)) (stage fault)) }
+fn check_rounds<A: Allocator + Clone>(
+    alloc: &A,
+    links: Links<'_>,
+    vertices: usize,
+    faces: usize,
+) -> Result<Result<Marks<A>, LinksFault>, AllocError>
+    requires links { HasLinks (claim_of links vertices faces) }
+    requires passed { ComesTo (claim_of links vertices faces) FaceRounds }
+    ensures rounds { IfOk result (λ found. OnOk found (HasRounds (claim_of links.entry vertices faces))) }
+    ensures marks { IfOk result (λ found. IfOk found (λ marks. AreMarks (claim_of links.entry vertices faces) marks)) }
+    ensures passed { IfOk result (λ found. OnOk found (ComesTo (claim_of links.entry vertices faces) UsedFaces)) }
+    ensures fault { IfOk result (λ found. IfErr found (Means (claim_of links.entry vertices faces))) }
+    ensures before { IfOk result (λ found. IfErr found (λ fault. ComesTo (claim_of links.entry vertices faces) (stage fault))) }
 {
-    if let Some(face) = find_parts(next, face, seen, used_faces) {
-        return Err(LinksFault::FaceInParts(face));
+    let used_faces = match mark_labels(alloc, links.next, links.face, faces)? {
+        Ok(used) => used,
+        Err(face) => return Ok(Err(LinksFault::FaceInParts(face))),
+    };
+    let turns = list_turns(alloc.clone()?, links.next)?;
+    match mark_labels(alloc, &turns, links.origin, vertices)? {
+        Ok(used_vertices) => Ok(Ok(Marks {
+            vertices: used_vertices,
+            faces: used_faces,
+            turns,
+        })),
+        Err(vertex) => Ok(Err(LinksFault::VertexInParts(vertex))),
     }
-    write_turns(next, turns);
-    if let Some(vertex) = find_parts(turns, origin, turned, used_vertices) {
-        return Err(LinksFault::VertexInParts(vertex));
-    }
-    Ok(())
 }
 
 /// Checks that each face has a half edge, that the mesh is connected, and Euler's formula.
 fn check_surface(
-    next: &[u32],
-    origin: &[u32],
-    face: &[u32],
+    links: Links<'_>,
     used_vertices: &[bool],
     used_faces: &[bool],
     reached: &mut [bool],
     queue: &mut [u32],
 ) -> Result<(), LinksFault>
-    requires rounds { HasRounds (claim next.now origin.now face.now (length used_vertices.now) (length used_faces.now)) }
-    requires few { IsFew (claim next.now origin.now face.now (length used_vertices.now) (length used_faces.now)) }
-    requires passed { Passes (claim next.now origin.now face.now (length used_vertices.now) (length used_faces.now)) 9 }
-    requires vertices { MarksLabels origin.now used_vertices.now }
-    requires faces { MarksLabels face.now used_faces.now }
-    requires reached_length { length reached.old ≡ length next.now }
-    requires queue_length { length queue.old ≡ length next.now }
+    requires rounds { HasRounds (claim_of links (length used_vertices.now) (length used_faces.now)) }
+    requires few { IsFew (claim_of links (length used_vertices.now) (length used_faces.now)) }
+    requires passed { ComesTo (claim_of links (length used_vertices.now) (length used_faces.now)) UsedFaces }
+    requires vertices { MarksLabels links.origin.now used_vertices.now }
+    requires faces { MarksLabels links.face.now used_faces.now }
+    requires reached_length { length reached.old ≡ length links.next.now }
+    requires queue_length { length queue.old ≡ length links.next.now }
     requires blank { IsBlank reached.old }
-    ensures uses { OnOk result (UsesFaces (claim next.now origin.now face.now (length used_vertices.now) (length used_faces.now))) }
-    ensures one { OnOk result (IsOne (claim next.now origin.now face.now (length used_vertices.now) (length used_faces.now))) }
-    ensures euler { OnOk result (HasEuler (claim next.now origin.now face.now (length used_vertices.now) (length used_faces.now))) }
-    ensures fault { IfErr result (Means (claim next.now origin.now face.now (length used_vertices.now) (length used_faces.now))) }
-    ensures before { IfErr result (λ fault. Passes (claim next.now origin.now face.now (length used_vertices.now) (length used_faces.now)) (stage fault)) }
+    ensures uses { OnOk result (UsesFaces (claim_of links.entry (length used_vertices.now) (length used_faces.now))) }
+    ensures one { OnOk result (IsOne (claim_of links.entry (length used_vertices.now) (length used_faces.now))) }
+    ensures euler { OnOk result (HasEuler (claim_of links.entry (length used_vertices.now) (length used_faces.now))) }
+    ensures fault { IfErr result (Means (claim_of links.entry (length used_vertices.now) (length used_faces.now))) }
+    ensures before { IfErr result (λ fault. ComesTo (claim_of links.entry (length used_vertices.now) (length used_faces.now)) (stage fault)) }
 {
-    if next.is_empty() {
+    if links.next.is_empty() {
         if let Some(face) = find_unmarked(used_faces, 1) {
             return Err(LinksFault::UnusedFace(face));
         }
@@ -157,13 +140,13 @@ fn check_surface(
     if let Some(face) = find_unmarked(used_faces, 0) {
         return Err(LinksFault::UnusedFace(face));
     }
-    if let Some(half) = find_cut_off(next, reached, queue) {
+    if let Some(half) = find_cut_off(links.next, reached, queue) {
         return Err(LinksFault::NotConnected(half));
     }
     let vertices = count_marks(used_vertices);
     let faces = count_marks(used_faces);
-    if !is_sphere(vertices, next.len(), faces) {
-        return Err(LinksFault::NotSphere(genus(vertices, next.len(), faces)));
+    if !is_sphere(vertices, links.next.len(), faces) {
+        return Err(LinksFault::NotSphere(genus(vertices, links.next.len(), faces)));
     }
     Ok(())
 }

@@ -1,47 +1,41 @@
-use Rattle.std.proofs.Common.{◌∙◌, length}
-use Rattle.dcel_links.specs.Claims.{Claim, claim}
-use Rattle.dcel_links.proofs.Turns.{turns_along, turns_apart, turns_parts, turns_whole}
-use Rattle.dcel_links.specs.Checks.{Passes}
-use Rattle.dcel_links.proofs.Stages.{passes_more}
+use Rattle.std.proofs.Common.{refl}
+use Rattle.dcel_links.specs.Checks.{ComesTo, HasWholeVertices}
+use Rattle.dcel_links.specs.Claims.{Claim, claim_of}
+use Rattle.dcel_links.specs.Stages.{FaceRounds, UsedFaces, VertexRounds}
+use Rattle.dcel_links.proofs.Stages.{comes_on}
+use Rattle.dcel_links.proofs.Turns.{lent_turns, turns_along, turns_apart, turns_parts, turns_whole}
 use Rattle.dcel_links.proofs.whole.check_rounds.Goals as goal
 
-pub find_parts-requires-2-clause-apart : goal.find_parts-requires-2-clause-apart
-find_parts-requires-2-clause-apart c =
-    let claimed : Claim = claim c.args.next.now c.args.origin.now c.args.face.now (length c.args.used_vertices.now) (length c.args.used_faces.now) in
-    turns_apart claimed c.requires.links.prev c.requires.links.links c.write_turns.new.turns (c.write_turns.auto.turns ∙ c.requires.turns_length)
-    c.write_turns.ensures
+whole_vertices : (g : _) (c : goal.In-Ok-2 g) → HasWholeVertices (claim_of c.args.links c.args.vertices c.args.faces)
+whole_vertices g c =
+    let claimed : Claim = claim_of c.args.links c.args.vertices c.args.faces in
+    turns_whole claimed c.requires.links.prev c.requires.links.links c.deref.result.now (lent_turns c.deref.ensures.value c.in_ok-turns.ensures) (rw c.in-Ok-2.is at c.in_ok-used_vertices.ensures.whole)
 
-pub find_parts-requires-2-clause-along : goal.find_parts-requires-2-clause-along
-find_parts-requires-2-clause-along c =
-    let claimed : Claim = claim c.args.next.now c.args.origin.now c.args.face.now (length c.args.used_vertices.now) (length c.args.used_faces.now) in
-    turns_along claimed c.requires.links.prev c.requires.links.links c.write_turns.new.turns (c.write_turns.auto.turns ∙ c.requires.turns_length)
-    c.write_turns.ensures
+pub mark_labels-requires-2-clause-apart : goal.mark_labels-requires-2-clause-apart
+mark_labels-requires-2-clause-apart g c =
+    let claimed : Claim = claim_of c.args.links c.args.vertices c.args.faces in
+    turns_apart claimed c.requires.links.prev c.requires.links.links c.deref.result.now (lent_turns c.deref.ensures.value c.in_ok-turns.ensures)
 
-pub returns-in-Some-find_parts-clause-fault : goal.returns-in-Some-find_parts-clause-fault
-returns-in-Some-find_parts-clause-fault c =
-    let claimed : Claim = claim c.args.next.now c.args.origin.now c.args.face.now (length c.args.used_vertices.now) (length c.args.used_faces.now) in
-    turns_parts claimed c.requires.links.prev c.requires.links.links c.write_turns.new.turns (c.write_turns.auto.turns ∙ c.requires.turns_length)
-    c.write_turns.ensures c.in-Some-find_parts.vertex c.in-Some-find_parts.ensures.parts
+pub mark_labels-requires-2-clause-along : goal.mark_labels-requires-2-clause-along
+mark_labels-requires-2-clause-along g c =
+    let claimed : Claim = claim_of c.args.links c.args.vertices c.args.faces in
+    turns_along claimed c.requires.links.prev c.requires.links.links c.deref.result.now (lent_turns c.deref.ensures.value c.in_ok-turns.ensures)
 
-pub returns-clause-rounds : goal.returns-clause-rounds
-returns-clause-rounds c =
-    let claimed : Claim = claim c.args.next.now c.args.origin.now c.args.face.now (length c.args.used_vertices.now) (length c.args.used_faces.now) in
-    record {
-      each = c.requires.links;
-      whole_faces = c.in_default.ensures.whole;
-      whole_vertices = turns_whole claimed c.requires.links.prev c.requires.links.links c.write_turns.new.turns (c.write_turns.auto.turns ∙ c.requires.turns_length)
-          c.write_turns.ensures c.in_default-find_parts.ensures.whole;
-    }
+pub returns-in-Err-2-clause-fault : goal.returns-in-Err-2-clause-fault
+returns-in-Err-2-clause-fault g c =
+    let claimed : Claim = claim_of c.args.links c.args.vertices c.args.faces in
+    turns_parts claimed c.requires.links.prev c.requires.links.links c.deref.result.now (lent_turns c.deref.ensures.value c.in_ok-turns.ensures) c.in-Err-2.vertex
+    (rw c.in-Err-2.is at c.in_ok-used_vertices.ensures.parts)
 
-pub returns-in-Some-find_parts-clause-before : goal.returns-in-Some-find_parts-clause-before
-returns-in-Some-find_parts-clause-before c =
-    let claimed : Claim = claim c.args.next.now c.args.origin.now c.args.face.now (length c.args.used_vertices.now) (length c.args.used_faces.now) in
-    passes_more claimed 7 c.requires.passed c.in_default.ensures.whole
+pub returns-in-Ok-2-clause-rounds : goal.returns-in-Ok-2-clause-rounds
+returns-in-Ok-2-clause-rounds g c = record {
+  each = c.requires.links;
+  whole_faces = rw c.in-Ok.is at c.in_ok-used.ensures.whole;
+  whole_vertices = whole_vertices g c;
+}
 
-pub returns-clause-passed : goal.returns-clause-passed
-returns-clause-passed c =
-    let claimed : Claim = claim c.args.next.now c.args.origin.now c.args.face.now (length c.args.used_vertices.now) (length c.args.used_faces.now) in
-    let faces : Passes claimed 8 = passes_more claimed 7 c.requires.passed c.in_default.ensures.whole in
-    passes_more claimed 8 faces
-    (turns_whole claimed c.requires.links.prev c.requires.links.links c.write_turns.new.turns (c.write_turns.auto.turns ∙ c.requires.turns_length)
-    c.write_turns.ensures c.in_default-find_parts.ensures.whole)
+pub returns-in-Ok-2-clause-passed : goal.returns-in-Ok-2-clause-passed
+returns-in-Ok-2-clause-passed g c =
+    let claimed : Claim = claim_of c.args.links c.args.vertices c.args.faces in
+    let faces : ComesTo claimed VertexRounds = comes_on claimed FaceRounds VertexRounds refl c.requires.passed (rw c.in-Ok.is at c.in_ok-used.ensures.whole) in
+    comes_on claimed VertexRounds UsedFaces refl faces (whole_vertices g c)
