@@ -1,5 +1,5 @@
 use Rattle.std.specs.Int.Bits.{bit_and, bit_xor, xor_add_and}
-use Rattle.std.proofs.Common.{◌≡◌, ◌≢◌, ℕ, ◌+◌, ◌-◌, ◌*◌, ◌/◌, ◌%◌, ◌<◌, arith}
+use Rattle.std.proofs.Common.{◌≡◌, ◌≢◌, ℕ, ◌+◌, ◌*◌, ◌/◌, ◌%◌, ◌<◌, arith}
 use Rattle.std.proofs.lemmas.Nat.{and_mask}
 use Rattle.dcel_fixed.specs.HalfEdges.{rev}
 
@@ -7,11 +7,6 @@ use Rattle.dcel_fixed.specs.HalfEdges.{rev}
 pub rev-even : (h : ℕ) → h % 2 ≡ 0 → rev h ≡ h + 1
 unfolding rev
 rev-even h even = omega (arith, even)
-
--- the other half of an odd half edge is the number before
-pub rev-odd : (h : ℕ) → h % 2 ≡ 1 → rev h ≡ h - 1
-unfolding rev
-rev-odd h odd = omega (arith, odd)
 
 -- two reversals take each other back
 pub rev-rev : (h : ℕ) → rev (rev h) ≡ h

@@ -142,6 +142,18 @@ pub fn new_fixed_face_handle(index: usize) -> FixedFaceHandle<PossiblyOuterTag>
     FixedHandleImpl::new(index)
 }
 
+/// Returns the number of the other half edge of the same edge, for numbers that aren't handles yet.
+///
+/// It differs in the last bit alone, so it is below 2^32 where the number is.
+#[inline]
+#[tactic(auto, using(crate::proofs::Halves::xor_one, crate::proofs::Halves::rev_within))]
+pub fn other_half(half: usize) -> usize
+    ensures value { result ≡ rev half }
+    ensures in_range { half < 2 ^ 32 → result < 2 ^ 32 }
+{
+    half ^ 1
+}
+
 impl<Kind, InnerOuter: InnerOuterMarker> FixedHandleImpl<Kind, InnerOuter> {
     /// Makes the handle of the element `index`.
     ///

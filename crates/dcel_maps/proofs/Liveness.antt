@@ -82,6 +82,9 @@ pub closed-live : (s : Shape) → s.removal ≡ Closed → (u : ℕ) → u < s.e
 closed-live s closed u below =
     is_live-from (gives_up_edge s.removal) s.edges u below (ap (λ r. gives_up_edge r u) closed ∙ gives_up_edge-closed u)
 
+pub closed-half_live : (s : Shape) → s.removal ≡ Closed → (h : ℕ) → h < 2 * s.edges → IsLive s h
+closed-half_live s closed h below = closed-live s closed (h / 2) (omega (arith, below))
+
 -- the halves of a live edge are live
 pub even_live : (s : Shape) (u : ℕ) → edge_is_live s u ≡ true → IsLive s (2 * u)
 even_live s u live = let half : 2 * u / 2 ≡ u = omega arith in rw half live

@@ -32,4 +32,3 @@ pub mod Undone
 pub mod Unspurs
 pub mod Unsubdivides
 pub mod Updates
-pub mod Words

@@ -1,8 +1,9 @@
--- Short names for what an edit of a mesh speaks of: `open (edited m c) use {S, T}`, and `open (known m mesh) use {sound, stands, below}`.
-use Rattle.std.proofs.Common.{ℕ, ◌*◌, ◌<◌}
+-- Short names for what an edit of a mesh speaks of: `open (edited m c) use {S, T}`, `open (known m mesh) use {sound, stands, below}`, and
+-- `open (at_edge s u) use {e, t}`.
+use Rattle.std.proofs.Common.{ℕ, ◌+◌, ◌*◌, ◌<◌}
 use Rattle.dcel_maps.specs.Maps.{Map}
 use Rattle.dcel_maps.specs.theory.Sound.{Sound}
-use Rattle.dcel_maps.specs.Shapes.{IsLive, IsMesh, Mesh, map_of}
+use Rattle.dcel_maps.specs.Shapes.{IsLive, IsMesh, Mesh, Shape, face_of, map_of, next_of, prev_of}
 use Rattle.dcel_maps.specs.theory.Standing.{Stands}
 use Rattle.dcel_maps.proofs.edits.Changes.{Change, map_after}
 use Rattle.dcel_maps.proofs.shapes.Maps.{map-sound}
@@ -24,3 +25,20 @@ pub record Known {V DE UE F : Type 0} (m : Mesh V DE UE F) : Type 0 where
 
 pub known : {V DE UE F : Type 0} (m : Mesh V DE UE F) → IsMesh m → Known m
 known m mesh = record { sound = map-sound mesh.sound; stands = links_stand mesh.sound; below = half-below m.shape }
+
+-- the halves e and t of an edge, the faces f and g on which they lie, and the half edges before and after each
+pub record AtEdge : Type 0 where
+  pub e : ℕ
+  pub t : ℕ
+  pub f : ℕ
+  pub g : ℕ
+  pub ep : ℕ
+  pub en : ℕ
+  pub tp : ℕ
+  pub tn : ℕ
+
+abbrev pub at_edge : Shape → ℕ → AtEdge
+at_edge s u =
+    let e = 2 * u in
+    let t = 2 * u + 1 in
+    record { e = e; t = t; f = face_of s e; g = face_of s t; ep = prev_of s e; en = next_of s e; tp = prev_of s t; tn = next_of s t }

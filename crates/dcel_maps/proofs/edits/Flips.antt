@@ -1,5 +1,5 @@
 -- An edge of a mesh turned between two triangles.
-use Rattle.std.proofs.Common.{◌≡◌, ◌≢◌, inl, inr, ℕ, ◌+◌, ◌*◌, ◌/◌, [], ◌∷◌, Some, add-zero, append-nil, refl, sym, ap, ◌∙◌, arith}
+use Rattle.std.proofs.Common.{◌≡◌, ◌≢◌, inl, inr, ℕ, ◌/◌, [], ◌∷◌, Some, add-zero, append-nil, refl, sym, ap, ◌∙◌, subst, arith}
 use Rattle.std.proofs.Math.Logic.{Ne-symm}
 use Rattle.std.proofs.lemmas.Bool.{cases_eq}
 use Rattle.dcel_fixed.specs.HalfEdges.{rev}
@@ -11,9 +11,9 @@ use Rattle.dcel_maps.specs.EditLists.EditKind.{ear_cut, words_joined}
 use Rattle.dcel_maps.specs.edits.Flip.{edge_flipped}
 use Rattle.dcel_maps.specs.Maps.{Live}
 use Rattle.dcel_maps.specs.theory.Sound.{Sound, Sphere}
-use Rattle.dcel_maps.specs.Shapes.{IsLive, IsMesh, Mesh, face_count, face_of, map_of, next_of, origin_of, prev_of}
+use Rattle.dcel_maps.specs.Shapes.{IsLive, IsMesh, Mesh, face_count, face_of, map_of, origin_of}
 use Rattle.dcel_maps.proofs.Liveness.{even_live, odd_live}
-use Rattle.dcel_maps.proofs.edits.Changes.{Change, IsEdit, changed, fits_with, map_after}
+use Rattle.dcel_maps.proofs.edits.Changes.{Change, IsEdit, changed, edit_makes_mesh, fits_with, map_after}
 use Rattle.dcel_maps.proofs.edits.Growing.{after-each, after-edge, after-origin, after-still}
 use Rattle.dcel_maps.proofs.edits.Linking.{face_live-at, linked-old, triangle_full, triangle_linked, triangle_of, stays-linked}
 use Rattle.dcel_maps.proofs.edits.Patches.{Untouched, puts_away, puts_here, replacing}
@@ -25,7 +25,7 @@ use Rattle.dcel_maps.proofs.maps.Lists.{comes_keeps}
 use Rattle.dcel_maps.proofs.maps.Triangles.{IsTriangleOf, Off, SameLinks, by_triangle, facing_differ, off_another, off_face, triangles_apart, IsLinked}
 use Rattle.dcel_maps.proofs.shapes.Maps.{map-sphere}
 use Rattle.dcel_maps.proofs.words.Faces.{KeepsFace}
-use Rattle.dcel_maps.proofs.edits.Around.{edited, known}
+use Rattle.dcel_maps.proofs.edits.Around.{at_edge, edited, known}
 
 -- the edge of e and t, from x to y, between the triangles (e, a, b) of f and (t, c, d) of g: these become (e, d, a) and (t, b, c), and the
 -- edge leads from z to w, where b and d start
@@ -240,32 +240,43 @@ module _ {V DE UE F : Type 0} (m : Mesh V DE UE F) (mesh : IsMesh m) (f g e a b 
 
 -- an edge between two triangles
 module _ {V DE UE F : Type 0} (m : Mesh V DE UE F) (u : ℕ) where
+  open (at_edge m.shape u) use {e, t, f, g, ep, en, tp, tn}
+
   abbrev pub edge_flipping : Change V DE UE F
   edge_flipping =
-      let e = 2 * u in
-      let t = 2 * u + 1 in
-      let b = prev_of m.shape e in
-      let d = prev_of m.shape t in
-      flipping (face_of m.shape e) (face_of m.shape t) e (next_of m.shape e) b t (next_of m.shape t) d
-      (origin_of m.shape e) (origin_of m.shape t) (origin_of m.shape b) (origin_of m.shape d)
+      flipping f g e en ep t tn tp (origin_of m.shape e) (origin_of m.shape t) (origin_of m.shape ep) (origin_of m.shape tp)
 
   pub edge_flipping_is : changed m edge_flipping ≡ edge_flipped m u
   edge_flipping_is = simp (add-zero, append-nil) refl
 
-  pub edge_flipping_is_edit : IsMesh m → CanFlip m.shape u → IsEdit m edge_flipping
-  edge_flipping_is_edit mesh can =
-      let e = 2 * u in
-      let t = 2 * u + 1 in
-      flipping_is_edit m mesh (face_of m.shape e) (face_of m.shape t) e (next_of m.shape e) (prev_of m.shape e) t (next_of m.shape t) (prev_of m.shape t)
-      (origin_of m.shape e) (origin_of m.shape t) (rev-double u)
-      (triangle_of m mesh e (even_live m.shape u can.live) can.triangle) (triangle_of m mesh t (odd_live m.shape u can.live) can.facing)
-      refl refl can.corners
+  module _ (mesh : IsMesh m) (can : CanFlip m.shape u) where
+    open (known m mesh) use {sound}
 
-  pub edge_flipping_made : IsMesh m → CanFlip m.shape u → ComesBy (words_joined ∷ ear_cut ∷ []) (map_of m.shape) (map_after m.shape edge_flipping)
-  edge_flipping_made mesh can =
-      let e = 2 * u in
-      let t = 2 * u + 1 in
-      flip_made m mesh (face_of m.shape e) (face_of m.shape t) e (next_of m.shape e) (prev_of m.shape e) t (next_of m.shape t) (prev_of m.shape t)
-      (origin_of m.shape e) (origin_of m.shape t) (rev-double u)
-      (triangle_of m mesh e (even_live m.shape u can.live) can.triangle) (triangle_of m mesh t (odd_live m.shape u can.live) can.facing)
-      refl refl can.corners
+    was : IsTriangleOf (map_of m.shape) f e en ep
+    was = triangle_of m mesh e (even_live m.shape u can.live) can.triangle
+
+    facing : IsTriangleOf (map_of m.shape) g t tn tp
+    facing = triangle_of m mesh t (odd_live m.shape u can.live) can.facing
+
+    pub edge_flipping_is_edit : IsEdit m edge_flipping
+    edge_flipping_is_edit =
+        flipping_is_edit m mesh f g e en ep t tn tp (origin_of m.shape e) (origin_of m.shape t) (rev-double u) was facing refl refl can.corners
+
+    pub edge_flipping_made : ComesBy (words_joined ∷ ear_cut ∷ []) (map_of m.shape) (map_after m.shape edge_flipping)
+    edge_flipping_made =
+        flip_made m mesh f g e en ep t tn tp (origin_of m.shape e) (origin_of m.shape t) (rev-double u) was facing refl refl can.corners
+
+    -- what is known of an edge that can be flipped: `open (at_flip m u mesh can) use {was, facing, differ, flipped_mesh}`
+    pub record AtFlip : Type 0 where
+      pub was : IsTriangleOf (map_of m.shape) f e en ep
+      pub facing : IsTriangleOf (map_of m.shape) g t tn tp
+      pub differ : f ≢ g
+      pub flipped_mesh : IsMesh (edge_flipped m u)
+
+    pub at_flip : AtFlip
+    at_flip = record {
+      was = was;
+      facing = facing;
+      differ = facing_differ (map_of m.shape) sound f e en ep g t tn tp was facing (rev-double u);
+      flipped_mesh = subst (λ (k : Mesh V DE UE F). IsMesh k) edge_flipping_is (edit_makes_mesh m edge_flipping mesh edge_flipping_is_edit);
+    }

@@ -1,4 +1,5 @@
--- Worked rows, computed from the definitions.
+-- Worked rows, computed from the definitions: checks on examples, which show a reader what an edit makes of a small mesh.
+-- Nothing is proved from them, and they stay.
 use Rattle.std.proofs.Common.{◌≡◌, ℕ, [], ◌∷◌, Some, None, replicate, refl}
 use Rattle.dcel_fixed.specs.HalfEdges.{rev}
 use Rattle.dcel_maps.specs.Cyclic.{from_least}

@@ -34,7 +34,7 @@ count_none zero = refl
 count_none (suc n) = count_none n
 
 -- one that passes shows it
-any_below_from : (p : ℕ → Bool) (n k : ℕ) → k < n → p k ≡ true → any_below p n ≡ true
+pub any_below_from : (p : ℕ → Bool) (n k : ℕ) → k < n → p k ≡ true → any_below p n ≡ true
 any_below_from p zero k l t = absurd (omega arith)
 any_below_from p (suc n) k l t = elim (cases_eq k n) [
   | inl i ↦ or_left (p n) (any_below p n) (ap p (sym i) ∙ t)
@@ -42,7 +42,7 @@ any_below_from p (suc n) k l t = elim (cases_eq k n) [
 ]
 
 -- where one passes, here is one
-any_below_cases : (p : ℕ → Bool) (n : ℕ) → any_below p n ≡ true → (k : ℕ) × (k < n) × (p k ≡ true)
+pub any_below_cases : (p : ℕ → Bool) (n : ℕ) → any_below p n ≡ true → (k : ℕ) × (k < n) × (p k ≡ true)
 any_below_cases p zero t = absurd (false≢true t)
 any_below_cases p (suc n) t = elim (or_cases (p n) (any_below p n) t) [
   | inl i ↦ (n, omega arith, i)

@@ -124,13 +124,7 @@ module _ (S T : Map) (h : ℕ) (s : Sound S) (e : Join S T h) where
   pub join_still_live : (x : ℕ) → Live S x → x ≢ h → x ≢ rev h → Live T x
   join_still_live = less-still_live S T h e.edge_gone e.edge_other
 
-  -- so the four beside the edge are live
-  pub join_live-before_h : Live T (S.prev h)
-  join_live-before_h = join_still_live a site.live_a site.a≢h (on_two S h a k e.at site.face_a refl)
-
-  pub join_live-before_rev : Live T (S.prev (rev h))
-  join_live-before_rev = join_still_live b site.live_b (λ i. on_two S h h b e.at refl site.face_b (sym i)) site.b≢rev
-
+  -- so the two after the edge are live
   pub join_live-after_rev : Live T (S.next (rev h))
   join_live-after_rev = join_still_live p site.live_p (λ i. on_two S h h p e.at refl site.face_p (sym i)) site.p≢rev
 

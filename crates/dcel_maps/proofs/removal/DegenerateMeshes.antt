@@ -3,7 +3,7 @@ use Rattle.std.proofs.Common.{◌≡◌, ◌≢◌, inl, inr, ◌-◌, ◌/◌, 
 use Rattle.std.proofs.lemmas.Bool.{both_ways, cases_eq, false≢true, ne_eqb}
 use Rattle.std.proofs.lemmas.List.{get_or-map, get_or-set_other, length-map, length-set}
 use Rattle.dcel_maps.specs.Degenerate.{CanRemoveDegenerate, IsPath}
-use Rattle.dcel_maps.specs.edits.Degenerate.{anchor_instead, anchor_off, going, path_given_up, removed_degenerate}
+use Rattle.dcel_maps.specs.edits.Degenerate.{anchor_instead, anchor_off, going, path_given_up}
 use Rattle.dcel_maps.specs.Maps.{Map}
 use Rattle.dcel_maps.specs.Removals.{gives_up_edge, gives_up_face, gives_up_vertex}
 use Rattle.dcel_maps.specs.Renumbering.{edge_taken_out, half_of, moved, vertex_taken_out}
@@ -64,9 +64,6 @@ module _ {V DE UE F : Type 0} (m : Mesh V DE UE F) (v : ℕ) (mesh : IsMesh m) (
 
     going_out : IsOutEdge s v b
     going_out = out_b m.shape mesh.sound mesh.sphere path v a can.within path_out
-
-    abbrev N : Mesh V DE UE F
-    N = path_given_up m v
 
     abbrev t : Shape
     t = after m.shape v (out_edge_of m v) (going m v) can.closed path.one_face
@@ -254,13 +251,3 @@ module _ {V DE UE F : Type 0} (m : Mesh V DE UE F) (v : ℕ) (mesh : IsMesh m) (
                     (rw (ne_eqb m.shape.vertices 2 more, ne_eqb a b other) refl)
               ]
         ]
-
-  -- `remove_when_degenerate` leaves a mesh
-  pub removed_degenerate-mesh : IsMesh (removed_degenerate m v)
-  removed_degenerate-mesh = elim (cases_eq m.shape.vertices 1) [
-    | inl one ↦ rw (eq-eqb m.shape.vertices 1 one) (vertex_out-mesh m v mesh (alone one))
-    | inr some ↦ rw (ne_eqb m.shape.vertices 1 some) (elim can.shape [
-      | inl one ↦ absurd (some one)
-      | inr path ↦ (path_gone path some).gone
-    ])
-  ]

@@ -1,13 +1,13 @@
 -- A mesh with its hole filled is a mesh.
-use Rattle.std.proofs.Common.{◌≡◌, ◌≢◌, inl, inr, ◌+◌, ◌-◌, ◌*◌, ◌<◌, ◌≤◌, ℕ, suc, false, List, [], ◌∷◌, length, reverse, slice_index_or, Option, Some, None, sym, refl, ap, ◌∙◌, subst, arith}
+use Rattle.std.proofs.Common.{◌≡◌, ◌≢◌, inl, inr, ◌+◌, ◌-◌, ◌*◌, ◌<◌, ℕ, suc, false, List, ◌∷◌, length, slice_index_or, Option, Some, None, sym, ap, ◌∙◌, subst, arith}
 use Rattle.std.proofs.lemmas.Bool.{cases_Bool, cases_lt, false≢true}
-use Rattle.std.proofs.lemmas.List.{get_or-append-add, get_or_append_left, length-append, length-reverse}
+use Rattle.std.proofs.lemmas.List.{get_or-append-add, get_or_append_left, length-append}
 use Rattle.dcel_maps.specs.Conditions.{HasRoom}
 use Rattle.dcel_maps.specs.Hiding.{kept_face_anchors}
 use Rattle.dcel_maps.specs.Removals.{Closed, IsWithin, Removal, gives_up_edge, gives_up_face, gives_up_vertex, shown}
 use Rattle.dcel_maps.specs.Shapes.{AnchorsVertex, AnchorsWord, IsMesh, IsSized, Mesh, Shape, face_anchor, face_count, origin_of, vertex_anchor}
 use Rattle.dcel_maps.specs.Words.{count_of, word_of}
-use Rattle.dcel_maps.specs.edits.Fill.{anchors_round, border_filled, ear_anchors, ear_origins, loop_filled, ring_filled}
+use Rattle.dcel_maps.specs.edits.Fill.{anchors_round, ear_anchors, ear_origins, ring_filled}
 use Rattle.dcel_maps.proofs.Shown.{length-shown}
 use Rattle.dcel_maps.proofs.removal.Ears.{ear_anchored, length-anchors_round, length-ear_anchors, length-ear_origins, round_anchor}
 use Rattle.dcel_maps.proofs.removal.Filled.{face_below, filled-sound, filled-sphere, from_old, given_below, item_kept, last_kept, none_at, old_kept, word-ear, word-given, word-kept, words_long}
@@ -148,34 +148,3 @@ module _ {V DE UE F : Type 0} (m : Mesh V DE UE F) (p q r : ℕ) (rest : List �
       anchored = record { vertices = vertices_anchored; faces = faces_anchored };
       sized = is_sized;
     }
-
--- what filling a ring asks: a hole that the record leaves along it, and room
-pub record CanFill {V DE UE F : Type 0} (m : Mesh V DE UE F) (border : List ℕ) (removal : Removal) (halves : List DE) (edges : List UE) (faces : List F) : Type 0 where
-  pub closed : m.shape.removal ≡ Closed
-  pub many : 3 ≤ length border
-  pub hole : HollowOf m.shape removal (reverse border) (face_count m.shape + (length border - 3))
-  pub room : HasRoom m.shape 0 (length border - 3) (length border - 2)
-  pub half_count : length halves ≡ 2 * (length border - 3)
-  pub edge_count : length edges ≡ length border - 3
-  pub face_data_count : length faces ≡ length border - 2
-
-module _ {V DE UE F : Type 0} (m : Mesh V DE UE F) (border : List ℕ) (removal : Removal) (halves : List DE) (edges : List UE) (faces : List F) (mesh : IsMesh m) (can : CanFill m border removal halves edges faces) where
-  -- by the items of the ring
-  along : (ring : List ℕ) → reverse border ≡ ring → 3 ≤ length ring → IsMesh (loop_filled m removal ring halves edges faces)
-  along [] is many = absurd (omega (arith, many))
-  along (p ∷ []) is many = absurd (omega (arith, many))
-  along (p ∷ q ∷ []) is many = absurd (omega (arith, many))
-  along (p ∷ q ∷ r ∷ rest) is many =
-      let long : length border ≡ suc (suc (suc (length rest))) = sym (length-reverse border) ∙ ap length is in
-      let number : face_count m.shape + (length border - 3) ≡ face_count m.shape + length rest = omega (arith, long) in
-      ring_filled-mesh m p q r rest halves edges faces mesh can.closed removal
-      (subst (λ n. HollowOf m.shape removal (p ∷ q ∷ r ∷ rest) n) number
-      (subst (λ (w : List ℕ). HollowOf m.shape removal w (face_count m.shape + (length border - 3))) is can.hole))
-      record {
-        for_vertices = can.room.for_vertices;
-        for_edges = omega (arith, can.room.for_edges, long);
-        for_faces = omega (arith, can.room.for_faces, long);
-      } (omega (arith, can.half_count, long)) (omega (arith, can.edge_count, long)) (omega (arith, can.face_data_count, long))
-
-  pub border_filled-mesh : IsMesh (border_filled m removal border halves edges faces)
-  border_filled-mesh = along (reverse border) refl (omega (arith, can.many, length-reverse border))

@@ -100,7 +100,7 @@ opened_with-faces edges faces v f = (
 )
 
 -- the record once a ring of three half edges or more is filled
-filled-record : {V DE UE F : Type 0} (m : Mesh V DE UE F) (removal : Removal) (ring : List ℕ) → 3 ≤ length ring → (halves : List DE) (edges : List UE)
+pub filled-record : {V DE UE F : Type 0} (m : Mesh V DE UE F) (removal : Removal) (ring : List ℕ) → 3 ≤ length ring → (halves : List DE) (edges : List UE)
     (faces : List F) → (loop_filled m removal ring halves edges faces).shape.removal ≡ removal
 filled-record m removal [] long halves edges faces = absurd (omega (arith, long))
 filled-record m removal (p ∷ []) long halves edges faces = absurd (omega (arith, long))

@@ -1,7 +1,7 @@
 -- What is left of a path once a vertex and one of its edges are given up, in its three cases; and what takes the place of an anchor.
 use Rattle.std.proofs.Common.{◌≡◌, ◌≢◌, inl, inr, ◌*◌, ◌/◌, ◌<◌, ◌≤◌, ℕ, true, false, List, [], ◌∷◌, ◌++◌, append-nil, length, map, slice_index, Option, Some, None, sym, refl, ap, ◌∙◌, subst, arith}
 use Rattle.std.proofs.lemmas.Bool.{both_ways, cases_eq, cases_lt, false_from_ne_true, false≢true}
-use Rattle.std.proofs.lemmas.List.{get_or-set_other, get_or-set_same}
+use Rattle.std.proofs.lemmas.List.{get_or-set_other}
 use Rattle.dcel_fixed.specs.HalfEdges.{rev}
 use Rattle.dcel_maps.specs.Cyclic.{from_least}
 use Rattle.dcel_maps.specs.Degenerate.{IsPath}
@@ -13,7 +13,7 @@ use Rattle.dcel_maps.specs.Removals.{Closed, gives_up_edge}
 use Rattle.dcel_maps.specs.Shapes.{AnchorsVertex, AnchorsWord, IsLive, IsSound, IsSphere, Shape, edge_is_live, end_of, face_of, map_of, next_of, origin_of, prev_of}
 use Rattle.dcel_maps.specs.Strips.{IsStripAround}
 use Rattle.dcel_maps.specs.theory.Cycles.{IsCycle, Path}
-use Rattle.dcel_maps.specs.theory.Sound.{Sound, Sphere}
+use Rattle.dcel_maps.specs.theory.Sound.{Sound}
 use Rattle.dcel_maps.specs.theory.Standing.{Follows, Stands}
 use Rattle.dcel_maps.specs.Walking.{IsOutEdge, ccw_of}
 use Rattle.dcel_maps.specs.Words.{TurnsTo, become, count_of, word_of}
@@ -26,7 +26,7 @@ use Rattle.dcel_maps.proofs.removal.PathCuts.{IsLeft, after, count-without_other
 use Rattle.dcel_maps.proofs.removal.Paths.{edge_count, goes_on, only_two, out_b, prev_a}
 use Rattle.dcel_maps.proofs.removal.StripItems.{outer_cut}
 use Rattle.dcel_maps.proofs.removal.StripSpokes.{OuterWord, StripAway, outer_word, strip_away, trip}
-use Rattle.dcel_maps.proofs.shapes.Maps.{map-sound, map-sphere, word_cases}
+use Rattle.dcel_maps.proofs.shapes.Maps.{map-sound, word_cases}
 use Rattle.dcel_maps.proofs.walks.Links.{links_stand}
 use Rattle.dcel_maps.proofs.words.Counts.{count-append, count-same, first_or_later}
 use Rattle.dcel_maps.proofs.words.Cyclic.{from_least-word}
@@ -54,26 +54,17 @@ module _ (s : Shape) (sound : IsSound s) (sphere : IsSphere s) (path : IsPath s)
   t : Sound T
   t = map-sound sound
 
-  m : Sphere T
-  m = map-sphere sound sphere
-
   stands : Stands T s.words
   stands = links_stand sound
 
   b_live : IsLive s b
   b_live = (out_b s sound sphere path v a within out).live
 
-  b_start : origin_of s b ≡ v
-  b_start = (out_b s sound sphere path v a within out).start
-
   on_face : (x : ℕ) → IsLive s x → face_of s x ≡ 0
   on_face x live = omega (arith, t.below_faces x live, path.one_face)
 
   starts-other : (h : ℕ) → h ≢ a → slice_index (starts s v a b closed path.one_face) h ≡ origin_of s h
   starts-other h other = get_or-set_other s.origins a h (end_of s b) 0 other
-
-  starts-here : slice_index (starts s v a b closed path.one_face) a ≡ end_of s b
-  starts-here = get_or-set_same s.origins a (end_of s b) 0 (omega (arith, t.below_edges a out.live, long))
 
   still_live : (h : ℕ) → h ≢ b → h ≢ rev b → IsLive s h → IsLive left h
   still_live h not_b not_rev live =

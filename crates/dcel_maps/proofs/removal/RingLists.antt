@@ -178,11 +178,6 @@ pub record IsFound {V DE UE F : Type 0} (m : Mesh V DE UE F) (v : ℕ) (edges fa
   pub goes_on : (0 < count_of (k / 2) edges) × (0 < count_of (face_of m.shape k) faces) → IsFinding m v edges faces more
 
 module _ {V DE UE F : Type 0} (m : Mesh V DE UE F) (v : ℕ) (edges faces : List ℕ) where
-  pub finding_begins : (items : List (Mesh V DE UE F × ℕ)) → items ≡ in_mesh m (out_edges_of m v)
-      → ListsOnce (IsOutEdge m.shape v) (out_edges_of m v) → IsFinding m v edges faces items
-  finding_begins items are lists =
-      record { left = out_edges_of m v; items_are = are; all_start = lists.no_other; same = (λ finds. finds, λ finds. finds) }
-
   pub finding_continues : (items more : List (Mesh V DE UE F × ℕ)) (n : Mesh V DE UE F) (k : ℕ) → IsFinding m v edges faces items
       → items ≡ (n, k) ∷ more → (n ≡ m) × IsFound m v edges faces k more
   finding_continues items more n k s e =

@@ -3,9 +3,7 @@ use Rattle.std.proofs.Common.{◌≡◌, ◌≢◌, ◌⊎◌, ◌↔◌, inl, i
 use Rattle.std.proofs.lemmas.List.{reverse-append}
 use Rattle.std.proofs.lemmas.Bool.{cases_eq}
 use Rattle.dcel_fixed.specs.HalfEdges.{rev}
-use Rattle.dcel_maps.specs.Borders.{StartsAlone}
 use Rattle.dcel_maps.specs.Shapes.{IsLive, IsMesh, Mesh, Shape, face_anchor, face_count, next_of, origin_of}
-use Rattle.dcel_maps.specs.theory.Cycles.{IsCycle}
 use Rattle.dcel_maps.specs.Walking.{in_mesh, walk_from}
 use Rattle.dcel_maps.proofs.walks.Items.{ComesFirst, first_item, none_left}
 use Rattle.dcel_maps.specs.Words.{count_of, word_of}
@@ -54,9 +52,6 @@ module _ (whole left : List ℕ) (same : OnceEach left ↔ OnceEach whole) where
 
   pub once_fails : (x : ℕ) (after : List ℕ) → left ≡ x ∷ after → 0 < count_of x after → ¬ OnceEach whole
   once_fails x after is found all = let one = same.1 all x in let counts = ap (count_of x) is in omega (arith, one, counts, count-same x after, found)
-
-  pub once_ends : left ≡ [] → OnceEach whole
-  once_ends none = same.0 (λ k. let counts = ap (count_of k) none in omega (arith, counts))
 
 -- the walk past the edges: what is still to pass leads where the whole does
 module _ (next : ℕ → ℕ) (edges : List ℕ) where
@@ -109,15 +104,6 @@ module _ (s : Shape) (edges : List ℕ) (apex e : ℕ) where
     λ to. a.same.0 (subst (λ (w : List ℕ). GoesAlong s edges apex x (reverse w) e) (sym none) (to, λ y found. absurd (omega (arith, found)))),
     λ all. (subst (λ (w : List ℕ). GoesAlong s edges apex x (reverse w) e) none (a.same.1 all)).0,
   )
-
--- for a list that ends with p this is the condition of the test
-pub round_is : (s : Shape) (edges border others : List ℕ) (p : ℕ) → border ≡ others ++ p ∷ []
-    → GoesAlong s edges (origin_of s p) p (reverse others) p ↔ (IsCycle (StepsTo (next_of s) edges) (reverse border) × StartsAlone s (reverse border))
-round_is s edges border others p is =
-    let turned : reverse border ≡ p ∷ reverse others = ap reverse is ∙ reverse-append others (p ∷ []) in (
-      λ along. subst (λ (w : List ℕ). IsCycle (StepsTo (next_of s) edges) w × StartsAlone s w) (sym turned) along,
-      λ both. subst (λ (w : List ℕ). IsCycle (StepsTo (next_of s) edges) w × StartsAlone s w) turned both,
-    )
 
 -- what the walk from a face's anchor lists is its word
 pub walk_covers : {V DE UE F : Type 0} (m : Mesh V DE UE F) → IsMesh m → (f : ℕ) → f < face_count m.shape → (P : ℕ → Type 0)

@@ -1,6 +1,6 @@
 -- A border loop, sector by sector: each of its half edges lies opposite an out edge, and turning leads from one of these to the next.
 use Rattle.std.proofs.Common.{◌≡◌, ◌≢◌, ◌↔◌, inl, inr, ℕ, ◌<◌, true, List, [], ◌∷◌, ◌++◌, drop, length, map, reverse, slice_index, refl, sym, ap, ◌∙◌, subst, arith}
-use Rattle.std.proofs.lemmas.List.{length-reverse, nil_from_length, reverse-append}
+use Rattle.std.proofs.lemmas.List.{length-reverse, reverse-append}
 use Rattle.dcel_maps.specs.Borders.{IsBorderLoop, StartsAlone}
 use Rattle.dcel_maps.specs.Conditions.{IsTriangle}
 use Rattle.dcel_maps.specs.Maps.{By}
@@ -125,10 +125,6 @@ pub round_begins : (s : Shape) → IsSound s → (apex first : ℕ) (others : Li
 round_begins s sound apex first others live = record { live = (ccw-lawful sound).stays first live; same = (λ is. is, λ is. is) }
 
 module _ (s : Shape) (apex first : ℕ) (others : List ℕ) (now : ℕ) (left : List ℕ) (on : GoesRound s apex first others now left) where
-  -- it ends where nothing is left
-  pub round_ends : length left ≡ 0 → (now ≡ first) ↔ Sectors s apex (ccw_of s first) (reverse others) first
-  round_ends none = subst (λ (w : List ℕ). Sectors s apex now (reverse w) first ↔ Sectors s apex (ccw_of s first) (reverse others) first) (nil_from_length left none) on.same
-
   module _ (edge : ℕ) (before : List ℕ) (parts : left ≡ before ++ edge ∷ []) where
     turned : reverse left ≡ edge ∷ reverse before
     turned = ap reverse parts ∙ reverse-append before (edge ∷ [])
@@ -142,10 +138,6 @@ module _ (s : Shape) (apex first : ℕ) (others : List ℕ) (now : ℕ) (left : 
         λ whole. (subst (λ w. Sectors s apex now w first) turned (on.same.1 whole)).2,
       );
     }
-
-    -- and stops at anything else
-    pub round_sector : Sectors s apex (ccw_of s first) (reverse others) first → IsSector s now edge × (origin_of s edge ≢ apex)
-    round_sector whole = let all = subst (λ w. Sectors s apex now w first) turned (on.same.1 whole) in (all.0, all.1)
 
 -- a list that ends with `last` is a border loop just where it is a ring from there
 pub loop_iff-ring : (s : Shape) → IsSound s → (border others : List ℕ) (v last : ℕ) → border ≡ others ++ last ∷ []

@@ -46,9 +46,6 @@ module _ (s : Shape) (sound : IsSound s) (sphere : IsSphere s) (v h : ℕ) (arou
   abbrev items : List ℕ
   items = map (next_of s) (trip s sound sphere v h around).rest
 
-  abbrev list : List ℕ
-  list = items ++ next_of s h ∷ []
-
   t : Sound (map_of s)
   t = map-sound sound
 

@@ -89,9 +89,6 @@ module _ (s : Shape) (sound : IsSound s) (sphere : IsSphere s) (v h : ℕ) (arou
   abbrev N : Map
   N = M s sound sphere v h around closed removal gives some_face y r outer
 
-  T : Map
-  T = map_of s
-
   around_hole : IsCycle (Follows N 0) (y ∷ r ++ strip)
   around_hole = (hole s sound sphere v h around closed removal gives some_face y r outer).cycle
 

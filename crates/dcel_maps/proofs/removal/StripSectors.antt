@@ -1,7 +1,6 @@
 -- A strip, sector by sector: each of its half edges but the last lies opposite a spoke, and turning leads from one spoke to the next.
 use Rattle.std.proofs.Common.{◌≡◌, ◌≢◌, ◌↔◌, inl, inr, ℕ, ◌<◌, ◌≤◌, List, [], ◌∷◌, ◌++◌, drop, length, map, sym, refl, ap, ◌∙◌, subst, arith}
 use Rattle.std.proofs.lemmas.Bool.{cases_eq}
-use Rattle.std.proofs.lemmas.List.{nil_from_length}
 use Rattle.dcel_maps.specs.Maps.{ccw}
 use Rattle.dcel_maps.specs.Shapes.{IsLive, IsSound, Shape, face_of, map_of, next_of, origin_of, prev_of}
 use Rattle.dcel_maps.specs.Strips.{IsEdgeStrip, IsStripAround, spokes_after}
@@ -185,14 +184,3 @@ module _ (s : Shape) (first : ℕ) (others : List ℕ) (now edge : ℕ) (left af
           λ whole. (subst (λ w. Sectors s (origin_of s first) now w first) parts (on.same.1 whole)).2,
         );
       }
-
-  -- and stops at anything else
-  pub along_sector : Sectors s (origin_of s first) (ccw_of s first) others first → IsSector s now edge
-  along_sector whole = (subst (λ w. Sectors s (origin_of s first) now w first) parts (on.same.1 whole)).0
-
--- it ends where nothing is left
-pub along_ends : (s : Shape) (first : ℕ) (others : List ℕ) (now : ℕ) (left : List ℕ) → GoesAlong s first others now left → length left ≡ 0
-    → (now ≡ first) ↔ Sectors s (origin_of s first) (ccw_of s first) others first
-along_ends s first others now left on none =
-    subst (λ (w : List ℕ). Sectors s (origin_of s first) now w first ↔ Sectors s (origin_of s first) (ccw_of s first) others first)
-    (nil_from_length left none) on.same

@@ -46,9 +46,6 @@ module _ (s : Shape) (sound : IsSound s) (sphere : IsSphere s) (v h : ℕ) (arou
   abbrev pub items : List ℕ
   items = map (next_of s) (trip s sound sphere v h around).rest
 
-  abbrev pub ring : List ℕ
-  ring = y ∷ r ++ items
-
   abbrev pub t : Shape
   t = record s {
     words = kept_words removal (slice_set s.words 0 (from_least (y ∷ r ++ items)));

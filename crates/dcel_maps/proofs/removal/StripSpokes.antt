@@ -224,9 +224,6 @@ module _ (s : Shape) (sound : IsSound s) (sphere : IsSphere s) (v h : ℕ) (arou
         opened xs T f h (y ∷ r) x (subst (Merged T f h (y ∷ r)) path.0 merged) (sectors x xs spoke path.1)
         (different f (x ∷ xs) spoke once (λ k found at. spoke_inner k (spoke k found) (at ∙ around.outer)))
 
-    pub items : List ℕ
-    items = map (next_of s) trip.rest
-
     pub record StripAway : Type 0 where
       pub left : Map
       pub hole : HoleOf T left (h ∷ trip.rest) (y ∷ r ++ map (next_of s) trip.rest) f

@@ -22,16 +22,6 @@ pub down-more : (n m : ℕ) (ds : List ℕ) → n ≤ m → GoesDown n ds → Go
 down-more n m [] more down = tt
 down-more n m (d ∷ ds) more down = (omega (arith, more, down.0), down.1)
 
--- it holds no item twice
-pub down-short : (n : ℕ) (ds : List ℕ) → GoesDown n ds → length ds ≤ n
-down-short n [] down = omega arith
-down-short n (d ∷ ds) down = omega (arith, down.0, down-short d ds down.1)
-
--- what is taken out later keeps its number: only the last one moves, and it is not smaller than d
-pub later-stays : (n d : ℕ) (ds : List ℕ) → GoesDown n (d ∷ ds) → (e : ℕ) → 0 < count_of e ds → moved (n - 1) d e ≡ e
-later-stays n d ds down e found =
-    moved-other (n - 1) d e (λ last. omega (arith, last, down.0, down-below d ds down.1 e found))
-
 -- and nothing else gets such a number
 pub moved-apart : (n d : ℕ) (ds : List ℕ) → GoesDown n (d ∷ ds) → (k : ℕ) → count_of k (d ∷ ds) ≡ 0 → count_of (moved (n - 1) d k) ds ≡ 0
 moved-apart n d ds down k none = elim (cases_eq k (n - 1)) [
@@ -80,20 +70,7 @@ old_number-below n (d ∷ ds) down j below =
     moved-within d n (old_number (n - 1) ds j) down.0
     (old_number-below (n - 1) ds (down-more d (n - 1) ds (omega (arith, down.0)) down.1) j (omega (arith, below)))
 
-pub old_number-back : (n : ℕ) (ds : List ℕ) → GoesDown n ds → (j : ℕ) → j < n - length ds → new_number n ds (old_number n ds j) ≡ j
-unfolding new_number old_number
-old_number-back n [] down j below = refl
-old_number-back n (d ∷ ds) down j below =
-    let rest = down-more d (n - 1) ds (omega (arith, down.0)) down.1 in
-    let inside = old_number-below (n - 1) ds rest j (omega (arith, below)) in
-    ap (new_number (n - 1) ds) (moved-back d (n - 1) (old_number (n - 1) ds j) (λ e. omega (arith, e, inside)))
-    ∙ old_number-back (n - 1) ds rest j (omega (arith, below))
-
 -- a list from which the same places are taken out holds each item at its new number
-pub length-all_put : {A : Type 0} (xs : List A) (ds : List ℕ) → length (fold (last_put 1) xs ds) ≡ length xs - length ds
-length-all_put xs [] = omega arith
-length-all_put xs (d ∷ ds) = omega (arith, length-all_put (last_put 1 xs d) ds, length-last_put 1 xs d)
-
 pub all_put-old : {A : Type 0} (z : A) (xs : List A) (ds : List ℕ) → GoesDown (length xs) ds → (j : ℕ) → j < length xs - length ds
     → slice_index_or (fold (last_put 1) xs ds) j z ≡ slice_index_or xs (old_number (length xs) ds j) z
 unfolding old_number

@@ -24,6 +24,18 @@ pub first_or_later : (h x : ℕ) (r : List ℕ) → 0 < count_of h (x ∷ r) →
 first_or_later h x r found =
     elim (cases_eq h x) [ inl same ↦ inl same | inr differs ↦ inr (omega (arith, found, count-other h x r differs)) ]
 
+-- an item of two lists after each other stands in one of them
+pub in_either : (h : ℕ) (a b : List ℕ) → 0 < count_of h (a ++ b) → (0 < count_of h a) ⊎ (0 < count_of h b)
+in_either h a b found =
+    elim (cases_lt 0 (count_of h a)) [ inl there ↦ inl there | inr not ↦ inr (omega (arith, found, not, count-append h a b)) ]
+
+-- and an item of a list with one more at its end is that or stands before it
+pub last_or_before : (h x : ℕ) (r : List ℕ) → 0 < count_of h (r ++ x ∷ []) → (h ≡ x) ⊎ (0 < count_of h r)
+last_or_before h x r found = elim (in_either h r (x ∷ []) found) [
+  | inl before ↦ inr before
+  | inr last ↦ elim (first_or_later h x [] last) [ inl same ↦ inl same | inr none ↦ absurd (omega (arith, none)) ]
+]
+
 -- what stands in the rest stands in the list
 pub count-later : (h x : ℕ) (r : List ℕ) → 0 < count_of h r → 0 < count_of h (x ∷ r)
 count-later h x r found = omega (arith, found)

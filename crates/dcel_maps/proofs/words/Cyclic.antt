@@ -6,8 +6,7 @@ use Rattle.dcel_maps.specs.theory.Standing.{Follows}
 use Rattle.dcel_maps.specs.theory.Cycles.{IsCycle}
 use Rattle.dcel_maps.specs.Words.{count_of, IsLeastFirst, TurnsTo}
 use Rattle.dcel_maps.proofs.words.Faces.{IsWordOf, cycle_is_word}
-use Rattle.dcel_maps.proofs.words.Rounds.{Adjacent, round_of}
-use Rattle.dcel_maps.proofs.words.Turns.{IsCycle-turn, count-turn, IsLeastFirst-from_least, from_least-is, from_least-turn, turns_on, turns_to_itself}
+use Rattle.dcel_maps.proofs.words.Turns.{count-turn, IsLeastFirst-from_least, from_least-is, from_least-turn, turns_on, turns_to_itself}
 use Rattle.dcel_maps.specs.Cyclic.{from_least}
 
 -- the least form holds what the list holds
@@ -22,10 +21,6 @@ from_least-same {w} {u} turn single =
 -- a list with its least item first is its least form
 pub from_least-kept : (w : List ℕ) → IsLeastFirst w → ((h : ℕ) → count_of h w ≤ 1) → from_least w ≡ w
 from_least-kept w least single = from_least-is (turns_to_itself w) least single
-
--- the items beside an item are the same in each form
-beside : {w u : List ℕ} → TurnsTo w u → ((h : ℕ) → count_of h w ≤ 1) → IsCycle (Adjacent w) u
-beside {w} turn single = IsCycle-turn (Adjacent w) turn (round_of w single)
 
 -- and a list that leads round a face of a sound map gives the face's word
 pub from_least-word : (M : Map) → Sound M → (f x : ℕ) (r : List ℕ) → IsCycle (Follows M f) (x ∷ r)

@@ -53,12 +53,6 @@ module _ (T : Map) (h k : ℕ) (t : Sound T) (e : StraightensAt T h k) (sound : 
     abbrev f : ℕ
     f = T.face h
 
-    abbrev g : ℕ
-    g = rev h
-
-    abbrev j : ℕ
-    j = rev k
-
     live_j : Live T (rev k)
     live_j = rev_live T k (subst (Live T) e.next_h (t.live_next h e.lives))
 

@@ -1,4 +1,4 @@
-use Rattle.std.proofs.Common.{◌≡◌, ◌<◌, ℕ, zero, suc, inl, inr, refl, sym, ◌∙◌, subst, arith}
+use Rattle.std.proofs.Common.{◌≡◌, ◌<◌, ℕ, inl, inr, refl, sym, ◌∙◌, subst, arith}
 use Rattle.std.proofs.lemmas.Bool.{false≢true}
 use Rattle.dcel_fixed.specs.HalfEdges.{rev}
 use Rattle.dcel_maps.specs.Count.{live_edges, live_faces, used_vertices}
@@ -11,17 +11,9 @@ use Rattle.dcel_maps.specs.Walking.{ccw_of, walk_of}
 use Rattle.dcel_maps.specs.Walks.{up_to}
 use Rattle.dcel_maps.specs.Words.{count_of, next_in, prev_in}
 use Rattle.dcel_maps.proofs.Liveness.{is_live-given_up}
+use Rattle.dcel_maps.proofs.maps.FirstTriangle.{below_six}
 use Rattle.dcel_maps.proofs.maps.Reaching.{reaches_stays}
 use Rattle.dcel_maps.proofs.laws.the_headline_leaves_out.Goals as goal
-
-below_six : (P : ℕ → Type 0) → P 0 → P 1 → P 2 → P 3 → P 4 → P 5 → (x : ℕ) → x < 6 → P x
-below_six P a b c d e f zero below = a
-below_six P a b c d e f (suc zero) below = b
-below_six P a b c d e f (suc (suc zero)) below = c
-below_six P a b c d e f (suc (suc (suc zero))) below = d
-below_six P a b c d e f (suc (suc (suc (suc zero)))) below = e
-below_six P a b c d e f (suc (suc (suc (suc (suc zero))))) below = f
-below_six P a b c d e f (suc (suc (suc (suc (suc (suc x)))))) below = absurd (omega (arith, below))
 
 -- the first triangle is not left
 stays : (x y : ℕ) → x < 6 → NextOrRev (map_of two_triangles) x y → y < 6
