@@ -1,5 +1,5 @@
 -- The links of a mesh are those of a claim that passes.
-use Rattle.std.proofs.Common.{◌≡◌, ◌≢◌, inl, inr, ℕ, zero, suc, ◌/◌, ◌<◌, true, false, List, [], ◌∷◌, length, slice_index, refl, sym, ap, ◌∙◌, arith}
+use Rattle.std.proofs.Common.{◌≡◌, ◌≢◌, inl, inr, ℕ, ◌/◌, ◌<◌, true, false, List, [], slice_index, refl, sym, ap, ◌∙◌, arith}
 use Rattle.std.proofs.lemmas.Bool.{both_ways}
 use Rattle.dcel_maps.specs.Maps.{Map}
 use Rattle.dcel_maps.specs.Removals.{gives_up_edge, gives_up_face}
@@ -11,23 +11,10 @@ use Rattle.dcel_maps.proofs.maps.Agreement.{Agrees, agrees-sound, agrees-sphere}
 use Rattle.dcel_maps.proofs.maps.Counts.{used_from}
 use Rattle.dcel_maps.proofs.shapes.Maps.{map-sound, map-sphere, word_cases}
 use Rattle.dcel_maps.proofs.walks.Links.{links_stand}
+use Rattle.dcel_maps.proofs.walks.Numbers.{length-listed, listed, listed-at}
 use Rattle.dcel_maps.proofs.words.Reading.{face_in_word, live_in}
 use Rattle.dcel_links.specs.Claims.{Claim, IsMeshOf, claimed_map, halves}
 use Rattle.dcel_links.specs.Meshes.{IsLinked}
-
--- the list of what f makes of the numbers below n
-abbrev pub listed : (ℕ → ℕ) → ℕ → List ℕ
-listed f zero = []
-listed f (suc n) = f 0 ∷ listed (λ k. f (suc k)) n
-
-length-listed : (f : ℕ → ℕ) (n : ℕ) → length (listed f n) ≡ n
-length-listed f zero = refl
-length-listed f (suc n) = ap (λ k. suc k) (length-listed (λ k. f (suc k)) n)
-
-listed-at : (f : ℕ → ℕ) (n h : ℕ) → h < n → slice_index (listed f n) h ≡ f h
-listed-at f zero h below = absurd (omega arith)
-listed-at f (suc n) zero below = refl
-listed-at f (suc n) (suc h) below = listed-at (λ k. f (suc k)) n h (omega arith)
 
 module _ {V DE UE F : Type 0} (m : Mesh V DE UE F) (c : Claim) (mesh : IsMesh m) (linked : IsLinked m.shape c) where
   abbrev s : Shape

@@ -9,7 +9,6 @@
 #![tactic(auto)]
 
 ghost use Rattle.std.specs.Prelude.{◌≡◌, ℕ, IfErr, IfOk, List};
-ghost use Rattle.dcel_fixed.specs.HalfEdges.{rev};
 ghost use Rattle.dcel_links.specs.Claims.{IsMeshOf, claim_of};
 ghost use Rattle.dcel_links.specs.Faults.{IsFirst};
 
@@ -62,12 +61,4 @@ pub fn check_links<A: Allocator + Clone>(
         Ok(()) => Ok(Ok(prev)),
         Err(fault) => Ok(Err(fault)),
     }
-}
-
-// Returns the other half of an edge.
-#[inline]
-pub(crate) fn other_half(half: usize) -> usize
-    ensures { result ≡ rev half }
-{
-    half ^ 1
 }

@@ -7,8 +7,9 @@ ghost use Rattle.dcel_links.specs.Faults.{Means, TwoLead, stage};
 ghost use Rattle.dcel_links.specs.Rounds.{AreTurns};
 ghost use Rattle.dcel_links.specs.Stages.{FaceRounds, Fitting, Leading, Ranges};
 
+use crate::LinksFault;
 use crate::lists::Links;
-use crate::{LinksFault, other_half};
+use dcel_fixed::other_half;
 use std::alloc::{AllocError, Allocator};
 
 /// Checks that each link is a number of its kind.

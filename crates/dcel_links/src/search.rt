@@ -7,7 +7,7 @@ ghost use Rattle.dcel_links.specs.Marks.{IsBlank};
 ghost use Rattle.dcel_links.specs.Search.{Leads, Queue, Visits};
 
 use crate::marks::find_unmarked;
-use crate::other_half;
+use dcel_fixed::other_half;
 
 // Marks a half edge and puts it at the end of the queue, if it isn't there.
 fn visit(half: usize, marks: &mut [bool], order: &mut [u32], tail: usize) -> usize

@@ -10,7 +10,7 @@ use Rattle.dcel_links.proofs.links.check_fit.Goals as goal
 pub offset_bounds-origin-other_half : goal.offset_bounds-origin-other_half
 offset_bounds-origin-other_half c =
     let within = rev_within c.loop-half.half (length c.args.links.next.now) c.requires.lists.even c.loop-half-test.true in
-    let below : c.other_half.result < length c.args.links.next.now = subst (λ k. k < length c.args.links.next.now) (sym c.other_half.ensures) within in
+    let below : c.other_half.result < length c.args.links.next.now = subst (λ k. k < length c.args.links.next.now) (sym c.other_half.ensures.value) within in
     let same : length c.args.links.origin.now ≡ length c.args.links.next.now = c.requires.lists.origins in
     let in_range : c.other_half.result < length c.args.links.origin.now = omega arith in
     search rules
@@ -18,7 +18,7 @@ offset_bounds-origin-other_half c =
 pub bounds-origin-other_half : goal.bounds-origin-other_half
 bounds-origin-other_half c =
     let within = rev_within c.loop-half.half (length c.args.links.next.now) c.requires.lists.even c.loop-half-test.true in
-    let below : c.other_half.result < length c.args.links.next.now = subst (λ k. k < length c.args.links.next.now) (sym c.other_half.ensures) within in
+    let below : c.other_half.result < length c.args.links.next.now = subst (λ k. k < length c.args.links.next.now) (sym c.other_half.ensures.value) within in
     omega arith
 
 pub returns-clause-passed : goal.returns-clause-passed

@@ -16,7 +16,7 @@ visit-tail-requires-in-loop-head-2-clause-half c =
     let known = marked_below c.loop-head.marks half (c.loop-head.invariant.queue.listed c.loop-head.head c.loop-head-test.true) in
     let below : half < length c.args.next.now = omega arith in
     let within = rev_within half (length c.args.next.now) c.requires.even below in
-    let other : c.other_half.result < length c.args.next.now = subst (λ k. k < length c.args.next.now) (sym c.other_half.ensures) within in
+    let other : c.other_half.result < length c.args.next.now = subst (λ k. k < length c.args.next.now) (sym c.other_half.ensures.value) within in
     omega arith
 
 pub loop-head-preserved : goal.loop-head-preserved
@@ -25,7 +25,7 @@ loop-head-preserved c =
     let two = c.visit-tail-in-loop-head-2 in
     search_goes c.args.next.now c.loop-head.marks one.new.marks two.new.marks c.loop-head.order one.new.order two.new.order c.loop-head.head
     c.loop-head.tail one.result two.result c.loop-head.invariant c.loop-head-test.true one.ensures
-    (subst (λ k. Visits k one.new.marks one.new.order one.result two.new.marks two.new.order two.result) c.other_half.ensures two.ensures)
+    (subst (λ k. Visits k one.new.marks one.new.order one.result two.new.marks two.new.order two.result) c.other_half.ensures.value two.ensures)
 
 pub returns-in-Some-clause-cut_off : goal.returns-in-Some-clause-cut_off
 returns-in-Some-clause-cut_off c =
