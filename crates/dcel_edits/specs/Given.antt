@@ -1,5 +1,6 @@
 -- What writing given edges, faces and anchors leaves in the stored lists.
-use Rattle.std.specs.Prelude.{◌≡◌, ◌≢◌, ℕ, ◌+◌, ◌-◌, ◌*◌, ◌<◌, List, [], ◌∷◌, ◌++◌, length, map, replicate, slice_index, slice_set, Option, Some, None}
+use Rattle.std.specs.Prelude.{◌≡◌, ◌≢◌, ℕ, ◌+◌, ◌-◌, ◌*◌, ◌<◌, List, [], ◌∷◌, ◌++◌, length, replicate, slice_index, slice_set, Option, Some, None}
+use Rattle.dcel_store.specs.EdgeLists.{edges_data, halves_data}
 use Rattle.dcel_store.specs.Lists.{Lists}
 use Rattle.dcel_store.specs.declared.EdgeData.{EdgeData}
 
@@ -13,14 +14,6 @@ pub record AreLists (next prev origin face : List ℕ) (edges : ℕ) : Type 0 wh
   pub prevs : length prev ≡ 2 * edges
   pub origins : length origin ≡ 2 * edges
   pub sides : length face ≡ 2 * edges
-
--- the data of half edges, and those of edges
-abbrev pub halves_data : {DE UE : Type 0} → List (EdgeData DE UE) → List DE
-halves_data [] = []
-halves_data (e ∷ rest) = e.normalized ∷ e.reversed ∷ halves_data rest
-
-abbrev pub edges_data : {DE UE : Type 0} → List (EdgeData DE UE) → List UE
-edges_data edges = map (λ e. e.undirected) edges
 
 -- each item of a list is anchored at its half edge, from h on, one after another
 abbrev pub anchored_from : ℕ → List ℕ → List (Option ℕ) → List (Option ℕ)

@@ -1,7 +1,7 @@
 //! A mesh made from links that are given as lists, with anchors that are chosen or given.
 
 ghost use Rattle.std.specs.Prelude.{◌≡◌, ◌↔◌, ℕ, ◌/◌, ◌<◌, IfErr, IfOk, IsTrue, OnOk, length};
-ghost use Rattle.dcel_edits.specs.Given.{IsLast, edges_data, halves_data};
+ghost use Rattle.dcel_edits.specs.Given.{IsLast};
 ghost use Rattle.dcel_links.specs.Anchors.{AreAnchors};
 ghost use Rattle.dcel_links.specs.Claims.{IsMeshOf, claim};
 ghost use Rattle.dcel_links.specs.Meshes.{IsLinked};
