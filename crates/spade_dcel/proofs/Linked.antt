@@ -6,13 +6,14 @@ use Rattle.dcel_store.specs.EdgeLists.{edges_data, halves_data}
 use Rattle.dcel_store.specs.Lists.{Lists}
 use Rattle.dcel_store.specs.declared.EdgeData.{EdgeData}
 use Rattle.dcel_maps.specs.Maps.{Live, Map}
+use Rattle.dcel_maps.specs.Numbers.{IsLast}
 use Rattle.dcel_maps.specs.Removals.{Closed, Removal, gives_up_edge}
 use Rattle.dcel_maps.specs.theory.Sound.{Sound, Sphere, has_word}
 use Rattle.dcel_maps.proofs.Liveness.{gives_up_edge-closed}
 use Rattle.dcel_maps.proofs.Shown.{shown-kept}
 use Rattle.dcel_maps.proofs.maps.Labels.{Labelled}
 use Rattle.dcel_maps.proofs.words.Reading.{face_in-is, next_in-is}
-use Rattle.dcel_edits.specs.Given.{AreBelow, IsLast, last_anchors, mesh_stored}
+use Rattle.dcel_edits.specs.Given.{AreBelow, last_anchors, mesh_stored}
 use Rattle.dcel_edits.specs.Stored.{IsStored, mesh_of, stored_map, stored_words}
 use Rattle.dcel_edits.proofs.Anchoring.{anchored_last, length-anchored}
 use Rattle.dcel_edits.proofs.stored.Given.{IsGiven, given_stored}
