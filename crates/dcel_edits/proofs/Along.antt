@@ -1,7 +1,7 @@
 -- Half edges moved to another face, and links led along half edges, one after another.
 use Rattle.std.proofs.Common.{◌≡◌, ◌<◌, ℕ, List, [], ◌∷◌, inl, inr, length, slice_index, slice_set, None, Some, refl, ap, ◌∙◌, subst, arith}
 use Rattle.std.proofs.lemmas.Bool.{cases_eq, cases_lt}
-use Rattle.std.proofs.lemmas.List.{get_or-set_other, get_or-set_same, get_or_past, length-set, nil_from_length}
+use Rattle.std.proofs.lemmas.List.{get_or-set_other, get_or-set_same, get_or_past, length-set}
 use Rattle.dcel_edits.specs.Strip.{CanCutStrip, CanLeadAlong, CanMoveOut, all_moved_out, led_along, moved_out, next_along, prev_along, rooted}
 use Rattle.dcel_maps.specs.Words.{count_of, last_of}
 use Rattle.dcel_maps.proofs.words.Counts.{count-later, count-same, first_or_later}
@@ -15,77 +15,44 @@ module _ {V DE UE F : Type 0} where
     pub same : all_moved_out now left ≡ all_moved_out s items
     pub can : CanMoveOut now left
 
-  pub move_begins : (s : Lists V DE UE F) (items : List ℕ) → CanMoveOut s items → MovesOut s items s items
-  move_begins s items can = record { same = refl; can = can }
-
-  module _ (s : Lists V DE UE F) (items : List ℕ) (now : Lists V DE UE F) (left : List ℕ) (on : MovesOut s items now left) where
-    pub move_ends : length left ≡ 0 → now ≡ all_moved_out s items
-    move_ends none = subst (λ (l : List ℕ). all_moved_out now l ≡ all_moved_out s items) (nil_from_length left none) on.same
-
-    module _ (edge : ℕ) (after : List ℕ) (parts : left ≡ edge ∷ after) where
-      can_now : CanMoveOut now (edge ∷ after)
-      can_now = subst (λ (l : List ℕ). CanMoveOut now l) parts on.can
-
-      pub move_edge : edge < length now.next
-      move_edge = can_now.0
-
-      pub move_face : slice_index now.face edge < length now.face_anchors
-      move_face = can_now.1
-
-      pub move_goes_on : MovesOut s items (moved_out now edge) after
-      move_goes_on = record {
-        same = subst (λ (l : List ℕ). all_moved_out now l ≡ all_moved_out s items) parts on.same;
-        can = can_now.2;
-      }
-
   pub record LeadsAlong (s : Lists V DE UE F) (before : ℕ) (list : List ℕ) (now : Lists V DE UE F) (last : ℕ) (left : List ℕ) : Type 0 where
     pub same : led_along now last left ≡ led_along s before list
     pub ends : last_of last left ≡ last_of before list
     pub can : CanLeadAlong now last left
 
-  pub lead_begins : (s : Lists V DE UE F) (before : ℕ) (list : List ℕ) → CanLeadAlong s before list → LeadsAlong s before list s before list
-  lead_begins s before list can = record { same = refl; ends = refl; can = can }
-
   module _ (s : Lists V DE UE F) (before : ℕ) (list : List ℕ) (now : Lists V DE UE F) (last : ℕ) (left : List ℕ)
-      (on : LeadsAlong s before list now last left) where
-    pub lead_ends : length left ≡ 0 → now ≡ led_along s before list
-    lead_ends none = subst (λ (l : List ℕ). led_along now last l ≡ led_along s before list) (nil_from_length left none) on.same
+      (on : LeadsAlong s before list now last left) (edge : ℕ) (after : List ℕ) (parts : left ≡ edge ∷ after) where
+    can_here : CanLeadAlong now last (edge ∷ after)
+    can_here = subst (λ (l : List ℕ). CanLeadAlong now last l) parts on.can
 
-    pub lead_last : length left ≡ 0 → last ≡ last_of before list
-    lead_last none = subst (λ (l : List ℕ). last_of last l ≡ last_of before list) (nil_from_length left none) on.ends
+    here : 0 < count_of edge (edge ∷ after)
+    here = omega (arith, count-same edge after)
 
-    module _ (edge : ℕ) (after : List ℕ) (parts : left ≡ edge ∷ after) where
-      can_here : CanLeadAlong now last (edge ∷ after)
-      can_here = subst (λ (l : List ℕ). CanLeadAlong now last l) parts on.can
+    pub lead_can : CanLeadAlong now last (edge ∷ [])
+    lead_can = record {
+      before_in = can_here.before_in;
+      edge_in = λ e found. can_here.edge_in e (omega (arith, found));
+      origin_in = λ e found. can_here.origin_in e (omega (arith, found));
+    }
 
-      here : 0 < count_of edge (edge ∷ after)
-      here = omega (arith, count-same edge after)
+    long : length (slice_set now.next last edge) ≡ length now.next
+    long = length-set now.next last edge
 
-      pub lead_can : CanLeadAlong now last (edge ∷ [])
-      lead_can = record {
-        before_in = can_here.before_in;
-        edge_in = λ e found. can_here.edge_in e (omega (arith, found));
-        origin_in = λ e found. can_here.origin_in e (omega (arith, found));
-      }
-
-      long : length (slice_set now.next last edge) ≡ length now.next
-      long = length-set now.next last edge
-
-      pub lead_goes_on : LeadsAlong s before list (led_along now last (edge ∷ [])) edge after
-      lead_goes_on = record {
-        same = subst (λ (l : List ℕ). led_along now last l ≡ led_along s before list) parts on.same;
-        ends = subst (λ (l : List ℕ). last_of last l ≡ last_of before list) parts on.ends;
-        can = record {
-          before_in = omega (arith, can_here.edge_in edge here, long);
-          edge_in = λ e found. omega (arith, can_here.edge_in e (count-later e edge after found), long);
-          origin_in = λ e found.
-              omega (
-                arith,
-                can_here.origin_in e (count-later e edge after found),
-                length-set now.vertex_anchors (slice_index now.origin edge) (Some edge),
-              );
-        };
-      }
+    pub lead_goes_on : LeadsAlong s before list (led_along now last (edge ∷ [])) edge after
+    lead_goes_on = record {
+      same = subst (λ (l : List ℕ). led_along now last l ≡ led_along s before list) parts on.same;
+      ends = subst (λ (l : List ℕ). last_of last l ≡ last_of before list) parts on.ends;
+      can = record {
+        before_in = omega (arith, can_here.edge_in edge here, long);
+        edge_in = λ e found. omega (arith, can_here.edge_in e (count-later e edge after found), long);
+        origin_in = λ e found.
+            omega (
+              arith,
+              can_here.origin_in e (count-later e edge after found),
+              length-set now.vertex_anchors (slice_index now.origin edge) (Some edge),
+            );
+      };
+    }
 
 -- what is in range can move, whatever moved before
 pub can_move : {V DE UE F : Type 0} (s : Lists V DE UE F) (items : List ℕ) → 0 < length s.face_anchors → ((e : ℕ) → 0 < count_of e items → e < length s.next)

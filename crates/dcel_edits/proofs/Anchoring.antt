@@ -2,7 +2,8 @@
 use Rattle.std.proofs.Common.{◌≡◌, ◌≢◌, ◌⊎◌, inl, inr, ℕ, zero, suc, ◌+◌, ◌<◌, List, [], ◌∷◌, length, replicate, slice_index, slice_index_or, slice_set, Option, Some, None, refl, sym, ap, ◌∙◌, subst, arith, get_or-set_same, get_or-set_other, length-set}
 use Rattle.std.proofs.lemmas.Bool.{cases_eq}
 use Rattle.std.proofs.lemmas.List.{length-replicate}
-use Rattle.dcel_edits.specs.Given.{IsLast, anchored_from}
+use Rattle.dcel_edits.specs.Given.{anchored_from}
+use Rattle.dcel_maps.specs.Numbers.{IsLast}
 
 pub length-anchored : (h : ℕ) (labels : List ℕ) (anchors : List (Option ℕ)) → length (anchored_from h labels anchors) ≡ length anchors
 length-anchored h [] anchors = refl

@@ -21,10 +21,6 @@ abbrev pub mended : (ℕ → ℕ) → (ℕ → ℕ) → List ℕ → List ℕ �
 mended half link l ks = fold (λ l k. slice_set l (half k) (half (link k))) l ks
 
 module _ (P : ℕ → Type 0) (half link : ℕ → ℕ) (apart : (j k : ℕ) → P j → P k → half j ≡ half k → j ≡ k) where
-  length-mended : (l : List ℕ) (ks : List ℕ) → length (mended half link l ks) ≡ length l
-  length-mended l [] = refl
-  length-mended l (k ∷ ks) = length-mended (slice_set l (half k) (half (link k))) ks ∙ length-set l (half k) (half (link k))
-
   -- one write leaves a right link right, and makes that of k right
   one_write : (l : List ℕ) (j k : ℕ) → P j → P k → half k < length l → (j ≡ k) ⊎ (slice_index l (half j) ≡ half (link j))
       → slice_index (slice_set l (half k) (half (link k))) (half j) ≡ half (link j)

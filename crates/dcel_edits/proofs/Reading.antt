@@ -48,10 +48,6 @@ module _ {V DE UE F : Type 0} where
       → slice_index s.origin h < length s.vertex_data
   origin-below stored h live = stored.sound.below_vertices h live
 
-  pub face-below : {s : Lists V DE UE F} {r : Removal} → IsStored s r → (h : ℕ) → IsLive (mesh_of s r).shape h
-      → slice_index s.face h < length s.face_data
-  face-below stored h live = stored.sound.below_faces h live
-
   -- the public links of a live half edge are the stored ones
   pub next_of-is : {s : Lists V DE UE F} {r : Removal} → IsStored s r → (h : ℕ) → IsLive (mesh_of s r).shape h
       → next_of (mesh_of s r).shape h ≡ slice_index s.next h

@@ -1,5 +1,6 @@
 -- What writing given edges, faces and anchors leaves in the stored lists.
-use Rattle.std.specs.Prelude.{◌≡◌, ◌≢◌, ℕ, ◌+◌, ◌-◌, ◌*◌, ◌<◌, List, [], ◌∷◌, ◌++◌, length, map, replicate, slice_index, slice_set, Option, Some, None}
+use Rattle.std.specs.Prelude.{◌≡◌, ℕ, ◌+◌, ◌-◌, ◌*◌, ◌<◌, List, [], ◌∷◌, ◌++◌, length, replicate, slice_index, slice_set, Option, Some, None}
+use Rattle.dcel_store.specs.EdgeLists.{edges_data, halves_data}
 use Rattle.dcel_store.specs.Lists.{Lists}
 use Rattle.dcel_store.specs.declared.EdgeData.{EdgeData}
 
@@ -14,14 +15,6 @@ pub record AreLists (next prev origin face : List ℕ) (edges : ℕ) : Type 0 wh
   pub origins : length origin ≡ 2 * edges
   pub sides : length face ≡ 2 * edges
 
--- the data of half edges, and those of edges
-abbrev pub halves_data : {DE UE : Type 0} → List (EdgeData DE UE) → List DE
-halves_data [] = []
-halves_data (e ∷ rest) = e.normalized ∷ e.reversed ∷ halves_data rest
-
-abbrev pub edges_data : {DE UE : Type 0} → List (EdgeData DE UE) → List UE
-edges_data edges = map (λ e. e.undirected) edges
-
 -- each item of a list is anchored at its half edge, from h on, one after another
 abbrev pub anchored_from : ℕ → List ℕ → List (Option ℕ) → List (Option ℕ)
 anchored_from h [] anchors = anchors
@@ -30,11 +23,6 @@ anchored_from h (x ∷ rest) anchors = anchored_from (h + 1) rest (slice_set anc
 -- each of so many items anchored at the last half edge that the list labels with it
 abbrev pub last_anchors : List ℕ → ℕ → List (Option ℕ)
 last_anchors labels items = anchored_from 0 labels (replicate items None)
-
--- the last half edge that the list labels with v, and None where it labels none so
-abbrev pub IsLast : List ℕ → ℕ → Option ℕ → Type 0
-IsLast labels v None = (h : ℕ) → h < length labels → slice_index labels h ≢ v
-IsLast labels v (Some h) = (h < length labels) × (slice_index labels h ≡ v) × ((k : ℕ) → h < k → k < length labels → slice_index labels k ≢ v)
 
 module _ {V DE UE F : Type 0} where
   -- more edges

@@ -1,7 +1,6 @@
 -- A mesh over other data.
-use Rattle.std.proofs.Common.{◌≡◌, ◌∙◌, inl, inr, ℕ, ◌*◌, ◌/◌, ◌<◌, List, [], ◌∷◌, length, slice_index, Option, Some, None, Result, Ok, Err, IfOk, IfErr, refl, sym, ap, subst, arith}
+use Rattle.std.proofs.Common.{◌≡◌, ◌∙◌, inl, inr, ℕ, ◌*◌, ◌/◌, ◌<◌, List, [], length, slice_index, Option, Some, None, Result, Ok, Err, IfOk, IfErr, refl, sym, ap, subst, arith}
 use Rattle.std.proofs.lemmas.List.{length-map}
-use Rattle.dcel_edits.specs.Given.{edges_data, halves_data}
 use Rattle.dcel_links.specs.Anchors.{IsAnchor, anchor_of}
 use Rattle.dcel_links.specs.Claims.{Claim, claim}
 use Rattle.dcel_links.specs.Meshes.{IsLinked}
@@ -11,6 +10,8 @@ use Rattle.dcel_maps.specs.Words.{count_of, word_of}
 use Rattle.dcel_maps.proofs.Liveness.{closed-live, is_live-parts}
 use Rattle.dcel_maps.proofs.walks.Links.{links_stand}
 use Rattle.dcel_maps.proofs.words.Reading.{face_in_word, live_in, says}
+use Rattle.dcel_store.proofs.Lengths.{length-halves_data}
+use Rattle.dcel_store.specs.EdgeLists.{edges_data, halves_data}
 use Rattle.dcel_store.specs.declared.EdgeData.{EdgeData}
 use Rattle.spade_dcel.specs.Linked.{IsWrong, RefusesAnchored}
 use Rattle.spade_dcel.specs.declared.operations.given.LinksError.{LinksError}
@@ -24,10 +25,6 @@ ok_gives (Err e) P Q f p = tt
 pub err_gives : {T E : Type 0} (r : Result T E) (P Q : E → Type 0) → ((e : E) → P e → Q e) → IfErr r P → IfErr r Q
 err_gives (Ok x) P Q f p = tt
 err_gives (Err e) P Q f p = f e p
-
-length-halves : {DE UE : Type 0} (edges : List (EdgeData DE UE)) → length (halves_data edges) ≡ 2 * length edges
-length-halves [] = refl
-length-halves (e ∷ rest) = omega (arith, length-halves rest)
 
 module _ {V DE UE F V' DE' UE' F' : Type 0} (m : Mesh V DE UE F) (mesh : IsMesh m) (vertices : List V') (edges : List (EdgeData DE' UE')) (faces : List F')
     (as_many_vertices : length vertices ≡ m.shape.vertices) (as_many_edges : length edges ≡ m.shape.edges) (as_many_faces : length faces ≡ face_count m.shape) where
@@ -52,7 +49,7 @@ module _ {V DE UE F V' DE' UE' F' : Type 0} (m : Mesh V DE UE F) (mesh : IsMesh 
       vertex_data = as_many_vertices;
       vertex_anchors = mesh.sized.vertex_anchors;
       undirected_data = length-map edges (λ e. e.undirected) ∙ as_many_edges;
-      directed_data = length-halves edges ∙ ap (λ n. 2 * n) as_many_edges;
+      directed_data = length-halves_data edges ∙ ap (λ n. 2 * n) as_many_edges;
       origins = mesh.sized.origins;
       face_data = as_many_faces;
       face_anchors = mesh.sized.face_anchors;

@@ -2,7 +2,7 @@
 use Rattle.std.proofs.Common.{List, [], ◌∷◌}
 use Rattle.std.proofs.lemmas.List.Elements.{All-cons, All-head, All-map, All-nil, All-tail, All-weaker}
 use Rattle.std.specs.List.{All}
-use Rattle.dcel_edits.specs.Given.{edges_data, halves_data}
+use Rattle.dcel_store.specs.EdgeLists.{edges_data, halves_data}
 use Rattle.dcel_store.specs.declared.EdgeData.{EdgeData}
 use Rattle.dcel_exchange.specs.Defaults.{HasDefaults}
 

@@ -2,11 +2,11 @@
 
 ghost use Rattle.std.specs.Prelude.{◌≡◌, IfErr, IfOk, length};
 ghost use Rattle.std.specs.Option.{option_map};
-ghost use Rattle.dcel_edits.specs.Given.{edges_data, halves_data};
 ghost use Rattle.dcel_exchange.specs.Links.{lists_claim};
 ghost use Rattle.dcel_links.specs.Meshes.{IsLinked};
 ghost use Rattle.dcel_maps.specs.Removals.{Closed};
 ghost use Rattle.dcel_maps.specs.Shapes.{IsMesh, face_count};
+ghost use Rattle.dcel_store.specs.EdgeLists.{edges_data, halves_data};
 ghost use Rattle.spade_dcel.specs.Handles.{number_of};
 
 use crate::steps::links;

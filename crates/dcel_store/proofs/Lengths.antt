@@ -1,8 +1,10 @@
--- How long the vectors of a `Store` are, and the lists that they stand for.
-use Rattle.std.proofs.Common.{◌≡◌, suc, List, [], ◌∷◌, length, vec_capacity, vec_len, arith, refl, ap}
+-- How long the vectors of a `Store` are, the lists that they stand for, and lists of data.
+use Rattle.std.proofs.Common.{◌≡◌, suc, ◌*◌, List, [], ◌∷◌, length, vec_capacity, vec_len, arith, refl, ap}
 use Rattle.std.proofs.lemmas.List.{length-map}
 use Rattle.std.specs.List.{AllZip}
+use Rattle.dcel_store.specs.declared.EdgeData.{EdgeData}
 use Rattle.dcel_store.specs.declared.Store.TheInside.{Inside}
+use Rattle.dcel_store.specs.EdgeLists.{halves_data}
 use Rattle.dcel_store.specs.Vectors.{lists_of, VectorsAgree}
 use Rattle.dcel_store.specs.Lists.{LengthsAgree}
 
@@ -41,3 +43,7 @@ as_many R [] [] zips = refl
 as_many R [] (y ∷ ys) zips = absurd zips
 as_many R (x ∷ xs) [] zips = absurd zips
 as_many R (x ∷ xs) (y ∷ ys) zips = ap suc (as_many R xs ys zips.1)
+
+pub length-halves_data : {DE UE : Type 0} (edges : List (EdgeData DE UE)) → length (halves_data edges) ≡ 2 * length edges
+length-halves_data [] = refl
+length-halves_data (e ∷ rest) = omega (arith, length-halves_data rest)

@@ -1,4 +1,5 @@
 pub mod Data
+pub mod EdgeLists
 pub mod Lists
 pub mod Taking
 pub mod Vectors

@@ -1,16 +1,19 @@
 -- The links of a claim that passes, written into a store, hold a mesh that has them; no mesh has those of one that is refused.
-use Rattle.std.proofs.Common.{◌≡◌, ℕ, ◌*◌, ◌/◌, ◌<◌, true, List, [], ◌∷◌, length, replicate, slice_index, slice_index_or, Option, Some, None, refl, sym, ap, ◌∙◌, subst, arith}
+use Rattle.std.proofs.Common.{◌≡◌, ℕ, ◌*◌, ◌/◌, ◌<◌, true, List, length, replicate, slice_index, slice_index_or, Option, Some, None, refl, sym, ap, ◌∙◌, subst, arith}
 use Rattle.std.proofs.lemmas.List.{length-map, length-replicate}
+use Rattle.dcel_store.proofs.Lengths.{length-halves_data}
+use Rattle.dcel_store.specs.EdgeLists.{edges_data, halves_data}
 use Rattle.dcel_store.specs.Lists.{Lists}
 use Rattle.dcel_store.specs.declared.EdgeData.{EdgeData}
 use Rattle.dcel_maps.specs.Maps.{Live, Map}
+use Rattle.dcel_maps.specs.Numbers.{IsLast}
 use Rattle.dcel_maps.specs.Removals.{Closed, Removal, gives_up_edge}
 use Rattle.dcel_maps.specs.theory.Sound.{Sound, Sphere, has_word}
 use Rattle.dcel_maps.proofs.Liveness.{gives_up_edge-closed}
 use Rattle.dcel_maps.proofs.Shown.{shown-kept}
 use Rattle.dcel_maps.proofs.maps.Labels.{Labelled}
 use Rattle.dcel_maps.proofs.words.Reading.{face_in-is, next_in-is}
-use Rattle.dcel_edits.specs.Given.{AreBelow, IsLast, edges_data, halves_data, last_anchors, mesh_stored}
+use Rattle.dcel_edits.specs.Given.{AreBelow, last_anchors, mesh_stored}
 use Rattle.dcel_edits.specs.Stored.{IsStored, mesh_of, stored_map, stored_words}
 use Rattle.dcel_edits.proofs.Anchoring.{anchored_last, length-anchored}
 use Rattle.dcel_edits.proofs.stored.Given.{IsGiven, given_stored}
@@ -32,10 +35,6 @@ sides_below c prev mesh h below =
 -- where no list backwards makes a claim one of a mesh, no mesh has its links
 pub none_linked : (V DE UE F : Type 0) (c : Claim) → ((prev : List ℕ) → ¬ IsMeshOf c prev) → NoMesh V DE UE F c
 none_linked V DE UE F c none m mesh linked = none (prevs m c mesh linked) (linked_mesh m c mesh linked)
-
-length-halves : {DE UE : Type 0} (edges : List (EdgeData DE UE)) → length (halves_data edges) ≡ 2 * length edges
-length-halves [] = refl
-length-halves (e ∷ rest) = omega (arith, length-halves rest)
 
 -- the anchors that are given for so many vertices and faces are right
 pub record Anchored (origin face : List ℕ) (vertex_anchors face_anchors : List (Option ℕ)) (vertices faces : ℕ) : Type 0 where
@@ -104,7 +103,7 @@ module _ {V DE UE F : Type 0} (s : Lists V DE UE F) (next prev origin face : Lis
       of_prev = mesh.backwards;
       of_origin = mesh.lists.origins;
       of_face = mesh.lists.sides;
-      of_directed_data = length-halves edges ∙ sym twice;
+      of_directed_data = length-halves_data edges ∙ sym twice;
       of_face_anchors = right.of_faces;
     };
     few_vertices = mesh.few.vertices;

@@ -1,11 +1,12 @@
 //! A mesh made from links that are given as lists, with anchors that are chosen or given.
 
 ghost use Rattle.std.specs.Prelude.{◌≡◌, ◌↔◌, ℕ, ◌/◌, ◌<◌, IfErr, IfOk, IsTrue, OnOk, length};
-ghost use Rattle.dcel_edits.specs.Given.{IsLast, edges_data, halves_data};
 ghost use Rattle.dcel_links.specs.Anchors.{AreAnchors};
 ghost use Rattle.dcel_links.specs.Claims.{IsMeshOf, claim};
 ghost use Rattle.dcel_links.specs.Meshes.{IsLinked};
+ghost use Rattle.dcel_maps.specs.Numbers.{IsLast};
 ghost use Rattle.dcel_maps.specs.Shapes.{IsMesh, Mesh, face_anchor, face_count, vertex_anchor};
+ghost use Rattle.dcel_store.specs.EdgeLists.{edges_data, halves_data};
 ghost use Rattle.spade_dcel.specs.Linked.{Refuses, RefusesAnchored, RefusesLinks};
 
 use crate::dcel::Dcel;
