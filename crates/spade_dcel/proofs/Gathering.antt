@@ -1,7 +1,7 @@
 -- What is read of each half edge of a list, one after another.
-use Rattle.std.proofs.Common.{◌≡◌, ℕ, ◌<◌, List, [], ◌∷◌, ◌++◌, map, refl, sym, ap, ◌∙◌, subst, arith, append_assoc, append-nil}
+use Rattle.std.proofs.Common.{◌≡◌, ℕ, ◌<◌, List, [], ◌∷◌, ◌++◌, map, sym, ap, ◌∙◌, subst, arith, append_assoc, append-nil}
 use Rattle.dcel_maps.specs.Shapes.{IsLive, Mesh, Shape}
-use Rattle.dcel_maps.specs.Walking.{IsOutEdge, ListsOnce, in_mesh, out_edges_of}
+use Rattle.dcel_maps.specs.Walking.{in_mesh, out_edges_of}
 use Rattle.dcel_maps.specs.Words.{count_of}
 use Rattle.dcel_maps.proofs.walks.Items.{first_item, none_left}
 use Rattle.dcel_maps.proofs.words.Counts.{count-later, count-same}
@@ -17,14 +17,6 @@ module _ {V DE UE F : Type 0} where
     pub left : List ℕ
     pub items_are : items ≡ in_mesh m left
     pub gathers : Gathers m.shape read (out_edges_of m v) done left
-
-  pub round_begins : (m : Mesh V DE UE F) (v : ℕ) (read : ℕ → ℕ) (items : List (Mesh V DE UE F × ℕ)) → items ≡ in_mesh m (out_edges_of m v)
-      → ListsOnce (IsOutEdge m.shape v) (out_edges_of m v) → GathersRound m v read [] items
-  round_begins m v read items are lists = record {
-    left = out_edges_of m v;
-    items_are = are;
-    gathers = record { live = λ e found. (lists.no_other e found).live; is = refl };
-  }
 
   -- a half edge came
   pub record Comes (m n : Mesh V DE UE F) (v : ℕ) (read : ℕ → ℕ) (done : List ℕ) (k : ℕ) (more : List (Mesh V DE UE F × ℕ)) : Type 0 where

@@ -1,6 +1,6 @@
 -- The live inner faces to come: none of them is the outer face.
-use Rattle.std.proofs.Common.{◌≡◌, ℕ, ◌-◌, ◌<◌, List, [], ◌∷◌, ◌++◌, Option, Some, None, IfSome, MatchOption, sym, subst, arith}
-use Rattle.std.proofs.lemmas.List.Elements.{All-filter, All-head, All-map, All-nil, All-pop, All-rest}
+use Rattle.std.proofs.Common.{◌≡◌, ℕ, ◌-◌, ◌<◌, List, [], ◌∷◌, Option, Some, None, IfSome, MatchOption, sym, subst, arith}
+use Rattle.std.proofs.lemmas.List.Elements.{All-filter, All-head, All-map, All-nil, All-rest}
 use Rattle.std.proofs.lemmas.List.FromFn.{get_or-range_with_len, length-range_with_len}
 use Rattle.std.specs.List.{All}
 use Rattle.dcel_maps.specs.Kinds.{Faces}
@@ -30,11 +30,6 @@ module _ {A X : Type 0} (P : X → Type 0) (view : A → X) where
       → All P t × IfSome r (λ x. P (view x))
   kept_first None s t ends all = (subst (All P) (sym ends.1) (All-nil P), tt)
   kept_first (Some x) s t gives all = (All-rest P (view x) t s gives all, All-head P (view x) t (subst (All P) gives all))
-
-  pub kept_last : (r : Option A) (s t : List X) → MatchOption r ((s ≡ []) × (t ≡ [])) (λ x. s ≡ t ++ view x ∷ []) → All P s
-      → All P t × IfSome r (λ x. P (view x))
-  kept_last None s t ends all = (subst (All P) (sym ends.1) (All-nil P), tt)
-  kept_last (Some x) s t gives all = All-pop P s t (Some (view x)) gives all
 
 -- two facts of one that is taken
 pub both_of : {A : Type 0} (P Q : A → Type 0) (r : Option A) → IfSome r P → IfSome r Q → IfSome r (λ x. P x × Q x)

@@ -1,29 +1,26 @@
-//! The mesh: its counts, its elements by number, their anchors, and the tests of what operations
-//! ask.
+//! The mesh: its counts, its elements by number, and their anchors.
 
-ghost use Rattle.std.specs.Prelude.{◌≡◌, ℕ, ◌*◌, ◌^◌, ◌<◌, ◌≤◌, ◌↔◌, IfSome, IsSome, IsTrue, MatchOption, length, true};
+ghost use Rattle.std.specs.Prelude.{◌≡◌, ℕ, ◌*◌, ◌^◌, ◌<◌, ◌≤◌, ◌↔◌, IfSome, IsSome, MatchOption, true};
 ghost use Rattle.std.specs.Option.{option_map};
-ghost use Rattle.dcel_maps.specs.Checked.{IsChecked, LooksTriangulated, EvenHalfFits, PartsFaces};
-ghost use Rattle.dcel_maps.specs.Conditions.{HasRoom, IsUnconnected, IsLineEnd, IsTriangle, IsBridge, CanCloseOutside, CanFlip};
-ghost use Rattle.spade_dcel.specs.Handles.{mesh_behind, number_of};
-ghost use Rattle.dcel_maps.specs.Removals.{Closed};
-ghost use Rattle.dcel_maps.specs.Shapes.{IsLive, vertex_is_live, edge_is_live, face_is_live, face_count, next_of, prev_of, face_of, origin_of, vertex_anchor, face_anchor};
+ghost use Rattle.dcel_maps.specs.Shapes.{IsLive, edge_is_live, face_is_live, face_count, vertex_anchor, face_anchor};
 ghost use Rattle.dcel_maps.specs.Walking.{Leads, edge_between};
-ghost use Rattle.dcel_maps.specs.Words.{word_of};
+ghost use Rattle.spade_dcel.specs.Handles.{mesh_behind, number_of};
 
 mod borders;
+mod calls;
 mod conditions;
 mod data;
 mod degenerate;
 mod elements;
+mod links;
 mod regions;
 mod removals;
+mod sanity;
 mod strips;
 mod swap;
 mod whole;
 
 use crate::handles::{DirectedEdgeHandle, FaceHandle, UndirectedEdgeHandle, VertexHandle};
-use crate::operations::Room;
 use dcel_fixed::{
     FixedDirectedEdgeHandle, FixedFaceHandle, FixedUndirectedEdgeHandle, FixedVertexHandle,
     InnerOuterMarker, OUTER_FACE, PossiblyOuterTag,
@@ -326,292 +323,5 @@ impl<V, DE, UE, F, A: Allocator> Dcel<V, DE, UE, F, A> {
             }
         }
         found
-    }
-}
-
-/// Public tests of what the operations ask.
-impl<V, DE, UE, F, A: Allocator> Dcel<V, DE, UE, F, A> {
-    /// Returns whether there are numbers left for that many more elements.
-    ///
-    /// Vertices and faces have numbers below 2^32, undirected edges below 2^31. This is about
-    /// numbers, not about memory.
-    pub fn has_room(&self, vertices: usize, undirected_edges: usize, faces: usize) -> bool
-        ensures { IsTrue result ↔ HasRoom self.now.shape vertices undirected_edges faces }
-    {
-        vertices <= INDEX_SPACE - self.num_vertices()
-            && undirected_edges <= EDGE_SPACE - self.num_undirected_edges()
-            && faces <= INDEX_SPACE - self.num_faces()
-    }
-
-    /// Returns whether there are numbers left for what a call adds, as [`has_room`](Self::has_room)
-    /// does.
-    ///
-    /// [`Room`] has a constant for each call that grows.
-    pub fn has_room_for(&self, room: Room) -> bool
-        ensures { IsTrue result ↔ HasRoom self.now.shape room.vertices room.undirected_edges room.faces }
-    {
-        self.has_room(room.vertices, room.undirected_edges, room.faces)
-    }
-
-    /// Returns whether the vertex is live.
-    ///
-    /// It is live if its number is in range and no open removal has given it up.
-    pub fn is_live_vertex(&self, handle: FixedVertexHandle) -> bool
-        ensures { result ≡ vertex_is_live self.now.shape handle }
-    {
-        handle.index() < self.num_vertices() && !self.removal.gives_up_vertex(handle)
-    }
-
-    /// Returns whether the edge is live.
-    ///
-    /// It is live if its number is in range and no open removal has given it up. A half edge is
-    /// live if its edge is.
-    pub fn is_live_edge(&self, handle: FixedUndirectedEdgeHandle) -> bool
-        ensures { result ≡ edge_is_live self.now.shape handle }
-    {
-        handle.index() < self.num_undirected_edges() && !self.removal.gives_up_edge(handle)
-    }
-
-    /// Returns whether the face is live.
-    ///
-    /// It is live if its number is in range and no open removal has given it up.
-    pub fn is_live_face<InnerOuter: InnerOuterMarker>(
-        &self,
-        handle: FixedFaceHandle<InnerOuter>,
-    ) -> bool
-        ensures { result ≡ face_is_live self.now.shape handle }
-    {
-        handle.index() < self.num_faces()
-            && !self.removal.gives_up_face(handle.adjust_inner_outer())
-    }
-
-    /// Returns whether the vertex is live and no live half edge starts there.
-    pub fn is_unconnected(&self, handle: FixedVertexHandle) -> bool
-        ensures { IsTrue result ↔ IsUnconnected self.now.shape handle }
-    {
-        self.is_live_vertex(handle) && self.store.vertex_anchor(handle).is_none()
-    }
-
-    /// Returns whether the vertex is live and exactly one half edge starts there.
-    pub fn is_line_end(&self, handle: FixedVertexHandle) -> bool
-        ensures { IsTrue result ↔ IsLineEnd self.now.shape handle }
-    {
-        if !self.is_live_vertex(handle) {
-            return false;
-        }
-        match self.store.vertex_anchor(handle) {
-            Some(out_edge) => self.store.prev(out_edge).rev() == out_edge,
-            None => false,
-        }
-    }
-
-    /// Returns whether the face is live and has three half edges.
-    pub fn is_triangle<InnerOuter: InnerOuterMarker>(
-        &self,
-        handle: FixedFaceHandle<InnerOuter>,
-    ) -> bool
-        ensures { IsTrue result ↔ IsTriangle self.now.shape handle }
-    {
-        if !self.is_live_face(handle) {
-            return false;
-        }
-        match self.store.face_anchor(handle.adjust_inner_outer()) {
-            Some(edge) => self.is_on_triangle(edge),
-            None => false,
-        }
-    }
-
-    /// Returns whether the half edge is live and both halves of its edge lie on one face.
-    #[tactic(auto, using(dcel_fixed::proofs::Halves::halves))]
-    pub fn is_bridge(&self, handle: FixedDirectedEdgeHandle) -> bool
-        ensures { IsTrue result ↔ IsBridge self.now.shape handle }
-    {
-        self.is_live_edge(handle.as_undirected())
-            && self.face_of_edge(handle) == self.face_of_edge(handle.rev())
-    }
-
-    /// Returns whether a triangle can be closed between the half edge and the next one.
-    ///
-    /// This holds if the half edge is live and on the outer face, and the next one does not end
-    /// where it starts: so the new edge joins two different vertices.
-    #[tactic(auto, using(dcel_fixed::proofs::Halves::halves))]
-    pub fn can_close_outside(&self, handle: FixedDirectedEdgeHandle) -> bool
-        ensures { IsTrue result ↔ CanCloseOutside self.now.shape handle }
-    {
-        self.is_live_edge(handle.as_undirected())
-            && self.face_of_edge(handle).is_outer()
-            && self.origin(self.next_edge(handle).rev()) != self.origin(handle)
-    }
-
-    /// Returns whether the edge can be flipped ([`flip_cw`](crate::operations::flip_cw)).
-    ///
-    /// This holds if it is live, lies between two triangles, one of which may be the outer face,
-    /// and the corners opposite it are two vertices. So it can be true of an edge that nobody would
-    /// flip: `is_part_of_convex_hull` of its handle tells an edge of the outer face, and
-    /// [`get_edge_from_neighbors`](Self::get_edge_from_neighbors) whether an edge already joins the
-    /// opposite corners, beside which the flipped one would be a second.
-    // Out of line: a loop that tests edges and flips them runs faster so.
-    #[inline(never)]
-    pub fn can_flip(&self, handle: FixedUndirectedEdgeHandle) -> bool
-        ensures { IsTrue result ↔ CanFlip self.now.shape handle }
-    {
-        if !self.is_live_edge(handle) {
-            return false;
-        }
-        prove!(self.num_undirected_edges() <= EDGE_SPACE);
-        let edge = handle.as_directed();
-        let Some(near) = self.opposite_corner(edge) else {
-            return false;
-        };
-        let Some(far) = self.opposite_corner(edge.rev()) else {
-            return false;
-        };
-        near != far
-    }
-}
-
-/// The sanity check.
-impl<V, DE, UE, F, A: Allocator> Dcel<V, DE, UE, F, A> {
-    /// Returns whether the mesh has at most one vertex or looks triangulated, with no removal open.
-    ///
-    /// It looks triangulated if there is an edge, no vertex is unconnected, each even half edge on
-    /// an inner face lies on a triangle, and no edge of a mesh with several faces has one face on
-    /// both sides. Odd half edges are not looked at: an inner face whose half edges are all odd may
-    /// have more than three. It is what `sanity_check` of `spade` asks, but for what holds of every
-    /// mesh.
-    pub fn sanity_check(&self) -> bool
-        ensures { IsTrue result ↔ IsChecked self.now.shape }
-    {
-        self.removal.is_closed() && (self.num_vertices() <= 1 || self.looks_triangulated())
-    }
-
-    // Tests what `sanity_check` asks of a mesh with more than one vertex.
-    fn looks_triangulated(&self) -> bool
-        requires { self.now.shape.removal ≡ Closed }
-        ensures { IsTrue result ↔ LooksTriangulated self.now.shape }
-    {
-        self.num_undirected_edges() > 0
-            && self.has_no_unconnected_vertex()
-            && self.has_triangles_at_even_halves()
-            && (self.num_faces() == 1 || self.has_two_faces_at_each_edge())
-    }
-
-    fn has_no_unconnected_vertex(&self) -> bool
-        ensures { IsTrue result ↔ ((v : ℕ) → ¬ IsUnconnected self.now.shape v) }
-    {
-        for index in 0..self.num_vertices() {
-            if self.is_unconnected(FixedVertexHandle::new(index)) {
-                return false;
-            }
-        }
-        true
-    }
-
-    fn has_triangles_at_even_halves(&self) -> bool
-        requires { self.now.shape.removal ≡ Closed }
-        ensures { IsTrue result ↔ ((u : ℕ) → edge_is_live self.now.shape u ≡ true → EvenHalfFits self.now.shape u) }
-    {
-        for index in 0..self.num_undirected_edges() {
-            let edge = FixedDirectedEdgeHandle::new_normalized(index);
-            if !self.face_of_edge(edge).is_outer() && !self.is_on_triangle(edge) {
-                return false;
-            }
-        }
-        true
-    }
-
-    fn has_two_faces_at_each_edge(&self) -> bool
-        requires { self.now.shape.removal ≡ Closed }
-        ensures { IsTrue result ↔ ((u : ℕ) → edge_is_live self.now.shape u ≡ true → PartsFaces self.now.shape u) }
-    {
-        for index in 0..self.num_undirected_edges() {
-            let edge = FixedDirectedEdgeHandle::new_normalized(index);
-            if self.face_of_edge(edge) == self.face_of_edge(edge.rev()) {
-                return false;
-            }
-        }
-        true
-    }
-}
-
-/// Links, for the handles.
-impl<V, DE, UE, F, A: Allocator> Dcel<V, DE, UE, F, A> {
-    #[inline]
-    pub(crate) fn next_edge(&self, handle: FixedDirectedEdgeHandle) -> FixedDirectedEdgeHandle
-        requires { IsLive self.now.shape handle }
-        ensures value { result ≡ next_of self.now.shape handle }
-        ensures live { IsLive self.now.shape result }
-    {
-        self.store.next(handle)
-    }
-
-    #[inline]
-    pub(crate) fn prev_edge(&self, handle: FixedDirectedEdgeHandle) -> FixedDirectedEdgeHandle
-        requires { IsLive self.now.shape handle }
-        ensures value { result ≡ prev_of self.now.shape handle }
-        ensures live { IsLive self.now.shape result }
-    {
-        self.store.prev(handle)
-    }
-
-    #[inline]
-    pub(crate) fn origin(&self, handle: FixedDirectedEdgeHandle) -> FixedVertexHandle
-        requires { IsLive self.now.shape handle }
-        ensures value { result ≡ origin_of self.now.shape handle }
-        ensures live { IsTrue (vertex_is_live self.now.shape result) }
-    {
-        self.store.origin(handle)
-    }
-
-    // Returns the origin as stored, without checking that the half edge is live: that of a given-up
-    // one may be stale.
-    #[inline]
-    pub(crate) fn stored_origin(&self, handle: FixedDirectedEdgeHandle) -> FixedVertexHandle
-        requires { handle < 2 * self.now.shape.edges }
-        ensures { IsLive self.now.shape handle → result ≡ origin_of self.now.shape handle }
-    {
-        self.store.origin(handle)
-    }
-
-    #[inline]
-    pub(crate) fn face_of_edge(
-        &self,
-        handle: FixedDirectedEdgeHandle,
-    ) -> FixedFaceHandle<PossiblyOuterTag>
-        requires { IsLive self.now.shape handle }
-        ensures value { result ≡ face_of self.now.shape handle }
-        ensures live { IsTrue (face_is_live self.now.shape result) }
-    {
-        self.store.face(handle)
-    }
-
-    #[inline]
-    pub(crate) fn is_on_triangle(&self, handle: FixedDirectedEdgeHandle) -> bool
-        requires { IsLive self.now.shape handle }
-        ensures { IsTrue result ↔ (length (word_of self.now.shape.words (face_of self.now.shape handle)) ≡ 3) }
-    {
-        // Read before what it is compared with, as in `opposite_corner`.
-        let before = self.store.prev(handle);
-        self.store.next(self.store.next(handle)) == before
-    }
-
-    // Returns the corner opposite the half edge, or None if its face is no triangle. The half edge
-    // before tells whether it is one, and the one after where the corner is: neither read waits for
-    // the other, and an edit that follows finds both done.
-    #[inline]
-    fn opposite_corner(&self, handle: FixedDirectedEdgeHandle) -> Option<FixedVertexHandle>
-        requires { IsLive self.now.shape handle }
-        ensures { let shape = self.now.shape in
-            let is_triangle = IsTriangle shape (face_of shape handle) in
-            MatchOption result (¬ is_triangle) (λ corner. is_triangle × (corner ≡ origin_of shape (prev_of shape handle))) }
-    {
-        let before = self.store.prev(handle);
-        // Read before what it is compared with: of two equal numbers the compiler goes on with the
-        // first, and an edit that follows would wait for the other to know where it writes.
-        let after = self.store.next(handle);
-        if self.store.prev(before) != after {
-            return None;
-        }
-        Some(self.store.origin(after.rev()))
     }
 }

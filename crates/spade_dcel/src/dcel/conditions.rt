@@ -1,221 +1,158 @@
-//! For each operation that asks several things, the test of all of them but room.
+//! One test for each condition that the operations ask.
 
-ghost use Rattle.std.specs.Prelude.{◌≡◌, ◌≢◌, ◌<◌, ◌↔◌, true, IsTrue};
-ghost use Rattle.dcel_fixed.specs.HalfEdges.{rev};
-ghost use Rattle.dcel_maps.specs.Borders.{IsBorderLoop};
-ghost use Rattle.dcel_maps.specs.Conditions.{IsBridge, IsLineEnd, IsTriangle, IsUnconnected};
-ghost use Rattle.dcel_maps.specs.Regions.{IsRing};
-ghost use Rattle.dcel_maps.specs.Removals.{Closed};
-ghost use Rattle.dcel_maps.specs.Shapes.{IsLive, face_of, vertex_is_live};
-ghost use Rattle.dcel_maps.specs.Strips.{IsEdgeStrip};
+ghost use Rattle.std.specs.Prelude.{◌≡◌, ◌↔◌, IsTrue};
+ghost use Rattle.dcel_maps.specs.Conditions.{HasRoom, IsUnconnected, IsLineEnd, IsTriangle, IsBridge, CanCloseOutside, CanFlip};
+ghost use Rattle.dcel_maps.specs.Shapes.{vertex_is_live, edge_is_live, face_is_live};
 
-use crate::dcel::Dcel;
+use crate::dcel::{Dcel, EDGE_SPACE, INDEX_SPACE};
+use crate::operations::Room;
 use dcel_fixed::{
     FixedDirectedEdgeHandle, FixedFaceHandle, FixedUndirectedEdgeHandle, FixedVertexHandle,
-    InnerTag,
+    InnerOuterMarker,
 };
 use std::alloc::Allocator;
 
-/// Tests, for operations that grow, of all that they ask but room. Any numbers may be given.
+/// Tests of what operations ask. Any numbers may be given.
 impl<V, DE, UE, F, A: Allocator> Dcel<V, DE, UE, F, A> {
-    /// Returns whether the first edge can be made between two vertices.
+    /// Returns whether there are numbers left for that many more elements.
     ///
-    /// [`setup_initial_two_vertices`](crate::operations::setup_initial_two_vertices) asks for this
-    /// and for room: there is no edge, and the vertices are different and live.
-    pub fn can_setup_initial_two_vertices(
-        &self,
-        first_vertex: FixedVertexHandle,
-        second_vertex: FixedVertexHandle,
-    ) -> bool
-        ensures { let shape = self.now.shape in
-            IsTrue result ↔ ((shape.edges ≡ 0) × (vertex_is_live shape first_vertex ≡ true)
-            × (vertex_is_live shape second_vertex ≡ true) × (first_vertex ≢ second_vertex)) }
+    /// Vertices and faces have numbers below 2^32, undirected edges below 2^31. This is about
+    /// numbers, not about memory.
+    pub fn has_room(&self, vertices: usize, undirected_edges: usize, faces: usize) -> bool
+        ensures { IsTrue result ↔ HasRoom self.now.shape vertices undirected_edges faces }
     {
-        if self.num_undirected_edges() > 0 {
-            return false;
-        }
-        if !self.is_live_vertex(first_vertex) {
-            return false;
-        }
-        if !self.is_live_vertex(second_vertex) {
-            return false;
-        }
-        first_vertex != second_vertex
+        vertices <= INDEX_SPACE - self.num_vertices()
+            && undirected_edges <= EDGE_SPACE - self.num_undirected_edges()
+            && faces <= INDEX_SPACE - self.num_faces()
     }
 
-    /// Returns whether a line can be extended at one of its ends by a vertex.
+    /// Returns whether there are numbers left for what a call adds, as [`has_room`](Self::has_room)
+    /// does.
     ///
-    /// [`extend_line`](crate::operations::extend_line) asks for this and for room: exactly one half
-    /// edge leaves `end_vertex`, and no edge meets `new_vertex`.
-    pub fn can_extend_line(
-        &self,
-        end_vertex: FixedVertexHandle,
-        new_vertex: FixedVertexHandle,
-    ) -> bool
-        ensures { let shape = self.now.shape in
-            IsTrue result ↔ (IsLineEnd shape end_vertex × IsUnconnected shape new_vertex) }
+    /// [`Room`] has a constant for each call that grows.
+    pub fn has_room_for(&self, room: Room) -> bool
+        ensures { IsTrue result ↔ HasRoom self.now.shape room.vertices room.undirected_edges room.faces }
     {
-        if !self.is_line_end(end_vertex) {
-            return false;
-        }
-        self.is_unconnected(new_vertex)
+        self.has_room(room.vertices, room.undirected_edges, room.faces)
     }
 
-    /// Returns whether an edge with one face on both sides can be split by a vertex.
+    /// Returns whether the vertex is live.
     ///
-    /// [`split_edge_when_all_vertices_on_line`] asks for this and for room: both halves of the edge
-    /// lie on one face, and no edge meets `new_vertex`.
-    ///
-    /// [`split_edge_when_all_vertices_on_line`]: crate::operations::split_edge_when_all_vertices_on_line
-    pub fn can_split_edge_when_all_vertices_on_line(
-        &self,
-        edge: FixedDirectedEdgeHandle,
-        new_vertex: FixedVertexHandle,
-    ) -> bool
-        ensures { let shape = self.now.shape in
-            IsTrue result ↔ (IsBridge shape edge × IsUnconnected shape new_vertex) }
+    /// It is live if its number is in range and no open removal has given it up.
+    pub fn is_live_vertex(&self, handle: FixedVertexHandle) -> bool
+        ensures { result ≡ vertex_is_live self.now.shape handle }
     {
-        if !self.is_bridge(edge) {
-            return false;
-        }
-        self.is_unconnected(new_vertex)
+        handle.index() < self.num_vertices() && !self.removal.gives_up_vertex(handle)
     }
 
-    /// Returns whether a triangle can be put beside a half edge, with a vertex as its third corner.
+    /// Returns whether the edge is live.
     ///
-    /// [`create_new_face_adjacent_to_edge`](crate::operations::create_new_face_adjacent_to_edge)
-    /// asks for this and for room: `edge` is live, and no edge meets `new_vertex`.
-    pub fn can_create_new_face_adjacent_to_edge(
-        &self,
-        edge: FixedDirectedEdgeHandle,
-        new_vertex: FixedVertexHandle,
-    ) -> bool
-        ensures { let shape = self.now.shape in
-            IsTrue result ↔ (IsLive shape edge × IsUnconnected shape new_vertex) }
+    /// It is live if its number is in range and no open removal has given it up. A half edge is
+    /// live if its edge is.
+    pub fn is_live_edge(&self, handle: FixedUndirectedEdgeHandle) -> bool
+        ensures { result ≡ edge_is_live self.now.shape handle }
     {
-        if !self.is_live_edge(edge.as_undirected()) {
-            return false;
-        }
-        self.is_unconnected(new_vertex)
+        handle.index() < self.num_undirected_edges() && !self.removal.gives_up_edge(handle)
     }
 
-    /// Returns whether a vertex can be inserted into a triangle.
+    /// Returns whether the face is live.
     ///
-    /// [`insert_into_triangle`](crate::operations::insert_into_triangle) asks for this and for
-    /// room: `f0` is a triangle and not the outer face, and no edge meets `v`.
-    pub fn can_insert_into_triangle(
+    /// It is live if its number is in range and no open removal has given it up.
+    pub fn is_live_face<InnerOuter: InnerOuterMarker>(
         &self,
-        v: FixedVertexHandle,
-        f0: FixedFaceHandle<InnerTag>,
+        handle: FixedFaceHandle<InnerOuter>,
     ) -> bool
-        ensures { let shape = self.now.shape in
-            IsTrue result ↔ ((0 < f0) × IsTriangle shape f0 × IsUnconnected shape v) }
+        ensures { result ≡ face_is_live self.now.shape handle }
     {
-        if f0.index() == 0 {
-            return false;
-        }
-        if !self.is_triangle(f0) {
-            return false;
-        }
-        self.is_unconnected(v)
+        handle.index() < self.num_faces()
+            && !self.removal.gives_up_face(handle.adjust_inner_outer())
     }
 
-    /// Returns whether an edge between two triangles can be split by a vertex.
-    ///
-    /// [`split_edge`](crate::operations::split_edge) asks for this and for room: the half edge is
-    /// live, the faces of both halves are triangles, of which one may be the outer face, and no
-    /// edge meets `new_vertex`.
+    /// Returns whether the vertex is live and no live half edge starts there.
+    pub fn is_unconnected(&self, handle: FixedVertexHandle) -> bool
+        ensures { IsTrue result ↔ IsUnconnected self.now.shape handle }
+    {
+        self.is_live_vertex(handle) && self.store.vertex_anchor(handle).is_none()
+    }
+
+    /// Returns whether the vertex is live and exactly one half edge starts there.
+    pub fn is_line_end(&self, handle: FixedVertexHandle) -> bool
+        ensures { IsTrue result ↔ IsLineEnd self.now.shape handle }
+    {
+        if !self.is_live_vertex(handle) {
+            return false;
+        }
+        match self.store.vertex_anchor(handle) {
+            Some(out_edge) => self.store.prev(out_edge).rev() == out_edge,
+            None => false,
+        }
+    }
+
+    /// Returns whether the face is live and has three half edges.
+    pub fn is_triangle<InnerOuter: InnerOuterMarker>(
+        &self,
+        handle: FixedFaceHandle<InnerOuter>,
+    ) -> bool
+        ensures { IsTrue result ↔ IsTriangle self.now.shape handle }
+    {
+        if !self.is_live_face(handle) {
+            return false;
+        }
+        match self.store.face_anchor(handle.adjust_inner_outer()) {
+            Some(edge) => self.is_on_triangle(edge),
+            None => false,
+        }
+    }
+
+    /// Returns whether the half edge is live and both halves of its edge lie on one face.
     #[tactic(auto, using(dcel_fixed::proofs::Halves::halves))]
-    pub fn can_split_edge(
-        &self,
-        edge: FixedDirectedEdgeHandle,
-        new_vertex: FixedVertexHandle,
-    ) -> bool
-        ensures { let shape = self.now.shape in
-            IsTrue result ↔ (IsLive shape edge × IsTriangle shape (face_of shape edge)
-            × IsTriangle shape (face_of shape (rev edge)) × IsUnconnected shape new_vertex) }
+    pub fn is_bridge(&self, handle: FixedDirectedEdgeHandle) -> bool
+        ensures { IsTrue result ↔ IsBridge self.now.shape handle }
     {
-        if !self.can_split_half_edge(edge, new_vertex) {
-            return false;
-        }
-        self.is_triangle(self.face_of_edge(edge.rev()))
+        self.is_live_edge(handle.as_undirected())
+            && self.face_of_edge(handle) == self.face_of_edge(handle.rev())
     }
 
-    /// Returns whether an edge that has a triangle on the side of `edge` can be split by a vertex.
+    /// Returns whether a triangle can be closed between the half edge and the next one.
     ///
-    /// [`split_half_edge`](crate::operations::split_half_edge) asks for this and for room: the half
-    /// edge is live, its face is a triangle, maybe the outer one, and no edge meets `new_vertex`.
-    pub fn can_split_half_edge(
-        &self,
-        edge: FixedDirectedEdgeHandle,
-        new_vertex: FixedVertexHandle,
-    ) -> bool
-        ensures { let shape = self.now.shape in
-            IsTrue result ↔ (IsLive shape edge × IsTriangle shape (face_of shape edge) × IsUnconnected shape new_vertex) }
-    {
-        if !self.is_live_edge(edge.as_undirected()) {
-            return false;
-        }
-        if !self.is_triangle(self.face_of_edge(edge)) {
-            return false;
-        }
-        self.is_unconnected(new_vertex)
-    }
-}
-
-/// Tests, for operations that open a removal, of all that they ask but room. Any numbers may be
-/// given.
-impl<V, DE, UE, F, A: Allocator> Dcel<V, DE, UE, F, A> {
-    /// Returns whether a vertex can be given up and the hole filled.
+    /// [`create_single_face_between_edge_and_next`] asks for this and for room: the half edge is
+    /// live and on the outer face, and the next one does not end where it starts, so the new edge
+    /// joins two different vertices.
     ///
-    /// [`isolate_vertex_and_fill_hole`](crate::operations::isolate_vertex_and_fill_hole) asks for
-    /// this and for room: no removal is open, and the list is the border loop of the vertex
-    /// ([`is_border_loop`](Self::is_border_loop)).
-    pub fn can_isolate_vertex_and_fill_hole(
-        &self,
-        border_loop: &[FixedDirectedEdgeHandle],
-        vertex: FixedVertexHandle,
-    ) -> bool
-        ensures { let shape = self.now.shape in
-            IsTrue result ↔ ((shape.removal ≡ Closed) × IsBorderLoop shape border_loop.now vertex) }
+    /// [`create_single_face_between_edge_and_next`]: crate::operations::create_single_face_between_edge_and_next
+    #[tactic(auto, using(dcel_fixed::proofs::Halves::halves))]
+    pub fn can_close_outside(&self, handle: FixedDirectedEdgeHandle) -> bool
+        ensures { IsTrue result ↔ CanCloseOutside self.now.shape handle }
     {
-        if !self.removal.is_closed() {
-            return false;
-        }
-        self.is_border_loop(border_loop, vertex)
+        self.is_live_edge(handle.as_undirected())
+            && self.face_of_edge(handle).is_outer()
+            && self.origin(self.next_edge(handle).rev()) != self.origin(handle)
     }
 
-    /// Returns whether what lies inside a ring can be given up and the hole filled.
+    /// Returns whether the edge can be flipped.
     ///
-    /// [`remesh_edge_ring`](crate::operations::remesh_edge_ring) asks for this and for room: no
-    /// removal is open, and the lists are a ring with what lies inside it
-    /// ([`is_ring`](Self::is_ring)).
-    pub fn can_remesh_edge_ring(
-        &self,
-        border_loop: &[FixedDirectedEdgeHandle],
-        edges_to_remove: &[FixedUndirectedEdgeHandle],
-        faces_to_remove: &[FixedFaceHandle<InnerTag>],
-    ) -> bool
-        ensures { let shape = self.now.shape in
-            IsTrue result ↔ ((shape.removal ≡ Closed) × IsRing shape border_loop.now edges_to_remove.now faces_to_remove.now) }
+    /// This is what [`flip_cw`](crate::operations::flip_cw) asks: the edge is live, it lies between
+    /// two triangles, one of which may be the outer face, and the corners opposite it are two
+    /// vertices. So it can be true of an edge that nobody would flip: `is_part_of_convex_hull` of
+    /// its handle tells an edge of the outer face, and
+    /// [`get_edge_from_neighbors`](Self::get_edge_from_neighbors) whether an edge already joins the
+    /// opposite corners, beside which the flipped one would be a second.
+    // Out of line: a loop that tests edges and flips them runs faster so.
+    #[inline(never)]
+    pub fn can_flip(&self, handle: FixedUndirectedEdgeHandle) -> bool
+        ensures { IsTrue result ↔ CanFlip self.now.shape handle }
     {
-        if !self.removal.is_closed() {
+        if !self.is_live_edge(handle) {
             return false;
         }
-        self.is_ring(border_loop, edges_to_remove, faces_to_remove)
-    }
-
-    /// Returns whether a vertex of the outer face can be cut off along a strip.
-    ///
-    /// This is what [`disconnect_edge_strip`](crate::operations::disconnect_edge_strip) asks: no
-    /// removal is open, and the list is a strip ([`is_edge_strip`](Self::is_edge_strip)).
-    pub fn can_disconnect_edge_strip(&self, list: &[FixedDirectedEdgeHandle]) -> bool
-        ensures { let shape = self.now.shape in
-            IsTrue result ↔ ((shape.removal ≡ Closed) × IsEdgeStrip shape list.now) }
-    {
-        if !self.removal.is_closed() {
+        prove!(self.num_undirected_edges() <= EDGE_SPACE);
+        let edge = handle.as_directed();
+        let Some(near) = self.opposite_corner(edge) else {
             return false;
-        }
-        self.is_edge_strip(list)
+        };
+        let Some(far) = self.opposite_corner(edge.rev()) else {
+            return false;
+        };
+        near != far
     }
 }
