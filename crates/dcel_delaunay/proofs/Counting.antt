@@ -13,8 +13,7 @@ use Rattle.dcel_maps.specs.Removals.{Closed, gives_up_face}
 use Rattle.dcel_maps.specs.Shapes.{IsLive, IsMesh, Mesh, Shape, edge_is_live, face_count, face_is_live, map_of}
 use Rattle.dcel_maps.specs.Triangulations.{AllTriangles}
 use Rattle.dcel_maps.proofs.Liveness.{closed-live, gives_up_face-closed, is_live-from, is_live-parts, vertex_live-parts}
-use Rattle.dcel_maps.proofs.maps.Counts.{used_not}
-use Rattle.dcel_maps.proofs.removal.Paths.{count_all}
+use Rattle.dcel_maps.proofs.maps.Counts.{used_not, count_all}
 use Rattle.dcel_maps.proofs.shapes.Maps.{map-sound}
 use Rattle.dcel_maps.proofs.walks.Lengths.{count-le}
 use Rattle.dcel_delaunay.specs.Growing.{IsJoined}

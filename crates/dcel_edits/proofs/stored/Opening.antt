@@ -14,9 +14,8 @@ use Rattle.dcel_maps.proofs.removal.Ears.{length-anchors_round}
 use Rattle.dcel_maps.proofs.removal.Hollows.{HollowOf}
 use Rattle.dcel_maps.proofs.removal.RingItems.{item_live as items_live, items_once}
 use Rattle.dcel_maps.proofs.removal.Hiding.{hiding-append, hiding-each, hiding-none, hiding-one}
-use Rattle.dcel_maps.proofs.removal.RingLists.{count-reverse}
 use Rattle.dcel_maps.proofs.Liveness.{closed-vertex_live}
-use Rattle.dcel_maps.proofs.words.Counts.{absent_head, count-later, count-same}
+use Rattle.dcel_maps.proofs.words.Counts.{absent_head, count-later, count-same, count-reverse}
 use Rattle.dcel_maps.proofs.words.EachSet.{length-each_set}
 use Rattle.dcel_edits.specs.Fill.{CanGiveUp, CanPutEars, EarsPut, IsRingItem, begun_stored, closing, given_up, without_anchor}
 use Rattle.dcel_edits.proofs.stored.Changes.{HoldsAdded, held_edges, held_faces, held_half, held_lists, held_mesh, held_removal, held_space, held_vertex}

@@ -266,17 +266,18 @@ module _ {V DE UE F : Type 0} (m : Mesh V DE UE F) (u : ℕ) where
     edge_flipping_made =
         flip_made m mesh f g e en ep t tn tp (origin_of m.shape e) (origin_of m.shape t) (rev-double u) was facing refl refl can.corners
 
-    -- what is known of an edge that can be flipped: `open (at_flip m u mesh can) use {was, facing, differ, flipped_mesh}`
+    pub flipped_mesh : IsMesh (edge_flipped m u)
+    flipped_mesh = subst (λ (n : Mesh V DE UE F). IsMesh n) edge_flipping_is (edit_makes_mesh m edge_flipping mesh edge_flipping_is_edit)
+
+    -- the two triangles: `open (at_flip m u mesh can) use {was, facing, differ}`
     pub record AtFlip : Type 0 where
       pub was : IsTriangleOf (map_of m.shape) f e en ep
       pub facing : IsTriangleOf (map_of m.shape) g t tn tp
       pub differ : f ≢ g
-      pub flipped_mesh : IsMesh (edge_flipped m u)
 
     pub at_flip : AtFlip
     at_flip = record {
       was = was;
       facing = facing;
       differ = facing_differ (map_of m.shape) sound f e en ep g t tn tp was facing (rev-double u);
-      flipped_mesh = subst (λ (k : Mesh V DE UE F). IsMesh k) edge_flipping_is (edit_makes_mesh m edge_flipping mesh edge_flipping_is_edit);
     }

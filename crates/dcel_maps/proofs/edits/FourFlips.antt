@@ -1,7 +1,6 @@
 -- Four flips of one edge turn it round once: then all is as it was but the anchors.
-use Rattle.std.proofs.Common.{◌≡◌, ◌≢◌, ℕ, ◌+◌, ◌*◌, ◌<◌, true, List, [], ◌∷◌, length, slice_index_or, slice_set, refl, sym, ap, ◌∙◌, subst, arith}
+use Rattle.std.proofs.Common.{◌≡◌, ◌≢◌, ℕ, ◌+◌, ◌*◌, ◌<◌, true, List, [], ◌∷◌, refl, sym, ap, ◌∙◌, arith}
 use Rattle.std.proofs.Math.Logic.{Ne-symm}
-use Rattle.std.proofs.lemmas.List.{get_or-set_other, get_or-set_same, length-set, set-get_or, set-set, set_comm}
 use Rattle.dcel_fixed.proofs.Halves.{rev-double, rev-double-suc}
 use Rattle.dcel_maps.specs.Conditions.{CanFlip}
 use Rattle.dcel_maps.specs.Cyclic.{from_least}
@@ -11,39 +10,13 @@ use Rattle.dcel_maps.specs.theory.Sound.{Sound}
 use Rattle.dcel_maps.specs.Shapes.{IsMesh, Mesh, Shape, edge_is_live, face_count, face_of, map_of, next_of, origin_of, prev_of}
 use Rattle.dcel_maps.specs.Words.{word_of}
 use Rattle.dcel_maps.proofs.Liveness.{even_live, odd_live}
-use Rattle.dcel_maps.proofs.edits.Changes.{edit_makes_mesh}
-use Rattle.dcel_maps.proofs.edits.Flips.{edge_flipping, edge_flipping_is, edge_flipping_is_edit}
+use Rattle.dcel_maps.proofs.edits.Flips.{flipped_mesh}
 use Rattle.dcel_maps.proofs.edits.Linking.{triangle_is, triangle_of}
 use Rattle.dcel_maps.proofs.maps.Triangles.{IsTriangleOf, facing_differ}
 use Rattle.dcel_maps.proofs.shapes.Maps.{map-sound}
 use Rattle.dcel_maps.proofs.walks.Links.{links_stand}
+use Rattle.dcel_maps.proofs.words.EachSet.{first-two_set, length-two_set, other-two_set, second-two_set, two_set, two_set-again, two_set-back}
 use Rattle.dcel_maps.proofs.words.Triangles.{triangle_read, triangle_written}
-
--- two items of a list replaced
-abbrev two_set : {A : Type 0} → List A → ℕ → A → ℕ → A → List A
-two_set l i p j q = slice_set (slice_set l i p) j q
-
-module _ {A : Type 0} (l : List A) (i j : ℕ) where
-  length-two_set : (p q : A) → length (two_set l i p j q) ≡ length l
-  length-two_set p q = length-set (slice_set l i p) j q ∙ length-set l i p
-
-  first-two_set : (p q d : A) → i ≢ j → i < length l → slice_index_or (two_set l i p j q) i d ≡ p
-  first-two_set p q d differ i_in = get_or-set_other (slice_set l i p) j i q d differ ∙ get_or-set_same l i p d i_in
-
-  second-two_set : (p q d : A) → j < length l → slice_index_or (two_set l i p j q) j d ≡ q
-  second-two_set p q d j_in = get_or-set_same (slice_set l i p) j q d (omega (arith, j_in, length-set l i p))
-
-  other-two_set : (p q d : A) (k : ℕ) → k ≢ i → k ≢ j → slice_index_or (two_set l i p j q) k d ≡ slice_index_or l k d
-  other-two_set p q d k not_i not_j = get_or-set_other (slice_set l i p) j k q d not_j ∙ get_or-set_other l i k p d not_i
-
-  -- the same two again, and the two that were there
-  two_set-again : (p q v w : A) → i ≢ j → two_set (two_set l i p j q) i v j w ≡ two_set l i v j w
-  two_set-again p q v w differ =
-      ap (λ k. two_set k i v j w) (set_comm l i j p q differ) ∙ ap (λ k. slice_set k j w) (set-set (slice_set l j q) i p v)
-      ∙ ap (λ k. slice_set k j w) (sym (set_comm l i j v q differ)) ∙ set-set (slice_set l i v) j q w
-
-  two_set-back : (d : A) → two_set l i (slice_index_or l i d) j (slice_index_or l j d) ≡ l
-  two_set-back d = ap (λ k. slice_set k j (slice_index_or l j d)) (set-get_or l i d) ∙ set-get_or l j d
 
 -- an edge of a shape between two faces
 module _ (base : Shape) (u f g : ℕ) (live : edge_is_live base u ≡ true) (f_in : f < face_count base) (g_in : g < face_count base) (differ : f ≢ g) where
@@ -113,9 +86,7 @@ module _ (base : Shape) (u f g : ℕ) (live : edge_is_live base u ≡ true) (f_i
     -- a flip turns the edge by one side
     next_stage : Stage (edge_flipped m u) d a b c
     next_stage = record {
-      mesh =
-          subst (λ (n : Mesh V DE UE F). IsMesh n) (edge_flipping_is m u)
-          (edit_makes_mesh m (edge_flipping m u) at.mesh (edge_flipping_is_edit m u at.mesh stage_can));
+      mesh = flipped_mesh m u at.mesh stage_can;
       shape =
           rw (near.face_x, far.face_x, near.next_x, near.prev_x, far.next_x, far.prev_x, at_b, at_d)
           (ap (λ s. with_edge s (from_least (e ∷ d ∷ a ∷ [])) (from_least (t ∷ b ∷ c ∷ [])) (origin_of base b) (origin_of base d)) at.shape

@@ -33,6 +33,11 @@ pub count_none : (n : ℕ) → count (λ k. false) n ≡ 0
 count_none zero = refl
 count_none (suc n) = count_none n
 
+-- where all pass, as many pass as there are
+pub count_all : (p : ℕ → Bool) (n : ℕ) → ((k : ℕ) → k < n → p k ≡ true) → count p n ≡ n
+count_all p zero all = refl
+count_all p (suc n) all = rw (all n (omega arith)) (ap suc (count_all p n (λ k l. all k (omega arith))))
+
 -- one that passes shows it
 pub any_below_from : (p : ℕ → Bool) (n k : ℕ) → k < n → p k ≡ true → any_below p n ≡ true
 any_below_from p zero k l t = absurd (omega arith)

@@ -22,6 +22,7 @@ use Rattle.dcel_maps.proofs.words.Faces.{KeepsFace, keeps_face-then}
 use Rattle.dcel_maps.proofs.words.Paths.{Path-changed}
 use Rattle.dcel_maps.proofs.removal.Spokes.{follows, path_item}
 use Rattle.dcel_maps.proofs.removal.Without.{keeps-itself}
+use Rattle.dcel_fixed.proofs.Halves.{rev-double-suc}
 
 -- the face of (p, q, r, ..) cut into ears: edges from m on, faces from g on
 unfoldable pub fan : Map → ℕ → ℕ → ℕ → ℕ → ℕ → List ℕ → Map
@@ -81,10 +82,6 @@ path_before J f x (z ∷ w) e path y found = elim (first_or_later y z w found) [
   | inl same ↦ subst (λ u. 0 < count_of u (x ∷ z ∷ w)) (sym (ap J.prev same ∙ path.0.prev)) (omega (arith, count-same x (z ∷ w)))
   | inr later ↦ count-later (J.prev y) x (z ∷ w) (path_before J f z w e path.1 y later)
 ]
-
-rev_odd : (m : ℕ) → rev (2 * m + 1) ≡ 2 * m
-unfolding rev
-rev_odd m = omega arith
 
 ear_edges : (S : Map) (p n q m g : ℕ) → S.edges ≡ m → (ear S p n q (2 * m + 1) g).edges ≡ suc m
 unfolding ear
@@ -187,7 +184,7 @@ module _ (S : Map) (m g n p q r x : ℕ) (rest : List ℕ) (a : FanAt S m g n p 
   )
 
   turn : rev h ≡ 2 * m
-  turn = rev_odd m
+  turn = rev-double-suc m
 
   live_rev : Live T (2 * m)
   live_rev = subst (Live T) turn (rev_live T h e.edge_here)

@@ -19,7 +19,7 @@ use Rattle.dcel_maps.proofs.walks.Links.{links_stand}
 use Rattle.dcel_maps.proofs.words.Walking.{up_to-is}
 
 -- words of which one is replaced, with more words after them
-replaced-count : (ws : List (List ℕ)) (f : ℕ) (w : List ℕ) (more : List (List ℕ)) → length (slice_set ws f w ++ more) ≡ length ws + length more
+pub replaced-count : (ws : List (List ℕ)) (f : ℕ) (w : List ℕ) (more : List (List ℕ)) → length (slice_set ws f w ++ more) ≡ length ws + length more
 replaced-count ws f w more = omega (arith, length-append (slice_set ws f w) more, length-set ws f w)
 
 replaced-there : (ws : List (List ℕ)) (f : ℕ) (w : List ℕ) (more : List (List ℕ)) → f < length ws → word_of (slice_set ws f w ++ more) f ≡ w

@@ -10,7 +10,7 @@ use Rattle.dcel_maps.specs.Shapes.{IsLive, IsMesh, IsSound, IsSphere, Mesh, Shap
 use Rattle.dcel_maps.specs.theory.Cycles.{IsCycle}
 use Rattle.dcel_maps.specs.Walking.{ListsOnce}
 use Rattle.dcel_maps.specs.edits.Fill.{loop_filled, ring_remeshed}
-use Rattle.dcel_maps.proofs.removal.RingLists.{at_ring, count-reverse, lists-long, loop_item-live}
+use Rattle.dcel_maps.proofs.removal.RingLists.{at_ring, lists-long, loop_item-live}
 use Rattle.dcel_maps.proofs.words.Ascending.{any-ascending}
 use Rattle.dcel_maps.proofs.words.Mapped.{any_stands, stands_any}
 use Rattle.dcel_maps.specs.Words.{count_of}
@@ -19,6 +19,7 @@ use Rattle.dcel_maps.specs.Regions.IsRing.{of_region, of_vertex}
 use Rattle.dcel_maps.proofs.removal.Hollows.{HollowOf, HollowBy}
 use Rattle.dcel_maps.proofs.removal.RegionHoles.{region_hole, region_by}
 use Rattle.dcel_maps.proofs.removal.VertexHoles.{vertex_hollow}
+use Rattle.dcel_maps.proofs.words.Counts.{count-reverse}
 
 -- the hole of a region
 pub region_hollow : (s : Shape) → IsSound s → IsSphere s → (border edges faces : List ℕ) → IsRegionRing s border edges faces

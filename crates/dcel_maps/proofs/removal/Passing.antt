@@ -10,7 +10,7 @@ use Rattle.dcel_maps.specs.Words.{count_of}
 use Rattle.dcel_maps.proofs.maps.Halves.{rev-rev, rev_or_same}
 use Rattle.dcel_maps.proofs.maps.Soundness.{rev_live}
 use Rattle.dcel_maps.proofs.words.Counts.{count-append, count-later, count-none, count-other, count-same, first_or_later, split_at}
-use Rattle.dcel_maps.proofs.words.Mapped.{mapped_from}
+use Rattle.dcel_maps.proofs.words.Mapped.{mapped_from, mapped_once}
 use Rattle.dcel_maps.proofs.words.Paths.{Path-split}
 use Rattle.dcel_maps.specs.Regions.{LeadsPast}
 use Rattle.dcel_maps.specs.Regions.LeadsPast.{on, past}
@@ -81,27 +81,6 @@ no_longer (x ∷ d) w once has =
     let apart : k ≢ x = λ same. let here = ap (λ v. count_of v d) same in omega (arith, here, found, once x, count-same x d) in
     omega (arith, has k (count-later k x d found), left_out-other x k w apart)) in
     omega (arith, rest, left_out-length x w, has x (omega (arith, count-same x d)))
-
--- different numbers under a function that keeps them apart
-pub mapped_apart : (f : ℕ → ℕ) (w : List ℕ) → ((k : ℕ) → count_of k w ≤ 1)
-    → ((x y : ℕ) → 0 < count_of x w → 0 < count_of y w → f x ≡ f y → x ≡ y) → (u : ℕ) → count_of u (map f w) ≤ 1
-mapped_apart f [] once apart u = omega arith
-mapped_apart f (x ∷ w) once apart u =
-    let rest = mapped_apart f w (λ k. omega (arith, once k)) (λ y z y_in z_in same. apart y z (count-later y x w y_in) (count-later z x w z_in) same) u in
-    elim (cases_lt 0 (count_of u (map f w))) [
-      | inl found ↦
-          let (y, there, is) = mapped_from f w u found in
-          let differs : u ≢ f x = λ same.
-          let again : y ≡ x = apart y x (count-later y x w there) (omega (arith, count-same x w)) (is ∙ same) in
-          let here = ap (λ v. count_of v w) again in
-          omega (arith, here, there, once x, count-same x w) in
-          omega (arith, rest, count-other u (f x) (map f w) differs)
-      | inr none ↦ elim (cases_eq u (f x)) [
-        | inl same ↦ let here = ap (λ v. count_of v (f x ∷ map f w)) same in let none_there = ap (λ v. count_of v (map f w)) same in
-            omega (arith, here, none, none_there, count-same (f x) (map f w))
-        | inr other ↦ omega (arith, rest, count-other u (f x) (map f w) other)
-      ]
-    ]
 
 -- the walk past the edges leads one way
 pub leads-one_way : (next : ℕ → ℕ) (edges : List ℕ) → IsOneWay (LeadsPast next edges)
@@ -207,7 +186,7 @@ module _ (S : Map) (sound : Sound S) (edges : List ℕ) (live : (u : ℕ) → 0 
       let here = ap (λ v. count_of (v / 2) edges) same in omega (arith, here, listed, none)) in
       let once = no_return (Turns S.next edges) (λ x y z to at. sym to ∙ at) j p.rest k p.path off in
       let starts = one_start j p.rest k p.path p.listed in
-      let apart = mapped_apart (λ h. h / 2) (j ∷ p.rest) once (λ x y x_in y_in same. elim (rev_or_same x y same) [
+      let apart = mapped_once (λ h. h / 2) (j ∷ p.rest) once (λ x y x_in y_in same. elim (rev_or_same x y same) [
         | inl is ↦ is
         | inr is ↦ absurd (sound.two_ends y (live (y / 2) (p.listed y y_in)) (starts y y_in ∙ sym (starts x x_in) ∙ ap S.origin is))
       ]) in

@@ -1,15 +1,15 @@
 -- A path: a sound sphere with one or two out edges at each vertex.
-use Rattle.std.proofs.Common.{◌≡◌, ◌≢◌, ◌↔◌, ◌⊎◌, inl, inr, ◌+◌, ◌<◌, ℕ, zero, suc, Bool, true, sym, refl, ap, ◌∙◌, subst, arith, Option, Some}
+use Rattle.std.proofs.Common.{◌≡◌, ◌≢◌, ◌↔◌, ◌⊎◌, inl, inr, ◌+◌, ◌<◌, ℕ, true, sym, refl, ap, ◌∙◌, subst, arith, Option, Some}
 use Rattle.std.proofs.lemmas.Bool.{cases_eq}
 use Rattle.dcel_fixed.specs.HalfEdges.{rev}
 use Rattle.dcel_maps.specs.Degenerate.{HasFewOutEdges, IsOutPair, IsPath}
-use Rattle.dcel_maps.specs.Maps.{By, Map, NextOrRev, ccw, count, starts_edge}
+use Rattle.dcel_maps.specs.Maps.{By, Map, NextOrRev, ccw, starts_edge}
 use Rattle.dcel_maps.specs.Removals.{Closed, gives_up_face}
 use Rattle.dcel_maps.specs.Shapes.{AnchorsVertex, IsLive, IsSound, IsSphere, Shape, edge_is_live, end_of, face_count, face_is_live, map_of, next_of, origin_of, prev_of}
 use Rattle.dcel_maps.specs.Walking.{IsOutEdge, ccw_of}
 use Rattle.dcel_maps.specs.theory.Sound.{Sound}
 use Rattle.dcel_maps.proofs.Liveness.{closed-live, gives_up_face-closed, is_live-from}
-use Rattle.dcel_maps.proofs.maps.Counts.{used_from}
+use Rattle.dcel_maps.proofs.maps.Counts.{used_from, count_all}
 use Rattle.dcel_maps.proofs.maps.Halves.{rev-rev}
 use Rattle.dcel_maps.proofs.maps.Reaching.{reaches_stays}
 use Rattle.dcel_maps.proofs.maps.Soundness.{ccw_live, rev_live, same_origin_reaches, vertex_cycles}
@@ -63,11 +63,6 @@ module _ (s : Shape) (sound : IsSound s) (v a : ℕ) (out : IsOutEdge s v a) whe
 
   pub few_iff : (ccw_of s (ccw_of s a) ≡ a) ↔ HasFewOutEdges s v
   few_iff = (λ back. (a, ccw_of s a, returned_pair back), pair_returns)
-
--- a test that all numbers below n pass
-pub count_all : (p : ℕ → Bool) (n : ℕ) → ((k : ℕ) → k < n → p k ≡ true) → count p n ≡ n
-count_all p zero all = refl
-count_all p (suc n) all = rw (all n (omega arith)) (ap suc (count_all p n (λ k l. all k (omega arith))))
 
 module _ (s : Shape) (sound : IsSound s) (sphere : IsSphere s) (path : IsPath s) where
   abbrev pub M : Map

@@ -24,7 +24,7 @@ use Rattle.dcel_maps.proofs.removal.Spokes.{follows}
 use Rattle.dcel_maps.proofs.shapes.Maps.{map-sound, map-sphere, word_cases}
 use Rattle.dcel_maps.proofs.walks.Links.{links_stand}
 use Rattle.dcel_maps.proofs.words.Ascending.{any-ascending, goes_up-ascending}
-use Rattle.dcel_maps.proofs.words.Counts.{count-later, count-same, first_or_later, word_within}
+use Rattle.dcel_maps.proofs.words.Counts.{count-later, count-same, first_or_later, word_within, stands_or_not}
 use Rattle.dcel_maps.proofs.words.Faces.{keeps_face-then}
 use Rattle.dcel_maps.proofs.words.Mapped.{any_stands, stands_any}
 use Rattle.dcel_maps.proofs.words.Paths.{IsCycle-weaker, next_in_word-follows}
@@ -32,7 +32,7 @@ use Rattle.dcel_maps.specs.Regions.{IsRegion, IsRim, LeadsPast}
 use Rattle.dcel_maps.specs.Regions.LeadsPast.{on, past}
 use Rattle.dcel_maps.proofs.removal.Hollows.{HollowOf, HollowBy}
 use Rattle.dcel_maps.proofs.removal.Linked.{Links, back, forth}
-use Rattle.dcel_maps.proofs.removal.RegionJoins.{CanJoin, Joined, joined, left_face, right_face, stands_or_not}
+use Rattle.dcel_maps.proofs.removal.RegionJoins.{CanJoin, Joined, joined, left_face, right_face}
 
 module _ (s : Shape) (sound : IsSound s) (sphere : IsSphere s) (edges faces : List ℕ) (region : IsRegion s edges faces) (p : ℕ) (rest : List ℕ)
     (cycle : IsCycle (LeadsPast (map_of s).next edges) (p ∷ rest)) (whole : ListsOnce (IsRim s edges faces) (p ∷ rest)) where

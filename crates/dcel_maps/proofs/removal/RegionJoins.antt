@@ -1,6 +1,6 @@
 -- The faces of a region become one: its edges are taken away, one after another.
 use Rattle.std.proofs.Common.{◌≡◌, ◌≢◌, ◌⊎◌, inl, inr, ◌*◌, ◌/◌, ◌<◌, ◌≤◌, ℕ, suc, true, false, List, [], ◌∷◌, length, sym, refl, ap, ◌∙◌, subst, arith}
-use Rattle.std.proofs.lemmas.Bool.{cases_eq, cases_lt}
+use Rattle.std.proofs.lemmas.Bool.{cases_eq}
 use Rattle.dcel_fixed.specs.HalfEdges.{rev}
 use Rattle.dcel_maps.specs.EditLists.{ComesBy}
 use Rattle.dcel_maps.specs.EditLists.EditKind.{words_joined}
@@ -13,7 +13,7 @@ use Rattle.dcel_maps.proofs.maps.Joins.{JoinAt, JoinSite, join, join_is, join_ke
 use Rattle.dcel_maps.proofs.maps.Lists.{comes_first, extends_same, one_each}
 use Rattle.dcel_maps.proofs.maps.Soundness.{face_cycles, next_differs, rev_live}
 use Rattle.dcel_maps.proofs.removal.Without.{Without, keeps-itself, without, without-keeps}
-use Rattle.dcel_maps.proofs.words.Counts.{count-later, count-other, count-same, first_or_later}
+use Rattle.dcel_maps.proofs.words.Counts.{count-later, count-other, count-same, first_or_later, stands_or_not}
 use Rattle.dcel_maps.proofs.words.Faces.{KeepsFace, keeps_face-then}
 use Rattle.dcel_maps.specs.Regions.{LeadsPast}
 use Rattle.dcel_maps.specs.Regions.LeadsPast.{on, past}
@@ -55,10 +55,6 @@ pub record Joined (S P : Map) (edges faces : List ℕ) (g : ℕ) : Type 0 where
   pub leads : (x y : ℕ) → Live S x → count_of (x / 2) edges ≡ 0 → LeadsPast S.next edges x y → P.next x ≡ y
   pub starts : (x : ℕ) → 0 < count_of (x / 2) edges → (y : ℕ) × Live P y × (P.origin y ≡ S.origin x) × (P.face y ≡ g)
   pub comes : ComesBy (one_each words_joined edges) S P
-
--- stands in the list, or doesn't
-pub stands_or_not : (x : ℕ) (w : List ℕ) → (0 < count_of x w) ⊎ (count_of x w ≡ 0)
-stands_or_not x w = elim (cases_lt 0 (count_of x w)) [ inl found ↦ inl found | inr none ↦ inr (omega (arith, none)) ]
 
 half : (u : ℕ) → 2 * u / 2 ≡ u
 half u = omega arith

@@ -1,8 +1,8 @@
 -- Lists that have the edges at a vertex and the faces round it, each once: they are as long as its border loop, and have those of each
 -- out edge.
-use Rattle.std.proofs.Common.{◌≡◌, ◌≢◌, ◌↔◌, inl, inr, ℕ, ◌/◌, ◌<◌, ◌≤◌, List, [], ◌∷◌, ◌++◌, length, map, reverse, refl, sym, ap, ◌∙◌, subst, arith}
+use Rattle.std.proofs.Common.{◌≡◌, ◌≢◌, ◌↔◌, inl, inr, ℕ, ◌/◌, ◌<◌, ◌≤◌, List, [], ◌∷◌, ◌++◌, length, map, refl, sym, ap, ◌∙◌, subst, arith}
 use Rattle.std.proofs.lemmas.Bool.{cases_eq, cases_lt}
-use Rattle.std.proofs.lemmas.List.{length-append, length-map, length-reverse, nil_from_length, reverse-append}
+use Rattle.std.proofs.lemmas.List.{length-append, length-map, length-reverse, nil_from_length}
 use Rattle.dcel_maps.specs.Borders.{GivesUpRound, IsBorderLoop, IsEdgeAt, IsFaceAt, IsVertexRing, center_of}
 use Rattle.dcel_maps.specs.Shapes.{IsLive, IsMesh, IsSound, Mesh, Shape, face_of, map_of, next_of, origin_of}
 use Rattle.dcel_maps.specs.Walking.{IsOutEdge, ListsOnce, ccw_of, in_mesh, out_edges_of, walk_of}
@@ -18,8 +18,8 @@ use Rattle.dcel_maps.proofs.walks.Items.{first_item, none_left}
 use Rattle.dcel_maps.proofs.walks.Links.{links_lawful, links_stand}
 use Rattle.dcel_maps.proofs.walks.Turning.{mesh-out_edges, walk-out_edges}
 use Rattle.dcel_maps.proofs.words.Ascending.{ascending-ascends, ascends-one, count-ascending, length-ascending}
-use Rattle.dcel_maps.proofs.words.Counts.{count-append, count-later, count-other, count-same, first_or_later, split_at}
-use Rattle.dcel_maps.proofs.words.Mapped.{mapped_from}
+use Rattle.dcel_maps.proofs.words.Counts.{count-append, count-later, count-other, count-same, first_or_later, split_at, count-reverse}
+use Rattle.dcel_maps.proofs.words.Mapped.{mapped_from, mapped_once}
 use Rattle.dcel_maps.proofs.words.Triangles.{is_triangle}
 use Rattle.dcel_maps.specs.Removals.{ascending, opened}
 
@@ -67,25 +67,6 @@ once_same {w = w} {u = u} a b k = elim (cases_lt 0 (count_of k w)) [
     | inr none_u ↦ omega (arith, none, none_u)
   ]
 ]
-
--- a list under a function that tells its items apart
-pub mapped_once : (f : ℕ → ℕ) (w : List ℕ) → ((k : ℕ) → count_of k w ≤ 1) → ((x y : ℕ) → 0 < count_of x w → 0 < count_of y w → f x ≡ f y → x ≡ y)
-    → (u : ℕ) → count_of u (map f w) ≤ 1
-mapped_once f [] once apart u = omega arith
-mapped_once f (y ∷ w) once apart u =
-    let later : count_of u (map f w) ≤ 1 =
-    mapped_once f w (λ k. omega (arith, once k)) (λ x z x_in z_in same. apart x z (count-later x y w x_in) (count-later z y w z_in) same) u in
-    elim (cases_eq u (f y)) [
-      | inr differs ↦ omega (arith, later, count-other u (f y) (map f w) differs)
-      | inl is ↦ elim (cases_lt 0 (count_of u (map f w))) [
-        | inl found ↦
-            let (x, there, at) = mapped_from f w u found in
-            let same : x ≡ y = apart x y (count-later x y w there) (omega (arith, count-same y w)) (at ∙ is) in
-            let twice = subst (λ z. 0 < count_of z w) same there in
-            absurd (omega (arith, once y, count-same y w, twice))
-        | inr none ↦ rw is (omega (arith, count-same (f y) (map f w), rw is at none))
-      ]
-    ]
 
 -- what a list with these items lists
 listed : {P : ℕ → Type 0} (d w : List ℕ) → Lists P d → ((k : ℕ) → count_of k d ≤ 1) → ((k : ℕ) → count_of k w ≡ count_of k d) → ListsOnce P w
@@ -209,10 +190,6 @@ module _ {V DE UE F : Type 0} (m : Mesh V DE UE F) (v : ℕ) (edges faces : List
       let there : 0 < count_of h [] = rw gone at found in omega arith))
 
 -- a border loop begins with a live half edge
-pub count-reverse : (k : ℕ) (w : List ℕ) → count_of k (reverse w) ≡ count_of k w
-count-reverse k [] = refl
-count-reverse k (x ∷ w) = ap (count_of k) (reverse-append (x ∷ []) w) ∙ omega (arith, count-append k (reverse w) (x ∷ []), count-reverse k w)
-
 pub loop_item-live : (s : Shape) → IsSound s → (border : List ℕ) (v : ℕ) → IsBorderLoop s border v → (x : ℕ) → 0 < count_of x border → IsLive s x
 loop_item-live s sound border v l x found =
     let there : 0 < count_of x (map (next_of s) (walk_of s (ccw_of s) l.first)) = omega (arith, found, count-reverse x border, ap (count_of x) l.ring) in

@@ -1,5 +1,5 @@
 -- What the loops of the test need: one lemma for an item that passes, one for an item that fails, and one for the end.
-use Rattle.std.proofs.Common.{◌≡◌, ◌≢◌, ◌⊎◌, ◌↔◌, inl, inr, ◌+◌, ◌-◌, ◌/◌, ◌<◌, ◌≤◌, ℕ, suc, List, [], ◌∷◌, ◌++◌, reverse, sym, ap, ◌∙◌, subst, arith}
+use Rattle.std.proofs.Common.{◌≡◌, ◌≢◌, ◌↔◌, inl, inr, ◌+◌, ◌-◌, ◌/◌, ◌<◌, ◌≤◌, ℕ, suc, List, [], ◌∷◌, ◌++◌, reverse, sym, ap, ◌∙◌, subst, arith}
 use Rattle.std.proofs.lemmas.List.{reverse-append}
 use Rattle.std.proofs.lemmas.Bool.{cases_eq}
 use Rattle.dcel_fixed.specs.HalfEdges.{rev}
@@ -8,9 +8,9 @@ use Rattle.dcel_maps.specs.Walking.{in_mesh, walk_from}
 use Rattle.dcel_maps.proofs.walks.Items.{ComesFirst, first_item, none_left}
 use Rattle.dcel_maps.specs.Words.{count_of, word_of}
 use Rattle.dcel_maps.proofs.walks.Faces.{anchor-lists, word-lists}
-use Rattle.dcel_maps.proofs.words.Counts.{count-equal, count-later, count-other, count-same, first_or_later}
+use Rattle.dcel_maps.proofs.words.Counts.{count-equal, count-later, count-other, count-same, first_or_later, stands_or_not}
 use Rattle.dcel_maps.specs.theory.RingTests.{EachOf, GoesAlong, StepsTo, past_listed}
-use Rattle.dcel_maps.proofs.removal.Passing.{past-stays, past-step}
+use Rattle.dcel_maps.proofs.removal.Passing.{past-step}
 
 module _ (P : ℕ → Type 0) (whole left : List ℕ) (same : EachOf P left ↔ EachOf P whole) where
   -- an item has it: the others decide
@@ -40,15 +40,12 @@ module _ (whole left : List ℕ) (same : OnceEach left ↔ OnceEach whole) where
   once_goes_on x after is fresh = (
     λ rest. same.0 (λ k. let counts = ap (count_of k) is in elim (cases_eq k x) [
       | inl here ↦
-          let none : count_of k after ≡ 0 = elim (count_cases k after) [ inl found ↦ absurd (fresh (subst (λ z. 0 < count_of z after) here found)) | inr none ↦ none ] in
+          let none : count_of k after ≡ 0 = elim (stands_or_not k after) [ inl found ↦ absurd (fresh (subst (λ z. 0 < count_of z after) here found)) | inr none ↦ none ] in
           omega (arith, counts, count-equal k x after here, none)
       | inr other ↦ omega (arith, counts, count-other k x after other, rest k)
     ]),
     λ all k. let counts = ap (count_of k) is in let one = same.1 all k in omega (arith, one, counts),
   )
-    where
-      count_cases : (k : ℕ) (w : List ℕ) → (0 < count_of k w) ⊎ (count_of k w ≡ 0)
-      count_cases k w = elim (cases_eq (count_of k w) 0) [ inl none ↦ inr none | inr some ↦ inl (omega (arith, some)) ]
 
   pub once_fails : (x : ℕ) (after : List ℕ) → left ≡ x ∷ after → 0 < count_of x after → ¬ OnceEach whole
   once_fails x after is found all = let one = same.1 all x in let counts = ap (count_of x) is in omega (arith, one, counts, count-same x after, found)
@@ -60,9 +57,6 @@ module _ (next : ℕ → ℕ) (edges : List ℕ) where
   past_goes_on count done j below found =
       let more : count - done ≡ suc (count - (done + 1)) = omega (arith, below) in
       ap (λ n. past_listed next edges n j) more ∙ past-step next edges (count - (done + 1)) j found
-
-  pub past_ends : (fuel j : ℕ) → count_of (j / 2) edges ≡ 0 → past_listed next edges fuel j ≡ j
-  past_ends fuel j none = past-stays next edges fuel j none
 
 module _ (s : Shape) (edges : List ℕ) (apex e : ℕ) where
   pub record IsAlong (p : ℕ) (others : List ℕ) (x : ℕ) (left : List ℕ) : Type 0 where

@@ -14,14 +14,13 @@ use Rattle.dcel_maps.proofs.maps.Halves.{rev-rev, rev_half, rev_or_same}
 use Rattle.dcel_maps.proofs.maps.Soundness.{face_cycles}
 use Rattle.dcel_maps.proofs.shapes.Maps.{map-sound}
 use Rattle.dcel_maps.proofs.walks.Links.{links_stand}
-use Rattle.dcel_maps.proofs.words.Counts.{count-none, count-same, first_or_later, word_within}
+use Rattle.dcel_maps.proofs.words.Counts.{count-none, count-same, first_or_later, word_within, stands_or_not}
 use Rattle.dcel_maps.proofs.words.Paths.{IsCycle-weaker, next_in_word-follows}
 use Rattle.dcel_maps.proofs.words.Reading.{stands_in_face}
 use Rattle.dcel_maps.specs.Regions.{IsRegion, IsRegionRing, IsRim, LeadsPast}
 use Rattle.dcel_maps.specs.Regions.LeadsPast.{on, past}
 use Rattle.dcel_maps.specs.theory.RingTests.{BeginsOn, PassesTest, StepsTo, stands}
 use Rattle.dcel_maps.proofs.removal.Passing.{leads-one_way, leads-steps, no_return, stands-true, steps-leads, true-stands}
-use Rattle.dcel_maps.proofs.removal.RegionJoins.{stands_or_not}
 
 -- the test as conditions, and the definition
 module _ (s : Shape) (sound : IsSound s) (border edges faces : List ℕ) where

@@ -1,5 +1,5 @@
 -- The lists of a record, from the largest down, list what it gives up.
-use Rattle.std.proofs.Common.{◌≡◌, ◌↔◌, inl, inr, ℕ, ◌<◌, ◌==◌, true, List, [], ◌∷◌, ◌++◌, reverse, refl, sym, ap, ◌∙◌, subst, arith, eqb, eq-eqb, eqb-true}
+use Rattle.std.proofs.Common.{◌≡◌, ◌↔◌, inl, inr, ℕ, ◌<◌, ◌==◌, true, List, [], ◌∷◌, ◌++◌, reverse, sym, ap, subst, arith, eqb, eq-eqb, eqb-true}
 use Rattle.std.proofs.lemmas.Bool.{false≢true, or_cases, or_left, or_right}
 use Rattle.std.proofs.lemmas.List.{reverse-append}
 use Rattle.std.specs.List.{list_any}
@@ -7,7 +7,7 @@ use Rattle.dcel_maps.specs.Removals.{Removal, Closed, Isolated, Cleaned, GoesUp,
 use Rattle.dcel_maps.specs.Renumbering.{edges_down, faces_down}
 use Rattle.dcel_maps.specs.Words.{count_of}
 use Rattle.dcel_maps.specs.theory.Renumbering.{GoesDown, ListsDown}
-use Rattle.dcel_maps.proofs.words.Counts.{count-append, count-equal, count-later, count-same, first_or_later}
+use Rattle.dcel_maps.proofs.words.Counts.{count-equal, count-later, count-same, first_or_later, count-reverse}
 
 -- what a list holds is found in it
 pub any-counted : (u : ℕ) (xs : List ℕ) → (list_any (λ e. e == u) xs ≡ true) ↔ (0 < count_of u xs)
@@ -25,12 +25,6 @@ any-counted u (x ∷ xs) = (
 
 pub reverse_first : (x : ℕ) (xs : List ℕ) → reverse (x ∷ xs) ≡ reverse xs ++ x ∷ []
 reverse_first x xs = reverse-append (x ∷ []) xs
-
-pub count-reverse : (e : ℕ) (xs : List ℕ) → count_of e (reverse xs) ≡ count_of e xs
-count-reverse e [] = refl
-count-reverse e (x ∷ xs) =
-    let parts = ap (count_of e) (reverse_first x xs) ∙ count-append e (reverse xs) (x ∷ []) in
-    omega (arith, parts, count-reverse e xs)
 
 -- a list that goes down still does with a smaller item at its end
 down-ended : (n x : ℕ) (ds : List ℕ) → GoesDown n ds → x < n → ((e : ℕ) → 0 < count_of e ds → x < e) → GoesDown n (ds ++ x ∷ [])

@@ -21,13 +21,13 @@ half-below s h live = let parts = is_live-parts (gives_up_edge s.removal) s.edge
 
 module _ {s : Shape} (sound : IsSound s) where
   -- no number occurs twice
-  occurs-le : (h : ℕ) → occurs h s.words ≤ 1
+  pub occurs-le : (h : ℕ) → occurs h s.words ≤ 1
   occurs-le h = elim (cases_Bool (edge_is_live s (h / 2))) [
     | inl live ↦ omega (arith, sound.once h live)
     | inr dead ↦ omega (arith, sound.no_other h dead)
   ]
 
-  single : (f h : ℕ) → count_of h (word_of s.words f) ≤ 1
+  pub single : (f h : ℕ) → count_of h (word_of s.words f) ≤ 1
   single f h = omega (arith, occurs-le h, count-le_occurs h s.words f)
 
   -- what stands in a word is live
@@ -37,6 +37,10 @@ module _ {s : Shape} (sound : IsSound s) where
 
   said : (f h : ℕ) → 0 < count_of h (word_of s.words f) → Says h s.words
   said f h found = says h s.words (omega (arith, found, count-le_occurs h s.words f))
+
+  -- what comes before a half edge is said by the word of its face
+  pub prev-said : (h : ℕ) → IsLive s h → prev_of s h ≡ prev_in_word h (word_of s.words (face_of s h))
+  prev-said h live = (says h s.words (omega (arith, sound.once h live))).prev
 
   -- and in no other
   stands-face : (f h : ℕ) → 0 < count_of h (word_of s.words f) → face_of s h ≡ f

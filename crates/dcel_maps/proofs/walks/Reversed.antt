@@ -6,10 +6,10 @@ use Rattle.dcel_maps.specs.Shapes.{Shape, IsLive}
 use Rattle.dcel_maps.specs.Walking.{IsLawful, IsUnderWay, StepsTo, walk_of}
 use Rattle.dcel_maps.specs.theory.Cycles.{Path}
 use Rattle.dcel_maps.specs.Words.{count_of}
-use Rattle.dcel_maps.proofs.renumbering.GivenUp.{count-reverse, reverse_first}
+use Rattle.dcel_maps.proofs.renumbering.GivenUp.{reverse_first}
 use Rattle.dcel_maps.proofs.walks.Returning.{starts}
 use Rattle.dcel_maps.proofs.walks.UnderWay.{listed}
-use Rattle.dcel_maps.proofs.words.Counts.{count-append, count-same}
+use Rattle.dcel_maps.proofs.words.Counts.{count-append, count-same, count-reverse}
 use Rattle.dcel_maps.proofs.words.Paths.{Path-append}
 use Rattle.dcel_maps.proofs.words.Walking.{up_to-is}
 

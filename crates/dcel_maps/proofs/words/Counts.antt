@@ -1,7 +1,7 @@
 -- How often an item stands in a list and in all words, and how long they are.
-use Rattle.std.proofs.Common.{◌≡◌, ◌≢◌, ◌⊎◌, inl, inr, ℕ, zero, suc, ◌+◌, ◌<◌, ◌≤◌, List, [], ◌∷◌, ◌++◌, length, refl, ap, sym, arith, zero-add, eqb, eq-eqb, true, false}
+use Rattle.std.proofs.Common.{◌≡◌, ◌≢◌, ◌⊎◌, inl, inr, ℕ, zero, suc, ◌+◌, ◌<◌, ◌≤◌, List, [], ◌∷◌, ◌++◌, length, reverse, refl, ap, sym, ◌∙◌, arith, zero-add, eqb, eq-eqb, true, false}
 use Rattle.std.proofs.lemmas.Bool.{cases_eq, cases_lt, ne_eqb, or_cases, false≢true}
-use Rattle.std.proofs.lemmas.List.{length-append}
+use Rattle.std.proofs.lemmas.List.{length-append, reverse-append}
 use Rattle.std.proofs.lemmas.Map.Steps.{length-le_from_distinct_below}
 use Rattle.std.specs.List.{AllByRecursion, IsDistinct, concat, list_any}
 use Rattle.dcel_maps.specs.Words.{count_of, occurs, total_length, word_of}
@@ -19,15 +19,22 @@ pub count-append : (h : ℕ) (a b : List ℕ) → count_of h (a ++ b) ≡ count_
 count-append h [] b = omega arith
 count-append h (x ∷ r) b = omega (arith, count-append h r b)
 
+pub count-reverse : (h : ℕ) (w : List ℕ) → count_of h (reverse w) ≡ count_of h w
+count-reverse h [] = refl
+count-reverse h (x ∷ r) = ap (count_of h) (reverse-append (x ∷ []) r) ∙ omega (arith, count-append h (reverse r) (x ∷ []), count-reverse h r)
+
 -- an item of a list is its first or stands in the rest
 pub first_or_later : (h x : ℕ) (r : List ℕ) → 0 < count_of h (x ∷ r) → (h ≡ x) ⊎ (0 < count_of h r)
 first_or_later h x r found =
     elim (cases_eq h x) [ inl same ↦ inl same | inr differs ↦ inr (omega (arith, found, count-other h x r differs)) ]
 
--- an item of two lists after each other stands in one of them
+-- an item stands in a list, or doesn't
+pub stands_or_not : (h : ℕ) (w : List ℕ) → (0 < count_of h w) ⊎ (count_of h w ≡ 0)
+stands_or_not h w = elim (cases_lt 0 (count_of h w)) [ inl found ↦ inl found | inr none ↦ inr (omega (arith, none)) ]
+
+-- and an item of two lists after each other stands in one of them
 pub in_either : (h : ℕ) (a b : List ℕ) → 0 < count_of h (a ++ b) → (0 < count_of h a) ⊎ (0 < count_of h b)
-in_either h a b found =
-    elim (cases_lt 0 (count_of h a)) [ inl there ↦ inl there | inr not ↦ inr (omega (arith, found, not, count-append h a b)) ]
+in_either h a b found = elim (stands_or_not h a) [ inl there ↦ inl there | inr none ↦ inr (omega (arith, found, none, count-append h a b)) ]
 
 -- and an item of a list with one more at its end is that or stands before it
 pub last_or_before : (h x : ℕ) (r : List ℕ) → 0 < count_of h (r ++ x ∷ []) → (h ≡ x) ⊎ (0 < count_of h r)

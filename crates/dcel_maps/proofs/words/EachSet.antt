@@ -1,7 +1,7 @@
 -- Lists without their last item, and items put at their places one after another.
 use Rattle.std.proofs.Common.{◌≡◌, ◌≢◌, ◌⊎◌, inl, inr, ◌<◌, ℕ, List, [], ◌∷◌, ◌++◌, length, slice_index_or, slice_set, sym, refl, ap, ◌∙◌, subst, arith}
 use Rattle.std.proofs.lemmas.Bool.{cases_eq}
-use Rattle.std.proofs.lemmas.List.{get_or-set_other, get_or-set_same, length-set}
+use Rattle.std.proofs.lemmas.List.{get_or-set_other, get_or-set_same, length-set, set-get_or, set-set, set_comm}
 use Rattle.dcel_maps.specs.Words.{count_of, last_of}
 use Rattle.dcel_maps.specs.edits.Strip.{but_last, each_set}
 use Rattle.dcel_maps.proofs.words.Counts.{count-later, count-same, first_or_later}
@@ -67,3 +67,29 @@ each_set-same place other value [] xs same = refl
 each_set-same place other value (e ∷ es) xs same =
     ap (λ k. each_set place value (slice_set xs k (value e)) es) (same e (omega (arith, count-same e es)))
     ∙ each_set-same place other value es (slice_set xs (other e) (value e)) (λ k found. same k (count-later k e es found))
+
+-- two items of a list replaced
+abbrev pub two_set : {A : Type 0} → List A → ℕ → A → ℕ → A → List A
+two_set l i p j q = slice_set (slice_set l i p) j q
+
+module _ {A : Type 0} (l : List A) (i j : ℕ) where
+  pub length-two_set : (p q : A) → length (two_set l i p j q) ≡ length l
+  length-two_set p q = length-set (slice_set l i p) j q ∙ length-set l i p
+
+  pub first-two_set : (p q d : A) → i ≢ j → i < length l → slice_index_or (two_set l i p j q) i d ≡ p
+  first-two_set p q d differ i_in = get_or-set_other (slice_set l i p) j i q d differ ∙ get_or-set_same l i p d i_in
+
+  pub second-two_set : (p q d : A) → j < length l → slice_index_or (two_set l i p j q) j d ≡ q
+  second-two_set p q d j_in = get_or-set_same (slice_set l i p) j q d (omega (arith, j_in, length-set l i p))
+
+  pub other-two_set : (p q d : A) (k : ℕ) → k ≢ i → k ≢ j → slice_index_or (two_set l i p j q) k d ≡ slice_index_or l k d
+  other-two_set p q d k not_i not_j = get_or-set_other (slice_set l i p) j k q d not_j ∙ get_or-set_other l i k p d not_i
+
+  -- the same two again, and the two that were there
+  pub two_set-again : (p q v w : A) → i ≢ j → two_set (two_set l i p j q) i v j w ≡ two_set l i v j w
+  two_set-again p q v w differ =
+      ap (λ k. two_set k i v j w) (set_comm l i j p q differ) ∙ ap (λ k. slice_set k j w) (set-set (slice_set l j q) i p v)
+      ∙ ap (λ k. slice_set k j w) (sym (set_comm l i j v q differ)) ∙ set-set (slice_set l i v) j q w
+
+  pub two_set-back : (d : A) → two_set l i (slice_index_or l i d) j (slice_index_or l j d) ≡ l
+  two_set-back d = ap (λ k. slice_set k j (slice_index_or l j d)) (set-get_or l i d) ∙ set-get_or l j d

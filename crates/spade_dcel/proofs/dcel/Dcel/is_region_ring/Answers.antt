@@ -1,8 +1,8 @@
 use Rattle.std.proofs.Common.{inl, inr, arith}
 use Rattle.std.proofs.lemmas.Bool.{both_ways, false≢true}
 use Rattle.std.proofs.lemmas.Grind.{common_steps}
-use Rattle.dcel_maps.proofs.removal.RingLists.{count-reverse}
 use Rattle.dcel_maps.proofs.removal.RingTests.{test_iff-ring}
+use Rattle.dcel_maps.proofs.words.Counts.{count-reverse}
 use Rattle.spade_dcel.proofs.dcel.Dcel.is_region_ring.Goals as goal
 
 pub returns-then-not-lie_between : goal.returns-then-not-lie_between

@@ -3,7 +3,8 @@ use Rattle.std.proofs.lemmas.Bool.{both_ways, cases_lt}
 use Rattle.dcel_fixed.proofs.Halves.{rev-half}
 use Rattle.dcel_maps.specs.Shapes.{edge_is_live, next_of}
 use Rattle.dcel_maps.specs.Words.{count_of}
-use Rattle.dcel_maps.proofs.removal.RingLoops.{past_ends, past_goes_on, past_out}
+use Rattle.dcel_maps.proofs.removal.RingLoops.{past_goes_on, past_out}
+use Rattle.dcel_maps.proofs.removal.Passing.{past-stays}
 use Rattle.spade_dcel.proofs.dcel.Dcel.past.Goals as goal
 
 pub returns-then-not-is_among-clause-value : goal.returns-then-not-is_among-clause-value
@@ -12,7 +13,7 @@ returns-then-not-is_among-clause-value g c =
       | inl found ↦ absurd (both_ways c.is_among.result c.if-not-is_among.true (c.is_among.ensures.1 (rw c.as_undirected.ensures found)))
       | inr not ↦ omega (arith, not)
     ] in
-    sym (past_ends (next_of c.args.self.now.shape) c.args.edges.now (length c.args.edges.now - c.loop.counter) c.loop.next none) ∙ c.loop.invariant.0
+    sym (past-stays (next_of c.args.self.now.shape) c.args.edges.now (length c.args.edges.now - c.loop.counter) c.loop.next none) ∙ c.loop.invariant.0
 
 pub next_edge-next-requires-in-loop : goal.next_edge-next-requires-in-loop
 next_edge-next-requires-in-loop g c =
