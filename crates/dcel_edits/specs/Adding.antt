@@ -1,8 +1,12 @@
--- New edges and faces in the stored lists: their data and places, and whether there is room for them.
-use Rattle.std.specs.Prelude.{ℕ, ◌+◌, ◌-◌, ◌≤◌, ◌^◌, List, ◌++◌, length}
-use Rattle.dcel_store.specs.Lists.{Lists, HasPlaces}
+-- New edges and faces in the stored lists: their data and places, whether there is room for them, and whether there are others.
+use Rattle.std.specs.Prelude.{◌≡◌, ℕ, ◌+◌, ◌-◌, ◌≤◌, ◌^◌, List, ◌++◌, length}
+use Rattle.dcel_store.specs.Lists.{Lists, HasPlaces, empty}
 
 module _ {V DE UE F : Type 0} where
+  -- nothing stored yet
+  pub record IsEmpty (s : Lists V DE UE F) : Type 0 where
+    pub is : s ≡ record empty { vertex_room = s.vertex_room; edge_room = s.edge_room; face_room = s.face_room }
+
   -- the lists with the data of k new edges, whose places are taken
   abbrev pub adding_edges : Lists V DE UE F → ℕ → List DE → List UE → Lists V DE UE F
   adding_edges s k halves edges = record s {

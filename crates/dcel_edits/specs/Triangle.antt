@@ -1,6 +1,6 @@
 -- What writing a first triangle, or a vertex into a triangle, leaves in the stored lists.
 use Rattle.std.specs.Prelude.{◌≡◌, ℕ, ◌+◌, ◌-◌, ◌<◌, List, [], ◌∷◌, ◌++◌, length, slice_index, slice_set, Some}
-use Rattle.dcel_store.specs.Lists.{Lists, empty}
+use Rattle.dcel_store.specs.Lists.{Lists}
 use Rattle.dcel_edits.specs.Adding.{HasSpace, adding}
 use Rattle.dcel_edits.specs.Around.{stored_around}
 
@@ -9,10 +9,6 @@ abbrev pub three_set : List ℕ → ℕ → ℕ → ℕ → ℕ → ℕ → ℕ 
 three_set l i a j b k c = slice_set (slice_set (slice_set l i a) j b) k c
 
 module _ {V DE UE F : Type 0} where
-  -- nothing stored yet
-  pub record IsEmpty (s : Lists V DE UE F) : Type 0 where
-    pub is : s ≡ record empty { vertex_room = s.vertex_room; edge_room = s.edge_room; face_room = s.face_room }
-
   -- a triangle in an empty store
   abbrev pub triangle_stored : Lists V DE UE F → V × V × V → List DE → List UE → List F → Lists V DE UE F
   triangle_stored s vertices halves edges faces = record {

@@ -1,7 +1,8 @@
 //! Vertices, edges and faces as lists have them, with anchors that are chosen or given.
 
 ghost use Rattle.std.specs.Prelude.{◌≡◌, ◌<◌, ◌≤◌, ◌^◌, None, length, replicate, slice_index, vec_len};
-ghost use Rattle.dcel_store.specs.Lists.{HasPlaces, empty};
+ghost use Rattle.dcel_store.specs.Lists.{HasPlaces};
+ghost use Rattle.dcel_edits.specs.Adding.{IsEmpty};
 ghost use Rattle.dcel_edits.specs.Given.{AreBelow, AreLists, edges_stored, faces_anchored, faces_stored, last_anchors, mesh_stored, vertices_anchored};
 
 use crate::create::put_vertices;
@@ -22,11 +23,7 @@ pub fn put_mesh<V: Drop, DE: Drop, UE: Drop, F: Drop, A: Allocator>(
     edges: Vec<EdgeData<DE, UE>, A>,
     faces: Vec<F, A>,
 )
-    requires empty { store.old ≡ record empty {
-      vertex_room = store.old.vertex_room;
-      edge_room = store.old.edge_room;
-      face_room = store.old.face_room;
-    } }
+    requires empty { IsEmpty store.old }
     requires places { HasPlaces store.old (vec_len vertices) (vec_len edges) (vec_len faces) }
     requires lists { AreLists next.now prev.now origin.now face.now (vec_len edges) }
     requires few { length next.now ≤ 2 ^ 32 }
@@ -54,11 +51,7 @@ pub fn put_anchored_mesh<V: Drop, DE: Drop, UE: Drop, F: Drop, A: Allocator>(
     edges: Vec<EdgeData<DE, UE>, A>,
     faces: Vec<F, A>,
 )
-    requires empty { store.old ≡ record empty {
-      vertex_room = store.old.vertex_room;
-      edge_room = store.old.edge_room;
-      face_room = store.old.face_room;
-    } }
+    requires empty { IsEmpty store.old }
     requires places { HasPlaces store.old (vec_len vertices) (vec_len edges) (vec_len faces) }
     requires lists { AreLists next.now prev.now origin.now face.now (vec_len edges) }
     requires vertices_anchored { length vertex_anchors.now ≡ vec_len vertices }
@@ -83,11 +76,7 @@ fn put_without_anchors<V: Drop, DE: Drop, UE: Drop, F: Drop, A: Allocator>(
     edges: Vec<EdgeData<DE, UE>, A>,
     faces: Vec<F, A>,
 )
-    requires empty { store.old ≡ record empty {
-      vertex_room = store.old.vertex_room;
-      edge_room = store.old.edge_room;
-      face_room = store.old.face_room;
-    } }
+    requires empty { IsEmpty store.old }
     requires places { HasPlaces store.old (vec_len vertices) (vec_len edges) (vec_len faces) }
     requires lists { AreLists next.now prev.now origin.now face.now (vec_len edges) }
     ensures { store.new ≡ mesh_stored store.old next.now prev.now origin.now face.now

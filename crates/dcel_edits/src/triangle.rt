@@ -3,7 +3,8 @@
 ghost use Rattle.std.specs.Prelude.{◌≡◌, ◌<◌, ◌^◌};
 ghost use Rattle.dcel_store.specs.Lists as lists;
 ghost use Rattle.dcel_maps.specs.edits.DefaultData.{AddsEdgesAndFaces};
-ghost use Rattle.dcel_edits.specs.Triangle.{CanInsert, IsEmpty, insertion_stored, triangle_stored};
+ghost use Rattle.dcel_edits.specs.Adding.{IsEmpty};
+ghost use Rattle.dcel_edits.specs.Triangle.{CanInsert, insertion_stored, triangle_stored};
 
 use crate::links::numbered_links;
 use crate::sectors::{Sector, close_three_sectors, spoke};

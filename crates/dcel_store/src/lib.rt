@@ -11,7 +11,7 @@
 //! is no room.
 #![tactic(auto)]
 
-ghost use Rattle.std.specs.Prelude.{◌≡◌, ◌+◌, ◌-◌, ◌<◌, ◌≤◌, [], ◌∷◌, ◌++◌, length, slice_index, slice_index_or, slice_set, OnOk, IfOk, IsOk, None};
+ghost use Rattle.std.specs.Prelude.{◌≡◌, ◌↔◌, ◌+◌, ◌-◌, ◌<◌, ◌≤◌, [], ◌∷◌, ◌++◌, length, slice_index, slice_index_or, slice_set, OnOk, IfOk, IsOk, IsTrue, None, vec_capacity, vec_len};
 ghost use Rattle.dcel_store.specs.Lists.{empty, LengthsAgree, HasPlaces};
 
 mod data;
@@ -188,37 +188,52 @@ impl<V, DE, UE, F, A: Allocator> Store<V, DE, UE, F, A> {
         ensures kept { HasPlaces self.new self.old.vertex_room self.old.edge_room self.old.face_room }
         ensures succeeds { HasPlaces self.old vertices edges faces → IsOk result }
     {
+        if self.has_places(vertices, edges, faces) {
+            return Ok(());
+        }
+        self.grow(vertices, edges, faces)
+    }
+
+    // Returns whether there is room for this many more. One test is enough for all six vectors of
+    // edges.
+    #[inline]
+    fn has_places(&self, vertices: usize, edges: usize, faces: usize) -> bool
+        ensures { IsTrue result ↔ HasPlaces self.now vertices edges faces }
+    {
+        vertices <= places_left(&self.vertices)
+            && edges <= places_left(&self.undirected_data)
+            && faces <= places_left(&self.faces)
+    }
+
+    // Makes room where there is too little. Out of line, since it is rare, and so that the test for
+    // it goes into each edit, where most of what is asked for is known to be 0.
+    #[cold]
+    #[inline(never)]
+    fn grow(&mut self, vertices: usize, edges: usize, faces: usize) -> Result<(), AllocError>
+        ensures same { self.new ≡ record self.old {
+          vertex_room = self.new.vertex_room;
+          edge_room = self.new.edge_room;
+          face_room = self.new.face_room;
+        } }
+        ensures room { OnOk result (HasPlaces self.new vertices edges faces) }
+        ensures kept { HasPlaces self.new self.old.vertex_room self.old.edge_room self.old.face_room }
+    {
         self.vertices.reserve(vertices)?;
-        self.reserve_edges(edges)?;
+        self.grow_edges(edges)?;
         self.faces.reserve(faces)?;
         Ok(())
     }
 
-    // Makes room for this many more edges. One test is enough for all six vectors of edges.
-    #[inline]
-    fn reserve_edges(&mut self, edges: usize) -> Result<(), AllocError>
+    // Lengthens the six vectors of edges, if there is too little room. That of the edges' data comes
+    // last: if memory runs out before, it has no more places than the others are sure to have.
+    fn grow_edges(&mut self, edges: usize) -> Result<(), AllocError>
         ensures same { self.new ≡ record self.old { edge_room = self.new.edge_room } }
         ensures room { OnOk result (edges ≤ self.new.edge_room) }
         ensures kept { self.old.edge_room ≤ self.new.edge_room }
-        ensures succeeds { edges ≤ self.old.edge_room → IsOk result }
     {
-        if edges <= self.undirected_data.capacity() - self.undirected_data.len() {
+        if edges <= places_left(&self.undirected_data) {
             return Ok(());
         }
-        self.grow_edges(edges)
-    }
-
-    // Lengthens the six vectors of edges. That of the edges' data comes last: if memory runs out
-    // before, it has no more places than the others are sure to have. Out of line, since it is rare,
-    // and edits stay short without it.
-    #[cold]
-    #[inline(never)]
-    fn grow_edges(&mut self, edges: usize) -> Result<(), AllocError>
-        requires { self.old.edge_room < edges }
-        ensures same { self.new ≡ record self.old { edge_room = self.new.edge_room } }
-        ensures room { OnOk result (edges ≤ self.new.edge_room) }
-        ensures kept { self.old.edge_room ≤ self.new.edge_room }
-    {
         let room = room_for_growth(self.num_edges(), edges);
         let half_edges = room.checked_mul(2).ok_or(AllocError)?;
         self.next.reserve_exact(half_edges)?;
@@ -448,6 +463,14 @@ impl<V, DE, UE, F, A: Allocator> Store<V, DE, UE, F, A> {
     {
         self.face[edge.index()] = to;
     }
+}
+
+// Returns how many items can be pushed without allocating.
+#[inline]
+fn places_left<T, A: Allocator>(items: &Vec<T, A>) -> usize
+    ensures { result ≡ vec_capacity items.now - vec_len items.now }
+{
+    items.capacity() - items.len()
 }
 
 // Returns how many more edges to make room for, when a store of `stored` edges has no room for `wanted`
