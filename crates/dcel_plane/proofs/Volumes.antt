@@ -11,10 +11,8 @@ use Rattle.dcel_predicates.proofs.Signs.{ordered, square, times}
 use Rattle.dcel_maps.specs.Conditions.{CanFlip}
 use Rattle.dcel_maps.specs.Cyclic.{from_least}
 use Rattle.dcel_maps.specs.edits.Flip.{edge_flipped}
-use Rattle.dcel_maps.specs.Shapes.{IsLive, IsMesh, Mesh, Shape, face_count, face_of, map_of, next_of, origin_of, prev_of}
+use Rattle.dcel_maps.specs.Shapes.{IsLive, IsMesh, Mesh, Shape, face_count, face_of, map_of, origin_of}
 use Rattle.dcel_maps.specs.Words.{TurnsTo, count_of, word_of}
-use Rattle.dcel_maps.proofs.shapes.Maps.{map-sound}
-use Rattle.dcel_maps.proofs.walks.Links.{links_stand}
 use Rattle.dcel_maps.proofs.words.Counts.{count-later, count-same}
 use Rattle.dcel_maps.proofs.words.Reading.{face_in_word, live_in}
 use Rattle.dcel_maps.proofs.words.Triangles.{triangle_written}
@@ -22,7 +20,9 @@ use Rattle.dcel_maps.proofs.words.Turns.{from_least-turn, length-turn}
 use Rattle.dcel_plane.specs.Plane.{IsCircled, IsPlane, TurnsLeft}
 use Rattle.dcel_plane.specs.Volume.{volume_below, volume_under}
 use Rattle.dcel_plane.proofs.Corners.{three_items, turned_along}
-use Rattle.dcel_plane.proofs.Flipped.{differ, facing, from_end, from_start, left_before, new_corners, origin_after, origin_e, origin_far, origin_near, origin_same, origin_t, origin_t_after, right_before, was}
+use Rattle.dcel_plane.proofs.Flipped.{from_end, from_start, left_before, new_corners, origin_after, origin_e, origin_far, origin_near, origin_same, origin_t, origin_t_after, right_before}
+use Rattle.dcel_maps.proofs.edits.Around.{at_edge, known}
+use Rattle.dcel_maps.proofs.edits.Flips.{at_flip}
 
 -- sums of items that are the same
 sums_agree : (a b : List ℕ → ℕ) (l : List (List ℕ)) → ((k : ℕ) → k < length l → a (word_of l k) ≡ b (word_of l k)) → sum_by a l ≡ sum_by b l
@@ -132,29 +132,9 @@ module _ {V DE UE F : Type 0} (m : Mesh V DE UE F) (mesh : IsMesh m) (u : ℕ) (
   abbrev n : Shape
   n = (edge_flipped m u).shape
 
-  abbrev e : ℕ
-  e = 2 * u
-
-  abbrev t : ℕ
-  t = 2 * u + 1
-
-  abbrev f : ℕ
-  f = face_of s e
-
-  abbrev g : ℕ
-  g = face_of s t
-
-  abbrev ep : ℕ
-  ep = prev_of s e
-
-  abbrev en : ℕ
-  en = next_of s e
-
-  abbrev tp : ℕ
-  tp = prev_of s t
-
-  abbrev tn : ℕ
-  tn = next_of s t
+  open (at_edge s u) use {e, t, f, g, ep, en, tp, tn}
+  open (known m mesh) use {sound, stands}
+  open (at_flip m u mesh can) use {was, facing, differ}
 
   abbrev start : Point
   start = at (origin_of s e)
@@ -170,12 +150,12 @@ module _ {V DE UE F : Type 0} (m : Mesh V DE UE F) (mesh : IsMesh m) (u : ℕ) (
 
   first_before : volume_under at s (word_of s.words f) ≡ unsigned_abs (volume_of start end near)
   first_before =
-      ap (volume_under at s) (triangle_written (map_of s) (map-sound mesh.sound) f e en ep (was m mesh u can) s.words (links_stand mesh.sound))
+      ap (volume_under at s) (triangle_written (map_of s) sound f e en ep was s.words stands)
       ∙ volume_least_first at s e en ep ∙ ap (λ k. unsigned_abs (volume_of start (at k) near)) (from_end m mesh u can)
 
   second_before : volume_under at s (word_of s.words g) ≡ unsigned_abs (volume_of end start far)
   second_before =
-      ap (volume_under at s) (triangle_written (map_of s) (map-sound mesh.sound) g t tn tp (facing m mesh u can) s.words (links_stand mesh.sound))
+      ap (volume_under at s) (triangle_written (map_of s) sound g t tn tp facing s.words stands)
       ∙ volume_least_first at s t tn tp ∙ ap (λ k. unsigned_abs (volume_of end (at k) far)) (from_start m mesh u can)
 
   first_after : volume_under at n (from_least (e ∷ tp ∷ en ∷ [])) ≡ unsigned_abs (volume_of near far end)
@@ -191,8 +171,8 @@ module _ {V DE UE F : Type 0} (m : Mesh V DE UE F) (mesh : IsMesh m) (u : ℕ) (
   elsewhere : (k : ℕ) → k < face_count s → k ≢ f → k ≢ g → volume_under at s (word_of s.words k) ≡ volume_under at n (word_of s.words k)
   elsewhere k within not_f not_g =
       same_under at s n (word_of s.words k) (λ h there.
-      let live : IsLive s h = live_in (map_of s) s.words (links_stand mesh.sound) h k there in
-      let on : face_of s h ≡ k = face_in_word (map_of s) s.words (links_stand mesh.sound) h k there in
+      let live : IsLive s h = live_in (map_of s) s.words stands h k there in
+      let on : face_of s h ≡ k = face_in_word (map_of s) s.words stands h k there in
       origin_same m mesh u can at h live (λ is. not_f (sym on ∙ ap (face_of s) is)) (λ is. not_g (sym on ∙ ap (face_of s) is)))
 
   pub volume_falls : volume_below at n < volume_below at s
@@ -202,5 +182,5 @@ module _ {V DE UE F : Type 0} (m : Mesh V DE UE F) (mesh : IsMesh m) (u : ℕ) (
       (volume_least start end near (left_before m mesh u can at plane f_inner)) (volume_least end start far (right_before m mesh u can at plane g_inner))
       (volume_least near far end new.first) (volume_least far near start new.second) circled (flip-lowers start end near far) in
       let both = sum_of_two (volume_under at s) (volume_under at n) s.words f g (from_least (e ∷ tp ∷ en ∷ [])) (from_least (t ∷ ep ∷ tn ∷ []))
-      ((map-sound mesh.sound).below_faces e (was m mesh u can).live_x) ((map-sound mesh.sound).below_faces t (facing m mesh u can).live_x) (differ m mesh u can) refl refl elsewhere in
+      (sound.below_faces e was.live_x) (sound.below_faces t facing.live_x) differ refl refl elsewhere in
       omega (arith, less, both, first_before, second_before, first_after, second_after)
