@@ -6,6 +6,7 @@ use Rattle.dcel_maps.specs.EditLists.{EditKind, EditedBy, flip_edits}
 use Rattle.dcel_maps.specs.EditLists.EditKind.{ear_cut, words_joined}
 use Rattle.dcel_maps.specs.Shapes.{IsMesh, Mesh, map_of}
 use Rattle.dcel_maps.specs.Words.{count_of}
+use Rattle.dcel_maps.proofs.edits.Flips.{flipped_mesh}
 use Rattle.dcel_maps.proofs.lists.Growing.{flip_listed}
 use Rattle.dcel_maps.proofs.maps.Lists.{comes_then, extends_same}
 use Rattle.dcel_maps.proofs.words.Counts.{count-append, first_or_later, in_either, last_or_before}
@@ -13,7 +14,6 @@ use Rattle.dcel_legalize.specs.Flipping.{EachInTurn, Ending, Follows, IsDue, IsO
 use Rattle.dcel_legalize.specs.Flipping.Ending.{Settled, AtLimit, NoMemory}
 use Rattle.dcel_legalize.specs.Flipping.Follows.{settles, skips, stops, gives_up, flips}
 use Rattle.dcel_legalize.proofs.Untouched.{beside-listed, due_was, its_own, listed-beside, own-listed}
-use Rattle.dcel_maps.proofs.edits.Flips.{flipped_mesh}
 
 in_front : (v : ℕ) (list more : List ℕ) → 0 < count_of v list → 0 < count_of v (list ++ more)
 in_front v list more found = omega (arith, found, count-append v list more)

@@ -13,6 +13,7 @@ use Rattle.dcel_maps.specs.Shapes.{IsLive, IsMesh, Mesh, Shape, face_count, face
 use Rattle.dcel_maps.specs.Removals.{gives_up_face, is_live}
 use Rattle.dcel_maps.specs.Words.{count_of, prev_in_word, word_of}
 use Rattle.dcel_maps.proofs.Liveness.{even_live, odd_live}
+use Rattle.dcel_maps.proofs.edits.Around.{at_edge, known}
 use Rattle.dcel_maps.proofs.edits.Changes.{edit_makes_mesh}
 use Rattle.dcel_maps.proofs.edits.Flips.{at_flip, flipped_mesh}
 use Rattle.dcel_maps.proofs.edits.Linking.{triangle_of}
@@ -20,12 +21,11 @@ use Rattle.dcel_maps.proofs.maps.Triangles.{IsTriangleOf, by_triangle, facing_di
 use Rattle.dcel_maps.proofs.shapes.Maps.{map-sound}
 use Rattle.dcel_maps.proofs.walks.Links.{links_stand, prev-said}
 use Rattle.dcel_maps.proofs.words.Counts.{count-equal, count-later, count-same, first_or_later}
+use Rattle.dcel_maps.proofs.words.EachSet.{first-two_set, length-two_set, other-two_set, second-two_set}
+use Rattle.dcel_maps.proofs.words.Mapped.{count-at}
 use Rattle.dcel_maps.proofs.words.Reading.{face-next, face_in_word, says, stands_in_face, face-prev}
 use Rattle.dcel_maps.proofs.words.Triangles.{triangle_read}
 use Rattle.dcel_legalize.specs.Flipping.{IsDue, LiesBeside, edges_beside}
-use Rattle.dcel_maps.proofs.edits.Around.{at_edge, known}
-use Rattle.dcel_maps.proofs.words.EachSet.{first-two_set, length-two_set, other-two_set, second-two_set}
-use Rattle.dcel_maps.proofs.words.Mapped.{count-at}
 
 -- what stands first in a list
 pub its_own : (v u : ℕ) (r : List ℕ) → v ≡ u → 0 < count_of v (u ∷ r)

@@ -11,19 +11,19 @@ use Rattle.dcel_maps.specs.Cyclic.{from_least}
 use Rattle.dcel_maps.specs.edits.Flip.{edge_flipped}
 use Rattle.dcel_maps.specs.Shapes.{IsLive, IsMesh, Mesh, Shape, face_of, map_of, origin_of, prev_of}
 use Rattle.dcel_maps.specs.Words.{count_of}
+use Rattle.dcel_maps.proofs.edits.Around.{at_edge, known}
 use Rattle.dcel_maps.proofs.edits.Flips.{at_flip, flipped_mesh}
 use Rattle.dcel_maps.proofs.edits.Patches.{Patch, replacing}
 use Rattle.dcel_maps.proofs.maps.Halves.{turn_back}
 use Rattle.dcel_maps.proofs.maps.Triangles.{IsApart, triangles_apart}
 use Rattle.dcel_maps.proofs.walks.Links.{half-below}
+use Rattle.dcel_maps.proofs.words.EachSet.{first-two_set, second-two_set}
+use Rattle.dcel_maps.proofs.words.Mapped.{count-at}
 use Rattle.dcel_plane.specs.Edges.{edges_round}
 use Rattle.dcel_plane.specs.Plane.{IsCircled, IsInner, IsPlane, ListsCircled, TurnsLeft}
 use Rattle.dcel_plane.proofs.Corners.{LeftOf, corners_are, left-from_least, left_of_triangle, of_least}
 use Rattle.dcel_plane.proofs.Splits.{listed_as}
 use Rattle.dcel_plane.proofs.Written.{IsWritten, origin_away, written_lists, written_plane}
-use Rattle.dcel_maps.proofs.edits.Around.{at_edge, known}
-use Rattle.dcel_maps.proofs.words.EachSet.{first-two_set, second-two_set}
-use Rattle.dcel_maps.proofs.words.Mapped.{count-at}
 
 module _ {V DE UE F : Type 0} (m : Mesh V DE UE F) (mesh : IsMesh m) (u : ℕ) (can : CanFlip m.shape u) where
   abbrev s : Shape

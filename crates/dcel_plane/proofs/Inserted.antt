@@ -10,11 +10,11 @@ use Rattle.dcel_maps.proofs.Liveness.{is_live-parts}
 use Rattle.dcel_maps.proofs.edits.Inserts.{anchored_triangle}
 use Rattle.dcel_maps.proofs.edits.Patches.{Patch, pushing}
 use Rattle.dcel_maps.proofs.maps.Triangles.{IsTriangleOf}
+use Rattle.dcel_maps.proofs.words.Mapped.{count-at}
 use Rattle.dcel_plane.specs.Edges.{edges_inserted}
 use Rattle.dcel_plane.specs.Plane.{IsPlane, LiesInside, ListsCircled, TurnsLeft}
 use Rattle.dcel_plane.proofs.Corners.{corners_are, left_same, of_three, seen}
 use Rattle.dcel_plane.proofs.Written.{IsWritten, Leads, origin_away, origin_more, written_lists, written_plane}
-use Rattle.dcel_maps.proofs.words.Mapped.{count-at}
 
 -- the anchor of a word of three
 anchored_by : (w : List ℕ) (o : Option ℕ) → AnchorsWord w o → length w ≡ 3 → (a : ℕ) × (o ≡ Some a)

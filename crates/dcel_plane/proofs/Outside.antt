@@ -7,12 +7,12 @@ use Rattle.dcel_maps.specs.Shapes.{IsLive, IsMesh, Mesh, Shape, end_of, face_of,
 use Rattle.dcel_maps.specs.Words.{become, count_of, word_of}
 use Rattle.dcel_maps.proofs.edits.Patches.{Patch, pushing}
 use Rattle.dcel_maps.proofs.shapes.Maps.{map-sound}
+use Rattle.dcel_maps.proofs.words.Mapped.{count-at}
 use Rattle.dcel_plane.specs.Edges.{edges_beside, edges_closed}
 use Rattle.dcel_plane.specs.Plane.{IsLeftOf, IsPlane, ListsCircled}
 use Rattle.dcel_plane.proofs.Corners.{corners_are, left-from_least, left_same, of_least, of_three}
 use Rattle.dcel_plane.proofs.Splits.{listed_as}
 use Rattle.dcel_plane.proofs.Written.{IsWritten, origin_away, origin_more, written_lists, written_plane}
-use Rattle.dcel_maps.proofs.words.Mapped.{count-at}
 
 module _ {V DE UE F : Type 0} (m : Mesh V DE UE F) (mesh : IsMesh m) (e : ℕ) (live : IsLive m.shape e) (halves : List DE) (edges : List UE) (faces : List F) (at : ℕ → Point) where
   abbrev s : Shape

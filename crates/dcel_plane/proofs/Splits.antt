@@ -15,11 +15,11 @@ use Rattle.dcel_maps.proofs.maps.Soundness.{rev_live}
 use Rattle.dcel_maps.proofs.maps.Triangles.{IsTriangleOf, facing_differ}
 use Rattle.dcel_maps.proofs.shapes.Maps.{map-sound}
 use Rattle.dcel_maps.proofs.walks.Links.{half-below}
+use Rattle.dcel_maps.proofs.words.Mapped.{count-at}
 use Rattle.dcel_plane.specs.Edges.{edges_half_split, edges_split}
 use Rattle.dcel_plane.specs.Plane.{IsPlane, LiesAcross, ListsCircled, TurnsLeft}
 use Rattle.dcel_plane.proofs.Corners.{corners_are, left-from_least, left_same, left_turned, of_least, of_three, seen}
 use Rattle.dcel_plane.proofs.Written.{IsWritten, origin_away, origin_more, written_lists, written_plane}
-use Rattle.dcel_maps.proofs.words.Mapped.{count-at}
 
 -- the triangle of a half edge e, with p on the left of the other two sides
 module _ {V DE UE F : Type 0} (m : Mesh V DE UE F) (mesh : IsMesh m) (at : ℕ → Point) (p : Point) (e : ℕ) (live : IsLive m.shape e)

@@ -13,6 +13,8 @@ use Rattle.dcel_maps.specs.Cyclic.{from_least}
 use Rattle.dcel_maps.specs.edits.Flip.{edge_flipped}
 use Rattle.dcel_maps.specs.Shapes.{IsLive, IsMesh, Mesh, Shape, face_count, face_of, map_of, origin_of}
 use Rattle.dcel_maps.specs.Words.{TurnsTo, count_of, word_of}
+use Rattle.dcel_maps.proofs.edits.Around.{at_edge, known}
+use Rattle.dcel_maps.proofs.edits.Flips.{at_flip}
 use Rattle.dcel_maps.proofs.words.Counts.{count-later, count-same}
 use Rattle.dcel_maps.proofs.words.Reading.{face_in_word, live_in}
 use Rattle.dcel_maps.proofs.words.Triangles.{triangle_written}
@@ -21,8 +23,6 @@ use Rattle.dcel_plane.specs.Plane.{IsCircled, IsPlane, TurnsLeft}
 use Rattle.dcel_plane.specs.Volume.{volume_below, volume_under}
 use Rattle.dcel_plane.proofs.Corners.{three_items, turned_along}
 use Rattle.dcel_plane.proofs.Flipped.{from_end, from_start, left_before, new_corners, origin_after, origin_e, origin_far, origin_near, origin_same, origin_t, origin_t_after, right_before}
-use Rattle.dcel_maps.proofs.edits.Around.{at_edge, known}
-use Rattle.dcel_maps.proofs.edits.Flips.{at_flip}
 
 -- sums of items that are the same
 sums_agree : (a b : List ℕ → ℕ) (l : List (List ℕ)) → ((k : ℕ) → k < length l → a (word_of l k) ≡ b (word_of l k)) → sum_by a l ≡ sum_by b l
