@@ -2,7 +2,7 @@
 use Rattle.std.proofs.Common.{◌≡◌, ◌≢◌, inl, inr, ℕ, suc, ◌+◌, ◌*◌, ◌<◌, List, [], ◌∷◌, length, slice_set, refl, sym, ap, ◌∙◌, subst, ℤ, pos, negsuc, unsigned_abs, ◌+ℤ◌, ◌<ℤ◌, ◌≤ℤ◌, arith}
 use Rattle.std.specs.List.{sum_by}
 use Rattle.std.proofs.lemmas.Bool.{cases_eq}
-use Rattle.std.proofs.lemmas.List.{get_or-set_other, get_or-set_same, length-set}
+use Rattle.std.proofs.lemmas.List.{get_or-set_other, length-set}
 use Rattle.std.proofs.lemmas.List.Sums.{sum_by-cons, sum_by-set}
 use Rattle.dcel_predicates.specs.declared.point.Point.{Point}
 use Rattle.dcel_predicates.specs.Determinants.{height_of, incircle_of, orient2d_of, volume_of}
@@ -16,6 +16,7 @@ use Rattle.dcel_maps.specs.Words.{TurnsTo, count_of, word_of}
 use Rattle.dcel_maps.proofs.edits.Around.{at_edge, known}
 use Rattle.dcel_maps.proofs.edits.Flips.{at_flip}
 use Rattle.dcel_maps.proofs.words.Counts.{count-later, count-same}
+use Rattle.dcel_maps.proofs.words.EachSet.{first-two_set, length-two_set, other-two_set, second-two_set, two_set}
 use Rattle.dcel_maps.proofs.words.Reading.{face_in_word, live_in}
 use Rattle.dcel_maps.proofs.words.Triangles.{triangle_written}
 use Rattle.dcel_maps.proofs.words.Turns.{from_least-turn, length-turn}
@@ -36,7 +37,7 @@ sums_agree a b (w ∷ r) same =
 module _ (a b : List ℕ → ℕ) (ws : List (List ℕ)) (f g : ℕ) (u v : List ℕ) (f_in : f < length ws) (g_in : g < length ws) (differ : f ≢ g)
     (none_a : a [] ≡ 0) (none_b : b [] ≡ 0) (same : (k : ℕ) → k < length ws → k ≢ f → k ≢ g → a (word_of ws k) ≡ b (word_of ws k)) where
   abbrev two : List ℕ → List ℕ → List (List ℕ)
-  two x y = slice_set (slice_set ws f x) g y
+  two x y = two_set ws f x g y
 
   replaced_two : (c : List ℕ → ℕ) (x y : List ℕ) → sum_by c (two x y) + (c (word_of ws f) + c (word_of ws g)) ≡ sum_by c ws + (c x + c y)
   replaced_two c x y =
@@ -48,20 +49,17 @@ module _ (a b : List ℕ → ℕ) (ws : List (List ℕ)) (f g : ℕ) (u v : List
   -- without the two
   others : sum_by a (two [] []) ≡ sum_by b (two [] [])
   others = sums_agree a b (two [] []) (λ k within. elim (cases_eq k g) [
-    | inl on_g ↦
-        let is : word_of (two [] []) k ≡ [] = ap (word_of (two [] [])) on_g ∙ get_or-set_same (slice_set ws f []) g [] [] (omega (arith, g_in, length-set ws f [])) in
-        ap a is ∙ none_a ∙ sym none_b ∙ ap b (sym is)
-    | inr not_g ↦
-        let past : word_of (two [] []) k ≡ word_of (slice_set ws f []) k = get_or-set_other (slice_set ws f []) g k [] [] not_g in
-        elim (cases_eq k f) [
-          | inl on_f ↦
-              let is : word_of (two [] []) k ≡ [] = past ∙ ap (word_of (slice_set ws f [])) on_f ∙ get_or-set_same ws f [] [] f_in in
-              ap a is ∙ none_a ∙ sym none_b ∙ ap b (sym is)
-          | inr not_f ↦
-              let is : word_of (two [] []) k ≡ word_of ws k = past ∙ get_or-set_other ws f k [] [] not_f in
-              ap a is ∙ same k (omega (arith, within, length-set (slice_set ws f []) g [], length-set ws f [])) not_f not_g ∙ ap b (sym is)
-        ]
+    | inl on_g ↦ none_there k (ap (word_of (two [] [])) on_g ∙ second-two_set ws f g [] [] [] g_in)
+    | inr not_g ↦ elim (cases_eq k f) [
+      | inl on_f ↦ none_there k (ap (word_of (two [] [])) on_f ∙ first-two_set ws f g [] [] [] differ f_in)
+      | inr not_f ↦
+          let is : word_of (two [] []) k ≡ word_of ws k = other-two_set ws f g [] [] [] k not_f not_g in
+          ap a is ∙ same k (omega (arith, within, length-two_set ws f g [] [])) not_f not_g ∙ ap b (sym is)
+    ]
   ])
+    where
+      none_there : (k : ℕ) → word_of (two [] []) k ≡ [] → a (word_of (two [] []) k) ≡ b (word_of (two [] []) k)
+      none_there k is = ap a is ∙ none_a ∙ sym none_b ∙ ap b (sym is)
 
   pub sum_of_two : sum_by b (two u v) + (a (word_of ws f) + a (word_of ws g)) ≡ sum_by a ws + (b u + b v)
   sum_of_two = omega (arith, replaced_two a [] [], replaced_two b [] [], replaced_two b u v, others, none_a, none_b)
