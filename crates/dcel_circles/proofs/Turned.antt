@@ -7,20 +7,13 @@ use Rattle.dcel_maps.specs.Conditions.{CanFlip}
 use Rattle.dcel_maps.specs.edits.Flip.{edge_flipped}
 use Rattle.dcel_maps.specs.Shapes.{IsMesh, Mesh}
 use Rattle.dcel_maps.specs.Words.{count_of}
-use Rattle.dcel_maps.proofs.words.Counts.{count-append, count-equal, count-later, first_or_later}
+use Rattle.dcel_maps.proofs.edits.Flips.{flipped_mesh}
+use Rattle.dcel_maps.proofs.words.Counts.{count-append, last_or_before}
 use Rattle.dcel_plane.specs.Plane.{IsCircled, IsDelaunay, IsInner, IsPlane, ListsCircled, point_at}
 use Rattle.dcel_plane.specs.Volume.{volume_below}
-use Rattle.dcel_plane.proofs.Flipped.{circled_can_flip, flip_lists, flip_plane, flipped_mesh}
+use Rattle.dcel_plane.proofs.Flipped.{circled_can_flip, flip_lists, flip_plane}
 use Rattle.dcel_plane.proofs.Volumes.{volume_falls}
 use Rattle.dcel_circles.specs.Turning.{AreCircled, IsTurnedTo, edges_turned, sides_round}
-
--- an edge that is the last of a list
-last_or_before : (v u : ℕ) (front : List ℕ) → 0 < count_of v (front ++ u ∷ []) → (v ≡ u) ⊎ (0 < count_of v front)
-last_or_before v u [] found = elim (first_or_later v u [] found) [ inl is ↦ inl is | inr none ↦ inr none ]
-last_or_before v u (x ∷ front) found = elim (first_or_later v x (front ++ u ∷ []) found) [
-  | inl is ↦ inr (omega (arith, count-equal v x front is))
-  | inr in_rest ↦ elim (last_or_before v u front in_rest) [ inl is ↦ inl is | inr in_front ↦ inr (count-later v x front in_front) ]
-]
 
 -- a list by what stands before its last item
 last_at : (x : ℕ) (r : List ℕ) (u : ℕ) → slice_get (x ∷ r) (length r) ≡ Some u → x ∷ r ≡ take (length r) (x ∷ r) ++ u ∷ []
@@ -126,7 +119,7 @@ module _ {DE UE F : Type 0} where
       -- one that is is flipped
       pub turns : IsUnderWay m list (edge_flipped n u) ((front ++ u ∷ []) ++ sides_round n.shape u)
       turns = record {
-        mesh = flipped_mesh n way.mesh u can_flip;
+        mesh = flipped_mesh n u way.mesh can_flip;
         plane = flip_plane n way.mesh u can_flip (point_at n) inner.inner inner.inner_facing circled way.plane;
         turned =
             let before = way.turned in

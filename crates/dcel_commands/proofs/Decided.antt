@@ -17,6 +17,7 @@ use Rattle.dcel_maps.proofs.maps.Halves.{rev_half, rev_or_same}
 use Rattle.dcel_maps.proofs.removal.Passing.{leads_or_not}
 use Rattle.dcel_maps.specs.Walking.{IsOutEdge, ListsOnce, ccw_of, walk_of}
 use Rattle.dcel_maps.specs.Words.{count_of, word_of}
+use Rattle.dcel_maps.proofs.walks.Links.{half-below}
 use Rattle.dcel_maps.proofs.words.Counts.{count-later, count-same, first_or_later}
 use Rattle.dcel_maps.proofs.Liveness.{is_live-parts}
 
@@ -111,14 +112,11 @@ out_edge : (s : Shape) (v h : ℕ) → Decided (IsOutEdge s v h)
 out_edge s v h = as_well (λ p. record { live = p.0; start = p.1 }) (λ (out : IsOutEdge s v h). (out.live, out.start))
     (both (is_true (edge_is_live s (h / 2))) (cases_eq (origin_of s h) v))
 
-live_below : (s : Shape) (h : ℕ) → IsLive s h → h < 2 * s.edges
-live_below s h live = let below = (is_live-parts (gives_up_edge s.removal) s.edges (h / 2) live).0 in omega arith
-
 -- some half edge out of v, or none
 some_out : (s : Shape) (v : ℕ) → ((h : ℕ) × IsOutEdge s v h) ⊎ ((h : ℕ) → ¬ IsOutEdge s v h)
 some_out s v = elim (search_below (IsOutEdge s v) (out_edge s v) (2 * s.edges)) [
   | inl found ↦ inl (found.0, found.2)
-  | inr none ↦ inr (λ h out. none h (live_below s h out.live) out)
+  | inr none ↦ inr (λ h out. none h (half-below s h out.live) out)
 ]
 
 -- another one than h, or none
@@ -127,7 +125,7 @@ another_out s v h = elim (search_below (λ k. IsOutEdge s v k × (k ≢ h)) (λ 
   | inl found ↦ inl (found.0, found.2.0, found.2.1)
   | inr none ↦ inr (λ k out. elim (cases_eq k h) [
     | inl same ↦ same
-    | inr away ↦ absurd (none k (live_below s k out.live) (out, away))
+    | inr away ↦ absurd (none k (half-below s k out.live) (out, away))
   ])
 ]
 
@@ -222,8 +220,8 @@ around s v h = as_well
     (λ p. record {
       out = p.0;
       outer = p.1.0;
-      only = λ x out. (p.1.1.0 x (live_below s x out.live) out).0;
-      triangles = λ x out. (p.1.1.0 x (live_below s x out.live) out).1;
+      only = λ x out. (p.1.1.0 x (half-below s x out.live) out).0;
+      triangles = λ x out. (p.1.1.0 x (half-below s x out.live) out).1;
       long = p.1.1.1;
     })
     (λ (is : IsStripAround s v h). (is.out, (is.outer, ((λ x below out. (is.only x out, is.triangles x out)), is.long))))
@@ -235,7 +233,7 @@ strip : (s : Shape) (list : List ℕ) → Decided (IsEdgeStrip s list)
 strip s list = elim (search_below (λ h. IsStripAround s (origin_of s h) h × (list ≡ strip_of s h)) (λ h. both (around s (origin_of s h) h) (same_list list (strip_of s h))) (2 * s.edges)) [
   | inl found ↦ inl (record { vertex = origin_of s found.0; half = found.0; around = found.2.0; is = found.2.1 })
   | inr none ↦ inr (λ (strip : IsEdgeStrip s list).
-      none strip.half (live_below s strip.half strip.around.out.live)
+      none strip.half (half-below s strip.half strip.around.out.live)
       (subst (λ v. IsStripAround s v strip.half) (sym strip.around.out.start) strip.around, strip.is))
 ]
 
@@ -250,16 +248,16 @@ some_below P each n bound = elim (search_below P each n) [
 
 out_pair : (s : Shape) (v h k : ℕ) → Decided (IsOutPair s v h k)
 out_pair s v h k = as_well
-    (λ p. record { first = p.0; second = p.1.0; only = λ x out. p.1.1 x (live_below s x out.live) out })
+    (λ p. record { first = p.0; second = p.1.0; only = λ x out. p.1.1 x (half-below s x out.live) out })
     (λ (is : IsOutPair s v h k). (is.first, (is.second, (λ x below. is.only x))))
     (both (out_edge s v h) (both (out_edge s v k) (all_below (λ x. IsOutEdge s v x → (x ≡ h) ⊎ (x ≡ k)) (λ x. implied (out_edge s v x) (either (cases_eq x h) (cases_eq x k))) (2 * s.edges))))
 
 second_out : (s : Shape) (v h : ℕ) → Decided ((k : ℕ) × IsOutPair s v h k)
-second_out s v h = some_below (IsOutPair s v h) (out_pair s v h) (2 * s.edges) (λ k is. live_below s k is.second.live)
+second_out s v h = some_below (IsOutPair s v h) (out_pair s v h) (2 * s.edges) (λ k is. half-below s k is.second.live)
 
 few_out_edges : (s : Shape) (v : ℕ) → Decided (HasFewOutEdges s v)
 few_out_edges s v = as_well (λ p. (p.0, p.1.0, p.1.1)) (λ (few : HasFewOutEdges s v). (few.0, (few.1, few.2)))
-    (some_below (λ h. (k : ℕ) × IsOutPair s v h k) (second_out s v) (2 * s.edges) (λ h pair. live_below s h pair.1.first.live))
+    (some_below (λ h. (k : ℕ) × IsOutPair s v h k) (second_out s v) (2 * s.edges) (λ h pair. half-below s h pair.1.first.live))
 
 path : (s : Shape) → Decided (IsPath s)
 path s = as_well (λ p. record { one_face = p.0; few = p.1 }) (λ (is : IsPath s). (is.one_face, is.few))
@@ -291,13 +289,13 @@ border_from s border v = as_well (λ p. (p.0, p.1.0, p.1.1))
     (λ (found : (h : ℕ) × IsOutEdge s v h × (reverse border ≡ map (next_of s) (walk_of s (ccw_of s) h))). (found.0, (found.1, found.2)))
     (some_below (λ h. IsOutEdge s v h × (reverse border ≡ map (next_of s) (walk_of s (ccw_of s) h)))
     (λ h. both (out_edge s v h) (same_list (reverse border) (map (next_of s) (walk_of s (ccw_of s) h)))) (2 * s.edges)
-    (λ h found. live_below s h found.0.live))
+    (λ h found. half-below s h found.0.live))
 
 border_loop : (s : Shape) (border : List ℕ) (v : ℕ) → Decided (IsBorderLoop s border v)
 border_loop s border v = as_well
     (λ p. record {
       live = p.0;
-      triangles = λ h out. p.1.0 h (live_below s h out.live) out;
+      triangles = λ h out. p.1.0 h (half-below s h out.live) out;
       many = p.1.1.0;
       first = p.1.1.1.0.0;
       out = p.1.1.1.0.1;
@@ -312,23 +310,23 @@ border_loop s border v = as_well
 
 edge_at : (s : Shape) (v u : ℕ) → Decided (IsEdgeAt s v u)
 edge_at s v u = as_well (λ p. record { half = p.0; out = p.1.0; is = p.1.1 }) (λ (at : IsEdgeAt s v u). (at.half, (at.out, at.is)))
-    (some_below (λ h. IsOutEdge s v h × (h / 2 ≡ u)) (λ h. both (out_edge s v h) (cases_eq (h / 2) u)) (2 * s.edges) (λ h found. live_below s h found.0.live))
+    (some_below (λ h. IsOutEdge s v h × (h / 2 ≡ u)) (λ h. both (out_edge s v h) (cases_eq (h / 2) u)) (2 * s.edges) (λ h found. half-below s h found.0.live))
 
 face_at : (s : Shape) (v f : ℕ) → Decided (IsFaceAt s v f)
 face_at s v f = as_well (λ p. record { half = p.0; out = p.1.0; is = p.1.1 }) (λ (at : IsFaceAt s v f). (at.half, (at.out, at.is)))
-    (some_below (λ h. IsOutEdge s v h × (face_of s h ≡ f)) (λ h. both (out_edge s v h) (cases_eq (face_of s h) f)) (2 * s.edges) (λ h found. live_below s h found.0.live))
+    (some_below (λ h. IsOutEdge s v h × (face_of s h ≡ f)) (λ h. both (out_edge s v h) (cases_eq (face_of s h) f)) (2 * s.edges) (λ h found. half-below s h found.0.live))
 
 -- the lists name the edges at a vertex and the faces round it, each once
 lists_edges : (s : Shape) (v : ℕ) (w : List ℕ) → Decided (ListsOnce (IsEdgeAt s v) w)
 lists_edges s v w = as_well
-    (λ p. record { each = λ u at. subst (λ z. count_of z w ≡ 1) at.is (p.0 at.half (live_below s at.half at.out.live) at.out); no_other = p.1 })
+    (λ p. record { each = λ u at. subst (λ z. count_of z w ≡ 1) at.is (p.0 at.half (half-below s at.half at.out.live) at.out); no_other = p.1 })
     (λ (l : ListsOnce (IsEdgeAt s v) w). ((λ h below out. l.each (h / 2) (record { half = h; out = out; is = refl })), l.no_other))
     (both (all_below (λ h. IsOutEdge s v h → count_of (h / 2) w ≡ 1) (λ h. implied (out_edge s v h) (cases_eq (count_of (h / 2) w) 1)) (2 * s.edges))
     (items_have (edge_at s v) w))
 
 lists_faces : (s : Shape) (v : ℕ) (w : List ℕ) → Decided (ListsOnce (IsFaceAt s v) w)
 lists_faces s v w = as_well
-    (λ p. record { each = λ f at. subst (λ z. count_of z w ≡ 1) at.is (p.0 at.half (live_below s at.half at.out.live) at.out); no_other = p.1 })
+    (λ p. record { each = λ f at. subst (λ z. count_of z w ≡ 1) at.is (p.0 at.half (half-below s at.half at.out.live) at.out); no_other = p.1 })
     (λ (l : ListsOnce (IsFaceAt s v) w). ((λ h below out. l.each (face_of s h) (record { half = h; out = out; is = refl })), l.no_other))
     (both (all_below (λ h. IsOutEdge s v h → count_of (face_of s h) w ≡ 1) (λ h. implied (out_edge s v h) (cases_eq (count_of (face_of s h) w) 1)) (2 * s.edges))
     (items_have (face_at s v) w))
@@ -390,7 +388,7 @@ round_past next edges (x ∷ r) = path_past next edges x r x
 
 whole_rim : (s : Shape) (edges faces w : List ℕ) → Decided (ListsOnce (IsRim s edges faces) w)
 whole_rim s edges faces w = as_well
-    (λ p. record { each = λ h has. p.0 h (live_below s h has.live) has; no_other = p.1 })
+    (λ p. record { each = λ h has. p.0 h (half-below s h has.live) has; no_other = p.1 })
     (λ (l : ListsOnce (IsRim s edges faces) w). ((λ h below has. l.each h has), l.no_other))
     (both (all_below (λ h. IsRim s edges faces h → count_of h w ≡ 1) (λ h. implied (rim s edges faces h) (cases_eq (count_of h w) 1)) (2 * s.edges))
     (items_have (rim s edges faces) w))

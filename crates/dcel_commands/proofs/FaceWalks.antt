@@ -7,6 +7,7 @@ use Rattle.dcel_maps.specs.Removals.{gives_up_edge}
 use Rattle.dcel_maps.specs.Shapes.{Shape, Mesh, IsSound, IsMesh, IsLive, AnchorsWord, edge_is_live, face_anchor, face_count, face_of, next_of}
 use Rattle.dcel_maps.specs.Words.{count_of, occurs, word_of, IsLeastFirst, next_in_word, next_in, face_in}
 use Rattle.dcel_maps.proofs.Liveness.{is_live-parts}
+use Rattle.dcel_maps.proofs.walks.Links.{occurs-le, single}
 use Rattle.dcel_maps.proofs.words.Counts.{count-append, count-le_occurs, count-same, count-other, word_with}
 use Rattle.dcel_maps.proofs.words.Paths.{next_in_word-stands}
 use Rattle.dcel_maps.proofs.words.Turns.{TurnsTo, before, onward, count-turn}
@@ -73,16 +74,6 @@ pub record IsLeastSoFar (s : Shape) (h k m : ℕ) : Type 0 where
   pub none_below : (j : ℕ) → j < m → count_of j (passed_round s h k) ≡ 0
 
 module _ {s : Shape} (sound : IsSound s) where
-  occurs-once : (h : ℕ) → occurs h s.words ≤ 1
-  occurs-once h =
-      elim (cases_Bool (edge_is_live s (h / 2))) [
-        | inl live ↦ omega (arith, sound.once h live)
-        | inr dead ↦ omega (arith, sound.no_other h dead)
-      ]
-
-  single : (f h : ℕ) → count_of h (word_of s.words f) ≤ 1
-  single f h = omega (arith, occurs-once h, count-le_occurs h s.words f)
-
   -- what stands in a word is live
   word_item-live : (h f : ℕ) → 0 < count_of h (word_of s.words f) → IsLive s h
   word_item-live h f found =
@@ -94,11 +85,11 @@ module _ {s : Shape} (sound : IsSound s) where
   live_stands : (h : ℕ) → IsLive s h → 0 < count_of h (word_round s h)
   live_stands h live =
       let (f, within, there) = word_with h s.words (omega (arith, sound.once h live)) in
-      rw (read_in h s.words f (occurs-once h) there).face there
+      rw (read_in h s.words f (occurs-le sound h) there).face there
 
   -- a step stays in the word
   next_stands : (k f : ℕ) → 0 < count_of k (word_of s.words f) → 0 < count_of (next_of s k) (word_of s.words f)
-  next_stands k f found = rw (read_in k s.words f (occurs-once k) found).next (next_in_word-stands k (word_of s.words f) found)
+  next_stands k f found = rw (read_in k s.words f (occurs-le sound k) found).next (next_in_word-stands k (word_of s.words f) found)
 
   module _ (h : ℕ) (live : IsLive s h) where
     here : 0 < count_of h (word_round s h)
@@ -106,14 +97,14 @@ module _ {s : Shape} (sound : IsSound s) where
 
     turn : TurnsTo (word_round s h) (round_of s h)
     unfolding round_of
-    turn = others-turn h (word_round s h) here (single _ h)
+    turn = others-turn h (word_round s h) here (single sound _ h)
 
     -- `next` leads round the word
     round : GoesRound (next_of s) h (others h (word_round s h))
     round =
         goes_round (next_of s) h (word_round s h)
-        (cycle_from_next (By (next_of s)) (word_round s h) (single _) (λ k found. (read_in k s.words _ (occurs-once k) found).next))
-        (single _) here
+        (cycle_from_next (By (next_of s)) (word_round s h) (single sound _) (λ k found. (read_in k s.words _ (occurs-le sound k) found).next))
+        (single sound _) here
 
     stands_round : (k : ℕ) → 0 < count_of k (word_round s h) → 0 < count_of k (h ∷ others h (word_round s h))
     unfolding round_of
@@ -183,7 +174,7 @@ module _ {s : Shape} (sound : IsSound s) where
 
     pub least_all : {k m : ℕ} → k ≡ h → IsLeastSoFar s h k m → IsLeastOnFace s m × (face_of s m ≡ face_of s h)
     least_all {k} {m} back so_far =
-        let same : face_of s m ≡ face_of s h = (read_in m s.words (face_of s h) (occurs-once m) so_far.least_stands).face in
+        let same : face_of s m ≡ face_of s h = (read_in m s.words (face_of s h) (occurs-le sound m) so_far.least_stands).face in
         let passed : passed_round s h k ≡ round_of s h = ap (passed_round s h) back ∙ passed_all in (
           record {
             live = stands_live m so_far.least_stands;
@@ -198,11 +189,7 @@ module _ {V DE UE F : Type 0} {m : Mesh V DE UE F} (mesh : IsMesh m) (f : ℕ) (
   anchor_lies h is =
       let w = word_of m.shape.words f in
       let found : 0 < count_of h w = subst (AnchorsWord w) is (mesh.anchored.faces f within) in
-      (word_item-live mesh.sound h f found, (read_in h m.shape.words f (occurs-once mesh.sound h) found).face)
+      (word_item-live mesh.sound h f found, (read_in h m.shape.words f (occurs-le mesh.sound h) found).face)
 
   pub unanchored_word : face_anchor m f ≡ None → word_of m.shape.words f ≡ []
   unanchored_word is = subst (AnchorsWord (word_of m.shape.words f)) is (mesh.anchored.faces f within)
-
--- the number of a live half edge is in range
-pub live_below : (s : Shape) (h : ℕ) → IsLive s h → h < 2 * s.edges
-live_below s h live = omega (arith, (is_live-parts (gives_up_edge s.removal) s.edges (h / 2) live).0)

@@ -21,6 +21,7 @@ use Rattle.dcel_maps.specs.edits.Strip.{strip_half}
 use Rattle.dcel_commands.proofs.Flipping.{flips_made}
 use Rattle.dcel_legalize.specs.Flipping.{edges_flipped}
 use Rattle.dcel_maps.specs.edits.Flip.{edge_flipped}
+use Rattle.dcel_maps.proofs.removal.Insides.{filled-record, many_items}
 use Rattle.dcel_maps.proofs.renumbering.Renumbered.{leaves_live, numbered, vertex_leaves_live}
 
 -- the record of a removal that gives up what a reply lists, and this vertex
@@ -32,19 +33,7 @@ abbrev is_opening : {V : Type 0} → Response V → Bool
 is_opening (Opened edges faces new_edges least) = true
 is_opening _ = false
 
--- a ring has three half edges or more
-ring-many : (s : Shape) (hs us fs : List ℕ) → IsRing s hs us fs → 3 ≤ length hs
-ring-many s hs us fs (of_vertex ring) = ring.border_loop.many
-ring-many s hs us fs (of_region ring) = ring.many
-
 module _ {V DE UE F : Type 0} where
-  filled-record : (m : Mesh V DE UE F) (r : Removal) (ring : List ℕ) (halves : List DE) (edges : List UE) (faces : List F) → 3 ≤ length ring
-      → (loop_filled m r ring halves edges faces).shape.removal ≡ r
-  filled-record m r [] halves edges faces many = absurd (omega (arith, many))
-  filled-record m r (p ∷ []) halves edges faces many = absurd (omega (arith, many))
-  filled-record m r (p ∷ q ∷ []) halves edges faces many = absurd (omega (arith, many))
-  filled-record m r (p ∷ q ∷ t ∷ rest) halves edges faces many = refl
-
   degenerate-record : (m : Mesh V DE UE F) (v : ℕ) → (removed_degenerate m v).shape.removal ≡ Closed
   degenerate-record m v =
       cond_both (m.shape.vertices == 1) (vertex_taken_out m v) (vertex_taken_out (edge_taken_out (path_given_up m v) (going m v / 2)) v)
@@ -76,11 +65,11 @@ module _ {V DE UE F : Type 0} where
     step-record m (Swap a b) legal reply new step = along new _ _ step.1 refl
     step-record m (Put v datum) legal reply new step = along new _ _ step.1 refl
     step-record m (Isolate v hs) legal reply new step = let e = step.1 in
-        along new _ _ e.is (filled-record m (record_after m (Isolate v hs)) (reverse hs) e.directed_data e.undirected_data e.face_data
-        (omega (arith, legal.1.1.1.0.many, length-reverse hs)))
+        along new _ _ e.is (filled-record m (record_after m (Isolate v hs)) (reverse hs) (omega (arith, legal.1.1.1.0.many, length-reverse hs))
+        e.directed_data e.undirected_data e.face_data)
     step-record m (Remesh hs us fs) legal reply new step = let e = step.1 in
-        along new _ _ e.is (filled-record m (record_after m (Remesh hs us fs)) (reverse hs) e.directed_data e.undirected_data e.face_data
-        (omega (arith, ring-many m.shape hs us fs legal.1.1.1.1.0, length-reverse hs)))
+        along new _ _ e.is (filled-record m (record_after m (Remesh hs us fs)) (reverse hs)
+        (omega (arith, many_items m.shape hs us fs legal.1.1.1.1.0, length-reverse hs)) e.directed_data e.undirected_data e.face_data)
     step-record m (Strip hs) legal reply new step = along new _ _ step.1 refl
     step-record m (Cleanup us fs) legal reply new step = along new _ _ step.1 refl
     step-record m (Remove v) legal reply new step = along new _ _ step.1 refl

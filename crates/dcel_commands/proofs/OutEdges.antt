@@ -66,16 +66,6 @@ pub record LeastSeen {M : Type 0} (mesh : M) (items : List (M × ℕ)) (P : ℕ 
   pub all_stand : (h : ℕ) → 0 < count_of h left → P h
   pub seen : (h : ℕ) → P h → (0 < count_of h left) ⊎ (least ≤ h)
 
-pub least_begins : {M : Type 0} (mesh : M) (items : List (M × ℕ)) (P : ℕ → Type 0) (least : ℕ) (w : List ℕ)
-    → items ≡ in_mesh mesh w → P least → ListsOnce P w → LeastSeen mesh items P least
-least_begins mesh items P least w are stands lists = record {
-  left = w;
-  items_are = are;
-  stands = stands;
-  all_stand = lists.no_other;
-  seen = λ h p. inl (omega (arith, lists.each h p));
-}
-
 -- an item came, and the least so far is it or the old one
 pub least_goes_on : {M : Type 0} (mesh : M) (items more : List (M × ℕ)) (P : ℕ → Type 0) (least : ℕ) (m : M) (k : ℕ) → LeastSeen mesh items P least → items ≡ (m, k) ∷ more
     → (m ≡ mesh) × P k × (k < least → LeastSeen mesh more P k) × (least ≤ k → LeastSeen mesh more P least)

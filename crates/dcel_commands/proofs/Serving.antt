@@ -64,7 +64,7 @@ joined_cut limit u m l ls text h =
 leads_nothing : (limit : ℕ) (p : Stage) → Leads limit p p [] []
 leads_nothing limit p u rest more g = g
 
-leads_then : (limit : ℕ) (p q r : Stage) (xs ys text more : List ℕ) → Leads limit p q xs text → Leads limit q r ys more → Leads limit p r (xs ++ ys) (text ++ more)
+pub leads_then : (limit : ℕ) (p q r : Stage) (xs ys text more : List ℕ) → Leads limit p q xs text → Leads limit q r ys more → Leads limit p r (xs ++ ys) (text ++ more)
 leads_then limit p q r xs ys text more f g u rest end h =
     subst (λ (x : List ℕ). Goes limit u p x ((text ++ more) ++ end)) (sym (append_assoc xs ys rest))
     (subst (Goes limit u p (xs ++ (ys ++ rest))) (sym (append_assoc text more end)) (f u (ys ++ rest) (more ++ end) (g u rest end h)))

@@ -14,16 +14,14 @@ use Rattle.dcel_maps.specs.Shapes.{IsLive, IsMesh, Mesh, Shape, edge_is_live, fa
 use Rattle.dcel_maps.specs.Triangulations.{AllTriangles}
 use Rattle.dcel_maps.proofs.Liveness.{closed-live, gives_up_face-closed, is_live-from, is_live-parts, vertex_live-parts}
 use Rattle.dcel_maps.proofs.maps.Counts.{used_not, count_all}
+use Rattle.dcel_maps.proofs.removal.Inserted.{replaced-count}
 use Rattle.dcel_maps.proofs.shapes.Maps.{map-sound}
 use Rattle.dcel_maps.proofs.walks.Lengths.{count-le}
 use Rattle.dcel_delaunay.specs.Growing.{IsJoined}
 
--- one word is written, or two, and others are put at the end
-one_written : (ws : List (List ℕ)) (f : ℕ) (w : List ℕ) (new : List (List ℕ)) → length (slice_set ws f w ++ new) ≡ length ws + length new
-one_written ws f w new = omega (arith, length-append (slice_set ws f w) new, length-set ws f w)
-
+-- two words are written, and others are put at the end
 two_written : (ws : List (List ℕ)) (f g : ℕ) (w u : List ℕ) (new : List (List ℕ)) → length (slice_set (slice_set ws f w) g u ++ new) ≡ length ws + length new
-two_written ws f g w u new = omega (arith, one_written (slice_set ws f w) g u new, length-set ws f w)
+two_written ws f g w u new = omega (arith, replaced-count (slice_set ws f w) g u new, length-set ws f w)
 
 -- a face alone is the outer one
 pub alone_triangles : (s : Shape) → face_count s ≡ 1 → AllTriangles s
@@ -75,7 +73,7 @@ module _ {V DE UE F : Type 0} where
 
     pub inserted_joined : (v f : ℕ) (h : List DE) (e : List UE) (g : List F) → 0 < s.vertices → IsJoined s → IsJoined (vertex_inserted n v f h e g).shape
     inserted_joined v f h e g some joined =
-        let faces : face_count (vertex_inserted n v f h e g).shape ≡ face_count s + 2 = one_written s.words _ _ _ in
+        let faces : face_count (vertex_inserted n v f h e g).shape ≡ face_count s + 2 = replaced-count s.words _ _ _ in
         joined_grows s (vertex_inserted n v f h e g).shape joined some (omega arith) (omega (arith, faces))
 
     pub split_joined : (x v : ℕ) (h : List DE) (e : List UE) (g : List F) → 0 < s.vertices → IsJoined s → IsJoined (edge_split n x v h e g).shape
@@ -90,14 +88,14 @@ module _ {V DE UE F : Type 0} where
 
     pub beside_joined : (x v : ℕ) (h : List DE) (e : List UE) (g : List F) → 0 < s.vertices → IsJoined s → IsJoined (face_put_beside n x v h e g).shape
     beside_joined x v h e g some joined =
-        let faces : face_count (face_put_beside n x v h e g).shape ≡ face_count s + 1 = one_written s.words _ _ _ in
+        let faces : face_count (face_put_beside n x v h e g).shape ≡ face_count s + 1 = replaced-count s.words _ _ _ in
         joined_grows s (face_put_beside n x v h e g).shape joined some (omega arith) (omega (arith, faces))
 
   -- a triangle closed
   pub closed_joined : (m : Mesh V DE UE F) (x : ℕ) (h : List DE) (e : List UE) (g : List F) → 0 < m.shape.vertices → IsJoined m.shape
       → IsJoined (face_closed m x h e g).shape
   closed_joined m x h e g some joined =
-      let faces : face_count (face_closed m x h e g).shape ≡ face_count m.shape + 1 = one_written m.shape.words _ _ _ in
+      let faces : face_count (face_closed m x h e g).shape ≡ face_count m.shape + 1 = replaced-count m.shape.words _ _ _ in
       joined_grows m.shape (face_closed m x h e g).shape joined some (omega arith) (omega (arith, faces))
 
   -- an edge flipped

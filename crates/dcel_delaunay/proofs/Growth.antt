@@ -13,19 +13,12 @@ use Rattle.dcel_maps.specs.edits.Triangle.{vertex_inserted}
 use Rattle.dcel_maps.specs.Removals.{Closed, gives_up_edge, gives_up_vertex}
 use Rattle.dcel_maps.specs.Renumbering.{last_put, moved, vertex_taken_out}
 use Rattle.dcel_maps.specs.Shapes.{IsLive, IsMesh, IsSound, Mesh, Shape, edge_is_live, origin_of, vertex_is_live}
-use Rattle.dcel_maps.proofs.Liveness.{closed-live, closed-vertex_live, is_live-parts, vertex_live-parts}
-use Rattle.dcel_maps.proofs.renumbering.Ends.{last_put-end}
+use Rattle.dcel_maps.proofs.Liveness.{closed-live, closed-vertex_live, is_live-parts, vertex_live-parts, closed-half_live}
+use Rattle.dcel_maps.proofs.renumbering.Ends.{last_put-end, vertices_stay}
 use Rattle.dcel_maps.proofs.renumbering.Moves.{moved-itself}
+use Rattle.dcel_maps.proofs.walks.Links.{half-below}
 use Rattle.dcel_predicates.specs.declared.point.Point.{Point}
 use Rattle.dcel_delaunay.specs.Growing.{Gains, Keeps}
-
--- while no removal is open, a half edge of an edge in range is live
-pub live_below : (s : Shape) (h : ℕ) → s.removal ≡ Closed → h < 2 * s.edges → IsLive s h
-live_below s h closed below = closed-live s closed (h / 2) (omega (arith, below))
-
--- and a live one is in range
-pub below_live : (s : Shape) (h : ℕ) → IsLive s h → h < 2 * s.edges
-below_live s h live = let half = (is_live-parts (gives_up_edge s.removal) s.edges (h / 2) live).0 in omega (arith, half)
 
 module _ {V DE UE F : Type 0} where
   -- the vertex that is appended has no edge
@@ -45,11 +38,6 @@ module _ {V DE UE F : Type 0} where
 pub of_edit : {X DE UE F : Type 0} (is_half : DE → Type 0) (is_edge : UE → Type 0) (is_face : F → Type 0) (k j : ℕ) (new : X) (edit : List DE → List UE → List F → X)
     (P : X → Type 0) → AddsEdgesAndFaces is_half is_edge is_face k j new edit → ((h : List DE) (e : List UE) (f : List F) → P (edit h e f)) → P new
 of_edit is_half is_edge is_face k j new edit P adds all = subst P (sym adds.is) (all adds.directed_data adds.undirected_data adds.face_data)
-
--- the numbers of vertices stay where the last one goes
-map-moved : (last d : ℕ) → d ≡ last → (xs : List ℕ) → map (moved last d) xs ≡ xs
-map-moved last d same [] = refl
-map-moved last d same (x ∷ xs) = rw (moved-itself last d x same, map-moved last d same xs) refl
 
 -- the last item of a list taken out
 end : {A : Type 0} (xs : List A) (x : A) (n : ℕ) → length xs ≡ n → length (xs ++ x ∷ []) - 1 ≡ n
@@ -74,7 +62,7 @@ module _ {V DE UE F : Type 0} where
       let s = m.shape in
       rebuilt m (s.vertices + 1 - 1) (map (moved (s.vertices + 1 - 1) s.vertices) s.origins) (last_put 1 (m.vertex_anchors ++ None ∷ []) s.vertices)
       (last_put 1 (m.vertex_data ++ p ∷ []) s.vertices)
-      (omega arith) (map-moved (s.vertices + 1 - 1) s.vertices (omega arith) s.origins) closed
+      (omega arith) (vertices_stay (s.vertices + 1 - 1) s.vertices (omega arith) s.origins) closed
       (last_out m.vertex_anchors None s.vertices mesh.sized.vertex_anchors) (last_out m.vertex_data p s.vertices mesh.sized.vertex_data)
 
 module _ {DE UE F : Type 0} where
@@ -139,4 +127,4 @@ module _ {DE UE F : Type 0} where
 
   -- what was live is live
   pub keeps-live : (m n : Mesh Point DE UE F) (h : ℕ) → Keeps m n → IsLive m.shape h → IsLive n.shape h
-  keeps-live m n h keeps live = let below = below_live m.shape h live in live_below n.shape h keeps.closed (omega (arith, below, keeps.edges))
+  keeps-live m n h keeps live = let below = half-below m.shape h live in closed-half_live n.shape keeps.closed h (omega (arith, below, keeps.edges))

@@ -6,11 +6,12 @@ use Rattle.dcel_maps.specs.edits.Outside.{face_closed}
 use Rattle.dcel_maps.specs.Removals.{Closed}
 use Rattle.dcel_maps.specs.Renumbering.{vertex_taken_out}
 use Rattle.dcel_maps.specs.Shapes.{IsLive, IsMesh, Mesh, end_of, next_of}
+use Rattle.dcel_maps.proofs.Liveness.{closed-half_live}
 use Rattle.dcel_predicates.specs.declared.point.Point.{Point}
 use Rattle.dcel_plane.specs.Edges.{edges_closed}
 use Rattle.dcel_plane.specs.Plane.{IsLeftOf, point_at}
 use Rattle.dcel_delaunay.specs.Growing.{Gains, IsUnderWay, Keeps}
-use Rattle.dcel_delaunay.proofs.Growth.{appended-gains, gains-keeps, live_below, of_edit, taken_back}
+use Rattle.dcel_delaunay.proofs.Growth.{appended-gains, gains-keeps, of_edit, taken_back}
 use Rattle.dcel_delaunay.proofs.UnderWay.{closed-under_way}
 
 module _ {DE UE F : Type 0} where
@@ -66,4 +67,4 @@ module _ {DE UE F : Type 0} where
   close_live is_half is_edge is_face k j old new x y closed adds is =
       subst (λ (h : ℕ). IsLive new.shape h) (sym is)
       (of_edit is_half is_edge is_face k j new (face_closed old x) (λ (m : Mesh Point DE UE F). IsLive m.shape (2 * old.shape.edges + 1)) adds
-      (λ h e g. live_below (face_closed old x h e g).shape (2 * old.shape.edges + 1) closed (omega arith)))
+      (λ h e g. closed-half_live (face_closed old x h e g).shape closed (2 * old.shape.edges + 1) (omega arith)))

@@ -4,7 +4,8 @@ use Rattle.std.proofs.lemmas.Bool.{and_from, and_parts, cases_Bool, cases_eq, ca
 use Rattle.std.proofs.lemmas.List.{get_or-append-add, get_or_default, get_or-set_other, get_or-set_same, get_or_append_left, get_or_at, length-append, length-set, length_push}
 use Rattle.dcel_fixed.proofs.Halves.{rev-even, rev-rev, rev_within}
 use Rattle.dcel_fixed.specs.HalfEdges.{rev}
-use Rattle.dcel_exchange.specs.Chains.{AreChained, HangsAt, IsLastBelow, Leads, hangs}
+use Rattle.dcel_maps.specs.Numbers.{IsLastBelow}
+use Rattle.dcel_exchange.specs.Chains.{AreChained, HangsAt, Leads, hangs}
 
 module _ (starts : List ℕ) (a b : ℕ) where
   hangs_gives : hangs starts a b ≡ true → (slice_index starts a < slice_index starts b) ⊎ ((slice_index starts a ≡ slice_index starts b) × (a < b))
@@ -83,10 +84,6 @@ module _ (P Q : ℕ → Type 0) (n : ℕ) where
     ],
   )
 
-pub left_less : (P : ℕ → Type 0) (k : ℕ) (o : Option ℕ) → IsLastBelow P k o → left o < k + 1
-left_less P k None last = omega arith
-left_less P k (Some m) last = omega (arith, last.0)
-
 -- a look-up for a half edge that leads from a, where its edge hangs, to b
 module _ (vertices : ℕ) (starts origin : List ℕ) (last before : List (Option ℕ)) (chained : AreChained vertices starts origin last before) (a b : ℕ) where
   abbrev pub Searched : Option ℕ → Type 0
@@ -111,14 +108,8 @@ module _ (vertices : ℕ) (starts origin : List ℕ) (last before : List (Option
   search_goes_on k o searched not read =
       passed_one (HangsAt starts origin a) (λ h. slice_index origin (rev h) ≡ b) (length origin) k o searched not (before_last k o searched read)
 
-  pub search_nears : (k : ℕ) (o : Option ℕ) → Searched (Some k) → o ≡ slice_index_or before (k / 2) o → left o < k + 1
-  search_nears k o searched read = left_less (HangsAt starts origin a) k o (before_last k o searched read)
-
   pub search_ends : hangs starts a b ≡ true → Searched None → (h : ℕ) → ¬ Leads origin h a b
   search_ends there searched h leads = searched h leads.below (leads.start, ap (hangs starts a) leads.end ∙ there) leads.end
-
-  pub search_found : (k : ℕ) → Searched (Some k) → slice_index origin (rev k) ≡ b → Leads origin k a b
-  search_found k searched is = record { below = searched.0; start = searched.1.0; end = is }
 
   pub search_within : (k : ℕ) → Searched (Some k) → rev k < length origin
   search_within k searched = let e = chained.edges in rev_within k (length origin) (omega arith) searched.0

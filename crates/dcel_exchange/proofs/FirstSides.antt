@@ -2,6 +2,7 @@
 use Rattle.std.proofs.Common.{◌≡◌, ◌⊎◌, inl, inr, ℕ, zero, suc, ◌+◌, ◌<◌, ◌≤◌, ◌==◌, Bool, true, false, List, slice_index, unwrap_or, Option, Some, None, refl, sym, ap, ◌∙◌, subst, eq-eqb, arith}
 use Rattle.std.proofs.lemmas.Bool.{and_from, and_parts, cases_Bool, cases_eq, cases_lt, eqb-true, false≢true, not_from_false, not_from_true, or_cases, or_left, or_right}
 use Rattle.dcel_maps.specs.Maps.{any_below, count}
+use Rattle.dcel_maps.proofs.maps.Counts.{any_below_cases, any_below_from}
 use Rattle.dcel_exchange.specs.Corners.{LeadsBack, is_first, leads_back}
 
 -- what holds of each number below i, and of i
@@ -21,20 +22,6 @@ is_some (Some p) = true
 pub not_none : (p : ℕ) → Some p ≡ None → ⊥
 not_none p same = false≢true (sym (ap is_some same))
 
-any_from : (p : ℕ → Bool) (n k : ℕ) → k < n → p k ≡ true → any_below p n ≡ true
-any_from p zero k l t = absurd (omega arith)
-any_from p (suc n) k l t = elim (cases_eq k n) [
-  | inl i ↦ or_left (p n) (any_below p n) (ap p (sym i) ∙ t)
-  | inr d ↦ or_right (p n) (any_below p n) (any_from p n k (omega arith) t)
-]
-
-any_gives : (p : ℕ → Bool) (n : ℕ) → any_below p n ≡ true → (k : ℕ) × (k < n) × (p k ≡ true)
-any_gives p zero t = absurd (false≢true t)
-any_gives p (suc n) t = elim (or_cases (p n) (any_below p n) t) [
-  | inl i ↦ (n, omega arith, i)
-  | inr i ↦ let r = any_gives p n i in (r.0, omega arith, r.2)
-]
-
 module _ (from to : List ℕ) where
   back_test : (p q : ℕ) → LeadsBack from to p q → leads_back from to p q ≡ true
   back_test p q back = and_from _ _ (eq-eqb _ _ back.0) (eq-eqb _ _ back.1)
@@ -45,21 +32,12 @@ module _ (from to : List ℕ) where
   -- where no side before it leads back, a side is the first of its edge
   pub first_from : (p : ℕ) → ((q : ℕ) → q < p → ¬ LeadsBack from to p q) → is_first from to p ≡ true
   first_from p none = elim (cases_Bool (any_below (leads_back from to p) p)) [
-    | inl some ↦ let r = any_gives (leads_back from to p) p some in absurd (none r.0 r.1 (test_back p r.0 r.2))
+    | inl some ↦ let r = any_below_cases (leads_back from to p) p some in absurd (none r.0 r.1 (test_back p r.0 r.2))
     | inr alone ↦ not_from_false _ alone
   ]
 
   pub second_from : (p q : ℕ) → q < p → LeadsBack from to p q → is_first from to p ≡ false
-  second_from p q below back = not_from_true _ (any_from (leads_back from to p) p q below (back_test p q back))
-
-  pub first_none : (p q : ℕ) → is_first from to p ≡ true → q < p → ¬ LeadsBack from to p q
-  first_none p q first below back = false≢true (sym (second_from p q below back) ∙ first)
-
-  pub first_cases : (p : ℕ) → (is_first from to p ≡ true) ⊎ ((q : ℕ) × (q < p) × LeadsBack from to p q)
-  first_cases p = elim (cases_Bool (any_below (leads_back from to p) p)) [
-    | inl some ↦ let r = any_gives (leads_back from to p) p some in inr (r.0, r.1, test_back p r.0 r.2)
-    | inr alone ↦ inl (not_from_false _ alone)
-  ]
+  second_from p q below back = not_from_true _ (any_below_from (leads_back from to p) p q below (back_test p q back))
 
   pub count_first : (i : ℕ) → is_first from to i ≡ true → count (is_first from to) (i + 1) ≡ count (is_first from to) i + 1
   count_first i first =

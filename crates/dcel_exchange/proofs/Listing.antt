@@ -13,37 +13,22 @@ use Rattle.dcel_maps.specs.Numbers.{numbers_between}
 use Rattle.dcel_maps.specs.Removals.{Closed}
 use Rattle.dcel_maps.specs.Shapes.{IsLive, IsMesh, Mesh, Shape, face_count, face_of, next_of, origin_of}
 use Rattle.dcel_maps.specs.Walking.{in_mesh}
-use Rattle.dcel_maps.proofs.Liveness.{closed-live}
-use Rattle.dcel_maps.proofs.walks.Numbers.{length-numbers, numbers-below}
+use Rattle.dcel_maps.proofs.Liveness.{closed-live, closed-half_live}
+use Rattle.dcel_maps.proofs.walks.Numbers.{length-numbers, numbers-below, length-listed, listed, listed-at}
 use Rattle.spade_dcel.specs.Live.{live_ones}
 
 module _ {V DE UE F : Type 0} (m : Mesh V DE UE F) (closed : m.shape.removal ≡ Closed) where
-  -- each half edge is live
-  live_below : (h : ℕ) → h < 2 * m.shape.edges → IsLive m.shape h
-  live_below h below = closed-live m.shape closed (h / 2) (omega arith)
-
-  -- so the links of the live ones are the links of all
+  -- each half edge is live, so the links of the live ones are the links of all
   all_links : (numbers : List ℕ) → All (λ h. h < 2 * m.shape.edges) numbers
       → map (λ edge. link_of edge.0.shape edge.1) (live_ones DirectedEdges (in_mesh m numbers)) ≡ map (link_of m.shape) numbers
   all_links [] below = refl
   all_links (h ∷ rest) below =
-      rw (live_below h (All-head (λ k. k < 2 * m.shape.edges) h rest below))
+      rw (closed-half_live m.shape closed h (All-head (λ k. k < 2 * m.shape.edges) h rest below))
       (ap (λ list. link_of m.shape h ∷ list) (all_links rest (All-tail (λ k. k < 2 * m.shape.edges) h rest below)))
 
   pub links_all : (elements : List (Mesh V DE UE F × ℕ)) → elements ≡ live_ones DirectedEdges (in_mesh m (numbers_between 0 (2 * m.shape.edges)))
       → map (λ edge. link_of edge.0.shape edge.1) elements ≡ map (link_of m.shape) (numbers_between 0 (2 * m.shape.edges))
   links_all elements are = rw are (all_links (numbers_between 0 (2 * m.shape.edges)) (numbers-below (2 * m.shape.edges)))
-
--- the list of what f makes of the numbers below n
-abbrev pub listed : (ℕ → ℕ) → ℕ → List ℕ
-listed f n = map f (numbers_between 0 n)
-
-pub length-listed : (f : ℕ → ℕ) (n : ℕ) → length (listed f n) ≡ n
-length-listed f n = length-map (numbers_between 0 n) f ∙ omega (arith, length-numbers 0 n)
-
-pub listed-at : (f : ℕ → ℕ) (n h : ℕ) → h < n → slice_index (listed f n) h ≡ f h
-unfolding numbers_between
-listed-at f n h below = get_or-map-range_with_len f 0 (n - 0) h h 0 (omega arith) (omega arith)
 
 -- one link of all half edges
 abbrev pub part_of : (Link → ℕ) → Shape → List ℕ
@@ -60,12 +45,6 @@ map-links part s (h ∷ rest) = ap (λ list. part (link_of s h) ∷ list) (map-l
 pub gathers-none : (part : Link → ℕ) (s : Shape) (list : List ℕ) (rest : List Link) → list ≡ [] → rest ≡ map (link_of s) (numbers_between 0 (2 * s.edges))
     → Gathers part s list rest
 gathers-none part s list rest none are = rw (none, are) (map-links part s (numbers_between 0 (2 * s.edges)))
-
-pub gathers-one : (part : Link → ℕ) (s : Shape) (list more : List ℕ) (link : Link) (rest left : List Link) → Gathers part s list rest → rest ≡ link ∷ left
-    → more ≡ list ++ part link ∷ [] → Gathers part s more left
-gathers-one part s list more link rest left so_far gives pushed =
-    ap (λ xs. xs ++ map part left) pushed ∙ append_assoc list (part link ∷ []) (map part left)
-    ∙ ap (λ xs. list ++ map part xs) (sym gives) ∙ so_far
 
 pub gathers-all : (part : Link → ℕ) (s : Shape) (list : List ℕ) (rest : List Link) → Gathers part s list rest → rest ≡ [] → list ≡ part_of part s
 gathers-all part s list rest so_far ends = sym (append-nil list) ∙ ap (λ xs. list ++ map part xs) (sym ends) ∙ so_far

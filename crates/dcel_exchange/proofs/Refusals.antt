@@ -169,9 +169,6 @@ module _ {V DE UE F : Type 0} (m : Mesh V DE UE F) (mesh : IsMesh m) (simple : I
 
   -- links of the faces are those of a mesh
   module _ (c : Claim) (l : AreLinks vertices faces c) where
-    rev_below : (h : ℕ) → h < halves c → rev h < halves c
-    rev_below h below = rev_within h (halves c) l.lists.even below
-
     -- a side has the ends of its half edge, and the other half of that those of the other half
     side_same : (q h : ℕ) → q < n → l.number q ≡ h → SameEnds M c (item q) h
     side_same q h below is =
@@ -214,7 +211,7 @@ module _ {V DE UE F : Type 0} (m : Mesh V DE UE F) (mesh : IsMesh m) (simple : I
       | inl outer ↦
           let r = sides.onto (rev x) (back_live x live) (has.inside x live outer) in (
             rev (l.number r.0),
-            rev_below (l.number r.0) (l.below r.0 r.1),
+            rev_within (l.number r.0) (halves c) l.lists.even (l.below r.0 r.1),
             subst (λ y. SameEnds M c y (rev (l.number r.0))) (ap rev r.2 ∙ rev-rev x) (beyond_same r.0 (rev (l.number r.0)) r.1 refl),
           )
     ]

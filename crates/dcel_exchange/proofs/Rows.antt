@@ -18,18 +18,6 @@ pub record SoFar (faces : List (List ℕ)) (i : ℕ) (from to face after : List 
   pub long : (f : ℕ) → f < i → 3 ≤ length (slice_index_or faces f [])
 
 module _ (faces : List (List ℕ)) where
-  pub row_none : SoFar faces 0 [] [] [] []
-  row_none = record {
-    from_goes = refl;
-    to_goes = refl;
-    face_goes = refl;
-    after_goes = refl;
-    few = omega arith;
-    as_many = refl;
-    few_faces = omega arith;
-    long = λ f below. absurd (omega arith);
-  }
-
   module _ (i : ℕ) (from to face after w : List ℕ) (s : SoFar faces i from to face after) (below : i < length faces) (is : w ≡ slice_index_or faces i []) where
     left : drop i faces ≡ w ∷ drop (i + 1) faces
     left = drop_more faces i [] below ∙ ap (λ x. x ∷ drop (i + 1) faces) (sym is)

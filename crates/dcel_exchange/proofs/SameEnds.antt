@@ -9,10 +9,10 @@ use Rattle.dcel_maps.proofs.maps.Counts.{used_from}
 use Rattle.dcel_maps.proofs.maps.Halves.{rev-rev}
 use Rattle.dcel_maps.proofs.maps.Renames.{renamed_sound, renamed_sphere}
 use Rattle.dcel_maps.proofs.maps.Soundness.{rev_live}
+use Rattle.dcel_maps.proofs.walks.Numbers.{length-listed, listed, listed-at}
 use Rattle.dcel_links.specs.Claims.{Claim, HasLists, IsFew, IsMeshOf, claimed_map, halves}
 use Rattle.dcel_links.proofs.Claiming.{is_below, is_half}
 use Rattle.dcel_fixed.proofs.Halves.{rev_within}
-use Rattle.dcel_exchange.proofs.Listing.{length-listed, listed, listed-at}
 
 -- x of the map and h of the claim have the same ends
 pub record SameEnds (S : Map) (c : Claim) (x h : ℕ) : Type 0 where
@@ -64,9 +64,6 @@ module _ (S : Map) (c : Claim) (sound : Sound S) (lists : HasLists c) (m : Match
       of_case (inl less) = let r = m.back h less in (r.1, r.2)
       of_case (inr past) = absurd (omega arith)
 
-  rev_below : (h : ℕ) → h < halves c → rev h < halves c
-  rev_below h below = rev_within h (halves c) lists.even below
-
   -- the links backwards
   abbrev pub prevs : List ℕ
   prevs = listed (λ h. to (S.prev (fro h))) (halves c)
@@ -96,7 +93,7 @@ module _ (S : Map) (c : Claim) (sound : Sound S) (lists : HasLists c) (m : Match
   to-turn x l =
       let one = to_same x l in
       let other = to_same (rev x) (rev_live S x l) in
-      m.told_claim (rev (to x)) (to (rev x)) (rev_below (to x) one.0) other.0 (sym one.1.end ∙ other.1.start)
+      m.told_claim (rev (to x)) (to (rev x)) (rev_within (to x) (halves c) lists.even one.0) other.0 (sym one.1.end ∙ other.1.start)
       (ap (slice_index c.origin) (rev-rev (to x)) ∙ sym one.1.start ∙ ap S.origin (sym (rev-rev x)) ∙ other.1.end)
 
   to-next : (x : ℕ) → Live S x → T.next (to x) ≡ to (S.next x)

@@ -1,6 +1,7 @@
 -- Half edges found by their ends: the edge of each hangs at one of them, in a chain.
 use Rattle.std.specs.Prelude.{◌≡◌, ℕ, ◌*◌, ◌/◌, ◌<◌, ◌==◌, ◌&&◌, ◌||◌, nat_lt, Bool, true, List, length, slice_index, slice_index_or, Option, Some, None}
 use Rattle.dcel_fixed.specs.HalfEdges.{rev}
+use Rattle.dcel_maps.specs.Numbers.{IsLastBelow}
 
 -- h is one of the half edges with these origins, and leads from a to b
 pub record Leads (origin : List ℕ) (h a b : ℕ) : Type 0 where
@@ -20,11 +21,6 @@ hangs starts a b = nat_lt (slice_index starts a) (slice_index starts b) || ((sli
 -- the half edge h starts at a, and its edge hangs there
 abbrev pub HangsAt : List ℕ → List ℕ → ℕ → ℕ → Type 0
 HangsAt starts origin a h = (slice_index origin h ≡ a) × (hangs starts a (slice_index origin (rev h)) ≡ true)
-
--- the last number below n that has a property, if one has it
-abbrev pub IsLastBelow : (ℕ → Type 0) → ℕ → Option ℕ → Type 0
-IsLastBelow P n None = (k : ℕ) → k < n → ¬ P k
-IsLastBelow P n (Some k) = (k < n) × P k × ((j : ℕ) → k < j → j < n → ¬ P j)
 
 -- each half edge whose edge hangs where it starts is in the chain of that vertex: the last one is kept there, and with each one that before it
 pub record AreChained (vertices : ℕ) (starts origin : List ℕ) (last before : List (Option ℕ)) : Type 0 where

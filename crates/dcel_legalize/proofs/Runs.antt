@@ -6,34 +6,20 @@ use Rattle.dcel_maps.specs.EditLists.{EditKind, EditedBy, flip_edits}
 use Rattle.dcel_maps.specs.EditLists.EditKind.{ear_cut, words_joined}
 use Rattle.dcel_maps.specs.Shapes.{IsMesh, Mesh, map_of}
 use Rattle.dcel_maps.specs.Words.{count_of}
+use Rattle.dcel_maps.proofs.edits.Flips.{flipped_mesh}
 use Rattle.dcel_maps.proofs.lists.Growing.{flip_listed}
 use Rattle.dcel_maps.proofs.maps.Lists.{comes_then, extends_same}
-use Rattle.dcel_maps.proofs.words.Counts.{count-append, first_or_later}
+use Rattle.dcel_maps.proofs.words.Counts.{count-append, first_or_later, in_either, last_or_before}
 use Rattle.dcel_legalize.specs.Flipping.{EachInTurn, Ending, Follows, IsDue, IsOffered, IsSettled, IsTurn, SomeDue, edges_beside, edges_flipped}
 use Rattle.dcel_legalize.specs.Flipping.Ending.{Settled, AtLimit, NoMemory}
 use Rattle.dcel_legalize.specs.Flipping.Follows.{settles, skips, stops, gives_up, flips}
-use Rattle.dcel_legalize.proofs.Untouched.{beside-listed, due_was, flipped_mesh, its_own, listed-beside, own-listed}
-
--- what stands in a list with one more item at its end
-last_or_before : (v u : ℕ) (list : List ℕ) → 0 < count_of v (list ++ u ∷ []) → (v ≡ u) ⊎ (0 < count_of v list)
-last_or_before v u list found =
-    elim (cases_lt 0 (count_of v list)) [
-      | inl there ↦ inr there
-      | inr not ↦ elim (first_or_later v u [] (omega (arith, found, not, count-append v list (u ∷ [])))) [
-        | inl is ↦ inl is
-        | inr none ↦ absurd (omega (arith, none))
-      ]
-    ]
+use Rattle.dcel_legalize.proofs.Untouched.{beside-listed, due_was, its_own, listed-beside, own-listed}
 
 in_front : (v : ℕ) (list more : List ℕ) → 0 < count_of v list → 0 < count_of v (list ++ more)
 in_front v list more found = omega (arith, found, count-append v list more)
 
 in_back : (v : ℕ) (list more : List ℕ) → 0 < count_of v more → 0 < count_of v (list ++ more)
 in_back v list more found = omega (arith, found, count-append v list more)
-
-in_either : (v : ℕ) (list more : List ℕ) → 0 < count_of v (list ++ more) → (0 < count_of v list) ⊎ (0 < count_of v more)
-in_either v list more found =
-    elim (cases_lt 0 (count_of v list)) [ inl there ↦ inl there | inr not ↦ inr (omega (arith, found, not, count-append v list more)) ]
 
 none_before : (x : ℕ) (before after : List ℕ) → [] ≡ before ++ (x ∷ after) → ⊥
 none_before x [] after is = cc
@@ -68,7 +54,7 @@ module _ {V DE UE F : Type 0} (w : List ℕ → Bool) where
   settled m list left us mesh (flips _ rest u less more _ due run) v how =
       let n = edge_flipped m u in
       let near = edges_beside n.shape u in
-      settled n (rest ++ near) less more (flipped_mesh m mesh u due.can) run v
+      settled n (rest ++ near) less more (flipped_mesh m u mesh due.can) run v
       (elim (cases_lt 0 (count_of v near)) [
         | inl beside ↦ inr (inl (in_back v rest near beside))
         | inr not ↦ elim how [
@@ -102,7 +88,7 @@ module _ {V DE UE F : Type 0} (w : List ℕ → Bool) where
   run_listed m list left us end mesh (flips _ rest u less more _ due run) =
       let n = edge_flipped m u in
       comes_then (words_joined ∷ ear_cut ∷ []) (flip_edits (length more)) (map_of m.shape) (map_of n.shape) (map_of (edges_flipped n more).shape)
-      (flip_listed m mesh u n refl due.can) (run_listed n (rest ++ edges_beside n.shape u) less more end (flipped_mesh m mesh u due.can) run)
+      (flip_listed m mesh u n refl due.can) (run_listed n (rest ++ edges_beside n.shape u) less more end (flipped_mesh m u mesh due.can) run)
 
   -- no more are flipped than were allowed
   pub few : (m : Mesh V DE UE F) (list : List ℕ) (left : ℕ) (us : List ℕ) (end : Ending) → Follows w m list left us end → length us ≤ left
@@ -149,7 +135,7 @@ module _ {V DE UE F : Type 0} (w : List ℕ → Bool) where
       let same : u ≡ b = cc in
       let later : more ≡ before ++ (x ∷ after) = cc in
       let n = edge_flipped m u in
-      let turn = in_turn n (rest ++ edges_beside n.shape u) less more end (flipped_mesh m mesh u due.can) run before after x later in
+      let turn = in_turn n (rest ++ edges_beside n.shape u) less more end (flipped_mesh m u mesh due.can) run before after x later in
       subst (λ (y : ℕ). IsTurn w m list (y ∷ before) x) same record {
         due = turn.due;
         offered = elim turn.offered [

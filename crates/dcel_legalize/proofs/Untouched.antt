@@ -13,14 +13,17 @@ use Rattle.dcel_maps.specs.Shapes.{IsLive, IsMesh, Mesh, Shape, face_count, face
 use Rattle.dcel_maps.specs.Removals.{gives_up_face, is_live}
 use Rattle.dcel_maps.specs.Words.{count_of, prev_in_word, word_of}
 use Rattle.dcel_maps.proofs.Liveness.{even_live, odd_live}
+use Rattle.dcel_maps.proofs.edits.Around.{at_edge, known}
 use Rattle.dcel_maps.proofs.edits.Changes.{edit_makes_mesh}
-use Rattle.dcel_maps.proofs.edits.Flips.{edge_flipping, edge_flipping_is, edge_flipping_is_edit}
+use Rattle.dcel_maps.proofs.edits.Flips.{at_flip, flipped_mesh}
 use Rattle.dcel_maps.proofs.edits.Linking.{triangle_of}
 use Rattle.dcel_maps.proofs.maps.Triangles.{IsTriangleOf, by_triangle, facing_differ, off_triangle}
 use Rattle.dcel_maps.proofs.shapes.Maps.{map-sound}
-use Rattle.dcel_maps.proofs.walks.Links.{links_stand}
+use Rattle.dcel_maps.proofs.walks.Links.{links_stand, prev-said}
 use Rattle.dcel_maps.proofs.words.Counts.{count-equal, count-later, count-same, first_or_later}
-use Rattle.dcel_maps.proofs.words.Reading.{face-next, face_in_word, says, stands_in_face}
+use Rattle.dcel_maps.proofs.words.EachSet.{first-two_set, length-two_set, other-two_set, second-two_set}
+use Rattle.dcel_maps.proofs.words.Mapped.{count-at}
+use Rattle.dcel_maps.proofs.words.Reading.{face-next, face_in_word, says, stands_in_face, face-prev}
 use Rattle.dcel_maps.proofs.words.Triangles.{triangle_read}
 use Rattle.dcel_legalize.specs.Flipping.{IsDue, LiesBeside, edges_beside}
 
@@ -32,31 +35,7 @@ pub own-listed : (s : Shape) (u v : ℕ) → v ≡ u → 0 < count_of v (edges_b
 own-listed s u v is =
     its_own v u (next_of s (2 * u) / 2 ∷ prev_of s (2 * u) / 2 ∷ next_of s (2 * u + 1) / 2 ∷ prev_of s (2 * u + 1) / 2 ∷ []) is
 
-stands_first : (v : ℕ) (r : List ℕ) → 0 < count_of v (v ∷ r)
-stands_first v r = omega (arith, count-same v r)
-
--- five items stand in their list, and nothing else
-record EachOfFive (a b c d e : ℕ) : Type 0 where
-  first : 0 < count_of a (a ∷ b ∷ c ∷ d ∷ e ∷ [])
-  second : 0 < count_of b (a ∷ b ∷ c ∷ d ∷ e ∷ [])
-  third : 0 < count_of c (a ∷ b ∷ c ∷ d ∷ e ∷ [])
-  fourth : 0 < count_of d (a ∷ b ∷ c ∷ d ∷ e ∷ [])
-  fifth : 0 < count_of e (a ∷ b ∷ c ∷ d ∷ e ∷ [])
-
-each_of_five : (a b c d e : ℕ) → EachOfFive a b c d e
-each_of_five a b c d e =
-    let from_e : 0 < count_of e (e ∷ []) = stands_first e [] in
-    let from_d : 0 < count_of e (d ∷ e ∷ []) = count-later e d (e ∷ []) from_e in
-    let from_c : 0 < count_of e (c ∷ d ∷ e ∷ []) = count-later e c (d ∷ e ∷ []) from_d in
-    let d_from_c : 0 < count_of d (c ∷ d ∷ e ∷ []) = count-later d c (d ∷ e ∷ []) (stands_first d (e ∷ [])) in
-    record {
-      first = stands_first a (b ∷ c ∷ d ∷ e ∷ []);
-      second = count-later b a (b ∷ c ∷ d ∷ e ∷ []) (stands_first b (c ∷ d ∷ e ∷ []));
-      third = count-later c a (b ∷ c ∷ d ∷ e ∷ []) (count-later c b (c ∷ d ∷ e ∷ []) (stands_first c (d ∷ e ∷ [])));
-      fourth = count-later d a (b ∷ c ∷ d ∷ e ∷ []) (count-later d b (c ∷ d ∷ e ∷ []) d_from_c);
-      fifth = count-later e a (b ∷ c ∷ d ∷ e ∷ []) (count-later e b (c ∷ d ∷ e ∷ []) from_c);
-    }
-
+-- what holds of five items holds of each that stands in their list
 one_of_five : (P : ℕ → Type 0) (v a b c d e : ℕ) → P a → P b → P c → P d → P e → 0 < count_of v (a ∷ b ∷ c ∷ d ∷ e ∷ []) → P v
 one_of_five P v a b c d e at_a at_b at_c at_d at_e found = elim (first_or_later v a (b ∷ c ∷ d ∷ e ∷ []) found) [
   | inl is ↦ subst P (sym is) at_a
@@ -76,15 +55,6 @@ one_of_five P v a b c d e at_a at_b at_c at_d at_e found = elim (first_or_later 
 by_links : (M : Map) (f x y z : ℕ) → IsTriangleOf M f x y z → IsTriangleOf M f x (M.next x) (M.prev x)
 by_links M f x y z a = rw (a.next_x, a.prev_x) a
 
--- the half edge before h is said by the word of its face
-before-word : (s : Shape) → Stands (map_of s) s.words → (h : ℕ) → IsLive s h → prev_of s h ≡ prev_in_word h (word_of s.words (face_of s h))
-before-word s stands h live = (says h s.words (omega (arith, stands.once h live))).prev
-
--- the half edge before lies on the same face
-before-face : (s : Shape) → Stands (map_of s) s.words → Sound (map_of s) → (h : ℕ) → IsLive s h → face_of s (prev_of s h) ≡ face_of s h
-before-face s stands sound h live =
-    sym (face-next (map_of s) s.words stands (prev_of s h) (sound.live_prev h live)) ∙ ap (face_of s) (sound.next-prev h live)
-
 module _ {V DE UE F : Type 0} (m : Mesh V DE UE F) (mesh : IsMesh m) (u : ℕ) (can : CanFlip m.shape u) where
   abbrev s : Shape
   s = m.shape
@@ -92,77 +62,43 @@ module _ {V DE UE F : Type 0} (m : Mesh V DE UE F) (mesh : IsMesh m) (u : ℕ) (
   abbrev n : Mesh V DE UE F
   n = edge_flipped m u
 
-  pub flipped_mesh : IsMesh n
-  flipped_mesh =
-      subst (λ (k : Mesh V DE UE F). IsMesh k) (edge_flipping_is m u) (edit_makes_mesh m (edge_flipping m u) mesh (edge_flipping_is_edit m u mesh can))
-
-  abbrev e : ℕ
-  e = 2 * u
-
-  abbrev t : ℕ
-  t = 2 * u + 1
-
-  abbrev f : ℕ
-  f = face_of s e
-
-  abbrev g : ℕ
-  g = face_of s t
-
-  stands : Stands (map_of s) s.words
-  stands = links_stand mesh.sound
-
-  sound : Sound (map_of s)
-  sound = map-sound mesh.sound
-
-  stands_after : Stands (map_of n.shape) n.shape.words
-  stands_after = links_stand flipped_mesh.sound
-
-  sound_after : Sound (map_of n.shape)
-  sound_after = map-sound flipped_mesh.sound
-
-  live_e : IsLive s e
-  live_e = even_live s u can.live
-
-  live_t : IsLive s t
-  live_t = odd_live s u can.live
-
-  differ : f ≢ g
-  differ =
-      facing_differ (map_of s) sound f e (next_of s e) (prev_of s e) g t (next_of s t) (prev_of s t) (triangle_of m mesh e live_e can.triangle)
-      (triangle_of m mesh t live_t can.facing) (rev-double u)
+  open (at_edge s u) use {e, t, f, g, ep, en, tp, tn}
+  open (at_flip m u mesh can) use {was, facing, differ}
+  open (known m mesh) use {sound, stands}
+  open (known n (flipped_mesh m u mesh can)) use {sound as sound_after, stands as stands_after}
 
   f_in : f < face_count s
-  f_in = sound.below_faces e live_e
+  f_in = sound.below_faces e was.live_x
 
   g_in : g < face_count s
-  g_in = sound.below_faces t live_t
-
-  many : face_count n.shape ≡ face_count s
-  many = length-set _ g _ ∙ length-set s.words f _
+  g_in = sound.below_faces t facing.live_x
 
   -- the triangles after the flip, first their words
   abbrev near_word : List ℕ
-  near_word = from_least (e ∷ prev_of s t ∷ next_of s e ∷ [])
+  near_word = from_least (e ∷ tp ∷ en ∷ [])
 
   abbrev far_word : List ℕ
-  far_word = from_least (t ∷ prev_of s e ∷ next_of s t ∷ [])
+  far_word = from_least (t ∷ ep ∷ tn ∷ [])
 
-  near : IsTriangleOf (map_of n.shape) f e (prev_of s t) (next_of s e)
+  many : face_count n.shape ≡ face_count s
+  many = length-two_set s.words f g near_word far_word
+
+  near : IsTriangleOf (map_of n.shape) f e tp en
   near =
-      triangle_read (map_of n.shape) n.shape.words stands_after sound_after f e (prev_of s t) (next_of s e) (omega (arith, f_in, many))
-      (get_or-set_other (slice_set s.words f near_word) g f far_word [] differ ∙ get_or-set_same s.words f near_word [] f_in)
+      triangle_read (map_of n.shape) n.shape.words stands_after sound_after f e tp en (omega (arith, f_in, many))
+      (first-two_set s.words f g near_word far_word [] differ f_in)
 
-  far : IsTriangleOf (map_of n.shape) g t (prev_of s e) (next_of s t)
+  far : IsTriangleOf (map_of n.shape) g t ep tn
   far =
-      triangle_read (map_of n.shape) n.shape.words stands_after sound_after g t (prev_of s e) (next_of s t) (omega (arith, g_in, many))
-      (get_or-set_same (slice_set s.words f near_word) g far_word [] (omega (arith, g_in, length-set s.words f near_word)))
+      triangle_read (map_of n.shape) n.shape.words stands_after sound_after g t ep tn (omega (arith, g_in, many))
+      (second-two_set s.words f g near_word far_word [] g_in)
 
   -- the word of any other face, and the origin of any other half edge
   word_same : (k : ℕ) → k ≢ f → k ≢ g → word_of n.shape.words k ≡ word_of s.words k
-  word_same k not_f not_g = get_or-set_other (slice_set s.words f near_word) g k far_word [] not_g ∙ get_or-set_other s.words f k near_word [] not_f
+  word_same k not_f not_g = other-two_set s.words f g near_word far_word [] k not_f not_g
 
   origin_same : (h : ℕ) → h ≢ e → h ≢ t → origin_of n.shape h ≡ origin_of s h
-  origin_same h not_e not_t = get_or-set_other (slice_set s.origins e _) t h _ 0 not_t ∙ get_or-set_other s.origins e h _ 0 not_e
+  origin_same h not_e not_t = other-two_set s.origins e t (origin_of s ep) (origin_of s tp) 0 h not_e not_t
 
   -- a half edge on neither face of the flipped edge
   module _ (h : ℕ) (live : IsLive n.shape h) (not_f : face_of n.shape h ≢ f) (not_g : face_of n.shape h ≢ g) where
@@ -176,8 +112,8 @@ module _ {V DE UE F : Type 0} (m : Mesh V DE UE F) (mesh : IsMesh m) (u : ℕ) (
 
     prev_was : prev_of s h ≡ prev_of n.shape h
     prev_was =
-        before-word s stands h live ∙ ap (λ z. prev_in_word h (word_of s.words z)) face_was
-        ∙ ap (prev_in_word h) (sym (word_same k not_f not_g)) ∙ sym (before-word n.shape stands_after h live)
+        prev-said mesh.sound h live ∙ ap (λ z. prev_in_word h (word_of s.words z)) face_was
+        ∙ ap (prev_in_word h) (sym (word_same k not_f not_g)) ∙ sym (prev-said (flipped_mesh m u mesh can).sound h live)
 
     not_halves : (x : ℕ) → face_of n.shape x ≡ k → (x ≢ e) × (x ≢ t)
     not_halves x on = (
@@ -190,7 +126,7 @@ module _ {V DE UE F : Type 0} (m : Mesh V DE UE F) (mesh : IsMesh m) (u : ℕ) (
 
     corner_was : origin_of s (prev_of s h) ≡ origin_of n.shape (prev_of n.shape h)
     corner_was =
-        let off = not_halves (prev_of n.shape h) (before-face n.shape stands_after sound_after h live) in
+        let off = not_halves (prev_of n.shape h) (face-prev (map_of n.shape) n.shape.words stands_after h live) in
         ap (origin_of s) prev_was ∙ sym (origin_same (prev_of n.shape h) off.0 off.1)
 
     triangle_was : IsTriangle n.shape k → IsTriangle s (face_of s h)
@@ -234,19 +170,23 @@ module _ {V DE UE F : Type 0} (m : Mesh V DE UE F) (mesh : IsMesh m) (u : ℕ) (
   far_own : IsTriangleOf (map_of n.shape) g t (next_of n.shape t) (prev_of n.shape t)
   far_own = by_links (map_of n.shape) g t (prev_of s e) (next_of s t) far
 
+  abbrev beside_u : List ℕ
+  beside_u = edges_beside n.shape u
+
+  abbrev Listed : ℕ → Type 0
+  Listed h = 0 < count_of (h / 2) beside_u
+
   -- what lies beside the edge after its flip is listed, and nothing else
   listed_half : (h : ℕ) → IsLive n.shape h → (face_of n.shape h ≡ f) ⊎ (face_of n.shape h ≡ g) → 0 < count_of (h / 2) (edges_beside n.shape u)
   listed_half h live (inl on) =
       let half : e / 2 ≡ u = omega arith in
-      let listed = each_of_five u (next_of n.shape e / 2) (prev_of n.shape e / 2) (next_of n.shape t / 2) (prev_of n.shape t / 2) in
-      by_triangle (λ x. 0 < count_of (x / 2) (edges_beside n.shape u)) e (next_of n.shape e) (prev_of n.shape e) h
-      (rw half listed.first, listed.second, listed.third)
+      by_triangle Listed e (next_of n.shape e) (prev_of n.shape e) h
+      (rw half (count-at beside_u 0 0 (omega arith)), count-at beside_u 1 0 (omega arith), count-at beside_u 2 0 (omega arith))
       (λ off. absurd (off_triangle (map_of n.shape) sound_after f e (next_of n.shape e) (prev_of n.shape e) near_own h live off on))
   listed_half h live (inr on) =
       let half : t / 2 ≡ u = omega arith in
-      let listed = each_of_five u (next_of n.shape e / 2) (prev_of n.shape e / 2) (next_of n.shape t / 2) (prev_of n.shape t / 2) in
-      by_triangle (λ x. 0 < count_of (x / 2) (edges_beside n.shape u)) t (next_of n.shape t) (prev_of n.shape t) h
-      (rw half listed.first, listed.fourth, listed.fifth)
+      by_triangle Listed t (next_of n.shape t) (prev_of n.shape t) h
+      (rw half (count-at beside_u 0 0 (omega arith)), count-at beside_u 3 0 (omega arith), count-at beside_u 4 0 (omega arith))
       (λ off. absurd (off_triangle (map_of n.shape) sound_after g t (next_of n.shape t) (prev_of n.shape t) far_own h live off on))
 
   pub listed-beside : (v : ℕ) → LiesBeside n.shape u v → 0 < count_of v (edges_beside n.shape u)

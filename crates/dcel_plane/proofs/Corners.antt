@@ -1,5 +1,5 @@
 -- The corners of a triangle, from any of its half edges on.
-use Rattle.std.proofs.Common.{◌≡◌, inl, inr, ℕ, zero, suc, ◌<◌, List, [], ◌∷◌, ◌++◌, length, slice_index, append-nil, refl, sym, ap, ◌∙◌, subst, pos, ◌<ℤ◌, arith}
+use Rattle.std.proofs.Common.{◌≡◌, inl, inr, ℕ, ◌<◌, List, [], ◌∷◌, ◌++◌, length, append-nil, refl, sym, ap, ◌∙◌, subst, pos, ◌<ℤ◌, arith}
 use Rattle.dcel_predicates.specs.declared.point.Point.{Point}
 use Rattle.dcel_predicates.proofs.Points.{orient2d-turned}
 use Rattle.dcel_maps.specs.Cyclic.{from_least}
@@ -8,7 +8,7 @@ use Rattle.dcel_maps.specs.Words.{TurnsTo, count_of, word_of}
 use Rattle.dcel_maps.proofs.maps.Triangles.{IsTriangleOf}
 use Rattle.dcel_maps.proofs.shapes.Maps.{map-sound}
 use Rattle.dcel_maps.proofs.walks.Links.{links_stand}
-use Rattle.dcel_maps.proofs.words.Counts.{count-later, count-same, first_or_later}
+use Rattle.dcel_maps.proofs.words.Counts.{first_or_later}
 use Rattle.dcel_maps.proofs.words.Triangles.{triangle_written}
 use Rattle.dcel_maps.proofs.words.Turns.{count-turn, from_least-turn, length-turn, turns_back}
 use Rattle.dcel_plane.specs.Plane.{IsLeftOf, IsPlane, TurnsLeft}
@@ -56,12 +56,6 @@ of_three Q x y z h at_x at_y at_z found = elim (first_or_later h x (y ∷ z ∷ 
     | inr in_z ↦ elim (first_or_later h z [] in_z) [ inl is ↦ subst Q (sym is) at_z | inr none ↦ absurd (omega (arith, none)) ]
   ]
 ]
-
--- the item at a place of a list stands in it
-pub listed_at : (l : List ℕ) (i : ℕ) → i < length l → 0 < count_of (slice_index l i) l
-listed_at [] i within = absurd (omega (arith, within))
-listed_at (x ∷ r) zero within = omega (arith, count-same x r)
-listed_at (x ∷ r) (suc i) within = count-later (slice_index r i) x r (listed_at r i (omega (arith, within)))
 
 pub of_least : (Q : ℕ → Type 0) (x y z h : ℕ) → Q x → Q y → Q z → 0 < count_of h (from_least (x ∷ y ∷ z ∷ [])) → Q h
 of_least Q x y z h at_x at_y at_z found =

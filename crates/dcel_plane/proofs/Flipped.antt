@@ -1,6 +1,5 @@
 -- A flip of an edge whose circle test is positive keeps a mesh in the plane.
-use Rattle.std.proofs.Common.{◌≡◌, ◌≢◌, ℕ, ◌+◌, ◌*◌, ◌/◌, ◌<◌, List, [], ◌∷◌, ◌++◌, slice_set, append-nil, refl, sym, ap, ◌∙◌, subst, pos, ◌<ℤ◌, arith}
-use Rattle.std.proofs.lemmas.List.{get_or-set_other, get_or-set_same, length-set}
+use Rattle.std.proofs.Common.{◌≡◌, ◌≢◌, ℕ, ◌+◌, ◌*◌, ◌/◌, ◌<◌, List, [], ◌∷◌, ◌++◌, length, slice_set, append-nil, refl, sym, ap, ◌∙◌, pos, ◌<ℤ◌, arith}
 use Rattle.dcel_fixed.proofs.Halves.{rev-double}
 use Rattle.dcel_predicates.specs.declared.point.Point.{Point}
 use Rattle.dcel_predicates.specs.Determinants.{incircle_of}
@@ -10,21 +9,19 @@ use Rattle.dcel_predicates.proofs.Signs.{ordered}
 use Rattle.dcel_maps.specs.Conditions.{CanFlip}
 use Rattle.dcel_maps.specs.Cyclic.{from_least}
 use Rattle.dcel_maps.specs.edits.Flip.{edge_flipped}
-use Rattle.dcel_maps.specs.theory.Sound.{Sound}
-use Rattle.dcel_maps.specs.Shapes.{IsLive, IsMesh, Mesh, Shape, face_of, map_of, next_of, origin_of, prev_of}
+use Rattle.dcel_maps.specs.Shapes.{IsLive, IsMesh, Mesh, Shape, face_of, map_of, origin_of, prev_of}
 use Rattle.dcel_maps.specs.Words.{count_of}
-use Rattle.dcel_maps.proofs.Liveness.{even_live, odd_live}
-use Rattle.dcel_maps.proofs.edits.Changes.{edit_makes_mesh}
-use Rattle.dcel_maps.proofs.edits.Flips.{edge_flipping, edge_flipping_is, edge_flipping_is_edit}
-use Rattle.dcel_maps.proofs.edits.Linking.{triangle_of}
+use Rattle.dcel_maps.proofs.edits.Around.{at_edge, known}
+use Rattle.dcel_maps.proofs.edits.Flips.{at_flip, flipped_mesh}
 use Rattle.dcel_maps.proofs.edits.Patches.{Patch, replacing}
 use Rattle.dcel_maps.proofs.maps.Halves.{turn_back}
-use Rattle.dcel_maps.proofs.maps.Triangles.{IsApart, IsTriangleOf, facing_differ, triangles_apart}
-use Rattle.dcel_maps.proofs.shapes.Maps.{map-sound}
+use Rattle.dcel_maps.proofs.maps.Triangles.{IsApart, triangles_apart}
 use Rattle.dcel_maps.proofs.walks.Links.{half-below}
+use Rattle.dcel_maps.proofs.words.EachSet.{first-two_set, second-two_set}
+use Rattle.dcel_maps.proofs.words.Mapped.{count-at}
 use Rattle.dcel_plane.specs.Edges.{edges_round}
 use Rattle.dcel_plane.specs.Plane.{IsCircled, IsInner, IsPlane, ListsCircled, TurnsLeft}
-use Rattle.dcel_plane.proofs.Corners.{LeftOf, corners_are, left-from_least, left_of_triangle, listed_at, of_least}
+use Rattle.dcel_plane.proofs.Corners.{LeftOf, corners_are, left-from_least, left_of_triangle, of_least}
 use Rattle.dcel_plane.proofs.Splits.{listed_as}
 use Rattle.dcel_plane.proofs.Written.{IsWritten, origin_away, written_lists, written_plane}
 
@@ -35,61 +32,19 @@ module _ {V DE UE F : Type 0} (m : Mesh V DE UE F) (mesh : IsMesh m) (u : ℕ) (
   abbrev n : Shape
   n = (edge_flipped m u).shape
 
-  pub flipped_mesh : IsMesh (edge_flipped m u)
-  flipped_mesh =
-      subst (λ (k : Mesh V DE UE F). IsMesh k) (edge_flipping_is m u) (edit_makes_mesh m (edge_flipping m u) mesh (edge_flipping_is_edit m u mesh can))
-
-  abbrev e : ℕ
-  e = 2 * u
-
-  abbrev t : ℕ
-  t = 2 * u + 1
-
-  abbrev f : ℕ
-  f = face_of s e
-
-  abbrev g : ℕ
-  g = face_of s t
-
-  abbrev ep : ℕ
-  ep = prev_of s e
-
-  abbrev en : ℕ
-  en = next_of s e
-
-  abbrev tp : ℕ
-  tp = prev_of s t
-
-  abbrev tn : ℕ
-  tn = next_of s t
-
-  sound : Sound (map_of s)
-  sound = map-sound mesh.sound
-
-  live_e : IsLive s e
-  live_e = even_live s u can.live
-
-  live_t : IsLive s t
-  live_t = odd_live s u can.live
-
-  pub was : IsTriangleOf (map_of s) f e en ep
-  was = triangle_of m mesh e live_e can.triangle
-
-  pub facing : IsTriangleOf (map_of s) g t tn tp
-  facing = triangle_of m mesh t live_t can.facing
-
-  pub differ : f ≢ g
-  differ = facing_differ (map_of s) sound f e en ep g t tn tp was facing (rev-double u)
+  open (at_edge s u) use {e, t, f, g, ep, en, tp, tn}
+  open (known m mesh) use {sound}
+  open (at_flip m u mesh can) use {was, facing, differ}
 
   apart : IsApart e en ep t tn tp
   apart = triangles_apart (map_of s) f e en ep g t tn tp was facing differ
 
   -- where each half edge of the two starts
   pub from_end : origin_of s en ≡ origin_of s t
-  from_end = sound.origin-next e live_e ∙ ap (origin_of s) (rev-double u)
+  from_end = sound.origin-next e was.live_x ∙ ap (origin_of s) (rev-double u)
 
   pub from_start : origin_of s tn ≡ origin_of s e
-  from_start = sound.origin-next t live_t ∙ ap (origin_of s) (turn_back e t (rev-double u))
+  from_start = sound.origin-next t facing.live_x ∙ ap (origin_of s) (turn_back e t (rev-double u))
 
   abbrev words : Patch (List ℕ)
   words = replacing ((f, from_least (e ∷ tp ∷ en ∷ [])) ∷ (g, from_least (t ∷ ep ∷ tn ∷ [])) ∷ [])
@@ -105,15 +60,14 @@ module _ {V DE UE F : Type 0} (m : Mesh V DE UE F) (mesh : IsMesh m) (u : ℕ) (
     starts_stay = λ h live inner away. (λ is. away.0 (ap (face_of s) is), (λ is. away.1.0 (ap (face_of s) is), tt));
   }
 
+  in_range : (h : ℕ) → IsLive s h → h < length s.origins
+  in_range h live = omega (arith, mesh.sized.origins, half-below s h live)
+
   pub origin_e : origin_of n e ≡ origin_of s ep
-  origin_e =
-      get_or-set_other (slice_set s.origins e (origin_of s ep)) t e (origin_of s tp) 0 (λ is. omega (arith, is))
-      ∙ get_or-set_same s.origins e (origin_of s ep) 0 (omega (arith, mesh.sized.origins, half-below s e live_e))
+  origin_e = first-two_set s.origins e t (origin_of s ep) (origin_of s tp) 0 (λ is. omega (arith, is)) (in_range e was.live_x)
 
   pub origin_t : origin_of n t ≡ origin_of s tp
-  origin_t =
-      get_or-set_same (slice_set s.origins e (origin_of s ep)) t (origin_of s tp) 0
-      (omega (arith, mesh.sized.origins, half-below s t live_t, length-set s.origins e (origin_of s ep)))
+  origin_t = second-two_set s.origins e t (origin_of s ep) (origin_of s tp) 0 (in_range t facing.live_x)
 
   pub origin_same : (at : ℕ → Point) (h : ℕ) → IsLive s h → h ≢ e → h ≢ t → origin_of n h ≡ origin_of s h
   origin_same at h live not_e not_t = origin_away at s n words origins flip_written mesh.sound h live (not_e, (not_t, tt))
@@ -173,11 +127,11 @@ module _ {V DE UE F : Type 0} (m : Mesh V DE UE F) (mesh : IsMesh m) (u : ℕ) (
     pub flip_lists : (due : List ℕ) → ListsCircled at s due → ListsCircled at n (due ++ edges_round s u)
     flip_lists due lists =
         let list = edges_round s u in
-        let at_e = listed_as list e u (omega arith) (listed_at list 4 (omega arith)) in
-        let at_t = listed_as list t u (omega arith) (listed_at list 4 (omega arith)) in
-        written_lists at s n words origins flip_written mesh.sound list due flipped_mesh.sound (
-          λ inner h found. of_least (λ x. 0 < count_of (x / 2) list) e tp en h at_e (listed_at list 3 (omega arith)) (listed_at list 0 (omega arith)) found,
-          (λ inner h found. of_least (λ x. 0 < count_of (x / 2) list) t ep tn h at_t (listed_at list 1 (omega arith)) (listed_at list 2 (omega arith)) found, tt),
+        let at_e = listed_as list e u (omega arith) (count-at list 4 0 (omega arith)) in
+        let at_t = listed_as list t u (omega arith) (count-at list 4 0 (omega arith)) in
+        written_lists at s n words origins flip_written mesh.sound list due (flipped_mesh m u mesh can).sound (
+          λ inner h found. of_least (λ x. 0 < count_of (x / 2) list) e tp en h at_e (count-at list 3 0 (omega arith)) (count-at list 0 0 (omega arith)) found,
+          (λ inner h found. of_least (λ x. 0 < count_of (x / 2) list) t ep tn h at_t (count-at list 1 0 (omega arith)) (count-at list 2 0 (omega arith)) found, tt),
         )
         tt lists
 

@@ -10,9 +10,10 @@ use Rattle.dcel_maps.proofs.Liveness.{is_live-parts}
 use Rattle.dcel_maps.proofs.edits.Inserts.{anchored_triangle}
 use Rattle.dcel_maps.proofs.edits.Patches.{Patch, pushing}
 use Rattle.dcel_maps.proofs.maps.Triangles.{IsTriangleOf}
+use Rattle.dcel_maps.proofs.words.Mapped.{count-at}
 use Rattle.dcel_plane.specs.Edges.{edges_inserted}
 use Rattle.dcel_plane.specs.Plane.{IsPlane, LiesInside, ListsCircled, TurnsLeft}
-use Rattle.dcel_plane.proofs.Corners.{corners_are, left_same, listed_at, of_three, seen}
+use Rattle.dcel_plane.proofs.Corners.{corners_are, left_same, of_three, seen}
 use Rattle.dcel_plane.proofs.Written.{IsWritten, Leads, origin_away, origin_more, written_lists, written_plane}
 
 -- the anchor of a word of three
@@ -98,15 +99,15 @@ module _ {V DE UE F : Type 0} (m : Mesh V DE UE F) (mesh : IsMesh m) (v f : ℕ)
   pub inserted_lists : (due : List ℕ) → IsMesh (vertex_inserted m v f halves edges faces) → ListsCircled at s due → ListsCircled at t (due ++ list)
   inserted_lists due after lists =
       let l = m.shape.edges in
-      let at_n : Q n = is_new n l (omega arith) (listed_at list 3 (omega arith)) in
-      let at_1 : Q (n + 1) = is_new (n + 1) l (omega arith) (listed_at list 3 (omega arith)) in
-      let at_2 : Q (n + 2) = is_new (n + 2) (l + 1) (omega arith) (listed_at list 4 (omega arith)) in
-      let at_3 : Q (n + 3) = is_new (n + 3) (l + 1) (omega arith) (listed_at list 4 (omega arith)) in
-      let at_4 : Q (n + 4) = is_new (n + 4) (l + 2) (omega arith) (listed_at list 5 (omega arith)) in
-      let at_5 : Q (n + 5) = is_new (n + 5) (l + 2) (omega arith) (listed_at list 5 (omega arith)) in
+      let at_n : Q n = is_new n l (omega arith) (count-at list 3 0 (omega arith)) in
+      let at_1 : Q (n + 1) = is_new (n + 1) l (omega arith) (count-at list 3 0 (omega arith)) in
+      let at_2 : Q (n + 2) = is_new (n + 2) (l + 1) (omega arith) (count-at list 4 0 (omega arith)) in
+      let at_3 : Q (n + 3) = is_new (n + 3) (l + 1) (omega arith) (count-at list 4 0 (omega arith)) in
+      let at_4 : Q (n + 4) = is_new (n + 4) (l + 2) (omega arith) (count-at list 5 0 (omega arith)) in
+      let at_5 : Q (n + 5) = is_new (n + 5) (l + 2) (omega arith) (count-at list 5 0 (omega arith)) in
       written_lists at s t words origins written mesh.sound list due after.sound
-      (λ inner h found. of_three Q a n (n + 5) h (listed_at list 0 (omega arith)) at_n at_5 found, tt) (
-        λ inner h found. of_three Q b (n + 2) (n + 1) h (listed_at list 1 (omega arith)) at_2 at_1 found,
-        (λ inner h found. of_three Q c (n + 4) (n + 3) h (listed_at list 2 (omega arith)) at_4 at_3 found, tt),
+      (λ inner h found. of_three Q a n (n + 5) h (count-at list 0 0 (omega arith)) at_n at_5 found, tt) (
+        λ inner h found. of_three Q b (n + 2) (n + 1) h (count-at list 1 0 (omega arith)) at_2 at_1 found,
+        (λ inner h found. of_three Q c (n + 4) (n + 3) h (count-at list 2 0 (omega arith)) at_4 at_3 found, tt),
       )
       lists

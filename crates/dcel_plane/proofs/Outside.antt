@@ -7,9 +7,10 @@ use Rattle.dcel_maps.specs.Shapes.{IsLive, IsMesh, Mesh, Shape, end_of, face_of,
 use Rattle.dcel_maps.specs.Words.{become, count_of, word_of}
 use Rattle.dcel_maps.proofs.edits.Patches.{Patch, pushing}
 use Rattle.dcel_maps.proofs.shapes.Maps.{map-sound}
+use Rattle.dcel_maps.proofs.words.Mapped.{count-at}
 use Rattle.dcel_plane.specs.Edges.{edges_beside, edges_closed}
 use Rattle.dcel_plane.specs.Plane.{IsLeftOf, IsPlane, ListsCircled}
-use Rattle.dcel_plane.proofs.Corners.{corners_are, left-from_least, left_same, listed_at, of_least, of_three}
+use Rattle.dcel_plane.proofs.Corners.{corners_are, left-from_least, left_same, of_least, of_three}
 use Rattle.dcel_plane.proofs.Splits.{listed_as}
 use Rattle.dcel_plane.proofs.Written.{IsWritten, origin_away, origin_more, written_lists, written_plane}
 
@@ -52,11 +53,11 @@ module _ {V DE UE F : Type 0} (m : Mesh V DE UE F) (mesh : IsMesh m) (e : ℕ) (
     beside_lists due result lists =
         let list = edges_beside s e in
         let k = s.edges in
-        let at_0 = listed_as list n k (omega arith) (listed_at list 1 (omega arith)) in
-        let at_2 = listed_as list (n + 2) (k + 1) (omega arith) (listed_at list 2 (omega arith)) in
+        let at_0 = listed_as list n k (omega arith) (count-at list 1 0 (omega arith)) in
+        let at_2 = listed_as list (n + 2) (k + 1) (omega arith) (count-at list 2 0 (omega arith)) in
         written_lists at s r words origins written mesh.sound list due result.sound
         (λ inner h found. absurd (omega (arith, inner, outer)), tt)
-        (λ inner h found. of_three (λ x. 0 < count_of (x / 2) list) e n (n + 2) h (listed_at list 0 (omega arith)) at_0 at_2 found, tt)
+        (λ inner h found. of_three (λ x. 0 < count_of (x / 2) list) e n (n + 2) h (count-at list 0 0 (omega arith)) at_0 at_2 found, tt)
         lists
 
   -- a triangle between e and the next half edge
@@ -96,8 +97,8 @@ module _ {V DE UE F : Type 0} (m : Mesh V DE UE F) (mesh : IsMesh m) (e : ℕ) (
   pub closed_lists : (due : List ℕ) → IsMesh (face_closed m e halves edges faces) → ListsCircled at s due → ListsCircled at q (due ++ edges_closed s e)
   closed_lists due result lists =
       let list = edges_closed s e in
-      let at_0 = listed_as list n s.edges (omega arith) (listed_at list 2 (omega arith)) in
+      let at_0 = listed_as list n s.edges (omega arith) (count-at list 2 0 (omega arith)) in
       written_lists at s q closing_words closing_origins closing_written mesh.sound list due result.sound
       (λ inner h found. absurd (omega (arith, inner)), tt)
-      (λ inner h found. of_least (λ y. 0 < count_of (y / 2) list) e x n h (listed_at list 0 (omega arith)) (listed_at list 1 (omega arith)) at_0 found, tt)
+      (λ inner h found. of_least (λ y. 0 < count_of (y / 2) list) e x n h (count-at list 0 0 (omega arith)) (count-at list 1 0 (omega arith)) at_0 found, tt)
       lists

@@ -15,9 +15,10 @@ use Rattle.dcel_maps.proofs.maps.Soundness.{rev_live}
 use Rattle.dcel_maps.proofs.maps.Triangles.{IsTriangleOf, facing_differ}
 use Rattle.dcel_maps.proofs.shapes.Maps.{map-sound}
 use Rattle.dcel_maps.proofs.walks.Links.{half-below}
+use Rattle.dcel_maps.proofs.words.Mapped.{count-at}
 use Rattle.dcel_plane.specs.Edges.{edges_half_split, edges_split}
 use Rattle.dcel_plane.specs.Plane.{IsPlane, LiesAcross, ListsCircled, TurnsLeft}
-use Rattle.dcel_plane.proofs.Corners.{corners_are, left-from_least, left_same, left_turned, listed_at, of_least, of_three, seen}
+use Rattle.dcel_plane.proofs.Corners.{corners_are, left-from_least, left_same, left_turned, of_least, of_three, seen}
 use Rattle.dcel_plane.proofs.Written.{IsWritten, origin_away, origin_more, written_lists, written_plane}
 
 -- the triangle of a half edge e, with p on the left of the other two sides
@@ -134,19 +135,19 @@ module _ {V DE UE F : Type 0} (m : Mesh V DE UE F) (mesh : IsMesh m) (e middle :
     split_lists due result lists =
         let list = edges_split s e in
         let k = s.edges in
-        let at_0 = listed_as list n k (omega arith) (listed_at list 5 (omega arith)) in
-        let at_1 = listed_as list (n + 1) k (omega arith) (listed_at list 5 (omega arith)) in
-        let at_2 = listed_as list (n + 2) (k + 1) (omega arith) (listed_at list 6 (omega arith)) in
-        let at_3 = listed_as list (n + 3) (k + 1) (omega arith) (listed_at list 6 (omega arith)) in
-        let at_4 = listed_as list (n + 4) (k + 2) (omega arith) (listed_at list 7 (omega arith)) in
-        let at_5 = listed_as list (n + 5) (k + 2) (omega arith) (listed_at list 7 (omega arith)) in
-        let at_t = listed_as list t (e / 2) (rev-half e) (listed_at list 4 (omega arith)) in
+        let at_0 = listed_as list n k (omega arith) (count-at list 5 0 (omega arith)) in
+        let at_1 = listed_as list (n + 1) k (omega arith) (count-at list 5 0 (omega arith)) in
+        let at_2 = listed_as list (n + 2) (k + 1) (omega arith) (count-at list 6 0 (omega arith)) in
+        let at_3 = listed_as list (n + 3) (k + 1) (omega arith) (count-at list 6 0 (omega arith)) in
+        let at_4 = listed_as list (n + 4) (k + 2) (omega arith) (count-at list 7 0 (omega arith)) in
+        let at_5 = listed_as list (n + 5) (k + 2) (omega arith) (count-at list 7 0 (omega arith)) in
+        let at_t = listed_as list t (e / 2) (rev-half e) (count-at list 4 0 (omega arith)) in
         written_lists at s r words origins written mesh.sound list due result.sound (
-          λ inner h found. of_least (λ x. 0 < count_of (x / 2) list) e (n + 5) ep h (listed_at list 4 (omega arith)) at_5 (listed_at list 1 (omega arith)) found,
-          (λ inner h found. of_least (λ x. 0 < count_of (x / 2) list) t tn n h at_t (listed_at list 2 (omega arith)) at_0 found, tt),
+          λ inner h found. of_least (λ x. 0 < count_of (x / 2) list) e (n + 5) ep h (count-at list 4 0 (omega arith)) at_5 (count-at list 1 0 (omega arith)) found,
+          (λ inner h found. of_least (λ x. 0 < count_of (x / 2) list) t tn n h at_t (count-at list 2 0 (omega arith)) at_0 found, tt),
         ) (
-          λ inner h found. of_three (λ x. 0 < count_of (x / 2) list) tp (n + 2) (n + 1) h (listed_at list 3 (omega arith)) at_2 at_1 found,
-          (λ inner h found. of_three (λ x. 0 < count_of (x / 2) list) en (n + 4) (n + 3) h (listed_at list 0 (omega arith)) at_4 at_3 found, tt),
+          λ inner h found. of_three (λ x. 0 < count_of (x / 2) list) tp (n + 2) (n + 1) h (count-at list 3 0 (omega arith)) at_2 at_1 found,
+          (λ inner h found. of_three (λ x. 0 < count_of (x / 2) list) en (n + 4) (n + 3) h (count-at list 0 0 (omega arith)) at_4 at_3 found, tt),
         )
         lists
 
@@ -202,12 +203,12 @@ module _ {V DE UE F : Type 0} (m : Mesh V DE UE F) (mesh : IsMesh m) (e middle :
     half_split_lists due result lists =
         let list = edges_half_split s e in
         let k = s.edges in
-        let at_0 = listed_as list n k (omega arith) (listed_at list 3 (omega arith)) in
-        let at_1 = listed_as list (n + 1) k (omega arith) (listed_at list 3 (omega arith)) in
-        let at_2 = listed_as list (n + 2) (k + 1) (omega arith) (listed_at list 4 (omega arith)) in
+        let at_0 = listed_as list n k (omega arith) (count-at list 3 0 (omega arith)) in
+        let at_1 = listed_as list (n + 1) k (omega arith) (count-at list 3 0 (omega arith)) in
+        let at_2 = listed_as list (n + 2) (k + 1) (omega arith) (count-at list 4 0 (omega arith)) in
         written_lists at s q half_words half_origins half_written mesh.sound list due result.sound (
-          λ inner h found. of_least (λ x. 0 < count_of (x / 2) list) e (n + 1) ep h (listed_at list 2 (omega arith)) at_1 (listed_at list 1 (omega arith)) found,
+          λ inner h found. of_least (λ x. 0 < count_of (x / 2) list) e (n + 1) ep h (count-at list 2 0 (omega arith)) at_1 (count-at list 1 0 (omega arith)) found,
           (λ inner h found. absurd (omega (arith, inner, outer)), tt),
         )
-        (λ inner h found. of_three (λ x. 0 < count_of (x / 2) list) en n (n + 2) h (listed_at list 0 (omega arith)) at_0 at_2 found, tt)
+        (λ inner h found. of_three (λ x. 0 < count_of (x / 2) list) en n (n + 2) h (count-at list 0 0 (omega arith)) at_0 at_2 found, tt)
         lists

@@ -2,7 +2,7 @@
 use Rattle.std.proofs.Common.{◌≡◌, ◌≢◌, inl, inr, ℕ, suc, ◌+◌, ◌*◌, ◌<◌, List, [], ◌∷◌, length, slice_set, refl, sym, ap, ◌∙◌, subst, ℤ, pos, negsuc, unsigned_abs, ◌+ℤ◌, ◌<ℤ◌, ◌≤ℤ◌, arith}
 use Rattle.std.specs.List.{sum_by}
 use Rattle.std.proofs.lemmas.Bool.{cases_eq}
-use Rattle.std.proofs.lemmas.List.{get_or-set_other, get_or-set_same, length-set}
+use Rattle.std.proofs.lemmas.List.{get_or-set_other, length-set}
 use Rattle.std.proofs.lemmas.List.Sums.{sum_by-cons, sum_by-set}
 use Rattle.dcel_predicates.specs.declared.point.Point.{Point}
 use Rattle.dcel_predicates.specs.Determinants.{height_of, incircle_of, orient2d_of, volume_of}
@@ -11,18 +11,19 @@ use Rattle.dcel_predicates.proofs.Signs.{ordered, square, times}
 use Rattle.dcel_maps.specs.Conditions.{CanFlip}
 use Rattle.dcel_maps.specs.Cyclic.{from_least}
 use Rattle.dcel_maps.specs.edits.Flip.{edge_flipped}
-use Rattle.dcel_maps.specs.Shapes.{IsLive, IsMesh, Mesh, Shape, face_count, face_of, map_of, next_of, origin_of, prev_of}
+use Rattle.dcel_maps.specs.Shapes.{IsLive, IsMesh, Mesh, Shape, face_count, face_of, map_of, origin_of}
 use Rattle.dcel_maps.specs.Words.{TurnsTo, count_of, word_of}
-use Rattle.dcel_maps.proofs.shapes.Maps.{map-sound}
-use Rattle.dcel_maps.proofs.walks.Links.{links_stand}
+use Rattle.dcel_maps.proofs.edits.Around.{at_edge, known}
+use Rattle.dcel_maps.proofs.edits.Flips.{at_flip}
 use Rattle.dcel_maps.proofs.words.Counts.{count-later, count-same}
+use Rattle.dcel_maps.proofs.words.EachSet.{first-two_set, length-two_set, other-two_set, second-two_set, two_set}
 use Rattle.dcel_maps.proofs.words.Reading.{face_in_word, live_in}
 use Rattle.dcel_maps.proofs.words.Triangles.{triangle_written}
 use Rattle.dcel_maps.proofs.words.Turns.{from_least-turn, length-turn}
 use Rattle.dcel_plane.specs.Plane.{IsCircled, IsPlane, TurnsLeft}
 use Rattle.dcel_plane.specs.Volume.{volume_below, volume_under}
 use Rattle.dcel_plane.proofs.Corners.{three_items, turned_along}
-use Rattle.dcel_plane.proofs.Flipped.{differ, facing, from_end, from_start, left_before, new_corners, origin_after, origin_e, origin_far, origin_near, origin_same, origin_t, origin_t_after, right_before, was}
+use Rattle.dcel_plane.proofs.Flipped.{from_end, from_start, left_before, new_corners, origin_after, origin_e, origin_far, origin_near, origin_same, origin_t, origin_t_after, right_before}
 
 -- sums of items that are the same
 sums_agree : (a b : List ℕ → ℕ) (l : List (List ℕ)) → ((k : ℕ) → k < length l → a (word_of l k) ≡ b (word_of l k)) → sum_by a l ≡ sum_by b l
@@ -36,7 +37,7 @@ sums_agree a b (w ∷ r) same =
 module _ (a b : List ℕ → ℕ) (ws : List (List ℕ)) (f g : ℕ) (u v : List ℕ) (f_in : f < length ws) (g_in : g < length ws) (differ : f ≢ g)
     (none_a : a [] ≡ 0) (none_b : b [] ≡ 0) (same : (k : ℕ) → k < length ws → k ≢ f → k ≢ g → a (word_of ws k) ≡ b (word_of ws k)) where
   abbrev two : List ℕ → List ℕ → List (List ℕ)
-  two x y = slice_set (slice_set ws f x) g y
+  two x y = two_set ws f x g y
 
   replaced_two : (c : List ℕ → ℕ) (x y : List ℕ) → sum_by c (two x y) + (c (word_of ws f) + c (word_of ws g)) ≡ sum_by c ws + (c x + c y)
   replaced_two c x y =
@@ -48,20 +49,17 @@ module _ (a b : List ℕ → ℕ) (ws : List (List ℕ)) (f g : ℕ) (u v : List
   -- without the two
   others : sum_by a (two [] []) ≡ sum_by b (two [] [])
   others = sums_agree a b (two [] []) (λ k within. elim (cases_eq k g) [
-    | inl on_g ↦
-        let is : word_of (two [] []) k ≡ [] = ap (word_of (two [] [])) on_g ∙ get_or-set_same (slice_set ws f []) g [] [] (omega (arith, g_in, length-set ws f [])) in
-        ap a is ∙ none_a ∙ sym none_b ∙ ap b (sym is)
-    | inr not_g ↦
-        let past : word_of (two [] []) k ≡ word_of (slice_set ws f []) k = get_or-set_other (slice_set ws f []) g k [] [] not_g in
-        elim (cases_eq k f) [
-          | inl on_f ↦
-              let is : word_of (two [] []) k ≡ [] = past ∙ ap (word_of (slice_set ws f [])) on_f ∙ get_or-set_same ws f [] [] f_in in
-              ap a is ∙ none_a ∙ sym none_b ∙ ap b (sym is)
-          | inr not_f ↦
-              let is : word_of (two [] []) k ≡ word_of ws k = past ∙ get_or-set_other ws f k [] [] not_f in
-              ap a is ∙ same k (omega (arith, within, length-set (slice_set ws f []) g [], length-set ws f [])) not_f not_g ∙ ap b (sym is)
-        ]
+    | inl on_g ↦ none_there k (ap (word_of (two [] [])) on_g ∙ second-two_set ws f g [] [] [] g_in)
+    | inr not_g ↦ elim (cases_eq k f) [
+      | inl on_f ↦ none_there k (ap (word_of (two [] [])) on_f ∙ first-two_set ws f g [] [] [] differ f_in)
+      | inr not_f ↦
+          let is : word_of (two [] []) k ≡ word_of ws k = other-two_set ws f g [] [] [] k not_f not_g in
+          ap a is ∙ same k (omega (arith, within, length-two_set ws f g [] [])) not_f not_g ∙ ap b (sym is)
+    ]
   ])
+    where
+      none_there : (k : ℕ) → word_of (two [] []) k ≡ [] → a (word_of (two [] []) k) ≡ b (word_of (two [] []) k)
+      none_there k is = ap a is ∙ none_a ∙ sym none_b ∙ ap b (sym is)
 
   pub sum_of_two : sum_by b (two u v) + (a (word_of ws f) + a (word_of ws g)) ≡ sum_by a ws + (b u + b v)
   sum_of_two = omega (arith, replaced_two a [] [], replaced_two b [] [], replaced_two b u v, others, none_a, none_b)
@@ -132,29 +130,9 @@ module _ {V DE UE F : Type 0} (m : Mesh V DE UE F) (mesh : IsMesh m) (u : ℕ) (
   abbrev n : Shape
   n = (edge_flipped m u).shape
 
-  abbrev e : ℕ
-  e = 2 * u
-
-  abbrev t : ℕ
-  t = 2 * u + 1
-
-  abbrev f : ℕ
-  f = face_of s e
-
-  abbrev g : ℕ
-  g = face_of s t
-
-  abbrev ep : ℕ
-  ep = prev_of s e
-
-  abbrev en : ℕ
-  en = next_of s e
-
-  abbrev tp : ℕ
-  tp = prev_of s t
-
-  abbrev tn : ℕ
-  tn = next_of s t
+  open (at_edge s u) use {e, t, f, g, ep, en, tp, tn}
+  open (known m mesh) use {sound, stands}
+  open (at_flip m u mesh can) use {was, facing, differ}
 
   abbrev start : Point
   start = at (origin_of s e)
@@ -170,12 +148,12 @@ module _ {V DE UE F : Type 0} (m : Mesh V DE UE F) (mesh : IsMesh m) (u : ℕ) (
 
   first_before : volume_under at s (word_of s.words f) ≡ unsigned_abs (volume_of start end near)
   first_before =
-      ap (volume_under at s) (triangle_written (map_of s) (map-sound mesh.sound) f e en ep (was m mesh u can) s.words (links_stand mesh.sound))
+      ap (volume_under at s) (triangle_written (map_of s) sound f e en ep was s.words stands)
       ∙ volume_least_first at s e en ep ∙ ap (λ k. unsigned_abs (volume_of start (at k) near)) (from_end m mesh u can)
 
   second_before : volume_under at s (word_of s.words g) ≡ unsigned_abs (volume_of end start far)
   second_before =
-      ap (volume_under at s) (triangle_written (map_of s) (map-sound mesh.sound) g t tn tp (facing m mesh u can) s.words (links_stand mesh.sound))
+      ap (volume_under at s) (triangle_written (map_of s) sound g t tn tp facing s.words stands)
       ∙ volume_least_first at s t tn tp ∙ ap (λ k. unsigned_abs (volume_of end (at k) far)) (from_start m mesh u can)
 
   first_after : volume_under at n (from_least (e ∷ tp ∷ en ∷ [])) ≡ unsigned_abs (volume_of near far end)
@@ -191,8 +169,8 @@ module _ {V DE UE F : Type 0} (m : Mesh V DE UE F) (mesh : IsMesh m) (u : ℕ) (
   elsewhere : (k : ℕ) → k < face_count s → k ≢ f → k ≢ g → volume_under at s (word_of s.words k) ≡ volume_under at n (word_of s.words k)
   elsewhere k within not_f not_g =
       same_under at s n (word_of s.words k) (λ h there.
-      let live : IsLive s h = live_in (map_of s) s.words (links_stand mesh.sound) h k there in
-      let on : face_of s h ≡ k = face_in_word (map_of s) s.words (links_stand mesh.sound) h k there in
+      let live : IsLive s h = live_in (map_of s) s.words stands h k there in
+      let on : face_of s h ≡ k = face_in_word (map_of s) s.words stands h k there in
       origin_same m mesh u can at h live (λ is. not_f (sym on ∙ ap (face_of s) is)) (λ is. not_g (sym on ∙ ap (face_of s) is)))
 
   pub volume_falls : volume_below at n < volume_below at s
@@ -202,5 +180,5 @@ module _ {V DE UE F : Type 0} (m : Mesh V DE UE F) (mesh : IsMesh m) (u : ℕ) (
       (volume_least start end near (left_before m mesh u can at plane f_inner)) (volume_least end start far (right_before m mesh u can at plane g_inner))
       (volume_least near far end new.first) (volume_least far near start new.second) circled (flip-lowers start end near far) in
       let both = sum_of_two (volume_under at s) (volume_under at n) s.words f g (from_least (e ∷ tp ∷ en ∷ [])) (from_least (t ∷ ep ∷ tn ∷ []))
-      ((map-sound mesh.sound).below_faces e (was m mesh u can).live_x) ((map-sound mesh.sound).below_faces t (facing m mesh u can).live_x) (differ m mesh u can) refl refl elsewhere in
+      (sound.below_faces e was.live_x) (sound.below_faces t facing.live_x) differ refl refl elsewhere in
       omega (arith, less, both, first_before, second_before, first_after, second_after)

@@ -12,9 +12,9 @@ use Rattle.dcel_maps.specs.Words.{count_of, prev_in_word, word_of}
 use Rattle.dcel_maps.proofs.Liveness.{even_live, odd_live}
 use Rattle.dcel_maps.proofs.edits.Patches.{Each, EachFrom, Patch, Untouched, each-patched, each-weaker, each_from-weaker, length-patched, length-replaced, patched, replaced}
 use Rattle.dcel_maps.proofs.shapes.Maps.{map-sound}
-use Rattle.dcel_maps.proofs.walks.Links.{half-below, links_stand}
+use Rattle.dcel_maps.proofs.walks.Links.{half-below, links_stand, prev-said}
 use Rattle.dcel_maps.proofs.words.Counts.{count-append, count-later, count-same}
-use Rattle.dcel_maps.proofs.words.Reading.{face-prev, face_in_word, live_in, says, stands_in_face}
+use Rattle.dcel_maps.proofs.words.Reading.{face-prev, face_in_word, live_in, stands_in_face}
 use Rattle.dcel_plane.specs.Plane.{IsCircled, IsInner, IsPlane, ListsCircled}
 use Rattle.dcel_plane.proofs.Corners.{LeftOf, corners_are}
 
@@ -22,10 +22,6 @@ use Rattle.dcel_plane.proofs.Corners.{LeftOf, corners_are}
 replaced-away : (l : List ℕ) (cs : List (ℕ × ℕ)) (k : ℕ) → Untouched k cs → slice_index (replaced l cs) k ≡ slice_index l k
 replaced-away l [] k away = refl
 replaced-away l (c ∷ r) k away = replaced-away (slice_set l c.0 c.1) r k away.1 ∙ get_or-set_other l c.0 k c.1 0 away.0
-
--- the half edge before h is said by the word of its face
-before-word : (s : Shape) → IsSound s → (h : ℕ) → IsLive s h → prev_of s h ≡ prev_in_word h (word_of s.words (face_of s h))
-before-word s sound h live = (says h s.words (omega (arith, (links_stand sound).once h live))).prev
 
 pub circle_are : (at : ℕ → Point) {a b c d a' b' c' d' : ℕ} → a ≡ a' → b ≡ b' → c ≡ c' → d ≡ d' → pos 0 <ℤ incircle_of (at a) (at b) (at c) (at d)
     → pos 0 <ℤ incircle_of (at a') (at b') (at c') (at d')
@@ -116,7 +112,7 @@ module _ (at : ℕ → Point) (s n : Shape) (ws : Patch (List ℕ)) (os : Patch 
         let was : IsLive s h = live_in (map_of s) s.words stands h k found in
         let on : face_of s h ≡ k = face_in_word (map_of s) s.words stands h k found in
         let word : word_of n.words k ≡ word_of s.words (face_of s h) = same ∙ ap (word_of s.words) (sym on) in
-        let before : prev_of n h ≡ prev_of s h = before-word n sound_after h live ∙ ap (prev_in_word h) word ∙ sym (before-word s sound h was) in
+        let before : prev_of n h ≡ prev_of s h = prev-said sound_after h live ∙ ap (prev_in_word h) word ∙ sym (prev-said sound h was) in
         let live_before : IsLive s (prev_of s h) = (map-sound sound).live_prev h was in
         let on_before : face_of s (prev_of s h) ≡ k = face-prev (map_of s) s.words stands h was ∙ on in
         record {

@@ -12,6 +12,7 @@ use Rattle.dcel_maps.specs.edits.Create.{vertex_appended}
 use Rattle.dcel_maps.specs.Removals.{gives_up_face, gives_up_vertex}
 use Rattle.dcel_maps.specs.Words.{count_of, word_of}
 use Rattle.dcel_maps.proofs.Liveness.{closed-live, gives_up_face-closed, gives_up_vertex-past, is_live-from, is_live-last, is_live-parts, start-parts}
+use Rattle.dcel_maps.proofs.Triangulations.{length-least}
 use Rattle.dcel_maps.proofs.walks.Links.{half-below, links_stand}
 use Rattle.dcel_maps.proofs.words.Counts.{count-same}
 use Rattle.dcel_maps.proofs.words.Reading.{face-below, live_in}
@@ -84,9 +85,6 @@ patched_triangulated s t p before removal words set more = record {
       (three_more s.words p set more before.three);
 }
 
-length-from_least : (w : List ℕ) → length (from_least w) ≡ length w
-length-from_least w = length-turn (from_least-turn w)
-
 module _ {V DE UE F : Type 0} where
   pub alone_triangulated : {is_half : DE → Type 0} {is_edge : UE → Type 0} {is_face : F → Type 0} (m : Mesh V DE UE F) (vertices : V × V × V)
       → AddsEdgesAndFaces is_half is_edge is_face 3 2 m (triangle_alone vertices) → IsTriangulated m.shape
@@ -157,7 +155,7 @@ module _ {V DE UE F : Type 0} where
       → IsTriangulated (edge_split m e v halves edges faces).shape
   split_triangulated m t e v halves edges faces =
       patched_triangulated m.shape (edge_split m e v halves edges faces).shape (split_words m e) t refl refl
-      (λ i. length-from_least _, (λ i. length-from_least _, tt)) (λ i. refl, (λ i. refl, tt))
+      (λ i. length-least _, (λ i. length-least _, tt)) (λ i. refl, (λ i. refl, tt))
 
   -- of an edge inside, in the mesh that has the vertex for its middle
   module _ (m n : Mesh V DE UE F) (datum : V) (e : ℕ) (t : IsTriangulated m.shape) (appended : n ≡ vertex_appended m datum) where

@@ -43,9 +43,6 @@ pub record Runs (items : List (List ℕ)) (numbers : List ℕ) (others : List (L
   pub whole : items ≡ map decimal numbers ++ others
   pub in_range : AllByRecursion IsNumber numbers
 
-pub runs_nothing : (items : List (List ℕ)) → Runs items [] items
-runs_nothing items = record { whole = refl; in_range = tt }
-
 in_range-push : (numbers : List ℕ) (n : ℕ) → AllByRecursion IsNumber numbers → IsNumber n → AllByRecursion IsNumber (numbers ++ n ∷ [])
 in_range-push [] n all is = (is, tt)
 in_range-push (m ∷ numbers) n all is = (all.0, in_range-push numbers n all.1 is)

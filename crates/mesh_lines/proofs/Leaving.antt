@@ -4,12 +4,8 @@ use Rattle.std.specs.Prelude.{◌⊎◌}
 use Rattle.dcel_text.specs.Lines.{line_feed}
 use Rattle.dcel_commands.specs.Stage.{Stage, Goes, Leads, closing}
 use Rattle.dcel_commands.specs.Talk.{start}
+use Rattle.dcel_commands.proofs.Serving.{leads_then}
 use Rattle.mesh_lines.specs.HalfEdges.{Leaves}
-
-leads_then : (limit : ℕ) (p q r : Stage) (xs ys text more : List ℕ) → Leads limit p q xs text → Leads limit q r ys more → Leads limit p r (xs ++ ys) (text ++ more)
-leads_then limit p q r xs ys text more f g u rest end h =
-    subst (λ (x : List ℕ). Goes limit u p x ((text ++ more) ++ end)) (sym (append_assoc xs ys rest))
-    (subst (Goes limit u p (xs ++ (ys ++ rest))) (sym (append_assoc text more end)) (f u (ys ++ rest) (more ++ end) (g u rest end h)))
 
 closes : (begun : List ℕ) → (closing begun ≡ []) ⊎ (closing begun ≡ line_feed ∷ [])
 closes [] = inl refl

@@ -1,7 +1,7 @@
 use Rattle.std.proofs.Common.{◌≡◌, arith, sym, None}
 use Rattle.spade_dcel.specs.Handles.{mesh_behind, number_of}
 use Rattle.dcel_maps.specs.Shapes.{vertex_anchor}
-use Rattle.dcel_commands.proofs.FaceWalks.{live_below}
+use Rattle.dcel_maps.proofs.walks.Links.{half-below}
 use Rattle.dcel_commands.proofs.OutEdges.{least_goes_on, least_is_found, least_out-some, no_anchor}
 use Rattle.dcel_commands.proofs.request.out.least_out_edge.Goals as goal
 
@@ -26,4 +26,4 @@ returns-clause-least g c =
     let v = number_of c.args.vertex in
     let h = number_of c.loop-edge.least in
     let seen = c.loop-edge.invariant.seen in
-    sym (least_out-some shape v h (live_below shape h seen.stands.live) seen.stands (least_is_found _ _ _ _ seen c.in-None.ensures.steps.0.0))
+    sym (least_out-some shape v h (half-below shape h seen.stands.live) seen.stands (least_is_found _ _ _ _ seen c.in-None.ensures.steps.0.0))

@@ -2,8 +2,9 @@ use Rattle.std.proofs.Common.{◌≡◌, ◌∙◌, ap, sym}
 use Rattle.spade_dcel.specs.Handles.{mesh_behind, number_of}
 use Rattle.dcel_maps.specs.Shapes.{face_of}
 use Rattle.dcel_maps.specs.Words.{word_of}
+use Rattle.dcel_maps.proofs.walks.Links.{half-below}
 use Rattle.dcel_text.specs.Texts.{listed}
-use Rattle.dcel_commands.proofs.FaceWalks.{anchor_lies, unanchored_word, live_below}
+use Rattle.dcel_commands.proofs.FaceWalks.{anchor_lies, unanchored_word}
 use Rattle.dcel_text.proofs.Writing.{writes_nothing, writes_text}
 use Rattle.dcel_commands.proofs.request.words.write_half_edges.Goals as goal
 
@@ -15,7 +16,7 @@ returns-in_default g c =
 pub directed_edge-requires : goal.directed_edge-requires
 directed_edge-requires g c =
     let lies = anchor_lies c.requires.mesh c.args.face c.requires.in_range c.in-Some.anchor (sym c.face_adjacent_edge.ensures ∙ c.in-Some.is) in
-    live_below c.args.dcel.now.shape c.in-Some.anchor lies.0
+    half-below c.args.dcel.now.shape c.in-Some.anchor lies.0
 
 pub least_on_face-requires-clause-live : goal.least_on_face-requires-clause-live
 least_on_face-requires-clause-live g c =
