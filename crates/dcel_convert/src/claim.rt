@@ -1,6 +1,7 @@
 //! What a file of words claims of a mesh, before anything of it is known to hold.
 
 use crate::fault::{Fault, Wrong};
+use dcel_exchange::LinkLists;
 use std::alloc::{AllocError, Global};
 use std::fmt::{self, Formatter};
 
@@ -20,17 +21,6 @@ impl fmt::Display for Lines {
             Lines::Turns => write!(f, "out lines"),
         }
     }
-}
-
-/// The links that a file of words claims, with an item for each half edge.
-#[derive(Drop)]
-pub struct Links {
-    /// The half edge after each one on its face.
-    pub next: Vec<u32>,
-    /// The vertex that each one starts at.
-    pub origin: Vec<u32>,
-    /// The face that each one lies on.
-    pub face: Vec<u32>,
 }
 
 /// What a file of words claims: that each half edge of so many edges stands once in a word, and
@@ -65,14 +55,14 @@ impl Claim {
 
     /// Returns the links that the lists say. A half edge that stands in no list of a kind, or in
     /// two, is refused.
-    pub fn links(&self, alloc: Global) -> Result<Links, Fault> {
+    pub fn links(&self, alloc: Global) -> Result<LinkLists, Fault> {
         let face = self.owners(alloc, Lines::Words)?;
         let origin = self.owners(alloc, Lines::Turns)?;
         let mut next = vec![in alloc; 0; face.len()]?;
         for word in &self.words {
             link_round(word, &mut next);
         }
-        Ok(Links { next, origin, face })
+        Ok(LinkLists { next, origin, face })
     }
 
     /// Returns the list of a kind that each half edge stands in.

@@ -1,8 +1,9 @@
 //! The mesh that a file of words claims.
 
-use crate::claim::{Claim, Lines, Links};
+use crate::claim::{Claim, Lines};
 use crate::fault::{Fault, Wrong};
 use crate::meshing::Mesh;
+use dcel_exchange::LinkLists;
 use spade_dcel::handles::FixedDirectedEdgeHandle;
 use spade_dcel::operations::{EdgeData, LinksError, LinksFault, MeshData, from_links};
 use std::alloc::{AllocError, Global};
@@ -16,7 +17,7 @@ pub fn claimed_mesh(alloc: Global, claim: &Claim) -> Result<Mesh, Fault> {
         edges: no_data(alloc, links.next.len() / 2)?,
         faces: vec![in alloc; 0; claim.words.len()]?,
     };
-    match from_links(alloc, &links.next, &links.origin, &links.face, given) {
+    match from_links(alloc, links.as_links(), given) {
         Ok(mesh) => {
             check_turns(&mesh, claim)?;
             Ok(mesh)
@@ -71,7 +72,7 @@ fn check_turn(mesh: &Mesh, turn: &[u32]) -> Result<(), Wrong> {
 }
 
 /// Returns the reason, with the line that shows it, if one does.
-fn fault_of(reason: LinksError, claim: &Claim, links: &Links) -> Fault {
+fn fault_of(reason: LinksError, claim: &Claim, links: &LinkLists) -> Fault {
     match reason {
         LinksError::Links(fault) => match line_of(fault, claim, links) {
             Some(line) => Fault::Link { line, fault },
@@ -83,7 +84,7 @@ fn fault_of(reason: LinksError, claim: &Claim, links: &Links) -> Fault {
 }
 
 /// Returns the line that shows a fault: the counts, a word or a turn.
-fn line_of(fault: LinksFault, claim: &Claim, links: &Links) -> Option<usize> {
+fn line_of(fault: LinksFault, claim: &Claim, links: &LinkLists) -> Option<usize> {
     match fault {
         LinksFault::NoFace | LinksFault::MoreFaces => Some(1),
         LinksFault::OneEnd(half) => {

@@ -2,8 +2,9 @@
 use Rattle.std.proofs.Common.{◌≡◌, ◌∙◌, inl, inr, ℕ, ◌*◌, ◌/◌, ◌<◌, List, [], length, slice_index, Option, Some, None, Result, Ok, Err, IfOk, IfErr, refl, sym, ap, subst, arith}
 use Rattle.std.proofs.lemmas.List.{length-map}
 use Rattle.dcel_links.specs.Anchors.{IsAnchor, anchor_of}
-use Rattle.dcel_links.specs.Claims.{Claim, claim}
+use Rattle.dcel_links.specs.Claims.{Claim, claim_of}
 use Rattle.dcel_links.specs.Meshes.{IsLinked}
+use Rattle.dcel_links.specs.declared.lists.Links.{Links as LinkLists}
 use Rattle.dcel_maps.specs.Removals.{gives_up_edge}
 use Rattle.dcel_maps.specs.Shapes.{AnchorsVertex, AnchorsWord, IsLive, IsMesh, Mesh, face_count, face_of, map_of}
 use Rattle.dcel_maps.specs.Words.{count_of, word_of}
@@ -61,9 +62,18 @@ module _ {V DE UE F V' DE' UE' F' : Type 0} (m : Mesh V DE UE F) (mesh : IsMesh 
     };
   }
 
-  module _ (next origin face : List ℕ) (linked : IsLinked m.shape (claim next origin face m.shape.vertices (face_count m.shape))) where
+  module _ (links : LinkLists) (linked : IsLinked m.shape (claim_of links m.shape.vertices (face_count m.shape))) where
     abbrev pub given_claim : Claim
-    given_claim = claim next origin face (length vertices) (length faces)
+    given_claim = claim_of links (length vertices) (length faces)
+
+    abbrev next : List ℕ
+    next = links.next.now
+
+    abbrev origin : List ℕ
+    origin = links.origin.now
+
+    abbrev face : List ℕ
+    face = links.face.now
 
     again-linked : IsLinked m.shape given_claim
     again-linked = rw (as_many_vertices, as_many_faces) linked

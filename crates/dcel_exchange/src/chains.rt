@@ -4,6 +4,7 @@ ghost use Rattle.std.specs.Prelude.{◌≡◌, ◌≢◌, ℕ, ◌+◌, ◌^◌,
 ghost use Rattle.dcel_exchange.specs.Chains.{AreChained, IsFound, hangs};
 ghost use Rattle.dcel_fixed.specs.HalfEdges.{rev};
 
+use dcel_fixed::other_half;
 use std::alloc::{AllocError, Allocator};
 
 /// The edges so far, each found by its ends.
@@ -55,7 +56,7 @@ impl<A: Allocator> Chains<A> {
             return self.search(origin, from, to);
         }
         match self.search(origin, to, from) {
-            Some(half) => Some(other_half(half)),
+            Some(half) => Some(other_half(half as usize) as u32),
             None => None,
         }
     }
@@ -69,11 +70,11 @@ impl<A: Allocator> Chains<A> {
         requires apart { from ≢ to }
         ensures { OnOk result (AreChained (length self.old.last.items) self.new.starts.items (origin.now ++ from ∷ to ∷ []) self.new.last.items self.new.before.items) }
     {
-        let even = origin.len() as u32;
+        let even = origin.len();
         if self.hangs_at(from, to) {
-            self.put(from, even)
+            self.put(from, even as u32)
         } else {
-            self.put(to, other_half(even))
+            self.put(to, other_half(even) as u32)
         }
     }
 
@@ -97,7 +98,7 @@ impl<A: Allocator> Chains<A> {
     {
         let mut next = self.last[end as usize];
         while let Some(half) = next {
-            if origin[other_half(half) as usize] == other {
+            if origin[other_half(half as usize)] == other {
                 return Some(half);
             }
             next = self.before[half as usize / 2];
@@ -134,12 +135,4 @@ fn count_starts<A: Allocator>(
         counts[*start as usize] += 1;
     }
     Ok(counts)
-}
-
-/// Returns the other half of an edge.
-#[tactic(auto, using(dcel_fixed::proofs::Halves::xor_one))]
-fn other_half(half: u32) -> u32
-    ensures { result ≡ rev half }
-{
-    half ^ 1
 }

@@ -3,14 +3,15 @@
 ghost use Rattle.std.specs.Prelude.{◌≡◌, ◌+◌, ◌/◌, All, IfErr, IfOk, length};
 ghost use Rattle.dcel_exchange.specs.Corners.{corners_of};
 ghost use Rattle.dcel_exchange.specs.Defaults.{HasDefaults};
+ghost use Rattle.dcel_exchange.specs.Links.{lists_claim};
 ghost use Rattle.dcel_exchange.specs.Meshes.{AreLinks, HasFaces};
 ghost use Rattle.dcel_exchange.specs.Reasons.{Leaves, Means, reason_for};
 ghost use Rattle.dcel_exchange.specs.Simple.{HasCorners, IsSimple};
-ghost use Rattle.dcel_links.specs.Claims.{claim};
 ghost use Rattle.dcel_maps.specs.Removals.{Closed};
 ghost use Rattle.dcel_maps.specs.Shapes.{IsMesh};
 
 use crate::linking::{find_border, list_links};
+use crate::lists::LinkLists;
 use crate::numbering::{Numbering, number_sides};
 use crate::refusal::{FacesError, RefusedFaces};
 use crate::sides::{check_ends, list_sides};
@@ -81,7 +82,7 @@ pub fn from_faces<
         edges: edge_data,
         faces: face_data,
     };
-    match from_links(alloc, &links.next, &links.origin, &links.face, given) {
+    match from_links(alloc, links.as_links(), given) {
         Ok(dcel) => {
             the_headline(&dcel);
             Ok(dcel)
@@ -103,21 +104,13 @@ fn reason_of(reason: LinksError) -> FacesError
     }
 }
 
-// The links of half edges, by number.
-#[derive(Drop)]
-struct LinksByNumber<A: Allocator> {
-    next: Vec<u32, A>,
-    origin: Vec<u32, A>,
-    face: Vec<u32, A>,
-}
-
 /// Lists the links of the half edges of these faces and of the border that they leave.
 fn link_faces<A: Allocator + Clone, B: Allocator>(
     alloc: &A,
     vertices: usize,
     faces: &[Vec<u32, B>],
-) -> Result<LinksByNumber<A>, FacesError>
-    ensures links { IfOk result (λ links. AreLinks vertices (corners_of faces.now) (claim links.next.items links.origin.items links.face.items vertices (length faces.now + 1))) }
+) -> Result<LinkLists<A>, FacesError>
+    ensures links { IfOk result (λ links. AreLinks vertices (corners_of faces.now) (lists_claim links vertices (length faces.now + 1))) }
     ensures reason { IfErr result (Means vertices (corners_of faces.now)) }
 {
     let sides = list_sides(alloc, faces)?;
@@ -126,7 +119,7 @@ fn link_faces<A: Allocator + Clone, B: Allocator>(
     let border = find_border(alloc, &sides, &numbering, vertices)?;
     let (next, face) = list_links(alloc, &sides, &numbering, &border)?;
     let Numbering { origin, .. } = numbering;
-    Ok(LinksByNumber { next, origin, face })
+    Ok(LinkLists { next, origin, face })
 }
 
 /// Makes default data for edges, and for faces and the outer one.

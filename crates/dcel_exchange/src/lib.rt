@@ -1,7 +1,7 @@
 //! Meshes in and out: as lists of links, and as faces with their corners.
 //!
-//! [`links`] and [`link_lists`] give what `from_links` and `from_anchored_links` of `spade_dcel`
-//! take, and [`with_data`] makes the same mesh again over other data. [`from_faces`] makes a mesh
+//! [`links`], [`link_lists`] and [`anchor_lists`] give what `from_links` and `from_anchored_links`
+//! of `spade_dcel` take, and [`with_data`] makes the same mesh again over other data. [`from_faces`] makes a mesh
 //! of faces that are given as lists of vertices, and [`face_corners`] and [`face_lists`] give
 //! these.
 #![tactic(auto)]
@@ -18,6 +18,6 @@ mod steps;
 
 pub use corners::{CornerIterator, FaceIterator, face_corners, face_lists};
 pub use faces::from_faces;
-pub use lists::{LinkLists, link_lists, with_data};
+pub use lists::{AnchorLists, LinkLists, anchor_lists, link_lists, with_data};
 pub use refusal::{FacesError, RefusedFaces};
 pub use steps::{Link, LinkIterator, links};

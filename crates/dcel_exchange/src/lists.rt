@@ -1,8 +1,9 @@
 //! Links and anchors as lists, and a mesh made again from them.
 
-ghost use Rattle.std.specs.Prelude.{◌≡◌, IfErr, IfOk, length};
+ghost use Rattle.std.specs.Prelude.{◌≡◌, ℕ, IfErr, IfOk, length};
 ghost use Rattle.std.specs.Option.{option_map};
 ghost use Rattle.dcel_exchange.specs.Links.{lists_claim};
+ghost use Rattle.dcel_links.specs.Claims.{claim_of};
 ghost use Rattle.dcel_links.specs.Meshes.{IsLinked};
 ghost use Rattle.dcel_maps.specs.Removals.{Closed};
 ghost use Rattle.dcel_maps.specs.Shapes.{IsMesh, face_count};
@@ -13,10 +14,12 @@ use crate::steps::links;
 use spade_dcel::dcel::Dcel;
 use spade_dcel::handles::DirectedEdgeHandle;
 use spade_dcel::laws::every_mesh;
-use spade_dcel::operations::{Anchors, LinksError, MeshData, RefusedLinks, from_anchored_links};
+use spade_dcel::operations::{
+    Anchors, Links, LinksError, MeshData, RefusedLinks, from_anchored_links,
+};
 use std::alloc::{AllocError, Allocator, Global};
 
-/// The links of a mesh as lists, with an item for each half edge, and its anchors.
+/// The links of a mesh as lists of their own, with an item for each half edge.
 #[derive(Drop)]
 pub struct LinkLists<A: Allocator = Global> {
     /// The half edge after each one on its face.
@@ -25,13 +28,44 @@ pub struct LinkLists<A: Allocator = Global> {
     pub origin: Vec<u32, A>,
     /// The face that each one lies on.
     pub face: Vec<u32, A>,
-    /// The anchor of each vertex: a half edge that starts there, or None where none does.
-    pub vertex_anchors: Vec<Option<u32>, A>,
-    /// The anchor of each face: a half edge that lies there, or None where none does.
-    pub face_anchors: Vec<Option<u32>, A>,
 }
 
-/// Returns the links and anchors of a mesh as lists, as `from_anchored_links` takes them.
+impl<A: Allocator> LinkLists<A> {
+    /// Lends the lists, as `from_links` takes them.
+    pub fn as_links(&self) -> Links<'_>
+        ensures { (vertices faces : ℕ) → claim_of result vertices faces ≡ lists_claim self.now vertices faces }
+    {
+        Links {
+            next: &self.next,
+            origin: &self.origin,
+            face: &self.face,
+        }
+    }
+}
+
+/// The anchors of a mesh as lists of their own.
+#[derive(Drop)]
+pub struct AnchorLists<A: Allocator = Global> {
+    /// The anchor of each vertex: a half edge that starts there, or None where none does.
+    pub vertices: Vec<Option<u32>, A>,
+    /// The anchor of each face: a half edge that lies there, or None where none does.
+    pub faces: Vec<Option<u32>, A>,
+}
+
+impl<A: Allocator> AnchorLists<A> {
+    /// Lends the lists, as `from_anchored_links` takes them.
+    pub fn as_anchors(&self) -> Anchors<'_>
+        ensures vertices { result.vertices.now ≡ self.now.vertices.items }
+        ensures faces { result.faces.now ≡ self.now.faces.items }
+    {
+        Anchors {
+            vertices: &self.vertices,
+            faces: &self.faces,
+        }
+    }
+}
+
+/// Returns the links of a mesh as lists.
 ///
 /// Asks that no removal is open ([`removal_state`](Dcel::removal_state) is `Closed`). If memory
 /// runs out it returns `AllocError`.
@@ -40,9 +74,7 @@ pub fn link_lists<V, DE, UE, F, A: Allocator, B: Allocator + Clone>(
     dcel: &Dcel<V, DE, UE, F, A>,
 ) -> Result<LinkLists<B>, AllocError>
     requires { dcel.now.shape.removal ≡ Closed }
-    ensures links { IfOk result (λ lists. IsLinked dcel.now.shape (lists_claim dcel.now.shape lists)) }
-    ensures vertex_anchors { IfOk result (λ lists. lists.vertex_anchors.items ≡ dcel.now.vertex_anchors) }
-    ensures face_anchors { IfOk result (λ lists. lists.face_anchors.items ≡ dcel.now.face_anchors) }
+    ensures { IfOk result (λ lists. IsLinked dcel.now.shape (lists_claim lists dcel.now.shape.vertices (face_count dcel.now.shape))) }
 {
     every_mesh(dcel);
     let mut next = Vec::new(alloc.clone()?);
@@ -53,12 +85,22 @@ pub fn link_lists<V, DE, UE, F, A: Allocator, B: Allocator + Clone>(
         origin.push(link.origin)?;
         face.push(link.face)?;
     }
-    Ok(LinkLists {
-        next,
-        origin,
-        face,
-        vertex_anchors: list_vertex_anchors(alloc.clone()?, dcel)?,
-        face_anchors: list_face_anchors(alloc, dcel)?,
+    Ok(LinkLists { next, origin, face })
+}
+
+/// Returns the anchors of a mesh as lists, in the order of their numbers.
+///
+/// If memory runs out it returns `AllocError`.
+pub fn anchor_lists<V, DE, UE, F, A: Allocator, B: Allocator + Clone>(
+    alloc: B,
+    dcel: &Dcel<V, DE, UE, F, A>,
+) -> Result<AnchorLists<B>, AllocError>
+    ensures vertices { IfOk result (λ anchors. anchors.vertices.items ≡ dcel.now.vertex_anchors) }
+    ensures faces { IfOk result (λ anchors. anchors.faces.items ≡ dcel.now.face_anchors) }
+{
+    Ok(AnchorLists {
+        vertices: list_vertex_anchors(alloc.clone()?, dcel)?,
+        faces: list_face_anchors(alloc, dcel)?,
     })
 }
 
@@ -109,8 +151,8 @@ fn anchor<V, DE, UE, F, A: Allocator>(
 ///
 /// It has the same vertices, half edges and faces with the same numbers, links, words and anchors,
 /// so that walks begin where they began. This is the law of the way there and back:
-/// `from_anchored_links` of the lists of [`link_lists`] makes the mesh that they were read from,
-/// unless memory runs out.
+/// `from_anchored_links` of the lists of [`link_lists`] and [`anchor_lists`] makes the mesh that
+/// they were read from, unless memory runs out.
 ///
 /// Asks that no removal is open ([`removal_state`](Dcel::removal_state) is `Closed`), and for a
 /// datum for each vertex, edge and face (`num_vertices`, `num_undirected_edges`, `num_faces`). The
@@ -147,35 +189,26 @@ pub fn with_data<
     ensures back { IfErr result (λ refused. refused.back ≡ given) }
 {
     every_mesh(dcel);
-    let Ok(lists) = clone_and_list(&alloc, dcel) else {
+    let Ok((lists, anchors)) = list_all(&alloc, dcel) else {
         return Err(RefusedLinks {
             reason: LinksError::OutOfMemory,
             back: given,
         });
     };
-    let anchors = Anchors {
-        vertices: &lists.vertex_anchors,
-        faces: &lists.face_anchors,
-    };
-    from_anchored_links(
-        alloc,
-        &lists.next,
-        &lists.origin,
-        &lists.face,
-        anchors,
-        given,
-    )
+    from_anchored_links(alloc, lists.as_links(), anchors.as_anchors(), given)
 }
 
-// Returns the lists, in memory of the same kind.
-fn clone_and_list<V, DE, UE, F, A: Allocator, B: Allocator + Clone>(
+// Returns links and anchors, in memory of the same kind.
+fn list_all<V, DE, UE, F, A: Allocator, B: Allocator + Clone>(
     alloc: &B,
     dcel: &Dcel<V, DE, UE, F, A>,
-) -> Result<LinkLists<B>, AllocError>
+) -> Result<(LinkLists<B>, AnchorLists<B>), AllocError>
     requires { dcel.now.shape.removal ≡ Closed }
-    ensures links { IfOk result (λ lists. IsLinked dcel.now.shape (lists_claim dcel.now.shape lists)) }
-    ensures vertex_anchors { IfOk result (λ lists. lists.vertex_anchors.items ≡ dcel.now.vertex_anchors) }
-    ensures face_anchors { IfOk result (λ lists. lists.face_anchors.items ≡ dcel.now.face_anchors) }
+    ensures links { IfOk result (λ lists. IsLinked dcel.now.shape (lists_claim lists.0 dcel.now.shape.vertices (face_count dcel.now.shape))) }
+    ensures vertex_anchors { IfOk result (λ lists. lists.1.vertices.items ≡ dcel.now.vertex_anchors) }
+    ensures face_anchors { IfOk result (λ lists. lists.1.faces.items ≡ dcel.now.face_anchors) }
 {
-    link_lists(alloc.clone()?, dcel)
+    let links = link_lists(alloc.clone()?, dcel)?;
+    let anchors = anchor_lists(alloc.clone()?, dcel)?;
+    Ok((links, anchors))
 }

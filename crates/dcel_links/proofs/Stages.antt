@@ -1,7 +1,7 @@
 -- The stages of the checks: what the earlier ones have ruled out.
 use Rattle.std.proofs.Common.{◌≡◌, inl, inr, ℕ, zero, suc, ◌+◌, ◌<◌, List, slice_index, refl, sym, ap, ◌∙◌, subst, arith}
 use Rattle.std.proofs.lemmas.Bool.{cases_eq}
-use Rattle.dcel_links.specs.Checks.{ComesTo, Finds, Undoes}
+use Rattle.dcel_links.specs.Checks.{ComesTo, Finds, Fit, InRange, Undoes}
 use Rattle.dcel_links.specs.Claims.{Claim, HasFewFaces, HasLists, IsFew}
 use Rattle.dcel_links.specs.Faults.{IsFirst, Means, TwoLead, stage}
 use Rattle.dcel_links.specs.Stages.{Stage, place}
@@ -99,3 +99,13 @@ module _ (c : Claim) (lists : HasLists c) where
 
   pub comes_to_ranges : IsFew c → 0 < c.faces → HasFewFaces c → ComesTo c stages.Ranges
   comes_to_ranges few some few_faces = comes_on c stages.FaceCount stages.Ranges refl (comes_to_face_count few some) few_faces
+
+module _ (c : Claim) where
+  pub comes_to_leading : ComesTo c stages.Ranges → InRange c → ComesTo c stages.Leading
+  comes_to_leading = comes_on c stages.Ranges stages.Leading refl
+
+  pub comes_to_fitting : ComesTo c stages.Leading → (prev : List ℕ) → Undoes c.next prev → ComesTo c stages.Fitting
+  comes_to_fitting passed prev undone = comes_on c stages.Leading stages.Fitting refl passed (one_leads c.next prev undone)
+
+  pub comes_to_face_rounds : ComesTo c stages.Fitting → Fit c → ComesTo c stages.FaceRounds
+  comes_to_face_rounds = comes_on c stages.Fitting stages.FaceRounds refl

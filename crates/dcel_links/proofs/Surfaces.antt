@@ -7,13 +7,12 @@ use Rattle.dcel_links.specs.Faults.{IsNoSphere, genus_of}
 use Rattle.dcel_links.specs.Marks.{Marked, MarksLabels}
 use Rattle.dcel_links.proofs.Claiming.{counts_agree}
 
-module _ (c : Claim) (sides : length c.face ≡ halves c) (marks : List Bool) (len : length marks ≡ c.faces) (marked : MarksLabels c.face marks) where
-  -- each face from `first` on is marked, and those before it need no half edge
-  pub uses_marked : (first : ℕ) → ((k : ℕ) → first ≤ k → k < length marks → Marked marks k)
-      → ((f : ℕ) → (0 < f) ⊎ (0 < halves c) → first ≤ f) → UsesFaces c
-  uses_marked first all wanted f below want =
-      let (h, b, e) = (marked f).0 (all f (wanted f want) (omega arith)) in
-      (h, omega arith, e)
+-- where each face is marked, each has a half edge
+pub all_used : (c : Claim) (rounds : HasRounds c) (marks : List Bool) → MarksLabels c.face marks → length marks ≡ c.faces
+    → ((k : ℕ) → 0 ≤ k → k < length marks → Marked marks k) → UsesFaces c
+all_used c rounds marks marked len all f below want =
+    let (h, b, e) = (marked f).0 (all f (omega arith) (omega arith)) in
+    (h, omega (arith, rounds.each.links.lists.sides), e)
 
 module _ (c : Claim) (rounds : HasRounds c) (vertices faces : List Bool) (v : MarksLabels c.origin vertices) (f : MarksLabels c.face faces) where
   pub euler_counted : count (λ k. get_or vertices k false) c.vertices + count (λ k. get_or faces k false) c.faces ≡ halves c / 2 + 2 → HasEuler c

@@ -13,6 +13,7 @@ use dcel_fixed::other_half;
 use std::alloc::{AllocError, Allocator};
 
 /// Checks that each link is a number of its kind.
+#[tactic(auto, using(crate::proofs::Stages::comes_to_leading))]
 pub(crate) fn check_ranges(
     links: Links<'_>,
     vertices: usize,
@@ -61,6 +62,7 @@ pub(crate) fn find_two_leading(next: &[u32], prev: &mut [u32]) -> Option<usize>
 }
 
 /// Checks that each edge has two ends, and that each link fits the one before it.
+#[tactic(auto, using(crate::proofs::Stages::comes_to_face_rounds))]
 pub(crate) fn check_fit(links: Links<'_>, vertices: usize, faces: usize) -> Result<(), LinksFault>
     requires lists { HasLists (claim_of links vertices faces) }
     requires below { AreBelow (length links.next.now) links.next.now }

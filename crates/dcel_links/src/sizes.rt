@@ -16,6 +16,7 @@ const MOST: usize = 1 << 32;
 ///
 /// A claim that passes has no more faces than edges and two, so that marks on them take no more
 /// memory than its lists.
+#[tactic(auto, using(crate::proofs::Stages::comes_to_sizes, crate::proofs::Stages::comes_to_outer_face, crate::proofs::Stages::comes_to_face_count, crate::proofs::Stages::comes_to_ranges))]
 pub(crate) fn check_sizes(links: Links<'_>, vertices: usize, faces: usize) -> Result<(), LinksFault>
     ensures lists { OnOk result (HasLists (claim_of links.entry vertices faces)) }
     ensures few { OnOk result (IsFew (claim_of links.entry vertices faces)) }

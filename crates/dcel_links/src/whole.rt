@@ -18,6 +18,7 @@ use crate::sizes::{check_sizes, genus, is_sphere};
 use std::alloc::{AllocError, Allocator};
 
 /// Checks the links one by one, and makes the list of links backwards.
+#[tactic(auto, using(crate::proofs::Stages::comes_to_fitting))]
 pub(crate) fn check_each(
     links: Links<'_>,
     vertices: usize,

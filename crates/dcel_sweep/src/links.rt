@@ -5,7 +5,7 @@ use dcel_bench::checks::same;
 use dcel_bench::refusing::{Memory, Refusals, Refusing, Watched};
 use dcel_bench::snapshots::{Snapshot, snapshot_of};
 use spade_dcel::operations::{
-    Anchors, EdgeData, LinksError, LinksFault, MeshData, RefusedLinks, from_anchored_links,
+    Anchors, EdgeData, Links, LinksError, LinksFault, MeshData, RefusedLinks, from_anchored_links,
     from_links,
 };
 use std::alloc::{AllocError, Global};
@@ -34,9 +34,7 @@ type Data<'a> = MeshData<i64, i64, i64, i64, Memory<'a>>;
 /// the reason if the links are refused when there is memory.
 struct Row {
     call: Call,
-    next: &'static [u32],
-    origin: &'static [u32],
-    face: &'static [u32],
+    links: Links<'static>,
     vertices: &'static [i64],
     edges: &'static [[i64; 3]],
     faces: &'static [i64],
@@ -44,12 +42,16 @@ struct Row {
     refused: Option<LinksError>,
 }
 
+const TRIANGLE: Links<'static> = Links {
+    next: &[2, 5, 4, 1, 0, 3],
+    origin: &[0, 1, 1, 2, 2, 0],
+    face: &[0, 1, 0, 1, 0, 1],
+};
+
 const ROWS: [Row; 6] = [
     Row {
         call: FromLinks,
-        next: &[2, 5, 4, 1, 0, 3],
-        origin: &[0, 1, 1, 2, 2, 0],
-        face: &[0, 1, 0, 1, 0, 1],
+        links: TRIANGLE,
         vertices: &[5, -6, 7],
         edges: &[[1, 2, 3], [4, 5, 6], [7, 8, 9]],
         faces: &[10, 11],
@@ -58,9 +60,7 @@ const ROWS: [Row; 6] = [
     },
     Row {
         call: FromAnchoredLinks(&[Some(0), Some(2), Some(3)], &[Some(2), Some(1)]),
-        next: &[2, 5, 4, 1, 0, 3],
-        origin: &[0, 1, 1, 2, 2, 0],
-        face: &[0, 1, 0, 1, 0, 1],
+        links: TRIANGLE,
         vertices: &[5, -6, 7],
         edges: &[[1, 2, 3], [4, 5, 6], [7, 8, 9]],
         faces: &[10, 11],
@@ -69,9 +69,11 @@ const ROWS: [Row; 6] = [
     },
     Row {
         call: FromLinks,
-        next: &[],
-        origin: &[],
-        face: &[],
+        links: Links {
+            next: &[],
+            origin: &[],
+            face: &[],
+        },
         vertices: &[5, -6],
         edges: &[],
         faces: &[10],
@@ -81,9 +83,11 @@ const ROWS: [Row; 6] = [
     // Half edge 4 lies in face 1, and half edge 2, the one before, in face 0.
     Row {
         call: FromLinks,
-        next: &[2, 5, 4, 1, 0, 3],
-        origin: &[0, 1, 1, 2, 2, 0],
-        face: &[0, 1, 0, 1, 1, 1],
+        links: Links {
+            next: &[2, 5, 4, 1, 0, 3],
+            origin: &[0, 1, 1, 2, 2, 0],
+            face: &[0, 1, 0, 1, 1, 1],
+        },
         vertices: &[5, -6, 7],
         edges: &[[1, 2, 3], [4, 5, 6], [7, 8, 9]],
         faces: &[10, 11],
@@ -93,9 +97,11 @@ const ROWS: [Row; 6] = [
     // A torus of one hexagon.
     Row {
         call: FromLinks,
-        next: &[3, 2, 5, 4, 1, 0],
-        origin: &[0, 1, 0, 1, 0, 1],
-        face: &[0, 0, 0, 0, 0, 0],
+        links: Links {
+            next: &[3, 2, 5, 4, 1, 0],
+            origin: &[0, 1, 0, 1, 0, 1],
+            face: &[0, 0, 0, 0, 0, 0],
+        },
         vertices: &[5, -6],
         edges: &[[1, 2, 3], [4, 5, 6], [7, 8, 9]],
         faces: &[10],
@@ -105,9 +111,7 @@ const ROWS: [Row; 6] = [
     // Half edge 0 starts at another vertex.
     Row {
         call: FromAnchoredLinks(&[Some(0), Some(0), Some(3)], &[Some(2), Some(1)]),
-        next: &[2, 5, 4, 1, 0, 3],
-        origin: &[0, 1, 1, 2, 2, 0],
-        face: &[0, 1, 0, 1, 0, 1],
+        links: TRIANGLE,
         vertices: &[5, -6, 7],
         edges: &[[1, 2, 3], [4, 5, 6], [7, 8, 9]],
         faces: &[10, 11],
@@ -158,10 +162,10 @@ type Outcome<'a> = Result<Watched<'a>, RefusedLinks<Data<'a>>>;
 fn make<'a>(memory: Memory<'a>, row: &Row, data: Data<'a>, refusals: Refusals) -> Outcome<'a> {
     memory.refuse(refusals);
     match row.call {
-        FromLinks => from_links(memory, row.next, row.origin, row.face, data),
+        FromLinks => from_links(memory, row.links, data),
         FromAnchoredLinks(vertices, faces) => {
             let anchors = Anchors { vertices, faces };
-            from_anchored_links(memory, row.next, row.origin, row.face, anchors, data)
+            from_anchored_links(memory, row.links, anchors, data)
         }
     }
 }

@@ -191,12 +191,7 @@ fn check_links(dcel: &Dcel<u32>, lists: &LinkLists) -> Result<(), Fail> {
 }
 
 /// Checks that the mesh made again over these data has the same links and anchors.
-fn check_made_of(
-    dcel: &Dcel<u32>,
-    given: Data<Global>,
-    lists: &LinkLists,
-    alloc: Global,
-) -> Result<(), Fail> {
+fn check_made_of(dcel: &Dcel<u32>, given: Data<Global>, alloc: Global) -> Result<(), Fail> {
     require!(
         dcel.removal_state() == RemovalState::Closed
             && given.vertices.len() == dcel.num_vertices()
@@ -204,7 +199,7 @@ fn check_made_of(
             && given.faces.len() == dcel.num_faces()
     );
     match with_data(alloc, dcel, given) {
-        Ok(again) => check_lists(&again, lists, alloc),
+        Ok(again) => check_lists(&again, dcel, alloc),
         Err(_) => Err(Fail::new("the data for a mesh are refused")),
     }
 }
@@ -212,7 +207,7 @@ fn check_made_of(
 /// Checks the links of the mesh one after another, and those of the mesh made again.
 fn check_again(dcel: &Dcel<u32>, lists: &LinkLists, alloc: Global) -> Result<(), Fail> {
     check_links(dcel, lists)?;
-    check_made_of(dcel, data_for(dcel, alloc)?, lists, alloc)
+    check_made_of(dcel, data_for(dcel, alloc)?, alloc)
 }
 
 fn check_mesh(dcel: &Dcel<u32>, alloc: Global) -> Result<(), Fail> {

@@ -2,7 +2,9 @@
 
 use dcel_bench::checks::same;
 use dcel_bench::require;
-use dcel_exchange::{FacesError, LinkLists, RefusedFaces, from_faces, link_lists};
+use dcel_exchange::{
+    AnchorLists, FacesError, LinkLists, RefusedFaces, anchor_lists, from_faces, link_lists,
+};
 use spade_dcel::dcel::{Dcel, RemovalState};
 use spade_dcel::operations::{EdgeData, MeshData};
 use std::alloc::{AllocError, Allocator, Global};
@@ -149,26 +151,27 @@ pub fn data_for<A: Allocator + Copy>(dcel: &Dcel<u32>, memory: A) -> Result<Data
     })
 }
 
-/// Checks that links and anchors are the same.
-fn check_same(own: &LinkLists, lists: &LinkLists) -> Result<(), Fail> {
+/// Checks that links are the same.
+fn check_same_links(own: &LinkLists, lists: &LinkLists) -> Result<(), Fail> {
     same(&own.next, &lists.next, "the half edges after each")?;
     same(&own.origin, &lists.origin, "origins")?;
-    same(&own.face, &lists.face, "faces")?;
-    same(
-        &own.vertex_anchors,
-        &lists.vertex_anchors,
-        "anchors of vertices",
-    )?;
-    same(&own.face_anchors, &lists.face_anchors, "anchors of faces")
+    same(&own.face, &lists.face, "faces")
 }
 
-/// Checks that links and anchors are those of the lists, and that no removal is open.
+/// Checks that anchors are the same.
+fn check_same_anchors(own: &AnchorLists, anchors: &AnchorLists) -> Result<(), Fail> {
+    same(&own.vertices, &anchors.vertices, "anchors of vertices")?;
+    same(&own.faces, &anchors.faces, "anchors of faces")
+}
+
+/// Checks that links and anchors are those of the other mesh, and that no removal is open.
 pub fn check_lists<A: Allocator>(
     dcel: &Dcel<u32, (), usize, (), A>,
-    lists: &LinkLists,
+    other: &Dcel<u32>,
     alloc: Global,
 ) -> Result<(), Fail> {
     require!(dcel.removal_state() == RemovalState::Closed);
-    let own = link_lists(alloc, dcel)?;
-    check_same(&own, lists)
+    require!(other.removal_state() == RemovalState::Closed);
+    check_same_links(&link_lists(alloc, dcel)?, &link_lists(alloc, other)?)?;
+    check_same_anchors(&anchor_lists(alloc, dcel)?, &anchor_lists(alloc, other)?)
 }

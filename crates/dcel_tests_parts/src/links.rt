@@ -1,7 +1,7 @@
 //! Links that are given as lists: small meshes, and what is wrong with lists that are none.
 
 use dcel_bench::checks::same;
-use dcel_links::{LinksFault, check_links};
+use dcel_links::{Links, LinksFault, check_links};
 use std::alloc::Global;
 use std::test::Fail;
 
@@ -25,14 +25,12 @@ const SIDES: &[u32] = &[0, 1, 0, 1, 0, 1];
 const TWO_TRIANGLES: &[u32] = &[2, 5, 4, 1, 0, 3, 8, 11, 10, 7, 6, 9];
 
 fn check_row(row: &Row, alloc: Global) -> Result<(), Fail> {
-    let found = check_links(
-        &alloc,
-        row.next,
-        row.origin,
-        row.face,
-        row.vertices,
-        row.faces,
-    )?;
+    let links = Links {
+        next: row.next,
+        origin: row.origin,
+        face: row.face,
+    };
+    let found = check_links(&alloc, links, row.vertices, row.faces)?;
     match found {
         Ok(prev) => same(Ok(prev.as_slice()), row.wanted, "links"),
         Err(fault) => same(Err(fault), row.wanted, "links"),

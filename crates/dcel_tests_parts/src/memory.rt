@@ -7,7 +7,9 @@ use crate::faces::{
 use dcel_bench::checks::{holds, same};
 use dcel_bench::refusing::{Memory, Refusals, Refusing};
 use dcel_bench::require;
-use dcel_exchange::{FacesError, RefusedFaces, face_lists, from_faces, link_lists, with_data};
+use dcel_exchange::{
+    FacesError, RefusedFaces, anchor_lists, face_lists, from_faces, link_lists, with_data,
+};
 use spade_dcel::dcel::{Dcel, RemovalState};
 use std::alloc::Global;
 use std::test::Fail;
@@ -120,13 +122,14 @@ fn faces_are_refused_memory(rt: HostRuntime) -> Result<(), Fail> {
 #[derive(Clone, Copy, Debug)]
 enum Call {
     LinkLists,
+    AnchorLists,
     FaceLists,
     WithData,
 }
 
-use Call::{FaceLists, LinkLists, WithData};
+use Call::{AnchorLists, FaceLists, LinkLists, WithData};
 
-const CALLS: [Call; 3] = [LinkLists, FaceLists, WithData];
+const CALLS: [Call; 4] = [LinkLists, AnchorLists, FaceLists, WithData];
 
 /// Checks that edges have the same data.
 fn check_edges(data: &Data<Memory>, wanted: &Data<Global>) -> Result<(), Fail> {
@@ -159,9 +162,7 @@ fn check_again(
     dcel: &Dcel<u32>,
     alloc: Global,
 ) -> Result<(), Fail> {
-    require!(dcel.removal_state() == RemovalState::Closed);
-    let lists = link_lists(alloc, dcel)?;
-    check_lists(again, &lists, alloc)
+    check_lists(again, dcel, alloc)
 }
 
 /// Makes the mesh again over these data. Returns whether there was memory.
@@ -210,6 +211,7 @@ fn is_made(
     memory.refuse(refusals);
     match call {
         LinkLists => Ok(link_lists(memory, dcel).is_ok()),
+        AnchorLists => Ok(anchor_lists(memory, dcel).is_ok()),
         FaceLists => Ok(face_lists(memory, dcel).is_ok()),
         WithData => is_made_again(dcel, memory, refusals, alloc),
     }

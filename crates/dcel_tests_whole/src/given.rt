@@ -8,7 +8,7 @@ use dcel_bench::meshes::{
 use dcel_bench::require;
 use spade_dcel::handles::FixedDirectedEdgeHandle;
 use spade_dcel::operations::{
-    Anchors, EdgeData, LinksError, LinksFault, MeshData, RefusedLinks, from_anchored_links,
+    Anchors, EdgeData, Links, LinksError, LinksFault, MeshData, RefusedLinks, from_anchored_links,
     from_links,
 };
 use std::alloc::{AllocError, Global};
@@ -18,54 +18,56 @@ type Data = MeshData<i64, i64, i64, i64>;
 
 /// Links, and the numbers of vertices, edges and faces whose data are given with them.
 struct Row {
-    next: &'static [u32],
-    origin: &'static [u32],
-    face: &'static [u32],
+    links: Links<'static>,
     counts: [u32; 3],
     reason: LinksError,
 }
 
-const TRIANGLE: &[u32] = &[2, 5, 4, 1, 0, 3];
+const TRIANGLE: Links<'static> = Links {
+    next: &[2, 5, 4, 1, 0, 3],
+    origin: &[0, 1, 1, 2, 2, 0],
+    face: &[0, 1, 0, 1, 0, 1],
+};
 
-const CORNERS: &[u32] = &[0, 1, 1, 2, 2, 0];
-
-const SIDES: &[u32] = &[0, 1, 0, 1, 0, 1];
+const NO_LINKS: Links<'static> = Links {
+    next: &[],
+    origin: &[],
+    face: &[],
+};
 
 const REFUSED: [Row; 5] = [
     Row {
-        next: TRIANGLE,
-        origin: CORNERS,
-        face: SIDES,
+        links: TRIANGLE,
         counts: [3, 2, 2],
         reason: LinksError::Edges,
     },
     Row {
-        next: TRIANGLE,
-        origin: CORNERS,
-        face: SIDES,
+        links: TRIANGLE,
         counts: [2, 3, 2],
         reason: LinksError::Links(LinksFault::OriginOutOfRange(3)),
     },
     Row {
-        next: TRIANGLE,
-        origin: CORNERS,
-        face: SIDES,
+        links: TRIANGLE,
         counts: [3, 3, 3],
         reason: LinksError::Links(LinksFault::UnusedFace(2)),
     },
     // Face 0 lies on one side of an edge only, but its half edge comes back to itself.
     Row {
-        next: &[0, 1],
-        origin: &[0, 1],
-        face: &[0, 1],
+        links: Links {
+            next: &[0, 1],
+            origin: &[0, 1],
+            face: &[0, 1],
+        },
         counts: [2, 1, 2],
         reason: LinksError::Links(LinksFault::Apart(0)),
     },
     // A torus of four squares.
     Row {
-        next: &[10, 13, 8, 15, 14, 9, 12, 11, 7, 0, 5, 2, 3, 4, 1, 6],
-        origin: &[0, 1, 1, 0, 2, 3, 3, 2, 0, 2, 1, 3, 2, 0, 3, 1],
-        face: &[0, 2, 1, 3, 2, 0, 3, 1, 1, 0, 0, 1, 3, 2, 2, 3],
+        links: Links {
+            next: &[10, 13, 8, 15, 14, 9, 12, 11, 7, 0, 5, 2, 3, 4, 1, 6],
+            origin: &[0, 1, 1, 0, 2, 3, 3, 2, 0, 2, 1, 3, 2, 0, 3, 1],
+            face: &[0, 2, 1, 3, 2, 0, 3, 1, 1, 0, 0, 1, 3, 2, 2, 3],
+        },
         counts: [4, 8, 4],
         reason: LinksError::Links(LinksFault::NotSphere(1)),
     },
@@ -217,8 +219,12 @@ fn push_links(lists: &mut Lists, dcel: &Mesh) -> Result<(), Fail> {
 
 /// Makes a mesh of these links.
 fn mesh_of(lists: &Lists, alloc: Global) -> Result<Mesh, Fail> {
-    let data = data(alloc, [4, 6, 4])?;
-    match from_links(alloc, &lists.next, &lists.origin, &lists.face, data) {
+    let links = Links {
+        next: &lists.next,
+        origin: &lists.origin,
+        face: &lists.face,
+    };
+    match from_links(alloc, links, data(alloc, [4, 6, 4])?) {
         Ok(made) => Ok(made),
         Err(_) => Err(Fail::new("the links of a mesh are refused")),
     }
@@ -250,7 +256,7 @@ fn a_mesh_is_made_of_its_links(rt: HostRuntime) -> Result<(), Fail> {
 #[test]
 fn vertices_alone_are_a_mesh(rt: HostRuntime) -> Result<(), Fail> {
     let data = data(rt.alloc(), [3, 0, 1])?;
-    let Ok(made) = from_links(rt.alloc(), &[], &[], &[], data) else {
+    let Ok(made) = from_links(rt.alloc(), NO_LINKS, data) else {
         return Err(Fail::new("vertices without links are refused"));
     };
     same(counts(&made), [3, 0, 1], "counts")
@@ -287,7 +293,7 @@ fn check_reason(
 /// Checks that the links are refused for this reason, and that the data come back.
 fn check_refused(row: &Row, alloc: Global) -> Result<(), Fail> {
     let given = data(alloc, row.counts)?;
-    match from_links(alloc, row.next, row.origin, row.face, given) {
+    match from_links(alloc, row.links, given) {
         Ok(_) => Err(Fail::new("links of no mesh are taken")),
         Err(refused) => check_reason(&refused, Some(row.reason), row.counts, alloc),
     }
@@ -320,7 +326,7 @@ fn check_anchored(row: &Anchored, alloc: Global) -> Result<(), Fail> {
         vertices: row.vertices,
         faces: row.faces,
     };
-    match from_anchored_links(alloc, TRIANGLE, CORNERS, SIDES, anchors, given) {
+    match from_anchored_links(alloc, TRIANGLE, anchors, given) {
         Ok(made) => check_taken(&made, row.reason),
         Err(refused) => check_reason(&refused, row.reason, row.counts, alloc),
     }
@@ -341,7 +347,7 @@ fn vertices_alone_have_no_anchors(rt: HostRuntime) -> Result<(), Fail> {
         faces: &[None],
     };
     let data = data(rt.alloc(), [2, 0, 1])?;
-    let Ok(made) = from_anchored_links(rt.alloc(), &[], &[], &[], anchors, data) else {
+    let Ok(made) = from_anchored_links(rt.alloc(), NO_LINKS, anchors, data) else {
         return Err(Fail::new("vertices without links are refused"));
     };
     same(counts(&made), [2, 0, 1], "counts")

@@ -34,7 +34,7 @@ pub use degenerate::remove_when_degenerate;
 pub use fill::{isolate_vertex_and_fill_hole, remesh_edge_ring};
 pub use flip::flip_cw;
 pub use given::{
-    Anchors, EdgeData, LinksError, LinksFault, MeshData, RefusedLinks, from_anchored_links,
+    Anchors, EdgeData, Links, LinksError, LinksFault, MeshData, RefusedLinks, from_anchored_links,
     from_links,
 };
 pub use line::extend_line;

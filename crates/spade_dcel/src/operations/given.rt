@@ -1,20 +1,21 @@
 //! A mesh made from links that are given as lists, with anchors that are chosen or given.
 
-ghost use Rattle.std.specs.Prelude.{◌≡◌, ◌↔◌, ℕ, ◌/◌, ◌<◌, IfErr, IfOk, IsTrue, OnOk, length};
-ghost use Rattle.dcel_links.specs.Anchors.{AreAnchors};
-ghost use Rattle.dcel_links.specs.Claims.{IsMeshOf, claim};
+ghost use Rattle.std.specs.Prelude.{◌≡◌, ℕ, ◌/◌, ◌<◌, IfErr, IfOk, IfSome, OnOk, length, vec_len};
+ghost use Rattle.dcel_links.specs.Claims.{IsMeshOf};
 ghost use Rattle.dcel_links.specs.Meshes.{IsLinked};
 ghost use Rattle.dcel_maps.specs.Numbers.{IsLast};
 ghost use Rattle.dcel_maps.specs.Shapes.{IsMesh, Mesh, face_anchor, face_count, vertex_anchor};
 ghost use Rattle.dcel_store.specs.EdgeLists.{edges_data, halves_data};
-ghost use Rattle.spade_dcel.specs.Linked.{Refuses, RefusesAnchored, RefusesLinks};
+ghost use Rattle.dcel_store.specs.Lists.{HasPlaces, empty};
+ghost use Rattle.spade_dcel.specs.Linked.{AreRight, HasFaceAnchors, HasVertexAnchors, Refuses, RefusesAnchored, RefusesGiven, RefusesLinks, claimed, given_stored};
 
 use crate::dcel::Dcel;
 use crate::operations::create::with_room;
 use dcel_edits::given::{put_anchored_mesh, put_mesh};
-pub use dcel_links::LinksFault;
+pub use dcel_links::{Links, LinksFault};
 use dcel_links::{check_links, find_wrong_anchor};
 pub use dcel_store::EdgeData;
+use dcel_store::Store;
 use std::alloc::{Allocator, Global};
 use std::error::Error;
 use std::fmt;
@@ -136,63 +137,34 @@ impl<T: Drop> From<RefusedLinks<T>> for LinksError {
 
 /// Makes a mesh with these links and data.
 ///
-/// The lists have an item for each half edge: the half edge after it on its face, the vertex that
-/// it starts at, and the face that it lies on. Half edges `2 * u` and `2 * u + 1` are edge `u`, and
-/// face 0 is the outer face. There are as many vertices and faces as `given` has data for. Each
-/// vertex and each face is anchored at its half edge with the greatest number, and no removal is
-/// open.
+/// The lists of links have an item for each half edge. Half edges `2 * u` and `2 * u + 1` are edge
+/// `u`, and face 0 is the outer face. There are as many vertices and faces as `given` has data for.
+/// Each vertex and each face is anchored at its half edge with the greatest number, and no removal
+/// is open.
 ///
 /// It takes any lists. Data of more or fewer edges than the lists have are refused as
 /// [`LinksError::Edges`]. Otherwise, if some mesh has these links, this is it, with that mesh's
-/// words; if none has, the reason is [`LinksError::Links`] with a [`LinksFault`] that comes first. A
-/// refusal gives the data back, also if memory runs out. It goes over the lists a fixed number of
+/// words; if none has, the reason is [`LinksError::Links`] with a [`LinksFault`] that comes first.
+/// A refusal gives the data back, also if memory runs out. It goes over the lists a fixed number of
 /// times.
 pub fn from_links<V: Drop, DE: Drop, UE: Drop, F: Drop, A: Allocator + Clone>(
     alloc: A,
-    next: &[u32],
-    origin: &[u32],
-    face: &[u32],
+    links: Links<'_>,
     given: MeshData<V, DE, UE, F, A>,
 ) -> Result<Dcel<V, DE, UE, F, A>, RefusedLinks<MeshData<V, DE, UE, F, A>>>
-    ensures links { IfOk result (λ dcel. IsLinked dcel.shape (claim next.now origin.now face.now (length given.vertices.items) (length given.faces.items))) }
-    ensures only { IfOk result (λ dcel. (m : Mesh V DE UE F) → IsMesh m
-        → IsLinked m.shape (claim next.now origin.now face.now (length given.vertices.items) (length given.faces.items)) → m.shape ≡ dcel.shape) }
+    ensures links { IfOk result (λ dcel. IsLinked dcel.shape (claimed links.entry given)) }
+    ensures only { IfOk result (λ dcel. (m : Mesh V DE UE F) → IsMesh m → IsLinked m.shape (claimed links.entry given) → m.shape ≡ dcel.shape) }
     ensures vertices { IfOk result (λ dcel. dcel.vertex_data ≡ given.vertices.items) }
     ensures halves { IfOk result (λ dcel. dcel.directed_data ≡ halves_data given.edges.items) }
     ensures edges { IfOk result (λ dcel. dcel.undirected_data ≡ edges_data given.edges.items) }
     ensures faces { IfOk result (λ dcel. dcel.face_data ≡ given.faces.items) }
-    ensures vertex_anchors { IfOk result (λ dcel. (v : ℕ) → v < dcel.shape.vertices → IsLast origin.now v (vertex_anchor dcel v)) }
-    ensures face_anchors { IfOk result (λ dcel. (f : ℕ) → f < face_count dcel.shape → IsLast face.now f (face_anchor dcel f)) }
+    ensures vertex_anchors { IfOk result (λ dcel. (v : ℕ) → v < dcel.shape.vertices → IsLast links.entry.origin.now v (vertex_anchor dcel v)) }
+    ensures face_anchors { IfOk result (λ dcel. (f : ℕ) → f < face_count dcel.shape → IsLast links.entry.face.now f (face_anchor dcel f)) }
     ensures mesh { IfOk result IsMesh }
-    ensures reason { IfErr result (λ refused.
-        Refuses V DE UE F (claim next.now origin.now face.now (length given.vertices.items) (length given.faces.items)) (length given.edges.items) refused.reason) }
+    ensures reason { IfErr result (λ refused. Refuses V DE UE F (claimed links.entry given) (length given.edges.items) refused.reason) }
     ensures back { IfErr result (λ refused. refused.back ≡ given) }
 {
-    let prev = match check(&alloc, next, origin, face, &given) {
-        Ok(prev) => prev,
-        Err(reason) => {
-            return Err(RefusedLinks {
-                reason,
-                back: given,
-            });
-        }
-    };
-    let (vertices, edges, faces) = (given.vertices.len(), given.edges.len(), given.faces.len());
-    let Ok((mut store, removal)) = with_room(alloc, vertices, edges, faces) else {
-        return Err(RefusedLinks {
-            reason: LinksError::OutOfMemory,
-            back: given,
-        });
-    };
-    let MeshData {
-        vertices,
-        edges,
-        faces,
-    } = given;
-    put_mesh(
-        &mut store, next, &prev, origin, face, vertices, edges, faces,
-    );
-    Ok(Dcel { store, removal })
+    make(alloc, links, None, given)
 }
 
 /// Makes a mesh with these links, anchors and data.
@@ -205,15 +177,12 @@ pub fn from_links<V: Drop, DE: Drop, UE: Drop, F: Drop, A: Allocator + Clone>(
 /// and if memory runs out they come back too. It goes over the lists a fixed number of times.
 pub fn from_anchored_links<V: Drop, DE: Drop, UE: Drop, F: Drop, A: Allocator + Clone>(
     alloc: A,
-    next: &[u32],
-    origin: &[u32],
-    face: &[u32],
+    links: Links<'_>,
     anchors: Anchors<'_>,
     given: MeshData<V, DE, UE, F, A>,
 ) -> Result<Dcel<V, DE, UE, F, A>, RefusedLinks<MeshData<V, DE, UE, F, A>>>
-    ensures links { IfOk result (λ dcel. IsLinked dcel.shape (claim next.now origin.now face.now (length given.vertices.items) (length given.faces.items))) }
-    ensures only { IfOk result (λ dcel. (m : Mesh V DE UE F) → IsMesh m
-        → IsLinked m.shape (claim next.now origin.now face.now (length given.vertices.items) (length given.faces.items)) → m.shape ≡ dcel.shape) }
+    ensures links { IfOk result (λ dcel. IsLinked dcel.shape (claimed links.entry given)) }
+    ensures only { IfOk result (λ dcel. (m : Mesh V DE UE F) → IsMesh m → IsLinked m.shape (claimed links.entry given) → m.shape ≡ dcel.shape) }
     ensures vertices { IfOk result (λ dcel. dcel.vertex_data ≡ given.vertices.items) }
     ensures halves { IfOk result (λ dcel. dcel.directed_data ≡ halves_data given.edges.items) }
     ensures edges { IfOk result (λ dcel. dcel.undirected_data ≡ edges_data given.edges.items) }
@@ -221,12 +190,33 @@ pub fn from_anchored_links<V: Drop, DE: Drop, UE: Drop, F: Drop, A: Allocator + 
     ensures vertex_anchors { IfOk result (λ dcel. dcel.vertex_anchors ≡ anchors.entry.vertices.now) }
     ensures face_anchors { IfOk result (λ dcel. dcel.face_anchors ≡ anchors.entry.faces.now) }
     ensures mesh { IfOk result IsMesh }
-    ensures reason { IfErr result (λ refused.
-        RefusesAnchored V DE UE F (claim next.now origin.now face.now (length given.vertices.items) (length given.faces.items)) (length given.edges.items)
+    ensures reason { IfErr result (λ refused. RefusesAnchored V DE UE F (claimed links.entry given) (length given.edges.items)
         anchors.entry.vertices.now anchors.entry.faces.now refused.reason) }
     ensures back { IfErr result (λ refused. refused.back ≡ given) }
 {
-    let prev = match check_anchored(&alloc, next, origin, face, anchors, &given) {
+    make(alloc, links, Some(anchors), given)
+}
+
+// Makes a mesh with these anchors, or with the last half edge of each vertex and face.
+fn make<V: Drop, DE: Drop, UE: Drop, F: Drop, A: Allocator + Clone>(
+    alloc: A,
+    links: Links<'_>,
+    anchors: Option<Anchors<'_>>,
+    given: MeshData<V, DE, UE, F, A>,
+) -> Result<Dcel<V, DE, UE, F, A>, RefusedLinks<MeshData<V, DE, UE, F, A>>>
+    ensures links { IfOk result (λ dcel. IsLinked dcel.shape (claimed links.entry given)) }
+    ensures only { IfOk result (λ dcel. (m : Mesh V DE UE F) → IsMesh m → IsLinked m.shape (claimed links.entry given) → m.shape ≡ dcel.shape) }
+    ensures vertices { IfOk result (λ dcel. dcel.vertex_data ≡ given.vertices.items) }
+    ensures halves { IfOk result (λ dcel. dcel.directed_data ≡ halves_data given.edges.items) }
+    ensures edges { IfOk result (λ dcel. dcel.undirected_data ≡ edges_data given.edges.items) }
+    ensures faces { IfOk result (λ dcel. dcel.face_data ≡ given.faces.items) }
+    ensures vertex_anchors { IfOk result (HasVertexAnchors links.entry anchors.entry) }
+    ensures face_anchors { IfOk result (HasFaceAnchors links.entry anchors.entry) }
+    ensures mesh { IfOk result IsMesh }
+    ensures reason { IfErr result (λ refused. RefusesGiven V DE UE F (claimed links.entry given) (length given.edges.items) anchors.entry refused.reason) }
+    ensures back { IfErr result (λ refused. refused.back ≡ given) }
+{
+    let prev = match check(&alloc, links, anchors, &given) {
         Ok(prev) => prev,
         Err(reason) => {
             return Err(RefusedLinks {
@@ -242,108 +232,110 @@ pub fn from_anchored_links<V: Drop, DE: Drop, UE: Drop, F: Drop, A: Allocator + 
             back: given,
         });
     };
+    put(&mut store, links, &prev, anchors, given);
+    Ok(Dcel { store, removal })
+}
+
+// Writes what is given into an empty store.
+fn put<V: Drop, DE: Drop, UE: Drop, F: Drop, A: Allocator>(
+    store: &mut Store<V, DE, UE, F, A>,
+    links: Links<'_>,
+    prev: &[u32],
+    anchors: Option<Anchors<'_>>,
+    given: MeshData<V, DE, UE, F, A>,
+)
+    requires empty { store.old ≡ record empty {
+      vertex_room = store.old.vertex_room;
+      edge_room = store.old.edge_room;
+      face_room = store.old.face_room;
+    } }
+    requires places { HasPlaces store.old (vec_len given.vertices) (vec_len given.edges) (vec_len given.faces) }
+    requires edges { length links.next.now / 2 ≡ length given.edges.items }
+    requires mesh { IsMeshOf (claimed links given) prev.now }
+    requires anchors { IfSome anchors (λ chosen. AreRight (claimed links given) chosen.vertices.now chosen.faces.now) }
+    ensures { store.new ≡ given_stored store.old links.entry prev.now anchors.entry given }
+{
+    let Links { next, origin, face } = links;
     let MeshData {
         vertices,
         edges,
         faces,
     } = given;
-    put_anchored_mesh(
-        &mut store,
-        next,
-        &prev,
-        origin,
-        face,
-        anchors.vertices,
-        anchors.faces,
-        vertices,
-        edges,
-        faces,
-    );
-    Ok(Dcel { store, removal })
+    match anchors {
+        Some(anchors) => put_anchored_mesh(
+            store,
+            next,
+            prev,
+            origin,
+            face,
+            anchors.vertices,
+            anchors.faces,
+            vertices,
+            edges,
+            faces,
+        ),
+        None => put_mesh(store, next, prev, origin, face, vertices, edges, faces),
+    }
 }
 
-// Looks for what is wrong with links and the number of data; if it is nothing, returns the links
-// backwards.
+// Looks for what is wrong with what is given; if it is nothing, returns the links backwards.
 fn check<V, DE, UE, F, A: Allocator + Clone>(
     alloc: &A,
-    next: &[u32],
-    origin: &[u32],
-    face: &[u32],
+    links: Links<'_>,
+    anchors: Option<Anchors<'_>>,
     given: &MeshData<V, DE, UE, F, A>,
 ) -> Result<Vec<u32, A>, LinksError>
-    ensures edges { OnOk result (length next.now / 2 ≡ length given.now.edges.items) }
-    ensures mesh { IfOk result (λ prev. IsMeshOf (claim next.now origin.now face.now (length given.now.vertices.items) (length given.now.faces.items)) prev.items) }
-    ensures reason { IfErr result (Refuses V DE UE F (claim next.now origin.now face.now (length given.now.vertices.items) (length given.now.faces.items)) (length given.now.edges.items)) }
+    ensures edges { OnOk result (length links.entry.next.now / 2 ≡ length given.now.edges.items) }
+    ensures mesh { IfOk result (λ prev. IsMeshOf (claimed links.entry given.now) prev.items) }
+    ensures anchors { OnOk result (IfSome anchors.entry (λ chosen. AreRight (claimed links.entry given.now) chosen.vertices.now chosen.faces.now)) }
+    ensures reason { IfErr result (RefusesGiven V DE UE F (claimed links.entry given.now) (length given.now.edges.items) anchors.entry) }
 {
-    if !has_edges(next, given) {
+    if links.next.len() / 2 != given.edges.len() {
         return Err(LinksError::Edges);
     }
-    find_prev(alloc, next, origin, face, given)
+    match anchors {
+        Some(anchors) => check_anchored(alloc, links, anchors, given),
+        None => find_prev(alloc, links, given),
+    }
 }
 
-// Does the same with anchors.
+// Looks for what is wrong with links and anchors.
 fn check_anchored<V, DE, UE, F, A: Allocator + Clone>(
     alloc: &A,
-    next: &[u32],
-    origin: &[u32],
-    face: &[u32],
+    links: Links<'_>,
     anchors: Anchors<'_>,
     given: &MeshData<V, DE, UE, F, A>,
 ) -> Result<Vec<u32, A>, LinksError>
-    ensures edges { OnOk result (length next.now / 2 ≡ length given.now.edges.items) }
-    ensures vertices { OnOk result (length anchors.entry.vertices.now ≡ length given.now.vertices.items) }
-    ensures faces { OnOk result (length anchors.entry.faces.now ≡ length given.now.faces.items) }
-    ensures mesh { IfOk result (λ prev. IsMeshOf (claim next.now origin.now face.now (length given.now.vertices.items) (length given.now.faces.items)) prev.items) }
-    ensures vertex_anchors { OnOk result (AreAnchors origin.now anchors.entry.vertices.now) }
-    ensures face_anchors { OnOk result (AreAnchors face.now anchors.entry.faces.now) }
-    ensures reason { IfErr result (RefusesAnchored V DE UE F (claim next.now origin.now face.now (length given.now.vertices.items) (length given.now.faces.items)) (length given.now.edges.items)
-        anchors.entry.vertices.now anchors.entry.faces.now) }
+    ensures mesh { IfOk result (λ prev. IsMeshOf (claimed links.entry given.now) prev.items) }
+    ensures anchors { OnOk result (AreRight (claimed links.entry given.now) anchors.entry.vertices.now anchors.entry.faces.now) }
+    ensures reason { (edges : ℕ) → IfErr result (RefusesAnchored V DE UE F (claimed links.entry given.now) edges anchors.entry.vertices.now anchors.entry.faces.now) }
 {
-    if !has_edges(next, given) {
-        return Err(LinksError::Edges);
-    }
     if anchors.vertices.len() != given.vertices.len() {
         return Err(LinksError::Anchors);
     }
     if anchors.faces.len() != given.faces.len() {
         return Err(LinksError::Anchors);
     }
-    let prev = find_prev(alloc, next, origin, face, given)?;
-    if let Some(vertex) = find_wrong_anchor(origin, anchors.vertices) {
+    let prev = find_prev(alloc, links, given)?;
+    if let Some(vertex) = find_wrong_anchor(links.origin, anchors.vertices) {
         return Err(LinksError::VertexAnchor(vertex));
     }
-    if let Some(face) = find_wrong_anchor(face, anchors.faces) {
+    if let Some(face) = find_wrong_anchor(links.face, anchors.faces) {
         return Err(LinksError::FaceAnchor(face));
     }
     Ok(prev)
 }
 
-// Returns whether there are the data of as many edges as the lists have.
-fn has_edges<V, DE, UE, F, A: Allocator>(next: &[u32], given: &MeshData<V, DE, UE, F, A>) -> bool
-    ensures { IsTrue result ↔ (length next.now / 2 ≡ length given.now.edges.items) }
-{
-    next.len() / 2 == given.edges.len()
-}
-
 // Looks for what is wrong with links; if it is nothing, returns the links backwards.
 fn find_prev<V, DE, UE, F, A: Allocator + Clone>(
     alloc: &A,
-    next: &[u32],
-    origin: &[u32],
-    face: &[u32],
+    links: Links<'_>,
     given: &MeshData<V, DE, UE, F, A>,
 ) -> Result<Vec<u32, A>, LinksError>
-    ensures mesh { IfOk result (λ prev. IsMeshOf (claim next.now origin.now face.now (length given.now.vertices.items) (length given.now.faces.items)) prev.items) }
-    ensures reason { IfErr result (RefusesLinks V DE UE F (claim next.now origin.now face.now (length given.now.vertices.items) (length given.now.faces.items))) }
+    ensures mesh { IfOk result (λ prev. IsMeshOf (claimed links.entry given.now) prev.items) }
+    ensures reason { IfErr result (RefusesLinks V DE UE F (claimed links.entry given.now)) }
 {
-    match check_links(
-        alloc,
-        next,
-        origin,
-        face,
-        given.vertices.len(),
-        given.faces.len(),
-    ) {
+    match check_links(alloc, links, given.vertices.len(), given.faces.len()) {
         Ok(Ok(prev)) => Ok(prev),
         Ok(Err(fault)) => Err(LinksError::Links(fault)),
         Err(_) => Err(LinksError::OutOfMemory),

@@ -1,7 +1,7 @@
-use Rattle.std.proofs.Common.{◌≡◌, ◌+◌, length, subst, sym, arith}
-use Rattle.dcel_links.specs.Claims.{claim}
+use Rattle.std.proofs.Common.{◌≡◌, ◌∙◌, ◌+◌, ap, length, subst, sym, arith}
 use Rattle.dcel_links.specs.Meshes.{IsLinked}
 use Rattle.dcel_exchange.specs.Corners.{corners_of}
+use Rattle.dcel_exchange.specs.Links.{lists_claim}
 use Rattle.dcel_exchange.specs.Meshes.{AreLinks, HasFaces}
 use Rattle.dcel_exchange.specs.Reasons.{Leaves, Means, reason_for}
 use Rattle.std.specs.List.{All}
@@ -20,23 +20,24 @@ returns-in-Err-clause-left g c =
 
 -- the links that were listed are those of the faces, and of the mesh that was made
 links : (g : _) (c : goal.After-drop-links-in-Ok-from_links-3 g) → AreLinks (length c.args.vertices.items) (corners_of c.args.faces.now)
-    (claim c.in-Ok.links.next.items c.in-Ok.links.origin.items c.in-Ok.links.face.items (length c.args.vertices.items) (length c.args.faces.now + 1))
+    (lists_claim c.in-Ok.links (length c.args.vertices.items) (length c.args.faces.now + 1))
 links g c =
     let vertices : c.len.result ≡ length c.args.vertices.items = omega (arith, c.len.ensures, c.args.vertices.ok) in
-    subst (λ n. AreLinks n (corners_of c.args.faces.now) (claim c.in-Ok.links.next.items c.in-Ok.links.origin.items c.in-Ok.links.face.items n (length c.args.faces.now + 1)))
+    subst (λ n. AreLinks n (corners_of c.args.faces.now) (lists_claim c.in-Ok.links n (length c.args.faces.now + 1)))
     vertices c.in-Ok.ensures.links
 
 linked : (g : _) (c : goal.After-drop-links-in-Ok-from_links-3 g) → IsLinked c.in-Ok-from_links.dcel.shape
-    (claim c.in-Ok.links.next.items c.in-Ok.links.origin.items c.in-Ok.links.face.items (length c.args.vertices.items) (length c.args.faces.now + 1))
+    (lists_claim c.in-Ok.links (length c.args.vertices.items) (length c.args.faces.now + 1))
 linked g c =
     let faces : length c.in-Ok-make_data.face_data.items ≡ length c.args.faces.now + 1 = omega (arith, c.in-Ok-make_data.ensures.faces) in
-    rw (← c.deref.ensures.value, ← c.deref-2.ensures.value, ← c.deref-3.ensures.value, ← faces) c.in-Ok-from_links.ensures.links
+    subst (IsLinked c.in-Ok-from_links.dcel.shape) (c.as_links.ensures (length c.args.vertices.items) (length c.in-Ok-make_data.face_data.items) ∙ ap (lists_claim c.in-Ok.links (length c.args.vertices.items)) faces)
+    c.in-Ok-from_links.ensures.links
 
 faces : (g : _) (c : goal.After-drop-links-in-Ok-from_links-3 g)
     → HasFaces c.in-Ok-from_links.dcel.shape (length c.args.vertices.items) (corners_of c.args.faces.now)
 faces g c =
     has_faces c.in-Ok-from_links.dcel.shape c.the_headline.ensures.faces (length c.args.vertices.items) (corners_of c.args.faces.now)
-    (claim c.in-Ok.links.next.items c.in-Ok.links.origin.items c.in-Ok.links.face.items (length c.args.vertices.items) (length c.args.faces.now + 1)) (linked g c) (links g c)
+    (lists_claim c.in-Ok.links (length c.args.vertices.items) (length c.args.faces.now + 1)) (linked g c) (links g c)
 
 pub returns-in-Ok-from_links-clause-faces : goal.returns-in-Ok-from_links-clause-faces
 returns-in-Ok-from_links-clause-faces g c = faces g c
@@ -44,13 +45,13 @@ returns-in-Ok-from_links-clause-faces g c = faces g c
 pub returns-in-Ok-from_links-clause-corners : goal.returns-in-Ok-from_links-clause-corners
 returns-in-Ok-from_links-clause-corners g c =
     has_corners c.in-Ok-from_links.dcel.shape (length c.args.vertices.items) (corners_of c.args.faces.now)
-    (claim c.in-Ok.links.next.items c.in-Ok.links.origin.items c.in-Ok.links.face.items (length c.args.vertices.items) (length c.args.faces.now + 1))
+    (lists_claim c.in-Ok.links (length c.args.vertices.items) (length c.args.faces.now + 1))
     (linked g c) (links g c) (faces g c)
 
 pub returns-in-Ok-from_links-clause-simple : goal.returns-in-Ok-from_links-clause-simple
 returns-in-Ok-from_links-clause-simple g c =
     is_simple c.in-Ok-from_links.dcel.shape (length c.args.vertices.items) (corners_of c.args.faces.now)
-    (claim c.in-Ok.links.next.items c.in-Ok.links.origin.items c.in-Ok.links.face.items (length c.args.vertices.items) (length c.args.faces.now + 1))
+    (lists_claim c.in-Ok.links (length c.args.vertices.items) (length c.args.faces.now + 1))
     (linked g c) (links g c)
 
 pub returns-in-Ok-from_links-clause-half_data : goal.returns-in-Ok-from_links-clause-half_data
@@ -72,16 +73,18 @@ returns-clause-left g c =
     let vertices : c.len.result ≡ length c.args.vertices.items = omega (arith, c.len.ensures, c.args.vertices.ok) in
     let faces : length c.in-Ok-make_data.face_data.items ≡ length c.args.faces.now + 1 = omega (arith, c.in-Ok-make_data.ensures.faces) in
     let links : AreLinks (length c.args.vertices.items) (corners_of c.args.faces.now)
-    (claim c.in-Ok.links.next.items c.in-Ok.links.origin.items c.in-Ok.links.face.items (length c.args.vertices.items) (length c.args.faces.now + 1)) =
-    subst (λ n. AreLinks n (corners_of c.args.faces.now) (claim c.in-Ok.links.next.items c.in-Ok.links.origin.items c.in-Ok.links.face.items n (length c.args.faces.now + 1)))
+    (lists_claim c.in-Ok.links (length c.args.vertices.items) (length c.args.faces.now + 1)) =
+    subst (λ n. AreLinks n (corners_of c.args.faces.now) (lists_claim c.in-Ok.links n (length c.args.faces.now + 1)))
     vertices c.in-Ok.ensures.links in
     let refuses : Refuses g.row.V.Denot g.row.DE.Denot g.row.UE.Denot g.row.F.Denot
-    (claim c.in-Ok.links.next.items c.in-Ok.links.origin.items c.in-Ok.links.face.items (length c.args.vertices.items) (length c.args.faces.now + 1))
+    (lists_claim c.in-Ok.links (length c.args.vertices.items) (length c.args.faces.now + 1))
     (length c.in-Ok-make_data.edge_data.items) c.in-Err-from_links.refused.reason =
-    rw (← c.deref.ensures.value, ← c.deref-2.ensures.value, ← c.deref-3.ensures.value, ← faces) c.in-Err-from_links.ensures.reason in
+    subst (λ claimed. Refuses g.row.V.Denot g.row.DE.Denot g.row.UE.Denot g.row.F.Denot claimed (length c.in-Ok-make_data.edge_data.items) c.in-Err-from_links.refused.reason)
+    (c.as_links.ensures (length c.args.vertices.items) (length c.in-Ok-make_data.face_data.items) ∙ ap (lists_claim c.in-Ok.links (length c.args.vertices.items)) faces)
+    c.in-Err-from_links.ensures.reason in
     subst (Leaves g.row.V.Denot g.row.DE.Denot g.row.UE.Denot g.row.F.Denot (length c.args.vertices.items) (corners_of c.args.faces.now)) (sym c.reason_of.ensures)
     (leaves g.row.V.Denot g.row.DE.Denot g.row.UE.Denot g.row.F.Denot (length c.args.vertices.items) (corners_of c.args.faces.now)
     (reason_for c.in-Err-from_links.refused.reason)
     (reason_told g.row.V.Denot g.row.DE.Denot g.row.UE.Denot g.row.F.Denot
-    (claim c.in-Ok.links.next.items c.in-Ok.links.origin.items c.in-Ok.links.face.items (length c.args.vertices.items) (length c.args.faces.now + 1))
+    (lists_claim c.in-Ok.links (length c.args.vertices.items) (length c.args.faces.now + 1))
     (length c.in-Ok-make_data.edge_data.items) (length c.args.vertices.items) (corners_of c.args.faces.now) links c.in-Err-from_links.refused.reason refuses))

@@ -10,8 +10,8 @@ loop-link-init g c =
       face = gathers-none (λ link. link.face) c.args.dcel.now.shape c.new-face.result.items c.into_iter-link-iterator.result c.new-face.ensures.items all;
     }
 
-pub returns-clause-links : goal.returns-clause-links
-returns-clause-links g c =
+pub returns : goal.returns
+returns g c =
     let s = c.args.dcel.now.shape in
     let none = c.in-None.ensures.steps.0 in
     links_linked c.args.dcel.now c.every_mesh.ensures c.requires c.loop-link.next.items c.loop-link.origin.items c.loop-link.face.items

@@ -1,10 +1,5 @@
-use Rattle.std.proofs.Common.{refl}
 use Rattle.std.proofs.Common.{◌≡◌, ◌<◌, length, sym, subst, arith, rules}
 use Rattle.dcel_fixed.proofs.Halves.{rev_within}
-use Rattle.dcel_links.specs.Checks.{Fit}
-use Rattle.dcel_links.specs.Claims.{Claim, claim_of}
-use Rattle.dcel_links.specs.Stages.{FaceRounds, Fitting}
-use Rattle.dcel_links.proofs.Stages.{comes_on}
 use Rattle.dcel_links.proofs.links.check_fit.Goals as goal
 
 pub offset_bounds-origin-other_half : goal.offset_bounds-origin-other_half
@@ -20,9 +15,3 @@ bounds-origin-other_half c =
     let within = rev_within c.loop-half.half (length c.args.links.next.now) c.requires.lists.even c.loop-half-test.true in
     let below : c.other_half.result < length c.args.links.next.now = subst (λ k. k < length c.args.links.next.now) (sym c.other_half.ensures.value) within in
     omega arith
-
-pub returns-clause-passed : goal.returns-clause-passed
-returns-clause-passed c =
-    let claimed : Claim = claim_of c.args.links c.args.vertices c.args.faces in
-    let fit : Fit claimed = search rules in
-    comes_on claimed Fitting FaceRounds refl c.requires.passed fit

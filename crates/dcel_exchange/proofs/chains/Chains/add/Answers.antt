@@ -27,11 +27,11 @@ returns-else-hangs_at g c =
     let last = c.args.self.now.last.items in
     let before = c.args.self.now.before.items in
     let v = length last in
-    let odd = c.other_half.ensures ∙ rev_next v starts origin last before c.requires.chained c.args.from c.args.to in
+    let odd = c.other_half.ensures.value ∙ rev_next v starts origin last before c.requires.chained c.args.from c.args.to in
     both_ok c.put-else-hangs_at.result _ _ _
     (λ lasts befores. chained_put v starts origin last before c.requires.chained c.args.from c.args.to c.args.to c.args.from c.other_half.result (inr odd)
     (ap (slice_index (origin ++ c.args.from ∷ c.args.to ∷ [])) odd ∙ second_starts v starts origin last before c.requires.chained c.args.from c.args.to)
-    (ap (λ h. slice_index (origin ++ c.args.from ∷ c.args.to ∷ []) (rev h)) c.other_half.ensures
+    (ap (λ h. slice_index (origin ++ c.args.from ∷ c.args.to ∷ []) (rev h)) c.other_half.ensures.value
     ∙ ap (slice_index (origin ++ c.args.from ∷ c.args.to ∷ [])) (rev-rev (length origin))
     ∙ first_starts v starts origin last before c.requires.chained c.args.from c.args.to)
     (hangs_there starts c.args.from c.args.to c.requires.apart (sym c.hangs_at.ensures ∙ c.if-hangs_at.false)) c.requires.end

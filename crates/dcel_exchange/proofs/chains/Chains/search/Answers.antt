@@ -9,7 +9,7 @@ loop-next-init g c =
 
 pub bounds-origin-other_half : goal.bounds-origin-other_half
 bounds-origin-other_half g c =
-    rw c.other_half.ensures
+    rw c.other_half.ensures.value
     (search_within (length c.args.self.now.last.items) c.args.self.now.starts.items c.args.origin.now c.args.self.now.last.items c.args.self.now.before.items c.requires.chained
     c.args.end c.args.other c.in-Some.half (rw c.in-Some.is at c.loop-next.invariant))
 
@@ -17,7 +17,7 @@ pub loop-next-preserved : goal.loop-next-preserved
 loop-next-preserved g c =
     search_goes_on (length c.args.self.now.last.items) c.args.self.now.starts.items c.args.origin.now c.args.self.now.last.items c.args.self.now.before.items c.requires.chained
     c.args.end c.args.other c.in-Some.half c.index-next-in-Some.result.now (rw c.in-Some.is at c.loop-next.invariant)
-    (λ same. c.if-origin-other_half.false (ap (slice_index c.args.origin.now) c.other_half.ensures ∙ same)) c.index-next-in-Some.ensures
+    (λ same. c.if-origin-other_half.false (ap (slice_index c.args.origin.now) c.other_half.ensures.value ∙ same)) c.index-next-in-Some.ensures
 
 pub returns : goal.returns
 returns g c =
