@@ -1,12 +1,13 @@
 //! A mesh made from links that are given as lists, with anchors that are chosen or given.
 
 ghost use Rattle.std.specs.Prelude.{◌≡◌, ℕ, ◌/◌, ◌<◌, IfErr, IfOk, IfSome, OnOk, length, vec_len};
+ghost use Rattle.dcel_edits.specs.Adding.{IsEmpty};
 ghost use Rattle.dcel_links.specs.Claims.{IsMeshOf};
 ghost use Rattle.dcel_links.specs.Meshes.{IsLinked};
 ghost use Rattle.dcel_maps.specs.Numbers.{IsLast};
 ghost use Rattle.dcel_maps.specs.Shapes.{IsMesh, Mesh, face_anchor, face_count, vertex_anchor};
 ghost use Rattle.dcel_store.specs.EdgeLists.{edges_data, halves_data};
-ghost use Rattle.dcel_store.specs.Lists.{HasPlaces, empty};
+ghost use Rattle.dcel_store.specs.Lists.{HasPlaces};
 ghost use Rattle.spade_dcel.specs.Linked.{AreRight, HasFaceAnchors, HasVertexAnchors, Refuses, RefusesAnchored, RefusesGiven, RefusesLinks, claimed, given_stored};
 
 use crate::dcel::Dcel;
@@ -244,11 +245,7 @@ fn put<V: Drop, DE: Drop, UE: Drop, F: Drop, A: Allocator>(
     anchors: Option<Anchors<'_>>,
     given: MeshData<V, DE, UE, F, A>,
 )
-    requires empty { store.old ≡ record empty {
-      vertex_room = store.old.vertex_room;
-      edge_room = store.old.edge_room;
-      face_room = store.old.face_room;
-    } }
+    requires empty { IsEmpty store.old }
     requires places { HasPlaces store.old (vec_len given.vertices) (vec_len given.edges) (vec_len given.faces) }
     requires edges { length links.next.now / 2 ≡ length given.edges.items }
     requires mesh { IsMeshOf (claimed links given) prev.now }
