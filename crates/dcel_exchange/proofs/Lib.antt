@@ -8,7 +8,7 @@ pub mod Borders
 pub mod FaceWords
 pub mod Ranges
 pub mod Defaulted
-pub mod AnchorLists
+mod ListedAnchors
 pub mod Placed
 pub mod SameEnds
 pub mod Refusals

@@ -1,5 +1,5 @@
 -- What marks on faces and a count say of a claim.
-use Rattle.std.proofs.Common.{◌≡◌, ◌≢◌, ◌⊎◌, ℕ, ◌+◌, ◌-◌, ◌/◌, ◌<◌, ◌≤◌, Bool, false, List, length, get_or, sym, ap, ◌∙◌, arith}
+use Rattle.std.proofs.Common.{◌≡◌, ◌≢◌, ℕ, ◌+◌, ◌-◌, ◌/◌, ◌<◌, ◌≤◌, Bool, false, List, length, get_or, sym, ap, ◌∙◌, arith}
 use Rattle.dcel_maps.specs.Maps.{count}
 use Rattle.dcel_links.specs.Checks.{HasEuler, HasRounds, UsesFaces}
 use Rattle.dcel_links.specs.Claims.{Claim, halves}

@@ -2,7 +2,7 @@
 use Rattle.std.proofs.Common.{◌≡◌, ℕ, ◌*◌, ◌/◌, ◌<◌, true, List, length, replicate, slice_index, slice_index_or, Option, Some, None, IfSome, vec_len, refl, sym, ap, ◌∙◌, subst, arith}
 use Rattle.std.proofs.lemmas.List.{length-map, length-replicate}
 use Rattle.dcel_store.proofs.Lengths.{length-halves_data}
-use Rattle.dcel_store.specs.EdgeLists.{edges_data, halves_data}
+use Rattle.dcel_store.specs.EdgeLists.{edges_data}
 use Rattle.dcel_store.specs.Lists.{Lists}
 use Rattle.dcel_store.specs.declared.EdgeData.{EdgeData}
 use Rattle.dcel_maps.specs.Maps.{Live, Map}

@@ -3,7 +3,7 @@ use Rattle.dcel_links.specs.Meshes.{IsLinked}
 use Rattle.dcel_exchange.specs.Corners.{corners_of}
 use Rattle.dcel_exchange.specs.Links.{lists_claim}
 use Rattle.dcel_exchange.specs.Meshes.{AreLinks, HasFaces}
-use Rattle.dcel_exchange.specs.Reasons.{Leaves, Means, reason_for}
+use Rattle.dcel_exchange.specs.Reasons.{Means}
 use Rattle.std.specs.List.{All}
 use Rattle.spade_dcel.specs.Linked.{Refuses}
 use Rattle.dcel_exchange.proofs.Borders.{reason_told}
@@ -68,8 +68,8 @@ pub returns-in-Ok-from_links-clause-face_data : goal.returns-in-Ok-from_links-cl
 returns-in-Ok-from_links-clause-face_data g c =
     subst (All g.F.Default.is_default) (sym c.in-Ok-from_links.ensures.faces) c.in-Ok-make_data.ensures.each_face
 
-pub returns-clause-left : goal.returns-clause-left
-returns-clause-left g c =
+pub returns-clause-reason : goal.returns-clause-reason
+returns-clause-reason g c =
     let vertices : c.len.result ≡ length c.args.vertices.items = omega (arith, c.len.ensures, c.args.vertices.ok) in
     let faces : length c.in-Ok-make_data.face_data.items ≡ length c.args.faces.now + 1 = omega (arith, c.in-Ok-make_data.ensures.faces) in
     let links : AreLinks (length c.args.vertices.items) (corners_of c.args.faces.now)
@@ -82,9 +82,12 @@ returns-clause-left g c =
     subst (λ claimed. Refuses g.row.V.Denot g.row.DE.Denot g.row.UE.Denot g.row.F.Denot claimed (length c.in-Ok-make_data.edge_data.items) c.in-Err-from_links.refused.reason)
     (c.as_links.ensures (length c.args.vertices.items) (length c.in-Ok-make_data.face_data.items) ∙ ap (lists_claim c.in-Ok.links (length c.args.vertices.items)) faces)
     c.in-Err-from_links.ensures.reason in
-    subst (Leaves g.row.V.Denot g.row.DE.Denot g.row.UE.Denot g.row.F.Denot (length c.args.vertices.items) (corners_of c.args.faces.now)) (sym c.reason_of.ensures)
-    (leaves g.row.V.Denot g.row.DE.Denot g.row.UE.Denot g.row.F.Denot (length c.args.vertices.items) (corners_of c.args.faces.now)
-    (reason_for c.in-Err-from_links.refused.reason)
+    subst (Means (length c.args.vertices.items) (corners_of c.args.faces.now)) (sym c.reason_of.ensures)
     (reason_told g.row.V.Denot g.row.DE.Denot g.row.UE.Denot g.row.F.Denot
     (lists_claim c.in-Ok.links (length c.args.vertices.items) (length c.args.faces.now + 1))
-    (length c.in-Ok-make_data.edge_data.items) (length c.args.vertices.items) (corners_of c.args.faces.now) links c.in-Err-from_links.refused.reason refuses))
+    (length c.in-Ok-make_data.edge_data.items) (length c.args.vertices.items) (corners_of c.args.faces.now) links c.in-Err-from_links.refused.reason refuses)
+
+pub returns-clause-left : goal.returns-clause-left
+returns-clause-left g c =
+    leaves g.row.V.Denot g.row.DE.Denot g.row.UE.Denot g.row.F.Denot (length c.args.vertices.items) (corners_of c.args.faces.now) c.reason_of.result
+    (returns-clause-reason g c)

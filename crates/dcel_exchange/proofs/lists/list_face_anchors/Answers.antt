@@ -1,6 +1,6 @@
 use Rattle.std.proofs.Common.{◌∙◌, refl}
 use Rattle.dcel_maps.specs.Shapes.{face_anchor, face_count}
-use Rattle.dcel_exchange.proofs.AnchorLists.{gathers-none}
+use Rattle.dcel_exchange.proofs.ListedAnchors.{gathers-none}
 use Rattle.dcel_exchange.proofs.lists.list_face_anchors.Goals as goal
 
 pub loop-face-init : goal.loop-face-init

@@ -1,5 +1,5 @@
 use Rattle.dcel_maps.specs.Shapes.{face_anchor}
-use Rattle.dcel_exchange.proofs.AnchorLists.{Gathers}
+use Rattle.dcel_exchange.proofs.ListedAnchors.{Gathers}
 use Rattle.dcel_exchange.proofs.lists.list_face_anchors.Given as goal
 
 abbrev pub invariant-loop-face : goal.invariant-loop-face

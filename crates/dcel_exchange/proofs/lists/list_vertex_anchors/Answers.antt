@@ -1,6 +1,6 @@
 use Rattle.std.proofs.Common.{◌∙◌, refl}
 use Rattle.dcel_maps.specs.Shapes.{vertex_anchor}
-use Rattle.dcel_exchange.proofs.AnchorLists.{gathers-none}
+use Rattle.dcel_exchange.proofs.ListedAnchors.{gathers-none}
 use Rattle.dcel_exchange.proofs.lists.list_vertex_anchors.Goals as goal
 
 pub loop-vertex-init : goal.loop-vertex-init

@@ -1,5 +1,5 @@
 use Rattle.dcel_maps.specs.Shapes.{vertex_anchor}
-use Rattle.dcel_exchange.proofs.AnchorLists.{Gathers}
+use Rattle.dcel_exchange.proofs.ListedAnchors.{Gathers}
 use Rattle.dcel_exchange.proofs.lists.list_vertex_anchors.Given as goal
 
 abbrev pub invariant-loop-vertex : goal.invariant-loop-vertex

@@ -1,7 +1,5 @@
 use Rattle.std.proofs.Common.{◌∙◌, sym, subst}
-use Rattle.dcel_links.specs.Claims.{claim_of}
 use Rattle.dcel_links.specs.Meshes.{IsLinked}
-use Rattle.dcel_maps.specs.Shapes.{face_count}
 use Rattle.dcel_exchange.proofs.Again.{err_gives, ok_gives, one_shape, only_memory}
 use Rattle.dcel_exchange.proofs.lists.with_data.Goals as goal
 
