@@ -38,6 +38,9 @@ typedef struct {
     bool is_open;
 } dcel_mesh;
 
+/* What a dcel_mesh begins with. */
+#define DCEL_MESH_INIT {NULL, false}
+
 /* What calls return. */
 typedef enum {
     DCEL_DONE = 0,
