@@ -1,0 +1,326 @@
+/* Calls each function of the library on small meshes, and compares what it answers. */
+#include "dcel.h"
+
+#include <inttypes.h>
+#include <stdio.h>
+#include <stdlib.h>
+#include <string.h>
+
+static int checks = 0;
+
+#define CHECK(holds)                                                     \
+    do {                                                                 \
+        checks++;                                                        \
+        if (!(holds)) {                                                  \
+            fprintf(stderr, "%s:%d: %s\n", __FILE__, __LINE__, #holds); \
+            exit(EXIT_FAILURE);                                          \
+        }                                                                \
+    } while (0)
+
+/* A triangle round vertex 3. Half edges 0, 2 and 4 lie on the outer face. */
+static void make_round(dcel_mesh *mesh) {
+    uint32_t vertex = 9;
+    CHECK(dcel_new(mesh) == DCEL_DONE);
+    CHECK(dcel_new_triangle(mesh, 7, 8, 9) == DCEL_DONE);
+    CHECK(dcel_append_unconnected_vertex(mesh, 10, &vertex) == DCEL_DONE && vertex == 3);
+    CHECK(dcel_insert_into_triangle(mesh, vertex, 1) == DCEL_DONE);
+}
+
+/* A line from vertex 0 to 1, and vertex 2 without an edge. */
+static void make_line(dcel_mesh *mesh) {
+    uint32_t vertex;
+    CHECK(dcel_new(mesh) == DCEL_DONE);
+    for (uint64_t datum = 20; datum < 23; datum++)
+        CHECK(dcel_append_unconnected_vertex(mesh, datum, &vertex) == DCEL_DONE);
+    CHECK(dcel_can_setup_initial_two_vertices(mesh, 0, 1) && !dcel_can_setup_initial_two_vertices(mesh, 0, 0));
+    CHECK(dcel_setup_initial_two_vertices(mesh, 0, 0) == DCEL_SAME_VERTEX);
+    CHECK(dcel_setup_initial_two_vertices(mesh, 0, 3) == DCEL_NO_SUCH_VERTEX);
+    CHECK(dcel_setup_initial_two_vertices(mesh, 0, 1) == DCEL_DONE);
+}
+
+/* Puts the border loop of a vertex there, and returns how long it is. */
+static size_t border_of(dcel_mesh *mesh, uint32_t vertex, uint32_t border[8]) {
+    uint32_t out[8];
+    uint64_t count;
+    CHECK(dcel_out_edges(mesh, vertex, out, 8, &count) == DCEL_DONE && count <= 8);
+    for (size_t i = 0; i < count; i++)
+        border[i] = (uint32_t)dcel_next(mesh, out[count - 1 - i]);
+    return (size_t)count;
+}
+
+/* A mesh that isn't open answers all calls, and is given nothing. */
+static void check_none(void) {
+    dcel_mesh mesh = DCEL_MESH_INIT, other = DCEL_MESH_INIT;
+    uint32_t number = 77, list[3] = {77, 77, 77};
+    uint64_t datum = 77, needed = 77;
+    bool answer = true;
+    dcel_free(&mesh);
+    CHECK(dcel_clone(&mesh, &other) == DCEL_NO_MESH);
+    CHECK(dcel_clear(&mesh) == DCEL_NO_MESH && dcel_reserve_capacity(&mesh, 1, 1, 1) == DCEL_NO_MESH);
+    CHECK(dcel_num_vertices(&mesh) == 0 && dcel_num_directed_edges(&mesh) == 0);
+    CHECK(dcel_num_undirected_edges(&mesh) == 0 && dcel_num_faces(&mesh) == 0);
+    CHECK(dcel_next(&mesh, 0) == DCEL_NONE && dcel_out_edge(&mesh, 0) == DCEL_NONE);
+    CHECK(dcel_get_edge_from_neighbors(&mesh, 0, 1) == DCEL_NONE && dcel_adjacent_edge(&mesh, 0) == DCEL_NONE);
+    CHECK(dcel_out_edges(&mesh, 0, list, 3, &needed) == DCEL_NO_MESH && needed == 0 && list[0] == 77);
+    CHECK(dcel_vertex_data(&mesh, 0, &datum) == DCEL_NO_MESH && datum == 77);
+    CHECK(dcel_update_face(&mesh, 0, 5) == DCEL_NO_MESH);
+    CHECK(dcel_append_unconnected_vertex(&mesh, 1, &number) == DCEL_NO_MESH && number == 77);
+    CHECK(dcel_flip_cw(&mesh, 0) == DCEL_NO_MESH && dcel_new_triangle(&mesh, 1, 2, 3) == DCEL_NO_MESH);
+    CHECK(dcel_removal_state(&mesh) == DCEL_CLOSED && !dcel_sanity_check(&mesh) && !dcel_has_room(&mesh, 0, 0, 0));
+    CHECK(dcel_is_edge_strip(&mesh, list, 3, &answer) == DCEL_NO_MESH && answer);
+    CHECK(strcmp(dcel_status_name(DCEL_NO_MESH), "NoMesh") == 0 && *dcel_status_name(99) == '\0');
+}
+
+static void check_steps(void) {
+    dcel_mesh mesh = DCEL_MESH_INIT;
+    make_round(&mesh);
+    CHECK(dcel_num_vertices(&mesh) == 4 && dcel_num_undirected_edges(&mesh) == 6);
+    CHECK(dcel_num_directed_edges(&mesh) == 12 && dcel_num_faces(&mesh) == 4);
+    dcel_half_edge links, all[13];
+    uint64_t needed;
+    CHECK(dcel_directed_edges(&mesh, all, 5, &needed) == DCEL_SHORT && needed == 12);
+    all[12].next = 77;
+    CHECK(dcel_directed_edges(&mesh, all, 13, &needed) == DCEL_DONE && needed == 12 && all[12].next == 77);
+    for (uint32_t h = 0; h < 12; h++) {
+        dcel_directed_edge(&mesh, h, &links);
+        CHECK(memcmp(&links, &all[h], sizeof links) == 0);
+        CHECK(dcel_next(&mesh, h) == links.next && dcel_prev(&mesh, h) == links.prev);
+        CHECK(dcel_rev(&mesh, h) == (h ^ 1) && dcel_face(&mesh, h) == links.face);
+        CHECK(dcel_from(&mesh, h) == links.origin && dcel_to(&mesh, h) == all[h ^ 1].origin);
+        CHECK(dcel_ccw(&mesh, h) == (links.prev ^ 1) && dcel_cw(&mesh, h) == all[h ^ 1].next);
+        CHECK(dcel_get_edge_from_neighbors(&mesh, links.origin, all[h ^ 1].origin) == h);
+    }
+    dcel_directed_edge(&mesh, 12, &links);
+    CHECK(links.next == DCEL_NO_LINK && links.face == DCEL_NO_LINK && dcel_next(&mesh, 12) == DCEL_NONE);
+    CHECK(dcel_out_edge(&mesh, 4) == DCEL_NONE && dcel_adjacent_edge(&mesh, 4) == DCEL_NONE);
+    CHECK(dcel_from(&mesh, (uint32_t)dcel_out_edge(&mesh, 3)) == 3 && dcel_face(&mesh, (uint32_t)dcel_adjacent_edge(&mesh, 2)) == 2);
+    dcel_free(&mesh);
+}
+
+static void check_walks(void) {
+    dcel_mesh mesh = DCEL_MESH_INIT;
+    uint32_t edges[4] = {77, 77, 77, 77};
+    uint64_t needed = 77;
+    make_round(&mesh);
+    CHECK(dcel_out_edges(&mesh, 3, edges, 2, &needed) == DCEL_SHORT && needed == 3 && edges[2] == 77);
+    CHECK(dcel_out_edges(&mesh, 3, edges, 4, &needed) == DCEL_DONE && needed == 3 && edges[3] == 77);
+    CHECK(edges[0] == dcel_out_edge(&mesh, 3) && edges[1] == dcel_ccw(&mesh, edges[0]));
+    CHECK(dcel_out_edges(&mesh, 4, edges, 4, &needed) == DCEL_NO_SUCH_VERTEX && needed == 0);
+    CHECK(dcel_face_edges(&mesh, 0, edges, 4, &needed) == DCEL_DONE && needed == 3 && edges[3] == 77);
+    CHECK(edges[0] == dcel_adjacent_edge(&mesh, 0) && edges[1] == dcel_next(&mesh, edges[0]));
+    CHECK(dcel_face_edges(&mesh, 4, edges, 4, &needed) == DCEL_NO_SUCH_FACE && needed == 0);
+    CHECK(dcel_clear(&mesh) == DCEL_DONE && dcel_face_edges(&mesh, 0, edges, 0, &needed) == DCEL_DONE && needed == 0);
+    dcel_free(&mesh);
+}
+
+static void check_data(void) {
+    dcel_mesh mesh = DCEL_MESH_INIT;
+    uint64_t datum = 77;
+    make_round(&mesh);
+    CHECK(dcel_vertex_data(&mesh, 1, &datum) == DCEL_DONE && datum == 8);
+    CHECK(dcel_vertex_data(&mesh, 4, &datum) == DCEL_NO_SUCH_VERTEX && datum == 8);
+    CHECK(dcel_directed_edge_data(&mesh, 11, &datum) == DCEL_DONE && datum == 0);
+    CHECK(dcel_directed_edge_data(&mesh, 12, &datum) == DCEL_NO_SUCH_EDGE);
+    CHECK(dcel_undirected_edge_data(&mesh, 6, &datum) == DCEL_NO_SUCH_EDGE);
+    CHECK(dcel_face_data(&mesh, 4, &datum) == DCEL_NO_SUCH_FACE);
+    CHECK(dcel_update_vertex(&mesh, 3, UINT64_MAX) == DCEL_DONE && dcel_update_vertex(&mesh, 4, 1) == DCEL_NO_SUCH_VERTEX);
+    CHECK(dcel_update_directed_edge(&mesh, 3, 30) == DCEL_DONE && dcel_update_directed_edge(&mesh, 12, 1) == DCEL_NO_SUCH_EDGE);
+    CHECK(dcel_update_undirected_edge(&mesh, 3, 31) == DCEL_DONE && dcel_update_undirected_edge(&mesh, 6, 1) == DCEL_NO_SUCH_EDGE);
+    CHECK(dcel_update_face(&mesh, 3, 32) == DCEL_DONE && dcel_update_face(&mesh, 4, 1) == DCEL_NO_SUCH_FACE);
+    CHECK(dcel_vertex_data(&mesh, 3, &datum) == DCEL_DONE && datum == UINT64_MAX);
+    CHECK(dcel_directed_edge_data(&mesh, 3, &datum) == DCEL_DONE && datum == 30);
+    CHECK(dcel_directed_edge_data(&mesh, 2, &datum) == DCEL_DONE && datum == 0);
+    CHECK(dcel_undirected_edge_data(&mesh, 3, &datum) == DCEL_DONE && datum == 31);
+    CHECK(dcel_face_data(&mesh, 3, &datum) == DCEL_DONE && datum == 32);
+    dcel_free(&mesh);
+}
+
+static void check_lines(void) {
+    dcel_mesh mesh = DCEL_MESH_INIT;
+    uint32_t number = 77;
+    make_line(&mesh);
+    CHECK(dcel_is_line_end(&mesh, 0) && !dcel_is_line_end(&mesh, 2) && dcel_is_unconnected(&mesh, 2) && !dcel_is_unconnected(&mesh, 0));
+    CHECK(dcel_can_extend_line(&mesh, 1, 2) && !dcel_can_extend_line(&mesh, 2, 1));
+    CHECK(dcel_extend_line(&mesh, 1, 0) == DCEL_VERTEX_IN_USE && dcel_extend_line(&mesh, 1, 2) == DCEL_DONE);
+    CHECK(dcel_append_unconnected_vertex(&mesh, 23, &number) == DCEL_DONE && number == 3);
+    CHECK(dcel_is_bridge(&mesh, 0) && dcel_can_split_edge_when_all_vertices_on_line(&mesh, 0, 3));
+    CHECK(dcel_split_edge_when_all_vertices_on_line(&mesh, 0, 3, &number) == DCEL_DONE && number == dcel_next(&mesh, 0));
+    CHECK(dcel_to(&mesh, 0) == 3 && dcel_to(&mesh, number) == 1);
+    CHECK(dcel_can_close_outside(&mesh, 0) && dcel_create_single_face_between_edge_and_next(&mesh, 0, &number) == DCEL_DONE);
+    CHECK(dcel_face(&mesh, number) == 0 && dcel_num_faces(&mesh) == 2 && !dcel_is_bridge(&mesh, 0));
+    CHECK(dcel_create_single_face_between_edge_and_next(&mesh, 0, &number) == DCEL_NOT_OUTER);
+    dcel_free(&mesh);
+}
+
+static void check_triangles(void) {
+    dcel_mesh mesh = DCEL_MESH_INIT;
+    uint32_t vertex, second = 77;
+    make_round(&mesh);
+    CHECK(dcel_append_unconnected_vertex(&mesh, 11, &vertex) == DCEL_DONE);
+    CHECK(dcel_is_triangle(&mesh, 1) && !dcel_is_triangle(&mesh, 4) && dcel_can_insert_into_triangle(&mesh, 4, 1));
+    CHECK(!dcel_can_insert_into_triangle(&mesh, 4, 0) && dcel_insert_into_triangle(&mesh, 4, 0) == DCEL_NO_SUCH_FACE);
+    CHECK(dcel_can_split_half_edge(&mesh, 1, 4) && dcel_can_split_edge(&mesh, 1, 4) && !dcel_can_split_edge(&mesh, 1, 3));
+    CHECK(dcel_split_half_edge(&mesh, 1, 4, &second) == DCEL_DONE && dcel_to(&mesh, 1) == 4 && dcel_from(&mesh, second) == 4);
+    CHECK(dcel_num_faces(&mesh) == 5 && !dcel_is_triangle(&mesh, 0));
+    CHECK(dcel_append_unconnected_vertex(&mesh, 12, &vertex) == DCEL_DONE);
+    CHECK(dcel_split_edge(&mesh, 6, 5, &second) == DCEL_DONE && dcel_to(&mesh, 6) == 5 && dcel_from(&mesh, second) == 5);
+    CHECK(dcel_append_unconnected_vertex(&mesh, 13, &vertex) == DCEL_DONE);
+    CHECK(dcel_can_create_new_face_adjacent_to_edge(&mesh, 0, 6));
+    CHECK(dcel_create_new_face_adjacent_to_edge(&mesh, 0, 6) == DCEL_DONE && dcel_num_faces(&mesh) == 8);
+    CHECK(dcel_sanity_check(&mesh) && dcel_is_live_vertex(&mesh, 6) && !dcel_is_live_vertex(&mesh, 7));
+    CHECK(dcel_has_room(&mesh, UINT32_MAX - 7, 0, 0) && !dcel_has_room(&mesh, UINT64_C(1) << 33, 0, 0));
+    CHECK(dcel_reserve_capacity(&mesh, 10, 10, 10) == DCEL_DONE);
+    CHECK(dcel_reserve_capacity(&mesh, UINT64_MAX, 0, 0) == DCEL_NO_ROOM);
+    CHECK(dcel_swap_vertices(&mesh, 0, 7) == DCEL_NO_SUCH_VERTEX && dcel_swap_vertices(&mesh, 0, 6) == DCEL_DONE);
+    uint64_t datum;
+    CHECK(dcel_vertex_data(&mesh, 0, &datum) == DCEL_DONE && datum == 13);
+    dcel_free(&mesh);
+}
+
+static void check_flips(void) {
+    dcel_mesh mesh = DCEL_MESH_INIT;
+    make_round(&mesh);
+    CHECK(dcel_can_flip(&mesh, 0) && !dcel_can_flip(&mesh, 99) && dcel_flip_cw(&mesh, 99) == DCEL_NO_SUCH_EDGE);
+    CHECK(dcel_flip_cw(&mesh, 0) == DCEL_DONE);
+    uint32_t ends[2] = {(uint32_t)dcel_from(&mesh, 0), (uint32_t)dcel_to(&mesh, 0)};
+    CHECK((ends[0] == 2 && ends[1] == 3) || (ends[0] == 3 && ends[1] == 2));
+    const uint32_t all[] = {0, 1, 2, 3, 4, 5};
+    dcel_legalized legalized;
+    CHECK(dcel_legalize_by_number(&mesh, 0, all, 6, &legalized) == DCEL_DONE && legalized.flips == 0);
+    CHECK(legalized.ended == DCEL_STOPPED);
+    CHECK(dcel_legalize_by_number(&mesh, 100, all, 6, &legalized) == DCEL_DONE && legalized.ended == DCEL_LEGALIZED);
+    CHECK(legalized.flips > 0 && legalized.ended != DCEL_MEMORY_RAN_OUT);
+    const uint32_t none[] = {99};
+    CHECK(dcel_legalize_by_number(&mesh, 1, none, 1, &legalized) == DCEL_NO_SUCH_EDGE);
+    dcel_free(&mesh);
+}
+
+/* A removal in its stages: opened, cleaned up, closed. */
+static void check_isolation(void) {
+    dcel_mesh mesh = DCEL_MESH_INIT;
+    uint32_t border[8], edges[4] = {77, 77, 77, 77}, faces[4] = {77, 77, 77, 77};
+    dcel_opened opened;
+    dcel_removed removed = {77, 77};
+    bool answer = false;
+    make_round(&mesh);
+    size_t length = border_of(&mesh, 3, border);
+    CHECK(dcel_is_border_loop(&mesh, border, length, 3, &answer) == DCEL_DONE && answer);
+    CHECK(dcel_is_border_loop(&mesh, border, length, 2, &answer) == DCEL_DONE && !answer);
+    CHECK(dcel_can_isolate_vertex_and_fill_hole(&mesh, border, length, 3, &answer) == DCEL_DONE && answer);
+    CHECK(dcel_isolate_vertex_and_fill_hole(&mesh, border, length, 3, edges, 2, faces, 4, &opened) == DCEL_SHORT);
+    CHECK(dcel_isolate_vertex_and_fill_hole(&mesh, border, length, 2, edges, 4, faces, 4, &opened) == DCEL_BAD_RING);
+    CHECK(edges[0] == 77 && dcel_removal_state(&mesh) == DCEL_CLOSED);
+    CHECK(dcel_isolate_vertex_and_fill_hole(&mesh, border, length, 3, edges, 4, faces, 4, &opened) == DCEL_DONE);
+    CHECK(opened.edges == 3 && opened.faces == 3 && opened.new_edges == 0 && edges[3] == 77 && faces[3] == 77);
+    CHECK(dcel_removal_state(&mesh) == DCEL_ISOLATED && !dcel_is_live_vertex(&mesh, 3) && !dcel_is_live_edge(&mesh, edges[0]));
+    CHECK(!dcel_is_live_face(&mesh, faces[0]) && dcel_is_live_face(&mesh, 0) && dcel_num_undirected_edges(&mesh) == 6);
+    CHECK(dcel_next(&mesh, 2 * edges[0]) == DCEL_NONE && dcel_rev(&mesh, 2 * edges[0]) == DCEL_NONE);
+    CHECK(dcel_is_listed(&mesh, edges, 3, faces, 3, &answer) == DCEL_DONE && answer);
+    CHECK(dcel_is_listed(&mesh, edges, 2, faces, 3, &answer) == DCEL_DONE && !answer);
+    CHECK(dcel_swap_remove_vertex(&mesh, 0, &removed) == DCEL_REMOVAL_OPEN && removed.datum == 77);
+    CHECK(dcel_cleanup_isolated_vertex(&mesh, edges, 2, faces, 3) == DCEL_WRONG_LISTS);
+    CHECK(dcel_cleanup_isolated_vertex(&mesh, edges, 3, faces, 3) == DCEL_DONE);
+    CHECK(dcel_removal_state(&mesh) == DCEL_CLEANED && dcel_can_swap_remove(&mesh, 3) && !dcel_can_swap_remove(&mesh, 0));
+    CHECK(dcel_swap_remove_vertex(&mesh, 3, &removed) == DCEL_DONE && removed.datum == 10 && removed.moved == DCEL_NONE);
+    CHECK(dcel_removal_state(&mesh) == DCEL_CLOSED && dcel_num_vertices(&mesh) == 3 && dcel_num_faces(&mesh) == 2);
+    dcel_free(&mesh);
+}
+
+/* The same vertex, given up by its ring with the edges and faces inside; and a region without one. */
+static void check_remeshing(void) {
+    dcel_mesh mesh = DCEL_MESH_INIT;
+    uint32_t border[8], out[4], edges[4], faces[4];
+    uint64_t count;
+    dcel_opened opened;
+    bool answer = false;
+    make_round(&mesh);
+    size_t length = border_of(&mesh, 3, border);
+    CHECK(dcel_out_edges(&mesh, 3, out, 4, &count) == DCEL_DONE && count == 3);
+    for (size_t i = 0; i < 3; i++) {
+        edges[i] = out[i] / 2;
+        faces[i] = (uint32_t)dcel_face(&mesh, out[i]);
+    }
+    CHECK(dcel_is_ring(&mesh, border, length, edges, 3, faces, 3, &answer) == DCEL_DONE && answer);
+    CHECK(dcel_can_remesh_edge_ring(&mesh, border, length, edges, 2, faces, 3, &answer) == DCEL_DONE && !answer);
+    CHECK(dcel_remesh_edge_ring(&mesh, border, length, edges, 2, faces, 3, &opened) == DCEL_BAD_RING);
+    CHECK(dcel_remesh_edge_ring(&mesh, border, length, edges, 3, faces, 3, &opened) == DCEL_DONE);
+    CHECK(opened.edges == 3 && opened.faces == 3 && opened.new_edges == 0 && opened.smallest_new_edge == 6);
+    CHECK(dcel_remesh_edge_ring(&mesh, border, length, edges, 3, faces, 3, &opened) == DCEL_REMOVAL_OPEN);
+    CHECK(dcel_cleanup_isolated_vertex(&mesh, edges, 3, faces, 3) == DCEL_DONE);
+    CHECK(dcel_removal_state(&mesh) == DCEL_CLEANED);
+    dcel_free(&mesh);
+}
+
+/* Vertex 3 beyond an edge of a triangle is cut off. */
+static void check_strips(void) {
+    dcel_mesh mesh = DCEL_MESH_INIT;
+    uint32_t vertex, edges[4] = {77, 77, 77, 77}, faces[4] = {77, 77, 77, 77};
+    dcel_opened opened;
+    dcel_removed removed;
+    bool answer = false;
+    CHECK(dcel_new(&mesh) == DCEL_DONE && dcel_new_triangle(&mesh, 7, 8, 9) == DCEL_DONE);
+    CHECK(dcel_append_unconnected_vertex(&mesh, 10, &vertex) == DCEL_DONE);
+    CHECK(dcel_create_new_face_adjacent_to_edge(&mesh, 0, vertex) == DCEL_DONE);
+    /* From the half edge that leaves the vertex along the outer face on, what comes after each. */
+    uint32_t outer = (uint32_t)dcel_out_edge(&mesh, vertex);
+    while (dcel_face(&mesh, outer) != 0)
+        outer = (uint32_t)dcel_ccw(&mesh, outer);
+    const uint32_t strip[2] = {(uint32_t)dcel_next(&mesh, (uint32_t)dcel_ccw(&mesh, outer)), (uint32_t)dcel_next(&mesh, outer)};
+    CHECK(dcel_is_edge_strip(&mesh, strip, 2, &answer) == DCEL_DONE && answer);
+    CHECK(dcel_can_disconnect_edge_strip(&mesh, strip, 1, &answer) == DCEL_DONE && !answer);
+    CHECK(dcel_disconnect_edge_strip(&mesh, strip, 2, edges, 1, faces, 4, &opened) == DCEL_SHORT);
+    CHECK(dcel_disconnect_edge_strip(&mesh, strip, 1, edges, 4, faces, 4, &opened) == DCEL_BAD_STRIP);
+    CHECK(dcel_disconnect_edge_strip(&mesh, strip, 2, edges, 4, faces, 4, &opened) == DCEL_DONE);
+    CHECK(opened.edges == 2 && opened.faces == 1 && opened.new_edges == 0 && edges[2] == 77 && faces[1] == 77);
+    CHECK(dcel_cleanup_isolated_vertex(&mesh, edges, 2, faces, 1) == DCEL_DONE);
+    CHECK(dcel_swap_remove_vertex(&mesh, vertex, &removed) == DCEL_DONE && removed.datum == 10);
+    CHECK(dcel_num_faces(&mesh) == 2 && dcel_num_undirected_edges(&mesh) == 3);
+    dcel_free(&mesh);
+}
+
+static void check_degenerate(void) {
+    dcel_mesh mesh = DCEL_MESH_INIT;
+    dcel_removed removed;
+    make_line(&mesh);
+    CHECK(!dcel_can_remove_degenerate(&mesh, 0) && dcel_remove_when_degenerate(&mesh, 0, &removed) == DCEL_NOT_PATH);
+    CHECK(dcel_extend_line(&mesh, 1, 2) == DCEL_DONE && dcel_can_remove_degenerate(&mesh, 1));
+    CHECK(dcel_remove_when_degenerate(&mesh, 1, &removed) == DCEL_DONE && removed.datum == 21 && removed.moved == 2);
+    CHECK(dcel_num_vertices(&mesh) == 2 && dcel_num_undirected_edges(&mesh) == 1);
+    dcel_free(&mesh);
+}
+
+/* A clone is a mesh of its own, and a triangle in place of a mesh is one too. */
+static void check_whole(void) {
+    dcel_mesh mesh = DCEL_MESH_INIT, other = DCEL_MESH_INIT;
+    make_round(&mesh);
+    CHECK(dcel_clone(&mesh, &other) == DCEL_DONE && dcel_flip_cw(&other, 0) == DCEL_DONE);
+    CHECK(dcel_to(&mesh, 0) == 1 && dcel_to(&other, 0) != 1);
+    CHECK(dcel_clone(&other, &mesh) == DCEL_DONE && dcel_to(&mesh, 0) == dcel_to(&other, 0));
+    dcel_free(&other);
+    CHECK(dcel_num_vertices(&mesh) == 4 && dcel_num_vertices(&other) == 0);
+    CHECK(dcel_new_triangle(&mesh, 1, 2, 3) == DCEL_DONE && dcel_num_vertices(&mesh) == 3);
+    CHECK(dcel_update_face(&mesh, 0, 5) == DCEL_DONE && dcel_clear(&mesh) == DCEL_DONE);
+    uint64_t datum;
+    CHECK(dcel_num_vertices(&mesh) == 0 && dcel_face_data(&mesh, 0, &datum) == DCEL_DONE && datum == 5);
+    dcel_mesh moved = mesh; /* moved in memory: `mesh` is used no more */
+    CHECK(dcel_new(&moved) == DCEL_DONE && dcel_face_data(&moved, 0, &datum) == DCEL_DONE && datum == 0);
+    dcel_free(&moved);
+    dcel_free(&moved);
+}
+
+int main(void) {
+    check_none();
+    check_steps();
+    check_walks();
+    check_data();
+    check_lines();
+    check_triangles();
+    check_flips();
+    check_isolation();
+    check_remeshing();
+    check_strips();
+    check_degenerate();
+    check_whole();
+    printf("%d checks passed\n", checks);
+    return EXIT_SUCCESS;
+}

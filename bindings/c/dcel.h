@@ -1,0 +1,384 @@
+/* A half-edge mesh on the sphere that is kept across calls. Its links and numbers change only by the
+   calls below, and each number of an element is below 2^32.
+
+   Link libdcel_c.a, and after it the kit's liblibc_c.a, which allocates by your malloc.
+
+   What you promise; nothing checks it:
+   - A dcel_mesh is handed to each call as the last call left it: it isn't written to, and of two copies
+     only one is used any more. It may lie somewhere else in memory at the next call.
+   - One call at a time works on a mesh, also of those that only read. Another thread may make the next.
+   - Pointers aren't null, also where a length is 0. They lead to as many items as the length says, and
+     nothing that a call writes to lies in anything else that it is given. A bool is false or true before.
+   - malloc, realloc and free belong together and align blocks as C asks. No call comes from a signal
+     handler, or from the child of a fork in a program with threads.
+
+   What is proved of each call, for any numbers: it returns, and touches no memory but what it is given
+   and its mesh. A mesh is always a sound map on the sphere. A call that changes the mesh does what it
+   says and returns DCEL_DONE; or it changes nothing, neither the mesh nor what its pointers lead to, and
+   returns why not: the least number of those that apply. All other calls leave the mesh as it was.
+
+   Where a mesh isn't open nothing is done or found: a call returns DCEL_NO_MESH, DCEL_NONE, 0 or false.
+
+   Half edges 2 * u and 2 * u + 1 are the halves of edge u, and go opposite ways. Face 0 is the outer
+   face. What a removal has given up is still counted, but not live, until it is taken out. */
+#ifndef DCEL_H
+#define DCEL_H
+
+#include <stdbool.h>
+#include <stddef.h>
+#include <stdint.h>
+
+#ifdef __cplusplus
+extern "C" {
+#endif
+
+/* A mesh, or none: zero bytes are one that isn't open. The fields are the library's. */
+typedef struct {
+    void *at;
+    bool is_open;
+} dcel_mesh;
+
+/* What a dcel_mesh begins with. */
+#define DCEL_MESH_INIT {NULL, false}
+
+/* What calls return. */
+typedef enum {
+    DCEL_DONE = 0,
+    DCEL_NO_SUCH_VERTEX = 1,
+    DCEL_NO_SUCH_EDGE = 2, /* of half edges too */
+    DCEL_NO_SUCH_FACE = 3, /* also the outer face, where an inner one is asked for */
+    DCEL_REMOVAL_OPEN = 4,
+    DCEL_NO_REMOVAL = 5, /* none is open that is still to be cleaned up */
+    DCEL_GIVEN_UP = 6,   /* an element isn't live */
+    DCEL_SAME_VERTEX = 7,
+    DCEL_VERTEX_IN_USE = 8, /* it has an edge */
+    DCEL_EDGES_STAND = 9,   /* the mesh has an edge */
+    DCEL_NOT_LINE_END = 10,
+    DCEL_NOT_BRIDGE = 11, /* the halves of the edge lie on two faces */
+    DCEL_NOT_OUTER = 12,
+    DCEL_NOT_TRIANGLE = 13,
+    DCEL_WOULD_LOOP = 14, /* an edge would join a vertex to itself */
+    DCEL_BAD_RING = 15,
+    DCEL_BAD_STRIP = 16,
+    DCEL_WRONG_LISTS = 17,
+    DCEL_NOT_PATH = 18,
+    DCEL_NO_ROOM = 19, /* a count would pass 2^31, and with dcel_reserve_capacity 2^32 */
+    DCEL_OUT_OF_MEMORY = 20,
+    DCEL_NO_MESH = 21, /* it was never made, or it was freed */
+    DCEL_SHORT = 22    /* a buffer has too few places */
+} dcel_status;
+
+/* Returns the name of a status, as "NoSuchVertex", or "" if it is none. */
+static inline const char *dcel_status_name(uint32_t status) {
+    switch (status) {
+    case DCEL_DONE: return "Done";
+    case DCEL_NO_SUCH_VERTEX: return "NoSuchVertex";
+    case DCEL_NO_SUCH_EDGE: return "NoSuchEdge";
+    case DCEL_NO_SUCH_FACE: return "NoSuchFace";
+    case DCEL_REMOVAL_OPEN: return "RemovalOpen";
+    case DCEL_NO_REMOVAL: return "NoRemoval";
+    case DCEL_GIVEN_UP: return "GivenUp";
+    case DCEL_SAME_VERTEX: return "SameVertex";
+    case DCEL_VERTEX_IN_USE: return "VertexInUse";
+    case DCEL_EDGES_STAND: return "EdgesStand";
+    case DCEL_NOT_LINE_END: return "NotLineEnd";
+    case DCEL_NOT_BRIDGE: return "NotBridge";
+    case DCEL_NOT_OUTER: return "NotOuter";
+    case DCEL_NOT_TRIANGLE: return "NotTriangle";
+    case DCEL_WOULD_LOOP: return "WouldLoop";
+    case DCEL_BAD_RING: return "BadRing";
+    case DCEL_BAD_STRIP: return "BadStrip";
+    case DCEL_WRONG_LISTS: return "WrongLists";
+    case DCEL_NOT_PATH: return "NotPath";
+    case DCEL_NO_ROOM: return "NoRoom";
+    case DCEL_OUT_OF_MEMORY: return "OutOfMemory";
+    case DCEL_NO_MESH: return "NoMesh";
+    case DCEL_SHORT: return "Short";
+    default: return "";
+    }
+}
+
+/* What a call that returns an element's number returns where there is none. */
+#define DCEL_NONE UINT64_MAX
+
+/* What stands for each link of a half edge that isn't live. */
+#define DCEL_NO_LINK UINT32_MAX
+
+/* The links of a half edge: the ones after and before it on its face, the vertex that it starts at, and
+   its face. Half edge h ends where h ^ 1 starts. */
+typedef struct {
+    uint32_t next, prev, origin, face;
+} dcel_half_edge;
+
+/* A vertex that was taken out: its datum, and the old number of the vertex that has its number now,
+   DCEL_NONE if none does. */
+typedef struct {
+    uint64_t datum, moved;
+} dcel_removed;
+
+/* A removal that was opened: how many edges and faces it has given up, how many edges it has added, and
+   the number of the first of these. The others follow it. */
+typedef struct {
+    uint64_t edges, faces, new_edges, smallest_new_edge;
+} dcel_opened;
+
+/* How a legalization ended. */
+enum { DCEL_LEGALIZED = 0, DCEL_STOPPED = 1, DCEL_MEMORY_RAN_OUT = 2 };
+
+typedef struct {
+    uint64_t flips;
+    uint32_t ended;
+} dcel_legalized;
+
+/* How far a removal has come. */
+enum { DCEL_CLOSED = 0, DCEL_ISOLATED = 1, DCEL_CLEANED = 2 };
+
+/* ---- Whole meshes ---- */
+
+/* Makes a mesh of the outer face alone, with datum 0, and frees the one that was there. 20. */
+uint32_t dcel_new(dcel_mesh *mesh);
+
+/* Frees the mesh, which isn't open afterwards. Of one that isn't open it does nothing. */
+void dcel_free(dcel_mesh *mesh);
+
+/* Makes `to` an equal mesh of its own, and frees the one that was there. 20 21. */
+uint32_t dcel_clone(dcel_mesh *from, dcel_mesh *to);
+
+/* Takes out all vertices, all edges and all inner faces, and closes a removal. The outer face keeps its
+   datum. 21. */
+uint32_t dcel_clear(dcel_mesh *mesh);
+
+/* Makes room in memory for that many more elements. 19 if there are no numbers for them, 20 21. */
+uint32_t dcel_reserve_capacity(dcel_mesh *mesh, uint64_t vertices, uint64_t undirected_edges,
+                               uint64_t faces);
+
+/* ---- Counts, with what a removal has given up ---- */
+
+uint64_t dcel_num_vertices(dcel_mesh *mesh);
+uint64_t dcel_num_directed_edges(dcel_mesh *mesh);
+uint64_t dcel_num_undirected_edges(dcel_mesh *mesh);
+uint64_t dcel_num_faces(dcel_mesh *mesh);
+
+/* ---- Steps from a live half edge; from any other they return DCEL_NONE ----
+
+            apex            next  to -> apex
+            /  \            prev  apex -> from
+           /face\           rev   to -> from
+       from ----> to        ccw   from -> apex, the other half of prev
+           <----            cw    the half edge after rev on the face below
+            rev */
+
+uint64_t dcel_next(dcel_mesh *mesh, uint32_t edge);
+uint64_t dcel_prev(dcel_mesh *mesh, uint32_t edge);
+uint64_t dcel_rev(dcel_mesh *mesh, uint32_t edge);
+uint64_t dcel_ccw(dcel_mesh *mesh, uint32_t edge);
+uint64_t dcel_cw(dcel_mesh *mesh, uint32_t edge);
+uint64_t dcel_from(dcel_mesh *mesh, uint32_t edge);
+uint64_t dcel_to(dcel_mesh *mesh, uint32_t edge);
+uint64_t dcel_face(dcel_mesh *mesh, uint32_t edge);
+
+/* ---- Anchors, where walks begin ---- */
+
+/* A half edge that starts at the vertex, DCEL_NONE if none does or there is no such vertex. */
+uint64_t dcel_out_edge(dcel_mesh *mesh, uint32_t vertex);
+
+/* A half edge on the face, DCEL_NONE if there is none or no such face. */
+uint64_t dcel_adjacent_edge(dcel_mesh *mesh, uint32_t face);
+
+/* ---- Walks, into a buffer ----
+
+   As many numbers as fit are put there, from the front, and what lies behind them stays. `needed` is how
+   many there are, and the status is DCEL_SHORT if they don't all fit. With a status above, other than
+   DCEL_SHORT, `needed` is 0 and the buffer stays. */
+
+/* The half edges that start at the vertex, by dcel_ccw from its anchor. 1 21 22. */
+uint32_t dcel_out_edges(dcel_mesh *mesh, uint32_t vertex, uint32_t *edges, size_t edges_len,
+                        uint64_t *needed);
+
+/* The half edges on the face, by dcel_next from its anchor; those of face 0 are the hull. 3 21 22. */
+uint32_t dcel_face_edges(dcel_mesh *mesh, uint32_t face, uint32_t *edges, size_t edges_len,
+                         uint64_t *needed);
+
+/* The first half edge of dcel_out_edges that leads to the other vertex, DCEL_NONE if none does. */
+uint64_t dcel_get_edge_from_neighbors(dcel_mesh *mesh, uint32_t from, uint32_t to);
+
+/* ---- Links ---- */
+
+/* Tells the links of a half edge. Each is DCEL_NO_LINK if it isn't live. */
+void dcel_directed_edge(dcel_mesh *mesh, uint32_t edge, dcel_half_edge *half_edge);
+
+/* Puts the links of all half edges into the buffer, each at its number, as walks do. 21 22. */
+uint32_t dcel_directed_edges(dcel_mesh *mesh, dcel_half_edge *half_edges, size_t half_edges_len,
+                             uint64_t *needed);
+
+/* ---- Data, of elements that are given up too ----
+
+   New half edges, edges and faces have datum 0. The calls below return the status of the number, if it
+   is out of range: 1 for a vertex, 2 for a half edge or an edge, 3 for a face; or 21. */
+
+uint32_t dcel_vertex_data(dcel_mesh *mesh, uint32_t vertex, uint64_t *datum);
+uint32_t dcel_directed_edge_data(dcel_mesh *mesh, uint32_t edge, uint64_t *datum);
+uint32_t dcel_undirected_edge_data(dcel_mesh *mesh, uint32_t edge, uint64_t *datum);
+uint32_t dcel_face_data(dcel_mesh *mesh, uint32_t face, uint64_t *datum);
+
+uint32_t dcel_update_vertex(dcel_mesh *mesh, uint32_t vertex, uint64_t datum);
+uint32_t dcel_update_directed_edge(dcel_mesh *mesh, uint32_t edge, uint64_t datum);
+uint32_t dcel_update_undirected_edge(dcel_mesh *mesh, uint32_t edge, uint64_t datum);
+uint32_t dcel_update_face(dcel_mesh *mesh, uint32_t face, uint64_t datum);
+
+/* ---- Edits ----
+
+   The numbers behind each are the statuses that it can return, besides DCEL_NO_MESH. docs/PICTURES.md
+   draws most, with numbers. */
+
+/* Adds a vertex without an edge, and tells its number. 19 20. */
+uint32_t dcel_append_unconnected_vertex(dcel_mesh *mesh, uint64_t datum, uint32_t *vertex);
+
+/* Replaces the mesh by one triangle, counterclockwise, with vertices 0, 1 and 2. 20. */
+uint32_t dcel_new_triangle(dcel_mesh *mesh, uint64_t a, uint64_t b, uint64_t c);
+
+/* Makes the first edge, between two vertices. 1 6 7 9 19 20. */
+uint32_t dcel_setup_initial_two_vertices(dcel_mesh *mesh, uint32_t first, uint32_t second);
+
+/* Lengthens the line that ends at a vertex to another. 1 6 7 8 10 19 20. */
+uint32_t dcel_extend_line(dcel_mesh *mesh, uint32_t end, uint32_t vertex);
+
+/* Puts the vertex into the middle of an edge with one face on both sides. The first part of the half
+   edge keeps its number, and the second is told. 1 2 6 8 11 19 20. */
+uint32_t dcel_split_edge_when_all_vertices_on_line(dcel_mesh *mesh, uint32_t edge, uint32_t vertex,
+                                                   uint32_t *second);
+
+/* Closes a triangle of a half edge of the outer face and the next one, and tells the half of the new
+   edge that lies outside. 2 6 12 14 19 20. */
+uint32_t dcel_create_single_face_between_edge_and_next(dcel_mesh *mesh, uint32_t edge, uint32_t *half);
+
+/* Puts a triangle of the half edge and the vertex on the face of the half edge. 1 2 6 8 19 20. */
+uint32_t dcel_create_new_face_adjacent_to_edge(dcel_mesh *mesh, uint32_t edge, uint32_t vertex);
+
+/* Cuts a triangle into three at the vertex. 1 3 6 8 13 19 20. */
+uint32_t dcel_insert_into_triangle(dcel_mesh *mesh, uint32_t vertex, uint32_t face);
+
+/* Puts the vertex into the middle of an edge, and joins it to the corner of the half edge's triangle. The
+   second part of the half edge is told. 1 2 6 8 13 19 20. */
+uint32_t dcel_split_half_edge(dcel_mesh *mesh, uint32_t edge, uint32_t vertex, uint32_t *second);
+
+/* The same, with the corners of the triangles on both sides. 1 2 6 8 13 19 20. */
+uint32_t dcel_split_edge(dcel_mesh *mesh, uint32_t edge, uint32_t vertex, uint32_t *second);
+
+/* Turns an edge between two triangles clockwise, so that it joins their other corners. 2 6 13 14. */
+uint32_t dcel_flip_cw(dcel_mesh *mesh, uint32_t undirected_edge);
+
+/* Exchanges two vertices, with their data. 1 6. */
+uint32_t dcel_swap_vertices(dcel_mesh *mesh, uint32_t first, uint32_t second);
+
+/* Takes these edges from the last on, and after each flip first those beside it. It flips one that can
+   be flipped and whose lesser opposite corner is below its lesser end. It tells how many were flipped,
+   and how it ended: nothing is left to flip, `max_flips` were too few, or the list of edges found no
+   memory to grow. What was flipped stays so. 2, and first 20 if the list finds no memory at all. */
+uint32_t dcel_legalize_by_number(dcel_mesh *mesh, uint64_t max_flips, const uint32_t *edges,
+                                 size_t edges_len, dcel_legalized *legalized);
+
+/* ---- Removals: one is opened, cleaned up, and closed by taking the vertex out ----
+
+   A buffer is short, or a list finds no memory, before anything else is asked: 22 or 20. Each buffer
+   must have as many places as the list of half edges has numbers. What is given up is put there from the
+   front, and what lies behind it stays. */
+
+/* Gives up the vertex, whose border loop these half edges are, with its edges and the triangles round it,
+   and fills the hole. 1 2 4 15 19 20 22. */
+uint32_t dcel_isolate_vertex_and_fill_hole(dcel_mesh *mesh, const uint32_t *border_loop,
+                                           size_t border_loop_len, uint32_t vertex, uint32_t *edges,
+                                           size_t edges_len, uint32_t *faces, size_t faces_len,
+                                           dcel_opened *opened);
+
+/* Gives up these edges and faces, with one vertex or none, inside the ring of the half edges, and fills
+   the hole. 2 3 4 15 19 20. */
+uint32_t dcel_remesh_edge_ring(dcel_mesh *mesh, const uint32_t *border_loop, size_t border_loop_len,
+                               const uint32_t *edges, size_t edges_len, const uint32_t *faces,
+                               size_t faces_len, dcel_opened *opened);
+
+/* Cuts off the vertex of the outer face whose strip the half edges are, and gives it up with its edges and
+   the triangles round it. 2 4 16 20 22. */
+uint32_t dcel_disconnect_edge_strip(dcel_mesh *mesh, const uint32_t *strip, size_t strip_len,
+                                    uint32_t *edges, size_t edges_len, uint32_t *faces, size_t faces_len,
+                                    dcel_opened *opened);
+
+/* Takes out what the open removal has given up, which the lists name in any order: the last edges and
+   faces get the free numbers. It closes a removal that has given up no vertex. 2 3 5 17 20. */
+uint32_t dcel_cleanup_isolated_vertex(dcel_mesh *mesh, const uint32_t *edges, size_t edges_len,
+                                      const uint32_t *faces, size_t faces_len);
+
+/* Takes out a vertex that has no edge, or was given up by a removal that is cleaned up, and closes that.
+   The last vertex gets its number. 1 4 8. */
+uint32_t dcel_swap_remove_vertex(dcel_mesh *mesh, uint32_t vertex, dcel_removed *removed);
+
+/* Takes a vertex out of a mesh that is one vertex or a path, with an edge if it has one. The last vertex
+   and the last edge get the free numbers. 1 4 18. */
+uint32_t dcel_remove_when_degenerate(dcel_mesh *mesh, uint32_t vertex, dcel_removed *removed);
+
+/* How far a removal has come: DCEL_CLOSED, if none is open; DCEL_ISOLATED, if it is to be cleaned up;
+   DCEL_CLEANED, if its vertex is to be taken out. */
+uint32_t dcel_removal_state(dcel_mesh *mesh);
+
+/* ---- Tests. Any numbers may be given ---- */
+
+/* The number is in range, and no removal has given the element up. */
+bool dcel_is_live_vertex(dcel_mesh *mesh, uint32_t vertex);
+bool dcel_is_live_edge(dcel_mesh *mesh, uint32_t undirected_edge);
+bool dcel_is_live_face(dcel_mesh *mesh, uint32_t face);
+
+/* The vertex is live, and no half edge starts there; exactly one does. */
+bool dcel_is_unconnected(dcel_mesh *mesh, uint32_t vertex);
+bool dcel_is_line_end(dcel_mesh *mesh, uint32_t vertex);
+
+/* The face is live and has three half edges. */
+bool dcel_is_triangle(dcel_mesh *mesh, uint32_t face);
+
+/* The half edge is live, and both halves of its edge lie on one face. */
+bool dcel_is_bridge(dcel_mesh *mesh, uint32_t edge);
+
+/* There are numbers left for that many more elements: up to 2^32 vertices and faces, 2^31 edges. */
+bool dcel_has_room(dcel_mesh *mesh, uint64_t vertices, uint64_t undirected_edges, uint64_t faces);
+
+/* The mesh looks triangulated: as sanity_check of spade. */
+bool dcel_sanity_check(dcel_mesh *mesh);
+
+/* All that the edit asks is so, but that there is room and memory. */
+bool dcel_can_setup_initial_two_vertices(dcel_mesh *mesh, uint32_t first, uint32_t second);
+bool dcel_can_extend_line(dcel_mesh *mesh, uint32_t end, uint32_t vertex);
+bool dcel_can_split_edge_when_all_vertices_on_line(dcel_mesh *mesh, uint32_t edge, uint32_t vertex);
+bool dcel_can_close_outside(dcel_mesh *mesh, uint32_t edge);
+bool dcel_can_create_new_face_adjacent_to_edge(dcel_mesh *mesh, uint32_t edge, uint32_t vertex);
+bool dcel_can_insert_into_triangle(dcel_mesh *mesh, uint32_t vertex, uint32_t face);
+bool dcel_can_split_half_edge(dcel_mesh *mesh, uint32_t edge, uint32_t vertex);
+bool dcel_can_split_edge(dcel_mesh *mesh, uint32_t edge, uint32_t vertex);
+bool dcel_can_flip(dcel_mesh *mesh, uint32_t undirected_edge);
+bool dcel_can_swap_remove(dcel_mesh *mesh, uint32_t vertex);
+bool dcel_can_remove_degenerate(dcel_mesh *mesh, uint32_t vertex);
+
+/* ---- Tests of lists, which need memory for these: 20 21, and else the answer is told ---- */
+
+uint32_t dcel_is_border_loop(dcel_mesh *mesh, const uint32_t *border_loop, size_t border_loop_len,
+                             uint32_t vertex, bool *answer);
+uint32_t dcel_is_ring(dcel_mesh *mesh, const uint32_t *border_loop, size_t border_loop_len,
+                      const uint32_t *edges, size_t edges_len, const uint32_t *faces, size_t faces_len,
+                      bool *answer);
+uint32_t dcel_is_edge_strip(dcel_mesh *mesh, const uint32_t *strip, size_t strip_len, bool *answer);
+
+/* The lists name what an open removal has given up. */
+uint32_t dcel_is_listed(dcel_mesh *mesh, const uint32_t *edges, size_t edges_len, const uint32_t *faces,
+                        size_t faces_len, bool *answer);
+
+/* All that the edit asks is so, but that there is room and memory. */
+uint32_t dcel_can_isolate_vertex_and_fill_hole(dcel_mesh *mesh, const uint32_t *border_loop,
+                                               size_t border_loop_len, uint32_t vertex, bool *answer);
+uint32_t dcel_can_remesh_edge_ring(dcel_mesh *mesh, const uint32_t *border_loop, size_t border_loop_len,
+                                   const uint32_t *edges, size_t edges_len, const uint32_t *faces,
+                                   size_t faces_len, bool *answer);
+uint32_t dcel_can_disconnect_edge_strip(dcel_mesh *mesh, const uint32_t *strip, size_t strip_len,
+                                        bool *answer);
+
+#ifdef __cplusplus
+}
+#endif
+#endif

@@ -1,0 +1,154 @@
+/* Refuses each request for memory in turn: a call that finds none says so, and leaves the mesh as it was.
+   Link with -Wl,--wrap=malloc,--wrap=realloc. */
+#include "dcel.h"
+
+#include <stdio.h>
+#include <stdlib.h>
+#include <string.h>
+
+/* How many requests are still met, or below 0 if all are. */
+static long left = -1;
+
+void *__real_malloc(size_t size);
+void *__real_realloc(void *block, size_t size);
+
+static bool is_refused(void) {
+    if (left < 0)
+        return false;
+    if (left == 0)
+        return true;
+    left--;
+    return false;
+}
+
+void *__wrap_malloc(size_t size) { return is_refused() ? NULL : __real_malloc(size); }
+void *__wrap_realloc(void *block, size_t size) { return is_refused() ? NULL : __real_realloc(block, size); }
+
+static void must(bool holds, const char *what) {
+    if (holds)
+        return;
+    fprintf(stderr, "%s\n", what);
+    exit(EXIT_FAILURE);
+}
+
+/* Returns whether two meshes have the same links, anchors and data. */
+static bool are_equal(dcel_mesh *one, dcel_mesh *other) {
+    uint64_t halves = dcel_num_directed_edges(one), vertices = dcel_num_vertices(one), faces = dcel_num_faces(one);
+    bool same = halves == dcel_num_directed_edges(other) && vertices == dcel_num_vertices(other) &&
+                faces == dcel_num_faces(other) && dcel_removal_state(one) == dcel_removal_state(other);
+    for (uint32_t h = 0; same && h < halves; h++) {
+        dcel_half_edge a, b;
+        dcel_directed_edge(one, h, &a);
+        dcel_directed_edge(other, h, &b);
+        same = memcmp(&a, &b, sizeof a) == 0;
+    }
+    for (uint32_t v = 0; same && v < vertices; v++) {
+        uint64_t a = 0, b = 1;
+        dcel_vertex_data(one, v, &a);
+        dcel_vertex_data(other, v, &b);
+        same = a == b && dcel_out_edge(one, v) == dcel_out_edge(other, v);
+    }
+    for (uint32_t f = 0; same && f < faces; f++)
+        same = dcel_adjacent_edge(one, f) == dcel_adjacent_edge(other, f);
+    return same;
+}
+
+/* A triangle round vertex 3, and vertex 4 without an edge. Its vectors are full. */
+static void make(dcel_mesh *mesh) {
+    uint32_t vertex;
+    must(dcel_new(mesh) == DCEL_DONE && dcel_new_triangle(mesh, 7, 8, 9) == DCEL_DONE &&
+             dcel_append_unconnected_vertex(mesh, 10, &vertex) == DCEL_DONE &&
+             dcel_insert_into_triangle(mesh, 3, 1) == DCEL_DONE &&
+             dcel_append_unconnected_vertex(mesh, 11, &vertex) == DCEL_DONE,
+         "there was no memory for the mesh");
+    dcel_mesh full = DCEL_MESH_INIT;
+    must(dcel_clone(mesh, &full) == DCEL_DONE, "there was no memory for its clone");
+    dcel_free(mesh);
+    *mesh = full;
+}
+
+static const uint32_t BORDER[] = {3, 1, 5};
+static uint32_t edges[8], faces[8];
+
+static uint32_t call_new(dcel_mesh *mesh) { return dcel_new(mesh); }
+static uint32_t call_triangle(dcel_mesh *mesh) { return dcel_new_triangle(mesh, 1, 2, 3); }
+static uint32_t call_insert(dcel_mesh *mesh) { return dcel_insert_into_triangle(mesh, 4, 1); }
+static uint32_t call_split(dcel_mesh *mesh) {
+    uint32_t second;
+    return dcel_split_edge(mesh, 0, 4, &second);
+}
+static uint32_t call_reserve(dcel_mesh *mesh) { return dcel_reserve_capacity(mesh, 1000, 1000, 1000); }
+static uint32_t call_append(dcel_mesh *mesh) {
+    uint32_t vertex;
+    return dcel_append_unconnected_vertex(mesh, 12, &vertex);
+}
+static uint32_t call_isolate(dcel_mesh *mesh) {
+    uint32_t out[8], border[8];
+    uint64_t count;
+    dcel_opened opened;
+    if (dcel_out_edges(mesh, 3, out, 8, &count) != DCEL_DONE || count != sizeof BORDER / sizeof BORDER[0])
+        return DCEL_NO_MESH;
+    for (size_t i = 0; i < count; i++)
+        border[i] = (uint32_t)dcel_next(mesh, out[count - 1 - i]);
+    return dcel_isolate_vertex_and_fill_hole(mesh, border, (size_t)count, 3, edges, 8, faces, 8, &opened);
+}
+
+typedef struct {
+    const char *name;
+    uint32_t (*call)(dcel_mesh *mesh);
+} growth;
+
+static const growth CALLS[] = {
+    {"new", call_new},       {"triangle", call_triangle}, {"insert", call_insert},   {"split", call_split},
+    {"append", call_append}, {"reserve", call_reserve},   {"isolate", call_isolate},
+};
+
+/* Refuses the requests of a call from the first on, then from the second on, until it has enough. */
+static void sweep(const growth *it) {
+    for (long met = 0;; met++) {
+        dcel_mesh mesh = DCEL_MESH_INIT, before = DCEL_MESH_INIT;
+        make(&mesh);
+        must(dcel_clone(&mesh, &before) == DCEL_DONE, "there was no memory for a clone");
+        left = met;
+        uint32_t status = it->call(&mesh);
+        left = -1;
+        bool is_same = are_equal(&mesh, &before);
+        dcel_free(&mesh);
+        dcel_free(&before);
+        if (status == DCEL_DONE) {
+            printf("%s: %ld requests\n", it->name, met);
+            return;
+        }
+        must(status == DCEL_OUT_OF_MEMORY, it->name);
+        must(is_same, "a call that found no memory has changed the mesh");
+    }
+}
+
+/* A clone that finds no memory leaves the mesh that was there. */
+static void sweep_clone(void) {
+    for (long met = 0;; met++) {
+        dcel_mesh from = DCEL_MESH_INIT, to = DCEL_MESH_INIT, before = DCEL_MESH_INIT;
+        make(&from);
+        must(dcel_new(&to) == DCEL_DONE && dcel_clone(&to, &before) == DCEL_DONE, "there was no memory");
+        left = met;
+        uint32_t status = dcel_clone(&from, &to);
+        left = -1;
+        bool is_same = are_equal(&to, status == DCEL_DONE ? &from : &before);
+        dcel_free(&from);
+        dcel_free(&to);
+        dcel_free(&before);
+        must(is_same, "a clone is another mesh");
+        if (status == DCEL_DONE) {
+            printf("clone: %ld requests\n", met);
+            return;
+        }
+        must(status == DCEL_OUT_OF_MEMORY, "clone");
+    }
+}
+
+int main(void) {
+    for (size_t i = 0; i < sizeof CALLS / sizeof CALLS[0]; i++)
+        sweep(&CALLS[i]);
+    sweep_clone();
+    return EXIT_SUCCESS;
+}
