@@ -81,9 +81,12 @@ impl Links {
     /// # Ok::<(), dcel::Refusal>(())
     /// ```
     pub fn directed_edges(&self) -> impl DoubleEndedIterator<Item = FixedDirectedEdgeHandle> + '_ {
-        let all = self.half_edges.iter().zip(0..self.half_edges.len() as u32);
-        all.filter(|(entry, _)| entry.is_live())
-            .map(|(_, number)| FixedDirectedEdgeHandle::of(number))
+        let live = self
+            .half_edges
+            .iter()
+            .enumerate()
+            .filter(|(_, entry)| entry.is_live());
+        live.map(|(number, _)| FixedDirectedEdgeHandle::of(number as u32))
     }
 }
 

@@ -6,9 +6,6 @@ use dcel::handles::*;
 use dcel::operations::*;
 use dcel::{Dcel, Refusal};
 
-/// Any mesh.
-pub type Mesh<V, DE = (), UE = (), F = ()> = Dcel<V, DE, UE, F>;
-
 pub fn v(number: usize) -> FixedVertexHandle {
     FixedVertexHandle::new(number)
 }
