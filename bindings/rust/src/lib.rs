@@ -52,3 +52,8 @@ pub use dcel::{Dcel, RemovalState};
 pub use ffi::HalfEdgeEntry;
 pub use links::Links;
 pub use refusal::{Refusal, Refused};
+
+/// Runs the examples of the folder's page.
+#[cfg(doctest)]
+#[doc = include_str!("../README.md")]
+struct Readme;
