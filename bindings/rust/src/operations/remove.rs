@@ -280,9 +280,9 @@ impl Gone {
     ) -> Self {
         let mesh = &dcel.mesh;
         let numbers = || edges.iter().map(|edge| edge.number());
-        let live = |edge: &u32| *edge < 1 << 31;
+        let has_halves = |edge: &u32| *edge < 1 << 31;
         let halves = numbers()
-            .filter(live)
+            .filter(has_halves)
             .flat_map(|edge| [2 * edge, 2 * edge + 1]);
         Self {
             directed_edges: written(
