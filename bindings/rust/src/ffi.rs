@@ -53,12 +53,6 @@ impl HalfEdgeEntry {
         origin: FixedVertexHandle::of(NO_LINK),
         face: FixedFaceHandle::of(NO_LINK),
     };
-
-    /// Returns whether the half edge is live.
-    #[inline]
-    pub(crate) fn is_live(&self) -> bool {
-        self.origin.number() != NO_LINK
-    }
 }
 
 /// A vertex that was taken out: C's `dcel_removed`.
@@ -91,7 +85,7 @@ pub(crate) struct Legalized {
 const NONE: u64 = u64::MAX;
 
 /// What stands for each link of a half edge that isn't live.
-const NO_LINK: u32 = u32::MAX;
+pub(crate) const NO_LINK: u32 = u32::MAX;
 
 /// A mesh of the library, open from its making to its end.
 pub(crate) struct Mesh(UnsafeCell<RawMesh>);

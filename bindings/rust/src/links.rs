@@ -1,6 +1,6 @@
 //! The links of a mesh, taken out.
 
-use crate::ffi::{HalfEdgeEntry, Mesh};
+use crate::ffi::{HalfEdgeEntry, Mesh, NO_LINK};
 use crate::handles::*;
 use std::iter::{self, FusedIterator};
 
@@ -22,18 +22,26 @@ use std::iter::{self, FusedIterator};
 /// ```
 #[derive(Clone, PartialEq, Eq, Debug)]
 pub struct Links {
-    half_edges: Vec<HalfEdgeEntry>,
+    // A vector for each link: a walk reads few of them, and near ones share a line of the cache.
+    next: Vec<FixedDirectedEdgeHandle>,
+    prev: Vec<FixedDirectedEdgeHandle>,
+    origins: Vec<FixedVertexHandle>,
+    faces: Vec<FixedFaceHandle<PossiblyOuterTag>>,
     vertex_anchors: Vec<Option<FixedDirectedEdgeHandle>>,
     face_anchors: Vec<Option<FixedDirectedEdgeHandle>>,
 }
 
 impl Links {
     pub(crate) fn of(mesh: &Mesh) -> Self {
+        let entries = mesh.half_edges();
         let vertices = 0..mesh.num_vertices() as u32;
         let faces = 0..mesh.num_faces() as u32;
         let handle = FixedDirectedEdgeHandle::of;
         Self {
-            half_edges: mesh.half_edges(),
+            next: entries.iter().map(|entry| entry.next).collect(),
+            prev: entries.iter().map(|entry| entry.prev).collect(),
+            origins: entries.iter().map(|entry| entry.origin).collect(),
+            faces: entries.iter().map(|entry| entry.face).collect(),
             vertex_anchors: vertices
                 .map(|vertex| mesh.out_edge(vertex).map(handle))
                 .collect(),
@@ -57,18 +65,12 @@ impl Links {
     /// # Ok::<(), dcel::Refusal>(())
     /// ```
     pub fn get(&self, edge: FixedDirectedEdgeHandle) -> Option<HalfEdgeEntry> {
-        self.half_edges
-            .get(edge.index())
-            .copied()
-            .filter(HalfEdgeEntry::is_live)
-    }
-
-    #[inline]
-    fn entry(&self, edge: FixedDirectedEdgeHandle) -> &HalfEdgeEntry {
-        match self.half_edges.get(edge.index()) {
-            Some(entry) if entry.is_live() => entry,
-            _ => panic!("half edge {} isn't live", edge.index()),
-        }
+        Some(HalfEdgeEntry {
+            next: link(&self.next, edge)?,
+            prev: link(&self.prev, edge)?,
+            origin: link(&self.origins, edge)?,
+            face: link(&self.faces, edge)?,
+        })
     }
 
     /// Lists the live half edges.
@@ -82,10 +84,10 @@ impl Links {
     /// ```
     pub fn directed_edges(&self) -> impl DoubleEndedIterator<Item = FixedDirectedEdgeHandle> + '_ {
         let live = self
-            .half_edges
+            .next
             .iter()
             .enumerate()
-            .filter(|(_, entry)| entry.is_live());
+            .filter(|(_, next)| next.number() != NO_LINK);
         live.map(|(number, _)| FixedDirectedEdgeHandle::of(number as u32))
     }
 }
@@ -111,43 +113,43 @@ impl Links {
     /// Returns the half edge after it on its face.
     #[inline]
     pub fn next(&self, edge: FixedDirectedEdgeHandle) -> FixedDirectedEdgeHandle {
-        self.entry(edge).next
+        step(&self.next, edge)
     }
 
     /// Returns the half edge before it on its face.
     #[inline]
     pub fn prev(&self, edge: FixedDirectedEdgeHandle) -> FixedDirectedEdgeHandle {
-        self.entry(edge).prev
+        step(&self.prev, edge)
     }
 
     /// Returns the next half edge with the same origin, counterclockwise.
     #[inline]
     pub fn ccw(&self, edge: FixedDirectedEdgeHandle) -> FixedDirectedEdgeHandle {
-        self.entry(edge).prev.rev()
+        step(&self.prev, edge).rev()
     }
 
     /// Returns the next half edge with the same origin, clockwise.
     #[inline]
     pub fn cw(&self, edge: FixedDirectedEdgeHandle) -> FixedDirectedEdgeHandle {
-        self.entry(edge.rev()).next
+        step(&self.next, edge.rev())
     }
 
     /// Returns the vertex where it starts.
     #[inline]
     pub fn from(&self, edge: FixedDirectedEdgeHandle) -> FixedVertexHandle {
-        self.entry(edge).origin
+        step(&self.origins, edge)
     }
 
     /// Returns the vertex where it ends.
     #[inline]
     pub fn to(&self, edge: FixedDirectedEdgeHandle) -> FixedVertexHandle {
-        self.entry(edge.rev()).origin
+        step(&self.origins, edge.rev())
     }
 
     /// Returns its face.
     #[inline]
     pub fn face(&self, edge: FixedDirectedEdgeHandle) -> FixedFaceHandle<PossiblyOuterTag> {
-        self.entry(edge).face
+        step(&self.faces, edge)
     }
 
     /// Returns the anchor of a vertex, or None if no half edge starts there.
@@ -206,6 +208,31 @@ impl Links {
     ) -> impl FusedIterator<Item = FixedDirectedEdgeHandle> {
         walk(self.adjacent_edge(face), |edge| self.next(edge))
     }
+}
+
+/// Returns the link of a half edge, or None if it isn't live.
+#[inline]
+fn link<Type: DelaunayElementType, InnerOuter: InnerOuterMarker>(
+    links: &[FixedHandleImpl<Type, InnerOuter>],
+    edge: FixedDirectedEdgeHandle,
+) -> Option<FixedHandleImpl<Type, InnerOuter>> {
+    links
+        .get(edge.index())
+        .copied()
+        .filter(|found| found.number() != NO_LINK)
+}
+
+#[inline]
+fn step<Type: DelaunayElementType, InnerOuter: InnerOuterMarker>(
+    links: &[FixedHandleImpl<Type, InnerOuter>],
+    edge: FixedDirectedEdgeHandle,
+) -> FixedHandleImpl<Type, InnerOuter> {
+    link(links, edge).unwrap_or_else(|| not_live(edge))
+}
+
+#[cold]
+fn not_live(edge: FixedDirectedEdgeHandle) -> ! {
+    panic!("half edge {} isn't live", edge.index());
 }
 
 /// Lists half edges by a step, from the first one until it comes back.
