@@ -271,7 +271,14 @@ fn clear_keeps_the_outer_face() {
     let mut unwritten: Mesh = Dcel::default();
     unwritten.clear();
     assert_eq!(unwritten.outer_face().data().tag, 0);
-    drop((dcel, unwritten));
+
+    // Its key isn't the first of its kind.
+    let mut other: Mesh = new_triangle([1, 2, 3].map(Value::new)).unwrap();
+    other.face_data_mut(f(1)).tag = 7;
+    other.face_data_mut(OUTER_FACE).tag = 8;
+    other.clear();
+    assert_eq!(other.outer_face().data().tag, 8);
+    drop((dcel, unwritten, other));
     assert_eq!(live(), 0);
 }
 
@@ -331,19 +338,15 @@ fn updates_drop_the_old_value() {
 fn mapped_values() {
     let mut dcel = written();
     take_out(&mut dcel, v(3)).unwrap();
-    flip_cw(&mut dcel, u(0)).unwrap_err(); // both other corners are vertex 2
+    dcel.swap_vertices(v(0), v(2)).unwrap();
     let mut order = Vec::new();
     let mapped = dcel.map_vertices(|value| {
         order.push(value.tag);
         value.tag.to_string()
     });
-    assert_eq!(order, [1, 2, 3]);
-    assert!(
-        mapped
-            .vertices()
-            .map(|vertex| vertex.data().as_str())
-            .eq(["1", "2", "3"])
-    );
+    assert_eq!(order, [3, 2, 1]);
+    let texts = mapped.vertices().map(|vertex| vertex.data().as_str());
+    assert!(texts.eq(["3", "2", "1"]));
     let edges: Vec<u64> = mapped
         .undirected_edges()
         .map(|edge| edge.data().tag)
