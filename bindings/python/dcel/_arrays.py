@@ -4,7 +4,7 @@ from __future__ import annotations
 
 from array import array
 from collections.abc import Iterable
-from ctypes import byref, c_uint32
+from ctypes import c_uint32
 from typing import Any
 
 assert array("I").itemsize == 4
@@ -40,11 +40,12 @@ def zeros(length: int) -> array[int]:
     return array("I", bytes(4 * length))
 
 
-def pointer(items: array[int] | memoryview, kind: Any = c_uint32) -> Any:
-    """Points to the first item, and as long as it does, the items aren't moved. It is never null."""
-    return byref(kind.from_buffer(items) if len(items) else kind())
+def first(items: array[int] | memoryview, kind: Any = c_uint32) -> Any:
+    """The first item, which ctypes passes by its place, and as long as it is there, the items aren't moved. If there is none it is another
+    one, so that no pointer is null."""
+    return kind.from_buffer(items) if len(items) else kind()
 
 
 def listed(items: array[int] | memoryview) -> tuple[Any, int]:
     """A list as the calls take it: where it begins, and how long it is."""
-    return pointer(items), len(items)
+    return first(items), len(items)

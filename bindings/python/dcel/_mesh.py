@@ -5,11 +5,11 @@ from __future__ import annotations
 import enum
 from array import array
 from collections.abc import Callable, Iterable
-from ctypes import byref, c_bool, c_uint32, c_uint64
+from ctypes import c_bool, c_uint32, c_uint64
 from typing import Any, NamedTuple, NoReturn, Self
 
 from . import _calls
-from ._arrays import listed, number, numbers, pointer, wide, zeros
+from ._arrays import first, listed, number, numbers, wide, zeros
 from ._calls import NO_LINK, NONE, library
 from ._errors import Short, Status, refused
 
@@ -112,26 +112,24 @@ class Dcel:
     [7, 9, 11]
     """
 
-    __slots__ = ("__weakref__", "_at", "_mesh")
+    __slots__ = ("__weakref__", "_mesh")
 
     _free = library.dcel_free
     _mesh: _calls.Mesh
-    _at: Any
 
     def __new__(cls, *given: Any, **named: Any) -> Self:
         self = super().__new__(cls)
         self._mesh = _calls.Mesh()
-        self._at = byref(self._mesh)
         return self
 
     def __init__(self) -> None:
-        library.dcel_new(self._at)
+        library.dcel_new(self._mesh)
 
     # Whole meshes.
 
     def close(self) -> None:
         """Gives the memory back. Afterwards the mesh raises NoMesh; only `close` does nothing."""
-        self._free(self._at)
+        self._free(self._mesh)
 
     @property
     def closed(self) -> bool:
@@ -146,7 +144,7 @@ class Dcel:
         self.close()
 
     def __del__(self) -> None:
-        self._free(self._at)
+        self._free(self._mesh)
 
     def __repr__(self) -> str:
         if self.closed:
@@ -158,7 +156,7 @@ class Dcel:
     def copy(self) -> Self:
         """An equal mesh of its own. Raises OutOfMemory."""
         made = Dcel.__new__(type(self))
-        library.dcel_clone(self._at, made._at)
+        library.dcel_clone(self._mesh, made._mesh)
         return made
 
     __copy__ = copy
@@ -171,11 +169,11 @@ class Dcel:
 
     def clear(self) -> None:
         """Takes out all vertices, all edges and all inner faces, and closes a removal. The outer face keeps its datum."""
-        library.dcel_clear(self._at)
+        library.dcel_clear(self._mesh)
 
     def reserve_capacity(self, vertices: int, undirected_edges: int, faces: int) -> None:
         """Makes room in memory for that many more elements. Raises NoRoom if there are no numbers for them, OutOfMemory."""
-        library.dcel_reserve_capacity(self._at, wide(vertices), wide(undirected_edges), wide(faces))
+        library.dcel_reserve_capacity(self._mesh, wide(vertices), wide(undirected_edges), wide(faces))
 
     # Counts, with what a removal has given up.
 
@@ -263,7 +261,7 @@ class Dcel:
     def directed_edge(self, edge: int) -> HalfEdge:
         """The links of a half edge. Raises NoSuchEdge, GivenUp."""
         links = _calls.HalfEdge()
-        library.dcel_directed_edge(self._at, number(edge), byref(links))
+        library.dcel_directed_edge(self._mesh, number(edge), links)
         if links.origin == NO_LINK:
             self._must_be_live(edge, library.dcel_directed_edge)
         return HalfEdge(links.next, links.prev, links.origin, links.face)
@@ -274,7 +272,7 @@ class Dcel:
         while True:
             flat = zeros(4 * self.num_directed_edges())
             try:
-                library.dcel_directed_edges(self._at, pointer(flat, _calls.HalfEdge), len(flat) // 4, byref(needed))
+                library.dcel_directed_edges(self._mesh, first(flat, _calls.HalfEdge), len(flat) // 4, needed)
             except Short:  # another thread has added edges meanwhile
                 continue
             del flat[4 * needed.value :]
@@ -300,19 +298,19 @@ class Dcel:
 
     def update_vertex(self, vertex: int, datum: int) -> None:
         """Replaces the datum of a vertex. Raises NoSuchVertex."""
-        library.dcel_update_vertex(self._at, number(vertex), wide(datum))
+        library.dcel_update_vertex(self._mesh, number(vertex), wide(datum))
 
     def update_directed_edge(self, edge: int, datum: int) -> None:
         """Replaces the datum of a half edge. Raises NoSuchEdge."""
-        library.dcel_update_directed_edge(self._at, number(edge), wide(datum))
+        library.dcel_update_directed_edge(self._mesh, number(edge), wide(datum))
 
     def update_undirected_edge(self, edge: int, datum: int) -> None:
         """Replaces the datum of an edge. Raises NoSuchEdge."""
-        library.dcel_update_undirected_edge(self._at, number(edge), wide(datum))
+        library.dcel_update_undirected_edge(self._mesh, number(edge), wide(datum))
 
     def update_face(self, face: int, datum: int) -> None:
         """Replaces the datum of a face. Raises NoSuchFace."""
-        library.dcel_update_face(self._at, number(face), wide(datum))
+        library.dcel_update_face(self._mesh, number(face), wide(datum))
 
     # Edits. docs/MODEL.md draws what each does.
 
@@ -322,17 +320,17 @@ class Dcel:
 
     def new_triangle(self, a: int, b: int, c: int) -> None:
         """Replaces the mesh by one triangle, counterclockwise, whose vertices 0, 1 and 2 have these data. Raises OutOfMemory."""
-        library.dcel_new_triangle(self._at, wide(a), wide(b), wide(c))
+        library.dcel_new_triangle(self._mesh, wide(a), wide(b), wide(c))
 
     def setup_initial_two_vertices(self, first: int, second: int) -> None:
         """Makes the first edge, between two vertices. Raises NoSuchVertex, GivenUp, SameVertex, EdgesStand, NoRoom, OutOfMemory."""
-        library.dcel_setup_initial_two_vertices(self._at, number(first), number(second))
+        library.dcel_setup_initial_two_vertices(self._mesh, number(first), number(second))
 
     def extend_line(self, end: int, vertex: int) -> None:
         """Lengthens the line that ends at a vertex to another.
 
         Raises NoSuchVertex, GivenUp, SameVertex, VertexInUse, NotLineEnd, NoRoom, OutOfMemory."""
-        library.dcel_extend_line(self._at, number(end), number(vertex))
+        library.dcel_extend_line(self._mesh, number(end), number(vertex))
 
     def split_edge_when_all_vertices_on_line(self, edge: int, vertex: int) -> int:
         """Puts the vertex into the middle of an edge with one face on both sides. The first part of the half edge keeps its number, and
@@ -351,13 +349,13 @@ class Dcel:
         """Puts a triangle of the half edge and the vertex on the face of the half edge.
 
         Raises NoSuchVertex, NoSuchEdge, GivenUp, VertexInUse, NoRoom, OutOfMemory."""
-        library.dcel_create_new_face_adjacent_to_edge(self._at, number(edge), number(vertex))
+        library.dcel_create_new_face_adjacent_to_edge(self._mesh, number(edge), number(vertex))
 
     def insert_into_triangle(self, vertex: int, face: int) -> None:
         """Cuts a triangle into three at the vertex.
 
         Raises NoSuchVertex, NoSuchFace, GivenUp, VertexInUse, NotTriangle, NoRoom, OutOfMemory."""
-        library.dcel_insert_into_triangle(self._at, number(vertex), number(face))
+        library.dcel_insert_into_triangle(self._mesh, number(vertex), number(face))
 
     def split_half_edge(self, edge: int, vertex: int) -> int:
         """Puts the vertex into the middle of an edge, and joins it to the corner of the half edge's triangle. Returns the second part of
@@ -377,11 +375,11 @@ class Dcel:
         """Turns an edge between two triangles clockwise, so that it joins their other corners.
 
         Raises NoSuchEdge, GivenUp, NotTriangle, WouldLoop."""
-        library.dcel_flip_cw(self._at, number(undirected_edge))
+        library.dcel_flip_cw(self._mesh, number(undirected_edge))
 
     def swap_vertices(self, first: int, second: int) -> None:
         """Exchanges two vertices, with their data. Raises NoSuchVertex, GivenUp."""
-        library.dcel_swap_vertices(self._at, number(first), number(second))
+        library.dcel_swap_vertices(self._mesh, number(first), number(second))
 
     def legalize_by_number(self, max_flips: int, edges: Iterable[int]) -> Legalized:
         """Takes these edges from the last on, and after each flip first those beside it. It flips one that can be flipped and whose
@@ -389,7 +387,7 @@ class Dcel:
 
         Raises NoSuchEdge, and OutOfMemory if the list finds no memory at all."""
         legalized = _calls.Legalized()
-        library.dcel_legalize_by_number(self._at, wide(max_flips), *listed(numbers(edges)), byref(legalized))
+        library.dcel_legalize_by_number(self._mesh, wide(max_flips), *listed(numbers(edges)), legalized)
         return Legalized(legalized.flips, Ended(legalized.ended))
 
     # Removals: one is opened, cleaned up, and closed by taking the vertex out.
@@ -421,7 +419,7 @@ class Dcel:
         It closes a removal that has given up no vertex.
 
         Raises NoSuchEdge, NoSuchFace, NoRemoval, WrongLists, OutOfMemory."""
-        library.dcel_cleanup_isolated_vertex(self._at, *listed(numbers(edges)), *listed(numbers(faces)))
+        library.dcel_cleanup_isolated_vertex(self._mesh, *listed(numbers(edges)), *listed(numbers(faces)))
 
     def swap_remove_vertex(self, vertex: int) -> Removed:
         """Takes out a vertex that has no edge, or was given up by a removal that is cleaned up, and closes that. The last vertex gets its
@@ -562,19 +560,19 @@ class Dcel:
             raise refused(Status.NO_MESH, call)
 
     def _count(self, call: Any) -> int:
-        count: int = call(self._at)
+        count: int = call(self._mesh)
         if not count:
             self._must_be_open(call)
         return count
 
     def _holds(self, test: Any, *given: int) -> bool:
-        holds: bool = test(self._at, *given)
+        holds: bool = test(self._mesh, *given)
         if not holds:
             self._must_be_open(test)
         return holds
 
     def _step(self, step: Any, edge: int) -> int:
-        found: int = step(self._at, number(edge))
+        found: int = step(self._mesh, number(edge))
         if found == NONE:
             self._must_be_live(edge, step)
         return found
@@ -587,7 +585,7 @@ class Dcel:
 
     def _find(self, call: Any, count: Callable[[], int], status: Status, *elements: int) -> int | None:
         """What a call finds, which is NONE also where an element that it is given isn't there."""
-        found: int = call(self._at, *map(number, elements))
+        found: int = call(self._mesh, *map(number, elements))
         if found != NONE:
             return found
         if max(elements) >= count():
@@ -598,7 +596,7 @@ class Dcel:
         found, needed = zeros(8), c_uint64()
         while True:
             try:
-                walk(self._at, number(start), pointer(found), len(found), byref(needed))
+                walk(self._mesh, number(start), *listed(found), needed)
             except Short:
                 found = zeros(needed.value)
                 continue
@@ -607,28 +605,28 @@ class Dcel:
 
     def _datum(self, call: Any, element: int) -> int:
         datum = c_uint64()
-        call(self._at, number(element), byref(datum))
+        call(self._mesh, number(element), datum)
         return datum.value
 
     def _told(self, edit: Any, *given: int) -> int:
         told = c_uint32()
-        edit(self._at, *given, byref(told))
+        edit(self._mesh, *given, told)
         return told.value
 
     def _removed(self, removal: Any, vertex: int) -> Removed:
         removed = _calls.Removed()
-        removal(self._at, number(vertex), byref(removed))
+        removal(self._mesh, number(vertex), removed)
         return Removed(removed.datum, None if removed.moved == NONE else removed.moved)
 
     def _answer(self, test: Any, lists: Iterable[Iterable[int]], *given: int) -> bool:
         answer = c_bool()
-        test(self._at, *(word for it in lists for word in listed(numbers(it))), *given, byref(answer))
+        test(self._mesh, *(word for it in lists for word in listed(numbers(it))), *given, answer)
         return answer.value
 
     def _opened(self, opener: Any, words: tuple[Any, ...], edges: array[int], faces: array[int]) -> Opened:
         """What a removal has given up: what stands in these lists, or is put there."""
         opened = _calls.Opened()
-        opener(self._at, *words, *listed(edges), *listed(faces), byref(opened))
+        opener(self._mesh, *words, *listed(edges), *listed(faces), opened)
         del edges[opened.edges :], faces[opened.faces :]
         first = opened.smallest_new_edge
         return Opened(edges, faces, range(first, first + opened.new_edges))
