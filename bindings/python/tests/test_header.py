@@ -4,7 +4,9 @@ from __future__ import annotations
 
 import ctypes
 import inspect
+import os
 import re
+import subprocess
 import unittest
 from pathlib import Path
 from typing import Any
@@ -13,7 +15,8 @@ import dcel
 from dcel import Dcel, Ended, RemovalState, Status, _calls, _mesh
 from dcel._errors import ERRORS
 
-HEADER = (Path(__file__).resolve().parents[2] / "c/dcel.h").read_text()
+FOLDER = Path(__file__).resolve().parents[2] / "c"
+HEADER = (FOLDER / "dcel.h").read_text()
 CODE = re.sub(r"^#.*$", "", re.sub(r"/\*.*?\*/", "", HEADER, flags=re.S), flags=re.M)
 NAMES: dict[str, Any] = {
     "void": None, "bool": ctypes.c_bool, "uint32_t": ctypes.c_uint32, "uint64_t": ctypes.c_uint64, "size_t": ctypes.c_size_t,
@@ -73,6 +76,17 @@ class Header(unittest.TestCase):
 
     def test_structs(self) -> None:
         self.assertEqual(structs(), {name: list(it._fields_) for name, it in _calls.STRUCTS.items()})
+
+    def test_layout(self) -> None:
+        """The C compiler lays the structs out as ctypes does."""
+        text = '#include <stddef.h>\n#include "dcel.h"\n'
+        for name, it in _calls.STRUCTS.items():
+            text += f'_Static_assert(sizeof({name}) == {ctypes.sizeof(it)}, "{name}");\n'
+            for field, _ in it._fields_:  # type: ignore[misc]
+                text += f'_Static_assert(offsetof({name}, {field}) == {getattr(it, field).offset}, "{name}.{field}");\n'
+        words = [os.environ.get("CC", "cc"), "-std=c11", "-fsyntax-only", "-I", str(FOLDER), "-x", "c", "-"]
+        compiled = subprocess.run(words, input=text, text=True, capture_output=True, check=False)
+        self.assertEqual((compiled.returncode, compiled.stderr), (0, ""))
 
     def test_numbers(self) -> None:
         known = {it.name: it.value for kind in (Status, Ended, RemovalState) for it in kind}

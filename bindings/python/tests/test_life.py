@@ -5,6 +5,8 @@ from __future__ import annotations
 import copy
 import gc
 import pickle
+import resource
+import subprocess
 import sys
 import threading
 import unittest
@@ -104,4 +106,23 @@ class Life(unittest.TestCase):
         self.assertEqual((mesh.num_vertices(), mesh.num_faces(), mesh.sanity_check()), (3 + count * each, 2 + 2 * count * each, True))
 
     def test_calls_keep_the_lock(self) -> None:
+        """A Python without the interpreter's lock is told so."""
         self.assertEqual(type(library).__name__, "PyDLL")
+        code = "import sys; sys._is_gil_enabled = lambda: False\ntry:\n    import dcel\nexcept ImportError as no:\n    print(no)"
+        said = subprocess.run([sys.executable, "-c", code], stdout=subprocess.PIPE, text=True, check=True).stdout
+        self.assertRegex(said, "^dcel wants the interpreter's lock")
+
+    def test_memory_goes_back(self) -> None:
+        """Copies that take 300 MB together take little, one after another: closed, dropped, or made anew."""
+        mesh = Dcel()
+        mesh.new_triangle(1, 2, 3)
+        for datum in range(5000):
+            mesh.insert_into_triangle(mesh.append_unconnected_vertex(datum), 1)
+        before = resource.getrusage(resource.RUSAGE_SELF).ru_maxrss
+        for turn in range(300):
+            other = mesh.copy()
+            if turn % 3 == 0:
+                other.close()
+            elif turn % 3 == 1:
+                other.__init__()  # type: ignore[misc]
+        self.assertLess(resource.getrusage(resource.RUSAGE_SELF).ru_maxrss - before, 50_000)  # in KB
