@@ -40,7 +40,7 @@ def zeros(length: int) -> array[int]:
     return array("I", bytes(4 * length))
 
 
-def first(items: array[int] | memoryview, kind: Any = c_uint32) -> Any:
+def start_of(items: array[int] | memoryview, kind: Any = c_uint32) -> Any:
     """The first item, which ctypes passes by its place, and as long as it is there, the items aren't moved. If there is none it is another
     one, so that no pointer is null."""
     return kind.from_buffer(items) if len(items) else kind()
@@ -48,4 +48,4 @@ def first(items: array[int] | memoryview, kind: Any = c_uint32) -> Any:
 
 def listed(items: array[int] | memoryview) -> tuple[Any, int]:
     """A list as the calls take it: where it begins, and how long it is."""
-    return first(items), len(items)
+    return start_of(items), len(items)

@@ -9,7 +9,7 @@ from ctypes import c_bool, c_uint32, c_uint64
 from typing import Any, NamedTuple, NoReturn, Self
 
 from . import _calls
-from ._arrays import first, listed, number, numbers, wide, zeros
+from ._arrays import listed, number, numbers, start_of, wide, zeros
 from ._calls import NO_LINK, NONE, library
 from ._errors import Short, Status, refused
 
@@ -263,7 +263,7 @@ class Dcel:
         links = _calls.HalfEdge()
         library.dcel_directed_edge(self._mesh, number(edge), links)
         if links.origin == NO_LINK:
-            self._must_be_live(edge, library.dcel_directed_edge)
+            self._refuse_step(edge, library.dcel_directed_edge)
         return HalfEdge(links.next, links.prev, links.origin, links.face)
 
     def directed_edges(self) -> Links:
@@ -272,7 +272,7 @@ class Dcel:
         while True:
             flat = zeros(4 * self.num_directed_edges())
             try:
-                library.dcel_directed_edges(self._mesh, first(flat, _calls.HalfEdge), len(flat) // 4, needed)
+                library.dcel_directed_edges(self._mesh, start_of(flat, _calls.HalfEdge), len(flat) // 4, needed)
             except Short:  # another thread has added edges meanwhile
                 continue
             del flat[4 * needed.value :]
@@ -574,14 +574,13 @@ class Dcel:
     def _step(self, step: Any, edge: int) -> int:
         found: int = step(self._mesh, number(edge))
         if found == NONE:
-            self._must_be_live(edge, step)
+            self._refuse_step(edge, step)
         return found
 
-    def _must_be_live(self, edge: int, call: Any) -> None:
-        self._must_be_open(call)
-        if edge >= self.num_directed_edges():
-            raise refused(Status.NO_SUCH_EDGE, call)
-        raise refused(Status.GIVEN_UP, call)
+    def _refuse_step(self, edge: int, step: Any) -> NoReturn:
+        """Raises why a half edge isn't live."""
+        self._must_be_open(step)
+        raise refused(Status.GIVEN_UP if edge < self.num_directed_edges() else Status.NO_SUCH_EDGE, step)
 
     def _find(self, call: Any, count: Callable[[], int], status: Status, *elements: int) -> int | None:
         """What a call finds, which is NONE also where an element that it is given isn't there."""
