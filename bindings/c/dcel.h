@@ -8,7 +8,7 @@
      only one is used any more. It may lie somewhere else in memory at the next call.
    - One call at a time works on a mesh, also of those that only read. Another thread may make the next.
    - Pointers aren't null, also where a length is 0. They lead to as many items as the length says, and
-     nothing that a call writes to lies in anything else that it is given.
+     nothing that a call writes to lies in anything else that it is given. A bool is false or true before.
    - malloc, realloc and free belong together and align blocks as C asks. No call comes from a signal
      handler, or from the child of a fork in a program with threads.
 
@@ -17,7 +17,7 @@
    says and returns DCEL_DONE; or it changes nothing, neither the mesh nor what its pointers lead to, and
    returns why not: the least number of those that apply. All other calls leave the mesh as it was.
 
-   A call on a mesh that isn't open does nothing: it returns DCEL_NO_MESH, DCEL_NONE, 0 or false.
+   Where a mesh isn't open nothing is done or found: a call returns DCEL_NO_MESH, DCEL_NONE, 0 or false.
 
    Half edges 2 * u and 2 * u + 1 are the halves of edge u, and go opposite ways. Face 0 is the outer
    face. What a removal has given up is still counted, but not live, until it is taken out. */
@@ -228,8 +228,8 @@ uint32_t dcel_update_face(dcel_mesh *mesh, uint32_t face, uint64_t datum);
 
 /* ---- Edits ----
 
-   The numbers behind each are the statuses that it can return, besides DCEL_NO_MESH. docs/MODEL.md
-   draws what it does. */
+   The numbers behind each are the statuses that it can return, besides DCEL_NO_MESH. docs/PICTURES.md
+   draws most, with numbers. */
 
 /* Adds a vertex without an edge, and tells its number. 19 20. */
 uint32_t dcel_append_unconnected_vertex(dcel_mesh *mesh, uint64_t datum, uint32_t *vertex);

@@ -1,0 +1,21 @@
+-- What is kept and its parts own what a box at the same types owns.
+use mir.Syntax.{impl, tnil, dnil}
+use mathlib.Core.List.{[]}
+use denote.Signature.{Slot, plain}
+use Rattle.std_alloc.proofs.BoxSteps.Form.{Bx}
+use Rattle.std_heap.specs.contracts.Global as Heap
+use Rattle.std_heap.specs.contracts.GlobalAllocator.TheImpl.{ghosts, dict}
+use Rattle.std_heap.proofs.Global.TheLaws as heap
+use Rattle.dcel_c.specs.Held.{mesh_row}
+use Rattle.dcel_c.specs.contracts.held.parts.Parts as Parts
+use Rattle.dcel_c.specs.contracts.held.Held as Held
+use Rattle.dcel_c.proofs.Payload.{mesh_laws}
+
+abbrev pub E : Bx
+E = record { row = mesh_row; laws = mesh_laws; al = record { row = Heap.the_row; laws = heap.the_row_laws; g = ghosts; d = dict; drops = impl [] tnil dnil } }
+
+abbrev pub FromParts : Slot 0
+FromParts = plain (λ _. Parts.the_row mesh_row Heap.the_row ghosts)
+
+abbrev pub FromHeld : Slot 0
+FromHeld = plain (λ _. Held.the_row)

@@ -1,0 +1,6 @@
+pub mod AsBox
+pub mod Buffers
+pub mod Filling
+pub mod Full
+pub mod Payload
+pub mod Walked

@@ -1,0 +1,13 @@
+pub mod Calls
+pub mod Data
+pub mod Edits
+pub mod HalfEdges
+pub mod Held
+pub mod Laws
+pub mod Legalizing
+pub mod Lending
+pub mod Lists
+pub mod Removals
+pub mod Steps
+pub mod Tests
+pub mod Walks
