@@ -62,14 +62,19 @@ def insert(size: int) -> Iterator[Run]:
 
 
 def walk(size: int) -> Iterator[Run]:
-    """Goes round each vertex, and sums where its half edges lead."""
+    """Goes round each vertex along the links, and sums where its half edges lead. Taking the links out is timed too."""
     mesh = triangulated(size)
     while True:
         start = perf_counter_ns()
-        origin, total = mesh.directed_edges().origin, 0
+        links, total = mesh.directed_edges(), 0
+        prev, origin = links.prev, links.origin
         for vertex in range(mesh.num_vertices()):
-            for edge in mesh.out_edges(vertex):
+            first = edge = mesh.out_edge(vertex)
+            while True:
                 total += origin[edge ^ 1]
+                edge = prev[edge] ^ 1
+                if edge == first:
+                    break
         yield perf_counter_ns() - start, total, mesh.num_directed_edges()
 
 
