@@ -52,7 +52,7 @@ class In(unittest.TestCase):
         self.assertEqual(address(numbers(memoryview(items)[1:])), items.buffer_info()[0] + 4)
 
     def test_what_is_no_list(self) -> None:
-        for wrong in ("135", 1, [1.0], [None], array("d", [1.0]), memoryview(bytes(4)).cast("B", (2, 2))):
+        for wrong in ("135", 1, [1.0], [None], array("d", [1.0]), memoryview(bytearray(16)).cast("I", (2, 2))):
             with self.subTest(given=wrong), self.assertRaises((TypeError, NotImplementedError)):
                 round_().is_border_loop(wrong, 3)  # type: ignore[arg-type]
 
