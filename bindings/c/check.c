@@ -17,7 +17,7 @@ static int checks = 0;
         }                                                                \
     } while (0)
 
-/* A triangle round vertex 3:  half edges 0, 2 and 4 of edges 0, 1 and 2 lie on faces 1, 3 and 2. */
+/* A triangle round vertex 3. Half edges 0, 2 and 4 lie on the outer face. */
 static void make_round(dcel_mesh *mesh) {
     uint32_t vertex = 9;
     CHECK(dcel_new(mesh) == DCEL_DONE);
@@ -159,14 +159,14 @@ static void check_triangles(void) {
     CHECK(dcel_append_unconnected_vertex(&mesh, 11, &vertex) == DCEL_DONE);
     CHECK(dcel_is_triangle(&mesh, 1) && !dcel_is_triangle(&mesh, 4) && dcel_can_insert_into_triangle(&mesh, 4, 1));
     CHECK(!dcel_can_insert_into_triangle(&mesh, 4, 0) && dcel_insert_into_triangle(&mesh, 4, 0) == DCEL_NO_SUCH_FACE);
-    CHECK(dcel_can_split_half_edge(&mesh, 0, 4) && dcel_can_split_edge(&mesh, 0, 4) && !dcel_can_split_edge(&mesh, 0, 3));
-    CHECK(dcel_split_half_edge(&mesh, 0, 4, &second) == DCEL_DONE && dcel_to(&mesh, 0) == 4 && dcel_from(&mesh, second) == 4);
+    CHECK(dcel_can_split_half_edge(&mesh, 1, 4) && dcel_can_split_edge(&mesh, 1, 4) && !dcel_can_split_edge(&mesh, 1, 3));
+    CHECK(dcel_split_half_edge(&mesh, 1, 4, &second) == DCEL_DONE && dcel_to(&mesh, 1) == 4 && dcel_from(&mesh, second) == 4);
     CHECK(dcel_num_faces(&mesh) == 5 && !dcel_is_triangle(&mesh, 0));
     CHECK(dcel_append_unconnected_vertex(&mesh, 12, &vertex) == DCEL_DONE);
-    CHECK(dcel_split_edge(&mesh, 12, 5, &second) == DCEL_DONE && dcel_to(&mesh, 12) == 5 && dcel_from(&mesh, second) == 5);
+    CHECK(dcel_split_edge(&mesh, 6, 5, &second) == DCEL_DONE && dcel_to(&mesh, 6) == 5 && dcel_from(&mesh, second) == 5);
     CHECK(dcel_append_unconnected_vertex(&mesh, 13, &vertex) == DCEL_DONE);
-    CHECK(dcel_can_create_new_face_adjacent_to_edge(&mesh, 1, 6));
-    CHECK(dcel_create_new_face_adjacent_to_edge(&mesh, 1, 6) == DCEL_DONE && dcel_num_faces(&mesh) == 8);
+    CHECK(dcel_can_create_new_face_adjacent_to_edge(&mesh, 0, 6));
+    CHECK(dcel_create_new_face_adjacent_to_edge(&mesh, 0, 6) == DCEL_DONE && dcel_num_faces(&mesh) == 8);
     CHECK(dcel_sanity_check(&mesh) && dcel_is_live_vertex(&mesh, 6) && !dcel_is_live_vertex(&mesh, 7));
     CHECK(dcel_has_room(&mesh, UINT32_MAX - 7, 0, 0) && !dcel_has_room(&mesh, UINT64_C(1) << 33, 0, 0));
     CHECK(dcel_reserve_capacity(&mesh, 10, 10, 10) == DCEL_DONE);
@@ -260,7 +260,7 @@ static void check_strips(void) {
     bool answer = false;
     CHECK(dcel_new(&mesh) == DCEL_DONE && dcel_new_triangle(&mesh, 7, 8, 9) == DCEL_DONE);
     CHECK(dcel_append_unconnected_vertex(&mesh, 10, &vertex) == DCEL_DONE);
-    CHECK(dcel_create_new_face_adjacent_to_edge(&mesh, 1, vertex) == DCEL_DONE);
+    CHECK(dcel_create_new_face_adjacent_to_edge(&mesh, 0, vertex) == DCEL_DONE);
     /* From the half edge that leaves the vertex along the outer face on, what comes after each. */
     uint32_t outer = (uint32_t)dcel_out_edge(&mesh, vertex);
     while (dcel_face(&mesh, outer) != 0)
