@@ -74,6 +74,15 @@ class Header(unittest.TestCase):
         self.assertEqual(methods - calls, {"close", "copy"})
         self.assertEqual(calls - methods, {"new", "free", "clone"})
 
+    def test_hints(self) -> None:
+        """Each parameter and each result has its type, and the package says so."""
+        for name, it in inspect.getmembers(Dcel, inspect.isfunction):
+            with self.subTest(method=name):
+                own = [each for each in inspect.signature(it).parameters.values() if each.name not in ("self", "cls")]
+                self.assertTrue(all(each.annotation is not each.empty for each in own))
+                self.assertIsNot(inspect.signature(it).return_annotation, inspect.Signature.empty)
+        self.assertTrue((Path(dcel.__file__).parent / "py.typed").is_file())
+
     def test_structs(self) -> None:
         self.assertEqual(structs(), {name: list(it._fields_) for name, it in _calls.STRUCTS.items()})
 
