@@ -11,7 +11,7 @@ from time import perf_counter_ns
 
 from dcel import BadRing, Dcel
 
-ROUNDS = 3
+ROUNDS, LONG_ENOUGH = 3, 100_000_000  # no fewer rounds than these, which take so many nanoseconds together
 BITS = 2**64
 
 
@@ -135,13 +135,22 @@ def remove(size: int) -> Iterator[Run]:
 WORKLOADS = {it.__name__: it for it in (insert, walk, flip, remove)}
 
 
+def best(runs: Iterator[Run]) -> Run:
+    """The fastest of some rounds."""
+    found: list[Run] = []
+    while len(found) < ROUNDS or sum(time for time, _, _ in found) < LONG_ENOUGH:
+        found.append(next(runs))
+    return min(found)
+
+
 def main() -> None:
     workloads, sizes = (word.split(",") for word in sys.argv[1:3])
     for name in workloads:
         for size in sizes:
-            best, checksum, operations = min(run for run, _ in zip(WORKLOADS[name](int(size)), range(ROUNDS)))
-            time = [] if "checksums" in sys.argv else [f"{best / max(operations, 1):.1f}"]
-            print(" ".join([name, size, *time, str(checksum), str(operations)]))
+            runs, is_timed = WORKLOADS[name](int(size)), "checksums" not in sys.argv
+            time, checksum, operations = best(runs) if is_timed else next(runs)
+            shown = [f"{time / max(operations, 1):.1f}"] if is_timed else []
+            print(" ".join([name, size, *shown, str(checksum), str(operations)]))
 
 
 if __name__ == "__main__":
