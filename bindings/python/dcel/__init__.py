@@ -1,0 +1,39 @@
+"""A half-edge mesh on the sphere that is kept across calls, over a library in which every call is proved.
+
+`Dcel` is the mesh. Each way in which a call can be refused is an error of its own, under `DcelError`."""
+
+from ._calls import NO_LINK
+from ._errors import (
+    BadRing,
+    BadStrip,
+    DcelError,
+    EdgesStand,
+    GivenUp,
+    NoMesh,
+    NoRemoval,
+    NoRoom,
+    NoSuchEdge,
+    NoSuchFace,
+    NoSuchVertex,
+    NotBridge,
+    NotLineEnd,
+    NotOuter,
+    NotPath,
+    NotTriangle,
+    OutOfMemory,
+    RemovalOpen,
+    SameVertex,
+    Short,
+    Status,
+    VertexInUse,
+    WouldLoop,
+    WrongLists,
+)
+from ._mesh import Dcel, Ended, HalfEdge, Legalized, Links, Opened, RemovalState, Removed
+
+__all__ = [
+    "NO_LINK", "BadRing", "BadStrip", "Dcel", "DcelError", "EdgesStand", "Ended", "GivenUp", "HalfEdge", "Legalized", "Links", "NoMesh",
+    "NoRemoval", "NoRoom", "NoSuchEdge", "NoSuchFace", "NoSuchVertex", "NotBridge", "NotLineEnd", "NotOuter", "NotPath", "NotTriangle",
+    "Opened", "OutOfMemory", "RemovalOpen", "RemovalState", "Removed", "SameVertex", "Short", "Status", "VertexInUse", "WouldLoop",
+    "WrongLists",
+]

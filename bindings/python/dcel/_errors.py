@@ -1,0 +1,184 @@
+"""What calls on a mesh are refused as."""
+
+from __future__ import annotations
+
+import enum
+from typing import Any, ClassVar
+
+
+class Status(enum.IntEnum):
+    """What the calls of the library return. The error of a status has its name."""
+
+    DONE = 0
+    NO_SUCH_VERTEX = 1
+    NO_SUCH_EDGE = 2
+    NO_SUCH_FACE = 3
+    REMOVAL_OPEN = 4
+    NO_REMOVAL = 5
+    GIVEN_UP = 6
+    SAME_VERTEX = 7
+    VERTEX_IN_USE = 8
+    EDGES_STAND = 9
+    NOT_LINE_END = 10
+    NOT_BRIDGE = 11
+    NOT_OUTER = 12
+    NOT_TRIANGLE = 13
+    WOULD_LOOP = 14
+    BAD_RING = 15
+    BAD_STRIP = 16
+    WRONG_LISTS = 17
+    NOT_PATH = 18
+    NO_ROOM = 19
+    OUT_OF_MEMORY = 20
+    NO_MESH = 21
+    SHORT = 22
+
+
+class DcelError(Exception):
+    """A call was refused, and the mesh is as it was. `status` says why: the least of those that apply."""
+
+    status: ClassVar[Status]
+
+
+class NoSuchVertex(DcelError, IndexError):
+    """There is no such vertex."""
+
+    status = Status.NO_SUCH_VERTEX
+
+
+class NoSuchEdge(DcelError, IndexError):
+    """There is no such edge or half edge."""
+
+    status = Status.NO_SUCH_EDGE
+
+
+class NoSuchFace(DcelError, IndexError):
+    """There is no such face, or it is the outer one where an inner one is asked for."""
+
+    status = Status.NO_SUCH_FACE
+
+
+class RemovalOpen(DcelError, ValueError):
+    """A removal is open."""
+
+    status = Status.REMOVAL_OPEN
+
+
+class NoRemoval(DcelError, ValueError):
+    """No removal is open that is still to be cleaned up."""
+
+    status = Status.NO_REMOVAL
+
+
+class GivenUp(DcelError, ValueError):
+    """A removal has given the element up."""
+
+    status = Status.GIVEN_UP
+
+
+class SameVertex(DcelError, ValueError):
+    """The two vertices are one."""
+
+    status = Status.SAME_VERTEX
+
+
+class VertexInUse(DcelError, ValueError):
+    """The vertex has an edge."""
+
+    status = Status.VERTEX_IN_USE
+
+
+class EdgesStand(DcelError, ValueError):
+    """The mesh has an edge."""
+
+    status = Status.EDGES_STAND
+
+
+class NotLineEnd(DcelError, ValueError):
+    """The vertex is no end of a line."""
+
+    status = Status.NOT_LINE_END
+
+
+class NotBridge(DcelError, ValueError):
+    """The halves of the edge lie on two faces."""
+
+    status = Status.NOT_BRIDGE
+
+
+class NotOuter(DcelError, ValueError):
+    """The half edge doesn't lie on the outer face."""
+
+    status = Status.NOT_OUTER
+
+
+class NotTriangle(DcelError, ValueError):
+    """A face is no triangle."""
+
+    status = Status.NOT_TRIANGLE
+
+
+class WouldLoop(DcelError, ValueError):
+    """An edge would join a vertex to itself."""
+
+    status = Status.WOULD_LOOP
+
+
+class BadRing(DcelError, ValueError):
+    """The list is no border loop of the vertex, or no ring of what lies inside."""
+
+    status = Status.BAD_RING
+
+
+class BadStrip(DcelError, ValueError):
+    """The list is no strip of a vertex."""
+
+    status = Status.BAD_STRIP
+
+
+class WrongLists(DcelError, ValueError):
+    """The lists don't name what the open removal has given up."""
+
+    status = Status.WRONG_LISTS
+
+
+class NotPath(DcelError, ValueError):
+    """The mesh is neither one vertex nor a path."""
+
+    status = Status.NOT_PATH
+
+
+class NoRoom(DcelError, ValueError):
+    """There are no numbers left for the new elements."""
+
+    status = Status.NO_ROOM
+
+
+class OutOfMemory(DcelError, MemoryError):
+    """There is no memory."""
+
+    status = Status.OUT_OF_MEMORY
+
+
+class NoMesh(DcelError, ValueError):
+    """The mesh is closed."""
+
+    status = Status.NO_MESH
+
+
+class Short(DcelError, ValueError):
+    """A buffer has too few places. The methods of a mesh make theirs long enough."""
+
+    status = Status.SHORT
+
+
+ERRORS: dict[int, type[DcelError]] = {kind.status: kind for kind in DcelError.__subclasses__()}
+
+for _kind in (DcelError, *ERRORS.values()):
+    _kind.__module__ = "dcel"  # where callers find it, and what they are shown
+
+
+def refused(status: int, function: Any) -> DcelError:
+    """The error of a status that a call of the library has returned."""
+    kind = ERRORS[status]
+    return kind(f"{function.__name__.removeprefix('dcel_')}: {kind.__doc__}")

@@ -1,0 +1,113 @@
+"""Each request for memory is refused in turn: a call that finds none raises OutOfMemory, and leaves the mesh as it was.
+
+It wants a library that is linked with refusing.c, and is left out with any other."""
+
+from __future__ import annotations
+
+import ctypes
+import unittest
+from collections.abc import Callable
+from typing import Any
+
+from dcel import Dcel, Ended, OutOfMemory
+from dcel._calls import library
+from meshes import BORDER, STRIP, line, opened, points, round_, state, triangle
+
+try:
+    left = ctypes.c_long.in_dll(library, "dcel_requests_left")
+except ValueError:
+    left = None  # type: ignore[assignment]
+
+INSIDE = [3, 4, 5], [1, 2, 3]
+# The method, the mesh, and what the method is given.
+CASES: list[tuple[str, Callable[[], Dcel], tuple[Any, ...]]] = [
+    ("__init__", round_, ()),
+    ("copy", round_, ()),
+    ("reserve_capacity", round_, (1000, 1000, 1000)),
+    ("append_unconnected_vertex", round_, (1,)),
+    ("new_triangle", round_, (1, 2, 3)),
+    ("setup_initial_two_vertices", lambda: points(2), (0, 1)),
+    ("extend_line", line, (1, 2)),
+    ("split_edge_when_all_vertices_on_line", line, (0, 2)),
+    ("create_new_face_adjacent_to_edge", round_, (0, 4)),
+    ("insert_into_triangle", round_, (4, 1)),
+    ("split_half_edge", round_, (0, 4)),
+    ("split_edge", round_, (0, 4)),
+    ("isolate_vertex_and_fill_hole", round_, (BORDER, 3)),
+    ("remesh_edge_ring", round_, (BORDER, *INSIDE)),
+    ("disconnect_edge_strip", round_, (STRIP,)),
+    ("cleanup_isolated_vertex", opened, INSIDE),
+    ("is_border_loop", round_, (BORDER, 3)),
+    ("is_ring", round_, (BORDER, *INSIDE)),
+    ("is_edge_strip", round_, (STRIP,)),
+    ("is_listed", opened, INSIDE),
+    ("can_isolate_vertex_and_fill_hole", round_, (BORDER, 3)),
+    ("can_remesh_edge_ring", round_, (BORDER, *INSIDE)),
+    ("can_disconnect_edge_strip", round_, (STRIP,)),
+]
+
+
+@unittest.skipIf(left is None, "the library's malloc refuses nothing")
+class Memory(unittest.TestCase):
+    def refused(self, met: int, call: Callable[[], object]) -> bool:
+        """Whether a call finds no memory once so many requests were met."""
+        left.value = met
+        try:
+            call()
+        except OutOfMemory:
+            return True
+        finally:
+            left.value = -1
+        return False
+
+    def sweep(self, name: str, make: Callable[[], Dcel], given: tuple[Any, ...]) -> int:
+        """How often a call is refused, if it is allowed one request more each time."""
+        for met in range(1000):
+            mesh = make().copy()  # which has no room to spare
+            before = state(mesh)
+            if not self.refused(met, lambda: getattr(mesh, name)(*given)):
+                return met
+            self.assertEqual(state(mesh), before)
+        self.fail("it finds no memory, however much there is")
+
+    def test_each(self) -> None:
+        for name, make, given in CASES:
+            with self.subTest(method=name):
+                self.assertGreater(self.sweep(name, make, given), 0)
+
+    def test_close_outside(self) -> None:
+        def path() -> Dcel:
+            mesh = line()
+            mesh.extend_line(1, 2)
+            return mesh
+
+        self.assertGreater(self.sweep("create_single_face_between_edge_and_next", path, (0,)), 0)
+
+    def test_new(self) -> None:
+        self.assertTrue(self.refused(0, Dcel))
+        self.assertFalse(self.refused(1000, Dcel))
+
+    def test_legalize(self) -> None:
+        """A list that can't grow ends a legalization, and keeps the flips that are told."""
+        ended = set()
+        for met in range(1000):
+            mesh = round_().copy()
+            mesh.flip_cw(0)
+            before, left.value = state(mesh), met
+            try:
+                flips, how = mesh.legalize_by_number(100, [0, 1, 2])
+            except OutOfMemory:
+                self.assertEqual(state(mesh), before)
+                continue
+            finally:
+                left.value = -1
+            ended.add(how)
+            self.assertEqual(state(mesh) == before, flips == 0)
+            if how == Ended.LEGALIZED:
+                break
+        self.assertIn(Ended.LEGALIZED, ended)
+
+    def test_steps_take_none(self) -> None:
+        mesh = triangle()
+        self.assertFalse(self.refused(0, lambda: [mesh.flip_cw, mesh.clear][1]()))
+        self.assertFalse(self.refused(0, lambda: (mesh.directed_edges(), mesh.face_edges(0), mesh.adjacent_edge(0))))

@@ -1,0 +1,35 @@
+"""What the README and the texts of the module show, and the picture."""
+
+from __future__ import annotations
+
+import doctest
+import re
+import subprocess
+import sys
+import unittest
+from pathlib import Path
+from xml.etree import ElementTree
+
+import dcel
+import dcel._mesh
+
+FOLDER = Path(__file__).resolve().parent.parent
+
+
+class Shown(unittest.TestCase):
+    def test_readme(self) -> None:
+        text = re.sub(r"^```.*$", "", (FOLDER / "README.md").read_text(), flags=re.M)
+        shown = doctest.DocTestParser().get_doctest(text, {}, "README", "README.md", 0)
+        failed, tried = doctest.DocTestRunner().run(shown)
+        self.assertEqual((failed, tried > 20), (0, True))
+
+    def test_module(self) -> None:
+        failed, tried = doctest.testmod(sys.modules["dcel._mesh"])
+        self.assertEqual((failed, tried > 0), (0, True))
+        self.assertTrue(all(it.__doc__ for it in vars(dcel).values() if isinstance(it, type)))
+        self.assertTrue(all(it.__doc__ for name, it in vars(dcel.Dcel).items() if not name.startswith("_")))
+
+    def test_picture(self) -> None:
+        drawn = subprocess.run([sys.executable, FOLDER / "examples/picture.py"], stdout=subprocess.PIPE, text=True, check=True).stdout
+        kinds = [it.tag.rpartition("}")[2] for it in ElementTree.fromstring(drawn)]
+        self.assertEqual((kinds.count("circle"), kinds.count("line")), (22, 3 * 22 - 6))
