@@ -1,4 +1,4 @@
-//! What exports return. The same names stand in the header of `examples/c`.
+//! What the export returns. The same names stand in the header `bindings/c/mesh_lines.h`.
 
 ghost use Rattle.std.specs.Prelude.{◌≡◌, ◌≤◌, ◌<◌};
 

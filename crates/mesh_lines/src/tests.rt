@@ -1,6 +1,5 @@
-//! Tests of the exports, as C calls them.
+//! A test of the export, as C calls it.
 
-use crate::half_edges::{MeshLinesHalfEdge, mesh_lines_half_edges};
 use crate::replies::mesh_lines_replies;
 use std::test::Fail;
 
@@ -18,28 +17,5 @@ fn replies_come_whole_or_from_the_front(rt: HostRuntime) -> Result<(), Fail> {
     let status = mesh_lines_replies(rt.alloc(), LINES, &mut few, &mut needed);
     assert_eq!(rt; (status, needed), (1, 44));
     assert!(rt; few[..] == b"ok\nr"[..]);
-    Ok(())
-}
-
-#[test]
-fn half_edges_come_by_number(rt: HostRuntime) -> Result<(), Fail> {
-    let unwritten = MeshLinesHalfEdge {
-        next: 9,
-        prev: 9,
-        origin: 9,
-        face: 9,
-    };
-    let mut half_edges = [unwritten; 7];
-    let mut needed = 0;
-    let status = mesh_lines_half_edges(rt.alloc(), LINES, &mut half_edges, &mut needed);
-    assert_eq!(rt; (status, needed), (0, 6));
-    let first = half_edges[0];
-    assert_eq!(rt;
-        (first.next, first.prev, first.origin, first.face),
-        (2, 4, 0, 0)
-    );
-    assert_eq!(rt; half_edges[6].face, 9);
-    let status = mesh_lines_half_edges(rt.alloc(), LINES, &mut half_edges[..2], &mut needed);
-    assert_eq!(rt; (status, needed), (1, 6));
     Ok(())
 }

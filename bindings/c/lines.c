@@ -5,7 +5,6 @@
 #include <inttypes.h>
 #include <stdio.h>
 #include <stdlib.h>
-#include <string.h>
 
 static const char LINES[] = "triangle 7 8 9\nappend 10\ninsert 3 1\nflip 9\nfoo\nout 3\n";
 static const size_t LENGTH = sizeof LINES - 1;
@@ -19,7 +18,7 @@ static uint8_t *replies_to(const char *lines, size_t length, uint64_t *needed) {
     if (status == MESH_LINES_NO_MEMORY)
         return NULL;
     size_t room = (size_t)*needed + 1; /* never 0 bytes */
-    uint8_t *replies = malloc(room);
+    uint8_t *replies = (uint8_t *)malloc(room);
     if (replies == NULL)
         return NULL;
     status = mesh_lines_replies((const uint8_t *)lines, length, replies, room, needed);
@@ -31,21 +30,6 @@ static uint8_t *replies_to(const char *lines, size_t length, uint64_t *needed) {
     return replies;
 }
 
-/* Prints the half edges of the mesh that the lines leave, and returns whether all were there. */
-static int show_half_edges(const char *lines, size_t length) {
-    mesh_lines_half_edge half_edges[32];
-    uint64_t needed;
-    uint32_t status = mesh_lines_half_edges((const uint8_t *)lines, length, half_edges, 32, &needed);
-    if (status != MESH_LINES_DONE)
-        return 0;
-    for (uint64_t h = 0; h < needed; h++)
-        printf("half edge %" PRIu64 ": from %" PRIu32 " to %" PRIu32 ", next %" PRIu32
-               ", prev %" PRIu32 ", face %" PRIu32 "\n",
-               h, half_edges[h].origin, half_edges[h ^ 1].origin, half_edges[h].next,
-               half_edges[h].prev, half_edges[h].face);
-    return 1;
-}
-
 int main(void) {
     uint64_t needed;
     uint8_t *replies = replies_to(LINES, LENGTH, &needed);
@@ -53,5 +37,5 @@ int main(void) {
         return EXIT_FAILURE;
     fwrite(replies, 1, (size_t)needed, stdout);
     free(replies);
-    return show_half_edges(LINES, LENGTH) ? EXIT_SUCCESS : EXIT_FAILURE;
+    return EXIT_SUCCESS;
 }
