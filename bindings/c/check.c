@@ -308,6 +308,66 @@ static void check_whole(void) {
     dcel_free(&moved);
 }
 
+/* A mesh is made again of its links, and refused with one of them changed. */
+static void check_links(void) {
+    dcel_mesh mesh = DCEL_MESH_INIT, other = DCEL_MESH_INIT;
+    dcel_half_edge all[12], link;
+    dcel_fault fault = {77, 77, 77, 77, 77};
+    const uint64_t vertices[] = {1, 2, 3, 4}, faces[] = {5, 6, 7, 8};
+    uint64_t needed, datum;
+    make_round(&mesh);
+    CHECK(dcel_directed_edges(&mesh, all, 12, &needed) == DCEL_DONE && needed == 12);
+    CHECK(dcel_from_links(&other, all, 12, vertices, 4, faces, 4, &fault) == DCEL_DONE && fault.kind == 77);
+    for (uint32_t h = 0; h < 12; h++) {
+        dcel_directed_edge(&other, h, &link);
+        CHECK(memcmp(&link, &all[h], sizeof link) == 0);
+        all[h].prev = 77;
+    }
+    CHECK(dcel_vertex_data(&other, 3, &datum) == DCEL_DONE && datum == 4);
+    CHECK(dcel_face_data(&other, 3, &datum) == DCEL_DONE && datum == 8);
+    CHECK(dcel_directed_edge_data(&other, 11, &datum) == DCEL_DONE && datum == 0);
+    CHECK(dcel_from_links(&mesh, all, 12, vertices, 4, faces, 4, &fault) == DCEL_DONE);
+    CHECK(dcel_vertex_data(&mesh, 0, &datum) == DCEL_DONE && datum == 1);
+    CHECK(dcel_from_links(&mesh, all, 11, vertices, 4, faces, 4, &fault) == DCEL_FAULTY);
+    CHECK(fault.kind == DCEL_FAULT_LENGTHS && fault.number == 0 && fault.other == 0);
+    CHECK(dcel_from_links(&mesh, all, 12, vertices, 4, faces, 0, &fault) == DCEL_FAULTY && fault.kind == DCEL_FAULT_NO_FACE);
+    CHECK(dcel_from_links(&mesh, all, 12, vertices, 3, faces, 4, &fault) == DCEL_FAULTY);
+    CHECK(fault.kind == DCEL_FAULT_ORIGIN_OUT_OF_RANGE && all[fault.number].origin == 3);
+    all[5].next = 12;
+    CHECK(dcel_from_links(&mesh, all, 12, vertices, 4, faces, 4, &fault) == DCEL_FAULTY);
+    CHECK(fault.kind == DCEL_FAULT_NEXT_OUT_OF_RANGE && fault.number == 5 && dcel_num_vertices(&mesh) == 4);
+    CHECK(dcel_from_links(&mesh, all, 0, vertices, 2, faces, 1, &fault) == DCEL_DONE && dcel_num_vertices(&mesh) == 2);
+    dcel_free(&mesh);
+    dcel_free(&other);
+}
+
+/* Two triangles beside each other, and faces that are refused. */
+static void check_faces(void) {
+    dcel_mesh mesh = DCEL_MESH_INIT;
+    dcel_fault fault = {77, 77, 77, 77, 77};
+    const uint64_t vertices[] = {1, 2, 3, 4, 5};
+    const uint32_t corners[] = {0, 1, 2, 2, 1, 3}, twice[] = {0, 1, 2, 0, 1, 3}, same[] = {0, 1, 1}, counts[] = {3, 3, 1};
+    uint32_t edges[4];
+    uint64_t needed, datum;
+    CHECK(dcel_from_faces(&mesh, vertices, 5, corners, 6, counts, 2, &fault) == DCEL_DONE && fault.kind == 77);
+    CHECK(dcel_num_vertices(&mesh) == 5 && dcel_num_undirected_edges(&mesh) == 5 && dcel_num_faces(&mesh) == 3);
+    CHECK(dcel_from(&mesh, 2) == 1 && dcel_to(&mesh, 2) == 2 && dcel_face(&mesh, 2) == 1 && dcel_face(&mesh, 3) == 2);
+    CHECK(dcel_face_edges(&mesh, 2, edges, 4, &needed) == DCEL_DONE && needed == 3 && dcel_is_unconnected(&mesh, 4));
+    CHECK(dcel_vertex_data(&mesh, 4, &datum) == DCEL_DONE && datum == 5);
+    CHECK(dcel_from_faces(&mesh, vertices, 5, corners, 6, counts, 1, &fault) == DCEL_FAULTY);
+    CHECK(fault.kind == DCEL_FAULT_OTHER_COUNT && fault.number == 0);
+    CHECK(dcel_from_faces(&mesh, vertices, 5, corners, 5, counts, 2, &fault) == DCEL_FAULTY && fault.kind == DCEL_FAULT_OTHER_COUNT);
+    CHECK(dcel_from_faces(&mesh, vertices, 5, corners, 1, counts + 2, 1, &fault) == DCEL_FAULTY && fault.kind == DCEL_FAULT_FEW_CORNERS);
+    CHECK(dcel_from_faces(&mesh, vertices, 3, corners, 6, counts, 2, &fault) == DCEL_FAULTY);
+    CHECK(fault.kind == DCEL_FAULT_NO_VERTEX && fault.number == 1 && fault.from == 3);
+    CHECK(dcel_from_faces(&mesh, vertices, 5, same, 3, counts, 1, &fault) == DCEL_FAULTY);
+    CHECK(fault.kind == DCEL_FAULT_SIDE_AT_ONE && fault.number == 0 && fault.from == 1 && fault.to == 1);
+    CHECK(dcel_from_faces(&mesh, vertices, 5, twice, 6, counts, 2, &fault) == DCEL_FAULTY);
+    CHECK(fault.kind == DCEL_FAULT_SIDE_TWICE && fault.number == 0 && fault.other == 1 && fault.from == 0 && fault.to == 1);
+    CHECK(dcel_num_vertices(&mesh) == 5 && dcel_num_faces(&mesh) == 3);
+    dcel_free(&mesh);
+}
+
 int main(void) {
     check_none();
     check_steps();
@@ -321,6 +381,8 @@ int main(void) {
     check_strips();
     check_degenerate();
     check_whole();
+    check_links();
+    check_faces();
     printf("%d checks passed\n", checks);
     return EXIT_SUCCESS;
 }

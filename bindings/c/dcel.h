@@ -65,7 +65,8 @@ typedef enum {
     DCEL_NO_ROOM = 19, /* a count would pass 2^31, and with dcel_reserve_capacity 2^32 */
     DCEL_OUT_OF_MEMORY = 20,
     DCEL_NO_MESH = 21, /* it was never made, or it was freed */
-    DCEL_SHORT = 22    /* a buffer has too few places */
+    DCEL_SHORT = 22,   /* a buffer has too few places */
+    DCEL_FAULTY = 23   /* no mesh is made of what is given, and a dcel_fault says why */
 } dcel_status;
 
 /* Returns the name of a status, as "NoSuchVertex", or "" if it is none. */
@@ -94,6 +95,7 @@ static inline const char *dcel_status_name(uint32_t status) {
     case DCEL_OUT_OF_MEMORY: return "OutOfMemory";
     case DCEL_NO_MESH: return "NoMesh";
     case DCEL_SHORT: return "Short";
+    case DCEL_FAULTY: return "Faulty";
     default: return "";
     }
 }
@@ -133,6 +135,42 @@ typedef struct {
 /* How far a removal has come. */
 enum { DCEL_CLOSED = 0, DCEL_ISOLATED = 1, DCEL_CLEANED = 2 };
 
+/* What is wrong with links or faces that no mesh is made of. With links it is the first that is wrong, in
+   this order, but that 5, 6 and 7 are looked for together, and so are 9, 10 and 11. */
+typedef enum {
+    /* of links: `number` is the half edge, the vertex or the face, and 0 up to 4 */
+    DCEL_FAULT_LENGTHS = 1,    /* a half edge has no other half */
+    DCEL_FAULT_TOO_MANY = 2,   /* there are more than 2^32 vertices, half edges or faces */
+    DCEL_FAULT_NO_FACE = 3,    /* there is no outer face */
+    DCEL_FAULT_MORE_FACES = 4, /* there are more faces than edges and two */
+    DCEL_FAULT_NEXT_OUT_OF_RANGE = 5,
+    DCEL_FAULT_ORIGIN_OUT_OF_RANGE = 6,
+    DCEL_FAULT_FACE_OUT_OF_RANGE = 7,
+    DCEL_FAULT_TWO_LEAD_TO = 8,      /* two half edges have this one as their next */
+    DCEL_FAULT_ONE_END = 9,          /* the half edge ends where it starts */
+    DCEL_FAULT_APART = 10,           /* what comes after it doesn't start where it ends */
+    DCEL_FAULT_LEAVES_FACE = 11,     /* what comes after it lies on another face */
+    DCEL_FAULT_FACE_IN_PARTS = 12,   /* the half edges of the face are no single loop */
+    DCEL_FAULT_VERTEX_IN_PARTS = 13, /* the half edges of the vertex are no single turn */
+    DCEL_FAULT_UNUSED_FACE = 14,     /* no half edge lies on the face */
+    DCEL_FAULT_NOT_CONNECTED = 15,   /* the half edge isn't reached from half edge 0 */
+    DCEL_FAULT_NOT_SPHERE = 16,      /* the surface has genus `number` */
+    /* of faces: `number` is the place of the face in `counts`, and the side leads from `from` to `to` */
+    DCEL_FAULT_OTHER_COUNT = 17,      /* the counts don't add up to the corners */
+    DCEL_FAULT_FEW_CORNERS = 18,      /* the face has fewer than three corners */
+    DCEL_FAULT_TOO_MANY_CORNERS = 19, /* there are more than 2^31 */
+    DCEL_FAULT_NO_VERTEX = 20,        /* the face has the corner `from`, which is no vertex */
+    DCEL_FAULT_SIDE_AT_ONE = 21,      /* a side of the face ends where it starts */
+    DCEL_FAULT_SIDE_TWICE = 22,       /* the faces `number` and `other`, or one twice, have the side */
+    DCEL_FAULT_BORDER_TWICE = 23      /* two sides that no face lies beyond end at the vertex `number` */
+} dcel_fault_kind;
+
+/* A fault, with 0 for what its kind doesn't speak of. */
+typedef struct {
+    uint32_t kind;
+    uint64_t number, other, from, to;
+} dcel_fault;
+
 /* ---- Whole meshes ---- */
 
 /* Makes a mesh of the outer face alone, with datum 0, and frees the one that was there. 20. */
@@ -151,6 +189,29 @@ uint32_t dcel_clear(dcel_mesh *mesh);
 /* Makes room in memory for that many more elements. 19 if there are no numbers for them, 20 21. */
 uint32_t dcel_reserve_capacity(dcel_mesh *mesh, uint64_t vertices, uint64_t undirected_edges,
                                uint64_t faces);
+
+/* ---- Meshes from elsewhere ----
+
+   The mesh that was there is freed. New half edges, edges and faces have datum 0 where none is given. With
+   DCEL_FAULTY a fault is told; it stays as it is with any other status. */
+
+/* Makes the mesh with these links and these data of its vertices and faces, face 0 first; there are as
+   many as there are data. Half edges stand at their numbers, as dcel_directed_edges puts them, and their
+   `prev` isn't read. Each vertex and each face is anchored at its half edge with the greatest number.
+   23 if no mesh has these links, 20. */
+uint32_t dcel_from_links(dcel_mesh *mesh, const dcel_half_edge *half_edges, size_t half_edges_len,
+                         const uint64_t *vertices, size_t vertices_len, const uint64_t *faces,
+                         size_t faces_len, dcel_fault *fault);
+
+/* Makes the mesh of these faces, with these data of its vertices. `corners` has the corners of one face
+   after the other, counterclockwise, and `counts` how many each has. The face at place k gets number
+   k + 1, and face 0 is what they leave. An edge gets its number where its first side stands, which
+   becomes half edge 2 * u. 23 if the faces are those of no mesh in which no two edges join the same two
+   vertices, or if they leave a border that comes to a vertex twice; 20. The faults of links that may be
+   told speak of the numbers of the mesh. */
+uint32_t dcel_from_faces(dcel_mesh *mesh, const uint64_t *vertices, size_t vertices_len,
+                         const uint32_t *corners, size_t corners_len, const uint32_t *counts,
+                         size_t counts_len, dcel_fault *fault);
 
 /* ---- Counts, with what a removal has given up ---- */
 

@@ -93,6 +93,22 @@ static uint32_t call_isolate(dcel_mesh *mesh) {
     return dcel_isolate_vertex_and_fill_hole(mesh, border, (size_t)count, 3, edges, 8, faces, 8, &opened);
 }
 
+static uint32_t call_links(dcel_mesh *mesh) {
+    dcel_half_edge all[12];
+    const uint64_t data[5] = {1, 2, 3, 4, 5};
+    uint64_t count;
+    dcel_fault fault;
+    if (dcel_directed_edges(mesh, all, 12, &count) != DCEL_DONE)
+        return DCEL_NO_MESH;
+    return dcel_from_links(mesh, all, 12, data, 5, data, 4, &fault);
+}
+static uint32_t call_faces(dcel_mesh *mesh) {
+    const uint64_t data[4] = {1, 2, 3, 4};
+    const uint32_t corners[] = {0, 1, 2, 2, 1, 3}, counts[] = {3, 3};
+    dcel_fault fault;
+    return dcel_from_faces(mesh, data, 4, corners, 6, counts, 2, &fault);
+}
+
 typedef struct {
     const char *name;
     uint32_t (*call)(dcel_mesh *mesh);
@@ -101,6 +117,7 @@ typedef struct {
 static const growth CALLS[] = {
     {"new", call_new},       {"triangle", call_triangle}, {"insert", call_insert},   {"split", call_split},
     {"append", call_append}, {"reserve", call_reserve},   {"isolate", call_isolate},
+    {"links", call_links},   {"faces", call_faces},
 };
 
 /* Refuses the requests of a call from the first on, then from the second on, until it has enough. */

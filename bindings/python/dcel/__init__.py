@@ -8,6 +8,9 @@ from ._errors import (
     BadStrip,
     DcelError,
     EdgesStand,
+    Fault,
+    FaultKind,
+    Faulty,
     GivenUp,
     NoMesh,
     NoRemoval,
@@ -32,7 +35,7 @@ from ._errors import (
 from ._mesh import Dcel, Ended, HalfEdge, Legalized, Links, Opened, RemovalState, Removed
 
 __all__ = [
-    "NO_LINK", "BadRing", "BadStrip", "Dcel", "DcelError", "EdgesStand", "Ended", "GivenUp", "HalfEdge", "Legalized", "Links", "NoMesh",
+    "NO_LINK", "BadRing", "BadStrip", "Dcel", "DcelError", "EdgesStand", "Ended", "Fault", "FaultKind", "Faulty", "GivenUp", "HalfEdge", "Legalized", "Links", "NoMesh",
     "NoRemoval", "NoRoom", "NoSuchEdge", "NoSuchFace", "NoSuchVertex", "NotBridge", "NotLineEnd", "NotOuter", "NotPath", "NotTriangle",
     "Opened", "OutOfMemory", "RemovalOpen", "RemovalState", "Removed", "SameVertex", "Short", "Status", "VertexInUse", "WouldLoop",
     "WrongLists",

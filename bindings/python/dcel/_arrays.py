@@ -7,7 +7,10 @@ from collections.abc import Iterable
 from ctypes import c_uint32
 from typing import Any
 
-assert array("I").itemsize == 4
+assert (array("I").itemsize, array("Q").itemsize) == (4, 8)
+
+# What numbers without a sign are called, of 32 and of 64 bits.
+FORMATS = {"I": {"I"}, "Q": {"Q"} | ({"L"} if array("L").itemsize == 8 else set())}
 
 
 def number(value: int) -> int:
@@ -24,16 +27,16 @@ def wide(value: int) -> int:
     return value
 
 
-def numbers(values: Iterable[int]) -> memoryview:
-    """The numbers in a row, of a length that stays. Where they lie so already, and can be written to, they are taken as they lie; others
-    are copied."""
+def numbers(values: Iterable[int], code: str = "I") -> memoryview:
+    """The numbers in a row, of 32 bits or with the code "Q" of 64, of a length that stays. Where they lie so already, and can be written
+    to, they are taken as they lie; others are copied."""
     try:
         view = memoryview(values)  # type: ignore[arg-type]
     except TypeError:
-        return memoryview(array("I", values))
-    if view.format != "I" or view.ndim != 1:
-        return memoryview(array("I", iter(values)))
-    return memoryview(array("I", view.tobytes())) if view.readonly or not view.contiguous else view
+        return memoryview(array(code, values))
+    if view.format not in FORMATS[code] or view.ndim != 1:
+        return memoryview(array(code, iter(values)))
+    return memoryview(array(code, view.tobytes())) if view.readonly or not view.contiguous else view
 
 
 def zeros(length: int) -> array[int]:
@@ -46,6 +49,6 @@ def start_of(items: array[int] | memoryview, kind: Any = c_uint32) -> Any:
     return kind.from_buffer(items) if len(items) else kind()
 
 
-def listed(items: array[int] | memoryview) -> tuple[Any, int]:
+def listed(items: array[int] | memoryview, kind: Any = c_uint32) -> tuple[Any, int]:
     """A list as the calls take it: where it begins, and how long it is."""
-    return start_of(items), len(items)
+    return start_of(items, kind), len(items)

@@ -46,8 +46,13 @@ class Legalized(Structure):
     _fields_ = [("flips", c_uint64), ("ended", c_uint32)]
 
 
+class Fault(Structure):
+    _fields_ = [("kind", c_uint32), ("number", c_uint64), ("other", c_uint64), ("from", c_uint64), ("to", c_uint64)]
+
+
 STRUCTS: dict[str, type[Structure]] = {
     "dcel_mesh": Mesh, "dcel_half_edge": HalfEdge, "dcel_removed": Removed, "dcel_opened": Opened, "dcel_legalized": Legalized,
+    "dcel_fault": Fault,
 }
 
 _MESH = POINTER(Mesh)
@@ -55,12 +60,15 @@ _NUMBER = POINTER(c_uint32)
 _DATUM = POINTER(c_uint64)
 _ANSWER = POINTER(c_bool)
 _LIST = (_NUMBER, c_size_t)
+_DATA = (_DATUM, c_size_t)
 
 # Calls that return a status: what they take behind the mesh.
 _REFUSABLE: dict[str, Sequence[Any]] = {
     "new": (),
     "clone": (_MESH,),
     "clear": (),
+    "from_links": (POINTER(HalfEdge), c_size_t, *_DATA, *_DATA, POINTER(Fault)),
+    "from_faces": (*_DATA, *_LIST, *_LIST, POINTER(Fault)),
     "reserve_capacity": (c_uint64, c_uint64, c_uint64),
     "out_edges": (c_uint32, *_LIST, _DATUM),
     "face_edges": (c_uint32, *_LIST, _DATUM),
@@ -131,7 +139,7 @@ _OTHERS: dict[str, tuple[Any, Sequence[Any]]] = {
 def _check(status: int, function: Any, given: Any) -> None:
     """Raises the error of a status, after each call that returns one."""
     if status:
-        raise refused(status, function)
+        raise refused(status, function, given)
 
 
 def _declare() -> None:

@@ -3,7 +3,7 @@
 from __future__ import annotations
 
 import enum
-from typing import Any, ClassVar
+from typing import Any, ClassVar, NamedTuple
 
 
 class Status(enum.IntEnum):
@@ -32,6 +32,48 @@ class Status(enum.IntEnum):
     OUT_OF_MEMORY = 20
     NO_MESH = 21
     SHORT = 22
+    FAULTY = 23
+
+
+class FaultKind(enum.IntEnum):
+    """What is wrong with links or faces that no mesh is made of, as dcel.h says it of each."""
+
+    LENGTHS = 1
+    TOO_MANY = 2
+    NO_FACE = 3
+    MORE_FACES = 4
+    NEXT_OUT_OF_RANGE = 5
+    ORIGIN_OUT_OF_RANGE = 6
+    FACE_OUT_OF_RANGE = 7
+    TWO_LEAD_TO = 8
+    ONE_END = 9
+    APART = 10
+    LEAVES_FACE = 11
+    FACE_IN_PARTS = 12
+    VERTEX_IN_PARTS = 13
+    UNUSED_FACE = 14
+    NOT_CONNECTED = 15
+    NOT_SPHERE = 16
+    OTHER_COUNT = 17
+    FEW_CORNERS = 18
+    TOO_MANY_CORNERS = 19
+    NO_VERTEX = 20
+    SIDE_AT_ONE = 21
+    SIDE_TWICE = 22
+    BORDER_TWICE = 23
+
+
+class Fault(NamedTuple):
+    """What is wrong, and where; what the kind doesn't speak of is 0.
+
+    With links, `number` is the half edge, the vertex, the face or the genus. With faces it is the place of the face, `other` that of the
+    other face, and a side leads from `from_` to `to`."""
+
+    kind: FaultKind
+    number: int
+    other: int
+    from_: int
+    to: int
 
 
 class DcelError(Exception):
@@ -172,13 +214,27 @@ class Short(DcelError, ValueError):
     status = Status.SHORT
 
 
+class Faulty(DcelError, ValueError):
+    """No mesh is made of what is given. `fault` says why."""
+
+    status = Status.FAULTY
+    fault: Fault
+
+
 ERRORS: dict[int, type[DcelError]] = {kind.status: kind for kind in DcelError.__subclasses__()}
 
 for _kind in (DcelError, *ERRORS.values()):
     _kind.__module__ = "dcel"  # where callers find it, and what they are shown
 
 
-def refused(status: int, function: Any) -> DcelError:
-    """The error of a status that a call of the library has returned."""
+def refused(status: int, function: Any, given: Any = ()) -> DcelError:
+    """The error of a status that a call of the library has returned. A fault is told in the last thing that the call was given."""
     kind = ERRORS[status]
-    return kind(f"{function.__name__.removeprefix('dcel_')}: {kind.__doc__}")
+    says = f"{function.__name__.removeprefix('dcel_')}: {kind.__doc__}"
+    if kind is not Faulty:
+        return kind(says)
+    told = given[-1]
+    fault = Fault(FaultKind(told.kind), told.number, told.other, getattr(told, "from"), told.to)
+    error = Faulty(f"{says} {fault}")
+    error.fault = fault
+    return error

@@ -125,6 +125,34 @@ class Dcel:
     def __init__(self) -> None:
         library.dcel_new(self._mesh)
 
+    # Meshes from elsewhere.
+
+    @classmethod
+    def from_links(cls, links: Links | Iterable[int], vertices: Iterable[int], faces: Iterable[int]) -> Self:
+        """The mesh with these links, and these data of its vertices and faces, face 0 first. Raises Faulty, OutOfMemory.
+
+        Links are those of `directed_edges`, or the next, prev, origin and face of each half edge in turn, of which prev isn't read. Each
+        vertex and each face is anchored at its half edge with the greatest number. What is wrong with links that no mesh has is the
+        `fault` of the error."""
+        flat = numbers(links.flat if isinstance(links, Links) else links)
+        if len(flat) % 4:
+            raise ValueError("a half edge has four links")
+        made, fault = cls.__new__(cls), _calls.Fault()
+        data = (*listed(numbers(vertices, "Q"), c_uint64), *listed(numbers(faces, "Q"), c_uint64))
+        library.dcel_from_links(made._mesh, start_of(flat, _calls.HalfEdge), len(flat) // 4, *data, fault)
+        return made
+
+    @classmethod
+    def from_faces(cls, vertices: Iterable[int], corners: Iterable[int], counts: Iterable[int]) -> Self:
+        """The mesh of these faces, with these data of its vertices. Raises Faulty, OutOfMemory.
+
+        `corners` has the corners of one face after the other, counterclockwise, and `counts` how many each has. They become faces from
+        number 1 on, and face 0 is what they leave. What is wrong with faces that no mesh is made of is the `fault` of the error."""
+        made, fault = cls.__new__(cls), _calls.Fault()
+        data = listed(numbers(vertices, "Q"), c_uint64)
+        library.dcel_from_faces(made._mesh, *data, *listed(numbers(corners)), *listed(numbers(counts)), fault)
+        return made
+
     # Whole meshes.
 
     def close(self) -> None:

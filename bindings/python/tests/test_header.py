@@ -12,7 +12,7 @@ from pathlib import Path
 from typing import Any
 
 import dcel
-from dcel import Dcel, Ended, RemovalState, Status, _calls, _mesh
+from dcel import Dcel, Ended, FaultKind, RemovalState, Status, _calls, _mesh
 from dcel._errors import ERRORS
 
 FOLDER = Path(__file__).resolve().parents[2] / "c"
@@ -72,7 +72,7 @@ class Header(unittest.TestCase):
         methods = {name.removesuffix("_") for name, _ in inspect.getmembers(Dcel, inspect.isfunction) if not name.startswith("_")}
         calls = {name.removeprefix("dcel_") for name in functions()}
         self.assertEqual(methods - calls, {"close", "copy"})
-        self.assertEqual(calls - methods, {"new", "free", "clone"})
+        self.assertEqual(calls - methods, {"new", "free", "clone", "from_links", "from_faces"})
 
     def test_hints(self) -> None:
         """Each parameter and each result has its type, and the package says so."""
@@ -99,6 +99,7 @@ class Header(unittest.TestCase):
 
     def test_numbers(self) -> None:
         known = {it.name: it.value for kind in (Status, Ended, RemovalState) for it in kind}
+        known.update({f"FAULT_{it.name}": it.value for it in FaultKind})
         self.assertEqual(numbers("DCEL_"), known)
         self.assertIn("#define DCEL_NONE UINT64_MAX\n", HEADER)
         self.assertIn("#define DCEL_NO_LINK UINT32_MAX\n", HEADER)

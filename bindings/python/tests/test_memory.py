@@ -87,6 +87,14 @@ class Memory(unittest.TestCase):
         self.assertTrue(self.refused(0, Dcel))
         self.assertFalse(self.refused(1000, Dcel))
 
+    def test_given(self) -> None:
+        links = triangle().directed_edges()
+        for make in (lambda: Dcel.from_links(links, [1, 2, 3], [4, 5]), lambda: Dcel.from_faces(range(4), [0, 1, 2, 2, 1, 3], [3, 3])):
+            met = 0
+            while self.refused(met, make):
+                met += 1
+            self.assertGreater(met, 5)
+
     def test_legalize(self) -> None:
         """A list that can't grow ends a legalization, and keeps the flips that are told."""
         ended = set()

@@ -81,11 +81,25 @@ pub(crate) struct Legalized {
     pub(crate) ended: u32,
 }
 
+/// What is wrong with links or faces: C's `dcel_fault`.
+#[repr(C)]
+#[derive(Clone, Copy, Default)]
+pub(crate) struct Fault {
+    pub(crate) kind: u32,
+    pub(crate) number: u64,
+    pub(crate) other: u64,
+    pub(crate) from: u64,
+    pub(crate) to: u64,
+}
+
 /// What stands where there is no element.
 const NONE: u64 = u64::MAX;
 
 /// What stands for each link of a half edge that isn't live.
 pub(crate) const NO_LINK: u32 = u32::MAX;
+
+/// The status of a call that tells a fault.
+const FAULTY: u32 = 23;
 
 /// A mesh of the library, open from its making to its end.
 pub(crate) struct Mesh(UnsafeCell<RawMesh>);

@@ -325,6 +325,30 @@ fn refused_values_come_back() {
 }
 
 #[test]
+fn given_values_are_dropped_once() {
+    let links = written().links();
+    let entries: Vec<_> = links
+        .directed_edges()
+        .filter_map(|edge| links.get(edge))
+        .collect();
+    let values = || (0..4).map(Value::new).collect::<Vec<_>>();
+    let dcel: Mesh = from_links(&entries, values(), values()).unwrap();
+    assert_eq!(live(), 8 + DEFAULTS);
+    drop(dcel);
+    assert_eq!(live(), 0);
+    let made: Result<Mesh, _> = from_links(&entries[..11], values(), values());
+    let refused = made.unwrap_err();
+    assert_eq!((refused.back.0.len(), refused.back.1.len()), (4, 4));
+    assert_eq!(live(), 8);
+    drop(refused);
+    let made: Result<Mesh, _> = from_faces(values(), [[v(0), v(1), v(2)], [v(2), v(1), v(3)]]);
+    assert_eq!(live(), 4 + DEFAULTS);
+    drop(made);
+    let made: Result<Mesh, _> = from_faces(values(), [[v(0), v(1), v(4)]]);
+    assert_eq!((made.unwrap_err().back.len(), live()), (4, 0));
+}
+
+#[test]
 fn updates_drop_the_old_value() {
     let mut dcel = written();
     let before = live();

@@ -4,3 +4,4 @@ pub mod Filling
 pub mod Full
 pub mod Payload
 pub mod Walked
+pub mod Zeros

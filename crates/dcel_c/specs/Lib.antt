@@ -1,6 +1,9 @@
 pub mod Calls
 pub mod Data
 pub mod Edits
+pub mod Faces
+pub mod Faults
+pub mod Given
 pub mod HalfEdges
 pub mod Held
 pub mod Laws

@@ -10,6 +10,9 @@ mod conditions;
 mod counts;
 mod data;
 mod edits;
+mod faces;
+mod fault;
+mod given;
 mod held;
 pub mod laws;
 mod legalize;
@@ -47,6 +50,9 @@ pub use edits::{
     dcel_insert_into_triangle, dcel_new_triangle, dcel_setup_initial_two_vertices, dcel_split_edge,
     dcel_split_edge_when_all_vertices_on_line, dcel_split_half_edge, dcel_swap_vertices,
 };
+pub use faces::dcel_from_faces;
+pub use fault::DcelFault;
+pub use given::dcel_from_links;
 pub use legalize::{DcelLegalized, dcel_legalize_by_number};
 pub use links::{DcelHalfEdge, dcel_directed_edge, dcel_directed_edges};
 pub use list_conditions::{

@@ -27,6 +27,9 @@ pub const NO_MESH: u32 = 21;
 /// A buffer is short.
 pub const SHORT: u32 = 22;
 
+/// No mesh is made of what is given, and a fault says why.
+pub const FAULTY: u32 = 23;
+
 /// What answers a call for an element's number where there is none. No element has it.
 pub const NONE: u64 = u64::MAX;
 

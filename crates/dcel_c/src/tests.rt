@@ -103,3 +103,77 @@ fn a_vertex_comes_and_goes(rt: HostRuntime) -> Result<(), Fail> {
     );
     Ok(())
 }
+
+#[test]
+fn a_mesh_is_given(rt: HostRuntime) -> Result<(), Fail> {
+    let alloc = rt.alloc();
+    let mut mesh = closed(alloc);
+    let mut fault = DcelFault {
+        kind: 9,
+        number: 9,
+        other: 9,
+        from: 9,
+        to: 9,
+    };
+    assert_eq!(rt;
+        dcel_from_faces(
+            alloc,
+            &mut mesh,
+            &[7, 8, 9, 10],
+            &[0, 1, 2, 2, 1, 3],
+            &[3, 3],
+            &mut fault
+        ),
+        0
+    );
+    assert_eq!(rt;
+        (
+            dcel_num_undirected_edges(&mut mesh),
+            dcel_to(&mut mesh, 2),
+            fault.kind
+        ),
+        (5, 2, 9)
+    );
+    let none = DcelHalfEdge {
+        next: 9,
+        prev: 9,
+        origin: 9,
+        face: 9,
+    };
+    let mut links = [none; 10];
+    let mut needed = 0;
+    assert_eq!(rt; dcel_directed_edges(&mut mesh, &mut links, &mut needed), 0);
+    let (data, faces) = ([1, 2, 3, 4], [0, 5, 6]);
+    assert_eq!(rt;
+        dcel_from_links(alloc, &mut mesh, &links, &data, &faces, &mut fault),
+        0
+    );
+    assert_eq!(rt; dcel_next(&mut mesh, 2), links[2].next as u64);
+    links[3].origin = 4;
+    assert_eq!(rt;
+        (
+            dcel_from_links(alloc, &mut mesh, &links, &data, &faces, &mut fault),
+            fault.kind,
+            fault.number
+        ),
+        (23, 6, 3)
+    );
+    assert_eq!(rt;
+        (
+            dcel_from_faces(
+                alloc,
+                &mut mesh,
+                &data,
+                &[0, 1, 2, 0, 1, 3],
+                &[3, 3],
+                &mut fault
+            ),
+            fault.kind,
+            fault.other,
+            fault.to
+        ),
+        (23, 22, 1, 1)
+    );
+    assert_eq!(rt; dcel_num_vertices(&mut mesh), 4);
+    Ok(())
+}

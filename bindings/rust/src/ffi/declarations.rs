@@ -1,6 +1,6 @@
 //! The functions of `bindings/c/dcel.h`.
 
-use super::{HalfEdgeEntry, Legalized, Opened, RawMesh, Removed};
+use super::{Fault, HalfEdgeEntry, Legalized, Opened, RawMesh, Removed};
 
 // SAFETY: these are the functions of the header, which tools/check_header compares. The safe ones
 // ask for a mesh as the last call left it, which is what a `&mut RawMesh` leads to in this module,
@@ -15,6 +15,27 @@ unsafe extern "C" {
         vertices: u64,
         undirected_edges: u64,
         faces: u64,
+    ) -> u32;
+
+    pub(super) fn dcel_from_links(
+        mesh: &mut RawMesh,
+        half_edges: *const HalfEdgeEntry,
+        half_edges_len: usize,
+        vertices: *const u64,
+        vertices_len: usize,
+        faces: *const u64,
+        faces_len: usize,
+        fault: &mut Fault,
+    ) -> u32;
+    pub(super) fn dcel_from_faces(
+        mesh: &mut RawMesh,
+        vertices: *const u64,
+        vertices_len: usize,
+        corners: *const u32,
+        corners_len: usize,
+        counts: *const u32,
+        counts_len: usize,
+        fault: &mut Fault,
     ) -> u32;
 
     pub(super) safe fn dcel_num_vertices(mesh: &mut RawMesh) -> u64;

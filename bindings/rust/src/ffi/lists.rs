@@ -3,6 +3,58 @@
 
 use super::*;
 
+/// Meshes that are given. The error is a fault, or None if there was no memory.
+impl Mesh {
+    pub(crate) fn from_links(
+        half_edges: &[HalfEdgeEntry],
+        vertices: &[u64],
+        faces: &[u64],
+    ) -> Result<Self, Option<Fault>> {
+        // SAFETY: the slices last for the call, which reads them.
+        Self::given(|mesh, fault| unsafe {
+            dcel_from_links(
+                mesh,
+                half_edges.as_ptr(),
+                half_edges.len(),
+                vertices.as_ptr(),
+                vertices.len(),
+                faces.as_ptr(),
+                faces.len(),
+                fault,
+            )
+        })
+    }
+
+    pub(crate) fn from_faces(
+        vertices: &[u64],
+        corners: &[FixedVertexHandle],
+        counts: &[u32],
+    ) -> Result<Self, Option<Fault>> {
+        // SAFETY: as above.
+        Self::given(|mesh, fault| unsafe {
+            dcel_from_faces(
+                mesh,
+                vertices.as_ptr(),
+                vertices.len(),
+                corners.as_ptr().cast(),
+                corners.len(),
+                counts.as_ptr(),
+                counts.len(),
+                fault,
+            )
+        })
+    }
+
+    fn given(make: impl FnOnce(&mut RawMesh, &mut Fault) -> u32) -> Result<Self, Option<Fault>> {
+        let (mut mesh, mut fault) = (Self::none(), Fault::default());
+        match make(mesh.0.get_mut(), &mut fault) {
+            0 => Ok(mesh),
+            FAULTY => Err(Some(fault)),
+            _ => Err(None),
+        }
+    }
+}
+
 impl Mesh {
     /// Returns the links of all half edges, each at its number.
     pub(crate) fn half_edges(&self) -> Vec<HalfEdgeEntry> {

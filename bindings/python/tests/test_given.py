@@ -1,0 +1,74 @@
+"""Meshes made from links and from faces."""
+
+from __future__ import annotations
+
+import unittest
+from array import array
+from collections.abc import Callable
+from typing import Any
+
+from dcel import Dcel, Fault, FaultKind, Faulty, Status
+from meshes import opened, round_, triangle
+
+CORNERS, COUNTS = [0, 1, 2, 2, 1, 3], [3, 3]
+
+
+class Given(unittest.TestCase):
+    def fault(self, make: Callable[..., Dcel], *given: Any) -> Fault:
+        with self.assertRaises(Faulty) as raised:
+            make(*given)
+        self.assertIs(raised.exception.status, Status.FAULTY)
+        self.assertIn(raised.exception.fault.kind.name, str(raised.exception))
+        return raised.exception.fault
+
+    def test_links_again(self) -> None:
+        mesh = round_()
+        links = mesh.directed_edges()
+        flat = array("I", links.flat)
+        flat[1::4] = array("I", [99] * len(links))  # prev isn't read
+        for given in (links, links.flat, list(links.flat), memoryview(links.flat), flat):
+            made = Dcel.from_links(given, range(5), array("Q", [2**64 - 1, 6, 7, 8]))
+            self.assertEqual(made.directed_edges().flat, links.flat)
+            self.assertEqual([made.vertex_data(vertex) for vertex in range(5)], list(range(5)))
+            self.assertEqual([made.face_data(face) for face in range(4)], [2**64 - 1, 6, 7, 8])
+            self.assertEqual((made.directed_edge_data(3), made.undirected_edge_data(3)), (0, 0))
+            self.assertEqual(list(made.out_edges(3)), [11, 7, 9])
+        self.assertEqual(repr(Dcel.from_links([], [1, 2], [0])), "<Dcel: 2 vertices, 0 edges, 1 faces>")
+
+    def test_faulty_links(self) -> None:
+        flat = triangle().directed_edges().flat
+        given = [0, 0, 0], [0, 0]
+        none = Fault(FaultKind.LENGTHS, 0, 0, 0, 0)
+        self.assertEqual(self.fault(Dcel.from_links, flat[:4], *given), none)
+        self.assertEqual(self.fault(Dcel.from_links, flat, [0, 0, 0], []), none._replace(kind=FaultKind.NO_FACE))
+        self.assertEqual(self.fault(Dcel.from_links, flat, [0, 0], [0, 0]).kind, FaultKind.ORIGIN_OUT_OF_RANGE)
+        flat[4] = 4
+        self.assertEqual(self.fault(Dcel.from_links, flat, *given), none._replace(kind=FaultKind.TWO_LEAD_TO, number=4))
+        self.assertEqual(self.fault(Dcel.from_links, opened().directed_edges(), [0] * 5, [0] * 4).kind, FaultKind.NEXT_OUT_OF_RANGE)
+        with self.assertRaisesRegex(ValueError, "four links"):
+            Dcel.from_links(flat[:3], *given)
+
+    def test_faces(self) -> None:
+        made = Dcel.from_faces([1, 2, 3, 4, 5], CORNERS, COUNTS)
+        self.assertEqual(repr(made), "<Dcel: 5 vertices, 5 edges, 3 faces>")
+        self.assertEqual([made.from_(edge) for edge in made.face_edges(2)], [1, 3, 2])
+        self.assertEqual((made.vertex_data(4), made.face_data(2)), (5, 0))
+        self.assertEqual(repr(Dcel.from_faces([], [], [])), "<Dcel: 0 vertices, 0 edges, 1 faces>")
+
+    def test_faulty_faces(self) -> None:
+        for corners, counts, fault in [
+            (CORNERS, [3], (FaultKind.OTHER_COUNT, 0, 0, 0, 0)),
+            (CORNERS, [3, 3, 1], (FaultKind.OTHER_COUNT, 0, 0, 0, 0)),
+            ([0, 1, 2, 2, 1], [3, 2], (FaultKind.FEW_CORNERS, 1, 0, 0, 0)),
+            ([0, 1, 4], [3], (FaultKind.NO_VERTEX, 0, 0, 4, 0)),
+            ([0, 1, 2, 2, 1, 1], COUNTS, (FaultKind.SIDE_AT_ONE, 1, 0, 1, 1)),
+            ([0, 1, 2, 0, 1, 3], COUNTS, (FaultKind.SIDE_TWICE, 0, 1, 0, 1)),
+            ([0, 1, 2, 2, 1, 0], COUNTS, (FaultKind.UNUSED_FACE, 0, 0, 0, 0)),
+        ]:
+            with self.subTest(corners=corners, counts=counts):
+                self.assertEqual(self.fault(Dcel.from_faces, [0] * 4, corners, counts), fault)
+
+    def test_numbers_without_a_place(self) -> None:
+        for given in ([2**64], [0], [0]), ([0], [2**32], [0]), ([0], [0], [-1]):
+            with self.subTest(given=given), self.assertRaises(OverflowError):
+                Dcel.from_faces(*given)

@@ -1,0 +1,146 @@
+//! Meshes that are given, by their links or their faces.
+
+use super::faults::{FacesError, LinksError};
+use crate::Dcel;
+use crate::ffi::{HalfEdgeEntry, Mesh};
+use crate::handles::FixedVertexHandle;
+use crate::slab::{Slab, Values};
+use std::error::Error;
+use std::fmt;
+
+/// The reason why no mesh was made, with the values that were given for it.
+#[derive(Clone, PartialEq, Eq, Debug)]
+pub struct RefusedGiven<E, T> {
+    /// The reason.
+    pub reason: E,
+
+    /// The values.
+    pub back: T,
+}
+
+impl<E: fmt::Display, T> fmt::Display for RefusedGiven<E, T> {
+    fn fmt(&self, f: &mut fmt::Formatter<'_>) -> fmt::Result {
+        self.reason.fmt(f)
+    }
+}
+
+impl<E: fmt::Debug + fmt::Display, T: fmt::Debug> Error for RefusedGiven<E, T> {}
+
+/// Makes the mesh with these links, and these values of its vertices and faces, face 0 first.
+///
+/// Half edges stand at their numbers, and their `prev` isn't read. Each vertex and each face is
+/// anchored at its half edge with the greatest number.
+///
+/// # Errors
+///
+/// [`LinksError::Links`] if no mesh has these links, with the first thing that is wrong with them,
+/// and [`LinksError::OutOfMemory`]. The values come back.
+///
+/// ```
+/// use dcel::Dcel;
+/// use dcel::operations::{LinksError, LinksFault, from_links, new_triangle};
+///
+/// let dcel: Dcel<_> = new_triangle(['a', 'b', 'c'])?;
+/// let links = dcel.links();
+/// let mut half_edges: Vec<_> = links.directed_edges().filter_map(|edge| links.get(edge)).collect();
+/// let made: Dcel<_, (), (), _> = from_links(&half_edges, vec![1, 2, 3], vec!["out", "in"]).unwrap();
+/// assert_eq!(made.vertices().map(|vertex| *vertex.data()).collect::<Vec<_>>(), [1, 2, 3]);
+/// assert_eq!(made.outer_face().data(), &"out");
+///
+/// half_edges[1].next = half_edges[3].next;
+/// let refused = from_links::<_, (), (), _>(&half_edges, vec![1, 2, 3], vec!["out", "in"]).unwrap_err();
+/// assert_eq!(refused.reason, LinksError::Links(LinksFault::TwoLeadTo(1)));
+/// assert_eq!(refused.back.0, [1, 2, 3]);
+/// # Ok::<(), dcel::Refusal>(())
+/// ```
+#[allow(clippy::type_complexity)]
+pub fn from_links<V, DE: Default, UE: Default, F: Default>(
+    half_edges: &[HalfEdgeEntry],
+    vertices: Vec<V>,
+    faces: Vec<F>,
+) -> Result<Dcel<V, DE, UE, F>, RefusedGiven<LinksError, (Vec<V>, Vec<F>)>> {
+    let (mut vertex_values, mut face_values) = (Slab::new(), Values::default());
+    let vertices = insert_all(vertices, |value| vertex_values.insert(value));
+    let faces = insert_all(faces, |value| face_values.insert(value));
+    match Mesh::from_links(half_edges, &vertices, &faces) {
+        Ok(mesh) => Ok(of_mesh(mesh, vertex_values, face_values)),
+        Err(fault) => Err(RefusedGiven {
+            reason: LinksError::of(fault),
+            back: (
+                insert_back(vertices, |key| vertex_values.remove(key)),
+                insert_back(faces, |key| face_values.take(key)),
+            ),
+        }),
+    }
+}
+
+/// Makes the mesh of faces, each the list of its corners, counterclockwise, with these values of
+/// its vertices.
+///
+/// The faces keep their order, from number 1 on; face 0, the outer one, is what they leave. The
+/// vertices keep their numbers, and a vertex need not be a corner. The edges are numbered in the
+/// order in which their first sides come, and such a side is the even half edge.
+///
+/// # Errors
+///
+/// A [`FacesError`]; the values come back. Then no mesh in which no two edges join the same two
+/// vertices has these faces, unless memory ran out or there are too many corners, or, after
+/// [`FacesError::BorderTwice`], only one whose outer face passes that vertex twice.
+///
+/// ```
+/// use dcel::Dcel;
+/// use dcel::handles::FixedVertexHandle;
+/// use dcel::operations::{FacesError, from_faces};
+///
+/// let faces = [[0, 1, 2], [2, 1, 3]].map(|face| face.map(FixedVertexHandle::new));
+/// let dcel: Dcel<_> = from_faces(vec!['a', 'b', 'c', 'd'], faces).unwrap();
+/// assert_eq!((dcel.num_undirected_edges(), dcel.num_faces()), (5, 3));
+///
+/// let refused = from_faces::<_, (), (), (), _>(vec!['a', 'b', 'c'], faces).unwrap_err();
+/// assert_eq!(refused.reason, FacesError::NoVertex(1, 3));
+/// assert_eq!(refused.back, ['a', 'b', 'c']);
+/// ```
+pub fn from_faces<V, DE: Default, UE: Default, F: Default, C: AsRef<[FixedVertexHandle]>>(
+    vertices: Vec<V>,
+    faces: impl IntoIterator<Item = C>,
+) -> Result<Dcel<V, DE, UE, F>, RefusedGiven<FacesError, Vec<V>>> {
+    let (mut corners, mut counts) = (Vec::new(), Vec::new());
+    for face in faces {
+        let face = face.as_ref();
+        corners.extend_from_slice(face);
+        counts.push(face.len() as u32);
+    }
+    let mut values = Slab::new();
+    let vertices = insert_all(vertices, |value| values.insert(value));
+    match Mesh::from_faces(&vertices, &corners, &counts) {
+        Ok(mesh) => Ok(of_mesh(mesh, values, Values::default())),
+        Err(fault) => Err(RefusedGiven {
+            reason: FacesError::of(fault),
+            back: insert_back(vertices, |key| values.remove(key)),
+        }),
+    }
+}
+
+/// Takes values in, and returns their keys.
+fn insert_all<T>(values: Vec<T>, insert: impl FnMut(T) -> u64) -> Vec<u64> {
+    values.into_iter().map(insert).collect()
+}
+
+/// Takes the values under the keys out again.
+fn insert_back<T>(keys: Vec<u64>, remove: impl FnMut(u64) -> T) -> Vec<T> {
+    keys.into_iter().map(remove).collect()
+}
+
+fn of_mesh<V, DE: Default, UE: Default, F>(
+    mesh: Mesh,
+    vertices: Slab<V>,
+    faces: Values<F>,
+) -> Dcel<V, DE, UE, F> {
+    Dcel {
+        mesh,
+        vertices,
+        directed_edges: Values::default(),
+        undirected_edges: Values::default(),
+        faces,
+    }
+}

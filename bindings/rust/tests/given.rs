@@ -1,0 +1,132 @@
+//! Meshes made from links and from faces.
+
+mod common;
+
+use common::*;
+use dcel::handles::*;
+use dcel::operations::*;
+use dcel::{Dcel, HalfEdgeEntry};
+
+fn half_edges<V>(dcel: &Dcel<V>) -> Vec<HalfEdgeEntry> {
+    let links = dcel.links();
+    links
+        .directed_edges()
+        .filter_map(|edge| links.get(edge))
+        .collect()
+}
+
+fn refused(half_edges: &[HalfEdgeEntry], vertices: usize, faces: usize) -> LinksError {
+    let refused =
+        from_links::<_, (), (), _>(half_edges, vec![7; vertices], vec!['a'; faces]).unwrap_err();
+    assert_eq!(refused.back, (vec![7; vertices], vec!['a'; faces]));
+    refused.reason
+}
+
+#[test]
+fn links_there_and_back() {
+    let dcel = round();
+    let mut given = half_edges(&dcel);
+    for entry in &mut given {
+        entry.prev = e(99); // which isn't read
+    }
+    let made: Dcel<_, u8, u8, _> =
+        from_links(&given, vec!['a', 'b', 'c', 'd'], vec![9, 8, 7, 6]).unwrap();
+    assert_eq!(half_edges(&dcel), {
+        let links = made.links();
+        let entries = links.directed_edges().filter_map(|edge| links.get(edge));
+        entries.collect::<Vec<_>>()
+    });
+    assert!(made.vertices().map(|vertex| *vertex.data()).eq('a'..='d'));
+    assert!(made.faces().map(|face| *face.data()).eq([9, 8, 7, 6]));
+    assert!(made.directed_edges().all(|edge| *edge.data() == 0));
+    assert_eq!(made.vertex(v(3)).out_edge().unwrap().fix(), e(11));
+}
+
+#[test]
+fn no_edges() {
+    let dcel: Dcel<_> = from_links(&[], vec!['a', 'b'], vec![()]).unwrap();
+    assert_eq!((dcel.num_vertices(), dcel.num_faces()), (2, 1));
+    assert_eq!(refused(&[], 2, 0), LinksError::Links(LinksFault::NoFace));
+    let dcel: Dcel<char> = from_faces(Vec::new(), Vec::<[_; 3]>::new()).unwrap();
+    assert_eq!((dcel.num_vertices(), dcel.num_faces()), (0, 1));
+}
+
+#[test]
+fn faulty_links() {
+    let links = half_edges(&round());
+    let fault = |reason| LinksError::Links(reason);
+    assert_eq!(refused(&links[..11], 4, 4), fault(LinksFault::Lengths));
+    assert_eq!(refused(&links, 4, 9), fault(LinksFault::MoreFaces));
+    assert_eq!(refused(&links, 4, 5), fault(LinksFault::UnusedFace(4)));
+    let start = links.iter().position(|entry| entry.origin == v(3)).unwrap();
+    assert_eq!(
+        refused(&links, 3, 4),
+        fault(LinksFault::OriginOutOfRange(start))
+    );
+
+    let mut changed = links.clone();
+    changed[5].next = e(12);
+    assert_eq!(
+        refused(&changed, 4, 4),
+        fault(LinksFault::NextOutOfRange(5))
+    );
+    changed[5].next = links[3].next;
+    let led = links[3].next.index();
+    assert_eq!(refused(&changed, 4, 4), fault(LinksFault::TwoLeadTo(led)));
+    assert_eq!(
+        fault(LinksFault::TwoLeadTo(led)).to_string(),
+        format!("no mesh has these links: two half edges lead to half edge {led}")
+    );
+}
+
+#[test]
+fn faces_of_many_corners() {
+    let faces: Vec<Vec<_>> = [&[0, 1, 2, 3][..], &[1, 0, 4], &[3, 2, 5, 6, 7]]
+        .map(|face| face.iter().copied().map(v).collect())
+        .to_vec();
+    let dcel: Dcel<_> = from_faces((0..8).collect(), &faces).unwrap();
+    assert_eq!((dcel.num_undirected_edges(), dcel.num_faces()), (10, 4));
+    for (number, corners) in faces.iter().enumerate() {
+        let face = dcel.face(f(number + 1));
+        let mut found: Vec<_> = face
+            .directed_edges()
+            .map(|edge| edge.from().fix())
+            .collect();
+        let first = found
+            .iter()
+            .position(|corner| *corner == corners[0])
+            .unwrap();
+        found.rotate_left(first);
+        assert_eq!(&found, corners);
+    }
+}
+
+#[test]
+fn faulty_faces() {
+    let refused = |faces: &[&[usize]]| {
+        let faces = faces
+            .iter()
+            .map(|face| face.iter().copied().map(v).collect::<Vec<_>>());
+        let refused = from_faces::<_, (), (), (), _>(vec![7; 4], faces).unwrap_err();
+        assert_eq!(refused.back, [7; 4]);
+        refused.reason
+    };
+    assert_eq!(refused(&[&[0, 1, 2], &[2, 1]]), FacesError::FewCorners(1));
+    assert_eq!(refused(&[&[0, 1, 4]]), FacesError::NoVertex(0, 4));
+    assert_eq!(refused(&[&[0, 1, 1]]), FacesError::OneEnd(0, 1));
+    assert_eq!(
+        refused(&[&[0, 1, 2], &[0, 1, 3]]),
+        FacesError::SideTwice(0, 1, 0, 1)
+    );
+    assert_eq!(
+        refused(&[&[0, 1, 2], &[2, 1, 0]]),
+        FacesError::Links(LinksFault::UnusedFace(0))
+    );
+}
+
+#[test]
+fn both_faces_of_a_corner() {
+    let faces = [[0, 1, 2], [0, 3, 4]].map(|face| face.map(FixedVertexHandle::new));
+    let refused = from_faces::<_, (), (), (), _>(vec![7; 5], faces).unwrap_err();
+    assert_eq!(refused.reason, FacesError::BorderTwice(0));
+}
