@@ -14,8 +14,9 @@
 
    What is proved of each call, for any numbers: it returns, and touches no memory but what it is given
    and its mesh. A mesh is always a sound map on the sphere. A call that changes the mesh does what it
-   says and returns DCEL_DONE; or it changes nothing, neither the mesh nor what its pointers lead to, and
-   returns why not: the least number of those that apply. All other calls leave the mesh as it was.
+   says and returns DCEL_DONE; or it changes nothing, neither the mesh nor what its pointers lead to, but
+   for a fault that it tells, and returns why not: the least number of those that apply. All other calls
+   leave the mesh as it was.
 
    Where a mesh isn't open nothing is done or found: a call returns DCEL_NO_MESH, DCEL_NONE, 0 or false.
 
@@ -192,8 +193,8 @@ uint32_t dcel_reserve_capacity(dcel_mesh *mesh, uint64_t vertices, uint64_t undi
 
 /* ---- Meshes from elsewhere ----
 
-   The mesh that was there is freed. New half edges, edges and faces have datum 0 where none is given. With
-   DCEL_FAULTY a fault is told; it stays as it is with any other status. */
+   The mesh that was there is freed; there may be none. Half edges, edges and faces have datum 0 where none
+   is given. With DCEL_FAULTY a fault is told, and with any other status it stays as it was. */
 
 /* Makes the mesh with these links and these data of its vertices and faces, face 0 first; there are as
    many as there are data. Half edges stand at their numbers, as dcel_directed_edges puts them, and their

@@ -34,7 +34,7 @@ mod results;
 
 pub use faults::{FacesError, LinksError, LinksFault};
 pub use flip::{Legalized, flip_cw, legalize_by_number};
-pub use given::{RefusedGiven, from_faces, from_links};
+pub use given::{RefusedFaces, RefusedGiven, RefusedLinks, from_faces, from_links};
 pub use grow::{
     append_unconnected_vertex, create_new_face_adjacent_to_edge,
     create_single_face_between_edge_and_next, extend_line, insert_into_triangle,

@@ -4,4 +4,3 @@ pub mod Filling
 pub mod Full
 pub mod Payload
 pub mod Walked
-pub mod Zeros

@@ -27,7 +27,7 @@ pub record IsOfFaces (vertices : List ℕ) (faces : List (List ℕ)) (mesh : Sta
   pub edges : All IsZero mesh.undirected_data
   pub face_data : All IsZero mesh.face_data
 
--- what the reason means is so of these faces, and of memory it isn't
+-- what the reason says of these faces is so, and so is what it says of meshes
 pub record RefusesFaces (vertices : ℕ) (faces : List (List ℕ)) (reason : FacesError) : Type 0 where
   pub means : Means vertices faces reason
   pub leaves : Leaves ℕ ℕ ℕ ℕ vertices faces reason

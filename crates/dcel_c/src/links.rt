@@ -24,7 +24,7 @@ pub struct DcelHalfEdge {
 
 /// The links of a half edge that isn't live.
 ///
-/// No face has such a number, under the limit of 2^31.
+/// No face has such a number: there are no more than 2^31 edges and two.
 const NO_LINKS: DcelHalfEdge = DcelHalfEdge {
     next: u32::MAX,
     prev: u32::MAX,

@@ -9,6 +9,12 @@ use std::fmt;
 /// The three ranges are looked at together, half edge by half edge, and so are
 /// [`OneEnd`](Self::OneEnd), [`Apart`](Self::Apart) and [`LeavesFace`](Self::LeavesFace). Half
 /// edges, vertices and faces are told by their numbers.
+///
+/// ```
+/// use dcel::operations::LinksFault;
+///
+/// assert_eq!(LinksFault::TwoLeadTo(3).to_string(), "two half edges lead to half edge 3");
+/// ```
 #[derive(Clone, Copy, PartialEq, Eq, Hash, Debug)]
 pub enum LinksFault {
     /// A half edge has no other half.
@@ -135,6 +141,14 @@ impl fmt::Display for LinksFault {
 impl Error for LinksFault {}
 
 /// Why links were refused.
+///
+/// ```
+/// use dcel::operations::{LinksError, LinksFault, from_links};
+///
+/// let refused = from_links::<char, (), (), ()>(&[], Vec::new(), Vec::new()).unwrap_err();
+/// assert_eq!(refused.reason, LinksError::Links(LinksFault::NoFace));
+/// assert_eq!(refused.to_string(), "no mesh has these links: there is no outer face");
+/// ```
 #[derive(Clone, Copy, PartialEq, Eq, Hash, Debug)]
 pub enum LinksError {
     /// No mesh has these links, and this is the first thing that is wrong with them.
@@ -165,6 +179,15 @@ impl fmt::Display for LinksError {
 impl Error for LinksError {}
 
 /// Why faces were refused. Faces are told by their places in the list, from 0 on.
+///
+/// ```
+/// use dcel::handles::FixedVertexHandle;
+/// use dcel::operations::{FacesError, from_faces};
+///
+/// let faces = [[0, 1, 2], [0, 1, 3]].map(|face| face.map(FixedVertexHandle::new));
+/// let refused = from_faces::<_, (), (), (), _>(vec!['a', 'b', 'c', 'd'], faces).unwrap_err();
+/// assert_eq!(refused.reason, FacesError::SideTwice(0, 1, 0, 1));
+/// ```
 #[derive(Clone, Copy, PartialEq, Eq, Hash, Debug)]
 pub enum FacesError {
     /// This face has fewer than three corners.

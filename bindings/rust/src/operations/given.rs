@@ -9,6 +9,15 @@ use std::error::Error;
 use std::fmt;
 
 /// The reason why no mesh was made, with the values that were given for it.
+///
+/// ```
+/// use dcel::handles::FixedVertexHandle;
+/// use dcel::operations::{FacesError, RefusedFaces, from_faces};
+///
+/// let face = [0, 1].map(FixedVertexHandle::new);
+/// let refused: RefusedFaces<_> = from_faces::<_, (), (), (), _>(vec!['a', 'b'], [face]).unwrap_err();
+/// assert_eq!((refused.reason, refused.back), (FacesError::FewCorners(0), vec!['a', 'b']));
+/// ```
 #[derive(Clone, PartialEq, Eq, Debug)]
 pub struct RefusedGiven<E, T> {
     /// The reason.
@@ -25,6 +34,12 @@ impl<E: fmt::Display, T> fmt::Display for RefusedGiven<E, T> {
 }
 
 impl<E: fmt::Debug + fmt::Display, T: fmt::Debug> Error for RefusedGiven<E, T> {}
+
+/// Why links were refused, with the values of vertices and of faces.
+pub type RefusedLinks<V, F> = RefusedGiven<LinksError, (Vec<V>, Vec<F>)>;
+
+/// Why faces were refused, with the values of vertices.
+pub type RefusedFaces<V> = RefusedGiven<FacesError, Vec<V>>;
 
 /// Makes the mesh with these links, and these values of its vertices and faces, face 0 first.
 ///
@@ -53,12 +68,11 @@ impl<E: fmt::Debug + fmt::Display, T: fmt::Debug> Error for RefusedGiven<E, T> {
 /// assert_eq!(refused.back.0, [1, 2, 3]);
 /// # Ok::<(), dcel::Refusal>(())
 /// ```
-#[allow(clippy::type_complexity)]
 pub fn from_links<V, DE: Default, UE: Default, F: Default>(
     half_edges: &[HalfEdgeEntry],
     vertices: Vec<V>,
     faces: Vec<F>,
-) -> Result<Dcel<V, DE, UE, F>, RefusedGiven<LinksError, (Vec<V>, Vec<F>)>> {
+) -> Result<Dcel<V, DE, UE, F>, RefusedLinks<V, F>> {
     let (mut vertex_values, mut face_values) = (Slab::new(), Values::default());
     let vertices = insert_all(vertices, |value| vertex_values.insert(value));
     let faces = insert_all(faces, |value| face_values.insert(value));
@@ -103,7 +117,7 @@ pub fn from_links<V, DE: Default, UE: Default, F: Default>(
 pub fn from_faces<V, DE: Default, UE: Default, F: Default, C: AsRef<[FixedVertexHandle]>>(
     vertices: Vec<V>,
     faces: impl IntoIterator<Item = C>,
-) -> Result<Dcel<V, DE, UE, F>, RefusedGiven<FacesError, Vec<V>>> {
+) -> Result<Dcel<V, DE, UE, F>, RefusedFaces<V>> {
     let (mut corners, mut counts) = (Vec::new(), Vec::new());
     for face in faces {
         let face = face.as_ref();

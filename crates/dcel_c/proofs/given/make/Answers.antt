@@ -1,5 +1,6 @@
 use Rattle.std.proofs.Common.{◌≡◌, ◌∙◌, map, rules}
-use Rattle.dcel_c.proofs.Zeros.{edges-zero, halves-zero}
+use Rattle.dcel_exchange.proofs.Defaulted.{edges_default, halves_default}
+use Rattle.dcel_c.specs.Calls.{IsZero}
 use Rattle.dcel_c.proofs.given.make.Goals as goal
 
 pub returns-in-Ok-from_links-clause-given : goal.returns-in-Ok-from_links-clause-given
@@ -13,8 +14,8 @@ returns-in-Ok-from_links-clause-given c =
       only = rw (← next, ← origin, ← face, ← c.in-Ok-from_slice.ensures.items, ← c.in-Ok-from_slice-2.ensures.items) e.only;
       vertex_data = e.vertices ∙ c.in-Ok-from_slice.ensures.items;
       face_data = e.faces ∙ c.in-Ok-from_slice-2.ensures.items;
-      halves = rw e.halves (halves-zero c.in-Ok-make_edges.edges.items c.in-Ok-make_edges.ensures.each);
-      edges = rw e.edges (edges-zero c.in-Ok-make_edges.edges.items c.in-Ok-make_edges.ensures.each);
+      halves = rw e.halves (halves_default IsZero IsZero c.in-Ok-make_edges.edges.items c.in-Ok-make_edges.ensures.each);
+      edges = rw e.edges (edges_default IsZero IsZero c.in-Ok-make_edges.edges.items c.in-Ok-make_edges.ensures.each);
       vertex_anchors = rw (← origin) e.vertex_anchors;
       face_anchors = rw (← face) e.face_anchors;
     }
