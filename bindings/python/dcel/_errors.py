@@ -215,10 +215,10 @@ class Short(DcelError, ValueError):
 
 
 class Faulty(DcelError, ValueError):
-    """No mesh is made of what is given. `fault` says why."""
+    """No mesh is made of what is given."""
 
     status = Status.FAULTY
-    fault: Fault
+    fault: Fault  #: why not
 
 
 ERRORS: dict[int, type[DcelError]] = {kind.status: kind for kind in DcelError.__subclasses__()}
