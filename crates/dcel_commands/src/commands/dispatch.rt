@@ -36,6 +36,7 @@ pub const MAX_LIMIT: usize = 2_147_483_648;
 ///
 /// While a removal is open, the live elements can be edited as ever. What a command does is a list of
 /// elementary edits (clause `edits`).
+#[inline(always)]
 pub fn apply<
     V: Drop,
     DE: Default + Drop,
