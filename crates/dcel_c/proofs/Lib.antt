@@ -1,6 +1,5 @@
-pub mod AsBox
 pub mod Buffers
 pub mod Filling
-pub mod Full
+pub mod Kept
 pub mod Payload
 pub mod Walked

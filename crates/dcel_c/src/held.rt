@@ -4,9 +4,9 @@ ghost use Rattle.dcel_c.specs.Held.{Kept, held_owns, kept_coded};
 ghost use Rattle.std.specs.Borrow.{sem};
 ghost use Rattle.std.specs.Prelude.{◌≡◌, IfOk, IsSome, None, Some};
 
-pub mod parts;
+pub mod opened;
 
-use parts::Parts;
+use opened::Opened;
 use spade_dcel::dcel::Dcel;
 use std::alloc::{AllocError, Global};
 use std::marker::Model;
@@ -33,17 +33,6 @@ impl Model for Held {
 impl Held {
     ghost use Rattle.dcel_c.specs.Lending.{LendsMesh};
 
-    /// Takes the parts of a box.
-    pub fn full(parts: Parts<Numbers, Global>) -> Held
-        ensures { result.kept ≡ Some parts.value }
-    {
-        let Parts { ptr, alloc } = parts;
-        Held {
-            at: ptr as *mut u8,
-            alloc,
-        }
-    }
-
     /// Makes a pointer that leads nowhere.
     pub fn empty(alloc: Global) -> Held
         ensures { result.kept ≡ None }
@@ -54,18 +43,32 @@ impl Held {
         }
     }
 
-    /// Returns the parts of the box again.
+    /// Keeps what was in a box.
+    fn full(opened: Opened<Numbers, Global>) -> Held
+        ensures { result.kept ≡ Some opened.inside }
+    {
+        let Opened { at, alloc } = opened;
+        Held {
+            at: at as *mut u8,
+            alloc,
+        }
+    }
+
+    /// Keeps the mesh of a box where it stands.
+    pub fn of(closed: Box<Numbers, Global>) -> Held
+        ensures { result.kept ≡ Some closed.value }
+    {
+        Held::full(Opened::of(closed))
+    }
+
+    /// Returns the mesh as a box again.
     ///
-    /// Asks that there is a mesh.
-    pub fn into_parts(self) -> Parts<Numbers, Global>
+    /// Asks that there is one.
+    pub fn into_box(self) -> Box<Numbers, Global>
         requires { IsSome self.kept }
         ensures { Some result.value ≡ self.kept }
     {
-        let Held { at, alloc } = self;
-        Parts {
-            ptr: at as *mut Numbers,
-            alloc,
-        }
+        unsafe { Box::from_raw(self.alloc, self.at as *mut Numbers) }
     }
 
     /// Makes an equal mesh with memory of its own.
@@ -77,7 +80,7 @@ impl Held {
         ensures same { self.new.kept ≡ self.old.kept }
     {
         let made = self.as_mut().try_clone(alloc)?;
-        Ok(Held::full(Parts::of(Box::new(alloc, made)?)))
+        Ok(Held::of(Box::new(alloc, made)?))
     }
 
     /// Lends the mesh.

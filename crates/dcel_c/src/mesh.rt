@@ -19,7 +19,7 @@ impl Drop for DcelMesh {
     fn drop(self) {
         let DcelMesh { held, is_open } = self;
         if is_open {
-            drop(held.into_parts().into_box());
+            drop(held.into_box());
         }
     }
 }

@@ -7,7 +7,6 @@ ghost use Rattle.dcel_c.specs.Calls.{HasNewMesh, IsSo, kept_in};
 ghost use Rattle.dcel_c.specs.Edits.{Edits};
 
 use crate::edits::edit_quietly;
-use crate::held::parts::Parts;
 use crate::held::{Held, Numbers};
 use crate::mesh::DcelMesh;
 use crate::status::{DONE, NO_MESH, NO_ROOM, OUT_OF_MEMORY};
@@ -24,7 +23,7 @@ pub fn keep(alloc: Global, mesh: &mut DcelMesh, dcel: Numbers) -> u32
         Err(_) => OUT_OF_MEMORY,
         Ok(kept) => {
             *mesh = DcelMesh {
-                held: Held::full(Parts::of(kept)),
+                held: Held::of(kept),
                 is_open: true,
             };
             DONE

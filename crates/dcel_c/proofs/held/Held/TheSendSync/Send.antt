@@ -17,18 +17,22 @@ use Rattle.std_heap.specs.contracts.Global as Heap
 use Rattle.std_heap.specs.contracts.GlobalAllocator.TheImpl.{ghosts}
 use Rattle.std_heap.proofs.Global.TheSendSync as handle
 
-number_send : IsSend u64
-number_send = search sendable
-
+-- the mesh is only numbers
 mesh_send : IsSend mesh_row
-mesh_send = dcel.the_send u64 u64 u64 u64 Heap.the_row ghosts number_send number_send number_send number_send heap.send heap.frees
+mesh_send =
+    let number : IsSend u64 = search sendable in
+    dcel.the_send u64 u64 u64 u64 Heap.the_row ghosts number number number number heap.send heap.frees
 
-keyless : (alloc : Global) (p : Ptr) (kept : Kept) → Keyless (held_owns alloc p kept)
-keyless alloc p None = tt
-keyless alloc p (Some mesh) = (lies mesh_row mesh_send p mesh, heap.frees.frees alloc (raw (lone mesh_row.mir)) p)
+-- what is kept names no thread
+of_no_thread : (alloc : Global) (at : Ptr) (kept : Kept) → Keyless (held_owns alloc at kept)
+of_no_thread alloc at None = tt
+of_no_thread alloc at (Some mesh) = (lies mesh_row mesh_send at mesh, heap.frees.frees alloc (raw (lone mesh_row.mir)) at)
+
+-- and the words are a pointer and a handle
+words_send : AllSend (fields the_type)
+words_send = (search sendable, (handle.the_field_send, tt))
 
 pub send : IsSend the_row
 send =
-    let all : AllSend (fields the_type) = (search sendable, (handle.the_field_send, tt)) in
-    owning_send the_type all (λ d. keyless d.alloc d.at d.kept)
-    (λ k. quiet (to the_type) (exits_of k (fields the_type)) ((struct_send (shape the_type) all).leaving k))
+    let words = struct_send (shape the_type) words_send in
+    owning_send the_type words_send (λ held. of_no_thread held.alloc held.at held.kept) (λ k. quiet (to the_type) (exits_of k (fields the_type)) (words.leaving k))

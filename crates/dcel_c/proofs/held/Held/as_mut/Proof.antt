@@ -1,126 +1,100 @@
--- `as_mut` lends what is kept, and the holder follows it.
-use mathlib.Core.Path.{◌≡◌, refl, sym, ap}
-use Prim.Native.Nat.{ℕ}
-use mathlib.Core.List.{List, [], ◌∷◌}
+-- The mesh is lent. What is left of the holder waits until it comes back.
+use Rattle.std.proofs.Common.{◌≡◌, ℕ, List, [], ◌∷◌, refl, sym}
+use Rattle.std.proofs.VecSteps.Shapes.{after}
+use Rattle.std.proofs.alloc.Calls.{token}
+use Rattle.std.proofs.raw_atomic.Walks.{proved}
+use Rattle.std.specs.Borrow.{MutBor}
+use Rattle.std.specs.Prelude.{IsSome}
+use Rattle.std_alloc.proofs.BoxSteps.Form.{τ, word, handle}
 use seplogic.Ra.Ura.{Ura}
+use base.Fml.{Fml, GName, ftrue, fsep, flft}
 use base.Fraction.{full_share}
-use mir.Syntax.{Body, named, place, copy, assign, rv_opd, seq, return}
-use mir.Val.{Val, vptr}
-use mir.Raw.{raw as bare}
-use base.Logic.{SProp, ent, sep, id⊢}
-use base.Fml.{Lft, GName, Share, Fml, ftrue, flft, fsep}
-use prog.Memory.{Memory}
-use prog.Routine.{Routine}
-use prog.Wp.{Env, Calls, Loops, WpFn, Tables}
-use types.Logic.{Logic, sem}
-use contract.Monad.{Fun, fact}
-use contract.Running.{tables, tables_of}
-use sound.WpLaws.{WpFn-mono}
-use types.Kit.{‵, ◌⊛◌, some, at_ret, ◌$◌, ◌∵◌, !, qed, by, move, keep, use1, drop, split, join, pick, fsplit, fsplit3, fjoin, suffices, frame, done, raw, later, await, group, fpack, rewrite}
-use types.Part.{whole, sub, look_in}
-use types.Run.{stop, fld, load, of_opd, first, blocks, exec, returns, enter, addr}
-use types.ByLocal.{alloc_all, pass_all, free_all, look_at, get, through, sets, env, sets_last}
-use denote.RattleType.{owns}
+use base.Logic.{ent, sep, id⊢}
+use contract.Monad.{fact}
+use contract.Running.{tables}
+use denote.Follow.{Part, lends_Part, follows}
 use denote.Memory.{part_at, mem, cell_at, part_of}
 use denote.RawPtr.{block_ptr}
 use denote.Ref.{MutRef, mut_vals, mut_Tells}
+use denote.Exit.{no}
 use denote.Signature.{plain, mut_ref_to}
 use denote.Steps.{nothing, opens, heard}
-use denote.Triple.Entry.{on_entry}
-use denote.Triple.Spec.{Meets, triple_of}
-use denote.Triple.Table.{entered}
-use denote.Triple.Walked.{says, Stays, stay_dropped, walk_of, ends_at, walked, walk_Meets, Goes-spent_ref}
-use denote.Exit.{no}
-use denote.Follow.{follows, Part, lends_Part}
-use Rattle.std.proofs.alloc.Calls.{token}
-use Rattle.std.specs.Prelude.{Some, IsSome}
-use Rattle.std_alloc.proofs.BoxSteps.Form.{D, τ, word, handle, B}
-use Rattle.std_alloc.proofs.BoxSteps.Steps.{box_out, box_in}
-use Rattle.dcel_c.proofs.AsBox.{E}
-use Rattle.dcel_c.proofs.Full.{there}
-use Rattle.dcel_c.specs.Held.{mesh_row, Kept}
+use denote.Triple.Walked.{Stays, stay_dropped, walk_of, ends_at, says, Goes-spent_ref}
+use mir.Raw.{raw as bare}
+use mir.Syntax.{named}
+use mir.Val.{Val, vptr}
+use types.ByLocal.{alloc_all, pass_all, free_all, look_at, get, through, sets, sets_last, env}
+use types.Kit.{‵, raw, some, later, at_ret, ◌⊛◌, ◌$◌, ◌∵◌, !, qed, await, done, fjoin, fpack, frame, fsplit3, group, join, keep, move, pick, rewrite, split, suffices, use1}
+use types.Logic.{Logic, sem}
+use types.Part.{look_in}
+use types.Run.{stop, fld, load, of_opd, addr, first, blocks, exec, enter, returns}
+use Rattle.dcel_c.proofs.Kept.{field_in, boxes, opens_held, closes_held}
+use Rattle.dcel_c.specs.Held.{State, mesh_row}
 use Rattle.dcel_c.specs.Lending.{with_mesh}
-use Rattle.dcel_c.specs.contracts.held.Held.{the_row as R}
-use Rattle.dcel_c.specs.contracts.held.Held.as_mut as F
-use Rattle.dcel_c.specs.contracts.held.Held.as_mut.Key.{name as #self}
-use Rattle.dcel_c.proofs.held.Held.as_mut.Statement as stated
+use Rattle.dcel_c.specs.contracts.held.Held.{the_row as H}
+use Rattle.dcel_c.specs.contracts.held.Held.as_mut as f
+use Rattle.dcel_c.specs.declared.held.Held.{Held}
+use Rattle.dcel_c.proofs.held.Held.as_mut.Statement.{statement}
 use Rattle.dcel_c.proofs.held.Held.as_mut.Code as code
 
-abbrev rest : Body
-rest = seq (assign (place 0 []) (rv_opd (copy (place 2 [])))) return
+abbrev stayed : Stays f.ended.signature.params f.ended.kept
+stayed = (stay_dropped (mut_ref_to (0 ∷ []) tt (plain (λ _. H))) no, tt)
 
-abbrev stayed : Stays (F.ended).signature.params (F.ended).kept
-stayed = (stay_dropped (mut_ref_to (0 ∷ []) tt (plain (λ _. R))) no, tt)
+module _ {M : Type 1} {𝓤 : Ura M} (𝓛 : Logic 𝓤) (held : Held) (b o : ℕ) (hv : Val) (rb ro : ℕ) where
+  -- what waits: the right to free the mesh, the handle, and the cell of the two words
+  abbrev waits : Fml
+  waits = fsep (token boxes.al held.alloc (bare (τ boxes)) (block_ptr b o)) (fsep (handle boxes held.alloc hv) (cell_at full_share H.mir (word boxes hv b o ∷ []) rb ro))
 
-module _ {M : Type 1} {𝓤 : Ura M} (𝓛 : Logic 𝓤) (at_mem : Memory → SProp 𝓤) (run : Routine → Fun 𝓤) (κ : Lft) (q : Share) (rb ro : ℕ) (γ : GName) (h : R.Denot) where
-  open 𝓛 use {H, A}
+  -- with a mesh that comes back it is a holder again
+  comes_back : held.at ≡ block_ptr b o → (mesh : State) → ent 𝓤 (sep 𝓤 (sem 𝓛 ((mem mesh_row).own_at mesh b o)) (sem 𝓛 waits)) (sem 𝓛 ((mem H).own_at (with_mesh held mesh) rb ro))
+  unfolding part_of
+  comes_back at mesh =
+      let lies = λ (us : List Val). fsep (cell_at full_share H.mir us rb ro) (H.own_val (with_mesh held mesh) us) in
+      qed 𝓛 (‵ (part_at mesh_row full_share mesh b o) ∷ ‵ waits ∷ []) ∵
+      move ! (1 ∷ []) $ fsplit3 ! $ move ! (3 ∷ 0 ∷ 1 ∷ []) $ closes_held ! held mesh b o at $
+      move ! (1 ∷ []) $ fjoin ! $ fpack ! (List Val) lies (word boxes hv b o ∷ []) $ done !
 
-  abbrev bound : (walk_of 𝓛 F.ended stayed (F.clauses 𝓛 at_mem run)).Ghost
-  bound = (((κ, tt), (q, tt), tt, (record { ref_ptr = (rb, ro); ghost_name = γ; now = h }, tt), (vptr rb ro ∷ [], tt)), tt)
-
-  abbrev Post : Val → SProp 𝓤
-  Post = (walk_of 𝓛 F.ended stayed (F.clauses 𝓛 at_mem run)).post bound
-
-  abbrev boxed : mesh_row.Denot → D E
-  boxed w = record { ptr = h.at; alloc = h.alloc; value = w }
-
-  module _ (b o : ℕ) (hv : Val) where
-    -- all of it but what is kept
-    abbrev Rest : Fml
-    Rest = fsep (fsep (token E.al h.alloc (bare (τ E)) (block_ptr b o)) (handle E h.alloc hv)) (cell_at full_share R.mir (word E hv b o ∷ []) rb ro)
-
-    back : h.at ≡ block_ptr b o → (w : mesh_row.Denot) → ent 𝓤 (sep 𝓤 (sem 𝓛 ((mem mesh_row).own_at w b o)) (sem 𝓛 Rest)) (sem 𝓛 ((mem R).own_at (with_mesh h w) rb ro))
-    unfolding part_of
-    back at_b w =
-        qed 𝓛 (‵ (part_at mesh_row full_share w b o) ∷ ‵ Rest ∷ []) ∵ move ! (1 ∷ []) $ fsplit ! $ fsplit ! $ move ! (3 ∷ []) $
-        box_in E ! (boxed w) b o w at_b refl $ use1 𝓛 (‵ (R.own_val (with_mesh h w) (word E hv b o ∷ []))) (id⊢ 𝓤 _) $ move ! (1 ∷ 0 ∷ []) $ fjoin ! $
-        fpack ! (List Val) (λ us. fsep (cell_at full_share R.mir us rb ro) (R.own_val (with_mesh h w) us)) (word E hv b o ∷ []) $ done !
-
-    exits : (γ' : GName) (x : mesh_row.Denot) → h.kept ≡ Some x
-        → ent 𝓤 (sep 𝓤 (sem 𝓛 ((MutRef (named 0) κ mesh_row).own_val (record { ref_ptr = (b, o); ghost_name = γ'; now = x }) (vptr b o ∷ []))) (sep 𝓤 (A.lft κ q) (sem 𝓛 (follows R mesh_row γ γ' (with_mesh h))))) (Post (vptr b o))
-    exits γ' x ex =
-        qed 𝓛 (‵ ((MutRef (named 0) κ mesh_row).own_val (record { ref_ptr = (b, o); ghost_name = γ'; now = x }) (vptr b o ∷ [])) ∷ ‵ (flft κ q) ∷ ‵ (follows R mesh_row γ γ' (with_mesh h)) ∷ []) ∵
-        suffices ! _ (ends_at 𝓛 F.ended stayed (F.clauses 𝓛 at_mem run) bound (vptr b o) (record { ref_ptr = (b, o); ghost_name = γ'; now = x }) (tt, tt) (tt, tt)) $
-        nothing ! $ nothing ! $ fjoin ! $ join ! $ nothing ! $ move ! (2 ∷ 0 ∷ []) $ join ! $ join ! $ frame ! $ says ! (sym ex) $ done !
-
-  module _ (C : Calls 𝓤 H) (Λ : Loops 𝓤 H) where
-    walk : ent 𝓤 (sep 𝓤 (on_entry 𝓛 F.signature (κ, tt) (q, tt) (record { ref_ptr = (rb, ro); ghost_name = γ; now = h }, tt) (vptr rb ro ∷ [], tt)) (fact 𝓤 (IsSome h.kept))) (WpFn 𝓤 H C Λ code.function (vptr rb ro ∷ []) Post)
-    walk =
-        let Own = λ (d : R.Denot). λ (us : List Val). ‵ (R.own_val d us) in
-        qed 𝓛 (((‵ (flft κ q) ⊛ ‵ ftrue) ⊛ ‵ (owns (MutRef (named 0) κ R ∷ []) (record { ref_ptr = (rb, ro); ghost_name = γ; now = h }, tt) (vptr rb ro ∷ [], tt))) ∷ raw (fact 𝓤 (IsSome h.kept)) ∷ []) ∵
-        move ! (1 ∷ []) $ heard ! (IsSome h.kept) (λ is.
-        let x = (there h.kept is).0 in let ex = (there h.kept is).1 in
-        split ! $
-        enter ! C Λ code.function (vptr rb ro ∷ []) _ $
-        alloc_all ! (λ l. pass_all ! refl ((tt, tt), tt) $
-        let En : Env 𝓤 H = env (code.function).locals l in
-        move ! (1 ∷ []) $ fsplit ! $ fsplit3 ! $ drop ! $ move ! (3 ∷ []) $ split ! $ move ! (2 ∷ 3 ∷ 0 ∷ []) $
-        opens ! tt R {h = h} rb ro (λ vs. move ! (1 ∷ []) $
-        rewrite ! 0 (λ (d : R.Denot). Own d vs) (ap (λ (k : Kept). record { at = h.at; alloc = h.alloc; kept = k }) ex) refl $
-        use1 𝓛 (‵ ((B E).own_val (boxed x) vs)) (id⊢ 𝓤 _) $
-        box_out E ! (boxed x) vs (λ b o hv at_b ws fa. move ! (1 ∷ 2 ∷ []) $ fjoin ! $ move ! (1 ∷ []) $
-        rewrite ! 2 (λ (us : List Val). ‵ (cell_at full_share R.mir us rb ro)) ws refl $
-        first ! $ blocks ! $
-        sets ! (of_opd ! (load ! (through ! refl (fld ! refl (stop !))) (look_in ! 2 (sub ! 0 refl (whole !))))) refl (tt, tt) $
-        sets ! (of_opd ! (get ! refl)) refl (tt, tt) $
-        sets_last ! (addr ! (through ! refl (stop !))) refl (tt, tt) $
-        exec ! C Λ En rest (at_ret En Post) $
-        sets ! (of_opd ! (get ! refl)) refl (tt, tt) $
-        move ! (1 ∷ 2 ∷ []) $ fjoin ! $ move ! (2 ∷ 3 ∷ 4 ∷ 1 ∷ 0 ∷ []) $ group ! 5 $
-        use1 𝓛 (later (some (λ (γ' : GName). raw (Part 𝓛 R mesh_row (with_mesh h) (named 0) κ q rb ro b o γ (sem 𝓛 (Rest b o hv)) (back b o hv at_b) x γ'))))
-        (lends_Part 𝓛 R mesh_row (with_mesh h) (named 0) κ q rb ro b o γ (sem 𝓛 (Rest b o hv)) (back b o hv at_b) (R.coded.code h) (R.coded.code h) x) $ await ! tt $ pick ! (λ γ'.
-        returns ! (look_at ! 0 refl) $ free_all ! refl $
-        keep ! (0 ∷ []) $ by ! (exits b o hv γ' x ex))))))
-
-module _ {M : Type 1} {𝓤 : Ura M} (𝓛 : Logic 𝓤) (at_mem : Memory → SProp 𝓤) (run : Routine → Fun 𝓤) where
-  meets : (𝓣 : Tables 𝓤 𝓛.H) → Meets 𝓛 F.signature (WpFn 𝓤 𝓛.H 𝓣.C 𝓣.Λ code.function) (F.spec 𝓛 at_mem run)
-  meets 𝓣 =
-      walk_Meets 𝓛 F.ended stayed (Goes-spent_ref 𝓛 1 (0 ∷ []) tt (plain (λ _. R)), tt) (F.clauses 𝓛 at_mem run) (WpFn 𝓤 𝓛.H 𝓣.C 𝓣.Λ code.function) (WpFn-mono 𝓤 𝓛.H 𝓛.laws 𝓣 code.function)
-      (walked 𝓛 F.ended stayed (F.clauses 𝓛 at_mem run) (WpFn 𝓤 𝓛.H 𝓣.C 𝓣.Λ code.function) (λ κs. (mut_vals, tt)) (λ κs. (mut_Tells (named 0) κs.0 R, tt))
-      (λ κs qs bounds a g are. walk 𝓛 at_mem run κs.0 qs.0 a.0.ref_ptr.0 a.0.ref_ptr.1 a.0.ghost_name a.0.now 𝓣.C 𝓣.Λ))
-
-pub as_mut_spec : {M : Type 1} → stated.statement M
-unfolding tables_of
+pub as_mut_spec : {M : Type 1} → statement M
 as_mut_spec 𝓤 𝓛 𝓜 𝓡 wired =
-    let 𝓣 : Tables 𝓤 𝓛.H = tables_of 𝓤 𝓛.H 𝓜 (tables 𝓤 𝓛.H 𝓜 𝓡 𝓡.env) in
-    entered 𝓤 𝓛.H (triple_of 𝓛 F.signature (F.spec 𝓛 𝓜.mem 𝓡.returns)) 𝓣.C 𝓣.Λ #self code.function (code.unfolded 𝓤 𝓛.H 𝓜 𝓡 wired) (meets 𝓛 𝓜.mem 𝓡.returns 𝓣)
+    let c = f.clauses 𝓛 𝓜.mem 𝓡.returns in
+    let W = walk_of 𝓛 f.ended stayed c in
+    let 𝓣 = tables 𝓤 𝓛.H 𝓜 𝓡 𝓡.env in
+    proved 𝓛 f.ended stayed c 𝓜 𝓡 (Goes-spent_ref 𝓛 1 (0 ∷ []) tt (plain (λ _. H)), tt)
+    f.Key.name code.function (code.unfolded 𝓤 𝓛.H 𝓜 𝓡 wired)
+    (λ κs. (mut_vals, tt)) (λ κs. (mut_Tells (named 0) κs.0 H, tt)) (λ κs qs bounds a _ are.
+    let κ = κs.0 in
+    let self = a.0 in
+    let held = self.now in
+    let rb = self.ref_ptr.0 in
+    let ro = self.ref_ptr.1 in
+    let y : W.Ghost = ((κs, qs, bounds, a, (mut_vals self, tt)), tt) in
+    qed 𝓛 (((‵ (flft κ qs.0) ⊛ ‵ ftrue) ⊛ ‵ ((MutRef (named 0) κ H).own_val self (mut_vals self)) ⊛ ‵ ftrue) ∷ raw (fact 𝓤 (IsSome held.kept)) ∷ []) ∵
+    move ! (1 ∷ []) $ heard ! _ (λ is.
+    split ! $ split ! $ move ! (2 ∷ []) $ split ! $ keep ! (0 ∷ 2 ∷ []) $
+    enter ! _ _ _ _ _ $ alloc_all ! (λ l. pass_all ! refl ((tt, tt), tt) $
+    -- the reference is opened, and then the holder
+    fsplit3 ! $ move ! (1 ∷ 2 ∷ 3 ∷ []) $ opens ! tt H rb ro (λ us. move ! (1 ∷ []) $
+    opens_held ! held us is (λ mesh kept b o hv at words fits.
+    rewrite ! 3 (λ (ws : List Val). ‵ (cell_at full_share H.mir ws rb ro)) words refl $
+    -- [the mesh; the right to free it; the handle; the two words; the open borrow, in three entries]
+    first ! $ blocks ! $
+    sets ! (of_opd ! (load ! (through ! refl (fld ! refl (stop !))) (look_in ! 3 (field_in ! 0 refl)))) refl (tt, tt) $
+    sets ! (of_opd ! (get ! refl)) refl (tt, tt) $ sets_last ! (addr ! (through ! refl (stop !))) refl (tt, tt) $
+    exec ! 𝓣.C 𝓣.Λ (env (code.function).locals l) (after 1 (code.function).body) (at_ret _ (W.post y)) $
+    sets ! (of_opd ! (get ! refl)) refl (tt, tt) $
+    -- the mesh goes out
+    move ! (2 ∷ 3 ∷ []) $ fjoin ! $ move ! (2 ∷ 0 ∷ []) $ fjoin ! $ move ! (2 ∷ 3 ∷ 4 ∷ 1 ∷ 0 ∷ []) $ group ! 5 $
+    let waiting = sem 𝓛 (waits 𝓛 held b o hv rb ro) in
+    let back = comes_back 𝓛 held b o hv rb ro at in
+    let code_of = H.coded.code held in
+    use1 𝓛 (later (some (λ (δ : GName). raw (Part 𝓛 H mesh_row (with_mesh held) (named 0) κ qs.0 rb ro b o self.ghost_name waiting back mesh δ))))
+    (lends_Part 𝓛 H mesh_row (with_mesh held) (named 0) κ qs.0 rb ro b o self.ghost_name waiting back code_of code_of mesh) $
+    await ! tt $ pick ! (λ δ.
+    let lent : MutBor State = record { ref_ptr = (b, o); ghost_name = δ; now = mesh } in
+    use1 𝓛 (‵ ((MutRef (named 0) κ mesh_row).own_val lent (mut_vals lent)) ⊛ ‵ (flft κ qs.0) ⊛ ‵ (follows H mesh_row self.ghost_name δ (with_mesh held))) (id⊢ 𝓤 _) $
+    returns ! (look_at ! 0 refl) $ free_all ! refl $
+    keep ! (0 ∷ []) $
+    -- the token, nothing of the parameter, and the result; then that the holder follows it, and its value
+    suffices ! _ (ends_at 𝓛 f.ended stayed c y (vptr b o) lent (tt, tt) (tt, tt)) $
+    split ! $ nothing ! $ nothing ! $ fjoin ! $ join ! $ move ! (1 ∷ []) $ split ! $
+    nothing ! $ move ! (1 ∷ 0 ∷ []) $ join ! $ move ! (0 ∷ 2 ∷ []) $ join ! $ frame ! $ says ! (sym kept) $ done !))))))

@@ -1,75 +1,61 @@
--- `empty` owns nothing.
-use mathlib.Core.Path.{refl, sym, subst}
-use mathlib.Core.List.{List, [], ◌∷◌, ◌++◌}
-use lib.Dec.{lit<}
-use seplogic.Ra.Ura.{Ura}
-use mir.Val.{Val, vnull, vstruct, vcons, vnil}
-use base.Logic.{SProp, ent, emp, id⊢}
+-- A pointer that leads nowhere owns no more than its handle.
+use Rattle.std.proofs.Common.{List, [], ◌∷◌, ◌++◌, refl, lit<}
+use Rattle.std.proofs.raw_atomic.Walks.{proved_at}
+use Rattle.std.proofs.alloc.Calls.{handle_tells}
+use Rattle.std.specs.Prelude.{None}
+use Rattle.std_alloc.proofs.BoxSteps.Form.{P, box_typed}
+use Rattle.std_heap.specs.contracts.Global as Heap
+use base.Logic.{emp, id⊢}
 use base.Fml.{ftrue, fsep}
-use prog.Memory.{Memory}
-use prog.Routine.{Routine}
-use prog.Wp.{WpFn, Tables}
-use types.Logic.{Logic}
-use contract.Monad.{Fun}
-use contract.Running.{tables, tables_of}
-use sound.WpLaws.{WpFn-mono}
-use types.Kit.{Item, ‵, raw, ◌⊛◌, ◌$◌, ◌∵◌, !, qed, by, move, keep, drop, use1, join, split, fsplit, fjoin, fpack, feq_i, suffices, done}
-use types.Part.{agg}
-use types.Run.{no_more, and_then, lit, returns, enter}
-use types.ByLocal.{alloc_all, pass_all, free_all, look_at, get, sets}
+use contract.Running.{tables}
 use denote.Exit.{yes}
 use denote.RattleType.{Valss}
 use denote.RawPtr.{RawPtr, null_ptr, ptr_val}
-use denote.Signature.{type_at, plain}
+use denote.Signature.{plain}
 use denote.Steps.{nothing}
-use denote.Struct.Struct.{within}
 use denote.Struct.Owning.{shape, to}
-use denote.Triple.Spec.{triple_of}
-use denote.Triple.Table.{entered}
-use denote.Triple.Walked.{says, Stays, stay_dropped, walk_of, ends_at, Goes-dropped, walk_Meets}
-use Rattle.std.proofs.alloc.Calls.{handle_tells}
-use Rattle.std.specs.Prelude.{None}
-use Rattle.std_alloc.proofs.BoxSteps.Form.{P, handle, box_typed}
-use Rattle.std_heap.specs.contracts.Global as Heap
-use Rattle.dcel_c.proofs.AsBox.{E}
-use Rattle.dcel_c.specs.contracts.held.Held as Held
-use Rattle.dcel_c.specs.contracts.held.Held.empty as F
-use Rattle.dcel_c.specs.contracts.held.Held.empty.Key.{name as #self}
-use Rattle.dcel_c.proofs.held.Held.empty.Statement as stated
+use denote.Struct.Struct.{within}
+use denote.Triple.Walked.{Stays, stay_dropped, Goes-dropped, walk_of, ends_at, says}
+use mir.Val.{Val, vnull, vstruct, vcons, vnil}
+use prog.Wp.{WpFn}
+use types.ByLocal.{alloc_all, pass_all, free_all, look_at, get, sets}
+use types.Kit.{‵, raw, prop, ◌⊛◌, ◌$◌, ◌∵◌, !, qed, done, drop, feq_i, fjoin, fpack, fsplit, keep, move, regoal, split, suffices, use1}
+use types.Part.{agg}
+use types.Run.{no_more, and_then, lit, enter, returns}
+use Rattle.dcel_c.proofs.Kept.{boxes, ends_with}
+use Rattle.dcel_c.specs.contracts.held.Held.{the_row as H, the_type}
+use Rattle.dcel_c.specs.contracts.held.Held.empty as f
+use Rattle.dcel_c.specs.declared.held.Held.{Held}
+use Rattle.dcel_c.proofs.held.Held.empty.Statement.{statement}
 use Rattle.dcel_c.proofs.held.Held.empty.Code as code
 
-abbrev stayed : Stays (F.ended).signature.params (F.ended).kept
-stayed = (stay_dropped (plain (λ _. Heap.the_row)) yes, tt)
+abbrev stayed : Stays f.ended.signature.params f.ended.kept
+stayed = (stay_dropped _ yes, tt)
 
-module _ {M : Type 1} {𝓤 : Ura M} (𝓛 : Logic 𝓤) (at_mem : Memory → SProp 𝓤) (run : Routine → Fun 𝓤) (𝓣 : Tables 𝓤 𝓛.H) where
-  open 𝓛 use {H}
-
-  walk : (z : (walk_of 𝓛 F.ended stayed (F.clauses 𝓛 at_mem run)).Ghost)
-      → ent 𝓤 ((walk_of 𝓛 F.ended stayed (F.clauses 𝓛 at_mem run)).pre z) (WpFn 𝓤 H 𝓣.C 𝓣.Λ code.function (z.0.4.0 ++ []) ((walk_of 𝓛 F.ended stayed (F.clauses 𝓛 at_mem run)).post z))
-  walk z =
-      let Post = (walk_of 𝓛 F.ended stayed (F.clauses 𝓛 at_mem run)).post z in
-      let a = z.0.3.0 in
-      let To = type_at (F.signature).result tt in
-      let made : To.Denot = record { at = null_ptr; alloc = a; kept = None } in
-      qed 𝓛 ((‵ ftrue ⊛ ‵ (fsep ((P E).own_val a z.0.4.0) ftrue)) ∷ raw (emp 𝓤) ∷ []) ∵ split ! $ drop ! $ fsplit ! $
-      handle_tells E.al ! a z.0.4.0 (λ hv ea fa. move ! (1 ∷ []) $ drop ! $
-      let w = vstruct (vcons vnull (vcons hv vnil)) in
-      let Γ : List (Item 𝓤) = ‵ (handle E a hv) ∷ raw (emp 𝓤) ∷ [] in
-      by ! (subst (λ (us : List Val). ent 𝓤 (types.Kit.⋆ 𝓛 Γ) (WpFn 𝓤 H 𝓣.C 𝓣.Λ code.function (us ++ []) Post)) (sym ea)
-      (qed 𝓛 Γ ∵ enter ! 𝓣.C 𝓣.Λ code.function (hv ∷ []) _ $ alloc_all ! (λ ls. pass_all ! refl (fa, tt) $
-      sets ! (agg ! (and_then ! (lit ! tt) (and_then ! (get ! refl) (no_more !)))) refl ((box_typed E hv 0 0 fa).0, (record { fits = lit< tt }, (fa.1, tt))) $ returns ! (look_at ! 0 refl) $ free_all ! refl $
-      nothing ! $ nothing ! $ move ! (2 ∷ 0 ∷ []) $ fjoin ! $
-      feq_i ! (List Val) (vnull ∷ []) (ptr_val null_ptr ∷ []) refl $ fjoin ! $
-      feq_i ! (List Val) (w ∷ []) (w ∷ []) refl $ fjoin ! $
-      fpack ! (Valss (RawPtr ∷ P E ∷ [])) (within (shape Held.the_type) (to Held.the_type made) (w ∷ [])) (vnull ∷ [], (hv ∷ [], tt)) $ fjoin ! $
-      use1 𝓛 (‵ (To.own_val made (w ∷ []))) (id⊢ 𝓤 _) $
-      suffices ! _ (ends_at 𝓛 F.ended stayed (F.clauses 𝓛 at_mem run) z w made (tt, tt) (tt, tt)) $ says ! refl $ keep ! (0 ∷ []) $
-      nothing ! $ nothing ! $ fjoin ! $ join ! $ nothing ! $ join ! $ done !))))
-
-pub empty_spec : {M : Type 1} → stated.statement M
-unfolding tables_of
+pub empty_spec : {M : Type 1} → statement M
 empty_spec 𝓤 𝓛 𝓜 𝓡 wired =
-    let 𝓣 : Tables 𝓤 𝓛.H = tables_of 𝓤 𝓛.H 𝓜 (tables 𝓤 𝓛.H 𝓜 𝓡 𝓡.env) in
-    entered 𝓤 𝓛.H (triple_of 𝓛 F.signature (F.spec 𝓛 𝓜.mem 𝓡.returns)) 𝓣.C 𝓣.Λ #self code.function (code.unfolded 𝓤 𝓛.H 𝓜 𝓡 wired)
-    (walk_Meets 𝓛 F.ended stayed (Goes-dropped 𝓛 0 (plain (λ _. Heap.the_row)) yes (λ κs x f. refl), tt) (F.clauses 𝓛 𝓜.mem 𝓡.returns) (WpFn 𝓤 𝓛.H 𝓣.C 𝓣.Λ code.function) (WpFn-mono 𝓤 𝓛.H 𝓛.laws 𝓣 code.function)
-    (walk 𝓛 𝓜.mem 𝓡.returns 𝓣))
+    let c = f.clauses 𝓛 𝓜.mem 𝓡.returns in
+    let 𝓣 = tables 𝓤 𝓛.H 𝓜 𝓡 𝓡.env in
+    let gone = Goes-dropped 𝓛 0 (plain (λ _. Heap.the_row)) yes (λ κs x w. refl) in
+    proved_at 𝓛 f.ended stayed c 𝓜 𝓡 (gone, tt) f.Key.name code.function (code.unfolded 𝓤 𝓛.H 𝓜 𝓡 wired) (λ y are.
+    let alloc = y.0.3.0 in
+    let vs = y.0.4.0 in
+    let held : Held = record { at = null_ptr; alloc = alloc; kept = None } in
+    qed 𝓛 ((‵ ftrue ⊛ ‵ (fsep ((P boxes).own_val alloc vs) ftrue)) ∷ raw (emp 𝓤) ∷ []) ∵
+    split ! $ drop ! $ fsplit ! $
+    handle_tells boxes.al ! alloc vs (λ hv is fits.
+    regoal ! (λ us. prop (WpFn 𝓤 𝓛.H 𝓣.C 𝓣.Λ code.function (us ++ []) ((walk_of 𝓛 f.ended stayed c).post y))) is refl $
+    enter ! _ _ _ _ _ $ alloc_all ! (λ l. pass_all ! refl (fits, tt) $
+    let word = vstruct (vcons vnull (vcons hv vnil)) in
+    sets ! (agg ! (and_then ! (lit ! tt) (and_then ! (get ! refl) (no_more !)))) refl
+    ((box_typed boxes hv 0 0 fits).0, (record { fits = lit< tt }, (fits.1, tt))) $
+    returns ! (look_at ! 0 refl) $ free_all ! refl $
+    keep ! (0 ∷ []) $
+    -- the handle, and the null pointer beside it, are the fields of what is returned
+    nothing ! $ nothing ! $ move ! (2 ∷ 0 ∷ []) $ fjoin ! $
+    feq_i ! (List Val) (vnull ∷ []) (ptr_val null_ptr ∷ []) refl $ fjoin ! $
+    feq_i ! (List Val) (word ∷ []) (word ∷ []) refl $ fjoin ! $
+    fpack ! (Valss (RawPtr ∷ P boxes ∷ [])) (within (shape the_type) (to the_type held) (word ∷ [])) (vnull ∷ [], (hv ∷ [], tt)) $ fjoin ! $
+    use1 𝓛 (‵ (H.own_val held (word ∷ []))) (id⊢ 𝓤 _) $
+    suffices ! _ (ends_at 𝓛 f.ended stayed c y word held (tt, tt) (tt, tt)) $ says ! refl $
+    ends_with ! (H.own_val held (word ∷ [])) $ done !)))
