@@ -1,11 +1,14 @@
 """Calls the kit's prover with the words that `rt` gives it. No other file knows them.
 
 `rt` knows the libraries below a crate by stamps, and `rt ci` leaves none: after it, `rt lib` and `rt check` would prove all below again.
-What `rt ci` leaves is whole, so it is taken as it is where it is newer than its sources. Where there are stamps, `rt lib` says whether the
-libraries are up to date, and proves what isn't.
+What `rt ci` leaves is whole, so it is taken as it is where it is newer than its sources. A kit that keeps what passed puts libraries back
+with the time at which they were made, in a clone whose sources are newer: so `tools/prover.py`, called right after a run of `rt ci` that
+passed and found no such library before, notes of which sources they are. Where there are stamps, `rt lib` says whether the libraries are
+up to date, and proves what isn't.
 """
 
 import functools
+import hashlib
 import os
 import subprocess
 import sys
@@ -70,15 +73,38 @@ def is_stamped(name):
     return (library(name).parent / "stamp").is_file()
 
 
-def is_newer(name):
-    """Whether the library is there, and newer than each of its sources."""
+def sum_of_sources(name):
+    found = hashlib.sha256()
+    for file in sources(name):
+        found.update(repr((str(file.relative_to(CRATES)), file.read_bytes())).encode())
+    return found.hexdigest()
+
+
+def note(name):
+    """Where it is noted of which sources the library is."""
+    return library(name).parent / "sources"
+
+
+def note_all():
+    """Notes of each library that `rt ci` has left that it is of these sources."""
+    for name in crates():
+        if (library(name) / "format").is_file() and not is_stamped(name):
+            note(name).write_text(sum_of_sources(name))
+
+
+def is_of_sources(name):
+    """Whether the library is there, and newer than each of its sources or noted to be of them."""
     made = library(name) / "format"
-    return made.is_file() and all(it.stat().st_mtime < made.stat().st_mtime for it in sources(name))
+    if not made.is_file():
+        return False
+    if note(name).is_file():
+        return note(name).read_text() == sum_of_sources(name)
+    return all(it.stat().st_mtime < made.stat().st_mtime for it in sources(name))
 
 
 def is_ready(name):
     """Whether the libraries below are what `rt ci` left of these sources."""
-    return not any(map(is_stamped, below(name))) and all(map(is_newer, below(name)))
+    return not any(map(is_stamped, below(name))) and all(map(is_of_sources, below(name)))
 
 
 def make_ready(name):
@@ -116,3 +142,7 @@ def call(step, name, more, folder):
     if ran.returncode == 2 and ran.stdout.startswith(UNKNOWN):
         sys.exit(f"this kit's prover takes other words than {os.path.relpath(__file__)} gives it: {ran.stdout.splitlines()[0]}")
     return ran.returncode, ran.stdout
+
+
+if __name__ == "__main__":
+    note_all()
