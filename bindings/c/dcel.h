@@ -207,9 +207,9 @@ uint32_t dcel_from_links(dcel_mesh *mesh, const dcel_half_edge *half_edges, size
 /* Makes the mesh of these faces, with these data of its vertices. `corners` has the corners of one face
    after the other, counterclockwise, and `counts` how many each has. The face at place k gets number
    k + 1, and face 0 is what they leave. An edge gets its number where its first side stands, which
-   becomes half edge 2 * u. 23 if the faces are those of no mesh in which no two edges join the same two
-   vertices, or if they leave a border that comes to a vertex twice; 20. The faults of links that may be
-   told speak of the numbers of the mesh. */
+   becomes half edge 2 * u. 23 if no mesh in which no two edges join the same two vertices has these faces,
+   and after faults 17, 19 and 23 though one may; 20. The faults of links that may be told speak of the
+   numbers of the mesh. */
 uint32_t dcel_from_faces(dcel_mesh *mesh, const uint64_t *vertices, size_t vertices_len,
                          const uint32_t *corners, size_t corners_len, const uint32_t *counts,
                          size_t counts_len, dcel_fault *fault);
