@@ -15,8 +15,8 @@
    What is proved of each call, for any numbers: it returns, and touches no memory but what it is given
    and its mesh. A mesh is always a sound map on the sphere. A call that changes the mesh does what it
    says and returns DCEL_DONE; or it changes nothing, neither the mesh nor what its pointers lead to, but
-   for a fault that it tells, and returns why not: the least number of those that apply. All other calls
-   leave the mesh as it was.
+   for a fault that it tells, and returns why not: the least number of those that apply, but 20 or 22 first
+   where it takes lists. All other calls leave the mesh as it was.
 
    Where a mesh isn't open nothing is done or found: a call returns DCEL_NO_MESH, DCEL_NONE, 0 or false.
 
