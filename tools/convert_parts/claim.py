@@ -142,10 +142,15 @@ def text_of_faces(vertices, faces):
 
 def text_of_surface(surface):
     """The file of the mesh of a surface. One without a border lends the first face that comes to no vertex twice as the outer one."""
-    faces = list(surface.faces)
-    if faces and not surface.border():
-        faces.remove(next(face for face in faces if len(set(face)) == len(face)))
+    faces, place = list(surface.faces), surface.lent()
+    if place is not None:
+        del faces[place]
     return text_of_faces(surface.vertices, faces)
+
+
+def closing(surface):
+    """The line behind these words, if the outer face is one of the surface."""
+    return "" if surface.lent() is None else f"closed {surface.lent()}\n"
 
 
 def turns_of(vertices, words, origins):

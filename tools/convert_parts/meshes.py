@@ -14,6 +14,9 @@ from .surface import Surface
 
 ROOT = Path(__file__).resolve().parent.parent.parent
 
+# How it begins to tell of a surface with several parts or borders.
+MORE = r"the surface has \d+ parts?, \d+ borders?"
+
 
 def stored():
     """The meshes without an open removal that stored lines leave: those of the pictures, and after any line of a talk, once each."""
@@ -77,6 +80,11 @@ def left_out_of_faces(mesh):
     return f"dcel_convert: left out: an edge with the outer face on both sides ({count})\n" if count else ""
 
 
+def told_of_zeros(mesh):
+    """What is said where no places are asked for."""
+    return "dcel_convert: words have no coordinates: all are 0, and --places finds some\n" if mesh.data else ""
+
+
 def fault_of_points(mesh, points):
     """What is wrong with points that are found for the vertices: one for each, those of vertices with an edge different, the others at 0."""
     used = set(mesh.origins)
@@ -93,6 +101,7 @@ def inner_faces(mesh):
     ways = ways_of(mesh, [half for word in words for half in word])
     border = [half for half in mesh.words[0] if mesh.face(other(half)) != 0 and ways_of(mesh, [half])[0] not in ways]
     reason = why_refused(words, ways) or why_no_border(ways_of(mesh, border)) or why_apart([ways_of(mesh, word) for word in words])
+    reason = reason or why_nothing(mesh, words)
     return Surface(len(mesh.data), corners_of(mesh)[1:]), reason, reason is None and border == mesh.words[0]
 
 
@@ -103,6 +112,11 @@ def all_faces(mesh):
     if reason is None and all(len(set(face)) < len(face) for face in faces):
         reason = "there is no border, and each face comes to a vertex twice"
     return Surface(len(mesh.data), faces), reason, reason is None
+
+
+def why_nothing(mesh, words):
+    """What is wrong where there is no vertex and no face."""
+    return None if mesh.data or words else "the file has no vertex and no face"
 
 
 def why_refused(words, ways):
@@ -123,7 +137,7 @@ def why_no_border(ways):
     while after:
         vertex = after.pop(vertex)
         if vertex == start and after:
-            return "the faces leave more than one border"
+            return MORE
     return None
 
 
@@ -137,4 +151,4 @@ def why_apart(faces):
             reached.add(face)
             back = {(end, start) for start, end in faces[face]}
             left += [place for place, sides in enumerate(faces) if back.intersection(sides)]
-    return None if len(reached) == len(faces) else "no mesh has these faces|the faces are in several parts"
+    return None if len(reached) == len(faces) else f"no mesh has these faces|{MORE}"

@@ -14,11 +14,10 @@ REASONS = [
      and (one != two or sides_of(s.faces[one]).count((start, end)) > 1)),
     (r"two sides without a neighbor end at vertex (\d+)", None, lambda s, vertex: vertex in s.doubled()),
     (r"there is no border, and each face comes to a vertex twice", None, lambda s: s.lacks_outer_face()),
-    (r"the faces leave more than one border", None, lambda s: s.loops() > 1),
+    (r"the file has no vertex and no face", None, lambda s: not s.vertices and not s.faces),
     (r"no mesh has these faces: the half edges of vertex (\d+) are no single turn", None, lambda s, vertex: s.turns()[vertex] > 1),
-    (r"the faces are in several parts", None, lambda s: s.parts() > 1),
-    (r"no mesh has these faces: the surface has genus (\d+), so it is not a sphere", None,
-     lambda s, genus: genus > 0 and s.parts() == 1 and s.euler() == 2 - 2 * genus),
+    (r"the surface has (\d+) parts?, (\d+) borders?, genus (\d+); taken is one part, of genus 0, with at most one border",
+     None, lambda s, *counts: counts == s.kind() and (counts[0] > 1 or counts[1] > 1 or counts[2] > 0)),
 ]
 UNREADABLE = "a number is not written as one, or out of range"
 

@@ -87,18 +87,34 @@ class Surface:
                 root[find(face[0])] = find(corner)
         return len({find(corner) for face in self.faces for corner in face})
 
-    def euler(self):
+    def kind(self):
+        """How many parts and borders the surface has, and its genus."""
+        parts, borders = self.parts(), self.loops()
         used = {corner for face in self.faces for corner in face}
-        return len(used) - len(self.edges()) + len(self.faces) + (1 if self.border() else 0)
+        return parts, borders, max(0, 2 * parts - borders - (len(used) - len(self.edges()) + len(self.faces))) // 2
+
+    def stats(self):
+        """How much there is of what, as the program tells it."""
+        names = ("vertices", "edges", "faces", "parts", "borders", "genus")
+        counts = (self.vertices, len(self.edges()), len(self.faces), *self.kind())
+        return "".join(f"{name} {count}\n" for name, count in zip(names, counts))
 
     def lacks_outer_face(self):
         """Whether there is no border, and no face that comes to each vertex once."""
         return bool(self.faces) and not self.border() and all(len(set(face)) < len(face) for face in self.faces)
 
+    def lent(self):
+        """The place of the first face that comes to no vertex twice, if there is no border, so that it becomes the outer one."""
+        if not self.faces or self.border():
+            return None
+        return next((place for place, face in enumerate(self.faces) if len(set(face)) == len(face)), None)
+
     def is_mesh(self):
+        if not self.vertices and not self.faces:
+            return False
         if self.few() or self.strange() or self.flat() or self.twice() or self.doubled() or self.loops() > 1 or self.lacks_outer_face():
             return False
-        return not self.faces or (max(self.turns().values()) == 1 and self.parts() == 1 and self.euler() == 2)
+        return not self.faces or (max(self.turns().values()) == 1 and self.kind() in [(1, 0, 0), (1, 1, 0)])
 
     def text(self, chooser):
         """An OFF file, with coordinates made up."""

@@ -1,6 +1,6 @@
 -- What tests of all faces and of all edges tell.
-use Rattle.std.proofs.Common.{◌≡◌, inl, inr, ℕ, ◌+◌, ◌<◌, ◌≤◌, List, [], ◌∷◌, length, sym, ap, ◌∙◌, subst, arith}
-use Rattle.std.proofs.lemmas.Bool.{cases_eq, cases_lt, true_from_ne_false}
+use Rattle.std.proofs.Common.{◌≡◌, inl, inr, ℕ, ◌<◌, ◌≤◌, List, [], ◌∷◌, length, sym, ap, ◌∙◌, subst, arith}
+use Rattle.std.proofs.lemmas.Bool.{cases_lt, true_from_ne_false}
 use Rattle.std.proofs.lemmas.List.{get_or_past}
 use Rattle.dcel_predicates.specs.declared.point.Point.{Point}
 use Rattle.dcel_maps.specs.Conditions.{IsTriangle}
@@ -14,19 +14,11 @@ use Rattle.dcel_maps.proofs.shapes.Maps.{map-sound}
 use Rattle.dcel_maps.proofs.walks.Links.{links_stand}
 use Rattle.dcel_maps.proofs.words.Triangles.{triangle_written}
 use Rattle.dcel_maps.proofs.words.Turns.{from_least-turn, turns_back}
-use Rattle.dcel_maps.proofs.Liveness.{is_live-parts}
-use Rattle.dcel_maps.specs.Removals.{gives_up_edge}
-use Rattle.dcel_plane.specs.Plane.{IsCircled, IsDelaunay, IsInner, IsPlane, TurnsLeft, point_at}
+use Rattle.dcel_plane.specs.Plane.{IsPlane, TurnsLeft, point_at}
 use Rattle.dcel_plane.proofs.Corners.{LeftOf, left-from_least, three_items, turn_left, turned_along}
 use Rattle.dcel_circles.specs.Turning.{GoesLeft}
 
 module _ (at : ℕ → Point) (s : Shape) where
-  pub next_face : (n : ℕ) → ((f : ℕ) → 0 < f → f < n → GoesLeft at s f) → GoesLeft at s n → (f : ℕ) → 0 < f → f < n + 1 → GoesLeft at s f
-  next_face n before goes f inner below = elim (cases_eq f n) [
-    | inl is ↦ subst (GoesLeft at s) (sym is) goes
-    | inr away ↦ before f inner (omega (arith, below, away))
-  ]
-
   -- beyond the last face there is no word
   pub each_face : (n : ℕ) → face_count s ≤ n → ((f : ℕ) → 0 < f → f < n → GoesLeft at s f) → IsPlane at s
   each_face n all goes = record {
@@ -34,20 +26,6 @@ module _ (at : ℕ → Point) (s : Shape) where
       | inl below ↦ goes f inner below x y z is
       | inr past ↦ absurd (let none = ap length (sym (get_or_past s.words f [] (omega (arith, past, all))) ∙ is) in omega (arith, none))
     ];
-  }
-
-  pub next_edge : (n : ℕ) → ((u : ℕ) → u < n → IsInner s u → ¬ IsCircled at s u) → ¬ (IsInner s n × IsCircled at s n) → (u : ℕ) → u < n + 1 → IsInner s u → ¬ IsCircled at s u
-  next_edge n before not u below inner circled = elim (cases_eq u n) [
-    | inl is ↦ not (subst (λ (k : ℕ). IsInner s k × IsCircled at s k) is (inner, circled))
-    | inr away ↦ before u (omega (arith, below, away)) inner circled
-  ]
-
-  -- beyond the last edge none is live
-  pub each_edge : (n : ℕ) → s.edges ≤ n → IsPlane at s → ((u : ℕ) → u < n → IsInner s u → ¬ IsCircled at s u) → IsDelaunay at s
-  each_edge n all plane none = record {
-    plane = plane;
-    empty = λ u inner circled.
-        let below = (is_live-parts (gives_up_edge s.removal) s.edges u inner.live).0 in none u (omega (arith, below, all)) inner circled;
   }
 
 -- a triangle by one of its half edges

@@ -1,5 +1,5 @@
 -- A run of flips that is under way: what it keeps, and that it ends.
-use Rattle.std.proofs.Common.{◌≡◌, ◌⊎◌, inl, inr, ℕ, ◌-◌, ◌<◌, List, [], ◌∷◌, ◌++◌, length, slice_get, take, Some, None, refl, sym, ap, ◌∙◌, subst, arith}
+use Rattle.std.proofs.Common.{◌≡◌, inl, inr, ℕ, ◌-◌, ◌<◌, List, [], ◌∷◌, ◌++◌, length, slice_get, take, Some, None, refl, sym, ap, ◌∙◌, subst, arith}
 use Rattle.std.proofs.lemmas.Bool.{cases_lt}
 use Rattle.std.proofs.lemmas.List.{append-nil}
 use Rattle.dcel_predicates.specs.declared.point.Point.{Point}
@@ -13,7 +13,9 @@ use Rattle.dcel_plane.specs.Plane.{IsCircled, IsDelaunay, IsInner, IsPlane, List
 use Rattle.dcel_plane.specs.Volume.{volume_below}
 use Rattle.dcel_plane.proofs.Flipped.{circled_can_flip, flip_lists, flip_plane}
 use Rattle.dcel_plane.proofs.Volumes.{volume_falls}
-use Rattle.dcel_circles.specs.Turning.{AreCircled, IsTurnedTo, edges_turned, sides_round}
+use Rattle.dcel_legalize.specs.Flipping.{edges_flipped, sides_beside}
+use Rattle.dcel_legalize.proofs.Course.{flipped-append}
+use Rattle.dcel_circles.specs.Turning.{AreCircled, IsTurnedTo}
 
 -- a list by what stands before its last item
 last_at : (x : ℕ) (r : List ℕ) (u : ℕ) → slice_get (x ∷ r) (length r) ≡ Some u → x ∷ r ≡ take (length r) (x ∷ r) ++ u ∷ []
@@ -41,13 +43,8 @@ no_last [] is = refl
 no_last (x ∷ r) is = let at : length r ≡ length (x ∷ r) - 1 = omega arith in absurd (none_at x r (ap (slice_get (x ∷ r)) at ∙ is))
 
 module _ {DE UE F : Type 0} where
-  -- one more flip
-  turned-append : (m : Mesh Point DE UE F) (us : List ℕ) (u : ℕ) → edges_turned m (us ++ u ∷ []) ≡ edge_flipped (edges_turned m us) u
-  turned-append m [] u = refl
-  turned-append m (v ∷ us) u = turned-append (edge_flipped m v) us u
-
   circled-append : (m : Mesh Point DE UE F) (us : List ℕ) (u : ℕ) → AreCircled m us
-      → IsInner (edges_turned m us).shape u × IsCircled (point_at (edges_turned m us)) (edges_turned m us).shape u → AreCircled m (us ++ u ∷ [])
+      → IsInner (edges_flipped m us).shape u × IsCircled (point_at (edges_flipped m us)) (edges_flipped m us).shape u → AreCircled m (us ++ u ∷ [])
   circled-append m [] u are last = (last, tt)
   circled-append m (v ∷ us) u are last = (are.0, circled-append (edge_flipped m v) us u are.1 last)
 
@@ -102,10 +99,10 @@ module _ {DE UE F : Type 0} where
       can_flip = circled_can_flip n way.mesh u (point_at n) inner circled
 
       turns_others : (lacking : List ℕ) → ListsCircled (point_at m) m.shape (list ++ lacking)
-          → ListsCircled (point_at (edge_flipped n u)) (edge_flipped n u).shape (((front ++ u ∷ []) ++ sides_round n.shape u) ++ lacking)
+          → ListsCircled (point_at (edge_flipped n u)) (edge_flipped n u).shape (((front ++ u ∷ []) ++ sides_beside n.shape u) ++ lacking)
       turns_others lacking lists v in_v circled_v =
           let whole = front ++ u ∷ [] in
-          let sides = sides_round n.shape u in
+          let sides = sides_beside n.shape u in
           let found : 0 < count_of v ((whole ++ lacking) ++ (sides ++ u ∷ [])) =
           flip_lists n way.mesh u can_flip (point_at n) (whole ++ lacking) (way.others lacking lists) v in_v circled_v in
           let in_all = count-append v (whole ++ lacking) (sides ++ u ∷ []) in
@@ -117,21 +114,21 @@ module _ {DE UE F : Type 0} where
           omega (arith, found, in_all, in_whole, in_sides, own, wanted, wanted_whole)
 
       -- one that is is flipped
-      pub turns : IsUnderWay m list (edge_flipped n u) ((front ++ u ∷ []) ++ sides_round n.shape u)
+      pub turns : IsUnderWay m list (edge_flipped n u) ((front ++ u ∷ []) ++ sides_beside n.shape u)
       turns = record {
         mesh = flipped_mesh n u way.mesh can_flip;
         plane = flip_plane n way.mesh u can_flip (point_at n) inner.inner inner.inner_facing circled way.plane;
         turned =
             let before = way.turned in
-            let at : n ≡ edges_turned m before.turned = before.is in
+            let at : n ≡ edges_flipped m before.turned = before.is in
             record {
               turned = before.turned ++ u ∷ [];
               circled =
                   circled-append m before.turned u before.circled
                   (subst (λ (k : Mesh Point DE UE F). IsInner k.shape u × IsCircled (point_at k) k.shape u) at (inner, circled));
-              is = ap (λ (k : Mesh Point DE UE F). edge_flipped k u) at ∙ sym (turned-append m before.turned u);
+              is = ap (λ (k : Mesh Point DE UE F). edge_flipped k u) at ∙ sym (flipped-append m before.turned (u ∷ []));
             };
-        due = none_lack m (edge_flipped n u) list ((front ++ u ∷ []) ++ sides_round n.shape u) turns_others;
+        due = none_lack m (edge_flipped n u) list ((front ++ u ∷ []) ++ sides_beside n.shape u) turns_others;
         others = turns_others;
       }
 
@@ -143,9 +140,9 @@ module _ {DE UE F : Type 0} where
     pub passes_by : ¬ (IsInner n.shape u × IsCircled (point_at n) n.shape u) → IsUnderWay m list n front
     passes_by not = passes m list n front u (subst (λ (l : List ℕ). IsUnderWay m list n l) is way) not
 
-    pub turns_by : IsInner n.shape u → IsCircled (point_at n) n.shape u → IsUnderWay m list (edge_flipped n u) (rest ++ sides_round n.shape u)
+    pub turns_by : IsInner n.shape u → IsCircled (point_at n) n.shape u → IsUnderWay m list (edge_flipped n u) (rest ++ sides_beside n.shape u)
     turns_by inner circled =
-        subst (λ (l : List ℕ). IsUnderWay m list (edge_flipped n u) (l ++ sides_round n.shape u)) (sym is)
+        subst (λ (l : List ℕ). IsUnderWay m list (edge_flipped n u) (l ++ sides_beside n.shape u)) (sym is)
         (turns m list n front u (subst (λ (l : List ℕ). IsUnderWay m list n l) is way) inner circled)
 
     pub falls_by : (after : Mesh Point DE UE F) → after ≡ edge_flipped n u → IsInner n.shape u → IsCircled (point_at n) n.shape u

@@ -1,14 +1,11 @@
 -- Edges turned, one after another, each with a corner inside the circle of the other side.
-use Rattle.std.specs.Prelude.{◌≡◌, ℕ, ◌+◌, ◌*◌, ◌/◌, List, [], ◌∷◌}
+use Rattle.std.specs.Prelude.{◌≡◌, ℕ, List, [], ◌∷◌}
+use Rattle.dcel_legalize.specs.Flipping.{edges_flipped}
 use Rattle.dcel_predicates.specs.declared.point.Point.{Point}
 use Rattle.dcel_maps.specs.edits.Flip.{edge_flipped}
-use Rattle.dcel_maps.specs.Shapes.{Mesh, Shape, next_of, origin_of, prev_of}
+use Rattle.dcel_maps.specs.Shapes.{Mesh, Shape, origin_of}
 use Rattle.dcel_maps.specs.Words.{word_of}
 use Rattle.dcel_plane.specs.Plane.{IsCircled, IsInner, TurnsLeft, point_at}
-
--- the other sides of the two triangles at the edge u
-abbrev pub sides_round : Shape → ℕ → List ℕ
-sides_round s u = next_of s (2 * u) / 2 ∷ prev_of s (2 * u) / 2 ∷ next_of s (2 * u + 1) / 2 ∷ prev_of s (2 * u + 1) / 2 ∷ []
 
 -- the corners of the face f, if they are three, go round counterclockwise
 abbrev pub GoesLeft : (ℕ → Point) → Shape → ℕ → Type 0
@@ -16,12 +13,7 @@ GoesLeft at s f =
     (x y z : ℕ) → word_of s.words f ≡ x ∷ y ∷ z ∷ [] → TurnsLeft (at (origin_of s x)) (at (origin_of s y)) (at (origin_of s z))
 
 module _ {DE UE F : Type 0} where
-  -- the mesh once these edges are flipped, one after another
-  abbrev pub edges_turned : Mesh Point DE UE F → List ℕ → Mesh Point DE UE F
-  edges_turned m [] = m
-  edges_turned m (u ∷ us) = edges_turned (edge_flipped m u) us
-
-  -- each of them, when its turn comes, lies between two inner triangles, and the corner of one inside the circle of the other
+  -- each of these edges, when its turn comes after those before it are flipped, lies between two inner triangles, and the corner of one inside the circle of the other
   abbrev pub AreCircled : Mesh Point DE UE F → List ℕ → Type 0
   AreCircled m [] = Unit {0}
   AreCircled m (u ∷ us) = (IsInner m.shape u × IsCircled (point_at m) m.shape u) × AreCircled (edge_flipped m u) us
@@ -30,4 +22,4 @@ module _ {DE UE F : Type 0} where
   pub record IsTurnedTo (before after : Mesh Point DE UE F) : Type 0 where
     pub turned : List ℕ
     pub circled : AreCircled before turned
-    pub is : after ≡ edges_turned before turned
+    pub is : after ≡ edges_flipped before turned

@@ -1,11 +1,12 @@
 //! Edges flipped by the circle test.
 
-ghost use Rattle.std.specs.Prelude.{◌≡◌, ℕ, ◌+◌, ◌≤◌, List, ◌++◌, [], true, OnOk, vec_len, vec_capacity};
-ghost use Rattle.dcel_maps.specs.Shapes.{IsMesh, edge_is_live};
+ghost use Rattle.std.specs.Prelude.{◌≡◌, ℕ, List, ◌++◌, [], OnOk};
+ghost use Rattle.dcel_maps.specs.Shapes.{IsMesh};
 ghost use Rattle.dcel_plane.specs.Plane.{IsDelaunay, IsPlane, ListsCircled, point_at};
-ghost use Rattle.dcel_circles.specs.Turning.{IsTurnedTo, sides_round};
+ghost use Rattle.dcel_circles.specs.Turning.{IsTurnedTo};
 
 use crate::circles::is_circled;
+use dcel_legalize::append_sides;
 use dcel_predicates::Point;
 use spade_dcel::dcel::Dcel;
 use spade_dcel::handles::FixedUndirectedEdgeHandle;
@@ -50,23 +51,4 @@ pub fn legalize_by_circles<DE, UE, F, A: Allocator, L: Allocator>(
         flip_cw(dcel, edge);
     }
     Ok(())
-}
-
-// Appends the other sides of the two triangles at an edge.
-fn append_sides<DE, UE, F, A: Allocator, L: Allocator>(
-    dcel: &Dcel<Point, DE, UE, F, A>,
-    edge: FixedUndirectedEdgeHandle,
-    due: &mut Vec<FixedUndirectedEdgeHandle, L>,
-)
-    requires live { edge_is_live dcel.now.shape edge ≡ true }
-    requires room { vec_len due.old + 4 ≤ vec_capacity due.old }
-    ensures items { due.new.items ≡ due.old.items ++ sides_round dcel.now.shape edge }
-    ensures len { vec_len due.new ≡ vec_len due.old + 4 }
-{
-    let half = dcel.undirected_edge(edge).as_directed();
-    let facing = half.rev();
-    due.push_reserved(half.next().as_undirected().fix());
-    due.push_reserved(half.prev().as_undirected().fix());
-    due.push_reserved(facing.next().as_undirected().fix());
-    due.push_reserved(facing.prev().as_undirected().fix());
 }

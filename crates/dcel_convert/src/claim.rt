@@ -33,6 +33,8 @@ pub struct Claim {
     pub words: Vec<Vec<u32>>,
     /// The turn of each vertex.
     pub turns: Vec<Vec<u32>>,
+    /// The place of the outer face among those of the surface, if it is one of them.
+    pub closed: Option<usize>,
 }
 
 impl Claim {

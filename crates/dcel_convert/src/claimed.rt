@@ -2,15 +2,15 @@
 
 use crate::claim::{Claim, Lines};
 use crate::fault::{Fault, Wrong};
-use crate::meshing::Mesh;
+use crate::meshing::{Mesh, Solid, is_simple, list_corners};
 use dcel_exchange::LinkLists;
-use spade_dcel::handles::FixedDirectedEdgeHandle;
+use spade_dcel::handles::{FixedDirectedEdgeHandle, FixedFaceHandle, PossiblyOuterTag};
 use spade_dcel::operations::{EdgeData, LinksError, LinksFault, MeshData, from_links};
 use std::alloc::{AllocError, Global};
 
-/// Makes the mesh that is claimed, with no coordinates. If there is none, the line is told that
+/// Makes the mesh that is claimed, with all coordinates 0. If there is none, the line is told that
 /// shows it, where one does.
-pub fn claimed_mesh(alloc: Global, claim: &Claim) -> Result<Mesh, Fault> {
+pub fn claimed_mesh(alloc: Global, claim: &Claim) -> Result<Solid, Fault> {
     let links = claim.links(alloc)?;
     let given = MeshData {
         vertices: no_places(alloc, claim.turns.len())?,
@@ -20,7 +20,11 @@ pub fn claimed_mesh(alloc: Global, claim: &Claim) -> Result<Mesh, Fault> {
     match from_links(alloc, links.as_links(), given) {
         Ok(mesh) => {
             check_turns(&mesh, claim)?;
-            Ok(mesh)
+            check_outer(alloc, &mesh, claim)?;
+            Ok(Solid {
+                mesh,
+                outer: claim.closed,
+            })
         }
         Err(refused) => Err(fault_of(refused.reason, claim, &links)),
     }
@@ -29,7 +33,7 @@ pub fn claimed_mesh(alloc: Global, claim: &Claim) -> Result<Mesh, Fault> {
 fn no_places(alloc: Global, count: usize) -> Result<Vec<String>, AllocError> {
     let mut places = Vec::new(alloc);
     for _ in 0..count {
-        places.push(String::new(alloc))?;
+        places.push(String::from_str(alloc, "0 0 0")?)?;
     }
     Ok(places)
 }
@@ -67,6 +71,24 @@ fn check_turn(mesh: &Mesh, turn: &[u32]) -> Result<(), Wrong> {
                 return Err(Wrong::OtherTurn(*half, after, *said));
             }
         }
+    }
+    Ok(())
+}
+
+/// Looks whether the outer face can be one of the surface, if it is said to be.
+fn check_outer(alloc: Global, mesh: &Mesh, claim: &Claim) -> Result<(), Fault> {
+    if claim.closed.is_none() {
+        return Ok(());
+    }
+    let mut corners = Vec::new(alloc);
+    if let Some(face) = mesh.get_face(FixedFaceHandle::<PossiblyOuterTag>::new(0)) {
+        list_corners(face, &mut corners)?;
+    }
+    if corners.len() < 3 || !is_simple(alloc, &corners)? {
+        return Err(Fault::Line {
+            line: claim.line_of(Lines::Turns, claim.turns.len()),
+            wrong: Wrong::NoOuterFace,
+        });
     }
     Ok(())
 }

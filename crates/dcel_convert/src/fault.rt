@@ -1,10 +1,12 @@
 //! Why the program gave up.
 
 use crate::claim::Lines;
+use crate::delaunay_check::Flaw;
+use crate::stats::Stats;
 use dcel_exchange::FacesError;
 use spade_dcel::operations::{LinksError, LinksFault};
 use std::alloc::AllocError;
-use std::io;
+use std::io::{self, ErrorKind};
 use thiserror::Error;
 
 /// Why the program gave up.
@@ -17,14 +19,6 @@ pub enum Fault {
         line: usize,
         /// What is wrong with it.
         wrong: Wrong,
-    },
-    /// A line has bytes that are no text, or could not be read.
-    #[error("line {line}: {error}")]
-    Read {
-        /// The line's number, from 1.
-        line: usize,
-        /// What the system says.
-        error: io::Error,
     },
     /// The faces are no mesh, for a reason that a face shows.
     #[error("line {line}: {reason}")]
@@ -51,19 +45,33 @@ pub enum Fault {
     /// No mesh was made of the words for a reason that their lines can't give.
     #[error("{0}")]
     Other(LinksError),
+    /// The faces are no Delaunay triangulation, for a reason that a line shows.
+    #[error("line {line}: {flaw}")]
+    FlawAt {
+        /// The line of a vertex or of a face.
+        line: usize,
+        /// Why they are none.
+        flaw: Flaw,
+    },
+    /// The faces are no Delaunay triangulation.
+    #[error("{0}")]
+    Flaw(Flaw),
+    /// Coordinates are asked for, and words have none.
+    #[error("words have no coordinates")]
+    NoCoordinates,
     /// There is no border, and no face can stand for it.
     #[error("there is no border, and each face comes to a vertex twice")]
     NoOuterFace,
-    /// The outer face would have to be several borders.
-    #[error("the faces leave more than one border")]
-    MoreBorders,
-    /// Some faces can't be reached from others.
-    #[error("the faces are in several parts")]
-    InParts,
-    /// A file could not be opened.
+    /// The surface as a whole is none that is taken.
+    #[error("the surface has {0}; taken is one part, of genus 0, with at most one border")]
+    Surface(Stats),
+    /// There is no vertex and no face.
+    #[error("the file has no vertex and no face")]
+    Nothing,
+    /// A file could not be read or written.
     #[error("{path}: {error}")]
     File {
-        /// The file.
+        /// The file, or what stands for it.
         path: String,
         /// What the system says.
         error: io::Error,
@@ -77,11 +85,38 @@ pub enum Fault {
 }
 
 /// What is wrong with a line.
-#[derive(Clone, Copy, PartialEq, Eq, Debug, Drop, Error)]
+#[derive(Debug, Drop, Error)]
 pub enum Wrong {
-    /// The first word isn't `OFF`.
+    /// There is no first word.
     #[error("the file doesn't begin with OFF")]
     NoOff,
+    /// The first word isn't `OFF`.
+    #[error("the file begins with '{0}', and not with OFF")]
+    OtherWord(String),
+    /// It is that of a kind of OFF.
+    #[error("the file begins with '{0}', and OFF is read with three coordinates alone")]
+    OtherOff(String),
+    /// It is that of another format, which an argument asks for.
+    #[error("this looks like {0}, and not like OFF: --from {1} reads it")]
+    LooksLike(&'static str, &'static str),
+    /// It is that of STL.
+    #[error("this looks like STL, which isn't read, since its faces share no vertices")]
+    Stl,
+    /// The file is binary.
+    #[error("this is binary OFF, and only OFF as text is read")]
+    BinaryOff,
+    /// The file is binary.
+    #[error("this is binary PLY, and only PLY as text is read (format ascii)")]
+    BinaryPly,
+    /// The first word isn't `ply`.
+    #[error("the file begins with '{0}', and not with ply")]
+    NoPly(String),
+    /// A line is none of a header of PLY.
+    #[error("this is no line of a header of PLY")]
+    NoHeader,
+    /// Something is missing in a header of PLY, or there twice.
+    #[error("the header lacks one of format, x, y, z of vertex, vertex_indices of face")]
+    PartialHeader,
     /// Something is missing.
     #[error("there are too few numbers")]
     TooFew,
@@ -112,6 +147,9 @@ pub enum Wrong {
     /// After the first half edge comes the second by `ccw`, and the third in the line.
     #[error("after half edge {0} comes half edge {1} by ccw, and not {2}")]
     OtherTurn(u32, usize, u32),
+    /// The outer face can't be one of the surface.
+    #[error("the outer face can be no face: it has fewer than three corners, or one twice")]
+    NoOuterFace,
     /// There are more lines than the counts say.
     #[error("there are more vertices and faces than the counts say")]
     MoreLines,
@@ -121,4 +159,14 @@ pub enum Wrong {
     /// There was no memory.
     #[error("out of memory")]
     OutOfMemory(#[from(alloc)] AllocError),
+}
+
+impl Fault {
+    /// Returns whether the reader of the output went away, so that nothing is left to tell.
+    pub fn is_broken_pipe(&self) -> bool {
+        match self {
+            Fault::Io(error) => error.kind() == ErrorKind::BrokenPipe,
+            _ => false,
+        }
+    }
 }

@@ -2,31 +2,49 @@
 //! and draws them.
 //!
 //! `dcel_convert --help` tells what it reads and writes. It exits with status 0; with 1 if the file
-//! has no mesh, or a read, a write or memory failed; and with 2 if its arguments are bad.
+//! has no mesh, or no Delaunay triangulation where that is asked, or a read, a write or memory
+//! failed, and says so unless the reader of its output went away; and with 2 if its arguments are
+//! bad.
 #![tactic(auto)]
 
 mod arguments;
 mod claim;
 mod claimed;
+mod delaunay_check;
+mod drawing;
 mod fault;
+mod header;
+mod left_out;
 mod meshing;
+mod numbers;
 mod obj;
 mod off;
+mod output;
+mod ply;
 mod progress;
 mod reading;
+mod shown;
+mod stats;
 mod surface;
 mod words;
 mod writing;
 
 use crate::arguments::{Arguments, Asked, Format, Output, read_arguments};
+use crate::claim::Claim;
 use crate::claimed::claimed_mesh;
+use crate::delaunay_check::check_delaunay;
+use crate::drawing::{Drawing, place_vertices};
 use crate::fault::Fault;
+use crate::left_out::tell_left_out;
 use crate::meshing::Solid;
+use crate::output::write_out;
 use crate::progress::Progress;
 use crate::reading::{Content, read_file};
-use crate::writing::write_asked;
+use crate::stats::Stats;
+use crate::surface::Surface;
+use crate::writing::Written;
 use std::env;
-use std::io::{self, IsTerminal};
+use std::io::IsTerminal;
 use std::process::ExitCode;
 use std::rt::{Env, Files};
 
@@ -37,7 +55,9 @@ fn main(rt: HostRuntime) -> ExitCode {
     match run(&rt, progress) {
         Ok(code) => code,
         Err(fault) => {
-            let _ = eprintln!(rt; "dcel_convert: {fault}");
+            if !fault.is_broken_pipe() {
+                let _ = eprintln!(rt; "dcel_convert: {fault}");
+            }
             ExitCode::FAILURE
         }
     }
@@ -67,48 +87,118 @@ fn convert(
     progress: Progress,
     arguments: &Arguments,
 ) -> Result<(), Fault> {
-    let content = read_file(rt, progress, arguments)?;
-    let solid = solid_of(rt, content, arguments.output)?;
-    write_asked(rt, arguments.output, &solid)
+    match read_file(rt, progress, arguments)? {
+        Content::Faces(surface) => convert_faces(rt, arguments, surface),
+        Content::Words(claim) => convert_words(rt, arguments, &claim),
+    }
 }
 
-/// Makes the mesh of a file, and names what is left out of the file or the output, if there is
-/// output.
-fn solid_of(
-    rt: &(impl Eprint + AllocGlobal),
-    content: Content,
-    output: Output,
-) -> Result<Solid, Fault> {
-    match content {
-        Content::Faces(surface) => {
-            if output != Output::Check {
-                for (what, lines) in surface.left_out.iter() {
-                    tell_left_out(rt, what, *lines)?;
-                }
-            }
-            let solid = Solid::of(rt.alloc(), surface)?;
-            if output == Output::Mesh(Format::Words) || output == Output::Svg {
-                tell_left_out(rt, "a vertex's coordinates", solid.mesh.num_vertices())?;
-            }
-            Ok(solid)
-        }
-        Content::Words(claim) => {
-            let mut solid = Solid::of_inner_faces(claimed_mesh(rt.alloc(), &claim)?);
-            if output == Output::Mesh(Format::Off) || output == Output::Mesh(Format::Obj) {
-                tell_left_out(rt, EDGE_OUTSIDE, solid.num_edges_outside())?;
-                solid.place_vertices(rt.alloc())?;
-            }
-            Ok(solid)
+/// Makes the mesh of faces, and writes what is asked for.
+fn convert_faces(
+    rt: &(impl Files + Print + Eprint + AllocGlobal),
+    arguments: &Arguments,
+    surface: Surface,
+) -> Result<(), Fault> {
+    if !arguments.output.is_silent() {
+        surface.left_out.tell(rt)?;
+    }
+    if surface.places.is_empty() && surface.faces.is_empty() {
+        return Err(Fault::Nothing);
+    }
+    if arguments.output == Output::CheckDelaunay {
+        return check_delaunay(rt.alloc(), &surface);
+    }
+    match Solid::of(rt.alloc(), surface) {
+        Ok(solid) => write_faces(rt, arguments, &solid),
+        Err(fault) => refuse_faces(rt, arguments, fault),
+    }
+}
+
+/// Writes the numbers of a surface that is no mesh, if they are asked for, and fails.
+fn refuse_faces(
+    rt: &(impl Files + Print + AllocGlobal),
+    arguments: &Arguments,
+    fault: Fault,
+) -> Result<(), Fault> {
+    if arguments.output == Output::Stats {
+        if let Fault::Surface(stats) = &fault {
+            write_out(rt, arguments.target, stats)?;
         }
     }
+    Err(fault)
+}
+
+/// Writes what is asked for of a mesh of faces.
+fn write_faces(
+    rt: &(impl Files + Print + Eprint + AllocGlobal),
+    arguments: &Arguments,
+    solid: &Solid,
+) -> Result<(), Fault> {
+    if arguments.output != Output::Check {
+        if let Some(place) = solid.outer {
+            eprintln!(rt;
+                "dcel_convert: the surface is closed: face {place} becomes the outer face"
+            )?;
+        }
+    }
+    if arguments.output == Output::Mesh(Format::Words) {
+        tell_left_out(rt, COORDINATES, solid.mesh.num_vertices())?;
+    }
+    write_solid(rt, arguments, solid)
+}
+
+const COORDINATES: &str = "a vertex's coordinates";
+
+/// Makes the mesh of words, and writes what is asked for.
+fn convert_words(
+    rt: &(impl Files + Print + Eprint + AllocGlobal),
+    arguments: &Arguments,
+    claim: &Claim,
+) -> Result<(), Fault> {
+    let mut solid = claimed_mesh(rt.alloc(), claim)?;
+    if let Output::Mesh(Format::Off | Format::Obj | Format::Ply) = arguments.output {
+        tell_left_out(rt, EDGE_OUTSIDE, solid.num_edges_outside())?;
+        if arguments.are_placed {
+            place_vertices(rt.alloc(), &mut solid.mesh)?;
+        } else if solid.mesh.num_vertices() > 0 {
+            eprintln!(rt;
+                "dcel_convert: words have no coordinates: all are 0, and --places finds some"
+            )?;
+        }
+    }
+    write_solid(rt, arguments, &solid)
 }
 
 const EDGE_OUTSIDE: &str = "an edge with the outer face on both sides";
 
-/// Names what is left out, and how often.
-fn tell_left_out(rt: &impl Eprint, what: &str, times: usize) -> io::Result<()> {
-    if times > 0 {
-        eprintln!(rt; "dcel_convert: left out: {what} ({times})")?;
+/// Writes what is asked for of a mesh.
+fn write_solid(
+    rt: &(impl Files + Print + Eprint + AllocGlobal),
+    arguments: &Arguments,
+    solid: &Solid,
+) -> Result<(), Fault> {
+    match arguments.output {
+        Output::Check => Ok(()),
+        // Faces are checked before, so these are words.
+        Output::CheckDelaunay => Err(Fault::NoCoordinates),
+        Output::Stats => write_out(rt, arguments.target, &Stats::of_mesh(solid)),
+        Output::Svg => draw(rt, arguments, solid),
+        Output::Mesh(format) => write_out(rt, arguments.target, &Written { format, solid }),
     }
-    Ok(())
+}
+
+/// Draws a mesh, where it lies if it is flat.
+fn draw(
+    rt: &(impl Files + Print + Eprint + AllocGlobal),
+    arguments: &Arguments,
+    solid: &Solid,
+) -> Result<(), Fault> {
+    if let Some(drawing) = Drawing::at_coordinates(rt.alloc(), &solid.mesh)? {
+        return write_out(rt, arguments.target, &drawing);
+    }
+    if arguments.format != Format::Words {
+        tell_left_out(rt, COORDINATES, solid.mesh.num_vertices())?;
+    }
+    let drawing = Drawing::spread_out(rt.alloc(), &solid.mesh)?;
+    write_out(rt, arguments.target, &drawing)
 }

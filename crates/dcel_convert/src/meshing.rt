@@ -1,13 +1,11 @@
 //! The mesh of a file, and its lists of corners and of half edges.
 
 use crate::fault::Fault;
+use crate::stats::Stats;
 use crate::surface::Surface;
 use dcel_exchange::{FacesError, from_faces};
-use dcel_picture::{Place, spread};
 use spade_dcel::dcel::Dcel;
-use spade_dcel::handles::{
-    FaceHandle, FixedFaceHandle, FixedVertexHandle, PossiblyOuterTag, VertexHandle,
-};
+use spade_dcel::handles::{FaceHandle, FixedFaceHandle, PossiblyOuterTag, VertexHandle};
 use spade_dcel::operations::LinksFault;
 use std::alloc::{AllocError, Global};
 
@@ -28,7 +26,7 @@ pub struct Solid {
     pub mesh: Mesh,
     /// The place of the outer face among those of the file. There is none where the outer face is
     /// the border.
-    outer: Option<usize>,
+    pub outer: Option<usize>,
 }
 
 impl Solid {
@@ -49,10 +47,14 @@ impl Solid {
             Err(refused) if has_no_border(refused.reason) => {
                 Solid::closed(alloc, refused.back, faces, lines)
             }
-            Err(refused) => Err(fault_of(refused.reason, &lines)),
+            Err(refused) => {
+                let vertices = refused.back.len();
+                Err(fault_of(alloc, refused.reason, vertices, &faces, &lines)?)
+            }
         }
     }
 
+    /// Makes the mesh of a surface without a border.
     fn closed(
         alloc: Global,
         places: Vec<String>,
@@ -74,17 +76,16 @@ impl Solid {
                     outer: Some(place),
                 })
             }
-            Err(refused) => Err(fault_of(refused.reason, &lines)),
+            Err(refused) => {
+                faces.push(corners)?;
+                let vertices = refused.back.len();
+                Err(fault_of(alloc, refused.reason, vertices, &faces, &lines)?)
+            }
         }
     }
 }
 
 impl Solid {
-    /// Makes the mesh whose inner faces are the faces of the file.
-    pub fn of_inner_faces(mesh: Mesh) -> Solid {
-        Solid { mesh, outer: None }
-    }
-
     /// Counts the edges that have the outer face on both sides.
     pub fn num_edges_outside(&self) -> usize {
         let mut count: usize = 0;
@@ -97,20 +98,7 @@ impl Solid {
         count
     }
 
-    /// Gives each vertex the place that a picture finds for it, and 0 0 0 if it has no edge.
-    pub fn place_vertices(&mut self, alloc: Global) -> Result<(), AllocError> {
-        let places = spread(alloc, &self.mesh, None)?;
-        for number in 0..self.mesh.num_vertices() {
-            if number < self.mesh.num_vertices() {
-                let Place { x, y } = places.vertex(number).unwrap_or(Place::new(0.0, 0.0));
-                let vertex = FixedVertexHandle::new(number);
-                *self.mesh.vertex_data_mut(vertex) = format!(in alloc; "{x} {y} 0")?;
-            }
-        }
-        Ok(())
-    }
-
-    /// Counts the faces of the file.
+    /// Counts the faces of the surface.
     pub fn num_faces(&self) -> usize {
         match self.outer {
             Some(_) => self.mesh.num_faces(),
@@ -249,7 +237,8 @@ fn simple_face(alloc: Global, faces: &[Vec<u32>]) -> Result<Option<usize>, Alloc
     Ok(None)
 }
 
-fn is_simple(alloc: Global, corners: &[u32]) -> Result<bool, AllocError> {
+/// Returns whether no two of the corners are one vertex.
+pub fn is_simple<T: Copy + Ord + Drop>(alloc: Global, corners: &[T]) -> Result<bool, AllocError> {
     let mut sorted = Vec::new(alloc);
     for corner in corners {
         sorted.push(*corner)?;
@@ -270,21 +259,29 @@ fn has_no_border(reason: FacesError) -> bool {
     reason == FacesError::Links(LinksFault::UnusedFace(0))
 }
 
-/// Returns the reason, with the line of the face that it names, if it names one.
-fn fault_of(reason: FacesError, lines: &[usize]) -> Fault {
+/// Returns the reason, with the line of the face that it names, if it names one. If the surface as
+/// a whole is none that is taken, tells what it is.
+pub fn fault_of(
+    alloc: Global,
+    reason: FacesError,
+    vertices: usize,
+    faces: &[Vec<u32>],
+    lines: &[usize],
+) -> Result<Fault, AllocError> {
     let face = match reason {
         FacesError::FewCorners(face) => face,
         FacesError::NoVertex(face, _) | FacesError::OneEnd(face, _) => face as usize,
         FacesError::SideTwice(_, face, _, _) => face as usize,
-        FacesError::Links(LinksFault::FaceInParts(0)) => return Fault::MoreBorders,
-        FacesError::Links(LinksFault::NotConnected(_)) => return Fault::InParts,
-        _ => return Fault::Faces(reason),
+        FacesError::Links(
+            LinksFault::FaceInParts(0) | LinksFault::NotConnected(_) | LinksFault::NotSphere(_),
+        ) => return Ok(Fault::Surface(Stats::of_faces(alloc, vertices, faces)?)),
+        _ => return Ok(Fault::Faces(reason)),
     };
     match lines.get(face) {
-        Some(line) => Fault::Face {
+        Some(line) => Ok(Fault::Face {
             line: *line,
             reason,
-        },
-        None => Fault::Faces(reason),
+        }),
+        None => Ok(Fault::Faces(reason)),
     }
 }

@@ -6,23 +6,89 @@ use crate::surface::Surface;
 use std::alloc::Global;
 use std::str::SplitAsciiWhitespace;
 
-/// Reads a line, and adds what it says to the surface.
-pub fn take_line(
-    alloc: Global,
-    line: usize,
-    text: &str,
-    surface: &mut Surface,
-) -> Result<(), Wrong> {
+/// An OBJ file that is read line by line.
+#[derive(Drop)]
+pub struct ObjReader {
+    /// Whether the last line goes on in the next one.
+    is_open: bool,
+    /// The line that began, from 1 on.
+    first: usize,
+    /// What it has so far.
+    joined: String,
+}
+
+impl ObjReader {
+    /// Makes a reader at the beginning of a file.
+    pub fn new(alloc: Global) -> Self {
+        ObjReader {
+            is_open: false,
+            first: 0,
+            joined: String::new(alloc),
+        }
+    }
+
+    /// Reads a line, and adds what it says to the surface once it is complete.
+    pub fn take(
+        &mut self,
+        alloc: Global,
+        line: usize,
+        text: &str,
+        surface: &mut Surface,
+    ) -> Result<(), Wrong> {
+        let (text, goes_on) = match text.trim_ascii_end().strip_suffix('\\') {
+            Some(before) => (before, true),
+            None => (text, false),
+        };
+        if !self.is_open && !goes_on {
+            return take_line(alloc, line, text, surface);
+        }
+        if !self.is_open {
+            self.first = line;
+            self.joined.clear();
+        }
+        self.joined.push_str(text)?;
+        self.joined.push_str(" ")?;
+        self.is_open = goes_on;
+        if goes_on {
+            return Ok(());
+        }
+        take_line(alloc, self.first, self.joined.as_str(), surface)
+    }
+
+    /// Reads what was begun, if the last line ends in `\`.
+    pub fn end(&self, alloc: Global, surface: &mut Surface) -> Result<(), Wrong> {
+        if self.is_open {
+            return take_line(alloc, self.first, self.joined.as_str(), surface);
+        }
+        Ok(())
+    }
+}
+
+/// Reads a whole line.
+fn take_line(alloc: Global, line: usize, text: &str, surface: &mut Surface) -> Result<(), Wrong> {
     let mut words = text.split_ascii_whitespace();
     match words.next() {
         None => Ok(()),
-        Some("v") => surface.take_vertex(alloc, words),
+        Some("v") => take_vertex(alloc, line, words, surface),
         Some("f") => take_face(alloc, line, words, surface),
         Some(other) => {
-            surface.leave_out(alloc, other)?;
+            surface.left_out.note_word(alloc, other)?;
             Ok(())
         }
     }
+}
+
+/// Reads a vertex: three coordinates.
+fn take_vertex(
+    alloc: Global,
+    line: usize,
+    mut words: SplitAsciiWhitespace,
+    surface: &mut Surface,
+) -> Result<(), Wrong> {
+    let x = words.next().ok_or(Wrong::TooFew)?;
+    let y = words.next().ok_or(Wrong::TooFew)?;
+    let z = words.next().ok_or(Wrong::TooFew)?;
+    surface.take_vertex(alloc, line, [x, y, z], words)
 }
 
 /// Reads a face: its corners. What follows a corner's slash is left out.
@@ -46,7 +112,7 @@ fn take_face(
     }
     surface.add_face(line, corners)?;
     if is_more {
-        surface.leave_out(alloc, "what follows a corner's slash")?;
+        surface.left_out.note("what follows a corner's slash")?;
     }
     Ok(())
 }

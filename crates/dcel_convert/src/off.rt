@@ -1,8 +1,10 @@
-//! Files in the Object File Format: a count of vertices and of faces, then a line for each.
+//! Files in the Object File Format: counts of vertices and of faces, and then these.
 
 use crate::fault::Wrong;
+use crate::header::extras_of;
+use crate::numbers::NumberReader;
 use crate::reading::number;
-use crate::surface::Surface;
+use crate::surface::{BEHIND_CORNERS, Surface};
 use std::alloc::Global;
 use std::str::SplitAsciiWhitespace;
 
@@ -13,25 +15,39 @@ enum Stage {
     Word,
     /// The counts.
     Counts,
-    /// A vertex or a face.
+    /// Vertices and faces.
     Elements,
+}
+
+/// How vertices and faces lie on lines.
+#[derive(Clone, Copy, PartialEq, Eq, Debug)]
+pub enum Layout {
+    /// Each has a line, which may have something else behind it.
+    Lines,
+    /// Number comes after number, wherever lines end.
+    Numbers,
 }
 
 /// A file in the Object File Format that is read line by line.
 #[derive(Drop)]
 pub struct OffReader {
+    layout: Layout,
     stage: Stage,
     vertices: usize,
     faces: usize,
+    /// What was begun and isn't complete, if numbers are read wherever lines end.
+    numbers: NumberReader,
 }
 
 impl OffReader {
     /// Makes a reader at the beginning of a file.
-    pub fn new() -> Self {
+    pub fn new(alloc: Global, layout: Layout) -> Self {
         OffReader {
+            layout,
             stage: Stage::Word,
             vertices: 0,
             faces: 0,
+            numbers: NumberReader::new(alloc),
         }
     }
 
@@ -44,21 +60,16 @@ impl OffReader {
         surface: &mut Surface,
     ) -> Result<(), Wrong> {
         let mut words = text.split_ascii_whitespace();
-        let Some(first) = words.next() else {
-            return Ok(());
-        };
         match self.stage {
-            Stage::Word => self.take_word(first, words),
-            Stage::Counts => self.take_counts(first, words),
-            Stage::Elements => {
-                if surface.places.len() < self.vertices {
-                    surface.take_vertex(alloc, text.split_ascii_whitespace())
-                } else if surface.faces.len() < self.faces {
-                    take_face(alloc, line, first, words, surface)
-                } else {
-                    Err(Wrong::MoreLines)
-                }
-            }
+            Stage::Elements => self.take_elements(alloc, line, words, surface),
+            Stage::Word => match words.next() {
+                Some(first) => self.take_word(alloc, first, words),
+                None => Ok(()),
+            },
+            Stage::Counts => match words.next() {
+                Some(first) => self.take_counts(first, words),
+                None => Ok(()),
+            },
         }
     }
 
@@ -77,12 +88,16 @@ impl OffReader {
     }
 
     /// Reads the word `OFF`, which the counts may follow.
-    fn take_word(&mut self, first: &str, mut words: SplitAsciiWhitespace) -> Result<(), Wrong> {
-        if first != "OFF" {
-            return Err(Wrong::NoOff);
-        }
+    fn take_word(
+        &mut self,
+        alloc: Global,
+        first: &str,
+        mut words: SplitAsciiWhitespace,
+    ) -> Result<(), Wrong> {
+        self.numbers.extras = extras_of(alloc, first)?;
         self.stage = Stage::Counts;
         match words.next() {
+            Some("BINARY") => Err(Wrong::BinaryOff),
             Some(count) => self.take_counts(count, words),
             None => Ok(()),
         }
@@ -94,6 +109,53 @@ impl OffReader {
         self.faces = number(words.next().ok_or(Wrong::TooFew)?)? as usize;
         self.stage = Stage::Elements;
         Ok(())
+    }
+
+    /// Reads a line of vertices or faces.
+    fn take_elements(
+        &mut self,
+        alloc: Global,
+        line: usize,
+        words: SplitAsciiWhitespace,
+        surface: &mut Surface,
+    ) -> Result<(), Wrong> {
+        match self.layout {
+            Layout::Lines => self.take_element(alloc, line, words, surface),
+            Layout::Numbers => {
+                for word in words {
+                    if surface.places.len() < self.vertices || self.numbers.is_behind() {
+                        self.numbers.take_of_vertex(alloc, line, word, surface)?;
+                    } else if surface.faces.len() < self.faces {
+                        self.numbers.take_of_face(alloc, line, word, surface)?;
+                    } else {
+                        return Err(Wrong::MoreLines);
+                    }
+                }
+                Ok(())
+            }
+        }
+    }
+
+    /// Reads a line that has a vertex or a face.
+    fn take_element(
+        &mut self,
+        alloc: Global,
+        line: usize,
+        mut words: SplitAsciiWhitespace,
+        surface: &mut Surface,
+    ) -> Result<(), Wrong> {
+        let Some(first) = words.next() else {
+            return Ok(());
+        };
+        if surface.places.len() < self.vertices {
+            let y = words.next().ok_or(Wrong::TooFew)?;
+            let z = words.next().ok_or(Wrong::TooFew)?;
+            surface.take_vertex(alloc, line, [first, y, z], words)
+        } else if surface.faces.len() < self.faces {
+            take_face(alloc, line, first, words, surface)
+        } else {
+            Err(Wrong::MoreLines)
+        }
     }
 }
 
@@ -111,7 +173,7 @@ fn take_face(
     }
     surface.add_face(line, corners)?;
     if words.next().is_some() {
-        surface.leave_out(alloc, "what follows a face's corners")?;
+        surface.left_out.note(BEHIND_CORNERS)?;
     }
     Ok(())
 }

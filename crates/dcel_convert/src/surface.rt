@@ -1,6 +1,7 @@
 //! What a file says: vertices, faces, and what is left out.
 
 use crate::fault::Wrong;
+use crate::left_out::LeftOut;
 use std::alloc::{AllocError, Global};
 use std::str::SplitAsciiWhitespace;
 
@@ -9,12 +10,14 @@ use std::str::SplitAsciiWhitespace;
 pub struct Surface {
     /// The three coordinates of each vertex, as the file has them, with a space between two.
     pub places: Vec<String>,
+    /// The line of each vertex, from 1 on.
+    pub vertex_lines: Vec<usize>,
     /// The corners of each face: vertices by number, from 0 on.
     pub faces: Vec<Vec<u32>>,
     /// The line of each face, from 1 on.
     pub lines: Vec<usize>,
-    /// What else is in the file, and in how many lines.
-    pub left_out: Vec<(String, usize)>,
+    /// What else is in the file.
+    pub left_out: LeftOut,
 }
 
 impl Surface {
@@ -22,43 +25,50 @@ impl Surface {
     pub fn new(alloc: Global) -> Self {
         Surface {
             places: Vec::new(alloc),
+            vertex_lines: Vec::new(alloc),
             faces: Vec::new(alloc),
             lines: Vec::new(alloc),
-            left_out: Vec::new(alloc),
+            left_out: LeftOut::new(alloc),
         }
     }
 
-    /// Reads a vertex: three coordinates. What stands behind them, as a weight or a color, is left
-    /// out.
+    /// Adds a vertex of this line at three coordinates. What stands behind them, as a weight or a
+    /// color, is left out.
     pub fn take_vertex(
         &mut self,
         alloc: Global,
-        mut words: SplitAsciiWhitespace,
+        line: usize,
+        coordinates: [&str; 3],
+        mut behind: SplitAsciiWhitespace,
     ) -> Result<(), Wrong> {
-        let x = words.next().ok_or(Wrong::TooFew)?;
-        let y = words.next().ok_or(Wrong::TooFew)?;
-        let z = words.next().ok_or(Wrong::TooFew)?;
-        self.add_vertex(alloc, [x, y, z])?;
-        if words.next().is_some() {
-            self.leave_out(alloc, "what follows a vertex's coordinates")?;
+        self.add_vertex(alloc, line, coordinates)?;
+        if behind.next().is_some() {
+            self.left_out.note(BEHIND_COORDINATES)?;
         }
         Ok(())
     }
 
-    /// Adds a vertex at three coordinates.
-    fn add_vertex(&mut self, alloc: Global, coordinates: [&str; 3]) -> Result<(), Wrong> {
+    /// Adds a vertex of this line at three coordinates.
+    pub fn add_vertex(
+        &mut self,
+        alloc: Global,
+        line: usize,
+        coordinates: [&str; 3],
+    ) -> Result<(), Wrong> {
         let [x, y, z] = coordinates;
-        for word in coordinates {
-            let number = word.parse::<f64>().map_err(|_| Wrong::NoCoordinate)?;
-            if !number.is_finite() {
-                return Err(Wrong::NoCoordinate);
-            }
-        }
-        let mut place = String::from_str(alloc, x)?;
+        let mut place = String::new(alloc);
+        add_coordinate(&mut place, x)?;
         place.push_str(" ")?;
-        place.push_str(y)?;
+        add_coordinate(&mut place, y)?;
         place.push_str(" ")?;
-        place.push_str(z)?;
+        add_coordinate(&mut place, z)?;
+        self.add_place(line, place)?;
+        Ok(())
+    }
+
+    /// Adds a vertex of this line, with its coordinates as text.
+    pub fn add_place(&mut self, line: usize, place: String) -> Result<(), AllocError> {
+        self.vertex_lines.push(line)?;
         self.places.push(place)?;
         Ok(())
     }
@@ -69,16 +79,20 @@ impl Surface {
         self.faces.push(corners)?;
         Ok(())
     }
+}
 
-    /// Notes that a line has something that is left out.
-    pub fn leave_out(&mut self, alloc: Global, what: &str) -> Result<(), AllocError> {
-        for (known, lines) in self.left_out.iter_mut() {
-            if known.as_str() == what {
-                *lines = lines.saturating_add(1);
-                return Ok(());
-            }
-        }
-        self.left_out.push((String::from_str(alloc, what)?, 1))?;
-        Ok(())
+/// What is left out behind a vertex's coordinates.
+pub const BEHIND_COORDINATES: &str = "what follows a vertex's coordinates";
+
+/// What is left out behind a face's corners.
+pub const BEHIND_CORNERS: &str = "what follows a face's corners";
+
+/// Adds a coordinate to a place, if it is a number that is finite.
+pub fn add_coordinate(place: &mut String, word: &str) -> Result<(), Wrong> {
+    let number = word.parse::<f64>().map_err(|_| Wrong::NoCoordinate)?;
+    if !number.is_finite() {
+        return Err(Wrong::NoCoordinate);
     }
+    place.push_str(word)?;
+    Ok(())
 }

@@ -21,6 +21,7 @@ pub struct WordsReader {
     counts: Option<Counts>,
     words: Vec<Vec<u32>>,
     turns: Vec<Vec<u32>>,
+    closed: Option<usize>,
 }
 
 impl WordsReader {
@@ -30,6 +31,7 @@ impl WordsReader {
             counts: None,
             words: Vec::new(alloc),
             turns: Vec::new(alloc),
+            closed: None,
         }
     }
 
@@ -45,8 +47,8 @@ impl WordsReader {
         }
     }
 
-    /// Reads a line of half edges: the next word, or once all are read the next turn. Blank lines
-    /// may follow the last one.
+    /// Reads a line of half edges: the next word, or once all are read the next turn. A line may
+    /// follow that has the place of the outer face, and blank lines.
     fn take_list(
         &mut self,
         alloc: Global,
@@ -65,6 +67,8 @@ impl WordsReader {
                 return Err(Wrong::NoTurn(self.turns.len()));
             }
             self.turns.push(halves_of(alloc, counts, words)?)?;
+        } else if first == "closed" && self.closed.is_none() {
+            self.closed = Some(place_of(counts, words)?);
         } else if !first.is_empty() {
             return Err(Wrong::MoreLines);
         }
@@ -77,6 +81,7 @@ impl WordsReader {
             counts,
             words,
             turns,
+            closed,
         } = self;
         match counts {
             Some(counts)
@@ -86,6 +91,7 @@ impl WordsReader {
                     edges: counts.edges as usize,
                     words,
                     turns,
+                    closed,
                 })
             }
             Some(_) => Err(Wrong::FewerLines),
@@ -119,6 +125,18 @@ fn count_of(word: &str, words: &mut SplitAsciiWhitespace) -> Result<u32, Wrong> 
 fn face_named(first: &str) -> Option<usize> {
     let face = number(first.strip_prefix('F')?).ok()?;
     Some(face as usize)
+}
+
+/// Reads the place of the outer face among all faces, with which the line ends.
+fn place_of(counts: Counts, mut words: SplitAsciiWhitespace) -> Result<usize, Wrong> {
+    let place = number(words.next().ok_or(Wrong::TooFew)?)?;
+    if place >= counts.faces {
+        return Err(Wrong::NoNumber);
+    }
+    match words.next() {
+        Some(_) => Err(Wrong::MoreLines),
+        None => Ok(place as usize),
+    }
 }
 
 /// Reads the half edges of a line.

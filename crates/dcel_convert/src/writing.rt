@@ -1,41 +1,33 @@
-//! What is written to standard output.
+//! Meshes as files.
 
-use crate::arguments::{Format, Output};
-use crate::fault::Fault;
+use crate::arguments::Format;
 use crate::meshing::{Mesh, Solid, list_corners, list_turn, list_word};
-use dcel_picture::{Picture, Style, spread, write_svg};
+use crate::output::Text;
 use std::alloc::Global;
-use std::io::{self, BufWriter, Write};
+use std::io::{self, Write};
 
-/// Writes what is asked for.
-pub fn write_asked(
-    rt: &(impl Print + AllocGlobal),
-    output: Output,
-    solid: &Solid,
-) -> Result<(), Fault> {
-    let alloc = rt.alloc();
-    let mut writer = BufWriter::new(alloc, io::writer(rt))?;
-    match output {
-        Output::Check => (),
-        Output::Svg => draw(alloc, &mut writer, &solid.mesh)?,
-        Output::Mesh(Format::Off) => write_off(alloc, &mut writer, solid)?,
-        Output::Mesh(Format::Obj) => write_obj(alloc, &mut writer, solid)?,
-        Output::Mesh(Format::Words) => write_words(alloc, &mut writer, &solid.mesh)?,
-    }
-    writer.flush()?;
-    Ok(())
+/// A mesh in a format.
+#[derive(Clone, Copy)]
+pub struct Written<'a> {
+    /// The format.
+    pub format: Format,
+    /// The mesh.
+    pub solid: &'a Solid,
 }
 
-/// Draws the mesh, with places of its own for the vertices.
-fn draw(alloc: Global, writer: &mut impl Write, mesh: &Mesh) -> Result<(), Fault> {
-    let places = spread(alloc, mesh, None)?;
-    let picture = Picture::new(alloc, mesh, None, &places)?;
-    write_svg(&picture, Style { anchors: false }, writer)?;
-    Ok(())
+impl<'a> Text for Written<'a> {
+    fn write_to(&self, alloc: Global, writer: &mut impl Write) -> io::Result<()> {
+        match self.format {
+            Format::Off => write_off(alloc, writer, self.solid),
+            Format::Obj => write_obj(alloc, writer, self.solid),
+            Format::Ply => write_ply(alloc, writer, self.solid),
+            Format::Words => write_words(alloc, writer, self.solid),
+        }
+    }
 }
 
 /// Writes the mesh in the Object File Format.
-fn write_off(alloc: Global, writer: &mut impl Write, solid: &Solid) -> Result<(), Fault> {
+fn write_off(alloc: Global, writer: &mut impl Write, solid: &Solid) -> io::Result<()> {
     writeln!(writer, "OFF")?;
     writeln!(
         writer,
@@ -43,6 +35,23 @@ fn write_off(alloc: Global, writer: &mut impl Write, solid: &Solid) -> Result<()
         solid.mesh.num_vertices(),
         solid.num_faces()
     )?;
+    write_elements(alloc, writer, solid)
+}
+
+/// Writes the mesh as PLY.
+fn write_ply(alloc: Global, writer: &mut impl Write, solid: &Solid) -> io::Result<()> {
+    writeln!(writer, "ply\nformat ascii 1.0")?;
+    writeln!(writer, "element vertex {}", solid.mesh.num_vertices())?;
+    for axis in ["x", "y", "z"] {
+        writeln!(writer, "property double {axis}")?;
+    }
+    writeln!(writer, "element face {}", solid.num_faces())?;
+    writeln!(writer, "property list int int vertex_indices\nend_header")?;
+    write_elements(alloc, writer, solid)
+}
+
+/// Writes a line for each vertex, and then one for each face.
+fn write_elements(alloc: Global, writer: &mut impl Write, solid: &Solid) -> io::Result<()> {
     for vertex in solid.mesh.vertices() {
         writeln!(writer, "{}", vertex.data())?;
     }
@@ -58,7 +67,7 @@ fn write_off(alloc: Global, writer: &mut impl Write, solid: &Solid) -> Result<()
 }
 
 /// Writes the mesh as OBJ, which counts vertices from 1.
-fn write_obj(alloc: Global, writer: &mut impl Write, solid: &Solid) -> Result<(), Fault> {
+fn write_obj(alloc: Global, writer: &mut impl Write, solid: &Solid) -> io::Result<()> {
     for vertex in solid.mesh.vertices() {
         writeln!(writer, "v {}", vertex.data())?;
     }
@@ -73,8 +82,17 @@ fn write_obj(alloc: Global, writer: &mut impl Write, solid: &Solid) -> Result<()
     Ok(())
 }
 
-/// Writes the counts, the word of each face, and the half edges out of each vertex.
-fn write_words(alloc: Global, writer: &mut impl Write, mesh: &Mesh) -> Result<(), Fault> {
+/// Writes the counts, the word of each face, and the half edges out of each vertex. If the outer
+/// face is one of the surface, a last line has its place among the faces.
+fn write_words(alloc: Global, writer: &mut impl Write, solid: &Solid) -> io::Result<()> {
+    write_halves(alloc, writer, &solid.mesh)?;
+    if let Some(place) = solid.outer {
+        writeln!(writer, "closed {place}")?;
+    }
+    Ok(())
+}
+
+fn write_halves(alloc: Global, writer: &mut impl Write, mesh: &Mesh) -> io::Result<()> {
     writeln!(
         writer,
         "vertices {} edges {} faces {}",

@@ -1,7 +1,7 @@
 -- Vertices, minus edges, plus faces: what each edit leaves of it.
 use Rattle.std.proofs.Common.{◌≡◌, ◌∙◌, ℕ, zero, suc, ◌+◌, ◌<◌, ◌≤◌, Bool, true, false, cond, inl, inr, List, ◌++◌, length, slice_set, sym, ap, arith}
 use Rattle.std.proofs.lemmas.Bool.{cases_eq, cases_lt}
-use Rattle.std.proofs.lemmas.List.{length-append, length-set}
+use Rattle.std.proofs.lemmas.List.{length-set}
 use Rattle.dcel_maps.specs.Conditions.{IsTriangle, IsUnconnected}
 use Rattle.dcel_maps.specs.edits.Create.{vertex_appended}
 use Rattle.dcel_maps.specs.edits.Flip.{edge_flipped}
@@ -20,7 +20,7 @@ use Rattle.dcel_maps.proofs.walks.Lengths.{count-le}
 use Rattle.dcel_delaunay.specs.Growing.{IsJoined}
 
 -- two words are written, and others are put at the end
-two_written : (ws : List (List ℕ)) (f g : ℕ) (w u : List ℕ) (new : List (List ℕ)) → length (slice_set (slice_set ws f w) g u ++ new) ≡ length ws + length new
+pub two_written : (ws : List (List ℕ)) (f g : ℕ) (w u : List ℕ) (new : List (List ℕ)) → length (slice_set (slice_set ws f w) g u ++ new) ≡ length ws + length new
 two_written ws f g w u new = omega (arith, replaced-count (slice_set ws f w) g u new, length-set ws f w)
 
 -- a face alone is the outer one

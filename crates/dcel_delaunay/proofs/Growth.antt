@@ -1,38 +1,19 @@
 -- A vertex appended and connected: what stays of the mesh; and taken back.
-use Rattle.std.proofs.Common.{◌≡◌, ◌≢◌, ◌∙◌, ℕ, ◌+◌, ◌-◌, ◌*◌, ◌/◌, ◌<◌, ◌≤◌, true, List, [], ◌∷◌, ◌++◌, length, take, map, refl, sym, ap, subst, arith, Option, Some, None}
+use Rattle.std.proofs.Common.{◌≡◌, ◌∙◌, ℕ, ◌+◌, ◌-◌, List, [], ◌∷◌, ◌++◌, length, take, map, refl, sym, ap, subst, arith, Option, None}
 use Rattle.std.proofs.Math.Seq.{take-append_seam}
 use Rattle.std.proofs.lemmas.List.{length-append}
-use Rattle.dcel_maps.specs.Conditions.{IsTriangle, IsUnconnected}
-use Rattle.dcel_maps.specs.edits.Create.{vertex_appended, first_edge_added}
-use Rattle.dcel_maps.specs.edits.DefaultData.{AddsEdge, AddsEdgesAndFaces}
+use Rattle.dcel_maps.specs.edits.Create.{vertex_appended}
+use Rattle.dcel_maps.specs.edits.DefaultData.{AddsEdgesAndFaces}
 use Rattle.dcel_maps.specs.edits.Flip.{edge_flipped}
-use Rattle.dcel_maps.specs.edits.Line.{line_extended}
 use Rattle.dcel_maps.specs.edits.Outside.{face_closed, face_put_beside}
-use Rattle.dcel_maps.specs.edits.Split.{edge_split, edge_split_on_line, half_edge_split}
+use Rattle.dcel_maps.specs.edits.Split.{edge_split, half_edge_split}
 use Rattle.dcel_maps.specs.edits.Triangle.{vertex_inserted}
-use Rattle.dcel_maps.specs.Removals.{Closed, gives_up_edge, gives_up_vertex}
+use Rattle.dcel_maps.specs.Removals.{Closed}
 use Rattle.dcel_maps.specs.Renumbering.{last_put, moved, vertex_taken_out}
-use Rattle.dcel_maps.specs.Shapes.{IsLive, IsMesh, IsSound, Mesh, Shape, edge_is_live, origin_of, vertex_is_live}
-use Rattle.dcel_maps.proofs.Liveness.{closed-live, closed-vertex_live, is_live-parts, vertex_live-parts, closed-half_live}
+use Rattle.dcel_maps.specs.Shapes.{IsMesh, Mesh}
 use Rattle.dcel_maps.proofs.renumbering.Ends.{last_put-end, vertices_stay}
-use Rattle.dcel_maps.proofs.renumbering.Moves.{moved-itself}
-use Rattle.dcel_maps.proofs.walks.Links.{half-below}
 use Rattle.dcel_predicates.specs.declared.point.Point.{Point}
 use Rattle.dcel_delaunay.specs.Growing.{Gains, Keeps}
-
-module _ {V DE UE F : Type 0} where
-  -- the vertex that is appended has no edge
-  pub appended-unconnected : (m : Mesh V DE UE F) (p : V) → IsMesh m → m.shape.removal ≡ Closed → IsUnconnected (vertex_appended m p).shape m.shape.vertices
-  appended-unconnected m p mesh closed = record {
-    live = closed-vertex_live (vertex_appended m p).shape closed m.shape.vertices (omega arith);
-    bare = λ h live same.
-        let below = (vertex_live-parts m.shape (origin_of m.shape h) (mesh.sound.starts_live h live)).0 in
-        absurd (omega (arith, below, same));
-  }
-
-  -- a triangle stays one when a vertex is appended
-  pub appended-triangle : (m : Mesh V DE UE F) (p : V) (f : ℕ) → IsTriangle m.shape f → IsTriangle (vertex_appended m p).shape f
-  appended-triangle m p f triangle = record { live = triangle.live; three = triangle.three }
 
 -- what an edit that comes with default data leaves, whatever these are
 pub of_edit : {X DE UE F : Type 0} (is_half : DE → Type 0) (is_edge : UE → Type 0) (is_face : F → Type 0) (k j : ℕ) (new : X) (edit : List DE → List UE → List F → X)
@@ -107,24 +88,11 @@ module _ {DE UE F : Type 0} where
     pub half_split-keeps : (x v : ℕ) (h : List DE) (e : List UE) (g : List F) → Keeps m (half_edge_split m x v h e g)
     half_split-keeps x v h e g = record { closed = closed; vertices = refl; points = refl; edges = omega arith }
 
-    pub line_split-keeps : (x v : ℕ) (h : List DE) (e : List UE) → Keeps m (edge_split_on_line m x v h e)
-    line_split-keeps x v h e = record { closed = closed; vertices = refl; points = refl; edges = omega arith }
-
     pub beside-keeps : (x v : ℕ) (h : List DE) (e : List UE) (g : List F) → Keeps m (face_put_beside m x v h e g)
     beside-keeps x v h e g = record { closed = closed; vertices = refl; points = refl; edges = omega arith }
 
     pub closed-keeps : (x : ℕ) (h : List DE) (e : List UE) (g : List F) → Keeps m (face_closed m x h e g)
     closed-keeps x h e g = record { closed = closed; vertices = refl; points = refl; edges = omega arith }
 
-    pub extended-keeps : (end tip : ℕ) (h : List DE) (e : List UE) → Keeps m (line_extended m end tip h e)
-    extended-keeps end tip h e = record { closed = closed; vertices = refl; points = refl; edges = omega arith }
-
-    pub first-keeps : (a b : ℕ) (h : List DE) (e : List UE) → m.shape.edges ≡ 0 → Keeps m (first_edge_added m a b h e)
-    first-keeps a b h e none = record { closed = closed; vertices = refl; points = refl; edges = omega (arith, none) }
-
     pub flipped-keeps : (u : ℕ) → Keeps m (edge_flipped m u)
     flipped-keeps u = record { closed = closed; vertices = refl; points = refl; edges = omega arith }
-
-  -- what was live is live
-  pub keeps-live : (m n : Mesh Point DE UE F) (h : ℕ) → Keeps m n → IsLive m.shape h → IsLive n.shape h
-  keeps-live m n h keeps live = let below = half-below m.shape h live in closed-half_live n.shape keeps.closed h (omega (arith, below, keeps.edges))

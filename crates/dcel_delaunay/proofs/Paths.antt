@@ -1,8 +1,8 @@
 -- A mesh with one face keeps it while the path grows, and its vertices stay joined.
 use Rattle.std.proofs.Common.{◌≡◌, ◌∙◌, ℕ, ◌+◌, ◌<◌, true, ap, arith, subst, sym}
-use Rattle.std.proofs.lemmas.List.{length-map, length-set}
+use Rattle.std.proofs.lemmas.List.{length-map}
 use Rattle.dcel_maps.specs.Conditions.{IsBridge, IsLineEnd}
-use Rattle.dcel_maps.specs.edits.Create.{first_edge_added, vertex_appended}
+use Rattle.dcel_maps.specs.edits.Create.{vertex_appended}
 use Rattle.dcel_maps.specs.edits.DefaultData.{AddsEdge}
 use Rattle.dcel_maps.specs.edits.Line.{line_extended}
 use Rattle.dcel_maps.specs.edits.Split.{edge_split_on_line}
@@ -41,25 +41,6 @@ module _ {V DE UE F : Type 0} (is_half : DE → Type 0) (is_edge : UE → Type 0
   split_line_joined mesh e bridge adds joined =
       grown_joined (live_vertices old mesh e bridge.live) (split_alone e adds) (ap (λ (m : Mesh V DE UE F). m.shape.vertices) adds.is)
       (ap (λ (m : Mesh V DE UE F). m.shape.edges) adds.is) joined
-
-  -- the first vertex alone
-  pub one_joined : old.shape.edges ≡ 0 → old.shape.vertices ≡ 0 → IsJoined mid.shape
-  one_joined bare none =
-      let more : mid.shape.vertices ≡ old.shape.vertices + 1 = ap (λ (m : Mesh V DE UE F). m.shape.vertices) is in
-      let same : mid.shape.edges ≡ old.shape.edges = ap (λ (m : Mesh V DE UE F). m.shape.edges) is in
-      record {
-        euler = λ some. omega (arith, more, same, bare, none, mid_alone);
-        empty = λ no_vertex. absurd (omega (arith, more, no_vertex));
-      }
-
-  -- the second one, with the first edge
-  pub two_joined : (a : ℕ) → old.shape.edges ≡ 0 → 0 < old.shape.vertices → AddsEdge is_half is_edge new (first_edge_added mid a v) → IsJoined old.shape
-      → IsJoined new.shape
-  two_joined a bare some adds joined =
-      let same : mid.shape.edges ≡ old.shape.edges = ap (λ (m : Mesh V DE UE F). m.shape.edges) is in
-      let edges : new.shape.edges ≡ 1 = ap (λ (m : Mesh V DE UE F). m.shape.edges) adds.is in
-      let alone : face_count new.shape ≡ 1 = ap (λ (m : Mesh V DE UE F). face_count m.shape) adds.is ∙ length-set mid.shape.words 0 _ ∙ mid_alone in
-      grown_joined some alone (ap (λ (m : Mesh V DE UE F). m.shape.vertices) adds.is) (omega (arith, same, edges, bare)) joined
 
 -- the first vertex is live once one is appended
 pub first_live : {V DE UE F : Type 0} (old mid : Mesh V DE UE F) (p : V) (v : ℕ) → mid ≡ vertex_appended old p → old.shape.removal ≡ Closed → v ≡ 0

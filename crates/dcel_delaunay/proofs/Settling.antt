@@ -1,30 +1,29 @@
 -- What flips and triangles at the hull leave of the vertices.
-use Rattle.std.proofs.Common.{◌≡◌, ◌≢◌, ◌∙◌, inl, inr, ℕ, List, [], ◌∷◌, ◌++◌, sym, subst}
+use Rattle.std.proofs.Common.{◌≡◌, ℕ, List, [], ◌∷◌, sym, subst}
 use Rattle.dcel_maps.specs.edits.Flip.{edge_flipped}
 use Rattle.dcel_maps.specs.Removals.{Closed}
 use Rattle.dcel_maps.specs.Shapes.{Mesh}
 use Rattle.dcel_maps.specs.Triangulations.{AllTriangles}
 use Rattle.dcel_maps.proofs.Triangulations.{flipped}
 use Rattle.dcel_predicates.specs.declared.point.Point.{Point}
-use Rattle.dcel_circles.specs.Turning.{IsTurnedTo, edges_turned}
+use Rattle.dcel_legalize.specs.Flipping.{edges_flipped}
+use Rattle.dcel_circles.specs.Turning.{IsTurnedTo}
 use Rattle.dcel_plane.specs.Plane.{IsPlane, ListsCircled, point_at}
-use Rattle.dcel_delaunay.specs.Growing.{Gains, IsJoined, IsUnderWay, Keeps, Refuses}
-use Rattle.dcel_delaunay.specs.declared.errors.InsertionError.{InsertionError}
-use Rattle.dcel_delaunay.specs.declared.errors.InsertionError.TheVariants.{Unfinished}
+use Rattle.dcel_delaunay.specs.Growing.{IsJoined, IsSound, Keeps}
 use Rattle.dcel_delaunay.proofs.Counting.{flipped_joined}
-use Rattle.dcel_delaunay.proofs.Growth.{flipped-keeps, gains-keeps, keeps-refl, keeps-trans}
+use Rattle.dcel_delaunay.proofs.Growth.{flipped-keeps, keeps-refl, keeps-trans}
 
 module _ {DE UE F : Type 0} where
-  turned_keeps : (m : Mesh Point DE UE F) (us : List ℕ) → m.shape.removal ≡ Closed → Keeps m (edges_turned m us)
+  turned_keeps : (m : Mesh Point DE UE F) (us : List ℕ) → m.shape.removal ≡ Closed → Keeps m (edges_flipped m us)
   turned_keeps m [] closed = keeps-refl m closed
   turned_keeps m (u ∷ us) closed =
-      keeps-trans m (edge_flipped m u) (edges_turned (edge_flipped m u) us) (flipped-keeps m closed u) (turned_keeps (edge_flipped m u) us closed)
+      keeps-trans m (edge_flipped m u) (edges_flipped (edge_flipped m u) us) (flipped-keeps m closed u) (turned_keeps (edge_flipped m u) us closed)
 
-  turned_triangles : (m : Mesh Point DE UE F) (us : List ℕ) → AllTriangles m.shape → AllTriangles (edges_turned m us).shape
+  turned_triangles : (m : Mesh Point DE UE F) (us : List ℕ) → AllTriangles m.shape → AllTriangles (edges_flipped m us).shape
   turned_triangles m [] all = all
   turned_triangles m (u ∷ us) all = turned_triangles (edge_flipped m u) us (flipped m all u)
 
-  turned_joined : (m : Mesh Point DE UE F) (us : List ℕ) → IsJoined m.shape → IsJoined (edges_turned m us).shape
+  turned_joined : (m : Mesh Point DE UE F) (us : List ℕ) → IsJoined m.shape → IsJoined (edges_flipped m us).shape
   turned_joined m [] joined = joined
   turned_joined m (u ∷ us) joined = turned_joined (edge_flipped m u) us (flipped_joined m u joined)
 
@@ -32,17 +31,12 @@ module _ {DE UE F : Type 0} where
   flips_keep m n closed turned = subst (λ (k : Mesh Point DE UE F). Keeps m k) (sym turned.is) (turned_keeps m turned.turned closed)
 
   -- and what is still to be looked at is listed
-  pub flips_under_way : (m n : Mesh Point DE UE F) (due items : List ℕ) → IsUnderWay m due → IsTurnedTo m n → IsPlane (point_at n) n.shape
-      → (ListsCircled (point_at m) m.shape due → ListsCircled (point_at n) n.shape items) → IsUnderWay n items
-  flips_under_way m n due items way turned plane lists = record {
+  pub flips_sound : (m n : Mesh Point DE UE F) (due items : List ℕ) → IsSound m due → IsTurnedTo m n → IsPlane (point_at n) n.shape
+      → (ListsCircled (point_at m) m.shape due → ListsCircled (point_at n) n.shape items) → IsSound n items
+  flips_sound m n due items way turned plane lists = record {
     closed = (flips_keep m n way.closed turned).closed;
     joined = subst (λ (k : Mesh Point DE UE F). IsJoined k.shape) (sym turned.is) (turned_joined m turned.turned way.joined);
     triangles = subst (λ (k : Mesh Point DE UE F). AllTriangles k.shape) (sym turned.is) (turned_triangles m turned.turned way.triangles);
     plane = plane;
     listed = lists way.listed;
   }
-
-  -- the vertex stands, and the rest is still to be done
-  pub stands_unfinished : (old mid new : Mesh Point DE UE F) (p : Point) (v : ℕ) (e : InsertionError) → Gains old mid p v → Keeps mid new → e ≡ Unfinished → Refuses old new p e
-  stands_unfinished old mid new p v e gains keeps is =
-      inr (is, subst (λ (k : ℕ). Gains old new p k) gains.vertex (gains-keeps old mid new p v gains keeps))

@@ -8,7 +8,6 @@ use Rattle.std.specs.List.{Contains}
 use Rattle.std.specs.Option.{option_map}
 use Rattle.dcel_maps.proofs.words.Counts.{count-append, count-other}
 use Rattle.dcel_maps.specs.Shapes.{Mesh}
-use Rattle.dcel_maps.specs.Words.{count_of}
 use Rattle.dcel_predicates.specs.declared.point.Point.{Point}
 use Rattle.dcel_delaunay.specs.Bulk.{AddsVertices, ListsEach, StandAt, StandSoFar, StandsToo}
 use Rattle.dcel_delaunay.specs.Places.{HasPoint}
@@ -110,9 +109,6 @@ module _ {DE UE F : Type 0} where
     from = adds.from;
     few = omega (arith, less, adds.few);
   }
-
-  pub stand_none : (m : Mesh Point DE UE F) (points : List Point) (vertices : List ℕ) → length vertices ≡ length points → StandSoFar m points [] vertices
-  stand_none m points vertices same = record { length_is = same; each = λ i p v none. absurd (omega (arith, none)) }
 
   -- the vertex of one more point is noted
   pub stands_too : (old new : Mesh Point DE UE F) (points : List Point) (before : List ℕ) (k v : ℕ) (p : Point) (most : ℕ)

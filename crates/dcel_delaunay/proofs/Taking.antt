@@ -1,12 +1,10 @@
 -- What an insertion tells its caller.
-use Rattle.std.proofs.Common.{◌≡◌, ◌⊎◌, ◌≤◌, ◌∙◌, inl, inr, ℕ, List, [], ◌∷◌, ◌++◌, length, refl, sym, ap, subst, arith, slice_get, Option, Some}
+use Rattle.std.proofs.Common.{◌≡◌, ◌⊎◌, ◌∙◌, inl, inr, ℕ, List, [], ◌∷◌, ◌++◌, length, refl, sym, ap, subst, slice_get, Some}
 use Rattle.std.specs.Option.{option_map}
 use Rattle.dcel_maps.specs.Shapes.{IsMesh, Mesh}
 use Rattle.dcel_predicates.specs.declared.point.Point.{Point}
-use Rattle.dcel_delaunay.specs.Growing.{Gains, Inserts, MayRefuse, Refuses}
+use Rattle.dcel_delaunay.specs.Growing.{Gains, Inserts}
 use Rattle.dcel_delaunay.specs.Places.{HasPoint}
-use Rattle.dcel_delaunay.specs.declared.errors.InsertionError.{InsertionError}
-use Rattle.dcel_delaunay.specs.declared.errors.InsertionError.TheVariants.{Unfinished}
 
 -- the item that was appended
 appended_item : {A : Type 0} (xs : List A) (x : A) → slice_get (xs ++ x ∷ []) (length xs) ≡ Some x
@@ -40,21 +38,3 @@ module _ {DE UE F : Type 0} where
   takes_points before old new last p v stay inserts same =
       subst (λ (m : Mesh Point DE UE F). (m.vertex_data ≡ before) ⊎ (m.vertex_data ≡ before ++ p ∷ [])) (sym same)
       (subst (λ (ps : List Point). (new.vertex_data ≡ ps) ⊎ (new.vertex_data ≡ ps ++ p ∷ [])) stay (inserted_points old new p v inserts))
-
-  -- what a refusal leaves
-  pub stays_after : (W : Type 0) (old mid new : Mesh Point DE UE F) (p : Point) (e : InsertionError) → mid.vertex_data ≡ old.vertex_data → (W → mid ≡ old) → Refuses mid new p e
-      → (MayRefuse new.shape e × (new.vertex_data ≡ old.vertex_data) × (W → new ≡ old)) ⊎ ((e ≡ Unfinished) × (new.vertex_data ≡ old.vertex_data ++ p ∷ []))
-  stays_after W old mid new p e stay same (inl (other, is)) =
-      inl (subst (λ (m : Mesh Point DE UE F). MayRefuse m.shape e) (sym is) other, ap (λ (m : Mesh Point DE UE F). m.vertex_data) is ∙ stay, λ whole. is ∙ same whole)
-  stays_after W old mid new p e stay same (inr (is, gains)) = inr (is, gains.points ∙ ap (λ (ps : List Point). ps ++ p ∷ []) stay)
-
-  -- no edge is taken out
-  pub takes_edges : (k : ℕ) (old new last : Mesh Point DE UE F) (p : Point) (v : ℕ) → k ≤ old.shape.edges → Inserts old new p v → last ≡ new → k ≤ last.shape.edges
-  takes_edges k old new last p v less (inl (has, same)) is =
-      subst (λ (m : Mesh Point DE UE F). k ≤ m.shape.edges) (sym is) (subst (λ (m : Mesh Point DE UE F). k ≤ m.shape.edges) (sym same) less)
-  takes_edges k old new last p v less (inr gains) is =
-      subst (λ (m : Mesh Point DE UE F). k ≤ m.shape.edges) (sym is) (omega (arith, less, gains.edges))
-
-  pub stays_edges : (k : ℕ) (old new : Mesh Point DE UE F) (p : Point) (e : InsertionError) → k ≤ old.shape.edges → Refuses old new p e → k ≤ new.shape.edges
-  stays_edges k old new p e less (inl (may, same)) = subst (λ (m : Mesh Point DE UE F). k ≤ m.shape.edges) (sym same) less
-  stays_edges k old new p e less (inr (is, gains)) = omega (arith, less, gains.edges)

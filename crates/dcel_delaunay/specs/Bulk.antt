@@ -1,5 +1,5 @@
 -- Many points inserted at once.
-use Rattle.std.specs.Prelude.{◌≡◌, ◌<◌, ◌≤◌, ◌++◌, ℕ, List, [], ◌∷◌, length, slice_get, Some, All, Contains}
+use Rattle.std.specs.Prelude.{◌≡◌, ◌<◌, ◌≤◌, ◌+◌, ◌++◌, ℕ, zero, suc, List, [], ◌∷◌, length, slice_get, Some, All, Contains}
 use Rattle.dcel_maps.specs.Words.{count_of}
 use Rattle.dcel_maps.specs.Shapes.{Mesh}
 use Rattle.dcel_predicates.specs.declared.point.Point.{Point}
@@ -10,6 +10,11 @@ pub record ListsEach (count : ℕ) (numbers : List ℕ) : Type 0 where
   pub length_is : length numbers ≡ count
   pub once : (i : ℕ) → i < count → count_of i numbers ≡ 1
   pub no_other : (i : ℕ) → count ≤ i → count_of i numbers ≡ 0
+
+-- so many numbers, from `first` on
+unfoldable pub counted : (first many : ℕ) → List ℕ
+counted first zero = []
+counted first (suc many) = first ∷ counted (first + 1) many
 
 module _ {DE UE F : Type 0} where
   -- each point stands at the vertex in its place of the other list

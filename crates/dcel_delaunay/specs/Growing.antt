@@ -1,13 +1,16 @@
 -- What an insertion finds, and what it leaves.
-use Rattle.std.specs.Prelude.{◌≡◌, ◌⊎◌, ◌<◌, ◌≤◌, ◌+◌, ◌++◌, ℕ, List, [], ◌∷◌}
+use Rattle.std.specs.Prelude.{◌≡◌, ◌≢◌, ◌⊎◌, ◌<◌, ◌≤◌, ◌+◌, ◌++◌, ℕ, List, [], ◌∷◌}
 use Rattle.dcel_maps.specs.Removals.{Closed}
 use Rattle.dcel_maps.specs.Conditions.{HasRoom}
 use Rattle.dcel_maps.specs.Shapes.{Mesh, Shape, face_count}
 use Rattle.dcel_maps.specs.Triangulations.{AllTriangles}
 use Rattle.dcel_plane.specs.Plane.{IsPlane, ListsCircled, point_at}
+use Rattle.dcel_covering.specs.Covering.{IsConvex, IsHull}
+use Rattle.dcel_hulls.specs.Closing.{IsClosing, IsThick, IsThin}
+use Rattle.dcel_hulls.specs.Straight.{IsStraight}
 use Rattle.dcel_delaunay.specs.Places.{HasPoint}
 use Rattle.dcel_delaunay.specs.declared.errors.InsertionError.{InsertionError}
-use Rattle.dcel_delaunay.specs.declared.errors.InsertionError.TheVariants.{Lost, OutOfMemory, OutOfRange, TooManyPoints, Unfinished}
+use Rattle.dcel_delaunay.specs.declared.errors.InsertionError.TheVariants.{OutOfMemory, OutOfRange, TooManyPoints, Unfinished}
 use Rattle.dcel_predicates.specs.declared.point.Point.{Point}
 
 -- an insertion may give this error and leave the mesh as it was: there are too many points only if no numbers are left for another vertex
@@ -17,7 +20,6 @@ MayRefuse s OutOfRange = ⊥
 MayRefuse s TooManyPoints = ¬ HasRoom s 1 3 2
 MayRefuse s OutOfMemory = Unit {0}
 MayRefuse s Unfinished = ⊥
-MayRefuse s Lost = Unit {0}
 
 -- Euler's formula for all vertices: none is without an edge, once there are two
 pub record IsJoined (s : Shape) : Type 0 where
@@ -27,12 +29,41 @@ pub record IsJoined (s : Shape) : Type 0 where
 module _ {DE UE F : Type 0} where
   -- no removal is open, the vertices are joined, each inner face is a triangle that goes round counterclockwise, and each edge between two of
   -- them that has a corner inside the circle of the other side is in the list
-  pub record IsUnderWay (m : Mesh Point DE UE F) (due : List ℕ) : Type 0 where
+  pub record IsSound (m : Mesh Point DE UE F) (due : List ℕ) : Type 0 where
     pub closed : m.shape.removal ≡ Closed
     pub joined : IsJoined m.shape
     pub triangles : AllTriangles m.shape
     pub plane : IsPlane (point_at m) m.shape
     pub listed : ListsCircled (point_at m) m.shape due
+
+  -- all vertices stand on one line, in the order of the path that joins them; there may be no edge yet
+  pub record IsFlat (m : Mesh Point DE UE F) : Type 0 where
+    pub alone : face_count m.shape ≡ 1
+    pub straight : IsStraight (point_at m) m.shape
+
+  -- there is a triangle, and the outer face is a convex hull that passes each vertex once
+  pub record HasHull (m : Mesh Point DE UE F) : Type 0 where
+    pub inner : 1 < face_count m.shape
+    pub convex : IsConvex (point_at m) m.shape
+    pub hull : IsHull (point_at m) m.shape
+
+  -- the hull is being closed round the vertex t, the last one, which was put beside an edge of a hull or of a line
+  pub record IsOpen (m : Mesh Point DE UE F) (t : ℕ) : Type 0 where
+    pub inner : 1 < face_count m.shape
+    pub last : t + 1 ≡ m.shape.vertices
+    pub closing : IsClosing (point_at m) m.shape t
+    pub from : (IsHull (point_at m) m.shape × IsThick (point_at m) m.shape t) ⊎ IsThin (point_at m) m.shape t
+
+  -- what each insertion leaves, whether it came to its end or not: a line, a hull, or a hull that is still to be closed, and then there is
+  -- an edge to be looked at
+  pub record IsUnderWay (m : Mesh Point DE UE F) (due : List ℕ) : Type 0 where
+    pub sound : IsSound m due
+    pub hull : IsFlat m ⊎ (HasHull m ⊎ ((due ≢ []) × ((t : ℕ) × IsOpen m t)))
+
+  -- a whole triangulation
+  pub record IsTriangulation (m : Mesh Point DE UE F) : Type 0 where
+    pub sound : IsSound m []
+    pub hull : IsFlat m ⊎ HasHull m
 
   -- the vertices with their points stay, no edge is taken out, and no removal is open
   pub record Keeps (old new : Mesh Point DE UE F) : Type 0 where

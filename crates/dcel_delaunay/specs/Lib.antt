@@ -1,4 +1,5 @@
 pub mod Bulk
+pub mod Corners
 pub mod Growing
 pub mod Places
 pub mod Triangulated

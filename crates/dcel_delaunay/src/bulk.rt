@@ -1,7 +1,8 @@
 //! Many points inserted at once.
 
 ghost use Rattle.std.specs.Prelude.{◌≡◌, ◌≤◌, IfOk, OnOk, length, slice_get, slice_set};
-ghost use Rattle.dcel_delaunay.specs.Bulk.{AddsVertices, StandAt, StandsToo};
+ghost use Rattle.std.specs.List.{FoldsTo};
+ghost use Rattle.dcel_delaunay.specs.Bulk.{AddsVertices, StandAt, StandsToo, counted};
 ghost use Rattle.dcel_delaunay.specs.Triangulated.{IsWhole, mesh_in};
 
 use crate::curve::insertion_order;
@@ -26,11 +27,32 @@ impl<A: Allocator + Clone> Triangulation<A> {
         ensures adds { AddsVertices (mesh_in self.old) (mesh_in self.new) points.now (length points.now) }
         ensures edges { (mesh_in self.old).shape.edges ≤ (mesh_in self.new).shape.edges }
     {
+        self.insert_all_with(alloc, points, |_| ())
+    }
+
+    /// Inserts points as [`insert_all`](Self::insert_all) does, and tells after each of them how
+    /// many are inserted: 1, 2, and so on.
+    pub fn insert_all_with<P: FnMut(usize)>(
+        &mut self,
+        alloc: A,
+        points: &[Point],
+        mut progress: P,
+    ) -> Result<Vec<FixedVertexHandle, A>, InsertionError>
+        requires progress { P.IsAlwaysCallable progress }
+        ensures stand { IfOk result (λ vertices. StandAt (mesh_in self.new) points.now vertices.items) }
+        ensures whole { OnOk result (IsWhole self.new) }
+        ensures adds { AddsVertices (mesh_in self.old) (mesh_in self.new) points.now (length points.now) }
+        ensures edges { (mesh_in self.old).shape.edges ≤ (mesh_in self.new).shape.edges }
+        ensures told { OnOk result ((last : P) × FoldsTo (λ before done after. P.step before done tt after) progress (counted 1 (length points.now)) last) }
+    {
         let order = insertion_order(alloc.clone()?, points)?;
         let mut vertices = vec![in alloc; FixedVertexHandle::new(0); points.len()]?;
         self.finish()?;
+        let mut done = 0;
         for number in &order {
             self.insert_numbered(points, *number, &mut vertices)?;
+            done += 1;
+            progress(done);
         }
         Ok(vertices)
     }

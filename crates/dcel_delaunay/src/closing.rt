@@ -1,28 +1,137 @@
-//! The hull made convex again, after a point was put beside one edge of it.
+//! The hull closed round a vertex that was put beside one edge of it, until it is convex.
 
-ghost use Rattle.std.specs.Prelude.{◌≡◌, IfErr, IfOk, IfSome, IsTrue};
+ghost use Rattle.std.specs.Prelude.{◌≡◌, ◌≢◌, ◌⊎◌, ◌+◌, ◌↔◌, ℕ, [], IfErr, IfNone, IfOk, IfSome, IsTrue, OnOk};
 ghost use Rattle.spade_dcel.specs.Handles.{mesh_behind, number_of};
-ghost use Rattle.dcel_maps.specs.Shapes.{IsLive, end_of, next_of};
-ghost use Rattle.dcel_plane.specs.Plane.{point_at};
-ghost use Rattle.dcel_delaunay.specs.Growing.{IsUnderWay, Keeps};
-ghost use Rattle.dcel_delaunay.specs.Places.{HasLeft};
+ghost use Rattle.dcel_maps.specs.Shapes.{IsLive, IsMesh, end_of, face_of, origin_of};
+ghost use Rattle.dcel_delaunay.specs.Corners.{GoesOn, IsClosedAfter, IsClosedAt, IsClosedBefore, StartsOutside, TurnsIn};
+ghost use Rattle.dcel_delaunay.specs.Growing.{HasHull, IsFlat, IsOpen, IsSound, IsUnderWay, Keeps};
 
 use crate::errors::InsertionError;
-use crate::inserting::Due;
 use crate::mesh::{Edge, Mesh, point_of, side};
+use crate::placing::Due;
 use dcel_predicates::Side;
-use spade_dcel::handles::{FixedDirectedEdgeHandle, FixedUndirectedEdgeHandle};
+use spade_dcel::handles::{FixedDirectedEdgeHandle, FixedUndirectedEdgeHandle, FixedVertexHandle};
 use spade_dcel::laws::every_mesh;
 use spade_dcel::operations::create_single_face_between_edge_and_next;
 use std::alloc::Allocator;
 
-/// Returns whether the next half edge ends on the left of this one.
-fn turns_in<A: Allocator>(edge: Edge<'_, A>) -> bool
-    requires { IsLive (mesh_behind edge).shape (number_of edge) }
-    ensures { let mesh = mesh_behind edge.entry in
-        IsTrue result → HasLeft mesh (point_at mesh (end_of mesh.shape (next_of mesh.shape (number_of edge.entry)))) (number_of edge.entry) }
+/// Closes the hull round the last vertex, if it was put beside an edge and the hull is not closed
+/// yet, and lists the edges of the triangles.
+///
+/// A mesh that is a line, or has its hull, stays as it is. If there is no room or no memory for a
+/// triangle, those before stay, and the next call goes on.
+pub(crate) fn close_hull<A: Allocator, L: Allocator>(
+    dcel: &mut Mesh<A>,
+    due: &mut Due<L>,
+) -> Result<(), InsertionError>
+    requires sound { IsSound dcel.old due.old.items }
+    ensures keeps { Keeps dcel.old dcel.new }
+    ensures sound { IsSound dcel.new due.new.items }
+    ensures hull { IsUnderWay dcel.old due.old.items → OnOk result (IsFlat dcel.new ⊎ HasHull dcel.new) }
+    ensures under_way { IsUnderWay dcel.old due.old.items → IsUnderWay dcel.new due.new.items }
+    ensures goes_on { GoesOn dcel.old dcel.new }
+    ensures unfinished { IfErr result (λ e. e ≡ InsertionError.Unfinished) }
 {
-    side(edge, point_of(edge.next().to())) == Side::Left
+    match outside_of_last(dcel) {
+        Some(edge) => close_sides(dcel, due, edge),
+        None => Ok(()),
+    }
+}
+
+/// Returns an outer half edge that starts at the last vertex, if there is one.
+fn outside_of_last<A: Allocator>(dcel: &Mesh<A>) -> Option<FixedDirectedEdgeHandle>
+    ensures some { IfSome result (λ h. (t : ℕ) × (t + 1 ≡ dcel.now.shape.vertices) × StartsOutside dcel.now t h) }
+    ensures none { IfNone result ((t h : ℕ) → t + 1 ≡ dcel.now.shape.vertices → ¬ StartsOutside dcel.now t h) }
+{
+    let vertices = dcel.num_vertices();
+    if vertices == 0 {
+        return None;
+    }
+    let mut edges = dcel
+        .vertex(FixedVertexHandle::new(vertices - 1))
+        .out_edges();
+    while let Some(edge) = edges.next() {
+        if edge.is_outer_edge() {
+            return Some(edge.fix());
+        }
+    }
+    None
+}
+
+/// Closes triangles on both sides of the vertex where an outer half edge starts, as long as the
+/// outer face turns in there.
+fn close_sides<A: Allocator, L: Allocator>(
+    dcel: &mut Mesh<A>,
+    due: &mut Due<L>,
+    edge: FixedDirectedEdgeHandle,
+) -> Result<(), InsertionError>
+    requires sound { IsSound dcel.old due.old.items }
+    requires live { IsLive dcel.old.shape edge }
+    requires outer { face_of dcel.old.shape edge ≡ 0 }
+    ensures keeps { Keeps dcel.old dcel.new }
+    ensures sound { IsSound dcel.new due.new.items }
+    ensures listed { due.old.items ≢ [] → due.new.items ≢ [] }
+    ensures goes_on { GoesOn dcel.old dcel.new }
+    ensures hull { OnOk result (IsOpen dcel.old (origin_of dcel.old.shape edge) → HasHull dcel.new) }
+    ensures unfinished { IfErr result (λ e. e ≡ InsertionError.Unfinished) }
+{
+    let after = close_after(dcel, due, edge)?;
+    every_mesh(dcel);
+    let before = dcel.directed_edge(after).prev().fix();
+    close_before(dcel, due, before)
+}
+
+/// Closes triangles after the vertex where an outer half edge starts, as long as the outer face
+/// turns in there, and returns the outer half edge that starts there then.
+fn close_after<A: Allocator, L: Allocator>(
+    dcel: &mut Mesh<A>,
+    due: &mut Due<L>,
+    edge: FixedDirectedEdgeHandle,
+) -> Result<FixedDirectedEdgeHandle, InsertionError>
+    requires sound { IsSound dcel.old due.old.items }
+    requires live { IsLive dcel.old.shape edge }
+    requires outer { face_of dcel.old.shape edge ≡ 0 }
+    ensures keeps { Keeps dcel.old dcel.new }
+    ensures sound { IsSound dcel.new due.new.items }
+    ensures listed { due.old.items ≢ [] → due.new.items ≢ [] }
+    ensures goes_on { GoesOn dcel.old dcel.new }
+    ensures starts { IfOk result (StartsOutside dcel.new (origin_of dcel.old.shape edge)) }
+    ensures closed { let t = origin_of dcel.old.shape edge in
+        OnOk result (IsOpen dcel.new t → IsClosedAfter dcel.new t) }
+    ensures unfinished { IfErr result (λ e. e ≡ InsertionError.Unfinished) }
+{
+    let mut edge = edge;
+    while let Some(closed) = close(dcel, due, edge)? {
+        edge = closed;
+    }
+    Ok(edge)
+}
+
+/// Closes triangles before the vertex where an outer half edge ends, as long as the outer face
+/// turns in there.
+fn close_before<A: Allocator, L: Allocator>(
+    dcel: &mut Mesh<A>,
+    due: &mut Due<L>,
+    edge: FixedDirectedEdgeHandle,
+) -> Result<(), InsertionError>
+    requires sound { IsSound dcel.old due.old.items }
+    requires live { IsLive dcel.old.shape edge }
+    requires outer { face_of dcel.old.shape edge ≡ 0 }
+    ensures keeps { Keeps dcel.old dcel.new }
+    ensures sound { IsSound dcel.new due.new.items }
+    ensures listed { due.old.items ≢ [] → due.new.items ≢ [] }
+    ensures goes_on { GoesOn dcel.old dcel.new }
+    ensures closed { let t = end_of dcel.old.shape edge in
+        OnOk result (IsOpen dcel.new t → IsClosedBefore dcel.new t) }
+    ensures mesh { IsMesh dcel.new }
+    ensures unfinished { IfErr result (λ e. e ≡ InsertionError.Unfinished) }
+{
+    every_mesh(dcel);
+    let mut before = dcel.directed_edge(edge).prev().fix();
+    while let Some(closed) = close(dcel, due, before)? {
+        before = dcel.directed_edge(closed).prev().fix();
+    }
+    Ok(())
 }
 
 /// Closes a triangle between a half edge of the outer face and the next one, if the outer face
@@ -35,17 +144,19 @@ fn close<A: Allocator, L: Allocator>(
     due: &mut Due<L>,
     edge: FixedDirectedEdgeHandle,
 ) -> Result<Option<FixedDirectedEdgeHandle>, InsertionError>
-    requires under_way { IsUnderWay dcel.old due.old.items }
+    requires sound { IsSound dcel.old due.old.items }
     requires live { IsLive dcel.old.shape edge }
+    requires outer { face_of dcel.old.shape edge ≡ 0 }
     ensures keeps { Keeps dcel.old dcel.new }
-    ensures under_way { IsUnderWay dcel.new due.new.items }
-    ensures live { IfOk result (λ closed. IfSome closed (IsLive dcel.new.shape)) }
-    ensures unfinished { IfErr result (λ e. e ≡ InsertionError.Unfinished) }
+    ensures sound { IsSound dcel.new due.new.items }
+    ensures listed { due.old.items ≢ [] → due.new.items ≢ [] }
+    ensures goes_on { GoesOn dcel.old dcel.new }
+    ensures some { IfOk result (λ closed. IfSome closed (IsClosedAt dcel.old dcel.new edge)) }
+    ensures none { IfOk result (λ closed. IfNone closed ((dcel.new ≡ dcel.old) × ¬ TurnsIn dcel.old edge)) }
+    ensures mesh { IsMesh dcel.new }
+    ensures unfinished { IfErr result (λ e. (e ≡ InsertionError.Unfinished) × (dcel.new ≡ dcel.old)) }
 {
     every_mesh(dcel);
-    if !dcel.can_close_outside(edge) {
-        return Ok(None);
-    }
     if !turns_in(dcel.directed_edge(edge)) {
         return Ok(None);
     }
@@ -66,65 +177,10 @@ fn close<A: Allocator, L: Allocator>(
     Ok(Some(closed))
 }
 
-/// Closes triangles before an outer half edge, as long as the outer face turns in there.
-pub(crate) fn close_before<A: Allocator, L: Allocator>(
-    dcel: &mut Mesh<A>,
-    due: &mut Due<L>,
-    edge: FixedDirectedEdgeHandle,
-) -> Result<(), InsertionError>
-    requires under_way { IsUnderWay dcel.old due.old.items }
-    requires live { IsLive dcel.old.shape edge }
-    ensures keeps { Keeps dcel.old dcel.new }
-    ensures under_way { IsUnderWay dcel.new due.new.items }
-    ensures unfinished { IfErr result (λ e. e ≡ InsertionError.Unfinished) }
+/// Returns whether the next half edge ends on the left of this one.
+fn turns_in<A: Allocator>(edge: Edge<'_, A>) -> bool
+    requires { IsLive (mesh_behind edge).shape (number_of edge) }
+    ensures { IsTrue result ↔ TurnsIn (mesh_behind edge.entry) (number_of edge.entry) }
 {
-    let mut edge = edge;
-    // Each triangle makes the hull shorter, so there are fewer of them than half edges.
-    for _ in 0..dcel.num_directed_edges() {
-        let before = dcel.directed_edge(edge).prev().fix();
-        match close(dcel, due, before)? {
-            Some(closed) => edge = closed,
-            None => return Ok(()),
-        }
-    }
-    Ok(())
-}
-
-/// Closes triangles after an outer half edge, as long as the outer face turns in there.
-pub(crate) fn close_after<A: Allocator, L: Allocator>(
-    dcel: &mut Mesh<A>,
-    due: &mut Due<L>,
-    edge: FixedDirectedEdgeHandle,
-) -> Result<(), InsertionError>
-    requires under_way { IsUnderWay dcel.old due.old.items }
-    requires live { IsLive dcel.old.shape edge }
-    ensures keeps { Keeps dcel.old dcel.new }
-    ensures under_way { IsUnderWay dcel.new due.new.items }
-    ensures unfinished { IfErr result (λ e. e ≡ InsertionError.Unfinished) }
-{
-    let mut edge = edge;
-    // As in `close_before`.
-    for _ in 0..dcel.num_directed_edges() {
-        match close(dcel, due, edge)? {
-            Some(closed) => edge = closed,
-            None => return Ok(()),
-        }
-    }
-    Ok(())
-}
-
-/// Closes triangles all around the hull, wherever it turns in.
-pub(crate) fn close_hull<A: Allocator, L: Allocator>(
-    dcel: &mut Mesh<A>,
-    due: &mut Due<L>,
-) -> Result<(), InsertionError>
-    requires under_way { IsUnderWay dcel.old due.old.items }
-    ensures keeps { Keeps dcel.old dcel.new }
-    ensures under_way { IsUnderWay dcel.new due.new.items }
-{
-    for index in 0..dcel.num_directed_edges() {
-        close_before(dcel, due, FixedDirectedEdgeHandle::new(index))?;
-        close_after(dcel, due, FixedDirectedEdgeHandle::new(index))?;
-    }
-    Ok(())
+    side(edge, point_of(edge.next().to())) == Side::Left
 }

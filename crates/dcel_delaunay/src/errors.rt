@@ -27,10 +27,6 @@ pub enum InsertionError {
     /// The next insertion goes on with that first.
     #[error("out of memory, with some edges not yet looked at")]
     Unfinished,
-    /// The walk did not arrive, or no triangle has the point where it ended. No contract excludes
-    /// it; no input is known for which it comes.
-    #[error("the search for the point did not end")]
-    Lost,
 }
 
 impl From<AllocError> for InsertionError {

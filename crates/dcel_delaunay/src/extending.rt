@@ -1,15 +1,18 @@
 //! The edits while all vertices stand on a line: the first vertices, an edge of the path split, and
 //! the path extended. The outer face is the only one, so nothing is to be listed.
 
-ghost use Rattle.std.specs.Prelude.{◌≡◌, IfErr, IfOk};
-ghost use Rattle.dcel_maps.specs.Conditions.{IsBridge, IsLineEnd};
+ghost use Rattle.std.specs.Prelude.{◌≡◌, ◌<◌, ℕ, IfErr, IfOk};
+ghost use Rattle.dcel_maps.specs.Conditions.{IsLineEnd};
 ghost use Rattle.dcel_maps.specs.Removals.{Closed};
-ghost use Rattle.dcel_maps.specs.Shapes.{face_count};
-ghost use Rattle.dcel_delaunay.specs.Growing.{Gains, IsJoined, MayRefuse};
+ghost use Rattle.dcel_maps.specs.Shapes.{IsLive, end_of};
+ghost use Rattle.dcel_plane.specs.Plane.{point_at};
+ghost use Rattle.dcel_places.specs.Locating.{LiesBeyond, LiesOn};
+ghost use Rattle.dcel_delaunay.specs.Growing.{Gains, IsFlat, IsJoined, MayRefuse};
+ghost use Rattle.dcel_delaunay.specs.Places.{HasPoint};
 
 use crate::errors::InsertionError;
-use crate::inserting::{append, take_back};
 use crate::mesh::Mesh;
+use crate::placing::{append, take_back};
 use dcel_predicates::Point;
 use spade_dcel::handles::{FixedDirectedEdgeHandle, FixedVertexHandle};
 use spade_dcel::laws::every_mesh;
@@ -25,10 +28,11 @@ pub(crate) fn put_on_line<A: Allocator>(
     point: Point,
 ) -> Result<FixedVertexHandle, InsertionError>
     requires closed { dcel.old.shape.removal ≡ Closed }
-    requires alone { face_count dcel.old.shape ≡ 1 }
-    requires bridge { IsBridge dcel.old.shape edge }
+    requires flat { IsFlat dcel.old }
+    requires live { IsLive dcel.old.shape edge }
+    requires on { LiesOn (point_at dcel.old) dcel.old.shape point edge }
     ensures gains { IfOk result (Gains dcel.old dcel.new point) }
-    ensures alone { face_count dcel.new.shape ≡ 1 }
+    ensures flat { IsFlat dcel.new }
     ensures joined { IsJoined dcel.old.shape → IsJoined dcel.new.shape }
     ensures refused { IfErr result (λ e. MayRefuse dcel.old.shape e × (dcel.new ≡ dcel.old)) }
 {
@@ -47,10 +51,11 @@ pub(crate) fn put_beyond<A: Allocator>(
     point: Point,
 ) -> Result<FixedVertexHandle, InsertionError>
     requires closed { dcel.old.shape.removal ≡ Closed }
-    requires alone { face_count dcel.old.shape ≡ 1 }
+    requires flat { IsFlat dcel.old }
     requires line_end { IsLineEnd dcel.old.shape end }
+    requires beyond { (h : ℕ) × IsLive dcel.old.shape h × (end_of dcel.old.shape h ≡ end) × LiesBeyond (point_at dcel.old) dcel.old.shape point h }
     ensures gains { IfOk result (Gains dcel.old dcel.new point) }
-    ensures alone { face_count dcel.new.shape ≡ 1 }
+    ensures flat { IsFlat dcel.new }
     ensures joined { IsJoined dcel.old.shape → IsJoined dcel.new.shape }
     ensures refused { IfErr result (λ e. MayRefuse dcel.old.shape e × (dcel.new ≡ dcel.old)) }
 {
@@ -68,10 +73,11 @@ pub(crate) fn put_first<A: Allocator>(
     point: Point,
 ) -> Result<FixedVertexHandle, InsertionError>
     requires closed { dcel.old.shape.removal ≡ Closed }
-    requires alone { face_count dcel.old.shape ≡ 1 }
+    requires flat { IsFlat dcel.old }
     requires no_edge { dcel.old.shape.edges ≡ 0 }
+    requires apart { (v : ℕ) → v < dcel.old.shape.vertices → ¬ HasPoint dcel.old point v }
     ensures gains { IfOk result (Gains dcel.old dcel.new point) }
-    ensures alone { face_count dcel.new.shape ≡ 1 }
+    ensures flat { IsFlat dcel.new }
     ensures joined { IsJoined dcel.old.shape → IsJoined dcel.new.shape }
     ensures refused { IfErr result (λ e. MayRefuse dcel.old.shape e × (dcel.new ≡ dcel.old)) }
 {

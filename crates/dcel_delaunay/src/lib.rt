@@ -4,8 +4,9 @@
 //! A [`Triangulation`] is made by inserting points, one after another
 //! ([`insert`](Triangulation::insert)) or all at once ([`insert_all`](Triangulation::insert_all)).
 //! Its mesh is read as it is ([`dcel`](Triangulation::dcel)): the vertices are the points, the
-//! inner faces the triangles, and the outer face lies around the hull. No other point or face is
-//! there.
+//! inner faces the triangles, and the outer face goes round the hull. No point lies inside the
+//! circle of a triangle, the triangles cover the hull and overlap nowhere, and equal points are one
+//! vertex.
 #![tactic(auto)]
 
 mod bulk;

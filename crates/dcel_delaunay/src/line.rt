@@ -1,45 +1,24 @@
 //! Points that all stand on one line: the mesh is a path along it, and the outer face is its only
 //! face.
 
-ghost use Rattle.std.specs.Prelude.{◌≡◌, IfSome};
+ghost use Rattle.std.specs.Prelude.{◌≡◌, ◌↔◌, IsTrue};
+ghost use Rattle.dcel_fixed.specs.HalfEdges.{rev};
 ghost use Rattle.spade_dcel.specs.Handles.{mesh_behind, number_of};
 ghost use Rattle.dcel_maps.specs.Shapes.{IsLive, face_count};
-ghost use Rattle.dcel_delaunay.specs.Places.{IsPlace};
+ghost use Rattle.dcel_plane.specs.Plane.{point_at};
+ghost use Rattle.dcel_places.specs.Locating.{IsBefore, LiesBeyond};
+ghost use Rattle.dcel_delaunay.specs.Growing.{IsFlat};
+ghost use Rattle.dcel_delaunay.specs.Places.{IsOnLine, IsPlace};
 
-use crate::locating::outside;
 use crate::mesh::{Edge, Mesh, point_of, side, stands_at};
 use crate::position::PositionInTriangulation;
 use dcel_predicates::{Point, Side};
-use spade_dcel::handles::{FixedDirectedEdgeHandle, FixedVertexHandle};
+use spade_dcel::handles::FixedVertexHandle;
+use spade_dcel::laws::every_mesh;
 use std::alloc::Allocator;
 
-/// Returns where a point lies in a mesh of one face, which is a path or has no edge.
-pub(crate) fn locate<A: Allocator>(
-    dcel: &Mesh<A>,
-    start: FixedDirectedEdgeHandle,
-    point: Point,
-) -> Option<PositionInTriangulation>
-    requires { face_count dcel.now.shape ≡ 1 }
-    ensures { IfSome result (IsPlace dcel.now point) }
-{
-    if dcel.num_undirected_edges() == 0 {
-        return Some(without_edges(dcel, point));
-    }
-    if !dcel.is_live_edge(start.as_undirected()) {
-        return None;
-    }
-    let edge = dcel.directed_edge(start);
-    if side(edge, point) == Side::On {
-        return walk(dcel, upwards(edge), point);
-    }
-    if let Some(position) = outside(edge, point) {
-        return Some(position);
-    }
-    outside(edge.rev(), point)
-}
-
 /// Returns where a point lies if there is no edge.
-fn without_edges<A: Allocator>(dcel: &Mesh<A>, point: Point) -> PositionInTriangulation
+pub(crate) fn at_a_vertex<A: Allocator>(dcel: &Mesh<A>, point: Point) -> PositionInTriangulation
     requires none { dcel.now.shape.edges ≡ 0 }
     requires alone { face_count dcel.now.shape ≡ 1 }
     ensures { IsPlace dcel.now point result }
@@ -53,9 +32,30 @@ fn without_edges<A: Allocator>(dcel: &Mesh<A>, point: Point) -> PositionInTriang
     PositionInTriangulation::NoTriangulation
 }
 
+/// Returns where a point lies in a mesh that is a path.
+pub(crate) fn locate<'a, A: Allocator>(
+    dcel: &'a Mesh<A>,
+    edge: Edge<'a, A>,
+    point: Point,
+) -> PositionInTriangulation
+    requires flat { IsFlat dcel.now }
+    requires mesh { mesh_behind edge ≡ dcel.now }
+    requires live { IsLive dcel.now.shape (number_of edge) }
+    ensures { IsPlace dcel.now point result }
+{
+    every_mesh(dcel);
+    match side(edge, point) {
+        Side::Left => PositionInTriangulation::OutsideOfConvexHull(edge.fix()),
+        Side::Right => PositionInTriangulation::OutsideOfConvexHull(edge.rev().fix()),
+        Side::On => walk(dcel, edge, point),
+    }
+}
+
 /// Returns whether a point comes before another one, from left to right, and upwards where both
 /// have one x.
-fn is_before(first: Point, second: Point) -> bool {
+fn is_before(first: Point, second: Point) -> bool
+    ensures { IsTrue result ↔ IsBefore first second }
+{
     if first.x == second.x {
         first.y < second.y
     } else {
@@ -63,66 +63,92 @@ fn is_before(first: Point, second: Point) -> bool {
     }
 }
 
-/// Returns the half of an edge that starts at the end that comes first.
-fn upwards<A: Allocator>(edge: Edge<'_, A>) -> Edge<'_, A>
-    requires { IsLive (mesh_behind edge).shape (number_of edge) }
-    ensures mesh { mesh_behind result ≡ mesh_behind edge.entry }
-    ensures live { IsLive (mesh_behind result).shape (number_of result) }
+/// Returns whether a point on the line of a half edge lies beyond its end.
+fn is_beyond<'a, A: Allocator>(dcel: &'a Mesh<A>, edge: Edge<'a, A>, point: Point) -> bool
+    requires flat { IsFlat dcel.now }
+    requires mesh { mesh_behind edge ≡ dcel.now }
+    requires live { IsLive dcel.now.shape (number_of edge) }
+    requires on { IsOnLine dcel.now point (number_of edge) }
+    ensures { IsTrue result ↔ LiesBeyond (point_at dcel.now) dcel.now.shape point (number_of edge.entry) }
 {
-    if is_before(point_of(edge.from()), point_of(edge.to())) {
-        edge
+    every_mesh(dcel);
+    let from = point_of(edge.from());
+    let to = point_of(edge.to());
+    if is_before(from, to) {
+        is_before(to, point)
     } else {
-        edge.rev()
+        is_before(point, to)
     }
 }
 
-/// Goes along the path, from half edge to half edge.
+/// Goes along the path towards a point on its line.
 fn walk<'a, A: Allocator>(
     dcel: &'a Mesh<A>,
     start: Edge<'a, A>,
     point: Point,
-) -> Option<PositionInTriangulation>
-    requires alone { face_count dcel.now.shape ≡ 1 }
+) -> PositionInTriangulation
+    requires flat { IsFlat dcel.now }
     requires mesh { mesh_behind start ≡ dcel.now }
-    requires live { IsLive (mesh_behind start).shape (number_of start) }
-    ensures { IfSome result (IsPlace dcel.now point) }
+    requires live { IsLive dcel.now.shape (number_of start) }
+    requires on { IsOnLine dcel.now point (number_of start) }
+    ensures { IsPlace dcel.now point result }
 {
-    let mut edge = start;
-    for _ in 0..dcel.num_directed_edges() {
-        let from = edge.from();
-        let to = edge.to();
-        if is_before(point, point_of(from)) {
-            if dcel.is_line_end(from.fix()) {
-                return Some(PositionInTriangulation::BeyondLine(from.fix()));
-            }
-            edge = edge.prev();
-            continue;
+    every_mesh(dcel);
+    let mut edge = ahead(dcel, start, point);
+    // It passes no half edge twice.
+    for _step in 0..dcel.num_directed_edges() {
+        if !is_beyond(dcel, edge, point) {
+            return between(dcel, edge, point);
         }
-        if is_before(point_of(to), point) {
-            if dcel.is_line_end(to.fix()) {
-                return Some(PositionInTriangulation::BeyondLine(to.fix()));
-            }
-            edge = edge.next();
-            continue;
+        let end = edge.to().fix();
+        if dcel.is_line_end(end) {
+            return PositionInTriangulation::BeyondLine(end);
         }
-        return between(edge, point);
+        edge = edge.next();
     }
-    None
+    unreachable!()
 }
 
-/// Returns where a point lies between the ends of a half edge, or at one of them.
-fn between<A: Allocator>(edge: Edge<'_, A>, point: Point) -> Option<PositionInTriangulation>
-    requires { IsLive (mesh_behind edge).shape (number_of edge) }
-    ensures { IfSome result (IsPlace (mesh_behind edge.entry) point) }
+/// Returns the half of an edge that a point on its line does not lie behind.
+fn ahead<'a, A: Allocator>(dcel: &'a Mesh<A>, edge: Edge<'a, A>, point: Point) -> Edge<'a, A>
+    requires flat { IsFlat dcel.now }
+    requires mesh { mesh_behind edge ≡ dcel.now }
+    requires live { IsLive dcel.now.shape (number_of edge) }
+    requires on { IsOnLine dcel.now point (number_of edge) }
+    ensures mesh { mesh_behind result ≡ dcel.now }
+    ensures live { IsLive dcel.now.shape (number_of result) }
+    ensures on { IsOnLine dcel.now point (number_of result) }
+    ensures not_behind { ¬ LiesBeyond (point_at dcel.now) dcel.now.shape point (rev (number_of result)) }
 {
+    every_mesh(dcel);
+    let other = edge.rev();
+    if is_beyond(dcel, other, point) {
+        other
+    } else {
+        edge
+    }
+}
+
+/// Returns where a point lies on the line of a half edge, if it lies beyond neither end.
+fn between<'a, A: Allocator>(
+    dcel: &'a Mesh<A>,
+    edge: Edge<'a, A>,
+    point: Point,
+) -> PositionInTriangulation
+    requires flat { IsFlat dcel.now }
+    requires mesh { mesh_behind edge ≡ dcel.now }
+    requires live { IsLive dcel.now.shape (number_of edge) }
+    requires on { IsOnLine dcel.now point (number_of edge) }
+    requires not_beyond { ¬ LiesBeyond (point_at dcel.now) dcel.now.shape point (number_of edge) }
+    requires not_behind { ¬ LiesBeyond (point_at dcel.now) dcel.now.shape point (rev (number_of edge)) }
+    ensures { IsPlace dcel.now point result }
+{
+    every_mesh(dcel);
     if stands_at(edge.from(), point) {
-        return Some(PositionInTriangulation::OnVertex(edge.from().fix()));
+        return PositionInTriangulation::OnVertex(edge.from().fix());
     }
     if stands_at(edge.to(), point) {
-        return Some(PositionInTriangulation::OnVertex(edge.to().fix()));
+        return PositionInTriangulation::OnVertex(edge.to().fix());
     }
-    if side(edge, point) == Side::On {
-        return Some(PositionInTriangulation::OnEdge(edge.fix()));
-    }
-    None
+    PositionInTriangulation::OnEdge(edge.fix())
 }

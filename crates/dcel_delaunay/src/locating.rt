@@ -1,174 +1,176 @@
 //! Where a point lies: a walk from triangle to triangle.
 
-ghost use Rattle.std.specs.Prelude.{◌≡◌, IfSome};
+ghost use Rattle.std.specs.Prelude.{◌≡◌, ◌≢◌, ◌<◌, [], IfErr, IfOk};
 ghost use Rattle.spade_dcel.specs.Handles.{mesh_behind, number_of};
-ghost use Rattle.dcel_maps.specs.Shapes.{IsLive};
-ghost use Rattle.dcel_delaunay.specs.Places.{IsOnLine, IsPlace};
+ghost use Rattle.dcel_maps.specs.Removals.{Closed};
+ghost use Rattle.dcel_maps.specs.Shapes.{IsLive, face_of, next_of, prev_of};
+ghost use Rattle.dcel_plane.specs.Plane.{point_at};
+ghost use Rattle.dcel_places.specs.Locating.{HasBeyond};
+ghost use Rattle.dcel_delaunay.specs.Growing.{HasHull, IsSound, IsTriangulation};
+ghost use Rattle.dcel_delaunay.specs.Places.{AreSides, IsPlace, LiesAt};
 
 use crate::line;
-use crate::mesh::{Edge, Mesh, has_left, side, stands_at};
+use crate::mesh::{Edge, Mesh, is_on, is_right, side};
 use crate::position::PositionInTriangulation;
 use dcel_predicates::{Point, Side};
-use spade_dcel::handles::FixedDirectedEdgeHandle;
+use spade_dcel::handles::{FixedDirectedEdgeHandle, FixedFaceHandle, InnerTag};
 use spade_dcel::laws::every_mesh;
 use std::alloc::Allocator;
 
 /// Walks from a half edge towards a point, and returns where it lies.
 ///
-/// `None` if the walk is longer than there are half edges, which a Delaunay triangulation does not
-/// allow.
+/// If the mesh has no such half edge, the walk begins at the first one.
 pub(crate) fn locate<A: Allocator>(
     dcel: &Mesh<A>,
     start: FixedDirectedEdgeHandle,
     point: Point,
-) -> Option<PositionInTriangulation>
-    ensures { IfSome result (IsPlace dcel.now point) }
+) -> PositionInTriangulation
+    requires { IsTriangulation dcel.now }
+    ensures { IsPlace dcel.now point result }
 {
+    if dcel.num_undirected_edges() == 0 {
+        return line::at_a_vertex(dcel, point);
+    }
+    let edge = beginning(dcel, start);
     if dcel.num_faces() == 1 {
-        return line::locate(dcel, start, point);
+        return line::locate(dcel, edge, point);
     }
-    if !dcel.is_live_edge(start.as_undirected()) {
-        return None;
-    }
-    let last = walk(dcel, first_step(dcel.directed_edge(start), point), point)?;
-    place(dcel, last, point)
+    walk(dcel, inner_half(dcel, edge), point)
 }
 
-/// Returns the half of an edge that does not have the point on its right; of the hull, the inner
-/// one if the point is on the edge's line.
-fn first_step<A: Allocator>(edge: Edge<'_, A>, point: Point) -> Edge<'_, A>
-    requires { IsLive (mesh_behind edge).shape (number_of edge) }
-    ensures mesh { mesh_behind result ≡ mesh_behind edge.entry }
-    ensures live { IsLive (mesh_behind result).shape (number_of result) }
+/// Returns the half edge where a walk begins: this one, or the first if there is no such.
+fn beginning<'a, A: Allocator>(dcel: &'a Mesh<A>, start: FixedDirectedEdgeHandle) -> Edge<'a, A>
+    requires closed { dcel.now.shape.removal ≡ Closed }
+    requires some { 0 < dcel.now.shape.edges }
+    ensures mesh { mesh_behind result ≡ dcel.now }
+    ensures live { IsLive dcel.now.shape (number_of result) }
 {
-    let inner = if edge.is_outer_edge() {
+    match dcel.get_directed_edge(start) {
+        Some(edge) => edge,
+        None => dcel.directed_edge(FixedDirectedEdgeHandle::new(0)),
+    }
+}
+
+/// Returns the half of an edge that lies in a triangle, the given one if both do.
+fn inner_half<'a, A: Allocator>(dcel: &'a Mesh<A>, edge: Edge<'a, A>) -> Edge<'a, A>
+    requires sound { IsSound dcel.now [] }
+    requires hull { HasHull dcel.now }
+    requires mesh { mesh_behind edge ≡ dcel.now }
+    requires live { IsLive dcel.now.shape (number_of edge) }
+    ensures mesh { mesh_behind result ≡ dcel.now }
+    ensures live { IsLive dcel.now.shape (number_of result) }
+    ensures inner { 0 < face_of dcel.now.shape (number_of result) }
+{
+    every_mesh(dcel);
+    if edge.is_outer_edge() {
         edge.rev()
     } else {
         edge
-    };
-    if side(inner, point) == Side::Right {
-        inner.rev()
-    } else {
-        inner
     }
 }
 
-/// Goes on across edges that have the point on their right, up to the outer face or a triangle that
-/// has no such edge.
+/// Goes on across sides that have the point on their right, up to the outer face or to a triangle
+/// without such a side.
 fn walk<'a, A: Allocator>(
     dcel: &'a Mesh<A>,
     start: Edge<'a, A>,
     point: Point,
-) -> Option<Edge<'a, A>>
+) -> PositionInTriangulation
+    requires sound { IsSound dcel.now [] }
     requires mesh { mesh_behind start ≡ dcel.now }
-    requires live { IsLive (mesh_behind start).shape (number_of start) }
-    ensures mesh { IfSome result (λ edge. mesh_behind edge ≡ dcel.now) }
-    ensures live { IfSome result (λ edge. IsLive (mesh_behind edge).shape (number_of edge)) }
+    requires live { IsLive dcel.now.shape (number_of start) }
+    requires inner { 0 < face_of dcel.now.shape (number_of start) }
+    ensures { IsPlace dcel.now point result }
 {
+    every_mesh(dcel);
     let mut edge = start;
-    for _ in 0..dcel.num_directed_edges() {
+    let mut own = side(edge, point);
+    // It comes to no triangle of a Delaunay triangulation twice.
+    for _step in 0..dcel.num_faces() {
+        match look(dcel, edge, own, point) {
+            Ok(position) => return position,
+            Err(crossed) => edge = crossed.rev(),
+        }
         if edge.is_outer_edge() {
-            return Some(edge);
+            return PositionInTriangulation::OutsideOfConvexHull(edge.fix());
         }
-        let next = edge.next();
-        if side(next, point) == Side::Right {
-            edge = next.rev();
-            continue;
-        }
-        let prev = edge.prev();
-        if side(prev, point) == Side::Right {
-            edge = prev.rev();
-            continue;
-        }
-        return Some(edge);
+        own = Side::Left;
     }
-    None
+    unreachable!()
 }
 
-/// Returns where a point lies that is on the right of none of the half edges of a triangle, or
-/// outside of the hull.
+/// Returns where a point lies in the triangle of a half edge, or a side that it lies beyond.
+///
+/// It asks where the point lies of the other two sides, and is told it of this one.
+#[inline]
+fn look<'a, A: Allocator>(
+    dcel: &'a Mesh<A>,
+    edge: Edge<'a, A>,
+    own: Side,
+    point: Point,
+) -> Result<PositionInTriangulation, Edge<'a, A>>
+    requires sound { IsSound dcel.now [] }
+    requires mesh { mesh_behind edge ≡ dcel.now }
+    requires live { IsLive dcel.now.shape (number_of edge) }
+    requires inner { 0 < face_of dcel.now.shape (number_of edge) }
+    requires own { LiesAt dcel.now point (number_of edge) own }
+    ensures found { IfOk result (IsPlace dcel.now point) }
+    ensures mesh { IfErr result (λ crossed. mesh_behind crossed ≡ dcel.now) }
+    ensures face { IfErr result (λ crossed. face_of dcel.now.shape (number_of crossed) ≡ face_of dcel.now.shape (number_of edge.entry)) }
+    ensures beyond { IfErr result (λ crossed. HasBeyond (point_at dcel.now) dcel.now.shape point (number_of crossed)) }
+{
+    every_mesh(dcel);
+    if is_right(own) {
+        return Err(edge);
+    }
+    let next = edge.next();
+    let after = side(next, point);
+    if is_right(after) {
+        return Err(next);
+    }
+    let prev = edge.prev();
+    let before = side(prev, point);
+    if is_right(before) {
+        return Err(prev);
+    }
+    Ok(place(dcel, edge, own, after, before))
+}
+
+/// Returns where a point lies by its sides of the half edges of a triangle, from this one on, none
+/// of which has it on the right: on two of them it is at their corner, on one strictly between its
+/// ends, and on none inside.
+#[inline]
 fn place<A: Allocator>(
     dcel: &Mesh<A>,
     edge: Edge<'_, A>,
-    point: Point,
-) -> Option<PositionInTriangulation>
+    own: Side,
+    after: Side,
+    before: Side,
+) -> PositionInTriangulation
+    requires sound { IsSound dcel.now [] }
     requires mesh { mesh_behind edge ≡ dcel.now }
-    requires live { IsLive (mesh_behind edge).shape (number_of edge) }
-    ensures { IfSome result (IsPlace dcel.now point) }
-{
-    if edge.is_outer_edge() {
-        return outside(edge, point);
-    }
-    let next = edge.next();
-    let prev = edge.prev();
-    if side(edge, point) == Side::On {
-        return Some(on_line_of(edge, point));
-    }
-    if side(next, point) == Side::On {
-        return Some(on_line_of(next, point));
-    }
-    if side(prev, point) == Side::On {
-        return Some(on_line_of(prev, point));
-    }
-    inside(dcel, edge, point)
-}
-
-/// Returns a place outside of the hull if the half edge lies on the outer face and has the point on
-/// its left.
-pub(crate) fn outside<A: Allocator>(
-    edge: Edge<'_, A>,
-    point: Point,
-) -> Option<PositionInTriangulation>
-    requires { IsLive (mesh_behind edge).shape (number_of edge) }
-    ensures { IfSome result (IsPlace (mesh_behind edge.entry) point) }
-{
-    if !edge.is_outer_edge() {
-        return None;
-    }
-    if !has_left(edge, point) {
-        return None;
-    }
-    Some(PositionInTriangulation::OutsideOfConvexHull(edge.fix()))
-}
-
-/// Returns where a point lies that is on a half edge, or at one of its ends.
-fn on_line_of<A: Allocator>(edge: Edge<'_, A>, point: Point) -> PositionInTriangulation
-    requires live { IsLive (mesh_behind edge).shape (number_of edge) }
-    requires on { IsOnLine (mesh_behind edge) point (number_of edge) }
-    ensures { IsPlace (mesh_behind edge.entry) point result }
-{
-    if stands_at(edge.from(), point) {
-        return PositionInTriangulation::OnVertex(edge.from().fix());
-    }
-    if stands_at(edge.to(), point) {
-        return PositionInTriangulation::OnVertex(edge.to().fix());
-    }
-    PositionInTriangulation::OnEdge(edge.fix())
-}
-
-/// Returns the triangle of a half edge, if a point lies inside of it.
-fn inside<A: Allocator>(
-    dcel: &Mesh<A>,
-    edge: Edge<'_, A>,
-    point: Point,
-) -> Option<PositionInTriangulation>
-    requires mesh { mesh_behind edge ≡ dcel.now }
-    requires live { IsLive (mesh_behind edge).shape (number_of edge) }
-    ensures { IfSome result (IsPlace dcel.now point) }
+    requires live { IsLive dcel.now.shape (number_of edge) }
+    requires inner { 0 < face_of dcel.now.shape (number_of edge) }
+    ensures { (p : Point) → AreSides dcel.now p (number_of edge.entry) own after before → IsPlace dcel.now p result }
 {
     every_mesh(dcel);
-    let face = edge.face().as_inner()?.fix();
-    if !dcel.is_triangle(face) {
-        return None;
+    match (is_on(own), is_on(after), is_on(before)) {
+        (true, true, _) => PositionInTriangulation::OnVertex(edge.to().fix()),
+        (true, _, true) => PositionInTriangulation::OnVertex(edge.from().fix()),
+        (_, true, true) => PositionInTriangulation::OnVertex(edge.prev().from().fix()),
+        (true, false, false) => PositionInTriangulation::OnEdge(edge.fix()),
+        (false, true, false) => PositionInTriangulation::OnEdge(edge.next().fix()),
+        (false, false, true) => PositionInTriangulation::OnEdge(edge.prev().fix()),
+        (false, false, false) => PositionInTriangulation::OnFace(inner_face(edge)),
     }
-    if !has_left(edge, point) {
-        return None;
-    }
-    if !has_left(edge.next(), point) {
-        return None;
-    }
-    if !has_left(edge.prev(), point) {
-        return None;
-    }
-    Some(PositionInTriangulation::OnFace(face))
+}
+
+/// Returns the triangle of a half edge.
+#[inline]
+fn inner_face<A: Allocator>(edge: Edge<'_, A>) -> FixedFaceHandle<InnerTag>
+    requires live { IsLive (mesh_behind edge).shape (number_of edge) }
+    requires inner { 0 < face_of (mesh_behind edge).shape (number_of edge) }
+    ensures { result ≡ face_of (mesh_behind edge.entry).shape (number_of edge.entry) }
+{
+    edge.face().as_inner().unwrap().fix()
 }

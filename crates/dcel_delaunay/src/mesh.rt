@@ -1,11 +1,10 @@
 //! The mesh of a triangulation.
 
 ghost use Rattle.std.specs.Prelude.{◌≡◌, ◌↔◌, IsTrue};
-ghost use Rattle.std.specs.Bool.{OnTrue};
 ghost use Rattle.spade_dcel.specs.Handles.{mesh_behind, number_of};
 ghost use Rattle.dcel_maps.specs.Shapes.{IsLive};
 ghost use Rattle.dcel_plane.specs.Plane.{point_at};
-ghost use Rattle.dcel_delaunay.specs.Places.{HasLeft, HasPoint, IsOnLine};
+ghost use Rattle.dcel_delaunay.specs.Places.{HasLeft, HasPoint, IsOnLine, LiesAt};
 
 use dcel_predicates::{Point, Side, orientation};
 use spade_dcel::dcel::Dcel;
@@ -35,23 +34,31 @@ pub(crate) fn side<A: Allocator>(edge: Edge<'_, A>, point: Point) -> Side
     requires { IsLive (mesh_behind edge).shape (number_of edge) }
     ensures left { (result ≡ Side.Left) ↔ HasLeft (mesh_behind edge.entry) point (number_of edge.entry) }
     ensures on { (result ≡ Side.On) ↔ IsOnLine (mesh_behind edge.entry) point (number_of edge.entry) }
+    ensures lies { LiesAt (mesh_behind edge.entry) point (number_of edge.entry) result }
 {
     orientation(point_of(edge.from()), point_of(edge.to()), point)
 }
 
-/// Returns whether a point lies on the left of a half edge.
+/// Returns whether it is the line itself.
 #[inline]
-pub(crate) fn has_left<A: Allocator>(edge: Edge<'_, A>, point: Point) -> bool
-    requires { IsLive (mesh_behind edge).shape (number_of edge) }
-    ensures { IsTrue result ↔ HasLeft (mesh_behind edge.entry) point (number_of edge.entry) }
+pub(crate) fn is_on(side: Side) -> bool
+    ensures { IsTrue result ↔ (side ≡ Side.On) }
 {
-    side(edge, point) == Side::Left
+    side == Side::On
+}
+
+/// Returns whether it is the right one.
+#[inline]
+pub(crate) fn is_right(side: Side) -> bool
+    ensures { IsTrue result ↔ (side ≡ Side.Right) }
+{
+    side == Side::Right
 }
 
 /// Returns whether a point is where a vertex stands.
 #[inline]
 pub(crate) fn stands_at<A: Allocator>(vertex: Vertex<'_, A>, point: Point) -> bool
-    ensures { OnTrue result (HasPoint (mesh_behind vertex.entry) point (number_of vertex.entry)) }
+    ensures { IsTrue result ↔ HasPoint (mesh_behind vertex.entry) point (number_of vertex.entry) }
 {
     let own = *vertex.data();
     if own.x != point.x {

@@ -1,19 +1,21 @@
-//! Points inserted one after another, and located.
+//! What a triangulation of points offers: its mesh, points located, and points inserted one after
+//! another.
 
-ghost use Rattle.std.specs.Prelude.{◌≡◌, ◌↔◌, ℕ, ◌<◌, ◌≤◌, [], IfErr, IfOk, IfSome, IsTrue, OnOk};
+ghost use Rattle.std.specs.Prelude.{◌≡◌, ◌↔◌, ℕ, ◌<◌, ◌≤◌, [], IfErr, IfOk, IsTrue, OnOk};
 ghost use Rattle.dcel_maps.specs.Conditions.{IsUnconnected};
 ghost use Rattle.dcel_maps.specs.Removals.{Closed};
+ghost use Rattle.dcel_maps.specs.Shapes.{face_count};
 ghost use Rattle.dcel_maps.specs.Triangulations.{AllTriangles};
 ghost use Rattle.dcel_plane.specs.Plane.{IsDelaunay, point_at};
 ghost use Rattle.dcel_delaunay.specs.Places.{IsPlace};
-ghost use Rattle.dcel_delaunay.specs.Triangulated.{IsWhole, Stays, Takes, mesh_in};
+ghost use Rattle.dcel_delaunay.specs.Triangulated.{CirclesAreEmpty, FacesAreApart, GoesRoundHull, HullIsCovered, IsWhole, PointsAreSingle, Stays, Takes, mesh_in};
 
 use crate::closing::close_hull;
 use crate::errors::InsertionError;
+use crate::inserting::insert_at;
 use crate::legalizing::legalize;
 use crate::locating::locate;
 use crate::mesh::Mesh;
-use crate::placing::insert_at;
 use crate::position::PositionInTriangulation;
 use crate::triangulation::Triangulation;
 use dcel_predicates::Point;
@@ -41,13 +43,33 @@ impl<A: Allocator + Clone> Triangulation<A> {
 impl<A: Allocator> Triangulation<A> {
     /// Lends the mesh.
     ///
-    /// Each vertex has its point as datum. The mesh is Delaunay if the triangulation is whole.
+    /// Each vertex has its point as datum, each inner face is a triangle, and once there are two
+    /// vertices each has an edge. If the triangulation is whole ([`is_whole`](Self::is_whole)), the
+    /// mesh is a Delaunay triangulation of its points:
+    ///
+    /// * `delaunay`: the inner faces go round counterclockwise, and no edge between two of them is to
+    ///   be flipped.
+    /// * `circles`: no vertex lies inside the circle of any inner face.
+    /// * `apart`: no place lies inside two inner faces.
+    /// * `covers`: each place that no half edge of the outer face has on its left lies in an inner
+    ///   face or on its border, if there is an inner face.
+    /// * `single`: no two vertices stand at one point.
+    /// * `hull`: no vertex lies on the left of a half edge of the outer face, nor on it between its
+    ///   ends, and once there is an inner face, the outer face passes no vertex twice.
+    ///
+    /// While all points stand on one line there is no inner face, and each edge joins two
+    /// neighbors.
     pub fn dcel(&self) -> &Mesh<A>
         ensures mesh { result.now ≡ mesh_in self.now }
         ensures closed { (mesh_in self.now).shape.removal ≡ Closed }
         ensures triangles { AllTriangles (mesh_in self.now).shape }
         ensures joined { (v : ℕ) → 1 < (mesh_in self.now).shape.vertices → ¬ IsUnconnected (mesh_in self.now).shape v }
         ensures delaunay { IsWhole self.now → IsDelaunay (point_at (mesh_in self.now)) (mesh_in self.now).shape }
+        ensures circles { IsWhole self.now → CirclesAreEmpty (mesh_in self.now) }
+        ensures apart { IsWhole self.now → FacesAreApart (mesh_in self.now) }
+        ensures covers { IsWhole self.now → 1 < face_count (mesh_in self.now).shape → HullIsCovered (mesh_in self.now) }
+        ensures single { IsWhole self.now → PointsAreSingle (mesh_in self.now) }
+        ensures hull { IsWhole self.now → GoesRoundHull (mesh_in self.now) }
     {
         every_mesh(&self.dcel);
         &self.dcel
@@ -62,11 +84,12 @@ impl<A: Allocator> Triangulation<A> {
 
     /// Returns where a point lies.
     ///
-    /// The walk begins at the vertex that the last insertion returned, and takes at most as many
-    /// steps as there are half edges, which is enough in a Delaunay triangulation. Returns `None`
-    /// if it did not arrive.
-    pub fn locate(&self, point: Point) -> Option<PositionInTriangulation>
-        ensures { IfSome result (IsPlace (mesh_in self.now) point) }
+    /// Asks for a whole triangulation ([`is_whole`](Self::is_whole)): where memory ran out,
+    /// [`finish`](Self::finish) makes it so. The walk begins at the vertex that the last insertion
+    /// returned.
+    pub fn locate(&self, point: Point) -> PositionInTriangulation
+        requires whole { IsWhole self.now }
+        ensures { IsPlace (mesh_in self.now) point result }
     {
         locate(&self.dcel, self.last, point)
     }
@@ -84,17 +107,18 @@ impl<A: Allocator> Triangulation<A> {
     {
         self.finish()?;
         every_mesh(&self.dcel);
-        let Some(position) = locate(&self.dcel, self.last, point) else {
-            return Err(InsertionError::Lost);
-        };
+        let position = locate(&self.dcel, self.last, point);
         let vertex = insert_at(&mut self.dcel, &mut self.due, position, point)?;
         self.begin_at(vertex);
         Ok(vertex)
     }
 
-    /// Does what an insertion left undone for want of memory.
+    /// Does what an insertion left undone for want of memory. A whole triangulation
+    /// ([`is_whole`](Self::is_whole)) stays as it is.
     ///
-    /// If memory runs out again, what is done so far stays. The vertices stay in any case.
+    /// If memory runs out again, or there is no number left for an edge, the result is
+    /// [`OutOfMemory`](InsertionError::OutOfMemory), and what is done so far stays. The vertices stay
+    /// in any case.
     pub fn finish(&mut self) -> Result<(), InsertionError>
         ensures points { (mesh_in self.new).vertex_data ≡ (mesh_in self.old).vertex_data }
         ensures whole { OnOk result (IsWhole self.new) }
@@ -105,12 +129,12 @@ impl<A: Allocator> Triangulation<A> {
         if self.due.is_empty() {
             return Ok(());
         }
-        if close_hull(&mut self.dcel, &mut self.due).is_err() {
+        let Ok(()) = close_hull(&mut self.dcel, &mut self.due) else {
             return Err(InsertionError::OutOfMemory);
-        }
-        if legalize(&mut self.dcel, &mut self.due).is_err() {
+        };
+        let Ok(()) = legalize(&mut self.dcel, &mut self.due) else {
             return Err(InsertionError::OutOfMemory);
-        }
+        };
         Ok(())
     }
 

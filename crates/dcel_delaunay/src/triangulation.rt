@@ -1,6 +1,6 @@
 //! A triangulation of points.
 
-ghost use Rattle.dcel_delaunay.specs.Growing.{IsUnderWay};
+ghost use Rattle.dcel_delaunay.specs.Growing.{IsSound, IsUnderWay};
 
 use crate::mesh::Mesh;
 use spade_dcel::handles::{FixedDirectedEdgeHandle, FixedUndirectedEdgeHandle};
@@ -8,9 +8,13 @@ use std::alloc::{Allocator, Global};
 
 /// A Delaunay triangulation of points.
 ///
-/// Its mesh has a vertex for each point. The inner faces are triangles that go round
-/// counterclockwise, and the outer face lies around the hull. While all points stand on one line,
-/// the mesh is a path along it.
+/// Its mesh ([`dcel`](Self::dcel)) has a vertex for each point. The inner faces are triangles that
+/// go round counterclockwise, and the outer face goes round their convex hull. While all points
+/// stand on one line, the mesh is a path along it, without triangles.
+///
+/// That is so of each whole triangulation ([`is_whole`](Self::is_whole)). One that is not whole,
+/// as memory ran out in an insertion, has a vertex for each point too, and
+/// [`finish`](Self::finish) makes it whole.
 #[derive(Drop)]
 pub struct Triangulation<A: Allocator = Global> {
     pub(crate) dcel: Mesh<A>,
@@ -18,5 +22,6 @@ pub struct Triangulation<A: Allocator = Global> {
     pub(crate) last: FixedDirectedEdgeHandle,
     // Edges that are still to be looked at: none, unless memory ran out.
     pub(crate) due: Vec<FixedUndirectedEdgeHandle, A>,
-    ghost under_way: { IsUnderWay dcel due.items },
+    ghost sound: { IsSound dcel due.items },
+    ghost under_way: { ∥ IsUnderWay dcel due.items ∥₁ },
 }

@@ -1,6 +1,6 @@
 -- Which sides lead back, and which are the first of their edges.
-use Rattle.std.proofs.Common.{◌≡◌, ◌⊎◌, inl, inr, ℕ, zero, suc, ◌+◌, ◌<◌, ◌≤◌, ◌==◌, Bool, true, false, List, slice_index, unwrap_or, Option, Some, None, refl, sym, ap, ◌∙◌, subst, eq-eqb, arith}
-use Rattle.std.proofs.lemmas.Bool.{and_from, and_parts, cases_Bool, cases_eq, cases_lt, eqb-true, false≢true, not_from_false, not_from_true, or_cases, or_left, or_right}
+use Rattle.std.proofs.Common.{◌≡◌, inl, inr, ℕ, zero, suc, ◌+◌, ◌<◌, ◌≤◌, ◌==◌, Bool, true, false, List, slice_index, unwrap_or, Option, Some, None, refl, sym, ap, ◌∙◌, subst, eq-eqb, arith}
+use Rattle.std.proofs.lemmas.Bool.{and_from, and_parts, cases_Bool, cases_lt, eqb-true, false≢true, not_from_false, not_from_true}
 use Rattle.dcel_maps.specs.Maps.{any_below, count}
 use Rattle.dcel_maps.proofs.maps.Counts.{any_below_cases, any_below_from}
 use Rattle.dcel_exchange.specs.Corners.{LeadsBack, is_first, leads_back}

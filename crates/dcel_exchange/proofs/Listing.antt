@@ -1,7 +1,6 @@
 -- The links of a mesh in which no removal is open, one after another.
-use Rattle.std.proofs.Common.{◌≡◌, ◌∙◌, ℕ, ◌-◌, ◌*◌, ◌/◌, ◌<◌, List, [], ◌∷◌, ◌++◌, length, map, slice_index, refl, sym, ap, arith}
-use Rattle.std.proofs.lemmas.List.{append-nil, append_assoc, ext_get_or, length-map}
-use Rattle.std.proofs.lemmas.List.FromFn.{get_or-map-range_with_len}
+use Rattle.std.proofs.Common.{◌≡◌, ◌∙◌, ℕ, ◌*◌, ◌<◌, List, [], ◌∷◌, ◌++◌, map, refl, sym, ap, arith}
+use Rattle.std.proofs.lemmas.List.{append-nil, ext_get_or}
 use Rattle.std.proofs.lemmas.List.Elements.{All-head, All-tail}
 use Rattle.std.specs.List.{All}
 use Rattle.dcel_exchange.specs.Links.{link_of}
@@ -11,10 +10,10 @@ use Rattle.dcel_links.specs.Meshes.{IsLinked}
 use Rattle.dcel_maps.specs.Kinds.{DirectedEdges}
 use Rattle.dcel_maps.specs.Numbers.{numbers_between}
 use Rattle.dcel_maps.specs.Removals.{Closed}
-use Rattle.dcel_maps.specs.Shapes.{IsLive, IsMesh, Mesh, Shape, face_count, face_of, next_of, origin_of}
+use Rattle.dcel_maps.specs.Shapes.{IsMesh, Mesh, Shape, face_count, face_of, next_of, origin_of}
 use Rattle.dcel_maps.specs.Walking.{in_mesh}
-use Rattle.dcel_maps.proofs.Liveness.{closed-live, closed-half_live}
-use Rattle.dcel_maps.proofs.walks.Numbers.{length-numbers, numbers-below, length-listed, listed, listed-at}
+use Rattle.dcel_maps.proofs.Liveness.{closed-half_live}
+use Rattle.dcel_maps.proofs.walks.Numbers.{numbers-below, length-listed, listed, listed-at}
 use Rattle.spade_dcel.specs.Live.{live_ones}
 
 module _ {V DE UE F : Type 0} (m : Mesh V DE UE F) (closed : m.shape.removal ≡ Closed) where

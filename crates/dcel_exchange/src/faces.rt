@@ -1,6 +1,6 @@
 //! A mesh made of faces with their corners.
 
-ghost use Rattle.std.specs.Prelude.{◌≡◌, ◌+◌, ◌/◌, All, IfErr, IfOk, length};
+ghost use Rattle.std.specs.Prelude.{◌≡◌, ◌+◌, ◌/◌, All, IfErr, IfOk, length, map};
 ghost use Rattle.dcel_exchange.specs.Corners.{corners_of};
 ghost use Rattle.dcel_exchange.specs.Defaults.{HasDefaults};
 ghost use Rattle.dcel_exchange.specs.Links.{lists_claim};
@@ -19,6 +19,7 @@ use spade_dcel::dcel::Dcel;
 use spade_dcel::laws::the_headline;
 use spade_dcel::operations::{EdgeData, LinksError, MeshData, from_links};
 use std::alloc::{AllocError, Allocator};
+use std::convert::AsSlice;
 
 /// Makes a mesh of faces, each the list of its corners, counterclockwise.
 ///
@@ -60,6 +61,64 @@ pub fn from_faces<
     ensures simple { IfOk result (λ dcel. IsSimple dcel.shape) }
     ensures reason { IfErr result (λ refused. Means (length vertices.items) (corners_of faces.now) refused.reason) }
     ensures left { IfErr result (λ refused. Leaves V DE UE F (length vertices.items) (corners_of faces.now) refused.reason) }
+    ensures back { IfErr result (λ refused. refused.back ≡ vertices) }
+{
+    from_lists(alloc, vertices, faces)
+}
+
+/// Makes a mesh of triangles, each its three corners, counterclockwise, as [`from_faces`] does of
+/// the same faces.
+pub fn from_triangles<
+    V: Drop,
+    DE: Drop + Default,
+    UE: Drop + Default,
+    F: Drop + Default,
+    A: Allocator + Clone,
+>(
+    alloc: A,
+    vertices: Vec<V, A>,
+    triangles: &[[u32; 3]],
+) -> Result<Dcel<V, DE, UE, F, A>, RefusedFaces<Vec<V, A>>>
+    ensures faces { IfOk result (λ dcel. HasFaces dcel.shape (length vertices.items) triangles.now) }
+    ensures vertices { IfOk result (λ dcel. dcel.vertex_data ≡ vertices.items) }
+    ensures half_data { IfOk result (λ dcel. All DE.is_default dcel.directed_data) }
+    ensures edge_data { IfOk result (λ dcel. All UE.is_default dcel.undirected_data) }
+    ensures face_data { IfOk result (λ dcel. All F.is_default dcel.face_data) }
+    ensures closed { IfOk result (λ dcel. dcel.shape.removal ≡ Closed) }
+    ensures mesh { IfOk result IsMesh }
+    ensures corners { IfOk result (λ dcel. HasCorners dcel.shape (length vertices.items) triangles.now) }
+    ensures simple { IfOk result (λ dcel. IsSimple dcel.shape) }
+    ensures reason { IfErr result (λ refused. Means (length vertices.items) triangles.now refused.reason) }
+    ensures left { IfErr result (λ refused. Leaves V DE UE F (length vertices.items) triangles.now refused.reason) }
+    ensures back { IfErr result (λ refused. refused.back ≡ vertices) }
+{
+    from_lists(alloc, vertices, triangles)
+}
+
+// Makes a mesh of faces in whatever lends their corners.
+fn from_lists<
+    V: Drop,
+    DE: Drop + Default,
+    UE: Drop + Default,
+    F: Drop + Default,
+    A: Allocator + Clone,
+    S: AsSlice<u32>,
+>(
+    alloc: A,
+    vertices: Vec<V, A>,
+    faces: &[S],
+) -> Result<Dcel<V, DE, UE, F, A>, RefusedFaces<Vec<V, A>>>
+    ensures faces { IfOk result (λ dcel. HasFaces dcel.shape (length vertices.items) (map S.items faces.now)) }
+    ensures vertices { IfOk result (λ dcel. dcel.vertex_data ≡ vertices.items) }
+    ensures half_data { IfOk result (λ dcel. All DE.is_default dcel.directed_data) }
+    ensures edge_data { IfOk result (λ dcel. All UE.is_default dcel.undirected_data) }
+    ensures face_data { IfOk result (λ dcel. All F.is_default dcel.face_data) }
+    ensures closed { IfOk result (λ dcel. dcel.shape.removal ≡ Closed) }
+    ensures mesh { IfOk result IsMesh }
+    ensures corners { IfOk result (λ dcel. HasCorners dcel.shape (length vertices.items) (map S.items faces.now)) }
+    ensures simple { IfOk result (λ dcel. IsSimple dcel.shape) }
+    ensures reason { IfErr result (λ refused. Means (length vertices.items) (map S.items faces.now) refused.reason) }
+    ensures left { IfErr result (λ refused. Leaves V DE UE F (length vertices.items) (map S.items faces.now) refused.reason) }
     ensures back { IfErr result (λ refused. refused.back ≡ vertices) }
 {
     let links = match link_faces(&alloc, vertices.len(), faces) {
@@ -105,13 +164,13 @@ fn reason_of(reason: LinksError) -> FacesError
 }
 
 /// Lists the links of the half edges of these faces and of the border that they leave.
-fn link_faces<A: Allocator + Clone, B: Allocator>(
+fn link_faces<A: Allocator + Clone, S: AsSlice<u32>>(
     alloc: &A,
     vertices: usize,
-    faces: &[Vec<u32, B>],
+    faces: &[S],
 ) -> Result<LinkLists<A>, FacesError>
-    ensures links { IfOk result (λ links. AreLinks vertices (corners_of faces.now) (lists_claim links vertices (length faces.now + 1))) }
-    ensures reason { IfErr result (Means vertices (corners_of faces.now)) }
+    ensures links { IfOk result (λ links. AreLinks vertices (map S.items faces.now) (lists_claim links vertices (length faces.now + 1))) }
+    ensures reason { IfErr result (Means vertices (map S.items faces.now)) }
 {
     let sides = list_sides(alloc, faces)?;
     check_ends(&sides, vertices)?;

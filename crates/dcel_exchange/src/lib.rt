@@ -1,9 +1,9 @@
 //! Meshes in and out: as lists of links, and as faces with their corners.
 //!
 //! [`links`], [`link_lists`] and [`anchor_lists`] give what `from_links` and `from_anchored_links`
-//! of `spade_dcel` take, and [`with_data`] makes the same mesh again over other data. [`from_faces`] makes a mesh
-//! of faces that are given as lists of vertices, and [`face_corners`] and [`face_lists`] give
-//! these.
+//! of `spade_dcel` take, and [`with_data`] makes the same mesh again over other data.
+//! [`from_faces`] makes a mesh of faces that are given as lists of vertices, [`from_triangles`] of
+//! triangles, and [`face_corners`] and [`face_lists`] give the faces of a mesh.
 #![tactic(auto)]
 
 mod chains;
@@ -17,7 +17,7 @@ mod sides;
 mod steps;
 
 pub use corners::{CornerIterator, FaceIterator, face_corners, face_lists};
-pub use faces::from_faces;
+pub use faces::{from_faces, from_triangles};
 pub use lists::{AnchorLists, LinkLists, anchor_lists, link_lists, with_data};
 pub use refusal::{FacesError, RefusedFaces};
 pub use steps::{Link, LinkIterator, links};

@@ -1,12 +1,13 @@
 //! The sides of all faces in one row, face by face.
 
-ghost use Rattle.std.specs.Prelude.{◌≡◌, ◌≢◌, ℕ, ◌+◌, ◌^◌, ◌<◌, ◌≤◌, ◌++◌, IfErr, IfOk, OnOk, length, replicate, slice_index};
-ghost use Rattle.dcel_exchange.specs.Corners.{AreSides, corners_of, turned};
+ghost use Rattle.std.specs.Prelude.{◌≡◌, ◌≢◌, ℕ, ◌+◌, ◌^◌, ◌<◌, ◌≤◌, ◌++◌, IfErr, IfOk, OnOk, length, map, replicate, slice_index};
+ghost use Rattle.dcel_exchange.specs.Corners.{AreSides, turned};
 ghost use Rattle.dcel_exchange.specs.Reasons.{Means, Tells};
 ghost use Rattle.dcel_maps.specs.Numbers.{numbers_between};
 
 use crate::refusal::FacesError;
 use std::alloc::{AllocError, Allocator};
+use std::convert::AsSlice;
 
 // The most corners that there may be, so that half edges have numbers below 2^32.
 const MOST: usize = 2_147_483_648;
@@ -26,12 +27,12 @@ pub(crate) struct Sides<A: Allocator> {
 }
 
 /// Lists the sides of all faces.
-pub(crate) fn list_sides<A: Allocator + Clone, B: Allocator>(
+pub(crate) fn list_sides<A: Allocator + Clone, S: AsSlice<u32>>(
     alloc: &A,
-    faces: &[Vec<u32, B>],
+    faces: &[S],
 ) -> Result<Sides<A>, FacesError>
-    ensures sides { IfOk result (λ sides. AreSides (corners_of faces.now) sides.from.items sides.to.items sides.face.items sides.after.items) }
-    ensures reason { (vertices : ℕ) → IfErr result (Means vertices (corners_of faces.now)) }
+    ensures sides { IfOk result (λ sides. AreSides (map S.items faces.now) sides.from.items sides.to.items sides.face.items sides.after.items) }
+    ensures reason { (vertices : ℕ) → IfErr result (Means vertices (map S.items faces.now)) }
 {
     let mut sides = Sides {
         from: Vec::new(alloc.clone()?),

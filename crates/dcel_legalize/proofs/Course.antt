@@ -11,7 +11,8 @@ use Rattle.dcel_legalize.specs.declared.legalized.Legalized.TheVariants.{Done, S
 use Rattle.dcel_legalize.proofs.Runs.{at_limit, few, in_turn, settled-is, without_memory}
 
 module _ {V DE UE F : Type 0} where
-  flipped-append : (m : Mesh V DE UE F) (us vs : List ℕ) → edges_flipped m (us ++ vs) ≡ edges_flipped (edges_flipped m us) vs
+  -- some flips and then others
+  pub flipped-append : (m : Mesh V DE UE F) (us vs : List ℕ) → edges_flipped m (us ++ vs) ≡ edges_flipped (edges_flipped m us) vs
   flipped-append m [] vs = refl
   flipped-append m (u ∷ us) vs = flipped-append (edge_flipped m u) us vs
 

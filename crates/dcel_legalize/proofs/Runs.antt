@@ -9,7 +9,7 @@ use Rattle.dcel_maps.specs.Words.{count_of}
 use Rattle.dcel_maps.proofs.edits.Flips.{flipped_mesh}
 use Rattle.dcel_maps.proofs.lists.Growing.{flip_listed}
 use Rattle.dcel_maps.proofs.maps.Lists.{comes_then, extends_same}
-use Rattle.dcel_maps.proofs.words.Counts.{count-append, first_or_later, in_either, last_or_before}
+use Rattle.dcel_maps.proofs.words.Counts.{count-append, in_either, last_or_before}
 use Rattle.dcel_legalize.specs.Flipping.{EachInTurn, Ending, Follows, IsDue, IsOffered, IsSettled, IsTurn, SomeDue, edges_beside, edges_flipped}
 use Rattle.dcel_legalize.specs.Flipping.Ending.{Settled, AtLimit, NoMemory}
 use Rattle.dcel_legalize.specs.Flipping.Follows.{settles, skips, stops, gives_up, flips}

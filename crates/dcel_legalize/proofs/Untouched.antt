@@ -1,29 +1,22 @@
 -- Whether an edge can be flipped and is wanted rests on its two faces alone: a flip leaves that as it was for each edge that lies on none
 -- of the two faces of the flipped one.
-use Rattle.std.proofs.Common.{◌≡◌, ◌≢◌, ◌⊎◌, inl, inr, ℕ, ◌+◌, ◌*◌, ◌/◌, ◌<◌, Bool, true, List, [], ◌∷◌, length, slice_set, refl, sym, ap, ◌∙◌, subst, arith}
-use Rattle.std.proofs.lemmas.List.{get_or-set_other, get_or-set_same, length-set}
-use Rattle.dcel_fixed.proofs.Halves.{rev-double}
+use Rattle.std.proofs.Common.{◌≡◌, ◌≢◌, ◌⊎◌, inl, inr, ℕ, ◌+◌, ◌*◌, ◌/◌, ◌<◌, Bool, true, List, [], ◌∷◌, length, refl, sym, ap, ◌∙◌, subst, arith}
 use Rattle.dcel_maps.specs.Conditions.{CanFlip, IsTriangle}
 use Rattle.dcel_maps.specs.Cyclic.{from_least}
 use Rattle.dcel_maps.specs.edits.Flip.{edge_flipped}
 use Rattle.dcel_maps.specs.Maps.{Map}
-use Rattle.dcel_maps.specs.theory.Sound.{Sound}
-use Rattle.dcel_maps.specs.theory.Standing.{Stands}
 use Rattle.dcel_maps.specs.Shapes.{IsLive, IsMesh, Mesh, Shape, face_count, face_of, map_of, next_of, origin_of, prev_of}
 use Rattle.dcel_maps.specs.Removals.{gives_up_face, is_live}
 use Rattle.dcel_maps.specs.Words.{count_of, prev_in_word, word_of}
 use Rattle.dcel_maps.proofs.Liveness.{even_live, odd_live}
 use Rattle.dcel_maps.proofs.edits.Around.{at_edge, known}
-use Rattle.dcel_maps.proofs.edits.Changes.{edit_makes_mesh}
 use Rattle.dcel_maps.proofs.edits.Flips.{at_flip, flipped_mesh}
-use Rattle.dcel_maps.proofs.edits.Linking.{triangle_of}
-use Rattle.dcel_maps.proofs.maps.Triangles.{IsTriangleOf, by_triangle, facing_differ, off_triangle}
-use Rattle.dcel_maps.proofs.shapes.Maps.{map-sound}
-use Rattle.dcel_maps.proofs.walks.Links.{links_stand, prev-said}
-use Rattle.dcel_maps.proofs.words.Counts.{count-equal, count-later, count-same, first_or_later}
+use Rattle.dcel_maps.proofs.maps.Triangles.{IsTriangleOf, by_triangle, off_triangle}
+use Rattle.dcel_maps.proofs.walks.Links.{prev-said}
+use Rattle.dcel_maps.proofs.words.Counts.{count-equal, first_or_later}
 use Rattle.dcel_maps.proofs.words.EachSet.{first-two_set, length-two_set, other-two_set, second-two_set}
 use Rattle.dcel_maps.proofs.words.Mapped.{count-at}
-use Rattle.dcel_maps.proofs.words.Reading.{face-next, face_in_word, says, stands_in_face, face-prev}
+use Rattle.dcel_maps.proofs.words.Reading.{face_in_word, stands_in_face, face-prev}
 use Rattle.dcel_maps.proofs.words.Triangles.{triangle_read}
 use Rattle.dcel_legalize.specs.Flipping.{IsDue, LiesBeside, edges_beside}
 

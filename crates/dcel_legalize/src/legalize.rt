@@ -1,13 +1,14 @@
 //! Legalization by a test that the caller passes: one flip after another, from a list of edges.
 
-ghost use Rattle.std.specs.Prelude.{◌≡◌, ◌+◌, ◌≤◌, ◌↔◌, ◌++◌, ℕ, Bool, List, IsTrue, true, vec_len, vec_capacity};
+ghost use Rattle.std.specs.Prelude.{◌≡◌, ◌↔◌, ℕ, Bool, List, IsTrue, true};
 ghost use Rattle.std.specs.Fn.{FnReturnsAt};
-ghost use Rattle.dcel_legalize.specs.Flipping.{AnswersAs, AreVertices, IsDue, corners_of, edges_beside};
+ghost use Rattle.dcel_legalize.specs.Flipping.{AnswersAs, AreVertices, IsDue, corners_of};
 ghost use Rattle.dcel_legalize.specs.Outcome.{IsLegalized, flips_told};
 ghost use Rattle.dcel_maps.specs.Conditions.{CanFlip};
 ghost use Rattle.dcel_maps.specs.EditLists.{EditedBy, flip_edits};
 ghost use Rattle.dcel_maps.specs.Shapes.{IsMesh, edge_is_live};
 
+use crate::beside::append_beside;
 use crate::legalized::Legalized;
 use spade_dcel::dcel::Dcel;
 use spade_dcel::handles::{FixedUndirectedEdgeHandle, FixedVertexHandle};
@@ -104,23 +105,4 @@ fn corners_round<V, DE, UE, F, A: Allocator>(
         half.prev().from().fix(),
         half.rev().prev().from().fix(),
     ]
-}
-
-// Appends the flipped edge too: between its new ends, `wanted` may want it flipped again.
-fn append_beside<V, DE, UE, F, A: Allocator, L: Allocator>(
-    dcel: &Dcel<V, DE, UE, F, A>,
-    edge: FixedUndirectedEdgeHandle,
-    list: &mut Vec<FixedUndirectedEdgeHandle, L>,
-)
-    requires live { edge_is_live dcel.now.shape edge ≡ true }
-    requires room { vec_len list.old + 5 ≤ vec_capacity list.old }
-    ensures { list.new.items ≡ list.old.items ++ edges_beside dcel.now.shape edge }
-{
-    let half = dcel.undirected_edge(edge).as_directed();
-    let facing = half.rev();
-    list.push_reserved(edge);
-    list.push_reserved(half.next().as_undirected().fix());
-    list.push_reserved(half.prev().as_undirected().fix());
-    list.push_reserved(facing.next().as_undirected().fix());
-    list.push_reserved(facing.prev().as_undirected().fix());
 }

@@ -19,7 +19,7 @@ use Rattle.dcel_maps.proofs.maps.Triangles.{IsApart, triangles_apart}
 use Rattle.dcel_maps.proofs.walks.Links.{half-below}
 use Rattle.dcel_maps.proofs.words.EachSet.{first-two_set, second-two_set}
 use Rattle.dcel_maps.proofs.words.Mapped.{count-at}
-use Rattle.dcel_plane.specs.Edges.{edges_round}
+use Rattle.dcel_plane.specs.Edges.{edges_of_flip}
 use Rattle.dcel_plane.specs.Plane.{IsCircled, IsInner, IsPlane, ListsCircled, TurnsLeft}
 use Rattle.dcel_plane.proofs.Corners.{LeftOf, corners_are, left-from_least, left_of_triangle, of_least}
 use Rattle.dcel_plane.proofs.Splits.{listed_as}
@@ -124,9 +124,9 @@ module _ {V DE UE F : Type 0} (m : Mesh V DE UE F) (mesh : IsMesh m) (u : ℕ) (
         )
         tt
 
-    pub flip_lists : (due : List ℕ) → ListsCircled at s due → ListsCircled at n (due ++ edges_round s u)
+    pub flip_lists : (due : List ℕ) → ListsCircled at s due → ListsCircled at n (due ++ edges_of_flip s u)
     flip_lists due lists =
-        let list = edges_round s u in
+        let list = edges_of_flip s u in
         let at_e = listed_as list e u (omega arith) (count-at list 4 0 (omega arith)) in
         let at_t = listed_as list t u (omega arith) (count-at list 4 0 (omega arith)) in
         written_lists at s n words origins flip_written mesh.sound list due (flipped_mesh m u mesh can).sound (

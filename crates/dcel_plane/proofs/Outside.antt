@@ -8,7 +8,7 @@ use Rattle.dcel_maps.specs.Words.{become, count_of, word_of}
 use Rattle.dcel_maps.proofs.edits.Patches.{Patch, pushing}
 use Rattle.dcel_maps.proofs.shapes.Maps.{map-sound}
 use Rattle.dcel_maps.proofs.words.Mapped.{count-at}
-use Rattle.dcel_plane.specs.Edges.{edges_beside, edges_closed}
+use Rattle.dcel_plane.specs.Edges.{edges_put_beside, edges_closed}
 use Rattle.dcel_plane.specs.Plane.{IsLeftOf, IsPlane, ListsCircled}
 use Rattle.dcel_plane.proofs.Corners.{corners_are, left-from_least, left_same, of_least, of_three}
 use Rattle.dcel_plane.proofs.Splits.{listed_as}
@@ -49,9 +49,9 @@ module _ {V DE UE F : Type 0} (m : Mesh V DE UE F) (mesh : IsMesh m) (e : ℕ) (
           tt,
         )
 
-    pub beside_lists : (due : List ℕ) → IsMesh (face_put_beside m e tip halves edges faces) → ListsCircled at s due → ListsCircled at r (due ++ edges_beside s e)
+    pub beside_lists : (due : List ℕ) → IsMesh (face_put_beside m e tip halves edges faces) → ListsCircled at s due → ListsCircled at r (due ++ edges_put_beside s e)
     beside_lists due result lists =
-        let list = edges_beside s e in
+        let list = edges_put_beside s e in
         let k = s.edges in
         let at_0 = listed_as list n k (omega arith) (count-at list 1 0 (omega arith)) in
         let at_2 = listed_as list (n + 2) (k + 1) (omega arith) (count-at list 2 0 (omega arith)) in

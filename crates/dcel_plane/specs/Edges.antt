@@ -22,16 +22,16 @@ abbrev pub edges_half_split : Shape → ℕ → List ℕ
 edges_half_split s e = next_of s e / 2 ∷ prev_of s e / 2 ∷ e / 2 ∷ s.edges ∷ (s.edges + 1) ∷ []
 
 -- `create_new_face_adjacent_to_edge`: the edge, and the two from its ends to the vertex
-abbrev pub edges_beside : Shape → ℕ → List ℕ
-edges_beside s e = e / 2 ∷ s.edges ∷ (s.edges + 1) ∷ []
+abbrev pub edges_put_beside : Shape → ℕ → List ℕ
+edges_put_beside s e = e / 2 ∷ s.edges ∷ (s.edges + 1) ∷ []
 
 -- `create_single_face_between_edge_and_next`: the two edges, and the new one
 abbrev pub edges_closed : Shape → ℕ → List ℕ
 edges_closed s e = e / 2 ∷ next_of s e / 2 ∷ s.edges ∷ []
 
 -- `flip_cw`: the other sides of both triangles, and the edge
-abbrev pub edges_round : Shape → ℕ → List ℕ
-edges_round s u =
+abbrev pub edges_of_flip : Shape → ℕ → List ℕ
+edges_of_flip s u =
     let e = 2 * u in
     let t = 2 * u + 1 in
     next_of s e / 2 ∷ prev_of s e / 2 ∷ next_of s t / 2 ∷ prev_of s t / 2 ∷ u ∷ []

@@ -17,7 +17,7 @@ ghost use Rattle.dcel_maps.specs.edits.Outside.{face_closed, face_put_beside};
 ghost use Rattle.dcel_maps.specs.edits.Split.{edge_split, half_edge_split};
 ghost use Rattle.dcel_maps.specs.edits.Triangle.{triangle_alone, vertex_inserted};
 ghost use Rattle.dcel_maps.specs.Shapes.{IsLive, IsMesh, Mesh, end_of, face_count, face_of, next_of, origin_of};
-ghost use Rattle.dcel_plane.specs.Edges.{edges_beside, edges_closed, edges_half_split, edges_inserted, edges_round, edges_split};
+ghost use Rattle.dcel_plane.specs.Edges.{edges_put_beside, edges_closed, edges_half_split, edges_inserted, edges_of_flip, edges_split};
 ghost use Rattle.dcel_plane.specs.Volume.{volume_below};
 ghost use Rattle.dcel_plane.specs.Plane.{IsCircled, IsDelaunay, IsInner, IsLeftOf, IsPlane, LiesAcross, LiesInside, ListsCircled, TurnsLeft, point_at};
 
@@ -107,7 +107,7 @@ pub fn triangles_beside_keep_the_plane<V, DE, UE, F>()
         → IsPlane at m.shape → IsPlane at (face_put_beside m e v halves edges faces).shape }
     ensures due { (at : ℕ → Point) (m : Mesh V DE UE F) (e v : ℕ) (halves : List DE) (edges : List UE) (faces : List F) (due : List ℕ)
         → IsMesh m → IsLive m.shape e → face_of m.shape e ≡ 0 → IsMesh (face_put_beside m e v halves edges faces)
-        → ListsCircled at m.shape due → ListsCircled at (face_put_beside m e v halves edges faces).shape (due ++ edges_beside m.shape e) }
+        → ListsCircled at m.shape due → ListsCircled at (face_put_beside m e v halves edges faces).shape (due ++ edges_put_beside m.shape e) }
 {}
 
 /// `create_single_face_between_edge_and_next` keeps a mesh in the plane if the next half edge ends
@@ -128,7 +128,7 @@ pub fn flips_keep_the_plane<V, DE, UE, F>()
     ensures plane { (at : ℕ → Point) (m : Mesh V DE UE F) (u : ℕ) → IsMesh m → IsInner m.shape u → IsCircled at m.shape u
         → IsPlane at m.shape → IsPlane at (edge_flipped m u).shape }
     ensures due { (at : ℕ → Point) (m : Mesh V DE UE F) (u : ℕ) (due : List ℕ) → IsMesh m → CanFlip m.shape u
-        → ListsCircled at m.shape due → ListsCircled at (edge_flipped m u).shape (due ++ edges_round m.shape u) }
+        → ListsCircled at m.shape due → ListsCircled at (edge_flipped m u).shape (due ++ edges_of_flip m.shape u) }
 {}
 
 /// Such a flip makes the volume less that lies below the mesh, lifted onto a paraboloid.

@@ -1,16 +1,19 @@
-//! Legalization by circles.
+//! Legalization by circles, and tests of whole meshes.
 
-use crate::places::three;
-use dcel_bench::checks::holds;
+use crate::places::{Place, points_at, three};
+use dcel_bench::checks::{holds, same};
 use dcel_bench::require;
-use dcel_circles::{is_circled, is_delaunay, is_plane, legalize_by_circles};
-use dcel_delaunay::{Point, point};
+use dcel_circles::{
+    is_circled, is_delaunay, is_delaunay_triangulation, is_plane, legalize_by_circles,
+};
+use dcel_delaunay::{Point, Triangulation, point};
+use dcel_exchange::from_faces;
 use spade_dcel::dcel::Dcel;
 use spade_dcel::handles::{FixedDirectedEdgeHandle, FixedUndirectedEdgeHandle};
 use spade_dcel::operations::{
     append_unconnected_vertex, create_new_face_adjacent_to_edge, new_triangle,
 };
-use std::alloc::Global;
+use std::alloc::{AllocError, Global};
 use std::test::Fail;
 
 /// Puts a triangle with this tip beside half edge 0.
@@ -48,4 +51,161 @@ fn flip(dcel: &mut Dcel<Point>, due: &mut Vec<FixedUndirectedEdgeHandle>) -> Res
 fn the_long_diagonal_is_flipped(rt: HostRuntime) -> Result<(), Fail> {
     let mut dcel = kite(rt.alloc())?;
     flip(&mut dcel, &mut Vec::new(rt.alloc()))
+}
+
+/// A mesh by the places of its vertices and the corners of its inner faces, whether it is Delaunay
+/// at its edges, and whether it is a Delaunay triangulation.
+#[derive(Clone, Copy, Drop)]
+struct Row {
+    places: &'static [Place],
+    faces: &'static [&'static [u32]],
+    at_edges: bool,
+    whole: bool,
+}
+
+const KITE: [Place; 4] = [(8, 0), (0, 0), (4, 2), (4, -2)];
+
+/// A corner of a triangle that goes round once and once more, with its middle first.
+const TWICE_ROUND: [Place; 7] = [
+    (0, 0),
+    (12, 0),
+    (-6, 10),
+    (-6, -10),
+    (12, 0),
+    (-6, 10),
+    (-6, -10),
+];
+
+const TRIANGULATIONS: [Row; 11] = [
+    // A triangle, and one that goes round clockwise.
+    Row {
+        places: &[(0, 0), (8, 0), (4, 2)],
+        faces: &[&[0, 1, 2]],
+        at_edges: true,
+        whole: true,
+    },
+    Row {
+        places: &[(0, 0), (4, 2), (8, 0)],
+        faces: &[&[0, 1, 2]],
+        at_edges: false,
+        whole: false,
+    },
+    // A vertex inside, one between the ends of a side, and one without an edge.
+    Row {
+        places: &[(0, 0), (12, 0), (6, 9), (6, 3)],
+        faces: &[&[0, 1, 3], &[1, 2, 3], &[2, 0, 3]],
+        at_edges: true,
+        whole: true,
+    },
+    Row {
+        places: &[(0, 0), (4, 0), (8, 0), (4, 4)],
+        faces: &[&[0, 1, 3], &[1, 2, 3]],
+        at_edges: true,
+        whole: true,
+    },
+    Row {
+        places: &[(0, 0), (8, 0), (4, 2), (4, 1)],
+        faces: &[&[0, 1, 2]],
+        at_edges: true,
+        whole: false,
+    },
+    // The diagonals of a kite.
+    Row {
+        places: &KITE,
+        faces: &[&[1, 0, 2], &[0, 1, 3]],
+        at_edges: false,
+        whole: false,
+    },
+    Row {
+        places: &KITE,
+        faces: &[&[2, 1, 3], &[3, 0, 2]],
+        at_edges: true,
+        whole: true,
+    },
+    // An outer face that turns left at a vertex.
+    Row {
+        places: &[(0, 0), (8, 0), (4, 2), (20, -1)],
+        faces: &[&[0, 1, 2], &[0, 3, 1]],
+        at_edges: true,
+        whole: false,
+    },
+    // Vertices at one point: a triangle that goes round its middle twice, and a square with a slit.
+    Row {
+        places: &TWICE_ROUND,
+        faces: &[
+            &[0, 1, 2],
+            &[0, 2, 3],
+            &[0, 3, 4],
+            &[0, 4, 5],
+            &[0, 5, 6],
+            &[0, 6, 1],
+        ],
+        at_edges: true,
+        whole: false,
+    },
+    Row {
+        places: &[(0, 0), (9, 0), (0, 9), (-9, 0), (0, -9), (9, 0)],
+        faces: &[&[0, 1, 2], &[0, 2, 3], &[0, 3, 4], &[0, 4, 5]],
+        at_edges: true,
+        whole: false,
+    },
+    // A face with four corners.
+    Row {
+        places: &[(0, 0), (8, 0), (8, 8), (0, 8)],
+        faces: &[&[0, 1, 2, 3]],
+        at_edges: true,
+        whole: false,
+    },
+];
+
+/// Returns vectors of the corners of faces.
+fn corners_of(faces: &[&[u32]], alloc: Global) -> Result<Vec<Vec<u32>>, AllocError> {
+    let mut lists = Vec::new(alloc);
+    for corners in faces {
+        let mut list = Vec::new(alloc);
+        list.extend_from_slice(corners)?;
+        lists.push(list)?;
+    }
+    Ok(lists)
+}
+
+/// Returns the mesh of a row.
+fn mesh_of(row: &Row, alloc: Global) -> Result<Dcel<Point>, Fail> {
+    let points = points_at(row.places, alloc)?;
+    let faces = corners_of(row.faces, alloc)?;
+    match from_faces(alloc, points, &faces) {
+        Ok(dcel) => Ok(dcel),
+        Err(_) => Err(Fail::new("the faces of a row are refused")),
+    }
+}
+
+fn check_row(row: &Row, alloc: Global) -> Result<(), Fail> {
+    let dcel = mesh_of(row, alloc)?;
+    let found = (is_delaunay(&dcel), is_delaunay_triangulation(&dcel));
+    same(
+        found,
+        (row.at_edges, row.whole),
+        "Delaunay at edges, and as a whole",
+    )
+}
+
+#[test]
+fn whole_meshes_are_tested(rt: HostRuntime) -> Result<(), Fail> {
+    for row in &TRIANGULATIONS {
+        check_row(row, rt.alloc())?;
+    }
+    Ok(())
+}
+
+/// A path is Delaunay at its edges, since it has no triangle, and no triangulation.
+#[test]
+fn a_path_is_no_triangulation(rt: HostRuntime) -> Result<(), Fail> {
+    let points = points_at(&[(0, 0), (8, 4), (4, 2)], rt.alloc())?;
+    let mut path = Triangulation::new(rt.alloc())?;
+    path.insert_all(rt.alloc(), &points)?;
+    let found = (
+        is_delaunay(path.dcel()),
+        is_delaunay_triangulation(path.dcel()),
+    );
+    same(found, (true, false), "Delaunay at edges, and as a whole")
 }

@@ -9,6 +9,8 @@ mod memory;
 #[cfg(test)]
 mod places;
 #[cfg(test)]
+mod positions;
+#[cfg(test)]
 mod predicates;
 #[cfg(test)]
 mod triangulations;

@@ -3,9 +3,7 @@
 use crate::places::{Place, points_at};
 use dcel_bench::checks::{holds, same};
 use dcel_bench::require;
-use dcel_delaunay::{
-    InsertionError, Point, PositionInTriangulation, Triangulation, insertion_order, point,
-};
+use dcel_delaunay::{InsertionError, Point, Triangulation, insertion_order, point};
 use spade_dcel::handles::FixedVertexHandle;
 use std::alloc::{AllocError, Global};
 use std::test::Fail;
@@ -18,7 +16,7 @@ fn triangulated(points: &[Point], alloc: Global) -> Result<Triangulation, Fail> 
 }
 
 /// Returns a triangulation of the points at these places.
-fn triangulated_at(places: &[Place], alloc: Global) -> Result<Triangulation, Fail> {
+pub fn triangulated_at(places: &[Place], alloc: Global) -> Result<Triangulation, Fail> {
     let points = points_at(places, alloc)?;
     triangulated(&points, alloc)
 }
@@ -85,39 +83,6 @@ fn check_twice(triangulation: &mut Triangulation, alloc: Global) -> Result<(), F
 fn equal_points_are_one_vertex(rt: HostRuntime) -> Result<(), Fail> {
     let mut triangulation = Triangulation::new(rt.alloc())?;
     check_twice(&mut triangulation, rt.alloc())
-}
-
-/// Places, with what of the triangle (0, 0), (6, 0), (0, 6) lies there.
-const POSITIONS: [(Place, &str); 4] = [
-    ((1, 1), "face"),
-    ((3, 3), "edge"),
-    ((0, 6), "vertex"),
-    ((7, 0), "outside"),
-];
-
-fn kind_at(triangulation: &Triangulation, (x, y): Place) -> Result<&'static str, Fail> {
-    let point = point(x, y)?;
-    Ok(match triangulation.locate(point) {
-        Some(PositionInTriangulation::OnFace(_)) => "face",
-        Some(PositionInTriangulation::OnEdge(_)) => "edge",
-        Some(PositionInTriangulation::OnVertex(_)) => "vertex",
-        Some(PositionInTriangulation::OutsideOfConvexHull(_)) => "outside",
-        _ => "other",
-    })
-}
-
-fn check_positions(triangulation: &Triangulation) -> Result<(), Fail> {
-    for (place, wanted) in &POSITIONS {
-        let found = kind_at(triangulation, *place)?;
-        same(found, *wanted, format_args!("what lies at {place:?}"))?;
-    }
-    Ok(())
-}
-
-#[test]
-fn positions_are_told_apart(rt: HostRuntime) -> Result<(), Fail> {
-    let triangulation = triangulated_at(&[(0, 0), (6, 0), (0, 6)], rt.alloc())?;
-    check_positions(&triangulation)
 }
 
 #[test]

@@ -4,7 +4,7 @@ use crate::faces::{Data, Row, check_lists, check_made, data_for, faces_of, mesh_
 use dcel_bench::checks::same;
 use dcel_bench::require;
 use dcel_exchange::{
-    FacesError, LinkLists, RefusedFaces, from_faces, link_lists, links, with_data,
+    FacesError, LinkLists, RefusedFaces, from_faces, from_triangles, link_lists, links, with_data,
 };
 use spade_dcel::dcel::{Dcel, RemovalState};
 use spade_dcel::operations::LinksFault;
@@ -71,6 +71,25 @@ const MADE: [Row; 6] = [
 #[test]
 fn faces_become_meshes(rt: HostRuntime) -> Result<(), Fail> {
     check(rt.alloc(), &MADE)
+}
+
+/// Checks what comes of triangles, which are those of a row.
+fn check_triangles(row: &Row, triangles: &[[u32; 3]], alloc: Global) -> Result<(), Fail> {
+    let vertices = vertices_of(row, alloc)?;
+    check_made(from_triangles(alloc, vertices, triangles), row, alloc)
+}
+
+const FLAT_TRIANGLE: Row = Row {
+    faces: &[&[2, 1, 1]],
+    vertices: 3,
+    wanted: Err(FacesError::OneEnd(0, 1)),
+};
+
+#[test]
+fn triangles_become_meshes(rt: HostRuntime) -> Result<(), Fail> {
+    let alloc = rt.alloc();
+    check_triangles(&TWO_TRIANGLES, &[[0, 1, 2], [2, 1, 3]], alloc)?;
+    check_triangles(&FLAT_TRIANGLE, &[[2, 1, 1]], alloc)
 }
 
 /// Faces over this many vertices, and why they are refused.

@@ -1,9 +1,11 @@
 //! Tests of crates below and beside `spade_dcel`: fixed handles, links and anchors that are given,
-//! and meshes in and out.
+//! meshes in and out, and calls made of several.
 #![tactic(auto)]
 
 #[cfg(test)]
 mod anchors;
+#[cfg(test)]
+mod convenience;
 #[cfg(test)]
 mod exchange;
 #[cfg(test)]

@@ -14,6 +14,12 @@ pub enum Output {
     Hull,
     /// The counts.
     Stats,
+    /// The triangle across from each corner of each triangle.
+    Neighbors,
+    /// The points and the triangles, in the Object File Format.
+    Off,
+    /// The same as Wavefront's OBJ.
+    Obj,
 }
 
 /// What the program is asked to do.
@@ -42,11 +48,12 @@ const ABOUT: &str = "Writes the Delaunay triangulation of points";
 
 const DETAILS: &str = "\
 Each line of the input has the two coordinates of a point, whole numbers from -1073741824 to
-1073741824 with blanks between them. What follows a # is a comment, and lines without a point are
-skipped. Points are numbered from 0 in the order of the input. Equal points are one, with the least
-of their numbers.
+1073741824 with blanks, a comma or both between them. What follows a # is a comment, and lines
+without a word are skipped, as is a first line whose words all begin with a letter. Points are
+numbered from 0 in the order of the input. Equal points are one, with the least of their numbers.
 
-Each line of the output has the numbers of a triangle's three corners, counterclockwise.";
+Each line of the output has the numbers of a triangle's three corners, counterclockwise, the least
+first. Triangles are numbered from 0 in that order.";
 
 /// Reads the words, the program's name first.
 pub fn read_arguments<'a>(alloc: Global, words: &'a [String]) -> Result<Asked<'a>, AllocError> {
@@ -85,7 +92,18 @@ fn command<'a>(alloc: Global) -> Result<Command<'a>, AllocError> {
             alloc,
             "stats",
             "Writes how many points, edges and triangles there are",
-        )?)
+        )?)?
+        .arg(choice(
+            alloc,
+            "neighbors",
+            "Writes for each triangle the ones across from its corners, -1 for none",
+        )?)?
+        .arg(choice(
+            alloc,
+            "off",
+            "Writes the points and triangles as OFF, equal points too",
+        )?)?
+        .arg(choice(alloc, "obj", "Writes them as OBJ, which counts from 1")?)
 }
 
 /// Returns one of the choices of what is written.
@@ -94,7 +112,7 @@ fn choice<'a>(alloc: Global, name: &'a str, help: &'a str) -> Result<Arg<'a>, Al
         .long(name)
         .action(ArgAction::SetTrue)
         .help(help);
-    for other in ["edges", "hull", "stats"] {
+    for other in ["edges", "hull", "stats", "neighbors", "off", "obj"] {
         if other != name {
             arg = arg.conflicts_with(other)?;
         }
@@ -109,6 +127,12 @@ fn arguments_of<'a>(matches: &ArgMatches<'a>) -> Arguments<'a> {
         Output::Hull
     } else if matches.get_flag("stats") {
         Output::Stats
+    } else if matches.get_flag("neighbors") {
+        Output::Neighbors
+    } else if matches.get_flag("off") {
+        Output::Off
+    } else if matches.get_flag("obj") {
+        Output::Obj
     } else {
         Output::Triangles
     };

@@ -1,8 +1,8 @@
 //! Why the program gave up.
 
 use dcel_delaunay::InsertionError;
-use std::alloc::AllocError;
-use std::io;
+use std::alloc::{AllocError, Global};
+use std::io::{self, ErrorKind};
 use thiserror::Error;
 
 /// Why the program gave up.
@@ -16,15 +16,15 @@ pub enum Fault {
         /// What is wrong with it.
         wrong: BadLine,
     },
-    /// A line has bytes that are no text, or could not be read.
+    /// A line has bytes that are no text.
     #[error("line {line}: {error}")]
-    Read {
+    NoText {
         /// The line's number, from 1.
         line: usize,
         /// What the system says.
         error: io::Error,
     },
-    /// A file could not be opened, made or written.
+    /// A file could not be opened, made, read or written.
     #[error("{path}: {error}")]
     File {
         /// The file.
@@ -32,7 +32,10 @@ pub enum Fault {
         /// What the system says.
         error: io::Error,
     },
-    /// The arguments or the clock could not be read, or a write failed.
+    /// Standard output could not be written.
+    #[error("standard output: {0}")]
+    Output(io::Error),
+    /// The arguments or the clock could not be read, or standard error could not be written.
     #[error("{0}")]
     Io(#[from] io::Error),
     /// A point could not be inserted.
@@ -41,6 +44,24 @@ pub enum Fault {
     /// There was no memory.
     #[error("out of memory")]
     OutOfMemory(#[from(alloc)] AllocError),
+}
+
+impl Fault {
+    /// Returns what the system says of a file, with the file's name.
+    pub fn of_file(alloc: Global, path: &str, error: io::Error) -> Self {
+        match String::from_str(alloc, path) {
+            Ok(path) => Fault::File { path, error },
+            Err(error) => Fault::OutOfMemory(error),
+        }
+    }
+
+    /// Returns whether nobody reads the output any more.
+    pub fn is_end_of_reader(&self) -> bool {
+        match self {
+            Fault::Output(error) => error.kind() == ErrorKind::BrokenPipe,
+            _ => false,
+        }
+    }
 }
 
 /// What is wrong with a line.

@@ -1,7 +1,8 @@
 //! Reads points, and writes the triangles of their Delaunay triangulation.
 //!
-//! `delaunay --help` tells what it reads and writes. It exits with status 0, with 1 if the input is
-//! bad or a read, a write or memory failed, and with 2 if its arguments are bad.
+//! `delaunay --help` tells what it reads and writes. It exits with status 0, also if nobody reads
+//! its output any more; with 1 if the input is bad or a read, a write or memory failed; and with 2
+//! if its arguments are bad.
 #![tactic(auto)]
 
 mod arguments;
@@ -31,6 +32,7 @@ fn main(rt: HostRuntime) -> ExitCode {
     };
     match run(&rt, progress) {
         Ok(code) => code,
+        Err(fault) if fault.is_end_of_reader() => ExitCode::SUCCESS,
         Err(fault) => {
             let _ = eprintln!(rt; "delaunay: {fault}");
             ExitCode::FAILURE
@@ -50,7 +52,7 @@ fn run(
             Ok(ExitCode::SUCCESS)
         }
         Asked::Told(message) => {
-            message.print(rt)?;
+            message.print(rt).map_err(Fault::Output)?;
             Ok(ExitCode::from(message.exit_code() as u8))
         }
     }

@@ -14,8 +14,14 @@ const SIDE: u64 = 80_000;
 /// How much is left free around it, in the same.
 const MARGIN: u64 = 2_000;
 
-/// Draws a triangulation into a file: edges, the hull over them, and points over both. Where that
-/// fails, it tells the file.
+/// Up to how many points are numbered.
+const MOST_NUMBERED: usize = 50;
+
+/// How far from a point its number stands, in hundredths to the right and upwards.
+const BESIDE: u64 = 500;
+
+/// Draws a triangulation into a file: edges, the hull over them, and points over both, with their
+/// numbers if they are few. Where that fails, it tells the file.
 pub fn write_picture(
     rt: &(impl Files + AllocGlobal),
     path: &str,
@@ -23,10 +29,7 @@ pub fn write_picture(
 ) -> Result<(), Fault> {
     match write_file(rt, path, drawn) {
         Ok(()) => Ok(()),
-        Err(error) => Err(Fault::File {
-            path: String::from_str(rt.alloc(), path)?,
-            error,
-        }),
+        Err(error) => Err(Fault::of_file(rt.alloc(), path, error)),
     }
 }
 
@@ -54,10 +57,17 @@ fn write_svg(writer: &mut impl Write, drawn: &Drawn) -> io::Result<()> {
         ".hull {{ stroke: #b3541e; stroke-width: 3; fill: none; }}"
     )?;
     writeln!(writer, ".points {{ fill: #1b2a41; }}")?;
+    writeln!(
+        writer,
+        ".numbers {{ fill: #1b2a41; font: 12px sans-serif; }}"
+    )?;
     writeln!(writer, "</style>")?;
     write_edges(writer, &frame, drawn)?;
     write_hull(writer, &frame, drawn)?;
     write_points(writer, &frame, drawn)?;
+    if drawn.numbers.len() <= MOST_NUMBERED {
+        write_numbers(writer, &frame, drawn)?;
+    }
     writeln!(writer, "</svg>")
 }
 
@@ -94,6 +104,22 @@ fn write_points(writer: &mut impl Write, frame: &Frame, drawn: &Drawn) -> io::Re
             writer,
             "<circle cx=\"{}\" cy=\"{}\" r=\"4\"/>",
             place.x, place.y
+        )?;
+    }
+    writeln!(writer, "</g>")
+}
+
+/// Writes the number of each point beside it.
+fn write_numbers(writer: &mut impl Write, frame: &Frame, drawn: &Drawn) -> io::Result<()> {
+    writeln!(writer, "<g class=\"numbers\">")?;
+    for vertex in drawn.triangulation.dcel().vertices() {
+        let place = frame.place(*vertex.data());
+        writeln!(
+            writer,
+            "<text x=\"{}\" y=\"{}\">{}</text>",
+            Hundredths(place.x.0.saturating_add(BESIDE)),
+            Hundredths(place.y.0.saturating_sub(BESIDE)),
+            drawn.number(vertex.fix())
         )?;
     }
     writeln!(writer, "</g>")

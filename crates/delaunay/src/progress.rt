@@ -13,9 +13,9 @@ pub struct Progress {
 const STEP: usize = 65_536;
 
 impl Progress {
-    /// Shows how many points were inserted, now and then.
+    /// Shows how many points were inserted, now and then until all are.
     pub fn show(self, rt: &impl Eprint, done: usize, all: usize) -> io::Result<()> {
-        if self.is_shown && all >= STEP && done % STEP == 0 {
+        if self.is_shown && all >= STEP && done < all && done % STEP == 0 {
             eprint!(rt; "\r{done} of {all} points")?;
         }
         Ok(())

@@ -2,62 +2,64 @@
 
 use crate::fault::Fault;
 use crate::progress::Progress;
-use dcel_delaunay::{Point, Triangulation, insertion_order};
+use dcel_delaunay::{Point, Triangulation};
 use spade_dcel::handles::FixedVertexHandle;
-use std::alloc::AllocError;
+use std::alloc::{AllocError, Global};
 
-/// A triangulation, and which point stands at each vertex.
+/// A triangulation of points, and which of them stands at each vertex.
 #[derive(Drop)]
-pub struct Drawn {
+pub struct Drawn<'a> {
     /// The triangulation.
     pub triangulation: Triangulation,
     /// The least number of a point at each vertex.
     pub numbers: Vec<usize>,
-    /// How many points there were, equal ones included.
-    pub points: usize,
+    /// The points, equal ones included.
+    pub points: &'a [Point],
 }
 
-impl Drawn {
+impl Drawn<'_> {
     /// Returns the number of the point at a vertex.
     pub fn number(&self, vertex: FixedVertexHandle) -> usize {
         self.numbers.get(vertex.index()).copied().unwrap_or(0)
     }
 }
 
-/// Triangulates points.
-pub fn triangulated(
+/// Triangulates points, and shows how many are inserted.
+pub fn triangulated<'a>(
     rt: &(impl Eprint + AllocGlobal),
     progress: Progress,
-    points: &[Point],
-) -> Result<Drawn, Fault> {
+    points: &'a [Point],
+) -> Result<Drawn<'a>, Fault> {
     let mut triangulation = Triangulation::new(rt.alloc())?;
-    let order = insertion_order(rt.alloc(), points)?;
-    let mut numbers = Vec::new(rt.alloc());
-    for (done, number) in order.iter().enumerate() {
-        progress.show(rt, done, points.len())?;
-        if let Some(point) = points.get(*number) {
-            let vertex = triangulation.insert(*point)?;
-            note(&mut numbers, vertex, *number)?;
+    progress.show(rt, 0, points.len())?;
+    let mut shown = Ok(());
+    let vertices = triangulation.insert_all_with(rt.alloc(), points, |done| {
+        if shown.is_ok() {
+            shown = progress.show(rt, done, points.len());
         }
-    }
+    })?;
+    shown?;
     progress.clear(rt, points.len())?;
+    let count = triangulation.dcel().num_vertices();
+    let numbers = least_numbers(rt.alloc(), &vertices, count)?;
     Ok(Drawn {
         triangulation,
         numbers,
-        points: points.len(),
+        points,
     })
 }
 
-/// Notes the number of a point that stands at a vertex, a new one or one of before.
-fn note(
-    numbers: &mut Vec<usize>,
-    vertex: FixedVertexHandle,
-    number: usize,
-) -> Result<(), AllocError> {
-    if let Some(least) = numbers.get_mut(vertex.index()) {
-        *least = number.min(*least);
-        return Ok(());
+/// Returns the least number of a point at each of so many vertices.
+fn least_numbers(
+    alloc: Global,
+    vertices: &[FixedVertexHandle],
+    count: usize,
+) -> Result<Vec<usize>, AllocError> {
+    let mut numbers = vec![in alloc; 0; count]?;
+    for (number, vertex) in vertices.iter().enumerate().rev() {
+        if let Some(least) = numbers.get_mut(vertex.index()) {
+            *least = number;
+        }
     }
-    numbers.push(number)?;
-    Ok(())
+    Ok(numbers)
 }

@@ -3,9 +3,16 @@
 use crate::arguments::Output;
 use crate::fault::Fault;
 use crate::triangulating::Drawn;
-use dcel_delaunay::Mesh;
+use dcel_delaunay::{Mesh, Point};
+use spade_dcel::handles::{DirectedEdgeHandle, FaceHandle, InnerTag};
 use spade_dcel::iterators::HullIterator;
 use std::io::{self, BufWriter, Write};
+
+/// A half edge of the triangulation.
+type Edge<'a> = DirectedEdgeHandle<'a, Point, (), (), ()>;
+
+/// A triangle of it.
+type Triangle<'a> = FaceHandle<'a, InnerTag, Point, (), (), ()>;
 
 /// Writes what is asked for.
 pub fn write_asked(
@@ -14,33 +21,67 @@ pub fn write_asked(
     drawn: &Drawn,
 ) -> Result<(), Fault> {
     let mut writer = BufWriter::new(rt.alloc(), io::writer(rt))?;
+    write_output(&mut writer, output, drawn).map_err(Fault::Output)
+}
+
+fn write_output(writer: &mut impl Write, output: Output, drawn: &Drawn) -> io::Result<()> {
     match output {
-        Output::Triangles => write_triangles(&mut writer, drawn)?,
-        Output::Edges => write_edges(&mut writer, drawn)?,
-        Output::Hull => write_hull(&mut writer, drawn)?,
-        Output::Stats => write_stats(&mut writer, drawn)?,
+        Output::Triangles => write_triangles(writer, drawn)?,
+        Output::Neighbors => write_neighbors(writer, drawn)?,
+        Output::Edges => write_edges(writer, drawn)?,
+        Output::Hull => write_hull(writer, drawn)?,
+        Output::Stats => write_stats(writer, drawn)?,
+        Output::Off => write_off(writer, drawn)?,
+        Output::Obj => write_obj(writer, drawn)?,
     }
-    writer.flush()?;
-    Ok(())
+    writer.flush()
 }
 
 /// Writes the corners of each triangle, counterclockwise, the least number first.
 fn write_triangles(writer: &mut impl Write, drawn: &Drawn) -> io::Result<()> {
-    for face in drawn.triangulation.dcel().live_inner_faces() {
-        let [a, b, c] = least_first(face.vertices().map(|corner| drawn.number(corner.fix())));
+    for triangle in drawn.triangulation.dcel().live_inner_faces() {
+        let [a, b, c] = corners(drawn, triangle);
         writeln!(writer, "{a} {b} {c}")?;
     }
     Ok(())
 }
 
-/// Returns the same three numbers in the same round, the least first.
-fn least_first([a, b, c]: [usize; 3]) -> [usize; 3] {
+/// Writes for each triangle which one lies across from each corner, in the order of the corners.
+/// Triangles are numbered from 0 in the order in which they are written, and -1 is none.
+fn write_neighbors(writer: &mut impl Write, drawn: &Drawn) -> io::Result<()> {
+    for triangle in drawn.triangulation.dcel().live_inner_faces() {
+        let [a, b, c] = sides(drawn, triangle);
+        write_across(writer, b, " ")?;
+        write_across(writer, c, " ")?;
+        write_across(writer, a, "\n")?;
+    }
+    Ok(())
+}
+
+/// Writes the number of the triangle on the other side of a half edge.
+fn write_across(writer: &mut impl Write, edge: Edge<'_>, end: &str) -> io::Result<()> {
+    // The outer face is the first of the mesh.
+    match edge.rev().face().index().checked_sub(1) {
+        Some(number) => write!(writer, "{number}{end}"),
+        None => write!(writer, "-1{end}"),
+    }
+}
+
+/// Returns the numbers of a triangle's corners, counterclockwise, the least first.
+fn corners(drawn: &Drawn, triangle: Triangle<'_>) -> [usize; 3] {
+    sides(drawn, triangle).map(|side| drawn.number(side.from().fix()))
+}
+
+/// Returns the half edges of a triangle, counterclockwise, from its corner with the least number.
+fn sides<'a>(drawn: &Drawn, triangle: Triangle<'a>) -> [Edge<'a>; 3] {
+    let [first, second, third] = triangle.adjacent_edges();
+    let [a, b, c] = [first, second, third].map(|side| drawn.number(side.from().fix()));
     if a <= b && a <= c {
-        [a, b, c]
+        [first, second, third]
     } else if b <= c {
-        [b, c, a]
+        [second, third, first]
     } else {
-        [c, a, b]
+        [third, first, second]
     }
 }
 
@@ -69,7 +110,7 @@ fn write_hull(writer: &mut impl Write, drawn: &Drawn) -> io::Result<()> {
 /// Writes how many there are of each kind.
 fn write_stats(writer: &mut impl Write, drawn: &Drawn) -> io::Result<()> {
     let mesh = drawn.triangulation.dcel();
-    writeln!(writer, "{} points", drawn.points)?;
+    writeln!(writer, "{} points", drawn.points.len())?;
     writeln!(writer, "{} vertices", mesh.num_vertices())?;
     writeln!(writer, "{} edges", mesh.num_undirected_edges())?;
     writeln!(writer, "{} triangles", mesh.num_faces() - 1)?;
@@ -83,4 +124,32 @@ fn hull_size(mesh: &Mesh) -> usize {
     } else {
         HullIterator::new(mesh).count()
     }
+}
+
+/// Writes the points and triangles in the Object File Format. Points keep their numbers, so those
+/// that equal an earlier one belong to no triangle.
+fn write_off(writer: &mut impl Write, drawn: &Drawn) -> io::Result<()> {
+    let mesh = drawn.triangulation.dcel();
+    writeln!(writer, "OFF")?;
+    writeln!(writer, "{} {} 0", drawn.points.len(), mesh.num_faces() - 1)?;
+    for point in drawn.points {
+        writeln!(writer, "{} {} 0", point.x, point.y)?;
+    }
+    for triangle in mesh.live_inner_faces() {
+        let [a, b, c] = corners(drawn, triangle);
+        writeln!(writer, "3 {a} {b} {c}")?;
+    }
+    Ok(())
+}
+
+/// Writes them as OBJ, which counts points from 1.
+fn write_obj(writer: &mut impl Write, drawn: &Drawn) -> io::Result<()> {
+    for point in drawn.points {
+        writeln!(writer, "v {} {} 0", point.x, point.y)?;
+    }
+    for triangle in drawn.triangulation.dcel().live_inner_faces() {
+        let [a, b, c] = corners(drawn, triangle).map(|number| number.saturating_add(1));
+        writeln!(writer, "f {a} {b} {c}")?;
+    }
+    Ok(())
 }

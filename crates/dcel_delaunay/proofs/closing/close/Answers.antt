@@ -1,21 +1,37 @@
-use Rattle.std.proofs.Common.{◌≡◌, rules, append_assoc, subst}
-use Rattle.spade_dcel.specs.Handles.{mesh_behind, number_of}
-use Rattle.dcel_maps.specs.Shapes.{Mesh, end_of, next_of}
-use Rattle.dcel_plane.specs.Plane.{point_at}
+use Rattle.std.proofs.Common.{append_assoc}
 use Rattle.dcel_maps.specs.edits.Outside.{face_closed}
 use Rattle.dcel_delaunay.specs.Growing.{Keeps}
-use Rattle.dcel_delaunay.specs.Places.{HasLeft}
+use Rattle.dcel_delaunay.proofs.GoingOn.{close_goes_on, close_there, some_listed, turned_apart, turns_as}
 use Rattle.dcel_delaunay.proofs.Growth.{closed-keeps, of_edit}
-use Rattle.dcel_delaunay.proofs.Puts.{close_live, close_under_way}
+use Rattle.dcel_delaunay.proofs.Puts.{close_sound}
 use Rattle.dcel_delaunay.proofs.closing.close.Goals as goal
 
-pub returns-clause-under_way : goal.returns-clause-under_way
-returns-clause-under_way g c =
+pub create_single_face_between_edge_and_next-requires-clause-can_close : goal.create_single_face_between_edge_and_next-requires-clause-can_close
+create_single_face_between_edge_and_next-requires-clause-can_close g c =
+    let old = c.args.dcel.now in
+    let turns = turns_as old _ c.args.edge _ c.directed_edge.ensures.mesh c.directed_edge.ensures.number (c.turns_in.ensures.0 c.if-not-turns_in.false) in
+    record { live = c.requires.live; outer = c.requires.outer; apart = turned_apart old c.args.edge turns }
+
+pub returns-clause-goes_on : goal.returns-clause-goes_on
+returns-clause-goes_on g c =
+    let old = c.args.dcel.now in
+    let turns = turns_as old _ c.args.edge _ c.directed_edge.ensures.mesh c.directed_edge.ensures.number (c.turns_in.ensures.0 c.if-not-turns_in.false) in
+    close_goes_on _ _ _ 1 1 old _ c.args.due.now.items c.args.edge c.every_mesh.ensures c.requires.sound c.requires.live c.requires.outer turns c.in-Ok.ensures.edit
+    c.create_single_face_between_edge_and_next.ensures.mesh
+
+pub returns-clause-some : goal.returns-clause-some
+returns-clause-some g c =
+    let old = c.args.dcel.now in
+    let turns = turns_as old _ c.args.edge _ c.directed_edge.ensures.mesh c.directed_edge.ensures.number (c.turns_in.ensures.0 c.if-not-turns_in.false) in
+    close_there _ _ _ 1 1 old _ c.args.due.now.items c.args.edge c.every_mesh.ensures c.requires.sound c.requires.live c.requires.outer turns c.in-Ok.ensures.edit
+    c.create_single_face_between_edge_and_next.ensures.mesh _ c.in-Ok.ensures.answer
+
+pub returns-clause-sound : goal.returns-clause-sound
+returns-clause-sound g c =
     let old = c.args.dcel.now in
     let e = c.args.edge in
-    let turned = c.turns_in.ensures c.if-not-turns_in.false in
-    let left : HasLeft old (point_at old (end_of old.shape (next_of old.shape e))) e = rw (c.directed_edge.ensures.mesh, c.directed_edge.ensures.number) at turned in
-    close_under_way _ _ _ 1 1 old _ e c.args.due.now.items _ c.every_mesh.ensures c.requires.under_way c.requires.live left c.in-Ok.ensures.edit c.create_single_face_between_edge_and_next.ensures.mesh
+    let turns = turns_as old _ e _ c.directed_edge.ensures.mesh c.directed_edge.ensures.number (c.turns_in.ensures.0 c.if-not-turns_in.false) in
+    close_sound _ _ _ 1 1 old _ e c.args.due.now.items _ c.every_mesh.ensures c.requires.sound c.requires.live turns c.in-Ok.ensures.edit c.create_single_face_between_edge_and_next.ensures.mesh
     (rw (
       c.push_reserved-3.ensures.items,
       c.push_reserved-2.ensures.items,
@@ -31,12 +47,11 @@ returns-clause-under_way g c =
       c.directed_edge-2.ensures.number,
     ) (simp append_assoc))
 
-pub returns-clause-live : goal.returns-clause-live
-returns-clause-live g c =
-    close_live _ _ _ 1 1 c.args.dcel.now _ c.args.edge _ c.requires.under_way.closed c.in-Ok.ensures.edit c.in-Ok.ensures.answer
+pub returns-clause-listed : goal.returns-clause-listed
+returns-clause-listed g c = λ some. some_listed _ _ _ _ c.push_reserved-3.ensures.items
 
 pub returns-clause-keeps : goal.returns-clause-keeps
 returns-clause-keeps g c =
     let old = c.args.dcel.now in
     let x = c.args.edge in
-    of_edit _ _ _ 1 1 _ (face_closed old x) (λ m. Keeps old m) c.in-Ok.ensures.edit (λ h e f. closed-keeps old c.requires.under_way.closed x h e f)
+    of_edit _ _ _ 1 1 _ (face_closed old x) (λ m. Keeps old m) c.in-Ok.ensures.edit (λ h e f. closed-keeps old c.requires.sound.closed x h e f)

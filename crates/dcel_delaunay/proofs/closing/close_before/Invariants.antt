@@ -1,6 +1,21 @@
-use Rattle.dcel_maps.specs.Shapes.{IsLive}
-use Rattle.dcel_delaunay.specs.Growing.{IsUnderWay, Keeps}
+use Rattle.std.proofs.Common.{◌≡◌, ◌≢◌, ◌-◌, ◌^◌, []}
+use Rattle.dcel_maps.specs.Shapes.{IsLive, IsMesh, end_of, face_of, next_of}
+use Rattle.dcel_delaunay.specs.Corners.{GoesOn}
+use Rattle.dcel_delaunay.specs.Growing.{IsSound, Keeps}
 use Rattle.dcel_delaunay.proofs.closing.close_before.Given as goal
 
-abbrev pub invariant-loop : goal.invariant-loop
-invariant-loop g l = IsUnderWay l.dcel l.due.items × IsLive l.dcel.shape l.edge × Keeps l.fn.dcel l.dcel
+abbrev pub invariant-loop-closed : goal.invariant-loop-closed
+invariant-loop-closed g l = record {
+  sound : IsSound l.dcel l.due.items;
+  keeps : Keeps l.fn.dcel l.dcel;
+  listed : l.fn.due.items ≢ [] → l.due.items ≢ [];
+  goes_on : GoesOn l.fn.dcel l.dcel;
+  mesh : IsMesh l.dcel;
+  live : IsLive l.dcel.shape l.before;
+  outer : face_of l.dcel.shape l.before ≡ 0;
+  end : end_of l.dcel.shape (next_of l.dcel.shape l.before) ≡ end_of l.fn.dcel.shape l.fn.edge;
+}
+
+-- each triangle has a new edge
+abbrev pub decreases-loop-closed : goal.decreases-loop-closed
+decreases-loop-closed g l = 2 ^ 31 - l.dcel.shape.edges

@@ -1,4 +1,4 @@
-use Rattle.std.proofs.Common.{◌≡◌, List, ℕ, sym, subst, ◌∙◌}
+use Rattle.std.proofs.Common.{sym, subst, ◌∙◌}
 use Rattle.dcel_delaunay.proofs.Standing.{adds_one, refused_adds, stands_too, stands_none_too}
 use Rattle.dcel_delaunay.specs.Bulk.{StandsToo}
 use Rattle.dcel_delaunay.specs.Triangulated.{mesh_in}

@@ -1,0 +1,4 @@
+mod Gathered
+mod Removed
+mod Simple
+mod TakenBack

@@ -1,0 +1,36 @@
+-- What a vertex inside triangles leaves where it is taken out, and why it can't be.
+use Rattle.std.specs.Prelude.{◌≡◌, ◌≢◌, ℕ, ◌-◌, List, length, map, reverse}
+use Rattle.dcel_convenience.specs.declared.removing.WhyNotRemoved.{WhyNotRemoved}
+use Rattle.dcel_convenience.specs.declared.removing.WhyNotRemoved.TheVariants.{NoRoom, NotInside, OutOfMemory, RemovalOpen}
+use Rattle.dcel_maps.specs.Borders.{IsBorderLoop}
+use Rattle.dcel_maps.specs.Conditions.{HasRoom}
+use Rattle.dcel_maps.specs.Removals.{Closed}
+use Rattle.dcel_maps.specs.Renumbering.{cleaned_up, vertex_taken_out}
+use Rattle.dcel_maps.specs.Shapes.{Mesh, next_of}
+use Rattle.dcel_maps.specs.Walking.{out_edges_of}
+use Rattle.dcel_maps.specs.edits.Fill.{FillsHole, hole_filled}
+
+module _ {V DE UE F : Type 0} where
+  -- what comes after the out edges of a vertex, clockwise, up to the one after its anchor
+  abbrev pub border_round : Mesh V DE UE F → ℕ → List ℕ
+  border_round m v = reverse (map (next_of m.shape) (out_edges_of m v))
+
+  -- the hole round the vertex v is filled, what was given up goes, and then the vertex: the last of each kind get the numbers
+  pub record TakesOut (is_half : DE → Type 0) (is_edge : UE → Type 0) (is_face : F → Type 0) (old new : Mesh V DE UE F) (v : ℕ) : Type 0 where
+    pub filled : Mesh V DE UE F
+    pub fills : FillsHole is_half is_edge is_face (border_round old v) filled (hole_filled old v (border_round old v))
+    pub is : new ≡ vertex_taken_out (cleaned_up filled) v
+
+  -- no removal is open, v lies inside triangles alone, three or more, one half edge alone leads from it to where its anchor ends, and there are
+  -- numbers for the edges and faces that fill the hole
+  pub record CanRemoveVertex (m : Mesh V DE UE F) (v : ℕ) : Type 0 where
+    pub closed : m.shape.removal ≡ Closed
+    pub inside : IsBorderLoop m.shape (border_round m v) v
+    pub room : HasRoom m.shape 0 (length (border_round m v) - 3) (length (border_round m v) - 2)
+
+  -- each reason but the want of memory says what isn't so
+  abbrev pub MayNotRemove : Mesh V DE UE F → ℕ → WhyNotRemoved → Type 0
+  MayNotRemove m v RemovalOpen = m.shape.removal ≢ Closed
+  MayNotRemove m v NotInside = ¬ IsBorderLoop m.shape (border_round m v) v
+  MayNotRemove m v NoRoom = ¬ HasRoom m.shape 0 (length (border_round m v) - 3) (length (border_round m v) - 2)
+  MayNotRemove m v OutOfMemory = Unit {0}

@@ -1,0 +1,31 @@
+//! Flips that keep a mesh simple.
+
+ghost use Rattle.std.specs.Prelude.{◌↔◌, IsTrue};
+ghost use Rattle.dcel_convenience.specs.Simple.{CanFlipSimple};
+
+use spade_dcel::dcel::Dcel;
+use spade_dcel::handles::FixedUndirectedEdgeHandle;
+use std::alloc::Allocator;
+
+/// Returns whether an edge can be flipped ([`can_flip`](Dcel::can_flip)), lies between two inner
+/// triangles, and no edge joins the corners opposite it yet.
+///
+/// So such a flip makes no second edge between two vertices, and leaves the outer face alone. It
+/// goes round one of the two corners. Any number may be given.
+pub fn can_flip_simple<V, DE, UE, F, A: Allocator>(
+    dcel: &Dcel<V, DE, UE, F, A>,
+    edge: FixedUndirectedEdgeHandle,
+) -> bool
+    ensures { IsTrue result ↔ CanFlipSimple dcel.now.shape edge }
+{
+    if !dcel.can_flip(edge) {
+        return false;
+    }
+    let half = dcel.undirected_edge(edge).as_directed();
+    if half.is_part_of_convex_hull() {
+        return false;
+    }
+    let near = half.prev().from().fix();
+    let far = half.rev().prev().from().fix();
+    dcel.get_edge_from_neighbors(near, far).is_none()
+}

@@ -1,0 +1,97 @@
+//! A vertex inside triangles taken out, and the hole filled.
+
+ghost use Rattle.std.specs.Prelude.{◌≡◌, ◌-◌, ◌==◌, IfErr, IfOk, OnErr, OnOk, Some, None, cond, slice_index_or};
+ghost use Rattle.dcel_convenience.specs.Removing.{CanRemoveVertex, MayNotRemove, TakesOut, border_round};
+ghost use Rattle.dcel_maps.specs.Shapes.{IsMesh};
+ghost use Rattle.spade_dcel.specs.Handles.{mesh_behind, number_of};
+
+use spade_dcel::dcel::{Dcel, RemovalState};
+use spade_dcel::handles::{FixedDirectedEdgeHandle, FixedVertexHandle, VertexHandle};
+use spade_dcel::laws::every_mesh;
+use spade_dcel::operations::{
+    RemovalResult, Room, cleanup_isolated_vertex, isolate_vertex_and_fill_hole, swap_remove_vertex,
+};
+use std::alloc::{AllocError, Allocator};
+
+/// Why a vertex was not taken out.
+#[derive(Clone, Copy, PartialEq, Eq, Debug, Drop)]
+pub enum WhyNotRemoved {
+    /// A removal is open.
+    RemovalOpen,
+    /// The vertex is none, doesn't lie inside triangles alone, three or more, or two edges lead from
+    /// it to where its anchor ends.
+    NotInside,
+    /// There are no numbers left for the edges and faces that fill the hole.
+    NoRoom,
+    /// There was no memory.
+    OutOfMemory,
+}
+
+/// Takes out a vertex that lies inside triangles, fills the hole with triangles, and returns its
+/// datum.
+///
+/// This is [`isolate_vertex_and_fill_hole`], [`cleanup_isolated_vertex`] and [`swap_remove_vertex`]
+/// for the border of the vertex, which it finds by itself; the new edges all start where the
+/// vertex's anchor ends. The last edges, faces and vertex get the numbers that become free, and the
+/// result tells if a vertex did.
+///
+/// Any vertex may be given. It is refused as [`WhyNotRemoved`] says, and then the mesh is as it was.
+/// `alloc` is for the border.
+pub fn remove_vertex<
+    V,
+    DE: Default + Drop,
+    UE: Default + Drop,
+    F: Default + Drop,
+    A: Allocator + Clone,
+    B: Allocator,
+>(
+    dcel: &mut Dcel<V, DE, UE, F, A>,
+    alloc: B,
+    vertex: FixedVertexHandle,
+) -> Result<RemovalResult<V>, WhyNotRemoved>
+    ensures can { OnOk result (CanRemoveVertex dcel.old vertex) }
+    ensures edit { OnOk result (TakesOut DE.is_default UE.is_default F.is_default dcel.old dcel.new vertex) }
+    ensures datum { IfOk result (λ taken. taken.removed_vertex ≡ slice_index_or dcel.old.vertex_data vertex taken.removed_vertex) }
+    ensures moved { IfOk result (λ taken. taken.swapped_in_vertex
+        ≡ cond (vertex == dcel.old.shape.vertices - 1) None (Some (dcel.old.shape.vertices - 1))) }
+    ensures why { IfErr result (MayNotRemove dcel.old vertex) }
+    ensures refused { OnErr result (dcel.new ≡ dcel.old) }
+    ensures mesh { IsMesh dcel.new }
+{
+    every_mesh(dcel);
+    if dcel.removal_state() != RemovalState::Closed {
+        return Err(WhyNotRemoved::RemovalOpen);
+    }
+    let Some(around) = dcel.get_vertex(vertex) else {
+        return Err(WhyNotRemoved::NotInside);
+    };
+    let Ok(border) = border_of(alloc, around) else {
+        return Err(WhyNotRemoved::OutOfMemory);
+    };
+    if !dcel.is_border_loop(&border, vertex) {
+        return Err(WhyNotRemoved::NotInside);
+    }
+    if !dcel.has_room_for(Room::filling(border.len())) {
+        return Err(WhyNotRemoved::NoRoom);
+    }
+    let Ok(mut opened) = isolate_vertex_and_fill_hole(dcel, border, vertex) else {
+        return Err(WhyNotRemoved::OutOfMemory);
+    };
+    cleanup_isolated_vertex(dcel, &mut opened);
+    Ok(swap_remove_vertex(dcel, vertex))
+}
+
+// Returns what comes after the out edges of a vertex, clockwise, up to the one after its anchor.
+fn border_of<V, DE, UE, F, A: Allocator, B: Allocator>(
+    alloc: B,
+    vertex: VertexHandle<'_, V, DE, UE, F, A>,
+) -> Result<Vec<FixedDirectedEdgeHandle, B>, AllocError>
+    ensures { IfOk result (λ border. border.items ≡ border_round (mesh_behind vertex.entry) (number_of vertex.entry)) }
+{
+    let mut border = Vec::new(alloc);
+    for edge in vertex.out_edges() {
+        border.push(edge.next().fix())?;
+    }
+    border.reverse();
+    Ok(border)
+}

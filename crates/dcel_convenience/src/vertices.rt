@@ -1,0 +1,41 @@
+//! What lies around a vertex.
+
+ghost use Rattle.std.specs.Prelude.{◌≡◌, IfOk, length, map};
+ghost use Rattle.dcel_maps.specs.Shapes.{end_of};
+ghost use Rattle.dcel_maps.specs.Walking.{out_edges_of};
+ghost use Rattle.spade_dcel.specs.Handles.{mesh_behind, number_of};
+
+use spade_dcel::handles::{FixedVertexHandle, VertexHandle};
+use std::alloc::{AllocError, Allocator};
+
+/// Returns how many half edges start at a vertex, which is how many edges meet it; one that leads
+/// back to the vertex counts twice.
+///
+/// It goes round the vertex, and allocates nothing.
+pub fn degree<V, DE, UE, F, A: Allocator>(vertex: VertexHandle<'_, V, DE, UE, F, A>) -> usize
+    ensures { let mesh = mesh_behind vertex.entry in
+        result ≡ length (out_edges_of mesh (number_of vertex.entry)) }
+{
+    let mut count = 0;
+    for _ in vertex.out_edges() {
+        count += 1;
+    }
+    count
+}
+
+/// Returns the vertices that edges lead to from a vertex, counterclockwise, the anchor's end first.
+///
+/// A vertex to which several edges lead comes as often. If memory runs out it returns `AllocError`.
+pub fn neighbors<V, DE, UE, F, A: Allocator, B: Allocator>(
+    alloc: B,
+    vertex: VertexHandle<'_, V, DE, UE, F, A>,
+) -> Result<Vec<FixedVertexHandle, B>, AllocError>
+    ensures { let mesh = mesh_behind vertex.entry in
+        IfOk result (λ ends. ends.items ≡ map (end_of mesh.shape) (out_edges_of mesh (number_of vertex.entry))) }
+{
+    let mut ends = Vec::new(alloc);
+    for edge in vertex.out_edges() {
+        ends.push(edge.to().fix())?;
+    }
+    Ok(ends)
+}

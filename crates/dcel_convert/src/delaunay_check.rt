@@ -1,0 +1,234 @@
+//! Whether the faces of a file are a Delaunay triangulation of its vertices, and if not, why.
+
+ghost use Rattle.std.specs.Prelude.{◌<◌};
+
+use crate::fault::Fault;
+use crate::meshing::fault_of;
+use crate::surface::Surface;
+use dcel_circles::{is_circled, is_delaunay_triangulation};
+use dcel_exchange::from_faces;
+use dcel_predicates::{Point, orient2d};
+use spade_dcel::dcel::Dcel;
+use spade_dcel::handles::{FixedFaceHandle, FixedVertexHandle, InnerTag};
+use std::alloc::Global;
+use std::num::saturating_f64_to_i64;
+use thiserror::Error;
+
+/// A mesh whose vertices stand in the plane.
+type PlaneMesh = Dcel<Point, (), (), ()>;
+
+/// Why faces are no Delaunay triangulation of the vertices.
+///
+/// Vertices and faces are told by their places in the file, from 0 on.
+#[derive(Clone, Copy, PartialEq, Eq, Debug, Drop, Error)]
+pub enum Flaw {
+    /// The first vertex and this one are not at one height.
+    #[error("vertex {0} has another third coordinate than vertex 0")]
+    OtherHeight(usize),
+    /// A coordinate of this vertex has a fraction, or is written as if it had one.
+    #[error("a coordinate of vertex {0} is not written as a whole number")]
+    NotWhole(usize),
+    /// A coordinate of this vertex is too small or too large.
+    #[error("a coordinate of vertex {0} is below -1073741824 or above 1073741824")]
+    OutOfRange(usize),
+    /// There are vertices alone.
+    #[error("there is no face")]
+    NoFace,
+    /// This face has more than three corners.
+    #[error("face {0} is no triangle")]
+    NoTriangle(usize),
+    /// This face is a triangle that goes round clockwise, or whose corners stand on one line.
+    #[error("the corners of face {0} don't go round counterclockwise")]
+    NotCounterclockwise(usize),
+    /// This vertex is no corner.
+    #[error("vertex {0} has no edge")]
+    NoEdge(usize),
+    /// The first vertex lies inside the circle of the triangle that the others are.
+    #[error("vertex {0} lies inside the circle through vertices {1}, {2} and {3}")]
+    InCircle(usize, usize, usize, usize),
+    /// The border turns inwards here, so it is no convex hull.
+    #[error("the border turns in at vertex {0}")]
+    TurnsIn(usize),
+    /// The border goes back on itself, or round more than once.
+    #[error("the border doesn't go round once")]
+    NotOnce,
+}
+
+/// Tells why the faces are no Delaunay triangulation of the vertices, unless they are one.
+///
+/// The first two coordinates of each vertex have to be whole numbers from -2^30 to 2^30, and the
+/// third one, as a double, the same for all of them.
+pub fn check_delaunay(alloc: Global, surface: &Surface) -> Result<(), Fault> {
+    let points = points_of(alloc, surface)?;
+    match from_faces(alloc, points, &surface.faces) {
+        Ok(mesh) => {
+            if is_delaunay_triangulation(&mesh) {
+                return Ok(());
+            }
+            Err(reason_of(surface, &mesh))
+        }
+        Err(refused) => Err(fault_of(
+            alloc,
+            refused.reason,
+            surface.places.len(),
+            &surface.faces,
+            &surface.lines,
+        )?),
+    }
+}
+
+/// Returns where the vertices stand.
+fn points_of(alloc: Global, surface: &Surface) -> Result<Vec<Point>, Fault> {
+    let mut points = Vec::new(alloc);
+    let mut height = None;
+    for (vertex, place) in surface.places.iter().enumerate() {
+        match point_of(vertex, place.as_str()) {
+            Ok((point, z)) => {
+                if *height.get_or_insert(z) != z {
+                    return Err(at_vertex(surface, vertex, Flaw::OtherHeight(vertex)));
+                }
+                points.push(point)?;
+            }
+            Err(flaw) => return Err(at_vertex(surface, vertex, flaw)),
+        }
+    }
+    Ok(points)
+}
+
+/// Returns the first two coordinates of a vertex as a point, and the third one.
+fn point_of(vertex: usize, text: &str) -> Result<(Point, f64), Flaw> {
+    let mut words = text.split_ascii_whitespace();
+    let x = whole_number(words.next()).ok_or(Flaw::NotWhole(vertex))?;
+    let y = whole_number(words.next()).ok_or(Flaw::NotWhole(vertex))?;
+    let z = number_of(words.next()).ok_or(Flaw::OtherHeight(vertex))?;
+    let point = Point::new(x, y).ok_or(Flaw::OutOfRange(vertex))?;
+    Ok((point, z))
+}
+
+fn number_of(word: Option<&str>) -> Option<f64> {
+    word?.parse::<f64>().ok()
+}
+
+/// Returns the number that a word says, if it is a whole one: out of the range of `i64`, one that
+/// is as far out of the range of points.
+fn whole_number(word: Option<&str>) -> Option<i64> {
+    let word = word?;
+    if !is_whole(word) {
+        return None;
+    }
+    // Whole numbers that points have are doubles.
+    Some(saturating_f64_to_i64(word.parse::<f64>().ok()?))
+}
+
+/// Returns whether a number is written as a whole one, as are 12, 12.0 and 1.20e1.
+fn is_whole(number: &str) -> bool {
+    let (digits, exponent) = match number.split_once(|mark: char| mark == 'e' || mark == 'E') {
+        Some((digits, exponent)) => (digits, exponent.parse::<usize>().ok()),
+        None => (number, Some(0)),
+    };
+    let decimals = match digits.split_once('.') {
+        Some((_, decimals)) => decimals.trim_end_matches('0').len(),
+        None => 0,
+    };
+    exponent.is_some_and(|exponent| decimals <= exponent)
+}
+
+/// Returns why a mesh is no Delaunay triangulation of its vertices, if it is none.
+fn reason_of(surface: &Surface, mesh: &PlaneMesh) -> Fault {
+    if mesh.num_faces() == 1 {
+        return Fault::Flaw(Flaw::NoFace);
+    }
+    if let Some((face, flaw)) = flaw_of_face(mesh) {
+        return at(&surface.lines, face, flaw);
+    }
+    if let Some(vertex) = vertex_without_edge(mesh) {
+        return at_vertex(surface, vertex, Flaw::NoEdge(vertex));
+    }
+    match flaw_of_edge(mesh) {
+        Some(flaw) => Fault::Flaw(flaw),
+        None => Fault::Flaw(flaw_of_border(mesh)),
+    }
+}
+
+/// Returns the first face that is no counterclockwise triangle, and which of both it isn't.
+fn flaw_of_face(mesh: &PlaneMesh) -> Option<(usize, Flaw)> {
+    for number in 1..mesh.num_faces() {
+        let place = number - 1;
+        let face: FixedFaceHandle<InnerTag> = FixedFaceHandle::new(number);
+        if !mesh.is_triangle(face) {
+            return Some((place, Flaw::NoTriangle(place)));
+        }
+        if !turns_left(mesh, face) {
+            return Some((place, Flaw::NotCounterclockwise(place)));
+        }
+    }
+    None
+}
+
+fn turns_left(mesh: &PlaneMesh, face: FixedFaceHandle<InnerTag>) -> bool
+    requires { 0 < face }
+{
+    let Some(face) = mesh.get_face(face) else {
+        return false;
+    };
+    let edge = face.adjacent_edge();
+    orient2d(
+        *edge.from().data(),
+        *edge.to().data(),
+        *edge.next().to().data(),
+    ) > 0
+}
+
+fn vertex_without_edge(mesh: &PlaneMesh) -> Option<usize> {
+    for number in 0..mesh.num_vertices() {
+        if mesh.is_unconnected(FixedVertexHandle::new(number)) {
+            return Some(number);
+        }
+    }
+    None
+}
+
+/// Tells of an edge between two triangles that the corner of one lies inside the circle of the
+/// other.
+fn flaw_of_edge(mesh: &PlaneMesh) -> Option<Flaw> {
+    for edge in mesh.live_undirected_edges() {
+        if is_circled(mesh, edge.fix()) {
+            let half = edge.as_directed();
+            return Some(Flaw::InCircle(
+                half.rev().prev().from().index(),
+                half.from().index(),
+                half.to().index(),
+                half.prev().from().index(),
+            ));
+        }
+    }
+    None
+}
+
+/// Tells where the border turns in, so that the outer face turns left, or that it goes wrong as a
+/// whole.
+fn flaw_of_border(mesh: &PlaneMesh) -> Flaw {
+    for edge in mesh.live_undirected_edges() {
+        for half in [edge.as_directed(), edge.as_directed().rev()] {
+            let (corner, after) = (half.to(), half.next().to());
+            if half.is_outer_edge()
+                && orient2d(*half.from().data(), *corner.data(), *after.data()) > 0
+            {
+                return Flaw::TurnsIn(corner.index());
+            }
+        }
+    }
+    Flaw::NotOnce
+}
+
+fn at_vertex(surface: &Surface, vertex: usize, flaw: Flaw) -> Fault {
+    at(&surface.vertex_lines, vertex, flaw)
+}
+
+/// Returns a flaw with the line of this place in a list.
+fn at(lines: &[usize], place: usize, flaw: Flaw) -> Fault {
+    match lines.get(place) {
+        Some(line) => Fault::FlawAt { line: *line, flaw },
+        None => Fault::Flaw(flaw),
+    }
+}

@@ -1,0 +1,25 @@
+//! Words of a file as messages show them.
+
+use std::alloc::{AllocError, Global};
+
+/// How many characters of a word are shown.
+const MOST: usize = 40;
+
+/// Returns the beginning of a word, so long as is shown of it.
+pub fn beginning(word: &str) -> &str {
+    match word.char_indices().nth(MOST) {
+        Some((end, _)) => word.get(..end).unwrap_or(word),
+        None => word,
+    }
+}
+
+/// Returns the beginning of a word with nothing in it that a terminal would act on.
+pub fn shown(alloc: Global, word: &str) -> Result<String, AllocError> {
+    let mut text = String::new(alloc);
+    for character in beginning(word).chars() {
+        for shown in character.escape_debug() {
+            text.push(shown)?;
+        }
+    }
+    Ok(text)
+}

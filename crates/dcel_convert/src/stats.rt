@@ -1,0 +1,213 @@
+//! How much a surface has of what.
+
+use crate::meshing::Solid;
+use crate::output::Text;
+use std::alloc::{AllocError, Global};
+use std::fmt::{self, Formatter};
+use std::io::{self, Write};
+
+/// How much a surface has of what. Borders and the genus are those of a surface on which each side
+/// belongs to one face, and the corners of each vertex are one turn.
+#[derive(Clone, Copy, PartialEq, Eq, Debug, Drop)]
+pub struct Stats {
+    /// How many vertices there are, those without a face too.
+    pub vertices: usize,
+    /// How many edges.
+    pub edges: usize,
+    /// How many faces, the outer one not among them unless the surface is closed.
+    pub faces: usize,
+    /// How many connected parts, vertices without an edge left aside.
+    pub parts: usize,
+    /// How many loops of sides that no face lies beyond.
+    pub borders: usize,
+    /// How many handles, those of all parts together.
+    pub genus: usize,
+}
+
+impl fmt::Display for Stats {
+    /// Writes what decides whether the surface can be a mesh.
+    fn fmt<W: fmt::Write>(&self, f: &mut Formatter<W>) -> fmt::Result {
+        write!(
+            f,
+            "{} part{}, {} border{}, genus {}",
+            self.parts,
+            plural(self.parts),
+            self.borders,
+            plural(self.borders),
+            self.genus
+        )
+    }
+}
+
+fn plural(count: usize) -> &'static str {
+    if count == 1 { "" } else { "s" }
+}
+
+impl Text for Stats {
+    fn write_to(&self, _: Global, writer: &mut impl Write) -> io::Result<()> {
+        writeln!(writer, "vertices {}", self.vertices)?;
+        writeln!(writer, "edges {}", self.edges)?;
+        writeln!(writer, "faces {}", self.faces)?;
+        writeln!(writer, "parts {}", self.parts)?;
+        writeln!(writer, "borders {}", self.borders)?;
+        writeln!(writer, "genus {}", self.genus)
+    }
+}
+
+impl Stats {
+    /// Tells it of a mesh, which lies on a sphere.
+    pub fn of_mesh(solid: &Solid) -> Stats {
+        let has_edges = solid.mesh.num_undirected_edges() > 0;
+        let parts = if has_edges { 1 } else { 0 };
+        Stats {
+            vertices: solid.mesh.num_vertices(),
+            edges: solid.mesh.num_undirected_edges(),
+            faces: solid.num_faces(),
+            parts,
+            borders: if solid.outer.is_some() { 0 } else { parts },
+            genus: 0,
+        }
+    }
+
+    /// Tells it of faces by their corners, which are vertices.
+    pub fn of_faces(
+        alloc: Global,
+        vertices: usize,
+        faces: &[Vec<u32>],
+    ) -> Result<Stats, AllocError> {
+        let sides = sorted_sides(alloc, faces)?;
+        let edges = count_edges(alloc, &sides)?;
+        let borders = count_borders(alloc, vertices, &sides)?;
+        let (used, parts) = count_parts(alloc, vertices, &sides)?;
+        // Vertices with a face, minus edges, plus faces, are twice the parts, minus the borders,
+        // minus twice the genus.
+        let above = edges.saturating_add(parts.saturating_mul(2));
+        let below = used.saturating_add(faces.len()).saturating_add(borders);
+        Ok(Stats {
+            vertices,
+            edges,
+            faces: faces.len(),
+            parts,
+            borders,
+            genus: above.saturating_sub(below) / 2,
+        })
+    }
+}
+
+/// Lists from where to where the sides of faces lead, in order.
+fn sorted_sides(alloc: Global, faces: &[Vec<u32>]) -> Result<Vec<(u32, u32)>, AllocError> {
+    let mut sides = Vec::new(alloc);
+    for corners in faces {
+        let behind = corners.iter().skip(1).chain(corners.first());
+        for (from, to) in corners.iter().zip(behind) {
+            sides.push((*from, *to))?;
+        }
+    }
+    sides.sort()?;
+    Ok(sides)
+}
+
+/// Counts the edges that sides belong to.
+fn count_edges(alloc: Global, sides: &[(u32, u32)]) -> Result<usize, AllocError> {
+    let mut edges = Vec::new(alloc);
+    for (from, to) in sides {
+        edges.push((*from.min(to), *from.max(to)))?;
+    }
+    edges.sort()?;
+    edges.dedup();
+    Ok(edges.len())
+}
+
+/// Counts the loops of sides that no other one leads back from.
+fn count_borders(
+    alloc: Global,
+    vertices: usize,
+    sides: &[(u32, u32)],
+) -> Result<usize, AllocError> {
+    let mut before = vec![in alloc; None; vertices]?;
+    for (from, to) in sides {
+        if sides.binary_search(&(*to, *from)).is_err() {
+            if let Some(side) = before.get_mut(*to as usize) {
+                *side = Some(*from);
+            }
+        }
+    }
+    let mut count: usize = 0;
+    for vertex in 0..vertices {
+        if take_loop(vertex, &mut before) {
+            count = count.saturating_add(1);
+        }
+    }
+    Ok(count)
+}
+
+/// Takes out the loop that leads from a vertex, if there is one.
+fn take_loop(vertex: usize, before: &mut [Option<u32>]) -> bool {
+    let mut at = vertex;
+    for steps in 0..before.len() {
+        match before.get_mut(at) {
+            Some(side) => match side.take() {
+                Some(next) => at = next as usize,
+                None => return steps > 0,
+            },
+            None => return steps > 0,
+        }
+    }
+    true
+}
+
+/// Counts the vertices that sides start at, and the parts that sides connect them to.
+fn count_parts(
+    alloc: Global,
+    vertices: usize,
+    sides: &[(u32, u32)],
+) -> Result<(usize, usize), AllocError> {
+    let mut reached = vec![in alloc; false; vertices]?;
+    let (mut used, mut parts): (usize, usize) = (0, 0);
+    for (from, _) in sides {
+        if is_reached(&reached, *from) {
+            continue;
+        }
+        parts = parts.saturating_add(1);
+        used = used.saturating_add(reach(alloc, *from, sides, &mut reached)?);
+    }
+    Ok((used, parts))
+}
+
+/// Returns whether a vertex is noted as reached; what is no vertex counts as such.
+fn is_reached(reached: &[bool], vertex: u32) -> bool {
+    reached.get(vertex as usize).copied().unwrap_or(true)
+}
+
+/// Notes the vertices that sides lead to from this one, and counts them.
+fn reach(
+    alloc: Global,
+    first: u32,
+    sides: &[(u32, u32)],
+    reached: &mut [bool],
+) -> Result<usize, AllocError> {
+    let mut found = vec![in alloc; first]?;
+    note(first, reached);
+    for place in 0..reached.len() {
+        let Some(vertex) = found.get(place).copied() else {
+            break;
+        };
+        let start = sides.partition_point(|side| side.0 < vertex);
+        for (from, to) in sides.get(start..).unwrap_or(sides) {
+            if *from != vertex {
+                break;
+            }
+            if !is_reached(reached, *to) {
+                note(*to, reached);
+                found.push(*to)?;
+            }
+        }
+    }
+    Ok(found.len())
+}
+
+fn note(vertex: u32, reached: &mut [bool]) {
+    if let Some(known) = reached.get_mut(vertex as usize) {
+        *known = true;
+    }
+}

@@ -1,0 +1,4 @@
+pub mod Places
+pub mod Covering
+pub mod Delaunay
+pub mod Round

@@ -1,0 +1,54 @@
+use Rattle.std.proofs.Common.{append_assoc, arith, subst, sym}
+use Rattle.std.proofs.lemmas.Grind.{common_steps}
+use Rattle.dcel_maps.specs.edits.Triangle.{vertex_inserted}
+use Rattle.dcel_plane.specs.Edges.{edges_inserted}
+use Rattle.dcel_delaunay.specs.Growing.{HasHull, MayRefuse}
+use Rattle.dcel_delaunay.proofs.Growth.{inserted-keeps}
+use Rattle.dcel_delaunay.proofs.Hull.{inserted-hull}
+use Rattle.dcel_delaunay.proofs.Puts.{as_it_was, put_back, put_gains, put_holds, put_sound}
+use Rattle.dcel_delaunay.proofs.Sound.{inserted-sound}
+use Rattle.dcel_delaunay.proofs.placing.put_in_face.Goals as goal
+
+pub returns-in_default-clause-refused : goal.returns-in_default-clause-refused
+returns-in_default-clause-refused g c = (
+  subst (MayRefuse c.args.dcel.now.shape) (sym c.take_back.ensures.answer) tt,
+  put_back c.args.dcel.now _ _ _ c.args.point _ c.every_mesh.ensures c.requires.sound.closed c.in_ok-vertex.ensures.edit
+      c.in_ok-vertex.ensures.answer c.in_default.ensures.refused c.take_back.ensures.edit,
+)
+
+pub returns-in_default-clause-sound : goal.returns-in_default-clause-sound
+returns-in_default-clause-sound g c =
+    as_it_was c.args.dcel.now _ c.args.due.now.items _
+    (put_back c.args.dcel.now _ _ _ c.args.point _ c.every_mesh.ensures c.requires.sound.closed c.in_ok-vertex.ensures.edit
+    c.in_ok-vertex.ensures.answer c.in_default.ensures.refused c.take_back.ensures.edit)
+    c.reserve.ensures.items c.requires.sound
+
+pub returns-clause-sound : goal.returns-clause-sound
+returns-clause-sound g c =
+    let old = c.args.dcel.now in
+    let due = c.args.due.now.items in
+    put_sound (λ m v h e f. vertex_inserted m v c.args.face h e f) _ _ _ 3 2 old _ _ c.args.point _ due (edges_inserted old c.args.face) _
+    (λ h e f mid done. inserted-sound old c.every_mesh.ensures c.args.point due c.requires.sound mid h e f c.args.face c.requires.inner c.requires.triangle c.requires.inside done)
+    c.in_ok-vertex.ensures.edit c.in_ok-vertex.ensures.answer c.in-Ok.ensures.edit c.in_ok-vertex.ensures.mesh c.insert_into_triangle.ensures.mesh
+    (rw (
+      c.push_reserved-3.ensures.items,
+      c.push_reserved-2.ensures.items,
+      c.push_reserved.ensures.items,
+      c.reserve.ensures.items,
+      c.edges_of-sides.ensures,
+    ) (simp append_assoc))
+
+pub returns-clause-gains : goal.returns-clause-gains
+returns-clause-gains g c =
+    put_gains (λ m v h e f. vertex_inserted m v c.args.face h e f) (λ m closed v h e f. inserted-keeps m closed v c.args.face h e f) _ _ _ 3 2 c.args.dcel.now _ _ c.args.point _
+    c.requires.sound.closed c.in_ok-vertex.ensures.edit c.in_ok-vertex.ensures.answer c.in-Ok.ensures.edit
+
+pub push_reserved-requires-3 : goal.push_reserved-requires-3
+push_reserved-requires-3 g c = grind (arith, common_steps)
+
+pub returns-clause-hull : goal.returns-clause-hull
+returns-clause-hull g c =
+    let old = c.args.dcel.now in
+    put_holds (λ m. HasHull m) (λ m v h e f. vertex_inserted m v c.args.face h e f) _ _ _ 3 2 old _ _ c.args.point _
+    (λ h e f mid done. inserted-hull old c.every_mesh.ensures c.args.point c.args.due.now.items c.requires.sound c.requires.hull mid h e f c.args.face c.requires.inner c.requires.triangle c.requires.inside done)
+    c.in_ok-vertex.ensures.edit c.in_ok-vertex.ensures.answer c.in-Ok.ensures.edit c.in_ok-vertex.ensures.mesh c.insert_into_triangle.ensures.mesh

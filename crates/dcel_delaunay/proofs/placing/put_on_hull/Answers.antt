@@ -1,0 +1,56 @@
+use Rattle.std.proofs.Common.{append_assoc, subst, sym}
+use Rattle.dcel_maps.specs.edits.Split.{half_edge_split}
+use Rattle.dcel_plane.specs.Edges.{edges_half_split}
+use Rattle.dcel_delaunay.specs.Growing.{HasHull, MayRefuse}
+use Rattle.dcel_delaunay.proofs.Growth.{half_split-keeps}
+use Rattle.dcel_delaunay.proofs.Hull.{half_split-hull}
+use Rattle.dcel_delaunay.proofs.Puts.{as_it_was, put_back, put_gains, put_holds, put_sound}
+use Rattle.dcel_delaunay.proofs.Sound.{half_split-sound}
+use Rattle.dcel_delaunay.proofs.placing.put_on_hull.Goals as goal
+
+pub returns-in_default-clause-refused : goal.returns-in_default-clause-refused
+returns-in_default-clause-refused g c = (
+  subst (MayRefuse c.args.dcel.now.shape) (sym c.take_back.ensures.answer) tt,
+  put_back c.args.dcel.now _ _ _ c.args.point _ c.every_mesh.ensures c.requires.sound.closed c.in_ok-vertex.ensures.edit
+      c.in_ok-vertex.ensures.answer c.in_default.ensures.refused c.take_back.ensures.edit,
+)
+
+pub returns-in_default-clause-sound : goal.returns-in_default-clause-sound
+returns-in_default-clause-sound g c =
+    as_it_was c.args.dcel.now _ c.args.due.now.items _
+    (put_back c.args.dcel.now _ _ _ c.args.point _ c.every_mesh.ensures c.requires.sound.closed c.in_ok-vertex.ensures.edit
+    c.in_ok-vertex.ensures.answer c.in_default.ensures.refused c.take_back.ensures.edit)
+    c.reserve.ensures.items c.requires.sound
+
+pub returns-clause-sound : goal.returns-clause-sound
+returns-clause-sound g c =
+    let old = c.args.dcel.now in
+    let due = c.args.due.now.items in
+    put_sound (λ m v h e f. half_edge_split m c.args.edge v h e f) _ _ _ 2 1 old _ _ c.args.point _ due (edges_half_split old.shape c.args.edge) _
+    (λ h e f mid done. half_split-sound old c.every_mesh.ensures c.args.point due c.requires.sound mid h e f c.args.edge c.requires.live c.requires.triangle c.requires.inner c.requires.outer c.requires.across done)
+    c.in_ok-vertex.ensures.edit c.in_ok-vertex.ensures.answer c.in-Ok.ensures.edit c.in_ok-vertex.ensures.mesh c.split_half_edge.ensures.mesh
+    (rw (
+      c.push_reserved-5.ensures.items,
+      c.push_reserved-4.ensures.items,
+      c.push_reserved-3.ensures.items,
+      c.push_reserved-2.ensures.items,
+      c.push_reserved.ensures.items,
+      c.reserve.ensures.items,
+      c.new-2.ensures,
+      c.new.ensures,
+      c.as_undirected.ensures,
+      c.num_undirected_edges-count.ensures.count,
+      c.edges_next_to-sides.ensures,
+    ) (simp append_assoc))
+
+pub returns-clause-gains : goal.returns-clause-gains
+returns-clause-gains g c =
+    put_gains (λ m v h e f. half_edge_split m c.args.edge v h e f) (λ m closed v h e f. half_split-keeps m closed c.args.edge v h e f) _ _ _ 2 1 c.args.dcel.now _ _ c.args.point _
+    c.requires.sound.closed c.in_ok-vertex.ensures.edit c.in_ok-vertex.ensures.answer c.in-Ok.ensures.edit
+
+pub returns-clause-hull : goal.returns-clause-hull
+returns-clause-hull g c =
+    let old = c.args.dcel.now in
+    put_holds (λ m. HasHull m) (λ m v h e f. half_edge_split m c.args.edge v h e f) _ _ _ 2 1 old _ _ c.args.point _
+    (λ h e f mid done. half_split-hull old c.every_mesh.ensures c.args.point c.args.due.now.items c.requires.sound c.requires.hull mid h e f c.args.edge c.requires.live c.requires.triangle c.requires.inner c.requires.outer c.requires.across c.requires.on done)
+    c.in_ok-vertex.ensures.edit c.in_ok-vertex.ensures.answer c.in-Ok.ensures.edit c.in_ok-vertex.ensures.mesh c.split_half_edge.ensures.mesh

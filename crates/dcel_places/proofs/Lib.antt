@@ -1,0 +1,10 @@
+pub mod Counting
+pub mod Crossed
+pub mod Ending
+pub mod Ways
+pub mod Exact
+pub mod OnLine
+pub mod OnceOnLine
+pub mod Found
+pub mod Lexical
+pub mod OneEdge

@@ -1,0 +1,7 @@
+//! Where a point lies in a triangulation, and walks towards it.
+//!
+//! Contracts of the crates above cite these definitions; nothing here runs. Module [`laws`] has
+//! what follows from them.
+#![tactic(auto)]
+
+pub mod laws;

@@ -1,0 +1,210 @@
+//! A vertex put into a triangle and taken out again, what lies around it, and flips that keep a
+//! mesh simple.
+
+use dcel_bench::checks::{holds, same};
+use dcel_bench::lines::grown;
+use dcel_bench::meshes::{Mesh, inner_face, undirected_edge, vertex};
+use dcel_bench::refusing::{Memory, Refusals, Refusing};
+use dcel_bench::snapshots::snapshot_of;
+use dcel_convenience::{
+    WhyNotInserted, WhyNotRemoved, can_flip_simple, degree, insert_vertex, neighbors, remove_vertex,
+};
+use spade_dcel::handles::FixedVertexHandle;
+use std::alloc::{Allocator, Global};
+use std::test::Fail;
+
+/// No call here makes so many requests for memory.
+const MANY: u64 = 100;
+
+/// A triangle with a vertex inside, whose edges are 3, 4 and 5.
+const INNER: &str = "triangle 7 8 9\nappend 10\ninsert 3 1";
+
+/// Checks the degree of a vertex and its neighbors.
+fn check_around<A: Allocator>(
+    dcel: &Mesh<A>,
+    center: FixedVertexHandle,
+    wanted: &[usize],
+    alloc: Global,
+) -> Result<(), Fail> {
+    let Some(center) = dcel.get_vertex(center) else {
+        return Err(Fail::new("there is no such vertex"));
+    };
+    same(degree(center), wanted.len(), "the degree")?;
+    let found = neighbors(alloc, center)?;
+    same(found.len(), wanted.len(), "the number of neighbors")?;
+    for (found, wanted) in found.iter().zip(wanted) {
+        same(found.index(), *wanted, "a neighbor")?;
+    }
+    Ok(())
+}
+
+#[test]
+fn neighbors_come_counterclockwise(rt: HostRuntime) -> Result<(), Fail> {
+    let dcel = grown(rt.alloc(), INNER)?;
+    check_around(&dcel, vertex(3), &[0, 2, 1], rt.alloc())?;
+    let lonely = grown(rt.alloc(), "append 5")?;
+    check_around(&lonely, vertex(0), &[], rt.alloc())
+}
+
+/// Puts a vertex into a face, for which it is refused, or for which it isn't.
+fn check_inserted<A: Allocator>(
+    dcel: &mut Mesh<A>,
+    face: u32,
+    why: Option<WhyNotInserted>,
+) -> Result<(), Fail> {
+    match insert_vertex(dcel, 11, inner_face(face)) {
+        Ok(_) => same(None, why, "why no vertex is put in"),
+        Err(refused) => {
+            same(refused.back, 11, "the datum")?;
+            same(Some(refused.why), why, "why no vertex is put in")
+        }
+    }
+}
+
+#[test]
+fn vertices_are_put_into_triangles(rt: HostRuntime) -> Result<(), Fail> {
+    let mut dcel = grown(rt.alloc(), "triangle 7 8 9")?;
+    check_inserted(&mut dcel, 0, Some(WhyNotInserted::NoTriangle))?;
+    check_inserted(&mut dcel, 2, Some(WhyNotInserted::NoTriangle))?;
+    check_inserted(&mut dcel, 1, None)?;
+    check_around(&dcel, vertex(3), &[0, 2, 1], rt.alloc())?;
+    let mut open = grown(
+        rt.alloc(),
+        "triangle 7 8 9\nappend 10\ninsert 3 1\nisolate 3 1 3 5",
+    )?;
+    check_inserted(&mut open, 1, Some(WhyNotInserted::RemovalOpen))
+}
+
+/// Takes a vertex out, for which it is refused, or for which it isn't and has this datum.
+fn check_removed<A: Allocator + Clone>(
+    dcel: &mut Mesh<A>,
+    center: u32,
+    wanted: Result<i64, WhyNotRemoved>,
+    alloc: Global,
+) -> Result<(), Fail> {
+    match remove_vertex(dcel, alloc, vertex(center)) {
+        Ok(taken) => same(Ok(taken.removed_vertex), wanted, "what is taken out"),
+        Err(why) => same(Err(why), wanted, "what is taken out"),
+    }
+}
+
+#[test]
+fn vertices_inside_triangles_are_taken_out(rt: HostRuntime) -> Result<(), Fail> {
+    let mut dcel = grown(rt.alloc(), INNER)?;
+    let alloc = rt.alloc();
+    check_removed(&mut dcel, 0, Err(WhyNotRemoved::NotInside), alloc)?;
+    check_removed(&mut dcel, 9, Err(WhyNotRemoved::NotInside), alloc)?;
+    check_removed(&mut dcel, 3, Ok(10), alloc)?;
+    same(dcel.num_vertices(), 3, "the vertices left")?;
+    same(dcel.num_undirected_edges(), 3, "the edges left")?;
+    let mut open = grown(
+        rt.alloc(),
+        "triangle 7 8 9\nappend 10\ninsert 3 1\nisolate 3 1 3 5",
+    )?;
+    check_removed(&mut open, 3, Err(WhyNotRemoved::RemovalOpen), alloc)
+}
+
+#[test]
+fn flips_that_make_a_second_edge_are_told(rt: HostRuntime) -> Result<(), Fail> {
+    let dcel = grown(rt.alloc(), INNER)?;
+    holds(
+        dcel.can_flip(undirected_edge(3)),
+        "an inner edge can be flipped",
+    )?;
+    holds(
+        !can_flip_simple(&dcel, undirected_edge(3)),
+        "its corners are joined already",
+    )?;
+    holds(
+        !can_flip_simple(&dcel, undirected_edge(0)),
+        "it is on the hull",
+    )?;
+    holds(!can_flip_simple(&dcel, undirected_edge(9)), "it is none")?;
+    let finer = grown(
+        rt.alloc(),
+        "triangle 7 8 9\nappend 10\ninsert 3 1\nappend 11\ninsert 4 1",
+    )?;
+    holds(
+        can_flip_simple(&finer, undirected_edge(3)),
+        "its corners are apart",
+    )
+}
+
+/// A call that may find no memory.
+#[derive(Clone, Copy, Debug)]
+enum Call {
+    Insert,
+    Remove,
+    Neighbors,
+}
+
+/// Makes the call. Returns whether there was memory; the datum comes back if there was none.
+fn is_done<'a>(dcel: &mut Mesh<Memory<'a>>, call: Call, memory: Memory<'a>) -> Result<bool, Fail> {
+    match call {
+        Call::Insert => match insert_vertex(dcel, 11, inner_face(1)) {
+            Ok(_) => Ok(true),
+            Err(refused) => {
+                same(refused.why, WhyNotInserted::OutOfMemory, "why")?;
+                same(refused.back, 11, "the datum")?;
+                Ok(false)
+            }
+        },
+        Call::Remove => match remove_vertex(dcel, memory, vertex(3)) {
+            Ok(taken) => same(taken.removed_vertex, 10, "the datum").map(|_| true),
+            Err(why) => same(why, WhyNotRemoved::OutOfMemory, "why").map(|_| false),
+        },
+        Call::Neighbors => match dcel.get_vertex(vertex(3)) {
+            Some(center) => Ok(neighbors(memory, center).is_ok()),
+            None => Err(Fail::new("there is no such vertex")),
+        },
+    }
+}
+
+/// Makes the call with the request of this number refused, which changes nothing, and then again.
+/// Returns whether the request came.
+fn refuse_one<'a>(
+    dcel: &mut Mesh<Memory<'a>>,
+    call: Call,
+    memory: Memory<'a>,
+    number: u64,
+    alloc: Global,
+) -> Result<bool, Fail> {
+    let before = snapshot_of(dcel, alloc)?;
+    memory.refuse(Refusals::One(number));
+    let is_done_at_once = is_done(dcel, call, memory)?;
+    let came = memory.requests() > number;
+    memory.refuse(Refusals::None);
+    same(is_done_at_once, !came, "whether there was memory")?;
+    if came {
+        holds(snapshot_of(dcel, alloc)? == before, "the mesh is as it was")?;
+        holds(
+            is_done(dcel, call, memory)?,
+            "the call succeeds when made again",
+        )?;
+    }
+    Ok(came)
+}
+
+/// Refuses the request of this number in memory of its own. Returns whether it came.
+fn is_refused(call: Call, number: u64, alloc: Global) -> Result<bool, Fail> {
+    let memory = Refusing::new(alloc);
+    let mut dcel = grown(&memory, INNER)?;
+    refuse_one(&mut dcel, call, &memory, number, alloc)
+}
+
+/// Refuses each request of a call in turn.
+fn refuse_each(call: Call, alloc: Global) -> Result<(), Fail> {
+    for number in 0..MANY {
+        if !is_refused(call, number, alloc)? {
+            return holds(number > 0, format_args!("{call:?} asks for memory"));
+        }
+    }
+    Err(Fail::new("more requests than MANY"))
+}
+
+#[test]
+fn calls_are_refused_memory(rt: HostRuntime) -> Result<(), Fail> {
+    refuse_each(Call::Insert, rt.alloc())?;
+    refuse_each(Call::Remove, rt.alloc())?;
+    refuse_each(Call::Neighbors, rt.alloc())
+}
