@@ -5,6 +5,9 @@ use spade_dcel::dcel::Dcel;
 use spade_dcel::handles::{FixedUndirectedEdgeHandle, FixedVertexHandle};
 use std::alloc::Allocator;
 
+/// How far a vertex that is given up is from its only neighbor.
+const ALONE: f64 = 0.3;
+
 /// Gives a vertex that is given up a place: inside, in the middle of its neighbors before; on the
 /// outer face, beyond them.
 pub(crate) fn set_given_up<V, DE, UE, F, A: Allocator>(
@@ -12,10 +15,11 @@ pub(crate) fn set_given_up<V, DE, UE, F, A: Allocator>(
     before: &Dcel<V, DE, UE, F, A>,
     places: &mut [Option<Place>],
 ) {
+    let center = middle_of(places);
     for number in 0..mesh.num_vertices() {
         let vertex = FixedVertexHandle::new(number);
         if !mesh.is_live_vertex(vertex) {
-            let place = place_among(before, vertex, places);
+            let place = place_among(before, vertex, places, center);
             if let Some(one) = places.get_mut(number) {
                 *one = place;
             }
@@ -27,6 +31,7 @@ fn place_among<V, DE, UE, F, A: Allocator>(
     before: &Dcel<V, DE, UE, F, A>,
     vertex: FixedVertexHandle,
     places: &[Option<Place>],
+    center: Place,
 ) -> Option<Place> {
     let mut sum = Place::new(0.0, 0.0);
     let mut count: f64 = 0.0;
@@ -49,10 +54,27 @@ fn place_among<V, DE, UE, F, A: Allocator>(
         return None;
     }
     let middle = sum.times(1.0 / count);
+    if count == 1.0 {
+        // Its only neighbor is there.
+        return Some(middle.plus(middle.minus(center).unit().times(ALONE)));
+    }
     if along.length() == 0.0 {
         return Some(middle);
     }
     Some(middle.plus(along.left()))
+}
+
+/// Returns the middle of all places.
+fn middle_of(places: &[Option<Place>]) -> Place {
+    let mut sum = Place::new(0.0, 0.0);
+    let mut count: f64 = 0.0;
+    for place in places {
+        if let Some(place) = place {
+            sum = sum.plus(*place);
+            count += 1.0;
+        }
+    }
+    sum.times(1.0 / count.max(1.0))
 }
 
 /// Moves a vertex that is given up off the edges that have been put in since, and off vertices.

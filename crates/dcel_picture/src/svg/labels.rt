@@ -12,6 +12,9 @@ use std::num::nearest_usize_to_f64;
 /// How many places are tried in each direction.
 const TRIED: usize = 18;
 
+/// How far those round the circle inside a triangle are from its middle, as a part of its radius.
+const FAR: f64 = 3.0;
+
 /// How large a number is where there is room for it, and how large it is elsewhere.
 const SIZES: [f64; 5] = [LARGE, 11.0, 9.5, 8.0, 6.5];
 
@@ -198,16 +201,37 @@ fn free_label<B: Allocator>(inside: Inside, room: &Room<B>) -> Label {
 }
 
 /// Returns a place for a label, and what it is worth: the middle of a triangle's circle, if nothing
-/// stands near; else the best place of those that are tried.
+/// stands near; else the best place of those that are tried, or, if it has no room at these, of some
+/// that are closer together round that circle.
 fn best_place<B: Allocator>(inside: Inside, label: Label, room: &Room<B>) -> (Place, f64) {
-    if let Some(corners) = inside.triangle() {
-        let middle = middle_of_circle(corners);
-        let found = worth(inside, label.at(middle), room);
-        if found > 0.9 * inside.depth(middle) {
-            return (middle, found);
-        }
-    }
     let (low, high) = inside.corners();
+    let Some(corners) = inside.triangle() else {
+        return best_between(low, high, inside, label, room);
+    };
+    let middle = middle_of_circle(corners);
+    let depth = inside.depth(middle);
+    let found = worth(inside, label.at(middle), room);
+    // Nor is there room elsewhere for what is higher than the circle.
+    if found > 0.9 * depth || depth < 0.4 * label.size + CLEAR {
+        return (middle, found);
+    }
+    let best = best_between(low, high, inside, label, room);
+    if best.1 > 0.0 {
+        return best;
+    }
+    let reach = Place::new(FAR * depth, FAR * depth);
+    let closer = best_between(middle.minus(reach), middle.plus(reach), inside, label, room);
+    if closer.1 > best.1 { closer } else { best }
+}
+
+/// Returns the best of places between two corners, and what it is worth.
+fn best_between<B: Allocator>(
+    low: Place,
+    high: Place,
+    inside: Inside,
+    label: Label,
+    room: &Room<B>,
+) -> (Place, f64) {
     let step = high.minus(low).times(1.0 / nearest_usize_to_f64(TRIED));
     let (mut best, mut most) = (low.middle(high), -f64::INFINITY);
     for number in 0..TRIED * TRIED {
