@@ -44,6 +44,9 @@ pub enum Fault {
     /// The program doesn't know an argument.
     BadArguments,
 
+    /// An argument asks how the program is used.
+    Help,
+
     /// A read of the clock or of the arguments failed, or a write.
     Io(io::Error),
 }
@@ -54,7 +57,7 @@ impl fmt::Display for Fault {
             Fault::Build(BuildError::NoMemory) => write!(f, "out of memory"),
             Fault::Build(BuildError::NoRoom) => write!(f, "the size is too large"),
             Fault::Build(BuildError::NoEdge) => write!(f, "no edge to split was drawn"),
-            Fault::BadArguments => {
+            Fault::BadArguments | Fault::Help => {
                 write!(
                     f,
                     "usage: dcel_speed [WORKLOAD,WORKLOAD.. [SIZE,SIZE.. [full] [checksums]]]"
