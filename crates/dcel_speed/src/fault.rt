@@ -2,7 +2,8 @@
 
 use spade_dcel::operations::NoMemory;
 use std::alloc::{AllocError, AllocFailed};
-use std::{fmt, io};
+use std::fmt;
+use std::io::{self, ErrorKind};
 
 /// Why a mesh was not built. It fits a register, so returning one costs an edit nothing.
 #[derive(Clone, Copy, Debug)]
@@ -49,6 +50,16 @@ pub enum Fault {
 
     /// A read of the clock or of the arguments failed, or a write.
     Io(io::Error),
+}
+
+impl Fault {
+    /// Returns whether nobody reads the output any more.
+    pub fn is_end_of_reader(&self) -> bool {
+        match self {
+            Fault::Io(error) => error.kind() == ErrorKind::BrokenPipe,
+            _ => false,
+        }
+    }
 }
 
 impl fmt::Display for Fault {
