@@ -5,37 +5,38 @@ ghost use Rattle.dcel_maps.specs.Shapes.{face_is_live};
 ghost use Rattle.spade_dcel.specs.Handles.{mesh_behind, number_of};
 
 use crate::arguments::Output;
-use crate::fault::Fault;
 use crate::triangulating::Drawn;
 use dcel_delaunay::{Mesh, Point};
+use dcel_programs::Text;
 use spade_dcel::handles::{FaceHandle, InnerTag};
 use spade_dcel::iterators::HullIterator;
-use std::io::{self, BufWriter, Write};
+use std::alloc::Global;
+use std::io::{self, Write};
 
 /// A triangle of the triangulation.
 type Triangle<'a> = FaceHandle<'a, InnerTag, Point, (), (), ()>;
 
-/// Writes what is asked for.
-pub fn write_asked(
-    rt: &(impl Print + AllocGlobal),
-    output: Output,
-    drawn: &Drawn,
-) -> Result<(), Fault> {
-    let mut writer = BufWriter::new(rt.alloc(), io::writer(rt))?;
-    write_output(&mut writer, output, drawn).map_err(Fault::Output)
+/// What is asked for of a triangulation.
+#[derive(Clone, Copy)]
+pub struct Written<'a> {
+    /// What to write.
+    pub output: Output,
+    /// The triangulation.
+    pub drawn: &'a Drawn<'a>,
 }
 
-fn write_output(writer: &mut impl Write, output: Output, drawn: &Drawn) -> io::Result<()> {
-    match output {
-        Output::Triangles => write_triangles(writer, drawn)?,
-        Output::Neighbors => write_neighbors(writer, drawn)?,
-        Output::Edges => write_edges(writer, drawn)?,
-        Output::Hull => write_hull(writer, drawn)?,
-        Output::Stats => write_stats(writer, drawn)?,
-        Output::Off => write_off(writer, drawn)?,
-        Output::Obj => write_obj(writer, drawn)?,
+impl<'a> Text for Written<'a> {
+    fn write_to(&self, _: Global, writer: &mut impl Write) -> io::Result<()> {
+        match self.output {
+            Output::Triangles => write_triangles(writer, self.drawn),
+            Output::Neighbors => write_neighbors(writer, self.drawn),
+            Output::Edges => write_edges(writer, self.drawn),
+            Output::Hull => write_hull(writer, self.drawn),
+            Output::Stats => write_stats(writer, self.drawn),
+            Output::Off => write_off(writer, self.drawn),
+            Output::Obj => write_obj(writer, self.drawn),
+        }
     }
-    writer.flush()
 }
 
 /// Writes the corners of each triangle, counterclockwise, the least number first.
