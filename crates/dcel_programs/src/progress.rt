@@ -1,5 +1,7 @@
 //! How far a program is, told where someone is waiting.
 
+ghost use Rattle.std.specs.Prelude.{◌≡◌, false, IsOk};
+
 use std::io;
 
 /// Tells how far a program is, if standard error is a terminal.
@@ -20,7 +22,9 @@ impl Progress {
         done: usize,
         all: usize,
         things: &str,
-    ) -> io::Result<()> {
+    ) -> io::Result<()>
+        ensures { self.is_shown ≡ false → IsOk result }
+    {
         if self.is_worth(all) && done < all && done % STEP == 0 {
             eprint!(rt; "\r{done} of {all} {things}")?;
         }
@@ -28,7 +32,9 @@ impl Progress {
     }
 
     /// Clears what was shown.
-    pub fn clear(self, rt: &impl Eprint, all: usize) -> io::Result<()> {
+    pub fn clear(self, rt: &impl Eprint, all: usize) -> io::Result<()>
+        ensures { self.is_shown ≡ false → IsOk result }
+    {
         if self.is_worth(all) {
             eprint!(rt; "\r\x1b[K")?;
         }
@@ -36,7 +42,9 @@ impl Progress {
     }
 
     /// Returns whether there are so many things that somebody would wait.
-    fn is_worth(self, all: usize) -> bool {
+    fn is_worth(self, all: usize) -> bool
+        ensures { self.is_shown ≡ false → result ≡ false }
+    {
         self.is_shown && all >= STEP
     }
 }

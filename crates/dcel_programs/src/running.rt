@@ -1,5 +1,9 @@
 //! How programs run and end.
 
+ghost use Rattle.std.specs.Prelude.{◌≡◌, ◌≤◌, ¬};
+ghost use Rattle.std.specs.Process.{exit_status};
+ghost use Rattle.dcel_programs.specs.Endings.{IsEndOfReader};
+
 use crate::arguments::{Given, Program};
 use crate::fault::Fault;
 use std::env;
@@ -49,7 +53,10 @@ fn try_run<'a, T, W: Display + Debug + Drop, F: FnOnce(&Given<'_>) -> Result<(),
 }
 
 /// Tells why a program gives up, and returns its status.
-fn end<W: Display + Debug + Drop>(rt: &impl Eprint, name: &str, fault: &Fault<W>) -> ExitCode {
+fn end<W: Display + Debug + Drop>(rt: &impl Eprint, name: &str, fault: &Fault<W>) -> ExitCode
+    ensures reader { IsEndOfReader fault.now → exit_status result ≡ 0 }
+    ensures fails { ¬ IsEndOfReader fault.now → exit_status result ≡ 1 }
+{
     if fault.is_end_of_reader() {
         return ExitCode::SUCCESS;
     }
