@@ -1,6 +1,6 @@
 //! The words that a program is started with.
 
-ghost use Rattle.std.specs.Prelude.{◌≡◌, ◌≢◌, Contains, IfSome, codes};
+ghost use Rattle.std.specs.Prelude.{◌≢◌, IfSome, codes};
 
 use clap::builder::ValueParser;
 use clap::{Arg, ArgAction, ArgMatches, Command};
@@ -141,9 +141,7 @@ impl<'a> Given<'a> {
     }
 
     /// Returns what the option stands for that is chosen, if one is.
-    pub fn choice<T: Copy>(&self, choices: &[Choice<'_, T>]) -> Option<T>
-        ensures { IfSome result (λ means. (choice : Choice T) × Contains choices.now choice × (choice.means ≡ means)) }
-    {
+    pub fn choice<T: Copy>(&self, choices: &[Choice<'_, T>]) -> Option<T> {
         for choice in choices {
             if self.has(choice.name) {
                 return Some(choice.means);

@@ -1,6 +1,6 @@
 //! Texts that are read, line by line.
 
-ghost use Rattle.std.specs.Prelude.{◌≡◌, ¬, IfOk};
+ghost use Rattle.std.specs.Prelude.{◌≡◌, ◌==◌, IfOk};
 ghost use Rattle.std.specs.List.{before_first};
 ghost use Rattle.std.specs.Str.{IsUtf8};
 ghost use Rattle.std.specs.Str.Lossy.{utf8_lossy};

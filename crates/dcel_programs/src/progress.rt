@@ -2,27 +2,27 @@
 
 ghost use Rattle.std.specs.Prelude.{◌≡◌, false, IsOk};
 
-use std::io;
+use std::io::{self, IsTerminal};
 
-/// Tells how far a program is, if standard error is a terminal.
+/// Tells on standard error how far a program is, if that is a terminal.
 #[derive(Clone, Copy)]
 pub struct Progress {
-    /// Whether it tells anything.
-    pub is_shown: bool,
+    is_shown: bool,
 }
 
 /// After how many things the next number is shown.
 const STEP: usize = 65_536;
 
 impl Progress {
+    /// Tells it if this is a terminal.
+    pub fn at(stderr: &impl IsTerminal) -> Self {
+        Progress {
+            is_shown: stderr.is_terminal(),
+        }
+    }
+
     /// Shows how many of all things are done, now and then until all are.
-    pub fn show(
-        self,
-        rt: &impl Eprint,
-        done: usize,
-        all: usize,
-        things: &str,
-    ) -> io::Result<()>
+    pub fn show(self, rt: &impl Eprint, done: usize, all: usize, things: &str) -> io::Result<()>
         ensures { self.is_shown ≡ false → IsOk result }
     {
         if self.is_worth(all) && done < all && done % STEP == 0 {
