@@ -2,7 +2,7 @@
 use Rattle.std.specs.Prelude.{ℕ, ℤ, ◌+◌, List, length}
 use Rattle.dcel_commands.specs.declared.commands.command.Command.{Command}
 use Rattle.dcel_commands.specs.declared.commands.command.Command.TheVariants as commands
-use Rattle.dcel_commands.specs.declared.request.Query.{Query}
+use Rattle.dcel_commands.specs.declared.commands.query.Query.{Query}
 use Rattle.dcel_commands.specs.declared.request.Request.{Request}
 use Rattle.dcel_commands.specs.declared.request.Request.TheVariants as requests
 

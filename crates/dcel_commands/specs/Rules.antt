@@ -2,6 +2,7 @@
 use Rattle.std.specs.Prelude.{ℕ, ℤ, Bool, List}
 use Rattle.dcel_commands.specs.declared.commands.reply.Handed.{Handed}
 use Rattle.dcel_commands.specs.Conditions.{Entry}
+use Rattle.dcel_commands.specs.Facts.{Fact}
 use Rattle.dcel_commands.specs.Grammar.{Item}
 use Rattle.dcel_commands.specs.Responses.{Response}
 use Rattle.dcel_maps.specs.Shapes.{Mesh}
@@ -21,9 +22,9 @@ pub record CommandRule (V : Type 0) : Type 1 where
 abbrev pub State : Type 0
 State = Mesh ℤ ℤ ℤ ℤ
 
--- of a query: how it is written, what it asks, and by which text it may be answered about a mesh
+-- of a query: how it is written, what it asks, and what it is told of a mesh
 pub record QueryRule : Type 1 where
   pub word : List ℕ
   pub given : List (Item ℤ)
   pub asks : List Entry
-  pub Tells : State → List ℕ → Type 0
+  pub Tells : {V DE UE F : Type 0} → Mesh V DE UE F → Fact V → Type 0
