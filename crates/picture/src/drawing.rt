@@ -4,6 +4,7 @@ ghost use Rattle.std.specs.Prelude.{◌≡◌, OnErr};
 
 use crate::fault::Wrong;
 use dcel_commands::commands::{Command, MAX_LIMIT, Request, apply, read, tell};
+use dcel_programs::before_comment;
 use spade_dcel::dcel::{Dcel, RemovalState};
 use spade_dcel::operations;
 use std::alloc::{AllocError, Global};
@@ -77,13 +78,6 @@ impl Drawing {
             self.before = None;
         }
         Ok(())
-    }
-}
-
-fn before_comment(line: &str) -> &str {
-    match line.split_once('#') {
-        Some((before, _)) => before,
-        None => line,
     }
 }
 
