@@ -5,7 +5,7 @@ use Rattle.dcel_commands.specs.declared.commands.query.Query.{Query}
 use Rattle.dcel_commands.specs.declared.refusal.Refusal.{Refusal}
 use Rattle.dcel_commands.specs.declared.refusal.Refusal.TheVariants.{OutOfMemory}
 use Rattle.dcel_commands.specs.Conditions.{Entry, AllMet, FirstUnmet}
-use Rattle.dcel_commands.specs.Instructions.{Saying, Edit, Ask}
+use Rattle.dcel_commands.specs.Instructions.{Saying, Edit, Ask, command_rule}
 use Rattle.dcel_commands.specs.Facts.{Fact, fact_text}
 use Rattle.dcel_commands.specs.Queries.{Tells, query_asks}
 use Rattle.dcel_commands.specs.Refusal.{refusal_text}
@@ -39,7 +39,7 @@ IsTold m query text =
 -- a command is carried out or refused, and the text is its outcome; a query changes nothing, and the text tells what it asks
 abbrev pub Does : ℕ → State → Saying → List ℕ → State → Type 0
 Does limit old (Edit command) text new =
-    (outcome : Result (Response ℤ) (Refused ℤ)) × Carries IsZero IsZero IsZero limit old command outcome new × (text ≡ outcome_text outcome)
+    (outcome : Result (Response ℤ) (Refused ℤ)) × Carries IsZero IsZero IsZero limit old (command_rule command) outcome new × (text ≡ outcome_text outcome)
 Does limit old (Ask query) text new = IsTold old query text × (new ≡ old)
 
 -- the text that a line may be answered by, and the mesh that it leaves. Where a list that isn't empty finds no memory, nothing is asked

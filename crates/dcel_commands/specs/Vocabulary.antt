@@ -1,6 +1,5 @@
 -- What the clauses of the files in `request` cite of this crate and of those below.
 pub use Rattle.dcel_commands.specs.Conditions.{NoOtherOpen, PassesOrRefuses, Removable}
-pub use Rattle.dcel_commands.specs.Instructions.{Append, Triangle, Setup, Extend, Line, Close, Outside, Insert, Half, Split, Flip, Swap, Put, Isolate, Remesh, Strip, Cleanup, Remove, Degenerate, Legalize, Clear}
 pub use Rattle.dcel_commands.specs.Responses.{answered, response}
 pub use Rattle.dcel_commands.specs.Spelling.{Says}
 pub use Rattle.dcel_commands.specs.Steps.{Carries}

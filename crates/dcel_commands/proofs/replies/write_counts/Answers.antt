@@ -1,5 +1,4 @@
 use Rattle.dcel_text.proofs.Writing.{writes_and, writes_text}
-use Rattle.std.proofs.Common.{refl}
 use Rattle.dcel_commands.proofs.replies.write_counts.Goals as goal
 
 pub returns : goal.returns
