@@ -1,4 +1,4 @@
-use Rattle.std.proofs.Common.{rules, inr, refl}
+use Rattle.std.proofs.Common.{inr, refl}
 use Rattle.dcel_programs.proofs.fault.Fault.of_file.Goals as goal
 
 pub returns-in-Ok : goal.returns-in-Ok
