@@ -56,7 +56,7 @@ pub enum Fault<W: Display + Debug + Drop> {
 impl<W: Display + Debug + Drop> Fault<W> {
     /// Returns what the system says of a file, with the file's name.
     pub fn of_file(alloc: Global, path: &str, error: io::Error) -> Self
-        ensures { (result ≡ OutOfMemory AllocError) ⊎ ((name : _) × (string_bytes name ≡ path.now) × (result ≡ File name error)) }
+        ensures { ((error : _) × (result ≡ OutOfMemory error)) ⊎ ((name : _) × (string_bytes name ≡ path.now) × (result ≡ File name error)) }
     {
         match String::from_str(alloc, path) {
             Ok(path) => Fault::File { path, error },
@@ -66,7 +66,7 @@ impl<W: Display + Debug + Drop> Fault<W> {
 
     /// Returns what is wrong with a line of a file, with the file's name.
     pub fn of_line(alloc: Global, path: &str, line: usize, wrong: W) -> Self
-        ensures { (result ≡ OutOfMemory AllocError) ⊎ ((name : _) × (string_bytes name ≡ path.now) × (result ≡ LineOfFile name line wrong)) }
+        ensures { ((error : _) × (result ≡ OutOfMemory error)) ⊎ ((name : _) × (string_bytes name ≡ path.now) × (result ≡ LineOfFile name line wrong)) }
     {
         match String::from_str(alloc, path) {
             Ok(path) => Fault::LineOfFile { path, line, wrong },
