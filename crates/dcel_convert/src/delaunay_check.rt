@@ -2,8 +2,8 @@
 
 ghost use Rattle.std.specs.Prelude.{◌<◌};
 
-use crate::fault::Fault;
-use crate::meshing::fault_of;
+use crate::fault::{Fault, Wrong};
+use crate::meshing::{at_place, fault_of};
 use crate::surface::Surface;
 use dcel_circles::{is_circled, is_delaunay_triangulation};
 use dcel_exchange::from_faces;
@@ -136,18 +136,19 @@ fn is_whole(number: &str) -> bool {
 /// Returns why a mesh is no Delaunay triangulation of its vertices, if it is none.
 fn reason_of(surface: &Surface, mesh: &PlaneMesh) -> Fault {
     if mesh.num_faces() == 1 {
-        return Fault::Flaw(Flaw::NoFace);
+        return Fault::Input(Wrong::Flaw(Flaw::NoFace));
     }
     if let Some((face, flaw)) = flaw_of_face(mesh) {
-        return at(&surface.lines, face, flaw);
+        return at_place(&surface.lines, face, Wrong::Flaw(flaw));
     }
     if let Some(vertex) = vertex_without_edge(mesh) {
         return at_vertex(surface, vertex, Flaw::NoEdge(vertex));
     }
-    match flaw_of_edge(mesh) {
-        Some(flaw) => Fault::Flaw(flaw),
-        None => Fault::Flaw(flaw_of_border(mesh)),
-    }
+    let flaw = match flaw_of_edge(mesh) {
+        Some(flaw) => flaw,
+        None => flaw_of_border(mesh),
+    };
+    Fault::Input(Wrong::Flaw(flaw))
 }
 
 /// Returns the first face that is no counterclockwise triangle, and which of both it isn't.
@@ -222,13 +223,5 @@ fn flaw_of_border(mesh: &PlaneMesh) -> Flaw {
 }
 
 fn at_vertex(surface: &Surface, vertex: usize, flaw: Flaw) -> Fault {
-    at(&surface.vertex_lines, vertex, flaw)
-}
-
-/// Returns a flaw with the line of this place in a list.
-fn at(lines: &[usize], place: usize, flaw: Flaw) -> Fault {
-    match lines.get(place) {
-        Some(line) => Fault::FlawAt { line: *line, flaw },
-        None => Fault::Flaw(flaw),
-    }
+    at_place(&surface.vertex_lines, vertex, Wrong::Flaw(flaw))
 }

@@ -8,54 +8,29 @@
 mod arguments;
 mod fault;
 mod picture;
-mod progress;
 mod reading;
 mod triangulating;
 mod writing;
 
-use crate::arguments::{Arguments, Asked, read_arguments};
+use crate::arguments::{Arguments, PROGRAM};
 use crate::fault::Fault;
-use crate::picture::write_picture;
-use crate::progress::Progress;
-use crate::reading::read_points;
+use crate::picture::Svg;
+use crate::reading::points_of;
 use crate::triangulating::triangulated;
-use crate::writing::write_asked;
-use std::env;
+use crate::writing::Written;
+use dcel_programs::{Progress, read_text, run, write_out};
 use std::io::IsTerminal;
 use std::process::ExitCode;
-use std::rt::{Clock, Env, Files};
+use std::rt::{Clock, Files};
 use std::time::Instant;
 
 fn main(rt: HostRuntime) -> ExitCode {
     let progress = Progress {
         is_shown: rt.stderr().is_terminal(),
     };
-    match run(&rt, progress) {
-        Ok(code) => code,
-        Err(fault) if fault.is_end_of_reader() => ExitCode::SUCCESS,
-        Err(fault) => {
-            let _ = eprintln!(rt; "delaunay: {fault}");
-            ExitCode::FAILURE
-        }
-    }
-}
-
-/// Does what the arguments ask for.
-fn run(
-    rt: &(impl Env + Files + Clock + Input + Print + Eprint + AllocGlobal),
-    progress: Progress,
-) -> Result<ExitCode, Fault> {
-    let words: Vec<String> = env::args(rt)?.collect(rt.alloc())?;
-    match read_arguments(rt.alloc(), words.as_slice())? {
-        Asked::Run(arguments) => {
-            draw(rt, progress, &arguments)?;
-            Ok(ExitCode::SUCCESS)
-        }
-        Asked::Told(message) => {
-            message.print(rt).map_err(Fault::Output)?;
-            Ok(ExitCode::from(message.exit_code() as u8))
-        }
-    }
+    run(&rt, &PROGRAM, |given| {
+        draw(&rt, progress, &Arguments::of(given))
+    })
 }
 
 /// Reads the points, triangulates them, and writes what is asked for.
@@ -64,7 +39,7 @@ fn draw(
     progress: Progress,
     arguments: &Arguments,
 ) -> Result<(), Fault> {
-    let points = read_points(rt, arguments.file)?;
+    let points = points_of(rt.alloc(), &read_text(rt, arguments.file)?)?;
     let start = Instant::now(rt)?;
     let drawn = triangulated(rt, progress, &points)?;
     let took = start.elapsed(rt)?;
@@ -72,7 +47,11 @@ fn draw(
         eprintln!(rt; "{} nanoseconds", took.as_nanos())?;
     }
     if let Some(path) = arguments.svg {
-        write_picture(rt, path, &drawn)?;
+        write_out(rt, Some(path), &Svg { drawn: &drawn })?;
     }
-    write_asked(rt, arguments.output, &drawn)
+    let written = Written {
+        output: arguments.output,
+        drawn: &drawn,
+    };
+    write_out(rt, None, &written)
 }

@@ -1,12 +1,12 @@
 //! A picture of a triangulation, as SVG.
 
-use crate::fault::Fault;
 use crate::triangulating::Drawn;
 use dcel_delaunay::Point;
+use dcel_programs::Text;
 use spade_dcel::iterators::HullIterator;
-use std::io::{self, BufWriter, Write};
-use std::rt::Files;
-use std::{fmt, fs};
+use std::alloc::Global;
+use std::fmt;
+use std::io::{self, Write};
 
 /// How long the longer side of the picture is, in hundredths of its unit.
 const SIDE: u64 = 80_000;
@@ -20,25 +20,18 @@ const MOST_NUMBERED: usize = 50;
 /// How far from a point its number stands, in hundredths to the right and upwards.
 const BESIDE: u64 = 500;
 
-/// Draws a triangulation into a file: edges, the hull over them, and points over both, with their
-/// numbers if they are few. Where that fails, it tells the file.
-pub fn write_picture(
-    rt: &(impl Files + AllocGlobal),
-    path: &str,
-    drawn: &Drawn,
-) -> Result<(), Fault> {
-    match write_file(rt, path, drawn) {
-        Ok(()) => Ok(()),
-        Err(error) => Err(Fault::of_file(rt.alloc(), path, error)),
-    }
+/// A picture of a triangulation: edges, the hull over them, and points over both, with their
+/// numbers if they are few.
+#[derive(Clone, Copy)]
+pub struct Svg<'a> {
+    /// The triangulation.
+    pub drawn: &'a Drawn<'a>,
 }
 
-/// Makes the file, and writes the picture into it.
-fn write_file(rt: &(impl Files + AllocGlobal), path: &str, drawn: &Drawn) -> io::Result<()> {
-    let file = fs::create(rt, path)?;
-    let mut writer = BufWriter::new(rt.alloc(), file)?;
-    write_svg(&mut writer, drawn)?;
-    writer.flush()
+impl<'a> Text for Svg<'a> {
+    fn write_to(&self, _: Global, writer: &mut impl Write) -> io::Result<()> {
+        write_svg(writer, self.drawn)
+    }
 }
 
 /// Writes the picture.

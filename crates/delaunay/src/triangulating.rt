@@ -1,8 +1,8 @@
 //! Points triangulated.
 
-use crate::fault::Fault;
-use crate::progress::Progress;
+use crate::fault::{Fault, Wrong};
 use dcel_delaunay::{Point, Triangulation};
+use dcel_programs::Progress;
 use spade_dcel::handles::FixedVertexHandle;
 use std::alloc::{AllocError, Global};
 
@@ -31,13 +31,15 @@ pub fn triangulated<'a>(
     points: &'a [Point],
 ) -> Result<Drawn<'a>, Fault> {
     let mut triangulation = Triangulation::new(rt.alloc())?;
-    progress.show(rt, 0, points.len())?;
+    progress.show(rt, 0, points.len(), "points")?;
     let mut shown = Ok(());
-    let vertices = triangulation.insert_all_with(rt.alloc(), points, |done| {
-        if shown.is_ok() {
-            shown = progress.show(rt, done, points.len());
-        }
-    })?;
+    let vertices = triangulation
+        .insert_all_with(rt.alloc(), points, |done| {
+            if shown.is_ok() {
+                shown = progress.show(rt, done, points.len(), "points");
+            }
+        })
+        .map_err(|error| Fault::Input(Wrong::Insertion(error)))?;
     shown?;
     progress.clear(rt, points.len())?;
     let count = triangulation.dcel().num_vertices();

@@ -7,6 +7,7 @@ ghost use Rattle.picture.specs.Queries.{HasAsked};
 use crate::fault::Wrong;
 use dcel_commands::commands::{Command, MAX_LIMIT, Query, Refusal, Request, apply, read};
 use dcel_fixed::FixedVertexHandle;
+use dcel_programs::before_comment;
 use spade_dcel::dcel::{Dcel, RemovalState};
 use spade_dcel::operations;
 use std::alloc::{AllocError, Global};
@@ -80,13 +81,6 @@ impl Drawing {
             self.before = None;
         }
         Ok(())
-    }
-}
-
-fn before_comment(line: &str) -> &str {
-    match line.split_once('#') {
-        Some((before, _)) => before,
-        None => line,
     }
 }
 

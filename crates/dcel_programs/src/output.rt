@@ -1,7 +1,8 @@
-//! Where the output goes.
+//! Texts that are written.
 
 use crate::fault::Fault;
 use std::alloc::Global;
+use std::fmt::{Debug, Display};
 use std::fs;
 use std::io::{self, BufWriter, Write};
 use std::rt::Files;
@@ -13,19 +14,19 @@ pub trait Text {
 }
 
 /// Writes a text into a file, or to standard output.
-pub fn write_out(
+pub fn write_out<W: Display + Debug + Drop>(
     rt: &(impl Files + Print + AllocGlobal),
     target: Option<&str>,
     text: &impl Text,
-) -> Result<(), Fault> {
+) -> Result<(), Fault<W>> {
     match target {
-        None => Ok(write_all(rt.alloc(), io::writer(rt), text)?),
+        None => match write_all(rt.alloc(), io::writer(rt), text) {
+            Ok(()) => Ok(()),
+            Err(error) => Err(Fault::Output(error)),
+        },
         Some(path) => match write_file(rt, path, text) {
             Ok(()) => Ok(()),
-            Err(error) => Err(Fault::File {
-                path: String::from_str(rt.alloc(), path)?,
-                error,
-            }),
+            Err(error) => Err(Fault::of_file(rt.alloc(), path, error)),
         },
     }
 }
