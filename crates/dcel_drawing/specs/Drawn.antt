@@ -10,19 +10,20 @@ use Rattle.dcel_drawing.specs.declared.picture.State.TheVariants.{Live, GivenUp}
 use Rattle.dcel_drawing.specs.declared.picture.Stroke.{Stroke}
 use Rattle.dcel_drawing.specs.declared.place.Place.{Place}
 
--- the place of vertex v, if it has one
-abbrev pub one_place : Option (Option Place) → Option Place
-one_place (Some place) = place
-one_place None = None
+-- what a list says of vertex v or edge v, if it says something
+module _ {T : Type 0} where
+  abbrev pub one_entry : Option (Option T) → Option T
+  one_entry (Some entry) = entry
+  one_entry None = None
 
-abbrev pub place_of : List (Option Place) → ℕ → Option Place
-place_of places v = one_place (slice_get places v)
+  abbrev pub entry_of : List (Option T) → ℕ → Option T
+  entry_of entries v = one_entry (slice_get entries v)
 
 module _ {V DE UE F : Type 0} where
   -- a live half edge leads from the place of its origin to the place of its end, beside its face; any other one is drawn as given up
   abbrev pub IsStroke : Mesh V DE UE F → List (Option Place) → Stroke → Type 0
   IsStroke m places stroke =
-      (IsLive m.shape stroke.number → (stroke.state ≡ Live) × (stroke.from ≡ place_of places (origin_of m.shape stroke.number)) × (stroke.to ≡ place_of places (end_of m.shape stroke.number)) × (stroke.face ≡ Some (face_of m.shape stroke.number)))
+      (IsLive m.shape stroke.number → (stroke.state ≡ Live) × (stroke.from ≡ entry_of places (origin_of m.shape stroke.number)) × (stroke.to ≡ entry_of places (end_of m.shape stroke.number)) × (stroke.face ≡ Some (face_of m.shape stroke.number)))
       × (edge_is_live m.shape (stroke.number / 2) ≡ false → stroke.state ≡ GivenUp)
 
   -- a face is drawn as live just if it is
@@ -36,7 +37,7 @@ module _ {V DE UE F : Type 0} where
   IsDot m places dot =
       (vertex_is_live m.shape dot.number ≡ true → dot.state ≡ Live)
       × (vertex_is_live m.shape dot.number ≡ false → dot.state ≡ GivenUp)
-      × (dot.place ≡ place_of places dot.number)
+      × (dot.place ≡ entry_of places dot.number)
 
   -- each half edge, face and vertex is drawn once, in the order of their numbers
   pub record IsPicture {B : Type 0} (m : Mesh V DE UE F) (places : List (Option Place)) (p : Picture B) : Type 0 where

@@ -7,6 +7,7 @@ ghost use Rattle.dcel_maps.specs.Shapes.{IsLive, face_count};
 ghost use Rattle.spade_dcel.specs.Handles.{mesh_behind, number_of};
 ghost use Rattle.dcel_drawing.specs.Drawn.{IsDot, IsPatch, IsPicture, IsStroke};
 
+use crate::bend::Bend;
 use crate::place::Place;
 use crate::places::Places;
 use crate::reading::round;
@@ -33,8 +34,8 @@ pub struct Line {
     pub from: Place,
     /// Where it ends.
     pub to: Place,
-    /// The point that it bends toward, if it is an arc.
-    pub bend: Option<Place>,
+    /// How it goes round, if it is an arc.
+    pub bend: Option<Bend>,
 }
 
 /// A half edge as it is drawn.
@@ -49,8 +50,8 @@ pub struct Stroke {
     pub from: Option<Place>,
     /// Where it ends, or None as well.
     pub to: Option<Place>,
-    /// The point that it bends toward, if it is an arc.
-    pub bend: Option<Place>,
+    /// How it goes round, if it is an arc.
+    pub bend: Option<Bend>,
     /// The face on its left, if it is live.
     pub face: Option<usize>,
     /// Whether it is the anchor of the vertex where it starts.

@@ -4,15 +4,15 @@ ghost use Rattle.std.specs.Prelude.{◌≡◌};
 
 use crate::bends::ranks;
 use crate::reading::drawn;
-use dcel_drawing::{Place, Places};
+use dcel_drawing::{Bend, Place, Places};
 use spade_dcel::dcel::Dcel;
 use spade_dcel::handles::FixedUndirectedEdgeHandle;
 use std::alloc::{AllocError, Allocator};
 
 /// Bends edges that join the same two vertices, and are straight so far, to both sides.
 ///
-/// Those that a removal has given up are bent too if it is told where they lay `before`. If memory
-/// runs out it returns `AllocError`, and some edges may be bent by then.
+/// Those that a removal has given up are bent too, beyond the others, if it is told where they lay
+/// `before`. If memory runs out it returns `AllocError`, and some edges may be bent by then.
 pub fn bow<V, DE, UE, F, A: Allocator, B: Allocator + Copy>(
     alloc: B,
     mesh: &Dcel<V, DE, UE, F, A>,
@@ -21,7 +21,7 @@ pub fn bow<V, DE, UE, F, A: Allocator, B: Allocator + Copy>(
 ) -> Result<(), AllocError>
     ensures { places.new.vertices.items ≡ places.old.vertices.items }
 {
-    let ranks = ranks(alloc, mesh, before)?;
+    let ranks = ranks(alloc, mesh, before, places.bends.as_slice())?;
     for number in 0..mesh.num_undirected_edges() {
         let half = FixedUndirectedEdgeHandle::new(number).as_directed();
         let mut bend = places.bend(number);
@@ -32,10 +32,10 @@ pub fn bow<V, DE, UE, F, A: Allocator, B: Allocator + Copy>(
         ) {
             let (from, to) = (edge.from().index(), edge.to().index());
             if rank.count > 1 {
-                bend = tip_of_arc(
+                bend = arc(
                     places.vertex(from.min(to)),
                     places.vertex(from.max(to)),
-                    offset(rank.place, rank.count),
+                    rank.offset(),
                 );
             }
         }
@@ -44,17 +44,17 @@ pub fn bow<V, DE, UE, F, A: Allocator, B: Allocator + Copy>(
     Ok(())
 }
 
-/// Returns how far on the left of the straight line an arc bends, as a part of its length.
-fn offset(place: usize, count: usize) -> f64 {
-    let place = std::num::nearest_usize_to_f64(place);
-    let count = std::num::nearest_usize_to_f64(count);
-    (place - (count - 1.0) / 2.0) * 0.36
-}
-
-fn tip_of_arc(from: Option<Place>, to: Option<Place>, offset: f64) -> Option<Place> {
+/// Returns the arc that bends so far to the left, as a part of its length, or None if it is straight.
+fn arc(from: Option<Place>, to: Option<Place>, offset: f64) -> Option<Bend> {
     let (from, to) = (from?, to?);
+    if offset == 0.0 {
+        return None;
+    }
     let aside = to.minus(from).left().times(offset);
-    Some(from.middle(to).plus(aside))
+    Some(Bend {
+        tip: from.middle(to).plus(aside),
+        cut: 0.5,
+    })
 }
 
 /// Puts an entry into a list at its number, or at the end if the list is that long.

@@ -1,7 +1,7 @@
 //! Lines and arcs, point by point.
 //!
-//! An arc starts straight toward the point that it bends toward, goes round before it, and ends
-//! straight: so it stays near the two straight lines over that point.
+//! An arc starts straight toward its tip, goes round before it, and ends straight: so it stays near
+//! the two straight lines over that point.
 
 use dcel_drawing::{Line, Place};
 
@@ -12,8 +12,8 @@ pub(crate) fn steps_of(line: Line) -> [Place; 7] {
         let [from, to] = [line.from.middle(middle), middle.middle(line.to)];
         return [line.from, line.from, from, middle, to, line.to, line.to];
     };
-    let (first, last) = (line.from.middle(bend), bend.middle(line.to));
-    let (before, after) = (first.middle(bend), bend.middle(last));
+    let (first, last) = (bend.turn(line.from), bend.turn(line.to));
+    let (before, after) = (first.middle(bend.tip), bend.tip.middle(last));
     let middle = before.middle(after);
     let (near, far) = (
         first.middle(before).middle(before.middle(middle)),

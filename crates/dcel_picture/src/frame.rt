@@ -1,7 +1,7 @@
 //! The part of the plane that a picture shows, and how large things are in it.
 
 use crate::curve::steps_of;
-use dcel_drawing::{Line, Picture, Place};
+use dcel_drawing::{Bend, Line, Picture, Place};
 use std::alloc::Allocator;
 use std::num::{nearest_usize_to_f64, saturating_f64_to_usize};
 
@@ -35,7 +35,7 @@ impl Frame {
         let size = high.minus(low);
         let longest = size.x.max(size.y);
         let vertices = nearest_usize_to_f64(picture.dots.len());
-        let room = 600.0 + 180.0 * vertices.sqrt();
+        let room = 600.0 + 280.0 * vertices.sqrt();
         let mut scale = wanted_scale(picture);
         // Where no edge is drawn no scale is wanted, and the places fill the room.
         if longest > 0.0 && (scale <= 0.0 || longest * scale > room) {
@@ -70,7 +70,10 @@ impl Frame {
             from: self.shown(line.from),
             to: self.shown(line.to),
             bend: match line.bend {
-                Some(bend) => Some(self.shown(bend)),
+                Some(Bend { tip, cut }) => Some(Bend {
+                    tip: self.shown(tip),
+                    cut,
+                }),
                 None => None,
             },
         }
@@ -180,9 +183,9 @@ fn radius(outline: &[Line]) -> f64 {
         area += line.from.cross(line.to);
         length += line.to.minus(line.from).length();
         if let Some(bend) = line.bend {
-            // The arc cuts one twelfth off the triangle of its ends and this point.
-            let aside = bend.minus(line.from).cross(line.to.minus(line.from));
-            area += aside * 11.0 / 12.0;
+            // The curve leaves a third of the triangle out that it cuts off at the tip.
+            let aside = bend.tip.minus(line.from).cross(line.to.minus(line.from));
+            area += aside * (1.0 - bend.cut * bend.cut / 3.0);
         }
     }
     if length > 0.0 { area / length } else { 0.0 }

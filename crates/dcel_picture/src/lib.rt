@@ -9,6 +9,8 @@ mod bowing;
 mod curve;
 mod frame;
 mod given_up;
+mod grid;
+mod layout;
 mod net;
 mod place;
 mod reading;
@@ -19,6 +21,6 @@ mod svg;
 mod wings;
 
 pub use bowing::bow;
-pub use dcel_drawing::{Dot, Line, Patch, Picture, Place, Places, State, Stroke};
+pub use dcel_drawing::{Bend, Dot, Line, Patch, Picture, Place, Places, State, Stroke};
 pub use spreading::spread;
 pub use svg::{Style, write_svg};

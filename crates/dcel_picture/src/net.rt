@@ -14,10 +14,11 @@ use std::alloc::{AllocError, Allocator};
 #[derive(Drop)]
 pub(crate) struct Net<B: Allocator> {
     /// The node in the middle of each edge that bends.
-    pub bends: Vec<Option<usize>, B>,
+    bends: Vec<Option<usize>, B>,
     /// The triangles, counterclockwise.
     pub triangles: Vec<Triangle, B>,
-    /// The first node on the ring. The nodes of the ring have the greatest numbers, clockwise.
+    /// The first node of those round all others, which have the greatest numbers: of the ring,
+    /// clockwise, or of the three corners of a closed net.
     pub ring: usize,
     /// How many nodes there are.
     pub nodes: usize,
@@ -43,7 +44,7 @@ pub(crate) fn net_of<V, DE, UE, F, A: Allocator, B: Allocator + Copy>(
         ring: 0,
         nodes: mesh.num_vertices(),
     };
-    for rank in &ranks(alloc, mesh, Some(mesh))? {
+    for rank in &ranks(alloc, mesh, Some(mesh), &[])? {
         let bend = if rank.count > 1 {
             Some(net.new_node())
         } else {
@@ -52,10 +53,10 @@ pub(crate) fn net_of<V, DE, UE, F, A: Allocator, B: Allocator + Copy>(
         net.bends.push(bend)?;
     }
     for number in 1..mesh.num_faces() {
-        let corners = net.corners(alloc, mesh, FixedFaceHandle::new(number))?;
+        let corners = net.nodes_round(alloc, mesh, FixedFaceHandle::new(number))?;
         net.fill(corners.as_slice())?;
     }
-    let corners = net.corners(alloc, mesh, OUTER_FACE)?;
+    let corners = net.nodes_round(alloc, mesh, OUTER_FACE)?;
     net.surround(corners.as_slice())?;
     Ok(net)
 }
@@ -72,8 +73,16 @@ impl<B: Allocator + Copy> Net<B> {
         Ok(())
     }
 
+    /// Returns the node in the middle of an edge, if it bends.
+    pub fn bend(&self, edge: usize) -> Option<usize> {
+        match self.bends.get(edge) {
+            Some(node) => *node,
+            None => None,
+        }
+    }
+
     /// Lists the nodes round a face.
-    fn corners<V, DE, UE, F, A: Allocator>(
+    fn nodes_round<V, DE, UE, F, A: Allocator>(
         &self,
         alloc: B,
         mesh: &Dcel<V, DE, UE, F, A>,
@@ -82,8 +91,8 @@ impl<B: Allocator + Copy> Net<B> {
         let mut corners = Vec::new(alloc);
         for edge in round(mesh, face) {
             corners.push(edge.from().index())?;
-            if let Some(Some(bend)) = self.bends.get(edge.fix().as_undirected().index()) {
-                corners.push(*bend)?;
+            if let Some(bend) = self.bend(edge.fix().as_undirected().index()) {
+                corners.push(bend)?;
             }
         }
         Ok(corners)
@@ -104,6 +113,26 @@ impl<B: Allocator + Copy> Net<B> {
             before = *corner;
         }
         Ok(())
+    }
+
+    /// Puts a node outside of the ring, which is joined to all of its nodes. So with the last two of
+    /// them it is the triangle round all others.
+    pub fn close(&mut self) -> Result<(), AllocError> {
+        let top = self.new_node();
+        let mut before = top.saturating_sub(1);
+        for node in self.ring..top {
+            self.push([before, node, top], false)?;
+            before = node;
+        }
+        self.ring = self.nodes.saturating_sub(3);
+        Ok(())
+    }
+
+    /// Returns the corners of a closed net: on the right, on the left and at the top.
+    pub fn corners(&self) -> [usize; 3] {
+        let right = self.ring;
+        let left = right.saturating_add(1);
+        [right, left, left.saturating_add(1)]
     }
 
     /// Puts a node of the ring outside of each step round the outer face.

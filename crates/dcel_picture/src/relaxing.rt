@@ -18,6 +18,9 @@ const FILLED: f64 = 0.35;
 /// How much the shape of a triangle outside counts.
 const OUTSIDE: f64 = 0.17;
 
+/// The square of the way that a node moves in a round that is the last one.
+const SETTLED: f64 = 1e-9;
+
 /// Returns first places: the ring on a circle, clockwise, and all other nodes in the middle.
 pub(crate) fn ring_places<B: Allocator + Copy>(
     alloc: B,
@@ -85,12 +88,19 @@ pub(crate) fn relax<B: Allocator>(
     rounds: usize,
 ) {
     for _ in 0..rounds {
+        let mut longest: f64 = 0.0;
         for (node, star) in wings.iter().enumerate() {
-            if let Some(better) = better_place(star, places, at(places, node), area) {
+            let here = at(places, node);
+            if let Some(better) = better_place(star, places, here, area) {
+                let way = better.minus(here);
+                longest = way.dot(way).max(longest);
                 if let Some(place) = places.get_mut(node) {
                     *place = better;
                 }
             }
+        }
+        if longest < SETTLED {
+            break;
         }
     }
 }

@@ -2,37 +2,33 @@
 
 use crate::bowing::bow;
 use crate::given_up::{set_aside, set_given_up};
-use crate::net::{Net, net_of};
-use crate::place::at;
-use crate::relaxing::{level, relax, ring_places, wanted_area};
+use crate::layout::Layout;
+use crate::net::net_of;
 use crate::rows::{is_path, set_row};
-use crate::wings::wings_of;
-use dcel_drawing::{Place, Places};
+use dcel_drawing::{Bend, Place, Places, round};
 use spade_dcel::dcel::Dcel;
-use spade_dcel::handles::{FixedDirectedEdgeHandle, FixedFaceHandle, FixedVertexHandle, InnerTag};
+use spade_dcel::handles::{
+    FixedDirectedEdgeHandle, FixedFaceHandle, FixedUndirectedEdgeHandle, FixedVertexHandle,
+    InnerTag, PossiblyOuterTag,
+};
 use std::alloc::{AllocError, Allocator};
 
-/// About how many moves of nodes a pass makes, within the rounds below.
-const MOVES: usize = 2_000_000;
-
-/// The fewest rounds of `relax`.
-const FEWEST: usize = 40;
-
-/// The most rounds of `relax`, and the fewest that `level` may make; it stops once nothing moves.
-const MOST: usize = 400;
-
-/// Finds places for the vertices of a mesh: in a small one no edge crosses another, and all faces
-/// are large enough to be seen.
+/// Finds places for the vertices of a mesh, and arcs for edges that join the same two vertices; all
+/// other edges are straight.
 ///
-/// In a large one, or where triangles are nested some forty deep, edges may cross, since the rounds
-/// are bounded and the numbers rounded. If memory runs out it returns `AllocError`.
+/// They are chosen so that no live edge crosses another. This isn't proved: the pictures of meshes
+/// made at random are tested for it. It is left open where a vertex lies twice on an inner face, and
+/// where edges are nearer than the tenths to which [`write_svg`](crate::write_svg) rounds, as among
+/// thousands of vertices. An edge from a vertex to itself has no length. If memory runs out it
+/// returns `AllocError`.
 ///
 /// The vertices of a path stand in a row. Vertices without an edge get no place.
 ///
 /// If a removal is open, and it is told what the mesh was `before`, what was given up gets places
 /// too. All places are those of before if the faces that are live now lie well there, and no vertex
 /// has got its first edge since; else the vertex that was given up stands among those that were its
-/// neighbors.
+/// neighbors. Edges that were given up may cross any others, and are arcs where a live one joins the
+/// same two vertices.
 pub fn spread<V, DE, UE, F, A: Allocator, B: Allocator + Copy>(
     alloc: B,
     mesh: &Dcel<V, DE, UE, F, A>,
@@ -48,7 +44,7 @@ pub fn spread<V, DE, UE, F, A: Allocator, B: Allocator + Copy>(
     match before {
         Some(before) => {
             set_live(alloc, before, &mut places)?;
-            if !has_places(mesh, &places) || !fits(mesh, &places) {
+            if !has_places(mesh, &places) || !fits(mesh, before, &places) {
                 places.vertices.fill(None);
                 places.bends.clear();
                 set_live(alloc, mesh, &mut places)?;
@@ -75,13 +71,18 @@ fn has_places<V, DE, UE, F, A: Allocator, B: Allocator>(
     true
 }
 
-/// Returns whether the corners of each live triangle have places that go round counterclockwise.
+/// Returns whether the corners of each live triangle have places that go round counterclockwise, and
+/// the sides of each new one are straight.
 fn fits<V, DE, UE, F, A: Allocator, B: Allocator>(
     mesh: &Dcel<V, DE, UE, F, A>,
+    before: &Dcel<V, DE, UE, F, A>,
     places: &Places<B>,
 ) -> bool {
     for number in 1..mesh.num_faces() {
         let face: FixedFaceHandle<InnerTag> = FixedFaceHandle::new(number);
+        if !before.is_live_face(face) && has_arc(mesh, FixedFaceHandle::new(number), places) {
+            return false;
+        }
         if mesh.is_triangle(face) {
             let [a, b, c] = mesh.face(face).vertices();
             let corners = (
@@ -100,6 +101,20 @@ fn fits<V, DE, UE, F, A: Allocator, B: Allocator>(
         }
     }
     true
+}
+
+/// Returns whether a side of a face is an arc.
+fn has_arc<V, DE, UE, F, A: Allocator, B: Allocator>(
+    mesh: &Dcel<V, DE, UE, F, A>,
+    face: FixedFaceHandle<PossiblyOuterTag>,
+    places: &Places<B>,
+) -> bool {
+    for edge in round(mesh, face) {
+        if places.bend(edge.fix().as_undirected().index()).is_some() {
+            return true;
+        }
+    }
+    false
 }
 
 /// Gives places to the vertices that have an edge, and to the bends of edges.
@@ -121,37 +136,31 @@ fn set_spread<V, DE, UE, F, A: Allocator, B: Allocator + Copy>(
     mesh: &Dcel<V, DE, UE, F, A>,
     places: &mut Places<B>,
 ) -> Result<(), AllocError> {
-    let net = net_of(alloc, mesh)?;
-    let nodes = relaxed(alloc, &net)?;
-    let turn = upright(mesh, nodes.as_slice());
+    let mut net = net_of(alloc, mesh)?;
+    let mut layout = Layout::of(alloc, &mut net)?;
+    layout.turn(upright(mesh, &layout));
     for (number, place) in places.vertices.iter_mut().enumerate() {
         if has_edge(mesh, number) {
-            *place = Some(turned(at(nodes.as_slice(), number), turn));
+            *place = Some(layout.place(number));
         }
     }
-    for bend in &net.bends {
-        let place = match *bend {
-            Some(node) => Some(turned(at(nodes.as_slice(), node), turn)),
-            None => None,
-        };
-        places.bends.push(place)?;
+    for number in 0..mesh.num_undirected_edges() {
+        let half = FixedUndirectedEdgeHandle::new(number).as_directed();
+        let bend = arc_of(mesh, &layout, half, net.bend(number));
+        places.bends.push(bend)?;
     }
     Ok(())
 }
 
-/// Returns places for the nodes of a net.
-fn relaxed<B: Allocator + Copy>(alloc: B, net: &Net<B>) -> Result<Vec<Place, B>, AllocError> {
-    let mut places = ring_places(alloc, net)?;
-    let wings = wings_of(alloc, net)?;
-    let rounds = MOVES / net.nodes.max(1);
-    level(&wings, &mut places, rounds.max(MOST));
-    relax(
-        &wings,
-        &mut places,
-        wanted_area(net),
-        rounds.max(FEWEST).min(MOST),
-    );
-    Ok(places)
+/// Returns how a half edge goes round, if it bends at a node.
+fn arc_of<V, DE, UE, F, A: Allocator, B: Allocator + Copy>(
+    mesh: &Dcel<V, DE, UE, F, A>,
+    layout: &Layout<B>,
+    half: FixedDirectedEdgeHandle,
+    node: Option<usize>,
+) -> Option<Bend> {
+    let edge = mesh.get_directed_edge(half)?;
+    Some(layout.arc(edge.from().index(), edge.to().index(), node?))
 }
 
 fn has_edge<V, DE, UE, F, A: Allocator>(mesh: &Dcel<V, DE, UE, F, A>, vertex: usize) -> bool {
@@ -163,19 +172,17 @@ fn has_edge<V, DE, UE, F, A: Allocator>(mesh: &Dcel<V, DE, UE, F, A>, vertex: us
 
 /// Returns the direction that is to lead to the left: that of the least half edge of the outer
 /// face, which so lies at the bottom.
-fn upright<V, DE, UE, F, A: Allocator>(mesh: &Dcel<V, DE, UE, F, A>, nodes: &[Place]) -> Place {
+fn upright<V, DE, UE, F, A: Allocator, B: Allocator + Copy>(
+    mesh: &Dcel<V, DE, UE, F, A>,
+    layout: &Layout<B>,
+) -> Place {
     for number in 0..mesh.num_directed_edges() {
         if let Some(edge) = mesh.get_directed_edge(FixedDirectedEdgeHandle::new(number)) {
             if edge.face().index() == 0 {
                 let (from, to) = (edge.from().index(), edge.to().index());
-                return at(nodes, to).minus(at(nodes, from)).unit();
+                return layout.place(to).minus(layout.place(from)).unit();
             }
         }
     }
     Place::new(-1.0, 0.0)
-}
-
-/// Returns a place after the turn that lets this direction lead to the left.
-fn turned(place: Place, direction: Place) -> Place {
-    Place::new(-place.dot(direction), -direction.cross(place))
 }

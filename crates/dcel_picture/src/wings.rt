@@ -20,16 +20,17 @@ impl Wing {
     }
 }
 
-/// The triangles round each node that isn't on the ring.
+/// The triangles round each node.
 pub(crate) type Wings<B> = Vec<Vec<Wing, B>, B>;
 
-/// Lists the triangles round each node.
+/// Lists the triangles round each of the first so many nodes.
 pub(crate) fn wings_of<B: Allocator + Copy>(
     alloc: B,
     net: &Net<B>,
+    count: usize,
 ) -> Result<Wings<B>, AllocError> {
     let mut wings: Wings<B> = Vec::new(alloc);
-    for _ in 0..net.ring {
+    for _ in 0..count {
         wings.push(Vec::new(alloc))?;
     }
     for triangle in &net.triangles {

@@ -2,7 +2,7 @@
 
 use crate::curve::steps_of;
 use crate::svg::room::{Area, Room};
-use dcel_drawing::{Line, Place, State};
+use dcel_drawing::{Bend, Line, Place, State};
 use std::alloc::Allocator;
 
 /// How far an arrow is from its edge.
@@ -31,17 +31,20 @@ impl Arrow {
         let way = edge.to.minus(edge.from);
         let trim = TRIM.min(0.3 * way.length());
         let (first, last) = match edge.bend {
-            Some(bend) => (bend.minus(edge.from).unit(), edge.to.minus(bend).unit()),
+            Some(Bend { tip, .. }) => (tip.minus(edge.from).unit(), edge.to.minus(tip).unit()),
             None => (way.unit(), way.unit()),
         };
         let from = edge.from.plus(first.times(trim));
         let to = edge.to.minus(last.times(trim));
         let bend = match edge.bend {
             // So far that it is as far from both straight parts.
-            Some(bend) => {
+            Some(Bend { tip, cut }) => {
                 let across = first.left().plus(last.left());
                 let factor = GAP * 2.0 / across.dot(across).max(0.5);
-                Some(bend.plus(across.times(factor)))
+                Some(Bend {
+                    tip: tip.plus(across.times(factor)),
+                    cut,
+                })
             }
             None => None,
         };

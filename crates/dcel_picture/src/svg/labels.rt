@@ -1,4 +1,4 @@
-//! The numbers of faces, each where there is room for it.
+//! The numbers of faces, each where there is room for it, and as large as there is.
 
 use crate::curve::Way;
 use crate::frame::Frame;
@@ -12,6 +12,14 @@ use std::num::nearest_usize_to_f64;
 /// How many places are tried in each direction.
 const TRIED: usize = 18;
 
+/// How large a number is where there is room for it, and how large it is elsewhere.
+const SIZES: [f64; 5] = [LARGE, 11.0, 9.5, 8.0, 6.5];
+
+const LARGE: f64 = 13.0;
+
+/// How far a number stays from the edges round its face, beside which arrows lie.
+const CLEAR: f64 = 5.0;
+
 /// Writes the numbers of faces: that of the outer face in the corner, each other one inside.
 pub(crate) fn write_labels<B: Allocator>(
     picture: &Picture<B>,
@@ -20,7 +28,7 @@ pub(crate) fn write_labels<B: Allocator>(
     out: &mut impl Write,
 ) -> io::Result<()> {
     let corner = frame.corner().plus(Place::new(22.0, -24.0));
-    write_label("face", 0, corner, out)?;
+    Label::new(0, LARGE, corner).write("face", out)?;
     for patch in picture.patches.iter().skip(1) {
         if patch.outline.is_empty() {
             continue;
@@ -29,35 +37,87 @@ pub(crate) fn write_labels<B: Allocator>(
             State::Live => "face",
             State::GivenUp => "face over",
         };
-        let place = free_place(Inside::of(patch, frame), room);
-        room.take(label_area(place))?;
-        write_label(class, patch.number, place, out)?;
+        let label = free_label(Inside::of(patch, frame), room);
+        room.take(label.area())?;
+        label.write(class, out)?;
     }
     Ok(())
 }
 
-fn write_label(class: &str, number: usize, place: Place, out: &mut impl Write) -> io::Result<()> {
-    writeln!(
-        out,
-        "<text class=\"{class}\" x=\"{}\" y=\"{}\">F{number}</text>",
-        Tenths(place.x),
-        Tenths(4.7 - place.y)
-    )
+/// The number of a face on the page.
+#[derive(Clone, Copy)]
+struct Label {
+    number: usize,
+    size: f64,
+    place: Place,
 }
 
-/// Returns the box in which the number of a face stands.
-fn label_area(place: Place) -> Area {
-    Area::new(place, 30.0, 11.0)
+impl Label {
+    fn new(number: usize, size: f64, place: Place) -> Self {
+        Label {
+            number,
+            size,
+            place,
+        }
+    }
+
+    fn at(self, place: Place) -> Self {
+        Label { place, ..self }
+    }
+
+    fn sized(self, size: f64) -> Self {
+        Label { size, ..self }
+    }
+
+    /// Returns the box in which it stands.
+    fn area(self) -> Area {
+        let letters: f64 = nearest_usize_to_f64(letters_of(self.number));
+        Area::new(self.place, 0.75 * self.size * letters, 0.85 * self.size)
+    }
+
+    /// Returns the same box with what is better left free around it.
+    fn wide_area(self) -> Area {
+        let letters: f64 = nearest_usize_to_f64(letters_of(self.number).max(3));
+        Area::new(self.place, 1.08 * self.size * letters, 2.0 * self.size)
+    }
+
+    fn write(self, class: &str, out: &mut impl Write) -> io::Result<()> {
+        let Label {
+            number,
+            size,
+            place,
+        } = self;
+        write!(
+            out,
+            "<text class=\"{class}\" x=\"{}\" y=\"{}\"",
+            Tenths(place.x),
+            Tenths(size * 4.7 / LARGE - place.y)
+        )?;
+        if size < LARGE {
+            write!(out, " style=\"font-size: {}px\"", Tenths(size))?;
+        }
+        writeln!(out, ">F{number}</text>")
+    }
 }
 
-/// Returns the same box with what is better left free around it.
-fn wide_area(place: Place) -> Area {
-    Area::new(place, 42.0, 26.0)
+/// Returns how many letters the number of a face has, with the F before it.
+fn letters_of(number: usize) -> usize {
+    let mut letters = 2usize;
+    let mut rest = number / 10;
+    for _ in 0..20 {
+        if rest == 0 {
+            break;
+        }
+        letters = letters.saturating_add(1);
+        rest /= 10;
+    }
+    letters
 }
 
 /// The inside of a face.
 #[derive(Clone, Copy)]
 struct Inside<'a> {
+    number: usize,
     outline: &'a [Line],
     state: State,
     frame: &'a Frame,
@@ -66,6 +126,7 @@ struct Inside<'a> {
 impl<'a> Inside<'a> {
     fn of<B: Allocator>(patch: &'a Patch<B>, frame: &'a Frame) -> Self {
         Inside {
+            number: patch.number,
             outline: patch.outline.as_slice(),
             state: patch.state,
             frame,
@@ -98,6 +159,17 @@ impl<'a> Inside<'a> {
         if is_inside { least } else { -least }
     }
 
+    /// Returns whether a box whose middle lies inside keeps clear of the outline.
+    fn has_room_for(&self, area: Area) -> bool {
+        for line in self.outline {
+            let way = Way::along(self.frame.shown_line(*line));
+            if area.distance(&way) < CLEAR {
+                return false;
+            }
+        }
+        true
+    }
+
     /// Returns the lower left and the upper right corner.
     fn corners(&self) -> (Place, Place) {
         let mut low = Place::new(f64::INFINITY, f64::INFINITY);
@@ -112,13 +184,27 @@ impl<'a> Inside<'a> {
     }
 }
 
-/// Returns a place inside a face: the middle of a triangle's circle, if nothing stands there; else
-/// the best place of those that are tried.
-fn free_place<B: Allocator>(inside: Inside, room: &Room<B>) -> Place {
+/// Returns the number of a face inside it, as large as there is room for.
+fn free_label<B: Allocator>(inside: Inside, room: &Room<B>) -> Label {
+    let mut label = Label::new(inside.number, LARGE, Place::new(0.0, 0.0));
+    for size in SIZES {
+        let (place, worth) = best_place(inside, label.sized(size), room);
+        label = label.sized(size).at(place);
+        if worth > 0.0 {
+            break;
+        }
+    }
+    label
+}
+
+/// Returns a place for a label, and what it is worth: the middle of a triangle's circle, if nothing
+/// stands near; else the best place of those that are tried.
+fn best_place<B: Allocator>(inside: Inside, label: Label, room: &Room<B>) -> (Place, f64) {
     if let Some(corners) = inside.triangle() {
         let middle = middle_of_circle(corners);
-        if worth(inside, middle, room) > 0.9 * inside.depth(middle) {
-            return middle;
+        let found = worth(inside, label.at(middle), room);
+        if found > 0.9 * inside.depth(middle) {
+            return (middle, found);
         }
     }
     let (low, high) = inside.corners();
@@ -128,23 +214,25 @@ fn free_place<B: Allocator>(inside: Inside, room: &Room<B>) -> Place {
         let x = low.x + step.x * (0.5 + nearest_usize_to_f64(number % TRIED));
         let y = low.y + step.y * (0.5 + nearest_usize_to_f64(number / TRIED));
         let place = Place::new(x, y);
-        let found = worth(inside, place, room);
+        let found = worth(inside, label.at(place), room);
         if found > most {
             (best, most) = (place, found);
         }
     }
-    best
+    (best, most)
 }
 
-/// Returns how far a place is from the outline, and from half edges that are given up where the
-/// face is live, or the other way round; less if something stands near, and much less if it stands
-/// there.
-fn worth<B: Allocator>(inside: Inside, place: Place, room: &Room<B>) -> f64 {
-    let far = inside.depth(place).min(room.distance(place, inside.state));
-    if !room.is_free(label_area(place)) {
-        far - 1000.0
-    } else if !room.is_free(wide_area(place)) {
-        far - 14.0
+/// Returns how far a label is from the outline, and from half edges that are given up where the face
+/// is live, or the other way round; less if something stands near. Less than 0 if something stands
+/// there, or the label has no room in its face.
+fn worth<B: Allocator>(inside: Inside, label: Label, room: &Room<B>) -> f64 {
+    let depth = inside.depth(label.place);
+    let far = depth.min(room.distance(label.place, inside.state));
+    let area = label.area();
+    if depth <= 0.0 || !inside.has_room_for(area) || !room.is_free(area) {
+        far - 10000.0
+    } else if !room.is_free(label.wide_area()) {
+        (far - 14.0).max(far / 100.0)
     } else {
         far
     }

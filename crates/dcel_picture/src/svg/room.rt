@@ -25,6 +25,28 @@ impl Area {
         Area { middle, half }
     }
 
+    /// Returns how far it is from a way, at least: less than 0 if they meet.
+    pub fn distance(self, way: &Way) -> f64 {
+        let mut least = f64::INFINITY;
+        let mut from = way.places[0];
+        for to in &way.places {
+            least = least.min(self.distance_to_step(from, *to));
+            from = *to;
+        }
+        least
+    }
+
+    /// Returns the same for a straight step: the widest gap across it, from left to right, or up.
+    fn distance_to_step(self, from: Place, to: Place) -> f64 {
+        let (near, far) = (from.minus(self.middle), to.minus(self.middle));
+        let beside = near.x.min(far.x).max(-near.x.max(far.x)) - self.half.x;
+        let above = near.y.min(far.y).max(-near.y.max(far.y)) - self.half.y;
+        let left = to.minus(from).unit().left();
+        let side = left.dot(near);
+        let reach = left.x.max(-left.x) * self.half.x + left.y.max(-left.y) * self.half.y;
+        beside.max(above).max(side.max(-side) - reach)
+    }
+
     fn meets(self, other: Area) -> bool {
         let way = other.middle.minus(self.middle);
         let reach = other.half.plus(self.half);
@@ -82,15 +104,18 @@ impl<B: Allocator> Room<B> {
     /// Returns how far a place is from what is drawn over things of this state: from half edges
     /// that are given up, or from live ones.
     pub fn distance(&self, place: Place, state: State) -> f64 {
-        let lines = match state {
-            State::Live => &self.given_up,
-            State::GivenUp => &self.live,
-        };
         let mut least = f64::INFINITY;
-        for line in lines {
+        for line in self.lines_over(state) {
             least = least.min(Way::along(*line).distance(place));
         }
         least
+    }
+
+    fn lines_over(&self, state: State) -> &[Line] {
+        match state {
+            State::Live => self.given_up.as_slice(),
+            State::GivenUp => self.live.as_slice(),
+        }
     }
 
     /// Notes where a half edge lies, unless the picture is a large one.

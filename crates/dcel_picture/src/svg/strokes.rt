@@ -37,9 +37,8 @@ fn write_line(line: Line, out: &mut impl Write) -> io::Result<()> {
 /// Writes the way from where a line starts to its end.
 pub(crate) fn write_way(line: Line, out: &mut impl Write) -> io::Result<()> {
     if let Some(bend) = line.bend {
-        let first = line.from.middle(bend);
-        let last = bend.middle(line.to);
-        write!(out, "L{}Q{} {}", At(first), At(bend), At(last))?;
+        let (first, last) = (bend.turn(line.from), bend.turn(line.to));
+        write!(out, "L{}Q{} {}", At(first), At(bend.tip), At(last))?;
     }
     write!(out, "L{}", At(line.to))
 }
