@@ -47,7 +47,8 @@ impl Scale {
 
     /// Returns the number that it is.
     pub fn factor(self) -> u64
-        ensures { result ≡ 10 ^ self.power }
+        ensures value { result ≡ 10 ^ self.power }
+        ensures bound { result ≤ 10 ^ 18 }
     {
         10u64.pow(self.power)
     }

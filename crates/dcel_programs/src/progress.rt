@@ -14,13 +14,7 @@ const STEP: usize = 65_536;
 
 impl Progress {
     /// Shows how many of all things are done, now and then until all are.
-    pub fn show(
-        self,
-        rt: &impl Eprint,
-        done: usize,
-        all: usize,
-        things: &str,
-    ) -> io::Result<()> {
+    pub fn show(self, rt: &impl Eprint, done: usize, all: usize, things: &str) -> io::Result<()> {
         if self.is_worth(all) && done < all && done % STEP == 0 {
             eprint!(rt; "\r{done} of {all} {things}")?;
         }
