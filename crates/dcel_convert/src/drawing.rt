@@ -52,7 +52,7 @@ impl<'a> Drawing<'a> {
 impl<'a> Text for Drawing<'a> {
     fn write_to(&self, alloc: Global, writer: &mut impl Write) -> io::Result<()> {
         let picture = Picture::new(alloc, self.mesh, None, &self.places)?;
-        write_svg(&picture, Style { anchors: false }, writer)
+        write_svg(&picture, Style::HalfEdges { anchors: false }, writer)
     }
 }
 

@@ -39,14 +39,11 @@ use crate::stats::Stats;
 use crate::surface::Surface;
 use crate::writing::Written;
 use dcel_programs::{Progress, run, write_out};
-use std::io::IsTerminal;
 use std::process::ExitCode;
 use std::rt::Files;
 
 fn main(rt: HostRuntime) -> ExitCode {
-    let progress = Progress {
-        is_shown: rt.stderr().is_terminal(),
-    };
+    let progress = Progress::at(&rt.stderr());
     run(&rt, &PROGRAM, |given| {
         convert(&rt, progress, &Arguments::of(given))
     })

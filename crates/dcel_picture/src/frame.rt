@@ -1,6 +1,7 @@
 //! The part of the plane that a picture shows, and how large things are in it.
 
 use crate::curve::steps_of;
+use crate::svg::Style;
 use dcel_drawing::{Bend, Line, Picture, Place};
 use std::alloc::Allocator;
 use std::num::{nearest_usize_to_f64, saturating_f64_to_usize};
@@ -10,6 +11,9 @@ const EDGE: f64 = 84.0;
 
 /// How large the circle inside the smallest face is to be: its radius, for a triangle.
 const INSIDE: f64 = 33.0;
+
+/// How long the longer side is where edges are drawn alone.
+const SIDE: f64 = 800.0;
 
 /// How much is left free on each side.
 const MARGIN: f64 = 50.0;
@@ -30,13 +34,15 @@ pub(crate) struct Frame {
 impl Frame {
     /// Returns the part that has all of a picture, so large that the least things can be seen,
     /// unless the whole would become too large.
-    pub fn around<B: Allocator>(picture: &Picture<B>) -> Frame {
+    pub fn around<B: Allocator>(picture: &Picture<B>, style: Style) -> Frame {
         let (low, high) = corners(picture);
         let size = high.minus(low);
         let longest = size.x.max(size.y);
         let vertices = nearest_usize_to_f64(picture.dots.len());
-        let room = 600.0 + 280.0 * vertices.sqrt();
-        let mut scale = wanted_scale(picture);
+        let (room, mut scale) = match style {
+            Style::HalfEdges { .. } => (600.0 + 280.0 * vertices.sqrt(), wanted_scale(picture)),
+            Style::Edges => (SIDE, 0.0),
+        };
         // Where no edge is drawn no scale is wanted, and the places fill the room.
         if longest > 0.0 && (scale <= 0.0 || longest * scale > room) {
             scale = room / longest;

@@ -20,11 +20,16 @@ use dcel_drawing::Picture;
 use std::alloc::Allocator;
 use std::io::{self, Write};
 
-/// How a picture is written.
+/// What a picture shows.
 #[derive(Clone, Copy, PartialEq, Eq, Debug)]
-pub struct Style {
-    /// Whether the anchors of vertices and faces are marked.
-    pub anchors: bool,
+pub enum Style {
+    /// Half edges, faces and vertices, all with their numbers.
+    HalfEdges {
+        /// Whether the anchors of vertices and faces are marked.
+        anchors: bool,
+    },
+    /// Edges, wider where the outer face is, and vertices, with their numbers if they are few.
+    Edges,
 }
 
 const STYLE: &str = "\
@@ -52,9 +57,18 @@ text { font-family: 'DejaVu Sans', Verdana, sans-serif; text-anchor: middle; }
 </defs>
 ";
 
+const STYLE_OF_EDGES: &str = "\
+<style>
+.edge { stroke: #6b7a8f; stroke-width: 1.2; fill: none; }
+.border { stroke: #b3541e; stroke-width: 3; fill: none; }
+.dot { fill: #1b2a41; }
+.number { fill: #1b2a41; font: 12px sans-serif; }
+</style>
+";
+
 /// Writes a picture as an SVG document.
 ///
-/// Each half edge is an arrow beside its edge, on the side of its face, with its number; faces are
+/// In the style of half edges each is an arrow beside its edge, on the side of its face, with its number; faces are
 /// areas with their numbers after an F, and the outer face, F0, is all around them. What an open
 /// removal has given up is dashed and hatched. Vertices without a place stand below.
 ///
@@ -64,7 +78,7 @@ pub fn write_svg<B: Allocator + Copy>(
     style: Style,
     out: &mut impl Write,
 ) -> io::Result<()> {
-    let frame = Frame::around(picture);
+    let frame = Frame::around(picture, style);
     let (corner, size) = (frame.corner(), frame.size());
     writeln!(
         out,
@@ -75,13 +89,29 @@ pub fn write_svg<B: Allocator + Copy>(
         Tenths(size.x),
         Tenths(size.y)
     )?;
-    write!(out, "{STYLE}")?;
-    write_live_patches(picture, &frame, out)?;
-    write_given_up_patches(picture, &frame, out)?;
-    write_edges(picture, &frame, out)?;
-    let mut room = Room::around(picture, &frame)?;
-    write_strokes(picture, &frame, style, &mut room, out)?;
-    write_labels(picture, &frame, &mut room, out)?;
-    write_dots(picture, &frame, out)?;
+    match style {
+        Style::HalfEdges { anchors } => write_half_edges(picture, &frame, anchors, out)?,
+        Style::Edges => {
+            write!(out, "{STYLE_OF_EDGES}")?;
+            write_edges(picture, &frame, style, out)?;
+        }
+    }
+    write_dots(picture, &frame, style, out)?;
     writeln!(out, "</svg>")
+}
+
+/// Writes all but the vertices in the style of half edges.
+fn write_half_edges<B: Allocator + Copy>(
+    picture: &Picture<B>,
+    frame: &Frame,
+    anchors: bool,
+    out: &mut impl Write,
+) -> io::Result<()> {
+    write!(out, "{STYLE}")?;
+    write_live_patches(picture, frame, out)?;
+    write_given_up_patches(picture, frame, out)?;
+    write_edges(picture, frame, Style::HalfEdges { anchors }, out)?;
+    let mut room = Room::around(picture, frame)?;
+    write_strokes(picture, frame, anchors, &mut room, out)?;
+    write_labels(picture, frame, &mut room, out)
 }

@@ -1,5 +1,7 @@
 //! The words that a program is started with.
 
+ghost use Rattle.std.specs.Prelude.{◌≢◌, IfSome, codes};
+
 use clap::builder::ValueParser;
 use clap::{Arg, ArgAction, ArgMatches, Command};
 use std::alloc::{AllocError, Global};
@@ -143,12 +145,16 @@ pub struct Given<'a> {
 
 impl<'a> Given<'a> {
     /// Returns the file to read. There is none if it is standard input.
-    pub fn input(&self) -> Option<&'a str> {
+    pub fn input(&self) -> Option<&'a str>
+        ensures { IfSome result (λ file. file.now ≢ codes "-") }
+    {
         self.file(FILE)
     }
 
     /// Returns the file that follows an option. There is none if it is - or the option isn't there.
-    pub fn file(&self, name: &str) -> Option<&'a str> {
+    pub fn file(&self, name: &str) -> Option<&'a str>
+        ensures { IfSome result (λ file. file.now ≢ codes "-") }
+    {
         self.value(name).filter(|file| *file != "-")
     }
 

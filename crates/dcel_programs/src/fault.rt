@@ -1,5 +1,10 @@
 //! Why a program gives up.
 
+ghost use Rattle.std.specs.Prelude.{◌≡◌, ◌⊎◌, IsTrue, ◌↔◌};
+ghost use Rattle.std.specs.IoError.{error_kind};
+ghost use Rattle.std.specs.String.{string_bytes};
+ghost use Rattle.dcel_programs.specs.declared.fault.Fault.TheVariants.{File, LineOfFile, OutOfMemory, Output};
+
 use std::alloc::{AllocError, Global};
 use std::fmt::{Debug, Display};
 use std::io::{self, ErrorKind};
@@ -50,7 +55,9 @@ pub enum Fault<W: Display + Debug + Drop> {
 
 impl<W: Display + Debug + Drop> Fault<W> {
     /// Returns what the system says of a file, with the file's name.
-    pub fn of_file(alloc: Global, path: &str, error: io::Error) -> Self {
+    pub fn of_file(alloc: Global, path: &str, error: io::Error) -> Self
+        ensures { ((error : _) × (result ≡ OutOfMemory error)) ⊎ ((name : _) × (string_bytes name ≡ path.now) × (result ≡ File name error)) }
+    {
         match String::from_str(alloc, path) {
             Ok(path) => Fault::File { path, error },
             Err(error) => Fault::OutOfMemory(error),
@@ -58,7 +65,9 @@ impl<W: Display + Debug + Drop> Fault<W> {
     }
 
     /// Returns what is wrong with a line of a file, with the file's name.
-    pub fn of_line(alloc: Global, path: &str, line: usize, wrong: W) -> Self {
+    pub fn of_line(alloc: Global, path: &str, line: usize, wrong: W) -> Self
+        ensures { ((error : _) × (result ≡ OutOfMemory error)) ⊎ ((name : _) × (string_bytes name ≡ path.now) × (result ≡ LineOfFile name line wrong)) }
+    {
         match String::from_str(alloc, path) {
             Ok(path) => Fault::LineOfFile { path, line, wrong },
             Err(error) => Fault::OutOfMemory(error),
@@ -66,7 +75,9 @@ impl<W: Display + Debug + Drop> Fault<W> {
     }
 
     /// Returns whether nobody reads the output any more, so that nothing is left to do or to tell.
-    pub fn is_end_of_reader(&self) -> bool {
+    pub fn is_end_of_reader(&self) -> bool
+        ensures { IsTrue result ↔ ((error : _) × (self.now ≡ Output error) × (error_kind error ≡ ErrorKind.BrokenPipe)) }
+    {
         match self {
             Fault::Output(error) => error.kind() == ErrorKind::BrokenPipe,
             _ => false,

@@ -1,5 +1,11 @@
 //! Texts that are read, line by line.
 
+ghost use Rattle.std.specs.Prelude.{◌≡◌, ◌==◌, IfOk};
+ghost use Rattle.std.specs.List.{before_first};
+ghost use Rattle.std.specs.Str.{IsUtf8};
+ghost use Rattle.std.specs.Str.Lossy.{utf8_lossy};
+ghost use Rattle.std.specs.String.{string_bytes};
+
 use crate::fault::Fault;
 use std::alloc::{AllocError, Global};
 use std::fmt::{Debug, Display};
@@ -38,7 +44,10 @@ fn read_bytes(rt: &(impl Files + Input + AllocGlobal), file: Option<&str>) -> io
 }
 
 /// Returns bytes as text.
-fn text_of(alloc: Global, bytes: Vec<u8>) -> Result<String, AllocError> {
+fn text_of(alloc: Global, bytes: Vec<u8>) -> Result<String, AllocError>
+    ensures text { IfOk result (λ text. IsUtf8 bytes.items → string_bytes text ≡ bytes.items) }
+    ensures other { IfOk result (λ text. ¬ IsUtf8 bytes.items → string_bytes text ≡ utf8_lossy bytes.items) }
+{
     match String::from_utf8(bytes) {
         Ok(text) => Ok(text),
         Err(error) => String::from_utf8_lossy(alloc, error.as_bytes()),
@@ -56,7 +65,9 @@ pub fn numbered_lines(text: &str) -> NumberedLines<'_> {
 }
 
 /// Returns what stands before the first `#` of a line.
-pub fn before_comment(line: &str) -> &str {
+pub fn before_comment(line: &str) -> &str
+    ensures { result.now ≡ before_first (λ byte. byte == 35) line.now }
+{
     match line.split_once('#') {
         Some((before, _)) => before,
         None => line,

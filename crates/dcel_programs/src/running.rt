@@ -1,9 +1,15 @@
 //! How programs run and end.
 
+ghost use Rattle.std.specs.Prelude.{◌≡◌, ◌≤◌, ◌↔◌};
+ghost use Rattle.std.specs.IoError.{error_kind};
+ghost use Rattle.std.specs.Process.{exit_status};
+ghost use Rattle.dcel_programs.specs.declared.fault.Fault.TheVariants.{Output};
+
 use crate::arguments::{Given, Program};
 use crate::fault::Fault;
 use std::env;
 use std::fmt::{Debug, Display};
+use std::io::ErrorKind;
 use std::process::ExitCode;
 use std::rt::Env;
 
@@ -49,7 +55,10 @@ fn try_run<'a, T, W: Display + Debug + Drop, F: FnOnce(&Given<'_>) -> Result<(),
 }
 
 /// Tells why a program gives up, and returns its status.
-fn end<W: Display + Debug + Drop>(rt: &impl Eprint, name: &str, fault: &Fault<W>) -> ExitCode {
+fn end<W: Display + Debug + Drop>(rt: &impl Eprint, name: &str, fault: &Fault<W>) -> ExitCode
+    ensures reader { (exit_status result ≡ 0) ↔ ((error : _) × (fault.now ≡ Output error) × (error_kind error ≡ ErrorKind.BrokenPipe)) }
+    ensures fails { exit_status result ≤ 1 }
+{
     if fault.is_end_of_reader() {
         return ExitCode::SUCCESS;
     }

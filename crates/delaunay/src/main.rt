@@ -25,15 +25,12 @@ use crate::writing::Written;
 use dcel_decimals::Scale;
 use dcel_delaunay::Point;
 use dcel_programs::{Progress, read_text, run, write_out};
-use std::io::IsTerminal;
 use std::process::ExitCode;
 use std::rt::{Clock, Files};
 use std::time::Instant;
 
 fn main(rt: HostRuntime) -> ExitCode {
-    let progress = Progress {
-        is_shown: rt.stderr().is_terminal(),
-    };
+    let progress = Progress::at(&rt.stderr());
     run(&rt, &PROGRAM, |given| {
         draw(&rt, progress, &Arguments::of(given))
     })

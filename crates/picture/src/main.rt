@@ -36,7 +36,7 @@ fn draw(
     let drawn = Drawn {
         drawing: &drawing,
         places: &places,
-        style: Style {
+        style: Style::HalfEdges {
             anchors: arguments.anchors,
         },
     };

@@ -16,8 +16,12 @@ pub fn read_places(
     let text = read_text(rt, Some(path))?;
     let mut places = no_places(rt.alloc(), mesh)?;
     for (line, said) in numbered_lines(&text) {
-        set_place(&mut places.vertices, said)
-            .map_err(|wrong| Fault::of_line(rt.alloc(), path, line, wrong))?;
+        set_place(&mut places.vertices, said).map_err(|wrong| Fault::of_line(
+            rt.alloc(),
+            path,
+            line,
+            wrong,
+        ))?;
     }
     Ok(places)
 }

@@ -9,15 +9,23 @@ use dcel_drawing::{Line, Picture, Place, State, Stroke};
 use std::alloc::Allocator;
 use std::io::{self, Write};
 
-/// Writes a thin line for each edge.
+/// Writes a line for each edge.
 pub(crate) fn write_edges<B: Allocator>(
     picture: &Picture<B>,
     frame: &Frame,
+    style: Style,
     out: &mut impl Write,
 ) -> io::Result<()> {
-    for stroke in picture.strokes.iter().step_by(2) {
+    for (stroke, other) in picture
+        .strokes
+        .iter()
+        .zip(picture.strokes.iter().skip(1))
+        .step_by(2)
+    {
         if let Some(line) = stroke.line() {
+            let is_border = stroke.face == Some(0) || other.face == Some(0);
             let class = match stroke.state {
+                State::Live if is_border && style == Style::Edges => "border",
                 State::Live => "edge",
                 State::GivenUp => "edge gone",
             };
@@ -47,7 +55,7 @@ pub(crate) fn write_way(line: Line, out: &mut impl Write) -> io::Result<()> {
 pub(crate) fn write_strokes<B: Allocator>(
     picture: &Picture<B>,
     frame: &Frame,
-    style: Style,
+    anchors: bool,
     room: &mut Room<B>,
     out: &mut impl Write,
 ) -> io::Result<()> {
@@ -57,7 +65,7 @@ pub(crate) fn write_strokes<B: Allocator>(
             let place = arrow.place_of(stroke.number, stroke.state, room);
             room.take(area_of(place, stroke.number))?;
             write_stroke(stroke, arrow, place, out)?;
-            if style.anchors {
+            if anchors {
                 write_anchors(stroke, arrow, out)?;
             }
         }
