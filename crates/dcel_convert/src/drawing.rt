@@ -1,8 +1,8 @@
 //! Pictures of meshes.
 
 use crate::meshing::Mesh;
-use dcel_picture::{Picture, Place, Places, Style, bow, spread, write_svg};
 use dcel_programs::Text;
+use dcel_svg::{Picture, Place, Places, Style, bow, spread, write_svg};
 use spade_dcel::handles::FixedVertexHandle;
 use std::alloc::{AllocError, Global};
 use std::io::{self, Write};

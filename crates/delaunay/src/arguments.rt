@@ -1,5 +1,6 @@
 //! The words that the program is started with.
 
+use dcel_decimals::Scale;
 use dcel_programs::{Choice, Given, Program, Switch, Takes};
 
 /// What is written to standard output.
@@ -19,6 +20,10 @@ pub enum Output {
     Off,
     /// The same as Wavefront's OBJ.
     Obj,
+    /// The words of half edges.
+    Words,
+    /// The corners and edges of the Voronoi diagram.
+    Voronoi,
 }
 
 /// What the program is asked to do.
@@ -30,6 +35,8 @@ pub struct Arguments<'a> {
     pub svg: Option<&'a str>,
     /// What to write.
     pub output: Output,
+    /// What coordinates are multiplied by; if there is none, the least that makes them whole.
+    pub scale: Option<Scale>,
     /// Whether to tell how long the insertions took.
     pub is_timed: bool,
 }
@@ -45,6 +52,12 @@ pub const PROGRAM: Program<'static, Output> = Program {
             letter: None,
             takes: Takes::File,
             help: "Draws a picture into this file, too",
+        },
+        Switch {
+            name: "scale",
+            letter: None,
+            takes: Takes::PowerOfTen,
+            help: "Multiplies the coordinates by this power of ten, from 1 to 10^18",
         },
         Switch {
             name: "time",
@@ -88,16 +101,34 @@ const OUTPUTS: &[Choice<'static, Output>] = &[
         means: Output::Obj,
         help: "Writes them as OBJ, which counts from 1",
     },
+    Choice {
+        name: "words",
+        means: Output::Words,
+        help: "Writes the half edges round each triangle and out of each point",
+    },
+    Choice {
+        name: "voronoi",
+        means: Output::Voronoi,
+        help: "Writes the corners and edges of the Voronoi diagram",
+    },
 ];
 
 const DETAILS: &str = "\
-Each line of the input has the two coordinates of a point, whole numbers from -1073741824 to
-1073741824 with blanks, a comma or both between them. What follows a # is a comment, and lines
-without a word are skipped, as is a first line whose words all begin with a letter. Points are
-numbered from 0 in the order of the input. Equal points are one, with the least of their numbers.
+Each line of the input has the two coordinates of a point, decimals with blanks, a comma or both
+between them. What follows a # is a comment, and lines without a word are skipped, as is a first
+line whose words all begin with a letter. Points are numbered from 0 in the order of the input.
+Equal points are one, with the least of their numbers.
+
+Coordinates are multiplied by the least power of ten that makes all of them whole, which is told on
+standard error unless it is 1, and have to be from -1073741824 to 1073741824 then. What is written
+has the coordinates that were given.
 
 Each line of the output has the numbers of a triangle's three corners, counterclockwise, the least
-first. Triangles are numbered from 0 in that order.";
+first. Triangles are numbered from 0 in that order. --voronoi writes 'corner X Y' for each triangle,
+the center of the circle through its corners, and then for each edge, in the order of --edges,
+'edge A B', the numbers of the corners that it joins; at the hull 'ray A X Y', out of a corner in
+this direction; and where there is no triangle 'line X Y X Y', through a place in this direction.
+Its numbers are exact: whole, or fractions as 7/2.";
 
 impl<'a> Arguments<'a> {
     /// Returns what the words say.
@@ -106,7 +137,13 @@ impl<'a> Arguments<'a> {
             file: given.input(),
             svg: given.value("svg"),
             output: given.choice(OUTPUTS).unwrap_or(Output::Triangles),
+            scale: given.value("scale").and_then(scale_of),
             is_timed: given.has("time"),
         }
     }
+}
+
+/// Returns the scale that a word says, if it says one.
+fn scale_of(word: &str) -> Option<Scale> {
+    Scale::of(word.parse::<u64>().ok()?)
 }

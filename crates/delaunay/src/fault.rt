@@ -1,6 +1,7 @@
 //! Why the program gives up.
 
-use dcel_delaunay::InsertionError;
+use dcel_decimals::{Decimal, DecimalError, Scale};
+use dcel_delaunay::{InsertionError, Point};
 use thiserror::Error;
 
 /// Why the program gives up.
@@ -15,13 +16,36 @@ pub enum Wrong {
     /// It has more than two.
     #[error("a point has two coordinates, here are more")]
     MoreWords,
-    /// A word is no whole number.
-    #[error("a coordinate is no whole number")]
+    /// A word is no decimal.
+    #[error("a coordinate is no number")]
     NoNumber,
-    /// A number is too small or too large.
-    #[error("a coordinate is below -1073741824 or above 1073741824")]
-    OutOfRange,
+    /// A number has too many digits.
+    #[error("a coordinate has too many digits")]
+    TooManyDigits,
+    /// A number times this scale isn't whole.
+    #[error("a coordinate times {0} is not whole")]
+    NotWhole(u64),
+    /// A number is further from 0 than this.
+    #[error("a coordinate is below -{0} or above {0}")]
+    OutOfRange(Decimal),
     /// A point could not be inserted.
     #[error("{0}")]
     Insertion(InsertionError),
+}
+
+impl Wrong {
+    /// Returns that a number is out of the range of points, where it is multiplied by this scale.
+    pub fn out_of_range(scale: Scale) -> Self {
+        Wrong::OutOfRange(Decimal::from_scaled(Point::LIMIT as i64, scale))
+    }
+}
+
+impl From<DecimalError> for Wrong {
+    fn from(error: DecimalError) -> Self {
+        match error {
+            DecimalError::NotDecimal => Wrong::NoNumber,
+            DecimalError::OutOfRange => Wrong::out_of_range(Scale::ONE),
+            DecimalError::TooManyDigits | DecimalError::FarExponent => Wrong::TooManyDigits,
+        }
+    }
 }

@@ -2,8 +2,8 @@
 
 use crate::triangulating::Drawn;
 use dcel_delaunay::{Mesh, Point};
-use dcel_picture::{Picture, Place, Places, Style, write_svg};
 use dcel_programs::Text;
+use dcel_svg::{Picture, Place, Places, Style, write_svg};
 use std::alloc::{AllocError, Global};
 use std::io::{self, Write};
 use std::num::nearest_u64_to_f64;

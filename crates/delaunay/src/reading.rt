@@ -1,26 +1,62 @@
 //! Points read from lines.
 
 use crate::fault::{Fault, Wrong};
+use dcel_decimals::{Decimal, Scale, ScalingError};
 use dcel_delaunay::Point;
 use dcel_programs::{before_comment, numbered_lines};
-use std::alloc::Global;
+use std::alloc::{AllocError, Global};
 
-/// Reads the points of all lines. The first line with words may be a header.
-pub fn points_of(alloc: Global, text: &str) -> Result<Vec<Point>, Fault> {
-    let mut points = Vec::new(alloc);
-    let mut may_be_header = true;
-    for (line, said) in numbered_lines(text) {
-        let words = before_comment(said).trim_ascii();
-        if words.is_empty() {
-            continue;
+/// The coordinates that lines say, two for each point, and the lines of the points.
+#[derive(Drop)]
+pub struct Coordinates {
+    all: Vec<Decimal>,
+    lines: Vec<usize>,
+}
+
+impl Coordinates {
+    /// Reads those of all lines. The first line with words may be a header.
+    pub fn of(alloc: Global, text: &str) -> Result<Self, Fault> {
+        let mut coordinates = Coordinates {
+            all: Vec::new(alloc),
+            lines: Vec::new(alloc),
+        };
+        let mut may_be_header = true;
+        for (line, said) in numbered_lines(text) {
+            let words = before_comment(said).trim_ascii();
+            if words.is_empty() {
+                continue;
+            }
+            if !may_be_header || !is_header(words) {
+                let two = two_numbers(words).map_err(|wrong| Fault::Line { line, wrong })?;
+                coordinates.add(line, two)?;
+            }
+            may_be_header = false;
         }
-        if !may_be_header || !is_header(words) {
-            let point = point_of(words).map_err(|wrong| Fault::Line { line, wrong })?;
-            points.push(point)?;
-        }
-        may_be_header = false;
+        Ok(coordinates)
     }
-    Ok(points)
+
+    /// Adds a point.
+    fn add(&mut self, line: usize, two: [Decimal; 2]) -> Result<(), AllocError> {
+        self.lines.push(line)?;
+        self.all.extend_from_slice(&two)
+    }
+
+    /// Returns the least scale that makes all of them whole.
+    pub fn scale(&self) -> Scale {
+        Scale::least(&self.all)
+    }
+
+    /// Returns the points with these coordinates times a scale.
+    pub fn points(&self, alloc: Global, scale: Scale) -> Result<Vec<Point>, Fault> {
+        let mut points = Vec::with_capacity(alloc, self.lines.len())?;
+        for (line, two) in self.lines.iter().zip(self.all.chunks(2)) {
+            if let &[x, y] = two {
+                let point = point_at(x, y, scale);
+                points.push(point.map_err(|wrong| Fault::Line { line: *line, wrong })?)?;
+            }
+        }
+        Ok(points)
+    }
 }
 
 /// Returns whether all words begin with a letter, as names of columns do.
@@ -35,10 +71,23 @@ fn is_name(word: &str) -> bool {
     word.starts_with(|first: char| first.is_alphabetic())
 }
 
-/// Returns the point that the words of a line say.
-fn point_of(words: &str) -> Result<Point, Wrong> {
+/// Returns the coordinates that the words of a line say.
+fn two_numbers(words: &str) -> Result<[Decimal; 2], Wrong> {
     let (x, y) = two_words(words)?;
-    Point::new(coordinate(x)?, coordinate(y)?).ok_or(Wrong::OutOfRange)
+    Ok([Decimal::read(x)?, Decimal::read(y)?])
+}
+
+/// Returns the point with these coordinates times a scale.
+fn point_at(x: Decimal, y: Decimal, scale: Scale) -> Result<Point, Wrong> {
+    Point::new(whole(x, scale)?, whole(y, scale)?).ok_or(Wrong::out_of_range(scale))
+}
+
+/// Returns a coordinate times a scale.
+fn whole(coordinate: Decimal, scale: Scale) -> Result<i64, Wrong> {
+    coordinate.scaled(scale).map_err(|error| match error {
+        ScalingError::NotWhole => Wrong::NotWhole(scale.factor()),
+        ScalingError::OutOfRange => Wrong::out_of_range(scale),
+    })
 }
 
 /// Returns two words, with blanks, a comma or both between them.
@@ -63,20 +112,4 @@ fn only_word(part: &str) -> Result<&str, Wrong> {
         return Err(Wrong::MoreWords);
     }
     Ok(word)
-}
-
-/// Returns the number that a word says. One out of range is told apart from what is no number.
-fn coordinate(word: &str) -> Result<i64, Wrong> {
-    match word.parse::<i64>() {
-        Ok(number) => Ok(number),
-        Err(_) if is_whole(word) => Err(Wrong::OutOfRange),
-        Err(_) => Err(Wrong::NoNumber),
-    }
-}
-
-/// Returns whether a word has digits alone, after a sign or none.
-fn is_whole(word: &str) -> bool {
-    let unsigned = word.strip_prefix('-').unwrap_or(word);
-    let digits = word.strip_prefix('+').unwrap_or(unsigned);
-    !digits.is_empty() && digits.bytes().all(|byte| byte.is_ascii_digit())
 }

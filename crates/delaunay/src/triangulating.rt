@@ -1,6 +1,7 @@
 //! Points triangulated.
 
 use crate::fault::{Fault, Wrong};
+use dcel_decimals::Scale;
 use dcel_delaunay::{Point, Triangulation};
 use dcel_programs::Progress;
 use spade_dcel::handles::FixedVertexHandle;
@@ -15,6 +16,8 @@ pub struct Drawn<'a> {
     pub numbers: Vec<usize>,
     /// The points, equal ones included.
     pub points: &'a [Point],
+    /// What their coordinates were multiplied by.
+    pub scale: Scale,
 }
 
 impl Drawn<'_> {
@@ -29,6 +32,7 @@ pub fn triangulated<'a>(
     rt: &(impl Eprint + AllocGlobal),
     progress: Progress,
     points: &'a [Point],
+    scale: Scale,
 ) -> Result<Drawn<'a>, Fault> {
     let mut triangulation = Triangulation::new(rt.alloc())?;
     progress.show(rt, 0, points.len(), "points")?;
@@ -48,6 +52,7 @@ pub fn triangulated<'a>(
         triangulation,
         numbers,
         points,
+        scale,
     })
 }
 

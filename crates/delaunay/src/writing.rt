@@ -5,7 +5,10 @@ ghost use Rattle.dcel_maps.specs.Shapes.{face_is_live};
 ghost use Rattle.spade_dcel.specs.Handles.{mesh_behind, number_of};
 
 use crate::arguments::Output;
+use crate::shown::Shown;
 use crate::triangulating::Drawn;
+use crate::voronoi::write_voronoi;
+use crate::words::write_words;
 use dcel_delaunay::{Mesh, Point};
 use dcel_programs::Text;
 use spade_dcel::handles::{FaceHandle, InnerTag};
@@ -26,7 +29,7 @@ pub struct Written<'a> {
 }
 
 impl<'a> Text for Written<'a> {
-    fn write_to(&self, _: Global, writer: &mut impl Write) -> io::Result<()> {
+    fn write_to(&self, alloc: Global, writer: &mut impl Write) -> io::Result<()> {
         match self.output {
             Output::Triangles => write_triangles(writer, self.drawn),
             Output::Neighbors => write_neighbors(writer, self.drawn),
@@ -35,6 +38,8 @@ impl<'a> Text for Written<'a> {
             Output::Stats => write_stats(writer, self.drawn),
             Output::Off => write_off(writer, self.drawn),
             Output::Obj => write_obj(writer, self.drawn),
+            Output::Words => write_words(alloc, writer, self.drawn),
+            Output::Voronoi => write_voronoi(writer, self.drawn),
         }
     }
 }
@@ -143,7 +148,7 @@ fn write_off(writer: &mut impl Write, drawn: &Drawn) -> io::Result<()> {
     writeln!(writer, "OFF")?;
     writeln!(writer, "{} {} 0", drawn.points.len(), mesh.num_faces() - 1)?;
     for point in drawn.points {
-        writeln!(writer, "{} {} 0", point.x, point.y)?;
+        writeln!(writer, "{} 0", Shown::of(*point, drawn.scale))?;
     }
     for triangle in mesh.live_inner_faces() {
         let [a, b, c] = corners(drawn, triangle);
@@ -155,7 +160,7 @@ fn write_off(writer: &mut impl Write, drawn: &Drawn) -> io::Result<()> {
 /// Writes them as OBJ, which counts points from 1.
 fn write_obj(writer: &mut impl Write, drawn: &Drawn) -> io::Result<()> {
     for point in drawn.points {
-        writeln!(writer, "v {} {} 0", point.x, point.y)?;
+        writeln!(writer, "v {} 0", Shown::of(*point, drawn.scale))?;
     }
     for triangle in drawn.triangulation.dcel().live_inner_faces() {
         let [a, b, c] = corners(drawn, triangle).map(|number| number.saturating_add(1));

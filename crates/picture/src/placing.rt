@@ -2,8 +2,8 @@
 
 use crate::drawing::Mesh;
 use crate::fault::{Fault, Wrong};
-use dcel_picture::{Place, Places};
 use dcel_programs::{numbered_lines, read_text};
+use dcel_svg::{Place, Places};
 use std::alloc::{AllocError, Global};
 use std::rt::Files;
 
