@@ -139,7 +139,7 @@ fn off_vertices<V, DE, UE, F, A: Allocator>(
     vertex: FixedVertexHandle,
     place: Place,
 ) -> Place {
-    let near = 0.15 * reach_of(before, places, vertex, place);
+    let near = 0.25 * reach_of(before, places, vertex, place);
     let mut place = place;
     for (number, other) in places.iter().enumerate() {
         if let Some(other) = other {
