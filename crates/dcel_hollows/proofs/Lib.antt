@@ -1,0 +1,16 @@
+pub mod Wheels
+pub mod Overlapping
+pub mod Turning
+pub mod Turnable
+pub mod Flippable
+pub mod Fewer
+pub mod Fans
+pub mod Filling
+pub mod Deleting
+pub mod Renumbering
+pub mod HullCorners
+pub mod Hollows
+pub mod Cutting
+pub mod Flat
+pub mod Strips
+pub mod FlatFlips
