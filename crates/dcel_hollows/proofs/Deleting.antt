@@ -1,5 +1,5 @@
 -- A vertex of three or four triangles given up: the hole is filled with triangles that turn left.
-use Rattle.std.proofs.Common.{◌≡◌, ℕ, suc, ◌+◌, ◌<◌, ◌≤◌, List, [], ◌∷◌, length, map, reverse, refl, sym, ap, ◌∙◌, subst, arith}
+use Rattle.std.proofs.Common.{◌≡◌, ℕ, suc, ◌+◌, ◌/◌, ◌<◌, ◌≤◌, List, [], ◌∷◌, ◌++◌, length, map, reverse, refl, sym, ap, ◌∙◌, subst, arith}
 use Rattle.std.proofs.lemmas.List.{length-map, length-reverse}
 use Rattle.dcel_predicates.specs.declared.point.Point.{Point}
 use Rattle.dcel_predicates.proofs.Points.{orient2d-turned}
@@ -12,16 +12,17 @@ use Rattle.dcel_maps.specs.Shapes.{IsLive, IsMesh, Mesh, Shape, end_of, face_cou
 use Rattle.dcel_maps.specs.theory.Cycles.{Path}
 use Rattle.dcel_maps.specs.Triangulations.{AllTriangles}
 use Rattle.dcel_maps.specs.Walking.{IsRoundTrip, ccw_of, walk_of}
+use Rattle.dcel_maps.specs.Words.{count_of}
 use Rattle.dcel_maps.proofs.removal.Hollows.{HollowOf}
 use Rattle.dcel_maps.proofs.removal.RingLists.{at_border}
 use Rattle.dcel_maps.proofs.removal.VertexHoles.{vertex_hollow}
 use Rattle.dcel_maps.proofs.walks.Links.{ccw-lawful}
 use Rattle.dcel_maps.proofs.walks.UnderWay.{walk-round}
-use Rattle.dcel_plane.specs.Plane.{IsPlane, TurnsLeft}
+use Rattle.dcel_plane.specs.Plane.{IsPlane, ListsCircled, TurnsLeft}
 use Rattle.dcel_plane.proofs.Corners.{corners_are}
 use Rattle.dcel_covering.specs.Covering.{IsConvex, IsHull}
 use Rattle.dcel_hollows.specs.Wheels.{EarsLeft, MakesTwo, turns}
-use Rattle.dcel_hollows.proofs.Filling.{filled_convex, filled_hull, filled_plane}
+use Rattle.dcel_hollows.proofs.Filling.{filled_convex, filled_hull, filled_lists, filled_plane}
 use Rattle.dcel_hollows.proofs.Flippable.{three_turn}
 use Rattle.dcel_hollows.proofs.Turning.{out}
 
@@ -79,6 +80,15 @@ module _ {V DE UE F : Type 0} (m : Mesh V DE UE F) (mesh : IsMesh m) (closed : m
   hole_hull hull =
       by_three (λ w. IsHull at (loop_filled m (opened (edges_at m v) (faces_at m v) v) w halves edges faces).shape) (reverse border) long
       (λ p q r rest is. filled_hull m p q r rest halves edges faces mesh closed (opened (edges_at m v) (faces_at m v) v) (hole p q r rest is) at hull)
+
+  pub hole_lists : (due list : List ℕ)
+      → ((h : ℕ) → IsLive (hole_filled m v border halves edges faces).shape h → face_count m.shape ≤ face_of (hole_filled m v border halves edges faces).shape h
+      → 0 < count_of (h / 2) list)
+      → ListsCircled at m.shape due → ListsCircled at (hole_filled m v border halves edges faces).shape (due ++ list)
+  hole_lists due list =
+      by_three (λ w. ((h : ℕ) → IsLive (loop_filled m removal w halves edges faces).shape h → face_count m.shape ≤ face_of (loop_filled m removal w halves edges faces).shape h
+      → 0 < count_of (h / 2) list) → ListsCircled at m.shape due → ListsCircled at (loop_filled m removal w halves edges faces).shape (due ++ list)) (reverse border) long
+      (λ p q r rest is. filled_lists m p q r rest halves edges faces mesh closed removal (hole p q r rest is) at due list)
 
   -- the half edges from v, from the first on
   abbrev w : List ℕ

@@ -1,12 +1,12 @@
 -- Where a hole is filled with triangles that turn left, the mesh stays in the plane, and the hull is kept.
-use Rattle.std.proofs.Common.{◌≡◌, inl, inr, ℕ, zero, suc, ◌+◌, ◌-◌, ◌*◌, ◌/◌, ◌<◌, false, List, [], ◌∷◌, length, slice_index, sym, ap, ◌∙◌, subst, arith}
+use Rattle.std.proofs.Common.{◌≡◌, inl, inr, ℕ, zero, suc, ◌+◌, ◌-◌, ◌*◌, ◌/◌, ◌<◌, ◌≤◌, false, List, [], ◌∷◌, ◌++◌, length, slice_index, sym, ap, ◌∙◌, subst, arith}
 use Rattle.std.proofs.lemmas.Bool.{cases_Bool, cases_lt, false_from_ne_true}
 use Rattle.std.proofs.lemmas.List.{get_or-append-add, get_or_append_left}
 use Rattle.dcel_fixed.specs.HalfEdges.{rev}
 use Rattle.dcel_predicates.specs.declared.point.Point.{Point}
 use Rattle.dcel_maps.specs.edits.Fill.{ear_origins, ears, ring_filled}
 use Rattle.dcel_maps.specs.Removals.{Closed, Removal, gives_up_edge, gives_up_face, shown}
-use Rattle.dcel_maps.specs.Shapes.{IsLive, IsMesh, Mesh, Shape, face_count, map_of, origin_of}
+use Rattle.dcel_maps.specs.Shapes.{IsLive, IsMesh, Mesh, Shape, face_count, face_of, map_of, origin_of}
 use Rattle.dcel_maps.specs.Words.{count_of, word_of}
 use Rattle.dcel_maps.proofs.Liveness.{is_live-parts}
 use Rattle.dcel_maps.proofs.maps.Soundness.{rev_live}
@@ -16,11 +16,12 @@ use Rattle.dcel_maps.proofs.Shown.{length-shown, slice_index-shown_live}
 use Rattle.dcel_maps.proofs.walks.Links.{half-below, links_stand}
 use Rattle.dcel_maps.proofs.words.Counts.{count-later, count-same}
 use Rattle.dcel_maps.proofs.words.Reading.{face_in_word, live_in, stands_in_face}
-use Rattle.dcel_plane.specs.Plane.{IsPlane, TurnsLeft}
+use Rattle.dcel_plane.specs.Plane.{IsPlane, ListsCircled, TurnsLeft}
 use Rattle.dcel_plane.proofs.Corners.{corners_are, left-from_least}
 use Rattle.dcel_covering.specs.Covering.{IsConvex, IsHull}
 use Rattle.dcel_hollows.specs.Wheels.{EarsLeft}
 use Rattle.dcel_hulls.proofs.Keeping.{KeepsOuter, StartsOld, keeps_convex, keeps_hull}
+use Rattle.dcel_hollows.proofs.Listing.{lists_still}
 
 -- the ears of a ring turn left, where their half edges start at the corners
 ears_left : (at : ℕ → Point) (t : Shape) (os : ℕ → ℕ) (apex m p q r : ℕ) (rest : List ℕ) → origin_of t p ≡ apex → origin_of t q ≡ os q → origin_of t r ≡ os r
@@ -127,3 +128,15 @@ module _ {V DE UE F : Type 0} (m : Mesh V DE UE F) (p q r : ℕ) (rest : List �
 
   pub filled_hull : IsHull at s → IsHull at t
   filled_hull = keeps_hull at s t filled_outer filled_starts
+
+  -- the edges of the new faces are listed beside those that were
+  pub filled_lists : (due list : List ℕ) → ((h : ℕ) → IsLive t h → face_count s ≤ face_of t h → 0 < count_of (h / 2) list) → ListsCircled at s due
+      → ListsCircled at t (due ++ list)
+  filled_lists due list new lists =
+      lists_still s t mesh.sound (filled-sound m p q r rest halves edges faces mesh closed removal hole) same_start at (face_count s)
+      (λ f inner below some. elim (cases_Bool (gives_up_face removal f)) [
+        | inl given ↦ absurd
+            (let none = ap length (word-given m p q r rest halves edges faces mesh closed removal hole f given) in omega (arith, some, none))
+        | inr kept ↦ word-kept m p q r rest halves edges faces mesh closed removal hole f below kept
+      ])
+      due list new lists

@@ -1,3 +1,4 @@
+pub mod Listing
 pub mod Wheels
 pub mod Overlapping
 pub mod Turning

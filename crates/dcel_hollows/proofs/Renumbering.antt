@@ -2,26 +2,33 @@
 use Rattle.std.proofs.Common.{◌≡◌, inl, inr, ℕ, ◌+◌, ◌-◌, ◌*◌, ◌/◌, ◌%◌, ◌<◌, true, List, [], ◌∷◌, length, map, slice_index, refl, sym, ap, ◌∙◌, subst, pos, ◌≤ℤ◌, eq-zero-or-pos, arith}
 use Rattle.std.proofs.lemmas.List.{length-map}
 use Rattle.dcel_fixed.specs.HalfEdges.{rev}
+use Rattle.dcel_fixed.proofs.Halves.{rev-double}
 use Rattle.dcel_predicates.specs.declared.point.Point.{Point}
 use Rattle.dcel_predicates.specs.Determinants.{orient2d_of}
+use Rattle.dcel_maps.specs.Conditions.{IsTriangle}
 use Rattle.dcel_maps.specs.Cyclic.{from_least}
 use Rattle.dcel_maps.specs.Removals.{Cleaned, gives_up_face}
 use Rattle.dcel_maps.specs.Renumbered.{LeavesLive, new_edge, new_face, new_half}
 use Rattle.dcel_maps.specs.Renumbering.{cleaned_up, edges_down, faces_down, half_of, moved, renumbered, vertex_taken_out}
-use Rattle.dcel_maps.specs.Shapes.{IsLive, IsMesh, Mesh, Shape, edge_is_live, end_of, face_count, face_is_live, face_of, map_of, origin_of, vertex_is_live}
+use Rattle.dcel_maps.specs.Shapes.{IsLive, IsMesh, Mesh, Shape, edge_is_live, end_of, face_count, face_is_live, face_of, map_of, next_of, origin_of, prev_of, vertex_is_live}
+use Rattle.dcel_maps.specs.theory.Cycles.{IsCycle}
+use Rattle.dcel_maps.specs.theory.Standing.{Follows}
 use Rattle.dcel_maps.specs.Words.{count_of, word_of}
-use Rattle.dcel_maps.proofs.Liveness.{gives_up_face-outer, is_live-from}
+use Rattle.dcel_maps.proofs.Liveness.{even_live, gives_up_face-outer, is_live-from, is_live-parts}
 use Rattle.dcel_maps.proofs.maps.Soundness.{rev_live}
 use Rattle.dcel_maps.proofs.renumbering.Renumbered.{leaves_live, numbered, vertex_leaves_live}
 use Rattle.dcel_maps.proofs.shapes.Maps.{face-live}
-use Rattle.dcel_maps.proofs.walks.Links.{links_stand}
+use Rattle.dcel_maps.proofs.walks.Links.{links_stand, next-live, prev-live, prev-said}
 use Rattle.dcel_maps.proofs.words.Counts.{count-later, count-same}
 use Rattle.dcel_maps.proofs.words.Mapped.{count-mapped}
+use Rattle.dcel_maps.proofs.words.Paths.{prev_in_word-leads}
 use Rattle.dcel_maps.proofs.words.Reading.{face_in_word, live_in, stands_in_face}
-use Rattle.dcel_maps.proofs.words.Turns.{count-turn, from_least-turn, length-turn}
-use Rattle.dcel_plane.specs.Plane.{IsPlane, TurnsLeft}
+use Rattle.dcel_maps.proofs.words.Renames.{IsCycle-map}
+use Rattle.dcel_maps.proofs.words.Turns.{IsCycle-turn, count-turn, from_least-turn, length-turn}
+use Rattle.dcel_plane.specs.Plane.{IsCircled, IsInner, IsPlane, ListsCircled, TurnsLeft}
 use Rattle.dcel_plane.proofs.Corners.{left-from_least}
 use Rattle.dcel_covering.specs.Covering.{IsConvex, IsHull, apart_along}
+use Rattle.dcel_hollows.proofs.Listing.{circle_at}
 
 three_items : (w : List ℕ) → length w ≡ 3 → (a : ℕ) × (b : ℕ) × (c : ℕ) × (w ≡ a ∷ b ∷ c ∷ [])
 three_items [] e = absurd (omega (arith, e))
@@ -145,6 +152,101 @@ module _ {V DE UE F : Type 0} (m t : Mesh V DE UE F) (mesh : IsMesh m) (result :
         ∙ is_j;
   }
 
+  -- on which face it lies
+  face_at : (h : ℕ) → IsLive s h → face_of n (half h) ≡ face (face_of s h)
+  face_at h live =
+      let there : 0 < count_of h (word_of s.words (face_of s h)) = stands_in_face (map_of s) s.words (links_stand mesh.sound) h live in
+      let moved : 0 < count_of (half h) (map half (word_of s.words (face_of s h))) = count-mapped half (word_of s.words (face_of s h)) h there in
+      let turn = count-turn (half h) (from_least-turn (map half (word_of s.words (face_of s h)))) in
+      face_in_word (map_of n) n.words (links_stand result.sound) (half h) (face (face_of s h))
+      (subst (λ (w : List ℕ). 0 < count_of (half h) w) (sym (leaves.word (face_of s h) (face-live mesh.sound h live))) (omega (arith, moved, turn)))
+
+  word_at : (h : ℕ) → IsLive s h → word_of n.words (face_of n (half h)) ≡ from_least (map half (word_of s.words (face_of s h)))
+  word_at h live = ap (word_of n.words) (face_at h live) ∙ leaves.word (face_of s h) (face-live mesh.sound h live)
+
+  -- what comes before it
+  Leads : ℕ → ℕ → Type 0
+  Leads p q = (k : ℕ) → IsLive s k → half k ≡ q → p ≡ half (prev_of s k)
+
+  follows_leads : (f p q : ℕ) → Follows (map_of s) f p q → Leads (half p) (half q)
+  unfolding Leads
+  follows_leads f p q follows k live_k is =
+      let live_q : IsLive s q = subst (λ (x : ℕ). IsLive s x) follows.next (next-live mesh.sound p follows.live) in
+      ap half (sym follows.prev ∙ ap (prev_of s) (sym (apart k q live_k live_q is)))
+
+  before_at : (h : ℕ) → IsLive s h → prev_of n (half h) ≡ half (prev_of s h)
+  unfolding Leads
+  before_at h live =
+      let f = face_of s h in
+      let below = (is_live-parts (gives_up_face s.removal) (face_count s) f (face-live mesh.sound h live)).0 in
+      let cycle : IsCycle Leads (map half (word_of s.words f)) =
+      IsCycle-map (Follows (map_of s) f) Leads half (follows_leads f) (word_of s.words f) ((links_stand mesh.sound).cycles f below) in
+      let turned : IsCycle Leads (word_of n.words (face_of n (half h))) =
+      subst (IsCycle Leads) (sym (word_at h live)) (IsCycle-turn Leads (from_least-turn (map half (word_of s.words f))) cycle) in
+      let there = stands_in_face (map_of n) n.words (links_stand result.sound) (half h) (leaves.half_edge h live) in
+      prev-said result.sound (half h) (leaves.half_edge h live)
+      ∙ prev_in_word-leads Leads (word_of n.words (face_of n (half h))) turned (half h) there h live refl
+
+  triangle_at : (h : ℕ) → IsLive s h → length (word_of n.words (face_of n (half h))) ≡ 3 → IsTriangle s (face_of s h)
+  triangle_at h live three = record {
+    live = face-live mesh.sound h live;
+    three =
+        sym (length-map (word_of s.words (face_of s h)) half) ∙ sym (length-turn (from_least-turn (map half (word_of s.words (face_of s h)))))
+        ∙ ap length (sym (word_at h live)) ∙ three;
+  }
+
+  inner_at : (h : ℕ) → IsLive s h → 0 < face_of n (half h) → 0 < face_of s h
+  inner_at h live inside = elim (eq-zero-or-pos (face_of s h)) [
+    | inr more ↦ more
+    | inl none ↦ absurd (let o = leaves.outer in let e = ap face none in let f = face_at h live in omega (arith, o, e, f, inside))
+  ]
+
+  corner_at : (h : ℕ) → IsLive s h → after (origin_of n (prev_of n (half h))) ≡ at (origin_of s (prev_of s h))
+  corner_at h live = ap (λ k. after (origin_of n k)) (before_at h live) ∙ stands_at (prev_of s h) (prev-live mesh.sound h live)
+
+  -- an edge under its new number
+  module _ (edge : ℕ → ℕ) (parts : (h : ℕ) → half h ≡ 2 * edge (h / 2) + h % 2) where
+    was_listed : (due : List ℕ) → ListsCircled at s due → (u w : ℕ) → IsLive s (2 * w) → half (2 * w) ≡ 2 * u → half (2 * w + 1) ≡ 2 * u + 1
+        → IsInner n u → IsCircled after n u → 0 < count_of w due
+    was_listed due lists u w live is is_too inner circled =
+        let live_too : IsLive s (2 * w + 1) = subst (λ (k : ℕ). IsLive s k) (rev-double w) (rev_live (map_of s) (2 * w) live) in
+        let back : 2 * w / 2 ≡ w = omega arith in
+        let inner' : IsInner s w = record {
+          live = subst (λ (k : ℕ). edge_is_live s k ≡ true) back live;
+          triangle = triangle_at (2 * w) live (ap (λ k. length (word_of n.words (face_of n k))) is ∙ inner.triangle.three);
+          facing = triangle_at (2 * w + 1) live_too (ap (λ k. length (word_of n.words (face_of n k))) is_too ∙ inner.facing.three);
+          inner = inner_at (2 * w) live (subst (λ (k : ℕ). 0 < face_of n k) (sym is) inner.inner);
+          inner_facing = inner_at (2 * w + 1) live_too (subst (λ (k : ℕ). 0 < face_of n k) (sym is_too) inner.inner_facing);
+        } in
+        lists w inner'
+        (circle_at (ap (λ k. after (origin_of n k)) (sym is) ∙ stands_at (2 * w) live) (ap (λ k. after (origin_of n k)) (sym is_too) ∙ stands_at (2 * w + 1) live_too)
+        (ap (λ k. after (origin_of n (prev_of n k))) (sym is) ∙ corner_at (2 * w) live)
+        (ap (λ k. after (origin_of n (prev_of n k))) (sym is_too) ∙ corner_at (2 * w + 1) live_too) circled)
+
+    pub renumbered_lists : (due : List ℕ) → ListsCircled at s due → ListsCircled after n (map edge due)
+    renumbered_lists due lists u inner circled =
+        let (h, live, is) = leaves.each_half_edge (2 * u) (even_live n u inner.live) in
+        let p = parts h in
+        let e = edge (h / 2) in
+        let even : 2 * (h / 2) ≡ h = even_of e u h (sym p ∙ is) in
+        let same : e ≡ u = half_same e u h (sym p ∙ is) in
+        let live' : IsLive s (2 * (h / 2)) = subst (λ (k : ℕ). IsLive s k) (sym even) live in
+        let is' : half (2 * (h / 2)) ≡ 2 * u = ap half even ∙ is in
+        let is_too : half (2 * (h / 2) + 1) ≡ 2 * u + 1 =
+        ap half (sym (rev-double (h / 2))) ∙ sym (leaves.turn (2 * (h / 2))) ∙ ap rev is' ∙ rev-double u in
+        let found : 0 < count_of (h / 2) due = was_listed due lists u (h / 2) live' is' is_too inner circled in
+        subst (λ (k : ℕ). 0 < count_of k (map edge due)) same (count-mapped edge due (h / 2) found)
+      where
+        even_of : (e u h : ℕ) → 2 * e + h % 2 ≡ 2 * u → 2 * (h / 2) ≡ h
+        even_of e u h is = omega (arith, is)
+
+        half_same : (e u h : ℕ) → 2 * e + h % 2 ≡ 2 * u → e ≡ u
+        half_same e u h is = omega (arith, is)
+
+map-same : (l : List ℕ) → map (λ (u : ℕ). u) l ≡ l
+map-same [] = refl
+map-same (x ∷ l) = ap (λ (r : List ℕ). x ∷ r) (map-same l)
+
 -- cleanup, and then the vertex taken out
 module _ {V DE UE F : Type 0} (m : Mesh V DE UE F) (mesh : IsMesh m) where
   one_edge : (u w : ℕ) → edge_is_live m.shape u ≡ true → edge_is_live m.shape w ≡ true → new_edge m.shape u ≡ new_edge m.shape w → u ≡ w
@@ -179,6 +281,20 @@ module _ {V DE UE F : Type 0} (m : Mesh V DE UE F) (mesh : IsMesh m) where
     renumbered_convex m (cleaned_up m) mesh result (new_half m.shape) (λ v. v) (new_face m.shape) (leaves_live m mesh) one_half outer_face at at (λ v live. refl),
     renumbered_hull m (cleaned_up m) mesh result (new_half m.shape) (λ v. v) (new_face m.shape) (leaves_live m mesh) one_half outer_face at at (λ v live. refl),
   )
+
+  pub cleanup_lists : (at : ℕ → Point) → IsMesh (cleaned_up m) → (due : List ℕ) → ListsCircled at m.shape due → ListsCircled at (cleaned_up m).shape (map (new_edge m.shape) due)
+  unfolding half_of
+  cleanup_lists at result =
+      renumbered_lists m (cleaned_up m) mesh result (new_half m.shape) (λ v. v) (new_face m.shape) (leaves_live m mesh) one_half outer_face at at (λ v live. refl)
+      (new_edge m.shape) (λ h. refl)
+
+  pub taken_out_lists : (at after : ℕ → Point) (d : ℕ) → m.shape.removal ≡ Cleaned d → IsMesh (vertex_taken_out m d)
+      → ((v : ℕ) → vertex_is_live m.shape v ≡ true → after (moved (m.shape.vertices - 1) d v) ≡ at v)
+      → (due : List ℕ) → ListsCircled at m.shape due → ListsCircled after (vertex_taken_out m d).shape due
+  taken_out_lists at after d given result same due lists =
+      subst (λ (l : List ℕ). ListsCircled after (vertex_taken_out m d).shape l) (map-same due)
+      (renumbered_lists m (vertex_taken_out m d) mesh result (λ h. h) (moved (m.shape.vertices - 1) d) (λ f. f) (vertex_leaves_live m mesh d given)
+      (λ h k live_h live_k is. is) (λ f live is. is) at after same (λ u. u) (λ h. omega arith) due lists)
 
   pub taken_out_keeps : (at after : ℕ → Point) (d : ℕ) → m.shape.removal ≡ Cleaned d → IsMesh (vertex_taken_out m d)
       → ((v : ℕ) → vertex_is_live m.shape v ≡ true → after (moved (m.shape.vertices - 1) d v) ≡ at v)

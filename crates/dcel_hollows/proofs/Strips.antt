@@ -1,5 +1,5 @@
 -- `disconnect_edge_strip` at a hollow corner of the hull: the mesh stays in the plane, and its hull is convex.
-use Rattle.std.proofs.Common.{◌≡◌, ◌≢◌, inl, inr, ℕ, suc, ◌-◌, ◌<◌, List, [], ◌∷◌, ◌++◌, length, map, slice_set, sym, ap, ◌∙◌, subst, eq-zero-or-pos, arith, pos}
+use Rattle.std.proofs.Common.{◌≡◌, ◌≢◌, inl, inr, ℕ, suc, ◌-◌, ◌*◌, ◌<◌, List, [], ◌∷◌, ◌++◌, length, map, slice_set, sym, ap, ◌∙◌, subst, eq-zero-or-pos, arith, pos}
 use Rattle.std.proofs.lemmas.Bool.{cases_Bool, cases_lt}
 use Rattle.dcel_fixed.specs.HalfEdges.{rev}
 use Rattle.dcel_fixed.proofs.Halves.{rev-rev}
@@ -14,6 +14,7 @@ use Rattle.dcel_maps.specs.Strips.{IsEdgeStrip, IsStripAround}
 use Rattle.dcel_maps.specs.Triangulations.{AllTriangles}
 use Rattle.dcel_maps.specs.Walking.{IsOutEdge, ListsOnce, ccw_of, walk_of}
 use Rattle.dcel_maps.specs.Words.{count_of, word_of}
+use Rattle.dcel_maps.proofs.Liveness.{even_live, odd_live}
 use Rattle.dcel_maps.proofs.maps.Halves.{rev_or_same}
 use Rattle.dcel_maps.proofs.maps.Soundness.{rev_live}
 use Rattle.dcel_maps.proofs.removal.StripItems.{strip-is, strip_gives}
@@ -26,11 +27,12 @@ use Rattle.dcel_maps.proofs.walks.Turning.{walk-out_edges}
 use Rattle.dcel_maps.proofs.words.Counts.{count-append, count-later, count-same}
 use Rattle.dcel_maps.proofs.words.Reading.{face_in_word, live_in, stands_in_face}
 use Rattle.dcel_maps.proofs.words.Turns.{count-turn, from_least-turn}
-use Rattle.dcel_plane.specs.Plane.{IsPlane}
+use Rattle.dcel_plane.specs.Plane.{IsPlane, ListsCircled}
 use Rattle.dcel_plane.proofs.Corners.{corners_are}
 use Rattle.dcel_covering.specs.Covering.{IsConvex, IsHull}
 use Rattle.dcel_hollows.specs.Wheels.{IsHollow, IsPlaneBut, turns}
 use Rattle.dcel_hollows.proofs.Flat.{flat_convex, flat_hull}
+use Rattle.dcel_hollows.proofs.Listing.{Stays, stays, was_circled}
 use Rattle.dcel_hollows.proofs.Cutting.{IsCutOff, cut_convex, cut_hull}
 use Rattle.dcel_covering.proofs.Triangles.{round}
 
@@ -117,6 +119,26 @@ module _ {V DE UE F : Type 0} (m : Mesh V DE UE F) (mesh : IsMesh m) (closed : m
           corners_are at (found x in_x) (found z in_z) (found w in_w) (plane.left f x z w inner (sym same ∙ is) (off x in_x) (off z in_z) (off w in_w))
     ];
   }
+
+  -- an edge that is circled was so
+  strip_lists : (at : ℕ → Point) (due : List ℕ) → ListsCircled at s due → ListsCircled at t due
+  strip_lists at due lists u inner circled =
+      let sound = cutting.cut-sound m.shape mesh.sound mesh.sphere v h around closed removal gives mesh.sized.outer y r outer in
+      let word : (x : ℕ) → IsLive t x → 0 < face_of t x → word_of t.words (face_of t x) ≡ word_of s.words (face_of t x) =
+      λ x live inside. elim (cases_Bool (gives_up_face removal (face_of t x))) [
+        | inl given ↦ absurd
+            (let none = ap (count_of x) (cutting.word-given m.shape mesh.sound mesh.sphere v h around closed removal gives mesh.sized.outer y r outer (face_of t x) given) in
+            let some = stands_in_face (map_of t) t.words (links_stand sound) x live in
+            omega (arith, none, some))
+        | inr kept ↦
+            cutting.word-kept m.shape mesh.sound mesh.sphere v h around closed removal gives mesh.sized.outer y r outer (face_of t x) (λ outside. omega (arith, outside, inside)) kept
+      ] in
+      let stay : (x : ℕ) → IsLive t x → 0 < face_of t x → Stays s t mesh.sound sound (λ k was live. cut.same k live) x =
+      λ x live inside. stays s t mesh.sound sound (λ k was live. cut.same k live) x live (word x live inside) in
+      let was =
+      was_circled s t mesh.sound sound (λ k was live. cut.same k live) at u (stay (2 * u) (even_live t u inner.live) inner.inner)
+      (stay (2 * u + 1) (odd_live t u inner.live) inner.inner_facing) inner circled in
+      lists u was.0 was.1
 
   module _ (at : ℕ → Point) (triangles : AllTriangles m.shape) (convex : IsConvex at m.shape) (hull : IsHull at m.shape) (two : length (walk_of m.shape (ccw_of m.shape) h) ≡ 2)
       (flat : orient2d_of (at v) (at (end_of m.shape (ccw_of m.shape h))) (at (end_of m.shape h)) ≡ pos 0) where
@@ -226,3 +248,8 @@ module _ {V DE UE F : Type 0} (m : Mesh V DE UE F) (mesh : IsMesh m) (closed : m
   flat_corner_hull at triangles convex hull two flat =
       of_strip (IsHull at)
       (λ gives y r outer. strip_flat_hull m mesh closed strip.vertex strip.half strip.around (strip_record m.shape whole) gives y r outer at triangles convex hull two flat)
+
+  pub cut_lists : (at : ℕ → Point) (due : List ℕ) → ListsCircled at m.shape due → ListsCircled at (strip_cut m list).shape due
+  cut_lists at due lists =
+      of_strip (λ k. ListsCircled at k due)
+      (λ gives y r outer. strip_lists m mesh closed strip.vertex strip.half strip.around (strip_record m.shape whole) gives y r outer at due lists)

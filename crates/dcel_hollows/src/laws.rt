@@ -1,6 +1,6 @@
 //! Laws. These calls compute nothing; whoever makes one learns what it ensures.
 
-ghost use Rattle.std.specs.Prelude.{◌≡◌, ◌≢◌, ◌⊎◌, List, ◌∷◌, length, reverse, ◌<◌, ◌≤◌, ◌+◌, ◌-◌, ◌*◌, ◌/◌, true, ℕ, suc, ℤ, pos, ◌≤ℤ◌};
+ghost use Rattle.std.specs.Prelude.{◌≡◌, ◌≢◌, ◌⊎◌, List, ◌∷◌, ◌++◌, length, map, reverse, ◌<◌, ◌≤◌, ◌+◌, ◌-◌, ◌*◌, ◌/◌, true, ℕ, suc, ℤ, pos, ◌≤ℤ◌};
 ghost use Rattle.dcel_predicates.specs.declared.point.Point.{Point};
 ghost use Rattle.dcel_predicates.specs.Determinants.{orient2d_of};
 ghost use Rattle.dcel_maps.specs.Borders.{IsBorderLoop};
@@ -9,13 +9,14 @@ ghost use Rattle.dcel_maps.specs.edits.Fill.{hole_filled};
 ghost use Rattle.dcel_maps.specs.edits.Flip.{edge_flipped};
 ghost use Rattle.dcel_maps.specs.edits.Strip.{strip_cut};
 ghost use Rattle.dcel_maps.specs.Removals.{Cleaned, Closed};
+ghost use Rattle.dcel_maps.specs.Renumbered.{new_edge};
 ghost use Rattle.dcel_maps.specs.Renumbering.{cleaned_up, moved, vertex_taken_out};
-ghost use Rattle.dcel_maps.specs.Shapes.{IsLive, IsMesh, Mesh, end_of, face_of, next_of, origin_of, prev_of, vertex_is_live};
+ghost use Rattle.dcel_maps.specs.Shapes.{IsLive, IsMesh, Mesh, end_of, face_count, face_of, next_of, origin_of, prev_of, vertex_is_live};
 ghost use Rattle.dcel_maps.specs.Strips.{IsEdgeStrip};
 ghost use Rattle.dcel_maps.specs.Triangulations.{AllTriangles};
 ghost use Rattle.dcel_maps.specs.Walking.{IsOutEdge, IsRoundTrip, ListsOnce, ccw_of, walk_of};
 ghost use Rattle.dcel_maps.specs.Words.{count_of};
-ghost use Rattle.dcel_plane.specs.Plane.{IsPlane, TurnsLeft};
+ghost use Rattle.dcel_plane.specs.Plane.{IsPlane, ListsCircled, TurnsLeft};
 ghost use Rattle.dcel_hollows.specs.Wheels.{CanTurn, CanTurnAt, EarsLeft, IsFan, IsFlippable, IsHollow, IsPlaneBut, IsWheel, LeadsAcross, LiesBetween, LiesOnHull, MakesTwo, turns};
 ghost use Rattle.dcel_covering.specs.Covering.{IsConvex, IsHull};
 
@@ -96,6 +97,11 @@ pub fn filled_holes_stay_in_the_plane<V, DE, UE, F>()
         → IsMesh m → AllTriangles m.shape → IsPlane at m.shape → IsConvex at m.shape → IsHull at m.shape → m.shape.removal ≡ Closed
         → (loop : IsBorderLoop m.shape border v) → length border ≡ 4 → MakesTwo at m.shape loop.first
         → IsPlane at (hole_filled m v border halves edges faces).shape }
+    ensures due { (at : ℕ → Point) (m : Mesh V DE UE F) (v : ℕ) (border : List ℕ) (halves : List DE) (edges : List UE) (faces : List F) (due list : List ℕ)
+        → IsMesh m → m.shape.removal ≡ Closed → IsBorderLoop m.shape border v
+        → ((h : ℕ) → IsLive (hole_filled m v border halves edges faces).shape h → face_count m.shape ≤ face_of (hole_filled m v border halves edges faces).shape h
+        → 0 < count_of (h / 2) list)
+        → ListsCircled at m.shape due → ListsCircled at (hole_filled m v border halves edges faces).shape (due ++ list) }
     ensures convex { (at : ℕ → Point) (m : Mesh V DE UE F) (v : ℕ) (border : List ℕ) (halves : List DE) (edges : List UE) (faces : List F)
         → IsMesh m → m.shape.removal ≡ Closed → IsBorderLoop m.shape border v → IsConvex at m.shape → IsConvex at (hole_filled m v border halves edges faces).shape }
     ensures hull { (at : ℕ → Point) (m : Mesh V DE UE F) (v : ℕ) (border : List ℕ) (halves : List DE) (edges : List UE) (faces : List F)
@@ -107,6 +113,11 @@ pub fn filled_holes_stay_in_the_plane<V, DE, UE, F>()
 pub fn other_numbers_keep_plane_and_hull<V, DE, UE, F>()
     ensures cleanup { (at : ℕ → Point) (m : Mesh V DE UE F) → IsMesh m → IsMesh (cleaned_up m)
         → (IsPlane at m.shape → IsPlane at (cleaned_up m).shape) × (IsConvex at m.shape → IsConvex at (cleaned_up m).shape) × (IsHull at m.shape → IsHull at (cleaned_up m).shape) }
+    ensures due { (at : ℕ → Point) (m : Mesh V DE UE F) (due : List ℕ) → IsMesh m → IsMesh (cleaned_up m)
+        → ListsCircled at m.shape due → ListsCircled at (cleaned_up m).shape (map (new_edge m.shape) due) }
+    ensures vertex_due { (at after : ℕ → Point) (m : Mesh V DE UE F) (v : ℕ) (due : List ℕ) → IsMesh m → m.shape.removal ≡ Cleaned v → IsMesh (vertex_taken_out m v)
+        → ((w : ℕ) → vertex_is_live m.shape w ≡ true → after (moved (m.shape.vertices - 1) v w) ≡ at w)
+        → ListsCircled at m.shape due → ListsCircled after (vertex_taken_out m v).shape due }
     ensures vertex { (at after : ℕ → Point) (m : Mesh V DE UE F) (v : ℕ) → IsMesh m → m.shape.removal ≡ Cleaned v → IsMesh (vertex_taken_out m v)
         → ((w : ℕ) → vertex_is_live m.shape w ≡ true → after (moved (m.shape.vertices - 1) v w) ≡ at w)
         → (IsPlane at m.shape → IsPlane after (vertex_taken_out m v).shape) × (IsConvex at m.shape → IsConvex after (vertex_taken_out m v).shape)
@@ -146,6 +157,8 @@ pub fn hollow_corners_leave_all_on_the_right()
 pub fn hollow_corners_can_be_cut_off<V, DE, UE, F>()
     ensures plane { (at : ℕ → Point) (m : Mesh V DE UE F) (list : List ℕ) → IsMesh m → m.shape.removal ≡ Closed → IsEdgeStrip m.shape list
         → IsPlane at m.shape → IsPlane at (strip_cut m list).shape }
+    ensures due { (at : ℕ → Point) (m : Mesh V DE UE F) (list due : List ℕ) → IsMesh m → m.shape.removal ≡ Closed → IsEdgeStrip m.shape list
+        → ListsCircled at m.shape due → ListsCircled at (strip_cut m list).shape due }
     ensures convex { (at : ℕ → Point) (m : Mesh V DE UE F) (list : List ℕ) → IsMesh m → m.shape.removal ≡ Closed → (strip : IsEdgeStrip m.shape list)
         → AllTriangles m.shape → IsPlane at m.shape → IsConvex at m.shape → IsHull at m.shape
         → IsHollow (at strip.vertex) (λ i. at (end_of m.shape (turns (ccw_of m.shape) (suc i) strip.half))) (length (walk_of m.shape (ccw_of m.shape) strip.half) - 1)
