@@ -26,13 +26,13 @@ use Rattle.dcel_hollows.proofs.Filling.{filled_convex, filled_hull, filled_lists
 use Rattle.dcel_hollows.proofs.Flippable.{three_turn}
 use Rattle.dcel_hollows.proofs.Turning.{out}
 
-two_items : (w : List ℕ) → length w ≡ 2 → (a : ℕ) × (b : ℕ) × (w ≡ a ∷ b ∷ [])
+pub two_items : (w : List ℕ) → length w ≡ 2 → (a : ℕ) × (b : ℕ) × (w ≡ a ∷ b ∷ [])
 two_items [] e = absurd (omega (arith, e))
 two_items (a ∷ []) e = absurd (omega (arith, e))
 two_items (a ∷ b ∷ []) e = (a, b, refl)
 two_items (a ∷ b ∷ c ∷ r) e = absurd (omega (arith, e))
 
-three_items : (w : List ℕ) → length w ≡ 3 → (a : ℕ) × (b : ℕ) × (c : ℕ) × (w ≡ a ∷ b ∷ c ∷ [])
+pub three_items : (w : List ℕ) → length w ≡ 3 → (a : ℕ) × (b : ℕ) × (c : ℕ) × (w ≡ a ∷ b ∷ c ∷ [])
 three_items [] e = absurd (omega (arith, e))
 three_items (a ∷ []) e = absurd (omega (arith, e))
 three_items (a ∷ b ∷ []) e = absurd (omega (arith, e))
@@ -40,7 +40,7 @@ three_items (a ∷ b ∷ c ∷ []) e = (a, b, c, refl)
 three_items (a ∷ b ∷ c ∷ d ∷ r) e = absurd (omega (arith, e))
 
 -- a list of three or more
-by_three : (P : List ℕ → Type 0) (w : List ℕ) → 3 ≤ length w → ((p q r : ℕ) (rest : List ℕ) → w ≡ p ∷ q ∷ r ∷ rest → P (p ∷ q ∷ r ∷ rest)) → P w
+pub by_three : (P : List ℕ → Type 0) (w : List ℕ) → 3 ≤ length w → ((p q r : ℕ) (rest : List ℕ) → w ≡ p ∷ q ∷ r ∷ rest → P (p ∷ q ∷ r ∷ rest)) → P w
 by_three P [] many holds = absurd (omega (arith, many))
 by_three P (p ∷ []) many holds = absurd (omega (arith, many))
 by_three P (p ∷ q ∷ []) many holds = absurd (omega (arith, many))
@@ -57,7 +57,7 @@ module _ {V DE UE F : Type 0} (m : Mesh V DE UE F) (mesh : IsMesh m) (closed : m
   abbrev result : Shape
   result = (hole_filled m v border halves edges faces).shape
 
-  hole : (p q r : ℕ) (rest : List ℕ) → reverse border ≡ p ∷ q ∷ r ∷ rest → HollowOf m.shape (opened (edges_at m v) (faces_at m v) v) (p ∷ q ∷ r ∷ rest) (face_count m.shape + length rest)
+  pub hole : (p q r : ℕ) (rest : List ℕ) → reverse border ≡ p ∷ q ∷ r ∷ rest → HollowOf m.shape (opened (edges_at m v) (faces_at m v) v) (p ∷ q ∷ r ∷ rest) (face_count m.shape + length rest)
   hole p q r rest is =
       subst (λ (w : List ℕ). HollowOf m.shape (opened (edges_at m v) (faces_at m v) v) w (face_count m.shape + length rest)) is
       (vertex_hollow m.shape mesh.sound mesh.sphere closed border v (face_count m.shape + length rest) l (opened (edges_at m v) (faces_at m v) v) (at_border m mesh border v l) (omega arith))

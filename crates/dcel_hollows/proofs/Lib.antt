@@ -8,6 +8,9 @@ pub mod Fewer
 pub mod Fans
 pub mod Filling
 pub mod Deleting
+pub mod Bordering
+pub mod Holes
+pub mod Cleaned
 pub mod Renumbering
 pub mod HullCorners
 pub mod Hollows

@@ -17,7 +17,7 @@ use Rattle.dcel_maps.specs.Words.{count_of, word_of}
 use Rattle.dcel_maps.proofs.Liveness.{even_live, gives_up_face-outer, is_live-from, is_live-parts}
 use Rattle.dcel_maps.proofs.maps.Soundness.{rev_live}
 use Rattle.dcel_maps.proofs.renumbering.Renumbered.{leaves_live, numbered, vertex_leaves_live}
-use Rattle.dcel_maps.proofs.shapes.Maps.{face-live}
+use Rattle.dcel_maps.proofs.shapes.Maps.{face-live, map-sound}
 use Rattle.dcel_maps.proofs.walks.Links.{links_stand, next-live, prev-live, prev-said}
 use Rattle.dcel_maps.proofs.words.Counts.{count-later, count-same}
 use Rattle.dcel_maps.proofs.words.Mapped.{count-mapped}
@@ -25,7 +25,7 @@ use Rattle.dcel_maps.proofs.words.Paths.{prev_in_word-leads}
 use Rattle.dcel_maps.proofs.words.Reading.{face_in_word, live_in, stands_in_face}
 use Rattle.dcel_maps.proofs.words.Renames.{IsCycle-map}
 use Rattle.dcel_maps.proofs.words.Turns.{IsCycle-turn, count-turn, from_least-turn, length-turn}
-use Rattle.dcel_plane.specs.Plane.{IsCircled, IsInner, IsPlane, ListsCircled, TurnsLeft}
+use Rattle.dcel_plane.specs.Plane.{IsCircled, IsInner, IsPlane, ListsCircled, TurnsLeft, origin_point}
 use Rattle.dcel_plane.proofs.Corners.{left-from_least}
 use Rattle.dcel_covering.specs.Covering.{IsConvex, IsHull, apart_along}
 use Rattle.dcel_hollows.proofs.Listing.{circle_at}
@@ -281,6 +281,18 @@ module _ {V DE UE F : Type 0} (m : Mesh V DE UE F) (mesh : IsMesh m) where
     renumbered_convex m (cleaned_up m) mesh result (new_half m.shape) (λ v. v) (new_face m.shape) (leaves_live m mesh) one_half outer_face at at (λ v live. refl),
     renumbered_hull m (cleaned_up m) mesh result (new_half m.shape) (λ v. v) (new_face m.shape) (leaves_live m mesh) one_half outer_face at at (λ v live. refl),
   )
+
+  -- an inner face stays one
+  pub cleanup_inner : IsMesh (cleaned_up m) → (h : ℕ) → IsLive m.shape h → 0 < face_of m.shape h → 1 < face_count (cleaned_up m).shape
+  cleanup_inner result h live inside =
+      let at : ℕ → Point = λ v. origin_point in
+      let on =
+      face_at m (cleaned_up m) mesh result (new_half m.shape) (λ v. v) (new_face m.shape) (leaves_live m mesh) one_half outer_face at at (λ v live_v. refl) h live in
+      let below = (map-sound result.sound).below_faces (new_half m.shape h) ((leaves_live m mesh).half_edge h live) in
+      elim (eq-zero-or-pos (new_face m.shape (face_of m.shape h))) [
+        | inr more ↦ omega (arith, on, below, more)
+        | inl none ↦ absurd (let outside = outer_face (face_of m.shape h) (face-live mesh.sound h live) none in omega (arith, outside, inside))
+      ]
 
   pub cleanup_lists : (at : ℕ → Point) → IsMesh (cleaned_up m) → (due : List ℕ) → ListsCircled at m.shape due → ListsCircled at (cleaned_up m).shape (map (new_edge m.shape) due)
   unfolding half_of

@@ -1,5 +1,5 @@
 -- `disconnect_edge_strip` at a hollow corner of the hull: the mesh stays in the plane, and its hull is convex.
-use Rattle.std.proofs.Common.{◌≡◌, ◌≢◌, inl, inr, ℕ, suc, ◌-◌, ◌*◌, ◌<◌, List, [], ◌∷◌, ◌++◌, length, map, slice_set, sym, ap, ◌∙◌, subst, eq-zero-or-pos, arith, pos}
+use Rattle.std.proofs.Common.{◌≡◌, ◌≢◌, inl, inr, ℕ, suc, ◌+◌, ◌-◌, ◌*◌, ◌<◌, List, [], ◌∷◌, ◌++◌, length, map, slice_set, sym, ap, ◌∙◌, subst, eq-zero-or-pos, arith, pos}
 use Rattle.std.proofs.lemmas.Bool.{cases_Bool, cases_lt}
 use Rattle.dcel_fixed.specs.HalfEdges.{rev}
 use Rattle.dcel_fixed.proofs.Halves.{rev-rev}
