@@ -40,9 +40,10 @@ pub(crate) fn fill<A: Allocator + Clone, L: Allocator>(
     let first = FixedFaceHandle::new(dcel.num_faces());
     let opened = isolate_vertex_and_fill_hole(dcel, border, vertex)?;
     list_sides(dcel, due, first);
-    if two {
-        list_sides(dcel, due, FixedFaceHandle::new(first.index() + 1));
+    if !two {
+        return Ok(opened);
     }
+    list_sides(dcel, due, FixedFaceHandle::new(first.index() + 1));
     Ok(opened)
 }
 
@@ -80,13 +81,19 @@ fn border_of<A: Allocator + Clone>(
     let second = first.ccw();
     let third = second.ccw();
     let fourth = third.ccw();
-    let mut border = Vec::with_capacity(dcel.allocator().clone()?, 4)?;
-    if fourth.fix() != begin {
-        border.push(fourth.next().fix())?;
+    let alloc = dcel.allocator().clone()?;
+    if fourth.fix() == begin {
+        let three = [third.next().fix(), second.next().fix(), first.next().fix()];
+        let border = Vec::from_slice(alloc, &three)?;
+        return Ok(border);
     }
-    border.push(third.next().fix())?;
-    border.push(second.next().fix())?;
-    border.push(first.next().fix())?;
+    let four = [
+        fourth.next().fix(),
+        third.next().fix(),
+        second.next().fix(),
+        first.next().fix(),
+    ];
+    let border = Vec::from_slice(alloc, &four)?;
     Ok(border)
 }
 

@@ -24,13 +24,14 @@ mod placing;
 mod points;
 mod position;
 mod removed;
+mod removing;
 mod taking_out;
 mod thinning;
 mod triangulation;
 
 pub use curve::insertion_order;
 pub use dcel_predicates::Point;
-pub use errors::{InsertionError, point};
+pub use errors::{InsertionError, RemovalError, point};
 pub use mesh::Mesh;
 pub use position::PositionInTriangulation;
 pub use removed::Removed;

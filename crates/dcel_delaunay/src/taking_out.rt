@@ -1,10 +1,10 @@
 //! What a removal gave up taken out, with the vertex, and the edges that are listed by their new
 //! numbers.
 
-ghost use Rattle.std.specs.Prelude.{◌≡◌, ◌-◌, ◌≤◌, ◌==◌, None, Some, cond, length, map, reverse, slice_index_or};
+ghost use Rattle.std.specs.Prelude.{◌≡◌, ◌-◌, ◌<◌, ◌≤◌, ◌==◌, None, Some, cond, length, map, reverse, slice_index_or, slice_set, vec_len};
 ghost use Rattle.dcel_maps.specs.Removals.{Cleaned, IsListed};
 ghost use Rattle.dcel_maps.specs.Renumbered.{new_edge};
-ghost use Rattle.dcel_maps.specs.Renumbering.{cleaned, cleaned_up, new_number, vertex_taken_out};
+ghost use Rattle.dcel_maps.specs.Renumbering.{cleaned, cleaned_up, moved, new_number, vertex_taken_out};
 ghost use Rattle.dcel_maps.specs.Shapes.{IsMesh};
 
 use crate::mesh::Mesh;
@@ -44,22 +44,30 @@ pub(crate) fn take_out<A: Allocator, L: Allocator, B: Allocator>(
 }
 
 /// Gives each edge of a list the number that it has once these edges are taken out, from the last on.
-fn renumber<L: Allocator>(
-    due: &mut Due<L>,
-    taken_out: &[FixedUndirectedEdgeHandle],
-    count: usize,
-)
+fn renumber<L: Allocator>(due: &mut Due<L>, taken_out: &[FixedUndirectedEdgeHandle], count: usize)
     requires { length taken_out.now ≤ count }
     ensures { due.new.items ≡ map (new_number count (reverse taken_out.now)) due.old.items }
 {
-    for index in 0..due.len() {
-        due[index] = new_number(due[index], taken_out, count);
+    let mut at = 0;
+    while at < due.len() {
+        let edge = due[at];
+        put(due, at, number_after(edge, taken_out, count));
+        at += 1;
     }
+}
+
+/// Writes into a list.
+fn put<L: Allocator>(due: &mut Due<L>, at: usize, edge: FixedUndirectedEdgeHandle)
+    requires { at < vec_len due.old }
+    ensures items { due.new.items ≡ slice_set due.old.items at edge }
+    ensures len { vec_len due.new ≡ vec_len due.old }
+{
+    due[at] = edge;
 }
 
 /// Returns the number that an edge has then: each time the last edge gets the number of the one that
 /// goes.
-fn new_number(
+fn number_after(
     edge: FixedUndirectedEdgeHandle,
     taken_out: &[FixedUndirectedEdgeHandle],
     count: usize,
@@ -67,15 +75,27 @@ fn new_number(
     requires { length taken_out.now ≤ count }
     ensures { result ≡ new_number count (reverse taken_out.now) edge }
 {
-    let mut edge = edge;
-    let mut count = count;
+    let mut number = edge;
+    let mut last = count;
     let mut left = taken_out;
     while let Some((&gone, others)) = left.split_last() {
-        count -= 1;
-        if edge.index() == count {
-            edge = gone;
-        }
+        last -= 1;
+        number = number_without(number, last, gone);
         left = others;
+    }
+    number
+}
+
+/// Returns the number that an edge has once one edge is gone, whose number the last one gets.
+fn number_without(
+    edge: FixedUndirectedEdgeHandle,
+    last: usize,
+    gone: FixedUndirectedEdgeHandle,
+) -> FixedUndirectedEdgeHandle
+    ensures { result ≡ moved last gone edge }
+{
+    if edge.index() == last {
+        return gone;
     }
     edge
 }

@@ -1,7 +1,7 @@
 //! Edges flipped until few are left at a vertex.
 
 ghost use Rattle.std.specs.Prelude.{◌≡◌, ◌↔◌, ◌<◌, ◌≤◌, ◌/◌, ℕ, IfNone, IfSome, IsTrue, OnOk};
-ghost use Rattle.dcel_maps.specs.Walking.{IsOutEdge};
+ghost use Rattle.dcel_maps.specs.Shapes.{IsMesh};
 ghost use Rattle.dcel_plane.specs.Plane.{TurnsLeft, point_at};
 ghost use Rattle.dcel_hollows.specs.Wheels.{CanTurn};
 ghost use Rattle.dcel_delaunay.specs.Growing.{HasHull, IsSound, Keeps};
@@ -34,12 +34,13 @@ pub(crate) fn thin_out<A: Allocator, L: Allocator>(
     ensures hull { HasHull dcel.new }
     ensures inside { IsInside dcel.old.shape vertex → IsInside dcel.new.shape vertex }
     ensures done { OnOk result (HasNoneToTurn dcel.new vertex) }
+    ensures mesh { IsMesh dcel.new }
 {
     every_mesh(dcel);
     while let Some(edge) = edge_to_turn(dcel, vertex) {
         due.reserve(5)?;
-        append_sides(dcel, edge, due);
         due.push_reserved(edge);
+        append_sides(dcel, edge, due);
         flip_cw(dcel, edge);
     }
     Ok(())
