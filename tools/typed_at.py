@@ -1,4 +1,5 @@
-"""Types lines at a command on a terminal of its own, one after another, and writes what is seen: `typed_at.py COMMAND LINE ..`."""
+"""Types lines at a command on a terminal of its own, one after another, and writes what is seen: `typed_at.py COMMAND LINE .. [-- LINE ..]`.
+After `--` the command is begun anew, in the same home."""
 
 import os
 import pty
@@ -24,20 +25,28 @@ def seen(terminal, seconds):
     return shown
 
 
+def talk(command, lines, home):
+    """What is seen while these lines are typed."""
+    child, terminal = pty.fork()
+    if child == 0:
+        ioctl(0, TIOCSWINSZ, struct.pack("HHHH", 24, 80, 0, 0))
+        os.execve(command, [command], {**os.environ, "HOME": home, "TERM": "xterm"})
+    shown = seen(terminal, 3)
+    for line in lines:
+        os.write(terminal, line.encode() + b"\r")
+        shown += seen(terminal, 2)
+    os.close(terminal)
+    os.waitpid(child, 0)
+    return shown.decode()
+
+
 def main():
     command, *lines = sys.argv[1:]
     with tempfile.TemporaryDirectory() as home:
-        child, terminal = pty.fork()
-        if child == 0:
-            ioctl(0, TIOCSWINSZ, struct.pack("HHHH", 24, 80, 0, 0))
-            os.execve(command, [command], {**os.environ, "HOME": home, "TERM": "xterm"})
-        shown = seen(terminal, 3)
-        for line in lines:
-            os.write(terminal, line.encode() + b"\r")
-            shown += seen(terminal, 2)
-        os.close(terminal)
-        os.waitpid(child, 0)
-    sys.stdout.write(shown.decode())
+        while lines:
+            end = lines.index("--") if "--" in lines else len(lines)
+            sys.stdout.write(talk(command, lines[:end], home))
+            lines = lines[end + 1:]
 
 
 main()

@@ -1,50 +1,57 @@
 """What a line says, what it asks, and what it is answered, as docs/LINES.md has it."""
 
 import re
+from pathlib import Path
+from typing import Callable, NamedTuple
 
 from .mesh import CLOSED, Mesh, other
 
-NAMES = ("NoSuchVertex NoSuchEdge NoSuchFace RemovalOpen NoRemoval GivenUp SameVertex VertexInUse EdgesStand NotLineEnd NotBridge "
-         "NotOuter NotTriangle WouldLoop BadRing BadStrip WrongLists NotPath NoRoom OutOfMemory").split()
+PAGE = (Path(__file__).resolve().parents[2] / "docs/LINES.md").read_text()
+NAMES = dict(re.findall(r"\b(\d+) ([A-Z][A-Za-z]+)[,.]", PAGE))
 NUMBER = re.compile(r"0|[1-9][0-9]*")
 DATUM = re.compile(r"0|-?[1-9][0-9]*")
 
-# How many vertices, edges and faces a line adds; filling a hole adds as many as its ring is long, less three and two.
-ADDS = {"append": (1, 0, 0), "setup": (0, 1, 0), "extend": (0, 1, 0), "line": (0, 1, 0), "close": (0, 1, 1), "outside": (0, 2, 1),
-        "insert": (0, 3, 2), "half": (0, 2, 1), "split": (0, 3, 2)}
 
-# What stands after each word: D a datum, N a number, L a list; lists have a slash between them.
-TAKES = {
-    "append": "D", "triangle": "DDD", "setup": "NN", "extend": "NN", "line": "NN", "close": "N", "outside": "NN", "insert": "NN",
-    "half": "NN", "split": "NN", "flip": "N", "legalize": "NL", "swap": "NN", "put": "ND", "isolate": "NL", "remesh": "LLL", "strip": "L",
-    "cleanup": "LL", "remove": "N", "degenerate": "N", "clear": "", "counts": "", "words": "", "hull": "", "out": "N", "origin": "N",
-    "between": "NN", "get": "N", "check": "",
-}
+class Row(NamedTuple):
+    """A row of the page: the items behind a word, what a line adds of vertices, edges and faces, and the numbers of its refusals. Each that is
+    added is a number, and whether as many as half edges in the line's list are added too. A query adds nothing."""
+    items: list
+    adds: list | None
+    refusals: list
+
+
+def row(items, columns):
+    """The row of a word with these items, and these columns behind them."""
+    *_, adds, refusals = columns.split(" | ")
+    counts = [re.search(rf"(n )?(- )?(\d+) {kind}", adds) for kind in ("vert", "edge", "face")]
+    adds = [(int((it[2] or "").strip() + it[3]), it[1] is not None) if it else (0, False) for it in counts]
+    return Row(items.split(), adds if columns.count(" | ") == 3 else None, re.findall(r"\d+", refusals))
+
+
+ROWS = {word: row(items, columns) for word, items, columns in re.findall(r"(?m)^\| `(\w+)([^`]*)` \| (.*) \|$", PAGE)}
 
 
 def read(line):
     """The word and what stands after it, or None where the line is bad."""
-    if len(line.encode()) > 4096:
+    word, *items = line.split(" ")
+    if len(line.encode()) > 4096 or word not in ROWS:
         return None
-    items = line.split(" ")
-    takes = TAKES.get(items[0])
-    if takes is None:
-        return None
-    given, items = [], items[1:]
-    for place, kind in enumerate(takes):
-        if kind == "L":
-            if takes[place - 1:place] == "L":
-                if not items or items.pop(0) != "/":
-                    return None
-            numbers = []
-            while items and is_number(items[0]):
-                numbers.append(int(items.pop(0)))
-            given.append(numbers)
-        elif not items or not (is_datum if kind == "D" else is_number)(items[0]):
+    given = []
+    for kind in ROWS[word].items:
+        if kind.endswith(".."):
+            count = next((place for place, item in enumerate(items) if not is_number(item)), len(items))
+            given.append([int(item) for item in items[:count]])
+            items = items[count:]
+        elif not items or not is_item(kind, items[0]):
             return None
         else:
-            given.append(int(items.pop(0)))
-    return None if items else (line.split(" ")[0], given)
+            given += [int(items[0])] if kind != "/" else []
+            items = items[1:]
+    return None if items else (word, given)
+
+
+def is_item(kind, item):
+    return item == "/" if kind == "/" else (is_datum if kind == "D" else is_number)(item)
 
 
 def is_number(item):
@@ -55,23 +62,30 @@ def is_datum(item):
     return DATUM.fullmatch(item) is not None and -2 ** 63 <= int(item) < 2 ** 63
 
 
+def added(word, given):
+    """How many vertices, edges and faces a line adds."""
+    listed = next((len(it) for it in given if isinstance(it, list)), 0)
+    return tuple(number + listed * is_more for number, is_more in ROWS[word].adds or [(0, False)] * 3)
+
+
+def sizes(mesh):
+    return len(mesh.data), mesh.edge_count(), len(mesh.words)
+
+
 def answer(mesh, line, limit=2 ** 31):
     """The mesh after a line, and its reply, where no count of the mesh may be above the limit."""
     request = read(line)
     if request is None:
         return mesh, "bad line"
     word, given = request
-    if word == "clear":
-        return Mesh(), "ok"
-    for number, is_broken in [*asked(mesh, word, given), room(mesh, word, given, limit)]:
+    for number, is_broken in [*WORDS[word].asks(mesh, *given), room(mesh, word, given, limit)]:
         if is_broken():
-            return mesh, f"refused {number} {NAMES[number - 1]}"
-    if word == "triangle":
-        return triangle(given), "ok"
-    return mesh, REPLIES[word](mesh, *given)
+            return mesh, f"refused {number} {NAMES[str(number)]}"
+    reply = WORDS[word].carry_out(mesh, *given)
+    return (reply, "ok") if isinstance(reply, Mesh) else (mesh, reply)
 
 
-def triangle(data):
+def triangle(_, *data):
     mesh = Mesh()
     mesh.data, mesh.origins = list(data), [0, 1, 1, 2, 2, 0]
     mesh.words, mesh.vertex_anchors, mesh.face_anchors = [[0, 2, 4], [1, 5, 3]], [0, 2, 4], [0, 1]
@@ -113,62 +127,12 @@ def unconnected(mesh, vertex):
 
 
 def room(mesh, word, given, limit):
-    counts, adds = (len(mesh.data), mesh.edge_count(), len(mesh.words)), ADDS.get(word, (0, 0, 0))
-    if word == "triangle":
-        counts, adds = (0, 0, 0), (3, 3, 2)
-    if word in ("isolate", "remesh"):
-        ring = given[1] if word == "isolate" else given[0]
-        adds = (0, len(ring) - 3, len(ring) - 2)
-    return 19, lambda: any(more and count + more > limit for count, more in zip(counts, adds))
+    counts = (0, 0, 0) if word == "triangle" else sizes(mesh)
+    return 19, lambda: any(more and count + more > limit for count, more in zip(counts, added(word, given)))
 
 
 def triangles(mesh, *sides):
     return 13, lambda: not all(mesh.is_triangle(mesh.face(side)) for side in sides)
-
-
-def asked(mesh, word, given):
-    """What a line asks, in the order of the numbers."""
-    first = given[0] if given else None
-    second = given[1] if len(given) > 1 else None
-    if word in ("line", "outside", "half", "split"):
-        common = [vertices(mesh, second), halves(mesh, [first])]
-        common += [(6, lambda: not mesh.is_live_vertex(second) or not mesh.is_live_half(first)), unconnected(mesh, second)]
-        return common + {
-            "line": [(11, lambda: mesh.face(first) != mesh.face(other(first)))],
-            "outside": [],
-            "half": [triangles(mesh, first)],
-            "split": [triangles(mesh, first, other(first))],
-        }[word]
-    return {
-        "setup": lambda: [vertices(mesh, first, second), live_vertices(mesh, first, second), (7, lambda: first == second),
-                          (9, lambda: mesh.origins != [])],
-        "extend": lambda: [vertices(mesh, first, second), live_vertices(mesh, first, second), (7, lambda: first == second),
-                           unconnected(mesh, second), (10, lambda: mesh.degree(first) != 1)],
-        "close": lambda: [halves(mesh, [first]), live_half(mesh, first), (12, lambda: mesh.face(first) != 0),
-                          (14, lambda: mesh.to(mesh.next(first)) == mesh.origins[first])],
-        "insert": lambda: [vertices(mesh, first), inner_faces(mesh, [second]),
-                           (6, lambda: not mesh.is_live_vertex(first) or not mesh.is_live_face(second)), unconnected(mesh, first),
-                           (13, lambda: not mesh.is_triangle(second))],
-        "flip": lambda: [edges(mesh, [first]), (6, lambda: not mesh.is_live_edge(first)), triangles(mesh, 2 * first, 2 * first + 1),
-                         (14, lambda: not mesh.can_flip(first))],
-        "legalize": lambda: [edges(mesh, second)],
-        "swap": lambda: [vertices(mesh, first, second), live_vertices(mesh, first, second)],
-        "put": lambda: [vertices(mesh, first)],
-        "isolate": lambda: [vertices(mesh, first), halves(mesh, second), closed(mesh),
-                            (15, lambda: not second or not mesh.is_border_loop(second, first))],
-        "remesh": lambda: [(2, lambda: halves(mesh, first)[1]() or edges(mesh, second)[1]()), inner_faces(mesh, given[2]), closed(mesh),
-                           (15, lambda: mesh.ring_vertex(*given) is None and not mesh.is_region_ring(*given))],
-        "strip": lambda: [halves(mesh, first), closed(mesh), (16, lambda: mesh.strip_parts(first) is None)],
-        "cleanup": lambda: [edges(mesh, first), inner_faces(mesh, second), (5, lambda: mesh.removal[0] != "isolated"),
-                            (17, lambda: sorted(first) != sorted(mesh.removal[1]) or sorted(second) != sorted(mesh.removal[2]))],
-        "remove": lambda: [vertices(mesh, first), (4, lambda: mesh.removal not in (CLOSED, ("cleaned", first))),
-                           (8, lambda: mesh.removal == CLOSED and not mesh.is_unconnected(first))],
-        "degenerate": lambda: [vertices(mesh, first), closed(mesh), (18, lambda: len(mesh.data) != 1 and not mesh.is_path())],
-        "out": lambda: [vertices(mesh, first), live_vertices(mesh, first)],
-        "origin": lambda: [halves(mesh, [first]), live_half(mesh, first)],
-        "between": lambda: [vertices(mesh, first, second), live_vertices(mesh, first, second)],
-        "get": lambda: [vertices(mesh, first)],
-    }.get(word, lambda: [])()
 
 
 # Replies to what is legal.
@@ -237,39 +201,78 @@ def between(mesh, first, second):
 
 
 def counts(mesh):
-    return f"vertices {len(mesh.data)} edges {mesh.edge_count()} faces {len(mesh.words)}"
+    return "vertices {} edges {} faces {}".format(*sizes(mesh))
 
 
 def halves_reply(edit):
     return lambda mesh, *given: listed("halves", edit(mesh, *given))
 
 
-REPLIES = {
-    "append": lambda mesh, datum: f"vertex {mesh.append(datum)}",
-    "setup": done(Mesh.set_up, "ok"),
-    "extend": done(Mesh.extend, lambda end, new: f"vertex {new}"),
-    "line": halves_reply(Mesh.split_line),
-    "close": lambda mesh, edge: f"half {mesh.close(edge)}",
-    "outside": done(Mesh.put_outside, lambda edge, new: f"vertex {new}"),
-    "insert": done(Mesh.insert, lambda new, face: f"vertex {new}"),
-    "half": halves_reply(Mesh.split_half),
-    "split": halves_reply(Mesh.split),
-    "flip": done(Mesh.flip, "ok"),
-    "legalize": flips,
-    "swap": done(Mesh.swap, "ok"),
-    "put": put,
-    "isolate": isolate,
-    "remesh": remesh,
-    "strip": strip,
-    "cleanup": done(lambda mesh, *lists: mesh.clean_up(), "ok"),
-    "remove": lambda mesh, vertex: removed(*mesh.remove(vertex)),
-    "degenerate": lambda mesh, vertex: removed(*mesh.remove_from_path(vertex)),
-    "counts": counts,
-    "words": words,
-    "hull": lambda mesh: listed("hull", from_least(mesh.words[0])),
-    "out": out,
-    "origin": lambda mesh, half: f"vertex {mesh.origins[half]}",
-    "between": between,
-    "get": lambda mesh, vertex: f"datum {mesh.data[vertex]}",
-    "check": lambda mesh: "true" if mesh.is_checked() else "false",
+class Word(NamedTuple):
+    """What a line does where nothing refuses it, with its reply, or the mesh that it makes; and what it asks, in the order of the numbers."""
+    carry_out: Callable
+    asks: Callable = lambda *given: []
+
+
+def puts_in(*more):
+    """What a line asks that names a half edge and a vertex to be put in."""
+    return lambda mesh, half, new: [
+        vertices(mesh, new), halves(mesh, [half]), (6, lambda: not mesh.is_live_vertex(new) or not mesh.is_live_half(half)),
+        unconnected(mesh, new), *(ask(mesh, half) for ask in more)]
+
+
+def two_live(mesh, first, second):
+    return [vertices(mesh, first, second), live_vertices(mesh, first, second)]
+
+
+def distinct(first, second):
+    return 7, lambda: first == second
+
+
+WORDS = {
+    "append": Word(lambda mesh, datum: f"vertex {mesh.append(datum)}"),
+    "triangle": Word(triangle),
+    "setup": Word(done(Mesh.set_up, "ok"), lambda mesh, first, second: [
+        *two_live(mesh, first, second), distinct(first, second), (9, lambda: mesh.origins != [])]),
+    "extend": Word(done(Mesh.extend, lambda end, new: f"vertex {new}"), lambda mesh, end, new: [
+        *two_live(mesh, end, new), distinct(end, new), unconnected(mesh, new), (10, lambda: mesh.degree(end) != 1)]),
+    "line": Word(halves_reply(Mesh.split_line), puts_in(lambda mesh, half: (11, lambda: mesh.face(half) != mesh.face(other(half))))),
+    "close": Word(lambda mesh, half: f"half {mesh.close(half)}", lambda mesh, half: [
+        halves(mesh, [half]), live_half(mesh, half), (12, lambda: mesh.face(half) != 0),
+        (14, lambda: mesh.to(mesh.next(half)) == mesh.origins[half])]),
+    "outside": Word(done(Mesh.put_outside, lambda half, new: f"vertex {new}"), puts_in()),
+    "insert": Word(done(Mesh.insert, lambda new, face: f"vertex {new}"), lambda mesh, new, face: [
+        vertices(mesh, new), inner_faces(mesh, [face]), (6, lambda: not mesh.is_live_vertex(new) or not mesh.is_live_face(face)),
+        unconnected(mesh, new), (13, lambda: not mesh.is_triangle(face))]),
+    "half": Word(halves_reply(Mesh.split_half), puts_in(lambda mesh, half: triangles(mesh, half))),
+    "split": Word(halves_reply(Mesh.split), puts_in(lambda mesh, half: triangles(mesh, half, other(half)))),
+    "flip": Word(done(Mesh.flip, "ok"), lambda mesh, edge: [
+        edges(mesh, [edge]), (6, lambda: not mesh.is_live_edge(edge)), triangles(mesh, 2 * edge, 2 * edge + 1),
+        (14, lambda: not mesh.can_flip(edge))]),
+    "legalize": Word(flips, lambda mesh, most, numbers: [edges(mesh, numbers)]),
+    "swap": Word(done(Mesh.swap, "ok"), two_live),
+    "put": Word(put, lambda mesh, vertex, datum: [vertices(mesh, vertex)]),
+    "isolate": Word(isolate, lambda mesh, vertex, border: [
+        vertices(mesh, vertex), halves(mesh, border), closed(mesh), (15, lambda: not border or not mesh.is_border_loop(border, vertex))]),
+    "remesh": Word(remesh, lambda mesh, border, inside, faces: [
+        (2, lambda: halves(mesh, border)[1]() or edges(mesh, inside)[1]()), inner_faces(mesh, faces), closed(mesh),
+        (15, lambda: mesh.ring_vertex(border, inside, faces) is None and not mesh.is_region_ring(border, inside, faces))]),
+    "strip": Word(strip, lambda mesh, border: [halves(mesh, border), closed(mesh), (16, lambda: mesh.strip_parts(border) is None)]),
+    "cleanup": Word(done(lambda mesh, *lists: mesh.clean_up(), "ok"), lambda mesh, gone, faces: [
+        edges(mesh, gone), inner_faces(mesh, faces), (5, lambda: mesh.removal[0] != "isolated"),
+        (17, lambda: sorted(gone) != sorted(mesh.removal[1]) or sorted(faces) != sorted(mesh.removal[2]))]),
+    "remove": Word(lambda mesh, vertex: removed(*mesh.remove(vertex)), lambda mesh, vertex: [
+        vertices(mesh, vertex), (4, lambda: mesh.removal not in (CLOSED, ("cleaned", vertex))),
+        (8, lambda: mesh.removal == CLOSED and not mesh.is_unconnected(vertex))]),
+    "degenerate": Word(lambda mesh, vertex: removed(*mesh.remove_from_path(vertex)), lambda mesh, vertex: [
+        vertices(mesh, vertex), closed(mesh), (18, lambda: len(mesh.data) != 1 and not mesh.is_path())]),
+    "clear": Word(lambda mesh: Mesh()),
+    "counts": Word(counts),
+    "words": Word(words),
+    "hull": Word(lambda mesh: listed("hull", from_least(mesh.words[0]))),
+    "out": Word(out, lambda mesh, vertex: [vertices(mesh, vertex), live_vertices(mesh, vertex)]),
+    "origin": Word(lambda mesh, half: f"vertex {mesh.origins[half]}", lambda mesh, half: [halves(mesh, [half]), live_half(mesh, half)]),
+    "between": Word(between, two_live),
+    "get": Word(lambda mesh, vertex: f"datum {mesh.data[vertex]}", lambda mesh, vertex: [vertices(mesh, vertex)]),
+    "check": Word(lambda mesh: "true" if mesh.is_checked() else "false"),
 }

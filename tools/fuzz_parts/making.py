@@ -1,6 +1,6 @@
 """Lines made at random for a mesh: most of them lawful, and the others wrong in one way or another."""
 
-from .lines import TAKES
+from .lines import ROWS
 from .mesh import CLOSED, other
 
 FAR = [4294967295, 4294967296, 99999999999999999999, 2147483648]
@@ -11,7 +11,7 @@ GROWING = ["insert"] * 6 + ["outside"] * 3 + ["close"] * 3 + ["half"] * 2 + ["sp
 CHANGING = ["flip"] * 5 + ["legalize"] * 3 + ["swap"] * 2 + ["put"] * 2
 OPENING = ["isolate"] * 4 + ["vertex ring"] * 2 + ["region"] * 4 + ["strip"] * 4
 LOOKS = ["words", "hull", "counts", "check", "out", "out", "origin", "origin"]
-ASKING = ["counts", "words", "hull", "out", "origin", "between", "get", "check"]
+QUERIES = [word for word, row in ROWS.items() if row.adds is None]
 
 
 class Maker:
@@ -71,22 +71,24 @@ class Maker:
 
     # Kinds of lines.
 
+    def item(self, mesh, kind):
+        """A number, a datum or a list of such a kind as docs/LINES.md names, or what stands between lists."""
+        if kind.endswith(".."):
+            return " ".join(self.item(mesh, kind[0]) for _ in range(self.random.randrange(5)))
+        counts = {"A": len(mesh.data), "B": len(mesh.data), "V": len(mesh.data), "H": len(mesh.origins), "U": mesh.edge_count(),
+                  "F": len(mesh.words), "N": 3}
+        return kind if kind == "/" else str(self.datum() if kind == "D" else self.number(counts[kind]))
+
+    def of(self, mesh, word):
+        """A line of this word, with items of its kinds."""
+        return " ".join(it for it in [word, *(self.item(mesh, kind) for kind in ROWS[word].items)] if it)
+
     def wild(self, mesh):
-        """A word with numbers of its kinds, but of no thought."""
-        word = self.random.choice(list(TAKES))
-        parts = []
-        for place, kind in enumerate(TAKES[word]):
-            if kind == "L":
-                if TAKES[word][place - 1:place] == "L":
-                    parts.append("/")
-                parts += [str(self.number(max(len(mesh.origins), 3))) for _ in range(self.random.randrange(5))]
-            else:
-                parts.append(str(self.datum() if kind == "D" else self.number(max(len(mesh.data), 3))))
-        return " ".join([word, *parts])
+        """Any word, with items of its kinds, but of no thought."""
+        return self.of(mesh, self.random.choice(list(ROWS)))
 
     def asking(self, mesh):
-        word = self.random.choice(ASKING)
-        return " ".join([word] + [str(self.vertex(mesh)) if word != "origin" else str(self.number(len(mesh.origins))) for _ in TAKES[word]])
+        return self.of(mesh, self.random.choice(QUERIES))
 
     def look(self, mesh, line):
         """A line that shows something of the mesh: of its vertices one that the line names, one where it grew last, or any."""
@@ -123,7 +125,8 @@ class Maker:
         if len(mesh.words) == 1 and self.random.random() < 0.8:
             word = self.random.choice(["extend", "line"])
         if word == "insert":
-            return f"insert {new} {self.pick(face for face in range(1, len(mesh.words)) if mesh.is_triangle(face))}"
+            is_any = self.random.random() < 0.05
+            return f"insert {new} {self.pick(face for face in range(1, len(mesh.words)) if is_any or mesh.is_triangle(face))}"
         if word == "close":
             return f"close {self.pick(mesh.words[0])}"
         if word == "extend":

@@ -2,11 +2,9 @@
 use Rattle.std.proofs.Common.{◌≡◌, ◌⊎◌, ℕ, zero, suc, ◌+◌, ◌<◌, ◌≤◌, ◌&&◌, Bool, true, nat_lt, ltb-true, List, [], ◌∷◌, inl, inr, length, get_or, arith, subst, sym, refl, ap, ◌∙◌}
 use Rattle.std.specs.List.Sorted.{IsNonDecreasingBy}
 use Rattle.std.proofs.lemmas.Bool.{and_parts}
-use Rattle.dcel_commands.specs.Instructions.{Instruction, Append, Triangle, Setup, Extend, Line, Close, Outside, Insert, Half, Split, Flip, Swap, Put, Isolate, Remesh, Strip, Cleanup, Remove, Degenerate, Legalize, Clear}
 use Rattle.dcel_commands.specs.declared.refusal.Refusal.{Refusal}
 use Rattle.dcel_commands.specs.Conditions.{Entry, Meets, AllMet, FirstUnmet, IsLeast, IsReason, IsRefused, entry_number}
 use Rattle.dcel_commands.specs.Refusal.{refusal_number}
-use Rattle.dcel_commands.specs.Steps.{asks}
 use Rattle.dcel_maps.specs.Shapes.{Shape}
 use Rattle.dcel_commands.proofs.Decided.{meets}
 
@@ -75,7 +73,7 @@ all_met_or_refused s xs = elim (all_met_or_first s xs) [
 
 -- ---- columns: the numbers ascend from `least` on, and are below that of want of memory, which is the last
 
-is_column : ℕ → List Entry → Bool
+unfoldable pub is_column : ℕ → List Entry → Bool
 is_column least [] = true
 is_column least (x ∷ r) = nat_lt least (entry_number x + 1) && (nat_lt (entry_number x) 20 && is_column (entry_number x) r)
 
@@ -94,45 +92,14 @@ at_least least (x ∷ r) column zero d below = (parts least x r column).0
 at_least least (x ∷ r) column (suc j) d below =
     let here = parts least x r column in omega (arith, here.0, at_least (entry_number x) r here.2 j d (omega arith))
 
-ascends : (least : ℕ) (xs : List Entry) → is_column least xs ≡ true → IsNonDecreasingBy entry_number xs
+pub ascends : (least : ℕ) (xs : List Entry) → is_column least xs ≡ true → IsNonDecreasingBy entry_number xs
 ascends least [] column i j d le below = absurd (omega arith)
 ascends least (x ∷ r) column zero zero d le below = omega arith
 ascends least (x ∷ r) column zero (suc j) d le below = at_least (entry_number x) r (parts least x r column).2 j d (omega arith)
 ascends least (x ∷ r) column (suc i) zero d le below = absurd (omega arith)
 ascends least (x ∷ r) column (suc i) (suc j) d le below = ascends (entry_number x) r (parts least x r column).2 i j d (omega arith) (omega arith)
 
-first-below : (s : Shape) (least : ℕ) (xs : List Entry) (why : Refusal) → is_column least xs ≡ true → FirstUnmet s xs why → refusal_number why < 20
+pub first-below : (s : Shape) (least : ℕ) (xs : List Entry) (why : Refusal) → is_column least xs ≡ true → FirstUnmet s xs why → refusal_number why < 20
 first-below s least [] why column unmet = absurd unmet
 first-below s least (x ∷ r) why column (inl first) = omega (arith, (parts least x r column).1, ap refusal_number first.1)
 first-below s least (x ∷ r) why column (inr later) = first-below s (entry_number x) r why (parts least x r column).2 later.1
-
-command-column : {V : Type 0} (limit : ℕ) (command : Instruction V) → is_column 1 (asks limit command) ≡ true
-unfolding is_column
-command-column limit (Append datum) = refl
-command-column limit (Triangle x y z) = refl
-command-column limit (Setup a b) = refl
-command-column limit (Extend a b) = refl
-command-column limit (Line h b) = refl
-command-column limit (Close h) = refl
-command-column limit (Outside h b) = refl
-command-column limit (Insert v f) = refl
-command-column limit (Half h b) = refl
-command-column limit (Split h b) = refl
-command-column limit (Flip u) = refl
-command-column limit (Swap a b) = refl
-command-column limit (Put v datum) = refl
-command-column limit (Isolate v hs) = refl
-command-column limit (Remesh hs us fs) = refl
-command-column limit (Strip hs) = refl
-command-column limit (Cleanup us fs) = refl
-command-column limit (Remove v) = refl
-command-column limit (Degenerate v) = refl
-command-column limit (Legalize n us) = refl
-command-column limit Clear = refl
-
-pub command-ascends : {V : Type 0} (limit : ℕ) (command : Instruction V) → IsNonDecreasingBy entry_number (asks limit command)
-command-ascends limit command = ascends 1 (asks limit command) (command-column limit command)
-
--- no condition of a command has the refusal for want of memory
-pub refused-below : {V : Type 0} (s : Shape) (limit : ℕ) (command : Instruction V) (why : Refusal) → FirstUnmet s (asks limit command) why → refusal_number why < 20
-refused-below s limit command why unmet = first-below s 1 (asks limit command) why (command-column limit command) unmet

@@ -6,8 +6,8 @@ use Rattle.dcel_commands.specs.Conditions.{Condition, Meets, VertexInRange, Half
 use Rattle.dcel_fixed.specs.HalfEdges.{rev}
 use Rattle.dcel_maps.specs.Conditions.{IsUnconnected, IsLineEnd, IsTriangle, IsBridge, CanFlip, CanCloseOutside, CanSwapRemove}
 use Rattle.dcel_maps.specs.Degenerate.{CanRemoveDegenerate, HasFewOutEdges, IsOutPair, IsPath}
-use Rattle.dcel_maps.specs.Removals.{Removal, Closed, Isolated, Cleaned, IsListed, ascending, gives_up_edge}
-use Rattle.dcel_maps.specs.Shapes.{Shape, IsLive, edge_is_live, end_of, face_count, face_is_live, face_of, next_of, origin_of, prev_of, vertex_is_live}
+use Rattle.dcel_maps.specs.Removals.{Removal, Closed, Isolated, Cleaned, IsListed, ascending}
+use Rattle.dcel_maps.specs.Shapes.{Shape, edge_is_live, end_of, face_count, face_is_live, face_of, next_of, origin_of, prev_of, vertex_is_live}
 use Rattle.dcel_maps.specs.Strips.{IsEdgeStrip, IsStripAround, strip_of}
 use Rattle.dcel_maps.specs.Borders.{IsBorderLoop, IsEdgeAt, IsFaceAt, IsVertexRing, StartsAlone, center_of}
 use Rattle.dcel_maps.specs.Regions.{IsRegion, IsRegionRing, IsRim, IsRing, LeadsPast}
@@ -19,7 +19,6 @@ use Rattle.dcel_maps.specs.Walking.{IsOutEdge, ListsOnce, ccw_of, walk_of}
 use Rattle.dcel_maps.specs.Words.{count_of, word_of}
 use Rattle.dcel_maps.proofs.walks.Links.{half-below}
 use Rattle.dcel_maps.proofs.words.Counts.{count-later, count-same, first_or_later}
-use Rattle.dcel_maps.proofs.Liveness.{is_live-parts}
 
 -- it holds, or it does not
 abbrev pub Decided : Type 0 → Type 0

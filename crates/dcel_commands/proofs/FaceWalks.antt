@@ -1,12 +1,10 @@
 -- Walks round a face by `next`, and its least half edge.
-use Rattle.std.proofs.Common.{◌≡◌, ◌≢◌, inl, inr, ℕ, zero, suc, ◌*◌, ◌/◌, ◌<◌, ◌≤◌, true, false, nat_lt, List, [], ◌∷◌, ◌++◌, length, Some, None, refl, subst, sym, ap, ◌∙◌, arith, eq-eqb, append-nil}
+use Rattle.std.proofs.Common.{◌≡◌, ◌≢◌, inl, inr, ℕ, zero, suc, ◌/◌, ◌<◌, ◌≤◌, true, false, nat_lt, List, [], ◌∷◌, ◌++◌, length, Some, None, refl, subst, sym, ap, ◌∙◌, arith, eq-eqb, append-nil}
 use Rattle.std.proofs.lemmas.Bool.{cases_Bool, cases_lt, lt-ltb, le-ltb}
 use Rattle.std.specs.Fmt.{decimal}
 use Rattle.dcel_maps.specs.Maps.{By}
-use Rattle.dcel_maps.specs.Removals.{gives_up_edge}
 use Rattle.dcel_maps.specs.Shapes.{Shape, Mesh, IsSound, IsMesh, IsLive, AnchorsWord, edge_is_live, face_anchor, face_count, face_of, next_of}
 use Rattle.dcel_maps.specs.Words.{count_of, occurs, word_of, IsLeastFirst, next_in_word, next_in, face_in}
-use Rattle.dcel_maps.proofs.Liveness.{is_live-parts}
 use Rattle.dcel_maps.proofs.walks.Links.{occurs-le, single}
 use Rattle.dcel_maps.proofs.words.Counts.{count-append, count-le_occurs, count-same, count-other, word_with}
 use Rattle.dcel_maps.proofs.words.Paths.{next_in_word-stands}

@@ -3,7 +3,8 @@ pub mod Decided
 pub mod Edits
 pub mod Ending
 pub mod FaceWalks
-pub mod Flipping
+pub mod Lawful
+pub mod Lawfulness
 pub mod Lists
 pub mod OneRemoval
 pub mod OutEdges
@@ -14,3 +15,4 @@ pub mod Serving
 pub mod Spelling
 pub mod Triangles
 pub mod WithoutMemory
+pub mod lines

@@ -4,7 +4,7 @@ use Rattle.std.specs.Fmt.{decimal}
 use Rattle.std.proofs.lemmas.Bool.{and_from, and_parts, cases_lt, cases_eq, eqb-true, false_from_ne_true}
 use Rattle.dcel_maps.specs.Maps.{has_label}
 use Rattle.dcel_maps.specs.Shapes.{Shape, Mesh, IsLive, AnchorsVertex, edge_is_live, map_of, origin_of, vertex_anchor}
-use Rattle.dcel_maps.specs.Walking.{IsOutEdge, ListsOnce, in_mesh}
+use Rattle.dcel_maps.specs.Walking.{IsOutEdge, in_mesh}
 use Rattle.dcel_maps.specs.Words.{count_of}
 use Rattle.dcel_maps.proofs.walks.Items.{ComesFirst, first_item, none_left}
 use Rattle.dcel_maps.proofs.words.Counts.{count-same, count-other, count-later}

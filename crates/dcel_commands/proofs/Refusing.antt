@@ -10,7 +10,8 @@ use Rattle.dcel_commands.specs.Steps.{asks, IsRefusal, Legal, Refuses}
 use Rattle.dcel_commands.specs.Rules.{State}
 use Rattle.dcel_commands.specs.Talk.{asked, Does}
 use Rattle.dcel_maps.specs.Shapes.{Shape}
-use Rattle.dcel_commands.proofs.Columns.{FirstUnmet-not_met, refused-below}
+use Rattle.dcel_commands.proofs.Columns.{FirstUnmet-not_met}
+use Rattle.dcel_commands.proofs.Lawfulness.{refused-below}
 
 not_memory : {V : Type 0} (s : Shape) (limit : ℕ) (command : Instruction V) (why : Refusal) → Refuses s limit command why → ¬ (why ≡ OutOfMemory)
 not_memory s limit command why refuses is =

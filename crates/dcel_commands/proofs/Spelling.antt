@@ -11,7 +11,7 @@ use Rattle.std.specs.Fmt.{decimal}
 use Rattle.std.proofs.lemmas.Bool.{false≢true}
 use Rattle.std.proofs.lemmas.Fmt.{digits_decimal, signed_decimal_injective}
 use Rattle.std.proofs.lemmas.Str.Parse.{digit_from_value}
-use Rattle.dcel_commands.specs.declared.request.Query.TheVariants.{Counts, Words, Hull, Out, Origin, Between, Get, Check}
+use Rattle.dcel_commands.specs.declared.commands.query.Query.TheVariants.{Counts, Words, Hull, Out, Origin, Between, Get, Check}
 use Rattle.dcel_commands.specs.declared.request.Request.{Request}
 use Rattle.dcel_commands.specs.Grammar.{Item, Number, Datum, Slash, item_text, IsInRange, numbers}
 use Rattle.dcel_commands.specs.Instructions.{Append, Triangle, Setup, Extend, Line, Close, Outside, Insert, Half, Split, Flip, Swap, Put, Isolate, Remesh, Strip, Cleanup, Remove, Degenerate, Legalize, Clear, Saying, Edit, Ask}

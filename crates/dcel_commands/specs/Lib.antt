@@ -4,6 +4,7 @@ pub mod Answering
 pub mod Asking
 pub mod Conditions
 pub mod Edits
+pub mod Facts
 pub mod Grammar
 pub mod Instructions
 pub mod Lists

@@ -1,44 +1,60 @@
 -- What queries are told.
-use Rattle.std.specs.Prelude.{◌≡◌, ◌⊎◌, ℕ, Bool, List, Option, Result, Ok, Err}
+use Rattle.std.specs.Prelude.{List, Result, Ok, Err}
 use Rattle.dcel_commands.specs.declared.refusal.Refusal.{Refusal}
-use Rattle.dcel_commands.specs.declared.request.Query.{Query}
-use Rattle.dcel_commands.specs.declared.request.Query.TheVariants.{Counts, Words, Hull, Out, Origin, Between, Get, Check}
-use Rattle.dcel_commands.specs.Answering.{WritesSome}
+use Rattle.dcel_commands.specs.declared.commands.query.Query.{Query}
+use Rattle.dcel_commands.specs.declared.commands.query.Query.TheVariants as queries
+use Rattle.dcel_commands.specs.declared.commands.query.Told.{Told}
+use Rattle.dcel_commands.specs.declared.commands.query.Told.TheVariants as answers
 use Rattle.dcel_commands.specs.Conditions.{Entry, AllMet, FirstUnmet}
-use Rattle.dcel_commands.specs.Refusal.{refusal_text}
-use Rattle.dcel_commands.specs.Rules.{QueryRule, State}
-use Rattle.dcel_text.specs.declared.output.Writer.{Writer}
+use Rattle.dcel_commands.specs.Facts.{Fact, Counts, Words, Hull, Out, Vertex, Half, Datum, Truth}
+use Rattle.dcel_commands.specs.Rules.{QueryRule}
 use Rattle.dcel_commands.specs.request.Between.{between}
 use Rattle.dcel_commands.specs.request.Check.{check}
 use Rattle.dcel_commands.specs.request.Counts.{counts}
 use Rattle.dcel_commands.specs.request.Get.{get}
 use Rattle.dcel_commands.specs.request.Origin.{origin}
-use Rattle.dcel_commands.specs.request.Out.{out}
-use Rattle.dcel_commands.specs.request.Words.{hull, words}
+use Rattle.dcel_commands.specs.request.Out.{out, turn_of}
+use Rattle.dcel_commands.specs.request.Words.{hull, live_faces, words}
+use Rattle.dcel_maps.specs.Shapes.{Mesh}
+use Rattle.dcel_maps.specs.Words.{word_of}
+use Rattle.spade_dcel.specs.Handles.{mesh_behind, number_of}
 
 -- the queries
 abbrev pub query_rule : Query → QueryRule
-query_rule Counts = counts
-query_rule Words = words
-query_rule Hull = hull
-query_rule (Out v) = out v
-query_rule (Origin h) = origin h
-query_rule (Between v w) = between v w
-query_rule (Get v) = get v
-query_rule Check = check
+query_rule queries.Counts = counts
+query_rule queries.Words = words
+query_rule queries.Hull = hull
+query_rule (queries.Out v) = out v
+query_rule (queries.Origin h) = origin h
+query_rule (queries.Between v w) = between v w
+query_rule (queries.Get v) = get v
+query_rule queries.Check = check
+
+-- what is said of a mesh
+abbrev pub fact : {V DE UE F A : Type 0} → Told V DE UE F A → Fact V
+fact (answers.Counts vertices edges faces) = Counts vertices edges faces
+fact (answers.Words dcel) = Words (live_faces dcel.now.shape)
+fact (answers.Hull dcel) = Hull (word_of dcel.now.shape.words 0)
+fact (answers.Out vertex) = Out (turn_of (mesh_behind vertex).shape (number_of vertex))
+fact (answers.Vertex v) = Vertex v
+fact (answers.Half found) = Half found
+fact (answers.Datum datum) = Datum datum.now
+fact (answers.Truth is_so) = Truth is_so
+
+-- the outcome of a query
+abbrev pub told : {V DE UE F A : Type 0} → Result (Told V DE UE F A) Refusal → Result (Fact V) Refusal
+told (Ok answer) = Ok (fact answer)
+told (Err why) = Err why
 
 -- the conditions of a query
 abbrev pub query_asks : Query → List Entry
 query_asks query = (query_rule query).asks
 
--- the text answers the query, or tells by which refusal the first condition that isn't met refuses it
-abbrev pub Told : State → Query → List ℕ → Type 0
-Told m query text =
-    (AllMet m.shape (query_asks query) × (query_rule query).Tells m text)
-    ⊎ ((why : Refusal) × FirstUnmet m.shape (query_asks query) why × (text ≡ refusal_text why))
+-- a query is told this of a mesh
+abbrev pub Tells : {V DE UE F : Type 0} → Mesh V DE UE F → Query → Fact V → Type 0
+Tells m query is = (query_rule query).Tells m is
 
--- the answer was written, or the query is refused and nothing was
-abbrev pub TellsOrRefuses : {K U : Type 0} → (K → Bool) → (K → Option (List ℕ)) → Writer K → State → Query → Result U Refusal → Writer K → Type 0
-TellsOrRefuses has_failed contents old m query (Ok _) new =
-    AllMet m.shape (query_asks query) × WritesSome has_failed contents old new (λ text. (query_rule query).Tells m text)
-TellsOrRefuses has_failed contents old m query (Err why) new = FirstUnmet m.shape (query_asks query) why × (new ≡ old)
+-- all that the rule asks is met and it is told this, or the first condition that isn't met refuses it
+abbrev pub TellsOrRefuses : {V DE UE F : Type 0} → Mesh V DE UE F → QueryRule → Result (Fact V) Refusal → Type 0
+TellsOrRefuses m rule (Ok is) = AllMet m.shape rule.asks × rule.Tells m is
+TellsOrRefuses m rule (Err why) = FirstUnmet m.shape rule.asks why

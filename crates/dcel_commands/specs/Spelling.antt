@@ -4,10 +4,9 @@ use Rattle.std.specs.List.{AllByRecursion}
 use Rattle.std.specs.declared.alloc.AllocError.{AllocError}
 use Rattle.dcel_commands.specs.declared.request.Request.{Request}
 use Rattle.dcel_commands.specs.Grammar.{Item, item_text, IsInRange}
-use Rattle.dcel_commands.specs.Instructions.{Saying, Edit, Ask, in_lists, saying}
+use Rattle.dcel_commands.specs.Instructions.{Saying, Edit, Ask, command_rule, in_lists, saying}
 use Rattle.dcel_text.specs.Items.{spaced}
 use Rattle.dcel_commands.specs.Queries.{query_rule}
-use Rattle.dcel_commands.specs.Steps.{command_rule}
 
 -- the word that a line begins with
 abbrev pub word : Saying → List ℕ

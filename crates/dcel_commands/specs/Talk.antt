@@ -1,10 +1,13 @@
 -- What lines may be answered.
-use Rattle.std.specs.Prelude.{◌≡◌, ℕ, ℤ, pos, List, [], ◌∷◌, ◌++◌, codes, Result}
+use Rattle.std.specs.Prelude.{◌≡◌, ◌⊎◌, ℕ, ℤ, pos, List, [], ◌∷◌, ◌++◌, codes, Result}
 use Rattle.dcel_commands.specs.declared.commands.reply.Refused.{Refused}
+use Rattle.dcel_commands.specs.declared.commands.query.Query.{Query}
+use Rattle.dcel_commands.specs.declared.refusal.Refusal.{Refusal}
 use Rattle.dcel_commands.specs.declared.refusal.Refusal.TheVariants.{OutOfMemory}
-use Rattle.dcel_commands.specs.Conditions.{Entry}
-use Rattle.dcel_commands.specs.Instructions.{Saying, Edit, Ask}
-use Rattle.dcel_commands.specs.Queries.{Told, query_asks}
+use Rattle.dcel_commands.specs.Conditions.{Entry, AllMet, FirstUnmet}
+use Rattle.dcel_commands.specs.Instructions.{Saying, Edit, Ask, command_rule}
+use Rattle.dcel_commands.specs.Facts.{Fact, fact_text}
+use Rattle.dcel_commands.specs.Queries.{Tells, query_asks}
 use Rattle.dcel_commands.specs.Refusal.{refusal_text}
 use Rattle.dcel_commands.specs.Replies.{outcome_text}
 use Rattle.dcel_commands.specs.Responses.{Response}
@@ -27,11 +30,17 @@ abbrev pub asked : ℕ → Saying → List Entry
 asked limit (Edit command) = asks limit command
 asked limit (Ask query) = query_asks query
 
+-- the text is what the query is told, or says by which refusal the first condition that isn't met refuses it
+abbrev pub IsTold : State → Query → List ℕ → Type 0
+IsTold m query text =
+    (AllMet m.shape (query_asks query) × ((fact : Fact ℤ) × Tells m query fact × (text ≡ fact_text fact)))
+    ⊎ ((why : Refusal) × FirstUnmet m.shape (query_asks query) why × (text ≡ refusal_text why))
+
 -- a command is carried out or refused, and the text is its outcome; a query changes nothing, and the text tells what it asks
 abbrev pub Does : ℕ → State → Saying → List ℕ → State → Type 0
 Does limit old (Edit command) text new =
-    (outcome : Result (Response ℤ) (Refused ℤ)) × Carries IsZero IsZero IsZero limit old command outcome new × (text ≡ outcome_text outcome)
-Does limit old (Ask query) text new = Told old query text × (new ≡ old)
+    (outcome : Result (Response ℤ) (Refused ℤ)) × Carries IsZero IsZero IsZero limit old (command_rule command) outcome new × (text ≡ outcome_text outcome)
+Does limit old (Ask query) text new = IsTold old query text × (new ≡ old)
 
 -- the text that a line may be answered by, and the mesh that it leaves. Where a list that isn't empty finds no memory, nothing is asked
 pub data Answers (limit : ℕ) (old : State) (line text : List ℕ) (new : State) : Type 0 where

@@ -1,12 +1,8 @@
 -- What the clauses of the files in `request` cite of this crate and of those below.
-pub use Rattle.dcel_commands.specs.Answering.{WritesSome}
 pub use Rattle.dcel_commands.specs.Conditions.{NoOtherOpen, PassesOrRefuses, Removable}
-pub use Rattle.dcel_commands.specs.Instructions.{Append, Triangle, Setup, Extend, Line, Close, Outside, Insert, Half, Split, Flip, Swap, Put, Isolate, Remesh, Strip, Cleanup, Remove, Degenerate, Legalize, Clear}
-pub use Rattle.dcel_commands.specs.Queries.{TellsOrRefuses}
 pub use Rattle.dcel_commands.specs.Responses.{answered, response}
 pub use Rattle.dcel_commands.specs.Spelling.{Says}
 pub use Rattle.dcel_commands.specs.Steps.{Carries}
-pub use Rattle.dcel_commands.specs.declared.request.Query.TheVariants.{Out, Origin, Between, Get}
 pub use Rattle.dcel_maps.specs.Shapes.{IsLive, IsMesh, IsSound, face_count, face_of}
 pub use Rattle.dcel_maps.specs.Walking.{ccw_of, walk_of}
 pub use Rattle.dcel_maps.specs.Words.{word_of}

@@ -2,40 +2,16 @@
 
 ghost use Rattle.std.specs.Prelude.{◌≤◌, ◌^◌};
 ghost use Rattle.dcel_commands.specs.Answering.{WritesSome};
-ghost use Rattle.dcel_commands.specs.Queries.{TellsOrRefuses};
 ghost use Rattle.dcel_commands.specs.Talk.{Answers};
 
-use crate::commands::apply;
+use crate::commands::{apply, tell};
 use crate::reading::read;
 use crate::refusal::Refusal;
-use crate::replies::{write_refusal, write_reply};
-use crate::request::{
-    LineMesh, Query, Request, between, check, counts, get, origin, out as out_edges, words,
-};
+use crate::replies::{write_refusal, write_reply, write_told};
+use crate::request::{LineMesh, Request};
 use dcel_text::output::Writer;
 use dcel_text::sink::LineSink;
 use std::alloc::Allocator;
-
-/// Writes the reply to a query, or refuses it and writes nothing.
-fn tell<A: Allocator, K: LineSink>(
-    out: &mut Writer<'_, K>,
-    mesh: &LineMesh<A>,
-    query: Query,
-) -> Result<(), Refusal>
-    ensures { TellsOrRefuses K.has_failed K.contents out.old mesh.now query result out.new }
-{
-    match query {
-        Query::Counts => counts::write_counts(out, mesh),
-        Query::Words => words::write_words(out, mesh),
-        Query::Hull => words::write_hull(out, mesh),
-        Query::Out(vertex) => out_edges::tell(out, mesh, vertex)?,
-        Query::Origin(edge) => origin::tell(out, mesh, edge)?,
-        Query::Between(from, to) => between::tell(out, mesh, from, to)?,
-        Query::Get(vertex) => get::tell(out, mesh, vertex)?,
-        Query::Check => check::write_check(out, mesh),
-    }
-    Ok(())
-}
 
 /// Does what a line says, and writes the reply.
 ///
@@ -57,8 +33,8 @@ pub fn answer<A: Allocator + Clone, B: Allocator + Copy, K: LineSink>(
             Ok(reply) => write_reply(out, reply),
             Err(refused) => write_refusal(out, refused.why),
         },
-        Some(Ok(Request::Ask(query))) => match tell(out, mesh, query) {
-            Ok(()) => {}
+        Some(Ok(Request::Ask(query))) => match tell(mesh, query) {
+            Ok(told) => write_told(out, &told),
             Err(why) => write_refusal(out, why),
         },
     }

@@ -1,16 +1,17 @@
-//! Commands that a mesh carries out or refuses by name; the reader of lines, each a command or a
+//! Commands that a mesh carries out or refuses by name, and queries that it answers; the reader of lines, each a command or a
 //! query; and the runner, which writes the replies to lines.
 
 mod command;
 mod dispatch;
 mod lists;
+mod query;
 mod reply;
 
 pub use crate::faults::RunFault;
 pub use crate::given::Said;
 pub use crate::reading::read;
 pub use crate::refusal::Refusal;
-pub use crate::request::{LineMesh, Query, Request};
+pub use crate::request::{LineMesh, Request};
 pub use crate::run::run;
 pub use crate::session::Session;
 pub use command::Command;
@@ -20,4 +21,5 @@ pub use dcel_text::sink::{LineSink, StdSink};
 pub use dcel_text::source::{LineSource, StdSource};
 pub use dispatch::{MAX_LIMIT, apply};
 pub use lists::{StoppedAt, apply_all};
+pub use query::{Query, Told, tell};
 pub use reply::{Handed, Refused, Reply};

@@ -8,8 +8,8 @@ ghost use Rattle.dcel_commands.specs.Vocabulary.{Says};
 ghost use Rattle.dcel_text.specs.Numbers.{IsNumber, IsDatum};
 ghost use Rattle.dcel_text.specs.Items.{BeginsWith, left, slash};
 
-use crate::commands::Command;
-use crate::request::{Query, Request};
+use crate::commands::{Command, Query};
+use crate::request::Request;
 use dcel_fixed::{
     FaceTag, FixedDirectedEdgeHandle, FixedFaceHandle, FixedHandleImpl, FixedUndirectedEdgeHandle,
     InnerOuterMarker, InnerTag, UndirectedEdgeTag,

@@ -19,7 +19,7 @@ ghost use Rattle.dcel_commands.specs.Triangles.{TrianglesStay};
 ghost use Rattle.dcel_commands.specs.declared.commands.reply.Refused.{Refused};
 ghost use Rattle.dcel_commands.specs.declared.refusal.Refusal.{Refusal};
 ghost use Rattle.dcel_commands.specs.declared.refusal.Refusal.TheVariants.{OutOfMemory};
-ghost use Rattle.dcel_commands.specs.declared.request.Query.{Query};
+ghost use Rattle.dcel_commands.specs.declared.commands.query.Query.{Query};
 ghost use Rattle.dcel_maps.specs.EditLists.{EditedBy};
 ghost use Rattle.dcel_maps.specs.Removals.{opened_with};
 ghost use Rattle.dcel_maps.specs.Shapes.{IsMesh, Mesh, Shape};

@@ -1,14 +1,17 @@
-//! Writes replies and refusals as lines of text.
+//! Writes replies, what queries are told, and refusals as lines of text.
 
 ghost use Rattle.std.specs.Prelude.{◌≡◌};
 ghost use Rattle.dcel_text.specs.Output.{Writes};
+ghost use Rattle.dcel_commands.specs.Facts.{counts_text, datum_text, edge_text, fact_text, truth_text};
+ghost use Rattle.dcel_commands.specs.Queries.{fact};
 ghost use Rattle.dcel_commands.specs.Refusal.{refusal_text};
 ghost use Rattle.dcel_commands.specs.Replies.{ending_of, flips_text, half_edge_text, moved_text, opened_text, removed_text, reply_text, vertex_text};
 ghost use Rattle.dcel_commands.specs.Responses.{response};
 ghost use Rattle.dcel_text.specs.Texts.{listed};
 
-use crate::commands::Reply;
+use crate::commands::{Reply, Told};
 use crate::refusal::Refusal;
+use crate::request::{out as turns, words};
 use dcel_fixed::{FixedDirectedEdgeHandle, FixedHandleImpl, FixedVertexHandle, InnerOuterMarker};
 use dcel_legalize::Legalized;
 use dcel_text::output::Writer;
@@ -125,5 +128,68 @@ pub fn write_reply<A: Allocator, K: LineSink>(out: &mut Writer<'_, K>, reply: Re
         Reply::Opened(opened) => write_opened(out, &opened),
         Reply::Removed(removed) => write_removed(out, &removed),
         Reply::Flips(legalized) => write_flips(out, legalized),
+    }
+}
+
+/// Writes the line of counts.
+fn write_counts<K: LineSink>(out: &mut Writer<'_, K>, vertices: usize, edges: usize, faces: usize)
+    ensures { Writes K.has_failed K.contents out.old out.new (counts_text vertices edges faces) }
+{
+    out.numbered(b"vertices ", vertices as u64);
+    out.numbered(b" edges ", edges as u64);
+    out.numbered(b" faces ", faces as u64);
+    out.write(b"\n");
+}
+
+/// Writes the line of a half edge that was looked for.
+fn write_found<K: LineSink>(out: &mut Writer<'_, K>, found: Option<FixedDirectedEdgeHandle>)
+    ensures { Writes K.has_failed K.contents out.old out.new (edge_text found) }
+{
+    match found {
+        Some(edge) => write_half_edge(out, edge),
+        None => out.write(b"none\n"),
+    }
+}
+
+/// Writes the line of a datum.
+fn write_datum<K: LineSink>(out: &mut Writer<'_, K>, datum: i64)
+    ensures { Writes K.has_failed K.contents out.old out.new (datum_text datum) }
+{
+    out.write(b"datum ");
+    out.datum(datum);
+    out.write(b"\n");
+}
+
+/// Writes the line of what is true or false.
+fn write_truth<K: LineSink>(out: &mut Writer<'_, K>, is_so: bool)
+    ensures { Writes K.has_failed K.contents out.old out.new (truth_text is_so) }
+{
+    if is_so {
+        out.write(b"true\n");
+    } else {
+        out.write(b"false\n");
+    }
+}
+
+/// Writes the lines of what a query is told.
+pub fn write_told<DE, UE, F, A: Allocator, K: LineSink>(
+    out: &mut Writer<'_, K>,
+    told: &Told<'_, i64, DE, UE, F, A>,
+)
+    ensures { Writes K.has_failed K.contents out.old out.new (fact_text (fact told.now)) }
+{
+    match told {
+        Told::Counts {
+            vertices,
+            edges,
+            faces,
+        } => write_counts(out, *vertices, *edges, *faces),
+        Told::Words(dcel) => words::write_words(out, dcel),
+        Told::Hull(dcel) => words::write_hull(out, dcel),
+        Told::Out(vertex) => turns::write_turn_line(out, *vertex),
+        Told::Vertex(vertex) => write_vertex(out, *vertex),
+        Told::Half(found) => write_found(out, *found),
+        Told::Datum(datum) => write_datum(out, **datum),
+        Told::Truth(is_so) => write_truth(out, *is_so),
     }
 }

@@ -3,11 +3,9 @@
 
 pub mod append;
 pub mod between;
-pub mod check;
 pub mod cleanup;
 pub mod clear;
 pub mod close;
-pub mod counts;
 pub mod degenerate;
 pub mod extend;
 pub mod flip;
@@ -30,34 +28,12 @@ pub mod swap;
 pub mod triangle;
 pub mod words;
 
-use crate::commands::Command;
-use dcel_fixed::{FixedDirectedEdgeHandle, FixedVertexHandle};
+use crate::commands::{Command, Query};
 use spade_dcel::dcel::Dcel;
 use std::alloc::Allocator;
 
 /// The mesh that lines are about, whose data are numbers.
 pub type LineMesh<A> = Dcel<i64, i64, i64, i64, A>;
-
-/// A question about a mesh, which stays as it is.
-#[derive(Clone, Copy)]
-pub enum Query {
-    /// How many vertices, edges and faces there are.
-    Counts,
-    /// The word of each face.
-    Words,
-    /// The half edges of the outer face.
-    Hull,
-    /// The half edges that start at a vertex.
-    Out(FixedVertexHandle),
-    /// The vertex that a half edge starts at.
-    Origin(FixedDirectedEdgeHandle),
-    /// The half edge that leads from one vertex to another.
-    Between(FixedVertexHandle, FixedVertexHandle),
-    /// The datum of a vertex.
-    Get(FixedVertexHandle),
-    /// Whether `sanity_check` finds the mesh triangulated.
-    Check,
-}
 
 /// What a line says. Its lists are in the memory of `A`.
 #[derive(Drop)]

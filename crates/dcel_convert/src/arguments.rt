@@ -1,8 +1,6 @@
 //! The words that the program is started with.
 
-use clap::builder::ValueParser;
-use clap::{Arg, ArgAction, ArgMatches, Command, Error};
-use std::alloc::{AllocError, Global};
+use dcel_programs::{Choice, Given, Program, Switch, Takes};
 
 /// How a file says a mesh.
 #[derive(Clone, Copy, PartialEq, Eq, Debug)]
@@ -57,27 +55,6 @@ pub struct Arguments<'a> {
     pub are_placed: bool,
 }
 
-/// What the words say.
-#[derive(Drop)]
-pub enum Asked<'a> {
-    /// To do this.
-    Run(Arguments<'a>),
-    /// To print this: help that was asked for, or what is wrong with them.
-    Told(Error),
-}
-
-/// The options of which one is chosen at most: what is written.
-const OUTPUTS: [&str; 8] = [
-    "check",
-    "check-delaunay",
-    "stats",
-    "off",
-    "obj",
-    "ply",
-    "words",
-    "svg",
-];
-
 /// What a file may be written in, by the ending of its name too.
 const FORMATS: &[&str] = &["obj", "off", "ply", "words"];
 
@@ -101,132 +78,105 @@ faces keep their numbers as words. Words have no coordinates: in other formats a
 
 In a Delaunay triangulation each face is a counterclockwise triangle, no vertex lies inside the
 circle of one, the border is a convex hull that passes no vertex twice, and each vertex has an edge.
-For --check-delaunay all vertices have one third coordinate, and whole numbers from -1073741824 to
-1073741824 as the first two.
+For --check-delaunay all vertices have one third coordinate. The first two, times the least power
+of ten that makes all of them whole, are from -1073741824 to 1073741824.
 
 What the output has no place for is left out, and named on standard error. A file that has no mesh
 is refused with the first thing that is wrong with it. Messages number vertices and faces from 0,
 those of OBJ files too.";
 
-/// Reads the words, the program's name first.
-pub fn read_arguments<'a>(alloc: Global, words: &'a [String]) -> Result<Asked<'a>, AllocError> {
-    match command(alloc)?.try_get_matches_from(words) {
-        Ok(matches) => Ok(Asked::Run(arguments_of(&matches))),
-        Err(error) => Ok(Asked::Told(error)),
-    }
-}
-
-/// Describes the arguments that the program takes.
-fn command<'a>(alloc: Global) -> Result<Command<'a>, AllocError> {
-    let file = Arg::new(alloc, "file")
-        .value_name("FILE")
-        .help("The file; without it, or with -, standard input");
-    let command = Command::new(alloc, "dcel_convert")
-        .about(ABOUT)
-        .after_help(DETAILS)
-        .arg(file)?;
-    with_outputs(alloc, with_options(alloc, command)?)
-}
-
-/// Adds the options that take a value, and that of places.
-fn with_options<'a>(alloc: Global, command: Command<'a>) -> Result<Command<'a>, AllocError> {
-    let from = Arg::new(alloc, "from")
-        .long("from")
-        .value_name("FORMAT")
-        .value_parser(ValueParser::Names(FORMATS))
-        .help("What the file is written in, whatever its name");
-    let target = Arg::new(alloc, "output")
-        .short('o')
-        .long("output")
-        .value_name("FILE")
-        .help("Writes into this file; its ending tells the format, unless a choice below does");
-    let places = Arg::new(alloc, "places")
-        .long("places")
-        .action(ArgAction::SetTrue)
-        .help("Finds coordinates for words, as a picture does");
-    command.arg(from)?.arg(target)?.arg(places)
-}
-
-/// Adds the choices of what is written.
-fn with_outputs<'a>(alloc: Global, command: Command<'a>) -> Result<Command<'a>, AllocError> {
-    command
-        .arg(choice(alloc, "off", "Writes OFF, as it does without a choice")?)?
-        .arg(choice(alloc, "obj", "Writes OBJ")?)?
-        .arg(choice(alloc, "ply", "Writes PLY, as text")?)?
-        .arg(choice(alloc, "words", "Writes words")?)?
-        .arg(choice(
-            alloc,
-            "svg",
-            "Draws the mesh: where it lies if it is flat, else with places of its own",
-        )?)?
-        .arg(choice(
-            alloc,
-            "stats",
-            "Writes how many vertices, edges, faces, parts and borders there are, and the genus",
-        )?)?
-        .arg(choice(alloc, "check", "Writes nothing but what is wrong")?)?
-        .arg(choice(
-            alloc,
-            "check-delaunay",
-            "Writes nothing but why the file has no Delaunay triangulation of its vertices",
-        )?)
-}
-
-/// Returns one of the choices of what is written.
-fn choice<'a>(alloc: Global, name: &'a str, help: &'a str) -> Result<Arg<'a>, AllocError> {
-    let mut arg = Arg::new(alloc, name)
-        .long(name)
-        .action(ArgAction::SetTrue)
-        .help(help);
-    for other in OUTPUTS {
-        if other != name {
-            arg = arg.conflicts_with(other)?;
-        }
-    }
-    Ok(arg)
-}
-
-fn arguments_of<'a>(matches: &ArgMatches<'a>) -> Arguments<'a> {
-    let file = matches.get_str("file").filter(|name| *name != "-");
-    let target = matches.get_str("output").filter(|name| *name != "-");
-    Arguments {
-        file,
-        format: match matches.get_str("from") {
-            Some(name) => format_named(name),
-            None => format_of(file),
+/// What the program takes.
+pub const PROGRAM: Program<'static, Output> = Program {
+    name: "dcel_convert",
+    about: ABOUT,
+    input: "The file; without it, or with -, standard input",
+    switches: &[
+        Switch {
+            name: "from",
+            letter: None,
+            takes: Takes::Format(FORMATS),
+            help: "What the file is written in, whatever its name",
         },
-        output: output_of(matches, target),
-        target,
-        are_placed: matches.get_flag("places"),
-    }
-}
+        Switch {
+            name: "output",
+            letter: Some('o'),
+            takes: Takes::File,
+            help: "Writes into this file; its ending tells the format, unless a choice below does",
+        },
+        Switch {
+            name: "places",
+            letter: None,
+            takes: Takes::Nothing,
+            help: "Finds coordinates for words, as a picture does",
+        },
+    ],
+    choices: OUTPUTS,
+    details: DETAILS,
+};
 
-/// Returns what is to be written: what is chosen, or what the file's name says.
-fn output_of(matches: &ArgMatches<'_>, target: Option<&str>) -> Output {
-    if matches.get_flag("check") {
-        Output::Check
-    } else if matches.get_flag("check-delaunay") {
-        Output::CheckDelaunay
-    } else if matches.get_flag("stats") {
-        Output::Stats
-    } else if matches.get_flag("svg") {
-        Output::Svg
-    } else {
-        Output::Mesh(written_format(matches, target))
-    }
-}
+/// What is written.
+const OUTPUTS: &[Choice<'static, Output>] = &[
+    Choice {
+        name: "off",
+        means: Output::Mesh(Format::Off),
+        help: "Writes OFF, as it does without a choice",
+    },
+    Choice {
+        name: "obj",
+        means: Output::Mesh(Format::Obj),
+        help: "Writes OBJ",
+    },
+    Choice {
+        name: "ply",
+        means: Output::Mesh(Format::Ply),
+        help: "Writes PLY, as text",
+    },
+    Choice {
+        name: "words",
+        means: Output::Mesh(Format::Words),
+        help: "Writes words",
+    },
+    Choice {
+        name: "svg",
+        means: Output::Svg,
+        help: "Draws the mesh: where it lies if it is flat, else with places of its own",
+    },
+    Choice {
+        name: "stats",
+        means: Output::Stats,
+        help: "Writes how many vertices, edges, faces, parts and borders there are, and the genus",
+    },
+    Choice {
+        name: "check",
+        means: Output::Check,
+        help: "Writes nothing but what is wrong",
+    },
+    Choice {
+        name: "check-delaunay",
+        means: Output::CheckDelaunay,
+        help: "Writes nothing but why the file has no Delaunay triangulation of its vertices",
+    },
+];
 
-fn written_format(matches: &ArgMatches<'_>, target: Option<&str>) -> Format {
-    if matches.get_flag("off") {
-        Format::Off
-    } else if matches.get_flag("obj") {
-        Format::Obj
-    } else if matches.get_flag("ply") {
-        Format::Ply
-    } else if matches.get_flag("words") {
-        Format::Words
-    } else {
-        format_of(target)
+impl<'a> Arguments<'a> {
+    /// Returns what the words say. Without a choice the mesh is written, in the format that the
+    /// name of the file for it says.
+    pub fn of(given: &Given<'a>) -> Self {
+        let file = given.input();
+        let target = given.file("output");
+        Arguments {
+            file,
+            format: match given.value("from") {
+                Some(name) => format_named(name),
+                None => format_of(file),
+            },
+            output: match given.choice(OUTPUTS) {
+                Some(output) => output,
+                None => Output::Mesh(format_of(target)),
+            },
+            target,
+            are_placed: given.has("places"),
+        }
     }
 }
 

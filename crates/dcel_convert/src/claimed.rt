@@ -96,12 +96,15 @@ fn check_outer(alloc: Global, mesh: &Mesh, claim: &Claim) -> Result<(), Fault> {
 /// Returns the reason, with the line that shows it, if one does.
 fn fault_of(reason: LinksError, claim: &Claim, links: &LinkLists) -> Fault {
     match reason {
-        LinksError::Links(fault) => match line_of(fault, claim, links) {
-            Some(line) => Fault::Link { line, fault },
-            None => Fault::Links(fault),
-        },
+        LinksError::Links(fault) => {
+            let wrong = Wrong::Links(fault);
+            match line_of(fault, claim, links) {
+                Some(line) => Fault::Line { line, wrong },
+                None => Fault::Input(wrong),
+            }
+        }
         LinksError::OutOfMemory => Fault::OutOfMemory(AllocError),
-        other => Fault::Other(other),
+        other => Fault::Input(Wrong::Other(other)),
     }
 }
 

@@ -2,16 +2,16 @@
 
 ghost use Rattle.std.specs.Prelude.{◌<◌};
 
-use crate::fault::Fault;
-use crate::meshing::fault_of;
+use crate::fault::{Fault, Wrong};
+use crate::meshing::{at_place, fault_of};
 use crate::surface::Surface;
 use dcel_circles::{is_circled, is_delaunay_triangulation};
+use dcel_decimals::{Decimal, DecimalError, Scale};
 use dcel_exchange::from_faces;
 use dcel_predicates::{Point, orient2d};
 use spade_dcel::dcel::Dcel;
 use spade_dcel::handles::{FixedFaceHandle, FixedVertexHandle, InnerTag};
 use std::alloc::Global;
-use std::num::saturating_f64_to_i64;
 use thiserror::Error;
 
 /// A mesh whose vertices stand in the plane.
@@ -25,12 +25,12 @@ pub enum Flaw {
     /// The first vertex and this one are not at one height.
     #[error("vertex {0} has another third coordinate than vertex 0")]
     OtherHeight(usize),
-    /// A coordinate of this vertex has a fraction, or is written as if it had one.
-    #[error("a coordinate of vertex {0} is not written as a whole number")]
-    NotWhole(usize),
-    /// A coordinate of this vertex is too small or too large.
-    #[error("a coordinate of vertex {0} is below -1073741824 or above 1073741824")]
-    OutOfRange(usize),
+    /// A coordinate of this vertex has too many digits.
+    #[error("a coordinate of vertex {0} has too many digits")]
+    TooManyDigits(usize),
+    /// A coordinate of this vertex is further from 0 than this.
+    #[error("a coordinate of vertex {0} is below -{1} or above {1}")]
+    OutOfRange(usize, Decimal),
     /// There are vertices alone.
     #[error("there is no face")]
     NoFace,
@@ -56,8 +56,8 @@ pub enum Flaw {
 
 /// Tells why the faces are no Delaunay triangulation of the vertices, unless they are one.
 ///
-/// The first two coordinates of each vertex have to be whole numbers from -2^30 to 2^30, and the
-/// third one, as a double, the same for all of them.
+/// The first two coordinates of each vertex, times the least power of ten that makes all of them
+/// whole, have to be from -2^30 to 2^30, and the third one, as a double, the same for all of them.
 pub fn check_delaunay(alloc: Global, surface: &Surface) -> Result<(), Fault> {
     let points = points_of(alloc, surface)?;
     match from_faces(alloc, points, &surface.faces) {
@@ -77,77 +77,88 @@ pub fn check_delaunay(alloc: Global, surface: &Surface) -> Result<(), Fault> {
     }
 }
 
-/// Returns where the vertices stand.
+/// Returns where the vertices stand, with coordinates that a scale makes whole.
 fn points_of(alloc: Global, surface: &Surface) -> Result<Vec<Point>, Fault> {
+    let coordinates = coordinates_of(alloc, surface)?;
+    let scale = Scale::least(&coordinates);
     let mut points = Vec::new(alloc);
-    let mut height = None;
-    for (vertex, place) in surface.places.iter().enumerate() {
-        match point_of(vertex, place.as_str()) {
-            Ok((point, z)) => {
-                if *height.get_or_insert(z) != z {
-                    return Err(at_vertex(surface, vertex, Flaw::OtherHeight(vertex)));
-                }
-                points.push(point)?;
-            }
-            Err(flaw) => return Err(at_vertex(surface, vertex, flaw)),
+    for (vertex, pair) in coordinates.chunks(2).enumerate() {
+        if let &[x, y] = pair {
+            let Some(point) = point_at(x, y, scale) else {
+                return Err(at_vertex(surface, vertex, out_of_range(vertex, scale)));
+            };
+            points.push(point)?;
         }
     }
     Ok(points)
 }
 
-/// Returns the first two coordinates of a vertex as a point, and the third one.
-fn point_of(vertex: usize, text: &str) -> Result<(Point, f64), Flaw> {
+/// Returns the first two coordinates of each vertex, if the third one is the same for all.
+fn coordinates_of(alloc: Global, surface: &Surface) -> Result<Vec<Decimal>, Fault> {
+    let mut coordinates = Vec::new(alloc);
+    let mut height = None;
+    for (vertex, place) in surface.places.iter().enumerate() {
+        match place_of(vertex, place.as_str()) {
+            Ok((x, y, z)) => {
+                if *height.get_or_insert(z) != z {
+                    return Err(at_vertex(surface, vertex, Flaw::OtherHeight(vertex)));
+                }
+                coordinates.push(x)?;
+                coordinates.push(y)?;
+            }
+            Err(flaw) => return Err(at_vertex(surface, vertex, flaw)),
+        }
+    }
+    Ok(coordinates)
+}
+
+/// Returns the coordinates of a vertex.
+fn place_of(vertex: usize, text: &str) -> Result<(Decimal, Decimal, f64), Flaw> {
     let mut words = text.split_ascii_whitespace();
-    let x = whole_number(words.next()).ok_or(Flaw::NotWhole(vertex))?;
-    let y = whole_number(words.next()).ok_or(Flaw::NotWhole(vertex))?;
+    let x = coordinate(vertex, words.next())?;
+    let y = coordinate(vertex, words.next())?;
     let z = number_of(words.next()).ok_or(Flaw::OtherHeight(vertex))?;
-    let point = Point::new(x, y).ok_or(Flaw::OutOfRange(vertex))?;
-    Ok((point, z))
+    Ok((x, y, z))
 }
 
 fn number_of(word: Option<&str>) -> Option<f64> {
     word?.parse::<f64>().ok()
 }
 
-/// Returns the number that a word says, if it is a whole one: out of the range of `i64`, one that
-/// is as far out of the range of points.
-fn whole_number(word: Option<&str>) -> Option<i64> {
-    let word = word?;
-    if !is_whole(word) {
-        return None;
-    }
-    // Whole numbers that points have are doubles.
-    Some(saturating_f64_to_i64(word.parse::<f64>().ok()?))
+/// Returns the number that a word says.
+fn coordinate(vertex: usize, word: Option<&str>) -> Result<Decimal, Flaw> {
+    Decimal::read(word.unwrap_or("")).map_err(|error| match error {
+        DecimalError::OutOfRange => out_of_range(vertex, Scale::ONE),
+        _ => Flaw::TooManyDigits(vertex),
+    })
 }
 
-/// Returns whether a number is written as a whole one, as are 12, 12.0 and 1.20e1.
-fn is_whole(number: &str) -> bool {
-    let (digits, exponent) = match number.split_once(|mark: char| mark == 'e' || mark == 'E') {
-        Some((digits, exponent)) => (digits, exponent.parse::<usize>().ok()),
-        None => (number, Some(0)),
-    };
-    let decimals = match digits.split_once('.') {
-        Some((_, decimals)) => decimals.trim_end_matches('0').len(),
-        None => 0,
-    };
-    exponent.is_some_and(|exponent| decimals <= exponent)
+/// Returns the point with these coordinates times a scale.
+fn point_at(x: Decimal, y: Decimal, scale: Scale) -> Option<Point> {
+    Point::new(x.scaled(scale).ok()?, y.scaled(scale).ok()?)
+}
+
+/// Returns that a coordinate is out of the range of points, where it is multiplied by this scale.
+fn out_of_range(vertex: usize, scale: Scale) -> Flaw {
+    Flaw::OutOfRange(vertex, Decimal::from_scaled(Point::LIMIT as i64, scale))
 }
 
 /// Returns why a mesh is no Delaunay triangulation of its vertices, if it is none.
 fn reason_of(surface: &Surface, mesh: &PlaneMesh) -> Fault {
     if mesh.num_faces() == 1 {
-        return Fault::Flaw(Flaw::NoFace);
+        return Fault::Input(Wrong::Flaw(Flaw::NoFace));
     }
     if let Some((face, flaw)) = flaw_of_face(mesh) {
-        return at(&surface.lines, face, flaw);
+        return at_place(&surface.lines, face, Wrong::Flaw(flaw));
     }
     if let Some(vertex) = vertex_without_edge(mesh) {
         return at_vertex(surface, vertex, Flaw::NoEdge(vertex));
     }
-    match flaw_of_edge(mesh) {
-        Some(flaw) => Fault::Flaw(flaw),
-        None => Fault::Flaw(flaw_of_border(mesh)),
-    }
+    let flaw = match flaw_of_edge(mesh) {
+        Some(flaw) => flaw,
+        None => flaw_of_border(mesh),
+    };
+    Fault::Input(Wrong::Flaw(flaw))
 }
 
 /// Returns the first face that is no counterclockwise triangle, and which of both it isn't.
@@ -222,13 +233,5 @@ fn flaw_of_border(mesh: &PlaneMesh) -> Flaw {
 }
 
 fn at_vertex(surface: &Surface, vertex: usize, flaw: Flaw) -> Fault {
-    at(&surface.vertex_lines, vertex, flaw)
-}
-
-/// Returns a flaw with the line of this place in a list.
-fn at(lines: &[usize], place: usize, flaw: Flaw) -> Fault {
-    match lines.get(place) {
-        Some(line) => Fault::FlawAt { line: *line, flaw },
-        None => Fault::Flaw(flaw),
-    }
+    at_place(&surface.vertex_lines, vertex, Wrong::Flaw(flaw))
 }

@@ -1,8 +1,8 @@
 //! Pictures of meshes.
 
 use crate::meshing::Mesh;
-use crate::output::Text;
-use dcel_picture::{Picture, Place, Places, Style, bow, spread, write_svg};
+use dcel_programs::Text;
+use dcel_svg::{Picture, Place, Places, Style, bow, spread, write_svg};
 use spade_dcel::handles::FixedVertexHandle;
 use std::alloc::{AllocError, Global};
 use std::io::{self, Write};
@@ -52,7 +52,7 @@ impl<'a> Drawing<'a> {
 impl<'a> Text for Drawing<'a> {
     fn write_to(&self, alloc: Global, writer: &mut impl Write) -> io::Result<()> {
         let picture = Picture::new(alloc, self.mesh, None, &self.places)?;
-        write_svg(&picture, Style { anchors: false }, writer)
+        write_svg(&picture, Style::HalfEdges { anchors: false }, writer)
     }
 }
 

@@ -1,4 +1,4 @@
-//! Why the program gave up.
+//! Why the program gives up.
 
 use crate::claim::Lines;
 use crate::delaunay_check::Flaw;
@@ -6,85 +6,12 @@ use crate::stats::Stats;
 use dcel_exchange::FacesError;
 use spade_dcel::operations::{LinksError, LinksFault};
 use std::alloc::AllocError;
-use std::io::{self, ErrorKind};
 use thiserror::Error;
 
-/// Why the program gave up.
-#[derive(Debug, Drop, Error)]
-pub enum Fault {
-    /// A line doesn't say what it should.
-    #[error("line {line}: {wrong}")]
-    Line {
-        /// The line's number, from 1.
-        line: usize,
-        /// What is wrong with it.
-        wrong: Wrong,
-    },
-    /// The faces are no mesh, for a reason that a face shows.
-    #[error("line {line}: {reason}")]
-    Face {
-        /// The line of the face.
-        line: usize,
-        /// What is wrong.
-        reason: FacesError,
-    },
-    /// The faces are no mesh.
-    #[error("{0}")]
-    Faces(FacesError),
-    /// The words are no mesh, for a reason that a line shows.
-    #[error("line {line}: {fault}")]
-    Link {
-        /// The line of the counts, of a face or of a vertex.
-        line: usize,
-        /// What is wrong.
-        fault: LinksFault,
-    },
-    /// The words are no mesh.
-    #[error("{0}")]
-    Links(LinksFault),
-    /// No mesh was made of the words for a reason that their lines can't give.
-    #[error("{0}")]
-    Other(LinksError),
-    /// The faces are no Delaunay triangulation, for a reason that a line shows.
-    #[error("line {line}: {flaw}")]
-    FlawAt {
-        /// The line of a vertex or of a face.
-        line: usize,
-        /// Why they are none.
-        flaw: Flaw,
-    },
-    /// The faces are no Delaunay triangulation.
-    #[error("{0}")]
-    Flaw(Flaw),
-    /// Coordinates are asked for, and words have none.
-    #[error("words have no coordinates")]
-    NoCoordinates,
-    /// There is no border, and no face can stand for it.
-    #[error("there is no border, and each face comes to a vertex twice")]
-    NoOuterFace,
-    /// The surface as a whole is none that is taken.
-    #[error("the surface has {0}; taken is one part, of genus 0, with at most one border")]
-    Surface(Stats),
-    /// There is no vertex and no face.
-    #[error("the file has no vertex and no face")]
-    Nothing,
-    /// A file could not be read or written.
-    #[error("{path}: {error}")]
-    File {
-        /// The file, or what stands for it.
-        path: String,
-        /// What the system says.
-        error: io::Error,
-    },
-    /// The arguments could not be read, or a write failed.
-    #[error("{0}")]
-    Io(#[from] io::Error),
-    /// There was no memory.
-    #[error("out of memory")]
-    OutOfMemory(#[from(alloc)] AllocError),
-}
+/// Why the program gives up.
+pub type Fault = dcel_programs::Fault<Wrong>;
 
-/// What is wrong with a line.
+/// What is wrong with a file.
 #[derive(Debug, Drop, Error)]
 pub enum Wrong {
     /// There is no first word.
@@ -156,17 +83,31 @@ pub enum Wrong {
     /// There are fewer lines than the counts say.
     #[error("the file ends before all vertices and faces that the counts say")]
     FewerLines,
+    /// The faces are no mesh.
+    #[error("{0}")]
+    Faces(FacesError),
+    /// The words are no mesh.
+    #[error("{0}")]
+    Links(LinksFault),
+    /// No mesh was made of the words for a reason that their lines can't give.
+    #[error("{0}")]
+    Other(LinksError),
+    /// The faces are no Delaunay triangulation.
+    #[error("{0}")]
+    Flaw(Flaw),
+    /// Coordinates are asked for, and words have none.
+    #[error("words have no coordinates")]
+    NoCoordinates,
+    /// There is no border, and no face can stand for it.
+    #[error("there is no border, and each face comes to a vertex twice")]
+    NoBorder,
+    /// The surface as a whole is none that is taken.
+    #[error("the surface has {0}; taken is one part, of genus 0, with at most one border")]
+    Surface(Stats),
+    /// There is no vertex and no face.
+    #[error("the file has no vertex and no face")]
+    Nothing,
     /// There was no memory.
     #[error("out of memory")]
     OutOfMemory(#[from(alloc)] AllocError),
-}
-
-impl Fault {
-    /// Returns whether the reader of the output went away, so that nothing is left to tell.
-    pub fn is_broken_pipe(&self) -> bool {
-        match self {
-            Fault::Io(error) => error.kind() == ErrorKind::BrokenPipe,
-            _ => false,
-        }
-    }
 }

@@ -1,10 +1,9 @@
 //! Converts meshes between files of vertices and faces and the words of half edges, checks them,
 //! and draws them.
 //!
-//! `dcel_convert --help` tells what it reads and writes. It exits with status 0; with 1 if the file
-//! has no mesh, or no Delaunay triangulation where that is asked, or a read, a write or memory
-//! failed, and says so unless the reader of its output went away; and with 2 if its arguments are
-//! bad.
+//! `dcel_convert --help` tells what it reads and writes. It exits with status 0, also if nobody
+//! reads its output any more; with 1 if the file has no mesh, or no Delaunay triangulation where
+//! that is asked, or a read, a write or memory failed; and with 2 if its arguments are bad.
 #![tactic(auto)]
 
 mod arguments;
@@ -19,9 +18,7 @@ mod meshing;
 mod numbers;
 mod obj;
 mod off;
-mod output;
 mod ply;
-mod progress;
 mod reading;
 mod shown;
 mod stats;
@@ -29,56 +26,27 @@ mod surface;
 mod words;
 mod writing;
 
-use crate::arguments::{Arguments, Asked, Format, Output, read_arguments};
+use crate::arguments::{Arguments, Format, Output, PROGRAM};
 use crate::claim::Claim;
 use crate::claimed::claimed_mesh;
 use crate::delaunay_check::check_delaunay;
 use crate::drawing::{Drawing, place_vertices};
-use crate::fault::Fault;
+use crate::fault::{Fault, Wrong};
 use crate::left_out::tell_left_out;
 use crate::meshing::Solid;
-use crate::output::write_out;
-use crate::progress::Progress;
 use crate::reading::{Content, read_file};
 use crate::stats::Stats;
 use crate::surface::Surface;
 use crate::writing::Written;
-use std::env;
-use std::io::IsTerminal;
+use dcel_programs::{Progress, run, write_out};
 use std::process::ExitCode;
-use std::rt::{Env, Files};
+use std::rt::Files;
 
 fn main(rt: HostRuntime) -> ExitCode {
-    let progress = Progress {
-        is_shown: rt.stderr().is_terminal(),
-    };
-    match run(&rt, progress) {
-        Ok(code) => code,
-        Err(fault) => {
-            if !fault.is_broken_pipe() {
-                let _ = eprintln!(rt; "dcel_convert: {fault}");
-            }
-            ExitCode::FAILURE
-        }
-    }
-}
-
-/// Does what the arguments ask for.
-fn run(
-    rt: &(impl Env + Files + Input + Print + Eprint + AllocGlobal),
-    progress: Progress,
-) -> Result<ExitCode, Fault> {
-    let words: Vec<String> = env::args(rt)?.collect(rt.alloc())?;
-    match read_arguments(rt.alloc(), words.as_slice())? {
-        Asked::Run(arguments) => {
-            convert(rt, progress, &arguments)?;
-            Ok(ExitCode::SUCCESS)
-        }
-        Asked::Told(message) => {
-            message.print(rt)?;
-            Ok(ExitCode::from(message.exit_code() as u8))
-        }
-    }
+    let progress = Progress::at(&rt.stderr());
+    run(&rt, &PROGRAM, |given| {
+        convert(&rt, progress, &Arguments::of(given))
+    })
 }
 
 /// Reads the file, makes its mesh, and writes what is asked for.
@@ -103,7 +71,7 @@ fn convert_faces(
         surface.left_out.tell(rt)?;
     }
     if surface.places.is_empty() && surface.faces.is_empty() {
-        return Err(Fault::Nothing);
+        return Err(Fault::Input(Wrong::Nothing));
     }
     if arguments.output == Output::CheckDelaunay {
         return check_delaunay(rt.alloc(), &surface);
@@ -121,7 +89,7 @@ fn refuse_faces(
     fault: Fault,
 ) -> Result<(), Fault> {
     if arguments.output == Output::Stats {
-        if let Fault::Surface(stats) = &fault {
+        if let Fault::Input(Wrong::Surface(stats)) = &fault {
             write_out(rt, arguments.target, stats)?;
         }
     }
@@ -180,7 +148,7 @@ fn write_solid(
     match arguments.output {
         Output::Check => Ok(()),
         // Faces are checked before, so these are words.
-        Output::CheckDelaunay => Err(Fault::NoCoordinates),
+        Output::CheckDelaunay => Err(Fault::Input(Wrong::NoCoordinates)),
         Output::Stats => write_out(rt, arguments.target, &Stats::of_mesh(solid)),
         Output::Svg => draw(rt, arguments, solid),
         Output::Mesh(format) => write_out(rt, arguments.target, &Written { format, solid }),

@@ -1,6 +1,6 @@
 //! The mesh of a file, and its lists of corners and of half edges.
 
-use crate::fault::Fault;
+use crate::fault::{Fault, Wrong};
 use crate::stats::Stats;
 use crate::surface::Surface;
 use dcel_exchange::{FacesError, from_faces};
@@ -61,9 +61,9 @@ impl Solid {
         mut faces: Vec<Vec<u32>>,
         mut lines: Vec<usize>,
     ) -> Result<Solid, Fault> {
-        let place = simple_face(alloc, &faces)?.ok_or(Fault::NoOuterFace)?;
+        let place = simple_face(alloc, &faces)?.ok_or(Fault::Input(Wrong::NoBorder))?;
         if place >= faces.len() || place >= lines.len() {
-            return Err(Fault::NoOuterFace);
+            return Err(Fault::Input(Wrong::NoBorder));
         }
         let corners = faces.remove(place);
         let _ = lines.remove(place);
@@ -274,14 +274,19 @@ pub fn fault_of(
         FacesError::SideTwice(_, face, _, _) => face as usize,
         FacesError::Links(
             LinksFault::FaceInParts(0) | LinksFault::NotConnected(_) | LinksFault::NotSphere(_),
-        ) => return Ok(Fault::Surface(Stats::of_faces(alloc, vertices, faces)?)),
-        _ => return Ok(Fault::Faces(reason)),
+        ) => {
+            let stats = Stats::of_faces(alloc, vertices, faces)?;
+            return Ok(Fault::Input(Wrong::Surface(stats)));
+        }
+        _ => return Ok(Fault::Input(Wrong::Faces(reason))),
     };
-    match lines.get(face) {
-        Some(line) => Ok(Fault::Face {
-            line: *line,
-            reason,
-        }),
-        None => Ok(Fault::Faces(reason)),
+    Ok(at_place(lines, face, Wrong::Faces(reason)))
+}
+
+/// Returns what is wrong, with the line of this place in a list, if it has one.
+pub fn at_place(lines: &[usize], place: usize, wrong: Wrong) -> Fault {
+    match lines.get(place) {
+        Some(line) => Fault::Line { line: *line, wrong },
+        None => Fault::Input(wrong),
     }
 }

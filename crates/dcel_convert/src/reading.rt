@@ -6,13 +6,11 @@ use crate::fault::{Fault, Wrong};
 use crate::obj::ObjReader;
 use crate::off::{Layout, OffReader};
 use crate::ply::PlyReader;
-use crate::progress::Progress;
 use crate::surface::Surface;
 use crate::words::WordsReader;
+use dcel_programs::{Progress, before_comment, numbered_lines, read_text};
 use std::alloc::Global;
-use std::io::{self, Read};
 use std::rt::Files;
-use std::{fs, str};
 
 /// What a file has.
 #[derive(Drop)]
@@ -29,43 +27,8 @@ pub fn read_file(
     progress: Progress,
     arguments: &Arguments,
 ) -> Result<Content, Fault> {
-    let bytes = match read_bytes(rt, arguments.file) {
-        Ok(bytes) => bytes,
-        Err(error) => {
-            let path = arguments.file.unwrap_or("standard input");
-            return Err(Fault::File {
-                path: String::from_str(rt.alloc(), path)?,
-                error,
-            });
-        }
-    };
-    content_of(
-        rt,
-        progress,
-        without_mark(bytes.as_slice()),
-        arguments.format,
-    )
-}
-
-/// Reads all bytes.
-fn read_bytes(rt: &(impl Files + Input + AllocGlobal), file: Option<&str>) -> io::Result<Vec<u8>> {
-    let mut bytes = Vec::new(rt.alloc());
-    match file {
-        Some(path) => {
-            let mut opened = fs::open(rt, path)?;
-            opened.read_to_end(&mut bytes)?;
-        }
-        None => {
-            let mut input = rt.reader();
-            input.read_to_end(&mut bytes)?;
-        }
-    }
-    Ok(bytes)
-}
-
-/// Returns what follows the mark of UTF-8 that some programs begin a file with.
-fn without_mark(bytes: &[u8]) -> &[u8] {
-    bytes.strip_prefix(&[0xEF, 0xBB, 0xBF]).unwrap_or(bytes)
+    let text = read_text(rt, arguments.file)?;
+    content_of(rt, progress, &text, arguments.format)
 }
 
 /// Reads all lines. Those of OFF may have a vertex or a face each; else they are read once more,
@@ -73,19 +36,15 @@ fn without_mark(bytes: &[u8]) -> &[u8] {
 fn content_of(
     rt: &(impl Eprint + AllocGlobal),
     progress: Progress,
-    bytes: &[u8],
+    text: &str,
     format: Format,
 ) -> Result<Content, Fault> {
     let alloc = rt.alloc();
-    match lines_of(
-        rt,
-        progress,
-        bytes,
-        Reader::new(alloc, format, Layout::Lines),
-    ) {
+    let reader = Reader::new(alloc, format, Layout::Lines);
+    match lines_of(rt, progress, text, reader) {
         Err(fault) if format == Format::Off => {
             let reader = Reader::new(alloc, format, Layout::Numbers);
-            match lines_of(rt, progress, bytes, reader) {
+            match lines_of(rt, progress, text, reader) {
                 Ok(content) => Ok(content),
                 Err(_) => Err(fault),
             }
@@ -98,31 +57,32 @@ fn content_of(
 fn lines_of(
     rt: &(impl Eprint + AllocGlobal),
     progress: Progress,
-    bytes: &[u8],
+    text: &str,
     mut reader: Reader,
 ) -> Result<Content, Fault> {
+    let all = count_lines(text);
     let mut surface = Surface::new(rt.alloc());
-    let mut number: usize = 0;
-    if !bytes.is_empty() {
-        let lines = bytes.strip_suffix(b"\n").unwrap_or(bytes);
-        for line in lines.split(|byte| *byte == b'\n') {
-            number = number.saturating_add(1);
-            progress.show(rt, number)?;
-            reader
-                .take_bytes(rt.alloc(), number, line, &mut surface)
-                .map_err(|wrong| Fault::Line {
-                    line: number,
-                    wrong,
-                })?;
-        }
+    for (line, said) in numbered_lines(text) {
+        progress.show(rt, line, all, "lines")?;
+        reader
+            .take(rt.alloc(), line, said, &mut surface)
+            .map_err(|wrong| Fault::Line { line, wrong })?;
     }
-    progress.clear(rt, number)?;
+    progress.clear(rt, all)?;
     reader
         .end(rt.alloc(), surface)
         .map_err(|wrong| Fault::Line {
-            line: number.saturating_add(1),
+            line: all.saturating_add(1),
             wrong,
         })
+}
+
+fn count_lines(text: &str) -> usize {
+    let mut all = 0;
+    for (line, _) in numbered_lines(text) {
+        all = line;
+    }
+    all
 }
 
 /// A file that is read line by line.
@@ -142,24 +102,6 @@ impl Reader {
             Format::Obj => Reader::Obj(ObjReader::new(alloc)),
             Format::Ply => Reader::Ply(PlyReader::new(alloc)),
             Format::Words => Reader::Words(WordsReader::new(alloc)),
-        }
-    }
-
-    /// Reads a line. Bytes that are no text may stand where nothing is read, as in a comment: they
-    /// make no number.
-    fn take_bytes(
-        &mut self,
-        alloc: Global,
-        line: usize,
-        bytes: &[u8],
-        surface: &mut Surface,
-    ) -> Result<(), Wrong> {
-        match str::from_utf8(bytes) {
-            Ok(text) => self.take(alloc, line, text, surface),
-            Err(_) => {
-                let text = String::from_utf8_lossy(alloc, bytes)?;
-                self.take(alloc, line, text.as_str(), surface)
-            }
         }
     }
 
@@ -188,14 +130,6 @@ impl Reader {
             Reader::Words(words) => return Ok(Content::Words(words.end()?)),
         }
         Ok(Content::Faces(surface))
-    }
-}
-
-/// Returns what stands before the first `#`.
-fn before_comment(line: &str) -> &str {
-    match line.split_once('#') {
-        Some((before, _)) => before,
-        None => line,
     }
 }
 

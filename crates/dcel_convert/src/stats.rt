@@ -1,7 +1,7 @@
 //! How much a surface has of what.
 
 use crate::meshing::Solid;
-use crate::output::Text;
+use dcel_programs::Text;
 use std::alloc::{AllocError, Global};
 use std::fmt::{self, Formatter};
 use std::io::{self, Write};

@@ -2,7 +2,7 @@
 
 use crate::arguments::Format;
 use crate::meshing::{Mesh, Solid, list_corners, list_turn, list_word};
-use crate::output::Text;
+use dcel_programs::Text;
 use std::alloc::Global;
 use std::io::{self, Write};
 

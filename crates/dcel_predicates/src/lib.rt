@@ -7,9 +7,11 @@
 //! coordinates from -2^30 to 2^30.
 #![tactic(auto)]
 
+mod center;
 pub mod laws;
 mod point;
 mod predicates;
 
+pub use center::{Center, circumcenter};
 pub use point::Point;
 pub use predicates::{Side, in_circle, incircle, orient2d, orientation};

@@ -44,7 +44,7 @@ pub fn orientation(a: Point, b: Point, c: Point) -> Side
 
 // Returns the square of the distance between two points.
 #[tactic(auto, using(crate::proofs::Machine::squares_fit))]
-fn lift(p: Point, from: Point) -> i128
+pub fn lift(p: Point, from: Point) -> i128
     ensures value { result ≡ lift_of p from }
     ensures bound { unsigned_abs result ≤ 2 ^ 63 }
 {

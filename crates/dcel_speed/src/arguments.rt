@@ -27,11 +27,14 @@ pub struct Arguments {
 
 impl Arguments {
     /// Reads the program's arguments: a list of workloads, a list of sizes, and then any of `full`
-    /// and `checksums`.
+    /// and `checksums`; or `--help`.
     pub fn read(rt: &(impl Env + AllocGlobal)) -> Result<Arguments, Fault> {
         let mut words = env::args(rt)?;
         let _program = words.next();
         let names = words.next();
+        if names.as_ref().is_some_and(|word| word.as_str() == "--help") {
+            return Err(Fault::Help);
+        }
         let sizes = words.next();
         let names = names.as_ref().map_or(ALL_WORKLOADS, |word| word.as_str());
         let sizes = sizes.as_ref().map_or(ALL_SIZES, |word| word.as_str());

@@ -2,7 +2,8 @@
 
 use spade_dcel::operations::NoMemory;
 use std::alloc::{AllocError, AllocFailed};
-use std::{fmt, io};
+use std::fmt;
+use std::io::{self, ErrorKind};
 
 /// Why a mesh was not built. It fits a register, so returning one costs an edit nothing.
 #[derive(Clone, Copy, Debug)]
@@ -44,8 +45,21 @@ pub enum Fault {
     /// The program doesn't know an argument.
     BadArguments,
 
+    /// An argument asks how the program is used.
+    Help,
+
     /// A read of the clock or of the arguments failed, or a write.
     Io(io::Error),
+}
+
+impl Fault {
+    /// Returns whether nobody reads the output any more.
+    pub fn is_end_of_reader(&self) -> bool {
+        match self {
+            Fault::Io(error) => error.kind() == ErrorKind::BrokenPipe,
+            _ => false,
+        }
+    }
 }
 
 impl fmt::Display for Fault {
@@ -54,7 +68,7 @@ impl fmt::Display for Fault {
             Fault::Build(BuildError::NoMemory) => write!(f, "out of memory"),
             Fault::Build(BuildError::NoRoom) => write!(f, "the size is too large"),
             Fault::Build(BuildError::NoEdge) => write!(f, "no edge to split was drawn"),
-            Fault::BadArguments => {
+            Fault::BadArguments | Fault::Help => {
                 write!(
                     f,
                     "usage: dcel_speed [WORKLOAD,WORKLOAD.. [SIZE,SIZE.. [full] [checksums]]]"

@@ -4,8 +4,9 @@
 //! of them at all sizes. Each line of its output has a workload, its size, the nanoseconds for an
 //! operation, the checksum of the result, and the number of operations. With the further word
 //! `full` every half edge, edge and face has a datum too. With the word `checksums` the time is
-//! left out, so that each run prints the same. It exits with status 0, with 2 if its arguments are
-//! bad, and with 1 if anything else fails.
+//! left out, so that each run prints the same. `--help` shows its words. It exits with status 0, also
+//! if nobody reads its output any more, with 2 if its arguments are bad, and with 1 if anything
+//! else fails.
 #![tactic(auto)]
 
 mod arguments;
@@ -33,6 +34,11 @@ use std::rt::{Clock, Env};
 fn main(rt: HostRuntime) -> ExitCode {
     match run(&rt) {
         Ok(()) => ExitCode::SUCCESS,
+        Err(Fault::Help) => {
+            let _ = println!(rt; "{}", Fault::Help);
+            ExitCode::SUCCESS
+        }
+        Err(fault) if fault.is_end_of_reader() => ExitCode::SUCCESS,
         Err(fault) => {
             let _ = eprintln!(rt; "dcel_speed: {fault}");
             match fault {

@@ -1,9 +1,11 @@
-//! Tests of what lies in the plane: predicates, legalization by circles, and Delaunay
+//! Tests of what lies in the plane: decimals, predicates, legalization by circles, and Delaunay
 //! triangulations, also with each request for memory refused in turn.
 #![tactic(auto)]
 
 #[cfg(test)]
 mod circles;
+#[cfg(test)]
+mod decimals;
 #[cfg(test)]
 mod memory;
 #[cfg(test)]

@@ -1,7 +1,7 @@
 //! The words that the program is started with.
 
-use clap::{Arg, ArgAction, ArgMatches, Command, Error};
-use std::alloc::{AllocError, Global};
+use dcel_decimals::Scale;
+use dcel_programs::{Choice, Given, Program, Switch, Takes};
 
 /// What is written to standard output.
 #[derive(Clone, Copy, PartialEq, Eq, Debug)]
@@ -20,6 +20,10 @@ pub enum Output {
     Off,
     /// The same as Wavefront's OBJ.
     Obj,
+    /// The words of half edges.
+    Words,
+    /// The corners and edges of the Voronoi diagram.
+    Voronoi,
 }
 
 /// What the program is asked to do.
@@ -31,115 +35,115 @@ pub struct Arguments<'a> {
     pub svg: Option<&'a str>,
     /// What to write.
     pub output: Output,
+    /// What coordinates are multiplied by; if there is none, the least that makes them whole.
+    pub scale: Option<Scale>,
     /// Whether to tell how long the insertions took.
     pub is_timed: bool,
 }
 
-/// What the words say.
-#[derive(Drop)]
-pub enum Asked<'a> {
-    /// To do this.
-    Run(Arguments<'a>),
-    /// To print this: help that was asked for, or what is wrong with them.
-    Told(Error),
-}
+/// What the program takes.
+pub const PROGRAM: Program<'static, Output> = Program {
+    name: "delaunay",
+    about: "Writes the Delaunay triangulation of points",
+    input: "The points; without it, or with -, standard input",
+    switches: &[
+        Switch {
+            name: "svg",
+            letter: None,
+            takes: Takes::File,
+            help: "Draws a picture into this file, too",
+        },
+        Switch {
+            name: "scale",
+            letter: None,
+            takes: Takes::PowerOfTen,
+            help: "Multiplies the coordinates by this power of ten, from 1 to 10^18",
+        },
+        Switch {
+            name: "time",
+            letter: None,
+            takes: Takes::Nothing,
+            help: "Tells on standard error how long the insertions took",
+        },
+    ],
+    choices: OUTPUTS,
+    details: DETAILS,
+};
 
-const ABOUT: &str = "Writes the Delaunay triangulation of points";
+const OUTPUTS: &[Choice<'static, Output>] = &[
+    Choice {
+        name: "edges",
+        means: Output::Edges,
+        help: "Writes the edges in place of the triangles",
+    },
+    Choice {
+        name: "hull",
+        means: Output::Hull,
+        help: "Writes the points of the hull, counterclockwise; along a line, there and back",
+    },
+    Choice {
+        name: "stats",
+        means: Output::Stats,
+        help: "Writes how many points, edges and triangles there are",
+    },
+    Choice {
+        name: "neighbors",
+        means: Output::Neighbors,
+        help: "Writes for each triangle the ones across from its corners, -1 for none",
+    },
+    Choice {
+        name: "off",
+        means: Output::Off,
+        help: "Writes the points and triangles as OFF, equal points too",
+    },
+    Choice {
+        name: "obj",
+        means: Output::Obj,
+        help: "Writes them as OBJ, which counts from 1",
+    },
+    Choice {
+        name: "words",
+        means: Output::Words,
+        help: "Writes the half edges round each triangle and out of each point",
+    },
+    Choice {
+        name: "voronoi",
+        means: Output::Voronoi,
+        help: "Writes the corners and edges of the Voronoi diagram",
+    },
+];
 
 const DETAILS: &str = "\
-Each line of the input has the two coordinates of a point, whole numbers from -1073741824 to
-1073741824 with blanks, a comma or both between them. What follows a # is a comment, and lines
-without a word are skipped, as is a first line whose words all begin with a letter. Points are
-numbered from 0 in the order of the input. Equal points are one, with the least of their numbers.
+Each line of the input has the two coordinates of a point, decimals with blanks, a comma or both
+between them. What follows a # is a comment, and lines without a word are skipped, as is a first
+line whose words all begin with a letter. Points are numbered from 0 in the order of the input.
+Equal points are one, with the least of their numbers.
+
+Coordinates are multiplied by the least power of ten that makes all of them whole, which is told on
+standard error unless it is 1, and have to be from -1073741824 to 1073741824 then. What is written
+has the coordinates that were given.
 
 Each line of the output has the numbers of a triangle's three corners, counterclockwise, the least
-first. Triangles are numbered from 0 in that order.";
+first. Triangles are numbered from 0 in that order. --voronoi writes 'corner X Y' for each triangle,
+the center of the circle through its corners, and then for each edge, in the order of --edges,
+'edge A B', the numbers of the corners that it joins; at the hull 'ray A X Y', out of a corner in
+this direction; and where there is no triangle 'line X Y X Y', through a place in this direction.
+Its numbers are exact: whole, or fractions as 7/2.";
 
-/// Reads the words, the program's name first.
-pub fn read_arguments<'a>(alloc: Global, words: &'a [String]) -> Result<Asked<'a>, AllocError> {
-    match command(alloc)?.try_get_matches_from(words) {
-        Ok(matches) => Ok(Asked::Run(arguments_of(&matches))),
-        Err(error) => Ok(Asked::Told(error)),
-    }
-}
-
-/// Describes the arguments that the program takes.
-fn command<'a>(alloc: Global) -> Result<Command<'a>, AllocError> {
-    let file = Arg::new(alloc, "file")
-        .value_name("FILE")
-        .help("The points; without it, or with -, standard input");
-    let svg = Arg::new(alloc, "svg")
-        .long("svg")
-        .value_name("FILE")
-        .help("Draws a picture into this file, too");
-    let time = Arg::new(alloc, "time")
-        .long("time")
-        .action(ArgAction::SetTrue)
-        .help("Tells on standard error how long the insertions took");
-    Command::new(alloc, "delaunay")
-        .about(ABOUT)
-        .after_help(DETAILS)
-        .arg(file)?
-        .arg(svg)?
-        .arg(time)?
-        .arg(choice(alloc, "edges", "Writes the edges in place of the triangles")?)?
-        .arg(choice(
-            alloc,
-            "hull",
-            "Writes the points of the hull, counterclockwise; along a line, there and back",
-        )?)?
-        .arg(choice(
-            alloc,
-            "stats",
-            "Writes how many points, edges and triangles there are",
-        )?)?
-        .arg(choice(
-            alloc,
-            "neighbors",
-            "Writes for each triangle the ones across from its corners, -1 for none",
-        )?)?
-        .arg(choice(
-            alloc,
-            "off",
-            "Writes the points and triangles as OFF, equal points too",
-        )?)?
-        .arg(choice(alloc, "obj", "Writes them as OBJ, which counts from 1")?)
-}
-
-/// Returns one of the choices of what is written.
-fn choice<'a>(alloc: Global, name: &'a str, help: &'a str) -> Result<Arg<'a>, AllocError> {
-    let mut arg = Arg::new(alloc, name)
-        .long(name)
-        .action(ArgAction::SetTrue)
-        .help(help);
-    for other in ["edges", "hull", "stats", "neighbors", "off", "obj"] {
-        if other != name {
-            arg = arg.conflicts_with(other)?;
+impl<'a> Arguments<'a> {
+    /// Returns what the words say.
+    pub fn of(given: &Given<'a>) -> Self {
+        Arguments {
+            file: given.input(),
+            svg: given.value("svg"),
+            output: given.choice(OUTPUTS).unwrap_or(Output::Triangles),
+            scale: given.value("scale").and_then(scale_of),
+            is_timed: given.has("time"),
         }
     }
-    Ok(arg)
 }
 
-fn arguments_of<'a>(matches: &ArgMatches<'a>) -> Arguments<'a> {
-    let output = if matches.get_flag("edges") {
-        Output::Edges
-    } else if matches.get_flag("hull") {
-        Output::Hull
-    } else if matches.get_flag("stats") {
-        Output::Stats
-    } else if matches.get_flag("neighbors") {
-        Output::Neighbors
-    } else if matches.get_flag("off") {
-        Output::Off
-    } else if matches.get_flag("obj") {
-        Output::Obj
-    } else {
-        Output::Triangles
-    };
-    Arguments {
-        file: matches.get_str("file").filter(|name| *name != "-"),
-        svg: matches.get_str("svg"),
-        output,
-        is_timed: matches.get_flag("time"),
-    }
+/// Returns the scale that a word says, if it says one.
+fn scale_of(word: &str) -> Option<Scale> {
+    Scale::of(word.parse::<u64>().ok()?)
 }

@@ -7,55 +7,33 @@
 
 mod arguments;
 mod fault;
+mod fraction;
 mod picture;
-mod progress;
 mod reading;
+mod shown;
 mod triangulating;
+mod voronoi;
+mod words;
 mod writing;
 
-use crate::arguments::{Arguments, Asked, read_arguments};
+use crate::arguments::{Arguments, PROGRAM};
 use crate::fault::Fault;
-use crate::picture::write_picture;
-use crate::progress::Progress;
-use crate::reading::read_points;
+use crate::picture::Svg;
+use crate::reading::Coordinates;
 use crate::triangulating::triangulated;
-use crate::writing::write_asked;
-use std::env;
-use std::io::IsTerminal;
+use crate::writing::Written;
+use dcel_decimals::Scale;
+use dcel_delaunay::Point;
+use dcel_programs::{Progress, read_text, run, write_out};
 use std::process::ExitCode;
-use std::rt::{Clock, Env, Files};
+use std::rt::{Clock, Files};
 use std::time::Instant;
 
 fn main(rt: HostRuntime) -> ExitCode {
-    let progress = Progress {
-        is_shown: rt.stderr().is_terminal(),
-    };
-    match run(&rt, progress) {
-        Ok(code) => code,
-        Err(fault) if fault.is_end_of_reader() => ExitCode::SUCCESS,
-        Err(fault) => {
-            let _ = eprintln!(rt; "delaunay: {fault}");
-            ExitCode::FAILURE
-        }
-    }
-}
-
-/// Does what the arguments ask for.
-fn run(
-    rt: &(impl Env + Files + Clock + Input + Print + Eprint + AllocGlobal),
-    progress: Progress,
-) -> Result<ExitCode, Fault> {
-    let words: Vec<String> = env::args(rt)?.collect(rt.alloc())?;
-    match read_arguments(rt.alloc(), words.as_slice())? {
-        Asked::Run(arguments) => {
-            draw(rt, progress, &arguments)?;
-            Ok(ExitCode::SUCCESS)
-        }
-        Asked::Told(message) => {
-            message.print(rt).map_err(Fault::Output)?;
-            Ok(ExitCode::from(message.exit_code() as u8))
-        }
-    }
+    let progress = Progress::at(&rt.stderr());
+    run(&rt, &PROGRAM, |given| {
+        draw(&rt, progress, &Arguments::of(given))
+    })
 }
 
 /// Reads the points, triangulates them, and writes what is asked for.
@@ -64,15 +42,37 @@ fn draw(
     progress: Progress,
     arguments: &Arguments,
 ) -> Result<(), Fault> {
-    let points = read_points(rt, arguments.file)?;
+    let (points, scale) = read_points(rt, arguments)?;
     let start = Instant::now(rt)?;
-    let drawn = triangulated(rt, progress, &points)?;
+    let drawn = triangulated(rt, progress, &points, scale)?;
     let took = start.elapsed(rt)?;
     if arguments.is_timed {
         eprintln!(rt; "{} nanoseconds", took.as_nanos())?;
     }
     if let Some(path) = arguments.svg {
-        write_picture(rt, path, &drawn)?;
+        write_out(rt, Some(path), &Svg { drawn: &drawn })?;
     }
-    write_asked(rt, arguments.output, &drawn)
+    let written = Written {
+        output: arguments.output,
+        drawn: &drawn,
+    };
+    write_out(rt, None, &written)
+}
+
+/// Reads the points, with their coordinates times the scale that is asked for, or the least, which
+/// is told unless it is 1.
+fn read_points(
+    rt: &(impl Files + Input + Eprint + AllocGlobal),
+    arguments: &Arguments,
+) -> Result<(Vec<Point>, Scale), Fault> {
+    let coordinates = Coordinates::of(rt.alloc(), &read_text(rt, arguments.file)?)?;
+    let scale = match arguments.scale {
+        Some(scale) => scale,
+        None => coordinates.scale(),
+    };
+    if arguments.scale.is_none() && scale != Scale::ONE {
+        eprintln!(rt; "delaunay: the scale is {}", scale.factor())?;
+    }
+    let points = coordinates.points(rt.alloc(), scale)?;
+    Ok((points, scale))
 }

@@ -1,8 +1,9 @@
 //! Points triangulated.
 
-use crate::fault::Fault;
-use crate::progress::Progress;
+use crate::fault::{Fault, Wrong};
+use dcel_decimals::Scale;
 use dcel_delaunay::{Point, Triangulation};
+use dcel_programs::Progress;
 use spade_dcel::handles::FixedVertexHandle;
 use std::alloc::{AllocError, Global};
 
@@ -15,6 +16,8 @@ pub struct Drawn<'a> {
     pub numbers: Vec<usize>,
     /// The points, equal ones included.
     pub points: &'a [Point],
+    /// What their coordinates were multiplied by.
+    pub scale: Scale,
 }
 
 impl Drawn<'_> {
@@ -29,15 +32,18 @@ pub fn triangulated<'a>(
     rt: &(impl Eprint + AllocGlobal),
     progress: Progress,
     points: &'a [Point],
+    scale: Scale,
 ) -> Result<Drawn<'a>, Fault> {
     let mut triangulation = Triangulation::new(rt.alloc())?;
-    progress.show(rt, 0, points.len())?;
+    progress.show(rt, 0, points.len(), "points")?;
     let mut shown = Ok(());
-    let vertices = triangulation.insert_all_with(rt.alloc(), points, |done| {
-        if shown.is_ok() {
-            shown = progress.show(rt, done, points.len());
-        }
-    })?;
+    let vertices = triangulation
+        .insert_all_with(rt.alloc(), points, |done| {
+            if shown.is_ok() {
+                shown = progress.show(rt, done, points.len(), "points");
+            }
+        })
+        .map_err(|error| Fault::Input(Wrong::Insertion(error)))?;
     shown?;
     progress.clear(rt, points.len())?;
     let count = triangulation.dcel().num_vertices();
@@ -46,6 +52,7 @@ pub fn triangulated<'a>(
         triangulation,
         numbers,
         points,
+        scale,
     })
 }
 

@@ -1,40 +1,47 @@
 //! What is written to standard output.
 
+ghost use Rattle.std.specs.Prelude.{◌≡◌, ◌<◌, true};
+ghost use Rattle.dcel_maps.specs.Shapes.{face_is_live};
+ghost use Rattle.spade_dcel.specs.Handles.{mesh_behind, number_of};
+
 use crate::arguments::Output;
-use crate::fault::Fault;
+use crate::shown::Shown;
 use crate::triangulating::Drawn;
+use crate::voronoi::write_voronoi;
+use crate::words::write_words;
 use dcel_delaunay::{Mesh, Point};
-use spade_dcel::handles::{DirectedEdgeHandle, FaceHandle, InnerTag};
+use dcel_programs::Text;
+use spade_dcel::handles::{FaceHandle, InnerTag};
 use spade_dcel::iterators::HullIterator;
-use std::io::{self, BufWriter, Write};
+use std::alloc::Global;
+use std::io::{self, Write};
 
-/// A half edge of the triangulation.
-type Edge<'a> = DirectedEdgeHandle<'a, Point, (), (), ()>;
-
-/// A triangle of it.
+/// A triangle of the triangulation.
 type Triangle<'a> = FaceHandle<'a, InnerTag, Point, (), (), ()>;
 
-/// Writes what is asked for.
-pub fn write_asked(
-    rt: &(impl Print + AllocGlobal),
-    output: Output,
-    drawn: &Drawn,
-) -> Result<(), Fault> {
-    let mut writer = BufWriter::new(rt.alloc(), io::writer(rt))?;
-    write_output(&mut writer, output, drawn).map_err(Fault::Output)
+/// What is asked for of a triangulation.
+#[derive(Clone, Copy)]
+pub struct Written<'a> {
+    /// What to write.
+    pub output: Output,
+    /// The triangulation.
+    pub drawn: &'a Drawn<'a>,
 }
 
-fn write_output(writer: &mut impl Write, output: Output, drawn: &Drawn) -> io::Result<()> {
-    match output {
-        Output::Triangles => write_triangles(writer, drawn)?,
-        Output::Neighbors => write_neighbors(writer, drawn)?,
-        Output::Edges => write_edges(writer, drawn)?,
-        Output::Hull => write_hull(writer, drawn)?,
-        Output::Stats => write_stats(writer, drawn)?,
-        Output::Off => write_off(writer, drawn)?,
-        Output::Obj => write_obj(writer, drawn)?,
+impl<'a> Text for Written<'a> {
+    fn write_to(&self, alloc: Global, writer: &mut impl Write) -> io::Result<()> {
+        match self.output {
+            Output::Triangles => write_triangles(writer, self.drawn),
+            Output::Neighbors => write_neighbors(writer, self.drawn),
+            Output::Edges => write_edges(writer, self.drawn),
+            Output::Hull => write_hull(writer, self.drawn),
+            Output::Stats => write_stats(writer, self.drawn),
+            Output::Off => write_off(writer, self.drawn),
+            Output::Obj => write_obj(writer, self.drawn),
+            Output::Words => write_words(alloc, writer, self.drawn),
+            Output::Voronoi => write_voronoi(writer, self.drawn),
+        }
     }
-    writer.flush()
 }
 
 /// Writes the corners of each triangle, counterclockwise, the least number first.
@@ -50,32 +57,40 @@ fn write_triangles(writer: &mut impl Write, drawn: &Drawn) -> io::Result<()> {
 /// Triangles are numbered from 0 in the order in which they are written, and -1 is none.
 fn write_neighbors(writer: &mut impl Write, drawn: &Drawn) -> io::Result<()> {
     for triangle in drawn.triangulation.dcel().live_inner_faces() {
-        let [a, b, c] = sides(drawn, triangle);
-        write_across(writer, b, " ")?;
-        write_across(writer, c, " ")?;
-        write_across(writer, a, "\n")?;
+        // The corners are where the half edges before, at and after the anchor begin.
+        let edge = triangle.adjacent_edge();
+        let first = edge.rev().face();
+        let second = edge.next().rev().face();
+        let third = edge.prev().rev().face();
+        let faces = [first.index(), second.index(), third.index()];
+        let numbers = triangle.vertices().map(|corner| drawn.number(corner.fix()));
+        let [a, b, c] = turned(numbers, faces);
+        write_triangle(writer, a, " ")?;
+        write_triangle(writer, b, " ")?;
+        write_triangle(writer, c, "\n")?;
     }
     Ok(())
 }
 
-/// Writes the number of the triangle on the other side of a half edge.
-fn write_across(writer: &mut impl Write, edge: Edge<'_>, end: &str) -> io::Result<()> {
-    // The outer face is the first of the mesh.
-    match edge.rev().face().index().checked_sub(1) {
+/// Writes the number of a face as one of the triangles. The outer face is the first of the mesh.
+fn write_triangle(writer: &mut impl Write, face: usize, end: &str) -> io::Result<()> {
+    match face.checked_sub(1) {
         Some(number) => write!(writer, "{number}{end}"),
         None => write!(writer, "-1{end}"),
     }
 }
 
 /// Returns the numbers of a triangle's corners, counterclockwise, the least first.
-fn corners(drawn: &Drawn, triangle: Triangle<'_>) -> [usize; 3] {
-    sides(drawn, triangle).map(|side| drawn.number(side.from().fix()))
+fn corners(drawn: &Drawn, triangle: Triangle<'_>) -> [usize; 3]
+    requires live { face_is_live (mesh_behind triangle).shape (number_of triangle) ≡ true }
+    requires inner { 0 < number_of triangle }
+{
+    let numbers = triangle.vertices().map(|corner| drawn.number(corner.fix()));
+    turned(numbers, numbers)
 }
 
-/// Returns the half edges of a triangle, counterclockwise, from its corner with the least number.
-fn sides<'a>(drawn: &Drawn, triangle: Triangle<'a>) -> [Edge<'a>; 3] {
-    let [first, second, third] = triangle.adjacent_edges();
-    let [a, b, c] = [first, second, third].map(|side| drawn.number(side.from().fix()));
+/// Turns what belongs to three corners so that the corner with the least number is the first.
+fn turned([a, b, c]: [usize; 3], [first, second, third]: [usize; 3]) -> [usize; 3] {
     if a <= b && a <= c {
         [first, second, third]
     } else if b <= c {
@@ -133,7 +148,7 @@ fn write_off(writer: &mut impl Write, drawn: &Drawn) -> io::Result<()> {
     writeln!(writer, "OFF")?;
     writeln!(writer, "{} {} 0", drawn.points.len(), mesh.num_faces() - 1)?;
     for point in drawn.points {
-        writeln!(writer, "{} {} 0", point.x, point.y)?;
+        writeln!(writer, "{} 0", Shown::of(*point, drawn.scale))?;
     }
     for triangle in mesh.live_inner_faces() {
         let [a, b, c] = corners(drawn, triangle);
@@ -145,7 +160,7 @@ fn write_off(writer: &mut impl Write, drawn: &Drawn) -> io::Result<()> {
 /// Writes them as OBJ, which counts points from 1.
 fn write_obj(writer: &mut impl Write, drawn: &Drawn) -> io::Result<()> {
     for point in drawn.points {
-        writeln!(writer, "v {} {} 0", point.x, point.y)?;
+        writeln!(writer, "v {} 0", Shown::of(*point, drawn.scale))?;
     }
     for triangle in drawn.triangulation.dcel().live_inner_faces() {
         let [a, b, c] = corners(drawn, triangle).map(|number| number.saturating_add(1));

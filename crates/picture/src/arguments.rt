@@ -1,7 +1,6 @@
 //! The words that the program is started with.
 
-use clap::{Arg, ArgAction, ArgMatches, Command, Error};
-use std::alloc::{AllocError, Global};
+use dcel_programs::{Given, Program, Switch, Takes};
 
 /// What the program is asked to do.
 #[derive(Clone, Copy)]
@@ -14,16 +13,28 @@ pub struct Arguments<'a> {
     pub anchors: bool,
 }
 
-/// What the words say.
-#[derive(Drop)]
-pub enum Asked<'a> {
-    /// To do this.
-    Run(Arguments<'a>),
-    /// To print this: help that was asked for, or what is wrong with them.
-    Told(Error),
-}
-
-const ABOUT: &str = "Draws the mesh that commands leave, as SVG";
+/// What the program takes.
+pub const PROGRAM: Program<'static, ()> = Program {
+    name: "picture",
+    about: "Draws the mesh that commands leave, as SVG",
+    input: "The lines; without it, or with -, standard input",
+    switches: &[
+        Switch {
+            name: "places",
+            letter: None,
+            takes: Takes::File,
+            help: "Takes the places of vertices from this file",
+        },
+        Switch {
+            name: "anchors",
+            letter: None,
+            takes: Takes::Nothing,
+            help: "Marks the anchors of vertices by dots, and those of faces by squares",
+        },
+    ],
+    choices: &[],
+    details: DETAILS,
+};
 
 const DETAILS: &str = "\
 Each line of the input is a command or a query as docs/LINES.md lists them, on a mesh that is empty
@@ -37,39 +48,13 @@ Each line of the file for --places has the number of a vertex and its two coordi
 between them; the second coordinate goes up. A vertex without a place stands below the mesh, and an
 edge that ends there isn't drawn.";
 
-/// Reads the words, the program's name first.
-pub fn read_arguments<'a>(alloc: Global, words: &'a [String]) -> Result<Asked<'a>, AllocError> {
-    match command(alloc)?.try_get_matches_from(words) {
-        Ok(matches) => Ok(Asked::Run(arguments_of(&matches))),
-        Err(error) => Ok(Asked::Told(error)),
-    }
-}
-
-/// Describes the arguments that the program takes.
-fn command<'a>(alloc: Global) -> Result<Command<'a>, AllocError> {
-    let file = Arg::new(alloc, "file")
-        .value_name("FILE")
-        .help("The lines; without it, or with -, standard input");
-    let places = Arg::new(alloc, "places")
-        .long("places")
-        .value_name("FILE")
-        .help("Takes the places of vertices from this file");
-    let anchors = Arg::new(alloc, "anchors")
-        .long("anchors")
-        .action(ArgAction::SetTrue)
-        .help("Marks the anchors of vertices by dots, and those of faces by squares");
-    Command::new(alloc, "picture")
-        .about(ABOUT)
-        .after_help(DETAILS)
-        .arg(file)?
-        .arg(places)?
-        .arg(anchors)
-}
-
-fn arguments_of<'a>(matches: &ArgMatches<'a>) -> Arguments<'a> {
-    Arguments {
-        file: matches.get_str("file").filter(|name| *name != "-"),
-        places: matches.get_str("places"),
-        anchors: matches.get_flag("anchors"),
+impl<'a> Arguments<'a> {
+    /// Returns what the words say.
+    pub fn of(given: &Given<'a>) -> Self {
+        Arguments {
+            file: given.input(),
+            places: given.value("places"),
+            anchors: given.has("anchors"),
+        }
     }
 }

@@ -1,12 +1,10 @@
 //! The mesh that is drawn, and what it was before a removal.
 
-ghost use Rattle.std.specs.Prelude.{◌≡◌, ◌↔◌, ◌<◌, ◌*◌, true, IsNone, OnErr};
-ghost use Rattle.dcel_maps.specs.Shapes.{vertex_is_live};
-ghost use Rattle.picture.specs.Queries.{HasAsked};
+ghost use Rattle.std.specs.Prelude.{◌≡◌, OnErr};
 
 use crate::fault::Wrong;
-use dcel_commands::commands::{Command, MAX_LIMIT, Query, Refusal, Request, apply, read};
-use dcel_fixed::FixedVertexHandle;
+use dcel_commands::commands::{Command, MAX_LIMIT, Request, apply, read, tell};
+use dcel_programs::before_comment;
 use spade_dcel::dcel::{Dcel, RemovalState};
 use spade_dcel::operations;
 use std::alloc::{AllocError, Global};
@@ -56,9 +54,9 @@ impl Drawing {
         }
         match read(line.as_bytes(), self.alloc).ok_or(Wrong::BadLine)?? {
             Request::Edit(command) => self.carry_out(command),
-            Request::Ask(query) => match refusal_of(&self.mesh, query) {
-                Some(why) => Err(Wrong::Refused(why)),
-                None => Ok(()),
+            Request::Ask(query) => match tell(&self.mesh, query) {
+                Ok(_) => Ok(()),
+                Err(why) => Err(Wrong::Refused(why)),
             },
         }
     }
@@ -80,13 +78,6 @@ impl Drawing {
             self.before = None;
         }
         Ok(())
-    }
-}
-
-fn before_comment(line: &str) -> &str {
-    match line.split_once('#') {
-        Some((before, _)) => before,
-        None => line,
     }
 }
 
@@ -114,68 +105,5 @@ fn echo_of(command: &Command<i64>) -> Option<Command<i64>> {
         Command::Append(datum) => Some(Command::Append(*datum)),
         Command::Swap(first, second) => Some(Command::Swap(*first, *second)),
         _ => None,
-    }
-}
-
-/// Returns why a query is refused, if it is.
-fn refusal_of(mesh: &Mesh, query: Query) -> Option<Refusal>
-    ensures { IsNone result ↔ HasAsked mesh.now.shape query }
-{
-    match query {
-        Query::Counts | Query::Words | Query::Hull | Query::Check => None,
-        Query::Get(vertex) => refusal_of_number(mesh, vertex),
-        Query::Out(vertex) => refusal_of_vertex(mesh, vertex),
-        Query::Between(first, second) => refusal_of_vertices(mesh, first, second),
-        Query::Origin(edge) => {
-            if edge.index() >= mesh.num_directed_edges() {
-                Some(Refusal::NoSuchEdge)
-            } else if !mesh.is_live_edge(edge.as_undirected()) {
-                Some(Refusal::GivenUp)
-            } else {
-                None
-            }
-        }
-    }
-}
-
-/// Returns why two vertices are refused where live ones are asked for.
-fn refusal_of_vertices(
-    mesh: &Mesh,
-    first: FixedVertexHandle,
-    second: FixedVertexHandle,
-) -> Option<Refusal>
-    ensures { IsNone result ↔ ((vertex_is_live mesh.now.shape first ≡ true) × (vertex_is_live mesh.now.shape second ≡ true)) }
-{
-    if let Some(why) = refusal_of_number(mesh, second) {
-        return Some(why);
-    }
-    if let Some(why) = refusal_of_vertex(mesh, first) {
-        return Some(why);
-    }
-    refusal_of_vertex(mesh, second)
-}
-
-/// Returns why a vertex is refused where one that may be given up is asked for.
-fn refusal_of_number(mesh: &Mesh, vertex: FixedVertexHandle) -> Option<Refusal>
-    ensures { IsNone result ↔ (vertex < mesh.now.shape.vertices) }
-{
-    if vertex.index() < mesh.num_vertices() {
-        None
-    } else {
-        Some(Refusal::NoSuchVertex)
-    }
-}
-
-/// Returns why a vertex is refused where a live one is asked for.
-fn refusal_of_vertex(mesh: &Mesh, vertex: FixedVertexHandle) -> Option<Refusal>
-    ensures { IsNone result ↔ (vertex_is_live mesh.now.shape vertex ≡ true) }
-{
-    if mesh.is_live_vertex(vertex) {
-        return None;
-    }
-    if vertex.index() < mesh.num_vertices() {
-        Some(Refusal::GivenUp)
-    } else {
-        Some(Refusal::NoSuchVertex)
     }
 }

@@ -1,50 +1,28 @@
 //! Reads commands for a half-edge mesh, one a line, and draws the mesh that is left.
 //!
-//! `picture --help` tells what it reads and writes. It exits with status 0; with 1, and with no
-//! whole picture, if a line is bad or refused, a read or a write failed, or there was no memory;
-//! and with 2 if its arguments are bad.
+//! `picture --help` tells what it reads and writes. It exits with status 0, also if nobody reads
+//! its output any more; with 1, and with no whole picture, if a line is bad or refused, a read or a
+//! write failed, or there was no memory; and with 2 if its arguments are bad.
 #![tactic(auto)]
 
 mod arguments;
 mod drawing;
 mod fault;
-mod files;
 mod placing;
 
-use crate::arguments::{Arguments, Asked, read_arguments};
+use crate::arguments::{Arguments, PROGRAM};
 use crate::drawing::Drawing;
 use crate::fault::Fault;
-use crate::files::read_lines;
 use crate::placing::read_places;
-use dcel_picture::{Picture, Places, Style, bow, spread, write_svg};
-use std::env;
-use std::io::{self, BufWriter, Write};
+use dcel_programs::{Text, numbered_lines, read_text, run, write_out};
+use dcel_svg::{Picture, Places, Style, bow, spread, write_svg};
+use std::alloc::Global;
+use std::io::{self, Write};
 use std::process::ExitCode;
-use std::rt::{Env, Files};
+use std::rt::Files;
 
 fn main(rt: HostRuntime) -> ExitCode {
-    match run(&rt) {
-        Ok(code) => code,
-        Err(fault) => {
-            let _ = eprintln!(rt; "picture: {fault}");
-            ExitCode::FAILURE
-        }
-    }
-}
-
-/// Does what the arguments ask for.
-fn run(rt: &(impl Env + Files + Input + Print + Eprint + AllocGlobal)) -> Result<ExitCode, Fault> {
-    let words: Vec<String> = env::args(rt)?.collect(rt.alloc())?;
-    match read_arguments(rt.alloc(), words.as_slice())? {
-        Asked::Run(arguments) => {
-            draw(rt, &arguments)?;
-            Ok(ExitCode::SUCCESS)
-        }
-        Asked::Told(message) => {
-            message.print(rt)?;
-            Ok(ExitCode::from(message.exit_code() as u8))
-        }
-    }
+    run(&rt, &PROGRAM, |given| draw(&rt, &Arguments::of(given)))
 }
 
 /// Reads the lines, and draws the mesh that they leave.
@@ -52,15 +30,33 @@ fn draw(
     rt: &(impl Files + Input + Print + AllocGlobal),
     arguments: &Arguments,
 ) -> Result<(), Fault> {
-    let mut drawing = Drawing::new(rt.alloc())?;
-    read_lines(rt, arguments.file, &mut drawing)?;
+    let text = read_text(rt, arguments.file)?;
+    let drawing = drawing_of(rt.alloc(), &text)?;
     let places = find_places(rt, arguments.places, &drawing)?;
-    write_picture(rt, &drawing, &places, arguments.anchors)
+    let drawn = Drawn {
+        drawing: &drawing,
+        places: &places,
+        style: Style::HalfEdges {
+            anchors: arguments.anchors,
+        },
+    };
+    write_out(rt, None, &drawn)
+}
+
+/// Carries all lines out, up to one that is wrong.
+fn drawing_of(alloc: Global, text: &str) -> Result<Drawing, Fault> {
+    let mut drawing = Drawing::new(alloc)?;
+    for (line, said) in numbered_lines(text) {
+        drawing
+            .take(said)
+            .map_err(|wrong| Fault::Line { line, wrong })?;
+    }
+    Ok(drawing)
 }
 
 /// Finds places for the vertices, or reads them from a file.
 fn find_places(
-    rt: &(impl Files + AllocGlobal),
+    rt: &(impl Files + Input + AllocGlobal),
     file: Option<&str>,
     drawing: &Drawing,
 ) -> Result<Places, Fault> {
@@ -75,17 +71,18 @@ fn find_places(
     }
 }
 
-/// Writes the picture to standard output.
-fn write_picture(
-    rt: &(impl Print + AllocGlobal),
-    drawing: &Drawing,
-    places: &Places,
-    anchors: bool,
-) -> Result<(), Fault> {
-    let alloc = rt.alloc();
-    let picture = Picture::new(alloc, drawing.mesh(), drawing.before(), places)?;
-    let mut writer = BufWriter::new(alloc, io::writer(rt))?;
-    write_svg(&picture, Style { anchors }, &mut writer)?;
-    writer.flush()?;
-    Ok(())
+/// A mesh, and how it is drawn.
+#[derive(Clone, Copy)]
+struct Drawn<'a> {
+    drawing: &'a Drawing,
+    places: &'a Places,
+    style: Style,
+}
+
+impl<'a> Text for Drawn<'a> {
+    fn write_to(&self, alloc: Global, writer: &mut impl Write) -> io::Result<()> {
+        let (mesh, before) = (self.drawing.mesh(), self.drawing.before());
+        let picture = Picture::new(alloc, mesh, before, self.places)?;
+        write_svg(&picture, self.style, writer)
+    }
 }

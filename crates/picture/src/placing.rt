@@ -2,56 +2,35 @@
 
 use crate::drawing::Mesh;
 use crate::fault::{Fault, Wrong};
-use dcel_picture::{Place, Places};
-use std::fs;
-use std::io::{BufRead, BufReader};
+use dcel_programs::{numbered_lines, read_text};
+use dcel_svg::{Place, Places};
+use std::alloc::{AllocError, Global};
 use std::rt::Files;
 
 /// Reads the places of a mesh's vertices.
 pub fn read_places(
-    rt: &(impl Files + AllocGlobal),
+    rt: &(impl Files + Input + AllocGlobal),
     path: &str,
     mesh: &Mesh,
 ) -> Result<Places, Fault> {
-    let alloc = rt.alloc();
-    let mut places = Places {
-        vertices: Vec::new(alloc),
-        bends: Vec::new(alloc),
-    };
-    for _ in 0..mesh.num_vertices() {
-        places.vertices.push(None)?;
-    }
-    let opened = match fs::open(rt, path) {
-        Ok(opened) => opened,
-        Err(error) => {
-            return Err(Fault::File {
-                path: String::from_str(alloc, path)?,
-                error,
-            });
-        }
-    };
-    let mut number: usize = 0;
-    for line in BufReader::new(alloc, opened)?.lines(alloc) {
-        number = number.saturating_add(1);
-        let text = match line {
-            Ok(text) => text,
-            Err(error) => {
-                return Err(Fault::ReadPlace {
-                    path: String::from_str(alloc, path)?,
-                    line: number,
-                    error,
-                });
-            }
-        };
-        if let Err(wrong) = set_place(&mut places.vertices, text.as_str()) {
-            return Err(Fault::Place {
-                path: String::from_str(alloc, path)?,
-                line: number,
-                wrong,
-            });
-        }
+    let text = read_text(rt, Some(path))?;
+    let mut places = no_places(rt.alloc(), mesh)?;
+    for (line, said) in numbered_lines(&text) {
+        set_place(&mut places.vertices, said).map_err(|wrong| Fault::of_line(
+            rt.alloc(),
+            path,
+            line,
+            wrong,
+        ))?;
     }
     Ok(places)
+}
+
+fn no_places(alloc: Global, mesh: &Mesh) -> Result<Places, AllocError> {
+    Ok(Places {
+        vertices: vec![in alloc; None; mesh.num_vertices()]?,
+        bends: Vec::new(alloc),
+    })
 }
 
 /// Sets the place that a line says, if it says one.

@@ -14,6 +14,7 @@ append datum = record {
   given = Datum datum ∷ [];
   asks = λ limit. (NoRoom, RoomFor limit 1 0 0) ∷ [];
   takes_memory = true;
+  edits = λ m reply. [];
   handed = One datum;
   Makes = λ is_half is_edge is_face old reply new. (reply ≡ Vertex old.shape.vertices) × (new ≡ vertex_appended old datum);
 }

@@ -1,6 +1,6 @@
 -- `check`: whether the mesh is checked.
-use Rattle.std.specs.Prelude.{◌≡◌, ◌↔◌, Bool, IsTrue, [], codes, if◌then◌else◌}
-use Rattle.dcel_text.specs.Texts.{ended}
+use Rattle.std.specs.Prelude.{◌≡◌, ◌↔◌, Bool, IsTrue, [], codes}
+use Rattle.dcel_commands.specs.Facts.{Truth}
 use Rattle.dcel_commands.specs.Rules.{QueryRule}
 use Rattle.dcel_maps.specs.Checked.{IsChecked}
 
@@ -9,5 +9,5 @@ check = record {
   word = codes "check";
   given = [];
   asks = [];
-  Tells = λ m text. (answer : Bool) × (IsTrue answer ↔ IsChecked m.shape) × (text ≡ ended (if answer then codes "true" else codes "false"));
+  Tells = λ m fact. (answer : Bool) × (IsTrue answer ↔ IsChecked m.shape) × (fact ≡ Truth answer);
 }

@@ -7,6 +7,7 @@ use Rattle.dcel_commands.specs.Conditions.{NotCleaned, Listed}
 use Rattle.dcel_commands.specs.Grammar.{Slash, numbers}
 use Rattle.dcel_commands.specs.Responses.{Done}
 use Rattle.dcel_commands.specs.Rules.{CommandRule}
+use Rattle.dcel_maps.specs.EditLists.EditKind.{numbers_changed}
 use Rattle.dcel_maps.specs.Renumbering.{cleaned_up}
 
 abbrev pub cleanup : {V : Type 0} → List ℕ → List ℕ → CommandRule V
@@ -19,6 +20,7 @@ cleanup us fs = record {
       ∷ (WrongLists, Listed us fs)
       ∷ [];
   takes_memory = false;
+  edits = λ m reply. numbers_changed ∷ [];
   handed = Nothing;
   Makes = λ is_half is_edge is_face old reply new. (reply ≡ Done) × (new ≡ cleaned_up old);
 }

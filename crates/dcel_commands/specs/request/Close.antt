@@ -6,6 +6,7 @@ use Rattle.dcel_commands.specs.declared.refusal.Refusal.TheVariants.{NoSuchEdge,
 use Rattle.dcel_commands.specs.Conditions.{HalfEdgeInRange, HalfEdgeLive, OnOuterFace, ClosesOutside, RoomFor}
 use Rattle.dcel_commands.specs.Grammar.{Number}
 use Rattle.dcel_commands.specs.Rules.{CommandRule}
+use Rattle.dcel_maps.specs.EditLists.EditKind.{ear_cut}
 use Rattle.dcel_maps.specs.edits.DefaultData.{AddsEdgesAndFaces}
 use Rattle.dcel_maps.specs.edits.Outside.{face_closed}
 
@@ -21,6 +22,7 @@ close h = record {
       ∷ (NoRoom, RoomFor limit 0 1 1)
       ∷ [];
   takes_memory = true;
+  edits = λ m reply. ear_cut ∷ [];
   handed = Nothing;
   Makes = λ is_half is_edge is_face old reply new.
       (reply ≡ Half (2 * old.shape.edges + 1)) × AddsEdgesAndFaces is_half is_edge is_face 1 1 new (face_closed old h);

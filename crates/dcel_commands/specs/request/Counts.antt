@@ -1,17 +1,14 @@
 -- `counts`: how many vertices, edges and faces there are.
-use Rattle.std.specs.Prelude.{◌≡◌, ℕ, List, [], ◌++◌, codes}
+use Rattle.std.specs.Prelude.{◌≡◌, [], codes}
+use Rattle.dcel_commands.specs.Facts.{Counts}
 use Rattle.dcel_commands.specs.Rules.{QueryRule}
-use Rattle.dcel_maps.specs.Shapes.{Shape, face_count}
-use Rattle.dcel_text.specs.Texts.{ended, numbered}
+use Rattle.dcel_maps.specs.Shapes.{face_count}
 
--- `vertices N edges N faces N`, with undirected edges
-abbrev pub counts_text : Shape → List ℕ
-counts_text s = ended (numbered (codes "vertices ") s.vertices ++ numbered (codes " edges ") s.edges ++ numbered (codes " faces ") (face_count s))
-
+-- edges are undirected
 abbrev pub counts : QueryRule
 counts = record {
   word = codes "counts";
   given = [];
   asks = [];
-  Tells = λ m text. text ≡ counts_text m.shape;
+  Tells = λ m fact. fact ≡ Counts m.shape.vertices m.shape.edges (face_count m.shape);
 }

@@ -6,6 +6,7 @@ use Rattle.dcel_commands.specs.Conditions.{VertexInRange, NoneOpen, OfPath}
 use Rattle.dcel_commands.specs.Grammar.{Number}
 use Rattle.dcel_commands.specs.Rules.{CommandRule}
 use Rattle.dcel_commands.specs.request.Remove.{TellsRemoved}
+use Rattle.dcel_maps.specs.EditLists.{path_shortened}
 use Rattle.dcel_maps.specs.edits.Degenerate.{removed_degenerate}
 
 abbrev pub degenerate : {V : Type 0} → ℕ → CommandRule V
@@ -18,6 +19,7 @@ degenerate v = record {
       ∷ (NotPath, OfPath v)
       ∷ [];
   takes_memory = false;
+  edits = λ m reply. path_shortened m v;
   handed = Nothing;
   Makes = λ is_half is_edge is_face old reply new.
       TellsRemoved old.vertex_data old.shape.vertices v reply × (new ≡ removed_degenerate old v);

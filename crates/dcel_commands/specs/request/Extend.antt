@@ -7,6 +7,7 @@ use Rattle.dcel_commands.specs.Conditions.{Unconnected, LineEnd, RoomFor}
 use Rattle.dcel_commands.specs.Grammar.{Number}
 use Rattle.dcel_commands.specs.Responses.{Vertex}
 use Rattle.dcel_commands.specs.Rules.{CommandRule}
+use Rattle.dcel_maps.specs.EditLists.EditKind.{spur_added}
 use Rattle.dcel_maps.specs.edits.DefaultData.{AddsEdge}
 use Rattle.dcel_maps.specs.edits.Line.{line_extended}
 
@@ -21,6 +22,7 @@ extend a b = record {
       ∷ (NoRoom, RoomFor limit 0 1 0)
       ∷ [];
   takes_memory = true;
+  edits = λ m reply. spur_added ∷ [];
   handed = Nothing;
   Makes = λ is_half is_edge is_face old reply new. (reply ≡ Vertex b) × AddsEdge is_half is_edge new (line_extended old a b);
 }

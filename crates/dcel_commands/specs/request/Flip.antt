@@ -7,6 +7,7 @@ use Rattle.dcel_commands.specs.Conditions.{EdgeInRange, EdgeLive, OnTriangle, Fl
 use Rattle.dcel_commands.specs.Grammar.{Number}
 use Rattle.dcel_commands.specs.Rules.{CommandRule}
 use Rattle.dcel_fixed.specs.HalfEdges.{rev}
+use Rattle.dcel_maps.specs.EditLists.EditKind.{ear_cut, words_joined}
 use Rattle.dcel_maps.specs.edits.Flip.{edge_flipped}
 
 abbrev pub flip : {V : Type 0} → ℕ → CommandRule V
@@ -21,6 +22,7 @@ flip u = record {
       ∷ (WouldLoop, Flips u)
       ∷ [];
   takes_memory = false;
+  edits = λ m reply. words_joined ∷ ear_cut ∷ [];
   handed = Nothing;
   Makes = λ is_half is_edge is_face old reply new. (reply ≡ Done) × (new ≡ edge_flipped old u);
 }

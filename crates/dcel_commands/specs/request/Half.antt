@@ -7,6 +7,7 @@ use Rattle.dcel_commands.specs.Conditions.{OnTriangle, RoomFor}
 use Rattle.dcel_commands.specs.Grammar.{Number}
 use Rattle.dcel_commands.specs.Responses.{Halves}
 use Rattle.dcel_commands.specs.Rules.{CommandRule}
+use Rattle.dcel_maps.specs.EditLists.EditKind.{ear_cut, edge_subdivided}
 use Rattle.dcel_maps.specs.edits.DefaultData.{AddsEdgesAndFaces}
 use Rattle.dcel_maps.specs.edits.Split.{half_edge_split}
 
@@ -20,6 +21,7 @@ half h b = record {
       ∷ (NoRoom, RoomFor limit 0 2 1)
       ∷ [];
   takes_memory = true;
+  edits = λ m reply. edge_subdivided ∷ ear_cut ∷ [];
   handed = Nothing;
   Makes = λ is_half is_edge is_face old reply new.
       (reply ≡ Halves (h ∷ (2 * old.shape.edges + 2) ∷ [])) × AddsEdgesAndFaces is_half is_edge is_face 2 1 new (half_edge_split old h b);

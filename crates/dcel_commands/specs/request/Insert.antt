@@ -6,6 +6,7 @@ use Rattle.dcel_commands.specs.declared.refusal.Refusal.TheVariants.{NoSuchVerte
 use Rattle.dcel_commands.specs.Conditions.{VertexInRange, InnerFaceInRange, VertexLive, FaceLive, Unconnected, ThreeHalves, RoomFor}
 use Rattle.dcel_commands.specs.Grammar.{Number}
 use Rattle.dcel_commands.specs.Rules.{CommandRule}
+use Rattle.dcel_maps.specs.EditLists.EditKind.{ear_cut, spur_added}
 use Rattle.dcel_maps.specs.edits.DefaultData.{AddsEdgesAndFaces}
 use Rattle.dcel_maps.specs.edits.Triangle.{vertex_inserted}
 
@@ -23,6 +24,7 @@ insert v f = record {
       ∷ (NoRoom, RoomFor limit 0 3 2)
       ∷ [];
   takes_memory = true;
+  edits = λ m reply. spur_added ∷ ear_cut ∷ ear_cut ∷ [];
   handed = Nothing;
   Makes = λ is_half is_edge is_face old reply new. (reply ≡ Vertex v) × AddsEdgesAndFaces is_half is_edge is_face 3 2 new (vertex_inserted old v f);
 }

@@ -7,6 +7,7 @@ use Rattle.dcel_commands.specs.Conditions.{Bridge, RoomFor}
 use Rattle.dcel_commands.specs.Grammar.{Number}
 use Rattle.dcel_commands.specs.Responses.{Halves}
 use Rattle.dcel_commands.specs.Rules.{CommandRule}
+use Rattle.dcel_maps.specs.EditLists.EditKind.{edge_subdivided}
 use Rattle.dcel_maps.specs.edits.DefaultData.{AddsEdge}
 use Rattle.dcel_maps.specs.edits.Split.{edge_split_on_line}
 
@@ -20,6 +21,7 @@ line h b = record {
       ∷ (NoRoom, RoomFor limit 0 1 0)
       ∷ [];
   takes_memory = true;
+  edits = λ m reply. edge_subdivided ∷ [];
   handed = Nothing;
   Makes = λ is_half is_edge is_face old reply new.
       (reply ≡ Halves (h ∷ 2 * old.shape.edges ∷ [])) × AddsEdge is_half is_edge new (edge_split_on_line old h b);

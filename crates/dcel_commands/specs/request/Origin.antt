@@ -2,8 +2,8 @@
 use Rattle.std.specs.Prelude.{◌≡◌, ℕ, [], ◌∷◌, codes}
 use Rattle.dcel_commands.specs.declared.refusal.Refusal.TheVariants.{NoSuchEdge, GivenUp}
 use Rattle.dcel_commands.specs.Conditions.{HalfEdgeInRange, HalfEdgeLive}
+use Rattle.dcel_commands.specs.Facts.{Vertex}
 use Rattle.dcel_commands.specs.Grammar.{Number}
-use Rattle.dcel_commands.specs.Replies.{vertex_text}
 use Rattle.dcel_commands.specs.Rules.{QueryRule}
 use Rattle.dcel_maps.specs.Shapes.{origin_of}
 
@@ -12,5 +12,5 @@ origin h = record {
   word = codes "origin";
   given = Number h ∷ [];
   asks = (NoSuchEdge, HalfEdgeInRange h) ∷ (GivenUp, HalfEdgeLive h) ∷ [];
-  Tells = λ m text. text ≡ vertex_text (origin_of m.shape h);
+  Tells = λ m fact. fact ≡ Vertex (origin_of m.shape h);
 }

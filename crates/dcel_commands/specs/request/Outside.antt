@@ -7,6 +7,7 @@ use Rattle.dcel_commands.specs.Conditions.{RoomFor}
 use Rattle.dcel_commands.specs.Grammar.{Number}
 use Rattle.dcel_commands.specs.Responses.{Vertex}
 use Rattle.dcel_commands.specs.Rules.{CommandRule}
+use Rattle.dcel_maps.specs.EditLists.EditKind.{ear_cut, spur_added}
 use Rattle.dcel_maps.specs.edits.DefaultData.{AddsEdgesAndFaces}
 use Rattle.dcel_maps.specs.edits.Outside.{face_put_beside}
 
@@ -16,6 +17,7 @@ outside h b = record {
   given = Number h ∷ Number b ∷ [];
   asks = λ limit. edge_and_vertex h b ++ (NoRoom, RoomFor limit 0 2 1) ∷ [];
   takes_memory = true;
+  edits = λ m reply. spur_added ∷ ear_cut ∷ [];
   handed = Nothing;
   Makes = λ is_half is_edge is_face old reply new. (reply ≡ Vertex b) × AddsEdgesAndFaces is_half is_edge is_face 2 1 new (face_put_beside old h b);
 }

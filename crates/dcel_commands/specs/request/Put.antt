@@ -14,6 +14,7 @@ put v datum = record {
   given = Number v ∷ Datum datum ∷ [];
   asks = λ limit. (NoSuchVertex, VertexInRange v) ∷ [];
   takes_memory = false;
+  edits = λ m reply. [];
   handed = One datum;
   Makes = λ is_half is_edge is_face old reply new. (reply ≡ Done) × (new ≡ vertex_updated old v datum);
 }

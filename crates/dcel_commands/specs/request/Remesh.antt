@@ -8,6 +8,7 @@ use Rattle.dcel_commands.specs.Conditions.{HalfEdgesInRange, NoneOpen, RingOf, R
 use Rattle.dcel_commands.specs.Grammar.{Slash, numbers}
 use Rattle.dcel_commands.specs.Responses.{Opened}
 use Rattle.dcel_commands.specs.Rules.{CommandRule}
+use Rattle.dcel_maps.specs.EditLists.{filling}
 use Rattle.dcel_maps.specs.edits.DefaultData.{AddsEdgesAndFaces}
 use Rattle.dcel_maps.specs.edits.Fill.{ring_remeshed}
 use Rattle.dcel_maps.specs.Numbers.{numbers_between}
@@ -24,6 +25,7 @@ remesh hs us fs = record {
       ∷ (NoRoom, RoomFor limit 0 (length hs - 3) (length hs - 2))
       ∷ [];
   takes_memory = true;
+  edits = λ m reply. filling hs us fs;
   handed = Nothing;
   Makes = λ is_half is_edge is_face old reply new.
       let m = old.shape.edges in

@@ -6,6 +6,7 @@ use Rattle.dcel_commands.specs.Conditions.{VertexInRange, NoOtherOpen, Removable
 use Rattle.dcel_commands.specs.Grammar.{Number}
 use Rattle.dcel_commands.specs.Responses.{Response, Removed}
 use Rattle.dcel_commands.specs.Rules.{CommandRule}
+use Rattle.dcel_maps.specs.EditLists.EditKind.{numbers_changed}
 use Rattle.dcel_maps.specs.Renumbering.{vertex_taken_out}
 
 -- the last of n vertices moves to the place of v, if it is another one
@@ -26,6 +27,7 @@ remove v = record {
       ∷ (VertexInUse, Removable v)
       ∷ [];
   takes_memory = false;
+  edits = λ m reply. numbers_changed ∷ [];
   handed = Nothing;
   Makes = λ is_half is_edge is_face old reply new.
       TellsRemoved old.vertex_data old.shape.vertices v reply × (new ≡ vertex_taken_out old v);

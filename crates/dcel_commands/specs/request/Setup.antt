@@ -7,6 +7,7 @@ use Rattle.dcel_commands.specs.Conditions.{NoEdge, RoomFor}
 use Rattle.dcel_commands.specs.Grammar.{Number}
 use Rattle.dcel_commands.specs.Responses.{Done}
 use Rattle.dcel_commands.specs.Rules.{CommandRule}
+use Rattle.dcel_maps.specs.EditLists.EditKind.{first_edge}
 use Rattle.dcel_maps.specs.edits.Create.{first_edge_added}
 use Rattle.dcel_maps.specs.edits.DefaultData.{AddsEdge}
 
@@ -20,6 +21,7 @@ setup a b = record {
       ∷ (NoRoom, RoomFor limit 0 1 0)
       ∷ [];
   takes_memory = true;
+  edits = λ m reply. first_edge ∷ [];
   handed = Nothing;
   Makes = λ is_half is_edge is_face old reply new. (reply ≡ Done) × AddsEdge is_half is_edge new (first_edge_added old a b);
 }

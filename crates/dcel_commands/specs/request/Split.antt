@@ -8,6 +8,7 @@ use Rattle.dcel_commands.specs.Grammar.{Number}
 use Rattle.dcel_commands.specs.Responses.{Halves}
 use Rattle.dcel_commands.specs.Rules.{CommandRule}
 use Rattle.dcel_fixed.specs.HalfEdges.{rev}
+use Rattle.dcel_maps.specs.EditLists.EditKind.{ear_cut, edge_subdivided}
 use Rattle.dcel_maps.specs.edits.DefaultData.{AddsEdgesAndFaces}
 use Rattle.dcel_maps.specs.edits.Split.{edge_split}
 
@@ -22,6 +23,7 @@ split h b = record {
       ∷ (NoRoom, RoomFor limit 0 3 2)
       ∷ [];
   takes_memory = true;
+  edits = λ m reply. edge_subdivided ∷ ear_cut ∷ ear_cut ∷ [];
   handed = Nothing;
   Makes = λ is_half is_edge is_face old reply new.
       (reply ≡ Halves (h ∷ (2 * old.shape.edges + 3) ∷ [])) × AddsEdgesAndFaces is_half is_edge is_face 3 2 new (edge_split old h b);

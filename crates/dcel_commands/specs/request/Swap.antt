@@ -5,6 +5,7 @@ use Rattle.dcel_commands.specs.Asking.{live_vertices}
 use Rattle.dcel_commands.specs.Grammar.{Number}
 use Rattle.dcel_commands.specs.Responses.{Done}
 use Rattle.dcel_commands.specs.Rules.{CommandRule}
+use Rattle.dcel_maps.specs.EditLists.EditKind.{numbers_changed}
 use Rattle.dcel_maps.specs.edits.Rename.{vertices_swapped}
 
 abbrev pub swap : {V : Type 0} → ℕ → ℕ → CommandRule V
@@ -13,6 +14,7 @@ swap a b = record {
   given = Number a ∷ Number b ∷ [];
   asks = λ limit. live_vertices a b;
   takes_memory = false;
+  edits = λ m reply. numbers_changed ∷ [];
   handed = Nothing;
   Makes = λ is_half is_edge is_face old reply new. (reply ≡ Done) × (new ≡ vertices_swapped old a b);
 }

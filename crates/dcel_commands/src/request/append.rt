@@ -1,7 +1,8 @@
 //! The line `append D`: what it asks, and how it is carried out.
 
 ghost use Rattle.std.specs.Prelude.{◌≤◌, ◌^◌};
-ghost use Rattle.dcel_commands.specs.Vocabulary.{Append, Carries, answered};
+ghost use Rattle.dcel_commands.specs.Vocabulary.{Carries, answered};
+ghost use Rattle.dcel_commands.specs.request.Append.{append};
 
 use crate::asking::has_room;
 use crate::commands::{Handed, Refused, Reply};
@@ -17,7 +18,7 @@ pub fn carry_out<V, DE: Default, UE: Default, F: Default, A: Allocator>(
     limit: usize,
 ) -> Result<Reply<V, A>, Refused<V>>
     requires { limit ≤ 2 ^ 31 }
-    ensures { Carries DE.is_default UE.is_default F.is_default limit dcel.old (Append datum) (answered result) dcel.new }
+    ensures { Carries DE.is_default UE.is_default F.is_default limit dcel.old (append datum) (answered result) dcel.new }
 {
     if !has_room(dcel, limit, Room::APPEND_UNCONNECTED_VERTEX) {
         return Err(Refused {

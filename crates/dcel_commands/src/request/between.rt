@@ -1,29 +1,26 @@
-//! The line `between A B`: what it asks, and how it is answered.
+//! The line `between A B`: what it asks, and what it is told.
 
-ghost use Rattle.dcel_commands.specs.Vocabulary.{Between, TellsOrRefuses};
+ghost use Rattle.dcel_commands.specs.Queries.{TellsOrRefuses, told};
+ghost use Rattle.dcel_commands.specs.request.Between.{between};
 
 use crate::asking::ask_live_vertices;
+use crate::commands::Told;
 use crate::refusal::Refusal;
-use crate::replies::write_half_edge;
-use crate::request::LineMesh;
 use dcel_fixed::FixedVertexHandle;
-use dcel_text::output::Writer;
-use dcel_text::sink::LineSink;
+use spade_dcel::dcel::Dcel;
 use std::alloc::Allocator;
 
-/// Writes the reply, or refuses and writes nothing.
-pub fn tell<A: Allocator, K: LineSink>(
-    out: &mut Writer<'_, K>,
-    dcel: &LineMesh<A>,
+/// Tells which half edge leads from one vertex to the other, or refuses.
+pub fn tell<V, DE, UE, F, A: Allocator>(
+    dcel: &Dcel<V, DE, UE, F, A>,
     from: FixedVertexHandle,
     to: FixedVertexHandle,
-) -> Result<(), Refusal>
-    ensures { TellsOrRefuses K.has_failed K.contents out.old dcel.now (Between from to) result out.new }
+) -> Result<Told<'_, V, DE, UE, F, A>, Refusal>
+    ensures { TellsOrRefuses dcel.now (between from to) (told result) }
 {
     ask_live_vertices(dcel, from, to)?;
     match dcel.get_edge_from_neighbors(from, to) {
-        Some(edge) => write_half_edge(out, edge.fix()),
-        None => out.write(b"none\n"),
+        Some(edge) => Ok(Told::Half(Some(edge.fix()))),
+        None => Ok(Told::Half(None)),
     }
-    Ok(())
 }

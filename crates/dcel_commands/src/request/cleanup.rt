@@ -1,7 +1,8 @@
 //! The line `cleanup U.. / F..`: what it asks, and how it is carried out.
 
 ghost use Rattle.std.specs.Prelude.{ℕ};
-ghost use Rattle.dcel_commands.specs.Vocabulary.{Carries, Cleanup, answered};
+ghost use Rattle.dcel_commands.specs.Vocabulary.{Carries, answered};
+ghost use Rattle.dcel_commands.specs.request.Cleanup.{cleanup};
 
 use crate::asking::{ask, ask_elements, is_isolated};
 use crate::commands::{Refused, Reply};
@@ -24,7 +25,7 @@ pub fn carry_out<
     edges: Vec<FixedUndirectedEdgeHandle, B>,
     faces: Vec<FixedFaceHandle<InnerTag>, B>,
 ) -> Result<Reply<V, A>, Refused<V>>
-    ensures { (limit : ℕ) → Carries DE.is_default UE.is_default F.is_default limit dcel.old (Cleanup edges.items faces.items) (answered result) dcel.new }
+    ensures { (limit : ℕ) → Carries DE.is_default UE.is_default F.is_default limit dcel.old (cleanup edges.items faces.items) (answered result) dcel.new }
 {
     ask_elements(dcel, &edges, &faces)?;
     ask(is_isolated(dcel), Refusal::NoRemoval)?;

@@ -1,7 +1,8 @@
 //! The line `close H`: what it asks, and how it is carried out.
 
 ghost use Rattle.std.specs.Prelude.{◌≤◌, ◌^◌};
-ghost use Rattle.dcel_commands.specs.Vocabulary.{Carries, Close, answered};
+ghost use Rattle.dcel_commands.specs.Vocabulary.{Carries, answered};
+ghost use Rattle.dcel_commands.specs.request.Close.{close};
 
 use crate::asking::{ask, has_half_edge, has_room};
 use crate::commands::{Refused, Reply};
@@ -18,7 +19,7 @@ pub fn carry_out<V, DE: Default, UE: Default, F: Default, A: Allocator>(
     limit: usize,
 ) -> Result<Reply<V, A>, Refused<V>>
     requires { limit ≤ 2 ^ 31 }
-    ensures { Carries DE.is_default UE.is_default F.is_default limit dcel.old (Close edge) (answered result) dcel.new }
+    ensures { Carries DE.is_default UE.is_default F.is_default limit dcel.old (close edge) (answered result) dcel.new }
 {
     ask(has_half_edge(dcel, edge), Refusal::NoSuchEdge)?;
     ask(dcel.is_live_edge(edge.as_undirected()), Refusal::GivenUp)?;

@@ -1,7 +1,8 @@
 //! The line `degenerate V`: what it asks, and how it is carried out.
 
 ghost use Rattle.std.specs.Prelude.{ℕ};
-ghost use Rattle.dcel_commands.specs.Vocabulary.{Carries, Degenerate, answered};
+ghost use Rattle.dcel_commands.specs.Vocabulary.{Carries, answered};
+ghost use Rattle.dcel_commands.specs.request.Degenerate.{degenerate};
 
 use crate::asking::{ask, has_vertex, is_closed};
 use crate::commands::{Refused, Reply};
@@ -16,7 +17,7 @@ pub fn carry_out<V, DE: Default + Drop, UE: Default + Drop, F: Default, A: Alloc
     dcel: &mut Dcel<V, DE, UE, F, A>,
     vertex: FixedVertexHandle,
 ) -> Result<Reply<V, A>, Refused<V>>
-    ensures { (limit : ℕ) → Carries DE.is_default UE.is_default F.is_default limit dcel.old (Degenerate vertex) (answered result) dcel.new }
+    ensures { (limit : ℕ) → Carries DE.is_default UE.is_default F.is_default limit dcel.old (degenerate vertex) (answered result) dcel.new }
 {
     ask(has_vertex(dcel, vertex), Refusal::NoSuchVertex)?;
     ask(is_closed(dcel), Refusal::RemovalOpen)?;

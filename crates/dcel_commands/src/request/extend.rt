@@ -1,7 +1,8 @@
 //! The line `extend A B`: what it asks, and how it is carried out.
 
 ghost use Rattle.std.specs.Prelude.{◌≤◌, ◌^◌};
-ghost use Rattle.dcel_commands.specs.Vocabulary.{Carries, Extend, answered};
+ghost use Rattle.dcel_commands.specs.Vocabulary.{Carries, answered};
+ghost use Rattle.dcel_commands.specs.request.Extend.{extend};
 
 use crate::asking::{ask, ask_two_vertices, has_room};
 use crate::commands::{Refused, Reply};
@@ -19,7 +20,7 @@ pub fn carry_out<V, DE: Default, UE: Default, F: Default, A: Allocator>(
     limit: usize,
 ) -> Result<Reply<V, A>, Refused<V>>
     requires { limit ≤ 2 ^ 31 }
-    ensures { Carries DE.is_default UE.is_default F.is_default limit dcel.old (Extend end new_vertex) (answered result) dcel.new }
+    ensures { Carries DE.is_default UE.is_default F.is_default limit dcel.old (extend end new_vertex) (answered result) dcel.new }
 {
     ask_two_vertices(dcel, end, new_vertex)?;
     ask(dcel.is_unconnected(new_vertex), Refusal::VertexInUse)?;

@@ -1,27 +1,22 @@
-//! The line `get V`: what it asks, and how it is answered.
+//! The line `get V`: what it asks, and what it is told.
 
-ghost use Rattle.dcel_commands.specs.Vocabulary.{Get, TellsOrRefuses};
+ghost use Rattle.dcel_commands.specs.Queries.{TellsOrRefuses, told};
+ghost use Rattle.dcel_commands.specs.request.Get.{get};
 
 use crate::asking::{ask, has_vertex};
+use crate::commands::Told;
 use crate::refusal::Refusal;
-use crate::request::LineMesh;
 use dcel_fixed::FixedVertexHandle;
-use dcel_text::output::Writer;
-use dcel_text::sink::LineSink;
+use spade_dcel::dcel::Dcel;
 use std::alloc::Allocator;
 
-/// Writes the reply, or refuses and writes nothing.
-pub fn tell<A: Allocator, K: LineSink>(
-    out: &mut Writer<'_, K>,
-    dcel: &LineMesh<A>,
+/// Tells the datum of the vertex, or refuses.
+pub fn tell<V, DE, UE, F, A: Allocator>(
+    dcel: &Dcel<V, DE, UE, F, A>,
     vertex: FixedVertexHandle,
-) -> Result<(), Refusal>
-    ensures { TellsOrRefuses K.has_failed K.contents out.old dcel.now (Get vertex) result out.new }
+) -> Result<Told<'_, V, DE, UE, F, A>, Refusal>
+    ensures { TellsOrRefuses dcel.now (get vertex) (told result) }
 {
     ask(has_vertex(dcel, vertex), Refusal::NoSuchVertex)?;
-    let datum = *dcel.vertex_data(vertex);
-    out.write(b"datum ");
-    out.datum(datum);
-    out.write(b"\n");
-    Ok(())
+    Ok(Told::Datum(dcel.vertex_data(vertex)))
 }

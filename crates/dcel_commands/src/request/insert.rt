@@ -1,7 +1,8 @@
 //! The line `insert B F`: what it asks, and how it is carried out.
 
 ghost use Rattle.std.specs.Prelude.{◌≤◌, ◌^◌};
-ghost use Rattle.dcel_commands.specs.Vocabulary.{Carries, Insert, answered};
+ghost use Rattle.dcel_commands.specs.Vocabulary.{Carries, answered};
+ghost use Rattle.dcel_commands.specs.request.Insert.{insert};
 
 use crate::asking::{ask, has_room, has_vertex};
 use crate::commands::{Refused, Reply};
@@ -19,7 +20,7 @@ pub fn carry_out<V, DE: Default, UE: Default, F: Default, A: Allocator>(
     limit: usize,
 ) -> Result<Reply<V, A>, Refused<V>>
     requires { limit ≤ 2 ^ 31 }
-    ensures { Carries DE.is_default UE.is_default F.is_default limit dcel.old (Insert vertex face) (answered result) dcel.new }
+    ensures { Carries DE.is_default UE.is_default F.is_default limit dcel.old (insert vertex face) (answered result) dcel.new }
 {
     ask(has_vertex(dcel, vertex), Refusal::NoSuchVertex)?;
     ask(

@@ -1,7 +1,8 @@
 //! The line `isolate V H..`: what it asks, and how it is carried out.
 
 ghost use Rattle.std.specs.Prelude.{◌≤◌, ◌^◌};
-ghost use Rattle.dcel_commands.specs.Vocabulary.{Carries, Isolate, answered};
+ghost use Rattle.dcel_commands.specs.Vocabulary.{Carries, answered};
+ghost use Rattle.dcel_commands.specs.request.Isolate.{isolate};
 
 use crate::asking::{are_below, ask, has_room, has_vertex, is_closed};
 use crate::commands::{Refused, Reply};
@@ -19,7 +20,7 @@ pub fn carry_out<V, DE: Default, UE: Default, F: Default, A: Allocator + Clone, 
     limit: usize,
 ) -> Result<Reply<V, A>, Refused<V>>
     requires { limit ≤ 2 ^ 31 }
-    ensures { Carries DE.is_default UE.is_default F.is_default limit dcel.old (Isolate vertex list.items) (answered result) dcel.new }
+    ensures { Carries DE.is_default UE.is_default F.is_default limit dcel.old (isolate vertex list.items) (answered result) dcel.new }
 {
     ask(has_vertex(dcel, vertex), Refusal::NoSuchVertex)?;
     ask(

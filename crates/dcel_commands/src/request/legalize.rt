@@ -1,7 +1,8 @@
 //! The line `legalize N U..`: what it asks, and how it is carried out.
 
 ghost use Rattle.std.specs.Prelude.{ℕ};
-ghost use Rattle.dcel_commands.specs.Vocabulary.{Carries, Legalize, answered};
+ghost use Rattle.dcel_commands.specs.Vocabulary.{Carries, answered};
+ghost use Rattle.dcel_commands.specs.request.Legalize.{legalize};
 
 use crate::asking::{are_below, ask};
 use crate::commands::{Refused, Reply};
@@ -17,7 +18,7 @@ pub fn carry_out<V, DE: Default, UE: Default, F: Default, A: Allocator, B: Alloc
     max_flips: usize,
     list: Vec<FixedUndirectedEdgeHandle, B>,
 ) -> Result<Reply<V, A>, Refused<V>>
-    ensures { (limit : ℕ) → Carries DE.is_default UE.is_default F.is_default limit dcel.old (Legalize max_flips list.items) (answered result) dcel.new }
+    ensures { (limit : ℕ) → Carries DE.is_default UE.is_default F.is_default limit dcel.old (legalize max_flips list.items) (answered result) dcel.new }
 {
     ask(
         are_below(&list, dcel.num_undirected_edges()),

@@ -1,26 +1,23 @@
-//! The line `origin H`: what it asks, and how it is answered.
+//! The line `origin H`: what it asks, and what it is told.
 
-ghost use Rattle.dcel_commands.specs.Vocabulary.{Origin, TellsOrRefuses};
+ghost use Rattle.dcel_commands.specs.Queries.{TellsOrRefuses, told};
+ghost use Rattle.dcel_commands.specs.request.Origin.{origin};
 
 use crate::asking::{ask, has_half_edge};
+use crate::commands::Told;
 use crate::refusal::Refusal;
-use crate::replies::write_vertex;
-use crate::request::LineMesh;
 use dcel_fixed::FixedDirectedEdgeHandle;
-use dcel_text::output::Writer;
-use dcel_text::sink::LineSink;
+use spade_dcel::dcel::Dcel;
 use std::alloc::Allocator;
 
-/// Writes the reply, or refuses and writes nothing.
-pub fn tell<A: Allocator, K: LineSink>(
-    out: &mut Writer<'_, K>,
-    dcel: &LineMesh<A>,
+/// Tells where the half edge starts, or refuses.
+pub fn tell<V, DE, UE, F, A: Allocator>(
+    dcel: &Dcel<V, DE, UE, F, A>,
     edge: FixedDirectedEdgeHandle,
-) -> Result<(), Refusal>
-    ensures { TellsOrRefuses K.has_failed K.contents out.old dcel.now (Origin edge) result out.new }
+) -> Result<Told<'_, V, DE, UE, F, A>, Refusal>
+    ensures { TellsOrRefuses dcel.now (origin edge) (told result) }
 {
     ask(has_half_edge(dcel, edge), Refusal::NoSuchEdge)?;
     ask(dcel.is_live_edge(edge.as_undirected()), Refusal::GivenUp)?;
-    write_vertex(out, dcel.directed_edge(edge).from().fix());
-    Ok(())
+    Ok(Told::Vertex(dcel.directed_edge(edge).from().fix()))
 }

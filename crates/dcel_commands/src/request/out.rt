@@ -1,13 +1,15 @@
-//! The line `out V`: what it asks, and how it is answered.
+//! The line `out V`: what it asks, what it is told, and how that is written.
 
-ghost use Rattle.std.specs.Prelude.{◌≡◌, ◌<◌, IfSome};
+ghost use Rattle.std.specs.Prelude.{◌≡◌, IfSome};
 ghost use Rattle.std.specs.Option.{option_map};
-ghost use Rattle.dcel_commands.specs.Vocabulary.{IsLive, Out, TellsOrRefuses, Writes, ccw_of, listed, mesh_behind, number_of, walk_of};
-ghost use Rattle.dcel_commands.specs.request.Out.{least_out, turn_of, turn_text};
+ghost use Rattle.dcel_commands.specs.Facts.{turn_text};
+ghost use Rattle.dcel_commands.specs.Queries.{TellsOrRefuses, told};
+ghost use Rattle.dcel_commands.specs.Vocabulary.{IsLive, Writes, ccw_of, listed, mesh_behind, number_of, walk_of};
+ghost use Rattle.dcel_commands.specs.request.Out.{least_out, out, turn_of};
 
 use crate::asking::{ask, has_vertex};
+use crate::commands::Told;
 use crate::refusal::Refusal;
-use crate::request::LineMesh;
 use dcel_fixed::FixedVertexHandle;
 use dcel_text::output::Writer;
 use dcel_text::sink::LineSink;
@@ -16,18 +18,16 @@ use spade_dcel::handles::{DirectedEdgeHandle, VertexHandle};
 use spade_dcel::iterators::{CCWEdgesNextBackFn, CircularIterator};
 use std::alloc::Allocator;
 
-/// Writes the reply, or refuses and writes nothing.
-pub fn tell<A: Allocator, K: LineSink>(
-    out: &mut Writer<'_, K>,
-    dcel: &LineMesh<A>,
+/// Tells the half edges that start at the vertex, or refuses.
+pub fn tell<V, DE, UE, F, A: Allocator>(
+    dcel: &Dcel<V, DE, UE, F, A>,
     vertex: FixedVertexHandle,
-) -> Result<(), Refusal>
-    ensures { TellsOrRefuses K.has_failed K.contents out.old dcel.now (Out vertex) result out.new }
+) -> Result<Told<'_, V, DE, UE, F, A>, Refusal>
+    ensures { TellsOrRefuses dcel.now (out vertex) (told result) }
 {
     ask(has_vertex(dcel, vertex), Refusal::NoSuchVertex)?;
     ask(dcel.is_live_vertex(vertex), Refusal::GivenUp)?;
-    write_out_edges(out, dcel, vertex);
-    Ok(())
+    Ok(Told::Out(dcel.vertex(vertex)))
 }
 
 /// Returns the least half edge that starts at the vertex.
@@ -79,15 +79,13 @@ fn write_half_edges<V, DE, UE, F, A: Allocator, K: LineSink>(
 }
 
 /// Writes the line of the half edges that start at a vertex, from the least on.
-fn write_out_edges<V, DE, UE, F, A: Allocator, K: LineSink>(
+pub fn write_turn_line<V, DE, UE, F, A: Allocator, K: LineSink>(
     out: &mut Writer<'_, K>,
-    dcel: &Dcel<V, DE, UE, F, A>,
-    vertex: FixedVertexHandle,
+    vertex: VertexHandle<'_, V, DE, UE, F, A>,
 )
-    requires { vertex < dcel.now.shape.vertices }
-    ensures { Writes K.has_failed K.contents out.old out.new (turn_text dcel.now.shape vertex) }
+    ensures { Writes K.has_failed K.contents out.old out.new (turn_text (turn_of (mesh_behind vertex.entry).shape (number_of vertex.entry))) }
 {
     out.write(b"out");
-    write_half_edges(out, dcel.vertex(vertex));
+    write_half_edges(out, vertex);
     out.write(b"\n");
 }

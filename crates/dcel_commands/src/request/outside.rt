@@ -1,7 +1,8 @@
 //! The line `outside H B`: what it asks, and how it is carried out.
 
 ghost use Rattle.std.specs.Prelude.{◌≤◌, ◌^◌};
-ghost use Rattle.dcel_commands.specs.Vocabulary.{Carries, Outside, answered};
+ghost use Rattle.dcel_commands.specs.Vocabulary.{Carries, answered};
+ghost use Rattle.dcel_commands.specs.request.Outside.{outside};
 
 use crate::asking::{ask, ask_edge_and_vertex, has_room};
 use crate::commands::{Refused, Reply};
@@ -19,7 +20,7 @@ pub fn carry_out<V, DE: Default, UE: Default, F: Default, A: Allocator>(
     limit: usize,
 ) -> Result<Reply<V, A>, Refused<V>>
     requires { limit ≤ 2 ^ 31 }
-    ensures { Carries DE.is_default UE.is_default F.is_default limit dcel.old (Outside edge new_vertex) (answered result) dcel.new }
+    ensures { Carries DE.is_default UE.is_default F.is_default limit dcel.old (outside edge new_vertex) (answered result) dcel.new }
 {
     ask_edge_and_vertex(dcel, edge, new_vertex)?;
     ask(

@@ -1,7 +1,8 @@
 //! The line `put V D`: what it asks, and how it is carried out.
 
 ghost use Rattle.std.specs.Prelude.{ℕ};
-ghost use Rattle.dcel_commands.specs.Vocabulary.{Carries, Put, answered};
+ghost use Rattle.dcel_commands.specs.Vocabulary.{Carries, answered};
+ghost use Rattle.dcel_commands.specs.request.Put.{put};
 
 use crate::asking::has_vertex;
 use crate::commands::{Handed, Refused, Reply};
@@ -16,7 +17,7 @@ pub fn carry_out<V: Drop, DE: Default, UE: Default, F: Default, A: Allocator>(
     vertex: FixedVertexHandle,
     datum: V,
 ) -> Result<Reply<V, A>, Refused<V>>
-    ensures { (limit : ℕ) → Carries DE.is_default UE.is_default F.is_default limit dcel.old (Put vertex datum) (answered result) dcel.new }
+    ensures { (limit : ℕ) → Carries DE.is_default UE.is_default F.is_default limit dcel.old (put vertex datum) (answered result) dcel.new }
 {
     if !has_vertex(dcel, vertex) {
         return Err(Refused {

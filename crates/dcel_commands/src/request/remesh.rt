@@ -1,7 +1,8 @@
 //! The line `remesh H.. / U.. / F..`: what it asks, and how it is carried out.
 
 ghost use Rattle.std.specs.Prelude.{◌≤◌, ◌^◌};
-ghost use Rattle.dcel_commands.specs.Vocabulary.{Carries, Remesh, answered};
+ghost use Rattle.dcel_commands.specs.Vocabulary.{Carries, answered};
+ghost use Rattle.dcel_commands.specs.request.Remesh.{remesh};
 
 use crate::asking::{are_below, ask, ask_elements, has_room, is_closed};
 use crate::commands::{Refused, Reply};
@@ -22,7 +23,7 @@ pub fn carry_out<V, DE: Default, UE: Default, F: Default, A: Allocator + Clone, 
     limit: usize,
 ) -> Result<Reply<V, A>, Refused<V>>
     requires { limit ≤ 2 ^ 31 }
-    ensures { Carries DE.is_default UE.is_default F.is_default limit dcel.old (Remesh list.items edges.items faces.items) (answered result) dcel.new }
+    ensures { Carries DE.is_default UE.is_default F.is_default limit dcel.old (remesh list.items edges.items faces.items) (answered result) dcel.new }
 {
     ask(
         are_below(&list, dcel.num_directed_edges()),

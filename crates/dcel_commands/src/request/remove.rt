@@ -1,7 +1,8 @@
 //! The line `remove V`: what it asks, and how it is carried out.
 
 ghost use Rattle.std.specs.Prelude.{ℕ, [], ◌∷◌};
-ghost use Rattle.dcel_commands.specs.Vocabulary.{Carries, NoOtherOpen, PassesOrRefuses, Removable, Remove, answered};
+ghost use Rattle.dcel_commands.specs.Vocabulary.{Carries, NoOtherOpen, PassesOrRefuses, Removable, answered};
+ghost use Rattle.dcel_commands.specs.request.Remove.{remove};
 ghost use Rattle.dcel_commands.specs.declared.refusal.Refusal.TheVariants.{RemovalOpen, VertexInUse};
 
 use crate::asking::{ask, has_vertex, is_closed};
@@ -31,7 +32,7 @@ pub fn carry_out<V, DE: Default, UE: Default, F: Default, A: Allocator>(
     dcel: &mut Dcel<V, DE, UE, F, A>,
     vertex: FixedVertexHandle,
 ) -> Result<Reply<V, A>, Refused<V>>
-    ensures { (limit : ℕ) → Carries DE.is_default UE.is_default F.is_default limit dcel.old (Remove vertex) (answered result) dcel.new }
+    ensures { (limit : ℕ) → Carries DE.is_default UE.is_default F.is_default limit dcel.old (remove vertex) (answered result) dcel.new }
 {
     ask(has_vertex(dcel, vertex), Refusal::NoSuchVertex)?;
     ask_removable(dcel, vertex)?;

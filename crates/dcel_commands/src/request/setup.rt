@@ -1,7 +1,8 @@
 //! The line `setup A B`: what it asks, and how it is carried out.
 
 ghost use Rattle.std.specs.Prelude.{◌≤◌, ◌^◌};
-ghost use Rattle.dcel_commands.specs.Vocabulary.{Carries, Setup, answered};
+ghost use Rattle.dcel_commands.specs.Vocabulary.{Carries, answered};
+ghost use Rattle.dcel_commands.specs.request.Setup.{setup};
 
 use crate::asking::{ask, ask_two_vertices, has_room};
 use crate::commands::{Refused, Reply};
@@ -19,7 +20,7 @@ pub fn carry_out<V, DE: Default, UE: Default, F: Default, A: Allocator>(
     limit: usize,
 ) -> Result<Reply<V, A>, Refused<V>>
     requires { limit ≤ 2 ^ 31 }
-    ensures { Carries DE.is_default UE.is_default F.is_default limit dcel.old (Setup first second) (answered result) dcel.new }
+    ensures { Carries DE.is_default UE.is_default F.is_default limit dcel.old (setup first second) (answered result) dcel.new }
 {
     ask_two_vertices(dcel, first, second)?;
     ask(dcel.num_undirected_edges() == 0, Refusal::EdgesStand)?;

@@ -1,7 +1,8 @@
 //! The line `strip H..`: what it asks, and how it is carried out.
 
 ghost use Rattle.std.specs.Prelude.{ℕ};
-ghost use Rattle.dcel_commands.specs.Vocabulary.{Carries, Strip, answered};
+ghost use Rattle.dcel_commands.specs.Vocabulary.{Carries, answered};
+ghost use Rattle.dcel_commands.specs.request.Strip.{strip};
 
 use crate::asking::{are_below, ask, is_closed};
 use crate::commands::{Refused, Reply};
@@ -16,7 +17,7 @@ pub fn carry_out<V, DE: Default, UE: Default, F: Default, A: Allocator + Clone, 
     dcel: &mut Dcel<V, DE, UE, F, A>,
     list: Vec<FixedDirectedEdgeHandle, B>,
 ) -> Result<Reply<V, A>, Refused<V>>
-    ensures { (limit : ℕ) → Carries DE.is_default UE.is_default F.is_default limit dcel.old (Strip list.items) (answered result) dcel.new }
+    ensures { (limit : ℕ) → Carries DE.is_default UE.is_default F.is_default limit dcel.old (strip list.items) (answered result) dcel.new }
 {
     ask(
         are_below(&list, dcel.num_directed_edges()),

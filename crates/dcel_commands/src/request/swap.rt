@@ -1,7 +1,8 @@
 //! The line `swap A B`: what it asks, and how it is carried out.
 
 ghost use Rattle.std.specs.Prelude.{ℕ};
-ghost use Rattle.dcel_commands.specs.Vocabulary.{Carries, Swap, answered};
+ghost use Rattle.dcel_commands.specs.Vocabulary.{Carries, answered};
+ghost use Rattle.dcel_commands.specs.request.Swap.{swap};
 
 use crate::asking::ask_live_vertices;
 use crate::commands::{Refused, Reply};
@@ -16,7 +17,7 @@ pub fn carry_out<V, DE: Default, UE: Default, F: Default, A: Allocator>(
     first: FixedVertexHandle,
     second: FixedVertexHandle,
 ) -> Result<Reply<V, A>, Refused<V>>
-    ensures { (limit : ℕ) → Carries DE.is_default UE.is_default F.is_default limit dcel.old (Swap first second) (answered result) dcel.new }
+    ensures { (limit : ℕ) → Carries DE.is_default UE.is_default F.is_default limit dcel.old (swap first second) (answered result) dcel.new }
 {
     ask_live_vertices(dcel, first, second)?;
     dcel.swap_vertices(first, second);

@@ -1,7 +1,8 @@
 //! The line `triangle D D D`: what it asks, and how it is carried out.
 
 ghost use Rattle.std.specs.Prelude.{◌≡◌};
-ghost use Rattle.dcel_commands.specs.Vocabulary.{Carries, Triangle, answered};
+ghost use Rattle.dcel_commands.specs.Vocabulary.{Carries, answered};
+ghost use Rattle.dcel_commands.specs.request.Triangle.{triangle};
 
 use crate::commands::{Handed, Refused, Reply};
 use crate::refusal::Refusal;
@@ -21,7 +22,7 @@ pub fn carry_out<
     vertices: (V, V, V),
     limit: usize,
 ) -> Result<Reply<V, A>, Refused<V>>
-    ensures { Carries DE.is_default UE.is_default F.is_default limit dcel.old (Triangle vertices.0 vertices.1 vertices.2) (answered result) dcel.new }
+    ensures { Carries DE.is_default UE.is_default F.is_default limit dcel.old (triangle vertices.0 vertices.1 vertices.2) (answered result) dcel.new }
 {
     if limit < 3 {
         return Err(refused(Refusal::NoRoom, vertices));

@@ -2,7 +2,8 @@
 
 ghost use Rattle.std.specs.Prelude.{◌≡◌, ◌<◌};
 ghost use Rattle.dcel_commands.specs.Vocabulary.{IsLive, IsMesh, IsSound, Writes, face_count, face_of, listed, mesh_behind, number_of, word_of};
-ghost use Rattle.dcel_commands.specs.request.Words.{hull_text, line_of, words_text, word_round, IsLeastOnFace};
+ghost use Rattle.dcel_commands.specs.Facts.{faces_text, hull_text};
+ghost use Rattle.dcel_commands.specs.request.Words.{face_at, live_faces, word_round, IsLeastOnFace};
 
 use dcel_fixed::FixedFaceHandle;
 use dcel_text::output::Writer;
@@ -78,7 +79,7 @@ fn write_face<V, DE, UE, F, A: Allocator, K: LineSink>(
 )
     requires mesh { IsMesh dcel.now }
     requires in_range { face < face_count dcel.now.shape }
-    ensures { Writes K.has_failed K.contents out.old out.new (line_of dcel.now.shape face) }
+    ensures { Writes K.has_failed K.contents out.old out.new (faces_text (face_at dcel.now.shape face)) }
 {
     if !dcel.is_live_face(face) {
         return;
@@ -94,7 +95,7 @@ pub fn write_words<V, DE, UE, F, A: Allocator, K: LineSink>(
     out: &mut Writer<'_, K>,
     dcel: &Dcel<V, DE, UE, F, A>,
 )
-    ensures { Writes K.has_failed K.contents out.old out.new (words_text dcel.now.shape) }
+    ensures { Writes K.has_failed K.contents out.old out.new (faces_text (live_faces dcel.now.shape)) }
 {
     every_mesh(dcel);
     for index in 0..dcel.num_faces() {
@@ -107,7 +108,7 @@ pub fn write_hull<V, DE, UE, F, A: Allocator, K: LineSink>(
     out: &mut Writer<'_, K>,
     dcel: &Dcel<V, DE, UE, F, A>,
 )
-    ensures { Writes K.has_failed K.contents out.old out.new (hull_text dcel.now.shape) }
+    ensures { Writes K.has_failed K.contents out.old out.new (hull_text (word_of dcel.now.shape.words 0)) }
 {
     every_mesh(dcel);
     out.write(b"hull");

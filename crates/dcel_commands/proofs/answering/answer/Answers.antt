@@ -1,5 +1,6 @@
 use Rattle.std.proofs.Common.{refl, inl, inr, Ok, Err}
 use Rattle.dcel_commands.specs.Instructions.{Edit, Ask, instruction}
+use Rattle.dcel_commands.specs.Queries.{fact}
 use Rattle.dcel_commands.specs.Responses.{response}
 use Rattle.dcel_commands.specs.Talk.{good_line, no_list}
 use Rattle.dcel_commands.proofs.answering.answer.Goals as goal
@@ -19,22 +20,18 @@ returns-in-Err g c = record {
 }
 
 pub returns-in-Ok-tell : goal.returns-in-Ok-tell
-returns-in-Ok-tell g c =
-    let told = c.in-Ok-tell.ensures in
-    record {
-      text = told.1.text;
-      writes = told.1.writes;
-      fits = good_line (Ask c.in-Some-Ok-Ask.query) (rw (c.in-Some-Ok-Ask.field-0-is, c.in-Some-Ok-Ask.field-0-0-is) at c.in-Some-Ok-Ask.ensures) (inl (told.0, told.1.fits), refl);
-    }
+returns-in-Ok-tell g c = record {
+  text = _;
+  writes = c.write_told.ensures;
+  fits = good_line (Ask c.in-Some-Ok-Ask.query) (rw (c.in-Some-Ok-Ask.field-0-is, c.in-Some-Ok-Ask.field-0-0-is) at c.in-Some-Ok-Ask.ensures) (inl (c.in-Ok-tell.ensures.met, (fact c.in-Ok-tell.told, c.in-Ok-tell.ensures.tells, refl)), refl);
+}
 
 pub returns-in-Err-tell : goal.returns-in-Err-tell
-returns-in-Err-tell g c =
-    let why = c.in-Err-tell.ensures in
-    record {
-      text = _;
-      writes = rw (← why.1) c.write_refusal-in-Err-tell.ensures;
-      fits = good_line (Ask c.in-Some-Ok-Ask.query) (rw (c.in-Some-Ok-Ask.field-0-is, c.in-Some-Ok-Ask.field-0-0-is) at c.in-Some-Ok-Ask.ensures) (inr (c.in-Err-tell.why, why.0, refl), refl);
-    }
+returns-in-Err-tell g c = record {
+  text = _;
+  writes = c.write_refusal-in-Err-tell.ensures;
+  fits = good_line (Ask c.in-Some-Ok-Ask.query) (rw (c.in-Some-Ok-Ask.field-0-is, c.in-Some-Ok-Ask.field-0-0-is) at c.in-Some-Ok-Ask.ensures) (inr (c.in-Err-tell.why, c.in-Err-tell.ensures.refused, refl), refl);
+}
 
 pub returns-in-Some-Err : goal.returns-in-Some-Err
 returns-in-Some-Err g c =

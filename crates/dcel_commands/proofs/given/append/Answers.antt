@@ -1,7 +1,7 @@
 use Rattle.std.proofs.Common.{◌≢◌, ℤ, ℕ, List, [], ◌∷◌, map, refl, None}
 use Rattle.std.specs.Prelude.{codes}
 use Rattle.std.specs.Fmt.{signed_decimal}
-use Rattle.dcel_commands.specs.declared.request.Query.TheVariants.{Counts}
+use Rattle.dcel_commands.specs.declared.commands.query.Query.TheVariants.{Counts}
 use Rattle.dcel_commands.specs.Instructions.{Append, Edit, Ask}
 use Rattle.dcel_text.specs.Numbers.{IsDatum}
 use Rattle.dcel_commands.specs.Grammar.{item_text}

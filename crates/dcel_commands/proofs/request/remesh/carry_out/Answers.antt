@@ -1,5 +1,5 @@
 use Rattle.std.proofs.Common.{◌≡◌, refl, rules}
-use Rattle.dcel_commands.specs.Instructions.{Remesh}
+use Rattle.dcel_commands.specs.request.Remesh.{remesh}
 use Rattle.dcel_commands.proofs.WithoutMemory.{no_memory}
 use Rattle.dcel_commands.proofs.request.remesh.carry_out.Goals as goal
 
@@ -18,5 +18,5 @@ returns g c =
 pub returns-in_err-opened : goal.returns-in_err-opened
 returns-in_err-opened g c =
     no_memory g.DE.Default.is_default g.UE.Default.is_default g.F.Default.is_default c.args.limit c.args.dcel.now _
-    (Remesh c.args.list.items c.args.edges.items c.args.faces.items) _ c.from_residual-in_err-opened.ensures.1 (search rules) refl refl
+    (remesh c.args.list.items c.args.edges.items c.args.faces.items) _ c.from_residual-in_err-opened.ensures.1 (search rules) refl refl
     c.in_err-opened.ensures.refused

@@ -1,5 +1,7 @@
-use Rattle.std.proofs.Common.{sym, ap, add-one}
-use Rattle.dcel_commands.specs.request.Words.{line_of, lines_below}
+use Rattle.std.proofs.Common.{◌∙◌, sym, ap, add-one}
+use Rattle.std.proofs.lemmas.Grind.{flat_map-append}
+use Rattle.dcel_commands.specs.Facts.{face_line, faces_text}
+use Rattle.dcel_commands.specs.request.Words.{face_at, faces_below}
 use Rattle.dcel_text.proofs.Writing.{writes_nothing, writes_and, writes_text}
 use Rattle.dcel_commands.proofs.request.words.write_words.Goals as goal
 
@@ -8,5 +10,7 @@ loop-index-init g c = writes_nothing
 
 pub loop-index-preserved : goal.loop-index-preserved
 loop-index-preserved g c =
-    writes_text (sym (ap (lines_below c.args.dcel.now.shape) (add-one c.loop-index.index)))
-    (writes_and c.loop-index.invariant (writes_text (ap (line_of c.args.dcel.now.shape) c.new_fixed_face_handle.ensures) c.write_face.ensures))
+    let s = c.args.dcel.now.shape in
+    let n = c.loop-index.index in
+    writes_text (sym (flat_map-append face_line (faces_below s n) (face_at s n)) ∙ sym (ap (λ k. faces_text (faces_below s k)) (add-one n)))
+    (writes_and c.loop-index.invariant (writes_text (ap (λ f. faces_text (face_at s f)) c.new_fixed_face_handle.ensures) c.write_face.ensures))

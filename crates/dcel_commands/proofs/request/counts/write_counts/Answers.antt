@@ -1,7 +1,0 @@
-use Rattle.dcel_text.proofs.Writing.{writes_and, writes_text}
-use Rattle.dcel_commands.proofs.request.counts.write_counts.Goals as goal
-
-pub returns : goal.returns
-returns g c =
-    writes_text (rw (c.num_vertices.ensures.count, c.num_undirected_edges.ensures.count, c.num_faces.ensures.count) cc)
-    (writes_and (writes_and (writes_and c.numbered.ensures c.numbered-2.ensures) c.numbered-3.ensures) c.write.ensures)

@@ -1,0 +1,5 @@
+pub mod Powers
+pub mod Long
+pub mod Moved
+pub mod Signed
+pub mod Scaled

@@ -1,0 +1,180 @@
+//! The words that a program is started with.
+
+ghost use Rattle.std.specs.Prelude.{◌≢◌, IfSome, codes};
+
+use clap::builder::ValueParser;
+use clap::{Arg, ArgAction, ArgMatches, Command};
+use std::alloc::{AllocError, Global};
+
+/// What a program takes. Besides its options that is a file, in place of standard input.
+#[derive(Clone, Copy)]
+pub struct Program<'a, T> {
+    /// Its name.
+    pub name: &'a str,
+    /// What it does.
+    pub about: &'a str,
+    /// What the file has.
+    pub input: &'a str,
+    /// The options.
+    pub switches: &'a [Switch<'a>],
+    /// The options of which one is chosen at most, with what they stand for.
+    pub choices: &'a [Choice<'a, T>],
+    /// What stands below the options in its help.
+    pub details: &'a str,
+}
+
+/// An option.
+#[derive(Clone, Copy)]
+pub struct Switch<'a> {
+    /// Its name, without hyphens.
+    pub name: &'a str,
+    /// Its other name, of one letter.
+    pub letter: Option<char>,
+    /// What it takes.
+    pub takes: Takes<'a>,
+    /// What it is for.
+    pub help: &'a str,
+}
+
+/// What an option takes.
+#[derive(Clone, Copy)]
+pub enum Takes<'a> {
+    /// Nothing.
+    Nothing,
+    /// A file.
+    File,
+    /// One of these names of formats.
+    Format(&'a [&'a str]),
+    /// A power of ten, from 1 to 10^18.
+    PowerOfTen,
+}
+
+const POWERS_OF_TEN: &[&str] = &[
+    "1",
+    "10",
+    "100",
+    "1000",
+    "10000",
+    "100000",
+    "1000000",
+    "10000000",
+    "100000000",
+    "1000000000",
+    "10000000000",
+    "100000000000",
+    "1000000000000",
+    "10000000000000",
+    "100000000000000",
+    "1000000000000000",
+    "10000000000000000",
+    "100000000000000000",
+    "1000000000000000000",
+];
+
+/// An option of which no other one is chosen too.
+#[derive(Clone, Copy)]
+pub struct Choice<'a, T> {
+    /// Its name, without hyphens.
+    pub name: &'a str,
+    /// What it stands for.
+    pub means: T,
+    /// What it is for.
+    pub help: &'a str,
+}
+
+/// The group that all choices are in.
+const CHOICES: &str = "choices";
+
+/// The argument that is no option.
+const FILE: &str = "file";
+
+impl<'a, T> Program<'a, T> {
+    /// Describes the arguments that the program takes.
+    pub(crate) fn command(&self, alloc: Global) -> Result<Command<'a>, AllocError> {
+        let file = Arg::new(alloc, FILE).value_name("FILE").help(self.input);
+        let mut command = Command::new(alloc, self.name)
+            .about(self.about)
+            .after_help(self.details)
+            .arg(file)?;
+        for switch in self.switches {
+            command = command.arg(switch.arg(alloc))?;
+        }
+        for choice in self.choices {
+            command = command.arg(choice.arg(alloc)?)?;
+        }
+        Ok(command)
+    }
+}
+
+impl<'a> Switch<'a> {
+    fn arg(&self, alloc: Global) -> Arg<'a> {
+        let arg = Arg::new(alloc, self.name).long(self.name).help(self.help);
+        let arg = match self.letter {
+            Some(letter) => arg.short(letter),
+            None => arg,
+        };
+        match self.takes {
+            Takes::Nothing => arg.action(ArgAction::SetTrue),
+            Takes::File => arg.value_name("FILE"),
+            Takes::Format(names) => arg
+                .value_name("FORMAT")
+                .value_parser(ValueParser::Names(names)),
+            Takes::PowerOfTen => arg
+                .value_name("K")
+                .value_parser(ValueParser::Names(POWERS_OF_TEN))
+                .hide_possible_values(true),
+        }
+    }
+}
+
+impl<'a, T> Choice<'a, T> {
+    fn arg(&self, alloc: Global) -> Result<Arg<'a>, AllocError> {
+        Arg::new(alloc, self.name)
+            .long(self.name)
+            .action(ArgAction::SetTrue)
+            .help(self.help)
+            .group(CHOICES)
+    }
+}
+
+/// What a program was started with.
+#[derive(Drop)]
+pub struct Given<'a> {
+    pub(crate) matches: ArgMatches<'a>,
+}
+
+impl<'a> Given<'a> {
+    /// Returns the file to read. There is none if it is standard input.
+    pub fn input(&self) -> Option<&'a str>
+        ensures { IfSome result (λ file. file.now ≢ codes "-") }
+    {
+        self.file(FILE)
+    }
+
+    /// Returns the file that follows an option. There is none if it is - or the option isn't there.
+    pub fn file(&self, name: &str) -> Option<&'a str>
+        ensures { IfSome result (λ file. file.now ≢ codes "-") }
+    {
+        self.value(name).filter(|file| *file != "-")
+    }
+
+    /// Returns what follows an option, if it is there.
+    pub fn value(&self, name: &str) -> Option<&'a str> {
+        self.matches.get_str(name)
+    }
+
+    /// Returns whether an option that takes nothing is there.
+    pub fn has(&self, name: &str) -> bool {
+        self.matches.get_flag(name)
+    }
+
+    /// Returns what the option stands for that is chosen, if one is.
+    pub fn choice<T: Copy>(&self, choices: &[Choice<'_, T>]) -> Option<T> {
+        for choice in choices {
+            if self.has(choice.name) {
+                return Some(choice.means);
+            }
+        }
+        None
+    }
+}

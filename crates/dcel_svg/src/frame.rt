@@ -1,0 +1,198 @@
+//! The part of the plane that a picture shows, and how large things are in it.
+
+use crate::curve::steps_of;
+use crate::svg::Style;
+use dcel_drawn::{Bend, Line, Picture, Place};
+use std::alloc::Allocator;
+use std::num::{nearest_usize_to_f64, saturating_f64_to_usize};
+
+/// How long the shortest edge is to be at least.
+const EDGE: f64 = 84.0;
+
+/// How large the circle inside the smallest face is to be: its radius, for a triangle.
+const INSIDE: f64 = 33.0;
+
+/// How long the longer side is where edges are drawn alone.
+const SIDE: f64 = 800.0;
+
+/// How much is left free on each side.
+const MARGIN: f64 = 50.0;
+
+/// How far vertices at the side stand from one another.
+const APART: f64 = 44.0;
+
+/// The part of the plane that a picture shows.
+#[derive(Clone, Copy)]
+pub(crate) struct Frame {
+    scale: f64,
+    low: Place,
+    high: Place,
+    columns: usize,
+    rows: usize,
+}
+
+impl Frame {
+    /// Returns the part that has all of a picture, so large that the least things can be seen,
+    /// unless the whole would become too large.
+    pub fn around<B: Allocator>(picture: &Picture<B>, style: Style) -> Frame {
+        let (low, high) = corners(picture);
+        let size = high.minus(low);
+        let longest = size.x.max(size.y);
+        let vertices = nearest_usize_to_f64(picture.dots.len());
+        let (room, mut scale) = match style {
+            Style::HalfEdges { .. } => (600.0 + 280.0 * vertices.sqrt(), wanted_scale(picture)),
+            Style::Edges => (SIDE, 0.0),
+        };
+        // Where no edge is drawn no scale is wanted, and the places fill the room.
+        if longest > 0.0 && (scale <= 0.0 || longest * scale > room) {
+            scale = room / longest;
+        }
+        let width = size.x * scale + 2.0 * MARGIN;
+        let aside = count_aside(picture);
+        let columns = saturating_f64_to_usize((width - MARGIN) / APART)
+            .max(8)
+            .min(aside);
+        Frame {
+            scale,
+            low,
+            high,
+            columns,
+            rows: if columns == 0 {
+                0
+            } else {
+                aside.div_ceil(columns)
+            },
+        }
+    }
+
+    /// Returns where a place is shown.
+    pub fn shown(&self, place: Place) -> Place {
+        place.times(self.scale)
+    }
+
+    /// Returns where a line is shown.
+    pub fn shown_line(&self, line: Line) -> Line {
+        Line {
+            from: self.shown(line.from),
+            to: self.shown(line.to),
+            bend: match line.bend {
+                Some(Bend { tip, cut }) => Some(Bend {
+                    tip: self.shown(tip),
+                    cut,
+                }),
+                None => None,
+            },
+        }
+    }
+
+    /// Returns the upper left corner.
+    pub fn corner(&self) -> Place {
+        Place::new(
+            self.low.x * self.scale - MARGIN,
+            self.high.y * self.scale + MARGIN,
+        )
+    }
+
+    /// Returns the width and the height.
+    pub fn size(&self) -> Place {
+        let size = self.high.minus(self.low).times(self.scale);
+        let aside = Place::new(
+            APART * nearest_usize_to_f64(self.columns),
+            APART * nearest_usize_to_f64(self.rows),
+        );
+        Place::new(
+            (size.x + 2.0 * MARGIN).max(aside.x + MARGIN),
+            size.y + 2.0 * MARGIN + aside.y,
+        )
+    }
+
+    /// Returns the place of a vertex at the side, by its number among those.
+    pub fn aside(&self, number: usize) -> Place {
+        let column = nearest_usize_to_f64(number % self.columns.max(1));
+        let row = nearest_usize_to_f64(number / self.columns.max(1));
+        let first = Place::new(
+            self.low.x * self.scale - MARGIN + APART,
+            self.low.y * self.scale - MARGIN - APART / 2.0,
+        );
+        first.plus(Place::new(column, -row).times(APART))
+    }
+}
+
+/// Returns how many vertices have no place.
+fn count_aside<B: Allocator>(picture: &Picture<B>) -> usize {
+    let mut count = 0usize;
+    for dot in &picture.dots {
+        if dot.place.is_none() {
+            count = count.saturating_add(1);
+        }
+    }
+    count
+}
+
+/// Returns the lower left and the upper right corner of all places.
+fn corners<B: Allocator>(picture: &Picture<B>) -> (Place, Place) {
+    let mut corners = None;
+    for dot in &picture.dots {
+        corners = widened(corners, dot.place);
+    }
+    for stroke in &picture.strokes {
+        if let Some(line) = stroke.line() {
+            for place in steps_of(line) {
+                corners = widened(corners, Some(place));
+            }
+        }
+    }
+    let middle = Place::new(0.0, 0.0);
+    corners.unwrap_or((middle, middle))
+}
+
+fn widened(corners: Option<(Place, Place)>, place: Option<Place>) -> Option<(Place, Place)> {
+    let Some(place) = place else {
+        return corners;
+    };
+    let (low, high) = corners.unwrap_or((place, place));
+    Some((
+        Place::new(low.x.min(place.x), low.y.min(place.y)),
+        Place::new(high.x.max(place.x), high.y.max(place.y)),
+    ))
+}
+
+/// Returns how large the unit has to be, so that edges and inner faces are large enough.
+fn wanted_scale<B: Allocator>(picture: &Picture<B>) -> f64 {
+    let mut scale: f64 = 0.0;
+    for stroke in &picture.strokes {
+        if let Some(line) = stroke.line() {
+            scale = larger(scale, EDGE, line.to.minus(line.from).length());
+        }
+    }
+    for patch in picture.patches.iter().skip(1) {
+        scale = larger(scale, INSIDE, radius(patch.outline.as_slice()));
+    }
+    scale
+}
+
+/// Returns the scale, made larger if something of this length would be drawn shorter than wanted.
+/// What would need a scale of 10^9 is passed over.
+fn larger(scale: f64, wanted: f64, length: f64) -> f64 {
+    if length * 1e9 > wanted {
+        scale.max(wanted / length)
+    } else {
+        scale
+    }
+}
+
+/// Returns twice the area of a face for the length of its sides: the radius of the circle inside a
+/// triangle.
+fn radius(outline: &[Line]) -> f64 {
+    let (mut area, mut length) = (0.0, 0.0);
+    for line in outline {
+        area += line.from.cross(line.to);
+        length += line.to.minus(line.from).length();
+        if let Some(bend) = line.bend {
+            // The curve leaves a third of the triangle out that it cuts off at the tip.
+            let aside = bend.tip.minus(line.from).cross(line.to.minus(line.from));
+            area += aside * (1.0 - bend.cut * bend.cut / 3.0);
+        }
+    }
+    if length > 0.0 { area / length } else { 0.0 }
+}

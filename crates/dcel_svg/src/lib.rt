@@ -1,0 +1,26 @@
+//! Pictures of meshes: places for the vertices of any mesh, what of it is drawn where, and SVG.
+//!
+//! A mesh has no geometry. [`spread`] finds places for its vertices. A [`Picture`] has a stroke for
+//! each half edge, a patch for each face and a dot for each vertex, and [`write_svg`] writes it.
+#![tactic(auto)]
+
+mod bends;
+mod bowing;
+mod curve;
+mod frame;
+mod given_up;
+mod grid;
+mod layout;
+mod net;
+mod place;
+mod reading;
+mod relaxing;
+mod rows;
+mod spreading;
+mod svg;
+mod wings;
+
+pub use bowing::bow;
+pub use dcel_drawn::{Bend, Dot, Line, Patch, Picture, Place, Places, State, Stroke};
+pub use spreading::spread;
+pub use svg::{Style, write_svg};
