@@ -1,8 +1,7 @@
 -- The border loop of a vertex inside of triangles, from where the triangles that fill it turn left.
-use Rattle.std.proofs.Common.{◌≡◌, ◌≢◌, ◌⊎◌, inl, inr, ℕ, ◌/◌, ◌<◌, ◌≤◌, List, [], ◌∷◌, length, map, reverse, Option, Some, None, refl, sym, ap, ◌∙◌, subst, arith}
+use Rattle.std.proofs.Common.{◌≡◌, ◌≢◌, inl, inr, ℕ, ◌<◌, ◌≤◌, List, [], ◌∷◌, length, map, reverse, Option, Some, None, sym, ap, ◌∙◌, subst, arith}
 use Rattle.std.proofs.lemmas.Bool.{cases_eq}
 use Rattle.dcel_maps.specs.Borders.{IsBorderLoop}
-use Rattle.dcel_maps.specs.Removals.{Closed}
 use Rattle.dcel_maps.specs.Shapes.{AnchorsVertex, IsLive, IsMesh, Mesh, Shape, face_of, next_of, origin_of, vertex_anchor}
 use Rattle.dcel_maps.specs.Walking.{IsOutEdge, ccw_of, walk_of}
 use Rattle.dcel_predicates.specs.declared.point.Point.{Point}

@@ -1,20 +1,18 @@
 -- A vertex inside of triangles given up, and the hole filled: what is left.
-use Rattle.std.proofs.Common.{◌≡◌, ◌≢◌, inl, inr, ℕ, ◌+◌, ◌-◌, ◌/◌, ◌<◌, ◌≤◌, List, [], ◌∷◌, ◌++◌, length, map, reverse, slice_get, slice_index_or, Some, append_assoc, refl, sym, ap, ◌∙◌, subst, arith}
+use Rattle.std.proofs.Common.{◌≡◌, ◌≢◌, inl, inr, ℕ, ◌+◌, ◌/◌, ◌<◌, ◌≤◌, List, ◌++◌, length, reverse, slice_get, slice_index_or, Some, append_assoc, refl, sym, ap, ◌∙◌, subst, arith}
 use Rattle.std.proofs.lemmas.List.{length-map}
 use Rattle.std.proofs.lemmas.Bool.{cases_eq}
 use Rattle.std.specs.Option.{option_map}
 use Rattle.spade_dcel.specs.declared.operations.results.IsolateVertexResult.{IsolateVertexResult}
 use Rattle.spade_dcel.specs.Opened.{HasFilled}
-use Rattle.dcel_maps.specs.Borders.{IsBorderLoop}
 use Rattle.dcel_maps.specs.Conditions.{IsTriangle}
-use Rattle.dcel_maps.specs.edits.DefaultData.{AddsEdgesAndFaces}
 use Rattle.dcel_maps.specs.edits.Fill.{FillsHole, edges_at, faces_at, hole_filled}
 use Rattle.dcel_maps.specs.Removals.{IsListed, Removal, ascending, opened}
-use Rattle.dcel_maps.specs.Shapes.{IsLive, IsMesh, Mesh, Shape, face_count, face_is_live, face_of, map_of}
+use Rattle.dcel_maps.specs.Shapes.{IsLive, IsMesh, Mesh, face_count, face_of}
 use Rattle.dcel_maps.specs.Triangulations.{AllTriangles}
 use Rattle.dcel_maps.specs.Walking.{out_edges_of}
 use Rattle.dcel_maps.specs.Words.{count_of}
-use Rattle.dcel_maps.proofs.shapes.Maps.{face-live, map-sound}
+use Rattle.dcel_maps.proofs.shapes.Maps.{map-sound}
 use Rattle.dcel_maps.proofs.Triangulations.{ring_filled_in}
 use Rattle.dcel_maps.proofs.words.Ascending.{length-ascending}
 use Rattle.dcel_maps.proofs.words.Counts.{count-append}
@@ -22,10 +20,9 @@ use Rattle.dcel_predicates.specs.declared.point.Point.{Point}
 use Rattle.dcel_plane.specs.Edges.{edges_inserted}
 use Rattle.dcel_plane.specs.Plane.{IsPlane, ListsCircled, origin_point, point_at}
 use Rattle.dcel_covering.specs.Covering.{IsConvex, IsHull}
-use Rattle.dcel_hollows.specs.Wheels.{MakesTwo}
 use Rattle.dcel_hollows.proofs.Deleting.{four_plane, hole_convex, hole_hull, hole_lists, three_plane}
 use Rattle.dcel_hollows.proofs.Holes.{IsHole, half_of_triangle, hole_is, side_listed}
-use Rattle.dcel_delaunay.specs.Growing.{IsJoined, IsSound}
+use Rattle.dcel_delaunay.specs.Growing.{IsSound}
 use Rattle.dcel_delaunay.specs.Removing.{IsFilled, IsGivenUp, IsThin}
 
 -- the counts of Euler's formula, with k edges and k faces round the vertex

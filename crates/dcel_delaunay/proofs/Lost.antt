@@ -1,10 +1,10 @@
 -- A vertex removed: what a vertex inside has, and what is told of it from before edges were flipped to after.
-use Rattle.std.proofs.Common.{◌≡◌, ◌≢◌, ◌⊎◌, inl, inr, ℕ, ◌+◌, ◌-◌, ◌<◌, ◌==◌, cond, List, [], length, Option, Some, None, Result, Ok, Err, IfErr, IfOk, slice_index_or, refl, sym, ap, ◌∙◌, subst, eq-zero-or-pos, arith}
+use Rattle.std.proofs.Common.{◌≡◌, inl, inr, ℕ, ◌+◌, ◌-◌, ◌<◌, ◌==◌, cond, List, length, Option, Some, None, Result, Ok, Err, IfErr, IfOk, slice_index_or, sym, ap, ◌∙◌, subst, eq-zero-or-pos, arith}
 use Rattle.std.proofs.lemmas.Bool.{cases_lt}
 use Rattle.dcel_fixed.specs.HalfEdges.{rev}
-use Rattle.dcel_maps.specs.Conditions.{HasRoom, IsUnconnected}
+use Rattle.dcel_maps.specs.Conditions.{HasRoom}
 use Rattle.dcel_maps.specs.Renumbering.{moved}
-use Rattle.dcel_maps.specs.Shapes.{AnchorsVertex, IsMesh, Mesh, Shape, face_count, face_of, map_of, vertex_anchor}
+use Rattle.dcel_maps.specs.Shapes.{AnchorsVertex, IsMesh, Mesh, face_of, map_of, vertex_anchor}
 use Rattle.dcel_maps.specs.Walking.{IsOutEdge}
 use Rattle.dcel_maps.proofs.Liveness.{closed-vertex_live}
 use Rattle.dcel_maps.proofs.maps.Soundness.{rev_live}
@@ -13,8 +13,7 @@ use Rattle.dcel_predicates.specs.declared.point.Point.{Point}
 use Rattle.dcel_plane.specs.Plane.{origin_point, point_at}
 use Rattle.dcel_covering.proofs.Starts.{inner_half}
 use Rattle.dcel_delaunay.specs.Corners.{StartsOutside}
-use Rattle.dcel_delaunay.specs.Growing.{HasHull, IsSound, Keeps}
-use Rattle.dcel_delaunay.specs.Places.{HasPoint}
+use Rattle.dcel_delaunay.specs.Growing.{HasHull, IsSound}
 use Rattle.dcel_delaunay.specs.Removing.{HasNoneToTurn, IsAsItWas, IsInside, IsKept, IsRefused, IsThin, Loses, MayKeep}
 use Rattle.dcel_delaunay.specs.declared.errors.RemovalError.{RemovalError}
 use Rattle.dcel_delaunay.specs.declared.errors.RemovalError.TheVariants.{NoVertex, NotInside, OutOfMemory, TooManyPoints, Unfinished}

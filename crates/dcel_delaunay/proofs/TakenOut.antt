@@ -1,13 +1,13 @@
 -- What was given up taken out, and the vertex: the mesh lies in the plane with its hull, and each other vertex stands where it stood.
-use Rattle.std.proofs.Common.{◌≡◌, ◌≢◌, inr, ℕ, zero, suc, ◌+◌, ◌-◌, ◌<◌, ◌≤◌, ◌==◌, true, cond, List, [], ◌∷◌, length, map, reverse, Option, Some, None, slice_index_or, refl, sym, ap, ◌∙◌, subst, arith}
-use Rattle.std.proofs.lemmas.Bool.{false_from_ne_true, ne_eqb}
+use Rattle.std.proofs.Common.{◌≡◌, ◌≢◌, inr, ℕ, zero, suc, ◌+◌, ◌-◌, ◌<◌, ◌≤◌, ◌==◌, true, cond, List, [], ◌∷◌, length, map, Some, None, slice_index_or, refl, sym, ap, ◌∙◌, subst, arith}
+use Rattle.std.proofs.lemmas.Bool.{ne_eqb}
 use Rattle.std.proofs.lemmas.List.{length-reverse}
 use Rattle.spade_dcel.specs.declared.operations.results.IsolateVertexResult.{IsolateVertexResult}
-use Rattle.dcel_maps.specs.Removals.{Cleaned, Closed, Isolated, gives_up_vertex}
+use Rattle.dcel_maps.specs.Removals.{Cleaned, gives_up_vertex}
 use Rattle.dcel_maps.specs.Renumbered.{new_edge}
 use Rattle.dcel_maps.specs.Renumbering.{cleaned, cleaned_up, edges_down, faces_down, moved, vertex_taken_out}
-use Rattle.dcel_maps.specs.Shapes.{IsMesh, Mesh, Shape, face_count, vertex_is_live}
-use Rattle.dcel_maps.proofs.Liveness.{is_live-from, is_live-parts}
+use Rattle.dcel_maps.specs.Shapes.{IsMesh, Mesh, face_count, vertex_is_live}
+use Rattle.dcel_maps.proofs.Liveness.{is_live-from}
 use Rattle.dcel_maps.proofs.renumbering.Renumbered.{vertex_leaves_live}
 use Rattle.dcel_maps.proofs.Triangulations as triangulations
 use Rattle.dcel_predicates.specs.declared.point.Point.{Point}
@@ -16,7 +16,6 @@ use Rattle.dcel_covering.specs.Covering.{IsConvex, IsHull}
 use Rattle.dcel_hollows.proofs.Cleaned.{IsCleaned, cleaned_is}
 use Rattle.dcel_hollows.proofs.Renumbering.{cleanup_inner, cleanup_keeps, cleanup_lists, taken_out_keeps, taken_out_lists}
 use Rattle.dcel_delaunay.specs.Growing.{HasHull, IsJoined, IsSound}
-use Rattle.dcel_delaunay.specs.Places.{HasPoint}
 use Rattle.dcel_delaunay.specs.Removing.{IsGivenUp, Loses}
 use Rattle.dcel_delaunay.specs.declared.removed.Removed.{Removed}
 use Rattle.dcel_delaunay.proofs.Emptied.{StandsIn, at_points}

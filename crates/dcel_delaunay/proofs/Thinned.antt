@@ -1,11 +1,9 @@
 -- An edge of a vertex flipped between two triangles that turn left: what it keeps, and that the vertex has one edge less.
-use Rattle.std.proofs.Common.{◌≡◌, inl, inr, ℕ, ◌+◌, ◌*◌, ◌/◌, ◌<◌, Bool, true, IsTrue, ◌↔◌, List, [], ◌∷◌, ◌++◌, length, slice_set, refl, sym, ap, ◌∙◌, subst, arith}
+use Rattle.std.proofs.Common.{◌≡◌, inl, inr, ℕ, ◌+◌, ◌*◌, ◌/◌, ◌<◌, Bool, IsTrue, ◌↔◌, List, [], ◌∷◌, ◌++◌, length, slice_set, refl, sym, ap, ◌∙◌, subst, arith}
 use Rattle.std.proofs.lemmas.List.{length-set}
-use Rattle.dcel_fixed.specs.HalfEdges.{rev}
 use Rattle.dcel_fixed.proofs.Halves.{rev-double}
 use Rattle.dcel_maps.specs.Conditions.{CanFlip}
 use Rattle.dcel_maps.specs.edits.Flip.{edge_flipped}
-use Rattle.dcel_maps.specs.Removals.{Closed}
 use Rattle.dcel_maps.specs.Shapes.{IsMesh, Mesh, Shape, face_count, face_of, origin_of, prev_of}
 use Rattle.dcel_maps.specs.Sides.{IsOnHull}
 use Rattle.dcel_maps.specs.Walking.{IsOutEdge, ListsOnce, out_edges_of}

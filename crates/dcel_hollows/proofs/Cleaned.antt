@@ -1,5 +1,5 @@
 -- How much is left once a removal is cleaned up.
-use Rattle.std.proofs.Common.{◌≡◌, ℕ, suc, ◌-◌, ◌<◌, ◌≤◌, List, [], ◌∷◌, length, refl, ap, ◌∙◌, arith}
+use Rattle.std.proofs.Common.{◌≡◌, ℕ, suc, ◌-◌, ◌≤◌, List, [], ◌∷◌, length, refl, ap, ◌∙◌, arith}
 use Rattle.dcel_maps.specs.Renumbering.{cleaned_up, edge_taken_out, edges_down, edges_taken_out, face_taken_out, faces_down, faces_taken_out}
 use Rattle.dcel_maps.specs.Shapes.{IsMesh, Mesh, face_count}
 use Rattle.dcel_maps.specs.theory.Renumbering.{GoesDown}

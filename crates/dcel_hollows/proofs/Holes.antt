@@ -1,5 +1,5 @@
 -- What a hole that is filled leaves: counts, the vertices, and the new faces with their edges.
-use Rattle.std.proofs.Common.{◌≡◌, ℕ, ◌+◌, ◌-◌, ◌/◌, ◌<◌, ◌≤◌, true, List, [], ◌∷◌, length, reverse, unwrap_or, Option, Some, None, refl, sym, ap, ◌∙◌, subst, arith}
+use Rattle.std.proofs.Common.{◌≡◌, ℕ, ◌+◌, ◌/◌, ◌<◌, ◌≤◌, true, List, [], ◌∷◌, length, reverse, unwrap_or, Option, Some, None, refl, sym, ap, ◌∙◌, subst, arith}
 use Rattle.std.proofs.lemmas.Bool.{false_from_ne_true}
 use Rattle.std.proofs.lemmas.List.{length-reverse}
 use Rattle.dcel_predicates.specs.declared.point.Point.{Point}
@@ -7,7 +7,7 @@ use Rattle.dcel_maps.specs.Borders.{IsBorderLoop}
 use Rattle.dcel_maps.specs.Conditions.{IsTriangle}
 use Rattle.dcel_maps.specs.Cyclic.{from_least}
 use Rattle.dcel_maps.specs.edits.Fill.{edges_at, faces_at, hole_filled, loop_filled}
-use Rattle.dcel_maps.specs.Removals.{Closed, Removal, gives_up_face, opened}
+use Rattle.dcel_maps.specs.Removals.{Closed, gives_up_face, opened}
 use Rattle.dcel_maps.specs.Shapes.{AnchorsWord, IsLive, IsMesh, Mesh, Shape, adjacent_edge_of, face_anchor, face_count, face_is_live, face_of, map_of, next_of, prev_of}
 use Rattle.dcel_maps.specs.Words.{count_of, word_of}
 use Rattle.dcel_maps.proofs.Liveness.{is_live-from, is_live-parts}

@@ -1,5 +1,5 @@
 -- An edge whose two triangles stay is circled where it was.
-use Rattle.std.proofs.Common.{◌≡◌, inl, inr, ℕ, ◌+◌, ◌*◌, ◌/◌, ◌<◌, ◌≤◌, true, List, [], ◌++◌, length, sym, ap, ◌∙◌, subst, pos, ◌<ℤ◌, arith}
+use Rattle.std.proofs.Common.{◌≡◌, inl, inr, ℕ, ◌+◌, ◌*◌, ◌/◌, ◌<◌, ◌≤◌, true, List, ◌++◌, length, sym, ap, ◌∙◌, subst, pos, ◌<ℤ◌, arith}
 use Rattle.std.proofs.lemmas.Bool.{cases_lt}
 use Rattle.dcel_predicates.specs.declared.point.Point.{Point}
 use Rattle.dcel_predicates.specs.Determinants.{incircle_of}

@@ -10,7 +10,7 @@ use Rattle.dcel_maps.specs.Cyclic.{from_least}
 use Rattle.dcel_maps.specs.Removals.{Cleaned, gives_up_face}
 use Rattle.dcel_maps.specs.Renumbered.{LeavesLive, new_edge, new_face, new_half}
 use Rattle.dcel_maps.specs.Renumbering.{cleaned_up, edges_down, faces_down, half_of, moved, renumbered, vertex_taken_out}
-use Rattle.dcel_maps.specs.Shapes.{IsLive, IsMesh, Mesh, Shape, edge_is_live, end_of, face_count, face_is_live, face_of, map_of, next_of, origin_of, prev_of, vertex_is_live}
+use Rattle.dcel_maps.specs.Shapes.{IsLive, IsMesh, Mesh, Shape, edge_is_live, end_of, face_count, face_is_live, face_of, map_of, origin_of, prev_of, vertex_is_live}
 use Rattle.dcel_maps.specs.theory.Cycles.{IsCycle}
 use Rattle.dcel_maps.specs.theory.Standing.{Follows}
 use Rattle.dcel_maps.specs.Words.{count_of, word_of}

@@ -1,4 +1,4 @@
-use Rattle.std.proofs.Common.{◌≡◌, ◌+◌, ◌-◌, arith}
+use Rattle.std.proofs.Common.{arith}
 use Rattle.dcel_delaunay.proofs.Seeking.{last_none, last_some}
 use Rattle.dcel_delaunay.proofs.closing.outside_of_last.Goals as goal
 

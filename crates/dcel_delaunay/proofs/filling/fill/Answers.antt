@@ -1,6 +1,5 @@
 use Rattle.std.proofs.Common.{◌≡◌, ◌≢◌, ◌∙◌, ◌+◌, ap, arith, length, refl}
 use Rattle.std.proofs.lemmas.Bool.Decides.{nat_tests}
-use Rattle.dcel_maps.specs.Shapes.{face_count}
 use Rattle.dcel_delaunay.proofs.Emptied.{filled_first, filled_four, filled_second, filled_three}
 use Rattle.dcel_delaunay.proofs.filling.fill.Goals as goal
 

@@ -1,6 +1,5 @@
-use Rattle.std.proofs.Common.{◌≡◌, ◌<◌, ◌∙◌, ap, arith}
+use Rattle.std.proofs.Common.{ap, arith}
 use Rattle.dcel_maps.specs.Renumbering.{cleaned}
-use Rattle.dcel_delaunay.proofs.Growth.{keeps-trans}
 use Rattle.dcel_delaunay.proofs.Lost.{lost_before, more_vertices, room_still, thin_is}
 use Rattle.dcel_delaunay.proofs.TakenOut.{taken_hull, taken_loses, taken_sound}
 use Rattle.dcel_delaunay.proofs.removing.cut_out.Goals as goal

@@ -1,5 +1,4 @@
 use Rattle.std.proofs.Common.{◌∙◌, ap, inr}
-use Rattle.dcel_maps.specs.Shapes.{Mesh}
 use Rattle.dcel_delaunay.proofs.Renaming.{listed_fits, renamed_as}
 use Rattle.dcel_delaunay.proofs.taking_out.take_out.Goals as goal
 
