@@ -23,3 +23,10 @@ pub mod Telling
 pub mod Theorem
 pub mod Walking
 pub mod Whole
+pub mod Searching
+pub mod Thinned
+pub mod Emptied
+pub mod TakenOut
+pub mod Bordered
+pub mod Renaming
+pub mod Lost

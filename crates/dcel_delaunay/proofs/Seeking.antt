@@ -1,5 +1,5 @@
 -- The search of a vertex's out edges for one of the outer face.
-use Rattle.std.proofs.Common.{◌≡◌, ◌≢◌, inl, inr, ℕ, ◌<◌, List, [], ◌∷◌, sym, ap, subst, ◌∙◌, arith}
+use Rattle.std.proofs.Common.{◌≡◌, ◌≢◌, inl, inr, ℕ, ◌+◌, ◌<◌, Option, Some, None, IfSome, IfNone, List, [], ◌∷◌, sym, ap, subst, ◌∙◌, arith}
 use Rattle.dcel_maps.specs.Shapes.{Mesh, face_of}
 use Rattle.dcel_maps.specs.Walking.{IsOutEdge, in_mesh}
 use Rattle.dcel_maps.specs.Words.{count_of}
@@ -53,3 +53,14 @@ module _ {DE UE F : Type 0} where
         let there : 0 < count_of h [] =
         subst (λ (w : List ℕ). 0 < count_of h w) (none_left m seeking.left (sym none ∙ seeking.items_are)) (seeking.among h outside) in
         omega (arith, there)
+
+  -- the same of the last vertex
+  pub last_some : (r : Option ℕ) (m : Mesh Point DE UE F) (t : ℕ) → t + 1 ≡ m.shape.vertices → IfSome r (StartsOutside m t)
+      → IfSome r (λ h. (v : ℕ) × (v + 1 ≡ m.shape.vertices) × StartsOutside m v h)
+  last_some None m t last starts = tt
+  last_some (Some h) m t last starts = (t, last, starts)
+
+  pub last_none : (r : Option ℕ) (m : Mesh Point DE UE F) (t : ℕ) → t + 1 ≡ m.shape.vertices → IfNone r ((h : ℕ) → ¬ StartsOutside m t h)
+      → IfNone r ((v h : ℕ) → v + 1 ≡ m.shape.vertices → ¬ StartsOutside m v h)
+  last_none None m t last none = λ v h is outside. none h (subst (λ (k : ℕ). StartsOutside m k h) (let e : v ≡ t = omega (arith, is, last) in e) outside)
+  last_none (Some h) m t last starts = tt

@@ -2,4 +2,5 @@ pub mod Bulk
 pub mod Corners
 pub mod Growing
 pub mod Places
+pub mod Removing
 pub mod Triangulated

@@ -9,8 +9,10 @@ use Rattle.dcel_covering.specs.Delaunay.{HasCorners, IsCovered, LiesInHull}
 use Rattle.dcel_covering.specs.Places.{AreDisjoint, Place}
 use Rattle.dcel_delaunay.specs.Growing.{MayRefuse}
 use Rattle.dcel_delaunay.specs.Places.{HasPoint}
+use Rattle.dcel_delaunay.specs.Removing.{IsKept}
 use Rattle.dcel_delaunay.specs.declared.errors.InsertionError.{InsertionError}
 use Rattle.dcel_delaunay.specs.declared.errors.InsertionError.TheVariants.{Unfinished}
+use Rattle.dcel_delaunay.specs.declared.errors.RemovalError.{RemovalError}
 use Rattle.dcel_delaunay.specs.declared.triangulation.Triangulation.{Triangulation}
 
 module _ {DE UE F : Type 0} where
@@ -63,3 +65,7 @@ module _ {A : Type 0} where
   Stays old new p e =
       (MayRefuse (mesh_in new).shape e × ((mesh_in new).vertex_data ≡ (mesh_in old).vertex_data) × (IsWhole old → mesh_in new ≡ mesh_in old))
       ⊎ ((e ≡ Unfinished) × ((mesh_in new).vertex_data ≡ (mesh_in old).vertex_data ++ p ∷ []))
+
+  -- why the vertex v stands still, with all others; or it is gone, and not all is done that belongs to it
+  abbrev pub KeepsVertex : Triangulation A → Triangulation A → ℕ → RemovalError → Type 0
+  KeepsVertex old new = IsKept (IsWhole old) (mesh_in old) (mesh_in new)

@@ -1,6 +1,6 @@
 //! The hull closed round a vertex that was put beside one edge of it, until it is convex.
 
-ghost use Rattle.std.specs.Prelude.{◌≡◌, ◌≢◌, ◌⊎◌, ◌+◌, ◌↔◌, ℕ, [], IfErr, IfNone, IfOk, IfSome, IsTrue, OnOk};
+ghost use Rattle.std.specs.Prelude.{◌≡◌, ◌≢◌, ◌⊎◌, ◌+◌, ◌<◌, ◌↔◌, ℕ, [], IfErr, IfNone, IfOk, IfSome, IsTrue, OnOk};
 ghost use Rattle.spade_dcel.specs.Handles.{mesh_behind, number_of};
 ghost use Rattle.dcel_maps.specs.Shapes.{IsLive, IsMesh, end_of, face_of, origin_of};
 ghost use Rattle.dcel_delaunay.specs.Corners.{GoesOn, IsClosedAfter, IsClosedAt, IsClosedBefore, StartsOutside, TurnsIn};
@@ -47,9 +47,19 @@ fn outside_of_last<A: Allocator>(dcel: &Mesh<A>) -> Option<FixedDirectedEdgeHand
     if vertices == 0 {
         return None;
     }
-    let mut edges = dcel
-        .vertex(FixedVertexHandle::new(vertices - 1))
-        .out_edges();
+    outside_of(dcel, FixedVertexHandle::new(vertices - 1))
+}
+
+/// Returns an outer half edge that starts at a vertex, if there is one.
+pub(crate) fn outside_of<A: Allocator>(
+    dcel: &Mesh<A>,
+    vertex: FixedVertexHandle,
+) -> Option<FixedDirectedEdgeHandle>
+    requires { vertex < dcel.now.shape.vertices }
+    ensures some { IfSome result (StartsOutside dcel.now vertex) }
+    ensures none { IfNone result ((h : ℕ) → ¬ StartsOutside dcel.now vertex h) }
+{
+    let mut edges = dcel.vertex(vertex).out_edges();
     while let Some(edge) = edges.next() {
         if edge.is_outer_edge() {
             return Some(edge.fix());

@@ -1,7 +1,8 @@
-//! Why an insertion was refused.
+//! Why an insertion or a removal was refused.
 
 ghost use Rattle.std.specs.Prelude.{◌≡◌, ◌≤◌, ◌^◌, ◌↔◌, IfErr, IfOk, IsOk, unsigned_abs};
 
+use crate::removed::Removed;
 use dcel_predicates::Point;
 use std::alloc::AllocError;
 use thiserror::Error;
@@ -27,6 +28,32 @@ pub enum InsertionError {
     /// The next insertion goes on with that first.
     #[error("out of memory, with some edges not yet looked at")]
     Unfinished,
+}
+
+/// Why a vertex was not removed, or not all was done that belongs to it.
+///
+/// With any other error than `Unfinished` each vertex is as it was, and with any other than
+/// `OutOfMemory` and `Unfinished` so is the mesh of a whole triangulation.
+#[derive(Clone, Copy, PartialEq, Eq, Debug, Drop, Error)]
+pub enum RemovalError {
+    /// There is no vertex of this number.
+    #[error("there is no such vertex")]
+    NoVertex,
+    /// The vertex stands on the hull, or all vertices stand on one line.
+    #[error("the vertex does not lie inside of triangles")]
+    NotInside,
+    /// There are no numbers left for the edge and the triangles that take its place.
+    #[error("there are too many points")]
+    TooManyPoints,
+    /// There was no memory. The vertex stands; edges may have been flipped, and the next insertion or
+    /// removal makes the triangulation whole again first.
+    #[error("out of memory")]
+    OutOfMemory,
+    /// The vertex is gone, but there was no memory to make the triangulation whole again.
+    ///
+    /// The next insertion or removal goes on with that first.
+    #[error("out of memory, with some edges not yet looked at")]
+    Unfinished(Removed),
 }
 
 impl From<AllocError> for InsertionError {

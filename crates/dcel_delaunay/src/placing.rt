@@ -74,7 +74,7 @@ pub(crate) fn take_back<A: Allocator>(
 }
 
 /// Returns the edges of a triangle.
-fn edges_of<A: Allocator>(
+pub(crate) fn edges_of<A: Allocator>(
     dcel: &Mesh<A>,
     face: FixedFaceHandle<InnerTag>,
 ) -> [FixedUndirectedEdgeHandle; 3]

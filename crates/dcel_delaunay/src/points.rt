@@ -8,15 +8,18 @@ ghost use Rattle.dcel_maps.specs.Shapes.{face_count};
 ghost use Rattle.dcel_maps.specs.Triangulations.{AllTriangles};
 ghost use Rattle.dcel_plane.specs.Plane.{IsDelaunay, point_at};
 ghost use Rattle.dcel_delaunay.specs.Places.{IsPlace};
-ghost use Rattle.dcel_delaunay.specs.Triangulated.{CirclesAreEmpty, FacesAreApart, GoesRoundHull, HullIsCovered, IsWhole, PointsAreSingle, Stays, Takes, mesh_in};
+ghost use Rattle.dcel_delaunay.specs.Removing.{Loses};
+ghost use Rattle.dcel_delaunay.specs.Triangulated.{CirclesAreEmpty, FacesAreApart, GoesRoundHull, HullIsCovered, IsWhole, KeepsVertex, PointsAreSingle, Stays, Takes, mesh_in};
 
 use crate::closing::close_hull;
-use crate::errors::InsertionError;
+use crate::errors::{InsertionError, RemovalError};
 use crate::inserting::insert_at;
 use crate::legalizing::legalize;
 use crate::locating::locate;
 use crate::mesh::Mesh;
 use crate::position::PositionInTriangulation;
+use crate::removed::Removed;
+use crate::removing::{refusal, remove_inside};
 use crate::triangulation::Triangulation;
 use dcel_predicates::Point;
 use spade_dcel::handles::{FixedDirectedEdgeHandle, FixedVertexHandle};
@@ -148,5 +151,32 @@ impl<A: Allocator> Triangulation<A> {
                 self.last = edge.fix();
             }
         }
+    }
+}
+
+impl<A: Allocator + Clone> Triangulation<A> {
+    /// Removes a vertex that lies inside of triangles, and tells where it stood.
+    ///
+    /// The last vertex gets its number, which the result tells; all others keep theirs. The
+    /// triangulation is then one of the points that are left. A vertex of the hull is refused
+    /// ([`NotInside`](RemovalError::NotInside)), and so is each one while all points stand on one line.
+    ///
+    /// If memory runs out before the vertex is gone, it stays, and if it runs out afterwards, the
+    /// result is [`Unfinished`](RemovalError::Unfinished); then the next insertion or removal, or
+    /// [`finish`](Self::finish), goes on with what is left to do.
+    pub fn remove(&mut self, vertex: FixedVertexHandle) -> Result<Removed, RemovalError>
+        ensures removes { IfOk result (Loses (mesh_in self.old) (mesh_in self.new) vertex) }
+        ensures whole { OnOk result (IsWhole self.new) }
+        ensures refuses { IfErr result (KeepsVertex self.old self.new vertex) }
+    {
+        every_mesh(&self.dcel);
+        let Ok(()) = self.finish() else {
+            return Err(RemovalError::OutOfMemory);
+        };
+        every_mesh(&self.dcel);
+        if let Some(why) = refusal(&self.dcel, vertex) {
+            return Err(why);
+        }
+        remove_inside(&mut self.dcel, &mut self.due, vertex)
     }
 }

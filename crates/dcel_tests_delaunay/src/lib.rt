@@ -15,4 +15,6 @@ mod positions;
 #[cfg(test)]
 mod predicates;
 #[cfg(test)]
+mod removals;
+#[cfg(test)]
 mod triangulations;

@@ -33,7 +33,7 @@ const COUNTED: [Counted; 3] = [
 ];
 
 /// Returns the numbers of vertices, edges and inner faces.
-fn counts(triangulation: &Triangulation) -> [usize; 3] {
+pub fn counts(triangulation: &Triangulation) -> [usize; 3] {
     let mesh = triangulation.dcel();
     [
         mesh.num_vertices(),

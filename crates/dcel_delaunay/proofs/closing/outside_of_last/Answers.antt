@@ -1,23 +1,11 @@
-use Rattle.std.proofs.Common.{◌≡◌, ◌+◌, ◌-◌, ℕ, arith, subst}
-use Rattle.dcel_delaunay.specs.Corners.{StartsOutside}
-use Rattle.dcel_delaunay.proofs.Seeking.{seeking_continues, seeking_ends, sought}
+use Rattle.std.proofs.Common.{arith}
+use Rattle.dcel_delaunay.proofs.Seeking.{last_none, last_some}
 use Rattle.dcel_delaunay.proofs.closing.outside_of_last.Goals as goal
 
-pub returns-then-is_outer_edge-clause-some : goal.returns-then-is_outer_edge-clause-some
-returns-then-is_outer_edge-clause-some g c =
-    let m = c.args.dcel.now in
-    let last : m.shape.vertices - 1 + 1 ≡ m.shape.vertices = omega (arith, c.num_vertices-vertices.ensures.count) in
-    let came = seeking_continues m (m.shape.vertices - 1) _ _ _ _ c.loop-edge.invariant c.in-Some.ensures.steps.0 in
-    (m.shape.vertices - 1, last, sought m (m.shape.vertices - 1) _ _ _ came.0 came.1.starts (c.is_outer_edge.ensures.0 c.if-is_outer_edge.true) c.fix.ensures.value)
-
-pub loop-edge-preserved : goal.loop-edge-preserved
-loop-edge-preserved g c =
-    let m = c.args.dcel.now in
-    let came = seeking_continues m (m.shape.vertices - 1) _ _ _ _ c.loop-edge.invariant c.in-Some.ensures.steps.0 in
-    came.1.goes_on (λ outer. let yes = c.is_outer_edge.ensures.1 (rw came.0 outer) in let fails = c.if-is_outer_edge.false in cc)
+pub returns-clause-some : goal.returns-clause-some
+returns-clause-some g c =
+    last_some _ c.args.dcel.now c.new.result (omega (arith, c.new.ensures, c.num_vertices-vertices.ensures.count, c.if-vertices-eq0.false)) c.outside_of.ensures.some
 
 pub returns-clause-none : goal.returns-clause-none
-returns-clause-none g c = λ t h last outside.
-    let m = c.args.dcel.now in
-    let is : t ≡ m.shape.vertices - 1 = omega (arith, last) in
-    seeking_ends m (m.shape.vertices - 1) _ c.loop-edge.invariant c.in_default.ensures.steps.0.0 h (subst (λ (v : ℕ). StartsOutside m v h) is outside)
+returns-clause-none g c =
+    last_none _ c.args.dcel.now c.new.result (omega (arith, c.new.ensures, c.num_vertices-vertices.ensures.count, c.if-vertices-eq0.false)) c.outside_of.ensures.none

@@ -1,0 +1,137 @@
+-- A vertex removed: what a vertex inside has, and what is told of it from before edges were flipped to after.
+use Rattle.std.proofs.Common.{◌≡◌, inl, inr, ℕ, ◌+◌, ◌-◌, ◌<◌, ◌==◌, cond, List, length, Option, Some, None, Result, Ok, Err, IfErr, IfOk, slice_index_or, sym, ap, ◌∙◌, subst, eq-zero-or-pos, arith}
+use Rattle.std.proofs.lemmas.Bool.{cases_lt}
+use Rattle.dcel_fixed.specs.HalfEdges.{rev}
+use Rattle.dcel_maps.specs.Conditions.{HasRoom}
+use Rattle.dcel_maps.specs.Renumbering.{moved}
+use Rattle.dcel_maps.specs.Shapes.{AnchorsVertex, IsMesh, Mesh, face_of, map_of, vertex_anchor}
+use Rattle.dcel_maps.specs.Walking.{IsOutEdge}
+use Rattle.dcel_maps.proofs.Liveness.{closed-vertex_live}
+use Rattle.dcel_maps.proofs.maps.Soundness.{rev_live}
+use Rattle.dcel_maps.proofs.shapes.Maps.{map-sound}
+use Rattle.dcel_predicates.specs.declared.point.Point.{Point}
+use Rattle.dcel_plane.specs.Plane.{origin_point, point_at}
+use Rattle.dcel_covering.proofs.Starts.{inner_half}
+use Rattle.dcel_delaunay.specs.Corners.{StartsOutside}
+use Rattle.dcel_delaunay.specs.Growing.{HasHull, IsSound}
+use Rattle.dcel_delaunay.specs.Removing.{HasNoneToTurn, IsAsItWas, IsInside, IsKept, IsRefused, IsThin, Loses, MayKeep}
+use Rattle.dcel_delaunay.specs.declared.errors.RemovalError.{RemovalError}
+use Rattle.dcel_delaunay.specs.declared.errors.RemovalError.TheVariants.{NoVertex, NotInside, OutOfMemory, TooManyPoints, Unfinished}
+use Rattle.dcel_delaunay.specs.declared.removed.Removed.{Removed}
+use Rattle.dcel_delaunay.proofs.Counting.{joined_all}
+use Rattle.dcel_delaunay.proofs.Emptied.{StandsIn}
+
+module _ {DE UE F : Type 0} where
+  -- where a triangle is there are two vertices
+  pub more_vertices : (m : Mesh Point DE UE F) (due : List ℕ) → IsMesh m → IsSound m due → HasHull m → 1 < m.shape.vertices
+  more_vertices m due mesh sound has =
+      let (h, live, inner) = inner_half m mesh sound.closed has.inner in
+      let start = (map-sound mesh.sound).below_vertices h live in
+      let end = (map-sound mesh.sound).below_vertices (rev h) (rev_live (map_of m.shape) h live) in
+      elim (cases_lt 1 m.shape.vertices) [
+        | inl more ↦ more
+        | inr few ↦ absurd (mesh.sound.two_ends h live (omega (arith, start, end, few)))
+      ]
+
+  -- so each has an edge
+  some_edge : (m : Mesh Point DE UE F) (due : List ℕ) → IsMesh m → IsSound m due → HasHull m → (v : ℕ) → v < m.shape.vertices → (k : ℕ) × IsOutEdge m.shape v k
+  some_edge m due mesh sound has v below = by_anchor (vertex_anchor m v) (mesh.anchored.vertices v below)
+    where
+      by_anchor : (anchor : Option ℕ) → AnchorsVertex m.shape v anchor → (k : ℕ) × IsOutEdge m.shape v k
+      by_anchor (Some h) anchored = (h, record { live = anchored.0; start = anchored.1 })
+      by_anchor None bare = absurd
+          (joined_all m mesh sound.closed sound.joined v (more_vertices m due mesh sound has)
+          (record { live = closed-vertex_live m.shape sound.closed v below; bare = bare }))
+
+  pub thin_is : (m : Mesh Point DE UE F) (due : List ℕ) → IsMesh m → IsSound m due → HasHull m → (v : ℕ) → v < m.shape.vertices → IsInside m.shape v → HasNoneToTurn m v → IsThin m v
+  thin_is m due mesh sound has v below inside none = record {
+    below = below;
+    triangles = sound.triangles;
+    plane = sound.plane;
+    hull = has;
+    some = some_edge m due mesh sound has v below;
+    inside = inside;
+    none = none;
+  }
+
+  pub inside_from : (m : Mesh Point DE UE F) (v : ℕ) → ((h : ℕ) → ¬ StartsOutside m v h) → IsInside m.shape v
+  inside_from m v none k out = elim (eq-zero-or-pos (face_of m.shape k)) [
+    | inr more ↦ more
+    | inl outer ↦ absurd (none k (record { live = out.live; outer = outer; start = out.start }))
+  ]
+
+  -- as many vertices and edges have as many faces
+  pub room_still : (m n : Mesh Point DE UE F) (due list : List ℕ) → IsSound m due → IsSound n list → 0 < m.shape.vertices → n.shape.vertices ≡ m.shape.vertices
+      → n.shape.edges ≡ m.shape.edges → HasRoom m.shape 0 1 2 → HasRoom n.shape 0 1 2
+  room_still m n due list sound sound_n some vertices edges room =
+      let euler = sound.joined.euler some in
+      let euler_n = sound_n.joined.euler (omega (arith, some, vertices)) in
+      let for_vertices = room.for_vertices in
+      let for_edges = room.for_edges in
+      let for_faces = room.for_faces in
+      record {
+        for_vertices = omega (arith, for_vertices, vertices);
+        for_edges = omega (arith, for_edges, edges);
+        for_faces = omega (arith, for_faces, euler, euler_n, vertices, edges);
+      }
+
+  -- what is told of a mesh is told of another with the same vertices
+  pub lost_before : (m mid n : Mesh Point DE UE F) (v : ℕ) (r : Removed) → mid.vertex_data ≡ m.vertex_data → mid.shape.vertices ≡ m.shape.vertices → Loses mid n v r → Loses m n v r
+  lost_before m mid n v r points vertices loses = record {
+    within = (let w = loses.within in omega (arith, w, vertices));
+    vertices = loses.vertices ∙ vertices;
+    point = subst (λ (list : List Point). StandsIn list v r.point) points loses.point;
+    renamed = loses.renamed ∙ ap (λ k. cond (v == k - 1) None (Some (k - 1))) vertices;
+    others = λ w below other.
+        ap (λ k. point_at n (moved (k - 1) v w)) (sym vertices) ∙ loses.others w (omega (arith, below, vertices)) other
+        ∙ ap (λ (list : List Point). slice_index_or list w origin_point) points;
+  }
+
+  pub lost_after : (m mid n : Mesh Point DE UE F) (v : ℕ) (r : Removed) → n.vertex_data ≡ mid.vertex_data → n.shape.vertices ≡ mid.shape.vertices → Loses m mid v r → Loses m n v r
+  lost_after m mid n v r points vertices loses = record {
+    within = loses.within;
+    vertices = ap (λ k. k + 1) vertices ∙ loses.vertices;
+    point = loses.point;
+    renamed = loses.renamed;
+    others = λ w below other.
+        ap (λ (list : List Point). slice_index_or list (moved (m.shape.vertices - 1) v w) origin_point) points ∙ loses.others w below other;
+  }
+
+  pub same_count : (m n : Mesh Point DE UE F) → IsMesh m → IsMesh n → n.vertex_data ≡ m.vertex_data → n.shape.vertices ≡ m.shape.vertices
+  same_count m n mesh mesh_n points = sym mesh_n.sized.vertex_data ∙ ap length points ∙ mesh.sized.vertex_data
+
+module _ {DE UE F Whole : Type 0} (old mid new : Mesh Point DE UE F) (v : ℕ) (points : mid.vertex_data ≡ old.vertex_data) (vertices : mid.shape.vertices ≡ old.shape.vertices)
+    (same : Whole → mid ≡ old) where
+  as_it_was : new ≡ mid → IsAsItWas Whole old new
+  as_it_was is = (ap (λ (m : Mesh Point DE UE F). m.vertex_data) is ∙ points, λ whole. is ∙ same whole)
+
+  pub kept_from : (r : Result Removed RemovalError) → IfErr r (MayKeep mid new v) → IfErr r (IsKept Whole old new v)
+  kept_from (Ok removed) keeps = tt
+  kept_from (Err NoVertex) keeps = absurd keeps
+  kept_from (Err NotInside) keeps = absurd keeps
+  kept_from (Err TooManyPoints) keeps = (subst (λ (m : Mesh Point DE UE F). ¬ HasRoom m.shape 0 1 2) (sym keeps.1) keeps.0, as_it_was keeps.1)
+  kept_from (Err OutOfMemory) keeps = keeps.points ∙ points
+  kept_from (Err (Unfinished removed)) loses = lost_before old mid new v removed points vertices loses
+
+  pub lost_from : (r : Result Removed RemovalError) → IfOk r (Loses mid new v) → IfOk r (Loses old new v)
+  lost_from (Ok removed) loses = lost_before old mid new v removed points vertices loses
+  lost_from (Err e) loses = tt
+
+  -- a vertex that doesn't lie inside is kept
+  pub refused_from : (why : RemovalError) → new ≡ mid → IsRefused mid v why → IsKept Whole old new v why
+  refused_from NoVertex is refused = (subst (λ (m : Mesh Point DE UE F). IsRefused m v NoVertex) (sym is) refused, as_it_was is)
+  refused_from NotInside is refused = (subst (λ (m : Mesh Point DE UE F). IsRefused m v NotInside) (sym is) refused, as_it_was is)
+  refused_from TooManyPoints is refused = absurd refused
+  refused_from OutOfMemory is refused = absurd refused
+  refused_from (Unfinished removed) is refused = absurd refused
+
+-- what is told of the vertex that was cut out, once edges are flipped
+module _ {DE UE F : Type 0} (m mid n : Mesh Point DE UE F) (v : ℕ) (removed : Removed) (points : n.vertex_data ≡ mid.vertex_data) (vertices : n.shape.vertices ≡ mid.shape.vertices)
+    (loses : Loses m mid v removed) where
+  pub settled_loses : (r : Result Removed RemovalError) → IfOk r (λ x. x ≡ removed) → IfOk r (Loses m n v)
+  settled_loses (Ok x) is = subst (λ (y : Removed). Loses m n v y) (sym is) (lost_after m mid n v removed points vertices loses)
+  settled_loses (Err e) is = tt
+
+  pub settled_refused : (r : Result Removed RemovalError) → IfErr r (λ e. e ≡ Unfinished removed) → IfErr r (MayKeep m n v)
+  settled_refused (Ok x) is = tt
+  settled_refused (Err e) is = subst (λ (y : RemovalError). MayKeep m n v y) (sym is) (lost_after m mid n v removed points vertices loses)

@@ -1,0 +1,136 @@
+-- What was given up taken out, and the vertex: the mesh lies in the plane with its hull, and each other vertex stands where it stood.
+use Rattle.std.proofs.Common.{◌≡◌, ◌≢◌, inr, ℕ, zero, suc, ◌+◌, ◌-◌, ◌<◌, ◌≤◌, ◌==◌, true, cond, List, [], ◌∷◌, length, map, Some, None, slice_index_or, refl, sym, ap, ◌∙◌, subst, arith}
+use Rattle.std.proofs.lemmas.Bool.{ne_eqb}
+use Rattle.std.proofs.lemmas.List.{length-reverse}
+use Rattle.spade_dcel.specs.declared.operations.results.IsolateVertexResult.{IsolateVertexResult}
+use Rattle.dcel_maps.specs.Removals.{Cleaned, gives_up_vertex}
+use Rattle.dcel_maps.specs.Renumbered.{new_edge}
+use Rattle.dcel_maps.specs.Renumbering.{cleaned, cleaned_up, edges_down, faces_down, moved, vertex_taken_out}
+use Rattle.dcel_maps.specs.Shapes.{IsMesh, Mesh, face_count, vertex_is_live}
+use Rattle.dcel_maps.proofs.Liveness.{is_live-from}
+use Rattle.dcel_maps.proofs.renumbering.Renumbered.{vertex_leaves_live}
+use Rattle.dcel_maps.proofs.Triangulations as triangulations
+use Rattle.dcel_predicates.specs.declared.point.Point.{Point}
+use Rattle.dcel_plane.specs.Plane.{IsPlane, ListsCircled, origin_point, point_at}
+use Rattle.dcel_covering.specs.Covering.{IsConvex, IsHull}
+use Rattle.dcel_hollows.proofs.Cleaned.{IsCleaned, cleaned_is}
+use Rattle.dcel_hollows.proofs.Renumbering.{cleanup_inner, cleanup_keeps, cleanup_lists, taken_out_keeps, taken_out_lists}
+use Rattle.dcel_delaunay.specs.Growing.{HasHull, IsJoined, IsSound}
+use Rattle.dcel_delaunay.specs.Removing.{IsGivenUp, Loses}
+use Rattle.dcel_delaunay.specs.declared.removed.Removed.{Removed}
+use Rattle.dcel_delaunay.proofs.Emptied.{StandsIn, at_points}
+
+-- Euler's formula, with one vertex less
+euler_after : (v f e k j vn fn en : ℕ) → v + f + k ≡ e + j + 3 → 0 < v → k ≤ e → j ≤ f → vn ≡ v - 1 → fn ≡ f - j → en ≡ e - k → vn + fn ≡ en + 2
+euler_after v f e k j vn fn en euler some few_edges few_faces vertices faces edges = omega (arith, euler, some, few_edges, few_faces, vertices, faces, edges)
+
+module _ {DE UE F A : Type 0} (old mid : Mesh Point DE UE F) (v : ℕ) (due : List ℕ) (out : IsolateVertexResult A) (given : IsGivenUp old mid v due out) (below : v < old.shape.vertices)
+    (many : 1 < old.shape.vertices) (clean : IsMesh (cleaned_up mid)) (done : IsMesh (vertex_taken_out (cleaned_up mid) v)) where
+  abbrev c : Mesh Point DE UE F
+  c = cleaned_up mid
+
+  abbrev n : Mesh Point DE UE F
+  n = vertex_taken_out (cleaned_up mid) v
+
+  pub clean_record : (cleaned_up mid).shape.removal ≡ Cleaned v
+  clean_record = ap cleaned given.removal
+
+  left : IsCleaned mid (cleaned_up mid)
+  left = cleaned_is mid given.mesh
+
+  long_edges : length (edges_down mid.shape.removal) ≡ length given.edges
+  long_edges = ap (λ r. length (edges_down r)) given.removal ∙ length-reverse given.edges
+
+  long_faces : length (faces_down mid.shape.removal) ≡ length given.faces
+  long_faces = ap (λ r. length (faces_down r)) given.removal ∙ length-reverse given.faces
+
+  vertices_are : c.shape.vertices ≡ old.shape.vertices
+  vertices_are = left.vertices ∙ given.vertices
+
+  points_are : c.vertex_data ≡ old.vertex_data
+  points_are = left.points ∙ given.points
+
+  -- each vertex that is left stands where it did
+  stands : (w : ℕ) → vertex_is_live c.shape w ≡ true → point_at n (moved (c.shape.vertices - 1) v w) ≡ point_at c w
+  stands w live = (vertex_leaves_live c clean v clean_record).vertex_datum w origin_point live
+
+  removed_joined : IsJoined n.shape
+  removed_joined = record {
+    euler = λ some.
+        (let few_edges = left.few_edges in
+        let few_faces = left.few_faces in
+        let is_edges = long_edges in
+        let is_faces = long_faces in
+        let is_vertices = vertices_are in
+        let edges_left = left.edges in
+        let faces_left = left.faces in
+        euler_after old.shape.vertices (face_count mid.shape) mid.shape.edges (length given.edges) (length given.faces) n.shape.vertices (face_count n.shape) n.shape.edges given.euler
+        (omega (arith, below)) (omega (arith, few_edges, is_edges)) (omega (arith, few_faces, is_faces)) (omega (arith, is_vertices)) (omega (arith, faces_left, is_faces))
+        (omega (arith, edges_left, is_edges)));
+    empty = λ none. absurd (let is_vertices = vertices_are in omega (arith, none, is_vertices, many));
+  }
+
+  pub removed_sound : IsSound (vertex_taken_out (cleaned_up mid) v) (map (new_edge mid.shape) due)
+  removed_sound = record {
+    closed = refl;
+    joined = removed_joined;
+    triangles = triangulations.vertex_gone c (triangulations.cleaned mid given.triangles given.mesh) v (inr clean_record);
+    plane = (taken_out_keeps c clean (point_at c) (point_at n) v clean_record done stands).0 (at_points (λ at. IsPlane at c.shape) mid c left.points
+        ((cleanup_keeps mid given.mesh (point_at mid) clean).0 given.plane));
+    listed =
+        taken_out_lists c clean (point_at c) (point_at n) v clean_record done stands (map (new_edge mid.shape) due)
+        (at_points (λ at. ListsCircled at c.shape (map (new_edge mid.shape) due)) mid c left.points (cleanup_lists mid given.mesh (point_at mid) clean due given.listed));
+  }
+
+  pub removed_hull : HasHull (vertex_taken_out (cleaned_up mid) v)
+  removed_hull =
+      let (h, live, inner) = given.some in record {
+        inner = cleanup_inner mid given.mesh clean h live inner;
+        convex = (taken_out_keeps c clean (point_at c) (point_at n) v clean_record done stands).1
+            (at_points (λ at. IsConvex at c.shape) mid c left.points ((cleanup_keeps mid given.mesh (point_at mid) clean).1 given.convex));
+        hull = (taken_out_keeps c clean (point_at c) (point_at n) v clean_record done stands).2
+            (at_points (λ at. IsHull at c.shape) mid c left.points ((cleanup_keeps mid given.mesh (point_at mid) clean).2 given.hull));
+      }
+
+  other_live : (w : ℕ) → w < old.shape.vertices → w ≢ v → vertex_is_live c.shape w ≡ true
+  unfolding gives_up_vertex
+  other_live w within other =
+      let is_vertices = vertices_are in
+      is_live-from (gives_up_vertex c.shape.removal) c.shape.vertices w (omega (arith, within, is_vertices))
+      (ap (λ r. gives_up_vertex r w) clean_record ∙ ne_eqb v w (λ is. other (sym is)))
+
+  pub removed_loses : (r : Removed) → r.point ≡ slice_index_or (cleaned_up mid).vertex_data v r.point
+      → r.moved ≡ cond (v == (cleaned_up mid).shape.vertices - 1) None (Some ((cleaned_up mid).shape.vertices - 1)) → Loses old (vertex_taken_out (cleaned_up mid) v) v r
+  removed_loses r point renamed = record {
+    within = below;
+    vertices = (let is = vertices_are in omega (arith, is, below));
+    point = has_point old.vertex_data v r.point (point ∙ ap (λ (points : List Point). slice_index_or points v r.point) points_are)
+        (let sized = given.mesh.sized.vertex_data in let same = given.points in let count = given.vertices in omega (arith, below, ap length same, sized, count));
+    renamed = renamed ∙ ap (λ k. cond (v == k - 1) None (Some (k - 1))) vertices_are;
+    others = λ w within other.
+        ap (λ k. point_at n (moved (k - 1) v w)) (sym vertices_are) ∙ stands w (other_live w within other)
+        ∙ ap (λ (points : List Point). slice_index_or points w origin_point) points_are;
+  }
+    where
+      has_point : (points : List Point) (w : ℕ) (p : Point) → p ≡ slice_index_or points w p → w < length points → StandsIn points w p
+      has_point [] w p is within = absurd (omega (arith, within))
+      has_point (q ∷ points) zero p is within = (ap (λ (k : Point). Some k.x) (sym is), ap (λ (k : Point). Some k.y) (sym is))
+      has_point (q ∷ points) (suc w) p is within = has_point points w p is (omega (arith, within))
+
+module _ {DE UE F A : Type 0} (old mid new : Mesh Point DE UE F) (v : ℕ) (due items : List ℕ) (out : IsolateVertexResult A) (given : IsGivenUp old mid v due out)
+    (below : v < old.shape.vertices) (many : 1 < old.shape.vertices) (clean : IsMesh (cleaned_up mid)) (after : IsMesh new) (is : new ≡ vertex_taken_out (cleaned_up mid) v)
+    (renamed : items ≡ map (new_edge mid.shape) due) where
+  done : IsMesh (vertex_taken_out (cleaned_up mid) v)
+  done = subst (λ (k : Mesh Point DE UE F). IsMesh k) is after
+
+  pub taken_sound : IsSound new items
+  taken_sound =
+      subst (λ (list : List ℕ). IsSound new list) (sym renamed)
+      (subst (λ (k : Mesh Point DE UE F). IsSound k (map (new_edge mid.shape) due)) (sym is) (removed_sound old mid v due out given below many clean done))
+
+  pub taken_hull : HasHull new
+  taken_hull = subst (λ (k : Mesh Point DE UE F). HasHull k) (sym is) (removed_hull old mid v due out given below many clean done)
+
+  pub taken_loses : (r : Removed) → r.point ≡ slice_index_or (cleaned_up mid).vertex_data v r.point
+      → r.moved ≡ cond (v == (cleaned_up mid).shape.vertices - 1) None (Some ((cleaned_up mid).shape.vertices - 1)) → Loses old new v r
+  taken_loses r point moves = subst (λ (k : Mesh Point DE UE F). Loses old k v r) (sym is) (removed_loses old mid v due out given below many clean done r point moves)

@@ -1,0 +1,146 @@
+-- An edge of a vertex flipped between two triangles that turn left: what it keeps, and that the vertex has one edge less.
+use Rattle.std.proofs.Common.{◌≡◌, inl, inr, ℕ, ◌+◌, ◌*◌, ◌/◌, ◌<◌, Bool, IsTrue, ◌↔◌, List, [], ◌∷◌, ◌++◌, length, slice_set, refl, sym, ap, ◌∙◌, subst, arith}
+use Rattle.std.proofs.lemmas.List.{length-set}
+use Rattle.dcel_fixed.proofs.Halves.{rev-double}
+use Rattle.dcel_maps.specs.Conditions.{CanFlip}
+use Rattle.dcel_maps.specs.edits.Flip.{edge_flipped}
+use Rattle.dcel_maps.specs.Shapes.{IsMesh, Mesh, Shape, face_count, face_of, origin_of, prev_of}
+use Rattle.dcel_maps.specs.Sides.{IsOnHull}
+use Rattle.dcel_maps.specs.Walking.{IsOutEdge, ListsOnce, out_edges_of}
+use Rattle.dcel_maps.specs.Words.{count_of}
+use Rattle.dcel_maps.proofs.edits.Flips.{flipped_mesh}
+use Rattle.dcel_maps.proofs.Triangulations.{flipped}
+use Rattle.dcel_maps.proofs.walks.Turning.{mesh-out_edges}
+use Rattle.dcel_maps.proofs.words.Counts.{count-append}
+use Rattle.dcel_predicates.specs.declared.point.Point.{Point}
+use Rattle.dcel_legalize.specs.Flipping.{sides_beside}
+use Rattle.dcel_circles.proofs.Circled.{inner_from}
+use Rattle.dcel_plane.specs.Plane.{TurnsLeft, point_at}
+use Rattle.dcel_plane.proofs.Flipped.{flip_lists}
+use Rattle.dcel_hulls.proofs.Keeping.{flip_keeps_convex, flip_keeps_hull}
+use Rattle.dcel_hollows.specs.Wheels.{CanTurn}
+use Rattle.dcel_hollows.proofs.Fewer.{flip_keeps_inner, flip_takes_one}
+use Rattle.dcel_hollows.proofs.Turnable.{turn_keeps_plane}
+use Rattle.dcel_delaunay.specs.Growing.{HasHull, IsSound, Keeps}
+use Rattle.dcel_delaunay.specs.Removing.{IsInside, IsTurnable}
+use Rattle.dcel_delaunay.proofs.Counting.{flipped_joined}
+use Rattle.dcel_delaunay.proofs.Growth.{flipped-keeps, keeps-trans}
+
+-- what can be flipped so lies between two inner triangles
+pub hull_stays : (at : ℕ → Point) (s : Shape) (u : ℕ) → IsOnHull s (2 * u) → ¬ CanTurn at s u
+hull_stays at s u (inl outer) turn = (let inside = turn.inner in omega (arith, outer, inside))
+hull_stays at s u (inr outer) turn =
+    let is : face_of s (2 * u + 1) ≡ 0 = ap (face_of s) (sym (rev-double u)) ∙ outer in
+    let inside = turn.inner_facing in
+    omega (arith, is, inside)
+
+pub can_turn_from : (at : ℕ → Point) (s : Shape) (u : ℕ) → CanFlip s u → ¬ IsOnHull s (2 * u)
+    → TurnsLeft (at (origin_of s (prev_of s (2 * u)))) (at (origin_of s (prev_of s (2 * u + 1)))) (at (origin_of s (2 * u + 1)))
+    → TurnsLeft (at (origin_of s (prev_of s (2 * u + 1)))) (at (origin_of s (prev_of s (2 * u)))) (at (origin_of s (2 * u))) → CanTurn at s u
+can_turn_from at s u can off first second =
+    let inner = inner_from s u can off in
+    record { can = can; inner = inner.inner; inner_facing = inner.inner_facing; first = first; second = second }
+
+-- the hull test of a half edge that is read from an edge
+pub hull_as : {DE UE F : Type 0} (b : Bool) (m lent half : Mesh Point DE UE F) (u v h : ℕ) → lent ≡ m → v ≡ u → half ≡ lent → h ≡ 2 * v → IsTrue b ↔ IsOnHull half.shape h
+    → IsTrue b ↔ IsOnHull m.shape (2 * u)
+hull_as {DE} {UE} {F} b m lent half u v h mesh number mesh_half number_half told =
+    subst (λ (k : Mesh Point DE UE F). IsTrue b ↔ IsOnHull k.shape (2 * u)) (mesh_half ∙ mesh)
+    (subst (λ (k : ℕ). IsTrue b ↔ IsOnHull half.shape k) (number_half ∙ ap (λ (k : ℕ). 2 * k) number) told)
+
+-- three points by other names
+pub left_as : (b : Bool) {p q r p' q' r' : Point} → p ≡ p' → q ≡ q' → r ≡ r' → IsTrue b ↔ TurnsLeft p q r → IsTrue b ↔ TurnsLeft p' q' r'
+left_as b {p} {q} {r} {p'} {q'} {r'} ep eq er told =
+    subst (λ (k : Point). IsTrue b ↔ TurnsLeft p' q' k) er (subst (λ (k : Point). IsTrue b ↔ TurnsLeft p' k r) eq (subst (λ (k : Point). IsTrue b ↔ TurnsLeft k q r) ep told))
+
+module _ {DE UE F : Type 0} where
+  module _ (m : Mesh Point DE UE F) (mesh : IsMesh m) (e : ℕ) (turn : CanTurn (point_at m) m.shape (e / 2)) where
+    abbrev n : Mesh Point DE UE F
+    n = edge_flipped m (e / 2)
+
+    half_sound : (due : List ℕ) → IsSound m due → IsSound n ((due ++ (e / 2) ∷ []) ++ sides_beside m.shape (e / 2))
+    half_sound due sound = record {
+      closed = sound.closed;
+      joined = flipped_joined m (e / 2) sound.joined;
+      triangles = flipped m sound.triangles (e / 2);
+      plane = turn_keeps_plane m mesh (point_at m) (e / 2) turn sound.plane;
+      listed = λ u inner circled.
+          (let sides = sides_beside m.shape (e / 2) in
+          let own = (e / 2) ∷ [] in
+          let found : 0 < count_of u (due ++ (sides ++ own)) = flip_lists m mesh (e / 2) turn.can (point_at m) due sound.listed u inner circled in
+          let whole = count-append u due (sides ++ own) in
+          let parts = count-append u sides own in
+          let wanted = count-append u (due ++ own) sides in
+          let first = count-append u due own in
+          omega (arith, found, whole, parts, wanted, first));
+    }
+
+    half_hull : HasHull m → HasHull n
+    half_hull has =
+        let words = m.shape.words in
+        let faces : face_count n.shape ≡ face_count m.shape = length-set (slice_set words _ _) _ _ ∙ length-set words _ _ in
+        let more = has.inner in
+        record {
+          inner = omega (arith, faces, more);
+          convex = flip_keeps_convex m mesh (e / 2) turn.can (point_at m) turn.inner turn.inner_facing has.convex;
+          hull = flip_keeps_hull m mesh (e / 2) turn.can (point_at m) turn.inner turn.inner_facing has.hull;
+        }
+
+    half_inside : (v : ℕ) → IsInside m.shape v → IsInside n.shape v
+    half_inside v inside k out =
+        flip_keeps_inner m mesh (point_at m) e turn.can turn.inner turn.inner_facing v (λ i live from. inside i (record { live = live; start = from })) k out.live out.start
+
+    half_less : (v : ℕ) → v < m.shape.vertices → origin_of m.shape e ≡ v → length (out_edges_of n v) < length (out_edges_of m v)
+    half_less v below from =
+        let first : ListsOnce (IsOutEdge m.shape (origin_of m.shape e)) (out_edges_of m v) =
+        subst (λ (k : ℕ). ListsOnce (IsOutEdge m.shape k) (out_edges_of m v)) (sym from) (mesh-out_edges mesh v below) in
+        let second : ListsOnce (IsOutEdge n.shape (origin_of m.shape e)) (out_edges_of n v) =
+        subst (λ (k : ℕ). ListsOnce (IsOutEdge n.shape k) (out_edges_of n v)) (sym from) (mesh-out_edges (flipped_mesh m (e / 2) mesh turn.can) v below) in
+        let less = flip_takes_one m mesh (point_at m) e turn.can (out_edges_of m v) (out_edges_of n v) first second in
+        omega (arith, less)
+
+  -- what holds once the edge of a vertex is flipped
+  pub record IsThinned (m : Mesh Point DE UE F) (due : List ℕ) (v : ℕ) (n : Mesh Point DE UE F) (rest : List ℕ) : Type 0 where
+    pub mesh : IsMesh n
+    pub below : v < n.shape.vertices
+    pub keeps : Keeps m n
+    pub edges : n.shape.edges ≡ m.shape.edges
+    pub sound : IsSound n rest
+    pub hull : HasHull n
+    pub inside : IsInside m.shape v → IsInside n.shape v
+
+  pub thin_begins : (m : Mesh Point DE UE F) (due : List ℕ) (v : ℕ) → IsMesh m → IsSound m due → HasHull m → v < m.shape.vertices → IsThinned m due v m due
+  thin_begins m due v mesh sound has below = record {
+    mesh = mesh;
+    below = below;
+    keeps = record { closed = sound.closed; vertices = refl; points = refl; edges = omega arith };
+    edges = refl;
+    sound = sound;
+    hull = has;
+    inside = λ is. is;
+  }
+
+  module _ (m : Mesh Point DE UE F) (due : List ℕ) (v : ℕ) (n : Mesh Point DE UE F) (rest : List ℕ) (way : IsThinned m due v n rest) where
+    at_half : (e : ℕ) → CanTurn (point_at n) n.shape (e / 2) → IsThinned m due v (edge_flipped n (e / 2)) ((rest ++ (e / 2) ∷ []) ++ sides_beside n.shape (e / 2))
+    at_half e turn = record {
+      mesh = flipped_mesh n (e / 2) way.mesh turn.can;
+      below = way.below;
+      keeps = keeps-trans m n (edge_flipped n (e / 2)) way.keeps (flipped-keeps n way.sound.closed (e / 2));
+      edges = way.edges;
+      sound = half_sound n way.mesh e turn rest way.sound;
+      hull = half_hull n way.mesh e turn way.hull;
+      inside = λ inside. half_inside n way.mesh e turn v (way.inside inside);
+    }
+
+    module _ (u : ℕ) (turn : IsTurnable n v u) where
+      pub thins : IsThinned m due v (edge_flipped n u) ((rest ++ u ∷ []) ++ sides_beside n.shape u)
+      thins =
+          let can = subst (λ (k : ℕ). CanTurn (point_at n) n.shape k) (sym turn.is) turn.can in
+          subst (λ (k : ℕ). IsThinned m due v (edge_flipped n k) ((rest ++ k ∷ []) ++ sides_beside n.shape k)) turn.is (at_half turn.half can)
+
+      pub one_less : (after : Mesh Point DE UE F) → after ≡ edge_flipped n u → length (out_edges_of after v) < length (out_edges_of n v)
+      one_less after is =
+          let can = subst (λ (k : ℕ). CanTurn (point_at n) n.shape k) (sym turn.is) turn.can in
+          subst (λ (k : Mesh Point DE UE F). length (out_edges_of k v) < length (out_edges_of n v)) (sym is)
+          (subst (λ (k : ℕ). length (out_edges_of (edge_flipped n k) v) < length (out_edges_of n v)) turn.is
+          (half_less n way.mesh turn.half can v way.below turn.out.start))

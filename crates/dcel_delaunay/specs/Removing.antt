@@ -1,0 +1,116 @@
+-- A vertex taken out: what its edges are before, and what is left.
+use Rattle.std.specs.Prelude.{◌≡◌, ◌≢◌, ◌⊎◌, ℕ, ◌<◌, ◌+◌, ◌-◌, ◌/◌, ◌==◌, List, length, None, Some, cond}
+use Rattle.spade_dcel.specs.declared.operations.results.IsolateVertexResult.{IsolateVertexResult}
+use Rattle.dcel_maps.specs.Borders.{IsBorderLoop}
+use Rattle.dcel_maps.specs.Conditions.{HasRoom}
+use Rattle.dcel_maps.specs.Removals.{IsListed, Isolated}
+use Rattle.dcel_maps.specs.Renumbering.{moved}
+use Rattle.dcel_maps.specs.Shapes.{IsMesh, Mesh, Shape, IsLive, face_count, face_of}
+use Rattle.dcel_maps.specs.Triangulations.{AllTriangles}
+use Rattle.dcel_maps.specs.Walking.{IsOutEdge}
+use Rattle.dcel_predicates.specs.declared.point.Point.{Point}
+use Rattle.dcel_plane.specs.Plane.{IsPlane, ListsCircled, point_at}
+use Rattle.dcel_covering.specs.Covering.{IsConvex, IsHull}
+use Rattle.dcel_hollows.specs.Wheels.{CanTurn, MakesTwo}
+use Rattle.dcel_delaunay.specs.Corners.{StartsOutside}
+use Rattle.dcel_delaunay.specs.Growing.{HasHull, Keeps}
+use Rattle.dcel_delaunay.specs.Places.{HasPoint}
+use Rattle.dcel_delaunay.specs.declared.errors.RemovalError.{RemovalError}
+use Rattle.dcel_delaunay.specs.declared.errors.RemovalError.TheVariants.{NoVertex, NotInside, OutOfMemory, TooManyPoints, Unfinished}
+use Rattle.dcel_delaunay.specs.declared.removed.Removed.{Removed}
+
+-- no out edge of the vertex v lies on the outer face
+abbrev pub IsInside : Shape → ℕ → Type 0
+IsInside s v = (k : ℕ) → IsOutEdge s v k → 0 < face_of s k
+
+module _ {DE UE F : Type 0} where
+  -- the edge u of the vertex v can be flipped between two triangles that turn left
+  pub record IsTurnable (m : Mesh Point DE UE F) (v u : ℕ) : Type 0 where
+    pub half : ℕ
+    pub out : IsOutEdge m.shape v half
+    pub is : half / 2 ≡ u
+    pub can : CanTurn (point_at m) m.shape u
+
+  -- no edge of v can
+  abbrev pub HasNoneToTurn : Mesh Point DE UE F → ℕ → Type 0
+  HasNoneToTurn m v = (h : ℕ) → IsOutEdge m.shape v h → ¬ CanTurn (point_at m) m.shape (h / 2)
+
+  -- v lies inside of triangles, and none of its edges can be flipped so
+  pub record IsThin (m : Mesh Point DE UE F) (v : ℕ) : Type 0 where
+    pub below : v < m.shape.vertices
+    pub triangles : AllTriangles m.shape
+    pub plane : IsPlane (point_at m) m.shape
+    pub hull : HasHull m
+    pub some : (k : ℕ) × IsOutEdge m.shape v k
+    pub inside : IsInside m.shape v
+    pub none : HasNoneToTurn m v
+
+  -- from the out edge h of v on, the ends of four edges make two triangles, if they do so from any
+  pub record BeginsBorder (m : Mesh Point DE UE F) (v h : ℕ) : Type 0 where
+    pub out : IsOutEdge m.shape v h
+    pub two : MakesTwo (point_at m) m.shape h ⊎ ((k : ℕ) → IsOutEdge m.shape v k → ¬ MakesTwo (point_at m) m.shape k)
+
+  -- the border loop of v, which makes these triangles
+  pub record IsFilled (m : Mesh Point DE UE F) (v : ℕ) (border : List ℕ) : Type 0 where
+    pub round : IsBorderLoop m.shape border v
+    pub triangles : (length border ≡ 3) ⊎ ((length border ≡ 4) × MakesTwo (point_at m) m.shape round.first)
+
+  -- v is given up, with edges and faces of the numbers that Euler's formula wants, and what is left lies in the plane with its hull
+  pub record IsGivenUp {A : Type 0} (old new : Mesh Point DE UE F) (v : ℕ) (due : List ℕ) (opened : IsolateVertexResult A) : Type 0 where
+    pub mesh : IsMesh new
+    pub vertices : new.shape.vertices ≡ old.shape.vertices
+    pub points : new.vertex_data ≡ old.vertex_data
+    pub edges : List ℕ
+    pub faces : List ℕ
+    pub removal : new.shape.removal ≡ Isolated edges faces (Some v)
+    pub named : IsListed new.shape.removal opened.edges_to_remove.items opened.faces_to_remove.items
+    pub euler : old.shape.vertices + face_count new.shape + length edges ≡ new.shape.edges + length faces + 3
+    pub triangles : AllTriangles new.shape
+    pub plane : IsPlane (point_at new) new.shape
+    pub listed : ListsCircled (point_at new) new.shape due
+    pub some : (h : ℕ) × IsLive new.shape h × (0 < face_of new.shape h)
+    pub convex : IsConvex (point_at new) new.shape
+    pub hull : IsHull (point_at new) new.shape
+
+  -- the vertex v is gone, the last one has its number, and each other one stands where it stood
+  pub record Loses (old new : Mesh Point DE UE F) (v : ℕ) (removed : Removed) : Type 0 where
+    pub within : v < old.shape.vertices
+    pub vertices : new.shape.vertices + 1 ≡ old.shape.vertices
+    pub point : HasPoint old removed.point v
+    pub renamed : removed.moved ≡ cond (v == old.shape.vertices - 1) None (Some (old.shape.vertices - 1))
+    pub others : (w : ℕ) → w < old.shape.vertices → w ≢ v → point_at new (moved (old.shape.vertices - 1) v w) ≡ point_at old w
+
+  -- a vertex inside may stay: there are too many points only if no numbers are left for what fills its place, and without memory edges may have
+  -- been flipped, but no vertex is gone
+  abbrev pub MayKeep : Mesh Point DE UE F → Mesh Point DE UE F → ℕ → RemovalError → Type 0
+  MayKeep old new v NoVertex = ⊥
+  MayKeep old new v NotInside = ⊥
+  MayKeep old new v TooManyPoints = ¬ HasRoom old.shape 0 1 2 × (new ≡ old)
+  MayKeep old new v OutOfMemory = Keeps old new
+  MayKeep old new v (Unfinished removed) = Loses old new v removed
+
+  -- why a vertex isn't removed, whatever memory there is: there is none, or it stands on the hull, or all stand on one line
+  abbrev pub IsRefused : Mesh Point DE UE F → ℕ → RemovalError → Type 0
+  IsRefused m v NoVertex = ¬ (v < m.shape.vertices)
+  IsRefused m v NotInside = (face_count m.shape ≡ 1) ⊎ ((h : ℕ) × StartsOutside m v h)
+  IsRefused m v TooManyPoints = ⊥
+  IsRefused m v OutOfMemory = ⊥
+  IsRefused m v (Unfinished removed) = ⊥
+
+  -- none of these is so
+  pub record LiesInside (m : Mesh Point DE UE F) (v : ℕ) : Type 0 where
+    pub within : v < m.shape.vertices
+    pub inner : face_count m.shape ≢ 1
+    pub none_outside : (h : ℕ) → ¬ StartsOutside m v h
+
+  -- the vertices are as they were, and so is the mesh of a whole triangulation
+  abbrev pub IsAsItWas : Type 0 → Mesh Point DE UE F → Mesh Point DE UE F → Type 0
+  IsAsItWas Whole old new = (new.vertex_data ≡ old.vertex_data) × (Whole → new ≡ old)
+
+  -- why the vertex v stands still, with all others; or it is gone, and not all is done that belongs to it
+  abbrev pub IsKept : Type 0 → Mesh Point DE UE F → Mesh Point DE UE F → ℕ → RemovalError → Type 0
+  IsKept Whole old new v NoVertex = IsRefused new v NoVertex × IsAsItWas Whole old new
+  IsKept Whole old new v NotInside = IsRefused new v NotInside × IsAsItWas Whole old new
+  IsKept Whole old new v TooManyPoints = ¬ HasRoom new.shape 0 1 2 × IsAsItWas Whole old new
+  IsKept Whole old new v OutOfMemory = new.vertex_data ≡ old.vertex_data
+  IsKept Whole old new v (Unfinished removed) = Loses old new v removed

@@ -1,0 +1,16 @@
+use Rattle.dcel_hollows.proofs.laws.hollow_corners_can_be_cut_off.Goals as goal
+use Rattle.dcel_hollows.proofs.Strips.{cut_lists, cut_plane, hollow_convex, hollow_hull}
+
+pub returns-clause-plane : goal.returns-clause-plane
+returns-clause-plane g c = λ at m list mesh closed strip plane. cut_plane m mesh closed list strip at plane
+
+pub returns-clause-convex : goal.returns-clause-convex
+returns-clause-convex g c = λ at m list mesh closed strip triangles plane convex hull hollow. hollow_convex m mesh closed list strip at triangles plane convex hull hollow
+
+pub returns-clause-hull : goal.returns-clause-hull
+returns-clause-hull g c =
+    λ at m list mesh closed strip triangles plane convex hull hollow i live inner one two three.
+    hollow_hull m mesh closed list strip at triangles plane convex hull hollow i live inner one two three
+
+pub returns-clause-due : goal.returns-clause-due
+returns-clause-due g c = λ at m list due mesh closed strip lists. cut_lists m mesh closed list strip at due lists
