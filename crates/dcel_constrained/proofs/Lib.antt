@@ -1,0 +1,5 @@
+pub mod Widths
+pub mod Places
+pub mod Stepwise
+pub mod Opening
+pub mod Gathering

@@ -1,0 +1,25 @@
+use Rattle.std.proofs.Common.{◌≡◌, ℕ, arith}
+use Rattle.dcel_plane.specs.Plane.{point_at}
+use Rattle.dcel_constrained.proofs.Gathering.{way_begins, way_ends, way_goes_on, way_short}
+use Rattle.dcel_constrained.proofs.Opening.{vertices_of}
+use Rattle.dcel_constrained.proofs.joining.gather.Goals as goal
+
+pub loop-step-init : goal.loop-step-init
+loop-step-init g c =
+    way_begins c.args.dcel.now (point_at c.args.dcel.now) c.requires.planar c.args.from c.args.to c.requires.ends c.args.first c.args.crossed.now.items c.args.due.now.items
+    c.requires.empty c.requires.begins
+
+pub note-requires : goal.note-requires
+note-requires g c = c.loop-step.invariant.comes.crosses.live
+
+pub met_after-requires-clause-ends : goal.met_after-requires-clause-ends
+met_after-requires-clause-ends g c = vertices_of c.args.dcel.now c.requires.planar.mesh c.args.from c.args.to c.requires.ends
+
+pub met_after-requires-clause-live : goal.met_after-requires-clause-live
+met_after-requires-clause-live g c = c.loop-step.invariant.comes.crosses.live
+
+pub unreachable-requires : goal.unreachable-requires
+unreachable-requires g c =
+    let few = way_short c.args.dcel.now (point_at c.args.dcel.now) c.requires.planar c.args.from c.args.to c.requires.ends c.loop-step.crossed.items c.loop-step.due.items
+    c.loop-step.edge c.loop-step._step c.loop-step.invariant in
+    omega (arith, few, c.loop-step-test.false, c.num_directed_edges-step-end.ensures.count)

@@ -1,0 +1,7 @@
+use Rattle.dcel_plane.specs.Plane.{point_at}
+use Rattle.dcel_constrained.proofs.Gathering.{IsUnderWay}
+use Rattle.dcel_constrained.proofs.joining.gather.Given as goal
+
+abbrev pub invariant-loop-step : goal.invariant-loop-step
+invariant-loop-step g l =
+    IsUnderWay l.fn.dcel (point_at l.fn.dcel) l.requires.planar l.from l.to l.requires.ends l.crossed.items l.due.items l.edge l._step

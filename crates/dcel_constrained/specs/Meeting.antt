@@ -1,0 +1,42 @@
+-- What a segment between two vertices meets on its way.
+use Rattle.std.specs.Prelude.{◌≡◌, ◌⊎◌, ℕ, ◌<◌, List, pos, ◌<ℤ◌}
+use Rattle.dcel_fixed.specs.HalfEdges.{rev}
+use Rattle.dcel_predicates.specs.declared.point.Point.{Point}
+use Rattle.dcel_maps.specs.Shapes.{Mesh, Shape, end_of, next_of, prev_of}
+use Rattle.dcel_segments.specs.Segments.{BeginsAt, Crosses, HasSidesOf, IsChannel, LeadsAlong, TurnsInto, corner_beyond, offset}
+use Rattle.dcel_maps.specs.Walking.{Leads}
+use Rattle.dcel_maps.specs.Words.{count_of}
+use Rattle.dcel_covering.specs.Covering.{apart_along}
+use Rattle.dcel_plane.specs.Plane.{point_at}
+use Rattle.dcel_constrained.specs.declared.joining.Joined.{Joined}
+use Rattle.dcel_constrained.specs.declared.joining.Joined.TheVariants.{Between, Edge}
+use Rattle.dcel_constrained.specs.declared.walking.Met.{Met}
+use Rattle.dcel_constrained.specs.declared.walking.Met.TheVariants.{Side, Vertex}
+
+-- first it is a half edge across the triangle where it begins, or the end of an edge that leads along it
+abbrev pub IsFirstMet : (ℕ → Point) → Shape → ℕ → ℕ → Met → Type 0
+IsFirstMet at s v w (Side h) = BeginsAt at s v w h
+IsFirstMet at s v w (Vertex y) = (k : ℕ) × LeadsAlong at s v w k × (end_of s k ≡ y)
+
+-- beyond the half edge h it is another side of the triangle there, by the side on which its corner lies, or the corner
+abbrev pub IsMetAfter : (ℕ → Point) → Shape → ℕ → ℕ → ℕ → Met → Type 0
+IsMetAfter at s v w h (Side k) =
+    ((pos 0 <ℤ offset at v w (corner_beyond s h)) × (k ≡ next_of s (rev h))) ⊎ ((offset at v w (corner_beyond s h) <ℤ pos 0) × (k ≡ prev_of s (rev h)))
+IsMetAfter at s v w h (Vertex y) = (offset at v w (corner_beyond s h) ≡ pos 0) × (y ≡ corner_beyond s h)
+
+-- the vertex y lies on the segment, between its ends
+pub record LiesBetween (at : ℕ → Point) (v w y : ℕ) : Type 0 where
+  pub on : offset at v w y ≡ pos 0
+  pub inside : apart_along (at v) (at w) (at y) <ℤ pos 0
+
+-- the segment has crossed the half edges of the list and come to the vertex y, and all edges around the faces are listed
+pub record HasCome (at : ℕ → Point) (s : Shape) (v w : ℕ) (list due : List ℕ) (y : ℕ) : Type 0 where
+  pub sides : HasSidesOf due s list
+  pub there : ((y ≡ w) × IsChannel at s v w list) ⊎ LiesBetween at v w y
+
+-- there is an edge, made by flips of edges that the segment crossed; or a vertex lies on the segment, and nothing has changed
+abbrev pub IsJoined : {DE UE F : Type 0} → Mesh Point DE UE F → Mesh Point DE UE F → ℕ → ℕ → Joined → Type 0
+IsJoined old new v w Edge =
+    ((h : ℕ) × Leads new.shape v w h)
+    × ((list : List ℕ) × TurnsInto (point_at old) old new list × ((k : ℕ) → 0 < count_of k list → Crosses (point_at old) old.shape v w k))
+IsJoined old new v w (Between y) = (new ≡ old) × LiesBetween (point_at old) v w y
