@@ -34,5 +34,5 @@ module _ {V DE UE F : Type 0} (m : Mesh V DE UE F) (at : ℕ → Point) (planar 
         | inl along ↦ none along.0 (record { live = along.1.live; start = along.1.from }) (inl along.1)
         | inr begins ↦
             let opens = begins_opens m planar.mesh planar.triangles at planar.plane planar.convex planar.hull v w differ ends begins.0 begins.1 in
-            none opens.0 (record { live = opens.1; start = opens.2.0 }) (inr opens.2.1)
+            none opens.0 (record { live = opens.1; start = opens.2 }) (inr opens.3)
       ]

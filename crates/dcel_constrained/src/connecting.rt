@@ -39,7 +39,7 @@ pub(crate) fn connect<DE, UE, F, A: Allocator, L: Allocator>(
         → ListsCircled (point_at dcel.old) dcel.old.shape (due ++ lacking) → ListsCircled (point_at dcel.new) dcel.new.shape (due ++ lacking) }
 {
     let mut near = 0;
-    while !crossed.is_empty() {
+    while crossed.len() > 0 {
         let last = crossed.len() - 1;
         let at = find_peak(dcel, from, to, crossed, near.min(last));
         turn(dcel, from, to, crossed, at);

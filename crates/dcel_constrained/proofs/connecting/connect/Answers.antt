@@ -51,7 +51,7 @@ loop-from-preserved g c =
 
 pub returns-clause-joined : goal.returns-clause-joined
 returns-clause-joined g c =
-    let none : c.loop-from.crossed.items ≡ [] = no_items c.loop-from.crossed.items (omega (arith, c.is_empty.ensures, c.loop-from-test.false, c.loop-from.crossed.ok)) in
+    let none : c.loop-from.crossed.items ≡ [] = no_items c.loop-from.crossed.items (omega (arith, c.loop-from-test.false, c.len.ensures, c.loop-from.crossed.ok)) in
     joined c.args.dcel.now c.args.crossed.now.items c.args.from c.args.to c.loop-from.dcel c.loop-from.crossed.items c.requires.differ c.loop-from.invariant none
 
 pub returns-clause-lists : goal.returns-clause-lists
