@@ -20,6 +20,19 @@ use Rattle.dcel_constrained.specs.Meeting.{HasCome, IsMetAfter, LiesBetween}
 use Rattle.dcel_constrained.specs.declared.walking.Met.{Met}
 use Rattle.dcel_constrained.specs.declared.walking.Met.TheVariants.{Side, Vertex}
 
+first_there : (x : ℕ) (r : List ℕ) → 0 < count_of x (x ∷ r)
+first_there x r = (let c = count-same x r in omega (arith, c))
+
+-- each of four numbers is in their list
+four_there : (a b c d : ℕ) → (0 < count_of a (a ∷ b ∷ c ∷ d ∷ [])) × (0 < count_of b (a ∷ b ∷ c ∷ d ∷ [])) × (0 < count_of c (a ∷ b ∷ c ∷ d ∷ []))
+    × (0 < count_of d (a ∷ b ∷ c ∷ d ∷ []))
+four_there a b c d = (
+  first_there a (b ∷ c ∷ d ∷ []),
+  count-later b a (b ∷ c ∷ d ∷ []) (first_there b (c ∷ d ∷ [])),
+  count-later c a (b ∷ c ∷ d ∷ []) (count-later c b (c ∷ d ∷ []) (first_there c (d ∷ []))),
+  count-later d a (b ∷ c ∷ d ∷ []) (count-later d b (c ∷ d ∷ []) (count-later d c (d ∷ []) (first_there d []))),
+)
+
 module _ {V DE UE F : Type 0} (m : Mesh V DE UE F) (at : ℕ → Point) (planar : IsPlanar at m) (v w : ℕ) (ends : AreEnds m.shape v w) where
   abbrev s : Shape
   s = m.shape
@@ -51,20 +64,19 @@ module _ {V DE UE F : Type 0} (m : Mesh V DE UE F) (at : ℕ → Point) (planar 
 
     listed : Listed due h (rev h)
     listed =
-        let e = 2 * u in
-        let t = 2 * u + 1 in
+        let a = next_of s (2 * u) / 2 in
+        let b = prev_of s (2 * u) / 2 in
+        let c = next_of s (2 * u + 1) / 2 in
+        let d = prev_of s (2 * u + 1) / 2 in
         of_both_halves (Listed due)
-        (λ a b is. record { own = is.other; other = is.own; after = is.after_other; before = is.before_other; after_other = is.after; before_other = is.before }) h
+        (λ x y is. record { own = is.other; other = is.own; after = is.after_other; before = is.before_other; after_other = is.after; before_other = is.before }) h
         (record {
           own = subst (λ (i : ℕ). 0 < count_of i due) (let e : u ≡ 2 * u / 2 = omega arith in e) in_own;
           other = subst (λ (i : ℕ). 0 < count_of i due) (let e : u ≡ (2 * u + 1) / 2 = omega arith in e) in_own;
-          after = in_sides (next_of s e / 2) (count-same (next_of s e / 2) _ );
-          before = in_sides (prev_of s e / 2) (count-later (prev_of s e / 2) (next_of s e / 2) _ (count-same (prev_of s e / 2) _));
-          after_other = in_sides (next_of s t / 2) (count-later (next_of s t / 2) (next_of s e / 2) _ (count-later (next_of s t / 2) (prev_of s e / 2) _ (count-same (next_of s t / 2) _)));
-          before_other =
-              in_sides (prev_of s t / 2)
-              (count-later (prev_of s t / 2) (next_of s e / 2) _ (count-later (prev_of s t / 2) (prev_of s e / 2) _
-              (count-later (prev_of s t / 2) (next_of s t / 2) _ (count-same (prev_of s t / 2) []))));
+          after = in_sides (next_of s (2 * u) / 2) (four_there a b c d).0;
+          before = in_sides (prev_of s (2 * u) / 2) (four_there a b c d).1;
+          after_other = in_sides (next_of s (2 * u + 1) / 2) (four_there a b c d).2;
+          before_other = in_sides (prev_of s (2 * u + 1) / 2) (four_there a b c d).3;
         })
 
     sides_near : HasSides due s (face_of s h)
@@ -149,3 +161,21 @@ module _ {V DE UE F : Type 0} (m : Mesh V DE UE F) (at : ℕ → Point) (planar 
       let long = length-append passed (h ∷ []) in
       let many = way.many in
       omega (arith, all, long, many)
+
+-- the same, with what it rests on
+pub record IsWay {V DE UE F : Type 0} (m : Mesh V DE UE F) (at : ℕ → Point) (v w : ℕ) (passed due : List ℕ) (h steps : ℕ) : Type 0 where
+  pub planar : IsPlanar at m
+  pub ends : AreEnds m.shape v w
+  pub way : IsUnderWay m at planar v w ends passed due h steps
+
+module _ {V DE UE F : Type 0} (m : Mesh V DE UE F) (at : ℕ → Point) (v w : ℕ) (passed due : List ℕ) (h steps : ℕ) (is : IsWay m at v w passed due h steps)
+    (passed_now due_now : List ℕ) (passed_is : passed_now ≡ passed ++ (h ∷ [])) (due_is : due_now ≡ (due ++ ((h / 2) ∷ [])) ++ sides_beside m.shape (h / 2)) where
+  pub goes_on : (k : ℕ) → IsMetAfter at m.shape v w h (Side k) → IsWay m at v w passed_now due_now k (steps + 1)
+  goes_on k met = record {
+    planar = is.planar;
+    ends = is.ends;
+    way = way_goes_on m at is.planar v w is.ends passed due h steps is.way passed_now due_now passed_is due_is k met;
+  }
+
+  pub comes_there : (y : ℕ) → IsMetAfter at m.shape v w h (Vertex y) → HasCome at m.shape v w passed_now due_now y
+  comes_there = way_ends m at is.planar v w is.ends passed due h steps is.way passed_now due_now passed_is due_is

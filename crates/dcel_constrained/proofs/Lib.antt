@@ -3,3 +3,4 @@ pub mod Places
 pub mod Stepwise
 pub mod Opening
 pub mod Gathering
+pub mod Ending

@@ -1,5 +1,6 @@
 -- Differences of machine numbers, read back as integers.
-use Rattle.std.proofs.Common.{◌≡◌, ◌<◌, ◌≤◌, ◌^◌, ℤ, ◌+ℤ◌, ◌-ℤ◌, ◌*ℤ◌, unsigned_abs, FitsSigned, sym, ◌∙◌, subst, arith}
+use Rattle.std.proofs.Common.{◌≡◌, ◌<◌, ◌≤◌, ◌+◌, ◌^◌, ℤ, ◌+ℤ◌, ◌-ℤ◌, ◌*ℤ◌, pos, ◌<ℤ◌, ◌↔◌, IsTrue, true, int_lt, unsigned_abs, FitsSigned, sym, ap, ◌∙◌, subst, arith}
+use borrow.Author.Differences.{below_in, lt-true, lt_out, true_is_lt}
 use Rattle.std.specs.Int.{w128}
 use Rattle.std.proofs.lemmas.Int.{ints}
 use Rattle.dcel_predicates.specs.declared.point.Point.{Point}
@@ -64,3 +65,22 @@ module _ (a b p : Point) where
 
   pub apart_is : in_128 (in_128 (apart_128 a.x p.x *ℤ apart_128 b.x p.x) +ℤ in_128 (apart_128 a.y p.y *ℤ apart_128 b.y p.y)) ≡ apart_along a b p
   apart_is = rw (x_is, y_is) (held_128 _ (let h = sum_apart in omega arith))
+
+-- the sign of what `apart` gave
+pub apart_told : (r : ℤ) (a b p : Point) → r ≡ apart_along a b p → IsTrue (int_lt (in_128 r) (pos 0)) ↔ (apart_along a b p <ℤ pos 0)
+apart_told r a b p is =
+    subst (λ (z : ℤ). IsTrue (int_lt z (pos 0)) ↔ (apart_along a b p <ℤ pos 0)) (sym (held ∙ is)) (above (apart_along a b p), below (apart_along a b p))
+  where
+    held : in_128 r ≡ r
+    held = held_128 r (subst (λ (z : ℤ). unsigned_abs z ≤ 2 ^ 126 + 2 ^ 125) (sym is) (let h = sum_apart a b p in omega arith))
+
+    above : (z : ℤ) → int_lt z (pos 0) ≡ true → z <ℤ pos 0
+    above z told = below_in z (pos 0) (lt-true z (pos 0) told)
+
+    below : (z : ℤ) → z <ℤ pos 0 → int_lt z (pos 0) ≡ true
+    below z less = sym (true_is_lt z (pos 0) (lt_out z (pos 0) less))
+
+-- points that are known by other names
+pub apart_named : (r : ℤ) {a b p a' b' p' : Point} → r ≡ apart_along a b p → a ≡ a' → b ≡ b' → p ≡ p' → r ≡ apart_along a' b' p'
+apart_named r {a} {b} {p} {a'} {b'} {p'} is ea eb ep =
+    is ∙ ap (λ (k : Point). apart_along k b p) ea ∙ ap (λ (k : Point). apart_along a' k p) eb ∙ ap (λ (k : Point). apart_along a' b' k) ep

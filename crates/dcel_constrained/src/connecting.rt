@@ -1,6 +1,6 @@
 //! Segments made edges by flips.
 
-ghost use Rattle.std.specs.Prelude.{◌≡◌, ◌≢◌, ◌↔◌, ℕ, List, ◌++◌, suc, ◌<◌, length, take, drop, IsTrue, pos, ◌<ℤ◌};
+ghost use Rattle.std.specs.Prelude.{◌≡◌, ◌≢◌, ◌↔◌, ℕ, List, [], ◌++◌, suc, ◌<◌, length, take, drop, IsTrue, pos, ◌<ℤ◌};
 ghost use Rattle.std.specs.Option.{option_to_list};
 ghost use Rattle.dcel_maps.specs.Shapes.{IsLive, IsMesh};
 ghost use Rattle.dcel_maps.specs.Walking.{Leads};
@@ -37,6 +37,7 @@ pub(crate) fn connect<DE, UE, F, A: Allocator, L: Allocator>(
     ensures joined { (h : ℕ) × Leads dcel.new.shape from to h }
     ensures lists { (due lacking : List ℕ) → HasSidesOf due dcel.old.shape crossed.old.items
         → ListsCircled (point_at dcel.old) dcel.old.shape (due ++ lacking) → ListsCircled (point_at dcel.new) dcel.new.shape (due ++ lacking) }
+    ensures crossed { crossed.new.items ≡ [] }
 {
     let mut near = 0;
     while crossed.len() > 0 {

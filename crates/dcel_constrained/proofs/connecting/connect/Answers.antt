@@ -56,3 +56,6 @@ returns-clause-joined g c =
 
 pub returns-clause-lists : goal.returns-clause-lists
 returns-clause-lists g c = λ due lacking sides lists. (c.loop-from.invariant.lists due lacking sides).1 lists
+
+pub returns-clause-crossed : goal.returns-clause-crossed
+returns-clause-crossed g c = no_items c.loop-from.crossed.items (omega (arith, c.loop-from-test.false, c.len.ensures, c.loop-from.crossed.ok))

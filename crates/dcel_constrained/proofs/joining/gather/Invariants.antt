@@ -1,7 +1,6 @@
 use Rattle.dcel_plane.specs.Plane.{point_at}
-use Rattle.dcel_constrained.proofs.Gathering.{IsUnderWay}
+use Rattle.dcel_constrained.proofs.Gathering.{IsWay}
 use Rattle.dcel_constrained.proofs.joining.gather.Given as goal
 
 abbrev pub invariant-loop-step : goal.invariant-loop-step
-invariant-loop-step g l =
-    IsUnderWay l.fn.dcel (point_at l.fn.dcel) l.requires.planar l.from l.to l.requires.ends l.crossed.items l.due.items l.edge l._step
+invariant-loop-step g l = IsWay l.fn.dcel (point_at l.fn.dcel) l.fn.from l.fn.to l.crossed.items l.due.items l.edge l._step

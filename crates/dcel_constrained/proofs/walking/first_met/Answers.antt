@@ -45,7 +45,7 @@ pub returns-then-opens : goal.returns-then-opens
 returns-then-opens g c =
     let m = c.args.dcel.now in
     let came = search_continues (IsBeginning (point_at m) m.shape c.args.from c.args.to) m c.args.from _ _ _ _ c.loop-edge.invariant c.in-Some.ensures.steps.0 in
-    let next : c.fix-then-opens.result ≡ next_of m.shape (number_of c.in-Some.edge) = rw (c.fix-then-opens.ensures.value, c.next.ensures.number, came.0) refl in
+    let next : c.fix-then-opens.result ≡ next_of m.shape (number_of c.in-Some.edge) = rw (c.fix-then-opens.ensures.value, c.next-then-opens.ensures.number, came.0) refl in
     begins_next m (point_at m) c.requires.planar c.args.from c.args.to c.requires.differ c.requires.ends (number_of c.in-Some.edge) c.fix-half.result c.fix-then-opens.result
     came.1.starts c.fix-half.ensures.value (c.opens.ensures.0 c.if-opens.true) next
 

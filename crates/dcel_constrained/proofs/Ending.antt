@@ -1,0 +1,52 @@
+-- How joining two vertices ends.
+use Rattle.std.proofs.Common.{◌≡◌, ◌≢◌, ℕ, ◌<◌, List, [], ◌++◌, inl, inr, refl, sym, ◌∙◌, subst, ℤ, pos, ◌<ℤ◌, arith}
+use Rattle.std.proofs.lemmas.Bool.{cases_eq}
+use Rattle.dcel_predicates.specs.declared.point.Point.{Point}
+use Rattle.dcel_predicates.proofs.Signs.{ordered}
+use Rattle.dcel_maps.specs.Shapes.{Mesh, Shape, end_of}
+use Rattle.dcel_maps.specs.Words.{count_of}
+use Rattle.dcel_maps.proofs.words.Counts.{count-append}
+use Rattle.dcel_plane.specs.Plane.{ListsCircled, point_at}
+use Rattle.dcel_covering.specs.Covering.{apart_along}
+use Rattle.dcel_covering.proofs.Inside.{apart_end}
+use Rattle.dcel_segments.specs.Segments.{Crosses, IsChannel, LeadsAlong, TurnsInto, offset}
+use Rattle.dcel_segments.proofs.Channels.{all_cross}
+use Rattle.dcel_constrained.specs.Meeting.{HasCome, IsJoined}
+use Rattle.dcel_constrained.specs.declared.joining.Joined.{Joined}
+use Rattle.dcel_constrained.specs.declared.joining.Joined.TheVariants.{Between, Edge}
+
+-- more edges that are due
+pub lists_more : (at : ℕ → Point) (s : Shape) (due lacking : List ℕ) → ListsCircled at s lacking → ListsCircled at s (due ++ lacking)
+lists_more at s due lacking lists u inner circled = (let a = count-append u due lacking in let b = lists u inner circled in omega (arith, a, b))
+
+-- a segment that has come to its end has crossed all that it crosses
+pub all_crossed : (at : ℕ → Point) (s : Shape) (v w : ℕ) (list due : List ℕ) (y : ℕ) → HasCome at s v w list due y → y ≡ w → IsChannel at s v w list
+all_crossed at s v w list due y come is = elim come.there [
+  | inl there ↦ there.1
+  | inr between ↦ absurd
+      (let less = subst (λ (i : ℕ). apart_along (at v) (at w) (at i) <ℤ pos 0) is between.inside in let zero = apart_end (at v) (at w) in omega (arith, ordered, less, zero))
+]
+
+pub each_crosses : (at : ℕ → Point) (s : Shape) (v w : ℕ) (list : List ℕ) → IsChannel at s v w list → (k : ℕ) → 0 < count_of k list → Crosses at s v w k
+each_crosses at s v w list channel = all_cross at s v w channel.first channel.last list channel.leads
+
+-- an edge from v to y along the segment
+pub along_joins : {DE UE F : Type 0} (m : Mesh Point DE UE F) (v w y : ℕ) (joined : Joined) → (k : ℕ) × LeadsAlong (point_at m) m.shape v w k × (end_of m.shape k ≡ y)
+    → (y ≡ w → joined ≡ Edge) → (y ≢ w → joined ≡ Between y) → IsJoined m m v w joined
+along_joins {DE} {UE} {F} m v w y joined way edge between = elim (cases_eq y w) [
+  | inl is ↦
+      subst (λ (j : Joined). IsJoined m m v w j) (sym (edge is))
+      ((way.0, record { live = way.1.live; start = way.1.from; end = way.2 ∙ is }), ([], still, λ k there. absurd (omega (arith, there))))
+  | inr not ↦
+      subst (λ (j : Joined). IsJoined m m v w j) (sym (between not))
+      (refl, record {
+        on = subst (λ (i : ℕ). offset (point_at m) v w i ≡ pos 0) way.2 way.1.on;
+        inside = elim way.1.ahead [
+          | inl is ↦ absurd (not (sym way.2 ∙ is))
+          | inr less ↦ subst (λ (i : ℕ). apart_along (point_at m v) (point_at m w) (point_at m i) <ℤ pos 0) way.2 less
+        ];
+      })
+]
+  where
+    still : TurnsInto (point_at m) m m []
+    still = record { turned = []; can = tt; is = refl; only = λ u there. absurd (omega (arith, there)) }
