@@ -38,14 +38,16 @@ along_joins {DE} {UE} {F} m v w y joined way edge between = elim (cases_eq y w) 
       subst (λ (j : Joined). IsJoined m m v w j) (sym (edge is))
       ((way.0, record { live = way.1.live; start = way.1.from; end = way.2 ∙ is }), ([], still, λ k there. absurd (omega (arith, there))))
   | inr not ↦
-      subst (λ (j : Joined). IsJoined m m v w j) (sym (between not))
-      (refl, record {
-        on = subst (λ (i : ℕ). offset (point_at m) v w i ≡ pos 0) way.2 way.1.on;
-        inside = elim way.1.ahead [
-          | inl is ↦ absurd (not (sym way.2 ∙ is))
-          | inr less ↦ subst (λ (i : ℕ). apart_along (point_at m v) (point_at m w) (point_at m i) <ℤ pos 0) way.2 less
-        ];
-      })
+      subst (λ (j : Joined). IsJoined m m v w j) (sym (between not)) (
+        refl,
+        record {
+          on = subst (λ (i : ℕ). offset (point_at m) v w i ≡ pos 0) way.2 way.1.on;
+          inside = elim way.1.ahead [
+            | inl is ↦ absurd (not (sym way.2 ∙ is))
+            | inr less ↦ subst (λ (i : ℕ). apart_along (point_at m v) (point_at m w) (point_at m i) <ℤ pos 0) way.2 less
+          ];
+        },
+      )
 ]
   where
     still : TurnsInto (point_at m) m m []

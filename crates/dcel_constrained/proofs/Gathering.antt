@@ -143,13 +143,13 @@ module _ {V DE UE F : Type 0} (m : Mesh V DE UE F) (at : ℕ → Point) (planar 
         | inl is ↦ inl (
           sym is,
           subst (λ (l : List ℕ). IsChannel at s v w l) (sym passed_is)
-          (comes_to_end m planar.mesh planar.triangles at planar.plane planar.convex planar.hull v w ends passed h way.comes (sym met.1 ∙ sym is)),
+              (comes_to_end m planar.mesh planar.triangles at planar.plane planar.convex planar.hull v w ends passed h way.comes (sym met.1 ∙ sym is)),
         )
         | inr not ↦ inr (record {
           on = subst (λ (i : ℕ). offset at v w i ≡ pos 0) (sym met.1) met.0;
           inside = by_lt_z (apart_along (at v) (at w) (at y)) (pos 0) (λ less. less) (λ nor. absurd (not (
-            on_line m planar.mesh planar.triangles at planar.plane planar.convex planar.hull v w ends h way.comes.crosses met.0
-            (subst (λ (i : ℕ). pos 0 ≤ℤ apart_along (at v) (at w) (at i)) met.1 nor) ∙ sym met.1)));
+              on_line m planar.mesh planar.triangles at planar.plane planar.convex planar.hull v w ends h way.comes.crosses met.0
+              (subst (λ (i : ℕ). pos 0 ≤ℤ apart_along (at v) (at w) (at i)) met.1 nor) ∙ sym met.1)));
         })
       ];
     }

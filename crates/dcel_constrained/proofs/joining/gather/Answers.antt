@@ -23,9 +23,11 @@ pub met_after-requires-clause-live : goal.met_after-requires-clause-live
 met_after-requires-clause-live g c = c.loop-step.invariant.way.comes.crosses.live
 
 pub returns-in-Vertex : goal.returns-in-Vertex
-returns-in-Vertex g c =
-    comes_there c.args.dcel.now (point_at c.args.dcel.now) c.args.from c.args.to c.loop-step.crossed.items c.loop-step.due.items c.loop-step.edge c.loop-step._step
-    c.loop-step.invariant c.note.new.crossed.items c.note.new.due.items c.in_ok-note.ensures.crossed c.in_ok-note.ensures.due c.in-Vertex.vertex c.in-Vertex.ensures
+returns-in-Vertex g c = record {
+  come =
+      comes_there c.args.dcel.now (point_at c.args.dcel.now) c.args.from c.args.to c.loop-step.crossed.items c.loop-step.due.items c.loop-step.edge c.loop-step._step
+      c.loop-step.invariant c.note.new.crossed.items c.note.new.due.items c.in_ok-note.ensures.crossed c.in_ok-note.ensures.due c.in-Vertex.vertex c.in-Vertex.ensures;
+}
 
 pub loop-step-preserved : goal.loop-step-preserved
 loop-step-preserved g c =

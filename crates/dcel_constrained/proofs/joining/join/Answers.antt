@@ -23,8 +23,7 @@ pub returns-clause-joined : goal.returns-clause-joined
 returns-clause-joined g c =
     let channel =
     all_crossed (point_at c.args.dcel.now) c.args.dcel.now.shape c.args.from c.args.to c.gather.new.crossed.items c.gather.new.due.items c.in-Ok.vertex c.in-Ok.ensures.come
-    (grind (arith, nat_tests, c.ne.ensures, c.if-ne.false)) in
-    (
+    (grind (arith, nat_tests, c.ne.ensures, c.if-ne.false)) in (
       c.connect.ensures.joined,
       (
         c.gather.new.crossed.items,

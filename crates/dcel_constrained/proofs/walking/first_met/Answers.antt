@@ -1,11 +1,14 @@
-use Rattle.std.proofs.Common.{◌≡◌, ℕ, inl, inr, refl, subst, sym}
+use Rattle.std.proofs.Common.{◌≡◌, ℕ, ap, ◌∙◌, inl, inr, refl, subst, sym}
 use Rattle.spade_dcel.specs.Handles.{number_of}
-use Rattle.dcel_maps.specs.Shapes.{end_of, next_of}
+use Rattle.dcel_maps.specs.Shapes.{Mesh, end_of, next_of}
 use Rattle.dcel_maps.specs.Walking.{IsOutEdge}
 use Rattle.dcel_plane.specs.Plane.{point_at}
 use Rattle.dcel_delaunay.proofs.Searching.{search_begins, search_continues, search_ends}
 use Rattle.dcel_constrained.proofs.Opening.{IsBeginning, begins_next, some_begins, vertices_of}
 use Rattle.dcel_constrained.proofs.walking.first_met.Goals as goal
+
+next_told : {V DE UE F : Type 0} (n m : Mesh V DE UE F) (k x y : ℕ) → n ≡ m → y ≡ next_of n.shape k → x ≡ y → x ≡ next_of m.shape k
+next_told {V} {DE} {UE} {F} n m k x y mesh next is = is ∙ next ∙ ap (λ (l : Mesh V DE UE F). next_of l.shape k) mesh
 
 pub vertex-requires : goal.vertex-requires
 vertex-requires g c = (vertices_of c.args.dcel.now c.requires.planar.mesh c.args.from c.args.to c.requires.ends).from
@@ -45,7 +48,7 @@ pub returns-then-opens : goal.returns-then-opens
 returns-then-opens g c =
     let m = c.args.dcel.now in
     let came = search_continues (IsBeginning (point_at m) m.shape c.args.from c.args.to) m c.args.from _ _ _ _ c.loop-edge.invariant c.in-Some.ensures.steps.0 in
-    let next : c.fix-then-opens.result ≡ next_of m.shape (number_of c.in-Some.edge) = rw (c.fix-then-opens.ensures.value, c.next-then-opens.ensures.number, came.0) refl in
+    let next : c.fix-then-opens.result ≡ next_of m.shape (number_of c.in-Some.edge) = next_told c.in-Some.edge.dcel.now m (number_of c.in-Some.edge) c.fix-then-opens.result c.next-then-opens.result.number came.0 c.next-then-opens.ensures.number c.fix-then-opens.ensures.value in
     begins_next m (point_at m) c.requires.planar c.args.from c.args.to c.requires.differ c.requires.ends (number_of c.in-Some.edge) c.fix-half.result c.fix-then-opens.result
     came.1.starts c.fix-half.ensures.value (c.opens.ensures.0 c.if-opens.true) next
 
