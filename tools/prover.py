@@ -64,6 +64,34 @@ def root_of(name):
     return "src/main.rt" if (CRATES / name / "src/main.rt").is_file() else "src/lib.rt"
 
 
+def is_program(name):
+    return root_of(name) == "src/main.rt"
+
+
+def built(name):
+    """Where the program or the static library of a crate lies."""
+    return CRATES / name / "out" / (name if is_program(name) else f"lib{name}.a")
+
+
+def sum_of_built(name):
+    """A sum of what is built of a crate, of all sources that it is of, and of the kit."""
+    found = hashlib.sha256(version() + built(name).read_bytes())
+    for it in [*below(name), name]:
+        found.update(repr((it, crates()[it], sum_of_sources(it))).encode())
+    return found.hexdigest()
+
+
+def note_built(name):
+    """Notes that a program or a static library was built over what `rt ci` left, of these sources."""
+    built(name).with_suffix(".sources").write_text(sum_of_built(name))
+
+
+def is_as_built(name):
+    """Whether a program or a static library is still the one that was noted, and of these sources."""
+    noted = built(name).with_suffix(".sources")
+    return noted.is_file() and built(name).is_file() and noted.read_text() == sum_of_built(name)
+
+
 def library(name):
     """Where the proved library of a crate lies."""
     return CRATES / name / "out" / "rlib" / f"{name}.rlib"
@@ -86,10 +114,13 @@ def note(name):
 
 
 def note_all():
-    """Notes of each library that `rt ci` has left that it is of these sources."""
+    """Notes of each library and each program that `rt ci` has left that it is of these sources."""
     for name in crates():
         if (library(name) / "format").is_file() and not is_stamped(name):
             note(name).write_text(sum_of_sources(name))
+        # A program has a stamp where it is of `rt run`.
+        if is_program(name) and built(name).is_file() and not built(name).with_suffix(".stamp").is_file():
+            note_built(name)
 
 
 def is_of_sources(name):

@@ -1,8 +1,7 @@
 /* A half-edge mesh on the sphere that is kept across calls. Its links and numbers change only by the
    calls below, and each number of an element is below 2^32.
 
-   Link libdcel, as pkg-config says; or what it is made of, libdcel_c.a and after it the kit's liblibc_c.a,
-   which allocates by your malloc.
+   Link libdcel, which allocates by your malloc.
 
    What you promise; nothing checks it:
    - A dcel_mesh is handed to each call as the last call left it: it isn't written to, and of two copies
