@@ -73,23 +73,31 @@ def built(name):
     return CRATES / name / "out" / (name if is_program(name) else f"lib{name}.a")
 
 
-def sum_of_built(name):
+def sum_of_built(name, file):
     """A sum of what is built of a crate, of all sources that it is of, and of the kit."""
-    found = hashlib.sha256(version() + built(name).read_bytes())
+    found = hashlib.sha256(version() + file.read_bytes())
     for it in [*below(name), name]:
-        found.update(repr((it, crates()[it], sum_of_sources(it))).encode())
+        found.update(repr((it, crates()[it], sum_once(it))).encode())
     return found.hexdigest()
 
 
-def note_built(name):
-    """Notes that a program or a static library was built over what `rt ci` left, of these sources."""
-    built(name).with_suffix(".sources").write_text(sum_of_built(name))
+@functools.cache
+def sum_once(name):
+    """The same sum, for a run in which no source changes."""
+    return sum_of_sources(name)
 
 
-def is_as_built(name):
-    """Whether a program or a static library is still the one that was noted, and of these sources."""
-    noted = built(name).with_suffix(".sources")
-    return noted.is_file() and built(name).is_file() and noted.read_text() == sum_of_built(name)
+def note_built(name, file=None):
+    """Notes that a program or a library, in the usual place or in this file, was built over what `rt ci` left, of these sources."""
+    file = file or built(name)
+    file.with_suffix(".sources").write_text(sum_of_built(name, file))
+
+
+def is_as_built(name, file=None):
+    """Whether it is still the one that was noted, and of these sources."""
+    file = file or built(name)
+    noted = file.with_suffix(".sources")
+    return noted.is_file() and file.is_file() and noted.read_text() == sum_of_built(name, file)
 
 
 def library(name):
