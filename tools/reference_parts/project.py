@@ -55,7 +55,8 @@ class Project:
     @functools.cached_property
     def kit_fields(self):
         """The names that are fields of something in the kit."""
-        paths = [it for name in ("core", "std", "std_alloc", "std_heap") for it in (self.kit / name).glob("s*/**/*.[ar][nt]*")]
+        paths = [it for name in ("core", "std", "std_alloc", "std_heap") for it in (self.kit / name).glob("s*/**/*.*t")]
+        paths += (self.kit / "logic").glob("Denote/*.antt")
         return {name for it in paths for name in re.findall(r"(?m)^\s*(?:pub )?(?:ghost )?([\w-]+)\s*:", it.read_text())}
 
     def kit_has_field(self, name):

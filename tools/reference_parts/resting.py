@@ -1,5 +1,6 @@
 """What a call's contract rests on: definitions and types, each after those that it stands on."""
 
+import functools
 import re
 from typing import NamedTuple
 
@@ -30,8 +31,12 @@ def generics(text, home):
     if not found:
         return {}
     inner = text[found.end() + 1 : found.end() + end_of_generics(text[found.end() :]) - 1]
-    parts = [re.match(r"(?:const )?([\w']+)(?:\s*:\s*([^=]*))?", it) for it in split(inner)]
-    return {it[1]: Parameter(it[2] or "", home) for it in parts if it}
+    further = re.search(r"\bwhere\b(.*)", text, re.DOTALL)
+    parts = [re.match(r"(?:const )?([\w']+)(?:\s*:\s*([^=]*))?", it) for it in split(inner) + split(further[1] if further else "")]
+    bounds = {}
+    for it in filter(None, parts):
+        bounds[it[1]] = bounds.get(it[1], "") + " " + (it[2] or "")
+    return {name: Parameter(said, home) for name, said in bounds.items()}
 
 
 class Scope:
@@ -162,9 +167,12 @@ def of_item(item):
         yield from scope.rests(item.text.partition("=")[2] if item.kind == "type" else item.text.partition(":")[2])
 
 
-def of_definition(item):
-    yield from (it.target for it in item.words())
-    yield from (it.target for it in item.section.words(item.home))
+@functools.cache
+def below(item):
+    """What a definition or a declaration names."""
+    if isinstance(item, Item):
+        return tuple(of_item(item))
+    return tuple(it.target for it in (*item.words(), *item.section.words(item.home)))
 
 
 class Part(list):
@@ -204,7 +212,7 @@ class Rests:
         if not isinstance(item, (Definition, Item)) or item in self.seen or item.kind == "fn":
             return
         self.seen.add(item)
-        self.follow(of_definition(item) if isinstance(item, Definition) else of_item(item), item)
+        self.follow(below(item), item)
         self.items.append(item)
 
 

@@ -3,15 +3,15 @@
 import re
 from typing import NamedTuple
 
-# A chain of names with a dot between them, what follows a bracket behind a dot, a trait's members at a type, or a sign.
+# A trait's members at a type, a chain of names with a dot between them, the same behind a bracket, or a sign.
 PART = r"(?:«[^»]*»|[^\s(){}.;,@\"«»]+)"
-TOKEN = re.compile(rf"⟦<.*?>⟧(?:\.{PART})*|{PART}(?:\.{PART})*|\.{PART}(?:\.{PART})*|[(){{}}.;,]")
+TOKEN = re.compile(rf"⟦<.*?>⟧(?:\.{PART})*|\.?{PART}(?:\.{PART})*|[(){{}}.;,]")
 COMMENT = re.compile(r"--[^\n]*|//[^\n]*|\"(?:[^\"\\]|\\.)*\"")
 SIGNS = set("( ) { } . ; , = : | → × λ ↦ _ [ ]".split())
 # What the language has without an import, its tactics too.
-OWN = set("let in record open use as where pub Type Unit tt ⊥ absurd ¬ ∥ ∥₁ rw simp search assumption cc omega grind hlevel IsProp IsSet refl Path".split())
-# What a value behind a reference is at which time, and what the language has of every type.
-TIMES = set("now old new entry exit".split())
+OWN = set("let in record open use as where pub Type Unit tt ⊥ absurd ¬ ∥ ∥₁ rw simp search assumption cc omega grind hlevel IsProp IsSet refl Path 𝓛".split())
+# What a reference leads to at which time, and the reference itself.
+TIMES = set("now old new entry exit ghost_name".split())
 
 
 class Word(NamedTuple):
@@ -61,19 +61,20 @@ class Reader:
     def read(self, start, end, names):
         """Reads a term where these names are bound. Returns the names that are bound behind it."""
         self.tokens = list(TOKEN.finditer(self.text, start, end))
-        groups, now, base, i = [], set(names), set(names), 0
+        groups, now, base, in_record, head, i = [], set(names), set(names), False, 0, 0
         while i < len(self.tokens):
             token, i = self.said(i), i + 1
             if token in "({":
                 bound = self.binders(i)
-                groups.append((base, now, bound))
-                base, now = set(now), set(now)
-                i = self.label(i + len(bound) + 1 if bound else i)
+                groups.append((base, now, bound, in_record, i - 1))
+                is_record = token == "{" and "record" in (self.said(i - 2), self.said(i - 3), self.said(head - 1))
+                base, now, in_record = set(now), set(now), is_record
+                i = self.label(i + len(bound) + 1 if bound else i, in_record)
             elif token in ")}" and groups:
-                base, now, bound = groups.pop()
+                base, now, bound, in_record, head = groups.pop()
                 now |= set(bound)
             elif token in ";,":
-                now, i = set(base), self.label(i)
+                now, i = set(base), self.label(i, in_record)
             elif token == "λ" or (token == "let" and self.said(i) == "("):
                 i = self.pattern(i, "." if token == "λ" else "=", now)
             elif token == "let":
@@ -102,12 +103,13 @@ class Reader:
             i += 1
         return names if self.said(i) == ":" else []
 
-    def label(self, i):
+    def label(self, i, is_field):
         """Skips `name =`, of a field or of an argument."""
-        if self.said(i + 1) == "=" and self.said(i) not in SIGNS:
+        if self.said(i + 1) != "=" or self.said(i) in SIGNS:
+            return i
+        if is_field:
             self.words.append(Word(*self.tokens[i].span(), Field(bare(self.said(i)))))
-            return i + 2
-        return i
+        return i + 2
 
     def opened(self, i, now):
         """The names that `use {a, b as c}` brings of a value's fields. Those of `use *` are in scope already."""
