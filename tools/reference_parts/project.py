@@ -53,6 +53,11 @@ class Project:
         return [self.crate(it) for it in self.crates if (self.root / "crates" / it / "src/lib.rt").is_file()]
 
     @functools.cached_property
+    def everywhere(self):
+        """The names that every file has."""
+        return set(re.findall(r"\w+", text_of(self.kit / "std/src/prelude.rt")))
+
+    @functools.cached_property
     def kit_fields(self):
         """The names that are fields of something in the kit."""
         paths = [it for name in ("core", "std", "std_alloc", "std_heap") for it in (self.kit / name).glob("s*/**/*.*t")]
@@ -72,9 +77,9 @@ class Project:
         return Brought(self)
 
     def crate(self, name):
-        """The module at the root of a crate; a word of the kit for other crates, and for what every file has."""
+        """The module at the root of a crate; a word of the kit for a crate of the kit, and for what every file has; or None."""
         if name not in self.crates:
-            return Kit(name, "std")
+            return Kit(name, "std") if not self.kit or name in self.everywhere or (self.kit / name).is_dir() else None
         if name not in self.sources:
             source = self.root / "crates" / name / "src"
             path = next(it for it in (source / "lib.rt", source / "main.rt") if it.is_file())

@@ -27,6 +27,7 @@ class Parameter(NamedTuple):
 
 def generics(text, home):
     """The type parameters of a head, `impl<..>` or `fn name<..>`, with their bounds."""
+    text = re.sub(r"^pub\([^)]*\)", "", text)
     found = re.match(r"[^<({]*?(?=<)", text)
     if not found:
         return {}
@@ -88,7 +89,7 @@ class Scope:
 
     def parameters(self):
         """The parameters and the result of a call, with their types."""
-        text = re.sub(r"^[^(]*?\bfn \w+", "", self.item.text, flags=re.DOTALL)
+        text = re.sub(r"^.*?\bfn \w+", "", self.item.text, count=1, flags=re.DOTALL)
         text = text[end_of_generics(text) if text.startswith("<") else 0 :].strip()
         end = closing_of(text)
         for part in split(text[1:end]):
@@ -173,6 +174,12 @@ def below(item):
     if isinstance(item, Item):
         return tuple(of_item(item))
     return tuple(it.target for it in (*item.words(), *item.section.words(item.home)))
+
+
+def near(item):
+    """An item, and the definitions and types that it names."""
+    named = (it.item if isinstance(it, Inside) else it for it in below(item))
+    return {item, *(it for it in named if isinstance(it, (Definition, Item)))}
 
 
 class Part(list):

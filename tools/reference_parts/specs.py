@@ -53,6 +53,11 @@ class Definition:
         """A constructor, written behind its type."""
         return Inside(self, name, True) if self.kind == "data" and name in (it[0] for it in self.members()) else None
 
+    def kind_of(self, name):
+        """What the type of a field begins with, where it has that field."""
+        kinds = [self.text[start:end].split()[0] for field_name, start, end in self.members() if field_name == name]
+        return self.home.names(kinds[0]) if kinds else None
+
     def fields(self):
         """The names of its fields, also of those that it opens."""
         opened = [it for start, end in self.parts() for it in self.opened(self.text[start:end])]
@@ -65,8 +70,7 @@ class Definition:
             return set()
         if found[2] != "*":
             return {bare(it.split(" as ")[-1].strip()) for it in found[2][1:-1].split(",")}
-        kind = next(self.text[start:end].split()[0] for name, start, end in self.members() if name == bare(found[1]))
-        return self.home.names(kind).fields()
+        return self.kind_of(bare(found[1])).fields()
 
     def words(self):
         """What the words of its text name that aren't bound there."""
