@@ -69,8 +69,10 @@ class Project:
         return self.kit is None or name in self.kit_fields
 
     def calls(self, name):
-        """The public calls of the libraries whose path ends with this name, those that promise nothing only where no other does."""
-        found = [it for library in self.libraries() for it in public_calls(library) if f"::{it.path}".endswith(f"::{name}")]
+        """The public calls that a name, or as much of a path as is given, means: those that promise nothing only where no other does."""
+        *outer, last = name.split("::")
+        named = [it for library in self.libraries() for it in public_calls(library) if it.name == last]
+        found = [it for it in named if is_part(outer, it.path.split("::")[:-1])]
         return [it for it in found if any(clause.kind.startswith("ensures") for clause in it.clauses)] or found
 
     def brought(self):
@@ -154,6 +156,12 @@ def text_of(path):
 @functools.cache
 def words_of(path):
     return set(re.split(r"[\s{},]+", without_comments(text_of(path))))
+
+
+def is_part(names, path):
+    """Whether these names stand in a path, in this order."""
+    left = iter(path)
+    return all(it in left for it in names)
 
 
 def public_calls(source):

@@ -7,6 +7,7 @@ from html import escape
 from pathlib import Path
 
 from reference_parts import prose
+from reference_parts.counts import believed
 from reference_parts.pages import Page
 from reference_parts.places import Places
 from reference_parts.resting import Rests, Scope, clause_words, model, near
@@ -17,12 +18,6 @@ from reference_parts.terms import Reader
 KINDS = {"fn": "calls", "struct": "types", "enum": "types", "type": "types", "trait": "traits", "const": "constants", "static": "constants"}
 LOOKS = Path(__file__).resolve().parent / "looks"
 PICTURE = re.compile(r"pictures/(\w+\.svg)")
-
-
-def believed(root):
-    """The contracts that docs/PROVED.md counts, in its order, each with the numbers that it gives."""
-    text = (root / "docs/PROVED.md").read_text()
-    return re.findall(r"(?m)^\| `tools/believe ([\w:]+)` \|.*\| (\d+) \| (\d+) \|$", text)
 
 
 class Site:
@@ -186,7 +181,7 @@ class Site:
     def front(self):
         page = self.page("index.html")
         page.add((LOOKS / "front.html").read_text(), "<h2 id=believe>What to believe</h2>", "<dl class=list>")
-        for name, *_ in believed(self.project.root):
+        for name in believed(self.project.root):
             call = self.project.calls(name)[0]
             rests = self.rests[call]
             values = f"; {rests.values}, to say what values are read as" if rests.values else ""
