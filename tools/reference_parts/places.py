@@ -1,0 +1,52 @@
+"""On which page each item stands, and where on it."""
+
+from urllib.parse import quote
+
+from reference_parts.sources import Item, Source
+from reference_parts.specs import Definition
+from reference_parts.terms import Inside
+
+
+class Places:
+    """The public items of each library by the modules that show them, and the address of each item and definition."""
+
+    def __init__(self, project):
+        self.project, self.items, self.modules, self.shown, self.inner = project, {}, {}, {}, set()
+        for library in project.libraries():
+            self.place(library)
+
+    def place(self, module):
+        """Gives a public module a page, and each item that it is the first to show."""
+        folder = "/".join([module.crate, *module.parts])
+        self.modules[module] = f"{folder}/index.html"
+        self.shown[module] = [(name, it) for name, it in module.items.items() if it.public and it.kind != "impl"]
+        self.shown[module] += [(name, module.find(module.uses[name])) for name in module.reexports]
+        for name, item in self.shown[module]:
+            if isinstance(item, Item) and item.home.crate == module.crate:
+                self.items.setdefault(item, f"{folder}/{name}.html")
+        for child in module.children.values():
+            if child.public:
+                self.place(child)
+
+    def page(self, item):
+        """The page of an item, which is that of its file where it is no public one."""
+        return self.items.get(item) or self.file(item.home.path)
+
+    def file(self, path):
+        """The page of a file of definitions, or of what isn't public in a file of sources."""
+        parts = path.relative_to(self.project.root / "crates").with_suffix(".html").parts
+        return "definitions/" + "/".join(it for it in parts if it != "specs")
+
+    def address(self, target):
+        """The address of what a word names, None if it has none."""
+        if isinstance(target, Source):
+            return self.modules.get(target)
+        if isinstance(target, Inside):
+            inner = isinstance(target.item, Item) and target.name in (*target.item.inside, *target.item.calls)
+            address = self.address(target.item)
+            return f"{address.split('#')[0]}#{quote(target.name)}" if inner and target.item in self.items else address
+        if isinstance(target, Item) and target.owner is not None:
+            return self.address(Inside(target.owner, target.name))
+        if isinstance(target, Definition) or target in self.items or target in self.inner:
+            return self.page(target) + ("" if target in self.items else f"#{quote(target.name)}")
+        return None

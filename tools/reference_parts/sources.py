@@ -1,0 +1,324 @@
+"""Files of source code: modules, their items, and what is said of each."""
+
+import re
+from dataclasses import dataclass, field
+
+from reference_parts.terms import Inside
+
+# What braces mean nothing in, with spaces of the same length in its place.
+OTHER = re.compile(r"//[^\n]*|\"(?:[^\"\\]|\\.)*\"|b?'(?:[^'\\\n]|\\[^\n]+?)'", re.DOTALL)
+HEAD = re.compile(
+    r"(?P<public>pub(?P<narrow>\([^)]*\))?\s+)?"
+    r"(?P<kind>(?:(?:const|unsafe|extern)\s+)*fn|struct|enum|trait|unsafe impl|impl|mod|const|static|type|(?:ghost )?use|ghost|macro_rules!)\b\s*"
+    r"(?P<name>\w+)?"
+)
+CLAUSE = re.compile(r"\s*(ghost|requires|ensures)(\*?)\s*(\w+)?:?\s*\{")
+TYPE = re.compile(r"(?<!')\b[A-Za-z_]\w*(?:::\w+)*")
+
+
+def closing(text, start):
+    """Where the bracket that opens there is closed."""
+    depth = 0
+    for found in re.compile(r"[(\[{}\])]").finditer(text, start):
+        depth += 1 if found[0] in "([{" else -1
+        if not depth:
+            return found.start()
+    raise ValueError(f"a bracket isn't closed: {text[start : start + 60]}")
+
+
+def end_of(text, start, signs):
+    """Where one of these signs stands outside of all brackets."""
+    at = start
+    while text[at] not in signs:
+        at = closing(text, at) + 1 if text[at] in "([{" else at + 1
+    return at
+
+
+def split(text):
+    """What stands between the commas that are in no bracket."""
+    parts, depth = [""], 0
+    for sign, before in zip(text, " " + text):
+        depth += (sign in "([{<") - (sign in ")]}" or (sign == ">" and before not in "-="))
+        if sign == "," and not depth:
+            parts.append("")
+        else:
+            parts[-1] += sign
+    return [it.strip() for it in parts if it.strip()]
+
+
+@dataclass(eq=False)
+class Clause:
+    """A clause of a call, or what a trait or an impl says of a ghost member."""
+
+    kind: str
+    name: str
+    text: str
+    line: int
+
+
+@dataclass(eq=False)
+class Item:
+    """An item of a file, with what stands inside it. Its text is that of its declaration, without comments and bodies."""
+
+    kind: str
+    name: str
+    home: object
+    line: int
+    public: bool
+    doc: list
+    text: str = ""
+    owner: object = None
+    clauses: list = field(default_factory=list)
+    inside: dict = field(default_factory=dict)
+    calls: dict = field(default_factory=dict)
+    block: object = None
+    ghost: object = None
+    impls: list = field(default_factory=list)
+
+    @property
+    def path(self):
+        owner = [self.owner.name] if self.owner is not None else []
+        home = self.home if self.owner is None else self.owner.home
+        return "::".join([home.crate, *home.parts, *owner, self.name])
+
+    @property
+    def size(self):
+        return sum(line.strip() not in ("", "}") for line in self.text.split("\n"))
+
+    def member(self, name):
+        """A variant, a field, a method or a ghost member, or one of what an alias stands for."""
+        if name in self.inside:
+            return Inside(self, name, self.inside[name].kind == "variant")
+        if name in self.calls:
+            return Inside(self, name)
+        if any(name == it.name for it in self.clauses if it.kind == "member"):
+            return Inside(self, name)
+        if self.kind == "type":
+            meant = self.home.find(tuple(TYPE.search(self.text.split("=", 1)[1])[0].split("::")))
+            return meant.member(name) if hasattr(meant, "member") else meant
+        return None
+
+
+class Source:
+    """A module of a crate: what its file, or its part of a file, has."""
+
+    def __init__(self, project, crate, parts, path, public, outer=None):
+        self.project, self.crate, self.parts, self.path, self.public, self.outer = project, crate, parts, path, public, outer
+        self.items, self.children, self.uses, self.reexports, self.doc, self.pending = {}, {}, {}, [], [], []
+        self.ghost = project.brought()
+
+    def load(self):
+        text = self.path.read_text()
+        blank = OTHER.sub(lambda found: re.sub(r"[^\n]", " ", found[0]), text)
+        Parser(self, text, blank).run(0, len(text), None)
+
+    def attach_all(self):
+        """Gives what stands in impls to their types, once all modules are read."""
+        for item in self.pending:
+            self.attach(item)
+        for child in self.children.values():
+            child.attach_all()
+
+    def child(self, name, public):
+        """Loads a module that has a file of its own."""
+        folder = self.path.parent if self.path.name in ("lib.rt", "main.rt") else self.path.with_suffix("")
+        self.children[name] = Source(self.project, self.crate, (*self.parts, name), folder / f"{name}.rt", public, self)
+        self.children[name].load()
+
+    def root(self):
+        return self.outer.root() if self.outer else self
+
+    def attach(self, block):
+        """Gives what stands in an impl to its type."""
+        head = re.sub(r"^(unsafe )?impl\s*", "", block.text)
+        if head.startswith("<"):
+            head = head[end_of_generics(head) :].lstrip()
+        trait, _, name = ["", "", head] if not re.search(r"\sfor\s", head) else re.split(r"(\sfor\s)", head, maxsplit=1)
+        owner = self.find(tuple(TYPE.search(name)[0].split("::")))
+        if not isinstance(owner, Item):
+            return
+        block.name, block.owner = trait.strip(), owner
+        owner.impls.append(block)
+        for name, item in block.calls.items():
+            item.owner, item.block = owner, block
+            if not trait:
+                owner.calls[name] = item
+
+    def find(self, parts, seen=frozenset()):
+        """What a path means here."""
+        first, rest = parts[0], parts[1:]
+        if first in ("crate", "super", "self"):
+            at = self.root() if first == "crate" else self.outer if first == "super" else self
+        else:
+            at = self.member(first, seen) or self.project.crate(first)
+        for name in rest:
+            at = at.member(name) if hasattr(at, "member") else at
+        return at
+
+    def member(self, name, seen=frozenset()):
+        if name in self.items or name in self.children:
+            return self.items.get(name) or self.children[name]
+        if name in self.uses and (self, name) not in seen:
+            return self.find(self.uses[name], seen | {(self, name)})
+        return None
+
+
+def end_of_generics(text):
+    depth = 0
+    for at, sign in enumerate(text):
+        depth += (sign == "<") - (sign == ">" and text[at - 1] not in "-=")
+        if not depth:
+            return at + 1
+    return len(text)
+
+
+class Parser:
+    """Reads items one after another into a module."""
+
+    def __init__(self, home, text, blank):
+        self.home, self.text, self.blank = home, text, blank
+
+    def run(self, at, end, owner):
+        """Reads what stands between two places, of a file or inside an item."""
+        doc = []
+        while at < end:
+            rest = self.text[at:end]
+            if found := re.match(r"\s+", rest):
+                at += found.end()
+            elif found := re.match(r"//(/|!|)( ?)([^\n]*)", rest):
+                (self.home.doc if found[1] == "!" else doc if found[1] else []).append(found[3])
+                at += found.end()
+            elif rest.startswith("#"):
+                at = closing(self.blank, self.blank.index("[", at)) + 1
+            else:
+                at, doc = self.item(at, owner, doc), []
+
+    def item(self, at, owner, doc):
+        """Reads an item. Returns where it ends."""
+        found = HEAD.match(self.blank, at)
+        if not found:
+            end = end_of(self.blank, at, "{;")
+            return closing(self.blank, end) + 1 if self.blank[end] == "{" else end + 1
+        kind = found["kind"].split()[-1]
+        public = bool(found["public"]) and not found["narrow"] or (owner is not None and owner.kind == "trait")
+        item = Item(kind, found["name"] or "", self.home, self.text.count("\n", 0, at) + 1, public, doc, owner=owner)
+        if kind in ("use", "ghost"):
+            return self.brings(item, at, owner)
+        if kind == "fn":
+            return self.function(item, at, found.end(), owner)
+        if kind in ("impl", "trait"):
+            return self.block(item, at, found.end())
+        if kind == "mod":
+            return self.module(item, at, found.end())
+        end = end_of(self.blank, found.end(), ";" if kind in ("const", "static", "type") else "{;")
+        inner = end
+        if self.blank[end] == "{":
+            end = closing(self.blank, end)
+        self.keep(item, owner)
+        if kind in ("struct", "enum"):
+            self.members(item, inner + 1, end)
+        item.text = self.declaration(at, end + 1)
+        return end + 1
+
+    def keep(self, item, owner):
+        (self.home.items if owner is None else owner.calls)[item.name] = item
+
+    def declaration(self, start, end):
+        """A text without comments, attributes and what is kept of a value."""
+        text = re.sub(r"(?m)//[^\n]*|^\s*#\[[^\n]*", "", self.text[start:end])
+        while found := re.search(r"(?m)^\s*(pub )?ghost \w+:[^{]*\{", text):
+            stop = closing(text, found.end() - 1) + 1
+            if by := re.match(r"\s*by\s*\{", text[stop:]):
+                stop = closing(text, stop + by.end() - 1) + 1
+            text = text[: found.start()] + text[stop:].lstrip(",")
+        return "\n".join(line.rstrip() for line in text.split("\n") if line.strip())
+
+    def members(self, item, start, end):
+        """Reads the fields of a struct or the variants of an enum."""
+        at, doc, sign = start, [], r"(?:pub(?P<narrow>\([^)]*\))? )?(?P<ghost>ghost )?(?P<name>\w+)"
+        while at < end:
+            if found := re.compile(r"\s+|,").match(self.text, at):
+                at = found.end()
+            elif found := re.compile(r"//(/?) ?([^\n]*)").match(self.text, at):
+                doc += [found[2]] if found[1] else []
+                at = found.end()
+            elif self.text[at] == "#":
+                at = closing(self.blank, self.blank.index("[", at)) + 1
+            else:
+                found = re.compile(sign).match(self.blank, at)
+                stop = at
+                while stop < end and self.blank[stop] != ",":
+                    stop = closing(self.blank, stop) + 1 if self.blank[stop] in "([{" else stop + 1
+                line, text = self.text.count("\n", 0, at) + 1, self.text[found.end() : stop].lstrip(": ")
+                kind = "variant" if item.kind == "enum" else "kept" if found["ghost"] else "field"
+                public = kind == "variant" or self.text.startswith("pub ", at)
+                item.inside[found["name"]] = Item(kind, found["name"], self.home, line, public, doc, text, item)
+                at, doc = stop, []
+
+    def function(self, item, at, end, owner):
+        """Reads a call: its signature and clauses."""
+        while self.blank[end] not in "{;" and not (self.blank[end].isspace() and CLAUSE.match(self.blank, end)):
+            end = closing(self.blank, end) + 1 if self.blank[end] in "([" else end + 1
+        item.text = self.declaration(at, end)
+        self.keep(item, owner)
+        while found := CLAUSE.match(self.blank, end):
+            stop = closing(self.blank, found.end() - 1)
+            line = self.text.count("\n", 0, found.start(1)) + 1
+            item.clauses.append(Clause(found[1] + found[2], found[3] or "", self.text[found.end() : stop].strip(), line))
+            end = stop + 1
+        end = end_of(self.blank, end, "{;")
+        return closing(self.blank, end) + 1 if self.blank[end] == "{" else end + 1
+
+    def block(self, item, at, end):
+        """Reads a trait or an impl."""
+        end = end_of(self.blank, end, "{;")
+        item.text = self.declaration(at, end).strip()
+        if self.blank[end] == ";":
+            return end + 1
+        stop = closing(self.blank, end)
+        item.ghost = self.home.project.brought()
+        self.run(end + 1, stop, item)
+        if item.kind == "trait":
+            self.keep(item, None)
+        else:
+            self.home.pending.append(item)
+        return stop + 1
+
+    def module(self, item, at, end):
+        """Reads a module that stands here, or in a file of its own."""
+        end = end_of(self.blank, end, "{;")
+        if self.blank[end] == ";":
+            self.home.child(item.name, item.public)
+            return end + 1
+        return closing(self.blank, end) + 1
+
+    def brings(self, item, at, owner):
+        """Reads a `use`, a `ghost use` or what is said of a ghost member."""
+        end = end_of(self.blank, at, ";")
+        said = " ".join(self.text[at:end].split())
+        if said.startswith("ghost use "):
+            (owner.ghost if owner is not None else self.home.ghost).bring(said.removeprefix("ghost "))
+        elif item.kind == "ghost":
+            inner = self.blank.index("{", at)
+            text = self.text[inner + 1 : closing(self.blank, inner)].strip()
+            owner.clauses.append(Clause("member", item.name, text, item.line))
+        else:
+            for path, name in used(said.split("use ", 1)[1]):
+                self.home.uses[name] = path
+                if item.public:
+                    self.home.reexports.append(name)
+        return end + 1
+
+
+def used(tree, before=()):
+    """The paths of a `use`, each with the name that it brings."""
+    head, brace, inner = tree.partition("{")
+    if brace:
+        for part in split(inner.rsplit("}", 1)[0]):
+            yield from used(part, (*before, *filter(None, head.strip().split("::"))))
+        return
+    path, _, name = tree.strip().partition(" as ")
+    parts = (*before, *path.split("::"))
+    if parts[-1] == "self":
+        parts = parts[:-1]
+    yield parts, name or parts[-1]
