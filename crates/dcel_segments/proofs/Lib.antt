@@ -1,0 +1,11 @@
+pub mod Levers
+pub mod FlipFaces
+pub mod Gates
+pub mod Channels
+pub mod Peaks
+pub mod Striving
+pub mod Onward
+pub mod Starting
+pub mod Becoming
+pub mod Listing
+pub mod Walking
