@@ -23,11 +23,11 @@ pub type Said<A> = Option<Result<Request<A>, AllocError>>;
 
 /// The command that is made of what was read.
 macro_rules! edit {
-    ($read:expr, $given:pat => $command:expr) => {
+    ($read:expr, $given:pat => $command:ident $(($($field:expr),+))?) => {
         match $read {
             Some(read) => {
                 let $given = read;
-                Some(Ok(Request::Edit($command)))
+                Some(Ok(Request::Edit(Command::$command $(($($field),+))?)))
             }
             None => None,
         }
@@ -36,11 +36,11 @@ macro_rules! edit {
 
 /// The command that is made of the lists that were read, if there was memory for them.
 macro_rules! edit_lists {
-    ($read:expr, $given:pat => $command:expr) => {
+    ($read:expr, $given:pat => $command:ident $(($($field:expr),+))?) => {
         match $read {
             Some(Ok(read)) => {
                 let $given = read;
-                Some(Ok(Request::Edit($command)))
+                Some(Ok(Request::Edit(Command::$command $(($($field),+))?)))
             }
             Some(Err(error)) => Some(Err(error)),
             None => None,
@@ -50,11 +50,11 @@ macro_rules! edit_lists {
 
 /// The query that is made of what was read.
 macro_rules! ask {
-    ($read:expr, $given:pat => $query:expr) => {
+    ($read:expr, $given:pat => $query:ident $(($($field:expr),+))?) => {
         match $read {
             Some(read) => {
                 let $given = read;
-                Some(Ok(Request::Ask($query)))
+                Some(Ok(Request::Ask(Query::$query $(($($field),+))?)))
             }
             None => None,
         }
@@ -69,15 +69,14 @@ fn read_query<'a, A: Allocator>(word: &[u8], rest: Rest<'a>) -> Said<A>
     ensures { Says word.now (left rest.entry) result }
 {
     match word {
-        _ if word == b"counts".as_slice() => ask!(nothing(rest), () => Query::Counts),
-        _ if word == b"words".as_slice() => ask!(nothing(rest), () => Query::Words),
-        _ if word == b"hull".as_slice() => ask!(nothing(rest), () => Query::Hull),
-        _ if word == b"out".as_slice() => ask!(one_number(rest), v => Query::Out(v)),
-        _ if word == b"origin".as_slice() => ask!(one_number(rest), h => Query::Origin(h)),
-        _ if word == b"between".as_slice() =>
-            ask!(two_numbers(rest), (v, w) => Query::Between(v, w)),
-        _ if word == b"get".as_slice() => ask!(one_number(rest), v => Query::Get(v)),
-        _ if word == b"check".as_slice() => ask!(nothing(rest), () => Query::Check),
+        _ if word == b"counts".as_slice() => ask!(nothing(rest), () => Counts),
+        _ if word == b"words".as_slice() => ask!(nothing(rest), () => Words),
+        _ if word == b"hull".as_slice() => ask!(nothing(rest), () => Hull),
+        _ if word == b"out".as_slice() => ask!(one_number(rest), v => Out(v)),
+        _ if word == b"origin".as_slice() => ask!(one_number(rest), h => Origin(h)),
+        _ if word == b"between".as_slice() => ask!(two_numbers(rest), (v, w) => Between(v, w)),
+        _ if word == b"get".as_slice() => ask!(one_number(rest), v => Get(v)),
+        _ if word == b"check".as_slice() => ask!(nothing(rest), () => Check),
         _ => None,
     }
 }
@@ -94,30 +93,23 @@ fn read_plain<'a, A: Allocator>(word: &[u8], rest: Rest<'a>) -> Said<A>
     ensures { Says word.now (left rest.entry) result }
 {
     match word {
-        _ if word == b"append".as_slice() => edit!(one_datum(rest), d => Command::Append(d)),
+        _ if word == b"append".as_slice() => edit!(one_datum(rest), d => Append(d)),
         _ if word == b"triangle".as_slice() =>
-            edit!(three_data(rest), (x, y, z) => Command::Triangle(x, y, z)),
-        _ if word == b"setup".as_slice() =>
-            edit!(two_numbers(rest), (a, b) => Command::Setup(a, b)),
-        _ if word == b"extend".as_slice() =>
-            edit!(two_numbers(rest), (a, b) => Command::Extend(a, b)),
-        _ if word == b"line".as_slice() => edit!(two_numbers(rest), (h, b) => Command::Line(h, b)),
-        _ if word == b"close".as_slice() => edit!(one_number(rest), h => Command::Close(h)),
-        _ if word == b"outside".as_slice() =>
-            edit!(two_numbers(rest), (h, b) => Command::Outside(h, b)),
-        _ if word == b"insert".as_slice() =>
-            edit!(two_numbers(rest), (b, f) => Command::Insert(b, f)),
-        _ if word == b"half".as_slice() => edit!(two_numbers(rest), (h, b) => Command::Half(h, b)),
-        _ if word == b"split".as_slice() =>
-            edit!(two_numbers(rest), (h, b) => Command::Split(h, b)),
-        _ if word == b"flip".as_slice() => edit!(one_number(rest), u => Command::Flip(u)),
-        _ if word == b"swap".as_slice() => edit!(two_numbers(rest), (a, b) => Command::Swap(a, b)),
-        _ if word == b"put".as_slice() =>
-            edit!(number_and_datum(rest), (v, d) => Command::Put(v, d)),
-        _ if word == b"remove".as_slice() => edit!(one_number(rest), v => Command::Remove(v)),
-        _ if word == b"degenerate".as_slice() =>
-            edit!(one_number(rest), v => Command::Degenerate(v)),
-        _ if word == b"clear".as_slice() => edit!(nothing(rest), () => Command::Clear),
+            edit!(three_data(rest), (x, y, z) => Triangle(x, y, z)),
+        _ if word == b"setup".as_slice() => edit!(two_numbers(rest), (a, b) => Setup(a, b)),
+        _ if word == b"extend".as_slice() => edit!(two_numbers(rest), (a, b) => Extend(a, b)),
+        _ if word == b"line".as_slice() => edit!(two_numbers(rest), (h, b) => Line(h, b)),
+        _ if word == b"close".as_slice() => edit!(one_number(rest), h => Close(h)),
+        _ if word == b"outside".as_slice() => edit!(two_numbers(rest), (h, b) => Outside(h, b)),
+        _ if word == b"insert".as_slice() => edit!(two_numbers(rest), (b, f) => Insert(b, f)),
+        _ if word == b"half".as_slice() => edit!(two_numbers(rest), (h, b) => Half(h, b)),
+        _ if word == b"split".as_slice() => edit!(two_numbers(rest), (h, b) => Split(h, b)),
+        _ if word == b"flip".as_slice() => edit!(one_number(rest), u => Flip(u)),
+        _ if word == b"swap".as_slice() => edit!(two_numbers(rest), (a, b) => Swap(a, b)),
+        _ if word == b"put".as_slice() => edit!(number_and_datum(rest), (v, d) => Put(v, d)),
+        _ if word == b"remove".as_slice() => edit!(one_number(rest), v => Remove(v)),
+        _ if word == b"degenerate".as_slice() => edit!(one_number(rest), v => Degenerate(v)),
+        _ if word == b"clear".as_slice() => edit!(nothing(rest), () => Clear),
         _ => read_query(word, rest),
     }
 }
@@ -129,15 +121,14 @@ fn read_after<'a, A: Allocator + Copy>(word: &[u8], rest: Rest<'a>, memory: A) -
 {
     match word {
         _ if word == b"isolate".as_slice() =>
-            edit_lists!(number_and_list(rest, memory), (v, hs) => Command::Isolate(FixedHandleImpl::new(v), hs)),
+            edit_lists!(number_and_list(rest, memory), (v, hs) => Isolate(FixedHandleImpl::new(v), hs)),
         _ if word == b"remesh".as_slice() =>
-            edit_lists!(three_lists(rest, memory), (hs, us, fs) => Command::Remesh(hs, us, fs)),
-        _ if word == b"strip".as_slice() =>
-            edit_lists!(one_list(rest, memory), hs => Command::Strip(hs)),
+            edit_lists!(three_lists(rest, memory), (hs, us, fs) => Remesh(hs, us, fs)),
+        _ if word == b"strip".as_slice() => edit_lists!(one_list(rest, memory), hs => Strip(hs)),
         _ if word == b"cleanup".as_slice() =>
-            edit_lists!(two_lists(rest, memory), (us, fs) => Command::Cleanup(us, fs)),
+            edit_lists!(two_lists(rest, memory), (us, fs) => Cleanup(us, fs)),
         _ if word == b"legalize".as_slice() =>
-            edit_lists!(number_and_list(rest, memory), (n, us) => Command::Legalize(n, us)),
+            edit_lists!(number_and_list(rest, memory), (n, us) => Legalize(n, us)),
         _ => read_plain(word, rest),
     }
 }

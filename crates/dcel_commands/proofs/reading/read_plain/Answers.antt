@@ -1,4 +1,4 @@
-use Rattle.std.proofs.Common.{◌≡◌, ◌∷◌, ℕ, ℤ, List, [], map, refl, rules, subst, sym, None}
+use Rattle.std.proofs.Common.{◌≡◌, ◌∷◌, ℕ, ℤ, List, [], map, refl, rules, None}
 use Rattle.std.specs.Prelude.{codes}
 use Rattle.dcel_commands.specs.declared.commands.query.Query.TheVariants.{Counts}
 use Rattle.dcel_commands.specs.Grammar.{Datum, item_text}
