@@ -133,13 +133,21 @@ function listWords() {
   }));
 }
 
-// Lines that are ended are said at once, as Enter ends one, and pasting several.
-at('box').oninput = () => {
-  const end = at('box').value.lastIndexOf('\n') + 1;
-  const ended = at('box').value.slice(0, end);
-  at('box').value = at('box').value.slice(end);
-  say(ended);
+/** Says the lines of a text that are ended, as Enter ends one, and leaves the rest in the box. */
+function take(given) {
+  const end = given.lastIndexOf('\n') + 1;
+  at('box').value = given.slice(end);
+  say(given.slice(0, end));
   hint();
+}
+
+at('box').oninput = () => take(at('box').value);
+// Thousands of lines would take long to come into the box.
+at('box').onpaste = event => {
+  const pasted = event.clipboardData.getData('text'), { value, selectionStart, selectionEnd } = at('box');
+  if (!pasted.includes('\n')) return;
+  event.preventDefault();
+  take(value.slice(0, selectionStart) + pasted + value.slice(selectionEnd));
 };
 at('box').onkeydown = event => {
   const way = { ArrowUp: -1, ArrowDown: 1 }[event.key];

@@ -6,7 +6,7 @@ const PAGE = 65536;
 const LEAST_HEAP = 2 ** 24, LARGEST_HEAP = 2 ** 30;
 const SHORT = 1, NO_MEMORY = 2, OUT_OF_RANGE = 3;
 
-let module;
+let compiled;
 
 /** Replies to lines, each of which ends with a line feed, on an empty mesh. */
 export function replies(lines) {
@@ -54,8 +54,8 @@ function callWithRoom(name, { room = 2 ** 20, ...asked }, heap) {
  * large, how many items the answer has, what is given, the answer, and the heap.
  */
 function callOnce(name, { given, givenSize = 1, flags = [], size = 1 }, heap, room) {
-  module ??= new WebAssembly.Module(Uint8Array.from(atob(WASM), letter => letter.charCodeAt(0)));
-  const { memory, ...exports } = new WebAssembly.Instance(module).exports;
+  compiled ??= new WebAssembly.Module(Uint8Array.from(atob(WASM), letter => letter.charCodeAt(0)));
+  const { memory, ...exports } = new WebAssembly.Instance(compiled).exports;
   const up = length => Math.ceil(length / 16) * 16;
   const before = 32 + up(given.byteLength) + up(room * size);
   const base = grown(memory, Math.ceil((before + heap) / PAGE));

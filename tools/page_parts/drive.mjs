@@ -160,9 +160,22 @@ async function points() {
   await expectDelaunay('one of many dragged far', 110);
 }
 
+/** A phone, and an engine without 64-bit memories: Chromium can play both. */
+async function elsewhere() {
+  await browser.setWidth(390);
+  for (const hash of ['', '#points=10,20;300,40;90,500']) {
+    await browser.open(address + hash);
+    await expectValue('a page as wide as a phone', 'document.documentElement.scrollWidth', 390);
+  }
+  await browser.runFirst('WebAssembly.Module = class { constructor() { throw new WebAssembly.CompileError("no 64-bit memory"); } }');
+  await browser.open(address);
+  await expectValue('the message without 64-bit memory', 'document.getElementById("lacking").hidden', false);
+}
+
 try {
   await browser.open(address);
   for (const part of [talk, moving, files, manyLines, addresses, points]) await part();
+  if (kind === 'chromium') await elsewhere();
   faults.push(...await browser.faults());
 } catch (error) {
   faults.push(error.stack);
