@@ -31,7 +31,7 @@ def make_static(target, *archives):
         whole, names = Path(work) / "dcel.o", Path(work) / "names"
         names.write_text("".join(f"{it}\n" for it in functions()))
         run("ld", "-r", "-o", whole, "--whole-archive", *archives)
-        run("objcopy", "--strip-unneeded", f"--keep-global-symbols={names}", whole)
+        run("objcopy", "--strip-unneeded", "--remove-section=.llvm_addrsig", f"--keep-global-symbols={names}", whole)
         Path(target).unlink(missing_ok=True)
         run("ar", "rcsD", target, whole)
 
