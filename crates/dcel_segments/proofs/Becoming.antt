@@ -7,17 +7,15 @@ use Rattle.dcel_predicates.specs.declared.point.Point.{Point}
 use Rattle.dcel_predicates.proofs.Signs.{ordered}
 use Rattle.dcel_maps.specs.Conditions.{CanFlip}
 use Rattle.dcel_maps.specs.edits.Flip.{edge_flipped}
-use Rattle.dcel_maps.specs.Shapes.{IsMesh, Mesh}
-use Rattle.dcel_maps.specs.Triangulations.{AllTriangles}
+use Rattle.dcel_maps.specs.Shapes.{Mesh, Shape}
 use Rattle.dcel_maps.proofs.Triangulations.{flipped}
 use Rattle.dcel_maps.proofs.words.Counts.{count-append, count-other, count-same}
 use Rattle.dcel_maps.specs.Words.{count_of}
 use Rattle.dcel_plane.specs.Edges.{edges_of_flip}
-use Rattle.dcel_plane.specs.Plane.{IsPlane, ListsCircled}
+use Rattle.dcel_plane.specs.Plane.{ListsCircled}
 use Rattle.dcel_plane.proofs.Flipped.{flip_lists}
 use Rattle.dcel_maps.proofs.edits.Flips.{flipped_mesh}
-use Rattle.dcel_covering.specs.Covering.{IsConvex, IsHull}
-use Rattle.dcel_segments.specs.Segments.{Becomes, IsChannel, flipped_each, touched, widths}
+use Rattle.dcel_segments.specs.Segments.{Becomes, IsChannel, IsPlanar, flipped_each, touched, widths}
 use Rattle.dcel_hollows.specs.Wheels.{CanTurn}
 use Rattle.dcel_segments.proofs.Channels.{all_cross, flip_keeps_channel}
 use Rattle.dcel_segments.proofs.Gates.{peak_can_turn}
@@ -32,8 +30,15 @@ within_abs (negsuc n) = (let e : unsigned_abs (negsuc n) ≡ suc n = refl in ome
 only_one : (k x : ℕ) → 0 < count_of k (x ∷ []) → k ≡ x
 only_one k x there = elim (cases_eq k x) [ inl is ↦ is | inr not ↦ absurd (let c = count-other k x [] not in omega (arith, c, there)) ]
 
+-- what stands in its place is a half of its edge
+pub kinds : (at : ℕ → Point) (s : Shape) (v w h : ℕ) (new : List ℕ) → Becomes at s v w h new → (k : ℕ) → 0 < count_of k new → k / 2 ≡ h / 2
+kinds at s v w h new (inl again) k there = ap (λ (i : ℕ). i / 2) (only_one k h (subst (λ (l : List ℕ). 0 < count_of k l) again.2 there))
+kinds at s v w h new (inr (inl turned)) k there =
+    ap (λ (i : ℕ). i / 2) (only_one k (rev h) (subst (λ (l : List ℕ). 0 < count_of k l) turned.2 there)) ∙ rev-half h
+kinds at s v w h new (inr (inr gone)) k there = absurd (let e = subst (λ (l : List ℕ). 0 < count_of k l) gone.2 there in omega (arith, e))
+
 -- what stands in the new list stood in the old one, or is a half of the edge
-in_old : (top : ℕ) (front new back old : List ℕ) → old ≡ front ++ (top ∷ back) → ((k : ℕ) → 0 < count_of k new → k / 2 ≡ top / 2)
+pub in_old : (top : ℕ) (front new back old : List ℕ) → old ≡ front ++ (top ∷ back) → ((k : ℕ) → 0 < count_of k new → k / 2 ≡ top / 2)
     → (k : ℕ) → 0 < count_of k (front ++ (new ++ back)) → (j : ℕ) × (0 < count_of j old) × (j / 2 ≡ k / 2)
 in_old top front new back old parts halves k there =
     let a = count-append k front (new ++ back) in
@@ -49,16 +54,8 @@ in_old top front new back old parts halves k there =
       )
     ]
 
--- a triangulation in the plane with a convex hull
-pub record IsWhole {V DE UE F : Type 0} (at : ℕ → Point) (m : Mesh V DE UE F) : Type 0 where
-  pub mesh : IsMesh m
-  pub triangles : AllTriangles m.shape
-  pub plane : IsPlane at m.shape
-  pub convex : IsConvex at m.shape
-  pub hull : IsHull at m.shape
-
-pub turned_whole : {V DE UE F : Type 0} (at : ℕ → Point) (m : Mesh V DE UE F) (u : ℕ) → IsWhole at m → CanTurn at m.shape u → IsWhole at (edge_flipped m u)
-turned_whole at m u whole turn = record {
+pub turned_planar : {V DE UE F : Type 0} (at : ℕ → Point) (m : Mesh V DE UE F) (u : ℕ) → IsPlanar at m → CanTurn at m.shape u → IsPlanar at (edge_flipped m u)
+turned_planar at m u whole turn = record {
   mesh = flipped_mesh m u whole.mesh turn.can;
   triangles = flipped m whole.triangles u;
   plane = turn_keeps_plane m whole.mesh at u turn whole.plane;
@@ -71,22 +68,22 @@ pub record IsMade {V DE UE F : Type 0} (at : ℕ → Point) (m : Mesh V DE UE F)
   pub edges : List ℕ
   pub only : (u : ℕ) → 0 < count_of u edges → (h : ℕ) × (0 < count_of h crossed) × (h / 2 ≡ u)
   pub lists : (due : List ℕ) → ListsCircled at m.shape due → ListsCircled at (flipped_each m edges).shape (due ++ touched m edges)
-  pub whole : IsWhole at (flipped_each m edges)
+  pub whole : IsPlanar at (flipped_each m edges)
   pub joins : Joins (flipped_each m edges) whole.mesh whole.triangles v w
 
 module _ (V DE UE F : Type 0) (at : ℕ → Point) (v w : ℕ) (differ : v ≢ w) where
   abbrev Makes : ℕ → Type 0
-  Makes n = (m : Mesh V DE UE F) → IsWhole at m → (list : List ℕ) → IsChannel at m.shape v w list → widths at m.shape v w list ≤ℤ pos n → IsMade at m v w list
+  Makes n = (m : Mesh V DE UE F) → IsPlanar at m → (list : List ℕ) → IsChannel at m.shape v w list → widths at m.shape v w list ≤ℤ pos n → IsMade at m v w list
 
   -- one flip
-  module _ (m : Mesh V DE UE F) (whole : IsWhole at m) (h : ℕ) (rest : List ℕ) (channel : IsChannel at m.shape v w (h ∷ rest)) where
+  module _ (m : Mesh V DE UE F) (whole : IsPlanar at m) (h : ℕ) (rest : List ℕ) (channel : IsChannel at m.shape v w (h ∷ rest)) where
     found : HasPeak m whole.mesh whole.triangles at whole.plane whole.convex v w (ends_of at m.shape v w (h ∷ rest) channel) (h ∷ rest)
     found = has_peak m whole.mesh whole.triangles at whole.plane whole.convex v w (ends_of at m.shape v w (h ∷ rest) channel) h rest channel
 
     record IsStep : Type 0 where
       u : ℕ
       can : CanFlip m.shape u
-      next : IsWhole at (edge_flipped m u)
+      next : IsPlanar at (edge_flipped m u)
       list : List ℕ
       again : IsChannel at (edge_flipped m u).shape v w list
       narrower : widths at (edge_flipped m u).shape v w list <ℤ widths at m.shape v w (h ∷ rest)
@@ -105,13 +102,13 @@ module _ (V DE UE F : Type 0) (at : ℕ → Point) (v w : ℕ) (differ : v ≢ w
         record {
           u = found.top / 2;
           can = turn.can;
-          next = turned_whole at m (found.top / 2) whole turn;
+          next = turned_planar at m (found.top / 2) whole turn;
           list = found.front ++ (left.new ++ found.back);
           again = left.channel;
           narrower =
               subst (λ (l : List ℕ). widths at (edge_flipped m (found.top / 2)).shape v w (found.front ++ (left.new ++ found.back)) <ℤ widths at m.shape v w l) (sym found.parts)
               left.narrower;
-          among = λ k there. in_old found.top found.front left.new found.back (h ∷ rest) found.parts (kinds left.new left.becomes) k there;
+          among = λ k there. in_old found.top found.front left.new found.back (h ∷ rest) found.parts (kinds at m.shape v w found.top left.new left.becomes) k there;
           itself = (
             found.top,
             subst (λ (l : List ℕ). 0 < count_of found.top l) (sym found.parts)
@@ -119,12 +116,6 @@ module _ (V DE UE F : Type 0) (at : ℕ → Point) (v w : ℕ) (differ : v ≢ w
             refl,
           );
         }
-      where
-        kinds : (new : List ℕ) → Becomes at m.shape v w found.top new → (k : ℕ) → 0 < count_of k new → k / 2 ≡ found.top / 2
-        kinds new (inl again) k there = ap (λ (i : ℕ). i / 2) (only_one k found.top (subst (λ (l : List ℕ). 0 < count_of k l) again.2 there))
-        kinds new (inr (inl turned)) k there =
-            ap (λ (i : ℕ). i / 2) (only_one k (rev found.top) (subst (λ (l : List ℕ). 0 < count_of k l) turned.2 there)) ∙ rev-half found.top
-        kinds new (inr (inr gone)) k there = absurd (let e = subst (λ (l : List ℕ). 0 < count_of k l) gone.2 there in omega (arith, e))
 
   makes : (n : ℕ) → Makes n
   makes n m whole [] channel less = record {
@@ -156,8 +147,8 @@ module _ (V DE UE F : Type 0) (at : ℕ → Point) (v w : ℕ) (differ : v ≢ w
         joins = made.joins;
       }
 
-  pub made : (m : Mesh V DE UE F) → IsWhole at m → (list : List ℕ) → IsChannel at m.shape v w list → IsMade at m v w list
+  pub made : (m : Mesh V DE UE F) → IsPlanar at m → (list : List ℕ) → IsChannel at m.shape v w list → IsMade at m v w list
   made m whole list channel = makes (unsigned_abs (widths at m.shape v w list)) m whole list channel (within_abs (widths at m.shape v w list))
 
-pub made_of : {V DE UE F : Type 0} (at : ℕ → Point) (v w : ℕ) → v ≢ w → (m : Mesh V DE UE F) → IsWhole at m → (list : List ℕ) → IsChannel at m.shape v w list → IsMade at m v w list
+pub made_of : {V DE UE F : Type 0} (at : ℕ → Point) (v w : ℕ) → v ≢ w → (m : Mesh V DE UE F) → IsPlanar at m → (list : List ℕ) → IsChannel at m.shape v w list → IsMade at m v w list
 made_of {V} {DE} {UE} {F} at v w differ m whole list channel = made V DE UE F at v w differ m whole list channel

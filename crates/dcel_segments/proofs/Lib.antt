@@ -9,3 +9,5 @@ pub mod Starting
 pub mod Becoming
 pub mod Listing
 pub mod Walking
+pub mod Sides
+pub mod Stepping

@@ -1,14 +1,16 @@
 -- The edges that cross the segment from the vertex v to the vertex w.
-use Rattle.std.specs.Prelude.{◌≡◌, ◌⊎◌, ℕ, ◌<◌, ◌≤◌, List, [], ◌∷◌, ◌++◌, ℤ, pos, ◌+ℤ◌, ◌-ℤ◌, ◌<ℤ◌, ◌≤ℤ◌}
+use Rattle.std.specs.Prelude.{◌≡◌, ◌⊎◌, ℕ, ◌<◌, ◌≤◌, ◌/◌, List, [], ◌∷◌, ◌++◌, ℤ, pos, ◌+ℤ◌, ◌-ℤ◌, ◌<ℤ◌, ◌≤ℤ◌}
 use Rattle.dcel_fixed.specs.HalfEdges.{rev}
 use Rattle.dcel_predicates.specs.declared.point.Point.{Point}
 use Rattle.dcel_predicates.specs.Determinants.{orient2d_of}
 use Rattle.dcel_maps.specs.edits.Flip.{edge_flipped}
-use Rattle.dcel_maps.specs.Shapes.{IsLive, Mesh, Shape, end_of, face_of, origin_of, prev_of}
+use Rattle.dcel_maps.specs.Shapes.{IsLive, IsMesh, Mesh, Shape, end_of, face_of, origin_of, prev_of}
+use Rattle.dcel_maps.specs.Triangulations.{AllTriangles}
 use Rattle.dcel_maps.specs.Words.{count_of}
 use Rattle.dcel_plane.specs.Edges.{edges_of_flip}
-use Rattle.dcel_plane.specs.Plane.{TurnsLeft}
-use Rattle.dcel_covering.specs.Covering.{apart_along}
+use Rattle.dcel_plane.specs.Plane.{IsPlane, TurnsLeft}
+use Rattle.dcel_covering.specs.Covering.{IsConvex, IsHull, apart_along}
+use Rattle.dcel_hollows.specs.Wheels.{CanTurn}
 
 -- how far a vertex lies on the left of the segment
 abbrev pub offset : (ℕ → Point) → ℕ → ℕ → ℕ → ℤ
@@ -116,3 +118,32 @@ flipped_each m (u ∷ list) = flipped_each (edge_flipped m u) list
 abbrev pub touched : {V DE UE F : Type 0} → Mesh V DE UE F → List ℕ → List ℕ
 touched m [] = []
 touched m (u ∷ list) = edges_of_flip m.shape u ++ touched (edge_flipped m u) list
+
+-- a mesh of triangles that go round counterclockwise, with a convex hull that passes each vertex once
+pub record IsPlanar {V DE UE F : Type 0} (at : ℕ → Point) (m : Mesh V DE UE F) : Type 0 where
+  pub mesh : IsMesh m
+  pub triangles : AllTriangles m.shape
+  pub plane : IsPlane at m.shape
+  pub convex : IsConvex at m.shape
+  pub hull : IsHull at m.shape
+
+-- each of these edges, when its turn comes after those before it are flipped, lies between two inner triangles and can be flipped so that
+-- both go round counterclockwise again
+abbrev pub CanTurnEach : {V DE UE F : Type 0} → (ℕ → Point) → Mesh V DE UE F → List ℕ → Type 0
+CanTurnEach at m [] = Unit {0}
+CanTurnEach at m (u ∷ list) = CanTurn at m.shape u × CanTurnEach at (edge_flipped m u) list
+
+-- such flips, and nothing else, make the mesh `new` of `old`, and each edge is that of a half edge in the list
+pub record TurnsInto {V DE UE F : Type 0} (at : ℕ → Point) (old new : Mesh V DE UE F) (list : List ℕ) : Type 0 where
+  pub turned : List ℕ
+  pub can : CanTurnEach at old turned
+  pub is : new ≡ flipped_each old turned
+  pub only : (u : ℕ) → 0 < count_of u turned → (h : ℕ) × (0 < count_of h list) × (h / 2 ≡ u)
+
+-- the edges around the face f are in the list `due`
+abbrev pub HasSides : List ℕ → Shape → ℕ → Type 0
+HasSides due s f = (k : ℕ) → IsLive s k → face_of s k ≡ f → 0 < count_of (k / 2) due
+
+-- and those around the faces on both sides of each half edge of a list
+abbrev pub HasSidesOf : List ℕ → Shape → List ℕ → Type 0
+HasSidesOf due s list = (h : ℕ) → 0 < count_of h list → HasSides due s (face_of s h) × HasSides due s (face_of s (rev h))
