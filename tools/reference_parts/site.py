@@ -196,9 +196,7 @@ class Site:
 
     def write(self, folder):
         """Writes all pages, with what they show, unless something is wrong with what they are made of."""
-        paths = sorted(self.project.root.glob("crates/*/specs/**/*.antt"))
-        parts = [("Rattle", *it.relative_to(self.project.root / "crates").with_suffix("").parts) for it in paths]
-        self.specs = [it for it in (self.project.spec(names[:-1] if names[-1] == "Lib" else names) for names in parts) if it and it.items]
+        self.specs = [it for library in self.project.libraries() for it in self.project.specs_of(library.crate)]
         for module in self.places.modules:
             self.module(module)
             for name, item in self.places.shown[module]:
@@ -216,7 +214,7 @@ class Site:
         for url, text in self.files.items():
             (folder / url).parent.mkdir(parents=True, exist_ok=True)
             (folder / url).write_text(text)
-        (folder / "names.js").write_text(f"const names = {json.dumps(sorted(self.names), ensure_ascii=False)};\n")
+        (folder / "names.js").write_text(f"names = {json.dumps(sorted(self.names), ensure_ascii=False)};\n")
         for name in ("style.css", "search.js"):
             shutil.copyfile(LOOKS / name, folder / name)
         (folder / "pictures").mkdir(exist_ok=True)
