@@ -11,7 +11,7 @@ const WIDTHS = [390, 1280];
 const [folder, ...named] = process.argv.slice(2);
 const root = `${pathToFileURL(resolve(folder))}/`;
 const pages = named.length ? named : readdirSync(folder, { recursive: true }).filter(it => it.endsWith('.html')).sort();
-const lanes = await Promise.all(Array.from({ length: named.length ? 1 : 3 }, () => startChromium()));
+const lanes = await Promise.all(Array.from({ length: Math.min(3, pages.length) }, () => startChromium()));
 const seen = new Map(), faults = [];
 
 // What a page has: the names of its places, where its links lead, and what it takes in.

@@ -44,7 +44,7 @@ class Places:
         if isinstance(target, Inside):
             return self.inside(target.item, target.name)
         if isinstance(target, Item) and target.owner is not None:
-            return self.inside(target.owner, target.name)
+            return self.inside(target.owner, next((name for name, it in target.owner.calls.items() if it is target), target.name))
         if target in self.items:
             return self.items[target]
         if target in self.inner or (isinstance(target, Definition) and target.home.parts[2] == "specs"):
