@@ -4,7 +4,7 @@ import re
 
 from reference_parts.resting import Rests
 
-ROW = re.compile(r"(?m)^\| `([\w:]+)` \|.* \| (\d+) \| (\d+) \| (\d+) \| (\d+) \|$")
+ROW = re.compile(r"(?m)^\| `([\w:]+)` \| (.*) \| (\d+) \| (\d+) \| (\d+) \| (\d+) \|$")
 COMMAND = re.compile(r"`tools/believe ([\w:]+)`")
 SAID = re.compile(r"([\d,]+)\s+definitions[^.]*?([\d,]+)\s+lines")
 
@@ -14,13 +14,13 @@ def counts(part):
 
 
 def believed(root):
-    """The contracts that docs/PROVED.md counts, in its order."""
-    return [found[1] for found in ROW.finditer((root / "docs/PROVED.md").read_text())]
+    """The contracts that docs/PROVED.md counts, in its order, each with what it promises."""
+    return [found.group(1, 2) for found in ROW.finditer((root / "docs/PROVED.md").read_text())]
 
 
 def count_faults(project, text):
     """Numbers of a document that aren't those that the tool counts: those of a table's row, and those beside a command to count them."""
-    for name, *told in ROW.findall(text):
+    for name, _, *told in ROW.findall(text):
         yield from fault(project, name, [int(it) for it in told])
     for paragraph in text.split("\n\n"):
         if (command := COMMAND.search(paragraph)) and (said := SAID.findall(paragraph)):

@@ -20,7 +20,6 @@ FRAME = """<!doctype html>
 <meta name="viewport" content="width=device-width, initial-scale=1">
 <title>{title}</title>
 <link rel="stylesheet" href="{root}style.css">
-<script src="{root}names.js" defer></script>
 <script src="{root}search.js" defer></script>
 <header><nav>{crumbs}</nav><form role="search" hidden><input type="search" placeholder="Search names" aria-label="Search names"><ul></ul></form></header>
 <main>

@@ -42,11 +42,16 @@ class Places:
         if isinstance(target, Source):
             return self.modules.get(target)
         if isinstance(target, Inside):
-            inner = isinstance(target.item, Item) and target.name in (*target.item.inside, *target.item.calls)
-            address = self.address(target.item)
-            return f"{address.split('#')[0]}#{quote(target.name)}" if inner and target.item in self.items else address
+            return self.inside(target.item, target.name)
         if isinstance(target, Item) and target.owner is not None:
-            return self.address(Inside(target.owner, target.name))
-        if isinstance(target, Definition) or target in self.items or target in self.inner:
-            return self.page(target) + ("" if target in self.items else f"#{quote(target.name)}")
+            return self.inside(target.owner, next((name for name, it in target.owner.calls.items() if it is target), target.name))
+        if target in self.items:
+            return self.items[target]
+        if target in self.inner or (isinstance(target, Definition) and target.home.parts[2] == "specs"):
+            return f"{self.page(target)}#{quote(target.name)}"
         return None
+
+    def inside(self, item, name):
+        """The address of what stands inside an item, which is that of the item where it has no place of its own."""
+        found = isinstance(item, Item) and item in self.items and (item.calls.get(name) or item.inside.get(name))
+        return f"{self.items[item]}#{quote(name)}" if found and found.public and found.kind != "kept" else self.address(item)

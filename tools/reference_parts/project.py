@@ -99,6 +99,14 @@ class Project:
             self.specs[parts] = SpecFile(self, path, parts) if path else None
         return self.specs[parts]
 
+    def specs_of(self, crate):
+        """The files of a crate that have definitions."""
+        folder = self.root / "crates"
+        for path in sorted(folder.glob(f"{crate}/specs/**/*.antt")):
+            parts = ("Rattle", *path.relative_to(folder).with_suffix("").parts)
+            if (spec := self.spec(parts[:-1] if parts[-1] == "Lib" else parts)).items:
+                yield spec
+
     def module(self, parts):
         return Module(self, tuple(parts))
 

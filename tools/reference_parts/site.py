@@ -61,7 +61,7 @@ class Site:
 
     def clauses(self, page, title, clauses, words_of, records):
         if clauses:
-            page.add(f"<h3>{title}</h3>", "<dl>")
+            page.add(f"<h3>{title}</h3>", "<dl class=clauses>")
             for it in clauses:
                 page.add(f"<dt>{escape(it.name)}</dt>", f"<dd><pre>{page.term(it.text, words_of(it), records)}</pre></dd>")
             page.add("</dl>")
@@ -77,10 +77,10 @@ class Site:
         for title, kind in (("For some", "ghost"), ("Asks", "requires"), ("Gives", "ensures")):
             some = [it for it in call.clauses if it.kind.startswith(kind)]
             self.clauses(page, title, some, lambda it: clause_words(call, it), rests.items)
-        for part, of in ((rests.meaning, ""), (rests.values, ", to say what values are read as")):
+        for part, of in ((rests.meaning, "Rests"), (rests.values, "Its values rest")):
             if part:
                 links = " ".join(page.link(it, escape(it.name)) for it in part)
-                page.add(f"<details><summary>Rests on {part}{of}</summary><p class=names>{links}</p></details>")
+                page.add(f"<details><summary>{of} on {part}</summary><p class=names>{links}</p></details>")
         page.add("</section>")
 
     def members(self, page, item):
@@ -110,10 +110,14 @@ class Site:
         else:
             page.add(f"<h1>{name}</h1>", page.code(item.text, Scope(item)), page.comment(item.doc, item.home, item, self.place(item)))
             self.members(page, item)
-            for call in item.calls.values():
-                if call.public:
-                    self.note(f"{name}::{call.name}", "call", f"{page.url}#{call.name}")
-                    self.call(page, call, "h2", call.name)
+            calls, block = {name: it for name, it in item.calls.items() if it.public}, None
+            page.add(f"<p class=names>{' '.join(page.link(it, it.name) for it in calls.values())}</p>")
+            for anchor, call in calls.items():
+                if call.block is not block:
+                    block = call.block
+                    page.add(page.comment(block.doc, block.home, item, self.place(block)), page.code(block.text, Scope(block)))
+                self.note(f"{name}::{call.name}", "call", f"{page.url}#{anchor}")
+                self.call(page, call, "h2", anchor)
             for block in item.impls:
                 if block.name not in ("", "Model"):
                     page.add(f"<h2>{escape(block.name)}</h2>", page.code(block.text, Scope(block)))
@@ -162,7 +166,7 @@ class Site:
             if item.section is not section and item.section.text:
                 page.add(f"<p>In what follows <code>{escape(item.section.text.strip())}</code></p>")
             section = item.section
-            page.add(f'<section id="{escape(item.name)}"><h2>{escape(item.name)}</h2>', page.definition_comment(item.comment))
+            page.add(f'<section class=definition id="{escape(item.name)}"><h2>{escape(item.name)}</h2>', page.definition_comment(item.comment))
             page.add(f"<pre>{page.term(item.text, item.words(), near(item))}</pre></section>")
         self.keep(page, f"{name} - {spec.parts[1]}", [(spec.parts[1], f"{spec.parts[1]}/index.html")])
 
@@ -181,24 +185,27 @@ class Site:
     def front(self):
         page = self.page("index.html")
         page.add((LOOKS / "front.html").read_text(), "<h2 id=believe>What to believe</h2>", "<dl class=list>")
-        for name in believed(self.project.root):
+        for name, promise in believed(self.project.root):
             call = self.project.calls(name)[0]
             rests = self.rests[call]
-            values = f"; {rests.values}, to say what values are read as" if rests.values else ""
-            said = page.comment(prose.summary(call.doc), call.home, call.owner, name)
-            page.add(f"<dt>{page.link(call, name)}</dt><dd>{said}<p class=count>{rests.meaning}{values}</p></dd>")
+            values = f"; for values {rests.values}" if rests.values else ""
+            page.add(f"<dt>{page.link(call, name)}</dt><dd>{prose.shown([promise], str)}<p class=count>{rests.meaning}{values}</p></dd>")
         page.add("</dl>", "<h2>Crates</h2>", "<dl class=list>")
         for library in self.project.libraries():
             said = page.comment(prose.summary(library.doc), library, None, library.crate)
-            page.add(f"<dt>{page.link(library, library.crate)}</dt><dd>{said}</dd>")
+            page.add(f"<dt>{page.link(library, library.crate)}</dt><dd>{said}<p class=count>{self.counted(library)}</p></dd>")
         page.add("</dl>")
         self.files["index.html"] = page.written("Reference", [("reference", "index.html")])
 
+    def counted(self, library):
+        """How many items of each kind a library shows, calls of types among them."""
+        items = [it for it in self.places.items if it.home.crate == library.crate]
+        kinds = [KINDS[it.kind] for it in items] + ["calls" for item in items for it in item.calls.values() if it.public]
+        return ", ".join(f"{kinds.count(kind)} {kind}" for kind in dict.fromkeys(KINDS.values()) if kind in kinds)
+
     def write(self, folder):
         """Writes all pages, with what they show, unless something is wrong with what they are made of."""
-        paths = sorted(self.project.root.glob("crates/*/specs/**/*.antt"))
-        parts = [("Rattle", *it.relative_to(self.project.root / "crates").with_suffix("").parts) for it in paths]
-        self.specs = [it for it in (self.project.spec(names[:-1] if names[-1] == "Lib" else names) for names in parts) if it and it.items]
+        self.specs = [it for library in self.project.libraries() for it in self.project.specs_of(library.crate)]
         for module in self.places.modules:
             self.module(module)
             for name, item in self.places.shown[module]:
@@ -216,7 +223,7 @@ class Site:
         for url, text in self.files.items():
             (folder / url).parent.mkdir(parents=True, exist_ok=True)
             (folder / url).write_text(text)
-        (folder / "names.js").write_text(f"const names = {json.dumps(sorted(self.names), ensure_ascii=False)};\n")
+        (folder / "names.js").write_text(f"names = {json.dumps(sorted(self.names), ensure_ascii=False)};\n")
         for name in ("style.css", "search.js"):
             shutil.copyfile(LOOKS / name, folder / name)
         (folder / "pictures").mkdir(exist_ok=True)

@@ -142,7 +142,8 @@ class Source:
         for name, item in block.calls.items():
             item.owner, item.block = owner, block
             if not trait:
-                owner.calls[name] = item
+                # Two impls for different arguments of a type may have calls of one name.
+                owner.calls[f"{name}-{len(owner.calls)}" if name in owner.calls else name] = item
 
     def find(self, parts, seen=frozenset()):
         """What a path means here."""

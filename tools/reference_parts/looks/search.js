@@ -4,6 +4,15 @@ const form = document.querySelector('form[role=search]');
 const box = form.querySelector('input');
 const list = form.querySelector('ul');
 const root = document.documentElement.dataset.root;
+let names = [];
+
+/** Takes in the list of names once somebody is about to search. */
+function takeNames() {
+  const script = document.createElement('script');
+  script.src = `${root}names.js`;
+  script.onload = show;
+  document.head.append(script);
+}
 
 /** How well a name fits what was typed: the lower, the better; none for a name that doesn't. */
 function rank(name, typed) {
@@ -25,6 +34,7 @@ function show() {
   }));
 }
 
+box.addEventListener('focus', takeNames, { once: true });
 box.addEventListener('input', show);
 form.addEventListener('submit', event => {
   event.preventDefault();
