@@ -16,5 +16,11 @@ pub mod HullCorners
 pub mod Hollows
 pub mod Cutting
 pub mod Flat
+pub mod Stripping
+pub mod Chains
+pub mod Strung
 pub mod Strips
 pub mod FlatFlips
+pub mod Flattened
+pub mod Shortened
+pub mod PathShortened
