@@ -24,3 +24,4 @@ pub mod FlatFlips
 pub mod Flattened
 pub mod Shortened
 pub mod PathShortened
+pub mod LinePaths

@@ -14,7 +14,7 @@ use Rattle.dcel_maps.specs.Removals.{ascending, gives_up_face, opened}
 use Rattle.dcel_maps.specs.Shapes.{IsLive, IsMesh, Mesh, Shape, end_of, face_count, face_of, map_of, next_of, origin_of, prev_of}
 use Rattle.dcel_maps.specs.Strips.{IsEdgeStrip, IsStripAround}
 use Rattle.dcel_maps.specs.Triangulations.{AllTriangles}
-use Rattle.dcel_maps.specs.Walking.{IsRoundTrip, ccw_of, walk_of}
+use Rattle.dcel_maps.specs.Walking.{IsOutEdge, IsRoundTrip, ccw_of, walk_of}
 use Rattle.dcel_maps.specs.Words.{word_of}
 use Rattle.dcel_maps.proofs.maps.Reaching.{reaches_stays}
 use Rattle.dcel_maps.proofs.maps.Soundness.{face_cycles, rev_live}
@@ -24,6 +24,7 @@ use Rattle.dcel_maps.proofs.removal.StripSectors.{long_iff}
 use Rattle.dcel_maps.proofs.removal.StripSpokes.{trip}
 use Rattle.dcel_maps.proofs.shapes.Maps.{face-live, map-sound}
 use Rattle.dcel_maps.proofs.walks.Links.{ccw-lawful, links_stand, next-live, prev-live}
+use Rattle.dcel_maps.proofs.walks.Turning.{walk-out_edges}
 use Rattle.dcel_maps.proofs.walks.UnderWay.{walk-round}
 use Rattle.dcel_maps.proofs.words.Ascending.{length-ascending}
 use Rattle.dcel_maps.proofs.words.EachSet.{but_last-is}
@@ -31,8 +32,8 @@ use Rattle.dcel_maps.proofs.words.Reading.{face-prev}
 use Rattle.dcel_plane.specs.Plane.{IsPlane, TurnsLeft}
 use Rattle.dcel_covering.specs.Covering.{IsConvex, IsHull}
 use Rattle.dcel_covering.proofs.Inside.{on_start}
-use Rattle.dcel_hollows.specs.Wheels.{IsFan, turns}
-use Rattle.dcel_hollows.proofs.HullCorners.{corner_fan}
+use Rattle.dcel_hollows.specs.Wheels.{CanTurn, IsFan, IsHollow, LiesOnHull, turns}
+use Rattle.dcel_hollows.proofs.HullCorners.{corner_fan, corner_turn}
 use Rattle.dcel_hollows.proofs.Turning.{closes}
 
 -- the last neighbor of a fan is not the first
@@ -123,18 +124,77 @@ module _ {V DE UE F : Type 0} (m : Mesh V DE UE F) (mesh : IsMesh m) (triangles 
         long = subst (λ f. 2 < length (word_of s.words f)) outer ((long_iff s mesh.sound h live).1 (not_back (some_spoke g live_g inner)));
       }
 
--- what is given up with a strip: one face less than edges
-pub record GivesUp {V DE UE F : Type 0} (m : Mesh V DE UE F) (list : List ℕ) (v : ℕ) : Type 0 where
+  -- an edge can be flipped, or the corner can go: it lies between its neighbors, or is hollow
+  module _ (none : (e : ℕ) → IsOutEdge m.shape (origin_of m.shape h) e → ¬ CanTurn at m.shape (e / 2)) (g : ℕ) (live_g : IsLive m.shape g) (inner_g : 0 < face_of m.shape g) where
+    abbrev w : List ℕ
+    w = walk_of m.shape (ccw_of m.shape) h
+
+    abbrev Hollow : Type 0
+    Hollow = IsHollow (at (origin_of m.shape h)) (λ i. at (end_of m.shape (turns (ccw_of m.shape) (suc i) h))) (length (walk_of m.shape (ccw_of m.shape) h) - 1)
+
+    abbrev Lies : Type 0
+    Lies = LiesOnHull (at (origin_of m.shape h)) (λ i. at (end_of m.shape (turns (ccw_of m.shape) (suc i) h))) (length (walk_of m.shape (ccw_of m.shape) h) - 1)
+
+    -- the last neighbor is where the outer half edge ends
+    last : neighbor (length w - 1) ≡ at (end_of s h)
+    last =
+        let many = some_spoke g live_g inner_g in
+        let e : suc (length w - 1) ≡ length w = omega (arith, many) in
+        ap (λ k. at (end_of s k)) (ap (λ n. turns (ccw_of s) n h) e ∙ closes (ccw_of s) h w round)
+
+    gone : Hollow ⊎ Lies
+    gone = elim (cases_lt 2 (length w)) [
+      | inl many ↦ elim (corner_turn m mesh triangles at plane convex hull h live outer w round many) [
+        | inr gone ↦ gone
+        | inl found ↦ absurd
+            (none found.0 ((walk-out_edges mesh.sound (origin_of s h) h (record { live = live; start = refl })).no_other found.0 found.1) found.2)
+      ]
+      | inr few ↦
+          let fan = corner_fan m mesh triangles at plane convex hull h live outer w round in
+          let more = some_spoke g live_g inner_g in
+          let one : length w - 1 ≡ 0 + 1 = omega (arith, few, more) in
+          inl (record {
+            strict = subst (λ (k : ℕ). TurnsLeft (at (origin_of s h)) (neighbor 0) (neighbor k)) (sym one) (fan.left 0 (omega (arith, one)));
+            flat = λ i within. absurd (omega (arith, within, one));
+          })
+    ]
+
+    pub corner_lies : orient2d_of (at (origin_of m.shape h)) (at (end_of m.shape h)) (at (end_of m.shape (ccw_of m.shape h))) ≡ pos 0 → Lies
+    corner_lies flat = elim gone [
+      | inr lies ↦ lies
+      | inl hollow ↦ absurd
+          (let left : TurnsLeft (at (origin_of s h)) (neighbor 0) (at (end_of s h)) = subst (λ (q : Point). TurnsLeft (at (origin_of s h)) (neighbor 0) q) last hollow.strict in
+          let turned = orient2d-last_swapped (at (origin_of s h)) (neighbor 0) (at (end_of s h)) in
+          omega (arith, ordered, left, turned, flat))
+    ]
+
+    pub corner_hollow : ¬ (orient2d_of (at (origin_of m.shape h)) (at (end_of m.shape h)) (at (end_of m.shape (ccw_of m.shape h))) ≡ pos 0) → Hollow
+    corner_hollow turn = elim gone [
+      | inl hollow ↦ hollow
+      | inr lies ↦ absurd
+          (let two : neighbor 2 ≡ at (end_of s h) = ap neighbor (sym lies.two) ∙ last in
+          let on : orient2d_of (at (origin_of s h)) (neighbor 0) (at (end_of s h)) ≡ pos 0 =
+          subst (λ (q : Point). orient2d_of (at (origin_of s h)) (neighbor 0) q ≡ pos 0) two lies.on in
+          let turned = orient2d-last_swapped (at (origin_of s h)) (neighbor 0) (at (end_of s h)) in
+          turn (omega (arith, ordered, on, turned)))
+    ]
+
+-- what is given up with a strip: the edges of the vertex, and one face less
+pub record GivesUp {V DE UE F : Type 0} (m : Mesh V DE UE F) (list : List ℕ) (v h : ℕ) : Type 0 where
   pub removal : (strip_cut m list).shape.removal ≡ opened (strip_edges m.shape list) (strip_faces m.shape list) v
   pub faces : face_count (strip_cut m list).shape ≡ face_count m.shape
   pub one_more : length (ascending (strip_edges m.shape list)) ≡ length (ascending (strip_faces m.shape list)) + 1
+  pub edges : length (ascending (strip_edges m.shape list)) ≡ length (walk_of m.shape (ccw_of m.shape) h)
 
-pub strip_given_up : {V DE UE F : Type 0} (m : Mesh V DE UE F) → IsMesh m → (list : List ℕ) (strip : IsEdgeStrip m.shape list) → GivesUp m list strip.vertex
+pub strip_given_up : {V DE UE F : Type 0} (m : Mesh V DE UE F) → IsMesh m → (list : List ℕ) (strip : IsEdgeStrip m.shape list) → GivesUp m list strip.vertex strip.half
 strip_given_up m mesh list strip =
     let s = m.shape in
     let items = map (next_of s) (trip s mesh.sound mesh.sphere strip.vertex strip.half strip.around).rest in
     let is : list ≡ items ++ next_of s strip.half ∷ [] = strip.is ∙ strip-is s mesh.sound mesh.sphere strip.vertex strip.half strip.around in
     let half : strip_half s list ≡ strip.half = ap (strip_half s) is ∙ half-is s mesh.sound mesh.sphere strip.vertex strip.half strip.around in
+    let walked = trip s mesh.sound mesh.sphere strip.vertex strip.half strip.around in
+    let long : length (walk_of s (ccw_of s) strip.half) ≡ length items + 1 =
+    ap length walked.from ∙ (let l = length-map walked.rest (next_of s) in omega (arith, l)) in
     let edges : length (strip_edges s list) ≡ length items + 1 =
     length-map list (λ e. prev_of s e / 2) ∙ ap length is ∙ length-append items (next_of s strip.half ∷ []) in
     let faces : length (strip_faces s list) ≡ length items =
@@ -142,5 +202,6 @@ strip_given_up m mesh list strip =
     record {
       removal = ap (opened (strip_edges s list) (strip_faces s list)) (ap (origin_of s) half ∙ strip.around.out.start);
       faces = length-hiding (gives_up_face (strip_record s list)) [] (slice_set s.words 0 (strip_word s list)) ∙ length-set s.words 0 (strip_word s list);
+      edges = length-ascending (strip_edges s list) ∙ edges ∙ sym long;
       one_more = length-ascending (strip_edges s list) ∙ edges ∙ ap (λ n. n + 1) (sym faces ∙ sym (length-ascending (strip_faces s list)));
     }

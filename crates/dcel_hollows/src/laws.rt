@@ -5,7 +5,7 @@ ghost use Rattle.dcel_predicates.specs.declared.point.Point.{Point};
 ghost use Rattle.dcel_predicates.specs.Determinants.{orient2d_of};
 ghost use Rattle.dcel_maps.specs.Borders.{IsBorderLoop};
 ghost use Rattle.dcel_maps.specs.Conditions.{CanFlip};
-ghost use Rattle.dcel_maps.specs.Degenerate.{CanRemoveDegenerate};
+ghost use Rattle.dcel_maps.specs.Degenerate.{CanRemoveDegenerate, HasFewOutEdges};
 ghost use Rattle.dcel_maps.specs.edits.Degenerate.{removed_degenerate};
 ghost use Rattle.dcel_maps.specs.edits.Fill.{hole_filled};
 ghost use Rattle.dcel_maps.specs.edits.Flip.{edge_flipped};
@@ -161,6 +161,20 @@ pub fn corners_of_the_hull_have_a_strip<V, DE, UE, F>()
         → IsStripAround m.shape (origin_of m.shape h) h }
 {}
 
+/// Where none of its edges can be flipped, a corner is hollow, or lies between its neighbors on the hull.
+pub fn corners_without_an_edge_to_flip_can_go<V, DE, UE, F>()
+    ensures hollow { (at : ℕ → Point) (m : Mesh V DE UE F) (h g : ℕ) → IsMesh m → AllTriangles m.shape → IsPlane at m.shape
+        → IsConvex at m.shape → IsHull at m.shape → IsLive m.shape h → face_of m.shape h ≡ 0
+        → ((e : ℕ) → IsOutEdge m.shape (origin_of m.shape h) e → ¬ CanTurn at m.shape (e / 2)) → IsLive m.shape g → 0 < face_of m.shape g
+        → ¬ (orient2d_of (at (origin_of m.shape h)) (at (end_of m.shape h)) (at (end_of m.shape (ccw_of m.shape h))) ≡ pos 0)
+        → IsHollow (at (origin_of m.shape h)) (λ i. at (end_of m.shape (turns (ccw_of m.shape) (suc i) h))) (length (walk_of m.shape (ccw_of m.shape) h) - 1) }
+    ensures between { (at : ℕ → Point) (m : Mesh V DE UE F) (h g : ℕ) → IsMesh m → AllTriangles m.shape → IsPlane at m.shape
+        → IsConvex at m.shape → IsHull at m.shape → IsLive m.shape h → face_of m.shape h ≡ 0
+        → ((e : ℕ) → IsOutEdge m.shape (origin_of m.shape h) e → ¬ CanTurn at m.shape (e / 2)) → IsLive m.shape g → 0 < face_of m.shape g
+        → orient2d_of (at (origin_of m.shape h)) (at (end_of m.shape h)) (at (end_of m.shape (ccw_of m.shape h))) ≡ pos 0
+        → LiesOnHull (at (origin_of m.shape h)) (λ i. at (end_of m.shape (turns (ccw_of m.shape) (suc i) h))) (length (walk_of m.shape (ccw_of m.shape) h) - 1) }
+{}
+
 /// Where no neighbor of a corner turns left, what lies in the corner's angle, but in none of its
 /// triangles, is on the right of all sides that face the corner: the hull can go along them.
 pub fn hollow_corners_leave_all_on_the_right()
@@ -226,6 +240,11 @@ pub fn flat_corners_can_be_cut_off<V, DE, UE, F>()
 /// A flip after which both triangles turn left keeps a mesh in the plane, circled or not.
 pub fn turning_flips_keep_the_plane<V, DE, UE, F>()
     ensures { (at : ℕ → Point) (m : Mesh V DE UE F) (u : ℕ) → IsMesh m → CanTurn at m.shape u → IsPlane at m.shape → IsPlane at (edge_flipped m u).shape }
+{}
+
+/// On a straight line one or two half edges lead out of each vertex that has one.
+pub fn straight_lines_are_paths<V, DE, UE, F>()
+    ensures { (at : ℕ → Point) (m : Mesh V DE UE F) (v h : ℕ) → IsMesh m → IsStraight at m.shape → IsOutEdge m.shape v h → HasFewOutEdges m.shape v }
 {}
 
 /// `remove_when_degenerate` keeps a line straight, down to nothing.
