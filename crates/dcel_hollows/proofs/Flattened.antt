@@ -30,6 +30,7 @@ use Rattle.dcel_hulls.proofs.Keeping.{flip_outer}
 use Rattle.dcel_hollows.specs.Wheels.{CanTurnAt, IsFlattened, LiesOnHull, turns}
 use Rattle.dcel_hollows.proofs.Fewer.{flip_takes_one}
 use Rattle.dcel_hollows.proofs.FlatFlips.{flip_plane_but}
+use Rattle.dcel_hollows.proofs.FlippedInside.{outer_end, outer_start, outer_stays, outer_word}
 use Rattle.dcel_hollows.proofs.HullCorners.{corner_turn_at, inner_at, spoke}
 use Rattle.dcel_hollows.proofs.Stripping.{corner_strip}
 use Rattle.dcel_hollows.proofs.Turnable.{both_halves}
@@ -98,37 +99,17 @@ module _ {V DE UE F : Type 0} (m : Mesh V DE UE F) (mesh : IsMesh m) (triangles 
   mesh_after : IsMesh (edge_flipped m (turns (ccw_of m.shape) 2 h / 2))
   mesh_after = flipped_mesh m u mesh can
 
-  -- an outer half edge isn't of that edge, and nor is its other half
-  off : (x : ℕ) → face_of s x ≡ 0 → (x ≢ 2 * u) × (x ≢ 2 * u + 1)
-  off x on = (
-    λ is. (let f = ap (face_of s) is in let i = inner in omega (arith, f, i, on)),
-    λ is. (let f = ap (face_of s) is in let i = inner_facing in omega (arith, f, i, on)),
-  )
-
   same_start : (x : ℕ) → IsLive s x → face_of s x ≡ 0 → origin_of n x ≡ origin_of s x
-  same_start x live_x on = origin_same m mesh u can at x live_x (off x on).0 (off x on).1
+  same_start = outer_start m mesh u can inner inner_facing
 
   same_end : (x : ℕ) → IsLive s x → face_of s x ≡ 0 → end_of n x ≡ end_of s x
-  same_end x live_x on =
-      origin_same m mesh u can at (rev x) (rev_live (map_of s) x live_x)
-      (λ is. (off x on).1 (sym (rev-rev x) ∙ ap rev is ∙ rev-double u))
-      (λ is. (off x on).0 (sym (rev-rev x) ∙ ap rev is ∙ rev-double-suc u))
+  same_end = outer_end m mesh u can inner inner_facing
 
-  -- the outer face stays
   word_stays : word_of n.words 0 ≡ word_of s.words 0
-  word_stays =
-      let f = face_of s (2 * u) in
-      let g = face_of s (2 * u + 1) in
-      let first = from_least ((2 * u) ∷ prev_of s (2 * u + 1) ∷ next_of s (2 * u) ∷ []) in
-      let second = from_least ((2 * u + 1) ∷ prev_of s (2 * u) ∷ next_of s (2 * u + 1) ∷ []) in
-      get_or-set_other (slice_set s.words f first) g 0 second [] (λ is. (let i = inner_facing in omega (arith, is, i)))
-      ∙ get_or-set_other s.words f 0 first [] (λ is. (let i = inner in omega (arith, is, i)))
+  word_stays = outer_word m mesh u can inner inner_facing
 
   on_after : (x : ℕ) → IsLive s x → face_of s x ≡ 0 → face_of n x ≡ 0
-  on_after x live_x on =
-      face_in_word (map_of n) n.words (links_stand mesh_after.sound) x 0
-      (subst (λ (l : List ℕ). 0 < count_of x l) (sym word_stays)
-      (subst (λ (f : ℕ). 0 < count_of x (word_of s.words f)) on (stands_in_face (map_of s) s.words (links_stand mesh.sound) x live_x)))
+  on_after = outer_stays m mesh u can inner inner_facing
 
   around : IsStripAround n o h
   around =

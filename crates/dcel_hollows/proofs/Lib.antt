@@ -21,6 +21,7 @@ pub mod Chains
 pub mod Strung
 pub mod Strips
 pub mod FlatFlips
+pub mod FlippedInside
 pub mod Flattened
 pub mod Shortened
 pub mod PathShortened

@@ -145,7 +145,7 @@ module _ {V DE UE F : Type 0} (m : Mesh V DE UE F) (mesh : IsMesh m) (triangles 
     gone : Hollow ⊎ Lies
     gone = elim (cases_lt 2 (length w)) [
       | inl many ↦ elim (corner_turn m mesh triangles at plane convex hull h live outer w round many) [
-        | inr gone ↦ gone
+        | inr either ↦ either
         | inl found ↦ absurd
             (none found.0 ((walk-out_edges mesh.sound (origin_of s h) h (record { live = live; start = refl })).no_other found.0 found.1) found.2)
       ]
