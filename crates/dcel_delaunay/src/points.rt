@@ -20,7 +20,7 @@ use crate::locating::locate;
 use crate::mesh::Mesh;
 use crate::position::PositionInTriangulation;
 use crate::removed::Removed;
-use crate::removing::remove_off_line;
+use crate::removing::remove_from_triangles;
 use crate::triangulation::Triangulation;
 use dcel_predicates::Point;
 use spade_dcel::handles::{FixedDirectedEdgeHandle, FixedVertexHandle};
@@ -181,6 +181,6 @@ impl<A: Allocator + Clone> Triangulation<A> {
         if self.dcel.num_faces() == 1 {
             return Ok(remove_from_line(&mut self.dcel, vertex));
         }
-        remove_off_line(&mut self.dcel, &mut self.due, vertex)
+        remove_from_triangles(&mut self.dcel, &mut self.due, vertex)
     }
 }

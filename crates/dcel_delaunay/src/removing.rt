@@ -22,7 +22,7 @@ use spade_dcel::laws::every_mesh;
 use std::alloc::{AllocError, Allocator};
 
 /// Removes a vertex of triangles, inside of them or on the hull.
-pub(crate) fn remove_off_line<A: Allocator + Clone, L: Allocator>(
+pub(crate) fn remove_from_triangles<A: Allocator + Clone, L: Allocator>(
     dcel: &mut Mesh<A>,
     due: &mut Due<L>,
     vertex: FixedVertexHandle,

@@ -1,7 +1,7 @@
 use Rattle.std.proofs.Common.{ap, arith, inr}
 use Rattle.dcel_maps.specs.Renumbering.{cleaned}
 use Rattle.dcel_delaunay.proofs.Growth.{keeps-trans}
-use Rattle.dcel_delaunay.proofs.Lost.{lost_before, more_vertices, outside_below}
+use Rattle.dcel_delaunay.proofs.Lost.{lost_before, more_vertices, on_err, outside_below}
 use Rattle.dcel_delaunay.proofs.TakenOut.{taken_hull, taken_loses, taken_sound}
 use Rattle.dcel_delaunay.proofs.removing.cut_out_corner.Goals as goal
 
@@ -18,7 +18,8 @@ take_out-requires-clause-given_up g c = ap cleaned c.in_ok-opened.ensures.given_
 
 pub returns-in_err-opened-clause-keeps : goal.returns-in_err-opened-clause-keeps
 returns-in_err-opened-clause-keeps g c =
-    keeps-trans c.args.dcel.now c.thin_out.new.dcel c.cut_off.new.dcel c.thin_out.ensures.keeps c.in_err-opened.ensures.keeps
+    on_err c.from_residual-in_err-opened.result _
+    (keeps-trans c.args.dcel.now c.thin_out.new.dcel c.cut_off.new.dcel c.thin_out.ensures.keeps c.in_err-opened.ensures.keeps)
 
 pub returns-in_err-opened-clause-hull : goal.returns-in_err-opened-clause-hull
 returns-in_err-opened-clause-hull g c = inr c.in_err-opened.ensures.hull
