@@ -1,8 +1,8 @@
 -- A vertex of a line removed: the others stand on it still.
-use Rattle.std.proofs.Common.{◌≡◌, ◌≢◌, inl, inr, ℕ, ◌+◌, ◌-◌, ◌/◌, ◌<◌, ◌==◌, true, cond, [], Option, Some, None, slice_index_or, eq-eqb, refl, sym, ap, ◌∙◌, subst, arith}
-use Rattle.std.proofs.lemmas.Bool.{cases_eq, cases_lt, ne_eqb}
+use Rattle.std.proofs.Common.{◌≡◌, ◌≢◌, inl, inr, ℕ, ◌+◌, ◌-◌, ◌/◌, ◌<◌, ◌==◌, true, cond, [], Option, Some, None, slice_index_or, eq-eqb, refl, sym, ◌∙◌, subst, arith}
+use Rattle.std.proofs.lemmas.Bool.{cases_eq, ne_eqb}
 use Rattle.std.proofs.lemmas.List.{length-map, length-set}
-use Rattle.dcel_maps.specs.Degenerate.{CanRemoveDegenerate, HasFewOutEdges}
+use Rattle.dcel_maps.specs.Degenerate.{CanRemoveDegenerate}
 use Rattle.dcel_maps.specs.edits.Degenerate.{going, path_given_up, removed_degenerate}
 use Rattle.dcel_maps.specs.Removals.{Closed, gives_up_vertex}
 use Rattle.dcel_maps.specs.Renumbering.{moved}

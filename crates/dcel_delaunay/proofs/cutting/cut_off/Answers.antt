@@ -1,4 +1,3 @@
-use Rattle.std.proofs.Common.{◌≡◌, refl}
 use Rattle.dcel_delaunay.specs.Growing.{HasHull, IsSound, Keeps}
 use Rattle.dcel_delaunay.proofs.CutOff.{corner_around, cut_given, not_cut}
 use Rattle.dcel_delaunay.proofs.Growth.{keeps-refl}

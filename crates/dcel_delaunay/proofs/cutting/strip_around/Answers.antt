@@ -1,6 +1,5 @@
-use Rattle.std.proofs.Common.{◌≡◌, ◌∙◌, ap, arith}
 use Rattle.dcel_maps.specs.Walking.{ccw_of, walk_of}
-use Rattle.dcel_delaunay.proofs.Gathering.{gathers_none, turned_once}
+use Rattle.dcel_delaunay.proofs.Gathering.{gathers_none}
 use Rattle.dcel_delaunay.proofs.cutting.strip_around.Goals as goal
 
 pub loop-edge-init : goal.loop-edge-init

@@ -1,4 +1,4 @@
-use Rattle.std.proofs.Common.{ap, arith, inr}
+use Rattle.std.proofs.Common.{ap, inr}
 use Rattle.dcel_maps.specs.Renumbering.{cleaned}
 use Rattle.dcel_delaunay.proofs.Growth.{keeps-trans}
 use Rattle.dcel_delaunay.proofs.Lost.{lost_before, more_vertices, on_err, outside_below}

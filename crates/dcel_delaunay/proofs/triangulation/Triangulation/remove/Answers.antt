@@ -1,7 +1,7 @@
 use Rattle.std.proofs.Common.{◌≡◌, ◌≢◌, ℕ, List, inl, arith, sym, subst}
 use Rattle.dcel_delaunay.specs.Growing.{IsSound}
 use Rattle.dcel_maps.specs.Shapes.{face_count}
-use Rattle.dcel_delaunay.proofs.Lost.{kept_from, lost_from, no_vertex, same_count}
+use Rattle.dcel_delaunay.proofs.Lost.{kept_from, lost_from, same_count}
 use Rattle.dcel_delaunay.proofs.Recovered.{whole_again}
 use Rattle.dcel_delaunay.proofs.Whole.{flat_alone, hull_more, way_either}
 use Rattle.dcel_delaunay.proofs.triangulation.Triangulation.remove.Goals as goal
@@ -30,8 +30,8 @@ invariant_of-self-clause-sound g c =
 pub invariant_of-self-clause-under_way : goal.invariant_of-self-clause-under_way
 invariant_of-self-clause-under_way g c =
     ∣ way_either c.remove_from_line.new.dcel c.finish.new.self.due.items
-      (subst (λ (list : List ℕ). IsSound c.remove_from_line.new.dcel list) (sym c.in-Ok.ensures.whole) c.remove_from_line.ensures.sound)
-      (inl c.remove_from_line.ensures.flat) ∣₁
+    (subst (λ (list : List ℕ). IsSound c.remove_from_line.new.dcel list) (sym c.in-Ok.ensures.whole) c.remove_from_line.ensures.sound)
+    (inl c.remove_from_line.ensures.flat) ∣₁
 
 pub returns-clause-removes : goal.returns-clause-removes
 returns-clause-removes g c =
