@@ -30,3 +30,6 @@ pub mod TakenOut
 pub mod Bordered
 pub mod Renaming
 pub mod Lost
+pub mod Gathering
+pub mod CutOff
+pub mod LineRemoved
