@@ -30,3 +30,4 @@ pub mod TakenOut
 pub mod Bordered
 pub mod Renaming
 pub mod Lost
+pub mod Distances

@@ -20,6 +20,7 @@ mod legalizing;
 mod line;
 mod locating;
 mod mesh;
+mod nearest;
 mod placing;
 mod points;
 mod position;
