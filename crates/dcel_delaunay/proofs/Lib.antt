@@ -30,6 +30,7 @@ pub mod TakenOut
 pub mod Bordered
 pub mod Renaming
 pub mod Lost
-pub mod Gathering
 pub mod CutOff
+pub mod Distances
+pub mod Gathering
 pub mod LineRemoved

@@ -22,6 +22,7 @@ mod line;
 mod line_removing;
 mod locating;
 mod mesh;
+mod nearest;
 mod placing;
 mod points;
 mod position;

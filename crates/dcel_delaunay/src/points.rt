@@ -1,12 +1,13 @@
 //! What a triangulation of points offers: its mesh, points located, and points inserted one after
 //! another.
 
-ghost use Rattle.std.specs.Prelude.{◌≡◌, ◌↔◌, ℕ, ◌<◌, ◌≤◌, [], IfErr, IfOk, IsTrue, OnOk};
+ghost use Rattle.std.specs.Prelude.{◌≡◌, ◌↔◌, ℕ, ◌<◌, ◌≤◌, [], IfErr, IfNone, IfOk, IfSome, IsTrue, OnOk};
 ghost use Rattle.dcel_maps.specs.Conditions.{IsUnconnected};
 ghost use Rattle.dcel_maps.specs.Removals.{Closed};
 ghost use Rattle.dcel_maps.specs.Shapes.{face_count};
 ghost use Rattle.dcel_maps.specs.Triangulations.{AllTriangles};
 ghost use Rattle.dcel_plane.specs.Plane.{IsDelaunay, point_at};
+ghost use Rattle.dcel_places.specs.Nearest.{IsNearest};
 ghost use Rattle.dcel_delaunay.specs.Places.{IsPlace};
 ghost use Rattle.dcel_delaunay.specs.Removing.{Loses};
 ghost use Rattle.dcel_delaunay.specs.Triangulated.{CirclesAreEmpty, FacesAreApart, GoesRoundHull, HullIsCovered, IsWhole, KeepsVertex, PointsAreSingle, Stays, Takes, mesh_in};
@@ -18,6 +19,7 @@ use crate::legalizing::legalize;
 use crate::line_removing::remove_from_line;
 use crate::locating::locate;
 use crate::mesh::Mesh;
+use crate::nearest::nearest;
 use crate::position::PositionInTriangulation;
 use crate::removed::Removed;
 use crate::removing::remove_from_triangles;
@@ -96,6 +98,20 @@ impl<A: Allocator> Triangulation<A> {
         ensures { IsPlace (mesh_in self.now) point result }
     {
         locate(&self.dcel, self.last, point)
+    }
+
+    /// Returns a vertex that no other one is nearer to a point than, or `None` if there is no vertex.
+    ///
+    /// Asks for a whole triangulation ([`is_whole`](Self::is_whole)): where memory ran out,
+    /// [`finish`](Self::finish) makes it so. A walk from neighbor to neighbor, each nearer than the
+    /// last one, begins at the vertex that the last insertion returned.
+    pub fn nearest_vertex(&self, point: Point) -> Option<FixedVertexHandle>
+        requires whole { IsWhole self.now }
+        ensures vertex { IfSome result (λ v. v < (mesh_in self.now).shape.vertices) }
+        ensures nearest { IfSome result (IsNearest (point_at (mesh_in self.now)) (mesh_in self.now).shape point) }
+        ensures none { IfNone result ((mesh_in self.now).shape.vertices ≡ 0) }
+    {
+        nearest(&self.dcel, self.last, point)
     }
 
     /// Inserts a point, and returns its vertex: a new one, or the one that stands there already.
