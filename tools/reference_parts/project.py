@@ -151,7 +151,7 @@ class Project:
         for used in range(len(parts) - 1, 3, -1):
             path = self.kit.joinpath(*parts[1:used]).with_suffix(".antt")
             if path.is_file():
-                return word if parts[-1] in words_of(path) else None
+                return word if parts[-1] in written_in(path) else None
         passed_on = re.search(rf"(?m)^pub use (Rattle\.\S+\.{parts[3]})$", text_of(self.kit.joinpath(*parts[1:3], "Lib.antt")))
         return word if passed_on and self.find_in_kit((*passed_on[1].split("."), *parts[4:])) else None
 
@@ -162,7 +162,7 @@ def text_of(path):
 
 
 @functools.cache
-def words_of(path):
+def written_in(path):
     return set(re.split(r"[\s{},]+", without_comments(text_of(path))))
 
 

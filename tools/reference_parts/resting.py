@@ -5,9 +5,9 @@ import re
 from typing import NamedTuple
 
 from reference_parts.project import Kit
-from reference_parts.sources import TYPE, Item, end_of_generics, split
+from reference_parts.sources import TYPE, Item, closing, end_of_generics, split
 from reference_parts.specs import Definition
-from reference_parts.terms import Field, Inside, Reader, Unknown
+from reference_parts.terms import Field, Inside, Unknown, words_of
 
 GIVEN = set("Ok Err Some None bool char str u8 u16 u32 u64 u128 usize i8 i16 i32 i64 i128 isize f32 f64".split())
 
@@ -91,20 +91,11 @@ class Scope:
         """The parameters and the result of a call, with their types."""
         text = re.sub(r"^.*?\bfn \w+", "", self.item.text, count=1, flags=re.DOTALL)
         text = text[end_of_generics(text) if text.startswith("<") else 0 :].strip()
-        end = closing_of(text)
+        end = closing(text, 0)
         for part in split(text[1:end]):
             name, colon, kind = part.partition(":")
             yield (name.replace("mut ", "").strip() if colon else "self"), (kind if colon else "Self")
         yield "result", text[end + 1 :].split("->", 1)[-1] if "->" in text[end:] else ""
-
-
-def closing_of(text):
-    depth = 0
-    for at, sign in enumerate(text):
-        depth += (sign in "([") - (sign in ")]")
-        if not depth:
-            return at
-    return len(text)
 
 
 def model(item):
@@ -124,9 +115,7 @@ def clause_words(item, clause, trait=None):
     """What the words of a clause name."""
     scope = Scope(item, trait)
     names = {"result", *(name for name, _ in scope.parameters())} if item.kind == "fn" else set()
-    reader = Reader(clause.text, scope.names)
-    reader.read(0, len(clause.text), names)
-    return sorted(set(reader.words), key=lambda it: it[:2])
+    return words_of(clause.text, scope.names, names)
 
 
 def of_words(call, trait=None):
@@ -173,7 +162,7 @@ def below(item):
     """What a definition or a declaration names."""
     if isinstance(item, Item):
         return tuple(of_item(item))
-    return tuple(it.target for it in (*item.words(), *item.section.words(item.home)))
+    return tuple(it.target for it in (*item.words(), *item.section.read(item.home)[1]))
 
 
 def near(item):

@@ -13,7 +13,7 @@ from reference_parts.places import Places
 from reference_parts.resting import Rests, Scope, clause_words, model, near
 from reference_parts.sources import Item, Source
 from reference_parts.specs import Definition
-from reference_parts.terms import Reader
+from reference_parts.terms import words_of
 
 KINDS = {"fn": "calls", "struct": "types", "enum": "types", "type": "types", "trait": "traits", "const": "constants", "static": "constants"}
 LOOKS = Path(__file__).resolve().parent / "looks"
@@ -90,16 +90,11 @@ class Site:
                 comment = page.comment(it.doc, item.home, item, self.place(it))
                 page.add(f'<div id="{it.name}"><code>{escape(it.name)}</code> {comment}</div>')
         kept = [it for it in item.inside.values() if it.kind == "kept"]
-        self.clauses(page, "Always so", kept, lambda it: self.words(item, it.text), near(item))
+        self.clauses(page, "Always so", kept, lambda it: words_of(it.text, Scope(item).names, item.inside), near(item))
         if model(item):
             block = next(it for it in item.impls if it.name == "Model")
             self.clauses(page, "Read in clauses as", model(item), lambda it: clause_words(block, it), near(item))
         self.clauses(page, "Promises of each type", [it for it in item.clauses if it.kind == "member"], lambda it: clause_words(item, it), ())
-
-    def words(self, item, text):
-        reader = Reader(text, Scope(item).names)
-        reader.read(0, len(text), set(item.inside))
-        return sorted(set(reader.words), key=lambda it: it[:2])
 
     def item(self, name, item, module):
         """The page of an item."""
@@ -201,7 +196,8 @@ class Site:
         """How many items of each kind a library shows, calls of types among them."""
         items = [it for it in self.places.items if it.home.crate == library.crate]
         kinds = [KINDS[it.kind] for it in items] + ["calls" for item in items for it in item.calls.values() if it.public]
-        return ", ".join(f"{kinds.count(kind)} {kind}" for kind in dict.fromkeys(KINDS.values()) if kind in kinds)
+        counts = {kind: kinds.count(kind) for kind in dict.fromkeys(KINDS.values())}
+        return ", ".join(f"{count} {kind if count > 1 else kind[:-1]}" for kind, count in counts.items() if count)
 
     def write(self, folder):
         """Writes all pages, with what they show, unless something is wrong with what they are made of."""

@@ -9,9 +9,11 @@ from reference_parts.terms import Inside
 OTHER = re.compile(r"//[^\n]*|\"(?:[^\"\\]|\\.)*\"|b?'(?:[^'\\\n]|\\[^\n]+?)'", re.DOTALL)
 HEAD = re.compile(
     r"(?P<public>pub(?P<narrow>\([^)]*\))?\s+)?"
-    r"(?P<kind>(?:(?:const|unsafe|extern)\s+)*fn|struct|enum|trait|unsafe impl|impl|mod|const|static|type|(?:ghost )?use|ghost|macro_rules!)\b\s*"
+    r"(?P<kind>(?:(?:const|unsafe|extern)\s+)*fn|struct|enum|trait|unsafe impl|impl|mod|const|static|type|(?:ghost )?use|ghost)\b\s*"
     r"(?P<name>\w+)?"
 )
+TRIVIA = re.compile(r"[\s,]+|//(?P<kind>/|!|) ?(?P<said>[^\n]*)|(?P<attribute>#!?\[)")
+MEMBER = re.compile(r"(?:pub(?:\([^)]*\))? )?(ghost )?(\w+)")
 CLAUSE = re.compile(r"\s*(ghost|requires|ensures)(\*?)\s*(\w+)?:?\s*\{")
 TYPE = re.compile(r"(?<!')\b[A-Za-z_]\w*(?:::\w+)*")
 
@@ -26,12 +28,16 @@ def closing(text, start):
     raise ValueError(f"a bracket isn't closed: {text[start : start + 60]}")
 
 
-def end_of(text, start, signs):
-    """Where one of these signs stands outside of all brackets."""
-    at = start
-    while text[at] not in signs:
-        at = closing(text, at) + 1 if text[at] in "([{" else at + 1
-    return at
+def end_of(text, start, signs, end):
+    """Where one of these signs stands outside of all brackets, or where all ends."""
+    while start < end and text[start] not in signs:
+        start = past(text, start)
+    return start
+
+
+def past(text, at):
+    """Where what stands there is past: a sign, or a bracket with all that is in it."""
+    return closing(text, at) + 1 if text[at] in "([{" else at + 1
 
 
 def split(text):
@@ -53,7 +59,6 @@ class Clause:
     kind: str
     name: str
     text: str
-    line: int
 
 
 @dataclass(eq=False)
@@ -89,9 +94,7 @@ class Item:
         """A variant, a field, a method or a ghost member, or one of what an alias stands for."""
         if name in self.inside:
             return Inside(self, name, self.inside[name].kind == "variant")
-        if name in self.calls:
-            return Inside(self, name)
-        if any(name == it.name for it in self.clauses if it.kind == "member"):
+        if name in self.calls or any(name == it.name for it in self.clauses if it.kind == "member"):
             return Inside(self, name)
         if self.kind == "type":
             meant = self.home.find(tuple(TYPE.search(self.text.split("=", 1)[1])[0].split("::")))
@@ -133,11 +136,11 @@ class Source:
         head = re.sub(r"^(unsafe )?impl\s*", "", block.text)
         if head.startswith("<"):
             head = head[end_of_generics(head) :].lstrip()
-        trait, _, name = ["", "", head] if not re.search(r"\sfor\s", head) else re.split(r"(\sfor\s)", head, maxsplit=1)
+        *trait, name = re.split(r"\sfor\s", head, maxsplit=1)
         owner = self.find(tuple(TYPE.search(name)[0].split("::")))
         if not isinstance(owner, Item):
             return
-        block.name, block.owner = trait.strip(), owner
+        block.name, block.owner = "".join(trait).strip(), owner
         owner.impls.append(block)
         for name, item in block.calls.items():
             item.owner, item.block = owner, block
@@ -181,45 +184,45 @@ class Parser:
 
     def run(self, at, end, owner):
         """Reads what stands between two places, of a file or inside an item."""
-        doc = []
+        at, doc = self.comments(at, end)
         while at < end:
-            rest = self.text[at:end]
-            if found := re.match(r"\s+", rest):
-                at += found.end()
-            elif found := re.match(r"//(/|!|)( ?)([^\n]*)", rest):
-                (self.home.doc if found[1] == "!" else doc if found[1] else []).append(found[3])
-                at += found.end()
-            elif rest.startswith("#"):
-                at = closing(self.blank, self.blank.index("[", at)) + 1
-            else:
-                at, doc = self.item(at, owner, doc), []
+            at, doc = self.comments(self.item(at, owner, doc), end)
+
+    def comments(self, at, end):
+        """Goes over comments and attributes. Returns where something else begins, and the comment that speaks of it."""
+        doc = []
+        while found := TRIVIA.match(self.text, at, end):
+            if found["kind"]:
+                (doc if found["kind"] == "/" else self.home.doc).append(found["said"])
+            at = past(self.blank, found.end() - 1) if found["attribute"] else found.end()
+        return at, doc
 
     def item(self, at, owner, doc):
         """Reads an item. Returns where it ends."""
         found = HEAD.match(self.blank, at)
         if not found:
-            end = end_of(self.blank, at, "{;")
-            return closing(self.blank, end) + 1 if self.blank[end] == "{" else end + 1
+            return past(self.blank, end_of(self.blank, at, "{;", len(self.blank)))
         kind = found["kind"].split()[-1]
         public = bool(found["public"]) and not found["narrow"] or (owner is not None and owner.kind == "trait")
-        item = Item(kind, found["name"] or "", self.home, self.text.count("\n", 0, at) + 1, public, doc, owner=owner)
-        if kind in ("use", "ghost"):
-            return self.brings(item, at, owner)
-        if kind == "fn":
-            return self.function(item, at, found.end(), owner)
-        if kind in ("impl", "trait"):
-            return self.block(item, at, found.end())
-        if kind == "mod":
-            return self.module(item, at, found.end())
-        end = end_of(self.blank, found.end(), ";" if kind in ("const", "static", "type") else "{;")
-        inner = end
-        if self.blank[end] == "{":
-            end = closing(self.blank, end)
+        item = Item(kind, found["name"] or "", self.home, self.line(at), public, doc, owner=owner)
+        readers = {"use": self.brings, "ghost": self.brings, "fn": self.function, "impl": self.block, "trait": self.block}
+        return readers.get(kind, self.plain)(item, at, found.end(), owner)
+
+    def line(self, at):
+        return self.text.count("\n", 0, at) + 1
+
+    def plain(self, item, at, inner, owner):
+        """Reads a module, a type or a constant."""
+        inner = end_of(self.blank, inner, ";" if item.kind in ("const", "static", "type") else "{;", len(self.blank))
+        end = past(self.blank, inner)
+        if item.kind == "mod":
+            if self.blank[inner] == ";":
+                self.home.child(item.name, item.public)
+            return end
         self.keep(item, owner)
-        if kind in ("struct", "enum"):
-            self.members(item, inner + 1, end)
-        item.text = self.declaration(at, end + 1)
-        return end + 1
+        self.members(item, inner + 1, end - 1)
+        item.text = self.declaration(at, end)
+        return end
 
     def keep(self, item, owner):
         (self.home.items if owner is None else owner.calls)[item.name] = item
@@ -236,78 +239,51 @@ class Parser:
 
     def members(self, item, start, end):
         """Reads the fields of a struct or the variants of an enum."""
-        at, doc, sign = start, [], r"(?:pub(?P<narrow>\([^)]*\))? )?(?P<ghost>ghost )?(?P<name>\w+)"
+        at, doc = self.comments(start, end)
         while at < end:
-            if found := re.compile(r"\s+|,").match(self.text, at):
-                at = found.end()
-            elif found := re.compile(r"//(/?) ?([^\n]*)").match(self.text, at):
-                doc += [found[2]] if found[1] else []
-                at = found.end()
-            elif self.text[at] == "#":
-                at = closing(self.blank, self.blank.index("[", at)) + 1
-            else:
-                found = re.compile(sign).match(self.blank, at)
-                stop = at
-                while stop < end and self.blank[stop] != ",":
-                    stop = closing(self.blank, stop) + 1 if self.blank[stop] in "([{" else stop + 1
-                line, text = self.text.count("\n", 0, at) + 1, self.text[found.end() : stop].lstrip(": ")
-                kind = "variant" if item.kind == "enum" else "kept" if found["ghost"] else "field"
-                public = kind == "variant" or self.text.startswith("pub ", at)
-                item.inside[found["name"]] = Item(kind, found["name"], self.home, line, public, doc, text, item)
-                at, doc = stop, []
+            found, stop = MEMBER.match(self.blank, at), end_of(self.blank, at, ",", end)
+            kind = "variant" if item.kind == "enum" else "kept" if found[1] else "field"
+            public = kind == "variant" or self.text.startswith("pub ", at)
+            text = self.text[found.end() : stop].lstrip(": ")
+            item.inside[found[2]] = Item(kind, found[2], self.home, self.line(at), public, doc, text, item)
+            at, doc = self.comments(stop, end)
 
     def function(self, item, at, end, owner):
         """Reads a call: its signature and clauses."""
         while self.blank[end] not in "{;" and not (self.blank[end].isspace() and CLAUSE.match(self.blank, end)):
-            end = closing(self.blank, end) + 1 if self.blank[end] in "([" else end + 1
+            end = past(self.blank, end)
         item.text = self.declaration(at, end)
         self.keep(item, owner)
         while found := CLAUSE.match(self.blank, end):
-            stop = closing(self.blank, found.end() - 1)
-            line = self.text.count("\n", 0, found.start(1)) + 1
-            item.clauses.append(Clause(found[1] + found[2], found[3] or "", self.text[found.end() : stop].strip(), line))
-            end = stop + 1
-        end = end_of(self.blank, end, "{;")
-        return closing(self.blank, end) + 1 if self.blank[end] == "{" else end + 1
+            end = past(self.blank, found.end() - 1)
+            item.clauses.append(Clause(found[1] + found[2], found[3] or "", self.text[found.end() : end - 1].strip()))
+        return past(self.blank, end_of(self.blank, end, "{;", len(self.blank)))
 
-    def block(self, item, at, end):
+    def block(self, item, at, end, owner):
         """Reads a trait or an impl."""
-        end = end_of(self.blank, end, "{;")
-        item.text = self.declaration(at, end).strip()
-        if self.blank[end] == ";":
-            return end + 1
-        stop = closing(self.blank, end)
-        item.ghost = self.home.project.brought()
-        self.run(end + 1, stop, item)
+        end = end_of(self.blank, end, "{;", len(self.blank))
+        stop = past(self.blank, end)
+        item.text, item.ghost = self.declaration(at, end).strip(), self.home.project.brought()
+        self.run(end + 1, stop - 1, item)
         if item.kind == "trait":
-            self.keep(item, None)
+            self.keep(item, owner)
         else:
             self.home.pending.append(item)
-        return stop + 1
+        return stop
 
-    def module(self, item, at, end):
-        """Reads a module that stands here, or in a file of its own."""
-        end = end_of(self.blank, end, "{;")
-        if self.blank[end] == ";":
-            self.home.child(item.name, item.public)
-            return end + 1
-        return closing(self.blank, end) + 1
-
-    def brings(self, item, at, owner):
+    def brings(self, item, at, end, owner):
         """Reads a `use`, a `ghost use` or what is said of a ghost member."""
-        end = end_of(self.blank, at, ";")
+        end = end_of(self.blank, at, ";", len(self.blank))
         said = " ".join(self.text[at:end].split())
         if said.startswith("ghost use "):
             (owner.ghost if owner is not None else self.home.ghost).bring(said.removeprefix("ghost "))
         elif item.kind == "ghost":
             inner = self.blank.index("{", at)
-            text = self.text[inner + 1 : closing(self.blank, inner)].strip()
-            owner.clauses.append(Clause("member", item.name, text, item.line))
+            owner.clauses.append(Clause("member", item.name, self.text[inner + 1 : closing(self.blank, inner)].strip()))
         else:
             for path, name in used(said.split("use ", 1)[1]):
                 self.home.uses[name] = path
-                if item.public:
-                    self.home.reexports.append(name)
+                self.home.reexports += [name] if item.public else []
         return end + 1
 
 

@@ -1,5 +1,6 @@
 """Files of definitions: what each declares and brings in."""
 
+import functools
 import re
 from dataclasses import dataclass, field
 
@@ -80,7 +81,7 @@ class Definition:
 
     def read(self):
         reader = Reader(self.text, self.home.names)
-        names = self.section.bound(self.home)
+        names, _ = self.section.read(self.home)
         for start, end in self.parts():
             line = self.text[start:end]
             head = re.match(rf"\s*{MARKS.pattern}(?:(record|data)\s+)?(?:pub )?", line).end()
@@ -104,16 +105,12 @@ class Section:
     def __init__(self, outer, indent, text):
         self.outer, self.indent, self.text, self.opens = outer, indent, text, []
 
-    def bound(self, home):
-        names = self.outer.bound(home) if self.outer else set()
+    @functools.cache
+    def read(self, home):
+        """The names that are bound inside, and what the words of the parameters name, also of the sections around it."""
+        names, words = self.outer.read(home) if self.outer else (set(), [])
         reader = Reader("\n".join([self.text, *self.opens]), home.names)
-        return reader.read(0, len(reader.text), names)
-
-    def words(self, home):
-        """What the words of its parameters name, and of the sections around it."""
-        reader = Reader("\n".join([self.text, *self.opens]), home.names)
-        reader.read(0, len(reader.text), self.outer.bound(home) if self.outer else set())
-        return reader.words + (self.outer.words(home) if self.outer else [])
+        return reader.read(0, len(reader.text), names), words + reader.words
 
 
 class Brought:
@@ -201,7 +198,8 @@ class SpecFile(Brought):
         marks = MARKS.match(said)
         found = DECLARES.match(re.sub(r"^(record|data) pub ", r"\1 ", said[marks.end() :]))
         name = bare(found[2])
-        self.items[name] = Definition(found[1] or "definition", name, self, number, section, [it.strip()[2:].strip() for it in comment], indent=indent)
+        said = [it.strip().removeprefix("--").strip() for it in comment]
+        self.items[name] = Definition(found[1] or "definition", name, self, number, section, said, indent=indent)
         return self.items[name]
 
     def names(self, name):

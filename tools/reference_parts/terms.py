@@ -9,7 +9,8 @@ TOKEN = re.compile(rf"⟦<.*?>⟧(?:\.{PART})*|\.?{PART}(?:\.{PART})*|[(){{}}.;,
 COMMENT = re.compile(r"--[^\n]*|//[^\n]*|\"(?:[^\"\\]|\\.)*\"")
 SIGNS = set("( ) { } . ; , = : | → × λ ↦ _ [ ]".split())
 # What the language has without an import, its tactics too.
-OWN = set("let in record open use as where pub Type Unit tt ⊥ absurd ¬ ∥ ∥₁ rw simp search assumption cc omega grind hlevel IsProp IsSet refl Path 𝓛".split())
+OWN = "let in record open use as where pub Type Unit tt ⊥ absurd ¬ ∥ ∥₁ IsProp IsSet refl Path 𝓛 rw simp search assumption cc omega grind hlevel"
+OWN = set(OWN.split())
 # What a reference leads to at which time, and the reference itself.
 TIMES = set("now old new entry exit ghost_name".split())
 
@@ -51,6 +52,13 @@ def bare(name):
     return name.strip("«»")
 
 
+def words_of(text, scope, names=frozenset()):
+    """What the words of a term name, those apart that are bound in it or before it."""
+    reader = Reader(text, scope)
+    reader.read(0, len(text), names)
+    return sorted(set(reader.words), key=lambda it: it[:2])
+
+
 class Reader:
     """Reads terms in a scope, a function from a name to what it names, or None. Keeps the words that it finds."""
 
@@ -67,8 +75,8 @@ class Reader:
             if token in "({":
                 bound = self.binders(i)
                 groups.append((base, now, bound, in_record, i - 1))
-                is_record = token == "{" and "record" in (self.said(i - 2), self.said(i - 3), self.said(head - 1))
-                base, now, in_record = set(now), set(now), is_record
+                before = self.said(head - 1) if self.said(i - 2) == ")" else self.said(i - 3)
+                base, now, in_record = set(now), set(now), token == "{" and "record" in (before, self.said(i - 2))
                 i = self.label(i + len(bound) + 1 if bound else i, in_record)
             elif token in ")}" and groups:
                 base, now, bound, in_record, head = groups.pop()

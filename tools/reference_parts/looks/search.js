@@ -14,21 +14,22 @@ function takeNames() {
   document.head.append(script);
 }
 
-/** How well a name fits what was typed: the lower, the better; none for a name that doesn't. */
-function rank(name, typed) {
-  const last = name.split('::').pop().toLowerCase(), at = name.toLowerCase().indexOf(typed);
-  if (at < 0) return null;
-  return (last === typed ? 0 : last.startsWith(typed) ? 100 : 200) + Math.min(name.length, 99);
+/** How well a name fits what was typed: the lower, the better; null for a name that doesn't. Definitions come after the rest. */
+function rank([name, kind], typed) {
+  const last = name.split('::').pop().toLowerCase();
+  if (!name.toLowerCase().includes(typed)) return null;
+  return (last === typed ? 0 : last.startsWith(typed) ? 200 : 400) + (kind === 'definition' ? 100 : 0) + Math.min(name.length, 99);
 }
 
 function show() {
   const typed = box.value.trim().toLowerCase();
-  const found = typed ? names.map(it => [rank(it[0], typed), it]).filter(it => it[0] !== null) : [];
+  const found = typed ? names.map(it => [rank(it, typed), it]).filter(it => it[0] !== null) : [];
   found.sort((one, other) => one[0] - other[0]);
   list.replaceChildren(...found.slice(0, 12).map(([, [name, kind, address]]) => {
     const link = document.createElement('a'), item = document.createElement('li');
     link.href = root + address.split('#').map(encodeURI).join('#');
-    link.append(name, ' ', Object.assign(document.createElement('small'), { textContent: kind }));
+    const crate = address.replace('definitions/', '').split('/')[0];
+    link.append(name, ' ', Object.assign(document.createElement('small'), { textContent: `${kind} of ${crate}` }));
     item.append(link);
     return item;
   }));
