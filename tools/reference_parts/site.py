@@ -87,8 +87,8 @@ class Site:
         """What stands inside a type or a trait, but for calls."""
         for it in item.inside.values():
             if it.public and it.kind != "kept":
-                comment = page.comment(it.doc, item.home, item, self.place(it))
-                page.add(f'<div id="{it.name}"><code>{escape(it.name)}</code> {comment}</div>')
+                said = page.code(it.text, Scope(item)) if it.kind == "const" else f"<code>{escape(it.name)}</code>"
+                page.add(f'<div id="{it.name}">{said} {page.comment(it.doc, it.home, item, self.place(it))}</div>')
         kept = [it for it in item.inside.values() if it.kind == "kept"]
         self.clauses(page, "Always so", kept, lambda it: words_of(it.text, Scope(item).names, item.inside), near(item))
         if model(item):

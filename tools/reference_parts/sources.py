@@ -142,6 +142,7 @@ class Source:
             return
         block.name, block.owner = "".join(trait).strip(), owner
         owner.impls.append(block)
+        owner.inside |= {} if trait else block.inside
         for name, item in block.calls.items():
             item.owner, item.block = owner, block
             if not trait:
@@ -225,7 +226,7 @@ class Parser:
         return end
 
     def keep(self, item, owner):
-        (self.home.items if owner is None else owner.calls)[item.name] = item
+        (self.home.items if owner is None else owner.calls if item.kind == "fn" else owner.inside)[item.name] = item
 
     def declaration(self, start, end):
         """A text without comments, attributes and what is kept of a value."""
