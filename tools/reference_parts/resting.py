@@ -52,7 +52,8 @@ class Scope:
 
     def names(self, name):
         if name.startswith("⟦"):
-            return [it for it in map(self.typed, TYPE.findall(name)) if it is not None]
+            named = [it for it in map(self.typed, TYPE.findall(name)) if it is not None]
+            return named + [block for it in named for block in it.impls if any(block.name.startswith(other.name) for other in named)]
         if name in self.types:
             return self.types[name]
         if name == "Self":
@@ -98,17 +99,11 @@ class Scope:
         yield "result", text[end + 1 :].split("->", 1)[-1] if "->" in text[end:] else ""
 
 
-def model(item):
-    """What a type's values are read as: the clauses Value and view of its Model."""
-    return [it for block in item.impls if block.name == "Model" for it in block.clauses if it.name in ("Value", "view")]
-
-
 def made_of(item):
     """The parameters of a type of which its values are made, where that is told."""
     if item.kind == "type":
         return set(Scope(item).kept(item.text.partition("=")[2]))
-    said = model(item)
-    return set(re.findall(r"\w+", " ".join(it.text for it in said))) if said else None
+    return set(re.findall(r"\w+", " ".join(it.text for it in item.model))) if item.model else None
 
 
 def clause_words(item, clause, trait=None):
@@ -134,19 +129,19 @@ def of_values(call, trait=None):
 def of_item(item):
     """What a type, a trait or a constant rests on."""
     scope = Scope(item)
-    if item.kind == "trait":
+    if item.kind in ("trait", "impl"):
         for clause in item.clauses:
             yield from (it.target for it in clause_words(item, clause))
-        for call in item.calls.values():
+        for call in item.calls.values() if item.kind == "trait" else ():
             yield from of_words(call, item)
             yield from of_values(call, item)
-    elif item.kind == "struct" and model(item):
+    elif item.kind == "struct" and item.model:
         block = next(it for it in item.impls if it.name == "Model")
-        for clause in model(item):
-            yield from (it.target for it in clause_words(block, clause))
-        used = {it.target.name for clause in model(item) for it in clause_words(block, clause) if isinstance(it.target, Field)}
-        for name in used & item.inside.keys() or item.inside.keys():
-            yield from scope.rests(item.inside[name].text)
+        named = [it.target for clause in item.model for it in clause_words(block, clause)]
+        yield from named
+        used = {it.name for it in named if isinstance(it, Field)}
+        for inner in [it for name, it in item.inside.items() if name in used] or item.inside.values():
+            yield from scope.rests(inner.text) if inner.kind == "field" else ()
     elif item.kind in ("struct", "enum"):
         for inner in item.inside.values():
             if inner.kind in ("field", "variant"):

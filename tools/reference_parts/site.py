@@ -10,7 +10,7 @@ from reference_parts import prose
 from reference_parts.counts import believed
 from reference_parts.pages import Page
 from reference_parts.places import Places
-from reference_parts.resting import Rests, Scope, clause_words, model, near
+from reference_parts.resting import Rests, Scope, clause_words, near
 from reference_parts.sources import Item, Source
 from reference_parts.specs import Definition
 from reference_parts.terms import words_of
@@ -87,13 +87,13 @@ class Site:
         """What stands inside a type or a trait, but for calls."""
         for it in item.inside.values():
             if it.public and it.kind != "kept":
-                comment = page.comment(it.doc, item.home, item, self.place(it))
-                page.add(f'<div id="{it.name}"><code>{escape(it.name)}</code> {comment}</div>')
+                said = page.code(it.text, Scope(item)) if it.kind == "const" else f"<code>{escape(it.name)}</code>"
+                page.add(f'<div id="{it.name}">{said} {page.comment(it.doc, it.home, item, self.place(it))}</div>')
         kept = [it for it in item.inside.values() if it.kind == "kept"]
         self.clauses(page, "Always so", kept, lambda it: words_of(it.text, Scope(item).names, item.inside), near(item))
-        if model(item):
+        if item.model:
             block = next(it for it in item.impls if it.name == "Model")
-            self.clauses(page, "Read in clauses as", model(item), lambda it: clause_words(block, it), near(item))
+            self.clauses(page, "Read in clauses as", item.model, lambda it: clause_words(block, it), near(item))
         self.clauses(page, "Promises of each type", [it for it in item.clauses if it.kind == "member"], lambda it: clause_words(item, it), ())
 
     def item(self, name, item, module):
@@ -103,7 +103,8 @@ class Site:
         if item.kind == "fn":
             self.call(page, item, "h1")
         else:
-            page.add(f"<h1>{name}</h1>", page.code(item.text, Scope(item)), page.comment(item.doc, item.home, item, self.place(item)))
+            head = item.text.split("{")[0] if item.kind == "trait" else item.text
+            page.add(f"<h1>{name}</h1>", page.code(head, Scope(item)), page.comment(item.doc, item.home, item, self.place(item)))
             self.members(page, item)
             calls, block = {name: it for name, it in item.calls.items() if it.public}, None
             page.add(f"<p class=names>{' '.join(page.link(it, it.name) for it in calls.values())}</p>")

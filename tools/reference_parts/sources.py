@@ -87,8 +87,19 @@ class Item:
         return "::".join([home.crate, *home.parts, *owner, self.name])
 
     @property
+    def model(self):
+        """What a type's values are read as: the clauses Value and view of its Model."""
+        return [it for block in self.impls if block.name == "Model" for it in block.clauses if it.name in ("Value", "view")]
+
+    @property
+    def reading(self):
+        """What one reads of it: its declaration, and what its values are read as or an impl says."""
+        said = self.clauses if self.kind == "impl" else self.model
+        return "\n".join([self.text, *(f"ghost {it.name} = {{ {it.text} }}" for it in said)])
+
+    @property
     def size(self):
-        return sum(line.strip() not in ("", "}") for line in self.text.split("\n"))
+        return sum(line.strip() not in ("", "}") for line in self.reading.split("\n"))
 
     def member(self, name):
         """A variant, a field, a method or a ghost member, or one of what an alias stands for."""
@@ -142,6 +153,7 @@ class Source:
             return
         block.name, block.owner = "".join(trait).strip(), owner
         owner.impls.append(block)
+        owner.inside |= {} if trait else block.inside
         for name, item in block.calls.items():
             item.owner, item.block = owner, block
             if not trait:
@@ -225,16 +237,21 @@ class Parser:
         return end
 
     def keep(self, item, owner):
-        (self.home.items if owner is None else owner.calls)[item.name] = item
+        (self.home.items if owner is None else owner.calls if item.kind == "fn" else owner.inside)[item.name] = item
 
     def declaration(self, start, end):
         """A text without comments, attributes and what is kept of a value."""
-        text = re.sub(r"(?m)//[^\n]*|^\s*#\[[^\n]*", "", self.text[start:end])
+        text = self.bare(start, end)
         while found := re.search(r"(?m)^\s*(pub )?ghost \w+:[^{]*\{", text):
             stop = closing(text, found.end() - 1) + 1
             if by := re.match(r"\s*by\s*\{", text[stop:]):
                 stop = closing(text, stop + by.end() - 1) + 1
             text = text[: found.start()] + text[stop:].lstrip(",")
+        return "\n".join(line for line in text.split("\n") if line.strip())
+
+    def bare(self, start, end):
+        """A text without comments and attributes."""
+        text = re.sub(r"(?m)//[^\n]*|^\s*#\[[^\n]*", "", self.text[start:end])
         return "\n".join(line.rstrip() for line in text.split("\n") if line.strip())
 
     def members(self, item, start, end):
@@ -263,7 +280,8 @@ class Parser:
         """Reads a trait or an impl."""
         end = end_of(self.blank, end, "{;", len(self.blank))
         stop = past(self.blank, end)
-        item.text, item.ghost = self.declaration(at, end).strip(), self.home.project.brought()
+        item.text = self.declaration(at, end).strip() if item.kind == "impl" else self.bare(at, stop)
+        item.ghost = self.home.project.brought()
         self.run(end + 1, stop - 1, item)
         if item.kind == "trait":
             self.keep(item, owner)

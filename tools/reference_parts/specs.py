@@ -96,7 +96,7 @@ class Definition:
             elif split:
                 bound = reader.patterns(start + head, start + head + split.start(), names)
                 reader.read(start + head + split.end(), end, bound)
-        return sorted({it for it in reader.words if it.target is not self}, key=lambda it: it[:2])
+        return sorted((it for it in dict.fromkeys(reader.words) if it.target is not self), key=lambda it: it[:2])
 
 
 class Section:

@@ -56,7 +56,7 @@ def words_of(text, scope, names=frozenset()):
     """What the words of a term name, those apart that are bound in it or before it."""
     reader = Reader(text, scope)
     reader.read(0, len(text), names)
-    return sorted(set(reader.words), key=lambda it: it[:2])
+    return sorted(dict.fromkeys(reader.words), key=lambda it: it[:2])
 
 
 class Reader:
