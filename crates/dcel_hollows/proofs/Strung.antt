@@ -44,8 +44,8 @@ further v b a x y far on_x on_y left turn =
     is =
         by_terms (v.x ∷ v.y ∷ b.x ∷ b.y ∷ a.x ∷ a.y ∷ x.x ∷ x.y ∷ y.x ∷ y.y ∷ []) (by (dot_in (spot 2) (spot 2) (spot 1)) (orient (spot 0) (spot 3) (spot 4)))
         (plus
-          (plus (by (minus (dot_in (spot 4) (spot 2) (spot 1)) (dot_in (spot 3) (spot 2) (spot 1))) (orient (spot 0) (spot 1) (spot 2)))
-          (by (minus (orient (spot 1) (spot 2) (spot 3)) (orient (spot 1) (spot 2) (spot 4))) (dot_in (spot 0) (spot 2) (spot 1))))
+        (plus (by (minus (dot_in (spot 4) (spot 2) (spot 1)) (dot_in (spot 3) (spot 2) (spot 1))) (orient (spot 0) (spot 1) (spot 2)))
+        (by (minus (orient (spot 1) (spot 2) (spot 3)) (orient (spot 1) (spot 2) (spot 4))) (dot_in (spot 0) (spot 2) (spot 1))))
         (minus (by (dot_in (spot 3) (spot 2) (spot 1)) (orient (spot 1) (spot 2) (spot 4))) (by (orient (spot 1) (spot 2) (spot 3)) (dot_in (spot 4) (spot 2) (spot 1))))) refl
 
 module _ {V DE UE F : Type 0} (m : Mesh V DE UE F) (mesh : IsMesh m) (triangles : AllTriangles m.shape) (at : ℕ → Point) (plane : IsPlane at m.shape)
