@@ -1,8 +1,8 @@
 -- A corner of the hull that lies between its neighbors, once its middle edge is flipped: one flat triangle is left there.
 use Rattle.std.proofs.Common.{◌≡◌, ◌≢◌, ℕ, suc, ◌+◌, ◌-◌, ◌*◌, ◌/◌, ◌<◌, ◌≤◌, List, [], ◌∷◌, length, slice_set, refl, sym, ap, ◌∙◌, subst, pos, arith}
-use Rattle.std.proofs.lemmas.List.{get_or-set_other, length-set}
+use Rattle.std.proofs.lemmas.List.{length-set}
 use Rattle.dcel_fixed.specs.HalfEdges.{rev}
-use Rattle.dcel_fixed.proofs.Halves.{rev-double, rev-double-suc, rev-rev}
+use Rattle.dcel_fixed.proofs.Halves.{rev-rev}
 use Rattle.dcel_predicates.specs.declared.point.Point.{Point}
 use Rattle.dcel_predicates.specs.Determinants.{orient2d_of}
 use Rattle.dcel_maps.specs.Conditions.{CanFlip}
@@ -12,18 +12,16 @@ use Rattle.dcel_maps.specs.Shapes.{IsLive, IsMesh, Mesh, Shape, end_of, face_cou
 use Rattle.dcel_maps.specs.Strips.{IsStripAround}
 use Rattle.dcel_maps.specs.Triangulations.{AllTriangles}
 use Rattle.dcel_maps.specs.Walking.{IsOutEdge, IsRoundTrip, ListsOnce, ccw_of, walk_of}
-use Rattle.dcel_maps.specs.Words.{count_of, prev_in_word, word_of}
+use Rattle.dcel_maps.specs.Words.{prev_in_word, word_of}
 use Rattle.dcel_maps.proofs.Liveness.{even_live, odd_live}
 use Rattle.dcel_maps.proofs.Triangulations.{flipped}
 use Rattle.dcel_maps.proofs.edits.Flips.{at_flip, flipped_mesh}
-use Rattle.dcel_maps.proofs.maps.Soundness.{rev_live}
 use Rattle.dcel_maps.proofs.shapes.Maps.{face-live, map-sound}
 use Rattle.dcel_maps.proofs.walks.Links.{ccw-lawful, links_stand, prev-live, prev-said}
 use Rattle.dcel_maps.proofs.walks.Turning.{walk-out_edges}
 use Rattle.dcel_maps.proofs.walks.UnderWay.{walk-round}
-use Rattle.dcel_maps.proofs.words.Reading.{face-prev, face_in_word, stands_in_face}
+use Rattle.dcel_maps.proofs.words.Reading.{face-prev}
 use Rattle.dcel_plane.specs.Plane.{IsPlane}
-use Rattle.dcel_plane.proofs.Flipped.{origin_same}
 use Rattle.dcel_covering.specs.Covering.{IsConvex, IsHull}
 use Rattle.dcel_covering.proofs.Triangles.{round}
 use Rattle.dcel_hulls.proofs.Keeping.{flip_outer}

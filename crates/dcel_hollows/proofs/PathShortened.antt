@@ -1,12 +1,11 @@
 -- `remove_when_degenerate` keeps a line straight.
-use Rattle.std.proofs.Common.{◌≡◌, ◌≢◌, inl, inr, ℕ, ◌+◌, ◌-◌, ◌*◌, ◌/◌, ◌<◌, true, eq-eqb, sym, ap, ◌∙◌, subst, arith}
+use Rattle.std.proofs.Common.{◌≡◌, ◌≢◌, inl, inr, ℕ, ◌-◌, ◌*◌, ◌/◌, ◌<◌, true, eq-eqb, sym, ap, ◌∙◌, arith}
 use Rattle.std.proofs.lemmas.Bool.{both_ways, cases_eq}
 use Rattle.std.proofs.lemmas.List.{get_or-set_other, get_or-set_same}
-use Rattle.dcel_fixed.specs.HalfEdges.{rev}
 use Rattle.dcel_predicates.specs.declared.point.Point.{Point}
 use Rattle.dcel_maps.specs.Degenerate.{CanRemoveDegenerate, IsPath}
 use Rattle.dcel_maps.specs.edits.Degenerate.{going, path_given_up, removed_degenerate}
-use Rattle.dcel_maps.specs.Removals.{gives_up_edge, gives_up_vertex}
+use Rattle.dcel_maps.specs.Removals.{gives_up_vertex}
 use Rattle.dcel_maps.specs.Renumbered.{new_half}
 use Rattle.dcel_maps.specs.Renumbering.{moved}
 use Rattle.dcel_maps.specs.Shapes.{IsLive, IsMesh, Mesh, Shape, edge_is_live, end_of, map_of, origin_of, out_edge_of, vertex_is_live}

@@ -195,8 +195,7 @@ module _ {V DE UE F : Type 0} (m t : Mesh V DE UE F) (mesh : IsMesh m) (result :
         let (g, live_g, starts, more_g) = straight.onward i j live_i live_j
         (three_points (λ a b c. pos 0 <ℤ beyond a b c) (sym (stands_there i h live_i is)) (sym (ends_there i h live_i is)) (sym (stands_there j k live_j is_j)) more) in
         let ends : end_of n h ≡ vertex (end_of s i) =
-        ap (end_of n) (sym is) ∙ ap (origin_of n) (leaves.turn i) ∙ leaves.origin (rev i) (rev_live (map_of s) i live_i) in
-        (
+        ap (end_of n) (sym is) ∙ ap (origin_of n) (leaves.turn i) ∙ leaves.origin (rev i) (rev_live (map_of s) i live_i) in (
           half g,
           leaves.half_edge g live_g,
           leaves.origin g live_g ∙ ap vertex starts ∙ sym ends,

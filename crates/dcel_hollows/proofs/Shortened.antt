@@ -253,11 +253,15 @@ module _ (d : ℕ → ℤ) (s g : Shape) (order : InOrder d s) (a b : ℕ) (is :
         let at_w = ap d leads.start in
         let e' = ap d (end_a live) in
         let up = leads.up in
-        let z = back_b in
-        (a, live, start, elim (opposite other) [
-          | inl ways ↦ (let low = ways.low in let high = ways.high in omega (arith, ordered, low, high, at_w, e'))
-          | inr ways ↦ absurd (let high = ways.high in omega (arith, ordered, high, at_w, up, z))
-        ])
+        let z = back_b in (
+          a,
+          live,
+          start,
+          elim (opposite other) [
+            | inl ways ↦ (let low = ways.low in let high = ways.high in omega (arith, ordered, low, high, at_w, e'))
+            | inr ways ↦ absurd (let high = ways.high in omega (arith, ordered, high, at_w, up, z))
+          ],
+        )
     | inl one ↦ absurd
         (let o = old k live_k in
         let at_k = ap d o.start in
@@ -286,19 +290,23 @@ module _ (d : ℕ → ℤ) (s g : Shape) (order : InOrder d s) (a b : ℕ) (is :
         | inr other ↦
             let live : IsLive g y = is.kept y leads.live not_b other in
             let start : origin_of g y ≡ w = is.same y live not_a ∙ leads.start in
-            let up = leads.up in
-            (y, live, start, elim (cases_eq (rev y) a) [
-              | inr off ↦ (let e' = ap d (end_same y live off) in omega (arith, ordered, e', up))
-              | inl at_a ↦
-                  let live_a = subst (λ (i : ℕ). IsLive g i) at_a (is.turned y live) in
-                  let e' = ap d (end_moved y live at_a) in
-                  let at_w : d w ≡ d p = ap d (sym leads.start) ∙ ap (λ i. d (origin_of s i)) (sym (rev-rev y) ∙ ap rev at_a) in
-                  let to_v : d (end_of s y) ≡ d v = ap (λ i. d (origin_of s i)) at_a in
-                  elim (opposite (not_one live_a)) [
-                    | inr ways ↦ (let low = ways.low in let high = ways.high in omega (arith, ordered, low, high, at_w, e'))
-                    | inl ways ↦ absurd (let high = ways.high in omega (arith, ordered, high, at_w, to_v, up))
-                  ]
-            ])
+            let up = leads.up in (
+              y,
+              live,
+              start,
+              elim (cases_eq (rev y) a) [
+                | inr off ↦ (let e' = ap d (end_same y live off) in omega (arith, ordered, e', up))
+                | inl at_a ↦
+                    let live_a = subst (λ (i : ℕ). IsLive g i) at_a (is.turned y live) in
+                    let e' = ap d (end_moved y live at_a) in
+                    let at_w : d w ≡ d p = ap d (sym leads.start) ∙ ap (λ i. d (origin_of s i)) (sym (rev-rev y) ∙ ap rev at_a) in
+                    let to_v : d (end_of s y) ≡ d v = ap (λ i. d (origin_of s i)) at_a in
+                    elim (opposite (not_one live_a)) [
+                      | inr ways ↦ (let low = ways.low in let high = ways.high in omega (arith, ordered, low, high, at_w, e'))
+                      | inl ways ↦ absurd (let high = ways.high in omega (arith, ordered, high, at_w, to_v, up))
+                    ]
+              ],
+            )
       ]
 
   -- h leads to w, and a vertex lies beyond it

@@ -1,5 +1,5 @@
 -- A corner of the hull has a strip, and what is given up with a strip.
-use Rattle.std.proofs.Common.{◌≡◌, ◌≢◌, ◌⊎◌, inl, inr, ℕ, zero, suc, ◌+◌, ◌-◌, ◌/◌, ◌<◌, ◌≤◌, List, [], ◌∷◌, ◌++◌, length, length-append, map, slice_set, refl, sym, ap, ◌∙◌, subst, pos, ◌≤ℤ◌, arith}
+use Rattle.std.proofs.Common.{◌≡◌, ◌≢◌, ◌⊎◌, inl, inr, ℕ, zero, suc, ◌+◌, ◌-◌, ◌/◌, ◌<◌, List, [], ◌∷◌, ◌++◌, length, length-append, map, slice_set, refl, sym, ap, ◌∙◌, subst, pos, arith}
 use Rattle.std.proofs.lemmas.Bool.{cases_lt}
 use Rattle.std.proofs.lemmas.List.{length-map, length-set}
 use Rattle.dcel_fixed.specs.HalfEdges.{rev}
@@ -23,7 +23,7 @@ use Rattle.dcel_maps.proofs.removal.StripItems.{half-is, strip-is}
 use Rattle.dcel_maps.proofs.removal.StripSectors.{long_iff}
 use Rattle.dcel_maps.proofs.removal.StripSpokes.{trip}
 use Rattle.dcel_maps.proofs.shapes.Maps.{face-live, map-sound}
-use Rattle.dcel_maps.proofs.walks.Links.{ccw-lawful, links_stand, next-live, prev-live}
+use Rattle.dcel_maps.proofs.walks.Links.{ccw-lawful, links_stand, next-live}
 use Rattle.dcel_maps.proofs.walks.Turning.{walk-out_edges}
 use Rattle.dcel_maps.proofs.walks.UnderWay.{walk-round}
 use Rattle.dcel_maps.proofs.words.Ascending.{length-ascending}
@@ -31,7 +31,6 @@ use Rattle.dcel_maps.proofs.words.EachSet.{but_last-is}
 use Rattle.dcel_maps.proofs.words.Reading.{face-prev}
 use Rattle.dcel_plane.specs.Plane.{IsPlane, TurnsLeft}
 use Rattle.dcel_covering.specs.Covering.{IsConvex, IsHull}
-use Rattle.dcel_covering.proofs.Inside.{on_start}
 use Rattle.dcel_hollows.specs.Wheels.{CanTurn, IsFan, IsHollow, LiesOnHull, turns}
 use Rattle.dcel_hollows.proofs.HullCorners.{corner_fan, corner_turn}
 use Rattle.dcel_hollows.proofs.Turning.{closes}

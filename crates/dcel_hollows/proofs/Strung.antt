@@ -1,5 +1,5 @@
 -- A hollow corner of the hull cut off, where no triangle is left: what remains is a straight line.
-use Rattle.std.proofs.Common.{◌≡◌, ◌≢◌, ◌⊎◌, inl, inr, ℕ, zero, suc, ◌+◌, ◌-◌, ◌<◌, ◌≤◌, List, [], ◌∷◌, length, refl, sym, ap, ◌∙◌, subst, ℤ, pos, ◌+ℤ◌, ◌-ℤ◌, ◌*ℤ◌, ◌<ℤ◌, ◌≤ℤ◌, arith}
+use Rattle.std.proofs.Common.{◌≡◌, ◌≢◌, ◌⊎◌, inl, inr, ℕ, zero, suc, ◌+◌, ◌-◌, ◌<◌, ◌≤◌, List, [], ◌∷◌, length, refl, sym, ap, ◌∙◌, subst, pos, ◌+ℤ◌, ◌-ℤ◌, ◌*ℤ◌, ◌<ℤ◌, ◌≤ℤ◌, arith}
 use Rattle.std.proofs.lemmas.Bool.{cases_lt}
 use Rattle.dcel_fixed.specs.HalfEdges.{rev}
 use Rattle.dcel_fixed.proofs.Halves.{rev-rev}
@@ -9,7 +9,7 @@ use Rattle.dcel_predicates.proofs.Points.{orient2d-first_swapped}
 use Rattle.dcel_predicates.proofs.Ring.{by_terms, minus, plus, times as by}
 use Rattle.dcel_predicates.proofs.Signs.{ordered, times_positive}
 use Rattle.dcel_predicates.proofs.Terms.{orient, spot}
-use Rattle.dcel_maps.specs.Shapes.{IsLive, IsMesh, Mesh, Shape, end_of, face_of, map_of, next_of, origin_of, prev_of}
+use Rattle.dcel_maps.specs.Shapes.{IsLive, IsMesh, Mesh, Shape, end_of, face_of, next_of, origin_of, prev_of}
 use Rattle.dcel_maps.specs.Triangulations.{AllTriangles}
 use Rattle.dcel_maps.specs.Walking.{IsOutEdge, IsRoundTrip, ListsOnce, ccw_of}
 use Rattle.dcel_plane.specs.Plane.{IsPlane, TurnsLeft}
@@ -20,11 +20,10 @@ use Rattle.dcel_covering.proofs.Triangles.{round}
 use Rattle.dcel_hulls.specs.Straight.{IsStraight}
 use Rattle.dcel_hulls.proofs.OneLine.{straight_of}
 use Rattle.dcel_hollows.specs.Wheels.{IsHollow, turns}
-use Rattle.dcel_hollows.proofs.Chains.{IsChain, chain_in_order}
+use Rattle.dcel_hollows.proofs.Chains.{chain_in_order}
 use Rattle.dcel_hollows.proofs.Cutting.{IsCutOff, cut_convex, neighbors_apart, side_of}
-use Rattle.dcel_hollows.proofs.HullCorners.{corner_fan, inner_at, spoke}
+use Rattle.dcel_hollows.proofs.HullCorners.{inner_at, spoke}
 use Rattle.dcel_hollows.proofs.Stripping.{bridge_alone}
-use Rattle.dcel_hollows.proofs.Turning.{closes}
 
 -- of two points on the line from b to a, the one further on, as v sees it, is further on
 further : (v b a x y : Point) → pos 0 <ℤ dot a a b → orient2d_of b a x ≡ pos 0 → orient2d_of b a y ≡ pos 0 → pos 0 <ℤ orient2d_of v b a → pos 0 <ℤ orient2d_of v x y
@@ -44,8 +43,8 @@ further v b a x y far on_x on_y left turn =
     is =
         by_terms (v.x ∷ v.y ∷ b.x ∷ b.y ∷ a.x ∷ a.y ∷ x.x ∷ x.y ∷ y.x ∷ y.y ∷ []) (by (dot_in (spot 2) (spot 2) (spot 1)) (orient (spot 0) (spot 3) (spot 4)))
         (plus
-          (plus (by (minus (dot_in (spot 4) (spot 2) (spot 1)) (dot_in (spot 3) (spot 2) (spot 1))) (orient (spot 0) (spot 1) (spot 2)))
-          (by (minus (orient (spot 1) (spot 2) (spot 3)) (orient (spot 1) (spot 2) (spot 4))) (dot_in (spot 0) (spot 2) (spot 1))))
+        (plus (by (minus (dot_in (spot 4) (spot 2) (spot 1)) (dot_in (spot 3) (spot 2) (spot 1))) (orient (spot 0) (spot 1) (spot 2)))
+        (by (minus (orient (spot 1) (spot 2) (spot 3)) (orient (spot 1) (spot 2) (spot 4))) (dot_in (spot 0) (spot 2) (spot 1))))
         (minus (by (dot_in (spot 3) (spot 2) (spot 1)) (orient (spot 1) (spot 2) (spot 4))) (by (orient (spot 1) (spot 2) (spot 3)) (dot_in (spot 4) (spot 2) (spot 1))))) refl
 
 module _ {V DE UE F : Type 0} (m : Mesh V DE UE F) (mesh : IsMesh m) (triangles : AllTriangles m.shape) (at : ℕ → Point) (plane : IsPlane at m.shape)

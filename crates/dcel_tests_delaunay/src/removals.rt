@@ -254,23 +254,31 @@ fn remove_one(triangulation: &mut Triangulation, vertex: FixedVertexHandle) -> R
     holds(is_right(triangulation), "a triangulation is left")
 }
 
-/// Removes all points of a grid, each time the one this far through what is left.
-fn remove_grid(part: usize, alloc: Global) -> Result<(), Fail> {
-    let places = grid(6, alloc)?;
-    let mut triangulation = numbered(&places, alloc)?;
-    for gone in 0..36usize {
-        let left = 36 - gone;
-        remove_one(&mut triangulation, FixedVertexHandle::new(left * part / 8))?;
+#[test]
+fn a_grid_is_removed_from_the_first_on(rt: HostRuntime) -> Result<(), Fail> {
+    let mut triangulation = numbered(&grid(6, rt.alloc())?, rt.alloc())?;
+    for _ in 0..36 {
+        remove_one(&mut triangulation, FixedVertexHandle::new(0))?;
     }
     same(counts(&triangulation), [0, 0, 0], "nothing")
 }
 
 #[test]
-fn a_grid_is_removed_down_to_nothing(rt: HostRuntime) -> Result<(), Fail> {
-    for part in 0..8usize {
-        remove_grid(part, rt.alloc())?;
+fn a_grid_is_removed_from_the_middle_on(rt: HostRuntime) -> Result<(), Fail> {
+    let mut triangulation = numbered(&grid(6, rt.alloc())?, rt.alloc())?;
+    for gone in 0..36 {
+        remove_one(&mut triangulation, FixedVertexHandle::new((35 - gone) / 2))?;
     }
-    Ok(())
+    same(counts(&triangulation), [0, 0, 0], "nothing")
+}
+
+#[test]
+fn a_grid_is_removed_from_the_last_on(rt: HostRuntime) -> Result<(), Fail> {
+    let mut triangulation = numbered(&grid(6, rt.alloc())?, rt.alloc())?;
+    for gone in 0..36 {
+        remove_one(&mut triangulation, FixedVertexHandle::new(35 - gone))?;
+    }
+    same(counts(&triangulation), [0, 0, 0], "nothing")
 }
 
 /// A triangulation in memory that can be refused.
