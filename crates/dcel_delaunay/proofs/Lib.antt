@@ -1,6 +1,7 @@
 pub mod Along
 pub mod Appended
 pub mod Counting
+pub mod Distances
 pub mod Elsewhere
 pub mod Ending
 pub mod Flat
@@ -30,4 +31,3 @@ pub mod TakenOut
 pub mod Bordered
 pub mod Renaming
 pub mod Lost
-pub mod Distances
