@@ -30,6 +30,19 @@ impl Drawing {
         })
     }
 
+    /// Returns the same once more.
+    pub fn try_clone(&self) -> Result<Self, AllocError> {
+        let before = match &self.before {
+            Some(before) => Some(before.try_clone(self.alloc)?),
+            None => None,
+        };
+        Ok(Drawing {
+            alloc: self.alloc,
+            mesh: self.mesh.try_clone(self.alloc)?,
+            before,
+        })
+    }
+
     /// Returns the mesh.
     pub fn mesh(&self) -> &Mesh
         ensures { result.now ≡ self.now.mesh }

@@ -1,4 +1,5 @@
-//! Reads commands for a half-edge mesh, one a line, and draws the mesh that is left.
+//! Reads commands for a half-edge mesh, one a line, and draws the mesh that is left, or writes a
+//! page with the mesh after each line.
 //!
 //! `picture --help` tells what it reads and writes. It exits with status 0, also if nobody reads
 //! its output any more; with 1, and with no whole picture, if a line is bad or refused, a read or a
@@ -8,12 +9,16 @@
 mod arguments;
 mod drawing;
 mod fault;
+mod page;
 mod placing;
+mod talk;
 
 use crate::arguments::{Arguments, PROGRAM};
 use crate::drawing::Drawing;
 use crate::fault::Fault;
+use crate::page::Page;
 use crate::placing::read_places;
+use crate::talk::talk_of;
 use dcel_programs::{Text, numbered_lines, read_text, run, write_out};
 use dcel_svg::{Picture, Places, Style, bow, spread, write_svg};
 use std::alloc::Global;
@@ -31,14 +36,19 @@ fn draw(
     arguments: &Arguments,
 ) -> Result<(), Fault> {
     let text = read_text(rt, arguments.file)?;
+    let style = Style::HalfEdges {
+        anchors: arguments.anchors,
+    };
+    if arguments.page {
+        let page = Page::new(rt.alloc(), talk_of(rt.alloc(), &text)?, style)?;
+        return write_out(rt, None, &page);
+    }
     let drawing = drawing_of(rt.alloc(), &text)?;
     let places = find_places(rt, arguments.places, &drawing)?;
     let drawn = Drawn {
         drawing: &drawing,
         places: &places,
-        style: Style::HalfEdges {
-            anchors: arguments.anchors,
-        },
+        style,
     };
     write_out(rt, None, &drawn)
 }

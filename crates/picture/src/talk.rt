@@ -1,0 +1,63 @@
+//! A talk with a mesh: lines, the reply to each, and the mesh after it.
+
+use crate::drawing::Drawing;
+use crate::fault::Wrong;
+use dcel_commands::commands::{MAX_LIMIT, Session, StdSink, Writer};
+use dcel_programs::{before_comment, numbered_lines};
+use std::alloc::{AllocError, Global};
+
+/// A line of a talk.
+#[derive(Drop)]
+pub struct Step<'a> {
+    /// What was said.
+    pub line: &'a str,
+    /// What was replied.
+    pub reply: String,
+    /// The mesh that it left.
+    pub drawing: Drawing,
+}
+
+/// Carries all lines out that say something. One that is bad or refused has its reply too, and the
+/// talk goes on.
+pub fn talk_of(alloc: Global, text: &str) -> Result<Vec<Step<'_>>, AllocError> {
+    let mut session = Session::new(alloc)?;
+    let mut drawing = Drawing::new(alloc)?;
+    let mut steps = Vec::new(alloc);
+    for (_, said) in numbered_lines(text) {
+        let line = before_comment(said).trim_ascii_end();
+        if line.is_empty() {
+            continue;
+        }
+        let reply = reply_to(alloc, &mut session, line)?;
+        if let Err(Wrong::OutOfMemory(error)) = drawing.take(line) {
+            return Err(error);
+        }
+        let drawing = drawing.try_clone()?;
+        steps.push(Step {
+            line,
+            reply,
+            drawing,
+        })?;
+    }
+    Ok(steps)
+}
+
+/// Returns the reply to a line, without the line feed at its end.
+fn reply_to(
+    alloc: Global,
+    session: &mut Session<Global>,
+    line: &str,
+) -> Result<String, AllocError> {
+    let mut sink = StdSink::new(Vec::new(alloc));
+    let mut out = Writer::new(&mut sink);
+    session.feed(&mut out, MAX_LIMIT, line.as_bytes());
+    session.feed(&mut out, MAX_LIMIT, b"\n");
+    out.flush();
+    if out.failed() {
+        return Err(AllocError);
+    }
+    String::from_str(
+        alloc,
+        String::from_utf8_lossy(alloc, &sink.into_inner())?.trim_ascii_end(),
+    )
+}
