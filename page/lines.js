@@ -84,7 +84,7 @@ function entry(line, reply) {
 function draw() {
   svg = picture(text(), { anchors: at('anchors').checked });
   view.draw(svg);
-  choose(chosen);
+  choose(at('picture').querySelector(`[data-half="${chosen}"]`) && chosen);
 }
 
 /** Shows what lies around a half edge: the row of its face in the reply to `words` has it between prev and next. */
