@@ -94,7 +94,7 @@ class Site:
         if item.model:
             block = next(it for it in item.impls if it.name == "Model")
             self.clauses(page, "Read in clauses as", item.model, lambda it: clause_words(block, it), near(item))
-        self.clauses(page, "Promises of each type", [it for it in item.clauses if it.kind == "member"], lambda it: clause_words(item, it), ())
+        self.clauses(page, "Each type tells", [it for it in item.clauses if it.kind == "member"], lambda it: clause_words(item, it), ())
 
     def item(self, name, item, module):
         """The page of an item."""

@@ -280,7 +280,8 @@ class Parser:
         """Reads a trait or an impl."""
         end = end_of(self.blank, end, "{;", len(self.blank))
         stop = past(self.blank, end)
-        item.text = self.declaration(at, end).strip() if item.kind == "impl" else self.bare(at, stop)
+        head = re.sub(r",? >", ">", " ".join(self.bare(at, end).split()).replace("< ", "<"))
+        item.text = head if item.kind == "impl" else self.bare(at, stop)
         item.ghost = self.home.project.brought()
         self.run(end + 1, stop - 1, item)
         if item.kind == "trait":
