@@ -16,7 +16,6 @@
 #define ROOM (1u << 14)
 
 static const char LINES[] = "triangle 0 1 2\nappend 3\ninsert 3 1\nflip 0\nfoo\nout 3";
-static const char REPLIES[] = "ok\nvertex 3\nok\nrefused 14 WouldLoop\nbad line\nout 6 8 10\n";
 static const mesh_page_point POINTS[] = {{0, 0}, {4, 0}, {0, 3}, {5, 5}, {2, 2}, {4, 0}, {-9, 4}, {4, 1}};
 #define COUNT(list) (sizeof(list) / sizeof(list)[0])
 
@@ -164,13 +163,16 @@ static void check_range(void) {
 /* Two small answers are as they should be. The last point is the third one again. */
 static void check_answers(void) {
     mesh_page_memory memory = {last(lent, ENOUGH), ENOUGH};
+    static const char ASKED[] = "triangle 7 8 9\nflip 0\nfoo\nhull", REPLIES[] = "ok\nrefused 14 WouldLoop\nbad line\nhull 0 2 4\n";
     uint8_t text[sizeof REPLIES];
-    answer told = replies(memory, text, sizeof text);
-    must(told.needed == sizeof REPLIES - 1 && memcmp(text, REPLIES, sizeof REPLIES - 1) == 0, "replies", "they are other ones", 0);
+    uint64_t needed;
+    must(mesh_page_replies(memory, (const uint8_t *)ASKED, sizeof ASKED - 1, text, sizeof text, &needed) == MESH_PAGE_DONE && needed == sizeof REPLIES - 1 &&
+             memcmp(text, REPLIES, sizeof REPLIES - 1) == 0,
+         "replies", "they are other ones", 0);
     const mesh_page_point given[] = {{0, 0}, {4, 0}, {5, 5}, {0, 3}, {5, 5}};
     static const mesh_page_triangle WANTED[] = {{0, 1, 3}, {1, 2, 3}};
     mesh_page_triangle found[2];
-    must(mesh_page_triangles(memory, given, COUNT(given), found, COUNT(found), &told.needed) == MESH_PAGE_DONE && told.needed == COUNT(WANTED), "triangles", "there are others", 0);
+    must(mesh_page_triangles(memory, given, COUNT(given), found, COUNT(found), &needed) == MESH_PAGE_DONE && needed == COUNT(WANTED), "triangles", "there are others", 0);
     for (size_t i = 0; i < COUNT(WANTED); i++) {
         bool has = false;
         for (size_t k = 0; k < COUNT(found); k++) {
