@@ -32,6 +32,21 @@ impl<A: Allocator + Copy> Replay<A> {
         })
     }
 
+    /// Returns the same once more. If memory runs out it returns `AllocError`.
+    pub fn try_clone(&self) -> Result<Self, AllocError>
+        ensures { IfOk result (λ replay. replay.mesh ≡ self.now.mesh) }
+    {
+        let before = match &self.before {
+            Some(before) => Some(before.try_clone(self.alloc)?),
+            None => None,
+        };
+        Ok(Replay {
+            alloc: self.alloc,
+            mesh: self.mesh.try_clone(self.alloc)?,
+            before,
+        })
+    }
+
     /// Lends the mesh.
     pub fn mesh(&self) -> &Mesh<A>
         ensures { result.now ≡ self.now.mesh }

@@ -7,19 +7,18 @@
 #![tactic(auto)]
 
 mod arguments;
-mod drawing;
 mod fault;
 mod page;
 mod placing;
 mod talk;
 
 use crate::arguments::{Arguments, PROGRAM};
-use crate::drawing::Drawing;
-use crate::fault::Fault;
+use crate::fault::{Fault, Wrong};
 use crate::page::Page;
 use crate::placing::read_places;
 use crate::talk::talk_of;
-use dcel_programs::{Text, numbered_lines, read_text, run, write_out};
+use dcel_programs::{Text, before_comment, numbered_lines, read_text, run, write_out};
+use dcel_replay::Replay;
 use dcel_svg::{Picture, Places, Style, bow, spread, write_svg};
 use std::alloc::Global;
 use std::io::{self, Write};
@@ -43,10 +42,10 @@ fn draw(
         let page = Page::new(rt.alloc(), talk_of(rt.alloc(), &text)?, style)?;
         return write_out(rt, None, &page);
     }
-    let drawing = drawing_of(rt.alloc(), &text)?;
-    let places = find_places(rt, arguments.places, &drawing)?;
+    let replay = replay_of(rt.alloc(), &text)?;
+    let places = find_places(rt, arguments.places, &replay)?;
     let drawn = Drawn {
-        drawing: &drawing,
+        replay: &replay,
         places: &places,
         style,
     };
@@ -54,23 +53,28 @@ fn draw(
 }
 
 /// Carries all lines out, up to one that is wrong.
-fn drawing_of(alloc: Global, text: &str) -> Result<Drawing, Fault> {
-    let mut drawing = Drawing::new(alloc)?;
+fn replay_of(alloc: Global, text: &str) -> Result<Replay, Fault> {
+    let mut replay = Replay::new(alloc)?;
     for (line, said) in numbered_lines(text) {
-        drawing
-            .take(said)
-            .map_err(|wrong| Fault::Line { line, wrong })?;
+        let said = before_comment(said).trim_ascii_end();
+        if said.is_empty() {
+            continue;
+        }
+        if let Err(wrong) = replay.take(said.as_bytes()) {
+            let wrong = Wrong::Line(wrong);
+            return Err(Fault::Line { line, wrong });
+        }
     }
-    Ok(drawing)
+    Ok(replay)
 }
 
 /// Finds places for the vertices, or reads them from a file.
 fn find_places(
     rt: &(impl Files + Input + AllocGlobal),
     file: Option<&str>,
-    drawing: &Drawing,
+    replay: &Replay,
 ) -> Result<Places, Fault> {
-    let (mesh, before) = (drawing.mesh(), drawing.before());
+    let (mesh, before) = (replay.mesh(), replay.before());
     match file {
         None => Ok(spread(rt.alloc(), mesh, before)?),
         Some(path) => {
@@ -84,14 +88,14 @@ fn find_places(
 /// A mesh, and how it is drawn.
 #[derive(Clone, Copy)]
 struct Drawn<'a> {
-    drawing: &'a Drawing,
+    replay: &'a Replay,
     places: &'a Places,
     style: Style,
 }
 
 impl<'a> Text for Drawn<'a> {
     fn write_to(&self, alloc: Global, writer: &mut impl Write) -> io::Result<()> {
-        let (mesh, before) = (self.drawing.mesh(), self.drawing.before());
+        let (mesh, before) = (self.replay.mesh(), self.replay.before());
         let picture = Picture::new(alloc, mesh, before, self.places)?;
         write_svg(&picture, self.style, writer)
     }

@@ -25,7 +25,7 @@ impl<'a> Page<'a> {
     pub fn new(alloc: Global, steps: Vec<Step<'a>>, style: Style) -> Result<Self, AllocError> {
         let mut places: Vec<Places> = Vec::new(alloc);
         for step in steps.iter().rev() {
-            let (mesh, before) = (step.drawing.mesh(), step.drawing.before());
+            let (mesh, before) = (step.replay.mesh(), step.replay.before());
             let found = match places.last() {
                 Some(later) => spread_near(alloc, mesh, before, later)?,
                 None => spread(alloc, mesh, before)?,
@@ -72,9 +72,9 @@ impl<'a> Page<'a> {
         step: &Step,
         places: &Places,
     ) -> io::Result<Vec<u8>> {
-        let (mesh, before) = (step.drawing.mesh(), step.drawing.before());
+        let (mesh, before) = (step.replay.mesh(), step.replay.before());
         let marks = match last {
-            Some(last) => Marks::of_changes(alloc, last.drawing.mesh(), mesh)?,
+            Some(last) => Marks::of_changes(alloc, last.replay.mesh(), mesh)?,
             None => Marks::none(alloc),
         };
         let picture = Picture::new(alloc, mesh, before, places)?;

@@ -1,9 +1,8 @@
 //! A talk with a mesh: lines, the reply to each, and the mesh after it.
 
-use crate::drawing::Drawing;
-use crate::fault::Wrong;
 use dcel_commands::commands::{MAX_LIMIT, Session, StdSink, Writer};
 use dcel_programs::{before_comment, numbered_lines};
+use dcel_replay::{Replay, Wrong};
 use std::alloc::{AllocError, Global};
 
 /// A line of a talk.
@@ -14,14 +13,14 @@ pub struct Step<'a> {
     /// What was replied.
     pub reply: String,
     /// The mesh that it left.
-    pub drawing: Drawing,
+    pub replay: Replay,
 }
 
 /// Carries all lines out that say something. One that is bad or refused has its reply too, and the
 /// talk goes on.
 pub fn talk_of(alloc: Global, text: &str) -> Result<Vec<Step<'_>>, AllocError> {
     let mut session = Session::new(alloc)?;
-    let mut drawing = Drawing::new(alloc)?;
+    let mut replay = Replay::new(alloc)?;
     let mut steps = Vec::new(alloc);
     for (_, said) in numbered_lines(text) {
         let line = before_comment(said).trim_ascii_end();
@@ -29,14 +28,14 @@ pub fn talk_of(alloc: Global, text: &str) -> Result<Vec<Step<'_>>, AllocError> {
             continue;
         }
         let reply = reply_to(alloc, &mut session, line)?;
-        if let Err(Wrong::OutOfMemory(error)) = drawing.take(line) {
+        if let Err(Wrong::OutOfMemory(error)) = replay.take(line.as_bytes()) {
             return Err(error);
         }
-        let drawing = drawing.try_clone()?;
+        let replay = replay.try_clone()?;
         steps.push(Step {
             line,
             reply,
-            drawing,
+            replay,
         })?;
     }
     Ok(steps)
