@@ -5,7 +5,6 @@ use Rattle.dcel_fixed.specs.HalfEdges.{rev}
 use Rattle.dcel_fixed.proofs.Halves.{rev-half}
 use Rattle.dcel_predicates.specs.declared.point.Point.{Point}
 use Rattle.dcel_predicates.proofs.Signs.{ordered}
-use Rattle.dcel_maps.specs.Conditions.{CanFlip}
 use Rattle.dcel_maps.specs.edits.Flip.{edge_flipped}
 use Rattle.dcel_maps.specs.Shapes.{Mesh, Shape}
 use Rattle.dcel_maps.proofs.Triangulations.{flipped}
@@ -15,7 +14,7 @@ use Rattle.dcel_plane.specs.Edges.{edges_of_flip}
 use Rattle.dcel_plane.specs.Plane.{ListsCircled}
 use Rattle.dcel_plane.proofs.Flipped.{flip_lists}
 use Rattle.dcel_maps.proofs.edits.Flips.{flipped_mesh}
-use Rattle.dcel_segments.specs.Segments.{Becomes, IsChannel, IsPlanar, flipped_each, touched, widths}
+use Rattle.dcel_segments.specs.Segments.{Becomes, CanTurnEach, IsChannel, IsPlanar, flipped_each, touched, widths}
 use Rattle.dcel_hollows.specs.Wheels.{CanTurn}
 use Rattle.dcel_segments.proofs.Channels.{all_cross, flip_keeps_channel}
 use Rattle.dcel_segments.proofs.Gates.{peak_can_turn}
@@ -66,6 +65,7 @@ turned_planar at m u whole turn = record {
 -- the flips after which the segment is an edge
 pub record IsMade {V DE UE F : Type 0} (at : ℕ → Point) (m : Mesh V DE UE F) (v w : ℕ) (crossed : List ℕ) : Type 0 where
   pub edges : List ℕ
+  pub can : CanTurnEach at m edges
   pub only : (u : ℕ) → 0 < count_of u edges → (h : ℕ) × (0 < count_of h crossed) × (h / 2 ≡ u)
   pub lists : (due : List ℕ) → ListsCircled at m.shape due → ListsCircled at (flipped_each m edges).shape (due ++ touched m edges)
   pub whole : IsPlanar at (flipped_each m edges)
@@ -82,7 +82,7 @@ module _ (V DE UE F : Type 0) (at : ℕ → Point) (v w : ℕ) (differ : v ≢ w
 
     record IsStep : Type 0 where
       u : ℕ
-      can : CanFlip m.shape u
+      can : CanTurn at m.shape u
       next : IsPlanar at (edge_flipped m u)
       list : List ℕ
       again : IsChannel at (edge_flipped m u).shape v w list
@@ -101,7 +101,7 @@ module _ (V DE UE F : Type 0) (at : ℕ → Point) (v w : ℕ) (differ : v ≢ w
         let left = flip_keeps_channel m whole.mesh whole.triangles at whole.plane whole.convex v w ends found.top crosses found.peak found.front found.back parted in
         record {
           u = found.top / 2;
-          can = turn.can;
+          can = turn;
           next = turned_planar at m (found.top / 2) whole turn;
           list = found.front ++ (left.new ++ found.back);
           again = left.channel;
@@ -120,6 +120,7 @@ module _ (V DE UE F : Type 0) (at : ℕ → Point) (v w : ℕ) (differ : v ≢ w
   makes : (n : ℕ) → Makes n
   makes n m whole [] channel less = record {
     edges = [];
+    can = tt;
     only = λ u there. absurd (omega (arith, there));
     lists = λ due circled. subst (λ (l : List ℕ). ListsCircled at m.shape l) (sym (append-nil due)) circled;
     whole = whole;
@@ -132,6 +133,7 @@ module _ (V DE UE F : Type 0) (at : ℕ → Point) (v w : ℕ) (differ : v ≢ w
       let made = makes n (edge_flipped m one.u) one.next one.list one.again (let a = one.narrower in omega (arith, ordered, a, less)) in
       record {
         edges = one.u ∷ made.edges;
+        can = (one.can, made.can);
         only = λ k there. elim (cases_eq k one.u) [
           | inl is ↦ (one.itself.0, one.itself.1, one.itself.2 ∙ sym is)
           | inr not ↦
@@ -142,7 +144,7 @@ module _ (V DE UE F : Type 0) (at : ℕ → Point) (v w : ℕ) (differ : v ≢ w
         lists = λ due circled.
             subst (λ (l : List ℕ). ListsCircled at (flipped_each (edge_flipped m one.u) made.edges).shape l)
             (append_assoc due (edges_of_flip m.shape one.u) (touched (edge_flipped m one.u) made.edges))
-            (made.lists (due ++ edges_of_flip m.shape one.u) (flip_lists m whole.mesh one.u one.can at due circled));
+            (made.lists (due ++ edges_of_flip m.shape one.u) (flip_lists m whole.mesh one.u one.can.can at due circled));
         whole = made.whole;
         joins = made.joins;
       }

@@ -76,10 +76,10 @@ module _ {V DE UE F : Type 0} (m : Mesh V DE UE F) (mesh : IsMesh m) (u : ℕ) (
   below_g : g < face_count s
   below_g = (map-sound mesh.sound).below_faces t (odd_live s u can.live)
 
-  word_g : word_of n.words g ≡ second_word
+  pub word_g : word_of n.words g ≡ second_word
   word_g = get_or-set_same (slice_set s.words f first_word) g second_word [] (let l = length-set s.words f first_word in let b = below_g in omega (arith, l, b))
 
-  word_f : word_of n.words f ≡ first_word
+  pub word_f : word_of n.words f ≡ first_word
   word_f = get_or-set_other (slice_set s.words f first_word) g f second_word [] (at_flip m u mesh can).differ ∙ get_or-set_same s.words f first_word [] below_f
 
   -- the items of a word of three
@@ -88,7 +88,7 @@ module _ {V DE UE F : Type 0} (m : Mesh V DE UE F) (mesh : IsMesh m) (u : ℕ) (
       face_in_word (map_of n) n.words (links_stand (flipped_mesh m u mesh can).sound) k j
       (subst (λ (l : List ℕ). 0 < count_of k l) (sym word) (let c = count-turn k (from_least-turn (x ∷ y ∷ z ∷ [])) in omega (arith, c, among)))
 
-  of_even : Flipped e t
+  pub of_even : Flipped e t
   of_even = record {
     here = stand f e (prev_of s t) (next_of s e) e word_f (let c = count-same e (prev_of s t ∷ next_of s e ∷ []) in omega (arith, c));
     after = stand f e (prev_of s t) (next_of s e) (next_of s e) word_f

@@ -11,3 +11,4 @@ pub mod Listing
 pub mod Walking
 pub mod Sides
 pub mod Stepping
+pub mod Covered

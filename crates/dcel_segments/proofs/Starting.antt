@@ -19,7 +19,7 @@ use Rattle.dcel_maps.proofs.words.Counts.{count-equal, count-other}
 use Rattle.dcel_plane.specs.Plane.{IsPlane, TurnsLeft}
 use Rattle.dcel_plane.proofs.Corners.{corners_are}
 use Rattle.dcel_covering.specs.Covering.{Covers, IsConvex, IsHull, apart_along}
-use Rattle.dcel_segments.specs.Segments.{AreEnds, BeginsAt, IsChannel, IsClear, LeadsAlong, offset}
+use Rattle.dcel_segments.specs.Segments.{AreEnds, BeginsAt, Crosses, IsChannel, IsClear, LeadsAlong, OpensAt, offset}
 use Rattle.dcel_covering.proofs.Along.{long}
 use Rattle.dcel_covering.proofs.Apart.{apart_at}
 use Rattle.dcel_covering.proofs.Faces.{corner_of}
@@ -28,7 +28,7 @@ use Rattle.dcel_segments.proofs.Gates.{inner_near}
 use Rattle.dcel_covering.proofs.Inside.{on_end, on_start}
 use Rattle.dcel_segments.proofs.Levers.{all_on_line, holds_left, holds_right, on_left_of, on_right_of}
 use Rattle.dcel_segments.proofs.Onward.{IsFurther, Tail, tail, further_itself}
-use Rattle.dcel_segments.proofs.Peaks.{Joins}
+use Rattle.dcel_segments.proofs.Peaks.{Joins, of_face}
 use Rattle.dcel_segments.proofs.Striving.{strive}
 use Rattle.dcel_covering.proofs.Along.{dot}
 use Rattle.dcel_covering.proofs.Triangles.{round}
@@ -132,7 +132,7 @@ module _ {V DE UE F : Type 0} (m : Mesh V DE UE F) (mesh : IsMesh m) (triangles 
     tri_k : IsTriangleOf (map_of s) (face_of s k) k (next_of s k) (prev_of s k)
     tri_k = tri k v e out.live inner out.from refl
 
-    begins : pos 0 <ℤ off z → (h : ℕ) × BeginsAt at s v w h
+    begins : pos 0 <ℤ off z → BeginsAt at s v w (next_of s k)
     begins hz =
         let from = next_from k v e out.live inner out.from refl in
         let to = next_to k v e out.live inner out.from refl in
@@ -141,21 +141,19 @@ module _ {V DE UE F : Type 0} (m : Mesh V DE UE F) (mesh : IsMesh m) (triangles 
         by_lt_z (orient2d_of (at e) (at z) (at w)) (pos 0) (λ less. less)
         (λ not. absurd
         (not_covered k v e out.live inner out.from refl (λ is. differ (sym is)) (not_of e (λ zero. omega (arith, ordered, zero, right))) (not_of z (λ zero. omega (arith, ordered, zero, hz)))
-        (let a = seen in omega (arith, ordered, a), not, (let a = orient2d-turned (at z) (at v) (at w) in let b = hz in omega (arith, ordered, a, b))))) in (
-          next_of s k,
-          record {
-            crosses = record {
-              live = tri_k.live_y;
-              right = subst (λ (i : ℕ). off i <ℤ pos 0) (sym from) right;
-              left = subst (λ (i : ℕ). pos 0 <ℤ off i) (sym to) hz;
-              near = subst (λ (i : ℕ). TurnsLeft (at i) (at (end_of s (next_of s k))) (at v)) (sym from) (subst (λ (i : ℕ). TurnsLeft (at e) (at i) (at v)) (sym to) near);
-              far =
-                  subst (λ (i : ℕ). orient2d_of (at i) (at (end_of s (next_of s k))) (at w) <ℤ pos 0) (sym from)
-                  (subst (λ (i : ℕ). orient2d_of (at e) (at i) (at w) <ℤ pos 0) (sym to) far);
-            };
-            start = record { side = k; live = out.live; on = sym tri_k.face_y; from = out.from };
-          },
-        )
+        (let a = seen in omega (arith, ordered, a), not, (let a = orient2d-turned (at z) (at v) (at w) in let b = hz in omega (arith, ordered, a, b))))) in
+        record {
+          crosses = record {
+            live = tri_k.live_y;
+            right = subst (λ (i : ℕ). off i <ℤ pos 0) (sym from) right;
+            left = subst (λ (i : ℕ). pos 0 <ℤ off i) (sym to) hz;
+            near = subst (λ (i : ℕ). TurnsLeft (at i) (at (end_of s (next_of s k))) (at v)) (sym from) (subst (λ (i : ℕ). TurnsLeft (at e) (at i) (at v)) (sym to) near);
+            far =
+                subst (λ (i : ℕ). orient2d_of (at i) (at (end_of s (next_of s k))) (at w) <ℤ pos 0) (sym from)
+                (subst (λ (i : ℕ). orient2d_of (at e) (at i) (at w) <ℤ pos 0) (sym to) far);
+          };
+          start = record { side = k; live = out.live; on = sym tri_k.face_y; from = out.from };
+        }
 
     out_next : Out (ccw_of s k)
     out_next = record { live = rev_live (map_of s) (prev_of s k) tri_k.live_z; from = prev_to k v e out.live inner out.from refl }
@@ -185,7 +183,7 @@ module _ {V DE UE F : Type 0} (m : Mesh V DE UE F) (mesh : IsMesh m) (triangles 
           subst (λ (i : ℕ). off i <ℤ pos 0) (sym end_next) less,
           subst (λ (i : ℕ). TurnsLeft (at v) (at e) (at i)) (sym end_next) turn,
         ))
-        (λ not. by_lt_z (pos 0) (off z) (λ more. inl (inr (begins more)))
+        (λ not. by_lt_z (pos 0) (off z) (λ more. inl (inr (next_of s k, begins more)))
         (λ nor.
         let zero : off z ≡ pos 0 = omega (arith, ordered, not, nor) in
         inl (inl (ccw_of s k, along (ccw_of s k) z out_next end_next zero (joins zero)))))
@@ -361,6 +359,30 @@ module _ {V DE UE F : Type 0} (m : Mesh V DE UE F) (mesh : IsMesh m) (triangles 
       by_lt_z (off (end_of s corner.0)) (pos 0) (λ less. from_right corner.0 out less)
       (λ not. by_lt_z (pos 0) (off (end_of s corner.0)) (λ more. from_left corner.0 out more)
       (λ nor. from_line corner.0 out corner.2 (omega (arith, ordered, not, nor))))
+
+  -- a half edge of v in whose triangle the segment begins
+  pub opens_begins : (k : ℕ) → IsLive s k → origin_of s k ≡ v → OpensAt at s v w k → BeginsAt at s v w (next_of s k)
+  opens_begins k live from opens = begins k (record { live = live; from = from }) opens.right opens.left
+
+  pub begins_opens : (h : ℕ) → BeginsAt at s v w h → (k : ℕ) × IsLive s k × (origin_of s k ≡ v) × OpensAt at s v w k
+  begins_opens h b =
+      let k = b.start.side in
+      let inner = subst (λ (i : ℕ). 0 < i) (sym b.start.on) (inner_near m mesh triangles at plane convex v w ends h b.crosses) in
+      let tri_k = round m mesh triangles b.start.side b.start.live inner in
+      let at_start = subst (λ (i : ℕ). off i ≡ pos 0) (sym b.start.from) at_v in (
+        b.start.side,
+        b.start.live,
+        b.start.from,
+        of_face m mesh (face_of s b.start.side) b.start.side (next_of s b.start.side) (prev_of s b.start.side) tri_k (λ j. Crosses at s v w j → OpensAt at s v w b.start.side)
+            (λ c. absurd (let r = c.right in omega (arith, ordered, r, at_start)))
+            (λ c. record {
+              inner = inner;
+              right = subst (λ (i : ℕ). off i <ℤ pos 0) (mesh.sound.joined b.start.side b.start.live) c.right;
+              left = subst (λ (i : ℕ). pos 0 <ℤ off i) (sym (mesh.sound.joined (next_of s b.start.side) tri_k.live_y) ∙ ap (origin_of s) tri_k.next_y) c.left;
+            })
+            (λ c. absurd (let l = subst (λ (i : ℕ). pos 0 <ℤ off i) (sym (mesh.sound.joined (prev_of s b.start.side) tri_k.live_z) ∙ ap (origin_of s) tri_k.next_z) c.left in omega (arith, ordered, l, at_start)))
+            h b.crosses.live (sym b.start.on) b.crosses,
+      )
 
   channel_of : (h : ℕ) → BeginsAt at s v w h → Tail m mesh triangles at plane convex hull v w ends h → (list : List ℕ) × IsChannel at s v w list
   channel_of h begins rest = (

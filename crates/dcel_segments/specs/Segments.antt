@@ -100,6 +100,12 @@ pub record BeginsAt (at : ℕ → Point) (s : Shape) (v w h : ℕ) : Type 0 wher
   pub crosses : Crosses at s v w h
   pub start : IsCorner s (face_of s h) v
 
+-- in the triangle of the half edge k from v, the segment leads on: it leaves the next corner on its right, and the third on its left
+pub record OpensAt (at : ℕ → Point) (s : Shape) (v w k : ℕ) : Type 0 where
+  pub inner : 0 < face_of s k
+  pub right : offset at v w (end_of s k) <ℤ pos 0
+  pub left : pos 0 <ℤ offset at v w (corner_before s k)
+
 -- v and w are vertices with an edge
 pub record AreEnds (s : Shape) (v w : ℕ) : Type 0 where
   pub i : ℕ

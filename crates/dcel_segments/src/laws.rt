@@ -8,9 +8,9 @@ ghost use Rattle.dcel_maps.specs.Shapes.{IsLive, IsMesh, Mesh, Shape, end_of, fa
 ghost use Rattle.dcel_maps.specs.Triangulations.{AllTriangles};
 ghost use Rattle.dcel_maps.specs.Words.{count_of};
 ghost use Rattle.dcel_plane.specs.Plane.{IsPlane, ListsCircled};
-ghost use Rattle.dcel_covering.specs.Covering.{IsConvex, IsHull, apart_along};
+ghost use Rattle.dcel_covering.specs.Covering.{CoversHull, IsConvex, IsHull, apart_along};
 ghost use Rattle.dcel_hollows.specs.Wheels.{CanTurn};
-ghost use Rattle.dcel_segments.specs.Segments.{AreEnds, BeginsAt, Becomes, Crosses, IsChannel, IsClear, IsPeak, LeadsAlong, NarrowerBefore, NotWiderAfter, corner_beyond, flipped_each, offset, touched, widths};
+ghost use Rattle.dcel_segments.specs.Segments.{AreEnds, BeginsAt, Becomes, CanTurnEach, Crosses, IsChannel, IsClear, IsPeak, IsPlanar, LeadsAlong, NarrowerBefore, NotWiderAfter, corner_beyond, flipped_each, offset, touched, widths};
 
 /// From a vertex a segment leads along an edge, or through a triangle and across its far side.
 pub fn segments_begin_at_an_edge_or_in_a_triangle<V, DE, UE, F>()
@@ -84,14 +84,22 @@ pub fn empty_channels_are_edges<V, DE, UE, F>()
         → (h : ℕ) × IsLive m.shape h × (origin_of m.shape h ≡ v) × (end_of m.shape h ≡ w) }
 {}
 
+/// Flips of edges, each between two triangles that go round counterclockwise afterwards too, keep a mesh
+/// in the plane with its hull, and leave each place covered that was: so its triangles cover the hull,
+/// Delaunay or not.
+pub fn turning_flips_keep_plane_hull_and_cover<V, DE, UE, F>()
+    ensures planar { (at : ℕ → Point) (m : Mesh V DE UE F) (list : List ℕ) → IsPlanar at m → CanTurnEach at m list → IsPlanar at (flipped_each m list) }
+    ensures covers { (at : ℕ → Point) (m : Mesh V DE UE F) (list : List ℕ) → IsPlanar at m → CanTurnEach at m list
+        → CoversHull at m.shape → CoversHull at (flipped_each m list).shape }
+{}
+
 /// By flips of the edges that the segment between them crosses, two vertices with no vertex between
 /// them get an edge, and the mesh stays in the plane with its hull. No other edge is flipped, and an
 /// edge that breaks Delaunay's condition broke it before, or lies at a triangle that changed.
 pub fn segments_can_become_edges<V, DE, UE, F>()
-    ensures { (at : ℕ → Point) (m : Mesh V DE UE F) (v w h : ℕ) → IsMesh m → AllTriangles m.shape → IsPlane at m.shape → IsConvex at m.shape → IsHull at m.shape
-        → v ≢ w → AreEnds m.shape v w → IsClear at m.shape v w → IsLive m.shape h → 0 < face_of m.shape h
-        → (list : List ℕ) × IsMesh (flipped_each m list) × AllTriangles (flipped_each m list).shape × IsPlane at (flipped_each m list).shape
-        × IsConvex at (flipped_each m list).shape × IsHull at (flipped_each m list).shape
+    ensures { (at : ℕ → Point) (m : Mesh V DE UE F) (v w h : ℕ) → IsPlanar at m → v ≢ w → AreEnds m.shape v w → IsClear at m.shape v w
+        → IsLive m.shape h → 0 < face_of m.shape h
+        → (list : List ℕ) × CanTurnEach at m list × IsPlanar at (flipped_each m list)
         × ((e : ℕ) × IsLive (flipped_each m list).shape e × (origin_of (flipped_each m list).shape e ≡ v) × (end_of (flipped_each m list).shape e ≡ w))
         × ((u : ℕ) → 0 < count_of u list → (k : ℕ) × Crosses at m.shape v w k × (k / 2 ≡ u))
         × ((due : List ℕ) → ListsCircled at m.shape due → ListsCircled at (flipped_each m list).shape (due ++ touched m list)) }

@@ -6,27 +6,21 @@ use Rattle.dcel_segments.proofs.Channels.{all_cross}
 use Rattle.dcel_segments.proofs.Starting.{joins_or_crosses}
 
 pub returns : goal.returns
-returns g c = λ at m v w h mesh triangles plane convex hull differ ends clear live inner.
-    elim (joins_or_crosses m mesh triangles at plane convex hull v w differ ends clear h live inner) [
+returns g c = λ at m v w h planar differ ends clear live inner.
+    elim (joins_or_crosses m planar.mesh planar.triangles at planar.plane planar.convex planar.hull v w differ ends clear h live inner) [
       | inl edge ↦ (
         [],
-        mesh,
-        triangles,
-        plane,
-        convex,
-        hull,
+        tt,
+        planar,
         (edge.edge, edge.live, edge.from, edge.to),
         λ u there. absurd (omega (arith, there)),
         λ due lists. subst (λ l. ListsCircled at m.shape l) (sym (append-nil due)) lists,
       )
       | inr channel ↦
-          let done = made_of at v w differ m (record { mesh = mesh; triangles = triangles; plane = plane; convex = convex; hull = hull }) channel.0 channel.1 in (
+          let done = made_of at v w differ m planar channel.0 channel.1 in (
             done.edges,
-            done.whole.mesh,
-            done.whole.triangles,
-            done.whole.plane,
-            done.whole.convex,
-            done.whole.hull,
+            done.can,
+            done.whole,
             (done.joins.edge, done.joins.live, done.joins.from, done.joins.to),
             λ u there.
                 (let found = done.only u there in
