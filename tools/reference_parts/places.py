@@ -11,7 +11,7 @@ class Places:
     """The public items of each library by the modules that show them, and the address of each item and definition."""
 
     def __init__(self, project):
-        self.project, self.items, self.modules, self.shown, self.inner = project, {}, {}, {}, set()
+        self.project, self.items, self.shown_by, self.modules, self.shown, self.inner = project, {}, {}, {}, {}, set()
         for library in project.libraries():
             self.place(library)
 
@@ -22,8 +22,8 @@ class Places:
         self.shown[module] = [(name, it) for name, it in module.items.items() if it.public and it.kind != "impl"]
         self.shown[module] += [(name, module.find(module.uses[name])) for name in module.reexports]
         for name, item in self.shown[module]:
-            if isinstance(item, Item) and item.home.crate == module.crate:
-                self.items.setdefault(item, f"{folder}/{name}.html")
+            if isinstance(item, Item) and item.home.crate == module.crate and item not in self.items:
+                self.items[item], self.shown_by[item] = f"{folder}/{name}.html", (name, module)
         for child in module.children.values():
             if child.public:
                 self.place(child)

@@ -157,7 +157,7 @@ def below(item):
     """What a definition or a declaration names."""
     if isinstance(item, Item):
         return tuple(of_item(item))
-    return tuple(it.target for it in (*item.words(), *item.section.read(item.home)[1]))
+    return tuple(it.target for it in (*item.words, *item.section.read(item.home)[1]))
 
 
 def near(item):

@@ -3,7 +3,7 @@
 import html
 import re
 
-PUBLIC = re.compile(r"pub (?:const |unsafe |extern \"C\" )*(fn|struct|enum|trait|type|const|static) (\w+)")
+PUBLIC = re.compile(r"pub (?:const |unsafe |extern \"C\" )*(?:fn|struct|enum|trait|type|const|static) (\w+)")
 REEXPORT = re.compile(r"pub use ([^;]+);", re.DOTALL)
 
 
@@ -30,29 +30,38 @@ def public_modules(folder):
     yield from inner(folder / "src/lib.rt", folder / "src", True)
 
 
+def lines_of(path):
+    """What is `pub` in a file: its line, the type that it is a call of, if it is one, its name and the comment above it."""
+    owner, comment, is_test = "", [], False
+    for number, line in enumerate(path.read_text().split("\n"), 1):
+        text = line.strip()
+        if found := re.match(r"(?:unsafe )?impl\b(.*)", line):
+            head = re.sub(r"^<[^>]*(?:<[^>]*>[^>]*)*>", "", found[1]).strip()
+            owner = "" if re.search(r"\bfor\b", found[1]) else re.match(r"\w*", head)[0]
+        if text.startswith("///"):
+            comment.append(text[3:].removeprefix(" "))
+        elif text.startswith(("#", "//")):
+            is_test |= text.startswith("#") and "test" in text
+        else:
+            found = PUBLIC.match(text)
+            if found and not is_test and line.startswith(("pub", "    pub")):
+                yield number, "" if line.startswith("pub") else owner, found[1], comment
+            comment, is_test = [], False
+
+
 def public_items(folder):
-    """What a library shows: its names, each with where it stands, the type that it is a call of, and the comment above it."""
+    """What a library shows: where each stands, the type that it is a call of, its name and the comment above it."""
     files = list(public_modules(folder))
     passed_on = [set(re.findall(r"\w+", found)) for path, _ in files for found in REEXPORT.findall(path.read_text())]
-    shown = set()
-    for path, is_public in files:
-        owner, comment, is_test = "", [], False
-        for number, line in enumerate(path.read_text().split("\n"), 1):
-            text = line.strip()
-            if found := re.match(r"(?:unsafe )?impl\b(.*)", line):
-                owner = "" if re.search(r"\bfor\b", found[1]) else re.sub(r"^<[^>]*(?:<[^>]*>[^>]*)*>", "", found[1]).strip()
-                owner = re.match(r"\w*", owner)[0]
-            if text.startswith("///"):
-                comment.append(text[3:].removeprefix(" "))
-            elif text.startswith(("#", "//")):
-                is_test |= text.startswith("#") and "test" in text
-            else:
-                found, is_item = PUBLIC.match(text), line.startswith("pub")
-                is_shown = is_public or any({path.stem, found[2]} <= it for it in passed_on) if found and is_item else owner in shown
-                if found and is_shown and not is_test and line.startswith(("pub", "    pub")):
-                    shown |= {found[2]} if is_item else set()
-                    yield f"{path.name}:{number}", "" if is_item else owner, found[2], comment
-                comment, is_test = [], False
+    lines = [(path, is_public, *line) for path, is_public in files for line in lines_of(path)]
+
+    def is_item(path, is_public, owner, name):
+        return not owner and (is_public or any({path.stem, name} <= it for it in passed_on))
+
+    names = {name for path, is_public, _, owner, name, _ in lines if is_item(path, is_public, owner, name)}
+    for path, is_public, number, owner, name, comment in lines:
+        if owner in names or is_item(path, is_public, owner, name):
+            yield f"{path.name}:{number}", owner, name, comment
 
 
 def faults(project, pages):

@@ -59,11 +59,11 @@ class Site:
 
     # What pages say of one thing.
 
-    def clauses(self, page, title, clauses, words_of, records):
+    def clauses(self, page, title, clauses, words, records):
         if clauses:
             page.add(f"<h3>{title}</h3>", "<dl class=clauses>")
             for it in clauses:
-                page.add(f"<dt>{escape(it.name)}</dt>", f"<dd><pre>{page.term(it.text, words_of(it), records)}</pre></dd>")
+                page.add(f"<dt>{escape(it.name)}</dt>", f"<dd><pre>{page.term(it.text, words(it), records)}</pre></dd>")
             page.add("</dl>")
 
     def call(self, page, call, heading, anchor=None):
@@ -99,7 +99,7 @@ class Site:
     def item(self, name, item, module):
         """The page of an item."""
         page = self.page(self.places.items[item])
-        self.note(f"{name}", KINDS[item.kind][:-1], page.url)
+        self.note(name, KINDS[item.kind][:-1], page.url)
         if item.kind == "fn":
             self.call(page, item, "h1")
         else:
@@ -163,7 +163,7 @@ class Site:
                 page.add(f"<p>In what follows <code>{escape(item.section.text.strip())}</code></p>")
             section = item.section
             page.add(f'<section class=definition id="{escape(item.name)}"><h2>{escape(item.name)}</h2>', page.definition_comment(item.comment))
-            page.add(f"<pre>{page.term(item.text, item.words(), near(item))}</pre></section>")
+            page.add(f"<pre>{page.term(item.text, item.words, near(item))}</pre></section>")
         self.keep(page, f"{name} - {spec.parts[1]}", [(spec.parts[1], f"{spec.parts[1]}/index.html")])
 
     def declarations(self, url, items):
@@ -205,10 +205,8 @@ class Site:
         self.specs = [it for library in self.project.libraries() for it in self.project.specs_of(library.crate)]
         for module in self.places.modules:
             self.module(module)
-            for name, item in self.places.shown[module]:
-                if isinstance(item, Item) and self.places.items.get(item, "").endswith(f"/{name}.html") and item.home.crate == module.crate:
-                    if self.places.items[item] not in self.files:
-                        self.item(name, item, module)
+        for item, (name, module) in self.places.shown_by.items():
+            self.item(name, item, module)
         for spec in self.specs:
             self.definitions(spec)
         inner = {}
@@ -217,6 +215,8 @@ class Site:
         for url, items in inner.items():
             self.declarations(url, items)
         self.front()
+        if self.faults:
+            return
         for url, text in self.files.items():
             (folder / url).parent.mkdir(parents=True, exist_ok=True)
             (folder / url).write_text(text)

@@ -73,13 +73,9 @@ class Definition:
             return {bare(it.split(" as ")[-1].strip()) for it in found[2][1:-1].split(",")}
         return self.kind_of(bare(found[1])).fields()
 
+    @functools.cached_property
     def words(self):
         """What the words of its text name that aren't bound there."""
-        if not hasattr(self, "kept"):
-            self.kept = list(self.read())
-        return self.kept
-
-    def read(self):
         reader = Reader(self.text, self.home.names)
         names, _ = self.section.read(self.home)
         for start, end in self.parts():
