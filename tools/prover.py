@@ -166,10 +166,10 @@ def words(name):
     return [*found, "--antt-project", kit() / "rattle/logic/antt-project.json", "--logic-built", kit() / "logic_built"]
 
 
-def call(step, name, more, folder):
-    """Calls the prover for a step, `check` or `build`, in a folder that has the crate's files. Returns its status and what it says."""
-    ran = subprocess.run(
-        [kit() / "bin/rattle", step, *words(name), *more],
+def run(command, folder):
+    """Runs a program of the kit's."""
+    return subprocess.run(
+        command,
         cwd=folder,
         stdin=subprocess.DEVNULL,
         stdout=subprocess.PIPE,
@@ -178,6 +178,17 @@ def call(step, name, more, folder):
         errors="replace",
         check=False,
     )
+
+
+def link(target, archive, module):
+    """Links a static library that was built for this target into a module. Returns the linker's status and what it says."""
+    ran = run([kit() / "bin/rattle-link", "--target", target, "--toolchain", kit() / "toolchain", "-o", module, archive], ROOT)
+    return ran.returncode, ran.stdout
+
+
+def call(step, name, more, folder):
+    """Calls the prover for a step, `check` or `build`, in a folder that has the crate's files. Returns its status and what it says."""
+    ran = run([kit() / "bin/rattle", step, *words(name), *more], folder)
     if ran.returncode == 2 and ran.stdout.startswith(UNKNOWN):
         sys.exit(f"this kit's prover takes other words than {os.path.relpath(__file__)} gives it: {ran.stdout.splitlines()[0]}")
     return ran.returncode, ran.stdout
