@@ -57,8 +57,8 @@ between them; the second coordinate goes up. A vertex without a place stands bel
 edge that ends there isn't drawn.
 
 A page shows one line at a time, by arrow keys or a slider, and all of them where scripts don't run.
-What a line has changed is blue. A vertex stays where it is unless it has to move. A line that is
-refused has its reply there. Places aren't read for a page.";
+What a line has changed is blue. Vertices keep their arrangement if the mesh can be drawn so, each
+picture at its own scale. A line that is refused has its reply there. Places aren't read for a page.";
 
 impl<'a> Arguments<'a> {
     /// Returns what the words say.

@@ -20,8 +20,8 @@ pub struct Page<'a> {
 }
 
 impl<'a> Page<'a> {
-    /// Finds places for the vertices after each line, from the last one on, so that a vertex stays
-    /// where it is from line to line unless it has to move.
+    /// Finds places for the vertices after each line, from the last one on. From line to line they
+    /// are kept if the mesh can be drawn there.
     pub fn new(alloc: Global, steps: Vec<Step<'a>>, style: Style) -> Result<Self, AllocError> {
         let mut places: Vec<Places> = Vec::new(alloc);
         for step in steps.iter().rev() {
