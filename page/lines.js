@@ -6,7 +6,7 @@ import { at, save } from './elements.js';
 import { WORDS, REFUSALS, EXAMPLES } from './data.js';
 
 /** Larger meshes are drawn only when that is asked for. */
-const MOST_DRAWN = 1000;
+const MOST_DRAWN = 300;
 
 /** A reply is one line, but for that of `words`, which begins with the row of the outer face. */
 const REPLY = /^F0.*\n(?:F[1-9].*\n)*|^.*\n/gm;

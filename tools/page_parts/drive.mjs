@@ -106,6 +106,7 @@ async function manyLines() {
   await browser.paste(lines.map(line => `${line}\n`).join(''));
   await expectValue('2,000 lines pasted', 'document.getElementById("talk").children.length', begun + lines.length);
   await expectText('the last reply to 2,000 lines', '#talk li:last-child samp', 'vertices 1002 edges 3000 faces 2000');
+  await expectValue('that large meshes wait to be drawn', 'document.getElementById("draw").hidden', false);
   await click('#undo');
   await expectValue('2,000 lines undone', 'document.getElementById("talk").children.length', begun);
 }
@@ -152,12 +153,14 @@ async function points() {
   const [x, y] = await middleOf('#plane');
   await browser.drag([x - 37, y + 90]);
   await expectDelaunay('a point added by a click', 9);
+  await browser.doubleClick(await pointPlace(2));
+  await expectDelaunay('a point removed by a double click', 8);
   for (const key of ['n', 'ArrowLeft', 'ArrowUp', 'Enter', 'Enter', 'Delete', 'p', 'ArrowRight']) await press(key);
-  await expectDelaunay('points changed by keys', 10);
+  await expectDelaunay('points changed by keys', 9);
   await click('#more');
-  await expectDelaunay('a hundred more', 110);
+  await expectDelaunay('a hundred more', 109);
   await browser.drag(await pointPlace(50), ...Array.from({ length: 200 }, (_, at) => [x + at - 100, y + at / 2 - 50]));
-  await expectDelaunay('one of many dragged far', 110);
+  await expectDelaunay('one of many dragged far', 109);
 }
 
 /** A phone, and an engine without 64-bit memories: Chromium can play both. */
