@@ -30,7 +30,11 @@ async function expect(what, find, wanted) {
 }
 const expectText = (what, selector, wanted) => expect(what, () => evaluate(`document.querySelector('${selector}').innerText.replace(/\\s+/g, ' ').trim()`), wanted);
 const expectValue = (what, expression, wanted) => expect(what, () => evaluate(expression), wanted);
-const expectTalk = (what, ...rows) => expectText(what, '#talk', rows.join(' '));
+/** Also waits until the mesh is drawn. */
+const expectTalk = async (what, ...rows) => {
+  await expectText(what, '#talk', rows.join(' '));
+  await expectValue(`${what}: drawn`, 'document.getElementById("picture").ariaBusy', 'false');
+};
 const expectFile = (what, name, wanted) => expect(what, () => existsSync(`${downloads}/${name}`) && readFileSync(`${downloads}/${name}`, 'utf8'), wanted);
 
 const middleOf = selector => evaluate(`(element => {
