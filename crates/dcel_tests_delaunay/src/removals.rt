@@ -347,7 +347,8 @@ fn removals_inside_are_refused_memory(rt: HostRuntime) -> Result<(), Fail> {
     for row in &INSIDE {
         check_refused(row, 3, rt.alloc())?;
     }
-    Ok(())
+    // Edges that are flipped first ask for more.
+    check_refused(&INSIDE[4], 4, rt.alloc())
 }
 
 #[test]
