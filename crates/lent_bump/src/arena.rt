@@ -14,7 +14,7 @@ const UNIT: usize = 16;
 /// An allocator for collections, each of which holds a `&` to it.
 ///
 /// A block comes from the front of the memory that is free. Its address is a multiple of 16, and so
-/// is its size; a request for another alignment above 16, or for more than is free, finds no memory.
+/// is its size; a request for an alignment above 16, or for more than is free, finds no memory.
 /// A block that is given back isn't used again.
 #[derive(Drop)]
 pub struct Arena {

@@ -20,7 +20,7 @@ const OUT_OF_RANGE: u32 = 3;
 /// numbers of its corners, counterclockwise. Equal points are one, under the least of their numbers.
 ///
 /// As many triangles as fit are put there, from the front, and what lies behind them stays. `needed`
-/// is how many there are: at most twice as many as points, and none if all points stand on one line.
+/// is how many there are: none if all points stand on one line.
 /// Returns 0 if all are there, and 1 if the buffer was short; 2 if the memory lent was too small, or
 /// there are too many points for a mesh; 3 if a coordinate is below -2^30 or above 2^30. With 2 and
 /// 3 the buffer stays as it was and `needed` is 0.
