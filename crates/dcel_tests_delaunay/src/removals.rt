@@ -75,7 +75,7 @@ const ROWS: [Row; 5] = [
 ];
 
 /// Returns a triangulation of the points at these places, whose vertices have their numbers.
-fn numbered(places: &[Place], alloc: Global) -> Result<Triangulation, Fail> {
+pub fn numbered(places: &[Place], alloc: Global) -> Result<Triangulation, Fail> {
     let mut triangulation = Triangulation::new(alloc)?;
     for point in points_at(places, alloc)? {
         triangulation.insert(point)?;
