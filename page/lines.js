@@ -6,13 +6,13 @@ import { at, save } from './elements.js';
 import { WORDS, REFUSALS, EXAMPLES } from './data.js';
 
 /** Larger meshes are drawn only when that is asked for. */
-const MOST_DRAWN = 1000;
+const MOST_DRAWN = 300;
 
 /** A reply is one line, but for that of `words`, which begins with the row of the outer face. */
 const REPLY = /^F0.*\n(?:F[1-9].*\n)*|^.*\n/gm;
 
 const view = viewIn(at('picture'), choose);
-let said = [], past = [], shown = [], svg = '', chosen = null, recalled = 0, changed = () => {};
+let said = [], past = [], shown = [], svg = '', chosen = null, recalled = 0, waiting, changed = () => {};
 
 const text = (...more) => [...said, ...more].map(line => `${line}\n`).join('');
 const answers = (...more) => replies(text(...more)).match(REPLY).map(reply => reply.trimEnd());
@@ -68,7 +68,7 @@ function show(isDrawn = false) {
   at('undo').disabled = !said.length && !past.length;
   at('draw').hidden = isDrawn || Number(counts.split(' ')[1]) <= MOST_DRAWN;
   at('picture').hidden = !at('draw').hidden;
-  if (at('draw').hidden) draw();
+  if (at('draw').hidden) drawSoon();
   changed();
 }
 
@@ -81,7 +81,16 @@ function entry(line, reply) {
   return item;
 }
 
+/** Draws once the replies are seen, since that may take longer; once for several lines that come in a row. */
+function drawSoon() {
+  at('picture').ariaBusy = 'true';
+  clearTimeout(waiting);
+  waiting = setTimeout(draw, 30);
+}
+
 function draw() {
+  clearTimeout(waiting);
+  at('picture').ariaBusy = 'false';
   svg = picture(text(), { anchors: at('anchors').checked });
   view.draw(svg);
   choose(at('picture').querySelector(`[data-half="${chosen}"]`) && chosen);
@@ -176,5 +185,8 @@ at('half').oninput = () => choose(at('half').value === '' ? null : Number(at('ha
 at('larger').onclick = () => view.zoom(0.8);
 at('smaller').onclick = () => view.zoom(1.25);
 at('fit').onclick = view.fit;
-at('save-svg').onclick = () => save('mesh.svg', 'image/svg+xml', svg);
+at('save-svg').onclick = () => {
+  draw();
+  save('mesh.svg', 'image/svg+xml', svg);
+};
 at('save-lines').onclick = () => save('mesh.lines', 'text/plain', text());

@@ -15,7 +15,8 @@ export function replies(lines: string): string;
 export function picture(lines: string, options?: { anchors?: boolean }): string;
 
 /**
- * The Delaunay triangulation of points: each triangle as three numbers of points, counterclockwise where y goes up. Equal points are one, under the least of their numbers; points on one line have no triangle.
+ * The Delaunay triangulation of points: each triangle as three numbers of points, counterclockwise where y goes up. Equal points are
+ * one, under the least of their numbers; points on one line have no triangle.
  *
  * Throws a RangeError if a coordinate isn't a whole number from -2^30 to 2^30.
  */

@@ -16,7 +16,7 @@ extern "C" {
 enum {
     MESH_PAGE_DONE = 0,         /* all of the answer is in the buffer */
     MESH_PAGE_SHORT = 1,        /* the buffer has as much of the answer as it holds */
-    MESH_PAGE_NO_MEMORY = 2,    /* the memory lent was too small, and *needed is 0 */
+    MESH_PAGE_NO_MEMORY = 2,    /* the memory lent was too small, or points are too many; *needed is 0 */
     MESH_PAGE_OUT_OF_RANGE = 3, /* a coordinate is below -2^30 or above 2^30, and *needed is 0 */
 };
 

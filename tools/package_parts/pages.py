@@ -24,7 +24,7 @@ def page(program, run):
     """The page of a program. `run` gives what a command writes."""
     if program.name == "dcel_run":
         return run("go-md2man", input=lines_page())
-    about = run(program, "--help").splitlines()[0]
+    about = run(program, "--help").splitlines()[0].partition(". ")[0]
     return run("help2man", "--no-info", f"--name={about[0].lower()}{about[1:]}", program)
 
 

@@ -88,6 +88,9 @@ export async function startChromium(downloads) {
       for (const place of places.slice(1)) await mouse('mouseMoved', place, { buttons: 1 });
       await mouse('mouseReleased', places.at(-1), { clickCount: 1 });
     },
+    async doubleClick(place) {
+      for (const clickCount of [1, 2]) for (const type of ['mousePressed', 'mouseReleased']) await mouse(type, place, { clickCount });
+    },
     setWidth: width => ask('Emulation.setDeviceMetricsOverride', { width, height: 844, deviceScaleFactor: 2, mobile: true }),
     /** Has a script run in each page that is opened later, before the page's own. */
     runFirst: source => ask('Page.addScriptToEvaluateOnNewDocument', { source }),

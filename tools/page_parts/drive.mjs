@@ -30,7 +30,11 @@ async function expect(what, find, wanted) {
 }
 const expectText = (what, selector, wanted) => expect(what, () => evaluate(`document.querySelector('${selector}').innerText.replace(/\\s+/g, ' ').trim()`), wanted);
 const expectValue = (what, expression, wanted) => expect(what, () => evaluate(expression), wanted);
-const expectTalk = (what, ...rows) => expectText(what, '#talk', rows.join(' '));
+/** Also waits until the mesh is drawn. */
+const expectTalk = async (what, ...rows) => {
+  await expectText(what, '#talk', rows.join(' '));
+  await expectValue(`${what}: drawn`, 'document.getElementById("picture").ariaBusy', 'false');
+};
 const expectFile = (what, name, wanted) => expect(what, () => existsSync(`${downloads}/${name}`) && readFileSync(`${downloads}/${name}`, 'utf8'), wanted);
 
 const middleOf = selector => evaluate(`(element => {
@@ -106,6 +110,7 @@ async function manyLines() {
   await browser.paste(lines.map(line => `${line}\n`).join(''));
   await expectValue('2,000 lines pasted', 'document.getElementById("talk").children.length', begun + lines.length);
   await expectText('the last reply to 2,000 lines', '#talk li:last-child samp', 'vertices 1002 edges 3000 faces 2000');
+  await expectValue('that large meshes wait to be drawn', 'document.getElementById("draw").hidden', false);
   await click('#undo');
   await expectValue('2,000 lines undone', 'document.getElementById("talk").children.length', begun);
 }
@@ -152,12 +157,14 @@ async function points() {
   const [x, y] = await middleOf('#plane');
   await browser.drag([x - 37, y + 90]);
   await expectDelaunay('a point added by a click', 9);
+  await browser.doubleClick(await pointPlace(2));
+  await expectDelaunay('a point removed by a double click', 8);
   for (const key of ['n', 'ArrowLeft', 'ArrowUp', 'Enter', 'Enter', 'Delete', 'p', 'ArrowRight']) await press(key);
-  await expectDelaunay('points changed by keys', 10);
+  await expectDelaunay('points changed by keys', 9);
   await click('#more');
-  await expectDelaunay('a hundred more', 110);
+  await expectDelaunay('a hundred more', 109);
   await browser.drag(await pointPlace(50), ...Array.from({ length: 200 }, (_, at) => [x + at - 100, y + at / 2 - 50]));
-  await expectDelaunay('one of many dragged far', 110);
+  await expectDelaunay('one of many dragged far', 109);
 }
 
 /** A phone, and an engine without 64-bit memories: Chromium can play both. */

@@ -10,6 +10,7 @@ import { setTimeout } from 'node:timers/promises';
 
 const KEYS = { Enter: '\ue007', Delete: '\ue017', Backspace: '\ue003', Tab: '\ue004', ArrowLeft: '\ue012', ArrowUp: '\ue013', ArrowRight: '\ue014' };
 const CONTROL = '\ue009';
+const DOWN = { type: 'pointerDown', button: 0 }, UP = { type: 'pointerUp', button: 0 };
 
 /** Starts it with one empty page, which saves files into a folder. */
 export async function startFirefox(downloads) {
@@ -58,6 +59,9 @@ export async function startFirefox(downloads) {
     actions: [{ type: 'key', id: 'keys', actions: [...keys.map(value => ({ type: 'keyDown', value })), ...[...keys].reverse().map(value => ({ type: 'keyUp', value }))] }],
   });
   const move = ([x, y]) => ({ type: 'pointerMove', x: Math.round(x), y: Math.round(y), duration: 0 });
+  const point = (...actions) => ask('WebDriver:PerformActions', {
+    actions: [{ type: 'pointer', id: 'mouse', parameters: { pointerType: 'mouse' }, actions }],
+  });
   return {
     name: `Firefox ${capabilities.browserVersion}`,
     ask,
@@ -74,12 +78,8 @@ export async function startFirefox(downloads) {
       await runAsBrowser(`Cc['@mozilla.org/widget/clipboardhelper;1'].getService(Ci.nsIClipboardHelper).copyString(${JSON.stringify(text)});`);
       await type(CONTROL, 'v');
     },
-    drag: (...places) => ask('WebDriver:PerformActions', {
-      actions: [{
-        type: 'pointer', id: 'mouse', parameters: { pointerType: 'mouse' },
-        actions: [move(places[0]), { type: 'pointerDown', button: 0 }, ...places.slice(1).map(move), { type: 'pointerUp', button: 0 }],
-      }],
-    }),
+    drag: (...places) => point(move(places[0]), DOWN, ...places.slice(1).map(move), UP),
+    doubleClick: place => point(move(place), DOWN, UP, DOWN, UP),
     /** What went wrong in the page, and what its console tells. */
     faults: () => runAsBrowser(`return Services.console.getMessageArray()
       .filter(it => it instanceof Ci.nsIScriptError && it.sourceName.startsWith('file:')).map(it => it.message);`),

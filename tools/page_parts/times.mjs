@@ -1,4 +1,5 @@
-// What calls of the module take, the least of five in milliseconds: `node times.mjs FOLDER`.
+// What calls of the module take of a processor, the least of five in milliseconds: `node times.mjs FOLDER`, beside whose mesh.js stands a
+// package.json that calls it a module.
 
 import { readFileSync, statSync } from 'node:fs';
 import { resolve } from 'node:path';
@@ -22,9 +23,10 @@ const rows = {
 for (const file of ['mesh.wasm', 'mesh.js', 'mesh.html']) console.log(`${file}: ${statSync(`${folder}/${file}`).size} bytes`);
 for (const [name, run] of Object.entries(rows)) {
   const times = Array.from({ length: 5 }, () => {
-    const start = performance.now();
+    const start = process.cpuUsage();
     run();
-    return performance.now() - start;
+    const { user, system } = process.cpuUsage(start);
+    return (user + system) / 1000;
   });
   console.log(`${name}: ${Math.min(...times).toFixed(1)} ms`);
 }

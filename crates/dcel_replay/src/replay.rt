@@ -1,6 +1,6 @@
 //! Lines carried out on a mesh.
 
-ghost use Rattle.std.specs.Prelude.{◌≡◌, IfOk, OnErr};
+ghost use Rattle.std.specs.Prelude.{◌≡◌, IfNone, IfOk, IfSome, None, OnErr, Some};
 ghost use Rattle.dcel_commands.specs.Talk.{start};
 
 use crate::wrong::Wrong;
@@ -23,7 +23,8 @@ pub struct Replay<A: Allocator = Global> {
 impl<A: Allocator + Copy> Replay<A> {
     /// Starts with an empty mesh. If memory runs out it returns `AllocError`.
     pub fn new(alloc: A) -> Result<Self, AllocError>
-        ensures { IfOk result (λ replay. replay.mesh ≡ start) }
+        ensures mesh { IfOk result (λ replay. replay.mesh ≡ start) }
+        ensures before { IfOk result (λ replay. replay.before ≡ None) }
     {
         Ok(Replay {
             alloc,
@@ -34,7 +35,8 @@ impl<A: Allocator + Copy> Replay<A> {
 
     /// Returns the same once more. If memory runs out it returns `AllocError`.
     pub fn try_clone(&self) -> Result<Self, AllocError>
-        ensures { IfOk result (λ replay. replay.mesh ≡ self.now.mesh) }
+        ensures mesh { IfOk result (λ replay. replay.mesh ≡ self.now.mesh) }
+        ensures before { IfOk result (λ replay. replay.before ≡ self.now.before) }
     {
         let before = match &self.before {
             Some(before) => Some(before.try_clone(self.alloc)?),
@@ -56,7 +58,10 @@ impl<A: Allocator + Copy> Replay<A> {
 
     /// Lends what the mesh was before the removal that is open, as long as the edges and faces that
     /// this has given up are there.
-    pub fn before(&self) -> Option<&Mesh<A>> {
+    pub fn before(&self) -> Option<&Mesh<A>>
+        ensures some { IfSome result (λ before. self.now.before ≡ Some before.now) }
+        ensures none { IfNone result (self.now.before ≡ None) }
+    {
         self.before.as_ref()
     }
 
@@ -82,14 +87,25 @@ impl<A: Allocator + Copy> Replay<A> {
             self.before = Some(before);
             return Ok(());
         }
-        if let (Some(before), Some(echo)) = (&mut self.before, echo_of(&command)) {
-            edit(before, echo)?;
-        }
+        let echo = echo_of(&command);
         edit(&mut self.mesh, command)?;
         if self.mesh.removal_state() != RemovalState::Isolated {
             self.before = None;
         }
+        self.echo(echo);
         Ok(())
+    }
+
+    /// Has the mesh of before carry out what it must too. If there is no memory for that, nothing is
+    /// told of before any more.
+    fn echo(&mut self, echo: Option<Command<i64, A>>)
+        ensures { self.new.mesh ≡ self.old.mesh }
+    {
+        if let (Some(before), Some(echo)) = (&mut self.before, echo) {
+            if edit(before, echo).is_err() {
+                self.before = None;
+            }
+        }
     }
 }
 

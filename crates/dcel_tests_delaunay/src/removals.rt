@@ -167,7 +167,7 @@ const ON_A_LINE: [Row; 5] = [
 ];
 
 /// Returns a triangulation of the points at these places, whose vertices have their numbers.
-fn numbered(places: &[Place], alloc: Global) -> Result<Triangulation, Fail> {
+pub fn numbered(places: &[Place], alloc: Global) -> Result<Triangulation, Fail> {
     let mut triangulation = Triangulation::new(alloc)?;
     for point in points_at(places, alloc)? {
         triangulation.insert(point)?;
@@ -347,7 +347,8 @@ fn removals_inside_are_refused_memory(rt: HostRuntime) -> Result<(), Fail> {
     for row in &INSIDE {
         check_refused(row, 3, rt.alloc())?;
     }
-    Ok(())
+    // Edges that are flipped first ask for more.
+    check_refused(&INSIDE[4], 4, rt.alloc())
 }
 
 #[test]

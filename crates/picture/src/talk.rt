@@ -1,6 +1,6 @@
 //! A talk with a mesh: lines, the reply to each, and the mesh after it.
 
-use dcel_commands::commands::{MAX_LIMIT, Session, StdSink, Writer};
+use dcel_commands::commands::{MAX_LIMIT, Refusal, Session, StdSink, Writer};
 use dcel_programs::{before_comment, numbered_lines};
 use dcel_replay::{Replay, Wrong};
 use std::alloc::{AllocError, Global};
@@ -28,8 +28,10 @@ pub fn talk_of(alloc: Global, text: &str) -> Result<Vec<Step<'_>>, AllocError> {
             continue;
         }
         let reply = reply_to(alloc, &mut session, line)?;
-        if let Err(Wrong::OutOfMemory(error)) = replay.take(line.as_bytes()) {
-            return Err(error);
+        match replay.take(line.as_bytes()) {
+            Err(Wrong::OutOfMemory(error)) => return Err(error),
+            Err(Wrong::Refused(Refusal::OutOfMemory)) => return Err(AllocError),
+            _ => {}
         }
         let replay = replay.try_clone()?;
         steps.push(Step {
