@@ -35,8 +35,7 @@ impl<A: Allocator + Copy> Replay<A> {
 
     /// Returns the same once more. If memory runs out it returns `AllocError`.
     pub fn try_clone(&self) -> Result<Self, AllocError>
-        ensures mesh { IfOk result (λ replay. replay.mesh ≡ self.now.mesh) }
-        ensures before { IfOk result (λ replay. replay.before ≡ self.now.before) }
+        ensures { IfOk result (λ replay. replay.mesh ≡ self.now.mesh) }
     {
         let before = match &self.before {
             Some(before) => Some(before.try_clone(self.alloc)?),
