@@ -51,6 +51,9 @@ const CASES: [Case; 5] = [
     ),
 ];
 
+/// The coordinates of a grid.
+const STEPS: [i64; 4] = [0, 3, 6, 9];
+
 fn nearest_to(
     triangulation: &Triangulation,
     (x, y): Place,
@@ -115,9 +118,9 @@ fn check_all(triangulation: &Triangulation) -> Result<(), Fail> {
 #[test]
 fn none_is_nearer_in_a_grid(rt: HostRuntime) -> Result<(), Fail> {
     let mut places = Vec::new(rt.alloc());
-    for x in 0..4 {
-        for y in 0..4 {
-            places.push((3 * x, 3 * y))?;
+    for x in &STEPS {
+        for y in &STEPS {
+            places.push((*x, *y))?;
         }
     }
     let mut triangulation = numbered(&places, rt.alloc())?;
