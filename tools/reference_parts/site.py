@@ -12,7 +12,6 @@ from reference_parts.pages import Page
 from reference_parts.places import Places
 from reference_parts.resting import Rests, Scope, clause_words, near
 from reference_parts.sources import Item, Source
-from reference_parts.specs import Definition
 from reference_parts.terms import words_of
 
 KINDS = {"fn": "calls", "struct": "types", "enum": "types", "type": "types", "trait": "traits", "const": "constants", "static": "constants"}
