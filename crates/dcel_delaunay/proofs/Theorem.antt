@@ -1,5 +1,5 @@
 -- A whole triangulation is a Delaunay triangulation of its vertices, or a line.
-use Rattle.std.proofs.Common.{◌≡◌, inl, inr, ℕ, ◌<◌, List, [], ◌∷◌, sym, subst, arith, pos, ◌≤ℤ◌}
+use Rattle.std.proofs.Common.{◌≡◌, inl, inr, ℕ, ◌<◌, List, [], ◌∷◌, sym, subst, arith, ℤ, pos, ◌≤ℤ◌}
 use Rattle.std.proofs.lemmas.Bool.{cases_lt}
 use Rattle.dcel_fixed.specs.HalfEdges.{rev}
 use Rattle.dcel_maps.specs.Shapes.{IsLive, IsMesh, Mesh, end_of, face_count, map_of, origin_of}
@@ -10,7 +10,8 @@ use Rattle.dcel_maps.proofs.walks.Links.{links_stand}
 use Rattle.dcel_maps.proofs.words.Counts.{count-same}
 use Rattle.dcel_maps.proofs.words.Reading.{face_in_word, live_in}
 use Rattle.dcel_predicates.specs.declared.point.Point.{Point}
-use Rattle.dcel_predicates.specs.Determinants.{orient2d_of}
+use Rattle.dcel_predicates.specs.Determinants.{lift_of, orient2d_of}
+use Rattle.dcel_predicates.proofs.Signs.{ordered}
 use Rattle.dcel_plane.specs.Plane.{point_at}
 use Rattle.dcel_covering.specs.Covering.{IsConvex, apart_along}
 use Rattle.dcel_covering.specs.Delaunay.{HasCorners, IsDelaunayTriangulation}
@@ -18,6 +19,8 @@ use Rattle.dcel_covering.proofs.Numbered.{word_is}
 use Rattle.dcel_covering.proofs.Numbered as laws
 use Rattle.dcel_covering.proofs.Starts.{by_starts, inner_half}
 use Rattle.dcel_hulls.proofs.PutBeside.{straight_convex}
+use Rattle.dcel_places.specs.Nearest.{HasNoNearerNeighbor, IsNearest}
+use Rattle.dcel_places.proofs.Nearest.{nearest, nearest_on_line}
 use Rattle.dcel_delaunay.specs.Growing.{HasHull, IsTriangulation}
 use Rattle.dcel_delaunay.specs.Triangulated.{CirclesAreEmpty, FacesAreApart, GoesRoundHull, HullIsCovered, PointsAreSingle}
 use Rattle.dcel_delaunay.proofs.Counting.{joined_all}
@@ -107,3 +110,21 @@ module _ {DE UE F : Type 0} (m : Mesh Point DE UE F) (mesh : IsMesh m) (whole : 
       | inr has ↦ has.hull.once h k live_h live_k on_h on_k same
     ];
   }
+
+  -- a vertex without a nearer neighbor is nearest
+  pub nearest_of_all : (q : Point) (v : ℕ) → v < m.shape.vertices → HasNoNearerNeighbor (point_at m) m.shape q v → IsNearest (point_at m) m.shape q v
+  nearest_of_all q v below near = elim whole.hull [
+    | inr has ↦ nearest m mesh (point_at m) q (known has) v below near
+    | inl flat ↦ (λ w below_w. elim (cases_lt 1 m.shape.vertices) [
+      | inl more ↦
+          each_vertex (λ i. HasNoNearerNeighbor (point_at m) m.shape q i → lift_of (point_at m i) q ≤ℤ lift_of (point_at m w) q) more
+          (λ h live near_h. each_vertex (λ j. lift_of (point_at m (origin_of m.shape h)) q ≤ℤ lift_of (point_at m j) q) more
+          (λ k live_k. nearest_on_line m mesh (point_at m) q flat.straight h k live live_k near_h) w below_w) v below near
+      | inr few ↦
+          let one : v ≡ w = omega (arith, below, below_w, few) in
+          subst (λ (i : ℕ). lift_of (point_at m v) q ≤ℤ lift_of (point_at m i) q) one (itself (lift_of (point_at m v) q))
+    ])
+  ]
+    where
+      itself : (z : ℤ) → z ≤ℤ z
+      itself z = omega (arith, ordered)

@@ -1,12 +1,13 @@
 //! What a triangulation of points offers: its mesh, points located, and points inserted one after
 //! another.
 
-ghost use Rattle.std.specs.Prelude.{◌≡◌, ◌↔◌, ℕ, ◌<◌, ◌≤◌, [], IfErr, IfOk, IsTrue, OnOk};
+ghost use Rattle.std.specs.Prelude.{◌≡◌, ◌↔◌, ℕ, ◌<◌, ◌≤◌, [], IfErr, IfNone, IfOk, IfSome, IsTrue, OnOk};
 ghost use Rattle.dcel_maps.specs.Conditions.{IsUnconnected};
 ghost use Rattle.dcel_maps.specs.Removals.{Closed};
 ghost use Rattle.dcel_maps.specs.Shapes.{face_count};
 ghost use Rattle.dcel_maps.specs.Triangulations.{AllTriangles};
 ghost use Rattle.dcel_plane.specs.Plane.{IsDelaunay, point_at};
+ghost use Rattle.dcel_places.specs.Nearest.{IsNearest};
 ghost use Rattle.dcel_delaunay.specs.Places.{IsPlace};
 ghost use Rattle.dcel_delaunay.specs.Removing.{Loses};
 ghost use Rattle.dcel_delaunay.specs.Triangulated.{CirclesAreEmpty, FacesAreApart, GoesRoundHull, HullIsCovered, IsWhole, KeepsVertex, PointsAreSingle, Stays, Takes, mesh_in};
@@ -15,11 +16,13 @@ use crate::closing::close_hull;
 use crate::errors::{InsertionError, RemovalError};
 use crate::inserting::insert_at;
 use crate::legalizing::legalize;
+use crate::line_removing::remove_from_line;
 use crate::locating::locate;
 use crate::mesh::Mesh;
+use crate::nearest::nearest;
 use crate::position::PositionInTriangulation;
 use crate::removed::Removed;
-use crate::removing::{refusal, remove_inside};
+use crate::removing::remove_from_triangles;
 use crate::triangulation::Triangulation;
 use dcel_predicates::Point;
 use spade_dcel::handles::{FixedDirectedEdgeHandle, FixedVertexHandle};
@@ -97,6 +100,20 @@ impl<A: Allocator> Triangulation<A> {
         locate(&self.dcel, self.last, point)
     }
 
+    /// Returns a vertex that no other one is nearer to a point than, or `None` if there is no vertex.
+    ///
+    /// Asks for a whole triangulation ([`is_whole`](Self::is_whole)): where memory ran out,
+    /// [`finish`](Self::finish) makes it so. A walk from neighbor to neighbor, each nearer than the
+    /// last one, begins at the vertex that the last insertion returned.
+    pub fn nearest_vertex(&self, point: Point) -> Option<FixedVertexHandle>
+        requires whole { IsWhole self.now }
+        ensures vertex { IfSome result (λ v. v < (mesh_in self.now).shape.vertices) }
+        ensures nearest { IfSome result (IsNearest (point_at (mesh_in self.now)) (mesh_in self.now).shape point) }
+        ensures none { IfNone result ((mesh_in self.now).shape.vertices ≡ 0) }
+    {
+        nearest(&self.dcel, self.last, point)
+    }
+
     /// Inserts a point, and returns its vertex: a new one, or the one that stands there already.
     ///
     /// If memory runs out before the vertex stands, no vertex is added. If it runs out afterwards,
@@ -155,11 +172,11 @@ impl<A: Allocator> Triangulation<A> {
 }
 
 impl<A: Allocator + Clone> Triangulation<A> {
-    /// Removes a vertex that lies inside of triangles, and tells where it stood.
+    /// Removes a vertex, and tells where it stood.
     ///
     /// The last vertex gets its number, which the result tells; all others keep theirs. The
-    /// triangulation is then one of the points that are left. A vertex of the hull is refused
-    /// ([`NotInside`](RemovalError::NotInside)), and so is each one while all points stand on one line.
+    /// triangulation is then one of the points that are left, a line if they all stand on one, and of
+    /// none after the last.
     ///
     /// If memory runs out before the vertex is gone, it stays, and if it runs out afterwards, the
     /// result is [`Unfinished`](RemovalError::Unfinished); then the next insertion or removal, or
@@ -174,9 +191,12 @@ impl<A: Allocator + Clone> Triangulation<A> {
             return Err(RemovalError::OutOfMemory);
         };
         every_mesh(&self.dcel);
-        if let Some(why) = refusal(&self.dcel, vertex) {
-            return Err(why);
+        if vertex.index() >= self.dcel.num_vertices() {
+            return Err(RemovalError::NoVertex);
         }
-        remove_inside(&mut self.dcel, &mut self.due, vertex)
+        if self.dcel.num_faces() == 1 {
+            return Ok(remove_from_line(&mut self.dcel, vertex));
+        }
+        remove_from_triangles(&mut self.dcel, &mut self.due, vertex)
     }
 }

@@ -8,3 +8,4 @@ pub mod OnceOnLine
 pub mod Found
 pub mod Lexical
 pub mod OneEdge
+pub mod Nearest

@@ -1,1 +1,2 @@
 pub mod Locating
+pub mod Nearest

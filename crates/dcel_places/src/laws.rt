@@ -1,5 +1,5 @@
-//! Laws of walks towards a point, and of where it lies. These calls compute nothing; whoever makes
-//! one learns what it ensures.
+//! Laws of walks towards a point, of where it lies, and of the vertex nearest to it. These calls
+//! compute nothing; whoever makes one learns what it ensures.
 //!
 //! In all of them `at` says where each vertex stands. A walk crosses an edge that has the point
 //! strictly on its other side, as the visibility walk of O. Devillers, S. Pion and M. Teillaud does
@@ -8,7 +8,7 @@
 ghost use Rattle.std.specs.Prelude.{◌≡◌, ◌≢◌, ◌⊎◌, List, [], ◌∷◌, length, map, ◌<◌, ◌≤◌, ◌+◌, ◌*◌, ◌/◌, ℕ, ℤ, pos, ◌<ℤ◌, ◌≤ℤ◌};
 ghost use Rattle.dcel_fixed.specs.HalfEdges.{rev};
 ghost use Rattle.dcel_predicates.specs.declared.point.Point.{Point};
-ghost use Rattle.dcel_predicates.specs.Determinants.{orient2d_of};
+ghost use Rattle.dcel_predicates.specs.Determinants.{lift_of, orient2d_of};
 ghost use Rattle.dcel_maps.specs.Conditions.{IsLineEnd};
 ghost use Rattle.dcel_maps.specs.Maps.{count};
 ghost use Rattle.dcel_maps.specs.Shapes.{IsLive, IsMesh, Mesh, Shape, edge_is_live, end_of, face_count, face_is_live, face_of, next_of, origin_of, prev_of};
@@ -20,6 +20,8 @@ ghost use Rattle.dcel_hulls.specs.Straight.{IsStraight, beyond};
 ghost use Rattle.dcel_places.specs.Locating.{HasBeyond, HasCorner, HasEdge, HasPlace, HasSpot, IsBefore, LiesBeyond, LiesOn, Passes, StandsAt, Walks, side_of};
 ghost use Rattle.dcel_hulls.specs.Worked.{corner};
 ghost use Rattle.dcel_covering.specs.Covering.{Covers, IsConvex, IsHull};
+ghost use Rattle.dcel_covering.specs.Delaunay.{IsDelaunayTriangulation};
+ghost use Rattle.dcel_places.specs.Nearest.{HasNoNearerNeighbor, IsNearest};
 
 /// A walk towards a point, across edges that have it strictly on the other side, comes to no
 /// triangle twice (`once`), if the mesh is Delaunay.
@@ -126,4 +128,15 @@ pub fn walks_along_a_line_end<V, DE, UE, F>()
 pub fn points_on_a_line_have_an_order()
     ensures after { (a b p : Point) → orient2d_of a b p ≡ pos 0 → IsBefore a b → (IsBefore b p → pos 0 <ℤ beyond a b p) × (¬ IsBefore b p → beyond a b p ≤ℤ pos 0) }
     ensures before { (a b p : Point) → orient2d_of a b p ≡ pos 0 → IsBefore a b → (IsBefore p a → pos 0 <ℤ beyond b a p) × (¬ IsBefore p a → beyond b a p ≤ℤ pos 0) }
+{}
+
+/// A vertex none of whose neighbors is nearer to a point than itself is nearest to it, wherever the
+/// point lies: in a Delaunay triangulation, and on the line of a path.
+///
+/// So a walk from neighbor to neighbor that comes nearer with each step ends at a nearest vertex.
+pub fn no_nearer_neighbor_makes_a_vertex_nearest<V, DE, UE, F>()
+    ensures triangles { (at : ℕ → Point) (m : Mesh V DE UE F) (q : Point) (v : ℕ) → IsMesh m → IsDelaunayTriangulation at m.shape → v < m.shape.vertices
+        → HasNoNearerNeighbor at m.shape q v → IsNearest at m.shape q v }
+    ensures line { (at : ℕ → Point) (m : Mesh V DE UE F) (q : Point) (h k : ℕ) → IsMesh m → IsStraight at m.shape → IsLive m.shape h → IsLive m.shape k
+        → HasNoNearerNeighbor at m.shape q (origin_of m.shape h) → lift_of (at (origin_of m.shape h)) q ≤ℤ lift_of (at (origin_of m.shape k)) q }
 {}

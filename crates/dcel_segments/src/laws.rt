@@ -41,7 +41,7 @@ pub fn segments_are_edges_or_cross_some<V, DE, UE, F>()
         → ((e : ℕ) × IsLive m.shape e × (origin_of m.shape e ≡ v) × (end_of m.shape e ≡ w)) ⊎ ((list : List ℕ) × IsChannel at m.shape v w list) }
 {}
 
-/// The list has each half edge that the segment crosses from right to left.
+/// The list, unless it is empty, has each half edge that the segment crosses from right to left.
 pub fn channels_list_each_crossing<V, DE, UE, F>()
     ensures { (at : ℕ → Point) (m : Mesh V DE UE F) (v w h : ℕ) (list : List ℕ) → IsMesh m → AllTriangles m.shape → IsPlane at m.shape → IsConvex at m.shape → IsHull at m.shape
         → IsClear at m.shape v w → IsChannel at m.shape v w list → list ≢ [] → Crosses at m.shape v w h → 0 < count_of h list }
@@ -73,7 +73,7 @@ pub fn flipped_peaks_leave_a_channel<V, DE, UE, F>()
         × (widths at (edge_flipped m (h / 2)).shape v w (front ++ (new ++ back)) <ℤ widths at m.shape v w (front ++ (h ∷ back))) }
 {}
 
-/// So the sum of the widths falls with each flip, down to 0.
+/// The sum of the widths, which falls with each flip, is positive as long as one is left.
 pub fn widths_are_positive()
     ensures { (at : ℕ → Point) (s : Shape) (v w h : ℕ) (rest : List ℕ) → IsChannel at s v w (h ∷ rest) → pos 0 <ℤ widths at s v w (h ∷ rest) }
 {}
