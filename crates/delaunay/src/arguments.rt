@@ -33,8 +33,12 @@ pub struct Arguments<'a> {
     pub file: Option<&'a str>,
     /// The file for a picture.
     pub svg: Option<&'a str>,
+    /// The file with the numbers of points that are removed.
+    pub remove: Option<&'a str>,
+    /// The file with the points to which the nearest one is asked for.
+    pub nearest: Option<&'a str>,
     /// What to write.
-    pub output: Output,
+    pub output: Option<Output>,
     /// What coordinates are multiplied by; if there is none, the least that makes them whole.
     pub scale: Option<Scale>,
     /// Whether to tell how long the insertions took.
@@ -47,6 +51,18 @@ pub const PROGRAM: Program<'static, Output> = Program {
     about: "Writes the Delaunay triangulation of points",
     input: "The points; without it, or with -, standard input",
     switches: &[
+        Switch {
+            name: "remove",
+            letter: None,
+            takes: Takes::File,
+            help: "Removes the points whose numbers this file has, after all are inserted",
+        },
+        Switch {
+            name: "nearest",
+            letter: None,
+            takes: Takes::File,
+            help: "Writes for each point of this file the number of a nearest one, -1 if there is none",
+        },
         Switch {
             name: "svg",
             letter: None,
@@ -63,7 +79,7 @@ pub const PROGRAM: Program<'static, Output> = Program {
             name: "time",
             letter: None,
             takes: Takes::Nothing,
-            help: "Tells on standard error how long the insertions took",
+            help: "Tells on standard error how long the insertions took, and removals and searches",
         },
     ],
     choices: OUTPUTS,
@@ -119,6 +135,11 @@ between them. What follows a # is a comment, and lines without a word are skippe
 line whose words all begin with a letter. Points are numbered from 0 in the order of the input.
 Equal points are one, with the least of their numbers.
 
+The file of --remove has a number in each line, with comments and empty lines as above. Points keep
+their numbers, and those that are removed belong to no triangle; of equal points one stays as long
+as one of them isn't removed. The file of --nearest has points as the input has, and what is written
+of them stands in place of the triangles, or below what another option writes.
+
 Coordinates are multiplied by the least power of ten that makes all of them whole, which is told on
 standard error unless it is 1, and have to be from -1073741824 to 1073741824 then. What is written
 has the coordinates that were given.
@@ -133,10 +154,17 @@ Its numbers are exact: whole, or fractions as 7/2.";
 impl<'a> Arguments<'a> {
     /// Returns what the words say.
     pub fn of(given: &Given<'a>) -> Self {
+        let nearest = given.value("nearest");
+        let unasked = match nearest {
+            Some(_) => None,
+            None => Some(Output::Triangles),
+        };
         Arguments {
             file: given.input(),
             svg: given.value("svg"),
-            output: given.choice(OUTPUTS).unwrap_or(Output::Triangles),
+            remove: given.value("remove"),
+            nearest,
+            output: given.choice(OUTPUTS).or(unasked),
             scale: given.value("scale").and_then(scale_of),
             is_timed: given.has("time"),
         }

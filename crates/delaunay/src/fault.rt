@@ -1,7 +1,7 @@
 //! Why the program gives up.
 
 use dcel_decimals::{Decimal, DecimalError, Scale};
-use dcel_delaunay::{InsertionError, Point};
+use dcel_delaunay::{InsertionError, Point, RemovalError};
 use thiserror::Error;
 
 /// Why the program gives up.
@@ -28,15 +28,33 @@ pub enum Wrong {
     /// A number is further from 0 than this.
     #[error("a coordinate is below -{0} or above {0}")]
     OutOfRange(Decimal),
+    /// A line has no number of a point.
+    #[error("there is no point of this number")]
+    NoPoint,
     /// A point could not be inserted.
     #[error("{0}")]
     Insertion(InsertionError),
+    /// A point could not be removed.
+    #[error("a point can't be removed")]
+    NotRemoved,
 }
 
 impl Wrong {
     /// Returns that a number is out of the range of points, where it is multiplied by this scale.
     pub fn out_of_range(scale: Scale) -> Self {
         Wrong::OutOfRange(Decimal::from_scaled(Point::LIMIT as i64, scale))
+    }
+}
+
+impl From<RemovalError> for Wrong {
+    fn from(error: RemovalError) -> Self {
+        match error {
+            RemovalError::TooManyPoints => Wrong::Insertion(InsertionError::TooManyPoints),
+            RemovalError::OutOfMemory | RemovalError::Unfinished(_) => {
+                Wrong::Insertion(InsertionError::OutOfMemory)
+            }
+            _ => Wrong::NotRemoved,
+        }
     }
 }
 

@@ -8,9 +8,12 @@
 mod arguments;
 mod fault;
 mod fraction;
+mod nearest;
 mod picture;
 mod reading;
+mod removal;
 mod shown;
+mod task;
 mod triangulating;
 mod voronoi;
 mod words;
@@ -18,13 +21,12 @@ mod writing;
 
 use crate::arguments::{Arguments, PROGRAM};
 use crate::fault::Fault;
+use crate::nearest::nearest_numbers;
 use crate::picture::Svg;
-use crate::reading::Coordinates;
+use crate::task::Task;
 use crate::triangulating::triangulated;
 use crate::writing::Written;
-use dcel_decimals::Scale;
-use dcel_delaunay::Point;
-use dcel_programs::{Progress, read_text, run, write_out};
+use dcel_programs::{Progress, run, write_out};
 use std::process::ExitCode;
 use std::rt::{Clock, Files};
 use std::time::Instant;
@@ -42,12 +44,19 @@ fn draw(
     progress: Progress,
     arguments: &Arguments,
 ) -> Result<(), Fault> {
-    let (points, scale) = read_points(rt, arguments)?;
+    let task = Task::read(rt, arguments)?;
     let start = Instant::now(rt)?;
-    let drawn = triangulated(rt, progress, &points, scale)?;
-    let took = start.elapsed(rt)?;
-    if arguments.is_timed {
-        eprintln!(rt; "{} nanoseconds", took.as_nanos())?;
+    let mut drawn = triangulated(rt, progress, &task)?;
+    tell_time(rt, arguments, start, "")?;
+    if arguments.remove.is_some() {
+        let start = Instant::now(rt)?;
+        drawn.remove_bare_vertices(rt.alloc())?;
+        tell_time(rt, arguments, start, " to remove points")?;
+    }
+    let start = Instant::now(rt)?;
+    let nearest = nearest_numbers(rt.alloc(), &drawn, &task.places)?;
+    if arguments.nearest.is_some() {
+        tell_time(rt, arguments, start, " to find the nearest points")?;
     }
     if let Some(path) = arguments.svg {
         write_out(rt, Some(path), &Svg { drawn: &drawn })?;
@@ -55,24 +64,21 @@ fn draw(
     let written = Written {
         output: arguments.output,
         drawn: &drawn,
+        nearest: &nearest,
     };
     write_out(rt, None, &written)
 }
 
-/// Reads the points, with their coordinates times the scale that is asked for, or the least, which
-/// is told unless it is 1.
-fn read_points(
-    rt: &(impl Files + Input + Eprint + AllocGlobal),
+/// Tells how much time has passed, if that is asked for.
+fn tell_time(
+    rt: &(impl Clock + Eprint),
     arguments: &Arguments,
-) -> Result<(Vec<Point>, Scale), Fault> {
-    let coordinates = Coordinates::of(rt.alloc(), &read_text(rt, arguments.file)?)?;
-    let scale = match arguments.scale {
-        Some(scale) => scale,
-        None => coordinates.scale(),
-    };
-    if arguments.scale.is_none() && scale != Scale::ONE {
-        eprintln!(rt; "delaunay: the scale is {}", scale.factor())?;
+    start: Instant,
+    to_do: &str,
+) -> Result<(), Fault> {
+    if arguments.is_timed {
+        let took = start.elapsed(rt)?;
+        eprintln!(rt; "{} nanoseconds{to_do}", took.as_nanos())?;
     }
-    let points = coordinates.points(rt.alloc(), scale)?;
-    Ok((points, scale))
+    Ok(())
 }

@@ -22,7 +22,7 @@ impl<'a> Text for Svg<'a> {
         let places = places_of(alloc, mesh)?;
         let mut picture = Picture::new(alloc, mesh, None, &places)?;
         for (dot, number) in picture.dots.iter_mut().zip(&self.drawn.numbers) {
-            dot.number = *number;
+            dot.number = number.unwrap_or(0);
         }
         write_svg(&picture, Style::Edges, writer)
     }

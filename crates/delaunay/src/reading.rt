@@ -3,8 +3,9 @@
 use crate::fault::{Fault, Wrong};
 use dcel_decimals::{Decimal, Scale, ScalingError};
 use dcel_delaunay::Point;
-use dcel_programs::{before_comment, numbered_lines};
+use dcel_programs::{before_comment, numbered_lines, read_text};
 use std::alloc::{AllocError, Global};
+use std::rt::Files;
 
 /// The coordinates that lines say, two for each point, and the lines of the points.
 #[derive(Drop)]
@@ -16,10 +17,7 @@ pub struct Coordinates {
 impl Coordinates {
     /// Reads those of all lines. The first line with words may be a header.
     pub fn of(alloc: Global, text: &str) -> Result<Self, Fault> {
-        let mut coordinates = Coordinates {
-            all: Vec::new(alloc),
-            lines: Vec::new(alloc),
-        };
+        let mut coordinates = Coordinates::none(alloc);
         let mut may_be_header = true;
         for (line, said) in numbered_lines(text) {
             let words = before_comment(said).trim_ascii();
@@ -33,6 +31,14 @@ impl Coordinates {
             may_be_header = false;
         }
         Ok(coordinates)
+    }
+
+    /// Returns no coordinates.
+    pub fn none(alloc: Global) -> Self {
+        Coordinates {
+            all: Vec::new(alloc),
+            lines: Vec::new(alloc),
+        }
     }
 
     /// Adds a point.
@@ -56,6 +62,23 @@ impl Coordinates {
             }
         }
         Ok(points)
+    }
+}
+
+/// Reads the coordinates that the lines of a file say.
+pub fn read_coordinates(
+    rt: &(impl Files + Input + AllocGlobal),
+    path: &str,
+) -> Result<Coordinates, Fault> {
+    let text = read_text(rt, Some(path))?;
+    Coordinates::of(rt.alloc(), &text).map_err(|fault| in_file(rt.alloc(), path, fault))
+}
+
+/// Returns what is wrong with a line as what is wrong with a line of this file.
+fn in_file(alloc: Global, path: &str, fault: Fault) -> Fault {
+    match fault {
+        Fault::Line { line, wrong } => Fault::of_line(alloc, path, line, wrong),
+        other => other,
     }
 }
 

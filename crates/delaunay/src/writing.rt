@@ -11,7 +11,7 @@ use crate::voronoi::write_voronoi;
 use crate::words::write_words;
 use dcel_delaunay::{Mesh, Point};
 use dcel_programs::Text;
-use spade_dcel::handles::{FaceHandle, InnerTag};
+use spade_dcel::handles::{FaceHandle, FixedVertexHandle, InnerTag};
 use spade_dcel::iterators::HullIterator;
 use std::alloc::Global;
 use std::io::{self, Write};
@@ -23,24 +23,42 @@ type Triangle<'a> = FaceHandle<'a, InnerTag, Point, (), (), ()>;
 #[derive(Clone, Copy)]
 pub struct Written<'a> {
     /// What to write.
-    pub output: Output,
+    pub output: Option<Output>,
     /// The triangulation.
     pub drawn: &'a Drawn<'a>,
+    /// The numbers of points, which are written too.
+    pub nearest: &'a [Option<usize>],
 }
 
 impl<'a> Text for Written<'a> {
     fn write_to(&self, alloc: Global, writer: &mut impl Write) -> io::Result<()> {
-        match self.output {
-            Output::Triangles => write_triangles(writer, self.drawn),
-            Output::Neighbors => write_neighbors(writer, self.drawn),
-            Output::Edges => write_edges(writer, self.drawn),
-            Output::Hull => write_hull(writer, self.drawn),
-            Output::Stats => write_stats(writer, self.drawn),
-            Output::Off => write_off(writer, self.drawn),
-            Output::Obj => write_obj(writer, self.drawn),
-            Output::Words => write_words(alloc, writer, self.drawn),
-            Output::Voronoi => write_voronoi(writer, self.drawn),
+        if let Some(output) = self.output {
+            write_output(alloc, writer, output, self.drawn)?;
         }
+        for number in self.nearest {
+            write_number(writer, *number, "\n")?;
+        }
+        Ok(())
+    }
+}
+
+/// Writes what is asked for.
+fn write_output(
+    alloc: Global,
+    writer: &mut impl Write,
+    output: Output,
+    drawn: &Drawn,
+) -> io::Result<()> {
+    match output {
+        Output::Triangles => write_triangles(writer, drawn),
+        Output::Neighbors => write_neighbors(writer, drawn),
+        Output::Edges => write_edges(writer, drawn),
+        Output::Hull => write_hull(writer, drawn),
+        Output::Stats => write_stats(writer, drawn),
+        Output::Off => write_off(writer, drawn),
+        Output::Obj => write_obj(writer, drawn),
+        Output::Words => write_words(alloc, writer, drawn),
+        Output::Voronoi => write_voronoi(writer, drawn),
     }
 }
 
@@ -65,16 +83,17 @@ fn write_neighbors(writer: &mut impl Write, drawn: &Drawn) -> io::Result<()> {
         let faces = [first.index(), second.index(), third.index()];
         let numbers = triangle.vertices().map(|corner| drawn.number(corner.fix()));
         let [a, b, c] = turned(numbers, faces);
-        write_triangle(writer, a, " ")?;
-        write_triangle(writer, b, " ")?;
-        write_triangle(writer, c, "\n")?;
+        // The outer face is the first of the mesh.
+        write_number(writer, a.checked_sub(1), " ")?;
+        write_number(writer, b.checked_sub(1), " ")?;
+        write_number(writer, c.checked_sub(1), "\n")?;
     }
     Ok(())
 }
 
-/// Writes the number of a face as one of the triangles. The outer face is the first of the mesh.
-fn write_triangle(writer: &mut impl Write, face: usize, end: &str) -> io::Result<()> {
-    match face.checked_sub(1) {
+/// Writes a number, or -1 for none.
+fn write_number(writer: &mut impl Write, number: Option<usize>, end: &str) -> io::Result<()> {
+    match number {
         Some(number) => write!(writer, "{number}{end}"),
         None => write!(writer, "-1{end}"),
     }
@@ -117,7 +136,7 @@ fn write_hull(writer: &mut impl Write, drawn: &Drawn) -> io::Result<()> {
         writeln!(writer, "{}", drawn.number(edge.from().fix()))?;
     }
     if mesh.num_vertices() == 1 {
-        writeln!(writer, "0")?;
+        writeln!(writer, "{}", drawn.number(FixedVertexHandle::new(0)))?;
     }
     Ok(())
 }
