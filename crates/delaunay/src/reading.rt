@@ -71,14 +71,14 @@ pub fn read_coordinates(
     path: &str,
 ) -> Result<Coordinates, Fault> {
     let text = read_text(rt, Some(path))?;
-    Coordinates::of(rt.alloc(), &text).map_err(|fault| in_file(rt.alloc(), path, fault))
+    Coordinates::of(rt.alloc(), &text).map_err(|fault| in_file(rt.alloc(), Some(path), fault))
 }
 
-/// Returns what is wrong with a line as what is wrong with a line of this file.
-fn in_file(alloc: Global, path: &str, fault: Fault) -> Fault {
-    match fault {
-        Fault::Line { line, wrong } => Fault::of_line(alloc, path, line, wrong),
-        other => other,
+/// Returns what is wrong with a line as what is wrong with a line of this file, if there is one.
+pub fn in_file(alloc: Global, path: Option<&str>, fault: Fault) -> Fault {
+    match (path, fault) {
+        (Some(path), Fault::Line { line, wrong }) => Fault::of_line(alloc, path, line, wrong),
+        (_, other) => other,
     }
 }
 

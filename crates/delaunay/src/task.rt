@@ -2,7 +2,7 @@
 
 use crate::arguments::Arguments;
 use crate::fault::Fault;
-use crate::reading::{Coordinates, read_coordinates};
+use crate::reading::{Coordinates, in_file, read_coordinates};
 use crate::removal::read_marks;
 use dcel_decimals::Scale;
 use dcel_delaunay::Point;
@@ -47,10 +47,13 @@ impl Task {
             Some(path) => read_marks(rt, path, points.len())?,
             None => Vec::new(alloc),
         };
+        let places = asked
+            .points(alloc, scale)
+            .map_err(|fault| in_file(alloc, arguments.nearest, fault))?;
         Ok(Task {
             points,
             is_removed,
-            places: asked.points(alloc, scale)?,
+            places,
             scale,
         })
     }
