@@ -64,6 +64,42 @@ def root_of(name):
     return "src/main.rt" if (CRATES / name / "src/main.rt").is_file() else "src/lib.rt"
 
 
+def is_program(name):
+    return root_of(name) == "src/main.rt"
+
+
+def built(name):
+    """Where the program or the static library of a crate lies."""
+    return CRATES / name / "out" / (name if is_program(name) else f"lib{name}.a")
+
+
+def sum_of_built(name, file):
+    """A sum of what is built of a crate, of all sources that it is of, and of the kit."""
+    found = hashlib.sha256(version() + file.read_bytes())
+    for it in [*below(name), name]:
+        found.update(repr((it, crates()[it], sum_once(it))).encode())
+    return found.hexdigest()
+
+
+@functools.cache
+def sum_once(name):
+    """The same sum, for a run in which no source changes."""
+    return sum_of_sources(name)
+
+
+def note_built(name, file=None):
+    """Notes that a program or a library, in the usual place or in this file, was built over what `rt ci` left, of these sources."""
+    file = file or built(name)
+    file.with_suffix(".sources").write_text(sum_of_built(name, file))
+
+
+def is_as_built(name, file=None):
+    """Whether it is still the one that was noted, and of these sources."""
+    file = file or built(name)
+    noted = file.with_suffix(".sources")
+    return noted.is_file() and file.is_file() and noted.read_text() == sum_of_built(name, file)
+
+
 def library(name):
     """Where the proved library of a crate lies."""
     return CRATES / name / "out" / "rlib" / f"{name}.rlib"
@@ -86,10 +122,13 @@ def note(name):
 
 
 def note_all():
-    """Notes of each library that `rt ci` has left that it is of these sources."""
+    """Notes of each library and each program that `rt ci` has left that it is of these sources."""
     for name in crates():
         if (library(name) / "format").is_file() and not is_stamped(name):
             note(name).write_text(sum_of_sources(name))
+        # A program has a stamp where it is of `rt run`.
+        if is_program(name) and built(name).is_file() and not built(name).with_suffix(".stamp").is_file():
+            note_built(name)
 
 
 def is_of_sources(name):
@@ -127,10 +166,10 @@ def words(name):
     return [*found, "--antt-project", kit() / "rattle/logic/antt-project.json", "--logic-built", kit() / "logic_built"]
 
 
-def call(step, name, more, folder):
-    """Calls the prover for a step, `check` or `build`, in a folder that has the crate's files. Returns its status and what it says."""
-    ran = subprocess.run(
-        [kit() / "bin/rattle", step, *words(name), *more],
+def run(command, folder):
+    """Runs a program of the kit's."""
+    return subprocess.run(
+        command,
         cwd=folder,
         stdin=subprocess.DEVNULL,
         stdout=subprocess.PIPE,
@@ -139,6 +178,17 @@ def call(step, name, more, folder):
         errors="replace",
         check=False,
     )
+
+
+def link(target, archive, module):
+    """Links a static library that was built for this target into a module. Returns the linker's status and what it says."""
+    ran = run([kit() / "bin/rattle-link", "--target", target, "--toolchain", kit() / "toolchain", "-o", module, archive], ROOT)
+    return ran.returncode, ran.stdout
+
+
+def call(step, name, more, folder):
+    """Calls the prover for a step, `check` or `build`, in a folder that has the crate's files. Returns its status and what it says."""
+    ran = run([kit() / "bin/rattle", step, *words(name), *more], folder)
     if ran.returncode == 2 and ran.stdout.startswith(UNKNOWN):
         sys.exit(f"this kit's prover takes other words than {os.path.relpath(__file__)} gives it: {ran.stdout.splitlines()[0]}")
     return ran.returncode, ran.stdout

@@ -48,6 +48,10 @@ static size_t border_of(dcel_mesh *mesh, uint32_t vertex, uint32_t border[8]) {
     return (size_t)count;
 }
 
+static void check_version(void) {
+    CHECK(dcel_version() == DCEL_VERSION_NUMBER && dcel_version_0_1_0() == DCEL_VERSION_NUMBER);
+}
+
 /* A mesh that isn't open answers all calls, and is given nothing. */
 static void check_none(void) {
     dcel_mesh mesh = DCEL_MESH_INIT, other = DCEL_MESH_INIT;
@@ -369,6 +373,7 @@ static void check_faces(void) {
 }
 
 int main(void) {
+    check_version();
     check_none();
     check_steps();
     check_walks();

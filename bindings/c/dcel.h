@@ -1,7 +1,7 @@
 /* A half-edge mesh on the sphere that is kept across calls. Its links and numbers change only by the
    calls below, and each number of an element is below 2^32.
 
-   Link libdcel_c.a, and after it the kit's liblibc_c.a, which allocates by your malloc.
+   Link libdcel, which allocates by your malloc.
 
    What you promise; nothing checks it:
    - A dcel_mesh is handed to each call as the last call left it: it isn't written to, and of two copies
@@ -31,6 +31,22 @@
 
 #ifdef __cplusplus
 extern "C" {
+#endif
+
+/* The version of this header. As a number it is 1,000,000 times the first of the three, and 1,000 times the
+   second, and the third. */
+#define DCEL_VERSION "0.1.0"
+#define DCEL_VERSION_NUMBER 1000
+
+/* The version of the library, as a number. */
+uint32_t dcel_version(void);
+
+/* The same, under a name that no other version has. */
+uint32_t dcel_version_0_1_0(void);
+
+#ifdef __GNUC__
+/* With it what includes this header is neither linked with a library of another version nor started. */
+__attribute__((used)) static uint32_t (*const dcel_version_wanted)(void) = dcel_version_0_1_0;
 #endif
 
 /* A mesh, or none: zero bytes are one that isn't open. The fields are the library's. */

@@ -3,6 +3,7 @@
 `Dcel` is the mesh. Each way in which a call can be refused is an error of its own, under `DcelError`."""
 
 from ._calls import NO_LINK
+from ._calls import VERSION as __version__
 from ._errors import (
     BadRing,
     BadStrip,
@@ -38,5 +39,5 @@ __all__ = [
     "NO_LINK", "BadRing", "BadStrip", "Dcel", "DcelError", "EdgesStand", "Ended", "Fault", "FaultKind", "Faulty", "GivenUp", "HalfEdge", "Legalized", "Links", "NoMesh",
     "NoRemoval", "NoRoom", "NoSuchEdge", "NoSuchFace", "NoSuchVertex", "NotBridge", "NotLineEnd", "NotOuter", "NotPath", "NotTriangle",
     "Opened", "OutOfMemory", "RemovalOpen", "RemovalState", "Removed", "SameVertex", "Short", "Status", "VertexInUse", "WouldLoop",
-    "WrongLists",
+    "WrongLists", "__version__",
 ]

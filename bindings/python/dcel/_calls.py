@@ -17,8 +17,23 @@ from ._errors import refused
 if not getattr(sys, "_is_gil_enabled", lambda: True)():
     raise ImportError("dcel wants the interpreter's lock: one call at a time may work on a mesh")
 
-# The file that DCEL_LIBRARY names takes the place of the package's own.
-library = ctypes.PyDLL(os.environ.get("DCEL_LIBRARY") or str(Path(__file__).with_name("libdcel_c.so")))
+VERSION = "0.1.0"
+_VERSION_CALLS = ("dcel_version", f"dcel_version_{VERSION.replace('.', '_')}")
+
+
+def _load() -> ctypes.PyDLL:
+    """The package's library, or the one that DCEL_LIBRARY names."""
+    path = os.environ.get("DCEL_LIBRARY") or str(Path(__file__).with_name("libdcel.so"))
+    try:
+        found = ctypes.PyDLL(path)
+    except OSError as error:
+        raise ImportError(f"dcel doesn't find its library: {error}") from error
+    if not all(hasattr(found, name) for name in _VERSION_CALLS):
+        raise ImportError(f"dcel {VERSION} takes no library of another version: {path}")
+    return found
+
+
+library = _load()
 
 NONE = 2**64 - 1
 NO_LINK = 2**32 - 1
@@ -143,6 +158,9 @@ def _check(status: int, function: Any, given: Any) -> None:
 
 
 def _declare() -> None:
+    for name in _VERSION_CALLS:
+        function = getattr(library, name)
+        function.restype, function.argtypes = c_uint32, ()
     for name, (result, given) in {**{name: (c_uint32, given) for name, given in _REFUSABLE.items()}, **_OTHERS}.items():
         function = getattr(library, f"dcel_{name}")
         function.restype, function.argtypes = result, (_MESH, *given)

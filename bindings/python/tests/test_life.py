@@ -4,6 +4,7 @@ from __future__ import annotations
 
 import copy
 import gc
+import os
 import pickle
 import resource
 import subprocess
@@ -12,6 +13,7 @@ import threading
 import unittest
 import weakref
 
+import dcel
 from dcel import Dcel, NoMesh
 from dcel._calls import library
 from meshes import opened, round_, state
@@ -111,6 +113,14 @@ class Life(unittest.TestCase):
         code = "import sys; sys._is_gil_enabled = lambda: False\ntry:\n    import dcel\nexcept ImportError as no:\n    print(no)"
         said = subprocess.run([sys.executable, "-c", code], stdout=subprocess.PIPE, text=True, check=True).stdout
         self.assertRegex(said, "^dcel wants the interpreter's lock")
+
+    def test_library(self) -> None:
+        """Where there is no library, or one of another version, it says so."""
+        code = "try:\n    import dcel\nexcept ImportError as no:\n    print(no)"
+        for path, told in (("/nowhere.so", "dcel doesn't find its library: /nowhere.so"), ("libc.so.6", f"dcel {dcel.__version__} takes no library of another version: libc")):
+            environment = {**os.environ, "DCEL_LIBRARY": path}
+            said = subprocess.run([sys.executable, "-c", code], stdout=subprocess.PIPE, text=True, check=True, env=environment).stdout
+            self.assertTrue(said.startswith(told), said)
 
     def test_memory_goes_back(self) -> None:
         """Copies that take 300 MB together take little, one after another: closed, dropped, or made anew."""

@@ -101,6 +101,10 @@ pub(crate) const NO_LINK: u32 = u32::MAX;
 /// The status of a call that tells a fault.
 const FAULTY: u32 = 23;
 
+/// With it what uses the crate is linked with no library of another version than the crate's.
+#[used]
+static VERSION_WANTED: extern "C" fn() -> u32 = dcel_version_0_1_0;
+
 /// A mesh of the library, open from its making to its end.
 pub(crate) struct Mesh(UnsafeCell<RawMesh>);
 

@@ -13,4 +13,5 @@ pub mod Lists
 pub mod Removals
 pub mod Steps
 pub mod Tests
+pub mod Version
 pub mod Walks

@@ -25,6 +25,7 @@ mod status;
 mod steps;
 #[cfg(test)]
 mod tests;
+mod version;
 mod walks;
 mod whole;
 
@@ -67,5 +68,6 @@ pub use removals::{
     dcel_remove_when_degenerate, dcel_swap_remove_vertex,
 };
 pub use steps::{dcel_ccw, dcel_cw, dcel_face, dcel_from, dcel_next, dcel_prev, dcel_rev, dcel_to};
+pub use version::{dcel_version, dcel_version_0_1_0};
 pub use walks::{dcel_face_edges, dcel_out_edges};
 pub use whole::{dcel_clear, dcel_clone, dcel_free, dcel_new, dcel_reserve_capacity};

@@ -1,5 +1,5 @@
 -- Which lines say what.
-use Rattle.std.proofs.Common.{◌≡◌, ◌≢◌, ℕ, ◌<◌, ◌≤◌, ◌^◌, suc, List, [], ◌∷◌, ◌++◌, length, get_or, map, refl, sym, ap, subst, ◌∙◌, arith, ne_eqb, Bool, true, false, cond, Option, Some, None}
+use Rattle.std.proofs.Common.{◌≡◌, ◌≢◌, ℕ, ◌<◌, ◌≤◌, ◌^◌, suc, List, [], ◌∷◌, ◌++◌, length, get_or, map, refl, sym, ap, ◌∙◌, arith, ne_eqb, Bool, true, false, cond, Option, Some, None}
 use Rattle.std.specs.Prelude.{ℤ, pos, negsuc, codes}
 use Rattle.std.specs.List.{AllByRecursion}
 use Rattle.std.specs.declared.alloc.AllocError.{AllocError}
@@ -15,7 +15,8 @@ use Rattle.dcel_commands.specs.declared.commands.query.Query.TheVariants.{Counts
 use Rattle.dcel_commands.specs.declared.request.Request.{Request}
 use Rattle.dcel_commands.specs.Grammar.{Item, Number, Datum, Slash, item_text, IsInRange, numbers}
 use Rattle.dcel_commands.specs.Instructions.{Append, Triangle, Setup, Extend, Line, Close, Outside, Insert, Half, Split, Flip, Swap, Put, Isolate, Remesh, Strip, Cleanup, Remove, Degenerate, Legalize, Clear, Saying, Edit, Ask}
-use Rattle.dcel_commands.specs.Spelling.{Reads, Says, Spells, given, word, written}
+use Rattle.dcel_commands.specs.Spelling.{HasList, Reads, Says, Spells, given, word, written}
+use Rattle.dcel_commands.specs.Written.{IsWritten}
 use Rattle.dcel_text.specs.Items.{items_of, slash, spaced}
 use Rattle.dcel_text.proofs.Cutting.{has_no_space, NoSpaces, spaced-items_of, items_of-spaced}
 use Rattle.dcel_text.proofs.Decimals.{numerals}
@@ -75,52 +76,55 @@ reads line first others (Some (Err error)) short e says = (
   says.3,
 )
 
-pub same_word : {A : Type 0} (first same : List ℕ) (others : List (List ℕ)) (said : Option (Result (Request A) AllocError)) → first ≡ same → Says same others said → Says first others said
-same_word first same others said e says = subst (λ (item : List ℕ). Says item others said) (sym e) says
-
 pub no_word : (A : Type 0) (first : List ℕ) (others : List (List ℕ)) → ((said : Saying) → first ≢ word said) → Says {A = A} first others None
 unfolding Says
 no_word A first others none said in_range e = none said (first_item first (word said) others (map item_text (given said)) e)
 
+-- a list that is written there found no memory
+pub no_memory : (A : Type 0) (error : AllocError) (first : List ℕ) (items : List (List ℕ)) (said : Saying) → first ≡ word said → IsWritten (given said) items → HasList said
+    → Says {A = A} first items (Some (Err error))
+unfolding Says
+no_memory A error first items said begins written has = (said, written.0, rw (begins, written.1) refl, has)
+
 -- ---- a line says one thing
 
 -- an item by its value
-pub data Value : Type 0 where
+data Value : Type 0 where
   Of : ℤ → Value
   Stroke : Value
 
-pub value_of : Item ℤ → Value
+value_of : Item ℤ → Value
 value_of (Number n) = Of (pos n)
 value_of (Datum d) = Of d
 value_of Slash = Stroke
 
-pub number_in : ℤ → ℕ
+number_in : ℤ → ℕ
 number_in (pos n) = n
 number_in (negsuc n) = 0
 
-pub nothing : Saying → List Value → Option Saying
+nothing : Saying → List Value → Option Saying
 nothing make [] = Some make
 nothing make _ = None
 
-pub one : (ℤ → Saying) → List Value → Option Saying
+one : (ℤ → Saying) → List Value → Option Saying
 one make (Of x ∷ []) = Some (make x)
 one make _ = None
 
-pub two : (ℤ → ℤ → Saying) → List Value → Option Saying
+two : (ℤ → ℤ → Saying) → List Value → Option Saying
 two make (Of x ∷ Of y ∷ []) = Some (make x y)
 two make _ = None
 
-pub three : (ℤ → ℤ → ℤ → Saying) → List Value → Option Saying
+three : (ℤ → ℤ → ℤ → Saying) → List Value → Option Saying
 three make (Of x ∷ Of y ∷ Of z ∷ []) = Some (make x y z)
 three make _ = None
 
 -- the numbers before the first stroke, and the values after it
-pub front : List Value → List ℕ
+front : List Value → List ℕ
 front [] = []
 front (Of x ∷ values) = number_in x ∷ front values
 front (Stroke ∷ values) = []
 
-pub back : List Value → List Value
+back : List Value → List Value
 back [] = []
 back (Of x ∷ values) = back values
 back (Stroke ∷ values) = values
@@ -141,19 +145,19 @@ back_last [] items = refl
 back_last (n ∷ ns) items = back_last ns items
 
 -- a number, and a list after it
-unfoldable pub led : (ℤ → List ℕ → Saying) → List Value → Option Saying
+unfoldable led : (ℤ → List ℕ → Saying) → List Value → Option Saying
 led make (Of x ∷ values) = Some (make x (front values))
 led make _ = None
 
 remeshed : (a b c hs us fs : List ℕ) → a ≡ hs → b ≡ us → c ≡ fs → Some (Edit (Remesh a b c)) ≡ Some (Edit (Remesh hs us fs))
 remeshed a b c hs us fs first second third = rw (first, second, third) refl
 
-unfoldable pub request_in : List (List ℕ × (List Value → Option Saying)) → List ℕ → List Value → Option Saying
+unfoldable request_in : List (List ℕ × (List Value → Option Saying)) → List ℕ → List Value → Option Saying
 request_in [] first values = None
 request_in (row ∷ rows) first values = cond (bytes_eq first row.0) (row.1 values) (request_in rows first values)
 
 -- the request that a word makes of values
-unfoldable pub request_of : List ℕ → List Value → Option Saying
+unfoldable request_of : List ℕ → List Value → Option Saying
 request_of = request_in (
     (codes "append", one (λ d. Edit (Append d))) ∷
     (codes "triangle", three (λ x y z. Edit (Triangle x y z))) ∷
@@ -227,18 +231,8 @@ same_values (i ∷ is) (j ∷ js) r q e =
     let there = same_values is js r.1 q.1 (other_items (item_text i) (item_text j) (map item_text is) (map item_text js) e) in
     rw (here, there) refl
 
-pub some_injective : (p q : Saying) (said : Option Saying) → said ≡ Some p → said ≡ Some q → p ≡ q
+some_injective : (p q : Saying) (said : Option Saying) → said ≡ Some p → said ≡ Some q → p ≡ q
 some_injective p q said e f = cc
-
--- a line is none, where the items after its word are those of nothing that the word makes of values
-pub none_said : (A : Type 0) (first : List ℕ) (items : List (List ℕ))
-    → ((values : List Value) (said : Saying) → request_of first values ≡ Some said → AllByRecursion IsInRange (given said) → items ≢ map item_text (given said))
-    → Says {A = A} first items None
-unfolding Says
-none_said A first items none said in_range e =
-    let values = map value_of (given said) in
-    none values said (ap (λ (w : List ℕ). request_of w values) (first_item first (word said) items (map item_text (given said)) e) ∙ request_of-word said) in_range
-    (other_items first (word said) items (map item_text (given said)) e)
 
 -- a line is at most one command or query
 pub one_spelling : (p q : Saying) (line : List ℕ) → Spells p line → Spells q line → p ≡ q

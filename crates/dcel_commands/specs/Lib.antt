@@ -21,4 +21,5 @@ pub mod Steps
 pub mod Talk
 pub mod Triangles
 pub mod Vocabulary
+pub mod Written
 pub mod request

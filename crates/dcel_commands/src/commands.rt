@@ -8,8 +8,7 @@ mod query;
 mod reply;
 
 pub use crate::faults::RunFault;
-pub use crate::given::Said;
-pub use crate::reading::read;
+pub use crate::reading::{Said, read};
 pub use crate::refusal::Refusal;
 pub use crate::request::{LineMesh, Request};
 pub use crate::run::run;

@@ -1,24 +1,16 @@
-//! Reads what comes after the word of a line, by one reader for each word.
-#![tactic(auto, unfolding(crate::specs::Spelling::Says))]
+//! Reads what comes after the word of a line, by one reader for each form that it may have.
 
-ghost use Rattle.std.specs.Prelude.{◌≡◌, ◌≢◌, ◌<◌, ◌+◌, [], ◌∷◌, ◌++◌, ℕ, ℤ, List, length, map, MatchOption, MatchResult, codes};
-ghost use Rattle.std.specs.List.{AllByRecursion};
-ghost use Rattle.std.specs.Fmt.{decimal, signed_decimal};
-ghost use Rattle.dcel_commands.specs.Vocabulary.{Says};
-ghost use Rattle.dcel_text.specs.Numbers.{IsNumber, IsDatum};
-ghost use Rattle.dcel_text.specs.Items.{BeginsWith, left, slash};
+ghost use Rattle.std.specs.Prelude.{◌≡◌, ◌<◌, ◌+◌, [], ◌∷◌, ◌++◌, ℕ, ℤ, List, length, MatchOption, MatchResult};
+ghost use Rattle.dcel_commands.specs.Grammar.{Number, Datum, Slash, numbers};
+ghost use Rattle.dcel_commands.specs.Written.{IsWritten};
+ghost use Rattle.dcel_text.specs.Items.{BeginsWith, left};
 
-use crate::commands::{Command, Query};
-use crate::request::Request;
 use dcel_fixed::{
     FaceTag, FixedDirectedEdgeHandle, FixedFaceHandle, FixedHandleImpl, FixedUndirectedEdgeHandle,
     InnerOuterMarker, InnerTag, UndirectedEdgeTag,
 };
 use dcel_text::items::{Rest, count_numbers, datum_then, nothing, number_then, slash_then};
 use std::alloc::{AllocError, Allocator};
-
-/// What a line says, or that there is no memory for its lists; `None` for a bad line.
-pub type Said<A> = Option<Result<Request<A>, AllocError>>;
 
 /// A list of elements, or that there is no memory for it.
 type Made<Kind, InnerOuter, A> = Result<Vec<FixedHandleImpl<Kind, InnerOuter>, A>, AllocError>;
@@ -48,11 +40,22 @@ type ThreeMade<A> = Result<
     AllocError,
 >;
 
-/// Reads three data and nothing else.
-fn three_data<'a>(rest: Rest<'a>) -> Option<(i64, i64, i64)>
+/// Reads a datum and nothing else.
+pub fn one_datum<'a>(rest: Rest<'a>) -> Option<i64>
     ensures { MatchOption result
-        ((x y z : ℤ) → IsDatum x → IsDatum y → IsDatum z → left rest.entry ≢ signed_decimal x ∷ signed_decimal y ∷ signed_decimal z ∷ [])
-        (λ read. left rest.entry ≡ signed_decimal read.0 ∷ signed_decimal read.1 ∷ signed_decimal read.2 ∷ []) }
+        ((d : ℤ) → ¬ IsWritten (Datum d ∷ []) (left rest.entry))
+        (λ datum. IsWritten (Datum datum ∷ []) (left rest.entry)) }
+{
+    let (datum, others) = datum_then(rest)?;
+    nothing(others)?;
+    Some(datum)
+}
+
+/// Reads three data and nothing else.
+pub fn three_data<'a>(rest: Rest<'a>) -> Option<(i64, i64, i64)>
+    ensures { MatchOption result
+        ((x y z : ℤ) → ¬ IsWritten (Datum x ∷ Datum y ∷ Datum z ∷ []) (left rest.entry))
+        (λ read. IsWritten (Datum read.0 ∷ Datum read.1 ∷ Datum read.2 ∷ []) (left rest.entry)) }
 {
     let (x, others) = datum_then(rest)?;
     let (y, others) = datum_then(others)?;
@@ -62,12 +65,12 @@ fn three_data<'a>(rest: Rest<'a>) -> Option<(i64, i64, i64)>
 }
 
 /// Reads the number of an element and nothing else.
-fn one_number<'a, Kind, InnerOuter: InnerOuterMarker>(
+pub fn one_number<'a, Kind, InnerOuter: InnerOuterMarker>(
     rest: Rest<'a>,
 ) -> Option<FixedHandleImpl<Kind, InnerOuter>>
     ensures { MatchOption result
-        ((n : ℕ) → IsNumber n → left rest.entry ≢ decimal n ∷ [])
-        (λ handle. left rest.entry ≡ decimal handle ∷ []) }
+        ((n : ℕ) → ¬ IsWritten (Number n ∷ []) (left rest.entry))
+        (λ handle. IsWritten (Number handle ∷ []) (left rest.entry)) }
 {
     let (n, others) = number_then(rest)?;
     nothing(others)?;
@@ -77,12 +80,12 @@ fn one_number<'a, Kind, InnerOuter: InnerOuterMarker>(
 /// Reads the numbers of two elements and nothing else.
 ///
 /// `K` and `I` are the first element's kind and marker, `L` and `J` the second's.
-fn two_numbers<'a, K, L, I: InnerOuterMarker, J: InnerOuterMarker>(
+pub fn two_numbers<'a, K, L, I: InnerOuterMarker, J: InnerOuterMarker>(
     rest: Rest<'a>,
 ) -> Option<(FixedHandleImpl<K, I>, FixedHandleImpl<L, J>)>
     ensures { MatchOption result
-        ((m n : ℕ) → IsNumber m → IsNumber n → left rest.entry ≢ decimal m ∷ decimal n ∷ [])
-        (λ read. left rest.entry ≡ decimal read.0 ∷ decimal read.1 ∷ []) }
+        ((m n : ℕ) → ¬ IsWritten (Number m ∷ Number n ∷ []) (left rest.entry))
+        (λ read. IsWritten (Number read.0 ∷ Number read.1 ∷ []) (left rest.entry)) }
 {
     let (m, others) = number_then(rest)?;
     let (n, others) = number_then(others)?;
@@ -94,12 +97,12 @@ fn two_numbers<'a, K, L, I: InnerOuterMarker, J: InnerOuterMarker>(
 }
 
 /// Reads the number of an element, a datum and nothing else.
-fn number_and_datum<'a, Kind, InnerOuter: InnerOuterMarker>(
+pub fn number_and_datum<'a, Kind, InnerOuter: InnerOuterMarker>(
     rest: Rest<'a>,
 ) -> Option<(FixedHandleImpl<Kind, InnerOuter>, i64)>
     ensures { MatchOption result
-        ((n : ℕ) (d : ℤ) → IsNumber n → IsDatum d → left rest.entry ≢ decimal n ∷ signed_decimal d ∷ [])
-        (λ read. left rest.entry ≡ decimal read.0 ∷ signed_decimal read.1 ∷ []) }
+        ((n : ℕ) (d : ℤ) → ¬ IsWritten (Number n ∷ Datum d ∷ []) (left rest.entry))
+        (λ read. IsWritten (Number read.0 ∷ Datum read.1 ∷ []) (left rest.entry)) }
 {
     let (n, others) = number_then(rest)?;
     let (d, others) = datum_then(others)?;
@@ -147,14 +150,13 @@ fn both<'a, K, L, I: InnerOuterMarker, J: InnerOuterMarker, A: Allocator + Copy>
 }
 
 /// Reads a list of elements and nothing else.
-fn one_list<'a, Kind, InnerOuter: InnerOuterMarker, A: Allocator>(
+pub fn one_list<'a, Kind, InnerOuter: InnerOuterMarker, A: Allocator>(
     rest: Rest<'a>,
     memory: A,
 ) -> Option<Made<Kind, InnerOuter, A>>
     ensures { MatchOption result
-        ((ns : List ℕ) → AllByRecursion IsNumber ns → left rest.entry ≢ map decimal ns)
-        (λ made. (ns : List ℕ) × AllByRecursion IsNumber ns × (left rest.entry ≡ map decimal ns)
-        × MatchResult made (λ list. list.items ≡ ns) (λ _. 0 < length ns)) }
+        ((ns : List ℕ) → ¬ IsWritten (numbers ns) (left rest.entry))
+        (λ made. (ns : List ℕ) × IsWritten (numbers ns) (left rest.entry) × MatchResult made (λ list. list.items ≡ ns) (λ _. 0 < length ns)) }
 {
     let (count, others) = count_numbers(rest);
     nothing(others)?;
@@ -162,13 +164,13 @@ fn one_list<'a, Kind, InnerOuter: InnerOuterMarker, A: Allocator>(
 }
 
 /// Reads a number, a list of elements and nothing else.
-fn number_and_list<'a, Kind, InnerOuter: InnerOuterMarker, A: Allocator>(
+pub fn number_and_list<'a, Kind, InnerOuter: InnerOuterMarker, A: Allocator>(
     rest: Rest<'a>,
     memory: A,
 ) -> Option<NumberAndMade<Kind, InnerOuter, A>>
     ensures { MatchOption result
-        ((n : ℕ) (ns : List ℕ) → IsNumber n → AllByRecursion IsNumber ns → left rest.entry ≢ decimal n ∷ map decimal ns)
-        (λ made. (n : ℕ) × (ns : List ℕ) × IsNumber n × AllByRecursion IsNumber ns × (left rest.entry ≡ decimal n ∷ map decimal ns)
+        ((n : ℕ) (ns : List ℕ) → ¬ IsWritten (Number n ∷ numbers ns) (left rest.entry))
+        (λ made. (n : ℕ) × (ns : List ℕ) × IsWritten (Number n ∷ numbers ns) (left rest.entry)
         × MatchResult made (λ read. (read.0 ≡ n) × (read.1.items ≡ ns)) (λ _. 0 < length ns)) }
 {
     let (number, others) = number_then(rest)?;
@@ -181,14 +183,13 @@ fn number_and_list<'a, Kind, InnerOuter: InnerOuterMarker, A: Allocator>(
 /// Reads two lists of elements with a slash between them, and nothing else.
 ///
 /// `K` and `I` are the first list's kind and marker, `L` and `J` the second's.
-fn two_lists<'a, K, L, I: InnerOuterMarker, J: InnerOuterMarker, A: Allocator + Copy>(
+pub fn two_lists<'a, K, L, I: InnerOuterMarker, J: InnerOuterMarker, A: Allocator + Copy>(
     rest: Rest<'a>,
     memory: A,
 ) -> Option<TwoMade<K, I, L, J, A>>
     ensures { MatchOption result
-        ((ms ns : List ℕ) → AllByRecursion IsNumber ms → AllByRecursion IsNumber ns → left rest.entry ≢ map decimal ms ++ slash ∷ map decimal ns)
-        (λ made. (ms : List ℕ) × (ns : List ℕ) × AllByRecursion IsNumber ms × AllByRecursion IsNumber ns
-        × (left rest.entry ≡ map decimal ms ++ slash ∷ map decimal ns)
+        ((ms ns : List ℕ) → ¬ IsWritten (numbers ms ++ Slash ∷ numbers ns) (left rest.entry))
+        (λ made. (ms : List ℕ) × (ns : List ℕ) × IsWritten (numbers ms ++ Slash ∷ numbers ns) (left rest.entry)
         × MatchResult made (λ lists. (lists.0.items ≡ ms) × (lists.1.items ≡ ns)) (λ _. 0 < length ms + length ns)) }
 {
     let (first_count, after) = count_numbers(rest);
@@ -215,255 +216,14 @@ fn and_two<'a, A: Allocator + Copy>(
 }
 
 /// Reads three lists of elements with slashes between them, and nothing else.
-fn three_lists<'a, A: Allocator + Copy>(rest: Rest<'a>, memory: A) -> Option<ThreeMade<A>>
+pub fn three_lists<'a, A: Allocator + Copy>(rest: Rest<'a>, memory: A) -> Option<ThreeMade<A>>
     ensures { MatchOption result
-        ((ls ms ns : List ℕ) → AllByRecursion IsNumber ls → AllByRecursion IsNumber ms → AllByRecursion IsNumber ns
-        → left rest.entry ≢ map decimal ls ++ slash ∷ (map decimal ms ++ slash ∷ map decimal ns))
-        (λ made. (ls : List ℕ) × (ms : List ℕ) × (ns : List ℕ) × AllByRecursion IsNumber ls × AllByRecursion IsNumber ms × AllByRecursion IsNumber ns
-        × (left rest.entry ≡ map decimal ls ++ slash ∷ (map decimal ms ++ slash ∷ map decimal ns))
+        ((ls ms ns : List ℕ) → ¬ IsWritten (numbers ls ++ Slash ∷ (numbers ms ++ Slash ∷ numbers ns)) (left rest.entry))
+        (λ made. (ls : List ℕ) × (ms : List ℕ) × (ns : List ℕ) × IsWritten (numbers ls ++ Slash ∷ (numbers ms ++ Slash ∷ numbers ns)) (left rest.entry)
         × MatchResult made (λ lists. (lists.0.items ≡ ls) × (lists.1.items ≡ ms) × (lists.2.items ≡ ns)) (λ _. 0 < length ls + length ms + length ns)) }
 {
     let (count, after) = count_numbers(rest);
     let others = slash_then(after)?;
     let made = two_lists(others, memory)?;
     Some(and_two(rest, count, made, memory))
-}
-
-/// Reads the rest of `append D`.
-pub fn append<'a, A: Allocator>(rest: Rest<'a>) -> Said<A>
-    ensures { Says (codes "append") (left rest.entry) result }
-{
-    let (datum, others) = datum_then(rest)?;
-    nothing(others)?;
-    Some(Ok(Request::Edit(Command::Append(datum))))
-}
-
-/// Reads the rest of `triangle D D D`.
-pub fn triangle<'a, A: Allocator>(rest: Rest<'a>) -> Said<A>
-    ensures { Says (codes "triangle") (left rest.entry) result }
-{
-    let (x, y, z) = three_data(rest)?;
-    Some(Ok(Request::Edit(Command::Triangle(x, y, z))))
-}
-
-/// Reads the rest of `setup A B`.
-pub fn setup<'a, A: Allocator>(rest: Rest<'a>) -> Said<A>
-    ensures { Says (codes "setup") (left rest.entry) result }
-{
-    let (first, second) = two_numbers(rest)?;
-    Some(Ok(Request::Edit(Command::Setup(first, second))))
-}
-
-/// Reads the rest of `extend A B`.
-pub fn extend<'a, A: Allocator>(rest: Rest<'a>) -> Said<A>
-    ensures { Says (codes "extend") (left rest.entry) result }
-{
-    let (first, second) = two_numbers(rest)?;
-    Some(Ok(Request::Edit(Command::Extend(first, second))))
-}
-
-/// Reads the rest of `line H B`.
-pub fn line<'a, A: Allocator>(rest: Rest<'a>) -> Said<A>
-    ensures { Says (codes "line") (left rest.entry) result }
-{
-    let (first, second) = two_numbers(rest)?;
-    Some(Ok(Request::Edit(Command::Line(first, second))))
-}
-
-/// Reads the rest of `close H`.
-pub fn close<'a, A: Allocator>(rest: Rest<'a>) -> Said<A>
-    ensures { Says (codes "close") (left rest.entry) result }
-{
-    Some(Ok(Request::Edit(Command::Close(one_number(rest)?))))
-}
-
-/// Reads the rest of `outside H B`.
-pub fn outside<'a, A: Allocator>(rest: Rest<'a>) -> Said<A>
-    ensures { Says (codes "outside") (left rest.entry) result }
-{
-    let (first, second) = two_numbers(rest)?;
-    Some(Ok(Request::Edit(Command::Outside(first, second))))
-}
-
-/// Reads the rest of `insert B F`.
-pub fn insert<'a, A: Allocator>(rest: Rest<'a>) -> Said<A>
-    ensures { Says (codes "insert") (left rest.entry) result }
-{
-    let (first, second) = two_numbers(rest)?;
-    Some(Ok(Request::Edit(Command::Insert(first, second))))
-}
-
-/// Reads the rest of `half H B`.
-pub fn half<'a, A: Allocator>(rest: Rest<'a>) -> Said<A>
-    ensures { Says (codes "half") (left rest.entry) result }
-{
-    let (first, second) = two_numbers(rest)?;
-    Some(Ok(Request::Edit(Command::Half(first, second))))
-}
-
-/// Reads the rest of `split H B`.
-pub fn split<'a, A: Allocator>(rest: Rest<'a>) -> Said<A>
-    ensures { Says (codes "split") (left rest.entry) result }
-{
-    let (first, second) = two_numbers(rest)?;
-    Some(Ok(Request::Edit(Command::Split(first, second))))
-}
-
-/// Reads the rest of `flip U`.
-pub fn flip<'a, A: Allocator>(rest: Rest<'a>) -> Said<A>
-    ensures { Says (codes "flip") (left rest.entry) result }
-{
-    Some(Ok(Request::Edit(Command::Flip(one_number(rest)?))))
-}
-
-/// Reads the rest of `swap A B`.
-pub fn swap<'a, A: Allocator>(rest: Rest<'a>) -> Said<A>
-    ensures { Says (codes "swap") (left rest.entry) result }
-{
-    let (first, second) = two_numbers(rest)?;
-    Some(Ok(Request::Edit(Command::Swap(first, second))))
-}
-
-/// Reads the rest of `put V D`.
-pub fn put<'a, A: Allocator>(rest: Rest<'a>) -> Said<A>
-    ensures { Says (codes "put") (left rest.entry) result }
-{
-    let (vertex, datum) = number_and_datum(rest)?;
-    Some(Ok(Request::Edit(Command::Put(vertex, datum))))
-}
-
-/// Reads the rest of `isolate V H..`.
-pub fn isolate<'a, A: Allocator>(rest: Rest<'a>, memory: A) -> Said<A>
-    ensures { Says (codes "isolate") (left rest.entry) result }
-{
-    match number_and_list(rest, memory)? {
-        Ok((number, list)) => {
-            let vertex = FixedHandleImpl::new(number);
-            Some(Ok(Request::Edit(Command::Isolate(vertex, list))))
-        }
-        Err(error) => Some(Err(error)),
-    }
-}
-
-/// Reads the rest of `remesh H.. / U.. / F..`.
-pub fn remesh<'a, A: Allocator + Copy>(rest: Rest<'a>, memory: A) -> Said<A>
-    ensures { Says (codes "remesh") (left rest.entry) result }
-{
-    match three_lists(rest, memory)? {
-        Ok((list, edges, faces)) => Some(Ok(Request::Edit(Command::Remesh(list, edges, faces)))),
-        Err(error) => Some(Err(error)),
-    }
-}
-
-/// Reads the rest of `strip H..`.
-pub fn strip<'a, A: Allocator>(rest: Rest<'a>, memory: A) -> Said<A>
-    ensures { Says (codes "strip") (left rest.entry) result }
-{
-    match one_list(rest, memory)? {
-        Ok(list) => Some(Ok(Request::Edit(Command::Strip(list)))),
-        Err(error) => Some(Err(error)),
-    }
-}
-
-/// Reads the rest of `cleanup U.. / F..`.
-pub fn cleanup<'a, A: Allocator + Copy>(rest: Rest<'a>, memory: A) -> Said<A>
-    ensures { Says (codes "cleanup") (left rest.entry) result }
-{
-    match two_lists(rest, memory)? {
-        Ok((edges, faces)) => Some(Ok(Request::Edit(Command::Cleanup(edges, faces)))),
-        Err(error) => Some(Err(error)),
-    }
-}
-
-/// Reads the rest of `remove V`.
-pub fn remove<'a, A: Allocator>(rest: Rest<'a>) -> Said<A>
-    ensures { Says (codes "remove") (left rest.entry) result }
-{
-    Some(Ok(Request::Edit(Command::Remove(one_number(rest)?))))
-}
-
-/// Reads the rest of `degenerate V`.
-pub fn degenerate<'a, A: Allocator>(rest: Rest<'a>) -> Said<A>
-    ensures { Says (codes "degenerate") (left rest.entry) result }
-{
-    Some(Ok(Request::Edit(Command::Degenerate(one_number(rest)?))))
-}
-
-/// Reads the rest of `legalize N U..`.
-pub fn legalize<'a, A: Allocator>(rest: Rest<'a>, memory: A) -> Said<A>
-    ensures { Says (codes "legalize") (left rest.entry) result }
-{
-    match number_and_list(rest, memory)? {
-        Ok((max_flips, list)) => Some(Ok(Request::Edit(Command::Legalize(max_flips, list)))),
-        Err(error) => Some(Err(error)),
-    }
-}
-
-/// Reads the rest of `clear`.
-pub fn clear<'a, A: Allocator>(rest: Rest<'a>) -> Said<A>
-    ensures { Says (codes "clear") (left rest.entry) result }
-{
-    nothing(rest)?;
-    Some(Ok(Request::Edit(Command::Clear)))
-}
-
-/// Reads the rest of `counts`.
-pub fn counts<'a, A: Allocator>(rest: Rest<'a>) -> Said<A>
-    ensures { Says (codes "counts") (left rest.entry) result }
-{
-    nothing(rest)?;
-    Some(Ok(Request::Ask(Query::Counts)))
-}
-
-/// Reads the rest of `words`.
-pub fn words<'a, A: Allocator>(rest: Rest<'a>) -> Said<A>
-    ensures { Says (codes "words") (left rest.entry) result }
-{
-    nothing(rest)?;
-    Some(Ok(Request::Ask(Query::Words)))
-}
-
-/// Reads the rest of `hull`.
-pub fn hull<'a, A: Allocator>(rest: Rest<'a>) -> Said<A>
-    ensures { Says (codes "hull") (left rest.entry) result }
-{
-    nothing(rest)?;
-    Some(Ok(Request::Ask(Query::Hull)))
-}
-
-/// Reads the rest of `out V`.
-pub fn out<'a, A: Allocator>(rest: Rest<'a>) -> Said<A>
-    ensures { Says (codes "out") (left rest.entry) result }
-{
-    Some(Ok(Request::Ask(Query::Out(one_number(rest)?))))
-}
-
-/// Reads the rest of `origin H`.
-pub fn origin<'a, A: Allocator>(rest: Rest<'a>) -> Said<A>
-    ensures { Says (codes "origin") (left rest.entry) result }
-{
-    Some(Ok(Request::Ask(Query::Origin(one_number(rest)?))))
-}
-
-/// Reads the rest of `between A B`.
-pub fn between<'a, A: Allocator>(rest: Rest<'a>) -> Said<A>
-    ensures { Says (codes "between") (left rest.entry) result }
-{
-    let (first, second) = two_numbers(rest)?;
-    Some(Ok(Request::Ask(Query::Between(first, second))))
-}
-
-/// Reads the rest of `get V`.
-pub fn get<'a, A: Allocator>(rest: Rest<'a>) -> Said<A>
-    ensures { Says (codes "get") (left rest.entry) result }
-{
-    Some(Ok(Request::Ask(Query::Get(one_number(rest)?))))
-}
-
-/// Reads the rest of `check`.
-pub fn check<'a, A: Allocator>(rest: Rest<'a>) -> Said<A>
-    ensures { Says (codes "check") (left rest.entry) result }
-{
-    nothing(rest)?;
-    Some(Ok(Request::Ask(Query::Check)))
 }

@@ -12,6 +12,7 @@ use Rattle.dcel_maps.specs.Shapes.{IsLive, IsMesh, Mesh, face_count, face_of}
 use Rattle.dcel_maps.specs.Triangulations.{AllTriangles}
 use Rattle.dcel_maps.specs.Walking.{out_edges_of}
 use Rattle.dcel_maps.specs.Words.{count_of}
+use Rattle.dcel_maps.proofs.renumbering.Cleanup.{cleaned_up-mesh}
 use Rattle.dcel_maps.proofs.shapes.Maps.{map-sound}
 use Rattle.dcel_maps.proofs.Triangulations.{ring_filled_in}
 use Rattle.dcel_maps.proofs.words.Ascending.{length-ascending}
@@ -21,6 +22,7 @@ use Rattle.dcel_plane.specs.Edges.{edges_inserted}
 use Rattle.dcel_plane.specs.Plane.{IsPlane, ListsCircled, origin_point, point_at}
 use Rattle.dcel_covering.specs.Covering.{IsConvex, IsHull}
 use Rattle.dcel_hollows.proofs.Deleting.{four_plane, hole_convex, hole_hull, hole_lists, three_plane}
+use Rattle.dcel_hollows.proofs.Renumbering.{cleanup_inner}
 use Rattle.dcel_hollows.proofs.Holes.{IsHole, half_of_triangle, hole_is, side_listed}
 use Rattle.dcel_delaunay.specs.Growing.{IsSound}
 use Rattle.dcel_delaunay.specs.Removing.{IsFilled, IsGivenUp, IsThin}
@@ -131,9 +133,11 @@ module _ {DE UE F : Type 0} where
           triangles = triangles_after;
           plane = at_points (λ at. IsPlane at n.shape) m n hole.points plane_before;
           listed = at_points (λ at. ListsCircled at n.shape list) m n hole.points lists;
-          some = (h, live, (let o = on in omega (arith, o, outer)));
-          convex = at_points (λ at. IsConvex at n.shape) m n hole.points (hole_convex m mesh sound.closed border v filled.round halves edges faces (point_at m) thin.hull.convex);
-          hull = at_points (λ at. IsHull at n.shape) m n hole.points (hole_hull m mesh sound.closed border v filled.round halves edges faces (point_at m) thin.hull.hull);
+          left = inl (record {
+            inner = cleanup_inner n after (cleaned_up-mesh n after) h live (let o = on in omega (arith, o, outer));
+            convex = at_points (λ at. IsConvex at n.shape) m n hole.points (hole_convex m mesh sound.closed border v filled.round halves edges faces (point_at m) thin.hull.convex);
+            hull = at_points (λ at. IsHull at n.shape) m n hole.points (hole_hull m mesh sound.closed border v filled.round halves edges faces (point_at m) thin.hull.hull);
+          });
         }
 
   -- the same of the calls, whatever data are put at the new edge and the new faces

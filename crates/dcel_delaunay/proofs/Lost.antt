@@ -1,5 +1,5 @@
 -- A vertex removed: what a vertex inside has, and what is told of it from before edges were flipped to after.
-use Rattle.std.proofs.Common.{◌≡◌, inl, inr, ℕ, ◌+◌, ◌-◌, ◌<◌, ◌==◌, cond, List, length, Option, Some, None, Result, Ok, Err, IfErr, IfOk, slice_index_or, sym, ap, ◌∙◌, subst, eq-zero-or-pos, arith}
+use Rattle.std.proofs.Common.{◌≡◌, inl, inr, ℕ, ◌+◌, ◌-◌, ◌<◌, ◌==◌, cond, List, length, Option, Some, None, Result, Ok, Err, IfErr, IfOk, OnErr, slice_index_or, sym, ap, ◌∙◌, subst, eq-zero-or-pos, arith}
 use Rattle.std.proofs.lemmas.Bool.{cases_lt}
 use Rattle.dcel_fixed.specs.HalfEdges.{rev}
 use Rattle.dcel_maps.specs.Conditions.{HasRoom}
@@ -14,12 +14,17 @@ use Rattle.dcel_plane.specs.Plane.{origin_point, point_at}
 use Rattle.dcel_covering.proofs.Starts.{inner_half}
 use Rattle.dcel_delaunay.specs.Corners.{StartsOutside}
 use Rattle.dcel_delaunay.specs.Growing.{HasHull, IsSound}
-use Rattle.dcel_delaunay.specs.Removing.{HasNoneToTurn, IsAsItWas, IsInside, IsKept, IsRefused, IsThin, Loses, MayKeep}
+use Rattle.dcel_delaunay.specs.Removing.{HasNoneToTurn, IsAsItWas, IsInside, IsKept, IsThin, Loses, MayKeep}
 use Rattle.dcel_delaunay.specs.declared.errors.RemovalError.{RemovalError}
-use Rattle.dcel_delaunay.specs.declared.errors.RemovalError.TheVariants.{NoVertex, NotInside, OutOfMemory, TooManyPoints, Unfinished}
+use Rattle.dcel_delaunay.specs.declared.errors.RemovalError.TheVariants.{NoVertex, OutOfMemory, TooManyPoints, Unfinished}
 use Rattle.dcel_delaunay.specs.declared.removed.Removed.{Removed}
 use Rattle.dcel_delaunay.proofs.Counting.{joined_all}
 use Rattle.dcel_delaunay.proofs.Emptied.{StandsIn}
+
+-- what holds anyway holds where there is an error
+pub on_err : {X E : Type 0} (r : Result X E) (P : Type 0) → P → OnErr r P
+on_err (Ok x) P holds = tt
+on_err (Err e) P holds = holds
 
 module _ {DE UE F : Type 0} where
   -- where a triangle is there are two vertices
@@ -59,6 +64,10 @@ module _ {DE UE F : Type 0} where
     | inr more ↦ more
     | inl outer ↦ absurd (none k (record { live = out.live; outer = outer; start = out.start }))
   ]
+
+  pub outside_below : (m : Mesh Point DE UE F) → IsMesh m → (v h : ℕ) → StartsOutside m v h → v < m.shape.vertices
+  outside_below m mesh v h outside =
+      subst (λ (k : ℕ). k < m.shape.vertices) outside.start ((map-sound mesh.sound).below_vertices h outside.live)
 
   -- as many vertices and edges have as many faces
   pub room_still : (m n : Mesh Point DE UE F) (due list : List ℕ) → IsSound m due → IsSound n list → 0 < m.shape.vertices → n.shape.vertices ≡ m.shape.vertices
@@ -108,8 +117,11 @@ module _ {DE UE F Whole : Type 0} (old mid new : Mesh Point DE UE F) (v : ℕ) (
   pub kept_from : (r : Result Removed RemovalError) → IfErr r (MayKeep mid new v) → IfErr r (IsKept Whole old new v)
   kept_from (Ok removed) keeps = tt
   kept_from (Err NoVertex) keeps = absurd keeps
-  kept_from (Err NotInside) keeps = absurd keeps
-  kept_from (Err TooManyPoints) keeps = (subst (λ (m : Mesh Point DE UE F). ¬ HasRoom m.shape 0 1 2) (sym keeps.1) keeps.0, as_it_was keeps.1)
+  kept_from (Err TooManyPoints) keeps = (
+    subst (λ (m : Mesh Point DE UE F). IsInside m.shape v) (sym keeps.2) keeps.0,
+    subst (λ (m : Mesh Point DE UE F). ¬ HasRoom m.shape 0 1 2) (sym keeps.2) keeps.1,
+    as_it_was keeps.2,
+  )
   kept_from (Err OutOfMemory) keeps = keeps.points ∙ points
   kept_from (Err (Unfinished removed)) loses = lost_before old mid new v removed points vertices loses
 
@@ -117,13 +129,9 @@ module _ {DE UE F Whole : Type 0} (old mid new : Mesh Point DE UE F) (v : ℕ) (
   lost_from (Ok removed) loses = lost_before old mid new v removed points vertices loses
   lost_from (Err e) loses = tt
 
-  -- a vertex that doesn't lie inside is kept
-  pub refused_from : (why : RemovalError) → new ≡ mid → IsRefused mid v why → IsKept Whole old new v why
-  refused_from NoVertex is refused = (subst (λ (m : Mesh Point DE UE F). IsRefused m v NoVertex) (sym is) refused, as_it_was is)
-  refused_from NotInside is refused = (subst (λ (m : Mesh Point DE UE F). IsRefused m v NotInside) (sym is) refused, as_it_was is)
-  refused_from TooManyPoints is refused = absurd refused
-  refused_from OutOfMemory is refused = absurd refused
-  refused_from (Unfinished removed) is refused = absurd refused
+  -- there is no such vertex
+  pub no_vertex : new ≡ mid → ¬ (v < mid.shape.vertices) → IsKept Whole old new v NoVertex
+  no_vertex is none = (subst (λ (m : Mesh Point DE UE F). ¬ (v < m.shape.vertices)) (sym is) none, as_it_was is)
 
 -- what is told of the vertex that was cut out, once edges are flipped
 module _ {DE UE F : Type 0} (m mid n : Mesh Point DE UE F) (v : ℕ) (removed : Removed) (points : n.vertex_data ≡ mid.vertex_data) (vertices : n.shape.vertices ≡ mid.shape.vertices)

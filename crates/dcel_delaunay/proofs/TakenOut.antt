@@ -1,12 +1,12 @@
 -- What was given up taken out, and the vertex: the mesh lies in the plane with its hull, and each other vertex stands where it stood.
-use Rattle.std.proofs.Common.{◌≡◌, ◌≢◌, inr, ℕ, zero, suc, ◌+◌, ◌-◌, ◌<◌, ◌≤◌, ◌==◌, true, cond, List, [], ◌∷◌, length, map, Some, None, slice_index_or, refl, sym, ap, ◌∙◌, subst, arith}
-use Rattle.std.proofs.lemmas.Bool.{ne_eqb}
+use Rattle.std.proofs.Common.{◌≡◌, ◌≢◌, ◌⊎◌, inl, inr, ℕ, zero, suc, ◌+◌, ◌-◌, ◌<◌, ◌≤◌, ◌==◌, true, cond, List, [], ◌∷◌, length, map, Some, None, slice_index_or, refl, sym, ap, ◌∙◌, subst, arith}
+use Rattle.std.proofs.lemmas.Bool.{cases_lt, ne_eqb}
 use Rattle.std.proofs.lemmas.List.{length-reverse}
 use Rattle.spade_dcel.specs.declared.operations.results.IsolateVertexResult.{IsolateVertexResult}
 use Rattle.dcel_maps.specs.Removals.{Cleaned, gives_up_vertex}
 use Rattle.dcel_maps.specs.Renumbered.{new_edge}
 use Rattle.dcel_maps.specs.Renumbering.{cleaned, cleaned_up, edges_down, faces_down, moved, vertex_taken_out}
-use Rattle.dcel_maps.specs.Shapes.{IsMesh, Mesh, face_count, vertex_is_live}
+use Rattle.dcel_maps.specs.Shapes.{IsLive, IsMesh, Mesh, face_count, face_of, vertex_is_live}
 use Rattle.dcel_maps.proofs.Liveness.{is_live-from}
 use Rattle.dcel_maps.proofs.renumbering.Renumbered.{vertex_leaves_live}
 use Rattle.dcel_maps.proofs.Triangulations as triangulations
@@ -14,8 +14,10 @@ use Rattle.dcel_predicates.specs.declared.point.Point.{Point}
 use Rattle.dcel_plane.specs.Plane.{IsPlane, ListsCircled, origin_point, point_at}
 use Rattle.dcel_covering.specs.Covering.{IsConvex, IsHull}
 use Rattle.dcel_hollows.proofs.Cleaned.{IsCleaned, cleaned_is}
-use Rattle.dcel_hollows.proofs.Renumbering.{cleanup_inner, cleanup_keeps, cleanup_lists, taken_out_keeps, taken_out_lists}
-use Rattle.dcel_delaunay.specs.Growing.{HasHull, IsJoined, IsSound}
+use Rattle.dcel_covering.proofs.Starts.{inner_half}
+use Rattle.dcel_hulls.specs.Straight.{IsStraight}
+use Rattle.dcel_hollows.proofs.Renumbering.{cleanup_keeps, cleanup_lists, cleanup_straight, cleanup_was_inner, taken_out_keeps, taken_out_lists, taken_out_straight, taken_out_was_inner}
+use Rattle.dcel_delaunay.specs.Growing.{HasHull, IsFlat, IsJoined, IsSound}
 use Rattle.dcel_delaunay.specs.Removing.{IsGivenUp, Loses}
 use Rattle.dcel_delaunay.specs.declared.removed.Removed.{Removed}
 use Rattle.dcel_delaunay.proofs.Emptied.{StandsIn, at_points}
@@ -23,6 +25,12 @@ use Rattle.dcel_delaunay.proofs.Emptied.{StandsIn, at_points}
 -- Euler's formula, with one vertex less
 euler_after : (v f e k j vn fn en : ℕ) → v + f + k ≡ e + j + 3 → 0 < v → k ≤ e → j ≤ f → vn ≡ v - 1 → fn ≡ f - j → en ≡ e - k → vn + fn ≡ en + 2
 euler_after v f e k j vn fn en euler some few_edges few_faces vertices faces edges = omega (arith, euler, some, few_edges, few_faces, vertices, faces, edges)
+
+-- what is read of a list where it has an item
+pub has_point : (points : List Point) (w : ℕ) (p : Point) → p ≡ slice_index_or points w p → w < length points → StandsIn points w p
+has_point [] w p is within = absurd (omega (arith, within))
+has_point (q ∷ points) zero p is within = (ap (λ (k : Point). Some k.x) (sym is), ap (λ (k : Point). Some k.y) (sym is))
+has_point (q ∷ points) (suc w) p is within = has_point points w p is (omega (arith, within))
 
 module _ {DE UE F A : Type 0} (old mid : Mesh Point DE UE F) (v : ℕ) (due : List ℕ) (out : IsolateVertexResult A) (given : IsGivenUp old mid v due out) (below : v < old.shape.vertices)
     (many : 1 < old.shape.vertices) (clean : IsMesh (cleaned_up mid)) (done : IsMesh (vertex_taken_out (cleaned_up mid) v)) where
@@ -82,15 +90,34 @@ module _ {DE UE F A : Type 0} (old mid : Mesh Point DE UE F) (v : ℕ) (due : Li
         (at_points (λ at. ListsCircled at c.shape (map (new_edge mid.shape) due)) mid c left.points (cleanup_lists mid given.mesh (point_at mid) clean due given.listed));
   }
 
-  pub removed_hull : HasHull (vertex_taken_out (cleaned_up mid) v)
-  removed_hull =
-      let (h, live, inner) = given.some in record {
-        inner = cleanup_inner mid given.mesh clean h live inner;
-        convex = (taken_out_keeps c clean (point_at c) (point_at n) v clean_record done stands).1
-            (at_points (λ at. IsConvex at c.shape) mid c left.points ((cleanup_keeps mid given.mesh (point_at mid) clean).1 given.convex));
-        hull = (taken_out_keeps c clean (point_at c) (point_at n) v clean_record done stands).2
-            (at_points (λ at. IsHull at c.shape) mid c left.points ((cleanup_keeps mid given.mesh (point_at mid) clean).2 given.hull));
-      }
+  -- where no triangle is left, one face is
+  one_face : ((h : ℕ) → IsLive mid.shape h → face_of mid.shape h ≡ 0) → face_count c.shape ≡ 1
+  one_face none = elim (cases_lt 1 (face_count c.shape)) [
+    | inr few ↦ (let outer = clean.sized.outer in omega (arith, few, outer))
+    | inl more ↦ absurd
+        (let (h, live, inner) = inner_half n done refl more in
+        let (i, live_i, inner_i) = taken_out_was_inner c clean v clean_record done h live inner in
+        let (j, live_j, inner_j) = cleanup_was_inner mid given.mesh clean i live_i inner_i in
+        let outside = none j live_j in
+        omega (arith, inner_j, outside))
+  ]
+
+  pub removed_hull : IsFlat (vertex_taken_out (cleaned_up mid) v) ⊎ HasHull (vertex_taken_out (cleaned_up mid) v)
+  removed_hull = elim given.left [
+    | inl outline ↦ inr (record {
+      inner = outline.inner;
+      convex = (taken_out_keeps c clean (point_at c) (point_at n) v clean_record done stands).1
+          (at_points (λ at. IsConvex at c.shape) mid c left.points ((cleanup_keeps mid given.mesh (point_at mid) clean).1 outline.convex));
+      hull = (taken_out_keeps c clean (point_at c) (point_at n) v clean_record done stands).2
+          (at_points (λ at. IsHull at c.shape) mid c left.points ((cleanup_keeps mid given.mesh (point_at mid) clean).2 outline.hull));
+    })
+    | inr strung ↦ inl (record {
+      alone = one_face strung.none;
+      straight =
+          taken_out_straight c clean (point_at c) (point_at n) v clean_record done stands
+          (at_points (λ at. IsStraight at c.shape) mid c left.points (cleanup_straight mid given.mesh (point_at mid) clean strung.straight));
+    })
+  ]
 
   other_live : (w : ℕ) → w < old.shape.vertices → w ≢ v → vertex_is_live c.shape w ≡ true
   unfolding gives_up_vertex
@@ -111,11 +138,6 @@ module _ {DE UE F A : Type 0} (old mid : Mesh Point DE UE F) (v : ℕ) (due : Li
         ap (λ k. point_at n (moved (k - 1) v w)) (sym vertices_are) ∙ stands w (other_live w within other)
         ∙ ap (λ (points : List Point). slice_index_or points w origin_point) points_are;
   }
-    where
-      has_point : (points : List Point) (w : ℕ) (p : Point) → p ≡ slice_index_or points w p → w < length points → StandsIn points w p
-      has_point [] w p is within = absurd (omega (arith, within))
-      has_point (q ∷ points) zero p is within = (ap (λ (k : Point). Some k.x) (sym is), ap (λ (k : Point). Some k.y) (sym is))
-      has_point (q ∷ points) (suc w) p is within = has_point points w p is (omega (arith, within))
 
 module _ {DE UE F A : Type 0} (old mid new : Mesh Point DE UE F) (v : ℕ) (due items : List ℕ) (out : IsolateVertexResult A) (given : IsGivenUp old mid v due out)
     (below : v < old.shape.vertices) (many : 1 < old.shape.vertices) (clean : IsMesh (cleaned_up mid)) (after : IsMesh new) (is : new ≡ vertex_taken_out (cleaned_up mid) v)
@@ -128,8 +150,8 @@ module _ {DE UE F A : Type 0} (old mid new : Mesh Point DE UE F) (v : ℕ) (due 
       subst (λ (list : List ℕ). IsSound new list) (sym renamed)
       (subst (λ (k : Mesh Point DE UE F). IsSound k (map (new_edge mid.shape) due)) (sym is) (removed_sound old mid v due out given below many clean done))
 
-  pub taken_hull : HasHull new
-  taken_hull = subst (λ (k : Mesh Point DE UE F). HasHull k) (sym is) (removed_hull old mid v due out given below many clean done)
+  pub taken_hull : IsFlat new ⊎ HasHull new
+  taken_hull = subst (λ (k : Mesh Point DE UE F). IsFlat k ⊎ HasHull k) (sym is) (removed_hull old mid v due out given below many clean done)
 
   pub taken_loses : (r : Removed) → r.point ≡ slice_index_or (cleaned_up mid).vertex_data v r.point
       → r.moved ≡ cond (v == (cleaned_up mid).shape.vertices - 1) None (Some ((cleaned_up mid).shape.vertices - 1)) → Loses old new v r

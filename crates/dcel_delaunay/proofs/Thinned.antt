@@ -15,12 +15,14 @@ use Rattle.dcel_maps.proofs.words.Counts.{count-append}
 use Rattle.dcel_predicates.specs.declared.point.Point.{Point}
 use Rattle.dcel_legalize.specs.Flipping.{sides_beside}
 use Rattle.dcel_circles.proofs.Circled.{inner_from}
-use Rattle.dcel_plane.specs.Plane.{TurnsLeft, point_at}
+use Rattle.dcel_plane.specs.Plane.{ListsCircled, TurnsLeft, point_at}
 use Rattle.dcel_plane.proofs.Flipped.{flip_lists}
 use Rattle.dcel_hulls.proofs.Keeping.{flip_keeps_convex, flip_keeps_hull}
 use Rattle.dcel_hollows.specs.Wheels.{CanTurn}
 use Rattle.dcel_hollows.proofs.Fewer.{flip_keeps_inner, flip_takes_one}
+use Rattle.dcel_hollows.proofs.FlippedInside.{outer_start, outer_stays}
 use Rattle.dcel_hollows.proofs.Turnable.{turn_keeps_plane}
+use Rattle.dcel_delaunay.specs.Corners.{StartsOutside}
 use Rattle.dcel_delaunay.specs.Growing.{HasHull, IsSound, Keeps}
 use Rattle.dcel_delaunay.specs.Removing.{IsInside, IsTurnable}
 use Rattle.dcel_delaunay.proofs.Counting.{flipped_joined}
@@ -54,6 +56,19 @@ left_as b {p} {q} {r} {p'} {q'} {r'} ep eq er told =
     subst (λ (k : Point). IsTrue b ↔ TurnsLeft p' q' k) er (subst (λ (k : Point). IsTrue b ↔ TurnsLeft p' k r) eq (subst (λ (k : Point). IsTrue b ↔ TurnsLeft k q r) ep told))
 
 module _ {DE UE F : Type 0} where
+  -- a flip whose edge is listed, with the sides beside it
+  pub flip_listed : (m : Mesh Point DE UE F) → IsMesh m → (u : ℕ) → CanFlip m.shape u → (due : List ℕ) → ListsCircled (point_at m) m.shape due
+      → ListsCircled (point_at m) (edge_flipped m u).shape ((due ++ u ∷ []) ++ sides_beside m.shape u)
+  flip_listed m mesh u can due lists w inner circled =
+      let sides = sides_beside m.shape u in
+      let own = u ∷ [] in
+      let found : 0 < count_of w (due ++ (sides ++ own)) = flip_lists m mesh u can (point_at m) due lists w inner circled in
+      let whole = count-append w due (sides ++ own) in
+      let parts = count-append w sides own in
+      let wanted = count-append w (due ++ own) sides in
+      let first = count-append w due own in
+      omega (arith, found, whole, parts, wanted, first)
+
   module _ (m : Mesh Point DE UE F) (mesh : IsMesh m) (e : ℕ) (turn : CanTurn (point_at m) m.shape (e / 2)) where
     abbrev n : Mesh Point DE UE F
     n = edge_flipped m (e / 2)
@@ -64,15 +79,7 @@ module _ {DE UE F : Type 0} where
       joined = flipped_joined m (e / 2) sound.joined;
       triangles = flipped m sound.triangles (e / 2);
       plane = turn_keeps_plane m mesh (point_at m) (e / 2) turn sound.plane;
-      listed = λ u inner circled.
-          (let sides = sides_beside m.shape (e / 2) in
-          let own = (e / 2) ∷ [] in
-          let found : 0 < count_of u (due ++ (sides ++ own)) = flip_lists m mesh (e / 2) turn.can (point_at m) due sound.listed u inner circled in
-          let whole = count-append u due (sides ++ own) in
-          let parts = count-append u sides own in
-          let wanted = count-append u (due ++ own) sides in
-          let first = count-append u due own in
-          omega (arith, found, whole, parts, wanted, first));
+      listed = flip_listed m mesh (e / 2) turn.can due sound.listed;
     }
 
     half_hull : HasHull m → HasHull n
@@ -89,6 +96,13 @@ module _ {DE UE F : Type 0} where
     half_inside : (v : ℕ) → IsInside m.shape v → IsInside n.shape v
     half_inside v inside k out =
         flip_keeps_inner m mesh (point_at m) e turn.can turn.inner turn.inner_facing v (λ i live from. inside i (record { live = live; start = from })) k out.live out.start
+
+    half_outside : (v h : ℕ) → StartsOutside m v h → StartsOutside n v h
+    half_outside v h is = record {
+      live = is.live;
+      outer = outer_stays m mesh (e / 2) turn.can turn.inner turn.inner_facing h is.live is.outer;
+      start = outer_start m mesh (e / 2) turn.can turn.inner turn.inner_facing h is.live is.outer ∙ is.start;
+    }
 
     half_less : (v : ℕ) → v < m.shape.vertices → origin_of m.shape e ≡ v → length (out_edges_of n v) < length (out_edges_of m v)
     half_less v below from =
@@ -108,6 +122,7 @@ module _ {DE UE F : Type 0} where
     pub sound : IsSound n rest
     pub hull : HasHull n
     pub inside : IsInside m.shape v → IsInside n.shape v
+    pub outside : (h : ℕ) → StartsOutside m v h → StartsOutside n v h
 
   pub thin_begins : (m : Mesh Point DE UE F) (due : List ℕ) (v : ℕ) → IsMesh m → IsSound m due → HasHull m → v < m.shape.vertices → IsThinned m due v m due
   thin_begins m due v mesh sound has below = record {
@@ -118,6 +133,7 @@ module _ {DE UE F : Type 0} where
     sound = sound;
     hull = has;
     inside = λ is. is;
+    outside = λ h is. is;
   }
 
   module _ (m : Mesh Point DE UE F) (due : List ℕ) (v : ℕ) (n : Mesh Point DE UE F) (rest : List ℕ) (way : IsThinned m due v n rest) where
@@ -130,6 +146,7 @@ module _ {DE UE F : Type 0} where
       sound = half_sound n way.mesh e turn rest way.sound;
       hull = half_hull n way.mesh e turn way.hull;
       inside = λ inside. half_inside n way.mesh e turn v (way.inside inside);
+      outside = λ h is. half_outside n way.mesh e turn v h (way.outside h is);
     }
 
     module _ (u : ℕ) (turn : IsTurnable n v u) where

@@ -1,22 +1,26 @@
 -- A vertex taken out: what its edges are before, and what is left.
-use Rattle.std.specs.Prelude.{◌≡◌, ◌≢◌, ◌⊎◌, ℕ, ◌<◌, ◌+◌, ◌-◌, ◌/◌, ◌==◌, List, length, None, Some, cond}
+use Rattle.std.specs.Prelude.{◌≡◌, ◌≢◌, ◌⊎◌, ℕ, ◌<◌, ◌+◌, ◌-◌, ◌/◌, ◌==◌, List, [], length, None, Some, cond}
 use Rattle.spade_dcel.specs.declared.operations.results.IsolateVertexResult.{IsolateVertexResult}
 use Rattle.dcel_maps.specs.Borders.{IsBorderLoop}
 use Rattle.dcel_maps.specs.Conditions.{HasRoom}
 use Rattle.dcel_maps.specs.Removals.{IsListed, Isolated}
-use Rattle.dcel_maps.specs.Renumbering.{moved}
-use Rattle.dcel_maps.specs.Shapes.{IsMesh, Mesh, Shape, IsLive, face_count, face_of}
+use Rattle.dcel_maps.specs.Renumbering.{cleaned_up, moved}
+use Rattle.dcel_maps.specs.Shapes.{IsMesh, Mesh, Shape, IsLive, end_of, face_count, face_of}
 use Rattle.dcel_maps.specs.Triangulations.{AllTriangles}
-use Rattle.dcel_maps.specs.Walking.{IsOutEdge}
+use Rattle.dcel_maps.specs.edits.Strip.{strip_cut, strip_edges, strip_faces}
+use Rattle.dcel_maps.specs.Strips.{strip_of}
+use Rattle.dcel_maps.specs.Walking.{IsOutEdge, ccw_of}
 use Rattle.dcel_predicates.specs.declared.point.Point.{Point}
 use Rattle.dcel_plane.specs.Plane.{IsPlane, ListsCircled, point_at}
 use Rattle.dcel_covering.specs.Covering.{IsConvex, IsHull}
+use Rattle.dcel_hulls.specs.Straight.{IsStraight}
+use Rattle.spade_dcel.specs.Opened.{HasOpened}
 use Rattle.dcel_hollows.specs.Wheels.{CanTurn, MakesTwo}
 use Rattle.dcel_delaunay.specs.Corners.{StartsOutside}
 use Rattle.dcel_delaunay.specs.Growing.{HasHull, Keeps}
-use Rattle.dcel_delaunay.specs.Places.{HasPoint}
+use Rattle.dcel_delaunay.specs.Places.{HasPoint, IsOnLine}
 use Rattle.dcel_delaunay.specs.declared.errors.RemovalError.{RemovalError}
-use Rattle.dcel_delaunay.specs.declared.errors.RemovalError.TheVariants.{NoVertex, NotInside, OutOfMemory, TooManyPoints, Unfinished}
+use Rattle.dcel_delaunay.specs.declared.errors.RemovalError.TheVariants.{NoVertex, OutOfMemory, TooManyPoints, Unfinished}
 use Rattle.dcel_delaunay.specs.declared.removed.Removed.{Removed}
 
 -- no out edge of the vertex v lies on the outer face
@@ -55,7 +59,34 @@ module _ {DE UE F : Type 0} where
     pub round : IsBorderLoop m.shape border v
     pub triangles : (length border ≡ 3) ⊎ ((length border ≡ 4) × MakesTwo (point_at m) m.shape round.first)
 
-  -- v is given up, with edges and faces of the numbers that Euler's formula wants, and what is left lies in the plane with its hull
+  -- v is a corner of the hull, where the outer half edge h starts, and none of its edges can be flipped so
+  pub record IsCorner (m : Mesh Point DE UE F) (v h : ℕ) : Type 0 where
+    pub outside : StartsOutside m v h
+    pub hull : HasHull m
+    pub none : HasNoneToTurn m v
+
+  -- the corner where the outer half edge h starts lies between its two neighbors on the hull
+  abbrev pub LiesFlat : Mesh Point DE UE F → ℕ → Type 0
+  LiesFlat m h = IsOnLine m (point_at m (end_of m.shape (ccw_of m.shape h))) h
+
+  -- the vertex where h starts is cut off, and the result says what is given up with it
+  pub record IsCutOff {A : Type 0} (old new : Mesh Point DE UE F) (h : ℕ) (opened : IsolateVertexResult A) : Type 0 where
+    pub mesh : IsMesh new
+    pub is : new ≡ strip_cut old (strip_of old.shape h)
+    pub answer : HasOpened (strip_edges old.shape (strip_of old.shape h)) (strip_faces old.shape (strip_of old.shape h)) [] 0 opened
+
+  -- a triangle is left once all is taken out that was given up, and the outer face is a convex hull
+  pub record HasOutline (m : Mesh Point DE UE F) : Type 0 where
+    pub inner : 1 < face_count (cleaned_up m).shape
+    pub convex : IsConvex (point_at m) m.shape
+    pub hull : IsHull (point_at m) m.shape
+
+  -- no triangle is left, and the rest is a line
+  pub record IsStrung (m : Mesh Point DE UE F) : Type 0 where
+    pub none : (h : ℕ) → IsLive m.shape h → face_of m.shape h ≡ 0
+    pub straight : IsStraight (point_at m) m.shape
+
+  -- v is given up, with edges and faces of the numbers that Euler's formula wants, and what is left lies in the plane with its hull, or on a line
   pub record IsGivenUp {A : Type 0} (old new : Mesh Point DE UE F) (v : ℕ) (due : List ℕ) (opened : IsolateVertexResult A) : Type 0 where
     pub mesh : IsMesh new
     pub vertices : new.shape.vertices ≡ old.shape.vertices
@@ -68,9 +99,7 @@ module _ {DE UE F : Type 0} where
     pub triangles : AllTriangles new.shape
     pub plane : IsPlane (point_at new) new.shape
     pub listed : ListsCircled (point_at new) new.shape due
-    pub some : (h : ℕ) × IsLive new.shape h × (0 < face_of new.shape h)
-    pub convex : IsConvex (point_at new) new.shape
-    pub hull : IsHull (point_at new) new.shape
+    pub left : HasOutline new ⊎ IsStrung new
 
   -- the vertex v is gone, the last one has its number, and each other one stands where it stood
   pub record Loses (old new : Mesh Point DE UE F) (v : ℕ) (removed : Removed) : Type 0 where
@@ -80,28 +109,13 @@ module _ {DE UE F : Type 0} where
     pub renamed : removed.moved ≡ cond (v == old.shape.vertices - 1) None (Some (old.shape.vertices - 1))
     pub others : (w : ℕ) → w < old.shape.vertices → w ≢ v → point_at new (moved (old.shape.vertices - 1) v w) ≡ point_at old w
 
-  -- a vertex inside may stay: there are too many points only if no numbers are left for what fills its place, and without memory edges may have
-  -- been flipped, but no vertex is gone
+  -- a vertex may stay: there are too many points only if it lies inside of triangles and no numbers are left for what fills its place, and
+  -- without memory edges may have been flipped, but no vertex is gone
   abbrev pub MayKeep : Mesh Point DE UE F → Mesh Point DE UE F → ℕ → RemovalError → Type 0
   MayKeep old new v NoVertex = ⊥
-  MayKeep old new v NotInside = ⊥
-  MayKeep old new v TooManyPoints = ¬ HasRoom old.shape 0 1 2 × (new ≡ old)
+  MayKeep old new v TooManyPoints = IsInside old.shape v × ¬ HasRoom old.shape 0 1 2 × (new ≡ old)
   MayKeep old new v OutOfMemory = Keeps old new
   MayKeep old new v (Unfinished removed) = Loses old new v removed
-
-  -- why a vertex isn't removed, whatever memory there is: there is none, or it stands on the hull, or all stand on one line
-  abbrev pub IsRefused : Mesh Point DE UE F → ℕ → RemovalError → Type 0
-  IsRefused m v NoVertex = ¬ (v < m.shape.vertices)
-  IsRefused m v NotInside = (face_count m.shape ≡ 1) ⊎ ((h : ℕ) × StartsOutside m v h)
-  IsRefused m v TooManyPoints = ⊥
-  IsRefused m v OutOfMemory = ⊥
-  IsRefused m v (Unfinished removed) = ⊥
-
-  -- none of these is so
-  pub record LiesInside (m : Mesh Point DE UE F) (v : ℕ) : Type 0 where
-    pub within : v < m.shape.vertices
-    pub inner : face_count m.shape ≢ 1
-    pub none_outside : (h : ℕ) → ¬ StartsOutside m v h
 
   -- the vertices are as they were, and so is the mesh of a whole triangulation
   abbrev pub IsAsItWas : Type 0 → Mesh Point DE UE F → Mesh Point DE UE F → Type 0
@@ -109,8 +123,7 @@ module _ {DE UE F : Type 0} where
 
   -- why the vertex v stands still, with all others; or it is gone, and not all is done that belongs to it
   abbrev pub IsKept : Type 0 → Mesh Point DE UE F → Mesh Point DE UE F → ℕ → RemovalError → Type 0
-  IsKept Whole old new v NoVertex = IsRefused new v NoVertex × IsAsItWas Whole old new
-  IsKept Whole old new v NotInside = IsRefused new v NotInside × IsAsItWas Whole old new
-  IsKept Whole old new v TooManyPoints = ¬ HasRoom new.shape 0 1 2 × IsAsItWas Whole old new
+  IsKept Whole old new v NoVertex = ¬ (v < new.shape.vertices) × IsAsItWas Whole old new
+  IsKept Whole old new v TooManyPoints = IsInside new.shape v × ¬ HasRoom new.shape 0 1 2 × IsAsItWas Whole old new
   IsKept Whole old new v OutOfMemory = new.vertex_data ≡ old.vertex_data
   IsKept Whole old new v (Unfinished removed) = Loses old new v removed

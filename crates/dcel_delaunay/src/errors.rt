@@ -39,10 +39,8 @@ pub enum RemovalError {
     /// There is no vertex of this number.
     #[error("there is no such vertex")]
     NoVertex,
-    /// The vertex stands on the hull, or all vertices stand on one line.
-    #[error("the vertex does not lie inside of triangles")]
-    NotInside,
-    /// There are no numbers left for the edge and the triangles that take its place.
+    /// The vertex lies inside of triangles, and there are no numbers left for the edge and the
+    /// triangles that take its place.
     #[error("there are too many points")]
     TooManyPoints,
     /// There was no memory. The vertex stands; edges may have been flipped, and the next insertion or

@@ -12,12 +12,14 @@
 mod bulk;
 mod closing;
 mod curve;
+mod cutting;
 mod errors;
 mod extending;
 mod filling;
 mod inserting;
 mod legalizing;
 mod line;
+mod line_removing;
 mod locating;
 mod mesh;
 mod nearest;

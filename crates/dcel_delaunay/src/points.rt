@@ -16,12 +16,13 @@ use crate::closing::close_hull;
 use crate::errors::{InsertionError, RemovalError};
 use crate::inserting::insert_at;
 use crate::legalizing::legalize;
+use crate::line_removing::remove_from_line;
 use crate::locating::locate;
 use crate::mesh::Mesh;
 use crate::nearest::nearest;
 use crate::position::PositionInTriangulation;
 use crate::removed::Removed;
-use crate::removing::{refusal, remove_inside};
+use crate::removing::remove_from_triangles;
 use crate::triangulation::Triangulation;
 use dcel_predicates::Point;
 use spade_dcel::handles::{FixedDirectedEdgeHandle, FixedVertexHandle};
@@ -171,11 +172,11 @@ impl<A: Allocator> Triangulation<A> {
 }
 
 impl<A: Allocator + Clone> Triangulation<A> {
-    /// Removes a vertex that lies inside of triangles, and tells where it stood.
+    /// Removes a vertex, and tells where it stood.
     ///
     /// The last vertex gets its number, which the result tells; all others keep theirs. The
-    /// triangulation is then one of the points that are left. A vertex of the hull is refused
-    /// ([`NotInside`](RemovalError::NotInside)), and so is each one while all points stand on one line.
+    /// triangulation is then one of the points that are left, a line if they all stand on one, and of
+    /// none after the last.
     ///
     /// If memory runs out before the vertex is gone, it stays, and if it runs out afterwards, the
     /// result is [`Unfinished`](RemovalError::Unfinished); then the next insertion or removal, or
@@ -190,9 +191,12 @@ impl<A: Allocator + Clone> Triangulation<A> {
             return Err(RemovalError::OutOfMemory);
         };
         every_mesh(&self.dcel);
-        if let Some(why) = refusal(&self.dcel, vertex) {
-            return Err(why);
+        if vertex.index() >= self.dcel.num_vertices() {
+            return Err(RemovalError::NoVertex);
         }
-        remove_inside(&mut self.dcel, &mut self.due, vertex)
+        if self.dcel.num_faces() == 1 {
+            return Ok(remove_from_line(&mut self.dcel, vertex));
+        }
+        remove_from_triangles(&mut self.dcel, &mut self.due, vertex)
     }
 }

@@ -1,11 +1,14 @@
-//! A vertex removed, with all that has to follow: its place filled with triangles, and edges flipped.
+//! A vertex of triangles removed, with all that has to follow: its place filled or left to the outer
+//! face, and edges flipped.
 
-ghost use Rattle.std.specs.Prelude.{◌≡◌, ◌<◌, [], IfErr, IfNone, IfOk, IfSome, OnErr, OnOk};
+ghost use Rattle.std.specs.Prelude.{◌≡◌, ◌⊎◌, ◌<◌, [], IfErr, IfOk, OnErr, OnOk};
 ghost use Rattle.dcel_maps.specs.Conditions.{HasRoom};
-ghost use Rattle.dcel_delaunay.specs.Growing.{HasHull, IsSound, Keeps};
-ghost use Rattle.dcel_delaunay.specs.Removing.{IsInside, IsRefused, LiesInside, Loses, MayKeep};
+ghost use Rattle.dcel_delaunay.specs.Corners.{StartsOutside};
+ghost use Rattle.dcel_delaunay.specs.Growing.{HasHull, IsFlat, IsSound, Keeps};
+ghost use Rattle.dcel_delaunay.specs.Removing.{IsInside, Loses, MayKeep};
 
 use crate::closing::outside_of;
+use crate::cutting::cut_off;
 use crate::errors::RemovalError;
 use crate::filling::fill;
 use crate::legalizing::legalize;
@@ -14,12 +17,55 @@ use crate::placing::Due;
 use crate::removed::Removed;
 use crate::taking_out::take_out;
 use crate::thinning::thin_out;
-use spade_dcel::handles::FixedVertexHandle;
+use spade_dcel::handles::{FixedDirectedEdgeHandle, FixedVertexHandle};
 use spade_dcel::laws::every_mesh;
 use std::alloc::{AllocError, Allocator};
 
+/// Removes a vertex of triangles, inside of them or on the hull.
+pub(crate) fn remove_from_triangles<A: Allocator + Clone, L: Allocator>(
+    dcel: &mut Mesh<A>,
+    due: &mut Due<L>,
+    vertex: FixedVertexHandle,
+) -> Result<Removed, RemovalError>
+    requires sound { IsSound dcel.old due.old.items }
+    requires hull { HasHull dcel.old }
+    requires vertex { vertex < dcel.old.shape.vertices }
+    ensures loses { IfOk result (Loses dcel.old dcel.new vertex) }
+    ensures refused { IfErr result (MayKeep dcel.old dcel.new vertex) }
+    ensures sound { IsSound dcel.new due.new.items }
+    ensures hull { IsFlat dcel.new ⊎ HasHull dcel.new }
+    ensures done { OnOk result (due.new.items ≡ []) }
+{
+    match outside_of(dcel, vertex) {
+        Some(outside) => remove_corner(dcel, due, outside, vertex),
+        None => remove_inside(dcel, due, vertex),
+    }
+}
+
+/// Removes a vertex on the hull, where an outer half edge starts.
+fn remove_corner<A: Allocator + Clone, L: Allocator>(
+    dcel: &mut Mesh<A>,
+    due: &mut Due<L>,
+    outside: FixedDirectedEdgeHandle,
+    vertex: FixedVertexHandle,
+) -> Result<Removed, RemovalError>
+    requires sound { IsSound dcel.old due.old.items }
+    requires hull { HasHull dcel.old }
+    requires outside { StartsOutside dcel.old vertex outside }
+    ensures loses { IfOk result (Loses dcel.old dcel.new vertex) }
+    ensures refused { IfErr result (MayKeep dcel.old dcel.new vertex) }
+    ensures sound { IsSound dcel.new due.new.items }
+    ensures hull { IsFlat dcel.new ⊎ HasHull dcel.new }
+    ensures done { OnOk result (due.new.items ≡ []) }
+{
+    let Ok(removed) = cut_out_corner(dcel, due, outside, vertex) else {
+        return Err(RemovalError::OutOfMemory);
+    };
+    settled(dcel, due, removed)
+}
+
 /// Removes a vertex that lies inside of triangles.
-pub(crate) fn remove_inside<A: Allocator + Clone, L: Allocator>(
+fn remove_inside<A: Allocator + Clone, L: Allocator>(
     dcel: &mut Mesh<A>,
     due: &mut Due<L>,
     vertex: FixedVertexHandle,
@@ -31,7 +77,7 @@ pub(crate) fn remove_inside<A: Allocator + Clone, L: Allocator>(
     ensures loses { IfOk result (Loses dcel.old dcel.new vertex) }
     ensures refused { IfErr result (MayKeep dcel.old dcel.new vertex) }
     ensures sound { IsSound dcel.new due.new.items }
-    ensures hull { HasHull dcel.new }
+    ensures hull { IsFlat dcel.new ⊎ HasHull dcel.new }
     ensures done { OnOk result (due.new.items ≡ []) }
 {
     if !dcel.has_room(0, 1, 2) {
@@ -43,27 +89,6 @@ pub(crate) fn remove_inside<A: Allocator + Clone, L: Allocator>(
     settled(dcel, due, removed)
 }
 
-/// Returns why a vertex isn't removed, whatever memory there is, if it doesn't lie inside of
-/// triangles.
-pub(crate) fn refusal<A: Allocator>(
-    dcel: &Mesh<A>,
-    vertex: FixedVertexHandle,
-) -> Option<RemovalError>
-    ensures some { IfSome result (IsRefused dcel.now vertex) }
-    ensures none { IfNone result (LiesInside dcel.now vertex) }
-{
-    if vertex.index() >= dcel.num_vertices() {
-        return Some(RemovalError::NoVertex);
-    }
-    if dcel.num_faces() == 1 {
-        return Some(RemovalError::NotInside);
-    }
-    if let Some(_) = outside_of(dcel, vertex) {
-        return Some(RemovalError::NotInside);
-    }
-    None
-}
-
 /// Flips edges, beginning with those listed, and returns the vertex that was removed.
 fn settled<A: Allocator, L: Allocator>(
     dcel: &mut Mesh<A>,
@@ -71,12 +96,12 @@ fn settled<A: Allocator, L: Allocator>(
     removed: Removed,
 ) -> Result<Removed, RemovalError>
     requires sound { IsSound dcel.old due.old.items }
-    requires hull { HasHull dcel.old }
+    requires hull { IsFlat dcel.old ⊎ HasHull dcel.old }
     ensures keeps { Keeps dcel.old dcel.new }
     ensures same { IfOk result (λ r. r ≡ removed) }
     ensures unfinished { IfErr result (λ e. e ≡ RemovalError.Unfinished removed) }
     ensures sound { IsSound dcel.new due.new.items }
-    ensures hull { HasHull dcel.new }
+    ensures hull { IsFlat dcel.new ⊎ HasHull dcel.new }
     ensures done { OnOk result (due.new.items ≡ []) }
 {
     let Ok(()) = legalize(dcel, due) else {
@@ -101,10 +126,34 @@ fn cut_out<A: Allocator + Clone, L: Allocator>(
     ensures loses { IfOk result (Loses dcel.old dcel.new vertex) }
     ensures keeps { OnErr result (Keeps dcel.old dcel.new) }
     ensures sound { IsSound dcel.new due.new.items }
-    ensures hull { HasHull dcel.new }
+    ensures hull { IsFlat dcel.new ⊎ HasHull dcel.new }
 {
     every_mesh(dcel);
     thin_out(dcel, due, vertex)?;
     let mut opened = fill(dcel, due, vertex)?;
+    Ok(take_out(dcel, due, &mut opened, vertex))
+}
+
+/// Flips edges of a vertex on the hull until none can be flipped, cuts it off with its triangles, and
+/// takes it out.
+///
+/// If memory runs out, the vertex stays, and edges may have been flipped.
+fn cut_out_corner<A: Allocator + Clone, L: Allocator>(
+    dcel: &mut Mesh<A>,
+    due: &mut Due<L>,
+    outside: FixedDirectedEdgeHandle,
+    vertex: FixedVertexHandle,
+) -> Result<Removed, AllocError>
+    requires sound { IsSound dcel.old due.old.items }
+    requires hull { HasHull dcel.old }
+    requires outside { StartsOutside dcel.old vertex outside }
+    ensures loses { IfOk result (Loses dcel.old dcel.new vertex) }
+    ensures keeps { OnErr result (Keeps dcel.old dcel.new) }
+    ensures sound { IsSound dcel.new due.new.items }
+    ensures hull { IsFlat dcel.new ⊎ HasHull dcel.new }
+{
+    every_mesh(dcel);
+    thin_out(dcel, due, vertex)?;
+    let mut opened = cut_off(dcel, due, outside, vertex)?;
     Ok(take_out(dcel, due, &mut opened, vertex))
 }

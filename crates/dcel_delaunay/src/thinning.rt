@@ -4,6 +4,7 @@ ghost use Rattle.std.specs.Prelude.{◌≡◌, ◌↔◌, ◌<◌, ◌≤◌, �
 ghost use Rattle.dcel_maps.specs.Shapes.{IsMesh};
 ghost use Rattle.dcel_plane.specs.Plane.{TurnsLeft, point_at};
 ghost use Rattle.dcel_hollows.specs.Wheels.{CanTurn};
+ghost use Rattle.dcel_delaunay.specs.Corners.{StartsOutside};
 ghost use Rattle.dcel_delaunay.specs.Growing.{HasHull, IsSound, Keeps};
 ghost use Rattle.dcel_delaunay.specs.Removing.{HasNoneToTurn, IsInside, IsTurnable};
 
@@ -33,6 +34,7 @@ pub(crate) fn thin_out<A: Allocator, L: Allocator>(
     ensures sound { IsSound dcel.new due.new.items }
     ensures hull { HasHull dcel.new }
     ensures inside { IsInside dcel.old.shape vertex → IsInside dcel.new.shape vertex }
+    ensures outside { (h : ℕ) → StartsOutside dcel.old vertex h → StartsOutside dcel.new vertex h }
     ensures done { OnOk result (HasNoneToTurn dcel.new vertex) }
     ensures mesh { IsMesh dcel.new }
 {

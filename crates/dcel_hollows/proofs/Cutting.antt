@@ -110,7 +110,7 @@ module _ {V DE UE F : Type 0} (m : Mesh V DE UE F) (mesh : IsMesh m) (triangles 
   abbrev p : ℕ → Point
   p k = at (origin_of s k)
 
-  abbrev spin : ℕ → ℕ
+  abbrev pub spin : ℕ → ℕ
   spin i = turns (ccw_of m.shape) i h
 
   abbrev neighbor : ℕ → Point
@@ -240,14 +240,14 @@ module _ {V DE UE F : Type 0} (m : Mesh V DE UE F) (mesh : IsMesh m) (triangles 
           omega (arith, ordered, c, d))
 
   -- the side after a half edge from the corner
-  record SideOf (x : ℕ) : Type 0 where
-    i : ℕ
-    below : i < k
-    comes : x ≡ next_of s (spin (suc i))
-    start : origin_of s x ≡ end_of s (spin (suc i))
-    end : end_of s x ≡ end_of s (spin (suc (suc i)))
+  pub record SideOf (x : ℕ) : Type 0 where
+    pub i : ℕ
+    pub below : i < k
+    pub comes : x ≡ next_of s (spin (suc i))
+    pub start : origin_of s x ≡ end_of s (spin (suc i))
+    pub end : end_of s x ≡ end_of s (spin (suc (suc i)))
 
-  side_of : (x a : ℕ) → IsLive s a → origin_of s a ≡ o → 0 < face_of s a → next_of s a ≡ x → SideOf x
+  pub side_of : (x a : ℕ) → IsLive s a → origin_of s a ≡ o → 0 < face_of s a → next_of s a ≡ x → SideOf x
   side_of x a live_a from_a inner_a is =
       let found : 0 < count_of a w = (let c = lists.each a (record { live = live_a; start = from_a }) in omega (arith, c)) in
       let found' : 0 < count_of a (h ∷ trip.rest) = subst (λ (l : List ℕ). 0 < count_of a l) trip.from found in
@@ -270,7 +270,7 @@ module _ {V DE UE F : Type 0} (m : Mesh V DE UE F) (mesh : IsMesh m) (triangles 
           }
 
   -- two neighbors that differ stand at different points
-  neighbors_apart : (i d : ℕ) → i + suc d ≤ k → pos 0 <ℤ orient2d_of (at o) (neighbor i) (neighbor (i + suc d))
+  pub neighbors_apart : (i d : ℕ) → i + suc d ≤ k → pos 0 <ℤ orient2d_of (at o) (neighbor i) (neighbor (i + suc d))
   neighbors_apart i d within =
       let left = (corner_fan m mesh triangles at plane convex hull h live outer w trip).left in
       let w' = λ (n : ℕ). neighbor (i + n) in

@@ -16,5 +16,13 @@ pub mod HullCorners
 pub mod Hollows
 pub mod Cutting
 pub mod Flat
+pub mod Stripping
+pub mod Chains
+pub mod Strung
 pub mod Strips
 pub mod FlatFlips
+pub mod FlippedInside
+pub mod Flattened
+pub mod Shortened
+pub mod PathShortened
+pub mod LinePaths

@@ -1,5 +1,5 @@
 -- A mesh whose elements have other numbers lies in the plane as it did, with the same hull.
-use Rattle.std.proofs.Common.{◌≡◌, inl, inr, ℕ, ◌+◌, ◌-◌, ◌*◌, ◌/◌, ◌%◌, ◌<◌, true, List, [], ◌∷◌, length, map, slice_index, refl, sym, ap, ◌∙◌, subst, pos, ◌≤ℤ◌, eq-zero-or-pos, arith}
+use Rattle.std.proofs.Common.{◌≡◌, inl, inr, ℕ, ◌+◌, ◌-◌, ◌*◌, ◌/◌, ◌%◌, ◌<◌, true, List, [], ◌∷◌, length, map, slice_index, refl, sym, ap, ◌∙◌, subst, pos, ◌<ℤ◌, ◌≤ℤ◌, eq-zero-or-pos, arith}
 use Rattle.std.proofs.lemmas.List.{length-map}
 use Rattle.dcel_fixed.specs.HalfEdges.{rev}
 use Rattle.dcel_fixed.proofs.Halves.{rev-double}
@@ -27,7 +27,8 @@ use Rattle.dcel_maps.proofs.words.Renames.{IsCycle-map}
 use Rattle.dcel_maps.proofs.words.Turns.{IsCycle-turn, count-turn, from_least-turn, length-turn}
 use Rattle.dcel_plane.specs.Plane.{IsCircled, IsInner, IsPlane, ListsCircled, TurnsLeft, origin_point}
 use Rattle.dcel_plane.proofs.Corners.{left-from_least}
-use Rattle.dcel_covering.specs.Covering.{IsConvex, IsHull, apart_along}
+use Rattle.dcel_covering.specs.Covering.{HasDistinctPoints, IsConvex, IsHull, apart_along}
+use Rattle.dcel_hulls.specs.Straight.{IsStraight, beyond}
 use Rattle.dcel_hollows.proofs.Listing.{circle_at}
 
 three_items : (w : List ℕ) → length w ≡ 3 → (a : ℕ) × (b : ℕ) × (c : ℕ) × (w ≡ a ∷ b ∷ c ∷ [])
@@ -36,6 +37,11 @@ three_items (a ∷ []) e = absurd (omega (arith, e))
 three_items (a ∷ b ∷ []) e = absurd (omega (arith, e))
 three_items (a ∷ b ∷ c ∷ []) e = (a, b, c, refl)
 three_items (a ∷ b ∷ c ∷ d ∷ r) e = absurd (omega (arith, e))
+
+-- three points by other names
+three_points : (P : Point → Point → Point → Type 0) → {a b c x y z : Point} → a ≡ x → b ≡ y → c ≡ z → P a b c → P x y z
+three_points P {a} {b} {c} {x} {y} {z} ea eb ec holds =
+    subst (λ (q : Point). P x y q) ec (subst (λ (q : Point). P x q c) eb (subst (λ (q : Point). P q b c) ea holds))
 
 module _ {V DE UE F : Type 0} (m t : Mesh V DE UE F) (mesh : IsMesh m) (result : IsMesh t) (half vertex face : ℕ → ℕ) (leaves : LeavesLive m t half vertex face)
     (apart : (h k : ℕ) → IsLive m.shape h → IsLive m.shape k → half h ≡ half k → h ≡ k) (faces_apart : (f : ℕ) → face_is_live m.shape f ≡ true → face f ≡ 0 → f ≡ 0)
@@ -127,20 +133,23 @@ module _ {V DE UE F : Type 0} (m t : Mesh V DE UE F) (mesh : IsMesh m) (result :
     between = λ h k live on live_k. (both convex h k live on live_k).1;
   }
 
-  one_start : IsHull at s → (i j : ℕ) → IsLive s i → IsLive s j → (after (origin_of n (half i))).x ≡ (after (origin_of n (half j))).x
+  one_start : HasDistinctPoints at s → (i j : ℕ) → IsLive s i → IsLive s j → (after (origin_of n (half i))).x ≡ (after (origin_of n (half j))).x
       → (after (origin_of n (half i))).y ≡ (after (origin_of n (half j))).y → origin_of s i ≡ origin_of s j
-  one_start hull i j live_i live_j ex ey =
-      hull.distinct i j live_i live_j (sym (ap (λ (q : Point). q.x) (stands_at i live_i)) ∙ ex ∙ ap (λ (q : Point). q.x) (stands_at j live_j))
+  one_start distinct i j live_i live_j ex ey =
+      distinct i j live_i live_j (sym (ap (λ (q : Point). q.x) (stands_at i live_i)) ∙ ex ∙ ap (λ (q : Point). q.x) (stands_at j live_j))
       (sym (ap (λ (q : Point). q.y) (stands_at i live_i)) ∙ ey ∙ ap (λ (q : Point). q.y) (stands_at j live_j))
+
+  distinct_after : HasDistinctPoints at s → HasDistinctPoints after n
+  distinct_after distinct h k live_h live_k =
+      let (i, live_i, is) = leaves.each_half_edge h live_h in
+      let (j, live_j, is_j) = leaves.each_half_edge k live_k in
+      subst (λ (l : ℕ). (after (origin_of n l)).x ≡ (after (origin_of n k)).x → (after (origin_of n l)).y ≡ (after (origin_of n k)).y → origin_of n l ≡ origin_of n k) is
+      (subst (λ (l : ℕ). (after (origin_of n (half i))).x ≡ (after (origin_of n l)).x → (after (origin_of n (half i))).y ≡ (after (origin_of n l)).y → origin_of n (half i) ≡ origin_of n l) is_j
+      (λ ex ey. leaves.origin i live_i ∙ ap vertex (one_start distinct i j live_i live_j ex ey) ∙ sym (leaves.origin j live_j)))
 
   pub renumbered_hull : IsHull at s → IsHull after n
   renumbered_hull hull = record {
-    distinct = λ h k live_h live_k.
-        let (i, live_i, is) = leaves.each_half_edge h live_h in
-        let (j, live_j, is_j) = leaves.each_half_edge k live_k in
-        subst (λ (l : ℕ). (after (origin_of n l)).x ≡ (after (origin_of n k)).x → (after (origin_of n l)).y ≡ (after (origin_of n k)).y → origin_of n l ≡ origin_of n k) is
-        (subst (λ (l : ℕ). (after (origin_of n (half i))).x ≡ (after (origin_of n l)).x → (after (origin_of n (half i))).y ≡ (after (origin_of n l)).y → origin_of n (half i) ≡ origin_of n l) is_j
-        (λ ex ey. leaves.origin i live_i ∙ ap vertex (one_start hull i j live_i live_j ex ey) ∙ sym (leaves.origin j live_j)));
+    distinct = distinct_after hull.distinct;
     once = λ h k live_h live_k on_h on_k from.
         let (i, live_i, is) = leaves.each_half_edge h live_h in
         let (j, live_j, is_j) = leaves.each_half_edge k live_k in
@@ -148,8 +157,50 @@ module _ {V DE UE F : Type 0} (m t : Mesh V DE UE F) (mesh : IsMesh m) (result :
         sym is
         ∙ ap half
         (hull.once i j live_i live_j (was_outer i live_i (ap (face_of n) is ∙ on_h)) (was_outer j live_j (ap (face_of n) is_j ∙ on_k))
-        (one_start hull i j live_i live_j (ap (λ (q : Point). q.x) at_one) (ap (λ (q : Point). q.y) at_one)))
+        (one_start hull.distinct i j live_i live_j (ap (λ (q : Point). q.x) at_one) (ap (λ (q : Point). q.y) at_one)))
         ∙ is_j;
+  }
+
+  -- a line too
+  stands_there : (i h : ℕ) → IsLive s i → half i ≡ h → at (origin_of s i) ≡ after (origin_of n h)
+  stands_there i h live is = sym (stands_at i live) ∙ ap (λ k. after (origin_of n k)) is
+
+  ends_there : (i h : ℕ) → IsLive s i → half i ≡ h → at (end_of s i) ≡ after (end_of n h)
+  ends_there i h live is = sym (ends_at i live) ∙ ap (λ k. after (end_of n k)) is
+
+  told_of : (P : Point → Point → Point → Type 0) → ((i j : ℕ) → IsLive s i → IsLive s j → P (at (origin_of s i)) (at (end_of s i)) (at (origin_of s j)))
+      → (h k : ℕ) → IsLive n h → IsLive n k → P (after (origin_of n h)) (after (end_of n h)) (after (origin_of n k))
+  told_of P told h k live_h live_k =
+      let (i, live_i, is) = leaves.each_half_edge h live_h in
+      let (j, live_j, is_j) = leaves.each_half_edge k live_k in
+      three_points P (stands_there i h live_i is) (ends_there i h live_i is) (stands_there j k live_j is_j) (told i j live_i live_j)
+
+  pub renumbered_straight : IsStraight at s → IsStraight after n
+  renumbered_straight straight = record {
+    distinct = distinct_after straight.distinct;
+    line = told_of (λ a b c. orient2d_of a b c ≡ pos 0) straight.line;
+    between = told_of (λ a b c. pos 0 ≤ℤ apart_along a b c) straight.between;
+    once = λ h k live_h live_k same near.
+        let (i, live_i, is) = leaves.each_half_edge h live_h in
+        let (j, live_j, is_j) = leaves.each_half_edge k live_k in
+        let at_one : after (origin_of n (half i)) ≡ after (origin_of n (half j)) = ap after (ap (origin_of n) is ∙ same ∙ sym (ap (origin_of n) is_j)) in
+        sym is
+        ∙ ap half
+        (straight.once i j live_i live_j (one_start straight.distinct i j live_i live_j (ap (λ (q : Point). q.x) at_one) (ap (λ (q : Point). q.y) at_one))
+        (three_points (λ a b c. pos 0 <ℤ apart_along a b c) (sym (ends_there i h live_i is)) (sym (ends_there j k live_j is_j)) (sym (stands_there i h live_i is)) near))
+        ∙ is_j;
+    onward = λ h k live_h live_k more.
+        let (i, live_i, is) = leaves.each_half_edge h live_h in
+        let (j, live_j, is_j) = leaves.each_half_edge k live_k in
+        let (g, live_g, starts, more_g) = straight.onward i j live_i live_j
+        (three_points (λ a b c. pos 0 <ℤ beyond a b c) (sym (stands_there i h live_i is)) (sym (ends_there i h live_i is)) (sym (stands_there j k live_j is_j)) more) in
+        let ends : end_of n h ≡ vertex (end_of s i) =
+        ap (end_of n) (sym is) ∙ ap (origin_of n) (leaves.turn i) ∙ leaves.origin (rev i) (rev_live (map_of s) i live_i) in (
+          half g,
+          leaves.half_edge g live_g,
+          leaves.origin g live_g ∙ ap vertex starts ∙ sym ends,
+          three_points (λ a b c. pos 0 <ℤ beyond a b c) (stands_there i h live_i is) (ends_there i h live_i is) (ends_there g (half g) live_g refl) more_g,
+        );
   }
 
   -- on which face it lies
@@ -200,6 +251,12 @@ module _ {V DE UE F : Type 0} (m t : Mesh V DE UE F) (mesh : IsMesh m) (result :
     | inr more ↦ more
     | inl none ↦ absurd (let o = leaves.outer in let e = ap face none in let f = face_at h live in omega (arith, o, e, f, inside))
   ]
+
+  -- an inner half edge was one
+  pub was_inner : (k : ℕ) → IsLive n k → 0 < face_of n k → (h : ℕ) × IsLive s h × (0 < face_of s h)
+  was_inner k live inside =
+      let (h, live_h, is) = leaves.each_half_edge k live in
+      (h, live_h, inner_at h live_h (subst (λ (j : ℕ). 0 < face_of n j) (sym is) inside))
 
   corner_at : (h : ℕ) → IsLive s h → after (origin_of n (prev_of n (half h))) ≡ at (origin_of s (prev_of s h))
   corner_at h live = ap (λ k. after (origin_of n k)) (before_at h live) ∙ stands_at (prev_of s h) (prev-live mesh.sound h live)
@@ -254,7 +311,7 @@ module _ {V DE UE F : Type 0} (m : Mesh V DE UE F) (mesh : IsMesh m) where
       let places = (numbered m mesh).edges in
       sym (places u live_u) ∙ ap (slice_index (renumbered m.shape.edges (edges_down m.shape.removal))) same ∙ places w live_w
 
-  one_half : (h k : ℕ) → IsLive m.shape h → IsLive m.shape k → new_half m.shape h ≡ new_half m.shape k → h ≡ k
+  pub one_half : (h k : ℕ) → IsLive m.shape h → IsLive m.shape k → new_half m.shape h ≡ new_half m.shape k → h ≡ k
   unfolding half_of
   one_half h k live_h live_k same =
       let e : 2 * new_edge m.shape (h / 2) + h % 2 ≡ 2 * new_edge m.shape (k / 2) + k % 2 = same in
@@ -317,3 +374,27 @@ module _ {V DE UE F : Type 0} (m : Mesh V DE UE F) (mesh : IsMesh m) where
     renumbered_convex m (vertex_taken_out m d) mesh result (λ h. h) (moved (m.shape.vertices - 1) d) (λ f. f) (vertex_leaves_live m mesh d given) (λ h k live_h live_k is. is) (λ f live is. is) at after same,
     renumbered_hull m (vertex_taken_out m d) mesh result (λ h. h) (moved (m.shape.vertices - 1) d) (λ f. f) (vertex_leaves_live m mesh d given) (λ h k live_h live_k is. is) (λ f live is. is) at after same,
   )
+
+  pub cleanup_straight : (at : ℕ → Point) → IsMesh (cleaned_up m) → IsStraight at m.shape → IsStraight at (cleaned_up m).shape
+  cleanup_straight at result =
+      renumbered_straight m (cleaned_up m) mesh result (new_half m.shape) (λ v. v) (new_face m.shape) (leaves_live m mesh) one_half outer_face at at (λ v live. refl)
+
+  pub taken_out_straight : (at after : ℕ → Point) (d : ℕ) → m.shape.removal ≡ Cleaned d → IsMesh (vertex_taken_out m d)
+      → ((v : ℕ) → vertex_is_live m.shape v ≡ true → after (moved (m.shape.vertices - 1) d v) ≡ at v)
+      → IsStraight at m.shape → IsStraight after (vertex_taken_out m d).shape
+  taken_out_straight at after d given result same =
+      renumbered_straight m (vertex_taken_out m d) mesh result (λ h. h) (moved (m.shape.vertices - 1) d) (λ f. f) (vertex_leaves_live m mesh d given)
+      (λ h k live_h live_k is. is) (λ f live is. is) at after same
+
+  pub cleanup_was_inner : IsMesh (cleaned_up m) → (k : ℕ) → IsLive (cleaned_up m).shape k → 0 < face_of (cleaned_up m).shape k
+      → (h : ℕ) × IsLive m.shape h × (0 < face_of m.shape h)
+  cleanup_was_inner result =
+      let at : ℕ → Point = λ v. origin_point in
+      was_inner m (cleaned_up m) mesh result (new_half m.shape) (λ v. v) (new_face m.shape) (leaves_live m mesh) one_half outer_face at at (λ v live. refl)
+
+  pub taken_out_was_inner : (d : ℕ) → m.shape.removal ≡ Cleaned d → IsMesh (vertex_taken_out m d) → (k : ℕ) → IsLive (vertex_taken_out m d).shape k
+      → 0 < face_of (vertex_taken_out m d).shape k → (h : ℕ) × IsLive m.shape h × (0 < face_of m.shape h)
+  taken_out_was_inner d given result =
+      let at : ℕ → Point = λ v. origin_point in
+      was_inner m (vertex_taken_out m d) mesh result (λ h. h) (moved (m.shape.vertices - 1) d) (λ f. f) (vertex_leaves_live m mesh d given)
+      (λ h k live_h live_k is. is) (λ f live is. is) at at (λ v live. refl)

@@ -1,5 +1,5 @@
 -- `disconnect_edge_strip` at a hollow corner of the hull: the mesh stays in the plane, and its hull is convex.
-use Rattle.std.proofs.Common.{◌≡◌, ◌≢◌, inl, inr, ℕ, suc, ◌+◌, ◌-◌, ◌*◌, ◌<◌, List, [], ◌∷◌, ◌++◌, length, map, slice_set, sym, ap, ◌∙◌, subst, eq-zero-or-pos, arith, pos}
+use Rattle.std.proofs.Common.{◌≡◌, ◌≢◌, inl, inr, ℕ, suc, ◌+◌, ◌-◌, ◌*◌, ◌<◌, List, [], ◌∷◌, ◌++◌, length, map, slice_set, refl, sym, ap, ◌∙◌, subst, eq-zero-or-pos, arith, pos}
 use Rattle.std.proofs.lemmas.Bool.{cases_Bool, cases_lt}
 use Rattle.dcel_fixed.specs.HalfEdges.{rev}
 use Rattle.dcel_fixed.proofs.Halves.{rev-rev}
@@ -9,7 +9,7 @@ use Rattle.dcel_maps.specs.Cyclic.{from_least}
 use Rattle.dcel_maps.specs.edits.Strip.{strip_cut, strip_record}
 use Rattle.dcel_maps.specs.Hiding.{kept_words}
 use Rattle.dcel_maps.specs.Removals.{Closed, Removal, gives_up_edge, gives_up_face, shown}
-use Rattle.dcel_maps.specs.Shapes.{IsLive, IsMesh, Mesh, Shape, end_of, face_of, map_of, next_of, origin_of, prev_of}
+use Rattle.dcel_maps.specs.Shapes.{IsLive, IsMesh, IsSound, Mesh, Shape, end_of, face_of, map_of, next_of, origin_of, prev_of}
 use Rattle.dcel_maps.specs.Strips.{IsEdgeStrip, IsStripAround}
 use Rattle.dcel_maps.specs.Triangulations.{AllTriangles}
 use Rattle.dcel_maps.specs.Walking.{IsOutEdge, ListsOnce, ccw_of, walk_of}
@@ -34,6 +34,9 @@ use Rattle.dcel_hollows.specs.Wheels.{IsHollow, IsPlaneBut, turns}
 use Rattle.dcel_hollows.proofs.Flat.{flat_convex, flat_hull}
 use Rattle.dcel_hollows.proofs.Listing.{Stays, stays, was_circled}
 use Rattle.dcel_hollows.proofs.Cutting.{IsCutOff, cut_convex, cut_hull}
+use Rattle.dcel_hollows.proofs.Stripping.{some_spoke}
+use Rattle.dcel_hollows.proofs.Strung.{strung}
+use Rattle.dcel_hulls.specs.Straight.{IsStraight}
 use Rattle.dcel_covering.proofs.Triangles.{round}
 
 module _ {V DE UE F : Type 0} (m : Mesh V DE UE F) (mesh : IsMesh m) (closed : m.shape.removal ≡ Closed) (v h : ℕ) (around : IsStripAround m.shape v h)
@@ -195,6 +198,55 @@ module _ {V DE UE F : Type 0} (m : Mesh V DE UE F) (mesh : IsMesh m) (closed : m
       (still_live g live_g one (λ e. two (sym end_g ∙ e))) (still_live (next_of s g) tri.live_y two (λ e. three (sym end_n ∙ e)))
       (still_live (prev_of s g) tri.live_z three (λ e. one (sym end_p ∙ e)))
 
+  -- an inner half edge of what is left was one, and so was its triangle
+  module _ (g : ℕ) (live : IsLive t g) (inside : 0 < face_of t g) where
+    sound_t : IsSound t
+    sound_t = cutting.cut-sound m.shape mesh.sound mesh.sphere v h around closed removal gives mesh.sized.outer y r outer
+
+    same_word : word_of t.words (face_of t g) ≡ word_of s.words (face_of t g)
+    same_word = elim (cases_Bool (gives_up_face removal (face_of t g))) [
+      | inl given ↦ absurd
+          (let none = ap (count_of g) (cutting.word-given m.shape mesh.sound mesh.sphere v h around closed removal gives mesh.sized.outer y r outer (face_of t g) given) in
+          let some = stands_in_face (map_of t) t.words (links_stand sound_t) g live in
+          omega (arith, none, some))
+      | inr kept ↦ cutting.word-kept m.shape mesh.sound mesh.sphere v h around closed removal gives mesh.sized.outer y r outer (face_of t g) (λ none. omega (arith, none, inside)) kept
+    ]
+
+    was_on : face_of s g ≡ face_of t g
+    was_on =
+        face_in_word (map_of s) s.words (links_stand mesh.sound) g (face_of t g)
+        (subst (λ (w : List ℕ). 0 < count_of g w) same_word (stands_in_face (map_of t) t.words (links_stand sound_t) g live))
+
+    -- what lies on its face is left
+    beside_off : (x : ℕ) → IsLive s x → face_of s x ≡ face_of s g → origin_of s x ≢ v
+    beside_off x live_x on at_v =
+        let in_word : 0 < count_of x (word_of t.words (face_of t g)) =
+        subst (λ (w : List ℕ). 0 < count_of x w) (sym same_word)
+        (subst (λ (f : ℕ). 0 < count_of x (word_of s.words f)) (on ∙ was_on) (stands_in_face (map_of s) s.words (links_stand mesh.sound) x live_x)) in
+        let live_t = live_in (map_of t) t.words (links_stand sound_t) x (face_of t g) in_word in
+        cut.none x live_t (cut.same x live_t ∙ at_v)
+
+    strip_outline : (at : ℕ → Point) → AllTriangles m.shape → IsPlane at s → IsConvex at s → IsHull at s
+        → IsHollow (at v) (λ i. at (end_of m.shape (turns (ccw_of m.shape) (suc i) h))) (length (walk_of m.shape (ccw_of m.shape) h) - 1) → IsHull at t
+    strip_outline at triangles plane convex hull hollow =
+        let was = cut.old g live in
+        let inner : 0 < face_of s g = subst (λ (f : ℕ). 0 < f) (sym was_on) inside in
+        let tri = round m mesh triangles g was inner in
+        strip_hull at triangles plane convex hull hollow g was inner (beside_off g was refl) (beside_off (next_of s g) tri.live_y tri.face_y)
+        (beside_off (prev_of s g) tri.live_z tri.face_z)
+
+  -- where nothing inner is left, the rest is a line
+  strip_strung : (at : ℕ → Point) → AllTriangles m.shape → IsPlane at s → IsConvex at s → IsHull at s
+      → IsHollow (at v) (λ i. at (end_of m.shape (turns (ccw_of m.shape) (suc i) h))) (length (walk_of m.shape (ccw_of m.shape) h) - 1)
+      → (g : ℕ) → IsLive s g → 0 < face_of s g → ((x : ℕ) → IsLive t x → face_of t x ≡ 0) → IsStraight at t
+  strip_strung at triangles plane convex hull hollow g live_g inner_g bare =
+      let is : v ≡ origin_of s h = sym around.out.start in
+      strung m mesh triangles at plane convex hull h around.out.live around.outer (walk_of s (ccw_of s) h) (trip s mesh.sound mesh.sphere v h around)
+      (subst (λ (k : ℕ). ListsOnce (IsOutEdge s k) (walk_of s (ccw_of s) h)) is (walk-out_edges mesh.sound v h around.out))
+      (subst (λ (k : ℕ). IsHollow (at k) (λ i. at (end_of m.shape (turns (ccw_of m.shape) (suc i) h))) (length (walk_of m.shape (ccw_of m.shape) h) - 1)) is hollow)
+      (some_spoke m mesh triangles at plane convex hull h around.out.live around.outer g live_g inner_g) t (subst (λ (k : ℕ). IsCutOff s t k) is cut) turned
+      (λ x live start end. still_live x live (λ e. start (e ∙ is)) (λ e. end (e ∙ is))) bare
+
 -- what holds of the shape above holds of the edit
 module _ {V DE UE F : Type 0} (m : Mesh V DE UE F) (mesh : IsMesh m) (closed : m.shape.removal ≡ Closed) (list : List ℕ) (strip : IsEdgeStrip m.shape list) where
   abbrev whole : List ℕ
@@ -232,6 +284,23 @@ module _ {V DE UE F : Type 0} (m : Mesh V DE UE F) (mesh : IsMesh m) (closed : m
   hollow_hull at triangles plane convex hull hollow g live_g inner_g one two three =
       of_strip (IsHull at)
       (λ gives y r outer. strip_hull m mesh closed strip.vertex strip.half strip.around (strip_record m.shape whole) gives y r outer at triangles plane convex hull hollow g live_g inner_g one two three)
+
+  pub hollow_outline : (at : ℕ → Point) → AllTriangles m.shape → IsPlane at m.shape → IsConvex at m.shape → IsHull at m.shape
+      → IsHollow (at strip.vertex) (λ i. at (end_of m.shape (turns (ccw_of m.shape) (suc i) strip.half))) (length (walk_of m.shape (ccw_of m.shape) strip.half) - 1)
+      → (g : ℕ) → IsLive (strip_cut m list).shape g → 0 < face_of (strip_cut m list).shape g → IsHull at (strip_cut m list).shape
+  hollow_outline at triangles plane convex hull hollow g =
+      of_strip (λ k. IsLive k g → 0 < face_of k g → IsHull at k)
+      (λ gives y r outer live inner.
+      strip_outline m mesh closed strip.vertex strip.half strip.around (strip_record m.shape whole) gives y r outer g live inner at triangles plane convex hull hollow)
+
+  pub hollow_strung : (at : ℕ → Point) → AllTriangles m.shape → IsPlane at m.shape → IsConvex at m.shape → IsHull at m.shape
+      → IsHollow (at strip.vertex) (λ i. at (end_of m.shape (turns (ccw_of m.shape) (suc i) strip.half))) (length (walk_of m.shape (ccw_of m.shape) strip.half) - 1)
+      → (g : ℕ) → IsLive m.shape g → 0 < face_of m.shape g → ((x : ℕ) → IsLive (strip_cut m list).shape x → face_of (strip_cut m list).shape x ≡ 0)
+      → IsStraight at (strip_cut m list).shape
+  hollow_strung at triangles plane convex hull hollow g live_g inner_g =
+      of_strip (λ k. ((x : ℕ) → IsLive k x → face_of k x ≡ 0) → IsStraight at k)
+      (λ gives y r outer bare.
+      strip_strung m mesh closed strip.vertex strip.half strip.around (strip_record m.shape whole) gives y r outer at triangles plane convex hull hollow g live_g inner_g bare)
 
   pub cut_plane_but : (at : ℕ → Point) → IsPlaneBut at m.shape strip.vertex → IsPlane at (strip_cut m list).shape
   cut_plane_but at plane =

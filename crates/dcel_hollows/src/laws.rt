@@ -5,6 +5,8 @@ ghost use Rattle.dcel_predicates.specs.declared.point.Point.{Point};
 ghost use Rattle.dcel_predicates.specs.Determinants.{orient2d_of};
 ghost use Rattle.dcel_maps.specs.Borders.{IsBorderLoop};
 ghost use Rattle.dcel_maps.specs.Conditions.{CanFlip};
+ghost use Rattle.dcel_maps.specs.Degenerate.{CanRemoveDegenerate, HasFewOutEdges};
+ghost use Rattle.dcel_maps.specs.edits.Degenerate.{removed_degenerate};
 ghost use Rattle.dcel_maps.specs.edits.Fill.{hole_filled};
 ghost use Rattle.dcel_maps.specs.edits.Flip.{edge_flipped};
 ghost use Rattle.dcel_maps.specs.edits.Strip.{strip_cut};
@@ -12,13 +14,14 @@ ghost use Rattle.dcel_maps.specs.Removals.{Cleaned, Closed};
 ghost use Rattle.dcel_maps.specs.Renumbered.{new_edge};
 ghost use Rattle.dcel_maps.specs.Renumbering.{cleaned_up, moved, vertex_taken_out};
 ghost use Rattle.dcel_maps.specs.Shapes.{IsLive, IsMesh, Mesh, end_of, face_count, face_of, next_of, origin_of, prev_of, vertex_is_live};
-ghost use Rattle.dcel_maps.specs.Strips.{IsEdgeStrip};
+ghost use Rattle.dcel_maps.specs.Strips.{IsEdgeStrip, IsStripAround};
 ghost use Rattle.dcel_maps.specs.Triangulations.{AllTriangles};
 ghost use Rattle.dcel_maps.specs.Walking.{IsOutEdge, IsRoundTrip, ListsOnce, ccw_of, walk_of};
 ghost use Rattle.dcel_maps.specs.Words.{count_of};
 ghost use Rattle.dcel_plane.specs.Plane.{IsPlane, ListsCircled, TurnsLeft};
-ghost use Rattle.dcel_hollows.specs.Wheels.{CanTurn, CanTurnAt, EarsLeft, IsFan, IsFlippable, IsHollow, IsPlaneBut, IsWheel, LeadsAcross, LiesBetween, LiesOnHull, MakesTwo, turns};
+ghost use Rattle.dcel_hollows.specs.Wheels.{CanTurn, CanTurnAt, EarsLeft, IsFan, IsFlattened, IsFlippable, IsHollow, IsPlaneBut, IsWheel, LeadsAcross, LiesBetween, LiesOnHull, MakesTwo, turns};
 ghost use Rattle.dcel_covering.specs.Covering.{IsConvex, IsHull};
+ghost use Rattle.dcel_hulls.specs.Straight.{IsStraight};
 
 /// Of five or more triangles around a point, an edge can be flipped so that both of its triangles
 /// turn left.
@@ -124,6 +127,14 @@ pub fn other_numbers_keep_plane_and_hull<V, DE, UE, F>()
         × (IsHull at m.shape → IsHull after (vertex_taken_out m v).shape) }
 {}
 
+/// So it is with a straight line.
+pub fn other_numbers_keep_a_line<V, DE, UE, F>()
+    ensures cleanup { (at : ℕ → Point) (m : Mesh V DE UE F) → IsMesh m → IsMesh (cleaned_up m) → IsStraight at m.shape → IsStraight at (cleaned_up m).shape }
+    ensures vertex { (at after : ℕ → Point) (m : Mesh V DE UE F) (v : ℕ) → IsMesh m → m.shape.removal ≡ Cleaned v → IsMesh (vertex_taken_out m v)
+        → ((w : ℕ) → vertex_is_live m.shape w ≡ true → after (moved (m.shape.vertices - 1) v w) ≡ at w)
+        → IsStraight at m.shape → IsStraight after (vertex_taken_out m v).shape }
+{}
+
 /// Of the triangles at a corner of the hull, an edge can be flipped, or the hull goes along the
 /// other sides without the corner, or the corner lies between two others, with one triangle less.
 pub fn corners_of_the_hull_can_have_fewer_or_go()
@@ -143,6 +154,27 @@ pub fn corners_of_the_hull_have_an_edge_to_flip_or_can_go<V, DE, UE, F>()
         ⊎ LiesOnHull (at (origin_of m.shape h)) (λ i. at (end_of m.shape (turns (ccw_of m.shape) (suc i) h))) (length w - 1)) }
 {}
 
+/// Each corner of the hull has a strip, if there is a triangle.
+pub fn corners_of_the_hull_have_a_strip<V, DE, UE, F>()
+    ensures { (at : ℕ → Point) (m : Mesh V DE UE F) (h g : ℕ) → IsMesh m → AllTriangles m.shape → IsPlane at m.shape
+        → IsConvex at m.shape → IsHull at m.shape → IsLive m.shape h → face_of m.shape h ≡ 0 → IsLive m.shape g → 0 < face_of m.shape g
+        → IsStripAround m.shape (origin_of m.shape h) h }
+{}
+
+/// Where none of its edges can be flipped, a corner is hollow, or lies between its neighbors on the hull.
+pub fn corners_without_an_edge_to_flip_can_go<V, DE, UE, F>()
+    ensures hollow { (at : ℕ → Point) (m : Mesh V DE UE F) (h g : ℕ) → IsMesh m → AllTriangles m.shape → IsPlane at m.shape
+        → IsConvex at m.shape → IsHull at m.shape → IsLive m.shape h → face_of m.shape h ≡ 0
+        → ((e : ℕ) → IsOutEdge m.shape (origin_of m.shape h) e → ¬ CanTurn at m.shape (e / 2)) → IsLive m.shape g → 0 < face_of m.shape g
+        → ¬ (orient2d_of (at (origin_of m.shape h)) (at (end_of m.shape h)) (at (end_of m.shape (ccw_of m.shape h))) ≡ pos 0)
+        → IsHollow (at (origin_of m.shape h)) (λ i. at (end_of m.shape (turns (ccw_of m.shape) (suc i) h))) (length (walk_of m.shape (ccw_of m.shape) h) - 1) }
+    ensures between { (at : ℕ → Point) (m : Mesh V DE UE F) (h g : ℕ) → IsMesh m → AllTriangles m.shape → IsPlane at m.shape
+        → IsConvex at m.shape → IsHull at m.shape → IsLive m.shape h → face_of m.shape h ≡ 0
+        → ((e : ℕ) → IsOutEdge m.shape (origin_of m.shape h) e → ¬ CanTurn at m.shape (e / 2)) → IsLive m.shape g → 0 < face_of m.shape g
+        → orient2d_of (at (origin_of m.shape h)) (at (end_of m.shape h)) (at (end_of m.shape (ccw_of m.shape h))) ≡ pos 0
+        → LiesOnHull (at (origin_of m.shape h)) (λ i. at (end_of m.shape (turns (ccw_of m.shape) (suc i) h))) (length (walk_of m.shape (ccw_of m.shape) h) - 1) }
+{}
+
 /// Where no neighbor of a corner turns left, what lies in the corner's angle, but in none of its
 /// triangles, is on the right of all sides that face the corner: the hull can go along them.
 pub fn hollow_corners_leave_all_on_the_right()
@@ -153,7 +185,8 @@ pub fn hollow_corners_leave_all_on_the_right()
 {}
 
 /// A corner of the hull cut off with its triangles: the mesh stays in the plane, the hull is convex
-/// again where no neighbor turned left, and passes each vertex once, if a triangle is left.
+/// again where no neighbor turned left, and passes each vertex once, if a triangle is left; if none
+/// is, what is left is a straight line.
 pub fn hollow_corners_can_be_cut_off<V, DE, UE, F>()
     ensures plane { (at : ℕ → Point) (m : Mesh V DE UE F) (list : List ℕ) → IsMesh m → m.shape.removal ≡ Closed → IsEdgeStrip m.shape list
         → IsPlane at m.shape → IsPlane at (strip_cut m list).shape }
@@ -168,6 +201,15 @@ pub fn hollow_corners_can_be_cut_off<V, DE, UE, F>()
         → IsHollow (at strip.vertex) (λ i. at (end_of m.shape (turns (ccw_of m.shape) (suc i) strip.half))) (length (walk_of m.shape (ccw_of m.shape) strip.half) - 1)
         → (g : ℕ) → IsLive m.shape g → 0 < face_of m.shape g → origin_of m.shape g ≢ strip.vertex → origin_of m.shape (next_of m.shape g) ≢ strip.vertex
         → origin_of m.shape (prev_of m.shape g) ≢ strip.vertex → IsHull at (strip_cut m list).shape }
+    ensures outline { (at : ℕ → Point) (m : Mesh V DE UE F) (list : List ℕ) → IsMesh m → m.shape.removal ≡ Closed → (strip : IsEdgeStrip m.shape list)
+        → AllTriangles m.shape → IsPlane at m.shape → IsConvex at m.shape → IsHull at m.shape
+        → IsHollow (at strip.vertex) (λ i. at (end_of m.shape (turns (ccw_of m.shape) (suc i) strip.half))) (length (walk_of m.shape (ccw_of m.shape) strip.half) - 1)
+        → (g : ℕ) → IsLive (strip_cut m list).shape g → 0 < face_of (strip_cut m list).shape g → IsHull at (strip_cut m list).shape }
+    ensures line { (at : ℕ → Point) (m : Mesh V DE UE F) (list : List ℕ) → IsMesh m → m.shape.removal ≡ Closed → (strip : IsEdgeStrip m.shape list)
+        → AllTriangles m.shape → IsPlane at m.shape → IsConvex at m.shape → IsHull at m.shape
+        → IsHollow (at strip.vertex) (λ i. at (end_of m.shape (turns (ccw_of m.shape) (suc i) strip.half))) (length (walk_of m.shape (ccw_of m.shape) strip.half) - 1)
+        → (g : ℕ) → IsLive m.shape g → 0 < face_of m.shape g → ((x : ℕ) → IsLive (strip_cut m list).shape x → face_of (strip_cut m list).shape x ≡ 0)
+        → IsStraight at (strip_cut m list).shape }
 {}
 
 /// A corner that lies between its neighbors on the hull, with one more neighbor: a flip leaves a flat
@@ -177,6 +219,10 @@ pub fn flat_corners_can_be_cut_off<V, DE, UE, F>()
         → IsConvex at m.shape → IsHull at m.shape → IsLive m.shape h → face_of m.shape h ≡ 0 → IsRoundTrip (ccw_of m.shape) h w
         → LiesOnHull (at (origin_of m.shape h)) (λ i. at (end_of m.shape (turns (ccw_of m.shape) (suc i) h))) (length w - 1)
         → CanTurnAt at m.shape (turns (ccw_of m.shape) 2 h / 2) (origin_of m.shape h) }
+    ensures flattened { (at : ℕ → Point) (m : Mesh V DE UE F) (h : ℕ) → IsMesh m → AllTriangles m.shape → IsPlane at m.shape
+        → IsConvex at m.shape → IsHull at m.shape → IsLive m.shape h → face_of m.shape h ≡ 0
+        → LiesOnHull (at (origin_of m.shape h)) (λ i. at (end_of m.shape (turns (ccw_of m.shape) (suc i) h))) (length (walk_of m.shape (ccw_of m.shape) h) - 1)
+        → IsFlattened at (edge_flipped m (turns (ccw_of m.shape) 2 h / 2)).shape (origin_of m.shape h) h }
     ensures flip { (at : ℕ → Point) (m : Mesh V DE UE F) (u v : ℕ) → IsMesh m → CanTurnAt at m.shape u v → IsPlane at m.shape
         → IsPlaneBut at (edge_flipped m u).shape v }
     ensures plane { (at : ℕ → Point) (m : Mesh V DE UE F) (list : List ℕ) → IsMesh m → m.shape.removal ≡ Closed → (strip : IsEdgeStrip m.shape list)
@@ -194,4 +240,16 @@ pub fn flat_corners_can_be_cut_off<V, DE, UE, F>()
 /// A flip after which both triangles turn left keeps a mesh in the plane, circled or not.
 pub fn turning_flips_keep_the_plane<V, DE, UE, F>()
     ensures { (at : ℕ → Point) (m : Mesh V DE UE F) (u : ℕ) → IsMesh m → CanTurn at m.shape u → IsPlane at m.shape → IsPlane at (edge_flipped m u).shape }
+{}
+
+/// On a straight line one or two half edges lead out of each vertex that has one.
+pub fn straight_lines_are_paths<V, DE, UE, F>()
+    ensures { (at : ℕ → Point) (m : Mesh V DE UE F) (v h : ℕ) → IsMesh m → IsStraight at m.shape → IsOutEdge m.shape v h → HasFewOutEdges m.shape v }
+{}
+
+/// `remove_when_degenerate` keeps a line straight, down to nothing.
+pub fn vertices_of_a_line_can_go<V, DE, UE, F>()
+    ensures { (at after : ℕ → Point) (m : Mesh V DE UE F) (v : ℕ) → IsMesh m → CanRemoveDegenerate m.shape v → IsMesh (removed_degenerate m v)
+        → ((w : ℕ) → w < m.shape.vertices → w ≢ v → after (moved (m.shape.vertices - 1) v w) ≡ at w)
+        → IsStraight at m.shape → IsStraight after (removed_degenerate m v).shape }
 {}

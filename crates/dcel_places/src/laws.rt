@@ -1,5 +1,5 @@
-//! Laws of walks towards a point, and of where it lies. These calls compute nothing; whoever makes
-//! one learns what it ensures.
+//! Laws of walks towards a point, of where it lies, and of the vertex nearest to it. These calls
+//! compute nothing; whoever makes one learns what it ensures.
 //!
 //! In all of them `at` says where each vertex stands. A walk crosses an edge that has the point
 //! strictly on its other side, as the visibility walk of O. Devillers, S. Pion and M. Teillaud does

@@ -1,4 +1,4 @@
-//! Where a point lies in a triangulation, and walks towards it.
+//! Where a point lies in a triangulation, walks towards it, and the vertex nearest to it.
 //!
 //! Contracts of the crates above cite these definitions; nothing here runs. Module [`laws`] has
 //! what follows from them.

@@ -82,6 +82,9 @@ pub struct Choice<'a, T> {
     pub help: &'a str,
 }
 
+/// The version of the programs. The file VERSION at the top says the same.
+const VERSION: &str = "0.1.0";
+
 /// The group that all choices are in.
 const CHOICES: &str = "choices";
 
@@ -94,6 +97,7 @@ impl<'a, T> Program<'a, T> {
         let file = Arg::new(alloc, FILE).value_name("FILE").help(self.input);
         let mut command = Command::new(alloc, self.name)
             .about(self.about)
+            .version(VERSION)
             .after_help(self.details)
             .arg(file)?;
         for switch in self.switches {

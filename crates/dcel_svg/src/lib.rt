@@ -2,6 +2,7 @@
 //!
 //! A mesh has no geometry. [`spread`] finds places for its vertices. A [`Picture`] has a stroke for
 //! each half edge, a patch for each face and a dot for each vertex, and [`write_svg`] writes it.
+//! From one picture to the next [`spread_near`] keeps places, and [`Marks`] tell what has changed.
 #![tactic(auto)]
 
 mod bends;
@@ -10,7 +11,9 @@ mod curve;
 mod frame;
 mod given_up;
 mod grid;
+mod keeping;
 mod layout;
+mod marks;
 mod net;
 mod place;
 mod reading;
@@ -22,5 +25,7 @@ mod wings;
 
 pub use bowing::bow;
 pub use dcel_drawn::{Bend, Dot, Line, Patch, Picture, Place, Places, State, Stroke};
+pub use keeping::spread_near;
+pub use marks::Marks;
 pub use spreading::spread;
-pub use svg::{Style, write_svg};
+pub use svg::{Style, write_marked_svg, write_svg};

@@ -1,5 +1,7 @@
 //! Places for the vertices of any mesh.
 
+ghost use Rattle.std.specs.Prelude.{◌<◌};
+
 use crate::bowing::bow;
 use crate::given_up::{set_aside, set_given_up};
 use crate::layout::Layout;
@@ -59,7 +61,7 @@ pub fn spread<V, DE, UE, F, A: Allocator, B: Allocator + Copy>(
 }
 
 /// Returns whether each vertex that has an edge has a place.
-fn has_places<V, DE, UE, F, A: Allocator, B: Allocator>(
+pub(crate) fn has_places<V, DE, UE, F, A: Allocator, B: Allocator>(
     mesh: &Dcel<V, DE, UE, F, A>,
     places: &Places<B>,
 ) -> bool {
@@ -83,22 +85,35 @@ fn fits<V, DE, UE, F, A: Allocator, B: Allocator>(
         if !before.is_live_face(face) && has_arc(mesh, FixedFaceHandle::new(number), places) {
             return false;
         }
-        if mesh.is_triangle(face) {
-            let [a, b, c] = mesh.face(face).vertices();
-            let corners = (
-                places.vertex(a.index()),
-                places.vertex(b.index()),
-                places.vertex(c.index()),
-            );
-            let (Some(a), Some(b), Some(c)) = corners else {
-                return false;
-            };
-            let (near, far) = (b.minus(a), c.minus(a));
-            // Neither turned over nor all but flat.
-            if near.cross(far) < 0.02 * (near.dot(near) + far.dot(far)) {
-                return false;
-            }
+        if !lies_well(mesh, face, places) {
+            return false;
         }
+    }
+    true
+}
+
+/// Returns whether the corners of a face have places that go round counterclockwise, if it is a live
+/// triangle.
+pub(crate) fn lies_well<V, DE, UE, F, A: Allocator, B: Allocator>(
+    mesh: &Dcel<V, DE, UE, F, A>,
+    face: FixedFaceHandle<InnerTag>,
+    places: &Places<B>,
+) -> bool
+    requires { 0 < face }
+{
+    if mesh.is_triangle(face) {
+        let [a, b, c] = mesh.face(face).vertices();
+        let corners = (
+            places.vertex(a.index()),
+            places.vertex(b.index()),
+            places.vertex(c.index()),
+        );
+        let (Some(a), Some(b), Some(c)) = corners else {
+            return false;
+        };
+        let (near, far) = (b.minus(a), c.minus(a));
+        // Neither turned over nor all but flat.
+        return !(near.cross(far) < 0.02 * (near.dot(near) + far.dot(far)));
     }
     true
 }
@@ -163,7 +178,10 @@ fn arc_of<V, DE, UE, F, A: Allocator, B: Allocator + Copy>(
     Some(layout.arc(edge.from().index(), edge.to().index(), node?))
 }
 
-fn has_edge<V, DE, UE, F, A: Allocator>(mesh: &Dcel<V, DE, UE, F, A>, vertex: usize) -> bool {
+pub(crate) fn has_edge<V, DE, UE, F, A: Allocator>(
+    mesh: &Dcel<V, DE, UE, F, A>,
+    vertex: usize,
+) -> bool {
     vertex < mesh.num_vertices()
         && mesh
             .vertex_out_edge(FixedVertexHandle::new(vertex))

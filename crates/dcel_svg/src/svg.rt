@@ -10,6 +10,7 @@ mod room;
 mod strokes;
 
 use crate::frame::Frame;
+use crate::marks::Marks;
 use crate::svg::dots::write_dots;
 use crate::svg::labels::write_labels;
 use crate::svg::numbers::{At, Tenths};
@@ -66,6 +67,13 @@ const STYLE_OF_EDGES: &str = "\
 </style>
 ";
 
+/// What is marked.
+const STYLE_OF_MARKS: &str = "\
+<style>
+.changed { stroke: #1f5fd6; stroke-width: 1.6; }
+</style>
+";
+
 /// Writes a picture as an SVG document.
 ///
 /// In the style of half edges each is an arrow beside its edge, on the side of its face, with its number; faces are
@@ -76,6 +84,17 @@ const STYLE_OF_EDGES: &str = "\
 pub fn write_svg<B: Allocator + Copy>(
     picture: &Picture<B>,
     style: Style,
+    out: &mut impl Write,
+) -> io::Result<()> {
+    let marks = Marks::none(*picture.strokes.allocator());
+    write_marked_svg(picture, style, &marks, out)
+}
+
+/// Does the same, and marks half edges and vertices in the style of half edges.
+pub fn write_marked_svg<B: Allocator + Copy>(
+    picture: &Picture<B>,
+    style: Style,
+    marks: &Marks<B>,
     out: &mut impl Write,
 ) -> io::Result<()> {
     let frame = Frame::around(picture, style);
@@ -90,13 +109,13 @@ pub fn write_svg<B: Allocator + Copy>(
         Tenths(size.y)
     )?;
     match style {
-        Style::HalfEdges { anchors } => write_half_edges(picture, &frame, anchors, out)?,
+        Style::HalfEdges { anchors } => write_half_edges(picture, &frame, anchors, marks, out)?,
         Style::Edges => {
             write!(out, "{STYLE_OF_EDGES}")?;
             write_edges(picture, &frame, style, out)?;
         }
     }
-    write_dots(picture, &frame, style, out)?;
+    write_dots(picture, &frame, style, marks, out)?;
     writeln!(out, "</svg>")
 }
 
@@ -105,13 +124,17 @@ fn write_half_edges<B: Allocator + Copy>(
     picture: &Picture<B>,
     frame: &Frame,
     anchors: bool,
+    marks: &Marks<B>,
     out: &mut impl Write,
 ) -> io::Result<()> {
     write!(out, "{STYLE}")?;
+    if !marks.is_empty() {
+        write!(out, "{STYLE_OF_MARKS}")?;
+    }
     write_live_patches(picture, frame, out)?;
     write_given_up_patches(picture, frame, out)?;
     write_edges(picture, frame, Style::HalfEdges { anchors }, out)?;
     let mut room = Room::around(picture, frame)?;
-    write_strokes(picture, frame, anchors, &mut room, out)?;
+    write_strokes(picture, frame, anchors, marks, &mut room, out)?;
     write_labels(picture, frame, &mut room, out)
 }

@@ -9,6 +9,8 @@ mod decimals;
 #[cfg(test)]
 mod memory;
 #[cfg(test)]
+mod nearest;
+#[cfg(test)]
 mod places;
 #[cfg(test)]
 mod positions;

@@ -7,7 +7,7 @@ use dcel_bench::refusing::{Memory, Refusals, Refusing};
 use dcel_circles::is_delaunay_triangulation;
 use dcel_delaunay::{RemovalError, Removed, Triangulation, point};
 use spade_dcel::handles::FixedVertexHandle;
-use std::alloc::Global;
+use std::alloc::{Allocator, Global};
 use std::test::Fail;
 
 /// Points, the vertex that is removed, where it stands, which one gets its number, and the numbers of
@@ -33,7 +33,7 @@ const HUB: [Place; 9] = [
     (3, -3),
 ];
 
-const ROWS: [Row; 5] = [
+const INSIDE: [Row; 5] = [
     // The middle of a square.
     Row {
         places: &[(0, 0), (4, 0), (4, 4), (0, 4), (2, 2)],
@@ -74,8 +74,100 @@ const ROWS: [Row; 5] = [
     },
 ];
 
+/// A square, a point between two of its corners, and one inside.
+const BETWEEN: [Place; 6] = [(0, 0), (2, 0), (4, 0), (4, 4), (0, 4), (2, 1)];
+
+/// Four points on a line, and one beside it.
+const FAN: [Place; 5] = [(0, 3), (0, 0), (1, 0), (2, 0), (5, 0)];
+
+const ON_THE_HULL: [Row; 6] = [
+    // A corner of many edges, and one whose neighbors stand on one line then.
+    Row {
+        places: &HUB,
+        vertex: 3,
+        place: (0, 4),
+        moved: Some(8),
+        left: [8, 14, 7],
+    },
+    Row {
+        places: &[(0, 0), (4, 0), (4, 4), (0, 4), (2, 2)],
+        vertex: 0,
+        place: (0, 0),
+        moved: Some(4),
+        left: [4, 5, 2],
+    },
+    // Vertices between their neighbors on the hull.
+    Row {
+        places: &[(0, 0), (2, 0), (4, 0), (1, 3)],
+        vertex: 1,
+        place: (2, 0),
+        moved: Some(3),
+        left: [3, 3, 1],
+    },
+    Row {
+        places: &BETWEEN,
+        vertex: 1,
+        place: (2, 0),
+        moved: Some(5),
+        left: [5, 8, 4],
+    },
+    // Corners after which no triangle is left.
+    Row {
+        places: &[(0, 0), (4, 0), (0, 4)],
+        vertex: 1,
+        place: (4, 0),
+        moved: Some(2),
+        left: [2, 1, 0],
+    },
+    Row {
+        places: &FAN,
+        vertex: 0,
+        place: (0, 3),
+        moved: Some(4),
+        left: [4, 3, 0],
+    },
+];
+
+const ON_A_LINE: [Row; 5] = [
+    Row {
+        places: &[(0, 0), (4, 2), (2, 1)],
+        vertex: 2,
+        place: (2, 1),
+        moved: None,
+        left: [2, 1, 0],
+    },
+    Row {
+        places: &[(0, 0), (1, 1), (2, 2), (3, 3)],
+        vertex: 1,
+        place: (1, 1),
+        moved: Some(3),
+        left: [3, 2, 0],
+    },
+    Row {
+        places: &[(0, 0), (1, 1), (2, 2), (3, 3)],
+        vertex: 0,
+        place: (0, 0),
+        moved: Some(3),
+        left: [3, 2, 0],
+    },
+    Row {
+        places: &[(0, 0), (1, 0)],
+        vertex: 0,
+        place: (0, 0),
+        moved: Some(1),
+        left: [1, 0, 0],
+    },
+    Row {
+        places: &[(5, 7)],
+        vertex: 0,
+        place: (5, 7),
+        moved: None,
+        left: [0, 0, 0],
+    },
+];
+
 /// Returns a triangulation of the points at these places, whose vertices have their numbers.
-fn numbered(places: &[Place], alloc: Global) -> Result<Triangulation, Fail> {
+pub fn numbered(places: &[Place], alloc: Global) -> Result<Triangulation, Fail> {
     let mut triangulation = Triangulation::new(alloc)?;
     for point in points_at(places, alloc)? {
         triangulation.insert(point)?;
@@ -85,6 +177,15 @@ fn numbered(places: &[Place], alloc: Global) -> Result<Triangulation, Fail> {
 
 fn numbered_by(number: u32) -> FixedVertexHandle {
     FixedVertexHandle::new(number as usize)
+}
+
+/// Whether what is left is a Delaunay triangulation, or a line or less where no triangle is left.
+fn is_right<A: Allocator>(triangulation: &Triangulation<A>) -> bool {
+    let mesh = triangulation.dcel();
+    if mesh.num_faces() == 1 {
+        return mesh.num_undirected_edges() == mesh.num_vertices().saturating_sub(1);
+    }
+    is_delaunay_triangulation(mesh)
 }
 
 fn check_row(row: &Row, alloc: Global) -> Result<(), Fail> {
@@ -97,63 +198,42 @@ fn check_row(row: &Row, alloc: Global) -> Result<(), Fail> {
     let removed = triangulation.remove(numbered_by(row.vertex));
     same(removed, Ok(wanted), "what is removed")?;
     same(counts(&triangulation), row.left, "what is left")?;
-    holds(
-        is_delaunay_triangulation(triangulation.dcel()),
-        "a Delaunay triangulation is left",
-    )
+    holds(is_right(&triangulation), "a triangulation is left")
 }
 
 #[test]
 fn vertices_inside_are_removed(rt: HostRuntime) -> Result<(), Fail> {
-    for row in &ROWS {
+    for row in &INSIDE {
         check_row(row, rt.alloc())?;
     }
     Ok(())
 }
 
-/// Points, a vertex, and why it is not removed.
-type Refused = (&'static [Place], u32, RemovalError);
-
-const REFUSED: [Refused; 4] = [
-    (&HUB, 9, RemovalError::NoVertex),
-    (&HUB, 3, RemovalError::NotInside),
-    (&[(0, 0), (4, 2), (2, 1)], 2, RemovalError::NotInside),
-    (&[(0, 0)], 0, RemovalError::NotInside),
-];
-
-fn check_refused((places, vertex, why): &Refused, alloc: Global) -> Result<(), Fail> {
-    let mut triangulation = numbered(places, alloc)?;
-    let before = counts(&triangulation);
-    let refused = triangulation.remove(numbered_by(*vertex));
-    same(refused, Err(*why), "why it is not removed")?;
-    same(counts(&triangulation), before, "what is left")
-}
-
 #[test]
-fn vertices_are_refused(rt: HostRuntime) -> Result<(), Fail> {
-    for row in &REFUSED {
-        check_refused(row, rt.alloc())?;
+fn vertices_on_the_hull_are_removed(rt: HostRuntime) -> Result<(), Fail> {
+    for row in &ON_THE_HULL {
+        check_row(row, rt.alloc())?;
     }
     Ok(())
 }
 
-/// Removes a vertex if it lies inside, and checks what is left.
-fn remove_inner(triangulation: &mut Triangulation, vertex: FixedVertexHandle) -> Result<(), Fail> {
-    let before = triangulation.dcel().num_vertices();
-    let removed = triangulation.remove(vertex);
-    let gone = before.checked_sub(triangulation.dcel().num_vertices());
-    same(
-        gone,
-        Some(usize::from(removed.is_ok())),
-        "vertices that are gone",
-    )?;
-    if let Err(why) = removed {
-        same(why, RemovalError::NotInside, "why it stays")?;
+#[test]
+fn vertices_on_a_line_are_removed(rt: HostRuntime) -> Result<(), Fail> {
+    for row in &ON_A_LINE {
+        check_row(row, rt.alloc())?;
     }
-    holds(
-        is_delaunay_triangulation(triangulation.dcel()),
-        "a Delaunay triangulation is left",
-    )
+    Ok(())
+}
+
+#[test]
+fn vertices_that_are_not_there_are_refused(rt: HostRuntime) -> Result<(), Fail> {
+    let mut triangulation = numbered(&HUB, rt.alloc())?;
+    let refused = triangulation.remove(numbered_by(9));
+    same(refused, Err(RemovalError::NoVertex), "why it is refused")?;
+    same(counts(&triangulation), [9, 16, 8], "what is left")?;
+    let mut empty = Triangulation::new(rt.alloc())?;
+    let refused = empty.remove(numbered_by(0));
+    same(refused, Err(RemovalError::NoVertex), "why it is refused")
 }
 
 /// Returns the points of a grid, row by row.
@@ -167,69 +247,114 @@ fn grid(side: i64, alloc: Global) -> Result<Vec<Place>, Fail> {
     Ok(places)
 }
 
+/// Removes a vertex, and checks what is left.
+fn remove_one(triangulation: &mut Triangulation, vertex: FixedVertexHandle) -> Result<(), Fail> {
+    let removed = triangulation.remove(vertex);
+    holds(removed.is_ok(), "it is removed")?;
+    holds(is_right(triangulation), "a triangulation is left")
+}
+
 #[test]
-fn a_grid_is_removed_down_to_its_border(rt: HostRuntime) -> Result<(), Fail> {
-    let places = grid(6, rt.alloc())?;
-    let mut triangulation = numbered(&places, rt.alloc())?;
-    for number in 0..36 {
-        remove_inner(&mut triangulation, FixedVertexHandle::new(35 - number))?;
+fn a_grid_is_removed_from_the_first_on(rt: HostRuntime) -> Result<(), Fail> {
+    let mut triangulation = numbered(&grid(6, rt.alloc())?, rt.alloc())?;
+    for _ in 0..36 {
+        remove_one(&mut triangulation, FixedVertexHandle::new(0))?;
     }
-    same(counts(&triangulation), [20, 37, 18], "the border")
+    same(counts(&triangulation), [0, 0, 0], "nothing")
+}
+
+#[test]
+fn a_grid_is_removed_from_the_middle_on(rt: HostRuntime) -> Result<(), Fail> {
+    let mut triangulation = numbered(&grid(6, rt.alloc())?, rt.alloc())?;
+    for gone in 0..36 {
+        remove_one(&mut triangulation, FixedVertexHandle::new((35 - gone) / 2))?;
+    }
+    same(counts(&triangulation), [0, 0, 0], "nothing")
+}
+
+#[test]
+fn a_grid_is_removed_from_the_last_on(rt: HostRuntime) -> Result<(), Fail> {
+    let mut triangulation = numbered(&grid(6, rt.alloc())?, rt.alloc())?;
+    for gone in 0..36 {
+        remove_one(&mut triangulation, FixedVertexHandle::new(35 - gone))?;
+    }
+    same(counts(&triangulation), [0, 0, 0], "nothing")
 }
 
 /// A triangulation in memory that can be refused.
 type Watched<'a> = Triangulation<Memory<'a>>;
 
-/// Does what a refused removal left undone, and removes the vertex if it still stands.
-fn remove_again(triangulation: &mut Watched, error: RemovalError) -> Result<(), Fail> {
+/// Does what a refused removal left undone, and removes the vertex if it still stands, of so many.
+fn remove_again(
+    triangulation: &mut Watched,
+    vertex: FixedVertexHandle,
+    count: usize,
+    error: RemovalError,
+) -> Result<(), Fail> {
     triangulation.finish()?;
     let left = triangulation.dcel().num_vertices();
     if error == RemovalError::OutOfMemory {
-        same(left, HUB.len(), "vertices that stand")?;
-        let removed = triangulation.remove(FixedVertexHandle::new(0));
+        same(left, count, "vertices that stand")?;
+        let removed = triangulation.remove(vertex);
         return holds(removed.is_ok(), "it is removed afterwards");
     }
-    same(left, HUB.len() - 1, "vertices that are left")
+    same(Some(left), count.checked_sub(1), "vertices that are left")
 }
 
-/// Removes the middle with the request of this number refused, and returns whether it came.
+/// Removes a vertex with the request of this number refused, and returns whether it came.
 fn remove_refused<'a>(
     triangulation: &mut Watched<'a>,
     memory: Memory<'a>,
+    vertex: FixedVertexHandle,
     number: u64,
 ) -> Result<bool, Fail> {
+    let count = triangulation.dcel().num_vertices();
     memory.refuse(Refusals::One(number));
-    let removed = triangulation.remove(FixedVertexHandle::new(0));
+    let removed = triangulation.remove(vertex);
     let came = memory.requests() > number;
     memory.refuse(Refusals::None);
     same(removed.is_err(), came, "it is refused")?;
     if let Err(error) = removed {
-        remove_again(triangulation, error)?;
+        remove_again(triangulation, vertex, count, error)?;
     }
-    holds(
-        is_delaunay_triangulation(triangulation.dcel()),
-        "a Delaunay triangulation is left",
-    )?;
+    holds(is_right(triangulation), "a triangulation is left")?;
     Ok(came)
 }
 
 /// The same in a triangulation of its own.
-fn refuse(number: u64, alloc: Global) -> Result<bool, Fail> {
+fn refuse(row: &Row, number: u64, alloc: Global) -> Result<bool, Fail> {
     let memory = Refusing::new(alloc);
     let mut triangulation = Triangulation::new(&memory)?;
-    for point in points_at(&HUB, alloc)? {
+    for point in points_at(row.places, alloc)? {
         triangulation.insert(point)?;
     }
-    remove_refused(&mut triangulation, &memory, number)
+    remove_refused(&mut triangulation, &memory, numbered_by(row.vertex), number)
 }
 
-#[test]
-fn removals_are_refused_memory(rt: HostRuntime) -> Result<(), Fail> {
+/// Refuses each request of a removal in turn, and checks that there are so many at least.
+fn check_refused(row: &Row, requests: u64, alloc: Global) -> Result<(), Fail> {
     let mut last = 0;
     for number in 0..100 {
-        if refuse(number, rt.alloc())? {
+        if refuse(row, number, alloc)? {
             last = number;
         }
     }
-    holds(last > 3, "requests were refused")
+    holds(last >= requests, "requests were refused")
+}
+
+#[test]
+fn removals_inside_are_refused_memory(rt: HostRuntime) -> Result<(), Fail> {
+    for row in &INSIDE {
+        check_refused(row, 3, rt.alloc())?;
+    }
+    // Edges that are flipped first ask for more.
+    check_refused(&INSIDE[4], 4, rt.alloc())
+}
+
+#[test]
+fn removals_on_the_hull_are_refused_memory(rt: HostRuntime) -> Result<(), Fail> {
+    for row in &ON_THE_HULL {
+        check_refused(row, 2, rt.alloc())?;
+    }
+    Ok(())
 }

@@ -6,7 +6,6 @@
 #![tactic(auto)]
 
 mod replies;
-mod status;
 #[cfg(test)]
 mod tests;
 

@@ -1,10 +1,9 @@
 //! The replies to lines.
 
 ghost use Rattle.std.specs.Prelude.{◌≡◌, ◌≢◌, ◌≤◌, ◌<◌, length};
-ghost use Rattle.mesh_lines.specs.Replies.{HasReplies};
+ghost use Rattle.dcel_exports.specs.Answers.{HasReplies};
 
-use crate::status::{NO_MEMORY, done_or_short};
-use dcel_commands::commands::{MAX_LIMIT, StdSink, StdSource, run};
+use dcel_exports::put_replies;
 use std::alloc::Global;
 
 /// Answers the lines on an empty mesh, and puts the replies into `replies`.
@@ -12,7 +11,8 @@ use std::alloc::Global;
 /// As many bytes of the replies as fit are put there, from the front, and what lies behind them
 /// stays. `needed` is how many bytes all replies are. Returns 0 if all are there, and 1 if the
 /// buffer was short; 2 if there was no memory for the mesh or the replies, and then the buffer
-/// stays as it was and `needed` is 0.
+/// stays as it was and `needed` is 0. The same names stand in the header
+/// `bindings/c/mesh_lines.h`.
 #[unsafe(no_mangle)]
 pub extern "C" fn mesh_lines_replies(
     alloc: Global,
@@ -26,15 +26,5 @@ pub extern "C" fn mesh_lines_replies(
     ensures no_memory { result ≡ 2 → (replies.new ≡ replies.old) × (needed.new ≡ 0) }
     ensures no_other { result ≤ 2 }
 {
-    let mut source = StdSource::new(lines);
-    let mut sink = StdSink::new(Vec::new(alloc));
-    if run(alloc, &mut source, &mut sink, MAX_LIMIT).is_err() {
-        *needed = 0;
-        return NO_MEMORY;
-    }
-    let text = sink.into_inner();
-    let fitting = text.len().min(replies.len());
-    replies[..fitting].copy_from_slice(&text[..fitting]);
-    *needed = text.len() as u64;
-    done_or_short(text.len(), replies.len())
+    put_replies(alloc, lines, replies, needed)
 }

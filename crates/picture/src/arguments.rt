@@ -11,6 +11,8 @@ pub struct Arguments<'a> {
     pub places: Option<&'a str>,
     /// Whether to mark anchors.
     pub anchors: bool,
+    /// Whether to write a page with a picture for each line.
+    pub page: bool,
 }
 
 /// What the program takes.
@@ -31,6 +33,12 @@ pub const PROGRAM: Program<'static, ()> = Program {
             takes: Takes::Nothing,
             help: "Marks the anchors of vertices by dots, and those of faces by squares",
         },
+        Switch {
+            name: "page",
+            letter: None,
+            takes: Takes::Nothing,
+            help: "Writes a page in HTML: each line with its reply, and the mesh after it",
+        },
     ],
     choices: &[],
     details: DETAILS,
@@ -46,7 +54,11 @@ open has given up is dashed and hatched.
 
 Each line of the file for --places has the number of a vertex and its two coordinates, with blanks
 between them; the second coordinate goes up. A vertex without a place stands below the mesh, and an
-edge that ends there isn't drawn.";
+edge that ends there isn't drawn.
+
+A page shows one line at a time, by arrow keys or a slider, and all of them where scripts don't run.
+What a line has changed is blue. Vertices keep their arrangement if the mesh can be drawn so, each
+picture at its own scale. A line that is refused has its reply there. Places aren't read for a page.";
 
 impl<'a> Arguments<'a> {
     /// Returns what the words say.
@@ -55,6 +67,7 @@ impl<'a> Arguments<'a> {
             file: given.input(),
             places: given.value("places"),
             anchors: given.has("anchors"),
+            page: given.has("page"),
         }
     }
 }

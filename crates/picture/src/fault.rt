@@ -1,7 +1,5 @@
 //! Why the program gives up.
 
-use dcel_commands::commands::Refusal;
-use std::alloc::AllocError;
 use thiserror::Error;
 
 /// Why the program gives up.
@@ -10,9 +8,9 @@ pub type Fault = dcel_programs::Fault<Wrong>;
 /// What is wrong with a line.
 #[derive(Clone, Copy, PartialEq, Eq, Debug, Drop, Error)]
 pub enum Wrong {
-    /// It is neither a command nor a query.
-    #[error("bad line")]
-    BadLine,
+    /// It is no line that the mesh carries out or answers.
+    #[error("{0}")]
+    Line(dcel_replay::Wrong),
     /// It does not say a vertex and two coordinates.
     #[error("a place is a vertex and two coordinates")]
     NoPlace,
@@ -22,10 +20,4 @@ pub enum Wrong {
     /// There is no vertex of this number.
     #[error("there is no such vertex")]
     NoSuchVertex,
-    /// The mesh refuses it.
-    #[error("refused, {}", .0.name())]
-    Refused(Refusal),
-    /// There was no memory.
-    #[error("out of memory")]
-    OutOfMemory(#[from(alloc)] AllocError),
 }

@@ -1,4 +1,5 @@
-//! Reads commands for a half-edge mesh, one a line, and draws the mesh that is left.
+//! Reads commands for a half-edge mesh, one a line, and draws the mesh that is left, or writes a
+//! page with the mesh after each line.
 //!
 //! `picture --help` tells what it reads and writes. It exits with status 0, also if nobody reads
 //! its output any more; with 1, and with no whole picture, if a line is bad or refused, a read or a
@@ -6,15 +7,18 @@
 #![tactic(auto)]
 
 mod arguments;
-mod drawing;
 mod fault;
+mod page;
 mod placing;
+mod talk;
 
 use crate::arguments::{Arguments, PROGRAM};
-use crate::drawing::Drawing;
-use crate::fault::Fault;
+use crate::fault::{Fault, Wrong};
+use crate::page::Page;
 use crate::placing::read_places;
-use dcel_programs::{Text, numbered_lines, read_text, run, write_out};
+use crate::talk::talk_of;
+use dcel_programs::{Text, before_comment, numbered_lines, read_text, run, write_out};
+use dcel_replay::Replay;
 use dcel_svg::{Picture, Places, Style, bow, spread, write_svg};
 use std::alloc::Global;
 use std::io::{self, Write};
@@ -31,36 +35,46 @@ fn draw(
     arguments: &Arguments,
 ) -> Result<(), Fault> {
     let text = read_text(rt, arguments.file)?;
-    let drawing = drawing_of(rt.alloc(), &text)?;
-    let places = find_places(rt, arguments.places, &drawing)?;
+    let style = Style::HalfEdges {
+        anchors: arguments.anchors,
+    };
+    if arguments.page {
+        let page = Page::new(rt.alloc(), talk_of(rt.alloc(), &text)?, style)?;
+        return write_out(rt, None, &page);
+    }
+    let replay = replay_of(rt.alloc(), &text)?;
+    let places = find_places(rt, arguments.places, &replay)?;
     let drawn = Drawn {
-        drawing: &drawing,
+        replay: &replay,
         places: &places,
-        style: Style::HalfEdges {
-            anchors: arguments.anchors,
-        },
+        style,
     };
     write_out(rt, None, &drawn)
 }
 
 /// Carries all lines out, up to one that is wrong.
-fn drawing_of(alloc: Global, text: &str) -> Result<Drawing, Fault> {
-    let mut drawing = Drawing::new(alloc)?;
+fn replay_of(alloc: Global, text: &str) -> Result<Replay, Fault> {
+    let mut replay = Replay::new(alloc)?;
     for (line, said) in numbered_lines(text) {
-        drawing
-            .take(said)
-            .map_err(|wrong| Fault::Line { line, wrong })?;
+        let said = before_comment(said).trim_ascii_end();
+        if said.is_empty() {
+            continue;
+        }
+        if let Err(wrong) = replay.take(said.as_bytes()) {
+            let wrong = Wrong::Line(wrong);
+            return Err(Fault::Line { line, wrong });
+        }
     }
-    Ok(drawing)
+    Ok(replay)
 }
 
 /// Finds places for the vertices, or reads them from a file.
 fn find_places(
     rt: &(impl Files + Input + AllocGlobal),
     file: Option<&str>,
-    drawing: &Drawing,
+    replay: &Replay,
 ) -> Result<Places, Fault> {
-    let (mesh, before) = (drawing.mesh(), drawing.before());
+    let (mesh, before) = (replay.mesh(), replay.before());
     match file {
         None => Ok(spread(rt.alloc(), mesh, before)?),
         Some(path) => {
@@ -74,14 +88,14 @@ fn find_places(
 /// A mesh, and how it is drawn.
 #[derive(Clone, Copy)]
 struct Drawn<'a> {
-    drawing: &'a Drawing,
+    replay: &'a Replay,
     places: &'a Places,
     style: Style,
 }
 
 impl<'a> Text for Drawn<'a> {
     fn write_to(&self, alloc: Global, writer: &mut impl Write) -> io::Result<()> {
-        let (mesh, before) = (self.drawing.mesh(), self.drawing.before());
+        let (mesh, before) = (self.replay.mesh(), self.replay.before());
         let picture = Picture::new(alloc, mesh, before, self.places)?;
         write_svg(&picture, self.style, writer)
     }

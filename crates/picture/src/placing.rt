@@ -1,8 +1,8 @@
 //! Places of vertices, read from a file.
 
-use crate::drawing::Mesh;
 use crate::fault::{Fault, Wrong};
 use dcel_programs::{numbered_lines, read_text};
+use dcel_replay::Mesh;
 use dcel_svg::{Place, Places};
 use std::alloc::{AllocError, Global};
 use std::rt::Files;

@@ -1,6 +1,7 @@
 //! Vertices, as circles with their numbers, or as dots.
 
 use crate::frame::Frame;
+use crate::marks::Marks;
 use crate::svg::Style;
 use crate::svg::numbers::Tenths;
 use dcel_drawn::{Dot, Picture, Place, State};
@@ -21,6 +22,7 @@ pub(crate) fn write_dots<B: Allocator>(
     picture: &Picture<B>,
     frame: &Frame,
     style: Style,
+    marks: &Marks<B>,
     out: &mut impl Write,
 ) -> io::Result<()> {
     let mut aside = 0usize;
@@ -34,21 +36,27 @@ pub(crate) fn write_dots<B: Allocator>(
             }
         };
         match style {
-            Style::HalfEdges { .. } => write_circle(*dot, place, out)?,
+            Style::HalfEdges { .. } => write_circle(
+                *dot,
+                marks.has_vertex(dot.number),
+                place,
+                out,
+            )?,
             Style::Edges => write_dot(*dot, place, picture.dots.len() <= NUMBERED, out)?,
         }
     }
     Ok(())
 }
 
-fn write_circle(dot: Dot, place: Place, out: &mut impl Write) -> io::Result<()> {
+fn write_circle(dot: Dot, is_marked: bool, place: Place, out: &mut impl Write) -> io::Result<()> {
     let class = match dot.state {
         State::Live => "vertex",
         State::GivenUp => "vertex gone",
     };
+    let mark = if is_marked { " changed" } else { "" };
     writeln!(
         out,
-        "<circle class=\"{class}\" cx=\"{}\" cy=\"{}\" r=\"{}\"/><text class=\"name\" x=\"{}\" y=\"{}\">{}</text>",
+        "<circle class=\"{class}{mark}\" cx=\"{}\" cy=\"{}\" r=\"{}\"/><text class=\"name\" x=\"{}\" y=\"{}\">{}</text>",
         Tenths(place.x),
         Tenths(-place.y),
         Tenths(RADIUS),

@@ -1,6 +1,7 @@
 //! Edges as thin lines, and half edges as arrows beside them, with their numbers.
 
 use crate::frame::Frame;
+use crate::marks::Marks;
 use crate::svg::Style;
 use crate::svg::arrow::{Arrow, area_of};
 use crate::svg::numbers::{At, Tenths};
@@ -56,6 +57,7 @@ pub(crate) fn write_strokes<B: Allocator>(
     picture: &Picture<B>,
     frame: &Frame,
     anchors: bool,
+    marks: &Marks<B>,
     room: &mut Room<B>,
     out: &mut impl Write,
 ) -> io::Result<()> {
@@ -64,7 +66,8 @@ pub(crate) fn write_strokes<B: Allocator>(
             let arrow = Arrow::beside(frame.shown_line(line));
             let place = arrow.place_of(stroke.number, stroke.state, room);
             room.take(area_of(place, stroke.number))?;
-            write_stroke(stroke, arrow, place, out)?;
+            let is_marked = marks.has_half_edge(stroke.number);
+            write_stroke(stroke, is_marked, arrow, place, out)?;
             if anchors {
                 write_anchors(stroke, arrow, out)?;
             }
@@ -75,6 +78,7 @@ pub(crate) fn write_strokes<B: Allocator>(
 
 fn write_stroke(
     stroke: &Stroke,
+    is_marked: bool,
     arrow: Arrow,
     place: Place,
     out: &mut impl Write,
@@ -83,9 +87,10 @@ fn write_stroke(
         State::Live => ("half", "tip", "number"),
         State::GivenUp => ("half gone", "tip-gone", "number over"),
     };
+    let mark = if is_marked { " changed" } else { "" };
     write!(
         out,
-        "<path class=\"{class}\" marker-end=\"url(#{tip})\" d=\""
+        "<path class=\"{class}{mark}\" marker-end=\"url(#{tip})\" d=\""
     )?;
     write_line(arrow.line, out)?;
     writeln!(

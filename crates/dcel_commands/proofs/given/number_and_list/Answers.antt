@@ -9,12 +9,13 @@ returns-in_err-list g c = rw c.from_residual-in_err-list.ensures (no_list_after 
 pub returns-in-Ok : goal.returns-in-Ok
 returns-in-Ok g c =
     let read = c.in_ok-list.ensures in
-    let is : c.in-Ok.list.items ≡ read.0 = rw c.in-Ok.is at read.3 in (
+    let is : c.in-Ok.list.items ≡ read.0 = rw c.in-Ok.is at read.2 in (
       c.in_ok-number.number,
       read.0,
-      c.in_ok-number.ensures.in_range,
-      read.1,
-      c.in_ok-number.ensures.read ∙ ap (λ (x : List (List ℕ)). decimal c.in_ok-number.number ∷ x) read.2,
+      (
+        (c.in_ok-number.ensures.in_range, read.1.0),
+        c.in_ok-number.ensures.read ∙ ap (λ (x : List (List ℕ)). decimal c.in_ok-number.number ∷ x) read.1.1,
+      ),
       (refl, is),
     )
 
@@ -23,8 +24,9 @@ returns-in-Err g c =
     let read = c.in_ok-list.ensures in (
       c.in_ok-number.number,
       read.0,
-      c.in_ok-number.ensures.in_range,
-      read.1,
-      c.in_ok-number.ensures.read ∙ ap (λ (x : List (List ℕ)). decimal c.in_ok-number.number ∷ x) read.2,
-      rw c.in-Err.is at read.3,
+      (
+        (c.in_ok-number.ensures.in_range, read.1.0),
+        c.in_ok-number.ensures.read ∙ ap (λ (x : List (List ℕ)). decimal c.in_ok-number.number ∷ x) read.1.1,
+      ),
+      rw c.in-Err.is at read.2,
     )

@@ -10,4 +10,4 @@ returns-in_err-nothing g c =
 pub returns : goal.returns
 returns g c =
     let counted = c.count_numbers-count.ensures in
-    (counted.0, counted.1.in_range, list_read _ _ counted.0 counted.1 c.in_ok-nothing.ensures, c.numbers.ensures counted.0 _ counted.1 (sym counted.2))
+    (counted.0, list_read _ _ counted.0 counted.1 c.in_ok-nothing.ensures, c.numbers.ensures counted.0 _ counted.1 (sym counted.2))

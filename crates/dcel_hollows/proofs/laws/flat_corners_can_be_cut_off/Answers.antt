@@ -1,10 +1,14 @@
 use Rattle.dcel_hollows.proofs.laws.flat_corners_can_be_cut_off.Goals as goal
 use Rattle.dcel_hollows.proofs.FlatFlips.{flip_plane_but}
+use Rattle.dcel_hollows.proofs.Flattened.{flattened}
 use Rattle.dcel_hollows.proofs.HullCorners.{corner_turn_at}
 use Rattle.dcel_hollows.proofs.Strips.{cut_plane_but, flat_corner_convex, flat_corner_hull}
 
 pub returns-clause-turn : goal.returns-clause-turn
 returns-clause-turn g c = λ at m h w mesh triangles plane convex hull live outer trip lies. corner_turn_at m mesh triangles at plane convex hull h live outer w trip lies
+
+pub returns-clause-flattened : goal.returns-clause-flattened
+returns-clause-flattened g c = λ at m h mesh triangles plane convex hull live outer lies. flattened m mesh triangles at plane convex hull h live outer lies
 
 pub returns-clause-flip : goal.returns-clause-flip
 returns-clause-flip g c = λ at m u v mesh turn plane. flip_plane_but m mesh at u v turn plane

@@ -1,0 +1,195 @@
+/* Calls each export of crates/mesh_page with memory of every size up to what it needs, and with a buffer
+   of every size up to what the answer has. Behind the memory, and behind the buffer, stands a page that
+   can't be written: who writes past an end is stopped by the machine. */
+#define _DEFAULT_SOURCE
+#include "mesh_page.h"
+
+#include <inttypes.h>
+#include <stdio.h>
+#include <stdlib.h>
+#include <string.h>
+#include <sys/mman.h>
+#include <unistd.h>
+
+#define FILL 0xa5
+#define ENOUGH (1u << 20)
+#define ROOM (1u << 14)
+
+static const char LINES[] = "triangle 0 1 2\nappend 3\ninsert 3 1\nflip 0\nfoo\nout 3";
+static const mesh_page_point POINTS[] = {{0, 0}, {4, 0}, {0, 3}, {5, 5}, {2, 2}, {4, 0}, {-9, 4}, {4, 1}};
+#define COUNT(list) (sizeof(list) / sizeof(list)[0])
+
+static int calls = 0;
+
+static void must(bool holds, const char *name, const char *what, size_t size) {
+    calls++;
+    if (holds)
+        return;
+    fprintf(stderr, "%s: %s, at %zu\n", name, what, size);
+    exit(EXIT_FAILURE);
+}
+
+/* Bytes that end where a page begins that can't be written. */
+typedef struct {
+    uint8_t *all;
+    size_t size;
+} guarded;
+
+static guarded guard(size_t size) {
+    size_t page = (size_t)sysconf(_SC_PAGESIZE);
+    size = (size + page - 1) / page * page;
+    void *all = mmap(NULL, size + page, PROT_READ | PROT_WRITE, MAP_PRIVATE | MAP_ANONYMOUS, -1, 0);
+    if (all == MAP_FAILED || mprotect((uint8_t *)all + size, page, PROT_NONE) != 0) {
+        perror("no memory with a guard");
+        exit(EXIT_FAILURE);
+    }
+    guarded made = {(uint8_t *)all, size};
+    return made;
+}
+
+/* The last bytes of these. */
+static uint8_t *last(guarded in, size_t size) { return in.all + in.size - size; }
+
+static bool is_filled(const uint8_t *from, const uint8_t *to) {
+    while (from < to)
+        if (*from++ != FILL)
+            return false;
+    return true;
+}
+
+static guarded lent, buffer;
+
+/* What a call answered. */
+typedef struct {
+    uint32_t status;
+    uint64_t needed;
+} answer;
+
+static answer replies(mesh_page_memory memory, uint8_t *out, size_t room) {
+    answer told = {9, 9};
+    told.status = mesh_page_replies(memory, (const uint8_t *)LINES, sizeof LINES - 1, out, room, &told.needed);
+    return told;
+}
+static answer picture(mesh_page_memory memory, uint8_t *out, size_t room) {
+    answer told = {9, 9};
+    told.status = mesh_page_picture(memory, (const uint8_t *)LINES, sizeof LINES - 1, true, out, room, &told.needed);
+    return told;
+}
+static answer triangles(mesh_page_memory memory, uint8_t *out, size_t room) {
+    answer told = {9, 9};
+    told.status = mesh_page_triangles(memory, POINTS, COUNT(POINTS), (mesh_page_triangle *)out, room, &told.needed);
+    return told;
+}
+
+typedef struct {
+    const char *name;
+    answer (*call)(mesh_page_memory memory, uint8_t *out, size_t room);
+    size_t item;
+} export_of;
+
+static const export_of EXPORTS[] = {
+    {"replies", replies, 1}, {"picture", picture, 1}, {"triangles", triangles, sizeof(mesh_page_triangle)}};
+
+/* Calls with so much memory and room. Nothing stands changed before the memory, or beside what was put
+   into the buffer. */
+static answer call(const export_of *it, size_t size, size_t room) {
+    uint8_t *memory = last(lent, size), *out = last(buffer, room * it->item);
+    memset(memory > lent.all + 64 ? memory - 64 : lent.all, FILL, memory > lent.all + 64 ? 64 : (size_t)(memory - lent.all));
+    memset(buffer.all, FILL, buffer.size);
+    mesh_page_memory given = {memory, size};
+    answer told = it->call(given, out, room);
+    size_t put = (told.needed < room ? (size_t)told.needed : room) * it->item;
+    must(is_filled(memory > lent.all + 64 ? memory - 64 : lent.all, memory), it->name, "it writes before its memory", size);
+    must(is_filled(buffer.all, out) && is_filled(out + put, buffer.all + buffer.size), it->name, "it writes beside its answer", room);
+    return told;
+}
+
+/* Whether the first line that isn't as it should be is refused for want of memory. */
+static bool lacks_memory(const uint8_t *found, size_t length, const uint8_t *whole, size_t all) {
+    static const char REFUSED[] = "refused 20 OutOfMemory\n";
+    size_t at = 0, start = 0;
+    while (at < length && at < all && found[at] == whole[at])
+        if (found[at++] == '\n')
+            start = at;
+    return length - start >= sizeof REFUSED - 1 && memcmp(found + start, REFUSED, sizeof REFUSED - 1) == 0;
+}
+
+static void check(const export_of *it) {
+    size_t room = ROOM / it->item;
+    answer told = call(it, ENOUGH, room);
+    must(told.status == MESH_PAGE_DONE && told.needed <= room, it->name, "it has no answer", ENOUGH);
+    size_t needed = (size_t)told.needed, length = needed * it->item;
+    uint8_t *whole = (uint8_t *)malloc(length);
+    must(whole != NULL, it->name, "there is no memory", length);
+    memcpy(whole, last(buffer, room * it->item), length);
+    for (size_t few = 0; few <= needed; few++) {
+        told = call(it, ENOUGH, few);
+        must(told.status == (few < needed ? MESH_PAGE_SHORT : MESH_PAGE_DONE) && told.needed == needed, it->name, "the status is wrong", few);
+        must(memcmp(last(buffer, few * it->item), whole, few * it->item) == 0, it->name, "the answer is wrong", few);
+    }
+    size_t size = 0;
+    for (bool is_enough = false; !is_enough; size += 16) {
+        must(size < ENOUGH, it->name, "no memory suffices", size);
+        told = call(it, size, room);
+        const uint8_t *out = last(buffer, room * it->item);
+        is_enough = told.status == MESH_PAGE_DONE && told.needed == needed && memcmp(out, whole, length) == 0;
+        bool is_refused = told.status == MESH_PAGE_NO_MEMORY && told.needed == 0;
+        bool is_told = it->call == replies && told.status == MESH_PAGE_DONE && lacks_memory(out, (size_t)told.needed, whole, length);
+        must(is_enough || is_refused || is_told, it->name, "it had too little memory, and doesn't say so", size);
+    }
+    printf("%s: %zu items, with %zu bytes\n", it->name, needed, size - 16);
+    free(whole);
+}
+
+/* A coordinate past either end is told, and the ends themselves are points. */
+static void check_range(void) {
+    const int32_t end = 1 << 30;
+    const mesh_page_point ends[] = {{-end, -end}, {end, -end}, {end, end}, {-end, end}};
+    for (size_t past = 0; past <= 2 * COUNT(ends); past++) {
+        mesh_page_point given[COUNT(ends)];
+        memcpy(given, ends, sizeof ends);
+        if (past > 0) {
+            int32_t *far = past % 2 ? &given[(past - 1) / 2].x : &given[(past - 1) / 2].y;
+            *far += *far > 0 ? 1 : -1;
+        }
+        mesh_page_triangle found[2];
+        mesh_page_memory memory = {last(lent, ENOUGH), ENOUGH};
+        uint64_t needed = 9;
+        uint32_t status = mesh_page_triangles(memory, given, COUNT(given), found, COUNT(found), &needed);
+        must(past ? status == MESH_PAGE_OUT_OF_RANGE && needed == 0 : status == MESH_PAGE_DONE && needed == 2, "triangles", "the range is wrong", past);
+    }
+}
+
+/* Two small answers are as they should be. The last point is the third one again. */
+static void check_answers(void) {
+    mesh_page_memory memory = {last(lent, ENOUGH), ENOUGH};
+    static const char ASKED[] = "triangle 7 8 9\nflip 0\nfoo\nhull", REPLIES[] = "ok\nrefused 14 WouldLoop\nbad line\nhull 0 2 4\n";
+    uint8_t text[sizeof REPLIES];
+    uint64_t needed;
+    must(mesh_page_replies(memory, (const uint8_t *)ASKED, sizeof ASKED - 1, text, sizeof text, &needed) == MESH_PAGE_DONE && needed == sizeof REPLIES - 1 &&
+             memcmp(text, REPLIES, sizeof REPLIES - 1) == 0,
+         "replies", "they are other ones", 0);
+    const mesh_page_point given[] = {{0, 0}, {4, 0}, {5, 5}, {0, 3}, {5, 5}};
+    static const mesh_page_triangle WANTED[] = {{0, 1, 3}, {1, 2, 3}};
+    mesh_page_triangle found[2];
+    must(mesh_page_triangles(memory, given, COUNT(given), found, COUNT(found), &needed) == MESH_PAGE_DONE && needed == COUNT(WANTED), "triangles", "there are others", 0);
+    for (size_t i = 0; i < COUNT(WANTED); i++) {
+        bool has = false;
+        for (size_t k = 0; k < COUNT(found); k++) {
+            mesh_page_triangle it = found[k], turned = {it.second, it.third, it.first}, again = {it.third, it.first, it.second};
+            has = has || memcmp(&it, &WANTED[i], sizeof it) == 0 || memcmp(&turned, &WANTED[i], sizeof it) == 0 || memcmp(&again, &WANTED[i], sizeof it) == 0;
+        }
+        must(has, "triangles", "one lacks", i);
+    }
+}
+
+int main(void) {
+    lent = guard(ENOUGH);
+    buffer = guard(ROOM);
+    for (size_t i = 0; i < COUNT(EXPORTS); i++)
+        check(&EXPORTS[i]);
+    check_range();
+    check_answers();
+    printf("%d checks\n", calls);
+    return EXIT_SUCCESS;
+}

@@ -1,0 +1,14 @@
+pub mod Levers
+pub mod FlipFaces
+pub mod Gates
+pub mod Channels
+pub mod Peaks
+pub mod Striving
+pub mod Onward
+pub mod Starting
+pub mod Becoming
+pub mod Listing
+pub mod Walking
+pub mod Sides
+pub mod Stepping
+pub mod Covered

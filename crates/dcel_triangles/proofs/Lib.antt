@@ -1,0 +1,5 @@
+mod Corners
+mod Faces
+mod Numbers
+mod Theorem
+mod Whole

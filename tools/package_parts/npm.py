@@ -1,0 +1,37 @@
+"""What the package for npm has besides the module and the page."""
+
+import json
+
+import linking
+
+FILES = ["mesh.d.ts", "mesh.html", "mesh.js", "mesh.wasm"]
+README = """\
+# dcel: a half-edge mesh for JavaScript
+
+Replies to lines about a mesh, pictures of it, and Delaunay triangulations, by a WebAssembly module in which every function is proved. `mesh.d.ts`
+has the types, and `mesh.html` is a page that draws and edits meshes in a browser.
+
+```js
+{example}```
+
+Each call begins with an empty mesh. The engine needs 64-bit memories: Node has them from 24 on, and Node 20 with `--experimental-wasm-memory64`.
+"""
+
+
+def manifest():
+    """package.json."""
+    said = {
+        "name": "dcel",
+        "version": linking.VERSION,
+        "description": "A half-edge mesh on the sphere, over a proved module",
+        "type": "module",
+        "exports": {".": {"types": "./mesh.d.ts", "default": "./mesh.js"}, "./mesh.wasm": "./mesh.wasm"},
+        "files": [*FILES, "BUILD"],
+        "private": True,
+    }
+    return json.dumps(said, indent=2) + "\n"
+
+
+def readme():
+    example = (linking.ROOT / "page/example.mjs").read_text()
+    return README.format(example=example.replace("./mesh.js", "dcel"))

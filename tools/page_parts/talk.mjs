@@ -1,0 +1,54 @@
+// Steps through the page of a talk in headless Chromium: `node talk.mjs PAGE`. By arrow keys to the last line and back, and by a click: the
+// picture of the line that is marked is shown, and no other. Nothing may be wider than the window at 390 and at 1,280 pixels, nor go wrong on
+// the console. Without scripts all pictures have to be there, one below the other.
+
+import { resolve } from 'node:path';
+import { pathToFileURL } from 'node:url';
+import { startChromium } from './chromium.mjs';
+
+const page = pathToFileURL(resolve(process.argv[2])).href;
+const faults = [];
+const SEEN = `(() => {
+  const steps = [...document.querySelectorAll('section')];
+  const numbered = test => steps.flatMap((it, index) => test(it) ? [index + 1] : []);
+  return {
+    now: numbered(it => it.classList.contains('now')),
+    shown: numbered(it => it.querySelector('img').getBoundingClientRect().height > 0),
+    broken: numbered(it => !it.querySelector('img').naturalWidth),
+    count: steps.length,
+    width: document.documentElement.scrollWidth,
+  };
+})()`;
+
+const browser = await startChromium();
+for (const width of [390, 1280]) {
+  await browser.ask('Emulation.setScriptExecutionDisabled', { value: true });
+  await browser.ask('Emulation.setDeviceMetricsOverride', { width, height: 800, deviceScaleFactor: 1, mobile: false });
+  await browser.open(page);
+  const { count, shown, broken } = await browser.evaluate(SEEN);
+  if (count === 0 || shown.length !== count || broken.length) faults.push(`${width}: without scripts ${shown} of ${count} are shown, and not ${broken}`);
+
+  await browser.ask('Emulation.setScriptExecutionDisabled', { value: false });
+  await browser.open(page);
+  const expect = async (step, how) => {
+    const seen = await browser.evaluate(SEEN);
+    if (`${seen.now}` !== `${step}` || `${seen.shown}` !== `${step}`) faults.push(`${width}: ${how} ${seen.now} is marked and ${seen.shown} shown, not ${step}`);
+    if (seen.width > width) faults.push(`${width}: ${seen.width} pixels wide`);
+  };
+  await expect(1, 'at first');
+  for (let step = 2; step <= count + 1; step++) {
+    await browser.press('ArrowRight');
+    await expect(Math.min(step, count), 'after an arrow to the right');
+  }
+  for (let step = count - 1; step >= 0; step--) {
+    await browser.press('ArrowLeft');
+    await expect(Math.max(step, 1), 'after an arrow to the left');
+  }
+  await browser.evaluate('document.querySelectorAll("section > div")[2].click()');
+  await expect(3, 'after a click');
+}
+faults.push(...await browser.faults());
+await browser.end();
+for (const fault of faults) console.log(fault);
+console.log(`the page of a talk, in ${browser.name}: ${faults.length} faults`);
+process.exitCode = faults.length ? 1 : 0;
