@@ -29,12 +29,15 @@ static void tell_time(Clock::time_point start, const char *of) {
     std::printf("%lld nanoseconds%s\n", (long long)took.count(), of);
 }
 
-// The vertices at the points with these numbers, those that were inserted last first.
+// The vertices at which no point is left without those of these numbers, the ones that were inserted last first.
 static std::vector<Triangulation::Vertex_handle> vertices_of(const Triangulation &triangulation, const std::vector<Kernel::Point_2> &points,
                                                              std::FILE *numbers) {
-    std::set<Kernel::Point_2> removed;
+    std::vector<bool> stays(points.size(), true);
     size_t number;
-    while (std::fscanf(numbers, "%zu", &number) == 1) removed.insert(points.at(number));
+    while (std::fscanf(numbers, "%zu", &number) == 1) stays.at(number) = false;
+    std::set<Kernel::Point_2> removed(points.begin(), points.end());
+    for (number = 0; number < points.size(); ++number)
+        if (stays[number]) removed.erase(points[number]);
     std::vector<Triangulation::Vertex_handle> vertices;
     for (auto vertex = triangulation.finite_vertices_begin(); vertex != triangulation.finite_vertices_end(); ++vertex)
         if (removed.count(vertex->point())) vertices.push_back(vertex);
