@@ -3,8 +3,8 @@
 import re
 from collections import Counter
 
-from fuzz_parts.lines import from_least
 from fuzz_parts.mesh import other
+from fuzz_parts.words import from_least
 
 COUNTS = re.compile(r"vertices (\d+) edges (\d+) faces (\d+)")
 NUMBERS = range(2 ** 32)

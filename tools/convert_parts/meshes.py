@@ -6,9 +6,10 @@ from copy import deepcopy
 from math import isfinite
 from pathlib import Path
 
-from fuzz_parts.lines import answer, from_least
+from fuzz_parts.lines import answer
 from fuzz_parts.making import Maker
 from fuzz_parts.mesh import CLOSED, Mesh, other
+from fuzz_parts.words import from_least
 
 from .surface import Surface
 
@@ -37,7 +38,7 @@ def states(lines):
     """A copy of the mesh after each line that leaves no removal open."""
     mesh = Mesh()
     for line in lines:
-        mesh, _ = answer(mesh, line)
+        answer(mesh, line)
         if mesh.removal == CLOSED:
             yield deepcopy(mesh)
 
@@ -46,11 +47,12 @@ def at_random(seed):
     """A mesh after lines of the fuzzer, from a seed. For every second seed lines are left out after which faces wouldn't tell the mesh."""
     maker, mesh = Maker(random.Random(seed), 12), Mesh()
     for _ in range(20 + seed % 50):
-        after, _ = answer(deepcopy(mesh), maker.lawful(mesh))
+        after = deepcopy(mesh)
+        answer(after, maker.lawful(mesh))
         if seed % 2 or after.removal != CLOSED or len(after.words) == 1 or inner_faces(after)[2]:
             mesh = after
     while mesh.removal != CLOSED:
-        mesh, _ = answer(mesh, maker.closing(mesh))
+        answer(mesh, maker.closing(mesh))
     return mesh
 
 
@@ -71,7 +73,7 @@ def corners_from_least(mesh):
 def words_of(mesh):
     """The file of words, as the lines are answered."""
     lines = ["counts", "words", *(f"out {vertex}" for vertex in range(len(mesh.data)))]
-    return "".join(answer(mesh, line)[1] + "\n" for line in lines)
+    return "".join(answer(mesh, line) + "\n" for line in lines)
 
 
 def left_out_of_faces(mesh):

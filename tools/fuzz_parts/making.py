@@ -11,15 +11,16 @@ GROWING = ["insert"] * 6 + ["outside"] * 3 + ["close"] * 3 + ["half"] * 2 + ["sp
 CHANGING = ["flip"] * 5 + ["legalize"] * 3 + ["swap"] * 2 + ["put"] * 2
 OPENING = ["isolate"] * 4 + ["vertex ring"] * 2 + ["region"] * 4 + ["strip"] * 4
 LOOKS = ["words", "hull", "counts", "check", "out", "out", "origin", "origin"]
-QUERIES = [word for word, row in ROWS.items() if row.adds is None]
 
 
 class Maker:
-    """Makes lines from a seeded source of random numbers."""
+    """Makes lines from a seeded source of random numbers. Of words that aren't named here it takes those that it is given."""
 
-    def __init__(self, random, most_vertices=40):
+    def __init__(self, random, most_vertices=40, words=ROWS):
         self.random = random
         self.most_vertices = most_vertices
+        self.words = list(words)
+        self.queries = [word for word in words if ROWS[word].adds is None]
 
     def line(self, mesh):
         """A line for this mesh."""
@@ -85,10 +86,10 @@ class Maker:
 
     def wild(self, mesh):
         """Any word, with items of its kinds, but of no thought."""
-        return self.of(mesh, self.random.choice(list(ROWS)))
+        return self.of(mesh, self.random.choice(self.words))
 
     def asking(self, mesh):
-        return self.of(mesh, self.random.choice(QUERIES))
+        return self.of(mesh, self.random.choice(self.queries))
 
     def look(self, mesh, line):
         """A line that shows something of the mesh: of its vertices one that the line names, one where it grew last, or any."""

@@ -1,4 +1,4 @@
-"""A mesh as plain lists of words, with the edits as docs/MODEL.md draws them. It has no links: each step is looked up in the words."""
+"""A mesh as plain lists of words. It has no links: each step is looked up in the words."""
 
 CLOSED = ("closed",)
 
@@ -65,6 +65,9 @@ class Mesh:
     def edge_count(self):
         return len(self.origins) // 2
 
+    def sizes(self):
+        return len(self.data), self.edge_count(), len(self.words)
+
     def vertex_given_up(self):
         return self.removal[-1] if self.removal != CLOSED else None
 
@@ -85,9 +88,13 @@ class Mesh:
     def is_unconnected(self, vertex):
         return self.is_live_vertex(vertex) and self.vertex_anchors[vertex] is None
 
-    def degree(self, vertex):
+    def turn(self, vertex):
+        """The half edges that start at a vertex, by `ccw` from its anchor on."""
         anchor = self.vertex_anchors[vertex]
-        return 0 if anchor is None else len(self.out_edges(anchor))
+        return [] if anchor is None else self.out_edges(anchor)
+
+    def degree(self, vertex):
+        return len(self.turn(vertex))
 
     def is_triangle(self, face):
         return self.is_live_face(face) and len(self.words[face]) == 3
@@ -188,9 +195,9 @@ class Mesh:
                 return False
         return True
 
-    # Edits.
+    # Parts of edits.
 
-    def put(self, half, items):
+    def replace(self, half, items):
         """Has these items take the place of a half edge in its word."""
         face, place = self.places()[half]
         self.set_word(face, self.words[face][:place] + items + self.words[face][place + 1:])
@@ -203,121 +210,6 @@ class Mesh:
         self.words.append(word)
         self.face_anchors.append(anchor)
         self._places = None
-
-    def append(self, datum):
-        self.data.append(datum)
-        self.vertex_anchors.append(None)
-        return len(self.data) - 1
-
-    def set_up(self, first, second):
-        self.set_word(0, [0, 1])
-        self.origins = [first, second]
-        self.vertex_anchors[first], self.vertex_anchors[second], self.face_anchors[0] = 0, 1, 0
-
-    def extend(self, end, new):
-        half = len(self.origins)
-        out = self.vertex_anchors[end]
-        self.put(other(out), [other(out), half + 1, half])
-        self.origins += [new, end]
-        self.vertex_anchors[new] = half
-
-    def split_line(self, edge, new):
-        half, end = len(self.origins), self.to(edge)
-        self.put(edge, [edge, half])
-        self.put(other(edge), [half + 1, other(edge)])
-        self.origins[other(edge)] = new
-        self.origins += [new, end]
-        self.vertex_anchors[end], self.vertex_anchors[new] = half + 1, half
-        return [edge, half]
-
-    def close(self, edge):
-        half, after = len(self.origins), self.next(edge)
-        start, end = self.origins[edge], self.to(after)
-        word = [item for item in self.words[0] if item != after]
-        word[word.index(edge)] = half + 1
-        self.set_word(0, word)
-        self.add_face([edge, after, half], half)
-        self.origins += [end, start]
-        self.face_anchors[0] = half + 1
-        return half + 1
-
-    def put_outside(self, edge, new):
-        half, face = len(self.origins), self.face(edge)
-        self.put(edge, [half + 3, half + 1])
-        self.origins += [self.to(edge), new, new, self.origins[edge]]
-        self.add_face([edge, half, half + 2], edge)
-        self.face_anchors[face], self.vertex_anchors[new] = half + 3, half + 2
-
-    def insert(self, new, face):
-        half = len(self.origins)
-        word = self.words[face]
-        first = word.index(self.face_anchors[face])
-        a, b, c = word[first:] + word[:first]
-        self.set_word(face, [a, half, half + 5])
-        self.add_face([b, half + 2, half + 1], b)
-        self.add_face([c, half + 4, half + 3], c)
-        self.origins += [self.origins[b], new, self.origins[c], new, self.origins[a], new]
-        self.vertex_anchors[new] = half + 1
-
-    def split_half(self, edge, new):
-        half, face, twin = len(self.origins), self.face(edge), other(edge)
-        after, before, end = self.next(edge), self.prev(edge), self.to(edge)
-        self.put(twin, [half + 3, twin])
-        self.set_word(face, [edge, half + 1, before])
-        self.origins += [self.origins[before], new, new, end]
-        self.origins[twin] = new
-        self.add_face([half, half + 2, after], half + 2)
-        self.vertex_anchors[new], self.vertex_anchors[end], self.face_anchors[face] = half + 2, half + 3, edge
-        return [edge, half + 2]
-
-    def split(self, edge, new):
-        half, twin, end = len(self.origins), other(edge), self.to(edge)
-        face, facing = self.face(edge), self.face(twin)
-        after, before, twin_after, twin_before = self.next(edge), self.prev(edge), self.next(twin), self.prev(twin)
-        self.origins += [self.origins[twin_before], new, end, new, self.origins[before], new]
-        self.origins[twin] = new
-        self.set_word(face, [edge, half + 5, before])
-        self.set_word(facing, [twin, twin_after, half])
-        self.add_face([half + 2, half + 1, twin_before], half + 2)
-        self.add_face([half + 4, half + 3, after], half + 4)
-        self.vertex_anchors[new], self.vertex_anchors[end] = twin, half + 2
-        self.face_anchors[face], self.face_anchors[facing] = edge, half
-        return [edge, half + 3]
-
-    def flip(self, edge):
-        half, twin = 2 * edge, 2 * edge + 1
-        start, end = self.origins[half], self.origins[twin]
-        after, before, twin_after, twin_before = self.next(half), self.prev(half), self.next(twin), self.prev(twin)
-        face, facing = self.face(half), self.face(twin)
-        self.origins[half], self.origins[twin] = self.origins[before], self.origins[twin_before]
-        self.set_word(face, [half, twin_before, after])
-        self.set_word(facing, [twin, before, twin_after])
-        self.vertex_anchors[start], self.vertex_anchors[end] = twin_after, after
-        self.face_anchors[face], self.face_anchors[facing] = half, twin
-
-    def legalize(self, most, edges):
-        """Flips wanted edges, the last of the list first, at most so many. Answers how many, and whether it ended by itself."""
-        left, flips = list(edges), 0
-        while left:
-            edge = left.pop()
-            if not self.can_flip(edge):
-                continue
-            half, twin = 2 * edge, 2 * edge + 1
-            corners = min(self.origins[self.prev(half)], self.origins[self.prev(twin)])
-            if corners >= min(self.origins[half], self.origins[twin]):
-                continue
-            if flips == most:
-                return flips, False
-            self.flip(edge)
-            flips += 1
-            left += [edge] + [item // 2 for item in (self.next(half), self.prev(half), self.next(twin), self.prev(twin))]
-        return flips, True
-
-    def swap(self, first, second):
-        renamed = {first: second, second: first}
-        self.origins = [renamed.get(vertex, vertex) for vertex in self.origins]
-        for items in (self.data, self.vertex_anchors):
-            items[first], items[second] = items[second], items[first]
 
     # Removals.
 
@@ -348,25 +240,6 @@ class Mesh:
         self.vertex_anchors[start] = closing
         return list(range(first_edge, first_edge + n - 3))
 
-    def isolate(self, vertex, border):
-        halves = self.out_edges(self.vertex_anchors[vertex])
-        edges, faces = [half // 2 for half in halves], [self.face(half) for half in halves]
-        return edges, faces, self.fill(border, edges, faces, vertex)
-
-    def cut_strip(self, strip, vertex, outer):
-        edges = [self.prev(half) // 2 for half in strip]
-        faces = [self.face(half) for half in strip[:-1]]
-        before = self.prev(outer)
-        place = self.words[0].index(outer)
-        word = self.words[0][place:] + self.words[0][:place]
-        assert word[0] == outer and word[-1] == before
-        self.set_word(0, word[1:-1] + strip[:-1])
-        self.give_up(edges, faces, vertex)
-        for half in strip:
-            self.vertex_anchors[self.origins[half]] = half
-        self.face_anchors[0] = strip[-1]
-        return edges, faces
-
     def rename_edges(self, gone):
         moved = renumbered(self.edge_count(), gone)
 
@@ -388,46 +261,6 @@ class Mesh:
         for old, new in moved.items():
             words[new], anchors[new] = self.words[old], self.face_anchors[old]
         self.words, self.face_anchors, self._places = words, anchors, None
-
-    def clean_up(self):
-        _, edges, faces, vertex = self.removal
-        self.rename_edges(edges)
-        self.rename_faces(faces)
-        self.removal = CLOSED if vertex is None else ("cleaned", vertex)
-
-    def remove(self, vertex):
-        """Takes a vertex out. Answers its datum, and the vertex that moved into its place."""
-        last = len(self.data) - 1
-        datum = self.data[vertex]
-        self.data[vertex], self.vertex_anchors[vertex] = self.data[last], self.vertex_anchors[last]
-        self.data.pop()
-        self.vertex_anchors.pop()
-        self.origins = [vertex if start == last else start for start in self.origins]
-        self.removal = CLOSED
-        return datum, None if vertex == last else last
-
-    def remove_from_path(self, vertex):
-        anchor = self.vertex_anchors[vertex]
-        if anchor is not None:
-            self.drop_path_edge(vertex, anchor)
-        return self.remove(vertex)
-
-    def drop_path_edge(self, vertex, anchor):
-        halves = self.out_edges(anchor)
-        gone = halves[-1] if len(halves) == 1 else self.ccw(anchor)
-        instead = None if len(self.data) == 2 else self.next(gone) if len(halves) == 1 else anchor
-        end = self.to(gone)
-        self.set_word(0, [half for half in self.words[0] if half // 2 != gone // 2])
-        if len(halves) == 2:
-            self.origins[anchor] = end
-        self.vertex_anchors[vertex] = None
-
-        def replaced(half):
-            return instead if half is not None and half // 2 == gone // 2 else half
-
-        self.vertex_anchors = [replaced(half) for half in self.vertex_anchors]
-        self.face_anchors = [replaced(half) for half in self.face_anchors]
-        self.rename_edges([gone // 2])
 
 
 def is_turn(items, others):

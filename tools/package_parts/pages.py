@@ -29,7 +29,7 @@ def page(program, run):
 
 
 def lines_page():
-    """docs/LINES.md as a page, with a list in place of each table, since a terminal has no room for five columns."""
+    """docs/LINES.md as a page, with a list in place of each table, since a terminal has no room for six columns."""
     _, text = linking.plain(linking.ROOT / "docs/LINES.md").split("\n", 1)
     date = time.strftime("%Y-%m-%d", time.gmtime(int(os.environ["SOURCE_DATE_EPOCH"])))
     text = re.sub(r"(?:^\|.*\n)+", listed, text, flags=re.M).replace("\n## ", "\n# ")

@@ -15,10 +15,15 @@ export async function startChromium(downloads) {
   const child = spawn('chromium', words, { stdio: ['ignore', 'ignore', 'ignore', 'pipe', 'pipe'] });
   const [, , , requests, replies] = child.stdio;
   const waiting = new Map(), faults = [];
+  const loads = new Set();
   let loaded = () => {}, number = 0, session, rest = '';
 
   const told = {
-    'Page.loadEventFired': () => loaded(),
+    'Page.lifecycleEvent': ({ name, loaderId }) => {
+      if (name !== 'load') return;
+      loads.add(loaderId);
+      loaded();
+    },
     'Runtime.exceptionThrown': ({ exceptionDetails: { text, exception } }) => faults.push(`${text} ${exception?.description}`),
     'Runtime.consoleAPICalled': ({ type, args }) => faults.push(`${type}: ${args.map(it => it.value).join(' ')}`),
     'Log.entryAdded': ({ entry }) => faults.push(`${entry.level}: ${entry.text}`),
@@ -40,6 +45,7 @@ export async function startChromium(downloads) {
   const { targetId } = await ask('Target.createTarget', { url: 'about:blank' });
   ({ sessionId: session } = await ask('Target.attachToTarget', { targetId, flatten: true }));
   for (const domain of ['Page', 'Runtime', 'Log']) await ask(`${domain}.enable`);
+  await ask('Page.setLifecycleEventsEnabled', { enabled: true });
   if (downloads) await ask('Page.setDownloadBehavior', { behavior: 'allow', downloadPath: downloads });
   const { product } = await ask('Browser.getVersion');
 
@@ -47,6 +53,12 @@ export async function startChromium(downloads) {
     const { result, exceptionDetails } = await ask('Runtime.evaluate', { expression, returnByValue: true, awaitPromise: true });
     if (exceptionDetails) throw new Error(`${expression}: ${exceptionDetails.exception?.description}`);
     return result.value;
+  };
+  /** Goes to an address, and waits for the load that this began, not for an earlier one that is told late. */
+  const load = async url => {
+    const { loaderId, errorText } = await ask('Page.navigate', { url });
+    if (errorText) throw new Error(`${url}: ${errorText}`);
+    while (!loads.has(loaderId)) await new Promise(resolve => { loaded = resolve; });
   };
   const mouse = (type, [x, y], more) => ask('Input.dispatchMouseEvent', { type, x, y, button: 'left', ...more });
   const pressKey = async (key, more) => {
@@ -59,13 +71,10 @@ export async function startChromium(downloads) {
     ask, evaluate,
     /** What went wrong in the page, and what its console told. */
     faults: async () => faults,
+    /** An empty page comes between, so that an address that differs in its fragment alone is loaded too. */
     async open(url) {
-      const load = new Promise(resolve => { loaded = resolve; });
-      await ask('Page.navigate', { url: 'about:blank' });
-      await load;
-      const again = new Promise(resolve => { loaded = resolve; });
-      await ask('Page.navigate', { url });
-      await again;
+      await load('about:blank');
+      await load(url);
     },
     type: text => ask('Input.insertText', { text }),
     press: key => pressKey(key),

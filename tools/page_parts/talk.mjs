@@ -1,6 +1,6 @@
 // Steps through the page of a talk in headless Chromium: `node talk.mjs PAGE`. By arrow keys to the last line and back, and by a click: the
-// picture of the line that is marked is shown, and no other. Nothing may be wider than the window at 390 and at 1,280 pixels, nor go wrong on
-// the console. Without scripts all pictures have to be there, one below the other.
+// picture of the line that is marked is shown, and no other, and the line is in sight. Nothing may be wider than the window at 390 and at 1,280
+// pixels, nor go wrong on the console. Without scripts all pictures have to be there, one below the other.
 
 import { resolve } from 'node:path';
 import { pathToFileURL } from 'node:url';
@@ -17,6 +17,10 @@ const SEEN = `(() => {
     broken: numbered(it => !it.querySelector('img').naturalWidth),
     count: steps.length,
     width: document.documentElement.scrollWidth,
+    isLineInSight: steps.some(it => {
+      const { left, top, bottom } = it.querySelector('kbd').getBoundingClientRect();
+      return it.classList.contains('now') && [top + 1, bottom - 1].every(y => it.contains(document.elementFromPoint(left + 9, y)));
+    }),
   };
 })()`;
 
@@ -34,6 +38,7 @@ for (const width of [390, 1280]) {
     const seen = await browser.evaluate(SEEN);
     if (`${seen.now}` !== `${step}` || `${seen.shown}` !== `${step}`) faults.push(`${width}: ${how} ${seen.now} is marked and ${seen.shown} shown, not ${step}`);
     if (seen.width > width) faults.push(`${width}: ${seen.width} pixels wide`);
+    if (!seen.isLineInSight) faults.push(`${width}: ${how} the line ${step} isn't in sight`);
   };
   await expect(1, 'at first');
   for (let step = 2; step <= count + 1; step++) {

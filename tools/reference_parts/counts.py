@@ -28,11 +28,19 @@ def count_faults(project, text):
 
 
 def fault(project, name, told):
-    calls = project.calls(name)
-    if len(calls) != 1:
-        yield f"`tools/believe {name}` names {len(calls)} calls"
+    if len(project.calls(name)) != 1:
+        yield f"`tools/believe {name}` names {len(project.calls(name))} calls"
         return
-    rests = Rests(calls[0])
-    found = [*counts(rests.meaning), *counts(rests.values)]
+    found = counted(project, name)
     if told != found[: len(told)]:
         yield f"{name} rests on {found}, definitions and lines, first of what it says and then of what values are read as, and not on {told}"
+
+
+def counted(project, name):
+    rests = Rests(project.calls(name)[0])
+    return [*counts(rests.meaning), *counts(rests.values)]
+
+
+def recounted(project, text):
+    """A document with the numbers in its rows as the tool counts them."""
+    return ROW.sub(lambda row: f"| `{row[1]}` | {row[2]} | {' | '.join(map(str, counted(project, row[1])))} |", text)

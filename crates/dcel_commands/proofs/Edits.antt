@@ -7,7 +7,7 @@ use Rattle.dcel_commands.specs.Lists.{Run, Stops}
 use Rattle.dcel_commands.specs.Responses.{Response}
 use Rattle.dcel_commands.specs.Steps.{Legal, Step}
 use Rattle.dcel_commands.proofs.Lawful.{shape_of}
-use Rattle.dcel_commands.proofs.Lawfulness.{lawful}
+use Rattle.dcel_commands.proofs.Rows.{lawful}
 use Rattle.dcel_maps.specs.EditLists.{EditedBy}
 use Rattle.dcel_maps.specs.Shapes.{IsMesh, Mesh, map_of}
 use Rattle.dcel_maps.proofs.lists.Made.{stays_listed}

@@ -4,12 +4,12 @@ pub mod Edits
 pub mod Ending
 pub mod FaceWalks
 pub mod Lawful
-pub mod Lawfulness
 pub mod Lists
 pub mod OneRemoval
 pub mod OutEdges
 pub mod Refusing
 pub mod Rounds
+pub mod Rows
 pub mod Runs
 pub mod Serving
 pub mod Spelling

@@ -14,7 +14,7 @@ use Rattle.dcel_maps.specs.Renumbered.{LeavesLive, new_face, new_half}
 use Rattle.dcel_maps.specs.Renumbering.{cleaned, edges_down, edges_taken_out, faces_down, faces_taken_out, moved, vertex_taken_out, with_removal}
 use Rattle.dcel_maps.specs.Shapes.{IsMesh, Mesh, origin_of}
 use Rattle.dcel_maps.specs.edits.Strip.{strip_half}
-use Rattle.dcel_commands.proofs.Lawfulness.{lawful}
+use Rattle.dcel_commands.proofs.Rows.{lawful}
 use Rattle.dcel_maps.proofs.renumbering.Renumbered.{leaves_live, numbered, vertex_leaves_live}
 
 -- the record of a removal that gives up what a reply lists, and this vertex

@@ -11,7 +11,7 @@ use Rattle.dcel_commands.specs.Rules.{State}
 use Rattle.dcel_commands.specs.Talk.{asked, Does}
 use Rattle.dcel_maps.specs.Shapes.{Shape}
 use Rattle.dcel_commands.proofs.Columns.{FirstUnmet-not_met}
-use Rattle.dcel_commands.proofs.Lawfulness.{refused-below}
+use Rattle.dcel_commands.proofs.Rows.{refused-below}
 
 not_memory : {V : Type 0} (s : Shape) (limit : ℕ) (command : Instruction V) (why : Refusal) → Refuses s limit command why → ¬ (why ≡ OutOfMemory)
 not_memory s limit command why refuses is =

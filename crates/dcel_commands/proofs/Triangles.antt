@@ -7,7 +7,7 @@ use Rattle.dcel_commands.specs.Responses.{Response}
 use Rattle.dcel_commands.specs.Steps.{Legal, Step}
 use Rattle.dcel_commands.specs.Triangles.{TrianglesStay, LeavesLonger}
 use Rattle.dcel_commands.proofs.Lawful.{all_triangles}
-use Rattle.dcel_commands.proofs.Lawfulness.{lawful}
+use Rattle.dcel_commands.proofs.Rows.{lawful}
 use Rattle.dcel_maps.specs.Shapes.{IsMesh, Mesh}
 use Rattle.dcel_maps.specs.Triangulations.{AllTriangles}
 

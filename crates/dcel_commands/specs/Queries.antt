@@ -1,23 +1,95 @@
--- What queries are told.
-use Rattle.std.specs.Prelude.{List, Result, Ok, Err}
+-- What queries ask, and what they are told.
+use Rattle.std.specs.Prelude.{◌≡◌, ◌↔◌, ℕ, Bool, IsTrue, List, [], ◌∷◌, Some, Result, Ok, Err, codes, slice_get}
 use Rattle.dcel_commands.specs.declared.refusal.Refusal.{Refusal}
+use Rattle.dcel_commands.specs.declared.refusal.Refusal.TheVariants.{NoSuchVertex, NoSuchEdge, GivenUp}
 use Rattle.dcel_commands.specs.declared.commands.query.Query.{Query}
 use Rattle.dcel_commands.specs.declared.commands.query.Query.TheVariants as queries
 use Rattle.dcel_commands.specs.declared.commands.query.Told.{Told}
 use Rattle.dcel_commands.specs.declared.commands.query.Told.TheVariants as answers
-use Rattle.dcel_commands.specs.Conditions.{Entry, AllMet, FirstUnmet}
+use Rattle.dcel_commands.specs.Asking.{live_vertices}
+use Rattle.dcel_commands.specs.Conditions.{Entry, AllMet, FirstUnmet, VertexInRange, VertexLive, HalfEdgeInRange, HalfEdgeLive}
 use Rattle.dcel_commands.specs.Facts.{Fact, Counts, Words, Hull, Out, Vertex, Half, Datum, Truth}
+use Rattle.dcel_commands.specs.Grammar.{Number}
 use Rattle.dcel_commands.specs.Rules.{QueryRule}
-use Rattle.dcel_commands.specs.request.Between.{between}
-use Rattle.dcel_commands.specs.request.Check.{check}
-use Rattle.dcel_commands.specs.request.Counts.{counts}
-use Rattle.dcel_commands.specs.request.Get.{get}
-use Rattle.dcel_commands.specs.request.Origin.{origin}
-use Rattle.dcel_commands.specs.request.Out.{out, turn_of}
-use Rattle.dcel_commands.specs.request.Words.{hull, live_faces, words}
-use Rattle.dcel_maps.specs.Shapes.{Mesh}
+use Rattle.dcel_commands.specs.request.Out.{turn_of}
+use Rattle.dcel_commands.specs.request.Words.{live_faces}
+use Rattle.dcel_maps.specs.Checked.{IsChecked}
+use Rattle.dcel_maps.specs.Shapes.{Mesh, face_count, origin_of}
+use Rattle.dcel_maps.specs.Walking.{edge_between}
 use Rattle.dcel_maps.specs.Words.{word_of}
 use Rattle.spade_dcel.specs.Handles.{mesh_behind, number_of}
+
+-- `counts`: how many vertices, undirected edges and faces there are
+abbrev pub counts : QueryRule
+counts = record {
+  word = codes "counts";
+  given = [];
+  asks = [];
+  Tells = λ m fact. fact ≡ Counts m.shape.vertices m.shape.edges (face_count m.shape);
+}
+
+-- `words`: each live face
+abbrev pub words : QueryRule
+words = record {
+  word = codes "words";
+  given = [];
+  asks = [];
+  Tells = λ m fact. fact ≡ Words (live_faces m.shape);
+}
+
+-- `hull`: the half edges of the outer face
+abbrev pub hull : QueryRule
+hull = record {
+  word = codes "hull";
+  given = [];
+  asks = [];
+  Tells = λ m fact. fact ≡ Hull (word_of m.shape.words 0);
+}
+
+-- `out V`: the half edges that start at V
+abbrev pub out : ℕ → QueryRule
+out v = record {
+  word = codes "out";
+  given = Number v ∷ [];
+  asks = (NoSuchVertex, VertexInRange v) ∷ (GivenUp, VertexLive v) ∷ [];
+  Tells = λ m fact. fact ≡ Out (turn_of m.shape v);
+}
+
+-- `origin H`: the vertex that H starts at
+abbrev pub origin : ℕ → QueryRule
+origin h = record {
+  word = codes "origin";
+  given = Number h ∷ [];
+  asks = (NoSuchEdge, HalfEdgeInRange h) ∷ (GivenUp, HalfEdgeLive h) ∷ [];
+  Tells = λ m fact. fact ≡ Vertex (origin_of m.shape h);
+}
+
+-- `between A B`: the half edge that leads from A to B
+abbrev pub between : ℕ → ℕ → QueryRule
+between a b = record {
+  word = codes "between";
+  given = Number a ∷ Number b ∷ [];
+  asks = live_vertices a b;
+  Tells = λ m fact. fact ≡ Half (edge_between m a b);
+}
+
+-- `get V`: the datum of V
+abbrev pub get : ℕ → QueryRule
+get v = record {
+  word = codes "get";
+  given = Number v ∷ [];
+  asks = (NoSuchVertex, VertexInRange v) ∷ [];
+  Tells = λ {V} m fact. (datum : V) × (slice_get m.vertex_data v ≡ Some datum) × (fact ≡ Datum datum);
+}
+
+-- `check`: whether the mesh is checked
+abbrev pub check : QueryRule
+check = record {
+  word = codes "check";
+  given = [];
+  asks = [];
+  Tells = λ m fact. (answer : Bool) × (IsTrue answer ↔ IsChecked m.shape) × (fact ≡ Truth answer);
+}
 
 -- the queries
 abbrev pub query_rule : Query → QueryRule

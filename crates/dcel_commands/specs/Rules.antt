@@ -1,4 +1,4 @@
--- What each line says of itself: the files in `request` have one of these records each.
+-- What each line says of itself: a command has one of these records in its file in `request`, a query in `Queries`.
 use Rattle.std.specs.Prelude.{ℕ, ℤ, Bool, List}
 use Rattle.dcel_commands.specs.declared.commands.reply.Handed.{Handed}
 use Rattle.dcel_commands.specs.Conditions.{Entry}

@@ -2,7 +2,6 @@
 //! query; and the runner, which writes the replies to lines.
 
 mod command;
-mod dispatch;
 mod lists;
 mod query;
 mod reply;
@@ -13,12 +12,11 @@ pub use crate::refusal::Refusal;
 pub use crate::request::{LineMesh, Request};
 pub use crate::run::run;
 pub use crate::session::Session;
-pub use command::Command;
+pub use command::{Command, MAX_LIMIT, apply};
 pub use dcel_text::faults::Failed;
 pub use dcel_text::output::Writer;
 pub use dcel_text::sink::{LineSink, StdSink};
 pub use dcel_text::source::{LineSource, StdSource};
-pub use dispatch::{MAX_LIMIT, apply};
 pub use lists::{StoppedAt, apply_all};
 pub use query::{Query, Told, tell};
 pub use reply::{Handed, Refused, Reply};

@@ -5,12 +5,14 @@ ghost use Rattle.dcel_text.specs.Items.{left};
 ghost use Rattle.dcel_commands.specs.Instructions.{Instruction, command_rule};
 ghost use Rattle.dcel_commands.specs.Spelling.{Reads, Says};
 
-use crate::commands::{Command, Query};
+use crate::commands::Command::*;
+use crate::commands::Query::*;
 use crate::given::{
     number_and_datum, number_and_list, one_datum, one_list, one_number, three_data, three_lists,
     two_lists, two_numbers,
 };
 use crate::request::Request;
+use crate::request::Request::{Ask, Edit};
 use dcel_fixed::FixedHandleImpl;
 use dcel_text::items::{Rest, first, nothing};
 use std::alloc::{AllocError, Allocator};
@@ -21,41 +23,28 @@ const LONGEST: usize = 4096;
 /// What a line says, or that there is no memory for its lists; `None` for a bad line.
 pub type Said<A> = Option<Result<Request<A>, AllocError>>;
 
-/// The command that is made of what was read.
-macro_rules! edit {
-    ($read:expr, $given:pat => $command:ident $(($($field:expr),+))?) => {
+/// What a line says whose items were read: it is made of these.
+macro_rules! said {
+    ($read:expr, $given:pat => $request:expr) => {
         match $read {
             Some(read) => {
                 let $given = read;
-                Some(Ok(Request::Edit(Command::$command $(($($field),+))?)))
+                Some(Ok($request))
             }
             None => None,
         }
     };
 }
 
-/// The command that is made of the lists that were read, if there was memory for them.
-macro_rules! edit_lists {
-    ($read:expr, $given:pat => $command:ident $(($($field:expr),+))?) => {
+/// The same of a line with lists, if there was memory for them.
+macro_rules! said_lists {
+    ($read:expr, $given:pat => $request:expr) => {
         match $read {
             Some(Ok(read)) => {
                 let $given = read;
-                Some(Ok(Request::Edit(Command::$command $(($($field),+))?)))
+                Some(Ok($request))
             }
             Some(Err(error)) => Some(Err(error)),
-            None => None,
-        }
-    };
-}
-
-/// The query that is made of what was read.
-macro_rules! ask {
-    ($read:expr, $given:pat => $query:ident $(($($field:expr),+))?) => {
-        match $read {
-            Some(read) => {
-                let $given = read;
-                Some(Ok(Request::Ask(Query::$query $(($($field),+))?)))
-            }
             None => None,
         }
     };
@@ -69,14 +58,15 @@ fn read_query<'a, A: Allocator>(word: &[u8], rest: Rest<'a>) -> Said<A>
     ensures { Says word.now (left rest.entry) result }
 {
     match word {
-        _ if word == b"counts".as_slice() => ask!(nothing(rest), () => Counts),
-        _ if word == b"words".as_slice() => ask!(nothing(rest), () => Words),
-        _ if word == b"hull".as_slice() => ask!(nothing(rest), () => Hull),
-        _ if word == b"out".as_slice() => ask!(one_number(rest), v => Out(v)),
-        _ if word == b"origin".as_slice() => ask!(one_number(rest), h => Origin(h)),
-        _ if word == b"between".as_slice() => ask!(two_numbers(rest), (v, w) => Between(v, w)),
-        _ if word == b"get".as_slice() => ask!(one_number(rest), v => Get(v)),
-        _ if word == b"check".as_slice() => ask!(nothing(rest), () => Check),
+        _ if word == b"counts".as_slice() => said!(nothing(rest), () => Ask(Counts)),
+        _ if word == b"words".as_slice() => said!(nothing(rest), () => Ask(Words)),
+        _ if word == b"hull".as_slice() => said!(nothing(rest), () => Ask(Hull)),
+        _ if word == b"out".as_slice() => said!(one_number(rest), v => Ask(Out(v))),
+        _ if word == b"origin".as_slice() => said!(one_number(rest), h => Ask(Origin(h))),
+        _ if word == b"between".as_slice() =>
+            said!(two_numbers(rest), (v, w) => Ask(Between(v, w))),
+        _ if word == b"get".as_slice() => said!(one_number(rest), v => Ask(Get(v))),
+        _ if word == b"check".as_slice() => said!(nothing(rest), () => Ask(Check)),
         _ => None,
     }
 }
@@ -93,23 +83,24 @@ fn read_plain<'a, A: Allocator>(word: &[u8], rest: Rest<'a>) -> Said<A>
     ensures { Says word.now (left rest.entry) result }
 {
     match word {
-        _ if word == b"append".as_slice() => edit!(one_datum(rest), d => Append(d)),
+        _ if word == b"append".as_slice() => said!(one_datum(rest), d => Edit(Append(d))),
         _ if word == b"triangle".as_slice() =>
-            edit!(three_data(rest), (x, y, z) => Triangle(x, y, z)),
-        _ if word == b"setup".as_slice() => edit!(two_numbers(rest), (a, b) => Setup(a, b)),
-        _ if word == b"extend".as_slice() => edit!(two_numbers(rest), (a, b) => Extend(a, b)),
-        _ if word == b"line".as_slice() => edit!(two_numbers(rest), (h, b) => Line(h, b)),
-        _ if word == b"close".as_slice() => edit!(one_number(rest), h => Close(h)),
-        _ if word == b"outside".as_slice() => edit!(two_numbers(rest), (h, b) => Outside(h, b)),
-        _ if word == b"insert".as_slice() => edit!(two_numbers(rest), (b, f) => Insert(b, f)),
-        _ if word == b"half".as_slice() => edit!(two_numbers(rest), (h, b) => Half(h, b)),
-        _ if word == b"split".as_slice() => edit!(two_numbers(rest), (h, b) => Split(h, b)),
-        _ if word == b"flip".as_slice() => edit!(one_number(rest), u => Flip(u)),
-        _ if word == b"swap".as_slice() => edit!(two_numbers(rest), (a, b) => Swap(a, b)),
-        _ if word == b"put".as_slice() => edit!(number_and_datum(rest), (v, d) => Put(v, d)),
-        _ if word == b"remove".as_slice() => edit!(one_number(rest), v => Remove(v)),
-        _ if word == b"degenerate".as_slice() => edit!(one_number(rest), v => Degenerate(v)),
-        _ if word == b"clear".as_slice() => edit!(nothing(rest), () => Clear),
+            said!(three_data(rest), (x, y, z) => Edit(Triangle(x, y, z))),
+        _ if word == b"setup".as_slice() => said!(two_numbers(rest), (a, b) => Edit(Setup(a, b))),
+        _ if word == b"extend".as_slice() => said!(two_numbers(rest), (a, b) => Edit(Extend(a, b))),
+        _ if word == b"line".as_slice() => said!(two_numbers(rest), (h, b) => Edit(Line(h, b))),
+        _ if word == b"close".as_slice() => said!(one_number(rest), h => Edit(Close(h))),
+        _ if word == b"outside".as_slice() =>
+            said!(two_numbers(rest), (h, b) => Edit(Outside(h, b))),
+        _ if word == b"insert".as_slice() => said!(two_numbers(rest), (b, f) => Edit(Insert(b, f))),
+        _ if word == b"half".as_slice() => said!(two_numbers(rest), (h, b) => Edit(Half(h, b))),
+        _ if word == b"split".as_slice() => said!(two_numbers(rest), (h, b) => Edit(Split(h, b))),
+        _ if word == b"flip".as_slice() => said!(one_number(rest), u => Edit(Flip(u))),
+        _ if word == b"swap".as_slice() => said!(two_numbers(rest), (a, b) => Edit(Swap(a, b))),
+        _ if word == b"put".as_slice() => said!(number_and_datum(rest), (v, d) => Edit(Put(v, d))),
+        _ if word == b"remove".as_slice() => said!(one_number(rest), v => Edit(Remove(v))),
+        _ if word == b"degenerate".as_slice() => said!(one_number(rest), v => Edit(Degenerate(v))),
+        _ if word == b"clear".as_slice() => said!(nothing(rest), () => Edit(Clear)),
         _ => read_query(word, rest),
     }
 }
@@ -121,14 +112,15 @@ fn read_after<'a, A: Allocator + Copy>(word: &[u8], rest: Rest<'a>, memory: A) -
 {
     match word {
         _ if word == b"isolate".as_slice() =>
-            edit_lists!(number_and_list(rest, memory), (v, hs) => Isolate(FixedHandleImpl::new(v), hs)),
+            said_lists!(number_and_list(rest, memory), (v, hs) => Edit(Isolate(FixedHandleImpl::new(v), hs))),
         _ if word == b"remesh".as_slice() =>
-            edit_lists!(three_lists(rest, memory), (hs, us, fs) => Remesh(hs, us, fs)),
-        _ if word == b"strip".as_slice() => edit_lists!(one_list(rest, memory), hs => Strip(hs)),
+            said_lists!(three_lists(rest, memory), (hs, us, fs) => Edit(Remesh(hs, us, fs))),
+        _ if word == b"strip".as_slice() =>
+            said_lists!(one_list(rest, memory), hs => Edit(Strip(hs))),
         _ if word == b"cleanup".as_slice() =>
-            edit_lists!(two_lists(rest, memory), (us, fs) => Cleanup(us, fs)),
+            said_lists!(two_lists(rest, memory), (us, fs) => Edit(Cleanup(us, fs))),
         _ if word == b"legalize".as_slice() =>
-            edit_lists!(number_and_list(rest, memory), (n, us) => Legalize(n, us)),
+            said_lists!(number_and_list(rest, memory), (n, us) => Edit(Legalize(n, us))),
         _ => read_plain(word, rest),
     }
 }

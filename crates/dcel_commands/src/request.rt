@@ -1,21 +1,18 @@
-//! What a line says: a command or a query. What each asks, and how it is carried out or told, has a
-//! file of its own; `words` and `hull` share one.
+//! What a line says: a command or a query. What a command asks, and how it is carried out, has a
+//! file of its own; `out` and `words` write what queries are told.
 
 pub mod append;
-pub mod between;
 pub mod cleanup;
 pub mod clear;
 pub mod close;
 pub mod degenerate;
 pub mod extend;
 pub mod flip;
-pub mod get;
 pub mod half;
 pub mod insert;
 pub mod isolate;
 pub mod legalize;
 pub mod line;
-pub mod origin;
 pub mod out;
 pub mod outside;
 pub mod put;

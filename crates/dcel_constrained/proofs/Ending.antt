@@ -1,23 +1,29 @@
 -- How joining two vertices ends.
-use Rattle.std.proofs.Common.{◌≡◌, ◌≢◌, ℕ, ◌<◌, List, [], ◌++◌, inl, inr, refl, sym, ◌∙◌, subst, ℤ, pos, ◌<ℤ◌, arith}
+use Rattle.std.proofs.Common.{◌≡◌, ◌≢◌, ℕ, ◌<◌, List, [], ◌++◌, inl, inr, refl, sym, ◌∙◌, subst, pos, ◌<ℤ◌, arith}
 use Rattle.std.proofs.lemmas.Bool.{cases_eq}
 use Rattle.dcel_predicates.specs.declared.point.Point.{Point}
 use Rattle.dcel_predicates.proofs.Signs.{ordered}
-use Rattle.dcel_maps.specs.Shapes.{Mesh, Shape, end_of}
+use Rattle.dcel_fixed.specs.HalfEdges.{rev}
+use Rattle.dcel_maps.specs.Shapes.{IsMesh, Mesh, Shape, end_of, map_of}
 use Rattle.dcel_maps.specs.Words.{count_of}
-use Rattle.dcel_maps.proofs.words.Counts.{count-append}
+use Rattle.dcel_maps.proofs.maps.Soundness.{rev_live}
+use Rattle.dcel_maps.proofs.shapes.Maps.{map-sound}
+use Rattle.dcel_maps.proofs.words.Counts.{count-append, in_either}
 use Rattle.dcel_plane.specs.Plane.{ListsCircled, point_at}
 use Rattle.dcel_covering.specs.Covering.{apart_along}
 use Rattle.dcel_covering.proofs.Inside.{apart_end}
 use Rattle.dcel_segments.specs.Segments.{Crosses, IsChannel, LeadsAlong, TurnsInto, offset}
 use Rattle.dcel_segments.proofs.Channels.{all_cross}
-use Rattle.dcel_constrained.specs.Meeting.{HasCome, IsJoined}
+use Rattle.dcel_constrained.specs.Meeting.{HasCome, IsJoined, ListsStill}
 use Rattle.dcel_constrained.specs.declared.joining.Joined.{Joined}
 use Rattle.dcel_constrained.specs.declared.joining.Joined.TheVariants.{Between, Edge}
 
 -- more edges that are due
-pub lists_more : (at : ℕ → Point) (s : Shape) (due lacking : List ℕ) → ListsCircled at s lacking → ListsCircled at s (due ++ lacking)
-lists_more at s due lacking lists u inner circled = (let a = count-append u due lacking in let b = lists u inner circled in omega (arith, a, b))
+pub lists_still : (at : ℕ → Point) (s : Shape) (before after lacking : List ℕ) → ListsStill before after → ListsCircled at s (before ++ lacking) → ListsCircled at s (after ++ lacking)
+lists_still at s before after lacking kept lists u inner circled = elim (in_either u before lacking (lists u inner circled)) [
+  | inl early ↦ (let a = count-append u after lacking in let b = kept u early in omega (arith, a, b))
+  | inr late ↦ (let a = count-append u after lacking in omega (arith, a, late))
+]
 
 -- a segment that has come to its end has crossed all that it crosses
 pub all_crossed : (at : ℕ → Point) (s : Shape) (v w : ℕ) (list due : List ℕ) (y : ℕ) → HasCome at s v w list due y → y ≡ w → IsChannel at s v w list
@@ -31,15 +37,16 @@ pub each_crosses : (at : ℕ → Point) (s : Shape) (v w : ℕ) (list : List ℕ
 each_crosses at s v w list channel = all_cross at s v w channel.first channel.last list channel.leads
 
 -- an edge from v to y along the segment
-pub along_joins : {DE UE F : Type 0} (m : Mesh Point DE UE F) (v w y : ℕ) (joined : Joined) → (k : ℕ) × LeadsAlong (point_at m) m.shape v w k × (end_of m.shape k ≡ y)
+pub along_joins : {DE UE F : Type 0} (m : Mesh Point DE UE F) → IsMesh m → (v w y : ℕ) (joined : Joined) → (k : ℕ) × LeadsAlong (point_at m) m.shape v w k × (end_of m.shape k ≡ y)
     → (y ≡ w → joined ≡ Edge) → (y ≢ w → joined ≡ Between y) → IsJoined m m v w joined
-along_joins {DE} {UE} {F} m v w y joined way edge between = elim (cases_eq y w) [
+along_joins {DE} {UE} {F} m mesh v w y joined way edge between = elim (cases_eq y w) [
   | inl is ↦
       subst (λ (j : Joined). IsJoined m m v w j) (sym (edge is))
       ((way.0, record { live = way.1.live; start = way.1.from; end = way.2 ∙ is }), ([], still, λ k there. absurd (omega (arith, there))))
   | inr not ↦
       subst (λ (j : Joined). IsJoined m m v w j) (sym (between not)) (
         refl,
+        subst (λ (i : ℕ). i < m.shape.vertices) way.2 ((map-sound mesh.sound).below_vertices (rev way.0) (rev_live (map_of m.shape) way.0 way.1.live)),
         record {
           on = subst (λ (i : ℕ). offset (point_at m) v w i ≡ pos 0) way.2 way.1.on;
           inside = elim way.1.ahead [

@@ -1,5 +1,5 @@
 -- The half edges that a segment crosses listed one after another, with the edges around the triangles beside them.
-use Rattle.std.proofs.Common.{◌≡◌, ℕ, ◌+◌, ◌*◌, ◌/◌, ◌<◌, List, [], ◌∷◌, ◌++◌, length, inl, inr, sym, ap, ◌∙◌, subst, pos, ◌<ℤ◌, ◌≤ℤ◌, arith}
+use Rattle.std.proofs.Common.{◌≡◌, ℕ, ◌+◌, ◌*◌, ◌/◌, ◌<◌, List, [], ◌∷◌, ◌++◌, length, inl, inr, sym, ap, ◌∙◌, subst, pos, ◌≤ℤ◌, arith}
 use Rattle.std.proofs.lemmas.Bool.{cases_eq}
 use Rattle.std.proofs.lemmas.Int.{by_lt_z}
 use Rattle.std.proofs.lemmas.List.{length-append}
@@ -7,17 +7,17 @@ use Rattle.dcel_fixed.specs.HalfEdges.{rev}
 use Rattle.dcel_predicates.specs.declared.point.Point.{Point}
 use Rattle.dcel_maps.specs.Shapes.{Mesh, Shape, face_of, next_of, prev_of}
 use Rattle.dcel_maps.specs.Words.{count_of}
+use Rattle.dcel_maps.proofs.shapes.Maps.{map-sound}
 use Rattle.dcel_maps.proofs.words.Counts.{count-append, count-later, count-other, count-same}
 use Rattle.dcel_legalize.specs.Flipping.{sides_beside}
 use Rattle.dcel_hollows.proofs.Fewer.{of_both_halves}
 use Rattle.dcel_covering.specs.Covering.{apart_along}
-use Rattle.dcel_segments.specs.Segments.{AreEnds, BeginsAt, Crosses, HasSides, HasSidesOf, IsChannel, IsPlanar, corner_beyond, offset}
+use Rattle.dcel_segments.specs.Segments.{AreEnds, BeginsAt, Crosses, HasSides, HasSidesOf, IsChannel, IsPlanar, offset}
 use Rattle.dcel_segments.proofs.Gates.{far, near}
 use Rattle.dcel_segments.proofs.Onward.{on_line}
 use Rattle.dcel_segments.proofs.Peaks.{of_face}
 use Rattle.dcel_segments.proofs.Walking.{Comes, comes_first, comes_left, comes_right, comes_to_end, few}
-use Rattle.dcel_constrained.specs.Meeting.{HasCome, IsMetAfter, LiesBetween}
-use Rattle.dcel_constrained.specs.declared.walking.Met.{Met}
+use Rattle.dcel_constrained.specs.Meeting.{HasCome, IsMetAfter, ListsStill}
 use Rattle.dcel_constrained.specs.declared.walking.Met.TheVariants.{Side, Vertex}
 
 first_there : (x : ℕ) (r : List ℕ) → 0 < count_of x (x ∷ r)
@@ -32,6 +32,10 @@ four_there a b c d = (
   count-later c a (b ∷ c ∷ d ∷ []) (count-later c b (c ∷ d ∷ []) (first_there c (d ∷ []))),
   count-later d a (b ∷ c ∷ d ∷ []) (count-later d b (c ∷ d ∷ []) (count-later d c (d ∷ []) (first_there d []))),
 )
+
+-- what is listed stays so as others come behind it
+longer : (due own sides : List ℕ) → ListsStill due ((due ++ own) ++ sides)
+longer due own sides k there = (let a = count-append k (due ++ own) sides in let b = count-append k due own in omega (arith, a, b, there))
 
 module _ {V DE UE F : Type 0} (m : Mesh V DE UE F) (at : ℕ → Point) (planar : IsPlanar at m) (v w : ℕ) (ends : AreEnds m.shape v w) where
   abbrev s : Shape
@@ -89,16 +93,15 @@ module _ {V DE UE F : Type 0} (m : Mesh V DE UE F) (at : ℕ → Point) (planar 
         of_face m planar.mesh (face_of s (rev h)) (rev h) (next_of s (rev h)) (prev_of s (rev h))
         (far m planar.mesh planar.triangles at planar.plane planar.convex v w ends h crosses) (λ k. 0 < count_of (k / 2) due) listed.other listed.after_other listed.before_other
 
-    longer : (k : ℕ) → 0 < count_of k old → 0 < count_of k due
-    longer k there = (let a = count-append k (old ++ (u ∷ [])) (sides_beside s u) in let b = count-append k old (u ∷ []) in omega (arith, a, b, there))
-
     pub sides_more : (passed : List ℕ) → HasSidesOf old s passed → HasSidesOf due s (passed ++ (h ∷ []))
     sides_more passed has j found = elim (cases_eq j h) [
       | inl is ↦ subst (λ (i : ℕ). HasSides due s (face_of s i) × HasSides due s (face_of s (rev i))) (sym is) (sides_near, sides_far)
       | inr not ↦
           let among : 0 < count_of j passed = (let a = count-append j passed (h ∷ []) in let b = count-other j h [] not in omega (arith, a, b, found)) in
-          let old_sides = has j among in
-          (λ k live on. longer (k / 2) (old_sides.0 k live on), λ k live on. longer (k / 2) (old_sides.1 k live on))
+          let old_sides = has j among in (
+            λ k live on. longer old (u ∷ []) (sides_beside s u) (k / 2) (old_sides.0 k live on),
+            λ k live on. longer old (u ∷ []) (sides_beside s u) (k / 2) (old_sides.1 k live on),
+          )
     ]
 
   -- the walk comes to a half edge with these passed, and all edges around their faces are listed
@@ -138,6 +141,9 @@ module _ {V DE UE F : Type 0} (m : Mesh V DE UE F) (at : ℕ → Point) (planar 
 
     pub way_ends : (y : ℕ) → IsMetAfter at s v w h (Vertex y) → HasCome at s v w passed_now due_now y
     way_ends y met = record {
+      vertex =
+          let beyond = far m planar.mesh planar.triangles at planar.plane planar.convex v w ends h way.comes.crosses in
+          subst (λ (i : ℕ). i < s.vertices) (sym met.1) ((map-sound planar.mesh.sound).below_vertices (prev_of s (rev h)) beyond.live_z);
       sides = sides_now;
       there = elim (cases_eq w y) [
         | inl is ↦ inl (
@@ -162,19 +168,25 @@ module _ {V DE UE F : Type 0} (m : Mesh V DE UE F) (at : ℕ → Point) (planar 
       let many = way.many in
       omega (arith, all, long, many)
 
--- the same, with what it rests on
-pub record IsWay {V DE UE F : Type 0} (m : Mesh V DE UE F) (at : ℕ → Point) (v w : ℕ) (passed due : List ℕ) (h steps : ℕ) : Type 0 where
+-- the same, with what it rests on, and what was listed before it
+pub record IsWay {V DE UE F : Type 0} (m : Mesh V DE UE F) (at : ℕ → Point) (v w : ℕ) (before passed due : List ℕ) (h steps : ℕ) : Type 0 where
   pub planar : IsPlanar at m
   pub ends : AreEnds m.shape v w
   pub way : IsUnderWay m at planar v w ends passed due h steps
+  pub kept : ListsStill before due
 
-module _ {V DE UE F : Type 0} (m : Mesh V DE UE F) (at : ℕ → Point) (v w : ℕ) (passed due : List ℕ) (h steps : ℕ) (is : IsWay m at v w passed due h steps)
+module _ {V DE UE F : Type 0} (m : Mesh V DE UE F) (at : ℕ → Point) (v w : ℕ) (before passed due : List ℕ) (h steps : ℕ) (is : IsWay m at v w before passed due h steps)
     (passed_now due_now : List ℕ) (passed_is : passed_now ≡ passed ++ (h ∷ [])) (due_is : due_now ≡ (due ++ ((h / 2) ∷ [])) ++ sides_beside m.shape (h / 2)) where
-  pub goes_on : (k : ℕ) → IsMetAfter at m.shape v w h (Side k) → IsWay m at v w passed_now due_now k (steps + 1)
+  pub kept_now : ListsStill before due_now
+  kept_now u there =
+      subst (λ (l : List ℕ). 0 < count_of u l) (sym due_is) (longer due ((h / 2) ∷ []) (sides_beside m.shape (h / 2)) u (is.kept u there))
+
+  pub goes_on : (k : ℕ) → IsMetAfter at m.shape v w h (Side k) → IsWay m at v w before passed_now due_now k (steps + 1)
   goes_on k met = record {
     planar = is.planar;
     ends = is.ends;
     way = way_goes_on m at is.planar v w is.ends passed due h steps is.way passed_now due_now passed_is due_is k met;
+    kept = kept_now;
   }
 
   pub comes_there : (y : ℕ) → IsMetAfter at m.shape v w h (Vertex y) → HasCome at m.shape v w passed_now due_now y

@@ -29,8 +29,13 @@ pub record LiesBetween (at : ℕ → Point) (v w y : ℕ) : Type 0 where
   pub on : offset at v w y ≡ pos 0
   pub inside : apart_along (at v) (at w) (at y) <ℤ pos 0
 
+-- what is listed before is listed still
+abbrev pub ListsStill : List ℕ → List ℕ → Type 0
+ListsStill before after = (u : ℕ) → 0 < count_of u before → 0 < count_of u after
+
 -- the segment has crossed the half edges of the list and come to the vertex y, and all edges around the faces are listed
 pub record HasCome (at : ℕ → Point) (s : Shape) (v w : ℕ) (list due : List ℕ) (y : ℕ) : Type 0 where
+  pub vertex : y < s.vertices
   pub sides : HasSidesOf due s list
   pub there : ((y ≡ w) × IsChannel at s v w list) ⊎ LiesBetween at v w y
 
@@ -39,4 +44,4 @@ abbrev pub IsJoined : {DE UE F : Type 0} → Mesh Point DE UE F → Mesh Point D
 IsJoined old new v w Edge =
     ((h : ℕ) × Leads new.shape v w h)
     × ((list : List ℕ) × TurnsInto (point_at old) old new list × ((k : ℕ) → 0 < count_of k list → Crosses (point_at old) old.shape v w k))
-IsJoined old new v w (Between y) = (new ≡ old) × LiesBetween (point_at old) v w y
+IsJoined old new v w (Between y) = (new ≡ old) × (y < old.shape.vertices) × LiesBetween (point_at old) v w y

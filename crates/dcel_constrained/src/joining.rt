@@ -1,11 +1,13 @@
 //! Two vertices joined by an edge.
 
-ghost use Rattle.std.specs.Prelude.{◌≡◌, ◌≢◌, ◌<◌, ◌++◌, ◌∷◌, ◌/◌, [], ℕ, List, IfOk, OnErr, OnOk};
+ghost use Rattle.std.specs.Prelude.{◌≡◌, ◌≢◌, ◌<◌, ◌++◌, ◌∷◌, ◌/◌, [], ℕ, IfOk, OnErr, OnOk};
 ghost use Rattle.dcel_legalize.specs.Flipping.{sides_beside};
 ghost use Rattle.dcel_maps.specs.Shapes.{IsLive, face_of};
-ghost use Rattle.dcel_plane.specs.Plane.{ListsCircled, point_at};
+ghost use Rattle.dcel_maps.specs.Walking.{Leads};
+ghost use Rattle.dcel_plane.specs.Plane.{point_at};
+ghost use Rattle.dcel_delaunay.specs.Growing.{KeepsListed};
 ghost use Rattle.dcel_segments.specs.Segments.{AreEnds, BeginsAt, IsPlanar};
-ghost use Rattle.dcel_constrained.specs.Meeting.{HasCome, IsJoined};
+ghost use Rattle.dcel_constrained.specs.Meeting.{HasCome, IsJoined, ListsStill};
 
 use crate::connecting::connect;
 use crate::walking::{Met, first_met, met_after};
@@ -28,17 +30,21 @@ pub enum Joined {
 
 /// Makes the segment between two vertices an edge, by flips of the edges that it crosses.
 ///
-/// A vertex on the segment stays where it is: the result tells it, and the parts up to it and from it
-/// on can be joined one after the other. The triangles go round counterclockwise afterwards too, and
-/// the hull stays as it is. `due` gets the edges around the triangles that the segment crosses: an edge
-/// between two triangles with a corner inside the circle of the other side afterwards is one of them,
-/// or was such an edge before.
+/// If they have an edge already, nothing changes. A vertex on the segment stays where it is: the
+/// result tells it, and the parts up to it and from it on can be joined one after the other. The
+/// triangles go round counterclockwise afterwards too, and the hull stays as it is. `due` gets the
+/// edges around the triangles that the segment crosses: of the edges between two triangles with a
+/// corner inside the circle of the other side, it lacks none afterwards but those that it lacked
+/// before. It may get some where nothing is flipped, too.
 ///
-/// Asks for a mesh of triangles in the plane with a convex hull, as one that is a Delaunay
-/// triangulation ([`is_delaunay_triangulation`](dcel_circles::is_delaunay_triangulation)), and for two
-/// vertices with edges ([`is_unconnected`](Dcel::is_unconnected)). `crossed` is empty before and after.
+/// Asks for a mesh of triangles in the plane with a convex hull and an inner face
+/// (`num_faces() > 1`), and for two different vertices with edges
+/// ([`is_unconnected`](Dcel::is_unconnected) is false). A Delaunay triangulation is such a mesh
+/// ([`is_delaunay_triangulation`](dcel_circles::is_delaunay_triangulation)); no public test tells it of
+/// others, as of one with constraints: for these it is for crates whose invariants have it. `crossed`
+/// is empty before and after.
 ///
-/// If memory runs out, nothing is flipped.
+/// If memory runs out it returns `AllocError`, and nothing is flipped.
 pub fn join<DE, UE, F, A: Allocator, L: Allocator>(
     dcel: &mut Dcel<Point, DE, UE, F, A>,
     from: FixedVertexHandle,
@@ -54,8 +60,9 @@ pub fn join<DE, UE, F, A: Allocator, L: Allocator>(
     ensures joined { IfOk result (IsJoined dcel.old dcel.new from to) }
     ensures refused { OnErr result (dcel.new ≡ dcel.old) }
     ensures planar { IsPlanar (point_at dcel.new) dcel.new }
-    ensures lists { OnOk result ((lacking : List ℕ) → ListsCircled (point_at dcel.old) dcel.old.shape lacking → ListsCircled (point_at dcel.new) dcel.new.shape (due.new.items ++ lacking)) }
+    ensures lists { KeepsListed dcel.old dcel.new due.old.items due.new.items }
     ensures crossed { crossed.new.items ≡ [] }
+    ensures same { (h : ℕ) → Leads dcel.old.shape from to h → (dcel.new ≡ dcel.old) × (due.new.items ≡ due.old.items) }
 {
     every_mesh(dcel);
     let edge = match first_met(dcel, from, to) {
@@ -100,6 +107,7 @@ fn gather<DE, UE, F, A: Allocator, L: Allocator>(
     requires begins { BeginsAt (point_at dcel.now) dcel.now.shape from to first }
     requires empty { crossed.old.items ≡ [] }
     ensures come { IfOk result (HasCome (point_at dcel.now) dcel.now.shape from to crossed.new.items due.new.items) }
+    ensures kept { ListsStill due.old.items due.new.items }
 {
     let mut edge = first;
     // It crosses no half edge twice.
@@ -123,6 +131,7 @@ fn note<DE, UE, F, A: Allocator, L: Allocator>(
     requires { IsLive dcel.now.shape edge }
     ensures crossed { OnOk result (crossed.new.items ≡ crossed.old.items ++ edge ∷ []) }
     ensures due { OnOk result (due.new.items ≡ (due.old.items ++ (edge / 2) ∷ []) ++ sides_beside dcel.now.shape (edge / 2)) }
+    ensures same { OnErr result (due.new.items ≡ due.old.items) }
 {
     let own = edge.as_undirected();
     due.reserve(5)?;

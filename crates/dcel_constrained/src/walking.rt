@@ -78,7 +78,7 @@ pub(crate) fn met_after<DE, UE, F, A: Allocator>(
 
 /// Returns whether an out edge of a segment's start leads along it, to its end or to a vertex
 /// between its ends.
-fn leads_along<DE, UE, F, A: Allocator>(
+pub(crate) fn leads_along<DE, UE, F, A: Allocator>(
     dcel: &Dcel<Point, DE, UE, F, A>,
     from: FixedVertexHandle,
     to: FixedVertexHandle,

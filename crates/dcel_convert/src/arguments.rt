@@ -119,41 +119,49 @@ const OUTPUTS: &[Choice<'static, Output>] = &[
     Choice {
         name: "off",
         means: Output::Mesh(Format::Off),
+        excludes: &[],
         help: "Writes OFF, as it does without a choice",
     },
     Choice {
         name: "obj",
         means: Output::Mesh(Format::Obj),
+        excludes: &[],
         help: "Writes OBJ",
     },
     Choice {
         name: "ply",
         means: Output::Mesh(Format::Ply),
+        excludes: &[],
         help: "Writes PLY, as text",
     },
     Choice {
         name: "words",
         means: Output::Mesh(Format::Words),
+        excludes: &[],
         help: "Writes words",
     },
     Choice {
         name: "svg",
         means: Output::Svg,
+        excludes: &[],
         help: "Draws the mesh: where it lies if it is flat, else with places of its own",
     },
     Choice {
         name: "stats",
         means: Output::Stats,
+        excludes: &[],
         help: "Writes how many vertices, edges, faces, parts and borders there are, and the genus",
     },
     Choice {
         name: "check",
         means: Output::Check,
+        excludes: &[],
         help: "Writes nothing but what is wrong",
     },
     Choice {
         name: "check-delaunay",
         means: Output::CheckDelaunay,
+        excludes: &[],
         help: "Writes nothing but why the file has no Delaunay triangulation of its vertices",
     },
 ];

@@ -35,7 +35,7 @@ use Rattle.dcel_hollows.proofs.Flattened as flattening
 use Rattle.dcel_hollows.proofs.Renumbering.{cleanup_inner, cleanup_was_inner}
 use Rattle.dcel_hollows.proofs.Stripping.{corner_hollow, corner_lies, corner_strip, strip_given_up}
 use Rattle.dcel_hollows.proofs.Strips.{cut_lists, cut_plane, cut_plane_but, flat_corner_convex, flat_corner_hull, hollow_convex, hollow_outline, hollow_strung}
-use Rattle.dcel_delaunay.specs.Growing.{HasHull, IsSound, Keeps}
+use Rattle.dcel_delaunay.specs.Growing.{HasHull, IsSound}
 use Rattle.dcel_delaunay.specs.Removing.{HasOutline, IsCorner, IsCutOff, IsGivenUp, IsStrung, LiesFlat}
 use Rattle.dcel_delaunay.proofs.Counting.{flipped_joined, live_vertices}
 use Rattle.dcel_delaunay.proofs.Thinned.{flip_listed}
@@ -122,18 +122,12 @@ module _ {DE UE F : Type 0} where
     of_old_shape : (P : Mesh Point DE UE F → Type 0) → P (record m { vertex_anchors = (flips 4 m u).vertex_anchors; face_anchors = (flips 4 m u).face_anchors }) → P new
     of_old_shape P holds = subst P (sym but_anchors) holds
 
-    pub round_keeps : m.shape.removal ≡ Closed → Keeps m new
-    round_keeps closed = of_old_shape (λ k. Keeps m k) (record { closed = closed; vertices = refl; points = refl; edges = omega arith })
-
     -- whatever more is listed
     pub round_sound : (due items more : List ℕ) → items ≡ due ++ more → IsSound m due → IsSound new items
     round_sound due items more listed sound =
         subst (λ (l : List ℕ). IsSound new l) (sym listed)
         (of_old_shape (λ k. IsSound k (due ++ more)) (record {
-          closed = sound.closed;
-          joined = sound.joined;
-          triangles = sound.triangles;
-          plane = sound.plane;
+          triangulated = record { closed = sound.closed; joined = sound.joined; triangles = sound.triangles; plane = sound.plane };
           listed = λ w inner circled. (let found = sound.listed w inner circled in let c = count-append w due more in omega (arith, found, c));
         }))
 
@@ -243,9 +237,6 @@ module _ {DE UE F : Type 0} where
       flattened =
           subst (λ (k : ℕ). IsFlattened (point_at m) turned.shape k h) start
           (flattening.flattened m mesh sound.triangles (point_at m) sound.plane corner.hull.convex corner.hull.hull h corner.outside.live corner.outside.outer lies)
-
-      pub flat_around : IsStripAround (edge_flipped m (turns (ccw_of m.shape) 2 h / 2)).shape v h
-      flat_around = flattened.around
 
       pub goes_round : GoesRound m (turns (ccw_of m.shape) 2 h / 2)
       goes_round = four_flips m mesh u can_flip

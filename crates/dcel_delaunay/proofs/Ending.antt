@@ -15,7 +15,7 @@ use Rattle.dcel_hulls.proofs.Closed.{closed_convex}
 use Rattle.dcel_hulls.proofs.PutBeside.{straight_convex}
 use Rattle.dcel_hulls.proofs.ThinEnd.{thin_convex, thin_hull}
 use Rattle.dcel_delaunay.specs.Corners.{GoesOn, IsClosedAfter, IsClosedBefore, StartsOutside, TurnsIn}
-use Rattle.dcel_delaunay.specs.Growing.{HasHull, IsFlat, IsOpen, IsSound, IsUnderWay}
+use Rattle.dcel_delaunay.specs.Growing.{HasHull, HasOutside, IsFlat, IsOpen, IsTriangulated}
 
 not_positive : (x : ℤ) → ¬ (pos 0 <ℤ x) → x ≤ℤ pos 0
 not_positive x never = by_lt_z (pos 0) x (λ more. absurd (never more)) (λ not. not)
@@ -111,16 +111,16 @@ module _ {DE UE F : Type 0} where
     ends_before = sym (mesh.sound.joined k live_before) ∙ ap (origin_of m.shape) leads_on
 
   -- both sides closed, one after the other
-  pub sides_closed : (old mid new : Mesh Point DE UE F) (items : List ℕ) (t b : ℕ) → IsMesh new → IsSound new items → GoesOn old mid → GoesOn mid new
+  pub sides_closed : (old mid new : Mesh Point DE UE F) (t b : ℕ) → IsMesh new → IsTriangulated new → GoesOn old mid → GoesOn mid new
       → (IsOpen mid t → IsClosedAfter mid t) → end_of mid.shape b ≡ t → (IsOpen new (end_of mid.shape b) → IsClosedBefore new (end_of mid.shape b))
       → IsOpen old t → HasHull new
-  sides_closed old mid new items t b mesh sound first second after ends before is =
+  sides_closed old mid new t b mesh sound first second after ends before is =
       let opened = first.open_still t is in
       let open_new = second.open_still t opened in
       closed_hull new t open_new mesh sound.triangles sound.plane (second.after t opened (after opened))
       (subst (λ (v : ℕ). IsOpen new v → IsClosedBefore new v) ends before open_new)
 
-module _ {DE UE F : Type 0} (old new : Mesh Point DE UE F) (due items : List ℕ) (way : IsUnderWay old due) (goes_on : GoesOn old new) where
+module _ {DE UE F : Type 0} (old new : Mesh Point DE UE F) (due items : List ℕ) (way : HasOutside old due) (goes_on : GoesOn old new) where
   -- a line, or a hull, is as it was
   same_line : IsFlat old → IsFlat new
   same_line flat = subst (λ (m : Mesh Point DE UE F). IsFlat m) (sym (goes_on.convex (straight_convex (point_at old) old.shape flat.straight))) flat
@@ -130,19 +130,16 @@ module _ {DE UE F : Type 0} (old new : Mesh Point DE UE F) (due items : List ℕ
 
   -- an open hull is closed, or still open
   pub closed_way : ((t : ℕ) → IsOpen old t → HasHull new) → IsFlat new ⊎ HasHull new
-  closed_way closes = elim way.hull [
+  closed_way closes = elim way [
     | inl flat ↦ inl (same_line flat)
     | inr more ↦ elim more [ inl has ↦ inr (same_hull has) | inr opened ↦ inr (closes opened.1.0 opened.1.1) ]
   ]
 
-  pub still_way : IsSound new items → (due ≢ [] → items ≢ []) → IsUnderWay new items
-  still_way sound listed = record {
-    sound = sound;
-    hull = elim way.hull [
-      | inl flat ↦ inl (same_line flat)
-      | inr more ↦ elim more [
-        | inl has ↦ inr (inl (same_hull has))
-        | inr opened ↦ inr (inr (listed opened.0, (opened.1.0, goes_on.open_still opened.1.0 opened.1.1)))
-      ]
-    ];
-  }
+  pub still_way : (due ≢ [] → items ≢ []) → HasOutside new items
+  still_way listed = elim way [
+    | inl flat ↦ inl (same_line flat)
+    | inr more ↦ elim more [
+      | inl has ↦ inr (inl (same_hull has))
+      | inr opened ↦ inr (inr (listed opened.0, (opened.1.0, goes_on.open_still opened.1.0 opened.1.1)))
+    ]
+  ]

@@ -26,7 +26,7 @@ use Rattle.dcel_hulls.proofs.Step.{IsStep, closed_step}
 use Rattle.dcel_hulls.proofs.ThinStays.{thin_after_stays, thin_before_stays}
 use Rattle.dcel_hulls.proofs.ThinStep.{step_thin}
 use Rattle.dcel_delaunay.specs.Corners.{GoesOn, IsClosedAt, TurnsIn}
-use Rattle.dcel_delaunay.specs.Growing.{IsOpen, IsSound}
+use Rattle.dcel_delaunay.specs.Growing.{IsOpen, IsTriangulated}
 use Rattle.dcel_delaunay.proofs.Growth.{of_edit}
 
 -- a list to which something was put is not empty
@@ -152,8 +152,8 @@ module _ {DE UE F : Type 0} where
     }
 
   -- the same of the call, whatever data are put at the new edge and face
-  module _ (is_half : DE → Type 0) (is_edge : UE → Type 0) (is_face : F → Type 0) (k j : ℕ) (m n : Mesh Point DE UE F) (due : List ℕ) (e : ℕ) (mesh : IsMesh m)
-      (sound : IsSound m due) (live : IsLive m.shape e) (on : face_of m.shape e ≡ 0) (turns : TurnsIn m e)
+  module _ (is_half : DE → Type 0) (is_edge : UE → Type 0) (is_face : F → Type 0) (k j : ℕ) (m n : Mesh Point DE UE F) (e : ℕ) (mesh : IsMesh m)
+      (sound : IsTriangulated m) (live : IsLive m.shape e) (on : face_of m.shape e ≡ 0) (turns : TurnsIn m e)
       (adds : AddsEdgesAndFaces is_half is_edge is_face k j n (face_closed m e)) (result : IsMesh n) where
     pub close_goes_on : GoesOn m n
     close_goes_on =

@@ -24,13 +24,13 @@ use Rattle.dcel_hulls.proofs.HullSplitting.{half_split_convex, half_split_hull}
 use Rattle.dcel_places.specs.Locating.{LiesOn}
 use Rattle.dcel_circles.specs.Turning.{AreCircled, IsTurnedTo}
 use Rattle.dcel_legalize.specs.Flipping.{edges_flipped}
-use Rattle.dcel_delaunay.specs.Growing.{HasHull, IsSound}
+use Rattle.dcel_delaunay.specs.Growing.{HasHull, IsTriangulated}
 use Rattle.dcel_delaunay.proofs.Counting.{two_written}
 use Rattle.dcel_delaunay.proofs.Appended.{appended_convex, appended_hull}
 use Rattle.dcel_delaunay.proofs.Elsewhere.{said_after}
 use Rattle.dcel_delaunay.proofs.Sound.{across_after, inside_after, same_triangle}
 
-module _ {DE UE F : Type 0} (m : Mesh Point DE UE F) (mesh : IsMesh m) (due : List ℕ) (way : IsSound m due) (has : HasHull m) where
+module _ {DE UE F : Type 0} (m : Mesh Point DE UE F) (mesh : IsMesh m) (way : IsTriangulated m) (has : HasHull m) where
   -- one side of each edge is inner
   one_side : (e : ℕ) → IsLive m.shape e → face_of m.shape e ≡ 0 → face_of m.shape (rev e) ≡ 0 → ⊥
   one_side e live outer outer_too =
@@ -45,7 +45,7 @@ module _ {DE UE F : Type 0} (m : Mesh Point DE UE F) (mesh : IsMesh m) (due : Li
 
 module _ {DE UE F : Type 0} where
   -- a vertex appended with the point p, and connected
-  module _ (m : Mesh Point DE UE F) (mesh : IsMesh m) (p : Point) (due : List ℕ) (way : IsSound m due) (has : HasHull m) where
+  module _ (m : Mesh Point DE UE F) (mesh : IsMesh m) (p : Point) (way : IsTriangulated m) (has : HasHull m) where
     abbrev n : Mesh Point DE UE F
     n = vertex_appended m p
 

@@ -7,6 +7,7 @@ pub mod Distances
 pub mod Elsewhere
 pub mod Emptied
 pub mod Ending
+pub mod Ends
 pub mod Flat
 pub mod Gathering
 pub mod GoingOn
@@ -17,6 +18,7 @@ pub mod Lost
 pub mod OnEdges
 pub mod Opening
 pub mod Orders
+pub mod Outline
 pub mod Paths
 pub mod Puts
 pub mod Recovered

@@ -1,5 +1,5 @@
 -- A vertex removed: what a vertex inside has, and what is told of it from before edges were flipped to after.
-use Rattle.std.proofs.Common.{◌≡◌, inl, inr, ℕ, ◌+◌, ◌-◌, ◌<◌, ◌==◌, cond, List, length, Option, Some, None, Result, Ok, Err, IfErr, IfOk, OnErr, slice_index_or, sym, ap, ◌∙◌, subst, eq-zero-or-pos, arith}
+use Rattle.std.proofs.Common.{◌≡◌, inl, inr, ℕ, ◌+◌, ◌-◌, ◌<◌, ◌==◌, cond, List, [], length, Option, Some, None, Result, Ok, Err, IfErr, IfOk, OnErr, slice_index_or, refl, sym, ap, ◌∙◌, subst, eq-zero-or-pos, arith}
 use Rattle.std.proofs.lemmas.Bool.{cases_lt}
 use Rattle.dcel_fixed.specs.HalfEdges.{rev}
 use Rattle.dcel_maps.specs.Conditions.{HasRoom}
@@ -25,6 +25,24 @@ use Rattle.dcel_delaunay.proofs.Emptied.{StandsIn}
 pub on_err : {X E : Type 0} (r : Result X E) (P : Type 0) → P → OnErr r P
 on_err (Ok x) P holds = tt
 on_err (Err e) P holds = holds
+
+pub no_memory_other : OutOfMemory ≡ TooManyPoints → ⊥
+no_memory_other is = cc
+
+unfinished_other : (removed : Removed) → Unfinished removed ≡ TooManyPoints → ⊥
+unfinished_other removed is = cc
+
+-- what is left undone has no part in the want of numbers
+pub settled_due : {X : Type 0} (removed : Removed) (P : Type 0) (r : Result X RemovalError) → IfErr r (λ e. e ≡ Unfinished removed)
+    → IfErr r (λ e. e ≡ TooManyPoints → P)
+settled_due removed P (Ok x) is = tt
+settled_due removed P (Err e) is = λ many. absurd (unfinished_other removed (sym is ∙ many))
+
+-- nothing was left to be done before
+pub still_done : {X : Type 0} (before after : List ℕ) (r : Result X RemovalError) → before ≡ [] → IfErr r (λ e. e ≡ TooManyPoints → after ≡ before)
+    → IfErr r (λ e. e ≡ TooManyPoints → after ≡ [])
+still_done before after (Ok x) done same = tt
+still_done before after (Err e) done same = λ many. same many ∙ done
 
 module _ {DE UE F : Type 0} where
   -- where a triangle is there are two vertices
@@ -111,27 +129,25 @@ module _ {DE UE F : Type 0} where
 
 module _ {DE UE F Whole : Type 0} (old mid new : Mesh Point DE UE F) (v : ℕ) (points : mid.vertex_data ≡ old.vertex_data) (vertices : mid.shape.vertices ≡ old.shape.vertices)
     (same : Whole → mid ≡ old) where
-  as_it_was : new ≡ mid → IsAsItWas Whole old new
-  as_it_was is = (ap (λ (m : Mesh Point DE UE F). m.vertex_data) is ∙ points, λ whole. is ∙ same whole)
+  as_it_was : {Done : Type 0} → new ≡ mid → Done → IsAsItWas Whole Done old new
+  as_it_was is done = (ap (λ (m : Mesh Point DE UE F). m.vertex_data) is ∙ points, (λ whole. is ∙ same whole), done)
 
-  pub kept_from : (r : Result Removed RemovalError) → IfErr r (MayKeep mid new v) → IfErr r (IsKept Whole old new v)
-  kept_from (Ok removed) keeps = tt
-  kept_from (Err NoVertex) keeps = absurd keeps
-  kept_from (Err TooManyPoints) keeps = (
-    subst (λ (m : Mesh Point DE UE F). IsInside m.shape v) (sym keeps.2) keeps.0,
-    subst (λ (m : Mesh Point DE UE F). ¬ HasRoom m.shape 0 1 2) (sym keeps.2) keeps.1,
-    as_it_was keeps.2,
+  pub kept_from : (Done : Type 0) (r : Result Removed RemovalError) → IfErr r (MayKeep mid new v) → IfErr r (λ e. e ≡ TooManyPoints → Done)
+      → IfErr r (IsKept Whole Done old new v)
+  kept_from Done (Ok removed) keeps done = tt
+  kept_from Done (Err NoVertex) keeps done = absurd keeps
+  kept_from Done (Err TooManyPoints) keeps done = (
+    subst (λ (m : Mesh Point DE UE F). v < m.shape.vertices) (sym keeps.3) keeps.0,
+    subst (λ (m : Mesh Point DE UE F). IsInside m.shape v) (sym keeps.3) keeps.1,
+    subst (λ (m : Mesh Point DE UE F). ¬ HasRoom m.shape 0 1 2) (sym keeps.3) keeps.2,
+    as_it_was keeps.3 (done refl),
   )
-  kept_from (Err OutOfMemory) keeps = keeps.points ∙ points
-  kept_from (Err (Unfinished removed)) loses = lost_before old mid new v removed points vertices loses
+  kept_from Done (Err OutOfMemory) keeps done = keeps.points ∙ points
+  kept_from Done (Err (Unfinished removed)) loses done = lost_before old mid new v removed points vertices loses
 
   pub lost_from : (r : Result Removed RemovalError) → IfOk r (Loses mid new v) → IfOk r (Loses old new v)
   lost_from (Ok removed) loses = lost_before old mid new v removed points vertices loses
   lost_from (Err e) loses = tt
-
-  -- there is no such vertex
-  pub no_vertex : new ≡ mid → ¬ (v < mid.shape.vertices) → IsKept Whole old new v NoVertex
-  no_vertex is none = (subst (λ (m : Mesh Point DE UE F). ¬ (v < m.shape.vertices)) (sym is) none, as_it_was is)
 
 -- what is told of the vertex that was cut out, once edges are flipped
 module _ {DE UE F : Type 0} (m mid n : Mesh Point DE UE F) (v : ℕ) (removed : Removed) (points : n.vertex_data ≡ mid.vertex_data) (vertices : n.shape.vertices ≡ mid.shape.vertices)

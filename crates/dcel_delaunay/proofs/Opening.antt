@@ -10,12 +10,12 @@ use Rattle.dcel_plane.specs.Plane.{IsLeftOf, point_at}
 use Rattle.dcel_plane.proofs.Moved.{appended_plane}
 use Rattle.dcel_covering.proofs.Starts.{inner_half}
 use Rattle.dcel_hulls.proofs.PutBeside.{beside_closing, beside_hull, beside_thick, beside_thin, straight_convex}
-use Rattle.dcel_delaunay.specs.Growing.{HasHull, IsFlat, IsOpen, IsSound}
+use Rattle.dcel_delaunay.specs.Growing.{HasHull, IsFlat, IsOpen, IsTriangulated}
 use Rattle.dcel_delaunay.proofs.Appended.{appended_convex, appended_hull, appended_straight}
 use Rattle.dcel_delaunay.proofs.Sound.{left_after}
 
 module _ {DE UE F : Type 0} where
-  module _ (m : Mesh Point DE UE F) (mesh : IsMesh m) (p : Point) (due : List ℕ) (sound : IsSound m due) (x : ℕ) (live : IsLive m.shape x) (outer : face_of m.shape x ≡ 0)
+  module _ (m : Mesh Point DE UE F) (mesh : IsMesh m) (p : Point) (sound : IsTriangulated m) (x : ℕ) (live : IsLive m.shape x) (outer : face_of m.shape x ≡ 0)
       (left : IsLeftOf (point_at m) m.shape p x) (after : IsMesh (vertex_appended m p)) (h : List DE) (e : List UE) (g : List F)
       (done : IsMesh (face_put_beside (vertex_appended m p) x m.shape.vertices h e g)) where
     abbrev n : Mesh Point DE UE F
@@ -65,11 +65,11 @@ module _ {DE UE F : Type 0} where
     beside_open (inr has) = beside_the_hull has
 
   -- the same of the calls, whatever data are put at the new edges and the new face
-  pub put_open : (is_half : DE → Type 0) (is_edge : UE → Type 0) (is_face : F → Type 0) (k j : ℕ) (old mid new : Mesh Point DE UE F) (p : Point) (v x : ℕ) (due : List ℕ)
-      → IsMesh old → IsSound old due → IsFlat old ⊎ HasHull old → IsLive old.shape x → face_of old.shape x ≡ 0 → IsLeftOf (point_at old) old.shape p x
+  pub put_open : (is_half : DE → Type 0) (is_edge : UE → Type 0) (is_face : F → Type 0) (k j : ℕ) (old mid new : Mesh Point DE UE F) (p : Point) (v x : ℕ)
+      → IsMesh old → IsTriangulated old → IsFlat old ⊎ HasHull old → IsLive old.shape x → face_of old.shape x ≡ 0 → IsLeftOf (point_at old) old.shape p x
       → mid ≡ vertex_appended old p → v ≡ old.shape.vertices → AddsEdgesAndFaces is_half is_edge is_face k j new (face_put_beside mid x v) → IsMesh mid → IsMesh new
       → IsOpen new v
-  put_open is_half is_edge is_face k j old mid new p v x due mesh sound hull live outer left is last adds mesh_mid mesh_new =
+  put_open is_half is_edge is_face k j old mid new p v x mesh sound hull live outer left is last adds mesh_mid mesh_new =
       let h = adds.directed_data in
       let e = adds.undirected_data in
       let g = adds.face_data in
@@ -77,5 +77,5 @@ module _ {DE UE F : Type 0} where
       adds.is ∙ ap (λ (m : Mesh Point DE UE F). face_put_beside m x v h e g) is ∙ ap (λ (w : ℕ). face_put_beside (vertex_appended old p) x w h e g) last in
       subst (λ (w : ℕ). IsOpen new w) (sym last)
       (subst (λ (m : Mesh Point DE UE F). IsOpen m old.shape.vertices) (sym at_end)
-      (beside_open old mesh p due sound x live outer left (subst (λ (m : Mesh Point DE UE F). IsMesh m) is mesh_mid) h e g
+      (beside_open old mesh p sound x live outer left (subst (λ (m : Mesh Point DE UE F). IsMesh m) is mesh_mid) h e g
       (subst (λ (m : Mesh Point DE UE F). IsMesh m) at_end mesh_new) hull))

@@ -60,7 +60,7 @@ module _ {DE UE F : Type 0} (m : Mesh Point DE UE F) (known : ∥ IsFlat m ⊎ H
     ];
   }
 
-  either_again : IsFlat m ⊎ HasHull m
+  pub either_again : IsFlat m ⊎ HasHull m
   either_again = elim (cases_eq (face_count m.shape) 1) [
     | inl one ↦ inl (record { alone = one; straight = straight_again one })
     | inr more ↦ inr (hull_again more)

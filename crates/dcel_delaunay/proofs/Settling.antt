@@ -34,9 +34,11 @@ module _ {DE UE F : Type 0} where
   pub flips_sound : (m n : Mesh Point DE UE F) (due items : List ℕ) → IsSound m due → IsTurnedTo m n → IsPlane (point_at n) n.shape
       → (ListsCircled (point_at m) m.shape due → ListsCircled (point_at n) n.shape items) → IsSound n items
   flips_sound m n due items way turned plane lists = record {
-    closed = (flips_keep m n way.closed turned).closed;
-    joined = subst (λ (k : Mesh Point DE UE F). IsJoined k.shape) (sym turned.is) (turned_joined m turned.turned way.joined);
-    triangles = subst (λ (k : Mesh Point DE UE F). AllTriangles k.shape) (sym turned.is) (turned_triangles m turned.turned way.triangles);
-    plane = plane;
+    triangulated = record {
+      closed = (flips_keep m n way.closed turned).closed;
+      joined = subst (λ (k : Mesh Point DE UE F). IsJoined k.shape) (sym turned.is) (turned_joined m turned.turned way.joined);
+      triangles = subst (λ (k : Mesh Point DE UE F). AllTriangles k.shape) (sym turned.is) (turned_triangles m turned.turned way.triangles);
+      plane = plane;
+    };
     listed = lists way.listed;
   }

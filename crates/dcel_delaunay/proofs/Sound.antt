@@ -1,5 +1,6 @@
--- What an edit leaves of a triangulation that is under way: triangles that go round counterclockwise, and a list of the edges to be looked at.
-use Rattle.std.proofs.Common.{◌≡◌, ℕ, ◌<◌, List, ◌++◌, refl, sym, ap, subst, arith}
+-- What an edit leaves of a triangulation: triangles that go round counterclockwise, and a list of the edges to be looked at.
+use Rattle.std.proofs.Common.{◌≡◌, ℕ, ◌<◌, List, [], ◌++◌, refl, sym, ap, subst, arith}
+use Rattle.std.proofs.lemmas.List.{append-nil}
 use Rattle.dcel_fixed.specs.HalfEdges.{rev}
 use Rattle.dcel_maps.specs.Conditions.{IsTriangle}
 use Rattle.dcel_maps.specs.edits.Create.{IsNew, vertex_appended}
@@ -12,16 +13,16 @@ use Rattle.dcel_maps.proofs.Triangulations.{closed_outside, inserted, put_beside
 use Rattle.dcel_maps.proofs.maps.Halves.{rev_half}
 use Rattle.dcel_maps.proofs.shapes.Maps.{map-sound}
 use Rattle.dcel_predicates.specs.declared.point.Point.{Point}
-use Rattle.dcel_plane.specs.Edges.{edges_put_beside, edges_closed, edges_half_split, edges_inserted, edges_split}
-use Rattle.dcel_plane.specs.Plane.{IsLeftOf, LiesAcross, LiesInside, TurnsLeft, point_at}
+use Rattle.dcel_plane.specs.Edges.{edges_put_beside, edges_half_split, edges_inserted, edges_split}
+use Rattle.dcel_plane.specs.Plane.{IsLeftOf, LiesAcross, LiesInside, ListsCircled, TurnsLeft, point_at}
 use Rattle.dcel_plane.proofs.Alone.{outer_alone_delaunay}
 use Rattle.dcel_plane.proofs.Inserted.{inserted_plane}
 use Rattle.dcel_plane.proofs.Spokes.{sides_listed}
 use Rattle.dcel_plane.proofs.Moved.{appended_lists, appended_plane, appended_stands, others_stand}
-use Rattle.dcel_plane.proofs.Outside.{beside_lists, beside_plane, closed_lists, closed_plane}
+use Rattle.dcel_plane.proofs.Outside.{beside_lists, beside_plane, closed_plane}
 use Rattle.dcel_plane.proofs.Splits.{half_split_lists, half_split_plane, split_lists, split_plane}
 use Rattle.dcel_delaunay.proofs.Counting.{alone_triangles, beside_joined, closed_joined, face_vertices, half_split_joined, inserted_joined, live_vertices, split_joined}
-use Rattle.dcel_delaunay.specs.Growing.{IsJoined, IsSound}
+use Rattle.dcel_delaunay.specs.Growing.{IsJoined, IsSound, IsTriangulated, KeepsListed}
 
 left_there : (a b c x y z : Point) → a ≡ x → b ≡ y → c ≡ z → TurnsLeft a b c → TurnsLeft x y z
 left_there a b c x y z ax by cz left =
@@ -33,10 +34,7 @@ module _ {DE UE F : Type 0} where
   alone-sound m due mesh closed one joined =
       let delaunay = outer_alone_delaunay (point_at m) m mesh one in
       record {
-        closed = closed;
-        joined = joined;
-        triangles = alone_triangles m.shape one;
-        plane = delaunay.plane;
+        triangulated = record { closed = closed; joined = joined; triangles = alone_triangles m.shape one; plane = delaunay.plane };
         listed = λ u inner circled. absurd (delaunay.empty u inner circled);
       }
 
@@ -77,66 +75,85 @@ module _ {DE UE F : Type 0} where
     pub same_triangle : (f : ℕ) → IsTriangle m.shape f → IsTriangle n.shape f
     same_triangle f triangle = record { live = triangle.live; three = triangle.three }
 
-    module _ (due : List ℕ) (way : IsSound m due) (after : IsMesh n) (h : List DE) (e : List UE) (g : List F) where
-      pub inserted-sound : (f : ℕ) → 0 < f → IsTriangle m.shape f → LiesInside (point_at m) m.shape f p → IsMesh (vertex_inserted n v f h e g)
-          → IsSound (vertex_inserted n v f h e g) (due ++ edges_inserted m f)
-      inserted-sound f inner triangle lies done = record {
+    module _ (after : IsMesh n) (h : List DE) (e : List UE) (g : List F) where
+      pub inserted-triangulated : (f : ℕ) → IsTriangulated m → 0 < f → IsTriangle m.shape f → LiesInside (point_at m) m.shape f p
+          → IsTriangulated (vertex_inserted n v f h e g)
+      inserted-triangulated f way inner triangle lies = record {
         closed = way.closed;
         joined = inserted_joined m p v f h e g (face_vertices m.shape f way.joined inner triangle) way.joined;
         triangles = inserted n way.triangles v f h e g;
         plane = inserted_plane n after v f (same_triangle f triangle) h e g (point_at n) (inside_after f lies) (appended_plane m mesh p way.plane);
-        listed =
-            sides_listed n after v f (same_triangle f triangle) h e g (point_at n) done (inside_after f lies) due (appended_lists m mesh p due way.listed);
       }
 
-      pub split-sound : (x : ℕ) → IsLive m.shape x → IsTriangle m.shape (face_of m.shape x) → IsTriangle m.shape (face_of m.shape (rev x))
-          → LiesAcross (point_at m) m.shape x p → LiesAcross (point_at m) m.shape (rev x) p → IsMesh (edge_split n x v h e g)
-          → IsSound (edge_split n x v h e g) (due ++ edges_split m.shape x)
-      split-sound x live near far across across_rev done = record {
+      pub inserted-lists : (f : ℕ) (due : List ℕ) → IsTriangle m.shape f → LiesInside (point_at m) m.shape f p → IsMesh (vertex_inserted n v f h e g)
+          → ListsCircled (point_at m) m.shape due → ListsCircled (point_at n) (vertex_inserted n v f h e g).shape (due ++ edges_inserted m f)
+      inserted-lists f due triangle lies done lists =
+          sides_listed n after v f (same_triangle f triangle) h e g (point_at n) done (inside_after f lies) due (appended_lists m mesh p due lists)
+
+      pub split-triangulated : (x : ℕ) → IsTriangulated m → IsLive m.shape x → IsTriangle m.shape (face_of m.shape x) → IsTriangle m.shape (face_of m.shape (rev x))
+          → LiesAcross (point_at m) m.shape x p → LiesAcross (point_at m) m.shape (rev x) p → IsTriangulated (edge_split n x v h e g)
+      split-triangulated x way live near far across across_rev = record {
         closed = way.closed;
         joined = split_joined m p x v h e g (some_vertices x live) way.joined;
         triangles = split_both_sides n way.triangles x v h e g;
         plane =
             split_plane n after x v live h e g (point_at n) (same_triangle (face_of m.shape x) near) (same_triangle (face_of m.shape (rev x)) far)
             (across_after x across) (across_after (rev x) across_rev) (appended_plane m mesh p way.plane);
-        listed =
-            split_lists n after x v live h e g (point_at n) (same_triangle (face_of m.shape x) near) (same_triangle (face_of m.shape (rev x)) far)
-            due done (appended_lists m mesh p due way.listed);
       }
 
-      pub half_split-sound : (x : ℕ) → IsLive m.shape x → IsTriangle m.shape (face_of m.shape x) → 0 < face_of m.shape x → face_of m.shape (rev x) ≡ 0
-          → LiesAcross (point_at m) m.shape x p → IsMesh (half_edge_split n x v h e g)
-          → IsSound (half_edge_split n x v h e g) (due ++ edges_half_split m.shape x)
-      half_split-sound x live near inner outer across done = record {
+      pub split-lists : (x : ℕ) (due : List ℕ) → IsLive m.shape x → IsTriangle m.shape (face_of m.shape x) → IsTriangle m.shape (face_of m.shape (rev x))
+          → IsMesh (edge_split n x v h e g) → ListsCircled (point_at m) m.shape due
+          → ListsCircled (point_at n) (edge_split n x v h e g).shape (due ++ edges_split m.shape x)
+      split-lists x due live near far done lists =
+          split_lists n after x v live h e g (point_at n) (same_triangle (face_of m.shape x) near) (same_triangle (face_of m.shape (rev x)) far)
+          due done (appended_lists m mesh p due lists)
+
+      pub half_split-triangulated : (x : ℕ) → IsTriangulated m → IsLive m.shape x → IsTriangle m.shape (face_of m.shape x) → 0 < face_of m.shape x
+          → face_of m.shape (rev x) ≡ 0 → LiesAcross (point_at m) m.shape x p → IsTriangulated (half_edge_split n x v h e g)
+      half_split-triangulated x way live near inner outer across = record {
         closed = way.closed;
         joined = half_split_joined m p x v h e g (some_vertices x live) way.joined;
         triangles = split_one_side n way.triangles x v h e g outer;
         plane =
             half_split_plane n after x v live h e g (point_at n) (same_triangle (face_of m.shape x) near) inner outer
             (across_after x across) (appended_plane m mesh p way.plane);
-        listed =
-            half_split_lists n after x v live h e g (point_at n) (same_triangle (face_of m.shape x) near) inner outer
-            due done (appended_lists m mesh p due way.listed);
       }
 
-      pub beside-sound : (x : ℕ) → IsLive m.shape x → face_of m.shape x ≡ 0 → IsLeftOf (point_at m) m.shape p x → IsMesh (face_put_beside n x v h e g)
-          → IsSound (face_put_beside n x v h e g) (due ++ edges_put_beside m.shape x)
-      beside-sound x live outer left done = record {
+      pub half_split-lists : (x : ℕ) (due : List ℕ) → IsLive m.shape x → IsTriangle m.shape (face_of m.shape x) → 0 < face_of m.shape x → face_of m.shape (rev x) ≡ 0
+          → IsMesh (half_edge_split n x v h e g) → ListsCircled (point_at m) m.shape due
+          → ListsCircled (point_at n) (half_edge_split n x v h e g).shape (due ++ edges_half_split m.shape x)
+      half_split-lists x due live near inner outer done lists =
+          half_split_lists n after x v live h e g (point_at n) (same_triangle (face_of m.shape x) near) inner outer
+          due done (appended_lists m mesh p due lists)
+
+      pub beside-triangulated : (x : ℕ) → IsTriangulated m → IsLive m.shape x → face_of m.shape x ≡ 0 → IsLeftOf (point_at m) m.shape p x
+          → IsTriangulated (face_put_beside n x v h e g)
+      beside-triangulated x way live outer left = record {
         closed = way.closed;
         joined = beside_joined m p x v h e g (some_vertices x live) way.joined;
         triangles = put_beside n way.triangles x v h e g outer;
         plane = beside_plane n after x live h e g (point_at n) v outer (left_after x live left) (appended_plane m mesh p way.plane);
-        listed = beside_lists n after x live h e g (point_at n) v outer due done (appended_lists m mesh p due way.listed);
       }
 
+      pub beside-lists : (x : ℕ) (due : List ℕ) → IsLive m.shape x → face_of m.shape x ≡ 0 → IsMesh (face_put_beside n x v h e g)
+          → ListsCircled (point_at m) m.shape due → ListsCircled (point_at n) (face_put_beside n x v h e g).shape (due ++ edges_put_beside m.shape x)
+      beside-lists x due live outer done lists =
+          beside_lists n after x live h e g (point_at n) v outer due done (appended_lists m mesh p due lists)
+
   -- a triangle closed at the hull
-  pub closed-sound : (m : Mesh Point DE UE F) (due : List ℕ) (x : ℕ) (h : List DE) (e : List UE) (g : List F) → IsMesh m → IsSound m due → IsLive m.shape x
-      → IsLeftOf (point_at m) m.shape (point_at m (end_of m.shape (next_of m.shape x))) x → IsMesh (face_closed m x h e g)
-      → IsSound (face_closed m x h e g) (due ++ edges_closed m.shape x)
-  closed-sound m due x h e g mesh way live left done = record {
+  pub closed-triangulated : (m : Mesh Point DE UE F) (x : ℕ) (h : List DE) (e : List UE) (g : List F) → IsMesh m → IsTriangulated m → IsLive m.shape x
+      → IsLeftOf (point_at m) m.shape (point_at m (end_of m.shape (next_of m.shape x))) x → IsTriangulated (face_closed m x h e g)
+  closed-triangulated m x h e g mesh way live left = record {
     closed = way.closed;
     joined = closed_joined m x h e g (live_vertices m mesh x live) way.joined;
     triangles = closed_outside m way.triangles x h e g;
     plane = closed_plane m mesh x live h e g (point_at m) left way.plane;
-    listed = closed_lists m mesh x live h e g (point_at m) due done way.listed;
+  }
+
+  -- what is under way stays so, if the list does
+  pub still_sound : (old new : Mesh Point DE UE F) (due items : List ℕ) → IsSound old due → IsTriangulated new → KeepsListed old new due items → IsSound new items
+  still_sound old new due items sound triangulated lists = record {
+    triangulated = triangulated;
+    listed = subst (λ (l : List ℕ). ListsCircled (point_at new) new.shape l) (append-nil items)
+        (lists [] (subst (λ (l : List ℕ). ListsCircled (point_at old) old.shape l) (sym (append-nil due)) sound.listed));
   }

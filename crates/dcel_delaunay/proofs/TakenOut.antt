@@ -80,11 +80,13 @@ module _ {DE UE F A : Type 0} (old mid : Mesh Point DE UE F) (v : ℕ) (due : Li
 
   pub removed_sound : IsSound (vertex_taken_out (cleaned_up mid) v) (map (new_edge mid.shape) due)
   removed_sound = record {
-    closed = refl;
-    joined = removed_joined;
-    triangles = triangulations.vertex_gone c (triangulations.cleaned mid given.triangles given.mesh) v (inr clean_record);
-    plane = (taken_out_keeps c clean (point_at c) (point_at n) v clean_record done stands).0 (at_points (λ at. IsPlane at c.shape) mid c left.points
-        ((cleanup_keeps mid given.mesh (point_at mid) clean).0 given.plane));
+    triangulated = record {
+      closed = refl;
+      joined = removed_joined;
+      triangles = triangulations.vertex_gone c (triangulations.cleaned mid given.triangles given.mesh) v (inr clean_record);
+      plane = (taken_out_keeps c clean (point_at c) (point_at n) v clean_record done stands).0 (at_points (λ at. IsPlane at c.shape) mid c left.points
+          ((cleanup_keeps mid given.mesh (point_at mid) clean).0 given.plane));
+    };
     listed =
         taken_out_lists c clean (point_at c) (point_at n) v clean_record done stands (map (new_edge mid.shape) due)
         (at_points (λ at. ListsCircled at c.shape (map (new_edge mid.shape) due)) mid c left.points (cleanup_lists mid given.mesh (point_at mid) clean due given.listed));

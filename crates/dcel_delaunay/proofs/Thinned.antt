@@ -75,10 +75,12 @@ module _ {DE UE F : Type 0} where
 
     half_sound : (due : List ℕ) → IsSound m due → IsSound n ((due ++ (e / 2) ∷ []) ++ sides_beside m.shape (e / 2))
     half_sound due sound = record {
-      closed = sound.closed;
-      joined = flipped_joined m (e / 2) sound.joined;
-      triangles = flipped m sound.triangles (e / 2);
-      plane = turn_keeps_plane m mesh (point_at m) (e / 2) turn sound.plane;
+      triangulated = record {
+        closed = sound.closed;
+        joined = flipped_joined m (e / 2) sound.joined;
+        triangles = flipped m sound.triangles (e / 2);
+        plane = turn_keeps_plane m mesh (point_at m) (e / 2) turn sound.plane;
+      };
       listed = flip_listed m mesh (e / 2) turn.can due sound.listed;
     }
 

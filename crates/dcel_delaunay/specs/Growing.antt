@@ -9,6 +9,8 @@ use Rattle.dcel_covering.specs.Covering.{IsConvex, IsHull}
 use Rattle.dcel_hulls.specs.Closing.{IsClosing, IsThick, IsThin}
 use Rattle.dcel_hulls.specs.Straight.{IsStraight}
 use Rattle.dcel_delaunay.specs.Places.{HasPoint}
+use Rattle.dcel_delaunay.specs.declared.position.PositionInTriangulation.{PositionInTriangulation}
+use Rattle.dcel_delaunay.specs.declared.position.PositionInTriangulation.TheVariants.{OnVertex}
 use Rattle.dcel_delaunay.specs.declared.errors.InsertionError.{InsertionError}
 use Rattle.dcel_delaunay.specs.declared.errors.InsertionError.TheVariants.{OutOfMemory, OutOfRange, TooManyPoints, Unfinished}
 use Rattle.dcel_predicates.specs.declared.point.Point.{Point}
@@ -27,14 +29,23 @@ pub record IsJoined (s : Shape) : Type 0 where
   pub empty : s.vertices ≡ 0 → face_count s ≡ 1
 
 module _ {DE UE F : Type 0} where
-  -- no removal is open, the vertices are joined, each inner face is a triangle that goes round counterclockwise, and each edge between two of
-  -- them that has a corner inside the circle of the other side is in the list
-  pub record IsSound (m : Mesh Point DE UE F) (due : List ℕ) : Type 0 where
+  -- no removal is open, the vertices are joined, and each inner face is a triangle that goes round counterclockwise
+  pub record IsTriangulated (m : Mesh Point DE UE F) : Type 0 where
     pub closed : m.shape.removal ≡ Closed
     pub joined : IsJoined m.shape
     pub triangles : AllTriangles m.shape
     pub plane : IsPlane (point_at m) m.shape
+
+  -- the same, and each edge between two triangles that has a corner inside the circle of the other side is in the list
+  pub record IsSound (m : Mesh Point DE UE F) (due : List ℕ) : Type 0 where
+    pub triangulated : IsTriangulated m
+    pub open triangulated use *
     pub listed : ListsCircled (point_at m) m.shape due
+
+  -- of the edges that break Delaunay's condition the list lacks none afterwards but those that it lacked before
+  abbrev pub KeepsListed : Mesh Point DE UE F → Mesh Point DE UE F → List ℕ → List ℕ → Type 0
+  KeepsListed old new before after =
+      (lacking : List ℕ) → ListsCircled (point_at old) old.shape (before ++ lacking) → ListsCircled (point_at new) new.shape (after ++ lacking)
 
   -- all vertices stand on one line, in the order of the path that joins them; there may be no edge yet
   pub record IsFlat (m : Mesh Point DE UE F) : Type 0 where
@@ -54,11 +65,14 @@ module _ {DE UE F : Type 0} where
     pub closing : IsClosing (point_at m) m.shape t
     pub from : (IsHull (point_at m) m.shape × IsThick (point_at m) m.shape t) ⊎ IsThin (point_at m) m.shape t
 
-  -- what each insertion leaves, whether it came to its end or not: a line, a hull, or a hull that is still to be closed, and then there is
-  -- an edge to be looked at
+  -- a line, a hull, or a hull that is still to be closed, and then there is an edge to be looked at
+  abbrev pub HasOutside : Mesh Point DE UE F → List ℕ → Type 0
+  HasOutside m due = IsFlat m ⊎ (HasHull m ⊎ ((due ≢ []) × ((t : ℕ) × IsOpen m t)))
+
+  -- what each insertion leaves, whether it came to its end or not
   pub record IsUnderWay (m : Mesh Point DE UE F) (due : List ℕ) : Type 0 where
     pub sound : IsSound m due
-    pub hull : IsFlat m ⊎ (HasHull m ⊎ ((due ≢ []) × ((t : ℕ) × IsOpen m t)))
+    pub hull : HasOutside m due
 
   -- a whole triangulation
   pub record IsTriangulation (m : Mesh Point DE UE F) : Type 0 where
@@ -83,6 +97,10 @@ module _ {DE UE F : Type 0} where
   -- the vertex v has the point: it stood there before, and nothing has changed, or it is new
   abbrev pub Inserts : Mesh Point DE UE F → Mesh Point DE UE F → Point → ℕ → Type 0
   Inserts old new p v = (HasPoint old p v × (new ≡ old)) ⊎ Gains old new p v
+
+  -- the vertex v is that of the position, and nothing has changed, or it is new
+  abbrev pub IsPutAt : Mesh Point DE UE F → Mesh Point DE UE F → List ℕ → List ℕ → PositionInTriangulation → Point → ℕ → Type 0
+  IsPutAt old new due items position p v = ((position ≡ OnVertex v) × (new ≡ old) × (items ≡ due)) ⊎ Gains old new p v
 
   -- nothing has changed, or a new vertex has the point and not all is done that belongs to it
   abbrev pub Refuses : Mesh Point DE UE F → Mesh Point DE UE F → Point → InsertionError → Type 0

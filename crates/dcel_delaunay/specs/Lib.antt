@@ -1,5 +1,6 @@
 pub mod Bulk
 pub mod Corners
+pub mod Edges
 pub mod Growing
 pub mod Places
 pub mod Removing

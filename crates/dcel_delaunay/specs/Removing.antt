@@ -113,17 +113,17 @@ module _ {DE UE F : Type 0} where
   -- without memory edges may have been flipped, but no vertex is gone
   abbrev pub MayKeep : Mesh Point DE UE F → Mesh Point DE UE F → ℕ → RemovalError → Type 0
   MayKeep old new v NoVertex = ⊥
-  MayKeep old new v TooManyPoints = IsInside old.shape v × ¬ HasRoom old.shape 0 1 2 × (new ≡ old)
+  MayKeep old new v TooManyPoints = (v < old.shape.vertices) × IsInside old.shape v × ¬ HasRoom old.shape 0 1 2 × (new ≡ old)
   MayKeep old new v OutOfMemory = Keeps old new
   MayKeep old new v (Unfinished removed) = Loses old new v removed
 
-  -- the vertices are as they were, and so is the mesh of a whole triangulation
-  abbrev pub IsAsItWas : Type 0 → Mesh Point DE UE F → Mesh Point DE UE F → Type 0
-  IsAsItWas Whole old new = (new.vertex_data ≡ old.vertex_data) × (Whole → new ≡ old)
+  -- the vertices are as they were, and so is the mesh of a whole triangulation; nothing is left to be done
+  abbrev pub IsAsItWas : Type 0 → Type 0 → Mesh Point DE UE F → Mesh Point DE UE F → Type 0
+  IsAsItWas Whole Done old new = (new.vertex_data ≡ old.vertex_data) × (Whole → new ≡ old) × Done
 
   -- why the vertex v stands still, with all others; or it is gone, and not all is done that belongs to it
-  abbrev pub IsKept : Type 0 → Mesh Point DE UE F → Mesh Point DE UE F → ℕ → RemovalError → Type 0
-  IsKept Whole old new v NoVertex = ¬ (v < new.shape.vertices) × IsAsItWas Whole old new
-  IsKept Whole old new v TooManyPoints = IsInside new.shape v × ¬ HasRoom new.shape 0 1 2 × IsAsItWas Whole old new
-  IsKept Whole old new v OutOfMemory = new.vertex_data ≡ old.vertex_data
-  IsKept Whole old new v (Unfinished removed) = Loses old new v removed
+  abbrev pub IsKept : Type 0 → Type 0 → Mesh Point DE UE F → Mesh Point DE UE F → ℕ → RemovalError → Type 0
+  IsKept Whole Done old new v NoVertex = ¬ (v < new.shape.vertices) × IsAsItWas Whole Done old new
+  IsKept Whole Done old new v TooManyPoints = (v < new.shape.vertices) × IsInside new.shape v × ¬ HasRoom new.shape 0 1 2 × IsAsItWas Whole Done old new
+  IsKept Whole Done old new v OutOfMemory = new.vertex_data ≡ old.vertex_data
+  IsKept Whole Done old new v (Unfinished removed) = Loses old new v removed

@@ -60,12 +60,12 @@ module _ {A : Type 0} where
     pub has : HasPoint (mesh_in new) p v
     pub points : ((mesh_in new).vertex_data ≡ (mesh_in old).vertex_data) ⊎ ((mesh_in new).vertex_data ≡ (mesh_in old).vertex_data ++ p ∷ [])
 
-  -- no vertex is new, and what was whole is as it was; or the vertex is new, and not all is done that belongs to it
+  -- no vertex is new, and what was whole is as it was, and still whole; or the vertex is new, and not all is done that belongs to it
   abbrev pub Stays : Triangulation A → Triangulation A → Point → InsertionError → Type 0
   Stays old new p e =
-      (MayRefuse (mesh_in new).shape e × ((mesh_in new).vertex_data ≡ (mesh_in old).vertex_data) × (IsWhole old → mesh_in new ≡ mesh_in old))
+      (MayRefuse (mesh_in new).shape e × ((mesh_in new).vertex_data ≡ (mesh_in old).vertex_data) × (IsWhole old → (mesh_in new ≡ mesh_in old) × IsWhole new))
       ⊎ ((e ≡ Unfinished) × ((mesh_in new).vertex_data ≡ (mesh_in old).vertex_data ++ p ∷ []))
 
   -- why the vertex v stands still, with all others; or it is gone, and not all is done that belongs to it
   abbrev pub KeepsVertex : Triangulation A → Triangulation A → ℕ → RemovalError → Type 0
-  KeepsVertex old new = IsKept (IsWhole old) (mesh_in old) (mesh_in new)
+  KeepsVertex old new = IsKept (IsWhole old) (IsWhole new) (mesh_in old) (mesh_in new)

@@ -4,10 +4,11 @@ ghost use Rattle.std.specs.Prelude.{◌≡◌, ◌≢◌, ◌⊎◌, ◌+◌, �
 ghost use Rattle.spade_dcel.specs.Handles.{mesh_behind, number_of};
 ghost use Rattle.dcel_maps.specs.Shapes.{IsLive, IsMesh, end_of, face_of, origin_of};
 ghost use Rattle.dcel_delaunay.specs.Corners.{GoesOn, IsClosedAfter, IsClosedAt, IsClosedBefore, StartsOutside, TurnsIn};
-ghost use Rattle.dcel_delaunay.specs.Growing.{HasHull, IsFlat, IsOpen, IsSound, IsUnderWay, Keeps};
+ghost use Rattle.dcel_delaunay.specs.Edges.{KeepsEdges};
+ghost use Rattle.dcel_delaunay.specs.Growing.{HasHull, HasOutside, IsFlat, IsOpen, IsTriangulated, Keeps, KeepsListed};
 
 use crate::errors::InsertionError;
-use crate::mesh::{Edge, Mesh, point_of, side};
+use crate::mesh::{Edge, EdgeMesh, point_of, side};
 use crate::placing::Due;
 use dcel_predicates::Side;
 use spade_dcel::handles::{FixedDirectedEdgeHandle, FixedUndirectedEdgeHandle, FixedVertexHandle};
@@ -18,17 +19,25 @@ use std::alloc::Allocator;
 /// Closes the hull round the last vertex, if it was put beside an edge and the hull is not closed
 /// yet, and lists the edges of the triangles.
 ///
-/// A mesh that is a line, or has its hull, stays as it is. If there is no room or no memory for a
-/// triangle, those before stay, and the next call goes on.
-pub(crate) fn close_hull<A: Allocator, L: Allocator>(
-    dcel: &mut Mesh<A>,
-    due: &mut Due<L>,
+/// A mesh that is a line, or has its hull, stays as it is.
+///
+/// Asks for a mesh whose vertices are joined and whose inner faces are triangles that go round
+/// counterclockwise, in which no removal is open. No public test tells all this: it is for crates
+/// whose invariants have it. [`put_at`](crate::put_at) leaves such a mesh.
+///
+/// If there is no room or no memory for a triangle, the result is
+/// [`Unfinished`](InsertionError::Unfinished): the triangles before stay, and the next call goes on.
+pub fn close_hull<UE: Default, A: Allocator, L: Allocator>(
+    dcel: &mut EdgeMesh<UE, A>,
+    due: &mut Vec<FixedUndirectedEdgeHandle, L>,
 ) -> Result<(), InsertionError>
-    requires sound { IsSound dcel.old due.old.items }
+    requires triangulated { IsTriangulated dcel.old }
     ensures keeps { Keeps dcel.old dcel.new }
-    ensures sound { IsSound dcel.new due.new.items }
-    ensures hull { IsUnderWay dcel.old due.old.items → OnOk result (IsFlat dcel.new ⊎ HasHull dcel.new) }
-    ensures under_way { IsUnderWay dcel.old due.old.items → IsUnderWay dcel.new due.new.items }
+    ensures triangulated { IsTriangulated dcel.new }
+    ensures lists { KeepsListed dcel.old dcel.new due.old.items due.new.items }
+    ensures edges { KeepsEdges UE.is_default dcel.old dcel.new }
+    ensures hull { HasOutside dcel.old due.old.items → OnOk result (IsFlat dcel.new ⊎ HasHull dcel.new) }
+    ensures outside { HasOutside dcel.old due.old.items → HasOutside dcel.new due.new.items }
     ensures goes_on { GoesOn dcel.old dcel.new }
     ensures unfinished { IfErr result (λ e. e ≡ InsertionError.Unfinished) }
 {
@@ -39,7 +48,7 @@ pub(crate) fn close_hull<A: Allocator, L: Allocator>(
 }
 
 /// Returns an outer half edge that starts at the last vertex, if there is one.
-fn outside_of_last<A: Allocator>(dcel: &Mesh<A>) -> Option<FixedDirectedEdgeHandle>
+fn outside_of_last<UE, A: Allocator>(dcel: &EdgeMesh<UE, A>) -> Option<FixedDirectedEdgeHandle>
     ensures some { IfSome result (λ h. (t : ℕ) × (t + 1 ≡ dcel.now.shape.vertices) × StartsOutside dcel.now t h) }
     ensures none { IfNone result ((t h : ℕ) → t + 1 ≡ dcel.now.shape.vertices → ¬ StartsOutside dcel.now t h) }
 {
@@ -51,8 +60,8 @@ fn outside_of_last<A: Allocator>(dcel: &Mesh<A>) -> Option<FixedDirectedEdgeHand
 }
 
 /// Returns an outer half edge that starts at a vertex, if there is one.
-pub(crate) fn outside_of<A: Allocator>(
-    dcel: &Mesh<A>,
+pub(crate) fn outside_of<UE, A: Allocator>(
+    dcel: &EdgeMesh<UE, A>,
     vertex: FixedVertexHandle,
 ) -> Option<FixedDirectedEdgeHandle>
     requires { vertex < dcel.now.shape.vertices }
@@ -70,16 +79,18 @@ pub(crate) fn outside_of<A: Allocator>(
 
 /// Closes triangles on both sides of the vertex where an outer half edge starts, as long as the
 /// outer face turns in there.
-fn close_sides<A: Allocator, L: Allocator>(
-    dcel: &mut Mesh<A>,
+fn close_sides<UE: Default, A: Allocator, L: Allocator>(
+    dcel: &mut EdgeMesh<UE, A>,
     due: &mut Due<L>,
     edge: FixedDirectedEdgeHandle,
 ) -> Result<(), InsertionError>
-    requires sound { IsSound dcel.old due.old.items }
+    requires triangulated { IsTriangulated dcel.old }
     requires live { IsLive dcel.old.shape edge }
     requires outer { face_of dcel.old.shape edge ≡ 0 }
     ensures keeps { Keeps dcel.old dcel.new }
-    ensures sound { IsSound dcel.new due.new.items }
+    ensures triangulated { IsTriangulated dcel.new }
+    ensures lists { KeepsListed dcel.old dcel.new due.old.items due.new.items }
+    ensures edges { KeepsEdges UE.is_default dcel.old dcel.new }
     ensures listed { due.old.items ≢ [] → due.new.items ≢ [] }
     ensures goes_on { GoesOn dcel.old dcel.new }
     ensures hull { OnOk result (IsOpen dcel.old (origin_of dcel.old.shape edge) → HasHull dcel.new) }
@@ -93,16 +104,18 @@ fn close_sides<A: Allocator, L: Allocator>(
 
 /// Closes triangles after the vertex where an outer half edge starts, as long as the outer face
 /// turns in there, and returns the outer half edge that starts there then.
-fn close_after<A: Allocator, L: Allocator>(
-    dcel: &mut Mesh<A>,
+fn close_after<UE: Default, A: Allocator, L: Allocator>(
+    dcel: &mut EdgeMesh<UE, A>,
     due: &mut Due<L>,
     edge: FixedDirectedEdgeHandle,
 ) -> Result<FixedDirectedEdgeHandle, InsertionError>
-    requires sound { IsSound dcel.old due.old.items }
+    requires triangulated { IsTriangulated dcel.old }
     requires live { IsLive dcel.old.shape edge }
     requires outer { face_of dcel.old.shape edge ≡ 0 }
     ensures keeps { Keeps dcel.old dcel.new }
-    ensures sound { IsSound dcel.new due.new.items }
+    ensures triangulated { IsTriangulated dcel.new }
+    ensures lists { KeepsListed dcel.old dcel.new due.old.items due.new.items }
+    ensures edges { KeepsEdges UE.is_default dcel.old dcel.new }
     ensures listed { due.old.items ≢ [] → due.new.items ≢ [] }
     ensures goes_on { GoesOn dcel.old dcel.new }
     ensures starts { IfOk result (StartsOutside dcel.new (origin_of dcel.old.shape edge)) }
@@ -119,16 +132,18 @@ fn close_after<A: Allocator, L: Allocator>(
 
 /// Closes triangles before the vertex where an outer half edge ends, as long as the outer face
 /// turns in there.
-fn close_before<A: Allocator, L: Allocator>(
-    dcel: &mut Mesh<A>,
+fn close_before<UE: Default, A: Allocator, L: Allocator>(
+    dcel: &mut EdgeMesh<UE, A>,
     due: &mut Due<L>,
     edge: FixedDirectedEdgeHandle,
 ) -> Result<(), InsertionError>
-    requires sound { IsSound dcel.old due.old.items }
+    requires triangulated { IsTriangulated dcel.old }
     requires live { IsLive dcel.old.shape edge }
     requires outer { face_of dcel.old.shape edge ≡ 0 }
     ensures keeps { Keeps dcel.old dcel.new }
-    ensures sound { IsSound dcel.new due.new.items }
+    ensures triangulated { IsTriangulated dcel.new }
+    ensures lists { KeepsListed dcel.old dcel.new due.old.items due.new.items }
+    ensures edges { KeepsEdges UE.is_default dcel.old dcel.new }
     ensures listed { due.old.items ≢ [] → due.new.items ≢ [] }
     ensures goes_on { GoesOn dcel.old dcel.new }
     ensures closed { let t = end_of dcel.old.shape edge in
@@ -149,16 +164,18 @@ fn close_before<A: Allocator, L: Allocator>(
 ///
 /// Returns the half edge that is on the outer face in the place of both, or `None` if the outer
 /// face does not turn in there.
-fn close<A: Allocator, L: Allocator>(
-    dcel: &mut Mesh<A>,
+fn close<UE: Default, A: Allocator, L: Allocator>(
+    dcel: &mut EdgeMesh<UE, A>,
     due: &mut Due<L>,
     edge: FixedDirectedEdgeHandle,
 ) -> Result<Option<FixedDirectedEdgeHandle>, InsertionError>
-    requires sound { IsSound dcel.old due.old.items }
+    requires triangulated { IsTriangulated dcel.old }
     requires live { IsLive dcel.old.shape edge }
     requires outer { face_of dcel.old.shape edge ≡ 0 }
     ensures keeps { Keeps dcel.old dcel.new }
-    ensures sound { IsSound dcel.new due.new.items }
+    ensures triangulated { IsTriangulated dcel.new }
+    ensures lists { KeepsListed dcel.old dcel.new due.old.items due.new.items }
+    ensures edges { KeepsEdges UE.is_default dcel.old dcel.new }
     ensures listed { due.old.items ≢ [] → due.new.items ≢ [] }
     ensures goes_on { GoesOn dcel.old dcel.new }
     ensures some { IfOk result (λ closed. IfSome closed (IsClosedAt dcel.old dcel.new edge)) }
@@ -188,7 +205,7 @@ fn close<A: Allocator, L: Allocator>(
 }
 
 /// Returns whether the next half edge ends on the left of this one.
-fn turns_in<A: Allocator>(edge: Edge<'_, A>) -> bool
+fn turns_in<UE, A: Allocator>(edge: Edge<'_, UE, A>) -> bool
     requires { IsLive (mesh_behind edge).shape (number_of edge) }
     ensures { IsTrue result ↔ TurnsIn (mesh_behind edge.entry) (number_of edge.entry) }
 {

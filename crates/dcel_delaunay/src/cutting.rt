@@ -23,7 +23,7 @@ use std::alloc::{AllocError, Allocator};
 /// Gives up a corner of the hull, at an outer half edge that starts there, none of whose edges can be
 /// flipped any more.
 ///
-/// If memory runs out, the vertex stays, and so do all edges.
+/// If memory runs out, the vertices stay where they are, and no edge is taken out.
 pub(crate) fn cut_off<A: Allocator + Clone, L: Allocator>(
     dcel: &mut Mesh<A>,
     due: &mut Due<L>,
@@ -92,7 +92,7 @@ fn turn_back<A: Allocator>(dcel: &mut Mesh<A>, edge: FixedUndirectedEdgeHandle)
 
 /// Returns whether the vertex where an outer half edge starts lies between its two neighbors on the
 /// hull.
-fn lies_flat<A: Allocator>(outside: Edge<'_, A>) -> bool
+fn lies_flat<A: Allocator>(outside: Edge<'_, (), A>) -> bool
     requires { IsLive (mesh_behind outside).shape (number_of outside) }
     ensures { IsTrue result ↔ LiesFlat (mesh_behind outside.entry) (number_of outside.entry) }
 {
@@ -120,7 +120,7 @@ fn cut_strip<A: Allocator + Clone>(
 
 /// Returns the strip of the vertex where an outer half edge starts.
 fn strip_around<A: Allocator, B: Allocator>(
-    outside: Edge<'_, A>,
+    outside: Edge<'_, (), A>,
     alloc: B,
 ) -> Result<Vec<FixedDirectedEdgeHandle, B>, AllocError>
     requires { IsLive (mesh_behind outside).shape (number_of outside) }

@@ -10,7 +10,7 @@ use thiserror::Error;
 /// Why a point was not inserted, or not all was done that belongs to it.
 ///
 /// With any other error than `Unfinished` the point has no new vertex, and the mesh of a whole
-/// triangulation is as it was; points that `insert_all` put in before stay.
+/// triangulation is as it was, and whole; points that `insert_all` put in before stay.
 #[derive(Clone, Copy, PartialEq, Eq, Debug, Drop, Error)]
 pub enum InsertionError {
     /// A coordinate is below -2^30 or above 2^30.
@@ -33,7 +33,7 @@ pub enum InsertionError {
 /// Why a vertex was not removed, or not all was done that belongs to it.
 ///
 /// With any other error than `Unfinished` each vertex is as it was, and with any other than
-/// `OutOfMemory` and `Unfinished` so is the mesh of a whole triangulation.
+/// `OutOfMemory` and `Unfinished` so is the mesh of a whole triangulation, and nothing is left undone.
 #[derive(Clone, Copy, PartialEq, Eq, Debug, Drop, Error)]
 pub enum RemovalError {
     /// There is no vertex of this number.

@@ -1,17 +1,18 @@
 //! The edits while all vertices stand on a line: the first vertices, an edge of the path split, and
 //! the path extended. The outer face is the only one, so nothing is to be listed.
 
-ghost use Rattle.std.specs.Prelude.{◌≡◌, ◌<◌, ℕ, IfErr, IfOk};
+ghost use Rattle.std.specs.Prelude.{◌≡◌, ◌<◌, ℕ, IfErr, IfOk, OnOk};
 ghost use Rattle.dcel_maps.specs.Conditions.{IsLineEnd};
 ghost use Rattle.dcel_maps.specs.Removals.{Closed};
 ghost use Rattle.dcel_maps.specs.Shapes.{IsLive, end_of};
 ghost use Rattle.dcel_plane.specs.Plane.{point_at};
 ghost use Rattle.dcel_places.specs.Locating.{LiesBeyond, LiesOn};
+ghost use Rattle.dcel_delaunay.specs.Edges.{IsSplit, KeepsEdgeData, KeepsEdges};
 ghost use Rattle.dcel_delaunay.specs.Growing.{Gains, IsFlat, IsJoined, MayRefuse};
 ghost use Rattle.dcel_delaunay.specs.Places.{HasPoint};
 
 use crate::errors::InsertionError;
-use crate::mesh::Mesh;
+use crate::mesh::EdgeMesh;
 use crate::placing::{append, take_back};
 use dcel_predicates::Point;
 use spade_dcel::handles::{FixedDirectedEdgeHandle, FixedVertexHandle};
@@ -22,8 +23,8 @@ use spade_dcel::operations::{
 use std::alloc::Allocator;
 
 /// Puts a point on an edge of the path.
-pub(crate) fn put_on_line<A: Allocator>(
-    dcel: &mut Mesh<A>,
+pub(crate) fn put_on_line<UE: Default, A: Allocator>(
+    dcel: &mut EdgeMesh<UE, A>,
     edge: FixedDirectedEdgeHandle,
     point: Point,
 ) -> Result<FixedVertexHandle, InsertionError>
@@ -34,6 +35,8 @@ pub(crate) fn put_on_line<A: Allocator>(
     ensures gains { IfOk result (Gains dcel.old dcel.new point) }
     ensures flat { IsFlat dcel.new }
     ensures joined { IsJoined dcel.old.shape → IsJoined dcel.new.shape }
+    ensures edge_data { OnOk result (KeepsEdgeData UE.is_default dcel.old dcel.new) }
+    ensures split { IfOk result (IsSplit dcel.old dcel.new edge) }
     ensures refused { IfErr result (λ e. MayRefuse dcel.old.shape e × (dcel.new ≡ dcel.old)) }
 {
     every_mesh(dcel);
@@ -45,8 +48,8 @@ pub(crate) fn put_on_line<A: Allocator>(
 }
 
 /// Puts a point beyond an end of the path.
-pub(crate) fn put_beyond<A: Allocator>(
-    dcel: &mut Mesh<A>,
+pub(crate) fn put_beyond<UE: Default, A: Allocator>(
+    dcel: &mut EdgeMesh<UE, A>,
     end: FixedVertexHandle,
     point: Point,
 ) -> Result<FixedVertexHandle, InsertionError>
@@ -57,6 +60,7 @@ pub(crate) fn put_beyond<A: Allocator>(
     ensures gains { IfOk result (Gains dcel.old dcel.new point) }
     ensures flat { IsFlat dcel.new }
     ensures joined { IsJoined dcel.old.shape → IsJoined dcel.new.shape }
+    ensures edges { OnOk result (KeepsEdges UE.is_default dcel.old dcel.new) }
     ensures refused { IfErr result (λ e. MayRefuse dcel.old.shape e × (dcel.new ≡ dcel.old)) }
 {
     every_mesh(dcel);
@@ -68,8 +72,8 @@ pub(crate) fn put_beyond<A: Allocator>(
 }
 
 /// Puts in the first point, or the second one with the first edge.
-pub(crate) fn put_first<A: Allocator>(
-    dcel: &mut Mesh<A>,
+pub(crate) fn put_first<UE: Default, A: Allocator>(
+    dcel: &mut EdgeMesh<UE, A>,
     point: Point,
 ) -> Result<FixedVertexHandle, InsertionError>
     requires closed { dcel.old.shape.removal ≡ Closed }
@@ -79,6 +83,7 @@ pub(crate) fn put_first<A: Allocator>(
     ensures gains { IfOk result (Gains dcel.old dcel.new point) }
     ensures flat { IsFlat dcel.new }
     ensures joined { IsJoined dcel.old.shape → IsJoined dcel.new.shape }
+    ensures edges { OnOk result (KeepsEdges UE.is_default dcel.old dcel.new) }
     ensures refused { IfErr result (λ e. MayRefuse dcel.old.shape e × (dcel.new ≡ dcel.old)) }
 {
     every_mesh(dcel);

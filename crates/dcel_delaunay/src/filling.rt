@@ -118,7 +118,7 @@ fn beginning<A: Allocator>(dcel: &Mesh<A>, vertex: FixedVertexHandle) -> FixedDi
 
 /// Returns whether, of the four out edges of a vertex, a line from where this one ends to where the
 /// next but one ends makes two triangles that go round counterclockwise.
-fn makes_two<A: Allocator>(edge: Edge<'_, A>) -> bool
+fn makes_two<A: Allocator>(edge: Edge<'_, (), A>) -> bool
     requires { IsLive (mesh_behind edge).shape (number_of edge) }
     ensures { IsTrue result ↔ MakesTwo (point_at (mesh_behind edge.entry)) (mesh_behind edge.entry).shape (number_of edge.entry) }
 {

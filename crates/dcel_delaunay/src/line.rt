@@ -10,15 +10,21 @@ ghost use Rattle.dcel_places.specs.Locating.{IsBefore, LiesBeyond};
 ghost use Rattle.dcel_delaunay.specs.Growing.{IsFlat};
 ghost use Rattle.dcel_delaunay.specs.Places.{IsOnLine, IsPlace};
 
-use crate::mesh::{Edge, Mesh, point_of, side, stands_at};
+use crate::mesh::{Edge, EdgeMesh, point_of, side, stands_at};
 use crate::position::PositionInTriangulation;
 use dcel_predicates::{Point, Side};
 use spade_dcel::handles::FixedVertexHandle;
 use spade_dcel::laws::every_mesh;
 use std::alloc::Allocator;
 
-/// Returns where a point lies if there is no edge.
-pub(crate) fn at_a_vertex<A: Allocator>(dcel: &Mesh<A>, point: Point) -> PositionInTriangulation
+/// Returns where a point lies if there is no edge: at a vertex, or at none.
+///
+/// Asks for a mesh without an edge (`num_undirected_edges() == 0`) and without an inner face
+/// (`num_faces() == 1`).
+pub fn at_a_vertex<UE, A: Allocator>(
+    dcel: &EdgeMesh<UE, A>,
+    point: Point,
+) -> PositionInTriangulation
     requires none { dcel.now.shape.edges ≡ 0 }
     requires alone { face_count dcel.now.shape ≡ 1 }
     ensures { IsPlace dcel.now point result }
@@ -32,10 +38,14 @@ pub(crate) fn at_a_vertex<A: Allocator>(dcel: &Mesh<A>, point: Point) -> Positio
     PositionInTriangulation::NoTriangulation
 }
 
-/// Returns where a point lies in a mesh that is a path.
-pub(crate) fn locate<'a, A: Allocator>(
-    dcel: &'a Mesh<A>,
-    edge: Edge<'a, A>,
+/// Returns where a point lies in a mesh that is a path along a line, by a half edge of it.
+///
+/// Asks for a half edge of this mesh, whose only face is the outer one (`num_faces() == 1`) and whose
+/// vertices stand on one line, in the order of the path. No public test tells the latter of any mesh:
+/// it is for crates whose invariants have it, as that a mesh without a triangle is such a path.
+pub fn locate_on_line<'a, UE, A: Allocator>(
+    dcel: &'a EdgeMesh<UE, A>,
+    edge: Edge<'a, UE, A>,
     point: Point,
 ) -> PositionInTriangulation
     requires flat { IsFlat dcel.now }
@@ -64,7 +74,11 @@ fn is_before(first: Point, second: Point) -> bool
 }
 
 /// Returns whether a point on the line of a half edge lies beyond its end.
-fn is_beyond<'a, A: Allocator>(dcel: &'a Mesh<A>, edge: Edge<'a, A>, point: Point) -> bool
+fn is_beyond<'a, UE, A: Allocator>(
+    dcel: &'a EdgeMesh<UE, A>,
+    edge: Edge<'a, UE, A>,
+    point: Point,
+) -> bool
     requires flat { IsFlat dcel.now }
     requires mesh { mesh_behind edge ≡ dcel.now }
     requires live { IsLive dcel.now.shape (number_of edge) }
@@ -82,9 +96,9 @@ fn is_beyond<'a, A: Allocator>(dcel: &'a Mesh<A>, edge: Edge<'a, A>, point: Poin
 }
 
 /// Goes along the path towards a point on its line.
-fn walk<'a, A: Allocator>(
-    dcel: &'a Mesh<A>,
-    start: Edge<'a, A>,
+fn walk<'a, UE, A: Allocator>(
+    dcel: &'a EdgeMesh<UE, A>,
+    start: Edge<'a, UE, A>,
     point: Point,
 ) -> PositionInTriangulation
     requires flat { IsFlat dcel.now }
@@ -110,7 +124,11 @@ fn walk<'a, A: Allocator>(
 }
 
 /// Returns the half of an edge that a point on its line does not lie behind.
-fn ahead<'a, A: Allocator>(dcel: &'a Mesh<A>, edge: Edge<'a, A>, point: Point) -> Edge<'a, A>
+fn ahead<'a, UE, A: Allocator>(
+    dcel: &'a EdgeMesh<UE, A>,
+    edge: Edge<'a, UE, A>,
+    point: Point,
+) -> Edge<'a, UE, A>
     requires flat { IsFlat dcel.now }
     requires mesh { mesh_behind edge ≡ dcel.now }
     requires live { IsLive dcel.now.shape (number_of edge) }
@@ -130,9 +148,9 @@ fn ahead<'a, A: Allocator>(dcel: &'a Mesh<A>, edge: Edge<'a, A>, point: Point) -
 }
 
 /// Returns where a point lies on the line of a half edge, if it lies beyond neither end.
-fn between<'a, A: Allocator>(
-    dcel: &'a Mesh<A>,
-    edge: Edge<'a, A>,
+fn between<'a, UE, A: Allocator>(
+    dcel: &'a EdgeMesh<UE, A>,
+    edge: Edge<'a, UE, A>,
     point: Point,
 ) -> PositionInTriangulation
     requires flat { IsFlat dcel.now }

@@ -6,11 +6,11 @@ ghost use Rattle.dcel_maps.specs.Removals.{Closed};
 ghost use Rattle.dcel_maps.specs.Shapes.{IsLive, face_of, next_of, prev_of};
 ghost use Rattle.dcel_plane.specs.Plane.{point_at};
 ghost use Rattle.dcel_places.specs.Locating.{HasBeyond};
-ghost use Rattle.dcel_delaunay.specs.Growing.{HasHull, IsSound, IsTriangulation};
+ghost use Rattle.dcel_delaunay.specs.Growing.{HasHull, IsSound, IsTriangulated, IsTriangulation};
 ghost use Rattle.dcel_delaunay.specs.Places.{AreSides, IsPlace, LiesAt};
 
 use crate::line;
-use crate::mesh::{Edge, Mesh, is_on, is_right, side};
+use crate::mesh::{Edge, EdgeMesh, is_on, is_right, side};
 use crate::position::PositionInTriangulation;
 use dcel_predicates::{Point, Side};
 use spade_dcel::handles::{FixedDirectedEdgeHandle, FixedFaceHandle, InnerTag};
@@ -20,8 +20,8 @@ use std::alloc::Allocator;
 /// Walks from a half edge towards a point, and returns where it lies.
 ///
 /// If the mesh has no such half edge, the walk begins at the first one.
-pub(crate) fn locate<A: Allocator>(
-    dcel: &Mesh<A>,
+pub(crate) fn locate<UE, A: Allocator>(
+    dcel: &EdgeMesh<UE, A>,
     start: FixedDirectedEdgeHandle,
     point: Point,
 ) -> PositionInTriangulation
@@ -33,13 +33,16 @@ pub(crate) fn locate<A: Allocator>(
     }
     let edge = beginning(dcel, start);
     if dcel.num_faces() == 1 {
-        return line::locate(dcel, edge, point);
+        return line::locate_on_line(dcel, edge, point);
     }
     walk(dcel, inner_half(dcel, edge), point)
 }
 
 /// Returns the half edge where a walk begins: this one, or the first if there is no such.
-fn beginning<'a, A: Allocator>(dcel: &'a Mesh<A>, start: FixedDirectedEdgeHandle) -> Edge<'a, A>
+fn beginning<'a, UE, A: Allocator>(
+    dcel: &'a EdgeMesh<UE, A>,
+    start: FixedDirectedEdgeHandle,
+) -> Edge<'a, UE, A>
     requires closed { dcel.now.shape.removal ≡ Closed }
     requires some { 0 < dcel.now.shape.edges }
     ensures mesh { mesh_behind result ≡ dcel.now }
@@ -52,8 +55,11 @@ fn beginning<'a, A: Allocator>(dcel: &'a Mesh<A>, start: FixedDirectedEdgeHandle
 }
 
 /// Returns the half of an edge that lies in a triangle, the given one if both do.
-fn inner_half<'a, A: Allocator>(dcel: &'a Mesh<A>, edge: Edge<'a, A>) -> Edge<'a, A>
-    requires sound { IsSound dcel.now [] }
+fn inner_half<'a, UE, A: Allocator>(
+    dcel: &'a EdgeMesh<UE, A>,
+    edge: Edge<'a, UE, A>,
+) -> Edge<'a, UE, A>
+    requires triangulated { IsTriangulated dcel.now }
     requires hull { HasHull dcel.now }
     requires mesh { mesh_behind edge ≡ dcel.now }
     requires live { IsLive dcel.now.shape (number_of edge) }
@@ -71,9 +77,9 @@ fn inner_half<'a, A: Allocator>(dcel: &'a Mesh<A>, edge: Edge<'a, A>) -> Edge<'a
 
 /// Goes on across sides that have the point on their right, up to the outer face or to a triangle
 /// without such a side.
-fn walk<'a, A: Allocator>(
-    dcel: &'a Mesh<A>,
-    start: Edge<'a, A>,
+fn walk<'a, UE, A: Allocator>(
+    dcel: &'a EdgeMesh<UE, A>,
+    start: Edge<'a, UE, A>,
     point: Point,
 ) -> PositionInTriangulation
     requires sound { IsSound dcel.now [] }
@@ -101,15 +107,20 @@ fn walk<'a, A: Allocator>(
 
 /// Returns where a point lies in the triangle of a half edge, or a side that it lies beyond.
 ///
-/// It asks where the point lies of the other two sides, and is told it of this one.
+/// It asks where the point lies of the other two sides, and is told it of this one ([`side`]).
+///
+/// Asks for a half edge of this mesh that isn't on the outer face (`is_outer_edge()` tells). The
+/// vertices are to be joined, the inner faces triangles that go round counterclockwise, and no removal
+/// open; the mesh need not be Delaunay. No public test tells this of the mesh: it is for crates whose
+/// invariants have it.
 #[inline]
-fn look<'a, A: Allocator>(
-    dcel: &'a Mesh<A>,
-    edge: Edge<'a, A>,
+pub fn look<'a, UE, A: Allocator>(
+    dcel: &'a EdgeMesh<UE, A>,
+    edge: Edge<'a, UE, A>,
     own: Side,
     point: Point,
-) -> Result<PositionInTriangulation, Edge<'a, A>>
-    requires sound { IsSound dcel.now [] }
+) -> Result<PositionInTriangulation, Edge<'a, UE, A>>
+    requires triangulated { IsTriangulated dcel.now }
     requires mesh { mesh_behind edge ≡ dcel.now }
     requires live { IsLive dcel.now.shape (number_of edge) }
     requires inner { 0 < face_of dcel.now.shape (number_of edge) }
@@ -140,14 +151,14 @@ fn look<'a, A: Allocator>(
 /// of which has it on the right: on two of them it is at their corner, on one strictly between its
 /// ends, and on none inside.
 #[inline]
-fn place<A: Allocator>(
-    dcel: &Mesh<A>,
-    edge: Edge<'_, A>,
+fn place<UE, A: Allocator>(
+    dcel: &EdgeMesh<UE, A>,
+    edge: Edge<'_, UE, A>,
     own: Side,
     after: Side,
     before: Side,
 ) -> PositionInTriangulation
-    requires sound { IsSound dcel.now [] }
+    requires triangulated { IsTriangulated dcel.now }
     requires mesh { mesh_behind edge ≡ dcel.now }
     requires live { IsLive dcel.now.shape (number_of edge) }
     requires inner { 0 < face_of dcel.now.shape (number_of edge) }
@@ -167,7 +178,7 @@ fn place<A: Allocator>(
 
 /// Returns the triangle of a half edge.
 #[inline]
-fn inner_face<A: Allocator>(edge: Edge<'_, A>) -> FixedFaceHandle<InnerTag>
+fn inner_face<UE, A: Allocator>(edge: Edge<'_, UE, A>) -> FixedFaceHandle<InnerTag>
     requires live { IsLive (mesh_behind edge).shape (number_of edge) }
     requires inner { 0 < face_of (mesh_behind edge).shape (number_of edge) }
     ensures { result ≡ face_of (mesh_behind edge.entry).shape (number_of edge.entry) }

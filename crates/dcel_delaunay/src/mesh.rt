@@ -14,15 +14,18 @@ use std::alloc::{Allocator, Global};
 /// A mesh whose vertices are points.
 pub type Mesh<A = Global> = Dcel<Point, (), (), (), A>;
 
-/// A half edge of such a mesh.
-pub(crate) type Edge<'a, A> = DirectedEdgeHandle<'a, Point, (), (), (), A>;
+/// A mesh whose vertices are points, with data at its edges.
+pub type EdgeMesh<UE, A = Global> = Dcel<Point, (), UE, (), A>;
 
-/// A vertex of such a mesh.
-pub(crate) type Vertex<'a, A> = VertexHandle<'a, Point, (), (), (), A>;
+/// A half edge of a mesh whose vertices are points.
+pub type Edge<'a, UE, A> = DirectedEdgeHandle<'a, Point, (), UE, (), A>;
+
+/// A vertex of a mesh whose vertices are points.
+pub type Vertex<'a, UE, A> = VertexHandle<'a, Point, (), UE, (), A>;
 
 /// Returns where a vertex stands.
 #[inline]
-pub(crate) fn point_of<A: Allocator>(vertex: Vertex<'_, A>) -> Point
+pub(crate) fn point_of<UE, A: Allocator>(vertex: Vertex<'_, UE, A>) -> Point
     ensures { result ≡ point_at (mesh_behind vertex.entry) (number_of vertex.entry) }
 {
     *vertex.data()
@@ -30,7 +33,7 @@ pub(crate) fn point_of<A: Allocator>(vertex: Vertex<'_, A>) -> Point
 
 /// Tells on which side of a half edge a point lies.
 #[inline]
-pub(crate) fn side<A: Allocator>(edge: Edge<'_, A>, point: Point) -> Side
+pub fn side<UE, A: Allocator>(edge: Edge<'_, UE, A>, point: Point) -> Side
     requires { IsLive (mesh_behind edge).shape (number_of edge) }
     ensures left { (result ≡ Side.Left) ↔ HasLeft (mesh_behind edge.entry) point (number_of edge.entry) }
     ensures on { (result ≡ Side.On) ↔ IsOnLine (mesh_behind edge.entry) point (number_of edge.entry) }
@@ -57,7 +60,7 @@ pub(crate) fn is_right(side: Side) -> bool
 
 /// Returns whether a point is where a vertex stands.
 #[inline]
-pub(crate) fn stands_at<A: Allocator>(vertex: Vertex<'_, A>, point: Point) -> bool
+pub(crate) fn stands_at<UE, A: Allocator>(vertex: Vertex<'_, UE, A>, point: Point) -> bool
     ensures { IsTrue result ↔ HasPoint (mesh_behind vertex.entry) point (number_of vertex.entry) }
 {
     let own = *vertex.data();

@@ -8,7 +8,7 @@ ghost use Rattle.dcel_plane.specs.Plane.{point_at};
 ghost use Rattle.dcel_predicates.specs.Determinants.{lift_of};
 ghost use Rattle.dcel_delaunay.specs.Growing.{IsTriangulation};
 
-use crate::mesh::{Mesh, Vertex, point_of};
+use crate::mesh::{EdgeMesh, Vertex, point_of};
 use dcel_predicates::Point;
 use spade_dcel::handles::{FixedDirectedEdgeHandle, FixedVertexHandle};
 use spade_dcel::laws::every_mesh;
@@ -18,8 +18,8 @@ use std::alloc::Allocator;
 /// it, or `None` if there is no vertex.
 ///
 /// If the mesh has no such half edge, the walk begins at the first vertex.
-pub(crate) fn nearest<A: Allocator>(
-    dcel: &Mesh<A>,
+pub(crate) fn nearest<UE, A: Allocator>(
+    dcel: &EdgeMesh<UE, A>,
     start: FixedDirectedEdgeHandle,
     point: Point,
 ) -> Option<FixedVertexHandle>
@@ -34,8 +34,8 @@ pub(crate) fn nearest<A: Allocator>(
 }
 
 /// Returns the vertex where a walk begins: where this half edge starts, or the first one.
-fn beginning<A: Allocator>(
-    dcel: &Mesh<A>,
+fn beginning<UE, A: Allocator>(
+    dcel: &EdgeMesh<UE, A>,
     start: FixedDirectedEdgeHandle,
 ) -> Option<FixedVertexHandle>
     requires { dcel.now.shape.removal ≡ Closed }
@@ -51,7 +51,11 @@ fn beginning<A: Allocator>(
 
 /// Goes from vertex to vertex, each a neighbor of the last one and nearer to a point, as long as there
 /// is one.
-fn walk<A: Allocator>(dcel: &Mesh<A>, start: FixedVertexHandle, point: Point) -> FixedVertexHandle
+fn walk<UE, A: Allocator>(
+    dcel: &EdgeMesh<UE, A>,
+    start: FixedVertexHandle,
+    point: Point,
+) -> FixedVertexHandle
     requires { start < dcel.now.shape.vertices }
     ensures vertex { result < dcel.now.shape.vertices }
     ensures end { HasNoNearerNeighbor (point_at dcel.now) dcel.now.shape point result }
@@ -64,8 +68,8 @@ fn walk<A: Allocator>(dcel: &Mesh<A>, start: FixedVertexHandle, point: Point) ->
 }
 
 /// Returns a neighbor of a vertex that is nearer to a point, if there is one.
-fn nearer_neighbor<A: Allocator>(
-    dcel: &Mesh<A>,
+fn nearer_neighbor<UE, A: Allocator>(
+    dcel: &EdgeMesh<UE, A>,
     vertex: FixedVertexHandle,
     point: Point,
 ) -> Option<FixedVertexHandle>
@@ -89,7 +93,7 @@ fn nearer_neighbor<A: Allocator>(
 
 /// Returns the square of the distance from a vertex to a point.
 #[inline]
-fn squared_distance<A: Allocator>(vertex: Vertex<'_, A>, point: Point) -> u64
+fn squared_distance<UE, A: Allocator>(vertex: Vertex<'_, UE, A>, point: Point) -> u64
     ensures { pos result ≡ lift_of (point_at (mesh_behind vertex.entry) (number_of vertex.entry)) point }
 {
     let at = point_of(vertex);

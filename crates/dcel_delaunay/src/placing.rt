@@ -3,7 +3,7 @@
 //!
 //! If memory runs out before the vertex is connected, it is taken out again.
 
-ghost use Rattle.std.specs.Prelude.{◌≡◌, ◌≢◌, ◌⊎◌, ◌<◌, ◌/◌, [], ◌∷◌, IfErr, IfOk, OnOk};
+ghost use Rattle.std.specs.Prelude.{◌≡◌, ◌≢◌, ◌⊎◌, ◌<◌, ◌/◌, [], ◌∷◌, IfErr, IfOk, OnErr, OnOk};
 ghost use Rattle.dcel_fixed.specs.HalfEdges.{rev};
 ghost use Rattle.dcel_maps.specs.Conditions.{HasRoom, IsTriangle, IsUnconnected};
 ghost use Rattle.dcel_maps.specs.edits.Create.{vertex_appended};
@@ -12,12 +12,13 @@ ghost use Rattle.dcel_maps.specs.Renumbering.{vertex_taken_out};
 ghost use Rattle.dcel_maps.specs.Shapes.{IsLive, IsMesh, face_of, next_of, prev_of};
 ghost use Rattle.dcel_plane.specs.Edges.{edges_inserted};
 ghost use Rattle.dcel_plane.specs.Plane.{LiesAcross, LiesInside, point_at};
-ghost use Rattle.dcel_delaunay.specs.Growing.{Gains, HasHull, IsFlat, IsOpen, IsSound, MayRefuse};
+ghost use Rattle.dcel_delaunay.specs.Edges.{IsSplit, KeepsEdgeData, KeepsEdges};
+ghost use Rattle.dcel_delaunay.specs.Growing.{Gains, HasHull, IsFlat, IsOpen, IsTriangulated, KeepsListed, MayRefuse};
 ghost use Rattle.dcel_delaunay.specs.Places.{HasLeft};
 ghost use Rattle.dcel_places.specs.Locating.{LiesOn};
 
 use crate::errors::InsertionError;
-use crate::mesh::Mesh;
+use crate::mesh::EdgeMesh;
 use dcel_predicates::Point;
 use spade_dcel::handles::{
     FixedDirectedEdgeHandle, FixedFaceHandle, FixedUndirectedEdgeHandle, FixedVertexHandle,
@@ -34,8 +35,8 @@ use std::alloc::Allocator;
 pub(crate) type Due<L> = Vec<FixedUndirectedEdgeHandle, L>;
 
 /// Appends a vertex, if there are numbers and memory for it and for three edges and two faces.
-pub(crate) fn append<A: Allocator>(
-    dcel: &mut Mesh<A>,
+pub(crate) fn append<UE, A: Allocator>(
+    dcel: &mut EdgeMesh<UE, A>,
     point: Point,
 ) -> Result<FixedVertexHandle, InsertionError>
     requires closed { dcel.old.shape.removal ≡ Closed }
@@ -60,8 +61,8 @@ pub(crate) fn append<A: Allocator>(
 }
 
 /// Takes out the vertex that was appended last.
-pub(crate) fn take_back<A: Allocator>(
-    dcel: &mut Mesh<A>,
+pub(crate) fn take_back<UE, A: Allocator>(
+    dcel: &mut EdgeMesh<UE, A>,
     vertex: FixedVertexHandle,
 ) -> InsertionError
     requires closed { dcel.old.shape.removal ≡ Closed }
@@ -74,8 +75,8 @@ pub(crate) fn take_back<A: Allocator>(
 }
 
 /// Returns the edges of a triangle.
-pub(crate) fn edges_of<A: Allocator>(
-    dcel: &Mesh<A>,
+pub(crate) fn edges_of<UE, A: Allocator>(
+    dcel: &EdgeMesh<UE, A>,
     face: FixedFaceHandle<InnerTag>,
 ) -> [FixedUndirectedEdgeHandle; 3]
     requires inner { 0 < face }
@@ -91,8 +92,8 @@ pub(crate) fn edges_of<A: Allocator>(
 }
 
 /// Returns the edges after and before a half edge.
-fn edges_next_to<A: Allocator>(
-    dcel: &Mesh<A>,
+fn edges_next_to<UE, A: Allocator>(
+    dcel: &EdgeMesh<UE, A>,
     edge: FixedDirectedEdgeHandle,
 ) -> [FixedUndirectedEdgeHandle; 2]
     requires { IsLive dcel.now.shape edge }
@@ -106,20 +107,23 @@ fn edges_next_to<A: Allocator>(
 }
 
 /// Puts a point into the triangle that it lies in.
-pub(crate) fn put_in_face<A: Allocator, L: Allocator>(
-    dcel: &mut Mesh<A>,
+pub(crate) fn put_in_face<UE: Default, A: Allocator, L: Allocator>(
+    dcel: &mut EdgeMesh<UE, A>,
     due: &mut Due<L>,
     face: FixedFaceHandle<InnerTag>,
     point: Point,
 ) -> Result<FixedVertexHandle, InsertionError>
-    requires sound { IsSound dcel.old due.old.items }
+    requires triangulated { IsTriangulated dcel.old }
     requires hull { HasHull dcel.old }
     requires inner { 0 < face }
     requires triangle { IsTriangle dcel.old.shape face }
     requires inside { LiesInside (point_at dcel.old) dcel.old.shape face point }
     ensures gains { IfOk result (Gains dcel.old dcel.new point) }
     ensures refused { IfErr result (λ e. MayRefuse dcel.old.shape e × (dcel.new ≡ dcel.old)) }
-    ensures sound { IsSound dcel.new due.new.items }
+    ensures triangulated { IsTriangulated dcel.new }
+    ensures lists { KeepsListed dcel.old dcel.new due.old.items due.new.items }
+    ensures due { OnErr result (due.new.items ≡ due.old.items) }
+    ensures edges { OnOk result (KeepsEdges UE.is_default dcel.old dcel.new) }
     ensures hull { OnOk result (HasHull dcel.new) }
 {
     every_mesh(dcel);
@@ -138,13 +142,13 @@ pub(crate) fn put_in_face<A: Allocator, L: Allocator>(
 }
 
 /// Puts a point on an edge between two triangles.
-pub(crate) fn put_on_edge<A: Allocator, L: Allocator>(
-    dcel: &mut Mesh<A>,
+pub(crate) fn put_on_edge<UE: Default, A: Allocator, L: Allocator>(
+    dcel: &mut EdgeMesh<UE, A>,
     due: &mut Due<L>,
     edge: FixedDirectedEdgeHandle,
     point: Point,
 ) -> Result<FixedVertexHandle, InsertionError>
-    requires sound { IsSound dcel.old due.old.items }
+    requires triangulated { IsTriangulated dcel.old }
     requires hull { HasHull dcel.old }
     requires live { IsLive dcel.old.shape edge }
     requires triangle { IsTriangle dcel.old.shape (face_of dcel.old.shape edge) }
@@ -155,7 +159,11 @@ pub(crate) fn put_on_edge<A: Allocator, L: Allocator>(
     requires across_facing { LiesAcross (point_at dcel.old) dcel.old.shape (rev edge) point }
     ensures gains { IfOk result (Gains dcel.old dcel.new point) }
     ensures refused { IfErr result (λ e. MayRefuse dcel.old.shape e × (dcel.new ≡ dcel.old)) }
-    ensures sound { IsSound dcel.new due.new.items }
+    ensures triangulated { IsTriangulated dcel.new }
+    ensures lists { KeepsListed dcel.old dcel.new due.old.items due.new.items }
+    ensures due { OnErr result (due.new.items ≡ due.old.items) }
+    ensures edge_data { OnOk result (KeepsEdgeData UE.is_default dcel.old dcel.new) }
+    ensures split { IfOk result (IsSplit dcel.old dcel.new edge) }
     ensures hull { OnOk result (HasHull dcel.new) }
 {
     every_mesh(dcel);
@@ -181,13 +189,13 @@ pub(crate) fn put_on_edge<A: Allocator, L: Allocator>(
 }
 
 /// Puts a point on an edge of the hull, by its inner half.
-pub(crate) fn put_on_hull<A: Allocator, L: Allocator>(
-    dcel: &mut Mesh<A>,
+pub(crate) fn put_on_hull<UE: Default, A: Allocator, L: Allocator>(
+    dcel: &mut EdgeMesh<UE, A>,
     due: &mut Due<L>,
     edge: FixedDirectedEdgeHandle,
     point: Point,
 ) -> Result<FixedVertexHandle, InsertionError>
-    requires sound { IsSound dcel.old due.old.items }
+    requires triangulated { IsTriangulated dcel.old }
     requires hull { HasHull dcel.old }
     requires live { IsLive dcel.old.shape edge }
     requires inner { 0 < face_of dcel.old.shape edge }
@@ -197,7 +205,11 @@ pub(crate) fn put_on_hull<A: Allocator, L: Allocator>(
     requires across { LiesAcross (point_at dcel.old) dcel.old.shape edge point }
     ensures gains { IfOk result (Gains dcel.old dcel.new point) }
     ensures refused { IfErr result (λ e. MayRefuse dcel.old.shape e × (dcel.new ≡ dcel.old)) }
-    ensures sound { IsSound dcel.new due.new.items }
+    ensures triangulated { IsTriangulated dcel.new }
+    ensures lists { KeepsListed dcel.old dcel.new due.old.items due.new.items }
+    ensures due { OnErr result (due.new.items ≡ due.old.items) }
+    ensures edge_data { OnOk result (KeepsEdgeData UE.is_default dcel.old dcel.new) }
+    ensures split { IfOk result (IsSplit dcel.old dcel.new edge) }
     ensures hull { OnOk result (HasHull dcel.new) }
 {
     every_mesh(dcel);
@@ -220,20 +232,23 @@ pub(crate) fn put_on_hull<A: Allocator, L: Allocator>(
 
 /// Puts a point that lies outside of the hull, or beside a line, beside one edge of it: the hull is
 /// then still to be closed round the vertex.
-pub(crate) fn put_beside<A: Allocator, L: Allocator>(
-    dcel: &mut Mesh<A>,
+pub(crate) fn put_beside<UE: Default, A: Allocator, L: Allocator>(
+    dcel: &mut EdgeMesh<UE, A>,
     due: &mut Due<L>,
     edge: FixedDirectedEdgeHandle,
     point: Point,
 ) -> Result<FixedVertexHandle, InsertionError>
-    requires sound { IsSound dcel.old due.old.items }
+    requires triangulated { IsTriangulated dcel.old }
     requires hull { IsFlat dcel.old ⊎ HasHull dcel.old }
     requires live { IsLive dcel.old.shape edge }
     requires outer { face_of dcel.old.shape edge ≡ 0 }
     requires left { HasLeft dcel.old point edge }
     ensures gains { IfOk result (Gains dcel.old dcel.new point) }
     ensures refused { IfErr result (λ e. MayRefuse dcel.old.shape e × (dcel.new ≡ dcel.old)) }
-    ensures sound { IsSound dcel.new due.new.items }
+    ensures triangulated { IsTriangulated dcel.new }
+    ensures lists { KeepsListed dcel.old dcel.new due.old.items due.new.items }
+    ensures due { OnErr result (due.new.items ≡ due.old.items) }
+    ensures edges { OnOk result (KeepsEdges UE.is_default dcel.old dcel.new) }
     ensures open { IfOk result (IsOpen dcel.new) }
     ensures listed { OnOk result (due.new.items ≢ []) }
 {

@@ -1,7 +1,7 @@
 //! What a triangulation of points offers: its mesh, points located, and points inserted one after
 //! another.
 
-ghost use Rattle.std.specs.Prelude.{◌≡◌, ◌↔◌, ℕ, ◌<◌, ◌≤◌, [], IfErr, IfNone, IfOk, IfSome, IsTrue, OnOk};
+ghost use Rattle.std.specs.Prelude.{◌≡◌, ◌↔◌, ℕ, ◌<◌, ◌≤◌, [], IfErr, IfNone, IfOk, IfSome, IsOk, IsTrue, OnOk};
 ghost use Rattle.dcel_maps.specs.Conditions.{IsUnconnected};
 ghost use Rattle.dcel_maps.specs.Removals.{Closed};
 ghost use Rattle.dcel_maps.specs.Shapes.{face_count};
@@ -81,7 +81,7 @@ impl<A: Allocator> Triangulation<A> {
         &self.dcel
     }
 
-    /// Returns whether no insertion has left something undone for want of memory.
+    /// Returns whether no insertion or removal has left something undone for want of memory.
     pub fn is_whole(&self) -> bool
         ensures { IsTrue result ↔ IsWhole self.now }
     {
@@ -91,8 +91,9 @@ impl<A: Allocator> Triangulation<A> {
     /// Returns where a point lies.
     ///
     /// Asks for a whole triangulation ([`is_whole`](Self::is_whole)): where memory ran out,
-    /// [`finish`](Self::finish) makes it so. The walk begins at the vertex that the last insertion
-    /// returned.
+    /// [`finish`](Self::finish) makes it so. The walk begins at an edge of the vertex that the last
+    /// insertion returned; after a removal, which renumbers edges, at the one that has its number now,
+    /// or at the first.
     pub fn locate(&self, point: Point) -> PositionInTriangulation
         requires whole { IsWhole self.now }
         ensures { IsPlace (mesh_in self.now) point result }
@@ -104,7 +105,8 @@ impl<A: Allocator> Triangulation<A> {
     ///
     /// Asks for a whole triangulation ([`is_whole`](Self::is_whole)): where memory ran out,
     /// [`finish`](Self::finish) makes it so. A walk from neighbor to neighbor, each nearer than the
-    /// last one, begins at the vertex that the last insertion returned.
+    /// last one, begins at the vertex that the last insertion returned; after a removal, where the edge
+    /// starts that [`locate`](Self::locate) begins at, or at the first vertex.
     pub fn nearest_vertex(&self, point: Point) -> Option<FixedVertexHandle>
         requires whole { IsWhole self.now }
         ensures vertex { IfSome result (λ v. v < (mesh_in self.now).shape.vertices) }
@@ -116,13 +118,19 @@ impl<A: Allocator> Triangulation<A> {
 
     /// Inserts a point, and returns its vertex: a new one, or the one that stands there already.
     ///
-    /// If memory runs out before the vertex stands, no vertex is added. If it runs out afterwards,
-    /// the result is [`Unfinished`](InsertionError::Unfinished), and the next insertion, or
+    /// If no numbers are left for a new vertex, three edges and two faces, the result is
+    /// [`TooManyPoints`](InsertionError::TooManyPoints), and if memory runs out before the vertex
+    /// stands, [`OutOfMemory`](InsertionError::OutOfMemory): no vertex is added then, and a whole
+    /// triangulation ([`is_whole`](Self::is_whole)) is as it was, and whole. If either runs out
+    /// afterwards, the result is [`Unfinished`](InsertionError::Unfinished), and the next insertion, or
     /// [`finish`](Self::finish), goes on with what is left to do.
+    ///
+    /// If the vertex stands there already, a whole triangulation stays as it is.
     pub fn insert(&mut self, point: Point) -> Result<FixedVertexHandle, InsertionError>
         ensures inserts { IfOk result (Takes self.old self.new point) }
         ensures whole { OnOk result (IsWhole self.new) }
         ensures refuses { IfErr result (Stays self.old self.new point) }
+        ensures same { IsWhole self.old → (mesh_in self.new).vertex_data ≡ (mesh_in self.old).vertex_data → mesh_in self.new ≡ mesh_in self.old }
         ensures edges { (mesh_in self.old).shape.edges ≤ (mesh_in self.new).shape.edges }
     {
         self.finish()?;
@@ -133,16 +141,17 @@ impl<A: Allocator> Triangulation<A> {
         Ok(vertex)
     }
 
-    /// Does what an insertion left undone for want of memory. A whole triangulation
+    /// Does what an insertion or a removal left undone for want of memory. A whole triangulation
     /// ([`is_whole`](Self::is_whole)) stays as it is.
     ///
-    /// If memory runs out again, or there is no number left for an edge, the result is
-    /// [`OutOfMemory`](InsertionError::OutOfMemory), and what is done so far stays. The vertices stay
-    /// in any case.
+    /// It can't fail on a whole triangulation. On another one, if memory runs out again, or there is no
+    /// number left for an edge, the result is [`OutOfMemory`](InsertionError::OutOfMemory), and what is
+    /// done so far stays. The vertices stay in any case.
     pub fn finish(&mut self) -> Result<(), InsertionError>
         ensures points { (mesh_in self.new).vertex_data ≡ (mesh_in self.old).vertex_data }
         ensures whole { OnOk result (IsWhole self.new) }
         ensures same { IsWhole self.old → mesh_in self.new ≡ mesh_in self.old }
+        ensures ready { IsWhole self.old → IsOk result }
         ensures refused { IfErr result (λ e. e ≡ InsertionError.OutOfMemory) }
         ensures edges { (mesh_in self.old).shape.edges ≤ (mesh_in self.new).shape.edges }
     {
@@ -177,6 +186,11 @@ impl<A: Allocator + Clone> Triangulation<A> {
     /// The last vertex gets its number, which the result tells; all others keep theirs. The
     /// triangulation is then one of the points that are left, a line if they all stand on one, and of
     /// none after the last.
+    ///
+    /// If there is no such vertex, the result is [`NoVertex`](RemovalError::NoVertex), and if it lies
+    /// inside of triangles and no numbers are left for an edge and two triangles,
+    /// [`TooManyPoints`](RemovalError::TooManyPoints): a whole triangulation is then as it was, and
+    /// any other is whole now.
     ///
     /// If memory runs out before the vertex is gone, it stays, and if it runs out afterwards, the
     /// result is [`Unfinished`](RemovalError::Unfinished); then the next insertion or removal, or

@@ -32,6 +32,7 @@ pub(crate) fn remove_from_triangles<A: Allocator + Clone, L: Allocator>(
     requires vertex { vertex < dcel.old.shape.vertices }
     ensures loses { IfOk result (Loses dcel.old dcel.new vertex) }
     ensures refused { IfErr result (MayKeep dcel.old dcel.new vertex) }
+    ensures due { IfErr result (λ e. e ≡ RemovalError.TooManyPoints → due.new.items ≡ due.old.items) }
     ensures sound { IsSound dcel.new due.new.items }
     ensures hull { IsFlat dcel.new ⊎ HasHull dcel.new }
     ensures done { OnOk result (due.new.items ≡ []) }
@@ -54,6 +55,7 @@ fn remove_corner<A: Allocator + Clone, L: Allocator>(
     requires outside { StartsOutside dcel.old vertex outside }
     ensures loses { IfOk result (Loses dcel.old dcel.new vertex) }
     ensures refused { IfErr result (MayKeep dcel.old dcel.new vertex) }
+    ensures due { IfErr result (λ e. e ≡ RemovalError.TooManyPoints → due.new.items ≡ due.old.items) }
     ensures sound { IsSound dcel.new due.new.items }
     ensures hull { IsFlat dcel.new ⊎ HasHull dcel.new }
     ensures done { OnOk result (due.new.items ≡ []) }
@@ -76,6 +78,7 @@ fn remove_inside<A: Allocator + Clone, L: Allocator>(
     requires inside { IsInside dcel.old.shape vertex }
     ensures loses { IfOk result (Loses dcel.old dcel.new vertex) }
     ensures refused { IfErr result (MayKeep dcel.old dcel.new vertex) }
+    ensures due { IfErr result (λ e. e ≡ RemovalError.TooManyPoints → due.new.items ≡ due.old.items) }
     ensures sound { IsSound dcel.new due.new.items }
     ensures hull { IsFlat dcel.new ⊎ HasHull dcel.new }
     ensures done { OnOk result (due.new.items ≡ []) }

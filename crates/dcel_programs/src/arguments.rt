@@ -78,6 +78,8 @@ pub struct Choice<'a, T> {
     pub name: &'a str,
     /// What it stands for.
     pub means: T,
+    /// The names of the other options that it can't stand beside.
+    pub excludes: &'a [&'a str],
     /// What it is for.
     pub help: &'a str,
 }
@@ -137,6 +139,7 @@ impl<'a, T> Choice<'a, T> {
             .long(self.name)
             .action(ArgAction::SetTrue)
             .help(self.help)
+            .conflicts_with_all(self.excludes)?
             .group(CHOICES)
     }
 }

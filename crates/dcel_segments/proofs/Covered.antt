@@ -28,6 +28,7 @@ use Rattle.dcel_covering.specs.Covering.{CoversHull}
 use Rattle.dcel_covering.specs.Places.{IsIn, Place, orient_at}
 use Rattle.dcel_covering.proofs.Inside.{not_right, on_end, on_start, other_way}
 use Rattle.dcel_covering.proofs.Triangles.{at_word, same_face, word_at}
+use Rattle.dcel_hulls.proofs.Keeping.{flip_outer}
 use Rattle.dcel_hollows.specs.Wheels.{CanTurn}
 use Rattle.dcel_segments.specs.Segments.{CanTurnEach, IsPlanar, flipped_each}
 use Rattle.dcel_segments.proofs.Becoming.{turned_planar}
@@ -90,6 +91,40 @@ module _ {V DE UE F : Type 0} (m : Mesh V DE UE F) (mesh : IsMesh m) (triangles 
     named a b c a' b' c' ea eb ec is =
         subst (λ (k : ℕ). IsIn (at a') (at b') (at k) p) ec (subst (λ (k : ℕ). IsIn (at a') (at k) (at c) p) eb (subst (λ (k : ℕ). IsIn (at k) (at b) (at c) p) ea is))
 
+    abbrev start : Point
+    start = at (origin_of m.shape (2 * u))
+
+    abbrev end : Point
+    end = at (origin_of m.shape (2 * u + 1))
+
+    abbrev near : Point
+    near = at (origin_of m.shape (prev_of m.shape (2 * u)))
+
+    abbrev far : Point
+    far = at (origin_of m.shape (prev_of m.shape (2 * u + 1)))
+
+    turns_near : TurnsLeft start end near
+    turns_near = left_before m mesh u turn.can at plane turn.inner
+
+    turns_far : TurnsLeft end start far
+    turns_far = right_before m mesh u turn.can at plane turn.inner_facing
+
+    -- another triangle is as it was
+    word_else : (i : ℕ) → i ≢ f → i ≢ g → word_of n.words i ≡ word_of s.words i
+    word_else i not_f not_g =
+        get_or-set_other (slice_set s.words f (from_least (e ∷ prev_of s t ∷ next_of s e ∷ []))) g i (from_least (t ∷ prev_of s e ∷ next_of s t ∷ [])) [] not_g
+        ∙ get_or-set_other s.words f i (from_least (e ∷ prev_of s t ∷ next_of s e ∷ [])) [] not_f
+
+    start_in : (i x y z k : ℕ) → i ≢ f → i ≢ g → word_of s.words i ≡ x ∷ y ∷ z ∷ [] → 0 < count_of k (x ∷ y ∷ z ∷ []) → origin_of n k ≡ origin_of s k
+    start_in i x y z k not_f not_g is there =
+        let found : 0 < count_of k (word_of s.words i) = subst (λ (l : List ℕ). 0 < count_of k l) (sym is) there in
+        let on : face_of s k ≡ i = face_in_word (map_of s) s.words (links_stand mesh.sound) k i found in
+        origin_same m mesh u turn.can at k (live_in (map_of s) s.words (links_stand mesh.sound) k i found)
+        (λ same. not_f (sym on ∙ ap (face_of s) same)) (λ same. not_g (sym on ∙ ap (face_of s) same))
+
+    turns_into : (w : List ℕ) (i j x y z : ℕ) → i ≡ j → word_of n.words j ≡ from_least w → word_of n.words i ≡ x ∷ y ∷ z ∷ [] → TurnsTo w (x ∷ y ∷ z ∷ [])
+    turns_into w i j x y z same word is = subst (λ (l : List ℕ). TurnsTo w l) (sym word ∙ ap (word_of n.words) (sym same) ∙ is) (from_least-turn w)
+
     module _ (none : (i x y z : ℕ) → 0 < i → word_of (edge_flipped m u).shape.words i ≡ x ∷ y ∷ z ∷ [] → Off (origin_of (edge_flipped m u).shape) x y z) where
       off_new : (i x y z : ℕ) → 0 < i → length (word_of n.words i) ≡ 3 → word_of n.words i ≡ from_least (x ∷ y ∷ z ∷ []) → Off (origin_of n) x y z
       off_new i x y z inner long word =
@@ -115,24 +150,6 @@ module _ {V DE UE F : Type 0} (m : Mesh V DE UE F) (mesh : IsMesh m) (triangles 
           (named (origin_of s (prev_of s t)) (origin_of s (prev_of s e)) (origin_of s e) (origin_of n t) (origin_of n (prev_of s e)) (origin_of n (next_of s t))
           (sym (origin_t m mesh u turn.can)) (sym (origin_near m mesh u turn.can at)) (sym (from_start m mesh u turn.can) ∙ sym (origin_t_after m mesh u turn.can at)) is)
 
-      abbrev start : Point
-      start = at (origin_of m.shape (2 * u))
-
-      abbrev end : Point
-      end = at (origin_of m.shape (2 * u + 1))
-
-      abbrev near : Point
-      near = at (origin_of m.shape (prev_of m.shape (2 * u)))
-
-      abbrev far : Point
-      far = at (origin_of m.shape (prev_of m.shape (2 * u + 1)))
-
-      turns_near : TurnsLeft start end near
-      turns_near = left_before m mesh u turn.can at plane turn.inner
-
-      turns_far : TurnsLeft end start far
-      turns_far = right_before m mesh u turn.can at plane turn.inner_facing
-
       off_even : Off (origin_of s) e (next_of s e) (prev_of s e)
       off_even is =
           elim (in_either start end near far turns_near turns_far turn.first turn.second p
@@ -149,29 +166,17 @@ module _ {V DE UE F : Type 0} (m : Mesh V DE UE F) (mesh : IsMesh m) (triangles 
             | inr there ↦ off_first there
           ]
 
-      -- another triangle is as it was
-      same_start : (k i : ℕ) → IsLive s k → face_of s k ≡ i → i ≢ f → i ≢ g → origin_of n k ≡ origin_of s k
-      same_start k i live on not_f not_g =
-          origin_same m mesh u turn.can at k live (λ is. not_f (sym on ∙ ap (face_of s) is)) (λ is. not_g (sym on ∙ ap (face_of s) is))
-
       off_else : (h : ℕ) → IsLive s h → 0 < face_of s h → face_of s h ≢ f → face_of s h ≢ g → Off (origin_of s) h (next_of s h) (prev_of s h)
       off_else h live inner not_f not_g =
           let i = face_of s h in
           let word = word_at m mesh triangles h live inner in
-          let same : word_of n.words (face_of s h) ≡ word_of s.words (face_of s h) =
-          get_or-set_other (slice_set s.words f (from_least (e ∷ prev_of s t ∷ next_of s e ∷ []))) g (face_of s h) (from_least (t ∷ prev_of s e ∷ next_of s t ∷ [])) [] not_g
-          ∙ get_or-set_other s.words f (face_of s h) (from_least (e ∷ prev_of s t ∷ next_of s e ∷ [])) [] not_f in
-          let starts : (k : ℕ) → 0 < count_of k (word.a ∷ word.b ∷ word.c ∷ []) → origin_of n k ≡ origin_of s k =
-          (λ k there.
-          let found : 0 < count_of k (word_of s.words (face_of s h)) = subst (λ (l : List ℕ). 0 < count_of k l) (sym word.is) there in
-          same_start k (face_of s h) (live_in (map_of s) s.words (links_stand mesh.sound) k (face_of s h) found)
-          (face_in_word (map_of s) s.words (links_stand mesh.sound) k (face_of s h) found) not_f not_g) in
+          let start = start_in (face_of s h) word.a word.b word.c in
           let off : Off (origin_of s) word.a word.b word.c =
-          (λ is. none (face_of s h) word.a word.b word.c inner (same ∙ word.is)
+          (λ is. none (face_of s h) word.a word.b word.c inner (word_else (face_of s h) not_f not_g ∙ word.is)
           (named (origin_of s word.a) (origin_of s word.b) (origin_of s word.c) (origin_of n word.a) (origin_of n word.b) (origin_of n word.c)
-          (sym (starts word.a (let c = count-same word.a (word.b ∷ word.c ∷ []) in omega (arith, c))))
-          (sym (starts word.b (count-later word.b word.a (word.b ∷ word.c ∷ []) (let c = count-same word.b (word.c ∷ []) in omega (arith, c)))))
-          (sym (starts word.c (count-later word.c word.a (word.b ∷ word.c ∷ []) (count-later word.c word.b (word.c ∷ []) (let c = count-same word.c [] in omega (arith, c)))))) is)) in
+          (sym (start word.a not_f not_g word.is (let c = count-same word.a (word.b ∷ word.c ∷ []) in omega (arith, c))))
+          (sym (start word.b not_f not_g word.is (count-later word.b word.a (word.b ∷ word.c ∷ []) (let c = count-same word.b (word.c ∷ []) in omega (arith, c)))))
+          (sym (start word.c not_f not_g word.is (count-later word.c word.a (word.b ∷ word.c ∷ []) (count-later word.c word.b (word.c ∷ []) (let c = count-same word.c [] in omega (arith, c)))))) is)) in
           turned_along (Off (origin_of s)) (turned (origin_of s)) word.a word.b word.c h (next_of s h) (prev_of s h) word.turn off
 
       off_old : (h : ℕ) → IsLive s h → 0 < face_of s h → Off (origin_of s) h (next_of s h) (prev_of s h)
@@ -185,6 +190,64 @@ module _ {V DE UE F : Type 0} (m : Mesh V DE UE F) (mesh : IsMesh m) (triangles 
 
       pub off_all : (i x y z : ℕ) → 0 < i → word_of s.words i ≡ x ∷ y ∷ z ∷ [] → Off (origin_of s) x y z
       off_all = at_word m mesh triangles (Off (origin_of s)) (turned (origin_of s)) off_old
+
+    -- and the other way round: a place that lies in no triangle of before lies in none afterwards
+    module _ (none : (i x y z : ℕ) → 0 < i → word_of m.shape.words i ≡ x ∷ y ∷ z ∷ [] → Off (origin_of m.shape) x y z) where
+      off_at : (h : ℕ) → IsLive s h → 0 < face_of s h → Off (origin_of s) h (next_of s h) (prev_of s h)
+      off_at h live inner =
+          let word = word_at m mesh triangles h live inner in
+          turned_along (Off (origin_of s)) (turned (origin_of s)) word.a word.b word.c h (next_of s h) (prev_of s h) word.turn
+          (none (face_of s h) word.a word.b word.c inner word.is)
+
+      off_near : ¬ IsIn (at (origin_of s e)) (at (origin_of s t)) (at (origin_of s (prev_of s e))) p
+      off_near is =
+          off_at e was.live_x turn.inner
+          (named (origin_of s e) (origin_of s t) (origin_of s (prev_of s e)) (origin_of s e) (origin_of s (next_of s e)) (origin_of s (prev_of s e)) refl (sym (from_end m mesh u turn.can)) refl is)
+
+      off_far : ¬ IsIn (at (origin_of s t)) (at (origin_of s e)) (at (origin_of s (prev_of s t))) p
+      off_far is =
+          off_at t facing.live_x turn.inner_facing
+          (named (origin_of s t) (origin_of s e) (origin_of s (prev_of s t)) (origin_of s t) (origin_of s (next_of s t)) (origin_of s (prev_of s t)) refl (sym (from_start m mesh u turn.can)) refl is)
+
+      off_one : Off (origin_of n) e (prev_of s t) (next_of s e)
+      off_one is =
+          elim (in_either near far end start turn.first turn.second turns_far turns_near p
+          (named (origin_of n e) (origin_of n (prev_of s t)) (origin_of n (next_of s e)) (origin_of s (prev_of s e)) (origin_of s (prev_of s t)) (origin_of s t)
+          (origin_e m mesh u turn.can) (origin_far m mesh u turn.can at) (origin_after m mesh u turn.can at ∙ from_end m mesh u turn.can) is)) [
+            | inl there ↦ off_far there
+            | inr there ↦ off_near there
+          ]
+
+      off_two : Off (origin_of n) t (prev_of s e) (next_of s t)
+      off_two is =
+          elim (in_either far near start end turn.second turn.first turns_near turns_far p
+          (named (origin_of n t) (origin_of n (prev_of s e)) (origin_of n (next_of s t)) (origin_of s (prev_of s t)) (origin_of s (prev_of s e)) (origin_of s e)
+          (origin_t m mesh u turn.can) (origin_near m mesh u turn.can at) (origin_t_after m mesh u turn.can at ∙ from_start m mesh u turn.can) is)) [
+            | inl there ↦ off_near there
+            | inr there ↦ off_far there
+          ]
+
+      off_same : (i x y z : ℕ) → 0 < i → i ≢ f → i ≢ g → word_of n.words i ≡ x ∷ y ∷ z ∷ [] → Off (origin_of n) x y z
+      off_same i x y z inner not_f not_g is there =
+          let word : word_of s.words i ≡ x ∷ y ∷ z ∷ [] = sym (word_else i not_f not_g) ∙ is in
+          none i x y z inner word
+          (named (origin_of n x) (origin_of n y) (origin_of n z) (origin_of s x) (origin_of s y) (origin_of s z)
+          (start_in i x y z x not_f not_g word (let c = count-same x (y ∷ z ∷ []) in omega (arith, c)))
+          (start_in i x y z y not_f not_g word (count-later y x (y ∷ z ∷ []) (let c = count-same y (z ∷ []) in omega (arith, c))))
+          (start_in i x y z z not_f not_g word (count-later z x (y ∷ z ∷ []) (count-later z y (z ∷ []) (let c = count-same z [] in omega (arith, c))))) there)
+
+      pub off_each : (i x y z : ℕ) → 0 < i → word_of n.words i ≡ x ∷ y ∷ z ∷ [] → Off (origin_of n) x y z
+      off_each i x y z inner is = elim (cases_eq i f) [
+        | inl same ↦
+            turned_along (Off (origin_of n)) (turned (origin_of n)) e (prev_of s t) (next_of s e) x y z
+            (turns_into (e ∷ prev_of s t ∷ next_of s e ∷ []) i f x y z same (word_f m mesh u turn.can) is) off_one
+        | inr not_f ↦ elim (cases_eq i g) [
+          | inl same ↦
+              turned_along (Off (origin_of n)) (turned (origin_of n)) t (prev_of s e) (next_of s t) x y z
+              (turns_into (t ∷ prev_of s e ∷ next_of s t ∷ []) i g x y z same (word_g m mesh u turn.can) is) off_two
+          | inr not_g ↦ off_same i x y z inner not_f not_g is
+        ]
+      ]
 
   -- an outer half edge is as it was
   module _ (k : ℕ) (live : IsLive m.shape k) (outer : face_of m.shape k ≡ 0) where
@@ -213,6 +276,18 @@ module _ {V DE UE F : Type 0} (m : Mesh V DE UE F) (mesh : IsMesh m) (triangles 
         subst (λ (i : ℕ). orient_at (at i) (at (end_of s k)) p ≤ℤ pos 0) (start_still k live_k outer)
         (subst (λ (i : ℕ). orient_at (at (origin_of n k)) (at i) p ≤ℤ pos 0) (end_still k live_k outer) (right k live_k (outer_still k live_k outer))))
         (off_all p none);
+  }
+
+  -- and the other way round
+  pub turn_covered : CoversHull at (edge_flipped m u).shape → CoversHull at m.shape
+  turn_covered covers = record {
+    covered = λ p h live inner right none.
+        covers.covered p e was.live_x (subst (λ (i : ℕ). 0 < i) (sym flip.here) turn.inner)
+        (λ k live_k outer.
+        let old = flip_outer m mesh u turn.can at turn.inner turn.inner_facing k live_k outer in
+        subst (λ (i : ℕ). orient_at (at i) (at (end_of n k)) p ≤ℤ pos 0) old.start
+        (subst (λ (i : ℕ). orient_at (at (origin_of s k)) (at i) p ≤ℤ pos 0) old.end (right k old.live old.on)))
+        (off_each p none);
   }
 
 -- and flips one after another

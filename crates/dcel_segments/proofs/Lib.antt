@@ -12,3 +12,4 @@ pub mod Walking
 pub mod Sides
 pub mod Stepping
 pub mod Covered
+pub mod Wholly

@@ -53,7 +53,7 @@ module _ {V DE UE F : Type 0} (m : Mesh V DE UE F) (mesh : IsMesh m) (triangles 
       | inr some ↦ absurd (further_itself m mesh triangles at plane convex hull v w ends h (comes.before h some))
     ]
 
-    one_more : (j : ℕ) → count_of j (passed ++ (h ∷ [])) ≤ 1
+    pub one_more : (j : ℕ) → count_of j (passed ++ (h ∷ [])) ≤ 1
     one_more j = elim (cases_eq j h) [
       | inl is ↦
           (let a = count-append j passed (h ∷ []) in

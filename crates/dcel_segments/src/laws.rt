@@ -93,6 +93,12 @@ pub fn turning_flips_keep_plane_hull_and_cover<V, DE, UE, F>()
         → CoversHull at m.shape → CoversHull at (flipped_each m list).shape }
 {}
 
+/// Triangles that go round counterclockwise cover each place that no half edge of the outer face has on
+/// its left, whether the mesh is Delaunay or not, and whatever the outer face looks like.
+pub fn triangles_in_the_plane_cover_the_hull<V, DE, UE, F>()
+    ensures { (at : ℕ → Point) (m : Mesh V DE UE F) → IsMesh m → AllTriangles m.shape → IsPlane at m.shape → CoversHull at m.shape }
+{}
+
 /// By flips of the edges that the segment between them crosses, two vertices with no vertex between
 /// them get an edge, and the mesh stays in the plane with its hull. No other edge is flipped, and an
 /// edge that breaks Delaunay's condition broke it before, or lies at a triangle that changed.

@@ -1,4 +1,6 @@
-//! The part of the plane that a picture shows, and how large things are in it.
+//! The part of the plane that pictures show, and how large things are in it.
+
+ghost use Rattle.std.specs.Prelude.{◌≡◌, ◌≤◌, ◌*◌, length};
 
 use crate::curve::steps_of;
 use crate::svg::Style;
@@ -21,9 +23,51 @@ const MARGIN: f64 = 50.0;
 /// How far vertices at the side stand from one another.
 const APART: f64 = 44.0;
 
-/// The part of the plane that a picture shows.
+/// How far pictures reach, and how small the least things in them are: what a frame that they share
+/// is made for.
 #[derive(Clone, Copy)]
-pub(crate) struct Frame {
+pub struct Extent {
+    /// The lower left and the upper right corner of all places, if there are any.
+    corners: Option<(Place, Place)>,
+    /// How large the unit has to be, so that edges and inner faces are large enough.
+    wanted: f64,
+    /// How many vertices one of the pictures has, at most.
+    vertices: usize,
+    /// How many vertices of one of the pictures have no place, at most.
+    aside: usize,
+}
+
+impl Extent {
+    /// Starts without a picture.
+    pub fn new() -> Extent
+        ensures { (result.vertices ≡ 0) × (result.aside ≡ 0) }
+    {
+        Extent {
+            corners: None,
+            wanted: 0.0,
+            vertices: 0,
+            aside: 0,
+        }
+    }
+
+    /// Takes in one picture more. What was taken in before stays.
+    pub fn include<B: Allocator>(&mut self, picture: &Picture<B>)
+        ensures holds { length picture.now.dots.items ≤ self.new.vertices }
+        ensures keeps { (self.old.vertices ≤ self.new.vertices) × (self.old.aside ≤ self.new.aside) }
+    {
+        self.corners = widened_to(self.corners, picture);
+        self.wanted = wanted_scale(self.wanted, picture);
+        self.vertices = self.vertices.max(picture.dots.len());
+        self.aside = self.aside.max(count_aside(picture));
+    }
+}
+
+/// The part of the plane that pictures show, and how large things are in it.
+///
+/// In pictures that share a frame each place is at the same point of the page.
+#[derive(Clone, Copy)]
+pub struct Frame {
+    pub(crate) style: Style,
     scale: f64,
     low: Place,
     high: Place,
@@ -32,15 +76,19 @@ pub(crate) struct Frame {
 }
 
 impl Frame {
-    /// Returns the part that has all of a picture, so large that the least things can be seen,
-    /// unless the whole would become too large.
-    pub fn around<B: Allocator>(picture: &Picture<B>, style: Style) -> Frame {
-        let (low, high) = corners(picture);
+    /// Returns the part that has all of the pictures that an extent has taken in, so large that the
+    /// least things of any can be seen, unless the whole would become too large.
+    pub fn of(extent: Extent, style: Style) -> Frame
+        ensures style { result.style ≡ style }
+        ensures room { extent.aside ≤ result.columns * result.rows }
+    {
+        let middle = Place::new(0.0, 0.0);
+        let (low, high) = extent.corners.unwrap_or((middle, middle));
         let size = high.minus(low);
         let longest = size.x.max(size.y);
-        let vertices = nearest_usize_to_f64(picture.dots.len());
+        let vertices = nearest_usize_to_f64(extent.vertices);
         let (room, mut scale) = match style {
-            Style::HalfEdges { .. } => (600.0 + 280.0 * vertices.sqrt(), wanted_scale(picture)),
+            Style::HalfEdges { .. } => (600.0 + 280.0 * vertices.sqrt(), extent.wanted),
             Style::Edges => (SIDE, 0.0),
         };
         // Where no edge is drawn no scale is wanted, and the places fill the room.
@@ -48,11 +96,11 @@ impl Frame {
             scale = room / longest;
         }
         let width = size.x * scale + 2.0 * MARGIN;
-        let aside = count_aside(picture);
         let columns = saturating_f64_to_usize((width - MARGIN) / APART)
             .max(8)
-            .min(aside);
+            .min(extent.aside);
         Frame {
+            style,
             scale,
             low,
             high,
@@ -60,18 +108,27 @@ impl Frame {
             rows: if columns == 0 {
                 0
             } else {
-                aside.div_ceil(columns)
+                extent.aside.div_ceil(columns)
             },
         }
     }
 
+    /// Returns the frame of one picture alone.
+    pub(crate) fn around<B: Allocator>(picture: &Picture<B>, style: Style) -> Frame
+        ensures { result.style ≡ style }
+    {
+        let mut extent = Extent::new();
+        extent.include(picture);
+        Frame::of(extent, style)
+    }
+
     /// Returns where a place is shown.
-    pub fn shown(&self, place: Place) -> Place {
+    pub(crate) fn shown(&self, place: Place) -> Place {
         place.times(self.scale)
     }
 
     /// Returns where a line is shown.
-    pub fn shown_line(&self, line: Line) -> Line {
+    pub(crate) fn shown_line(&self, line: Line) -> Line {
         Line {
             from: self.shown(line.from),
             to: self.shown(line.to),
@@ -86,7 +143,7 @@ impl Frame {
     }
 
     /// Returns the upper left corner.
-    pub fn corner(&self) -> Place {
+    pub(crate) fn corner(&self) -> Place {
         Place::new(
             self.low.x * self.scale - MARGIN,
             self.high.y * self.scale + MARGIN,
@@ -94,7 +151,7 @@ impl Frame {
     }
 
     /// Returns the width and the height.
-    pub fn size(&self) -> Place {
+    pub(crate) fn size(&self) -> Place {
         let size = self.high.minus(self.low).times(self.scale);
         let aside = Place::new(
             APART * nearest_usize_to_f64(self.columns),
@@ -107,7 +164,7 @@ impl Frame {
     }
 
     /// Returns the place of a vertex at the side, by its number among those.
-    pub fn aside(&self, number: usize) -> Place {
+    pub(crate) fn aside(&self, number: usize) -> Place {
         let column = nearest_usize_to_f64(number % self.columns.max(1));
         let row = nearest_usize_to_f64(number / self.columns.max(1));
         let first = Place::new(
@@ -129,9 +186,12 @@ fn count_aside<B: Allocator>(picture: &Picture<B>) -> usize {
     count
 }
 
-/// Returns the lower left and the upper right corner of all places.
-fn corners<B: Allocator>(picture: &Picture<B>) -> (Place, Place) {
-    let mut corners = None;
+/// Returns the lower left and the upper right corner of places so far and those of a picture.
+fn widened_to<B: Allocator>(
+    corners: Option<(Place, Place)>,
+    picture: &Picture<B>,
+) -> Option<(Place, Place)> {
+    let mut corners = corners;
     for dot in &picture.dots {
         corners = widened(corners, dot.place);
     }
@@ -142,8 +202,7 @@ fn corners<B: Allocator>(picture: &Picture<B>) -> (Place, Place) {
             }
         }
     }
-    let middle = Place::new(0.0, 0.0);
-    corners.unwrap_or((middle, middle))
+    corners
 }
 
 fn widened(corners: Option<(Place, Place)>, place: Option<Place>) -> Option<(Place, Place)> {
@@ -157,9 +216,10 @@ fn widened(corners: Option<(Place, Place)>, place: Option<Place>) -> Option<(Pla
     ))
 }
 
-/// Returns how large the unit has to be, so that edges and inner faces are large enough.
-fn wanted_scale<B: Allocator>(picture: &Picture<B>) -> f64 {
-    let mut scale: f64 = 0.0;
+/// Returns how large the unit has to be, so that edges and inner faces are large enough, and not
+/// below what it had to be so far.
+fn wanted_scale<B: Allocator>(so_far: f64, picture: &Picture<B>) -> f64 {
+    let mut scale: f64 = so_far;
     for stroke in &picture.strokes {
         if let Some(line) = stroke.line() {
             scale = larger(scale, EDGE, line.to.minus(line.from).length());

@@ -2,7 +2,8 @@
 //!
 //! A mesh has no geometry. [`spread`] finds places for its vertices. A [`Picture`] has a stroke for
 //! each half edge, a patch for each face and a dot for each vertex, and [`write_svg`] writes it.
-//! From one picture to the next [`spread_near`] keeps places, and [`Marks`] tell what has changed.
+//! From one picture to the next [`spread_near`] keeps places, and [`Marks`] tell what has changed;
+//! pictures that share a [`Frame`] have each place at the same point of the page.
 #![tactic(auto)]
 
 mod bends;
@@ -25,6 +26,7 @@ mod wings;
 
 pub use bowing::bow;
 pub use dcel_drawn::{Bend, Dot, Line, Patch, Picture, Place, Places, State, Stroke};
+pub use frame::{Extent, Frame};
 pub use keeping::spread_near;
 pub use marks::Marks;
 pub use spreading::spread;

@@ -7,6 +7,10 @@ use spade_dcel::iterators::HullIterator;
 use std::alloc::Allocator;
 use std::num::nearest_usize_to_f64;
 
+/// How far a vertex stands from the next one: so that a short row and a spread mesh, which share a
+/// scale in a page, are about as wide. Each power of two gives the same picture of a mesh alone.
+const STEP: f64 = 0.25;
+
 /// Returns whether the live edges are one path: the outer face is the only one, and at most two
 /// edges meet at each vertex.
 pub(crate) fn is_path<V, DE, UE, F, A: Allocator>(mesh: &Dcel<V, DE, UE, F, A>) -> bool {
@@ -32,7 +36,11 @@ pub(crate) fn set_row<V, DE, UE, F, A: Allocator>(
     let Some(start) = start_of_path(mesh) else {
         return;
     };
-    let direction = if leads_along(mesh, start) { 1.0 } else { -1.0 };
+    let direction = if leads_along(mesh, start) {
+        STEP
+    } else {
+        -STEP
+    };
     let mut half = start;
     for step in 0..mesh.num_directed_edges() {
         let Some(edge) = mesh.get_directed_edge(half) else {

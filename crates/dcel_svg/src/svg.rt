@@ -87,18 +87,18 @@ pub fn write_svg<B: Allocator + Copy>(
     out: &mut impl Write,
 ) -> io::Result<()> {
     let marks = Marks::none(*picture.strokes.allocator());
-    write_marked_svg(picture, style, &marks, out)
+    write_marked_svg(picture, &Frame::around(picture, style), &marks, out)
 }
 
-/// Does the same, and marks half edges and vertices in the style of half edges.
+/// Does the same in a frame that other pictures may share, and marks half edges and vertices in the
+/// style of half edges. A picture that the frame wasn't made for may leave the page.
 pub fn write_marked_svg<B: Allocator + Copy>(
     picture: &Picture<B>,
-    style: Style,
+    frame: &Frame,
     marks: &Marks<B>,
     out: &mut impl Write,
 ) -> io::Result<()> {
-    let frame = Frame::around(picture, style);
-    let (corner, size) = (frame.corner(), frame.size());
+    let (style, corner, size) = (frame.style, frame.corner(), frame.size());
     writeln!(
         out,
         "<svg xmlns=\"http://www.w3.org/2000/svg\" viewBox=\"{} {} {}\" width=\"{}\" height=\"{}\">",
@@ -109,13 +109,13 @@ pub fn write_marked_svg<B: Allocator + Copy>(
         Tenths(size.y)
     )?;
     match style {
-        Style::HalfEdges { anchors } => write_half_edges(picture, &frame, anchors, marks, out)?,
+        Style::HalfEdges { anchors } => write_half_edges(picture, frame, anchors, marks, out)?,
         Style::Edges => {
             write!(out, "{STYLE_OF_EDGES}")?;
-            write_edges(picture, &frame, style, out)?;
+            write_edges(picture, frame, style, out)?;
         }
     }
-    write_dots(picture, &frame, style, marks, out)?;
+    write_dots(picture, frame, style, marks, out)?;
     writeln!(out, "</svg>")
 }
 

@@ -2,8 +2,9 @@
 //! under its line.
 //!
 //! In a file `# NAME` begins a talk, from an empty mesh. `limit N` gives it another limit than
-//! 2^31, `> LINE` is a line, and the lines under it are its reply. Empty lines say nothing. If a
-//! reply is another one, the program says which and ends with status 1.
+//! 2^31, with `faults` each of its reads and of its writes fails in turn, `> LINE` is a line, and
+//! the lines under it are its reply. Empty lines say nothing. If a reply is another one, the program
+//! says which and ends with status 1.
 #![tactic(auto)]
 
 mod script;

@@ -5,7 +5,13 @@
 #[cfg(test)]
 mod circles;
 #[cfg(test)]
+mod constraints;
+#[cfg(test)]
 mod decimals;
+#[cfg(test)]
+mod insertions;
+#[cfg(test)]
+mod joins;
 #[cfg(test)]
 mod memory;
 #[cfg(test)]
@@ -17,6 +23,10 @@ mod positions;
 #[cfg(test)]
 mod predicates;
 #[cfg(test)]
+mod refusals;
+#[cfg(test)]
 mod removals;
+#[cfg(test)]
+mod seen;
 #[cfg(test)]
 mod triangulations;

@@ -237,7 +237,7 @@ fn vertices_that_are_not_there_are_refused(rt: HostRuntime) -> Result<(), Fail> 
 }
 
 /// Returns the points of a grid, row by row.
-fn grid(side: i64, alloc: Global) -> Result<Vec<Place>, Fail> {
+pub fn grid(side: i64, alloc: Global) -> Result<Vec<Place>, Fail> {
     let mut places = Vec::new(alloc);
     for x in 0..side {
         for y in 0..side {

@@ -1,5 +1,5 @@
 //! Tests of crates below and beside `spade_dcel`: fixed handles, links and anchors that are given,
-//! meshes in and out, and calls made of several.
+//! meshes in and out, calls made of several, and regions.
 #![tactic(auto)]
 
 #[cfg(test)]
@@ -16,3 +16,5 @@ mod handles;
 mod links;
 #[cfg(test)]
 mod memory;
+#[cfg(test)]
+mod regions;

@@ -35,6 +35,10 @@ pub struct Arguments<'a> {
     pub svg: Option<&'a str>,
     /// The file with the numbers of points that are removed.
     pub remove: Option<&'a str>,
+    /// The file with the points that constraints join.
+    pub constraints: Option<&'a str>,
+    /// The file with the curves of an outline.
+    pub outline: Option<&'a str>,
     /// The file with the points to which the nearest one is asked for.
     pub nearest: Option<&'a str>,
     /// What to write.
@@ -58,6 +62,18 @@ pub const PROGRAM: Program<'static, Output> = Program {
             help: "Removes the points whose numbers this file has, after all are inserted",
         },
         Switch {
+            name: "constraints",
+            letter: None,
+            takes: Takes::File,
+            help: "Joins the pairs of points whose numbers this file has, by edges that stay",
+        },
+        Switch {
+            name: "outline",
+            letter: None,
+            takes: Takes::File,
+            help: "Joins the points of closed curves, and writes the triangles inside alone",
+        },
+        Switch {
             name: "nearest",
             letter: None,
             takes: Takes::File,
@@ -79,7 +95,7 @@ pub const PROGRAM: Program<'static, Output> = Program {
             name: "time",
             letter: None,
             takes: Takes::Nothing,
-            help: "Tells on standard error how long the insertions took, and removals and searches",
+            help: "Tells on standard error how long the insertions took, and what else is asked for",
         },
     ],
     choices: OUTPUTS,
@@ -90,41 +106,49 @@ const OUTPUTS: &[Choice<'static, Output>] = &[
     Choice {
         name: "edges",
         means: Output::Edges,
+        excludes: &[],
         help: "Writes the edges in place of the triangles",
     },
     Choice {
         name: "hull",
         means: Output::Hull,
+        excludes: &[],
         help: "Writes the points of the hull, counterclockwise; along a line, there and back",
     },
     Choice {
         name: "stats",
         means: Output::Stats,
+        excludes: &[],
         help: "Writes how many points, edges and triangles there are",
     },
     Choice {
         name: "neighbors",
         means: Output::Neighbors,
+        excludes: &[],
         help: "Writes for each triangle the ones across from its corners, -1 for none",
     },
     Choice {
         name: "off",
         means: Output::Off,
+        excludes: &[],
         help: "Writes the points and triangles as OFF, equal points too",
     },
     Choice {
         name: "obj",
         means: Output::Obj,
+        excludes: &[],
         help: "Writes them as OBJ, which counts from 1",
     },
     Choice {
         name: "words",
         means: Output::Words,
+        excludes: &["outline"],
         help: "Writes the half edges round each triangle and out of each point",
     },
     Choice {
         name: "voronoi",
         means: Output::Voronoi,
+        excludes: &["constraints", "outline"],
         help: "Writes the corners and edges of the Voronoi diagram",
     },
 ];
@@ -139,6 +163,22 @@ The file of --remove has a number in each line, with comments and empty lines as
 their numbers, and those that are removed belong to no triangle; of equal points one stays as long
 as one of them isn't removed. The file of --nearest has points as the input has, and what is written
 of them stands in place of the triangles, or below what another option writes.
+
+The file of --constraints has two numbers in each line, with blanks, a comma or both between them,
+and comments and empty lines as above. The segment between these two points becomes an edge that
+stays, or several, from point to point, where it passes some. No other edge has a corner of the
+triangle on one side inside the circle of the triangle on the other. Two segments may cross at
+points alone; along one line they may lie on each other.
+
+The file of --outline has a closed curve in each line, the numbers of three points or more, with
+comments and empty lines as above: edges that stay join each of them to the next one, and the last
+to the first. Triangles are written to which a way from outside crosses sides an odd number of
+times, so a curve inside another one is a hole. --edges, --stats and --neighbors know these
+triangles alone then, while --hull and --nearest take all points. --words can't stand beside
+--outline, nor --voronoi beside --outline or --constraints.
+
+Points are removed first, then constraints are put in, and then outlines. A picture has the edges
+that stay wide, in place of the hull.
 
 Coordinates are multiplied by the least power of ten that makes all of them whole, which is told on
 standard error unless it is 1, and have to be from -1073741824 to 1073741824 then. What is written
@@ -163,11 +203,18 @@ impl<'a> Arguments<'a> {
             file: given.input(),
             svg: given.value("svg"),
             remove: given.value("remove"),
+            constraints: given.value("constraints"),
+            outline: given.value("outline"),
             nearest,
             output: given.choice(OUTPUTS).or(unasked),
             scale: given.value("scale").and_then(scale_of),
             is_timed: given.has("time"),
         }
+    }
+
+    /// Returns whether some edges are to stay.
+    pub fn has_constraints(&self) -> bool {
+        self.constraints.is_some() || self.outline.is_some()
     }
 }
 

@@ -31,6 +31,30 @@ pub enum Wrong {
     /// A line has no number of a point.
     #[error("there is no point of this number")]
     NoPoint,
+    /// A line of constraints hasn't two numbers.
+    #[error("a constraint has the numbers of two points")]
+    NoPair,
+    /// A line of an outline has something else than numbers.
+    #[error("an outline has the numbers of points")]
+    NoCorner,
+    /// It has too few.
+    #[error("an outline has at least three points")]
+    FewCorners,
+    /// The two points that are to be joined are one, or stand at one place.
+    #[error("a point is joined to itself")]
+    OnePoint,
+    /// One of them is removed, and so are all that equal it.
+    #[error("a point is joined that is removed")]
+    RemovedPoint,
+    /// The segment between them crosses one that has to stay.
+    #[error("it crosses another constraint")]
+    Crossing,
+    /// A side of an outline is no chain of edges.
+    #[error("a side of an outline is no chain of edges")]
+    NoChain,
+    /// At a vertex of the triangulation stands no point.
+    #[error("a vertex has no point")]
+    NoPointThere,
     /// A point could not be inserted.
     #[error("{0}")]
     Insertion(InsertionError),

@@ -6,27 +6,37 @@
 #![tactic(auto)]
 
 mod arguments;
+mod constraining;
+mod drawn;
 mod fault;
 mod fraction;
+mod joins;
 mod nearest;
+mod outlining;
 mod picture;
 mod reading;
 mod removal;
+mod segments;
 mod shown;
 mod task;
 mod triangulating;
+mod view;
 mod voronoi;
 mod words;
 mod writing;
 
 use crate::arguments::{Arguments, PROGRAM};
+use crate::constraining::Constrained;
+use crate::drawn::Drawn;
 use crate::fault::Fault;
-use crate::nearest::nearest_numbers;
+use crate::nearest::nearest_vertices;
 use crate::picture::Svg;
 use crate::task::Task;
 use crate::triangulating::triangulated;
+use crate::view::View;
 use crate::writing::Written;
 use dcel_programs::{Progress, run, write_out};
+use spade_dcel::handles::FixedVertexHandle;
 use std::process::ExitCode;
 use std::rt::{Clock, Files};
 use std::time::Instant;
@@ -45,26 +55,53 @@ fn draw(
     arguments: &Arguments,
 ) -> Result<(), Fault> {
     let task = Task::read(rt, arguments)?;
+    let drawn = triangulate(rt, progress, arguments, &task)?;
     let start = Instant::now(rt)?;
-    let mut drawn = triangulated(rt, progress, &task)?;
-    tell_time(rt, arguments, start, "")?;
-    if arguments.remove.is_some() {
-        let start = Instant::now(rt)?;
-        drawn.remove_bare_vertices(rt.alloc())?;
-        tell_time(rt, arguments, start, " to remove points")?;
-    }
-    let start = Instant::now(rt)?;
-    let nearest = nearest_numbers(rt.alloc(), &drawn, &task.places)?;
+    let nearest = nearest_vertices(rt.alloc(), &drawn, &task.places)?;
     if arguments.nearest.is_some() {
         tell_time(rt, arguments, start, " to find the nearest points")?;
     }
+    if !arguments.has_constraints() {
+        return write_all(rt, arguments, &drawn.view(), &nearest);
+    }
+    let start = Instant::now(rt)?;
+    let constrained = Constrained::of(rt.alloc(), arguments, &task, &drawn)?;
+    tell_time(rt, arguments, start, " to put in constraints")?;
+    write_all(rt, arguments, &constrained.view(&drawn), &nearest)
+}
+
+/// Triangulates the points, and removes those that are to be removed.
+fn triangulate<'a>(
+    rt: &(impl Clock + Eprint + AllocGlobal),
+    progress: Progress,
+    arguments: &Arguments,
+    task: &'a Task,
+) -> Result<Drawn<'a>, Fault> {
+    let start = Instant::now(rt)?;
+    let mut inserted = triangulated(rt, progress, task)?;
+    tell_time(rt, arguments, start, "")?;
+    if arguments.remove.is_some() {
+        let start = Instant::now(rt)?;
+        inserted.remove_bare_vertices(rt.alloc())?;
+        tell_time(rt, arguments, start, " to remove points")?;
+    }
+    inserted.drawn(rt.alloc())
+}
+
+/// Writes what is asked for, and draws it.
+fn write_all<'a, UE>(
+    rt: &(impl Files + Print + AllocGlobal),
+    arguments: &Arguments,
+    view: &'a View<'a, UE>,
+    nearest: &'a [Option<FixedVertexHandle>],
+) -> Result<(), Fault> {
     if let Some(path) = arguments.svg {
-        write_out(rt, Some(path), &Svg { drawn: &drawn })?;
+        write_out(rt, Some(path), &Svg { view })?;
     }
     let written = Written {
         output: arguments.output,
-        drawn: &drawn,
-        nearest: &nearest,
+        view,
+        nearest,
     };
     write_out(rt, None, &written)
 }

@@ -1,35 +1,82 @@
 //! A picture of a triangulation, as SVG.
 
-use crate::triangulating::Drawn;
-use dcel_delaunay::{Mesh, Point};
+use crate::view::View;
+use dcel_delaunay::Point;
 use dcel_programs::Text;
-use dcel_svg::{Picture, Place, Places, Style, write_svg};
+use dcel_svg::{Dot, Picture, Place, Places, Stroke, Style, write_svg};
+use spade_dcel::dcel::Dcel;
 use std::alloc::{AllocError, Global};
 use std::io::{self, Write};
 use std::num::nearest_u64_to_f64;
 
 /// A picture of a triangulation: edges, those of the hull wider, and points, with their numbers if
-/// they are few.
-#[derive(Clone, Copy)]
-pub struct Svg<'a> {
+/// they are few. Where edges may be marked these are the wider ones.
+#[derive(Drop)]
+pub struct Svg<'a, UE> {
     /// The triangulation.
-    pub drawn: &'a Drawn<'a>,
+    pub view: &'a View<'a, UE>,
 }
 
-impl<'a> Text for Svg<'a> {
+impl<'a, UE> Text for Svg<'a, UE> {
     fn write_to(&self, alloc: Global, writer: &mut impl Write) -> io::Result<()> {
-        let mesh = self.drawn.triangulation.dcel();
-        let places = places_of(alloc, mesh)?;
-        let mut picture = Picture::new(alloc, mesh, None, &places)?;
-        for (dot, number) in picture.dots.iter_mut().zip(&self.drawn.numbers) {
-            dot.number = number.unwrap_or(0);
-        }
+        let mesh = self.view.mesh;
+        let mut picture = picture_of(alloc, mesh)?;
+        set_numbers(self.view, &mut picture.dots)?;
+        set_looks(self.view, &mut picture.strokes);
         write_svg(&picture, Style::Edges, writer)
     }
 }
 
+/// Gives each dot the number of the point at its vertex.
+fn set_numbers<UE>(view: &View<'_, UE>, dots: &mut [Dot]) -> io::Result<()> {
+    for dot in dots.iter_mut() {
+        dot.number = view.number(dot.number)?;
+    }
+    Ok(())
+}
+
+/// Sets how each edge looks, of whose strokes one follows the other.
+fn set_looks<UE>(view: &View<'_, UE>, strokes: &mut [Stroke]) {
+    for halves in strokes.chunks_mut(2) {
+        if let [half, other] = halves {
+            set_look(view, half, other);
+        }
+    }
+}
+
+/// Leaves an edge out if it isn't shown, and sets whether it is wide where edges may be marked.
+fn set_look<UE>(view: &View<'_, UE>, half: &mut Stroke, other: &mut Stroke) {
+    if let (Some(left), Some(right)) = (half.face, other.face) {
+        if !view.shows_edge([left, right]) {
+            half.from = None;
+            other.from = None;
+        }
+    }
+    if let Some(marks) = view.is_marked {
+        let is_wide = marks.get(half.number / 2) == Some(&true);
+        set_wide(half, is_wide);
+        set_wide(other, is_wide);
+    }
+}
+
+/// Has a half edge drawn wide, as those of the outer face are, or not. That is the first of the mesh.
+fn set_wide(half: &mut Stroke, is_wide: bool) {
+    let beside = if is_wide { 0 } else { 1 };
+    half.face = Some(beside);
+}
+
+/// Returns what is drawn of a mesh.
+fn picture_of<'a, UE>(
+    alloc: Global,
+    mesh: &'a Dcel<Point, (), UE, ()>,
+) -> Result<Picture<Global>, AllocError> {
+    let places = places_of(alloc, mesh)?;
+    let before: Option<&'a Dcel<Point, (), UE, ()>> = None;
+    Picture::new(alloc, mesh, before, &places)
+}
+
 /// Returns where the vertices stand, as seen from the lower left corner of all.
-fn places_of(alloc: Global, mesh: &Mesh) -> Result<Places, AllocError> {
+fn places_of<UE>(alloc: Global, mesh: &Dcel<Point, (), UE, ()>) -> Result<Places, AllocError> {
     let corner = lower_left(mesh);
     let mut vertices = Vec::new(alloc);
     for vertex in mesh.vertices() {
@@ -45,7 +92,7 @@ fn places_of(alloc: Global, mesh: &Mesh) -> Result<Places, AllocError> {
 }
 
 /// Returns the least coordinates of all vertices.
-fn lower_left(mesh: &Mesh) -> (i64, i64) {
+fn lower_left<UE>(mesh: &Dcel<Point, (), UE, ()>) -> (i64, i64) {
     let (mut left, mut bottom) = (i64::MAX, i64::MAX);
     for vertex in mesh.vertices() {
         let Point { x, y } = *vertex.data();

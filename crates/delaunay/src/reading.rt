@@ -114,7 +114,7 @@ fn whole(coordinate: Decimal, scale: Scale) -> Result<i64, Wrong> {
 }
 
 /// Returns two words, with blanks, a comma or both between them.
-fn two_words(words: &str) -> Result<(&str, &str), Wrong> {
+pub fn two_words(words: &str) -> Result<(&str, &str), Wrong> {
     if let Some((x, y)) = words.split_once(',') {
         return Ok((only_word(x)?, only_word(y)?));
     }

@@ -26,6 +26,6 @@ pub fn read_marks(
 }
 
 /// Returns the number that a word says, if it says one.
-fn number_of(word: &str) -> Option<usize> {
+pub fn number_of(word: &str) -> Option<usize> {
     word.parse::<usize>().ok()
 }

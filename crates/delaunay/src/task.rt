@@ -2,6 +2,7 @@
 
 use crate::arguments::Arguments;
 use crate::fault::Fault;
+use crate::joins::{Form, Join, read_joins};
 use crate::reading::{Coordinates, in_file, read_coordinates};
 use crate::removal::read_marks;
 use dcel_decimals::Scale;
@@ -16,6 +17,10 @@ pub struct Task {
     pub points: Vec<Point>,
     /// Which of them are removed, if any are.
     pub is_removed: Vec<bool>,
+    /// Which of them are joined by constraints.
+    pub constraints: Vec<Join>,
+    /// Which of them are joined by the curves of an outline.
+    pub outline: Vec<Join>,
     /// The points to which the nearest one is asked for.
     pub places: Vec<Point>,
     /// What all coordinates are multiplied by.
@@ -47,15 +52,32 @@ impl Task {
             Some(path) => read_marks(rt, path, points.len())?,
             None => Vec::new(alloc),
         };
+        let constraints = joins(rt, arguments.constraints, Form::Pairs, points.len())?;
+        let outline = joins(rt, arguments.outline, Form::Curves, points.len())?;
         let places = asked
             .points(alloc, scale)
             .map_err(|fault| in_file(alloc, arguments.nearest, fault))?;
         Ok(Task {
             points,
             is_removed,
+            constraints,
+            outline,
             places,
             scale,
         })
+    }
+}
+
+/// Reads the joins of a file, if there is one.
+fn joins(
+    rt: &(impl Files + Input + AllocGlobal),
+    path: Option<&str>,
+    form: Form,
+    count: usize,
+) -> Result<Vec<Join>, Fault> {
+    match path {
+        Some(path) => read_joins(rt, path, form, count),
+        None => Ok(Vec::new(rt.alloc())),
     }
 }
 

@@ -1,5 +1,6 @@
 //! Points triangulated.
 
+use crate::drawn::Drawn;
 use crate::fault::{Fault, Wrong};
 use crate::task::Task;
 use dcel_decimals::Scale;
@@ -8,30 +9,20 @@ use dcel_programs::Progress;
 use spade_dcel::handles::FixedVertexHandle;
 use std::alloc::{AllocError, Global};
 
-/// A triangulation of points, and which of them stands at each vertex.
+/// A triangulation of points, some of which may have to be removed.
 #[derive(Drop)]
-pub struct Drawn<'a> {
-    /// The triangulation.
-    pub triangulation: Triangulation,
-    /// The least number of a point that is left at each vertex. There is none at a vertex that is to
-    /// be removed.
-    pub numbers: Vec<Option<usize>>,
-    /// The points, equal ones included.
-    pub points: &'a [Point],
-    /// What their coordinates were multiplied by.
-    pub scale: Scale,
+pub struct Inserted<'a> {
+    triangulation: Triangulation,
+    // The least number of a point that is left at each vertex, if one is.
+    numbers: Vec<Option<usize>>,
+    // For each point the least number of one that equals it and is left, if one is. It has none where
+    // nothing asks for them.
+    least: Vec<Option<usize>>,
+    points: &'a [Point],
+    scale: Scale,
 }
 
-impl Drawn<'_> {
-    /// Returns the number of the point at a vertex.
-    pub fn number(&self, vertex: FixedVertexHandle) -> usize {
-        self.numbers
-            .get(vertex.index())
-            .copied()
-            .flatten()
-            .unwrap_or(0)
-    }
-
+impl<'a> Inserted<'a> {
     /// Removes the vertices at which no point is left.
     pub fn remove_bare_vertices(&mut self, alloc: Global) -> Result<(), Fault> {
         let bare = self.bare_vertices(alloc)?;
@@ -40,6 +31,28 @@ impl Drawn<'_> {
             self.remove(*vertex).map_err(|wrong| Fault::Input(wrong))?;
         }
         Ok(())
+    }
+
+    /// Returns what is drawn of it, if at each vertex a point is left.
+    pub fn drawn(self, alloc: Global) -> Result<Drawn<'a>, Fault> {
+        let numbers = all_of(alloc, &self.numbers)?;
+        if numbers.len() != self.triangulation.dcel().num_vertices() {
+            return Err(Fault::Input(Wrong::NoPointThere));
+        }
+        let Inserted {
+            triangulation,
+            least,
+            points,
+            scale,
+            ..
+        } = self;
+        Ok(Drawn {
+            triangulation,
+            numbers,
+            least,
+            points,
+            scale,
+        })
     }
 
     /// Returns the vertices at which no point is left.
@@ -72,7 +85,7 @@ pub fn triangulated<'a>(
     rt: &(impl Eprint + AllocGlobal),
     progress: Progress,
     task: &'a Task,
-) -> Result<Drawn<'a>, Fault> {
+) -> Result<Inserted<'a>, Fault> {
     let points = &task.points;
     let mut triangulation = Triangulation::new(rt.alloc())?;
     progress.show(rt, 0, points.len(), "points")?;
@@ -88,12 +101,30 @@ pub fn triangulated<'a>(
     progress.clear(rt, points.len())?;
     let count = triangulation.dcel().num_vertices();
     let numbers = least_numbers(rt.alloc(), &vertices, &task.is_removed, count)?;
-    Ok(Drawn {
+    let least = if task.constraints.is_empty() && task.outline.is_empty() {
+        Vec::new(rt.alloc())
+    } else {
+        least_of_each(rt.alloc(), &vertices, &numbers)?
+    };
+    Ok(Inserted {
         triangulation,
         numbers,
+        least,
         points,
         scale: task.scale,
     })
+}
+
+/// Returns the numbers of the points at all vertices, if there is one at each.
+fn all_of(alloc: Global, numbers: &[Option<usize>]) -> Result<Vec<usize>, Fault> {
+    let mut all = Vec::with_capacity(alloc, numbers.len())?;
+    for number in numbers {
+        let Some(number) = number else {
+            return Err(Fault::Input(Wrong::NoPointThere));
+        };
+        all.push(*number)?;
+    }
+    Ok(all)
 }
 
 /// Returns the least number of a point that isn't to be removed, at each of so many vertices.
@@ -113,4 +144,17 @@ fn least_numbers(
         }
     }
     Ok(numbers)
+}
+
+/// Returns for each point the number of its vertex.
+fn least_of_each(
+    alloc: Global,
+    vertices: &[FixedVertexHandle],
+    numbers: &[Option<usize>],
+) -> Result<Vec<Option<usize>>, AllocError> {
+    let mut least = Vec::with_capacity(alloc, vertices.len())?;
+    for vertex in vertices {
+        least.push(numbers.get(vertex.index()).copied().flatten())?;
+    }
+    Ok(least)
 }

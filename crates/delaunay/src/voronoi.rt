@@ -3,23 +3,23 @@
 ghost use Rattle.std.specs.Prelude.{◌≡◌, ◌≤◌, ◌*◌, ◌^◌};
 
 use crate::fraction::Fraction;
-use crate::triangulating::Drawn;
+use crate::view::View;
 use dcel_decimals::Scale;
 use dcel_predicates::{Point, circumcenter};
 use std::io::{self, Write};
 
 /// Writes the corner of each triangle, and then what belongs to each edge.
-pub fn write_voronoi(writer: &mut impl Write, drawn: &Drawn) -> io::Result<()> {
-    write_corners(writer, drawn)?;
-    write_edges(writer, drawn)
+pub fn write_voronoi<UE>(writer: &mut impl Write, view: &View<'_, UE>) -> io::Result<()> {
+    write_corners(writer, view)?;
+    write_edges(writer, view)
 }
 
 /// Writes the center of the circle through the corners of each triangle.
-fn write_corners(writer: &mut impl Write, drawn: &Drawn) -> io::Result<()> {
-    for triangle in drawn.triangulation.dcel().live_inner_faces() {
+fn write_corners<UE>(writer: &mut impl Write, view: &View<'_, UE>) -> io::Result<()> {
+    for triangle in view.mesh.live_inner_faces() {
         let [a, b, c] = triangle.vertices().map(|corner| *corner.data());
         let center = circumcenter(a, b, c);
-        let weight = times(center.weight.unsigned_abs(), drawn.scale);
+        let weight = times(center.weight.unsigned_abs(), view.scale);
         let x = Fraction::new(center.x, weight);
         let y = Fraction::new(center.y, weight);
         writeln!(writer, "corner {x} {y}")?;
@@ -37,14 +37,14 @@ fn times(number: u128, scale: Scale) -> u128
 
 /// Writes for each edge the one between the corners beside it, a ray out of the only one, or a line
 /// if there is none.
-fn write_edges(writer: &mut impl Write, drawn: &Drawn) -> io::Result<()> {
-    for edge in drawn.triangulation.dcel().live_undirected_edges() {
+fn write_edges<UE>(writer: &mut impl Write, view: &View<'_, UE>) -> io::Result<()> {
+    for edge in view.mesh.live_undirected_edges() {
         let half = edge.as_directed();
         let sides = [half.face().index(), half.rev().face().index()];
         let across = Across {
             from: *half.from().data(),
             to: *half.to().data(),
-            scale: drawn.scale,
+            scale: view.scale,
         };
         // The outer face is the first of the mesh.
         match sides.map(|side| side.checked_sub(1)) {

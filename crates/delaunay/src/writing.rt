@@ -6,87 +6,111 @@ ghost use Rattle.spade_dcel.specs.Handles.{mesh_behind, number_of};
 
 use crate::arguments::Output;
 use crate::shown::Shown;
-use crate::triangulating::Drawn;
+use crate::view::View;
 use crate::voronoi::write_voronoi;
 use crate::words::write_words;
-use dcel_delaunay::{Mesh, Point};
+use dcel_delaunay::Point;
 use dcel_programs::Text;
+use spade_dcel::dcel::Dcel;
 use spade_dcel::handles::{FaceHandle, FixedVertexHandle, InnerTag};
 use spade_dcel::iterators::HullIterator;
 use std::alloc::Global;
 use std::io::{self, Write};
 
 /// A triangle of the triangulation.
-type Triangle<'a> = FaceHandle<'a, InnerTag, Point, (), (), ()>;
+type Triangle<'a, UE> = FaceHandle<'a, InnerTag, Point, (), UE, ()>;
 
 /// What is asked for of a triangulation.
-#[derive(Clone, Copy)]
-pub struct Written<'a> {
+#[derive(Drop)]
+pub struct Written<'a, UE> {
     /// What to write.
     pub output: Option<Output>,
     /// The triangulation.
-    pub drawn: &'a Drawn<'a>,
-    /// The numbers of points, which are written too.
-    pub nearest: &'a [Option<usize>],
+    pub view: &'a View<'a, UE>,
+    /// The vertices that are nearest to some places, whose numbers are written too.
+    pub nearest: &'a [Option<FixedVertexHandle>],
 }
 
-impl<'a> Text for Written<'a> {
+impl<'a, UE> Text for Written<'a, UE> {
     fn write_to(&self, alloc: Global, writer: &mut impl Write) -> io::Result<()> {
         if let Some(output) = self.output {
-            write_output(alloc, writer, output, self.drawn)?;
+            write_output(alloc, writer, output, self.view)?;
         }
-        for number in self.nearest {
-            write_number(writer, *number, "\n")?;
-        }
-        Ok(())
+        write_nearest(writer, self.view, self.nearest)
     }
+}
+
+/// Writes the number of the point at each of these vertices.
+fn write_nearest<UE>(
+    writer: &mut impl Write,
+    view: &View<'_, UE>,
+    vertices: &[Option<FixedVertexHandle>],
+) -> io::Result<()> {
+    for vertex in vertices {
+        match vertex {
+            Some(vertex) => write_number(writer, Some(view.number(vertex.index())?), "\n")?,
+            None => write_number(writer, None, "\n")?,
+        }
+    }
+    Ok(())
 }
 
 /// Writes what is asked for.
-fn write_output(
+fn write_output<UE>(
     alloc: Global,
     writer: &mut impl Write,
     output: Output,
-    drawn: &Drawn,
+    view: &View<'_, UE>,
 ) -> io::Result<()> {
     match output {
-        Output::Triangles => write_triangles(writer, drawn),
-        Output::Neighbors => write_neighbors(writer, drawn),
-        Output::Edges => write_edges(writer, drawn),
-        Output::Hull => write_hull(writer, drawn),
-        Output::Stats => write_stats(writer, drawn),
-        Output::Off => write_off(writer, drawn),
-        Output::Obj => write_obj(writer, drawn),
-        Output::Words => write_words(alloc, writer, drawn),
-        Output::Voronoi => write_voronoi(writer, drawn),
+        Output::Triangles => write_triangles(writer, view, "", 0),
+        Output::Neighbors => write_neighbors(writer, view),
+        Output::Edges => write_edges(writer, view),
+        Output::Hull => write_hull(writer, view),
+        Output::Stats => write_stats(writer, view),
+        Output::Off => write_off(writer, view),
+        Output::Obj => write_obj(writer, view),
+        Output::Words => write_words(alloc, writer, view),
+        Output::Voronoi => write_voronoi(writer, view),
     }
 }
 
-/// Writes the corners of each triangle, counterclockwise, the least number first.
-fn write_triangles(writer: &mut impl Write, drawn: &Drawn) -> io::Result<()> {
-    for triangle in drawn.triangulation.dcel().live_inner_faces() {
-        let [a, b, c] = corners(drawn, triangle);
-        writeln!(writer, "{a} {b} {c}")?;
+/// Writes the corners of each triangle, counterclockwise, the least number first, behind some words.
+/// Points are counted from a number on.
+fn write_triangles<UE>(
+    writer: &mut impl Write,
+    view: &View<'_, UE>,
+    before: &str,
+    first: usize,
+) -> io::Result<()> {
+    for triangle in view.mesh.live_inner_faces() {
+        if view.place(triangle.index()).is_none() {
+            continue;
+        }
+        let numbers = corners(view, triangle)?;
+        let [a, b, c] = turned(numbers, numbers).map(|number| number.saturating_add(first));
+        writeln!(writer, "{before}{a} {b} {c}")?;
     }
     Ok(())
 }
 
 /// Writes for each triangle which one lies across from each corner, in the order of the corners.
 /// Triangles are numbered from 0 in the order in which they are written, and -1 is none.
-fn write_neighbors(writer: &mut impl Write, drawn: &Drawn) -> io::Result<()> {
-    for triangle in drawn.triangulation.dcel().live_inner_faces() {
+fn write_neighbors<UE>(writer: &mut impl Write, view: &View<'_, UE>) -> io::Result<()> {
+    for triangle in view.mesh.live_inner_faces() {
+        if view.place(triangle.index()).is_none() {
+            continue;
+        }
         // The corners are where the half edges before, at and after the anchor begin.
         let edge = triangle.adjacent_edge();
         let first = edge.rev().face();
         let second = edge.next().rev().face();
         let third = edge.prev().rev().face();
         let faces = [first.index(), second.index(), third.index()];
-        let numbers = triangle.vertices().map(|corner| drawn.number(corner.fix()));
-        let [a, b, c] = turned(numbers, faces);
-        // The outer face is the first of the mesh.
-        write_number(writer, a.checked_sub(1), " ")?;
-        write_number(writer, b.checked_sub(1), " ")?;
-        write_number(writer, c.checked_sub(1), "\n")?;
+        let [a, b, c] = turned(corners(view, triangle)?, faces);
+        write_number(writer, view.place(a), " ")?;
+        write_number(writer, view.place(b), " ")?;
+        write_number(writer, view.place(c), "\n")?;
     }
     Ok(())
 }
@@ -99,13 +123,14 @@ fn write_number(writer: &mut impl Write, number: Option<usize>, end: &str) -> io
     }
 }
 
-/// Returns the numbers of a triangle's corners, counterclockwise, the least first.
-fn corners(drawn: &Drawn, triangle: Triangle<'_>) -> [usize; 3]
+/// Returns the numbers of a triangle's corners, counterclockwise.
+fn corners<UE>(view: &View<'_, UE>, triangle: Triangle<'_, UE>) -> io::Result<[usize; 3]>
     requires live { face_is_live (mesh_behind triangle).shape (number_of triangle) ≡ true }
     requires inner { 0 < number_of triangle }
 {
-    let numbers = triangle.vertices().map(|corner| drawn.number(corner.fix()));
-    turned(numbers, numbers)
+    let [a, b, c] = triangle.vertices();
+    let (a, b, c) = (a.index(), b.index(), c.index());
+    Ok([view.number(a)?, view.number(b)?, view.number(c)?])
 }
 
 /// Turns what belongs to three corners so that the corner with the least number is the first.
@@ -120,39 +145,61 @@ fn turned([a, b, c]: [usize; 3], [first, second, third]: [usize; 3]) -> [usize; 
 }
 
 /// Writes the ends of each edge, the lesser number first.
-fn write_edges(writer: &mut impl Write, drawn: &Drawn) -> io::Result<()> {
-    for edge in drawn.triangulation.dcel().live_undirected_edges() {
-        let [from, to] = edge.vertices().map(|end| drawn.number(end.fix()));
+fn write_edges<UE>(writer: &mut impl Write, view: &View<'_, UE>) -> io::Result<()> {
+    for edge in view.mesh.live_undirected_edges() {
+        let half = edge.as_directed();
+        if !view.shows_edge([half.face().index(), half.rev().face().index()]) {
+            continue;
+        }
+        let [from, to] = edge.vertices().map(|end| end.index());
+        let (from, to) = (view.number(from)?, view.number(to)?);
         writeln!(writer, "{} {}", from.min(to), from.max(to))?;
     }
     Ok(())
 }
 
 /// Writes the points on the hull, counterclockwise. Along a line it goes there and back.
-fn write_hull(writer: &mut impl Write, drawn: &Drawn) -> io::Result<()> {
-    let mesh = drawn.triangulation.dcel();
+fn write_hull<UE>(writer: &mut impl Write, view: &View<'_, UE>) -> io::Result<()> {
+    let mesh = view.mesh;
     // The outer face lies on the left of its half edges, so they go round clockwise.
     for edge in HullIterator::new(mesh).rev() {
-        writeln!(writer, "{}", drawn.number(edge.from().fix()))?;
+        writeln!(writer, "{}", view.number(edge.from().index())?)?;
     }
     if mesh.num_vertices() == 1 {
-        writeln!(writer, "{}", drawn.number(FixedVertexHandle::new(0)))?;
+        writeln!(writer, "{}", view.number(0)?)?;
     }
     Ok(())
 }
 
 /// Writes how many there are of each kind.
-fn write_stats(writer: &mut impl Write, drawn: &Drawn) -> io::Result<()> {
-    let mesh = drawn.triangulation.dcel();
-    writeln!(writer, "{} points", drawn.points.len())?;
+fn write_stats<UE>(writer: &mut impl Write, view: &View<'_, UE>) -> io::Result<()> {
+    let mesh = view.mesh;
+    writeln!(writer, "{} points", view.points.len())?;
     writeln!(writer, "{} vertices", mesh.num_vertices())?;
-    writeln!(writer, "{} edges", mesh.num_undirected_edges())?;
-    writeln!(writer, "{} triangles", mesh.num_faces() - 1)?;
-    writeln!(writer, "{} vertices on the hull", hull_size(mesh))
+    writeln!(writer, "{} edges", count_edges(view))?;
+    writeln!(writer, "{} triangles", view.count_triangles())?;
+    writeln!(writer, "{} vertices on the hull", hull_size(mesh))?;
+    if let Some(marks) = view.is_marked {
+        let count = marks.iter().filter(|is_marked| **is_marked).count();
+        writeln!(writer, "{count} constraint edges")?;
+    }
+    Ok(())
+}
+
+/// Counts the edges that are shown.
+fn count_edges<UE>(view: &View<'_, UE>) -> usize {
+    let mut count = 0usize;
+    for edge in view.mesh.live_undirected_edges() {
+        let half = edge.as_directed();
+        if view.shows_edge([half.face().index(), half.rev().face().index()]) {
+            count = count.saturating_add(1);
+        }
+    }
+    count
 }
 
 /// Counts the vertices on the hull: all that there are, if they stand on one line.
-fn hull_size(mesh: &Mesh) -> usize {
+fn hull_size<UE>(mesh: &Dcel<Point, (), UE, ()>) -> usize {
     if mesh.num_faces() == 1 {
         mesh.num_vertices()
     } else {
@@ -162,28 +209,23 @@ fn hull_size(mesh: &Mesh) -> usize {
 
 /// Writes the points and triangles in the Object File Format. Points keep their numbers, so those
 /// that equal an earlier one belong to no triangle.
-fn write_off(writer: &mut impl Write, drawn: &Drawn) -> io::Result<()> {
-    let mesh = drawn.triangulation.dcel();
+fn write_off<UE>(writer: &mut impl Write, view: &View<'_, UE>) -> io::Result<()> {
     writeln!(writer, "OFF")?;
-    writeln!(writer, "{} {} 0", drawn.points.len(), mesh.num_faces() - 1)?;
-    for point in drawn.points {
-        writeln!(writer, "{} 0", Shown::of(*point, drawn.scale))?;
-    }
-    for triangle in mesh.live_inner_faces() {
-        let [a, b, c] = corners(drawn, triangle);
-        writeln!(writer, "3 {a} {b} {c}")?;
-    }
-    Ok(())
+    writeln!(writer, "{} {} 0", view.points.len(), view.count_triangles())?;
+    write_points(writer, view, "")?;
+    write_triangles(writer, view, "3 ", 0)
 }
 
 /// Writes them as OBJ, which counts points from 1.
-fn write_obj(writer: &mut impl Write, drawn: &Drawn) -> io::Result<()> {
-    for point in drawn.points {
-        writeln!(writer, "v {} 0", Shown::of(*point, drawn.scale))?;
-    }
-    for triangle in drawn.triangulation.dcel().live_inner_faces() {
-        let [a, b, c] = corners(drawn, triangle).map(|number| number.saturating_add(1));
-        writeln!(writer, "f {a} {b} {c}")?;
+fn write_obj<UE>(writer: &mut impl Write, view: &View<'_, UE>) -> io::Result<()> {
+    write_points(writer, view, "v ")?;
+    write_triangles(writer, view, "f ", 1)
+}
+
+/// Writes the coordinates of each point, and 0 as the third one, behind some words.
+fn write_points<UE>(writer: &mut impl Write, view: &View<'_, UE>, before: &str) -> io::Result<()> {
+    for point in view.points {
+        writeln!(writer, "{before}{} 0", Shown::of(*point, view.scale))?;
     }
     Ok(())
 }

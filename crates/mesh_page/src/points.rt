@@ -10,7 +10,9 @@ use std::alloc::Allocator;
 #[repr(C)]
 #[derive(Clone, Copy)]
 pub struct MeshPagePoint {
+    /// To the right.
     pub x: i32,
+    /// Up.
     pub y: i32,
 }
 

@@ -57,8 +57,9 @@ between them; the second coordinate goes up. A vertex without a place stands bel
 edge that ends there isn't drawn.
 
 A page shows one line at a time, by arrow keys or a slider, and all of them where scripts don't run.
-What a line has changed is blue. Vertices keep their arrangement if the mesh can be drawn so, each
-picture at its own scale. A line that is refused has its reply there. Places aren't read for a page.";
+What a line has changed is blue. All pictures have the same scale. A vertex keeps its place from
+line to line unless the mesh can't be drawn so; then all may move. A line that is refused has its
+reply there. --places is refused for a page.";
 
 impl<'a> Arguments<'a> {
     /// Returns what the words say.

@@ -2,8 +2,9 @@
 //! page with the mesh after each line.
 //!
 //! `picture --help` tells what it reads and writes. It exits with status 0, also if nobody reads
-//! its output any more; with 1, and with no whole picture, if a line is bad or refused, a read or a
-//! write failed, or there was no memory; and with 2 if its arguments are bad.
+//! its output any more; with 1, and with no whole picture, if a line is bad or refused, places are
+//! given for a page, a read or a write failed, or there was no memory; and with 2 if its arguments
+//! are bad.
 #![tactic(auto)]
 
 mod arguments;
@@ -39,6 +40,9 @@ fn draw(
         anchors: arguments.anchors,
     };
     if arguments.page {
+        if arguments.places.is_some() {
+            return Err(Fault::Input(Wrong::PlacesOfPage));
+        }
         let page = Page::new(rt.alloc(), talk_of(rt.alloc(), &text)?, style)?;
         return write_out(rt, None, &page);
     }

@@ -3,11 +3,14 @@
 use dcel_commands::commands::{MAX_LIMIT, Refusal, Session, StdSink, Writer};
 use dcel_programs::{before_comment, numbered_lines};
 use dcel_replay::{Replay, Wrong};
+use dcel_svg::{Picture, Places};
 use std::alloc::{AllocError, Global};
 
 /// A line of a talk.
 #[derive(Drop)]
 pub struct Step<'a> {
+    /// Which line of the text it is, from 1.
+    pub number: usize,
     /// What was said.
     pub line: &'a str,
     /// What was replied.
@@ -16,13 +19,20 @@ pub struct Step<'a> {
     pub replay: Replay,
 }
 
+impl<'a> Step<'a> {
+    /// Returns the picture of the mesh that the line left.
+    pub fn picture(&self, alloc: Global, places: &Places) -> Result<Picture, AllocError> {
+        Picture::new(alloc, self.replay.mesh(), self.replay.before(), places)
+    }
+}
+
 /// Carries all lines out that say something. One that is bad or refused has its reply too, and the
 /// talk goes on.
 pub fn talk_of(alloc: Global, text: &str) -> Result<Vec<Step<'_>>, AllocError> {
     let mut session = Session::new(alloc)?;
     let mut replay = Replay::new(alloc)?;
     let mut steps = Vec::new(alloc);
-    for (_, said) in numbered_lines(text) {
+    for (number, said) in numbered_lines(text) {
         let line = before_comment(said).trim_ascii_end();
         if line.is_empty() {
             continue;
@@ -35,6 +45,7 @@ pub fn talk_of(alloc: Global, text: &str) -> Result<Vec<Step<'_>>, AllocError> {
         }
         let replay = replay.try_clone()?;
         steps.push(Step {
+            number,
             line,
             reply,
             replay,

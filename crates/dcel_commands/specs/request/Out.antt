@@ -1,10 +1,5 @@
--- `out V`: the half edges that start at V.
-use Rattle.std.specs.Prelude.{◌≡◌, ℕ, zero, suc, ◌*◌, Bool, List, [], ◌∷◌, Option, Some, None, if◌then◌else◌, codes}
-use Rattle.dcel_commands.specs.declared.refusal.Refusal.TheVariants.{NoSuchVertex, GivenUp}
-use Rattle.dcel_commands.specs.Conditions.{VertexInRange, VertexLive}
-use Rattle.dcel_commands.specs.Facts.{Out}
-use Rattle.dcel_commands.specs.Grammar.{Number}
-use Rattle.dcel_commands.specs.Rules.{QueryRule}
+-- The half edges that start at a vertex, as lines show them.
+use Rattle.std.specs.Prelude.{ℕ, zero, suc, ◌*◌, Bool, List, Option, Some, None, if◌then◌else◌}
 use Rattle.dcel_maps.specs.Maps.{has_label}
 use Rattle.dcel_maps.specs.Shapes.{Shape, map_of, origin_of}
 use Rattle.dcel_maps.specs.Walking.{walk_from, ccw_of}
@@ -26,11 +21,3 @@ least_out s v = least_below (has_label (map_of s) (origin_of s) v) (2 * s.edges)
 -- the half edges that start at v, in the order of `ccw` from the least on
 abbrev pub turn_of : Shape → ℕ → List ℕ
 turn_of s v = walk_from s (ccw_of s) (least_out s v)
-
-abbrev pub out : ℕ → QueryRule
-out v = record {
-  word = codes "out";
-  given = Number v ∷ [];
-  asks = (NoSuchVertex, VertexInRange v) ∷ (GivenUp, VertexLive v) ∷ [];
-  Tells = λ m fact. fact ≡ Out (turn_of m.shape v);
-}

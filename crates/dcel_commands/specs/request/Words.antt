@@ -1,7 +1,5 @@
--- Lines about the half edges round faces.
-use Rattle.std.specs.Prelude.{◌≡◌, ℕ, zero, suc, ◌<◌, List, [], ◌∷◌, ◌++◌, if◌then◌else◌, codes}
-use Rattle.dcel_commands.specs.Facts.{Hull, Words}
-use Rattle.dcel_commands.specs.Rules.{QueryRule}
+-- The half edges round faces, as lines show them.
+use Rattle.std.specs.Prelude.{◌≡◌, ℕ, zero, suc, ◌<◌, List, [], ◌∷◌, ◌++◌, if◌then◌else◌}
 use Rattle.dcel_maps.specs.Shapes.{Shape, face_count, face_is_live, face_of, IsLive}
 use Rattle.dcel_maps.specs.Words.{count_of, word_of}
 
@@ -26,21 +24,3 @@ word_round s h = word_of s.words (face_of s h)
 pub record IsLeastOnFace (s : Shape) (h : ℕ) : Type 0 where
   pub live : IsLive s h
   pub none_below : (k : ℕ) → k < h → count_of k (word_round s h) ≡ 0
-
--- `words`: each live face
-abbrev pub words : QueryRule
-words = record {
-  word = codes "words";
-  given = [];
-  asks = [];
-  Tells = λ m fact. fact ≡ Words (live_faces m.shape);
-}
-
--- `hull`: the half edges of the outer face
-abbrev pub hull : QueryRule
-hull = record {
-  word = codes "hull";
-  given = [];
-  asks = [];
-  Tells = λ m fact. fact ≡ Hull (word_of m.shape.words 0);
-}

@@ -9,8 +9,7 @@ ghost use Rattle.dcel_commands.specs.Triangles.{TrianglesStay, replies_of};
 ghost use Rattle.dcel_maps.specs.Headline.{Headline};
 ghost use Rattle.dcel_maps.specs.Shapes.{IsMesh};
 
-use crate::commands::command::Command;
-use crate::commands::dispatch::apply;
+use crate::commands::command::{Command, apply};
 use crate::commands::reply::{Refused, Reply};
 use crate::refusal::Refusal;
 use spade_dcel::dcel::Dcel;

@@ -1,11 +1,11 @@
-//! Queries, which a mesh answers and which leave it as it is.
+//! Queries, which a mesh answers and which leave it as it is: what each asks, and what it is told.
 
 ghost use Rattle.std.specs.Prelude.{IfOk, IfErr, OnOk};
 ghost use Rattle.dcel_commands.specs.Conditions.{AllMet, FirstUnmet};
-ghost use Rattle.dcel_commands.specs.Queries.{Tells, fact, query_asks};
+ghost use Rattle.dcel_commands.specs.Queries.{Tells, TellsOrRefuses, between, fact, get, origin, out, query_asks, told};
 
+use crate::asking::{ask, ask_live_vertices, has_half_edge, has_vertex};
 use crate::refusal::Refusal;
-use crate::request::{between, get, origin, out};
 use dcel_fixed::{FixedDirectedEdgeHandle, FixedVertexHandle};
 use spade_dcel::dcel::Dcel;
 use spade_dcel::handles::VertexHandle;
@@ -68,6 +68,56 @@ pub enum Told<'a, V, DE, UE, F, A: Allocator = Global> {
     Truth(bool),
 }
 
+/// Tells the half edges that start at the vertex, or refuses.
+fn tell_out<V, DE, UE, F, A: Allocator>(
+    dcel: &Dcel<V, DE, UE, F, A>,
+    vertex: FixedVertexHandle,
+) -> Result<Told<'_, V, DE, UE, F, A>, Refusal>
+    ensures { TellsOrRefuses dcel.now (out vertex) (told result) }
+{
+    ask(has_vertex(dcel, vertex), Refusal::NoSuchVertex)?;
+    ask(dcel.is_live_vertex(vertex), Refusal::GivenUp)?;
+    Ok(Told::Out(dcel.vertex(vertex)))
+}
+
+/// Tells where the half edge starts, or refuses.
+fn tell_origin<V, DE, UE, F, A: Allocator>(
+    dcel: &Dcel<V, DE, UE, F, A>,
+    edge: FixedDirectedEdgeHandle,
+) -> Result<Told<'_, V, DE, UE, F, A>, Refusal>
+    ensures { TellsOrRefuses dcel.now (origin edge) (told result) }
+{
+    ask(has_half_edge(dcel, edge), Refusal::NoSuchEdge)?;
+    ask(dcel.is_live_edge(edge.as_undirected()), Refusal::GivenUp)?;
+    Ok(Told::Vertex(dcel.directed_edge(edge).from().fix()))
+}
+
+/// Tells which half edge leads from one vertex to the other, or refuses.
+fn tell_between<V, DE, UE, F, A: Allocator>(
+    dcel: &Dcel<V, DE, UE, F, A>,
+    from: FixedVertexHandle,
+    to: FixedVertexHandle,
+) -> Result<Told<'_, V, DE, UE, F, A>, Refusal>
+    ensures { TellsOrRefuses dcel.now (between from to) (told result) }
+{
+    ask_live_vertices(dcel, from, to)?;
+    match dcel.get_edge_from_neighbors(from, to) {
+        Some(edge) => Ok(Told::Half(Some(edge.fix()))),
+        None => Ok(Told::Half(None)),
+    }
+}
+
+/// Tells the datum of the vertex, or refuses.
+fn tell_get<V, DE, UE, F, A: Allocator>(
+    dcel: &Dcel<V, DE, UE, F, A>,
+    vertex: FixedVertexHandle,
+) -> Result<Told<'_, V, DE, UE, F, A>, Refusal>
+    ensures { TellsOrRefuses dcel.now (get vertex) (told result) }
+{
+    ask(has_vertex(dcel, vertex), Refusal::NoSuchVertex)?;
+    Ok(Told::Datum(dcel.vertex_data(vertex)))
+}
+
 /// Tells what a query asks for, or refuses it.
 ///
 /// The conditions of the query are tested in the order of the refusals' numbers, and the first
@@ -88,10 +138,10 @@ pub fn tell<V, DE, UE, F, A: Allocator>(
         }),
         Query::Words => Ok(Told::Words(dcel)),
         Query::Hull => Ok(Told::Hull(dcel)),
-        Query::Out(vertex) => out::tell(dcel, vertex),
-        Query::Origin(edge) => origin::tell(dcel, edge),
-        Query::Between(from, to) => between::tell(dcel, from, to),
-        Query::Get(vertex) => get::tell(dcel, vertex),
+        Query::Out(vertex) => tell_out(dcel, vertex),
+        Query::Origin(edge) => tell_origin(dcel, edge),
+        Query::Between(from, to) => tell_between(dcel, from, to),
+        Query::Get(vertex) => tell_get(dcel, vertex),
         Query::Check => Ok(Told::Truth(dcel.sanity_check())),
     }
 }

@@ -1,34 +1,16 @@
-//! The line `out V`: what it asks, what it is told, and how that is written.
+//! Writes what the line `out V` is told.
 
 ghost use Rattle.std.specs.Prelude.{◌≡◌, IfSome};
 ghost use Rattle.std.specs.Option.{option_map};
 ghost use Rattle.dcel_commands.specs.Facts.{turn_text};
-ghost use Rattle.dcel_commands.specs.Queries.{TellsOrRefuses, told};
 ghost use Rattle.dcel_commands.specs.Vocabulary.{IsLive, Writes, ccw_of, listed, mesh_behind, number_of, walk_of};
-ghost use Rattle.dcel_commands.specs.request.Out.{least_out, out, turn_of};
+ghost use Rattle.dcel_commands.specs.request.Out.{least_out, turn_of};
 
-use crate::asking::{ask, has_vertex};
-use crate::commands::Told;
-use crate::refusal::Refusal;
-use dcel_fixed::FixedVertexHandle;
 use dcel_text::output::Writer;
 use dcel_text::sink::LineSink;
-use spade_dcel::dcel::Dcel;
 use spade_dcel::handles::{DirectedEdgeHandle, VertexHandle};
 use spade_dcel::iterators::{CCWEdgesNextBackFn, CircularIterator};
 use std::alloc::Allocator;
-
-/// Tells the half edges that start at the vertex, or refuses.
-pub fn tell<V, DE, UE, F, A: Allocator>(
-    dcel: &Dcel<V, DE, UE, F, A>,
-    vertex: FixedVertexHandle,
-) -> Result<Told<'_, V, DE, UE, F, A>, Refusal>
-    ensures { TellsOrRefuses dcel.now (out vertex) (told result) }
-{
-    ask(has_vertex(dcel, vertex), Refusal::NoSuchVertex)?;
-    ask(dcel.is_live_vertex(vertex), Refusal::GivenUp)?;
-    Ok(Told::Out(dcel.vertex(vertex)))
-}
 
 /// Returns the least half edge that starts at the vertex.
 fn least_out_edge<'a, V, DE, UE, F, A: Allocator>(

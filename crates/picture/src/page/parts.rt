@@ -8,7 +8,7 @@ pub const BEGIN: &str = r##"<!doctype html>
 <meta name="viewport" content="width=device-width, initial-scale=1">
 <title>A talk with a mesh</title>
 <style>
-:root { color-scheme: light dark; font: 16px/1.4 system-ui, sans-serif; }
+:root { color-scheme: light dark; font: 16px/1.4 system-ui, sans-serif; scroll-padding: 1rem 0 4rem; }
 body { margin: 0 auto; max-width: 80rem; padding: 0 1rem 5rem; }
 h1 { font-size: 1.3rem; }
 section { display: grid; grid-template-columns: minmax(12rem, 1fr) 3fr; gap: 1rem; border-top: 1px solid #8886; padding: .6rem 0; }
@@ -25,6 +25,7 @@ nav input { flex: 1; min-width: 0; }
 .stepped img { display: none; }
 .stepped .now img { display: block; grid-column: 2; grid-row: 1 / span 9999; position: sticky; top: 1rem; }
 @media (max-width: 40rem) {
+:root { scroll-padding-top: 46vh; }
 section { grid-template-columns: 1fr; }
 .stepped { display: flex; flex-direction: column; align-items: stretch; }
 .stepped .now img { order: -1; position: sticky; top: 0; max-height: 45vh; align-self: center; }
@@ -34,7 +35,7 @@ section { grid-template-columns: 1fr; }
 </head>
 <body>
 <h1>A talk with a mesh</h1>
-<p>Each line with its reply, and the mesh after it. What a line has changed is blue.</p>
+<p>Each line with its reply, and the mesh after it. What a line has changed is blue. Vertices stay where they are as long as the mesh can be drawn so.</p>
 <main>
 "##;
 
@@ -42,7 +43,7 @@ section { grid-template-columns: 1fr; }
 pub const END: &str = r##"</main>
 <nav hidden>
 <button type="button" aria-label="The line before">◀</button>
-<input type="range" min="1" value="1" aria-label="Line">
+<input type="range" min="1" value="1" aria-label="Step">
 <output></output>
 <button type="button" aria-label="The next line">▶</button>
 </nav>

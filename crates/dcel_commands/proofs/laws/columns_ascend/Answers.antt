@@ -1,4 +1,4 @@
-use Rattle.dcel_commands.proofs.Lawfulness.{command-ascends}
+use Rattle.dcel_commands.proofs.Rows.{command-ascends}
 use Rattle.dcel_commands.proofs.laws.columns_ascend.Goals as goal
 
 pub returns-clause-commands : goal.returns-clause-commands

@@ -4,6 +4,7 @@ use Rattle.dcel_delaunay.specs.Corners.{IsClosedAt}
 use Rattle.dcel_delaunay.proofs.Ending.{ends_there, live_before, outer_before, stops_before}
 use Rattle.dcel_delaunay.proofs.GoingOn.{goes_on-refl, goes_on-trans}
 use Rattle.dcel_delaunay.proofs.Growth.{keeps-refl, keeps-trans}
+use Rattle.dcel_delaunay.proofs.Ends.{edges-trans, same_edges}
 use Rattle.dcel_delaunay.proofs.closing.close_before.Goals as goal
 
 pub loop-closed-init : goal.loop-closed-init
@@ -14,8 +15,10 @@ loop-closed-init g c =
     rw (c.fix-before.ensures.value, c.prev.ensures.number, c.directed_edge.ensures.mesh, c.directed_edge.ensures.number) refl in
     let mesh = c.every_mesh.ensures in
     record {
-      sound = c.requires.sound;
-      keeps = keeps-refl m c.requires.sound.closed;
+      triangulated = c.requires.triangulated;
+      lists = λ lacking lists. lists;
+      edges = same_edges _ m m refl;
+      keeps = keeps-refl m c.requires.triangulated.closed;
       listed = λ some. some;
       goes_on = goes_on-refl m;
       mesh = mesh;
@@ -33,7 +36,9 @@ loop-closed-preserved g c =
     rw (c.fix-before-in-Some.ensures.value, c.prev-in-Some.ensures.number, c.directed_edge-in-Some.ensures.mesh, c.directed_edge-in-Some.ensures.number) refl in
     let mesh = c.close.ensures.mesh in
     record {
-      sound = c.close.ensures.sound;
+      triangulated = c.close.ensures.triangulated;
+      lists = λ lacking lists. c.close.ensures.lists lacking (c.loop-closed.invariant.lists lacking lists);
+      edges = edges-trans _ _ _ _ c.loop-closed.invariant.keeps.edges c.loop-closed.invariant.edges c.close.ensures.edges;
       keeps = keeps-trans _ _ _ c.loop-closed.invariant.keeps c.close.ensures.keeps;
       listed = λ some. c.close.ensures.listed (c.loop-closed.invariant.listed some);
       goes_on = goes_on-trans _ _ _ c.loop-closed.invariant.goes_on c.close.ensures.goes_on;
@@ -48,3 +53,9 @@ returns-clause-closed g c =
     let none = rw c.in_default.is at c.in_ok-closed.ensures.none in
     let kept = c.loop-closed.invariant in
     stops_before c.loop-closed.dcel c.close.new.dcel (end_of c.args.dcel.now.shape c.args.edge) c.loop-closed.before kept.mesh kept.live kept.outer kept.end none.0 none.1
+
+pub returns-in_err-closed-clause-lists : goal.returns-in_err-closed-clause-lists
+returns-in_err-closed-clause-lists g c = λ lacking lists. c.close.ensures.lists lacking (c.loop-closed.invariant.lists lacking lists)
+
+pub returns-clause-lists : goal.returns-clause-lists
+returns-clause-lists g c = λ lacking lists. c.close.ensures.lists lacking (c.loop-closed.invariant.lists lacking lists)

@@ -1,8 +1,9 @@
-use Rattle.std.proofs.Common.{◌≡◌, ℕ, arith, subst}
+use Rattle.std.proofs.Common.{◌≡◌, ℕ, arith, refl, subst}
 use Rattle.dcel_maps.specs.Shapes.{origin_of}
 use Rattle.dcel_delaunay.specs.Growing.{IsOpen}
 use Rattle.dcel_delaunay.proofs.Ending.{closed_way, on_ok, still_way}
 use Rattle.dcel_delaunay.proofs.GoingOn.{goes_on-refl}
+use Rattle.dcel_delaunay.proofs.Ends.{same_edges}
 use Rattle.dcel_delaunay.proofs.closing.close_hull.Goals as goal
 
 pub close_sides-requires-clause-live : goal.close_sides-requires-clause-live
@@ -23,10 +24,12 @@ returns-in-Some-clause-hull g c = λ way.
     closes (subst (λ (v : ℕ). IsOpen old v) there is)))
     c.close_sides.ensures.hull
 
-pub returns-in-Some-clause-under_way : goal.returns-in-Some-clause-under_way
-returns-in-Some-clause-under_way g c = λ way.
-    still_way c.args.dcel.now c.close_sides.new.dcel c.args.due.now.items c.close_sides.new.due.items way c.close_sides.ensures.goes_on
-    c.close_sides.ensures.sound c.close_sides.ensures.listed
+pub returns-in-Some-clause-outside : goal.returns-in-Some-clause-outside
+returns-in-Some-clause-outside g c = λ way.
+    still_way c.args.dcel.now c.close_sides.new.dcel c.args.due.now.items c.close_sides.new.due.items way c.close_sides.ensures.goes_on c.close_sides.ensures.listed
+
+pub returns-in-None-clause-edges : goal.returns-in-None-clause-edges
+returns-in-None-clause-edges g c = same_edges _ c.args.dcel.now c.args.dcel.now refl
 
 pub returns-in-None-clause-hull : goal.returns-in-None-clause-hull
 returns-in-None-clause-hull g c = λ way.

@@ -1,4 +1,4 @@
-use Rattle.std.proofs.Common.{◌≡◌, [], rules}
+use Rattle.std.proofs.Common.{◌≡◌, rules}
 use Rattle.dcel_maps.specs.Shapes.{face_of}
 use Rattle.spade_dcel.specs.Handles.{number_of}
 use Rattle.dcel_delaunay.proofs.Hull.{inner_rev}
@@ -9,4 +9,4 @@ returns-then-is_outer_edge-clause-inner g c =
     let m = c.args.dcel.now in
     let h = number_of c.args.edge in
     let outer : face_of m.shape h ≡ 0 = search rules in
-    rw (c.rev.ensures.number) (inner_rev m c.every_mesh.ensures [] c.requires.sound c.requires.hull h c.requires.live outer)
+    rw (c.rev.ensures.number) (inner_rev m c.every_mesh.ensures c.requires.triangulated c.requires.hull h c.requires.live outer)

@@ -12,7 +12,7 @@ pub returns-then-is_right-2-clause-face : goal.returns-then-is_right-2-clause-fa
 returns-then-is_right-2-clause-face g c =
     let m = c.args.dcel.now in
     let e = number_of c.args.edge in
-    let tri = sides m c.every_mesh.ensures c.requires.sound.triangles c.requires.sound.plane e c.requires.live c.requires.inner in
+    let tri = sides m c.every_mesh.ensures c.requires.triangulated.triangles c.requires.triangulated.plane e c.requires.live c.requires.inner in
     let is : number_of c.next-next.result ≡ next_of m.shape e = c.next-next.ensures.number ∙ ap (λ n. next_of n.shape e) c.requires.mesh in
     subst (λ (i : ℕ). face_of m.shape i ≡ face_of m.shape e) (sym is) tri.face_y
 
@@ -21,7 +21,7 @@ returns-then-is_right-2-clause-beyond g c =
     let m = c.args.dcel.now in
     let e = number_of c.args.edge in
     let p = c.args.point in
-    let tri = sides m c.every_mesh.ensures c.requires.sound.triangles c.requires.sound.plane e c.requires.live c.requires.inner in
+    let tri = sides m c.every_mesh.ensures c.requires.triangulated.triangles c.requires.triangulated.plane e c.requires.live c.requires.inner in
     let is : number_of c.next-next.result ≡ next_of m.shape e = c.next-next.ensures.number ∙ ap (λ n. next_of n.shape e) c.requires.mesh in
     let lies : LiesAt m p (next_of m.shape e) c.side-after.result =
     told m c.every_mesh.ensures (mesh_behind c.next-next.result) p (next_of m.shape e) (number_of c.next-next.result) c.side-after.result
@@ -34,7 +34,7 @@ pub returns-then-is_right-3-clause-face : goal.returns-then-is_right-3-clause-fa
 returns-then-is_right-3-clause-face g c =
     let m = c.args.dcel.now in
     let e = number_of c.args.edge in
-    let tri = sides m c.every_mesh.ensures c.requires.sound.triangles c.requires.sound.plane e c.requires.live c.requires.inner in
+    let tri = sides m c.every_mesh.ensures c.requires.triangulated.triangles c.requires.triangulated.plane e c.requires.live c.requires.inner in
     let is : number_of c.prev-prev.result ≡ prev_of m.shape e = c.prev-prev.ensures.number ∙ ap (λ n. prev_of n.shape e) c.requires.mesh in
     subst (λ (i : ℕ). face_of m.shape i ≡ face_of m.shape e) (sym is) tri.face_z
 
@@ -43,7 +43,7 @@ returns-then-is_right-3-clause-beyond g c =
     let m = c.args.dcel.now in
     let e = number_of c.args.edge in
     let p = c.args.point in
-    let tri = sides m c.every_mesh.ensures c.requires.sound.triangles c.requires.sound.plane e c.requires.live c.requires.inner in
+    let tri = sides m c.every_mesh.ensures c.requires.triangulated.triangles c.requires.triangulated.plane e c.requires.live c.requires.inner in
     let is : number_of c.prev-prev.result ≡ prev_of m.shape e = c.prev-prev.ensures.number ∙ ap (λ n. prev_of n.shape e) c.requires.mesh in
     let lies : LiesAt m p (prev_of m.shape e) c.side-before.result =
     told m c.every_mesh.ensures (mesh_behind c.prev-prev.result) p (prev_of m.shape e) (number_of c.prev-prev.result) c.side-before.result

@@ -17,7 +17,7 @@ returns-in-true-true-default g c = λ p sides.
     let after_on : c.args.after ≡ On = search rules in
     let is : c.fix.result ≡ end_of m.shape e = search (rules, c.fix.ensures.value, c.to.ensures.number, c.requires.mesh) in
     subst (λ (i : ℕ). HasPoint m p i) (sym is)
-    (at_end m c.every_mesh.ensures c.requires.sound.triangles c.requires.sound.plane e c.requires.live c.requires.inner p c.args.own c.args.after c.args.before sides own_on after_on)
+    (at_end m c.every_mesh.ensures c.requires.triangulated.triangles c.requires.triangulated.plane e c.requires.live c.requires.inner p c.args.own c.args.after c.args.before sides own_on after_on)
 
 pub returns-in-true-default-true : goal.returns-in-true-default-true
 returns-in-true-default-true g c = λ p sides.
@@ -27,7 +27,7 @@ returns-in-true-default-true g c = λ p sides.
     let before_on : c.args.before ≡ On = search rules in
     let is : c.fix-in-true-default-true.result ≡ origin_of m.shape e = search (rules, c.fix-in-true-default-true.ensures.value, c.from.ensures.number, c.requires.mesh) in
     subst (λ (i : ℕ). HasPoint m p i) (sym is)
-    (at_start m c.every_mesh.ensures c.requires.sound.triangles c.requires.sound.plane e c.requires.live c.requires.inner p c.args.own c.args.after c.args.before sides own_on before_on)
+    (at_start m c.every_mesh.ensures c.requires.triangulated.triangles c.requires.triangulated.plane e c.requires.live c.requires.inner p c.args.own c.args.after c.args.before sides own_on before_on)
 
 pub returns-in_default-true-true : goal.returns-in_default-true-true
 returns-in_default-true-true g c = λ p sides.
@@ -37,7 +37,7 @@ returns-in_default-true-true g c = λ p sides.
     let before_on : c.args.before ≡ On = search rules in
     let is : c.fix-in_default-true-true.result ≡ origin_of m.shape (prev_of m.shape e) = search (rules, c.fix-in_default-true-true.ensures.value, c.from-in_default-true-true.ensures.number, c.prev.ensures.number, c.prev.ensures.mesh, c.requires.mesh) in
     subst (λ (i : ℕ). HasPoint m p i) (sym is)
-    (at_apex m c.every_mesh.ensures c.requires.sound.triangles c.requires.sound.plane e c.requires.live c.requires.inner p c.args.own c.args.after c.args.before sides after_on before_on)
+    (at_apex m c.every_mesh.ensures c.requires.triangulated.triangles c.requires.triangulated.plane e c.requires.live c.requires.inner p c.args.own c.args.after c.args.before sides after_on before_on)
 
 pub returns-in-true-false-false : goal.returns-in-true-false-false
 returns-in-true-false-false g c = λ p sides.
@@ -48,7 +48,7 @@ returns-in-true-false-false g c = λ p sides.
     let before_off : c.args.before ≢ On = search rules in
     let is : c.fix-in-true-false-false.result ≡ e = c.fix-in-true-false-false.ensures.value in
     subst (λ (i : ℕ). IsLive m.shape i × LiesOn (point_at m) m.shape p i) (sym is)
-    (on_own m c.every_mesh.ensures c.requires.sound.triangles c.requires.sound.plane e c.requires.live c.requires.inner p c.args.own c.args.after c.args.before sides own_on after_off before_off)
+    (on_own m c.every_mesh.ensures c.requires.triangulated.triangles c.requires.triangulated.plane e c.requires.live c.requires.inner p c.args.own c.args.after c.args.before sides own_on after_off before_off)
 
 pub returns-in-false-true-false : goal.returns-in-false-true-false
 returns-in-false-true-false g c = λ p sides.
@@ -59,7 +59,7 @@ returns-in-false-true-false g c = λ p sides.
     let before_off : c.args.before ≢ On = search rules in
     let is : c.fix-in-false-true-false.result ≡ next_of m.shape e = search (rules, c.fix-in-false-true-false.ensures.value, c.next.ensures.number, c.requires.mesh) in
     subst (λ (i : ℕ). IsLive m.shape i × LiesOn (point_at m) m.shape p i) (sym is)
-    (on_after m c.every_mesh.ensures c.requires.sound.triangles c.requires.sound.plane e c.requires.live c.requires.inner p c.args.own c.args.after c.args.before sides after_on before_off own_off)
+    (on_after m c.every_mesh.ensures c.requires.triangulated.triangles c.requires.triangulated.plane e c.requires.live c.requires.inner p c.args.own c.args.after c.args.before sides after_on before_off own_off)
 
 pub returns-in-false-false-true : goal.returns-in-false-false-true
 returns-in-false-false-true g c = λ p sides.
@@ -70,7 +70,7 @@ returns-in-false-false-true g c = λ p sides.
     let before_on : c.args.before ≡ On = search rules in
     let is : c.fix-in-false-false-true.result ≡ prev_of m.shape e = search (rules, c.fix-in-false-false-true.ensures.value, c.prev-in-false-false-true.ensures.number, c.requires.mesh) in
     subst (λ (i : ℕ). IsLive m.shape i × LiesOn (point_at m) m.shape p i) (sym is)
-    (on_before m c.every_mesh.ensures c.requires.sound.triangles c.requires.sound.plane e c.requires.live c.requires.inner p c.args.own c.args.after c.args.before sides before_on own_off after_off)
+    (on_before m c.every_mesh.ensures c.requires.triangulated.triangles c.requires.triangulated.plane e c.requires.live c.requires.inner p c.args.own c.args.after c.args.before sides before_on own_off after_off)
 
 pub returns-in-false-false-false : goal.returns-in-false-false-false
 returns-in-false-false-false g c = λ p sides.
@@ -81,4 +81,4 @@ returns-in-false-false-false g c = λ p sides.
     let before_off : c.args.before ≢ On = search rules in
     let is : c.inner_face.result ≡ face_of m.shape e = search (rules, c.inner_face.ensures, c.requires.mesh) in
     subst (λ (i : ℕ). (0 < i) × IsTriangle m.shape i × LiesInside (point_at m) m.shape i p) (sym is)
-    (in_face m c.every_mesh.ensures c.requires.sound.triangles c.requires.sound.plane e c.requires.live c.requires.inner p c.args.own c.args.after c.args.before sides own_off after_off before_off)
+    (in_face m c.every_mesh.ensures c.requires.triangulated.triangles c.requires.triangulated.plane e c.requires.live c.requires.inner p c.args.own c.args.after c.args.before sides own_off after_off before_off)

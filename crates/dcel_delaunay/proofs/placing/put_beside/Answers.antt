@@ -1,34 +1,54 @@
-use Rattle.std.proofs.Common.{append_assoc, subst, sym}
+use Rattle.std.proofs.Common.{append_assoc, subst, sym, refl, ◌++◌}
 use Rattle.dcel_maps.specs.edits.Outside.{face_put_beside}
 use Rattle.dcel_plane.specs.Edges.{edges_put_beside}
-use Rattle.dcel_delaunay.specs.Growing.{MayRefuse}
+use Rattle.dcel_delaunay.specs.Growing.{IsTriangulated, MayRefuse}
 use Rattle.dcel_delaunay.proofs.GoingOn.{some_listed}
 use Rattle.dcel_delaunay.proofs.Growth.{beside-keeps}
 use Rattle.dcel_delaunay.proofs.Opening.{put_open}
-use Rattle.dcel_delaunay.proofs.Puts.{as_it_was, put_back, put_gains, put_sound}
-use Rattle.dcel_delaunay.proofs.Sound.{beside-sound}
+use Rattle.dcel_delaunay.proofs.Puts.{put_back, put_gains, put_holds, put_lists, stays_listed, stays_triangulated}
+use Rattle.dcel_delaunay.proofs.Sound.{beside-lists, beside-triangulated}
+use Rattle.dcel_delaunay.proofs.Ends.{put_edges}
 use Rattle.dcel_delaunay.proofs.placing.put_beside.Goals as goal
 
 pub returns-in_default-clause-refused : goal.returns-in_default-clause-refused
 returns-in_default-clause-refused g c = (
   subst (MayRefuse c.args.dcel.now.shape) (sym c.take_back.ensures.answer) tt,
-  put_back c.args.dcel.now _ _ _ c.args.point _ c.every_mesh.ensures c.requires.sound.closed c.in_ok-vertex.ensures.edit
+  put_back c.args.dcel.now _ _ _ c.args.point _ c.every_mesh.ensures c.requires.triangulated.closed c.in_ok-vertex.ensures.edit
       c.in_ok-vertex.ensures.answer c.in_default.ensures.refused c.take_back.ensures.edit,
 )
 
-pub returns-in_default-clause-sound : goal.returns-in_default-clause-sound
-returns-in_default-clause-sound g c =
-    as_it_was c.args.dcel.now _ c.args.due.now.items _
-    (put_back c.args.dcel.now _ _ _ c.args.point _ c.every_mesh.ensures c.requires.sound.closed c.in_ok-vertex.ensures.edit
+pub returns-in_default-clause-triangulated : goal.returns-in_default-clause-triangulated
+returns-in_default-clause-triangulated g c =
+    stays_triangulated c.args.dcel.now _
+    (put_back c.args.dcel.now _ _ _ c.args.point _ c.every_mesh.ensures c.requires.triangulated.closed c.in_ok-vertex.ensures.edit
     c.in_ok-vertex.ensures.answer c.in_default.ensures.refused c.take_back.ensures.edit)
-    c.reserve.ensures.items c.requires.sound
+    c.requires.triangulated
 
-pub returns-clause-sound : goal.returns-clause-sound
-returns-clause-sound g c =
+pub returns-in_default-clause-lists : goal.returns-in_default-clause-lists
+returns-in_default-clause-lists g c =
+    stays_listed c.args.dcel.now _ c.args.due.now.items _
+    (put_back c.args.dcel.now _ _ _ c.args.point _ c.every_mesh.ensures c.requires.triangulated.closed c.in_ok-vertex.ensures.edit
+    c.in_ok-vertex.ensures.answer c.in_default.ensures.refused c.take_back.ensures.edit)
+    c.reserve.ensures.items
+
+pub returns-clause-triangulated : goal.returns-clause-triangulated
+returns-clause-triangulated g c =
+    let old = c.args.dcel.now in
+    put_holds (λ m. IsTriangulated m) (λ m v h e f. face_put_beside m c.args.edge v h e f) _ _ _ 2 1 old _ _ c.args.point _
+    (λ h e f mid done. beside-triangulated old c.every_mesh.ensures c.args.point mid h e f c.args.edge c.requires.triangulated c.requires.live c.requires.outer c.requires.left)
+    c.in_ok-vertex.ensures.edit c.in_ok-vertex.ensures.answer c.in-Ok.ensures.edit c.in_ok-vertex.ensures.mesh c.create_new_face_adjacent_to_edge.ensures.mesh
+
+pub returns-clause-edges : goal.returns-clause-edges
+returns-clause-edges g c =
+    put_edges (λ m v h e f. face_put_beside m c.args.edge v h e f) (λ m v. _) (λ m v h e f. (refl, refl)) _ _ _ 2 1 c.args.dcel.now _ _ c.args.point _ c.every_mesh.ensures
+    c.in_ok-vertex.ensures.edit c.in-Ok.ensures.edit
+
+pub returns-clause-lists : goal.returns-clause-lists
+returns-clause-lists g c =
     let old = c.args.dcel.now in
     let due = c.args.due.now.items in
-    put_sound (λ m v h e f. face_put_beside m c.args.edge v h e f) _ _ _ 2 1 old _ _ c.args.point _ due (edges_put_beside old.shape c.args.edge) _
-    (λ h e f mid done. beside-sound old c.every_mesh.ensures c.args.point due c.requires.sound mid h e f c.args.edge c.requires.live c.requires.outer c.requires.left done)
+    put_lists (λ m v h e f. face_put_beside m c.args.edge v h e f) _ _ _ 2 1 old _ _ c.args.point _ due (edges_put_beside old.shape c.args.edge) _
+    (λ lacking h e f mid done. beside-lists old c.every_mesh.ensures c.args.point mid h e f c.args.edge (due ++ lacking) c.requires.live c.requires.outer done)
     c.in_ok-vertex.ensures.edit c.in_ok-vertex.ensures.answer c.in-Ok.ensures.edit c.in_ok-vertex.ensures.mesh c.create_new_face_adjacent_to_edge.ensures.mesh
     (rw (
       c.push_reserved-3.ensures.items,
@@ -44,11 +64,11 @@ returns-clause-sound g c =
 pub returns-clause-gains : goal.returns-clause-gains
 returns-clause-gains g c =
     put_gains (λ m v h e f. face_put_beside m c.args.edge v h e f) (λ m closed v h e f. beside-keeps m closed c.args.edge v h e f) _ _ _ 2 1 c.args.dcel.now _ _ c.args.point _
-    c.requires.sound.closed c.in_ok-vertex.ensures.edit c.in_ok-vertex.ensures.answer c.in-Ok.ensures.edit
+    c.requires.triangulated.closed c.in_ok-vertex.ensures.edit c.in_ok-vertex.ensures.answer c.in-Ok.ensures.edit
 
 pub returns-clause-open : goal.returns-clause-open
 returns-clause-open g c =
-    put_open _ _ _ 2 1 c.args.dcel.now _ _ c.args.point _ c.args.edge c.args.due.now.items c.every_mesh.ensures c.requires.sound c.requires.hull c.requires.live
+    put_open _ _ _ 2 1 c.args.dcel.now _ _ c.args.point _ c.args.edge c.every_mesh.ensures c.requires.triangulated c.requires.hull c.requires.live
     c.requires.outer c.requires.left c.in_ok-vertex.ensures.edit c.in_ok-vertex.ensures.answer c.in-Ok.ensures.edit c.in_ok-vertex.ensures.mesh
     c.create_new_face_adjacent_to_edge.ensures.mesh
 

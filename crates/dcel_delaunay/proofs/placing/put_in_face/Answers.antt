@@ -1,34 +1,54 @@
-use Rattle.std.proofs.Common.{append_assoc, arith, subst, sym}
+use Rattle.std.proofs.Common.{append_assoc, arith, subst, sym, refl, ◌++◌}
 use Rattle.std.proofs.lemmas.Grind.{common_steps}
 use Rattle.dcel_maps.specs.edits.Triangle.{vertex_inserted}
 use Rattle.dcel_plane.specs.Edges.{edges_inserted}
-use Rattle.dcel_delaunay.specs.Growing.{HasHull, MayRefuse}
+use Rattle.dcel_delaunay.specs.Growing.{HasHull, IsTriangulated, MayRefuse}
 use Rattle.dcel_delaunay.proofs.Growth.{inserted-keeps}
 use Rattle.dcel_delaunay.proofs.Hull.{inserted-hull}
-use Rattle.dcel_delaunay.proofs.Puts.{as_it_was, put_back, put_gains, put_holds, put_sound}
-use Rattle.dcel_delaunay.proofs.Sound.{inserted-sound}
+use Rattle.dcel_delaunay.proofs.Puts.{put_back, put_gains, put_holds, put_lists, stays_listed, stays_triangulated}
+use Rattle.dcel_delaunay.proofs.Sound.{inserted-lists, inserted-triangulated}
+use Rattle.dcel_delaunay.proofs.Ends.{put_edges}
 use Rattle.dcel_delaunay.proofs.placing.put_in_face.Goals as goal
 
 pub returns-in_default-clause-refused : goal.returns-in_default-clause-refused
 returns-in_default-clause-refused g c = (
   subst (MayRefuse c.args.dcel.now.shape) (sym c.take_back.ensures.answer) tt,
-  put_back c.args.dcel.now _ _ _ c.args.point _ c.every_mesh.ensures c.requires.sound.closed c.in_ok-vertex.ensures.edit
+  put_back c.args.dcel.now _ _ _ c.args.point _ c.every_mesh.ensures c.requires.triangulated.closed c.in_ok-vertex.ensures.edit
       c.in_ok-vertex.ensures.answer c.in_default.ensures.refused c.take_back.ensures.edit,
 )
 
-pub returns-in_default-clause-sound : goal.returns-in_default-clause-sound
-returns-in_default-clause-sound g c =
-    as_it_was c.args.dcel.now _ c.args.due.now.items _
-    (put_back c.args.dcel.now _ _ _ c.args.point _ c.every_mesh.ensures c.requires.sound.closed c.in_ok-vertex.ensures.edit
+pub returns-in_default-clause-triangulated : goal.returns-in_default-clause-triangulated
+returns-in_default-clause-triangulated g c =
+    stays_triangulated c.args.dcel.now _
+    (put_back c.args.dcel.now _ _ _ c.args.point _ c.every_mesh.ensures c.requires.triangulated.closed c.in_ok-vertex.ensures.edit
     c.in_ok-vertex.ensures.answer c.in_default.ensures.refused c.take_back.ensures.edit)
-    c.reserve.ensures.items c.requires.sound
+    c.requires.triangulated
 
-pub returns-clause-sound : goal.returns-clause-sound
-returns-clause-sound g c =
+pub returns-in_default-clause-lists : goal.returns-in_default-clause-lists
+returns-in_default-clause-lists g c =
+    stays_listed c.args.dcel.now _ c.args.due.now.items _
+    (put_back c.args.dcel.now _ _ _ c.args.point _ c.every_mesh.ensures c.requires.triangulated.closed c.in_ok-vertex.ensures.edit
+    c.in_ok-vertex.ensures.answer c.in_default.ensures.refused c.take_back.ensures.edit)
+    c.reserve.ensures.items
+
+pub returns-clause-triangulated : goal.returns-clause-triangulated
+returns-clause-triangulated g c =
+    let old = c.args.dcel.now in
+    put_holds (λ m. IsTriangulated m) (λ m v h e f. vertex_inserted m v c.args.face h e f) _ _ _ 3 2 old _ _ c.args.point _
+    (λ h e f mid done. inserted-triangulated old c.every_mesh.ensures c.args.point mid h e f c.args.face c.requires.triangulated c.requires.inner c.requires.triangle c.requires.inside)
+    c.in_ok-vertex.ensures.edit c.in_ok-vertex.ensures.answer c.in-Ok.ensures.edit c.in_ok-vertex.ensures.mesh c.insert_into_triangle.ensures.mesh
+
+pub returns-clause-edges : goal.returns-clause-edges
+returns-clause-edges g c =
+    put_edges (λ m v h e f. vertex_inserted m v c.args.face h e f) (λ m v. _) (λ m v h e f. (refl, refl)) _ _ _ 3 2 c.args.dcel.now _ _ c.args.point _ c.every_mesh.ensures
+    c.in_ok-vertex.ensures.edit c.in-Ok.ensures.edit
+
+pub returns-clause-lists : goal.returns-clause-lists
+returns-clause-lists g c =
     let old = c.args.dcel.now in
     let due = c.args.due.now.items in
-    put_sound (λ m v h e f. vertex_inserted m v c.args.face h e f) _ _ _ 3 2 old _ _ c.args.point _ due (edges_inserted old c.args.face) _
-    (λ h e f mid done. inserted-sound old c.every_mesh.ensures c.args.point due c.requires.sound mid h e f c.args.face c.requires.inner c.requires.triangle c.requires.inside done)
+    put_lists (λ m v h e f. vertex_inserted m v c.args.face h e f) _ _ _ 3 2 old _ _ c.args.point _ due (edges_inserted old c.args.face) _
+    (λ lacking h e f mid done. inserted-lists old c.every_mesh.ensures c.args.point mid h e f c.args.face (due ++ lacking) c.requires.triangle c.requires.inside done)
     c.in_ok-vertex.ensures.edit c.in_ok-vertex.ensures.answer c.in-Ok.ensures.edit c.in_ok-vertex.ensures.mesh c.insert_into_triangle.ensures.mesh
     (rw (
       c.push_reserved-3.ensures.items,
@@ -41,7 +61,7 @@ returns-clause-sound g c =
 pub returns-clause-gains : goal.returns-clause-gains
 returns-clause-gains g c =
     put_gains (λ m v h e f. vertex_inserted m v c.args.face h e f) (λ m closed v h e f. inserted-keeps m closed v c.args.face h e f) _ _ _ 3 2 c.args.dcel.now _ _ c.args.point _
-    c.requires.sound.closed c.in_ok-vertex.ensures.edit c.in_ok-vertex.ensures.answer c.in-Ok.ensures.edit
+    c.requires.triangulated.closed c.in_ok-vertex.ensures.edit c.in_ok-vertex.ensures.answer c.in-Ok.ensures.edit
 
 pub push_reserved-requires-3 : goal.push_reserved-requires-3
 push_reserved-requires-3 g c = grind (arith, common_steps)
@@ -50,5 +70,5 @@ pub returns-clause-hull : goal.returns-clause-hull
 returns-clause-hull g c =
     let old = c.args.dcel.now in
     put_holds (λ m. HasHull m) (λ m v h e f. vertex_inserted m v c.args.face h e f) _ _ _ 3 2 old _ _ c.args.point _
-    (λ h e f mid done. inserted-hull old c.every_mesh.ensures c.args.point c.args.due.now.items c.requires.sound c.requires.hull mid h e f c.args.face c.requires.inner c.requires.triangle c.requires.inside done)
+    (λ h e f mid done. inserted-hull old c.every_mesh.ensures c.args.point c.requires.triangulated c.requires.hull mid h e f c.args.face c.requires.inner c.requires.triangle c.requires.inside done)
     c.in_ok-vertex.ensures.edit c.in_ok-vertex.ensures.answer c.in-Ok.ensures.edit c.in_ok-vertex.ensures.mesh c.insert_into_triangle.ensures.mesh

@@ -1,7 +1,7 @@
-use Rattle.std.proofs.Common.{◌≡◌, ◌≢◌, ℕ, List, inl, arith, sym, subst}
+use Rattle.std.proofs.Common.{◌≡◌, ◌≢◌, ℕ, List, [], inl, arith, sym, subst}
 use Rattle.dcel_delaunay.specs.Growing.{IsSound}
 use Rattle.dcel_maps.specs.Shapes.{face_count}
-use Rattle.dcel_delaunay.proofs.Lost.{kept_from, lost_from, same_count}
+use Rattle.dcel_delaunay.proofs.Lost.{kept_from, lost_from, same_count, still_done}
 use Rattle.dcel_delaunay.proofs.Recovered.{whole_again}
 use Rattle.dcel_delaunay.proofs.Whole.{flat_alone, hull_more, way_either}
 use Rattle.dcel_delaunay.proofs.triangulation.Triangulation.remove.Goals as goal
@@ -45,4 +45,6 @@ returns-clause-refuses g c =
     let old = c.args.self.now.dcel in
     let mid = c.finish.new.self.dcel in
     kept_from old mid c.remove_from_triangles.new.dcel c.args.vertex c.finish.ensures.points
-    (same_count old mid c.every_mesh.ensures c.every_mesh-2.ensures c.finish.ensures.points) c.finish.ensures.same c.remove_from_triangles.result c.remove_from_triangles.ensures.refused
+    (same_count old mid c.every_mesh.ensures c.every_mesh-2.ensures c.finish.ensures.points) c.finish.ensures.same
+    (c.remove_from_triangles.new.due.items ≡ []) c.remove_from_triangles.result c.remove_from_triangles.ensures.refused
+    (still_done c.finish.new.self.due.items c.remove_from_triangles.new.due.items c.remove_from_triangles.result c.in-Ok.ensures.whole c.remove_from_triangles.ensures.due)

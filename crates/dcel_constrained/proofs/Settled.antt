@@ -1,0 +1,220 @@
+-- What an insertion among constraints leaves, step by step.
+use Rattle.std.proofs.Common.{◌≡◌, ◌≢◌, ◌⊎◌, inl, inr, ℕ, ◌*◌, ◌+◌, ◌/◌, ◌<◌, List, [], ◌∷◌, ◌++◌, Result, Ok, Err, IfErr, IfOk, OnErr, refl, sym, ap, ◌∙◌, subst, arith}
+use Rattle.dcel_fixed.proofs.Halves.{rev-double}
+use mathlib.Core.Logic.{∥∥₁_map}
+use Rattle.dcel_predicates.specs.declared.point.Point.{Point}
+use Rattle.dcel_maps.specs.Removals.{Closed}
+use Rattle.dcel_maps.specs.Shapes.{IsMesh, Mesh, end_of, origin_of}
+use Rattle.dcel_maps.proofs.Liveness.{closed-live}
+use Rattle.dcel_maps.proofs.words.Counts.{in_either}
+use Rattle.dcel_plane.specs.Plane.{point_at}
+use Rattle.dcel_delaunay.specs.Edges.{KeepsEdgeData, KeepsEnds, KeepsStarts}
+use Rattle.dcel_delaunay.specs.Growing.{Gains, HasHull, HasOutside, Inserts, IsFlat, IsPutAt, IsTriangulated, Keeps, KeepsListed, Refuses}
+use Rattle.dcel_delaunay.specs.Places.{IsPlace}
+use Rattle.dcel_delaunay.specs.declared.errors.InsertionError.{InsertionError}
+use Rattle.dcel_delaunay.specs.declared.position.PositionInTriangulation.{PositionInTriangulation}
+use Rattle.dcel_delaunay.specs.declared.position.PositionInTriangulation.TheVariants.{BeyondLine, NoTriangulation, OnEdge, OnFace, OnVertex, OutsideOfConvexHull}
+use Rattle.dcel_delaunay.proofs.Growth.{gains-keeps}
+use Rattle.dcel_delaunay.proofs.Recovered.{either_again}
+use Rattle.dcel_regions.specs.Marked.{IsMarked}
+use Rattle.dcel_regions.specs.declared.mark.Mark.{Mark}
+use Rattle.dcel_regions.specs.declared.mark.Mark.TheVariants.{Free}
+use Rattle.dcel_constrained.specs.Constraints.{IsPartOf, LiesOnSegment, TurnsFree}
+use Rattle.dcel_constrained.specs.Soundness.{IsConstrained}
+use Rattle.dcel_constrained.specs.Splitting.{IsPutIn, KeepsConstraints, SplitsMarked, StaysMarked}
+use Rattle.dcel_constrained.proofs.Added.{points_before, splits_none, starts_marked}
+use Rattle.dcel_constrained.proofs.Free.{end_kept, free_keeps, free_kept, kept_unmarked, start_kept}
+use Rattle.dcel_constrained.proofs.Laid.{keeps_both, keeps_none, points_stay}
+use Rattle.dcel_constrained.proofs.Marking.{marked_below}
+use Rattle.dcel_constrained.proofs.Marks.{listed_marked, marked_edges, to_circled}
+use Rattle.dcel_constrained.proofs.Splits.{IsAsWas, constraints_kept}
+
+module _ {DE F : Type 0} where
+  pub triangulated_of : (m : Mesh Point DE Mark F) (due : List ℕ) → IsConstrained m due → IsTriangulated m
+  triangulated_of m due sound = record { closed = sound.closed; joined = sound.joined; triangles = sound.triangles; plane = sound.plane }
+
+  -- where each edge that is to be looked at is listed, and none is freed
+  pub constrained_put : (old new : Mesh Point DE Mark F) (due items : List ℕ) → IsConstrained old due → IsTriangulated new → KeepsListed old new due items
+      → ((u : ℕ) → IsMarked old u → IsMarked new u) → IsConstrained new items
+  constrained_put old new due items sound triangulated lists marked = record {
+    closed = triangulated.closed;
+    joined = triangulated.joined;
+    triangles = triangulated.triangles;
+    plane = triangulated.plane;
+    listed = λ u inner circled free. elim (in_either u items (marked_edges old) (lists (marked_edges old) (to_circled old due sound.listed) u inner circled)) [
+      | inl there ↦ there
+      | inr before ↦ absurd (free (marked u (listed_marked old u before)))
+    ];
+  }
+
+  -- steps that neither mark nor free an edge
+  pub stays_none : (m : Mesh Point DE Mark F) → StaysMarked m m
+  stays_none m = record { keeps = keeps_none m; only = λ u marked. marked; points = refl }
+
+  pub stays_both : (old mid new : Mesh Point DE Mark F) → StaysMarked old mid → StaysMarked mid new → StaysMarked old new
+  stays_both old mid new first second = record {
+    keeps = keeps_both old mid new first.keeps second.keeps;
+    only = λ u marked. first.only u (second.only u marked);
+    points = second.points ∙ first.points;
+  }
+
+  pub stays_free : (old new : Mesh Point DE Mark F) → TurnsFree old new → StaysMarked old new
+  stays_free old new turns =
+      let kept = free_kept old new turns in record { keeps = free_keeps old new turns; only = kept_unmarked old new kept; points = kept.points }
+
+  pub keeps_free : (old new : Mesh Point DE Mark F) → old.shape.removal ≡ Closed → TurnsFree old new → Keeps old new
+  keeps_free old new closed turns =
+      let kept = free_kept old new turns in
+      record { closed = kept.removal ∙ closed; vertices = kept.vertices; points = kept.points; edges = omega (arith, kept.edges) }
+
+  module _ (old mid new : Mesh Point DE Mark F) where
+    -- a step before others
+    module _ (stays : StaysMarked old mid) (mesh : IsMesh old) (mesh_then : IsMesh mid) (closed : mid.shape.removal ≡ Closed) where
+      stays_each : (h : ℕ) → IsMarked old (h / 2) → IsAsWas old mid h
+      stays_each h marked =
+          let still = stays.keeps.marked (h / 2) marked in
+          record {
+            leads = record {
+              live = closed-live mid.shape closed (h / 2) (marked_below mid mesh_then (h / 2) still);
+              start = start_kept old mid stays.keeps h marked;
+              end = end_kept old mid stays.keeps h marked;
+            };
+            marked = still;
+          }
+
+      constraints_stay : KeepsConstraints old mid
+      constraints_stay =
+          constraints_kept old mid mesh (λ v below. ap (λ (at : ℕ → Point). at v) (points_stay old mid stays.points)) (λ h live marked. inl (stays_each h marked))
+
+      part_before : (h u : ℕ) → IsMarked old (h / 2) → IsPartOf new (origin_of mid.shape h) (end_of mid.shape h) u → IsPartOf new (origin_of old.shape h) (end_of old.shape h) u
+      part_before h u was part =
+          subst (λ (v : ℕ). IsPartOf new v (end_of old.shape h) u) (start_kept old mid stays.keeps h was)
+          (subst (λ (w : ℕ). IsPartOf new (origin_of mid.shape h) w u) (end_kept old mid stays.keeps h was) part)
+
+      pub stays_splits : SplitsMarked mid new → SplitsMarked old new
+      stays_splits splits = record {
+        marked = λ u marked. splits.marked u (stays.keeps.marked u marked);
+        own = λ u marked.
+            (let half : 2 * u / 2 ≡ u = omega arith in
+            part_before (2 * u) u (subst (IsMarked old) (sym half) marked) (splits.own u (stays.keeps.marked u marked)));
+        constraints = λ v w has. splits.constraints v w (constraints_stay v w has);
+        parts = λ u marked.
+            (let found = splits.parts u marked in
+            let was = stays.only (found.0 / 2) found.1 in
+            (found.0, was, part_before found.0 u was found.2));
+      }
+
+  -- where no other step follows
+  pub splits_alone : (old new : Mesh Point DE Mark F) → StaysMarked old new → IsMesh old → IsMesh new → new.shape.removal ≡ Closed → SplitsMarked old new
+  splits_alone old new stays mesh mesh_then closed = record {
+    marked = stays.keeps.marked;
+    own = own;
+    constraints = constraints_stay old new new stays mesh mesh_then closed;
+    parts = λ u marked.
+        (let was = stays.only u marked in
+        let half : 2 * u / 2 ≡ u = omega arith in
+        (2 * u, subst (IsMarked old) (sym half) was, own u was));
+  }
+    where
+      own : (u : ℕ) → IsMarked old u → IsPartOf new (origin_of old.shape (2 * u)) (end_of old.shape (2 * u)) u
+      own u was = record { from = inl (stays.keeps.from u was); to = inr (inl (stays.keeps.to u was ∙ ap (origin_of old.shape) (sym (rev-double u)))) }
+
+  -- or after them
+  pub splits_stays : (old mid new : Mesh Point DE Mark F) → SplitsMarked old mid → StaysMarked mid new → IsMesh mid → IsMesh new → new.shape.removal ≡ Closed → SplitsMarked old new
+  splits_stays old mid new splits stays mesh mesh_then closed = record {
+    marked = λ u marked. stays.keeps.marked u (splits.marked u marked);
+    own = λ u marked. part_stays (origin_of old.shape (2 * u)) (end_of old.shape (2 * u)) u (splits.marked u marked) (splits.own u marked);
+    constraints = λ v w has. constraints_stay mid new new stays mesh mesh_then closed v w (splits.constraints v w has);
+    parts = λ u marked.
+        (let was = stays.only u marked in
+        let found = splits.parts u was in
+        (found.0, found.1, part_stays (origin_of old.shape found.0) (end_of old.shape found.0) u was found.2));
+  }
+    where
+      part_stays : (v w u : ℕ) → IsMarked mid u → IsPartOf mid v w u → IsPartOf new v w u
+      part_stays v w u marked part =
+          let same = points_stay mid new stays.points in
+          record {
+            from =
+                subst (λ (at : ℕ → Point). LiesOnSegment at v w (origin_of new.shape (2 * u))) (sym same)
+                (subst (LiesOnSegment (point_at mid) v w) (sym (stays.keeps.from u marked)) part.from);
+            to =
+                subst (λ (at : ℕ → Point). LiesOnSegment at v w (origin_of new.shape (2 * u + 1))) (sym same)
+                (subst (LiesOnSegment (point_at mid) v w) (sym (stays.keeps.to u marked)) part.to);
+          }
+
+  -- what a point put in leaves of the vertices
+  pub points_put : (old new : Mesh Point DE Mark F) (due items : List ℕ) (position : PositionInTriangulation) (p : Point) (t : ℕ) → IsMesh old
+      → IsPutAt old new due items position p t → (v : ℕ) → v < old.shape.vertices → point_at new v ≡ point_at old v
+  points_put old new due items position p t mesh (inl same) v below = ap (λ (m : Mesh Point DE Mark F). point_at m v) same.1
+  points_put old new due items position p t mesh (inr gains) v below = points_before old new p t mesh gains v below
+
+  pub points_refused : (old new : Mesh Point DE Mark F) (p : Point) (e : InsertionError) → IsMesh old → Refuses old new p e → (v : ℕ) → v < old.shape.vertices
+      → point_at new v ≡ point_at old v
+  points_refused old new p e mesh (inl same) v below = ap (λ (m : Mesh Point DE Mark F). point_at m v) same.1
+  points_refused old new p e mesh (inr gains) v below = points_before old new p old.shape.vertices mesh gains.1 v below
+
+  -- beside an edge none is split
+  pub starts_beside : (old new : Mesh Point DE Mark F) (position : PositionInTriangulation) (t : ℕ) → ((h : ℕ) → position ≢ OnEdge h) → KeepsEnds old new position t → KeepsStarts old new
+  starts_beside old new (OnVertex v) t beside kept = kept
+  starts_beside old new (OnFace f) t beside kept = kept
+  starts_beside old new (OnEdge h) t beside kept = absurd (beside h refl)
+  starts_beside old new (OutsideOfConvexHull h) t beside kept = kept
+  starts_beside old new (BeyondLine v) t beside kept = kept
+  starts_beside old new NoTriangulation t beside kept = kept
+
+  -- on an edge a vertex is new
+  pub gains_on : (old new : Mesh Point DE Mark F) (due items : List ℕ) (h : ℕ) (p : Point) (t : ℕ) → IsPutAt old new due items (OnEdge h) p t → Gains old new p t
+  gains_on old new due items h p t (inl same) = absurd (let not = same.0 in cc)
+  gains_on old new due items h p t (inr gains) = gains
+
+  pub put_beside_edges : (old new : Mesh Point DE Mark F) (due items : List ℕ) (position : PositionInTriangulation) (p : Point) (t : ℕ) → IsPlace old p position
+      → IsPutAt old new due items position p t → IsPutIn old new due items p t
+  put_beside_edges old new due items position p t place (inl same) = inl (subst (IsPlace old p) same.0 place, same.1, same.2)
+  put_beside_edges old new due items position p t place (inr gains) = inr gains
+
+  module _ (old new : Mesh Point DE Mark F) (is_free : Mark → Type 0) (free : (x : Mark) → is_free x → x ≡ Free) (added : KeepsEdgeData is_free old new) (mesh : IsMesh old)
+      (mesh_after : IsMesh new) (closed : new.shape.removal ≡ Closed) (starts : KeepsStarts old new) where
+    pub splits_beside : ((v : ℕ) → v < old.shape.vertices → point_at new v ≡ point_at old v) → SplitsMarked old new
+    splits_beside points =
+        splits_none old new is_free free added mesh mesh_after closed (starts_marked old new is_free free added mesh mesh_after closed starts) points
+
+  -- the insertion as a whole
+  pub put_whole : (old new : Mesh Point DE Mark F) (due items : List ℕ) (p : Point) (t : ℕ) → IsPutIn old new due items p t → Inserts old new p t
+  put_whole old new due items p t (inl same) = inl (same.0, same.1)
+  put_whole old new due items p t (inr gains) = inr gains
+
+  pub put_then : (old mid new : Mesh Point DE Mark F) (due items : List ℕ) (p : Point) (t : ℕ) → due ≡ [] → items ≢ [] → IsPutIn old mid due items p t → Keeps mid new → Gains old new p t
+  put_then old mid new due items p t none some (inl same) keeps = absurd (some (same.2 ∙ none))
+  put_then old mid new due items p t none some (inr gains) keeps = gains-keeps old mid new p t gains keeps
+
+  -- where nothing is left to be done, the hull is closed
+  outlined_whole : (m : Mesh Point DE Mark F) (due : List ℕ) → HasOutside m due → due ≡ [] → IsFlat m ⊎ HasHull m
+  outlined_whole m due (inl flat) none = inl flat
+  outlined_whole m due (inr (inl has)) none = inr has
+  outlined_whole m due (inr (inr opened)) none = absurd (opened.0 none)
+
+  pub outlined_again : (m : Mesh Point DE Mark F) (due : List ℕ) → ∥ HasOutside m due ∥₁ → due ≡ [] → IsFlat m ⊎ HasHull m
+  outlined_again m due known none = either_again m (∥∥₁_map known (λ is. outlined_whole m due is none))
+
+  -- where more is to be looked at, the hull may be open still
+  pub outside_more : (m : Mesh Point DE Mark F) (due : List ℕ) (u : ℕ) → HasOutside m due → HasOutside m (due ++ u ∷ [])
+  outside_more m due u (inl flat) = inl flat
+  outside_more m due u (inr (inl has)) = inr (inl has)
+  outside_more m [] u (inr (inr opened)) = absurd (opened.0 refl)
+  outside_more m (x ∷ due) u (inr (inr opened)) = inr (inr ((λ none. cc), opened.1))
+
+  -- a point put in, or refused
+  module _ (old new : Mesh Point DE Mark F) (due items : List ℕ) (position : PositionInTriangulation) (p : Point) where
+    pub put_result : (r : Result ℕ InsertionError) → IsPlace old p position → IfOk r (IsPutAt old new due items position p) → IfOk r (IsPutIn old new due items p)
+    put_result (Ok t) place put = put_beside_edges old new due items position p t place put
+    put_result (Err e) place put = put
+
+    pub starts_result : (r : Result ℕ InsertionError) → ((h : ℕ) → position ≢ OnEdge h) → IfOk r (KeepsEnds old new position) → OnErr r (KeepsStarts old new) → KeepsStarts old new
+    starts_result (Ok t) beside ends starts = starts_beside old new position t beside ends
+    starts_result (Err e) beside ends starts = starts
+
+    pub points_result : (r : Result ℕ InsertionError) → IsMesh old → IfOk r (IsPutAt old new due items position p) → IfErr r (Refuses old new p) → (v : ℕ)
+        → v < old.shape.vertices → point_at new v ≡ point_at old v
+    points_result (Ok t) mesh put refuses = points_put old new due items position p t mesh put
+    points_result (Err e) mesh put refuses = points_refused old new p e mesh refuses

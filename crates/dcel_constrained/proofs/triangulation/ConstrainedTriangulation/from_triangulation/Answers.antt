@@ -1,0 +1,27 @@
+use Rattle.std.proofs.Common.{◌≡◌, rules}
+use Rattle.dcel_delaunay.specs.Growing.{IsTriangulation}
+use Rattle.dcel_delaunay.specs.Triangulated.{mesh_in}
+use Rattle.dcel_delaunay.proofs.Recovered.{whole_again}
+use Rattle.dcel_delaunay.proofs.Whole.{either_outside}
+use Rattle.dcel_constrained.proofs.Copied.{copied_outline, copied_sound, none_marked}
+use Rattle.dcel_constrained.proofs.triangulation.ConstrainedTriangulation.from_triangulation.Goals as goal
+
+pub invariant_of-result-clause-sound : goal.invariant_of-result-clause-sound
+invariant_of-result-clause-sound g c =
+    let t = c.args.triangulation.now in
+    let whole : IsTriangulation (mesh_in t) = whole_again t.dcel t.due.items t.under_way t.sound c.requires.whole in
+    let shape : c.in-Ok.dcel.shape ≡ (mesh_in t).shape = search rules in
+    let points : c.in-Ok.dcel.vertex_data ≡ (mesh_in t).vertex_data = search rules in
+    copied_sound (mesh_in t) c.in-Ok.dcel shape points c.new-due.result.items whole
+
+pub invariant_of-result-clause-outlined : goal.invariant_of-result-clause-outlined
+invariant_of-result-clause-outlined g c =
+    let t = c.args.triangulation.now in
+    let whole : IsTriangulation (mesh_in t) = whole_again t.dcel t.due.items t.under_way t.sound c.requires.whole in
+    let shape : c.in-Ok.dcel.shape ≡ (mesh_in t).shape = search rules in
+    let points : c.in-Ok.dcel.vertex_data ≡ (mesh_in t).vertex_data = search rules in
+    ∣ either_outside c.in-Ok.dcel c.new-due.result.items (copied_outline (mesh_in t) c.in-Ok.dcel shape points whole) ∣₁
+
+pub returns-clause-free : goal.returns-clause-free
+returns-clause-free g c u marked =
+    none_marked _ (λ x k is. is) c.in_ok-copy.copy.undirected_data c.in-Ok.dcel.undirected_data c.in-Ok.ensures.answered u marked

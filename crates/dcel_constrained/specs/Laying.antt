@@ -1,0 +1,34 @@
+-- A segment on its way to be one of marked edges.
+use Rattle.std.specs.Prelude.{◌≡◌, ◌⊎◌, ◌↔◌, ℕ, ◌<◌, ◌/◌, Bool, IsTrue}
+use Rattle.dcel_predicates.specs.declared.point.Point.{Point}
+use Rattle.dcel_maps.specs.Shapes.{Mesh}
+use Rattle.dcel_maps.specs.Walking.{Leads}
+use Rattle.dcel_plane.specs.Plane.{point_at}
+use Rattle.dcel_regions.specs.Marked.{IsMarked}
+use Rattle.dcel_regions.specs.declared.mark.Mark.{Mark}
+use Rattle.dcel_constrained.specs.Constraints.{KeepsMarked}
+use Rattle.dcel_constrained.specs.Meeting.{LiesBetween}
+use Rattle.dcel_constrained.specs.declared.laying.Part.{Part}
+use Rattle.dcel_constrained.specs.declared.laying.Part.TheVariants.{Between, Laid}
+
+module _ {DE F : Type 0} where
+  -- the vertices stand where they stood, there are as many edges, the marked ones still are, and another one is marked only if it joins v and w
+  pub record MarksBetween (old new : Mesh Point DE Mark F) (v w : ℕ) : Type 0 where
+    pub vertices : new.shape.vertices ≡ old.shape.vertices
+    pub edges : new.shape.edges ≡ old.shape.edges
+    pub points : new.vertex_data ≡ old.vertex_data
+    pub keeps : KeepsMarked old new
+    pub only : (u : ℕ) → IsMarked new u → IsMarked old u ⊎ ((h : ℕ) × Leads new.shape v w h × (h / 2 ≡ u))
+
+  -- a marked edge joins v and w, the only one that may not have been marked
+  pub record IsLaid (old new : Mesh Point DE Mark F) (v w : ℕ) (is_new : Bool) : Type 0 where
+    pub half : ℕ
+    pub leads : Leads new.shape v w half
+    pub marked : IsMarked new (half / 2)
+    pub only : (u : ℕ) → IsMarked new u → IsMarked old u ⊎ (half / 2 ≡ u)
+    pub added : IsTrue is_new ↔ (¬ IsMarked old (half / 2))
+
+  -- a marked edge joins v and w; or a vertex lies between them, and nothing has changed
+  abbrev pub IsPart : Mesh Point DE Mark F → Mesh Point DE Mark F → ℕ → ℕ → Part → Type 0
+  IsPart old new v w (Laid is_new) = IsLaid old new v w is_new
+  IsPart old new v w (Between y) = (new ≡ old) × (y < old.shape.vertices) × LiesBetween (point_at old) v w y

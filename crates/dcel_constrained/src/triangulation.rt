@@ -1,0 +1,33 @@
+//! A constrained triangulation of points.
+
+ghost use Rattle.std.specs.Prelude.{◌≡◌, []};
+ghost use Rattle.dcel_delaunay.specs.Growing.{HasOutside};
+ghost use Rattle.dcel_constrained.specs.Soundness.{IsConstrained};
+
+use crate::mesh::ConstrainedMesh;
+use spade_dcel::handles::{FixedDirectedEdgeHandle, FixedUndirectedEdgeHandle};
+use std::alloc::{Allocator, Global};
+
+/// A constrained Delaunay triangulation of points: some edges are marked, and have to stay.
+///
+/// It begins as a Delaunay triangulation in which none is
+/// ([`from_triangulation`](Self::from_triangulation)). [`add_constraint`](Self::add_constraint)
+/// makes the segment between two vertices one of marked edges, [`insert`](Self::insert) puts in a
+/// point, and [`remove_constraint_edge`](Self::remove_constraint_edge) frees an edge. Vertices stay
+/// where they are.
+///
+/// Its mesh ([`dcel`](Self::dcel)) is a triangulation of the points, and Delaunay but for the marked
+/// edges, if it is whole ([`is_whole`](Self::is_whole)). One that is not whole, as memory ran out
+/// while it was changed, has a vertex for each point and keeps its constraints too, and
+/// [`finish`](Self::finish) makes it whole.
+#[derive(Drop)]
+pub struct ConstrainedTriangulation<A: Allocator = Global> {
+    pub(crate) dcel: ConstrainedMesh<A>,
+    // Edges that are still to be looked at: none, unless memory ran out.
+    pub(crate) due: Vec<FixedUndirectedEdgeHandle, A>,
+    // Room for the half edges that a segment crosses: none between calls.
+    pub(crate) crossed: Vec<FixedDirectedEdgeHandle, A>,
+    ghost sound: { IsConstrained dcel due.items },
+    ghost outlined: { ∥ HasOutside dcel due.items ∥₁ },
+    ghost empty: { crossed.items ≡ [] },
+}

@@ -1,0 +1,135 @@
+//! Points that are to be joined, read from lines.
+
+use crate::fault::{Fault, Wrong};
+use crate::reading::{in_file, two_words};
+use crate::removal::number_of;
+use dcel_programs::{before_comment, numbered_lines, read_text};
+use std::alloc::{AllocError, Global};
+use std::rt::Files;
+
+/// Two points that are to be joined, by their numbers.
+#[derive(Clone, Copy)]
+pub struct Join {
+    /// The first.
+    pub from: usize,
+    /// The second.
+    pub to: usize,
+    /// The line that says so.
+    pub line: usize,
+}
+
+/// What a file of joins has in each line.
+#[derive(Clone, Copy, PartialEq, Eq)]
+pub enum Form {
+    /// Two points.
+    Pairs,
+    /// The points of a closed curve.
+    Curves,
+}
+
+/// Reads the joins that a file says, of so many points.
+pub fn read_joins(
+    rt: &(impl Files + Input + AllocGlobal),
+    path: &str,
+    form: Form,
+    count: usize,
+) -> Result<Vec<Join>, Fault> {
+    let text = read_text(rt, Some(path))?;
+    joins_of(rt.alloc(), &text, form, count).map_err(|fault| in_file(rt.alloc(), Some(path), fault))
+}
+
+/// Returns the joins that lines say.
+fn joins_of(alloc: Global, text: &str, form: Form, count: usize) -> Result<Vec<Join>, Fault> {
+    let mut joins = Vec::new(alloc);
+    for (line, said) in numbered_lines(text) {
+        let words = before_comment(said).trim_ascii();
+        if words.is_empty() {
+            continue;
+        }
+        match form {
+            Form::Pairs => joins.push(pair(words, line, count)?)?,
+            Form::Curves => add_sides(&mut joins, &corners(alloc, words, line, count)?, line)?,
+        }
+    }
+    Ok(joins)
+}
+
+/// Returns the join of the two points that a line has.
+fn pair(words: &str, line: usize, count: usize) -> Result<Join, Fault> {
+    let (from, to) = two_words(words).map_err(|_wrong| Fault::Line {
+        line,
+        wrong: Wrong::NoPair,
+    })?;
+    let from = point(from, Wrong::NoPair, count).map_err(|wrong| Fault::Line { line, wrong })?;
+    let to = point(to, Wrong::NoPair, count).map_err(|wrong| Fault::Line { line, wrong })?;
+    join_of(from, to, line)
+}
+
+/// Returns the join of two points.
+fn join_of(from: usize, to: usize, line: usize) -> Result<Join, Fault> {
+    if from == to {
+        return Err(Fault::Line {
+            line,
+            wrong: Wrong::OnePoint,
+        });
+    }
+    Ok(Join { from, to, line })
+}
+
+/// Returns the number of one of so many points that a word says, or what is wrong with it.
+fn point(word: &str, none: Wrong, count: usize) -> Result<usize, Wrong> {
+    let number = number_of(word).ok_or(none)?;
+    if number < count {
+        Ok(number)
+    } else {
+        Err(Wrong::NoPoint)
+    }
+}
+
+/// Returns the points of a closed curve, with blanks, commas or both between them.
+fn corners(alloc: Global, words: &str, line: usize, count: usize) -> Result<Vec<usize>, Fault> {
+    let mut corners = Vec::new(alloc);
+    for part in words.split(',') {
+        add_corners(&mut corners, part, line, count)?;
+    }
+    if corners.len() < 3 {
+        return Err(Fault::Line {
+            line,
+            wrong: Wrong::FewCorners,
+        });
+    }
+    Ok(corners)
+}
+
+/// Adds the points between two commas, of which there is one at least.
+fn add_corners(
+    corners: &mut Vec<usize>,
+    part: &str,
+    line: usize,
+    count: usize,
+) -> Result<(), Fault> {
+    let before = corners.len();
+    for word in part.split_ascii_whitespace() {
+        let corner = point(word, Wrong::NoCorner, count).map_err(|wrong| Fault::Line {
+            line,
+            wrong,
+        })?;
+        corners.push(corner)?;
+    }
+    if corners.len() == before {
+        return Err(Fault::Line {
+            line,
+            wrong: Wrong::NoCorner,
+        });
+    }
+    Ok(())
+}
+
+/// Adds the joins of each point of a closed curve to the next one, and of the last to the first.
+fn add_sides(joins: &mut Vec<Join>, corners: &[usize], line: usize) -> Result<(), Fault> {
+    let ends = corners.iter().skip(1).chain(corners.iter().take(1));
+    for (from, to) in corners.iter().zip(ends) {
+        joins.push(join_of(*from, *to, line)?)?;
+    }
+    Ok(())
+}

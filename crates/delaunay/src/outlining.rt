@@ -1,0 +1,120 @@
+//! Triangles inside an outline.
+//!
+//! Inside are the triangles to which a way from outside crosses the sides of curves an odd number of
+//! times. So of the edges those count that an odd number of sides leads along: a side that two
+//! curves have in common parts nothing.
+
+use crate::fault::{Fault, Wrong};
+use crate::segments::Segment;
+use dcel_constrained::ConstrainedMesh;
+use dcel_predicates::{Point, Side, orientation};
+use dcel_regions::{Mark, regions};
+use spade_dcel::handles::{FixedDirectedEdgeHandle, FixedUndirectedEdgeHandle, FixedVertexHandle};
+use std::alloc::{AllocError, Global};
+
+/// Returns for each face which one it is of the triangles inside closed curves, if it is one. Each
+/// side of the curves has to be a chain of edges of the mesh.
+pub fn triangles_inside(
+    alloc: Global,
+    mesh: &ConstrainedMesh,
+    sides: &[Segment],
+) -> Result<Vec<Option<usize>>, Fault> {
+    let mut parted = freed(alloc, mesh)?;
+    turn_sides(&mut parted, sides)?;
+    let crossed = regions(&parted, alloc)?;
+    Ok(counted_if_odd(alloc, &crossed)?)
+}
+
+/// Returns the same mesh without a marked edge.
+fn freed(alloc: Global, mesh: &ConstrainedMesh) -> Result<ConstrainedMesh, AllocError> {
+    let copy = mesh.try_clone(alloc)?;
+    let Ok(freed) = copy.map_undirected_edges(alloc, |_mark: Mark| Mark::Free) else {
+        return Err(AllocError);
+    };
+    Ok(freed)
+}
+
+/// Turns over the marks of the edges along each side.
+fn turn_sides(mesh: &mut ConstrainedMesh, sides: &[Segment]) -> Result<(), Fault> {
+    for side in sides {
+        let line = side.line;
+        turn_each(mesh, side.from, side.to).map_err(|wrong| Fault::Line { line, wrong })?;
+    }
+    Ok(())
+}
+
+/// Turns over the mark of each edge on the way from one vertex straight to another.
+fn turn_each(
+    mesh: &mut ConstrainedMesh,
+    from: FixedVertexHandle,
+    to: FixedVertexHandle,
+) -> Result<(), Wrong> {
+    let mut at = from;
+    // On the way no vertex is met twice, so there are fewer edges than vertices.
+    for _ in 0..mesh.num_vertices() {
+        if at == to {
+            return Ok(());
+        }
+        let (edge, end) = edge_along(mesh, at, to).ok_or(Wrong::NoChain)?;
+        turn(mesh, edge.as_undirected())?;
+        at = end;
+    }
+    Err(Wrong::NoChain)
+}
+
+/// Marks an edge that is free, or frees it.
+fn turn(mesh: &mut ConstrainedMesh, edge: FixedUndirectedEdgeHandle) -> Result<(), Wrong> {
+    if edge.index() >= mesh.num_undirected_edges() {
+        return Err(Wrong::NoChain);
+    }
+    let turned = match *mesh.undirected_edge_data(edge) {
+        Mark::Free => Mark::Constraint,
+        Mark::Constraint => Mark::Free,
+    };
+    *mesh.undirected_edge_data_mut(edge) = turned;
+    Ok(())
+}
+
+/// Returns the edge out of a vertex that leads straight towards another one, and its end, if there is
+/// one.
+fn edge_along(
+    mesh: &ConstrainedMesh,
+    from: FixedVertexHandle,
+    to: FixedVertexHandle,
+) -> Option<(FixedDirectedEdgeHandle, FixedVertexHandle)> {
+    let start = mesh.get_vertex(from)?;
+    let goal = *mesh.get_vertex(to)?.data();
+    for edge in start.out_edges() {
+        if leads_to(*start.data(), *edge.to().data(), goal) {
+            return Some((edge.fix(), edge.to().fix()));
+        }
+    }
+    None
+}
+
+/// Returns whether the way from a place to another one leads straight towards a third.
+fn leads_to(start: Point, end: Point, goal: Point) -> bool {
+    orientation(start, end, goal) == Side::On
+        && is_same_way(start.x, end.x, goal.x)
+        && is_same_way(start.y, end.y, goal.y)
+}
+
+/// Returns whether two numbers lie on the same side of a first one, or are the same as it.
+fn is_same_way(start: i64, end: i64, goal: i64) -> bool {
+    (start < end) == (start < goal) && (end < start) == (goal < start)
+}
+
+/// Counts the odd ones among some numbers: for each that is odd how many there are before it.
+fn counted_if_odd(alloc: Global, numbers: &[usize]) -> Result<Vec<Option<usize>>, AllocError> {
+    let mut places = Vec::with_capacity(alloc, numbers.len())?;
+    let mut count = 0usize;
+    for number in numbers {
+        if number % 2 == 1 {
+            places.push(Some(count))?;
+            count = count.saturating_add(1);
+        } else {
+            places.push(None)?;
+        }
+    }
+    Ok(places)
+}
