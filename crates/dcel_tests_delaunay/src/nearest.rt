@@ -1,7 +1,6 @@
 //! Nearest vertices: on lines, in grids, seen from outside, and after a removal.
 
-use crate::places::Place;
-use crate::removals::numbered;
+use crate::places::{Place, numbered};
 use dcel_bench::checks::same;
 use dcel_bench::require;
 use dcel_delaunay::{Point, Triangulation, point};

@@ -1,7 +1,9 @@
-//! Points by their coordinates.
+//! Points by their coordinates, and triangulations of them.
 
-use dcel_delaunay::{Point, point};
-use std::alloc::Global;
+use dcel_circles::is_delaunay_triangulation;
+use dcel_delaunay::{Point, Triangulation, point};
+use spade_dcel::dcel::Dcel;
+use std::alloc::{Allocator, Global};
 use std::test::Fail;
 
 /// The coordinates of a point.
@@ -19,4 +21,33 @@ pub fn points_at(places: &[Place], alloc: Global) -> Result<Vec<Point>, Fail> {
         points.push(point(*x, *y)?)?;
     }
     Ok(points)
+}
+
+/// Inserts the points at these places.
+fn insert_at<A: Allocator>(
+    triangulation: &mut Triangulation<A>,
+    places: &[Place],
+) -> Result<(), Fail> {
+    for (x, y) in places {
+        triangulation.insert(point(*x, *y)?)?;
+    }
+    Ok(())
+}
+
+/// Returns a triangulation of the points at these places, whose vertices have their numbers.
+pub fn numbered<A: Allocator + Clone>(
+    places: &[Place],
+    memory: A,
+) -> Result<Triangulation<A>, Fail> {
+    let mut triangulation = Triangulation::new(memory)?;
+    insert_at(&mut triangulation, places)?;
+    Ok(triangulation)
+}
+
+/// Whether a mesh is a Delaunay triangulation, or a line or less where it has no triangle.
+pub fn is_right<UE, A: Allocator>(mesh: &Dcel<Point, (), UE, (), A>) -> bool {
+    if mesh.num_faces() == 1 {
+        return mesh.num_undirected_edges() == mesh.num_vertices().saturating_sub(1);
+    }
+    is_delaunay_triangulation(mesh)
 }

@@ -1,13 +1,13 @@
 //! Vertices removed from Delaunay triangulations, also with each request for memory refused in turn.
 
-use crate::places::{Place, points_at};
+use crate::places::{Place, is_right, numbered};
 use crate::triangulations::counts;
 use dcel_bench::checks::{holds, same};
+use dcel_bench::meshes::vertex;
 use dcel_bench::refusing::{Memory, Refusals, Refusing};
-use dcel_circles::is_delaunay_triangulation;
 use dcel_delaunay::{RemovalError, Removed, Triangulation, point};
 use spade_dcel::handles::FixedVertexHandle;
-use std::alloc::{Allocator, Global};
+use std::alloc::Global;
 use std::test::Fail;
 
 /// Points, the vertex that is removed, where it stands, which one gets its number, and the numbers of
@@ -166,39 +166,17 @@ const ON_A_LINE: [Row; 5] = [
     },
 ];
 
-/// Returns a triangulation of the points at these places, whose vertices have their numbers.
-pub fn numbered(places: &[Place], alloc: Global) -> Result<Triangulation, Fail> {
-    let mut triangulation = Triangulation::new(alloc)?;
-    for point in points_at(places, alloc)? {
-        triangulation.insert(point)?;
-    }
-    Ok(triangulation)
-}
-
-fn numbered_by(number: u32) -> FixedVertexHandle {
-    FixedVertexHandle::new(number as usize)
-}
-
-/// Whether what is left is a Delaunay triangulation, or a line or less where no triangle is left.
-fn is_right<A: Allocator>(triangulation: &Triangulation<A>) -> bool {
-    let mesh = triangulation.dcel();
-    if mesh.num_faces() == 1 {
-        return mesh.num_undirected_edges() == mesh.num_vertices().saturating_sub(1);
-    }
-    is_delaunay_triangulation(mesh)
-}
-
 fn check_row(row: &Row, alloc: Global) -> Result<(), Fail> {
     let mut triangulation = numbered(row.places, alloc)?;
     let (x, y) = row.place;
     let wanted = Removed {
         point: point(x, y)?,
-        moved: row.moved.map(numbered_by),
+        moved: row.moved.map(vertex),
     };
-    let removed = triangulation.remove(numbered_by(row.vertex));
+    let removed = triangulation.remove(vertex(row.vertex));
     same(removed, Ok(wanted), "what is removed")?;
     same(counts(&triangulation), row.left, "what is left")?;
-    holds(is_right(&triangulation), "a triangulation is left")
+    holds(is_right(triangulation.dcel()), "a triangulation is left")
 }
 
 #[test]
@@ -228,16 +206,16 @@ fn vertices_on_a_line_are_removed(rt: HostRuntime) -> Result<(), Fail> {
 #[test]
 fn vertices_that_are_not_there_are_refused(rt: HostRuntime) -> Result<(), Fail> {
     let mut triangulation = numbered(&HUB, rt.alloc())?;
-    let refused = triangulation.remove(numbered_by(9));
+    let refused = triangulation.remove(vertex(9));
     same(refused, Err(RemovalError::NoVertex), "why it is refused")?;
     same(counts(&triangulation), [9, 16, 8], "what is left")?;
     let mut empty = Triangulation::new(rt.alloc())?;
-    let refused = empty.remove(numbered_by(0));
+    let refused = empty.remove(vertex(0));
     same(refused, Err(RemovalError::NoVertex), "why it is refused")
 }
 
 /// Returns the points of a grid, row by row.
-pub fn grid(side: i64, alloc: Global) -> Result<Vec<Place>, Fail> {
+fn grid(side: i64, alloc: Global) -> Result<Vec<Place>, Fail> {
     let mut places = Vec::new(alloc);
     for x in 0..side {
         for y in 0..side {
@@ -251,7 +229,7 @@ pub fn grid(side: i64, alloc: Global) -> Result<Vec<Place>, Fail> {
 fn remove_one(triangulation: &mut Triangulation, vertex: FixedVertexHandle) -> Result<(), Fail> {
     let removed = triangulation.remove(vertex);
     holds(removed.is_ok(), "it is removed")?;
-    holds(is_right(triangulation), "a triangulation is left")
+    holds(is_right(triangulation.dcel()), "a triangulation is left")
 }
 
 #[test]
@@ -317,18 +295,15 @@ fn remove_refused<'a>(
     if let Err(error) = removed {
         remove_again(triangulation, vertex, count, error)?;
     }
-    holds(is_right(triangulation), "a triangulation is left")?;
+    holds(is_right(triangulation.dcel()), "a triangulation is left")?;
     Ok(came)
 }
 
 /// The same in a triangulation of its own.
 fn refuse(row: &Row, number: u64, alloc: Global) -> Result<bool, Fail> {
     let memory = Refusing::new(alloc);
-    let mut triangulation = Triangulation::new(&memory)?;
-    for point in points_at(row.places, alloc)? {
-        triangulation.insert(point)?;
-    }
-    remove_refused(&mut triangulation, &memory, numbered_by(row.vertex), number)
+    let mut triangulation = numbered(row.places, &memory)?;
+    remove_refused(&mut triangulation, &memory, vertex(row.vertex), number)
 }
 
 /// Refuses each request of a removal in turn, and checks that there are so many at least.

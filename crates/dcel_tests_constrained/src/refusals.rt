@@ -1,43 +1,36 @@
 //! Constrained triangulations changed with each request for memory refused in turn: what a refusal
 //! leaves, that the rest can be done later, and that the same call then does what it says.
 
-use crate::places::{Place, points_at};
+use crate::changes::{Ends, KITE, SQUARES, Watched, add, constrained, free, free_all, insert};
 use crate::seen::seen;
 use dcel_bench::checks::{holds, same};
-use dcel_bench::meshes::{undirected_edge, vertex};
+use dcel_bench::meshes::vertex;
 use dcel_bench::refusing::{Memory, Refusals, Refusing};
 use dcel_bench::require;
 use dcel_circles::is_circled;
-use dcel_constrained::ConstrainedTriangulation;
-use dcel_delaunay::{InsertionError, Triangulation, point};
-use dcel_regions::Mark;
+use dcel_tests_delaunay::places::{Place, is_right};
 use spade_dcel::handles::FixedUndirectedEdgeHandle;
-use std::alloc::{AllocError, Allocator, Global};
+use std::alloc::Global;
 use std::test::Fail;
-
-/// Two vertices by their numbers.
-type Ends = (u32, u32);
-
-/// A constrained triangulation in memory that can be refused.
-type Watched<'a> = ConstrainedTriangulation<Memory<'a>>;
 
 /// A change.
 #[derive(Clone, Copy, Debug)]
 enum Change {
     /// This segment is made a constraint.
     Add(Ends),
-    /// A point is inserted here.
-    Insert(Place),
+    /// A point is inserted here, whose vertex has this number then.
+    Insert(Place, u32),
     /// The edge between these two is freed.
     Free(Ends),
 }
 
-/// Points, segments that are made constraints, and changes, each of which is made alone.
+/// Points, segments that are made constraints, and changes, each of which is made alone, with the
+/// number of its requests for memory.
 #[derive(Clone, Copy)]
 struct Row {
     places: &'static [Place],
     marked: &'static [Ends],
-    changes: &'static [Change],
+    changes: &'static [(Change, u64)],
 }
 
 /// Points of a grid, two apart. The vertex at (2 * x, 2 * y) has the number 4 * x + y.
@@ -78,53 +71,71 @@ const CIRCLE: [Place; 12] = [
 
 const LINE: [Place; 4] = [(0, 0), (8, 4), (16, 8), (24, 12)];
 
-/// A kite, whose short diagonal is Delaunay: from (4, 2) to (4, -2).
-const KITE: [Place; 4] = [(8, 0), (0, 0), (4, 2), (4, -2)];
-
 /// Of the grid, with a side of the hull and a diagonal marked.
-const OF_THE_GRID: [Change; 15] = [
+const OF_THE_GRID: [(Change, u64); 15] = [
     // The whole of a marked segment, a part of one, and some that end on one or have several parts.
-    Change::Add((15, 0)),
-    Change::Add((5, 15)),
-    Change::Add((4, 10)),
-    Change::Add((12, 14)),
-    Change::Add((2, 7)),
-    Change::Add((8, 13)),
+    (Change::Add((15, 0)), 0),
+    (Change::Add((5, 15)), 0),
+    (Change::Add((4, 10)), 0),
+    (Change::Add((12, 14)), 0),
+    (Change::Add((2, 7)), 0),
+    (Change::Add((8, 13)), 0),
     // On the marked side, on the diagonal, and on edges that aren't marked.
-    Change::Insert((0, 3)),
-    Change::Insert((3, 3)),
-    Change::Insert((4, 1)),
-    Change::Insert((3, 1)),
+    (Change::Insert((0, 3), 16), 0),
+    (Change::Insert((3, 3), 16), 0),
+    (Change::Insert((4, 1), 16), 0),
+    (Change::Insert((3, 1), 16), 0),
     // At a vertex, and outside of the hull, near and far.
-    Change::Insert((2, 2)),
-    Change::Insert((-1, 1)),
-    Change::Insert((-50, 1)),
-    Change::Insert((60, 60)),
-    Change::Free((0, 1)),
+    (Change::Insert((2, 2), 5), 0),
+    (Change::Insert((-1, 1), 16), 0),
+    (Change::Insert((-50, 1), 16), 0),
+    (Change::Insert((60, 60), 16), 0),
+    (Change::Free((0, 1)), 0),
+];
+
+/// Of the grid of squares: in parts, and between vertices.
+const OF_SQUARES: [(Change, u64); 3] = [
+    (Change::Add((1, 29)), 0),
+    (Change::Add((6, 33)), 0),
+    (Change::Add((12, 31)), 0),
 ];
 
 /// Along the line, on it, beyond it, and beside it.
-const OF_THE_LINE: [Change; 5] = [
-    Change::Add((3, 0)),
-    Change::Insert((4, 2)),
-    Change::Insert((32, 16)),
-    Change::Insert((7, 9)),
-    Change::Free((0, 1)),
+const OF_THE_LINE: [(Change, u64); 5] = [
+    (Change::Add((3, 0)), 0),
+    (Change::Insert((4, 2), 4), 0),
+    (Change::Insert((32, 16), 4), 0),
+    (Change::Insert((7, 9), 4), 0),
+    (Change::Free((0, 1)), 0),
 ];
 
 /// Above the diameter, on it, and inside of a triangle.
-const OF_THE_CIRCLE: [Change; 4] = [
-    Change::Add((1, 5)),
-    Change::Insert((0, 0)),
-    Change::Insert((2, 2)),
-    Change::Free((0, 6)),
+const OF_THE_CIRCLE: [(Change, u64); 4] = [
+    (Change::Add((1, 5)), 0),
+    (Change::Insert((0, 0), 12), 0),
+    (Change::Insert((2, 2), 12), 0),
+    (Change::Free((0, 6)), 0),
 ];
 
-const ROWS: [Row; 6] = [
+const ROWS: [Row; 8] = [
     Row {
         places: &GRID,
         marked: &[(0, 3), (0, 15)],
         changes: &OF_THE_GRID,
+    },
+    // Far outside, with one edge of the hull marked.
+    Row {
+        places: &GRID,
+        marked: &[(0, 15), (0, 1)],
+        changes: &[
+            (Change::Insert((-50, 1), 16), 0),
+            (Change::Insert((60, 60), 16), 0),
+        ],
+    },
+    Row {
+        places: &SQUARES,
+        marked: &[],
+        changes: &OF_SQUARES,
     },
     Row {
         places: &LINE,
@@ -139,31 +150,20 @@ const ROWS: [Row; 6] = [
     Row {
         places: &KITE,
         marked: &[(0, 1)],
-        changes: &[Change::Free((0, 1)), Change::Insert((2, 0))],
+        changes: &[(Change::Free((0, 1)), 0), (Change::Insert((2, 0), 4), 0)],
     },
     // The first point, and the second.
     Row {
         places: &[],
         marked: &[],
-        changes: &[Change::Insert((1, 1))],
+        changes: &[(Change::Insert((1, 1), 0), 0)],
     },
     Row {
         places: &[(0, 0)],
         marked: &[],
-        changes: &[Change::Insert((1, 1)), Change::Add((0, 0))],
+        changes: &[(Change::Insert((1, 1), 1), 0), (Change::Add((0, 0)), 0)],
     },
 ];
-
-/// Makes a segment a constraint.
-fn add<A: Allocator>(
-    triangulation: &mut ConstrainedTriangulation<A>,
-    (from, to): Ends,
-) -> Result<bool, Fail> {
-    let (from, to) = (vertex(from), vertex(to));
-    require!(triangulation.is_whole());
-    require!(triangulation.can_add_constraint(from, to));
-    Ok(triangulation.add_constraint(from, to).is_ok())
-}
 
 /// Returns the edge between two vertices.
 fn edge_between(
@@ -179,42 +179,23 @@ fn edge_between(
     }
 }
 
-/// Makes a change. Returns whether there was memory.
-fn make(triangulation: &mut Watched, change: Change) -> Result<bool, Fail> {
+/// Makes a change. Tells whether it has changed anything, if there was memory.
+fn make(triangulation: &mut Watched, change: Change) -> Result<Option<bool>, Fail> {
     match change {
         Change::Add(ends) => add(triangulation, ends),
-        Change::Insert((x, y)) => Ok(triangulation.insert(point(x, y)?).is_ok()),
+        Change::Insert(place, number) => insert(triangulation, place, number),
         Change::Free(ends) => {
             let edge = edge_between(triangulation, ends)?;
-            Ok(triangulation.remove_constraint_edge(edge).is_ok())
+            free(triangulation, edge)
         }
     }
-}
-
-/// Returns a triangulation of the points at these places.
-fn filled<'a>(
-    places: &[Place],
-    memory: Memory<'a>,
-    alloc: Global,
-) -> Result<Triangulation<Memory<'a>>, Fail> {
-    let mut triangulation = Triangulation::new(memory)?;
-    for point in points_at(places, alloc)? {
-        triangulation.insert(point)?;
-    }
-    Ok(triangulation)
-}
-
-/// Returns a constrained one.
-fn watched<'a>(places: &[Place], memory: Memory<'a>, alloc: Global) -> Result<Watched<'a>, Fail> {
-    let triangulation = filled(places, memory, alloc)?;
-    require!(triangulation.is_whole());
-    Ok(ConstrainedTriangulation::from_triangulation(&triangulation, memory)?)
 }
 
 /// Makes segments constraints.
 fn add_each(triangulation: &mut Watched, marked: &[Ends]) -> Result<(), Fail> {
     for ends in marked {
-        holds(add(triangulation, *ends)?, format_args!("{ends:?}"))?;
+        let added = add(triangulation, *ends)?;
+        holds(added.is_some(), format_args!("{ends:?}"))?;
     }
     Ok(())
 }
@@ -281,7 +262,7 @@ fn make_refused<'a>(
     let [vertices, _, _, marked] = counts(triangulation);
     let before = seen(triangulation.dcel(), alloc)?;
     memory.refuse(Refusals::One(number));
-    let is_made = make(triangulation, change)?;
+    let is_made = make(triangulation, change)?.is_some();
     let came = memory.requests() > number;
     memory.refuse(Refusals::None);
     same(is_made, !came, format_args!("{change:?}, request {number}"))?;
@@ -304,7 +285,8 @@ fn make_again(triangulation: &mut Watched, change: Change, alloc: Global) -> Res
         return holds(!is_marked, "it is free");
     }
     let before = seen(triangulation.dcel(), alloc)?;
-    holds(make(triangulation, change)?, "it is made again")?;
+    let made = make(triangulation, change)?;
+    same(made, Some(false), "it is made again")?;
     let is_same = seen(triangulation.dcel(), alloc)? == before;
     holds(
         is_same,
@@ -325,45 +307,79 @@ fn make_later<'a>(
             return Ok(());
         }
     }
-    holds(make(triangulation, change)?, "it is made afterwards")
+    let made = make(triangulation, change)?;
+    holds(made.is_some(), "it is made afterwards")
 }
 
-/// Makes a change with the request of this number refused, and then without. Returns whether it came,
-/// and the counts then.
-fn refuse(row: Row, change: Change, number: u64, alloc: Global) -> Result<(bool, Counts), Fail> {
-    let memory = Refusing::new(alloc);
-    let mut triangulation = watched(row.places, &memory, alloc)?;
-    add_each(&mut triangulation, row.marked)?;
-    let came = make_refused(&mut triangulation, &memory, change, number, alloc)?;
+/// Frees all edges with the request of this number refused, and then the rest. Returns whether it came.
+fn free_refused<'a>(
+    triangulation: &mut Watched<'a>,
+    memory: Memory<'a>,
+    number: u64,
+) -> Result<bool, Fail> {
+    memory.refuse(Refusals::One(number));
+    let is_freed = free_all(triangulation)?;
+    let came = memory.requests() > number;
+    memory.refuse(Refusals::None);
+    same(is_freed, !came, "it is refused")?;
+    finish_refused(triangulation, memory)?;
+    holds(free_all(triangulation)?, "there is memory")?;
+    holds(is_right(triangulation.dcel()), "it is Delaunay again")?;
+    Ok(came)
+}
+
+/// What a change comes to with a request refused: whether the request came, and whether one of this
+/// number came when all edges were freed, and the counts between.
+type Refused = ([bool; 2], Counts);
+
+/// Makes a change with the request of this number refused, and then without, and frees all edges.
+fn refuse_in<'a>(
+    triangulation: &mut Watched<'a>,
+    memory: Memory<'a>,
+    change: Change,
+    number: u64,
+    alloc: Global,
+) -> Result<Refused, Fail> {
+    let came = make_refused(triangulation, memory, change, number, alloc)?;
     if came {
-        make_later(&mut triangulation, &memory, change)?;
+        make_later(triangulation, memory, change)?;
     }
-    check_whole(&triangulation)?;
-    make_again(&mut triangulation, change, alloc)?;
-    Ok((came, counts(&triangulation)))
+    check_whole(triangulation)?;
+    make_again(triangulation, change, alloc)?;
+    let found = counts(triangulation);
+    let freeing = free_refused(triangulation, memory, number)?;
+    Ok(([came, freeing], found))
 }
 
-/// Refuses each request of a change in turn.
-fn refuse_each(row: Row, change: Change, alloc: Global) -> Result<(), Fail> {
-    let wanted = refuse(row, change, MANY, alloc)?;
+/// The same in a triangulation of its own.
+fn refuse(row: Row, change: Change, number: u64, alloc: Global) -> Result<Refused, Fail> {
+    let memory = Refusing::new(alloc);
+    let mut triangulation = constrained(row.places, &memory)?;
+    add_each(&mut triangulation, row.marked)?;
+    refuse_in(&mut triangulation, &memory, change, number, alloc)
+}
+
+/// Refuses each request of a change, and of freeing all edges after it, in turn. Returns how many came
+/// of the change.
+fn refuse_each(row: Row, change: Change, alloc: Global) -> Result<u64, Fail> {
+    let (_, wanted) = refuse(row, change, MANY, alloc)?;
+    let mut requests: u64 = 0;
     for number in 0..MANY {
         let (came, found) = refuse(row, change, number, alloc)?;
-        same(
-            found,
-            wanted.1,
-            format_args!("{change:?}, request {number}"),
-        )?;
-        if !came {
-            return Ok(());
+        same(found, wanted, format_args!("{change:?}, request {number}"))?;
+        if came == [false, false] {
+            return Ok(requests);
         }
+        requests = requests.wrapping_add(u64::from(came[0]));
     }
     Err(Fail::new("more requests than MANY"))
 }
 
 /// Refuses the requests of each change of a row.
 fn refuse_row(row: Row, alloc: Global) -> Result<(), Fail> {
-    for change in row.changes {
-        refuse_each(row, *change, alloc)?;
+    for (change, requests) in row.changes {
+        let found = refuse_each(row, *change, alloc)?;
+        same(found, *requests, format_args!("requests of {change:?}"))?;
     }
     Ok(())
 }

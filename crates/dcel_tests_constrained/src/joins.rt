@@ -6,8 +6,7 @@ ghost use Rattle.dcel_maps.specs.Shapes.{IsLive, face_of, origin_of};
 ghost use Rattle.dcel_plane.specs.Plane.{point_at};
 ghost use Rattle.dcel_segments.specs.Segments.{IsPlanar};
 
-use crate::places::Place;
-use crate::removals::{grid, numbered};
+use crate::changes::{Ends, KITE, SQUARES};
 use crate::seen::seen;
 use dcel_bench::checks::{holds, same};
 use dcel_bench::meshes::vertex;
@@ -16,6 +15,7 @@ use dcel_bench::require;
 use dcel_circles::{is_circled, is_delaunay_triangulation, is_plane, legalize_by_circles};
 use dcel_constrained::{Joined, join};
 use dcel_delaunay::Point;
+use dcel_tests_delaunay::places::{Place, numbered};
 use spade_dcel::dcel::Dcel;
 use spade_dcel::handles::{
     FixedDirectedEdgeHandle, FixedFaceHandle, FixedUndirectedEdgeHandle, FixedVertexHandle,
@@ -24,9 +24,6 @@ use spade_dcel::handles::{
 use spade_dcel::laws::every_mesh;
 use std::alloc::{AllocError, Allocator, Global};
 use std::test::Fail;
-
-/// Two vertices by their numbers.
-type Ends = (u32, u32);
 
 /// A mesh of points whose edges have their own numbers for data.
 type Counted = Dcel<Point, (), usize>;
@@ -47,9 +44,6 @@ enum End {
 
 /// Points, two of their vertices, and how it ends to join these.
 type Row = (&'static [Place], Ends, End);
-
-/// A kite, whose short diagonal is an edge: from (4, 2) to (4, -2).
-const KITE: [Place; 4] = [(8, 0), (0, 0), (4, 2), (4, -2)];
 
 /// Eight points on a hull, and one inside that has them all as neighbors.
 const HUB: [Place; 9] = [
@@ -280,7 +274,7 @@ fn a_segment_becomes_an_edge(rt: HostRuntime) -> Result<(), Fail> {
     Ok(())
 }
 
-/// Joins vertices of a grid of 6 by 6, one after another. The vertex (x, y) has the number 6 * x + y.
+/// Joins vertices of a grid of squares, one after another.
 fn check_grid(dcel: &mut Counted, alloc: Global) -> Result<(), Fail>
     requires planar { IsPlanar (point_at dcel.old) dcel.old }
 {
@@ -302,7 +296,7 @@ fn check_grid(dcel: &mut Counted, alloc: Global) -> Result<(), Fail>
 
 #[test]
 fn segments_of_a_grid_become_edges(rt: HostRuntime) -> Result<(), Fail> {
-    let mut dcel = counted(&grid(6, rt.alloc())?, rt.alloc())?;
+    let mut dcel = counted(&SQUARES, rt.alloc())?;
     require!(is_delaunay(&dcel));
     check_grid(&mut dcel, rt.alloc())
 }

@@ -1,4 +1,4 @@
-use Rattle.dcel_tests_delaunay.proofs.joins.try_join.Goals as goal
+use Rattle.dcel_tests_constrained.proofs.joins.try_join.Goals as goal
 
 pub join-requires-clause-ends : goal.join-requires-clause-ends
 join-requires-clause-ends g c =

@@ -1,4 +1,4 @@
-use Rattle.dcel_tests_delaunay.proofs.joins.is_delaunay.Goals as goal
+use Rattle.dcel_tests_constrained.proofs.joins.is_delaunay.Goals as goal
 
 pub returns : goal.returns
 returns g so =

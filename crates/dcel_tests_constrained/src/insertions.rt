@@ -1,0 +1,101 @@
+//! Points inserted among constraints.
+
+use crate::changes::{Ends, KITE, add, constrained, insert};
+use dcel_bench::checks::{holds, same};
+use dcel_bench::meshes::vertex;
+use dcel_constrained::ConstrainedTriangulation;
+use dcel_tests_delaunay::places::Place;
+use std::alloc::Global;
+use std::test::Fail;
+
+/// A point that is inserted, the number of its vertex, and whether that is new.
+type Inserted = (Place, u32, bool);
+
+/// Points that are inserted, and the ends of the marked edges then.
+type Step = (&'static [Inserted], &'static [Ends]);
+
+/// Points, a segment that is made a constraint, and what is inserted then.
+type Row = (&'static [Place], Ends, &'static [Step]);
+
+const ON_A_CONSTRAINT: [Step; 4] = [
+    (&[], &[(0, 1)]),
+    (&[((3, 0), 4, true)], &[(0, 4), (4, 1)]),
+    (&[((6, 0), 5, true)], &[(0, 5), (5, 4), (4, 1)]),
+    // Vertices that stand already.
+    (
+        &[((4, 2), 2, false), ((3, 0), 4, false)],
+        &[(0, 5), (5, 4), (4, 1)],
+    ),
+];
+
+/// Inside, on an edge that isn't marked, and outside.
+const BESIDE_A_CONSTRAINT: [Step; 1] = [(
+    &[
+        ((4, 1), 4, true),
+        ((2, 1), 5, true),
+        ((20, 9), 6, true),
+        ((-9, 0), 7, true),
+    ],
+    &[(0, 1)],
+)];
+
+const ON_A_LINE: [Step; 4] = [
+    (&[], &[(0, 1), (1, 2)]),
+    (&[((4, 2), 3, true)], &[(0, 3), (3, 1), (1, 2)]),
+    // Beyond the line's end, and beside it.
+    (
+        &[((20, 10), 4, true), ((7, 9), 5, true)],
+        &[(0, 3), (3, 1), (1, 2)],
+    ),
+    (&[((12, 6), 6, true)], &[(0, 3), (3, 1), (1, 6), (6, 2)]),
+];
+
+const ROWS: [Row; 3] = [
+    (&KITE, (0, 1), &ON_A_CONSTRAINT),
+    (&KITE, (0, 1), &BESIDE_A_CONSTRAINT),
+    (&[(0, 0), (8, 4), (16, 8)], (2, 0), &ON_A_LINE),
+];
+
+/// Checks that a marked edge joins each two of these, and that there are no other marked edges.
+fn check_marked(triangulation: &ConstrainedTriangulation, edges: &[Ends]) -> Result<(), Fail> {
+    for (from, to) in edges {
+        let is_marked = triangulation.exists_constraint(vertex(*from), vertex(*to));
+        holds(is_marked, format_args!("{from} to {to} is marked"))?;
+    }
+    same(triangulation.num_constraints(), edges.len(), "marked edges")
+}
+
+/// Inserts points, and checks which edges are marked then, and Euler's formula.
+fn check_step(
+    triangulation: &mut ConstrainedTriangulation,
+    (inserted, marked): Step,
+) -> Result<(), Fail> {
+    for (place, number, is_new) in inserted {
+        let found = insert(triangulation, *place, *number)?;
+        same(found, Some(*is_new), format_args!("{place:?}"))?;
+    }
+    check_marked(triangulation, marked)?;
+    let mesh = triangulation.dcel();
+    same(
+        mesh.num_vertices() + mesh.num_faces(),
+        mesh.num_undirected_edges() + 2,
+        "Euler's formula",
+    )
+}
+
+fn check_row((places, ends, steps): Row, alloc: Global) -> Result<(), Fail> {
+    let mut triangulation = constrained(places, alloc)?;
+    holds(add(&mut triangulation, ends)?.is_some(), "there is memory")?;
+    for step in steps {
+        check_step(&mut triangulation, *step)?;
+    }
+    Ok(())
+}
+
+#[test]
+fn points_split_constraints_or_leave_them(rt: HostRuntime) -> Result<(), Fail> {
+    for row in &ROWS {
+        check_row(*row, rt.alloc())?;
+    }
+    Ok(())
+}

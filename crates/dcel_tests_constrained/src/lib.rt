@@ -1,0 +1,16 @@
+//! Tests of constrained triangulations: segments that become edges and constraints, points among
+//! these, and regions, also with each request for memory refused in turn.
+#![tactic(auto)]
+
+#[cfg(test)]
+mod changes;
+#[cfg(test)]
+mod constraints;
+#[cfg(test)]
+mod insertions;
+#[cfg(test)]
+mod joins;
+#[cfg(test)]
+mod refusals;
+#[cfg(test)]
+mod seen;
