@@ -50,7 +50,9 @@ class Project:
         return Path(page).parent / "rattle"
 
     def libraries(self):
-        return [self.crate(it) for it in self.crates if (self.root / "crates" / it / "src/lib.rt").is_file()]
+        """The crates that programs may call, those of tests left out."""
+        libraries = [it for it in self.crates if (self.root / "crates" / it / "src/lib.rt").is_file()]
+        return [self.crate(it) for it in libraries if not it.startswith("dcel_tests_")]
 
     @functools.cached_property
     def everywhere(self):

@@ -18,49 +18,6 @@ pub type Ends = (u32, u32);
 /// A constrained triangulation in memory that can be refused.
 pub type Watched<'a> = ConstrainedTriangulation<Memory<'a>>;
 
-/// The points of a grid. The vertex (x, y) has the number 6 * x + y.
-pub const SQUARES: [Place; 36] = [
-    (0, 0),
-    (0, 1),
-    (0, 2),
-    (0, 3),
-    (0, 4),
-    (0, 5),
-    (1, 0),
-    (1, 1),
-    (1, 2),
-    (1, 3),
-    (1, 4),
-    (1, 5),
-    (2, 0),
-    (2, 1),
-    (2, 2),
-    (2, 3),
-    (2, 4),
-    (2, 5),
-    (3, 0),
-    (3, 1),
-    (3, 2),
-    (3, 3),
-    (3, 4),
-    (3, 5),
-    (4, 0),
-    (4, 1),
-    (4, 2),
-    (4, 3),
-    (4, 4),
-    (4, 5),
-    (5, 0),
-    (5, 1),
-    (5, 2),
-    (5, 3),
-    (5, 4),
-    (5, 5),
-];
-
-/// A kite, whose short diagonal is Delaunay: from (4, 2) to (4, -2).
-pub const KITE: [Place; 4] = [(8, 0), (0, 0), (4, 2), (4, -2)];
-
 /// Returns a constrained triangulation of the points at these places, whose vertices have their
 /// numbers, and no edge of which is marked.
 pub fn constrained<A: Allocator + Clone>(

@@ -1,7 +1,7 @@
 //! Constrained triangulations: segments made constraints, and freed again. Copies and regions, with
 //! each request for memory refused in turn.
 
-use crate::changes::{Ends, KITE, SQUARES, Watched, add, can_add, constrained, free_all};
+use crate::changes::{Ends, Watched, add, can_add, constrained, free_all};
 use dcel_bench::checks::{holds, same};
 use dcel_bench::meshes::vertex;
 use dcel_bench::refusing::{Memory, Refusals, Refusing};
@@ -9,7 +9,7 @@ use dcel_bench::require;
 use dcel_circles::is_delaunay_triangulation;
 use dcel_constrained::ConstrainedTriangulation;
 use dcel_delaunay::Triangulation;
-use dcel_tests_delaunay::places::{Place, is_right, numbered};
+use dcel_tests_delaunay::places::{KITE, Place, SQUARES, is_right, numbered};
 use spade_dcel::handles::FixedUndirectedEdgeHandle;
 use std::alloc::{Allocator, Global};
 use std::test::Fail;

@@ -1,10 +1,10 @@
 //! Points inserted among constraints.
 
-use crate::changes::{Ends, KITE, add, constrained, insert};
+use crate::changes::{Ends, add, constrained, insert};
 use dcel_bench::checks::{holds, same};
 use dcel_bench::meshes::vertex;
 use dcel_constrained::ConstrainedTriangulation;
-use dcel_tests_delaunay::places::Place;
+use dcel_tests_delaunay::places::{KITE, Place};
 use std::alloc::Global;
 use std::test::Fail;
 

@@ -6,7 +6,7 @@ ghost use Rattle.dcel_maps.specs.Shapes.{IsLive, face_of, origin_of};
 ghost use Rattle.dcel_plane.specs.Plane.{point_at};
 ghost use Rattle.dcel_segments.specs.Segments.{IsPlanar};
 
-use crate::changes::{Ends, KITE, SQUARES};
+use crate::changes::Ends;
 use crate::seen::seen;
 use dcel_bench::checks::{holds, same};
 use dcel_bench::meshes::vertex;
@@ -15,7 +15,7 @@ use dcel_bench::require;
 use dcel_circles::{is_circled, is_delaunay_triangulation, is_plane, legalize_by_circles};
 use dcel_constrained::{Joined, join};
 use dcel_delaunay::Point;
-use dcel_tests_delaunay::places::{Place, numbered};
+use dcel_tests_delaunay::places::{HUB, KITE, Place, SQUARES, numbered};
 use spade_dcel::dcel::Dcel;
 use spade_dcel::handles::{
     FixedDirectedEdgeHandle, FixedFaceHandle, FixedUndirectedEdgeHandle, FixedVertexHandle,
@@ -44,19 +44,6 @@ enum End {
 
 /// Points, two of their vertices, and how it ends to join these.
 type Row = (&'static [Place], Ends, End);
-
-/// Eight points on a hull, and one inside that has them all as neighbors.
-const HUB: [Place; 9] = [
-    (0, 0),
-    (4, 0),
-    (3, 3),
-    (0, 4),
-    (-3, 3),
-    (-4, 0),
-    (-3, -3),
-    (0, -4),
-    (3, -3),
-];
 
 /// Three points on a line, the second between the others, with edges across the line on both sides.
 const SLOPE: [Place; 7] = [(0, 0), (9, 0), (18, 0), (4, 1), (5, -1), (13, 1), (14, -1)];

@@ -1,14 +1,14 @@
 //! Constrained triangulations changed with each request for memory refused in turn: what a refusal
 //! leaves, that the rest can be done later, and that the same call then does what it says.
 
-use crate::changes::{Ends, KITE, SQUARES, Watched, add, constrained, free, free_all, insert};
+use crate::changes::{Ends, Watched, add, constrained, free, free_all, insert};
 use crate::seen::seen;
 use dcel_bench::checks::{holds, same};
 use dcel_bench::meshes::vertex;
 use dcel_bench::refusing::{Memory, Refusals, Refusing};
 use dcel_bench::require;
 use dcel_circles::is_circled;
-use dcel_tests_delaunay::places::{Place, is_right};
+use dcel_tests_delaunay::places::{KITE, Place, SQUARES, is_right};
 use spade_dcel::handles::FixedUndirectedEdgeHandle;
 use std::alloc::Global;
 use std::test::Fail;
@@ -76,45 +76,45 @@ const OF_THE_GRID: [(Change, u64); 15] = [
     // The whole of a marked segment, a part of one, and some that end on one or have several parts.
     (Change::Add((15, 0)), 0),
     (Change::Add((5, 15)), 0),
-    (Change::Add((4, 10)), 0),
+    (Change::Add((4, 10)), 1),
     (Change::Add((12, 14)), 0),
     (Change::Add((2, 7)), 0),
     (Change::Add((8, 13)), 0),
     // On the marked side, on the diagonal, and on edges that aren't marked.
-    (Change::Insert((0, 3), 16), 0),
-    (Change::Insert((3, 3), 16), 0),
-    (Change::Insert((4, 1), 16), 0),
-    (Change::Insert((3, 1), 16), 0),
+    (Change::Insert((0, 3), 16), 9),
+    (Change::Insert((3, 3), 16), 9),
+    (Change::Insert((4, 1), 16), 9),
+    (Change::Insert((3, 1), 16), 9),
     // At a vertex, and outside of the hull, near and far.
     (Change::Insert((2, 2), 5), 0),
-    (Change::Insert((-1, 1), 16), 0),
-    (Change::Insert((-50, 1), 16), 0),
-    (Change::Insert((60, 60), 16), 0),
+    (Change::Insert((-1, 1), 16), 9),
+    (Change::Insert((-50, 1), 16), 9),
+    (Change::Insert((60, 60), 16), 10),
     (Change::Free((0, 1)), 0),
 ];
 
 /// Of the grid of squares: in parts, and between vertices.
 const OF_SQUARES: [(Change, u64); 3] = [
-    (Change::Add((1, 29)), 0),
-    (Change::Add((6, 33)), 0),
-    (Change::Add((12, 31)), 0),
+    (Change::Add((1, 29)), 2),
+    (Change::Add((6, 33)), 8),
+    (Change::Add((12, 31)), 6),
 ];
 
 /// Along the line, on it, beyond it, and beside it.
 const OF_THE_LINE: [(Change, u64); 5] = [
     (Change::Add((3, 0)), 0),
-    (Change::Insert((4, 2), 4), 0),
-    (Change::Insert((32, 16), 4), 0),
-    (Change::Insert((7, 9), 4), 0),
-    (Change::Free((0, 1)), 0),
+    (Change::Insert((4, 2), 4), 8),
+    (Change::Insert((32, 16), 4), 8),
+    (Change::Insert((7, 9), 4), 11),
+    (Change::Free((0, 1)), 1),
 ];
 
 /// Above the diameter, on it, and inside of a triangle.
 const OF_THE_CIRCLE: [(Change, u64); 4] = [
-    (Change::Add((1, 5)), 0),
-    (Change::Insert((0, 0), 12), 0),
-    (Change::Insert((2, 2), 12), 0),
-    (Change::Free((0, 6)), 0),
+    (Change::Add((1, 5)), 4),
+    (Change::Insert((0, 0), 12), 11),
+    (Change::Insert((2, 2), 12), 11),
+    (Change::Free((0, 6)), 1),
 ];
 
 const ROWS: [Row; 8] = [
@@ -128,8 +128,8 @@ const ROWS: [Row; 8] = [
         places: &GRID,
         marked: &[(0, 15), (0, 1)],
         changes: &[
-            (Change::Insert((-50, 1), 16), 0),
-            (Change::Insert((60, 60), 16), 0),
+            (Change::Insert((-50, 1), 16), 9),
+            (Change::Insert((60, 60), 16), 10),
         ],
     },
     Row {
@@ -150,18 +150,18 @@ const ROWS: [Row; 8] = [
     Row {
         places: &KITE,
         marked: &[(0, 1)],
-        changes: &[(Change::Free((0, 1)), 0), (Change::Insert((2, 0), 4), 0)],
+        changes: &[(Change::Free((0, 1)), 0), (Change::Insert((2, 0), 4), 9)],
     },
     // The first point, and the second.
     Row {
         places: &[],
         marked: &[],
-        changes: &[(Change::Insert((1, 1), 0), 0)],
+        changes: &[(Change::Insert((1, 1), 0), 8)],
     },
     Row {
         places: &[(0, 0)],
         marked: &[],
-        changes: &[(Change::Insert((1, 1), 1), 0), (Change::Add((0, 0)), 0)],
+        changes: &[(Change::Insert((1, 1), 1), 8), (Change::Add((0, 0)), 0)],
     },
 ];
 

@@ -1,57 +1,18 @@
 //! Legalization by circles, and tests of whole meshes.
 
-use crate::places::{Place, points_at, three};
+use crate::places::{KITE, Place, points_at};
+use crate::triangulations::triangulated_at;
 use dcel_bench::checks::{holds, same};
 use dcel_bench::require;
 use dcel_circles::{
     is_circled, is_delaunay, is_delaunay_triangulation, is_plane, legalize_by_circles,
 };
-use dcel_delaunay::{Point, Triangulation, point};
+use dcel_delaunay::Point;
 use dcel_exchange::from_faces;
 use spade_dcel::dcel::Dcel;
-use spade_dcel::handles::{FixedDirectedEdgeHandle, FixedUndirectedEdgeHandle};
-use spade_dcel::operations::{
-    append_unconnected_vertex, create_new_face_adjacent_to_edge, new_triangle,
-};
+use spade_dcel::handles::FixedUndirectedEdgeHandle;
 use std::alloc::{AllocError, Global};
 use std::test::Fail;
-
-/// Puts a triangle with this tip beside half edge 0.
-fn put_tip(dcel: &mut Dcel<Point>, tip: Point) -> Result<(), Fail> {
-    let edge = FixedDirectedEdgeHandle::new(0);
-    require!(dcel.has_room(1, 0, 0));
-    let added = append_unconnected_vertex(dcel, tip)?;
-    require!(dcel.can_create_new_face_adjacent_to_edge(edge, added) && dcel.has_room(0, 2, 1));
-    create_new_face_adjacent_to_edge(dcel, edge, added)?;
-    Ok(())
-}
-
-/// Returns a kite whose edge 0 leads along its length, from (0, 0) to (8, 0).
-fn kite(alloc: Global) -> Result<Dcel<Point>, Fail> {
-    let corners = three([(8, 0), (0, 0), (4, 2)])?;
-    let tip = point(4, -2)?;
-    let mut dcel: Dcel<Point> = new_triangle(alloc, corners)?;
-    put_tip(&mut dcel, tip)?;
-    Ok(dcel)
-}
-
-/// Flips this edge, which is listed alone.
-fn flip(dcel: &mut Dcel<Point>, due: &mut Vec<FixedUndirectedEdgeHandle>) -> Result<(), Fail> {
-    let long = FixedUndirectedEdgeHandle::new(0);
-    require!(is_plane(dcel));
-    holds(is_circled(dcel, long), "the long diagonal is to be flipped")?;
-    holds(!is_delaunay(dcel), "a circle has a corner inside")?;
-    due.push(long)?;
-    legalize_by_circles(dcel, due)?;
-    holds(due.is_empty(), "an empty list")?;
-    holds(is_delaunay(dcel), "circles are empty")
-}
-
-#[test]
-fn the_long_diagonal_is_flipped(rt: HostRuntime) -> Result<(), Fail> {
-    let mut dcel = kite(rt.alloc())?;
-    flip(&mut dcel, &mut Vec::new(rt.alloc()))
-}
 
 /// A mesh by the places of its vertices and the corners of its inner faces, whether it is Delaunay
 /// at its edges, and whether it is a Delaunay triangulation.
@@ -62,8 +23,6 @@ struct Row {
     at_edges: bool,
     whole: bool,
 }
-
-const KITE: [Place; 4] = [(8, 0), (0, 0), (4, 2), (4, -2)];
 
 /// A corner of a triangle that goes round once and once more, with its middle first.
 const TWICE_ROUND: [Place; 7] = [
@@ -169,24 +128,25 @@ fn corners_of(faces: &[&[u32]], alloc: Global) -> Result<Vec<Vec<u32>>, AllocErr
     Ok(lists)
 }
 
-/// Returns the mesh of a row.
-fn mesh_of(row: &Row, alloc: Global) -> Result<Dcel<Point>, Fail> {
-    let points = points_at(row.places, alloc)?;
-    let faces = corners_of(row.faces, alloc)?;
+/// Returns the mesh of vertices at these places and of inner faces with these corners. Its edges are
+/// numbered as the faces come to them.
+pub fn mesh_of(places: &[Place], faces: &[&[u32]], alloc: Global) -> Result<Dcel<Point>, Fail> {
+    let points = points_at(places, alloc)?;
+    let faces = corners_of(faces, alloc)?;
     match from_faces(alloc, points, &faces) {
         Ok(dcel) => Ok(dcel),
-        Err(_) => Err(Fail::new("the faces of a row are refused")),
+        Err(_) => Err(Fail::new("the faces are refused")),
     }
 }
 
+fn check_mesh(dcel: &Dcel<Point>, wanted: (bool, bool)) -> Result<(), Fail> {
+    let found = (is_delaunay(dcel), is_delaunay_triangulation(dcel));
+    same(found, wanted, "Delaunay at edges, and as a whole")
+}
+
 fn check_row(row: &Row, alloc: Global) -> Result<(), Fail> {
-    let dcel = mesh_of(row, alloc)?;
-    let found = (is_delaunay(&dcel), is_delaunay_triangulation(&dcel));
-    same(
-        found,
-        (row.at_edges, row.whole),
-        "Delaunay at edges, and as a whole",
-    )
+    let dcel = mesh_of(row.places, row.faces, alloc)?;
+    check_mesh(&dcel, (row.at_edges, row.whole))
 }
 
 #[test]
@@ -197,15 +157,28 @@ fn whole_meshes_are_tested(rt: HostRuntime) -> Result<(), Fail> {
     Ok(())
 }
 
+/// Flips this edge, which is listed alone.
+fn flip(dcel: &mut Dcel<Point>, due: &mut Vec<FixedUndirectedEdgeHandle>) -> Result<(), Fail> {
+    let long = FixedUndirectedEdgeHandle::new(0);
+    require!(is_plane(dcel));
+    holds(is_circled(dcel, long), "the long diagonal is to be flipped")?;
+    holds(!is_delaunay(dcel), "a circle has a corner inside")?;
+    due.push(long)?;
+    legalize_by_circles(dcel, due)?;
+    holds(due.is_empty(), "an empty list")?;
+    holds(is_delaunay(dcel), "circles are empty")
+}
+
+#[test]
+fn the_long_diagonal_is_flipped(rt: HostRuntime) -> Result<(), Fail> {
+    // Edge 0 leads along the length of the kite.
+    let mut dcel = mesh_of(&KITE, &[&[1, 0, 2], &[0, 1, 3]], rt.alloc())?;
+    flip(&mut dcel, &mut Vec::new(rt.alloc()))
+}
+
 /// A path is Delaunay at its edges, since it has no triangle, and no triangulation.
 #[test]
 fn a_path_is_no_triangulation(rt: HostRuntime) -> Result<(), Fail> {
-    let points = points_at(&[(0, 0), (8, 4), (4, 2)], rt.alloc())?;
-    let mut path = Triangulation::new(rt.alloc())?;
-    path.insert_all(rt.alloc(), &points)?;
-    let found = (
-        is_delaunay(path.dcel()),
-        is_delaunay_triangulation(path.dcel()),
-    );
-    same(found, (true, false), "Delaunay at edges, and as a whole")
+    let path = triangulated_at(&[(0, 0), (8, 4), (4, 2)], rt.alloc())?;
+    check_mesh(path.dcel(), (true, false))
 }

@@ -1,18 +1,17 @@
 //! Delaunay triangulations, and legalization by circles, with each request for memory refused in
 //! turn. What a refusal leaves undone is done afterwards.
 
-use crate::places::{Place, points_at, three};
+use crate::circles::mesh_of;
+use crate::places::{Place, points_at};
+use crate::triangulations::counts;
 use dcel_bench::checks::{holds, same};
 use dcel_bench::meshes::handles;
 use dcel_bench::refusing::{Memory, Refusals, Refusing};
 use dcel_bench::require;
 use dcel_circles::{is_delaunay, is_plane, legalize_by_circles};
-use dcel_delaunay::{InsertionError, Point, Triangulation, point};
+use dcel_delaunay::{InsertionError, Point, Triangulation};
 use spade_dcel::dcel::Dcel;
-use spade_dcel::handles::{FixedUndirectedEdgeHandle, FixedVertexHandle};
-use spade_dcel::operations::{
-    append_unconnected_vertex, create_new_face_adjacent_to_edge, new_triangle,
-};
+use spade_dcel::handles::FixedUndirectedEdgeHandle;
 use std::alloc::Global;
 use std::test::Fail;
 
@@ -22,40 +21,46 @@ const MANY: u64 = 200;
 /// A triangulation in such memory.
 type Watched<'a> = Triangulation<Memory<'a>>;
 
-/// Points that are inserted.
-type Places = &'static [Place];
+/// Points that are inserted, and the numbers of vertices, edges and inner faces then.
+type Row = (&'static [Place], [usize; 3]);
 
-const PLACES: [Places; 3] = [
-    // On one line.
-    &[(0, 0), (4, 2), (2, 1), (8, 4), (6, 3), (10, 5), (12, 6)],
-    // Along a parabola, and at last a point that has them all before it.
-    &[
-        (0, 0),
-        (1, 1),
-        (2, 4),
-        (3, 9),
-        (4, 16),
-        (5, 25),
-        (6, 36),
-        (7, 49),
-        (8, 64),
-        (9, 81),
-        (40, -60),
-    ],
-    // Corners of a square, points on its sides and inside.
-    &[
-        (0, 0),
-        (8, 0),
-        (8, 8),
-        (0, 8),
-        (4, 0),
-        (4, 4),
-        (2, 2),
-        (6, 6),
-        (3, 5),
-        (8, 4),
-        (1, 7),
-    ],
+/// On one line.
+const LINE: [Place; 7] = [(0, 0), (4, 2), (2, 1), (8, 4), (6, 3), (10, 5), (12, 6)];
+
+/// Along a parabola, and at last a point that has them all before it.
+const PARABOLA: [Place; 11] = [
+    (0, 0),
+    (1, 1),
+    (2, 4),
+    (3, 9),
+    (4, 16),
+    (5, 25),
+    (6, 36),
+    (7, 49),
+    (8, 64),
+    (9, 81),
+    (40, -60),
+];
+
+/// Corners of a square, points on its sides and inside.
+const SQUARE: [Place; 11] = [
+    (0, 0),
+    (8, 0),
+    (8, 8),
+    (0, 8),
+    (4, 0),
+    (4, 4),
+    (2, 2),
+    (6, 6),
+    (3, 5),
+    (8, 4),
+    (1, 7),
+];
+
+const ROWS: [Row; 3] = [
+    (&LINE, [7, 6, 0]),
+    (&PARABOLA, [11, 27, 17]),
+    (&SQUARE, [11, 24, 14]),
 ];
 
 /// How points are inserted.
@@ -66,16 +71,6 @@ enum Way {
 }
 
 const WAYS: [Way; 2] = [Way::OneByOne, Way::AllAtOnce];
-
-/// Returns the numbers of vertices, edges and faces.
-fn counts(triangulation: &Watched) -> [usize; 3] {
-    let mesh = triangulation.dcel();
-    [
-        mesh.num_vertices(),
-        mesh.num_undirected_edges(),
-        mesh.num_faces(),
-    ]
-}
 
 /// Inserts the points one by one. Returns why one wasn't, if there is one.
 fn insert_each(triangulation: &mut Watched, points: &[Point]) -> Option<InsertionError> {
@@ -100,14 +95,18 @@ fn insert<'a>(
     }
 }
 
-/// Checks that all is done, and that there are so many vertices, edges and faces.
+/// Checks that all is done, and that there are so many vertices, edges and inner faces.
 fn check_whole(triangulation: &Watched, wanted: [usize; 3]) -> Result<(), Fail> {
-    same(counts(triangulation), wanted, "vertices, edges and faces")?;
+    same(
+        counts(triangulation),
+        wanted,
+        "vertices, edges and inner faces",
+    )?;
     holds(triangulation.is_whole(), "all is done")?;
     holds(is_delaunay(triangulation.dcel()), "circles are empty")
 }
 
-/// Points, how they are inserted, and the vertices, edges and faces that there are then.
+/// Points, how they are inserted, and the vertices, edges and inner faces that there are then.
 #[derive(Clone, Copy)]
 struct Insertion<'p> {
     points: &'p [Point],
@@ -115,17 +114,18 @@ struct Insertion<'p> {
     wanted: [usize; 3],
 }
 
-/// Inserts the points with no request refused. Returns the vertices, edges and faces.
-fn count_inserted(triangulation: &mut Watched, points: &[Point]) -> Result<[usize; 3], Fail> {
-    same(insert_each(triangulation, points), None, "points")?;
-    Ok(counts(triangulation))
-}
-
-/// Returns how many vertices, edges and faces there are if no request is refused.
-fn undisturbed(points: &[Point], alloc: Global) -> Result<[usize; 3], Fail> {
-    let memory = Refusing::new(alloc);
-    let mut triangulation = Triangulation::new(&memory)?;
-    count_inserted(&mut triangulation, points)
+/// Has each request of `finish` refused in turn, until it is done.
+fn finish_refused<'a>(triangulation: &mut Watched<'a>, memory: Memory<'a>) -> Result<(), Fail> {
+    for number in 0..MANY {
+        memory.refuse(Refusals::One(number));
+        let is_done = triangulation.finish().is_ok();
+        memory.refuse(Refusals::None);
+        same(is_done, triangulation.is_whole(), "all is done")?;
+        if is_done {
+            return Ok(());
+        }
+    }
+    Err(Fail::new("more requests than MANY"))
 }
 
 /// Does what this error left undone, and inserts the points again.
@@ -141,8 +141,7 @@ fn insert_again<'a>(
         !is_unfinished,
         "nothing is left undone",
     )?;
-    triangulation.finish()?;
-    holds(triangulation.is_whole(), "nothing is left undone")?;
+    finish_refused(triangulation, memory)?;
     holds(is_delaunay(triangulation.dcel()), "circles are empty")?;
     let again = insert(triangulation, memory, insertion.points, insertion.way);
     same(again, None, "points that are inserted again")
@@ -185,18 +184,12 @@ fn refuse(
 }
 
 /// Refuses each request for these points in turn. Returns how often something was left undone.
-fn refuse_each(points: &[Point], way: Way, alloc: Global) -> Result<usize, Fail> {
-    let wanted = undisturbed(points, alloc)?;
-    let insertion = Insertion {
-        points,
-        way,
-        wanted,
-    };
+fn refuse_each(insertion: Insertion, alloc: Global) -> Result<usize, Fail> {
     let mut unfinished: usize = 0;
     for number in 0..MANY {
         match refuse(insertion, number, alloc)? {
             None => {
-                holds(number > 0, format_args!("{way:?} asks for memory"))?;
+                holds(number > 0, "requests were refused")?;
                 return Ok(unfinished);
             }
             Some(InsertionError::OutOfMemory) => (),
@@ -207,19 +200,23 @@ fn refuse_each(points: &[Point], way: Way, alloc: Global) -> Result<usize, Fail>
     Err(Fail::new("more requests than MANY"))
 }
 
-/// Refuses each request for points at these places in turn. Returns how often something was left
-/// undone.
-fn sweep(places: Places, way: Way, alloc: Global) -> Result<usize, Fail> {
+/// Refuses each request for the points of a row in turn. Returns how often something was left undone.
+fn sweep((places, wanted): Row, way: Way, alloc: Global) -> Result<usize, Fail> {
     let points = points_at(places, alloc)?;
-    refuse_each(&points, way, alloc)
+    let insertion = Insertion {
+        points: &points,
+        way,
+        wanted,
+    };
+    refuse_each(insertion, alloc)
 }
 
 #[test]
 fn insertions_are_refused_memory(rt: HostRuntime) -> Result<(), Fail> {
     for way in &WAYS {
         let mut unfinished: usize = 0;
-        for places in &PLACES {
-            unfinished = unfinished.wrapping_add(sweep(*places, *way, rt.alloc())?);
+        for row in &ROWS {
+            unfinished = unfinished.wrapping_add(sweep(*row, *way, rt.alloc())?);
         }
         holds(
             unfinished > 0,
@@ -247,12 +244,11 @@ fn a_triangulation_without_points_is_refused_memory(rt: HostRuntime) -> Result<(
     check_first_request(&memory)
 }
 
-/// A fan of triangles on a parabola. All of them have the first point; the first three are a
-/// triangle, and each further one is joined to the one before.
+/// Points on a parabola, the last one first.
 const FAN: [Place; 8] = [
     (7, 49),
-    (1, 1),
     (0, 0),
+    (1, 1),
     (2, 4),
     (3, 9),
     (4, 16),
@@ -260,44 +256,18 @@ const FAN: [Place; 8] = [
     (6, 36),
 ];
 
+/// The corners of triangles, all of which have the first point.
+const TRIANGLES: [&[u32]; 6] = [
+    &[0, 1, 2],
+    &[0, 2, 3],
+    &[0, 3, 4],
+    &[0, 4, 5],
+    &[0, 5, 6],
+    &[0, 6, 7],
+];
+
 /// The edges between two of the triangles.
-const INNER: [u32; 5] = [0, 4, 6, 8, 10];
-
-/// Joins a point to the first vertex and to the end of the hull's half edge from there. Returns
-/// the new vertex.
-fn join(
-    dcel: &mut Dcel<Point>,
-    last: FixedVertexHandle,
-    (x, y): Place,
-) -> Result<FixedVertexHandle, Fail> {
-    let apex = FixedVertexHandle::new(0);
-    let point = point(x, y)?;
-    require!(dcel.has_room(1, 0, 0) && apex.index() < dcel.num_vertices());
-    let Some(edge) = dcel.get_edge_from_neighbors(apex, last) else {
-        return Err(Fail::new("no edge from the first vertex"));
-    };
-    let edge = edge.fix();
-    let added = append_unconnected_vertex(dcel, point)?;
-    require!(dcel.can_create_new_face_adjacent_to_edge(edge, added) && dcel.has_room(0, 2, 1));
-    create_new_face_adjacent_to_edge(dcel, edge, added)?;
-    Ok(added)
-}
-
-/// Joins all points but the first three.
-fn join_all(dcel: &mut Dcel<Point>) -> Result<(), Fail> {
-    let mut last = FixedVertexHandle::new(1);
-    for place in FAN.iter().skip(3) {
-        last = join(dcel, last, *place)?;
-    }
-    Ok(())
-}
-
-fn fan(alloc: Global) -> Result<Dcel<Point>, Fail> {
-    let corners = three([FAN[0], FAN[1], FAN[2]])?;
-    let mut dcel: Dcel<Point> = new_triangle(alloc, corners)?;
-    join_all(&mut dcel)?;
-    Ok(dcel)
-}
+const INNER: [u32; 5] = [2, 4, 6, 8, 10];
 
 /// Flips these edges with the request of this number refused, and goes on with the same list if
 /// that request came. Returns whether it came.
@@ -331,7 +301,7 @@ fn is_refused_on(dcel: &mut Dcel<Point>, number: u64, alloc: Global) -> Result<b
 
 /// Flips edges of a new fan with the request of this number refused. Returns whether it came.
 fn is_flipping_refused(number: u64, alloc: Global) -> Result<bool, Fail> {
-    let mut dcel = fan(alloc)?;
+    let mut dcel = mesh_of(&FAN, &TRIANGLES, alloc)?;
     is_refused_on(&mut dcel, number, alloc)
 }
 

@@ -2,6 +2,7 @@
 
 use crate::places::{Place, numbered};
 use dcel_bench::checks::same;
+use dcel_bench::meshes::vertex;
 use dcel_bench::require;
 use dcel_delaunay::{Point, Triangulation, point};
 use spade_dcel::handles::FixedVertexHandle;
@@ -50,8 +51,24 @@ const CASES: [Case; 5] = [
     ),
 ];
 
-/// The coordinates of a grid.
-const STEPS: [i64; 4] = [0, 3, 6, 9];
+const GRID: [Place; 16] = [
+    (0, 0),
+    (0, 3),
+    (0, 6),
+    (0, 9),
+    (3, 0),
+    (3, 3),
+    (3, 6),
+    (3, 9),
+    (6, 0),
+    (6, 3),
+    (6, 6),
+    (6, 9),
+    (9, 0),
+    (9, 3),
+    (9, 6),
+    (9, 9),
+];
 
 fn nearest_to(
     triangulation: &Triangulation,
@@ -62,14 +79,18 @@ fn nearest_to(
     Ok(triangulation.nearest_vertex(point))
 }
 
-fn check_case((vertices, asked): Case, alloc: Global) -> Result<(), Fail> {
-    let triangulation = numbered(vertices, alloc)?;
+fn check_asked(triangulation: &Triangulation, asked: &[Asked]) -> Result<(), Fail> {
     for (place, number) in asked {
-        let wanted = number.map(|number| FixedVertexHandle::new(number as usize));
-        let found = nearest_to(&triangulation, *place)?;
+        let found = nearest_to(triangulation, *place)?;
+        let wanted = number.map(vertex);
         same(found, wanted, format_args!("what is nearest to {place:?}"))?;
     }
     Ok(())
+}
+
+fn check_case((vertices, asked): Case, alloc: Global) -> Result<(), Fail> {
+    let triangulation = numbered(vertices, alloc)?;
+    check_asked(&triangulation, asked)
 }
 
 #[test]
@@ -114,17 +135,16 @@ fn check_all(triangulation: &Triangulation) -> Result<(), Fail> {
     Ok(())
 }
 
+/// Asks before and after a vertex inside is removed.
+fn check_removal(triangulation: &mut Triangulation) -> Result<(), Fail> {
+    check_all(triangulation)?;
+    let removed = triangulation.remove(vertex(5));
+    same(removed.is_ok(), true, "whether a vertex inside is removed")?;
+    check_all(triangulation)
+}
+
 #[test]
 fn none_is_nearer_in_a_grid(rt: HostRuntime) -> Result<(), Fail> {
-    let mut places = Vec::new(rt.alloc());
-    for x in &STEPS {
-        for y in &STEPS {
-            places.push((*x, *y))?;
-        }
-    }
-    let mut triangulation = numbered(&places, rt.alloc())?;
-    check_all(&triangulation)?;
-    let removed = triangulation.remove(FixedVertexHandle::new(5));
-    same(removed.is_ok(), true, "whether a vertex inside is removed")?;
-    check_all(&triangulation)
+    let mut triangulation = numbered(&GRID, rt.alloc())?;
+    check_removal(&mut triangulation)
 }

@@ -9,10 +9,61 @@ use std::test::Fail;
 /// The coordinates of a point.
 pub type Place = (i64, i64);
 
-/// Returns the points at three places.
-pub fn three([a, b, c]: [Place; 3]) -> Result<(Point, Point, Point), Fail> {
-    Ok((point(a.0, a.1)?, point(b.0, b.1)?, point(c.0, c.1)?))
-}
+/// A kite, whose short diagonal is Delaunay: from (4, 2) to (4, -2).
+pub const KITE: [Place; 4] = [(8, 0), (0, 0), (4, 2), (4, -2)];
+
+/// Eight points on a hull, and one inside that has them all as neighbors.
+pub const HUB: [Place; 9] = [
+    (0, 0),
+    (4, 0),
+    (3, 3),
+    (0, 4),
+    (-3, 3),
+    (-4, 0),
+    (-3, -3),
+    (0, -4),
+    (3, -3),
+];
+
+/// The points of a grid. The vertex (x, y) has the number 6 * x + y.
+pub const SQUARES: [Place; 36] = [
+    (0, 0),
+    (0, 1),
+    (0, 2),
+    (0, 3),
+    (0, 4),
+    (0, 5),
+    (1, 0),
+    (1, 1),
+    (1, 2),
+    (1, 3),
+    (1, 4),
+    (1, 5),
+    (2, 0),
+    (2, 1),
+    (2, 2),
+    (2, 3),
+    (2, 4),
+    (2, 5),
+    (3, 0),
+    (3, 1),
+    (3, 2),
+    (3, 3),
+    (3, 4),
+    (3, 5),
+    (4, 0),
+    (4, 1),
+    (4, 2),
+    (4, 3),
+    (4, 4),
+    (4, 5),
+    (5, 0),
+    (5, 1),
+    (5, 2),
+    (5, 3),
+    (5, 4),
+    (5, 5),
+];
 
 /// Returns the points at these places.
 pub fn points_at(places: &[Place], alloc: Global) -> Result<Vec<Point>, Fail> {

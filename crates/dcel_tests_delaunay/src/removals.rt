@@ -1,6 +1,6 @@
 //! Vertices removed from Delaunay triangulations, also with each request for memory refused in turn.
 
-use crate::places::{Place, is_right, numbered};
+use crate::places::{HUB, Place, SQUARES, is_right, numbered};
 use crate::triangulations::counts;
 use dcel_bench::checks::{holds, same};
 use dcel_bench::meshes::vertex;
@@ -19,19 +19,6 @@ struct Row {
     moved: Option<u32>,
     left: [usize; 3],
 }
-
-/// Eight points on a hull, and one inside that has them all as neighbors.
-const HUB: [Place; 9] = [
-    (0, 0),
-    (4, 0),
-    (3, 3),
-    (0, 4),
-    (-3, 3),
-    (-4, 0),
-    (-3, -3),
-    (0, -4),
-    (3, -3),
-];
 
 const INSIDE: [Row; 5] = [
     // The middle of a square.
@@ -166,8 +153,7 @@ const ON_A_LINE: [Row; 5] = [
     },
 ];
 
-fn check_row(row: &Row, alloc: Global) -> Result<(), Fail> {
-    let mut triangulation = numbered(row.places, alloc)?;
+fn check_removed(triangulation: &mut Triangulation, row: &Row) -> Result<(), Fail> {
     let (x, y) = row.place;
     let wanted = Removed {
         point: point(x, y)?,
@@ -175,8 +161,13 @@ fn check_row(row: &Row, alloc: Global) -> Result<(), Fail> {
     };
     let removed = triangulation.remove(vertex(row.vertex));
     same(removed, Ok(wanted), "what is removed")?;
-    same(counts(&triangulation), row.left, "what is left")?;
+    same(counts(triangulation), row.left, "what is left")?;
     holds(is_right(triangulation.dcel()), "a triangulation is left")
+}
+
+fn check_row(row: &Row, alloc: Global) -> Result<(), Fail> {
+    let mut triangulation = numbered(row.places, alloc)?;
+    check_removed(&mut triangulation, row)
 }
 
 #[test]
@@ -203,26 +194,26 @@ fn vertices_on_a_line_are_removed(rt: HostRuntime) -> Result<(), Fail> {
     Ok(())
 }
 
-#[test]
-fn vertices_that_are_not_there_are_refused(rt: HostRuntime) -> Result<(), Fail> {
-    let mut triangulation = numbered(&HUB, rt.alloc())?;
-    let refused = triangulation.remove(vertex(9));
-    same(refused, Err(RemovalError::NoVertex), "why it is refused")?;
-    same(counts(&triangulation), [9, 16, 8], "what is left")?;
-    let mut empty = Triangulation::new(rt.alloc())?;
-    let refused = empty.remove(vertex(0));
-    same(refused, Err(RemovalError::NoVertex), "why it is refused")
+/// Points, and the numbers of vertices, edges and inner faces of their triangulation.
+type Counted = (&'static [Place], [usize; 3]);
+
+const COUNTED: [Counted; 2] = [(&HUB, [9, 16, 8]), (&[], [0, 0, 0])];
+
+/// Asks for the first number that no vertex has.
+fn check_absent((places, left): Counted, alloc: Global) -> Result<(), Fail> {
+    let mut triangulation = numbered(places, alloc)?;
+    let refused = triangulation.remove(FixedVertexHandle::new(places.len()));
+    let found = (refused, counts(&triangulation));
+    let wanted = (Err(RemovalError::NoVertex), left);
+    same(found, wanted, "why it is refused, and what is left")
 }
 
-/// Returns the points of a grid, row by row.
-fn grid(side: i64, alloc: Global) -> Result<Vec<Place>, Fail> {
-    let mut places = Vec::new(alloc);
-    for x in 0..side {
-        for y in 0..side {
-            places.push((x, y))?;
-        }
+#[test]
+fn vertices_that_are_not_there_are_refused(rt: HostRuntime) -> Result<(), Fail> {
+    for row in &COUNTED {
+        check_absent(*row, rt.alloc())?;
     }
-    Ok(places)
+    Ok(())
 }
 
 /// Removes a vertex, and checks what is left.
@@ -232,31 +223,29 @@ fn remove_one(triangulation: &mut Triangulation, vertex: FixedVertexHandle) -> R
     holds(is_right(triangulation.dcel()), "a triangulation is left")
 }
 
-#[test]
-fn a_grid_is_removed_from_the_first_on(rt: HostRuntime) -> Result<(), Fail> {
-    let mut triangulation = numbered(&grid(6, rt.alloc())?, rt.alloc())?;
-    for _ in 0..36 {
-        remove_one(&mut triangulation, FixedVertexHandle::new(0))?;
+/// Removes all vertices of the grid, of those that are left the first, the middle one or the last,
+/// which this many halves of their numbers tell.
+fn remove_all(triangulation: &mut Triangulation, halves: usize) -> Result<(), Fail> {
+    for gone in 0..SQUARES.len() {
+        let number = (35usize.wrapping_sub(gone)).wrapping_mul(halves) / 2;
+        remove_one(triangulation, FixedVertexHandle::new(number))?;
     }
-    same(counts(&triangulation), [0, 0, 0], "nothing")
+    same(counts(triangulation), [0, 0, 0], "nothing")
+}
+
+fn remove_grid(halves: usize, alloc: Global) -> Result<(), Fail> {
+    let mut triangulation = numbered(&SQUARES, alloc)?;
+    remove_all(&mut triangulation, halves)
 }
 
 #[test]
-fn a_grid_is_removed_from_the_middle_on(rt: HostRuntime) -> Result<(), Fail> {
-    let mut triangulation = numbered(&grid(6, rt.alloc())?, rt.alloc())?;
-    for gone in 0..36 {
-        remove_one(&mut triangulation, FixedVertexHandle::new((35 - gone) / 2))?;
+fn a_grid_is_removed_from_the_first_the_middle_and_the_last_on(
+    rt: HostRuntime,
+) -> Result<(), Fail> {
+    for halves in 0..3 {
+        remove_grid(halves, rt.alloc())?;
     }
-    same(counts(&triangulation), [0, 0, 0], "nothing")
-}
-
-#[test]
-fn a_grid_is_removed_from_the_last_on(rt: HostRuntime) -> Result<(), Fail> {
-    let mut triangulation = numbered(&grid(6, rt.alloc())?, rt.alloc())?;
-    for gone in 0..36 {
-        remove_one(&mut triangulation, FixedVertexHandle::new(35 - gone))?;
-    }
-    same(counts(&triangulation), [0, 0, 0], "nothing")
+    Ok(())
 }
 
 /// A triangulation in memory that can be refused.

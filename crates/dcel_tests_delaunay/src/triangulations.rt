@@ -5,7 +5,7 @@ use dcel_bench::checks::{holds, same};
 use dcel_bench::require;
 use dcel_delaunay::{InsertionError, Point, Triangulation, insertion_order, point};
 use spade_dcel::handles::FixedVertexHandle;
-use std::alloc::{AllocError, Global};
+use std::alloc::{AllocError, Allocator, Global};
 use std::test::Fail;
 
 /// Returns a triangulation of these points.
@@ -33,7 +33,7 @@ const COUNTED: [Counted; 3] = [
 ];
 
 /// Returns the numbers of vertices, edges and inner faces.
-pub fn counts(triangulation: &Triangulation) -> [usize; 3] {
+pub fn counts<A: Allocator>(triangulation: &Triangulation<A>) -> [usize; 3] {
     let mesh = triangulation.dcel();
     [
         mesh.num_vertices(),
