@@ -7,7 +7,7 @@ ghost use Rattle.dcel_plane.specs.Plane.{point_at};
 ghost use Rattle.dcel_segments.specs.Segments.{IsPlanar};
 
 use crate::changes::Ends;
-use crate::seen::seen;
+use crate::seen::{Seen, is_as_seen, seen};
 use dcel_bench::checks::{holds, same};
 use dcel_bench::meshes::vertex;
 use dcel_bench::refusing::{Memory, Refusals, Refusing};
@@ -29,7 +29,7 @@ use std::test::Fail;
 type Counted = Dcel<Point, (), usize>;
 
 /// Edges that are listed.
-type Edges<L = Global> = Vec<FixedUndirectedEdgeHandle, L>;
+type Edges<L> = Vec<FixedUndirectedEdgeHandle, L>;
 
 /// How it ends to join two vertices.
 #[derive(Clone, Copy)]
@@ -42,8 +42,11 @@ enum End {
     Between(u32),
 }
 
-/// Points, two of their vertices, and how it ends to join these.
-type Row = (&'static [Place], Ends, End);
+/// Two vertices, and how it ends to join them.
+type Join = (Ends, End);
+
+/// Points, two vertices of theirs that are joined, and how many requests for memory that makes.
+type Row = (&'static [Place], Join, u64);
 
 /// Three points on a line, the second between the others, with edges across the line on both sides.
 const SLOPE: [Place; 7] = [(0, 0), (9, 0), (18, 0), (4, 1), (5, -1), (13, 1), (14, -1)];
@@ -69,25 +72,41 @@ const STRIP: [Place; 13] = [
 ];
 
 const ROWS: [Row; 13] = [
-    (&KITE, (2, 3), End::There),
-    (&KITE, (3, 2), End::There),
+    (&KITE, ((2, 3), End::There), 0),
+    (&KITE, ((3, 2), End::There), 0),
     // A side of the hull.
-    (&KITE, (0, 2), End::There),
+    (&KITE, ((0, 2), End::There), 0),
     // One edge between.
-    (&KITE, (0, 1), End::Flipped),
-    (&KITE, (1, 0), End::Flipped),
+    (&KITE, ((0, 1), End::Flipped), 0),
+    (&KITE, ((1, 0), End::Flipped), 0),
     // Two edges of one vertex.
-    (&HUB, (1, 4), End::Flipped),
-    (&HUB, (4, 1), End::Flipped),
+    (&HUB, ((1, 4), End::Flipped), 0),
+    (&HUB, ((4, 1), End::Flipped), 0),
     // Eleven edges, each of which has an end in common with the one before.
-    (&STRIP, (0, 1), End::Flipped),
-    (&STRIP, (1, 0), End::Flipped),
+    (&STRIP, ((0, 1), End::Flipped), 0),
+    (&STRIP, ((1, 0), End::Flipped), 0),
     // A vertex that has an edge to each of the two, and one beyond edges.
-    (&HUB, (1, 5), End::Between(0)),
-    (&SLOPE, (0, 2), End::Between(1)),
-    (&SLOPE, (2, 0), End::Between(1)),
+    (&HUB, ((1, 5), End::Between(0)), 0),
+    (&SLOPE, ((0, 2), End::Between(1)), 0),
+    (&SLOPE, ((2, 0), End::Between(1)), 0),
     // The first one of two on the way, along the hull.
-    (&BASE, (3, 0), End::Between(2)),
+    (&BASE, ((3, 0), End::Between(2)), 0),
+];
+
+/// Joins in a grid, one after another, and whether the mesh is Delaunay then.
+const OF_A_GRID: [(Join, bool); 8] = [
+    // From (0, 1) to (4, 5), and from (5, 0) to (1, 4): the first vertex on the way.
+    (((1, 29), End::Between(8)), true),
+    (((30, 10), End::Between(25)), true),
+    // From (1, 0) to (5, 3), between vertices.
+    (((6, 33), End::Flipped), false),
+    // From (4, 5) to (1, 0), which has its end, and from (0, 4) to (5, 1), which crosses it.
+    (((29, 6), End::Flipped), false),
+    (((33, 6), End::There), false),
+    (((4, 31), End::Flipped), false),
+    // All across, and what it takes away again.
+    (((1, 34), End::Flipped), false),
+    (((6, 33), End::Flipped), false),
 ];
 
 /// Numbers the edges.
@@ -170,7 +189,7 @@ fn try_join<L: Allocator>(
 }
 
 /// Returns the edges that are to be flipped.
-fn circled(dcel: &Counted, alloc: Global) -> Result<Edges, AllocError> {
+fn circled(dcel: &Counted, alloc: Global) -> Result<Edges<Global>, AllocError> {
     let mut list = Vec::new(alloc);
     for edge in dcel.undirected_edges() {
         let edge = edge.fix();
@@ -181,15 +200,17 @@ fn circled(dcel: &Counted, alloc: Global) -> Result<Edges, AllocError> {
     Ok(list)
 }
 
-/// Checks that each of these edges is in one of two lists.
+/// Checks that each edge that is to be flipped is listed, or was to be flipped before.
 fn check_listed(
-    edges: &[FixedUndirectedEdgeHandle],
+    dcel: &Counted,
     due: &[FixedUndirectedEdgeHandle],
     before: &[FixedUndirectedEdgeHandle],
 ) -> Result<(), Fail> {
-    for edge in edges {
-        let is_listed = due.contains(edge) || before.contains(edge);
-        holds(is_listed, format_args!("{edge:?} is listed"))?;
+    for edge in dcel.undirected_edges() {
+        let edge = edge.fix();
+        let is_listed = due.contains(&edge) || before.contains(&edge);
+        let is_right = is_listed || !is_circled(dcel, edge);
+        holds(is_right, format_args!("{edge:?} is listed"))?;
     }
     Ok(())
 }
@@ -208,49 +229,129 @@ fn check_end(dcel: &Counted, (from, to): Ends, joined: Joined, end: End) -> Resu
     same(has_edge, is_wanted, format_args!("{from} to {to}: an edge"))
 }
 
-/// Joins two vertices, and checks how that ends, and that edges to be flipped then are listed.
-/// Returns the list.
-fn check_join(dcel: &mut Counted, ends: Ends, end: End, alloc: Global) -> Result<Edges, Fail>
+/// Checks what has changed, and the list of edges that may have to be flipped then.
+fn check_changes(
+    dcel: &Counted,
+    end: End,
+    links: &[Seen<usize>],
+    due: &[FixedUndirectedEdgeHandle],
+    alloc: Global,
+) -> Result<(), Fail> {
+    let is_same = is_as_seen(dcel, links, alloc)?;
+    same(is_same, !matches!(end, End::Flipped), "nothing has changed")?;
+    let is_there = matches!(end, End::There);
+    holds(!is_there || due.is_empty(), "nothing is due of an edge")
+}
+
+/// Joins two vertices with the request of this number refused. Returns how that ends, or None if it
+/// came.
+fn join_refused<'a>(
+    dcel: &mut Counted,
+    ends: Ends,
+    due: &mut Edges<Memory<'a>>,
+    memory: Memory<'a>,
+    number: u64,
+) -> Result<Option<Joined>, Fail>
     requires planar { IsPlanar (point_at dcel.old) dcel.old }
     ensures planar { IsPlanar (point_at dcel.new) dcel.new }
 {
+    let mut crossed = Vec::new(memory);
+    memory.refuse(Refusals::One(number));
+    let joined = try_join(dcel, ends, &mut crossed, due)?;
+    let came = memory.requests() > number;
+    memory.refuse(Refusals::None);
+    same(joined.is_none(), came, "it is refused")?;
+    holds(crossed.is_empty(), "none is listed as crossed")?;
+    Ok(joined)
+}
+
+/// Joins two vertices with the request of this number refused, and again if it came, since nothing has
+/// changed then. Returns how that ends, and whether it came.
+fn join_at_last<'a>(
+    dcel: &mut Counted,
+    ends: Ends,
+    due: &mut Edges<Memory<'a>>,
+    memory: Memory<'a>,
+    number: u64,
+    links: &[Seen<usize>],
+    alloc: Global,
+) -> Result<(Joined, bool), Fail>
+    requires planar { IsPlanar (point_at dcel.old) dcel.old }
+    ensures planar { IsPlanar (point_at dcel.new) dcel.new }
+{
+    if let Some(joined) = join_refused(dcel, ends, due, memory, number)? {
+        return Ok((joined, false));
+    }
+    holds(is_as_seen(dcel, links, alloc)?, "nothing has changed")?;
+    match join_refused(dcel, ends, due, memory, MANY)? {
+        Some(joined) => Ok((joined, true)),
+        None => Err(Fail::new("more requests than MANY")),
+    }
+}
+
+/// Joins two vertices with the request of this number refused, and then without. Checks how that ends,
+/// what has changed, and that edges to be flipped then are listed. Returns whether the request came.
+fn check_join<'a>(
+    dcel: &mut Counted,
+    join: Join,
+    due: &mut Edges<Memory<'a>>,
+    memory: Memory<'a>,
+    number: u64,
+    alloc: Global,
+) -> Result<bool, Fail>
+    requires planar { IsPlanar (point_at dcel.old) dcel.old }
+    ensures planar { IsPlanar (point_at dcel.new) dcel.new }
+{
+    let (ends, end) = join;
     let before = circled(dcel, alloc)?;
     let links = seen(dcel, alloc)?;
-    let mut crossed = Vec::new(alloc);
-    let mut due = Vec::new(alloc);
-    let Some(joined) = try_join(dcel, ends, &mut crossed, &mut due)? else {
-        return Err(Fail::new("no memory"));
-    };
-    holds(crossed.is_empty(), "none is listed as crossed")?;
+    let (joined, came) = join_at_last(dcel, ends, due, memory, number, &links, alloc)?;
     check_end(dcel, ends, joined, end)?;
-    let is_same = seen(dcel, alloc)? == links;
-    same(
-        is_same,
-        !matches!(end, End::Flipped),
-        format_args!("{ends:?}: nothing has changed"),
-    )?;
-    check_listed(&circled(dcel, alloc)?, &due, &before)?;
-    let is_there = matches!(end, End::There);
-    holds(
-        !is_there || due.is_empty(),
-        "nothing is due where there is an edge",
-    )?;
-    Ok(due)
+    check_changes(dcel, end, &links, due, alloc)?;
+    check_listed(dcel, due, &before)?;
+    Ok(came)
 }
 
 /// Flips what is to be flipped by a list.
-fn check_flips(dcel: &mut Counted, due: &mut Edges) -> Result<(), Fail> {
+fn check_flips<'a>(dcel: &mut Counted, due: &mut Edges<Memory<'a>>) -> Result<(), Fail> {
     require!(is_plane(dcel));
     legalize_by_circles(dcel, due)?;
     holds(is_delaunay(dcel), "Delaunay again")
 }
 
 /// Joins two vertices of a Delaunay triangulation, and makes it one again by the list.
-fn check_row((places, ends, end): Row, alloc: Global) -> Result<(), Fail> {
+fn check_in<'a>(
+    dcel: &mut Counted,
+    join: Join,
+    memory: Memory<'a>,
+    number: u64,
+    alloc: Global,
+) -> Result<bool, Fail> {
+    require!(is_delaunay(dcel));
+    let mut due = Vec::new(memory);
+    let came = check_join(dcel, join, &mut due, memory, number, alloc)?;
+    check_flips(dcel, &mut due)?;
+    Ok(came)
+}
+
+/// Returns whether a request of this number came, which was refused.
+fn refuse((places, join, _): Row, number: u64, alloc: Global) -> Result<bool, Fail> {
+    let memory = Refusing::new(alloc);
     let mut dcel = counted(places, alloc)?;
-    require!(is_delaunay(&dcel));
-    let mut due = check_join(&mut dcel, ends, end, alloc)?;
-    check_flips(&mut dcel, &mut due)
+    check_in(&mut dcel, join, &memory, number, alloc)
+}
+
+/// No call here makes so many requests for memory.
+const MANY: u64 = 100;
+
+/// Refuses each request in turn.
+fn check_row(row: Row, alloc: Global) -> Result<(), Fail> {
+    for number in 0..MANY {
+        if !refuse(row, number, alloc)? {
+            return same(number, row.2, "requests");
+        }
+    }
+    Err(Fail::new("more requests than MANY"))
 }
 
 #[test]
@@ -261,83 +362,34 @@ fn a_segment_becomes_an_edge(rt: HostRuntime) -> Result<(), Fail> {
     Ok(())
 }
 
-/// Joins vertices of a grid of squares, one after another.
-fn check_grid(dcel: &mut Counted, alloc: Global) -> Result<(), Fail>
+/// Joins two vertices, and checks whether the mesh is Delaunay then.
+fn check_joined<'a>(
+    dcel: &mut Counted,
+    row: (Join, bool),
+    memory: Memory<'a>,
+    alloc: Global,
+) -> Result<(), Fail>
     requires planar { IsPlanar (point_at dcel.old) dcel.old }
+    ensures planar { IsPlanar (point_at dcel.new) dcel.new }
 {
-    // From (0, 1) to (4, 5), and from (5, 0) to (1, 4): the first vertex on the way.
-    let _ = check_join(dcel, (1, 29), End::Between(8), alloc)?;
-    let _ = check_join(dcel, (30, 10), End::Between(25), alloc)?;
-    // From (1, 0) to (5, 3), between vertices.
-    let _ = check_join(dcel, (6, 33), End::Flipped, alloc)?;
-    holds(!is_delaunay(dcel), "it isn't Delaunay")?;
-    // From (4, 5) to (1, 0), which has its end, and from (0, 4) to (5, 1), which crosses it.
-    let _ = check_join(dcel, (29, 6), End::Flipped, alloc)?;
-    let _ = check_join(dcel, (33, 6), End::There, alloc)?;
-    let _ = check_join(dcel, (4, 31), End::Flipped, alloc)?;
-    // All across, and what it takes away again.
-    let _ = check_join(dcel, (1, 34), End::Flipped, alloc)?;
-    let _ = check_join(dcel, (6, 33), End::Flipped, alloc)?;
-    holds(!is_delaunay(dcel), "it isn't Delaunay")
+    let (join, wanted) = row;
+    let mut due = Vec::new(memory);
+    let _ = check_join(dcel, join, &mut due, memory, MANY, alloc)?;
+    same(is_delaunay(dcel), wanted, "whether it is Delaunay")
+}
+
+/// Joins vertices of a grid of squares, one after another.
+fn check_grid(dcel: &mut Counted, memory: Memory, alloc: Global) -> Result<(), Fail> {
+    require!(is_delaunay(dcel));
+    for row in &OF_A_GRID {
+        check_joined(dcel, *row, memory, alloc)?;
+    }
+    Ok(())
 }
 
 #[test]
 fn segments_of_a_grid_become_edges(rt: HostRuntime) -> Result<(), Fail> {
+    let memory = Refusing::new(rt.alloc());
     let mut dcel = counted(&SQUARES, rt.alloc())?;
-    require!(is_delaunay(&dcel));
-    check_grid(&mut dcel, rt.alloc())
-}
-
-/// Joins two vertices with the request of this number refused. If it came, nothing has changed, and
-/// they are joined then. Returns whether it came.
-fn join_refused<'a>(
-    dcel: &mut Counted,
-    ends: Ends,
-    memory: Memory<'a>,
-    number: u64,
-    alloc: Global,
-) -> Result<bool, Fail>
-    requires planar { IsPlanar (point_at dcel.old) dcel.old }
-{
-    let links = seen(dcel, alloc)?;
-    let mut crossed = Vec::new(memory);
-    let mut due = Vec::new(memory);
-    memory.refuse(Refusals::One(number));
-    let joined = try_join(dcel, ends, &mut crossed, &mut due)?;
-    let came = memory.requests() > number;
-    memory.refuse(Refusals::None);
-    same(joined.is_none(), came, "it is refused")?;
-    same(seen(dcel, alloc)? == links, came, "nothing has changed")?;
-    holds(crossed.is_empty(), "none is listed as crossed")?;
-    if came {
-        let again = try_join(dcel, ends, &mut crossed, &mut due)?;
-        same(again, Some(Joined::Edge), "an edge afterwards")?;
-    }
-    Ok(came)
-}
-
-/// The same in a mesh of its own.
-fn refuse(places: &[Place], ends: Ends, number: u64, alloc: Global) -> Result<bool, Fail> {
-    let memory = Refusing::new(alloc);
-    let mut dcel = counted(places, alloc)?;
-    require!(is_delaunay(&dcel));
-    join_refused(&mut dcel, ends, &memory, number, alloc)
-}
-
-/// Returns how many requests come, each of which is refused in turn.
-fn refuse_each(places: &[Place], ends: Ends, alloc: Global) -> Result<u64, Fail> {
-    for number in 0..100 {
-        if !refuse(places, ends, number, alloc)? {
-            return Ok(number);
-        }
-    }
-    Err(Fail::new("more requests than 100"))
-}
-
-#[test]
-fn segments_are_refused_memory(rt: HostRuntime) -> Result<(), Fail> {
-    same(refuse_each(&KITE, (0, 1), rt.alloc())?, 2, "requests")?;
-    // The lists grow on the way.
-    let requests = refuse_each(&STRIP, (0, 1), rt.alloc())?;
-    holds(requests > 4, "requests")
+    check_grid(&mut dcel, &memory, rt.alloc())
 }

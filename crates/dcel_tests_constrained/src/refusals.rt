@@ -2,12 +2,13 @@
 //! leaves, that the rest can be done later, and that the same call then does what it says.
 
 use crate::changes::{Ends, Watched, add, constrained, free, free_all, insert};
-use crate::seen::seen;
+use crate::seen::{Seen, is_as_seen, seen};
 use dcel_bench::checks::{holds, same};
 use dcel_bench::meshes::vertex;
 use dcel_bench::refusing::{Memory, Refusals, Refusing};
 use dcel_bench::require;
 use dcel_circles::is_circled;
+use dcel_constrained::Mark;
 use dcel_tests_delaunay::places::{KITE, Place, SQUARES, is_right};
 use spade_dcel::handles::FixedUndirectedEdgeHandle;
 use std::alloc::Global;
@@ -250,32 +251,60 @@ fn finish_refused<'a>(triangulation: &mut Watched<'a>, memory: Memory<'a>) -> Re
 /// No call here makes so many requests for memory.
 const MANY: u64 = 100;
 
-/// Makes a change with the request of this number refused, and tells whether it came. Where no vertex
-/// is new then and as many edges are marked, all is as it was.
+/// Makes a change with the request of this number refused, and tells whether it came.
 fn make_refused<'a>(
+    triangulation: &mut Watched<'a>,
+    memory: Memory<'a>,
+    change: Change,
+    number: u64,
+) -> Result<bool, Fail> {
+    memory.refuse(Refusals::One(number));
+    let is_made = make(triangulation, change)?.is_some();
+    let came = memory.requests() > number;
+    memory.refuse(Refusals::None);
+    same(is_made, !came, format_args!("{change:?}, request {number}"))?;
+    Ok(came)
+}
+
+/// After a refusal: where no vertex is new and as many edges are marked, all is as it was.
+fn check_kept(
+    triangulation: &Watched,
+    [vertices, _, _, marked]: Counts,
+    before: &[Seen<Mark>],
+    alloc: Global,
+) -> Result<(), Fail> {
+    let [others, _, _, marks] = counts(triangulation);
+    if others != vertices || marks != marked {
+        return Ok(());
+    }
+    holds(triangulation.is_whole(), "nothing is left to do")?;
+    let is_same = is_as_seen(triangulation.dcel(), before, alloc)?;
+    holds(is_same, "nothing has changed")
+}
+
+/// Makes a change with the request of this number refused, and tells whether it came.
+fn refuse_once<'a>(
     triangulation: &mut Watched<'a>,
     memory: Memory<'a>,
     change: Change,
     number: u64,
     alloc: Global,
 ) -> Result<bool, Fail> {
-    let [vertices, _, _, marked] = counts(triangulation);
+    let old = counts(triangulation);
     let before = seen(triangulation.dcel(), alloc)?;
-    memory.refuse(Refusals::One(number));
-    let is_made = make(triangulation, change)?.is_some();
-    let came = memory.requests() > number;
-    memory.refuse(Refusals::None);
-    same(is_made, !came, format_args!("{change:?}, request {number}"))?;
-    let [others, _, _, marks] = counts(triangulation);
-    if came && others == vertices && marks == marked {
-        holds(triangulation.is_whole(), "nothing is left to do")?;
-        let is_same = seen(triangulation.dcel(), alloc)? == before;
-        holds(
-            is_same,
-            format_args!("{change:?}, request {number}: nothing has changed"),
-        )?;
+    let came = make_refused(triangulation, memory, change, number)?;
+    if came {
+        check_kept(triangulation, old, &before, alloc)?;
     }
     Ok(came)
+}
+
+/// Makes a change again, which changes nothing.
+fn check_again(triangulation: &mut Watched, change: Change, alloc: Global) -> Result<(), Fail> {
+    let before = seen(triangulation.dcel(), alloc)?;
+    let made = make(triangulation, change)?;
+    let is_same = is_as_seen(triangulation.dcel(), &before, alloc)?;
+    same((made, is_same), (Some(false), true), "it is made again")
 }
 
 /// Whether a change is there: its edge is free, or else making it again changes nothing.
@@ -284,14 +313,7 @@ fn make_again(triangulation: &mut Watched, change: Change, alloc: Global) -> Res
         let is_marked = triangulation.exists_constraint(vertex(from), vertex(to));
         return holds(!is_marked, "it is free");
     }
-    let before = seen(triangulation.dcel(), alloc)?;
-    let made = make(triangulation, change)?;
-    same(made, Some(false), "it is made again")?;
-    let is_same = seen(triangulation.dcel(), alloc)? == before;
-    holds(
-        is_same,
-        format_args!("{change:?} again: nothing has changed"),
-    )
+    check_again(triangulation, change, alloc)
 }
 
 /// Does what a refused change left undone, and makes the change, unless it is made.
@@ -332,20 +354,33 @@ fn free_refused<'a>(
 /// number came when all edges were freed, and the counts between.
 type Refused = ([bool; 2], Counts);
 
-/// Makes a change with the request of this number refused, and then without, and frees all edges.
-fn refuse_in<'a>(
+/// Makes a change with the request of this number refused, and then without. Returns whether it came.
+fn refuse_change<'a>(
     triangulation: &mut Watched<'a>,
     memory: Memory<'a>,
     change: Change,
     number: u64,
     alloc: Global,
-) -> Result<Refused, Fail> {
-    let came = make_refused(triangulation, memory, change, number, alloc)?;
+) -> Result<bool, Fail> {
+    let came = refuse_once(triangulation, memory, change, number, alloc)?;
     if came {
         make_later(triangulation, memory, change)?;
     }
     check_whole(triangulation)?;
     make_again(triangulation, change, alloc)?;
+    Ok(came)
+}
+
+/// Marks edges, makes a change with the request of this number refused, and frees all edges.
+fn refuse_in<'a>(
+    triangulation: &mut Watched<'a>,
+    memory: Memory<'a>,
+    (row, change): (Row, Change),
+    number: u64,
+    alloc: Global,
+) -> Result<Refused, Fail> {
+    add_each(triangulation, row.marked)?;
+    let came = refuse_change(triangulation, memory, change, number, alloc)?;
     let found = counts(triangulation);
     let freeing = free_refused(triangulation, memory, number)?;
     Ok(([came, freeing], found))
@@ -355,8 +390,7 @@ fn refuse_in<'a>(
 fn refuse(row: Row, change: Change, number: u64, alloc: Global) -> Result<Refused, Fail> {
     let memory = Refusing::new(alloc);
     let mut triangulation = constrained(row.places, &memory)?;
-    add_each(&mut triangulation, row.marked)?;
-    refuse_in(&mut triangulation, &memory, change, number, alloc)
+    refuse_in(&mut triangulation, &memory, (row, change), number, alloc)
 }
 
 /// Refuses each request of a change, and of freeing all edges after it, in turn. Returns how many came

@@ -24,3 +24,13 @@ pub fn seen<UE: Copy + Drop, A: Allocator>(
     }
     Ok(list)
 }
+
+/// Returns whether all is seen as it was.
+pub fn is_as_seen<UE: Copy + PartialEq + Drop, A: Allocator>(
+    dcel: &Dcel<Point, (), UE, (), A>,
+    before: &[Seen<UE>],
+    alloc: Global,
+) -> Result<bool, AllocError> {
+    let list = seen(dcel, alloc)?;
+    Ok(list.as_slice() == before)
+}
