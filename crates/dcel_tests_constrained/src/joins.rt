@@ -77,18 +77,18 @@ const ROWS: [Row; 13] = [
     // A side of the hull.
     (&KITE, ((0, 2), End::There), 0),
     // One edge between.
-    (&KITE, ((0, 1), End::Flipped), 0),
-    (&KITE, ((1, 0), End::Flipped), 0),
+    (&KITE, ((0, 1), End::Flipped), 2),
+    (&KITE, ((1, 0), End::Flipped), 2),
     // Two edges of one vertex.
-    (&HUB, ((1, 4), End::Flipped), 0),
-    (&HUB, ((4, 1), End::Flipped), 0),
+    (&HUB, ((1, 4), End::Flipped), 3),
+    (&HUB, ((4, 1), End::Flipped), 3),
     // Eleven edges, each of which has an end in common with the one before.
-    (&STRIP, ((0, 1), End::Flipped), 0),
-    (&STRIP, ((1, 0), End::Flipped), 0),
+    (&STRIP, ((0, 1), End::Flipped), 8),
+    (&STRIP, ((1, 0), End::Flipped), 8),
     // A vertex that has an edge to each of the two, and one beyond edges.
     (&HUB, ((1, 5), End::Between(0)), 0),
-    (&SLOPE, ((0, 2), End::Between(1)), 0),
-    (&SLOPE, ((2, 0), End::Between(1)), 0),
+    (&SLOPE, ((0, 2), End::Between(1)), 2),
+    (&SLOPE, ((2, 0), End::Between(1)), 2),
     // The first one of two on the way, along the hull.
     (&BASE, ((3, 0), End::Between(2)), 0),
 ];
