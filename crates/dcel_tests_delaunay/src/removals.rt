@@ -194,15 +194,14 @@ fn vertices_on_a_line_are_removed(rt: HostRuntime) -> Result<(), Fail> {
     Ok(())
 }
 
-/// Points, and the numbers of vertices, edges and inner faces of their triangulation.
-type Counted = (&'static [Place], [usize; 3]);
+/// Points, a number that no vertex has, and the numbers of vertices, edges and inner faces.
+type Absent = (&'static [Place], u32, [usize; 3]);
 
-const COUNTED: [Counted; 2] = [(&HUB, [9, 16, 8]), (&[], [0, 0, 0])];
+const ABSENT: [Absent; 2] = [(&HUB, 9, [9, 16, 8]), (&[], 0, [0, 0, 0])];
 
-/// Asks for the first number that no vertex has.
-fn check_absent((places, left): Counted, alloc: Global) -> Result<(), Fail> {
+fn check_absent((places, number, left): Absent, alloc: Global) -> Result<(), Fail> {
     let mut triangulation = numbered(places, alloc)?;
-    let refused = triangulation.remove(FixedVertexHandle::new(places.len()));
+    let refused = triangulation.remove(vertex(number));
     let found = (refused, counts(&triangulation));
     let wanted = (Err(RemovalError::NoVertex), left);
     same(found, wanted, "why it is refused, and what is left")
@@ -210,7 +209,7 @@ fn check_absent((places, left): Counted, alloc: Global) -> Result<(), Fail> {
 
 #[test]
 fn vertices_that_are_not_there_are_refused(rt: HostRuntime) -> Result<(), Fail> {
-    for row in &COUNTED {
+    for row in &ABSENT {
         check_absent(*row, rt.alloc())?;
     }
     Ok(())
@@ -225,15 +224,14 @@ fn remove_one(triangulation: &mut Triangulation, vertex: FixedVertexHandle) -> R
 
 /// Removes all vertices of the grid, of those that are left the first, the middle one or the last,
 /// which this many halves of their numbers tell.
-fn remove_all(triangulation: &mut Triangulation, halves: usize) -> Result<(), Fail> {
-    for gone in 0..SQUARES.len() {
-        let number = (35usize.wrapping_sub(gone)).wrapping_mul(halves) / 2;
-        remove_one(triangulation, FixedVertexHandle::new(number))?;
+fn remove_all(triangulation: &mut Triangulation, halves: u32) -> Result<(), Fail> {
+    for last in (0..36u32).rev() {
+        remove_one(triangulation, vertex(last.wrapping_mul(halves) / 2))?;
     }
     same(counts(triangulation), [0, 0, 0], "nothing")
 }
 
-fn remove_grid(halves: usize, alloc: Global) -> Result<(), Fail> {
+fn remove_grid(halves: u32, alloc: Global) -> Result<(), Fail> {
     let mut triangulation = numbered(&SQUARES, alloc)?;
     remove_all(&mut triangulation, halves)
 }
