@@ -29,6 +29,21 @@ pub fn constrained<A: Allocator + Clone>(
     Ok(ConstrainedTriangulation::from_triangulation(&triangulation, memory)?)
 }
 
+/// Checks whether marked edges join two vertices, each two of these.
+pub fn check_joined(
+    triangulation: &ConstrainedTriangulation,
+    pairs: &[Ends],
+    wanted: bool,
+) -> Result<(), Fail> {
+    for (from, to) in pairs {
+        let (start, end) = (vertex(*from), vertex(*to));
+        let there = triangulation.exists_constraint(start, end) == wanted;
+        let back = triangulation.exists_constraint(end, start) == wanted;
+        holds(there && back, format_args!("{from} to {to}: {wanted}"))?;
+    }
+    Ok(())
+}
+
 /// Returns whether a segment can be made a constraint.
 pub fn can_add<A: Allocator>(
     triangulation: &ConstrainedTriangulation<A>,

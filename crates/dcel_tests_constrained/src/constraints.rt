@@ -1,9 +1,8 @@
 //! Constrained triangulations: segments made constraints, and freed again. Copies and regions, with
 //! each request for memory refused in turn.
 
-use crate::changes::{Ends, Watched, add, can_add, constrained, free_all};
+use crate::changes::{Ends, Watched, add, can_add, check_joined, constrained, free_all};
 use dcel_bench::checks::{holds, same};
-use dcel_bench::meshes::vertex;
 use dcel_bench::refusing::{Memory, Refusals, Refusing};
 use dcel_bench::require;
 use dcel_circles::is_delaunay_triangulation;
@@ -126,27 +125,8 @@ fn add_each<A: Allocator>(
 ) -> Result<(), Fail> {
     for (ends, count, is_new) in segments {
         let added = add(triangulation, *ends)?;
-        let found = (added, triangulation.num_constraints());
-        same(found, (Some(*is_new), *count), format_args!("{ends:?}"))?;
-    }
-    Ok(())
-}
-
-/// Checks whether marked edges join two vertices.
-fn check_joined(
-    triangulation: &ConstrainedTriangulation,
-    pairs: &[Ends],
-    wanted: bool,
-) -> Result<(), Fail> {
-    for (from, to) in pairs {
-        let (from, to) = (vertex(*from), vertex(*to));
-        let there = triangulation.exists_constraint(from, to);
-        let back = triangulation.exists_constraint(to, from);
-        same(
-            (there, back),
-            (wanted, wanted),
-            format_args!("{from:?} {to:?}"),
-        )?;
+        same(added, Some(*is_new), format_args!("{ends:?}"))?;
+        same(triangulation.num_constraints(), *count, "marked edges")?;
     }
     Ok(())
 }
@@ -206,10 +186,10 @@ fn is_made<'a>(
 ) -> Result<Option<bool>, Fail> {
     require!(triangulation.is_whole());
     memory.refuse(Refusals::One(number));
-    let made = ConstrainedTriangulation::from_triangulation(triangulation, memory);
+    let is_made = ConstrainedTriangulation::from_triangulation(triangulation, memory).is_ok();
     let came = memory.requests() > number;
     memory.refuse(Refusals::None);
-    Ok(came.then_some(made.is_ok()))
+    Ok(came.then_some(is_made))
 }
 
 /// Refuses each request of a copy in turn.

@@ -1,9 +1,8 @@
 //! Points inserted among constraints.
 
-use crate::changes::{Ends, add, constrained, insert};
+use crate::changes::{Ends, add, check_joined, constrained, insert};
 use dcel_bench::checks::{holds, same};
-use dcel_bench::meshes::vertex;
-use dcel_constrained::ConstrainedTriangulation;
+use dcel_constrained::{ConstrainedMesh, ConstrainedTriangulation};
 use dcel_tests_delaunay::places::{KITE, Place};
 use std::alloc::Global;
 use std::test::Fail;
@@ -56,16 +55,14 @@ const ROWS: [Row; 3] = [
     (&[(0, 0), (8, 4), (16, 8)], (2, 0), &ON_A_LINE),
 ];
 
-/// Checks that a marked edge joins each two of these, and that there are no other marked edges.
-fn check_marked(triangulation: &ConstrainedTriangulation, edges: &[Ends]) -> Result<(), Fail> {
-    for (from, to) in edges {
-        let is_marked = triangulation.exists_constraint(vertex(*from), vertex(*to));
-        holds(is_marked, format_args!("{from} to {to} is marked"))?;
-    }
-    same(triangulation.num_constraints(), edges.len(), "marked edges")
+/// Checks Euler's formula.
+fn check_euler(mesh: &ConstrainedMesh) -> Result<(), Fail> {
+    let both = mesh.num_vertices().wrapping_add(mesh.num_faces());
+    let edges = mesh.num_undirected_edges();
+    same(both, edges.wrapping_add(2), "Euler's formula")
 }
 
-/// Inserts points, and checks which edges are marked then, and Euler's formula.
+/// Inserts points, and checks that these edges are marked then, and no others.
 fn check_step(
     triangulation: &mut ConstrainedTriangulation,
     (inserted, marked): Step,
@@ -74,13 +71,13 @@ fn check_step(
         let found = insert(triangulation, *place, *number)?;
         same(found, Some(*is_new), format_args!("{place:?}"))?;
     }
-    check_marked(triangulation, marked)?;
-    let mesh = triangulation.dcel();
+    check_joined(triangulation, marked, true)?;
     same(
-        mesh.num_vertices() + mesh.num_faces(),
-        mesh.num_undirected_edges() + 2,
-        "Euler's formula",
-    )
+        triangulation.num_constraints(),
+        marked.len(),
+        "marked edges",
+    )?;
+    check_euler(triangulation.dcel())
 }
 
 fn check_row((places, ends, steps): Row, alloc: Global) -> Result<(), Fail> {

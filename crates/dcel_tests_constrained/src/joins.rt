@@ -22,7 +22,8 @@ use spade_dcel::handles::{
     InnerTag,
 };
 use spade_dcel::laws::every_mesh;
-use std::alloc::{AllocError, Allocator, Global};
+use std::alloc::{Allocator, Global};
+use std::cell::Cell;
 use std::test::Fail;
 
 /// A mesh of points whose edges have their own numbers for data.
@@ -109,24 +110,19 @@ const OF_A_GRID: [(Join, bool); 8] = [
     (((6, 33), End::Flipped), false),
 ];
 
-/// Numbers the edges.
-fn number_edges(dcel: &mut Counted) -> Result<(), Fail> {
-    for number in 0..dcel.num_undirected_edges() {
-        require!(number < dcel.num_undirected_edges());
-        *dcel.undirected_edge_data_mut(FixedUndirectedEdgeHandle::new(number)) = number;
-    }
-    Ok(())
-}
-
 /// Returns the mesh of a triangulation, with numbers for data of its edges.
 fn counted(places: &[Place], alloc: Global) -> Result<Counted, Fail> {
     let triangulation = numbered(places, alloc)?;
     let copy = triangulation.dcel().try_clone(alloc)?;
-    let Ok(mut dcel) = copy.map_undirected_edges(alloc, |_datum: ()| 0usize) else {
-        return Err(Fail::new("no memory for data"));
+    let count = Cell::new(0usize);
+    let number = |_datum: ()| -> usize {
+        count.set(count.get().wrapping_add(1));
+        count.get()
     };
-    number_edges(&mut dcel)?;
-    Ok(dcel)
+    match copy.map_undirected_edges(alloc, number) {
+        Ok(dcel) => Ok(dcel),
+        Err(_) => Err(Fail::new("no memory for data")),
+    }
 }
 
 /// Returns whether a vertex has an edge.
@@ -188,28 +184,17 @@ fn try_join<L: Allocator>(
     Ok(join(dcel, from, to, crossed, due).ok())
 }
 
-/// Returns the edges that are to be flipped.
-fn circled(dcel: &Counted, alloc: Global) -> Result<Edges<Global>, AllocError> {
-    let mut list = Vec::new(alloc);
-    for edge in dcel.undirected_edges() {
-        let edge = edge.fix();
-        if is_circled(dcel, edge) {
-            list.push(edge)?;
-        }
-    }
-    Ok(list)
-}
-
 /// Checks that each edge that is to be flipped is listed, or was to be flipped before.
 fn check_listed(
     dcel: &Counted,
     due: &[FixedUndirectedEdgeHandle],
-    before: &[FixedUndirectedEdgeHandle],
+    before: &[Seen<usize>],
 ) -> Result<(), Fail> {
     for edge in dcel.undirected_edges() {
         let edge = edge.fix();
-        let is_listed = due.contains(&edge) || before.contains(&edge);
-        let is_right = is_listed || !is_circled(dcel, edge);
+        let half = edge.index().wrapping_mul(2);
+        let was = before.get(half).is_some_and(|seen| seen.is_circled);
+        let is_right = was || due.contains(&edge) || !is_circled(dcel, edge);
         holds(is_right, format_args!("{edge:?} is listed"))?;
     }
     Ok(())
@@ -233,11 +218,11 @@ fn check_end(dcel: &Counted, (from, to): Ends, joined: Joined, end: End) -> Resu
 fn check_changes(
     dcel: &Counted,
     end: End,
-    links: &[Seen<usize>],
+    before: &[Seen<usize>],
     due: &[FixedUndirectedEdgeHandle],
     alloc: Global,
 ) -> Result<(), Fail> {
-    let is_same = is_as_seen(dcel, links, alloc)?;
+    let is_same = is_as_seen(dcel, before, alloc)?;
     same(is_same, !matches!(end, End::Flipped), "nothing has changed")?;
     let is_there = matches!(end, End::There);
     holds(!is_there || due.is_empty(), "nothing is due of an edge")
@@ -273,7 +258,7 @@ fn join_at_last<'a>(
     due: &mut Edges<Memory<'a>>,
     memory: Memory<'a>,
     number: u64,
-    links: &[Seen<usize>],
+    before: &[Seen<usize>],
     alloc: Global,
 ) -> Result<(Joined, bool), Fail>
     requires planar { IsPlanar (point_at dcel.old) dcel.old }
@@ -282,7 +267,7 @@ fn join_at_last<'a>(
     if let Some(joined) = join_refused(dcel, ends, due, memory, number)? {
         return Ok((joined, false));
     }
-    holds(is_as_seen(dcel, links, alloc)?, "nothing has changed")?;
+    holds(is_as_seen(dcel, before, alloc)?, "nothing has changed")?;
     match join_refused(dcel, ends, due, memory, MANY)? {
         Some(joined) => Ok((joined, true)),
         None => Err(Fail::new("more requests than MANY")),
@@ -303,11 +288,10 @@ fn check_join<'a>(
     ensures planar { IsPlanar (point_at dcel.new) dcel.new }
 {
     let (ends, end) = join;
-    let before = circled(dcel, alloc)?;
-    let links = seen(dcel, alloc)?;
-    let (joined, came) = join_at_last(dcel, ends, due, memory, number, &links, alloc)?;
+    let before = seen(dcel, alloc)?;
+    let (joined, came) = join_at_last(dcel, ends, due, memory, number, &before, alloc)?;
     check_end(dcel, ends, joined, end)?;
-    check_changes(dcel, end, &links, due, alloc)?;
+    check_changes(dcel, end, &before, due, alloc)?;
     check_listed(dcel, due, &before)?;
     Ok(came)
 }

@@ -1,12 +1,22 @@
 //! What can be read off a mesh of points, to be compared with what is read later.
 
+use dcel_circles::is_circled;
 use dcel_delaunay::Point;
 use spade_dcel::dcel::Dcel;
 use std::alloc::{AllocError, Allocator, Global};
 
-/// What is seen of a half edge: the next one, its start and its face, where it starts, and the datum
-/// of its edge.
-pub type Seen<UE> = ([usize; 3], Point, UE);
+/// What is seen of a half edge.
+#[derive(Clone, Copy, PartialEq)]
+pub struct Seen<UE> {
+    /// The next one, its start and its face.
+    links: [usize; 3],
+    /// Where it starts.
+    place: Point,
+    /// The datum of its edge.
+    datum: UE,
+    /// Whether its edge is to be flipped.
+    pub is_circled: bool,
+}
 
 /// Returns what is seen of each half edge.
 pub fn seen<UE: Copy + Drop, A: Allocator>(
@@ -15,12 +25,16 @@ pub fn seen<UE: Copy + Drop, A: Allocator>(
 ) -> Result<Vec<Seen<UE>>, AllocError> {
     let mut list = Vec::new(alloc);
     for edge in dcel.live_directed_edges() {
-        let links = [
-            edge.next().index(),
-            edge.from().index(),
-            edge.face().index(),
-        ];
-        list.push((links, *edge.from().data(), *edge.as_undirected().data()))?;
+        list.push(Seen {
+            links: [
+                edge.next().index(),
+                edge.from().index(),
+                edge.face().index(),
+            ],
+            place: *edge.from().data(),
+            datum: *edge.as_undirected().data(),
+            is_circled: is_circled(dcel, edge.as_undirected().fix()),
+        })?;
     }
     Ok(list)
 }

@@ -2,7 +2,7 @@
 //! turn. What a refusal leaves undone is done afterwards.
 
 use crate::circles::mesh_of;
-use crate::places::{Place, points_at};
+use crate::places::{Place, numbered, points_at};
 use crate::triangulations::counts;
 use dcel_bench::checks::{holds, same};
 use dcel_bench::meshes::handles;
@@ -19,7 +19,7 @@ use std::test::Fail;
 const MANY: u64 = 200;
 
 /// A triangulation in such memory.
-type Watched<'a> = Triangulation<Memory<'a>>;
+pub type Watched<'a> = Triangulation<Memory<'a>>;
 
 /// Points that are inserted, and the numbers of vertices, edges and inner faces then.
 type Row = (&'static [Place], [usize; 3]);
@@ -115,7 +115,7 @@ struct Insertion<'p> {
 }
 
 /// Has each request of `finish` refused in turn, until it is done.
-fn finish_refused<'a>(triangulation: &mut Watched<'a>, memory: Memory<'a>) -> Result<(), Fail> {
+pub fn finish_refused<'a>(triangulation: &mut Watched<'a>, memory: Memory<'a>) -> Result<(), Fail> {
     for number in 0..MANY {
         memory.refuse(Refusals::One(number));
         let is_done = triangulation.finish().is_ok();
@@ -179,7 +179,7 @@ fn refuse(
     alloc: Global,
 ) -> Result<Option<InsertionError>, Fail> {
     let memory = Refusing::new(alloc);
-    let mut triangulation = Triangulation::new(&memory)?;
+    let mut triangulation = numbered(&[], &memory)?;
     insert_refused(&mut triangulation, &memory, insertion, number)
 }
 

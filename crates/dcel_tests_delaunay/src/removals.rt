@@ -1,5 +1,6 @@
 //! Vertices removed from Delaunay triangulations, also with each request for memory refused in turn.
 
+use crate::memory::{Watched, finish_refused};
 use crate::places::{HUB, Place, SQUARES, is_right, numbered};
 use crate::triangulations::counts;
 use dcel_bench::checks::{holds, same};
@@ -246,24 +247,21 @@ fn a_grid_is_removed_from_the_first_the_middle_and_the_last_on(
     Ok(())
 }
 
-/// A triangulation in memory that can be refused.
-type Watched<'a> = Triangulation<Memory<'a>>;
-
-/// Does what a refused removal left undone, and removes the vertex if it still stands, of so many.
+/// After a refused removal, of which all is done: removes the vertex if it still stands, of so many.
 fn remove_again(
     triangulation: &mut Watched,
     vertex: FixedVertexHandle,
     count: usize,
     error: RemovalError,
 ) -> Result<(), Fail> {
-    triangulation.finish()?;
-    let left = triangulation.dcel().num_vertices();
-    if error == RemovalError::OutOfMemory {
-        same(left, count, "vertices that stand")?;
-        let removed = triangulation.remove(vertex);
-        return holds(removed.is_ok(), "it is removed afterwards");
-    }
-    same(Some(left), count.checked_sub(1), "vertices that are left")
+    let is_gone = error != RemovalError::OutOfMemory;
+    let before = triangulation
+        .dcel()
+        .num_vertices()
+        .wrapping_add(usize::from(is_gone));
+    same(before, count, "vertices, with the one that is removed")?;
+    let is_removed = is_gone || triangulation.remove(vertex).is_ok();
+    holds(is_removed, "it is removed afterwards")
 }
 
 /// Removes a vertex with the request of this number refused, and returns whether it came.
@@ -280,6 +278,7 @@ fn remove_refused<'a>(
     memory.refuse(Refusals::None);
     same(removed.is_err(), came, "it is refused")?;
     if let Err(error) = removed {
+        finish_refused(triangulation, memory)?;
         remove_again(triangulation, vertex, count, error)?;
     }
     holds(is_right(triangulation.dcel()), "a triangulation is left")?;
