@@ -20,13 +20,18 @@ pub type Watched<'a> = ConstrainedTriangulation<Memory<'a>>;
 
 /// Returns a constrained triangulation of the points at these places, whose vertices have their
 /// numbers, and no edge of which is marked.
-pub fn constrained<A: Allocator + Clone>(
+pub fn constrained<A: Allocator + Copy>(
     places: &[Place],
     memory: A,
 ) -> Result<ConstrainedTriangulation<A>, Fail> {
-    let triangulation = numbered(places, memory.clone()?)?;
+    let triangulation = numbered(places, memory)?;
     require!(triangulation.is_whole());
     Ok(ConstrainedTriangulation::from_triangulation(&triangulation, memory)?)
+}
+
+/// Returns whether a marked edge joins two vertices.
+fn are_joined(triangulation: &ConstrainedTriangulation, from: u32, to: u32) -> bool {
+    triangulation.exists_constraint(vertex(from), vertex(to))
 }
 
 /// Checks whether marked edges join two vertices, each two of these.
@@ -36,10 +41,10 @@ pub fn check_joined(
     wanted: bool,
 ) -> Result<(), Fail> {
     for (from, to) in pairs {
-        let (start, end) = (vertex(*from), vertex(*to));
-        let there = triangulation.exists_constraint(start, end) == wanted;
-        let back = triangulation.exists_constraint(end, start) == wanted;
-        holds(there && back, format_args!("{from} to {to}: {wanted}"))?;
+        let there = are_joined(triangulation, *from, *to);
+        let back = are_joined(triangulation, *to, *from);
+        let is_right = there == wanted && back == wanted;
+        holds(is_right, format_args!("{from} to {to}: {wanted}"))?;
     }
     Ok(())
 }

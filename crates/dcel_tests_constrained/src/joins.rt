@@ -7,7 +7,7 @@ ghost use Rattle.dcel_plane.specs.Plane.{point_at};
 ghost use Rattle.dcel_segments.specs.Segments.{IsPlanar};
 
 use crate::changes::Ends;
-use crate::seen::{Seen, is_as_seen, seen};
+use crate::seen::{Sight, is_as_seen, seen};
 use dcel_bench::checks::{holds, same};
 use dcel_bench::meshes::vertex;
 use dcel_bench::refusing::{Memory, Refusals, Refusing};
@@ -188,7 +188,7 @@ fn try_join<L: Allocator>(
 fn check_listed(
     dcel: &Counted,
     due: &[FixedUndirectedEdgeHandle],
-    before: &[Seen<usize>],
+    before: &[Sight<usize>],
 ) -> Result<(), Fail> {
     for edge in dcel.undirected_edges() {
         let edge = edge.fix();
@@ -218,7 +218,7 @@ fn check_end(dcel: &Counted, (from, to): Ends, joined: Joined, end: End) -> Resu
 fn check_changes(
     dcel: &Counted,
     end: End,
-    before: &[Seen<usize>],
+    before: &[Sight<usize>],
     due: &[FixedUndirectedEdgeHandle],
     alloc: Global,
 ) -> Result<(), Fail> {
@@ -258,7 +258,7 @@ fn join_at_last<'a>(
     due: &mut Edges<Memory<'a>>,
     memory: Memory<'a>,
     number: u64,
-    before: &[Seen<usize>],
+    before: &[Sight<usize>],
     alloc: Global,
 ) -> Result<(Joined, bool), Fail>
     requires planar { IsPlanar (point_at dcel.old) dcel.old }

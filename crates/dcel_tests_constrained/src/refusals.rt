@@ -2,7 +2,7 @@
 //! leaves, that the rest can be done later, and that the same call then does what it says.
 
 use crate::changes::{Ends, Watched, add, constrained, free, free_all, insert};
-use crate::seen::{Seen, is_as_seen, seen};
+use crate::seen::{Sight, is_as_seen, seen};
 use dcel_bench::checks::{holds, same};
 use dcel_bench::meshes::vertex;
 use dcel_bench::refusing::{Memory, Refusals, Refusing};
@@ -175,8 +175,8 @@ fn edge_between(
     let start = vertex(from);
     require!(start.index() < dcel.num_vertices());
     match dcel.get_edge_from_neighbors(start, vertex(to)) {
-        Some(edge) => Ok(edge.fix().as_undirected()),
-        None => Err(Fail::new(format_args!("no edge from {from} to {to}"))),
+        Some(edge) => Ok(edge.as_undirected().fix()),
+        None => Err(Fail::new("there is no such edge")),
     }
 }
 
@@ -270,7 +270,7 @@ fn make_refused<'a>(
 fn check_kept(
     triangulation: &Watched,
     [vertices, _, _, marked]: Counts,
-    before: &[Seen<Mark>],
+    before: &[Sight<Mark>],
     alloc: Global,
 ) -> Result<(), Fail> {
     let [others, _, _, marks] = counts(triangulation);

@@ -7,7 +7,7 @@ use std::alloc::{AllocError, Allocator, Global};
 
 /// What is seen of a half edge.
 #[derive(Clone, Copy, PartialEq)]
-pub struct Seen<UE> {
+pub struct Sight<UE> {
     /// The next one, its start and its face.
     links: [usize; 3],
     /// Where it starts.
@@ -22,10 +22,10 @@ pub struct Seen<UE> {
 pub fn seen<UE: Copy + Drop, A: Allocator>(
     dcel: &Dcel<Point, (), UE, (), A>,
     alloc: Global,
-) -> Result<Vec<Seen<UE>>, AllocError> {
+) -> Result<Vec<Sight<UE>>, AllocError> {
     let mut list = Vec::new(alloc);
     for edge in dcel.live_directed_edges() {
-        list.push(Seen {
+        list.push(Sight {
             links: [
                 edge.next().index(),
                 edge.from().index(),
@@ -42,7 +42,7 @@ pub fn seen<UE: Copy + Drop, A: Allocator>(
 /// Returns whether all is seen as it was.
 pub fn is_as_seen<UE: Copy + PartialEq + Drop, A: Allocator>(
     dcel: &Dcel<Point, (), UE, (), A>,
-    before: &[Seen<UE>],
+    before: &[Sight<UE>],
     alloc: Global,
 ) -> Result<bool, AllocError> {
     let list = seen(dcel, alloc)?;

@@ -3,4 +3,4 @@ use Rattle.dcel_segments.specs.Segments.{IsPlanar}
 use Rattle.dcel_tests_constrained.proofs.joins.check_grid.Given as goal
 
 abbrev pub invariant-loop-row : goal.invariant-loop-row
-invariant-loop-row g l = IsPlanar (point_at l.dcel) l.dcel
+invariant-loop-row l = IsPlanar (point_at l.dcel) l.dcel
