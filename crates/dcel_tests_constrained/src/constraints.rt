@@ -125,7 +125,8 @@ fn add_each<A: Allocator>(
 ) -> Result<(), Fail> {
     for (ends, count, is_new) in segments {
         let added = add(triangulation, *ends)?;
-        same(added, Some(*is_new), format_args!("{ends:?}"))?;
+        let is_right = added == Some(*is_new);
+        holds(is_right, format_args!("{ends:?}: an edge is new: {is_new}"))?;
         same(triangulation.num_constraints(), *count, "marked edges")?;
     }
     Ok(())
@@ -139,20 +140,22 @@ fn check_refused(triangulation: &ConstrainedTriangulation, segments: &[Ends]) ->
     Ok(())
 }
 
-/// Goes through a round. A number that no edge has isn't one that is marked.
+/// Checks whether it is Delaunay, and that a number that no edge has isn't one that is marked.
+fn check_mesh(triangulation: &ConstrainedTriangulation, is_delaunay: bool) -> Result<(), Fail> {
+    let mesh = triangulation.dcel();
+    let none = FixedUndirectedEdgeHandle::new(mesh.num_undirected_edges());
+    holds(!triangulation.is_constraint(none), "no edge is marked")?;
+    same(is_delaunay_triangulation(mesh), is_delaunay, "Delaunay")
+}
+
+/// Goes through a round.
 fn check_round(triangulation: &mut ConstrainedTriangulation, round: Round) -> Result<(), Fail> {
     same(triangulation.num_constraints(), 0, "marked edges")?;
     add_each(triangulation, round.added)?;
     check_joined(triangulation, round.marked, true)?;
     check_joined(triangulation, round.apart, false)?;
     check_refused(triangulation, round.refused)?;
-    let mesh = triangulation.dcel();
-    let none = FixedUndirectedEdgeHandle::new(mesh.num_undirected_edges());
-    let found = (
-        is_delaunay_triangulation(mesh),
-        triangulation.is_constraint(none),
-    );
-    same(found, (round.is_delaunay, false), "Delaunay, and no edge")?;
+    check_mesh(triangulation, round.is_delaunay)?;
     holds(free_all(triangulation)?, "there is memory")?;
     holds(is_right(triangulation.dcel()), "it is Delaunay again")
 }

@@ -69,7 +69,8 @@ fn check_step(
 ) -> Result<(), Fail> {
     for (place, number, is_new) in inserted {
         let found = insert(triangulation, *place, *number)?;
-        same(found, Some(*is_new), format_args!("{place:?}"))?;
+        let is_right = found == Some(*is_new);
+        holds(is_right, format_args!("{place:?}: is new: {is_new}"))?;
     }
     check_joined(triangulation, marked, true)?;
     same(

@@ -304,7 +304,8 @@ fn check_again(triangulation: &mut Watched, change: Change, alloc: Global) -> Re
     let before = seen(triangulation.dcel(), alloc)?;
     let made = make(triangulation, change)?;
     let is_same = is_as_seen(triangulation.dcel(), &before, alloc)?;
-    same((made, is_same), (Some(false), true), "it is made again")
+    let is_right = made == Some(false) && is_same;
+    holds(is_right, format_args!("{change:?} again changes nothing"))
 }
 
 /// Whether a change is there: its edge is free, or else making it again changes nothing.
