@@ -126,7 +126,7 @@ fn add_each<A: Allocator>(
     for (ends, count, is_new) in segments {
         let added = add(triangulation, *ends)?;
         let is_right = added == Some(*is_new);
-        holds(is_right, format_args!("{ends:?}: an edge is new: {is_new}"))?;
+        holds(is_right, format_args!("{ends:?}: whether an edge is new"))?;
         same(triangulation.num_constraints(), *count, "marked edges")?;
     }
     Ok(())

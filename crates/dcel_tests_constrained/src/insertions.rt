@@ -70,7 +70,10 @@ fn check_step(
     for (place, number, is_new) in inserted {
         let found = insert(triangulation, *place, *number)?;
         let is_right = found == Some(*is_new);
-        holds(is_right, format_args!("{place:?}: is new: {is_new}"))?;
+        holds(
+            is_right,
+            format_args!("{place:?}: whether its vertex is new"),
+        )?;
     }
     check_joined(triangulation, marked, true)?;
     same(
