@@ -73,6 +73,18 @@ pub fn add<A: Allocator>(
     Ok(Some(is_new))
 }
 
+/// Makes segments constraints.
+pub fn add_each<A: Allocator>(
+    triangulation: &mut ConstrainedTriangulation<A>,
+    segments: &[Ends],
+) -> Result<(), Fail> {
+    for ends in segments {
+        let added = add(triangulation, *ends)?;
+        holds(added.is_some(), format_args!("{ends:?}"))?;
+    }
+    Ok(())
+}
+
 /// Checks that a vertex has this number, and that the point lies there.
 fn check_vertex<A: Allocator>(
     triangulation: &ConstrainedTriangulation<A>,

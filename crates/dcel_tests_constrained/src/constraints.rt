@@ -118,8 +118,8 @@ const CASES: [Case; 3] = [
     ),
 ];
 
-/// Makes segments constraints, one after another.
-fn add_each<A: Allocator>(
+/// Makes segments constraints, one after another, and checks what each adds.
+fn check_added<A: Allocator>(
     triangulation: &mut ConstrainedTriangulation<A>,
     segments: &[Added],
 ) -> Result<(), Fail> {
@@ -151,7 +151,7 @@ fn check_mesh(triangulation: &ConstrainedTriangulation, is_delaunay: bool) -> Re
 /// Goes through a round.
 fn check_round(triangulation: &mut ConstrainedTriangulation, round: Round) -> Result<(), Fail> {
     same(triangulation.num_constraints(), 0, "marked edges")?;
-    add_each(triangulation, round.added)?;
+    check_added(triangulation, round.added)?;
     check_joined(triangulation, round.marked, true)?;
     check_joined(triangulation, round.apart, false)?;
     check_refused(triangulation, round.refused)?;
@@ -242,7 +242,7 @@ fn check_regions<'a>(triangulation: &Watched<'a>, memory: Memory<'a>) -> Result<
 
 /// Adds the borders, and tells the regions.
 fn check_borders<'a>(triangulation: &mut Watched<'a>, memory: Memory<'a>) -> Result<(), Fail> {
-    add_each(triangulation, &BORDERS)?;
+    check_added(triangulation, &BORDERS)?;
     check_regions(triangulation, memory)
 }
 

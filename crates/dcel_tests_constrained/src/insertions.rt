@@ -1,9 +1,9 @@
 //! Points inserted among constraints.
 
-use crate::changes::{Ends, add, check_joined, constrained, insert};
+use crate::changes::{Ends, add_each, check_joined, constrained, insert};
 use dcel_bench::checks::{holds, same};
 use dcel_constrained::{ConstrainedMesh, ConstrainedTriangulation};
-use dcel_tests_delaunay::places::{KITE, Place};
+use dcel_tests_delaunay::places::{KITE, Place, SQUARES};
 use std::alloc::Global;
 use std::test::Fail;
 
@@ -13,8 +13,8 @@ type Inserted = (Place, u32, bool);
 /// Points that are inserted, and the ends of the marked edges then.
 type Step = (&'static [Inserted], &'static [Ends]);
 
-/// Points, a segment that is made a constraint, and what is inserted then.
-type Row = (&'static [Place], Ends, &'static [Step]);
+/// Points, segments that are made constraints, and what is inserted then.
+type Row = (&'static [Place], &'static [Ends], &'static [Step]);
 
 const ON_A_CONSTRAINT: [Step; 4] = [
     (&[], &[(0, 1)]),
@@ -49,10 +49,17 @@ const ON_A_LINE: [Step; 4] = [
     (&[((12, 6), 6, true)], &[(0, 3), (3, 1), (1, 6), (6, 2)]),
 ];
 
-const ROWS: [Row; 3] = [
-    (&KITE, (0, 1), &ON_A_CONSTRAINT),
-    (&KITE, (0, 1), &BESIDE_A_CONSTRAINT),
-    (&[(0, 0), (8, 4), (16, 8)], (2, 0), &ON_A_LINE),
+/// Beyond a diagonal of a grid and an edge of its hull, so that many triangles close the hull.
+const FAR_OUTSIDE: [Step; 1] = [(
+    &[((-50, 1), 36, true), ((60, 60), 37, true)],
+    &[(0, 7), (7, 14), (14, 21), (21, 28), (28, 35), (0, 1)],
+)];
+
+const ROWS: [Row; 4] = [
+    (&KITE, &[(0, 1)], &ON_A_CONSTRAINT),
+    (&KITE, &[(0, 1)], &BESIDE_A_CONSTRAINT),
+    (&[(0, 0), (8, 4), (16, 8)], &[(2, 0)], &ON_A_LINE),
+    (&SQUARES, &[(0, 35), (0, 1)], &FAR_OUTSIDE),
 ];
 
 /// Checks Euler's formula.
@@ -84,9 +91,9 @@ fn check_step(
     check_euler(triangulation.dcel())
 }
 
-fn check_row((places, ends, steps): Row, alloc: Global) -> Result<(), Fail> {
+fn check_row((places, segments, steps): Row, alloc: Global) -> Result<(), Fail> {
     let mut triangulation = constrained(places, alloc)?;
-    holds(add(&mut triangulation, ends)?.is_some(), "there is memory")?;
+    add_each(&mut triangulation, segments)?;
     for step in steps {
         check_step(&mut triangulation, *step)?;
     }

@@ -1,7 +1,7 @@
 //! Constrained triangulations changed with each request for memory refused in turn: what a refusal
 //! leaves, that the rest can be done later, and that the same call then does what it says.
 
-use crate::changes::{Ends, Watched, add, constrained, free, free_all, insert};
+use crate::changes::{Ends, Watched, add, add_each, constrained, free, free_all, insert};
 use crate::seen::{Sight, is_as_seen, seen};
 use dcel_bench::checks::{holds, same};
 use dcel_bench::meshes::vertex;
@@ -190,15 +190,6 @@ fn make(triangulation: &mut Watched, change: Change) -> Result<Option<bool>, Fai
             free(triangulation, edge)
         }
     }
-}
-
-/// Makes segments constraints.
-fn add_each(triangulation: &mut Watched, marked: &[Ends]) -> Result<(), Fail> {
-    for ends in marked {
-        let added = add(triangulation, *ends)?;
-        holds(added.is_some(), format_args!("{ends:?}"))?;
-    }
-    Ok(())
 }
 
 /// The numbers of vertices, edges, faces and marked edges.
