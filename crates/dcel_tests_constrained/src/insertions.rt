@@ -14,8 +14,8 @@ type Inserted = (Place, u32, bool);
 /// Points that are inserted, and the ends of the marked edges then.
 type Step = (&'static [Inserted], &'static [Ends]);
 
-/// Points, a segment that is made a constraint, and what is inserted then.
-type Row = (&'static [Place], Ends, &'static [Step]);
+/// Points, segments that are made constraints, and what is inserted then.
+type Row = (&'static [Place], &'static [Ends], &'static [Step]);
 
 const ON_A_CONSTRAINT: [Step; 4] = [
     (&[], &[(0, 1)]),
@@ -50,10 +50,41 @@ const ON_A_LINE: [Step; 4] = [
     (&[((12, 6), 6, true)], &[(0, 3), (3, 1), (1, 6), (6, 2)]),
 ];
 
-const ROWS: [Row; 3] = [
-    (&KITE, (0, 1), &ON_A_CONSTRAINT),
-    (&KITE, (0, 1), &BESIDE_A_CONSTRAINT),
-    (&[(0, 0), (8, 4), (16, 8)], (2, 0), &ON_A_LINE),
+/// A triangle, and a smaller one inside, turned.
+const RING: [Place; 6] = [
+    (100, 0),
+    (-50, 87),
+    (-50, -87),
+    (20, -3),
+    (-7, 19),
+    (-13, -15),
+];
+
+/// The sides of both, and the edges between them. A walk to the middle that comes to a triangle between
+/// the two crosses to the next one of these, and so goes round and round.
+const RING_SIDES: [Ends; 12] = [
+    (0, 1),
+    (1, 2),
+    (2, 0),
+    (3, 4),
+    (4, 5),
+    (5, 3),
+    (0, 3),
+    (3, 1),
+    (1, 4),
+    (4, 2),
+    (2, 5),
+    (5, 0),
+];
+
+/// Outside, where the next walk begins, and in the middle.
+const IN_A_RING: [Step; 1] = [(&[((400, 10), 6, true), ((0, 0), 7, true)], &RING_SIDES)];
+
+const ROWS: [Row; 4] = [
+    (&KITE, &[(0, 1)], &ON_A_CONSTRAINT),
+    (&KITE, &[(0, 1)], &BESIDE_A_CONSTRAINT),
+    (&[(0, 0), (8, 4), (16, 8)], &[(2, 0)], &ON_A_LINE),
+    (&RING, &RING_SIDES, &IN_A_RING),
 ];
 
 /// Checks that a marked edge joins each two of these, and that there are no other marked edges.
@@ -83,9 +114,11 @@ fn check_step(
     )
 }
 
-fn check_row((places, ends, steps): Row, alloc: Global) -> Result<(), Fail> {
+fn check_row((places, marked, steps): Row, alloc: Global) -> Result<(), Fail> {
     let mut triangulation = constrained(places, alloc)?;
-    holds(add(&mut triangulation, ends)?.is_some(), "there is memory")?;
+    for ends in marked {
+        holds(add(&mut triangulation, *ends)?.is_some(), "there is memory")?;
+    }
     for step in steps {
         check_step(&mut triangulation, *step)?;
     }
