@@ -55,11 +55,42 @@ const FAR_OUTSIDE: [Step; 1] = [(
     &[(0, 7), (7, 14), (14, 21), (21, 28), (28, 35), (0, 1)],
 )];
 
-const ROWS: [Row; 4] = [
+/// A triangle, and a smaller one inside, turned.
+const RING: [Place; 6] = [
+    (100, 0),
+    (-50, 87),
+    (-50, -87),
+    (20, -3),
+    (-7, 19),
+    (-13, -15),
+];
+
+/// The sides of both, and the edges between them. A walk to the middle that comes to a triangle between
+/// the two crosses to the next one of these, and so goes round and round.
+const RING_SIDES: [Ends; 12] = [
+    (0, 1),
+    (1, 2),
+    (2, 0),
+    (3, 4),
+    (4, 5),
+    (5, 3),
+    (0, 3),
+    (3, 1),
+    (1, 4),
+    (4, 2),
+    (2, 5),
+    (5, 0),
+];
+
+/// Outside, where the next walk begins, and in the middle.
+const IN_A_RING: [Step; 1] = [(&[((400, 10), 6, true), ((0, 0), 7, true)], &RING_SIDES)];
+
+const ROWS: [Row; 5] = [
     (&KITE, &[(0, 1)], &ON_A_CONSTRAINT),
     (&KITE, &[(0, 1)], &BESIDE_A_CONSTRAINT),
     (&[(0, 0), (8, 4), (16, 8)], &[(2, 0)], &ON_A_LINE),
     (&SQUARES, &[(0, 35), (0, 1)], &FAR_OUTSIDE),
+    (&RING, &RING_SIDES, &IN_A_RING),
 ];
 
 /// Checks Euler's formula.
