@@ -3,7 +3,7 @@
 use dcel_programs::{Choice, Given, Program, Switch, Takes};
 
 /// How a file says a mesh.
-#[derive(Clone, Copy, PartialEq, Eq, Debug)]
+#[derive(Clone, Copy, PartialEq, Eq)]
 pub enum Format {
     /// The Object File Format.
     Off,
@@ -16,7 +16,7 @@ pub enum Format {
 }
 
 /// What is written.
-#[derive(Clone, Copy, PartialEq, Eq, Debug)]
+#[derive(Clone, Copy, PartialEq, Eq)]
 pub enum Output {
     /// The mesh, in a format.
     Mesh(Format),

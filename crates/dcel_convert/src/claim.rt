@@ -6,7 +6,7 @@ use std::alloc::{AllocError, Global};
 use std::fmt::{self, Formatter};
 
 /// The two kinds of lines that list half edges.
-#[derive(Clone, Copy, PartialEq, Eq, Debug, Drop)]
+#[derive(Clone, Copy, Debug, Drop)]
 pub enum Lines {
     /// For each face the half edges round it, by `next`.
     Words,

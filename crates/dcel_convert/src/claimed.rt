@@ -8,26 +8,43 @@ use spade_dcel::handles::{FixedDirectedEdgeHandle, FixedFaceHandle, PossiblyOute
 use spade_dcel::operations::{EdgeData, LinksError, LinksFault, MeshData, from_links};
 use std::alloc::{AllocError, Global};
 
+/// The data of a mesh.
+type Given = MeshData<String, (), (), usize, Global>;
+
 /// Makes the mesh that is claimed, with all coordinates 0. If there is none, the line is told that
 /// shows it, where one does.
 pub fn claimed_mesh(alloc: Global, claim: &Claim) -> Result<Solid, Fault> {
     let links = claim.links(alloc)?;
-    let given = MeshData {
-        vertices: no_places(alloc, claim.turns.len())?,
-        edges: no_data(alloc, links.next.len() / 2)?,
-        faces: vec![in alloc; 0; claim.words.len()]?,
-    };
+    let solid = linked(alloc, claim, &links)?;
+    check(alloc, &solid.mesh, claim)?;
+    Ok(solid)
+}
+
+/// Makes the mesh that has these links.
+fn linked(alloc: Global, claim: &Claim, links: &LinkLists) -> Result<Solid, Fault> {
+    let given = given(alloc, claim, links.next.len() / 2)?;
     match from_links(alloc, links.as_links(), given) {
-        Ok(mesh) => {
-            check_turns(&mesh, claim)?;
-            check_outer(alloc, &mesh, claim)?;
-            Ok(Solid {
-                mesh,
-                outer: claim.closed,
-            })
-        }
-        Err(refused) => Err(fault_of(refused.reason, claim, &links)),
+        Ok(mesh) => Ok(Solid {
+            mesh,
+            outer: claim.closed,
+        }),
+        Err(refused) => Err(fault_of(refused.reason, claim, links)),
     }
+}
+
+/// Looks whether the mesh has the turns and the outer face that are claimed.
+fn check(alloc: Global, mesh: &Mesh, claim: &Claim) -> Result<(), Fault> {
+    check_turns(mesh, claim)?;
+    check_outer(alloc, mesh, claim)
+}
+
+/// Returns data for a mesh with so many edges.
+fn given(alloc: Global, claim: &Claim, edges: usize) -> Result<Given, AllocError> {
+    Ok(MeshData {
+        vertices: no_places(alloc, claim.turns.len())?,
+        edges: no_data(alloc, edges)?,
+        faces: vec![in alloc; 0; claim.words.len()]?,
+    })
 }
 
 fn no_places(alloc: Global, count: usize) -> Result<Vec<String>, AllocError> {
@@ -87,7 +104,7 @@ fn check_outer(alloc: Global, mesh: &Mesh, claim: &Claim) -> Result<(), Fault> {
     if corners.len() < 3 || !is_simple(alloc, &corners)? {
         return Err(Fault::Line {
             line: claim.line_of(Lines::Turns, claim.turns.len()),
-            wrong: Wrong::NoOuterFace,
+            wrong: Wrong::NO_OUTER_FACE,
         });
     }
     Ok(())

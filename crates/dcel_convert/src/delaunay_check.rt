@@ -20,7 +20,7 @@ type PlaneMesh = Dcel<Point, (), (), ()>;
 /// Why faces are no Delaunay triangulation of the vertices.
 ///
 /// Vertices and faces are told by their places in the file, from 0 on.
-#[derive(Clone, Copy, PartialEq, Eq, Debug, Drop, Error)]
+#[derive(Clone, Copy, Debug, Drop, Error)]
 pub enum Flaw {
     /// The first vertex and this one are not at one height.
     #[error("vertex {0} has another third coordinate than vertex 0")]
@@ -61,19 +61,17 @@ pub enum Flaw {
 pub fn check_delaunay(alloc: Global, surface: &Surface) -> Result<(), Fault> {
     let points = points_of(alloc, surface)?;
     match from_faces(alloc, points, &surface.faces) {
-        Ok(mesh) => {
-            if is_delaunay_triangulation(&mesh) {
-                return Ok(());
-            }
-            Err(reason_of(surface, &mesh))
-        }
-        Err(refused) => Err(fault_of(
-            alloc,
-            refused.reason,
-            surface.places.len(),
-            &surface.faces,
-            &surface.lines,
-        )?),
+        Ok(mesh) => check_mesh(surface, &mesh),
+        Err(refused) => Err(fault_of(alloc, refused.reason, surface.places.len(), surface)),
+    }
+}
+
+/// Tells why a mesh is no Delaunay triangulation of its vertices, unless it is one.
+fn check_mesh(surface: &Surface, mesh: &PlaneMesh) -> Result<(), Fault> {
+    if is_delaunay_triangulation(mesh) {
+        Ok(())
+    } else {
+        Err(reason_of(surface, mesh))
     }
 }
 
@@ -219,14 +217,12 @@ fn flaw_of_edge(mesh: &PlaneMesh) -> Option<Flaw> {
 /// Tells where the border turns in, so that the outer face turns left, or that it goes wrong as a
 /// whole.
 fn flaw_of_border(mesh: &PlaneMesh) -> Flaw {
-    for edge in mesh.live_undirected_edges() {
-        for half in [edge.as_directed(), edge.as_directed().rev()] {
-            let (corner, after) = (half.to(), half.next().to());
-            if half.is_outer_edge()
-                && orient2d(*half.from().data(), *corner.data(), *after.data()) > 0
-            {
-                return Flaw::TurnsIn(corner.index());
-            }
+    for half in mesh.live_directed_edges() {
+        let (corner, after) = (half.to(), half.next().to());
+        if half.is_outer_edge()
+            && orient2d(*half.from().data(), *corner.data(), *after.data()) > 0
+        {
+            return Flaw::TurnsIn(corner.index());
         }
     }
     Flaw::NotOnce

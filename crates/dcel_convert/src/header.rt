@@ -45,7 +45,7 @@ fn fault_of(alloc: Global, first: &str) -> Result<Wrong, Wrong> {
         return Ok(Wrong::LooksLike("words", "words"));
     }
     if first == "solid" {
-        return Ok(Wrong::Stl);
+        return Ok(Wrong::STL);
     }
     let name = shown(alloc, first)?;
     if is_other_off(first) {

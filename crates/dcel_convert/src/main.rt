@@ -67,12 +67,7 @@ fn convert_faces(
     arguments: &Arguments,
     surface: Surface,
 ) -> Result<(), Fault> {
-    if !arguments.output.is_silent() {
-        surface.left_out.tell(rt)?;
-    }
-    if surface.places.is_empty() && surface.faces.is_empty() {
-        return Err(Fault::Input(Wrong::Nothing));
-    }
+    tell_of_surface(rt, arguments, &surface)?;
     if arguments.output == Output::CheckDelaunay {
         return check_delaunay(rt.alloc(), &surface);
     }
@@ -80,6 +75,22 @@ fn convert_faces(
         Ok(solid) => write_faces(rt, arguments, &solid),
         Err(fault) => refuse_faces(rt, arguments, fault),
     }
+}
+
+/// Names what is left out of a surface, unless only what is wrong is told. A surface of nothing is
+/// wrong.
+fn tell_of_surface(
+    rt: &(impl Eprint + AllocGlobal),
+    arguments: &Arguments,
+    surface: &Surface,
+) -> Result<(), Fault> {
+    if !arguments.output.is_silent() {
+        surface.left_out.tell(rt)?;
+    }
+    if surface.places.is_empty() && surface.faces.is_empty() {
+        return Err(Fault::Input(Wrong::NOTHING));
+    }
+    Ok(())
 }
 
 /// Writes the numbers of a surface that is no mesh, if they are asked for, and fails.
@@ -125,16 +136,27 @@ fn convert_words(
 ) -> Result<(), Fault> {
     let mut solid = claimed_mesh(rt.alloc(), claim)?;
     if let Output::Mesh(Format::Off | Format::Obj | Format::Ply) = arguments.output {
-        tell_left_out(rt, EDGE_OUTSIDE, solid.num_edges_outside())?;
-        if arguments.are_placed {
-            place_vertices(rt.alloc(), &mut solid.mesh)?;
-        } else if solid.mesh.num_vertices() > 0 {
-            eprintln!(rt;
-                "dcel_convert: words have no coordinates: all are 0, and --places finds some"
-            )?;
-        }
+        set_places(rt, arguments, &mut solid)?;
     }
     write_solid(rt, arguments, &solid)
+}
+
+/// Finds coordinates for the vertices of words, if these are asked for, and else tells that they have
+/// none.
+fn set_places(
+    rt: &(impl Eprint + AllocGlobal),
+    arguments: &Arguments,
+    solid: &mut Solid,
+) -> Result<(), Fault> {
+    tell_left_out(rt, EDGE_OUTSIDE, solid.num_edges_outside())?;
+    if arguments.are_placed {
+        place_vertices(rt.alloc(), &mut solid.mesh)?;
+    } else if solid.mesh.num_vertices() > 0 {
+        eprintln!(rt;
+            "dcel_convert: words have no coordinates: all are 0, and --places finds some"
+        )?;
+    }
+    Ok(())
 }
 
 const EDGE_OUTSIDE: &str = "an edge with the outer face on both sides";
@@ -148,7 +170,7 @@ fn write_solid(
     match arguments.output {
         Output::Check => Ok(()),
         // Faces are checked before, so these are words.
-        Output::CheckDelaunay => Err(Fault::Input(Wrong::NoCoordinates)),
+        Output::CheckDelaunay => Err(Fault::Input(Wrong::NO_COORDINATES)),
         Output::Stats => write_out(rt, arguments.target, &Stats::of_mesh(solid)),
         Output::Svg => draw(rt, arguments, solid),
         Output::Mesh(format) => write_out(rt, arguments.target, &Written { format, solid }),

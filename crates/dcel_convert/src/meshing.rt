@@ -8,6 +8,7 @@ use spade_dcel::dcel::Dcel;
 use spade_dcel::handles::{FaceHandle, FixedFaceHandle, PossiblyOuterTag, VertexHandle};
 use spade_dcel::operations::LinksFault;
 use std::alloc::{AllocError, Global};
+use std::mem;
 
 /// A mesh whose vertices have their coordinates as text, and whose faces have the number of steps
 /// from their least half edge to the corner that the file lists first.
@@ -32,56 +33,49 @@ pub struct Solid {
 impl Solid {
     /// Makes the mesh of a surface. A surface without a border lends the first face that comes to
     /// no vertex twice as the outer one.
-    pub fn of(alloc: Global, surface: Surface) -> Result<Solid, Fault> {
-        let Surface {
-            places,
-            faces,
-            lines,
-            ..
-        } = surface;
-        match from_faces(alloc, places, &faces) {
-            Ok(mesh) => Ok(Solid {
-                mesh: marked(alloc, mesh, &faces)?,
-                outer: None,
-            }),
+    pub fn of(alloc: Global, mut surface: Surface) -> Result<Solid, Fault> {
+        Solid::taken_from(alloc, &mut surface)
+    }
+
+    fn taken_from(alloc: Global, surface: &mut Surface) -> Result<Solid, Fault> {
+        let places = mem::replace(&mut surface.places, Vec::new(alloc));
+        match from_faces(alloc, places, &surface.faces) {
+            Ok(mesh) => Solid::marked(alloc, mesh, None, &[], &surface.faces),
             Err(refused) if has_no_border(refused.reason) => {
-                Solid::closed(alloc, refused.back, faces, lines)
+                Solid::closed(alloc, refused.back, surface)
             }
-            Err(refused) => {
-                let vertices = refused.back.len();
-                Err(fault_of(alloc, refused.reason, vertices, &faces, &lines)?)
-            }
+            Err(refused) => Err(fault_of(alloc, refused.reason, refused.back.len(), surface)),
         }
     }
 
     /// Makes the mesh of a surface without a border.
-    fn closed(
-        alloc: Global,
-        places: Vec<String>,
-        mut faces: Vec<Vec<u32>>,
-        mut lines: Vec<usize>,
-    ) -> Result<Solid, Fault> {
-        let place = simple_face(alloc, &faces)?.ok_or(Fault::Input(Wrong::NoBorder))?;
-        if place >= faces.len() || place >= lines.len() {
-            return Err(Fault::Input(Wrong::NoBorder));
+    fn closed(alloc: Global, places: Vec<String>, surface: &mut Surface) -> Result<Solid, Fault> {
+        let place = simple_face(alloc, &surface.faces)?;
+        if place >= surface.faces.len() || place >= surface.lines.len() {
+            return Err(Fault::Input(Wrong::NO_BORDER));
         }
-        let corners = faces.remove(place);
-        let _ = lines.remove(place);
-        match from_faces(alloc, places, &faces) {
-            Ok(mesh) => {
-                let mut mesh = marked(alloc, mesh, &faces)?;
-                mark(&mut mesh, 0, &corners, &mut Vec::new(alloc))?;
-                Ok(Solid {
-                    mesh,
-                    outer: Some(place),
-                })
-            }
+        let corners = surface.faces.remove(place);
+        let _ = surface.lines.remove(place);
+        match from_faces(alloc, places, &surface.faces) {
+            Ok(mesh) => Solid::marked(alloc, mesh, Some(place), &corners, &surface.faces),
             Err(refused) => {
-                faces.push(corners)?;
-                let vertices = refused.back.len();
-                Err(fault_of(alloc, refused.reason, vertices, &faces, &lines)?)
+                surface.faces.push(corners)?;
+                Err(fault_of(alloc, refused.reason, refused.back.len(), surface))
             }
         }
+    }
+
+    /// Notes at each face of a mesh where the list of the file begins, also at the outer one.
+    fn marked(
+        alloc: Global,
+        mesh: Mesh,
+        outer: Option<usize>,
+        corners: &[u32],
+        faces: &[Vec<u32>],
+    ) -> Result<Solid, Fault> {
+        let mut solid = Solid { mesh, outer };
+        mark_all(alloc, &mut solid.mesh, corners, faces)?;
+        Ok(solid)
     }
 }
 
@@ -175,13 +169,20 @@ fn rotate(list: &mut Vec<usize>, before: usize) {
     }
 }
 
-/// Notes at each inner face where the list of the file begins. These are in the order of the faces.
-fn marked(alloc: Global, mut mesh: Mesh, faces: &[Vec<u32>]) -> Result<Mesh, AllocError> {
+/// Notes at each face where the list of the file begins: the outer one, and the inner ones in their
+/// order.
+fn mark_all(
+    alloc: Global,
+    mesh: &mut Mesh,
+    outer: &[u32],
+    faces: &[Vec<u32>],
+) -> Result<(), AllocError> {
     let mut corners = Vec::new(alloc);
+    mark(mesh, 0, outer, &mut corners)?;
     for (place, listed) in faces.iter().enumerate() {
-        mark(&mut mesh, place.saturating_add(1), listed, &mut corners)?;
+        mark(mesh, place.saturating_add(1), listed, &mut corners)?;
     }
-    Ok(mesh)
+    Ok(())
 }
 
 /// Notes at a face where the list of the file begins.
@@ -228,13 +229,13 @@ fn begins_after(steps: usize, listed: &[u32], corners: &[usize]) -> bool {
 }
 
 /// Returns the place of the first face that comes to no vertex twice.
-fn simple_face(alloc: Global, faces: &[Vec<u32>]) -> Result<Option<usize>, AllocError> {
+fn simple_face(alloc: Global, faces: &[Vec<u32>]) -> Result<usize, Fault> {
     for (place, corners) in faces.iter().enumerate() {
         if is_simple(alloc, corners)? {
-            return Ok(Some(place));
+            return Ok(place);
         }
     }
-    Ok(None)
+    Err(Fault::Input(Wrong::NO_BORDER))
 }
 
 /// Returns whether no two of the corners are one vertex.
@@ -261,26 +262,25 @@ fn has_no_border(reason: FacesError) -> bool {
 
 /// Returns the reason, with the line of the face that it names, if it names one. If the surface as
 /// a whole is none that is taken, tells what it is.
-pub fn fault_of(
-    alloc: Global,
-    reason: FacesError,
-    vertices: usize,
-    faces: &[Vec<u32>],
-    lines: &[usize],
-) -> Result<Fault, AllocError> {
+pub fn fault_of(alloc: Global, reason: FacesError, vertices: usize, surface: &Surface) -> Fault {
     let face = match reason {
         FacesError::FewCorners(face) => face,
         FacesError::NoVertex(face, _) | FacesError::OneEnd(face, _) => face as usize,
         FacesError::SideTwice(_, face, _, _) => face as usize,
         FacesError::Links(
             LinksFault::FaceInParts(0) | LinksFault::NotConnected(_) | LinksFault::NotSphere(_),
-        ) => {
-            let stats = Stats::of_faces(alloc, vertices, faces)?;
-            return Ok(Fault::Input(Wrong::Surface(stats)));
-        }
-        _ => return Ok(Fault::Input(Wrong::Faces(reason))),
+        ) => return fault_of_whole(alloc, vertices, &surface.faces),
+        _ => return Fault::Input(Wrong::Faces(reason)),
     };
-    Ok(at_place(lines, face, Wrong::Faces(reason)))
+    at_place(&surface.lines, face, Wrong::Faces(reason))
+}
+
+/// Tells what a surface as a whole is.
+fn fault_of_whole(alloc: Global, vertices: usize, faces: &[Vec<u32>]) -> Fault {
+    match Stats::of_faces(alloc, vertices, faces) {
+        Ok(stats) => Fault::Input(Wrong::Surface(stats)),
+        Err(error) => Fault::OutOfMemory(error),
+    }
 }
 
 /// Returns what is wrong, with the line of this place in a list, if it has one.

@@ -85,9 +85,9 @@ fn take_vertex(
     mut words: SplitAsciiWhitespace,
     surface: &mut Surface,
 ) -> Result<(), Wrong> {
-    let x = words.next().ok_or(Wrong::TooFew)?;
-    let y = words.next().ok_or(Wrong::TooFew)?;
-    let z = words.next().ok_or(Wrong::TooFew)?;
+    let x = words.next().ok_or(Wrong::TOO_FEW)?;
+    let y = words.next().ok_or(Wrong::TOO_FEW)?;
+    let z = words.next().ok_or(Wrong::TOO_FEW)?;
     surface.take_vertex(alloc, line, [x, y, z], words)
 }
 
@@ -121,12 +121,12 @@ fn take_face(
 /// one: -1 is that one, so -0 is none.
 fn vertex_of(word: &str, vertices: usize) -> Result<u32, Wrong> {
     match word.strip_prefix('-') {
-        None => number(word)?.checked_sub(1).ok_or(Wrong::NoNumber),
+        None => number(word)?.checked_sub(1).ok_or(Wrong::NO_NUMBER),
         Some(back) => {
-            let behind = number(back)?.checked_sub(1).ok_or(Wrong::NoNumber)?;
-            let last = vertices.checked_sub(1).ok_or(Wrong::NoNumber)?;
-            let place = last.checked_sub(behind as usize).ok_or(Wrong::NoNumber)?;
-            u32::try_from(place).map_err(|_| Wrong::NoNumber)
+            let behind = number(back)?.checked_sub(1).ok_or(Wrong::NO_NUMBER)?;
+            let last = vertices.checked_sub(1).ok_or(Wrong::NO_NUMBER)?;
+            let place = last.checked_sub(behind as usize).ok_or(Wrong::NO_NUMBER)?;
+            u32::try_from(place).map_err(|_| Wrong::NO_NUMBER)
         }
     }
 }

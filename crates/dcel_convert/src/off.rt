@@ -9,7 +9,7 @@ use std::alloc::Global;
 use std::str::SplitAsciiWhitespace;
 
 /// What the next line of a file should be.
-#[derive(Clone, Copy, PartialEq, Eq, Debug)]
+#[derive(Clone, Copy)]
 enum Stage {
     /// The word `OFF`.
     Word,
@@ -20,7 +20,7 @@ enum Stage {
 }
 
 /// How vertices and faces lie on lines.
-#[derive(Clone, Copy, PartialEq, Eq, Debug)]
+#[derive(Clone, Copy)]
 pub enum Layout {
     /// Each has a line, which may have something else behind it.
     Lines,
@@ -76,11 +76,11 @@ impl OffReader {
     /// Tells whether the file may end here.
     pub fn end(&self, surface: &Surface) -> Result<(), Wrong> {
         match self.stage {
-            Stage::Word => Err(Wrong::NoOff),
-            Stage::Counts => Err(Wrong::TooFew),
+            Stage::Word => Err(Wrong::NO_OFF),
+            Stage::Counts => Err(Wrong::TOO_FEW),
             Stage::Elements => {
                 if surface.places.len() < self.vertices || surface.faces.len() < self.faces {
-                    return Err(Wrong::FewerLines);
+                    return Err(Wrong::FEWER_LINES);
                 }
                 Ok(())
             }
@@ -97,7 +97,7 @@ impl OffReader {
         self.numbers.extras = extras_of(alloc, first)?;
         self.stage = Stage::Counts;
         match words.next() {
-            Some("BINARY") => Err(Wrong::BinaryOff),
+            Some("BINARY") => Err(Wrong::BINARY_OFF),
             Some(count) => self.take_counts(count, words),
             None => Ok(()),
         }
@@ -106,7 +106,7 @@ impl OffReader {
     /// Reads the counts of vertices and faces. That of edges, if it is there, may be any number.
     fn take_counts(&mut self, first: &str, mut words: SplitAsciiWhitespace) -> Result<(), Wrong> {
         self.vertices = number(first)? as usize;
-        self.faces = number(words.next().ok_or(Wrong::TooFew)?)? as usize;
+        self.faces = number(words.next().ok_or(Wrong::TOO_FEW)?)? as usize;
         self.stage = Stage::Elements;
         Ok(())
     }
@@ -128,7 +128,7 @@ impl OffReader {
                     } else if surface.faces.len() < self.faces {
                         self.numbers.take_of_face(alloc, line, word, surface)?;
                     } else {
-                        return Err(Wrong::MoreLines);
+                        return Err(Wrong::MORE_LINES);
                     }
                 }
                 Ok(())
@@ -148,13 +148,13 @@ impl OffReader {
             return Ok(());
         };
         if surface.places.len() < self.vertices {
-            let y = words.next().ok_or(Wrong::TooFew)?;
-            let z = words.next().ok_or(Wrong::TooFew)?;
+            let y = words.next().ok_or(Wrong::TOO_FEW)?;
+            let z = words.next().ok_or(Wrong::TOO_FEW)?;
             surface.take_vertex(alloc, line, [first, y, z], words)
         } else if surface.faces.len() < self.faces {
             take_face(alloc, line, first, words, surface)
         } else {
-            Err(Wrong::MoreLines)
+            Err(Wrong::MORE_LINES)
         }
     }
 }
@@ -169,7 +169,7 @@ fn take_face(
 ) -> Result<(), Wrong> {
     let mut corners = Vec::new(alloc);
     for _ in 0..number(count)? {
-        corners.push(number(words.next().ok_or(Wrong::TooFew)?)?)?;
+        corners.push(number(words.next().ok_or(Wrong::TOO_FEW)?)?)?;
     }
     surface.add_face(line, corners)?;
     if words.next().is_some() {

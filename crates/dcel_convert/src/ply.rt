@@ -10,7 +10,7 @@ use std::mem;
 use std::str::SplitAsciiWhitespace;
 
 /// What the numbers of a property are.
-#[derive(Clone, Copy, PartialEq, Eq, Debug, Drop)]
+#[derive(Clone, Copy, PartialEq, Eq, Drop)]
 enum Purpose {
     X,
     Y,
@@ -20,14 +20,14 @@ enum Purpose {
 }
 
 /// A property of an element: a number, or a list, which begins with its length.
-#[derive(Clone, Copy, PartialEq, Eq, Debug, Drop)]
+#[derive(Clone, Copy, Drop)]
 struct Property {
     purpose: Purpose,
     is_list: bool,
 }
 
 /// What an element is.
-#[derive(Clone, Copy, PartialEq, Eq, Debug, Drop)]
+#[derive(Clone, Copy, Drop)]
 enum Kind {
     Vertex,
     Face,
@@ -43,7 +43,7 @@ struct Element {
 }
 
 /// What the next line of a file should be.
-#[derive(Clone, Copy, PartialEq, Eq, Debug, Drop)]
+#[derive(Clone, Copy, PartialEq, Eq, Drop)]
 enum Stage {
     /// The word `ply`.
     Word,
@@ -120,7 +120,7 @@ impl PlyReader {
     /// Tells whether the file may end here.
     pub fn end(&self) -> Result<(), Wrong> {
         if self.stage != Stage::Elements || !self.elements.is_empty() {
-            return Err(Wrong::FewerLines);
+            return Err(Wrong::FEWER_LINES);
         }
         Ok(())
     }
@@ -133,14 +133,14 @@ impl PlyReader {
                     self.has_format = true;
                     Ok(())
                 }
-                Some("binary_little_endian") | Some("binary_big_endian") => Err(Wrong::BinaryPly),
-                _ => Err(Wrong::NoHeader),
+                Some("binary_little_endian") | Some("binary_big_endian") => Err(Wrong::BINARY_PLY),
+                _ => Err(Wrong::NO_HEADER),
             },
             Some("element") => self.take_element(alloc, words),
             Some("property") => self.take_property(words),
             Some("end_header") => self.end_header(),
             Some("comment") | Some("obj_info") | None => Ok(()),
-            _ => Err(Wrong::NoHeader),
+            _ => Err(Wrong::NO_HEADER),
         }
     }
 
@@ -150,12 +150,12 @@ impl PlyReader {
         alloc: Global,
         mut words: SplitAsciiWhitespace,
     ) -> Result<(), Wrong> {
-        let kind = match words.next().ok_or(Wrong::NoHeader)? {
+        let kind = match words.next().ok_or(Wrong::NO_HEADER)? {
             "vertex" => Kind::Vertex,
             "face" => Kind::Face,
             _ => Kind::Other,
         };
-        let count = number(words.next().ok_or(Wrong::NoHeader)?)?;
+        let count = number(words.next().ok_or(Wrong::NO_HEADER)?)?;
         self.elements.push(Element {
             kind,
             count,
@@ -166,14 +166,14 @@ impl PlyReader {
 
     /// Reads a property of the last element.
     fn take_property(&mut self, mut words: SplitAsciiWhitespace) -> Result<(), Wrong> {
-        let is_list = words.next().ok_or(Wrong::NoHeader)? == "list";
+        let is_list = words.next().ok_or(Wrong::NO_HEADER)? == "list";
         if is_list {
-            let _ = words.next().ok_or(Wrong::NoHeader)?;
-            let _ = words.next().ok_or(Wrong::NoHeader)?;
+            let _ = words.next().ok_or(Wrong::NO_HEADER)?;
+            let _ = words.next().ok_or(Wrong::NO_HEADER)?;
         }
-        let name = words.next().ok_or(Wrong::NoHeader)?;
+        let name = words.next().ok_or(Wrong::NO_HEADER)?;
         let Some(element) = self.elements.last_mut() else {
-            return Err(Wrong::NoHeader);
+            return Err(Wrong::NO_HEADER);
         };
         let property = Property {
             purpose: purpose_of(element.kind, is_list, name),
@@ -186,11 +186,11 @@ impl PlyReader {
     /// Ends the header: vertices need three coordinates, faces their corners.
     fn end_header(&mut self) -> Result<(), Wrong> {
         if !self.has_format {
-            return Err(Wrong::PartialHeader);
+            return Err(Wrong::PARTIAL_HEADER);
         }
         for element in &self.elements {
             if !is_complete(element) {
-                return Err(Wrong::PartialHeader);
+                return Err(Wrong::PARTIAL_HEADER);
             }
         }
         self.elements.reverse();
@@ -222,11 +222,11 @@ impl PlyReader {
         surface: &mut Surface,
     ) -> Result<(), Wrong> {
         let Some(element) = self.elements.last() else {
-            return Err(Wrong::MoreLines);
+            return Err(Wrong::MORE_LINES);
         };
         let (kind, count) = (element.kind, element.properties.len());
         let Some(property) = element.properties.get(self.place).copied() else {
-            return Err(Wrong::MoreLines);
+            return Err(Wrong::MORE_LINES);
         };
         if self.take_of(alloc, property, word)? {
             self.place = self.place.saturating_add(1);

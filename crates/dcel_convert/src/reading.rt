@@ -62,19 +62,32 @@ fn lines_of(
 ) -> Result<Content, Fault> {
     let all = count_lines(text);
     let mut surface = Surface::new(rt.alloc());
-    for (line, said) in numbered_lines(text) {
-        progress.show(rt, line, all, "lines")?;
-        reader
-            .take(rt.alloc(), line, said, &mut surface)
-            .map_err(|wrong| Fault::Line { line, wrong })?;
-    }
-    progress.clear(rt, all)?;
+    take_lines(rt, progress, text, all, &mut reader, &mut surface)?;
     reader
         .end(rt.alloc(), surface)
         .map_err(|wrong| Fault::Line {
             line: all.saturating_add(1),
             wrong,
         })
+}
+
+/// Reads line after line, and shows how many of all are read.
+fn take_lines(
+    rt: &(impl Eprint + AllocGlobal),
+    progress: Progress,
+    text: &str,
+    all: usize,
+    reader: &mut Reader,
+    surface: &mut Surface,
+) -> Result<(), Fault> {
+    for (line, said) in numbered_lines(text) {
+        progress.show(rt, line, all, "lines")?;
+        reader
+            .take(rt.alloc(), line, said, surface)
+            .map_err(|wrong| Fault::Line { line, wrong })?;
+    }
+    progress.clear(rt, all)?;
+    Ok(())
 }
 
 fn count_lines(text: &str) -> usize {
@@ -136,7 +149,7 @@ impl Reader {
 /// Returns the number that a word says, which has no sign.
 pub fn number(word: &str) -> Result<u32, Wrong> {
     if word.starts_with('+') {
-        return Err(Wrong::NoNumber);
+        return Err(Wrong::NO_NUMBER);
     }
-    word.parse::<u32>().map_err(|_| Wrong::NoNumber)
+    word.parse::<u32>().map_err(|_| Wrong::NO_NUMBER)
 }

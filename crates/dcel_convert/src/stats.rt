@@ -8,7 +8,7 @@ use std::io::{self, Write};
 
 /// How much a surface has of what. Borders and the genus are those of a surface on which each side
 /// belongs to one face, and the corners of each vertex are one turn.
-#[derive(Clone, Copy, PartialEq, Eq, Debug, Drop)]
+#[derive(Clone, Copy, Debug, Drop)]
 pub struct Stats {
     /// How many vertices there are, those without a face too.
     pub vertices: usize,

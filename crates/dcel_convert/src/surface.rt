@@ -89,9 +89,9 @@ pub const BEHIND_CORNERS: &str = "what follows a face's corners";
 
 /// Adds a coordinate to a place, if it is a number that is finite.
 pub fn add_coordinate(place: &mut String, word: &str) -> Result<(), Wrong> {
-    let number = word.parse::<f64>().map_err(|_| Wrong::NoCoordinate)?;
+    let number = word.parse::<f64>().map_err(|_| Wrong::NO_COORDINATE)?;
     if !number.is_finite() {
-        return Err(Wrong::NoCoordinate);
+        return Err(Wrong::NO_COORDINATE);
     }
     place.push_str(word)?;
     Ok(())

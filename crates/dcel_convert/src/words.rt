@@ -70,7 +70,7 @@ impl WordsReader {
         } else if first == "closed" && self.closed.is_none() {
             self.closed = Some(place_of(counts, words)?);
         } else if !first.is_empty() {
-            return Err(Wrong::MoreLines);
+            return Err(Wrong::MORE_LINES);
         }
         Ok(())
     }
@@ -94,8 +94,8 @@ impl WordsReader {
                     closed,
                 })
             }
-            Some(_) => Err(Wrong::FewerLines),
-            None => Err(Wrong::NoCounts),
+            Some(_) => Err(Wrong::FEWER_LINES),
+            None => Err(Wrong::NO_COUNTS),
         }
     }
 }
@@ -108,7 +108,7 @@ fn counts_of(mut words: SplitAsciiWhitespace) -> Result<Counts, Wrong> {
         faces: count_of("faces", &mut words)?,
     };
     match words.next() {
-        Some(_) => Err(Wrong::NoCounts),
+        Some(_) => Err(Wrong::NO_COUNTS),
         None => Ok(counts),
     }
 }
@@ -116,9 +116,9 @@ fn counts_of(mut words: SplitAsciiWhitespace) -> Result<Counts, Wrong> {
 /// Reads the count that follows this word.
 fn count_of(word: &str, words: &mut SplitAsciiWhitespace) -> Result<u32, Wrong> {
     if words.next() != Some(word) {
-        return Err(Wrong::NoCounts);
+        return Err(Wrong::NO_COUNTS);
     }
-    number(words.next().ok_or(Wrong::NoCounts)?)
+    number(words.next().ok_or(Wrong::NO_COUNTS)?)
 }
 
 /// Returns the face whose word begins so.
@@ -129,12 +129,12 @@ fn face_named(first: &str) -> Option<usize> {
 
 /// Reads the place of the outer face among all faces, with which the line ends.
 fn place_of(counts: Counts, mut words: SplitAsciiWhitespace) -> Result<usize, Wrong> {
-    let place = number(words.next().ok_or(Wrong::TooFew)?)?;
+    let place = number(words.next().ok_or(Wrong::TOO_FEW)?)?;
     if place >= counts.faces {
-        return Err(Wrong::NoNumber);
+        return Err(Wrong::NO_NUMBER);
     }
     match words.next() {
-        Some(_) => Err(Wrong::MoreLines),
+        Some(_) => Err(Wrong::MORE_LINES),
         None => Ok(place as usize),
     }
 }

@@ -85,14 +85,7 @@ fn write_obj(alloc: Global, writer: &mut impl Write, solid: &Solid) -> io::Resul
 /// Writes the counts, the word of each face, and the half edges out of each vertex. If the outer
 /// face is one of the surface, a last line has its place among the faces.
 fn write_words(alloc: Global, writer: &mut impl Write, solid: &Solid) -> io::Result<()> {
-    write_halves(alloc, writer, &solid.mesh)?;
-    if let Some(place) = solid.outer {
-        writeln!(writer, "closed {place}")?;
-    }
-    Ok(())
-}
-
-fn write_halves(alloc: Global, writer: &mut impl Write, mesh: &Mesh) -> io::Result<()> {
+    let mesh = &solid.mesh;
     writeln!(
         writer,
         "vertices {} edges {} faces {}",
@@ -100,12 +93,28 @@ fn write_halves(alloc: Global, writer: &mut impl Write, mesh: &Mesh) -> io::Resu
         mesh.num_undirected_edges(),
         mesh.num_faces()
     )?;
+    write_rounds(alloc, writer, mesh)?;
+    write_turns(alloc, writer, mesh)?;
+    if let Some(place) = solid.outer {
+        writeln!(writer, "closed {place}")?;
+    }
+    Ok(())
+}
+
+/// Writes the half edges round each face.
+fn write_rounds(alloc: Global, writer: &mut impl Write, mesh: &Mesh) -> io::Result<()> {
     let mut halves = Vec::new(alloc);
     for face in mesh.live_faces() {
         write!(writer, "F{}", face.index())?;
         list_word(face, &mut halves)?;
         write_numbers(writer, &halves, 0)?;
     }
+    Ok(())
+}
+
+/// Writes the half edges out of each vertex.
+fn write_turns(alloc: Global, writer: &mut impl Write, mesh: &Mesh) -> io::Result<()> {
+    let mut halves = Vec::new(alloc);
     for vertex in mesh.live_vertices() {
         write!(writer, "out")?;
         list_turn(vertex, &mut halves)?;
