@@ -273,7 +273,7 @@ fn check_kept(
     holds(is_same, "nothing has changed")
 }
 
-/// Makes a change with the request of this number refused, and tells whether it came.
+/// Makes a change so, and checks what a refusal leaves. Returns whether the request came.
 fn refuse_once<'a>(
     triangulation: &mut Watched<'a>,
     memory: Memory<'a>,
