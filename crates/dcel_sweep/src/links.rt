@@ -183,7 +183,7 @@ fn left(row: &Row, alloc: Global) -> Result<Option<Snapshot>, Fail> {
 /// Checks that where there was memory the mesh is made, or its links are refused for the row's
 /// reason.
 fn check_made(
-    outcome: Outcome,
+    outcome: &Outcome,
     row: &Row,
     left: &Option<Snapshot>,
     alloc: Global,
@@ -192,13 +192,38 @@ fn check_made(
     match outcome {
         Ok(made) => {
             same(None, row.refused, call)?;
-            same(&Some(snapshot_of(&made, alloc)?), left, call)
+            same(&Some(snapshot_of(made, alloc)?), left, call)
         }
         Err(refused) => {
             same(Some(refused.reason), row.refused, call)?;
             check_data(&refused.back, row)
         }
     }
+}
+
+/// Checks that no mesh is made, as a request was refused, and makes it again of the data that come
+/// back.
+fn make_again<'a>(
+    memory: Memory<'a>,
+    row: &Row,
+    outcome: Outcome<'a>,
+    left: &Option<Snapshot>,
+    alloc: Global,
+) -> Result<(), Fail> {
+    match outcome {
+        Ok(_) => Err(Fail::new("a mesh is made though a request was refused")),
+        Err(refused) => {
+            check_refused(&refused, row)?;
+            let again = make(memory, row, refused.back, Refusals::None);
+            check_made(&again, row, left, alloc)
+        }
+    }
+}
+
+/// Checks that memory was the reason, and that the data come back.
+fn check_refused(refused: &RefusedLinks<Data>, row: &Row) -> Result<(), Fail> {
+    same(refused.reason, LinksError::OutOfMemory, name(row.call))?;
+    check_data(&refused.back, row)
 }
 
 /// Makes the mesh of a row with the request of this number refused, and again of the data that come
@@ -212,20 +237,13 @@ fn is_refused(
     let memory = Refusing::new(alloc);
     let data = data(&memory, row)?;
     let outcome = make(&memory, row, data, Refusals::One(number));
-    if memory.requests() <= number {
-        check_made(outcome, row, left, alloc)?;
-        return Ok(false);
+    let is_refused = memory.requests() > number;
+    if is_refused {
+        make_again(&memory, row, outcome, left, alloc)?;
+    } else {
+        check_made(&outcome, row, left, alloc)?;
     }
-    match outcome {
-        Ok(_) => Err(Fail::new("a mesh is made though a request was refused")),
-        Err(refused) => {
-            same(refused.reason, LinksError::OutOfMemory, name(row.call))?;
-            check_data(&refused.back, row)?;
-            let again = make(&memory, row, refused.back, Refusals::None);
-            check_made(again, row, left, alloc)?;
-            Ok(true)
-        }
-    }
+    Ok(is_refused)
 }
 
 /// Refuses the row each of its requests in turn, and none at last.

@@ -4,7 +4,7 @@ use dcel_decimals::Scale;
 use dcel_programs::{Choice, Given, Program, Switch, Takes};
 
 /// What is written to standard output.
-#[derive(Clone, Copy, PartialEq, Eq, Debug)]
+#[derive(Clone, Copy)]
 pub enum Output {
     /// The triangles.
     Triangles,

@@ -37,35 +37,46 @@ impl Constrained {
         if !drawn.triangulation.is_whole() {
             return Err(Fault::Input(Wrong::Insertion(InsertionError::Unfinished)));
         }
-        let mut triangulation = ConstrainedTriangulation::from_triangulation(
-            &drawn.triangulation,
-            alloc,
-        )?;
+        let mut constrained = Constrained {
+            triangulation: ConstrainedTriangulation::from_triangulation(
+                &drawn.triangulation,
+                alloc,
+            )?,
+            is_marked: Vec::new(alloc),
+            inside: None,
+        };
+        constrained.add_all(alloc, arguments, task, drawn)?;
+        Ok(constrained)
+    }
+
+    /// Puts the constraints and the sides of the outline in.
+    fn add_all(
+        &mut self,
+        alloc: Global,
+        arguments: &Arguments,
+        task: &Task,
+        drawn: &Drawn,
+    ) -> Result<(), Fault> {
         let vertices = drawn.vertices_of_points(alloc)?;
-        add_joins(
+        let inserted = &mut self.triangulation;
+        let _ = add_joins(
             alloc,
-            &mut triangulation,
+            inserted,
             &vertices,
             &task.constraints,
             arguments.constraints,
         )?;
-        let sides = add_joins(
-            alloc,
-            &mut triangulation,
-            &vertices,
-            &task.outline,
-            arguments.outline,
-        )?;
-        let is_marked = marks(alloc, &triangulation)?;
-        let inside = match arguments.outline {
-            Some(_) => Some(inside_of(alloc, &triangulation, &sides, arguments.outline)?),
-            None => None,
-        };
-        Ok(Constrained {
-            triangulation,
-            is_marked,
-            inside,
-        })
+        let sides = add_joins(alloc, inserted, &vertices, &task.outline, arguments.outline)?;
+        self.part(alloc, &sides, arguments.outline)
+    }
+
+    /// Notes which edges are marked, and what is inside the outline with these sides, if there is one.
+    fn part(&mut self, alloc: Global, sides: &[Segment], path: Option<&str>) -> Result<(), Fault> {
+        self.is_marked = marks(alloc, &self.triangulation)?;
+        if path.is_some() {
+            self.inside = Some(inside_of(alloc, &self.triangulation, sides, path)?);
+        }
+        Ok(())
     }
 
     /// Returns what is written and drawn of it.

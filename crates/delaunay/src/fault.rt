@@ -8,7 +8,7 @@ use thiserror::Error;
 pub type Fault = dcel_programs::Fault<Wrong>;
 
 /// What is wrong with the input.
-#[derive(Clone, Copy, PartialEq, Eq, Debug, Drop, Error)]
+#[derive(Clone, Copy, Debug, Drop, Error)]
 pub enum Wrong {
     /// A line has one word.
     #[error("a point has two coordinates, here is one")]
@@ -56,7 +56,7 @@ pub enum Wrong {
     #[error("a vertex has no point")]
     NoPointThere,
     /// A point could not be inserted.
-    #[error("{0}")]
+    #[error(transparent)]
     Insertion(InsertionError),
     /// A point could not be removed.
     #[error("a point can't be removed")]

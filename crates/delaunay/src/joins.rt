@@ -19,7 +19,7 @@ pub struct Join {
 }
 
 /// What a file of joins has in each line.
-#[derive(Clone, Copy, PartialEq, Eq)]
+#[derive(Clone, Copy)]
 pub enum Form {
     /// Two points.
     Pairs,

@@ -32,7 +32,7 @@ use crate::fault::Fault;
 use crate::nearest::nearest_vertices;
 use crate::picture::Svg;
 use crate::task::Task;
-use crate::triangulating::triangulated;
+use crate::triangulating::{Inserted, triangulated};
 use crate::view::View;
 use crate::writing::Written;
 use dcel_programs::{Progress, run, write_out};
@@ -56,18 +56,40 @@ fn draw(
 ) -> Result<(), Fault> {
     let task = Task::read(rt, arguments)?;
     let drawn = triangulate(rt, progress, arguments, &task)?;
+    let nearest = find_nearest(rt, arguments, &task, &drawn)?;
+    constrain(rt, arguments, &task, &drawn, &nearest)
+}
+
+/// Finds the vertices that are nearest to the places of the task.
+fn find_nearest(
+    rt: &(impl Clock + Eprint + AllocGlobal),
+    arguments: &Arguments,
+    task: &Task,
+    drawn: &Drawn,
+) -> Result<Vec<Option<FixedVertexHandle>>, Fault> {
     let start = Instant::now(rt)?;
-    let nearest = nearest_vertices(rt.alloc(), &drawn, &task.places)?;
+    let nearest = nearest_vertices(rt.alloc(), drawn, &task.places)?;
     if arguments.nearest.is_some() {
         tell_time(rt, arguments, start, " to find the nearest points")?;
     }
+    Ok(nearest)
+}
+
+/// Puts in constraints, if there are any, and writes what is asked for.
+fn constrain(
+    rt: &(impl Files + Clock + Print + Eprint + AllocGlobal),
+    arguments: &Arguments,
+    task: &Task,
+    drawn: &Drawn,
+    nearest: &[Option<FixedVertexHandle>],
+) -> Result<(), Fault> {
     if !arguments.has_constraints() {
-        return write_all(rt, arguments, &drawn.view(), &nearest);
+        return write_all(rt, arguments, &drawn.view(), nearest);
     }
     let start = Instant::now(rt)?;
-    let constrained = Constrained::of(rt.alloc(), arguments, &task, &drawn)?;
+    let constrained = Constrained::of(rt.alloc(), arguments, task, drawn)?;
     tell_time(rt, arguments, start, " to put in constraints")?;
-    write_all(rt, arguments, &constrained.view(&drawn), &nearest)
+    write_all(rt, arguments, &constrained.view(drawn), nearest)
 }
 
 /// Triangulates the points, and removes those that are to be removed.
@@ -81,11 +103,20 @@ fn triangulate<'a>(
     let mut inserted = triangulated(rt, progress, task)?;
     tell_time(rt, arguments, start, "")?;
     if arguments.remove.is_some() {
-        let start = Instant::now(rt)?;
-        inserted.remove_bare_vertices(rt.alloc())?;
-        tell_time(rt, arguments, start, " to remove points")?;
+        remove(rt, arguments, &mut inserted)?;
     }
     inserted.drawn(rt.alloc())
+}
+
+/// Removes the points that are to be removed.
+fn remove(
+    rt: &(impl Clock + Eprint + AllocGlobal),
+    arguments: &Arguments,
+    inserted: &mut Inserted,
+) -> Result<(), Fault> {
+    let start = Instant::now(rt)?;
+    inserted.remove_bare_vertices(rt.alloc())?;
+    tell_time(rt, arguments, start, " to remove points")
 }
 
 /// Writes what is asked for, and draws it.

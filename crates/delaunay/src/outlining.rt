@@ -21,17 +21,16 @@ pub fn triangles_inside(
 ) -> Result<Vec<Option<usize>>, Fault> {
     let mut parted = freed(alloc, mesh)?;
     turn_sides(&mut parted, sides)?;
-    let crossed = regions(&parted, alloc)?;
-    Ok(counted_if_odd(alloc, &crossed)?)
+    Ok(crossed_odd_times(alloc, &parted)?)
 }
 
 /// Returns the same mesh without a marked edge.
 fn freed(alloc: Global, mesh: &ConstrainedMesh) -> Result<ConstrainedMesh, AllocError> {
     let copy = mesh.try_clone(alloc)?;
-    let Ok(freed) = copy.map_undirected_edges(alloc, |_mark: Mark| Mark::Free) else {
-        return Err(AllocError);
-    };
-    Ok(freed)
+    match copy.map_undirected_edges(alloc, |_mark: Mark| Mark::Free) {
+        Ok(freed) => Ok(freed),
+        Err(_) => Err(AllocError),
+    }
 }
 
 /// Turns over the marks of the edges along each side.
@@ -102,6 +101,15 @@ fn leads_to(start: Point, end: Point, goal: Point) -> bool {
 /// Returns whether two numbers lie on the same side of a first one, or are the same as it.
 fn is_same_way(start: i64, end: i64, goal: i64) -> bool {
     (start < end) == (start < goal) && (end < start) == (goal < start)
+}
+
+/// Returns for each face which one it is of those to which a way from outside crosses marked edges an
+/// odd number of times, if it is one.
+fn crossed_odd_times(
+    alloc: Global,
+    mesh: &ConstrainedMesh,
+) -> Result<Vec<Option<usize>>, AllocError> {
+    counted_if_odd(alloc, &regions(mesh, alloc)?)
 }
 
 /// Counts the odd ones among some numbers: for each that is odd how many there are before it.

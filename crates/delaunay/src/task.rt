@@ -8,6 +8,7 @@ use crate::removal::read_marks;
 use dcel_decimals::Scale;
 use dcel_delaunay::Point;
 use dcel_programs::read_text;
+use std::io;
 use std::rt::Files;
 
 /// Points, and what is to be done with them.
@@ -35,50 +36,78 @@ impl Task {
         arguments: &Arguments,
     ) -> Result<Self, Fault> {
         let alloc = rt.alloc();
-        let coordinates = Coordinates::of(alloc, &read_text(rt, arguments.file)?)?;
-        let asked = match arguments.nearest {
-            Some(path) => read_coordinates(rt, path)?,
-            None => Coordinates::none(alloc),
+        let mut task = Task {
+            points: Vec::new(alloc),
+            is_removed: Vec::new(alloc),
+            constraints: Vec::new(alloc),
+            outline: Vec::new(alloc),
+            places: Vec::new(alloc),
+            scale: Scale::ONE,
         };
-        let scale = match arguments.scale {
-            Some(scale) => scale,
-            None => greater(coordinates.scale(), asked.scale()),
-        };
-        if arguments.scale.is_none() && scale != Scale::ONE {
-            eprintln!(rt; "delaunay: the scale is {}", scale.factor())?;
+        task.fill(rt, arguments)?;
+        Ok(task)
+    }
+
+    fn fill(
+        &mut self,
+        rt: &(impl Files + Input + Eprint + AllocGlobal),
+        arguments: &Arguments,
+    ) -> Result<(), Fault> {
+        let coordinates = Coordinates::of(rt.alloc(), &read_text(rt, arguments.file)?)?;
+        match arguments.nearest {
+            None => self.take(rt, arguments, &coordinates, &Coordinates::none(rt.alloc())),
+            Some(path) => self.take(rt, arguments, &coordinates, &read_coordinates(rt, path)?),
         }
-        let points = coordinates.points(alloc, scale)?;
-        let is_removed = match arguments.remove {
-            Some(path) => read_marks(rt, path, points.len())?,
-            None => Vec::new(alloc),
-        };
-        let constraints = joins(rt, arguments.constraints, Form::Pairs, points.len())?;
-        let outline = joins(rt, arguments.outline, Form::Curves, points.len())?;
-        let places = asked
-            .points(alloc, scale)
-            .map_err(|fault| in_file(alloc, arguments.nearest, fault))?;
-        Ok(Task {
-            points,
-            is_removed,
-            constraints,
-            outline,
-            places,
-            scale,
-        })
+    }
+
+    /// Takes the points with these coordinates and the places with those, and reads the files of
+    /// numbers.
+    fn take(
+        &mut self,
+        rt: &(impl Files + Input + Eprint + AllocGlobal),
+        arguments: &Arguments,
+        coordinates: &Coordinates,
+        asked: &Coordinates,
+    ) -> Result<(), Fault> {
+        let least = greater(coordinates.scale(), asked.scale());
+        self.scale = scale_of(rt, arguments, least)?;
+        self.points = coordinates.points(rt.alloc(), self.scale)?;
+        self.read_numbers(rt, arguments)?;
+        self.places = asked
+            .points(rt.alloc(), self.scale)
+            .map_err(|fault| in_file(rt.alloc(), arguments.nearest, fault))?;
+        Ok(())
+    }
+
+    /// Reads the files that have numbers of points.
+    fn read_numbers(
+        &mut self,
+        rt: &(impl Files + Input + AllocGlobal),
+        arguments: &Arguments,
+    ) -> Result<(), Fault> {
+        let count = self.points.len();
+        if let Some(path) = arguments.remove {
+            self.is_removed = read_marks(rt, path, count)?;
+        }
+        if let Some(path) = arguments.constraints {
+            self.constraints = read_joins(rt, path, Form::Pairs, count)?;
+        }
+        if let Some(path) = arguments.outline {
+            self.outline = read_joins(rt, path, Form::Curves, count)?;
+        }
+        Ok(())
     }
 }
 
-/// Reads the joins of a file, if there is one.
-fn joins(
-    rt: &(impl Files + Input + AllocGlobal),
-    path: Option<&str>,
-    form: Form,
-    count: usize,
-) -> Result<Vec<Join>, Fault> {
-    match path {
-        Some(path) => read_joins(rt, path, form, count),
-        None => Ok(Vec::new(rt.alloc())),
+/// Returns the scale that is asked for, or the least one, and tells that unless it is 1.
+fn scale_of(rt: &impl Eprint, arguments: &Arguments, least: Scale) -> io::Result<Scale> {
+    if let Some(scale) = arguments.scale {
+        return Ok(scale);
     }
+    if least != Scale::ONE {
+        eprintln!(rt; "delaunay: the scale is {}", least.factor())?;
+    }
+    Ok(least)
 }
 
 /// Returns the greater one of two scales.

@@ -33,26 +33,58 @@ impl<'a> Inserted<'a> {
         Ok(())
     }
 
+    /// Inserts the points of a task.
+    fn fill(
+        &mut self,
+        rt: &(impl Eprint + AllocGlobal),
+        progress: Progress,
+        task: &Task,
+    ) -> Result<(), Fault> {
+        let vertices = insert_all(rt, progress, &mut self.triangulation, &task.points)?;
+        self.note(rt.alloc(), &vertices, task)?;
+        Ok(())
+    }
+
+    /// Notes which points are left at these vertices of all points.
+    fn note(
+        &mut self,
+        alloc: Global,
+        vertices: &[FixedVertexHandle],
+        task: &Task,
+    ) -> Result<(), AllocError> {
+        let count = self.triangulation.dcel().num_vertices();
+        self.numbers = least_numbers(alloc, vertices, &task.is_removed, count)?;
+        if !task.constraints.is_empty() || !task.outline.is_empty() {
+            self.least = least_of_each(alloc, vertices, &self.numbers)?;
+        }
+        Ok(())
+    }
+
     /// Returns what is drawn of it, if at each vertex a point is left.
     pub fn drawn(self, alloc: Global) -> Result<Drawn<'a>, Fault> {
-        let numbers = all_of(alloc, &self.numbers)?;
-        if numbers.len() != self.triangulation.dcel().num_vertices() {
+        let numbers = self.all_numbers(alloc)?;
+        Ok(Drawn {
+            triangulation: self.triangulation,
+            numbers,
+            least: self.least,
+            points: self.points,
+            scale: self.scale,
+        })
+    }
+
+    /// Returns the numbers of the points at all vertices, if there is one at each.
+    fn all_numbers(&self, alloc: Global) -> Result<Vec<usize>, Fault> {
+        if self.numbers.len() != self.triangulation.dcel().num_vertices() {
             return Err(Fault::Input(Wrong::NoPointThere));
         }
-        let Inserted {
-            triangulation,
-            least,
-            points,
-            scale,
-            ..
-        } = self;
-        Ok(Drawn {
-            triangulation,
-            numbers,
-            least,
-            points,
-            scale,
-        })
+        let mut all = Vec::with_capacity(alloc, self.numbers.len())?;
+        for number in &self.numbers {
+            let Some(number) = number else {
+                return Err(Fault::Input(Wrong::NoPointThere));
+            };
+            all.push(*number)?;
+        }
+        Ok(all)
     }
 
     /// Returns the vertices at which no point is left.
@@ -86,8 +118,24 @@ pub fn triangulated<'a>(
     progress: Progress,
     task: &'a Task,
 ) -> Result<Inserted<'a>, Fault> {
-    let points = &task.points;
-    let mut triangulation = Triangulation::new(rt.alloc())?;
+    let mut inserted = Inserted {
+        triangulation: Triangulation::new(rt.alloc())?,
+        numbers: Vec::new(rt.alloc()),
+        least: Vec::new(rt.alloc()),
+        points: &task.points,
+        scale: task.scale,
+    };
+    inserted.fill(rt, progress, task)?;
+    Ok(inserted)
+}
+
+/// Inserts points, and shows how many are inserted. Returns the vertex of each.
+fn insert_all(
+    rt: &(impl Eprint + AllocGlobal),
+    progress: Progress,
+    triangulation: &mut Triangulation,
+    points: &[Point],
+) -> Result<Vec<FixedVertexHandle>, Fault> {
     progress.show(rt, 0, points.len(), "points")?;
     let mut shown = Ok(());
     let vertices = triangulation
@@ -99,32 +147,7 @@ pub fn triangulated<'a>(
         .map_err(|error| Fault::Input(Wrong::Insertion(error)))?;
     shown?;
     progress.clear(rt, points.len())?;
-    let count = triangulation.dcel().num_vertices();
-    let numbers = least_numbers(rt.alloc(), &vertices, &task.is_removed, count)?;
-    let least = if task.constraints.is_empty() && task.outline.is_empty() {
-        Vec::new(rt.alloc())
-    } else {
-        least_of_each(rt.alloc(), &vertices, &numbers)?
-    };
-    Ok(Inserted {
-        triangulation,
-        numbers,
-        least,
-        points,
-        scale: task.scale,
-    })
-}
-
-/// Returns the numbers of the points at all vertices, if there is one at each.
-fn all_of(alloc: Global, numbers: &[Option<usize>]) -> Result<Vec<usize>, Fault> {
-    let mut all = Vec::with_capacity(alloc, numbers.len())?;
-    for number in numbers {
-        let Some(number) = number else {
-            return Err(Fault::Input(Wrong::NoPointThere));
-        };
-        all.push(*number)?;
-    }
-    Ok(all)
+    Ok(vertices)
 }
 
 /// Returns the least number of a point that isn't to be removed, at each of so many vertices.

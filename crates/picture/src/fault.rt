@@ -6,7 +6,7 @@ use thiserror::Error;
 pub type Fault = dcel_programs::Fault<Wrong>;
 
 /// What is wrong with a line, or with all.
-#[derive(Clone, Copy, PartialEq, Eq, Debug, Drop, Error)]
+#[derive(Clone, Copy, Debug, Drop, Error)]
 pub enum Wrong {
     /// It is no line that the mesh carries out or answers.
     #[error("{0}")]

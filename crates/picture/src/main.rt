@@ -30,7 +30,7 @@ fn main(rt: HostRuntime) -> ExitCode {
     run(&rt, &PROGRAM, |given| draw(&rt, &Arguments::of(given)))
 }
 
-/// Reads the lines, and draws the mesh that they leave.
+/// Reads the lines, and draws the mesh that they leave, or the mesh after each.
 fn draw(
     rt: &(impl Files + Input + Print + AllocGlobal),
     arguments: &Arguments,
@@ -39,17 +39,27 @@ fn draw(
     let style = Style::HalfEdges {
         anchors: arguments.anchors,
     };
-    if arguments.page {
-        if arguments.places.is_some() {
-            return Err(Fault::Input(Wrong::PlacesOfPage));
-        }
-        let page = Page::new(rt.alloc(), talk_of(rt.alloc(), &text)?, style)?;
-        return write_out(rt, None, &page);
+    if !arguments.page {
+        let replay = replay_of(rt.alloc(), &text)?;
+        return draw_last(rt, arguments.places, &replay, style);
     }
-    let replay = replay_of(rt.alloc(), &text)?;
-    let places = find_places(rt, arguments.places, &replay)?;
+    if arguments.places.is_some() {
+        return Err(Fault::Input(Wrong::PlacesOfPage));
+    }
+    let page = Page::new(rt.alloc(), talk_of(rt.alloc(), &text)?, style)?;
+    write_out(rt, None, &page)
+}
+
+/// Draws the mesh that is left.
+fn draw_last(
+    rt: &(impl Files + Input + Print + AllocGlobal),
+    file: Option<&str>,
+    replay: &Replay,
+    style: Style,
+) -> Result<(), Fault> {
+    let places = find_places(rt, file, replay)?;
     let drawn = Drawn {
-        replay: &replay,
+        replay,
         places: &places,
         style,
     };

@@ -29,26 +29,43 @@ impl<'a> Page<'a> {
     /// Finds places for the vertices after each line, from the last one on. From line to line they
     /// are kept if the mesh can be drawn there, and the frame has all of them.
     pub fn new(alloc: Global, steps: Vec<Step<'a>>, style: Style) -> Result<Self, AllocError> {
-        let mut places: Vec<Places> = Vec::new(alloc);
-        for step in steps.iter().rev() {
-            let (mesh, before) = (step.replay.mesh(), step.replay.before());
-            let found = match places.last() {
-                Some(later) => spread_near(alloc, mesh, before, later)?,
-                None => spread(alloc, mesh, before)?,
-            };
-            places.push(found)?;
-        }
-        places.reverse();
-        let mut extent = Extent::new();
-        for (step, places) in steps.iter().zip(&places) {
-            extent.include(&step.picture(alloc, places)?);
-        }
+        let places = places_of(alloc, &steps)?;
+        let extent = extent_of(alloc, &steps, &places)?;
         Ok(Page {
             steps,
             places,
             frame: Frame::of(extent, style),
         })
     }
+}
+
+/// Finds places for the vertices after each line, from the last one on.
+fn places_of(alloc: Global, steps: &[Step]) -> Result<Vec<Places>, AllocError> {
+    let mut places: Vec<Places> = Vec::new(alloc);
+    for step in steps.iter().rev() {
+        let found = places_before(alloc, step, places.last())?;
+        places.push(found)?;
+    }
+    places.reverse();
+    Ok(places)
+}
+
+/// Finds places for the vertices after a line, near to those after the next one.
+fn places_before(alloc: Global, step: &Step, later: Option<&Places>) -> Result<Places, AllocError> {
+    let (mesh, before) = (step.replay.mesh(), step.replay.before());
+    match later {
+        Some(later) => spread_near(alloc, mesh, before, later),
+        None => spread(alloc, mesh, before),
+    }
+}
+
+/// Returns how far all pictures reach.
+fn extent_of(alloc: Global, steps: &[Step], places: &[Places]) -> Result<Extent, AllocError> {
+    let mut extent = Extent::new();
+    for (step, places) in steps.iter().zip(places) {
+        extent.include(&step.picture(alloc, places)?);
+    }
+    Ok(extent)
 }
 
 impl<'a> Text for Page<'a> {
@@ -60,13 +77,7 @@ impl<'a> Text for Page<'a> {
         ) {
             writeln!(writer, "<section id=\"step-{count}\">")?;
             write_said(step, writer)?;
-            let svg = self.picture_of(alloc, last, step, places)?;
-            write!(
-                writer,
-                "<img alt=\"The mesh after line {}\" src=\"data:image/svg+xml,",
-                step.number
-            )?;
-            write_address(&svg, writer)?;
+            self.write_picture(alloc, writer, last, step, places)?;
             writeln!(writer, "\">\n</section>")?;
             last = Some(step);
         }
@@ -75,27 +86,38 @@ impl<'a> Text for Page<'a> {
 }
 
 impl<'a> Page<'a> {
-    /// Draws the mesh after a line, with what is other than after the last one marked; after the
-    /// first one, what is other than in an empty mesh.
-    fn picture_of(
+    /// Begins an image: the mesh after a line, with what is other than after the last one marked.
+    fn write_picture(
         &self,
         alloc: Global,
+        writer: &mut impl Write,
         last: Option<&Step>,
         step: &Step,
         places: &Places,
-    ) -> io::Result<Vec<u8>> {
-        let mesh = step.replay.mesh();
-        let marks = match last {
-            Some(last) => Marks::of_changes(alloc, last.replay.mesh(), mesh)?,
-            None => {
-                let empty = Replay::new(alloc)?;
-                Marks::of_changes(alloc, empty.mesh(), mesh)?
-            }
-        };
-        let picture = step.picture(alloc, places)?;
+    ) -> io::Result<()> {
+        let marks = marks_of(alloc, last, step)?;
+        let svg = self.svg_of(alloc, &step.picture(alloc, places)?, &marks)?;
+        write!(
+            writer,
+            "<img alt=\"The mesh after line {}\" src=\"data:image/svg+xml,",
+            step.number
+        )?;
+        write_address(&svg, writer)
+    }
+
+    fn svg_of(&self, alloc: Global, picture: &Picture, marks: &Marks) -> io::Result<Vec<u8>> {
         let mut svg = Vec::new(alloc);
-        write_marked_svg(&picture, &self.frame, &marks, &mut svg)?;
+        write_marked_svg(picture, &self.frame, marks, &mut svg)?;
         Ok(svg)
+    }
+}
+
+/// Marks what is other after a line than after the last one; after the first one, what is other than
+/// in an empty mesh.
+fn marks_of(alloc: Global, last: Option<&Step>, step: &Step) -> Result<Marks, AllocError> {
+    match last {
+        Some(last) => Marks::of_changes(alloc, last.replay.mesh(), step.replay.mesh()),
+        None => Marks::of_changes(alloc, Replay::new(alloc)?.mesh(), step.replay.mesh()),
     }
 }
 

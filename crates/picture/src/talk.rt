@@ -31,27 +31,50 @@ impl<'a> Step<'a> {
 pub fn talk_of(alloc: Global, text: &str) -> Result<Vec<Step<'_>>, AllocError> {
     let mut session = Session::new(alloc)?;
     let mut replay = Replay::new(alloc)?;
+    steps_of(alloc, &mut session, &mut replay, text)
+}
+
+fn steps_of<'a>(
+    alloc: Global,
+    session: &mut Session<Global>,
+    replay: &mut Replay,
+    text: &'a str,
+) -> Result<Vec<Step<'a>>, AllocError> {
     let mut steps = Vec::new(alloc);
     for (number, said) in numbered_lines(text) {
         let line = before_comment(said).trim_ascii_end();
-        if line.is_empty() {
-            continue;
+        if !line.is_empty() {
+            steps.push(step_of(alloc, session, replay, number, line)?)?;
         }
-        let reply = reply_to(alloc, &mut session, line)?;
-        match replay.take(line.as_bytes()) {
-            Err(Wrong::OutOfMemory(error)) => return Err(error),
-            Err(Wrong::Refused(Refusal::OutOfMemory)) => return Err(AllocError),
-            _ => {}
-        }
-        let replay = replay.try_clone()?;
-        steps.push(Step {
-            number,
-            line,
-            reply,
-            replay,
-        })?;
     }
     Ok(steps)
+}
+
+/// Carries a line out.
+fn step_of<'a>(
+    alloc: Global,
+    session: &mut Session<Global>,
+    replay: &mut Replay,
+    number: usize,
+    line: &'a str,
+) -> Result<Step<'a>, AllocError> {
+    let reply = reply_to(alloc, session, line)?;
+    carry_out(replay, line)?;
+    Ok(Step {
+        number,
+        line,
+        reply,
+        replay: replay.try_clone()?,
+    })
+}
+
+/// Has the mesh carry a line out, which changes nothing if it is bad or refused.
+fn carry_out(replay: &mut Replay, line: &str) -> Result<(), AllocError> {
+    match replay.take(line.as_bytes()) {
+        Err(Wrong::OutOfMemory(error)) => Err(error),
+        Err(Wrong::Refused(Refusal::OutOfMemory)) => Err(AllocError),
+        _ => Ok(()),
+    }
 }
 
 /// Returns the reply to a line, without the line feed at its end.
