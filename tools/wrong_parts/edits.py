@@ -14,6 +14,11 @@ TYPE = re.compile(r"(?m)^[ \t]*(?:pub(?:\([^)]*\))? )?(?:struct|enum|union) (\w+
 OTHER = re.compile(r"//[^\n]*|\"(?:[^\"\\]|\\.)*\"|b?'(?:[^'\\]|\\.)'", re.DOTALL)
 
 
+def module_of(path):
+    """The module of a file, as the prover spells it: "" for the root."""
+    return "::".join(it for it in Path(path).with_suffix("").parts[1:] if it not in ("lib", "main"))
+
+
 class Place(NamedTuple):
     """Where an edit changes something: a file, and the function with its impl, where it is in one."""
 
@@ -23,7 +28,7 @@ class Place(NamedTuple):
 
     def module(self):
         """The module of the file, as the prover spells it: "" for the root."""
-        return "::".join(it for it in Path(self.path).with_suffix("").parts[1:] if it not in ("lib", "main"))
+        return module_of(self.path)
 
 
 def code_of(text):
@@ -77,9 +82,10 @@ def function_round(text, place, declared):
 
 @functools.cache
 def names_in(crate):
-    """The names of the functions of the crate, as often as they stand there, and those of its types."""
-    code = "\n".join(code_of(it.read_text()) for it in prover.sources(crate) if it.suffix == ".rt")
-    return [name for _, name in FUNCTION.findall(code)], set(TYPE.findall(code))
+    """The names of the functions of the crate, as often as they stand there, and those of its types, each with a file that declares it."""
+    folder = prover.CRATES / crate
+    code = {it.relative_to(folder): code_of(it.read_text()) for it in prover.sources(crate) if it.suffix == ".rt"}
+    return [name for it in code.values() for _, name in FUNCTION.findall(it)], {name: file for file in code for name in TYPE.findall(code[file])}
 
 
 class Edit:

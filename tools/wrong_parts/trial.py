@@ -1,5 +1,6 @@
 """The wrong bodies of one crate, tried by the prover."""
 
+import os
 import re
 import shutil
 import tempfile
@@ -7,10 +8,10 @@ from pathlib import Path
 
 import prover
 from wrong_parts.edits import functions_of, names_in
+from wrong_parts.holes import open_proofs
 
 JUDGED = re.compile(r"(?m)^(?:fn|impl) (\S+): (.*)$")
-REFUSED = re.compile(r"not proved|no proof: expected")
-ENDED = re.compile(r"(?m)^(?:only|logic)=\S.*\n?\Z")
+ENDED = re.compile(r"(?m)^(?:only|logic|holes)=\S.*\s*\Z")
 ERROR = re.compile(r"(?m)^.*\berror(?:\[[\w-]+\])?: .*$")
 # A part that the prover was told to check, and doesn't know by this name.
 UNKNOWN = re.compile(r"(?m)^rattle: error: (?:several functions are named `|`\w+` has no [\w ]+ `)([^`]+)`")
@@ -39,7 +40,14 @@ class Verdict:
 
     def refuses(self, place):
         """Whether it says of this function that it is not proved. One of several with its name suffices, since the others are as ever."""
-        return any(REFUSED.match(self.judged[it]) for it in self.names_of(place))
+        return any(map(self.is_refused, self.names_of(place)))
+
+    def is_refused(self, function):
+        """Whether it says that the function has no proof of its own. A function that calls one that is refused isn't proved either: where
+        proofs are open, what both stand on has to be looked at."""
+        said = self.judged[function]
+        own = f"`Rattle.{function.replace('::', '.proofs.', 1).replace('::', '.')}."
+        return said == "not proved" or said.startswith("no proof: expected") or said.startswith("not proved; it stands on") and own in said
 
     def says_little(self, place, text):
         """Whether all that it says of this function, which stands in this text, is that a proof file names what the edit took away."""
@@ -66,18 +74,35 @@ class Verdict:
 class Trial:
     """Edits of a crate, each tried over the work of those before it."""
 
-    def __init__(self, crate, edits, jobs):
-        self.crate, self.edits, self.jobs = crate, edits, jobs
+    def __init__(self, crate, edits):
+        self.crate, self.edits = crate, edits
         self.unknown = set()  # names that the prover doesn't know, or knows several times
         self.checks, self.little = 0, []
 
     def run(self):
         """Yields each edit with None if it is refused, and else with the reason."""
+        for batch in self.batches():
+            yield from self.tried(batch)
+
+    def control(self):
+        """Yields each edit with None if the functions that it changes are judged, and not refused, as they are; and else with the reason."""
+        for batch in self.batches():
+            places = {edit: edit.applied()[1] for edit in batch}
+            verdict = self.check({}, set().union(*places.values()), True)
+            for edit in batch:
+                if not verdict.ended or not any(map(verdict.names_of, places[edit])):
+                    yield edit, f"NOT JUDGED: {verdict.said[-200:]}"
+                else:
+                    is_refused = any(map(verdict.refuses, places[edit]))
+                    yield edit, "REFUSED AS IT IS" if is_refused else None
+
+    def batches(self):
+        """Yields the edits in batches, and keeps the prover's work for the next one meanwhile."""
         with tempfile.TemporaryDirectory(prefix="wrong-bodies-") as self.kept:
             left = self.edits
             while left:
                 batch, left = self.next_batch(left)
-                yield from self.tried(batch)
+                yield batch
 
     def next_batch(self, edits):
         """As many of the edits as lie in different functions, and the rest. One that changes no function alone is a batch of its own."""
@@ -98,32 +123,39 @@ class Trial:
                 rest.append(edit)
         return batch, rest
 
-    def tried(self, batch):
-        """Yields the verdict on each edit of a batch."""
+    def tried(self, batch, is_open=True):
+        """Yields the verdict on each edit of a batch, tried in a copy in which what they call has open proofs, and in doubt in one that
+        has all its proofs."""
         texts, places = {}, {}
         for edit in batch:
             texts, places[edit] = edit.applied(texts)
-        verdict = self.check(texts, set().union(*places.values()))
+        changed = set().union(*places.values())
+        is_open = is_open and all(it.function for it in changed)
+        verdict = self.check(texts, changed, is_open)
         doubtful = []
         for edit in batch:
-            if verdict.ended and verdict.status == 1 and any(map(verdict.refuses, places[edit])):
-                self.little += [edit] if all(verdict.says_little(it, texts[it.path]) for it in places[edit]) else []
+            is_refused = verdict.ended and verdict.status == 1 and any(map(verdict.refuses, places[edit]))
+            says_little = is_refused and all(verdict.says_little(it, texts[it.path]) for it in places[edit])
+            if is_refused and not (says_little and is_open):
+                self.little += [edit] if says_little else []
                 yield edit, None
             else:
                 doubtful.append(edit)
-        if doubtful and len(batch) == 1:
+        if doubtful and is_open:
+            yield from self.tried(doubtful, False)
+        elif doubtful and len(batch) == 1:
             yield batch[0], verdict.why()
         elif len(doubtful) == len(batch):
-            yield from self.tried(batch[: len(batch) // 2])
-            yield from self.tried(batch[len(batch) // 2 :])
+            yield from self.tried(batch[: len(batch) // 2], False)
+            yield from self.tried(batch[len(batch) // 2 :], False)
         elif doubtful:
-            yield from self.tried(doubtful)
+            yield from self.tried(doubtful, False)
 
-    def check(self, texts, places):
+    def check(self, texts, places, is_open):
         """Has these functions checked in a copy of the crate that has these texts."""
         while True:
             parts = self.parts(places)
-            verdict = self.called(texts, [it for part in parts for it in ("--only", part)])
+            verdict = self.called(texts, [it for part in parts for it in ("--only", part)], places if is_open else None)
             strange = UNKNOWN.search(verdict.said)
             if not strange or strange[1] not in parts:
                 return verdict
@@ -144,7 +176,8 @@ class Trial:
         names.append("::".join(it for it in [place.owner or module, place.function] if it))
         return next((it for it in [*names, module] if it and it not in self.unknown), None)
 
-    def called(self, texts, more):
+    def called(self, texts, more, closed):
+        """Calls the prover. Where some places are closed, the proofs of all other functions are open."""
         self.checks += 1
         folder = prover.CRATES / self.crate
         with tempfile.TemporaryDirectory(prefix="wrong-bodies-") as room:
@@ -153,5 +186,11 @@ class Trial:
                     shutil.copytree(folder / part, f"{room}/{part}")
             for path, text in texts.items():
                 Path(room, path).write_text(text)
-            more = [*more, "--jobs", str(self.jobs), "--incremental", self.kept]
-            return Verdict(self.crate, *prover.call("check", self.crate, more, room))
+            if closed:
+                open_proofs(room, self.crate, closed)
+                more = [*more, "--allow-holes"]
+            more = [*more, "--jobs", "1", "--incremental", self.kept]
+            verdict = Verdict(self.crate, *prover.call("check", self.crate, more, room))
+        if os.environ.get("LOGS"):
+            Path(os.environ["LOGS"], f"{self.crate}-{self.checks}.log").write_text(verdict.said)
+        return verdict
