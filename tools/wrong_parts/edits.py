@@ -30,6 +30,12 @@ class Place(NamedTuple):
         """The module of the file, as the prover spells it: "" for the root."""
         return module_of(self.path)
 
+    def named(self, types):
+        """The modules and the type, if any, that the function stands in, and its name. A method stands in the module of its type, which one of
+        these files declares if the crate does."""
+        module = module_of(types.get(self.owner, self.path))
+        return [it for it in [*module.split("::"), self.owner, self.function] if it]
+
 
 def code_of(text):
     """The text with blanks in the place of what is no code."""

@@ -2,7 +2,7 @@
 
 from pathlib import Path
 
-from wrong_parts.edits import functions_of, module_of, names_in
+from wrong_parts.edits import Place, functions_of, names_in
 
 # The files of a function's proof, and what stands there instead.
 PROOF = ("Answers.antt", "Invariants.antt", "Proof.antt")
@@ -18,28 +18,24 @@ believed = ?
 """
 
 
-def functions_in(room, crate):
-    """The functions of a copy of a crate in this folder: of each its file, its name, and its module with its type, where it has one. A
-    method stands in the module of its type."""
-    declared = names_in(crate)[1]
+def places_in(room, types):
+    """The functions of a copy of a crate in this folder, which declares these types."""
     for file in sorted(Path(room, "src").rglob("*.rt")):
-        path = file.relative_to(room)
-        for name, owner, _, _ in functions_of(file.read_text(), declared):
-            module = module_of(declared.get(owner, path))
-            yield str(path), name, [it for it in [*module.split("::"), owner] if it]
+        for name, owner, _, _ in functions_of(file.read_text(), types):
+            yield Place(str(file.relative_to(room)), name, owner)
 
 
 def open_proofs(room, crate, closed):
     """Leaves the proofs open of all functions of this copy but those at these places."""
-    closed = {(it.path, it.function) for it in closed}
-    for path, name, module in functions_in(room, crate):
-        if (path, name) not in closed:
-            parts = ["proofs", *module, name]
+    types, closed = names_in(crate)[1], {(it.path, it.function) for it in closed}
+    for place in places_in(room, types):
+        if (place.path, place.function) not in closed:
+            parts = ["proofs", *place.named(types)]
             folder = Path(room, *parts)
             folder.mkdir(parents=True, exist_ok=True)
             for file in PROOF:
                 (folder / file).unlink(missing_ok=True)
-            (folder / "Proof.antt").write_text(OPEN.format(crate=crate, module=".".join([crate, *parts]), name=name))
+            (folder / "Proof.antt").write_text(OPEN.format(crate=crate, module=".".join([crate, *parts]), name=place.function))
     Path(room, "proofs/Believed.antt").write_text(BELIEVED)
     with Path(room, "proofs/Lib.antt").open("a") as file:
         file.write("\nmod Believed\n")

@@ -23,8 +23,8 @@ TAKEN_AWAY = re.compile(r"has no field|is not in scope|has no `|was not admitted
 class Verdict:
     """What a check of a crate, or of some of its functions, said."""
 
-    def __init__(self, crate, status, said):
-        self.crate, self.status, self.said = crate, status, said
+    def __init__(self, crate, status, said, is_open):
+        self.crate, self.status, self.said, self.is_open = crate, status, said, is_open
         self.judged = dict(JUDGED.findall(said))
         self.ended = bool(ENDED.search(said))
 
@@ -44,10 +44,11 @@ class Verdict:
 
     def is_refused(self, function):
         """Whether it says that the function has no proof of its own. A function that calls one that is refused isn't proved either: where
-        proofs are open, what both stand on has to be looked at."""
+        proofs are open, it is told what both stand on."""
         said = self.judged[function]
         own = f"`Rattle.{function.replace('::', '.proofs.', 1).replace('::', '.')}."
-        return said == "not proved" or said.startswith("no proof: expected") or said.startswith("not proved; it stands on") and own in said
+        is_only_refused = said == "not proved" or own in said
+        return said.startswith("no proof: expected") or said.startswith("not proved") and (is_only_refused or not self.is_open)
 
     def says_little(self, place, text):
         """Whether all that it says of this function, which stands in this text, is that a proof file names what the edit took away."""
@@ -170,11 +171,9 @@ class Trial:
     def part(self, place):
         if not place.function:
             return None
-        module, names = place.module(), []
-        if names_in(self.crate)[0].count(place.function) == 1:
-            names.append(place.function)
-        names.append("::".join(it for it in [place.owner or module, place.function] if it))
-        return next((it for it in [*names, module] if it and it not in self.unknown), None)
+        module = place.module()
+        names = ["::".join(place.named(names_in(self.crate)[1])), "::".join(it for it in [place.owner or module, place.function] if it), module]
+        return next((it for it in names if it and it not in self.unknown), None)
 
     def called(self, texts, more, closed):
         """Calls the prover. Where some places are closed, the proofs of all other functions are open."""
@@ -190,7 +189,7 @@ class Trial:
                 open_proofs(room, self.crate, closed)
                 more = [*more, "--allow-holes"]
             more = [*more, "--jobs", "1", "--incremental", self.kept]
-            verdict = Verdict(self.crate, *prover.call("check", self.crate, more, room))
+            verdict = Verdict(self.crate, *prover.call("check", self.crate, more, room), bool(closed))
         if os.environ.get("LOGS"):
             Path(os.environ["LOGS"], f"{self.crate}-{self.checks}.log").write_text(verdict.said)
         return verdict
