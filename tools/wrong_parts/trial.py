@@ -89,7 +89,7 @@ class Trial:
         """Yields each edit with None if the functions that it changes are judged, and not refused, as they are; and else with the reason."""
         for batch in self.batches():
             places = {edit: edit.applied()[1] for edit in batch}
-            verdict = self.check({}, set().union(*places.values()), True)
+            verdict = self.check({}, set().union(*places.values()))
             for edit in batch:
                 if not verdict.ended or not any(map(verdict.names_of, places[edit])):
                     yield edit, f"NOT JUDGED: {verdict.said[-200:]}"
@@ -130,19 +130,17 @@ class Trial:
         texts, places = {}, {}
         for edit in batch:
             texts, places[edit] = edit.applied(texts)
-        changed = set().union(*places.values())
-        is_open = is_open and all(it.function for it in changed)
-        verdict = self.check(texts, changed, is_open)
+        verdict = self.check(texts, set().union(*places.values()), is_open)
         doubtful = []
         for edit in batch:
             is_refused = verdict.ended and verdict.status == 1 and any(map(verdict.refuses, places[edit]))
             says_little = is_refused and all(verdict.says_little(it, texts[it.path]) for it in places[edit])
-            if is_refused and not (says_little and is_open):
+            if is_refused and not (says_little and verdict.is_open):
                 self.little += [edit] if says_little else []
                 yield edit, None
             else:
                 doubtful.append(edit)
-        if doubtful and is_open:
+        if doubtful and verdict.is_open:
             yield from self.tried(doubtful, False)
         elif doubtful and len(batch) == 1:
             yield batch[0], verdict.why()
@@ -152,11 +150,13 @@ class Trial:
         elif doubtful:
             yield from self.tried(doubtful, False)
 
-    def check(self, texts, places, is_open):
-        """Has these functions checked in a copy of the crate that has these texts."""
+    def check(self, texts, places, is_open=True):
+        """Has these functions checked in a copy of the crate that has these texts, and in which the proofs of all others are open, if only
+        functions are changed."""
+        closed = places if is_open and all(it.function for it in places) else None
         while True:
             parts = self.parts(places)
-            verdict = self.called(texts, [it for part in parts for it in ("--only", part)], places if is_open else None)
+            verdict = self.called(texts, [it for part in parts for it in ("--only", part)], closed)
             strange = UNKNOWN.search(verdict.said)
             if not strange or strange[1] not in parts:
                 return verdict
@@ -176,7 +176,7 @@ class Trial:
         return next((it for it in names if it and it not in self.unknown), None)
 
     def called(self, texts, more, closed):
-        """Calls the prover. Where some places are closed, the proofs of all other functions are open."""
+        """Calls the prover. If some places are closed, the proofs of all other functions are open."""
         self.checks += 1
         folder = prover.CRATES / self.crate
         with tempfile.TemporaryDirectory(prefix="wrong-bodies-") as room:
