@@ -372,6 +372,63 @@ static void check_faces(void) {
     dcel_free(&mesh);
 }
 
+/* What a flip leaves, by its numbers, and that a mesh isn't there before and after. */
+static void check_numbers(void) {
+    dcel_mesh mesh = DCEL_MESH_INIT;
+    uint32_t vertex = 9;
+    CHECK(dcel_append_unconnected_vertex(&mesh, 7, &vertex) == DCEL_NO_MESH && vertex == 9);
+    make_round(&mesh);
+    CHECK(dcel_insert_into_triangle(&mesh, 3, 1) == DCEL_VERTEX_IN_USE);
+    CHECK(dcel_flip_cw(&mesh, 9) == DCEL_NO_SUCH_EDGE);
+    CHECK(dcel_flip_cw(&mesh, 3) == DCEL_DONE);
+    CHECK(dcel_next(&mesh, 6) == 8 && dcel_from(&mesh, 6) == 1 && dcel_face(&mesh, 6) == 1);
+    CHECK(dcel_next(&mesh, 12) == DCEL_NONE);
+    dcel_free(&mesh);
+    CHECK(dcel_num_vertices(&mesh) == 0 && dcel_flip_cw(&mesh, 3) == DCEL_NO_MESH);
+}
+
+/* A vertex that is taken out again leaves a triangle, with its numbers. */
+static void check_coming_and_going(void) {
+    dcel_mesh mesh = DCEL_MESH_INIT;
+    const uint32_t border[] = {1, 3, 5};
+    uint32_t edges[3], faces[3];
+    dcel_opened opened = {9, 9, 9, 9};
+    dcel_removed removed = {0, 0};
+    const dcel_half_edge none = {9, 9, 9, 9};
+    dcel_half_edge all[7] = {none, none, none, none, none, none, none};
+    uint64_t needed = 0;
+    make_round(&mesh);
+    CHECK(dcel_isolate_vertex_and_fill_hole(&mesh, border, 3, 3, edges, 3, faces, 3, &opened) == DCEL_DONE);
+    CHECK(opened.edges == 3 && opened.faces == 3 && opened.new_edges == 0);
+    CHECK(dcel_cleanup_isolated_vertex(&mesh, edges, 3, faces, 3) == DCEL_DONE);
+    CHECK(dcel_swap_remove_vertex(&mesh, 3, &removed) == DCEL_DONE && removed.datum == 10 && removed.moved == DCEL_NONE);
+    CHECK(dcel_directed_edges(&mesh, all, 7, &needed) == DCEL_DONE && needed == 6);
+    CHECK(all[0].next == 2 && all[6].face == 9);
+    dcel_free(&mesh);
+}
+
+/* A mesh that is given by faces, and again by its links; a fault leaves it as it is. */
+static void check_given(void) {
+    dcel_mesh mesh = DCEL_MESH_INIT;
+    dcel_fault fault = {9, 9, 9, 9, 9};
+    const uint64_t data[] = {1, 2, 3, 4}, names[] = {7, 8, 9, 10}, faces[] = {0, 5, 6};
+    const uint32_t corners[] = {0, 1, 2, 2, 1, 3}, twice[] = {0, 1, 2, 0, 1, 3}, counts[] = {3, 3};
+    dcel_half_edge links[10];
+    uint64_t needed;
+    CHECK(dcel_from_faces(&mesh, names, 4, corners, 6, counts, 2, &fault) == DCEL_DONE);
+    CHECK(dcel_num_undirected_edges(&mesh) == 5 && dcel_to(&mesh, 2) == 2 && fault.kind == 9);
+    CHECK(dcel_directed_edges(&mesh, links, 10, &needed) == DCEL_DONE);
+    CHECK(dcel_from_links(&mesh, links, 10, data, 4, faces, 3, &fault) == DCEL_DONE);
+    CHECK(dcel_next(&mesh, 2) == links[2].next);
+    links[3].origin = 4;
+    CHECK(dcel_from_links(&mesh, links, 10, data, 4, faces, 3, &fault) == DCEL_FAULTY);
+    CHECK(fault.kind == DCEL_FAULT_ORIGIN_OUT_OF_RANGE && fault.number == 3);
+    CHECK(dcel_from_faces(&mesh, data, 4, twice, 6, counts, 2, &fault) == DCEL_FAULTY);
+    CHECK(fault.kind == DCEL_FAULT_SIDE_TWICE && fault.other == 1 && fault.to == 1);
+    CHECK(dcel_num_vertices(&mesh) == 4);
+    dcel_free(&mesh);
+}
+
 int main(void) {
     check_version();
     check_none();
@@ -388,6 +445,9 @@ int main(void) {
     check_whole();
     check_links();
     check_faces();
+    check_numbers();
+    check_coming_and_going();
+    check_given();
     printf("%d checks passed\n", checks);
     return EXIT_SUCCESS;
 }

@@ -23,8 +23,6 @@ mod mesh;
 mod removals;
 mod status;
 mod steps;
-#[cfg(test)]
-mod tests;
 mod version;
 mod walks;
 mod whole;
