@@ -87,11 +87,11 @@ def function_round(text, place, declared):
 
 
 @functools.cache
-def names_in(crate):
-    """The names of the functions of the crate, as often as they stand there, and those of its types, each with a file that declares it."""
+def types_in(crate):
+    """The types of the crate, each with a file that declares it."""
     folder = prover.CRATES / crate
     code = {it.relative_to(folder): code_of(it.read_text()) for it in prover.sources(crate) if it.suffix == ".rt"}
-    return [name for it in code.values() for _, name in FUNCTION.findall(it)], {name: file for file in code for name in TYPE.findall(code[file])}
+    return {name: file for file in code for name in TYPE.findall(code[file])}
 
 
 class Edit:
@@ -125,7 +125,7 @@ class Edit:
             if old == new:
                 raise ValueError("it changes nothing")
             if path.startswith("src/"):
-                places.add(Place(path, *function_round(text, text.index(old), names_in(self.crate)[1])))
+                places.add(Place(path, *function_round(text, text.index(old), types_in(self.crate))))
             texts[path] = text.replace(old, new)
         if not places:
             raise ValueError("it changes no body")

@@ -2,7 +2,7 @@
 
 from pathlib import Path
 
-from wrong_parts.edits import Place, functions_of, names_in
+from wrong_parts.edits import Place, functions_of, types_in
 
 # The files of a function's proof, and what stands there instead.
 PROOF = ("Answers.antt", "Invariants.antt", "Proof.antt")
@@ -12,7 +12,7 @@ use Rattle.{module}.Statement.{{statement}}
 pub {name}_spec : {{M : Type 1}} → statement M
 {name}_spec = believed
 """
-# The one hole that all of them stand on: of each the prover would print its goal.
+# All of them stand on one hole, since the prover prints the goal of each.
 BELIEVED = """pub believed {ℓ} : {A : Type ℓ} → A
 believed = ?
 """
@@ -27,7 +27,7 @@ def places_in(room, types):
 
 def open_proofs(room, crate, closed):
     """Leaves the proofs open of all functions of this copy but those at these places."""
-    types, closed = names_in(crate)[1], {(it.path, it.function) for it in closed}
+    types, closed = types_in(crate), {(it.path, it.function) for it in closed}
     for place in places_in(room, types):
         if (place.path, place.function) not in closed:
             parts = ["proofs", *place.named(types)]

@@ -7,7 +7,7 @@ import tempfile
 from pathlib import Path
 
 import prover
-from wrong_parts.edits import functions_of, names_in
+from wrong_parts.edits import functions_of, types_in
 from wrong_parts.holes import open_proofs
 
 JUDGED = re.compile(r"(?m)^(?:fn|impl) (\S+): (.*)$")
@@ -52,7 +52,7 @@ class Verdict:
 
     def says_little(self, place, text):
         """Whether all that it says of this function, which stands in this text, is that a proof file names what the edit took away."""
-        functions = functions_of(text, names_in(self.crate)[1])
+        functions = functions_of(text, types_in(self.crate))
         lines = [[text.count("\n", 0, at) + 1 for at in it[2:]] for it in functions if it[:2] == (place.function, place.owner)]
         folder = f"{place.owner}/{place.function}/" if place.owner else f"proofs/{place.module().replace('::', '/')}/{place.function}/"
         told = []
@@ -172,7 +172,7 @@ class Trial:
         if not place.function:
             return None
         module = place.module()
-        names = ["::".join(place.named(names_in(self.crate)[1])), "::".join(it for it in [place.owner or module, place.function] if it), module]
+        names = ["::".join(place.named(types_in(self.crate))), "::".join(it for it in [place.owner or module, place.function] if it), module]
         return next((it for it in names if it and it not in self.unknown), None)
 
     def called(self, texts, more, closed):
