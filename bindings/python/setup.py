@@ -14,7 +14,7 @@ FOLDER = Path(__file__).resolve().parent
 ROOT = FOLDER.parents[1]
 LIBRARY = Path(os.environ.get("DCEL_LIB_DIR") or ROOT / "crates/dcel_c/out") / "libdcel.so"
 sys.dont_write_bytecode = True
-sys.path.insert(0, str(ROOT / "tools"))
+sys.path.insert(0, str(ROOT / "tools/lib"))
 import linking  # noqa: E402
 
 

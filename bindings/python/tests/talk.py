@@ -11,8 +11,8 @@ from typing import Any
 
 from dcel import Dcel, DcelError, Ended, GivenUp, Opened, Removed
 
-sys.path.insert(0, str(Path(__file__).resolve().parents[3] / "tools"))
-from fuzz_parts.lines import read  # noqa: E402
+sys.path.insert(0, str(Path(__file__).resolve().parents[3] / "tools/lib"))
+from fuzz.lines import read  # noqa: E402
 
 
 def signed(datum: int) -> int:

@@ -9,7 +9,7 @@
 //! a number is a row: the number tells how many requests for memory it makes.
 //!
 //! The program prints how many requests of each function were refused, or ends at the first row that
-//! isn't so. `tools/check_sweep` looks for functions without a row.
+//! isn't so. `tools/gate/check_sweep` looks for functions without a row.
 #![tactic(auto)]
 
 mod calls;

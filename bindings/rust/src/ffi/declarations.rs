@@ -2,7 +2,7 @@
 
 use super::{Fault, HalfEdgeEntry, Legalized, Opened, RawMesh, Removed};
 
-// SAFETY: these are the functions of the header, which tools/check_header compares. The safe ones
+// SAFETY: these are the functions of the header, which tools/gate/check_header compares. The safe ones
 // ask for a mesh as the last call left it, which is what a `&mut RawMesh` leads to in this module,
 // and for places to write to, which references are. The others ask for slices too.
 unsafe extern "C" {

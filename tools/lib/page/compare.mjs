@@ -1,0 +1,86 @@
+// Compares what the module of a folder answers with what the repository stores: `node compare.mjs FOLDER`.
+
+import { readFileSync, readdirSync } from 'node:fs';
+import { resolve } from 'node:path';
+import { pathToFileURL } from 'node:url';
+import { bufferFaults } from './buffers.mjs';
+
+const ROOT = resolve(new URL('../../..', import.meta.url).pathname);
+const folder = resolve(process.argv[2]);
+const { replies, picture, triangulate } = await import(pathToFileURL(`${folder}/mesh.js`));
+
+const faults = [], counts = { talks: 0, lines: 0, 'talks with a limit left out': 0, pictures: 0, triangulations: 0, refusals: 0 };
+const read = file => readFileSync(`${ROOT}/${file}`, 'utf8');
+
+/** Notes where two texts differ. */
+function same(what, found, wanted) {
+  if (found === wanted) return;
+  const at = [...wanted].findIndex((letter, place) => letter !== found[place]);
+  faults.push(`${what}: differs from byte ${at} on: '${found.slice(at, at + 40)}' in place of '${wanted.slice(at, at + 40)}'`);
+}
+
+/** The talks of dcel_talks. The module's limit can't be set, so those with a limit are left out. */
+function compareTalks() {
+  for (const file of readdirSync(`${ROOT}/crates/dcel_talks/data`).filter(name => name.endsWith('.talk'))) {
+    for (const talk of read(`crates/dcel_talks/data/${file}`).split(/^# /m).slice(1)) {
+      const [name, ...rows] = talk.split('\n').filter(row => row && row !== 'faults');
+      if (rows.some(row => row.startsWith('limit '))) {
+        counts['talks with a limit left out']++;
+        continue;
+      }
+      const isLine = row => row.startsWith('> ');
+      const lines = rows.filter(isLine).map(row => `${row.slice(2)}\n`);
+      same(`${file}: ${name}`, replies(lines.join('')), rows.filter(row => !isLine(row)).map(row => `${row}\n`).join(''));
+      counts.talks++;
+      counts.lines += lines.length;
+    }
+  }
+}
+
+/** The pictures that are stored beside their lines. */
+function comparePictures() {
+  for (const file of readdirSync(`${ROOT}/docs/pictures`).filter(name => name.endsWith('.lines'))) {
+    const wanted = read(`docs/pictures/${file.replace('.lines', '.svg')}`);
+    same(file, picture(read(`docs/pictures/${file}`), { anchors: wanted.includes('class="anchor') }), wanted);
+    counts.pictures++;
+  }
+}
+
+/** The points that the program `delaunay` is run on, which writes each triangle from the least number on. */
+function compareTriangles() {
+  const points = read('crates/delaunay/stdin').split('\n').filter(row => /^-?\d/.test(row)).map(row => row.split(' ').map(Number));
+  const fromLeast = corners => {
+    const least = corners.indexOf(Math.min(...corners));
+    return [...corners.slice(least), ...corners.slice(0, least)].join(' ');
+  };
+  const sorted = rows => rows.sort().map(row => `${row}\n`).join('');
+  same('the points of delaunay', sorted(triangulate(points).map(fromLeast)), sorted(read('crates/delaunay/stdout').trimEnd().split('\n')));
+  counts.triangulations++;
+}
+
+/** What `triangulate` has to refuse, and what it has to take. */
+function compareRanges() {
+  const most = 2 ** 30;
+  same('the largest triangle', String(triangulate([[-most, -most], [most, -most], [0, most]])[0].sort()), '0,1,2');
+  for (const points of [[[0.5, 0]], [[most + 1, 0]], [[0, -most - 1]], [[2 ** 32, 0]], [[NaN, 0]], [[1]], [[1, 2, 3]], [['1', 2]]]) {
+    try {
+      faults.push(`${JSON.stringify(points)} is triangulated: ${JSON.stringify(triangulate(points))}`);
+    } catch (error) {
+      if (!(error instanceof RangeError)) throw error;
+      counts.refusals++;
+    }
+  }
+}
+
+same('dcel_run', replies(read('crates/dcel_run/stdin')), read('crates/dcel_run/stdout'));
+same('picture', picture(read('crates/picture/stdin'), { anchors: true }), read('crates/picture/stdout'));
+compareTalks();
+comparePictures();
+compareTriangles();
+compareRanges();
+const calls = bufferFaults(readFileSync(`${folder}/mesh.wasm`), faults);
+const all = { ...counts, 'calls with a short buffer or little memory': calls };
+for (const [name, count] of Object.entries(all)) if (!count) faults.push(`there were no ${name} to try`);
+const told = Object.entries(all).map(([name, count]) => `${count} ${name}`);
+console.log([...faults, `module in Node ${process.version}: ${told.join(', ')}, ${faults.length} faults`].join('\n'));
+process.exitCode = faults.length ? 1 : 0;
