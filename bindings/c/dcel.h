@@ -456,6 +456,15 @@ uint32_t dcel_can_remesh_edge_ring(dcel_mesh *mesh, const uint32_t *border_loop,
 uint32_t dcel_can_disconnect_edge_strip(dcel_mesh *mesh, const uint32_t *strip, size_t strip_len,
                                         bool *answer);
 
+/* ---- Lines ---- */
+
+/* Answers lines, which docs/LINES.md lists, on an empty mesh of its own, which isn't kept, and puts the
+   replies into the buffer. As many bytes as fit are put there, from the front, and what lies behind them
+   stays. `needed` is how many bytes all replies are. 22 if they don't all fit; 20 if there is no memory for
+   the mesh or the replies, and then the buffer stays and `needed` is 0. */
+uint32_t dcel_replies(const uint8_t *lines, size_t lines_len, uint8_t *replies, size_t replies_len,
+                      uint64_t *needed);
+
 #ifdef __cplusplus
 }
 #endif
