@@ -49,7 +49,7 @@ static size_t border_of(dcel_mesh *mesh, uint32_t vertex, uint32_t border[8]) {
 }
 
 static void check_version(void) {
-    CHECK(dcel_version() == DCEL_VERSION_NUMBER && dcel_version_0_1_0() == DCEL_VERSION_NUMBER);
+    CHECK(dcel_version() == DCEL_VERSION_NUMBER && dcel_version_0_2_0() == DCEL_VERSION_NUMBER);
 }
 
 /* A mesh that isn't open answers all calls, and is given nothing. */

@@ -35,18 +35,18 @@ extern "C" {
 
 /* The version of this header. As a number it is 1,000,000 times the first of the three, and 1,000 times the
    second, and the third. */
-#define DCEL_VERSION "0.1.0"
-#define DCEL_VERSION_NUMBER 1000
+#define DCEL_VERSION "0.2.0"
+#define DCEL_VERSION_NUMBER 2000
 
 /* The version of the library, as a number. */
 uint32_t dcel_version(void);
 
 /* The same, under a name that no other version has. */
-uint32_t dcel_version_0_1_0(void);
+uint32_t dcel_version_0_2_0(void);
 
 #ifdef __GNUC__
 /* With it what includes this header is neither linked with a library of another version nor started. */
-__attribute__((used)) static uint32_t (*const dcel_version_wanted)(void) = dcel_version_0_1_0;
+__attribute__((used)) static uint32_t (*const dcel_version_wanted)(void) = dcel_version_0_2_0;
 #endif
 
 /* A mesh, or none: zero bytes are one that isn't open. The fields are the library's. */

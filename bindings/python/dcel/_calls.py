@@ -17,7 +17,7 @@ from ._errors import refused
 if not getattr(sys, "_is_gil_enabled", lambda: True)():
     raise ImportError("dcel wants the interpreter's lock: one call at a time may work on a mesh")
 
-VERSION = "0.1.0"
+VERSION = "0.2.0"
 _VERSION_CALLS = ("dcel_version", f"dcel_version_{VERSION.replace('.', '_')}")
 
 

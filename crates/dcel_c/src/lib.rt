@@ -68,6 +68,6 @@ pub use removals::{
 };
 pub use replies::dcel_replies;
 pub use steps::{dcel_ccw, dcel_cw, dcel_face, dcel_from, dcel_next, dcel_prev, dcel_rev, dcel_to};
-pub use version::{dcel_version, dcel_version_0_1_0};
+pub use version::{dcel_version, dcel_version_0_2_0};
 pub use walks::{dcel_face_edges, dcel_out_edges};
 pub use whole::{dcel_clear, dcel_clone, dcel_free, dcel_new, dcel_reserve_capacity};
