@@ -1,6 +1,5 @@
 //! Tests of what lies in the plane: decimals, predicates, legalization by circles, and Delaunay
-//! triangulations, also with each request for memory refused in turn; and triangulations by the
-//! places of their points, for other tests too.
+//! triangulations, also with each request for memory refused in turn.
 #![tactic(auto)]
 
 #[cfg(test)]
@@ -11,7 +10,6 @@ mod decimals;
 mod memory;
 #[cfg(test)]
 mod nearest;
-pub mod places;
 #[cfg(test)]
 mod positions;
 #[cfg(test)]
