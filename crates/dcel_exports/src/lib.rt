@@ -1,5 +1,5 @@
-//! What static libraries share whose exports answer into a caller's buffer: the statuses that they
-//! return, a list put into a buffer, and the replies to lines, in whatever memory.
+//! What static libraries share whose exports answer into a caller's buffer: statuses, a list put
+//! into a buffer, and the replies to lines, in whatever memory.
 #![tactic(auto)]
 
 mod buffer;
