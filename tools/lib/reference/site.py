@@ -7,6 +7,7 @@ from html import escape
 from pathlib import Path
 
 from reference import prose
+from reference.comments import summary
 from reference.counts import believed
 from reference.pages import Page
 from reference.places import Places
@@ -146,7 +147,7 @@ class Site:
             page.add(f"<h2>{title}</h2>", "<dl class=list>")
             for name, item in sorted(items, key=lambda it: it[0]):
                 where = item if isinstance(item, Source) else item.home
-                said = page.comment(prose.summary(item.doc), where, item if isinstance(item, Item) else None, name)
+                said = page.comment(summary(item.doc), where, item if isinstance(item, Item) else None, name)
                 page.add(f"<dt>{page.link(item, name)}</dt><dd>{said}</dd>")
             page.add("</dl>")
 
@@ -187,7 +188,7 @@ class Site:
             page.add(f"<dt>{page.link(call, name)}</dt><dd>{prose.shown([promise], str)}<p class=count>{rests.meaning}{values}</p></dd>")
         page.add("</dl>", "<h2>Crates</h2>", "<dl class=list>")
         for library in self.project.libraries():
-            said = page.comment(prose.summary(library.doc), library, None, library.crate)
+            said = page.comment(summary(library.doc), library, None, library.crate)
             page.add(f"<dt>{page.link(library, library.crate)}</dt><dd>{said}<p class=count>{self.counted(library)}</p></dd>")
         page.add("</dl>")
         self.files["index.html"] = page.written("Reference", [("reference", "index.html")])
