@@ -13,7 +13,7 @@ defines, share a row. Laws are left out.
 import re
 from os.path import relpath
 
-from reference.comments import links, sentences, summary, without_links
+from reference.comments import first_sentence, links, sentences, without_links
 from reference.places import Places
 from reference.resting import Scope
 from reference.sources import TYPE, Item, closing, end_of_generics
@@ -144,10 +144,6 @@ def tells_of_memory(call):
             seen.add(item)
             left.append((item.text, Scope(item)))
     return False
-
-
-def first_sentence(doc):
-    return without_links(sentences(summary(doc))[0]) if doc else ""
 
 
 def named(calls):

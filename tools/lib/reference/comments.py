@@ -33,3 +33,8 @@ def links(text, doc):
 def without_links(text):
     """A sentence with the words of its links alone."""
     return LINK.sub(lambda found: found[1] if found[2] or found[1].startswith("`") else found[0], text)
+
+
+def first_sentence(lines):
+    """The first sentence of a comment, or nothing where there is none."""
+    return without_links(next(iter(sentences(summary(lines))), ""))
