@@ -1,11 +1,10 @@
-//! Claimed meshes, given as [`Links`]: lists that say of each half edge what comes after it, where it
-//! starts and on which face it lies.
+//! Checks of claimed meshes, given as [`Links`]: lists with the next half edge, the origin and the
+//! face of each half edge. Files, other languages and tests represent meshes in this way.
 //!
-//! Files, other languages and tests hold meshes in this way. [`check_links`] decides whether such
-//! lists are the links of a mesh, as `dcel_maps` has it, and if not says what is wrong: the first
-//! [`LinksFault`] in a fixed order. The two halves of an edge stand side by side: half edges 0 and 1 are
-//! edge 0, 2 and 3 edge 1, and so on. Face 0 is the outer face. [`find_wrong_anchor`] looks at half
-//! edges that are given for vertices or faces.
+//! Start with [`check_links`], which decides whether such lists are the links of a mesh, as
+//! `dcel_maps` defines it, and if not returns the first [`LinksFault`] in a fixed order. Half edges
+//! 0 and 1 are edge 0, 2 and 3 edge 1, and so on; face 0 is the outer face. [`find_wrong_anchor`]
+//! checks half edges that are given for vertices or faces.
 #![tactic(auto)]
 
 ghost use Rattle.std.specs.Prelude.{◌≡◌, ℕ, IfErr, IfOk, List};

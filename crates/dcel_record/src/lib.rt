@@ -1,4 +1,5 @@
-//! The removal record: what an open removal has given up, so that every call can tell what is live.
+//! The removal record: what an open removal has given up, so that every call can test what is live.
+//! `spade_dcel` keeps one in each mesh. Start with [`RemovalRecord`].
 //!
 //! Contracts see it as the removal of a mesh, `Removal` of `dcel_maps/specs/Removals`.
 #![tactic(auto)]

@@ -1,14 +1,14 @@
-//! Storage of a half-edge mesh: links, anchors and data by number.
+//! Storage of a half-edge mesh: links, anchors and data by number. `dcel_edits` writes edits into
+//! it; below is only `dcel_fixed`. Start with [`Store`].
 //!
-//! A [`Store`] holds for each vertex a datum and an anchor, for each half edge four links and a
-//! datum, for each edge a datum, and for each face a datum and an anchor. It knows nothing of what
-//! makes a sound mesh. Contracts see it as lists by number, the record `Lists` of
-//! `specs/Lists.antt`, and say of each call which items it reads or changes.
+//! A store has a datum and an anchor for each vertex, four links and a datum for each half edge, a
+//! datum for each edge, and a datum and an anchor for each face. It does not know what makes a mesh
+//! sound. Contracts see it as lists by number, the record `Lists` of `specs/Lists.antt`, and say
+//! which items each call reads or changes.
 //!
 //! Each of the four links has a vector of its own, and so have the data of half edges and those of
-//! edges. A walk reads one or two links of each half edge, and little else comes into the cache
-//! with them. A new edge is written at the end of six vectors, and lengthens all of them if there
-//! is no room.
+//! edges. A walk reads one or two links of each half edge, and little else enters the cache with
+//! them. A new edge is appended to six vectors, and all of them grow if there is no room.
 #![tactic(auto)]
 
 ghost use Rattle.std.specs.Prelude.{◌≡◌, ◌↔◌, ◌+◌, ◌-◌, ◌<◌, ◌≤◌, [], ◌∷◌, ◌++◌, length, slice_index, slice_index_or, slice_set, OnOk, IfOk, IsOk, IsTrue, None, vec_capacity, vec_len};
