@@ -29,13 +29,13 @@ use whole::{check_each, check_whole};
 
 /// Checks whether links are those of a mesh of this many vertices and faces.
 ///
-/// For a mesh it returns the half edge before each one, the only list that fits; otherwise a
-/// [`LinksFault`], and nothing is wrong that is looked for before it. It takes any lists and numbers.
+/// For a mesh it returns the list of previous half edges, the only one that fits; otherwise a
+/// [`LinksFault`], and then there is no fault that is tested before it. Any lists and numbers may
+/// be given.
 ///
-/// It goes over the lists a fixed number of times. For each half edge it takes less than twelve
-/// bytes, and for each vertex one, once the links have passed one by one; claims of more faces than
-/// the lists can have are refused before. If memory runs out it returns `AllocError`, and says
-/// nothing.
+/// It reads the lists a fixed number of times. For each half edge it takes less than twelve bytes,
+/// and for each vertex one, once the links have passed one by one; claims of more faces than the
+/// lists can have are refused before. If memory runs out it returns `AllocError`, and no result.
 #[tactic(auto, using(crate::proofs::Stages::first_fault))]
 pub fn check_links<A: Allocator + Clone>(
     alloc: &A,
