@@ -1,4 +1,4 @@
-//! The links of numbered sides, and of the border that they leave.
+//! The links of numbered sides, and of the border around them.
 
 ghost use Rattle.std.specs.Prelude.{◌≡◌, ℕ, ◌+◌, ◌^◌, ◌<◌, ◌≤◌, IfErr, IfOk, OnOk, None, Some, length, slice_index, slice_index_or};
 ghost use Rattle.dcel_exchange.specs.Bordering.{AreFound, AreLinked};

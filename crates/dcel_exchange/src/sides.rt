@@ -1,4 +1,4 @@
-//! The sides of all faces in one row, face by face.
+//! The sides of all faces in one list, face by face.
 
 ghost use Rattle.std.specs.Prelude.{◌≡◌, ◌≢◌, ℕ, ◌+◌, ◌^◌, ◌<◌, ◌≤◌, ◌++◌, IfErr, IfOk, OnOk, length, map, replicate, slice_index};
 ghost use Rattle.dcel_exchange.specs.Corners.{AreSides, turned};
