@@ -8,9 +8,9 @@ use dcel_fixed::{FixedDirectedEdgeHandle, FixedFaceHandle, FixedVertexHandle, Po
 use dcel_store::Store;
 use std::alloc::Allocator;
 
-// One side of an edge that is turned: the half edge there and its triangle.
+// One side of an edge that is flipped: the half edge there and its triangle.
 //
-// `origin` is where the half edge starts before the turn, and `corner`, which lies opposite, is
+// `origin` is where the half edge starts before the flip, and `corner`, which is opposite it, is
 // where it starts afterwards.
 #[derive(Clone, Copy)]
 struct Side {

@@ -133,7 +133,7 @@ fn anchor_vertices<V, DE, UE, F, A: Allocator>(store: &mut Store<V, DE, UE, F, A
     }
 }
 
-// Anchors faces at the half edges that lie there, one after another: the last one stays.
+// Anchors faces at their half edges, one after another: the last one stays.
 fn anchor_faces<V, DE, UE, F, A: Allocator>(store: &mut Store<V, DE, UE, F, A>, face: &[u32])
     requires below { AreBelow (length store.old.face_anchors) face.now }
     requires few { length face.now ≤ 2 ^ 32 }
