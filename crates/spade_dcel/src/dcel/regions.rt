@@ -82,7 +82,7 @@ impl<V, DE, UE, F, A: Allocator> Dcel<V, DE, UE, F, A> {
         true
     }
 
-    // Returns whether each of the edges lies between two of the faces.
+    // Returns whether each of the edges is between two of the faces.
     fn lie_between(
         &self,
         edges: &[FixedUndirectedEdgeHandle],
@@ -227,7 +227,7 @@ impl<V, DE, UE, F, A: Allocator> Dcel<V, DE, UE, F, A> {
         true
     }
 
-    // Returns whether the edge is live and lies between two of the faces.
+    // Returns whether the edge is live and between two of the faces.
     #[tactic(auto, using(dcel_fixed::proofs::Halves::halves))]
     fn lies_between(
         &self,

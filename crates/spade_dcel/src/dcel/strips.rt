@@ -38,7 +38,7 @@ impl<V, DE, UE, F, A: Allocator> Dcel<V, DE, UE, F, A> {
         self.goes_along(outer_out, others)
     }
 
-    // Returns whether the out edges after `first_out`, in turn until it comes again, lie on inner
+    // Returns whether the out edges after `first_out`, in turn until it comes again, are on inner
     // triangles with these half edges after them.
     fn goes_along(
         &self,

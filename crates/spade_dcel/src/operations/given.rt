@@ -40,7 +40,7 @@ pub struct Anchors<'a> {
     /// A half edge that starts at each vertex, or None where none does.
     pub vertices: &'a [Option<u32>],
 
-    /// A half edge that lies on each face, or None where none does.
+    /// A half edge of each face's boundary cycle, or None where that is empty.
     pub faces: &'a [Option<u32>],
 }
 
