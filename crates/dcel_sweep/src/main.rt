@@ -1,4 +1,4 @@
-//! The memory sweep: of each call of `spade_dcel` and `dcel_commands` it refuses the first request
+//! The memory sweep: of each call of the layer and of its commands it refuses the first request
 //! for memory, then the second, and so on. After each refusal the mesh has to be as before, what
 //! was passed in has to be back, and exactly the call that met the refusal has to report it. Then
 //! the call is repeated, and has to leave what it leaves if nothing is refused.
