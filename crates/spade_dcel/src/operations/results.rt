@@ -40,7 +40,7 @@ pub struct RemovalResult<V> {
     /// The datum of the vertex.
     pub removed_vertex: V,
 
-    /// The old number of the vertex that was moved to its number, if one was.
+    /// The old number of the vertex that got the freed number, if one did.
     pub swapped_in_vertex: Option<FixedVertexHandle>,
 }
 
