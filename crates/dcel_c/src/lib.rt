@@ -1,8 +1,9 @@
-//! The mesh as a static library, for C and whatever calls C: a mesh that is kept across calls, and a
-//! function for each call of the layer.
+//! The mesh as a static library for C and languages that call C: a mesh that is kept across calls,
+//! and a function for each call of the layer.
 //!
-//! The names are those of `spade_dcel` after `dcel_`, and the header is `bindings/c/dcel.h`. Numbers
-//! are tested, so that a function may be called with any.
+//! Start with the header, `bindings/c/dcel.h`. The names are those of `spade_dcel` with `dcel_` in
+//! front. All numbers are tested, so a function may be called with any. Below are `dcel_commands`,
+//! which tests and edits, and `dcel_exchange`.
 #![tactic(auto)]
 
 mod anchors;

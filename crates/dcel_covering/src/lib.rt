@@ -1,8 +1,8 @@
-//! Triangulations as a whole: what follows for all vertices and all points of the plane from the
-//! conditions on edges and on the outer face.
+//! Delaunay's lemma: what conditions on single edges and on the outer face imply for a whole
+//! triangulation. No vertex is inside a circle, no triangles overlap, and they cover the hull.
 //!
-//! Contracts of the crates above cite these definitions; nothing here runs. Module [`laws`] has
-//! what follows from them.
+//! Nothing here runs: contracts of the crates above cite its definitions. Start with [`laws`]. It
+//! uses `dcel_plane`.
 #![tactic(auto)]
 
 pub mod laws;

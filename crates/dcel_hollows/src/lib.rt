@@ -1,8 +1,8 @@
-//! What is left where a vertex is taken out of a triangulation: how few edges it can have before,
-//! and that the mesh stays in the plane with its hull, or is a straight line.
+//! Removing a vertex from a triangulation: how few edges flips can leave it, and that the mesh
+//! stays in the plane with its hull, or is a straight line, when the vertex is taken out.
 //!
-//! Contracts of the crates above cite these definitions; nothing here runs. Module [`laws`] has
-//! what follows from them.
+//! Nothing here runs: contracts of the crates above cite its definitions. Start with [`laws`]. It
+//! uses `dcel_hulls`.
 #![tactic(auto)]
 
 pub mod laws;

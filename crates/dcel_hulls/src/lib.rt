@@ -1,8 +1,8 @@
 //! The hull of a triangulation: which edits keep it convex, and how it is closed again after a
-//! vertex was put beside it.
+//! vertex was added outside it.
 //!
-//! Contracts of the crates above cite these definitions; nothing here runs. Module [`laws`] has
-//! what follows from them.
+//! Nothing here runs: contracts of the crates above cite its definitions. Start with [`laws`]. It
+//! uses `dcel_covering`.
 #![tactic(auto)]
 
 pub mod laws;

@@ -1,7 +1,8 @@
-//! Where a point lies in a triangulation, walks towards it, and the vertex nearest to it.
+//! Point location in a triangulation: where a point is, walks towards it, and the vertex nearest to
+//! it.
 //!
-//! Contracts of the crates above cite these definitions; nothing here runs. Module [`laws`] has
-//! what follows from them.
+//! Nothing here runs: contracts of the crates above cite its definitions. Start with [`laws`]. It
+//! uses `dcel_hulls` and `dcel_covering`.
 #![tactic(auto)]
 
 pub mod laws;

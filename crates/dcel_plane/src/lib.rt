@@ -1,8 +1,8 @@
-//! Meshes in the plane: what it means that a triangulation of points is one and that it is
-//! Delaunay, and which edits of a mesh keep that.
+//! Meshes in the plane: what it means that the triangles of a mesh of points are positively
+//! oriented and that its edges are locally Delaunay, and which edits keep that.
 //!
-//! Contracts of the crates above cite these definitions; nothing here runs. Module [`laws`] has
-//! what follows from them.
+//! Nothing here runs: contracts of the crates above cite its definitions. Start with [`laws`]. It
+//! uses `dcel_maps` and `dcel_predicates`.
 #![tactic(auto)]
 
 pub mod laws;

@@ -1,8 +1,8 @@
-//! Edges that cross the segment between two vertices of a triangulation, and how flips make the
-//! segment an edge.
+//! Segments between two vertices of a triangulation: which edges they cross, and how flips turn a
+//! segment into an edge.
 //!
-//! Contracts of the crates above cite these definitions; nothing here runs. Module [`laws`] has
-//! what follows from them.
+//! Nothing here runs: contracts of the crates above cite its definitions. Start with [`laws`]. It
+//! uses `dcel_hollows`.
 #![tactic(auto)]
 
 pub mod laws;

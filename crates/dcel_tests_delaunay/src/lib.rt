@@ -1,6 +1,6 @@
-//! Tests of what lies in the plane: decimals, predicates, legalization by circles, and Delaunay
-//! triangulations, also with each request for memory refused in turn; and triangulations by the
-//! places of their points, for other tests too.
+//! Tests of what is in the plane: decimals, predicates, legalization by circles, and Delaunay
+//! triangulations, also with each request for memory refused in turn. [`places`] constructs
+//! triangulations of points by their coordinates, for other tests too.
 #![tactic(auto)]
 
 #[cfg(test)]
