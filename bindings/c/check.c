@@ -49,7 +49,7 @@ static size_t border_of(dcel_mesh *mesh, uint32_t vertex, uint32_t border[8]) {
 }
 
 static void check_version(void) {
-    CHECK(dcel_version() == DCEL_VERSION_NUMBER && dcel_version_0_1_0() == DCEL_VERSION_NUMBER);
+    CHECK(dcel_version() == DCEL_VERSION_NUMBER && dcel_version_0_2_0() == DCEL_VERSION_NUMBER);
 }
 
 /* A mesh that isn't open answers all calls, and is given nothing. */
@@ -429,6 +429,22 @@ static void check_given(void) {
     dcel_free(&mesh);
 }
 
+/* The replies to lines come whole, or from the front. The lines make a triangle; one is refused, and one is
+   none. */
+static void check_replies(void) {
+    static const char lines[] = "triangle 7 8 9\nflip 0\nfoo\nhull";
+    static const char wanted[] = "ok\nrefused 14 WouldLoop\nbad line\nhull 0 2 4\n....";
+    uint8_t replies[sizeof wanted - 1];
+    uint64_t needed = 77;
+    memset(replies, '.', sizeof replies);
+    CHECK(dcel_replies((const uint8_t *)lines, sizeof lines - 1, replies, sizeof replies, &needed) == DCEL_DONE);
+    CHECK(needed == 44 && memcmp(replies, wanted, sizeof replies) == 0);
+    memset(replies, '.', sizeof replies);
+    CHECK(dcel_replies((const uint8_t *)lines, sizeof lines - 1, replies, 4, &needed) == DCEL_SHORT && needed == 44);
+    CHECK(memcmp(replies, "ok\nr....", 8) == 0);
+    CHECK(dcel_replies((const uint8_t *)lines, 0, replies, 0, &needed) == DCEL_DONE && needed == 0 && replies[0] == 'o');
+}
+
 int main(void) {
     check_version();
     check_none();
@@ -448,6 +464,7 @@ int main(void) {
     check_numbers();
     check_coming_and_going();
     check_given();
+    check_replies();
     printf("%d checks passed\n", checks);
     return EXIT_SUCCESS;
 }

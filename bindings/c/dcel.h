@@ -35,18 +35,18 @@ extern "C" {
 
 /* The version of this header. As a number it is 1,000,000 times the first of the three, and 1,000 times the
    second, and the third. */
-#define DCEL_VERSION "0.1.0"
-#define DCEL_VERSION_NUMBER 1000
+#define DCEL_VERSION "0.2.0"
+#define DCEL_VERSION_NUMBER 2000
 
 /* The version of the library, as a number. */
 uint32_t dcel_version(void);
 
 /* The same, under a name that no other version has. */
-uint32_t dcel_version_0_1_0(void);
+uint32_t dcel_version_0_2_0(void);
 
 #ifdef __GNUC__
 /* With it what includes this header is neither linked with a library of another version nor started. */
-__attribute__((used)) static uint32_t (*const dcel_version_wanted)(void) = dcel_version_0_1_0;
+__attribute__((used)) static uint32_t (*const dcel_version_wanted)(void) = dcel_version_0_2_0;
 #endif
 
 /* A mesh, or none: zero bytes are one that isn't open. The fields are the library's. */
@@ -458,6 +458,15 @@ uint32_t dcel_can_remesh_edge_ring(dcel_mesh *mesh, const uint32_t *border_loop,
                                    size_t faces_len, bool *answer);
 uint32_t dcel_can_disconnect_edge_strip(dcel_mesh *mesh, const uint32_t *strip, size_t strip_len,
                                         bool *answer);
+
+/* ---- Lines ---- */
+
+/* Answers lines, which docs/LINES.md lists, on an empty mesh of its own, which isn't kept, and puts the
+   replies into the buffer. As many bytes as fit are put there, from the front, and what lies behind them
+   stays. `needed` is how many bytes all replies are. 22 if they don't all fit; 20 if there is no memory for
+   the mesh or the replies, and then the buffer stays and `needed` is 0. */
+uint32_t dcel_replies(const uint8_t *lines, size_t lines_len, uint8_t *replies, size_t replies_len,
+                      uint64_t *needed);
 
 #ifdef __cplusplus
 }

@@ -163,9 +163,27 @@ static void sweep_clone(void) {
     }
 }
 
+/* The replies to lines are all there, or there was no memory, and the buffer is as it was. */
+static void sweep_replies(void) {
+    static const char lines[] = "triangle 7 8 9\nappend 10\ninsert 3 1\nwords\n";
+    for (long met = 0;; met++) {
+        uint8_t replies[256] = {0};
+        uint64_t needed = 77;
+        left = met;
+        uint32_t status = dcel_replies((const uint8_t *)lines, sizeof lines - 1, replies, sizeof replies, &needed);
+        left = -1;
+        if (status == DCEL_DONE && strstr((const char *)replies, "refused 20") == NULL) {
+            printf("replies: %ld requests\n", met);
+            return;
+        }
+        must(status == DCEL_DONE || (status == DCEL_OUT_OF_MEMORY && needed == 0 && replies[0] == 0), "replies");
+    }
+}
+
 int main(void) {
     for (size_t i = 0; i < sizeof CALLS / sizeof CALLS[0]; i++)
         sweep(&CALLS[i]);
     sweep_clone();
+    sweep_replies();
     return EXIT_SUCCESS;
 }

@@ -1,6 +1,6 @@
 /* What crates/mesh_page exports, as C sees it; in the WebAssembly module each pointer and size has 64
    bits, and a struct by value is passed as a pointer to it. It keeps nothing, and never gives back the
-   memory that a call is lent. Programs in C want dcel.h or mesh_lines.h instead. */
+   memory that a call is lent. Programs in C want dcel.h instead. */
 #ifndef MESH_PAGE_H
 #define MESH_PAGE_H
 

@@ -1,6 +1,6 @@
 """A half-edge mesh on the sphere that is kept across calls, over a library in which every call is proved.
 
-`Dcel` is the mesh. Each way in which a call can be refused is an error of its own, under `DcelError`."""
+`Dcel` is the mesh, and `replies` answers lines. Each way in which a call can be refused is an error of its own, under `DcelError`."""
 
 from ._calls import NO_LINK
 from ._calls import VERSION as __version__
@@ -33,11 +33,12 @@ from ._errors import (
     WouldLoop,
     WrongLists,
 )
+from ._lines import replies
 from ._mesh import Dcel, Ended, HalfEdge, Legalized, Links, Opened, RemovalState, Removed
 
 __all__ = [
     "NO_LINK", "BadRing", "BadStrip", "Dcel", "DcelError", "EdgesStand", "Ended", "Fault", "FaultKind", "Faulty", "GivenUp", "HalfEdge", "Legalized", "Links", "NoMesh",
     "NoRemoval", "NoRoom", "NoSuchEdge", "NoSuchFace", "NoSuchVertex", "NotBridge", "NotLineEnd", "NotOuter", "NotPath", "NotTriangle",
     "Opened", "OutOfMemory", "RemovalOpen", "RemovalState", "Removed", "SameVertex", "Short", "Status", "VertexInUse", "WouldLoop",
-    "WrongLists", "__version__",
+    "WrongLists", "__version__", "replies",
 ]

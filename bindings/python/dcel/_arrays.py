@@ -43,12 +43,12 @@ def zeros(length: int) -> array[int]:
     return array("I", bytes(4 * length))
 
 
-def start_of(items: array[int] | memoryview, kind: Any = c_uint32) -> Any:
+def start_of(items: array[int] | bytearray | memoryview, kind: Any = c_uint32) -> Any:
     """The first item, which ctypes passes by its place, and as long as it is there, the items aren't moved. If there is none it is another
     one, so that no pointer is null."""
     return kind.from_buffer(items) if len(items) else kind()
 
 
-def listed(items: array[int] | memoryview, kind: Any = c_uint32) -> tuple[Any, int]:
+def listed(items: array[int] | bytearray | memoryview, kind: Any = c_uint32) -> tuple[Any, int]:
     """A list as the calls take it: where it begins, and how long it is."""
     return start_of(items, kind), len(items)

@@ -6,7 +6,7 @@ import ctypes
 import os
 import sys
 from collections.abc import Sequence
-from ctypes import POINTER, Structure, c_bool, c_size_t, c_uint32, c_uint64, c_void_p
+from ctypes import POINTER, Structure, c_bool, c_size_t, c_uint8, c_uint32, c_uint64, c_void_p
 from pathlib import Path
 from typing import Any
 
@@ -17,7 +17,7 @@ from ._errors import refused
 if not getattr(sys, "_is_gil_enabled", lambda: True)():
     raise ImportError("dcel wants the interpreter's lock: one call at a time may work on a mesh")
 
-VERSION = "0.1.0"
+VERSION = "0.2.0"
 _VERSION_CALLS = ("dcel_version", f"dcel_version_{VERSION.replace('.', '_')}")
 
 
@@ -76,6 +76,7 @@ _DATUM = POINTER(c_uint64)
 _ANSWER = POINTER(c_bool)
 _LIST = (_NUMBER, c_size_t)
 _DATA = (_DATUM, c_size_t)
+_BYTES = (POINTER(c_uint8), c_size_t)
 
 # Calls that return a status: what they take behind the mesh.
 _REFUSABLE: dict[str, Sequence[Any]] = {
@@ -166,6 +167,8 @@ def _declare() -> None:
         function.restype, function.argtypes = result, (_MESH, *given)
         if name in _REFUSABLE:
             function.errcheck = _check
+    replies = library.dcel_replies  # the only one that takes no mesh
+    replies.restype, replies.argtypes, replies.errcheck = c_uint32, (*_BYTES, *_BYTES, _DATUM), _check
 
 
 _declare()

@@ -12,14 +12,14 @@ from pathlib import Path
 from typing import Any
 
 import dcel
-from dcel import Dcel, Ended, FaultKind, RemovalState, Status, _calls, _mesh
+from dcel import Dcel, Ended, FaultKind, RemovalState, Status, _calls, _lines, _mesh
 from dcel._errors import ERRORS
 
 FOLDER = Path(__file__).resolve().parents[2] / "c"
 HEADER = (FOLDER / "dcel.h").read_text()
 CODE = re.sub(r"^#.*$", "", re.sub(r"/\*.*?\*/", "", HEADER, flags=re.S), flags=re.M)
 NAMES: dict[str, Any] = {
-    "void": None, "bool": ctypes.c_bool, "uint32_t": ctypes.c_uint32, "uint64_t": ctypes.c_uint64, "size_t": ctypes.c_size_t,
+    "void": None, "bool": ctypes.c_bool, "uint8_t": ctypes.c_uint8, "uint32_t": ctypes.c_uint32, "uint64_t": ctypes.c_uint64, "size_t": ctypes.c_size_t,
     **_calls.STRUCTS,
 }
 
@@ -69,12 +69,12 @@ class Header(unittest.TestCase):
     def test_none_is_left_out(self) -> None:
         declared = {name for name, (_, given) in functions().items() if given}
         self.assertEqual(set(functions()) - declared, set(_calls._VERSION_CALLS))
-        named = set(re.findall(r"library\.(dcel_\w+)", inspect.getsource(_mesh)))
+        named = set(re.findall(r"library\.(dcel_\w+)", inspect.getsource(_mesh) + inspect.getsource(_lines)))
         self.assertEqual(named, declared)
         methods = {name.removesuffix("_") for name, _ in inspect.getmembers(Dcel, inspect.isfunction) if not name.startswith("_")}
         calls = {name.removeprefix("dcel_") for name in declared}
         self.assertEqual(methods - calls, {"close", "copy"})
-        self.assertEqual(calls - methods, {"new", "free", "clone", "from_links", "from_faces"})
+        self.assertEqual(calls - methods, {"new", "free", "clone", "from_links", "from_faces", "replies"})
 
     def test_hints(self) -> None:
         """Each parameter and each result has its type, and the package says so."""

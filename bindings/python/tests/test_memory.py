@@ -9,7 +9,7 @@ import unittest
 from collections.abc import Callable
 from typing import Any
 
-from dcel import Dcel, Ended, OutOfMemory
+from dcel import Dcel, Ended, OutOfMemory, replies
 from dcel._calls import library
 from meshes import BORDER, STRIP, line, opened, points, round_, state, triangle
 
@@ -94,6 +94,16 @@ class Memory(unittest.TestCase):
             while self.refused(met, make):
                 met += 1
             self.assertGreater(met, 5)
+
+    def test_replies(self) -> None:
+        """A line that finds no memory is refused, and without memory for the mesh or the replies there are none."""
+        lines, told, met = "triangle 7 8 9\nappend 10\ninsert 3 1\n", [], 0
+        while not told or "refused 20" in told[-1]:
+            if not self.refused(met, lambda: told.append(replies(lines))):
+                self.assertEqual(len(told[-1].splitlines()), 3)
+            met += 1
+        self.assertEqual(told[-1], "ok\nvertex 3\nvertex 3\n")
+        self.assertGreater(met, len(told))
 
     def test_legalize(self) -> None:
         """A list that can't grow ends a legalization, and keeps the flips that are told."""

@@ -11,6 +11,7 @@ from pathlib import Path
 from xml.etree import ElementTree
 
 import dcel
+import dcel._lines
 import dcel._mesh
 
 FOLDER = Path(__file__).resolve().parent.parent
@@ -24,8 +25,9 @@ class Shown(unittest.TestCase):
         self.assertEqual((failed, tried > 20), (0, True))
 
     def test_module(self) -> None:
-        failed, tried = doctest.testmod(sys.modules["dcel._mesh"])
-        self.assertEqual((failed, tried > 0), (0, True))
+        for name in ("_mesh", "_lines"):
+            failed, tried = doctest.testmod(sys.modules[f"dcel.{name}"])
+            self.assertEqual((failed, tried > 0), (0, True))
         self.assertTrue(all(it.__doc__ for it in vars(dcel).values() if isinstance(it, type)))
         self.assertTrue(all(it.__doc__ for name, it in vars(dcel.Dcel).items() if not name.startswith("_")))
 

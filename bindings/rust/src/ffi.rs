@@ -103,7 +103,7 @@ const FAULTY: u32 = 23;
 
 /// With it what uses the crate is linked with no library of another version than the crate's.
 #[used]
-static VERSION_WANTED: extern "C" fn() -> u32 = dcel_version_0_1_0;
+static VERSION_WANTED: extern "C" fn() -> u32 = dcel_version_0_2_0;
 
 /// A mesh of the library, open from its making to its end.
 pub(crate) struct Mesh(UnsafeCell<RawMesh>);

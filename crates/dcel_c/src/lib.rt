@@ -1,5 +1,5 @@
 //! The mesh as a static library for C and languages that call C: a mesh that is kept across calls,
-//! and a function for each call of the layer.
+//! a function for each call of the layer, and one that answers lines.
 //!
 //! Start with the header, `bindings/c/dcel.h`. The names are those of `spade_dcel` with `dcel_` in
 //! front. All numbers are tested, so a function may be called with any. Below are `dcel_commands`,

@@ -85,7 +85,7 @@ pub struct Choice<'a, T> {
 }
 
 /// The version of the programs. The file VERSION at the top says the same.
-const VERSION: &str = "0.1.0";
+const VERSION: &str = "0.2.0";
 
 /// The group that all choices are in.
 const CHOICES: &str = "choices";

@@ -5,10 +5,10 @@ use crate::changes::{Ends, Watched, add, can_add, check_joined, constrained, fre
 use dcel_bench::checks::{holds, same};
 use dcel_bench::refusing::{Memory, Refusals, Refusing};
 use dcel_bench::require;
+use dcel_bench_points::{KITE, Place, SQUARES, is_right, numbered};
 use dcel_circles::is_delaunay_triangulation;
 use dcel_constrained::ConstrainedTriangulation;
 use dcel_delaunay::Triangulation;
-use dcel_tests_delaunay::places::{KITE, Place, SQUARES, is_right, numbered};
 use spade_dcel::handles::FixedUndirectedEdgeHandle;
 use std::alloc::{Allocator, Global};
 use std::test::Fail;

@@ -2,8 +2,8 @@
 
 use crate::changes::{Ends, add_each, check_joined, constrained, insert};
 use dcel_bench::checks::{holds, same};
+use dcel_bench_points::{KITE, Place, SQUARES};
 use dcel_constrained::{ConstrainedMesh, ConstrainedTriangulation};
-use dcel_tests_delaunay::places::{KITE, Place, SQUARES};
 use std::alloc::Global;
 use std::test::Fail;
 

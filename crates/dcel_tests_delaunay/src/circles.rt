@@ -1,9 +1,9 @@
 //! Legalization by circles, and tests of whole meshes.
 
-use crate::places::{KITE, Place, points_at};
 use crate::triangulations::triangulated_at;
 use dcel_bench::checks::{holds, same};
 use dcel_bench::require;
+use dcel_bench_points::{KITE, Place, points_at};
 use dcel_circles::{
     is_circled, is_delaunay, is_delaunay_triangulation, is_plane, legalize_by_circles,
 };

@@ -1,6 +1,5 @@
 //! Tests of what is in the plane: decimals, predicates, legalization by circles, and Delaunay
-//! triangulations, also with each request for memory refused in turn. [`places`] constructs
-//! triangulations of points by their coordinates, for other tests too.
+//! triangulations, also with each request for memory refused in turn.
 #![tactic(auto)]
 
 #[cfg(test)]

@@ -2,12 +2,12 @@
 //! turn. What a refusal leaves undone is done afterwards.
 
 use crate::circles::mesh_of;
-use crate::places::{Place, numbered, points_at};
 use crate::triangulations::counts;
 use dcel_bench::checks::{holds, same};
 use dcel_bench::meshes::handles;
 use dcel_bench::refusing::{Memory, Refusals, Refusing};
 use dcel_bench::require;
+use dcel_bench_points::{Place, numbered, points_at};
 use dcel_circles::{is_delaunay, is_plane, legalize_by_circles};
 use dcel_delaunay::{InsertionError, Point, Triangulation};
 use spade_dcel::dcel::Dcel;

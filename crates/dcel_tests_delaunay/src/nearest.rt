@@ -1,9 +1,9 @@
 //! Nearest vertices: on lines, in grids, seen from outside, and after a removal.
 
-use crate::places::{Place, numbered};
 use dcel_bench::checks::same;
 use dcel_bench::meshes::vertex;
 use dcel_bench::require;
+use dcel_bench_points::{Place, numbered};
 use dcel_delaunay::{Point, Triangulation, point};
 use spade_dcel::handles::FixedVertexHandle;
 use std::alloc::Global;

@@ -1,9 +1,9 @@
 //! Where points lie: each kind of place, in triangles, grids and lines.
 
-use crate::places::Place;
 use crate::triangulations::triangulated_at;
 use dcel_bench::checks::same;
 use dcel_bench::require;
+use dcel_bench_points::Place;
 use dcel_delaunay::{PositionInTriangulation, Triangulation, point};
 use std::alloc::Global;
 use std::test::Fail;

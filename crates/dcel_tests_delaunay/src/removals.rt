@@ -1,11 +1,11 @@
 //! Vertices removed from Delaunay triangulations, also with each request for memory refused in turn.
 
 use crate::memory::{Watched, finish_refused};
-use crate::places::{HUB, Place, SQUARES, is_right, numbered};
 use crate::triangulations::counts;
 use dcel_bench::checks::{holds, same};
 use dcel_bench::meshes::vertex;
 use dcel_bench::refusing::{Memory, Refusals, Refusing};
+use dcel_bench_points::{HUB, Place, SQUARES, is_right, numbered};
 use dcel_delaunay::{RemovalError, Removed, Triangulation, point};
 use spade_dcel::handles::FixedVertexHandle;
 use std::alloc::Global;

@@ -1,8 +1,8 @@
 //! Delaunay triangulations: their counts, positions in them, and what is out of range.
 
-use crate::places::{Place, numbered, points_at};
 use dcel_bench::checks::{holds, same};
 use dcel_bench::require;
+use dcel_bench_points::{Place, numbered, points_at};
 use dcel_delaunay::{InsertionError, Point, Triangulation, insertion_order, point};
 use spade_dcel::handles::FixedVertexHandle;
 use std::alloc::{AllocError, Allocator, Global};

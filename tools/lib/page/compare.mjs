@@ -73,7 +73,7 @@ function compareRanges() {
 }
 
 same('dcel_run', replies(read('crates/dcel_run/stdin')), read('crates/dcel_run/stdout'));
-same('picture', picture(read('crates/picture/stdin'), { anchors: true }), read('crates/picture/stdout'));
+same('picture', picture(read('crates/dcel_draw/stdin'), { anchors: true }), read('crates/dcel_draw/stdout'));
 compareTalks();
 comparePictures();
 compareTriangles();

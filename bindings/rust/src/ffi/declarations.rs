@@ -6,7 +6,7 @@ use super::{Fault, HalfEdgeEntry, Legalized, Opened, RawMesh, Removed};
 // ask for a mesh as the last call left it, which is what a `&mut RawMesh` leads to in this module,
 // and for places to write to, which references are. The others ask for slices too.
 unsafe extern "C" {
-    pub(super) safe fn dcel_version_0_1_0() -> u32;
+    pub(super) safe fn dcel_version_0_2_0() -> u32;
 
     pub(super) safe fn dcel_new(mesh: &mut RawMesh) -> u32;
     pub(super) safe fn dcel_free(mesh: &mut RawMesh);

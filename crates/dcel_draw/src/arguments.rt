@@ -17,7 +17,7 @@ pub struct Arguments<'a> {
 
 /// What the program takes.
 pub const PROGRAM: Program<'static, ()> = Program {
-    name: "picture",
+    name: "dcel_draw",
     about: "Draws the mesh that commands leave, as SVG",
     input: "The lines; without it, or with -, standard input",
     switches: &[

@@ -1,10 +1,10 @@
-//! Reads commands for a half-edge mesh, one a line, and draws the mesh that is left, or writes a
-//! page with the mesh after each line.
+//! Draws a half-edge mesh. The program reads commands, one per line, carries them out on an empty
+//! mesh, and writes the resulting mesh as SVG, or an HTML page with the mesh after each line.
 //!
-//! `picture --help` tells what it reads and writes. It exits with status 0, also if nobody reads
-//! its output any more; with 1, and with no whole picture, if a line is bad or refused, places are
-//! given for a page, a read or a write failed, or there was no memory; and with 2 if its arguments
-//! are bad.
+//! `dcel_draw --help` describes its input and its options. The exit status is 0 on success, even if
+//! the reader of the output stops early. It is 1 if a line is bad or refused, if places are given
+//! for a page, if a read or a write fails, or if there is no memory; the picture is then incomplete
+//! or missing. It is 2 if the arguments are bad.
 #![tactic(auto)]
 
 mod arguments;
