@@ -3,6 +3,7 @@
 import json
 
 import linking
+from package import licenses
 
 FILES = ["mesh.d.ts", "mesh.html", "mesh.js", "mesh.wasm"]
 README = """\
@@ -24,9 +25,10 @@ def manifest():
         "name": "dcel",
         "version": linking.VERSION,
         "description": "A half-edge mesh on the sphere, over a proved module",
+        "license": licenses.EXPRESSION,
         "type": "module",
         "exports": {".": {"types": "./mesh.d.ts", "default": "./mesh.js"}, "./mesh.wasm": "./mesh.wasm"},
-        "files": [*FILES, "BUILD"],
+        "files": [*FILES, "BUILD", *licenses.OWN, "licenses"],
         "private": True,
     }
     return json.dumps(said, indent=2) + "\n"
