@@ -16,6 +16,8 @@ has the types, and `mesh.html` is a page that draws and edits meshes in a browse
 {example}```
 
 Each call begins with an empty mesh. The engine needs 64-bit memories: Node has them from 24 on, and Node 20 with `--experimental-wasm-memory64`.
+
+Licensed under MIT or Apache-2.0, as you choose.
 """
 
 
