@@ -3,6 +3,7 @@
 import json
 
 import linking
+from package import licenses
 
 FILES = ["mesh.d.ts", "mesh.html", "mesh.js", "mesh.wasm"]
 README = """\
@@ -16,6 +17,8 @@ is only tested. `mesh.d.ts` has the types; `mesh.html` is a page that edits and 
 
 Each call starts from an empty mesh and keeps nothing. The engine must support 64-bit memories: Node does from 24 on, and Node 20 with
 `--experimental-wasm-memory64`.
+
+Licensed under MIT or Apache-2.0, as you choose.
 """
 
 
@@ -25,9 +28,10 @@ def manifest():
         "name": "dcel",
         "version": linking.VERSION,
         "description": "A half-edge mesh on the sphere, over a proved module",
+        "license": licenses.EXPRESSION,
         "type": "module",
         "exports": {".": {"types": "./mesh.d.ts", "default": "./mesh.js"}, "./mesh.wasm": "./mesh.wasm"},
-        "files": [*FILES, "BUILD"],
+        "files": [*FILES, "BUILD", *licenses.OWN, "licenses"],
         "private": True,
     }
     return json.dumps(said, indent=2) + "\n"
