@@ -1,7 +1,7 @@
 //! Legalization by circles: [`legalize_by_circles`] flips the illegal edges of a triangulation
 //! until it is locally Delaunay. The tests of whole meshes are [`is_plane`], [`is_delaunay`] and
 //! [`is_delaunay_triangulation`]. It uses `dcel_legalize`, `dcel_predicates` and the laws of
-//! `dcel_covering`.
+//! `dcel_plane`.
 //!
 //! The flips end by themselves: each decreases the volume below the triangulation lifted onto a
 //! paraboloid (C. L. Lawson, "Software for C1 surface interpolation", 1977; the lifting is that of

@@ -3,7 +3,7 @@
 //!
 //! Start with [`ConstrainedTriangulation`]. [`join`] turns the segment between two vertices into an
 //! edge, by flips. It uses `dcel_delaunay` for points, `dcel_regions` for marks, and the laws of
-//! `dcel_segments`.
+//! `dcel_plane`.
 #![tactic(auto)]
 
 mod adding;

@@ -1,8 +1,10 @@
-//! Meshes in the plane: what it means that the triangles of a mesh of points are positively
-//! oriented and that its edges are locally Delaunay, and which edits keep that.
+//! The theory of meshes in the plane: triangles that are positively oriented, edges that are
+//! locally Delaunay, the convex hull, and what edits, flips, removals, walks and segments do to
+//! these.
 //!
-//! Nothing here runs: contracts of the crates above cite its definitions. Start with [`laws`]. It
-//! uses `dcel_maps` and `dcel_predicates`.
+//! Nothing here runs: contracts of the crates above cite its definitions. [`laws`] has a module for
+//! each subject, and `specs` and `proofs` have a folder of the same name. It uses `dcel_maps` and
+//! `dcel_predicates`.
 #![tactic(auto)]
 
 pub mod laws;
