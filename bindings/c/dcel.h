@@ -222,10 +222,10 @@ uint32_t dcel_from_links(dcel_mesh *mesh, const dcel_half_edge *half_edges, size
 
 /* Makes the mesh of these faces, with these data of its vertices. `corners` has the corners of one face
    after the other, counterclockwise, and `counts` how many each has. The face at place k gets number
-   k + 1, and face 0 is what they leave. An edge gets its number where its first side stands, which
-   becomes half edge 2 * u. 23 if no mesh in which no two edges join the same two vertices has these faces,
-   and after faults 17, 19 and 23 though one may; 20. The faults of links that may be told speak of the
-   numbers of the mesh. */
+   k + 1, and face 0, the outer face, is what they leave: of a closed surface, leave one face out. An
+   edge gets its number where its first side stands, which becomes half edge 2 * u. 23 if no mesh in
+   which no two edges join the same two vertices has these faces, and after faults 17, 19 and 23 though
+   one may; 20. The faults of links that may be told speak of the numbers of the mesh. */
 uint32_t dcel_from_faces(dcel_mesh *mesh, const uint64_t *vertices, size_t vertices_len,
                          const uint32_t *corners, size_t corners_len, const uint32_t *counts,
                          size_t counts_len, dcel_fault *fault);
@@ -370,7 +370,7 @@ uint32_t dcel_isolate_vertex_and_fill_hole(dcel_mesh *mesh, const uint32_t *bord
                                            dcel_opened *opened);
 
 /* Gives up these edges and faces, with one vertex or none, inside the ring of the half edges, and fills
-   the hole. 2 3 4 15 19 20. */
+   the hole. In the worst case the time is quadratic in the length of the ring. 2 3 4 15 19 20. */
 uint32_t dcel_remesh_edge_ring(dcel_mesh *mesh, const uint32_t *border_loop, size_t border_loop_len,
                                const uint32_t *edges, size_t edges_len, const uint32_t *faces,
                                size_t faces_len, dcel_opened *opened);
@@ -438,6 +438,9 @@ bool dcel_can_remove_degenerate(dcel_mesh *mesh, uint32_t vertex);
 
 uint32_t dcel_is_border_loop(dcel_mesh *mesh, const uint32_t *border_loop, size_t border_loop_len,
                              uint32_t vertex, bool *answer);
+
+/* These edges and faces, with one vertex or none, are inside the ring of the half edges. In the worst
+   case the time is quadratic in the length of the ring; dcel_can_remesh_edge_ring takes as long. */
 uint32_t dcel_is_ring(dcel_mesh *mesh, const uint32_t *border_loop, size_t border_loop_len,
                       const uint32_t *edges, size_t edges_len, const uint32_t *faces, size_t faces_len,
                       bool *answer);

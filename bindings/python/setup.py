@@ -1,7 +1,8 @@
-"""Puts the shared library that tools/build_static made, or the one in the folder DCEL_LIB_DIR, into a wheel for any Python 3, and leaves
-nothing beside the sources."""
+"""Puts the shared library that tools/build_static made, or the one in the folder DCEL_LIB_DIR, into a wheel for any Python 3, with the
+licenses, and leaves nothing beside the sources."""
 
 import os
+import shutil
 import sys
 import tempfile
 from pathlib import Path
@@ -13,6 +14,8 @@ from wheel.bdist_wheel import bdist_wheel
 FOLDER = Path(__file__).resolve().parent
 ROOT = FOLDER.parents[1]
 LIBRARY = Path(os.environ.get("DCEL_LIB_DIR") or ROOT / "crates/dcel_c/out") / "libdcel.so"
+# Those of the project, and a folder that tools/package makes, with those of what the library contains.
+LICENSES = [ROOT / "LICENSE-APACHE", ROOT / "LICENSE-MIT", ROOT / "NOTICE", LIBRARY.with_name("licenses")]
 sys.dont_write_bytecode = True
 sys.path.insert(0, str(ROOT / "tools/lib"))
 import linking  # noqa: E402
@@ -34,6 +37,16 @@ class OfMachine(Distribution):
 class ForAnyPython(bdist_wheel):
     def get_tag(self):
         return "py3", "none", linking.platform_tag(LIBRARY)
+
+    def egg2dist(self, egginfo_path, distinfo_path):
+        super().egg2dist(egginfo_path, distinfo_path)
+        folder = Path(distinfo_path) / "licenses"
+        folder.mkdir()
+        for it in LICENSES:
+            if it.is_dir():
+                shutil.copytree(it, folder / it.name, copy_function=shutil.copyfile)
+            elif it.is_file():
+                shutil.copyfile(it, folder / it.name)
 
 
 if not LIBRARY.is_file():

@@ -132,8 +132,8 @@ class Dcel:
         """The mesh with these links, and these data of its vertices and faces, face 0 first. Raises Faulty, OutOfMemory.
 
         Links are those of `directed_edges`, or the next, prev, origin and face of each half edge in turn, of which prev isn't read. Each
-        vertex and each face is anchored at its half edge with the greatest number. What is wrong with links that no mesh has is the
-        `fault` of the error."""
+        vertex and each face is anchored at its half edge with the greatest number. If no mesh has these links, the `fault` of the error
+        says why."""
         flat = numbers(links.flat if isinstance(links, Links) else links)
         if len(flat) % 4:
             raise ValueError("a half edge has four links")
@@ -147,7 +147,8 @@ class Dcel:
         """The mesh of these faces, with these data of its vertices. Raises Faulty, OutOfMemory.
 
         `corners` has the corners of one face after the other, counterclockwise, and `counts` how many each has. They become faces from
-        number 1 on, and face 0 is what they leave. What is wrong with faces that no mesh is made of is the `fault` of the error."""
+        number 1 on, and face 0, the outer face, is what they leave: of a closed surface, leave one face out. If there is no such mesh,
+        the `fault` of the error says why."""
         made, fault = cls.__new__(cls), _calls.Fault()
         data = listed(numbers(vertices, "Q"), c_uint64)
         library.dcel_from_faces(made._mesh, *data, *listed(numbers(corners)), *listed(numbers(counts)), fault)
@@ -340,7 +341,7 @@ class Dcel:
         """Replaces the datum of a face. Raises NoSuchFace."""
         library.dcel_update_face(self._mesh, number(face), wide(datum))
 
-    # Edits. docs/MODEL.md draws what each does.
+    # Edits. docs/PICTURES.md draws most, and docs/MODEL.md says what each leaves.
 
     def append_unconnected_vertex(self, datum: int) -> int:
         """Adds a vertex without an edge, and returns its number. Raises NoRoom, OutOfMemory."""
@@ -429,7 +430,8 @@ class Dcel:
         return self._opened(library.dcel_isolate_vertex_and_fill_hole, (*listed(border), number(vertex)), edges, faces)
 
     def remesh_edge_ring(self, border_loop: Iterable[int], edges: Iterable[int], faces: Iterable[int]) -> Opened:
-        """Gives up these edges and faces, with one vertex or none, inside the ring of the half edges, and fills the hole.
+        """Gives up these edges and faces, with one vertex or none, inside the ring of the half edges, and fills the hole. In the worst
+        case the time is quadratic in the length of the ring.
 
         Raises NoSuchEdge, NoSuchFace, RemovalOpen, BadRing, NoRoom, OutOfMemory."""
         inside = array("I", numbers(edges)), array("I", numbers(faces))
@@ -558,7 +560,8 @@ class Dcel:
         return self._answer(library.dcel_is_border_loop, [border_loop], number(vertex))
 
     def is_ring(self, border_loop: Iterable[int], edges: Iterable[int], faces: Iterable[int]) -> bool:
-        """The list is the ring of one vertex or of a region, with these edges and faces inside."""
+        """The list is the ring of one vertex or of a region, with these edges and faces inside. In the worst case the time is quadratic in
+        the length of the ring."""
         return self._answer(library.dcel_is_ring, [border_loop, edges, faces])
 
     def is_edge_strip(self, strip: Iterable[int]) -> bool:
@@ -574,7 +577,7 @@ class Dcel:
         return self._answer(library.dcel_can_isolate_vertex_and_fill_hole, [border_loop], number(vertex))
 
     def can_remesh_edge_ring(self, border_loop: Iterable[int], edges: Iterable[int], faces: Iterable[int]) -> bool:
-        """Whether `remesh_edge_ring` is allowed."""
+        """Whether `remesh_edge_ring` is allowed. It takes as long as `is_ring`."""
         return self._answer(library.dcel_can_remesh_edge_ring, [border_loop, edges, faces])
 
     def can_disconnect_edge_strip(self, strip: Iterable[int]) -> bool:

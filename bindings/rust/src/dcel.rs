@@ -16,7 +16,7 @@ use std::fmt;
 /// links lie in the memory of C's `malloc`, and its values here. What isn't written yet of half
 /// edges, edges and faces is one default value for each of these kinds, made with the mesh. So a
 /// type whose values change by `&`, such as `Cell`, should be written by `.._data_mut` before it is
-/// changed so.
+/// changed so. If the `drop` of a value panics while several are dropped, others may leak.
 ///
 /// A mesh may go to another thread, but no two threads use one at a time: it is `Send`, and not
 /// `Sync`. Threads share its [`Links`](crate::Links).

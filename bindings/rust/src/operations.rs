@@ -1,10 +1,27 @@
-//! Edits of a mesh. docs/MODEL.md of the project draws what each does.
+//! Edits of a mesh.
 //!
-//! Each takes any numbers. It does what it says, or it is refused and changes nothing.
+//! Each takes any numbers. It does what it says, or it is refused and changes nothing. New elements
+//! get the next numbers; only removals give other elements new ones. Two edits:
+//!
+//! ```text
+//! insert_into_triangle                 flip_cw
+//!
+//!      c              c                     c                  c
+//!     / \            /|\                   / \                /|\
+//!    /   \          / | \                 /   \              / | \
+//!   /     \   -->  / .v. \               a --> b     -->     a  |  b
+//!  /       \      /.'   '.\               \   /              \ | /
+//! a ------- b    a ------- b               \ /                \v/
+//!                                           d                  d
+//! ```
+//!
+//! In the project's repository, docs/PICTURES.md draws most edits, with numbers, and docs/MODEL.md
+//! says what links and anchors each leaves.
 //!
 //! A vertex is taken out in three steps: a removal is opened, by [`isolate_vertex_and_fill_hole`],
 //! [`remesh_edge_ring`] or [`disconnect_edge_strip`]; it is cleaned up, by
-//! [`cleanup_isolated_vertex`]; and it is closed, by [`swap_remove_vertex`].
+//! [`cleanup_isolated_vertex`]; and it is closed, by [`swap_remove_vertex`]. The last element of a
+//! kind gets the number that is freed.
 //!
 //! ```
 //! use dcel::Dcel;

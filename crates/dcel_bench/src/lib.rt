@@ -1,5 +1,6 @@
-//! What the tests of the mesh and of its runner share: meshes by the lines that make them, what is
-//! read off them, the replies to lines, and an allocator that refuses.
+//! What the tests share: meshes constructed by lines, what can be read off a mesh, the replies to
+//! lines, and an allocator that refuses requests. Start with [`lines`]. It uses `spade_dcel` and
+//! `dcel_commands`.
 //!
 //! Nothing here ends the process: a failed comparison is returned as a [`Fail`](std::test::Fail),
 //! which a test passes on.

@@ -1,8 +1,9 @@
-//! The mesh as a static library, for C and whatever calls C: a mesh that is kept across calls, a
-//! function for each call of the layer, and one that answers lines.
+//! The mesh as a static library for C and languages that call C: a mesh that is kept across calls,
+//! a function for each call of the layer, and one that answers lines.
 //!
-//! The names are those of `spade_dcel` after `dcel_`, and the header is `bindings/c/dcel.h`. Numbers
-//! are tested, so that a function may be called with any.
+//! Start with the header, `bindings/c/dcel.h`. The names are those of `spade_dcel` with `dcel_` in
+//! front. All numbers are tested, so a function may be called with any. Below are `dcel_commands`,
+//! which tests and edits, and `dcel_exchange`.
 #![tactic(auto)]
 
 mod anchors;
@@ -21,7 +22,6 @@ mod list_conditions;
 mod lists;
 mod mesh;
 mod removals;
-mod replies;
 mod status;
 mod steps;
 mod version;
@@ -66,8 +66,7 @@ pub use removals::{
     dcel_isolate_vertex_and_fill_hole, dcel_remesh_edge_ring, dcel_removal_state,
     dcel_remove_when_degenerate, dcel_swap_remove_vertex,
 };
-pub use replies::dcel_replies;
 pub use steps::{dcel_ccw, dcel_cw, dcel_face, dcel_from, dcel_next, dcel_prev, dcel_rev, dcel_to};
-pub use version::{dcel_version, dcel_version_0_2_0};
+pub use version::{dcel_version, dcel_version_0_1_0};
 pub use walks::{dcel_face_edges, dcel_out_edges};
 pub use whole::{dcel_clear, dcel_clone, dcel_free, dcel_new, dcel_reserve_capacity};

@@ -3,7 +3,7 @@ use Rattle.std.proofs.Common.{◌≡◌, inl, inr, ℕ, ◌+◌, ◌*◌, ◌<�
 use Rattle.std.proofs.lemmas.Bool.{cases_eq, false≢true}
 use Rattle.dcel_maps.specs.Shapes.{Shape}
 use Rattle.dcel_maps.proofs.walks.Links.{half-below}
-use Rattle.dcel_covering.specs.Round.{Begins}
+use Rattle.dcel_plane.specs.covering.Round.{Begins}
 use Rattle.dcel_circles.specs.Ways.{BeginsOnce}
 
 -- what holds of all numbers below n, and of n

@@ -15,7 +15,7 @@ use Rattle.dcel_maps.proofs.walks.Links.{links_stand}
 use Rattle.dcel_maps.proofs.words.Triangles.{triangle_written}
 use Rattle.dcel_maps.proofs.words.Turns.{from_least-turn, turns_back}
 use Rattle.dcel_plane.specs.Plane.{IsPlane, TurnsLeft, point_at}
-use Rattle.dcel_plane.proofs.Corners.{LeftOf, left-from_least, three_items, turn_left, turned_along}
+use Rattle.dcel_plane.proofs.edits.Corners.{LeftOf, left-from_least, three_items, turn_left, turned_along}
 use Rattle.dcel_circles.specs.Turning.{GoesLeft}
 
 module _ (at : ℕ → Point) (s : Shape) where

@@ -11,8 +11,8 @@ use Rattle.dcel_maps.proofs.edits.Flips.{flipped_mesh}
 use Rattle.dcel_maps.proofs.words.Counts.{count-append, last_or_before}
 use Rattle.dcel_plane.specs.Plane.{IsCircled, IsDelaunay, IsInner, IsPlane, ListsCircled, point_at}
 use Rattle.dcel_plane.specs.Volume.{volume_below}
-use Rattle.dcel_plane.proofs.Flipped.{circled_can_flip, flip_lists, flip_plane}
-use Rattle.dcel_plane.proofs.Volumes.{volume_falls}
+use Rattle.dcel_plane.proofs.edits.Flipped.{circled_can_flip, flip_lists, flip_plane}
+use Rattle.dcel_plane.proofs.edits.Volumes.{volume_falls}
 use Rattle.dcel_legalize.specs.Flipping.{edges_flipped, sides_beside}
 use Rattle.dcel_legalize.proofs.Course.{flipped-append}
 use Rattle.dcel_circles.specs.Turning.{AreCircled, IsTurnedTo}

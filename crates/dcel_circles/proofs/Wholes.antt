@@ -6,11 +6,11 @@ use Rattle.dcel_maps.specs.Removals.{Closed}
 use Rattle.dcel_maps.specs.Shapes.{IsMesh, Mesh, face_count}
 use Rattle.dcel_maps.specs.Triangulations.{AllTriangles}
 use Rattle.dcel_plane.specs.Plane.{IsDelaunay}
-use Rattle.dcel_covering.specs.Delaunay.{IsDelaunayTriangulation}
-use Rattle.dcel_covering.specs.Round.{GoesRound}
-use Rattle.dcel_covering.proofs.Rounded.{round_convex, round_hull}
-use Rattle.dcel_covering.proofs.Rounding.{goes_round}
-use Rattle.dcel_covering.proofs.Starts.{inner_half}
+use Rattle.dcel_plane.specs.covering.Delaunay.{IsDelaunayTriangulation}
+use Rattle.dcel_plane.specs.covering.Round.{GoesRound}
+use Rattle.dcel_plane.proofs.covering.Rounded.{round_convex, round_hull}
+use Rattle.dcel_plane.proofs.covering.Rounding.{goes_round}
+use Rattle.dcel_plane.proofs.covering.Starts.{inner_half}
 
 module _ {V DE UE F : Type 0} (m : Mesh V DE UE F) (mesh : IsMesh m) (at : ℕ → Point) where
   pub whole_from : m.shape.removal ≡ Closed → 1 < face_count m.shape → AllTriangles m.shape → ((v : ℕ) × (v < m.shape.vertices) × IsUnconnected m.shape v → ⊥)

@@ -4,7 +4,7 @@ use Rattle.dcel_fixed.specs.HalfEdges.{rev}
 use Rattle.dcel_predicates.specs.declared.point.Point.{Point}
 use Rattle.dcel_predicates.specs.Determinants.{orient2d_of}
 use Rattle.dcel_maps.specs.Shapes.{Shape, end_of, face_of, next_of, origin_of}
-use Rattle.dcel_covering.specs.Round.{Begins, LeadsLeft, LeadsRight}
+use Rattle.dcel_plane.specs.covering.Round.{Begins, LeadsLeft, LeadsRight}
 use Rattle.dcel_circles.specs.declared.rounds.Way.{Way}
 use Rattle.dcel_circles.specs.declared.rounds.Way.TheVariants.{Right, Left}
 

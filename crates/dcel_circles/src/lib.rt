@@ -1,10 +1,11 @@
-//! Legalization of triangulations by circles: edges are flipped until no triangle's circle has the
-//! corner of a triangle beside it inside. And tests of whole meshes: whether one lies in the plane, is
-//! Delaunay at its edges, and is a Delaunay triangulation of its vertices.
+//! Legalization by circles: [`legalize_by_circles`] flips the illegal edges of a triangulation
+//! until it is locally Delaunay. The tests of whole meshes are [`is_plane`], [`is_delaunay`] and
+//! [`is_delaunay_triangulation`]. It uses `dcel_legalize`, `dcel_predicates` and the laws of
+//! `dcel_plane`.
 //!
-//! The flips end by themselves: each makes the volume less that lies below the triangulation, once
-//! it is lifted onto a paraboloid (C. L. Lawson, "Software for C1 surface interpolation", 1977; the
-//! lifting is that of H. Edelsbrunner and R. Seidel, "Voronoi diagrams and arrangements", 1986).
+//! The flips end by themselves: each decreases the volume below the triangulation lifted onto a
+//! paraboloid (C. L. Lawson, "Software for C1 surface interpolation", 1977; the lifting is that of
+//! H. Edelsbrunner and R. Seidel, "Voronoi diagrams and arrangements", 1986).
 #![tactic(auto)]
 
 mod circles;

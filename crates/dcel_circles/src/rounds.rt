@@ -1,7 +1,7 @@
 //! Whether the outer face goes round the triangles once, as a convex hull does.
 
 ghost use Rattle.std.specs.Prelude.{◌≡◌, ◌↔◌, ◌*◌, ◌<◌, ℕ, IsTrue};
-ghost use Rattle.dcel_covering.specs.Round.{Begins, GoesRound, IsRightOf};
+ghost use Rattle.dcel_plane.specs.covering.Round.{Begins, GoesRound, IsRightOf};
 ghost use Rattle.dcel_maps.specs.Removals.{Closed};
 ghost use Rattle.dcel_maps.specs.Shapes.{IsLive, end_of, next_of, origin_of};
 ghost use Rattle.dcel_plane.specs.Plane.{TurnsLeft, point_at};

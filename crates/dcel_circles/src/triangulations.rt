@@ -1,7 +1,7 @@
 //! Whether a mesh is a Delaunay triangulation of its vertices.
 
 ghost use Rattle.std.specs.Prelude.{◌≡◌, ◌<◌, ◌↔◌, IsTrue, ℕ};
-ghost use Rattle.dcel_covering.specs.Delaunay.{IsDelaunayTriangulation};
+ghost use Rattle.dcel_plane.specs.covering.Delaunay.{IsDelaunayTriangulation};
 ghost use Rattle.dcel_maps.specs.Conditions.{IsUnconnected};
 ghost use Rattle.dcel_maps.specs.Removals.{Closed};
 ghost use Rattle.dcel_maps.specs.Shapes.{face_count};
@@ -21,7 +21,7 @@ use std::alloc::Allocator;
 ///
 /// It is one if no removal is open, there is an inner face, each inner face is a triangle, each
 /// vertex has an edge, no edge is to be flipped ([`is_delaunay`]), and the outer face is the convex
-/// hull of the vertices, which passes each vertex once. By the laws of `dcel_covering` no vertex
+/// hull of the vertices, which passes each vertex once. By the laws of `dcel_plane` no vertex
 /// then lies inside the circle of any triangle, the triangles don't overlap, they cover the hull,
 /// and different vertices stand at different points. A path isn't one.
 ///

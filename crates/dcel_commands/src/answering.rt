@@ -1,4 +1,4 @@
-//! The answer to a line: it is read, carried out or told, and the reply is written.
+//! Answering a line: it is read and carried out, and the reply is written.
 
 ghost use Rattle.std.specs.Prelude.{◌≤◌, ◌^◌};
 ghost use Rattle.dcel_commands.specs.Answering.{WritesSome};
@@ -13,7 +13,7 @@ use dcel_text::output::Writer;
 use dcel_text::sink::LineSink;
 use std::alloc::Allocator;
 
-/// Does what a line says, and writes the reply.
+/// Carries out what a line says, and writes the reply.
 ///
 /// The lists of the line are allocated in `memory`.
 pub fn answer<A: Allocator + Clone, B: Allocator + Copy, K: LineSink>(

@@ -1,4 +1,4 @@
-//! Conditions that lines ask of a mesh, each of which several lines share.
+//! Conditions that several lines ask of a mesh.
 
 ghost use Rattle.std.specs.Prelude.{◌≡◌, ◌↔◌, ◌+◌, ◌*◌, ◌<◌, ◌≤◌, ◌^◌, [], ◌∷◌, false, All, IsTrue, MatchResult};
 ghost use Rattle.dcel_maps.specs.Conditions.{HasRoom};
@@ -137,8 +137,8 @@ pub fn ask_two_vertices<V, DE, UE, F, A: Allocator>(
 
 /// Refuses unless the half edge is live, and the vertex is live and has no edge.
 ///
-/// [`Dcel::is_unconnected`] asks again whether the vertex is live: the test before it is there for
-/// the name of the refusal.
+/// [`Dcel::is_unconnected`] tests again whether the vertex is live; the test before it is there to
+/// name the refusal.
 pub fn ask_edge_and_vertex<V, DE, UE, F, A: Allocator>(
     dcel: &Dcel<V, DE, UE, F, A>,
     edge: FixedDirectedEdgeHandle,
@@ -171,7 +171,7 @@ pub fn ask_elements<V, DE, UE, F, A: Allocator>(
     )
 }
 
-/// Returns whether the limit leaves room for what a call adds.
+/// Returns whether what a call adds keeps within the limit.
 pub fn has_room<V, DE, UE, F, A: Allocator>(
     dcel: &Dcel<V, DE, UE, F, A>,
     limit: usize,

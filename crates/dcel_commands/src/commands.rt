@@ -1,5 +1,5 @@
-//! Commands that a mesh carries out or refuses by name, and queries that it answers; the reader of lines, each a command or a
-//! query; and the runner, which writes the replies to lines.
+//! Commands that a mesh carries out or refuses by name, and queries that it answers; the reader of
+//! lines, each a command or a query; and the runner, which writes the replies to lines.
 
 mod command;
 mod lists;

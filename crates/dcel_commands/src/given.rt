@@ -1,4 +1,4 @@
-//! Reads what comes after the word of a line, by one reader for each form that it may have.
+//! Reading what comes after the word of a line, with one reader for each form of it.
 
 ghost use Rattle.std.specs.Prelude.{◌≡◌, ◌<◌, ◌+◌, [], ◌∷◌, ◌++◌, ℕ, ℤ, List, length, MatchOption, MatchResult};
 ghost use Rattle.dcel_commands.specs.Grammar.{Number, Datum, Slash, numbers};
@@ -110,7 +110,7 @@ pub fn number_and_datum<'a, Kind, InnerOuter: InnerOuterMarker>(
     Some((FixedHandleImpl::new(n as usize), d))
 }
 
-/// Reads the `count` numbers that come next into a list.
+/// Reads the next `count` numbers into a list.
 ///
 /// They were counted first, so that a bad line takes no memory.
 fn numbers<'a, Kind, InnerOuter: InnerOuterMarker, A: Allocator>(
@@ -130,7 +130,7 @@ fn numbers<'a, Kind, InnerOuter: InnerOuterMarker, A: Allocator>(
     Ok(list)
 }
 
-/// Reads the numbers that come next in two places into two lists.
+/// Reads the next numbers in two places into two lists.
 ///
 /// `K` and `I` are the first list's kind and marker, `L` and `J` the second's.
 fn both<'a, K, L, I: InnerOuterMarker, J: InnerOuterMarker, A: Allocator + Copy>(
@@ -199,7 +199,7 @@ pub fn two_lists<'a, K, L, I: InnerOuterMarker, J: InnerOuterMarker, A: Allocato
     Some(both(rest, first_count, second, second_count, memory))
 }
 
-/// Reads a list of elements before two that are read already, or found no memory.
+/// Reads a list of elements before two that are already read or found no memory.
 fn and_two<'a, A: Allocator + Copy>(
     first: Rest<'a>,
     first_count: usize,

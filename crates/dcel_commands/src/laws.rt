@@ -1,5 +1,5 @@
-//! Laws, which follow from the definitions alone. These calls compute nothing: a caller learns what
-//! they ensure.
+//! Laws, which follow from the definitions alone. These functions compute nothing; call one for
+//! what it ensures.
 
 ghost use Rattle.std.specs.Prelude.{◌≡◌, ◌⊎◌, ◌↔◌, ◌≤◌, ◌^◌, ℕ, List, Option, Some};
 ghost use Rattle.std.specs.List.Sorted.{IsNonDecreasingBy};
@@ -24,16 +24,17 @@ ghost use Rattle.dcel_maps.specs.EditLists.{EditedBy};
 ghost use Rattle.dcel_maps.specs.Removals.{opened_with};
 ghost use Rattle.dcel_maps.specs.Shapes.{IsMesh, Mesh, Shape};
 
-/// Orders conditions: those of each command and each query ascend by the numbers of their refusals.
+/// Orders conditions: those of each command and each query are in the order of their refusals'
+/// numbers.
 pub fn columns_ascend<V>()
     ensures commands { (limit : ℕ) (command : Instruction V) → IsNonDecreasingBy entry_number (asks limit command) }
     ensures queries { (query : Query) → IsNonDecreasingBy entry_number (query_asks query) }
 {}
 
-/// Relates refusals to conditions: the least condition that isn't met is the one that refuses.
+/// Relates refusals to conditions: the first condition that isn't met decides the refusal.
 ///
 /// A command that is refused isn't legal, and its refusal has the least number among those of the
-/// conditions that aren't met. The same holds of queries.
+/// conditions that aren't met. The same is true of queries.
 pub fn refusals_are_least<V>()
     ensures illegal { (s : Shape) (limit : ℕ) (command : Instruction V) (why : Refusal) → Refuses s limit command why → ¬ Legal s limit command }
     ensures least { (s : Shape) (limit : ℕ) (command : Instruction V) (why : Refusal) → Refuses s limit command why → IsLeast s (asks limit command) why }
@@ -56,30 +57,30 @@ pub fn a_command_is_legal_or_refused<V>()
 
 /// Keeps the mesh: a command or query with a condition that isn't met changes nothing.
 ///
-/// The reply to it is the text of its refusal. A line can also be refused for want of memory
-/// before anything is asked, if it has a list that isn't empty; this law isn't about that.
+/// The reply to it is the text of its refusal. A line with a list that isn't empty can also be
+/// refused for lack of memory before its conditions are tested; this law isn't about that.
 pub fn an_illegal_request_changes_nothing()
     ensures { (limit : ℕ) (old new : State) (said : Saying) (text : List ℕ) → let asks = asked limit said in
         Does limit old said text new → ¬ AllMet old.shape asks →
         (why : Refusal) × FirstUnmet old.shape asks why × (text ≡ refusal_text why) × (new ≡ old) }
 {}
 
-/// Reads a line in one way: it is at most one command or query.
+/// Makes lines unambiguous: a line is at most one command or query.
 pub fn a_line_is_at_most_one_command()
     ensures { (p q : Saying) (line : List ℕ) → Spells p line → Spells q line → p ≡ q }
 {}
 
-/// Keeps triangles: if each live inner face is a triangle, that holds after a list of commands too.
+/// Keeps triangles: if each live inner face is a triangle, it is so after a list of commands too.
 ///
-/// Unless one of them puts a face beside a half edge of an inner face, or splits one side of an
-/// edge whose other half lies on an inner face.
+/// The exceptions are commands that add a face beside a half edge of an inner face, or split one
+/// side of an edge whose other half is on an inner face.
 pub fn runs_keep_triangles<V, DE: Default, UE: Default, F: Default>()
     ensures { (limit : ℕ) (old new : Mesh V DE UE F) (commands : List (Instruction V)) (replies : List (Response V)) → IsMesh old →
         Run DE.is_default UE.is_default F.is_default limit old commands replies new →
         TrianglesStay DE.is_default UE.is_default F.is_default limit old commands replies new }
 {}
 
-/// Tells which elementary edits commands are: one of them, and a list of them, one after another.
+/// Says which elementary edits a command is, and that a list of commands is theirs in order.
 pub fn commands_are_lists_of_edits<V, DE: Default, UE: Default, F: Default>()
     ensures command { (limit : ℕ) (old new : Mesh V DE UE F) (command : Instruction V) (reply : Response V) → limit ≤ 2 ^ 31 → IsMesh old
         → Takes DE.is_default UE.is_default F.is_default limit old command reply new → EditedBy (edits_of old command reply) old new }
@@ -88,21 +89,21 @@ pub fn commands_are_lists_of_edits<V, DE: Default, UE: Default, F: Default>()
         → EditedBy (edits_of_run DE.is_default UE.is_default F.is_default limit old new commands replies run) old new }
 {}
 
-/// Tells what each command does with the removal record.
+/// Says what each command does to the removal record.
 ///
-/// A command that opens a removal writes down what it gives up. `Cleanup` leaves the vertex that is
-/// still there, or closes the removal if there is none. `Remove`, `Clear` and `Triangle` close it,
+/// A command that opens a removal records what it gives up. `Cleanup` leaves the vertex that is
+/// still stored, or closes the removal if there is none. `Remove`, `Clear` and `Triangle` close it,
 /// and all others leave it as it was.
 pub fn records_are_written_by_few<V, DE: Default, UE: Default, F: Default>()
     ensures { (limit : ℕ) (old new : Mesh V DE UE F) (command : Instruction V) (reply : Response V) →
         Takes DE.is_default UE.is_default F.is_default limit old command reply new → new.shape.removal ≡ record_after old command }
 {}
 
-/// Ties the commands of a removal together, whatever other commands come between them.
+/// Relates the commands of a removal, whatever other commands come between them.
 ///
 /// The reply to the command that opens it lists what the mesh has then given up. `Cleanup` takes
 /// out these edges and faces, and its lists name them. After it `Remove` takes out the vertex that
-/// was given up. Each leaves the live elements with their words, origins and data, under new
+/// was given up. Each of them keeps the live elements with their words, origins and data, under new
 /// numbers.
 pub fn a_removal_is_one_removal<V, DE: Default, UE: Default, F: Default>()
     ensures opened { (limit : ℕ) (before begun : Mesh V DE UE F) (edges faces : List ℕ) (vertex : Option ℕ) →

@@ -1,4 +1,4 @@
-//! Legalization: edges are flipped until the caller's rule wants no more of the flips that can be
-//! done.
+//! Legalization: flips illegal edges, by a rule of the caller's own, until none is left that can be
+//! flipped.
 
 pub use dcel_legalize::{Legalized, legalize_edges};

@@ -1,6 +1,8 @@
-//! Commands for a half-edge mesh: each is tested and carried out, or refused by name and without
-//! effect. The runner reads commands and queries as lines of text from a source of bytes, and
-//! writes the replies to a sink.
+//! Commands and queries for the half-edge mesh of `spade_dcel`: each is tested and carried out, or
+//! refused by name and without effect. Programs and other languages edit meshes with them.
+//!
+//! Start with [`commands`] and `apply` there. `run` reads commands and queries as lines of text
+//! from a source of `dcel_text`, and writes the replies to a sink.
 #![tactic(auto)]
 
 mod answering;

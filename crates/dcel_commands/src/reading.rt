@@ -1,4 +1,4 @@
-//! Reads what a line says from its bytes.
+//! Reading from its bytes what a line says.
 
 ghost use Rattle.std.specs.Prelude.{◌≢◌, ℤ, codes};
 ghost use Rattle.dcel_text.specs.Items.{left};
@@ -17,13 +17,13 @@ use dcel_fixed::FixedHandleImpl;
 use dcel_text::items::{Rest, first, nothing};
 use std::alloc::{AllocError, Allocator};
 
-/// How many bytes a line may have before its line feed.
+/// The greatest number of bytes of a line before its line feed.
 const LONGEST: usize = 4096;
 
 /// What a line says, or that there is no memory for its lists; `None` for a bad line.
 pub type Said<A> = Option<Result<Request<A>, AllocError>>;
 
-/// What a line says whose items were read: it is made of these.
+/// What a line says whose items were read: it consists of these.
 macro_rules! said {
     ($read:expr, $given:pat => $request:expr) => {
         match $read {
@@ -36,7 +36,7 @@ macro_rules! said {
     };
 }
 
-/// The same of a line with lists, if there was memory for them.
+/// The same for a line with lists, if there was memory for them.
 macro_rules! said_lists {
     ($read:expr, $given:pat => $request:expr) => {
         match $read {
@@ -50,8 +50,7 @@ macro_rules! said_lists {
     };
 }
 
-/// Reads what comes after the word of a query: a row for each, with the form of what comes after
-/// the word and with what is made of that.
+/// Reads what comes after the word of a query. Each row has its form, and the query that results.
 #[tactic(auto, using(crate::proofs::Spelling::no_word), unfolding(crate::specs::Spelling::Says))]
 fn read_query<'a, A: Allocator>(word: &[u8], rest: Rest<'a>) -> Said<A>
     requires { (command : Instruction ℤ) → word.now ≢ (command_rule command).word }
@@ -127,9 +126,10 @@ fn read_after<'a, A: Allocator + Copy>(word: &[u8], rest: Rest<'a>, memory: A) -
 
 /// Reads what a line says, without its line feed and with its lists in `memory`.
 ///
-/// Answers `None` if the line is neither a command nor a query, or has more than 4,096 bytes, and
-/// `AllocError` if it has a list that finds no memory. No mesh is asked: what a command asks of one
-/// is tested by [`apply`](crate::commands::apply). The table in docs/LINES.md has all lines.
+/// Returns `None` if the line is neither a command nor a query, or has more than 4,096 bytes, and
+/// `AllocError` if there is no memory for a list. No mesh is involved:
+/// [`apply`](crate::commands::apply) tests what a command asks of one. The table in docs/LINES.md
+/// has all lines.
 pub fn read<A: Allocator + Copy>(line: &[u8], memory: A) -> Said<A>
     ensures { Reads line.now result }
 {

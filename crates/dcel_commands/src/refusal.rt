@@ -15,17 +15,17 @@ pub enum Refusal {
     RemovalOpen,
     /// No removal is open that is still to be cleaned up.
     NoRemoval,
-    /// An element was given up.
+    /// An element is given up.
     GivenUp,
-    /// Two vertices are one.
+    /// Two vertices are the same.
     SameVertex,
     /// A vertex that must be unconnected has an edge.
     VertexInUse,
     /// The mesh has an edge.
     EdgesStand,
-    /// The end of the line hasn't exactly one out edge.
+    /// The end of the line does not have exactly one out edge.
     NotLineEnd,
-    /// The two halves of the edge lie on two faces.
+    /// The two halves of the edge are on different faces.
     NotBridge,
     /// The half edge isn't on the outer face.
     NotOuter,
@@ -41,9 +41,9 @@ pub enum Refusal {
     WrongLists,
     /// The mesh is neither one vertex nor a path.
     NotPath,
-    /// The limit or the range of numbers is passed.
+    /// The limit or the range of numbers would be exceeded.
     NoRoom,
-    /// There was no memory.
+    /// Memory ran out.
     OutOfMemory,
 }
 

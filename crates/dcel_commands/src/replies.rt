@@ -1,4 +1,4 @@
-//! Writes replies, what queries are told, and refusals as lines of text.
+//! Writing replies, answers to queries, and refusals as lines of text.
 
 ghost use Rattle.std.specs.Prelude.{◌≡◌};
 ghost use Rattle.dcel_text.specs.Output.{Writes};
@@ -58,7 +58,7 @@ fn write_numbers<Kind, InnerOuter: InnerOuterMarker, K: LineSink>(
     }
 }
 
-/// Writes the line of what a removal has given up, and of the edges that it has put in.
+/// Writes the line of what a removal has given up, and of the edges that it has added.
 fn write_opened<A: Allocator, K: LineSink>(out: &mut Writer<'_, K>, opened: &IsolateVertexResult<A>)
     ensures { Writes K.has_failed K.contents out.old out.new
         (opened_text opened.now.edges_to_remove.items opened.now.faces_to_remove.items opened.now.new_edges.items) }
@@ -72,7 +72,7 @@ fn write_opened<A: Allocator, K: LineSink>(out: &mut Writer<'_, K>, opened: &Iso
     out.write(b"\n");
 }
 
-/// Writes the vertex that moved into the place of another, if one did.
+/// Writes the vertex that was moved to the number of another, if one was.
 fn write_moved<K: LineSink>(out: &mut Writer<'_, K>, moved: Option<FixedVertexHandle>)
     ensures { Writes K.has_failed K.contents out.old out.new (moved_text moved) }
 {
@@ -81,7 +81,7 @@ fn write_moved<K: LineSink>(out: &mut Writer<'_, K>, moved: Option<FixedVertexHa
     }
 }
 
-/// Writes the line of a vertex that was taken out: its datum, and the vertex that moved in.
+/// Writes the line of a vertex that was taken out: its datum, and the vertex that was moved.
 fn write_removed<K: LineSink>(out: &mut Writer<'_, K>, removed: &RemovalResult<i64>)
     ensures { Writes K.has_failed K.contents out.old out.new
         (removed_text removed.now.removed_vertex removed.now.swapped_in_vertex) }
@@ -160,7 +160,7 @@ fn write_datum<K: LineSink>(out: &mut Writer<'_, K>, datum: i64)
     out.write(b"\n");
 }
 
-/// Writes the line of what is true or false.
+/// Writes the line of a truth value.
 fn write_truth<K: LineSink>(out: &mut Writer<'_, K>, is_so: bool)
     ensures { Writes K.has_failed K.contents out.old out.new (truth_text is_so) }
 {
@@ -171,7 +171,7 @@ fn write_truth<K: LineSink>(out: &mut Writer<'_, K>, is_so: bool)
     }
 }
 
-/// Writes the lines of what a query is told.
+/// Writes the lines of the answer to a query.
 pub fn write_told<DE, UE, F, A: Allocator, K: LineSink>(
     out: &mut Writer<'_, K>,
     told: &Told<'_, i64, DE, UE, F, A>,

@@ -1,5 +1,5 @@
-//! What a line says: a command or a query. What a command asks, and how it is carried out, has a
-//! file of its own; `out` and `words` write what queries are told.
+//! What a line says: a command or a query. Each command has a file for what it asks and how it is
+//! carried out; `out` and `words` write answers to queries.
 
 pub mod append;
 pub mod cleanup;

@@ -10,22 +10,22 @@ use dcel_text::sink::LineSink;
 use dcel_text::source::LineSource;
 use std::alloc::Allocator;
 
-/// How many bytes are read at once.
+/// The number of bytes that are read at once.
 const PIECE: usize = 16384;
 
 /// Reads lines to the end of the source, and writes the reply to each.
 ///
-/// It starts from an empty mesh. A line is a command, a query or a bad line. One that is refused
-/// changes nothing, and the run goes on.
+/// It starts with an empty mesh. A line is a command, a query or a bad line. A line that is refused
+/// changes nothing, and the run continues.
 ///
 /// Asks that neither the source nor the sink has failed, and for a `limit` of at most 2^31: a
-/// command that would make more vertices, edges or faces than that is refused.
+/// command that would create more vertices, edges or faces than that is refused.
 ///
-/// After `Ok` all bytes were read and the sink took all replies. If a writer below the sink holds
-/// bytes back, such as a `BufWriter`, the caller still has to flush it. Returns
-/// [`RunFault::Memory`] if there is no memory for the first mesh, before anything is read;
-/// [`RunFault::Read`] if the source failed, and each line that was read whole is answered then;
-/// [`RunFault::Write`] if the sink failed, and the sink has a beginning of the replies then.
+/// After `Ok` all bytes were read and the sink took all replies. If a writer below the sink buffers
+/// bytes, such as a `BufWriter`, the caller still has to flush it. Returns [`RunFault::Memory`] if
+/// there is no memory for the first mesh, before anything is read; [`RunFault::Read`] if the source
+/// failed: then each line that was read whole is answered; [`RunFault::Write`] if the sink failed:
+/// then the sink has a beginning of the replies.
 pub fn run<A: Allocator + Clone, S: LineSource, K: LineSink>(
     alloc: A,
     source: &mut S,

@@ -1,4 +1,4 @@
-//! A session: the bytes of lines come in pieces, and the replies go to a writer.
+//! A session: it takes the bytes of lines in pieces, and writes the replies to a writer.
 
 ghost use Rattle.std.specs.Prelude.{◌≡◌, ◌≤◌, ◌^◌, ◌++◌, ◌∷◌, ℕ, [], IfOk};
 ghost use Rattle.dcel_text.specs.Lines.{HasNoFeed, line_feed};
@@ -15,11 +15,11 @@ use spade_dcel::operations;
 use std::alloc::{AllocError, Allocator};
 use std::marker::Model;
 
-/// One byte more than a line may have, so that a line which fills the buffer is too long however it
-/// goes on.
+/// One byte more than a line may have: a line that fills the buffer is too long, however it
+/// continues.
 const FULL: usize = 4097;
 
-/// The mesh, the memory for the lists of lines, and the line that has begun.
+/// The mesh, the memory for the lists of lines, and the bytes of an unfinished line.
 #[derive(Drop)]
 pub struct Session<A: Allocator> {
     mesh: LineMesh<A>,
@@ -58,7 +58,7 @@ impl<A: Allocator + Clone> Session<A> {
         ensures empty { self.new.begun ≡ [] }
     {
         if self.line.is_empty() {
-            // The line lies in the piece as a whole.
+            // The whole line is in the piece.
             answer(out, &mut self.mesh, &self.alloc, limit, last);
         } else {
             self.line.add_some(last);
@@ -95,7 +95,7 @@ impl<A: Allocator + Clone> Session<A> {
 
     /// Answers a last line that has no line feed, unless it is empty.
     ///
-    /// No line has begun then, as if a line feed had ended the last one.
+    /// Afterwards no line is unfinished, as if a line feed had ended the last one.
     pub fn finish<K: LineSink>(&mut self, out: &mut Writer<'_, K>, limit: usize)
         requires { limit ≤ 2 ^ 31 }
         ensures ends { Ends K.has_failed K.contents limit self.old out.old out.new }

@@ -7,7 +7,7 @@ use Rattle.dcel_maps.specs.Walking.{Leads}
 use Rattle.dcel_maps.specs.Words.{count_of}
 use Rattle.dcel_maps.proofs.Liveness.{closed-live}
 use Rattle.dcel_plane.specs.Plane.{point_at}
-use Rattle.dcel_segments.specs.Segments.{Crosses, TurnsInto}
+use Rattle.dcel_plane.specs.segments.Segments.{Crosses, TurnsInto}
 use Rattle.dcel_regions.specs.Marked.{IsMarked}
 use Rattle.dcel_regions.specs.declared.mark.Mark.{Mark}
 use Rattle.dcel_regions.specs.declared.mark.Mark.TheVariants.{Constraint}

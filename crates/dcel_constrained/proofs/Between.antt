@@ -9,11 +9,11 @@ use Rattle.dcel_predicates.proofs.Ring.{Term, by_terms, minus, num, plus, times 
 use Rattle.dcel_predicates.proofs.Signs.{both_negative, ordered, square, times, times_positive}
 use Rattle.dcel_predicates.proofs.Terms.{orient, spot}
 use Rattle.dcel_maps.specs.Shapes.{IsLive, Shape, end_of, origin_of}
-use Rattle.dcel_covering.specs.Covering.{apart_along}
-use Rattle.dcel_covering.proofs.Along.{IsBetween, by_place, dot, dot_in, dot_start, long, none_first, none_second}
-use Rattle.dcel_covering.proofs.Inside.{apart_end, apart_start, on_end, on_start}
-use Rattle.dcel_covering.proofs.Products.{below_times, factor_positive, times_below}
-use Rattle.dcel_segments.specs.Segments.{Crosses, LeadsAlong, offset}
+use Rattle.dcel_plane.specs.covering.Covering.{apart_along}
+use Rattle.dcel_plane.proofs.covering.Along.{IsBetween, by_place, dot, dot_in, dot_start, long, none_first, none_second}
+use Rattle.dcel_plane.proofs.covering.Inside.{apart_end, apart_start, on_end, on_start}
+use Rattle.dcel_plane.proofs.covering.Products.{below_times, factor_positive, times_below}
+use Rattle.dcel_plane.specs.segments.Segments.{Crosses, LeadsAlong, offset}
 use Rattle.dcel_constrained.specs.Constraints.{LiesOnSegment}
 use Rattle.dcel_constrained.specs.Meeting.{LiesBetween}
 use Rattle.dcel_constrained.proofs.Widths.{sum_apart}

@@ -6,8 +6,8 @@ use Rattle.dcel_maps.specs.Removals.{Closed}
 use Rattle.dcel_maps.specs.Shapes.{Mesh, Shape, face_count}
 use Rattle.dcel_maps.specs.Triangulations.{AllTriangles}
 use Rattle.dcel_plane.specs.Plane.{IsPlane, ListsCircled, origin_point, point_at}
-use Rattle.dcel_covering.specs.Covering.{IsConvex, IsHull}
-use Rattle.dcel_hulls.specs.Straight.{IsStraight}
+use Rattle.dcel_plane.specs.covering.Covering.{IsConvex, IsHull}
+use Rattle.dcel_plane.specs.hull.Straight.{IsStraight}
 use Rattle.dcel_delaunay.specs.Growing.{IsJoined, IsTriangulation}
 use Rattle.dcel_regions.specs.declared.mark.Mark.{Mark}
 use Rattle.dcel_regions.specs.declared.mark.Mark.TheVariants.{Constraint, Free}

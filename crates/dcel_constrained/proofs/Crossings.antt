@@ -8,10 +8,10 @@ use Rattle.dcel_predicates.proofs.Points.{orient2d-turned}
 use Rattle.dcel_predicates.proofs.Ring.{Term, by_terms, minus, plus, times as by}
 use Rattle.dcel_predicates.proofs.Signs.{both_negative, ordered, square, times, times_negative, times_positive}
 use Rattle.dcel_predicates.proofs.Terms.{orient, orient_in, spot}
-use Rattle.dcel_covering.specs.Places.{AreDisjoint, IsIn, IsInside, Place, orient_at}
-use Rattle.dcel_covering.proofs.Along.{none_second}
-use Rattle.dcel_covering.proofs.Inside.{as_place, closed_disjoint, nudged, nudged-is, on_end, on_start, place_of}
-use Rattle.dcel_covering.proofs.Products.{below_times, outweighs}
+use Rattle.dcel_plane.specs.covering.Places.{AreDisjoint, IsIn, IsInside, Place, orient_at}
+use Rattle.dcel_plane.proofs.covering.Along.{none_second}
+use Rattle.dcel_plane.proofs.covering.Inside.{as_place, closed_disjoint, nudged, nudged-is, on_end, on_start, place_of}
+use Rattle.dcel_plane.proofs.covering.Products.{below_times, outweighs}
 
 -- A point y on the line from o to e and on one that has o on its right and e on its left lies in the triangle with the corner c.
 module _ (v w o e c y : Point) (right : orient2d_of v w o <ℤ pos 0) (left : pos 0 <ℤ orient2d_of v w e) (on : orient2d_of v w y ≡ pos 0)

@@ -10,10 +10,10 @@ use Rattle.dcel_maps.proofs.maps.Soundness.{rev_live}
 use Rattle.dcel_maps.proofs.shapes.Maps.{map-sound}
 use Rattle.dcel_maps.proofs.words.Counts.{count-append, in_either}
 use Rattle.dcel_plane.specs.Plane.{ListsCircled, point_at}
-use Rattle.dcel_covering.specs.Covering.{apart_along}
-use Rattle.dcel_covering.proofs.Inside.{apart_end}
-use Rattle.dcel_segments.specs.Segments.{Crosses, IsChannel, LeadsAlong, TurnsInto, offset}
-use Rattle.dcel_segments.proofs.Channels.{all_cross}
+use Rattle.dcel_plane.specs.covering.Covering.{apart_along}
+use Rattle.dcel_plane.proofs.covering.Inside.{apart_end}
+use Rattle.dcel_plane.specs.segments.Segments.{Crosses, IsChannel, LeadsAlong, TurnsInto, offset}
+use Rattle.dcel_plane.proofs.segments.Channels.{all_cross}
 use Rattle.dcel_constrained.specs.Meeting.{HasCome, IsJoined, ListsStill}
 use Rattle.dcel_constrained.specs.declared.joining.Joined.{Joined}
 use Rattle.dcel_constrained.specs.declared.joining.Joined.TheVariants.{Between, Edge}

@@ -7,8 +7,8 @@ use Rattle.dcel_maps.specs.Removals.{Closed}
 use Rattle.dcel_maps.specs.Shapes.{IsMesh, Mesh, origin_of}
 use Rattle.dcel_maps.proofs.Liveness.{closed-live}
 use Rattle.dcel_plane.specs.Plane.{point_at}
-use Rattle.dcel_covering.proofs.Inside.{on_end, on_start}
-use Rattle.dcel_segments.specs.Segments.{Crosses, offset}
+use Rattle.dcel_plane.proofs.covering.Inside.{on_end, on_start}
+use Rattle.dcel_plane.specs.segments.Segments.{Crosses, offset}
 use Rattle.dcel_regions.specs.Marked.{IsMarked}
 use Rattle.dcel_regions.specs.declared.mark.Mark.{Mark}
 use Rattle.dcel_constrained.specs.Constraints.{IsPartOf, KeepsMarked, LiesOnSegment, MarksOnly}

@@ -15,13 +15,13 @@ use Rattle.dcel_maps.proofs.edits.Flips.{at_flip}
 use Rattle.dcel_maps.proofs.words.Counts.{count-other, count-same, first_or_later, in_either}
 use Rattle.dcel_maps.proofs.words.EachSet.{length-two_set, other-two_set}
 use Rattle.dcel_plane.specs.Plane.{IsCircled, IsInner, IsPlane, TurnsLeft, origin_point, point_at}
-use Rattle.dcel_plane.proofs.Flipped.{circled_can_flip, from_end, from_start, new_corners, origin_after, origin_same, origin_t_after}
-use Rattle.dcel_covering.specs.Covering.{CoversHull, apart_along}
-use Rattle.dcel_hollows.specs.Wheels.{CanTurn}
-use Rattle.dcel_segments.specs.Segments.{AreEnds, CanTurnEach, Crosses, IsPlanar, LeadsAlong, TurnsInto, flipped_each, offset}
-use Rattle.dcel_segments.proofs.Becoming.{turned_planar}
-use Rattle.dcel_segments.proofs.Covered.{each_covers, each_planar}
-use Rattle.dcel_segments.proofs.FlipFaces.{of_even}
+use Rattle.dcel_plane.proofs.edits.Flipped.{circled_can_flip, from_end, from_start, new_corners, origin_after, origin_same, origin_t_after}
+use Rattle.dcel_plane.specs.covering.Covering.{CoversHull, apart_along}
+use Rattle.dcel_plane.specs.removal.Wheels.{CanTurn}
+use Rattle.dcel_plane.specs.segments.Segments.{AreEnds, CanTurnEach, Crosses, IsPlanar, LeadsAlong, TurnsInto, flipped_each, offset}
+use Rattle.dcel_plane.proofs.segments.Becoming.{turned_planar}
+use Rattle.dcel_plane.proofs.segments.Covered.{each_covers, each_planar}
+use Rattle.dcel_plane.proofs.segments.FlipFaces.{of_even}
 use Rattle.dcel_regions.specs.Marked.{IsMarked}
 use Rattle.dcel_regions.specs.declared.mark.Mark.{Mark}
 use Rattle.dcel_regions.specs.declared.mark.Mark.TheVariants.{Constraint}

@@ -10,13 +10,13 @@ use Rattle.dcel_maps.specs.Words.{count_of}
 use Rattle.dcel_maps.proofs.shapes.Maps.{map-sound}
 use Rattle.dcel_maps.proofs.words.Counts.{count-append, count-later, count-other, count-same}
 use Rattle.dcel_legalize.specs.Flipping.{sides_beside}
-use Rattle.dcel_hollows.proofs.Fewer.{of_both_halves}
-use Rattle.dcel_covering.specs.Covering.{apart_along}
-use Rattle.dcel_segments.specs.Segments.{AreEnds, BeginsAt, Crosses, HasSides, HasSidesOf, IsChannel, IsPlanar, offset}
-use Rattle.dcel_segments.proofs.Gates.{far, near}
-use Rattle.dcel_segments.proofs.Onward.{on_line}
-use Rattle.dcel_segments.proofs.Peaks.{of_face}
-use Rattle.dcel_segments.proofs.Walking.{Comes, comes_first, comes_left, comes_right, comes_to_end, few}
+use Rattle.dcel_plane.proofs.removal.Fewer.{of_both_halves}
+use Rattle.dcel_plane.specs.covering.Covering.{apart_along}
+use Rattle.dcel_plane.specs.segments.Segments.{AreEnds, BeginsAt, Crosses, HasSides, HasSidesOf, IsChannel, IsPlanar, offset}
+use Rattle.dcel_plane.proofs.segments.Gates.{far, near}
+use Rattle.dcel_plane.proofs.segments.Onward.{on_line}
+use Rattle.dcel_plane.proofs.segments.Peaks.{of_face}
+use Rattle.dcel_plane.proofs.segments.Walking.{Comes, comes_first, comes_left, comes_right, comes_to_end, few}
 use Rattle.dcel_constrained.specs.Meeting.{HasCome, IsMetAfter, ListsStill}
 use Rattle.dcel_constrained.specs.declared.walking.Met.TheVariants.{Side, Vertex}
 

@@ -10,9 +10,9 @@ use Rattle.dcel_maps.specs.Shapes.{IsLive, IsMesh, Mesh, end_of, origin_of}
 use Rattle.dcel_maps.specs.Walking.{Leads}
 use Rattle.dcel_maps.proofs.Liveness.{closed-live}
 use Rattle.dcel_plane.specs.Plane.{origin_point, point_at}
-use Rattle.dcel_covering.proofs.Inside.{on_end}
-use Rattle.dcel_hollows.proofs.Turnable.{both_halves}
-use Rattle.dcel_segments.specs.Segments.{Crosses, LeadsAlong, offset}
+use Rattle.dcel_plane.proofs.covering.Inside.{on_end}
+use Rattle.dcel_plane.proofs.removal.Turnable.{both_halves}
+use Rattle.dcel_plane.specs.segments.Segments.{Crosses, LeadsAlong, offset}
 use Rattle.dcel_regions.specs.Marked.{IsMarked}
 use Rattle.dcel_regions.specs.declared.mark.Mark.{Mark}
 use Rattle.dcel_constrained.specs.Constraints.{HasConstraint, IsFreeWay, IsMarkedWay, IsPartOf, KeepsMarked, LiesOnSegment, MarksOnly}

@@ -11,8 +11,8 @@ use Rattle.dcel_maps.specs.Walking.{Leads}
 use Rattle.dcel_maps.proofs.Liveness.{is_live-parts}
 use Rattle.dcel_maps.proofs.maps.Soundness.{rev_live}
 use Rattle.dcel_plane.specs.Plane.{point_at}
-use Rattle.dcel_hollows.proofs.Turnable.{both_halves}
-use Rattle.dcel_places.specs.Locating.{LiesOn}
+use Rattle.dcel_plane.proofs.removal.Turnable.{both_halves}
+use Rattle.dcel_plane.specs.location.Locating.{LiesOn}
 use Rattle.dcel_delaunay.specs.Edges.{IsSplit, KeepsEdgeData}
 use Rattle.dcel_delaunay.specs.Growing.{Gains, HasHull, HasOutside, IsFlat, IsTriangulated, KeepsListed}
 use Rattle.dcel_regions.specs.Marked.{IsMarked}

@@ -9,11 +9,11 @@ use Rattle.dcel_maps.specs.Shapes.{IsLive, IsMesh, Mesh, Shape, end_of, face_of,
 use Rattle.dcel_maps.specs.Triangulations.{AllTriangles}
 use Rattle.dcel_maps.proofs.Liveness.{is_live-parts}
 use Rattle.dcel_plane.specs.Plane.{IsPlane, point_at}
-use Rattle.dcel_covering.specs.Places.{IsIn, orient_at}
-use Rattle.dcel_covering.proofs.Inside.{as_place, place_of}
-use Rattle.dcel_covering.proofs.Triangles.{at_word, same_face}
-use Rattle.dcel_places.specs.Locating.{HasBeyond}
-use Rattle.dcel_segments.proofs.Wholly.{plane_covers}
+use Rattle.dcel_plane.specs.covering.Places.{IsIn, orient_at}
+use Rattle.dcel_plane.proofs.covering.Inside.{as_place, place_of}
+use Rattle.dcel_plane.proofs.covering.Triangles.{at_word, same_face}
+use Rattle.dcel_plane.specs.location.Locating.{HasBeyond}
+use Rattle.dcel_plane.proofs.segments.Wholly.{plane_covers}
 use Rattle.dcel_constrained.specs.Missing.{IsMissed}
 
 module _ {DE UE F : Type 0} (m : Mesh Point DE UE F) (mesh : IsMesh m) (triangles : AllTriangles m.shape) (p : Point) where

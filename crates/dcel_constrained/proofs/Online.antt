@@ -11,12 +11,12 @@ use Rattle.dcel_predicates.proofs.Signs.{both_negative, ordered, times}
 use Rattle.dcel_predicates.proofs.Terms.{spot}
 use Rattle.dcel_maps.specs.Shapes.{IsLive, IsMesh, Mesh, Shape, end_of, map_of, origin_of}
 use Rattle.dcel_maps.proofs.maps.Soundness.{rev_live}
-use Rattle.dcel_covering.specs.Covering.{apart_along}
-use Rattle.dcel_covering.proofs.Along.{by_place, dot, dot_in, long, no_height, one_place}
-use Rattle.dcel_covering.proofs.Inside.{on_end, on_start}
-use Rattle.dcel_covering.proofs.Products.{below_times, times_below}
-use Rattle.dcel_hulls.specs.Straight.{IsStraight, beyond}
-use Rattle.dcel_segments.specs.Segments.{AreEnds, LeadsAlong, offset}
+use Rattle.dcel_plane.specs.covering.Covering.{apart_along}
+use Rattle.dcel_plane.proofs.covering.Along.{by_place, dot, dot_in, long, no_height, one_place}
+use Rattle.dcel_plane.proofs.covering.Inside.{on_end, on_start}
+use Rattle.dcel_plane.proofs.covering.Products.{below_times, times_below}
+use Rattle.dcel_plane.specs.hull.Straight.{IsStraight, beyond}
+use Rattle.dcel_plane.specs.segments.Segments.{AreEnds, LeadsAlong, offset}
 use Rattle.dcel_constrained.proofs.Between.{apart_placed, at_start, inside_up}
 
 module _ {V DE UE F : Type 0} (m : Mesh V DE UE F) (mesh : IsMesh m) (at : ℕ → Point) (straight : IsStraight at m.shape) (v w : ℕ) (differ : v ≢ w) (ends : AreEnds m.shape v w) where

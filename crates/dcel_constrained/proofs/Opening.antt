@@ -5,10 +5,10 @@ use Rattle.dcel_predicates.proofs.Machine.{in_128}
 use Rattle.dcel_maps.specs.Shapes.{IsLive, IsMesh, Mesh, Shape, end_of, face_of, next_of}
 use Rattle.dcel_maps.specs.Walking.{IsOutEdge}
 use Rattle.dcel_maps.proofs.shapes.Maps.{map-sound}
-use Rattle.dcel_covering.specs.Covering.{apart_along}
-use Rattle.dcel_covering.proofs.Inside.{on_start}
-use Rattle.dcel_segments.specs.Segments.{AreEnds, BeginsAt, IsPlanar, LeadsAlong, OpensAt, corner_before, offset}
-use Rattle.dcel_segments.proofs.Starting.{begins_opens, found, opens_begins}
+use Rattle.dcel_plane.specs.covering.Covering.{apart_along}
+use Rattle.dcel_plane.proofs.covering.Inside.{on_start}
+use Rattle.dcel_plane.specs.segments.Segments.{AreEnds, BeginsAt, IsPlanar, LeadsAlong, OpensAt, corner_before, offset}
+use Rattle.dcel_plane.proofs.segments.Starting.{begins_opens, found, opens_begins}
 use Rattle.dcel_constrained.specs.Channels.{AreVertices}
 use Rattle.dcel_constrained.proofs.Widths.{apart_told}
 

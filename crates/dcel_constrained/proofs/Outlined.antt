@@ -11,15 +11,15 @@ use Rattle.dcel_maps.specs.Words.{TurnsTo, count_of, word_of}
 use Rattle.dcel_maps.proofs.Liveness.{is_live-parts, is_live-past}
 use Rattle.dcel_maps.proofs.words.Turns.{turns_to_itself}
 use Rattle.dcel_plane.specs.Plane.{point_at}
-use Rattle.dcel_plane.proofs.Corners.{turned_along}
-use Rattle.dcel_covering.specs.Covering.{CoversHull}
-use Rattle.dcel_covering.specs.Delaunay.{IsCovered, LiesInHull}
-use Rattle.dcel_covering.specs.Places.{AreDisjoint, IsIn, Place, orient_at}
-use Rattle.dcel_covering.proofs.Numbered.{searched, word_is}
-use Rattle.dcel_covering.proofs.Overlaps.{disjoint_triangles}
-use Rattle.dcel_covering.proofs.Starts.{inner_half, out_of}
-use Rattle.dcel_segments.specs.Segments.{AreEnds, IsPlanar}
-use Rattle.dcel_segments.proofs.Wholly.{plane_covers}
+use Rattle.dcel_plane.proofs.edits.Corners.{turned_along}
+use Rattle.dcel_plane.specs.covering.Covering.{CoversHull}
+use Rattle.dcel_plane.specs.covering.Delaunay.{IsCovered, LiesInHull}
+use Rattle.dcel_plane.specs.covering.Places.{AreDisjoint, IsIn, Place, orient_at}
+use Rattle.dcel_plane.proofs.covering.Numbered.{searched, word_is}
+use Rattle.dcel_plane.proofs.covering.Overlaps.{disjoint_triangles}
+use Rattle.dcel_plane.proofs.covering.Starts.{inner_half, out_of}
+use Rattle.dcel_plane.specs.segments.Segments.{AreEnds, IsPlanar}
+use Rattle.dcel_plane.proofs.segments.Wholly.{plane_covers}
 use Rattle.dcel_delaunay.specs.Growing.{HasHull, IsFlat}
 use Rattle.dcel_delaunay.specs.Triangulated.{FacesAreApart, HullIsCovered}
 use Rattle.dcel_delaunay.proofs.Counting.{joined_all}

@@ -3,8 +3,8 @@ use Rattle.std.proofs.Common.{ℕ, ◌/◌}
 use Rattle.dcel_predicates.specs.declared.point.Point.{Point}
 use Rattle.dcel_maps.specs.Shapes.{Mesh, origin_of}
 use Rattle.dcel_plane.specs.Plane.{point_at}
-use Rattle.dcel_hollows.proofs.Turnable.{both_halves}
-use Rattle.dcel_segments.specs.Segments.{LeadsAlong}
+use Rattle.dcel_plane.proofs.removal.Turnable.{both_halves}
+use Rattle.dcel_plane.specs.segments.Segments.{LeadsAlong}
 use Rattle.dcel_regions.specs.declared.mark.Mark.{Mark}
 use Rattle.dcel_constrained.specs.Constraints.{IsFreeWay, IsPartOf, LiesOnSegment}
 use Rattle.dcel_constrained.specs.Meeting.{LiesBetween}

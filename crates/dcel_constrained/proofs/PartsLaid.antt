@@ -8,7 +8,7 @@ use Rattle.dcel_maps.specs.Walking.{Leads}
 use Rattle.dcel_maps.specs.Words.{count_of}
 use Rattle.dcel_maps.proofs.Liveness.{is_live-parts}
 use Rattle.dcel_plane.specs.Plane.{ListsCircled, point_at}
-use Rattle.dcel_segments.specs.Segments.{Crosses, IsPlanar, TurnsInto}
+use Rattle.dcel_plane.specs.segments.Segments.{Crosses, IsPlanar, TurnsInto}
 use Rattle.dcel_delaunay.specs.Growing.{HasHull, IsJoined as AreJoined, KeepsListed}
 use Rattle.dcel_regions.specs.Marked.{IsMarked}
 use Rattle.dcel_regions.specs.declared.mark.Mark.{Mark}

@@ -17,17 +17,17 @@ use Rattle.dcel_maps.specs.Words.{count_of}
 use Rattle.dcel_maps.proofs.maps.Triangles.{IsTriangleOf}
 use Rattle.dcel_maps.proofs.words.Counts.{count-append, count-later, count-other, count-same}
 use Rattle.dcel_plane.specs.Plane.{TurnsLeft}
-use Rattle.dcel_covering.specs.Covering.{apart_along}
-use Rattle.dcel_covering.proofs.Along.{dot}
-use Rattle.dcel_covering.proofs.Inside.{on_end, on_start}
-use Rattle.dcel_covering.proofs.Powers.{less_first}
-use Rattle.dcel_covering.proofs.Products.{times_below}
-use Rattle.dcel_segments.specs.Segments.{AreEnds, Crosses, IsChannel, IsClear, IsCorner, IsPlanar, Leads, corner_beyond, offset, width}
-use Rattle.dcel_segments.proofs.Channels.{all_cross, leads_on}
-use Rattle.dcel_segments.proofs.Gates.{far, inner_far, inner_near, left_far, near}
-use Rattle.dcel_segments.proofs.Levers.{inside_left, inside_right}
-use Rattle.dcel_segments.proofs.Peaks.{ends_of, of_face}
-use Rattle.dcel_segments.proofs.Walking.{Comes, one_more}
+use Rattle.dcel_plane.specs.covering.Covering.{apart_along}
+use Rattle.dcel_plane.proofs.covering.Along.{dot}
+use Rattle.dcel_plane.proofs.covering.Inside.{on_end, on_start}
+use Rattle.dcel_plane.proofs.covering.Powers.{less_first}
+use Rattle.dcel_plane.proofs.covering.Products.{times_below}
+use Rattle.dcel_plane.specs.segments.Segments.{AreEnds, Crosses, IsChannel, IsClear, IsCorner, IsPlanar, Leads, corner_beyond, offset, width}
+use Rattle.dcel_plane.proofs.segments.Channels.{all_cross, leads_on}
+use Rattle.dcel_plane.proofs.segments.Gates.{far, inner_far, inner_near, left_far, near}
+use Rattle.dcel_plane.proofs.segments.Levers.{inside_left, inside_right}
+use Rattle.dcel_plane.proofs.segments.Peaks.{ends_of, of_face}
+use Rattle.dcel_plane.proofs.segments.Walking.{Comes, one_more}
 use Rattle.dcel_constrained.specs.Meeting.{LiesBetween}
 use Rattle.dcel_constrained.proofs.Between.{crosses_before, factor_below, lies_far, lies_not_end, lies_not_start, side_of, to_left_later, to_left_sooner, to_right_later, to_right_sooner}
 use Rattle.dcel_constrained.proofs.Passing.{none_in}

@@ -11,16 +11,16 @@ use Rattle.dcel_maps.specs.Shapes.{IsLive, Mesh, Shape, end_of, face_of, map_of,
 use Rattle.dcel_maps.proofs.maps.Soundness.{rev_live}
 use Rattle.dcel_maps.proofs.maps.Triangles.{IsTriangleOf}
 use Rattle.dcel_plane.specs.Plane.{TurnsLeft}
-use Rattle.dcel_covering.specs.Covering.{Covers}
-use Rattle.dcel_covering.specs.Places.{AreDisjoint}
-use Rattle.dcel_covering.proofs.Along.{dot, long}
-use Rattle.dcel_covering.proofs.Apart.{apart_at}
-use Rattle.dcel_covering.proofs.Faces.{disjoint_at, not_bare}
-use Rattle.dcel_covering.proofs.Inside.{on_end, on_start}
-use Rattle.dcel_covering.proofs.Triangles.{left_at, round}
-use Rattle.dcel_segments.specs.Segments.{AreEnds, Crosses, IsPlanar, corner_before, offset}
-use Rattle.dcel_segments.proofs.Gates.{inner_far, inner_near, left_near}
-use Rattle.dcel_segments.proofs.Peaks.{of_face}
+use Rattle.dcel_plane.specs.covering.Covering.{Covers}
+use Rattle.dcel_plane.specs.covering.Places.{AreDisjoint}
+use Rattle.dcel_plane.proofs.covering.Along.{dot, long}
+use Rattle.dcel_plane.proofs.covering.Apart.{apart_at}
+use Rattle.dcel_plane.proofs.covering.Faces.{disjoint_at, not_bare}
+use Rattle.dcel_plane.proofs.covering.Inside.{on_end, on_start}
+use Rattle.dcel_plane.proofs.covering.Triangles.{left_at, round}
+use Rattle.dcel_plane.specs.segments.Segments.{AreEnds, Crosses, IsPlanar, corner_before, offset}
+use Rattle.dcel_plane.proofs.segments.Gates.{inner_far, inner_near, left_near}
+use Rattle.dcel_plane.proofs.segments.Peaks.{of_face}
 use Rattle.dcel_constrained.specs.Meeting.{LiesBetween}
 use Rattle.dcel_constrained.proofs.Between.{crosses_parts}
 use Rattle.dcel_constrained.proofs.Crossings.{edges_apart, on_edge_in}

@@ -14,12 +14,12 @@ use Rattle.dcel_maps.specs.Words.{count_of}
 use Rattle.dcel_maps.proofs.maps.Soundness.{rev_live}
 use Rattle.dcel_maps.proofs.words.Counts.{count-append, count-other}
 use Rattle.dcel_plane.specs.Plane.{point_at}
-use Rattle.dcel_covering.specs.Covering.{apart_along}
-use Rattle.dcel_segments.specs.Segments.{AreEnds, BeginsAt, IsChannel, IsPlanar, LeadsAlong, corner_beyond, offset}
-use Rattle.dcel_segments.proofs.Gates.{far}
-use Rattle.dcel_segments.proofs.Listing.{stands_in}
-use Rattle.dcel_segments.proofs.Onward.{on_line}
-use Rattle.dcel_segments.proofs.Walking.{Comes, comes_first, comes_left, comes_right, comes_to_end, few}
+use Rattle.dcel_plane.specs.covering.Covering.{apart_along}
+use Rattle.dcel_plane.specs.segments.Segments.{AreEnds, BeginsAt, IsChannel, IsPlanar, LeadsAlong, corner_beyond, offset}
+use Rattle.dcel_plane.proofs.segments.Gates.{far}
+use Rattle.dcel_plane.proofs.segments.Listing.{stands_in}
+use Rattle.dcel_plane.proofs.segments.Onward.{on_line}
+use Rattle.dcel_plane.proofs.segments.Walking.{Comes, comes_first, comes_left, comes_right, comes_to_end, few}
 use Rattle.dcel_regions.specs.Marked.{IsMarked}
 use Rattle.dcel_regions.specs.declared.mark.Mark.{Mark}
 use Rattle.dcel_constrained.specs.Constraints.{IsFreeWay}

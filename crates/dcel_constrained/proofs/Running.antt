@@ -8,14 +8,14 @@ use Rattle.dcel_maps.specs.Words.{count_of}
 use Rattle.dcel_maps.proofs.words.Counts.{count-append, last_or_before}
 use Rattle.dcel_plane.specs.Plane.{IsCircled, IsInner, point_at}
 use Rattle.dcel_plane.specs.Volume.{volume_below}
-use Rattle.dcel_plane.proofs.Flipped.{flip_lists}
-use Rattle.dcel_plane.proofs.Volumes.{volume_falls}
+use Rattle.dcel_plane.proofs.edits.Flipped.{flip_lists}
+use Rattle.dcel_plane.proofs.edits.Volumes.{volume_falls}
 use Rattle.dcel_legalize.specs.Flipping.{edges_flipped, sides_beside}
 use Rattle.dcel_legalize.proofs.Course.{flipped-append}
 use Rattle.dcel_circles.specs.Turning.{AreCircled, IsTurnedTo}
-use Rattle.dcel_hollows.specs.Wheels.{CanTurn}
-use Rattle.dcel_segments.specs.Segments.{IsPlanar}
-use Rattle.dcel_segments.proofs.Becoming.{turned_planar}
+use Rattle.dcel_plane.specs.removal.Wheels.{CanTurn}
+use Rattle.dcel_plane.specs.segments.Segments.{IsPlanar}
+use Rattle.dcel_plane.proofs.segments.Becoming.{turned_planar}
 use Rattle.dcel_regions.specs.Marked.{IsMarked}
 use Rattle.dcel_regions.specs.declared.mark.Mark.{Mark}
 use Rattle.dcel_constrained.specs.Constraints.{ListsFree, TurnsFree}

@@ -12,11 +12,11 @@ use Rattle.dcel_maps.specs.Words.{count_of}
 use Rattle.dcel_maps.proofs.shapes.Maps.{map-sound}
 use Rattle.dcel_maps.proofs.words.Counts.{count-append, count-other, count-same}
 use Rattle.dcel_plane.specs.Plane.{ListsCircled, origin_point, point_at}
-use Rattle.dcel_hollows.specs.Wheels.{CanTurn}
-use Rattle.dcel_segments.specs.Segments.{Becomes, HasSidesOf, IsChannel, IsPlanar, NarrowerBefore, NotWiderAfter, TurnsInto, corner_before, corner_beyond, flipped_each, offset, widths}
-use Rattle.dcel_segments.proofs.Channels.{all_cross}
-use Rattle.dcel_segments.proofs.Peaks.{empty_joins, some_width}
-use Rattle.dcel_segments.proofs.Stepping.{can_turn, flipped-append, lists_left, old_edge, planar_still, sides_left, step, turns-append}
+use Rattle.dcel_plane.specs.removal.Wheels.{CanTurn}
+use Rattle.dcel_plane.specs.segments.Segments.{Becomes, HasSidesOf, IsChannel, IsPlanar, NarrowerBefore, NotWiderAfter, TurnsInto, corner_before, corner_beyond, flipped_each, offset, widths}
+use Rattle.dcel_plane.proofs.segments.Channels.{all_cross}
+use Rattle.dcel_plane.proofs.segments.Peaks.{empty_joins, some_width}
+use Rattle.dcel_plane.proofs.segments.Stepping.{can_turn, flipped-append, lists_left, old_edge, planar_still, sides_left, step, turns-append}
 use Rattle.dcel_constrained.specs.Channels.{AreLive, AreVertices, IsLeftAt, IsNarrowerBefore, IsNotWiderAfter}
 use Rattle.dcel_constrained.proofs.Places.{first_after, last_before, parted}
 

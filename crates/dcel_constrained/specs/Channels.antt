@@ -6,8 +6,8 @@ use Rattle.dcel_maps.specs.edits.Flip.{edge_flipped}
 use Rattle.dcel_maps.specs.Shapes.{IsLive, Mesh, Shape}
 use Rattle.dcel_maps.specs.Words.{count_of}
 use Rattle.dcel_plane.specs.Plane.{point_at}
-use Rattle.dcel_hollows.specs.Wheels.{CanTurn}
-use Rattle.dcel_segments.specs.Segments.{Becomes, width}
+use Rattle.dcel_plane.specs.removal.Wheels.{CanTurn}
+use Rattle.dcel_plane.specs.segments.Segments.{Becomes, width}
 
 -- both are vertices
 pub record AreVertices (s : Shape) (v w : ℕ) : Type 0 where

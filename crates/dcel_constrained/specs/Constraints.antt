@@ -4,7 +4,7 @@ use Rattle.dcel_predicates.specs.declared.point.Point.{Point}
 use Rattle.dcel_maps.specs.Shapes.{Mesh, end_of, origin_of}
 use Rattle.dcel_maps.specs.Words.{count_of}
 use Rattle.dcel_plane.specs.Plane.{IsCircled, IsInner, point_at}
-use Rattle.dcel_segments.specs.Segments.{CanTurnEach, Crosses, LeadsAlong, flipped_each}
+use Rattle.dcel_plane.specs.segments.Segments.{CanTurnEach, Crosses, LeadsAlong, flipped_each}
 use Rattle.dcel_regions.specs.Marked.{IsMarked}
 use Rattle.dcel_regions.specs.declared.mark.Mark.{Mark}
 use Rattle.dcel_constrained.specs.Meeting.{LiesBetween}

@@ -3,10 +3,10 @@ use Rattle.std.specs.Prelude.{◌≡◌, ◌⊎◌, ℕ, ◌<◌, List, pos, ◌
 use Rattle.dcel_fixed.specs.HalfEdges.{rev}
 use Rattle.dcel_predicates.specs.declared.point.Point.{Point}
 use Rattle.dcel_maps.specs.Shapes.{Mesh, Shape, end_of, next_of, prev_of}
-use Rattle.dcel_segments.specs.Segments.{BeginsAt, Crosses, HasSidesOf, IsChannel, LeadsAlong, TurnsInto, corner_beyond, offset}
+use Rattle.dcel_plane.specs.segments.Segments.{BeginsAt, Crosses, HasSidesOf, IsChannel, LeadsAlong, TurnsInto, corner_beyond, offset}
 use Rattle.dcel_maps.specs.Walking.{Leads}
 use Rattle.dcel_maps.specs.Words.{count_of}
-use Rattle.dcel_covering.specs.Covering.{apart_along}
+use Rattle.dcel_plane.specs.covering.Covering.{apart_along}
 use Rattle.dcel_plane.specs.Plane.{point_at}
 use Rattle.dcel_constrained.specs.declared.joining.Joined.{Joined}
 use Rattle.dcel_constrained.specs.declared.joining.Joined.TheVariants.{Between, Edge}

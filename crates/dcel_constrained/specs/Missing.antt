@@ -3,7 +3,7 @@ use Rattle.std.specs.Prelude.{◌≡◌, ℕ, ◌<◌}
 use Rattle.dcel_predicates.specs.declared.point.Point.{Point}
 use Rattle.dcel_maps.specs.Shapes.{Mesh, face_of}
 use Rattle.dcel_plane.specs.Plane.{point_at}
-use Rattle.dcel_places.specs.Locating.{HasBeyond}
+use Rattle.dcel_plane.specs.location.Locating.{HasBeyond}
 use Rattle.dcel_delaunay.specs.Places.{HasLeft}
 
 module _ {DE UE F : Type 0} where

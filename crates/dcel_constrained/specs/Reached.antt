@@ -3,7 +3,7 @@ use Rattle.std.specs.Prelude.{◌≡◌, ◌⊎◌, ℕ, Option, None, Some}
 use Rattle.dcel_predicates.specs.declared.point.Point.{Point}
 use Rattle.dcel_maps.specs.Shapes.{Mesh}
 use Rattle.dcel_plane.specs.Plane.{point_at}
-use Rattle.dcel_segments.specs.Segments.{AreEnds}
+use Rattle.dcel_plane.specs.segments.Segments.{AreEnds}
 use Rattle.dcel_regions.specs.declared.mark.Mark.{Mark}
 use Rattle.dcel_constrained.specs.Constraints.{IsFreeWay}
 use Rattle.dcel_constrained.specs.Meeting.{LiesBetween}

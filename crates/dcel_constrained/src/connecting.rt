@@ -5,7 +5,7 @@ ghost use Rattle.std.specs.Option.{option_to_list};
 ghost use Rattle.dcel_maps.specs.Shapes.{IsLive, IsMesh};
 ghost use Rattle.dcel_maps.specs.Walking.{Leads};
 ghost use Rattle.dcel_plane.specs.Plane.{ListsCircled, point_at};
-ghost use Rattle.dcel_segments.specs.Segments.{Becomes, HasSidesOf, IsChannel, IsPlanar, TurnsInto};
+ghost use Rattle.dcel_plane.specs.segments.Segments.{Becomes, HasSidesOf, IsChannel, IsPlanar, TurnsInto};
 ghost use Rattle.dcel_constrained.specs.Channels.{AreVertices, IsLeftAt, IsNarrowerBefore, IsNotWiderAfter};
 
 use crate::peaks::find_peak;

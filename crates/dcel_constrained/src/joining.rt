@@ -6,7 +6,7 @@ ghost use Rattle.dcel_maps.specs.Shapes.{IsLive, face_of};
 ghost use Rattle.dcel_maps.specs.Walking.{Leads};
 ghost use Rattle.dcel_plane.specs.Plane.{point_at};
 ghost use Rattle.dcel_delaunay.specs.Growing.{KeepsListed};
-ghost use Rattle.dcel_segments.specs.Segments.{AreEnds, BeginsAt, IsPlanar};
+ghost use Rattle.dcel_plane.specs.segments.Segments.{AreEnds, BeginsAt, IsPlanar};
 ghost use Rattle.dcel_constrained.specs.Meeting.{HasCome, IsJoined, ListsStill};
 
 use crate::connecting::connect;

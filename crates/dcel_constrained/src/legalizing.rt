@@ -4,7 +4,7 @@ ghost use Rattle.std.specs.Prelude.{◌≡◌, ◌↔◌, [], IsTrue, OnOk};
 ghost use Rattle.dcel_circles.specs.Turning.{IsTurnedTo};
 ghost use Rattle.dcel_plane.specs.Plane.{IsCircled, IsInner, point_at};
 ghost use Rattle.dcel_regions.specs.Marked.{IsMarked};
-ghost use Rattle.dcel_segments.specs.Segments.{IsPlanar};
+ghost use Rattle.dcel_plane.specs.segments.Segments.{IsPlanar};
 ghost use Rattle.dcel_constrained.specs.Constraints.{ListsFree, TurnsFree};
 
 use crate::mesh::is_marked;

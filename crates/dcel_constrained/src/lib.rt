@@ -1,4 +1,9 @@
-//! Constrained Delaunay triangulations: triangulations with edges that have to stay.
+//! Constrained Delaunay triangulations: triangulations of points with marked edges that have to
+//! stay.
+//!
+//! Start with [`ConstrainedTriangulation`]. [`join`] turns the segment between two vertices into an
+//! edge, by flips. It uses `dcel_delaunay` for points, `dcel_regions` for marks, and the laws of
+//! `dcel_plane`.
 #![tactic(auto)]
 
 mod adding;

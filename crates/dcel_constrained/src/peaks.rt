@@ -3,7 +3,7 @@
 ghost use Rattle.std.specs.Prelude.{◌<◌, ◌↔◌, IsTrue, length, ◌<ℤ◌};
 ghost use Rattle.dcel_maps.specs.Shapes.{IsLive};
 ghost use Rattle.dcel_plane.specs.Plane.{point_at};
-ghost use Rattle.dcel_segments.specs.Segments.{width};
+ghost use Rattle.dcel_plane.specs.segments.Segments.{width};
 ghost use Rattle.dcel_constrained.specs.Channels.{AreLive, AreVertices, IsNarrowerBefore, IsNotWiderAfter};
 
 use crate::segment::width_of;

@@ -3,7 +3,7 @@
 ghost use Rattle.std.specs.Prelude.{◌≡◌, ◌<◌};
 ghost use Rattle.dcel_maps.specs.Shapes.{IsLive};
 ghost use Rattle.dcel_plane.specs.Plane.{point_at};
-ghost use Rattle.dcel_segments.specs.Segments.{corner_before, corner_beyond, offset, width};
+ghost use Rattle.dcel_plane.specs.segments.Segments.{corner_before, corner_beyond, offset, width};
 ghost use Rattle.dcel_constrained.specs.Channels.{AreVertices};
 
 use dcel_predicates::{Point, orient2d};

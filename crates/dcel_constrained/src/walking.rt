@@ -1,11 +1,11 @@
 //! What a segment between two vertices meets on its way: half edges that it crosses, and vertices.
 
 ghost use Rattle.std.specs.Prelude.{◌≡◌, ◌≢◌, ◌↔◌, ◌<◌, ℕ, IsTrue};
-ghost use Rattle.dcel_covering.specs.Covering.{apart_along};
+ghost use Rattle.dcel_plane.specs.covering.Covering.{apart_along};
 ghost use Rattle.dcel_maps.specs.Shapes.{IsLive, face_of};
 ghost use Rattle.dcel_maps.specs.Walking.{IsOutEdge};
 ghost use Rattle.dcel_plane.specs.Plane.{point_at};
-ghost use Rattle.dcel_segments.specs.Segments.{AreEnds, IsPlanar, LeadsAlong, OpensAt};
+ghost use Rattle.dcel_plane.specs.segments.Segments.{AreEnds, IsPlanar, LeadsAlong, OpensAt};
 ghost use Rattle.dcel_constrained.specs.Channels.{AreVertices};
 ghost use Rattle.dcel_constrained.specs.Meeting.{IsFirstMet, IsMetAfter};
 

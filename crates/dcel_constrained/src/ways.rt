@@ -1,10 +1,10 @@
 //! Ways along segments between two vertices: whether one is free, and where one on a line begins.
 
 ghost use Rattle.std.specs.Prelude.{◌≢◌, ◌↔◌, ◌<◌, ℕ, IsTrue};
-ghost use Rattle.dcel_hulls.specs.Straight.{IsStraight};
+ghost use Rattle.dcel_plane.specs.hull.Straight.{IsStraight};
 ghost use Rattle.dcel_maps.specs.Shapes.{IsLive, face_of};
 ghost use Rattle.dcel_plane.specs.Plane.{point_at};
-ghost use Rattle.dcel_segments.specs.Segments.{AreEnds, IsPlanar, LeadsAlong};
+ghost use Rattle.dcel_plane.specs.segments.Segments.{AreEnds, IsPlanar, LeadsAlong};
 ghost use Rattle.dcel_constrained.specs.Constraints.{IsFreeWay};
 ghost use Rattle.dcel_constrained.specs.Reached.{IsReached};
 

@@ -7,11 +7,11 @@ use spade_dcel::dcel::Dcel;
 use spade_dcel::handles::FixedUndirectedEdgeHandle;
 use std::alloc::Allocator;
 
-/// Returns whether an edge can be flipped ([`can_flip`](Dcel::can_flip)), lies between two inner
-/// triangles, and no edge joins the corners opposite it yet.
+/// Returns whether an edge is between two inner triangles, can be flipped
+/// ([`can_flip`](Dcel::can_flip)), and no edge joins the corners opposite it yet.
 ///
-/// So such a flip makes no second edge between two vertices, and leaves the outer face alone. It
-/// goes round one of the two corners. Any number may be given.
+/// Such a flip adds no second edge between two vertices, and leaves the outer face alone. The test
+/// goes around one of the two corners. Any number may be given.
 pub fn can_flip_simple<V, DE, UE, F, A: Allocator>(
     dcel: &Dcel<V, DE, UE, F, A>,
     edge: FixedUndirectedEdgeHandle,

@@ -1,4 +1,4 @@
-//! A vertex put into a triangle, with its datum.
+//! Inserting a vertex into a triangle, with its datum.
 
 ghost use Rattle.std.specs.Prelude.{◌≡◌, IfErr, IfOk, IfSome, None, OnErr, OnOk};
 ghost use Rattle.dcel_convenience.specs.Inserting.{CanInsertVertex, MayNotInsert};
@@ -13,33 +13,33 @@ use spade_dcel::laws::every_mesh;
 use spade_dcel::operations::{append_unconnected_vertex, insert_into_triangle, swap_remove_vertex};
 use std::alloc::Allocator;
 
-/// Why a vertex was not put into a face.
+/// Why a vertex was not inserted into a face.
 #[derive(Clone, Copy, PartialEq, Eq, Debug, Drop)]
 pub enum WhyNotInserted {
     /// A removal is open.
     RemovalOpen,
-    /// The face is none, or no triangle ([`is_triangle`](Dcel::is_triangle)).
+    /// There is no such face, or it is not an inner triangle ([`is_triangle`](Dcel::is_triangle)).
     NoTriangle,
     /// There are no numbers left for a vertex, three edges and two faces.
     NoRoom,
-    /// There was no memory.
+    /// Memory ran out.
     OutOfMemory,
 }
 
-/// A vertex was not put into a face: why, and its datum.
+/// A vertex was not inserted into a face: the reason, and its datum.
 #[derive(Clone, Copy, PartialEq, Eq, Debug, Drop)]
 pub struct NotInserted<V> {
-    /// Why.
+    /// The reason.
     pub why: WhyNotInserted,
     /// The vertex's datum.
     pub back: V,
 }
 
-/// Puts a new vertex with this datum into an inner triangle, and returns it: the last one.
+/// Inserts a new vertex with this datum into an inner triangle, and returns it: the last one.
 ///
 /// This is [`append_unconnected_vertex`], and then [`insert_into_triangle`]. Any face may be given.
-/// It is refused exactly as [`WhyNotInserted`] says; then the mesh is as it was, and the datum comes
-/// back.
+/// It is refused exactly as [`WhyNotInserted`] says; then the mesh is as it was, and the datum is
+/// returned.
 pub fn insert_vertex<V, DE: Default, UE: Default, F: Default, A: Allocator>(
     dcel: &mut Dcel<V, DE, UE, F, A>,
     datum: V,
@@ -60,7 +60,7 @@ pub fn insert_vertex<V, DE: Default, UE: Default, F: Default, A: Allocator>(
     put(dcel, datum, face)
 }
 
-// Returns why a vertex can't be put into a face, whatever memory there is.
+// Returns why a vertex can't be inserted into a face, whatever memory there is.
 fn why_not<V, DE, UE, F, A: Allocator>(
     dcel: &Dcel<V, DE, UE, F, A>,
     face: FixedFaceHandle<InnerTag>,
@@ -83,7 +83,7 @@ fn why_not<V, DE, UE, F, A: Allocator>(
     None
 }
 
-// Puts a new vertex into a triangle, unless memory runs out.
+// Inserts a new vertex into a triangle, unless memory runs out.
 fn put<V, DE: Default, UE: Default, F: Default, A: Allocator>(
     dcel: &mut Dcel<V, DE, UE, F, A>,
     datum: V,

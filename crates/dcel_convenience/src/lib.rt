@@ -1,7 +1,7 @@
-//! What many users of the layer write over it, proved once: a vertex put into a triangle and taken
-//! out again, its degree and its neighbors, and flips that keep a mesh simple.
-//!
-//! Each is made of public calls of `spade_dcel`.
+//! Functions that many users of the layer would otherwise write, over public calls of `spade_dcel`
+//! alone. [`insert_vertex`] and [`remove_vertex`] insert a vertex into a triangle and take it out
+//! again, [`degree`] and [`neighbors`] look around a vertex, and [`can_flip_simple`] allows the
+//! flips that keep a mesh simple.
 #![tactic(auto)]
 
 mod flipping;

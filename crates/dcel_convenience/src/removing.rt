@@ -1,4 +1,4 @@
-//! A vertex inside triangles taken out, and the hole filled.
+//! Removing a vertex inside triangles, and filling the hole.
 
 ghost use Rattle.std.specs.Prelude.{◌≡◌, ◌-◌, ◌==◌, IfErr, IfOk, OnErr, OnOk, Some, None, cond, slice_index_or};
 ghost use Rattle.dcel_convenience.specs.Removing.{CanRemoveVertex, MayNotRemove, TakesOut, border_round};
@@ -13,30 +13,30 @@ use spade_dcel::operations::{
 };
 use std::alloc::{AllocError, Allocator};
 
-/// Why a vertex was not taken out.
+/// Why a vertex was not removed.
 #[derive(Clone, Copy, PartialEq, Eq, Debug, Drop)]
 pub enum WhyNotRemoved {
     /// A removal is open.
     RemovalOpen,
-    /// The vertex is none, doesn't lie inside triangles alone, three or more, or two edges lead from
-    /// it to where its anchor ends.
+    /// There is no such vertex, its faces aren't three or more inner triangles, or two edges lead
+    /// from it to where its anchor ends.
     NotInside,
     /// There are no numbers left for the edges and faces that fill the hole.
     NoRoom,
-    /// There was no memory.
+    /// Memory ran out.
     OutOfMemory,
 }
 
-/// Takes out a vertex that lies inside triangles, fills the hole with triangles, and returns its
-/// datum.
+/// Removes a vertex whose faces are all inner triangles, fills the hole with triangles, and returns
+/// its datum.
 ///
 /// This is [`isolate_vertex_and_fill_hole`], [`cleanup_isolated_vertex`] and [`swap_remove_vertex`]
-/// for the border of the vertex, which it finds by itself; the new edges all start where the
-/// vertex's anchor ends. The last edges, faces and vertex get the numbers that become free, and the
-/// result tells if a vertex did.
+/// for the border loop of the vertex, its link, which it finds by itself; the new edges all start
+/// where the vertex's anchor ends. The last edges, faces and vertex get the numbers that become
+/// free, and the result says whether a vertex did.
 ///
-/// Any vertex may be given. It is refused as [`WhyNotRemoved`] says, and then the mesh is as it was.
-/// `alloc` is for the border.
+/// Any vertex may be given. It is refused as [`WhyNotRemoved`] says, and then the mesh is as it
+/// was. `alloc` is for the border loop.
 pub fn remove_vertex<
     V,
     DE: Default + Drop,
@@ -81,7 +81,7 @@ pub fn remove_vertex<
     Ok(swap_remove_vertex(dcel, vertex))
 }
 
-// Returns what comes after the out edges of a vertex, clockwise, up to the one after its anchor.
+// Returns `next` of each out edge of a vertex, clockwise, and last that of its anchor.
 fn border_of<V, DE, UE, F, A: Allocator, B: Allocator>(
     alloc: B,
     vertex: VertexHandle<'_, V, DE, UE, F, A>,

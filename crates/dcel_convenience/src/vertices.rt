@@ -1,4 +1,4 @@
-//! What lies around a vertex.
+//! What is around a vertex: its degree and its neighbors.
 
 ghost use Rattle.std.specs.Prelude.{◌≡◌, IfOk, length, map};
 ghost use Rattle.dcel_maps.specs.Shapes.{end_of};
@@ -8,10 +8,10 @@ ghost use Rattle.spade_dcel.specs.Handles.{mesh_behind, number_of};
 use spade_dcel::handles::{FixedVertexHandle, VertexHandle};
 use std::alloc::{AllocError, Allocator};
 
-/// Returns how many half edges start at a vertex, which is how many edges meet it; one that leads
-/// back to the vertex counts twice.
+/// Returns the degree of a vertex: how many half edges start there, which is how many edges meet
+/// it.
 ///
-/// It goes round the vertex, and allocates nothing.
+/// It goes around the vertex, and allocates nothing.
 pub fn degree<V, DE, UE, F, A: Allocator>(vertex: VertexHandle<'_, V, DE, UE, F, A>) -> usize
     ensures { let mesh = mesh_behind vertex.entry in
         result ≡ length (out_edges_of mesh (number_of vertex.entry)) }
@@ -23,9 +23,11 @@ pub fn degree<V, DE, UE, F, A: Allocator>(vertex: VertexHandle<'_, V, DE, UE, F,
     count
 }
 
-/// Returns the vertices that edges lead to from a vertex, counterclockwise, the anchor's end first.
+/// Returns the vertices to which edges lead from a vertex, counterclockwise, the anchor's end
+/// first.
 ///
-/// A vertex to which several edges lead comes as often. If memory runs out it returns `AllocError`.
+/// A vertex to which several edges lead is listed as often. If memory runs out it returns
+/// `AllocError`.
 pub fn neighbors<V, DE, UE, F, A: Allocator, B: Allocator>(
     alloc: B,
     vertex: VertexHandle<'_, V, DE, UE, F, A>,

@@ -1,7 +1,8 @@
-//! Decimals read exactly from texts, and made whole by a scale.
+//! Exact decimals, read from texts and scaled to whole numbers, for programs that read coordinates.
 //!
-//! A [`Decimal`] is a whole number divided by a power of ten. [`Scale::least`] is the least power of
-//! ten that makes all of a list whole, and [`Decimal::scaled`] what one becomes by it, exactly.
+//! A [`Decimal`] is a whole number divided by a power of ten. [`Scale::least`] is the least power
+//! of ten that makes all decimals of a list whole, and [`Decimal::scaled`] applies it, exactly. It
+//! uses no other crate of the project.
 #![tactic(auto)]
 
 mod decimal;

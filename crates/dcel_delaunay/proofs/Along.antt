@@ -17,10 +17,10 @@ use Rattle.dcel_maps.proofs.maps.Soundness.{rev_live}
 use Rattle.dcel_maps.proofs.shapes.Maps.{face-live, map-sound}
 use Rattle.dcel_maps.proofs.walks.Lengths.{count-le}
 use Rattle.dcel_plane.specs.Plane.{point_at}
-use Rattle.dcel_hulls.specs.Straight.{IsStraight, beyond}
-use Rattle.dcel_places.specs.Locating.{IsBefore, LiesBeyond, LiesOn, Passes}
-use Rattle.dcel_places.proofs.Lexical.{after_end, before_start, not_after_end, not_before_start}
-use Rattle.dcel_places.proofs.OnLine.{few_passed, goes_on, places, stays_ahead}
+use Rattle.dcel_plane.specs.hull.Straight.{IsStraight, beyond}
+use Rattle.dcel_plane.specs.location.Locating.{IsBefore, LiesBeyond, LiesOn, Passes}
+use Rattle.dcel_plane.proofs.location.Lexical.{after_end, before_start, not_after_end, not_before_start}
+use Rattle.dcel_plane.proofs.location.OnLine.{few_passed, goes_on, places, stays_ahead}
 use Rattle.dcel_delaunay.specs.Places.{HasLeft, HasPoint, HasRight, IsOnLine}
 use Rattle.dcel_delaunay.proofs.OnEdges.{has_point}
 

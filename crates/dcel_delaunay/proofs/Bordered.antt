@@ -6,8 +6,8 @@ use Rattle.dcel_maps.specs.Shapes.{AnchorsVertex, IsLive, IsMesh, Mesh, Shape, f
 use Rattle.dcel_maps.specs.Walking.{IsOutEdge, ccw_of, walk_of}
 use Rattle.dcel_predicates.specs.declared.point.Point.{Point}
 use Rattle.dcel_plane.specs.Plane.{point_at}
-use Rattle.dcel_hollows.specs.Wheels.{MakesTwo}
-use Rattle.dcel_hollows.proofs.Bordering.{border_from, few_spokes, four_spokes, many_spokes, third_back, third_differs, three_spokes, two_from}
+use Rattle.dcel_plane.specs.removal.Wheels.{MakesTwo}
+use Rattle.dcel_plane.proofs.removal.Bordering.{border_from, few_spokes, four_spokes, many_spokes, third_back, third_differs, three_spokes, two_from}
 use Rattle.dcel_delaunay.specs.Removing.{BeginsBorder, IsFilled, IsThin}
 
 module _ {DE UE F : Type 0} where

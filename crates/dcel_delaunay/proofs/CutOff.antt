@@ -26,15 +26,15 @@ use Rattle.dcel_maps.proofs.words.Reading.{face_in_word, live_in}
 use Rattle.dcel_predicates.specs.declared.point.Point.{Point}
 use Rattle.dcel_legalize.specs.Flipping.{sides_beside}
 use Rattle.dcel_plane.specs.Plane.{IsPlane, ListsCircled, point_at}
-use Rattle.dcel_covering.specs.Covering.{IsConvex, IsHull}
-use Rattle.dcel_covering.proofs.Starts.{inner_half}
-use Rattle.dcel_hulls.proofs.Keeping.{flip_keeps_convex, flip_keeps_hull}
-use Rattle.dcel_hollows.specs.Wheels.{CanTurn, IsFlattened, IsHollow, LiesOnHull, turns}
-use Rattle.dcel_hollows.proofs.Cleaned.{cleaned_is}
-use Rattle.dcel_hollows.proofs.Flattened as flattening
-use Rattle.dcel_hollows.proofs.Renumbering.{cleanup_inner, cleanup_was_inner}
-use Rattle.dcel_hollows.proofs.Stripping.{corner_hollow, corner_lies, corner_strip, strip_given_up}
-use Rattle.dcel_hollows.proofs.Strips.{cut_lists, cut_plane, cut_plane_but, flat_corner_convex, flat_corner_hull, hollow_convex, hollow_outline, hollow_strung}
+use Rattle.dcel_plane.specs.covering.Covering.{IsConvex, IsHull}
+use Rattle.dcel_plane.proofs.covering.Starts.{inner_half}
+use Rattle.dcel_plane.proofs.hull.Keeping.{flip_keeps_convex, flip_keeps_hull}
+use Rattle.dcel_plane.specs.removal.Wheels.{CanTurn, IsFlattened, IsHollow, LiesOnHull, turns}
+use Rattle.dcel_plane.proofs.removal.Cleaned.{cleaned_is}
+use Rattle.dcel_plane.proofs.removal.Flattened as flattening
+use Rattle.dcel_plane.proofs.removal.Renumbering.{cleanup_inner, cleanup_was_inner}
+use Rattle.dcel_plane.proofs.removal.Stripping.{corner_hollow, corner_lies, corner_strip, strip_given_up}
+use Rattle.dcel_plane.proofs.removal.Strips.{cut_lists, cut_plane, cut_plane_but, flat_corner_convex, flat_corner_hull, hollow_convex, hollow_outline, hollow_strung}
 use Rattle.dcel_delaunay.specs.Growing.{HasHull, IsSound}
 use Rattle.dcel_delaunay.specs.Removing.{HasOutline, IsCorner, IsCutOff, IsGivenUp, IsStrung, LiesFlat}
 use Rattle.dcel_delaunay.proofs.Counting.{flipped_joined, live_vertices}

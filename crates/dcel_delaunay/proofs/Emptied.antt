@@ -20,10 +20,10 @@ use Rattle.dcel_maps.proofs.words.Counts.{count-append}
 use Rattle.dcel_predicates.specs.declared.point.Point.{Point}
 use Rattle.dcel_plane.specs.Edges.{edges_inserted}
 use Rattle.dcel_plane.specs.Plane.{IsPlane, ListsCircled, origin_point, point_at}
-use Rattle.dcel_covering.specs.Covering.{IsConvex, IsHull}
-use Rattle.dcel_hollows.proofs.Deleting.{four_plane, hole_convex, hole_hull, hole_lists, three_plane}
-use Rattle.dcel_hollows.proofs.Renumbering.{cleanup_inner}
-use Rattle.dcel_hollows.proofs.Holes.{IsHole, half_of_triangle, hole_is, side_listed}
+use Rattle.dcel_plane.specs.covering.Covering.{IsConvex, IsHull}
+use Rattle.dcel_plane.proofs.removal.Deleting.{four_plane, hole_convex, hole_hull, hole_lists, three_plane}
+use Rattle.dcel_plane.proofs.removal.Renumbering.{cleanup_inner}
+use Rattle.dcel_plane.proofs.removal.Holes.{IsHole, half_of_triangle, hole_is, side_listed}
 use Rattle.dcel_delaunay.specs.Growing.{IsSound}
 use Rattle.dcel_delaunay.specs.Removing.{IsFilled, IsGivenUp, IsThin}
 

@@ -10,10 +10,10 @@ use Rattle.dcel_predicates.specs.declared.point.Point.{Point}
 use Rattle.dcel_predicates.specs.Determinants.{orient2d_of}
 use Rattle.dcel_predicates.proofs.Points.{orient2d-turned}
 use Rattle.dcel_plane.specs.Plane.{IsPlane, point_at}
-use Rattle.dcel_hulls.specs.Closing.{IsClosed}
-use Rattle.dcel_hulls.proofs.Closed.{closed_convex}
-use Rattle.dcel_hulls.proofs.PutBeside.{straight_convex}
-use Rattle.dcel_hulls.proofs.ThinEnd.{thin_convex, thin_hull}
+use Rattle.dcel_plane.specs.hull.Closing.{IsClosed}
+use Rattle.dcel_plane.proofs.hull.Closed.{closed_convex}
+use Rattle.dcel_plane.proofs.hull.PutBeside.{straight_convex}
+use Rattle.dcel_plane.proofs.hull.ThinEnd.{thin_convex, thin_hull}
 use Rattle.dcel_delaunay.specs.Corners.{GoesOn, IsClosedAfter, IsClosedBefore, StartsOutside, TurnsIn}
 use Rattle.dcel_delaunay.specs.Growing.{HasHull, HasOutside, IsFlat, IsOpen, IsTriangulated}
 

@@ -16,14 +16,14 @@ use Rattle.dcel_maps.proofs.shapes.Maps.{map-sound}
 use Rattle.dcel_predicates.specs.declared.point.Point.{Point}
 use Rattle.dcel_predicates.specs.Determinants.{orient2d_of}
 use Rattle.dcel_plane.specs.Plane.{origin_point, point_at}
-use Rattle.dcel_plane.proofs.Moved.{appended_stands, others_stand}
-use Rattle.dcel_covering.specs.Covering.{apart_along}
+use Rattle.dcel_plane.proofs.edits.Moved.{appended_stands, others_stand}
+use Rattle.dcel_plane.specs.covering.Covering.{apart_along}
 use Rattle.dcel_circles.specs.Turning.{AreCircled, IsTurnedTo}
 use Rattle.dcel_legalize.specs.Flipping.{edges_flipped}
-use Rattle.dcel_hulls.specs.Straight.{IsStraight, beyond}
-use Rattle.dcel_hulls.proofs.FirstEdge.{first_straight}
-use Rattle.dcel_hulls.proofs.LineExtended.{extended_straight, split_straight}
-use Rattle.dcel_places.specs.Locating.{LiesBeyond, LiesOn}
+use Rattle.dcel_plane.specs.hull.Straight.{IsStraight, beyond}
+use Rattle.dcel_plane.proofs.hull.FirstEdge.{first_straight}
+use Rattle.dcel_plane.proofs.hull.LineExtended.{extended_straight, split_straight}
+use Rattle.dcel_plane.specs.location.Locating.{LiesBeyond, LiesOn}
 use Rattle.dcel_delaunay.specs.Growing.{IsFlat}
 use Rattle.dcel_delaunay.specs.Places.{HasPoint}
 use Rattle.dcel_delaunay.proofs.Appended.{appended_straight}

@@ -16,15 +16,15 @@ use Rattle.dcel_predicates.specs.declared.point.Point.{Point}
 use Rattle.dcel_predicates.specs.Determinants.{orient2d_of}
 use Rattle.dcel_predicates.proofs.Signs.{ordered}
 use Rattle.dcel_plane.specs.Plane.{IsLeftOf, IsPlane, point_at}
-use Rattle.dcel_plane.proofs.Written.{IsWritten, origin_more}
-use Rattle.dcel_covering.specs.Covering.{IsConvex}
-use Rattle.dcel_covering.proofs.Inside.{on_end}
-use Rattle.dcel_hulls.proofs.Becomes.{out_outer, put_in, rev-1, stays_in}
-use Rattle.dcel_hulls.proofs.ClosingStep.{step_closing, step_hull, step_thick, turns_nowhere}
-use Rattle.dcel_hulls.proofs.CornersStay.{after_stays, before_stays}
-use Rattle.dcel_hulls.proofs.Step.{IsStep, closed_step}
-use Rattle.dcel_hulls.proofs.ThinStays.{thin_after_stays, thin_before_stays}
-use Rattle.dcel_hulls.proofs.ThinStep.{step_thin}
+use Rattle.dcel_plane.proofs.edits.Written.{IsWritten, origin_more}
+use Rattle.dcel_plane.specs.covering.Covering.{IsConvex}
+use Rattle.dcel_plane.proofs.covering.Inside.{on_end}
+use Rattle.dcel_plane.proofs.hull.Becomes.{out_outer, put_in, rev-1, stays_in}
+use Rattle.dcel_plane.proofs.hull.ClosingStep.{step_closing, step_hull, step_thick, turns_nowhere}
+use Rattle.dcel_plane.proofs.hull.CornersStay.{after_stays, before_stays}
+use Rattle.dcel_plane.proofs.hull.Step.{IsStep, closed_step}
+use Rattle.dcel_plane.proofs.hull.ThinStays.{thin_after_stays, thin_before_stays}
+use Rattle.dcel_plane.proofs.hull.ThinStep.{step_thin}
 use Rattle.dcel_delaunay.specs.Corners.{GoesOn, IsClosedAt, TurnsIn}
 use Rattle.dcel_delaunay.specs.Growing.{IsOpen, IsTriangulated}
 use Rattle.dcel_delaunay.proofs.Growth.{of_edit}

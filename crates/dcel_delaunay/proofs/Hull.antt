@@ -13,15 +13,15 @@ use Rattle.dcel_maps.proofs.removal.Inserted.{replaced-count}
 use Rattle.dcel_predicates.specs.declared.point.Point.{Point}
 use Rattle.dcel_predicates.specs.Determinants.{orient2d_of}
 use Rattle.dcel_plane.specs.Plane.{LiesAcross, LiesInside, point_at}
-use Rattle.dcel_plane.proofs.Flipped.{circled_can_flip}
-use Rattle.dcel_plane.proofs.Moved.{appended_plane}
-use Rattle.dcel_covering.proofs.Faces.{not_bare}
-use Rattle.dcel_covering.proofs.Starts.{inner_half}
-use Rattle.dcel_hulls.proofs.Inserting.{inserted_convex, inserted_hull}
-use Rattle.dcel_hulls.proofs.Keeping.{flip_keeps_convex, flip_keeps_hull}
-use Rattle.dcel_hulls.proofs.Splitting.{split_convex, split_hull}
-use Rattle.dcel_hulls.proofs.HullSplitting.{half_split_convex, half_split_hull}
-use Rattle.dcel_places.specs.Locating.{LiesOn}
+use Rattle.dcel_plane.proofs.edits.Flipped.{circled_can_flip}
+use Rattle.dcel_plane.proofs.edits.Moved.{appended_plane}
+use Rattle.dcel_plane.proofs.covering.Faces.{not_bare}
+use Rattle.dcel_plane.proofs.covering.Starts.{inner_half}
+use Rattle.dcel_plane.proofs.hull.Inserting.{inserted_convex, inserted_hull}
+use Rattle.dcel_plane.proofs.hull.Keeping.{flip_keeps_convex, flip_keeps_hull}
+use Rattle.dcel_plane.proofs.hull.Splitting.{split_convex, split_hull}
+use Rattle.dcel_plane.proofs.hull.HullSplitting.{half_split_convex, half_split_hull}
+use Rattle.dcel_plane.specs.location.Locating.{LiesOn}
 use Rattle.dcel_circles.specs.Turning.{AreCircled, IsTurnedTo}
 use Rattle.dcel_legalize.specs.Flipping.{edges_flipped}
 use Rattle.dcel_delaunay.specs.Growing.{HasHull, IsTriangulated}

@@ -13,8 +13,8 @@ use Rattle.dcel_maps.proofs.removal.DegenerateLeft.{path_leaves_live}
 use Rattle.dcel_maps.proofs.removal.PathCuts.{gives_one_vertex}
 use Rattle.dcel_predicates.specs.declared.point.Point.{Point}
 use Rattle.dcel_plane.specs.Plane.{origin_point, point_at}
-use Rattle.dcel_hollows.proofs.LinePaths.{line_few}
-use Rattle.dcel_hollows.proofs.PathShortened.{degenerate_straight}
+use Rattle.dcel_plane.proofs.removal.LinePaths.{line_few}
+use Rattle.dcel_plane.proofs.removal.PathShortened.{degenerate_straight}
 use Rattle.dcel_delaunay.specs.Growing.{IsFlat, IsJoined, IsSound}
 use Rattle.dcel_delaunay.specs.Removing.{Loses}
 use Rattle.dcel_delaunay.specs.declared.removed.Removed.{Removed}

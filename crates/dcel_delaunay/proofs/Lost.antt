@@ -11,7 +11,7 @@ use Rattle.dcel_maps.proofs.maps.Soundness.{rev_live}
 use Rattle.dcel_maps.proofs.shapes.Maps.{map-sound}
 use Rattle.dcel_predicates.specs.declared.point.Point.{Point}
 use Rattle.dcel_plane.specs.Plane.{origin_point, point_at}
-use Rattle.dcel_covering.proofs.Starts.{inner_half}
+use Rattle.dcel_plane.proofs.covering.Starts.{inner_half}
 use Rattle.dcel_delaunay.specs.Corners.{StartsOutside}
 use Rattle.dcel_delaunay.specs.Growing.{HasHull, IsSound}
 use Rattle.dcel_delaunay.specs.Removing.{HasNoneToTurn, IsAsItWas, IsInside, IsKept, IsThin, Loses, MayKeep}

@@ -17,13 +17,13 @@ use Rattle.dcel_maps.specs.Triangulations.{AllTriangles}
 use Rattle.dcel_maps.proofs.maps.Triangles.{IsTriangleOf}
 use Rattle.dcel_maps.proofs.shapes.Maps.{map-sound}
 use Rattle.dcel_plane.specs.Plane.{IsPlane, LiesInside, TurnsLeft, point_at, origin_point}
-use Rattle.dcel_plane.proofs.Corners.{left_of_triangle}
-use Rattle.dcel_covering.specs.Covering.{apart_along}
-use Rattle.dcel_covering.proofs.Along.{one_point}
-use Rattle.dcel_covering.proofs.Inside.{on_end}
-use Rattle.dcel_covering.proofs.Triangles.{is_triangle, round}
-use Rattle.dcel_places.specs.Locating.{HasBeyond, LiesOn, StandsAt}
-use Rattle.dcel_places.proofs.Ways.{between_of, left_of_both}
+use Rattle.dcel_plane.proofs.edits.Corners.{left_of_triangle}
+use Rattle.dcel_plane.specs.covering.Covering.{apart_along}
+use Rattle.dcel_plane.proofs.covering.Along.{one_point}
+use Rattle.dcel_plane.proofs.covering.Inside.{on_end}
+use Rattle.dcel_plane.proofs.covering.Triangles.{is_triangle, round}
+use Rattle.dcel_plane.specs.location.Locating.{HasBeyond, LiesOn, StandsAt}
+use Rattle.dcel_plane.proofs.location.Ways.{between_of, left_of_both}
 use Rattle.dcel_delaunay.specs.Places.{AreSides, HasLeft, HasPoint, IsAcross, IsOnLine, LiesAt}
 use Rattle.dcel_delaunay.proofs.Sides.{lies_across, lies_inside}
 

@@ -7,9 +7,9 @@ use Rattle.dcel_maps.specs.Shapes.{IsLive, IsMesh, Mesh, face_count, face_of}
 use Rattle.dcel_maps.proofs.removal.Inserted.{replaced-count}
 use Rattle.dcel_predicates.specs.declared.point.Point.{Point}
 use Rattle.dcel_plane.specs.Plane.{IsLeftOf, point_at}
-use Rattle.dcel_plane.proofs.Moved.{appended_plane}
-use Rattle.dcel_covering.proofs.Starts.{inner_half}
-use Rattle.dcel_hulls.proofs.PutBeside.{beside_closing, beside_hull, beside_thick, beside_thin, straight_convex}
+use Rattle.dcel_plane.proofs.edits.Moved.{appended_plane}
+use Rattle.dcel_plane.proofs.covering.Starts.{inner_half}
+use Rattle.dcel_plane.proofs.hull.PutBeside.{beside_closing, beside_hull, beside_thick, beside_thin, straight_convex}
 use Rattle.dcel_delaunay.specs.Growing.{HasHull, IsFlat, IsOpen, IsTriangulated}
 use Rattle.dcel_delaunay.proofs.Appended.{appended_convex, appended_hull, appended_straight}
 use Rattle.dcel_delaunay.proofs.Sound.{left_after}

@@ -13,11 +13,11 @@ use Rattle.dcel_maps.proofs.words.Reading.{face_in_word, live_in}
 use Rattle.dcel_predicates.specs.declared.point.Point.{Point}
 use Rattle.dcel_predicates.specs.Determinants.{orient2d_of}
 use Rattle.dcel_plane.specs.Plane.{point_at}
-use Rattle.dcel_covering.specs.Covering.{IsConvex, apart_along}
-use Rattle.dcel_covering.specs.Delaunay.{HasCorners}
-use Rattle.dcel_covering.proofs.Numbered.{word_is}
-use Rattle.dcel_covering.proofs.Starts.{by_starts}
-use Rattle.dcel_hulls.proofs.PutBeside.{straight_convex}
+use Rattle.dcel_plane.specs.covering.Covering.{IsConvex, apart_along}
+use Rattle.dcel_plane.specs.covering.Delaunay.{HasCorners}
+use Rattle.dcel_plane.proofs.covering.Numbered.{word_is}
+use Rattle.dcel_plane.proofs.covering.Starts.{by_starts}
+use Rattle.dcel_plane.proofs.hull.PutBeside.{straight_convex}
 use Rattle.dcel_delaunay.specs.Growing.{HasHull, IsFlat, IsJoined}
 use Rattle.dcel_delaunay.specs.Triangulated.{GoesRoundHull, PointsAreSingle}
 use Rattle.dcel_delaunay.proofs.Counting.{joined_all}

@@ -11,7 +11,7 @@ use Rattle.dcel_maps.proofs.words.Counts.{count-append}
 use Rattle.dcel_predicates.specs.declared.point.Point.{Point}
 use Rattle.dcel_plane.specs.Edges.{edges_closed}
 use Rattle.dcel_plane.specs.Plane.{IsLeftOf, ListsCircled, point_at}
-use Rattle.dcel_plane.proofs.Outside.{closed_lists}
+use Rattle.dcel_plane.proofs.edits.Outside.{closed_lists}
 use Rattle.dcel_delaunay.specs.Growing.{Gains, IsTriangulated, Keeps, KeepsListed}
 use Rattle.dcel_delaunay.proofs.Growth.{appended-gains, gains-keeps, of_edit, taken_back}
 use Rattle.dcel_delaunay.proofs.Sound.{closed-triangulated}

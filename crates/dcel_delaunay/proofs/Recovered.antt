@@ -11,8 +11,8 @@ use Rattle.dcel_maps.proofs.walks.Links.{half-below}
 use Rattle.dcel_predicates.specs.declared.point.Point.{Point}
 use Rattle.dcel_predicates.proofs.Signs.{ordered}
 use Rattle.dcel_plane.specs.Plane.{point_at}
-use Rattle.dcel_covering.proofs.Numbered.{searched}
-use Rattle.dcel_hulls.specs.Straight.{IsStraight, beyond}
+use Rattle.dcel_plane.proofs.covering.Numbered.{searched}
+use Rattle.dcel_plane.specs.hull.Straight.{IsStraight, beyond}
 use Rattle.dcel_delaunay.specs.Growing.{HasHull, IsFlat, IsSound, IsTriangulation, IsUnderWay}
 use Rattle.dcel_delaunay.proofs.Flat.{new_flat}
 use Rattle.dcel_delaunay.proofs.Sound.{new-sound}

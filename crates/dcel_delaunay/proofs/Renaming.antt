@@ -7,7 +7,7 @@ use Rattle.dcel_maps.specs.Renumbering.{edges_down, moved, new_number}
 use Rattle.dcel_maps.specs.Shapes.{IsMesh, Mesh, Shape}
 use Rattle.dcel_maps.proofs.renumbering.GivenUp.{listed-down}
 use Rattle.dcel_maps.proofs.renumbering.Moves.{moved-last, moved-other}
-use Rattle.dcel_hollows.proofs.Cleaned.{cleaned_is}
+use Rattle.dcel_plane.proofs.removal.Cleaned.{cleaned_is}
 
 -- what is left to be taken out makes of this number what all make of the edge
 pub record Renames (last : ℕ) (left : List ℕ) (number count : ℕ) (taken : List ℕ) (edge : ℕ) : Type 0 where

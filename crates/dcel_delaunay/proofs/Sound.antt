@@ -15,12 +15,12 @@ use Rattle.dcel_maps.proofs.shapes.Maps.{map-sound}
 use Rattle.dcel_predicates.specs.declared.point.Point.{Point}
 use Rattle.dcel_plane.specs.Edges.{edges_put_beside, edges_half_split, edges_inserted, edges_split}
 use Rattle.dcel_plane.specs.Plane.{IsLeftOf, LiesAcross, LiesInside, ListsCircled, TurnsLeft, point_at}
-use Rattle.dcel_plane.proofs.Alone.{outer_alone_delaunay}
-use Rattle.dcel_plane.proofs.Inserted.{inserted_plane}
-use Rattle.dcel_plane.proofs.Spokes.{sides_listed}
-use Rattle.dcel_plane.proofs.Moved.{appended_lists, appended_plane, appended_stands, others_stand}
-use Rattle.dcel_plane.proofs.Outside.{beside_lists, beside_plane, closed_plane}
-use Rattle.dcel_plane.proofs.Splits.{half_split_lists, half_split_plane, split_lists, split_plane}
+use Rattle.dcel_plane.proofs.edits.Alone.{outer_alone_delaunay}
+use Rattle.dcel_plane.proofs.edits.Inserted.{inserted_plane}
+use Rattle.dcel_plane.proofs.edits.Spokes.{sides_listed}
+use Rattle.dcel_plane.proofs.edits.Moved.{appended_lists, appended_plane, appended_stands, others_stand}
+use Rattle.dcel_plane.proofs.edits.Outside.{beside_lists, beside_plane, closed_plane}
+use Rattle.dcel_plane.proofs.edits.Splits.{half_split_lists, half_split_plane, split_lists, split_plane}
 use Rattle.dcel_delaunay.proofs.Counting.{alone_triangles, beside_joined, closed_joined, face_vertices, half_split_joined, inserted_joined, live_vertices, split_joined}
 use Rattle.dcel_delaunay.specs.Growing.{IsJoined, IsSound, IsTriangulated, KeepsListed}
 

@@ -12,11 +12,11 @@ use Rattle.dcel_maps.proofs.renumbering.Renumbered.{vertex_leaves_live}
 use Rattle.dcel_maps.proofs.Triangulations as triangulations
 use Rattle.dcel_predicates.specs.declared.point.Point.{Point}
 use Rattle.dcel_plane.specs.Plane.{IsPlane, ListsCircled, origin_point, point_at}
-use Rattle.dcel_covering.specs.Covering.{IsConvex, IsHull}
-use Rattle.dcel_hollows.proofs.Cleaned.{IsCleaned, cleaned_is}
-use Rattle.dcel_covering.proofs.Starts.{inner_half}
-use Rattle.dcel_hulls.specs.Straight.{IsStraight}
-use Rattle.dcel_hollows.proofs.Renumbering.{cleanup_keeps, cleanup_lists, cleanup_straight, cleanup_was_inner, taken_out_keeps, taken_out_lists, taken_out_straight, taken_out_was_inner}
+use Rattle.dcel_plane.specs.covering.Covering.{IsConvex, IsHull}
+use Rattle.dcel_plane.proofs.removal.Cleaned.{IsCleaned, cleaned_is}
+use Rattle.dcel_plane.proofs.covering.Starts.{inner_half}
+use Rattle.dcel_plane.specs.hull.Straight.{IsStraight}
+use Rattle.dcel_plane.proofs.removal.Renumbering.{cleanup_keeps, cleanup_lists, cleanup_straight, cleanup_was_inner, taken_out_keeps, taken_out_lists, taken_out_straight, taken_out_was_inner}
 use Rattle.dcel_delaunay.specs.Growing.{HasHull, IsFlat, IsJoined, IsSound}
 use Rattle.dcel_delaunay.specs.Removing.{IsGivenUp, Loses}
 use Rattle.dcel_delaunay.specs.declared.removed.Removed.{Removed}

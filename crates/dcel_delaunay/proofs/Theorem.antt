@@ -6,11 +6,11 @@ use Rattle.dcel_predicates.specs.declared.point.Point.{Point}
 use Rattle.dcel_predicates.specs.Determinants.{lift_of}
 use Rattle.dcel_predicates.proofs.Signs.{ordered}
 use Rattle.dcel_plane.specs.Plane.{point_at}
-use Rattle.dcel_covering.specs.Delaunay.{IsDelaunayTriangulation}
-use Rattle.dcel_covering.proofs.Numbered as laws
-use Rattle.dcel_covering.proofs.Starts.{inner_half}
-use Rattle.dcel_places.specs.Nearest.{HasNoNearerNeighbor, IsNearest}
-use Rattle.dcel_places.proofs.Nearest.{nearest, nearest_on_line}
+use Rattle.dcel_plane.specs.covering.Delaunay.{IsDelaunayTriangulation}
+use Rattle.dcel_plane.proofs.covering.Numbered as laws
+use Rattle.dcel_plane.proofs.covering.Starts.{inner_half}
+use Rattle.dcel_plane.specs.location.Nearest.{HasNoNearerNeighbor, IsNearest}
+use Rattle.dcel_plane.proofs.location.Nearest.{nearest, nearest_on_line}
 use Rattle.dcel_delaunay.specs.Growing.{HasHull, IsTriangulation}
 use Rattle.dcel_delaunay.specs.Triangulated.{CirclesAreEmpty, FacesAreApart, GoesRoundHull, HullIsCovered, PointsAreSingle}
 use Rattle.dcel_delaunay.proofs.Counting.{joined_all}

@@ -16,12 +16,12 @@ use Rattle.dcel_predicates.specs.declared.point.Point.{Point}
 use Rattle.dcel_legalize.specs.Flipping.{sides_beside}
 use Rattle.dcel_circles.proofs.Circled.{inner_from}
 use Rattle.dcel_plane.specs.Plane.{ListsCircled, TurnsLeft, point_at}
-use Rattle.dcel_plane.proofs.Flipped.{flip_lists}
-use Rattle.dcel_hulls.proofs.Keeping.{flip_keeps_convex, flip_keeps_hull}
-use Rattle.dcel_hollows.specs.Wheels.{CanTurn}
-use Rattle.dcel_hollows.proofs.Fewer.{flip_keeps_inner, flip_takes_one}
-use Rattle.dcel_hollows.proofs.FlippedInside.{outer_start, outer_stays}
-use Rattle.dcel_hollows.proofs.Turnable.{turn_keeps_plane}
+use Rattle.dcel_plane.proofs.edits.Flipped.{flip_lists}
+use Rattle.dcel_plane.proofs.hull.Keeping.{flip_keeps_convex, flip_keeps_hull}
+use Rattle.dcel_plane.specs.removal.Wheels.{CanTurn}
+use Rattle.dcel_plane.proofs.removal.Fewer.{flip_keeps_inner, flip_takes_one}
+use Rattle.dcel_plane.proofs.removal.FlippedInside.{outer_start, outer_stays}
+use Rattle.dcel_plane.proofs.removal.Turnable.{turn_keeps_plane}
 use Rattle.dcel_delaunay.specs.Corners.{StartsOutside}
 use Rattle.dcel_delaunay.specs.Growing.{HasHull, IsSound, Keeps}
 use Rattle.dcel_delaunay.specs.Removing.{IsInside, IsTurnable}

@@ -5,9 +5,9 @@ use Rattle.dcel_maps.specs.Shapes.{IsLive, IsMesh, Mesh, Shape, face_count, face
 use Rattle.dcel_maps.proofs.walks.Lengths.{count-le}
 use Rattle.dcel_predicates.specs.declared.point.Point.{Point}
 use Rattle.dcel_plane.specs.Plane.{IsDelaunay, point_at}
-use Rattle.dcel_places.specs.Locating.{HasBeyond, Walks}
-use Rattle.dcel_places.proofs.Ending.{few_faces}
-use Rattle.dcel_places.proofs.Exact.{stepped_out}
+use Rattle.dcel_plane.specs.location.Locating.{HasBeyond, Walks}
+use Rattle.dcel_plane.proofs.location.Ending.{few_faces}
+use Rattle.dcel_plane.proofs.location.Exact.{stepped_out}
 use Rattle.dcel_delaunay.specs.Growing.{IsSound}
 use Rattle.dcel_delaunay.specs.Places.{HasLeft}
 

@@ -1,7 +1,7 @@
 -- Corners of the outer face, while the hull is closed round the last vertex.
 use Rattle.std.specs.Prelude.{◌≡◌, ◌≤◌, ◌+◌, ◌^◌, ℕ, pos, ◌≤ℤ◌}
 use Rattle.dcel_maps.specs.Shapes.{Mesh, IsLive, end_of, face_of, next_of, origin_of, prev_of}
-use Rattle.dcel_covering.specs.Covering.{IsConvex}
+use Rattle.dcel_plane.specs.covering.Covering.{IsConvex}
 use Rattle.dcel_plane.specs.Plane.{point_at}
 use Rattle.dcel_predicates.specs.declared.point.Point.{Point}
 use Rattle.dcel_predicates.specs.Determinants.{orient2d_of}

@@ -5,9 +5,9 @@ use Rattle.dcel_maps.specs.Conditions.{HasRoom}
 use Rattle.dcel_maps.specs.Shapes.{Mesh, Shape, face_count}
 use Rattle.dcel_maps.specs.Triangulations.{AllTriangles}
 use Rattle.dcel_plane.specs.Plane.{IsPlane, ListsCircled, point_at}
-use Rattle.dcel_covering.specs.Covering.{IsConvex, IsHull}
-use Rattle.dcel_hulls.specs.Closing.{IsClosing, IsThick, IsThin}
-use Rattle.dcel_hulls.specs.Straight.{IsStraight}
+use Rattle.dcel_plane.specs.covering.Covering.{IsConvex, IsHull}
+use Rattle.dcel_plane.specs.hull.Closing.{IsClosing, IsThick, IsThin}
+use Rattle.dcel_plane.specs.hull.Straight.{IsStraight}
 use Rattle.dcel_delaunay.specs.Places.{HasPoint}
 use Rattle.dcel_delaunay.specs.declared.position.PositionInTriangulation.{PositionInTriangulation}
 use Rattle.dcel_delaunay.specs.declared.position.PositionInTriangulation.TheVariants.{OnVertex}

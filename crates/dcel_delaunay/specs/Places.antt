@@ -8,7 +8,7 @@ use Rattle.dcel_predicates.specs.Determinants.{orient2d_of}
 use Rattle.dcel_maps.specs.Conditions.{IsLineEnd, IsTriangle}
 use Rattle.dcel_maps.specs.Shapes.{Mesh, IsLive, end_of, face_count, face_of, next_of, origin_of, prev_of}
 use Rattle.dcel_plane.specs.Plane.{IsLeftOf, LiesAcross, LiesInside, point_at}
-use Rattle.dcel_places.specs.Locating.{LiesBeyond, LiesOn}
+use Rattle.dcel_plane.specs.location.Locating.{LiesBeyond, LiesOn}
 use Rattle.dcel_delaunay.specs.declared.position.PositionInTriangulation.{PositionInTriangulation}
 use Rattle.dcel_delaunay.specs.declared.position.PositionInTriangulation.TheVariants.{BeyondLine, NoTriangulation, OnEdge, OnFace, OnVertex, OutsideOfConvexHull}
 

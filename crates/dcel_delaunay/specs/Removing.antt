@@ -12,10 +12,10 @@ use Rattle.dcel_maps.specs.Strips.{strip_of}
 use Rattle.dcel_maps.specs.Walking.{IsOutEdge, ccw_of}
 use Rattle.dcel_predicates.specs.declared.point.Point.{Point}
 use Rattle.dcel_plane.specs.Plane.{IsPlane, ListsCircled, point_at}
-use Rattle.dcel_covering.specs.Covering.{IsConvex, IsHull}
-use Rattle.dcel_hulls.specs.Straight.{IsStraight}
+use Rattle.dcel_plane.specs.covering.Covering.{IsConvex, IsHull}
+use Rattle.dcel_plane.specs.hull.Straight.{IsStraight}
 use Rattle.spade_dcel.specs.Opened.{HasOpened}
-use Rattle.dcel_hollows.specs.Wheels.{CanTurn, MakesTwo}
+use Rattle.dcel_plane.specs.removal.Wheels.{CanTurn, MakesTwo}
 use Rattle.dcel_delaunay.specs.Corners.{StartsOutside}
 use Rattle.dcel_delaunay.specs.Growing.{HasHull, Keeps}
 use Rattle.dcel_delaunay.specs.Places.{HasPoint, IsOnLine}

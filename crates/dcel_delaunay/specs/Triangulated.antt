@@ -4,9 +4,9 @@ use Rattle.dcel_maps.specs.Shapes.{IsLive, Mesh, end_of, face_count, face_of, or
 use Rattle.dcel_predicates.specs.declared.point.Point.{Point}
 use Rattle.dcel_predicates.specs.Determinants.{incircle_of, orient2d_of}
 use Rattle.dcel_plane.specs.Plane.{point_at}
-use Rattle.dcel_covering.specs.Covering.{apart_along}
-use Rattle.dcel_covering.specs.Delaunay.{HasCorners, IsCovered, LiesInHull}
-use Rattle.dcel_covering.specs.Places.{AreDisjoint, Place}
+use Rattle.dcel_plane.specs.covering.Covering.{apart_along}
+use Rattle.dcel_plane.specs.covering.Delaunay.{HasCorners, IsCovered, LiesInHull}
+use Rattle.dcel_plane.specs.covering.Places.{AreDisjoint, Place}
 use Rattle.dcel_delaunay.specs.Growing.{MayRefuse}
 use Rattle.dcel_delaunay.specs.Places.{HasPoint}
 use Rattle.dcel_delaunay.specs.Removing.{IsKept}

@@ -6,7 +6,7 @@ ghost use Rattle.dcel_maps.specs.Conditions.{IsLineEnd};
 ghost use Rattle.dcel_maps.specs.Removals.{Closed};
 ghost use Rattle.dcel_maps.specs.Shapes.{IsLive, end_of};
 ghost use Rattle.dcel_plane.specs.Plane.{point_at};
-ghost use Rattle.dcel_places.specs.Locating.{LiesBeyond, LiesOn};
+ghost use Rattle.dcel_plane.specs.location.Locating.{LiesBeyond, LiesOn};
 ghost use Rattle.dcel_delaunay.specs.Edges.{IsSplit, KeepsEdgeData, KeepsEdges};
 ghost use Rattle.dcel_delaunay.specs.Growing.{Gains, IsFlat, IsJoined, MayRefuse};
 ghost use Rattle.dcel_delaunay.specs.Places.{HasPoint};

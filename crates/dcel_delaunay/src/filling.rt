@@ -5,7 +5,7 @@ ghost use Rattle.dcel_maps.specs.Conditions.{HasRoom, IsTriangle};
 ghost use Rattle.dcel_maps.specs.Shapes.{IsLive};
 ghost use Rattle.dcel_plane.specs.Edges.{edges_inserted};
 ghost use Rattle.dcel_plane.specs.Plane.{point_at};
-ghost use Rattle.dcel_hollows.specs.Wheels.{MakesTwo};
+ghost use Rattle.dcel_plane.specs.removal.Wheels.{MakesTwo};
 ghost use Rattle.spade_dcel.specs.Handles.{mesh_behind, number_of};
 ghost use Rattle.dcel_delaunay.specs.Growing.{IsSound};
 ghost use Rattle.dcel_delaunay.specs.Removing.{BeginsBorder, IsFilled, IsGivenUp, IsThin};

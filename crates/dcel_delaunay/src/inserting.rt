@@ -4,7 +4,7 @@
 ghost use Rattle.std.specs.Prelude.{◌≡◌, ◌⊎◌, ◌<◌, [], IfErr, IfOk, OnErr, OnOk};
 ghost use Rattle.dcel_maps.specs.Shapes.{IsLive, face_of};
 ghost use Rattle.dcel_plane.specs.Plane.{point_at};
-ghost use Rattle.dcel_places.specs.Locating.{LiesOn};
+ghost use Rattle.dcel_plane.specs.location.Locating.{LiesOn};
 ghost use Rattle.dcel_delaunay.specs.Edges.{IsSplit, KeepsEdgeData, KeepsEdges, KeepsEnds, KeepsStarts};
 ghost use Rattle.dcel_delaunay.specs.Growing.{Gains, HasHull, HasOutside, Inserts, IsFlat, IsPutAt, IsSound, IsTriangulated, IsUnderWay, KeepsListed, MayRefuse, Refuses};
 ghost use Rattle.dcel_delaunay.specs.Places.{HasLeft, IsPlace};

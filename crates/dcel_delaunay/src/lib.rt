@@ -1,17 +1,16 @@
 //! Delaunay triangulations of points with whole coordinates, over the half-edge mesh of
-//! `spade_dcel`.
+//! `spade_dcel`. Start with [`Triangulation`].
 //!
-//! A [`Triangulation`] is made by inserting points, one after another
-//! ([`insert`](Triangulation::insert)) or all at once ([`insert_all`](Triangulation::insert_all)).
-//! Its mesh is read as it is ([`dcel`](Triangulation::dcel)): the vertices are the points, the
-//! inner faces the triangles, and the outer face goes round the hull. No point lies inside the
-//! circle of a triangle, the triangles cover the hull and overlap nowhere, and equal points are one
-//! vertex.
+//! Points are inserted one by one ([`insert`](Triangulation::insert)) or all at once
+//! ([`insert_all`](Triangulation::insert_all)). In the mesh ([`dcel`](Triangulation::dcel)) the
+//! vertices are the points, the inner faces the triangles, and the outer face goes around the
+//! convex hull. No point is inside the circle of a triangle, the triangles cover the hull and don't
+//! overlap, and equal points are one vertex.
 //!
-//! What an insertion does before it flips edges is there for other meshes of points too, with data at
-//! their edges: a point is located in one triangle ([`look`], which is told its [`side`] of one half
-//! edge), on a line ([`locate_on_line`]) or where there is no edge ([`at_a_vertex`]), and put in where
-//! it lies ([`put_at`]). Where memory runs out meanwhile, the hull is closed later ([`close_hull`]).
+//! The steps of an insertion before its flips serve other meshes of points too, with data at their
+//! edges: a point is located in one triangle ([`look`], which is told its [`side`] of one half
+//! edge), on a line ([`locate_on_line`]) or where there is no edge ([`at_a_vertex`]), and inserted
+//! there ([`put_at`]). If memory runs out meanwhile, [`close_hull`] closes the hull later.
 #![tactic(auto)]
 
 mod bulk;

@@ -6,7 +6,7 @@ ghost use Rattle.dcel_fixed.specs.HalfEdges.{rev};
 ghost use Rattle.spade_dcel.specs.Handles.{mesh_behind, number_of};
 ghost use Rattle.dcel_maps.specs.Shapes.{IsLive, face_count};
 ghost use Rattle.dcel_plane.specs.Plane.{point_at};
-ghost use Rattle.dcel_places.specs.Locating.{IsBefore, LiesBeyond};
+ghost use Rattle.dcel_plane.specs.location.Locating.{IsBefore, LiesBeyond};
 ghost use Rattle.dcel_delaunay.specs.Growing.{IsFlat};
 ghost use Rattle.dcel_delaunay.specs.Places.{IsOnLine, IsPlace};
 

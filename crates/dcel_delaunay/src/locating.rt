@@ -5,7 +5,7 @@ ghost use Rattle.spade_dcel.specs.Handles.{mesh_behind, number_of};
 ghost use Rattle.dcel_maps.specs.Removals.{Closed};
 ghost use Rattle.dcel_maps.specs.Shapes.{IsLive, face_of, next_of, prev_of};
 ghost use Rattle.dcel_plane.specs.Plane.{point_at};
-ghost use Rattle.dcel_places.specs.Locating.{HasBeyond};
+ghost use Rattle.dcel_plane.specs.location.Locating.{HasBeyond};
 ghost use Rattle.dcel_delaunay.specs.Growing.{HasHull, IsSound, IsTriangulated, IsTriangulation};
 ghost use Rattle.dcel_delaunay.specs.Places.{AreSides, IsPlace, LiesAt};
 

@@ -3,7 +3,7 @@
 ghost use Rattle.std.specs.Prelude.{◌≡◌, ◌<◌, ◌<ℤ◌, IfNone, IfSome, pos};
 ghost use Rattle.spade_dcel.specs.Handles.{mesh_behind, number_of};
 ghost use Rattle.dcel_maps.specs.Removals.{Closed};
-ghost use Rattle.dcel_places.specs.Nearest.{HasNoNearerNeighbor, IsNearest};
+ghost use Rattle.dcel_plane.specs.location.Nearest.{HasNoNearerNeighbor, IsNearest};
 ghost use Rattle.dcel_plane.specs.Plane.{point_at};
 ghost use Rattle.dcel_predicates.specs.Determinants.{lift_of};
 ghost use Rattle.dcel_delaunay.specs.Growing.{IsTriangulation};

@@ -15,7 +15,7 @@ ghost use Rattle.dcel_plane.specs.Plane.{LiesAcross, LiesInside, point_at};
 ghost use Rattle.dcel_delaunay.specs.Edges.{IsSplit, KeepsEdgeData, KeepsEdges};
 ghost use Rattle.dcel_delaunay.specs.Growing.{Gains, HasHull, IsFlat, IsOpen, IsTriangulated, KeepsListed, MayRefuse};
 ghost use Rattle.dcel_delaunay.specs.Places.{HasLeft};
-ghost use Rattle.dcel_places.specs.Locating.{LiesOn};
+ghost use Rattle.dcel_plane.specs.location.Locating.{LiesOn};
 
 use crate::errors::InsertionError;
 use crate::mesh::EdgeMesh;

@@ -7,7 +7,7 @@ ghost use Rattle.dcel_maps.specs.Removals.{Closed};
 ghost use Rattle.dcel_maps.specs.Shapes.{face_count};
 ghost use Rattle.dcel_maps.specs.Triangulations.{AllTriangles};
 ghost use Rattle.dcel_plane.specs.Plane.{IsDelaunay, point_at};
-ghost use Rattle.dcel_places.specs.Nearest.{IsNearest};
+ghost use Rattle.dcel_plane.specs.location.Nearest.{IsNearest};
 ghost use Rattle.dcel_delaunay.specs.Places.{IsPlace};
 ghost use Rattle.dcel_delaunay.specs.Removing.{Loses};
 ghost use Rattle.dcel_delaunay.specs.Triangulated.{CirclesAreEmpty, FacesAreApart, GoesRoundHull, HullIsCovered, IsWhole, KeepsVertex, PointsAreSingle, Stays, Takes, mesh_in};

@@ -3,7 +3,7 @@
 ghost use Rattle.std.specs.Prelude.{◌≡◌, ◌↔◌, ◌<◌, ◌≤◌, ◌/◌, ℕ, IfNone, IfSome, IsTrue, OnOk};
 ghost use Rattle.dcel_maps.specs.Shapes.{IsMesh};
 ghost use Rattle.dcel_plane.specs.Plane.{TurnsLeft, point_at};
-ghost use Rattle.dcel_hollows.specs.Wheels.{CanTurn};
+ghost use Rattle.dcel_plane.specs.removal.Wheels.{CanTurn};
 ghost use Rattle.dcel_delaunay.specs.Corners.{StartsOutside};
 ghost use Rattle.dcel_delaunay.specs.Growing.{HasHull, IsSound, Keeps};
 ghost use Rattle.dcel_delaunay.specs.Removing.{HasNoneToTurn, IsInside, IsTurnable};

@@ -1,6 +1,7 @@
-//! What of a mesh is drawn where, once its vertices have places.
+//! What is drawn of a mesh, and where, once its vertices have places. `dcel_svg` writes it as SVG.
 //!
-//! A [`Picture`] has a stroke for each half edge, a patch for each face and a dot for each vertex.
+//! Start with [`Picture`]: it has a stroke for each half edge, a patch for each face and a dot for
+//! each vertex. It uses `spade_dcel`.
 #![tactic(auto)]
 
 mod bend;

@@ -1,4 +1,4 @@
-//! Vertices without edges, and the first edge.
+//! Appending vertices without edges, and the first edge.
 
 ghost use Rattle.std.specs.Prelude.{◌≡◌, ◌≤◌, vec_len};
 ghost use Rattle.dcel_maps.specs.edits.DefaultData.{AddsEdge};

@@ -1,4 +1,4 @@
-//! Rings cut into ears: triangles that meet at one vertex.
+//! Cutting rings into ears: triangles that meet at one vertex.
 
 ghost use Rattle.std.specs.Prelude.{◌≡◌, ◌+◌, ◌*◌, ◌^◌, ◌<◌, length, reverse, slice_index};
 ghost use Rattle.dcel_maps.specs.edits.DefaultData.{AddsEdgesAndFaces};
@@ -11,8 +11,7 @@ use std::alloc::Allocator;
 
 /// Cuts a ring into ears that meet where `first` starts.
 ///
-/// The ring consists of `first`, `second`, `third` and the half edges of `left`, from its end to
-/// its beginning.
+/// The ring consists of `first`, `second`, `third` and the half edges of `left`, read from its end.
 pub fn put_ears<V, DE: Default, UE: Default, F: Default, A: Allocator>(
     store: &mut Store<V, DE, UE, F, A>,
     first: FixedDirectedEdgeHandle,
@@ -125,7 +124,7 @@ fn put_ear<V, DE: Default, UE: Default, F: Default, A: Allocator>(
     outer
 }
 
-// Makes an ear of the last three half edges of a ring.
+// Turns the last three half edges of a ring into an ear.
 fn put_last_ear<V, DE, UE, F: Default, A: Allocator>(
     store: &mut Store<V, DE, UE, F, A>,
     apex: FixedVertexHandle,

@@ -1,4 +1,4 @@
-//! Edges turned between two triangles.
+//! Flipping edges between two triangles.
 
 ghost use Rattle.std.specs.Prelude.{◌≡◌};
 ghost use Rattle.dcel_edits.specs.SplitTriangles.{IsHeld};
@@ -8,9 +8,9 @@ use dcel_fixed::{FixedDirectedEdgeHandle, FixedFaceHandle, FixedVertexHandle, Po
 use dcel_store::Store;
 use std::alloc::Allocator;
 
-// One side of an edge that is turned: the half edge there and its triangle.
+// One side of an edge that is flipped: the half edge there and its triangle.
 //
-// `origin` is where the half edge starts before the turn, and `corner`, which lies opposite, is
+// `origin` is where the half edge starts before the flip, and `corner`, which is opposite it, is
 // where it starts afterwards.
 #[derive(Clone, Copy)]
 struct Side {
@@ -43,7 +43,7 @@ impl Side {
     }
 }
 
-/// Turns the edge of the half edge `edge` between the triangles on its two sides.
+/// Flips the edge of the half edge `edge`, clockwise, between the triangles on its two sides.
 pub fn put_flip<V, DE, UE, F, A: Allocator>(
     store: &mut Store<V, DE, UE, F, A>,
     edge: FixedDirectedEdgeHandle,
@@ -55,7 +55,7 @@ pub fn put_flip<V, DE, UE, F, A: Allocator>(
     let far = Side::new(store, edge.rev());
     turn_side(store, &near, &far);
     turn_side(store, &far, &near);
-    // Anchors lie far from the links, so they come last: waiting for them holds up no link.
+    // Anchors are far from the links in memory, so they come last: waiting for them delays no link.
     anchor_side(store, &near, &far);
     anchor_side(store, &far, &near);
 }

@@ -1,4 +1,4 @@
-//! Vertices, edges and faces as lists have them, with anchors that are chosen or given.
+//! Writing vertices, edges and faces from lists, with chosen or given anchors.
 
 ghost use Rattle.std.specs.Prelude.{◌≡◌, ◌<◌, ◌≤◌, ◌^◌, None, length, replicate, slice_index, vec_len};
 ghost use Rattle.dcel_store.specs.Lists.{HasPlaces};
@@ -11,8 +11,8 @@ use dcel_fixed::{FixedDirectedEdgeHandle, FixedFaceHandle, FixedVertexHandle};
 use dcel_store::{EdgeData, HalfEdgeLinks, Store};
 use std::alloc::Allocator;
 
-/// Writes vertices, edges and faces into an empty store, with the links that the lists have and the
-/// last half edge of each vertex and face as its anchor.
+/// Writes vertices, edges and faces into an empty store, with the links of the lists, and the last
+/// half edge of each vertex and face as its anchor.
 pub fn put_mesh<V: Drop, DE: Drop, UE: Drop, F: Drop, A: Allocator>(
     store: &mut Store<V, DE, UE, F, A>,
     next: &[u32],
@@ -37,8 +37,8 @@ pub fn put_mesh<V: Drop, DE: Drop, UE: Drop, F: Drop, A: Allocator>(
     anchor_faces(store, face);
 }
 
-/// Writes vertices, edges and faces into an empty store, with the links that the lists have and
-/// these anchors.
+/// Writes vertices, edges and faces into an empty store, with the links of the lists and these
+/// anchors.
 pub fn put_anchored_mesh<V: Drop, DE: Drop, UE: Drop, F: Drop, A: Allocator>(
     store: &mut Store<V, DE, UE, F, A>,
     next: &[u32],
@@ -133,7 +133,7 @@ fn anchor_vertices<V, DE, UE, F, A: Allocator>(store: &mut Store<V, DE, UE, F, A
     }
 }
 
-// Anchors faces at the half edges that lie there, one after another: the last one stays.
+// Anchors faces at their half edges, one after another: the last one stays.
 fn anchor_faces<V, DE, UE, F, A: Allocator>(store: &mut Store<V, DE, UE, F, A>, face: &[u32])
     requires below { AreBelow (length store.old.face_anchors) face.now }
     requires few { length face.now ≤ 2 ^ 32 }

@@ -1,9 +1,10 @@
-//! Writers: what each edit of a mesh writes into its store, links, anchors and data.
+//! Writers, which write each edit of a mesh into its store: links, anchors and data. The operations
+//! of `spade_dcel` call them; below is `dcel_store`. Start with [`line`].
 //!
 //! Each asks that what it names is stored, and that the store has places for what it appends, which
-//! [`Store::reserve`](dcel_store::Store::reserve) makes. So none allocates or is refused. The
-//! contract of each is one equation over lists, and the proofs say that lists which hold a mesh hold
-//! the edited mesh afterwards.
+//! [`Store::reserve`](dcel_store::Store::reserve) provides. So none allocates or is refused. The
+//! contract of each is one equation over lists; the proofs say that lists which represent a mesh
+//! represent the edited mesh afterwards.
 #![tactic(auto)]
 
 pub mod create;

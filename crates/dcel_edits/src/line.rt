@@ -1,4 +1,4 @@
-//! Spurs: edges to a vertex that had no edge.
+//! Adding spurs: edges to a vertex that had no edge.
 
 ghost use Rattle.dcel_maps.specs.edits.DefaultData.{AddsEdge};
 ghost use Rattle.dcel_edits.specs.Line.{spur_stored, CanSpur};
@@ -8,7 +8,7 @@ use dcel_fixed::{FixedDirectedEdgeHandle, FixedVertexHandle};
 use dcel_store::{EdgeData, Store};
 use std::alloc::Allocator;
 
-/// Adds an edge to the vertex `tip`, there and back after the half edge `before`.
+/// Adds an edge to the vertex `tip`: its two halves follow the half edge `before`, there and back.
 pub fn put_spur<V, DE: Default, UE: Default, F, A: Allocator>(
     store: &mut Store<V, DE, UE, F, A>,
     before: FixedDirectedEdgeHandle,

@@ -5,7 +5,7 @@ ghost use Rattle.std.specs.Prelude.{◌≡◌, ◌<◌, ◌^◌};
 use dcel_fixed::{FixedDirectedEdgeHandle, FixedFaceHandle, FixedVertexHandle, PossiblyOuterTag};
 use dcel_store::HalfEdgeLinks;
 
-/// Makes the links of a half edge: the half edges after it and before it, its face, and its origin.
+/// Returns the links of a half edge: the next and the previous half edge, its face, and its origin.
 pub fn links(
     next: FixedDirectedEdgeHandle,
     prev: FixedDirectedEdgeHandle,
@@ -22,7 +22,7 @@ pub fn links(
     }
 }
 
-/// Makes the links of a half edge from numbers.
+/// Returns the links of a half edge from numbers.
 pub(crate) fn numbered_links(next: usize, prev: usize, face: usize, origin: usize) -> HalfEdgeLinks
     requires few_next { next < 2 ^ 32 }
     requires few_prev { prev < 2 ^ 32 }

@@ -1,4 +1,4 @@
-//! Faces put beside an edge.
+//! Adding faces beside an edge.
 
 ghost use Rattle.std.specs.Prelude.{◌≡◌, ◌+◌, ◌*◌, length};
 ghost use Rattle.dcel_maps.specs.edits.DefaultData.{AddsEdgesAndFaces};
@@ -9,7 +9,7 @@ use dcel_fixed::{FixedDirectedEdgeHandle, FixedFaceHandle, FixedVertexHandle, OU
 use dcel_store::{EdgeData, Store};
 use std::alloc::Allocator;
 
-/// Puts a triangle beside the half edge `edge`, with its third corner at `tip`.
+/// Adds a triangle beside the half edge `edge`, with its third corner at `tip`.
 pub fn put_beside<V, DE: Default, UE: Default, F: Default, A: Allocator>(
     store: &mut Store<V, DE, UE, F, A>,
     edge: FixedDirectedEdgeHandle,
@@ -48,9 +48,9 @@ pub fn put_beside<V, DE: Default, UE: Default, F: Default, A: Allocator>(
     store.set_vertex_anchor(tip, Some(back));
 }
 
-/// Closes a triangle by an edge after the half edge `edge` of the outer face and the next one.
+/// Closes a triangle by an edge, after the half edge `edge` of the outer face and the next one.
 ///
-/// It returns the half of the new edge that takes their place on the outer face.
+/// It returns the half of the new edge that replaces them on the outer face.
 pub fn put_closing<V, DE: Default, UE: Default, F: Default, A: Allocator>(
     store: &mut Store<V, DE, UE, F, A>,
     edge: FixedDirectedEdgeHandle,

@@ -1,4 +1,4 @@
-//! Vertices and faces under new numbers: the links that name them, and two vertices exchanged.
+//! Vertices and faces under new numbers: renaming them in links, and swapping two vertices.
 
 ghost use Rattle.std.specs.Prelude.{◌≡◌};
 ghost use Rattle.dcel_edits.specs.Rename.{CanExchange, CanTurn, turn_renamed, vertices_exchanged};
@@ -8,7 +8,7 @@ use dcel_fixed::{FixedFaceHandle, FixedVertexHandle, PossiblyOuterTag};
 use dcel_store::Store;
 use std::alloc::Allocator;
 
-/// Exchanges the data, the anchors and the out edges of two vertices.
+/// Swaps the data, the anchors and the out edges of two vertices.
 pub fn exchange_vertices<V, DE, UE, F, A: Allocator>(
     store: &mut Store<V, DE, UE, F, A>,
     first: FixedVertexHandle,

@@ -1,4 +1,4 @@
-//! Vertices in the middle of edges that have one face on both sides.
+//! Splitting edges that have the same face on both sides.
 
 ghost use Rattle.std.specs.Prelude.{◌≡◌, ◌*◌, length};
 ghost use Rattle.dcel_maps.specs.edits.DefaultData.{AddsEdge};
@@ -9,9 +9,9 @@ use dcel_fixed::{FixedDirectedEdgeHandle, FixedVertexHandle};
 use dcel_store::{EdgeData, Store};
 use std::alloc::Allocator;
 
-/// Puts the vertex `middle` into an edge whose halves lie on one face.
+/// Splits an edge whose halves are on one face at the vertex `middle`.
 ///
-/// Afterwards `edge` ends there, and the half edge that is returned leads on to where `edge` ended.
+/// Afterwards `edge` ends there. It returns the half edge that leads on to the old end of `edge`.
 pub fn put_middle<V, DE: Default, UE: Default, F, A: Allocator>(
     store: &mut Store<V, DE, UE, F, A>,
     edge: FixedDirectedEdgeHandle,

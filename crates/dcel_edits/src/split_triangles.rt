@@ -1,4 +1,4 @@
-//! Vertices in the middle of edges, where the triangle on one side or on each is cut in two.
+//! Splitting edges, where the triangle on one side or on each is cut in two.
 
 ghost use Rattle.std.specs.Prelude.{◌≡◌, ◌+◌, ◌*◌, ◌<◌, length, slice_index, slice_set};
 ghost use Rattle.dcel_fixed.specs.HalfEdges.{rev};
@@ -13,8 +13,8 @@ use dcel_fixed::{FixedDirectedEdgeHandle, FixedFaceHandle, FixedVertexHandle};
 use dcel_store::{EdgeData, Store};
 use std::alloc::Allocator;
 
-// The sectors that a vertex in the middle of an edge makes of the triangles on both sides, in
-// their order around that vertex.
+// The sectors that a vertex in the middle of an edge forms in the triangles on both sides, in their
+// order around that vertex.
 #[derive(Clone, Copy)]
 struct Round {
     after_twin: Sector,
@@ -24,7 +24,7 @@ struct Round {
 }
 
 impl Round {
-    // Makes the sectors around the middle of an edge, with three new edges between them.
+    // Returns the sectors around the middle of an edge, with three new edges between them.
     fn new<V, DE, UE, F, A: Allocator>(
         store: &Store<V, DE, UE, F, A>,
         edge: FixedDirectedEdgeHandle,
@@ -102,10 +102,10 @@ impl Round {
     }
 }
 
-/// Puts the vertex `middle` into an edge between two triangles, and joins it to their other
+/// Splits an edge between two triangles at the vertex `middle`, and joins it to the opposite
 /// corners.
 ///
-/// Afterwards `edge` ends there, and the half edge that is returned leads on to where `edge` ended.
+/// Afterwards `edge` ends there. It returns the half edge that leads on to the old end of `edge`.
 pub fn put_middle_of_both<V, DE: Default, UE: Default, F: Default, A: Allocator>(
     store: &mut Store<V, DE, UE, F, A>,
     edge: FixedDirectedEdgeHandle,
@@ -135,10 +135,10 @@ pub fn put_middle_of_both<V, DE: Default, UE: Default, F: Default, A: Allocator>
     third.prev
 }
 
-/// Puts the vertex `middle` into an edge that has a triangle on the side of `edge`, and joins it to
-/// the other corner of that triangle.
+/// Splits an edge that has a triangle on the side of `edge` at the vertex `middle`, and joins it to
+/// the opposite corner of that triangle.
 ///
-/// Afterwards `edge` ends there, and the half edge that is returned leads on to where `edge` ended.
+/// Afterwards `edge` ends there. It returns the half edge that leads on to the old end of `edge`.
 pub fn put_middle_of_one<V, DE: Default, UE: Default, F: Default, A: Allocator>(
     store: &mut Store<V, DE, UE, F, A>,
     edge: FixedDirectedEdgeHandle,

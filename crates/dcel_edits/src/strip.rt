@@ -1,4 +1,4 @@
-//! A vertex of the outer face cut off, with the triangles around it.
+//! Cutting off a vertex of the outer face, with the triangles around it.
 
 ghost use Rattle.std.specs.Prelude.{◌≡◌, [], ◌∷◌};
 ghost use Rattle.dcel_edits.specs.Strip.{CanCutStrip, CanLeadAlong, CanMoveOut, all_moved_out, led_along, strip_stored};
@@ -8,7 +8,7 @@ use dcel_fixed::{FixedDirectedEdgeHandle, OUTER_FACE};
 use dcel_store::Store;
 use std::alloc::Allocator;
 
-/// Cuts off a strip: the outer face goes along `items` and `last`, past the vertex before `last`.
+/// Cuts off a strip: the outer face runs along `items` and `last`, past the vertex before `last`.
 pub fn put_strip_cut<V, DE, UE, F, A: Allocator>(
     store: &mut Store<V, DE, UE, F, A>,
     items: &[FixedDirectedEdgeHandle],
@@ -20,7 +20,7 @@ pub fn put_strip_cut<V, DE, UE, F, A: Allocator>(
     let outer_out = store.prev(last);
     let vertex = store.origin(outer_out);
     let before = store.prev(store.prev(outer_out));
-    // `last` lies on the outer face already, and stays there.
+    // `last` is on the outer face already, and stays there.
     store.set_face_anchor(OUTER_FACE, Some(last));
     move_out(store, items);
     let end = lead_along(store, before, items);

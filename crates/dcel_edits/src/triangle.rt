@@ -1,4 +1,4 @@
-//! A first triangle, and a vertex in a triangle.
+//! Writing a first triangle, and inserting a vertex into a triangle.
 
 ghost use Rattle.std.specs.Prelude.{◌≡◌, ◌<◌, ◌^◌};
 ghost use Rattle.dcel_store.specs.Lists as lists;

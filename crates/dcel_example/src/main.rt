@@ -1,5 +1,6 @@
-//! Programs over the layer, a file for each: a mesh edited, what calls ask for, a mesh made finer,
-//! ways on its graph, its Voronoi diagram, and edges flipped by a rule of the caller's own.
+//! Example programs over `spade_dcel`, one per file: edit a mesh, meet what calls ask for, refine a
+//! mesh, find paths on its graph, read its Voronoi diagram, and flip edges by a rule of the
+//! caller's own. Start with `editing`.
 #![tactic(auto)]
 
 mod asking;

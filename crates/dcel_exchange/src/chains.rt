@@ -1,4 +1,4 @@
-//! The edges of sides, found by their ends.
+//! Finding the edges of sides by their ends.
 
 ghost use Rattle.std.specs.Prelude.{◌≡◌, ◌≢◌, ℕ, ◌+◌, ◌^◌, ◌<◌, ◌≤◌, ◌==◌, [], ◌∷◌, ◌++◌, IfOk, None, OnOk, Some, count_by, length, slice_index, slice_index_or, slice_set, true};
 ghost use Rattle.dcel_exchange.specs.Chains.{AreChained, IsFound, hangs};

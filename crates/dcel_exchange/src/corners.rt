@@ -1,4 +1,4 @@
-//! The corners of each face, and the faces as lists of these.
+//! The corners of each face, and the faces as lists of corners.
 
 ghost use Rattle.std.specs.Prelude.{◌≡◌, IfOk, map};
 ghost use Rattle.std.specs.Iterator.{YieldsFirst, item_count};
@@ -18,8 +18,8 @@ use std::marker::Model;
 
 /// The corners of a face, by number, counterclockwise.
 ///
-/// The first is where the face's anchor starts. A vertex that the face passes twice comes twice.
-/// Does not allocate. Contracts see the corners that it has still to give.
+/// The first is where the face's anchor starts. A vertex that the face passes twice comes twice. It
+/// does not allocate. Contracts see the corners still to come.
 #[derive(Drop)]
 pub struct CornerIterator<'a, V, DE, UE, F, A: Allocator = Global> {
     edges: CircularIterator<'a, V, DE, UE, F, HullNextBackFn, A>,
@@ -61,7 +61,7 @@ fn origin_number<V, DE, UE, F, A: Allocator>(edge: DirectedEdgeHandle<'_, V, DE,
 
 /// The corners of each inner face of a mesh, in the order of the faces' numbers.
 ///
-/// Does not allocate. Contracts see the lists of corners that it has still to give.
+/// It does not allocate. Contracts see the lists of corners still to come.
 #[derive(Drop)]
 pub struct FaceIterator<'a, V, DE, UE, F, A: Allocator = Global> {
     faces: LiveInnerFaceIterator<'a, V, DE, UE, F, A>,

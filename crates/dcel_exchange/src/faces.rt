@@ -1,4 +1,4 @@
-//! A mesh made of faces with their corners.
+//! Constructing a mesh from faces with their corners.
 
 ghost use Rattle.std.specs.Prelude.{◌≡◌, ◌+◌, ◌/◌, All, IfErr, IfOk, length, map};
 ghost use Rattle.dcel_exchange.specs.Corners.{corners_of};
@@ -21,23 +21,24 @@ use spade_dcel::operations::{EdgeData, LinksError, MeshData, from_links};
 use std::alloc::{AllocError, Allocator};
 use std::convert::AsSlice;
 
-/// Makes a mesh of faces, each the list of its corners, counterclockwise.
+/// Constructs a mesh from faces, each the list of its corners, counterclockwise (positively
+/// oriented).
 ///
-/// The faces keep their order, from number 1 on; face 0, the outer one, is what they leave. So the
-/// caller leaves out one face of a closed surface; with all of them there is no outer face, and
-/// they are refused. The vertices keep their numbers, and a vertex need not be a corner. The edges
-/// are numbered in the order in which their first sides come, face by face, and
-/// such a side is the even half edge. Data of edges and faces are defaults, and no removal is open.
+/// The faces keep their order, from number 1 on; face 0, the outer one, is what they leave. So for
+/// a closed surface the caller omits one face; if all are given there is no outer face, and they
+/// are refused. The vertices keep their numbers, and a vertex need not be a corner. The edges are
+/// numbered in the order of their first sides, face by face, and such a side is the even half edge.
+/// Data of edges and faces are defaults, and no removal is open.
 ///
-/// It takes any lists. If it refuses them, the vertices come back with a reason ([`FacesError`]).
-/// Then no mesh in which no two edges join the same two vertices has these corners, unless memory
-/// ran out or there are too many corners. After [`BorderTwice`](FacesError::BorderTwice) such a
-/// mesh may have them, but its outer face passes that vertex twice, and the lists don't tell how
-/// the faces lie round it.
+/// Any lists may be given. If they are refused, the data of the vertices are returned with a reason
+/// ([`FacesError`]). Then no mesh in which no two edges join the same two vertices has these
+/// corners, unless memory ran out or there are too many corners. After
+/// [`BorderTwice`](FacesError::BorderTwice) such a mesh may have them, but its outer face passes
+/// that vertex twice, and the lists don't say how the faces are arranged around it.
 ///
-/// It goes over the sides a fixed number of times, and looks each up once by its ends. For the
-/// faces of a mesh that takes linear time in all, and for any other faces at most their number of
-/// sides times its square root.
+/// It reads the sides a fixed number of times, and looks each up once by its ends. For the faces of
+/// a mesh that takes linear time in all, and for any other faces at most their number of sides
+/// times its square root.
 pub fn from_faces<
     V: Drop,
     DE: Drop + Default,
@@ -66,8 +67,8 @@ pub fn from_faces<
     from_lists(alloc, vertices, faces)
 }
 
-/// Makes a mesh of triangles, each its three corners, counterclockwise, as [`from_faces`] does of
-/// the same faces.
+/// Constructs a mesh from triangles, each its three corners, counterclockwise, as [`from_faces`]
+/// does from the same faces.
 pub fn from_triangles<
     V: Drop,
     DE: Drop + Default,
@@ -95,7 +96,7 @@ pub fn from_triangles<
     from_lists(alloc, vertices, triangles)
 }
 
-// Makes a mesh of faces in whatever lends their corners.
+// Constructs a mesh from faces in whatever lends their corners.
 fn from_lists<
     V: Drop,
     DE: Drop + Default,

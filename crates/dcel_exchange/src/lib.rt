@@ -1,9 +1,10 @@
-//! Meshes in and out: as lists of links, and as faces with their corners.
+//! Meshes in and out, as lists of links and as faces with their corners, for files and other
+//! languages. It uses public calls of `spade_dcel`.
 //!
-//! [`links`], [`link_lists`] and [`anchor_lists`] give what `from_links` and `from_anchored_links`
-//! of `spade_dcel` take, and [`with_data`] makes the same mesh again over other data.
-//! [`from_faces`] makes a mesh of faces that are given as lists of vertices, [`from_triangles`] of
-//! triangles, and [`face_corners`] and [`face_lists`] give the faces of a mesh.
+//! [`links`], [`link_lists`] and [`anchor_lists`] return what `from_links` and
+//! `from_anchored_links` of `spade_dcel` take, and [`with_data`] constructs the same mesh with
+//! other data. [`from_faces`] constructs a mesh from faces as lists of vertices, [`from_triangles`]
+//! from triangles, and [`face_corners`] and [`face_lists`] return the faces of a mesh.
 #![tactic(auto)]
 
 mod chains;

@@ -1,4 +1,4 @@
-//! The links of numbered sides, and of the border that they leave.
+//! The links of numbered sides, and of the border around them.
 
 ghost use Rattle.std.specs.Prelude.{◌≡◌, ℕ, ◌+◌, ◌^◌, ◌<◌, ◌≤◌, IfErr, IfOk, OnOk, None, Some, length, slice_index, slice_index_or};
 ghost use Rattle.dcel_exchange.specs.Bordering.{AreFound, AreLinked};
@@ -73,7 +73,7 @@ fn found_at<A: Allocator>(border: &Vec<Option<u32>, A>, vertex: u32) -> Option<u
     border[vertex as usize]
 }
 
-/// Lists what comes after each half edge, and on which face it lies.
+/// Lists the next half edge and the face of each half edge.
 pub(crate) fn list_links<A: Allocator + Clone>(
     alloc: &A,
     sides: &Sides<A>,
@@ -119,7 +119,7 @@ fn next_after<A: Allocator>(
     }
 }
 
-/// Returns the face that a half edge lies on.
+/// Returns the face of a half edge.
 fn face_of<A: Allocator>(sides: &Sides<A>, numbering: &Numbering<A>, half: usize) -> u32
     requires numbered { AreNumbered sides.now.from.items sides.now.to.items (length sides.now.from.items) numbering.now.half.items numbering.now.side.items numbering.now.origin.items }
     requires faces { length sides.now.face.items ≡ length sides.now.from.items }

@@ -1,4 +1,4 @@
-//! Links and anchors as lists, and a mesh made again from them.
+//! Links and anchors as lists, and a mesh constructed again from them.
 
 ghost use Rattle.std.specs.Prelude.{◌≡◌, ℕ, IfErr, IfOk, length};
 ghost use Rattle.std.specs.Option.{option_map};
@@ -22,11 +22,11 @@ use std::alloc::{AllocError, Allocator, Global};
 /// The links of a mesh as lists of their own, with an item for each half edge.
 #[derive(Drop)]
 pub struct LinkLists<A: Allocator = Global> {
-    /// The half edge after each one on its face.
+    /// The next half edge of each one around its face.
     pub next: Vec<u32, A>,
-    /// The vertex that each one starts at.
+    /// The vertex where each one starts.
     pub origin: Vec<u32, A>,
-    /// The face that each one lies on.
+    /// The face of each one.
     pub face: Vec<u32, A>,
 }
 
@@ -48,7 +48,7 @@ impl<A: Allocator> LinkLists<A> {
 pub struct AnchorLists<A: Allocator = Global> {
     /// The anchor of each vertex: a half edge that starts there, or None where none does.
     pub vertices: Vec<Option<u32>, A>,
-    /// The anchor of each face: a half edge that lies there, or None where none does.
+    /// The anchor of each face: a half edge of its boundary cycle, or None if that is empty.
     pub faces: Vec<Option<u32>, A>,
 }
 
@@ -147,16 +147,16 @@ fn anchor<V, DE, UE, F, A: Allocator>(
     }
 }
 
-/// Makes the mesh again, over other data, which may be of other types.
+/// Constructs the same mesh over other data, which may be of other types.
 ///
 /// It has the same vertices, half edges and faces with the same numbers, links, words and anchors,
-/// so that walks begin where they began. This is the law of the way there and back:
-/// `from_anchored_links` of the lists of [`link_lists`] and [`anchor_lists`] makes the mesh that
-/// they were read from, unless memory runs out.
+/// so walks start where they started. This is the round-trip law: `from_anchored_links` of the
+/// lists of [`link_lists`] and [`anchor_lists`] constructs the mesh that they were read from,
+/// unless memory runs out.
 ///
 /// Asks that no removal is open ([`removal_state`](Dcel::removal_state) is `Closed`), and for a
 /// datum for each vertex, edge and face (`num_vertices`, `num_undirected_edges`, `num_faces`). The
-/// data come back if memory runs out, and for no other reason.
+/// data are returned if memory runs out, and for no other reason.
 pub fn with_data<
     V: Drop,
     DE: Drop,

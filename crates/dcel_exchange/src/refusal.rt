@@ -5,31 +5,31 @@ use std::alloc::AllocError;
 use std::error::Error;
 use std::fmt;
 
-/// The reason why no mesh was made of faces.
+/// The reason why faces were refused.
 ///
-/// Faces are told by their places in the list, from 0 on, and corners by their vertices.
+/// Faces are given by their places in the list, from 0 on, and corners by their vertices.
 #[derive(Clone, Copy, PartialEq, Eq, Debug, Drop)]
 pub enum FacesError {
     /// This face has fewer than three corners.
     FewCorners(usize),
     /// There are more than 2^31 corners.
     TooManyCorners,
-    /// This face has this corner, which is no vertex.
+    /// This face has this corner, which is not a vertex.
     NoVertex(u32, u32),
     /// A side of this face starts and ends at this vertex.
     OneEnd(u32, u32),
     /// These two faces, or one face twice, have a side from this vertex to that one.
     ///
-    /// So it is where three faces meet along an edge, and where two neighbors go round in different
-    /// ways.
+    /// That is so where three faces meet along an edge, and where two neighbors are oriented in
+    /// opposite ways.
     SideTwice(u32, u32, u32, u32),
-    /// Two sides that no face lies beyond end at this vertex.
+    /// Two sides with no face on the other side end at this vertex.
     BorderTwice(u32),
-    /// With these corners, the first thing that is wrong with the links of the half edges. In it
-    /// half edges, vertices and faces have the numbers of the mesh: face 0 is the outer one, and
-    /// place `k` of the list is face `k + 1`.
+    /// With these corners, the first fault of the links of the half edges. In it half edges,
+    /// vertices and faces have the numbers of the mesh: face 0 is the outer one, and place `k` of
+    /// the list is face `k + 1`.
     Links(LinksFault),
-    /// There was no memory. That can come at any time, also before what is wrong is found.
+    /// Memory ran out. That can come at any stage, even before a fault is found.
     OutOfMemory,
 }
 
@@ -88,12 +88,12 @@ impl From<AllocError> for FacesError {
     }
 }
 
-/// The vertices' data that were handed in, given back with the reason why there is no mesh.
+/// The data of the vertices that were passed in, returned with the reason why there is no mesh.
 #[derive(Drop)]
 pub struct RefusedFaces<T> {
     /// The reason.
     pub reason: FacesError,
-    /// The value that was handed in.
+    /// The value that was passed in.
     pub back: T,
 }
 

@@ -1,4 +1,4 @@
-//! The sides of all faces in one row, face by face.
+//! The sides of all faces in one list, face by face.
 
 ghost use Rattle.std.specs.Prelude.{◌≡◌, ◌≢◌, ℕ, ◌+◌, ◌^◌, ◌<◌, ◌≤◌, ◌++◌, IfErr, IfOk, OnOk, length, map, replicate, slice_index};
 ghost use Rattle.dcel_exchange.specs.Corners.{AreSides, turned};
@@ -12,7 +12,7 @@ use std::convert::AsSlice;
 // The most corners that there may be, so that half edges have numbers below 2^32.
 const MOST: usize = 2_147_483_648;
 
-/// The sides of faces, in the order in which they stand there: side `k` of a face leads from its
+/// The sides of faces, in the order of their corners: side `k` of a face leads from its
 /// corner `k` to the next one.
 #[derive(Drop)]
 pub(crate) struct Sides<A: Allocator> {

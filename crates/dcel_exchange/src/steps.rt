@@ -17,17 +17,17 @@ use std::marker::Model;
 /// The links of a half edge, by number.
 #[derive(Clone, Copy, PartialEq, Eq, Debug, Drop)]
 pub struct Link {
-    /// The half edge after it on its face.
+    /// The next half edge around its face.
     pub next: u32,
-    /// The vertex that it starts at.
+    /// The vertex where it starts.
     pub origin: u32,
-    /// The face that it lies on.
+    /// Its face.
     pub face: u32,
 }
 
 /// The links of the half edges of a mesh, in the order of their numbers.
 ///
-/// Does not allocate. Contracts see the links that it has still to give.
+/// It does not allocate. Contracts see the links still to come.
 #[derive(Drop)]
 pub struct LinkIterator<'a, V, DE, UE, F, A: Allocator = Global> {
     edges: LiveDirectedEdgeIterator<'a, V, DE, UE, F, A>,
@@ -74,8 +74,8 @@ fn read_link<V, DE, UE, F, A: Allocator>(edge: DirectedEdgeHandle<'_, V, DE, UE,
 
 /// Returns the links of all half edges, in the order of their numbers.
 ///
-/// Asks that no removal is open ([`removal_state`](Dcel::removal_state) is `Closed`): then all
-/// half edges are live, and the first has number 0, the next one number 1, and so on.
+/// Asks that no removal is open ([`removal_state`](Dcel::removal_state) is `Closed`): then all half
+/// edges are live, and the items are those of half edges 0, 1 and so on.
 #[inline]
 pub fn links<V, DE, UE, F, A: Allocator>(
     dcel: &Dcel<V, DE, UE, F, A>,

@@ -1,5 +1,6 @@
-//! What static libraries share whose exports answer into a caller's buffer: statuses, a list put
-//! into a buffer, and the replies to lines, in whatever memory.
+//! What static libraries share whose exports write answers into a caller's buffer: the statuses
+//! that they return, a list written into a buffer ([`put`]), and the replies to lines
+//! ([`put_replies`]), in any memory. It uses `dcel_commands`.
 #![tactic(auto)]
 
 mod buffer;

@@ -1,12 +1,12 @@
 //! Fixed handles of a half-edge mesh: the numbers of its vertices, half edges, edges and faces,
-//! each with a type of its own.
+//! each with a type of its own. The crate uses no other; start with [`FixedHandleImpl`].
 //!
-//! A fixed handle borrows no mesh. It names an element of whatever mesh it is given to, so it can
-//! be stored, copied and compared while the mesh changes. Whether an element stands under its
-//! number is for the mesh to say.
+//! A fixed handle borrows no mesh. It names an element of whatever mesh it is passed to, so it can
+//! be stored, copied and compared while the mesh changes. The mesh decides whether it has an
+//! element with that number.
 //!
-//! Numbers of half edges and edges go together: edge `u` consists of the half edges `2 * u`, which
-//! is called normalized, and `2 * u + 1`. Face 0 is the outer face.
+//! Edge `u` consists of the half edges `2 * u`, which is called normalized, and `2 * u + 1`. Face 0
+//! is the outer face.
 #![tactic(auto)]
 
 ghost use Rattle.std.specs.Prelude.{◌≡◌, ℕ, ◌+◌, ◌*◌, ◌/◌, ◌%◌, ◌^◌, ◌<◌, ◌↔◌, IsTrue, IsNone, IfSome, [], ◌∷◌, codes, List};
@@ -51,7 +51,7 @@ pub struct UndirectedVoronoiEdgeTag;
 #[derive(Clone, Copy, PartialEq, Eq, PartialOrd, Ord, Debug, Default, Hash)]
 pub struct VoronoiFaceTag;
 
-/// Tells whether a handle may name the outer face: [`InnerTag`] or [`PossiblyOuterTag`].
+/// A tag that says whether a handle may name the outer face: [`InnerTag`] or [`PossiblyOuterTag`].
 pub trait InnerOuterMarker: Copy + Ord + Debug + Default + Hash {
     // The bytes that `debug_string` returns.
     ghost name: { List ℕ };
@@ -63,8 +63,8 @@ pub trait InnerOuterMarker: Copy + Ord + Debug + Default + Hash {
 
 /// Marks handles that aren't meant for the outer face.
 ///
-/// The number of a face so marked may still be 0: whoever makes the handle sees to it. Calls that want
-/// an inner face ask for one.
+/// A face with this marker may still have number 0: whoever creates the handle has to rule that
+/// out. Calls that need an inner face ask for one.
 #[derive(Clone, Copy, PartialEq, Eq, PartialOrd, Ord, Debug, Default, Hash)]
 pub struct InnerTag;
 
@@ -90,8 +90,8 @@ impl InnerOuterMarker for PossiblyOuterTag {
 
 /// The number of an element, below 2^32, with its kind and its marker as types.
 ///
-/// Contracts see the number alone, and so do `==`, `<` and the hash. Use it by its aliases, such as
-/// [`FixedVertexHandle`].
+/// Contracts see the number alone, and only the number counts for `==`, `<` and the hash. Use the
+/// aliases, such as [`FixedVertexHandle`].
 #[derive_where(Clone, Copy, PartialEq, Eq, PartialOrd, Ord, Hash)]
 pub struct FixedHandleImpl<Kind, InnerOuter: InnerOuterMarker> {
     index: u32,
@@ -131,7 +131,7 @@ pub const OUTER_FACE: FixedFaceHandle<PossiblyOuterTag> = FixedHandleImpl {
 /// The same as [`OUTER_FACE`].
 pub const OUTER_FACE_HANDLE: FixedFaceHandle<PossiblyOuterTag> = OUTER_FACE;
 
-/// Makes the handle of the face `index`.
+/// Creates the handle of the face `index`.
 ///
 /// Asks that the number is below 2^32.
 #[inline]
@@ -144,7 +144,7 @@ pub fn new_fixed_face_handle(index: usize) -> FixedFaceHandle<PossiblyOuterTag>
 
 /// Returns the number of the other half edge of the same edge, for numbers that aren't handles yet.
 ///
-/// It differs in the last bit alone, so it is below 2^32 where the number is.
+/// It differs only in the last bit, so it is below 2^32 if the number is.
 #[inline]
 #[tactic(auto, using(crate::proofs::Halves::xor_one, crate::proofs::Halves::rev_within))]
 pub fn other_half(half: usize) -> usize
@@ -155,7 +155,7 @@ pub fn other_half(half: usize) -> usize
 }
 
 impl<Kind, InnerOuter: InnerOuterMarker> FixedHandleImpl<Kind, InnerOuter> {
-    /// Makes the handle of the element `index`.
+    /// Creates the handle of the element `index`.
     ///
     /// Asks that the number is below 2^32.
     #[inline]
@@ -177,8 +177,8 @@ impl<Kind, InnerOuter: InnerOuterMarker> FixedHandleImpl<Kind, InnerOuter> {
 
     /// Returns the handle with the same number and another marker.
     ///
-    /// [`InnerTag`] is given to face 0 too: [`as_inner`](FixedFaceHandle::as_inner) is the call
-    /// that rules the outer face out.
+    /// It gives [`InnerTag`] to face 0 too; to exclude the outer face, use
+    /// [`as_inner`](FixedFaceHandle::as_inner).
     #[inline]
     pub fn adjust_inner_outer<TargetInnerOuter: InnerOuterMarker>(
         &self,
@@ -201,7 +201,7 @@ impl<Kind, InnerOuter: InnerOuterMarker> FixedHandleImpl<Kind, InnerOuter> {
 }
 
 impl FixedVertexHandle {
-    /// Makes the handle of the vertex `index`.
+    /// Creates the handle of the vertex `index`.
     ///
     /// Asks that the number is below 2^32.
     #[inline]
@@ -214,7 +214,7 @@ impl FixedVertexHandle {
 }
 
 impl FixedDirectedEdgeHandle {
-    /// Makes the handle of the normalized half edge of the edge `index`.
+    /// Creates the handle of the normalized half edge of the edge `index`.
     ///
     /// Asks that the edge's number is below 2^31, so that the half edge's is below 2^32.
     #[inline]
@@ -235,7 +235,7 @@ impl FixedDirectedEdgeHandle {
 
     /// Returns the other half edge of the same edge.
     ///
-    /// Its number differs in the last bit alone.
+    /// Its number differs only in the last bit.
     #[inline]
     #[tactic(auto, using(crate::proofs::Halves::xor_one))]
     pub fn rev(self) -> Self
@@ -303,7 +303,7 @@ impl FixedFaceHandle<PossiblyOuterTag> {
 }
 
 impl<Kind, InnerOuter: InnerOuterMarker> Debug for FixedHandleImpl<Kind, InnerOuter> {
-    /// Writes the number alone, as in `FixedHandle { index: 3 }`.
+    /// Writes only the number, for example `FixedHandle { index: 3 }`.
     fn fmt<W: fmt::Write>(&self, f: &mut fmt::Formatter<W>) -> fmt::Result {
         f.debug_struct("FixedHandle")
             .field("index", &self.index)

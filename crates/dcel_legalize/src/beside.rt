@@ -1,4 +1,4 @@
-//! Lists of edges that lie on the two triangles at an edge.
+//! Listing the other edges of the two triangles at an edge.
 
 ghost use Rattle.std.specs.Prelude.{◌≡◌, ◌+◌, ◌≤◌, ◌++◌, true, vec_len, vec_capacity};
 ghost use Rattle.dcel_legalize.specs.Flipping.{edges_beside, sides_beside};
@@ -11,10 +11,10 @@ use std::alloc::Allocator;
 /// Appends the other sides of the two triangles at an edge to a list: first the edges after and
 /// before its normalized half, then those after and before the other half.
 ///
-/// A flip of the edge changes the triangles at these four, so a legalization looks at them again.
+/// A flip of the edge changes the triangles at these four, so a legalization tests them again.
 ///
 /// Asks for a live edge ([`is_live_edge`](Dcel::is_live_edge)), and for room in the list for four
-/// more, as [`reserve`](Vec::reserve) makes it.
+/// more, which [`reserve`](Vec::reserve) provides.
 pub fn append_sides<V, DE, UE, F, A: Allocator, L: Allocator>(
     dcel: &Dcel<V, DE, UE, F, A>,
     edge: FixedUndirectedEdgeHandle,

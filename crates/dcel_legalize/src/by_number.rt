@@ -12,7 +12,7 @@ use std::alloc::Allocator;
 
 /// Flips edges towards vertices with lower numbers, as [`legalize_edges`] does.
 ///
-/// An edge is wanted if the lesser of the two corners opposite it is below the lesser of its two
+/// An edge is illegal if the lesser of the two corners opposite it is below the lesser of its two
 /// ends.
 pub fn legalize_by_number<V, DE, UE, F, A: Allocator, L: Allocator>(
     dcel: &mut Dcel<V, DE, UE, F, A>,

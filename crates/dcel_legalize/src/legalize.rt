@@ -1,4 +1,4 @@
-//! Legalization by a test that the caller passes: one flip after another, from a list of edges.
+//! Legalization by a test that the caller passes: flips, one by one, from a list of edges.
 
 ghost use Rattle.std.specs.Prelude.{◌≡◌, ◌↔◌, ℕ, Bool, List, IsTrue, true};
 ghost use Rattle.std.specs.Fn.{FnReturnsAt};
@@ -19,21 +19,21 @@ use std::alloc::Allocator;
 /// Flips edges until none is left that can be flipped and is wanted, or `max_flips` are flipped.
 ///
 /// It takes the last edge off the list, again and again. If the edge can be flipped
-/// ([`can_flip`](Dcel::can_flip)) and is wanted, it flips it ([`flip_cw`]) and appends it and the
-/// other edges of its two triangles to the list. Otherwise it skips the edge. Given-up edges and
-/// numbers out of range are skipped too.
+/// ([`can_flip`](Dcel::can_flip)) and is wanted, it is an illegal edge: it is flipped
+/// ([`flip_cw`]), and appended to the list with the other edges of its two triangles. Otherwise it
+/// is skipped. Given-up edges and numbers out of range are skipped too.
 ///
 /// `wanted` is called with four vertices: the start and the end of the edge's normalized half, and
 /// the corners opposite the edge, the one on the side of this half first. It must be callable with
 /// any four. The clause `run` says something only if `wanted` always returns the same for the same
 /// four vertices.
 ///
-/// After [`Legalized::Done`], nothing is left to flip: no edge of the list, and no edge that came
-/// to lie beside a flipped one, can be flipped and is wanted. If the list had every such edge of
-/// the mesh, then none is left in the mesh. Some tests would go on forever, hence `max_flips`.
+/// After [`Legalized::Done`] nothing is left to flip: no edge of the list, and no edge of a
+/// triangle that a flip changed, can be flipped and is wanted. If the list had every such edge of
+/// the mesh, then none is left in the mesh. With some tests it would never end, hence `max_flips`.
 ///
-/// These are the flips of C. L. Lawson ("Software for C1 surface interpolation", 1977), as `spade` makes
-/// them for a triangulation.
+/// These are the flips of C. L. Lawson ("Software for C1 surface interpolation", 1977), as `spade`
+/// performs them in a triangulation.
 ///
 /// After [`Legalized::Stopped`], and after [`Legalized::OutOfMemory`] if the list cannot grow, such
 /// an edge is left. The flips made so far remain in each case.

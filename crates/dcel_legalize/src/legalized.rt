@@ -6,12 +6,12 @@ ghost use Rattle.dcel_legalize.specs.Outcome.{flips_told};
 /// How [`legalize_edges`](crate::legalize_edges) ended, with the number of flips made.
 #[derive(Clone, Copy, PartialEq, Eq, Debug)]
 pub enum Legalized {
-    /// No edge of the list, and none that came to lie beside a flipped one, is left to flip.
+    /// No edge of the list, and none of a triangle that a flip changed, is left to flip.
     Done {
         /// The number of flips.
         flips: usize,
     },
-    /// As many flips were made as are allowed, and another one is due.
+    /// The greatest allowed number of flips was made, and another one is due.
     Stopped {
         /// The number of flips.
         flips: usize,

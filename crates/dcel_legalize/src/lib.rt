@@ -1,7 +1,8 @@
-//! Legalization: flips the edges of a list, and then those beside them, until no edge is left that
-//! can be flipped and is wanted.
+//! Legalization: flips the illegal edges of a list, and then those beside them, until none is left
+//! that can be flipped. The caller's rule says which edges are illegal.
 //!
-//! It uses only public calls of the mesh, so a caller can write a variant of it.
+//! Start with [`legalize_edges`]. It uses only public calls of `spade_dcel`, so a caller can write
+//! a variant of it.
 #![tactic(auto)]
 
 mod beside;

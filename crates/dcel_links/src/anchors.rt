@@ -1,14 +1,14 @@
-//! Half edges that are given as anchors of vertices or faces.
+//! Checking half edges that are given as anchors of vertices or faces.
 
 ghost use Rattle.std.specs.Prelude.{◌≡◌, ◌≢◌, ℕ, ◌<◌, IfNone, IfSome, None, length, slice_index};
 ghost use Rattle.dcel_links.specs.Anchors.{AreAnchors, IsAnchor, IsAnchoredAt, anchor_of};
 
 /// Looks for a wrong anchor among those of vertices, or among those of faces.
 ///
-/// `labels` has an item for each half edge: the vertex that it starts at, or the face that it lies
-/// on. `anchors` has one for each vertex or face: a half edge of it, or None if it has none. It
-/// returns a number whose anchor is wrong, if there is one. It takes any lists, goes over each once,
-/// and takes no memory.
+/// `labels` has an item for each half edge: the vertex where it starts, or its face. `anchors` has
+/// one for each vertex or face: one of its half edges, or None if it has none. Returns a number
+/// whose anchor is wrong, if there is one. Any lists may be given. It reads each once, and
+/// allocates nothing.
 pub fn find_wrong_anchor(labels: &[u32], anchors: &[Option<u32>]) -> Option<usize>
     ensures right { IfNone result (AreAnchors labels.now anchors.now) }
     ensures below { IfSome result (λ v. v < length anchors.now) }

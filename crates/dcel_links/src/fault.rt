@@ -3,45 +3,45 @@
 use std::error::Error;
 use std::fmt;
 
-/// The reason why claimed links are refused, in the order in which reasons are looked for.
+/// The reason why claimed links are refused. Reasons are tested in this order.
 ///
-/// The three ranges are looked at together, half edge by half edge, and so is whether links fit:
+/// The three ranges are tested together, half edge by half edge, and so is whether links fit:
 /// [`OneEnd`](Self::OneEnd), [`Apart`](Self::Apart) and [`LeavesFace`](Self::LeavesFace). Half
-/// edges, vertices and faces are told by their numbers.
+/// edges, vertices and faces are given by their numbers.
 #[derive(Clone, Copy, PartialEq, Eq, Debug, Drop)]
 pub enum LinksFault {
-    /// The lists are not of one length, or it is odd.
+    /// The lists differ in length, or their length is odd.
     Lengths,
     /// There are more than 2^32 vertices, half edges or faces.
     TooMany,
     /// There is no outer face.
     NoFace,
-    /// There are more faces than edges and two.
+    /// There are more faces than edges plus two.
     MoreFaces,
-    /// What comes after this half edge is no half edge.
+    /// The next half edge of this one is out of range.
     NextOutOfRange(usize),
-    /// This half edge starts at no vertex.
+    /// The origin of this half edge is out of range.
     OriginOutOfRange(usize),
-    /// This half edge lies on no face.
+    /// The face of this half edge is out of range.
     FaceOutOfRange(usize),
-    /// Two half edges lead to this one.
+    /// This half edge is the next one of two half edges.
     TwoLeadTo(usize),
-    /// Both ends of this half edge are one vertex.
+    /// This half edge starts and ends at the same vertex.
     OneEnd(usize),
-    /// What comes after this half edge doesn't start where it ends.
+    /// The next half edge doesn't start where this one ends.
     Apart(usize),
-    /// What comes after this half edge lies on another face.
+    /// The next half edge is on another face than this one.
     LeavesFace(usize),
-    /// The half edges of this face are no single loop.
+    /// The half edges of this face are not a single cycle of next half edges.
     FaceInParts(usize),
-    /// The half edges of this vertex are no single turn.
+    /// The half edges out of this vertex are not a single cycle around it.
     VertexInParts(usize),
-    /// Nothing lies on this face.
+    /// This face has no half edge.
     UnusedFace(usize),
-    /// This half edge isn't reached from half edge 0.
+    /// This half edge isn't connected to half edge 0.
     NotConnected(usize),
-    /// The surface has this genus, by Euler's formula: vertices with an edge, minus edges, plus
-    /// faces with one, are two minus twice the genus.
+    /// The surface has this genus, not 0, by Euler's formula: vertices with an edge, minus edges,
+    /// plus faces with one, are two minus twice the genus.
     NotSphere(usize),
 }
 

@@ -1,11 +1,10 @@
-//! Claimed meshes, given as [`Links`]: lists that say of each half edge what comes after it, where it
-//! starts and on which face it lies.
+//! Checks of claimed meshes, given as [`Links`]: lists with the next half edge, the origin and the
+//! face of each half edge. Files, other languages and tests represent meshes in this way.
 //!
-//! Files, other languages and tests hold meshes in this way. [`check_links`] decides whether such
-//! lists are the links of a mesh, as `dcel_maps` has it, and if not says what is wrong: the first
-//! [`LinksFault`] in a fixed order. The two halves of an edge stand side by side: half edges 0 and 1 are
-//! edge 0, 2 and 3 edge 1, and so on. Face 0 is the outer face. [`find_wrong_anchor`] looks at half
-//! edges that are given for vertices or faces.
+//! Start with [`check_links`], which decides whether such lists are the links of a mesh, as
+//! `dcel_maps` defines it, and if not returns the first [`LinksFault`] in a fixed order. Half edges
+//! 0 and 1 are edge 0, 2 and 3 edge 1, and so on; face 0 is the outer face. [`find_wrong_anchor`]
+//! checks half edges that are given for vertices or faces.
 #![tactic(auto)]
 
 ghost use Rattle.std.specs.Prelude.{◌≡◌, ℕ, IfErr, IfOk, List};
@@ -30,13 +29,13 @@ use whole::{check_each, check_whole};
 
 /// Checks whether links are those of a mesh of this many vertices and faces.
 ///
-/// For a mesh it returns the half edge before each one, the only list that fits; otherwise a
-/// [`LinksFault`], and nothing is wrong that is looked for before it. It takes any lists and numbers.
+/// For a mesh it returns the list of previous half edges, the only one that fits; otherwise a
+/// [`LinksFault`], and then there is no fault that is tested before it. Any lists and numbers may
+/// be given.
 ///
-/// It goes over the lists a fixed number of times. For each half edge it takes less than twelve
-/// bytes, and for each vertex one, once the links have passed one by one; claims of more faces than
-/// the lists can have are refused before. If memory runs out it returns `AllocError`, and says
-/// nothing.
+/// It reads the lists a fixed number of times. For each half edge it takes less than twelve bytes,
+/// and for each vertex one, once the links have passed one by one; claims of more faces than the
+/// lists can have are refused before. If memory runs out it returns `AllocError`, and no result.
 #[tactic(auto, using(crate::proofs::Stages::first_fault))]
 pub fn check_links<A: Allocator + Clone>(
     alloc: &A,

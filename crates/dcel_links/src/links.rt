@@ -41,7 +41,7 @@ pub(crate) fn check_ranges(
     Ok(())
 }
 
-/// Makes the list of links backwards, and looks for a half edge that two lead to.
+/// Lists the previous half edges, and looks for a half edge that is the next one of two.
 pub(crate) fn find_two_leading(next: &[u32], prev: &mut [u32]) -> Option<usize>
     requires lengths { length prev.old ≡ length next.now }
     requires few { length next.now ≤ 2 ^ 32 }
@@ -51,7 +51,7 @@ pub(crate) fn find_two_leading(next: &[u32], prev: &mut [u32]) -> Option<usize>
 {
     for half in 0..next.len() {
         let after = next[half] as usize;
-        // What stands in the list already is no mark by itself: the number must lead here.
+        // A number in the list is not a mark by itself: its half edge has to lead here.
         let before = prev[after] as usize;
         if before < half && next[before] as usize == after {
             return Some(after);

@@ -1,12 +1,12 @@
 //! The links of half edges, as lists.
 
-/// The links that a mesh is claimed to have, with an item for each half edge.
+/// The claimed links of a mesh, with an item for each half edge.
 #[derive(Clone, Copy, PartialEq, Eq, Debug)]
 pub struct Links<'a> {
-    /// The half edge after each one on its face.
+    /// The next half edge of each one around its face.
     pub next: &'a [u32],
-    /// The vertex that each one starts at.
+    /// The vertex where each one starts.
     pub origin: &'a [u32],
-    /// The face that each one lies on.
+    /// The face of each one.
     pub face: &'a [u32],
 }

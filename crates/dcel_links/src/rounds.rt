@@ -25,8 +25,8 @@ fn mark_round(steps: &[u32], start: usize, seen: &mut [bool])
     }
 }
 
-// Looks for a label whose numbers are no single round of the steps. Where there is none, it marks
-// the labels that stand.
+// Looks for a label whose numbers are not a single cycle of the steps. If there is none, it marks
+// the labels that occur.
 fn find_parts(steps: &[u32], labels: &[u32], seen: &mut [bool], used: &mut [bool]) -> Option<usize>
     requires lengths { length seen.old ≡ length steps.now }
     requires labels_length { length labels.now ≡ length steps.now }
@@ -54,8 +54,8 @@ fn find_parts(steps: &[u32], labels: &[u32], seen: &mut [bool], used: &mut [bool
     None
 }
 
-/// Marks the labels that stand, all below a count, or returns one whose numbers are no single round
-/// of the steps.
+/// Marks the labels that occur, all below a count, or returns one whose numbers are not a single
+/// cycle of the steps.
 pub(crate) fn mark_labels<A: Allocator + Clone>(
     alloc: &A,
     steps: &[u32],

@@ -17,7 +17,7 @@ use crate::search::find_cut_off;
 use crate::sizes::{check_sizes, genus, is_sphere};
 use std::alloc::{AllocError, Allocator};
 
-/// Checks the links one by one, and makes the list of links backwards.
+/// Checks the links one by one, and lists the previous half edges.
 #[tactic(auto, using(crate::proofs::Stages::comes_to_fitting))]
 pub(crate) fn check_each(
     links: Links<'_>,

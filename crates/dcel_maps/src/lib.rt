@@ -1,8 +1,8 @@
-//! Meshes as words and as combinatorial maps: what they are, what is true of each, what an edit
-//! makes of one, and the theory behind that. Contracts of the crates above cite these definitions;
-//! nothing here runs.
+//! The theory of meshes, as words and as combinatorial maps: what a mesh is, what is true of each,
+//! and what each edit does to one. Below is only `dcel_fixed`.
 //!
-//! Module [`laws`] has what follows from the definitions alone.
+//! Nothing here runs: contracts of the crates above cite its definitions. Start with docs/MODEL.md;
+//! [`laws`] has what follows from the definitions alone.
 #![tactic(auto)]
 
 pub mod laws;

@@ -1,11 +1,6 @@
-pub mod Corners
-pub mod Written
-pub mod Inserted
-pub mod Splits
-pub mod Outside
-pub mod Flipped
-pub mod Alone
-pub mod Moved
-pub mod Volumes
-pub mod Spokes
-pub mod Across
+pub mod edits
+pub mod covering
+pub mod hull
+pub mod removal
+pub mod location
+pub mod segments

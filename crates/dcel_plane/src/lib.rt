@@ -1,8 +1,10 @@
-//! Meshes in the plane: what it means that a triangulation of points is one and that it is
-//! Delaunay, and which edits of a mesh keep that.
+//! The theory of meshes in the plane: triangles that are positively oriented, edges that are
+//! locally Delaunay, the convex hull, and what edits, flips, removals, walks and segments do to
+//! these.
 //!
-//! Contracts of the crates above cite these definitions; nothing here runs. Module [`laws`] has
-//! what follows from them.
+//! Nothing here runs: contracts of the crates above cite its definitions. [`laws`] has a module for
+//! each subject, and `specs` and `proofs` have a folder of the same name. It uses `dcel_maps` and
+//! `dcel_predicates`.
 #![tactic(auto)]
 
 pub mod laws;

@@ -1,10 +1,9 @@
-//! Exact predicates for points of the plane with whole coordinates: on which side of a line a
-//! point lies, and on which side of a circle.
+//! Exact predicates for points of the plane with whole coordinates: [`orient2d`] says on which side
+//! of a line a point is, [`incircle`] on which side of a circle. It uses no other crate.
 //!
-//! The determinants are those that computational geometry calls `orient2d` and `incircle` (J. R.
-//! Shewchuk, "Adaptive Precision Floating-Point Arithmetic and Fast Robust Geometric Predicates",
-//! 1997). Here they are computed in machine integers, without rounding and without overflow, for
-//! coordinates from -2^30 to 2^30.
+//! The determinants are the usual ones of these names (J. R. Shewchuk, "Adaptive Precision
+//! Floating-Point Arithmetic and Fast Robust Geometric Predicates", 1997). Here they are computed
+//! in machine integers, without rounding or overflow, for coordinates from -2^30 to 2^30.
 #![tactic(auto)]
 
 mod center;

@@ -1,5 +1,5 @@
-//! What the programs share: the words that they are started with, the texts that they read and
-//! write, how far they are, and how they end.
+//! What the programs share: their arguments, the texts that they read and write, progress, and how
+//! they end. Start with [`run`] and [`Program`]. It uses no other crate of the project.
 #![tactic(auto)]
 
 mod arguments;

@@ -15,7 +15,7 @@ use std::marker::Model;
 #[derive(Drop)]
 pub struct GivenUp<Kind, A: Allocator> {
     // The elements twice: in ascending order, for binary search, and then in the order in which
-    // they were given, since a list to be matched mostly is that one.
+    // they were given, since most lists to be matched have that one.
     handles: Vec<FixedHandleImpl<Kind, InnerTag>, A>,
 }
 
@@ -32,7 +32,7 @@ impl<Kind, A: Allocator> Model for GivenUp<Kind, A> {
 }
 
 impl<Kind, A: Allocator> GivenUp<Kind, A> {
-    /// Makes a set of no elements, without allocating.
+    /// Creates a set without elements, without allocating.
     #[inline]
     pub fn none(alloc: A) -> Self
         ensures { result ≡ [] }
@@ -63,8 +63,8 @@ impl<Kind, A: Allocator> GivenUp<Kind, A> {
 impl<Kind: Copy, A: Allocator> GivenUp<Kind, A> {
     /// Gives up the elements of the list, which may be in any order, and no others.
     ///
-    /// It allocates at most once, if the memory that it has isn't enough. If memory runs out it
-    /// returns `AllocError`, and no element is given up.
+    /// It allocates at most once, if its memory isn't enough. If memory runs out it returns
+    /// `AllocError`, and no element is given up.
     pub fn give_up(&mut self, list: &[FixedHandleImpl<Kind, InnerTag>]) -> Result<(), AllocError>
         ensures given_up { OnOk result (self.new ≡ ascending list.now) }
         ensures refused { OnErr result (self.new ≡ []) }

@@ -1,4 +1,5 @@
-//! The removal record: what an open removal has given up, so that every call can tell what is live.
+//! The removal record: what an open removal has given up, so that every call can test what is live.
+//! `spade_dcel` keeps one in each mesh. Start with [`RemovalRecord`].
 //!
 //! Contracts see it as the removal of a mesh, `Removal` of `dcel_maps/specs/Removals`.
 #![tactic(auto)]
@@ -26,22 +27,23 @@ pub enum RemovalState {
     /// No removal is open.
     Closed,
 
-    /// One is open: what it has given up is still stored, and to be cleaned up.
+    /// A removal is open; what it has given up is still stored, and has to be cleaned up.
     Isolated,
 
-    /// One is open: the edges and faces that it has given up are gone, and its vertex is still to
+    /// A removal is open; the edges and faces that it gave up are gone, and its vertex has still to
     /// be taken out. A removal without a vertex is closed instead.
     Cleaned,
 }
 
 /// What an open removal has given up.
 ///
-/// That is nothing while none is open. It is edges and faces, and a vertex if there is one, until
-/// they are cleaned up; afterwards it is the vertex alone.
+/// Nothing if no removal is open. Otherwise edges and faces, and a vertex if there is one, until
+/// they are cleaned up, and then only the vertex.
 #[derive(Drop)]
 pub struct RemovalRecord<A: Allocator> {
     state: State,
-    // These hold until the removal is cleaned up. Their memory is kept for the next one.
+    // The elements given up, until the removal is cleaned up. Their memory is kept for the next
+    // one.
     edges: GivenUp<UndirectedEdgeTag, A>,
     faces: GivenUp<FaceTag, A>,
 }
@@ -65,10 +67,10 @@ impl<A: Allocator> Model for RemovalRecord<A> {
 }
 
 impl<A: Allocator + Clone> RemovalRecord<A> {
-    /// Makes the record of a mesh where no removal is open.
+    /// Creates the record of a mesh in which no removal is open.
     ///
-    /// Later calls hold what is given up in memory of two clones of `alloc`. This one only clones
-    /// it, and returns `AllocError` only if that fails.
+    /// Later calls allocate by two clones of `alloc`. This one only clones it, and returns
+    /// `AllocError` only if that fails.
     pub fn closed(alloc: &A) -> Result<Self, AllocError>
         ensures { IfOk result (λ closed. closed ≡ Closed) }
     {
@@ -105,7 +107,7 @@ impl<A: Allocator> RemovalRecord<A> {
         Ok(())
     }
 
-    /// Closes the removal, if one is open, without allocating. It keeps its memory.
+    /// Closes the removal, if one is open. It does not allocate, and keeps its memory.
     #[inline]
     pub fn close(&mut self)
         ensures { self.new ≡ Closed }
@@ -113,7 +115,7 @@ impl<A: Allocator> RemovalRecord<A> {
         self.state = State::Closed;
     }
 
-    /// Gives up the edges and faces no longer, since they are gone.
+    /// Forgets the edges and faces, since they are gone.
     ///
     /// The vertex stays given up. If there is none, the removal is closed.
     pub fn clean_up(&mut self)

@@ -1,4 +1,4 @@
-//! Faces, numbered by how many marked edges lie before them.
+//! Numbering faces by the marked edges between them and the outer face.
 
 ghost use Rattle.std.specs.Prelude.{◌≡◌, ℕ, ◌+◌, ◌-◌, ◌/◌, ◌<◌, ◌≤◌, ◌++◌, [], ◌∷◌, true, false, IfOk, OnOk, length, map, replicate, slice_index};
 ghost use Rattle.dcel_fixed.specs.HalfEdges.{rev};
@@ -17,17 +17,17 @@ use spade_dcel::laws::every_mesh;
 use std::alloc::{AllocError, Allocator};
 use std::mem;
 
-/// Returns for each face the least number of marked edges that a way from the outer face to it
-/// crosses.
+/// Returns for each face its depth: the least number of marked edges between it and the outer face.
 ///
-/// A way leads from face to face over edges. So the outer face has 0, as have all faces that it
-/// reaches over free edges; what lies behind one marked edge has 1, and so on. Faces on both sides of
-/// a free edge have the same number, those of a marked one numbers that differ by one at most. Where
-/// the marked edges are the borders of polygons and of their holes, the numbers tell what is inside:
-/// 1 in a polygon, 2 in a hole of it. A marked edge that ends in a face parts nothing.
+/// A path leads from face to face across edges, and the depth counts the marked ones that it
+/// crosses. So the outer face has 0, and so have all faces that it reaches across free edges; faces
+/// behind one marked edge have 1, and so on. The faces on both sides of a free edge have the same
+/// number, those of a marked one numbers that differ by at most one. If the marked edges are the
+/// borders of polygons and of their holes, the numbers show what is inside: 1 in a polygon, 2 in a
+/// hole of it. A marked edge that ends in a face divides nothing.
 ///
 /// A face that an open removal has given up has 0. The time is linear: each face is numbered once,
-/// and each half edge looked at once. If memory runs out it returns `AllocError`.
+/// and each half edge examined once. If memory runs out it returns `AllocError`.
 pub fn regions<V, DE, F, A: Allocator, L: Allocator + Clone>(
     dcel: &Dcel<V, DE, Mark, F, A>,
     alloc: L,

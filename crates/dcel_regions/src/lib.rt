@@ -1,4 +1,5 @@
-//! Edges that are marked, and the regions into which they part a mesh.
+//! Marked edges ([`Mark`]), and the regions into which they divide a mesh ([`regions`]). It uses
+//! `spade_dcel`.
 #![tactic(auto)]
 
 mod crossings;

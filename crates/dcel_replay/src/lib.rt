@@ -1,5 +1,5 @@
-//! The mesh that lines leave, and what it was before a removal that is still open: what a picture of
-//! it shows.
+//! The mesh that lines lead to, and the mesh before a removal that is still open: what a picture of
+//! it shows. Start with [`Replay`]. It uses `dcel_commands`.
 #![tactic(auto)]
 
 mod replay;

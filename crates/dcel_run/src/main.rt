@@ -1,9 +1,9 @@
-//! Reads commands for a half-edge mesh from standard input, one a line, and writes the replies to
-//! standard output.
+//! Reads commands for a half-edge mesh from standard input, one per line, and writes the replies to
+//! standard output, by `dcel_commands`. docs/LINES.md has the lines.
 //!
 //! At the end of the input it exits with status 0, even if commands were refused. If a read or a
-//! write fails, or there is no memory for the first mesh, it says so on standard error and exits
-//! with status 1.
+//! write fails, or there is no memory for the first mesh, it reports that on standard error and
+//! exits with status 1.
 #![tactic(auto)]
 
 ghost use Rattle.std.specs.Prelude.{◌≡◌, ◌^◌, false, OnOk};

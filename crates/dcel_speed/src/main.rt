@@ -1,12 +1,11 @@
-//! Measures the mesh: how long each workload takes for one operation.
+//! Measures the mesh of `spade_dcel`: how long each workload takes per operation.
 //!
 //! `dcel_speed insert,walk 1000,100000` runs these workloads at these sizes, and `dcel_speed` all
-//! of them at all sizes. Each line of its output has a workload, its size, the nanoseconds for an
-//! operation, the checksum of the result, and the number of operations. With the further word
-//! `full` every half edge, edge and face has a datum too. With the word `checksums` the time is
-//! left out, so that each run prints the same. `--help` shows its words. It exits with status 0, also
-//! if nobody reads its output any more, with 2 if its arguments are bad, and with 1 if anything
-//! else fails.
+//! of them at all sizes. Each line of the output has a workload, its size, the nanoseconds per
+//! operation, the checksum of the result, and the number of operations. With the word `full` every
+//! half edge, edge and face has a datum too. With the word `checksums` the time is omitted, so that
+//! each run prints the same. `--help` lists its words. It exits with status 0, even if nobody reads
+//! its output any more, with 2 if its arguments are bad, and with 1 if anything else fails.
 #![tactic(auto)]
 
 mod arguments;

@@ -1,14 +1,14 @@
-//! Storage of a half-edge mesh: links, anchors and data by number.
+//! Storage of a half-edge mesh: links, anchors and data by number. `dcel_edits` writes edits into
+//! it; below is only `dcel_fixed`. Start with [`Store`].
 //!
-//! A [`Store`] holds for each vertex a datum and an anchor, for each half edge four links and a
-//! datum, for each edge a datum, and for each face a datum and an anchor. It knows nothing of what
-//! makes a sound mesh. Contracts see it as lists by number, the record `Lists` of
-//! `specs/Lists.antt`, and say of each call which items it reads or changes.
+//! A store has a datum and an anchor for each vertex, four links and a datum for each half edge, a
+//! datum for each edge, and a datum and an anchor for each face. It does not know what makes a mesh
+//! sound. Contracts see it as lists by number, the record `Lists` of `specs/Lists.antt`, and say
+//! which items each call reads or changes.
 //!
 //! Each of the four links has a vector of its own, and so have the data of half edges and those of
-//! edges. A walk reads one or two links of each half edge, and little else comes into the cache
-//! with them. A new edge is written at the end of six vectors, and lengthens all of them if there
-//! is no room.
+//! edges. A walk reads one or two links of each half edge, and little else enters the cache with
+//! them. A new edge is appended to six vectors, and all of them grow if there is no room.
 #![tactic(auto)]
 
 ghost use Rattle.std.specs.Prelude.{◌≡◌, ◌↔◌, ◌+◌, ◌-◌, ◌<◌, ◌≤◌, [], ◌∷◌, ◌++◌, length, slice_index, slice_index_or, slice_set, OnOk, IfOk, IsOk, IsTrue, None, vec_capacity, vec_len};
@@ -27,20 +27,20 @@ use std::marker::Model;
 /// The links of a half edge, as [`Store::push_edge`] takes them.
 #[derive(Clone, Copy)]
 pub struct HalfEdgeLinks {
-    /// The half edge after it on its face.
+    /// The next half edge around its face.
     pub next: FixedDirectedEdgeHandle,
 
-    /// The half edge before it on its face.
+    /// The previous half edge around its face.
     pub prev: FixedDirectedEdgeHandle,
 
-    /// The face that it lies on.
+    /// Its face.
     pub face: FixedFaceHandle<PossiblyOuterTag>,
 
-    /// The vertex that it starts at.
+    /// The vertex where it starts.
     pub origin: FixedVertexHandle,
 }
 
-/// The data of an edge: one of each half edge, and one of the edge itself.
+/// The data of an edge: one for each half edge, and one for the edge itself.
 #[derive(Clone, Drop, Default)]
 pub struct EdgeData<DE, UE> {
     /// The datum of the normalized half edge.
@@ -83,15 +83,15 @@ struct FaceEntry<F> {
 pub struct Store<V, DE, UE, F, A: Allocator = Global> {
     vertices: Vec<VertexEntry<V>, A>,
 
-    // An item for each half edge: the two of an edge stand side by side, the normalized one first.
+    // An item for each half edge: the two of an edge are neighbors, the normalized one first.
     next: Vec<FixedDirectedEdgeHandle, A>,
     prev: Vec<FixedDirectedEdgeHandle, A>,
     origin: Vec<FixedVertexHandle, A>,
     face: Vec<FixedFaceHandle<PossiblyOuterTag>, A>,
     directed_data: Vec<DE, A>,
 
-    // An item for each edge. For each place left here, each vector of half edges has two, so that
-    // the capacity of this vector tells whether there is room for an edge.
+    // An item for each edge. For each place left here, each vector of half edges has two, so the
+    // capacity of this vector shows whether there is room for an edge.
     undirected_data: Vec<UE, A>,
 
     faces: Vec<FaceEntry<F>, A>,
@@ -110,7 +110,7 @@ impl<V, DE, UE, F, A: Allocator> Model for Store<V, DE, UE, F, A> {
 }
 
 impl<V, DE, UE, F, A: Allocator + Clone> Store<V, DE, UE, F, A> {
-    /// Makes an empty store, without allocating.
+    /// Creates an empty store, without allocating.
     ///
     /// It clones `alloc` once for the vertices and six times for the edges, and returns
     /// `AllocError` only if that fails. With `Global` or a `&` it never does.
@@ -138,7 +138,7 @@ impl<V, DE, UE, F, A: Allocator + Clone> Store<V, DE, UE, F, A> {
 }
 
 impl<V, DE, UE, F, A: Allocator> Store<V, DE, UE, F, A> {
-    /// Returns the allocator that the store was made with.
+    /// Returns the allocator that the store was created with.
     ///
     /// Contracts see nothing of it.
     #[inline]
@@ -173,10 +173,10 @@ impl<V, DE, UE, F, A: Allocator> Store<V, DE, UE, F, A> {
         self.faces.len()
     }
 
-    /// Makes room for this many more vertices, edges and faces.
+    /// Reserves memory for this many more vertices, edges and faces.
     ///
     /// If there is room for all of them already, it succeeds without allocating. If memory runs out
-    /// it returns `AllocError`, and nothing has changed but that there may be more room.
+    /// it returns `AllocError`; the store is unchanged, but may have more room.
     #[inline]
     pub fn reserve(&mut self, vertices: usize, edges: usize, faces: usize) -> Result<(), AllocError>
         ensures same { self.new ≡ record self.old {
@@ -205,8 +205,8 @@ impl<V, DE, UE, F, A: Allocator> Store<V, DE, UE, F, A> {
             && faces <= places_left(&self.faces)
     }
 
-    // Makes room where there is too little. Out of line, since it is rare, and so that the test for
-    // it goes into each edit, where most of what is asked for is known to be 0.
+    // Reserves memory where there is too little. Out of line, since it is rare, and so that the
+    // test for it goes into each edit, where most of the counts are known to be 0.
     #[cold]
     #[inline(never)]
     fn grow(&mut self, vertices: usize, edges: usize, faces: usize) -> Result<(), AllocError>
@@ -224,7 +224,7 @@ impl<V, DE, UE, F, A: Allocator> Store<V, DE, UE, F, A> {
         Ok(())
     }
 
-    // Lengthens the six vectors of edges, if there is too little room. That of the edges' data comes
+    // Grows the six vectors of edges, if there is too little room. That of the edges' data comes
     // last: if memory runs out before, it has no more places than the others are sure to have.
     fn grow_edges(&mut self, edges: usize) -> Result<(), AllocError>
         ensures same { self.new ≡ record self.old { edge_room = self.new.edge_room } }
@@ -247,7 +247,7 @@ impl<V, DE, UE, F, A: Allocator> Store<V, DE, UE, F, A> {
 
     /// Appends a vertex with this datum and anchor.
     ///
-    /// Asks for room for a vertex, which [`reserve`](Self::reserve) makes.
+    /// Asks for room for a vertex, which [`reserve`](Self::reserve) provides.
     #[inline]
     pub fn push_vertex(&mut self, datum: V, anchor: Option<FixedDirectedEdgeHandle>)
         requires { 0 < self.old.vertex_room }
@@ -265,7 +265,7 @@ impl<V, DE, UE, F, A: Allocator> Store<V, DE, UE, F, A> {
 
     /// Appends an edge with the links of its half edges and its data.
     ///
-    /// Asks for room for an edge, which [`reserve`](Self::reserve) makes.
+    /// Asks for room for an edge, which [`reserve`](Self::reserve) provides.
     #[inline]
     pub fn push_edge(
         &mut self,
@@ -299,7 +299,7 @@ impl<V, DE, UE, F, A: Allocator> Store<V, DE, UE, F, A> {
 
     /// Appends a face with this datum and anchor.
     ///
-    /// Asks for room for a face, which [`reserve`](Self::reserve) makes.
+    /// Asks for room for a face, which [`reserve`](Self::reserve) provides.
     #[inline]
     pub fn push_face(&mut self, datum: F, anchor: Option<FixedDirectedEdgeHandle>)
         requires { 0 < self.old.face_room }
@@ -376,7 +376,7 @@ impl<V, DE, UE, F, A: Allocator> Store<V, DE, UE, F, A> {
         entry.adjacent_edge = to;
     }
 
-    /// Returns the half edge after this one.
+    /// Returns the next half edge around the face.
     ///
     /// Asks that its edge is below [`num_edges`](Self::num_edges).
     #[inline]
@@ -398,7 +398,7 @@ impl<V, DE, UE, F, A: Allocator> Store<V, DE, UE, F, A> {
         self.next[edge.index()] = to;
     }
 
-    /// Returns the half edge before this one.
+    /// Returns the previous half edge around the face.
     ///
     /// Asks that its edge is below [`num_edges`](Self::num_edges).
     #[inline]
@@ -420,7 +420,7 @@ impl<V, DE, UE, F, A: Allocator> Store<V, DE, UE, F, A> {
         self.prev[edge.index()] = to;
     }
 
-    /// Returns the vertex that this half edge starts at.
+    /// Returns the vertex where this half edge starts.
     ///
     /// Asks that its edge is below [`num_edges`](Self::num_edges).
     #[inline]
@@ -442,7 +442,7 @@ impl<V, DE, UE, F, A: Allocator> Store<V, DE, UE, F, A> {
         self.origin[edge.index()] = to;
     }
 
-    /// Returns the face that this half edge lies on.
+    /// Returns the face of this half edge.
     ///
     /// Asks that its edge is below [`num_edges`](Self::num_edges).
     #[inline]
@@ -473,10 +473,10 @@ fn places_left<T, A: Allocator>(items: &Vec<T, A>) -> usize
     items.capacity() - items.len()
 }
 
-// Returns how many more edges to make room for, when a store of `stored` edges has no room for `wanted`
-// more. A growth asks for memory six times and may move all that is stored, so many pushes should
-// share its cost: a store doubles, and a short one, for which the six requests cost most, grows
-// fourfold.
+// Returns for how many more edges to reserve memory, when a store of `stored` edges has no room for
+// `wanted` more. A growth requests memory six times and may move all that is stored, so many pushes
+// should share its cost: a store doubles, and a short one, for which the six requests cost most,
+// grows fourfold.
 fn room_for_growth(stored: usize, wanted: usize) -> usize
     ensures { wanted ≤ result }
 {

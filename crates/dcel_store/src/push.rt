@@ -1,4 +1,4 @@
-//! Three edges appended together, vector by vector.
+//! Appending three edges together, vector by vector.
 
 ghost use Rattle.std.specs.Prelude.{◌≡◌, ◌+◌, ◌-◌, ◌≤◌, [], ◌∷◌, ◌++◌, vec_len, vec_capacity};
 
@@ -10,7 +10,7 @@ impl<V, DE, UE, F, A: Allocator> Store<V, DE, UE, F, A> {
     ///
     /// The result is that of three calls of [`push_edge`](Self::push_edge), but the vectors are
     /// written one after another, each of them once. Asks for room for three edges, which
-    /// [`reserve`](Self::reserve) makes.
+    /// [`reserve`](Self::reserve) provides.
     #[inline]
     pub fn push_three_edges(
         &mut self,

@@ -1,4 +1,4 @@
-//! Elements taken out: the last element of the kind moves into the place, and so gets the number.
+//! Swap-removes: the last element of the kind moves to the free place, and so gets the number.
 
 ghost use Rattle.std.specs.Prelude.{◌≡◌, ◌+◌, ◌*◌, ◌%◌, ◌<◌, length, slice_index_or, swap_remove, vec_len, vec_capacity, None};
 ghost use Rattle.dcel_store.specs.Taking.{pair_taken};
@@ -8,10 +8,10 @@ use dcel_fixed::{FixedFaceHandle, FixedUndirectedEdgeHandle, FixedVertexHandle, 
 use std::alloc::Allocator;
 
 impl<V, DE, UE, F, A: Allocator> Store<V, DE, UE, F, A> {
-    /// Takes out a vertex, and returns its datum.
+    /// Swap-removes a vertex, and returns its datum.
     ///
-    /// The last vertex moves into its place with its anchor; links that name it aren't changed. It
-    /// does not allocate, and there is room for one more vertex. Asks for a number below
+    /// The last vertex moves to its place with its anchor; links that name it aren't changed. It
+    /// does not allocate, and leaves room for one more vertex. Asks for a number below
     /// [`num_vertices`](Self::num_vertices).
     #[inline]
     pub fn take_vertex(&mut self, vertex: FixedVertexHandle) -> V
@@ -26,11 +26,11 @@ impl<V, DE, UE, F, A: Allocator> Store<V, DE, UE, F, A> {
         self.vertices.swap_remove(vertex.index()).data
     }
 
-    /// Takes out an edge, and returns its data.
+    /// Swap-removes an edge, and returns its data.
     ///
-    /// The last edge moves into its place with its links; links and anchors that name its half
-    /// edges aren't changed. It does not allocate, and there is room for one more edge. Asks for a
-    /// number below [`num_edges`](Self::num_edges).
+    /// The last edge moves to its place with its links; links and anchors that name its half edges
+    /// aren't changed. It does not allocate, and leaves room for one more edge. Asks for a number
+    /// below [`num_edges`](Self::num_edges).
     #[inline]
     pub fn take_edge(&mut self, edge: FixedUndirectedEdgeHandle) -> EdgeData<DE, UE>
         requires { edge < length self.old.undirected_data }
@@ -63,10 +63,10 @@ impl<V, DE, UE, F, A: Allocator> Store<V, DE, UE, F, A> {
         }
     }
 
-    /// Takes out a face, and returns its datum.
+    /// Swap-removes a face, and returns its datum.
     ///
-    /// The last face moves into its place with its anchor; links that name it aren't changed. It
-    /// does not allocate, and there is room for one more face. Asks for a number below
+    /// The last face moves to its place with its anchor; links that name it aren't changed. It does
+    /// not allocate, and leaves room for one more face. Asks for a number below
     /// [`num_faces`](Self::num_faces).
     #[inline]
     pub fn take_face(&mut self, face: FixedFaceHandle<PossiblyOuterTag>) -> F
@@ -83,7 +83,7 @@ impl<V, DE, UE, F, A: Allocator> Store<V, DE, UE, F, A> {
 }
 
 // Takes the two items of an edge out of a vector of half edges. The second item goes first, so that
-// the last two items move into the two places in their order.
+// the last two items move to the two places in order.
 #[inline]
 fn take_pair<T, A: Allocator>(items: &mut Vec<T, A>, edge: usize) -> (T, T)
     requires even { vec_len items.old % 2 ≡ 0 }

@@ -1,4 +1,4 @@
-//! Calls on a whole store: cleared, mapped, cloned.
+//! Calls on a whole store: clear, map, clone.
 
 ghost use Rattle.std.specs.Prelude.{◌≡◌, ◌<◌, All, IfOk, IfErr, length, vec_len, vec_capacity};
 ghost use Rattle.std.specs.List.{AllZip};
@@ -33,10 +33,10 @@ impl<V, DE, UE, F, A: Allocator> Store<V, DE, UE, F, A> {
         first.adjacent_edge = None;
     }
 
-    /// Replaces the datum of each vertex by what `f` makes of it.
+    /// Replaces the datum of each vertex by what `f` returns for it.
     ///
-    /// Asks that `f` may be called on each of them. It allocates by `alloc`, before `f` is first
-    /// called. If memory runs out it returns `AllocFailed` with the store as it was.
+    /// Asks that `f` may be called on each of them. All memory is requested from `alloc` before `f`
+    /// is first called. If it runs out, it returns `AllocFailed` with the store as it was.
     pub fn map_vertices<V2: Drop, M: Fn(V) -> V2 + Drop>(
         self,
         alloc: A,
@@ -77,9 +77,9 @@ impl<V, DE, UE, F, A: Allocator> Store<V, DE, UE, F, A> {
         }
     }
 
-    /// Replaces the datum of each edge by what `f` makes of it.
+    /// Replaces the datum of each edge by what `f` returns for it.
     ///
-    /// The data of half edges stay. Otherwise it is as [`map_vertices`](Self::map_vertices).
+    /// The data of half edges stay. Otherwise it is like [`map_vertices`](Self::map_vertices).
     pub fn map_undirected_edges<UE2: Drop, M: Fn(UE) -> UE2 + Drop>(
         self,
         alloc: A,
@@ -165,8 +165,8 @@ impl<F: Clone> Clone for FaceEntry<F> {
     }
 }
 
-// Clones each item into a vector without a place left. `to_vec` doesn't promise that, and for a
-// place left in the vector of the edges' data those of half edges would need two.
+// Clones each item into a vector without spare places. `to_vec` doesn't promise that, and for a
+// spare place in the vector of the edges' data those of half edges would need two.
 fn cloned<X: Clone, A: Allocator>(items: &[X], alloc: A) -> Result<Vec<X, A>, AllocError>
     ensures clones { IfOk result (λ clones. AllZip X.is_clone items.now clones.items) }
     ensures exact { IfOk result (λ clones. vec_capacity clones ≡ vec_len clones) }
@@ -178,8 +178,8 @@ fn cloned<X: Clone, A: Allocator>(items: &[X], alloc: A) -> Result<Vec<X, A>, Al
     Ok(clones)
 }
 
-// Maps each item into a vector without a place left, which is allocated before `f` is first called.
-// If memory runs out, the items are handed back.
+// Maps each item into a vector without spare places, which is allocated before `f` is first called.
+// If memory runs out, it returns the items.
 fn mapped<X: Drop, Y: Drop, A: Allocator, M: Fn(X) -> Y + Drop>(
     items: Vec<X, A>,
     alloc: A,

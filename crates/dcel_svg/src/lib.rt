@@ -1,9 +1,10 @@
-//! Pictures of meshes: places for the vertices of any mesh, what of it is drawn where, and SVG.
+//! Pictures of meshes as SVG: places for the vertices of any mesh, and what is drawn where. It uses
+//! `dcel_drawn`.
 //!
-//! A mesh has no geometry. [`spread`] finds places for its vertices. A [`Picture`] has a stroke for
-//! each half edge, a patch for each face and a dot for each vertex, and [`write_svg`] writes it.
-//! From one picture to the next [`spread_near`] keeps places, and [`Marks`] tell what has changed;
-//! pictures that share a [`Frame`] have each place at the same point of the page.
+//! A mesh has no coordinates. [`spread`] finds places for its vertices. A [`Picture`] has a stroke
+//! for each half edge, a patch for each face and a dot for each vertex, and [`write_svg`] writes
+//! it. From one picture to the next [`spread_near`] keeps places, and [`Marks`] say what has
+//! changed; pictures that share a [`Frame`] have each place at the same point of the page.
 #![tactic(auto)]
 
 mod bends;

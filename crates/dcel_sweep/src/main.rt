@@ -1,15 +1,15 @@
-//! The sweep over memory: of each call the first request for memory is refused, then the second, and
-//! so on. After each refusal the mesh is as before, what was handed in has come back, and exactly
-//! the call that met the refusal tells it. Then the call is made again, and leaves what it leaves if
-//! nothing is refused.
+//! The memory sweep: of each call of the layer and of its commands it refuses the first request
+//! for memory, then the second, and so on. After each refusal the mesh has to be as before, what
+//! was passed in has to be back, and exactly the call that met the refusal has to report it. Then
+//! the call is repeated, and has to leave what it leaves if nothing is refused.
 //!
-//! The rows stand in the files that are named: in `.calls` and `.meshes` calls alone, in `.flips`
-//! legalizations, in `.lists` commands one after another, in `.runs` lines. A file has blocks with an
-//! empty line between two; `#` begins a comment. The lines of a block make a mesh, and a line behind
-//! a number is a row: the number tells how many requests for memory it makes.
+//! Its arguments name files of rows: in `.calls` and `.meshes` only calls, in `.flips`
+//! legalizations, in `.lists` commands one after another, in `.runs` lines. Blocks of a file are
+//! separated by empty lines; `#` begins a comment. The lines of a block construct a mesh. A line
+//! after a number is a row: the number is that of its requests for memory.
 //!
-//! The program prints how many requests of each function were refused, or ends at the first row that
-//! isn't so. `tools/gate/check_sweep` looks for functions without a row.
+//! The program prints how many requests of each function were refused, or ends at the first row
+//! that fails. `tools/gate/check_sweep` looks for functions without a row.
 #![tactic(auto)]
 
 mod calls;

@@ -1,10 +1,10 @@
-//! Runs the talks of the files that are named, and compares each reply with the one that stands
-//! under its line.
+//! Runs the talks in the files that are named, by `dcel_commands`, and compares each reply with the
+//! one written under its line.
 //!
-//! In a file `# NAME` begins a talk, from an empty mesh. `limit N` gives it another limit than
+//! In a file `# NAME` begins a talk, with an empty mesh. `limit N` gives it another limit than
 //! 2^31, with `faults` each of its reads and of its writes fails in turn, `> LINE` is a line, and
-//! the lines under it are its reply. Empty lines say nothing. If a reply is another one, the program
-//! says which and ends with status 1.
+//! the lines under it are its reply. Empty lines have no meaning. If a reply differs, the program
+//! reports which and exits with status 1.
 #![tactic(auto)]
 
 mod script;

@@ -1,4 +1,4 @@
-//! Tests of calls: what they return, and the links and anchors that they leave.
+//! Tests of the calls of `spade_dcel`: what they return, and the links and anchors that result.
 #![tactic(auto)]
 
 #[cfg(test)]

@@ -4,7 +4,7 @@
 ghost use Rattle.std.specs.Prelude.{◌≡◌, ◌<◌, ℕ, IsTrue};
 ghost use Rattle.dcel_maps.specs.Shapes.{IsLive, face_of, origin_of};
 ghost use Rattle.dcel_plane.specs.Plane.{point_at};
-ghost use Rattle.dcel_segments.specs.Segments.{IsPlanar};
+ghost use Rattle.dcel_plane.specs.segments.Segments.{IsPlanar};
 
 use crate::changes::Ends;
 use crate::seen::{Sight, is_as_seen, seen};

@@ -1,4 +1,4 @@
-//! Tests of constrained triangulations: segments that become edges and constraints, points among
+//! Tests of `dcel_constrained`: segments that become edges and constraints, points inserted among
 //! these, and regions, also with each request for memory refused in turn.
 #![tactic(auto)]
 

@@ -1,4 +1,4 @@
-//! Tests of what lies in the plane: decimals, predicates, legalization by circles, and Delaunay
+//! Tests of what is in the plane: decimals, predicates, legalization by circles, and Delaunay
 //! triangulations, also with each request for memory refused in turn.
 #![tactic(auto)]
 
@@ -10,6 +10,7 @@ mod decimals;
 mod memory;
 #[cfg(test)]
 mod nearest;
+pub mod places;
 #[cfg(test)]
 mod positions;
 #[cfg(test)]

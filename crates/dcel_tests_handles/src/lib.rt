@@ -1,5 +1,5 @@
-//! Tests of borrowed handles: their ends, sides and duals, their walks from both ends, how they
-//! compare and what they print.
+//! Tests of the borrowed handles of `spade_dcel`: ends, sides and duals, walks from both ends,
+//! comparisons and debug output.
 #![tactic(auto)]
 
 #[cfg(test)]

@@ -1,6 +1,5 @@
-//! Tests of lines that are many, long or odd, and of readers and writers that fail.
-//!
-//! The other lines stand with their replies in the talks of `dcel_talks`.
+//! Tests of `dcel_commands` with lines that are many, long or odd, and with readers and writers
+//! that fail. The talks of `dcel_talks` have all other lines with their replies.
 #![tactic(auto)]
 
 #[cfg(test)]

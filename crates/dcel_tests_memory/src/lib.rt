@@ -1,5 +1,5 @@
-//! Tests of memory: what takes none, how seldom a mesh asks for it, and what is answered once a
-//! request was refused. `dcel_sweep` refuses each request of each call.
+//! Tests of memory: which calls need none, how seldom a mesh requests it, and what is reported
+//! after a refusal. `dcel_sweep` refuses each request of each call.
 #![tactic(auto)]
 
 #[cfg(test)]

@@ -1,5 +1,5 @@
 //! Tests of crates below and beside `spade_dcel`: fixed handles, links and anchors that are given,
-//! meshes in and out, calls made of several, and regions.
+//! meshes in and out, calls that combine several, and regions.
 #![tactic(auto)]
 
 #[cfg(test)]

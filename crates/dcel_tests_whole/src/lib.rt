@@ -1,5 +1,5 @@
-//! What holds of whole meshes: data mapped and written, meshes cloned, cleared, made of their
-//! vertices and of links, and elements counted.
+//! Tests of whole meshes of `spade_dcel`: data mapped and written, meshes cloned, cleared,
+//! constructed from vertices and from links, and elements counted.
 #![tactic(auto)]
 
 #[cfg(test)]

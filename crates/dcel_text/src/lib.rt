@@ -1,5 +1,6 @@
-//! Text: bytes from a source, split into lines and their items; numbers in decimals; and text on
-//! its way to a sink.
+//! Text in and out: bytes from a source, split into lines and their items; decimal numbers; and a
+//! writer that buffers text for a sink. Start with [`lines`] and [`output`]. It uses no other
+//! crate.
 #![tactic(auto)]
 
 pub mod buffer;

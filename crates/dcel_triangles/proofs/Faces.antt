@@ -5,7 +5,7 @@ use Rattle.dcel_maps.specs.Shapes.{IsMesh, Mesh, Shape, next_of, origin_of, prev
 use Rattle.dcel_maps.specs.Triangulations.{AllTriangles}
 use Rattle.dcel_maps.specs.Walking.{IsOnFace}
 use Rattle.dcel_maps.specs.Words.{TurnsTo, word_of}
-use Rattle.dcel_covering.proofs.Triangles.{word_at}
+use Rattle.dcel_plane.proofs.covering.Triangles.{word_at}
 use Rattle.dcel_triangles.specs.Listing.{HasNumbers, ListsFaces}
 use Rattle.dcel_triangles.specs.declared.triangle.Triangle.{Triangle}
 use Rattle.dcel_triangles.proofs.Numbers.{get_pushed}

@@ -16,14 +16,14 @@ use Rattle.dcel_maps.specs.Words.{TurnsTo, word_of}
 use Rattle.dcel_maps.proofs.maps.Soundness.{rev_live}
 use Rattle.dcel_maps.proofs.shapes.Maps.{map-sound}
 use Rattle.dcel_maps.proofs.words.Turns.{length-turn}
-use Rattle.dcel_plane.proofs.Corners.{turned_along}
+use Rattle.dcel_plane.proofs.edits.Corners.{turned_along}
 use Rattle.dcel_plane.specs.Plane.{IsDelaunay, TurnsLeft, origin_point, point_at}
-use Rattle.dcel_covering.specs.Delaunay.{HasCorners}
-use Rattle.dcel_covering.specs.Places.{AreDisjoint, IsIn, Place}
-use Rattle.dcel_covering.proofs.Along.{long}
-use Rattle.dcel_covering.proofs.Inside.{on_end}
-use Rattle.dcel_covering.proofs.Numbered.{word_is}
-use Rattle.dcel_covering.proofs.Starts.{out_of}
+use Rattle.dcel_plane.specs.covering.Delaunay.{HasCorners}
+use Rattle.dcel_plane.specs.covering.Places.{AreDisjoint, IsIn, Place}
+use Rattle.dcel_plane.proofs.covering.Along.{long}
+use Rattle.dcel_plane.proofs.covering.Inside.{on_end}
+use Rattle.dcel_plane.proofs.covering.Numbered.{word_is}
+use Rattle.dcel_plane.proofs.covering.Starts.{out_of}
 use Rattle.dcel_delaunay.specs.Bulk.{StandAt}
 use Rattle.dcel_delaunay.specs.Triangulated.{CirclesAreEmpty, FacesAreApart, GoesRoundHull, HullIsCovered, PointsAreSingle}
 use Rattle.dcel_triangles.specs.Listing.{HasNumbers, ListsFaces, NamesLeast}

@@ -1,7 +1,7 @@
 -- The numbers of points at vertices, and at the corners of faces.
 use Rattle.std.specs.Prelude.{◌≡◌, ◌<◌, ◌≤◌, ℕ, suc, List, length, slice_get, Some}
 use Rattle.dcel_maps.specs.Shapes.{Shape}
-use Rattle.dcel_covering.specs.Delaunay.{HasCorners}
+use Rattle.dcel_plane.specs.covering.Delaunay.{HasCorners}
 use Rattle.dcel_triangles.specs.declared.triangle.Triangle.{Triangle}
 
 -- each vertex has the least number, of those not below `from`, of a point that has it

@@ -3,7 +3,7 @@ use Rattle.std.specs.Prelude.{◌≡◌, ◌≢◌, ◌⊎◌, ◌<◌, ◌≤�
 use Rattle.dcel_predicates.specs.declared.point.Point.{Point}
 use Rattle.dcel_predicates.specs.Determinants.{incircle_of, orient2d_of}
 use Rattle.dcel_plane.specs.Plane.{TurnsLeft, origin_point}
-use Rattle.dcel_covering.specs.Places.{AreDisjoint, IsIn, Place, orient_at}
+use Rattle.dcel_plane.specs.covering.Places.{AreDisjoint, IsIn, Place, orient_at}
 use Rattle.dcel_triangles.specs.declared.triangle.Triangle.{Triangle}
 
 -- the point of a number

@@ -1,4 +1,5 @@
-//! The triangles of points, by the numbers of these: [`triangulate`].
+//! The triangles of points, as numbers of these points, for callers that want no mesh:
+//! [`triangulate`]. It uses `dcel_delaunay`.
 #![tactic(auto)]
 
 mod listing;

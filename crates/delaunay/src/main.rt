@@ -1,8 +1,8 @@
-//! Reads points, and writes the triangles of their Delaunay triangulation.
+//! Reads points, and writes the triangles of their Delaunay triangulation. `delaunay --help` says
+//! what it reads and writes. It uses `dcel_delaunay`, `dcel_constrained` and `dcel_svg`.
 //!
-//! `delaunay --help` tells what it reads and writes. It exits with status 0, also if nobody reads
-//! its output any more; with 1 if the input is bad or a read, a write or memory failed; and with 2
-//! if its arguments are bad.
+//! It exits with status 0, even if nobody reads its output any more; with 1 if the input is bad or
+//! a read, a write or memory failed; and with 2 if its arguments are bad.
 #![tactic(auto)]
 
 mod arguments;

@@ -1,8 +1,8 @@
 //! An allocator over memory that a host lends, where there is no other: [`Arena`]. It hands out
-//! blocks from the front on, and uses none again.
+//! blocks from the front, and reuses none. It uses no other crate of the project.
 //!
-//! Only a host makes a [`Memory`], which an export takes as a parameter: nothing in Rattle has bytes
-//! of its own to lend. The host promises what the type says; then no two blocks have a byte in common.
+//! Only a host can create a [`Memory`], which an export takes as a parameter: nothing in Rattle has
+//! bytes of its own to lend. The host promises what the type says; then no two blocks share a byte.
 #![tactic(auto)]
 
 mod arena;

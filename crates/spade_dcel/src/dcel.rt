@@ -31,15 +31,15 @@ use dcel_store::Store;
 use std::alloc::{Allocator, Global};
 use std::marker::Model;
 
-// How many numbers there are for vertices, and for faces.
+// The size of the index space of vertices, and of that of faces.
 const INDEX_SPACE: usize = 4_294_967_296;
 
-// How many numbers there are for undirected edges, each of which has two half edges.
+// The size of the index space of undirected edges, each of which has two half edges.
 const EDGE_SPACE: usize = 2_147_483_648;
 
-/// A half-edge mesh with a datum for each vertex, half edge, undirected edge and face.
+/// A half-edge mesh (DCEL) with a datum for each vertex, half edge, undirected edge and face.
 ///
-/// These have the types `V`, `DE`, `UE` and `F`. Every value is a sound map on the sphere.
+/// The data have the types `V`, `DE`, `UE` and `F`. Every value is a sound map on the sphere.
 /// [`operations`](crate::operations) has the edits, and [`laws`](crate::laws) what is true of every
 /// mesh.
 #[derive(Drop)]
@@ -62,7 +62,7 @@ impl<V, DE, UE, F, A: Allocator> Model for Dcel<V, DE, UE, F, A> {
 
 /// The allocator.
 impl<V, DE, UE, F, A: Allocator> Dcel<V, DE, UE, F, A> {
-    /// Lends the allocator that the mesh was made with, from which another mesh may be made.
+    /// Lends the allocator of the mesh, which can serve for another mesh too.
     ///
     /// Contracts see nothing of it.
     #[inline]
@@ -73,7 +73,7 @@ impl<V, DE, UE, F, A: Allocator> Dcel<V, DE, UE, F, A> {
 
 /// Counts.
 impl<V, DE, UE, F, A: Allocator> Dcel<V, DE, UE, F, A> {
-    /// Returns the number of vertices, those without an edge and a given-up one included.
+    /// Returns the number of vertices, including those without an edge and a given-up one.
     ///
     /// The numbers of vertices are below it.
     #[inline]
@@ -95,7 +95,7 @@ impl<V, DE, UE, F, A: Allocator> Dcel<V, DE, UE, F, A> {
         2 * self.num_undirected_edges()
     }
 
-    /// Returns the number of undirected edges, given-up ones included.
+    /// Returns the number of undirected edges, including given-up ones.
     ///
     /// The numbers of undirected edges are below it.
     #[inline]
@@ -106,7 +106,7 @@ impl<V, DE, UE, F, A: Allocator> Dcel<V, DE, UE, F, A> {
         self.store.num_edges()
     }
 
-    /// Returns the number of faces, the outer face and given-up ones included.
+    /// Returns the number of faces, including the outer face and given-up ones.
     ///
     /// The numbers of faces are below it.
     #[inline]
@@ -135,7 +135,7 @@ impl<V, DE, UE, F, A: Allocator> Dcel<V, DE, UE, F, A> {
 
     /// Returns a handle to the vertex with this number, or None if there is no such vertex.
     ///
-    /// A vertex that is given up has one too.
+    /// A given-up vertex has a handle too.
     #[inline]
     pub fn get_vertex(&self, handle: FixedVertexHandle) -> Option<VertexHandle<'_, V, DE, UE, F, A>>
         ensures some { IsSome result ↔ (handle < self.now.shape.vertices) }
@@ -148,7 +148,7 @@ impl<V, DE, UE, F, A: Allocator> Dcel<V, DE, UE, F, A> {
         Some(self.vertex(handle))
     }
 
-    /// Returns a handle to the half edge with this number, or None if there is no such live one.
+    /// Returns a handle to the half edge with this number, or None if no live half edge has it.
     ///
     /// It is live if its number is in range and no open removal has given up its edge. Any number
     /// may be given.
@@ -168,8 +168,7 @@ impl<V, DE, UE, F, A: Allocator> Dcel<V, DE, UE, F, A> {
         Some(self.directed_edge(handle))
     }
 
-    /// Returns a handle to the undirected edge with this number, or None if there is no such live
-    /// one.
+    /// Returns a handle to the undirected edge with this number, or None if no live edge has it.
     ///
     /// It is live if its number is in range and no open removal has given it up. Any number may be
     /// given.
@@ -189,7 +188,7 @@ impl<V, DE, UE, F, A: Allocator> Dcel<V, DE, UE, F, A> {
         Some(self.undirected_edge(handle))
     }
 
-    /// Returns a handle to the face with this number, or None if there is no such live one.
+    /// Returns a handle to the face with this number, or None if no live face has it.
     ///
     /// It is live if its number is in range and no open removal has given it up; the outer face is
     /// always live. Any number may be given.
@@ -266,8 +265,8 @@ impl<V, DE, UE, F, A: Allocator> Dcel<V, DE, UE, F, A> {
 
     /// Returns the anchor of a vertex, or None if it has none.
     ///
-    /// The anchor is a live half edge that starts at the vertex; it has one unless no live half
-    /// edge starts there. Asks for a number below [`num_vertices`](Self::num_vertices).
+    /// The anchor is a live half edge that starts at the vertex. A vertex has one unless no live
+    /// half edge starts there. Asks for a number below [`num_vertices`](Self::num_vertices).
     #[inline]
     pub fn vertex_out_edge(&self, handle: FixedVertexHandle) -> Option<FixedDirectedEdgeHandle>
         requires { handle < self.now.shape.vertices }
@@ -278,8 +277,8 @@ impl<V, DE, UE, F, A: Allocator> Dcel<V, DE, UE, F, A> {
 
     /// Returns the anchor of a face, or None if it has none.
     ///
-    /// The anchor is a half edge on the face; it has one unless no half edge lies on it. Asks for a
-    /// number below [`num_faces`](Self::num_faces).
+    /// The anchor is a half edge of the face's boundary cycle. A face has one unless that is empty.
+    /// Asks for a number below [`num_faces`](Self::num_faces).
     #[inline]
     pub fn face_adjacent_edge<InnerOuter: InnerOuterMarker>(
         &self,
@@ -293,8 +292,8 @@ impl<V, DE, UE, F, A: Allocator> Dcel<V, DE, UE, F, A> {
 
     /// Returns the first half edge that leads from one vertex to another, or None if there is none.
     ///
-    /// The first is the one that [`out_edges`](VertexHandle::out_edges) of `from` lists first. If
-    /// several lead there, which one this is depends on the anchor of `from`. Any number may be
+    /// The first is the one that [`out_edges`](VertexHandle::out_edges) of `from` lists first; if
+    /// there are several, the anchor of `from` determines which one that is. Any number may be
     /// given for `to`.
     ///
     /// Asks for a number `from` below [`num_vertices`](Self::num_vertices).
@@ -309,7 +308,7 @@ impl<V, DE, UE, F, A: Allocator> Dcel<V, DE, UE, F, A> {
         ensures joined { let shape = self.now.shape in
             MatchOption result ((h : ℕ) → ¬ Leads shape from to h) (λ edge. Leads shape from to (number_of edge)) }
     {
-        // From both ends, since the reads of two walks do not wait for each other.
+        // From both ends: the reads of the two walks do not wait for each other.
         let mut edges = self.vertex(from).out_edges();
         let mut found = None;
         while let Some(edge) = edges.next() {

@@ -1,8 +1,10 @@
-//! The half-edge mesh layer of `spade`, proved: vertices, edges and faces on the sphere, linked by
-//! half edges.
+//! The half-edge mesh layer (DCEL) of `spade`, proved: vertices, edges and faces on the sphere,
+//! linked by half edges, without coordinates.
 //!
-//! Module [`handles`] has the names of elements, [`dcel`] the mesh and its queries, [`iterators`]
-//! the walks around it, [`operations`] the edits, and [`laws`] what holds for every mesh.
+//! Start with [`dcel`], the mesh and its queries, and [`operations`], the edits. [`handles`] has
+//! the names of elements, [`iterators`] the walks and lists, and [`laws`] what is true of every
+//! mesh. Storage is in `dcel_store`, the writers of links in `dcel_edits`, the theory in
+//! `dcel_maps`.
 #![tactic(auto)]
 
 pub mod dcel;

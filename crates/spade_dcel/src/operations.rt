@@ -1,14 +1,15 @@
 //! Edits of a mesh.
 //!
-//! What a call asks is in its contract, and a public test of [`Dcel`](crate::dcel::Dcel) tells
-//! whether it holds. A call that returns a `Result` is refused only if memory runs out, and the
-//! mesh is then as it was; [`from_links`] and [`from_anchored_links`] refuse what no mesh has, too.
-//! A call that returns none allocates nothing; its contract says only that it cannot fail.
+//! The contract of a call says what it asks, and a public test of [`Dcel`](crate::dcel::Dcel)
+//! reports whether that is true. A call that returns a `Result` is refused only if memory runs out,
+//! and then the mesh is as it was; [`from_links`] and [`from_anchored_links`] also refuse what no
+//! mesh has. A call that returns no `Result` allocates nothing; its contract says only that it
+//! cannot fail.
 //!
-//! In the pictures each face lies to the left of its half edges, and `t` is the other half of
-//! `edge` or `e`. `n` is twice the number of undirected edges before the call, so the first new
-//! half edge has this number; `L` is the number of faces before it, so the first new face has that
-//! one. `docs/PICTURES.md` draws each on a mesh with numbers.
+//! In the pictures each face is to the left of its half edges, and `t` is the other half of `edge`
+//! or `e`. `n` is twice the number of undirected edges before the call, so it is the number of the
+//! first new half edge; `L` is the number of faces before the call, so it is the number of the
+//! first new face. `docs/PICTURES.md` draws each on a mesh with numbers.
 
 mod cleanup;
 mod create;
@@ -48,12 +49,12 @@ pub use strip::disconnect_edge_strip;
 pub use swap_remove::swap_remove_vertex;
 pub use triangle::{insert_into_triangle, new_triangle};
 
-/// What was handed in, given back because memory ran out.
+/// The value that was passed in, returned because memory ran out.
 ///
-/// It converts to `AllocError`, so that `?` passes it on where the value may be dropped.
+/// It converts to `AllocError`, so `?` works where the value may be dropped.
 #[derive(Debug, Drop)]
 pub struct NoMemory<T> {
-    /// The value that was handed in.
+    /// The value that was passed in.
     pub back: T,
 }
 

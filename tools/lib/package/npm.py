@@ -3,18 +3,22 @@
 import json
 
 import linking
+from package import licenses
 
 FILES = ["mesh.d.ts", "mesh.html", "mesh.js", "mesh.wasm"]
 README = """\
 # dcel: a half-edge mesh for JavaScript
 
-Replies to lines about a mesh, pictures of it, and Delaunay triangulations, by a WebAssembly module in which every function is proved. `mesh.d.ts`
-has the types, and `mesh.html` is a page that draws and edits meshes in a browser.
+Answers lines about a mesh, draws it, and computes Delaunay triangulations, in a WebAssembly module in which every function is proved. What is drawn
+is only tested. `mesh.d.ts` has the types; `mesh.html` is a page that edits and draws meshes in a browser.
 
 ```js
 {example}```
 
-Each call begins with an empty mesh. The engine needs 64-bit memories: Node has them from 24 on, and Node 20 with `--experimental-wasm-memory64`.
+Each call starts from an empty mesh and keeps nothing. The engine must support 64-bit memories: Node does from 24 on, and Node 20 with
+`--experimental-wasm-memory64`.
+
+Licensed under MIT or Apache-2.0, as you choose.
 """
 
 
@@ -24,9 +28,10 @@ def manifest():
         "name": "dcel",
         "version": linking.VERSION,
         "description": "A half-edge mesh on the sphere, over a proved module",
+        "license": licenses.EXPRESSION,
         "type": "module",
         "exports": {".": {"types": "./mesh.d.ts", "default": "./mesh.js"}, "./mesh.wasm": "./mesh.wasm"},
-        "files": [*FILES, "BUILD"],
+        "files": [*FILES, "BUILD", *licenses.OWN, "licenses"],
         "private": True,
     }
     return json.dumps(said, indent=2) + "\n"

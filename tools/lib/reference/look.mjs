@@ -1,6 +1,6 @@
 // Opens pages in headless Chromium: `node look.mjs FOLDER [PAGE ..]`, all of a folder if none is named. Tells errors of a page or its
 // console, links and anchors that lead nowhere, what comes from another host, what is wider than the window at 390 and at 1,280 pixels,
-// and whether search finds `flip_cw` and goes there. Ends with status 1 if it told anything.
+// whether search finds `flip_cw` and goes there, and whether it finds things by words. Ends with status 1 if it told anything.
 
 import { readdirSync } from 'node:fs';
 import { resolve } from 'node:path';
@@ -8,6 +8,8 @@ import { pathToFileURL } from 'node:url';
 import { startChromium } from '../page/chromium.mjs';
 
 const WIDTHS = [390, 1280];
+// Words that somebody types, with a name that has to be found.
+const SEARCHES = [['remove vertex', 'remove_vertex'], ['delaunay', 'Triangulation'], ['convex hull', 'is_part_of_convex_hull'], ['flip edge', 'flip_cw']];
 const [folder, ...named] = process.argv.slice(2);
 const root = `${pathToFileURL(resolve(folder))}/`;
 const pages = named.length ? named : readdirSync(folder, { recursive: true }).filter(it => it.endsWith('.html')).sort();
@@ -48,10 +50,24 @@ function lead() {
   }
 }
 
-async function search(browser) {
+async function type(browser, words) {
   await browser.open(`${root}index.html`);
   await browser.evaluate('document.querySelector("input").focus()');
-  await browser.type('flip_cw');
+  await browser.type(words);
+}
+
+async function find(browser, words, name) {
+  await type(browser, words);
+  for (let tries = 0; tries < 50; tries++) {
+    const found = await browser.evaluate('[...document.querySelectorAll("form li a")].map(it => it.firstChild.data.split("::").pop())');
+    if (found.includes(name)) return;
+    await new Promise(done => setTimeout(done, 100));
+  }
+  faults.push(`search for ${words} doesn't find ${name}`);
+}
+
+async function search(browser) {
+  await type(browser, 'flip_cw');
   for (let tries = 0; tries < 100; tries++) {
     if (tries % 10 === 0) await browser.press('Enter');
     if (await browser.evaluate('document.readyState === "complete" && location.pathname.endsWith("/flip_cw.html")')) return;
@@ -66,6 +82,7 @@ await Promise.all(lanes.map(async browser => {
 }));
 lead();
 await search(lanes[0]);
+for (const [words, name] of SEARCHES) await find(lanes[0], words, name);
 await Promise.all(lanes.map(it => it.end()));
 for (const it of faults) console.log(it);
 console.log(`${lanes[0].name}: ${pages.length} pages looked at, ${faults.length} faults`);

@@ -4,9 +4,8 @@ import re
 
 import markdown
 
-LINK = re.compile(r"\[(`[^`\]]+`|[^\[\]`]+)\](?:\(\s*([^)\s]+)\))?(?![\[(])")
-MEANT = re.compile(r"(?m)^\[([^\]]+)\]: (\S+)$")
-PATH = re.compile(r"[A-Za-z_]\w*(?:::\w+)*")
+from reference.comments import LINK, MEANT, PATH
+
 READER = markdown.Markdown(
     extensions=["fenced_code", "codehilite", "tables", "sane_lists"],
     extension_configs={"codehilite": {"guess_lang": False, "css_class": "code"}},
@@ -33,9 +32,3 @@ def linked(found, meant, address):
         return found[0]
     where = address(path)
     return f"[{text}](<{where}>)" if where else text
-
-
-def summary(lines):
-    """The first paragraph of a comment."""
-    return "\n".join(lines).strip().split("\n\n")[0].split("\n")
-

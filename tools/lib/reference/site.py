@@ -7,16 +7,26 @@ from html import escape
 from pathlib import Path
 
 from reference import prose
+from reference.comments import first_sentence, summary
 from reference.counts import believed
 from reference.pages import Page
 from reference.places import Places
 from reference.resting import Rests, Scope, clause_words, near
+from reference.shelves import shelves_of
 from reference.sources import Item, Source
 from reference.terms import words_of
 
 KINDS = {"fn": "calls", "struct": "types", "enum": "types", "type": "types", "trait": "traits", "const": "constants", "static": "constants"}
 LOOKS = Path(__file__).resolve().parent / "looks"
 PICTURE = re.compile(r"pictures/(\w+\.svg)")
+# Where a reader begins.
+START = {
+    "Make a mesh": "spade_dcel::operations::new_triangle",
+    "Edit it": "spade_dcel::operations",
+    "Walk on it": "spade_dcel::handles::DirectedEdgeHandle",
+    "Triangulate points": "dcel_delaunay::Triangulation",
+    "Keep edges as constraints": "dcel_constrained::ConstrainedTriangulation",
+}
 
 
 class Site:
@@ -53,8 +63,9 @@ class Site:
     def keep(self, page, title, crumbs):
         self.files[page.url] = page.written(title, [("reference", "index.html"), *crumbs])
 
-    def note(self, name, kind, address):
-        self.names.append([name, kind, address])
+    def note(self, name, kind, address, comment):
+        """Keeps what search finds: a name, or words of the first sentence that is said of it."""
+        self.names.append([name, kind, address, first_sentence(comment)])
 
     # What pages say of one thing.
 
@@ -98,7 +109,7 @@ class Site:
     def item(self, name, item, module):
         """The page of an item."""
         page = self.page(self.places.items[item])
-        self.note(name, KINDS[item.kind][:-1], page.url)
+        self.note(name, "law" if "laws" in module.parts else KINDS[item.kind][:-1], page.url, item.doc)
         if item.kind == "fn":
             self.call(page, item, "h1")
         else:
@@ -111,7 +122,7 @@ class Site:
                 if call.block is not block:
                     block = call.block
                     page.add(page.comment(block.doc, block.home, item, self.place(block)), page.code(block.text, Scope(block)))
-                self.note(f"{name}::{call.name}", "call", f"{page.url}#{anchor}")
+                self.note(f"{name}::{call.name}", "call", f"{page.url}#{anchor}", call.doc)
                 self.call(page, call, "h2", anchor)
             for block in item.impls:
                 if block.name not in ("", "Model"):
@@ -128,7 +139,7 @@ class Site:
     def module(self, module):
         """The page of a module: what it is for, and what it has."""
         page, path = self.page(self.places.modules[module]), "::".join([module.crate, *module.parts])
-        self.note(path, "module", page.url)
+        self.note(path, "module", page.url, module.doc)
         page.add(f"<h1>{path}</h1>", page.comment(module.doc, module, None, f"{module.path.name}:1"))
         inner = [(name, it) for name, it in module.children.items() if it in self.places.modules]
         inner += [(name, it) for name, it in self.places.shown[module] if isinstance(it, Source)]
@@ -145,9 +156,7 @@ class Site:
         if items:
             page.add(f"<h2>{title}</h2>", "<dl class=list>")
             for name, item in sorted(items, key=lambda it: it[0]):
-                where = item if isinstance(item, Source) else item.home
-                said = page.comment(prose.summary(item.doc), where, item if isinstance(item, Item) else None, name)
-                page.add(f"<dt>{page.link(item, name)}</dt><dd>{said}</dd>")
+                self.entry(page, page.link(item, name), item, item if isinstance(item, Source) else item.home)
             page.add("</dl>")
 
     def definitions(self, spec):
@@ -157,7 +166,7 @@ class Site:
         page.add(f"<h1>{name}</h1>", page.definition_comment([it.strip()[2:].strip() for it in spec.comment]))
         section = None
         for item in spec.items.values():
-            self.note(item.name, "definition", f"{page.url}#{item.name}")
+            self.note(item.name, "definition", f"{page.url}#{item.name}", item.comment)
             if item.section is not section and item.section.text:
                 page.add(f"<p>In what follows <code>{escape(item.section.text.strip())}</code></p>")
             section = item.section
@@ -170,7 +179,7 @@ class Site:
         page, home = self.page(url), items[0].home
         page.add(f"<h1>{'::'.join([home.crate, *home.parts])}</h1><p>What isn't public here, and contracts rest on.</p>")
         for item in items:
-            self.note(item.name, "type", f"{url}#{item.name}")
+            self.note(item.name, "type", f"{url}#{item.name}", item.doc)
             page.add(f'<section id="{item.name}"><h2>{item.name}</h2>', page.comment(item.doc, home, item, self.place(item)))
             page.add(page.code(item.text, Scope(item)))
             self.members(page, item)
@@ -179,18 +188,38 @@ class Site:
 
     def front(self):
         page = self.page("index.html")
-        page.add((LOOKS / "front.html").read_text(), "<h2 id=believe>What to believe</h2>", "<dl class=list>")
+        page.add((LOOKS / "front.html").read_text(), "<h2>Start here</h2>", "<dl class=list>")
+        for words, path in START.items():
+            crate, *rest = path.split("::")
+            item = self.project.crate(crate).find(rest)
+            if not self.places.address(item):
+                self.faults.append(f"index.html: '{words}' leads to {path}, which has no page")
+                continue
+            self.entry(page, page.link(item, words), item, item.home if isinstance(item, Item) else item)
+        page.add("</dl>", "<h2>Crates</h2>")
+        libraries = {it.crate: it for it in self.project.libraries()}
+        for shelf, crates in shelves_of((self.project.root / "crates.txt").read_text()):
+            if shown := [libraries[it] for it in crates if it in libraries]:
+                page.add(f"<h3>{escape(shelf)}</h3>" if shelf else "", "<dl class=list>")
+                for it in shown:
+                    self.entry(page, page.link(it, it.crate), it, it, f"<p class=count>{self.counted(it)}</p>")
+                page.add("</dl>")
+        self.beliefs(page)
+        self.files["index.html"] = page.written("Reference", [("reference", "index.html")])
+
+    def entry(self, page, link, item, home, more=""):
+        """What a list says of an item, a module or a crate: the first paragraph of its comment."""
+        said = page.comment(summary(item.doc), home, item if isinstance(item, Item) else None, link)
+        page.add(f"<dt>{link}</dt><dd>{said}{more}</dd>")
+
+    def beliefs(self, page):
+        page.add("<h2 id=believe>What to believe</h2>", "<dl class=list>")
         for name, promise in believed(self.project.root):
             call = self.project.calls(name)[0]
             rests = self.rests[call]
             values = f"; for values {rests.values}" if rests.values else ""
             page.add(f"<dt>{page.link(call, name)}</dt><dd>{prose.shown([promise], str)}<p class=count>{rests.meaning}{values}</p></dd>")
-        page.add("</dl>", "<h2>Crates</h2>", "<dl class=list>")
-        for library in self.project.libraries():
-            said = page.comment(prose.summary(library.doc), library, None, library.crate)
-            page.add(f"<dt>{page.link(library, library.crate)}</dt><dd>{said}<p class=count>{self.counted(library)}</p></dd>")
         page.add("</dl>")
-        self.files["index.html"] = page.written("Reference", [("reference", "index.html")])
 
     def counted(self, library):
         """How many items of each kind a library shows, calls of types among them."""

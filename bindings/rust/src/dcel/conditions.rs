@@ -226,7 +226,8 @@ impl<V, DE, UE, F> Dcel<V, DE, UE, F> {
     }
 
     /// Returns whether the lists are a ring of half edges with the edges and faces inside: those of
-    /// a vertex, or of a region without one.
+    /// a vertex, or of a region without one. In the worst case the time is quadratic in the length
+    /// of the ring.
     pub fn is_ring(
         &self,
         border_loop: &[FixedDirectedEdgeHandle],
@@ -262,7 +263,7 @@ impl<V, DE, UE, F> Dcel<V, DE, UE, F> {
     }
 
     /// Returns whether all is so that [`remesh_edge_ring`](crate::operations::remesh_edge_ring)
-    /// asks, but for room and memory.
+    /// asks, but for room and memory. It takes as long as [`is_ring`](Self::is_ring).
     pub fn can_remesh_edge_ring(
         &self,
         border_loop: &[FixedDirectedEdgeHandle],

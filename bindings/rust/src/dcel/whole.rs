@@ -11,7 +11,9 @@ impl<V, DE, UE, F> Dcel<V, DE, UE, F> {
     ///
     /// # Errors
     ///
-    /// [`Refusal::NoRoom`] if there are no numbers for them, and [`Refusal::OutOfMemory`].
+    /// [`Refusal::NoRoom`] if there are no numbers for them, and [`Refusal::OutOfMemory`] if the
+    /// links find no memory. If the values of vertices find none, the process aborts, as in
+    /// [`Vec::reserve`].
     ///
     /// ```
     /// let mut dcel = dcel::Dcel::<char>::new()?;

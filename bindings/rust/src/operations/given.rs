@@ -91,9 +91,10 @@ pub fn from_links<V, DE: Default, UE: Default, F: Default>(
 /// Makes the mesh of faces, each the list of its corners, counterclockwise, with these values of
 /// its vertices.
 ///
-/// The faces keep their order, from number 1 on; face 0, the outer one, is what they leave. The
-/// vertices keep their numbers, and a vertex need not be a corner. The edges are numbered in the
-/// order in which their first sides come, and such a side is the even half edge.
+/// The faces keep their order, from number 1 on; face 0, the outer one, is what they leave: of a
+/// closed surface, leave one face out. The vertices keep their numbers, and a vertex need not be a
+/// corner. The edges are numbered in the order in which their first sides come, and such a side is
+/// the even half edge.
 ///
 /// # Errors
 ///

@@ -86,7 +86,8 @@ pub fn disconnect_edge_strip<V, DE, UE, F>(
 /// Gives up these edges and faces, with one vertex or none, inside the ring of the half edges, and
 /// fills the hole: opens a removal.
 ///
-/// Without a vertex the edges are between the faces, one fewer than these, and join them all.
+/// Without a vertex the edges are between the faces, one fewer than these, and join them all. In
+/// the worst case the time is quadratic in the length of the ring.
 ///
 /// # Errors
 ///

@@ -1,4 +1,4 @@
-//! Commands, which edit a mesh. Each is carried out by its file in `request`.
+//! Commands, which edit a mesh. Each is carried out by its own file in `request`.
 
 ghost use Rattle.std.specs.Prelude.{◌≡◌, ◌≤◌, ◌^◌, IfOk, IfErr, OnOk, OnErr};
 ghost use Rattle.dcel_commands.specs.Edits.{edits_of};
@@ -21,7 +21,7 @@ use spade_dcel::dcel::Dcel;
 use spade_dcel::laws;
 use std::alloc::{Allocator, Global};
 
-/// The greatest limit that [`apply`] and [`run`](crate::run::run) take, 2^31.
+/// The greatest limit that [`apply`] and [`run`](crate::run::run) accept, 2^31.
 ///
 /// Handles have numbers for that many edges.
 pub const MAX_LIMIT: usize = 2_147_483_648;
@@ -30,7 +30,7 @@ pub const MAX_LIMIT: usize = 2_147_483_648;
 ///
 /// Any numbers may be given: [`apply`](crate::commands::apply) tests all that a command asks. A
 /// command owns its lists. The table in docs/LINES.md has a row for each command: the line that
-/// says it, the reply, and the refusals that can come.
+/// says it, the reply, and the possible refusals.
 #[derive(Debug, Drop)]
 pub enum Command<V, A: Allocator = Global> {
     /// Adds a vertex with this datum and without an edge.
@@ -39,9 +39,10 @@ pub enum Command<V, A: Allocator = Global> {
     ///
     /// Asks for room for one vertex.
     Append(V),
-    /// Replaces the mesh by one of a single triangle with this datum for each vertex.
+    /// Replaces the mesh by a single triangle with these data for its vertices.
     ///
-    /// Asks for a limit that three vertices, three edges and two faces don't pass.
+    /// Asks for a limit of three or more, so that three vertices, three edges and two faces don't
+    /// exceed it.
     Triangle(V, V, V),
     /// Adds the first edge, from the first vertex to the second.
     ///
@@ -54,63 +55,63 @@ pub enum Command<V, A: Allocator = Global> {
     /// Asks for two different live vertices, of which the second has no edge and the first exactly
     /// one out edge, and for room for one edge.
     Extend(FixedVertexHandle, FixedVertexHandle),
-    /// Puts the vertex into the middle of the half edge's edge.
+    /// Splits the half edge's edge, which has the same face on both sides, at the vertex.
     ///
-    /// The reply is the half edge's two parts, in their order.
+    /// The reply is the two parts of the half edge, in order.
     ///
-    /// Asks for a live half edge whose two halves lie on one face, a live vertex without an edge,
+    /// Asks for a live half edge with the same face on both sides, a live vertex without an edge,
     /// and room for one edge.
     Line(FixedDirectedEdgeHandle, FixedVertexHandle),
-    /// Makes a face of the half edge, the next one on the outer face and a new edge.
+    /// Closes a triangle between the half edge and the next one on the outer face, by a new edge.
     ///
-    /// The reply is the half of the new edge that lies on the outer face.
+    /// The reply is the half of the new edge that is on the outer face.
     ///
     /// Asks for a live half edge on the outer face, the next of which doesn't end where it starts,
     /// and for room for one edge and one face.
     Close(FixedDirectedEdgeHandle),
-    /// Makes a face of the half edge and the vertex, inside the face that the half edge lies on.
+    /// Adds a triangle beside the half edge, with the vertex as its third corner.
     ///
-    /// The reply is the vertex.
+    /// The triangle is cut from the face of the half edge. The reply is the vertex.
     ///
     /// Asks for a live half edge, a live vertex without an edge, and room for two edges and one
     /// face.
     Outside(FixedDirectedEdgeHandle, FixedVertexHandle),
-    /// Puts the vertex into the inner face, and joins it to the three corners.
+    /// Inserts the vertex into the inner face, and joins it to the three corners.
     ///
     /// The reply is the vertex.
     ///
     /// Asks for a live vertex without an edge, a live inner face with three half edges, and room
     /// for three edges and two faces.
     Insert(FixedVertexHandle, FixedFaceHandle<InnerTag>),
-    /// Splits the half edge's edge at the vertex, and the triangle that the half edge lies on.
+    /// Splits the half edge's edge at the vertex, and the triangle on the half edge's side.
     ///
-    /// A new edge joins the vertex to the corner opposite. The reply is the half edge's two parts,
-    /// in their order.
+    /// A new edge joins the vertex to the opposite corner. The reply is the two parts of the half
+    /// edge, in order.
     ///
     /// Asks for a live half edge on a face with three half edges, a live vertex without an edge,
     /// and room for two edges and one face.
     Half(FixedDirectedEdgeHandle, FixedVertexHandle),
     /// Splits the half edge's edge at the vertex, and the triangles on both sides.
     ///
-    /// Two new edges join the vertex to the corners opposite. The reply is the half edge's two
-    /// parts, in their order.
+    /// Two new edges join the vertex to the opposite corners. The reply is the two parts of the
+    /// half edge, in order.
     ///
     /// Asks for a live half edge with a face of three half edges on both sides, a live vertex
     /// without an edge, and room for three edges and two faces.
     Split(FixedDirectedEdgeHandle, FixedVertexHandle),
-    /// Turns the edge between the two triangles at its sides.
+    /// Flips the edge between the two triangles on its sides.
     ///
-    /// Afterwards it joins their other corners. It does not allocate.
+    /// Afterwards it joins the corners opposite it. It does not allocate.
     ///
-    /// Asks for a live edge with a face of three half edges on both sides, whose other corners are
-    /// two vertices.
+    /// Asks for a live edge with a face of three half edges on both sides, whose opposite corners
+    /// are two different vertices.
     Flip(FixedUndirectedEdgeHandle),
-    /// Exchanges two vertices.
+    /// Swaps two vertices.
     ///
-    /// The half edges out of one start at the other afterwards, and the data change places too. It
+    /// The half edges out of one start at the other afterwards, and the data are swapped too. It
     /// does not allocate.
     ///
-    /// Asks for live vertices, which may be one.
+    /// Asks for live vertices, which may be the same.
     Swap(FixedVertexHandle, FixedVertexHandle),
     /// Replaces the datum of the vertex. It does not allocate.
     ///
@@ -118,17 +119,15 @@ pub enum Command<V, A: Allocator = Global> {
     Put(FixedVertexHandle, V),
     /// Gives up a vertex with its edges and triangles, and fills the hole with new triangles.
     ///
-    /// A removal is open then. The reply lists what is given up and the new edges.
+    /// This opens a removal. The reply lists what is given up and the new edges.
     ///
     /// Asks for a vertex and half edges in range, for no open removal, for the border loop of the
-    /// vertex, and for room for as many edges as the loop has half edges, less three, and a face
-    /// more.
+    /// vertex, and, if the loop has `k` half edges, for room for `k - 3` edges and `k - 2` faces.
     Isolate(FixedVertexHandle, Vec<FixedDirectedEdgeHandle, A>),
-    /// Gives up what lies inside a ring of half edges, and fills the hole with new triangles.
+    /// Gives up what is inside a ring of half edges, and fills the hole with new triangles.
     ///
-    /// Inside are these edges and faces, and a vertex if there are as many edges as faces. A
-    /// removal is open then. The reply is like that to `Isolate`, with the lists as they were
-    /// given.
+    /// Inside are these edges and faces, and a vertex if there are as many edges as faces. This
+    /// opens a removal. The reply is like that to `Isolate`, with the lists as they were given.
     ///
     /// Asks for half edges, edges and inner faces in range, for no open removal, for a ring with
     /// these edges and faces inside, and for room as `Isolate` does.
@@ -137,43 +136,43 @@ pub enum Command<V, A: Allocator = Global> {
         Vec<FixedUndirectedEdgeHandle, A>,
         Vec<FixedFaceHandle<InnerTag>, A>,
     ),
-    /// Cuts off the outer vertex whose strip these half edges are.
+    /// Cuts off the vertex of the outer face whose strip these half edges are.
     ///
-    /// The vertex is given up with its edges and the triangles around it, and a removal is open
-    /// then. The reply lists what is given up.
+    /// The vertex is given up with its edges and the triangles around it, which opens a removal.
+    /// The reply lists what is given up.
     ///
     /// Asks for half edges in range, for no open removal, and for a strip.
     Strip(Vec<FixedDirectedEdgeHandle, A>),
     /// Takes out the edges and the faces that an open removal has given up.
     ///
-    /// Its vertex is still to be taken out; a removal without a vertex is closed. It does not
+    /// Its vertex has still to be taken out; a removal without a vertex is closed. It does not
     /// allocate.
     ///
     /// Asks for edges and inner faces in range, for an open removal that isn't cleaned up, and that
     /// the lists name what it has given up, each once.
     Cleanup(Vec<FixedUndirectedEdgeHandle, A>, Vec<FixedFaceHandle<InnerTag>, A>),
-    /// Takes out a vertex, and closes a removal that is cleaned up.
+    /// Takes out a vertex by swap-remove, and closes a removal that is cleaned up.
     ///
     /// The last vertex gets its number. The reply has its datum, and the old number of the vertex
-    /// that was moved into its place, if one was. It does not allocate.
+    /// that was moved, if one was. It does not allocate.
     ///
-    /// Asks for a vertex in range that has no edge, while no removal is open; or that it alone is
-    /// still given up.
+    /// Asks for a vertex in range that has no edge, while no removal is open; or that only this
+    /// vertex is still given up.
     Remove(FixedVertexHandle),
     /// Takes out a vertex of a mesh that is one vertex or a path, with one edge if it has any.
     ///
-    /// The last vertex and the last edge get the numbers of those that go. The reply is like that
+    /// The last vertex and the last edge get the numbers that become free. The reply is like that
     /// to `Remove`. It does not allocate.
     ///
     /// Asks for a vertex in range, for no open removal, and for such a mesh.
     Degenerate(FixedVertexHandle),
-    /// Flips edges by number, at most this many times, from the last edge of the list on.
+    /// Flips edges by number, at most this many times, starting with the last edge of the list.
     ///
-    /// If the lesser of the corners opposite an edge is below the lesser of its ends, the edge is
-    /// flipped if it can be, and it and the other edges of its two triangles are added to the end
-    /// of the list. The reply is the number of flips and how they ended
-    /// ([`Legalized`](crate::legalize::Legalized)). If the list finds no memory to grow, the
-    /// command is carried out as far as it came.
+    /// An edge is flipped if it can be and the lesser of its opposite corners is below the lesser
+    /// of its ends. Then it and the other edges of its two triangles are added to the end of the
+    /// list. The reply is the number of flips and how they ended
+    /// ([`Legalized`](crate::legalize::Legalized)). If there is no memory for the list to grow, the
+    /// flips made so far stay.
     ///
     /// Asks for edges in range. Those that are given up are skipped.
     Legalize(usize, Vec<FixedUndirectedEdgeHandle, A>),
@@ -183,7 +182,7 @@ pub enum Command<V, A: Allocator = Global> {
     Clear,
 }
 
-/// Carries a command out by the file of its line.
+/// Carries out a command by the file of its line.
 #[inline(always)]
 fn carry_out<
     V: Drop,
@@ -227,18 +226,18 @@ fn carry_out<
     }
 }
 
-/// Carries a command out, or refuses it and leaves the mesh as it was.
+/// Carries out a command, or refuses it and leaves the mesh as it was.
 ///
 /// The conditions of the command are tested in the order of the refusals' numbers, and the first
 /// that isn't met decides which refusal is returned. If all are met, the command is carried out, or
-/// refused as [`Refusal::OutOfMemory`](crate::commands::Refusal) if the mesh finds no memory to
-/// grow. A refusal hands back the data that the command carried.
+/// refused as [`Refusal::OutOfMemory`](crate::commands::Refusal) if there is no memory for the mesh
+/// to grow. A refusal returns the data that the command carried.
 ///
 /// The limit, at most 2^31, bounds the counts of vertices, undirected edges and faces. A command
 /// that adds elements is refused as [`Refusal::NoRoom`](crate::commands::Refusal) if one of these
-/// counts would be above the limit, and so is `Triangle` if a count of the new mesh would be.
+/// counts would exceed the limit, and so is `Triangle` if a count of the new mesh would.
 ///
-/// While a removal is open, the live elements can be edited as ever. What a command does is a list of
+/// While a removal is open, the live elements can be edited as usual. Each command is a list of
 /// elementary edits (clause `edits`).
 #[inline(always)]
 pub fn apply<

@@ -18,12 +18,12 @@ use std::alloc::{Allocator, Global};
 
 /// How far a list of commands was carried out before it stopped.
 ///
-/// One of them was refused, or there was no memory for the replies.
+/// Either a command was refused, or there was no memory for the replies.
 #[derive(Drop)]
 pub struct StoppedAt<V, A: Allocator = Global, B: Allocator = Global> {
     /// The replies to the commands that were carried out.
     pub done: Vec<Reply<V, A>, B>,
-    /// How many these are, which is the index of the command that was refused.
+    /// Their number, which is the index of the command that was refused.
     pub at: usize,
     /// Its refusal, with the data that it carried.
     pub refused: Refused<V>,
@@ -31,20 +31,21 @@ pub struct StoppedAt<V, A: Allocator = Global, B: Allocator = Global> {
 
 /// Carries the commands out one after another, up to the first that is refused.
 ///
-/// Asks for a limit of at most 2^31, which holds for each of them as in [`apply`].
+/// Asks for a limit of at most 2^31, which applies to each of them as in [`apply`].
 ///
-/// Returns the reply to each command. The memory for the replies is taken first, from the allocator
-/// of the list. If there is none, the refusal is [`Refusal::OutOfMemory`] at 0, no data come back,
-/// and the mesh is as it was. If a command is refused, the commands before it stay carried out and
-/// their replies come back; those after it are dropped. In each case the mesh that is left is a
-/// connected map on the sphere, as [`the_headline`](spade_dcel::laws::the_headline) says.
+/// Returns the reply to each command. The memory for the replies is requested first, from the
+/// allocator of the list. If there is none, the refusal is [`Refusal::OutOfMemory`] at 0, no data
+/// are returned, and the mesh is as it was. If a command is refused, the commands before it stay
+/// carried out and their replies are returned; those after it are dropped. In each case the
+/// resulting mesh is a connected map on the sphere, as
+/// [`the_headline`](spade_dcel::laws::the_headline) says.
 ///
-/// The mesh that is left comes from the one before by elementary edits: those of the commands that
+/// The resulting mesh comes from the one before by elementary edits: those of the commands that
 /// were carried out, one after another.
 ///
-/// If each live inner face is a triangle, that holds afterwards too, unless a command that was
-/// carried out puts a face beside a half edge of an inner face, or splits one side of an edge whose
-/// other half lies on an inner face.
+/// If each live inner face is a triangle before, it is so afterwards, unless a command that was
+/// carried out adds a face beside a half edge of an inner face, or splits one side of an edge whose
+/// other half is on an inner face.
 pub fn apply_all<
     V: Drop,
     DE: Default + Drop,

@@ -1,4 +1,4 @@
-//! Queries, which a mesh answers and which leave it as it is: what each asks, and what it is told.
+//! Queries, which a mesh answers without changing: what each asks, and the answers.
 
 ghost use Rattle.std.specs.Prelude.{IfOk, IfErr, OnOk};
 ghost use Rattle.dcel_commands.specs.Conditions.{AllMet, FirstUnmet};
@@ -14,9 +14,9 @@ use std::alloc::{Allocator, Global};
 /// A question about a mesh, by the numbers of its elements.
 #[derive(Clone, Copy)]
 pub enum Query {
-    /// How many vertices, edges and faces there are.
+    /// The numbers of vertices, edges and faces.
     Counts,
-    /// The word of each face.
+    /// The word, or boundary cycle, of each face.
     Words,
     /// The half edges of the outer face.
     Hull,
@@ -24,7 +24,7 @@ pub enum Query {
     ///
     /// Asks for a live vertex.
     Out(FixedVertexHandle),
-    /// The vertex that a half edge starts at.
+    /// The vertex where a half edge starts.
     ///
     /// Asks for a live half edge.
     Origin(FixedDirectedEdgeHandle),
@@ -36,20 +36,20 @@ pub enum Query {
     ///
     /// Asks for a number in range.
     Get(FixedVertexHandle),
-    /// Whether `sanity_check` finds the mesh triangulated.
+    /// Whether the mesh passes `sanity_check`.
     Check,
 }
 
-/// What a query is told. It borrows the mesh and allocates nothing.
+/// The answer to a query. It borrows the mesh and allocates nothing.
 #[derive(Drop)]
 pub enum Told<'a, V, DE, UE, F, A: Allocator = Global> {
-    /// So many vertices, edges and faces.
+    /// The numbers of vertices, edges and faces.
     Counts {
-        /// How many vertices there are.
+        /// The number of vertices.
         vertices: usize,
-        /// How many undirected edges there are.
+        /// The number of undirected edges.
         edges: usize,
-        /// How many faces there are, with the outer one.
+        /// The number of faces, including the outer one.
         faces: usize,
     },
     /// The half edges around each live face of this mesh.
@@ -64,11 +64,11 @@ pub enum Told<'a, V, DE, UE, F, A: Allocator = Global> {
     Half(Option<FixedDirectedEdgeHandle>),
     /// A datum.
     Datum(&'a V),
-    /// Whether something holds.
+    /// Whether something is true.
     Truth(bool),
 }
 
-/// Tells the half edges that start at the vertex, or refuses.
+/// Returns the half edges that start at the vertex, or refuses.
 fn tell_out<V, DE, UE, F, A: Allocator>(
     dcel: &Dcel<V, DE, UE, F, A>,
     vertex: FixedVertexHandle,
@@ -80,7 +80,7 @@ fn tell_out<V, DE, UE, F, A: Allocator>(
     Ok(Told::Out(dcel.vertex(vertex)))
 }
 
-/// Tells where the half edge starts, or refuses.
+/// Returns where the half edge starts, or refuses.
 fn tell_origin<V, DE, UE, F, A: Allocator>(
     dcel: &Dcel<V, DE, UE, F, A>,
     edge: FixedDirectedEdgeHandle,
@@ -92,7 +92,7 @@ fn tell_origin<V, DE, UE, F, A: Allocator>(
     Ok(Told::Vertex(dcel.directed_edge(edge).from().fix()))
 }
 
-/// Tells which half edge leads from one vertex to the other, or refuses.
+/// Returns the half edge that leads from one vertex to the other, or refuses.
 fn tell_between<V, DE, UE, F, A: Allocator>(
     dcel: &Dcel<V, DE, UE, F, A>,
     from: FixedVertexHandle,
@@ -107,7 +107,7 @@ fn tell_between<V, DE, UE, F, A: Allocator>(
     }
 }
 
-/// Tells the datum of the vertex, or refuses.
+/// Returns the datum of the vertex, or refuses.
 fn tell_get<V, DE, UE, F, A: Allocator>(
     dcel: &Dcel<V, DE, UE, F, A>,
     vertex: FixedVertexHandle,
@@ -118,10 +118,10 @@ fn tell_get<V, DE, UE, F, A: Allocator>(
     Ok(Told::Datum(dcel.vertex_data(vertex)))
 }
 
-/// Tells what a query asks for, or refuses it.
+/// Answers a query, or refuses it.
 ///
-/// The conditions of the query are tested in the order of the refusals' numbers, and the first
-/// that isn't met decides which refusal is returned.
+/// The conditions of the query are tested in the order of the refusals' numbers, and the first that
+/// isn't met decides which refusal is returned.
 pub fn tell<V, DE, UE, F, A: Allocator>(
     dcel: &Dcel<V, DE, UE, F, A>,
     query: Query,

@@ -1,4 +1,4 @@
-//! The replies to commands, and their refusals with the data handed back.
+//! The replies to commands, and their refusals, which return the data.
 
 use crate::refusal::Refusal;
 use dcel_fixed::{FixedDirectedEdgeHandle, FixedVertexHandle};
@@ -9,15 +9,15 @@ use std::alloc::{AllocError, Allocator, Global};
 /// The reply to a command that was carried out.
 #[derive(Drop)]
 pub enum Reply<V, A: Allocator = Global> {
-    /// There is nothing more to say.
+    /// Done; the command has nothing to report.
     Ok,
     /// The vertex that was added, or that an edge now leads to.
     Vertex(FixedVertexHandle),
     /// A half edge that was added.
     Half(FixedDirectedEdgeHandle),
-    /// The two parts of a half edge that was split, in their order.
+    /// The two parts of a half edge that was split, in order.
     Halves([FixedDirectedEdgeHandle; 2]),
-    /// What the removal that is now open has given up, and the edges that it has put in.
+    /// What the removal that is now open has given up, and the edges that it has added.
     Opened(IsolateVertexResult<A>),
     /// The vertex that was taken out.
     Removed(RemovalResult<V>),

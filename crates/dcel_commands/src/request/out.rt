@@ -1,4 +1,4 @@
-//! Writes what the line `out V` is told.
+//! Writing the answer to the line `out V`.
 
 ghost use Rattle.std.specs.Prelude.{◌≡◌, IfSome};
 ghost use Rattle.std.specs.Option.{option_map};
@@ -29,7 +29,7 @@ fn least_out_edge<'a, V, DE, UE, F, A: Allocator>(
     Some(least)
 }
 
-/// Writes the half edges around the origin of this one, each after a space.
+/// Writes the half edges around this one's origin, each after a space.
 fn write_turn<V, DE, UE, F, A: Allocator, K: LineSink>(
     out: &mut Writer<'_, K>,
     first: DirectedEdgeHandle<'_, V, DE, UE, F, A>,

@@ -13,7 +13,7 @@ use spade_dcel::dcel::Dcel;
 use spade_dcel::operations::swap_remove_vertex;
 use std::alloc::Allocator;
 
-/// Refuses unless the vertex can be taken out: an open removal or an edge is in the way.
+/// Refuses unless the vertex can be taken out: no open removal and no edge prevents it.
 fn ask_removable<V, DE, UE, F, A: Allocator>(
     dcel: &Dcel<V, DE, UE, F, A>,
     vertex: FixedVertexHandle,

@@ -15,7 +15,7 @@ use spade_dcel::handles::{
 use spade_dcel::laws::every_mesh;
 use std::alloc::Allocator;
 
-/// Returns the least half edge of the face that the anchor lies on.
+/// Returns the least half edge of the anchor's face.
 fn least_on_face<'a, V, DE, UE, F, A: Allocator>(
     anchor: DirectedEdgeHandle<'a, V, DE, UE, F, A>,
 ) -> DirectedEdgeHandle<'a, V, DE, UE, F, A>

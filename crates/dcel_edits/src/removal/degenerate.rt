@@ -1,4 +1,4 @@
-//! Vertices of degenerate meshes taken out: the only one, or one of a path with an edge of it.
+//! Taking out a vertex of a degenerate mesh: the only one, or one of a path with an edge of it.
 
 ghost use Rattle.std.specs.Prelude.{◌≡◌, ◌/◌, ◌<◌, length, slice_index_or};
 ghost use Rattle.dcel_maps.specs.edits.Degenerate.{anchor_off};
@@ -60,7 +60,7 @@ fn unlink_on_path<V, DE, UE, F, A: Allocator>(
 }
 
 // Returns what replaces an anchor on the edge that goes: None if no other edge is left, the next
-// half edge at an end of the path, and else the other out edge.
+// half edge at an end of the path, and otherwise the other out edge.
 fn anchor_instead<V, DE, UE, F, A: Allocator>(
     store: &Store<V, DE, UE, F, A>,
     anchor: FixedDirectedEdgeHandle,

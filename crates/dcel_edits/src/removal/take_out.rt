@@ -1,5 +1,5 @@
-//! Elements taken out: the last element of the kind gets the number, and what named it is renamed
-//! in one pass, without allocating.
+//! Swap-removes: the last element of the kind gets the number, and what named it is renamed in one
+//! pass, without allocating.
 
 ghost use Rattle.std.specs.Prelude.{◌≡◌, ◌<◌, ◌^◌, Some, cond, length, reverse, slice_index_or};
 ghost use Rattle.dcel_maps.specs.Removals.{is_this};
@@ -14,9 +14,9 @@ use dcel_fixed::{
 use dcel_store::{HalfEdgeLinks, Store};
 use std::alloc::Allocator;
 
-/// Takes out an edge, and drops its data.
+/// Swap-removes an edge, and drops its data.
 ///
-/// The links and anchors that named a half edge of the last edge name it by its new number.
+/// The links and anchors that named a half edge of the last edge get its new number.
 pub(crate) fn take_out_edge<V, DE: Drop, UE: Drop, F, A: Allocator>(
     store: &mut Store<V, DE, UE, F, A>,
     edge: FixedUndirectedEdgeHandle,
@@ -38,7 +38,7 @@ pub(crate) fn take_out_edge<V, DE: Drop, UE: Drop, F, A: Allocator>(
     rename_half(store, reversed, from.rev(), to.rev());
 }
 
-// Takes out a face, and drops its datum. The half edges of the last face name it by its new number.
+// Swap-removes a face, and drops its datum. The half edges of the last face get its new number.
 fn take_out_face<V, DE, UE, F: Drop, A: Allocator>(
     store: &mut Store<V, DE, UE, F, A>,
     face: FixedFaceHandle<PossiblyOuterTag>,
@@ -53,7 +53,7 @@ fn take_out_face<V, DE, UE, F: Drop, A: Allocator>(
     }
 }
 
-/// Takes out the edges of a list, from its last one to its first.
+/// Swap-removes the edges of a list, from its last one to its first.
 pub fn take_out_edges<V, DE: Drop, UE: Drop, F, A: Allocator>(
     store: &mut Store<V, DE, UE, F, A>,
     edges: &[FixedUndirectedEdgeHandle],
@@ -68,7 +68,7 @@ pub fn take_out_edges<V, DE: Drop, UE: Drop, F, A: Allocator>(
     }
 }
 
-/// Takes out the faces of a list, from its last one to its first.
+/// Swap-removes the faces of a list, from its last one to its first.
 pub fn take_out_faces<V, DE, UE, F: Drop, A: Allocator>(
     store: &mut Store<V, DE, UE, F, A>,
     faces: &[FixedFaceHandle<InnerTag>],
@@ -83,9 +83,9 @@ pub fn take_out_faces<V, DE, UE, F: Drop, A: Allocator>(
     }
 }
 
-/// Takes out a vertex, and returns its datum.
+/// Swap-removes a vertex, and returns its datum.
 ///
-/// The half edges of the last vertex name it by its new number.
+/// The half edges of the last vertex get its new number.
 pub fn take_out_vertex<V, DE, UE, F, A: Allocator>(
     store: &mut Store<V, DE, UE, F, A>,
     vertex: FixedVertexHandle,

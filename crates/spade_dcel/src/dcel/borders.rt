@@ -1,4 +1,4 @@
-//! Tests of what a removal opens with: the half edges around what is given up.
+//! Tests of the lists that open a removal: the half edges around what is given up.
 
 ghost use Rattle.std.specs.Prelude.{◌↔◌, ◌<◌, IsTrue, reverse};
 ghost use Rattle.dcel_maps.specs.Borders.{IsBorderLoop, IsVertexRing};
@@ -17,11 +17,11 @@ use dcel_fixed::{
 use std::alloc::Allocator;
 
 impl<V, DE, UE, F, A: Allocator> Dcel<V, DE, UE, F, A> {
-    /// Returns whether these half edges are the border loop of the vertex.
+    /// Returns whether these half edges are the border loop of the vertex: its link, backwards.
     ///
-    /// The vertex lies inside triangles alone, three or more. Read from its end, the list names
-    /// what comes after its out edges, in the order of `ccw` from one of them on; and the last half
-    /// edge of the list starts where no other one of it does.
+    /// All faces around the vertex are inner triangles, three or more. Read from its end, the list
+    /// has `next` of each out edge, in the order of `ccw` from one of them on. No other half edge
+    /// of the list starts where the last one does.
     ///
     /// Any numbers may be given.
     pub fn is_border_loop(
@@ -53,16 +53,17 @@ impl<V, DE, UE, F, A: Allocator> Dcel<V, DE, UE, F, A> {
 
     /// Returns whether these half edges are the ring of these edges and faces.
     ///
-    /// Each edge and each face is listed once, in any order. Either the list is the border loop of
-    /// a vertex, with the edges at that vertex and the faces around it, which are as many. Or it is
-    /// the ring of a region, which is inner faces and the edges between them, one fewer: read from
-    /// its end, the list leads around all half edges of the faces that are of none of the edges,
-    /// three or more, each from the one before by the next one, past the edges; and the last half
-    /// edge of the list starts where no other one does.
+    /// The edges and the faces may come in any order, each once. There are two cases. In the first,
+    /// the list is the border loop of a vertex, and these are the edges at that vertex and the
+    /// faces around it, equally many. In the second, they are a region: inner faces and the edges
+    /// between them, one fewer. The list has the half edges of the faces that belong to none of the
+    /// edges, three or more. Read from its end, it leads around the region: `next`, continued past
+    /// the edges, leads from each half edge to the following one. No other half edge of the list
+    /// starts where the last one does.
     ///
-    /// Any numbers may be given. It allocates nothing. Its time grows with the square of the
-    /// lengths at most, and linearly for a vertex whose edges and faces come in the order of its
-    /// out edges.
+    /// Any numbers may be given. It allocates nothing. Its time grows at most with the square of
+    /// the lengths, and linearly for a vertex whose edges and faces come in the order of its out
+    /// edges.
     pub fn is_ring(
         &self,
         list: &[FixedDirectedEdgeHandle],
@@ -108,9 +109,8 @@ impl<V, DE, UE, F, A: Allocator> Dcel<V, DE, UE, F, A> {
         self.finds_each(center, edges, faces)
     }
 
-    // Returns whether the lists have the edge and the face of each out edge. Each is looked for first
-    // at the place where it stands if the lists are in the order of out edges, so that such lists are
-    // read once.
+    // Returns whether the lists have the edge and the face of each out edge. Each is first looked
+    // up where it is if the lists are in the order of out edges, so that such lists are read once.
     fn finds_each(
         &self,
         vertex: FixedVertexHandle,
@@ -183,7 +183,7 @@ impl<V, DE, UE, F, A: Allocator> Dcel<V, DE, UE, F, A> {
     }
 }
 
-// Returns whether the list has the item, which is looked for first at this place.
+// Returns whether the list has the item, which is first looked up at this place.
 fn stands_near<Kind, InnerOuter: InnerOuterMarker>(
     items: &[FixedHandleImpl<Kind, InnerOuter>],
     place: usize,

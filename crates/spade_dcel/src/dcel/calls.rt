@@ -1,4 +1,4 @@
-//! For each operation that asks several things, the test of all of them but room.
+//! For each operation with several conditions, a test of all of them but room.
 
 ghost use Rattle.std.specs.Prelude.{◌≡◌, ◌≢◌, ◌<◌, ◌↔◌, true, IsTrue};
 ghost use Rattle.dcel_fixed.specs.HalfEdges.{rev};
@@ -16,9 +16,9 @@ use dcel_fixed::{
 };
 use std::alloc::Allocator;
 
-/// Tests, for operations that grow, of all that they ask but room. Any numbers may be given.
+/// Tests for operations that add elements: all that they ask but room. Any numbers may be given.
 impl<V, DE, UE, F, A: Allocator> Dcel<V, DE, UE, F, A> {
-    /// Returns whether the first edge can be made between two vertices.
+    /// Returns whether the first edge can be added between two vertices.
     ///
     /// [`setup_initial_two_vertices`](crate::operations::setup_initial_two_vertices) asks for this
     /// and for room: there is no edge, and the vertices are different and live.
@@ -61,10 +61,10 @@ impl<V, DE, UE, F, A: Allocator> Dcel<V, DE, UE, F, A> {
         self.is_unconnected(new_vertex)
     }
 
-    /// Returns whether an edge with one face on both sides can be split by a vertex.
+    /// Returns whether an edge with the same face on both sides can be split by a vertex.
     ///
     /// [`split_edge_when_all_vertices_on_line`] asks for this and for room: both halves of the edge
-    /// lie on one face, and no edge meets `new_vertex`.
+    /// are on one face, and no edge meets `new_vertex`.
     ///
     /// [`split_edge_when_all_vertices_on_line`]: crate::operations::split_edge_when_all_vertices_on_line
     pub fn can_split_edge_when_all_vertices_on_line(
@@ -81,7 +81,8 @@ impl<V, DE, UE, F, A: Allocator> Dcel<V, DE, UE, F, A> {
         self.is_unconnected(new_vertex)
     }
 
-    /// Returns whether a triangle can be put beside a half edge, with a vertex as its third corner.
+    /// Returns whether a triangle can be added beside a half edge, with a vertex as its third
+    /// corner.
     ///
     /// [`create_new_face_adjacent_to_edge`](crate::operations::create_new_face_adjacent_to_edge)
     /// asks for this and for room: `edge` is live, and no edge meets `new_vertex`.
@@ -123,7 +124,7 @@ impl<V, DE, UE, F, A: Allocator> Dcel<V, DE, UE, F, A> {
     /// Returns whether an edge between two triangles can be split by a vertex.
     ///
     /// [`split_edge`](crate::operations::split_edge) asks for this and for room: the half edge is
-    /// live, the faces of both halves are triangles, of which one may be the outer face, and no
+    /// live, the faces of both halves are triangles, one of which may be the outer face, and no
     /// edge meets `new_vertex`.
     #[tactic(auto, using(dcel_fixed::proofs::Halves::halves))]
     pub fn can_split_edge(
@@ -144,7 +145,8 @@ impl<V, DE, UE, F, A: Allocator> Dcel<V, DE, UE, F, A> {
     /// Returns whether an edge that has a triangle on the side of `edge` can be split by a vertex.
     ///
     /// [`split_half_edge`](crate::operations::split_half_edge) asks for this and for room: the half
-    /// edge is live, its face is a triangle, maybe the outer one, and no edge meets `new_vertex`.
+    /// edge is live, its face is a triangle, possibly the outer face, and no edge meets
+    /// `new_vertex`.
     pub fn can_split_half_edge(
         &self,
         edge: FixedDirectedEdgeHandle,
@@ -163,8 +165,7 @@ impl<V, DE, UE, F, A: Allocator> Dcel<V, DE, UE, F, A> {
     }
 }
 
-/// Tests, for operations that open a removal, of all that they ask but room. Any numbers may be
-/// given.
+/// Tests for operations that open a removal: all that they ask but room. Any numbers may be given.
 impl<V, DE, UE, F, A: Allocator> Dcel<V, DE, UE, F, A> {
     /// Returns whether a vertex can be given up and the hole filled.
     ///
@@ -185,10 +186,10 @@ impl<V, DE, UE, F, A: Allocator> Dcel<V, DE, UE, F, A> {
         self.is_border_loop(border_loop, vertex)
     }
 
-    /// Returns whether what lies inside a ring can be given up and the hole filled.
+    /// Returns whether the elements inside a ring can be given up and the hole filled.
     ///
     /// [`remesh_edge_ring`](crate::operations::remesh_edge_ring) asks for this and for room: no
-    /// removal is open, and the lists are a ring with what lies inside it
+    /// removal is open, and the half edges are the ring of the edges and faces
     /// ([`is_ring`](Self::is_ring)).
     pub fn can_remesh_edge_ring(
         &self,

@@ -1,4 +1,4 @@
-//! One test for each condition that the operations ask.
+//! One test for each condition that operations ask for.
 
 ghost use Rattle.std.specs.Prelude.{◌≡◌, ◌↔◌, IsTrue};
 ghost use Rattle.dcel_maps.specs.Conditions.{HasRoom, IsUnconnected, IsLineEnd, IsTriangle, IsBridge, CanCloseOutside, CanFlip};
@@ -14,10 +14,10 @@ use std::alloc::Allocator;
 
 /// Tests of what operations ask. Any numbers may be given.
 impl<V, DE, UE, F, A: Allocator> Dcel<V, DE, UE, F, A> {
-    /// Returns whether there are numbers left for that many more elements.
+    /// Returns whether there are numbers left for this many more elements.
     ///
-    /// Vertices and faces have numbers below 2^32, undirected edges below 2^31. This is about
-    /// numbers, not about memory.
+    /// Vertices and faces have numbers below 2^32, undirected edges below 2^31. Memory is not
+    /// considered.
     pub fn has_room(&self, vertices: usize, undirected_edges: usize, faces: usize) -> bool
         ensures { IsTrue result ↔ HasRoom self.now.shape vertices undirected_edges faces }
     {
@@ -29,7 +29,7 @@ impl<V, DE, UE, F, A: Allocator> Dcel<V, DE, UE, F, A> {
     /// Returns whether there are numbers left for what a call adds, as [`has_room`](Self::has_room)
     /// does.
     ///
-    /// [`Room`] has a constant for each call that grows.
+    /// [`Room`] has a constant for each call that adds elements.
     pub fn has_room_for(&self, room: Room) -> bool
         ensures { IsTrue result ↔ HasRoom self.now.shape room.vertices room.undirected_edges room.faces }
     {
@@ -104,7 +104,7 @@ impl<V, DE, UE, F, A: Allocator> Dcel<V, DE, UE, F, A> {
         }
     }
 
-    /// Returns whether the half edge is live and both halves of its edge lie on one face.
+    /// Returns whether the half edge is live and the same face is on both sides of its edge.
     #[tactic(auto, using(dcel_fixed::proofs::Halves::halves))]
     pub fn is_bridge(&self, handle: FixedDirectedEdgeHandle) -> bool
         ensures { IsTrue result ↔ IsBridge self.now.shape handle }
@@ -116,7 +116,7 @@ impl<V, DE, UE, F, A: Allocator> Dcel<V, DE, UE, F, A> {
     /// Returns whether a triangle can be closed between the half edge and the next one.
     ///
     /// [`create_single_face_between_edge_and_next`] asks for this and for room: the half edge is
-    /// live and on the outer face, and the next one does not end where it starts, so the new edge
+    /// live and on the outer face, and the next one does not end where it starts. So the new edge
     /// joins two different vertices.
     ///
     /// [`create_single_face_between_edge_and_next`]: crate::operations::create_single_face_between_edge_and_next
@@ -129,14 +129,17 @@ impl<V, DE, UE, F, A: Allocator> Dcel<V, DE, UE, F, A> {
             && self.origin(self.next_edge(handle).rev()) != self.origin(handle)
     }
 
-    /// Returns whether the edge can be flipped.
+    /// Returns whether the edge can be flipped. That includes edges of the border, and flips that
+    /// add a second edge between two vertices.
     ///
-    /// This is what [`flip_cw`](crate::operations::flip_cw) asks: the edge is live, it lies between
+    /// To exclude both, test with `can_flip_simple` of the crate `dcel_convenience` instead. Or ask
+    /// `is_part_of_convex_hull` of the edge's handle whether it is on the border, and
+    /// [`get_edge_from_neighbors`](Self::get_edge_from_neighbors) whether an edge joins the
+    /// opposite corners already.
+    ///
+    /// This is what [`flip_cw`](crate::operations::flip_cw) asks: the edge is live, it is between
     /// two triangles, one of which may be the outer face, and the corners opposite it are two
-    /// vertices. So it can be true of an edge that nobody would flip: `is_part_of_convex_hull` of
-    /// its handle tells an edge of the outer face, and
-    /// [`get_edge_from_neighbors`](Self::get_edge_from_neighbors) whether an edge already joins the
-    /// opposite corners, beside which the flipped one would be a second.
+    /// different vertices.
     // Out of line: a loop that tests edges and flips them runs faster so.
     #[inline(never)]
     pub fn can_flip(&self, handle: FixedUndirectedEdgeHandle) -> bool

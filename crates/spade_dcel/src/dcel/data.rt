@@ -1,4 +1,4 @@
-//! The data of a mesh: read, lent to be written, and replaced. Elements that an open removal has
+//! The data of a mesh: read, lent for writing, and replaced. Elements that an open removal has
 //! given up keep theirs.
 
 ghost use Rattle.std.specs.Prelude.{◌≡◌, ◌*◌, ◌<◌, slice_get};
@@ -15,7 +15,7 @@ use dcel_fixed::{
 };
 use std::alloc::Allocator;
 
-/// Data, read.
+/// Reading data.
 impl<V, DE, UE, F, A: Allocator> Dcel<V, DE, UE, F, A> {
     /// Lends the datum of a vertex.
     ///
@@ -28,7 +28,7 @@ impl<V, DE, UE, F, A: Allocator> Dcel<V, DE, UE, F, A> {
         self.store.vertex_data(handle)
     }
 
-    /// Lends the datum of a half edge, which is its own: the other half has another.
+    /// Lends the datum of a half edge. The other half has a datum of its own.
     ///
     /// Asks for a number below [`num_directed_edges`](Self::num_directed_edges).
     #[inline]
@@ -62,9 +62,9 @@ impl<V, DE, UE, F, A: Allocator> Dcel<V, DE, UE, F, A> {
     }
 }
 
-/// Data, written. A writer changes that datum and nothing else of the mesh, and allocates nothing.
+/// Writing data. Each call changes one datum and nothing else of the mesh, and allocates nothing.
 impl<V, DE, UE, F, A: Allocator> Dcel<V, DE, UE, F, A> {
-    /// Lends the datum of a vertex to be written.
+    /// Lends the datum of a vertex for writing.
     ///
     /// Asks for a number below [`num_vertices`](Self::num_vertices).
     #[inline]
@@ -76,7 +76,7 @@ impl<V, DE, UE, F, A: Allocator> Dcel<V, DE, UE, F, A> {
         self.store.vertex_data_mut(handle)
     }
 
-    /// Lends the datum of a half edge to be written.
+    /// Lends the datum of a half edge for writing.
     ///
     /// Asks for a number below [`num_directed_edges`](Self::num_directed_edges).
     #[inline]
@@ -88,7 +88,7 @@ impl<V, DE, UE, F, A: Allocator> Dcel<V, DE, UE, F, A> {
         self.store.directed_data_mut(handle)
     }
 
-    /// Lends the datum of an undirected edge to be written.
+    /// Lends the datum of an undirected edge for writing.
     ///
     /// Asks for a number below [`num_undirected_edges`](Self::num_undirected_edges).
     #[inline]
@@ -100,7 +100,7 @@ impl<V, DE, UE, F, A: Allocator> Dcel<V, DE, UE, F, A> {
         self.store.undirected_data_mut(handle)
     }
 
-    /// Lends the datum of a face to be written.
+    /// Lends the datum of a face for writing.
     ///
     /// Asks for a number below [`num_faces`](Self::num_faces).
     #[inline]

@@ -1,4 +1,4 @@
-//! The test of what removing a vertex of a degenerate mesh asks.
+//! The test for removing a vertex of a degenerate mesh.
 
 ghost use Rattle.std.specs.Prelude.{◌↔◌, ◌<◌, IsTrue};
 ghost use Rattle.dcel_maps.specs.Degenerate.{CanRemoveDegenerate, HasFewOutEdges, IsPath};
@@ -9,12 +9,11 @@ use dcel_fixed::FixedVertexHandle;
 use std::alloc::Allocator;
 
 impl<V, DE, UE, F, A: Allocator> Dcel<V, DE, UE, F, A> {
-    /// Returns whether the vertex is one that a degenerate mesh can lose.
+    /// Returns whether the vertex can be removed from a degenerate mesh.
     ///
-    /// This is what [`remove_when_degenerate`](crate::operations::remove_when_degenerate) asks. It
-    /// holds if no removal is open and the vertex is the only one, or one of a mesh with one face
-    /// where one or two half edges start at each vertex. It may look at every vertex. Any number may
-    /// be given.
+    /// This is what [`remove_when_degenerate`](crate::operations::remove_when_degenerate) asks: no
+    /// removal is open, and the vertex is the only one, or the mesh has one face and at each vertex
+    /// one or two half edges start. It may look at every vertex. Any number may be given.
     pub fn can_remove_degenerate(&self, handle: FixedVertexHandle) -> bool
         ensures { IsTrue result ↔ CanRemoveDegenerate self.now.shape handle }
     {

@@ -17,7 +17,7 @@ use std::alloc::Allocator;
 
 /// All elements of a kind, in the order of their numbers.
 ///
-/// The iterators run from both ends, and given-up elements are included.
+/// The iterators are double-ended and include given-up elements.
 impl<V, DE, UE, F, A: Allocator> Dcel<V, DE, UE, F, A> {
     /// Returns the vertices, as handles.
     #[inline]
@@ -95,8 +95,8 @@ impl<V, DE, UE, F, A: Allocator> Dcel<V, DE, UE, F, A> {
 
 /// The live elements of a kind, in the order of their numbers.
 ///
-/// If no removal is open, these are all elements. The iterators run from both ends, and pass over
-/// given-up elements; a loop over one needn't test that its items are live.
+/// If no removal is open, these are all elements. The iterators are double-ended and skip given-up
+/// elements, so a loop needn't test that its items are live.
 impl<V, DE, UE, F, A: Allocator> Dcel<V, DE, UE, F, A> {
     /// Returns the live vertices, as handles.
     #[inline]

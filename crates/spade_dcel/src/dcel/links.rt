@@ -70,9 +70,9 @@ impl<V, DE, UE, F, A: Allocator> Dcel<V, DE, UE, F, A> {
         self.store.next(self.store.next(handle)) == before
     }
 
-    // Returns the corner opposite the half edge, or None if its face is no triangle. The half edge
-    // before tells whether it is one, and the one after where the corner is: neither read waits for
-    // the other, and an edit that follows finds both done.
+    // Returns the corner opposite the half edge, or None if its face is not a triangle. The half
+    // edge before shows whether it is one, and the one after where the corner is: neither read
+    // waits for the other, and an edit that follows finds both done.
     #[inline]
     pub(crate) fn opposite_corner(
         &self,
@@ -84,8 +84,8 @@ impl<V, DE, UE, F, A: Allocator> Dcel<V, DE, UE, F, A> {
             MatchOption result (¬ is_triangle) (λ corner. is_triangle × (corner ≡ origin_of shape (prev_of shape handle))) }
     {
         let before = self.store.prev(handle);
-        // Read before what it is compared with: of two equal numbers the compiler goes on with the
-        // first, and an edit that follows would wait for the other to know where it writes.
+        // Read before what it is compared with: of two equal numbers the compiler continues with
+        // the first, and an edit that follows would wait for the other to know where it writes.
         let after = self.store.next(handle);
         if self.store.prev(before) != after {
             return None;

@@ -1,4 +1,4 @@
-//! The test of a region ring: faces that the edges between them join to one, and the half edges
+//! The test of a region's ring: faces that the edges between them join into one, and the half edges
 //! around them.
 //!
 //! It allocates nothing, so it looks each item up in the lists, and its time may grow with the
@@ -20,7 +20,7 @@ use dcel_fixed::{
 use std::alloc::Allocator;
 
 impl<V, DE, UE, F, A: Allocator> Dcel<V, DE, UE, F, A> {
-    // Returns whether the list is the ring of the region that these faces and edges make up.
+    // Returns whether the list is the ring of the region that consists of these faces and edges.
     pub(crate) fn is_region_ring(
         &self,
         list: &[FixedDirectedEdgeHandle],
@@ -82,7 +82,7 @@ impl<V, DE, UE, F, A: Allocator> Dcel<V, DE, UE, F, A> {
         true
     }
 
-    // Returns whether each of the edges lies between two of the faces.
+    // Returns whether each of the edges is between two of the faces.
     fn lie_between(
         &self,
         edges: &[FixedUndirectedEdgeHandle],
@@ -227,7 +227,7 @@ impl<V, DE, UE, F, A: Allocator> Dcel<V, DE, UE, F, A> {
         true
     }
 
-    // Returns whether the edge is live and lies between two of the faces.
+    // Returns whether the edge is live and between two of the faces.
     #[tactic(auto, using(dcel_fixed::proofs::Halves::halves))]
     fn lies_between(
         &self,

@@ -26,9 +26,9 @@ impl<V, DE, UE, F, A: Allocator> Dcel<V, DE, UE, F, A> {
 
     /// Returns whether `opened` lists what an open removal has given up.
     ///
-    /// The removal has to be open and not yet cleaned up, and each edge and each face that it gave
-    /// up listed once, in any order. The time is linear for lists in the order in which the elements
-    /// were given up; for others it may grow with the square of their lengths.
+    /// The removal has to be open and not yet cleaned up. Each edge and each face that it gave up
+    /// has to be listed once, in any order. The time is linear for lists in the order in which the
+    /// elements were given up; for others it may grow with the square of their lengths.
     pub fn is_listed<B: Allocator>(&self, opened: &IsolateVertexResult<B>) -> bool
         ensures { IsTrue result ↔ IsListed self.now.shape.removal opened.now.edges_to_remove.items opened.now.faces_to_remove.items }
     {
@@ -38,9 +38,9 @@ impl<V, DE, UE, F, A: Allocator> Dcel<V, DE, UE, F, A> {
 
     /// Returns whether the vertex can be taken out.
     ///
-    /// This is what [`swap_remove_vertex`](crate::operations::swap_remove_vertex) asks. It holds if
-    /// no removal is open and the vertex is unconnected, or if a removal is cleaned up and the
-    /// vertex is the one that it gave up. Any number may be given.
+    /// This is what [`swap_remove_vertex`](crate::operations::swap_remove_vertex) asks: no removal
+    /// is open and the vertex is unconnected, or a removal is cleaned up and this is the vertex
+    /// that it gave up. Any number may be given.
     pub fn can_swap_remove(&self, handle: FixedVertexHandle) -> bool
         ensures { IsTrue result ↔ CanSwapRemove self.now.shape handle }
     {

@@ -12,13 +12,14 @@ use std::alloc::Allocator;
 
 /// The sanity check.
 impl<V, DE, UE, F, A: Allocator> Dcel<V, DE, UE, F, A> {
-    /// Returns whether the mesh has at most one vertex or looks triangulated, with no removal open.
+    /// Returns whether no removal is open, and the mesh has at most one vertex or looks
+    /// triangulated.
     ///
-    /// It looks triangulated if there is an edge, no vertex is unconnected, each even half edge on
-    /// an inner face lies on a triangle, and no edge of a mesh with several faces has one face on
-    /// both sides. Odd half edges are not looked at: an inner face whose half edges are all odd may
-    /// have more than three. It is what `sanity_check` of `spade` asks, but for what holds of every
-    /// mesh.
+    /// It looks triangulated if there is an edge, no vertex is unconnected, each even half edge of
+    /// an inner face is on a triangle, and no edge of a mesh with several faces has the same face
+    /// on both sides. Odd half edges are not examined: an inner face whose half edges are all odd
+    /// may have more than three. This is what `sanity_check` of `spade` tests, except what is true
+    /// of every mesh.
     pub fn sanity_check(&self) -> bool
         ensures { IsTrue result ↔ IsChecked self.now.shape }
     {

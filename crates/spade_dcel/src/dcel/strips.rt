@@ -1,4 +1,4 @@
-//! The test of what cutting a strip asks.
+//! The test for cutting off a strip.
 
 ghost use Rattle.std.specs.Prelude.{◌↔◌, IsTrue};
 ghost use Rattle.dcel_maps.specs.Shapes.{IsLive, origin_of};
@@ -14,10 +14,10 @@ use std::alloc::Allocator;
 impl<V, DE, UE, F, A: Allocator> Dcel<V, DE, UE, F, A> {
     /// Returns whether these half edges are the strip of a vertex of the outer face.
     ///
-    /// Exactly one half edge out of the vertex lies on the outer face, its other faces are
-    /// triangles, and the outer face has three half edges or more. The list names what comes after
-    /// the other out edges, in the order of `ccw` from the outer one on, and last what comes after
-    /// the outer one. Any numbers may be given.
+    /// Exactly one half edge out of the vertex is on the outer face, the other faces around the
+    /// vertex are triangles, and the outer face has three half edges or more. The list has `next`
+    /// of each other out edge, in the order of `ccw` from the outer one on, and last `next` of the
+    /// outer one. Any numbers may be given.
     pub fn is_edge_strip(&self, list: &[FixedDirectedEdgeHandle]) -> bool
         ensures { IsTrue result ↔ IsEdgeStrip self.now.shape list.now }
     {
@@ -38,7 +38,7 @@ impl<V, DE, UE, F, A: Allocator> Dcel<V, DE, UE, F, A> {
         self.goes_along(outer_out, others)
     }
 
-    // Returns whether the out edges after `first_out`, in turn until it comes again, lie on inner
+    // Returns whether the out edges after `first_out`, in turn until it comes again, are on inner
     // triangles with these half edges after them.
     fn goes_along(
         &self,

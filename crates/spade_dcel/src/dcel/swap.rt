@@ -1,4 +1,4 @@
-//! Two vertices swapped.
+//! Swapping two vertices.
 
 ghost use Rattle.std.specs.Prelude.{◌≡◌, ◌∷◌, [], true};
 ghost use Rattle.dcel_maps.specs.EditLists.{EditedBy};

@@ -1,4 +1,4 @@
-//! Calls on a whole mesh: room made, all taken out, data mapped, a clone.
+//! Calls on a whole mesh: reserve memory, clear, map the data, clone.
 
 ghost use Rattle.std.specs.Prelude.{◌≡◌, ◌∷◌, [], All, IfOk, IfErr};
 ghost use Rattle.std.specs.List.{AllZip};
@@ -14,14 +14,14 @@ use std::alloc::{AllocError, Allocator};
 
 /// Calls on the whole mesh.
 impl<V, DE, UE, F, A: Allocator> Dcel<V, DE, UE, F, A> {
-    /// Makes room in memory for that many more vertices, undirected edges and faces.
+    /// Reserves memory for this many more vertices, undirected edges and faces.
     ///
     /// The contract says only that the mesh does not change, whether there was memory or not: no
-    /// clause sees room. If the call succeeds, that many elements can be added without a further
-    /// request.
+    /// clause sees capacity. If the call succeeds, that many elements can be added without another
+    /// request for memory.
     ///
     /// Asks that there are numbers left for them ([`has_room`](Self::has_room)). If memory runs out
-    /// it returns `AllocError`; some of the room may have been made by then.
+    /// it returns `AllocError`; some of the memory may have been reserved by then.
     pub fn reserve_capacity(
         &mut self,
         vertices: usize,
@@ -37,8 +37,8 @@ impl<V, DE, UE, F, A: Allocator> Dcel<V, DE, UE, F, A> {
     /// Takes out all vertices, all edges and all inner faces.
     ///
     /// The outer face stays, with its datum. An open removal is closed. It allocates nothing and
-    /// gives no memory back: elements that are added up to the old counts find room, which no
-    /// clause of this contract sees.
+    /// frees no memory: elements that are added later need none, up to the old counts. No clause
+    /// of this contract sees that.
     pub fn clear(&mut self)
     where
         V: Drop,
@@ -55,9 +55,9 @@ impl<V, DE, UE, F, A: Allocator> Dcel<V, DE, UE, F, A> {
 
     /// Maps the data of the vertices with a closure.
     ///
-    /// Returns the mesh with the new data. Asks that the closure may be called on each of the old
-    /// ones. All memory is requested from `alloc` before the first call; if it runs out
-    /// [`NoMemory`] gives back the whole mesh.
+    /// Returns the mesh with the new data. Asks that the closure may be called on each old datum.
+    /// All memory is requested from `alloc` before the first call; if it runs out, [`NoMemory`]
+    /// returns the whole mesh.
     pub fn map_vertices<V2: Drop, M: Fn(V) -> V2 + Drop>(
         self,
         alloc: A,
@@ -86,9 +86,9 @@ impl<V, DE, UE, F, A: Allocator> Dcel<V, DE, UE, F, A> {
 
     /// Maps the data of the undirected edges with a closure.
     ///
-    /// Returns the mesh with the new data. Asks that the closure may be called on each of the old
-    /// ones. All memory is requested from `alloc` before the first call; if it runs out
-    /// [`NoMemory`] gives back the whole mesh.
+    /// Returns the mesh with the new data. Asks that the closure may be called on each old datum.
+    /// All memory is requested from `alloc` before the first call; if it runs out, [`NoMemory`]
+    /// returns the whole mesh.
     pub fn map_undirected_edges<UE2: Drop, M: Fn(UE) -> UE2 + Drop>(
         self,
         alloc: A,
@@ -121,8 +121,8 @@ impl<V, DE, UE, F, A: Allocator> Dcel<V, DE, UE, F, A> {
 impl<V: Clone, DE: Clone, UE: Clone, F: Clone, A: Allocator + Clone> Dcel<V, DE, UE, F, A> {
     /// Clones the mesh, with a clone of each datum, in memory of `alloc`.
     ///
-    /// All else is the same, so the meshes are equal if clones are. If memory runs out, or a datum
-    /// cannot be cloned, it returns `AllocError`.
+    /// Everything else is the same, so the meshes are equal if the clones of data are. If memory
+    /// runs out, or a datum cannot be cloned, it returns `AllocError`.
     pub fn try_clone(&self, alloc: A) -> Result<Self, AllocError>
         ensures clone { IfOk result (IsClone V.is_clone DE.is_clone UE.is_clone F.is_clone self.now) }
         ensures equal { ClonesEqual V.is_clone → ClonesEqual DE.is_clone → ClonesEqual UE.is_clone → ClonesEqual F.is_clone

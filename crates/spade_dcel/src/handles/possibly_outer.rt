@@ -1,4 +1,4 @@
-//! Telling the outer face from inner faces.
+//! Distinguishing the outer face from inner faces.
 
 ghost use Rattle.std.specs.Prelude.{◌≡◌, ◌<◌, ◌↔◌, IfSome, IsNone, IsTrue};
 ghost use Rattle.spade_dcel.specs.Handles.{mesh_behind, number_of};

@@ -1,4 +1,4 @@
-//! The ends of a half edge, the vertex opposite it, and whether it lies on the hull.
+//! The ends of a half edge, the vertex opposite it, and whether it is on the hull.
 
 ghost use Rattle.std.specs.Prelude.{◌≡◌, ◌↔◌, [], ◌∷◌, All, IfSome, IsNone, IsTrue, map};
 ghost use Rattle.spade_dcel.specs.Handles.{mesh_behind, number_of};
@@ -26,7 +26,7 @@ impl<'a, V, DE, UE, F, A: Allocator> DirectedEdgeHandle<'a, V, DE, UE, F, A> {
 
     /// Returns the vertex opposite it on its face, where the half edge before it starts.
     ///
-    /// Returns None if it lies on the outer face itself, whatever lies on the other side. The face
+    /// Returns None for a half edge of the outer face, whatever face is on the other side. The face
     /// need not be a triangle.
     ///
     /// Asks for a live edge ([`is_live_edge`](crate::dcel::Dcel::is_live_edge)).
@@ -46,7 +46,7 @@ impl<'a, V, DE, UE, F, A: Allocator> DirectedEdgeHandle<'a, V, DE, UE, F, A> {
         }
     }
 
-    /// Returns whether it lies on the outer face itself; the other half does not count.
+    /// Returns whether its face is the outer face. The face of the other half does not count.
     ///
     /// Asks for a live edge ([`is_live_edge`](crate::dcel::Dcel::is_live_edge)).
     #[inline]
@@ -57,7 +57,7 @@ impl<'a, V, DE, UE, F, A: Allocator> DirectedEdgeHandle<'a, V, DE, UE, F, A> {
         self.face().is_outer()
     }
 
-    /// Returns whether it or its other half lies on the outer face.
+    /// Returns whether its face or that of its other half is the outer face.
     ///
     /// Asks for a live edge ([`is_live_edge`](crate::dcel::Dcel::is_live_edge)).
     #[inline]

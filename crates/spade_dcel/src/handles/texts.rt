@@ -1,6 +1,6 @@
-//! How borrowed handles are printed for debugging.
+//! Debug output of borrowed handles.
 //!
-//! No clause says what is written.
+//! No contract says what is written.
 
 ghost use Rattle.std.specs.Prelude.{◌*◌, ◌<◌};
 
@@ -15,14 +15,14 @@ use std::fmt;
 use std::fmt::Debug;
 
 impl<'a, V, DE, UE, F, A: Allocator> Debug for VertexHandle<'a, V, DE, UE, F, A> {
-    /// Writes its number, as `VertexHandle(3)`.
+    /// Writes its number, for example `VertexHandle(3)`.
     fn fmt<W: fmt::Write>(&self, f: &mut fmt::Formatter<W>) -> fmt::Result {
         write!(f, "VertexHandle({})", self.index())
     }
 }
 
 impl<'a, V, DE, UE, F, A: Allocator> Debug for DirectedEdgeHandle<'a, V, DE, UE, F, A> {
-    /// Writes its number and the vertices where it starts and ends, as
+    /// Writes its number and the vertices where it starts and ends, for example
     /// `DirectedEdgeHandle - id: 6 (FixedHandle { index: 0 } -> FixedHandle { index: 3 })`.
     ///
     /// The vertices of a given-up half edge may be stale.
@@ -37,7 +37,8 @@ impl<'a, V, DE, UE, F, A: Allocator> Debug for DirectedEdgeHandle<'a, V, DE, UE,
 }
 
 impl<'a, V, DE, UE, F, A: Allocator> Debug for UndirectedEdgeHandle<'a, V, DE, UE, F, A> {
-    /// Writes its number and the vertices where its normalized half edge starts and ends, as
+    /// Writes its number and the vertices where its normalized half edge starts and ends, for
+    /// example
     /// `UndirectedEdgeHandle - id: 3 (FixedHandle { index: 0 } <-> FixedHandle { index: 3 })`.
     ///
     /// The vertices of a given-up edge may be stale.
@@ -62,7 +63,7 @@ impl<'a, V, DE, UE, F, A: Allocator> Debug for FaceHandle<'a, PossiblyOuterTag, 
 }
 
 impl<'a, V, DE, UE, F, A: Allocator> Debug for FaceHandle<'a, InnerTag, V, DE, UE, F, A> {
-    /// Writes its number and the numbers of its [`vertices`](FaceHandle::vertices), as
+    /// Writes its number and the numbers of its [`vertices`](FaceHandle::vertices), for example
     /// `FaceHandle - id: 1 (3, 1, 0)`.
     ///
     /// A face without an anchor, such as a given-up one, is written `FaceHandle - id: 1 (none)`.

@@ -1,4 +1,4 @@
-//! From an undirected edge to its half edge and its ends, and whether it lies on the hull.
+//! From an undirected edge to its half edge and its ends, and whether it is on the hull.
 
 ghost use Rattle.std.specs.Prelude.{◌≡◌, ◌*◌, ◌↔◌, true, [], ◌∷◌, All, IsTrue, map};
 ghost use Rattle.spade_dcel.specs.Handles.{mesh_behind, number_of};
@@ -38,7 +38,7 @@ impl<'a, V, DE, UE, F, A: Allocator> UndirectedEdgeHandle<'a, V, DE, UE, F, A> {
         self.as_directed().vertices()
     }
 
-    /// Returns whether one of its halves lies on the outer face.
+    /// Returns whether the outer face is on either side of it.
     ///
     /// Asks for a live edge ([`is_live_edge`](crate::dcel::Dcel::is_live_edge)).
     #[inline]

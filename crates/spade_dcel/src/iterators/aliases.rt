@@ -106,7 +106,7 @@ pub type FaceIterator<'a, V, DE, UE, F, A = Global> = DynamicHandleIterator<
 
 /// The inner faces of a mesh, borrowed ([`Dcel::inner_faces`](crate::dcel::Dcel::inner_faces)).
 ///
-/// An iterator made by `new` lists face 0, the outer face, too.
+/// An iterator created by `new` also lists face 0, the outer face.
 pub type InnerFaceIterator<'a, V, DE, UE, F, A = Global> = DynamicHandleIterator<
     'a,
     V,
@@ -123,7 +123,7 @@ pub type FixedFaceIterator = FixedHandleIterator<FaceTag, PossiblyOuterTag>;
 
 /// The numbers of faces, marked as inner ones.
 ///
-/// An iterator made by `new` lists face 0, the outer face, too.
+/// An iterator created by `new` also lists face 0, the outer face.
 pub type FixedInnerFaceIterator = FixedHandleIterator<FaceTag, InnerTag>;
 
 /// The live vertices of a mesh, borrowed

@@ -18,8 +18,8 @@ use std::marker::Model;
 ///
 /// Use the aliases, such as [`VertexIterator`](crate::iterators::VertexIterator).
 ///
-/// It does not allocate. Contracts see the elements that it has still to give, each as its mesh and
-/// its number. `next` and `next_back` may be mixed freely.
+/// It does not allocate. Contracts see the elements still to come, each as its mesh and its number.
+/// `next` and `next_back` may be mixed freely.
 #[derive(Drop)]
 pub struct DynamicHandleIterator<
     'a,

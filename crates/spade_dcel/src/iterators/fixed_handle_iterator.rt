@@ -11,11 +11,11 @@ use std::marker::{Model, PhantomData};
 ///
 /// Use the aliases, such as [`FixedVertexIterator`](crate::iterators::FixedVertexIterator).
 ///
-/// It does not allocate. Contracts see the numbers that it has still to give. `next` and `next_back`
-/// may be mixed freely.
+/// It does not allocate. Contracts see the numbers still to come. `next` and `next_back` may be
+/// mixed freely.
 #[derive(Drop)]
 pub struct FixedHandleIterator<Kind, InnerOuter: InnerOuterMarker> {
-    // The first number still to give, and the one past the last.
+    // The first number still to come, and the one past the last.
     start: usize,
     end: usize,
     kind: PhantomData<Kind>,

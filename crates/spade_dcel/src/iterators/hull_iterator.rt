@@ -1,4 +1,4 @@
-//! The hull: the half edges of the outer face.
+//! The hull: the boundary cycle of the outer face.
 
 ghost use Rattle.std.specs.Prelude.{◌≡◌, ℕ, ◌<◌, ◌≤◌, ◌^◌, ◌↔◌, IfSome, [], false, length, reverse};
 ghost use Rattle.std.specs.Iterator.{YieldsFirstBy, YieldsLastBy, item_count};
@@ -19,13 +19,13 @@ use std::marker::Model;
 
 /// The half edges of the outer face, each once.
 ///
-/// They come in the order of [`next`](DirectedEdgeHandle::next), beginning with the anchor of the
-/// outer face. From the back they come in the order of [`prev`](DirectedEdgeHandle::prev),
-/// beginning with the half edge before the anchor. There are none in a mesh without live edges.
+/// Their order is that of [`next`](DirectedEdgeHandle::next), starting with the anchor of the outer
+/// face. From the back it is that of [`prev`](DirectedEdgeHandle::prev), starting with the half
+/// edge before the anchor. A mesh without live edges has none.
 ///
-/// It does not allocate. Contracts see its mesh, and the half edges that it has still to give. That a
-/// half edge is live is known where it is given, so a loop needn't test it. `next` and `next_back`
-/// may be mixed freely.
+/// It does not allocate. Contracts see its mesh and the half edges still to come. Each half edge is
+/// known to be live when it is returned, so a loop needn't test it. `next` and `next_back` may be
+/// mixed freely.
 #[derive(Drop)]
 pub struct HullIterator<'a, V, DE, UE, F, A: Allocator = Global> {
     inner_iterator: CircularIterator<'a, V, DE, UE, F, HullNextBackFn, A>,
@@ -42,9 +42,9 @@ impl<'a, V, DE, UE, F, A: Allocator> Model for HullIterator<'a, V, DE, UE, F, A>
 impl<'a, V, DE, UE, F, A: Allocator> HullIterator<'a, V, DE, UE, F, A> {
     /// Creates an iterator over the hull of the mesh.
     ///
-    /// If an edge is live and every live inner face is a triangle, the length of the hull tells the
-    /// number of live edges: three times the number of vertices with a live edge, minus three, minus
-    /// that length.
+    /// If an edge is live and every live inner face is a triangle, the length of the hull
+    /// determines the number of live edges: three times the number of vertices with a live edge,
+    /// minus three, minus that length.
     #[inline]
     pub fn new(dcel: &'a Dcel<V, DE, UE, F, A>) -> Self
         ensures mesh { result.mesh ≡ dcel.now }

@@ -16,13 +16,14 @@ use dcel_fixed::{FaceTag, InnerTag};
 use std::alloc::{Allocator, Global};
 use std::marker::Model;
 
-/// The live inner faces of a mesh, borrowed, in the order of their numbers.
+/// The live inner faces of a mesh, borrowed, in the order of their numbers
+/// ([`Dcel::live_inner_faces`](crate::dcel::Dcel::live_inner_faces)).
 ///
-/// That a face is live and not the outer one is known where it is given, so that a loop needn't
-/// test it ([`Dcel::live_inner_faces`](crate::dcel::Dcel::live_inner_faces)).
+/// Each face is known to be live and not the outer one when it is returned, so a loop needn't test
+/// it.
 ///
-/// It does not allocate. Contracts see the faces that it has still to give, each as its mesh and its
-/// number. `next` and `next_back` may be mixed freely.
+/// It does not allocate. Contracts see the faces still to come, each as its mesh and its number.
+/// `next` and `next_back` may be mixed freely.
 #[derive(Drop)]
 pub struct LiveInnerFaceIterator<'a, V, DE, UE, F, A: Allocator = Global> {
     faces: LiveIterator<'a, V, DE, UE, F, FaceTag, InnerTag, A>,

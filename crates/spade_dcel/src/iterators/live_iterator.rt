@@ -17,13 +17,13 @@ use std::marker::Model;
 
 /// The live elements of one kind, borrowed, in the order of their numbers.
 ///
-/// Those that an open removal has given up are passed over; if none is open, these are all
-/// elements. That an element is live is known where it is given, so that a loop needn't test it.
+/// It skips those that an open removal has given up; if no removal is open, it lists all elements.
+/// Each element is known to be live when it is returned, so a loop needn't test it.
 ///
 /// Use the aliases, such as [`LiveVertexIterator`](crate::iterators::LiveVertexIterator).
 ///
-/// It does not allocate. Contracts see the elements that it has still to give, each as its mesh and
-/// its number. `next` and `next_back` may be mixed freely.
+/// It does not allocate. Contracts see the elements still to come, each as its mesh and its number.
+/// `next` and `next_back` may be mixed freely.
 #[derive(Drop)]
 pub struct LiveIterator<
     'a,
@@ -109,7 +109,7 @@ where
     }
 }
 
-// Returns the first live element of those to come, and takes it with all before it.
+// Returns the first live element still to come, and consumes it with all before it.
 fn first_live<'a, V, DE, UE, F, Kind, InnerOuter, A>(
     elements: &mut DynamicHandleIterator<'a, V, DE, UE, F, Kind, InnerOuter, A>,
 ) -> Option<DynamicHandleImpl<'a, V, DE, UE, F, Kind, InnerOuter, A>>
@@ -128,7 +128,7 @@ where
     None
 }
 
-// Returns the last one, and takes it with all behind it.
+// Returns the last live element still to come, and consumes it with all after it.
 fn last_live<'a, V, DE, UE, F, Kind, InnerOuter, A>(
     elements: &mut DynamicHandleIterator<'a, V, DE, UE, F, Kind, InnerOuter, A>,
 ) -> Option<DynamicHandleImpl<'a, V, DE, UE, F, Kind, InnerOuter, A>>

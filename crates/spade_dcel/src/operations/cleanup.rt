@@ -1,4 +1,4 @@
-//! An open removal cleaned up: the edges and faces that it gave up are taken out.
+//! Cleaning up an open removal: taking out the edges and faces that it gave up.
 
 ghost use Rattle.std.specs.Prelude.{◌≡◌, ◌∷◌, []};
 ghost use Rattle.dcel_maps.specs.EditLists.{EditedBy};
@@ -14,9 +14,9 @@ use std::alloc::Allocator;
 
 /// Takes out the edges and the faces that an open removal has given up.
 ///
-/// It takes them out from the largest number down, the edges and then the faces, and each time the
-/// last one of the kind gets the number of the one that goes. Half edges go with their edge; links,
-/// origins, data and anchors follow.
+/// Each is swap-removed, first the edges and then the faces, of each kind the largest number first:
+/// the last element of the kind gets the number of the one that goes. Half edges go with their
+/// edge; links, origins, data and anchors follow.
 ///
 /// ```text
 /// edges 0 1 2 3 4 5, of which 2 and 4 are given up
@@ -24,9 +24,9 @@ use std::alloc::Allocator;
 /// 0 1 2 3 4 5   without 4   0 1 2 3 5   without 2   0 1 5 3      so edge 5 is edge 2 now
 /// ```
 ///
-/// A vertex that was given up stays, for [`swap_remove_vertex`](super::swap_remove_vertex) to take
-/// out; a removal that gave none up is closed. The lists of `opened` ascend afterwards. Its
-/// `new_edges` are left as they are, so they name the new edges by their old numbers.
+/// A vertex that was given up stays until [`swap_remove_vertex`](super::swap_remove_vertex) takes
+/// it out; a removal that gave up none is closed. The lists of `opened` are ascending afterwards.
+/// Its `new_edges` are left as they are: they have the old numbers of the new edges.
 ///
 /// Asks that `opened` lists what is given up, in any order ([`is_listed`](Dcel::is_listed)).
 pub fn cleanup_isolated_vertex<V, DE: Drop, UE: Drop, F: Drop, A: Allocator, B: Allocator>(

@@ -1,4 +1,4 @@
-//! A new mesh, its vertices and its first edge.
+//! Creating a mesh, its vertices and its first edge.
 
 ghost use Rattle.std.specs.Prelude.{◌≡◌, ◌≢◌, ◌^◌, ◌<◌, ◌≤◌, ◌∷◌, [], IfOk, IfErr, OnErr, OnOk, true, vec_len};
 ghost use Rattle.dcel_maps.specs.Conditions.{HasRoom};
@@ -33,7 +33,7 @@ pub fn new<V: Drop, DE: Drop, UE: Drop, F: Default + Drop, A: Allocator + Clone>
     Ok(Dcel { store, removal })
 }
 
-/// Creates a mesh of these vertices and one edge between two of them.
+/// Creates a mesh with these vertices and one edge between two of them.
 ///
 /// ```text
 ///               0
@@ -74,7 +74,7 @@ pub fn new_with_fixed_vertices<
     Ok(Dcel { store, removal })
 }
 
-// Makes an empty store with room for this many elements, and a record that no removal is open.
+// Creates an empty store with room for this many elements, and a record that no removal is open.
 pub(crate) fn with_room<V: Drop, DE: Drop, UE: Drop, F: Drop, A: Allocator + Clone>(
     alloc: A,
     vertices: usize,

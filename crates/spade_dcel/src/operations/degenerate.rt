@@ -1,4 +1,4 @@
-//! A vertex of a degenerate mesh removed: the only one, or one of a path.
+//! Removing a vertex of a degenerate mesh: the only vertex, or one of a path.
 
 ghost use Rattle.std.specs.Prelude.{◌≡◌, ◌-◌, ◌==◌, cond, slice_index_or, Some, None};
 ghost use Rattle.dcel_maps.specs.Degenerate.{CanRemoveDegenerate};
@@ -14,8 +14,8 @@ use std::alloc::Allocator;
 
 /// Removes a vertex of a mesh that is a single vertex or a path, and returns its datum.
 ///
-/// A vertex at an end goes with its edge. A vertex between two others goes with the edge of the half
-/// edge that is `ccw` of its anchor, and its other edge joins the two neighbors.
+/// A vertex at an end goes with its edge. A vertex between two others goes with one of its edges,
+/// that of the half edge that is `ccw` of its anchor; its other edge then joins the two neighbors.
 ///
 /// ```text
 /// before                        after
@@ -25,9 +25,10 @@ use std::alloc::Allocator;
 /// .. a ---- v ---- b ..         .. a ---- b ..
 /// ```
 ///
-/// An anchor on the edge that goes becomes None if there were two vertices; for an end, the half
-/// edge after the one that starts there; and otherwise the anchor of the vertex. The last edge and
-/// the last vertex get the numbers of those that go; the result tells which vertex was moved.
+/// An anchor on the edge that goes is replaced: by None if there were two vertices; if the vertex
+/// was an end, by the half edge after the one that starts there; otherwise by the anchor of the
+/// vertex. The last edge and the last vertex get the numbers that become free; the result says
+/// which vertex moved.
 ///
 /// Asks that the vertex is one of such a mesh and that no removal is open
 /// ([`can_remove_degenerate`](Dcel::can_remove_degenerate)).

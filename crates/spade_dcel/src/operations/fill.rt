@@ -1,4 +1,4 @@
-//! Holes filled: a vertex is given up with its edges and the triangles around it, or a region of
+//! Filling holes: giving up a vertex with its edges and the triangles around it, or a region of
 //! faces with the edges between them.
 
 ghost use Rattle.std.specs.Prelude.{◌≡◌, ◌-◌, ◌^◌, ◌<◌, ◌≤◌, ◌++◌, IfOk, OnErr, OnOk, length};
@@ -28,7 +28,7 @@ type GivenUpLists<A> = (
     Vec<FixedFaceHandle<InnerTag>, A>,
 );
 
-/// Gives up a vertex that lies inside triangles alone, and fills the hole with new triangles.
+/// Gives up a vertex whose faces are all inner triangles, and fills the hole with new triangles.
 ///
 /// Its edges and the triangles around it are given up too. A loop of `k` half edges is filled with
 /// `k - 2` triangles by `k - 3` new edges, which all start where the last half edge of
@@ -42,16 +42,16 @@ type GivenUpLists<A> = (
 ///             a                             a
 /// ```
 ///
-/// The result has the new edges in ascending order, and the edges and faces that are given up in
-/// the order of the out edges of the vertex. What is given up is still there: the edges and faces
-/// for [`cleanup_isolated_vertex`](super::cleanup_isolated_vertex) to take out, and then the vertex
-/// for [`swap_remove_vertex`](super::swap_remove_vertex). Each vertex of the loop is anchored
-/// anew.
+/// The result has the new edges in ascending order, and the given-up edges and faces in the order
+/// of the out edges of the vertex. What is given up is still stored:
+/// [`cleanup_isolated_vertex`](super::cleanup_isolated_vertex) takes out the edges and faces, and
+/// then [`swap_remove_vertex`](super::swap_remove_vertex) the vertex. Each vertex of the loop gets
+/// a new anchor.
 ///
 /// Asks that no removal is open ([`removal_state`](Dcel::removal_state)), that the list is the
 /// border loop of the vertex ([`is_border_loop`](Dcel::is_border_loop)), and for room for the new
-/// edges and faces ([`has_room`](Dcel::has_room)). If memory runs out it returns `AllocError`, what
-/// was handed in is dropped, and the mesh is as it was.
+/// edges and faces ([`has_room`](Dcel::has_room)). If memory runs out it returns `AllocError`, the
+/// list is dropped, and the mesh is as it was.
 pub fn isolate_vertex_and_fill_hole<
     V,
     DE: Default,
@@ -78,9 +78,9 @@ pub fn isolate_vertex_and_fill_hole<
     isolate_and_answer(dcel, &border_loop, &Some(vertex), edges, faces)
 }
 
-/// Gives up these edges and faces, which lie inside a ring, and fills the hole with new triangles.
+/// Gives up these edges and faces, which are inside a ring, and fills the hole with new triangles.
 ///
-/// If there are as many edges as faces, they lie around a vertex, which is given up too, as
+/// If there are as many edges as faces, they are those around a vertex, which is given up too, as
 /// [`isolate_vertex_and_fill_hole`] does. Otherwise they are a region: faces with the edges between
 /// them, one fewer. Then no vertex is given up, and
 /// [`cleanup_isolated_vertex`](super::cleanup_isolated_vertex) alone closes the removal. The new
@@ -94,13 +94,13 @@ pub fn isolate_vertex_and_fill_hole<
 ///             a                             a
 /// ```
 ///
-/// The result has the lists as they were given, and the new edges in ascending order. Each vertex of
-/// the loop is anchored anew.
+/// The result has the lists as they were given, and the new edges in ascending order. Each vertex
+/// of the loop gets a new anchor.
 ///
-/// Asks that no removal is open ([`removal_state`](Dcel::removal_state)), that the lists are a ring
-/// with what lies inside it ([`is_ring`](Dcel::is_ring)), and for room for the new edges and faces
-/// ([`has_room`](Dcel::has_room)). If memory runs out it returns `AllocError`, what was handed in
-/// is dropped, and the mesh is as it was.
+/// Asks that no removal is open ([`removal_state`](Dcel::removal_state)), that the half edges are
+/// the ring of the edges and faces ([`is_ring`](Dcel::is_ring)), and for room for the new edges and
+/// faces ([`has_room`](Dcel::has_room)). If memory runs out it returns `AllocError`, the lists are
+/// dropped, and the mesh is as it was.
 pub fn remesh_edge_ring<
     V,
     DE: Default,
@@ -156,8 +156,8 @@ fn inside<V, DE, UE, F, A: Allocator>(
     Some(dcel.origin(dcel.prev_edge(first)))
 }
 
-// Gives these elements up, fills the hole, and returns the result. That is made first: nothing may be
-// refused once the mesh has changed.
+// Gives these elements up, fills the hole, and returns the result. The result is created first:
+// nothing may be refused once the mesh has changed.
 fn isolate_and_answer<V, DE: Default, UE: Default, F: Default, A: Allocator + Clone>(
     dcel: &mut Dcel<V, DE, UE, F, A>,
     border: &[FixedDirectedEdgeHandle],

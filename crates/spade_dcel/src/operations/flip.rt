@@ -1,4 +1,4 @@
-//! An edge flipped between two triangles.
+//! Flipping an edge between two triangles.
 
 ghost use Rattle.std.specs.Prelude.{◌≡◌, ◌∷◌, []};
 ghost use Rattle.dcel_maps.specs.Conditions.{CanFlip};
@@ -14,9 +14,9 @@ use std::alloc::Allocator;
 
 /// Flips an edge clockwise between the triangles on its two sides.
 ///
-/// It joins their other two corners afterwards. It keeps its number and its data, and so does every
-/// other element. In the picture `e` is the even half, which leads from `a` to `b` before and from
-/// `c` to `d` afterwards.
+/// Afterwards it joins the two corners opposite it. It keeps its number and its data, and so does
+/// every other element. In the picture `e` is the even half, which leads from `a` to `b` before and
+/// from `c` to `d` afterwards.
 ///
 /// ```text
 /// before     c                  after      c
@@ -29,10 +29,12 @@ use std::alloc::Allocator;
 /// ```
 ///
 /// The half edges `a to d` and `b to c` become the anchors of `a` and `b`, and `e` and `t` those of
-/// `f` and `g`. Asks that the edge is live, both its faces are triangles, and the corners opposite it
-/// are two vertices ([`can_flip`](Dcel::can_flip)). Either triangle may be the outer face: then one of
-/// `a` and `b` leaves the hull. And an edge may join `c` and `d` already, beside which the flipped one
-/// is a second: [`get_edge_from_neighbors`](Dcel::get_edge_from_neighbors) tells.
+/// `f` and `g`.
+///
+/// Asks that the edge is live, both its faces are triangles, and the corners opposite it are two
+/// different vertices ([`can_flip`](Dcel::can_flip)). Either triangle may be the outer face: then
+/// one of `a` and `b` leaves the hull. An edge may join `c` and `d` already, and then the flipped
+/// one is a second: [`get_edge_from_neighbors`](Dcel::get_edge_from_neighbors) finds the first.
 pub fn flip_cw<V, DE, UE, F, A: Allocator>(
     dcel: &mut Dcel<V, DE, UE, F, A>,
     edge: FixedUndirectedEdgeHandle,

@@ -1,4 +1,4 @@
-//! A mesh made from links that are given as lists, with anchors that are chosen or given.
+//! Constructing a mesh from lists of links, with chosen or given anchors.
 
 ghost use Rattle.std.specs.Prelude.{◌≡◌, ℕ, ◌/◌, ◌<◌, IfErr, IfOk, IfSome, OnOk, length, vec_len};
 ghost use Rattle.dcel_edits.specs.Adding.{IsEmpty};
@@ -27,7 +27,7 @@ pub struct MeshData<V, DE, UE, F, A: Allocator = Global> {
     /// A datum for each vertex.
     pub vertices: Vec<V, A>,
 
-    /// The data of each edge: of its half edges, and its own.
+    /// The data of each edge: those of its half edges, and its own.
     pub edges: Vec<EdgeData<DE, UE>, A>,
 
     /// A datum for each face, that of the outer one first.
@@ -40,29 +40,29 @@ pub struct Anchors<'a> {
     /// A half edge that starts at each vertex, or None where none does.
     pub vertices: &'a [Option<u32>],
 
-    /// A half edge that lies on each face, or None where none does.
+    /// A half edge of each face's boundary cycle, or None where that is empty.
     pub faces: &'a [Option<u32>],
 }
 
 /// The reason why links were refused, in the order in which reasons are looked for.
 #[derive(Clone, Copy, PartialEq, Eq, Debug, Drop)]
 pub enum LinksError {
-    /// The data are those of more or fewer edges than the lists have.
+    /// The data are for more or fewer edges than the lists have.
     Edges,
 
-    /// The anchors are more or fewer than the data of vertices, or than those of faces.
+    /// The anchors of vertices or of faces are more or fewer than the data of that kind.
     Anchors,
 
-    /// No mesh has these links, and this is wrong with them, and nothing of an earlier stage.
+    /// No mesh has these links. This is a first fault: none is found in an earlier stage.
     Links(LinksFault),
 
-    /// The anchor of this vertex is no half edge that starts there, or is missing though one does.
+    /// The anchor of this vertex doesn't start there, or is missing although a half edge does.
     VertexAnchor(usize),
 
-    /// The anchor of this face is no half edge that lies there, or is missing though one does.
+    /// The anchor of this face isn't on it, or is missing although a half edge is.
     FaceAnchor(usize),
 
-    /// There was no memory. That can come at any time, also before what is wrong is found.
+    /// Memory ran out. That can come at any stage, even before a fault is found.
     OutOfMemory,
 }
 
@@ -98,15 +98,15 @@ impl fmt::Display for LinksError {
 
 impl Error for LinksError {}
 
-/// The data that were handed in, given back with the reason why there is no mesh.
+/// The data that were passed in, returned with the reason why there is no mesh.
 ///
-/// It converts to [`LinksError`], so that `?` passes the reason on where the data may be dropped.
+/// It converts to [`LinksError`], so `?` passes on the reason where the data may be dropped.
 #[derive(Drop)]
 pub struct RefusedLinks<T> {
     /// The reason.
     pub reason: LinksError,
 
-    /// The value that was handed in.
+    /// The value that was passed in.
     pub back: T,
 }
 
@@ -136,18 +136,17 @@ impl<T: Drop> From<RefusedLinks<T>> for LinksError {
     }
 }
 
-/// Makes a mesh with these links and data.
+/// Constructs a mesh with these links and data.
 ///
 /// The lists of links have an item for each half edge. Half edges `2 * u` and `2 * u + 1` are edge
 /// `u`, and face 0 is the outer face. There are as many vertices and faces as `given` has data for.
 /// Each vertex and each face is anchored at its half edge with the greatest number, and no removal
 /// is open.
 ///
-/// It takes any lists. Data of more or fewer edges than the lists have are refused as
-/// [`LinksError::Edges`]. Otherwise, if some mesh has these links, this is it, with that mesh's
-/// words; if none has, the reason is [`LinksError::Links`] with a [`LinksFault`] that comes first.
-/// A refusal gives the data back, also if memory runs out. It goes over the lists a fixed number of
-/// times.
+/// Any lists may be given. Data for more or fewer edges than the lists have are refused as
+/// [`LinksError::Edges`]. Otherwise, if some mesh has these links, the result is that mesh, with
+/// the same words; if none has, the reason is [`LinksError::Links`] with a first [`LinksFault`]. A
+/// refusal returns the data, also if memory runs out. The lists are read a fixed number of times.
 pub fn from_links<V: Drop, DE: Drop, UE: Drop, F: Drop, A: Allocator + Clone>(
     alloc: A,
     links: Links<'_>,
@@ -168,14 +167,14 @@ pub fn from_links<V: Drop, DE: Drop, UE: Drop, F: Drop, A: Allocator + Clone>(
     make(alloc, links, None, given)
 }
 
-/// Makes a mesh with these links, anchors and data.
+/// Constructs a mesh with these links, anchors and data.
 ///
 /// Links and data are as [`from_links`] takes them. Each vertex and each face has the anchor that
-/// is given for it: a half edge that starts there or lies there, or None if there is none. So walks
-/// begin where they begin in the mesh that the links and anchors come from.
+/// is given for it: a half edge that starts there or is on the face, or None if there is none. So
+/// walks start where they start in the mesh that the links and anchors come from.
 ///
-/// It takes any lists. If no mesh has these links and anchors, the data come back with the reason,
-/// and if memory runs out they come back too. It goes over the lists a fixed number of times.
+/// Any lists may be given. If no mesh has these links and anchors, the data come back with the
+/// reason, and if memory runs out they come back too. The lists are read a fixed number of times.
 pub fn from_anchored_links<V: Drop, DE: Drop, UE: Drop, F: Drop, A: Allocator + Clone>(
     alloc: A,
     links: Links<'_>,
@@ -198,7 +197,7 @@ pub fn from_anchored_links<V: Drop, DE: Drop, UE: Drop, F: Drop, A: Allocator + 
     make(alloc, links, Some(anchors), given)
 }
 
-// Makes a mesh with these anchors, or with the last half edge of each vertex and face.
+// Constructs a mesh with these anchors, or with the last half edge of each vertex and face.
 fn make<V: Drop, DE: Drop, UE: Drop, F: Drop, A: Allocator + Clone>(
     alloc: A,
     links: Links<'_>,

@@ -1,4 +1,4 @@
-//! A line extended at its end.
+//! Extending a line at its end.
 
 ghost use Rattle.std.specs.Prelude.{◌≡◌, ◌∷◌, [], IfOk, OnErr, OnOk};
 ghost use Rattle.dcel_maps.specs.Conditions.{HasRoom, IsUnconnected, IsLineEnd};

@@ -1,4 +1,4 @@
-//! Triangles put outside an edge, or into a corner of the outer face.
+//! Adding triangles: beside an edge, or in a corner of the outer face.
 
 ghost use Rattle.std.specs.Prelude.{◌≡◌, ◌+◌, ◌*◌, ◌∷◌, [], IfOk, OnErr, OnOk};
 ghost use Rattle.dcel_maps.specs.Conditions.{CanCloseOutside, HasRoom, IsUnconnected};
@@ -13,9 +13,9 @@ use dcel_edits::outside::{put_beside, put_closing};
 use dcel_fixed::{FixedDirectedEdgeHandle, FixedVertexHandle};
 use std::alloc::{AllocError, Allocator};
 
-/// Puts a triangle on `edge`, with `new_vertex` as its third corner, and returns `new_vertex`.
+/// Adds a triangle beside `edge`, with `new_vertex` as its third corner, and returns `new_vertex`.
 ///
-/// The triangle lies on the side of `edge`, whose old face goes around it now.
+/// The triangle is on the side of `edge`, whose old face now goes around it.
 ///
 /// ```text
 /// before                        after  new_vertex
@@ -63,10 +63,10 @@ pub fn create_new_face_adjacent_to_edge<V, DE: Default, UE: Default, F: Default,
 ///            \> b > /                       \> b > /
 /// ```
 ///
-/// Asks that `edge` is live and on the outer face and that the next one does not lead back to where
-/// `edge` starts ([`can_close_outside`](Dcel::can_close_outside)), and for room for one edge and
-/// one face ([`has_room`](Dcel::has_room)). If memory runs out it returns `AllocError`, and the
-/// mesh is as it was.
+/// Asks that `edge` is live and on the outer face and that the next one does not end where `edge`
+/// starts ([`can_close_outside`](Dcel::can_close_outside)), and for room for one edge and one face
+/// ([`has_room`](Dcel::has_room)). If memory runs out it returns `AllocError`, and the mesh is as
+/// it was.
 pub fn create_single_face_between_edge_and_next<
     V,
     DE: Default,

@@ -8,7 +8,7 @@ use std::alloc::{Allocator, Global};
 /// What a removal gave up, and the edges that it added.
 #[derive(PartialEq, Eq, PartialOrd, Ord, Hash, Drop)]
 pub struct IsolateVertexResult<A: Allocator = Global> {
-    /// The edges that it added, by the numbers that they have before cleanup.
+    /// The edges that it added, with their numbers before cleanup.
     pub new_edges: Vec<FixedUndirectedEdgeHandle, A>,
 
     /// The smallest number that an added edge can have, 0 if a strip was cut off.
@@ -22,10 +22,10 @@ pub struct IsolateVertexResult<A: Allocator = Global> {
 }
 
 impl<A: Allocator> IsolateVertexResult<A> {
-    /// Returns whether the edge has at least the number of the first new edge.
+    /// Returns whether the number of the edge is at least that of the first new edge.
     ///
-    /// Before cleanup this holds for exactly the new edges and those that later calls have added.
-    /// After a strip was cut off, which adds none, it holds for every edge. After cleanup it says
+    /// Before cleanup this is true of exactly the new edges and those that later calls have added.
+    /// After a strip was cut off, which adds none, it is true of every edge. After cleanup it means
     /// nothing, since edges may have other numbers.
     pub fn is_new_edge(&self, edge: FixedUndirectedEdgeHandle) -> bool
         ensures { IsTrue result ↔ (self.now.smallest_new_edge ≤ edge) }
@@ -40,13 +40,13 @@ pub struct RemovalResult<V> {
     /// The datum of the vertex.
     pub removed_vertex: V,
 
-    /// The old number of the vertex that was moved into its place, if one was.
+    /// The old number of the vertex that got the freed number, if one did.
     pub swapped_in_vertex: Option<FixedVertexHandle>,
 }
 
 impl<V> RemovalResult<V> {
-    // Makes the result of taking out `vertex`. Its number went to `last`, the last vertex before, if
-    // that is another one.
+    // Returns the result of taking out `vertex`. Its number went to `last`, the last vertex before,
+    // if that is another one.
     pub(crate) fn of(removed_vertex: V, vertex: FixedVertexHandle, last: FixedVertexHandle) -> Self
         ensures datum { result.removed_vertex ≡ removed_vertex }
         ensures moved { result.swapped_in_vertex ≡ cond (vertex == last) None (Some last) }

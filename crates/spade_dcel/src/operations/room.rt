@@ -1,11 +1,11 @@
-//! How many numbers each call that grows takes.
+//! How many numbers each call that adds elements takes.
 
 ghost use Rattle.std.specs.Prelude.{◌≡◌, ◌-◌};
 
-/// How many more elements of each kind a call adds.
+/// How many elements of each kind a call adds.
 ///
-/// [`has_room_for`](crate::dcel::Dcel::has_room_for) tells whether there are numbers left for them.
-/// Each call that grows has its constant, and those that fill a hole have
+/// [`has_room_for`](crate::dcel::Dcel::has_room_for) reports whether there are numbers left for
+/// them. Each call that adds elements has its constant; for those that fill a hole there is
 /// [`filling`](Self::filling).
 #[derive(Clone, Copy, PartialEq, Eq, Debug)]
 pub struct Room {
@@ -86,11 +86,11 @@ impl Room {
         faces: 1,
     };
 
-    /// Returns what a call adds that fills a hole inside this many half edges.
+    /// Returns what a call adds that fills a hole bounded by this many half edges.
     ///
     /// The calls are [`isolate_vertex_and_fill_hole`](super::isolate_vertex_and_fill_hole) and
-    /// [`remesh_edge_ring`](super::remesh_edge_ring). They take three half edges at least, for
-    /// which they add one face and no edge; for four they add two faces and one edge.
+    /// [`remesh_edge_ring`](super::remesh_edge_ring). They take at least three half edges. For
+    /// three they add one face and no edge, for four two faces and one edge.
     pub fn filling(half_edges: usize) -> Room
         ensures vertices { result.vertices ≡ 0 }
         ensures edges { result.undirected_edges ≡ half_edges - 3 }

@@ -1,4 +1,4 @@
-//! A bridge split: a vertex put into the middle of an edge with one face on both sides.
+//! Splitting a bridge, an edge with the same face on both sides.
 
 ghost use Rattle.std.specs.Prelude.{◌≡◌, ◌*◌, [], ◌∷◌, IfOk, OnErr, OnOk};
 ghost use Rattle.dcel_maps.specs.Conditions.{HasRoom, IsBridge, IsUnconnected};
@@ -13,10 +13,11 @@ use dcel_edits::split::put_middle;
 use dcel_fixed::{FixedDirectedEdgeHandle, FixedVertexHandle};
 use std::alloc::{AllocError, Allocator};
 
-/// Splits an edge that has one face on both sides, and returns the two half edges along `edge`.
+/// Splits an edge that has the same face on both sides, and returns the two half edges along
+/// `edge`.
 ///
-/// The first is `edge`, which ends at `new_vertex` now; the second is new and leads on to where
-/// `edge` ended.
+/// The first is `edge`, which now ends at `new_vertex`; the second is new and leads from there to
+/// the old end of `edge`.
 ///
 /// ```text
 /// before    edge                after    edge           n
@@ -25,7 +26,7 @@ use std::alloc::{AllocError, Allocator};
 ///            t                           t               n + 1
 /// ```
 ///
-/// Asks that both halves of the edge lie on one face ([`is_bridge`](Dcel::is_bridge)), that no edge
+/// Asks that both halves of the edge are on one face ([`is_bridge`](Dcel::is_bridge)), that no edge
 /// meets `new_vertex` ([`is_unconnected`](Dcel::is_unconnected)), and for room for one edge
 /// ([`has_room`](Dcel::has_room)). If memory runs out it returns `AllocError`, and the mesh is as
 /// it was.

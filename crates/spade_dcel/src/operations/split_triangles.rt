@@ -1,4 +1,4 @@
-//! Edges split that have a triangle on one side or on both, which is cut in two.
+//! Splitting an edge that has a triangle on one side or on both; each is cut in two.
 
 ghost use Rattle.std.specs.Prelude.{◌≡◌, ◌+◌, ◌*◌, [], ◌∷◌, IfOk, OnErr, OnOk};
 ghost use Rattle.dcel_fixed.specs.HalfEdges.{rev};
@@ -16,9 +16,9 @@ use std::alloc::{AllocError, Allocator};
 
 /// Splits an edge between two triangles, and returns the two half edges along `edge`.
 ///
-/// The first is `edge`, which ends at `new_vertex` now; the second is new and leads on to where
-/// `edge` ended. Two more edges join `new_vertex`, `v` in the picture, to the opposite corners and
-/// cut both triangles in two. Either triangle may be the outer face.
+/// The first is `edge`, which now ends at `new_vertex`; the second is new and leads from there to
+/// the old end of `edge`. Two more edges join `new_vertex`, `v` in the picture, to the opposite
+/// corners and cut both triangles in two. Either triangle may be the outer face.
 ///
 /// ```text
 /// before     c                  after      c
@@ -58,10 +58,10 @@ pub fn split_edge<V, DE: Default, UE: Default, F: Default, A: Allocator>(
 
 /// Splits an edge that has a triangle on the side of `edge`.
 ///
-/// It returns the two half edges along the old one: the first is `edge`, which ends at `new_vertex`
-/// now; the second is new and leads on to where `edge` ended. One more edge joins `new_vertex`, `v`
-/// in the picture, to the opposite corner and cuts the triangle in two; the triangle may be the
-/// outer face. The face on the other side gets one half edge more.
+/// It returns the two half edges along the old one: the first is `edge`, which now ends at
+/// `new_vertex`; the second is new and leads from there to the old end of `edge`. One more edge
+/// joins `new_vertex`, `v` in the picture, to the opposite corner and cuts the triangle in two; the
+/// triangle may be the outer face. The face on the other side gets one more half edge.
 ///
 /// ```text
 /// before     c                  after      c

@@ -1,4 +1,4 @@
-//! A vertex of the outer face cut off, with its edges and the triangles around it.
+//! Cutting off a vertex of the outer face, with its edges and the triangles around it.
 
 ghost use Rattle.std.specs.Prelude.{◌≡◌, ◌<◌, [], ◌∷◌, ◌++◌, length, ℕ, IfOk, OnErr, OnOk, map};
 ghost use Rattle.dcel_maps.specs.EditLists.{EditedBy, vertex_cut_off};
@@ -18,8 +18,8 @@ use std::alloc::{AllocError, Allocator};
 
 /// Cuts off a vertex of the outer face, with its edges and the triangles around it.
 ///
-/// The vertex, `v` in the picture, and all that goes with it are given up, and the outer face goes
-/// along the strip instead. The list names `p to r`, `r to s`, `s to q` and then the half edge that
+/// They are given up; the vertex is `v` in the picture. The boundary cycle of the outer face then
+/// runs along the strip. The list has `p to r`, `r to s`, `s to q` and then the half edge that
 /// leads on from `q`.
 ///
 /// ```text
@@ -32,11 +32,10 @@ use std::alloc::{AllocError, Allocator};
 /// ```
 ///
 /// Each half edge of the list becomes the anchor of its origin, one after another, and the last one
-/// becomes the anchor of the outer face. The result has the edges before the half edges of the list
-/// and the faces of all but the last, in the order of the list, and no new edge. What is given up
-/// is still there: the edges and faces for
-/// [`cleanup_isolated_vertex`](super::cleanup_isolated_vertex) to take out, and then the vertex for
-/// [`swap_remove_vertex`](super::swap_remove_vertex).
+/// becomes the anchor of the outer face. The result has, in the order of the list, the edge of the
+/// half edge before each item and the face of each item but the last, and no new edge. What is
+/// given up is still stored: [`cleanup_isolated_vertex`](super::cleanup_isolated_vertex) takes out
+/// the edges and faces, and then [`swap_remove_vertex`](super::swap_remove_vertex) the vertex.
 ///
 /// Asks that no removal is open ([`removal_state`](Dcel::removal_state)) and that the list is a
 /// strip ([`is_edge_strip`](Dcel::is_edge_strip)). If memory runs out it returns `AllocError`, the

@@ -1,4 +1,4 @@
-//! A vertex without edges taken out.
+//! Taking out a vertex without edges.
 
 ghost use Rattle.std.specs.Prelude.{◌≡◌, ◌-◌, ◌==◌, ◌∷◌, [], cond, slice_index_or, Some, None};
 ghost use Rattle.dcel_maps.specs.Conditions.{CanSwapRemove};
@@ -15,8 +15,8 @@ use std::alloc::Allocator;
 
 /// Takes out a vertex that has no edge, and returns its datum.
 ///
-/// The last vertex gets its number, with its datum, its anchor and its out edges; the result tells
-/// if one was moved so. No removal is open afterwards.
+/// This is a swap-remove: the last vertex gets its number, and keeps its datum, its anchor and its
+/// out edges; the result says whether one was moved. No removal is open afterwards.
 ///
 /// ```text
 /// before                        after

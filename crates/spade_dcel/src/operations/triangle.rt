@@ -1,4 +1,4 @@
-//! A triangle made, and a vertex inserted into one.
+//! Creating a triangle, and inserting a vertex into one.
 
 ghost use Rattle.std.specs.Prelude.{◌≡◌, ◌<◌, ◌∷◌, [], IfOk, IfErr, OnErr, OnOk};
 ghost use Rattle.dcel_maps.specs.Conditions.{HasRoom, IsUnconnected, IsTriangle};

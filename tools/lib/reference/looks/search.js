@@ -14,19 +14,27 @@ function takeNames() {
   document.head.append(script);
 }
 
-/** How well a name fits what was typed: the lower, the better; null for a name that doesn't. Definitions come after the rest. */
-function rank([name, kind], typed) {
-  const last = name.split('::').pop().toLowerCase();
-  if (!name.toLowerCase().includes(typed)) return null;
-  return (last === typed ? 0 : last.startsWith(typed) ? 200 : 400) + (kind === 'definition' ? 100 : 0) + Math.min(name.length, 99);
+/**
+ * How well something fits the words that were typed: the lower, the better; null if it doesn't. Names come before sentences, in which types
+ * come first; definitions and laws after the rest.
+ */
+function rank([name, kind, , sentence], words) {
+  const path = name.toLowerCase(), last = path.split('::').pop(), typed = words.join('_'), said = sentence.toLowerCase();
+  const order = (kind === 'definition' || kind === 'law' ? 100 : 0) + Math.min(name.length, 99);
+  if (last === typed) return order;
+  if (last.startsWith(typed)) return 200 + order;
+  if (words.every(it => path.includes(it))) return 400 + order;
+  if (words.every(it => path.includes(it) || said.includes(it))) return (kind === 'type' ? 450 : 600) + order;
+  return null;
 }
 
 function show() {
-  const typed = box.value.trim().toLowerCase();
-  const found = typed ? names.map(it => [rank(it, typed), it]).filter(it => it[0] !== null) : [];
+  const words = box.value.toLowerCase().split(/\s+/).filter(it => it);
+  const found = words.length ? names.map(it => [rank(it, words), it]).filter(it => it[0] !== null) : [];
   found.sort((one, other) => one[0] - other[0]);
-  list.replaceChildren(...found.slice(0, 12).map(([, [name, kind, address]]) => {
+  list.replaceChildren(...found.slice(0, 20).map(([, [name, kind, address, sentence]]) => {
     const link = document.createElement('a'), item = document.createElement('li');
+    link.title = sentence;
     link.href = root + address.split('#').map(encodeURI).join('#');
     const crate = address.replace('definitions/', '').split('/')[0];
     link.append(name, ' ', Object.assign(document.createElement('small'), { textContent: `${kind} of ${crate}` }));

@@ -1,6 +1,6 @@
 use Rattle.std.proofs.lemmas.Bool.{false≢true}
 use Rattle.dcel_plane.specs.Plane.{point_at}
-use Rattle.dcel_plane.proofs.Flipped.{circled_can_flip}
+use Rattle.dcel_plane.proofs.edits.Flipped.{circled_can_flip}
 use Rattle.dcel_circles.proofs.Circled.{inner_from, not_inner}
 use Rattle.dcel_circles.proofs.circles.is_circled.Goals as goal
 

@@ -1,6 +1,6 @@
 use Rattle.std.proofs.Common.{◌≡◌, ◌-◌, length, slice_get, Some, None, rules, arith}
 use Rattle.dcel_plane.specs.Plane.{point_at}
-use Rattle.dcel_plane.proofs.Flipped.{circled_can_flip}
+use Rattle.dcel_plane.proofs.edits.Flipped.{circled_can_flip}
 use Rattle.dcel_circles.proofs.Turned.{begins, delaunay, falls_by, last_is, no_last, passes_by, popped, turns_by}
 use Rattle.dcel_circles.proofs.legalize.legalize_by_circles.Goals as goal
 

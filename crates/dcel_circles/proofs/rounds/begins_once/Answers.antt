@@ -1,5 +1,5 @@
 use Rattle.std.proofs.Common.{arith}
-use Rattle.dcel_covering.specs.Round.{Begins}
+use Rattle.dcel_plane.specs.covering.Round.{Begins}
 use Rattle.dcel_maps.proofs.Liveness.{closed-half_live}
 use Rattle.dcel_plane.specs.Plane.{point_at}
 use Rattle.dcel_circles.specs.Ways.{leads_to}

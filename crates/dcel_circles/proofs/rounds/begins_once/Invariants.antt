@@ -1,4 +1,4 @@
-use Rattle.dcel_covering.specs.Round.{Begins}
+use Rattle.dcel_plane.specs.covering.Round.{Begins}
 use Rattle.dcel_plane.specs.Plane.{point_at}
 use Rattle.dcel_circles.specs.Ways.{leads_to}
 use Rattle.dcel_circles.proofs.Begun.{Seen}

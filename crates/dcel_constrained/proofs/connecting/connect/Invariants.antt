@@ -1,6 +1,6 @@
 use Rattle.std.proofs.Common.{unsigned_abs}
 use Rattle.dcel_plane.specs.Plane.{point_at}
-use Rattle.dcel_segments.specs.Segments.{widths}
+use Rattle.dcel_plane.specs.segments.Segments.{widths}
 use Rattle.dcel_constrained.proofs.Stepwise.{IsOnWay}
 use Rattle.dcel_constrained.proofs.connecting.connect.Given as goal
 

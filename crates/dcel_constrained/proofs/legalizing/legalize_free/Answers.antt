@@ -1,6 +1,6 @@
 use Rattle.std.proofs.Common.{◌≡◌, ◌-◌, length, slice_get, Some, rules, arith}
 use Rattle.dcel_plane.specs.Plane.{point_at}
-use Rattle.dcel_plane.proofs.Flipped.{circled_can_flip}
+use Rattle.dcel_plane.proofs.edits.Flipped.{circled_can_flip}
 use Rattle.dcel_circles.proofs.Turned.{last_is, popped}
 use Rattle.dcel_constrained.proofs.Running.{falls_by, passes_by, starts, turns_by}
 use Rattle.dcel_constrained.proofs.legalizing.legalize_free.Goals as goal

@@ -1,7 +1,7 @@
 use Rattle.std.proofs.Common.{◌≡◌, ◌∙◌, inl, inr, subst, sym, arith}
 use Rattle.std.proofs.lemmas.Bool.{cases_lt}
 use Rattle.dcel_maps.proofs.Liveness.{closed-half_live}
-use Rattle.dcel_covering.proofs.Starts.{inner_half}
+use Rattle.dcel_plane.proofs.covering.Starts.{inner_half}
 use Rattle.spade_dcel.specs.Handles.{number_of}
 use Rattle.dcel_constrained.specs.Missing.{IsMissed}
 use Rattle.dcel_constrained.proofs.Missed.{not_all_missed}

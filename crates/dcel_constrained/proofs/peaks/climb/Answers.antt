@@ -1,7 +1,7 @@
 use Rattle.std.proofs.Common.{◌≡◌, ℕ, suc, ◌+◌, Some, slice_get, subst, arith}
 use Rattle.std.proofs.lemmas.Option.{slice_get_within}
 use Rattle.dcel_plane.specs.Plane.{point_at}
-use Rattle.dcel_segments.specs.Segments.{width}
+use Rattle.dcel_plane.specs.segments.Segments.{width}
 use Rattle.dcel_constrained.proofs.Places.{among, get_there, not_less_at}
 use Rattle.dcel_constrained.proofs.peaks.climb.Goals as goal
 

@@ -1,6 +1,6 @@
 use Rattle.std.proofs.Common.{ℕ, suc, ◌-◌, ◌≡◌, Some, slice_get, subst, arith}
 use Rattle.dcel_plane.specs.Plane.{point_at}
-use Rattle.dcel_segments.specs.Segments.{width}
+use Rattle.dcel_plane.specs.segments.Segments.{width}
 use Rattle.dcel_constrained.proofs.Places.{among, get_there, less_at, not_less_at}
 use Rattle.dcel_constrained.proofs.peaks.climb_back.Goals as goal
 

@@ -1,6 +1,6 @@
 use Rattle.std.proofs.Common.{sym}
 use Rattle.dcel_plane.specs.Plane.{point_at}
-use Rattle.dcel_hollows.specs.Wheels.{MakesTwo}
+use Rattle.dcel_plane.specs.removal.Wheels.{MakesTwo}
 use Rattle.dcel_delaunay.proofs.Bordered.{begins_at, begins_two, has_anchor}
 use Rattle.dcel_delaunay.proofs.Searching.{search_begins, search_continues, search_ends}
 use Rattle.dcel_delaunay.proofs.filling.beginning.Goals as goal

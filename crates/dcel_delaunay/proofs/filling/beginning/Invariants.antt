@@ -1,6 +1,6 @@
 use Rattle.std.proofs.Common.{length}
 use Rattle.dcel_plane.specs.Plane.{point_at}
-use Rattle.dcel_hollows.specs.Wheels.{MakesTwo}
+use Rattle.dcel_plane.specs.removal.Wheels.{MakesTwo}
 use Rattle.dcel_delaunay.proofs.Searching.{IsSearching}
 use Rattle.dcel_delaunay.proofs.filling.beginning.Given as goal
 

@@ -1,7 +1,7 @@
 use Rattle.std.proofs.Common.{rules, subst, sym, ℕ}
 use Rattle.dcel_maps.specs.Shapes.{IsLive, end_of, origin_of}
 use Rattle.dcel_plane.specs.Plane.{point_at}
-use Rattle.dcel_places.specs.Locating.{LiesOn}
+use Rattle.dcel_plane.specs.location.Locating.{LiesOn}
 use Rattle.spade_dcel.specs.Handles.{number_of}
 use Rattle.dcel_delaunay.specs.Places.{HasPoint}
 use Rattle.dcel_delaunay.proofs.Along.{between}

@@ -2,7 +2,7 @@ use Rattle.std.proofs.Common.{◌≡◌, rules, subst}
 use Rattle.dcel_predicates.specs.declared.point.Point.{Point}
 use Rattle.dcel_maps.specs.Shapes.{end_of, origin_of}
 use Rattle.dcel_plane.specs.Plane.{point_at}
-use Rattle.dcel_places.specs.Locating.{IsBefore}
+use Rattle.dcel_plane.specs.location.Locating.{IsBefore}
 use Rattle.spade_dcel.specs.Handles.{number_of}
 use Rattle.dcel_delaunay.proofs.Along.{beyond_down, beyond_up, down}
 use Rattle.dcel_delaunay.proofs.line.is_beyond.Goals as goal

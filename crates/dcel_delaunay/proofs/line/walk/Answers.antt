@@ -3,7 +3,7 @@ use Rattle.dcel_fixed.specs.HalfEdges.{rev}
 use Rattle.dcel_maps.specs.Conditions.{IsLineEnd}
 use Rattle.dcel_maps.specs.Shapes.{IsLive, end_of, next_of}
 use Rattle.dcel_plane.specs.Plane.{point_at}
-use Rattle.dcel_places.specs.Locating.{LiesBeyond}
+use Rattle.dcel_plane.specs.location.Locating.{LiesBeyond}
 use Rattle.spade_dcel.specs.Handles.{number_of}
 use Rattle.dcel_delaunay.specs.Places.{IsOnLine}
 use Rattle.dcel_delaunay.proofs.Along.{Passed, onward, passed_few, still_ahead}

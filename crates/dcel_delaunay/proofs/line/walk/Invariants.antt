@@ -2,7 +2,7 @@ use Rattle.std.proofs.Common.{◌≡◌}
 use Rattle.dcel_fixed.specs.HalfEdges.{rev}
 use Rattle.dcel_maps.specs.Shapes.{IsLive}
 use Rattle.dcel_plane.specs.Plane.{point_at}
-use Rattle.dcel_places.specs.Locating.{LiesBeyond}
+use Rattle.dcel_plane.specs.location.Locating.{LiesBeyond}
 use Rattle.spade_dcel.specs.Handles.{mesh_behind, number_of}
 use Rattle.dcel_delaunay.specs.Places.{IsOnLine}
 use Rattle.dcel_delaunay.proofs.Along.{Passed}

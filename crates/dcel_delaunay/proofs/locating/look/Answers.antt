@@ -2,7 +2,7 @@ use Rattle.std.proofs.Common.{◌≡◌, ◌≢◌, ◌∙◌, ◌<◌, ℕ, ap,
 use Rattle.dcel_predicates.specs.declared.predicates.Side.TheVariants.{Right}
 use Rattle.dcel_maps.specs.Shapes.{face_of, next_of, prev_of}
 use Rattle.dcel_plane.specs.Plane.{point_at}
-use Rattle.dcel_places.specs.Locating.{HasBeyond}
+use Rattle.dcel_plane.specs.location.Locating.{HasBeyond}
 use Rattle.spade_dcel.specs.Handles.{mesh_behind, number_of}
 use Rattle.dcel_delaunay.specs.Places.{LiesAt}
 use Rattle.dcel_delaunay.proofs.OnEdges.{crossing, sides, told}

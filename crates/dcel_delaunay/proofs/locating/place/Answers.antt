@@ -3,7 +3,7 @@ use Rattle.dcel_predicates.specs.declared.predicates.Side.TheVariants.{On}
 use Rattle.dcel_maps.specs.Shapes.{IsLive, end_of, face_of, next_of, origin_of, prev_of}
 use Rattle.dcel_maps.specs.Conditions.{IsTriangle}
 use Rattle.dcel_plane.specs.Plane.{LiesInside, point_at}
-use Rattle.dcel_places.specs.Locating.{LiesOn}
+use Rattle.dcel_plane.specs.location.Locating.{LiesOn}
 use Rattle.spade_dcel.specs.Handles.{number_of}
 use Rattle.dcel_delaunay.specs.Places.{HasPoint}
 use Rattle.dcel_delaunay.proofs.OnEdges.{at_apex, at_end, at_start, in_face, on_after, on_before, on_own}

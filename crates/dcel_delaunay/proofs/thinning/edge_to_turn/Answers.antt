@@ -1,7 +1,7 @@
 use Rattle.std.proofs.Common.{◌/◌, ◌∙◌, ℕ, ap, sym}
 use Rattle.spade_dcel.specs.Handles.{number_of}
 use Rattle.dcel_plane.specs.Plane.{point_at}
-use Rattle.dcel_hollows.specs.Wheels.{CanTurn}
+use Rattle.dcel_plane.specs.removal.Wheels.{CanTurn}
 use Rattle.dcel_delaunay.proofs.Searching.{search_begins, search_continues, search_ends}
 use Rattle.dcel_delaunay.proofs.thinning.edge_to_turn.Goals as goal
 

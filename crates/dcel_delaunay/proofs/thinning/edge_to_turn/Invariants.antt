@@ -1,6 +1,6 @@
 use Rattle.std.proofs.Common.{◌/◌, length}
 use Rattle.dcel_plane.specs.Plane.{point_at}
-use Rattle.dcel_hollows.specs.Wheels.{CanTurn}
+use Rattle.dcel_plane.specs.removal.Wheels.{CanTurn}
 use Rattle.dcel_delaunay.proofs.Searching.{IsSearching}
 use Rattle.dcel_delaunay.proofs.thinning.edge_to_turn.Given as goal
 

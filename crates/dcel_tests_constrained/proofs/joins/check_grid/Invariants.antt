@@ -1,5 +1,5 @@
 use Rattle.dcel_plane.specs.Plane.{point_at}
-use Rattle.dcel_segments.specs.Segments.{IsPlanar}
+use Rattle.dcel_plane.specs.segments.Segments.{IsPlanar}
 use Rattle.dcel_tests_constrained.proofs.joins.check_grid.Given as goal
 
 abbrev pub invariant-loop-row : goal.invariant-loop-row

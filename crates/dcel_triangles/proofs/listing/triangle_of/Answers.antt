@@ -1,5 +1,5 @@
 use Rattle.spade_dcel.specs.Handles.{number_of}
-use Rattle.dcel_covering.proofs.Starts.{face_live}
+use Rattle.dcel_plane.proofs.covering.Starts.{face_live}
 use Rattle.dcel_triangles.proofs.Faces.{has_numbers}
 use Rattle.dcel_triangles.proofs.listing.triangle_of.Goals as goal
 

@@ -17,8 +17,8 @@ use std::alloc::Allocator;
 impl<'a, V, DE, UE, F, A: Allocator> DirectedVoronoiEdge<'a, V, DE, UE, F, A> {
     /// Returns the vertex where it starts.
     ///
-    /// That is the dual of the face that its half edge lies on. On the outer face each edge has a
-    /// vertex of its own.
+    /// That is the dual of its half edge's face. On the outer face each edge has a vertex of its
+    /// own.
     ///
     /// Asks for a live edge ([`is_live_edge`](crate::dcel::Dcel::is_live_edge)).
     #[inline]
@@ -57,11 +57,10 @@ impl<'a, V, DE, UE, F, A: Allocator> DirectedVoronoiEdge<'a, V, DE, UE, F, A> {
         self.as_delaunay_edge().rev().as_voronoi_edge()
     }
 
-    /// Returns the edge after it around its face.
+    /// Returns the next edge around its face.
     ///
-    /// It is the dual of the half edge after its own out of the same vertex
-    /// ([`ccw`](crate::handles::DirectedEdgeHandle::ccw)). It ends where this one starts, if that
-    /// is the dual of an inner face.
+    /// It is the dual of [`ccw`](crate::handles::DirectedEdgeHandle::ccw) of its half edge. It ends
+    /// where this edge starts, if that is the dual of an inner face.
     ///
     /// Asks for a live edge ([`is_live_edge`](crate::dcel::Dcel::is_live_edge)).
     #[inline]
@@ -77,10 +76,9 @@ impl<'a, V, DE, UE, F, A: Allocator> DirectedVoronoiEdge<'a, V, DE, UE, F, A> {
         self.as_delaunay_edge().ccw().as_voronoi_edge()
     }
 
-    /// Returns the edge before it around its face.
+    /// Returns the previous edge around its face.
     ///
-    /// It is the dual of the half edge before its own out of the same vertex
-    /// ([`cw`](crate::handles::DirectedEdgeHandle::cw)).
+    /// It is the dual of [`cw`](crate::handles::DirectedEdgeHandle::cw) of its half edge.
     ///
     /// Asks for a live edge ([`is_live_edge`](crate::dcel::Dcel::is_live_edge)).
     #[inline]
@@ -93,7 +91,7 @@ impl<'a, V, DE, UE, F, A: Allocator> DirectedVoronoiEdge<'a, V, DE, UE, F, A> {
         self.as_delaunay_edge().cw().as_voronoi_edge()
     }
 
-    /// Returns the face that it goes around: the dual of the vertex where its half edge starts.
+    /// Returns its face, the dual of the vertex where its half edge starts.
     ///
     /// Asks for a live edge ([`is_live_edge`](crate::dcel::Dcel::is_live_edge)).
     #[inline]

@@ -37,9 +37,9 @@ impl<'a, V, DE, UE, F, A: Allocator> VoronoiFace<'a, V, DE, UE, F, A> {
 
 /// The edges around a face of the Voronoi diagram.
 ///
-/// It does not allocate. Contracts see its mesh, and the edges that it has still to give. That an edge
-/// is live is known where it is given, so a loop needn't test it. `next` and `next_back` may be
-/// mixed freely.
+/// It does not allocate. Contracts see its mesh and the edges still to come. Each edge is known to
+/// be live when it is returned, so a loop needn't test it. `next` and `next_back` may be mixed
+/// freely.
 #[derive(Drop)]
 pub struct VoronoiFaceEdges<'a, V, DE, UE, F, A: Allocator = Global> {
     out_edges: CircularIterator<'a, V, DE, UE, F, CCWEdgesNextBackFn, A>,

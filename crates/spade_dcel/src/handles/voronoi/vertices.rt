@@ -17,7 +17,7 @@ use std::alloc::{Allocator, Global};
 pub enum VoronoiVertex<'a, V, DE, UE, F, A: Allocator = Global> {
     /// The dual of an inner face.
     Inner(FaceHandle<'a, InnerTag, V, DE, UE, F, A>),
-    /// The start of a Voronoi edge on the outer face, where each edge has a vertex of its own.
+    /// The start of a Voronoi edge whose half edge is on the outer face; each has one of its own.
     Outer(DirectedVoronoiEdge<'a, V, DE, UE, F, A>),
 }
 
@@ -36,8 +36,8 @@ impl<'a, V, DE, UE, F, A: Allocator> VoronoiVertex<'a, V, DE, UE, F, A> {
 
     /// Returns three edges that start at an inner vertex, or None for an outer one.
     ///
-    /// They are the duals of the face's [`adjacent_edges`](FaceHandle::adjacent_edges), and so all
-    /// that start there if the face is a triangle.
+    /// They are the duals of the face's [`adjacent_edges`](FaceHandle::adjacent_edges). If the face
+    /// is a triangle, these are all edges that start there.
     ///
     /// Asks that the face of an inner vertex is live
     /// ([`is_live_face`](crate::dcel::Dcel::is_live_face)) and not the outer one.

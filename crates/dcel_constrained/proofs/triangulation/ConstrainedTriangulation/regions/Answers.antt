@@ -1,5 +1,5 @@
 use Rattle.std.proofs.Common.{Result, Ok, Err, IfOk}
-use Rattle.dcel_covering.proofs.Starts.{face_live}
+use Rattle.dcel_plane.proofs.covering.Starts.{face_live}
 use Rattle.dcel_constrained.proofs.triangulation.ConstrainedTriangulation.regions.Goals as goal
 
 -- what follows from what is said of a result

@@ -1,5 +1,0 @@
-use Rattle.dcel_covering.proofs.laws.no_vertex_lies_inside_a_circle.Goals as goal
-use Rattle.dcel_covering.proofs.Circles.{no_vertex_inside}
-
-pub returns : goal.returns
-returns g c = λ at m mesh triangles delaunay convex hull. no_vertex_inside m mesh triangles at delaunay convex hull

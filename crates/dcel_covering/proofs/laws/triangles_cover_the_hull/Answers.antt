@@ -1,5 +1,0 @@
-use Rattle.dcel_covering.proofs.laws.triangles_cover_the_hull.Goals as goal
-use Rattle.dcel_covering.proofs.Reaching.{covers_hull}
-
-pub returns : goal.returns
-returns g c = λ at m mesh triangles delaunay. covers_hull m mesh triangles at delaunay

@@ -1,5 +1,0 @@
-use Rattle.dcel_hollows.proofs.laws.inner_vertices_have_wheels.Goals as goal
-use Rattle.dcel_hollows.proofs.Flippable.{round_wheel}
-
-pub returns : goal.returns
-returns g c = λ at m h w mesh triangles plane convex hull live inner trip. round_wheel m mesh triangles at plane convex hull h live inner w trip

@@ -1,5 +1,0 @@
-use Rattle.dcel_hollows.proofs.laws.neighbors_of_four_make_two_triangles.Goals as goal
-use Rattle.dcel_hollows.proofs.Flippable.{two_turn}
-
-pub returns : goal.returns
-returns g c = λ at m h w mesh triangles plane convex hull live inner trip many. two_turn m mesh triangles at plane convex hull h live inner w trip many

@@ -1,5 +1,0 @@
-use Rattle.dcel_hollows.proofs.laws.neighbors_of_three_turn_left.Goals as goal
-use Rattle.dcel_hollows.proofs.Flippable.{three_turn}
-
-pub returns : goal.returns
-returns g c = λ at m h w mesh triangles plane convex hull live inner trip many. three_turn m mesh triangles at plane convex hull h live inner w trip many

@@ -1,5 +1,0 @@
-use Rattle.dcel_hollows.proofs.laws.vertices_of_a_line_can_go.Goals as goal
-use Rattle.dcel_hollows.proofs.PathShortened.{degenerate_straight}
-
-pub returns : goal.returns
-returns g c = λ at after m v mesh can result same straight. degenerate_straight m mesh v can at after result same straight

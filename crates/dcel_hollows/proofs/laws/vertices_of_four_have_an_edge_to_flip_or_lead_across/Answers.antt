@@ -1,5 +1,0 @@
-use Rattle.dcel_hollows.proofs.laws.vertices_of_four_have_an_edge_to_flip_or_lead_across.Goals as goal
-use Rattle.dcel_hollows.proofs.Flippable.{four_turn}
-
-pub returns : goal.returns
-returns g c = λ at m h w mesh triangles plane convex hull live inner trip many. four_turn m mesh triangles at plane convex hull h live inner w trip many

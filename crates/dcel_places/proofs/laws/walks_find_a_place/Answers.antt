@@ -1,5 +1,0 @@
-use Rattle.dcel_places.proofs.laws.walks_find_a_place.Goals as goal
-use Rattle.dcel_places.proofs.Found.{has_spot}
-
-pub returns : goal.returns
-returns g c = λ at m p h mesh triangles delaunay live inner. has_spot m mesh triangles at delaunay p h live inner

@@ -1,0 +1,208 @@
+-- Edits inside of the hull keep it: a flip, and an insertion of a vertex that lies on the right of each outer half edge.
+use Rattle.std.proofs.Common.{◌≡◌, ◌≢◌, ◌⊎◌, inl, inr, ℕ, ◌+◌, ◌*◌, ◌<◌, List, [], ◌∷◌, slice_set, refl, sym, ap, ◌∙◌, subst, pos, ◌<ℤ◌, ◌≤ℤ◌, arith}
+use Rattle.std.proofs.lemmas.Bool.{cases_eq}
+use Rattle.std.proofs.lemmas.List.{get_or-set_other}
+use Rattle.dcel_fixed.specs.HalfEdges.{rev}
+use Rattle.dcel_fixed.proofs.Halves.{rev-double, rev-rev}
+use Rattle.dcel_predicates.specs.Determinants.{orient2d_of}
+use Rattle.dcel_predicates.specs.declared.point.Point.{Point}
+use Rattle.dcel_predicates.proofs.Signs.{ordered}
+use Rattle.dcel_maps.specs.Conditions.{CanFlip}
+use Rattle.dcel_maps.specs.Cyclic.{from_least}
+use Rattle.dcel_maps.specs.Shapes.{IsLive, IsMesh, IsSound, Mesh, Shape, end_of, face_of, map_of, next_of, origin_of, prev_of}
+use Rattle.dcel_maps.specs.Words.{count_of, word_of}
+use Rattle.dcel_maps.specs.edits.Flip.{edge_flipped}
+use Rattle.dcel_maps.proofs.Liveness.{even_live, odd_live}
+use Rattle.dcel_maps.proofs.edits.Flips.{flipped_mesh}
+use Rattle.dcel_maps.proofs.maps.Soundness.{rev_live}
+use Rattle.dcel_maps.proofs.walks.Links.{links_stand, prev-live}
+use Rattle.dcel_maps.proofs.words.Reading.{stands_in_face}
+use Rattle.dcel_plane.proofs.edits.Flipped.{origin_e, origin_same, origin_t}
+use Rattle.dcel_plane.specs.covering.Covering.{HasDistinctPoints, IsConvex, IsHull, apart_along}
+use Rattle.dcel_plane.proofs.hull.Becomes.{was_live, was_on}
+
+-- each outer half edge was one, with the same ends
+pub record WasOuter (s n : Shape) (h : ℕ) : Type 0 where
+  pub live : IsLive s h
+  pub on : face_of s h ≡ 0
+  pub start : origin_of s h ≡ origin_of n h
+  pub end : end_of s h ≡ end_of n h
+
+abbrev pub KeepsOuter : Shape → Shape → Type 0
+KeepsOuter s n = (h : ℕ) → IsLive n h → face_of n h ≡ 0 → WasOuter s n h
+
+-- each vertex with an edge was one
+abbrev pub StartsOld : Shape → Shape → Type 0
+StartsOld s n = (k : ℕ) → IsLive n k → (i : ℕ) × IsLive s i × (origin_of s i ≡ origin_of n k)
+
+-- or is v
+abbrev pub StartsOldOr : Shape → Shape → ℕ → Type 0
+StartsOldOr s n v = (k : ℕ) → IsLive n k → (origin_of n k ≡ v) ⊎ ((i : ℕ) × IsLive s i × (origin_of s i ≡ origin_of n k))
+
+-- the new vertex lies on the right of each outer half edge, and where no other one stands
+pub record LiesWithin (at : ℕ → Point) (s : Shape) (v : ℕ) : Type 0 where
+  pub right : (h : ℕ) → IsLive s h → face_of s h ≡ 0 → orient2d_of (at (origin_of s h)) (at (end_of s h)) (at v) <ℤ pos 0
+  pub alone : (k : ℕ) → IsLive s k → (at (origin_of s k)).x ≡ (at v).x → (at (origin_of s k)).y ≡ (at v).y → ⊥
+
+-- where no vertex stood at v, different vertices stand at different points still
+pub gains_distinct : (at : ℕ → Point) (s n : Shape) (v : ℕ) → StartsOldOr s n v → ((k : ℕ) → IsLive s k → (at (origin_of s k)).x ≡ (at v).x → (at (origin_of s k)).y ≡ (at v).y → ⊥)
+    → HasDistinctPoints at s → HasDistinctPoints at n
+gains_distinct at s n v starts alone distinct h k live_h live_k =
+    of_start (λ a. Same a (origin_of n k))
+    (of_start (λ b. Same v b) (λ ex ey. refl) (λ j live_j ex ey. absurd (alone j live_j (sym ex) (sym ey))) k live_k)
+    (λ i live_i. of_start (λ b. Same (origin_of s i) b) (λ ex ey. absurd (alone i live_i ex ey)) (λ j live_j. distinct i j live_i live_j) k live_k)
+    h live_h
+  where
+    Same : ℕ → ℕ → Type 0
+    Same a b = (at a).x ≡ (at b).x → (at a).y ≡ (at b).y → a ≡ b
+
+    of_start : (P : ℕ → Type 0) → P v → ((j : ℕ) → IsLive s j → P (origin_of s j)) → (k : ℕ) → IsLive n k → P (origin_of n k)
+    of_start P new was k live = elim (starts k live) [ inl is ↦ subst P (sym is) new | inr found ↦ subst P found.2 (was found.0 found.1) ]
+
+-- where the outer face's word stays, each outer half edge was one
+pub same_outer : (s n : Shape) → IsSound s → IsSound n → word_of n.words 0 ≡ word_of s.words 0 → (h : ℕ) → IsLive n h → face_of n h ≡ 0 → IsLive s h × (face_of s h ≡ 0)
+same_outer s n sound sound_after same h live on =
+    let there : 0 < count_of h (word_of n.words 0) = subst (λ (f : ℕ). 0 < count_of h (word_of n.words f)) on (stands_in_face (map_of n) n.words (links_stand sound_after) h live) in
+    let found : 0 < count_of h (word_of s.words 0) = subst (λ (w : List ℕ). 0 < count_of h w) same there in
+    (was_live s sound h found, was_on s sound h found)
+
+module _ (at : ℕ → Point) (s n : Shape) (v : ℕ) (outer : KeepsOuter s n) (starts : StartsOldOr s n v) (within : LiesWithin at s v) where
+  abbrev Right : ℕ → ℕ → ℕ → Type 0
+  Right a b k = orient2d_of (at a) (at b) (at k) ≤ℤ pos 0
+
+  abbrev Apart : ℕ → ℕ → ℕ → Type 0
+  Apart a b k = orient2d_of (at a) (at b) (at k) ≡ pos 0 → pos 0 ≤ℤ apart_along (at a) (at b) (at k)
+
+  -- what holds of the ends of h and the start of k, in the old shape
+  carried : (P : ℕ → ℕ → ℕ → Type 0) (a b k a' b' k' : ℕ) → a ≡ a' → b ≡ b' → k ≡ k' → P a b k → P a' b' k'
+  carried P a b k a' b' k' ea eb ek is = subst (λ (i : ℕ). P a' b' i) ek (subst (λ (i : ℕ). P a' i k) eb (subst (λ (i : ℕ). P i b k) ea is))
+
+  pub gains_convex : IsConvex at s → IsConvex at n
+  gains_convex convex = record {
+    right = λ h k live on live_k.
+        let was = outer h live on in
+        elim (starts k live_k) [
+          | inl new ↦
+              carried Right (origin_of s h) (end_of s h) v (origin_of n h) (end_of n h) (origin_of n k) was.start was.end (sym new)
+              (let r = within.right h was.live was.on in omega (arith, ordered, r))
+          | inr old ↦
+              carried Right (origin_of s h) (end_of s h) (origin_of s old.0) (origin_of n h) (end_of n h) (origin_of n k) was.start was.end old.2
+              (convex.right h old.0 was.live was.on old.1)
+        ];
+    between = λ h k live on live_k.
+        let was = outer h live on in
+        elim (starts k live_k) [
+          | inl new ↦
+              carried Apart (origin_of s h) (end_of s h) v (origin_of n h) (end_of n h) (origin_of n k) was.start was.end (sym new)
+              (λ zero. absurd (let r = within.right h was.live was.on in omega (arith, ordered, r, zero)))
+          | inr old ↦
+              carried Apart (origin_of s h) (end_of s h) (origin_of s old.0) (origin_of n h) (end_of n h) (origin_of n k) was.start was.end old.2
+              (convex.between h old.0 was.live was.on old.1)
+        ];
+  }
+
+  pub gains_hull : IsHull at s → IsHull at n
+  gains_hull hull = record {
+    distinct = gains_distinct at s n v starts within.alone hull.distinct;
+    once = λ h k live_h live_k on_h on_k same.
+        let was_h = outer h live_h on_h in
+        let was_k = outer k live_k on_k in
+        hull.once h k was_h.live was_k.live was_h.on was_k.on (was_h.start ∙ same ∙ sym was_k.start);
+  }
+
+-- without a new vertex
+module _ (at : ℕ → Point) (s n : Shape) (outer : KeepsOuter s n) (starts : StartsOld s n) where
+  keeps_right : IsConvex at s → (h k : ℕ) → IsLive n h → face_of n h ≡ 0 → IsLive n k
+      → (orient2d_of (at (origin_of n h)) (at (end_of n h)) (at (origin_of n k)) ≤ℤ pos 0)
+      × (orient2d_of (at (origin_of n h)) (at (end_of n h)) (at (origin_of n k)) ≡ pos 0 → pos 0 ≤ℤ apart_along (at (origin_of n h)) (at (end_of n h)) (at (origin_of n k)))
+  keeps_right convex h k live on live_k =
+      let was = outer h live on in
+      let (i, live_i, is) = starts k live_k in
+      subst (λ (j : ℕ). Both (origin_of n h) (end_of n h) j) is
+      (subst (λ (j : ℕ). Both (origin_of n h) j (origin_of s i)) was.end
+      (subst (λ (j : ℕ). Both j (end_of s h) (origin_of s i)) was.start (convex.right h i was.live was.on live_i, convex.between h i was.live was.on live_i)))
+    where
+      Both : ℕ → ℕ → ℕ → Type 0
+      Both a b c = (orient2d_of (at a) (at b) (at c) ≤ℤ pos 0) × (orient2d_of (at a) (at b) (at c) ≡ pos 0 → pos 0 ≤ℤ apart_along (at a) (at b) (at c))
+
+  pub keeps_convex : IsConvex at s → IsConvex at n
+  keeps_convex convex = record {
+    right = λ h k live on live_k. (keeps_right convex h k live on live_k).0;
+    between = λ h k live on live_k. (keeps_right convex h k live on live_k).1;
+  }
+
+  pub keeps_hull : IsHull at s → IsHull at n
+  keeps_hull hull = record {
+    distinct = λ h k live_h live_k.
+        let (i, live_i, is) = starts h live_h in
+        let (j, live_j, js) = starts k live_k in
+        subst (λ (l : ℕ). (at (origin_of n h)).x ≡ (at l).x → (at (origin_of n h)).y ≡ (at l).y → origin_of n h ≡ l) js
+        (subst (λ (l : ℕ). (at l).x ≡ (at (origin_of s j)).x → (at l).y ≡ (at (origin_of s j)).y → l ≡ origin_of s j) is (hull.distinct i j live_i live_j));
+    once = λ h k live_h live_k on_h on_k same.
+        let was_h = outer h live_h on_h in
+        let was_k = outer k live_k on_k in
+        hull.once h k was_h.live was_k.live was_h.on was_k.on (was_h.start ∙ same ∙ sym was_k.start);
+  }
+
+-- a flip between inner triangles
+module _ {V DE UE F : Type 0} (m : Mesh V DE UE F) (mesh : IsMesh m) (u : ℕ) (can : CanFlip m.shape u) (at : ℕ → Point)
+    (inner : 0 < face_of m.shape (2 * u)) (inner_facing : 0 < face_of m.shape (2 * u + 1)) where
+  abbrev s : Shape
+  s = m.shape
+
+  abbrev n : Shape
+  n = (edge_flipped m u).shape
+
+  outer_word : word_of n.words 0 ≡ word_of s.words 0
+  outer_word =
+      let e = 2 * u in
+      let t = 2 * u + 1 in
+      let first = from_least (e ∷ prev_of s t ∷ next_of s e ∷ []) in
+      let second = from_least (t ∷ prev_of s e ∷ next_of s t ∷ []) in
+      get_or-set_other (slice_set s.words (face_of s e) first) (face_of s t) 0 second [] (λ is. omega (arith, is, inner_facing))
+      ∙ get_or-set_other s.words (face_of s e) 0 first [] (λ is. omega (arith, is, inner))
+
+  away : (h : ℕ) → face_of s h ≡ 0 → (h ≢ 2 * u) × (h ≢ 2 * u + 1)
+  away h on = (
+    λ is. let e = ap (face_of s) is in omega (arith, e, on, inner),
+    λ is. let e = ap (face_of s) is in omega (arith, e, on, inner_facing),
+  )
+
+  pub flip_outer : KeepsOuter s n
+  flip_outer h live on =
+      let (was, outside) = same_outer s n mesh.sound (flipped_mesh m u mesh can).sound outer_word h live on in
+      let off = away h outside in
+      let back = rev_live (map_of s) h was in
+      record {
+        live = was;
+        on = outside;
+        start = sym (origin_same m mesh u can at h was off.0 off.1);
+        end =
+            sym
+            (origin_same m mesh u can at (rev h) back
+            (λ is. off.1 (sym (rev-rev h) ∙ ap rev is ∙ rev-double u))
+            (λ is. off.0 (sym (rev-rev h) ∙ ap rev is ∙ ap rev (sym (rev-double u)) ∙ rev-rev (2 * u))));
+      }
+
+  flip_starts : StartsOld s n
+  flip_starts k live = elim (cases_eq k (2 * u)) [
+    | inl is ↦ (
+      prev_of s (2 * u),
+      prev-live mesh.sound (2 * u) (even_live s u can.live),
+      sym (ap (origin_of n) is ∙ origin_e m mesh u can),
+    )
+    | inr not_e ↦ elim (cases_eq k (2 * u + 1)) [
+      | inl is ↦ (
+        prev_of s (2 * u + 1),
+        prev-live mesh.sound (2 * u + 1) (odd_live s u can.live),
+        sym (ap (origin_of n) is ∙ origin_t m mesh u can),
+      )
+      | inr not_t ↦ (k, live, sym (origin_same m mesh u can at k live not_e not_t))
+    ]
+  ]
+
+  pub flip_keeps_convex : IsConvex at s → IsConvex at n
+  flip_keeps_convex = keeps_convex at s n flip_outer flip_starts
+
+  pub flip_keeps_hull : IsHull at s → IsHull at n
+  flip_keeps_hull = keeps_hull at s n flip_outer flip_starts

@@ -1,5 +1,0 @@
-use Rattle.dcel_plane.proofs.laws.lines_are_delaunay.Goals as goal
-use Rattle.dcel_plane.proofs.Alone.{outer_alone_delaunay}
-
-pub returns : goal.returns
-returns g c = λ at m mesh one. outer_alone_delaunay at m mesh one

@@ -1,5 +1,0 @@
-use Rattle.dcel_segments.proofs.laws.channels_list_each_crossing.Goals as goal
-use Rattle.dcel_segments.proofs.Listing.{stands_in}
-
-pub returns : goal.returns
-returns g c = λ at m v w h list mesh triangles plane convex hull clear channel some crosses. stands_in m mesh triangles at plane convex hull v w clear list channel some h crosses

@@ -1,5 +1,0 @@
-use Rattle.dcel_segments.proofs.Wholly.{plane_covers}
-use Rattle.dcel_segments.proofs.laws.triangles_in_the_plane_cover_the_hull.Goals as goal
-
-pub returns : goal.returns
-returns g c = λ at m mesh triangles plane. plane_covers at m mesh triangles plane
