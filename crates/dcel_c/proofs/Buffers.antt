@@ -2,7 +2,7 @@
 use Rattle.std.proofs.Common.{◌≡◌, ◌<◌, ◌≤◌, ◌+◌, ◌++◌, ◌∷◌, [], ℕ, suc, List, length, set, refl, ap, sym, ◌∙◌, arith, append_assoc, append-nil}
 use Rattle.std.proofs.lemmas.List.{length-append}
 use native.Mathlib.Numerals.{unary_clauses}
-use Rattle.dcel_c.specs.Lists.{filled}
+use Rattle.dcel_exports.specs.Answers.{filled}
 
 -- a list put over the beginning of a buffer, item by item
 abbrev pub put_over : {T : Type 0} → List T → List T → List T

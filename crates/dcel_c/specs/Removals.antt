@@ -3,9 +3,9 @@ use Rattle.dcel_commands.specs.Responses.{Response, Opened, Removed}
 use Rattle.dcel_record.specs.Record.{state_of}
 use Rattle.dcel_record.specs.declared.RemovalState.{RemovalState}
 use Rattle.dcel_record.specs.declared.RemovalState.TheVariants.{Closed, Isolated, Cleaned}
+use Rattle.dcel_exports.specs.Answers.{filled}
 use Rattle.dcel_c.specs.Calls.{nowhere}
 use Rattle.dcel_c.specs.Held.{Kept}
-use Rattle.dcel_c.specs.Lists.{filled}
 use Rattle.dcel_c.specs.declared.removals.DcelOpened.{DcelOpened}
 use Rattle.dcel_c.specs.declared.removals.DcelRemoved.{DcelRemoved}
 use Rattle.std.specs.Prelude.{ℕ, List, [], Some, None, length, unwrap_or}

@@ -22,6 +22,7 @@ mod list_conditions;
 mod lists;
 mod mesh;
 mod removals;
+mod replies;
 mod status;
 mod steps;
 mod version;
@@ -66,7 +67,8 @@ pub use removals::{
     dcel_isolate_vertex_and_fill_hole, dcel_remesh_edge_ring, dcel_removal_state,
     dcel_remove_when_degenerate, dcel_swap_remove_vertex,
 };
+pub use replies::dcel_replies;
 pub use steps::{dcel_ccw, dcel_cw, dcel_face, dcel_from, dcel_next, dcel_prev, dcel_rev, dcel_to};
-pub use version::{dcel_version, dcel_version_0_1_0};
+pub use version::{dcel_version, dcel_version_0_2_0};
 pub use walks::{dcel_face_edges, dcel_out_edges};
 pub use whole::{dcel_clear, dcel_clone, dcel_free, dcel_new, dcel_reserve_capacity};

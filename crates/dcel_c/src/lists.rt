@@ -1,7 +1,7 @@
 //! Lists of numbers, in and out.
 
 ghost use Rattle.std.specs.Prelude.{◌≡◌, IfOk};
-ghost use Rattle.dcel_c.specs.Lists.{filled};
+ghost use Rattle.dcel_exports.specs.Answers.{filled};
 
 use dcel_fixed::{FixedHandleImpl, InnerOuterMarker};
 use std::alloc::{AllocError, Global};

@@ -3,9 +3,9 @@
 ghost use Rattle.std.specs.Prelude.{◌≡◌, ◌≢◌, ◌<◌, length, min};
 ghost use Rattle.dcel_commands.specs.Instructions.{instruction, Isolate, Remesh, Strip, Cleanup, Remove, Degenerate};
 ghost use Rattle.dcel_commands.specs.Responses.{response};
+ghost use Rattle.dcel_exports.specs.Answers.{filled};
 ghost use Rattle.dcel_c.specs.Calls.{kept_in};
 ghost use Rattle.dcel_c.specs.Edits.{Edits, EditsByLists, Tells};
-ghost use Rattle.dcel_c.specs.Lists.{filled};
 ghost use Rattle.dcel_c.specs.Removals.{edges_told, faces_told, opened_told, opened_with_lists, removed_told, state_in};
 
 use crate::edits::{edit, edit_quietly};

@@ -1,8 +1,8 @@
 //! The replies to lines.
 
 ghost use Rattle.std.specs.Prelude.{◌≡◌, ◌≢◌, length};
-ghost use Rattle.dcel_c.specs.Lists.{buffer_status};
 ghost use Rattle.dcel_exports.specs.Answers.{HasReplies};
+ghost use Rattle.dcel_c.specs.Lists.{buffer_status};
 
 use crate::status::{OUT_OF_MEMORY, done_or_short};
 use dcel_exports::put_replies;

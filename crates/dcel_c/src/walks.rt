@@ -3,8 +3,8 @@
 ghost use Rattle.std.specs.Prelude.{◌≡◌, ◌≤◌, ◌^◌, length, map};
 ghost use Rattle.dcel_maps.specs.Shapes.{face_count};
 ghost use Rattle.dcel_maps.specs.Walking.{out_edges_of};
+ghost use Rattle.dcel_exports.specs.Answers.{filled};
 ghost use Rattle.dcel_c.specs.Calls.{kept_in};
-ghost use Rattle.dcel_c.specs.Lists.{filled};
 ghost use Rattle.dcel_c.specs.Walks.{walk_in, walk_status};
 ghost use Rattle.spade_dcel.specs.Faces.{face_edges_of};
 
