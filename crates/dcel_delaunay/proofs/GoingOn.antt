@@ -1,6 +1,7 @@
 -- What a triangle closed at the hull leaves: a hull that is open stays so, and its corners that are closed stay closed.
 use Rattle.std.proofs.Common.{◌≡◌, ◌≢◌, ◌∙◌, inl, inr, ℕ, ◌+◌, ◌*◌, ◌<◌, List, [], ◌∷◌, ◌++◌, slice_index, slice_set, pos, ◌<ℤ◌, refl, sym, ap, subst, arith}
 use Rattle.std.proofs.lemmas.List.{get_or-set_same, get_or_append_left, length-set}
+use Rattle.dcel_fixed.proofs.Halves.{rev-double-suc}
 use Rattle.dcel_maps.specs.Cyclic.{from_least}
 use Rattle.dcel_maps.specs.edits.DefaultData.{AddsEdgesAndFaces}
 use Rattle.dcel_maps.specs.edits.Outside.{face_closed}
@@ -19,7 +20,7 @@ use Rattle.dcel_plane.specs.Plane.{IsLeftOf, IsPlane, point_at}
 use Rattle.dcel_plane.proofs.edits.Written.{IsWritten, origin_more}
 use Rattle.dcel_plane.specs.covering.Covering.{IsConvex}
 use Rattle.dcel_plane.proofs.covering.Inside.{on_end}
-use Rattle.dcel_plane.proofs.hull.Becomes.{out_outer, put_in, rev-1, stays_in}
+use Rattle.dcel_plane.proofs.hull.Becomes.{out_outer, put_in, stays_in}
 use Rattle.dcel_plane.proofs.hull.ClosingStep.{step_closing, step_hull, step_thick, turns_nowhere}
 use Rattle.dcel_plane.proofs.hull.CornersStay.{after_stays, before_stays}
 use Rattle.dcel_plane.proofs.hull.Step.{IsStep, closed_step}
@@ -146,7 +147,7 @@ module _ {DE UE F : Type 0} where
       live = outer_there.0;
       outer = outer_there.1;
       start = starts h 1 refl;
-      end = ap (origin_of q.shape) (rev-1 m.shape.edges) ∙ starts (2 * m.shape.edges) 0 (omega arith);
+      end = ap (origin_of q.shape) (rev-double-suc m.shape.edges) ∙ starts (2 * m.shape.edges) 0 (omega arith);
       edges = refl;
       few = result.sized.few_edges;
     }

@@ -1,8 +1,7 @@
 -- What follows from the conditions of a Delaunay triangulation, told by the numbers of its vertices and faces.
-use Rattle.std.proofs.Common.{◌≡◌, ◌≢◌, ◌⊎◌, inl, inr, ℕ, zero, suc, ◌<◌, List, [], ◌∷◌, map, refl, sym, ap, ◌∙◌, subst, pos, ◌≤ℤ◌, eq-zero-or-pos, arith}
+use Rattle.std.proofs.Common.{◌≡◌, ◌≢◌, ◌⊎◌, inl, inr, ℕ, zero, suc, ◌<◌, List, [], ◌∷◌, map, refl, sym, ◌∙◌, subst, pos, ◌≤ℤ◌, eq-zero-or-pos, arith}
 use Rattle.std.proofs.lemmas.Bool.{cases_eq, cases_lt}
 use Rattle.std.proofs.lemmas.Int.{by_lt_z}
-use Rattle.std.proofs.lemmas.List.{map-append}
 use Rattle.dcel_predicates.specs.Determinants.{incircle_of, orient2d_of}
 use Rattle.dcel_predicates.specs.declared.point.Point.{Point}
 use Rattle.dcel_predicates.proofs.Convex.{incircle-turned}
@@ -23,6 +22,7 @@ use Rattle.dcel_plane.proofs.covering.Overlaps.{disjoint_triangles}
 use Rattle.dcel_plane.proofs.covering.Reaching.{covers_hull}
 use Rattle.dcel_plane.proofs.covering.Starts.{by_starts, inner_half}
 use Rattle.dcel_plane.proofs.covering.Triangles.{word_at}
+use Rattle.dcel_maps.proofs.shapes.Chains.{turn-map}
 
 -- the numbers below n are searched for one that passes a test
 pub searched : (P : ℕ → Type 0) → ((i : ℕ) → P i ⊎ (P i → ⊥)) → (n : ℕ) → ((i : ℕ) × P i) ⊎ ((i : ℕ) → i < n → P i → ⊥)
@@ -42,9 +42,6 @@ in_or_out a b c p =
     (λ first. by_lt_z (orient_at b c p) (pos 0) (λ out. inr (λ lies. let i = lies.1 in omega (arith, ordered, i, out)))
     (λ second. by_lt_z (orient_at c a p) (pos 0) (λ out. inr (λ lies. let i = lies.2 in omega (arith, ordered, i, out)))
     (λ third. inl (first, second, third))))
-
-mapped-turn : (f : ℕ → ℕ) {w u : List ℕ} → TurnsTo w u → TurnsTo (map f w) (map f u)
-mapped-turn f t = record { front = map f t.front; back = map f t.back; was = ap (map f) t.was ∙ map-append f t.front t.back; is = ap (map f) t.is ∙ map-append f t.back t.front }
 
 -- a face by its corners
 module _ (s : Shape) (f a b c : ℕ) (corners : HasCorners s f a b c) where
@@ -188,7 +185,7 @@ module _ {V DE UE F : Type 0} (m : Mesh V DE UE F) (mesh : IsMesh m) (at : ℕ �
               inner = inner_i;
               starts =
                   subst (λ (v : ℕ). TurnsTo (map (origin_of s) (word_of s.words (face_of s i))) (v ∷ origin_of s (next_of s i) ∷ origin_of s (prev_of s i) ∷ [])) is
-                  (subst (λ (w : List ℕ). TurnsTo (map (origin_of s) w) (map (origin_of s) (i ∷ next_of s i ∷ prev_of s i ∷ []))) (sym word.is) (mapped-turn (origin_of s) word.turn));
+                  (subst (λ (w : List ℕ). TurnsTo (map (origin_of s) w) (map (origin_of s) (i ∷ next_of s i ∷ prev_of s i ∷ []))) (sym word.is) (turn-map (origin_of s) word.turn));
             },
           )
 

@@ -2,7 +2,7 @@
 use Rattle.std.proofs.Common.{◌≡◌, ℤ, pos, ◌+ℤ◌, ◌-ℤ◌, ◌*ℤ◌, ◌<ℤ◌, ◌≤ℤ◌, neg_ℤ, ap, ◌∙◌, arith}
 use Rattle.std.proofs.lemmas.Int.{by_lt_z}
 use Rattle.std.proofs.Math.IntN.{*ℤ_comm, *ℤ-zero}
-use Rattle.dcel_predicates.proofs.Integers.{mul_add, mul_sub, sub_mul}
+use Rattle.dcel_predicates.proofs.Integers.{mul_add, mul_sub, neg_mul, sub_mul}
 use Rattle.dcel_predicates.proofs.Signs.{ordered, times, times_negative, both_negative, times_positive, square}
 use borrow.Author.Differences.{same_in, product_is}
 
@@ -26,11 +26,18 @@ square_positive x less =
     (λ not. absurd (let n = times_below (pos 0 -ℤ x) x (omega (arith, ordered)) less in
     let e = sub_mul (pos 0) x x in let z = *ℤ_comm (pos 0) x in let o = *ℤ-zero x in omega (arith, ordered, e, z, o)))
 
+pub both_below : (x y : ℤ) → x <ℤ pos 0 → y <ℤ pos 0 → pos 0 <ℤ (x *ℤ y)
+both_below x y less less_y = let t = times_below (neg_ℤ x) y (omega (arith, ordered, less)) less_y in let e = neg_mul x y in omega (arith, ordered, t, e)
+
 pub below_times : (x y : ℤ) → x <ℤ pos 0 → pos 0 <ℤ y → (x *ℤ y) <ℤ pos 0
 below_times x y less more = let t = times_below y x more less in omega (arith, ordered, *ℤ_comm x y)
 
 pub positive_factor : (x y : ℤ) → pos 0 <ℤ y → pos 0 <ℤ (x *ℤ y) → pos 0 <ℤ x
 positive_factor x y more product = factor_positive y x more (omega (arith, ordered, *ℤ_comm x y))
+
+pub zero_factor : (x y : ℤ) → pos 0 <ℤ x → pos 0 ≤ℤ y → (x *ℤ y) ≤ℤ pos 0 → y ≡ pos 0
+zero_factor x y more not none =
+    by_lt_z (pos 0) y (λ is. absurd (let t = times_positive x y more is in omega (arith, ordered, t, none))) (λ least. omega (arith, ordered, least, not))
 
 pub not_below_factor : (x y : ℤ) → pos 0 <ℤ y → pos 0 ≤ℤ (x *ℤ y) → pos 0 ≤ℤ x
 not_below_factor x y more product = factor_not_below y x more (omega (arith, ordered, *ℤ_comm x y))

@@ -13,6 +13,14 @@ use Rattle.dcel_maps.proofs.words.Counts.{count-later, count-same}
 use Rattle.dcel_maps.proofs.words.Reading.{live_in}
 use Rattle.dcel_plane.specs.Plane.{IsCircled, IsInner, IsPlane, ListsCircled, TurnsLeft, origin_point, point_at}
 
+-- four points by other names
+pub circle_at : {a b c d p q r t : Point} → a ≡ p → b ≡ q → c ≡ r → d ≡ t → pos 0 <ℤ incircle_of a b c d → pos 0 <ℤ incircle_of p q r t
+circle_at {a} {b} {c} {d} {p} {q} {r} {t} ea eb ec ed inside =
+    subst (λ (k : Point). pos 0 <ℤ incircle_of p q r k) ed
+    (subst (λ (k : Point). pos 0 <ℤ incircle_of p q k d) ec
+    (subst (λ (k : Point). pos 0 <ℤ incircle_of p k c d) eb
+    (subst (λ (k : Point). pos 0 <ℤ incircle_of k b c d) ea inside)))
+
 module _ (at to : ℕ → Point) (s : Shape) (sound : IsSound s) (same : (v : ℕ) → v < s.vertices → at v ≡ to v) where
   stands_same : (h : ℕ) → IsLive s h → at (origin_of s h) ≡ to (origin_of s h)
   stands_same h live = same (origin_of s h) ((map-sound sound).below_vertices h live)
@@ -20,11 +28,6 @@ module _ (at to : ℕ → Point) (s : Shape) (sound : IsSound s) (same : (v : �
   left_same_place : {a b c a' b' c' : Point} → a ≡ a' → b ≡ b' → c ≡ c' → TurnsLeft a b c → TurnsLeft a' b' c'
   left_same_place {a} {b} {c} {a'} {b'} {c'} ea eb ec left =
       subst (λ (p : Point). TurnsLeft a' b' p) ec (subst (λ (p : Point). TurnsLeft a' p c) eb (subst (λ (p : Point). TurnsLeft p b c) ea left))
-
-  circle_same_place : {a b c d a' b' c' d' : Point} → a ≡ a' → b ≡ b' → c ≡ c' → d ≡ d' → pos 0 <ℤ incircle_of a b c d → pos 0 <ℤ incircle_of a' b' c' d'
-  circle_same_place {a} {b} {c} {d} {a'} {b'} {c'} {d'} ea eb ec ed inside =
-      subst (λ (p : Point). pos 0 <ℤ incircle_of a' b' c' p) ed (subst (λ (p : Point). pos 0 <ℤ incircle_of a' b' p d) ec
-      (subst (λ (p : Point). pos 0 <ℤ incircle_of a' p c d) eb (subst (λ (p : Point). pos 0 <ℤ incircle_of p b c d) ea inside)))
 
   pub moved_plane : IsPlane at s → IsPlane to s
   moved_plane plane = record {
@@ -42,7 +45,7 @@ module _ (at to : ℕ → Point) (s : Shape) (sound : IsSound s) (same : (v : �
       let live_e : IsLive s (2 * u) = even_live s u inner.live in
       let live_t : IsLive s (2 * u + 1) = odd_live s u inner.live in
       let back = map-sound sound in
-      circle_same_place (sym (stands_same (2 * u) live_e)) (sym (stands_same (2 * u + 1) live_t))
+      circle_at (sym (stands_same (2 * u) live_e)) (sym (stands_same (2 * u + 1) live_t))
       (sym (stands_same (prev_of s (2 * u)) (back.live_prev (2 * u) live_e)))
       (sym (stands_same (prev_of s (2 * u + 1)) (back.live_prev (2 * u + 1) live_t))) circled
 

@@ -3,7 +3,7 @@ use Rattle.std.proofs.Common.{◌≡◌, ◌≢◌, inl, inr, ℕ, zero, suc, �
 use Rattle.std.proofs.lemmas.Bool.{cases_eq}
 use Rattle.std.proofs.lemmas.List.{get_or-append-add, get_or-set_other, get_or-set_same, get_or_append_left, length-set}
 use Rattle.dcel_fixed.specs.HalfEdges.{rev}
-use Rattle.dcel_fixed.proofs.Halves.{rev-double, rev-rev}
+use Rattle.dcel_fixed.proofs.Halves.{rev-double, rev-double-suc, rev-rev}
 use Rattle.dcel_predicates.specs.Determinants.{orient2d_of}
 use Rattle.dcel_predicates.specs.declared.point.Point.{Point}
 use Rattle.dcel_predicates.proofs.Ring.{by_terms, minus, plus, times as by}
@@ -21,7 +21,7 @@ use Rattle.dcel_plane.proofs.covering.Along.{dot, dot_start, long}
 use Rattle.dcel_plane.proofs.covering.Inside.{on_start}
 use Rattle.dcel_plane.specs.covering.Covering.{apart_along}
 use Rattle.dcel_plane.specs.hull.Straight.{IsStraight, beyond}
-use Rattle.dcel_plane.proofs.hull.Becomes.{old_or_new, rev-1, still_live}
+use Rattle.dcel_plane.proofs.hull.Becomes.{old_or_new, still_live}
 use Rattle.dcel_plane.proofs.hull.Extending.{extended_order}
 use Rattle.dcel_plane.proofs.hull.OneLine.{inside_of, order_of, straight_of}
 use Rattle.dcel_plane.proofs.hull.Parting.{split_order}
@@ -74,7 +74,7 @@ module _ {V DE UE F : Type 0} (m : Mesh V DE UE F) (mesh : IsMesh m) (at : ℕ �
     ends_n = ap (origin_of r) (rev-double s.edges) ∙ starts_1
 
     ends_1 : end_of r (n + 1) ≡ tip
-    ends_1 = ap (origin_of r) (rev-1 s.edges) ∙ starts_n
+    ends_1 = ap (origin_of r) (rev-double-suc s.edges) ∙ starts_n
 
     live_r : (k : ℕ) → IsLive s k → IsLive r k
     live_r k live_k = still_live s r 1 refl refl k live_k
@@ -172,7 +172,7 @@ module _ {V DE UE F : Type 0} (m : Mesh V DE UE F) (mesh : IsMesh m) (at : ℕ �
     ends_l = ap (origin_of q) (rev-double s.edges) ∙ starts_l1
 
     ends_l1 : end_of q (l + 1) ≡ v
-    ends_l1 = ap (origin_of q) (rev-1 s.edges) ∙ starts_l
+    ends_l1 = ap (origin_of q) (rev-double-suc s.edges) ∙ starts_l
 
     starts_e : origin_of q e ≡ origin_of s e
     starts_e = stays e live not_t

@@ -11,10 +11,10 @@ use Rattle.dcel_predicates.proofs.Terms.{Spot, orient, spot}
 use Rattle.dcel_maps.specs.Shapes.{IsLive, Shape, end_of, origin_of}
 use Rattle.dcel_plane.proofs.covering.Along.{apart_by, by_place, dot, dot_start, no_height, none_first, none_second, one_place, same_side}
 use Rattle.dcel_plane.proofs.covering.Inside.{on_end, on_start}
-use Rattle.dcel_plane.proofs.covering.Products.{below_times, factor_positive, times_below}
+use Rattle.dcel_plane.proofs.covering.Products.{below_times, both_below, factor_positive, times_below}
 use Rattle.dcel_plane.specs.covering.Covering.{apart_along}
 use Rattle.dcel_plane.specs.hull.Straight.{IsStraight}
-use Rattle.dcel_plane.proofs.hull.Thin.{back_dot, both_below}
+use Rattle.dcel_plane.proofs.hull.Thin.{back_dot}
 
 -- the vertices of a path in the order of their places d
 pub record InOrder (d : ℕ → ℤ) (s : Shape) : Type 0 where

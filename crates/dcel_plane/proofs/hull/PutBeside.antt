@@ -2,7 +2,7 @@
 use Rattle.std.proofs.Common.{◌≡◌, ◌≢◌, ◌⊎◌, inl, inr, ℕ, zero, suc, ◌+◌, ◌*◌, ◌<◌, List, [], ◌∷◌, slice_set, slice_index, refl, sym, ap, ◌∙◌, subst, pos, ◌<ℤ◌, ◌≤ℤ◌, eq-zero-or-pos, arith}
 use Rattle.std.proofs.lemmas.List.{get_or-set_same, get_or_append_left, length-set}
 use Rattle.dcel_fixed.specs.HalfEdges.{rev}
-use Rattle.dcel_fixed.proofs.Halves.{rev-double}
+use Rattle.dcel_fixed.proofs.Halves.{rev-double, rev-double-suc}
 use Rattle.dcel_predicates.specs.Determinants.{orient2d_of}
 use Rattle.dcel_predicates.specs.declared.point.Point.{Point}
 use Rattle.dcel_predicates.proofs.Points.{orient2d-last_swapped, orient2d-turned}
@@ -24,7 +24,7 @@ use Rattle.dcel_plane.proofs.covering.Inside.{on_end, on_start, same_place}
 use Rattle.dcel_plane.proofs.covering.Triangles.{left_at, round}
 use Rattle.dcel_plane.specs.hull.Closing.{IsClosing, IsThick, IsThin, Sees, SeesAfter, SeesBefore}
 use Rattle.dcel_plane.specs.hull.Straight.{IsStraight, beyond}
-use Rattle.dcel_plane.proofs.hull.Becomes.{in_become, in_outer, of_pair, old_or_new, out_outer, put_in, rev-1, rev-2, rev-3, still_live, was_live, was_on}
+use Rattle.dcel_plane.proofs.hull.Becomes.{in_become, in_outer, of_pair, old_or_new, out_outer, put_in, rev-2, rev-3, still_live, was_live, was_on}
 use Rattle.dcel_plane.proofs.hull.Beside.{Beside}
 use Rattle.dcel_plane.proofs.hull.Keeping.{gains_distinct}
 
@@ -137,7 +137,7 @@ module _ {V DE UE F : Type 0} (m : Mesh V DE UE F) (mesh : IsMesh m) (at : ℕ �
     starts_1 = more_at (n + 1) 1 refl
 
     ends_1 : end_of r (n + 1) ≡ y
-    ends_1 = ap (origin_of r) (rev-1 s.edges) ∙ more_at n 0 (omega arith)
+    ends_1 = ap (origin_of r) (rev-double-suc s.edges) ∙ more_at n 0 (omega arith)
 
     abbrev B : ℕ → ℕ → ℕ → Type 0
     B a b c = Beside (at a) (at b) (at c)

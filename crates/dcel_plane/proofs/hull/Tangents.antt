@@ -6,12 +6,12 @@ use Rattle.std.proofs.Math.IntN.{*ℤ_comm, *ℤ-zero}
 use Rattle.dcel_predicates.specs.Determinants.{orient2d_of}
 use Rattle.dcel_predicates.specs.declared.point.Point.{Point}
 use Rattle.dcel_predicates.proofs.Points.{orient2d-last_swapped}
-use Rattle.dcel_predicates.proofs.Ring.{by_terms, minus, num, plus, times as by, var}
+use Rattle.dcel_predicates.proofs.Ring.{by_terms, minus, plus, times as by}
 use Rattle.dcel_predicates.proofs.Signs.{both_negative, negative_times, ordered, square, times_negative, times_positive}
 use Rattle.dcel_predicates.proofs.Terms.{orient, spot}
 use Rattle.dcel_plane.specs.covering.Covering.{apart_along}
 use Rattle.dcel_plane.proofs.covering.Along.{dot, dot_in}
-use Rattle.dcel_plane.proofs.covering.Products.{square_zero}
+use Rattle.dcel_plane.proofs.covering.Products.{below_times, square_zero}
 
 dot_square : (a c : Point) → pos 0 ≤ℤ dot a a c
 dot_square a c = let x = square (a.x -ℤ c.x) in let y = square (a.y -ℤ c.y) in omega (arith, ordered, x, y)
@@ -19,14 +19,7 @@ dot_square a c = let x = square (a.x -ℤ c.x) in let y = square (a.y -ℤ c.y) 
 -- a factor below 0 of a product that isn't
 factor_not_above : (x y : ℤ) → x <ℤ pos 0 → pos 0 ≤ℤ (x *ℤ y) → y ≤ℤ pos 0
 factor_not_above x y less product =
-    by_lt_z (pos 0) y (λ more. absurd (let t = times_below_both x y less more in omega (arith, ordered, t, product))) (λ not. not)
-  where
-    times_below_both : (x y : ℤ) → x <ℤ pos 0 → pos 0 <ℤ y → (x *ℤ y) <ℤ pos 0
-    times_below_both x y less more =
-        by_lt_z (x *ℤ y) (pos 0) (λ is. is)
-        (λ not. absurd
-        (let t = times_positive (pos 0 -ℤ x) y (omega (arith, ordered, less)) more in
-        let e = by_terms (x ∷ y ∷ []) (by (minus (num (pos 0)) (var 0)) (var 1)) (minus (num (pos 0)) (by (var 0) (var 1))) refl in omega (arith, ordered, not, t, e)))
+    by_lt_z (pos 0) y (λ more. absurd (let t = below_times x y less more in omega (arith, ordered, t, product))) (λ not. not)
 
 -- The half edge from a to u has p on its left, the next one, from u to w, hasn't; neither has k. Where the hull isn't straight at u, the new
 -- half edge from p to u hasn't k on its left.

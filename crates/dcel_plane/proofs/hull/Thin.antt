@@ -8,7 +8,7 @@ use Rattle.dcel_fixed.proofs.Halves.{rev-rev}
 use Rattle.dcel_predicates.specs.Determinants.{orient2d_of}
 use Rattle.dcel_predicates.specs.declared.point.Point.{Point}
 use Rattle.dcel_predicates.proofs.Points.{orient2d-turned}
-use Rattle.dcel_predicates.proofs.Ring.{by_terms, minus, num, plus, times as by, var}
+use Rattle.dcel_predicates.proofs.Ring.{by_terms, minus, num, plus, times as by}
 use Rattle.dcel_predicates.proofs.Signs.{ordered, times_negative, times_positive}
 use Rattle.dcel_predicates.proofs.Terms.{spot}
 use Rattle.dcel_maps.specs.Maps.{By, Reaches, ccw}
@@ -28,12 +28,7 @@ use Rattle.dcel_plane.specs.hull.Closing.{IsClosing, IsThin}
 use Rattle.dcel_plane.specs.covering.Covering.{apart_along}
 use Rattle.dcel_plane.specs.hull.Straight.{beyond}
 use Rattle.dcel_plane.proofs.hull.Corners.{slope}
-
-pub both_below : (x y : ℤ) → x <ℤ pos 0 → y <ℤ pos 0 → pos 0 <ℤ (x *ℤ y)
-both_below x y hx hy =
-    let t = times_positive (pos 0 -ℤ x) (pos 0 -ℤ y) (omega (arith, ordered, hx)) (omega (arith, ordered, hy)) in
-    let e = by_terms (x ∷ y ∷ []) (by (minus (num (pos 0)) (var 0)) (minus (num (pos 0)) (var 1))) (by (var 0) (var 1)) refl in
-    omega (arith, ordered, t, e)
+use Rattle.dcel_plane.proofs.covering.Products.{both_below}
 
 -- two points on the other side of u than z lie on one side
 pub opposite : (u z q a : Point) → pos 0 <ℤ dot z z u → orient2d_of u z q ≡ pos 0 → orient2d_of u z a ≡ pos 0 → dot q z u <ℤ pos 0 → dot a z u <ℤ pos 0 → pos 0 <ℤ dot q a u

@@ -21,7 +21,7 @@ use Rattle.dcel_plane.specs.Plane.{IsPlane}
 use Rattle.dcel_plane.specs.covering.Covering.{IsConvex, IsHull, apart_along}
 use Rattle.dcel_plane.proofs.covering.Along.{dot, none_first, none_second, one_place, one_point}
 use Rattle.dcel_plane.proofs.covering.Inside.{on_start}
-use Rattle.dcel_plane.proofs.covering.Products.{times_below}
+use Rattle.dcel_plane.proofs.covering.Products.{both_below, times_below}
 use Rattle.dcel_plane.specs.hull.Closing.{IsClosed, IsClosing, IsThin}
 use Rattle.dcel_plane.specs.hull.Straight.{beyond}
 use Rattle.dcel_plane.proofs.hull.Seeing.{IsSeen, seen_end, seen_or_not, seen_start}
@@ -69,7 +69,7 @@ at_point_before b r z t far_b on seen none =
     nothing : (d w k m : ℤ) → k ≡ (d *ℤ w) -ℤ m → m ≡ pos 0 → k ≡ pos 0 → w <ℤ pos 0 → d ≡ pos 0
     nothing d w k m e zero none hw =
         by_lt_z (pos 0) d (λ more. absurd (let t = times_below d w more hw in omega (arith, ordered, e, zero, none, t)))
-        (λ not. by_lt_z d (pos 0) (λ less. absurd (let t = after.both_below d w less hw in omega (arith, ordered, e, zero, none, t))) (λ nor. omega (arith, ordered, not, nor)))
+        (λ not. by_lt_z d (pos 0) (λ less. absurd (let t = both_below d w less hw in omega (arith, ordered, e, zero, none, t))) (λ nor. omega (arith, ordered, not, nor)))
 
 module _ {V DE UE F : Type 0} (m : Mesh V DE UE F) (mesh : IsMesh m) (triangles : AllTriangles m.shape) (at : ℕ → Point) (plane : IsPlane at m.shape) (t : ℕ)
     (closing : IsClosing at m.shape t) (thin : IsThin at m.shape t) (closed : IsClosed at m.shape t)

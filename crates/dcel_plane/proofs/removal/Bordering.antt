@@ -25,9 +25,10 @@ use Rattle.dcel_plane.proofs.covering.Inside.{on_start}
 use Rattle.dcel_plane.proofs.covering.Triangles.{is_triangle}
 use Rattle.dcel_plane.specs.removal.Wheels.{CanTurn, IsWheel, MakesTwo, turns}
 use Rattle.dcel_plane.proofs.removal.Cutting.{path_find}
-use Rattle.dcel_plane.proofs.removal.Deleting.{three_items, two_items}
+use Rattle.dcel_plane.proofs.removal.Deleting.{two_items}
 use Rattle.dcel_plane.proofs.removal.Flippable.{five_turn, round_wheel, two_turn}
 use Rattle.dcel_plane.proofs.removal.Turning.{closes, least, out}
+use Rattle.dcel_plane.proofs.edits.Corners.{three_items}
 
 -- a wheel has three spokes or more
 too_few : (v : Point) (u : ℕ → Point) (k : ℕ) → IsWheel v u k → 0 < k → k < 3 → ⊥

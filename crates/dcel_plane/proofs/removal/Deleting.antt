@@ -19,7 +19,7 @@ use Rattle.dcel_maps.proofs.removal.VertexHoles.{vertex_hollow}
 use Rattle.dcel_maps.proofs.walks.Links.{ccw-lawful}
 use Rattle.dcel_maps.proofs.walks.UnderWay.{walk-round}
 use Rattle.dcel_plane.specs.Plane.{IsPlane, ListsCircled, TurnsLeft}
-use Rattle.dcel_plane.proofs.edits.Corners.{corners_are}
+use Rattle.dcel_plane.proofs.edits.Corners.{corners_are, three_items}
 use Rattle.dcel_plane.specs.covering.Covering.{IsConvex, IsHull}
 use Rattle.dcel_plane.specs.removal.Wheels.{EarsLeft, MakesTwo, turns}
 use Rattle.dcel_plane.proofs.removal.Filling.{filled_convex, filled_hull, filled_lists, filled_plane}
@@ -31,13 +31,6 @@ two_items [] e = absurd (omega (arith, e))
 two_items (a ∷ []) e = absurd (omega (arith, e))
 two_items (a ∷ b ∷ []) e = (a, b, refl)
 two_items (a ∷ b ∷ c ∷ r) e = absurd (omega (arith, e))
-
-pub three_items : (w : List ℕ) → length w ≡ 3 → (a : ℕ) × (b : ℕ) × (c : ℕ) × (w ≡ a ∷ b ∷ c ∷ [])
-three_items [] e = absurd (omega (arith, e))
-three_items (a ∷ []) e = absurd (omega (arith, e))
-three_items (a ∷ b ∷ []) e = absurd (omega (arith, e))
-three_items (a ∷ b ∷ c ∷ []) e = (a, b, c, refl)
-three_items (a ∷ b ∷ c ∷ d ∷ r) e = absurd (omega (arith, e))
 
 -- a list of three or more
 pub by_three : (P : List ℕ → Type 0) (w : List ℕ) → 3 ≤ length w → ((p q r : ℕ) (rest : List ℕ) → w ≡ p ∷ q ∷ r ∷ rest → P (p ∷ q ∷ r ∷ rest)) → P w

@@ -26,17 +26,11 @@ use Rattle.dcel_maps.proofs.words.Reading.{face_in_word, live_in, stands_in_face
 use Rattle.dcel_maps.proofs.words.Renames.{IsCycle-map}
 use Rattle.dcel_maps.proofs.words.Turns.{IsCycle-turn, count-turn, from_least-turn, length-turn}
 use Rattle.dcel_plane.specs.Plane.{IsCircled, IsInner, IsPlane, ListsCircled, TurnsLeft, origin_point}
-use Rattle.dcel_plane.proofs.edits.Corners.{left-from_least}
+use Rattle.dcel_plane.proofs.edits.Corners.{left-from_least, three_items}
 use Rattle.dcel_plane.specs.covering.Covering.{HasDistinctPoints, IsConvex, IsHull, apart_along}
 use Rattle.dcel_plane.specs.hull.Straight.{IsStraight, beyond}
-use Rattle.dcel_plane.proofs.removal.Listing.{circle_at}
-
-three_items : (w : List ℕ) → length w ≡ 3 → (a : ℕ) × (b : ℕ) × (c : ℕ) × (w ≡ a ∷ b ∷ c ∷ [])
-three_items [] e = absurd (omega (arith, e))
-three_items (a ∷ []) e = absurd (omega (arith, e))
-three_items (a ∷ b ∷ []) e = absurd (omega (arith, e))
-three_items (a ∷ b ∷ c ∷ []) e = (a, b, c, refl)
-three_items (a ∷ b ∷ c ∷ d ∷ r) e = absurd (omega (arith, e))
+use Rattle.dcel_plane.proofs.removal.Listing.{}
+use Rattle.dcel_plane.proofs.edits.Moved.{circle_at}
 
 -- three points by other names
 three_points : (P : Point → Point → Point → Type 0) → {a b c x y z : Point} → a ≡ x → b ≡ y → c ≡ z → P a b c → P x y z

@@ -21,19 +21,17 @@ use Rattle.dcel_plane.proofs.segments.Gates.{peak_can_turn}
 use Rattle.dcel_plane.proofs.hull.Keeping.{flip_keeps_convex, flip_keeps_hull}
 use Rattle.dcel_plane.proofs.segments.Peaks.{HasPeak, Joins, empty_joins, ends_of, has_peak, more_width}
 use Rattle.dcel_plane.proofs.removal.Turnable.{turn_keeps_plane}
+use Rattle.dcel_plane.proofs.hull.Becomes.{of_one}
 
 within_abs : (z : ℤ) → z ≤ℤ pos (unsigned_abs z)
 within_abs (pos n) = (let e : unsigned_abs (pos n) ≡ n = refl in omega (arith, ordered, e))
 within_abs (negsuc n) = (let e : unsigned_abs (negsuc n) ≡ suc n = refl in omega (arith, ordered, e))
 
-only_one : (k x : ℕ) → 0 < count_of k (x ∷ []) → k ≡ x
-only_one k x there = elim (cases_eq k x) [ inl is ↦ is | inr not ↦ absurd (let c = count-other k x [] not in omega (arith, c, there)) ]
-
 -- what stands in its place is a half of its edge
 pub kinds : (at : ℕ → Point) (s : Shape) (v w h : ℕ) (new : List ℕ) → Becomes at s v w h new → (k : ℕ) → 0 < count_of k new → k / 2 ≡ h / 2
-kinds at s v w h new (inl again) k there = ap (λ (i : ℕ). i / 2) (only_one k h (subst (λ (l : List ℕ). 0 < count_of k l) again.2 there))
+kinds at s v w h new (inl again) k there = ap (λ (i : ℕ). i / 2) (of_one k h (subst (λ (l : List ℕ). 0 < count_of k l) again.2 there))
 kinds at s v w h new (inr (inl turned)) k there =
-    ap (λ (i : ℕ). i / 2) (only_one k (rev h) (subst (λ (l : List ℕ). 0 < count_of k l) turned.2 there)) ∙ rev-half h
+    ap (λ (i : ℕ). i / 2) (of_one k (rev h) (subst (λ (l : List ℕ). 0 < count_of k l) turned.2 there)) ∙ rev-half h
 kinds at s v w h new (inr (inr gone)) k there = absurd (let e = subst (λ (l : List ℕ). 0 < count_of k l) gone.2 there in omega (arith, e))
 
 -- what stands in the new list stood in the old one, or is a half of the edge

@@ -1,14 +1,13 @@
 -- Points and their offsets from a segment.
-use Rattle.std.proofs.Common.{◌≡◌, [], ◌∷◌, ℕ, ℤ, pos, ◌+ℤ◌, ◌-ℤ◌, ◌*ℤ◌, ◌<ℤ◌, ◌≤ℤ◌, neg_ℤ, refl, sym, ap, ◌∙◌, subst, arith}
+use Rattle.std.proofs.Common.{◌≡◌, [], ◌∷◌, ℕ, ℤ, pos, ◌+ℤ◌, ◌-ℤ◌, ◌*ℤ◌, ◌<ℤ◌, ◌≤ℤ◌, refl, sym, ap, ◌∙◌, subst, arith}
 use Rattle.std.proofs.Math.IntN.{*ℤ_comm, *ℤ-zero}
 use Rattle.std.proofs.lemmas.Int.{by_lt_z}
 use Rattle.dcel_predicates.specs.declared.point.Point.{Point}
 use Rattle.dcel_predicates.specs.Determinants.{orient2d_of}
-use Rattle.dcel_predicates.proofs.Integers.{neg_mul}
 use Rattle.dcel_predicates.proofs.Points.{orient2d-first_swapped, orient2d-last_swapped, orient2d-turned}
 use Rattle.dcel_predicates.proofs.Signs.{both_negative, ordered, square, times, times_negative, times_positive}
 use Rattle.dcel_plane.specs.covering.Covering.{apart_along}
-use Rattle.dcel_plane.proofs.covering.Products.{below_times, factor_positive, times_below}
+use Rattle.dcel_plane.proofs.covering.Products.{below_times, both_below, factor_positive, times_below}
 use Rattle.dcel_predicates.proofs.Ring.{Term, by_terms, minus, num, plus, times as by}
 use Rattle.dcel_predicates.proofs.Terms.{orient, spot}
 use Rattle.dcel_plane.proofs.covering.Inside.{on_end, on_start}
@@ -35,9 +34,6 @@ weighs_down a t b c d f is ha hb hc hd hf =
     let q = times_below d f hd hf in
     let n = times a t (omega (arith, ordered, ha)) not in
     omega (arith, ordered, is, p, q, n)))
-
-both_below : (a b : ℤ) → a <ℤ pos 0 → b <ℤ pos 0 → pos 0 <ℤ (a *ℤ b)
-both_below a b ha hb = (let t = times_below (neg_ℤ a) b (omega (arith, ordered, ha)) hb in let e = neg_mul a b in omega (arith, ordered, t, e))
 
 module _ (v w : Point) where
   abbrev off : Point → ℤ

@@ -24,7 +24,7 @@ use Rattle.dcel_plane.proofs.segments.Gates.{far, inner_far, left_far}
 use Rattle.dcel_plane.proofs.covering.Inside.{on_end, on_start}
 use Rattle.dcel_plane.proofs.segments.Levers.{ahead_at_left, ahead_at_right, further_at_left, further_at_right, holds_left, holds_right, inside_left, inside_right}
 use Rattle.dcel_plane.proofs.covering.Powers.{less_first}
-use Rattle.dcel_plane.proofs.segments.Striving.{strive}
+use Rattle.dcel_plane.proofs.covering.Climbing.{strive}
 
 module _ {V DE UE F : Type 0} (m : Mesh V DE UE F) (mesh : IsMesh m) (triangles : AllTriangles m.shape) (at : ℕ → Point) (plane : IsPlane at m.shape)
     (convex : IsConvex at m.shape) (hull : IsHull at m.shape) (v w : ℕ) (ends : AreEnds m.shape v w) where
