@@ -16,6 +16,17 @@ use Rattle.dcel_plane.proofs.covering.Along.{one_point}
 use Rattle.dcel_plane.proofs.covering.Overlaps.{disjoint_triangles}
 use Rattle.dcel_plane.proofs.covering.Triangles.{disjoint_halves, left_at, round}
 
+-- triangles whose corners are known by other numbers
+pub six_corners : (at : ℕ → Point) (a b c d e f a' b' c' d' e' f' : ℕ) → a ≡ a' → b ≡ b' → c ≡ c' → d ≡ d' → e ≡ e' → f ≡ f'
+    → AreDisjoint (at a) (at b) (at c) (at d) (at e) (at f) → AreDisjoint (at a') (at b') (at c') (at d') (at e') (at f')
+six_corners at a b c d e f a' b' c' d' e' f' ea eb ec ed ee ef disjoint =
+    subst (λ (k : ℕ). AreDisjoint (at a') (at b') (at c') (at d') (at e') (at k)) ef
+    (subst (λ (k : ℕ). AreDisjoint (at a') (at b') (at c') (at d') (at k) (at f)) ee
+    (subst (λ (k : ℕ). AreDisjoint (at a') (at b') (at c') (at k) (at e) (at f)) ed
+    (subst (λ (k : ℕ). AreDisjoint (at a') (at b') (at k) (at d) (at e) (at f)) ec
+    (subst (λ (k : ℕ). AreDisjoint (at a') (at k) (at c) (at d) (at e) (at f)) eb
+    (subst (λ (k : ℕ). AreDisjoint (at k) (at b) (at c) (at d) (at e) (at f)) ea disjoint)))))
+
 module _ {V DE UE F : Type 0} (m : Mesh V DE UE F) (mesh : IsMesh m) (triangles : AllTriangles m.shape) (at : ℕ → Point) (plane : IsPlane at m.shape)
     (convex : IsConvex at m.shape) (hull : IsHull at m.shape) where
   abbrev s : Shape

@@ -1,15 +1,13 @@
 -- Edits inside of the hull keep it: a flip, and an insertion of a vertex that lies on the right of each outer half edge.
-use Rattle.std.proofs.Common.{◌≡◌, ◌≢◌, ◌⊎◌, inl, inr, ℕ, ◌+◌, ◌*◌, ◌<◌, List, [], ◌∷◌, slice_set, refl, sym, ap, ◌∙◌, subst, pos, ◌<ℤ◌, ◌≤ℤ◌, arith}
+use Rattle.std.proofs.Common.{◌≡◌, ◌≢◌, ◌⊎◌, inl, inr, ℕ, ◌+◌, ◌*◌, ◌<◌, List, refl, sym, ap, ◌∙◌, subst, pos, ◌<ℤ◌, ◌≤ℤ◌, arith}
 use Rattle.std.proofs.lemmas.Bool.{cases_eq}
-use Rattle.std.proofs.lemmas.List.{get_or-set_other}
 use Rattle.dcel_fixed.specs.HalfEdges.{rev}
 use Rattle.dcel_fixed.proofs.Halves.{rev-double, rev-rev}
 use Rattle.dcel_predicates.specs.Determinants.{orient2d_of}
 use Rattle.dcel_predicates.specs.declared.point.Point.{Point}
 use Rattle.dcel_predicates.proofs.Signs.{ordered}
 use Rattle.dcel_maps.specs.Conditions.{CanFlip}
-use Rattle.dcel_maps.specs.Cyclic.{from_least}
-use Rattle.dcel_maps.specs.Shapes.{IsLive, IsMesh, IsSound, Mesh, Shape, end_of, face_of, map_of, next_of, origin_of, prev_of}
+use Rattle.dcel_maps.specs.Shapes.{IsLive, IsMesh, IsSound, Mesh, Shape, end_of, face_of, map_of, origin_of, prev_of}
 use Rattle.dcel_maps.specs.Words.{count_of, word_of}
 use Rattle.dcel_maps.specs.edits.Flip.{edge_flipped}
 use Rattle.dcel_maps.proofs.Liveness.{even_live, odd_live}
@@ -17,7 +15,7 @@ use Rattle.dcel_maps.proofs.edits.Flips.{flipped_mesh}
 use Rattle.dcel_maps.proofs.maps.Soundness.{rev_live}
 use Rattle.dcel_maps.proofs.walks.Links.{links_stand, prev-live}
 use Rattle.dcel_maps.proofs.words.Reading.{stands_in_face}
-use Rattle.dcel_plane.proofs.edits.Flipped.{origin_e, origin_same, origin_t}
+use Rattle.dcel_plane.proofs.edits.Flipped.{origin_e, origin_same, origin_t, word_else}
 use Rattle.dcel_plane.specs.covering.Covering.{HasDistinctPoints, IsConvex, IsHull, apart_along}
 use Rattle.dcel_plane.proofs.hull.Becomes.{was_live, was_on}
 
@@ -153,16 +151,11 @@ module _ {V DE UE F : Type 0} (m : Mesh V DE UE F) (mesh : IsMesh m) (u : ℕ) (
   abbrev n : Shape
   n = (edge_flipped m u).shape
 
-  outer_word : word_of n.words 0 ≡ word_of s.words 0
-  outer_word =
-      let e = 2 * u in
-      let t = 2 * u + 1 in
-      let first = from_least (e ∷ prev_of s t ∷ next_of s e ∷ []) in
-      let second = from_least (t ∷ prev_of s e ∷ next_of s t ∷ []) in
-      get_or-set_other (slice_set s.words (face_of s e) first) (face_of s t) 0 second [] (λ is. omega (arith, is, inner_facing))
-      ∙ get_or-set_other s.words (face_of s e) 0 first [] (λ is. omega (arith, is, inner))
+  pub outer_word : word_of n.words 0 ≡ word_of s.words 0
+  outer_word = word_else m mesh u can 0 (λ is. omega (arith, is, inner)) (λ is. omega (arith, is, inner_facing))
 
-  away : (h : ℕ) → face_of s h ≡ 0 → (h ≢ 2 * u) × (h ≢ 2 * u + 1)
+  -- an outer half edge is none of that edge
+  pub away : (h : ℕ) → face_of s h ≡ 0 → (h ≢ 2 * u) × (h ≢ 2 * u + 1)
   away h on = (
     λ is. let e = ap (face_of s) is in omega (arith, e, on, inner),
     λ is. let e = ap (face_of s) is in omega (arith, e, on, inner_facing),

@@ -19,7 +19,7 @@ use Rattle.dcel_plane.proofs.edits.Corners.{corners_are}
 use Rattle.dcel_plane.specs.covering.Covering.{IsConvex, IsHull}
 use Rattle.dcel_plane.specs.covering.Places.{AreDisjoint}
 use Rattle.dcel_plane.specs.removal.Wheels.{IsWheel, turns}
-use Rattle.dcel_plane.proofs.covering.Faces.{disjoint_at}
+use Rattle.dcel_plane.proofs.covering.Faces.{disjoint_at, six_corners}
 use Rattle.dcel_plane.proofs.covering.Triangles.{left_at, same_face}
 use Rattle.dcel_plane.proofs.removal.Overlapping.{overlap}
 
@@ -139,19 +139,9 @@ module _ {V DE UE F : Type 0} (m : Mesh V DE UE F) (mesh : IsMesh m) (triangles 
       turned x y z (inr (inl is)) = inl is
       turned x y z (inr (inr is)) = inr (inl is)
 
-  six : (a b c d e f a' b' c' d' e' f' : ℕ) → a ≡ a' → b ≡ b' → c ≡ c' → d ≡ d' → e ≡ e' → f ≡ f'
-      → AreDisjoint (at a) (at b) (at c) (at d) (at e) (at f) → AreDisjoint (at a') (at b') (at c') (at d') (at e') (at f')
-  six a b c d e f a' b' c' d' e' f' ea eb ec ed ee ef disjoint =
-      subst (λ (k : ℕ). AreDisjoint (at a') (at b') (at c') (at d') (at e') (at k)) ef
-      (subst (λ (k : ℕ). AreDisjoint (at a') (at b') (at c') (at d') (at k) (at f)) ee
-      (subst (λ (k : ℕ). AreDisjoint (at a') (at b') (at c') (at k) (at e) (at f)) ed
-      (subst (λ (k : ℕ). AreDisjoint (at a') (at b') (at k) (at d) (at e) (at f)) ec
-      (subst (λ (k : ℕ). AreDisjoint (at a') (at k) (at c) (at d) (at e) (at f)) eb
-      (subst (λ (k : ℕ). AreDisjoint (at k) (at b) (at c) (at d) (at e) (at f)) ea disjoint)))))
-
   apart : (a b : ℕ) → Out a → Out b → a ≢ b → AreDisjoint (at o) (at (end_of s a)) (at (end_of s (ccw a))) (at o) (at (end_of s b)) (at (end_of s (ccw b)))
   apart a b out_a out_b differ =
-      six (origin_of s a) (origin_of s (next_of s a)) (origin_of s (prev_of s a)) (origin_of s b) (origin_of s (next_of s b)) (origin_of s (prev_of s b))
+      six_corners at (origin_of s a) (origin_of s (next_of s a)) (origin_of s (prev_of s a)) (origin_of s b) (origin_of s (next_of s b)) (origin_of s (prev_of s b))
       o (end_of s a) (end_of s (ccw a)) o (end_of s b) (end_of s (ccw b))
       out_a.from (mesh.sound.joined a out_a.alive) (sym (end_next a)) out_b.from (mesh.sound.joined b out_b.alive) (sym (end_next b))
       (disjoint_at m mesh triangles at plane convex hull a b out_a.alive out_a.on out_b.alive out_b.on (λ same. differ (one_on_face a b out_a out_b same)))
