@@ -72,11 +72,11 @@ module _ {DE UE F : Type 0} (m : Mesh Point DE UE F) (mesh : IsMesh m) where
       all_inside = record {
         right = λ h v live on below.
             each_vertex (λ w. orient2d_of (point_at m (origin_of m.shape h)) (point_at m (end_of m.shape h)) (point_at m w) ≤ℤ pos 0) (two_vertices h live)
-            (λ k live_k. convex.right h k live on live_k) v below;
+            (λ k live_k. (convex.supports h k live on live_k).0) v below;
         between = λ h v live on below.
             each_vertex (λ w. orient2d_of (point_at m (origin_of m.shape h)) (point_at m (end_of m.shape h)) (point_at m w) ≡ pos 0
             → pos 0 ≤ℤ apart_along (point_at m (origin_of m.shape h)) (point_at m (end_of m.shape h)) (point_at m w)) (two_vertices h live)
-            (λ k live_k. convex.between h k live on live_k) v below;
+            (λ k live_k. (convex.supports h k live on live_k).1) v below;
         once = λ inner h k live_h live_k on_h on_k same. elim outline [
           | inl flat ↦ absurd (omega (arith, inner, flat.alone))
           | inr has ↦ has.hull.once h k live_h live_k on_h on_k same

@@ -74,7 +74,7 @@ module _ {V DE UE F : Type 0} (m : Mesh V DE UE F) (mesh : IsMesh m) (triangles 
           let b : orient2d_of (p y) (p x) (p k) ≡ pos 0 → pos 0 ≤ℤ apart_along (p y) (p x) (p k) =
           subst (λ (i : ℕ). orient2d_of (at i) (p x) (p k) ≡ pos 0 → pos 0 ≤ℤ apart_along (at i) (p x) (p k)) (sym ends_x)
           (subst (λ (i : ℕ). orient2d_of (at (end_of s x)) (at i) (p k) ≡ pos 0 → pos 0 ≤ℤ apart_along (at (end_of s x)) (at i) (p k)) (ap (origin_of s) (rev-rev x))
-          (convex.between (rev x) k back outer live_k)) in
+          (convex.supports (rev x) k back outer live_k).1) in
           let far : pos 0 <ℤ dot (p x) (p x) (p y) =
           long (p x) (p y) (λ ex ey. mesh.sound.two_ends x tri.live_x (hull.distinct x y tri.live_x tri.live_y ex ey ∙ ends_x)) in
           let is = between_ends (p x) (p y) (p z) (p k) far left yz zx on on_too in

@@ -126,7 +126,7 @@ module _ {V DE UE F : Type 0} (m : Mesh V DE UE F) (mesh : IsMesh m) (triangles 
             none_holds m mesh triangles at delaunay q
             (λ e live_e outer.
             let right : (j : ℕ) → IsLive s j → pos 0 ≤ℤ orient2d_of (p (rev e)) (p e) (p j) =
-            λ j live_j. let r = convex.right e j live_e outer live_j in let o = orient2d-first_swapped (p e) (p (rev e)) (p j) in omega (arith, ordered, r, o) in
+            λ j live_j. let r = (convex.supports e j live_e outer live_j).0 in let o = orient2d-first_swapped (p e) (p (rev e)) (p j) in omega (arith, ordered, r, o) in
             let there = not_right v y z (p (rev e)) (p e) q left_i (right i live_i) (right (next_of s i) tri.live_y) (right (prev_of s i) tri.live_z)
             (let n0 = n.0 in let n1 = n.1 in let n2 = n.2 in (omega (arith, ordered, n0), omega (arith, ordered, n1), omega (arith, ordered, n2))) in
             let o = other_way (p e) (p (rev e)) q in

@@ -45,8 +45,8 @@ module _ {V DE UE F : Type 0} (m : Mesh V DE UE F) (mesh : IsMesh m) (triangles 
   not_bare k h live outer outer_too live_h inner_h =
       let tri = round m mesh triangles h live_h inner_h in
       let on : (i : ℕ) → IsLive s i → orient2d_of (p k) (p (rev k)) (p i) ≡ pos 0 =
-      λ i live_i. both (orient2d_of (p k) (p (rev k)) (p i)) (orient2d_of (p (rev k)) (p k) (p i)) (convex.right k i live outer live_i)
-      (subst (λ (j : ℕ). orient2d_of (p (rev k)) (p j) (p i) ≤ℤ pos 0) (rev-rev k) (convex.right (rev k) i (rev_live (map_of s) k live) outer_too live_i))
+      λ i live_i. both (orient2d_of (p k) (p (rev k)) (p i)) (orient2d_of (p (rev k)) (p k) (p i)) (convex.supports k i live outer live_i).0
+      (subst (λ (j : ℕ). orient2d_of (p (rev k)) (p j) (p i) ≤ℤ pos 0) (rev-rev k) (convex.supports (rev k) i (rev_live (map_of s) k live) outer_too live_i).0)
       (orient2d-first_swapped (p k) (p (rev k)) (p i)) in
       let one = one_point (p h) (p (next_of s h)) (p (prev_of s h)) (p k) (p (rev k)) (left_at m mesh triangles at plane h live_h inner_h)
       (on h live_h) (on (next_of s h) tri.live_y) (on (prev_of s h) tri.live_z) in

@@ -195,8 +195,8 @@ module _ {V DE UE F : Type 0} (m : Mesh V DE UE F) (mesh : IsMesh m) (at : ℕ �
       (λ h live_h. each_vertex (λ j. (p h).x ≡ (at j).x → (p h).y ≡ (at j).y → origin_of s h ≡ j) (λ k live_k. known.hull.distinct h k live_h live_k) w below_w) v below_v
 
   pub right : (h v : ℕ) → IsLive s h → face_of s h ≡ 0 → v < s.vertices → orient2d_of (p h) (at (end_of s h)) (at v) ≤ℤ pos 0
-  right h v live on = each_vertex (λ w. orient2d_of (p h) (at (end_of s h)) (at w) ≤ℤ pos 0) (λ k live_k. known.convex.right h k live on live_k) v
+  right h v live on = each_vertex (λ w. orient2d_of (p h) (at (end_of s h)) (at w) ≤ℤ pos 0) (λ k live_k. (known.convex.supports h k live on live_k).0) v
 
   pub between : (h v : ℕ) → IsLive s h → face_of s h ≡ 0 → v < s.vertices → orient2d_of (p h) (at (end_of s h)) (at v) ≡ pos 0 → pos 0 ≤ℤ apart_along (p h) (at (end_of s h)) (at v)
   between h v live on =
-      each_vertex (λ w. orient2d_of (p h) (at (end_of s h)) (at w) ≡ pos 0 → pos 0 ≤ℤ apart_along (p h) (at (end_of s h)) (at w)) (λ k live_k. known.convex.between h k live on live_k) v
+      each_vertex (λ w. orient2d_of (p h) (at (end_of s h)) (at w) ≡ pos 0 → pos 0 ≤ℤ apart_along (p h) (at (end_of s h)) (at w)) (λ k live_k. (known.convex.supports h k live on live_k).1) v

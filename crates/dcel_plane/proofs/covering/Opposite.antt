@@ -69,8 +69,11 @@ apart-opposite a b c =
 
 pub convex-opposite : (at : ℕ → Point) (s : Shape) → IsConvex at s → IsConvex (λ v. opposite (at v)) s
 convex-opposite at s convex = record {
-  right = λ h k live outer live_k. subst (λ z. z ≤ℤ pos 0) (sym (orient-opposite _ _ _)) (convex.right h k live outer live_k);
-  between = λ h k live outer live_k on. subst (λ z. pos 0 ≤ℤ z) (sym (apart-opposite _ _ _)) (convex.between h k live outer live_k (sym (orient-opposite _ _ _) ∙ on));
+  supports = λ h k live outer live_k.
+      let is = convex.supports h k live outer live_k in (
+        subst (λ z. z ≤ℤ pos 0) (sym (orient-opposite _ _ _)) is.0,
+        λ on. subst (λ z. pos 0 ≤ℤ z) (sym (apart-opposite _ _ _)) (is.1 (sym (orient-opposite _ _ _) ∙ on)),
+      );
 }
 
 same_opposite : (a b : Point) → (opposite a).x ≡ (opposite b).x → (opposite a).y ≡ (opposite b).y → (a.x ≡ b.x) × (a.y ≡ b.y)

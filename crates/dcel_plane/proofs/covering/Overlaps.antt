@@ -188,9 +188,9 @@ module _ {V DE UE F : Type 0} (m : Mesh V DE UE F) (mesh : IsMesh m) (at : ℕ �
 
   outer_bounds : (h k : ℕ) → IsLive m.shape h → IsLive m.shape k → face_of m.shape h ≡ 0 → Bounds (o h) (o (rev h)) (o k) (o (rev k))
   outer_bounds h k live_h live_k outer = record {
-    start = convex.right h k live_h outer live_k;
-    end = convex.right h (rev k) live_h outer (rev_live (map_of m.shape) k live_k);
-    between = convex.between h k live_h outer live_k;
+    start = (convex.supports h k live_h outer live_k).0;
+    end = (convex.supports h (rev k) live_h outer (rev_live (map_of m.shape) k live_k)).0;
+    between = (convex.supports h k live_h outer live_k).1;
   }
 
   hull_passes : (h k : ℕ) → IsLive m.shape h → IsLive m.shape k → face_of m.shape h ≡ 0 → face_of m.shape k ≡ 0

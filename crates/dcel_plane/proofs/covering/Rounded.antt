@@ -328,9 +328,10 @@ module _ {V DE UE F : Type 0} (m : Mesh V DE UE F) (mesh : IsMesh m) (triangles 
 
   pub round_convex : IsConvex at s
   round_convex = record {
-    right = right;
-    between = λ h k live outer live_k on.
-        by_lt_z (apart_along (p h) (p (rev h)) (p k)) (pos 0) (λ amid. absurd (none_between h k live outer live_k on amid)) (λ not. not);
+    supports = λ h k live outer live_k. (
+      right h k live outer live_k,
+      λ on. by_lt_z (apart_along (p h) (p (rev h)) (p k)) (pos 0) (λ amid. absurd (none_between h k live outer live_k on amid)) (λ not. not),
+    );
   }
 
   pub round_hull : IsHull at s

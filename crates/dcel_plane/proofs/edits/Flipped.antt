@@ -21,7 +21,7 @@ use Rattle.dcel_maps.proofs.words.EachSet.{first-two_set, other-two_set, second-
 use Rattle.dcel_maps.proofs.words.Mapped.{count-at}
 use Rattle.dcel_maps.proofs.words.Reading.{face_in_word, live_in}
 use Rattle.dcel_plane.specs.Edges.{edges_of_flip}
-use Rattle.dcel_plane.specs.Plane.{IsCircled, IsInner, IsPlane, ListsCircled, origin_point, TurnsLeft}
+use Rattle.dcel_plane.specs.Plane.{IsCircled, IsInner, IsPlane, ListsCircled, TurnsLeft, origin_point}
 use Rattle.dcel_plane.proofs.edits.Corners.{LeftOf, corners_are, left-from_least, left_of_triangle, of_least}
 use Rattle.dcel_plane.proofs.edits.Splits.{listed_as}
 use Rattle.dcel_plane.proofs.edits.Written.{IsWritten, origin_away, written_lists, written_plane}

@@ -7,23 +7,19 @@ use Rattle.dcel_predicates.specs.declared.point.Point.{Point}
 use Rattle.dcel_predicates.proofs.Ring.{by_terms, minus, num, plus, times as by, var}
 use Rattle.dcel_predicates.proofs.Signs.{ordered, times_negative, times_positive}
 use Rattle.dcel_predicates.proofs.Terms.{orient, spot}
-use Rattle.dcel_plane.specs.covering.Covering.{apart_along}
+use Rattle.dcel_plane.specs.covering.Covering.{Supports, apart_along}
 use Rattle.dcel_plane.proofs.covering.Along.{IsBetween, one_place, dot, dot_in, dot_start, none_first, none_second, placed, sides, same_side, apart_by}
 use Rattle.dcel_plane.proofs.covering.Inside.{apart_end, apart_start, on_end, on_start}
 use Rattle.dcel_plane.proofs.covering.Products.{times_below}
 
--- c isn't left of the line from a to b, and not between them
-abbrev pub Beside : Point → Point → Point → Type 0
-Beside a b c = (orient2d_of a b c ≤ℤ pos 0) × (orient2d_of a b c ≡ pos 0 → pos 0 ≤ℤ apart_along a b c)
+pub supports_start : (a b : Point) → Supports a b a
+supports_start a b = (let o = on_end a b in omega (arith, ordered, o), λ zero. let e = apart_start a b in omega (arith, ordered, e))
 
-pub beside_start : (a b : Point) → Beside a b a
-beside_start a b = (let o = on_end a b in omega (arith, ordered, o), λ zero. let e = apart_start a b in omega (arith, ordered, e))
+pub supports_end : (a b : Point) → Supports a b b
+supports_end a b = (let o = on_start a b in omega (arith, ordered, o), λ zero. let e = apart_end a b in omega (arith, ordered, e))
 
-pub beside_end : (a b : Point) → Beside a b b
-beside_end a b = (let o = on_start a b in omega (arith, ordered, o), λ zero. let e = apart_end a b in omega (arith, ordered, e))
-
-pub beside_right : (a b c : Point) → orient2d_of a b c <ℤ pos 0 → Beside a b c
-beside_right a b c right = (omega (arith, ordered, right), λ zero. absurd (omega (arith, ordered, right, zero)))
+pub supports_right : (a b c : Point) → orient2d_of a b c <ℤ pos 0 → Supports a b c
+supports_right a b c right = (omega (arith, ordered, right), λ zero. absurd (omega (arith, ordered, right, zero)))
 
 -- v strictly between b and a: what lies on the right of the line from b to a does so of both parts of it
 module _ (b a v : Point) (is : IsBetween b a v) where
@@ -87,7 +83,7 @@ module _ (b a v : Point) (is : IsBetween b a v) (k : Point) (right : orient2d_of
         | inr below ↦ (let q = below.1 in inr (omega (arith, ordered, q)))
       ]
 
-  pub start_beside : Beside b v k
+  pub start_beside : Supports b v k
   start_beside = (
     start_right b a v is k right,
     λ zero.
@@ -104,7 +100,7 @@ module _ (b a v : Point) (is : IsBetween b a v) (k : Point) (right : orient2d_of
         ])),
   )
 
-  pub end_beside : Beside v a k
+  pub end_beside : Supports v a k
   end_beside = (
     end_right b a v is k right,
     λ zero.
@@ -280,5 +276,5 @@ module _ (b a v : Point) (is : IsBetween b a v) (x y : Point) (far : pos 0 <ℤ 
             let b = mixed_below l d (k -ℤ p) (k -ℤ q) (k -ℤ w) (pos 0 -ℤ z) (shifted l d p q w z k e) (omega (arith, ordered, zero)) hl hd hr (omega (arith, ordered, hp)) (omega (arith, ordered, hq)) in
             omega (arith, ordered, b)
 
-  pub other_beside : Beside x y v
+  pub other_beside : Supports x y v
   other_beside = (not_left, λ on. let both = both_on on in apart_v on both.0 both.1)

@@ -22,11 +22,11 @@ use Rattle.dcel_plane.specs.Plane.{IsPlane, LiesAcross, TurnsLeft}
 use Rattle.dcel_plane.proofs.edits.Corners.{left_of_triangle}
 use Rattle.dcel_plane.proofs.edits.Splits.{seen_after, seen_before, side_triangle}
 use Rattle.dcel_plane.proofs.edits.Written.{IsWritten, origin_away, origin_more}
-use Rattle.dcel_plane.specs.covering.Covering.{IsConvex, IsHull, apart_along}
+use Rattle.dcel_plane.specs.covering.Covering.{IsConvex, IsHull, Supports, apart_along}
 use Rattle.dcel_plane.proofs.covering.Along.{IsBetween, between_ends, dot, dot_start, long, placed, sides}
 use Rattle.dcel_plane.proofs.covering.Inside.{on_end, on_start}
 use Rattle.dcel_plane.proofs.hull.Becomes.{in_become, in_outer, of_pair, old_or_new, rev-3, was_live, was_on}
-use Rattle.dcel_plane.proofs.hull.Beside.{Beside, beside_end, beside_start, end_beside, other_beside, start_beside}
+use Rattle.dcel_plane.proofs.hull.Beside.{supports_end, supports_start, end_beside, other_beside, start_beside}
 use Rattle.dcel_plane.proofs.hull.Keeping.{gains_distinct}
 
 module _ {V DE UE F : Type 0} (m : Mesh V DE UE F) (mesh : IsMesh m) (at : ℕ → Point) (plane : IsPlane at m.shape)
@@ -76,11 +76,11 @@ module _ {V DE UE F : Type 0} (m : Mesh V DE UE F) (mesh : IsMesh m) (at : ℕ �
       (let o = orient2d-first_swapped (p e) (p t) (at v) in omega (arith, ordered, o, on))
 
   right_t : (k : ℕ) → IsLive s k → orient2d_of (p t) (p e) (p k) ≤ℤ pos 0
-  right_t k live_k = subst (λ (i : ℕ). orient2d_of (p t) (at i) (p k) ≤ℤ pos 0) ends_t (convex.right t k live_t bare live_k)
+  right_t k live_k = subst (λ (i : ℕ). orient2d_of (p t) (at i) (p k) ≤ℤ pos 0) ends_t (convex.supports t k live_t bare live_k).0
 
   apart_t : (k : ℕ) → IsLive s k → orient2d_of (p t) (p e) (p k) ≡ pos 0 → pos 0 ≤ℤ apart_along (p t) (p e) (p k)
   apart_t k live_k =
-      subst (λ (i : ℕ). orient2d_of (p t) (at i) (p k) ≡ pos 0 → pos 0 ≤ℤ apart_along (p t) (at i) (p k)) ends_t (convex.between t k live_t bare live_k)
+      subst (λ (i : ℕ). orient2d_of (p t) (at i) (p k) ≡ pos 0 → pos 0 ≤ℤ apart_along (p t) (at i) (p k)) ends_t (convex.supports t k live_t bare live_k).1
 
   -- no vertex stands where v does
   alone : (k : ℕ) → IsLive s k → (p k).x ≡ (at v).x → (p k).y ≡ (at v).y → ⊥
@@ -109,11 +109,11 @@ module _ {V DE UE F : Type 0} (m : Mesh V DE UE F) (mesh : IsMesh m) (at : ℕ �
   not_v k live_k is = alone k live_k (ap (λ (i : ℕ). (at i).x) is) (ap (λ (i : ℕ). (at i).y) is)
 
   -- v beside another outer half edge
-  beside_v : (h : ℕ) → IsLive s h → face_of s h ≡ 0 → h ≢ t → Beside (p h) (at (end_of s h)) (at v)
+  beside_v : (h : ℕ) → IsLive s h → face_of s h ≡ 0 → h ≢ t → Supports (p h) (at (end_of s h)) (at v)
   beside_v h live_h on_h differs =
       let back = rev_live (map_of s) h live_h in
       other_beside (p t) (p e) (at v) between (p h) (at (end_of s h)) (far h live_h)
-      (convex.right h e live_h on_h live) (convex.right h t live_h on_h live_t) (convex.between h e live_h on_h live) (convex.between h t live_h on_h live_t)
+      (convex.supports h e live_h on_h live).0 (convex.supports h t live_h on_h live_t).0 (convex.supports h e live_h on_h live).1 (convex.supports h t live_h on_h live_t).1
       (apart_t h live_h) (apart_t (rev h) back)
       (λ ex ey fx fy. differs (hull.once h t live_h live_t on_h bare (hull.distinct h t live_h live_t ex ey)))
       (λ ex ey fx fy.
@@ -121,7 +121,7 @@ module _ {V DE UE F : Type 0} (m : Mesh V DE UE F) (mesh : IsMesh m) (at : ℕ �
       let ends = hull.distinct (rev h) t back live_t fx fy in
       let q : orient2d_of (p e) (p t) (p ep) ≤ℤ pos 0 =
       subst (λ (i : ℕ). orient2d_of (p e) (at i) (p ep) ≤ℤ pos 0) ends
-      (subst (λ (i : ℕ). orient2d_of (at i) (at (end_of s h)) (p ep) ≤ℤ pos 0) starts (convex.right h ep live_h on_h near.live_z)) in
+      (subst (λ (i : ℕ). orient2d_of (at i) (at (end_of s h)) (p ep) ≤ℤ pos 0) starts (convex.supports h ep live_h on_h near.live_z).0) in
       let l = abc in
       omega (arith, ordered, q, l))
 
@@ -212,7 +212,7 @@ module _ {V DE UE F : Type 0} (m : Mesh V DE UE F) (mesh : IsMesh m) (at : ℕ �
     of_start P new was k live_k = elim (starts k live_k) [ inl is ↦ subst P (sym is) new | inr found ↦ subst P found.2 (was found.0 found.1) ]
 
     abbrev B : ℕ → ℕ → ℕ → Type 0
-    B a b c = Beside (at a) (at b) (at c)
+    B a b c = Supports (at a) (at b) (at c)
 
     -- where they lead
     starts_3 : origin_of r (n + 3) ≡ origin_of s t
@@ -230,27 +230,26 @@ module _ {V DE UE F : Type 0} (m : Mesh V DE UE F) (mesh : IsMesh m) (at : ℕ �
           subst (λ (b : ℕ). B (origin_of r h) b (origin_of r k)) was.end
           (subst (λ (a : ℕ). B a (end_of s h) (origin_of r k)) was.start
           (of_start (λ c. B (origin_of s h) (end_of s h) c) (beside_v h was.here was.outer was.off)
-          (λ j live_j. (convex.right h j was.here was.outer live_j, convex.between h j was.here was.outer live_j)) k live_k))
+          (λ j live_j. convex.supports h j was.here was.outer live_j) k live_k))
       | inr part ↦ elim part [
         | inl is_3 ↦
             subst (λ (i : ℕ). B (origin_of r i) (end_of r i) (origin_of r k)) (sym is_3)
             (subst (λ (b : ℕ). B (origin_of r (n + 3)) b (origin_of r k)) (sym ends_3)
             (subst (λ (a : ℕ). B a v (origin_of r k)) (sym starts_3)
-            (of_start (λ c. B (origin_of s t) v c) (beside_end (p t) (at v))
+            (of_start (λ c. B (origin_of s t) v c) (supports_end (p t) (at v))
             (λ j live_j. start_beside (p t) (p e) (at v) between (p j) (right_t j live_j) (apart_t j live_j)) k live_k)))
         | inr is_t ↦
             subst (λ (i : ℕ). B (origin_of r i) (end_of r i) (origin_of r k)) (sym is_t)
             (subst (λ (b : ℕ). B (origin_of r t) b (origin_of r k)) (sym ends_at)
             (subst (λ (a : ℕ). B a (origin_of s e) (origin_of r k)) (sym from_t)
-            (of_start (λ c. B v (origin_of s e) c) (beside_start (at v) (p e))
+            (of_start (λ c. B v (origin_of s e) c) (supports_start (at v) (p e))
             (λ j live_j. end_beside (p t) (p e) (at v) between (p j) (right_t j live_j) (apart_t j live_j)) k live_k)))
       ]
     ]
 
     pub half_split_convex : IsConvex at r
     half_split_convex = record {
-      right = λ h k live_h on_h live_k. (beside h k live_h on_h live_k).0;
-      between = λ h k live_h on_h live_k. (beside h k live_h on_h live_k).1;
+      supports = beside;
     }
 
     pub half_split_hull : IsHull at r

@@ -90,7 +90,7 @@ module _ {V DE UE F : Type 0} (m : Mesh V DE UE F) (mesh : IsMesh m) (triangles 
         let off : pos 0 <ℤ orient2d_of (p (rev h)) (p h) (p (prev_of s (rev h))) =
         subst (λ (i : ℕ). pos 0 <ℤ orient2d_of (p (rev h)) (at i) (p (prev_of s (rev h)))) ends (left_at m mesh triangles at plane (rev h) back facing) in
         let not_right : (i : ℕ) → IsLive s i → pos 0 ≤ℤ orient2d_of (p (rev h)) (p h) (p i) =
-        λ i live_i. let r = convex.right h i live on live_i in let o = orient2d-first_swapped (p h) (p (rev h)) (p i) in omega (arith, ordered, r, o) in
+        λ i live_i. let r = (convex.supports h i live on live_i).0 in let o = orient2d-first_swapped (p h) (p (rev h)) (p i) in omega (arith, ordered, r, o) in
         let left = inserted_left (p a) (p b) (p c) (p (rev h)) (p h) (left_at m mesh triangles at plane a live_a inner_a)
         (not_right a live_a) (not_right b tri.live_y) (not_right c tri.live_z) (p (prev_of s (rev h))) (at v) off ab bc ca in
         let o = orient2d-first_swapped (p h) (p (rev h)) (at v) in

@@ -1,11 +1,10 @@
 -- Edits inside of the hull keep it: a flip, and an insertion of a vertex that lies on the right of each outer half edge.
-use Rattle.std.proofs.Common.{◌≡◌, ◌≢◌, ◌⊎◌, inl, inr, ℕ, ◌+◌, ◌*◌, ◌<◌, List, refl, sym, ap, ◌∙◌, subst, pos, ◌<ℤ◌, ◌≤ℤ◌, arith}
+use Rattle.std.proofs.Common.{◌≡◌, ◌≢◌, ◌⊎◌, inl, inr, ℕ, ◌+◌, ◌*◌, ◌<◌, List, refl, sym, ap, ◌∙◌, subst, pos, ◌<ℤ◌, arith}
 use Rattle.std.proofs.lemmas.Bool.{cases_eq}
 use Rattle.dcel_fixed.specs.HalfEdges.{rev}
 use Rattle.dcel_fixed.proofs.Halves.{rev-double, rev-rev}
 use Rattle.dcel_predicates.specs.Determinants.{orient2d_of}
 use Rattle.dcel_predicates.specs.declared.point.Point.{Point}
-use Rattle.dcel_predicates.proofs.Signs.{ordered}
 use Rattle.dcel_maps.specs.Conditions.{CanFlip}
 use Rattle.dcel_maps.specs.Shapes.{IsLive, IsMesh, IsSound, Mesh, Shape, end_of, face_of, map_of, origin_of, prev_of}
 use Rattle.dcel_maps.specs.Words.{count_of, word_of}
@@ -16,8 +15,9 @@ use Rattle.dcel_maps.proofs.maps.Soundness.{rev_live}
 use Rattle.dcel_maps.proofs.walks.Links.{links_stand, prev-live}
 use Rattle.dcel_maps.proofs.words.Reading.{stands_in_face}
 use Rattle.dcel_plane.proofs.edits.Flipped.{origin_e, origin_same, origin_t, word_else}
-use Rattle.dcel_plane.specs.covering.Covering.{HasDistinctPoints, IsConvex, IsHull, apart_along}
+use Rattle.dcel_plane.specs.covering.Covering.{HasDistinctPoints, IsConvex, IsHull, Supports}
 use Rattle.dcel_plane.proofs.hull.Becomes.{was_live, was_on}
+use Rattle.dcel_plane.proofs.hull.Beside.{supports_right}
 
 -- each outer half edge was one, with the same ends
 pub record WasOuter (s n : Shape) (h : ℕ) : Type 0 where
@@ -65,39 +65,20 @@ same_outer s n sound sound_after same h live on =
     (was_live s sound h found, was_on s sound h found)
 
 module _ (at : ℕ → Point) (s n : Shape) (v : ℕ) (outer : KeepsOuter s n) (starts : StartsOldOr s n v) (within : LiesWithin at s v) where
-  abbrev Right : ℕ → ℕ → ℕ → Type 0
-  Right a b k = orient2d_of (at a) (at b) (at k) ≤ℤ pos 0
-
-  abbrev Apart : ℕ → ℕ → ℕ → Type 0
-  Apart a b k = orient2d_of (at a) (at b) (at k) ≡ pos 0 → pos 0 ≤ℤ apart_along (at a) (at b) (at k)
-
-  -- what holds of the ends of h and the start of k, in the old shape
-  carried : (P : ℕ → ℕ → ℕ → Type 0) (a b k a' b' k' : ℕ) → a ≡ a' → b ≡ b' → k ≡ k' → P a b k → P a' b' k'
-  carried P a b k a' b' k' ea eb ek is = subst (λ (i : ℕ). P a' b' i) ek (subst (λ (i : ℕ). P a' i k) eb (subst (λ (i : ℕ). P i b k) ea is))
-
   pub gains_convex : IsConvex at s → IsConvex at n
   gains_convex convex = record {
-    right = λ h k live on live_k.
+    supports = λ h k live on live_k.
         let was = outer h live on in
-        elim (starts k live_k) [
-          | inl new ↦
-              carried Right (origin_of s h) (end_of s h) v (origin_of n h) (end_of n h) (origin_of n k) was.start was.end (sym new)
-              (let r = within.right h was.live was.on in omega (arith, ordered, r))
-          | inr old ↦
-              carried Right (origin_of s h) (end_of s h) (origin_of s old.0) (origin_of n h) (end_of n h) (origin_of n k) was.start was.end old.2
-              (convex.right h old.0 was.live was.on old.1)
-        ];
-    between = λ h k live on live_k.
-        let was = outer h live on in
-        elim (starts k live_k) [
-          | inl new ↦
-              carried Apart (origin_of s h) (end_of s h) v (origin_of n h) (end_of n h) (origin_of n k) was.start was.end (sym new)
-              (λ zero. absurd (let r = within.right h was.live was.on in omega (arith, ordered, r, zero)))
-          | inr old ↦
-              carried Apart (origin_of s h) (end_of s h) (origin_of s old.0) (origin_of n h) (end_of n h) (origin_of n k) was.start was.end old.2
-              (convex.between h old.0 was.live was.on old.1)
-        ];
+        subst (λ (b : ℕ). B (origin_of n h) b (origin_of n k)) was.end
+        (subst (λ (a : ℕ). B a (end_of s h) (origin_of n k)) was.start
+        (elim (starts k live_k) [
+          | inl new ↦ subst (λ (c : ℕ). B (origin_of s h) (end_of s h) c) (sym new) (supports_right (at (origin_of s h)) (at (end_of s h)) (at v) (within.right h was.live was.on))
+          | inr old ↦ subst (λ (c : ℕ). B (origin_of s h) (end_of s h) c) old.2 (convex.supports h old.0 was.live was.on old.1)
+        ]));
   }
+    where
+      B : ℕ → ℕ → ℕ → Type 0
+      B a b c = Supports (at a) (at b) (at c)
 
   pub gains_hull : IsHull at s → IsHull at n
   gains_hull hull = record {
@@ -110,23 +91,14 @@ module _ (at : ℕ → Point) (s n : Shape) (v : ℕ) (outer : KeepsOuter s n) (
 
 -- without a new vertex
 module _ (at : ℕ → Point) (s n : Shape) (outer : KeepsOuter s n) (starts : StartsOld s n) where
-  keeps_right : IsConvex at s → (h k : ℕ) → IsLive n h → face_of n h ≡ 0 → IsLive n k
-      → (orient2d_of (at (origin_of n h)) (at (end_of n h)) (at (origin_of n k)) ≤ℤ pos 0)
-      × (orient2d_of (at (origin_of n h)) (at (end_of n h)) (at (origin_of n k)) ≡ pos 0 → pos 0 ≤ℤ apart_along (at (origin_of n h)) (at (end_of n h)) (at (origin_of n k)))
-  keeps_right convex h k live on live_k =
-      let was = outer h live on in
-      let (i, live_i, is) = starts k live_k in
-      subst (λ (j : ℕ). Both (origin_of n h) (end_of n h) j) is
-      (subst (λ (j : ℕ). Both (origin_of n h) j (origin_of s i)) was.end
-      (subst (λ (j : ℕ). Both j (end_of s h) (origin_of s i)) was.start (convex.right h i was.live was.on live_i, convex.between h i was.live was.on live_i)))
-    where
-      Both : ℕ → ℕ → ℕ → Type 0
-      Both a b c = (orient2d_of (at a) (at b) (at c) ≤ℤ pos 0) × (orient2d_of (at a) (at b) (at c) ≡ pos 0 → pos 0 ≤ℤ apart_along (at a) (at b) (at c))
-
   pub keeps_convex : IsConvex at s → IsConvex at n
   keeps_convex convex = record {
-    right = λ h k live on live_k. (keeps_right convex h k live on live_k).0;
-    between = λ h k live on live_k. (keeps_right convex h k live on live_k).1;
+    supports = λ h k live on live_k.
+        let was = outer h live on in
+        let (i, live_i, is) = starts k live_k in
+        subst (λ (c : ℕ). Supports (at (origin_of n h)) (at (end_of n h)) (at c)) is
+        (subst (λ (b : ℕ). Supports (at (origin_of n h)) (at b) (at (origin_of s i))) was.end
+        (subst (λ (a : ℕ). Supports (at a) (at (end_of s h)) (at (origin_of s i))) was.start (convex.supports h i was.live was.on live_i)));
   }
 
   pub keeps_hull : IsHull at s → IsHull at n

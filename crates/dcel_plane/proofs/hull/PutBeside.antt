@@ -19,13 +19,12 @@ use Rattle.dcel_maps.proofs.words.Counts.{count-later, count-same}
 use Rattle.dcel_maps.proofs.words.Reading.{stands_in_face}
 use Rattle.dcel_plane.specs.Plane.{IsLeftOf, IsPlane}
 use Rattle.dcel_plane.proofs.edits.Written.{IsWritten, origin_away, origin_more}
-use Rattle.dcel_plane.specs.covering.Covering.{IsConvex, IsHull, apart_along}
+use Rattle.dcel_plane.specs.covering.Covering.{IsConvex, IsHull, Supports, apart_along}
 use Rattle.dcel_plane.proofs.covering.Inside.{on_end, on_start, same_place}
 use Rattle.dcel_plane.proofs.covering.Triangles.{left_at, round}
 use Rattle.dcel_plane.specs.hull.Closing.{IsClosing, IsThick, IsThin, Sees, SeesAfter, SeesBefore}
 use Rattle.dcel_plane.specs.hull.Straight.{IsStraight, beyond}
 use Rattle.dcel_plane.proofs.hull.Becomes.{in_become, in_outer, of_pair, old_or_new, out_outer, put_in, rev-2, rev-3, still_live, was_live, was_on}
-use Rattle.dcel_plane.proofs.hull.Beside.{Beside}
 use Rattle.dcel_plane.proofs.hull.Keeping.{gains_distinct}
 
 module _ {V DE UE F : Type 0} (m : Mesh V DE UE F) (mesh : IsMesh m) (at : ℕ → Point)
@@ -58,7 +57,7 @@ module _ {V DE UE F : Type 0} (m : Mesh V DE UE F) (mesh : IsMesh m) (at : ℕ �
   -- no vertex stands where v does
   alone : (k : ℕ) → IsLive s k → (p k).x ≡ (at v).x → (p k).y ≡ (at v).y → ⊥
   alone k live_k ex ey =
-      let q = convex.right e k live on live_k in
+      let q = (convex.supports e k live on live_k).0 in
       let z = same_place (at x) (at y) (p k) (at v) ex ey in
       omega (arith, ordered, q, z, left)
 
@@ -140,14 +139,14 @@ module _ {V DE UE F : Type 0} (m : Mesh V DE UE F) (mesh : IsMesh m) (at : ℕ �
     ends_1 = ap (origin_of r) (rev-double-suc s.edges) ∙ more_at n 0 (omega arith)
 
     abbrev B : ℕ → ℕ → ℕ → Type 0
-    B a b c = Beside (at a) (at b) (at c)
+    B a b c = Supports (at a) (at b) (at c)
 
     beside : (h k : ℕ) → IsLive r h → face_of r h ≡ 0 → origin_of r h ≢ v → end_of r h ≢ v → IsLive r k → origin_of r k ≢ v → B (origin_of r h) (end_of r h) (origin_of r k)
     beside h k live_h on_h not_start not_end live_k old_k = elim (outer_cases h live_h on_h) [
       | inl was ↦
           subst (λ (b : ℕ). B (origin_of r h) b (origin_of r k)) was.end
           (subst (λ (a : ℕ). B a (end_of s h) (origin_of r k)) was.start
-          (of_old (λ c. B (origin_of s h) (end_of s h) c) (λ j live_j. (convex.right h j was.here was.outer live_j, convex.between h j was.here was.outer live_j)) k live_k old_k))
+          (of_old (λ c. B (origin_of s h) (end_of s h) c) (λ j live_j. convex.supports h j was.here was.outer live_j) k live_k old_k))
       | inr part ↦ elim part [
         | inl is_3 ↦ absurd (not_end (ap (end_of r) is_3 ∙ ends_3))
         | inr is_1 ↦ absurd (not_start (ap (origin_of r) is_1 ∙ starts_1))
@@ -155,7 +154,7 @@ module _ {V DE UE F : Type 0} (m : Mesh V DE UE F) (mesh : IsMesh m) (at : ℕ �
     ]
 
     none_left : (k : ℕ) → IsLive r k → origin_of r k ≢ v → orient2d_of (at x) (at y) (at (origin_of r k)) ≤ℤ pos 0
-    none_left k live_k old_k = of_old (λ c. orient2d_of (at x) (at y) (at c) ≤ℤ pos 0) (λ j live_j. convex.right e j live on live_j) k live_k old_k
+    none_left k live_k old_k = of_old (λ c. orient2d_of (at x) (at y) (at c) ≤ℤ pos 0) (λ j live_j. (convex.supports e j live on live_j).0) k live_k old_k
 
     is_1 : (h : ℕ) → IsLive r h → face_of r h ≡ 0 → origin_of r h ≡ v → h ≡ n + 1
     is_1 h live_h on_h is = elim (outer_cases h live_h on_h) [
@@ -191,9 +190,7 @@ module _ {V DE UE F : Type 0} (m : Mesh V DE UE F) (mesh : IsMesh m) (at : ℕ �
     sees : Sees at r v x y
     sees = record {
       seen = left;
-      none = none_left;
-      between = λ k live_k old_k.
-          of_old (λ c. orient2d_of (at x) (at y) (at c) ≡ pos 0 → pos 0 ≤ℤ apart_along (at x) (at y) (at c)) (λ j live_j. convex.between e j live on live_j) k live_k old_k;
+      supports = λ k live_k old_k. of_old (λ c. B x y c) (λ j live_j. convex.supports e j live on live_j) k live_k old_k;
       side = e;
       live_side = live_r e live;
       inner_side = inner_e;
@@ -210,8 +207,7 @@ module _ {V DE UE F : Type 0} (m : Mesh V DE UE F) (mesh : IsMesh m) (at : ℕ �
 
     pub beside_closing : IsClosing at r v
     beside_closing = record {
-      right = λ h k live_h on_h not_start not_end live_k old_k. (beside h k live_h on_h not_start not_end live_k old_k).0;
-      between = λ h k live_h on_h not_start not_end live_k old_k. (beside h k live_h on_h not_start not_end live_k old_k).1;
+      supports = beside;
       after = λ h live_h on_h is. subst (λ (u : ℕ). SeesAfter at r v u) (ends_y h live_h on_h is) (record { a = x; sees = sees });
       before = λ h live_h on_h is. subst (λ (u : ℕ). SeesBefore at r v u) (starts_x h live_h on_h is) (record { b = y; sees = sees });
       tip = λ h k live_h on_h is_h live_k on_k is_k.
@@ -351,6 +347,5 @@ module _ {V DE UE F : Type 0} (m : Mesh V DE UE F) (mesh : IsMesh m) (at : ℕ �
 -- a straight mesh is convex
 pub straight_convex : (at : ℕ → Point) (s : Shape) → IsStraight at s → IsConvex at s
 straight_convex at s straight = record {
-  right = λ h k live on live_k. (let z = straight.line h k live live_k in omega (arith, ordered, z));
-  between = λ h k live on live_k zero_side. straight.between h k live live_k;
+  supports = λ h k live on live_k. ((let z = straight.line h k live live_k in omega (arith, ordered, z)), λ zero_side. straight.between h k live live_k);
 }

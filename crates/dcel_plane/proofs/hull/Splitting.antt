@@ -63,7 +63,7 @@ module _ {V DE UE F : Type 0} (m : Mesh V DE UE F) (mesh : IsMesh m) (triangles 
         let off : pos 0 <ℤ orient2d_of (p (rev h)) (p h) (p (prev_of s (rev h))) =
         subst (λ (i : ℕ). pos 0 <ℤ orient2d_of (p (rev h)) (at i) (p (prev_of s (rev h)))) ends (left_at m mesh triangles at plane (rev h) back facing) in
         let not_right : (i : ℕ) → IsLive s i → pos 0 ≤ℤ orient2d_of (p (rev h)) (p h) (p i) =
-        λ i live_i. let q = convex.right h i live_h on live_i in let o = orient2d-first_swapped (p h) (p (rev h)) (p i) in omega (arith, ordered, q, o) in
+        λ i live_i. let q = (convex.supports h i live_h on live_i).0 in let o = orient2d-first_swapped (p h) (p (rev h)) (p i) in omega (arith, ordered, q, o) in
         let left = quad_left (p e) (p t) (p ep) (p tp) (p (rev h)) (p h) (p (prev_of s (rev h))) (at v) (near_left m mesh triangles at plane convex hull (at v) e live inner inner_facing) (far_left m mesh triangles at plane convex hull (at v) e live inner inner_facing)
         (not_right e live) (not_right t live_t) (not_right ep near.live_z) (not_right tp far.live_z) off inside.bc inside.ca inside.ad inside.db in
         let o = orient2d-first_swapped (p h) (p (rev h)) (at v) in

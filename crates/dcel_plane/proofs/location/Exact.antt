@@ -60,7 +60,7 @@ module _ {V DE UE F : Type 0} (m : Mesh V DE UE F) (mesh : IsMesh m) (triangles 
       (let i = as_place b c v in let j = covers.1 in omega (arith, ordered, i, j))
       (let i = as_place c a v in let j = covers.2 in omega (arith, ordered, i, j))
       (let i = as_place a b v in let j = covers.0 in omega (arith, ordered, i, j))
-      (convex.right e h live_e outer live) (convex.right e (next_of s h) live_e outer tri.live_y) (convex.right e (prev_of s h) live_e outer tri.live_z)
+      (convex.supports e h live_e outer live).0 (convex.supports e (next_of s h) live_e outer tri.live_y).0 (convex.supports e (prev_of s h) live_e outer tri.live_z).0
     where
       nothing : (t u k l n x y z : ℤ) → t *ℤ u ≡ ((k *ℤ x) +ℤ (l *ℤ y)) +ℤ (n *ℤ z) → pos 0 <ℤ u → pos 0 <ℤ t → pos 0 ≤ℤ k → pos 0 ≤ℤ l → pos 0 ≤ℤ n
           → x ≤ℤ pos 0 → y ≤ℤ pos 0 → z ≤ℤ pos 0 → ⊥
@@ -88,7 +88,7 @@ module _ {V DE UE F : Type 0} (m : Mesh V DE UE F) (mesh : IsMesh m) (triangles 
   -- no vertex stands there
   pub none_beyond : IsConvex at s → (e k : ℕ) → IsLive s e → face_of s e ≡ 0 → pos 0 <ℤ side_of at s e v → IsLive s k → StandsAt at v (origin_of s k) → ⊥
   none_beyond convex e k live outer sees live_k stands =
-      let r = convex.right e k live outer live_k in
+      let r = (convex.supports e k live outer live_k).0 in
       let i = same_place (p e) (at (end_of s e)) (p k) v stands.0 stands.1 in
       omega (arith, ordered, r, i, sees)
 
@@ -135,7 +135,7 @@ module _ {V DE UE F : Type 0} (m : Mesh V DE UE F) (mesh : IsMesh m) (triangles 
       | inl outer ↦
           let e = same_place (p h) (at (end_of s h)) (p k) v stands.0 stands.1 in
           let on = lies.on in
-          let b = convex.between h k live outer live_k (omega (arith, ordered, e, on)) in
+          let b = (convex.supports h k live outer live_k).1 (omega (arith, ordered, e, on)) in
           let i = apart_place (p h) (at (end_of s h)) (p k) stands.0 stands.1 in
           let apart = lies.between in
           omega (arith, ordered, b, i, apart)

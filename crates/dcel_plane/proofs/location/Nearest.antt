@@ -105,7 +105,7 @@ module _ {V DE UE F : Type 0} (m : Mesh V DE UE F) (mesh : IsMesh m) (at : ℕ �
         by_lt_z (lift_of (p k) q) (lift_of (p x) q)
         (λ less. absurd
         (nothing m mesh known.triangles at known.delaunay.plane (place_of (p k))
-        (λ h live_h outer. subst (λ z. z ≤ℤ pos 0) (sym (as_place (p h) (p (rev h)) (p k))) (known.convex.right h k live_h outer live_k)) (origin_of s x)
+        (λ h live_h outer. subst (λ z. z ≤ℤ pos 0) (sym (as_place (p h) (p (rev h)) (p k))) (known.convex.supports h k live_h outer live_k).0) (origin_of s x)
         (λ y spoke within.
         let closer = by_triangle y k spoke.live spoke.inner live_k (subst (λ (i : ℕ). HasNoNearerNeighbor at s q i) (sym spoke.from) near)
         (subst (λ z. pos 0 ≤ℤ z) (as_place (p y) (p (next_of s y)) (p k)) within.0) (subst (λ z. pos 0 ≤ℤ z) (as_place (p (prev_of s y)) (p y) (p k)) within.1) in

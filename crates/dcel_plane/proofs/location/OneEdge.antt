@@ -105,7 +105,7 @@ module _ {V DE UE F : Type 0} (m : Mesh V DE UE F) (mesh : IsMesh m) (triangles 
       let right : (i : ℕ) → IsLive s i → orient2d_of b a (p i) ≤ℤ pos 0 =
       λ i live_i.
       subst (λ (e : Point). orient2d_of e a (p i) ≤ℤ pos 0) (end_is h live)
-      (subst (λ (j : ℕ). orient2d_of (p t) (at j) (p i) ≤ℤ pos 0) (ap (origin_of s) (rev-rev h)) (convex.right t i live_t outer live_i)) in
+      (subst (λ (j : ℕ). orient2d_of (p t) (at j) (p i) ≤ℤ pos 0) (ap (origin_of s) (rev-rev h)) (convex.supports t i live_t outer live_i).0) in
       let below = none_above (orient_at b a q) (orient2d_of x y z) (orient_at y z q) (orient_at z x q) (orient_at x y q) (orient2d_of b a x) (orient2d_of b a y) (orient2d_of b a z)
       (weighed x y z b a q) turn near.inside.1 near.inside.2 near.inside.0 (right k live_k) (right (next_of s k) tri.live_y) (right (prev_of s k) tri.live_z) in
       let o = other_way a b q in

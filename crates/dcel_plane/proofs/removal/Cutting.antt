@@ -21,7 +21,7 @@ use Rattle.dcel_maps.proofs.walks.Links.{links_stand, prev-live}
 use Rattle.dcel_maps.proofs.words.Counts.{first_or_later}
 use Rattle.dcel_maps.proofs.words.Reading.{face-prev}
 use Rattle.dcel_plane.specs.Plane.{IsPlane, TurnsLeft}
-use Rattle.dcel_plane.specs.covering.Covering.{Covers, IsConvex, IsHull, apart_along}
+use Rattle.dcel_plane.specs.covering.Covering.{Covers, IsConvex, IsHull, Supports, apart_along}
 use Rattle.dcel_plane.specs.removal.Wheels.{IsHollow, turns}
 use Rattle.dcel_plane.proofs.covering.Along.{IsBetween, long, none_first}
 use Rattle.dcel_plane.proofs.hull.Beside.{end_right, start_right}
@@ -129,7 +129,7 @@ module _ {V DE UE F : Type 0} (m : Mesh V DE UE F) (mesh : IsMesh m) (triangles 
   ahead : (z : ℕ) → IsLive s z → pos 0 ≤ℤ orient2d_of (at o) (neighbor 0) (p z)
   ahead z live_z =
       let on_prev : face_of s (prev_of s h) ≡ 0 = face-prev (map_of s) s.words (links_stand mesh.sound) h live ∙ outer in
-      let r = convex.right (prev_of s h) z (prev-live mesh.sound h live) on_prev live_z in
+      let r = (convex.supports (prev_of s h) z (prev-live mesh.sound h live) on_prev live_z).0 in
       let r' : orient2d_of (neighbor 0) (at o) (p z) ≤ℤ pos 0 =
       subst (λ (j : ℕ). orient2d_of (at j) (at o) (p z) ≤ℤ pos 0) (sym (end_next h))
       (subst (λ (j : ℕ). orient2d_of (p (prev_of s h)) (at j) (p z) ≤ℤ pos 0) (ends_before h live) r) in
@@ -138,7 +138,7 @@ module _ {V DE UE F : Type 0} (m : Mesh V DE UE F) (mesh : IsMesh m) (triangles 
 
   behind : 0 < k → (z : ℕ) → IsLive s z → pos 0 ≤ℤ orient2d_of (at o) (p z) (neighbor k)
   behind some z live_z =
-      let r = convex.right h z live outer live_z in
+      let r = (convex.supports h z live outer live_z).0 in
       let e : suc k ≡ length w = omega (arith, some) in
       let is : h ≡ spin (suc k) = sym (closes (ccw_of s) h w trip) ∙ ap (λ n. turns (ccw_of s) n h) (sym e) in
       let r' : orient2d_of (at o) (neighbor k) (p z) ≤ℤ pos 0 = subst (λ (j : ℕ). orient2d_of (at o) (at (end_of s j)) (p z) ≤ℤ pos 0) is r in
@@ -305,30 +305,24 @@ module _ {V DE UE F : Type 0} (m : Mesh V DE UE F) (mesh : IsMesh m) (triangles 
       ]
 
   module _ (t : Shape) (cut : IsCutOff m.shape t (origin_of m.shape h)) (turned : (x : ℕ) → IsLive t x → IsLive t (rev x)) where
-    Beside : Point → Point → Point → Type 0
-    Beside a b c = (orient2d_of a b c ≤ℤ pos 0) × (orient2d_of a b c ≡ pos 0 → pos 0 ≤ℤ apart_along a b c)
-
-    both : (x z : ℕ) → IsLive t x → face_of t x ≡ 0 → IsLive t z → Beside (at (origin_of t x)) (at (end_of t x)) (at (origin_of t z))
-    unfolding Beside
+    both : (x z : ℕ) → IsLive t x → face_of t x ≡ 0 → IsLive t z → Supports (at (origin_of t x)) (at (end_of t x)) (at (origin_of t z))
     both x z live_x on_x live_z =
         let not_o : origin_of s z ≢ o = λ is. cut.none z live_z (cut.same z live_z ∙ is) in
         let was_z = cut.old z live_z in
-        subst (λ (j : ℕ). Beside (at (origin_of t x)) (at (end_of t x)) (at j)) (sym (cut.same z live_z))
-        (subst (λ (j : ℕ). Beside (at (origin_of t x)) (at j) (p z)) (sym (cut.same (rev x) (turned x live_x)))
-        (subst (λ (j : ℕ). Beside (at j) (at (end_of s x)) (p z)) (sym (cut.same x live_x))
+        subst (λ (j : ℕ). Supports (at (origin_of t x)) (at (end_of t x)) (at j)) (sym (cut.same z live_z))
+        (subst (λ (j : ℕ). Supports (at (origin_of t x)) (at j) (p z)) (sym (cut.same (rev x) (turned x live_x)))
+        (subst (λ (j : ℕ). Supports (at j) (at (end_of s x)) (p z)) (sym (cut.same x live_x))
         (elim (cut.outer x live_x on_x) [
-          | inl was ↦ (convex.right x z (cut.old x live_x) was was_z, convex.between x z (cut.old x live_x) was was_z)
+          | inl was ↦ convex.supports x z (cut.old x live_x) was was_z
           | inr side ↦
               (let f = side_of x side.0 side.1 side.2 side.3 side.4 in
-              subst (λ (j : ℕ). Beside (at j) (at (end_of s x)) (p z)) (sym f.start)
-              (subst (λ (j : ℕ). Beside (neighbor f.i) (at j) (p z)) (sym f.end) (right f.i f.below z was_z not_o, between f.i f.below z was_z not_o)))
+              subst (λ (j : ℕ). Supports (at j) (at (end_of s x)) (p z)) (sym f.start)
+              (subst (λ (j : ℕ). Supports (neighbor f.i) (at j) (p z)) (sym f.end) (right f.i f.below z was_z not_o, between f.i f.below z was_z not_o)))
         ])))
 
     pub cut_convex : IsConvex at t
-    unfolding Beside
     cut_convex = record {
-      right = λ x z live_x on_x live_z. (both x z live_x on_x live_z).0;
-      between = λ x z live_x on_x live_z. (both x z live_x on_x live_z).1;
+      supports = both;
     }
 
     -- an old half edge of the hull doesn't start where a side does, if a triangle is left
@@ -346,7 +340,7 @@ module _ {V DE UE F : Type 0} (m : Mesh V DE UE F) (mesh : IsMesh m) (triangles 
           let u = neighbor (suc i) in
           let q = at (end_of s x) in
           let right_of : (z : ℕ) → IsLive s z → orient2d_of (neighbor (suc i)) (at (end_of s x)) (p z) ≤ℤ pos 0 =
-          λ z live_z. subst (λ (j : ℕ). orient2d_of (at j) (at (end_of s x)) (p z) ≤ℤ pos 0) same (convex.right x z was on_x live_z) in
+          λ z live_z. subst (λ (j : ℕ). orient2d_of (at j) (at (end_of s x)) (p z) ≤ℤ pos 0) same (convex.supports x z was on_x live_z).0 in
           let a = right_of (rev (spin (suc i))) (rev_live (map_of s) (spin (suc i)) (live_spin (suc i))) in
           let b = right_of (rev (spin (suc (suc (suc i))))) (rev_live (map_of s) (spin (suc (suc (suc i)))) (live_spin (suc (suc (suc i))))) in
           let c = right_of h live in

@@ -15,7 +15,7 @@ use Rattle.dcel_maps.proofs.maps.Soundness.{rev_live}
 use Rattle.dcel_maps.proofs.shapes.Maps.{map-sound}
 use Rattle.dcel_maps.proofs.walks.Links.{links_stand, prev-live}
 use Rattle.dcel_maps.proofs.words.Reading.{face-prev}
-use Rattle.dcel_plane.specs.covering.Covering.{IsConvex, IsHull, apart_along}
+use Rattle.dcel_plane.specs.covering.Covering.{IsConvex, IsHull, Supports, apart_along}
 use Rattle.dcel_plane.specs.removal.Wheels.{turns}
 use Rattle.dcel_plane.proofs.covering.Along.{dot_start, long, one_place, placed, sides}
 use Rattle.dcel_plane.proofs.removal.Cutting.{IsCutOff, path_find}
@@ -119,20 +119,16 @@ module _ {V DE UE F : Type 0} (m : Mesh V DE UE F) (mesh : IsMesh m) (triangles 
           }
       by_number (suc (suc n)) below at_n = absurd (omega (arith, below))
 
-  Beside : Point → Point → Point → Type 0
-  Beside x y z = (orient2d_of x y z ≤ℤ pos 0) × (orient2d_of x y z ≡ pos 0 → pos 0 ≤ℤ apart_along x y z)
-
   -- the new side lies along the two old ones
-  along : (z : ℕ) → IsLive s z → origin_of s z ≢ o → Beside (p (prev_of s h)) (at (end_of s h)) (p z)
-  unfolding Beside
+  along : (z : ℕ) → IsLive s z → origin_of s z ≢ o → Supports (p (prev_of s h)) (at (end_of s h)) (p z)
   along z live_z not_o =
       let u = p (prev_of s h) in
       let v = at o in
       let q = at (end_of s h) in
       let flat' : orient2d_of (at o) (p (prev_of s h)) (at (end_of s h)) ≡ pos 0 = subst (λ (j : ℕ). orient2d_of (at o) (at j) (at (end_of s h)) ≡ pos 0) end_a flat in
       let one : orient2d_of (p (prev_of s h)) (at o) (p z) ≤ℤ pos 0 =
-      subst (λ (j : ℕ). orient2d_of (p (prev_of s h)) (at j) (p z) ≤ℤ pos 0) ends_p (convex.right (prev_of s h) z live_p on_p live_z) in
-      let two = convex.right h z live outer live_z in
+      subst (λ (j : ℕ). orient2d_of (p (prev_of s h)) (at j) (p z) ≤ℤ pos 0) ends_p (convex.supports (prev_of s h) z live_p on_p live_z).0 in
+      let two = (convex.supports h z live outer live_z).0 in
       let e = summed (at o) (p (prev_of s h)) (at (end_of s h)) (p z) in
       let f = orient2d-first_swapped (p (prev_of s h)) (at o) (p z) in (
         omega (arith, ordered, e, f, flat', one, two),
@@ -141,8 +137,8 @@ module _ {V DE UE F : Type 0} (m : Mesh V DE UE F) (mesh : IsMesh m) (triangles 
             let on_two : orient2d_of (at o) (at (end_of s h)) (p z) ≡ pos 0 = omega (arith, ordered, e, f, flat', one, two, zero_turn) in
             let before : pos 0 ≤ℤ apart_along (p (prev_of s h)) (at o) (p z) =
             subst (λ (j : ℕ). orient2d_of (p (prev_of s h)) (at j) (p z) ≡ pos 0 → pos 0 ≤ℤ apart_along (p (prev_of s h)) (at j) (p z)) ends_p
-            (convex.between (prev_of s h) z live_p on_p live_z) on_one in
-            let after = convex.between h z live outer live_z on_two in
+            (convex.supports (prev_of s h) z live_p on_p live_z).1 on_one in
+            let after = (convex.supports h z live outer live_z).1 on_two in
             let t = orient2d-turned (at o) (p (prev_of s h)) (at (end_of s h)) in
             let far : pos 0 <ℤ dot (at (end_of s h)) (at (end_of s h)) (p (prev_of s h)) =
             long (at (end_of s h)) (p (prev_of s h)) (λ ex ey. not_closed (hull.distinct (rev h) (prev_of s h) (rev_live (map_of s) h live) live_p ex ey)) in
@@ -160,27 +156,24 @@ module _ {V DE UE F : Type 0} (m : Mesh V DE UE F) (mesh : IsMesh m) (triangles 
           mesh.sound.two_ends (next_of s (ccw_of s h)) tri.live_y (start ∙ sym same ∙ sym end)
 
   module _ (t : Shape) (cut : IsCutOff m.shape t (origin_of m.shape h)) (turned : (x : ℕ) → IsLive t x → IsLive t (rev x)) where
-    both : (x z : ℕ) → IsLive t x → face_of t x ≡ 0 → IsLive t z → Beside (at (origin_of t x)) (at (end_of t x)) (at (origin_of t z))
-    unfolding Beside
+    both : (x z : ℕ) → IsLive t x → face_of t x ≡ 0 → IsLive t z → Supports (at (origin_of t x)) (at (end_of t x)) (at (origin_of t z))
     both x z live_x on_x live_z =
         let not_o : origin_of s z ≢ o = λ is. cut.none z live_z (cut.same z live_z ∙ is) in
         let was_z = cut.old z live_z in
-        subst (λ (j : ℕ). Beside (at (origin_of t x)) (at (end_of t x)) (at j)) (sym (cut.same z live_z))
-        (subst (λ (j : ℕ). Beside (at (origin_of t x)) (at j) (p z)) (sym (cut.same (rev x) (turned x live_x)))
-        (subst (λ (j : ℕ). Beside (at j) (at (end_of s x)) (p z)) (sym (cut.same x live_x))
+        subst (λ (j : ℕ). Supports (at (origin_of t x)) (at (end_of t x)) (at j)) (sym (cut.same z live_z))
+        (subst (λ (j : ℕ). Supports (at (origin_of t x)) (at j) (p z)) (sym (cut.same (rev x) (turned x live_x)))
+        (subst (λ (j : ℕ). Supports (at j) (at (end_of s x)) (p z)) (sym (cut.same x live_x))
         (elim (cut.outer x live_x on_x) [
-          | inl was ↦ (convex.right x z (cut.old x live_x) was was_z, convex.between x z (cut.old x live_x) was was_z)
+          | inl was ↦ convex.supports x z (cut.old x live_x) was was_z
           | inr side ↦
               (let f = side_of x side.0 side.1 side.2 side.3 side.4 in
-              subst (λ (j : ℕ). Beside (at j) (at (end_of s x)) (p z)) (sym f.start)
-              (subst (λ (j : ℕ). Beside (p (prev_of s h)) (at j) (p z)) (sym f.end) (along z was_z not_o)))
+              subst (λ (j : ℕ). Supports (at j) (at (end_of s x)) (p z)) (sym f.start)
+              (subst (λ (j : ℕ). Supports (p (prev_of s h)) (at j) (p z)) (sym f.end) (along z was_z not_o)))
         ])))
 
     pub flat_convex : IsConvex at t
-    unfolding Beside
     flat_convex = record {
-      right = λ x z live_x on_x live_z. (both x z live_x on_x live_z).0;
-      between = λ x z live_x on_x live_z. (both x z live_x on_x live_z).1;
+      supports = both;
     }
 
     old_side : (x : ℕ) → IsLive t x → face_of s x ≡ 0 → origin_of s x ≡ origin_of s (prev_of s h) → ⊥

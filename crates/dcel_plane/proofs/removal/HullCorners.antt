@@ -81,7 +81,7 @@ module _ {V DE UE F : Type 0} (m : Mesh V DE UE F) (mesh : IsMesh m) (triangles 
     ahead = λ i within.
         let out = spoke (suc i) in
         let on_prev : face_of s (prev_of s h) ≡ 0 = face-prev (map_of s) s.words (links_stand mesh.sound) h live ∙ outer in
-        let r = convex.right (prev_of s h) (rev (spin (suc i))) (prev-live mesh.sound h live) on_prev (rev_live (map_of s) (spin (suc i)) out.alive) in
+        let r = (convex.supports (prev_of s h) (rev (spin (suc i))) (prev-live mesh.sound h live) on_prev (rev_live (map_of s) (spin (suc i)) out.alive)).0 in
         let r' : orient2d_of (neighbor 0) (at o) (neighbor i) ≤ℤ pos 0 =
         subst (λ (k : ℕ). orient2d_of (at k) (at o) (neighbor i) ≤ℤ pos 0) (sym (end_next h))
         (subst (λ (k : ℕ). orient2d_of (at (origin_of s (prev_of s h))) (at k) (neighbor i) ≤ℤ pos 0) (ends_before h live) r) in

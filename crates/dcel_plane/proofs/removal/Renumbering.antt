@@ -27,7 +27,7 @@ use Rattle.dcel_maps.proofs.words.Renames.{IsCycle-map}
 use Rattle.dcel_maps.proofs.words.Turns.{IsCycle-turn, count-turn, from_least-turn, length-turn}
 use Rattle.dcel_plane.specs.Plane.{IsCircled, IsInner, IsPlane, ListsCircled, TurnsLeft, origin_point}
 use Rattle.dcel_plane.proofs.edits.Corners.{left-from_least, three_items}
-use Rattle.dcel_plane.specs.covering.Covering.{HasDistinctPoints, IsConvex, IsHull, apart_along}
+use Rattle.dcel_plane.specs.covering.Covering.{HasDistinctPoints, IsConvex, IsHull, Supports, apart_along}
 use Rattle.dcel_plane.specs.hull.Straight.{IsStraight, beyond}
 use Rattle.dcel_plane.proofs.removal.Listing.{}
 use Rattle.dcel_plane.proofs.edits.Moved.{circle_at}
@@ -104,27 +104,21 @@ module _ {V DE UE F : Type 0} (m t : Mesh V DE UE F) (mesh : IsMesh m) (result :
       subst (λ (w : List ℕ). 0 < count_of (half h) w) (sym (leaves.word (face_of s h) live_f)) (omega (arith, moved, turn)) in
       faces_apart (face_of s h) live_f (sym (face_in_word (map_of n) n.words (links_stand result.sound) (half h) (face (face_of s h)) in_word) ∙ on)
 
-  Beside : Point → Point → Point → Type 0
-  Beside a b c = (orient2d_of a b c ≤ℤ pos 0) × (orient2d_of a b c ≡ pos 0 → pos 0 ≤ℤ apart_along a b c)
-
-  both : IsConvex at s → (h k : ℕ) → IsLive n h → face_of n h ≡ 0 → IsLive n k → Beside (after (origin_of n h)) (after (end_of n h)) (after (origin_of n k))
-  unfolding Beside
+  both : IsConvex at s → (h k : ℕ) → IsLive n h → face_of n h ≡ 0 → IsLive n k → Supports (after (origin_of n h)) (after (end_of n h)) (after (origin_of n k))
   both convex h k live on live_k =
       let (i, live_i, is) = leaves.each_half_edge h live in
       let (j, live_j, is_j) = leaves.each_half_edge k live_k in
       let on_i = was_outer i live_i (ap (face_of n) is ∙ on) in
-      subst (λ (l : ℕ). Beside (after (origin_of n l)) (after (end_of n l)) (after (origin_of n k))) is
-      (subst (λ (l : ℕ). Beside (after (origin_of n (half i))) (after (end_of n (half i))) (after (origin_of n l))) is_j
-      (subst (λ (q : Point). Beside q (after (end_of n (half i))) (after (origin_of n (half j)))) (sym (stands_at i live_i))
-      (subst (λ (q : Point). Beside (at (origin_of s i)) q (after (origin_of n (half j)))) (sym (ends_at i live_i))
-      (subst (λ (q : Point). Beside (at (origin_of s i)) (at (end_of s i)) q) (sym (stands_at j live_j))
-      (convex.right i j live_i on_i live_j, convex.between i j live_i on_i live_j)))))
+      subst (λ (l : ℕ). Supports (after (origin_of n l)) (after (end_of n l)) (after (origin_of n k))) is
+      (subst (λ (l : ℕ). Supports (after (origin_of n (half i))) (after (end_of n (half i))) (after (origin_of n l))) is_j
+      (subst (λ (q : Point). Supports q (after (end_of n (half i))) (after (origin_of n (half j)))) (sym (stands_at i live_i))
+      (subst (λ (q : Point). Supports (at (origin_of s i)) q (after (origin_of n (half j)))) (sym (ends_at i live_i))
+      (subst (λ (q : Point). Supports (at (origin_of s i)) (at (end_of s i)) q) (sym (stands_at j live_j))
+      (convex.supports i j live_i on_i live_j)))))
 
   pub renumbered_convex : IsConvex at s → IsConvex after n
-  unfolding Beside
   renumbered_convex convex = record {
-    right = λ h k live on live_k. (both convex h k live on live_k).0;
-    between = λ h k live on live_k. (both convex h k live on live_k).1;
+    supports = both convex;
   }
 
   one_start : HasDistinctPoints at s → (i j : ℕ) → IsLive s i → IsLive s j → (after (origin_of n (half i))).x ≡ (after (origin_of n (half j))).x

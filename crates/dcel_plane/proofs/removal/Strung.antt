@@ -110,9 +110,9 @@ module _ {V DE UE F : Type 0} (m : Mesh V DE UE F) (mesh : IsMesh m) (triangles 
   -- all stand on the line of each half edge
   on_line : (x z : ℕ) → IsLive t x → IsLive t z → orient2d_of (at (origin_of t x)) (at (end_of t x)) (at (origin_of t z)) ≡ pos 0
   on_line x z live_x live_z =
-      let one = convex_after.right x z live_x (bare x live_x) live_z in
+      let one = (convex_after.supports x z live_x (bare x live_x) live_z).0 in
       let back = turned x live_x in
-      let two = convex_after.right (rev x) z back (bare (rev x) back) live_z in
+      let two = (convex_after.supports (rev x) z back (bare (rev x) back) live_z).0 in
       let two' : orient2d_of (at (end_of t x)) (at (origin_of t x)) (at (origin_of t z)) ≤ℤ pos 0 =
       subst (λ (j : ℕ). orient2d_of (at (end_of t x)) (at (origin_of t j)) (at (origin_of t z)) ≤ℤ pos 0) (rev-rev x) two in
       let f = orient2d-first_swapped (at (origin_of t x)) (at (end_of t x)) (at (origin_of t z)) in

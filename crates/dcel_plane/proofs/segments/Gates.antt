@@ -37,7 +37,7 @@ module _ {V DE UE F : Type 0} (m : Mesh V DE UE F) (mesh : IsMesh m) (triangles 
     inner_near = elim (eq-zero-or-pos (face_of s h)) [
       | inr inner ↦ inner
       | inl outer ↦ absurd
-          (let r = subst (λ (k : ℕ). orient2d_of (at (origin_of s h)) (at (end_of s h)) (at k) ≤ℤ pos 0) ends.from_i (convex.right h ends.i crosses.live outer ends.live_i) in
+          (let r = subst (λ (k : ℕ). orient2d_of (at (origin_of s h)) (at (end_of s h)) (at k) ≤ℤ pos 0) ends.from_i (convex.supports h ends.i crosses.live outer ends.live_i).0 in
           let c = crosses.near in
           omega (arith, ordered, r, c))
     ]
@@ -53,7 +53,7 @@ module _ {V DE UE F : Type 0} (m : Mesh V DE UE F) (mesh : IsMesh m) (triangles 
       | inr inner ↦ inner
       | inl outer ↦ absurd
           (let r = subst (λ (k : ℕ). orient2d_of (at (end_of s h)) (at (origin_of s h)) (at k) ≤ℤ pos 0) ends.from_j
-          (subst (λ (i : ℕ). orient2d_of (at (end_of s h)) (at i) (at (origin_of s ends.j)) ≤ℤ pos 0) ends_rev (convex.right (rev h) ends.j live_rev outer ends.live_j)) in
+          (subst (λ (i : ℕ). orient2d_of (at (end_of s h)) (at i) (at (origin_of s ends.j)) ≤ℤ pos 0) ends_rev (convex.supports (rev h) ends.j live_rev outer ends.live_j).0) in
           let e = orient2d-first_swapped (at (origin_of s h)) (at (end_of s h)) (at w) in
           let c = crosses.far in
           omega (arith, ordered, r, e, c))

@@ -118,7 +118,7 @@ module _ {V DE UE F : Type 0} (m : Mesh V DE UE F) (mesh : IsMesh m) (triangles 
       | inr is ↦ is
       | inl outer ↦ absurd
           (let r = subst (λ (i : ℕ). orient2d_of (at v) (at e) (at i) ≤ℤ pos 0) ends.from_j
-          (subst (λ (i : ℕ). orient2d_of (at i) (at e) (at (origin_of s ends.j)) ≤ℤ pos 0) out.from (convex.right k ends.j out.live outer ends.live_j)) in
+          (subst (λ (i : ℕ). orient2d_of (at i) (at e) (at (origin_of s ends.j)) ≤ℤ pos 0) out.from (convex.supports k ends.j out.live outer ends.live_j).0) in
           let a = seen in
           omega (arith, ordered, r, a))
     ]
@@ -210,7 +210,7 @@ module _ {V DE UE F : Type 0} (m : Mesh V DE UE F) (mesh : IsMesh m) (triangles 
       | inr is ↦ is
       | inl outer ↦ absurd
           (let r = subst (λ (i : ℕ). orient2d_of (at e_left) (at v) (at i) ≤ℤ pos 0) ends.from_j
-          (subst (λ (i : ℕ). orient2d_of (at e_left) (at i) (at (origin_of s ends.j)) ≤ℤ pos 0) to_v (convex.right t ends.j live_t outer ends.live_j)) in
+          (subst (λ (i : ℕ). orient2d_of (at e_left) (at i) (at (origin_of s ends.j)) ≤ℤ pos 0) to_v (convex.supports t ends.j live_t outer ends.live_j).0) in
           let a = seen_left in
           omega (arith, ordered, r, a))
     ]
