@@ -10,8 +10,7 @@ use Rattle.dcel_predicates.proofs.Signs.{ordered}
 use Rattle.dcel_maps.specs.Shapes.{IsLive, IsMesh, Mesh, Shape, end_of, face_of, map_of, next_of, origin_of, prev_of}
 use Rattle.dcel_maps.specs.Triangulations.{AllTriangles}
 use Rattle.dcel_maps.proofs.maps.Soundness.{rev_live}
-use Rattle.dcel_maps.proofs.maps.Triangles.{IsTriangleOf, by_triangle, off_triangle}
-use Rattle.dcel_maps.proofs.shapes.Maps.{map-sound}
+use Rattle.dcel_maps.proofs.maps.Triangles.{IsTriangleOf}
 use Rattle.dcel_plane.specs.Plane.{IsLeftOf, IsPlane, LiesAcross, TurnsLeft}
 use Rattle.dcel_plane.proofs.edits.Across.{across_both}
 use Rattle.dcel_plane.proofs.edits.Corners.{left_of_triangle}
@@ -20,7 +19,7 @@ use Rattle.dcel_plane.proofs.covering.Alone.{lies_within, none_inside, none_with
 use Rattle.dcel_plane.proofs.covering.Along.{between_ends, dot, dot_start, long, one_point, placed}
 use Rattle.dcel_plane.proofs.covering.Inside.{on_end, on_start}
 use Rattle.dcel_plane.proofs.covering.Products.{below_times}
-use Rattle.dcel_plane.proofs.covering.Triangles.{meets, turned_triangle, at_word, is_triangle, round}
+use Rattle.dcel_plane.proofs.covering.Triangles.{at_word, is_triangle, meets, of_face, round, turned_triangle}
 
 module _ {V DE UE F : Type 0} (m : Mesh V DE UE F) (mesh : IsMesh m) (triangles : AllTriangles m.shape) (at : ℕ → Point) (plane : IsPlane at m.shape)
     (convex : IsConvex at m.shape) (hull : IsHull at m.shape) where
@@ -40,11 +39,6 @@ module _ {V DE UE F : Type 0} (m : Mesh V DE UE F) (mesh : IsMesh m) (triangles 
     left : TurnsLeft (p x) (p y) (p z)
     left = left_of_triangle at s mesh.sound plane f x y z inner tri
 
-    -- what holds of the three holds of each half edge of the face
-    each_side : (Q : ℕ → Type 0) → Q x → Q y → Q z → (j : ℕ) → IsLive s j → face_of s j ≡ f → Q j
-    each_side Q at_x at_y at_z j live_j on =
-        by_triangle Q x y z j (at_x, at_y, at_z) (λ off. absurd (off_triangle (map_of s) (map-sound mesh.sound) f x y z tri j live_j off on))
-
     left_of : (h b : ℕ) → b ≡ end_of s h → TurnsLeft (p h) (at b) (p k) → IsLeftOf at s (p k) h
     left_of h b is turns = subst (λ (j : ℕ). TurnsLeft (p h) (at j) (p k)) is turns
 
@@ -61,7 +55,7 @@ module _ {V DE UE F : Type 0} (m : Mesh V DE UE F) (mesh : IsMesh m) (triangles 
       | inr facing ↦
           let across : LiesAcross at s x (p k) =
           λ j live_j on_j off.
-          each_side (λ i. i ≢ x → IsLeftOf at s (p k) i) (λ not. absurd (not refl)) (λ not. left_of y (origin_of s z) (meets m mesh f y z x (turned_triangle (map_of s) f x y z tri)) yz) (λ not. left_of z (origin_of s x) (meets m mesh f z x y (turned_triangle (map_of s) f y z x (turned_triangle (map_of s) f x y z tri))) zx) j live_j
+          of_face m mesh f x y z tri (λ i. i ≢ x → IsLeftOf at s (p k) i) (λ not. absurd (not refl)) (λ not. left_of y (origin_of s z) (meets m mesh f y z x (turned_triangle (map_of s) f x y z tri)) yz) (λ not. left_of z (origin_of s x) (meets m mesh f z x y (turned_triangle (map_of s) f y z x (turned_triangle (map_of s) f x y z tri))) zx) j live_j
           (on_j ∙ tri.face_x) off in
           let on' : orient2d_of (p x) (at (end_of s x)) (p k) ≡ pos 0 = subst (λ (j : ℕ). orient2d_of (p x) (at j) (p k) ≡ pos 0) ends_x on in
           let back = rev_live (map_of s) x tri.live_x in

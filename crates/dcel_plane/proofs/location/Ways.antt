@@ -10,15 +10,14 @@ use Rattle.dcel_predicates.proofs.Points.{orient2d-first_swapped, orient2d-last_
 use Rattle.dcel_predicates.proofs.Signs.{ordered, times_positive}
 use Rattle.dcel_maps.specs.Shapes.{IsLive, IsMesh, Mesh, Shape, end_of, face_of, map_of, next_of, origin_of, prev_of}
 use Rattle.dcel_maps.specs.Triangulations.{AllTriangles}
-use Rattle.dcel_maps.proofs.maps.Triangles.{IsTriangleOf, by_triangle, off_triangle}
-use Rattle.dcel_maps.proofs.shapes.Maps.{map-sound}
+use Rattle.dcel_maps.proofs.maps.Triangles.{IsTriangleOf}
 use Rattle.dcel_plane.specs.Plane.{IsLeftOf, IsPlane, LiesInside, TurnsLeft}
 use Rattle.dcel_plane.proofs.edits.Corners.{left_of_triangle}
 use Rattle.dcel_plane.specs.covering.Covering.{Covers, apart_along}
 use Rattle.dcel_plane.proofs.covering.Along.{between_ends, dot, dot_start, first_weight, long, none_first, one_point, second_weight}
 use Rattle.dcel_plane.proofs.covering.Inside.{on_end, on_start, same_place}
 use Rattle.dcel_plane.proofs.covering.Products.{positive_factor}
-use Rattle.dcel_plane.proofs.covering.Triangles.{meets, turned_triangle, round}
+use Rattle.dcel_plane.proofs.covering.Triangles.{meets, of_face, round, turned_triangle}
 use Rattle.dcel_plane.proofs.hull.OneLine.{apart_down, inside_of}
 use Rattle.dcel_plane.specs.location.Locating.{HasCorner, HasEdge, side_of, LiesOn}
 
@@ -98,12 +97,8 @@ module _ {V DE UE F : Type 0} (m : Mesh V DE UE F) (mesh : IsMesh m) (triangles 
     left_of : (h b : ℕ) → b ≡ end_of s h → TurnsLeft (p h) (at b) v → IsLeftOf at s v h
     left_of h b is turns = subst (λ (j : ℕ). TurnsLeft (p h) (at j) v) is turns
 
-    each_side : (Q : ℕ → Type 0) → Q x → Q y → Q z → (j : ℕ) → IsLive s j → face_of s j ≡ f → Q j
-    each_side Q at_x at_y at_z j live_j on =
-        by_triangle Q x y z j (at_x, at_y, at_z) (λ off. absurd (off_triangle (map_of s) (map-sound mesh.sound) f x y z tri j live_j off on))
-
     inside : TurnsLeft (p x) (p y) v → TurnsLeft (p y) (p z) v → TurnsLeft (p z) (p x) v → LiesInside at s f v
-    inside xy yz zx = each_side (IsLeftOf at s v) (left_of x (origin_of s y) to_y xy) (left_of y (origin_of s z) to_z yz) (left_of z (origin_of s x) to_x zx)
+    inside xy yz zx = of_face m mesh f x y z tri (IsLeftOf at s v) (left_of x (origin_of s y) to_y xy) (left_of y (origin_of s z) to_z yz) (left_of z (origin_of s x) to_x zx)
 
     on_side : orient2d_of (p x) (p y) v ≡ pos 0 → TurnsLeft (p y) (p z) v → TurnsLeft (p z) (p x) v → HasEdge at s v f
     on_side on yz zx = record {
@@ -116,7 +111,7 @@ module _ {V DE UE F : Type 0} (m : Mesh V DE UE F) (mesh : IsMesh m) (triangles 
       };
       across =
           λ j live_j on_j off.
-          each_side (λ i. i ≢ x → IsLeftOf at s v i) (λ not. absurd (not refl)) (λ not. left_of y (origin_of s z) to_z yz) (λ not. left_of z (origin_of s x) to_x zx) j live_j
+          of_face m mesh f x y z tri (λ i. i ≢ x → IsLeftOf at s v i) (λ not. absurd (not refl)) (λ not. left_of y (origin_of s z) to_z yz) (λ not. left_of z (origin_of s x) to_x zx) j live_j
           (on_j ∙ tri.face_x) off;
     }
 

@@ -20,10 +20,10 @@ use Rattle.dcel_plane.specs.covering.Covering.{IsConvex, IsHull}
 use Rattle.dcel_plane.specs.covering.Places.{AreDisjoint}
 use Rattle.dcel_plane.specs.removal.Wheels.{IsWheel, turns}
 use Rattle.dcel_plane.proofs.covering.Faces.{disjoint_at, six_corners}
-use Rattle.dcel_plane.proofs.covering.Triangles.{left_at, same_face}
+use Rattle.dcel_plane.proofs.covering.Triangles.{ends_before, left_at, same_face}
 use Rattle.dcel_plane.proofs.removal.Overlapping.{overlap}
 
-turns_first : (f : ℕ → ℕ) (i x : ℕ) → turns f (suc i) x ≡ turns f i (f x)
+pub turns_first : (f : ℕ → ℕ) (i x : ℕ) → turns f (suc i) x ≡ turns f i (f x)
 turns_first f zero x = refl
 turns_first f (suc i) x = ap f (turns_first f i x)
 
@@ -91,13 +91,10 @@ module _ {V DE UE F : Type 0} (m : Mesh V DE UE F) (mesh : IsMesh m) (triangles 
   end_next : (k : ℕ) → end_of s (ccw k) ≡ origin_of s (prev_of s k)
   end_next k = ap (origin_of s) (rev-rev (prev_of s k))
 
-  ends_before : (k : ℕ) → IsLive s k → end_of s (prev_of s k) ≡ origin_of s k
-  ends_before k live_k = sym (mesh.sound.joined (prev_of s k) (prev-live mesh.sound k live_k)) ∙ ap (origin_of s) ((map-sound mesh.sound).next-prev k live_k)
-
   pub out_next : (k : ℕ) → Out k → Out (ccw k)
   out_next k out =
       let live_next : IsLive s (ccw k) = rev_live (map_of s) (prev_of s k) (prev-live mesh.sound k out.alive) in
-      let from_next : origin_of s (ccw k) ≡ o = ends_before k out.alive ∙ out.from in
+      let from_next : origin_of s (ccw k) ≡ o = ends_before m mesh k out.alive ∙ out.from in
       record { alive = live_next; from = from_next; on = inner (ccw k) live_next from_next }
 
   pub out : (i : ℕ) → Out (spin i)
@@ -130,7 +127,7 @@ module _ {V DE UE F : Type 0} (m : Mesh V DE UE F) (mesh : IsMesh m) (triangles 
           | inl is ↦ absurd (mesh.sound.two_ends b out_b.alive (out_b.from ∙ sym out_a.from ∙ ap (origin_of s) is ∙ mesh.sound.joined b out_b.alive))
           | inr is ↦ absurd
               (mesh.sound.two_ends (prev_of s b) (prev-live mesh.sound b out_b.alive)
-              (ap (origin_of s) (sym is) ∙ out_a.from ∙ sym out_b.from ∙ sym (ends_before b out_b.alive)))
+              (ap (origin_of s) (sym is) ∙ out_a.from ∙ sym out_b.from ∙ sym (ends_before m mesh b out_b.alive)))
         ]
       ]
     where

@@ -23,7 +23,8 @@ use Rattle.dcel_plane.proofs.covering.Inside.{on_end, on_start}
 use Rattle.dcel_plane.proofs.segments.Levers.{before_at_end}
 use Rattle.dcel_plane.proofs.segments.Onward.{tail}
 use Rattle.dcel_plane.proofs.removal.Overlapping.{overlap}
-use Rattle.dcel_plane.proofs.segments.Peaks.{ends_of, of_face}
+use Rattle.dcel_plane.proofs.segments.Peaks.{ends_of}
+use Rattle.dcel_plane.proofs.covering.Triangles.{of_face}
 
 module _ {V DE UE F : Type 0} (m : Mesh V DE UE F) (mesh : IsMesh m) (triangles : AllTriangles m.shape) (at : ℕ → Point) (plane : IsPlane at m.shape)
     (convex : IsConvex at m.shape) (hull : IsHull at m.shape) (v w : ℕ) (ends : AreEnds m.shape v w) (clear : IsClear at m.shape v w) where

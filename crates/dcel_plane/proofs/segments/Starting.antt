@@ -23,12 +23,12 @@ use Rattle.dcel_plane.specs.segments.Segments.{AreEnds, BeginsAt, Crosses, IsCha
 use Rattle.dcel_plane.proofs.covering.Along.{long}
 use Rattle.dcel_plane.proofs.covering.Apart.{apart_at}
 use Rattle.dcel_plane.proofs.covering.Faces.{corner_of}
-use Rattle.dcel_plane.proofs.covering.Triangles.{left_at}
+use Rattle.dcel_plane.proofs.covering.Triangles.{left_at, of_face}
 use Rattle.dcel_plane.proofs.segments.Gates.{inner_near}
 use Rattle.dcel_plane.proofs.covering.Inside.{on_end, on_start}
 use Rattle.dcel_plane.proofs.segments.Levers.{all_on_line, holds_left, holds_right, on_left_of, on_right_of}
 use Rattle.dcel_plane.proofs.segments.Onward.{IsFurther, Tail, tail, further_itself}
-use Rattle.dcel_plane.proofs.segments.Peaks.{Joins, of_face}
+use Rattle.dcel_plane.proofs.segments.Peaks.{Joins}
 use Rattle.dcel_plane.proofs.covering.Climbing.{strive}
 use Rattle.dcel_plane.proofs.covering.Along.{dot}
 use Rattle.dcel_plane.proofs.covering.Triangles.{round}
