@@ -1,5 +1,5 @@
 -- Triangles at half edges where the outer face is a convex hull: two are disjoint, and each vertex with an edge is a corner of one.
-use Rattle.std.proofs.Common.{◌≡◌, ◌≢◌, inl, inr, ℕ, ◌<◌, refl, sym, ap, ◌∙◌, subst, ℤ, pos, ◌≤ℤ◌, neg_ℤ, eq-zero-or-pos, arith}
+use Rattle.std.proofs.Common.{◌≡◌, ◌≢◌, inl, inr, ℕ, ◌<◌, refl, sym, ap, ◌∙◌, subst, ℤ, pos, ◌<ℤ◌, ◌≤ℤ◌, neg_ℤ, eq-zero-or-pos, arith}
 use Rattle.dcel_fixed.specs.HalfEdges.{rev}
 use Rattle.dcel_fixed.proofs.Halves.{rev-rev}
 use Rattle.dcel_predicates.specs.Determinants.{orient2d_of}
@@ -54,6 +54,25 @@ module _ {V DE UE F : Type 0} (m : Mesh V DE UE F) (mesh : IsMesh m) (triangles 
     where
       both : (x y : ℤ) → x ≤ℤ pos 0 → y ≤ℤ pos 0 → y ≡ neg_ℤ x → x ≡ pos 0
       both x y hx hy is = omega (arith, ordered, hx, hy, is)
+
+  -- a point on the left of each line that has all vertices there, and the corner of a triangle beside it strictly, lies on the right of the hull
+  pub right_of_hull : (q : Point) (a : ℕ) → IsLive s a → 0 < face_of s a
+      → ((h : ℕ) → ((i : ℕ) → IsLive s i → pos 0 ≤ℤ orient2d_of (p (rev h)) (p h) (p i)) → pos 0 <ℤ orient2d_of (p (rev h)) (p h) (p (prev_of s (rev h)))
+      → pos 0 <ℤ orient2d_of (p (rev h)) (p h) q)
+      → (h : ℕ) → IsLive s h → face_of s h ≡ 0 → orient2d_of (p h) (p (rev h)) q <ℤ pos 0
+  right_of_hull q a live_a inner_a left h live on = elim (eq-zero-or-pos (face_of s (rev h))) [
+    | inl bare ↦ absurd (not_bare h a live on bare live_a inner_a)
+    | inr facing ↦
+        let back = rev_live (map_of s) h live in
+        let ends : origin_of s (next_of s (rev h)) ≡ origin_of s h = mesh.sound.joined (rev h) back ∙ ap (origin_of s) (rev-rev h) in
+        let off : pos 0 <ℤ orient2d_of (p (rev h)) (p h) (p (prev_of s (rev h))) =
+        subst (λ (i : ℕ). pos 0 <ℤ orient2d_of (p (rev h)) (at i) (p (prev_of s (rev h)))) ends (left_at m mesh triangles at plane (rev h) back facing) in
+        let none_right : (i : ℕ) → IsLive s i → pos 0 ≤ℤ orient2d_of (p (rev h)) (p h) (p i) =
+        λ i live_i. let r = (convex.supports h i live on live_i).0 in let o = orient2d-first_swapped (p h) (p (rev h)) (p i) in omega (arith, ordered, r, o) in
+        let is = left h none_right off in
+        let o = orient2d-first_swapped (p h) (p (rev h)) q in
+        omega (arith, ordered, is, o)
+  ]
 
   -- so each vertex with an edge is a corner of a triangle
   pub corner_of : (k h : ℕ) → IsLive s k → IsLive s h → 0 < face_of s h → (i : ℕ) × IsLive s i × (0 < face_of s i) × (origin_of s i ≡ origin_of s k)

@@ -14,20 +14,17 @@ use Rattle.dcel_maps.specs.Cyclic.{from_least}
 use Rattle.dcel_maps.specs.Shapes.{IsLive, IsMesh, Mesh, Shape, end_of, face_of, map_of, origin_of}
 use Rattle.dcel_maps.specs.Words.{become, count_of, word_of}
 use Rattle.dcel_maps.specs.edits.Split.{half_edge_split}
-use Rattle.dcel_maps.proofs.edits.Patches.{Patch}
 use Rattle.dcel_maps.proofs.maps.Soundness.{rev_live}
 use Rattle.dcel_maps.proofs.maps.Triangles.{IsTriangleOf}
-use Rattle.dcel_maps.proofs.walks.Links.{half-below}
 use Rattle.dcel_plane.specs.Plane.{IsPlane, LiesAcross, TurnsLeft}
 use Rattle.dcel_plane.proofs.edits.Corners.{left_of_triangle}
-use Rattle.dcel_plane.proofs.edits.Splits.{seen_after, seen_before, side_triangle}
-use Rattle.dcel_plane.proofs.edits.Written.{IsWritten, origin_away, origin_more}
+use Rattle.dcel_plane.proofs.edits.Splits.{half_more, half_old, half_start, half_words, seen_after, seen_before, side_triangle}
 use Rattle.dcel_plane.specs.covering.Covering.{IsConvex, IsHull, Supports, apart_along}
 use Rattle.dcel_plane.proofs.covering.Along.{IsBetween, between_ends, dot, dot_start, long, placed, sides}
 use Rattle.dcel_plane.proofs.covering.Inside.{on_end, on_start}
 use Rattle.dcel_plane.proofs.hull.Becomes.{in_become, in_outer, of_pair, old_or_new, rev-3, was_live, was_on}
 use Rattle.dcel_plane.proofs.hull.Beside.{supports_end, supports_start, end_beside, other_beside, start_beside}
-use Rattle.dcel_plane.proofs.hull.Keeping.{gains_distinct}
+use Rattle.dcel_plane.proofs.hull.Keeping.{StaysOuter, gains_distinct, gains_once}
 
 module _ {V DE UE F : Type 0} (m : Mesh V DE UE F) (mesh : IsMesh m) (at : ℕ → Point) (plane : IsPlane at m.shape)
     (convex : IsConvex at m.shape) (hull : IsHull at m.shape) (e v : ℕ) (live : IsLive m.shape e) (triangle : IsTriangle m.shape (face_of m.shape e)) (inner : 0 < face_of m.shape e)
@@ -125,33 +122,14 @@ module _ {V DE UE F : Type 0} (m : Mesh V DE UE F) (mesh : IsMesh m) (at : ℕ �
       let l = abc in
       omega (arith, ordered, q, l))
 
-  abbrev words : Patch (List ℕ)
-  words = record {
-    set = (f, from_least (e ∷ (n + 1) ∷ ep ∷ [])) ∷ (g, from_least (become t ((n + 3) ∷ t ∷ []) (word_of s.words g))) ∷ [];
-    more = (en ∷ n ∷ (n + 2) ∷ []) ∷ [];
-  }
-
-  abbrev origins : Patch ℕ
-  origins = record { set = (t, v) ∷ []; more = origin_of s ep ∷ v ∷ v ∷ end ∷ [] }
-
-  written : IsWritten s r words origins
-  written = record {
-    words_are = refl;
-    origins_are = refl;
-    many = mesh.sized.origins;
-    starts_stay = λ h lives inside away. (λ is. away.1.0 (ap (face_of s) is), tt);
-  }
-
   old : (h : ℕ) → IsLive s h → h ≢ t → origin_of s h ≡ origin_of r h
-  old h lives differs = sym (origin_away at s r words origins written mesh.sound h lives (differs, tt))
+  old = half_old m mesh e v live halves edges faces at
 
   from_t : origin_of r t ≡ v
-  from_t =
-      get_or_append_left (slice_set s.origins t v) origins.more 0 t (omega (arith, mesh.sized.origins, half-below s t live_t, length-set s.origins t v))
-      ∙ get_or-set_same s.origins t v 0 (omega (arith, mesh.sized.origins, half-below s t live_t))
+  from_t = half_start m mesh e v live halves edges faces at
 
-  more_at : (k i : ℕ) → k ≡ 2 * s.edges + i → origin_of r k ≡ slice_index origins.more i
-  more_at k i is = origin_more at s r words origins written mesh.sound k i is
+  more_at : (k i : ℕ) → k ≡ 2 * s.edges + i → origin_of r k ≡ slice_index (origin_of s ep ∷ v ∷ v ∷ end ∷ []) i
+  more_at = half_more m mesh e v live halves edges faces at
 
   abbrev outer_items : List ℕ
   outer_items = become t ((n + 3) ∷ t ∷ []) (word_of s.words g)
@@ -161,20 +139,13 @@ module _ {V DE UE F : Type 0} (m : Mesh V DE UE F) (mesh : IsMesh m) (at : ℕ �
       let first = from_least (e ∷ (n + 1) ∷ ep ∷ []) in
       let second = from_least outer_items in
       subst (λ (k : ℕ). word_of r.words k ≡ second) bare
-      (get_or_append_left (slice_set (slice_set s.words f first) g second) words.more [] g
+      (get_or_append_left (slice_set (slice_set s.words f first) g second) (half_words m mesh e v live halves edges faces at).more [] g
       (let k = length-set (slice_set s.words f first) g second in let l = length-set s.words f first in let o = mesh.sized.outer in omega (arith, k, l, o, bare))
       ∙ get_or-set_same (slice_set s.words f first) g second [] (let l = length-set s.words f first in let o = mesh.sized.outer in omega (arith, l, o, bare)))
 
-  -- an outer half edge afterwards: one that stays, or a part of t
-  pub record Stays (h : ℕ) : Type 0 where
-    pub here : IsLive s h
-    pub outer : face_of s h ≡ 0
-    pub off : h ≢ t
-    pub start : origin_of s h ≡ origin_of r h
-    pub end : end_of s h ≡ end_of r h
-
   module _ (result : IsMesh (half_edge_split m e v halves edges faces)) where
-    outer_cases : (h : ℕ) → IsLive r h → face_of r h ≡ 0 → Stays h ⊎ ((h ≡ n + 3) ⊎ (h ≡ t))
+    -- an outer half edge afterwards: one that stays, or a part of t
+    outer_cases : (h : ℕ) → IsLive r h → face_of r h ≡ 0 → StaysOuter s r t h ⊎ ((h ≡ n + 3) ⊎ (h ≡ t))
     outer_cases h live_h on_h =
         let found = in_outer s r mesh.sound result.sound outer_items outer_word h live_h on_h in
         elim (in_become h t ((n + 3) ∷ t ∷ []) (word_of s.words g) found) [
@@ -255,30 +226,5 @@ module _ {V DE UE F : Type 0} (m : Mesh V DE UE F) (mesh : IsMesh m) (at : ℕ �
     pub half_split_hull : IsHull at r
     half_split_hull = record {
       distinct = gains_distinct at s r v starts alone hull.distinct;
-      once = λ h k live_h live_k on_h on_k same.
-          elim (outer_cases h live_h on_h) [
-            | inl was ↦ elim (outer_cases k live_k on_k) [
-              | inl too ↦ hull.once h k was.here too.here was.outer too.outer (was.start ∙ same ∙ sym too.start)
-              | inr part ↦ elim part [
-                | inl is_3 ↦ absurd (was.off (hull.once h t was.here live_t was.outer bare (was.start ∙ same ∙ ap (origin_of r) is_3 ∙ starts_3)))
-                | inr is_t ↦ absurd (not_v h was.here (was.start ∙ same ∙ ap (origin_of r) is_t ∙ from_t))
-              ]
-            ]
-            | inr part_h ↦ elim part_h [
-              | inl h_3 ↦ elim (outer_cases k live_k on_k) [
-                | inl too ↦ absurd (too.off (hull.once k t too.here live_t too.outer bare (too.start ∙ sym same ∙ ap (origin_of r) h_3 ∙ starts_3)))
-                | inr part ↦ elim part [
-                  | inl is_3 ↦ h_3 ∙ sym is_3
-                  | inr is_t ↦ absurd (not_v t live_t (sym starts_3 ∙ sym (ap (origin_of r) h_3) ∙ same ∙ ap (origin_of r) is_t ∙ from_t))
-                ]
-              ]
-              | inr h_t ↦ elim (outer_cases k live_k on_k) [
-                | inl too ↦ absurd (not_v k too.here (too.start ∙ sym same ∙ ap (origin_of r) h_t ∙ from_t))
-                | inr part ↦ elim part [
-                  | inl is_3 ↦ absurd (not_v t live_t (sym starts_3 ∙ sym (ap (origin_of r) is_3) ∙ sym same ∙ ap (origin_of r) h_t ∙ from_t))
-                  | inr is_t ↦ h_t ∙ sym is_t
-                ]
-              ]
-            ]
-          ];
+      once = gains_once at s r t v (n + 3) t hull live_t bare not_v outer_cases starts_3 from_t;
     }

@@ -57,6 +57,39 @@ gains_distinct at s n v starts alone distinct h k live_h live_k =
     of_start : (P : ℕ → Type 0) → P v → ((j : ℕ) → IsLive s j → P (origin_of s j)) → (k : ℕ) → IsLive n k → P (origin_of n k)
     of_start P new was k live = elim (starts k live) [ inl is ↦ subst P (sym is) new | inr found ↦ subst P found.2 (was found.0 found.1) ]
 
+-- an outer half edge that stays, and isn't e
+pub record StaysOuter (s n : Shape) (e h : ℕ) : Type 0 where
+  pub here : IsLive s h
+  pub outer : face_of s h ≡ 0
+  pub off : h ≢ e
+  pub start : origin_of s h ≡ origin_of n h
+  pub end : end_of s h ≡ end_of n h
+
+-- where two half edges come for e, i from where it starts and j from v, where no vertex was, the outer face passes each vertex once still
+module _ (at : ℕ → Point) (s n : Shape) (e v i j : ℕ) (hull : IsHull at s) (live : IsLive s e) (on : face_of s e ≡ 0) (not_v : (k : ℕ) → IsLive s k → origin_of s k ≢ v)
+    (cases : (h : ℕ) → IsLive n h → face_of n h ≡ 0 → StaysOuter s n e h ⊎ ((h ≡ i) ⊎ (h ≡ j))) (starts_i : origin_of n i ≡ origin_of s e) (starts_j : origin_of n j ≡ v) where
+  not_both : (h k : ℕ) → StaysOuter s n e h → (k ≡ i) ⊎ (k ≡ j) → origin_of n h ≡ origin_of n k → ⊥
+  not_both h k was (inl is) same = was.off (hull.once h e was.here live was.outer on (was.start ∙ same ∙ ap (origin_of n) is ∙ starts_i))
+  not_both h k was (inr is) same = not_v h was.here (was.start ∙ same ∙ ap (origin_of n) is ∙ starts_j)
+
+  not_one : (h k : ℕ) → h ≡ i → k ≡ j → origin_of n h ≡ origin_of n k → ⊥
+  not_one h k is_i is_j same = not_v e live (sym starts_i ∙ sym (ap (origin_of n) is_i) ∙ same ∙ ap (origin_of n) is_j ∙ starts_j)
+
+  pub gains_once : (h k : ℕ) → IsLive n h → IsLive n k → face_of n h ≡ 0 → face_of n k ≡ 0 → origin_of n h ≡ origin_of n k → h ≡ k
+  gains_once h k live_h live_k on_h on_k same = elim (cases h live_h on_h) [
+    | inl was ↦ elim (cases k live_k on_k) [
+      | inl too ↦ hull.once h k was.here too.here was.outer too.outer (was.start ∙ same ∙ sym too.start)
+      | inr new ↦ absurd (not_both h k was new same)
+    ]
+    | inr new_h ↦ elim (cases k live_k on_k) [
+      | inl too ↦ absurd (not_both k h too new_h (sym same))
+      | inr new ↦ elim new_h [
+        | inl h_i ↦ elim new [ inl k_i ↦ h_i ∙ sym k_i | inr k_j ↦ absurd (not_one h k h_i k_j same) ]
+        | inr h_j ↦ elim new [ inl k_i ↦ absurd (not_one k h k_i h_j (sym same)) | inr k_j ↦ h_j ∙ sym k_j ]
+      ]
+    ]
+  ]
+
 -- where the outer face's word stays, each outer half edge was one
 pub same_outer : (s n : Shape) → IsSound s → IsSound n → word_of n.words 0 ≡ word_of s.words 0 → (h : ℕ) → IsLive n h → face_of n h ≡ 0 → IsLive s h × (face_of s h ≡ 0)
 same_outer s n sound sound_after same h live on =

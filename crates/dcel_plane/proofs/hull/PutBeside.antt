@@ -25,7 +25,7 @@ use Rattle.dcel_plane.proofs.covering.Triangles.{left_at, round}
 use Rattle.dcel_plane.specs.hull.Closing.{IsClosing, IsThick, IsThin, Sees, SeesAfter, SeesBefore}
 use Rattle.dcel_plane.specs.hull.Straight.{IsStraight, beyond}
 use Rattle.dcel_plane.proofs.hull.Becomes.{in_become, in_outer, of_pair, old_or_new, out_outer, put_in, rev-2, rev-3, still_live, was_live, was_on}
-use Rattle.dcel_plane.proofs.hull.Keeping.{gains_distinct}
+use Rattle.dcel_plane.proofs.hull.Keeping.{StaysOuter, gains_distinct, gains_once}
 
 module _ {V DE UE F : Type 0} (m : Mesh V DE UE F) (mesh : IsMesh m) (at : ℕ → Point)
     (convex : IsConvex at m.shape) (e v : ℕ) (live : IsLive m.shape e) (on : face_of m.shape e ≡ 0)
@@ -89,16 +89,9 @@ module _ {V DE UE F : Type 0} (m : Mesh V DE UE F) (mesh : IsMesh m) (at : ℕ �
       (let l = length-set s.words f (from_least outer_items) in let o = mesh.sized.outer in omega (arith, l, o, on))
       ∙ get_or-set_same s.words f (from_least outer_items) [] (let o = mesh.sized.outer in omega (arith, o, on)))
 
-  -- an outer half edge afterwards: one that stays, or one of the two at v
-  pub record Stays (h : ℕ) : Type 0 where
-    pub here : IsLive s h
-    pub outer : face_of s h ≡ 0
-    pub off : h ≢ e
-    pub start : origin_of s h ≡ origin_of r h
-    pub end : end_of s h ≡ end_of r h
-
   module _ (result : IsMesh (face_put_beside m e v halves edges faces)) where
-    outer_cases : (h : ℕ) → IsLive r h → face_of r h ≡ 0 → Stays h ⊎ ((h ≡ n + 3) ⊎ (h ≡ n + 1))
+    -- an outer half edge afterwards: one that stays, or one of the two at v
+    outer_cases : (h : ℕ) → IsLive r h → face_of r h ≡ 0 → StaysOuter s r e h ⊎ ((h ≡ n + 3) ⊎ (h ≡ n + 1))
     outer_cases h live_h on_h =
         let found = in_outer s r mesh.sound result.sound outer_items outer_word h live_h on_h in
         elim (in_become h e ((n + 3) ∷ (n + 1) ∷ []) (word_of s.words f) found) [
@@ -220,26 +213,7 @@ module _ {V DE UE F : Type 0} (m : Mesh V DE UE F) (mesh : IsMesh m) (at : ℕ �
     pub beside_hull : IsHull at s → IsHull at r
     beside_hull hull = record {
       distinct = gains_distinct at s r v starts alone hull.distinct;
-      once = λ h k live_h live_k on_h on_k same.
-          elim (outer_cases h live_h on_h) [
-            | inl was ↦ elim (outer_cases k live_k on_k) [
-              | inl too ↦ hull.once h k was.here too.here was.outer too.outer (was.start ∙ same ∙ sym too.start)
-              | inr part ↦ elim part [
-                | inl three ↦ absurd (was.off (hull.once h e was.here live was.outer on (was.start ∙ same ∙ ap (origin_of r) three ∙ starts_3)))
-                | inr one ↦ absurd (not_v h was.here (was.start ∙ same ∙ ap (origin_of r) one ∙ starts_1))
-              ]
-            ]
-            | inr part_h ↦ elim part_h [
-              | inl h_3 ↦ elim (outer_cases k live_k on_k) [
-                | inl too ↦ absurd (too.off (hull.once k e too.here live too.outer on (too.start ∙ sym same ∙ ap (origin_of r) h_3 ∙ starts_3)))
-                | inr part ↦ elim part [
-                  | inl three ↦ h_3 ∙ sym three
-                  | inr one ↦ absurd (not_v e live (sym starts_3 ∙ sym (ap (origin_of r) h_3) ∙ same ∙ ap (origin_of r) one ∙ starts_1))
-                ]
-              ]
-              | inr h_1 ↦ h_1 ∙ sym (is_1 k live_k on_k (sym same ∙ ap (origin_of r) h_1 ∙ starts_1))
-            ]
-          ];
+      once = gains_once at s r e v (n + 3) (n + 1) hull live on not_v outer_cases starts_3 starts_1;
     }
 
     -- the old vertices don't all lie on one line, if there was a triangle
