@@ -15,8 +15,8 @@ use Rattle.dcel_plane.specs.covering.Covering.{apart_along}
 use Rattle.dcel_plane.specs.segments.Segments.{AreEnds, BeginsAt, Crosses, HasSides, HasSidesOf, IsChannel, IsPlanar, offset}
 use Rattle.dcel_plane.proofs.segments.Gates.{far, near}
 use Rattle.dcel_plane.proofs.segments.Onward.{on_line}
-use Rattle.dcel_plane.proofs.segments.Peaks.{of_face}
 use Rattle.dcel_plane.proofs.segments.Walking.{Comes, comes_first, comes_left, comes_right, comes_to_end, few}
+use Rattle.dcel_plane.proofs.covering.Triangles.{of_face}
 use Rattle.dcel_constrained.specs.Meeting.{HasCome, IsMetAfter, ListsStill}
 use Rattle.dcel_constrained.specs.declared.walking.Met.TheVariants.{Side, Vertex}
 

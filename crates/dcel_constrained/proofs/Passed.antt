@@ -26,8 +26,9 @@ use Rattle.dcel_plane.specs.segments.Segments.{AreEnds, Crosses, IsChannel, IsCl
 use Rattle.dcel_plane.proofs.segments.Channels.{all_cross, leads_on}
 use Rattle.dcel_plane.proofs.segments.Gates.{far, inner_far, inner_near, left_far, near}
 use Rattle.dcel_plane.proofs.segments.Levers.{inside_left, inside_right}
-use Rattle.dcel_plane.proofs.segments.Peaks.{ends_of, of_face}
+use Rattle.dcel_plane.proofs.segments.Peaks.{ends_of}
 use Rattle.dcel_plane.proofs.segments.Walking.{Comes, one_more}
+use Rattle.dcel_plane.proofs.covering.Triangles.{of_face}
 use Rattle.dcel_constrained.specs.Meeting.{LiesBetween}
 use Rattle.dcel_constrained.proofs.Between.{crosses_before, factor_below, lies_far, lies_not_end, lies_not_start, side_of, to_left_later, to_left_sooner, to_right_later, to_right_sooner}
 use Rattle.dcel_constrained.proofs.Passing.{none_in}

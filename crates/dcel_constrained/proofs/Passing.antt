@@ -17,10 +17,9 @@ use Rattle.dcel_plane.proofs.covering.Along.{dot, long}
 use Rattle.dcel_plane.proofs.covering.Apart.{apart_at}
 use Rattle.dcel_plane.proofs.covering.Faces.{disjoint_at, not_bare}
 use Rattle.dcel_plane.proofs.covering.Inside.{on_end, on_start}
-use Rattle.dcel_plane.proofs.covering.Triangles.{left_at, round}
+use Rattle.dcel_plane.proofs.covering.Triangles.{left_at, of_face, round}
 use Rattle.dcel_plane.specs.segments.Segments.{AreEnds, Crosses, IsPlanar, corner_before, offset}
 use Rattle.dcel_plane.proofs.segments.Gates.{inner_far, inner_near, left_near}
-use Rattle.dcel_plane.proofs.segments.Peaks.{of_face}
 use Rattle.dcel_constrained.specs.Meeting.{LiesBetween}
 use Rattle.dcel_constrained.proofs.Between.{crosses_parts}
 use Rattle.dcel_constrained.proofs.Crossings.{edges_apart, on_edge_in}

@@ -1,13 +1,16 @@
 -- Points on a line: in what order they lie along it, when they are one, and that a triangle's corners aren't on one.
-use Rattle.std.proofs.Common.{◌≡◌, ◌⊎◌, inl, inr, [], ◌∷◌, ℤ, pos, ◌+ℤ◌, ◌-ℤ◌, ◌*ℤ◌, ◌<ℤ◌, ◌≤ℤ◌, refl, ap, ◌∙◌, arith}
+use Rattle.std.proofs.Common.{◌≡◌, ◌⊎◌, inl, inr, ℕ, [], ◌∷◌, ℤ, pos, ◌+ℤ◌, ◌-ℤ◌, ◌*ℤ◌, ◌<ℤ◌, ◌≤ℤ◌, refl, sym, ap, ◌∙◌, arith}
 use Rattle.std.proofs.lemmas.Int.{by_lt_z}
 use Rattle.std.proofs.Math.IntN.{*ℤ_comm, *ℤ-zero}
+use Rattle.dcel_fixed.specs.HalfEdges.{rev}
 use Rattle.dcel_predicates.specs.Determinants.{orient2d_of}
 use Rattle.dcel_predicates.specs.declared.point.Point.{Point}
 use Rattle.dcel_predicates.proofs.Ring.{Term, by_terms, minus, num, plus, times as by}
 use Rattle.dcel_predicates.proofs.Signs.{both_negative, ordered, square, times, times_negative, times_positive}
 use Rattle.dcel_predicates.proofs.Terms.{Spot, orient, spot, orient_in}
-use Rattle.dcel_plane.specs.covering.Covering.{apart_along}
+use Rattle.dcel_maps.specs.Shapes.{IsLive, IsSound, Shape, end_of, map_of, origin_of}
+use Rattle.dcel_maps.proofs.maps.Soundness.{rev_live}
+use Rattle.dcel_plane.specs.covering.Covering.{HasDistinctPoints, apart_along}
 use Rattle.dcel_plane.specs.covering.Places.{Place, orient_at}
 use Rattle.dcel_plane.proofs.covering.Inside.{weighed}
 use Rattle.dcel_plane.proofs.covering.Products.{no_weights, below_times, square_zero, times_below}
@@ -36,6 +39,12 @@ long a b differ =
     let zx = square_zero (a.x -ℤ b.x) (omega (arith, ordered, not, sx, sy)) in
     let zy = square_zero (a.y -ℤ b.y) (omega (arith, ordered, not, sx, sy)) in
     differ (omega (arith, ordered, zx)) (omega (arith, ordered, zy))))
+
+-- so half edges have a length where vertices stand at different points
+pub edges_long : (at : ℕ → Point) (s : Shape) → IsSound s → HasDistinctPoints at s → (h : ℕ) → IsLive s h
+    → pos 0 <ℤ dot (at (end_of s h)) (at (end_of s h)) (at (origin_of s h))
+edges_long at s sound distinct h live =
+    long (at (end_of s h)) (at (origin_of s h)) (λ ex ey. sound.two_ends h live (sym (distinct (rev h) h (rev_live (map_of s) h live) live ex ey)))
 
 -- v lies on the line from b to a, strictly between them
 pub record IsBetween (b a v : Point) : Type 0 where

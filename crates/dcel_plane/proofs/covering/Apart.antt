@@ -1,5 +1,5 @@
 -- No vertex lies in a triangle or on its border but its corners.
-use Rattle.std.proofs.Common.{◌≡◌, ◌≢◌, inl, inr, ℕ, ◌<◌, refl, sym, ap, ◌∙◌, subst, ℤ, pos, ◌-ℤ◌, ◌<ℤ◌, ◌≤ℤ◌, eq-zero-or-pos, arith}
+use Rattle.std.proofs.Common.{◌≡◌, ◌≢◌, inl, inr, ℕ, ◌<◌, refl, sym, ap, ◌∙◌, subst, pos, ◌-ℤ◌, ◌<ℤ◌, ◌≤ℤ◌, eq-zero-or-pos, arith}
 use Rattle.std.proofs.lemmas.Int.{by_lt_z}
 use Rattle.dcel_fixed.specs.HalfEdges.{rev}
 use Rattle.dcel_fixed.proofs.Halves.{rev-rev}
@@ -18,7 +18,7 @@ use Rattle.dcel_plane.specs.covering.Covering.{Covers, IsApart, IsConvex, IsHull
 use Rattle.dcel_plane.proofs.covering.Alone.{lies_within, none_inside, none_within}
 use Rattle.dcel_plane.proofs.covering.Along.{between_ends, dot, dot_start, long, one_point, placed}
 use Rattle.dcel_plane.proofs.covering.Inside.{on_end, on_start}
-use Rattle.dcel_plane.proofs.covering.Products.{below_times}
+use Rattle.dcel_plane.proofs.covering.Products.{below_times, zero_of}
 use Rattle.dcel_plane.proofs.covering.Triangles.{at_word, is_triangle, meets, of_face, round, turned_triangle}
 
 module _ {V DE UE F : Type 0} (m : Mesh V DE UE F) (mesh : IsMesh m) (triangles : AllTriangles m.shape) (at : ℕ → Point) (plane : IsPlane at m.shape)
@@ -106,9 +106,6 @@ module _ {V DE UE F : Type 0} (m : Mesh V DE UE F) (mesh : IsMesh m) (triangles 
       (λ zx. not_on_side f x y z tri inner k live_k (zero_of (orient2d_of (p x) (p y) (p k)) covers.0 no_xy) yz zx)
       (λ no_zx. not_x (at_corner f z x y tri_z inner k live_k (zero_of (orient2d_of (p z) (p x) (p k)) covers.2 no_zx) (zero_of (orient2d_of (p x) (p y) (p k)) covers.0 no_xy))))
       (λ no_yz. not_y (at_corner f x y z tri inner k live_k (zero_of (orient2d_of (p x) (p y) (p k)) covers.0 no_xy) (zero_of (orient2d_of (p y) (p z) (p k)) covers.1 no_yz))))
-    where
-      zero_of : (o : ℤ) → pos 0 ≤ℤ o → o ≤ℤ pos 0 → o ≡ pos 0
-      zero_of o more less = omega (arith, ordered, more, less)
 
   -- of a half edge
   pub apart_at : (h : ℕ) → IsLive s h → 0 < face_of s h → (k : ℕ) → IsLive s k → origin_of s k ≢ origin_of s h → origin_of s k ≢ origin_of s (next_of s h)

@@ -47,6 +47,13 @@ square_zero x none =
     by_lt_z x (pos 0) (λ less. absurd (let t = square_positive x less in omega (arith, ordered, t, none)))
     (λ not. by_lt_z (pos 0) x (λ more. absurd (let t = times_positive x x more more in omega (arith, ordered, t, none))) (λ nor. omega (arith, ordered, not, nor)))
 
+-- numbers that aren't above 0, and those that aren't below it either
+pub not_above : (x : ℤ) → ¬ (pos 0 <ℤ x) → x ≤ℤ pos 0
+not_above x not = by_lt_z (pos 0) x (λ is. absurd (not is)) (λ no. no)
+
+pub zero_of : (x : ℤ) → pos 0 ≤ℤ x → x ≤ℤ pos 0 → x ≡ pos 0
+zero_of x more less = omega (arith, ordered, more, less)
+
 -- a weighted sum
 pub sum_not_below : (t u k l m x y z : ℤ) → t *ℤ u ≡ ((k *ℤ x) +ℤ (l *ℤ y)) +ℤ (m *ℤ z) → pos 0 <ℤ u
     → pos 0 ≤ℤ k → pos 0 ≤ℤ l → pos 0 ≤ℤ m → pos 0 ≤ℤ x → pos 0 ≤ℤ y → pos 0 ≤ℤ z → pos 0 ≤ℤ t

@@ -1,8 +1,7 @@
 -- Where the vertices of a mesh stand matters, and where other numbers would stand does not.
-use Rattle.std.proofs.Common.{◌≡◌, ℕ, ◌+◌, ◌*◌, ◌<◌, List, [], ◌∷◌, length, sym, ap, ◌∙◌, subst, pos, ◌<ℤ◌, arith}
+use Rattle.std.proofs.Common.{◌≡◌, ℕ, ◌+◌, ◌*◌, ◌<◌, List, [], ◌∷◌, length, sym, ap, ◌∙◌, subst, arith}
 use Rattle.std.proofs.lemmas.List.{get_or-append-add, get_or_append_left}
 use Rattle.dcel_predicates.specs.declared.point.Point.{Point}
-use Rattle.dcel_predicates.specs.Determinants.{incircle_of}
 use Rattle.dcel_maps.specs.edits.Create.{vertex_appended}
 use Rattle.dcel_maps.specs.Shapes.{IsLive, IsMesh, IsSound, Mesh, Shape, map_of, origin_of, prev_of}
 use Rattle.dcel_maps.specs.Words.{count_of}
@@ -12,14 +11,7 @@ use Rattle.dcel_maps.proofs.walks.Links.{links_stand}
 use Rattle.dcel_maps.proofs.words.Counts.{count-later, count-same}
 use Rattle.dcel_maps.proofs.words.Reading.{live_in}
 use Rattle.dcel_plane.specs.Plane.{IsCircled, IsInner, IsPlane, ListsCircled, TurnsLeft, origin_point, point_at}
-
--- four points by other names
-pub circle_at : {a b c d p q r t : Point} → a ≡ p → b ≡ q → c ≡ r → d ≡ t → pos 0 <ℤ incircle_of a b c d → pos 0 <ℤ incircle_of p q r t
-circle_at {a} {b} {c} {d} {p} {q} {r} {t} ea eb ec ed inside =
-    subst (λ (k : Point). pos 0 <ℤ incircle_of p q r k) ed
-    (subst (λ (k : Point). pos 0 <ℤ incircle_of p q k d) ec
-    (subst (λ (k : Point). pos 0 <ℤ incircle_of p k c d) eb
-    (subst (λ (k : Point). pos 0 <ℤ incircle_of k b c d) ea inside)))
+use Rattle.dcel_plane.proofs.edits.Written.{circle_at}
 
 module _ (at to : ℕ → Point) (s : Shape) (sound : IsSound s) (same : (v : ℕ) → v < s.vertices → at v ≡ to v) where
   stands_same : (h : ℕ) → IsLive s h → at (origin_of s h) ≡ to (origin_of s h)

@@ -23,13 +23,17 @@ replaced-away : (l : List ℕ) (cs : List (ℕ × ℕ)) (k : ℕ) → Untouched 
 replaced-away l [] k away = refl
 replaced-away l (c ∷ r) k away = replaced-away (slice_set l c.0 c.1) r k away.1 ∙ get_or-set_other l c.0 k c.1 0 away.0
 
+-- four points by other names
+pub circle_at : {a b c d p q r t : Point} → a ≡ p → b ≡ q → c ≡ r → d ≡ t → pos 0 <ℤ incircle_of a b c d → pos 0 <ℤ incircle_of p q r t
+circle_at {a} {b} {c} {d} {p} {q} {r} {t} ea eb ec ed inside =
+    subst (λ (k : Point). pos 0 <ℤ incircle_of p q r k) ed
+    (subst (λ (k : Point). pos 0 <ℤ incircle_of p q k d) ec
+    (subst (λ (k : Point). pos 0 <ℤ incircle_of p k c d) eb
+    (subst (λ (k : Point). pos 0 <ℤ incircle_of k b c d) ea inside)))
+
 pub circle_are : (at : ℕ → Point) {a b c d a' b' c' d' : ℕ} → a ≡ a' → b ≡ b' → c ≡ c' → d ≡ d' → pos 0 <ℤ incircle_of (at a) (at b) (at c) (at d)
     → pos 0 <ℤ incircle_of (at a') (at b') (at c') (at d')
-circle_are at {a} {b} {c} {d} {a'} {b'} {c'} {d'} ea eb ec ed inside =
-    subst (λ (k : ℕ). pos 0 <ℤ incircle_of (at a') (at b') (at c') (at k)) ed
-    (subst (λ (k : ℕ). pos 0 <ℤ incircle_of (at a') (at b') (at k) (at d)) ec
-    (subst (λ (k : ℕ). pos 0 <ℤ incircle_of (at a') (at k) (at c) (at d)) eb
-    (subst (λ (k : ℕ). pos 0 <ℤ incircle_of (at k) (at b) (at c) (at d)) ea inside)))
+circle_are at ea eb ec ed = circle_at (ap at ea) (ap at eb) (ap at ec) (ap at ed)
 
 -- The shape n has the words and origins of s with some of them replaced and some put at the end, where half edges of faces whose word stays
 -- start where they did.

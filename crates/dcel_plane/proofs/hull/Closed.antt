@@ -15,7 +15,7 @@ use Rattle.dcel_maps.proofs.shapes.Maps.{map-sound}
 use Rattle.dcel_maps.proofs.walks.Links.{links_stand, next-live, prev-live}
 use Rattle.dcel_maps.proofs.words.Reading.{face-next, face-prev}
 use Rattle.dcel_plane.specs.covering.Covering.{IsConvex, IsHull, apart_along}
-use Rattle.dcel_plane.proofs.covering.Along.{dot, long, one_point}
+use Rattle.dcel_plane.proofs.covering.Along.{dot, edges_long, long, one_point}
 use Rattle.dcel_plane.proofs.covering.Inside.{on_end, on_start}
 use Rattle.dcel_plane.specs.hull.Closing.{IsClosed, IsClosing, IsThick}
 use Rattle.dcel_plane.proofs.hull.Corners.{back_at_end, back_at_start, last_with}
@@ -72,7 +72,7 @@ module _ {V DE UE F : Type 0} (m : Mesh V DE UE F) (mesh : IsMesh m) (at : ℕ �
 
   -- half edges have a length
   far : (h : ℕ) → IsLive s h → pos 0 <ℤ dot (e h) (e h) (p h)
-  far h live = long (e h) (p h) (λ ex ey. mesh.sound.two_ends h live (sym (hull.distinct (rev h) h (rev_live (map_of s) h live) live ex ey)))
+  far = edges_long at s mesh.sound hull.distinct
 
   far_from : (h : ℕ) (v : ℕ) → IsLive s h → origin_of s h ≡ v → pos 0 <ℤ dot (e h) (e h) (at v)
   far_from h v live is = subst (λ (i : ℕ). pos 0 <ℤ dot (e h) (e h) (at i)) is (far h live)

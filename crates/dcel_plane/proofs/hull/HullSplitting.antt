@@ -20,7 +20,7 @@ use Rattle.dcel_plane.specs.Plane.{IsPlane, LiesAcross, TurnsLeft}
 use Rattle.dcel_plane.proofs.edits.Corners.{left_of_triangle}
 use Rattle.dcel_plane.proofs.edits.Splits.{half_more, half_old, half_start, half_words, seen_after, seen_before, side_triangle}
 use Rattle.dcel_plane.specs.covering.Covering.{IsConvex, IsHull, Supports, apart_along}
-use Rattle.dcel_plane.proofs.covering.Along.{IsBetween, between_ends, dot, dot_start, long, placed, sides}
+use Rattle.dcel_plane.proofs.covering.Along.{IsBetween, between_ends, dot, dot_start, edges_long, placed, sides}
 use Rattle.dcel_plane.proofs.covering.Inside.{on_end, on_start}
 use Rattle.dcel_plane.proofs.hull.Becomes.{in_become, in_outer, of_pair, old_or_new, rev-3, was_live, was_on}
 use Rattle.dcel_plane.proofs.hull.Beside.{supports_end, supports_start, end_beside, other_beside, start_beside}
@@ -61,8 +61,7 @@ module _ {V DE UE F : Type 0} (m : Mesh V DE UE F) (mesh : IsMesh m) (at : ℕ �
 
   -- half edges have a length
   far : (h : ℕ) → IsLive s h → pos 0 <ℤ dot (at (end_of s h)) (at (end_of s h)) (p h)
-  far h live_h =
-      long (at (end_of s h)) (p h) (λ ex ey. mesh.sound.two_ends h live_h (sym (hull.distinct (rev h) h (rev_live (map_of s) h live_h) live_h ex ey)))
+  far = edges_long at s mesh.sound hull.distinct
 
   ends_t : end_of s t ≡ origin_of s e
   ends_t = ap (origin_of s) (rev-rev e)

@@ -8,9 +8,9 @@ use Rattle.dcel_fixed.proofs.Halves.{rev-rev}
 use Rattle.dcel_predicates.specs.Determinants.{orient2d_of}
 use Rattle.dcel_predicates.specs.declared.point.Point.{Point}
 use Rattle.dcel_predicates.proofs.Points.{orient2d-turned}
-use Rattle.dcel_predicates.proofs.Ring.{by_terms, minus, num, plus, times as by}
+use Rattle.dcel_predicates.proofs.Ring.{Term, by_terms, minus, num, plus, times as by}
 use Rattle.dcel_predicates.proofs.Signs.{ordered, times_negative, times_positive}
-use Rattle.dcel_predicates.proofs.Terms.{spot}
+use Rattle.dcel_predicates.proofs.Terms.{Spot, spot}
 use Rattle.dcel_maps.specs.Maps.{By, Reaches, ccw}
 use Rattle.dcel_maps.specs.Maps.Reaches.{go, here}
 use Rattle.dcel_maps.specs.Shapes.{IsLive, IsMesh, Mesh, Shape, end_of, face_of, map_of, next_of, origin_of, prev_of}
@@ -21,7 +21,7 @@ use Rattle.dcel_maps.proofs.walks.Links.{links_stand, next-live, prev-live}
 use Rattle.dcel_maps.proofs.words.Reading.{face-prev}
 use Rattle.dcel_plane.specs.Plane.{IsPlane}
 use Rattle.dcel_plane.proofs.edits.Corners.{left_of_triangle}
-use Rattle.dcel_plane.proofs.covering.Along.{by_place, dot, dot_start, long, no_height, none_first, one_place}
+use Rattle.dcel_plane.proofs.covering.Along.{by_place, dot, dot_in, dot_start, edges_long, no_height, none_first, one_place}
 use Rattle.dcel_plane.proofs.covering.Inside.{on_end, on_start}
 use Rattle.dcel_plane.proofs.covering.Triangles.{round}
 use Rattle.dcel_plane.specs.hull.Closing.{IsClosing, IsThin}
@@ -40,11 +40,18 @@ opposite u z q a far on_q on_a less_q less_a =
     by_lt_z (pos 0) (dot q a u) (λ more. more)
     (λ not. absurd (let n = times_negative (dot z z u) (dot q a u) (omega (arith, ordered, far)) not in omega (arith, ordered, e, h, p, n)))
 
+abbrev pub beyond_in : Spot → Spot → Spot → Term
+beyond_in a b c = plus (by (minus b.x a.x) (minus c.x b.x)) (by (minus b.y a.y) (minus c.y b.y))
+
+-- beyond an end, by the place along the line
+pub past_end : (b a q : Point) → beyond b a q ≡ dot q a b -ℤ dot a a b
+past_end b a q =
+    by_terms (a.x ∷ a.y ∷ b.x ∷ b.y ∷ q.x ∷ q.y ∷ []) (beyond_in (spot 1) (spot 0) (spot 2)) (minus (dot_in (spot 2) (spot 0) (spot 1)) (dot_in (spot 0) (spot 0) (spot 1))) refl
+
 pub back_dot : (a u z : Point) → beyond a u z +ℤ dot a z u ≡ pos 0
 back_dot a u z =
     by_terms (a.x ∷ a.y ∷ u.x ∷ u.y ∷ z.x ∷ z.y ∷ [])
-    (plus (plus (by (minus (spot 1).x (spot 0).x) (minus (spot 2).x (spot 1).x)) (by (minus (spot 1).y (spot 0).y) (minus (spot 2).y (spot 1).y)))
-    (plus (by (minus (spot 0).x (spot 1).x) (minus (spot 2).x (spot 1).x)) (by (minus (spot 0).y (spot 1).y) (minus (spot 2).y (spot 1).y)))) (num (pos 0)) refl
+    (plus (beyond_in (spot 0) (spot 1) (spot 2)) (dot_in (spot 0) (spot 2) (spot 1))) (num (pos 0)) refl
 
 -- z beyond u, on a line that has t on its left
 pub further : (a u z t : Point) → pos 0 <ℤ dot u u a → orient2d_of a u z ≡ pos 0 → pos 0 <ℤ orient2d_of a u t → pos 0 <ℤ beyond a u z → pos 0 <ℤ orient2d_of u z t
@@ -94,7 +101,7 @@ module _ {V DE UE F : Type 0} (m : Mesh V DE UE F) (mesh : IsMesh m) (triangles 
   e h = at (end_of s h)
 
   pub far : (h : ℕ) → IsLive s h → pos 0 <ℤ dot (e h) (e h) (p h)
-  far h live = long (e h) (p h) (λ ex ey. mesh.sound.two_ends h live (sym (thin.distinct (rev h) h (rev_live (map_of s) h live) live ex ey)))
+  far = edges_long at s mesh.sound thin.distinct
 
   -- the only half edge that starts where it starts
   pub alone_there : (g k : ℕ) → IsLive s g → IsLive s k → prev_of s g ≡ rev g → origin_of s k ≡ origin_of s g → k ≡ g

@@ -1,5 +1,5 @@
 -- So at the end of a closing from a line the outer face is a convex hull: all old half edges on the new vertex's side are closed away.
-use Rattle.std.proofs.Common.{◌≡◌, ◌≢◌, ◌⊎◌, inl, inr, ℕ, [], ◌∷◌, refl, sym, ap, ◌∙◌, subst, ℤ, pos, ◌+ℤ◌, ◌-ℤ◌, ◌*ℤ◌, ◌<ℤ◌, ◌≤ℤ◌, arith}
+use Rattle.std.proofs.Common.{◌≡◌, ◌≢◌, ◌⊎◌, inl, inr, ℕ, sym, ap, ◌∙◌, subst, ℤ, pos, ◌+ℤ◌, ◌-ℤ◌, ◌*ℤ◌, ◌<ℤ◌, ◌≤ℤ◌, arith}
 use Rattle.std.proofs.lemmas.Bool.{cases_eq}
 use Rattle.std.proofs.lemmas.Int.{by_lt_z}
 use Rattle.std.proofs.Math.IntN.{*ℤ_comm}
@@ -8,9 +8,7 @@ use Rattle.dcel_fixed.proofs.Halves.{rev-rev}
 use Rattle.dcel_predicates.specs.Determinants.{orient2d_of}
 use Rattle.dcel_predicates.specs.declared.point.Point.{Point}
 use Rattle.dcel_predicates.proofs.Points.{orient2d-first_swapped}
-use Rattle.dcel_predicates.proofs.Ring.{by_terms, minus, plus, times as by}
 use Rattle.dcel_predicates.proofs.Signs.{ordered, times_positive}
-use Rattle.dcel_predicates.proofs.Terms.{spot}
 use Rattle.dcel_maps.specs.Shapes.{IsLive, IsMesh, Mesh, Shape, end_of, face_of, map_of, next_of, origin_of, prev_of}
 use Rattle.dcel_maps.specs.Triangulations.{AllTriangles}
 use Rattle.dcel_maps.proofs.maps.Soundness.{rev_live}
@@ -30,13 +28,6 @@ use Rattle.dcel_plane.proofs.hull.Ends.{closed_by}
 use Rattle.dcel_plane.proofs.hull.Thin as after
 use Rattle.dcel_plane.proofs.hull.ThinBefore as before
 
-on_from : (a u y : Point) → beyond a u y ≡ dot y u a -ℤ dot u u a
-on_from a u y =
-    by_terms (a.x ∷ a.y ∷ u.x ∷ u.y ∷ y.x ∷ y.y ∷ [])
-    (plus (by (minus (spot 1).x (spot 0).x) (minus (spot 2).x (spot 1).x)) (by (minus (spot 1).y (spot 0).y) (minus (spot 2).y (spot 1).y)))
-    (minus (plus (by (minus (spot 2).x (spot 0).x) (minus (spot 1).x (spot 0).x)) (by (minus (spot 2).y (spot 0).y) (minus (spot 1).y (spot 0).y)))
-    (plus (by (minus (spot 1).x (spot 0).x) (minus (spot 1).x (spot 0).x)) (by (minus (spot 1).y (spot 0).y) (minus (spot 1).y (spot 0).y)))) refl
-
 -- y stands at u where it isn't beyond it, nor before it
 at_point : (a u y t : Point) → pos 0 <ℤ dot u u a → orient2d_of a u y ≡ pos 0 → pos 0 <ℤ orient2d_of a u t → orient2d_of u y t ≡ pos 0 → (y.x ≡ u.x) × (y.y ≡ u.y)
 at_point a u y t far on seen none =
@@ -46,7 +37,7 @@ at_point a u y t far on seen none =
     let o = none_second (dot u u a) (orient2d_of u y t) none in
     let c = *ℤ_comm (beyond a u y) (orient2d_of a u t) in
     let zero_beyond = nothing (beyond a u y) (orient2d_of a u t) (dot u u a *ℤ orient2d_of u y t) (orient2d_of a u y *ℤ g) e n o seen in
-    let f = on_from a u y in
+    let f = after.past_end a u y in
     one_place a u y u far on (on_start a u) (omega (arith, ordered, zero_beyond, f))
   where
     nothing : (d w k m : ℤ) → k ≡ (d *ℤ w) -ℤ m → m ≡ pos 0 → k ≡ pos 0 → pos 0 <ℤ w → d ≡ pos 0
@@ -63,7 +54,7 @@ at_point_before b r z t far_b on seen none =
     let o = none_second (dot r r b) (orient2d_of r z t) none in
     let w = orient2d-first_swapped r b t in
     let zero_beyond = nothing (beyond b r z) (orient2d_of b r t) (dot r r b *ℤ orient2d_of r z t) (orient2d_of b r z *ℤ g) e n o (omega (arith, ordered, w, seen)) in
-    let f = on_from b r z in
+    let f = after.past_end b r z in
     one_place b r z r far_b on (on_start b r) (omega (arith, ordered, zero_beyond, f))
   where
     nothing : (d w k m : ℤ) → k ≡ (d *ℤ w) -ℤ m → m ≡ pos 0 → k ≡ pos 0 → w <ℤ pos 0 → d ≡ pos 0
@@ -174,7 +165,7 @@ module _ {V DE UE F : Type 0} (m : Mesh V DE UE F) (mesh : IsMesh m) (triangles 
       (λ not. by_lt_z (dot (p i) (e j) (e i)) (pos 0)
       (λ less. let up = after.further (p i) (e i) (e j) (at t) (far i seen.live) on_z seen.seen (omega (arith, ordered, back, less)) in omega (arith, ordered, up, unseen))
       (λ nor.
-      let f = on_from (p i) (e i) (e j) in
+      let f = after.past_end (p i) (e i) (e j) in
       let one = one_place (p i) (e i) (e j) (e i) (far i seen.live) on_z (on_start (p i) (e i)) (omega (arith, ordered, f, back, not, nor)) in
       mesh.sound.two_ends j live_j
       (sym (thin.distinct (rev j) j back_j live_j (one.0 ∙ ap (λ (k : ℕ). (at k).x) (sym joined)) (one.1 ∙ ap (λ (k : ℕ). (at k).y) (sym joined))))))
@@ -240,7 +231,7 @@ module _ {V DE UE F : Type 0} (m : Mesh V DE UE F) (mesh : IsMesh m) (triangles 
       (λ not. by_lt_z (dot (e h) (e k) (p h)) (pos 0)
       (λ less. absurd (let up = after.further (e h) (p h) (e k) (at t) far_y on_back strict (omega (arith, ordered, back, less)) in omega (arith, ordered, up, down_k)))
       (λ nor. absurd
-      (let f = on_from (e h) (p h) (e k) in
+      (let f = after.past_end (e h) (p h) (e k) in
       let one = one_place (e h) (p h) (e k) (p h) far_y on_back (on_start (e h) (p h)) (omega (arith, ordered, f, back, not, nor)) in
       mesh.sound.two_ends k live_k
       (sym (thin.distinct (rev k) k back_k live_k (one.0 ∙ ap (λ (i : ℕ). (at i).x) same) (one.1 ∙ ap (λ (i : ℕ). (at i).y) same))))))

@@ -17,7 +17,7 @@ use Rattle.dcel_plane.proofs.covering.Circles.{no_vertex_inside}
 use Rattle.dcel_plane.proofs.covering.Cones.{nothing}
 use Rattle.dcel_plane.proofs.covering.Faces.{corner_of}
 use Rattle.dcel_plane.proofs.covering.Inside.{as_place, on_end, on_start, place_of}
-use Rattle.dcel_plane.proofs.covering.Products.{factor_not_below}
+use Rattle.dcel_plane.proofs.covering.Products.{factor_not_below, not_above}
 use Rattle.dcel_plane.proofs.covering.Starts.{by_starts, inner_half, out_of}
 use Rattle.dcel_plane.proofs.covering.Triangles.{at_half, left_at, round}
 use Rattle.dcel_plane.specs.hull.Straight.{IsStraight, beyond}
@@ -92,12 +92,9 @@ module _ {V DE UE F : Type 0} (m : Mesh V DE UE F) (mesh : IsMesh m) (at : ℕ �
         in_angle (p x) (p (next_of s x)) (p b) (p k) q (left_at m mesh known.triangles at known.delaunay.plane x live inner) first second
         (at_half m mesh known.triangles (λ i j l. incircle_of (p i) (p j) (p l) (p k) ≤ℤ pos 0)
         (λ i j l holds. subst (λ z. z ≤ℤ pos 0) (sym (incircle-turned (p i) (p j) (p l) (p k))) holds)
-        (λ f i j l inner_f is. not_inside (incircle_of (p i) (p j) (p l) (p k)) ((no_vertex_inside m mesh known.triangles at known.delaunay known.convex known.hull).empty f i j l k inner_f is live_k))
+        (λ f i j l inner_f is. not_above (incircle_of (p i) (p j) (p l) (p k)) ((no_vertex_inside m mesh known.triangles at known.delaunay known.convex known.hull).empty f i j l k inner_f is live_k))
         x live inner)
         near_a near_b
-      where
-        not_inside : (z : ℤ) → ¬ (pos 0 <ℤ z) → z ≤ℤ pos 0
-        not_inside z not = by_lt_z (pos 0) z (λ more. absurd (not more)) (λ none. none)
 
     -- the triangles of the vertex leave out no direction in which a vertex lies
     by_angles : (x k : ℕ) → IsLive s x → 0 < face_of s x → IsLive s k → HasNoNearerNeighbor at s q (origin_of s x) → lift_of (p x) q ≤ℤ lift_of (p k) q

@@ -7,9 +7,9 @@ use Rattle.dcel_fixed.proofs.Halves.{rev-rev}
 use Rattle.dcel_predicates.specs.Determinants.{orient2d_of}
 use Rattle.dcel_predicates.specs.declared.point.Point.{Point}
 use Rattle.dcel_predicates.proofs.Points.{orient2d-first_swapped}
-use Rattle.dcel_predicates.proofs.Ring.{Term, by_terms, minus, plus, times as by}
+use Rattle.dcel_predicates.proofs.Ring.{by_terms}
 use Rattle.dcel_predicates.proofs.Signs.{ordered, square}
-use Rattle.dcel_predicates.proofs.Terms.{Spot, spot}
+use Rattle.dcel_predicates.proofs.Terms.{spot}
 use Rattle.dcel_maps.specs.Conditions.{IsLineEnd}
 use Rattle.dcel_maps.specs.Maps.{By, ccw}
 use Rattle.dcel_maps.specs.Shapes.{IsLive, IsMesh, Mesh, Shape, end_of, map_of, next_of, origin_of, prev_of}
@@ -21,26 +21,15 @@ use Rattle.dcel_maps.proofs.shapes.Maps.{map-sound}
 use Rattle.dcel_maps.proofs.walks.Returning.{length-live}
 use Rattle.dcel_maps.proofs.words.Counts.{count-equal, count-none, count-other, first_or_later}
 use Rattle.dcel_plane.specs.covering.Covering.{apart_along}
-use Rattle.dcel_plane.proofs.covering.Along.{dot, dot_start, long, one_place}
+use Rattle.dcel_plane.proofs.covering.Along.{dot, dot_in, dot_start, edges_long, one_place}
 use Rattle.dcel_plane.proofs.covering.Inside.{on_end, on_start}
 use Rattle.dcel_plane.specs.hull.Straight.{IsStraight, beyond}
 use Rattle.dcel_plane.proofs.hull.OneLine.{apart_up, near_down, on_line, past_down}
-use Rattle.dcel_plane.proofs.hull.Thin.{back_dot}
+use Rattle.dcel_plane.proofs.hull.Thin.{back_dot, past_end}
 use Rattle.dcel_plane.specs.location.Locating.{HasPlace, LiesBeyond, LiesOn, Passes, StandsAt, side_of}
-
-abbrev dot_in : Spot → Spot → Spot → Term
-dot_in a b c = plus (by (minus a.x c.x) (minus b.x c.x)) (by (minus a.y c.y) (minus b.y c.y))
-
-abbrev beyond_in : Spot → Spot → Spot → Term
-beyond_in a b c = plus (by (minus b.x a.x) (minus c.x b.x)) (by (minus b.y a.y) (minus c.y b.y))
 
 pub dot_swapped : (a b c : Point) → dot a b c ≡ dot b a c
 dot_swapped a b c = by_terms (a.x ∷ a.y ∷ b.x ∷ b.y ∷ c.x ∷ c.y ∷ []) (dot_in (spot 0) (spot 1) (spot 2)) (dot_in (spot 1) (spot 0) (spot 2)) refl
-
--- beyond an end, by the place along the line
-pub past_end : (b a q : Point) → beyond b a q ≡ dot q a b -ℤ dot a a b
-past_end b a q =
-    by_terms (a.x ∷ a.y ∷ b.x ∷ b.y ∷ q.x ∷ q.y ∷ []) (beyond_in (spot 1) (spot 0) (spot 2)) (minus (dot_in (spot 2) (spot 0) (spot 1)) (dot_in (spot 0) (spot 0) (spot 1))) refl
 
 pub before_start : (b a q : Point) → beyond a b q +ℤ dot q a b ≡ pos 0
 before_start b a q = let e = back_dot a b q in let c = dot_swapped a q b in omega (arith, ordered, e, c)
@@ -76,7 +65,7 @@ module _ {V DE UE F : Type 0} (m : Mesh V DE UE F) (mesh : IsMesh m) (at : ℕ �
   back h live = rev_live (map_of s) h live
 
   pub far : (h : ℕ) → IsLive s h → pos 0 <ℤ dot (e h) (e h) (p h)
-  far h live = long (e h) (p h) (λ ex ey. mesh.sound.two_ends h live (straight.distinct h (rev h) live (back h live) (sym ex) (sym ey)))
+  far = edges_long at s mesh.sound straight.distinct
 
   pub on_too : (h k : ℕ) → IsLive s h → IsLive s k → orient2d_of (p h) (e h) (e k) ≡ pos 0
   on_too h k live live_k = straight.line h (rev k) live (back k live_k)

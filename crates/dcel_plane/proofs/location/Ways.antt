@@ -16,7 +16,7 @@ use Rattle.dcel_plane.proofs.edits.Corners.{left_of_triangle}
 use Rattle.dcel_plane.specs.covering.Covering.{Covers, apart_along}
 use Rattle.dcel_plane.proofs.covering.Along.{between_ends, dot, dot_start, first_weight, long, none_first, one_point, second_weight}
 use Rattle.dcel_plane.proofs.covering.Inside.{on_end, on_start, same_place}
-use Rattle.dcel_plane.proofs.covering.Products.{positive_factor}
+use Rattle.dcel_plane.proofs.covering.Products.{positive_factor, zero_of}
 use Rattle.dcel_plane.proofs.covering.Triangles.{meets, of_face, round, turned_triangle}
 use Rattle.dcel_plane.proofs.hull.OneLine.{apart_down, inside_of}
 use Rattle.dcel_plane.specs.location.Locating.{HasCorner, HasEdge, side_of, LiesOn}
@@ -143,9 +143,6 @@ module _ {V DE UE F : Type 0} (m : Mesh V DE UE F) (mesh : IsMesh m) (triangles 
       (λ zx. inr (inl (on_side f x y z tri inner (zero_of (orient2d_of (p x) (p y) v) covers.0 no_xy) yz zx)))
       (λ no_zx. inr (inr (at_second f z x y tri_z inner (zero_of (orient2d_of (p z) (p x) v) covers.2 no_zx) (zero_of (orient2d_of (p x) (p y) v) covers.0 no_xy)))))
       (λ no_yz. inr (inr (at_second f x y z tri inner (zero_of (orient2d_of (p x) (p y) v) covers.0 no_xy) (zero_of (orient2d_of (p y) (p z) v) covers.1 no_yz)))))
-    where
-      zero_of : (o : ℤ) → pos 0 ≤ℤ o → o ≤ℤ pos 0 → o ≡ pos 0
-      zero_of o more less = omega (arith, ordered, more, less)
 
   -- by the tests on the sides
   covers_by : (h : ℕ) → (live : IsLive s h) → (inner : 0 < face_of s h) → pos 0 ≤ℤ side_of at s h v → pos 0 ≤ℤ side_of at s (next_of s h) v → pos 0 ≤ℤ side_of at s (prev_of s h) v

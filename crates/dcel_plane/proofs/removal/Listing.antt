@@ -10,7 +10,7 @@ use Rattle.dcel_maps.proofs.walks.Links.{links_stand, prev-live, prev-said}
 use Rattle.dcel_maps.proofs.words.Counts.{count-append}
 use Rattle.dcel_maps.proofs.words.Reading.{face_in_word, live_in, stands_in_face}
 use Rattle.dcel_plane.specs.Plane.{IsCircled, IsInner, ListsCircled}
-use Rattle.dcel_plane.proofs.edits.Moved.{circle_at}
+use Rattle.dcel_plane.proofs.edits.Written.{circle_at}
 
 -- the shape t has of s what stays live, with its origins
 module _ (s t : Shape) (sound : IsSound s) (after : IsSound t) (starts : (x : ℕ) → IsLive s x → IsLive t x → origin_of t x ≡ origin_of s x) where

@@ -30,7 +30,7 @@ use Rattle.dcel_plane.proofs.edits.Corners.{left-from_least, three_items}
 use Rattle.dcel_plane.specs.covering.Covering.{HasDistinctPoints, IsConvex, IsHull, Supports, apart_along}
 use Rattle.dcel_plane.specs.hull.Straight.{IsStraight, beyond}
 use Rattle.dcel_plane.proofs.removal.Listing.{}
-use Rattle.dcel_plane.proofs.edits.Moved.{circle_at}
+use Rattle.dcel_plane.proofs.edits.Written.{circle_at}
 
 -- three points by other names
 three_points : (P : Point → Point → Point → Type 0) → {a b c x y z : Point} → a ≡ x → b ≡ y → c ≡ z → P a b c → P x y z
