@@ -12,7 +12,7 @@ use Rattle.dcel_maps.specs.Words.{TurnsTo, word_of}
 use Rattle.dcel_maps.proofs.Liveness.{is_live-past}
 use Rattle.dcel_maps.proofs.words.Turns.{length-turn, turns_to_itself}
 use Rattle.dcel_plane.proofs.edits.Corners.{turned_along}
-use Rattle.dcel_plane.specs.covering.Covering.{Covers, apart_along}
+use Rattle.dcel_plane.specs.covering.Covering.{Covers, CoversHull, apart_along}
 use Rattle.dcel_plane.specs.covering.Delaunay.{HasCorners, IsCovered, IsDelaunayTriangulation, LiesInHull}
 use Rattle.dcel_plane.specs.covering.Places.{AreDisjoint, IsIn, Place, orient_at}
 use Rattle.dcel_plane.proofs.covering.Apart.{mesh_apart}
@@ -42,6 +42,58 @@ in_or_out a b c p =
     (λ first. by_lt_z (orient_at b c p) (pos 0) (λ out. inr (λ lies. let i = lies.1 in omega (arith, ordered, i, out)))
     (λ second. by_lt_z (orient_at c a p) (pos 0) (λ out. inr (λ lies. let i = lies.2 in omega (arith, ordered, i, out)))
     (λ third. inl (first, second, third))))
+
+-- where it can't be that a place of the hull lies in no face, a search over the faces finds one that covers it
+module _ {V DE UE F : Type 0} (m : Mesh V DE UE F) (mesh : IsMesh m) (at : ℕ → Point) (pl : Place) where
+  -- a word of three that has the place in it
+  abbrev Holds : List ℕ → Type 0
+  Holds (x ∷ y ∷ z ∷ []) = IsIn (at (origin_of m.shape x)) (at (origin_of m.shape y)) (at (origin_of m.shape z)) pl
+  Holds _ = ⊥
+
+  holds_or_not : (w : List ℕ) → Holds w ⊎ (Holds w → ⊥)
+  holds_or_not [] = inr (λ no. no)
+  holds_or_not (x ∷ []) = inr (λ no. no)
+  holds_or_not (x ∷ y ∷ []) = inr (λ no. no)
+  holds_or_not (x ∷ y ∷ z ∷ []) = in_or_out (at (origin_of m.shape x)) (at (origin_of m.shape y)) (at (origin_of m.shape z)) pl
+  holds_or_not (x ∷ y ∷ z ∷ k ∷ w) = inr (λ no. no)
+
+  abbrev Covering : ℕ → Type 0
+  Covering f = (0 < f) × Holds (word_of m.shape.words f)
+
+  covering_or_not : (f : ℕ) → Covering f ⊎ (Covering f → ⊥)
+  covering_or_not f = elim (eq-zero-or-pos f) [
+    | inl outer ↦ inr (λ covering. let inner = covering.0 in omega (arith, inner, outer))
+    | inr inner ↦ elim (holds_or_not (word_of m.shape.words f)) [ inl holds ↦ inl (inner, holds) | inr not ↦ inr (λ covering. not covering.1) ]
+  ]
+
+  covered_by : (f : ℕ) → 0 < f → (w : List ℕ) → word_of m.shape.words f ≡ w → Holds w → IsCovered at m.shape pl
+  covered_by f inner [] is holds = absurd holds
+  covered_by f inner (x ∷ []) is holds = absurd holds
+  covered_by f inner (x ∷ y ∷ []) is holds = absurd holds
+  covered_by f inner (x ∷ y ∷ z ∷ []) is holds = record {
+    face = f;
+    a = origin_of m.shape x;
+    b = origin_of m.shape y;
+    c = origin_of m.shape z;
+    corners = record {
+      inner = inner;
+      starts = subst (λ (w : List ℕ). TurnsTo (map (origin_of m.shape) w) (origin_of m.shape x ∷ origin_of m.shape y ∷ origin_of m.shape z ∷ [])) (sym is) (turns_to_itself (origin_of m.shape x ∷ origin_of m.shape y ∷ origin_of m.shape z ∷ []));
+    };
+    lies = holds;
+  }
+  covered_by f inner (x ∷ y ∷ z ∷ k ∷ w) is holds = absurd holds
+
+  pub covered_in : CoversHull at m.shape → (h : ℕ) × IsLive m.shape h × (0 < face_of m.shape h) → LiesInHull at m.shape pl → IsCovered at m.shape pl
+  covered_in covers half within = elim (searched Covering covering_or_not (face_count m.shape)) [
+    | inl found ↦ covered_by found.0 found.1.0 (word_of m.shape.words found.0) refl found.1.1
+    | inr none ↦
+        absurd
+        (covers.covered pl half.0 half.1 half.2 within
+        (λ f x y z inner is lies. elim (cases_lt f (face_count m.shape)) [
+          | inl below ↦ none f below (inner, subst Holds (sym is) lies)
+          | inr past ↦ subst Holds (sym is ∙ mesh.sound.bare f (is_live-past (gives_up_face m.shape.removal) (face_count m.shape) f past)) lies
+        ]))
+  ]
 
 -- a face by its corners
 module _ (s : Shape) (f a b c : ℕ) (corners : HasCorners s f a b c) where
@@ -116,58 +168,8 @@ module _ {V DE UE F : Type 0} (m : Mesh V DE UE F) (mesh : IsMesh m) (at : ℕ �
         ]
       ]) v below)
 
-  module _ (pl : Place) where
-    -- a word of three that has the place in it
-    abbrev Holds : List ℕ → Type 0
-    Holds (x ∷ y ∷ z ∷ []) = IsIn (p x) (p y) (p z) pl
-    Holds _ = ⊥
-
-    holds_or_not : (w : List ℕ) → Holds w ⊎ (Holds w → ⊥)
-    holds_or_not [] = inr (λ no. no)
-    holds_or_not (x ∷ []) = inr (λ no. no)
-    holds_or_not (x ∷ y ∷ []) = inr (λ no. no)
-    holds_or_not (x ∷ y ∷ z ∷ []) = in_or_out (p x) (p y) (p z) pl
-    holds_or_not (x ∷ y ∷ z ∷ k ∷ w) = inr (λ no. no)
-
-    abbrev Covering : ℕ → Type 0
-    Covering f = (0 < f) × Holds (word_of s.words f)
-
-    covering_or_not : (f : ℕ) → Covering f ⊎ (Covering f → ⊥)
-    covering_or_not f = elim (eq-zero-or-pos f) [
-      | inl outer ↦ inr (λ covering. let inner = covering.0 in omega (arith, inner, outer))
-      | inr inner ↦ elim (holds_or_not (word_of s.words f)) [ inl holds ↦ inl (inner, holds) | inr not ↦ inr (λ covering. not covering.1) ]
-    ]
-
-    covered_by : (f : ℕ) → 0 < f → (w : List ℕ) → word_of s.words f ≡ w → Holds w → IsCovered at s pl
-    covered_by f inner [] is holds = absurd holds
-    covered_by f inner (x ∷ []) is holds = absurd holds
-    covered_by f inner (x ∷ y ∷ []) is holds = absurd holds
-    covered_by f inner (x ∷ y ∷ z ∷ []) is holds = record {
-      face = f;
-      a = origin_of s x;
-      b = origin_of s y;
-      c = origin_of s z;
-      corners = record {
-        inner = inner;
-        starts = subst (λ (w : List ℕ). TurnsTo (map (origin_of s) w) (origin_of s x ∷ origin_of s y ∷ origin_of s z ∷ [])) (sym is) (turns_to_itself (origin_of s x ∷ origin_of s y ∷ origin_of s z ∷ []));
-      };
-      lies = holds;
-    }
-    covered_by f inner (x ∷ y ∷ z ∷ k ∷ w) is holds = absurd holds
-
-    -- a search over the faces finds one that covers the place
-    pub covered : LiesInHull at s pl → IsCovered at s pl
-    covered within = elim (searched Covering covering_or_not (face_count s)) [
-      | inl found ↦ covered_by found.0 found.1.0 (word_of s.words found.0) refl found.1.1
-      | inr none ↦
-          let half = inner_half m mesh known.closed known.inner in
-          absurd
-          ((covers_hull m mesh known.triangles at known.delaunay).covered pl half.0 half.1 half.2 within
-          (λ f x y z inner is lies. elim (cases_lt f (face_count s)) [
-            | inl below ↦ none f below (inner, subst Holds (sym is) lies)
-            | inr past ↦ subst Holds (sym is ∙ mesh.sound.bare f (is_live-past (gives_up_face s.removal) (face_count s) f past)) lies
-          ]))
-    ]
+  pub covered : (pl : Place) → LiesInHull at s pl → IsCovered at s pl
+  covered pl = covered_in m mesh at pl (covers_hull m mesh known.triangles at known.delaunay) (inner_half m mesh known.closed known.inner)
 
   -- each vertex is a corner of an inner face
   pub cornered : (v : ℕ) → v < s.vertices → (f : ℕ) × (b : ℕ) × (c : ℕ) × HasCorners s f v b c

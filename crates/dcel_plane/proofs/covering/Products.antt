@@ -39,6 +39,11 @@ pub zero_factor : (x y : ℤ) → pos 0 <ℤ x → pos 0 ≤ℤ y → (x *ℤ y)
 zero_factor x y more not none =
     by_lt_z (pos 0) y (λ is. absurd (let t = times_positive x y more is in omega (arith, ordered, t, none))) (λ least. omega (arith, ordered, least, not))
 
+pub factor_none : (x y : ℤ) → pos 0 <ℤ x → x *ℤ y ≡ pos 0 → y ≡ pos 0
+factor_none x y more zero =
+    by_lt_z (pos 0) y (λ above. absurd (let t = times_positive x y more above in omega (arith, ordered, t, zero)))
+    (λ not. by_lt_z y (pos 0) (λ below. absurd (let t = times_below x y more below in omega (arith, ordered, t, zero))) (λ nor. omega (arith, ordered, not, nor)))
+
 pub not_below_factor : (x y : ℤ) → pos 0 <ℤ y → pos 0 ≤ℤ (x *ℤ y) → pos 0 ≤ℤ x
 not_below_factor x y more product = factor_not_below y x more (omega (arith, ordered, *ℤ_comm x y))
 
