@@ -16,7 +16,7 @@ use Rattle.dcel_maps.proofs.words.Reading.{stands_in_face}
 use Rattle.dcel_predicates.specs.declared.point.Point.{Point}
 use Rattle.dcel_predicates.specs.Determinants.{orient2d_of}
 use Rattle.dcel_predicates.proofs.Signs.{ordered}
-use Rattle.dcel_plane.specs.Plane.{IsLeftOf, IsPlane, point_at}
+use Rattle.dcel_plane.specs.Plane.{IsLeftOf, TrianglesTurnLeft, point_at}
 use Rattle.dcel_plane.proofs.edits.Written.{IsWritten, origin_more}
 use Rattle.dcel_plane.specs.covering.Covering.{IsConvex}
 use Rattle.dcel_plane.proofs.covering.Inside.{on_end}
@@ -65,7 +65,7 @@ module _ {DE UE F : Type 0} where
       subst (λ (v : ℕ). IsLeftOf (point_at m) m.shape (point_at m v) e) back turns in
       omega (arith, ordered, none, at_start)
 
-  module _ (m : Mesh Point DE UE F) (mesh : IsMesh m) (triangles : AllTriangles m.shape) (plane : IsPlane (point_at m) m.shape) (e : ℕ) (live : IsLive m.shape e)
+  module _ (m : Mesh Point DE UE F) (mesh : IsMesh m) (triangles : AllTriangles m.shape) (plane : TrianglesTurnLeft (point_at m) m.shape) (e : ℕ) (live : IsLive m.shape e)
       (on : face_of m.shape e ≡ 0) (turns : TurnsIn m e) (halves : List DE) (edges : List UE) (faces : List F)
       (result : IsMesh (face_closed m e halves edges faces)) where
     abbrev q : Mesh Point DE UE F

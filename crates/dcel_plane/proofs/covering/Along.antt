@@ -10,14 +10,10 @@ use Rattle.dcel_predicates.proofs.Signs.{both_negative, ordered, square, times, 
 use Rattle.dcel_predicates.proofs.Terms.{Spot, orient, spot, orient_in}
 use Rattle.dcel_maps.specs.Shapes.{IsLive, IsSound, Shape, end_of, map_of, origin_of}
 use Rattle.dcel_maps.proofs.maps.Soundness.{rev_live}
-use Rattle.dcel_plane.specs.covering.Covering.{HasDistinctPoints, apart_along}
+use Rattle.dcel_plane.specs.covering.Covering.{HasDistinctPoints, dot}
 use Rattle.dcel_plane.specs.covering.Places.{Place, orient_at}
 use Rattle.dcel_plane.proofs.covering.Inside.{weighed}
 use Rattle.dcel_plane.proofs.covering.Products.{no_weights, below_times, square_zero, times_below}
-
--- (a - c) times (b - c)
-abbrev pub dot : Point → Point → Point → ℤ
-dot a b c = ((a.x -ℤ c.x) *ℤ (b.x -ℤ c.x)) +ℤ ((a.y -ℤ c.y) *ℤ (b.y -ℤ c.y))
 
 abbrev pub dot_in : Spot → Spot → Spot → Term
 dot_in a b c = plus (by (minus a.x c.x) (minus b.x c.x)) (by (minus a.y c.y) (minus b.y c.y))
@@ -96,10 +92,10 @@ module _ (b a x y q : Point) (far : pos 0 <ℤ dot a a b) (on_x : orient2d_of b 
   pub no_height : (orient2d_of b a x -ℤ orient2d_of b a q) *ℤ (orient2d_of b a y -ℤ orient2d_of b a q) ≡ pos 0
   no_height = none_first (orient2d_of b a x -ℤ orient2d_of b a q) (orient2d_of b a y -ℤ orient2d_of b a q) (omega (arith, ordered, on_x, on_q))
 
-  pub placed : pos 0 ≤ℤ apart_along x y q → pos 0 ≤ℤ ((dot x a b -ℤ dot q a b) *ℤ (dot y a b -ℤ dot q a b))
+  pub placed : pos 0 ≤ℤ dot x y q → pos 0 ≤ℤ ((dot x a b -ℤ dot q a b) *ℤ (dot y a b -ℤ dot q a b))
   placed apart = let t = times (dot a a b) (dot x y q) (omega (arith, ordered, far)) apart in let z = no_height in let e = by_place in omega (arith, ordered, t, z, e)
 
-  pub apart_by : pos 0 ≤ℤ ((dot x a b -ℤ dot q a b) *ℤ (dot y a b -ℤ dot q a b)) → pos 0 ≤ℤ apart_along x y q
+  pub apart_by : pos 0 ≤ℤ ((dot x a b -ℤ dot q a b) *ℤ (dot y a b -ℤ dot q a b)) → pos 0 ≤ℤ dot x y q
   apart_by places =
       by_lt_z (dot x y q) (pos 0) (λ less. absurd (let t = times_below (dot a a b) (dot x y q) far less in let z = no_height in let e = by_place in omega (arith, ordered, t, z, e, places)))
       (λ not. not)

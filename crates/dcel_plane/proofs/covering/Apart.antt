@@ -11,17 +11,17 @@ use Rattle.dcel_maps.specs.Shapes.{IsLive, IsMesh, Mesh, Shape, end_of, face_of,
 use Rattle.dcel_maps.specs.Triangulations.{AllTriangles}
 use Rattle.dcel_maps.proofs.maps.Soundness.{rev_live}
 use Rattle.dcel_maps.proofs.maps.Triangles.{IsTriangleOf}
-use Rattle.dcel_plane.specs.Plane.{IsLeftOf, IsPlane, LiesAcross, TurnsLeft}
+use Rattle.dcel_plane.specs.Plane.{IsLeftOf, LiesAcross, TrianglesTurnLeft, TurnsLeft}
 use Rattle.dcel_plane.proofs.edits.Across.{across_both}
 use Rattle.dcel_plane.proofs.edits.Corners.{left_of_triangle}
-use Rattle.dcel_plane.specs.covering.Covering.{Covers, IsApart, IsConvex, IsHull, apart_along}
+use Rattle.dcel_plane.specs.covering.Covering.{Covers, IsApart, IsConvex, IsHull, dot}
 use Rattle.dcel_plane.proofs.covering.Alone.{lies_within, none_inside, none_within}
-use Rattle.dcel_plane.proofs.covering.Along.{between_ends, dot, dot_start, long, one_point, placed}
+use Rattle.dcel_plane.proofs.covering.Along.{between_ends, dot_start, long, one_point, placed}
 use Rattle.dcel_plane.proofs.covering.Inside.{on_end, on_start}
 use Rattle.dcel_plane.proofs.covering.Products.{below_times, zero_of}
 use Rattle.dcel_plane.proofs.covering.Triangles.{at_word, is_triangle, meets, of_face, round, turned_triangle}
 
-module _ {V DE UE F : Type 0} (m : Mesh V DE UE F) (mesh : IsMesh m) (triangles : AllTriangles m.shape) (at : ℕ → Point) (plane : IsPlane at m.shape)
+module _ {V DE UE F : Type 0} (m : Mesh V DE UE F) (mesh : IsMesh m) (triangles : AllTriangles m.shape) (at : ℕ → Point) (plane : TrianglesTurnLeft at m.shape)
     (convex : IsConvex at m.shape) (hull : IsHull at m.shape) where
   abbrev s : Shape
   s = m.shape
@@ -65,9 +65,9 @@ module _ {V DE UE F : Type 0} (m : Mesh V DE UE F) (mesh : IsMesh m) (triangles 
       | inl outer ↦
           let back = rev_live (map_of s) x tri.live_x in
           let on_too : orient2d_of (p y) (p x) (p k) ≡ pos 0 = (let o = orient2d-first_swapped (p x) (p y) (p k) in omega (arith, ordered, o, on)) in
-          let b : orient2d_of (p y) (p x) (p k) ≡ pos 0 → pos 0 ≤ℤ apart_along (p y) (p x) (p k) =
-          subst (λ (i : ℕ). orient2d_of (at i) (p x) (p k) ≡ pos 0 → pos 0 ≤ℤ apart_along (at i) (p x) (p k)) (sym ends_x)
-          (subst (λ (i : ℕ). orient2d_of (at (end_of s x)) (at i) (p k) ≡ pos 0 → pos 0 ≤ℤ apart_along (at (end_of s x)) (at i) (p k)) (ap (origin_of s) (rev-rev x))
+          let b : orient2d_of (p y) (p x) (p k) ≡ pos 0 → pos 0 ≤ℤ dot (p y) (p x) (p k) =
+          subst (λ (i : ℕ). orient2d_of (at i) (p x) (p k) ≡ pos 0 → pos 0 ≤ℤ dot (at i) (p x) (p k)) (sym ends_x)
+          (subst (λ (i : ℕ). orient2d_of (at (end_of s x)) (at i) (p k) ≡ pos 0 → pos 0 ≤ℤ dot (at (end_of s x)) (at i) (p k)) (ap (origin_of s) (rev-rev x))
           (convex.supports (rev x) k back outer live_k).1) in
           let far : pos 0 <ℤ dot (p x) (p x) (p y) =
           long (p x) (p y) (λ ex ey. mesh.sound.two_ends x tri.live_x (hull.distinct x y tri.live_x tri.live_y ex ey ∙ ends_x)) in

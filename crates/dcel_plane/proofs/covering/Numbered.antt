@@ -12,7 +12,7 @@ use Rattle.dcel_maps.specs.Words.{TurnsTo, word_of}
 use Rattle.dcel_maps.proofs.Liveness.{is_live-past}
 use Rattle.dcel_maps.proofs.words.Turns.{length-turn, turns_to_itself}
 use Rattle.dcel_plane.proofs.edits.Corners.{turned_along}
-use Rattle.dcel_plane.specs.covering.Covering.{Covers, CoversHull, apart_along}
+use Rattle.dcel_plane.specs.covering.Covering.{Covers, CoversHull, dot}
 use Rattle.dcel_plane.specs.covering.Delaunay.{HasCorners, IsCovered, IsDelaunayTriangulation, LiesInHull}
 use Rattle.dcel_plane.specs.covering.Places.{AreDisjoint, IsIn, Place, orient_at}
 use Rattle.dcel_plane.proofs.covering.Apart.{mesh_apart}
@@ -199,6 +199,6 @@ module _ {V DE UE F : Type 0} (m : Mesh V DE UE F) (mesh : IsMesh m) (at : ℕ �
   pub right : (h v : ℕ) → IsLive s h → face_of s h ≡ 0 → v < s.vertices → orient2d_of (p h) (at (end_of s h)) (at v) ≤ℤ pos 0
   right h v live on = each_vertex (λ w. orient2d_of (p h) (at (end_of s h)) (at w) ≤ℤ pos 0) (λ k live_k. (known.convex.supports h k live on live_k).0) v
 
-  pub between : (h v : ℕ) → IsLive s h → face_of s h ≡ 0 → v < s.vertices → orient2d_of (p h) (at (end_of s h)) (at v) ≡ pos 0 → pos 0 ≤ℤ apart_along (p h) (at (end_of s h)) (at v)
+  pub between : (h v : ℕ) → IsLive s h → face_of s h ≡ 0 → v < s.vertices → orient2d_of (p h) (at (end_of s h)) (at v) ≡ pos 0 → pos 0 ≤ℤ dot (p h) (at (end_of s h)) (at v)
   between h v live on =
-      each_vertex (λ w. orient2d_of (p h) (at (end_of s h)) (at w) ≡ pos 0 → pos 0 ≤ℤ apart_along (p h) (at (end_of s h)) (at w)) (λ k live_k. (known.convex.supports h k live on live_k).1) v
+      each_vertex (λ w. orient2d_of (p h) (at (end_of s h)) (at w) ≡ pos 0 → pos 0 ≤ℤ dot (p h) (at (end_of s h)) (at w)) (λ k live_k. (known.convex.supports h k live on live_k).1) v

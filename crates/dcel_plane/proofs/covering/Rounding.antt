@@ -11,7 +11,7 @@ use Rattle.dcel_maps.specs.Triangulations.{AllTriangles}
 use Rattle.dcel_maps.specs.theory.Sound.{Sound}
 use Rattle.dcel_maps.proofs.maps.Soundness.{face_prev, rev_live}
 use Rattle.dcel_maps.proofs.shapes.Maps.{map-sound}
-use Rattle.dcel_plane.specs.Plane.{IsPlane}
+use Rattle.dcel_plane.specs.Plane.{TrianglesTurnLeft}
 use Rattle.dcel_plane.specs.covering.Covering.{IsConvex, IsHull}
 use Rattle.dcel_plane.specs.covering.Round.{Begins, GoesRound, IsRightOf, LeadsLeft, LeadsRight}
 use Rattle.dcel_plane.proofs.covering.Along.{one_point}
@@ -27,7 +27,7 @@ module _ {V DE UE F : Type 0} (m : Mesh V DE UE F) (mesh : IsMesh m) (triangles 
   sound : Sound (map_of s)
   sound = map-sound mesh.sound
 
-  module _ (at : ℕ → Point) (plane : IsPlane at s) (convex : IsConvex at s) (hull : IsHull at s) where
+  module _ (at : ℕ → Point) (plane : TrianglesTurnLeft at s) (convex : IsConvex at s) (hull : IsHull at s) where
     abbrev p : ℕ → Point
     p h = at (origin_of s h)
 
@@ -75,7 +75,7 @@ module _ {V DE UE F : Type 0} (m : Mesh V DE UE F) (mesh : IsMesh m) (triangles 
         let same = one_spot (p h) (p k) (leftmost k other h one.live) (leftmost h one k other.live) in
         hull.once h k one.live other.live one.outer other.outer (hull.distinct h k one.live other.live same.0 same.1)
 
-  module _ (at : ℕ → Point) (plane : IsPlane at s) (convex : IsConvex at s) (hull : IsHull at s) where
+  module _ (at : ℕ → Point) (plane : TrianglesTurnLeft at s) (convex : IsConvex at s) (hull : IsHull at s) where
     begins-opposite : (h : ℕ) → Begins (LeadsLeft at s) s h → Begins (LeadsRight (λ v. opposite (at v)) s) s h
     begins-opposite h begins = record {
       live = begins.live;

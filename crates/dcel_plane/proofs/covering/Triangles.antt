@@ -17,7 +17,7 @@ use Rattle.dcel_maps.proofs.words.Triangles.{triangle_written}
 use Rattle.dcel_maps.proofs.words.Turns.{from_least-turn, turns_back}
 use Rattle.dcel_plane.specs.covering.Covering.{HasDisjointTriangles}
 use Rattle.dcel_plane.specs.covering.Places.{AreDisjoint}
-use Rattle.dcel_plane.specs.Plane.{IsPlane, TurnsLeft}
+use Rattle.dcel_plane.specs.Plane.{TrianglesTurnLeft, TurnsLeft}
 use Rattle.dcel_plane.proofs.edits.Corners.{left_of_triangle, three_items, turned_along}
 
 -- a triangle, from its next half edge on
@@ -97,7 +97,7 @@ module _ {V DE UE F : Type 0} (m : Mesh V DE UE F) (mesh : IsMesh m) (triangles 
       turned_along P turn x (next_of s x) (prev_of s x) x y z (subst (λ (l : List ℕ). TurnsTo w l) (sym word) (from_least-turn w)) (holds x live inside)
 
   -- in the plane it goes round counterclockwise
-  pub left_at : (at : ℕ → Point) → IsPlane at s → (h : ℕ) → IsLive s h → 0 < face_of s h → TurnsLeft (at (origin_of s h)) (at (origin_of s (next_of s h))) (at (origin_of s (prev_of s h)))
+  pub left_at : (at : ℕ → Point) → TrianglesTurnLeft at s → (h : ℕ) → IsLive s h → 0 < face_of s h → TurnsLeft (at (origin_of s h)) (at (origin_of s (next_of s h))) (at (origin_of s (prev_of s h)))
   left_at at plane h live inner = left_of_triangle at s mesh.sound plane (face_of s h) h (next_of s h) (prev_of s h) inner (round h live inner)
 
   -- two half edges of one face

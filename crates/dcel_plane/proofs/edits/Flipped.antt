@@ -21,7 +21,7 @@ use Rattle.dcel_maps.proofs.words.EachSet.{first-two_set, other-two_set, second-
 use Rattle.dcel_maps.proofs.words.Mapped.{count-at}
 use Rattle.dcel_maps.proofs.words.Reading.{face_in_word, live_in}
 use Rattle.dcel_plane.specs.Edges.{edges_of_flip}
-use Rattle.dcel_plane.specs.Plane.{IsCircled, IsInner, IsPlane, ListsCircled, TurnsLeft, origin_point}
+use Rattle.dcel_plane.specs.Plane.{IsCircled, IsInner, ListsCircled, TrianglesTurnLeft, TurnsLeft, origin_point}
 use Rattle.dcel_plane.proofs.edits.Corners.{LeftOf, corners_are, left-from_least, left_of_triangle, of_least}
 use Rattle.dcel_plane.proofs.edits.Splits.{listed_as}
 use Rattle.dcel_plane.proofs.edits.Written.{IsWritten, origin_away, written_lists, written_plane}
@@ -103,13 +103,13 @@ module _ {V DE UE F : Type 0} (m : Mesh V DE UE F) (mesh : IsMesh m) (u : ℕ) (
     far = at (origin_of s tp)
 
     -- the two triangles before the flip
-    pub left_before : IsPlane at s → 0 < f → TurnsLeft start end near
+    pub left_before : TrianglesTurnLeft at s → 0 < f → TurnsLeft start end near
     left_before plane inner = corners_are at refl from_end refl (left_of_triangle at s mesh.sound plane f e en ep inner was)
 
-    pub right_before : IsPlane at s → 0 < g → TurnsLeft end start far
+    pub right_before : TrianglesTurnLeft at s → 0 < g → TurnsLeft end start far
     right_before plane inner = corners_are at refl from_start refl (left_of_triangle at s mesh.sound plane g t tn tp inner facing)
 
-    pub new_corners : IsPlane at s → 0 < f → 0 < g → IsCircled at s u → AreFlipped start end near far
+    pub new_corners : TrianglesTurnLeft at s → 0 < f → 0 < g → IsCircled at s u → AreFlipped start end near far
     new_corners plane f_inner g_inner circled = flipped start end near far (left_before plane f_inner) (right_before plane g_inner) circled
 
     -- the other half edges start where they did
@@ -132,7 +132,7 @@ module _ {V DE UE F : Type 0} (m : Mesh V DE UE F) (mesh : IsMesh m) (u : ℕ) (
     second_after : AreFlipped start end near far → LeftOf at n t ep tn
     second_after new = corners_are at (sym origin_t) (sym origin_near) (sym from_start ∙ sym origin_t_after) new.second
 
-    pub flip_plane : 0 < f → 0 < g → IsCircled at s u → IsPlane at s → IsPlane at n
+    pub flip_plane : 0 < f → 0 < g → IsCircled at s u → TrianglesTurnLeft at s → TrianglesTurnLeft at n
     flip_plane f_inner g_inner circled plane =
         let new = new_corners plane f_inner g_inner circled in
         written_plane at s n words origins flip_written mesh.sound plane (

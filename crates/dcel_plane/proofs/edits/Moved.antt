@@ -10,7 +10,7 @@ use Rattle.dcel_maps.proofs.shapes.Maps.{map-sound}
 use Rattle.dcel_maps.proofs.walks.Links.{links_stand}
 use Rattle.dcel_maps.proofs.words.Counts.{count-later, count-same}
 use Rattle.dcel_maps.proofs.words.Reading.{live_in}
-use Rattle.dcel_plane.specs.Plane.{IsCircled, IsInner, IsPlane, ListsCircled, TurnsLeft, origin_point, point_at}
+use Rattle.dcel_plane.specs.Plane.{IsCircled, IsInner, ListsCircled, TrianglesTurnLeft, TurnsLeft, origin_point, point_at}
 use Rattle.dcel_plane.proofs.edits.Written.{circle_at}
 
 module _ (at to : ℕ → Point) (s : Shape) (sound : IsSound s) (same : (v : ℕ) → v < s.vertices → at v ≡ to v) where
@@ -21,7 +21,7 @@ module _ (at to : ℕ → Point) (s : Shape) (sound : IsSound s) (same : (v : �
   left_same_place {a} {b} {c} {a'} {b'} {c'} ea eb ec left =
       subst (λ (p : Point). TurnsLeft a' b' p) ec (subst (λ (p : Point). TurnsLeft a' p c) eb (subst (λ (p : Point). TurnsLeft p b c) ea left))
 
-  pub moved_plane : IsPlane at s → IsPlane to s
+  pub moved_plane : TrianglesTurnLeft at s → TrianglesTurnLeft to s
   moved_plane plane = record {
     left = λ f x y z inner is.
         let found : (h : ℕ) → 0 < count_of h (x ∷ y ∷ z ∷ []) → at (origin_of s h) ≡ to (origin_of s h) =
@@ -57,7 +57,7 @@ module _ {DE UE F : Type 0} (m : Mesh Point DE UE F) (mesh : IsMesh m) (p : Poin
   pub others_stand : (v : ℕ) → v < m.shape.vertices → point_at m v ≡ point_at after v
   others_stand v below = sym (get_or_append_left m.vertex_data (p ∷ []) origin_point v (omega (arith, below, mesh.sized.vertex_data)))
 
-  pub appended_plane : IsPlane (point_at m) m.shape → IsPlane (point_at after) after.shape
+  pub appended_plane : TrianglesTurnLeft (point_at m) m.shape → TrianglesTurnLeft (point_at after) after.shape
   appended_plane plane = let is = moved_plane (point_at m) (point_at after) m.shape mesh.sound others_stand plane in record { left = is.left }
 
   pub appended_lists : (due : List ℕ) → ListsCircled (point_at m) m.shape due → ListsCircled (point_at after) after.shape due

@@ -17,7 +17,7 @@ use Rattle.dcel_maps.proofs.shapes.Maps.{map-sound}
 use Rattle.dcel_maps.proofs.walks.Links.{half-below}
 use Rattle.dcel_maps.proofs.words.Mapped.{count-at}
 use Rattle.dcel_plane.specs.Edges.{edges_half_split, edges_split}
-use Rattle.dcel_plane.specs.Plane.{IsPlane, LiesAcross, ListsCircled, TurnsLeft}
+use Rattle.dcel_plane.specs.Plane.{LiesAcross, ListsCircled, TrianglesTurnLeft, TurnsLeft}
 use Rattle.dcel_plane.proofs.edits.Corners.{corners_are, left-from_least, left_same, left_turned, of_least, of_three, seen}
 use Rattle.dcel_plane.proofs.edits.Written.{IsWritten, origin_away, origin_more, written_lists, written_plane}
 
@@ -143,7 +143,7 @@ module _ {V DE UE F : Type 0} (m : Mesh V DE UE F) (mesh : IsMesh m) (e middle :
     on_f : (h : ℕ) → face_of s h ≡ f → h ≢ t
     on_f h on is = differ (sym on ∙ ap (face_of s) is)
 
-    pub split_plane : LiesAcross at s e (at middle) → LiesAcross at s t (at middle) → IsPlane at s → IsPlane at r
+    pub split_plane : LiesAcross at s e (at middle) → LiesAcross at s t (at middle) → TrianglesTurnLeft at s → TrianglesTurnLeft at r
     split_plane across across_t plane =
         written_plane at s r split_words split_origins split_written mesh.sound plane (
           (λ x y z inner is.
@@ -199,7 +199,7 @@ module _ {V DE UE F : Type 0} (m : Mesh V DE UE F) (mesh : IsMesh m) (e middle :
     on_one : (h : ℕ) → IsLive s h → face_of s h ≡ f → origin_of s h ≡ origin_of q h
     on_one h lives on = half_old h lives (λ is. omega (arith, inner_f, outer, sym on ∙ ap (face_of s) is))
 
-    pub half_split_plane : LiesAcross at s e (at middle) → IsPlane at s → IsPlane at q
+    pub half_split_plane : LiesAcross at s e (at middle) → TrianglesTurnLeft at s → TrianglesTurnLeft at q
     half_split_plane across plane =
         written_plane at s q half_words half_origins half_written mesh.sound plane (
           (λ x y z inner is.

@@ -19,7 +19,7 @@ use Rattle.dcel_maps.proofs.words.Counts.{count-later, count-same}
 use Rattle.dcel_maps.proofs.words.EachSet.{first-two_set, length-two_set, other-two_set, second-two_set, two_set}
 use Rattle.dcel_maps.proofs.words.Triangles.{triangle_written}
 use Rattle.dcel_maps.proofs.words.Turns.{from_least-turn, length-turn}
-use Rattle.dcel_plane.specs.Plane.{IsCircled, IsPlane, TurnsLeft}
+use Rattle.dcel_plane.specs.Plane.{IsCircled, TrianglesTurnLeft, TurnsLeft}
 use Rattle.dcel_plane.specs.Volume.{volume_below, volume_under}
 use Rattle.dcel_plane.proofs.edits.Corners.{three_items, turned_along}
 use Rattle.dcel_plane.proofs.edits.Flipped.{from_end, from_start, left_before, new_corners, origin_after, origin_e, origin_far, origin_near, origin_t, origin_t_after, right_before, starts_else}
@@ -122,7 +122,7 @@ same_under at s n (x ∷ y ∷ z ∷ []) same =
 same_under at s n (x ∷ y ∷ z ∷ t ∷ r) same = refl
 
 module _ {V DE UE F : Type 0} (m : Mesh V DE UE F) (mesh : IsMesh m) (u : ℕ) (can : CanFlip m.shape u) (at : ℕ → Point) (f_inner : 0 < face_of m.shape (2 * u))
-    (g_inner : 0 < face_of m.shape (2 * u + 1)) (circled : IsCircled at m.shape u) (plane : IsPlane at m.shape) where
+    (g_inner : 0 < face_of m.shape (2 * u + 1)) (circled : IsCircled at m.shape u) (plane : TrianglesTurnLeft at m.shape) where
   abbrev s : Shape
   s = m.shape
 

@@ -15,7 +15,7 @@ use Rattle.dcel_maps.proofs.shapes.Maps.{map-sound}
 use Rattle.dcel_maps.proofs.walks.Links.{half-below, links_stand, prev-said}
 use Rattle.dcel_maps.proofs.words.Counts.{count-append, count-later, count-same}
 use Rattle.dcel_maps.proofs.words.Reading.{face-prev, face_in_word, live_in, stands_in_face}
-use Rattle.dcel_plane.specs.Plane.{IsCircled, IsInner, IsPlane, ListsCircled}
+use Rattle.dcel_plane.specs.Plane.{IsCircled, IsInner, ListsCircled, TrianglesTurnLeft}
 use Rattle.dcel_plane.proofs.edits.Corners.{LeftOf, corners_are}
 
 -- an item that isn't replaced
@@ -76,7 +76,7 @@ module _ (at : ℕ → Point) (s n : Shape) (ws : Patch (List ℕ)) (os : Patch 
   abbrev pub Leads : ℕ → List ℕ → Type 0
   Leads f w = (x y z : ℕ) → 0 < f → w ≡ x ∷ y ∷ z ∷ [] → LeftOf at n x y z
 
-  old_leads : IsPlane at s → (f : ℕ) → Untouched f ws.set → Leads f (word_of s.words f)
+  old_leads : TrianglesTurnLeft at s → (f : ℕ) → Untouched f ws.set → Leads f (word_of s.words f)
   old_leads plane f away x y z inner is =
       let found : (h : ℕ) → 0 < count_of h (x ∷ y ∷ z ∷ []) → origin_of n h ≡ origin_of s h =
       λ h there. origin_on f h inner away (subst (λ (w : List ℕ). 0 < count_of h w) (sym is) there) in
@@ -85,7 +85,7 @@ module _ (at : ℕ → Point) (s n : Shape) (ws : Patch (List ℕ)) (os : Patch 
       (sym (found z (count-later z x (y ∷ z ∷ []) (count-later z y (z ∷ []) (omega (arith, count-same z []))))))
       (plane.left f x y z inner is)
 
-  pub written_plane : IsPlane at s → Each Leads ws.set → EachFrom Leads (face_count s) ws.more → IsPlane at n
+  pub written_plane : TrianglesTurnLeft at s → Each Leads ws.set → EachFrom Leads (face_count s) ws.more → TrianglesTurnLeft at n
   written_plane plane set more = record {
     left = λ f x y z inner is.
         by_word Leads set more (λ k k_in away. old_leads plane k away) (λ k x y z inside e. absurd (let long = ap length e in omega (arith, long)))

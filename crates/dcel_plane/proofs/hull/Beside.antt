@@ -7,8 +7,8 @@ use Rattle.dcel_predicates.specs.declared.point.Point.{Point}
 use Rattle.dcel_predicates.proofs.Ring.{by_terms, minus, num, plus, times as by, var}
 use Rattle.dcel_predicates.proofs.Signs.{ordered, times_negative, times_positive}
 use Rattle.dcel_predicates.proofs.Terms.{orient, spot}
-use Rattle.dcel_plane.specs.covering.Covering.{Supports, apart_along}
-use Rattle.dcel_plane.proofs.covering.Along.{IsBetween, one_place, dot, dot_in, dot_start, none_first, none_second, placed, sides, same_side, apart_by}
+use Rattle.dcel_plane.specs.covering.Covering.{Supports, dot}
+use Rattle.dcel_plane.proofs.covering.Along.{IsBetween, one_place, dot_in, dot_start, none_first, none_second, placed, sides, same_side, apart_by}
 use Rattle.dcel_plane.proofs.covering.Inside.{apart_end, apart_start, on_end, on_start}
 use Rattle.dcel_plane.proofs.covering.Products.{times_below}
 
@@ -73,7 +73,7 @@ module _ (b a v : Point) (is : IsBetween b a v) where
   end_on k = zero_too (dot a a b) (orient2d_of v a k) (dot a a b -ℤ dot v a b) (orient2d_of b a k) (orient2d_of b a v *ℤ (dot k a b -ℤ dot a a b)) (end_part k) (end_none k) rest
 
 -- what isn't between the ends isn't between an end and v
-module _ (b a v : Point) (is : IsBetween b a v) (k : Point) (right : orient2d_of b a k ≤ℤ pos 0) (apart : orient2d_of b a k ≡ pos 0 → pos 0 ≤ℤ apart_along b a k) where
+module _ (b a v : Point) (is : IsBetween b a v) (k : Point) (right : orient2d_of b a k ≤ℤ pos 0) (apart : orient2d_of b a k ≡ pos 0 → pos 0 ≤ℤ dot b a k) where
   outside : orient2d_of b a k ≡ pos 0 → (dot k a b ≤ℤ pos 0) ⊎ (dot a a b ≤ℤ dot k a b)
   outside on =
       let z = dot_start a b in
@@ -118,8 +118,8 @@ module _ (b a v : Point) (is : IsBetween b a v) (k : Point) (right : orient2d_of
 
 -- v isn't left of another half edge, from x to y, nor between its ends
 module _ (b a v : Point) (is : IsBetween b a v) (x y : Point) (far : pos 0 <ℤ dot y y x) (right_a : orient2d_of x y a ≤ℤ pos 0) (right_b : orient2d_of x y b ≤ℤ pos 0)
-    (apart_a : orient2d_of x y a ≡ pos 0 → pos 0 ≤ℤ apart_along x y a) (apart_b : orient2d_of x y b ≡ pos 0 → pos 0 ≤ℤ apart_along x y b)
-    (apart_x : orient2d_of b a x ≡ pos 0 → pos 0 ≤ℤ apart_along b a x) (apart_y : orient2d_of b a y ≡ pos 0 → pos 0 ≤ℤ apart_along b a y)
+    (apart_a : orient2d_of x y a ≡ pos 0 → pos 0 ≤ℤ dot x y a) (apart_b : orient2d_of x y b ≡ pos 0 → pos 0 ≤ℤ dot x y b)
+    (apart_x : orient2d_of b a x ≡ pos 0 → pos 0 ≤ℤ dot b a x) (apart_y : orient2d_of b a y ≡ pos 0 → pos 0 ≤ℤ dot b a y)
     (not_same : x.x ≡ b.x → x.y ≡ b.y → y.x ≡ a.x → y.y ≡ a.y → ⊥) (not_back : x.x ≡ a.x → x.y ≡ a.y → y.x ≡ b.x → y.y ≡ b.y → ⊥) where
   height_mixed : dot a a b *ℤ orient2d_of x y v
       ≡ ((dot v a b *ℤ orient2d_of x y a) +ℤ ((dot a a b -ℤ dot v a b) *ℤ orient2d_of x y b))
@@ -195,7 +195,7 @@ module _ (b a v : Point) (is : IsBetween b a v) (x y : Point) (far : pos 0 <ℤ 
     on_y : orient2d_of b a y ≡ pos 0
     on_y = let e = back_heights in let f = on_x in omega (arith, ordered, e, f, on_a, on_b)
 
-    outside_of : (k : Point) → orient2d_of x y k ≡ pos 0 → pos 0 ≤ℤ apart_along x y k → (dot k y x ≤ℤ pos 0) ⊎ (dot y y x ≤ℤ dot k y x)
+    outside_of : (k : Point) → orient2d_of x y k ≡ pos 0 → pos 0 ≤ℤ dot x y k → (dot k y x ≤ℤ pos 0) ⊎ (dot y y x ≤ℤ dot k y x)
     outside_of k on apart =
         let z = dot_start y x in
         let p = placed x y x y k far (on_end x y) (on_start x y) on apart in
@@ -224,7 +224,7 @@ module _ (b a v : Point) (is : IsBetween b a v) (x y : Point) (far : pos 0 <ℤ 
         let d_at = one_place x y y d far (on_start x y) on_d (omega (arith, ordered, d_is)) in
         unlike c_at.0 c_at.1 d_at.0 d_at.1
 
-    apart_v : pos 0 ≤ℤ apart_along x y v
+    apart_v : pos 0 ≤ℤ dot x y v
     apart_v =
         let i = is.above in
         let j = rest b a v is in

@@ -14,8 +14,8 @@ use Rattle.dcel_maps.proofs.maps.Soundness.{rev_live}
 use Rattle.dcel_maps.proofs.shapes.Maps.{map-sound}
 use Rattle.dcel_maps.proofs.walks.Links.{links_stand, next-live, prev-live}
 use Rattle.dcel_maps.proofs.words.Reading.{face-next, face-prev}
-use Rattle.dcel_plane.specs.covering.Covering.{IsConvex, IsHull, apart_along}
-use Rattle.dcel_plane.proofs.covering.Along.{dot, edges_long, long, one_point}
+use Rattle.dcel_plane.specs.covering.Covering.{IsConvex, IsHull, dot}
+use Rattle.dcel_plane.proofs.covering.Along.{edges_long, long, one_point}
 use Rattle.dcel_plane.proofs.covering.Inside.{on_end, on_start}
 use Rattle.dcel_plane.specs.hull.Closing.{IsClosed, IsClosing, IsThick}
 use Rattle.dcel_plane.proofs.hull.Corners.{back_at_end, back_at_start, last_with}
@@ -90,10 +90,10 @@ module _ {V DE UE F : Type 0} (m : Mesh V DE UE F) (mesh : IsMesh m) (at : ℕ �
       (λ not. absurd
       (let straight : orient2d_of (p i) (e i) (e j) ≡ pos 0 = omega (arith, ordered, not, right) in
       let turned : orient2d_of (e i) (e j) (p i) ≡ pos 0 = orient2d-turned (p i) (e i) (e j) ∙ straight in
-      let first : pos 0 ≤ℤ apart_along (e i) (e j) (p i) =
-      subst (λ (v : ℕ). orient2d_of (at v) (e j) (p i) ≡ pos 0 → pos 0 ≤ℤ apart_along (at v) (e j) (p i)) joined
+      let first : pos 0 ≤ℤ dot (e i) (e j) (p i) =
+      subst (λ (v : ℕ). orient2d_of (at v) (e j) (p i) ≡ pos 0 → pos 0 ≤ℤ dot (at v) (e j) (p i)) joined
       (closing.supports j i live_j on_j old_j away seen.live (not_at_start i seen)).1 turned in
-      let second : pos 0 ≤ℤ apart_along (p i) (e i) (e j) =
+      let second : pos 0 ≤ℤ dot (p i) (e i) (e j) =
       (closing.supports i (rev j) seen.live seen.on (not_at_start i seen) (not_at_end i seen) (rev_live (map_of s) j live_j) away).1 straight in
       let back = back_at_start (p i) (e i) (e j) (at t) straight seen.seen unseen (far i seen.live) (far_from j (end_of s i) live_j joined) first second in
       let same : end_of s j ≡ origin_of s i = hull.distinct (rev j) i (rev_live (map_of s) j live_j) seen.live back.0 back.1 in
@@ -138,11 +138,11 @@ module _ {V DE UE F : Type 0} (m : Mesh V DE UE F) (mesh : IsMesh m) (at : ℕ �
       (λ not. absurd
       (let straight : orient2d_of a (e h) (e j) ≡ pos 0 = omega (arith, ordered, not, right) in
       let turned : orient2d_of (e h) (e j) a ≡ pos 0 = orient2d-turned a (e h) (e j) ∙ straight in
-      let first : pos 0 ≤ℤ apart_along (e h) (e j) a =
-      subst (λ (c : ℕ). orient2d_of (e h) (e j) (at c) ≡ pos 0 → pos 0 ≤ℤ apart_along (e h) (e j) (at c)) after.from
-      (subst (λ (v : ℕ). orient2d_of (at v) (e j) (p after.side) ≡ pos 0 → pos 0 ≤ℤ apart_along (at v) (e j) (p after.side)) joined
+      let first : pos 0 ≤ℤ dot (e h) (e j) a =
+      subst (λ (c : ℕ). orient2d_of (e h) (e j) (at c) ≡ pos 0 → pos 0 ≤ℤ dot (e h) (e j) (at c)) after.from
+      (subst (λ (v : ℕ). orient2d_of (at v) (e j) (p after.side) ≡ pos 0 → pos 0 ≤ℤ dot (at v) (e j) (p after.side)) joined
       (closing.supports j after.side live_j on_j old_j away after.live_side old_a).1) turned in
-      let second : pos 0 ≤ℤ apart_along a (e h) (e j) = (after.supports (rev j) (rev_live (map_of s) j live_j) away).1 straight in
+      let second : pos 0 ≤ℤ dot a (e h) (e j) = (after.supports (rev j) (rev_live (map_of s) j live_j) away).1 straight in
       let back = back_at_start a (e h) (e j) (at t) straight after.seen (closed.after h live on starts)
       (long (e h) a (λ ex ey. differ (sym ex) (sym ey))) (far_from j (end_of s h) live_j joined) first second in
       not_thin a (e h)
@@ -176,10 +176,10 @@ module _ {V DE UE F : Type 0} (m : Mesh V DE UE F) (mesh : IsMesh m) (at : ℕ �
       by_lt_z (orient2d_of (p i) (p h) b) (pos 0) (λ less. less)
       (λ not. absurd
       (let straight : orient2d_of (p i) (p h) b ≡ pos 0 = omega (arith, ordered, not, none, turned) in
-      let first : pos 0 ≤ℤ apart_along (p h) b (p i) = (before.supports i live_i away).1 (turned ∙ straight) in
-      let second : pos 0 ≤ℤ apart_along (p i) (p h) b =
-      subst (λ (c : ℕ). orient2d_of (p i) (p h) (at c) ≡ pos 0 → pos 0 ≤ℤ apart_along (p i) (p h) (at c)) before.to
-      (subst (λ (v : ℕ). orient2d_of (p i) (at v) (e before.side) ≡ pos 0 → pos 0 ≤ℤ apart_along (p i) (at v) (e before.side)) (sym joined)
+      let first : pos 0 ≤ℤ dot (p h) b (p i) = (before.supports i live_i away).1 (turned ∙ straight) in
+      let second : pos 0 ≤ℤ dot (p i) (p h) b =
+      subst (λ (c : ℕ). orient2d_of (p i) (p h) (at c) ≡ pos 0 → pos 0 ≤ℤ dot (p i) (p h) (at c)) before.to
+      (subst (λ (v : ℕ). orient2d_of (p i) (at v) (e before.side) ≡ pos 0 → pos 0 ≤ℤ dot (p i) (at v) (e before.side)) (sym joined)
       (closing.supports i (rev before.side) live_i on_i away end_i (rev_live (map_of s) before.side before.live_side) old_b).1) straight in
       let back = back_at_end (p i) (p h) b (at t) straight (closed.before h live on ends) before.seen
       (subst (λ (v : ℕ). pos 0 <ℤ dot (at v) (at v) (p i)) (sym joined) (far i live_i)) (long b (p h) (λ ex ey. differ (sym ex) (sym ey))) first second in

@@ -16,17 +16,17 @@ use Rattle.dcel_maps.specs.Words.{become, count_of, word_of}
 use Rattle.dcel_maps.specs.edits.Split.{half_edge_split}
 use Rattle.dcel_maps.proofs.maps.Soundness.{rev_live}
 use Rattle.dcel_maps.proofs.maps.Triangles.{IsTriangleOf}
-use Rattle.dcel_plane.specs.Plane.{IsPlane, LiesAcross, TurnsLeft}
+use Rattle.dcel_plane.specs.Plane.{LiesAcross, TrianglesTurnLeft, TurnsLeft}
 use Rattle.dcel_plane.proofs.edits.Corners.{left_of_triangle}
 use Rattle.dcel_plane.proofs.edits.Splits.{half_more, half_old, half_start, half_words, seen_after, seen_before, side_triangle}
-use Rattle.dcel_plane.specs.covering.Covering.{IsConvex, IsHull, Supports, apart_along}
-use Rattle.dcel_plane.proofs.covering.Along.{IsBetween, between_ends, dot, dot_start, edges_long, placed, sides}
+use Rattle.dcel_plane.specs.covering.Covering.{IsConvex, IsHull, Supports, dot}
+use Rattle.dcel_plane.proofs.covering.Along.{IsBetween, between_ends, dot_start, edges_long, placed, sides}
 use Rattle.dcel_plane.proofs.covering.Inside.{on_end, on_start}
 use Rattle.dcel_plane.proofs.hull.Becomes.{in_become, in_outer, of_pair, old_or_new, rev-3, was_live, was_on}
 use Rattle.dcel_plane.proofs.hull.Beside.{supports_end, supports_start, end_beside, other_beside, start_beside}
 use Rattle.dcel_plane.proofs.hull.Keeping.{StaysOuter, gains_distinct, gains_once}
 
-module _ {V DE UE F : Type 0} (m : Mesh V DE UE F) (mesh : IsMesh m) (at : ℕ → Point) (plane : IsPlane at m.shape)
+module _ {V DE UE F : Type 0} (m : Mesh V DE UE F) (mesh : IsMesh m) (at : ℕ → Point) (plane : TrianglesTurnLeft at m.shape)
     (convex : IsConvex at m.shape) (hull : IsHull at m.shape) (e v : ℕ) (live : IsLive m.shape e) (triangle : IsTriangle m.shape (face_of m.shape e)) (inner : 0 < face_of m.shape e)
     (bare : face_of m.shape (rev e) ≡ 0) (across : LiesAcross at m.shape e (at v)) (on : orient2d_of (at (origin_of m.shape e)) (at (end_of m.shape e)) (at v) ≡ pos 0)
     (halves : List DE) (edges : List UE) (faces : List F) where
@@ -74,9 +74,9 @@ module _ {V DE UE F : Type 0} (m : Mesh V DE UE F) (mesh : IsMesh m) (at : ℕ �
   right_t : (k : ℕ) → IsLive s k → orient2d_of (p t) (p e) (p k) ≤ℤ pos 0
   right_t k live_k = subst (λ (i : ℕ). orient2d_of (p t) (at i) (p k) ≤ℤ pos 0) ends_t (convex.supports t k live_t bare live_k).0
 
-  apart_t : (k : ℕ) → IsLive s k → orient2d_of (p t) (p e) (p k) ≡ pos 0 → pos 0 ≤ℤ apart_along (p t) (p e) (p k)
+  apart_t : (k : ℕ) → IsLive s k → orient2d_of (p t) (p e) (p k) ≡ pos 0 → pos 0 ≤ℤ dot (p t) (p e) (p k)
   apart_t k live_k =
-      subst (λ (i : ℕ). orient2d_of (p t) (at i) (p k) ≡ pos 0 → pos 0 ≤ℤ apart_along (p t) (at i) (p k)) ends_t (convex.supports t k live_t bare live_k).1
+      subst (λ (i : ℕ). orient2d_of (p t) (at i) (p k) ≡ pos 0 → pos 0 ≤ℤ dot (p t) (at i) (p k)) ends_t (convex.supports t k live_t bare live_k).1
 
   -- no vertex stands where v does
   alone : (k : ℕ) → IsLive s k → (p k).x ≡ (at v).x → (p k).y ≡ (at v).y → ⊥

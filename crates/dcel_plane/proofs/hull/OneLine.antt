@@ -9,10 +9,10 @@ use Rattle.dcel_predicates.proofs.Ring.{Term, by_terms, minus, plus, times as by
 use Rattle.dcel_predicates.proofs.Signs.{ordered, times_positive}
 use Rattle.dcel_predicates.proofs.Terms.{Spot, orient, spot}
 use Rattle.dcel_maps.specs.Shapes.{IsLive, Shape, end_of, origin_of}
-use Rattle.dcel_plane.proofs.covering.Along.{apart_by, by_place, dot, dot_start, no_height, none_first, none_second, one_place, same_side}
+use Rattle.dcel_plane.proofs.covering.Along.{apart_by, by_place, dot_start, no_height, none_first, none_second, one_place, same_side}
 use Rattle.dcel_plane.proofs.covering.Inside.{on_end, on_start}
 use Rattle.dcel_plane.proofs.covering.Products.{below_times, both_below, factor_none, factor_positive, times_below}
-use Rattle.dcel_plane.specs.covering.Covering.{apart_along}
+use Rattle.dcel_plane.specs.covering.Covering.{dot}
 use Rattle.dcel_plane.specs.hull.Straight.{IsStraight}
 use Rattle.dcel_plane.proofs.hull.Thin.{back_dot}
 
@@ -132,7 +132,7 @@ module _ (b a x y q : Point) (far : pos 0 <ℤ dot a a b) (on_x : orient2d_of b 
       factor_none (dot a a b) (orient2d_of x y q) far (omega (arith, ordered, e, f, g))
 
 -- a point on the line on whose two sides the ends lie
-pub inside_of : (b a q : Point) → pos 0 <ℤ dot a a b → orient2d_of b a q ≡ pos 0 → apart_along b a q <ℤ pos 0 → (pos 0 <ℤ dot q a b) × (dot q a b <ℤ dot a a b)
+pub inside_of : (b a q : Point) → pos 0 <ℤ dot a a b → orient2d_of b a q ≡ pos 0 → dot b a q <ℤ pos 0 → (pos 0 <ℤ dot q a b) × (dot q a b <ℤ dot a a b)
 inside_of b a q far on apart =
     let z = dot_start a b in
     by_lt_z (dot b a b) (dot q a b)

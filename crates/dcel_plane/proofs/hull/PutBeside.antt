@@ -17,13 +17,13 @@ use Rattle.dcel_maps.proofs.maps.Soundness.{rev_live}
 use Rattle.dcel_maps.proofs.walks.Links.{half-below, links_stand}
 use Rattle.dcel_maps.proofs.words.Counts.{count-later, count-same}
 use Rattle.dcel_maps.proofs.words.Reading.{stands_in_face}
-use Rattle.dcel_plane.specs.Plane.{IsLeftOf, IsPlane}
+use Rattle.dcel_plane.specs.Plane.{IsLeftOf, TrianglesTurnLeft}
 use Rattle.dcel_plane.proofs.edits.Written.{IsWritten, origin_away, origin_more}
-use Rattle.dcel_plane.specs.covering.Covering.{IsConvex, IsHull, Supports, apart_along}
+use Rattle.dcel_plane.specs.covering.Covering.{IsConvex, IsHull, Supports, dot}
 use Rattle.dcel_plane.proofs.covering.Inside.{on_end, on_start, same_place}
 use Rattle.dcel_plane.proofs.covering.Triangles.{left_at, round}
 use Rattle.dcel_plane.specs.hull.Closing.{IsClosing, IsThick, IsThin, Sees, SeesAfter, SeesBefore}
-use Rattle.dcel_plane.specs.hull.Straight.{IsStraight, beyond}
+use Rattle.dcel_plane.specs.hull.Straight.{IsStraight, dot_of_steps}
 use Rattle.dcel_plane.proofs.hull.Becomes.{in_become, in_outer, of_pair, old_or_new, out_outer, put_in, rev-2, rev-3, still_live, was_live, was_on}
 use Rattle.dcel_plane.proofs.hull.Keeping.{StaysOuter, gains_distinct, gains_once}
 
@@ -217,7 +217,7 @@ module _ {V DE UE F : Type 0} (m : Mesh V DE UE F) (mesh : IsMesh m) (at : ℕ �
     }
 
     -- the old vertices don't all lie on one line, if there was a triangle
-    pub beside_thick : IsHull at s → AllTriangles m.shape → IsPlane at m.shape → (h : ℕ) → IsLive s h → 0 < face_of s h → IsThick at r v
+    pub beside_thick : IsHull at s → AllTriangles m.shape → TrianglesTurnLeft at m.shape → (h : ℕ) → IsLive s h → 0 < face_of s h → IsThick at r v
     beside_thick hull triangles plane h live_h inner_h =
         let j = next_of s h in
         let k = prev_of s h in
@@ -282,18 +282,18 @@ module _ {V DE UE F : Type 0} (m : Mesh V DE UE F) (mesh : IsMesh m) (at : ℕ �
           let was = was_here h live_h not_start not_end in
           let too = was_here k live_k (λ is. not_start (same ∙ is)) not_end_k in
           straight.once h k was too (old h was ∙ same ∙ sym (old k too))
-          (subst (λ (a : ℕ). pos 0 <ℤ apart_along (at a) (at (end_of s k)) (at (origin_of s h))) (sym (old (rev h) (rev_live (map_of s) h was)))
-          (subst (λ (a : ℕ). pos 0 <ℤ apart_along (at (end_of r h)) (at a) (at (origin_of s h))) (sym (old (rev k) (rev_live (map_of s) k too)))
-          (subst (λ (a : ℕ). pos 0 <ℤ apart_along (at (end_of r h)) (at (end_of r k)) (at a)) (sym (old h was)) side)));
+          (subst (λ (a : ℕ). pos 0 <ℤ dot (at a) (at (end_of s k)) (at (origin_of s h))) (sym (old (rev h) (rev_live (map_of s) h was)))
+          (subst (λ (a : ℕ). pos 0 <ℤ dot (at (end_of r h)) (at a) (at (origin_of s h))) (sym (old (rev k) (rev_live (map_of s) k too)))
+          (subst (λ (a : ℕ). pos 0 <ℤ dot (at (end_of r h)) (at (end_of r k)) (at a)) (sym (old h was)) side)));
       onward = λ h k live_h not_start not_end live_k old_k.
           let was = was_here h live_h not_start not_end in
           let back_h = old (rev h) (rev_live (map_of s) h was) in
-          of_old (λ c. pos 0 <ℤ beyond (at (origin_of r h)) (at (end_of r h)) (at c)
-          → (g : ℕ) × IsLive r g × (origin_of r g ≡ end_of r h) × (end_of r g ≢ v) × (pos 0 <ℤ beyond (at (origin_of r h)) (at (end_of r h)) (at (end_of r g))))
+          of_old (λ c. pos 0 <ℤ dot_of_steps (at (origin_of r h)) (at (end_of r h)) (at c)
+          → (g : ℕ) × IsLive r g × (origin_of r g ≡ end_of r h) × (end_of r g ≢ v) × (pos 0 <ℤ dot_of_steps (at (origin_of r h)) (at (end_of r h)) (at (end_of r g))))
           (λ j live_j more.
           let found = straight.onward h j was live_j
-          (subst (λ (b : ℕ). pos 0 <ℤ beyond (at (origin_of s h)) (at b) (at (origin_of s j))) (sym back_h)
-          (subst (λ (a : ℕ). pos 0 <ℤ beyond (at a) (at (end_of r h)) (at (origin_of s j))) (sym (old h was)) more)) in
+          (subst (λ (b : ℕ). pos 0 <ℤ dot_of_steps (at (origin_of s h)) (at b) (at (origin_of s j))) (sym back_h)
+          (subst (λ (a : ℕ). pos 0 <ℤ dot_of_steps (at a) (at (end_of r h)) (at (origin_of s j))) (sym (old h was)) more)) in
           let g = found.0 in
           let live_g = found.1 in
           let back_g = rev_live (map_of s) g live_g in (
@@ -301,9 +301,9 @@ module _ {V DE UE F : Type 0} (m : Mesh V DE UE F) (mesh : IsMesh m) (at : ℕ �
             live_r g live_g,
             sym (old g live_g) ∙ found.2 ∙ back_h,
             (λ is. not_v (rev g) back_g (old (rev g) back_g ∙ is)),
-            subst (λ (c : ℕ). pos 0 <ℤ beyond (at (origin_of r h)) (at (end_of r h)) (at c)) (old (rev g) back_g)
-                (subst (λ (b : ℕ). pos 0 <ℤ beyond (at (origin_of r h)) (at b) (at (end_of s g))) back_h
-                (subst (λ (a : ℕ). pos 0 <ℤ beyond (at a) (at (end_of s h)) (at (end_of s g))) (old h was) found.3)),
+            subst (λ (c : ℕ). pos 0 <ℤ dot_of_steps (at (origin_of r h)) (at (end_of r h)) (at c)) (old (rev g) back_g)
+                (subst (λ (b : ℕ). pos 0 <ℤ dot_of_steps (at (origin_of r h)) (at b) (at (end_of s g))) back_h
+                (subst (λ (a : ℕ). pos 0 <ℤ dot_of_steps (at a) (at (end_of s h)) (at (end_of s g))) (old h was) found.3)),
           )) k live_k old_k;
       fan_after = λ h i live_h on_h is live_i starts_i.
           subst (λ (b : ℕ). orient2d_of (at v) (at b) (at (end_of r i)) ≤ℤ pos 0) (ends_y h live_h on_h is)

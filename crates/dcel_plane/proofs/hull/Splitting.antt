@@ -14,7 +14,7 @@ use Rattle.dcel_maps.specs.Words.{word_of}
 use Rattle.dcel_maps.specs.edits.Split.{edge_split}
 use Rattle.dcel_maps.proofs.maps.Soundness.{rev_live}
 use Rattle.dcel_maps.proofs.maps.Triangles.{IsTriangleOf}
-use Rattle.dcel_plane.specs.Plane.{IsPlane, LiesAcross}
+use Rattle.dcel_plane.specs.Plane.{LiesAcross, TrianglesTurnLeft}
 use Rattle.dcel_plane.specs.covering.Covering.{IsConvex, IsHull}
 use Rattle.dcel_plane.proofs.covering.Alone.{IsWithin, far_left, lies_within, near_left, none_within}
 use Rattle.dcel_plane.proofs.covering.Faces.{right_of_hull}
@@ -24,7 +24,7 @@ use Rattle.dcel_plane.proofs.hull.Keeping.{same_outer, KeepsOuter, LiesWithin, S
 use Rattle.dcel_plane.proofs.hull.Quads.{quad_left}
 use Rattle.dcel_plane.proofs.edits.Splits.{split_more, split_old, split_start, split_words}
 
-module _ {V DE UE F : Type 0} (m : Mesh V DE UE F) (mesh : IsMesh m) (triangles : AllTriangles m.shape) (at : ℕ → Point) (plane : IsPlane at m.shape)
+module _ {V DE UE F : Type 0} (m : Mesh V DE UE F) (mesh : IsMesh m) (triangles : AllTriangles m.shape) (at : ℕ → Point) (plane : TrianglesTurnLeft at m.shape)
     (convex : IsConvex at m.shape) (hull : IsHull at m.shape) (e v : ℕ) (live : IsLive m.shape e) (inner : 0 < face_of m.shape e) (inner_facing : 0 < face_of m.shape (rev e))
     (across : LiesAcross at m.shape e (at v)) (across_t : LiesAcross at m.shape (rev e) (at v)) (halves : List DE) (edges : List UE) (faces : List F) where
   open (around m.shape e) use {n, l, t, f, g, before as ep, after as en, t_before as tp, t_after as tn, end}

@@ -13,8 +13,8 @@ use Rattle.dcel_maps.proofs.words.Reading.{face-next}
 use Rattle.dcel_plane.specs.Plane.{IsLeftOf}
 use Rattle.dcel_plane.proofs.covering.Inside.{on_end, on_start}
 use Rattle.dcel_plane.specs.hull.Closing.{IsClosing, IsThin}
-use Rattle.dcel_plane.specs.covering.Covering.{apart_along}
-use Rattle.dcel_plane.specs.hull.Straight.{beyond}
+use Rattle.dcel_plane.specs.covering.Covering.{dot}
+use Rattle.dcel_plane.specs.hull.Straight.{dot_of_steps}
 use Rattle.dcel_plane.proofs.hull.ClosingStep.{tip_cases, start_is, end_is, of_start, of_old, tip_before, tip_after}
 use Rattle.dcel_plane.proofs.hull.Step.{IsStep, Stays}
 
@@ -185,28 +185,28 @@ module _ (at : ℕ → Point) (s q : Shape) (e t : ℕ) (step : IsStep s q e) (c
           let end = old (rev h) (rev_live (map_of s) h was) in
           let end_k = old (rev k) (rev_live (map_of s) k too) in
           thin.once h k was too (λ is. not_start (sym start ∙ is)) (λ is. not_end (sym end ∙ is)) (λ is. not_end_k (sym end_k ∙ is)) (start ∙ same ∙ sym (old k too))
-          (subst (λ (l : ℕ). pos 0 <ℤ apart_along (at l) (at (end_of s k)) (at (origin_of s h))) (sym end)
-          (subst (λ (l : ℕ). pos 0 <ℤ apart_along (at (end_of q h)) (at l) (at (origin_of s h))) (sym end_k)
-          (subst (λ (l : ℕ). pos 0 <ℤ apart_along (at (end_of q h)) (at (end_of q k)) (at l)) (sym start) side)));
+          (subst (λ (l : ℕ). pos 0 <ℤ dot (at l) (at (end_of s k)) (at (origin_of s h))) (sym end)
+          (subst (λ (l : ℕ). pos 0 <ℤ dot (at (end_of q h)) (at l) (at (origin_of s h))) (sym end_k)
+          (subst (λ (l : ℕ). pos 0 <ℤ dot (at (end_of q h)) (at (end_of q k)) (at l)) (sym start) side)));
       onward = λ h k live_h not_start not_end live_k old_k.
           let was = was_here h live_h not_start not_end in
           let start = old h was in
           let end = old (rev h) (rev_live (map_of s) h was) in
-          of_old at s q e t step closing turns (λ l. pos 0 <ℤ beyond (at (origin_of q h)) (at (end_of q h)) (at l)
-          → (g : ℕ) × IsLive q g × (origin_of q g ≡ end_of q h) × (end_of q g ≢ t) × (pos 0 <ℤ beyond (at (origin_of q h)) (at (end_of q h)) (at (end_of q g))))
+          of_old at s q e t step closing turns (λ l. pos 0 <ℤ dot_of_steps (at (origin_of q h)) (at (end_of q h)) (at l)
+          → (g : ℕ) × IsLive q g × (origin_of q g ≡ end_of q h) × (end_of q g ≢ t) × (pos 0 <ℤ dot_of_steps (at (origin_of q h)) (at (end_of q h)) (at (end_of q g))))
           (λ j live_j old_j more.
           let found = thin.onward h j was (λ is. not_start (sym start ∙ is)) (λ is. not_end (sym end ∙ is)) live_j old_j
-          (subst (λ (l : ℕ). pos 0 <ℤ beyond (at (origin_of s h)) (at l) (at (origin_of s j))) (sym end)
-          (subst (λ (l : ℕ). pos 0 <ℤ beyond (at l) (at (end_of q h)) (at (origin_of s j))) (sym start) more)) in
+          (subst (λ (l : ℕ). pos 0 <ℤ dot_of_steps (at (origin_of s h)) (at l) (at (origin_of s j))) (sym end)
+          (subst (λ (l : ℕ). pos 0 <ℤ dot_of_steps (at l) (at (end_of q h)) (at (origin_of s j))) (sym start) more)) in
           let g = found.0 in
           let end_g = old (rev g) (rev_live (map_of s) g found.1) in (
             g,
             live_q g found.1,
             sym (old g found.1) ∙ found.2 ∙ end,
             (λ is. found.3 (end_g ∙ is)),
-            subst (λ (l : ℕ). pos 0 <ℤ beyond (at (origin_of q h)) (at (end_of q h)) (at l)) end_g
-                (subst (λ (l : ℕ). pos 0 <ℤ beyond (at (origin_of q h)) (at l) (at (end_of s g))) end
-                (subst (λ (l : ℕ). pos 0 <ℤ beyond (at l) (at (end_of s h)) (at (end_of s g))) start found.4)),
+            subst (λ (l : ℕ). pos 0 <ℤ dot_of_steps (at (origin_of q h)) (at (end_of q h)) (at l)) end_g
+                (subst (λ (l : ℕ). pos 0 <ℤ dot_of_steps (at (origin_of q h)) (at l) (at (end_of s g))) end
+                (subst (λ (l : ℕ). pos 0 <ℤ dot_of_steps (at l) (at (end_of s h)) (at (end_of s g))) start found.4)),
           )) k live_k old_k;
       fan_after = fans_after;
       fan_before = fans_before;

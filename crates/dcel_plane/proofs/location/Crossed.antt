@@ -17,7 +17,7 @@ use Rattle.dcel_maps.proofs.maps.Soundness.{rev_live}
 use Rattle.dcel_maps.proofs.maps.Triangles.{IsTriangleOf, by_triangle, off_triangle, triangle_faces_another}
 use Rattle.dcel_maps.proofs.shapes.Maps.{map-sound}
 use Rattle.dcel_maps.proofs.words.Counts.{count-equal, count-other, first_or_later}
-use Rattle.dcel_plane.specs.Plane.{IsDelaunay}
+use Rattle.dcel_plane.specs.Plane.{IsLocallyDelaunay}
 use Rattle.dcel_plane.specs.covering.Places.{Place, incircle_at, orient_at}
 use Rattle.dcel_plane.proofs.covering.Caps.{seen_from_other}
 use Rattle.dcel_plane.proofs.covering.Inside.{as_place, on_end, on_start, place_of}
@@ -71,7 +71,7 @@ not_back s p a b c d near far outside same_area same_power within higher =
 back_at : (s : Side) (p : Place) (a b c d a' b' : Point) → a ≡ a' → b ≡ b' → Back s p a b c d a' b'
 back_at s p a b c d a' b' ea eb = subst (λ (q : Point). Back s p a b c d a' q) eb (subst (λ (q : Point). Back s p a b c d q b) ea (not_back s p a b c d))
 
-module _ {V DE UE F : Type 0} (m : Mesh V DE UE F) (mesh : IsMesh m) (triangles : AllTriangles m.shape) (at : ℕ → Point) (delaunay : IsDelaunay at m.shape) (v : Point) where
+module _ {V DE UE F : Type 0} (m : Mesh V DE UE F) (mesh : IsMesh m) (triangles : AllTriangles m.shape) (at : ℕ → Point) (delaunay : IsLocallyDelaunay at m.shape) (v : Point) where
   abbrev s : Shape
   s = m.shape
 

@@ -12,8 +12,8 @@ use Rattle.dcel_maps.specs.Triangulations.{AllTriangles}
 use Rattle.dcel_maps.proofs.maps.Soundness.{rev_live}
 use Rattle.dcel_maps.proofs.maps.Triangles.{by_triangle, off_triangle}
 use Rattle.dcel_maps.proofs.shapes.Maps.{map-sound}
-use Rattle.dcel_plane.specs.Plane.{IsPlane, TurnsLeft}
-use Rattle.dcel_plane.specs.covering.Covering.{IsConvex, IsHull, apart_along}
+use Rattle.dcel_plane.specs.Plane.{TrianglesTurnLeft, TurnsLeft}
+use Rattle.dcel_plane.specs.covering.Covering.{IsConvex, IsHull, dot}
 use Rattle.dcel_plane.specs.covering.Places.{AreDisjoint, orient_at}
 use Rattle.dcel_plane.proofs.covering.Faces.{disjoint_at, not_bare}
 use Rattle.dcel_plane.proofs.covering.Inside.{as_covered, as_place, closed_disjoint, near_place, other_way, place_of, split_new_apart, weighed}
@@ -22,7 +22,7 @@ use Rattle.dcel_plane.specs.location.Locating.{LiesOn}
 use Rattle.dcel_plane.proofs.location.Exact.{covers_on}
 use Rattle.dcel_plane.proofs.location.Ways.{left_of_both, lies_back}
 
-module _ {V DE UE F : Type 0} (m : Mesh V DE UE F) (mesh : IsMesh m) (triangles : AllTriangles m.shape) (at : ℕ → Point) (plane : IsPlane at m.shape) (v : Point)
+module _ {V DE UE F : Type 0} (m : Mesh V DE UE F) (mesh : IsMesh m) (triangles : AllTriangles m.shape) (at : ℕ → Point) (plane : TrianglesTurnLeft at m.shape) (v : Point)
     (convex : IsConvex at m.shape) (hull : IsHull at m.shape) where
   abbrev s : Shape
   s = m.shape
@@ -45,7 +45,7 @@ module _ {V DE UE F : Type 0} (m : Mesh V DE UE F) (mesh : IsMesh m) (triangles 
       → (orient2d_of (p h) (p (next_of s h)) v ≡ pos 0) × (TurnsLeft (p (next_of s h)) (p (prev_of s h)) v × TurnsLeft (p (prev_of s h)) (p h) v)
   lefts h live inner lies =
       let on : orient2d_of (p h) (p (next_of s h)) v ≡ pos 0 = subst (λ (j : ℕ). orient2d_of (p h) (at j) v ≡ pos 0) (joined h live) lies.on in
-      let apart : apart_along (p h) (p (next_of s h)) v <ℤ pos 0 = subst (λ (j : ℕ). apart_along (p h) (at j) v <ℤ pos 0) (joined h live) lies.between in
+      let apart : dot (p h) (p (next_of s h)) v <ℤ pos 0 = subst (λ (j : ℕ). dot (p h) (at j) v <ℤ pos 0) (joined h live) lies.between in
       (on, left_of_both (p h) (p (next_of s h)) (p (prev_of s h)) v (left_at m mesh triangles at plane h live inner) on apart)
 
   -- of one triangle: it is the same side

@@ -11,15 +11,15 @@ use Rattle.dcel_predicates.proofs.Signs.{ordered, times_positive}
 use Rattle.dcel_maps.specs.Shapes.{IsLive, IsMesh, Mesh, Shape, end_of, face_of, map_of, next_of, origin_of, prev_of}
 use Rattle.dcel_maps.specs.Triangulations.{AllTriangles}
 use Rattle.dcel_maps.proofs.maps.Triangles.{IsTriangleOf}
-use Rattle.dcel_plane.specs.Plane.{IsLeftOf, IsPlane, LiesInside, TurnsLeft}
+use Rattle.dcel_plane.specs.Plane.{IsLeftOf, LiesInside, TrianglesTurnLeft, TurnsLeft}
 use Rattle.dcel_plane.proofs.edits.Corners.{left_of_triangle}
-use Rattle.dcel_plane.specs.covering.Covering.{Covers, apart_along}
-use Rattle.dcel_plane.proofs.covering.Along.{between_ends, dot, dot_start, first_weight, long, none_first, one_point, second_weight}
+use Rattle.dcel_plane.specs.covering.Covering.{Covers, dot}
+use Rattle.dcel_plane.proofs.covering.Along.{between_ends, dot_start, first_weight, long, none_first, one_point, second_weight}
 use Rattle.dcel_plane.proofs.covering.Inside.{on_end, on_start, same_place}
 use Rattle.dcel_plane.proofs.covering.Products.{positive_factor, zero_of}
 use Rattle.dcel_plane.proofs.covering.Triangles.{meets, of_face, round, turned_triangle}
 use Rattle.dcel_plane.proofs.hull.OneLine.{apart_down, inside_of}
-use Rattle.dcel_plane.specs.location.Locating.{HasCorner, HasEdge, side_of, LiesOn}
+use Rattle.dcel_plane.specs.location.Locating.{HasCorner, HasEdge, orient2d_along, LiesOn}
 
 -- two points that differ, from a triangle that they are corners of
 apart_corners : (a b c : Point) → TurnsLeft a b c → a.x ≡ b.x → a.y ≡ b.y → ⊥
@@ -36,15 +36,15 @@ module _ (a b c p : Point) (turn : TurnsLeft a b c) (on : orient2d_of a b p ≡ 
   on_too : orient2d_of b a p ≡ pos 0
   on_too = let e = orient2d-first_swapped a b p in omega (arith, ordered, e, on)
 
-  pub between_of : TurnsLeft b c p → TurnsLeft c a p → apart_along a b p <ℤ pos 0
+  pub between_of : TurnsLeft b c p → TurnsLeft c a p → dot a b p <ℤ pos 0
   between_of bc ca =
       let is = between_ends a b c p far turn bc ca on on_too in
       let x = is.above in let y = is.below in let z = dot_start a b in
       apart_down b a a b p far (on_start b a) (on_end b a) on_too y (omega (arith, ordered, x, z))
 
-  pub left_of_both : apart_along a b p <ℤ pos 0 → TurnsLeft b c p × TurnsLeft c a p
+  pub left_of_both : dot a b p <ℤ pos 0 → TurnsLeft b c p × TurnsLeft c a p
   left_of_both apart =
-      let other : apart_along b a p <ℤ pos 0 = (let x = *ℤ_comm (a.x -ℤ p.x) (b.x -ℤ p.x) in let y = *ℤ_comm (a.y -ℤ p.y) (b.y -ℤ p.y) in omega (arith, ordered, apart, x, y)) in
+      let other : dot b a p <ℤ pos 0 = (let x = *ℤ_comm (a.x -ℤ p.x) (b.x -ℤ p.x) in let y = *ℤ_comm (a.y -ℤ p.y) (b.y -ℤ p.y) in omega (arith, ordered, apart, x, y)) in
       let is = inside_of b a p far on_too other in
       let x = is.0 in let y = is.1 in (
         weight (dot p a b) (orient2d_of a b c) (orient2d_of b c p) (dot a a b) (orient2d_of a b p *ℤ dot c a b) (first_weight a b c p)
@@ -67,14 +67,14 @@ lies_back at s v k lies =
           subst (λ (i : ℕ). orient2d_of b (at (origin_of s i)) v ≡ pos 0) (sym (rev-rev k))
           (let o = orient2d-first_swapped a b v in let on = lies.on in omega (arith, ordered, o, on));
       between =
-          subst (λ (i : ℕ). apart_along b (at (origin_of s i)) v <ℤ pos 0) (sym (rev-rev k))
+          subst (λ (i : ℕ). dot b (at (origin_of s i)) v <ℤ pos 0) (sym (rev-rev k))
           (let x = *ℤ_comm (a.x -ℤ v.x) (b.x -ℤ v.x) in let y = *ℤ_comm (a.y -ℤ v.y) (b.y -ℤ v.y) in let apart = lies.between in omega (arith, ordered, apart, x, y));
     }
 
 pub not_both : (at : ℕ → Point) (s : Shape) (v : Point) (f : ℕ) → LiesInside at s f v → ¬ HasEdge at s v f
 not_both at s v f lies edge = let a = lies edge.side edge.live edge.face in let b = edge.lies.on in omega (arith, ordered, a, b)
 
-module _ {V DE UE F : Type 0} (m : Mesh V DE UE F) (mesh : IsMesh m) (triangles : AllTriangles m.shape) (at : ℕ → Point) (plane : IsPlane at m.shape) (v : Point) where
+module _ {V DE UE F : Type 0} (m : Mesh V DE UE F) (mesh : IsMesh m) (triangles : AllTriangles m.shape) (at : ℕ → Point) (plane : TrianglesTurnLeft at m.shape) (v : Point) where
   abbrev s : Shape
   s = m.shape
 
@@ -107,7 +107,7 @@ module _ {V DE UE F : Type 0} (m : Mesh V DE UE F) (mesh : IsMesh m) (triangles 
       face = tri.face_x;
       lies = record {
         on = subst (λ (j : ℕ). orient2d_of (p x) (at j) v ≡ pos 0) to_y on;
-        between = subst (λ (j : ℕ). apart_along (p x) (at j) v <ℤ pos 0) to_y (between_of (p x) (p y) (p z) v left on yz zx);
+        between = subst (λ (j : ℕ). dot (p x) (at j) v <ℤ pos 0) to_y (between_of (p x) (p y) (p z) v left on yz zx);
       };
       across =
           λ j live_j on_j off.
@@ -145,7 +145,7 @@ module _ {V DE UE F : Type 0} (m : Mesh V DE UE F) (mesh : IsMesh m) (triangles 
       (λ no_yz. inr (inr (at_second f x y z tri inner (zero_of (orient2d_of (p x) (p y) v) covers.0 no_xy) (zero_of (orient2d_of (p y) (p z) v) covers.1 no_yz)))))
 
   -- by the tests on the sides
-  covers_by : (h : ℕ) → (live : IsLive s h) → (inner : 0 < face_of s h) → pos 0 ≤ℤ side_of at s h v → pos 0 ≤ℤ side_of at s (next_of s h) v → pos 0 ≤ℤ side_of at s (prev_of s h) v
+  covers_by : (h : ℕ) → (live : IsLive s h) → (inner : 0 < face_of s h) → pos 0 ≤ℤ orient2d_along at s h v → pos 0 ≤ℤ orient2d_along at s (next_of s h) v → pos 0 ≤ℤ orient2d_along at s (prev_of s h) v
       → Covers (p h) (p (next_of s h)) (p (prev_of s h)) v
   covers_by h live inner first second third =
       let tri = round m mesh triangles h live inner in
@@ -156,7 +156,7 @@ module _ {V DE UE F : Type 0} (m : Mesh V DE UE F) (mesh : IsMesh m) (triangles 
         subst (λ (j : ℕ). pos 0 ≤ℤ orient2d_of (p (prev_of s h)) (at j) v) (sym (meets m mesh (face_of s h) (prev_of s h) h (next_of s h) tri_z)) third,
       )
 
-  pub found_in : (h : ℕ) → IsLive s h → 0 < face_of s h → pos 0 ≤ℤ side_of at s h v → pos 0 ≤ℤ side_of at s (next_of s h) v → pos 0 ≤ℤ side_of at s (prev_of s h) v
+  pub found_in : (h : ℕ) → IsLive s h → 0 < face_of s h → pos 0 ≤ℤ orient2d_along at s h v → pos 0 ≤ℤ orient2d_along at s (next_of s h) v → pos 0 ≤ℤ orient2d_along at s (prev_of s h) v
       → LiesInside at s (face_of s h) v ⊎ (HasEdge at s v (face_of s h) ⊎ HasCorner at s v (face_of s h))
   found_in h live inner first second third =
       three_ways (face_of s h) h (next_of s h) (prev_of s h) (round m mesh triangles h live inner) inner (covers_by h live inner first second third)

@@ -19,8 +19,8 @@ use Rattle.dcel_maps.proofs.maps.Soundness.{rev_live}
 use Rattle.dcel_maps.proofs.walks.Links.{links_stand, prev-live}
 use Rattle.dcel_maps.proofs.words.Counts.{first_or_later}
 use Rattle.dcel_maps.proofs.words.Reading.{face-prev}
-use Rattle.dcel_plane.specs.Plane.{IsPlane, TurnsLeft}
-use Rattle.dcel_plane.specs.covering.Covering.{Covers, IsConvex, IsHull, Supports, apart_along}
+use Rattle.dcel_plane.specs.Plane.{TrianglesTurnLeft, TurnsLeft}
+use Rattle.dcel_plane.specs.covering.Covering.{Covers, IsConvex, IsHull, Supports, dot}
 use Rattle.dcel_plane.specs.removal.Wheels.{IsHollow, turns}
 use Rattle.dcel_plane.proofs.covering.Along.{IsBetween, long, none_first}
 use Rattle.dcel_plane.proofs.hull.Beside.{end_right, start_right}
@@ -33,7 +33,6 @@ use Rattle.dcel_plane.proofs.covering.Inside.{apart_end, apart_start, on_end, on
 use Rattle.dcel_plane.proofs.hull.OneLine.{inside_of}
 use Rattle.dcel_plane.proofs.covering.Products.{times_below}
 use Rattle.dcel_plane.proofs.hull.Quads.{weighed_point}
-use Rattle.dcel_plane.proofs.covering.Along.{dot}
 use Rattle.dcel_plane.proofs.removal.Turning.{closes, turns_first}
 use Rattle.dcel_plane.proofs.covering.Triangles.{round}
 use Rattle.dcel_plane.proofs.removal.Wheels.{plucker, spans}
@@ -140,7 +139,7 @@ number_of f h w trip lists a is =
     let long : length w ≡ suc (length trip.rest) = ap length trip.from in
     (n, omega (arith, below, long), at_n)
 
-module _ {V DE UE F : Type 0} (m : Mesh V DE UE F) (mesh : IsMesh m) (triangles : AllTriangles m.shape) (at : ℕ → Point) (plane : IsPlane at m.shape)
+module _ {V DE UE F : Type 0} (m : Mesh V DE UE F) (mesh : IsMesh m) (triangles : AllTriangles m.shape) (at : ℕ → Point) (plane : TrianglesTurnLeft at m.shape)
     (convex : IsConvex at m.shape) (hull : IsHull at m.shape) (h : ℕ) (live : IsLive m.shape h) (outer : face_of m.shape h ≡ 0)
     (w : List ℕ) (trip : IsRoundTrip (ccw_of m.shape) h w) (lists : ListsOnce (IsOutEdge m.shape (origin_of m.shape h)) w)
     (hollow : IsHollow (at (origin_of m.shape h)) (λ i. at (end_of m.shape (turns (ccw_of m.shape) (suc i) h))) (length w - 1)) where
@@ -242,15 +241,15 @@ module _ {V DE UE F : Type 0} (m : Mesh V DE UE F) (mesh : IsMesh m) (triangles 
       (λ not. not)) i below)
 
   -- and none between its ends
-  between : (i : ℕ) → i < k → (z : ℕ) → IsLive s z → origin_of s z ≢ o → orient2d_of (neighbor i) (neighbor (suc i)) (p z) ≡ pos 0 → pos 0 ≤ℤ apart_along (neighbor i) (neighbor (suc i)) (p z)
+  between : (i : ℕ) → i < k → (z : ℕ) → IsLive s z → origin_of s z ≢ o → orient2d_of (neighbor i) (neighbor (suc i)) (p z) ≡ pos 0 → pos 0 ≤ℤ dot (neighbor i) (neighbor (suc i)) (p z)
   between i below z live_z not_o on =
-      by_lt_z (apart_along (neighbor i) (neighbor (suc i)) (p z)) (pos 0)
+      by_lt_z (dot (neighbor i) (neighbor (suc i)) (p z)) (pos 0)
       (λ less. absurd
       (let left = (corner_fan m mesh triangles at plane convex hull h live outer w trip).left i below in
       let left' : TurnsLeft (at o) (neighbor i) (neighbor (suc i)) = at_suc (λ q. TurnsLeft (at o) (neighbor i) q) i left in
       let far : pos 0 <ℤ dot (neighbor i) (neighbor i) (neighbor (suc i)) = long (neighbor i) (neighbor (suc i)) (λ ex ey. flat_none (at o) (neighbor i) (neighbor (suc i)) ex ey left') in
       let on_back : orient2d_of (neighbor (suc i)) (neighbor i) (p z) ≡ pos 0 = (let q = orient2d-first_swapped (neighbor i) (neighbor (suc i)) (p z) in omega (arith, ordered, q, on)) in
-      let swapped : apart_along (neighbor (suc i)) (neighbor i) (p z) <ℤ pos 0 = (let c = apart_swapped (neighbor i) (neighbor (suc i)) (p z) in omega (arith, ordered, c, less)) in
+      let swapped : dot (neighbor (suc i)) (neighbor i) (p z) <ℤ pos 0 = (let c = apart_swapped (neighbor i) (neighbor (suc i)) (p z) in omega (arith, ordered, c, less)) in
       let places = inside_of (neighbor (suc i)) (neighbor i) (p z) far on_back swapped in
       let is : IsBetween (neighbor (suc i)) (neighbor i) (p z) = record { on = on_back; above = places.0; below = places.1 } in
       let t = orient2d-turned (at o) (neighbor i) (neighbor (suc i)) in
@@ -262,8 +261,8 @@ module _ {V DE UE F : Type 0} (m : Mesh V DE UE F) (mesh : IsMesh m) (triangles 
       let b = orient2d-turned (at o) (p z) (neighbor i) in
       let b' = orient2d-last_swapped (at o) (p z) (neighbor i) in
       elim (beyond i below z live_z not_o (omega (arith, ordered, b, b', two)) (omega (arith, ordered, g, g', one)) (omega (arith, ordered, on))) [
-        | inl at_start ↦ (let e = ap (λ q. apart_along (neighbor i) (neighbor (suc i)) q) at_start ∙ apart_start (neighbor i) (neighbor (suc i)) in omega (arith, ordered, e, less))
-        | inr at_end ↦ (let e = ap (λ q. apart_along (neighbor i) (neighbor (suc i)) q) at_end ∙ apart_end (neighbor i) (neighbor (suc i)) in omega (arith, ordered, e, less))
+        | inl at_start ↦ (let e = ap (λ q. dot (neighbor i) (neighbor (suc i)) q) at_start ∙ apart_start (neighbor i) (neighbor (suc i)) in omega (arith, ordered, e, less))
+        | inr at_end ↦ (let e = ap (λ q. dot (neighbor i) (neighbor (suc i)) q) at_end ∙ apart_end (neighbor i) (neighbor (suc i)) in omega (arith, ordered, e, less))
       ]))
       (λ not. not)
     where
@@ -273,7 +272,7 @@ module _ {V DE UE F : Type 0} (m : Mesh V DE UE F) (mesh : IsMesh m) (triangles 
           same_last : (v a b : Point) → a.x ≡ b.x → a.y ≡ b.y → orient2d_of v a b ≡ orient2d_of v b b
           same_last v a b ex ey = rw (ex, ey) refl
 
-      apart_swapped : (a b q : Point) → apart_along b a q ≡ apart_along a b q
+      apart_swapped : (a b q : Point) → dot b a q ≡ dot a b q
       apart_swapped a b q =
           (let c = *ℤ_comm (b.x -ℤ q.x) (a.x -ℤ q.x) in
           let d = *ℤ_comm (b.y -ℤ q.y) (a.y -ℤ q.y) in

@@ -14,22 +14,21 @@ use Rattle.dcel_maps.proofs.maps.Soundness.{rev_live}
 use Rattle.dcel_maps.proofs.shapes.Maps.{map-sound}
 use Rattle.dcel_maps.proofs.walks.Links.{links_stand, prev-live}
 use Rattle.dcel_maps.proofs.words.Reading.{face-prev}
-use Rattle.dcel_plane.specs.covering.Covering.{IsConvex, IsHull, Supports, apart_along}
+use Rattle.dcel_plane.specs.covering.Covering.{IsConvex, IsHull, Supports, dot}
 use Rattle.dcel_plane.specs.removal.Wheels.{turns}
 use Rattle.dcel_plane.proofs.covering.Along.{dot_start, long, one_place, placed, sides}
 use Rattle.dcel_plane.proofs.removal.Cutting.{IsCutOff, cut_off_convex, cut_off_hull, number_of}
 use Rattle.dcel_plane.proofs.covering.Inside.{on_end, on_start}
 use Rattle.dcel_plane.proofs.hull.OneLine.{inside_of}
-use Rattle.dcel_plane.proofs.covering.Along.{dot}
 use Rattle.dcel_plane.proofs.removal.Turning.{closes, least}
 use Rattle.dcel_plane.proofs.covering.Triangles.{round}
 use Rattle.dcel_plane.proofs.removal.Wheels.{summed}
 
 -- on a line, what is neither between a and v nor between v and b, and isn't v, isn't between a and b
-not_between : (a v b z : Point) → pos 0 <ℤ dot b b a → orient2d_of a b v ≡ pos 0 → orient2d_of a b z ≡ pos 0 → pos 0 ≤ℤ apart_along a v z → pos 0 ≤ℤ apart_along v b z
-    → (z.x ≡ v.x → z.y ≡ v.y → ⊥) → pos 0 ≤ℤ apart_along a b z
+not_between : (a v b z : Point) → pos 0 <ℤ dot b b a → orient2d_of a b v ≡ pos 0 → orient2d_of a b z ≡ pos 0 → pos 0 ≤ℤ dot a v z → pos 0 ≤ℤ dot v b z
+    → (z.x ≡ v.x → z.y ≡ v.y → ⊥) → pos 0 ≤ℤ dot a b z
 not_between a v b z far on_v on_z before after differ =
-    by_lt_z (apart_along a b z) (pos 0)
+    by_lt_z (dot a b z) (pos 0)
     (λ less. absurd
     (let places = inside_of a b z far on_z less in
     let low = places.0 in
@@ -131,8 +130,8 @@ module _ {V DE UE F : Type 0} (m : Mesh V DE UE F) (mesh : IsMesh m) (triangles 
         λ zero_turn.
             let on_one : orient2d_of (p (prev_of s h)) (at o) (p z) ≡ pos 0 = omega (arith, ordered, e, f, flat', one, two, zero_turn) in
             let on_two : orient2d_of (at o) (at (end_of s h)) (p z) ≡ pos 0 = omega (arith, ordered, e, f, flat', one, two, zero_turn) in
-            let before : pos 0 ≤ℤ apart_along (p (prev_of s h)) (at o) (p z) =
-            subst (λ (j : ℕ). orient2d_of (p (prev_of s h)) (at j) (p z) ≡ pos 0 → pos 0 ≤ℤ apart_along (p (prev_of s h)) (at j) (p z)) ends_p
+            let before : pos 0 ≤ℤ dot (p (prev_of s h)) (at o) (p z) =
+            subst (λ (j : ℕ). orient2d_of (p (prev_of s h)) (at j) (p z) ≡ pos 0 → pos 0 ≤ℤ dot (p (prev_of s h)) (at j) (p z)) ends_p
             (convex.supports (prev_of s h) z live_p on_p live_z).1 on_one in
             let after = (convex.supports h z live outer live_z).1 on_two in
             let t = orient2d-turned (at o) (p (prev_of s h)) (at (end_of s h)) in

@@ -10,12 +10,12 @@ use Rattle.dcel_maps.specs.Words.{TurnsTo, count_of, word_of}
 use Rattle.dcel_maps.proofs.words.Counts.{count-later, count-same}
 use Rattle.dcel_maps.proofs.words.Turns.{from_least-turn}
 use Rattle.dcel_maps.proofs.edits.Around.{at_edge}
-use Rattle.dcel_plane.specs.Plane.{IsPlane, TurnsLeft}
+use Rattle.dcel_plane.specs.Plane.{TrianglesTurnLeft, TurnsLeft}
 use Rattle.dcel_plane.proofs.edits.Corners.{corners_are, left_turned, turned_along}
 use Rattle.dcel_plane.proofs.edits.Flipped.{from_end, from_start, origin_after, origin_e, origin_far, origin_near, origin_t, origin_t_after, starts_else, word_else, word_f, word_g}
-use Rattle.dcel_plane.specs.removal.Wheels.{CanTurnAt, IsPlaneBut}
+use Rattle.dcel_plane.specs.removal.Wheels.{CanTurnAt, TrianglesTurnLeftBut}
 
-module _ {V DE UE F : Type 0} (m : Mesh V DE UE F) (mesh : IsMesh m) (at : ℕ → Point) (u v : ℕ) (turn : CanTurnAt at m.shape u v) (plane : IsPlane at m.shape) where
+module _ {V DE UE F : Type 0} (m : Mesh V DE UE F) (mesh : IsMesh m) (at : ℕ → Point) (u v : ℕ) (turn : CanTurnAt at m.shape u v) (plane : TrianglesTurnLeft at m.shape) where
   abbrev s : Shape
   s = m.shape
 
@@ -46,7 +46,7 @@ module _ {V DE UE F : Type 0} (m : Mesh V DE UE F) (mesh : IsMesh m) (at : ℕ �
       corners_are at (sym (origin_t m mesh u can)) (sym (origin_near m mesh u can at)) (sym (from_start m mesh u can) ∙ sym (origin_t_after m mesh u can at))
       (turn.second (λ is. not_z (origin_t_after m mesh u can at ∙ from_start m mesh u can ∙ is)))
 
-  pub flip_plane_but : IsPlaneBut at (edge_flipped m u).shape v
+  pub flip_plane_but : TrianglesTurnLeftBut at (edge_flipped m u).shape v
   flip_plane_but = record {
     left = λ k x y z inner is. elim (cases_eq k g) [
       | inl same ↦ of_word t ep tn x y z (sym (word_g m mesh u can) ∙ ap (word_of n.words) (sym same) ∙ is) second_left

@@ -21,7 +21,7 @@ use Rattle.dcel_maps.proofs.walks.Links.{ccw-lawful, links_stand, prev-live, pre
 use Rattle.dcel_maps.proofs.walks.Turning.{walk-out_edges}
 use Rattle.dcel_maps.proofs.walks.UnderWay.{walk-round}
 use Rattle.dcel_maps.proofs.words.Reading.{face-prev}
-use Rattle.dcel_plane.specs.Plane.{IsPlane}
+use Rattle.dcel_plane.specs.Plane.{TrianglesTurnLeft}
 use Rattle.dcel_plane.specs.covering.Covering.{IsConvex, IsHull}
 use Rattle.dcel_plane.proofs.covering.Triangles.{round}
 use Rattle.dcel_plane.proofs.hull.Keeping.{flip_outer, outer_word}
@@ -34,7 +34,7 @@ use Rattle.dcel_plane.proofs.removal.Stripping.{corner_strip}
 use Rattle.dcel_plane.proofs.removal.Turnable.{both_halves}
 use Rattle.dcel_plane.proofs.removal.Turning.{closes}
 
-module _ {V DE UE F : Type 0} (m : Mesh V DE UE F) (mesh : IsMesh m) (triangles : AllTriangles m.shape) (at : ℕ → Point) (plane : IsPlane at m.shape)
+module _ {V DE UE F : Type 0} (m : Mesh V DE UE F) (mesh : IsMesh m) (triangles : AllTriangles m.shape) (at : ℕ → Point) (plane : TrianglesTurnLeft at m.shape)
     (convex : IsConvex at m.shape) (hull : IsHull at m.shape) (h : ℕ) (live : IsLive m.shape h) (outer : face_of m.shape h ≡ 0)
     (lies : LiesOnHull (at (origin_of m.shape h)) (λ i. at (end_of m.shape (turns (ccw_of m.shape) (suc i) h))) (length (walk_of m.shape (ccw_of m.shape) h) - 1)) where
   abbrev s : Shape

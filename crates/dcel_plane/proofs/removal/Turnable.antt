@@ -16,7 +16,7 @@ use Rattle.dcel_maps.specs.Walking.{ccw_of}
 use Rattle.dcel_maps.proofs.edits.Around.{at_edge}
 use Rattle.dcel_maps.proofs.edits.Patches.{Patch, replacing}
 use Rattle.dcel_maps.proofs.maps.Soundness.{rev_live}
-use Rattle.dcel_plane.specs.Plane.{IsPlane, TurnsLeft}
+use Rattle.dcel_plane.specs.Plane.{TrianglesTurnLeft, TurnsLeft}
 use Rattle.dcel_plane.proofs.edits.Corners.{LeftOf, corners_are, left-from_least}
 use Rattle.dcel_plane.proofs.edits.Flipped.{flip_written, from_end, from_start, origin_after, origin_e, origin_far, origin_near, origin_t, origin_t_after}
 use Rattle.dcel_plane.proofs.edits.Written.{written_plane}
@@ -59,7 +59,7 @@ module _ {V DE UE F : Type 0} (m : Mesh V DE UE F) (mesh : IsMesh m) (at : ℕ �
       corners_are at (sym (origin_t m mesh u turn.can)) (sym (origin_near m mesh u turn.can at)) (sym (from_start m mesh u turn.can) ∙ sym (origin_t_after m mesh u turn.can at))
       turn.second
 
-  pub turn_keeps_plane : IsPlane at m.shape → IsPlane at n
+  pub turn_keeps_plane : TrianglesTurnLeft at m.shape → TrianglesTurnLeft at n
   turn_keeps_plane plane =
       written_plane at m.shape n words origins (flip_written m mesh u turn.can) mesh.sound plane (
         (λ x y z inner is. left-from_least at n e tp en x y z is first_turns),

@@ -15,9 +15,9 @@ use Rattle.dcel_maps.specs.Words.{count_of}
 use Rattle.dcel_maps.proofs.maps.Soundness.{rev_live}
 use Rattle.dcel_maps.proofs.maps.Triangles.{IsTriangleOf}
 use Rattle.dcel_maps.proofs.words.Counts.{count-append, count-equal, count-later, count-other, count-same}
-use Rattle.dcel_plane.specs.Plane.{IsPlane, TurnsLeft}
+use Rattle.dcel_plane.specs.Plane.{TrianglesTurnLeft, TurnsLeft}
 use Rattle.dcel_plane.specs.covering.Covering.{IsConvex}
-use Rattle.dcel_plane.specs.segments.Segments.{AreEnds, Becomes, Crosses, IsChannel, IsCorner, IsPeak, Leads, corner_before, corner_beyond, offset, width, widths}
+use Rattle.dcel_plane.specs.segments.Segments.{AreEnds, Becomes, Crosses, IsChannel, IsCorner, IsPeak, Leads, corner_before, corner_beyond, orient2d_by, width, widths}
 use Rattle.dcel_plane.proofs.segments.FlipFaces.{Flipped, flipped_at}
 use Rattle.dcel_plane.proofs.segments.Gates.{at_end, at_start, far, inner_far, inner_near, left_far, left_near, near, peak_can_turn}
 use Rattle.dcel_plane.proofs.covering.Inside.{on_end, on_start}
@@ -46,7 +46,7 @@ widths_on at s v w (h ∷ a) b = (let e = widths_on at s v w a b in one_more (wi
     one_more : (x y z t : ℤ) → y ≡ z +ℤ t → x +ℤ y ≡ (x +ℤ z) +ℤ t
     one_more x y z t e = omega (arith, ordered, e)
 
-module _ {V DE UE F : Type 0} (m : Mesh V DE UE F) (mesh : IsMesh m) (triangles : AllTriangles m.shape) (at : ℕ → Point) (plane : IsPlane at m.shape)
+module _ {V DE UE F : Type 0} (m : Mesh V DE UE F) (mesh : IsMesh m) (triangles : AllTriangles m.shape) (at : ℕ → Point) (plane : TrianglesTurnLeft at m.shape)
     (convex : IsConvex at m.shape) (v w : ℕ) (ends : AreEnds m.shape v w) (h : ℕ) (crosses : Crosses at m.shape v w h) (peak : IsPeak at m.shape v w h) where
   abbrev s : Shape
   s = m.shape
@@ -55,7 +55,7 @@ module _ {V DE UE F : Type 0} (m : Mesh V DE UE F) (mesh : IsMesh m) (triangles 
   n = (edge_flipped m (h / 2)).shape
 
   abbrev off : ℕ → ℤ
-  off k = offset at v w k
+  off k = orient2d_by at v w k
 
   abbrev f : ℕ
   f = face_of m.shape h

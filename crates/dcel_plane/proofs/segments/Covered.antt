@@ -19,7 +19,7 @@ use Rattle.dcel_maps.proofs.shapes.Maps.{face-live}
 use Rattle.dcel_maps.proofs.words.Counts.{count-later, count-same}
 use Rattle.dcel_maps.proofs.words.Turns.{from_least-turn, turns_back}
 use Rattle.dcel_maps.proofs.edits.Around.{at_edge}
-use Rattle.dcel_plane.specs.Plane.{IsPlane, TurnsLeft}
+use Rattle.dcel_plane.specs.Plane.{TrianglesTurnLeft, TurnsLeft}
 use Rattle.dcel_plane.proofs.edits.Corners.{three_items, turned_along}
 use Rattle.dcel_plane.proofs.edits.Flipped.{from_end, from_start, left_before, origin_after, origin_e, origin_far, origin_near, origin_same, origin_t, origin_t_after, right_before, starts_else, word_else, word_f, word_g}
 use Rattle.dcel_plane.specs.covering.Covering.{CoversHull}
@@ -28,7 +28,7 @@ use Rattle.dcel_plane.proofs.covering.Inside.{not_right, on_end, on_start, other
 use Rattle.dcel_plane.proofs.covering.Triangles.{at_word, same_face, word_at}
 use Rattle.dcel_plane.proofs.hull.Keeping.{flip_outer}
 use Rattle.dcel_plane.specs.removal.Wheels.{CanTurn}
-use Rattle.dcel_plane.specs.segments.Segments.{CanTurnEach, IsPlanar, flipped_each}
+use Rattle.dcel_plane.specs.segments.Segments.{CanTurnEach, TriangulatesItsHull, flipped_each}
 use Rattle.dcel_plane.proofs.segments.Becoming.{turned_planar}
 use Rattle.dcel_plane.proofs.segments.FlipFaces.{Flipped, of_even}
 
@@ -50,7 +50,7 @@ module _ (a b c d : Point) (near : TurnsLeft a b c) (far : TurnsLeft b a d) (fir
         is.1,
       ))
 
-module _ {V DE UE F : Type 0} (m : Mesh V DE UE F) (mesh : IsMesh m) (triangles : AllTriangles m.shape) (at : ℕ → Point) (plane : IsPlane at m.shape) (u : ℕ)
+module _ {V DE UE F : Type 0} (m : Mesh V DE UE F) (mesh : IsMesh m) (triangles : AllTriangles m.shape) (at : ℕ → Point) (plane : TrianglesTurnLeft at m.shape) (u : ℕ)
     (turn : CanTurn at m.shape u) where
   abbrev s : Shape
   s = m.shape
@@ -268,12 +268,12 @@ module _ {V DE UE F : Type 0} (m : Mesh V DE UE F) (mesh : IsMesh m) (triangles 
   }
 
 -- and flips one after another
-pub each_covers : {V DE UE F : Type 0} (at : ℕ → Point) (m : Mesh V DE UE F) (list : List ℕ) → IsPlanar at m → CanTurnEach at m list → CoversHull at m.shape
+pub each_covers : {V DE UE F : Type 0} (at : ℕ → Point) (m : Mesh V DE UE F) (list : List ℕ) → TriangulatesItsHull at m → CanTurnEach at m list → CoversHull at m.shape
     → CoversHull at (flipped_each m list).shape
 each_covers at m [] planar can covers = covers
 each_covers at m (u ∷ list) planar can covers =
     each_covers at (edge_flipped m u) list (turned_planar at m u planar can.0) can.1 (turn_covers m planar.mesh planar.triangles at planar.plane u can.0 covers)
 
-pub each_planar : {V DE UE F : Type 0} (at : ℕ → Point) (m : Mesh V DE UE F) (list : List ℕ) → IsPlanar at m → CanTurnEach at m list → IsPlanar at (flipped_each m list)
+pub each_planar : {V DE UE F : Type 0} (at : ℕ → Point) (m : Mesh V DE UE F) (list : List ℕ) → TriangulatesItsHull at m → CanTurnEach at m list → TriangulatesItsHull at (flipped_each m list)
 each_planar at m [] planar can = planar
 each_planar at m (u ∷ list) planar can = each_planar at (edge_flipped m u) list (turned_planar at m u planar can.0) can.1

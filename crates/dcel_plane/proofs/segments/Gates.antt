@@ -10,22 +10,22 @@ use Rattle.dcel_maps.specs.Shapes.{IsLive, IsMesh, Mesh, Shape, end_of, face_of,
 use Rattle.dcel_maps.specs.Triangulations.{AllTriangles}
 use Rattle.dcel_maps.proofs.maps.Soundness.{rev_live}
 use Rattle.dcel_maps.proofs.maps.Triangles.{IsTriangleOf}
-use Rattle.dcel_plane.specs.Plane.{IsPlane, TurnsLeft}
+use Rattle.dcel_plane.specs.Plane.{TrianglesTurnLeft, TurnsLeft}
 use Rattle.dcel_plane.proofs.edits.Corners.{corners_are, left_of_triangle}
 use Rattle.dcel_plane.specs.covering.Covering.{IsConvex}
-use Rattle.dcel_plane.specs.segments.Segments.{AreEnds, Crosses, IsPeak, corner_before, corner_beyond, offset}
+use Rattle.dcel_plane.specs.segments.Segments.{AreEnds, Crosses, IsPeak, corner_before, corner_beyond, orient2d_by}
 use Rattle.dcel_plane.specs.removal.Wheels.{CanTurn}
 use Rattle.dcel_plane.proofs.segments.Levers.{turns_at_left, turns_at_right}
 use Rattle.dcel_plane.proofs.removal.Turnable.{turned_can}
 use Rattle.dcel_plane.proofs.covering.Triangles.{is_triangle, round}
 
-module _ {V DE UE F : Type 0} (m : Mesh V DE UE F) (mesh : IsMesh m) (triangles : AllTriangles m.shape) (at : ℕ → Point) (plane : IsPlane at m.shape)
+module _ {V DE UE F : Type 0} (m : Mesh V DE UE F) (mesh : IsMesh m) (triangles : AllTriangles m.shape) (at : ℕ → Point) (plane : TrianglesTurnLeft at m.shape)
     (convex : IsConvex at m.shape) (v w : ℕ) (ends : AreEnds m.shape v w) where
   abbrev s : Shape
   s = m.shape
 
   abbrev off : ℕ → ℤ
-  off k = offset at v w k
+  off k = orient2d_by at v w k
 
   -- where a half edge's triangle goes on
   pub on_next : (h : ℕ) → IsLive s h → origin_of s (next_of s h) ≡ end_of s h

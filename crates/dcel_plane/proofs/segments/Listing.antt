@@ -13,10 +13,10 @@ use Rattle.dcel_maps.specs.Triangulations.{AllTriangles}
 use Rattle.dcel_maps.specs.Words.{count_of}
 use Rattle.dcel_maps.proofs.maps.Triangles.{IsTriangleOf}
 use Rattle.dcel_maps.proofs.words.Counts.{count-later, count-other, count-same}
-use Rattle.dcel_plane.specs.Plane.{IsPlane, TurnsLeft}
+use Rattle.dcel_plane.specs.Plane.{TrianglesTurnLeft, TurnsLeft}
 use Rattle.dcel_plane.specs.covering.Covering.{IsConvex, IsHull}
 use Rattle.dcel_plane.specs.covering.Places.{AreDisjoint}
-use Rattle.dcel_plane.specs.segments.Segments.{AreEnds, Crosses, IsChannel, IsClear, IsCorner, Leads, corner_beyond, offset}
+use Rattle.dcel_plane.specs.segments.Segments.{AreEnds, Crosses, IsChannel, IsClear, IsCorner, Leads, corner_beyond, orient2d_by}
 use Rattle.dcel_plane.proofs.covering.Faces.{disjoint_at, six_corners}
 use Rattle.dcel_plane.proofs.segments.Gates.{far, inner_far, left_far}
 use Rattle.dcel_plane.proofs.covering.Inside.{on_end, on_start}
@@ -26,13 +26,13 @@ use Rattle.dcel_plane.proofs.removal.Overlapping.{overlap}
 use Rattle.dcel_plane.proofs.segments.Peaks.{ends_of}
 use Rattle.dcel_plane.proofs.covering.Triangles.{of_face}
 
-module _ {V DE UE F : Type 0} (m : Mesh V DE UE F) (mesh : IsMesh m) (triangles : AllTriangles m.shape) (at : ℕ → Point) (plane : IsPlane at m.shape)
+module _ {V DE UE F : Type 0} (m : Mesh V DE UE F) (mesh : IsMesh m) (triangles : AllTriangles m.shape) (at : ℕ → Point) (plane : TrianglesTurnLeft at m.shape)
     (convex : IsConvex at m.shape) (hull : IsHull at m.shape) (v w : ℕ) (ends : AreEnds m.shape v w) (clear : IsClear at m.shape v w) where
   abbrev s : Shape
   s = m.shape
 
   abbrev off : ℕ → ℤ
-  off k = offset at v w k
+  off k = orient2d_by at v w k
 
   at_v : off v ≡ pos 0
   at_v = on_end (at v) (at w)
@@ -162,7 +162,7 @@ module _ {V DE UE F : Type 0} (m : Mesh V DE UE F) (mesh : IsMesh m) (triangles 
         let t = tail m mesh triangles at plane convex hull v w ends clear h c in
         stands h t.rest t.last c t.leads t.end
 
-pub stands_in : {V DE UE F : Type 0} (m : Mesh V DE UE F) (mesh : IsMesh m) (triangles : AllTriangles m.shape) (at : ℕ → Point) (plane : IsPlane at m.shape)
+pub stands_in : {V DE UE F : Type 0} (m : Mesh V DE UE F) (mesh : IsMesh m) (triangles : AllTriangles m.shape) (at : ℕ → Point) (plane : TrianglesTurnLeft at m.shape)
     (convex : IsConvex at m.shape) (hull : IsHull at m.shape) (v w : ℕ) (clear : IsClear at m.shape v w) (list : List ℕ) → IsChannel at m.shape v w list → list ≢ []
     → (h : ℕ) → Crosses at m.shape v w h → 0 < count_of h list
 stands_in m mesh triangles at plane convex hull v w clear [] channel some h crosses = absurd (some refl)

@@ -9,9 +9,9 @@ use Rattle.dcel_maps.specs.Shapes.{IsLive, IsMesh, Mesh, Shape, end_of, face_of,
 use Rattle.dcel_maps.specs.Triangulations.{AllTriangles}
 use Rattle.dcel_maps.proofs.maps.Soundness.{rev_live}
 use Rattle.dcel_maps.proofs.maps.Triangles.{IsTriangleOf}
-use Rattle.dcel_plane.specs.Plane.{IsPlane}
+use Rattle.dcel_plane.specs.Plane.{TrianglesTurnLeft}
 use Rattle.dcel_plane.specs.covering.Covering.{IsConvex}
-use Rattle.dcel_plane.specs.segments.Segments.{AreEnds, Crosses, IsChannel, IsCorner, IsPeak, Leads, NarrowerBefore, NotWiderAfter, corner_before, corner_beyond, offset, width, widths}
+use Rattle.dcel_plane.specs.segments.Segments.{AreEnds, Crosses, IsChannel, IsCorner, IsPeak, Leads, NarrowerBefore, NotWiderAfter, corner_before, corner_beyond, orient2d_by, width, widths}
 use Rattle.dcel_plane.proofs.segments.Gates.{far, near}
 use Rattle.dcel_plane.proofs.covering.Inside.{on_end, on_start}
 use Rattle.dcel_plane.proofs.covering.Triangles.{of_face, round}
@@ -64,9 +64,9 @@ module _ {V DE UE F : Type 0} (m : Mesh V DE UE F) (mesh : IsMesh m) (triangles 
   empty_joins at v w differ channel =
       corners_join channel.first v w channel.inner differ channel.start (subst (λ (i : ℕ). IsCorner s i w) (sym channel.leads) channel.end)
 
-  module _ (at : ℕ → Point) (plane : IsPlane at m.shape) (convex : IsConvex at m.shape) (v w : ℕ) (ends : AreEnds m.shape v w) where
+  module _ (at : ℕ → Point) (plane : TrianglesTurnLeft at m.shape) (convex : IsConvex at m.shape) (v w : ℕ) (ends : AreEnds m.shape v w) where
     abbrev off : ℕ → ℤ
-    off k = offset at v w k
+    off k = orient2d_by at v w k
 
     -- the corner before h lies between its ends, across the segment
     record Rises (h : ℕ) : Type 0 where

@@ -3,8 +3,8 @@ use Rattle.std.specs.Prelude.{◌≡◌, ◌≢◌, ℕ, ◌<◌, pos, ◌<ℤ�
 use Rattle.dcel_predicates.specs.declared.point.Point.{Point}
 use Rattle.dcel_predicates.specs.Determinants.{orient2d_of}
 use Rattle.dcel_maps.specs.Shapes.{IsLive, Shape, end_of, face_of, next_of, origin_of, prev_of}
-use Rattle.dcel_plane.specs.covering.Covering.{HasDistinctPoints, Supports, apart_along}
-use Rattle.dcel_plane.specs.hull.Straight.{beyond}
+use Rattle.dcel_plane.specs.covering.Covering.{HasDistinctPoints, Supports, dot}
+use Rattle.dcel_plane.specs.hull.Straight.{dot_of_steps}
 
 -- a half edge of an inner face leads from a to b: it has t on its left, and supports the old vertices
 pub record Sees (at : ℕ → Point) (s : Shape) (t a b : ℕ) : Type 0 where
@@ -63,10 +63,10 @@ pub record IsThin (at : ℕ → Point) (s : Shape) (t : ℕ) : Type 0 where
   pub line : (h k : ℕ) → IsLive s h → origin_of s h ≢ t → end_of s h ≢ t → IsLive s k → origin_of s k ≢ t
       → orient2d_of (at (origin_of s h)) (at (end_of s h)) (at (origin_of s k)) ≡ pos 0
   pub once : (h k : ℕ) → IsLive s h → IsLive s k → origin_of s h ≢ t → end_of s h ≢ t → end_of s k ≢ t → origin_of s h ≡ origin_of s k
-      → pos 0 <ℤ apart_along (at (end_of s h)) (at (end_of s k)) (at (origin_of s h)) → h ≡ k
+      → pos 0 <ℤ dot (at (end_of s h)) (at (end_of s k)) (at (origin_of s h)) → h ≡ k
   pub onward : (h k : ℕ) → IsLive s h → origin_of s h ≢ t → end_of s h ≢ t → IsLive s k → origin_of s k ≢ t
-      → pos 0 <ℤ beyond (at (origin_of s h)) (at (end_of s h)) (at (origin_of s k))
-      → (g : ℕ) × IsLive s g × (origin_of s g ≡ end_of s h) × (end_of s g ≢ t) × (pos 0 <ℤ beyond (at (origin_of s h)) (at (end_of s h)) (at (end_of s g)))
+      → pos 0 <ℤ dot_of_steps (at (origin_of s h)) (at (end_of s h)) (at (origin_of s k))
+      → (g : ℕ) × IsLive s g × (origin_of s g ≡ end_of s h) × (end_of s g ≢ t) × (pos 0 <ℤ dot_of_steps (at (origin_of s h)) (at (end_of s h)) (at (end_of s g)))
   pub fan_after : (h i : ℕ) → IsLive s h → face_of s h ≡ 0 → origin_of s h ≡ t → IsLive s i → origin_of s i ≡ t
       → orient2d_of (at t) (at (end_of s h)) (at (end_of s i)) ≤ℤ pos 0
   pub fan_before : (h i : ℕ) → IsLive s h → face_of s h ≡ 0 → end_of s h ≡ t → IsLive s i → origin_of s i ≡ t
