@@ -12,11 +12,14 @@ use Rattle.dcel_maps.specs.Shapes.{IsLive, IsSound, Shape, end_of, map_of, origi
 use Rattle.dcel_maps.proofs.maps.Soundness.{rev_live}
 use Rattle.dcel_plane.specs.covering.Covering.{HasDistinctPoints, dot}
 use Rattle.dcel_plane.specs.covering.Places.{Place, orient_at}
-use Rattle.dcel_plane.proofs.covering.Inside.{weighed}
+use Rattle.dcel_plane.proofs.covering.Inside.{apart_start, weighed}
 use Rattle.dcel_plane.proofs.covering.Products.{no_weights, below_times, square_zero, times_below}
 
 abbrev pub dot_in : Spot → Spot → Spot → Term
 dot_in a b c = plus (by (minus a.x c.x) (minus b.x c.x)) (by (minus a.y c.y) (minus b.y c.y))
+
+pub dot_swapped : (a b c : Point) → dot a b c ≡ dot b a c
+dot_swapped a b c = by_terms (a.x ∷ a.y ∷ b.x ∷ b.y ∷ c.x ∷ c.y ∷ []) (dot_in (spot 0) (spot 1) (spot 2)) (dot_in (spot 1) (spot 0) (spot 2)) refl
 
 -- products with a factor 0
 pub none_first : (x g : ℤ) → x ≡ pos 0 → x *ℤ g ≡ pos 0
@@ -113,7 +116,7 @@ sides x y product =
     (λ nor. inr (not, nor)))
 
 pub dot_start : (a b : Point) → dot b a b ≡ pos 0
-dot_start a b = by_terms (a.x ∷ a.y ∷ b.x ∷ b.y ∷ []) (dot_in (spot 1) (spot 0) (spot 1)) (num (pos 0)) refl
+dot_start a b = apart_start b a
 
 -- where two points on the line lie equally far along it they are one
 pub one_place : (b a x q : Point) → pos 0 <ℤ dot a a b → orient2d_of b a x ≡ pos 0 → orient2d_of b a q ≡ pos 0 → dot x a b ≡ dot q a b → (x.x ≡ q.x) × (x.y ≡ q.y)

@@ -13,7 +13,7 @@ use Rattle.dcel_maps.specs.Shapes.{IsLive, IsMesh, Mesh, Shape, end_of, face_of,
 use Rattle.dcel_maps.proofs.maps.Soundness.{rev_live}
 use Rattle.dcel_plane.specs.covering.Delaunay.{IsDelaunayTriangulation}
 use Rattle.dcel_plane.specs.covering.Covering.{dot}
-use Rattle.dcel_plane.proofs.covering.Along.{dot_in, dot_start, none_first, one_place}
+use Rattle.dcel_plane.proofs.covering.Along.{dot_in, dot_start, dot_swapped, none_first, one_place}
 use Rattle.dcel_plane.proofs.covering.Circles.{no_vertex_inside}
 use Rattle.dcel_plane.proofs.covering.Cones.{nothing}
 use Rattle.dcel_plane.proofs.covering.Faces.{corner_of}
@@ -25,7 +25,7 @@ use Rattle.dcel_plane.specs.hull.Straight.{IsStraight, dot_of_steps}
 use Rattle.dcel_plane.proofs.hull.OneLine.{apart_up, near_down}
 use Rattle.dcel_plane.proofs.hull.Thin.{back_dot}
 use Rattle.dcel_plane.specs.location.Nearest.{HasNoNearerNeighbor, IsNearest}
-use Rattle.dcel_plane.proofs.location.OnLine.{dot_swapped, far, on_too}
+use Rattle.dcel_plane.proofs.location.OnLine.{far, on_too}
 
 -- how much farther from q than v the point w is, by a triangle of v whose angle there it lies in: the circle is empty
 module _ (v a b w q : Point) where

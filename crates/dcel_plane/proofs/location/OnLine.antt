@@ -7,9 +7,7 @@ use Rattle.dcel_fixed.proofs.Halves.{rev-rev}
 use Rattle.dcel_predicates.specs.Determinants.{orient2d_of}
 use Rattle.dcel_predicates.specs.declared.point.Point.{Point}
 use Rattle.dcel_predicates.proofs.Points.{orient2d-first_swapped}
-use Rattle.dcel_predicates.proofs.Ring.{by_terms}
 use Rattle.dcel_predicates.proofs.Signs.{ordered, square}
-use Rattle.dcel_predicates.proofs.Terms.{spot}
 use Rattle.dcel_maps.specs.Conditions.{IsLineEnd}
 use Rattle.dcel_maps.specs.Maps.{By, ccw}
 use Rattle.dcel_maps.specs.Shapes.{IsLive, IsMesh, Mesh, Shape, end_of, map_of, next_of, origin_of, prev_of}
@@ -21,15 +19,12 @@ use Rattle.dcel_maps.proofs.shapes.Maps.{map-sound}
 use Rattle.dcel_maps.proofs.walks.Returning.{length-live}
 use Rattle.dcel_maps.proofs.words.Counts.{count-equal, count-none, count-other, first_or_later}
 use Rattle.dcel_plane.specs.covering.Covering.{dot}
-use Rattle.dcel_plane.proofs.covering.Along.{dot_in, dot_start, edges_long, one_place}
+use Rattle.dcel_plane.proofs.covering.Along.{dot_start, dot_swapped, edges_long, one_place}
 use Rattle.dcel_plane.proofs.covering.Inside.{on_end, on_start}
 use Rattle.dcel_plane.specs.hull.Straight.{IsStraight, dot_of_steps}
 use Rattle.dcel_plane.proofs.hull.OneLine.{apart_up, near_down, on_line, past_down}
 use Rattle.dcel_plane.proofs.hull.Thin.{back_dot, past_end}
 use Rattle.dcel_plane.specs.location.Locating.{HasPlace, LiesBeyond, LiesOn, Passes, StandsAt, orient2d_along}
-
-pub dot_swapped : (a b c : Point) → dot a b c ≡ dot b a c
-dot_swapped a b c = by_terms (a.x ∷ a.y ∷ b.x ∷ b.y ∷ c.x ∷ c.y ∷ []) (dot_in (spot 0) (spot 1) (spot 2)) (dot_in (spot 1) (spot 0) (spot 2)) refl
 
 pub before_start : (b a q : Point) → dot_of_steps a b q +ℤ dot q a b ≡ pos 0
 before_start b a q = let e = back_dot a b q in let c = dot_swapped a q b in omega (arith, ordered, e, c)

@@ -1,5 +1,5 @@
 -- A corner of the hull cut off with its triangles, where no neighbor turns left: the hull is convex.
-use Rattle.std.proofs.Common.{◌≡◌, ◌≢◌, ◌⊎◌, inl, inr, ℕ, zero, suc, ◌+◌, ◌-◌, ◌<◌, ◌≤◌, List, [], ◌∷◌, length, refl, sym, ap, ◌∙◌, subst, ℤ, pos, ◌-ℤ◌, ◌*ℤ◌, ◌<ℤ◌, ◌≤ℤ◌, arith}
+use Rattle.std.proofs.Common.{◌≡◌, ◌≢◌, ◌⊎◌, inl, inr, ℕ, zero, suc, ◌+◌, ◌-◌, ◌<◌, ◌≤◌, List, [], ◌∷◌, length, refl, sym, ap, ◌∙◌, subst, ℤ, pos, ◌*ℤ◌, ◌<ℤ◌, ◌≤ℤ◌, arith}
 use Rattle.std.proofs.lemmas.Bool.{cases_eq, cases_lt}
 use Rattle.std.proofs.lemmas.Int.{by_lt_z}
 use Rattle.std.proofs.Math.IntN.{*ℤ_comm}
@@ -22,7 +22,7 @@ use Rattle.dcel_maps.proofs.words.Reading.{face-prev}
 use Rattle.dcel_plane.specs.Plane.{TrianglesTurnLeft, TurnsLeft}
 use Rattle.dcel_plane.specs.covering.Covering.{Covers, IsConvex, IsHull, Supports, dot}
 use Rattle.dcel_plane.specs.removal.Wheels.{IsHollow, turns}
-use Rattle.dcel_plane.proofs.covering.Along.{IsBetween, long, none_first}
+use Rattle.dcel_plane.proofs.covering.Along.{IsBetween, dot_swapped, long, none_first}
 use Rattle.dcel_plane.proofs.hull.Beside.{end_right, start_right}
 use Rattle.dcel_plane.proofs.covering.Apart.{apart_at}
 use Rattle.dcel_plane.proofs.covering.Triangles.{ends_before, left_at}
@@ -249,7 +249,7 @@ module _ {V DE UE F : Type 0} (m : Mesh V DE UE F) (mesh : IsMesh m) (triangles 
       let left' : TurnsLeft (at o) (neighbor i) (neighbor (suc i)) = at_suc (λ q. TurnsLeft (at o) (neighbor i) q) i left in
       let far : pos 0 <ℤ dot (neighbor i) (neighbor i) (neighbor (suc i)) = long (neighbor i) (neighbor (suc i)) (λ ex ey. flat_none (at o) (neighbor i) (neighbor (suc i)) ex ey left') in
       let on_back : orient2d_of (neighbor (suc i)) (neighbor i) (p z) ≡ pos 0 = (let q = orient2d-first_swapped (neighbor i) (neighbor (suc i)) (p z) in omega (arith, ordered, q, on)) in
-      let swapped : dot (neighbor (suc i)) (neighbor i) (p z) <ℤ pos 0 = (let c = apart_swapped (neighbor i) (neighbor (suc i)) (p z) in omega (arith, ordered, c, less)) in
+      let swapped : dot (neighbor (suc i)) (neighbor i) (p z) <ℤ pos 0 = (let c = dot_swapped (neighbor (suc i)) (neighbor i) (p z) in omega (arith, ordered, c, less)) in
       let places = inside_of (neighbor (suc i)) (neighbor i) (p z) far on_back swapped in
       let is : IsBetween (neighbor (suc i)) (neighbor i) (p z) = record { on = on_back; above = places.0; below = places.1 } in
       let t = orient2d-turned (at o) (neighbor i) (neighbor (suc i)) in
@@ -271,12 +271,6 @@ module _ {V DE UE F : Type 0} (m : Mesh V DE UE F) (mesh : IsMesh m) (triangles 
         where
           same_last : (v a b : Point) → a.x ≡ b.x → a.y ≡ b.y → orient2d_of v a b ≡ orient2d_of v b b
           same_last v a b ex ey = rw (ex, ey) refl
-
-      apart_swapped : (a b q : Point) → dot b a q ≡ dot a b q
-      apart_swapped a b q =
-          (let c = *ℤ_comm (b.x -ℤ q.x) (a.x -ℤ q.x) in
-          let d = *ℤ_comm (b.y -ℤ q.y) (a.y -ℤ q.y) in
-          omega (arith, ordered, c, d))
 
   -- the side after a half edge from the corner
   pub record SideOf (x : ℕ) : Type 0 where
