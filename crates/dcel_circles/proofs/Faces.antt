@@ -14,13 +14,13 @@ use Rattle.dcel_maps.proofs.shapes.Maps.{map-sound}
 use Rattle.dcel_maps.proofs.walks.Links.{links_stand}
 use Rattle.dcel_maps.proofs.words.Triangles.{triangle_written}
 use Rattle.dcel_maps.proofs.words.Turns.{from_least-turn, turns_back}
-use Rattle.dcel_plane.specs.Plane.{IsPlane, TurnsLeft, point_at}
+use Rattle.dcel_plane.specs.Plane.{TrianglesTurnLeft, TurnsLeft, point_at}
 use Rattle.dcel_plane.proofs.edits.Corners.{LeftOf, left-from_least, three_items, turn_left, turned_along}
 use Rattle.dcel_circles.specs.Turning.{GoesLeft}
 
 module _ (at : ℕ → Point) (s : Shape) where
   -- beyond the last face there is no word
-  pub each_face : (n : ℕ) → face_count s ≤ n → ((f : ℕ) → 0 < f → f < n → GoesLeft at s f) → IsPlane at s
+  pub each_face : (n : ℕ) → face_count s ≤ n → ((f : ℕ) → 0 < f → f < n → GoesLeft at s f) → TrianglesTurnLeft at s
   each_face n all goes = record {
     left = λ f x y z inner is. elim (cases_lt f n) [
       | inl below ↦ goes f inner below x y z is

@@ -9,7 +9,7 @@ use Rattle.dcel_maps.specs.Shapes.{IsMesh, Mesh}
 use Rattle.dcel_maps.specs.Words.{count_of}
 use Rattle.dcel_maps.proofs.edits.Flips.{flipped_mesh}
 use Rattle.dcel_maps.proofs.words.Counts.{count-append, last_or_before}
-use Rattle.dcel_plane.specs.Plane.{IsCircled, IsDelaunay, IsInner, IsPlane, ListsCircled, point_at}
+use Rattle.dcel_plane.specs.Plane.{IsCircled, IsInner, IsLocallyDelaunay, ListsCircled, TrianglesTurnLeft, point_at}
 use Rattle.dcel_plane.specs.Volume.{volume_below}
 use Rattle.dcel_plane.proofs.edits.Flipped.{circled_can_flip, flip_lists, flip_plane}
 use Rattle.dcel_plane.proofs.edits.Volumes.{volume_falls}
@@ -54,7 +54,7 @@ module _ {DE UE F : Type 0} where
   -- what is kept of the mesh m and the list that a run began with
   pub record IsUnderWay (m : Mesh Point DE UE F) (list : List ℕ) (n : Mesh Point DE UE F) (rest : List ℕ) : Type 0 where
     pub mesh : IsMesh n
-    pub plane : IsPlane (point_at n) n.shape
+    pub plane : TrianglesTurnLeft (point_at n) n.shape
     pub turned : IsTurnedTo m n
     pub due : ListsCircled (point_at m) m.shape list → ListsCircled (point_at n) n.shape rest
     pub others : (lacking : List ℕ) → ListsCircled (point_at m) m.shape (list ++ lacking) → ListsCircled (point_at n) n.shape (rest ++ lacking)
@@ -67,7 +67,7 @@ module _ {DE UE F : Type 0} where
       subst (λ (l : List ℕ). ListsCircled (point_at n) n.shape l) (append-nil rest)
       (others [] (subst (λ (l : List ℕ). ListsCircled (point_at m) m.shape l) (sym (append-nil list)) lists))
 
-  pub begins : (m : Mesh Point DE UE F) (list : List ℕ) → IsMesh m → IsPlane (point_at m) m.shape → IsUnderWay m list m list
+  pub begins : (m : Mesh Point DE UE F) (list : List ℕ) → IsMesh m → TrianglesTurnLeft (point_at m) m.shape → IsUnderWay m list m list
   begins m list mesh plane = record { mesh = mesh; plane = plane; turned = unturned m; due = λ lists. lists; others = λ lacking lists. lists }
 
   module _ (m : Mesh Point DE UE F) (list : List ℕ) (n : Mesh Point DE UE F) (front : List ℕ) (u : ℕ) (way : IsUnderWay m list n (front ++ u ∷ [])) where
@@ -153,7 +153,7 @@ module _ {DE UE F : Type 0} where
 
   -- with an empty list all is done
   pub delaunay : (m : Mesh Point DE UE F) (list : List ℕ) (n : Mesh Point DE UE F) (rest : List ℕ) → IsUnderWay m list n rest → rest ≡ []
-      → ListsCircled (point_at m) m.shape list → IsDelaunay (point_at n) n.shape
+      → ListsCircled (point_at m) m.shape list → IsLocallyDelaunay (point_at n) n.shape
   delaunay m list n rest way none lists = record {
     plane = way.plane;
     empty = λ u inner circled.

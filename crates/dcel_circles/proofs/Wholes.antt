@@ -5,7 +5,7 @@ use Rattle.dcel_maps.specs.Conditions.{IsUnconnected}
 use Rattle.dcel_maps.specs.Removals.{Closed}
 use Rattle.dcel_maps.specs.Shapes.{IsMesh, Mesh, face_count}
 use Rattle.dcel_maps.specs.Triangulations.{AllTriangles}
-use Rattle.dcel_plane.specs.Plane.{IsDelaunay}
+use Rattle.dcel_plane.specs.Plane.{IsLocallyDelaunay}
 use Rattle.dcel_plane.specs.covering.Delaunay.{IsDelaunayTriangulation}
 use Rattle.dcel_plane.specs.covering.Round.{GoesRound}
 use Rattle.dcel_plane.proofs.covering.Rounded.{round_convex, round_hull}
@@ -14,7 +14,7 @@ use Rattle.dcel_plane.proofs.covering.Starts.{inner_half}
 
 module _ {V DE UE F : Type 0} (m : Mesh V DE UE F) (mesh : IsMesh m) (at : ℕ → Point) where
   pub whole_from : m.shape.removal ≡ Closed → 1 < face_count m.shape → AllTriangles m.shape → ((v : ℕ) × (v < m.shape.vertices) × IsUnconnected m.shape v → ⊥)
-      → IsDelaunay at m.shape → GoesRound at m.shape → IsDelaunayTriangulation at m.shape
+      → IsLocallyDelaunay at m.shape → GoesRound at m.shape → IsDelaunayTriangulation at m.shape
   whole_from closed inner triangles none delaunay goes = record {
     closed = closed;
     inner = inner;

@@ -2,7 +2,7 @@
 
 ghost use Rattle.std.specs.Prelude.{◌≡◌, ℕ, List, ◌++◌, [], OnOk};
 ghost use Rattle.dcel_maps.specs.Shapes.{IsMesh};
-ghost use Rattle.dcel_plane.specs.Plane.{IsDelaunay, IsPlane, ListsCircled, point_at};
+ghost use Rattle.dcel_plane.specs.Plane.{IsLocallyDelaunay, ListsCircled, TrianglesTurnLeft, point_at};
 ghost use Rattle.dcel_circles.specs.Turning.{IsTurnedTo};
 
 use crate::circles::is_circled;
@@ -30,14 +30,14 @@ pub fn legalize_by_circles<DE, UE, F, A: Allocator, L: Allocator>(
     dcel: &mut Dcel<Point, DE, UE, F, A>,
     due: &mut Vec<FixedUndirectedEdgeHandle, L>,
 ) -> Result<(), AllocError>
-    requires { IsPlane (point_at dcel.old) dcel.old.shape }
+    requires { TrianglesTurnLeft (point_at dcel.old) dcel.old.shape }
     ensures flips { IsTurnedTo dcel.old dcel.new }
-    ensures plane { IsPlane (point_at dcel.new) dcel.new.shape }
+    ensures plane { TrianglesTurnLeft (point_at dcel.new) dcel.new.shape }
     ensures due { ListsCircled (point_at dcel.old) dcel.old.shape due.old.items → ListsCircled (point_at dcel.new) dcel.new.shape due.new.items }
     ensures others { (lacking : List ℕ) → ListsCircled (point_at dcel.old) dcel.old.shape (due.old.items ++ lacking)
         → ListsCircled (point_at dcel.new) dcel.new.shape (due.new.items ++ lacking) }
     ensures done { OnOk result (due.new.items ≡ []) }
-    ensures delaunay { OnOk result (ListsCircled (point_at dcel.old) dcel.old.shape due.old.items → IsDelaunay (point_at dcel.new) dcel.new.shape) }
+    ensures delaunay { OnOk result (ListsCircled (point_at dcel.old) dcel.old.shape due.old.items → IsLocallyDelaunay (point_at dcel.new) dcel.new.shape) }
     ensures mesh { IsMesh dcel.new }
 {
     every_mesh(dcel);

@@ -2,7 +2,7 @@
 
 ghost use Rattle.std.specs.Prelude.{◌<◌, ◌↔◌, IsTrue};
 ghost use Rattle.dcel_maps.specs.Shapes.{face_count};
-ghost use Rattle.dcel_plane.specs.Plane.{IsDelaunay, IsPlane, point_at};
+ghost use Rattle.dcel_plane.specs.Plane.{IsLocallyDelaunay, TrianglesTurnLeft, point_at};
 ghost use Rattle.dcel_circles.specs.Turning.{GoesLeft};
 
 use crate::circles::{is_circled, point_of};
@@ -16,7 +16,7 @@ use std::alloc::Allocator;
 ///
 /// It looks at each face once.
 pub fn is_plane<DE, UE, F, A: Allocator>(dcel: &Dcel<Point, DE, UE, F, A>) -> bool
-    ensures { IsTrue result ↔ IsPlane (point_at dcel.now) dcel.now.shape }
+    ensures { IsTrue result ↔ TrianglesTurnLeft (point_at dcel.now) dcel.now.shape }
 {
     every_mesh(dcel);
     for number in 1..dcel.num_faces() {
@@ -32,7 +32,7 @@ pub fn is_plane<DE, UE, F, A: Allocator>(dcel: &Dcel<Point, DE, UE, F, A>) -> bo
 ///
 /// It looks at each face and each edge once.
 pub fn is_delaunay<DE, UE, F, A: Allocator>(dcel: &Dcel<Point, DE, UE, F, A>) -> bool
-    ensures { IsTrue result ↔ IsDelaunay (point_at dcel.now) dcel.now.shape }
+    ensures { IsTrue result ↔ IsLocallyDelaunay (point_at dcel.now) dcel.now.shape }
 {
     if !is_plane(dcel) {
         return false;

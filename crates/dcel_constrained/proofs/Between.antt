@@ -9,11 +9,11 @@ use Rattle.dcel_predicates.proofs.Ring.{Term, by_terms, minus, num, plus, times 
 use Rattle.dcel_predicates.proofs.Signs.{both_negative, ordered, square, times, times_positive}
 use Rattle.dcel_predicates.proofs.Terms.{orient, spot}
 use Rattle.dcel_maps.specs.Shapes.{IsLive, Shape, end_of, origin_of}
-use Rattle.dcel_plane.specs.covering.Covering.{apart_along}
-use Rattle.dcel_plane.proofs.covering.Along.{IsBetween, by_place, dot, dot_in, dot_start, long, none_first, none_second}
+use Rattle.dcel_plane.specs.covering.Covering.{dot}
+use Rattle.dcel_plane.proofs.covering.Along.{IsBetween, by_place, dot_in, dot_start, long, none_first, none_second}
 use Rattle.dcel_plane.proofs.covering.Inside.{apart_end, apart_start, on_end, on_start}
 use Rattle.dcel_plane.proofs.covering.Products.{below_times, factor_positive, times_below}
-use Rattle.dcel_plane.specs.segments.Segments.{Crosses, LeadsAlong, offset}
+use Rattle.dcel_plane.specs.segments.Segments.{Crosses, LeadsAlong, orient2d_by}
 use Rattle.dcel_constrained.specs.Constraints.{LiesOnSegment}
 use Rattle.dcel_constrained.specs.Meeting.{LiesBetween}
 use Rattle.dcel_constrained.proofs.Widths.{sum_apart}
@@ -61,11 +61,11 @@ abs_less : (x y : ℤ) → pos 0 ≤ℤ x → x <ℤ y → unsigned_abs x < unsi
 abs_less x y more less = omega (arith, ints)
 
 -- two points with one between them are apart
-far_apart : (v w y : Point) → apart_along v w y <ℤ pos 0 → pos 0 <ℤ dot w w v
+far_apart : (v w y : Point) → dot v w y <ℤ pos 0 → pos 0 <ℤ dot w w v
 far_apart v w y inside =
     long w v
     (λ ex ey.
-    (let e : apart_along v w y ≡ ((v.x -ℤ y.x) *ℤ (v.x -ℤ y.x)) +ℤ ((v.y -ℤ y.y) *ℤ (v.y -ℤ y.y)) = rw (ex, ey) refl in
+    (let e : dot v w y ≡ ((v.x -ℤ y.x) *ℤ (v.x -ℤ y.x)) +ℤ ((v.y -ℤ y.y) *ℤ (v.y -ℤ y.y)) = rw (ex, ey) refl in
     let a = square (v.x -ℤ y.x) in
     let b = square (v.y -ℤ y.y) in
     omega (arith, ordered, e, a, b, inside)))
@@ -122,32 +122,32 @@ module _ (v w : Point) where
 
     -- between two points of the line
     pub apart_placed : (a b q : Point) → off a ≡ pos 0 → off b ≡ pos 0 → off q ≡ pos 0
-        → length *ℤ apart_along a b q ≡ (place a -ℤ place q) *ℤ (place b -ℤ place q)
+        → length *ℤ dot a b q ≡ (place a -ℤ place q) *ℤ (place b -ℤ place q)
     apart_placed a b q on_a on_b on_q =
         let e = by_place v w a b q far on_a on_b on_q in
         let z = none_first (off a -ℤ off q) (off b -ℤ off q) (omega (arith, ordered, on_a, on_q)) in
-        sums (length *ℤ apart_along a b q) ((place a -ℤ place q) *ℤ (place b -ℤ place q)) ((off a -ℤ off q) *ℤ (off b -ℤ off q)) e z
+        sums (length *ℤ dot a b q) ((place a -ℤ place q) *ℤ (place b -ℤ place q)) ((off a -ℤ off q) *ℤ (off b -ℤ off q)) e z
       where
         sums : (t x y : ℤ) → t ≡ x +ℤ y → y ≡ pos 0 → t ≡ x
         sums t x y is none = omega (arith, ordered, is, none)
 
-    pub inside_up : (a b q : Point) → off a ≡ pos 0 → off b ≡ pos 0 → off q ≡ pos 0 → place a <ℤ place q → place q <ℤ place b → apart_along a b q <ℤ pos 0
+    pub inside_up : (a b q : Point) → off a ≡ pos 0 → off b ≡ pos 0 → off q ≡ pos 0 → place a <ℤ place q → place q <ℤ place b → dot a b q <ℤ pos 0
     inside_up a b q on_a on_b on_q first second =
         let e = apart_placed a b q on_a on_b on_q in
         let t = below_times (place a -ℤ place q) (place b -ℤ place q) (omega (arith, ordered, first)) (omega (arith, ordered, second)) in
-        factor_below length (apart_along a b q) far (omega (arith, ordered, e, t))
+        factor_below length (dot a b q) far (omega (arith, ordered, e, t))
 
-    inside_down : (a b q : Point) → off a ≡ pos 0 → off b ≡ pos 0 → off q ≡ pos 0 → place b <ℤ place q → place q <ℤ place a → apart_along a b q <ℤ pos 0
+    inside_down : (a b q : Point) → off a ≡ pos 0 → off b ≡ pos 0 → off q ≡ pos 0 → place b <ℤ place q → place q <ℤ place a → dot a b q <ℤ pos 0
     inside_down a b q on_a on_b on_q first second =
         let e = apart_placed a b q on_a on_b on_q in
         let t = times_below (place a -ℤ place q) (place b -ℤ place q) (omega (arith, ordered, second)) (omega (arith, ordered, first)) in
-        factor_below length (apart_along a b q) far (omega (arith, ordered, e, t))
+        factor_below length (dot a b q) far (omega (arith, ordered, e, t))
 
-    inside_way : (a b q : Point) → off a ≡ pos 0 → off b ≡ pos 0 → off q ≡ pos 0 → apart_along a b q <ℤ pos 0
+    inside_way : (a b q : Point) → off a ≡ pos 0 → off b ≡ pos 0 → off q ≡ pos 0 → dot a b q <ℤ pos 0
         → ((place a <ℤ place q) × (place q <ℤ place b)) ⊎ ((place b <ℤ place q) × (place q <ℤ place a))
     inside_way a b q on_a on_b on_q inside =
         let e = apart_placed a b q on_a on_b on_q in
-        let t = times_below length (apart_along a b q) far inside in
+        let t = times_below length (dot a b q) far inside in
         one_each (place a) (place b) (place q) (omega (arith, ordered, e, t))
       where
         one_each : (a b q : ℤ) → ((a -ℤ q) *ℤ (b -ℤ q)) <ℤ pos 0 → ((a <ℤ q) × (q <ℤ b)) ⊎ ((b <ℤ q) × (q <ℤ a))
@@ -168,7 +168,7 @@ module _ (v w : Point) where
     gap_placed a b on_a on_b = apart_placed a a b on_a on_a on_b
 
 -- what lies between v and w
-between_is : (v w y : Point) → orient2d_of v w y ≡ pos 0 → apart_along v w y <ℤ pos 0 → IsBetween v w y
+between_is : (v w y : Point) → orient2d_of v w y ≡ pos 0 → dot v w y <ℤ pos 0 → IsBetween v w y
 between_is v w y on inside =
     let far = far_apart v w y inside in
     let z = dot_start w v in
@@ -186,7 +186,7 @@ gap_turned a b = by_terms (a.x ∷ a.y ∷ b.x ∷ b.y ∷ []) (dot_in (spot 0) 
 gap_not_below : (a b : Point) → pos 0 ≤ℤ gap a b
 gap_not_below a b = (let p = square (a.x -ℤ b.x) in let q = square (a.y -ℤ b.y) in omega (arith, ordered, p, q))
 
-apart_turned : (a b p : Point) → apart_along a b p ≡ apart_along b a p
+apart_turned : (a b p : Point) → dot a b p ≡ dot b a p
 apart_turned a b p = by_terms (a.x ∷ a.y ∷ b.x ∷ b.y ∷ p.x ∷ p.y ∷ []) (dot_in (spot 0) (spot 1) (spot 2)) (dot_in (spot 1) (spot 0) (spot 2)) refl
 
 -- of two square distances, by where the points lie
@@ -215,11 +215,11 @@ module _ (at : ℕ → Point) (v w y : ℕ) (lies : LiesBetween at v w y) where
   -- it is none of the ends, and these are two
   pub lies_not_start : y ≢ v
   lies_not_start is =
-      (let less = subst (λ (i : ℕ). apart_along (at v) (at w) (at i) <ℤ pos 0) is lies.inside in let z = apart_start (at v) (at w) in omega (arith, ordered, less, z))
+      (let less = subst (λ (i : ℕ). dot (at v) (at w) (at i) <ℤ pos 0) is lies.inside in let z = apart_start (at v) (at w) in omega (arith, ordered, less, z))
 
   pub lies_not_end : y ≢ w
   lies_not_end is =
-      (let less = subst (λ (i : ℕ). apart_along (at v) (at w) (at i) <ℤ pos 0) is lies.inside in let z = apart_end (at v) (at w) in omega (arith, ordered, less, z))
+      (let less = subst (λ (i : ℕ). dot (at v) (at w) (at i) <ℤ pos 0) is lies.inside in let z = apart_end (at v) (at w) in omega (arith, ordered, less, z))
 
   pub lies_differ : v ≢ w
   lies_differ is =
@@ -468,13 +468,13 @@ pub leads_to : (at : ℕ → Point) (s : Shape) (v w y h : ℕ) → IsLive s h �
 leads_to at s v w y h live from to ahead = record {
   live = live;
   from = from;
-  on = subst (λ (i : ℕ). offset at v w i ≡ pos 0) (sym to) (elim ahead [
-    | inl is ↦ subst (λ (i : ℕ). offset at v w i ≡ pos 0) (sym is) (on_start (at v) (at w))
+  on = subst (λ (i : ℕ). orient2d_by at v w i ≡ pos 0) (sym to) (elim ahead [
+    | inl is ↦ subst (λ (i : ℕ). orient2d_by at v w i ≡ pos 0) (sym is) (on_start (at v) (at w))
     | inr lies ↦ lies.on
   ]);
   ahead = elim ahead [
     | inl is ↦ inl (to ∙ is)
-    | inr lies ↦ inr (subst (λ (i : ℕ). apart_along (at v) (at w) (at i) <ℤ pos 0) (sym to) lies.inside)
+    | inr lies ↦ inr (subst (λ (i : ℕ). dot (at v) (at w) (at i) <ℤ pos 0) (sym to) lies.inside)
   ];
 }
 

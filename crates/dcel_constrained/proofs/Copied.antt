@@ -5,7 +5,7 @@ use Rattle.dcel_predicates.specs.declared.point.Point.{Point}
 use Rattle.dcel_maps.specs.Removals.{Closed}
 use Rattle.dcel_maps.specs.Shapes.{Mesh, Shape, face_count}
 use Rattle.dcel_maps.specs.Triangulations.{AllTriangles}
-use Rattle.dcel_plane.specs.Plane.{IsPlane, ListsCircled, origin_point, point_at}
+use Rattle.dcel_plane.specs.Plane.{ListsCircled, TrianglesTurnLeft, origin_point, point_at}
 use Rattle.dcel_plane.specs.covering.Covering.{IsConvex, IsHull}
 use Rattle.dcel_plane.specs.hull.Straight.{IsStraight}
 use Rattle.dcel_delaunay.specs.Growing.{IsJoined, IsTriangulation}
@@ -34,7 +34,7 @@ module _ {DE UE F DE2 F2 : Type 0} (old : Mesh Point DE UE F) (new : Mesh Point 
     closed = carried (λ at s. s.removal ≡ Closed) whole.sound.closed;
     joined = carried (λ at s. IsJoined s) whole.sound.joined;
     triangles = carried (λ at s. AllTriangles s) whole.sound.triangles;
-    plane = carried (λ at s. IsPlane at s) whole.sound.plane;
+    plane = carried (λ at s. TrianglesTurnLeft at s) whole.sound.plane;
     listed = λ u inner circled free.
         (let listed = carried (λ at s. ListsCircled at s []) whole.sound.listed u inner circled in absurd (omega (arith, listed)));
   }

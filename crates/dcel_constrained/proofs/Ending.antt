@@ -10,9 +10,9 @@ use Rattle.dcel_maps.proofs.maps.Soundness.{rev_live}
 use Rattle.dcel_maps.proofs.shapes.Maps.{map-sound}
 use Rattle.dcel_maps.proofs.words.Counts.{count-append, in_either}
 use Rattle.dcel_plane.specs.Plane.{ListsCircled, point_at}
-use Rattle.dcel_plane.specs.covering.Covering.{apart_along}
+use Rattle.dcel_plane.specs.covering.Covering.{dot}
 use Rattle.dcel_plane.proofs.covering.Inside.{apart_end}
-use Rattle.dcel_plane.specs.segments.Segments.{Crosses, IsChannel, LeadsAlong, TurnsInto, offset}
+use Rattle.dcel_plane.specs.segments.Segments.{Crosses, IsChannel, LeadsAlong, TurnsInto, orient2d_by}
 use Rattle.dcel_plane.proofs.segments.Channels.{all_cross}
 use Rattle.dcel_constrained.specs.Meeting.{HasCome, IsJoined, ListsStill}
 use Rattle.dcel_constrained.specs.declared.joining.Joined.{Joined}
@@ -30,7 +30,7 @@ pub all_crossed : (at : ℕ → Point) (s : Shape) (v w : ℕ) (list due : List 
 all_crossed at s v w list due y come is = elim come.there [
   | inl there ↦ there.1
   | inr between ↦ absurd
-      (let less = subst (λ (i : ℕ). apart_along (at v) (at w) (at i) <ℤ pos 0) is between.inside in let zero = apart_end (at v) (at w) in omega (arith, ordered, less, zero))
+      (let less = subst (λ (i : ℕ). dot (at v) (at w) (at i) <ℤ pos 0) is between.inside in let zero = apart_end (at v) (at w) in omega (arith, ordered, less, zero))
 ]
 
 pub each_crosses : (at : ℕ → Point) (s : Shape) (v w : ℕ) (list : List ℕ) → IsChannel at s v w list → (k : ℕ) → 0 < count_of k list → Crosses at s v w k
@@ -48,10 +48,10 @@ along_joins {DE} {UE} {F} m mesh v w y joined way edge between = elim (cases_eq 
         refl,
         subst (λ (i : ℕ). i < m.shape.vertices) way.2 ((map-sound mesh.sound).below_vertices (rev way.0) (rev_live (map_of m.shape) way.0 way.1.live)),
         record {
-          on = subst (λ (i : ℕ). offset (point_at m) v w i ≡ pos 0) way.2 way.1.on;
+          on = subst (λ (i : ℕ). orient2d_by (point_at m) v w i ≡ pos 0) way.2 way.1.on;
           inside = elim way.1.ahead [
             | inl is ↦ absurd (not (sym way.2 ∙ is))
-            | inr less ↦ subst (λ (i : ℕ). apart_along (point_at m v) (point_at m w) (point_at m i) <ℤ pos 0) way.2 less
+            | inr less ↦ subst (λ (i : ℕ). dot (point_at m v) (point_at m w) (point_at m i) <ℤ pos 0) way.2 less
           ];
         },
       )

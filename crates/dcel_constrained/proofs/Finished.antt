@@ -8,7 +8,7 @@ use Rattle.dcel_maps.specs.Shapes.{IsMesh, Mesh, origin_of}
 use Rattle.dcel_maps.proofs.Liveness.{closed-live}
 use Rattle.dcel_plane.specs.Plane.{point_at}
 use Rattle.dcel_plane.proofs.covering.Inside.{on_end, on_start}
-use Rattle.dcel_plane.specs.segments.Segments.{Crosses, offset}
+use Rattle.dcel_plane.specs.segments.Segments.{Crosses, orient2d_by}
 use Rattle.dcel_regions.specs.Marked.{IsMarked}
 use Rattle.dcel_regions.specs.declared.mark.Mark.{Mark}
 use Rattle.dcel_constrained.specs.Constraints.{IsPartOf, KeepsMarked, LiesOnSegment, MarksOnly}
@@ -18,16 +18,16 @@ use Rattle.dcel_constrained.proofs.Laid.{points_stay}
 use Rattle.dcel_constrained.proofs.Marking.{marked_below}
 
 -- a vertex on a segment lies on its line
-on_segment : (at : ℕ → Point) (v w x : ℕ) → LiesOnSegment at v w x → offset at v w x ≡ pos 0
-on_segment at v w x (inl is) = subst (λ (i : ℕ). offset at v w i ≡ pos 0) (sym is) (on_end (at v) (at w))
-on_segment at v w x (inr (inl is)) = subst (λ (i : ℕ). offset at v w i ≡ pos 0) (sym is) (on_start (at v) (at w))
+on_segment : (at : ℕ → Point) (v w x : ℕ) → LiesOnSegment at v w x → orient2d_by at v w x ≡ pos 0
+on_segment at v w x (inl is) = subst (λ (i : ℕ). orient2d_by at v w i ≡ pos 0) (sym is) (on_end (at v) (at w))
+on_segment at v w x (inr (inl is)) = subst (λ (i : ℕ). orient2d_by at v w i ≡ pos 0) (sym is) (on_start (at v) (at w))
 on_segment at v w x (inr (inr lies)) = lies.on
 
 module _ {DE F : Type 0} where
   -- so a part of a segment doesn't cross it
   part_crosses : (m : Mesh Point DE Mark F) (v w h : ℕ) → IsPartOf m v w (h / 2) → Crosses (point_at m) m.shape v w h → ⊥
   part_crosses m v w h part crosses =
-      let on : offset (point_at m) v w (origin_of m.shape h) ≡ pos 0 = on_segment (point_at m) v w (origin_of m.shape h) (elim (cases_eq h (2 * (h / 2))) [
+      let on : orient2d_by (point_at m) v w (origin_of m.shape h) ≡ pos 0 = on_segment (point_at m) v w (origin_of m.shape h) (elim (cases_eq h (2 * (h / 2))) [
         | inl even ↦ subst (λ (i : ℕ). LiesOnSegment (point_at m) v w (origin_of m.shape i)) (sym even) part.from
         | inr not ↦
             (let odd : h ≡ 2 * (h / 2) + 1 = omega (arith, not) in

@@ -14,11 +14,11 @@ use Rattle.dcel_maps.proofs.Liveness.{even_live}
 use Rattle.dcel_maps.proofs.edits.Flips.{at_flip}
 use Rattle.dcel_maps.proofs.words.Counts.{count-other, count-same, first_or_later, in_either}
 use Rattle.dcel_maps.proofs.words.EachSet.{length-two_set, other-two_set}
-use Rattle.dcel_plane.specs.Plane.{IsCircled, IsInner, IsPlane, TurnsLeft, origin_point, point_at}
+use Rattle.dcel_plane.specs.Plane.{IsCircled, IsInner, TrianglesTurnLeft, TurnsLeft, origin_point, point_at}
 use Rattle.dcel_plane.proofs.edits.Flipped.{circled_can_flip, from_end, from_start, new_corners, origin_after, origin_same, origin_t_after}
-use Rattle.dcel_plane.specs.covering.Covering.{CoversHull, apart_along}
+use Rattle.dcel_plane.specs.covering.Covering.{CoversHull, dot}
 use Rattle.dcel_plane.specs.removal.Wheels.{CanTurn}
-use Rattle.dcel_plane.specs.segments.Segments.{AreEnds, CanTurnEach, Crosses, IsPlanar, LeadsAlong, TurnsInto, flipped_each, offset}
+use Rattle.dcel_plane.specs.segments.Segments.{AreEnds, CanTurnEach, Crosses, LeadsAlong, TriangulatesItsHull, TurnsInto, flipped_each, orient2d_by}
 use Rattle.dcel_plane.proofs.segments.Becoming.{turned_planar}
 use Rattle.dcel_plane.proofs.segments.Covered.{each_covers, each_planar}
 use Rattle.dcel_plane.proofs.segments.FlipFaces.{of_even}
@@ -28,7 +28,7 @@ use Rattle.dcel_regions.specs.declared.mark.Mark.TheVariants.{Constraint}
 use Rattle.dcel_constrained.specs.Constraints.{HasConstraint, IsFreeWay, IsMarkedWay, KeepsMarked, MarksOnly, TurnsFree}
 
 -- an edge whose circle test is positive can be flipped so that both triangles go round counterclockwise again
-pub circled_can_turn : {V DE UE F : Type 0} (at : ℕ → Point) (m : Mesh V DE UE F) (u : ℕ) → IsMesh m → IsPlane at m.shape → IsInner m.shape u → IsCircled at m.shape u
+pub circled_can_turn : {V DE UE F : Type 0} (at : ℕ → Point) (m : Mesh V DE UE F) (u : ℕ) → IsMesh m → TrianglesTurnLeft at m.shape → IsInner m.shape u → IsCircled at m.shape u
     → CanTurn at m.shape u
 circled_can_turn at m u mesh plane inner circled =
     let can = circled_can_flip m mesh u at inner circled in
@@ -121,7 +121,7 @@ ends_stay m mesh at u turn v i live from =
       ]
     ]
 
-each_ends : {V DE UE F : Type 0} (at : ℕ → Point) (m : Mesh V DE UE F) (us : List ℕ) → IsPlanar at m → CanTurnEach at m us → (v i : ℕ) → IsLive m.shape i → origin_of m.shape i ≡ v
+each_ends : {V DE UE F : Type 0} (at : ℕ → Point) (m : Mesh V DE UE F) (us : List ℕ) → TriangulatesItsHull at m → CanTurnEach at m us → (v i : ℕ) → IsLive m.shape i → origin_of m.shape i ≡ v
     → (j : ℕ) × IsLive (flipped_each m us).shape j × (origin_of (flipped_each m us).shape j ≡ v)
 each_ends at m [] planar can v i live from = (i, live, from)
 each_ends at m (u ∷ us) planar can v i live from =
@@ -129,7 +129,7 @@ each_ends at m (u ∷ us) planar can v i live from =
     each_ends at (edge_flipped m u) us (turned_planar at m u planar can.0) can.1 v one.0 one.1 one.2
 
 -- and there is a triangle still
-each_inner : {V DE UE F : Type 0} (at : ℕ → Point) (m : Mesh V DE UE F) (us : List ℕ) → IsPlanar at m → CanTurnEach at m us
+each_inner : {V DE UE F : Type 0} (at : ℕ → Point) (m : Mesh V DE UE F) (us : List ℕ) → TriangulatesItsHull at m → CanTurnEach at m us
     → (h : ℕ) × IsLive m.shape h × (0 < face_of m.shape h) → (h : ℕ) × IsLive (flipped_each m us).shape h × (0 < face_of (flipped_each m us).shape h)
 each_inner at m [] planar can some = some
 each_inner at m (u ∷ us) planar can some =
@@ -218,24 +218,24 @@ module _ {DE F : Type 0} where
     free_only v w u marked = inl (kept_unmarked old new kept u marked)
 
     -- the mesh stays in the plane, with its hull
-    pub free_planar : IsPlanar (point_at old) old → IsPlanar (point_at new) new
+    pub free_planar : TriangulatesItsHull (point_at old) old → TriangulatesItsHull (point_at new) new
     free_planar planar =
-        subst (λ (at : ℕ → Point). IsPlanar at new) (sym (kept_points old new kept))
-        (subst (λ (m : Mesh Point DE Mark F). IsPlanar (point_at old) m) (sym turns.is) (each_planar (point_at old) old turns.turned planar turns.can))
+        subst (λ (at : ℕ → Point). TriangulatesItsHull at new) (sym (kept_points old new kept))
+        (subst (λ (m : Mesh Point DE Mark F). TriangulatesItsHull (point_at old) m) (sym turns.is) (each_planar (point_at old) old turns.turned planar turns.can))
 
-    pub free_covers : IsPlanar (point_at old) old → CoversHull (point_at old) old.shape → CoversHull (point_at new) new.shape
+    pub free_covers : TriangulatesItsHull (point_at old) old → CoversHull (point_at old) old.shape → CoversHull (point_at new) new.shape
     free_covers planar covers =
         subst (λ (at : ℕ → Point). CoversHull at new.shape) (sym (kept_points old new kept))
         (subst (λ (m : Mesh Point DE Mark F). CoversHull (point_at old) m.shape) (sym turns.is) (each_covers (point_at old) old turns.turned planar turns.can covers))
 
-    pub free_ends : IsPlanar (point_at old) old → (v w : ℕ) → AreEnds old.shape v w → AreEnds new.shape v w
+    pub free_ends : TriangulatesItsHull (point_at old) old → (v w : ℕ) → AreEnds old.shape v w → AreEnds new.shape v w
     free_ends planar v w ends =
         let i = each_ends (point_at old) old turns.turned planar turns.can v ends.i ends.live_i ends.from_i in
         let j = each_ends (point_at old) old turns.turned planar turns.can w ends.j ends.live_j ends.from_j in
         subst (λ (m : Mesh Point DE Mark F). AreEnds m.shape v w) (sym turns.is)
         (record { i = i.0; live_i = i.1; from_i = i.2; j = j.0; live_j = j.1; from_j = j.2 })
 
-    pub free_inner : IsPlanar (point_at old) old → (h : ℕ) × IsLive old.shape h × (0 < face_of old.shape h) → (h : ℕ) × IsLive new.shape h × (0 < face_of new.shape h)
+    pub free_inner : TriangulatesItsHull (point_at old) old → (h : ℕ) × IsLive old.shape h × (0 < face_of old.shape h) → (h : ℕ) × IsLive new.shape h × (0 < face_of new.shape h)
     free_inner planar some =
         subst (λ (m : Mesh Point DE Mark F). (h : ℕ) × IsLive m.shape h × (0 < face_of m.shape h)) (sym turns.is)
         (each_inner (point_at old) old turns.turned planar turns.can some)
@@ -247,8 +247,8 @@ crosses_as at to s n v w h points live from to_end is =
     subst (λ (p : ℕ → Point). Crosses p n v w h) (sym points)
     (record {
       live = live;
-      right = subst (λ (x : ℕ). offset at v w x <ℤ pos 0) (sym from) is.right;
-      left = subst (λ (y : ℕ). pos 0 <ℤ offset at v w y) (sym to_end) is.left;
+      right = subst (λ (x : ℕ). orient2d_by at v w x <ℤ pos 0) (sym from) is.right;
+      left = subst (λ (y : ℕ). pos 0 <ℤ orient2d_by at v w y) (sym to_end) is.left;
       near =
           subst (λ (x : ℕ). TurnsLeft (at x) (at (end_of n h)) (at v)) (sym from)
           (subst (λ (y : ℕ). TurnsLeft (at (origin_of s h)) (at y) (at v)) (sym to_end) is.near);
@@ -264,8 +264,8 @@ leads_as at to s n y w h points live from to_end is =
     (record {
       live = live;
       from = from ∙ is.from;
-      on = subst (λ (x : ℕ). offset at y w x ≡ pos 0) (sym to_end) is.on;
-      ahead = subst (λ (x : ℕ). (x ≡ w) ⊎ (apart_along (at y) (at w) (at x) <ℤ pos 0)) (sym to_end) is.ahead;
+      on = subst (λ (x : ℕ). orient2d_by at y w x ≡ pos 0) (sym to_end) is.on;
+      ahead = subst (λ (x : ℕ). (x ≡ w) ⊎ (dot (at y) (at w) (at x) <ℤ pos 0)) (sym to_end) is.ahead;
     })
 
 module _ {DE F : Type 0} where

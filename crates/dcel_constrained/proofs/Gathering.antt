@@ -11,12 +11,12 @@ use Rattle.dcel_maps.proofs.shapes.Maps.{map-sound}
 use Rattle.dcel_maps.proofs.words.Counts.{count-append, count-later, count-other, count-same}
 use Rattle.dcel_legalize.specs.Flipping.{sides_beside}
 use Rattle.dcel_plane.proofs.removal.Fewer.{of_both_halves}
-use Rattle.dcel_plane.specs.covering.Covering.{apart_along}
-use Rattle.dcel_plane.specs.segments.Segments.{AreEnds, BeginsAt, Crosses, HasSides, HasSidesOf, IsChannel, IsPlanar, offset}
+use Rattle.dcel_plane.specs.covering.Covering.{dot}
+use Rattle.dcel_plane.specs.segments.Segments.{AreEnds, BeginsAt, Crosses, HasSides, HasSidesOf, IsChannel, TriangulatesItsHull, orient2d_by}
 use Rattle.dcel_plane.proofs.segments.Gates.{far, near}
 use Rattle.dcel_plane.proofs.segments.Onward.{on_line}
-use Rattle.dcel_plane.proofs.segments.Peaks.{of_face}
 use Rattle.dcel_plane.proofs.segments.Walking.{Comes, comes_first, comes_left, comes_right, comes_to_end, few}
+use Rattle.dcel_plane.proofs.covering.Triangles.{of_face}
 use Rattle.dcel_constrained.specs.Meeting.{HasCome, IsMetAfter, ListsStill}
 use Rattle.dcel_constrained.specs.declared.walking.Met.TheVariants.{Side, Vertex}
 
@@ -37,7 +37,7 @@ four_there a b c d = (
 longer : (due own sides : List ℕ) → ListsStill due ((due ++ own) ++ sides)
 longer due own sides k there = (let a = count-append k (due ++ own) sides in let b = count-append k due own in omega (arith, a, b, there))
 
-module _ {V DE UE F : Type 0} (m : Mesh V DE UE F) (at : ℕ → Point) (planar : IsPlanar at m) (v w : ℕ) (ends : AreEnds m.shape v w) where
+module _ {V DE UE F : Type 0} (m : Mesh V DE UE F) (at : ℕ → Point) (planar : TriangulatesItsHull at m) (v w : ℕ) (ends : AreEnds m.shape v w) where
   abbrev s : Shape
   s = m.shape
 
@@ -152,10 +152,10 @@ module _ {V DE UE F : Type 0} (m : Mesh V DE UE F) (at : ℕ → Point) (planar 
               (comes_to_end m planar.mesh planar.triangles at planar.plane planar.convex planar.hull v w ends passed h way.comes (sym met.1 ∙ sym is)),
         )
         | inr not ↦ inr (record {
-          on = subst (λ (i : ℕ). offset at v w i ≡ pos 0) (sym met.1) met.0;
-          inside = by_lt_z (apart_along (at v) (at w) (at y)) (pos 0) (λ less. less) (λ nor. absurd (not (
+          on = subst (λ (i : ℕ). orient2d_by at v w i ≡ pos 0) (sym met.1) met.0;
+          inside = by_lt_z (dot (at v) (at w) (at y)) (pos 0) (λ less. less) (λ nor. absurd (not (
               on_line m planar.mesh planar.triangles at planar.plane planar.convex planar.hull v w ends h way.comes.crosses met.0
-              (subst (λ (i : ℕ). pos 0 ≤ℤ apart_along (at v) (at w) (at i)) met.1 nor) ∙ sym met.1)));
+              (subst (λ (i : ℕ). pos 0 ≤ℤ dot (at v) (at w) (at i)) met.1 nor) ∙ sym met.1)));
         })
       ];
     }
@@ -170,7 +170,7 @@ module _ {V DE UE F : Type 0} (m : Mesh V DE UE F) (at : ℕ → Point) (planar 
 
 -- the same, with what it rests on, and what was listed before it
 pub record IsWay {V DE UE F : Type 0} (m : Mesh V DE UE F) (at : ℕ → Point) (v w : ℕ) (before passed due : List ℕ) (h steps : ℕ) : Type 0 where
-  pub planar : IsPlanar at m
+  pub planar : TriangulatesItsHull at m
   pub ends : AreEnds m.shape v w
   pub way : IsUnderWay m at planar v w ends passed due h steps
   pub kept : ListsStill before due

@@ -12,7 +12,7 @@ use Rattle.dcel_maps.proofs.Liveness.{closed-live}
 use Rattle.dcel_plane.specs.Plane.{origin_point, point_at}
 use Rattle.dcel_plane.proofs.covering.Inside.{on_end}
 use Rattle.dcel_plane.proofs.removal.Turnable.{both_halves}
-use Rattle.dcel_plane.specs.segments.Segments.{Crosses, LeadsAlong, offset}
+use Rattle.dcel_plane.specs.segments.Segments.{Crosses, LeadsAlong, orient2d_by}
 use Rattle.dcel_regions.specs.Marked.{IsMarked}
 use Rattle.dcel_regions.specs.declared.mark.Mark.{Mark}
 use Rattle.dcel_constrained.specs.Constraints.{HasConstraint, IsFreeWay, IsMarkedWay, IsPartOf, KeepsMarked, LiesOnSegment, MarksOnly}
@@ -223,10 +223,10 @@ module _ {DE F : Type 0} where
       | inl was ↦ free h (crossed_before was) was
       | inr here ↦ elim (same_edge h here.0 here.2) [
         | inl is ↦
-            (let left = subst (λ (x : ℕ). pos 0 <ℤ offset (point_at new) goal w x) (ap (end_of new.shape) is ∙ here.1.end) crosses.left in
+            (let left = subst (λ (x : ℕ). pos 0 <ℤ orient2d_by (point_at new) goal w x) (ap (end_of new.shape) is ∙ here.1.end) crosses.left in
             let zero = on_end (point_at new goal) (point_at new w) in omega (arith, ordered, left, zero))
         | inr is ↦
-            (let right = subst (λ (x : ℕ). offset (point_at new) goal w x <ℤ pos 0) (ap (origin_of new.shape) is ∙ here.1.end) crosses.right in
+            (let right = subst (λ (x : ℕ). orient2d_by (point_at new) goal w x <ℤ pos 0) (ap (origin_of new.shape) is ∙ here.1.end) crosses.right in
             let zero = on_end (point_at new goal) (point_at new w) in omega (arith, ordered, right, zero))
       ]
     ]

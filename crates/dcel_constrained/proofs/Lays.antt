@@ -14,8 +14,9 @@ use Rattle.dcel_maps.proofs.Liveness.{is_live-parts}
 use Rattle.dcel_maps.proofs.maps.Soundness.{rev_live}
 use Rattle.dcel_maps.proofs.shapes.Maps.{map-sound}
 use Rattle.dcel_plane.specs.Plane.{point_at}
-use Rattle.dcel_plane.proofs.covering.Along.{dot, long}
+use Rattle.dcel_plane.proofs.covering.Along.{long}
 use Rattle.dcel_plane.specs.segments.Segments.{LeadsAlong}
+use Rattle.dcel_plane.specs.covering.Covering.{dot}
 use Rattle.dcel_delaunay.specs.Growing.{HasHull, IsFlat}
 use Rattle.dcel_delaunay.specs.Triangulated.{PointsAreSingle}
 use Rattle.dcel_delaunay.proofs.Outline.{all_single}

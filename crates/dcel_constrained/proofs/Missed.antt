@@ -8,7 +8,7 @@ use Rattle.dcel_maps.specs.Removals.{gives_up_edge}
 use Rattle.dcel_maps.specs.Shapes.{IsLive, IsMesh, Mesh, Shape, end_of, face_of, next_of, origin_of, prev_of}
 use Rattle.dcel_maps.specs.Triangulations.{AllTriangles}
 use Rattle.dcel_maps.proofs.Liveness.{is_live-parts}
-use Rattle.dcel_plane.specs.Plane.{IsPlane, point_at}
+use Rattle.dcel_plane.specs.Plane.{TrianglesTurnLeft, point_at}
 use Rattle.dcel_plane.specs.covering.Places.{IsIn, orient_at}
 use Rattle.dcel_plane.proofs.covering.Inside.{as_place, place_of}
 use Rattle.dcel_plane.proofs.covering.Triangles.{at_word, same_face}
@@ -48,7 +48,7 @@ module _ {DE UE F : Type 0} (m : Mesh Point DE UE F) (mesh : IsMesh m) (triangle
       let is = as_place (q k) (point_at m (end_of s k)) p in
       by_lt_z (pos 0) (orient2d_of (q k) (point_at m (end_of s k)) p) (λ left. absurd (missed.outer outer left)) (λ not. omega (arith, ordered, is, not))
 
-  pub not_all_missed : IsPlane (point_at m) s → (i : ℕ) × IsLive s i × (0 < face_of s i) → ((h : ℕ) → h < 2 * s.edges → IsMissed m p h) → ⊥
+  pub not_all_missed : TrianglesTurnLeft (point_at m) s → (i : ℕ) × IsLive s i × (0 < face_of s i) → ((h : ℕ) → h < 2 * s.edges → IsMissed m p h) → ⊥
   not_all_missed plane half missed =
       (plane_covers (point_at m) m mesh triangles plane).covered (place_of p) half.0 half.1 half.2 (λ k live outer. not_left k live outer (at_live k live))
       (at_word m mesh triangles IsOut turned_out (λ h live inner. out_beside h live inner (at_live h live)))

@@ -11,12 +11,12 @@ use Rattle.dcel_predicates.proofs.Signs.{both_negative, ordered, times}
 use Rattle.dcel_predicates.proofs.Terms.{spot}
 use Rattle.dcel_maps.specs.Shapes.{IsLive, IsMesh, Mesh, Shape, end_of, map_of, origin_of}
 use Rattle.dcel_maps.proofs.maps.Soundness.{rev_live}
-use Rattle.dcel_plane.specs.covering.Covering.{apart_along}
-use Rattle.dcel_plane.proofs.covering.Along.{by_place, dot, dot_in, long, no_height, one_place}
+use Rattle.dcel_plane.specs.covering.Covering.{dot}
+use Rattle.dcel_plane.proofs.covering.Along.{by_place, dot_in, long, no_height, one_place}
 use Rattle.dcel_plane.proofs.covering.Inside.{on_end, on_start}
 use Rattle.dcel_plane.proofs.covering.Products.{below_times, times_below}
-use Rattle.dcel_plane.specs.hull.Straight.{IsStraight, beyond}
-use Rattle.dcel_plane.specs.segments.Segments.{AreEnds, LeadsAlong, offset}
+use Rattle.dcel_plane.specs.hull.Straight.{IsStraight, dot_of_steps}
+use Rattle.dcel_plane.specs.segments.Segments.{AreEnds, LeadsAlong, orient2d_by}
 use Rattle.dcel_constrained.proofs.Between.{apart_placed, at_start, inside_up}
 
 module _ {V DE UE F : Type 0} (m : Mesh V DE UE F) (mesh : IsMesh m) (at : ℕ → Point) (straight : IsStraight at m.shape) (v w : ℕ) (differ : v ≢ w) (ends : AreEnds m.shape v w) where
@@ -42,7 +42,7 @@ module _ {V DE UE F : Type 0} (m : Mesh V DE UE F) (mesh : IsMesh m) (at : ℕ �
     abbrev e : ℕ
     e = end_of m.shape h
 
-    on : offset at v w e ≡ pos 0
+    on : orient2d_by at v w e ≡ pos 0
     on =
         (let a = subst (λ (i : ℕ). orient2d_of (at i) (at e) (at w) ≡ pos 0) from
         (subst (λ (i : ℕ). orient2d_of (at (origin_of s h)) (at e) (at i) ≡ pos 0) ends.from_j (straight.line h ends.j live ends.live_j)) in
@@ -53,13 +53,13 @@ module _ {V DE UE F : Type 0} (m : Mesh V DE UE F) (mesh : IsMesh m) (at : ℕ �
     not_over =
         by_lt_z (place w) (place e)
         (λ more. absurd
-        (let a = subst (λ (i : ℕ). pos 0 ≤ℤ apart_along (at i) (at e) (at w)) from
-        (subst (λ (i : ℕ). pos 0 ≤ℤ apart_along (at (origin_of s h)) (at e) (at i)) ends.from_j (straight.between h ends.j live ends.live_j)) in
+        (let a = subst (λ (i : ℕ). pos 0 ≤ℤ dot (at i) (at e) (at w)) from
+        (subst (λ (i : ℕ). pos 0 ≤ℤ dot (at (origin_of s h)) (at e) (at i)) ends.from_j (straight.between h ends.j live ends.live_j)) in
         let p = apart_placed (at v) (at w) far (at v) (at e) (at w) (on_end (at v) (at w)) on (on_start (at v) (at w)) in
         let z = at_start (at v) (at w) in
         let f = far in
         let t = below_times (place v -ℤ place w) (place e -ℤ place w) (omega (arith, ordered, z, f)) (omega (arith, ordered, more)) in
-        let u = times (place w) (apart_along (at v) (at e) (at w)) (omega (arith, ordered, f)) a in
+        let u = times (place w) (dot (at v) (at e) (at w)) (omega (arith, ordered, f)) a in
         omega (arith, ordered, p, t, u)))
         (λ not. not)
 
@@ -79,7 +79,7 @@ module _ {V DE UE F : Type 0} (m : Mesh V DE UE F) (mesh : IsMesh m) (at : ℕ �
     }
 
   -- the point c lies beyond b as seen from a where a lies on the other side
-  beyond_is : (a b c : Point) → beyond a b c ≡ pos 0 -ℤ dot a c b
+  beyond_is : (a b c : Point) → dot_of_steps a b c ≡ pos 0 -ℤ dot a c b
   beyond_is a b c =
       by_terms (a.x ∷ a.y ∷ b.x ∷ b.y ∷ c.x ∷ c.y ∷ [])
       (plus (by (minus (spot 1).x (spot 0).x) (minus (spot 2).x (spot 1).x)) (by (minus (spot 1).y (spot 0).y) (minus (spot 2).y (spot 1).y)))
@@ -90,11 +90,11 @@ module _ {V DE UE F : Type 0} (m : Mesh V DE UE F) (mesh : IsMesh m) (at : ℕ �
   turned_round away =
       let u = end_of s ends.i in
       let back : end_of s (rev ends.i) ≡ v = ap (origin_of s) (rev-rev ends.i) ∙ ends.from_i in
-      let seen : pos 0 <ℤ beyond (at u) (at v) (at w) = (let e = beyond_is (at u) (at v) (at w) in omega (arith, ordered, e, away)) in
+      let seen : pos 0 <ℤ dot_of_steps (at u) (at v) (at w) = (let e = beyond_is (at u) (at v) (at w) in omega (arith, ordered, e, away)) in
       let next = straight.onward (rev ends.i) ends.j (rev_live (map_of s) ends.i ends.live_i) ends.live_j
-      (subst (λ (k : ℕ). pos 0 <ℤ beyond (at u) (at k) (at (origin_of s ends.j))) (sym back) (subst (λ (k : ℕ). pos 0 <ℤ beyond (at u) (at v) (at k)) (sym ends.from_j) seen)) in
+      (subst (λ (k : ℕ). pos 0 <ℤ dot_of_steps (at u) (at k) (at (origin_of s ends.j))) (sym back) (subst (λ (k : ℕ). pos 0 <ℤ dot_of_steps (at u) (at v) (at k)) (sym ends.from_j) seen)) in
       let from : origin_of s next.0 ≡ v = next.2 ∙ back in
-      let further : pos 0 <ℤ beyond (at u) (at v) (at (end_of s next.0)) = subst (λ (k : ℕ). pos 0 <ℤ beyond (at u) (at k) (at (end_of s next.0))) back next.3 in (
+      let further : pos 0 <ℤ dot_of_steps (at u) (at v) (at (end_of s next.0)) = subst (λ (k : ℕ). pos 0 <ℤ dot_of_steps (at u) (at k) (at (end_of s next.0))) back next.3 in (
         next.0,
         ahead_leads next.0 next.1 from
             (opposite (place (end_of s ends.i)) (place (end_of s next.0)) away
@@ -105,7 +105,7 @@ module _ {V DE UE F : Type 0} (m : Mesh V DE UE F) (mesh : IsMesh m) (at : ℕ �
             shifted (place (end_of s ends.i)) (place (end_of s next.0)) (place v) (at_start (at v) (at w)) (omega (arith, ordered, p, n, t)))),
       )
     where
-      on_i : (h : ℕ) → IsLive s h → origin_of s h ≡ v → offset at v w (end_of s h) ≡ pos 0
+      on_i : (h : ℕ) → IsLive s h → origin_of s h ≡ v → orient2d_by at v w (end_of s h) ≡ pos 0
       on_i h live from = on h live from
 
       shifted : (a b z : ℤ) → z ≡ pos 0 → ((a -ℤ z) *ℤ (b -ℤ z)) <ℤ pos 0 → (a *ℤ b) <ℤ pos 0

@@ -5,9 +5,9 @@ use Rattle.dcel_predicates.proofs.Machine.{in_128}
 use Rattle.dcel_maps.specs.Shapes.{IsLive, IsMesh, Mesh, Shape, end_of, face_of, next_of}
 use Rattle.dcel_maps.specs.Walking.{IsOutEdge}
 use Rattle.dcel_maps.proofs.shapes.Maps.{map-sound}
-use Rattle.dcel_plane.specs.covering.Covering.{apart_along}
+use Rattle.dcel_plane.specs.covering.Covering.{dot}
 use Rattle.dcel_plane.proofs.covering.Inside.{on_start}
-use Rattle.dcel_plane.specs.segments.Segments.{AreEnds, BeginsAt, IsPlanar, LeadsAlong, OpensAt, corner_before, offset}
+use Rattle.dcel_plane.specs.segments.Segments.{AreEnds, BeginsAt, LeadsAlong, OpensAt, TriangulatesItsHull, corner_before, orient2d_by}
 use Rattle.dcel_plane.proofs.segments.Starting.{begins_opens, found, opens_begins}
 use Rattle.dcel_constrained.specs.Channels.{AreVertices}
 use Rattle.dcel_constrained.proofs.Widths.{apart_told}
@@ -37,31 +37,31 @@ module _ (at : ℕ → Point) (s : Shape) (v w h y : ℕ) (out : IsOutEdge s v h
   along_to_end is = record {
     live = out.live;
     from = out.start;
-    on = subst (λ (i : ℕ). offset at v w i ≡ pos 0) (sym is ∙ end) (on_start (at v) (at w));
+    on = subst (λ (i : ℕ). orient2d_by at v w i ≡ pos 0) (sym is ∙ end) (on_start (at v) (at w));
     ahead = inl (sym end ∙ is);
   }
 
-  pub along_by_sign : (r : ℤ) → y ≢ w → offset at v w y ≡ pos 0 → r ≡ apart_along (at v) (at w) (at y) → IsTrue (int_lt (in_128 r) (pos 0)) ↔ LeadsAlong at s v w h
+  pub along_by_sign : (r : ℤ) → y ≢ w → orient2d_by at v w y ≡ pos 0 → r ≡ dot (at v) (at w) (at y) → IsTrue (int_lt (in_128 r) (pos 0)) ↔ LeadsAlong at s v w h
   along_by_sign r other zero is =
       let told = apart_told r (at v) (at w) (at y) is in (
         λ yes. record {
           live = out.live;
           from = out.start;
-          on = subst (λ (i : ℕ). offset at v w i ≡ pos 0) end zero;
-          ahead = inr (subst (λ (i : ℕ). apart_along (at v) (at w) (at i) <ℤ pos 0) end (told.0 yes));
+          on = subst (λ (i : ℕ). orient2d_by at v w i ≡ pos 0) end zero;
+          ahead = inr (subst (λ (i : ℕ). dot (at v) (at w) (at i) <ℤ pos 0) end (told.0 yes));
         },
         λ along. told.1 (elim along.ahead [
           | inl last ↦ absurd (other (end ∙ last))
-          | inr less ↦ subst (λ (i : ℕ). apart_along (at v) (at w) (at i) <ℤ pos 0) (sym end) less
+          | inr less ↦ subst (λ (i : ℕ). dot (at v) (at w) (at i) <ℤ pos 0) (sym end) less
         ]),
       )
 
 -- what the signs of two offsets say of the triangle of an out edge
 pub opens_by_signs : (at : ℕ → Point) (s : Shape) (v w k x y : ℕ) (right left : ℤ) (b : Bool) → (face_of s k ≡ 0 → ⊥) → x ≡ end_of s k → y ≡ corner_before s k
-    → right ≡ offset at v w x → left ≡ offset at v w y → IsTrue b ↔ ((right <ℤ pos 0) × (pos 0 <ℤ left)) → IsTrue b ↔ OpensAt at s v w k
+    → right ≡ orient2d_by at v w x → left ≡ orient2d_by at v w y → IsTrue b ↔ ((right <ℤ pos 0) × (pos 0 <ℤ left)) → IsTrue b ↔ OpensAt at s v w k
 opens_by_signs at s v w k x y right left b inner end corner right_is left_is told =
-    let on_right : right ≡ offset at v w (end_of s k) = right_is ∙ ap (offset at v w) end in
-    let on_left : left ≡ offset at v w (corner_before s k) = left_is ∙ ap (offset at v w) corner in (
+    let on_right : right ≡ orient2d_by at v w (end_of s k) = right_is ∙ ap (orient2d_by at v w) end in
+    let on_left : left ≡ orient2d_by at v w (corner_before s k) = left_is ∙ ap (orient2d_by at v w) corner in (
       λ yes. record {
         inner = elim (eq-zero-or-pos (face_of s k)) [
           | inr is ↦ is
@@ -77,7 +77,7 @@ opens_by_signs at s v w k x y right left b inner end corner right_is left_is tol
 abbrev pub IsBeginning : (ℕ → Point) → Shape → ℕ → ℕ → ℕ → Type 0
 IsBeginning at s v w k = LeadsAlong at s v w k ⊎ OpensAt at s v w k
 
-module _ {V DE UE F : Type 0} (m : Mesh V DE UE F) (at : ℕ → Point) (planar : IsPlanar at m) (v w : ℕ) (differ : v ≢ w) (ends : AreEnds m.shape v w) where
+module _ {V DE UE F : Type 0} (m : Mesh V DE UE F) (at : ℕ → Point) (planar : TriangulatesItsHull at m) (v w : ℕ) (differ : v ≢ w) (ends : AreEnds m.shape v w) where
   abbrev s : Shape
   s = m.shape
 

@@ -18,7 +18,7 @@ use Rattle.dcel_plane.specs.covering.Places.{AreDisjoint, IsIn, Place, orient_at
 use Rattle.dcel_plane.proofs.covering.Numbered.{searched, word_is}
 use Rattle.dcel_plane.proofs.covering.Overlaps.{disjoint_triangles}
 use Rattle.dcel_plane.proofs.covering.Starts.{inner_half, out_of}
-use Rattle.dcel_plane.specs.segments.Segments.{AreEnds, IsPlanar}
+use Rattle.dcel_plane.specs.segments.Segments.{AreEnds, TriangulatesItsHull}
 use Rattle.dcel_plane.proofs.segments.Wholly.{plane_covers}
 use Rattle.dcel_delaunay.specs.Growing.{HasHull, IsFlat}
 use Rattle.dcel_delaunay.specs.Triangulated.{FacesAreApart, HullIsCovered}
@@ -127,7 +127,7 @@ module _ {DE F : Type 0} (m : Mesh Point DE Mark F) (mesh : IsMesh m) (due : Lis
       omega (arith, ordered, on, near)
 
   module _ (has : HasHull m) where
-    pub planar : IsPlanar (point_at m) m
+    pub planar : TriangulatesItsHull (point_at m) m
     planar = record { mesh = mesh; triangles = sound.triangles; plane = sound.plane; convex = has.convex; hull = has.hull }
 
     pub inner_one : (h : ℕ) × IsLive m.shape h × (0 < face_of m.shape h)

@@ -8,7 +8,7 @@ use Rattle.dcel_maps.specs.Walking.{Leads}
 use Rattle.dcel_maps.specs.Words.{count_of}
 use Rattle.dcel_maps.proofs.Liveness.{is_live-parts}
 use Rattle.dcel_plane.specs.Plane.{ListsCircled, point_at}
-use Rattle.dcel_plane.specs.segments.Segments.{Crosses, IsPlanar, TurnsInto}
+use Rattle.dcel_plane.specs.segments.Segments.{Crosses, TriangulatesItsHull, TurnsInto}
 use Rattle.dcel_delaunay.specs.Growing.{HasHull, IsJoined as AreJoined, KeepsListed}
 use Rattle.dcel_regions.specs.Marked.{IsMarked}
 use Rattle.dcel_regions.specs.declared.mark.Mark.{Mark}
@@ -46,10 +46,10 @@ module _ {DE F : Type 0} where
 
   -- flips of free edges
   module _ (old new : Mesh Point DE Mark F) (due items : List ℕ) (mesh : IsMesh old) (sound : IsConstrained old due) (has : HasHull old) (turns : TurnsFree old new) where
-    planar_before : IsPlanar (point_at old) old
+    planar_before : TriangulatesItsHull (point_at old) old
     planar_before = planar old mesh due sound has
 
-    pub planar_then : IsPlanar (point_at new) new
+    pub planar_then : TriangulatesItsHull (point_at new) new
     planar_then = free_planar old new turns planar_before
 
     pub constrained_then : ListsFree new items → IsConstrained new items
@@ -178,7 +178,7 @@ module _ {DE F : Type 0} where
 
   pub part_laid : (old made marked new : Mesh Point DE Mark F) (before due items : List ℕ) (v w : ℕ) (joined : Joined) (is_new : Bool) → IsMesh old → IsConstrained old before
       → before ≡ [] → HasHull old → IsFreeWay old v w → IsJoined old made v w joined → joined ≡ Edge
-      → KeepsListed old made before due → IsPlanar (point_at made) made
+      → KeepsListed old made before due → TriangulatesItsHull (point_at made) made
       → (h : ℕ) × Leads made.shape v w h × (marked ≡ undirected_edge_updated made (h / 2) Constraint) × (IsTrue is_new ↔ (¬ IsMarked made (h / 2)))
       → IsMesh marked → TurnsFree marked new → (ListsFree marked due → ListsFree new items) → IsPartLaid old new items v w is_new
   part_laid old made marked new before due items v w joined is_new mesh sound none has free made_so is lists planar_made marks mesh_marked turns goes_on =
@@ -193,10 +193,10 @@ module _ {DE F : Type 0} where
       }
 
   -- before edges are flipped again
-  pub planar_marked : (made marked : Mesh Point DE Mark F) (u : ℕ) → IsPlanar (point_at made) made → marked ≡ undirected_edge_updated made u Constraint
-      → IsMesh marked → IsPlanar (point_at marked) marked
+  pub planar_marked : (made marked : Mesh Point DE Mark F) (u : ℕ) → TriangulatesItsHull (point_at made) made → marked ≡ undirected_edge_updated made u Constraint
+      → IsMesh marked → TriangulatesItsHull (point_at marked) marked
   planar_marked made marked u planar is mesh =
-      subst (λ (m : Mesh Point DE Mark F). IsMesh m → IsPlanar (point_at m) m) (sym is)
+      subst (λ (m : Mesh Point DE Mark F). IsMesh m → TriangulatesItsHull (point_at m) m) (sym is)
       (λ mesh. record { mesh = mesh; triangles = planar.triangles; plane = planar.plane; convex = planar.convex; hull = planar.hull }) mesh
 
   -- flips change no vertex, and open no removal

@@ -17,29 +17,29 @@ use Rattle.dcel_maps.specs.Words.{count_of}
 use Rattle.dcel_maps.proofs.maps.Triangles.{IsTriangleOf}
 use Rattle.dcel_maps.proofs.words.Counts.{count-append, count-later, count-other, count-same}
 use Rattle.dcel_plane.specs.Plane.{TurnsLeft}
-use Rattle.dcel_plane.specs.covering.Covering.{apart_along}
-use Rattle.dcel_plane.proofs.covering.Along.{dot}
+use Rattle.dcel_plane.specs.covering.Covering.{dot}
 use Rattle.dcel_plane.proofs.covering.Inside.{on_end, on_start}
 use Rattle.dcel_plane.proofs.covering.Powers.{less_first}
 use Rattle.dcel_plane.proofs.covering.Products.{times_below}
-use Rattle.dcel_plane.specs.segments.Segments.{AreEnds, Crosses, IsChannel, IsClear, IsCorner, IsPlanar, Leads, corner_beyond, offset, width}
+use Rattle.dcel_plane.specs.segments.Segments.{AreEnds, Crosses, IsChannel, IsClear, IsCorner, Leads, TriangulatesItsHull, corner_beyond, orient2d_by, width}
 use Rattle.dcel_plane.proofs.segments.Channels.{all_cross, leads_on}
 use Rattle.dcel_plane.proofs.segments.Gates.{far, inner_far, inner_near, left_far, near}
 use Rattle.dcel_plane.proofs.segments.Levers.{inside_left, inside_right}
-use Rattle.dcel_plane.proofs.segments.Peaks.{ends_of, of_face}
+use Rattle.dcel_plane.proofs.segments.Peaks.{ends_of}
 use Rattle.dcel_plane.proofs.segments.Walking.{Comes, one_more}
+use Rattle.dcel_plane.proofs.covering.Triangles.{of_face}
 use Rattle.dcel_constrained.specs.Meeting.{LiesBetween}
 use Rattle.dcel_constrained.proofs.Between.{crosses_before, factor_below, lies_far, lies_not_end, lies_not_start, side_of, to_left_later, to_left_sooner, to_right_later, to_right_sooner}
 use Rattle.dcel_constrained.proofs.Passing.{none_in}
 
-module _ {V DE UE F : Type 0} (m : Mesh V DE UE F) (at : ℕ → Point) (planar : IsPlanar at m) where
+module _ {V DE UE F : Type 0} (m : Mesh V DE UE F) (at : ℕ → Point) (planar : TriangulatesItsHull at m) where
   abbrev s : Shape
   s = m.shape
 
   -- a vertex z between v and y, where the segment leads through a list of half edges
   module _ (v y : ℕ) (ends : AreEnds m.shape v y) (k z : ℕ) (live_k : IsLive m.shape k) (is_z : origin_of m.shape k ≡ z) (lies : LiesBetween at v y z) where
     abbrev off : ℕ → ℤ
-    off p = offset at v y p
+    off p = orient2d_by at v y p
 
     at_v : off v ≡ pos 0
     at_v = on_end (at v) (at y)
@@ -161,7 +161,7 @@ module _ {V DE UE F : Type 0} (m : Mesh V DE UE F) (at : ℕ → Point) (planar 
   pub channel_clear : (v y h : ℕ) (rest : List ℕ) → IsChannel at s v y (h ∷ rest) → IsClear at s v y
   channel_clear v y h rest channel = record {
     clear = λ k live on.
-        by_lt_z (apart_along (at v) (at y) (at (origin_of s k))) (pos 0)
+        by_lt_z (dot (at v) (at y) (at (origin_of s k))) (pos 0)
         (λ less. absurd (none_between v y (ends_of at s v y (h ∷ rest) channel) k (origin_of s k) live refl (record { on = on; inside = less }) h rest channel))
         (λ not. not);
   }

@@ -11,21 +11,20 @@ use Rattle.dcel_maps.specs.Shapes.{IsLive, Mesh, Shape, end_of, face_of, map_of,
 use Rattle.dcel_maps.proofs.maps.Soundness.{rev_live}
 use Rattle.dcel_maps.proofs.maps.Triangles.{IsTriangleOf}
 use Rattle.dcel_plane.specs.Plane.{TurnsLeft}
-use Rattle.dcel_plane.specs.covering.Covering.{Covers}
+use Rattle.dcel_plane.specs.covering.Covering.{Covers, dot}
 use Rattle.dcel_plane.specs.covering.Places.{AreDisjoint}
-use Rattle.dcel_plane.proofs.covering.Along.{dot, long}
+use Rattle.dcel_plane.proofs.covering.Along.{long}
 use Rattle.dcel_plane.proofs.covering.Apart.{apart_at}
 use Rattle.dcel_plane.proofs.covering.Faces.{disjoint_at, not_bare}
 use Rattle.dcel_plane.proofs.covering.Inside.{on_end, on_start}
-use Rattle.dcel_plane.proofs.covering.Triangles.{left_at, round}
-use Rattle.dcel_plane.specs.segments.Segments.{AreEnds, Crosses, IsPlanar, corner_before, offset}
+use Rattle.dcel_plane.proofs.covering.Triangles.{left_at, of_face, round}
+use Rattle.dcel_plane.specs.segments.Segments.{AreEnds, Crosses, TriangulatesItsHull, corner_before, orient2d_by}
 use Rattle.dcel_plane.proofs.segments.Gates.{inner_far, inner_near, left_near}
-use Rattle.dcel_plane.proofs.segments.Peaks.{of_face}
 use Rattle.dcel_constrained.specs.Meeting.{LiesBetween}
 use Rattle.dcel_constrained.proofs.Between.{crosses_parts}
 use Rattle.dcel_constrained.proofs.Crossings.{edges_apart, on_edge_in}
 
-module _ {V DE UE F : Type 0} (m : Mesh V DE UE F) (at : ℕ → Point) (planar : IsPlanar at m) where
+module _ {V DE UE F : Type 0} (m : Mesh V DE UE F) (at : ℕ → Point) (planar : TriangulatesItsHull at m) where
   abbrev s : Shape
   s = m.shape
 
@@ -69,8 +68,8 @@ module _ {V DE UE F : Type 0} (m : Mesh V DE UE F) (at : ℕ → Point) (planar 
     other_face same =
         of_face m planar.mesh (face_of s k) k (next_of s k) (prev_of s k) tri (λ i. Crosses at s v y i → ⊥)
         (λ c. (let z = on_end (at v) (at y) in let r = c.right in omega (arith, ordered, z, r)))
-        (λ c. (let z = on_start (at v) (at y) in let r = subst (λ (i : ℕ). offset at v y i <ℤ pos 0) next_from c.right in omega (arith, ordered, z, r)))
-        (λ c. (let z = on_end (at v) (at y) in let l = subst (λ (i : ℕ). pos 0 <ℤ offset at v y i) prev_to c.left in omega (arith, ordered, z, l)))
+        (λ c. (let z = on_start (at v) (at y) in let r = subst (λ (i : ℕ). orient2d_by at v y i <ℤ pos 0) next_from c.right in omega (arith, ordered, z, r)))
+        (λ c. (let z = on_end (at v) (at y) in let l = subst (λ (i : ℕ). pos 0 <ℤ orient2d_by at v y i) prev_to c.left in omega (arith, ordered, z, l)))
         h crosses.live (sym same) crosses
 
     inner_crosses_nothing : ⊥
@@ -95,7 +94,7 @@ module _ {V DE UE F : Type 0} (m : Mesh V DE UE F) (at : ℕ → Point) (planar 
         live = rev_live (map_of s) h c.live;
         right = (let a = orient2d-first_swapped (at v) (at w) (at e) in let l = c.left in omega (arith, ordered, a, l));
         left =
-            subst (λ (i : ℕ). pos 0 <ℤ offset at w v i) (sym back)
+            subst (λ (i : ℕ). pos 0 <ℤ orient2d_by at w v i) (sym back)
             (let a = orient2d-first_swapped (at v) (at w) (at o) in let r = c.right in omega (arith, ordered, a, r));
         near =
             subst (λ (i : ℕ). TurnsLeft (at e) (at i) (at w)) (sym back)
@@ -137,8 +136,8 @@ module _ {V DE UE F : Type 0} (m : Mesh V DE UE F) (at : ℕ → Point) (planar 
         let turn = left_near m planar.mesh planar.triangles at planar.plane planar.convex v w ends h c in
         let both = on_edge_in (at v) (at w) (at (origin_of s h)) (at (end_of s h)) (at (corner_before s h)) (at y) c.right c.left lies.on on turn in
         none_in h (origin_of s h) (end_of s h) (corner_before s h) c.live inner refl (planar.mesh.sound.joined h c.live) refl k y live_k is_y
-        (λ is. (let r = subst (λ (i : ℕ). offset at v w i <ℤ pos 0) (sym is) c.right in let z = lies.on in omega (arith, ordered, r, z)))
-        (λ is. (let l = subst (λ (i : ℕ). pos 0 <ℤ offset at v w i) (sym is) c.left in let z = lies.on in omega (arith, ordered, l, z)))
+        (λ is. (let r = subst (λ (i : ℕ). orient2d_by at v w i <ℤ pos 0) (sym is) c.right in let z = lies.on in omega (arith, ordered, r, z)))
+        (λ is. (let l = subst (λ (i : ℕ). pos 0 <ℤ orient2d_by at v w i) (sym is) c.left in let z = lies.on in omega (arith, ordered, l, z)))
         (λ is. (let t = subst (λ (i : ℕ). TurnsLeft (at (origin_of s h)) (at (end_of s h)) (at i)) (sym is) turn in omega (arith, ordered, t, on)))
         (omega (arith, ordered, on), both.0, both.1)
 

@@ -14,8 +14,8 @@ use Rattle.dcel_maps.specs.Words.{count_of}
 use Rattle.dcel_maps.proofs.maps.Soundness.{rev_live}
 use Rattle.dcel_maps.proofs.words.Counts.{count-append, count-other}
 use Rattle.dcel_plane.specs.Plane.{point_at}
-use Rattle.dcel_plane.specs.covering.Covering.{apart_along}
-use Rattle.dcel_plane.specs.segments.Segments.{AreEnds, BeginsAt, IsChannel, IsPlanar, LeadsAlong, corner_beyond, offset}
+use Rattle.dcel_plane.specs.covering.Covering.{dot}
+use Rattle.dcel_plane.specs.segments.Segments.{AreEnds, BeginsAt, IsChannel, LeadsAlong, TriangulatesItsHull, corner_beyond, orient2d_by}
 use Rattle.dcel_plane.proofs.segments.Gates.{far}
 use Rattle.dcel_plane.proofs.segments.Listing.{stands_in}
 use Rattle.dcel_plane.proofs.segments.Onward.{on_line}
@@ -29,7 +29,7 @@ use Rattle.dcel_constrained.proofs.Between.{crosses_later, leads_ahead, shorter_
 use Rattle.dcel_constrained.proofs.Passed.{channel_clear, comes_to_vertex}
 use Rattle.dcel_constrained.proofs.Passing.{crosses_one, edges_cross_nothing, vertices_apart}
 
-module _ {DE F : Type 0} (m : Mesh Point DE Mark F) (planar : IsPlanar (point_at m) m) where
+module _ {DE F : Type 0} (m : Mesh Point DE Mark F) (planar : TriangulatesItsHull (point_at m) m) where
   abbrev s : Shape
   s = m.shape
 
@@ -100,7 +100,7 @@ module _ {DE F : Type 0} (m : Mesh Point DE Mark F) (planar : IsPlanar (point_at
           many = (let a = length-append walk.passed (h ∷ []) in let c = walk.many in omega (arith, a, c));
         }
 
-        pub walk_goes_on : (k : ℕ) → ((pos 0 <ℤ offset at v w (corner_beyond s h)) × (k ≡ next_of s (rev h))) ⊎ ((offset at v w (corner_beyond s h) <ℤ pos 0) × (k ≡ prev_of s (rev h)))
+        pub walk_goes_on : (k : ℕ) → ((pos 0 <ℤ orient2d_by at v w (corner_beyond s h)) × (k ≡ next_of s (rev h))) ⊎ ((orient2d_by at v w (corner_beyond s h) <ℤ pos 0) × (k ≡ prev_of s (rev h)))
             → IsFreeWalk k (steps + 1)
         walk_goes_on k (inl right) =
             subst (λ (i : ℕ). IsFreeWalk i (steps + 1)) (sym right.1)
@@ -112,7 +112,7 @@ module _ {DE F : Type 0} (m : Mesh Point DE Mark F) (planar : IsPlanar (point_at
         some : (list : List ℕ) → list ++ (h ∷ []) ≢ []
         some list is = (let a = ap length is in let b = length-append list (h ∷ []) in omega (arith, a, b))
 
-        pub walk_reaches : (y : ℕ) → (offset at v w (corner_beyond s h) ≡ pos 0) × (y ≡ corner_beyond s h) → Reaches m v w y
+        pub walk_reaches : (y : ℕ) → (orient2d_by at v w (corner_beyond s h) ≡ pos 0) × (y ≡ corner_beyond s h) → Reaches m v w y
         walk_reaches y met =
             let tri = far m planar.mesh planar.triangles at planar.plane planar.convex v w ends h walk.comes.crosses in
             let ends_there : AreEnds s y w = record {
@@ -123,7 +123,7 @@ module _ {DE F : Type 0} (m : Mesh Point DE Mark F) (planar : IsPlanar (point_at
               live_j = ends.live_j;
               from_j = ends.from_j;
             } in
-            by_lt_z (apart_along (at v) (at w) (at (corner_beyond s h))) (pos 0)
+            by_lt_z (dot (at v) (at w) (at (corner_beyond s h))) (pos 0)
             (λ less.
             let lies : LiesBetween at v w y = subst (λ (i : ℕ). LiesBetween at v w i) (sym met.1) (record { on = met.0; inside = less }) in
             record {
@@ -177,7 +177,7 @@ module _ {DE F : Type 0} (m : Mesh Point DE Mark F) (planar : IsPlanar (point_at
 
 -- a walk, with what it rests on
 pub record IsWalk {DE F : Type 0} (m : Mesh Point DE Mark F) (v w h steps : ℕ) : Type 0 where
-  pub planar : IsPlanar (point_at m) m
+  pub planar : TriangulatesItsHull (point_at m) m
   pub ends : AreEnds m.shape v w
   pub walk : IsFreeWalk m planar v w ends h steps
 
@@ -186,7 +186,7 @@ pub record IsFollowed {DE F : Type 0} (m : Mesh Point DE Mark F) (v w x : ℕ) :
   pub ends : AreEnds m.shape x w
   pub same : IsFreeWay m v w ↔ IsFreeWay m x w
 
-module _ {DE F : Type 0} (m : Mesh Point DE Mark F) (planar : IsPlanar (point_at m) m) (v w : ℕ) where
+module _ {DE F : Type 0} (m : Mesh Point DE Mark F) (planar : TriangulatesItsHull (point_at m) m) (v w : ℕ) where
   pub follow_begins : AreEnds m.shape v w → IsFollowed m v w v
   follow_begins ends = record { ends = ends; same = (λ free. free, λ free. free) }
 

@@ -14,7 +14,7 @@ use Rattle.dcel_legalize.specs.Flipping.{edges_flipped, sides_beside}
 use Rattle.dcel_legalize.proofs.Course.{flipped-append}
 use Rattle.dcel_circles.specs.Turning.{AreCircled, IsTurnedTo}
 use Rattle.dcel_plane.specs.removal.Wheels.{CanTurn}
-use Rattle.dcel_plane.specs.segments.Segments.{IsPlanar}
+use Rattle.dcel_plane.specs.segments.Segments.{TriangulatesItsHull}
 use Rattle.dcel_plane.proofs.segments.Becoming.{turned_planar}
 use Rattle.dcel_regions.specs.Marked.{IsMarked}
 use Rattle.dcel_regions.specs.declared.mark.Mark.{Mark}
@@ -39,12 +39,12 @@ turned_more {DE} {UE} {F} m n u before inner circled = record {
 module _ {DE F : Type 0} where
   -- what is kept of the mesh m and the list that a run began with
   pub record IsRunning (m : Mesh Point DE Mark F) (list : List ℕ) (n : Mesh Point DE Mark F) (rest : List ℕ) : Type 0 where
-    pub planar : IsPlanar (point_at n) n
+    pub planar : TriangulatesItsHull (point_at n) n
     pub flips : TurnsFree m n
     pub circled : IsTurnedTo m n
     pub due : ListsFree m list → ListsFree n rest
 
-  pub starts : (m : Mesh Point DE Mark F) (list : List ℕ) → IsPlanar (point_at m) m → IsRunning m list m list
+  pub starts : (m : Mesh Point DE Mark F) (list : List ℕ) → TriangulatesItsHull (point_at m) m → IsRunning m list m list
   starts m list planar = record {
     planar = planar;
     flips = stays_free m;

@@ -13,7 +13,7 @@ use Rattle.dcel_maps.proofs.shapes.Maps.{map-sound}
 use Rattle.dcel_maps.proofs.words.Counts.{count-append, count-other, count-same}
 use Rattle.dcel_plane.specs.Plane.{ListsCircled, origin_point, point_at}
 use Rattle.dcel_plane.specs.removal.Wheels.{CanTurn}
-use Rattle.dcel_plane.specs.segments.Segments.{Becomes, HasSidesOf, IsChannel, IsPlanar, NarrowerBefore, NotWiderAfter, TurnsInto, corner_before, corner_beyond, flipped_each, offset, widths}
+use Rattle.dcel_plane.specs.segments.Segments.{Becomes, HasSidesOf, IsChannel, NarrowerBefore, NotWiderAfter, TriangulatesItsHull, TurnsInto, corner_before, corner_beyond, flipped_each, orient2d_by, widths}
 use Rattle.dcel_plane.proofs.segments.Channels.{all_cross}
 use Rattle.dcel_plane.proofs.segments.Peaks.{empty_joins, some_width}
 use Rattle.dcel_plane.proofs.segments.Stepping.{can_turn, flipped-append, lists_left, old_edge, planar_still, sides_left, step, turns-append}
@@ -46,12 +46,12 @@ abs_less x y least less = omega (arith, ints)
 
 -- what the signs of two offsets say of a half edge once it is flipped
 module _ (at : ℕ → Point) (s : Shape) (v w h x y : ℕ) (near far : ℤ) (near_is : x ≡ corner_before s h) (far_is : y ≡ corner_beyond s h)
-    (near_off : near ≡ offset at v w x) (far_off : far ≡ offset at v w y) where
-  near_side : near ≡ offset at v w (corner_before s h)
-  near_side = near_off ∙ ap (offset at v w) near_is
+    (near_off : near ≡ orient2d_by at v w x) (far_off : far ≡ orient2d_by at v w y) where
+  near_side : near ≡ orient2d_by at v w (corner_before s h)
+  near_side = near_off ∙ ap (orient2d_by at v w) near_is
 
-  far_side : far ≡ offset at v w (corner_beyond s h)
-  far_side = far_off ∙ ap (offset at v w) far_is
+  far_side : far ≡ orient2d_by at v w (corner_beyond s h)
+  far_side = far_off ∙ ap (orient2d_by at v w) far_is
 
   pub becomes_itself : (near <ℤ pos 0) × (pos 0 <ℤ far) → Becomes at s v w h (h ∷ [])
   becomes_itself signs = inl (subst (λ z. z <ℤ pos 0) near_side signs.0, subst (λ z. pos 0 <ℤ z) far_side signs.1, refl)
@@ -74,7 +74,7 @@ module _ {DE UE F : Type 0} where
 
   -- of `crossed` at first these are left, and the mesh has come to be `now`
   pub record IsOnWay (first : Mesh Point DE UE F) (crossed : List ℕ) (v w : ℕ) (now : Mesh Point DE UE F) (left : List ℕ) : Type 0 where
-    pub planar : IsPlanar (point_at now) now
+    pub planar : TriangulatesItsHull (point_at now) now
     pub channel : IsChannel (point_at now) now.shape v w left
     pub turns : TurnsInto (point_at first) first now crossed
     pub old_edges : (k : ℕ) → 0 < count_of k left → (j : ℕ) × (0 < count_of j crossed) × (j / 2 ≡ k / 2)
@@ -82,7 +82,7 @@ module _ {DE UE F : Type 0} where
         → HasSidesOf due now.shape left
         × (ListsCircled (point_at first) first.shape (due ++ lacking) → ListsCircled (point_at now) now.shape (due ++ lacking))
 
-  pub begins : (first : Mesh Point DE UE F) (crossed : List ℕ) (v w : ℕ) → IsPlanar (point_at first) first → IsChannel (point_at first) first.shape v w crossed
+  pub begins : (first : Mesh Point DE UE F) (crossed : List ℕ) (v w : ℕ) → TriangulatesItsHull (point_at first) first → IsChannel (point_at first) first.shape v w crossed
       → IsOnWay first crossed v w first crossed
   begins first crossed v w planar channel = record {
     planar = planar;
@@ -172,7 +172,7 @@ module _ {DE UE F : Type 0} where
       (edge.edge, record { live = edge.live; start = edge.from; end = edge.to })
 
 -- the half edge at a place that is wider than the one before and no narrower than the one after
-pub turns_there : {DE UE F : Type 0} (m : Mesh Point DE UE F) → IsPlanar (point_at m) m → (v w : ℕ) (list : List ℕ) → IsChannel (point_at m) m.shape v w list → (place h : ℕ)
+pub turns_there : {DE UE F : Type 0} (m : Mesh Point DE UE F) → TriangulatesItsHull (point_at m) m → (v w : ℕ) (list : List ℕ) → IsChannel (point_at m) m.shape v w list → (place h : ℕ)
     → slice_get list place ≡ Some h → IsNarrowerBefore (point_at m) m.shape v w list place → IsNotWiderAfter (point_at m) m.shape v w list place
     → CanTurn (point_at m) m.shape (h / 2)
 turns_there m planar v w list channel place h there narrow wide =

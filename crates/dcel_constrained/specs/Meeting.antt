@@ -3,10 +3,10 @@ use Rattle.std.specs.Prelude.{◌≡◌, ◌⊎◌, ℕ, ◌<◌, List, pos, ◌
 use Rattle.dcel_fixed.specs.HalfEdges.{rev}
 use Rattle.dcel_predicates.specs.declared.point.Point.{Point}
 use Rattle.dcel_maps.specs.Shapes.{Mesh, Shape, end_of, next_of, prev_of}
-use Rattle.dcel_plane.specs.segments.Segments.{BeginsAt, Crosses, HasSidesOf, IsChannel, LeadsAlong, TurnsInto, corner_beyond, offset}
+use Rattle.dcel_plane.specs.segments.Segments.{BeginsAt, Crosses, HasSidesOf, IsChannel, LeadsAlong, TurnsInto, corner_beyond, orient2d_by}
 use Rattle.dcel_maps.specs.Walking.{Leads}
 use Rattle.dcel_maps.specs.Words.{count_of}
-use Rattle.dcel_plane.specs.covering.Covering.{apart_along}
+use Rattle.dcel_plane.specs.covering.Covering.{dot}
 use Rattle.dcel_plane.specs.Plane.{point_at}
 use Rattle.dcel_constrained.specs.declared.joining.Joined.{Joined}
 use Rattle.dcel_constrained.specs.declared.joining.Joined.TheVariants.{Between, Edge}
@@ -21,13 +21,13 @@ IsFirstMet at s v w (Vertex y) = (k : ℕ) × LeadsAlong at s v w k × (end_of s
 -- beyond the half edge h it is another side of the triangle there, by the side on which its corner lies, or the corner
 abbrev pub IsMetAfter : (ℕ → Point) → Shape → ℕ → ℕ → ℕ → Met → Type 0
 IsMetAfter at s v w h (Side k) =
-    ((pos 0 <ℤ offset at v w (corner_beyond s h)) × (k ≡ next_of s (rev h))) ⊎ ((offset at v w (corner_beyond s h) <ℤ pos 0) × (k ≡ prev_of s (rev h)))
-IsMetAfter at s v w h (Vertex y) = (offset at v w (corner_beyond s h) ≡ pos 0) × (y ≡ corner_beyond s h)
+    ((pos 0 <ℤ orient2d_by at v w (corner_beyond s h)) × (k ≡ next_of s (rev h))) ⊎ ((orient2d_by at v w (corner_beyond s h) <ℤ pos 0) × (k ≡ prev_of s (rev h)))
+IsMetAfter at s v w h (Vertex y) = (orient2d_by at v w (corner_beyond s h) ≡ pos 0) × (y ≡ corner_beyond s h)
 
 -- the vertex y lies on the segment, between its ends
 pub record LiesBetween (at : ℕ → Point) (v w y : ℕ) : Type 0 where
-  pub on : offset at v w y ≡ pos 0
-  pub inside : apart_along (at v) (at w) (at y) <ℤ pos 0
+  pub on : orient2d_by at v w y ≡ pos 0
+  pub inside : dot (at v) (at w) (at y) <ℤ pos 0
 
 -- what is listed before is listed still
 abbrev pub ListsStill : List ℕ → List ℕ → Type 0

@@ -5,7 +5,7 @@ use Rattle.dcel_maps.specs.Removals.{Closed}
 use Rattle.dcel_maps.specs.Shapes.{Mesh, origin_of}
 use Rattle.dcel_maps.specs.Triangulations.{AllTriangles}
 use Rattle.dcel_maps.specs.Walking.{Leads}
-use Rattle.dcel_plane.specs.Plane.{IsCircled, IsInner, IsPlane, point_at}
+use Rattle.dcel_plane.specs.Plane.{IsCircled, IsInner, TrianglesTurnLeft, point_at}
 use Rattle.dcel_delaunay.specs.Growing.{HasHull, IsFlat, IsJoined}
 use Rattle.dcel_regions.specs.Marked.{IsMarked}
 use Rattle.dcel_regions.specs.declared.mark.Mark.{Mark}
@@ -24,7 +24,7 @@ module _ {DE F : Type 0} where
     pub closed : m.shape.removal ≡ Closed
     pub joined : IsJoined m.shape
     pub triangles : AllTriangles m.shape
-    pub plane : IsPlane (point_at m) m.shape
+    pub plane : TrianglesTurnLeft (point_at m) m.shape
     pub listed : ListsFree m due
 
   -- all vertices stand on one line, or there is a triangle and the outer face is a convex hull

@@ -5,7 +5,7 @@ ghost use Rattle.std.specs.Option.{option_to_list};
 ghost use Rattle.dcel_maps.specs.Shapes.{IsLive, IsMesh};
 ghost use Rattle.dcel_maps.specs.Walking.{Leads};
 ghost use Rattle.dcel_plane.specs.Plane.{ListsCircled, point_at};
-ghost use Rattle.dcel_plane.specs.segments.Segments.{Becomes, HasSidesOf, IsChannel, IsPlanar, TurnsInto};
+ghost use Rattle.dcel_plane.specs.segments.Segments.{Becomes, HasSidesOf, IsChannel, TriangulatesItsHull, TurnsInto};
 ghost use Rattle.dcel_constrained.specs.Channels.{AreVertices, IsLeftAt, IsNarrowerBefore, IsNotWiderAfter};
 
 use crate::peaks::find_peak;
@@ -30,10 +30,10 @@ pub(crate) fn connect<DE, UE, F, A: Allocator, L: Allocator>(
     crossed: &mut Vec<FixedDirectedEdgeHandle, L>,
 )
     requires differ { from ≢ to }
-    requires planar { IsPlanar (point_at dcel.old) dcel.old }
+    requires planar { TriangulatesItsHull (point_at dcel.old) dcel.old }
     requires channel { IsChannel (point_at dcel.old) dcel.old.shape from to crossed.old.items }
     ensures turns { TurnsInto (point_at dcel.old) dcel.old dcel.new crossed.old.items }
-    ensures planar { IsPlanar (point_at dcel.new) dcel.new }
+    ensures planar { TriangulatesItsHull (point_at dcel.new) dcel.new }
     ensures joined { (h : ℕ) × Leads dcel.new.shape from to h }
     ensures lists { (due lacking : List ℕ) → HasSidesOf due dcel.old.shape crossed.old.items
         → ListsCircled (point_at dcel.old) dcel.old.shape (due ++ lacking) → ListsCircled (point_at dcel.new) dcel.new.shape (due ++ lacking) }
@@ -56,7 +56,7 @@ fn turn<DE, UE, F, A: Allocator, L: Allocator>(
     crossed: &mut Vec<FixedDirectedEdgeHandle, L>,
     at: usize,
 )
-    requires planar { IsPlanar (point_at dcel.old) dcel.old }
+    requires planar { TriangulatesItsHull (point_at dcel.old) dcel.old }
     requires channel { IsChannel (point_at dcel.old) dcel.old.shape from to crossed.old.items }
     requires place { at < length crossed.old.items }
     requires before { IsNarrowerBefore (point_at dcel.old) dcel.old.shape from to crossed.old.items at }

@@ -6,7 +6,7 @@ ghost use Rattle.dcel_maps.specs.Shapes.{IsLive, face_of};
 ghost use Rattle.dcel_maps.specs.Walking.{Leads};
 ghost use Rattle.dcel_plane.specs.Plane.{point_at};
 ghost use Rattle.dcel_delaunay.specs.Growing.{KeepsListed};
-ghost use Rattle.dcel_plane.specs.segments.Segments.{AreEnds, BeginsAt, IsPlanar};
+ghost use Rattle.dcel_plane.specs.segments.Segments.{AreEnds, BeginsAt, TriangulatesItsHull};
 ghost use Rattle.dcel_constrained.specs.Meeting.{HasCome, IsJoined, ListsStill};
 
 use crate::connecting::connect;
@@ -52,14 +52,14 @@ pub fn join<DE, UE, F, A: Allocator, L: Allocator>(
     crossed: &mut Vec<FixedDirectedEdgeHandle, L>,
     due: &mut Vec<FixedUndirectedEdgeHandle, L>,
 ) -> Result<Joined, AllocError>
-    requires planar { IsPlanar (point_at dcel.old) dcel.old }
+    requires planar { TriangulatesItsHull (point_at dcel.old) dcel.old }
     requires inner { (h : ℕ) × IsLive dcel.old.shape h × (0 < face_of dcel.old.shape h) }
     requires differ { from ≢ to }
     requires ends { AreEnds dcel.old.shape from to }
     requires empty { crossed.old.items ≡ [] }
     ensures joined { IfOk result (IsJoined dcel.old dcel.new from to) }
     ensures refused { OnErr result (dcel.new ≡ dcel.old) }
-    ensures planar { IsPlanar (point_at dcel.new) dcel.new }
+    ensures planar { TriangulatesItsHull (point_at dcel.new) dcel.new }
     ensures lists { KeepsListed dcel.old dcel.new due.old.items due.new.items }
     ensures crossed { crossed.new.items ≡ [] }
     ensures same { (h : ℕ) → Leads dcel.old.shape from to h → (dcel.new ≡ dcel.old) × (due.new.items ≡ due.old.items) }
@@ -102,7 +102,7 @@ fn gather<DE, UE, F, A: Allocator, L: Allocator>(
     crossed: &mut Vec<FixedDirectedEdgeHandle, L>,
     due: &mut Vec<FixedUndirectedEdgeHandle, L>,
 ) -> Result<FixedVertexHandle, AllocError>
-    requires planar { IsPlanar (point_at dcel.now) dcel.now }
+    requires planar { TriangulatesItsHull (point_at dcel.now) dcel.now }
     requires ends { AreEnds dcel.now.shape from to }
     requires begins { BeginsAt (point_at dcel.now) dcel.now.shape from to first }
     requires empty { crossed.old.items ≡ [] }

@@ -4,7 +4,7 @@ ghost use Rattle.std.specs.Prelude.{◌≡◌, ◌↔◌, [], IsTrue, OnOk};
 ghost use Rattle.dcel_circles.specs.Turning.{IsTurnedTo};
 ghost use Rattle.dcel_plane.specs.Plane.{IsCircled, IsInner, point_at};
 ghost use Rattle.dcel_regions.specs.Marked.{IsMarked};
-ghost use Rattle.dcel_plane.specs.segments.Segments.{IsPlanar};
+ghost use Rattle.dcel_plane.specs.segments.Segments.{TriangulatesItsHull};
 ghost use Rattle.dcel_constrained.specs.Constraints.{ListsFree, TurnsFree};
 
 use crate::mesh::is_marked;
@@ -31,10 +31,10 @@ pub(crate) fn legalize_free<DE, F, A: Allocator, L: Allocator>(
     dcel: &mut Dcel<Point, DE, Mark, F, A>,
     due: &mut Vec<FixedUndirectedEdgeHandle, L>,
 ) -> Result<(), AllocError>
-    requires planar { IsPlanar (point_at dcel.old) dcel.old }
+    requires planar { TriangulatesItsHull (point_at dcel.old) dcel.old }
     ensures flips { TurnsFree dcel.old dcel.new }
     ensures circled { IsTurnedTo dcel.old dcel.new }
-    ensures planar { IsPlanar (point_at dcel.new) dcel.new }
+    ensures planar { TriangulatesItsHull (point_at dcel.new) dcel.new }
     ensures due { ListsFree dcel.old due.old.items → ListsFree dcel.new due.new.items }
     ensures done { OnOk result (due.new.items ≡ []) }
 {

@@ -6,7 +6,7 @@ ghost use Rattle.dcel_maps.specs.Conditions.{IsUnconnected};
 ghost use Rattle.dcel_maps.specs.Removals.{Closed};
 ghost use Rattle.dcel_maps.specs.Shapes.{IsLive, face_count, face_of};
 ghost use Rattle.dcel_maps.specs.Triangulations.{AllTriangles};
-ghost use Rattle.dcel_plane.specs.Plane.{IsPlane, point_at};
+ghost use Rattle.dcel_plane.specs.Plane.{TrianglesTurnLeft, point_at};
 ghost use Rattle.dcel_delaunay.specs.Triangulated.{FacesAreApart, GoesRoundHull, HullIsCovered, PointsAreSingle};
 ghost use Rattle.dcel_regions.specs.Marked.{IsMarked};
 ghost use Rattle.dcel_regions.specs.Regions.{IsReached};
@@ -44,7 +44,7 @@ impl<A: Allocator> ConstrainedTriangulation<A> {
         ensures closed { (marked_mesh self.now).shape.removal ≡ Closed }
         ensures triangles { AllTriangles (marked_mesh self.now).shape }
         ensures joined { (v : ℕ) → 1 < (marked_mesh self.now).shape.vertices → ¬ IsUnconnected (marked_mesh self.now).shape v }
-        ensures plane { IsPlane (point_at (marked_mesh self.now)) (marked_mesh self.now).shape }
+        ensures plane { TrianglesTurnLeft (point_at (marked_mesh self.now)) (marked_mesh self.now).shape }
         ensures apart { IsWhole self.now → FacesAreApart (marked_mesh self.now) }
         ensures covers { IsWhole self.now → 1 < face_count (marked_mesh self.now).shape → HullIsCovered (marked_mesh self.now) }
         ensures single { IsWhole self.now → PointsAreSingle (marked_mesh self.now) }

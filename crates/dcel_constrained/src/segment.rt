@@ -3,7 +3,7 @@
 ghost use Rattle.std.specs.Prelude.{◌≡◌, ◌<◌};
 ghost use Rattle.dcel_maps.specs.Shapes.{IsLive};
 ghost use Rattle.dcel_plane.specs.Plane.{point_at};
-ghost use Rattle.dcel_plane.specs.segments.Segments.{corner_before, corner_beyond, offset, width};
+ghost use Rattle.dcel_plane.specs.segments.Segments.{corner_before, corner_beyond, orient2d_by, width};
 ghost use Rattle.dcel_constrained.specs.Channels.{AreVertices};
 
 use dcel_predicates::{Point, orient2d};
@@ -22,7 +22,7 @@ pub(crate) fn offset_of<DE, UE, F, A: Allocator>(
 ) -> i64
     requires ends { AreVertices dcel.now.shape from to }
     requires vertex { vertex < dcel.now.shape.vertices }
-    ensures { result ≡ offset (point_at dcel.now) from to vertex }
+    ensures { result ≡ orient2d_by (point_at dcel.now) from to vertex }
 {
     orient2d(
         point_of(dcel, from),

@@ -1,11 +1,11 @@
 //! What a segment between two vertices meets on its way: half edges that it crosses, and vertices.
 
 ghost use Rattle.std.specs.Prelude.{◌≡◌, ◌≢◌, ◌↔◌, ◌<◌, ℕ, IsTrue};
-ghost use Rattle.dcel_plane.specs.covering.Covering.{apart_along};
+ghost use Rattle.dcel_plane.specs.covering.Covering.{dot};
 ghost use Rattle.dcel_maps.specs.Shapes.{IsLive, face_of};
 ghost use Rattle.dcel_maps.specs.Walking.{IsOutEdge};
 ghost use Rattle.dcel_plane.specs.Plane.{point_at};
-ghost use Rattle.dcel_plane.specs.segments.Segments.{AreEnds, IsPlanar, LeadsAlong, OpensAt};
+ghost use Rattle.dcel_plane.specs.segments.Segments.{AreEnds, LeadsAlong, OpensAt, TriangulatesItsHull};
 ghost use Rattle.dcel_constrained.specs.Channels.{AreVertices};
 ghost use Rattle.dcel_constrained.specs.Meeting.{IsFirstMet, IsMetAfter};
 
@@ -32,7 +32,7 @@ pub(crate) fn first_met<DE, UE, F, A: Allocator>(
     from: FixedVertexHandle,
     to: FixedVertexHandle,
 ) -> Met
-    requires planar { IsPlanar (point_at dcel.now) dcel.now }
+    requires planar { TriangulatesItsHull (point_at dcel.now) dcel.now }
     requires inner { (h : ℕ) × IsLive dcel.now.shape h × (0 < face_of dcel.now.shape h) }
     requires differ { from ≢ to }
     requires ends { AreEnds dcel.now.shape from to }
@@ -127,7 +127,7 @@ fn opens<DE, UE, F, A: Allocator>(
 /// Returns a number that is negative if a point on the line through two others lies between them, 0
 /// if it is one of them, and positive outside.
 fn apart(a: Point, b: Point, p: Point) -> i128
-    ensures { result ≡ apart_along a b p }
+    ensures { result ≡ dot a b p }
 {
     let x = (a.x - p.x) as i128 * (b.x - p.x) as i128;
     let y = (a.y - p.y) as i128 * (b.y - p.y) as i128;

@@ -4,7 +4,7 @@ ghost use Rattle.std.specs.Prelude.{◌≢◌, ◌↔◌, ◌<◌, ℕ, IsTrue};
 ghost use Rattle.dcel_plane.specs.hull.Straight.{IsStraight};
 ghost use Rattle.dcel_maps.specs.Shapes.{IsLive, face_of};
 ghost use Rattle.dcel_plane.specs.Plane.{point_at};
-ghost use Rattle.dcel_plane.specs.segments.Segments.{AreEnds, IsPlanar, LeadsAlong};
+ghost use Rattle.dcel_plane.specs.segments.Segments.{AreEnds, LeadsAlong, TriangulatesItsHull};
 ghost use Rattle.dcel_constrained.specs.Constraints.{IsFreeWay};
 ghost use Rattle.dcel_constrained.specs.Reached.{IsReached};
 
@@ -25,7 +25,7 @@ pub(crate) fn is_free_way<DE, F, A: Allocator>(
     from: FixedVertexHandle,
     to: FixedVertexHandle,
 ) -> bool
-    requires planar { IsPlanar (point_at dcel.now) dcel.now }
+    requires planar { TriangulatesItsHull (point_at dcel.now) dcel.now }
     requires inner { (h : ℕ) × IsLive dcel.now.shape h × (0 < face_of dcel.now.shape h) }
     requires differ { from ≢ to }
     requires ends { AreEnds dcel.now.shape from to }
@@ -48,7 +48,7 @@ fn next_vertex<DE, F, A: Allocator>(
     from: FixedVertexHandle,
     to: FixedVertexHandle,
 ) -> Option<FixedVertexHandle>
-    requires planar { IsPlanar (point_at dcel.now) dcel.now }
+    requires planar { TriangulatesItsHull (point_at dcel.now) dcel.now }
     requires inner { (h : ℕ) × IsLive dcel.now.shape h × (0 < face_of dcel.now.shape h) }
     requires differ { from ≢ to }
     requires ends { AreEnds dcel.now.shape from to }

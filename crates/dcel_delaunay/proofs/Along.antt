@@ -17,7 +17,7 @@ use Rattle.dcel_maps.proofs.maps.Soundness.{rev_live}
 use Rattle.dcel_maps.proofs.shapes.Maps.{face-live, map-sound}
 use Rattle.dcel_maps.proofs.walks.Lengths.{count-le}
 use Rattle.dcel_plane.specs.Plane.{point_at}
-use Rattle.dcel_plane.specs.hull.Straight.{IsStraight, beyond}
+use Rattle.dcel_plane.specs.hull.Straight.{IsStraight, dot_of_steps}
 use Rattle.dcel_plane.specs.location.Locating.{IsBefore, LiesBeyond, LiesOn, Passes}
 use Rattle.dcel_plane.proofs.location.Lexical.{after_end, before_start, not_after_end, not_before_start}
 use Rattle.dcel_plane.proofs.location.OnLine.{few_passed, goes_on, places, stays_ahead}
@@ -42,7 +42,7 @@ either_before a b apart not =
     (λ no_up. absurd (apart (sym same, omega (arith, ordered, no_down, no_up)))))))
 
 -- no point lies beyond both ends
-both_ends : (a b p : Point) → beyond a b p +ℤ beyond b a p +ℤ ((a.x -ℤ b.x) *ℤ (a.x -ℤ b.x)) +ℤ ((a.y -ℤ b.y) *ℤ (a.y -ℤ b.y)) ≡ pos 0
+both_ends : (a b p : Point) → dot_of_steps a b p +ℤ dot_of_steps b a p +ℤ ((a.x -ℤ b.x) *ℤ (a.x -ℤ b.x)) +ℤ ((a.y -ℤ b.y) *ℤ (a.y -ℤ b.y)) ≡ pos 0
 both_ends a b p =
     by_terms (a.x ∷ a.y ∷ b.x ∷ b.y ∷ p.x ∷ p.y ∷ [])
     (plus (plus (plus
@@ -50,7 +50,7 @@ both_ends a b p =
     (plus (by (minus (spot 0).x (spot 1).x) (minus (spot 2).x (spot 0).x)) (by (minus (spot 0).y (spot 1).y) (minus (spot 2).y (spot 0).y))))
     (by (minus (spot 0).x (spot 1).x) (minus (spot 0).x (spot 1).x))) (by (minus (spot 0).y (spot 1).y) (minus (spot 0).y (spot 1).y))) (num (pos 0)) refl
 
-not_both : (a b p : Point) → pos 0 <ℤ beyond a b p → pos 0 <ℤ beyond b a p → ⊥
+not_both : (a b p : Point) → pos 0 <ℤ dot_of_steps a b p → pos 0 <ℤ dot_of_steps b a p → ⊥
 not_both a b p one other =
     let e = both_ends a b p in
     let x = square (a.x -ℤ b.x) in
@@ -124,7 +124,7 @@ module _ {DE UE F : Type 0} (m : Mesh Point DE UE F) (mesh : IsMesh m) where
   pub not_behind : (p : Point) (h : ℕ) → LiesBeyond at s p (rev h) → ¬ LiesBeyond at s p h
   not_behind p h back ahead =
       not_both (at (origin_of s h)) (at (end_of s h)) p ahead.past
-      (subst (λ (i : ℕ). pos 0 <ℤ beyond (at (end_of s h)) (at (origin_of s i)) p) (rev-rev h) back.past)
+      (subst (λ (i : ℕ). pos 0 <ℤ dot_of_steps (at (end_of s h)) (at (origin_of s i)) p) (rev-rev h) back.past)
 
   module _ (straight : IsStraight at s) where
     pub down : (h : ℕ) → IsLive s h → ¬ IsBefore (at (origin_of s h)) (at (end_of s h)) → IsBefore (at (end_of s h)) (at (origin_of s h))

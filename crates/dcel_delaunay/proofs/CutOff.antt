@@ -25,7 +25,7 @@ use Rattle.dcel_maps.proofs.words.Counts.{count-append}
 use Rattle.dcel_maps.proofs.words.Reading.{face_in_word, live_in}
 use Rattle.dcel_predicates.specs.declared.point.Point.{Point}
 use Rattle.dcel_legalize.specs.Flipping.{sides_beside}
-use Rattle.dcel_plane.specs.Plane.{IsPlane, ListsCircled, point_at}
+use Rattle.dcel_plane.specs.Plane.{ListsCircled, TrianglesTurnLeft, point_at}
 use Rattle.dcel_plane.specs.covering.Covering.{IsConvex, IsHull}
 use Rattle.dcel_plane.proofs.covering.Starts.{inner_half}
 use Rattle.dcel_plane.proofs.hull.Keeping.{flip_keeps_convex, flip_keeps_hull}
@@ -64,7 +64,7 @@ module _ {DE UE F : Type 0} where
     abbrev fs : List ℕ
     fs = strip_faces m.shape (strip_of m.shape h)
 
-    given_up : {A : Type 0} (out : IsolateVertexResult A) → HasOpened us fs [] 0 out → IsPlane (point_at m) n.shape → ListsCircled (point_at m) n.shape due → HasOutline n ⊎ IsStrung n
+    given_up : {A : Type 0} (out : IsolateVertexResult A) → HasOpened us fs [] 0 out → TrianglesTurnLeft (point_at m) n.shape → ListsCircled (point_at m) n.shape due → HasOutline n ⊎ IsStrung n
         → IsGivenUp m n v due out
     given_up out has plane lists left =
         let given = strip_given_up m mesh (strip_of m.shape h) strip in

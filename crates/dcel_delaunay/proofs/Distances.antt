@@ -3,7 +3,7 @@ use Rattle.std.proofs.Common.{◌≡◌, ◌+◌, ◌*◌, ◌^◌, ◌<◌, ◌
 use Rattle.std.proofs.lemmas.Int.{by_lt_z, ints, unsigned_abs-mul}
 use Rattle.std.proofs.Math.Nat.{mul-le-mul}
 use Rattle.dcel_predicates.specs.declared.point.Point.{Point}
-use Rattle.dcel_predicates.specs.Determinants.{lift_of}
+use Rattle.dcel_predicates.specs.Determinants.{squared_distance_of}
 use Rattle.dcel_predicates.proofs.Machine.{held_64, in_64, x_within, y_within}
 use Rattle.dcel_predicates.proofs.Signs.{square}
 use Rattle.dcel_maps.specs.Shapes.{Mesh, end_of}
@@ -37,14 +37,14 @@ module _ (p q : Point) where
       let d : y * y ≤ 2 ^ 31 * 2 ^ 31 = mul-le-mul b b in
       omega (arith, c, d)
 
-  pub distance_is : pos ((x * x) + (y * y)) ≡ lift_of p q
+  pub distance_is : pos ((x * x) + (y * y)) ≡ squared_distance_of p q
   distance_is = let a = squared (p.x -ℤ q.x) in let b = squared (p.y -ℤ q.y) in sums (x * x) (y * y) ((p.x -ℤ q.x) *ℤ (p.x -ℤ q.x)) ((p.y -ℤ q.y) *ℤ (p.y -ℤ q.y)) a b
     where
       sums : (a b : ℕ) (u v : ℤ) → pos a ≡ u → pos b ≡ v → pos (a + b) ≡ u +ℤ v
       sums a b u v ha hb = rw (sym ha, sym hb) refl
 
 -- a distance that falls
-pub falls : (p r q : Point) → lift_of p q <ℤ lift_of r q → unsigned_abs (lift_of p q) < unsigned_abs (lift_of r q)
+pub falls : (p r q : Point) → squared_distance_of p q <ℤ squared_distance_of r q → unsigned_abs (squared_distance_of p q) < unsigned_abs (squared_distance_of r q)
 falls p r q less = let a = sym (distance_is p q) in let b = sym (distance_is r q) in rw (a, b) (omega (arith, ints, less, a, b))
 
 -- distances compared as machine numbers
@@ -62,5 +62,5 @@ module _ {DE UE F : Type 0} (m lent edge_mesh : Mesh Point DE UE F) (i k : ℕ) 
   pub end_read : i ≡ end_of m.shape k
   end_read = end ∙ ap (λ (x : Mesh Point DE UE F). end_of x.shape k) same
 
-  pub distance_read : (d : ℕ) (q : Point) → lent ≡ edge_mesh → pos d ≡ lift_of (point_at lent i) q → pos d ≡ lift_of (point_at m (end_of m.shape k)) q
-  distance_read d q at_end is = is ∙ ap (λ (x : Mesh Point DE UE F). lift_of (point_at x i) q) (at_end ∙ same) ∙ ap (λ (j : ℕ). lift_of (point_at m j) q) end_read
+  pub distance_read : (d : ℕ) (q : Point) → lent ≡ edge_mesh → pos d ≡ squared_distance_of (point_at lent i) q → pos d ≡ squared_distance_of (point_at m (end_of m.shape k)) q
+  distance_read d q at_end is = is ∙ ap (λ (x : Mesh Point DE UE F). squared_distance_of (point_at x i) q) (at_end ∙ same) ∙ ap (λ (j : ℕ). squared_distance_of (point_at m j) q) end_read

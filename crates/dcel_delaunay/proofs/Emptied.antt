@@ -19,7 +19,7 @@ use Rattle.dcel_maps.proofs.words.Ascending.{length-ascending}
 use Rattle.dcel_maps.proofs.words.Counts.{count-append}
 use Rattle.dcel_predicates.specs.declared.point.Point.{Point}
 use Rattle.dcel_plane.specs.Edges.{edges_inserted}
-use Rattle.dcel_plane.specs.Plane.{IsPlane, ListsCircled, origin_point, point_at}
+use Rattle.dcel_plane.specs.Plane.{ListsCircled, TrianglesTurnLeft, origin_point, point_at}
 use Rattle.dcel_plane.specs.covering.Covering.{IsConvex, IsHull}
 use Rattle.dcel_plane.proofs.removal.Deleting.{four_plane, hole_convex, hole_hull, hole_lists, three_plane}
 use Rattle.dcel_plane.proofs.removal.Renumbering.{cleanup_inner}
@@ -62,7 +62,7 @@ module _ {DE UE F : Type 0} where
     triangles_after : AllTriangles n.shape
     triangles_after = ring_filled_in m sound.triangles sound.closed (opened (edges_at m v) (faces_at m v) v) (reverse border) halves edges faces
 
-    plane_before : IsPlane (point_at m) n.shape
+    plane_before : TrianglesTurnLeft (point_at m) n.shape
     plane_before = elim filled.triangles [
       | inl three ↦ three_plane m mesh sound.closed border v filled.round halves edges faces (point_at m) thin.triangles thin.plane thin.hull.convex thin.hull.hull three
       | inr (four, two) ↦
@@ -131,7 +131,7 @@ module _ {DE UE F : Type 0} where
               (length-ascending (edges_at m v) ∙ length-map (out_edges_of m v) (λ k. k / 2) ∙ sym (length-map (out_edges_of m v) (face_of m.shape))
               ∙ sym (length-ascending (faces_at m v)));
           triangles = triangles_after;
-          plane = at_points (λ at. IsPlane at n.shape) m n hole.points plane_before;
+          plane = at_points (λ at. TrianglesTurnLeft at n.shape) m n hole.points plane_before;
           listed = at_points (λ at. ListsCircled at n.shape list) m n hole.points lists;
           left = inl (record {
             inner = cleanup_inner n after (cleaned_up-mesh n after) h live (let o = on in omega (arith, o, outer));

@@ -9,7 +9,7 @@ use Rattle.dcel_maps.proofs.words.Reading.{face-next, face-prev}
 use Rattle.dcel_predicates.specs.declared.point.Point.{Point}
 use Rattle.dcel_predicates.specs.Determinants.{orient2d_of}
 use Rattle.dcel_predicates.proofs.Points.{orient2d-turned}
-use Rattle.dcel_plane.specs.Plane.{IsPlane, point_at}
+use Rattle.dcel_plane.specs.Plane.{TrianglesTurnLeft, point_at}
 use Rattle.dcel_plane.specs.hull.Closing.{IsClosed}
 use Rattle.dcel_plane.proofs.hull.Closed.{closed_convex}
 use Rattle.dcel_plane.proofs.hull.PutBeside.{straight_convex}
@@ -64,7 +64,7 @@ module _ {DE UE F : Type 0} (m : Mesh Point DE UE F) (t : ℕ) (is : IsOpen m t)
       (subst (λ (v : ℕ). ¬ (pos 0 <ℤ orient2d_of (at (origin_of s (prev_of s h))) (at v) (at (end_of s x)))) start
       (subst (λ (k : ℕ). ¬ (pos 0 <ℤ orient2d_of (at (origin_of s k)) (at (end_of s e)) (at (end_of s x)))) (sym before) never)))
 
-  pub closed_hull : IsMesh m → AllTriangles s → IsPlane at s → IsClosedAfter m t → IsClosedBefore m t → HasHull m
+  pub closed_hull : IsMesh m → AllTriangles s → TrianglesTurnLeft at s → IsClosedAfter m t → IsClosedBefore m t → HasHull m
   closed_hull mesh triangles plane after before =
       let closed : IsClosed at s t = record { after = after; before = before } in
       let stands = is.closing.stands in

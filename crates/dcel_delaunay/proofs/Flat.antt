@@ -17,10 +17,10 @@ use Rattle.dcel_predicates.specs.declared.point.Point.{Point}
 use Rattle.dcel_predicates.specs.Determinants.{orient2d_of}
 use Rattle.dcel_plane.specs.Plane.{origin_point, point_at}
 use Rattle.dcel_plane.proofs.edits.Moved.{appended_stands, others_stand}
-use Rattle.dcel_plane.specs.covering.Covering.{apart_along}
+use Rattle.dcel_plane.specs.covering.Covering.{dot}
 use Rattle.dcel_circles.specs.Turning.{AreCircled, IsTurnedTo}
 use Rattle.dcel_legalize.specs.Flipping.{edges_flipped}
-use Rattle.dcel_plane.specs.hull.Straight.{IsStraight, beyond}
+use Rattle.dcel_plane.specs.hull.Straight.{IsStraight, dot_of_steps}
 use Rattle.dcel_plane.proofs.hull.FirstEdge.{first_straight}
 use Rattle.dcel_plane.proofs.hull.LineExtended.{extended_straight, split_straight}
 use Rattle.dcel_plane.specs.location.Locating.{LiesBeyond, LiesOn}
@@ -104,7 +104,7 @@ module _ {DE UE F : Type 0} (m : Mesh Point DE UE F) (mesh : IsMesh m) (p : Poin
     straight =
         split_straight n after (point_at n) (appended_straight m mesh p flat.straight) x v live
         (said_after m mesh p (λ a b c. orient2d_of a b c ≡ pos 0) x live lies.on)
-        (said_after m mesh p (λ a b c. apart_along a b c <ℤ pos 0) x live lies.between) h e done;
+        (said_after m mesh p (λ a b c. dot a b c <ℤ pos 0) x live lies.between) h e done;
   }
 
   end_after : m.shape.removal ≡ Closed → (end : ℕ) → IsLineEnd m.shape end → IsLineEnd n.shape end
@@ -126,6 +126,6 @@ module _ {DE UE F : Type 0} (m : Mesh Point DE UE F) (mesh : IsMesh m) (p : Poin
         extended_straight n after (point_at n) (appended_straight m mesh p flat.straight) end v x (end_after closed end line) live ends_there
         (subst (λ (k : ℕ). orient2d_of (point_at n (origin_of m.shape x)) (point_at n k) (point_at n v) ≡ pos 0) ends_there
         (said_after m mesh p (λ a b c. orient2d_of a b c ≡ pos 0) x live lies.on))
-        (subst (λ (k : ℕ). pos 0 <ℤ beyond (point_at n (origin_of m.shape x)) (point_at n k) (point_at n v)) ends_there
-        (said_after m mesh p (λ a b c. pos 0 <ℤ beyond a b c) x live lies.past)) h e done;
+        (subst (λ (k : ℕ). pos 0 <ℤ dot_of_steps (point_at n (origin_of m.shape x)) (point_at n k) (point_at n v)) ends_there
+        (said_after m mesh p (λ a b c. pos 0 <ℤ dot_of_steps a b c) x live lies.past)) h e done;
   }

@@ -1,6 +1,7 @@
 -- What a triangle closed at the hull leaves: a hull that is open stays so, and its corners that are closed stay closed.
 use Rattle.std.proofs.Common.{◌≡◌, ◌≢◌, ◌∙◌, inl, inr, ℕ, ◌+◌, ◌*◌, ◌<◌, List, [], ◌∷◌, ◌++◌, slice_index, slice_set, pos, ◌<ℤ◌, refl, sym, ap, subst, arith}
 use Rattle.std.proofs.lemmas.List.{get_or-set_same, get_or_append_left, length-set}
+use Rattle.dcel_fixed.proofs.Halves.{rev-double-suc}
 use Rattle.dcel_maps.specs.Cyclic.{from_least}
 use Rattle.dcel_maps.specs.edits.DefaultData.{AddsEdgesAndFaces}
 use Rattle.dcel_maps.specs.edits.Outside.{face_closed}
@@ -15,11 +16,11 @@ use Rattle.dcel_maps.proofs.words.Reading.{stands_in_face}
 use Rattle.dcel_predicates.specs.declared.point.Point.{Point}
 use Rattle.dcel_predicates.specs.Determinants.{orient2d_of}
 use Rattle.dcel_predicates.proofs.Signs.{ordered}
-use Rattle.dcel_plane.specs.Plane.{IsLeftOf, IsPlane, point_at}
+use Rattle.dcel_plane.specs.Plane.{IsLeftOf, TrianglesTurnLeft, point_at}
 use Rattle.dcel_plane.proofs.edits.Written.{IsWritten, origin_more}
 use Rattle.dcel_plane.specs.covering.Covering.{IsConvex}
 use Rattle.dcel_plane.proofs.covering.Inside.{on_end}
-use Rattle.dcel_plane.proofs.hull.Becomes.{out_outer, put_in, rev-1, stays_in}
+use Rattle.dcel_plane.proofs.hull.Becomes.{out_outer, put_in, stays_in}
 use Rattle.dcel_plane.proofs.hull.ClosingStep.{step_closing, step_hull, step_thick, turns_nowhere}
 use Rattle.dcel_plane.proofs.hull.CornersStay.{after_stays, before_stays}
 use Rattle.dcel_plane.proofs.hull.Step.{IsStep, closed_step}
@@ -64,7 +65,7 @@ module _ {DE UE F : Type 0} where
       subst (λ (v : ℕ). IsLeftOf (point_at m) m.shape (point_at m v) e) back turns in
       omega (arith, ordered, none, at_start)
 
-  module _ (m : Mesh Point DE UE F) (mesh : IsMesh m) (triangles : AllTriangles m.shape) (plane : IsPlane (point_at m) m.shape) (e : ℕ) (live : IsLive m.shape e)
+  module _ (m : Mesh Point DE UE F) (mesh : IsMesh m) (triangles : AllTriangles m.shape) (plane : TrianglesTurnLeft (point_at m) m.shape) (e : ℕ) (live : IsLive m.shape e)
       (on : face_of m.shape e ≡ 0) (turns : TurnsIn m e) (halves : List DE) (edges : List UE) (faces : List F)
       (result : IsMesh (face_closed m e halves edges faces)) where
     abbrev q : Mesh Point DE UE F
@@ -146,7 +147,7 @@ module _ {DE UE F : Type 0} where
       live = outer_there.0;
       outer = outer_there.1;
       start = starts h 1 refl;
-      end = ap (origin_of q.shape) (rev-1 m.shape.edges) ∙ starts (2 * m.shape.edges) 0 (omega arith);
+      end = ap (origin_of q.shape) (rev-double-suc m.shape.edges) ∙ starts (2 * m.shape.edges) 0 (omega arith);
       edges = refl;
       few = result.sized.few_edges;
     }

@@ -16,9 +16,9 @@ use Rattle.dcel_maps.specs.Shapes.{IsLive, IsMesh, Mesh, Shape, end_of, face_of,
 use Rattle.dcel_maps.specs.Triangulations.{AllTriangles}
 use Rattle.dcel_maps.proofs.maps.Triangles.{IsTriangleOf}
 use Rattle.dcel_maps.proofs.shapes.Maps.{map-sound}
-use Rattle.dcel_plane.specs.Plane.{IsPlane, LiesInside, TurnsLeft, point_at, origin_point}
+use Rattle.dcel_plane.specs.Plane.{TrianglesTurnLeft, LiesInside, TurnsLeft, point_at, origin_point}
 use Rattle.dcel_plane.proofs.edits.Corners.{left_of_triangle}
-use Rattle.dcel_plane.specs.covering.Covering.{apart_along}
+use Rattle.dcel_plane.specs.covering.Covering.{dot}
 use Rattle.dcel_plane.proofs.covering.Along.{one_point}
 use Rattle.dcel_plane.proofs.covering.Inside.{on_end}
 use Rattle.dcel_plane.proofs.covering.Triangles.{is_triangle, round}
@@ -38,10 +38,10 @@ lies_back at s p h lies =
     let x = *ℤ_comm (a.x -ℤ p.x) (b.x -ℤ p.x) in
     let y = *ℤ_comm (a.y -ℤ p.y) (b.y -ℤ p.y) in
     let on_too : orient2d_of b a p ≡ pos 0 = omega (arith, ordered, turn, on) in
-    let apart_too : apart_along b a p <ℤ pos 0 = omega (arith, ordered, apart, x, y) in
+    let apart_too : dot b a p <ℤ pos 0 = omega (arith, ordered, apart, x, y) in
     record {
       on = subst (λ (i : ℕ). orient2d_of b (at (origin_of s i)) p ≡ pos 0) (sym (rev-rev h)) on_too;
-      between = subst (λ (i : ℕ). apart_along b (at (origin_of s i)) p <ℤ pos 0) (sym (rev-rev h)) apart_too;
+      between = subst (λ (i : ℕ). dot b (at (origin_of s i)) p <ℤ pos 0) (sym (rev-rev h)) apart_too;
     }
 
 -- a point on two sides of a triangle stands at their corner
@@ -66,7 +66,7 @@ module _ {DE UE F : Type 0} (m : Mesh Point DE UE F) (mesh : IsMesh m) where
   pub crossing : (p : Point) (h : ℕ) (side : Side) → IsLive m.shape h → 0 < face_of m.shape h → LiesAt m p h side → side ≡ Right → HasBeyond (point_at m) m.shape p h
   crossing p h side live inner lies is = record { live = live; inner = inner; right = subst (LiesAt m p h) is lies }
 
-  module _ (triangles : AllTriangles m.shape) (plane : IsPlane (point_at m) m.shape) (e : ℕ) (live : IsLive m.shape e) (inner : 0 < face_of m.shape e) where
+  module _ (triangles : AllTriangles m.shape) (plane : TrianglesTurnLeft (point_at m) m.shape) (e : ℕ) (live : IsLive m.shape e) (inner : 0 < face_of m.shape e) where
     abbrev s : Shape
     s = m.shape
 
@@ -99,7 +99,7 @@ module _ {DE UE F : Type 0} (m : Mesh Point DE UE F) (mesh : IsMesh m) where
     pub on_edge_across : (p : Point) → LiesOn (point_at m) s p e → IsAcross m p e
     on_edge_across p lies =
         let on : orient2d_of a b p ≡ pos 0 = subst (λ (v : ℕ). orient2d_of a (point_at m v) p ≡ pos 0) own_end lies.on in
-        let apart : apart_along a b p <ℤ pos 0 = subst (λ (v : ℕ). apart_along a (point_at m v) p <ℤ pos 0) own_end lies.between in
+        let apart : dot a b p <ℤ pos 0 = subst (λ (v : ℕ). dot a (point_at m v) p <ℤ pos 0) own_end lies.between in
         let both = left_of_both a b c p turns on apart in
         record {
           inner = inner;
@@ -162,7 +162,7 @@ module _ {DE UE F : Type 0} (m : Mesh Point DE UE F) (mesh : IsMesh m) where
         live,
         record {
           on = on_line e own given.own_side x;
-          between = subst (λ (v : ℕ). apart_along a (point_at m v) p <ℤ pos 0) (sym own_end) (between_of a b c p turns (own_on x) (after_left y) (before_left z));
+          between = subst (λ (v : ℕ). dot a (point_at m v) p <ℤ pos 0) (sym own_end) (between_of a b c p turns (own_on x) (after_left y) (before_left z));
         },
       )
 
@@ -172,7 +172,7 @@ module _ {DE UE F : Type 0} (m : Mesh Point DE UE F) (mesh : IsMesh m) where
         record {
           on = on_line (next_of s e) after given.after_side y;
           between =
-              subst (λ (v : ℕ). apart_along b (point_at m v) p <ℤ pos 0) (sym after_end) (between_of b c a p after_turns (after_on y) (before_left z) (own_left x));
+              subst (λ (v : ℕ). dot b (point_at m v) p <ℤ pos 0) (sym after_end) (between_of b c a p after_turns (after_on y) (before_left z) (own_left x));
         },
       )
 
@@ -182,7 +182,7 @@ module _ {DE UE F : Type 0} (m : Mesh Point DE UE F) (mesh : IsMesh m) where
         record {
           on = on_line (prev_of s e) before given.before_side z;
           between =
-              subst (λ (v : ℕ). apart_along c (point_at m v) p <ℤ pos 0) (sym before_end) (between_of c a b p before_turns (before_on z) (own_left x) (after_left y));
+              subst (λ (v : ℕ). dot c (point_at m v) p <ℤ pos 0) (sym before_end) (between_of c a b p before_turns (before_on z) (own_left x) (after_left y));
         },
       )
 

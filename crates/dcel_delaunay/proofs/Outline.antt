@@ -13,7 +13,7 @@ use Rattle.dcel_maps.proofs.words.Reading.{face_in_word, live_in}
 use Rattle.dcel_predicates.specs.declared.point.Point.{Point}
 use Rattle.dcel_predicates.specs.Determinants.{orient2d_of}
 use Rattle.dcel_plane.specs.Plane.{point_at}
-use Rattle.dcel_plane.specs.covering.Covering.{IsConvex, apart_along}
+use Rattle.dcel_plane.specs.covering.Covering.{IsConvex, dot}
 use Rattle.dcel_plane.specs.covering.Delaunay.{HasCorners}
 use Rattle.dcel_plane.proofs.covering.Numbered.{word_is}
 use Rattle.dcel_plane.proofs.covering.Starts.{by_starts}
@@ -72,11 +72,11 @@ module _ {DE UE F : Type 0} (m : Mesh Point DE UE F) (mesh : IsMesh m) where
       all_inside = record {
         right = λ h v live on below.
             each_vertex (λ w. orient2d_of (point_at m (origin_of m.shape h)) (point_at m (end_of m.shape h)) (point_at m w) ≤ℤ pos 0) (two_vertices h live)
-            (λ k live_k. convex.right h k live on live_k) v below;
+            (λ k live_k. (convex.supports h k live on live_k).0) v below;
         between = λ h v live on below.
             each_vertex (λ w. orient2d_of (point_at m (origin_of m.shape h)) (point_at m (end_of m.shape h)) (point_at m w) ≡ pos 0
-            → pos 0 ≤ℤ apart_along (point_at m (origin_of m.shape h)) (point_at m (end_of m.shape h)) (point_at m w)) (two_vertices h live)
-            (λ k live_k. convex.between h k live on live_k) v below;
+            → pos 0 ≤ℤ dot (point_at m (origin_of m.shape h)) (point_at m (end_of m.shape h)) (point_at m w)) (two_vertices h live)
+            (λ k live_k. (convex.supports h k live on live_k).1) v below;
         once = λ inner h k live_h live_k on_h on_k same. elim outline [
           | inl flat ↦ absurd (omega (arith, inner, flat.alone))
           | inr has ↦ has.hull.once h k live_h live_k on_h on_k same

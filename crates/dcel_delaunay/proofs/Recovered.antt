@@ -12,7 +12,7 @@ use Rattle.dcel_predicates.specs.declared.point.Point.{Point}
 use Rattle.dcel_predicates.proofs.Signs.{ordered}
 use Rattle.dcel_plane.specs.Plane.{point_at}
 use Rattle.dcel_plane.proofs.covering.Numbered.{searched}
-use Rattle.dcel_plane.specs.hull.Straight.{IsStraight, beyond}
+use Rattle.dcel_plane.specs.hull.Straight.{IsStraight, dot_of_steps}
 use Rattle.dcel_delaunay.specs.Growing.{HasHull, IsFlat, IsSound, IsTriangulation, IsUnderWay}
 use Rattle.dcel_delaunay.proofs.Flat.{new_flat}
 use Rattle.dcel_delaunay.proofs.Sound.{new-sound}
@@ -20,7 +20,7 @@ use Rattle.dcel_delaunay.proofs.Whole.{flat_alone, hull_more, way_either, whole}
 
 -- a half edge that goes on from h, beyond its end
 abbrev LeadsOn : (ℕ → Point) → Shape → ℕ → ℕ → Type 0
-LeadsOn at s h g = IsLive s g × (origin_of s g ≡ end_of s h) × (pos 0 <ℤ beyond (at (origin_of s h)) (at (end_of s h)) (at (end_of s g)))
+LeadsOn at s h g = IsLive s g × (origin_of s g ≡ end_of s h) × (pos 0 <ℤ dot_of_steps (at (origin_of s h)) (at (end_of s h)) (at (end_of s g)))
 
 leads_on_or_not : (at : ℕ → Point) (s : Shape) (h g : ℕ) → LeadsOn at s h g ⊎ (LeadsOn at s h g → ⊥)
 leads_on_or_not at s h g = elim (live_or_not s g) [
@@ -28,7 +28,7 @@ leads_on_or_not at s h g = elim (live_or_not s g) [
   | inl live ↦ elim (cases_eq (origin_of s g) (end_of s h)) [
     | inr differs ↦ inr (λ on. differs on.1)
     | inl is ↦
-        by_lt_z (pos 0) (beyond (at (origin_of s h)) (at (end_of s h)) (at (end_of s g))) (λ past. inl (live, is, past))
+        by_lt_z (pos 0) (dot_of_steps (at (origin_of s h)) (at (end_of s h)) (at (end_of s g))) (λ past. inl (live, is, past))
         (λ not. inr (λ on. let past = on.2 in omega (arith, ordered, past, not)))
   ]
 ]

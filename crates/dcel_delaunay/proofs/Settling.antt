@@ -8,7 +8,7 @@ use Rattle.dcel_maps.proofs.Triangulations.{flipped}
 use Rattle.dcel_predicates.specs.declared.point.Point.{Point}
 use Rattle.dcel_legalize.specs.Flipping.{edges_flipped}
 use Rattle.dcel_circles.specs.Turning.{IsTurnedTo}
-use Rattle.dcel_plane.specs.Plane.{IsPlane, ListsCircled, point_at}
+use Rattle.dcel_plane.specs.Plane.{ListsCircled, TrianglesTurnLeft, point_at}
 use Rattle.dcel_delaunay.specs.Growing.{IsJoined, IsSound, Keeps}
 use Rattle.dcel_delaunay.proofs.Counting.{flipped_joined}
 use Rattle.dcel_delaunay.proofs.Growth.{flipped-keeps, keeps-refl, keeps-trans}
@@ -31,7 +31,7 @@ module _ {DE UE F : Type 0} where
   flips_keep m n closed turned = subst (λ (k : Mesh Point DE UE F). Keeps m k) (sym turned.is) (turned_keeps m turned.turned closed)
 
   -- and what is still to be looked at is listed
-  pub flips_sound : (m n : Mesh Point DE UE F) (due items : List ℕ) → IsSound m due → IsTurnedTo m n → IsPlane (point_at n) n.shape
+  pub flips_sound : (m n : Mesh Point DE UE F) (due items : List ℕ) → IsSound m due → IsTurnedTo m n → TrianglesTurnLeft (point_at n) n.shape
       → (ListsCircled (point_at m) m.shape due → ListsCircled (point_at n) n.shape items) → IsSound n items
   flips_sound m n due items way turned plane lists = record {
     triangulated = record {

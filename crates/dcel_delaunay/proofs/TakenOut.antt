@@ -11,7 +11,7 @@ use Rattle.dcel_maps.proofs.Liveness.{is_live-from}
 use Rattle.dcel_maps.proofs.renumbering.Renumbered.{vertex_leaves_live}
 use Rattle.dcel_maps.proofs.Triangulations as triangulations
 use Rattle.dcel_predicates.specs.declared.point.Point.{Point}
-use Rattle.dcel_plane.specs.Plane.{IsPlane, ListsCircled, origin_point, point_at}
+use Rattle.dcel_plane.specs.Plane.{ListsCircled, TrianglesTurnLeft, origin_point, point_at}
 use Rattle.dcel_plane.specs.covering.Covering.{IsConvex, IsHull}
 use Rattle.dcel_plane.proofs.removal.Cleaned.{IsCleaned, cleaned_is}
 use Rattle.dcel_plane.proofs.covering.Starts.{inner_half}
@@ -84,7 +84,7 @@ module _ {DE UE F A : Type 0} (old mid : Mesh Point DE UE F) (v : ℕ) (due : Li
       closed = refl;
       joined = removed_joined;
       triangles = triangulations.vertex_gone c (triangulations.cleaned mid given.triangles given.mesh) v (inr clean_record);
-      plane = (taken_out_keeps c clean (point_at c) (point_at n) v clean_record done stands).0 (at_points (λ at. IsPlane at c.shape) mid c left.points
+      plane = (taken_out_keeps c clean (point_at c) (point_at n) v clean_record done stands).0 (at_points (λ at. TrianglesTurnLeft at c.shape) mid c left.points
           ((cleanup_keeps mid given.mesh (point_at mid) clean).0 given.plane));
     };
     listed =

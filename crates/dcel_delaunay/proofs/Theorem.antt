@@ -3,7 +3,7 @@ use Rattle.std.proofs.Common.{◌≡◌, inl, inr, ℕ, ◌<◌, subst, arith, �
 use Rattle.std.proofs.lemmas.Bool.{cases_lt}
 use Rattle.dcel_maps.specs.Shapes.{IsMesh, Mesh, face_count, origin_of}
 use Rattle.dcel_predicates.specs.declared.point.Point.{Point}
-use Rattle.dcel_predicates.specs.Determinants.{lift_of}
+use Rattle.dcel_predicates.specs.Determinants.{squared_distance_of}
 use Rattle.dcel_predicates.proofs.Signs.{ordered}
 use Rattle.dcel_plane.specs.Plane.{point_at}
 use Rattle.dcel_plane.specs.covering.Delaunay.{IsDelaunayTriangulation}
@@ -56,12 +56,12 @@ module _ {DE UE F : Type 0} (m : Mesh Point DE UE F) (mesh : IsMesh m) (whole : 
     | inr has ↦ nearest m mesh (point_at m) q (known has) v below near
     | inl flat ↦ (λ w below_w. elim (cases_lt 1 m.shape.vertices) [
       | inl more ↦
-          each_vertex m mesh whole.hull whole.sound.closed whole.sound.joined (λ i. HasNoNearerNeighbor (point_at m) m.shape q i → lift_of (point_at m i) q ≤ℤ lift_of (point_at m w) q) more
-          (λ h live near_h. each_vertex m mesh whole.hull whole.sound.closed whole.sound.joined (λ j. lift_of (point_at m (origin_of m.shape h)) q ≤ℤ lift_of (point_at m j) q) more
+          each_vertex m mesh whole.hull whole.sound.closed whole.sound.joined (λ i. HasNoNearerNeighbor (point_at m) m.shape q i → squared_distance_of (point_at m i) q ≤ℤ squared_distance_of (point_at m w) q) more
+          (λ h live near_h. each_vertex m mesh whole.hull whole.sound.closed whole.sound.joined (λ j. squared_distance_of (point_at m (origin_of m.shape h)) q ≤ℤ squared_distance_of (point_at m j) q) more
           (λ k live_k. nearest_on_line m mesh (point_at m) q flat.straight h k live live_k near_h) w below_w) v below near
       | inr few ↦
           let one : v ≡ w = omega (arith, below, below_w, few) in
-          subst (λ (i : ℕ). lift_of (point_at m v) q ≤ℤ lift_of (point_at m i) q) one (itself (lift_of (point_at m v) q))
+          subst (λ (i : ℕ). squared_distance_of (point_at m v) q ≤ℤ squared_distance_of (point_at m i) q) one (itself (squared_distance_of (point_at m v) q))
     ])
   ]
     where

@@ -4,7 +4,7 @@ use Rattle.dcel_fixed.specs.HalfEdges.{rev}
 use Rattle.dcel_maps.specs.Shapes.{IsLive, IsMesh, Mesh, Shape, face_count, face_is_live, face_of}
 use Rattle.dcel_maps.proofs.walks.Lengths.{count-le}
 use Rattle.dcel_predicates.specs.declared.point.Point.{Point}
-use Rattle.dcel_plane.specs.Plane.{IsDelaunay, point_at}
+use Rattle.dcel_plane.specs.Plane.{IsLocallyDelaunay, point_at}
 use Rattle.dcel_plane.specs.location.Locating.{HasBeyond, Walks}
 use Rattle.dcel_plane.proofs.location.Ending.{few_faces}
 use Rattle.dcel_plane.proofs.location.Exact.{stepped_out}
@@ -16,7 +16,7 @@ module _ {DE UE F : Type 0} (m : Mesh Point DE UE F) where
   s = m.shape
 
   -- nothing is left to be looked at
-  pub delaunay : IsSound m [] → IsDelaunay (point_at m) s
+  pub delaunay : IsSound m [] → IsLocallyDelaunay (point_at m) s
   delaunay sound = record { plane = sound.plane; empty = λ u inner circled. absurd (let listed = sound.listed u inner circled in omega (arith, listed)) }
 
   -- the half edges that a walk has crossed, one for each step

@@ -4,7 +4,7 @@ use Rattle.dcel_maps.specs.Removals.{Closed}
 use Rattle.dcel_maps.specs.Conditions.{HasRoom}
 use Rattle.dcel_maps.specs.Shapes.{Mesh, Shape, face_count}
 use Rattle.dcel_maps.specs.Triangulations.{AllTriangles}
-use Rattle.dcel_plane.specs.Plane.{IsPlane, ListsCircled, point_at}
+use Rattle.dcel_plane.specs.Plane.{ListsCircled, TrianglesTurnLeft, point_at}
 use Rattle.dcel_plane.specs.covering.Covering.{IsConvex, IsHull}
 use Rattle.dcel_plane.specs.hull.Closing.{IsClosing, IsThick, IsThin}
 use Rattle.dcel_plane.specs.hull.Straight.{IsStraight}
@@ -34,7 +34,7 @@ module _ {DE UE F : Type 0} where
     pub closed : m.shape.removal ≡ Closed
     pub joined : IsJoined m.shape
     pub triangles : AllTriangles m.shape
-    pub plane : IsPlane (point_at m) m.shape
+    pub plane : TrianglesTurnLeft (point_at m) m.shape
 
   -- the same, and each edge between two triangles that has a corner inside the circle of the other side is in the list
   pub record IsSound (m : Mesh Point DE UE F) (due : List ℕ) : Type 0 where

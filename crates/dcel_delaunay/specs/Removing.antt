@@ -11,7 +11,7 @@ use Rattle.dcel_maps.specs.edits.Strip.{strip_cut, strip_edges, strip_faces}
 use Rattle.dcel_maps.specs.Strips.{strip_of}
 use Rattle.dcel_maps.specs.Walking.{IsOutEdge, ccw_of}
 use Rattle.dcel_predicates.specs.declared.point.Point.{Point}
-use Rattle.dcel_plane.specs.Plane.{IsPlane, ListsCircled, point_at}
+use Rattle.dcel_plane.specs.Plane.{ListsCircled, TrianglesTurnLeft, point_at}
 use Rattle.dcel_plane.specs.covering.Covering.{IsConvex, IsHull}
 use Rattle.dcel_plane.specs.hull.Straight.{IsStraight}
 use Rattle.spade_dcel.specs.Opened.{HasOpened}
@@ -43,7 +43,7 @@ module _ {DE UE F : Type 0} where
   pub record IsThin (m : Mesh Point DE UE F) (v : ℕ) : Type 0 where
     pub below : v < m.shape.vertices
     pub triangles : AllTriangles m.shape
-    pub plane : IsPlane (point_at m) m.shape
+    pub plane : TrianglesTurnLeft (point_at m) m.shape
     pub hull : HasHull m
     pub some : (k : ℕ) × IsOutEdge m.shape v k
     pub inside : IsInside m.shape v
@@ -97,7 +97,7 @@ module _ {DE UE F : Type 0} where
     pub named : IsListed new.shape.removal opened.edges_to_remove.items opened.faces_to_remove.items
     pub euler : old.shape.vertices + face_count new.shape + length edges ≡ new.shape.edges + length faces + 3
     pub triangles : AllTriangles new.shape
-    pub plane : IsPlane (point_at new) new.shape
+    pub plane : TrianglesTurnLeft (point_at new) new.shape
     pub listed : ListsCircled (point_at new) new.shape due
     pub left : HasOutline new ⊎ IsStrung new
 

@@ -4,7 +4,7 @@ use Rattle.dcel_maps.specs.Shapes.{IsLive, Mesh, end_of, face_count, face_of, or
 use Rattle.dcel_predicates.specs.declared.point.Point.{Point}
 use Rattle.dcel_predicates.specs.Determinants.{incircle_of, orient2d_of}
 use Rattle.dcel_plane.specs.Plane.{point_at}
-use Rattle.dcel_plane.specs.covering.Covering.{apart_along}
+use Rattle.dcel_plane.specs.covering.Covering.{dot}
 use Rattle.dcel_plane.specs.covering.Delaunay.{HasCorners, IsCovered, LiesInHull}
 use Rattle.dcel_plane.specs.covering.Places.{AreDisjoint, Place}
 use Rattle.dcel_delaunay.specs.Growing.{MayRefuse}
@@ -42,7 +42,7 @@ module _ {DE UE F : Type 0} where
         → orient2d_of (point_at m (origin_of m.shape h)) (point_at m (end_of m.shape h)) (point_at m v) ≤ℤ pos 0
     pub between : (h v : ℕ) → IsLive m.shape h → face_of m.shape h ≡ 0 → v < m.shape.vertices
         → orient2d_of (point_at m (origin_of m.shape h)) (point_at m (end_of m.shape h)) (point_at m v) ≡ pos 0
-        → pos 0 ≤ℤ apart_along (point_at m (origin_of m.shape h)) (point_at m (end_of m.shape h)) (point_at m v)
+        → pos 0 ≤ℤ dot (point_at m (origin_of m.shape h)) (point_at m (end_of m.shape h)) (point_at m v)
     pub once : 1 < face_count m.shape → (h k : ℕ) → IsLive m.shape h → IsLive m.shape k → face_of m.shape h ≡ 0 → face_of m.shape k ≡ 0
         → origin_of m.shape h ≡ origin_of m.shape k → h ≡ k
 

@@ -5,7 +5,7 @@ ghost use Rattle.spade_dcel.specs.Handles.{mesh_behind, number_of};
 ghost use Rattle.dcel_maps.specs.Removals.{Closed};
 ghost use Rattle.dcel_plane.specs.location.Nearest.{HasNoNearerNeighbor, IsNearest};
 ghost use Rattle.dcel_plane.specs.Plane.{point_at};
-ghost use Rattle.dcel_predicates.specs.Determinants.{lift_of};
+ghost use Rattle.dcel_predicates.specs.Determinants.{squared_distance_of};
 ghost use Rattle.dcel_delaunay.specs.Growing.{IsTriangulation};
 
 use crate::mesh::{EdgeMesh, Vertex, point_of};
@@ -75,7 +75,7 @@ fn nearer_neighbor<UE, A: Allocator>(
 ) -> Option<FixedVertexHandle>
     requires { vertex < dcel.now.shape.vertices }
     ensures vertex { IfSome result (λ v. v < dcel.now.shape.vertices) }
-    ensures nearer { IfSome result (λ v. lift_of (point_at dcel.now v) point <ℤ lift_of (point_at dcel.now vertex) point) }
+    ensures nearer { IfSome result (λ v. squared_distance_of (point_at dcel.now v) point <ℤ squared_distance_of (point_at dcel.now vertex) point) }
     ensures none { IfNone result (HasNoNearerNeighbor (point_at dcel.now) dcel.now.shape point vertex) }
 {
     every_mesh(dcel);
@@ -94,7 +94,7 @@ fn nearer_neighbor<UE, A: Allocator>(
 /// Returns the square of the distance from a vertex to a point.
 #[inline]
 fn squared_distance<UE, A: Allocator>(vertex: Vertex<'_, UE, A>, point: Point) -> u64
-    ensures { pos result ≡ lift_of (point_at (mesh_behind vertex.entry) (number_of vertex.entry)) point }
+    ensures { pos result ≡ squared_distance_of (point_at (mesh_behind vertex.entry) (number_of vertex.entry)) point }
 {
     let at = point_of(vertex);
     let x = at.x.abs_diff(point.x);

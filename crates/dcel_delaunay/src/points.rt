@@ -6,7 +6,7 @@ ghost use Rattle.dcel_maps.specs.Conditions.{IsUnconnected};
 ghost use Rattle.dcel_maps.specs.Removals.{Closed};
 ghost use Rattle.dcel_maps.specs.Shapes.{face_count};
 ghost use Rattle.dcel_maps.specs.Triangulations.{AllTriangles};
-ghost use Rattle.dcel_plane.specs.Plane.{IsDelaunay, point_at};
+ghost use Rattle.dcel_plane.specs.Plane.{IsLocallyDelaunay, point_at};
 ghost use Rattle.dcel_plane.specs.location.Nearest.{IsNearest};
 ghost use Rattle.dcel_delaunay.specs.Places.{IsPlace};
 ghost use Rattle.dcel_delaunay.specs.Removing.{Loses};
@@ -70,7 +70,7 @@ impl<A: Allocator> Triangulation<A> {
         ensures closed { (mesh_in self.now).shape.removal ≡ Closed }
         ensures triangles { AllTriangles (mesh_in self.now).shape }
         ensures joined { (v : ℕ) → 1 < (mesh_in self.now).shape.vertices → ¬ IsUnconnected (mesh_in self.now).shape v }
-        ensures delaunay { IsWhole self.now → IsDelaunay (point_at (mesh_in self.now)) (mesh_in self.now).shape }
+        ensures delaunay { IsWhole self.now → IsLocallyDelaunay (point_at (mesh_in self.now)) (mesh_in self.now).shape }
         ensures circles { IsWhole self.now → CirclesAreEmpty (mesh_in self.now) }
         ensures apart { IsWhole self.now → FacesAreApart (mesh_in self.now) }
         ensures covers { IsWhole self.now → 1 < face_count (mesh_in self.now).shape → HullIsCovered (mesh_in self.now) }

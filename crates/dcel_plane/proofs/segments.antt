@@ -3,7 +3,6 @@ pub mod FlipFaces
 pub mod Gates
 pub mod Channels
 pub mod Peaks
-pub mod Striving
 pub mod Onward
 pub mod Starting
 pub mod Becoming

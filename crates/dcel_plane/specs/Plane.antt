@@ -18,7 +18,7 @@ abbrev pub IsLeftOf : (ℕ → Point) → Shape → Point → ℕ → Type 0
 IsLeftOf at s p h = TurnsLeft (at (origin_of s h)) (at (end_of s h)) p
 
 -- the corners of each inner triangle go round counterclockwise
-pub record IsPlane (at : ℕ → Point) (s : Shape) : Type 0 where
+pub record TrianglesTurnLeft (at : ℕ → Point) (s : Shape) : Type 0 where
   pub left : (f x y z : ℕ) → 0 < f → word_of s.words f ≡ x ∷ y ∷ z ∷ []
       → TurnsLeft (at (origin_of s x)) (at (origin_of s y)) (at (origin_of s z))
 
@@ -36,8 +36,8 @@ IsCircled at s u =
     pos 0 <ℤ incircle_of (at (origin_of s (2 * u))) (at (origin_of s (2 * u + 1))) (at (origin_of s (prev_of s (2 * u)))) (at (origin_of s (prev_of s (2 * u + 1))))
 
 -- Delaunay's condition on edges (B. Delaunay, "Sur la sphère vide", 1934): no triangle's circle has the corner of a triangle beside it inside
-pub record IsDelaunay (at : ℕ → Point) (s : Shape) : Type 0 where
-  pub plane : IsPlane at s
+pub record IsLocallyDelaunay (at : ℕ → Point) (s : Shape) : Type 0 where
+  pub plane : TrianglesTurnLeft at s
   pub empty : (u : ℕ) → IsInner s u → ¬ IsCircled at s u
 
 -- each edge that breaks the condition is in the list

@@ -1,7 +1,7 @@
 //! The two determinants and their signs.
 
 ghost use Rattle.std.specs.Prelude.{◌≡◌, ◌≤◌, ◌^◌, ◌<ℤ◌, ◌↔◌, IsTrue, pos, unsigned_abs};
-ghost use Rattle.dcel_predicates.specs.Determinants.{orient2d_of, incircle_of, lift_of};
+ghost use Rattle.dcel_predicates.specs.Determinants.{orient2d_of, incircle_of, squared_distance_of};
 
 use crate::point::Point;
 
@@ -45,7 +45,7 @@ pub fn orientation(a: Point, b: Point, c: Point) -> Side
 // Returns the square of the distance between two points.
 #[tactic(auto, using(crate::proofs::Machine::squares_fit))]
 pub fn lift(p: Point, from: Point) -> i128
-    ensures value { result ≡ lift_of p from }
+    ensures value { result ≡ squared_distance_of p from }
     ensures bound { unsigned_abs result ≤ 2 ^ 63 }
 {
     let x = (p.x - from.x) as i128;

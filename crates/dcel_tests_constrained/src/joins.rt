@@ -4,7 +4,7 @@
 ghost use Rattle.std.specs.Prelude.{◌≡◌, ◌<◌, ℕ, IsTrue};
 ghost use Rattle.dcel_maps.specs.Shapes.{IsLive, face_of, origin_of};
 ghost use Rattle.dcel_plane.specs.Plane.{point_at};
-ghost use Rattle.dcel_plane.specs.segments.Segments.{IsPlanar};
+ghost use Rattle.dcel_plane.specs.segments.Segments.{TriangulatesItsHull};
 
 use crate::changes::Ends;
 use crate::seen::{Sight, is_as_seen, seen};
@@ -155,7 +155,7 @@ fn has_inner_face(dcel: &Counted) -> bool
 
 /// Returns whether a mesh is a Delaunay triangulation.
 fn is_delaunay(dcel: &Counted) -> bool
-    ensures { IsTrue result → IsPlanar (point_at dcel.now) dcel.now }
+    ensures { IsTrue result → TriangulatesItsHull (point_at dcel.now) dcel.now }
 {
     every_mesh(dcel);
     is_delaunay_triangulation(dcel)
@@ -168,8 +168,8 @@ fn try_join<L: Allocator>(
     crossed: &mut Vec<FixedDirectedEdgeHandle, L>,
     due: &mut Edges<L>,
 ) -> Result<Option<Joined>, Fail>
-    requires planar { IsPlanar (point_at dcel.old) dcel.old }
-    ensures planar { IsPlanar (point_at dcel.new) dcel.new }
+    requires planar { TriangulatesItsHull (point_at dcel.old) dcel.old }
+    ensures planar { TriangulatesItsHull (point_at dcel.new) dcel.new }
 {
     let (from, to) = (vertex(ends.0), vertex(ends.1));
     require!(from != to);
@@ -237,8 +237,8 @@ fn join_refused<'a>(
     memory: Memory<'a>,
     number: u64,
 ) -> Result<Option<Joined>, Fail>
-    requires planar { IsPlanar (point_at dcel.old) dcel.old }
-    ensures planar { IsPlanar (point_at dcel.new) dcel.new }
+    requires planar { TriangulatesItsHull (point_at dcel.old) dcel.old }
+    ensures planar { TriangulatesItsHull (point_at dcel.new) dcel.new }
 {
     let mut crossed = Vec::new(memory);
     memory.refuse(Refusals::One(number));
@@ -261,8 +261,8 @@ fn join_at_last<'a>(
     before: &[Sight<usize>],
     alloc: Global,
 ) -> Result<(Joined, bool), Fail>
-    requires planar { IsPlanar (point_at dcel.old) dcel.old }
-    ensures planar { IsPlanar (point_at dcel.new) dcel.new }
+    requires planar { TriangulatesItsHull (point_at dcel.old) dcel.old }
+    ensures planar { TriangulatesItsHull (point_at dcel.new) dcel.new }
 {
     if let Some(joined) = join_refused(dcel, ends, due, memory, number)? {
         return Ok((joined, false));
@@ -284,8 +284,8 @@ fn check_join<'a>(
     number: u64,
     alloc: Global,
 ) -> Result<bool, Fail>
-    requires planar { IsPlanar (point_at dcel.old) dcel.old }
-    ensures planar { IsPlanar (point_at dcel.new) dcel.new }
+    requires planar { TriangulatesItsHull (point_at dcel.old) dcel.old }
+    ensures planar { TriangulatesItsHull (point_at dcel.new) dcel.new }
 {
     let (ends, end) = join;
     let before = seen(dcel, alloc)?;
@@ -353,8 +353,8 @@ fn check_joined<'a>(
     memory: Memory<'a>,
     alloc: Global,
 ) -> Result<(), Fail>
-    requires planar { IsPlanar (point_at dcel.old) dcel.old }
-    ensures planar { IsPlanar (point_at dcel.new) dcel.new }
+    requires planar { TriangulatesItsHull (point_at dcel.old) dcel.old }
+    ensures planar { TriangulatesItsHull (point_at dcel.new) dcel.new }
 {
     let (join, wanted) = row;
     let mut due = Vec::new(memory);

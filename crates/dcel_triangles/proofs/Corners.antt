@@ -11,8 +11,9 @@ use Rattle.dcel_predicates.proofs.Terms.{orient, spot}
 use Rattle.dcel_maps.specs.Words.{TurnsTo}
 use Rattle.dcel_maps.proofs.words.Turns.{length-turn, turns_back}
 use Rattle.dcel_plane.proofs.edits.Corners.{turned_along}
-use Rattle.dcel_plane.proofs.covering.Along.{dot, dot_in, none_second}
+use Rattle.dcel_plane.proofs.covering.Along.{dot_in, none_second}
 use Rattle.dcel_plane.proofs.covering.Products.{times_below}
+use Rattle.dcel_plane.specs.covering.Covering.{dot}
 
 -- what holds of the corners of a face from one on holds of them from another on
 pub from_another : (P : ℕ → ℕ → ℕ → Type 0) → ((a b c : ℕ) → P a b c → P b c a) → (w : List ℕ) (a b c x y z : ℕ)

@@ -17,7 +17,7 @@ use Rattle.dcel_maps.proofs.maps.Soundness.{rev_live}
 use Rattle.dcel_maps.proofs.shapes.Maps.{map-sound}
 use Rattle.dcel_maps.proofs.words.Turns.{length-turn}
 use Rattle.dcel_plane.proofs.edits.Corners.{turned_along}
-use Rattle.dcel_plane.specs.Plane.{IsDelaunay, TurnsLeft, origin_point, point_at}
+use Rattle.dcel_plane.specs.Plane.{IsLocallyDelaunay, TurnsLeft, origin_point, point_at}
 use Rattle.dcel_plane.specs.covering.Delaunay.{HasCorners}
 use Rattle.dcel_plane.specs.covering.Places.{AreDisjoint, IsIn, Place}
 use Rattle.dcel_plane.proofs.covering.Along.{long}
@@ -27,7 +27,7 @@ use Rattle.dcel_plane.proofs.covering.Starts.{out_of}
 use Rattle.dcel_delaunay.specs.Bulk.{StandAt}
 use Rattle.dcel_delaunay.specs.Triangulated.{CirclesAreEmpty, FacesAreApart, GoesRoundHull, HullIsCovered, PointsAreSingle}
 use Rattle.dcel_triangles.specs.Listing.{HasNumbers, ListsFaces, NamesLeast}
-use Rattle.dcel_triangles.specs.Triangles.{AreOnLine, IsCovered, IsEmpty, IsFirst, IsTriangulated, LiesAmong, numbered}
+use Rattle.dcel_triangles.specs.Triangles.{AreOnLine, IsCovered, IsDelaunayTriangle, IsFirst, IsTriangulated, LiesAmong, numbered}
 use Rattle.dcel_triangles.specs.declared.triangle.Triangle.{Triangle}
 use Rattle.dcel_triangles.proofs.Corners.{from_another, on_one_line, point_same}
 use Rattle.dcel_triangles.proofs.Numbers.{item, mapped_item, mapped_within, past_none}
@@ -40,7 +40,7 @@ pub record IsKnown (m : Points) (points : List Point) (vertices numbers : List �
   pub mesh : IsMesh m
   pub closed : m.shape.removal ≡ Closed
   pub joined : (v : ℕ) → 1 < m.shape.vertices → ¬ IsUnconnected m.shape v
-  pub delaunay : IsDelaunay (point_at m) m.shape
+  pub delaunay : IsLocallyDelaunay (point_at m) m.shape
   pub circles : CirclesAreEmpty m
   pub apart : FacesAreApart m
   pub covers : 1 < face_count m.shape → HullIsCovered m
@@ -159,7 +159,7 @@ module _ (m : Points) (points : List Point) (vertices numbers : List ℕ) (known
       turned_along (λ a b c. TurnsLeft (at a) (at b) (at c)) turn_left (origin_of s word.x) (origin_of s word.y) (origin_of s word.z) a b c word.turn
       (known.delaunay.plane.left f word.x word.y word.z corners.inner word.is)
 
-  empty : (f : ℕ) (t : Triangle) → HasNumbers s numbers f t → IsEmpty points t
+  empty : (f : ℕ) (t : Triangle) → HasNumbers s numbers f t → IsDelaunayTriangle points t
   empty f t numbers_at =
       let corners = cornered f t numbers_at in
       let has = corners.has in

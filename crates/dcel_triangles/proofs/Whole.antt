@@ -5,7 +5,7 @@ use Rattle.dcel_predicates.specs.declared.point.Point.{Point}
 use Rattle.dcel_maps.specs.Conditions.{IsUnconnected}
 use Rattle.dcel_maps.specs.Removals.{Closed}
 use Rattle.dcel_maps.specs.Shapes.{IsMesh, face_count}
-use Rattle.dcel_plane.specs.Plane.{IsDelaunay, origin_point, point_at}
+use Rattle.dcel_plane.specs.Plane.{IsLocallyDelaunay, origin_point, point_at}
 use Rattle.dcel_delaunay.specs.Bulk.{AddsVertices, StandAt}
 use Rattle.dcel_delaunay.specs.Triangulated.{CirclesAreEmpty, FacesAreApart, GoesRoundHull, HullIsCovered, PointsAreSingle}
 use Rattle.dcel_triangles.specs.Listing.{ListsFaces, NamesLeast}
@@ -27,7 +27,7 @@ stands_there empty m points mesh none adds v below =
 
 -- the mesh is seen through what lends it
 pub known_of : (empty m seen : Points) (points : List Point) (vertices numbers : List ℕ) → seen ≡ m → IsMesh seen → m.shape.removal ≡ Closed
-    → ((v : ℕ) → 1 < m.shape.vertices → ¬ IsUnconnected m.shape v) → IsDelaunay (point_at m) m.shape → CirclesAreEmpty m → FacesAreApart m
+    → ((v : ℕ) → 1 < m.shape.vertices → ¬ IsUnconnected m.shape v) → IsLocallyDelaunay (point_at m) m.shape → CirclesAreEmpty m → FacesAreApart m
     → (1 < face_count m.shape → HullIsCovered m) → PointsAreSingle m → GoesRoundHull m → empty.vertex_data ≡ [] → AddsVertices empty m points (length points)
     → StandAt m points vertices → NamesLeast vertices 0 numbers → length numbers ≡ m.shape.vertices → IsKnown m points vertices numbers
 known_of empty m seen points vertices numbers same sound closed joined delaunay circles apart covers single hull none adds stand least count =

@@ -16,7 +16,7 @@ pub record IsFirst (points : List Point) (i : ℕ) : Type 0 where
   pub least : (j : ℕ) → (numbered points j).x ≡ (numbered points i).x → (numbered points j).y ≡ (numbered points i).y → i ≤ j
 
 -- its corners are points, it goes round counterclockwise, and no point lies inside its circle
-pub record IsEmpty (points : List Point) (t : Triangle) : Type 0 where
+pub record IsDelaunayTriangle (points : List Point) (t : Triangle) : Type 0 where
   pub first : IsFirst points t.first
   pub second : IsFirst points t.second
   pub third : IsFirst points t.third
@@ -45,7 +45,7 @@ pub record IsCovered (points : List Point) (triangles : List Triangle) (p : Plac
 -- a Delaunay triangulation (B. Delaunay, "Sur la sphère vide", 1934): empty triangles that overlap nowhere and cover the convex hull, unless all
 -- points stand on one line
 pub record IsTriangulated (points : List Point) (triangles : List Triangle) : Type 0 where
-  pub each : (i : ℕ) (t : Triangle) → slice_get triangles i ≡ Some t → IsEmpty points t
+  pub each : (i : ℕ) (t : Triangle) → slice_get triangles i ≡ Some t → IsDelaunayTriangle points t
   pub apart : (i j : ℕ) (t u : Triangle) → slice_get triangles i ≡ Some t → slice_get triangles j ≡ Some u → i ≢ j
       → AreDisjoint (numbered points t.first) (numbered points t.second) (numbered points t.third)
       (numbered points u.first) (numbered points u.second) (numbered points u.third)

@@ -12,7 +12,7 @@ use Rattle.dcel_maps.specs.Triangulations.{AllTriangles}
 use Rattle.dcel_maps.proofs.maps.Soundness.{rev_live}
 use Rattle.dcel_maps.proofs.maps.Triangles.{IsTriangleOf, by_triangle, off_triangle}
 use Rattle.dcel_maps.proofs.shapes.Maps.{map-sound}
-use Rattle.dcel_plane.specs.Plane.{IsPlane, LiesAcross, TurnsLeft}
+use Rattle.dcel_plane.specs.Plane.{LiesAcross, TrianglesTurnLeft, TurnsLeft}
 use Rattle.dcel_plane.proofs.edits.Splits.{seen_after, seen_before}
 use Rattle.dcel_plane.specs.covering.Covering.{Covers, IsConvex, IsHull}
 use Rattle.dcel_plane.specs.covering.Places.{AreDisjoint}
@@ -20,7 +20,7 @@ use Rattle.dcel_plane.proofs.covering.Faces.{corner_of, disjoint_at}
 use Rattle.dcel_plane.proofs.covering.Inside.{as_covered, as_place, closed_disjoint, on_end, on_start, place_of, same_place, split_new_apart}
 use Rattle.dcel_plane.proofs.covering.Triangles.{is_triangle, left_at, round, same_face}
 
-module _ {V DE UE F : Type 0} (m : Mesh V DE UE F) (mesh : IsMesh m) (triangles : AllTriangles m.shape) (at : ℕ → Point) (plane : IsPlane at m.shape)
+module _ {V DE UE F : Type 0} (m : Mesh V DE UE F) (mesh : IsMesh m) (triangles : AllTriangles m.shape) (at : ℕ → Point) (plane : TrianglesTurnLeft at m.shape)
     (convex : IsConvex at m.shape) (hull : IsHull at m.shape) (q : Point) where
   abbrev s : Shape
   s = m.shape

@@ -1,23 +1,25 @@
 -- Points on a line: in what order they lie along it, when they are one, and that a triangle's corners aren't on one.
-use Rattle.std.proofs.Common.{◌≡◌, ◌⊎◌, inl, inr, [], ◌∷◌, ℤ, pos, ◌+ℤ◌, ◌-ℤ◌, ◌*ℤ◌, ◌<ℤ◌, ◌≤ℤ◌, refl, ap, ◌∙◌, arith}
+use Rattle.std.proofs.Common.{◌≡◌, ◌⊎◌, inl, inr, ℕ, [], ◌∷◌, ℤ, pos, ◌+ℤ◌, ◌-ℤ◌, ◌*ℤ◌, ◌<ℤ◌, ◌≤ℤ◌, refl, sym, ap, ◌∙◌, arith}
 use Rattle.std.proofs.lemmas.Int.{by_lt_z}
 use Rattle.std.proofs.Math.IntN.{*ℤ_comm, *ℤ-zero}
+use Rattle.dcel_fixed.specs.HalfEdges.{rev}
 use Rattle.dcel_predicates.specs.Determinants.{orient2d_of}
 use Rattle.dcel_predicates.specs.declared.point.Point.{Point}
 use Rattle.dcel_predicates.proofs.Ring.{Term, by_terms, minus, num, plus, times as by}
 use Rattle.dcel_predicates.proofs.Signs.{both_negative, ordered, square, times, times_negative, times_positive}
 use Rattle.dcel_predicates.proofs.Terms.{Spot, orient, spot, orient_in}
-use Rattle.dcel_plane.specs.covering.Covering.{apart_along}
+use Rattle.dcel_maps.specs.Shapes.{IsLive, IsSound, Shape, end_of, map_of, origin_of}
+use Rattle.dcel_maps.proofs.maps.Soundness.{rev_live}
+use Rattle.dcel_plane.specs.covering.Covering.{HasDistinctPoints, dot}
 use Rattle.dcel_plane.specs.covering.Places.{Place, orient_at}
-use Rattle.dcel_plane.proofs.covering.Inside.{weighed}
+use Rattle.dcel_plane.proofs.covering.Inside.{apart_start, weighed}
 use Rattle.dcel_plane.proofs.covering.Products.{no_weights, below_times, square_zero, times_below}
-
--- (a - c) times (b - c)
-abbrev pub dot : Point → Point → Point → ℤ
-dot a b c = ((a.x -ℤ c.x) *ℤ (b.x -ℤ c.x)) +ℤ ((a.y -ℤ c.y) *ℤ (b.y -ℤ c.y))
 
 abbrev pub dot_in : Spot → Spot → Spot → Term
 dot_in a b c = plus (by (minus a.x c.x) (minus b.x c.x)) (by (minus a.y c.y) (minus b.y c.y))
+
+pub dot_swapped : (a b c : Point) → dot a b c ≡ dot b a c
+dot_swapped a b c = by_terms (a.x ∷ a.y ∷ b.x ∷ b.y ∷ c.x ∷ c.y ∷ []) (dot_in (spot 0) (spot 1) (spot 2)) (dot_in (spot 1) (spot 0) (spot 2)) refl
 
 -- products with a factor 0
 pub none_first : (x g : ℤ) → x ≡ pos 0 → x *ℤ g ≡ pos 0
@@ -36,6 +38,12 @@ long a b differ =
     let zx = square_zero (a.x -ℤ b.x) (omega (arith, ordered, not, sx, sy)) in
     let zy = square_zero (a.y -ℤ b.y) (omega (arith, ordered, not, sx, sy)) in
     differ (omega (arith, ordered, zx)) (omega (arith, ordered, zy))))
+
+-- so half edges have a length where vertices stand at different points
+pub edges_long : (at : ℕ → Point) (s : Shape) → IsSound s → HasDistinctPoints at s → (h : ℕ) → IsLive s h
+    → pos 0 <ℤ dot (at (end_of s h)) (at (end_of s h)) (at (origin_of s h))
+edges_long at s sound distinct h live =
+    long (at (end_of s h)) (at (origin_of s h)) (λ ex ey. sound.two_ends h live (sym (distinct (rev h) h (rev_live (map_of s) h live) live ex ey)))
 
 -- v lies on the line from b to a, strictly between them
 pub record IsBetween (b a v : Point) : Type 0 where
@@ -87,10 +95,10 @@ module _ (b a x y q : Point) (far : pos 0 <ℤ dot a a b) (on_x : orient2d_of b 
   pub no_height : (orient2d_of b a x -ℤ orient2d_of b a q) *ℤ (orient2d_of b a y -ℤ orient2d_of b a q) ≡ pos 0
   no_height = none_first (orient2d_of b a x -ℤ orient2d_of b a q) (orient2d_of b a y -ℤ orient2d_of b a q) (omega (arith, ordered, on_x, on_q))
 
-  pub placed : pos 0 ≤ℤ apart_along x y q → pos 0 ≤ℤ ((dot x a b -ℤ dot q a b) *ℤ (dot y a b -ℤ dot q a b))
+  pub placed : pos 0 ≤ℤ dot x y q → pos 0 ≤ℤ ((dot x a b -ℤ dot q a b) *ℤ (dot y a b -ℤ dot q a b))
   placed apart = let t = times (dot a a b) (dot x y q) (omega (arith, ordered, far)) apart in let z = no_height in let e = by_place in omega (arith, ordered, t, z, e)
 
-  pub apart_by : pos 0 ≤ℤ ((dot x a b -ℤ dot q a b) *ℤ (dot y a b -ℤ dot q a b)) → pos 0 ≤ℤ apart_along x y q
+  pub apart_by : pos 0 ≤ℤ ((dot x a b -ℤ dot q a b) *ℤ (dot y a b -ℤ dot q a b)) → pos 0 ≤ℤ dot x y q
   apart_by places =
       by_lt_z (dot x y q) (pos 0) (λ less. absurd (let t = times_below (dot a a b) (dot x y q) far less in let z = no_height in let e = by_place in omega (arith, ordered, t, z, e, places)))
       (λ not. not)
@@ -108,7 +116,7 @@ sides x y product =
     (λ nor. inr (not, nor)))
 
 pub dot_start : (a b : Point) → dot b a b ≡ pos 0
-dot_start a b = by_terms (a.x ∷ a.y ∷ b.x ∷ b.y ∷ []) (dot_in (spot 1) (spot 0) (spot 1)) (num (pos 0)) refl
+dot_start a b = apart_start b a
 
 -- where two points on the line lie equally far along it they are one
 pub one_place : (b a x q : Point) → pos 0 <ℤ dot a a b → orient2d_of b a x ≡ pos 0 → orient2d_of b a q ≡ pos 0 → dot x a b ≡ dot q a b → (x.x ≡ q.x) × (x.y ≡ q.y)

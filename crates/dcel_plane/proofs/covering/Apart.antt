@@ -1,5 +1,5 @@
 -- No vertex lies in a triangle or on its border but its corners.
-use Rattle.std.proofs.Common.{◌≡◌, ◌≢◌, inl, inr, ℕ, ◌<◌, refl, sym, ap, ◌∙◌, subst, ℤ, pos, ◌-ℤ◌, ◌<ℤ◌, ◌≤ℤ◌, eq-zero-or-pos, arith}
+use Rattle.std.proofs.Common.{◌≡◌, ◌≢◌, inl, inr, ℕ, ◌<◌, refl, sym, ap, ◌∙◌, subst, pos, ◌-ℤ◌, ◌<ℤ◌, ◌≤ℤ◌, eq-zero-or-pos, arith}
 use Rattle.std.proofs.lemmas.Int.{by_lt_z}
 use Rattle.dcel_fixed.specs.HalfEdges.{rev}
 use Rattle.dcel_fixed.proofs.Halves.{rev-rev}
@@ -10,19 +10,18 @@ use Rattle.dcel_predicates.proofs.Signs.{ordered}
 use Rattle.dcel_maps.specs.Shapes.{IsLive, IsMesh, Mesh, Shape, end_of, face_of, map_of, next_of, origin_of, prev_of}
 use Rattle.dcel_maps.specs.Triangulations.{AllTriangles}
 use Rattle.dcel_maps.proofs.maps.Soundness.{rev_live}
-use Rattle.dcel_maps.proofs.maps.Triangles.{IsTriangleOf, by_triangle, off_triangle}
-use Rattle.dcel_maps.proofs.shapes.Maps.{map-sound}
-use Rattle.dcel_plane.specs.Plane.{IsLeftOf, IsPlane, LiesAcross, TurnsLeft}
+use Rattle.dcel_maps.proofs.maps.Triangles.{IsTriangleOf}
+use Rattle.dcel_plane.specs.Plane.{IsLeftOf, LiesAcross, TrianglesTurnLeft, TurnsLeft}
 use Rattle.dcel_plane.proofs.edits.Across.{across_both}
 use Rattle.dcel_plane.proofs.edits.Corners.{left_of_triangle}
-use Rattle.dcel_plane.specs.covering.Covering.{Covers, IsApart, IsConvex, IsHull, apart_along}
+use Rattle.dcel_plane.specs.covering.Covering.{Covers, IsApart, IsConvex, IsHull, dot}
 use Rattle.dcel_plane.proofs.covering.Alone.{lies_within, none_inside, none_within}
-use Rattle.dcel_plane.proofs.covering.Along.{between_ends, dot, dot_start, long, one_point, placed}
+use Rattle.dcel_plane.proofs.covering.Along.{between_ends, dot_start, long, one_point, placed}
 use Rattle.dcel_plane.proofs.covering.Inside.{on_end, on_start}
-use Rattle.dcel_plane.proofs.covering.Products.{below_times}
-use Rattle.dcel_plane.proofs.covering.Triangles.{meets, turned_triangle, at_word, is_triangle, round}
+use Rattle.dcel_plane.proofs.covering.Products.{below_times, zero_of}
+use Rattle.dcel_plane.proofs.covering.Triangles.{at_word, is_triangle, meets, of_face, round, turned_triangle}
 
-module _ {V DE UE F : Type 0} (m : Mesh V DE UE F) (mesh : IsMesh m) (triangles : AllTriangles m.shape) (at : ℕ → Point) (plane : IsPlane at m.shape)
+module _ {V DE UE F : Type 0} (m : Mesh V DE UE F) (mesh : IsMesh m) (triangles : AllTriangles m.shape) (at : ℕ → Point) (plane : TrianglesTurnLeft at m.shape)
     (convex : IsConvex at m.shape) (hull : IsHull at m.shape) where
   abbrev s : Shape
   s = m.shape
@@ -40,11 +39,6 @@ module _ {V DE UE F : Type 0} (m : Mesh V DE UE F) (mesh : IsMesh m) (triangles 
     left : TurnsLeft (p x) (p y) (p z)
     left = left_of_triangle at s mesh.sound plane f x y z inner tri
 
-    -- what holds of the three holds of each half edge of the face
-    each_side : (Q : ℕ → Type 0) → Q x → Q y → Q z → (j : ℕ) → IsLive s j → face_of s j ≡ f → Q j
-    each_side Q at_x at_y at_z j live_j on =
-        by_triangle Q x y z j (at_x, at_y, at_z) (λ off. absurd (off_triangle (map_of s) (map-sound mesh.sound) f x y z tri j live_j off on))
-
     left_of : (h b : ℕ) → b ≡ end_of s h → TurnsLeft (p h) (at b) (p k) → IsLeftOf at s (p k) h
     left_of h b is turns = subst (λ (j : ℕ). TurnsLeft (p h) (at j) (p k)) is turns
 
@@ -61,7 +55,7 @@ module _ {V DE UE F : Type 0} (m : Mesh V DE UE F) (mesh : IsMesh m) (triangles 
       | inr facing ↦
           let across : LiesAcross at s x (p k) =
           λ j live_j on_j off.
-          each_side (λ i. i ≢ x → IsLeftOf at s (p k) i) (λ not. absurd (not refl)) (λ not. left_of y (origin_of s z) (meets m mesh f y z x (turned_triangle (map_of s) f x y z tri)) yz) (λ not. left_of z (origin_of s x) (meets m mesh f z x y (turned_triangle (map_of s) f y z x (turned_triangle (map_of s) f x y z tri))) zx) j live_j
+          of_face m mesh f x y z tri (λ i. i ≢ x → IsLeftOf at s (p k) i) (λ not. absurd (not refl)) (λ not. left_of y (origin_of s z) (meets m mesh f y z x (turned_triangle (map_of s) f x y z tri)) yz) (λ not. left_of z (origin_of s x) (meets m mesh f z x y (turned_triangle (map_of s) f y z x (turned_triangle (map_of s) f x y z tri))) zx) j live_j
           (on_j ∙ tri.face_x) off in
           let on' : orient2d_of (p x) (at (end_of s x)) (p k) ≡ pos 0 = subst (λ (j : ℕ). orient2d_of (p x) (at j) (p k) ≡ pos 0) ends_x on in
           let back = rev_live (map_of s) x tri.live_x in
@@ -71,10 +65,10 @@ module _ {V DE UE F : Type 0} (m : Mesh V DE UE F) (mesh : IsMesh m) (triangles 
       | inl outer ↦
           let back = rev_live (map_of s) x tri.live_x in
           let on_too : orient2d_of (p y) (p x) (p k) ≡ pos 0 = (let o = orient2d-first_swapped (p x) (p y) (p k) in omega (arith, ordered, o, on)) in
-          let b : orient2d_of (p y) (p x) (p k) ≡ pos 0 → pos 0 ≤ℤ apart_along (p y) (p x) (p k) =
-          subst (λ (i : ℕ). orient2d_of (at i) (p x) (p k) ≡ pos 0 → pos 0 ≤ℤ apart_along (at i) (p x) (p k)) (sym ends_x)
-          (subst (λ (i : ℕ). orient2d_of (at (end_of s x)) (at i) (p k) ≡ pos 0 → pos 0 ≤ℤ apart_along (at (end_of s x)) (at i) (p k)) (ap (origin_of s) (rev-rev x))
-          (convex.between (rev x) k back outer live_k)) in
+          let b : orient2d_of (p y) (p x) (p k) ≡ pos 0 → pos 0 ≤ℤ dot (p y) (p x) (p k) =
+          subst (λ (i : ℕ). orient2d_of (at i) (p x) (p k) ≡ pos 0 → pos 0 ≤ℤ dot (at i) (p x) (p k)) (sym ends_x)
+          (subst (λ (i : ℕ). orient2d_of (at (end_of s x)) (at i) (p k) ≡ pos 0 → pos 0 ≤ℤ dot (at (end_of s x)) (at i) (p k)) (ap (origin_of s) (rev-rev x))
+          (convex.supports (rev x) k back outer live_k).1) in
           let far : pos 0 <ℤ dot (p x) (p x) (p y) =
           long (p x) (p y) (λ ex ey. mesh.sound.two_ends x tri.live_x (hull.distinct x y tri.live_x tri.live_y ex ey ∙ ends_x)) in
           let is = between_ends (p x) (p y) (p z) (p k) far left yz zx on on_too in
@@ -112,9 +106,6 @@ module _ {V DE UE F : Type 0} (m : Mesh V DE UE F) (mesh : IsMesh m) (triangles 
       (λ zx. not_on_side f x y z tri inner k live_k (zero_of (orient2d_of (p x) (p y) (p k)) covers.0 no_xy) yz zx)
       (λ no_zx. not_x (at_corner f z x y tri_z inner k live_k (zero_of (orient2d_of (p z) (p x) (p k)) covers.2 no_zx) (zero_of (orient2d_of (p x) (p y) (p k)) covers.0 no_xy))))
       (λ no_yz. not_y (at_corner f x y z tri inner k live_k (zero_of (orient2d_of (p x) (p y) (p k)) covers.0 no_xy) (zero_of (orient2d_of (p y) (p z) (p k)) covers.1 no_yz))))
-    where
-      zero_of : (o : ℤ) → pos 0 ≤ℤ o → o ≤ℤ pos 0 → o ≡ pos 0
-      zero_of o more less = omega (arith, ordered, more, less)
 
   -- of a half edge
   pub apart_at : (h : ℕ) → IsLive s h → 0 < face_of s h → (k : ℕ) → IsLive s k → origin_of s k ≢ origin_of s h → origin_of s k ≢ origin_of s (next_of s h)

@@ -2,7 +2,7 @@
 use Rattle.std.proofs.Common.{◌≡◌, [], ◌∷◌, ℤ, pos, ◌+ℤ◌, ◌-ℤ◌, ◌*ℤ◌, ◌<ℤ◌, ◌≤ℤ◌, neg_ℤ, refl, sym, ap, subst, ◌∙◌, arith}
 use Rattle.std.proofs.lemmas.Int.{by_lt_z}
 use Rattle.std.proofs.Math.IntN.{*ℤ_comm, *ℤ-zero}
-use Rattle.dcel_predicates.specs.Determinants.{orient2d_of, incircle_of, lift_of}
+use Rattle.dcel_predicates.specs.Determinants.{orient2d_of, incircle_of, squared_distance_of}
 use Rattle.dcel_predicates.specs.declared.point.Point.{Point}
 use Rattle.dcel_predicates.proofs.Points.{orient2d-first_swapped as orient_opposite}
 use Rattle.dcel_predicates.proofs.Ring.{Term, by_terms, plus, minus, times as by}
@@ -19,23 +19,23 @@ pub record InCap (a b c w : Point) : Type 0 where
 abbrev dot_of : Point → Point → Point → ℤ
 dot_of p q w = ((p.x -ℤ w.x) *ℤ (q.x -ℤ w.x)) +ℤ ((p.y -ℤ w.y) *ℤ (q.y -ℤ w.y))
 
-pub lift_not_below : (p w : Point) → pos 0 ≤ℤ lift_of p w
+pub lift_not_below : (p w : Point) → pos 0 ≤ℤ squared_distance_of p w
 lift_not_below p w = let a = square (p.x -ℤ w.x) in let b = square (p.y -ℤ w.y) in omega (arith, ordered, a, b)
 
 abbrev dot : Term
 dot = plus (by (minus (spot 0).x (spot 2).x) (minus (spot 1).x (spot 2).x)) (by (minus (spot 0).y (spot 2).y) (minus (spot 1).y (spot 2).y))
 
-lagrange : (p q w : Point) → lift_of p w *ℤ lift_of q w ≡ (orient2d_of p q w *ℤ orient2d_of p q w) +ℤ (dot_of p q w *ℤ dot_of p q w)
+lagrange : (p q w : Point) → squared_distance_of p w *ℤ squared_distance_of q w ≡ (orient2d_of p q w *ℤ orient2d_of p q w) +ℤ (dot_of p q w *ℤ dot_of p q w)
 lagrange p q w =
     by_terms (p.x ∷ p.y ∷ q.x ∷ q.y ∷ w.x ∷ w.y ∷ []) (by (lift (spot 0) (spot 2)) (lift (spot 1) (spot 2)))
     (plus (by (orient (spot 0) (spot 1) (spot 2)) (orient (spot 0) (spot 1) (spot 2))) (by dot dot)) refl
 
 -- so w is neither p nor q
-lifts : (p q w : Point) → orient2d_of p q w <ℤ pos 0 → pos 0 <ℤ (lift_of p w *ℤ lift_of q w)
+lifts : (p q w : Point) → orient2d_of p q w <ℤ pos 0 → pos 0 <ℤ (squared_distance_of p w *ℤ squared_distance_of q w)
 lifts p q w less =
     let a = square_positive (orient2d_of p q w) less in
     let b = square (dot_of p q w) in
-    summed (lift_of p w *ℤ lift_of q w) (orient2d_of p q w *ℤ orient2d_of p q w) (dot_of p q w *ℤ dot_of p q w) (lagrange p q w) a b
+    summed (squared_distance_of p w *ℤ squared_distance_of q w) (orient2d_of p q w *ℤ orient2d_of p q w) (dot_of p q w *ℤ dot_of p q w) (lagrange p q w) a b
   where
     summed : (x y z : ℤ) → x ≡ y +ℤ z → pos 0 <ℤ y → pos 0 ≤ℤ z → pos 0 <ℤ x
     summed x y z is more not = omega (arith, ordered)
@@ -46,12 +46,12 @@ product_first x y not more =
     (λ none. absurd (let e : x ≡ pos 0 = omega (arith, ordered) in
     let n = ap (λ z. z *ℤ y) e in let o = *ℤ_comm (pos 0) y in let t = *ℤ-zero y in omega (arith, ordered, n, o, t)))
 
-lift_first : (p q w : Point) → orient2d_of p q w <ℤ pos 0 → pos 0 <ℤ lift_of p w
-lift_first p q w less = product_first (lift_of p w) (lift_of q w) (lift_not_below p w) (lifts p q w less)
+lift_first : (p q w : Point) → orient2d_of p q w <ℤ pos 0 → pos 0 <ℤ squared_distance_of p w
+lift_first p q w less = product_first (squared_distance_of p w) (squared_distance_of q w) (lift_not_below p w) (lifts p q w less)
 
-lift_second : (p q w : Point) → orient2d_of p q w <ℤ pos 0 → pos 0 <ℤ lift_of q w
+lift_second : (p q w : Point) → orient2d_of p q w <ℤ pos 0 → pos 0 <ℤ squared_distance_of q w
 lift_second p q w less =
-    product_first (lift_of q w) (lift_of p w) (lift_not_below q w) (let t = lifts p q w less in omega (arith, ordered, *ℤ_comm (lift_of p w) (lift_of q w)))
+    product_first (squared_distance_of q w) (squared_distance_of p w) (lift_not_below q w) (let t = lifts p q w less in omega (arith, ordered, *ℤ_comm (squared_distance_of p w) (squared_distance_of q w)))
 
 -- one weight below 0, another not above it: the third point would be nothing
 squeezed : (k l m t c u v : ℤ) → t ≡ k +ℤ l +ℤ m → pos 0 <ℤ t → m <ℤ pos 0 → l ≤ℤ pos 0 → pos 0 ≤ℤ c → pos 0 <ℤ u → pos 0 ≤ℤ v
@@ -73,16 +73,16 @@ module _ (p q r w : Point) where
       by_terms (p.x ∷ p.y ∷ q.x ∷ q.y ∷ r.x ∷ r.y ∷ w.x ∷ w.y ∷ []) (orient (spot 0) (spot 1) (spot 2))
       (plus (plus (orient (spot 1) (spot 2) (spot 3)) (orient (spot 2) (spot 0) (spot 3))) (orient (spot 0) (spot 1) (spot 3))) refl
 
-  first_square : (orient2d_of q r w *ℤ lift_of p w) *ℤ orient2d_of p q r
-      ≡ ((orient2d_of r p w +ℤ orient2d_of p q w) *ℤ incircle_of p q r w) -ℤ ((orient2d_of r p w *ℤ orient2d_of p q w) *ℤ lift_of q r)
+  first_square : (orient2d_of q r w *ℤ squared_distance_of p w) *ℤ orient2d_of p q r
+      ≡ ((orient2d_of r p w +ℤ orient2d_of p q w) *ℤ incircle_of p q r w) -ℤ ((orient2d_of r p w *ℤ orient2d_of p q w) *ℤ squared_distance_of q r)
   first_square =
       by_terms (p.x ∷ p.y ∷ q.x ∷ q.y ∷ r.x ∷ r.y ∷ w.x ∷ w.y ∷ [])
       (by (by (orient (spot 1) (spot 2) (spot 3)) (lift (spot 0) (spot 3))) (orient (spot 0) (spot 1) (spot 2)))
       (minus (by (plus (orient (spot 2) (spot 0) (spot 3)) (orient (spot 0) (spot 1) (spot 3))) (incircle (spot 0) (spot 1) (spot 2) (spot 3)))
       (by (by (orient (spot 2) (spot 0) (spot 3)) (orient (spot 0) (spot 1) (spot 3))) (lift (spot 1) (spot 2)))) refl
 
-  second_square : (orient2d_of r p w *ℤ lift_of q w) *ℤ orient2d_of p q r
-      ≡ ((orient2d_of q r w +ℤ orient2d_of p q w) *ℤ incircle_of p q r w) -ℤ ((orient2d_of q r w *ℤ orient2d_of p q w) *ℤ lift_of p r)
+  second_square : (orient2d_of r p w *ℤ squared_distance_of q w) *ℤ orient2d_of p q r
+      ≡ ((orient2d_of q r w +ℤ orient2d_of p q w) *ℤ incircle_of p q r w) -ℤ ((orient2d_of q r w *ℤ orient2d_of p q w) *ℤ squared_distance_of p r)
   second_square =
       by_terms (p.x ∷ p.y ∷ q.x ∷ q.y ∷ r.x ∷ r.y ∷ w.x ∷ w.y ∷ [])
       (by (by (orient (spot 2) (spot 0) (spot 3)) (lift (spot 1) (spot 3))) (orient (spot 0) (spot 1) (spot 2)))
@@ -94,13 +94,13 @@ module _ (p q r w : Point) where
     pub left_of_third : pos 0 <ℤ orient2d_of r p w
     left_of_third =
         by_lt_z (pos 0) (orient2d_of r p w) (λ is. is)
-        (λ not. absurd (squeezed (orient2d_of q r w) (orient2d_of r p w) (orient2d_of p q w) (orient2d_of p q r) (incircle_of p q r w) (lift_of p w) (lift_of q r)
+        (λ not. absurd (squeezed (orient2d_of q r w) (orient2d_of r p w) (orient2d_of p q w) (orient2d_of p q r) (incircle_of p q r w) (squared_distance_of p w) (squared_distance_of q r)
         weights turn cap.beyond not cap.within (lift_first p q w cap.beyond) (lift_not_below q r) first_square))
 
     pub left_of_second : pos 0 <ℤ orient2d_of q r w
     left_of_second =
         by_lt_z (pos 0) (orient2d_of q r w) (λ is. is)
-        (λ not. absurd (squeezed (orient2d_of r p w) (orient2d_of q r w) (orient2d_of p q w) (orient2d_of p q r) (incircle_of p q r w) (lift_of q w) (lift_of p r)
+        (λ not. absurd (squeezed (orient2d_of r p w) (orient2d_of q r w) (orient2d_of p q w) (orient2d_of p q r) (incircle_of p q r w) (squared_distance_of q w) (squared_distance_of p r)
         (sums (orient2d_of p q r) (orient2d_of q r w) (orient2d_of r p w) (orient2d_of p q w) weights) turn cap.beyond not cap.within (lift_second p q w cap.beyond) (lift_not_below p r) second_square))
       where
         sums : (t k l m : ℤ) → t ≡ k +ℤ l +ℤ m → t ≡ l +ℤ k +ℤ m

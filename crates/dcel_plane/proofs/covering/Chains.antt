@@ -15,7 +15,8 @@ use Rattle.dcel_plane.specs.covering.Places.{Place, orient_at}
 use Rattle.dcel_plane.specs.covering.Round.{Begins, IsRightOf, LeadsRight}
 use Rattle.dcel_plane.proofs.covering.Climbing.{climb}
 use Rattle.dcel_plane.proofs.covering.Columns.{IsHit, apart_columns}
-use Rattle.dcel_plane.proofs.covering.Leading.{apart, back_step, forth_step, right_along, right_itself, right_least, right_or_not}
+use Rattle.dcel_plane.proofs.covering.Leading.{back_step, forth_step, right_along, right_itself, right_least, right_or_not}
+use Rattle.dcel_predicates.proofs.Integers.{mul_sub}
 
 -- n half edges after h
 abbrev pub walked : Shape → ℕ → ℕ → ℕ
@@ -152,7 +153,7 @@ module _ {V DE UE F : Type 0} (m : Mesh V DE UE F) (mesh : IsMesh m) (at : ℕ �
     passes_after : (w a b x : ℤ) → pos 0 <ℤ w → x <ℤ (w *ℤ a) → a ≤ℤ b → (w *ℤ b) ≤ℤ x → ⊥
     passes_after w a b x more less le before =
         let t = times_negative w (a -ℤ b) (omega (arith, ordered, more)) (omega (arith, ordered, le)) in
-        let e = apart w a b in
+        let e = mul_sub w a b in
         omega (arith, ordered, t, e, less, before)
 
     not_later : (start last : ℕ) → ((n : ℕ) → n ≤ last → OnChain (walked s start n)) → (i : ℕ) → i < last

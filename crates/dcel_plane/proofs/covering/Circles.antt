@@ -13,7 +13,7 @@ use Rattle.dcel_predicates.proofs.Signs.{ordered, square, times_positive}
 use Rattle.dcel_predicates.proofs.Terms.{incircle, incircle_in, orient, orient_in, place, spot}
 use Rattle.dcel_maps.specs.Shapes.{IsLive, IsMesh, Mesh, Shape, face_of, next_of, origin_of, prev_of}
 use Rattle.dcel_maps.specs.Triangulations.{AllTriangles}
-use Rattle.dcel_plane.specs.Plane.{IsDelaunay}
+use Rattle.dcel_plane.specs.Plane.{IsLocallyDelaunay}
 use Rattle.dcel_plane.specs.covering.Covering.{HasEmptyCircles, IsConvex, IsHull}
 use Rattle.dcel_plane.specs.covering.Places.{IsInside, Place, incircle_at, orient_at}
 use Rattle.dcel_plane.proofs.covering.Faces.{corner_of, disjoint_at}
@@ -91,7 +91,7 @@ beside a b c v y z turn inside =
         compare : (x y z : ℤ) → x -ℤ y ≡ z → pos 0 <ℤ z → y <ℤ x
         compare x y z is more = omega (arith, ordered, is, more)
 
-module _ {V DE UE F : Type 0} (m : Mesh V DE UE F) (mesh : IsMesh m) (triangles : AllTriangles m.shape) (at : ℕ → Point) (delaunay : IsDelaunay at m.shape)
+module _ {V DE UE F : Type 0} (m : Mesh V DE UE F) (mesh : IsMesh m) (triangles : AllTriangles m.shape) (at : ℕ → Point) (delaunay : IsLocallyDelaunay at m.shape)
     (convex : IsConvex at m.shape) (hull : IsHull at m.shape) where
   abbrev s : Shape
   s = m.shape
@@ -126,7 +126,7 @@ module _ {V DE UE F : Type 0} (m : Mesh V DE UE F) (mesh : IsMesh m) (triangles 
             none_holds m mesh triangles at delaunay q
             (λ e live_e outer.
             let right : (j : ℕ) → IsLive s j → pos 0 ≤ℤ orient2d_of (p (rev e)) (p e) (p j) =
-            λ j live_j. let r = convex.right e j live_e outer live_j in let o = orient2d-first_swapped (p e) (p (rev e)) (p j) in omega (arith, ordered, r, o) in
+            λ j live_j. let r = (convex.supports e j live_e outer live_j).0 in let o = orient2d-first_swapped (p e) (p (rev e)) (p j) in omega (arith, ordered, r, o) in
             let there = not_right v y z (p (rev e)) (p e) q left_i (right i live_i) (right (next_of s i) tri.live_y) (right (prev_of s i) tri.live_z)
             (let n0 = n.0 in let n1 = n.1 in let n2 = n.2 in (omega (arith, ordered, n0), omega (arith, ordered, n1), omega (arith, ordered, n2))) in
             let o = other_way (p e) (p (rev e)) q in
@@ -148,7 +148,7 @@ module _ {V DE UE F : Type 0} (m : Mesh V DE UE F) (mesh : IsMesh m) (triangles 
             ])
             h live inner (le_same (incircle_at a b c q *ℤ orient2d_of a b c))
 
-pub no_vertex_inside : {V DE UE F : Type 0} (m : Mesh V DE UE F) → IsMesh m → AllTriangles m.shape → (at : ℕ → Point) → IsDelaunay at m.shape → IsConvex at m.shape
+pub no_vertex_inside : {V DE UE F : Type 0} (m : Mesh V DE UE F) → IsMesh m → AllTriangles m.shape → (at : ℕ → Point) → IsLocallyDelaunay at m.shape → IsConvex at m.shape
     → IsHull at m.shape → HasEmptyCircles at m.shape
 no_vertex_inside m mesh triangles at delaunay convex hull = record {
   empty = λ f x y z k inner is live_k.

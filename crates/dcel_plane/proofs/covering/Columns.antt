@@ -13,7 +13,7 @@ use Rattle.dcel_predicates.proofs.Signs.{both_negative, ordered, times, times_po
 use Rattle.dcel_predicates.proofs.Terms.{orient, orient_in, place, spot}
 use Rattle.dcel_plane.specs.covering.Places.{IsInside, Place, orient_at}
 use Rattle.dcel_plane.proofs.covering.Inside.{other_way}
-use Rattle.dcel_plane.proofs.covering.Products.{below_times, factor_positive, times_below}
+use Rattle.dcel_plane.proofs.covering.Products.{below_times, factor_positive, times_below, zero_factor}
 
 abbrev pub hit_of : Bool → Bool → Bool → ℕ
 hit_of true u v = 0
@@ -181,10 +181,6 @@ module _ (a b c : Point) (p : Place) (turn : pos 0 <ℤ orient2d_of a b c) where
         gains = λ inside. absurd (none_inside inside);
       }
     where
-      zero_column : (k z : ℤ) → pos 0 <ℤ k → pos 0 ≤ℤ z → (k *ℤ z) ≤ℤ pos 0 → z ≡ pos 0
-      zero_column k z more not none =
-          by_lt_z (pos 0) z (λ is. absurd (let t = times_positive k z more is in omega (arith, ordered, t, none))) (λ least. omega (arith, ordered, least, not))
-
       thin : p.w *ℤ orient2d_of a b c ≡ (((p.w *ℤ b.x) -ℤ (p.w *ℤ a.x)) *ℤ (c.y -ℤ a.y)) -ℤ ((b.y -ℤ a.y) *ℤ ((p.w *ℤ c.x) -ℤ (p.w *ℤ a.x)))
       thin =
           by_terms (a.x ∷ a.y ∷ b.x ∷ b.y ∷ c.x ∷ c.y ∷ p.w ∷ []) (by (var 6) (orient (spot 0) (spot 1) (spot 2)))
@@ -197,9 +193,9 @@ module _ (a b c : Point) (p : Place) (turn : pos 0 <ℤ orient2d_of a b c) where
           let kb = times (orient_at c a p) (p.x -ℤ (p.w *ℤ b.x)) (let i = inside.2 in omega (arith, ordered, i)) (omega (arith, ordered, at_b)) in
           let kc = times (orient_at a b p) (p.x -ℤ (p.w *ℤ c.x)) (let i = inside.0 in omega (arith, ordered, i)) (omega (arith, ordered, at_c)) in
           let whole = balance in
-          let za = zero_column (orient_at b c p) (p.x -ℤ (p.w *ℤ a.x)) inside.1 (omega (arith, ordered, at_a)) (omega (arith, ordered, whole, kb, kc)) in
-          let zb = zero_column (orient_at c a p) (p.x -ℤ (p.w *ℤ b.x)) inside.2 (omega (arith, ordered, at_b)) (omega (arith, ordered, whole, ka, kc)) in
-          let zc = zero_column (orient_at a b p) (p.x -ℤ (p.w *ℤ c.x)) inside.0 (omega (arith, ordered, at_c)) (omega (arith, ordered, whole, ka, kb)) in
+          let za = zero_factor (orient_at b c p) (p.x -ℤ (p.w *ℤ a.x)) inside.1 (omega (arith, ordered, at_a)) (omega (arith, ordered, whole, kb, kc)) in
+          let zb = zero_factor (orient_at c a p) (p.x -ℤ (p.w *ℤ b.x)) inside.2 (omega (arith, ordered, at_b)) (omega (arith, ordered, whole, ka, kc)) in
+          let zc = zero_factor (orient_at a b p) (p.x -ℤ (p.w *ℤ c.x)) inside.0 (omega (arith, ordered, at_c)) (omega (arith, ordered, whole, ka, kb)) in
           let eb : (p.w *ℤ b.x) -ℤ (p.w *ℤ a.x) ≡ pos 0 = omega (arith, ordered, za, zb) in
           let ec : (p.w *ℤ c.x) -ℤ (p.w *ℤ a.x) ≡ pos 0 = omega (arith, ordered, za, zc) in
           let first = ap (λ z. z *ℤ (c.y -ℤ a.y)) eb ∙ *ℤ_comm (pos 0) (c.y -ℤ a.y) ∙ *ℤ-zero (c.y -ℤ a.y) in

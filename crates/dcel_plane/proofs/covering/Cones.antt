@@ -14,7 +14,7 @@ use Rattle.dcel_maps.specs.theory.Sound.{Sound}
 use Rattle.dcel_maps.proofs.maps.Soundness.{rev_live}
 use Rattle.dcel_maps.proofs.shapes.Maps.{map-sound}
 use Rattle.dcel_maps.proofs.walks.Links.{half-below}
-use Rattle.dcel_plane.specs.Plane.{IsPlane}
+use Rattle.dcel_plane.specs.Plane.{TrianglesTurnLeft}
 use Rattle.dcel_plane.specs.covering.Places.{Place, orient_at}
 use Rattle.dcel_plane.proofs.covering.Climbing.{climb}
 use Rattle.dcel_plane.proofs.covering.Inside.{on_start, other_way}
@@ -46,7 +46,7 @@ module _ (a x y z : Point) (r : Place) where
       let e = fan in
       positive_factor (orient2d_of a z x) (orient_at a y r) ry (omega (arith, ordered, e, k, l))
 
-module _ {V DE UE F : Type 0} (m : Mesh V DE UE F) (mesh : IsMesh m) (triangles : AllTriangles m.shape) (at : ℕ → Point) (plane : IsPlane at m.shape) (r : Place)
+module _ {V DE UE F : Type 0} (m : Mesh V DE UE F) (mesh : IsMesh m) (triangles : AllTriangles m.shape) (at : ℕ → Point) (plane : TrianglesTurnLeft at m.shape) (r : Place)
     (right : (h : ℕ) → IsLive m.shape h → face_of m.shape h ≡ 0 → orient_at (at (origin_of m.shape h)) (at (origin_of m.shape (rev h))) r ≤ℤ pos 0) (v : ℕ) where
   abbrev s : Shape
   s = m.shape

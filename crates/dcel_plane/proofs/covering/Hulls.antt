@@ -8,7 +8,7 @@ use Rattle.dcel_predicates.proofs.Integers.{mul_neg}
 use Rattle.dcel_predicates.proofs.Ring.{by_terms, minus, num, plus, times as by}
 use Rattle.dcel_predicates.proofs.Signs.{ordered, square, times_negative, times_positive}
 use Rattle.dcel_predicates.proofs.Terms.{orient, spot}
-use Rattle.dcel_plane.specs.covering.Covering.{apart_along}
+use Rattle.dcel_plane.specs.covering.Covering.{dot}
 use Rattle.dcel_plane.specs.covering.Places.{Place}
 use Rattle.dcel_plane.proofs.covering.Columns.{IsHit, apart_columns}
 use Rattle.dcel_plane.proofs.covering.Products.{below_times, factor_not_below}
@@ -45,7 +45,7 @@ module _ (a b c : Point) (on : orient2d_of a b c ≡ pos 0) where
       (by (by (minus (spot 1).y (spot 0).y) (minus (spot 1).y (spot 0).y)) (by (minus (spot 2).x (spot 0).x) (minus (spot 2).x (spot 1).x)))) refl
 
   -- c between a and b on their line
-  is_between : a.x <ℤ c.x → c.x <ℤ b.x → apart_along a b c <ℤ pos 0
+  is_between : a.x <ℤ c.x → c.x <ℤ b.x → dot a b c <ℤ pos 0
   is_between after before =
       let first = below_times (a.x -ℤ c.x) (b.x -ℤ c.x) (omega (arith, ordered, after)) (omega (arith, ordered, before)) in
       let k = orient2d_of a b c +ℤ ((b.y -ℤ a.y) *ℤ (c.x -ℤ a.x)) +ℤ ((b.y -ℤ a.y) *ℤ (c.x -ℤ b.x)) in
@@ -79,7 +79,7 @@ module _ (a b c : Point) (on : orient2d_of a b c ≡ pos 0) where
 pub record Bounds (a b c d : Point) : Type 0 where
   pub start : orient2d_of a b c ≤ℤ pos 0
   pub end : orient2d_of a b d ≤ℤ pos 0
-  pub between : orient2d_of a b c ≡ pos 0 → pos 0 ≤ℤ apart_along a b c
+  pub between : orient2d_of a b c ≡ pos 0 → pos 0 ≤ℤ dot a b c
 
 module _ (a b c d : Point) (p : Place) (first : IsHit a b p) (second : IsHit c d p) (bounds : Bounds a b c d) (other : Bounds c d a b) where
   reaches : pos 0 <ℤ (b.x -ℤ c.x)

@@ -6,7 +6,7 @@ use Rattle.dcel_predicates.specs.declared.point.Point.{Point}
 use Rattle.dcel_predicates.proofs.Ring.{Term, by_terms, minus, num, plus, times as by, var}
 use Rattle.dcel_predicates.proofs.Signs.{ordered, square, times, times_positive}
 use Rattle.dcel_predicates.proofs.Terms.{Where, orient, orient_in, place, spot}
-use Rattle.dcel_plane.specs.covering.Covering.{Covers, apart_along}
+use Rattle.dcel_plane.specs.covering.Covering.{Covers, dot}
 use Rattle.dcel_plane.specs.covering.Places.{AreDisjoint, IsIn, IsInside, Place, orient_at}
 use Rattle.dcel_plane.proofs.covering.Products.{outweighs, sum_not_below, sum_positive}
 
@@ -19,12 +19,12 @@ on_end d b = by_terms (d.x ∷ d.y ∷ b.x ∷ b.y ∷ []) (orient (spot 0) (spo
 pub same_place : (a b c d : Point) → c.x ≡ d.x → c.y ≡ d.y → orient2d_of a b c ≡ orient2d_of a b d
 same_place a b c d ex ey = rw (ex, ey) refl
 
-pub apart_start : (a b : Point) → apart_along a b a ≡ pos 0
+pub apart_start : (a b : Point) → dot a b a ≡ pos 0
 apart_start a b =
     by_terms (a.x ∷ a.y ∷ b.x ∷ b.y ∷ [])
     (plus (by (minus (spot 0).x (spot 0).x) (minus (spot 1).x (spot 0).x)) (by (minus (spot 0).y (spot 0).y) (minus (spot 1).y (spot 0).y))) (num (pos 0)) refl
 
-pub apart_end : (a b : Point) → apart_along a b b ≡ pos 0
+pub apart_end : (a b : Point) → dot a b b ≡ pos 0
 apart_end a b =
     by_terms (a.x ∷ a.y ∷ b.x ∷ b.y ∷ [])
     (plus (by (minus (spot 0).x (spot 1).x) (minus (spot 1).x (spot 1).x)) (by (minus (spot 0).y (spot 1).y) (minus (spot 1).y (spot 1).y))) (num (pos 0)) refl

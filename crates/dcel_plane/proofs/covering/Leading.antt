@@ -9,7 +9,8 @@ use Rattle.dcel_predicates.proofs.Signs.{both_negative, ordered, times, times_ne
 use Rattle.dcel_predicates.proofs.Terms.{orient, orient_in, place, spot}
 use Rattle.dcel_plane.specs.covering.Places.{Place, orient_at}
 use Rattle.dcel_plane.specs.covering.Round.{IsRightOf}
-use Rattle.dcel_plane.proofs.covering.Products.{below_times, times_below}
+use Rattle.dcel_plane.proofs.covering.Products.{below_times, both_below, times_below}
+use Rattle.dcel_predicates.proofs.Integers.{mul_sub}
 
 pub right_or_not : (a b : Point) → IsRightOf a b ⊎ (IsRightOf a b → ⊥)
 right_or_not a b =
@@ -42,9 +43,6 @@ one_spot a b not_on not_back =
 none : (x y : ℤ) → x ≡ y → y -ℤ x ≡ pos 0
 none x y is = omega (arith, ordered, is)
 
-pub apart : (w x y : ℤ) → w *ℤ (x -ℤ y) ≡ (w *ℤ x) -ℤ (w *ℤ y)
-apart w x y = by_terms (w ∷ x ∷ y ∷ []) (by (spot 0).x (minus (spot 0).y (spot 1).x)) (minus (by (spot 0).x (spot 0).y) (by (spot 0).x (spot 1).x)) refl
-
 module _ (a b c : Point) (p : Place) where
   lever : (c.x -ℤ b.x) *ℤ orient_at a b p ≡ ((b.x -ℤ a.x) *ℤ orient_at b c p) +ℤ ((p.x -ℤ (p.w *ℤ b.x)) *ℤ orient2d_of a b c)
   lever =
@@ -76,7 +74,7 @@ module _ (a b c : Point) (p : Place) (turn : orient2d_of a b c ≤ℤ pos 0) whe
       let l = times_negative (p.x -ℤ (p.w *ℤ b.x)) (orient2d_of a b c) (omega (arith, ordered, after)) turn in
       let e = lever a b c p in
       let less = times_below p.w (a.x -ℤ b.x) p.above (omega (arith, ordered, wide)) in
-      let d = apart p.w a.x b.x in (
+      let d = mul_sub p.w a.x b.x in (
         by_lt_z (pos 0) (orient_at a b p)
             (λ more. absurd (let t = times_positive (c.x -ℤ b.x) (orient_at a b p) (omega (arith, ordered, far)) more in omega (arith, ordered, t, e, k, l))) (λ not. not),
         omega (arith, ordered, less, d, after),
@@ -96,7 +94,7 @@ module _ (a b c : Point) (p : Place) (turn : orient2d_of a b c ≤ℤ pos 0) whe
       let l = both_negative (p.x -ℤ (p.w *ℤ b.x)) (orient2d_of a b c) (omega (arith, ordered, before)) turn in
       let e = lever a b c p in
       let less = times_below p.w (b.x -ℤ c.x) p.above (omega (arith, ordered, far)) in
-      let d = apart p.w b.x c.x in (
+      let d = mul_sub p.w b.x c.x in (
         far,
         by_lt_z (pos 0) (orient_at b c p)
             (λ more. absurd (let t = times_positive (b.x -ℤ a.x) (orient_at b c p) (omega (arith, ordered, wide)) more in omega (arith, ordered, t, e, k, l))) (λ not. not),
@@ -120,11 +118,6 @@ module _ (v a b w : Point) where
       by_lt_z o (pos 0)
       (λ less. absurd (let s = both_below l o hl less in let t = times_negative k q (omega (arith, ordered, hk)) hq in let e = ap (λ y. z *ℤ y) flat ∙ *ℤ-zero z in omega (arith, ordered, is, s, t, e)))
       (λ not. omega (arith, ordered, ho, not))
-    where
-      both_below : (x y : ℤ) → x <ℤ pos 0 → y <ℤ pos 0 → pos 0 <ℤ (x *ℤ y)
-      both_below x y hx hy =
-          by_lt_z (pos 0) (x *ℤ y) (λ more. more)
-          (λ not. absurd (let t = below_times x (pos 0 -ℤ y) hx (omega (arith, ordered, hy)) in let e = apart x (pos 0) y in let z = *ℤ-zero x in omega (arith, ordered, t, e, z, not)))
 
   pub all_level : IsRightOf v a → IsRightOf b v → orient2d_of v a b ≡ pos 0 → orient2d_of v a w ≤ℤ pos 0 → orient2d_of v b w ≤ℤ pos 0 → orient2d_of v a w ≡ pos 0
   all_level (inl far) (inl near) flat not_a not_b =
@@ -173,7 +166,7 @@ module _ (v a b w : Point) where
     where
       both_less : (x y : ℤ) → x <ℤ pos 0 → y <ℤ pos 0 → (x *ℤ y) ≤ℤ pos 0 → ⊥
       both_less x y hx hy not =
-          let t = below_times x (pos 0 -ℤ y) hx (omega (arith, ordered, hy)) in let e = apart x (pos 0) y in let z = *ℤ-zero x in omega (arith, ordered, t, e, z, not)
+          let t = below_times x (pos 0 -ℤ y) hx (omega (arith, ordered, hy)) in let e = mul_sub x (pos 0) y in let z = *ℤ-zero x in omega (arith, ordered, t, e, z, not)
   none_left to_a (inl far) turn not_a not_b (inr down) =
       let t = times_below (b.x -ℤ v.x) (w.y -ℤ v.y) (omega (arith, ordered, far)) (let d = down.1 in omega (arith, ordered, d)) in
       let z = ap (λ k. (b.y -ℤ v.y) *ℤ k) (none v.x w.x (sym down.0)) ∙ *ℤ-zero (b.y -ℤ v.y) in

@@ -1,8 +1,7 @@
 -- What follows from the conditions of a Delaunay triangulation, told by the numbers of its vertices and faces.
-use Rattle.std.proofs.Common.{◌≡◌, ◌≢◌, ◌⊎◌, inl, inr, ℕ, zero, suc, ◌<◌, List, [], ◌∷◌, map, refl, sym, ap, ◌∙◌, subst, pos, ◌≤ℤ◌, eq-zero-or-pos, arith}
+use Rattle.std.proofs.Common.{◌≡◌, ◌≢◌, ◌⊎◌, inl, inr, ℕ, zero, suc, ◌<◌, List, [], ◌∷◌, map, refl, sym, ◌∙◌, subst, pos, ◌≤ℤ◌, eq-zero-or-pos, arith}
 use Rattle.std.proofs.lemmas.Bool.{cases_eq, cases_lt}
 use Rattle.std.proofs.lemmas.Int.{by_lt_z}
-use Rattle.std.proofs.lemmas.List.{map-append}
 use Rattle.dcel_predicates.specs.Determinants.{incircle_of, orient2d_of}
 use Rattle.dcel_predicates.specs.declared.point.Point.{Point}
 use Rattle.dcel_predicates.proofs.Convex.{incircle-turned}
@@ -13,7 +12,7 @@ use Rattle.dcel_maps.specs.Words.{TurnsTo, word_of}
 use Rattle.dcel_maps.proofs.Liveness.{is_live-past}
 use Rattle.dcel_maps.proofs.words.Turns.{length-turn, turns_to_itself}
 use Rattle.dcel_plane.proofs.edits.Corners.{turned_along}
-use Rattle.dcel_plane.specs.covering.Covering.{Covers, apart_along}
+use Rattle.dcel_plane.specs.covering.Covering.{Covers, CoversHull, dot}
 use Rattle.dcel_plane.specs.covering.Delaunay.{HasCorners, IsCovered, IsDelaunayTriangulation, LiesInHull}
 use Rattle.dcel_plane.specs.covering.Places.{AreDisjoint, IsIn, Place, orient_at}
 use Rattle.dcel_plane.proofs.covering.Apart.{mesh_apart}
@@ -23,6 +22,7 @@ use Rattle.dcel_plane.proofs.covering.Overlaps.{disjoint_triangles}
 use Rattle.dcel_plane.proofs.covering.Reaching.{covers_hull}
 use Rattle.dcel_plane.proofs.covering.Starts.{by_starts, inner_half}
 use Rattle.dcel_plane.proofs.covering.Triangles.{word_at}
+use Rattle.dcel_maps.proofs.shapes.Chains.{turn-map}
 
 -- the numbers below n are searched for one that passes a test
 pub searched : (P : ℕ → Type 0) → ((i : ℕ) → P i ⊎ (P i → ⊥)) → (n : ℕ) → ((i : ℕ) × P i) ⊎ ((i : ℕ) → i < n → P i → ⊥)
@@ -43,8 +43,57 @@ in_or_out a b c p =
     (λ second. by_lt_z (orient_at c a p) (pos 0) (λ out. inr (λ lies. let i = lies.2 in omega (arith, ordered, i, out)))
     (λ third. inl (first, second, third))))
 
-mapped-turn : (f : ℕ → ℕ) {w u : List ℕ} → TurnsTo w u → TurnsTo (map f w) (map f u)
-mapped-turn f t = record { front = map f t.front; back = map f t.back; was = ap (map f) t.was ∙ map-append f t.front t.back; is = ap (map f) t.is ∙ map-append f t.back t.front }
+-- where it can't be that a place of the hull lies in no face, a search over the faces finds one that covers it
+module _ {V DE UE F : Type 0} (m : Mesh V DE UE F) (mesh : IsMesh m) (at : ℕ → Point) (pl : Place) where
+  -- a word of three that has the place in it
+  abbrev Holds : List ℕ → Type 0
+  Holds (x ∷ y ∷ z ∷ []) = IsIn (at (origin_of m.shape x)) (at (origin_of m.shape y)) (at (origin_of m.shape z)) pl
+  Holds _ = ⊥
+
+  holds_or_not : (w : List ℕ) → Holds w ⊎ (Holds w → ⊥)
+  holds_or_not [] = inr (λ no. no)
+  holds_or_not (x ∷ []) = inr (λ no. no)
+  holds_or_not (x ∷ y ∷ []) = inr (λ no. no)
+  holds_or_not (x ∷ y ∷ z ∷ []) = in_or_out (at (origin_of m.shape x)) (at (origin_of m.shape y)) (at (origin_of m.shape z)) pl
+  holds_or_not (x ∷ y ∷ z ∷ k ∷ w) = inr (λ no. no)
+
+  abbrev Covering : ℕ → Type 0
+  Covering f = (0 < f) × Holds (word_of m.shape.words f)
+
+  covering_or_not : (f : ℕ) → Covering f ⊎ (Covering f → ⊥)
+  covering_or_not f = elim (eq-zero-or-pos f) [
+    | inl outer ↦ inr (λ covering. let inner = covering.0 in omega (arith, inner, outer))
+    | inr inner ↦ elim (holds_or_not (word_of m.shape.words f)) [ inl holds ↦ inl (inner, holds) | inr not ↦ inr (λ covering. not covering.1) ]
+  ]
+
+  covered_by : (f : ℕ) → 0 < f → (w : List ℕ) → word_of m.shape.words f ≡ w → Holds w → IsCovered at m.shape pl
+  covered_by f inner [] is holds = absurd holds
+  covered_by f inner (x ∷ []) is holds = absurd holds
+  covered_by f inner (x ∷ y ∷ []) is holds = absurd holds
+  covered_by f inner (x ∷ y ∷ z ∷ []) is holds = record {
+    face = f;
+    a = origin_of m.shape x;
+    b = origin_of m.shape y;
+    c = origin_of m.shape z;
+    corners = record {
+      inner = inner;
+      starts = subst (λ (w : List ℕ). TurnsTo (map (origin_of m.shape) w) (origin_of m.shape x ∷ origin_of m.shape y ∷ origin_of m.shape z ∷ [])) (sym is) (turns_to_itself (origin_of m.shape x ∷ origin_of m.shape y ∷ origin_of m.shape z ∷ []));
+    };
+    lies = holds;
+  }
+  covered_by f inner (x ∷ y ∷ z ∷ k ∷ w) is holds = absurd holds
+
+  pub covered_in : CoversHull at m.shape → (h : ℕ) × IsLive m.shape h × (0 < face_of m.shape h) → LiesInHull at m.shape pl → IsCovered at m.shape pl
+  covered_in covers half within = elim (searched Covering covering_or_not (face_count m.shape)) [
+    | inl found ↦ covered_by found.0 found.1.0 (word_of m.shape.words found.0) refl found.1.1
+    | inr none ↦
+        absurd
+        (covers.covered pl half.0 half.1 half.2 within
+        (λ f x y z inner is lies. elim (cases_lt f (face_count m.shape)) [
+          | inl below ↦ none f below (inner, subst Holds (sym is) lies)
+          | inr past ↦ subst Holds (sym is ∙ mesh.sound.bare f (is_live-past (gives_up_face m.shape.removal) (face_count m.shape) f past)) lies
+        ]))
+  ]
 
 -- a face by its corners
 module _ (s : Shape) (f a b c : ℕ) (corners : HasCorners s f a b c) where
@@ -119,58 +168,8 @@ module _ {V DE UE F : Type 0} (m : Mesh V DE UE F) (mesh : IsMesh m) (at : ℕ �
         ]
       ]) v below)
 
-  module _ (pl : Place) where
-    -- a word of three that has the place in it
-    abbrev Holds : List ℕ → Type 0
-    Holds (x ∷ y ∷ z ∷ []) = IsIn (p x) (p y) (p z) pl
-    Holds _ = ⊥
-
-    holds_or_not : (w : List ℕ) → Holds w ⊎ (Holds w → ⊥)
-    holds_or_not [] = inr (λ no. no)
-    holds_or_not (x ∷ []) = inr (λ no. no)
-    holds_or_not (x ∷ y ∷ []) = inr (λ no. no)
-    holds_or_not (x ∷ y ∷ z ∷ []) = in_or_out (p x) (p y) (p z) pl
-    holds_or_not (x ∷ y ∷ z ∷ k ∷ w) = inr (λ no. no)
-
-    abbrev Covering : ℕ → Type 0
-    Covering f = (0 < f) × Holds (word_of s.words f)
-
-    covering_or_not : (f : ℕ) → Covering f ⊎ (Covering f → ⊥)
-    covering_or_not f = elim (eq-zero-or-pos f) [
-      | inl outer ↦ inr (λ covering. let inner = covering.0 in omega (arith, inner, outer))
-      | inr inner ↦ elim (holds_or_not (word_of s.words f)) [ inl holds ↦ inl (inner, holds) | inr not ↦ inr (λ covering. not covering.1) ]
-    ]
-
-    covered_by : (f : ℕ) → 0 < f → (w : List ℕ) → word_of s.words f ≡ w → Holds w → IsCovered at s pl
-    covered_by f inner [] is holds = absurd holds
-    covered_by f inner (x ∷ []) is holds = absurd holds
-    covered_by f inner (x ∷ y ∷ []) is holds = absurd holds
-    covered_by f inner (x ∷ y ∷ z ∷ []) is holds = record {
-      face = f;
-      a = origin_of s x;
-      b = origin_of s y;
-      c = origin_of s z;
-      corners = record {
-        inner = inner;
-        starts = subst (λ (w : List ℕ). TurnsTo (map (origin_of s) w) (origin_of s x ∷ origin_of s y ∷ origin_of s z ∷ [])) (sym is) (turns_to_itself (origin_of s x ∷ origin_of s y ∷ origin_of s z ∷ []));
-      };
-      lies = holds;
-    }
-    covered_by f inner (x ∷ y ∷ z ∷ k ∷ w) is holds = absurd holds
-
-    -- a search over the faces finds one that covers the place
-    pub covered : LiesInHull at s pl → IsCovered at s pl
-    covered within = elim (searched Covering covering_or_not (face_count s)) [
-      | inl found ↦ covered_by found.0 found.1.0 (word_of s.words found.0) refl found.1.1
-      | inr none ↦
-          let half = inner_half m mesh known.closed known.inner in
-          absurd
-          ((covers_hull m mesh known.triangles at known.delaunay).covered pl half.0 half.1 half.2 within
-          (λ f x y z inner is lies. elim (cases_lt f (face_count s)) [
-            | inl below ↦ none f below (inner, subst Holds (sym is) lies)
-            | inr past ↦ subst Holds (sym is ∙ mesh.sound.bare f (is_live-past (gives_up_face s.removal) (face_count s) f past)) lies
-          ]))
-    ]
+  pub covered : (pl : Place) → LiesInHull at s pl → IsCovered at s pl
+  covered pl = covered_in m mesh at pl (covers_hull m mesh known.triangles at known.delaunay) (inner_half m mesh known.closed known.inner)
 
   -- each vertex is a corner of an inner face
   pub cornered : (v : ℕ) → v < s.vertices → (f : ℕ) × (b : ℕ) × (c : ℕ) × HasCorners s f v b c
@@ -188,7 +187,7 @@ module _ {V DE UE F : Type 0} (m : Mesh V DE UE F) (mesh : IsMesh m) (at : ℕ �
               inner = inner_i;
               starts =
                   subst (λ (v : ℕ). TurnsTo (map (origin_of s) (word_of s.words (face_of s i))) (v ∷ origin_of s (next_of s i) ∷ origin_of s (prev_of s i) ∷ [])) is
-                  (subst (λ (w : List ℕ). TurnsTo (map (origin_of s) w) (map (origin_of s) (i ∷ next_of s i ∷ prev_of s i ∷ []))) (sym word.is) (mapped-turn (origin_of s) word.turn));
+                  (subst (λ (w : List ℕ). TurnsTo (map (origin_of s) w) (map (origin_of s) (i ∷ next_of s i ∷ prev_of s i ∷ []))) (sym word.is) (turn-map (origin_of s) word.turn));
             },
           )
 
@@ -198,8 +197,8 @@ module _ {V DE UE F : Type 0} (m : Mesh V DE UE F) (mesh : IsMesh m) (at : ℕ �
       (λ h live_h. each_vertex (λ j. (p h).x ≡ (at j).x → (p h).y ≡ (at j).y → origin_of s h ≡ j) (λ k live_k. known.hull.distinct h k live_h live_k) w below_w) v below_v
 
   pub right : (h v : ℕ) → IsLive s h → face_of s h ≡ 0 → v < s.vertices → orient2d_of (p h) (at (end_of s h)) (at v) ≤ℤ pos 0
-  right h v live on = each_vertex (λ w. orient2d_of (p h) (at (end_of s h)) (at w) ≤ℤ pos 0) (λ k live_k. known.convex.right h k live on live_k) v
+  right h v live on = each_vertex (λ w. orient2d_of (p h) (at (end_of s h)) (at w) ≤ℤ pos 0) (λ k live_k. (known.convex.supports h k live on live_k).0) v
 
-  pub between : (h v : ℕ) → IsLive s h → face_of s h ≡ 0 → v < s.vertices → orient2d_of (p h) (at (end_of s h)) (at v) ≡ pos 0 → pos 0 ≤ℤ apart_along (p h) (at (end_of s h)) (at v)
+  pub between : (h v : ℕ) → IsLive s h → face_of s h ≡ 0 → v < s.vertices → orient2d_of (p h) (at (end_of s h)) (at v) ≡ pos 0 → pos 0 ≤ℤ dot (p h) (at (end_of s h)) (at v)
   between h v live on =
-      each_vertex (λ w. orient2d_of (p h) (at (end_of s h)) (at w) ≡ pos 0 → pos 0 ≤ℤ apart_along (p h) (at (end_of s h)) (at w)) (λ k live_k. known.convex.between h k live on live_k) v
+      each_vertex (λ w. orient2d_of (p h) (at (end_of s h)) (at w) ≡ pos 0 → pos 0 ≤ℤ dot (p h) (at (end_of s h)) (at w)) (λ k live_k. (known.convex.supports h k live on live_k).1) v

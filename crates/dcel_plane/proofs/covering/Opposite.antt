@@ -6,8 +6,8 @@ use Rattle.dcel_predicates.proofs.Ring.{by_terms, minus, num}
 use Rattle.dcel_predicates.proofs.Signs.{ordered}
 use Rattle.dcel_predicates.proofs.Terms.{Spot, Where, orient, orient_in, place, spot}
 use Rattle.dcel_maps.specs.Shapes.{Shape, origin_of}
-use Rattle.dcel_plane.specs.Plane.{IsPlane}
-use Rattle.dcel_plane.specs.covering.Covering.{IsConvex, IsHull, apart_along}
+use Rattle.dcel_plane.specs.Plane.{TrianglesTurnLeft}
+use Rattle.dcel_plane.specs.covering.Covering.{IsConvex, IsHull, dot}
 use Rattle.dcel_plane.proofs.covering.Along.{dot_in}
 use Rattle.dcel_plane.specs.covering.Places.{IsInside, Place, orient_at}
 use Rattle.dcel_plane.specs.covering.Round.{IsRightOf}
@@ -59,18 +59,21 @@ unfolding opposite
 left-opposite a b (inl less) = inl (omega (arith, ordered, less))
 left-opposite a b (inr up) = inr (let e = up.0 in omega (arith, ordered, e), let u = up.1 in omega (arith, ordered, u))
 
-pub plane-opposite : (at : ℕ → Point) (s : Shape) → IsPlane at s → IsPlane (λ v. opposite (at v)) s
+pub plane-opposite : (at : ℕ → Point) (s : Shape) → TrianglesTurnLeft at s → TrianglesTurnLeft (λ v. opposite (at v)) s
 plane-opposite at s plane = record { left = λ f x y z inner is. subst (λ z. pos 0 <ℤ z) (sym (orient-opposite _ _ _)) (plane.left f x y z inner is) }
 
-pub apart-opposite : (a b c : Point) → apart_along (opposite a) (opposite b) (opposite c) ≡ apart_along a b c
+pub apart-opposite : (a b c : Point) → dot (opposite a) (opposite b) (opposite c) ≡ dot a b c
 unfolding opposite
 apart-opposite a b c =
     by_terms (a.x ∷ a.y ∷ b.x ∷ b.y ∷ c.x ∷ c.y ∷ []) (dot_in (turned_spot (spot 0)) (turned_spot (spot 1)) (turned_spot (spot 2))) (dot_in (spot 0) (spot 1) (spot 2)) refl
 
 pub convex-opposite : (at : ℕ → Point) (s : Shape) → IsConvex at s → IsConvex (λ v. opposite (at v)) s
 convex-opposite at s convex = record {
-  right = λ h k live outer live_k. subst (λ z. z ≤ℤ pos 0) (sym (orient-opposite _ _ _)) (convex.right h k live outer live_k);
-  between = λ h k live outer live_k on. subst (λ z. pos 0 ≤ℤ z) (sym (apart-opposite _ _ _)) (convex.between h k live outer live_k (sym (orient-opposite _ _ _) ∙ on));
+  supports = λ h k live outer live_k.
+      let is = convex.supports h k live outer live_k in (
+        subst (λ z. z ≤ℤ pos 0) (sym (orient-opposite _ _ _)) is.0,
+        λ on. subst (λ z. pos 0 ≤ℤ z) (sym (apart-opposite _ _ _)) (is.1 (sym (orient-opposite _ _ _) ∙ on)),
+      );
 }
 
 same_opposite : (a b : Point) → (opposite a).x ≡ (opposite b).x → (opposite a).y ≡ (opposite b).y → (a.x ≡ b.x) × (a.y ≡ b.y)

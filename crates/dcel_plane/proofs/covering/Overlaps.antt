@@ -14,7 +14,7 @@ use Rattle.dcel_maps.proofs.maps.Soundness.{rev_live}
 use Rattle.dcel_maps.proofs.walks.Links.{links_stand}
 use Rattle.dcel_maps.proofs.words.Counts.{count-concat, count-le_occurs}
 use Rattle.dcel_maps.proofs.words.Reading.{face_in_word, live_in}
-use Rattle.dcel_plane.specs.Plane.{IsPlane}
+use Rattle.dcel_plane.specs.Plane.{TrianglesTurnLeft}
 use Rattle.dcel_plane.proofs.edits.Corners.{left_of_triangle, three_items}
 use Rattle.dcel_plane.specs.covering.Covering.{HasDisjointTriangles, IsConvex, IsHull}
 use Rattle.dcel_plane.specs.covering.Places.{IsInside, Place}
@@ -23,7 +23,7 @@ use Rattle.dcel_plane.proofs.covering.Hulls.{Bounds, one_start}
 use Rattle.dcel_plane.proofs.covering.Sums.{one_gains, sum-concat, sum-one, sum-some, sum-rev, sum_over, sum_words, two_gain}
 use Rattle.dcel_plane.proofs.covering.Triangles.{at_word, round}
 
-module _ {V DE UE F : Type 0} (m : Mesh V DE UE F) (mesh : IsMesh m) (triangles : AllTriangles m.shape) (at : ℕ → Point) (plane : IsPlane at m.shape)
+module _ {V DE UE F : Type 0} (m : Mesh V DE UE F) (mesh : IsMesh m) (triangles : AllTriangles m.shape) (at : ℕ → Point) (plane : TrianglesTurnLeft at m.shape)
     (pl : Place)
     (one_passes : (h k : ℕ) → IsLive m.shape h → IsLive m.shape k → face_of m.shape h ≡ 0 → face_of m.shape k ≡ 0
     → IsHit (at (origin_of m.shape h)) (at (origin_of m.shape (rev h))) pl → IsHit (at (origin_of m.shape k)) (at (origin_of m.shape (rev k))) pl → h ≡ k) where
@@ -188,9 +188,9 @@ module _ {V DE UE F : Type 0} (m : Mesh V DE UE F) (mesh : IsMesh m) (at : ℕ �
 
   outer_bounds : (h k : ℕ) → IsLive m.shape h → IsLive m.shape k → face_of m.shape h ≡ 0 → Bounds (o h) (o (rev h)) (o k) (o (rev k))
   outer_bounds h k live_h live_k outer = record {
-    start = convex.right h k live_h outer live_k;
-    end = convex.right h (rev k) live_h outer (rev_live (map_of m.shape) k live_k);
-    between = convex.between h k live_h outer live_k;
+    start = (convex.supports h k live_h outer live_k).0;
+    end = (convex.supports h (rev k) live_h outer (rev_live (map_of m.shape) k live_k)).0;
+    between = (convex.supports h k live_h outer live_k).1;
   }
 
   hull_passes : (h k : ℕ) → IsLive m.shape h → IsLive m.shape k → face_of m.shape h ≡ 0 → face_of m.shape k ≡ 0
@@ -199,7 +199,7 @@ module _ {V DE UE F : Type 0} (m : Mesh V DE UE F) (mesh : IsMesh m) (at : ℕ �
       let start = one_start (o h) (o (rev h)) (o k) (o (rev k)) pl first second (outer_bounds h k live_h live_k on_h) (outer_bounds k h live_k live_h on_k) in
       hull.once h k live_h live_k on_h on_k (hull.distinct h k live_h live_k start.0 start.1)
 
-pub disjoint_triangles : {V DE UE F : Type 0} (m : Mesh V DE UE F) → IsMesh m → AllTriangles m.shape → (at : ℕ → Point) → IsPlane at m.shape
+pub disjoint_triangles : {V DE UE F : Type 0} (m : Mesh V DE UE F) → IsMesh m → AllTriangles m.shape → (at : ℕ → Point) → TrianglesTurnLeft at m.shape
     → IsConvex at m.shape → IsHull at m.shape → HasDisjointTriangles at m.shape
 disjoint_triangles m mesh triangles at plane convex hull = record {
   disjoint = λ f g x y z x' y' z' inner_f inner_g differ is_f is_g pl in_f in_g.

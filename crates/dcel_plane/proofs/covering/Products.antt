@@ -2,7 +2,7 @@
 use Rattle.std.proofs.Common.{◌≡◌, ℤ, pos, ◌+ℤ◌, ◌-ℤ◌, ◌*ℤ◌, ◌<ℤ◌, ◌≤ℤ◌, neg_ℤ, ap, ◌∙◌, arith}
 use Rattle.std.proofs.lemmas.Int.{by_lt_z}
 use Rattle.std.proofs.Math.IntN.{*ℤ_comm, *ℤ-zero}
-use Rattle.dcel_predicates.proofs.Integers.{mul_add, mul_sub, sub_mul}
+use Rattle.dcel_predicates.proofs.Integers.{mul_add, mul_sub, neg_mul, sub_mul}
 use Rattle.dcel_predicates.proofs.Signs.{ordered, times, times_negative, both_negative, times_positive, square}
 use borrow.Author.Differences.{same_in, product_is}
 
@@ -26,11 +26,23 @@ square_positive x less =
     (λ not. absurd (let n = times_below (pos 0 -ℤ x) x (omega (arith, ordered)) less in
     let e = sub_mul (pos 0) x x in let z = *ℤ_comm (pos 0) x in let o = *ℤ-zero x in omega (arith, ordered, e, z, o)))
 
+pub both_below : (x y : ℤ) → x <ℤ pos 0 → y <ℤ pos 0 → pos 0 <ℤ (x *ℤ y)
+both_below x y less less_y = let t = times_below (neg_ℤ x) y (omega (arith, ordered, less)) less_y in let e = neg_mul x y in omega (arith, ordered, t, e)
+
 pub below_times : (x y : ℤ) → x <ℤ pos 0 → pos 0 <ℤ y → (x *ℤ y) <ℤ pos 0
 below_times x y less more = let t = times_below y x more less in omega (arith, ordered, *ℤ_comm x y)
 
 pub positive_factor : (x y : ℤ) → pos 0 <ℤ y → pos 0 <ℤ (x *ℤ y) → pos 0 <ℤ x
 positive_factor x y more product = factor_positive y x more (omega (arith, ordered, *ℤ_comm x y))
+
+pub zero_factor : (x y : ℤ) → pos 0 <ℤ x → pos 0 ≤ℤ y → (x *ℤ y) ≤ℤ pos 0 → y ≡ pos 0
+zero_factor x y more not none =
+    by_lt_z (pos 0) y (λ is. absurd (let t = times_positive x y more is in omega (arith, ordered, t, none))) (λ least. omega (arith, ordered, least, not))
+
+pub factor_none : (x y : ℤ) → pos 0 <ℤ x → x *ℤ y ≡ pos 0 → y ≡ pos 0
+factor_none x y more zero =
+    by_lt_z (pos 0) y (λ above. absurd (let t = times_positive x y more above in omega (arith, ordered, t, zero)))
+    (λ not. by_lt_z y (pos 0) (λ below. absurd (let t = times_below x y more below in omega (arith, ordered, t, zero))) (λ nor. omega (arith, ordered, not, nor)))
 
 pub not_below_factor : (x y : ℤ) → pos 0 <ℤ y → pos 0 ≤ℤ (x *ℤ y) → pos 0 ≤ℤ x
 not_below_factor x y more product = factor_not_below y x more (omega (arith, ordered, *ℤ_comm x y))
@@ -39,6 +51,13 @@ pub square_zero : (x : ℤ) → (x *ℤ x) ≤ℤ pos 0 → x ≡ pos 0
 square_zero x none =
     by_lt_z x (pos 0) (λ less. absurd (let t = square_positive x less in omega (arith, ordered, t, none)))
     (λ not. by_lt_z (pos 0) x (λ more. absurd (let t = times_positive x x more more in omega (arith, ordered, t, none))) (λ nor. omega (arith, ordered, not, nor)))
+
+-- numbers that aren't above 0, and those that aren't below it either
+pub not_above : (x : ℤ) → ¬ (pos 0 <ℤ x) → x ≤ℤ pos 0
+not_above x not = by_lt_z (pos 0) x (λ is. absurd (not is)) (λ no. no)
+
+pub zero_of : (x : ℤ) → pos 0 ≤ℤ x → x ≤ℤ pos 0 → x ≡ pos 0
+zero_of x more less = omega (arith, ordered, more, less)
 
 -- a weighted sum
 pub sum_not_below : (t u k l m x y z : ℤ) → t *ℤ u ≡ ((k *ℤ x) +ℤ (l *ℤ y)) +ℤ (m *ℤ z) → pos 0 <ℤ u

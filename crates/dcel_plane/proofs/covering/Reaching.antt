@@ -14,9 +14,9 @@ use Rattle.dcel_maps.specs.Triangulations.{AllTriangles}
 use Rattle.dcel_maps.proofs.maps.Halves.{rev_or_same}
 use Rattle.dcel_maps.proofs.maps.Soundness.{rev_live}
 use Rattle.dcel_maps.proofs.walks.Links.{half-below}
-use Rattle.dcel_plane.specs.Plane.{IsDelaunay, IsInner}
+use Rattle.dcel_plane.specs.Plane.{IsInner, IsLocallyDelaunay}
 use Rattle.dcel_plane.specs.covering.Covering.{CoversHull}
-use Rattle.dcel_plane.specs.covering.Places.{IsIn, Place, incircle_at, lift_at, orient_at}
+use Rattle.dcel_plane.specs.covering.Places.{IsIn, Place, incircle_at, orient_at, squared_distance_at}
 use Rattle.dcel_plane.proofs.covering.Climbing.{climb}
 use Rattle.dcel_plane.proofs.covering.Inside.{other_way}
 use Rattle.dcel_plane.proofs.covering.Powers.{Side, area, most, side}
@@ -24,12 +24,12 @@ use Rattle.dcel_plane.proofs.covering.Towards.{IsBeyond, IsHigherAt, LeadsAt, al
 use Rattle.dcel_plane.proofs.covering.Triangles.{left_at, at_half, is_triangle, round}
 
 pub incircle_at-turned : (a b c : Point) (q : Place) → incircle_at b c a q ≡ incircle_at a b c q
-incircle_at-turned a b c q = sums (lift_at a q *ℤ orient_at b c q) (lift_at b q *ℤ orient_at c a q) (lift_at c q *ℤ orient_at a b q)
+incircle_at-turned a b c q = sums (squared_distance_at a q *ℤ orient_at b c q) (squared_distance_at b q *ℤ orient_at c a q) (squared_distance_at c q *ℤ orient_at a b q)
   where
     sums : (u v w : ℤ) → v +ℤ w +ℤ u ≡ u +ℤ v +ℤ w
     sums u v w = omega (arith, ordered)
 
-module _ {V DE UE F : Type 0} (m : Mesh V DE UE F) (mesh : IsMesh m) (triangles : AllTriangles m.shape) (at : ℕ → Point) (delaunay : IsDelaunay at m.shape) where
+module _ {V DE UE F : Type 0} (m : Mesh V DE UE F) (mesh : IsMesh m) (triangles : AllTriangles m.shape) (at : ℕ → Point) (delaunay : IsLocallyDelaunay at m.shape) where
   abbrev s : Shape
   s = m.shape
 
@@ -186,7 +186,7 @@ module _ {V DE UE F : Type 0} (m : Mesh V DE UE F) (mesh : IsMesh m) (triangles 
           ) holds
 
 -- each place that no edge of the hull has on its left lies in an inner triangle, or on its border, if there is one
-pub covers_hull : {V DE UE F : Type 0} (m : Mesh V DE UE F) → IsMesh m → AllTriangles m.shape → (at : ℕ → Point) → IsDelaunay at m.shape → CoversHull at m.shape
+pub covers_hull : {V DE UE F : Type 0} (m : Mesh V DE UE F) → IsMesh m → AllTriangles m.shape → (at : ℕ → Point) → IsLocallyDelaunay at m.shape → CoversHull at m.shape
 covers_hull m mesh triangles at delaunay = record {
   covered = λ pl h live inner within none.
       let s = m.shape in

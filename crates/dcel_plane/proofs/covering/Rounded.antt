@@ -11,11 +11,11 @@ use Rattle.dcel_predicates.proofs.Signs.{both_negative, ordered, square, times, 
 use Rattle.dcel_maps.specs.Shapes.{IsLive, IsMesh, Mesh, Shape, face_of, map_of, next_of, origin_of, prev_of}
 use Rattle.dcel_maps.specs.Triangulations.{AllTriangles}
 use Rattle.dcel_maps.proofs.maps.Soundness.{rev_live}
-use Rattle.dcel_plane.specs.Plane.{IsPlane}
-use Rattle.dcel_plane.specs.covering.Covering.{IsConvex, IsHull, apart_along}
+use Rattle.dcel_plane.specs.Plane.{TrianglesTurnLeft}
+use Rattle.dcel_plane.specs.covering.Covering.{IsConvex, IsHull, dot}
 use Rattle.dcel_plane.specs.covering.Places.{IsIn, IsInside, Place, orient_at}
 use Rattle.dcel_plane.specs.covering.Round.{GoesRound, IsRightOf, LeadsLeft, LeadsRight}
-use Rattle.dcel_plane.proofs.covering.Along.{by_place, dot, dot_start, first_weight, long, no_height, none_first, one_point, second_weight}
+use Rattle.dcel_plane.proofs.covering.Along.{by_place, dot_start, first_weight, long, no_height, none_first, one_point, second_weight}
 use Rattle.dcel_plane.proofs.covering.Cones.{nothing}
 use Rattle.dcel_plane.proofs.covering.Inside.{as_covered, as_place, closed_disjoint, left, middle, middle_inside, near_place, nudged, nudged-is, on_end, on_start, place_of, same_place}
 use Rattle.dcel_plane.proofs.covering.Leading.{all_level, one_spot, right_or_not}
@@ -77,7 +77,7 @@ module _ (a b c x y z : Point) (ex : a.x ≡ x.x) (ey : a.y ≡ x.y) (turn : pos
         );
       }
 
-module _ {V DE UE F : Type 0} (m : Mesh V DE UE F) (mesh : IsMesh m) (triangles : AllTriangles m.shape) (at : ℕ → Point) (plane : IsPlane at m.shape) (goes : GoesRound at m.shape) where
+module _ {V DE UE F : Type 0} (m : Mesh V DE UE F) (mesh : IsMesh m) (triangles : AllTriangles m.shape) (at : ℕ → Point) (plane : TrianglesTurnLeft at m.shape) (goes : GoesRound at m.shape) where
   abbrev s : Shape
   s = m.shape
 
@@ -173,7 +173,7 @@ module _ {V DE UE F : Type 0} (m : Mesh V DE UE F) (mesh : IsMesh m) (triangles 
           ]
 
   -- none lies between the ends of an outer half edge
-  module _ (h k : ℕ) (live : IsLive s h) (outer : face_of s h ≡ 0) (live_k : IsLive s k) (on : orient2d_of (p h) (p (rev h)) (p k) ≡ pos 0) (amid : apart_along (p h) (p (rev h)) (p k) <ℤ pos 0) where
+  module _ (h k : ℕ) (live : IsLive s h) (outer : face_of s h ≡ 0) (live_k : IsLive s k) (on : orient2d_of (p h) (p (rev h)) (p k) ≡ pos 0) (amid : dot (p h) (p (rev h)) (p k) <ℤ pos 0) where
     abbrev r : ℕ
     r = rev h
 
@@ -328,9 +328,10 @@ module _ {V DE UE F : Type 0} (m : Mesh V DE UE F) (mesh : IsMesh m) (triangles 
 
   pub round_convex : IsConvex at s
   round_convex = record {
-    right = right;
-    between = λ h k live outer live_k on.
-        by_lt_z (apart_along (p h) (p (rev h)) (p k)) (pos 0) (λ amid. absurd (none_between h k live outer live_k on amid)) (λ not. not);
+    supports = λ h k live outer live_k. (
+      right h k live outer live_k,
+      λ on. by_lt_z (dot (p h) (p (rev h)) (p k)) (pos 0) (λ amid. absurd (none_between h k live outer live_k on amid)) (λ not. not),
+    );
   }
 
   pub round_hull : IsHull at s

@@ -11,7 +11,7 @@ use Rattle.dcel_maps.specs.Triangulations.{AllTriangles}
 use Rattle.dcel_maps.specs.theory.Sound.{Sound}
 use Rattle.dcel_maps.proofs.maps.Soundness.{face_prev, rev_live}
 use Rattle.dcel_maps.proofs.shapes.Maps.{map-sound}
-use Rattle.dcel_plane.specs.Plane.{IsPlane}
+use Rattle.dcel_plane.specs.Plane.{TrianglesTurnLeft}
 use Rattle.dcel_plane.specs.covering.Covering.{IsConvex, IsHull}
 use Rattle.dcel_plane.specs.covering.Round.{Begins, GoesRound, IsRightOf, LeadsLeft, LeadsRight}
 use Rattle.dcel_plane.proofs.covering.Along.{one_point}
@@ -27,7 +27,7 @@ module _ {V DE UE F : Type 0} (m : Mesh V DE UE F) (mesh : IsMesh m) (triangles 
   sound : Sound (map_of s)
   sound = map-sound mesh.sound
 
-  module _ (at : ℕ → Point) (plane : IsPlane at s) (convex : IsConvex at s) (hull : IsHull at s) where
+  module _ (at : ℕ → Point) (plane : TrianglesTurnLeft at s) (convex : IsConvex at s) (hull : IsHull at s) where
     abbrev p : ℕ → Point
     p h = at (origin_of s h)
 
@@ -52,7 +52,7 @@ module _ {V DE UE F : Type 0} (m : Mesh V DE UE F) (mesh : IsMesh m) (triangles 
         let meets : p (rev l) ≡ v = ap at (sym (mesh.sound.joined l live_l) ∙ ap (origin_of s) (sound.next-prev h live)) in
         let right_l : (k : ℕ) → IsLive s k → pos 0 ≤ℤ orient2d_of v b (p k) =
         λ k live_k.
-        let o = subst (λ (q : Point). orient2d_of b q (p k) ≤ℤ pos 0) meets (convex.right l k live_l outer_l live_k) in
+        let o = subst (λ (q : Point). orient2d_of b q (p k) ≤ℤ pos 0) meets (convex.supports l k live_l outer_l live_k).0 in
         let e = orient2d-first_swapped b v (p k) in
         omega (arith, ordered, o, e) in
         let to_b : IsRightOf v b =
@@ -64,18 +64,18 @@ module _ {V DE UE F : Type 0} (m : Mesh V DE UE F) (mesh : IsMesh m) (triangles 
               mesh.sound.two_ends l live_l (sym (hull.distinct (rev l) l (rev_live (map_of s) l live_l) live_l
               (ap (λ (q : Point). q.x) meets ∙ same.0) (ap (λ (q : Point). q.y) meets ∙ same.1))))
         ] in
-        let turn : orient2d_of v a b ≤ℤ pos 0 = convex.right h l live begins.outer live_l in
+        let turn : orient2d_of v a b ≤ℤ pos 0 = (convex.supports h l live begins.outer live_l).0 in
         by_lt_z (orient2d_of v a b) (pos 0)
-        (λ strict. none_left v a b (p w) begins.there to_b strict (convex.right h w live begins.outer live_w) (right_l w live_w))
+        (λ strict. none_left v a b (p w) begins.there to_b strict (convex.supports h w live begins.outer live_w).0 (right_l w live_w))
         (λ not. absurd (not_flat h live (λ k live_k.
-        all_straight v a b (p k) begins.there to_b (omega (arith, ordered, turn, not)) (convex.right h k live begins.outer live_k) (right_l k live_k))))
+        all_straight v a b (p k) begins.there to_b (omega (arith, ordered, turn, not)) (convex.supports h k live begins.outer live_k).0 (right_l k live_k))))
 
     begins_once : (h k : ℕ) → Begins (LeadsRight at s) s h → Begins (LeadsRight at s) s k → h ≡ k
     begins_once h k one other =
         let same = one_spot (p h) (p k) (leftmost k other h one.live) (leftmost h one k other.live) in
         hull.once h k one.live other.live one.outer other.outer (hull.distinct h k one.live other.live same.0 same.1)
 
-  module _ (at : ℕ → Point) (plane : IsPlane at s) (convex : IsConvex at s) (hull : IsHull at s) where
+  module _ (at : ℕ → Point) (plane : TrianglesTurnLeft at s) (convex : IsConvex at s) (hull : IsHull at s) where
     begins-opposite : (h : ℕ) → Begins (LeadsLeft at s) s h → Begins (LeadsRight (λ v. opposite (at v)) s) s h
     begins-opposite h begins = record {
       live = begins.live;
@@ -90,7 +90,7 @@ module _ {V DE UE F : Type 0} (m : Mesh V DE UE F) (mesh : IsMesh m) (triangles 
         | inr inner ↦ inner
         | inl outer_too ↦ absurd (not_bare m mesh triangles at plane convex hull h t live outer outer_too live_t inner_t)
       ];
-      turns = λ h live outer. convex.right h (rev (next_of s h)) live outer (rev_live (map_of s) (next_of s h) (sound.live_next h live));
+      turns = λ h live outer. (convex.supports h (rev (next_of s h)) live outer (rev_live (map_of s) (next_of s h) (sound.live_next h live))).0;
       right = begins_once at plane convex hull;
       left = λ h k one other.
           begins_once (λ v. opposite (at v)) (plane-opposite at s plane) (convex-opposite at s convex) (hull-opposite at s hull) h k (begins-opposite h one) (begins-opposite k other);

@@ -10,7 +10,7 @@ use Rattle.dcel_maps.specs.Shapes.{IsLive, IsMesh, Mesh, Shape, face_of, map_of,
 use Rattle.dcel_maps.specs.Triangulations.{AllTriangles}
 use Rattle.dcel_maps.specs.Words.{word_of}
 use Rattle.dcel_maps.proofs.maps.Soundness.{rev_live}
-use Rattle.dcel_plane.specs.Plane.{IsPlane}
+use Rattle.dcel_plane.specs.Plane.{TrianglesTurnLeft}
 use Rattle.dcel_plane.specs.covering.Covering.{HasDisjointTriangles}
 use Rattle.dcel_plane.specs.covering.Places.{IsInside, Place, orient_at}
 use Rattle.dcel_plane.specs.covering.Round.{Begins, GoesRound, LeadsLeft, LeadsRight}
@@ -30,7 +30,7 @@ module _ {V DE UE F : Type 0} (m : Mesh V DE UE F) (mesh : IsMesh m) (triangles 
   s = m.shape
 
   -- nor one that leads to the right
-  right_below : (at : ℕ → Point) → IsPlane at s
+  right_below : (at : ℕ → Point) → TrianglesTurnLeft at s
       → ((h : ℕ) → IsLive s h → face_of s h ≡ 0 → orient2d_of (at (origin_of s h)) (at (origin_of s (rev h))) (at (origin_of s (rev (next_of s h)))) ≤ℤ pos 0)
       → ((h k : ℕ) → Begins (LeadsRight at s) s h → Begins (LeadsRight at s) s k → h ≡ k)
       → (pl : Place) (f x y z : ℕ) → 0 < f → word_of s.words f ≡ x ∷ y ∷ z ∷ [] → IsInside (at (origin_of s x)) (at (origin_of s y)) (at (origin_of s z)) pl
@@ -39,7 +39,7 @@ module _ {V DE UE F : Type 0} (m : Mesh V DE UE F) (mesh : IsMesh m) (triangles 
       let above = some_above m mesh triangles at plane pl (one_passes m mesh at turns right pl) f x y z inner is inside in
       below_chain m mesh at turns right pl above.h h above.live above.outer above.hits record { live = live; outer = outer; there = leads }
 
-  module _ (at : ℕ → Point) (plane : IsPlane at s) (goes : GoesRound at s) where
+  module _ (at : ℕ → Point) (plane : TrianglesTurnLeft at s) (goes : GoesRound at s) where
     abbrev p : ℕ → Point
     p h = at (origin_of s h)
 

@@ -52,6 +52,31 @@ pub record IsBeyond (p : Place) (s : Side) : Type 0 where
 abbrev pub LeadsAt : Place → Side → Side → Type 0
 LeadsAt p s t = IsBeyond p t × IsHigherAt p s t
 
+-- the power on the other side of a side: it doesn't fall, and rises where the far corner is strictly outside of the circle
+module _ (a b c d : Point) (p : Place) (near : IsBeyond p (side a b c)) where
+  beyond : pos 0 <ℤ orient_at b a p
+  beyond = let e = other_way a b p in let h = near.beyond in omega (arith, ordered, e, h)
+
+  square_above : pos 0 <ℤ (p.w *ℤ p.w)
+  square_above = times_positive p.w p.w p.above p.above
+
+  compare : (x y z : ℤ) → x ≡ y -ℤ z → z ≤ℤ pos 0 → y ≤ℤ x
+  compare x y z is less = omega (arith, ordered, is, less)
+
+  compare_less : (x y z : ℤ) → x ≡ y -ℤ z → z <ℤ pos 0 → y <ℤ x
+  compare_less x y z is less = omega (arith, ordered, is, less)
+
+  pub stays_over : incircle_of a b c d ≤ℤ pos 0 → (incircle_at a b c p *ℤ orient2d_of b a d) ≤ℤ (incircle_at b a d p *ℤ orient2d_of a b c)
+  stays_over outside =
+      compare (incircle_at b a d p *ℤ orient2d_of a b c) (incircle_at a b c p *ℤ orient2d_of b a d) ((p.w *ℤ p.w) *ℤ (incircle_of a b c d *ℤ orient_at b a p)) (crossing_at a b c d p)
+      (times_negative (p.w *ℤ p.w) (incircle_of a b c d *ℤ orient_at b a p) (let e = square_above in omega (arith, ordered, e))
+      (negative_times (incircle_of a b c d) (orient_at b a p) outside (let e = beyond in omega (arith, ordered, e))))
+
+  pub rises_over : incircle_of a b c d <ℤ pos 0 → (incircle_at a b c p *ℤ orient2d_of b a d) <ℤ (incircle_at b a d p *ℤ orient2d_of a b c)
+  rises_over less =
+      compare_less (incircle_at b a d p *ℤ orient2d_of a b c) (incircle_at a b c p *ℤ orient2d_of b a d) ((p.w *ℤ p.w) *ℤ (incircle_of a b c d *ℤ orient_at b a p)) (crossing_at a b c d p)
+      (times_below (p.w *ℤ p.w) (incircle_of a b c d *ℤ orient_at b a p) square_above (below_times (incircle_of a b c d) (orient_at b a p) less beyond))
+
 module _ (a b c d : Point) (p : Place) where
   after_power : incircle_at a d b p ≡ incircle_at b a d p
   after_power =
@@ -62,17 +87,11 @@ module _ (a b c d : Point) (p : Place) where
       by_terms (a.x ∷ a.y ∷ b.x ∷ b.y ∷ d.x ∷ d.y ∷ p.x ∷ p.y ∷ p.w ∷ []) (incircle_in (spot 2) (spot 1) (spot 0) (place 6)) (incircle_in (spot 1) (spot 0) (spot 2) (place 6)) refl
 
   module _ (near : IsBeyond p (side a b c)) (far : pos 0 <ℤ orient2d_of b a d) (outside : incircle_of a b c d ≤ℤ pos 0) where
-    beyond : pos 0 <ℤ orient_at b a p
-    beyond = let e = other_way a b p in let h = near.beyond in omega (arith, ordered, e, h)
-
-    square_above : pos 0 <ℤ (p.w *ℤ p.w)
-    square_above = times_positive p.w p.w p.above p.above
-
     higher : (t : Side) → area t ≡ orient2d_of b a d → power_at p t ≡ incircle_at b a d p → (incircle_of a b c d ≡ pos 0 → IsSmaller (side a b c) t)
         → IsHigherAt p (side a b c) t
     higher t same_area same_power smaller = record {
-      stays = moved same_area same_power stays;
-      rises = by_lt_z (incircle_of a b c d) (pos 0) (λ less. inl (moved_less same_area same_power (rises less))) (λ not. inr (smaller (omega (arith, ordered, not, outside))));
+      stays = moved same_area same_power (stays_over a b c d p near outside);
+      rises = by_lt_z (incircle_of a b c d) (pos 0) (λ less. inl (moved_less same_area same_power (rises_over a b c d p near less))) (λ not. inr (smaller (omega (arith, ordered, not, outside))));
     }
       where
         moved : {k l : ℤ} → k ≡ orient2d_of b a d → l ≡ incircle_at b a d p → (incircle_at a b c p *ℤ orient2d_of b a d) ≤ℤ (incircle_at b a d p *ℤ orient2d_of a b c)
@@ -82,26 +101,6 @@ module _ (a b c d : Point) (p : Place) where
         moved_less : {k l : ℤ} → k ≡ orient2d_of b a d → l ≡ incircle_at b a d p → (incircle_at a b c p *ℤ orient2d_of b a d) <ℤ (incircle_at b a d p *ℤ orient2d_of a b c)
             → (incircle_at a b c p *ℤ k) <ℤ (l *ℤ orient2d_of a b c)
         moved_less {k} {l} ek el h = subst (λ z. (incircle_at a b c p *ℤ z) <ℤ (l *ℤ orient2d_of a b c)) (sym ek) (subst (λ z. (incircle_at a b c p *ℤ orient2d_of b a d) <ℤ (z *ℤ orient2d_of a b c)) (sym el) h)
-
-        compare : (x y z : ℤ) → x ≡ y -ℤ z → z ≤ℤ pos 0 → y ≤ℤ x
-        compare x y z is less = omega (arith, ordered, is, less)
-
-        compare_less : (x y z : ℤ) → x ≡ y -ℤ z → z <ℤ pos 0 → y <ℤ x
-        compare_less x y z is less = omega (arith, ordered, is, less)
-
-        below_product : (x y : ℤ) → pos 0 <ℤ x → y ≤ℤ pos 0 → (x *ℤ y) ≤ℤ pos 0
-        below_product x y more less = times_negative x y (omega (arith, ordered, more)) less
-
-        stays : (incircle_at a b c p *ℤ orient2d_of b a d) ≤ℤ (incircle_at b a d p *ℤ orient2d_of a b c)
-        stays =
-            compare (incircle_at b a d p *ℤ orient2d_of a b c) (incircle_at a b c p *ℤ orient2d_of b a d) ((p.w *ℤ p.w) *ℤ (incircle_of a b c d *ℤ orient_at b a p)) (crossing_at a b c d p)
-            (below_product (p.w *ℤ p.w) (incircle_of a b c d *ℤ orient_at b a p) square_above
-            (negative_times (incircle_of a b c d) (orient_at b a p) outside (let e = beyond in omega (arith, ordered, e))))
-
-        rises : incircle_of a b c d <ℤ pos 0 → (incircle_at a b c p *ℤ orient2d_of b a d) <ℤ (incircle_at b a d p *ℤ orient2d_of a b c)
-        rises less =
-            compare_less (incircle_at b a d p *ℤ orient2d_of a b c) (incircle_at a b c p *ℤ orient2d_of b a d) ((p.w *ℤ p.w) *ℤ (incircle_of a b c d *ℤ orient_at b a p)) (crossing_at a b c d p)
-            (times_below (p.w *ℤ p.w) (incircle_of a b c d *ℤ orient_at b a p) square_above (below_times (incircle_of a b c d) (orient_at b a p) less beyond))
 
     d_in_cap : incircle_of a b c d ≡ pos 0 → InCap a b c d
     d_in_cap on = record {
@@ -138,16 +137,7 @@ module _ (a b c d : Point) (p : Place) where
     next_side_at =
         by_lt_z (orient_at a d p) (pos 0) (λ out. inl (over_after out))
         (λ in_after. by_lt_z (orient_at d b p) (pos 0) (λ out. inr (inl (over_before out)))
-        (λ in_before. inr (inr ((let e = beyond in omega (arith, ordered, e), in_after, in_before), there))))
-      where
-        there : (incircle_at a b c p *ℤ orient2d_of b a d) ≤ℤ (incircle_at b a d p *ℤ orient2d_of a b c)
-        there =
-            compare (incircle_at b a d p *ℤ orient2d_of a b c) (incircle_at a b c p *ℤ orient2d_of b a d) ((p.w *ℤ p.w) *ℤ (incircle_of a b c d *ℤ orient_at b a p)) (crossing_at a b c d p)
-            (times_negative (p.w *ℤ p.w) (incircle_of a b c d *ℤ orient_at b a p) (let e = square_above in omega (arith, ordered, e))
-            (negative_times (incircle_of a b c d) (orient_at b a p) outside (let e = beyond in omega (arith, ordered, e))))
-          where
-            compare : (x y z : ℤ) → x ≡ y -ℤ z → z ≤ℤ pos 0 → y ≤ℤ x
-            compare x y z is less = omega (arith, ordered, is, less)
+        (λ in_before. inr (inr ((let e = beyond a b c d p near in omega (arith, ordered, e), in_after, in_before), stays_over a b c d p near outside))))
 
 abbrev CrossesAt : (p : Place) (a b c d a' b' : Point) → Type 0
 CrossesAt p a b c d a' b' =

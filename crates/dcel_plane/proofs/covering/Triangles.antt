@@ -8,16 +8,16 @@ use Rattle.dcel_maps.specs.Shapes.{end_of, IsLive, IsMesh, Mesh, Shape, face_of,
 use Rattle.dcel_maps.specs.Triangulations.{AllTriangles}
 use Rattle.dcel_maps.specs.Words.{TurnsTo, count_of, word_of}
 use Rattle.dcel_maps.proofs.edits.Linking.{triangle_of}
-use Rattle.dcel_maps.proofs.maps.Triangles.{IsTriangleOf}
+use Rattle.dcel_maps.proofs.maps.Triangles.{IsTriangleOf, by_triangle, off_triangle}
 use Rattle.dcel_maps.proofs.shapes.Maps.{face-live, map-sound}
-use Rattle.dcel_maps.proofs.walks.Links.{links_stand}
+use Rattle.dcel_maps.proofs.walks.Links.{links_stand, prev-live}
 use Rattle.dcel_maps.proofs.words.Counts.{count-same}
 use Rattle.dcel_maps.proofs.words.Reading.{face_in_word, live_in}
 use Rattle.dcel_maps.proofs.words.Triangles.{triangle_written}
 use Rattle.dcel_maps.proofs.words.Turns.{from_least-turn, turns_back}
 use Rattle.dcel_plane.specs.covering.Covering.{HasDisjointTriangles}
 use Rattle.dcel_plane.specs.covering.Places.{AreDisjoint}
-use Rattle.dcel_plane.specs.Plane.{IsPlane, TurnsLeft}
+use Rattle.dcel_plane.specs.Plane.{TrianglesTurnLeft, TurnsLeft}
 use Rattle.dcel_plane.proofs.edits.Corners.{left_of_triangle, three_items, turned_along}
 
 -- a triangle, from its next half edge on
@@ -31,9 +31,20 @@ turned_triangle M f x y z tri = record {
   x≢z = λ is. tri.x≢y (sym is);
 }
 
+-- the half edge before another one ends where that starts
+pub ends_before : {V DE UE F : Type 0} (m : Mesh V DE UE F) → IsMesh m → (h : ℕ) → IsLive m.shape h → end_of m.shape (prev_of m.shape h) ≡ origin_of m.shape h
+ends_before m mesh h live =
+    sym (mesh.sound.joined (prev_of m.shape h) (prev-live mesh.sound h live)) ∙ ap (origin_of m.shape) ((map-sound mesh.sound).next-prev h live)
+
 -- its half edges start where the ones before end
 pub meets : {V DE UE F : Type 0} (m : Mesh V DE UE F) → IsMesh m → (f x y z : ℕ) → IsTriangleOf (map_of m.shape) f x y z → origin_of m.shape y ≡ end_of m.shape x
 meets m mesh f x y z tri = ap (origin_of m.shape) (sym tri.next_x) ∙ mesh.sound.joined x tri.live_x
+
+-- what holds of three half edges of a triangle holds of each
+pub of_face : {V DE UE F : Type 0} (m : Mesh V DE UE F) → IsMesh m → (f a b c : ℕ) → IsTriangleOf (map_of m.shape) f a b c → (Q : ℕ → Type 0) → Q a → Q b → Q c
+    → (k : ℕ) → IsLive m.shape k → face_of m.shape k ≡ f → Q k
+of_face m mesh f a b c tri Q at_a at_b at_c k live on =
+    by_triangle Q a b c k (at_a, at_b, at_c) (λ out. absurd (off_triangle (map_of m.shape) (map-sound mesh.sound) f a b c tri k live out on))
 
 module _ {V DE UE F : Type 0} (m : Mesh V DE UE F) (mesh : IsMesh m) (triangles : AllTriangles m.shape) where
   abbrev s : Shape
@@ -86,7 +97,7 @@ module _ {V DE UE F : Type 0} (m : Mesh V DE UE F) (mesh : IsMesh m) (triangles 
       turned_along P turn x (next_of s x) (prev_of s x) x y z (subst (λ (l : List ℕ). TurnsTo w l) (sym word) (from_least-turn w)) (holds x live inside)
 
   -- in the plane it goes round counterclockwise
-  pub left_at : (at : ℕ → Point) → IsPlane at s → (h : ℕ) → IsLive s h → 0 < face_of s h → TurnsLeft (at (origin_of s h)) (at (origin_of s (next_of s h))) (at (origin_of s (prev_of s h)))
+  pub left_at : (at : ℕ → Point) → TrianglesTurnLeft at s → (h : ℕ) → IsLive s h → 0 < face_of s h → TurnsLeft (at (origin_of s h)) (at (origin_of s (next_of s h))) (at (origin_of s (prev_of s h)))
   left_at at plane h live inner = left_of_triangle at s mesh.sound plane (face_of s h) h (next_of s h) (prev_of s h) inner (round h live inner)
 
   -- two half edges of one face

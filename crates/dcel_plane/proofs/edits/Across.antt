@@ -11,13 +11,13 @@ use Rattle.dcel_maps.specs.Shapes.{IsLive, IsMesh, Mesh, Shape, end_of, face_of,
 use Rattle.dcel_maps.proofs.maps.Soundness.{rev_live}
 use Rattle.dcel_maps.proofs.maps.Triangles.{IsTriangleOf, by_triangle, off_triangle}
 use Rattle.dcel_maps.proofs.shapes.Maps.{map-sound}
-use Rattle.dcel_plane.specs.Plane.{IsLeftOf, IsPlane, LiesAcross, TurnsLeft}
+use Rattle.dcel_plane.specs.Plane.{IsLeftOf, LiesAcross, TrianglesTurnLeft, TurnsLeft}
 use Rattle.dcel_plane.proofs.edits.Corners.{corners_are, left_of_triangle}
 use Rattle.dcel_plane.proofs.edits.Splits.{seen_after, seen_before, side_triangle}
 
 module _ {V DE UE F : Type 0} (m : Mesh V DE UE F) (mesh : IsMesh m) (at : ℕ → Point) (p : Point) (e : ℕ) (live : IsLive m.shape e)
     (triangle : IsTriangle m.shape (face_of m.shape e)) (facing : IsTriangle m.shape (face_of m.shape (rev e)))
-    (inner : 0 < face_of m.shape e) (inner_facing : 0 < face_of m.shape (rev e)) (plane : IsPlane at m.shape)
+    (inner : 0 < face_of m.shape e) (inner_facing : 0 < face_of m.shape (rev e)) (plane : TrianglesTurnLeft at m.shape)
     (on : orient2d_of (at (origin_of m.shape e)) (at (end_of m.shape e)) p ≡ pos 0) (across : LiesAcross at m.shape e p) where
   open (around m.shape e) use {t, f, g, before as ep, after as en, t_before as tp, t_after as tn, start, end}
 

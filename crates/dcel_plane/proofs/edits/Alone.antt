@@ -7,10 +7,10 @@ use Rattle.dcel_maps.specs.Shapes.{IsMesh, Mesh, Shape, face_count}
 use Rattle.dcel_maps.specs.Words.{word_of}
 use Rattle.dcel_maps.proofs.Liveness.{even_live}
 use Rattle.dcel_maps.proofs.shapes.Maps.{map-sound}
-use Rattle.dcel_plane.specs.Plane.{IsDelaunay, IsPlane, TurnsLeft}
+use Rattle.dcel_plane.specs.Plane.{IsLocallyDelaunay, TrianglesTurnLeft, TurnsLeft}
 use Rattle.dcel_plane.proofs.edits.Corners.{LeftOf, left_same}
 
-pub outer_alone_delaunay : {V DE UE F : Type 0} (at : ℕ → Point) (m : Mesh V DE UE F) → IsMesh m → face_count m.shape ≡ 1 → IsDelaunay at m.shape
+pub outer_alone_delaunay : {V DE UE F : Type 0} (at : ℕ → Point) (m : Mesh V DE UE F) → IsMesh m → face_count m.shape ≡ 1 → IsLocallyDelaunay at m.shape
 outer_alone_delaunay at m mesh one = record {
   plane = record {
     left = λ f x y z inner is.
@@ -31,9 +31,9 @@ module _ (at : ℕ → Point) (s : Shape) (words : s.words ≡ words_alone) (lef
   go (suc zero) x y z inner is = left_same at s 1 5 3 x y z is left
   go (suc (suc f)) x y z inner is = absurd (let long = ap length is in omega (arith, long))
 
-  so_written : IsPlane at s
+  so_written : TrianglesTurnLeft at s
   so_written = record { left = λ f x y z inner is. go f x y z inner (sym (ap (λ (l : List (List ℕ)). word_of l f) words) ∙ is) }
 
 pub alone_in_plane : {V DE UE F : Type 0} (at : ℕ → Point) (vertices : V × V × V) (halves : List DE) (edges : List UE) (faces : List F)
-    → TurnsLeft (at 1) (at 0) (at 2) → IsPlane at (triangle_alone vertices halves edges faces).shape
+    → TurnsLeft (at 1) (at 0) (at 2) → TrianglesTurnLeft at (triangle_alone vertices halves edges faces).shape
 alone_in_plane at vertices halves edges faces left = so_written at (triangle_alone vertices halves edges faces).shape refl left

@@ -11,7 +11,7 @@ use Rattle.dcel_maps.proofs.walks.Links.{links_stand}
 use Rattle.dcel_maps.proofs.words.Counts.{first_or_later}
 use Rattle.dcel_maps.proofs.words.Triangles.{triangle_written}
 use Rattle.dcel_maps.proofs.words.Turns.{count-turn, from_least-turn, length-turn, turns_back}
-use Rattle.dcel_plane.specs.Plane.{IsLeftOf, IsPlane, TurnsLeft}
+use Rattle.dcel_plane.specs.Plane.{IsLeftOf, TrianglesTurnLeft, TurnsLeft}
 
 -- what holds of three items from any of them on
 module _ (P : ℕ → ℕ → ℕ → Type 0) (turn : (x y z : ℕ) → P x y z → P y z x) where
@@ -87,7 +87,7 @@ module _ (at : ℕ → Point) where
         turned_along LeftOf turn_left x y z a b c (subst (λ (l : List ℕ). TurnsTo (x ∷ y ∷ z ∷ []) l) is (from_least-turn (x ∷ y ∷ z ∷ []))) left
 
     -- the triangles of a sound shape in the plane, from any half edge on
-    pub left_of_triangle : IsSound s → IsPlane at s → (f x y z : ℕ) → 0 < f → IsTriangleOf (map_of s) f x y z → LeftOf x y z
+    pub left_of_triangle : IsSound s → TrianglesTurnLeft at s → (f x y z : ℕ) → 0 < f → IsTriangleOf (map_of s) f x y z → LeftOf x y z
     left_of_triangle sound plane f x y z inner triangle =
         let written = triangle_written (map_of s) (map-sound sound) f x y z triangle s.words (links_stand sound) in
         let turn : TurnsTo (x ∷ y ∷ z ∷ []) (word_of s.words f) = subst (λ (l : List ℕ). TurnsTo (x ∷ y ∷ z ∷ []) l) (sym written) (from_least-turn (x ∷ y ∷ z ∷ [])) in

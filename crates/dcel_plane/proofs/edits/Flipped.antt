@@ -10,17 +10,18 @@ use Rattle.dcel_maps.specs.Conditions.{CanFlip}
 use Rattle.dcel_maps.specs.Cyclic.{from_least}
 use Rattle.dcel_maps.specs.edits.Flip.{edge_flipped}
 use Rattle.dcel_maps.specs.Shapes.{IsLive, IsMesh, Mesh, Shape, face_of, map_of, origin_of, prev_of}
-use Rattle.dcel_maps.specs.Words.{count_of}
+use Rattle.dcel_maps.specs.Words.{count_of, word_of}
 use Rattle.dcel_maps.proofs.edits.Around.{at_edge, known}
 use Rattle.dcel_maps.proofs.edits.Flips.{at_flip, flipped_mesh}
 use Rattle.dcel_maps.proofs.edits.Patches.{Patch, replacing}
 use Rattle.dcel_maps.proofs.maps.Halves.{turn_back}
 use Rattle.dcel_maps.proofs.maps.Triangles.{IsApart, triangles_apart}
 use Rattle.dcel_maps.proofs.walks.Links.{half-below}
-use Rattle.dcel_maps.proofs.words.EachSet.{first-two_set, second-two_set}
+use Rattle.dcel_maps.proofs.words.EachSet.{first-two_set, other-two_set, second-two_set}
 use Rattle.dcel_maps.proofs.words.Mapped.{count-at}
+use Rattle.dcel_maps.proofs.words.Reading.{face_in_word, live_in}
 use Rattle.dcel_plane.specs.Edges.{edges_of_flip}
-use Rattle.dcel_plane.specs.Plane.{IsCircled, IsInner, IsPlane, ListsCircled, TurnsLeft}
+use Rattle.dcel_plane.specs.Plane.{IsCircled, IsInner, ListsCircled, TrianglesTurnLeft, TurnsLeft, origin_point}
 use Rattle.dcel_plane.proofs.edits.Corners.{LeftOf, corners_are, left-from_least, left_of_triangle, of_least}
 use Rattle.dcel_plane.proofs.edits.Splits.{listed_as}
 use Rattle.dcel_plane.proofs.edits.Written.{IsWritten, origin_away, written_lists, written_plane}
@@ -33,7 +34,7 @@ module _ {V DE UE F : Type 0} (m : Mesh V DE UE F) (mesh : IsMesh m) (u : ℕ) (
   n = (edge_flipped m u).shape
 
   open (at_edge s u) use {e, t, f, g, ep, en, tp, tn}
-  open (known m mesh) use {sound}
+  open (known m mesh) use {sound, stands}
   open (at_flip m u mesh can) use {was, facing, differ}
 
   apart : IsApart e en ep t tn tp
@@ -72,6 +73,22 @@ module _ {V DE UE F : Type 0} (m : Mesh V DE UE F) (mesh : IsMesh m) (u : ℕ) (
   pub origin_same : (at : ℕ → Point) (h : ℕ) → IsLive s h → h ≢ e → h ≢ t → origin_of n h ≡ origin_of s h
   origin_same at h live not_e not_t = origin_away at s n words origins flip_written mesh.sound h live (not_e, (not_t, tt))
 
+  -- the words of the two faces, and of each other one
+  pub word_f : word_of n.words f ≡ from_least (e ∷ tp ∷ en ∷ [])
+  word_f = first-two_set s.words f g (from_least (e ∷ tp ∷ en ∷ [])) (from_least (t ∷ ep ∷ tn ∷ [])) [] differ (sound.below_faces e was.live_x)
+
+  pub word_g : word_of n.words g ≡ from_least (t ∷ ep ∷ tn ∷ [])
+  word_g = second-two_set s.words f g (from_least (e ∷ tp ∷ en ∷ [])) (from_least (t ∷ ep ∷ tn ∷ [])) [] (sound.below_faces t facing.live_x)
+
+  pub word_else : (i : ℕ) → i ≢ f → i ≢ g → word_of n.words i ≡ word_of s.words i
+  word_else i = other-two_set s.words f g (from_least (e ∷ tp ∷ en ∷ [])) (from_least (t ∷ ep ∷ tn ∷ [])) [] i
+
+  -- its half edges start where they did
+  pub starts_else : (i k : ℕ) → i ≢ f → i ≢ g → 0 < count_of k (word_of s.words i) → origin_of n k ≡ origin_of s k
+  starts_else i k not_f not_g found =
+      let on : face_of s k ≡ i = face_in_word (map_of s) s.words stands k i found in
+      origin_same (λ v. origin_point) k (live_in (map_of s) s.words stands k i found) (λ same. not_f (sym on ∙ ap (face_of s) same)) (λ same. not_g (sym on ∙ ap (face_of s) same))
+
   module _ (at : ℕ → Point) where
     abbrev start : Point
     start = at (origin_of s e)
@@ -86,13 +103,13 @@ module _ {V DE UE F : Type 0} (m : Mesh V DE UE F) (mesh : IsMesh m) (u : ℕ) (
     far = at (origin_of s tp)
 
     -- the two triangles before the flip
-    pub left_before : IsPlane at s → 0 < f → TurnsLeft start end near
+    pub left_before : TrianglesTurnLeft at s → 0 < f → TurnsLeft start end near
     left_before plane inner = corners_are at refl from_end refl (left_of_triangle at s mesh.sound plane f e en ep inner was)
 
-    pub right_before : IsPlane at s → 0 < g → TurnsLeft end start far
+    pub right_before : TrianglesTurnLeft at s → 0 < g → TurnsLeft end start far
     right_before plane inner = corners_are at refl from_start refl (left_of_triangle at s mesh.sound plane g t tn tp inner facing)
 
-    pub new_corners : IsPlane at s → 0 < f → 0 < g → IsCircled at s u → AreFlipped start end near far
+    pub new_corners : TrianglesTurnLeft at s → 0 < f → 0 < g → IsCircled at s u → AreFlipped start end near far
     new_corners plane f_inner g_inner circled = flipped start end near far (left_before plane f_inner) (right_before plane g_inner) circled
 
     -- the other half edges start where they did
@@ -115,7 +132,7 @@ module _ {V DE UE F : Type 0} (m : Mesh V DE UE F) (mesh : IsMesh m) (u : ℕ) (
     second_after : AreFlipped start end near far → LeftOf at n t ep tn
     second_after new = corners_are at (sym origin_t) (sym origin_near) (sym from_start ∙ sym origin_t_after) new.second
 
-    pub flip_plane : 0 < f → 0 < g → IsCircled at s u → IsPlane at s → IsPlane at n
+    pub flip_plane : 0 < f → 0 < g → IsCircled at s u → TrianglesTurnLeft at s → TrianglesTurnLeft at n
     flip_plane f_inner g_inner circled plane =
         let new = new_corners plane f_inner g_inner circled in
         written_plane at s n words origins flip_written mesh.sound plane (

@@ -12,7 +12,7 @@ use Rattle.dcel_maps.proofs.edits.Patches.{Patch, pushing}
 use Rattle.dcel_maps.proofs.maps.Triangles.{IsTriangleOf}
 use Rattle.dcel_maps.proofs.words.Mapped.{count-at}
 use Rattle.dcel_plane.specs.Edges.{edges_inserted}
-use Rattle.dcel_plane.specs.Plane.{IsPlane, LiesInside, ListsCircled, TurnsLeft}
+use Rattle.dcel_plane.specs.Plane.{LiesInside, ListsCircled, TrianglesTurnLeft, TurnsLeft}
 use Rattle.dcel_plane.proofs.edits.Corners.{corners_are, left_same, of_three, seen}
 use Rattle.dcel_plane.proofs.edits.Written.{IsWritten, Leads, origin_away, origin_more, written_lists, written_plane}
 
@@ -77,7 +77,7 @@ module _ {V DE UE F : Type 0} (m : Mesh V DE UE F) (mesh : IsMesh m) (v f : ℕ)
     pub third_side : TurnsLeft (at (origin_of s c)) (at (origin_of s a)) (at v)
     third_side = seen at s (at v) c a mesh.sound was.live_z (ap (origin_of s) (sym was.next_z) ∙ mesh.sound.joined c was.live_z) (lies c was.live_z was.face_z)
 
-  pub inserted_plane : LiesInside at s f (at v) → IsPlane at s → IsPlane at t
+  pub inserted_plane : LiesInside at s f (at v) → TrianglesTurnLeft at s → TrianglesTurnLeft at t
   inserted_plane lies plane =
       let starts = origin_more at s t words origins written mesh.sound in
       written_plane at s t words origins written mesh.sound plane

@@ -1,8 +1,7 @@
 -- Where the vertices of a mesh stand matters, and where other numbers would stand does not.
-use Rattle.std.proofs.Common.{◌≡◌, ℕ, ◌+◌, ◌*◌, ◌<◌, List, [], ◌∷◌, length, sym, ap, ◌∙◌, subst, pos, ◌<ℤ◌, arith}
+use Rattle.std.proofs.Common.{◌≡◌, ℕ, ◌+◌, ◌*◌, ◌<◌, List, [], ◌∷◌, length, sym, ap, ◌∙◌, subst, arith}
 use Rattle.std.proofs.lemmas.List.{get_or-append-add, get_or_append_left}
 use Rattle.dcel_predicates.specs.declared.point.Point.{Point}
-use Rattle.dcel_predicates.specs.Determinants.{incircle_of}
 use Rattle.dcel_maps.specs.edits.Create.{vertex_appended}
 use Rattle.dcel_maps.specs.Shapes.{IsLive, IsMesh, IsSound, Mesh, Shape, map_of, origin_of, prev_of}
 use Rattle.dcel_maps.specs.Words.{count_of}
@@ -11,7 +10,8 @@ use Rattle.dcel_maps.proofs.shapes.Maps.{map-sound}
 use Rattle.dcel_maps.proofs.walks.Links.{links_stand}
 use Rattle.dcel_maps.proofs.words.Counts.{count-later, count-same}
 use Rattle.dcel_maps.proofs.words.Reading.{live_in}
-use Rattle.dcel_plane.specs.Plane.{IsCircled, IsInner, IsPlane, ListsCircled, TurnsLeft, origin_point, point_at}
+use Rattle.dcel_plane.specs.Plane.{IsCircled, IsInner, ListsCircled, TrianglesTurnLeft, TurnsLeft, origin_point, point_at}
+use Rattle.dcel_plane.proofs.edits.Written.{circle_at}
 
 module _ (at to : ℕ → Point) (s : Shape) (sound : IsSound s) (same : (v : ℕ) → v < s.vertices → at v ≡ to v) where
   stands_same : (h : ℕ) → IsLive s h → at (origin_of s h) ≡ to (origin_of s h)
@@ -21,12 +21,7 @@ module _ (at to : ℕ → Point) (s : Shape) (sound : IsSound s) (same : (v : �
   left_same_place {a} {b} {c} {a'} {b'} {c'} ea eb ec left =
       subst (λ (p : Point). TurnsLeft a' b' p) ec (subst (λ (p : Point). TurnsLeft a' p c) eb (subst (λ (p : Point). TurnsLeft p b c) ea left))
 
-  circle_same_place : {a b c d a' b' c' d' : Point} → a ≡ a' → b ≡ b' → c ≡ c' → d ≡ d' → pos 0 <ℤ incircle_of a b c d → pos 0 <ℤ incircle_of a' b' c' d'
-  circle_same_place {a} {b} {c} {d} {a'} {b'} {c'} {d'} ea eb ec ed inside =
-      subst (λ (p : Point). pos 0 <ℤ incircle_of a' b' c' p) ed (subst (λ (p : Point). pos 0 <ℤ incircle_of a' b' p d) ec
-      (subst (λ (p : Point). pos 0 <ℤ incircle_of a' p c d) eb (subst (λ (p : Point). pos 0 <ℤ incircle_of p b c d) ea inside)))
-
-  pub moved_plane : IsPlane at s → IsPlane to s
+  pub moved_plane : TrianglesTurnLeft at s → TrianglesTurnLeft to s
   moved_plane plane = record {
     left = λ f x y z inner is.
         let found : (h : ℕ) → 0 < count_of h (x ∷ y ∷ z ∷ []) → at (origin_of s h) ≡ to (origin_of s h) =
@@ -42,7 +37,7 @@ module _ (at to : ℕ → Point) (s : Shape) (sound : IsSound s) (same : (v : �
       let live_e : IsLive s (2 * u) = even_live s u inner.live in
       let live_t : IsLive s (2 * u + 1) = odd_live s u inner.live in
       let back = map-sound sound in
-      circle_same_place (sym (stands_same (2 * u) live_e)) (sym (stands_same (2 * u + 1) live_t))
+      circle_at (sym (stands_same (2 * u) live_e)) (sym (stands_same (2 * u + 1) live_t))
       (sym (stands_same (prev_of s (2 * u)) (back.live_prev (2 * u) live_e)))
       (sym (stands_same (prev_of s (2 * u + 1)) (back.live_prev (2 * u + 1) live_t))) circled
 
@@ -62,7 +57,7 @@ module _ {DE UE F : Type 0} (m : Mesh Point DE UE F) (mesh : IsMesh m) (p : Poin
   pub others_stand : (v : ℕ) → v < m.shape.vertices → point_at m v ≡ point_at after v
   others_stand v below = sym (get_or_append_left m.vertex_data (p ∷ []) origin_point v (omega (arith, below, mesh.sized.vertex_data)))
 
-  pub appended_plane : IsPlane (point_at m) m.shape → IsPlane (point_at after) after.shape
+  pub appended_plane : TrianglesTurnLeft (point_at m) m.shape → TrianglesTurnLeft (point_at after) after.shape
   appended_plane plane = let is = moved_plane (point_at m) (point_at after) m.shape mesh.sound others_stand plane in record { left = is.left }
 
   pub appended_lists : (due : List ℕ) → ListsCircled (point_at m) m.shape due → ListsCircled (point_at after) after.shape due

@@ -9,7 +9,7 @@ use Rattle.dcel_maps.proofs.edits.Patches.{Patch, pushing}
 use Rattle.dcel_maps.proofs.shapes.Maps.{map-sound}
 use Rattle.dcel_maps.proofs.words.Mapped.{count-at}
 use Rattle.dcel_plane.specs.Edges.{edges_put_beside, edges_closed}
-use Rattle.dcel_plane.specs.Plane.{IsLeftOf, IsPlane, ListsCircled}
+use Rattle.dcel_plane.specs.Plane.{IsLeftOf, ListsCircled, TrianglesTurnLeft}
 use Rattle.dcel_plane.proofs.edits.Corners.{corners_are, left-from_least, left_same, of_least, of_three}
 use Rattle.dcel_plane.proofs.edits.Splits.{listed_as}
 use Rattle.dcel_plane.proofs.edits.Written.{IsWritten, origin_away, origin_more, written_lists, written_plane}
@@ -38,7 +38,7 @@ module _ {V DE UE F : Type 0} (m : Mesh V DE UE F) (mesh : IsMesh m) (e : ℕ) (
     written : IsWritten s r words origins
     written = record { words_are = refl; origins_are = refl; many = mesh.sized.origins; starts_stay = λ h lives inner away. tt }
 
-    pub beside_plane : IsLeftOf at s (at tip) e → IsPlane at s → IsPlane at r
+    pub beside_plane : IsLeftOf at s (at tip) e → TrianglesTurnLeft at s → TrianglesTurnLeft at r
     beside_plane left plane =
         let starts = origin_more at s r words origins written mesh.sound in
         written_plane at s r words origins written mesh.sound plane
@@ -82,7 +82,7 @@ module _ {V DE UE F : Type 0} (m : Mesh V DE UE F) (mesh : IsMesh m) (e : ℕ) (
   closing_old : (h : ℕ) → IsLive s h → origin_of s h ≡ origin_of q h
   closing_old h lives = sym (origin_away at s q closing_words closing_origins closing_written mesh.sound h lives tt)
 
-  pub closed_plane : IsLeftOf at s (at (end_of s x)) e → IsPlane at s → IsPlane at q
+  pub closed_plane : IsLeftOf at s (at (end_of s x)) e → TrianglesTurnLeft at s → TrianglesTurnLeft at q
   closed_plane left plane =
       let starts = origin_more at s q closing_words closing_origins closing_written mesh.sound in
       let live_x : IsLive s x = (map-sound mesh.sound).live_next e live in

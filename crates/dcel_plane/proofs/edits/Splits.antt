@@ -1,5 +1,5 @@
 -- A vertex put into an edge of a mesh in the plane, between two triangles, or of one triangle.
-use Rattle.std.proofs.Common.{◌≡◌, ◌≢◌, ℕ, ◌+◌, ◌/◌, ◌<◌, List, [], ◌∷◌, ◌++◌, refl, sym, ap, ◌∙◌, slice_set, subst, arith}
+use Rattle.std.proofs.Common.{◌≡◌, ◌≢◌, ℕ, ◌+◌, ◌*◌, ◌/◌, ◌<◌, List, [], ◌∷◌, ◌++◌, refl, sym, ap, ◌∙◌, slice_index, slice_set, subst, arith}
 use Rattle.std.proofs.lemmas.List.{get_or-set_same, get_or_append_left, length-set}
 use Rattle.dcel_fixed.proofs.Halves.{rev-half, rev-ne}
 use Rattle.dcel_predicates.specs.declared.point.Point.{Point}
@@ -17,7 +17,7 @@ use Rattle.dcel_maps.proofs.shapes.Maps.{map-sound}
 use Rattle.dcel_maps.proofs.walks.Links.{half-below}
 use Rattle.dcel_maps.proofs.words.Mapped.{count-at}
 use Rattle.dcel_plane.specs.Edges.{edges_half_split, edges_split}
-use Rattle.dcel_plane.specs.Plane.{IsPlane, LiesAcross, ListsCircled, TurnsLeft}
+use Rattle.dcel_plane.specs.Plane.{LiesAcross, ListsCircled, TrianglesTurnLeft, TurnsLeft}
 use Rattle.dcel_plane.proofs.edits.Corners.{corners_are, left-from_least, left_same, left_turned, of_least, of_three, seen}
 use Rattle.dcel_plane.proofs.edits.Written.{IsWritten, origin_away, origin_more, written_lists, written_plane}
 
@@ -64,11 +64,73 @@ module _ {V DE UE F : Type 0} (m : Mesh V DE UE F) (mesh : IsMesh m) (e middle :
   live_t : IsLive s t
   live_t = rev_live (map_of s) e live
 
+  -- what is written: between two triangles, and where the other half lies on the outer face
+  abbrev r : Shape
+  r = (edge_split m e middle halves edges faces).shape
+
+  abbrev pub split_words : Patch (List ℕ)
+  split_words = record {
+    set = (f, from_least (e ∷ (n + 5) ∷ ep ∷ [])) ∷ (g, from_least (t ∷ tn ∷ n ∷ [])) ∷ [];
+    more = (tp ∷ (n + 2) ∷ (n + 1) ∷ []) ∷ (en ∷ (n + 4) ∷ (n + 3) ∷ []) ∷ [];
+  }
+
+  abbrev pub split_origins : Patch ℕ
+  split_origins = record { set = (t, middle) ∷ []; more = origin_of s tp ∷ middle ∷ end ∷ middle ∷ origin_of s ep ∷ middle ∷ [] }
+
+  split_written : IsWritten s r split_words split_origins
+  split_written = record {
+    words_are = refl;
+    origins_are = refl;
+    many = mesh.sized.origins;
+    starts_stay = λ h lives inner away. (λ is. away.1.0 (ap (face_of s) is), tt);
+  }
+
+  pub split_old : (h : ℕ) → IsLive s h → h ≢ t → origin_of s h ≡ origin_of r h
+  split_old h lives differs = sym (origin_away at s r split_words split_origins split_written mesh.sound h lives (differs, tt))
+
+  pub split_more : (k i : ℕ) → k ≡ 2 * s.edges + i → origin_of r k ≡ slice_index split_origins.more i
+  split_more = origin_more at s r split_words split_origins split_written mesh.sound
+
+  -- the other half starts at the new vertex
+  replaced : (more : List ℕ) → slice_index (slice_set s.origins t middle ++ more) t ≡ middle
+  replaced more =
+      get_or_append_left (slice_set s.origins t middle) more 0 t (omega (arith, mesh.sized.origins, half-below s t live_t, length-set s.origins t middle))
+      ∙ get_or-set_same s.origins t middle 0 (omega (arith, mesh.sized.origins, half-below s t live_t))
+
+  pub split_start : origin_of r t ≡ middle
+  split_start = replaced split_origins.more
+
+  abbrev q : Shape
+  q = (half_edge_split m e middle halves edges faces).shape
+
+  abbrev pub half_words : Patch (List ℕ)
+  half_words = record {
+    set = (f, from_least (e ∷ (n + 1) ∷ ep ∷ [])) ∷ (g, from_least (become t ((n + 3) ∷ t ∷ []) (word_of s.words g))) ∷ [];
+    more = (en ∷ n ∷ (n + 2) ∷ []) ∷ [];
+  }
+
+  abbrev pub half_origins : Patch ℕ
+  half_origins = record { set = (t, middle) ∷ []; more = origin_of s ep ∷ middle ∷ middle ∷ end ∷ [] }
+
+  half_written : IsWritten s q half_words half_origins
+  half_written = record {
+    words_are = refl;
+    origins_are = refl;
+    many = mesh.sized.origins;
+    starts_stay = λ h lives inner away. (λ is. away.1.0 (ap (face_of s) is), tt);
+  }
+
+  pub half_old : (h : ℕ) → IsLive s h → h ≢ t → origin_of s h ≡ origin_of q h
+  half_old h lives differs = sym (origin_away at s q half_words half_origins half_written mesh.sound h lives (differs, tt))
+
+  pub half_more : (k i : ℕ) → k ≡ 2 * s.edges + i → origin_of q k ≡ slice_index half_origins.more i
+  half_more = origin_more at s q half_words half_origins half_written mesh.sound
+
+  pub half_start : origin_of q t ≡ middle
+  half_start = replaced half_origins.more
+
   -- between two triangles
   module _ (triangle : IsTriangle s f) (facing : IsTriangle s g) where
-    abbrev r : Shape
-    r = (edge_split m e middle halves edges faces).shape
-
     near : IsTriangleOf (map_of s) f e en ep
     near = side_triangle m mesh at (at middle) e live triangle
 
@@ -78,54 +140,32 @@ module _ {V DE UE F : Type 0} (m : Mesh V DE UE F) (mesh : IsMesh m) (e middle :
     differ : f ≢ g
     differ = facing_differ (map_of s) (map-sound mesh.sound) f e en ep g t tn tp near far refl
 
-    abbrev words : Patch (List ℕ)
-    words = record {
-      set = (f, from_least (e ∷ (n + 5) ∷ ep ∷ [])) ∷ (g, from_least (t ∷ tn ∷ n ∷ [])) ∷ [];
-      more = (tp ∷ (n + 2) ∷ (n + 1) ∷ []) ∷ (en ∷ (n + 4) ∷ (n + 3) ∷ []) ∷ [];
-    }
-
-    abbrev origins : Patch ℕ
-    origins = record { set = (t, middle) ∷ []; more = origin_of s tp ∷ middle ∷ end ∷ middle ∷ origin_of s ep ∷ middle ∷ [] }
-
-    written : IsWritten s r words origins
-    written = record {
-      words_are = refl;
-      origins_are = refl;
-      many = mesh.sized.origins;
-      starts_stay = λ h lives inner away. (λ is. away.1.0 (ap (face_of s) is), tt);
-    }
-
-    old : (h : ℕ) → IsLive s h → h ≢ t → origin_of s h ≡ origin_of r h
-    old h lives differs = sym (origin_away at s r words origins written mesh.sound h lives (differs, tt))
-
     on_f : (h : ℕ) → face_of s h ≡ f → h ≢ t
     on_f h on is = differ (sym on ∙ ap (face_of s) is)
 
-    pub split_plane : LiesAcross at s e (at middle) → LiesAcross at s t (at middle) → IsPlane at s → IsPlane at r
+    pub split_plane : LiesAcross at s e (at middle) → LiesAcross at s t (at middle) → TrianglesTurnLeft at s → TrianglesTurnLeft at r
     split_plane across across_t plane =
-        let starts = origin_more at s r words origins written mesh.sound in
-        let from_t : middle ≡ origin_of r t = sym (get_or_append_left (slice_set s.origins t middle) origins.more 0 t (omega (arith, mesh.sized.origins, half-below s t live_t, length-set s.origins t middle)) ∙ get_or-set_same s.origins t middle 0 (omega (arith, mesh.sized.origins, half-below s t live_t))) in
-        written_plane at s r words origins written mesh.sound plane (
+        written_plane at s r split_words split_origins split_written mesh.sound plane (
           (λ x y z inner is.
               left-from_least at r e (n + 5) ep x y z is
-              (corners_are at (old e live (λ i. rev-ne e (sym i))) (sym (starts (n + 5) 5 refl)) (old ep near.live_z (on_f ep near.face_z))
+              (corners_are at (split_old e live (λ i. rev-ne e (sym i))) (sym (split_more (n + 5) 5 refl)) (split_old ep near.live_z (on_f ep near.face_z))
               (between m mesh at (at middle) e live triangle across))),
           (
             λ x y z inner is.
                 left-from_least at r t tn n x y z is
-                (corners_are at from_t (old tn far.live_y (λ i. far.x≢y (sym i))) (sym (starts n 0 (omega arith)))
+                (corners_are at (sym split_start) (split_old tn far.live_y (λ i. far.x≢y (sym i))) (sym (split_more n 0 (omega arith)))
                 (before_after m mesh at (at middle) t live_t facing across_t)),
             tt,
           ),
         ) (
           (λ x y z inner is.
               left_same at r tp (n + 2) (n + 1) x y z is
-              (corners_are at (old tp far.live_z (λ i. far.x≢z (sym i))) (sym (starts (n + 2) 2 refl)) (sym (starts (n + 1) 1 refl))
+              (corners_are at (split_old tp far.live_z (λ i. far.x≢z (sym i))) (sym (split_more (n + 2) 2 refl)) (sym (split_more (n + 1) 1 refl))
               (seen_before m mesh at (at middle) t live_t facing across_t))),
           (
             λ x y z inner is.
                 left_same at r en (n + 4) (n + 3) x y z is
-                (corners_are at (old en near.live_y (on_f en near.face_y)) (sym (starts (n + 4) 4 refl)) (sym (starts (n + 3) 3 refl))
+                (corners_are at (split_old en near.live_y (on_f en near.face_y)) (sym (split_more (n + 4) 4 refl)) (sym (split_more (n + 3) 3 refl))
                 (seen_after m mesh at (at middle) e live triangle across)),
             tt,
           ),
@@ -142,7 +182,7 @@ module _ {V DE UE F : Type 0} (m : Mesh V DE UE F) (mesh : IsMesh m) (e middle :
         let at_4 = listed_as list (n + 4) (k + 2) (omega arith) (count-at list 7 0 (omega arith)) in
         let at_5 = listed_as list (n + 5) (k + 2) (omega arith) (count-at list 7 0 (omega arith)) in
         let at_t = listed_as list t (e / 2) (rev-half e) (count-at list 4 0 (omega arith)) in
-        written_lists at s r words origins written mesh.sound list due result.sound (
+        written_lists at s r split_words split_origins split_written mesh.sound list due result.sound (
           λ inner h found. of_least (λ x. 0 < count_of (x / 2) list) e (n + 5) ep h (count-at list 4 0 (omega arith)) at_5 (count-at list 1 0 (omega arith)) found,
           (λ inner h found. of_least (λ x. 0 < count_of (x / 2) list) t tn n h at_t (count-at list 2 0 (omega arith)) at_0 found, tt),
         ) (
@@ -153,47 +193,24 @@ module _ {V DE UE F : Type 0} (m : Mesh V DE UE F) (mesh : IsMesh m) (e middle :
 
   -- of one triangle, where the other half lies on the outer face
   module _ (triangle : IsTriangle s f) (inner_f : 0 < f) (outer : g ≡ 0) where
-    abbrev q : Shape
-    q = (half_edge_split m e middle halves edges faces).shape
-
     one : IsTriangleOf (map_of s) f e en ep
     one = side_triangle m mesh at (at middle) e live triangle
 
-    abbrev half_words : Patch (List ℕ)
-    half_words = record {
-      set = (f, from_least (e ∷ (n + 1) ∷ ep ∷ [])) ∷ (g, from_least (become t ((n + 3) ∷ t ∷ []) (word_of s.words g))) ∷ [];
-      more = (en ∷ n ∷ (n + 2) ∷ []) ∷ [];
-    }
+    on_one : (h : ℕ) → IsLive s h → face_of s h ≡ f → origin_of s h ≡ origin_of q h
+    on_one h lives on = half_old h lives (λ is. omega (arith, inner_f, outer, sym on ∙ ap (face_of s) is))
 
-    abbrev half_origins : Patch ℕ
-    half_origins = record { set = (t, middle) ∷ []; more = origin_of s ep ∷ middle ∷ middle ∷ end ∷ [] }
-
-    half_written : IsWritten s q half_words half_origins
-    half_written = record {
-      words_are = refl;
-      origins_are = refl;
-      many = mesh.sized.origins;
-      starts_stay = λ h lives inner away. (λ is. away.1.0 (ap (face_of s) is), tt);
-    }
-
-    half_old : (h : ℕ) → IsLive s h → face_of s h ≡ f → origin_of s h ≡ origin_of q h
-    half_old h lives on =
-        sym (origin_away at s q half_words half_origins half_written mesh.sound h lives
-        (λ is. omega (arith, inner_f, outer, sym on ∙ ap (face_of s) is), tt))
-
-    pub half_split_plane : LiesAcross at s e (at middle) → IsPlane at s → IsPlane at q
+    pub half_split_plane : LiesAcross at s e (at middle) → TrianglesTurnLeft at s → TrianglesTurnLeft at q
     half_split_plane across plane =
-        let starts = origin_more at s q half_words half_origins half_written mesh.sound in
         written_plane at s q half_words half_origins half_written mesh.sound plane (
           (λ x y z inner is.
               left-from_least at q e (n + 1) ep x y z is
-              (corners_are at (half_old e live refl) (sym (starts (n + 1) 1 refl)) (half_old ep one.live_z one.face_z)
+              (corners_are at (on_one e live refl) (sym (half_more (n + 1) 1 refl)) (on_one ep one.live_z one.face_z)
               (between m mesh at (at middle) e live triangle across))),
           (λ x y z inner is. absurd (omega (arith, inner, outer)), tt),
         ) (
           (λ x y z inner is.
               left_same at q en n (n + 2) x y z is
-              (corners_are at (half_old en one.live_y one.face_y) (sym (starts n 0 (omega arith))) (sym (starts (n + 2) 2 refl))
+              (corners_are at (on_one en one.live_y one.face_y) (sym (half_more n 0 (omega arith))) (sym (half_more (n + 2) 2 refl))
               (seen_after m mesh at (at middle) e live triangle across))),
           tt,
         )

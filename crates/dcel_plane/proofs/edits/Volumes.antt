@@ -11,19 +11,18 @@ use Rattle.dcel_predicates.proofs.Signs.{ordered, square, times}
 use Rattle.dcel_maps.specs.Conditions.{CanFlip}
 use Rattle.dcel_maps.specs.Cyclic.{from_least}
 use Rattle.dcel_maps.specs.edits.Flip.{edge_flipped}
-use Rattle.dcel_maps.specs.Shapes.{IsLive, IsMesh, Mesh, Shape, face_count, face_of, map_of, origin_of}
+use Rattle.dcel_maps.specs.Shapes.{IsMesh, Mesh, Shape, face_count, face_of, map_of, origin_of}
 use Rattle.dcel_maps.specs.Words.{TurnsTo, count_of, word_of}
 use Rattle.dcel_maps.proofs.edits.Around.{at_edge, known}
 use Rattle.dcel_maps.proofs.edits.Flips.{at_flip}
 use Rattle.dcel_maps.proofs.words.Counts.{count-later, count-same}
 use Rattle.dcel_maps.proofs.words.EachSet.{first-two_set, length-two_set, other-two_set, second-two_set, two_set}
-use Rattle.dcel_maps.proofs.words.Reading.{face_in_word, live_in}
 use Rattle.dcel_maps.proofs.words.Triangles.{triangle_written}
 use Rattle.dcel_maps.proofs.words.Turns.{from_least-turn, length-turn}
-use Rattle.dcel_plane.specs.Plane.{IsCircled, IsPlane, TurnsLeft}
+use Rattle.dcel_plane.specs.Plane.{IsCircled, TrianglesTurnLeft, TurnsLeft}
 use Rattle.dcel_plane.specs.Volume.{volume_below, volume_under}
 use Rattle.dcel_plane.proofs.edits.Corners.{three_items, turned_along}
-use Rattle.dcel_plane.proofs.edits.Flipped.{from_end, from_start, left_before, new_corners, origin_after, origin_e, origin_far, origin_near, origin_same, origin_t, origin_t_after, right_before}
+use Rattle.dcel_plane.proofs.edits.Flipped.{from_end, from_start, left_before, new_corners, origin_after, origin_e, origin_far, origin_near, origin_t, origin_t_after, right_before, starts_else}
 
 -- sums of items that are the same
 sums_agree : (a b : List ℕ → ℕ) (l : List (List ℕ)) → ((k : ℕ) → k < length l → a (word_of l k) ≡ b (word_of l k)) → sum_by a l ≡ sum_by b l
@@ -123,7 +122,7 @@ same_under at s n (x ∷ y ∷ z ∷ []) same =
 same_under at s n (x ∷ y ∷ z ∷ t ∷ r) same = refl
 
 module _ {V DE UE F : Type 0} (m : Mesh V DE UE F) (mesh : IsMesh m) (u : ℕ) (can : CanFlip m.shape u) (at : ℕ → Point) (f_inner : 0 < face_of m.shape (2 * u))
-    (g_inner : 0 < face_of m.shape (2 * u + 1)) (circled : IsCircled at m.shape u) (plane : IsPlane at m.shape) where
+    (g_inner : 0 < face_of m.shape (2 * u + 1)) (circled : IsCircled at m.shape u) (plane : TrianglesTurnLeft at m.shape) where
   abbrev s : Shape
   s = m.shape
 
@@ -167,11 +166,7 @@ module _ {V DE UE F : Type 0} (m : Mesh V DE UE F) (mesh : IsMesh m) (u : ℕ) (
       ∙ volumes_are at (origin_t m mesh u can) (origin_near m mesh u can at) (origin_t_after m mesh u can at ∙ from_start m mesh u can)
 
   elsewhere : (k : ℕ) → k < face_count s → k ≢ f → k ≢ g → volume_under at s (word_of s.words k) ≡ volume_under at n (word_of s.words k)
-  elsewhere k within not_f not_g =
-      same_under at s n (word_of s.words k) (λ h there.
-      let live : IsLive s h = live_in (map_of s) s.words stands h k there in
-      let on : face_of s h ≡ k = face_in_word (map_of s) s.words stands h k there in
-      origin_same m mesh u can at h live (λ is. not_f (sym on ∙ ap (face_of s) is)) (λ is. not_g (sym on ∙ ap (face_of s) is)))
+  elsewhere k within not_f not_g = same_under at s n (word_of s.words k) (λ h. starts_else m mesh u can k h not_f not_g)
 
   pub volume_falls : volume_below at n < volume_below at s
   volume_falls =

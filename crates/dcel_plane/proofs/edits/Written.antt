@@ -15,7 +15,7 @@ use Rattle.dcel_maps.proofs.shapes.Maps.{map-sound}
 use Rattle.dcel_maps.proofs.walks.Links.{half-below, links_stand, prev-said}
 use Rattle.dcel_maps.proofs.words.Counts.{count-append, count-later, count-same}
 use Rattle.dcel_maps.proofs.words.Reading.{face-prev, face_in_word, live_in, stands_in_face}
-use Rattle.dcel_plane.specs.Plane.{IsCircled, IsInner, IsPlane, ListsCircled}
+use Rattle.dcel_plane.specs.Plane.{IsCircled, IsInner, ListsCircled, TrianglesTurnLeft}
 use Rattle.dcel_plane.proofs.edits.Corners.{LeftOf, corners_are}
 
 -- an item that isn't replaced
@@ -23,13 +23,17 @@ replaced-away : (l : List ℕ) (cs : List (ℕ × ℕ)) (k : ℕ) → Untouched 
 replaced-away l [] k away = refl
 replaced-away l (c ∷ r) k away = replaced-away (slice_set l c.0 c.1) r k away.1 ∙ get_or-set_other l c.0 k c.1 0 away.0
 
+-- four points by other names
+pub circle_at : {a b c d p q r t : Point} → a ≡ p → b ≡ q → c ≡ r → d ≡ t → pos 0 <ℤ incircle_of a b c d → pos 0 <ℤ incircle_of p q r t
+circle_at {a} {b} {c} {d} {p} {q} {r} {t} ea eb ec ed inside =
+    subst (λ (k : Point). pos 0 <ℤ incircle_of p q r k) ed
+    (subst (λ (k : Point). pos 0 <ℤ incircle_of p q k d) ec
+    (subst (λ (k : Point). pos 0 <ℤ incircle_of p k c d) eb
+    (subst (λ (k : Point). pos 0 <ℤ incircle_of k b c d) ea inside)))
+
 pub circle_are : (at : ℕ → Point) {a b c d a' b' c' d' : ℕ} → a ≡ a' → b ≡ b' → c ≡ c' → d ≡ d' → pos 0 <ℤ incircle_of (at a) (at b) (at c) (at d)
     → pos 0 <ℤ incircle_of (at a') (at b') (at c') (at d')
-circle_are at {a} {b} {c} {d} {a'} {b'} {c'} {d'} ea eb ec ed inside =
-    subst (λ (k : ℕ). pos 0 <ℤ incircle_of (at a') (at b') (at c') (at k)) ed
-    (subst (λ (k : ℕ). pos 0 <ℤ incircle_of (at a') (at b') (at k) (at d)) ec
-    (subst (λ (k : ℕ). pos 0 <ℤ incircle_of (at a') (at k) (at c) (at d)) eb
-    (subst (λ (k : ℕ). pos 0 <ℤ incircle_of (at k) (at b) (at c) (at d)) ea inside)))
+circle_are at ea eb ec ed = circle_at (ap at ea) (ap at eb) (ap at ec) (ap at ed)
 
 -- The shape n has the words and origins of s with some of them replaced and some put at the end, where half edges of faces whose word stays
 -- start where they did.
@@ -72,7 +76,7 @@ module _ (at : ℕ → Point) (s n : Shape) (ws : Patch (List ℕ)) (os : Patch 
   abbrev pub Leads : ℕ → List ℕ → Type 0
   Leads f w = (x y z : ℕ) → 0 < f → w ≡ x ∷ y ∷ z ∷ [] → LeftOf at n x y z
 
-  old_leads : IsPlane at s → (f : ℕ) → Untouched f ws.set → Leads f (word_of s.words f)
+  old_leads : TrianglesTurnLeft at s → (f : ℕ) → Untouched f ws.set → Leads f (word_of s.words f)
   old_leads plane f away x y z inner is =
       let found : (h : ℕ) → 0 < count_of h (x ∷ y ∷ z ∷ []) → origin_of n h ≡ origin_of s h =
       λ h there. origin_on f h inner away (subst (λ (w : List ℕ). 0 < count_of h w) (sym is) there) in
@@ -81,7 +85,7 @@ module _ (at : ℕ → Point) (s n : Shape) (ws : Patch (List ℕ)) (os : Patch 
       (sym (found z (count-later z x (y ∷ z ∷ []) (count-later z y (z ∷ []) (omega (arith, count-same z []))))))
       (plane.left f x y z inner is)
 
-  pub written_plane : IsPlane at s → Each Leads ws.set → EachFrom Leads (face_count s) ws.more → IsPlane at n
+  pub written_plane : TrianglesTurnLeft at s → Each Leads ws.set → EachFrom Leads (face_count s) ws.more → TrianglesTurnLeft at n
   written_plane plane set more = record {
     left = λ f x y z inner is.
         by_word Leads set more (λ k k_in away. old_leads plane k away) (λ k x y z inside e. absurd (let long = ap length e in omega (arith, long)))

@@ -7,23 +7,19 @@ use Rattle.dcel_predicates.specs.declared.point.Point.{Point}
 use Rattle.dcel_predicates.proofs.Ring.{by_terms, minus, num, plus, times as by, var}
 use Rattle.dcel_predicates.proofs.Signs.{ordered, times_negative, times_positive}
 use Rattle.dcel_predicates.proofs.Terms.{orient, spot}
-use Rattle.dcel_plane.specs.covering.Covering.{apart_along}
-use Rattle.dcel_plane.proofs.covering.Along.{IsBetween, one_place, dot, dot_in, dot_start, none_first, none_second, placed, sides, same_side, apart_by}
+use Rattle.dcel_plane.specs.covering.Covering.{Supports, dot}
+use Rattle.dcel_plane.proofs.covering.Along.{IsBetween, one_place, dot_in, dot_start, none_first, none_second, placed, sides, same_side, apart_by}
 use Rattle.dcel_plane.proofs.covering.Inside.{apart_end, apart_start, on_end, on_start}
 use Rattle.dcel_plane.proofs.covering.Products.{times_below}
 
--- c isn't left of the line from a to b, and not between them
-abbrev pub Beside : Point → Point → Point → Type 0
-Beside a b c = (orient2d_of a b c ≤ℤ pos 0) × (orient2d_of a b c ≡ pos 0 → pos 0 ≤ℤ apart_along a b c)
+pub supports_start : (a b : Point) → Supports a b a
+supports_start a b = (let o = on_end a b in omega (arith, ordered, o), λ zero. let e = apart_start a b in omega (arith, ordered, e))
 
-pub beside_start : (a b : Point) → Beside a b a
-beside_start a b = (let o = on_end a b in omega (arith, ordered, o), λ zero. let e = apart_start a b in omega (arith, ordered, e))
+pub supports_end : (a b : Point) → Supports a b b
+supports_end a b = (let o = on_start a b in omega (arith, ordered, o), λ zero. let e = apart_end a b in omega (arith, ordered, e))
 
-pub beside_end : (a b : Point) → Beside a b b
-beside_end a b = (let o = on_start a b in omega (arith, ordered, o), λ zero. let e = apart_end a b in omega (arith, ordered, e))
-
-pub beside_right : (a b c : Point) → orient2d_of a b c <ℤ pos 0 → Beside a b c
-beside_right a b c right = (omega (arith, ordered, right), λ zero. absurd (omega (arith, ordered, right, zero)))
+pub supports_right : (a b c : Point) → orient2d_of a b c <ℤ pos 0 → Supports a b c
+supports_right a b c right = (omega (arith, ordered, right), λ zero. absurd (omega (arith, ordered, right, zero)))
 
 -- v strictly between b and a: what lies on the right of the line from b to a does so of both parts of it
 module _ (b a v : Point) (is : IsBetween b a v) where
@@ -77,7 +73,7 @@ module _ (b a v : Point) (is : IsBetween b a v) where
   end_on k = zero_too (dot a a b) (orient2d_of v a k) (dot a a b -ℤ dot v a b) (orient2d_of b a k) (orient2d_of b a v *ℤ (dot k a b -ℤ dot a a b)) (end_part k) (end_none k) rest
 
 -- what isn't between the ends isn't between an end and v
-module _ (b a v : Point) (is : IsBetween b a v) (k : Point) (right : orient2d_of b a k ≤ℤ pos 0) (apart : orient2d_of b a k ≡ pos 0 → pos 0 ≤ℤ apart_along b a k) where
+module _ (b a v : Point) (is : IsBetween b a v) (k : Point) (right : orient2d_of b a k ≤ℤ pos 0) (apart : orient2d_of b a k ≡ pos 0 → pos 0 ≤ℤ dot b a k) where
   outside : orient2d_of b a k ≡ pos 0 → (dot k a b ≤ℤ pos 0) ⊎ (dot a a b ≤ℤ dot k a b)
   outside on =
       let z = dot_start a b in
@@ -87,7 +83,7 @@ module _ (b a v : Point) (is : IsBetween b a v) (k : Point) (right : orient2d_of
         | inr below ↦ (let q = below.1 in inr (omega (arith, ordered, q)))
       ]
 
-  pub start_beside : Beside b v k
+  pub start_beside : Supports b v k
   start_beside = (
     start_right b a v is k right,
     λ zero.
@@ -104,7 +100,7 @@ module _ (b a v : Point) (is : IsBetween b a v) (k : Point) (right : orient2d_of
         ])),
   )
 
-  pub end_beside : Beside v a k
+  pub end_beside : Supports v a k
   end_beside = (
     end_right b a v is k right,
     λ zero.
@@ -122,8 +118,8 @@ module _ (b a v : Point) (is : IsBetween b a v) (k : Point) (right : orient2d_of
 
 -- v isn't left of another half edge, from x to y, nor between its ends
 module _ (b a v : Point) (is : IsBetween b a v) (x y : Point) (far : pos 0 <ℤ dot y y x) (right_a : orient2d_of x y a ≤ℤ pos 0) (right_b : orient2d_of x y b ≤ℤ pos 0)
-    (apart_a : orient2d_of x y a ≡ pos 0 → pos 0 ≤ℤ apart_along x y a) (apart_b : orient2d_of x y b ≡ pos 0 → pos 0 ≤ℤ apart_along x y b)
-    (apart_x : orient2d_of b a x ≡ pos 0 → pos 0 ≤ℤ apart_along b a x) (apart_y : orient2d_of b a y ≡ pos 0 → pos 0 ≤ℤ apart_along b a y)
+    (apart_a : orient2d_of x y a ≡ pos 0 → pos 0 ≤ℤ dot x y a) (apart_b : orient2d_of x y b ≡ pos 0 → pos 0 ≤ℤ dot x y b)
+    (apart_x : orient2d_of b a x ≡ pos 0 → pos 0 ≤ℤ dot b a x) (apart_y : orient2d_of b a y ≡ pos 0 → pos 0 ≤ℤ dot b a y)
     (not_same : x.x ≡ b.x → x.y ≡ b.y → y.x ≡ a.x → y.y ≡ a.y → ⊥) (not_back : x.x ≡ a.x → x.y ≡ a.y → y.x ≡ b.x → y.y ≡ b.y → ⊥) where
   height_mixed : dot a a b *ℤ orient2d_of x y v
       ≡ ((dot v a b *ℤ orient2d_of x y a) +ℤ ((dot a a b -ℤ dot v a b) *ℤ orient2d_of x y b))
@@ -199,7 +195,7 @@ module _ (b a v : Point) (is : IsBetween b a v) (x y : Point) (far : pos 0 <ℤ 
     on_y : orient2d_of b a y ≡ pos 0
     on_y = let e = back_heights in let f = on_x in omega (arith, ordered, e, f, on_a, on_b)
 
-    outside_of : (k : Point) → orient2d_of x y k ≡ pos 0 → pos 0 ≤ℤ apart_along x y k → (dot k y x ≤ℤ pos 0) ⊎ (dot y y x ≤ℤ dot k y x)
+    outside_of : (k : Point) → orient2d_of x y k ≡ pos 0 → pos 0 ≤ℤ dot x y k → (dot k y x ≤ℤ pos 0) ⊎ (dot y y x ≤ℤ dot k y x)
     outside_of k on apart =
         let z = dot_start y x in
         let p = placed x y x y k far (on_end x y) (on_start x y) on apart in
@@ -228,7 +224,7 @@ module _ (b a v : Point) (is : IsBetween b a v) (x y : Point) (far : pos 0 <ℤ 
         let d_at = one_place x y y d far (on_start x y) on_d (omega (arith, ordered, d_is)) in
         unlike c_at.0 c_at.1 d_at.0 d_at.1
 
-    apart_v : pos 0 ≤ℤ apart_along x y v
+    apart_v : pos 0 ≤ℤ dot x y v
     apart_v =
         let i = is.above in
         let j = rest b a v is in
@@ -280,5 +276,5 @@ module _ (b a v : Point) (is : IsBetween b a v) (x y : Point) (far : pos 0 <ℤ 
             let b = mixed_below l d (k -ℤ p) (k -ℤ q) (k -ℤ w) (pos 0 -ℤ z) (shifted l d p q w z k e) (omega (arith, ordered, zero)) hl hd hr (omega (arith, ordered, hp)) (omega (arith, ordered, hq)) in
             omega (arith, ordered, b)
 
-  pub other_beside : Beside x y v
+  pub other_beside : Supports x y v
   other_beside = (not_left, λ on. let both = both_on on in apart_v on both.0 both.1)

@@ -14,8 +14,8 @@ use Rattle.dcel_maps.proofs.maps.Soundness.{rev_live}
 use Rattle.dcel_maps.proofs.shapes.Maps.{map-sound}
 use Rattle.dcel_maps.proofs.walks.Links.{links_stand, next-live, prev-live}
 use Rattle.dcel_maps.proofs.words.Reading.{face-next, face-prev}
-use Rattle.dcel_plane.specs.covering.Covering.{IsConvex, IsHull, apart_along}
-use Rattle.dcel_plane.proofs.covering.Along.{dot, long, one_point}
+use Rattle.dcel_plane.specs.covering.Covering.{IsConvex, IsHull, dot}
+use Rattle.dcel_plane.proofs.covering.Along.{edges_long, long, one_point}
 use Rattle.dcel_plane.proofs.covering.Inside.{on_end, on_start}
 use Rattle.dcel_plane.specs.hull.Closing.{IsClosed, IsClosing, IsThick}
 use Rattle.dcel_plane.proofs.hull.Corners.{back_at_end, back_at_start, last_with}
@@ -72,7 +72,7 @@ module _ {V DE UE F : Type 0} (m : Mesh V DE UE F) (mesh : IsMesh m) (at : ℕ �
 
   -- half edges have a length
   far : (h : ℕ) → IsLive s h → pos 0 <ℤ dot (e h) (e h) (p h)
-  far h live = long (e h) (p h) (λ ex ey. mesh.sound.two_ends h live (sym (hull.distinct (rev h) h (rev_live (map_of s) h live) live ex ey)))
+  far = edges_long at s mesh.sound hull.distinct
 
   far_from : (h : ℕ) (v : ℕ) → IsLive s h → origin_of s h ≡ v → pos 0 <ℤ dot (e h) (e h) (at v)
   far_from h v live is = subst (λ (i : ℕ). pos 0 <ℤ dot (e h) (e h) (at i)) is (far h live)
@@ -85,16 +85,16 @@ module _ {V DE UE F : Type 0} (m : Mesh V DE UE F) (mesh : IsMesh m) (at : ℕ �
       let on_j : face_of s j ≡ 0 = next_on i seen.live seen.on in
       let joined : origin_of s j ≡ end_of s i = mesh.sound.joined i seen.live in
       let old_j : origin_of s j ≢ t = λ z. not_at_end i seen (sym joined ∙ z) in
-      let right : orient2d_of (p i) (e i) (e j) ≤ℤ pos 0 = closing.right i (rev j) seen.live seen.on (not_at_start i seen) (not_at_end i seen) (rev_live (map_of s) j live_j) away in
+      let right : orient2d_of (p i) (e i) (e j) ≤ℤ pos 0 = (closing.supports i (rev j) seen.live seen.on (not_at_start i seen) (not_at_end i seen) (rev_live (map_of s) j live_j) away).0 in
       by_lt_z (orient2d_of (p i) (e i) (e j)) (pos 0) (λ less. less)
       (λ not. absurd
       (let straight : orient2d_of (p i) (e i) (e j) ≡ pos 0 = omega (arith, ordered, not, right) in
       let turned : orient2d_of (e i) (e j) (p i) ≡ pos 0 = orient2d-turned (p i) (e i) (e j) ∙ straight in
-      let first : pos 0 ≤ℤ apart_along (e i) (e j) (p i) =
-      subst (λ (v : ℕ). orient2d_of (at v) (e j) (p i) ≡ pos 0 → pos 0 ≤ℤ apart_along (at v) (e j) (p i)) joined
-      (closing.between j i live_j on_j old_j away seen.live (not_at_start i seen)) turned in
-      let second : pos 0 ≤ℤ apart_along (p i) (e i) (e j) =
-      closing.between i (rev j) seen.live seen.on (not_at_start i seen) (not_at_end i seen) (rev_live (map_of s) j live_j) away straight in
+      let first : pos 0 ≤ℤ dot (e i) (e j) (p i) =
+      subst (λ (v : ℕ). orient2d_of (at v) (e j) (p i) ≡ pos 0 → pos 0 ≤ℤ dot (at v) (e j) (p i)) joined
+      (closing.supports j i live_j on_j old_j away seen.live (not_at_start i seen)).1 turned in
+      let second : pos 0 ≤ℤ dot (p i) (e i) (e j) =
+      (closing.supports i (rev j) seen.live seen.on (not_at_start i seen) (not_at_end i seen) (rev_live (map_of s) j live_j) away).1 straight in
       let back = back_at_start (p i) (e i) (e j) (at t) straight seen.seen unseen (far i seen.live) (far_from j (end_of s i) live_j joined) first second in
       let same : end_of s j ≡ origin_of s i = hull.distinct (rev j) i (rev_live (map_of s) j live_j) seen.live back.0 back.1 in
       let live_jj : IsLive s (next_of s j) = next-live mesh.sound j live_j in
@@ -133,23 +133,23 @@ module _ {V DE UE F : Type 0} (m : Mesh V DE UE F) (mesh : IsMesh m) (at : ℕ �
       (let b : pos 0 <ℤ orient2d_of (at t) (e h) (at t) = subst (λ (v : ℕ). pos 0 <ℤ orient2d_of (at v) (e h) (at t)) (sym after.from ∙ z) after.seen in
       let o = on_end (at t) (e h) in omega (arith, ordered, b, o)) in
       let differ : a.x ≡ (e h).x → a.y ≡ (e h).y → ⊥ = λ ex ey. (let z = no_turn a (e h) (at t) ex ey in let q = after.seen in omega (arith, ordered, z, q)) in
-      let right : orient2d_of a (e h) (e j) ≤ℤ pos 0 = after.none (rev j) (rev_live (map_of s) j live_j) away in
+      let right : orient2d_of a (e h) (e j) ≤ℤ pos 0 = (after.supports (rev j) (rev_live (map_of s) j live_j) away).0 in
       by_lt_z (orient2d_of a (e h) (e j)) (pos 0) (λ less. less)
       (λ not. absurd
       (let straight : orient2d_of a (e h) (e j) ≡ pos 0 = omega (arith, ordered, not, right) in
       let turned : orient2d_of (e h) (e j) a ≡ pos 0 = orient2d-turned a (e h) (e j) ∙ straight in
-      let first : pos 0 ≤ℤ apart_along (e h) (e j) a =
-      subst (λ (c : ℕ). orient2d_of (e h) (e j) (at c) ≡ pos 0 → pos 0 ≤ℤ apart_along (e h) (e j) (at c)) after.from
-      (subst (λ (v : ℕ). orient2d_of (at v) (e j) (p after.side) ≡ pos 0 → pos 0 ≤ℤ apart_along (at v) (e j) (p after.side)) joined
-      (closing.between j after.side live_j on_j old_j away after.live_side old_a)) turned in
-      let second : pos 0 ≤ℤ apart_along a (e h) (e j) = after.between (rev j) (rev_live (map_of s) j live_j) away straight in
+      let first : pos 0 ≤ℤ dot (e h) (e j) a =
+      subst (λ (c : ℕ). orient2d_of (e h) (e j) (at c) ≡ pos 0 → pos 0 ≤ℤ dot (e h) (e j) (at c)) after.from
+      (subst (λ (v : ℕ). orient2d_of (at v) (e j) (p after.side) ≡ pos 0 → pos 0 ≤ℤ dot (at v) (e j) (p after.side)) joined
+      (closing.supports j after.side live_j on_j old_j away after.live_side old_a).1) turned in
+      let second : pos 0 ≤ℤ dot a (e h) (e j) = (after.supports (rev j) (rev_live (map_of s) j live_j) away).1 straight in
       let back = back_at_start a (e h) (e j) (at t) straight after.seen (closed.after h live on starts)
       (long (e h) a (λ ex ey. differ (sym ex) (sym ey))) (far_from j (end_of s h) live_j joined) first second in
       not_thin a (e h)
       (λ k live_k old_k.
-      let one = after.none k live_k old_k in
+      let one = (after.supports k live_k old_k).0 in
       let two : orient2d_of (e h) (e j) (p k) ≤ℤ pos 0 =
-      subst (λ (v : ℕ). orient2d_of (at v) (e j) (p k) ≤ℤ pos 0) joined (closing.right j k live_j on_j old_j away live_k old_k) in
+      subst (λ (v : ℕ). orient2d_of (at v) (e j) (p k) ≤ℤ pos 0) joined (closing.supports j k live_j on_j old_j away live_k old_k).0 in
       let three = same_end a (e h) (e j) (p k) back.0 back.1 in
       let four = orient2d-first_swapped a (e h) (p k) in
       omega (arith, ordered, one, two, three, four))
@@ -171,23 +171,23 @@ module _ {V DE UE F : Type 0} (m : Mesh V DE UE F) (mesh : IsMesh m) (at : ℕ �
       (let q : pos 0 <ℤ orient2d_of (p h) (at t) (at t) = subst (λ (v : ℕ). pos 0 <ℤ orient2d_of (p h) (at v) (at t)) (sym before.to ∙ z) before.seen in
       let o = on_start (p h) (at t) in omega (arith, ordered, q, o)) in
       let differ : (p h).x ≡ b.x → (p h).y ≡ b.y → ⊥ = λ ex ey. (let z = no_turn (p h) b (at t) ex ey in let q = before.seen in omega (arith, ordered, z, q)) in
-      let none : orient2d_of (p h) b (p i) ≤ℤ pos 0 = before.none i live_i away in
+      let none : orient2d_of (p h) b (p i) ≤ℤ pos 0 = (before.supports i live_i away).0 in
       let turned : orient2d_of (p h) b (p i) ≡ orient2d_of (p i) (p h) b = orient2d-turned (p i) (p h) b in
       by_lt_z (orient2d_of (p i) (p h) b) (pos 0) (λ less. less)
       (λ not. absurd
       (let straight : orient2d_of (p i) (p h) b ≡ pos 0 = omega (arith, ordered, not, none, turned) in
-      let first : pos 0 ≤ℤ apart_along (p h) b (p i) = before.between i live_i away (turned ∙ straight) in
-      let second : pos 0 ≤ℤ apart_along (p i) (p h) b =
-      subst (λ (c : ℕ). orient2d_of (p i) (p h) (at c) ≡ pos 0 → pos 0 ≤ℤ apart_along (p i) (p h) (at c)) before.to
-      (subst (λ (v : ℕ). orient2d_of (p i) (at v) (e before.side) ≡ pos 0 → pos 0 ≤ℤ apart_along (p i) (at v) (e before.side)) (sym joined)
-      (closing.between i (rev before.side) live_i on_i away end_i (rev_live (map_of s) before.side before.live_side) old_b)) straight in
+      let first : pos 0 ≤ℤ dot (p h) b (p i) = (before.supports i live_i away).1 (turned ∙ straight) in
+      let second : pos 0 ≤ℤ dot (p i) (p h) b =
+      subst (λ (c : ℕ). orient2d_of (p i) (p h) (at c) ≡ pos 0 → pos 0 ≤ℤ dot (p i) (p h) (at c)) before.to
+      (subst (λ (v : ℕ). orient2d_of (p i) (at v) (e before.side) ≡ pos 0 → pos 0 ≤ℤ dot (p i) (at v) (e before.side)) (sym joined)
+      (closing.supports i (rev before.side) live_i on_i away end_i (rev_live (map_of s) before.side before.live_side) old_b).1) straight in
       let back = back_at_end (p i) (p h) b (at t) straight (closed.before h live on ends) before.seen
       (subst (λ (v : ℕ). pos 0 <ℤ dot (at v) (at v) (p i)) (sym joined) (far i live_i)) (long b (p h) (λ ex ey. differ (sym ex) (sym ey))) first second in
       not_thin (p h) b
       (λ k live_k old_k.
-      let one = before.none k live_k old_k in
+      let one = (before.supports k live_k old_k).0 in
       let two : orient2d_of (p i) (p h) (p k) ≤ℤ pos 0 =
-      subst (λ (v : ℕ). orient2d_of (p i) (at v) (p k) ≤ℤ pos 0) (sym joined) (closing.right i k live_i on_i away end_i live_k old_k) in
+      subst (λ (v : ℕ). orient2d_of (p i) (at v) (p k) ≤ℤ pos 0) (sym joined) (closing.supports i k live_i on_i away end_i live_k old_k).0 in
       let three = same_start (p i) (p h) b (p k) back.0 back.1 in
       let four = orient2d-first_swapped (p i) (p h) (p k) in
       omega (arith, ordered, one, two, three, four))
@@ -224,11 +224,11 @@ module _ {V DE UE F : Type 0} (m : Mesh V DE UE F) (mesh : IsMesh m) (at : ℕ �
           let no_0 = closed.after h0 live_0 on_0 starts_0 in
           let unseen' : orient2d_of (e i) (e j) (at t) ≤ℤ pos 0 = subst (λ (v : ℕ). orient2d_of (at v) (e j) (at t) ≤ℤ pos 0) joined_i unseen in
           let bend_i = bends i seen not_to_t unseen' in
-          let first_i : orient2d_of (p i) (e i) (p j0) ≤ℤ pos 0 = closing.right i j0 seen.live seen.on (not_at_start i seen) (not_at_end i seen) live_j0 old_j0 in
+          let first_i : orient2d_of (p i) (e i) (p j0) ≤ℤ pos 0 = (closing.supports i j0 seen.live seen.on (not_at_start i seen) (not_at_end i seen) live_j0 old_j0).0 in
           let second_i : orient2d_of (e i) (e j) (p j0) ≤ℤ pos 0 =
-          subst (λ (v : ℕ). orient2d_of (at v) (e j) (p j0) ≤ℤ pos 0) joined_i (closing.right j j0 live_j on_j old_j not_to_t live_j0 old_j0) in
+          subst (λ (v : ℕ). orient2d_of (at v) (e j) (p j0) ≤ℤ pos 0) joined_i (closing.supports j j0 live_j on_j old_j not_to_t live_j0 old_j0).0 in
           let at_i : orient2d_of (at t) (e i) (p j0) ≤ℤ pos 0 = after_tangent (p i) (e i) (e j) (at t) (p j0) seen.seen unseen' first_i second_i bend_i in
-          let first_0 : orient2d_of (at after.a) (e h0) (p j) ≤ℤ pos 0 = after.none j live_j old_j in
+          let first_0 : orient2d_of (at after.a) (e h0) (p j) ≤ℤ pos 0 = (after.supports j live_j old_j).0 in
           at_both i seen live_j on_j live_j0 on_j0 joined_i joined_0 old_j at_i first_i first_0 after.seen no_0 bend_0
         where
           at_both : (i : ℕ) → Seen i → IsLive s (next_of s i) → face_of s (next_of s i) ≡ 0 → IsLive s (next_of s h0) → face_of s (next_of s h0) ≡ 0
@@ -260,7 +260,7 @@ module _ {V DE UE F : Type 0} (m : Mesh V DE UE F) (mesh : IsMesh m) (at : ℕ �
               by_ends : (end_of s (next_of s h0) ≡ t) ⊎ (end_of s (next_of s h0) ≢ t) → orient2d_of (e h0) (e (next_of s h0)) (p (next_of s i)) ≤ℤ pos 0
               by_ends (inr away) =
                   subst (λ (v : ℕ). orient2d_of (at v) (e (next_of s h0)) (p (next_of s i)) ≤ℤ pos 0) joined_0
-                  (closing.right (next_of s h0) (next_of s i) live_j0 on_j0 (λ z. mesh.sound.two_ends h0 live_0 (starts_0 ∙ sym z ∙ joined_0)) away live_j old_j)
+                  (closing.supports (next_of s h0) (next_of s i) live_j0 on_j0 (λ z. mesh.sound.two_ends h0 live_0 (starts_0 ∙ sym z ∙ joined_0)) away live_j old_j).0
               by_ends (inl back) =
                   absurd (two_gon i seen back)
 
@@ -279,8 +279,8 @@ module _ {V DE UE F : Type 0} (m : Mesh V DE UE F) (mesh : IsMesh m) (at : ℕ �
       let q = a.seen in omega (arith, ordered, b, q) in
       let second : orient2d_of (e h) (e j) (p k) ≤ℤ pos 0 =
       subst (λ (v : ℕ). orient2d_of (at v) (e j) (p k) ≤ℤ pos 0) joined
-      (closing.right j k live_j (next_on h live on) (λ z. mesh.sound.two_ends h live (starts ∙ sym z ∙ joined)) away live_k old) in
-      after_tangent (at a.a) (e h) (e j) (at t) (p k) a.seen (closed.after h live on starts) (a.none k live_k old) second bend
+      (closing.supports j k live_j (next_on h live on) (λ z. mesh.sound.two_ends h live (starts ∙ sym z ∙ joined)) away live_k old).0 in
+      after_tangent (at a.a) (e h) (e j) (at t) (p k) a.seen (closed.after h live on starts) (a.supports k live_k old).0 second bend
 
   to_t : (h k : ℕ) → IsLive s h → face_of s h ≡ 0 → end_of s h ≡ t → IsLive s k → origin_of s k ≢ t → orient2d_of (p h) (at t) (p k) ≤ℤ pos 0
   to_t h k live on ends live_k old =
@@ -297,8 +297,8 @@ module _ {V DE UE F : Type 0} (m : Mesh V DE UE F) (mesh : IsMesh m) (at : ℕ �
       let q = b.seen in omega (arith, ordered, c, turned, q) in
       let first : orient2d_of (p i) (p h) (p k) ≤ℤ pos 0 =
       subst (λ (v : ℕ). orient2d_of (p i) (at v) (p k) ≤ℤ pos 0) (sym joined)
-      (closing.right i k live_i on_i away (λ z. mesh.sound.two_ends h live (joined ∙ z ∙ sym ends)) live_k old) in
-      before_tangent (p i) (p h) (at b.b) (at t) (p k) (closed.before h live on ends) b.seen first (b.none k live_k old) bend
+      (closing.supports i k live_i on_i away (λ z. mesh.sound.two_ends h live (joined ∙ z ∙ sym ends)) live_k old).0 in
+      before_tangent (p i) (p h) (at b.b) (at t) (p k) (closed.before h live on ends) b.seen first (b.supports k live_k old).0 bend
 
   pub closed_convex : IsConvex at s
   closed_convex = closed_by m at t closing unseen from_t to_t h0 live_0 on_0 starts_0

@@ -10,10 +10,9 @@ use Rattle.dcel_maps.specs.Shapes.{IsLive, IsMesh, Mesh, Shape, end_of, face_of,
 use Rattle.dcel_maps.proofs.maps.Soundness.{rev_live}
 use Rattle.dcel_maps.proofs.walks.Links.{next-live}
 use Rattle.dcel_plane.specs.Plane.{IsLeftOf}
-use Rattle.dcel_plane.specs.covering.Covering.{IsConvex, IsHull, apart_along}
+use Rattle.dcel_plane.specs.covering.Covering.{IsConvex, IsHull, Supports}
 use Rattle.dcel_plane.proofs.covering.Inside.{on_end}
 use Rattle.dcel_plane.specs.hull.Closing.{IsClosing, IsThick, Sees, SeesAfter, SeesBefore}
-use Rattle.dcel_plane.proofs.hull.Beside.{Beside}
 use Rattle.dcel_plane.proofs.hull.Step.{IsStep}
 
 -- the tip stays a corner that turns out
@@ -38,7 +37,7 @@ pub turns_nowhere : {V DE UE F : Type 0} (m : Mesh V DE UE F) → IsMesh m → (
     → ¬ IsLeftOf at m.shape (at (end_of m.shape (next_of m.shape e))) e
 turns_nowhere m mesh at convex e live on turns =
     let live_x : IsLive m.shape (next_of m.shape e) = next-live mesh.sound e live in
-    let q = convex.right e (rev (next_of m.shape e)) live on (rev_live (map_of m.shape) (next_of m.shape e) live_x) in
+    let q = (convex.supports e (rev (next_of m.shape e)) live on (rev_live (map_of m.shape) (next_of m.shape e) live_x)).0 in
     omega (arith, ordered, q, turns)
 
 module _ (at : ℕ → Point) (s q : Shape) (e t : ℕ) (step : IsStep s q e) (closing : IsClosing at s t)
@@ -77,7 +76,7 @@ module _ (at : ℕ → Point) (s q : Shape) (e t : ℕ) (step : IsStep s q e) (c
           )
       | inr not_a ↦ elim (cases_eq c t) [
         | inl last ↦ inr (not_a, not_b, last)
-        | inr not_c ↦ absurd (let r = closing.right e (rev x) live on not_a not_b back_x not_c in omega (arith, ordered, r, turns))
+        | inr not_c ↦ absurd (let r = (closing.supports e (rev x) live on not_a not_b back_x not_c).0 in omega (arith, ordered, r, turns))
       ]
     ]
   ]
@@ -102,17 +101,15 @@ module _ (at : ℕ → Point) (s q : Shape) (e t : ℕ) (step : IsStep s q e) (c
   end_is h is = ap (end_of q) is ∙ new_end
 
   abbrev B : ℕ → ℕ → ℕ → Type 0
-  B i j k = Beside (at i) (at j) (at k)
+  B i j k = Supports (at i) (at j) (at k)
 
   beside : (h k : ℕ) → IsLive q h → face_of q h ≡ 0 → origin_of q h ≢ t → end_of q h ≢ t → IsLive q k → origin_of q k ≢ t → B (origin_of q h) (end_of q h) (origin_of q k)
   beside h k live_h on_h not_start not_end live_k old_k = elim (outer_cases h live_h on_h) [
     | inl was ↦
         subst (λ (j : ℕ). B (origin_of q h) j (origin_of q k)) was.end
         (subst (λ (i : ℕ). B i (end_of s h) (origin_of q k)) was.start
-        (of_old (λ i. B (origin_of s h) (end_of s h) i) (λ j live_j old_j. (
-          closing.right h j was.here was.outer (λ is. not_start (sym was.start ∙ is)) (λ is. not_end (sym was.end ∙ is)) live_j old_j,
-          closing.between h j was.here was.outer (λ is. not_start (sym was.start ∙ is)) (λ is. not_end (sym was.end ∙ is)) live_j old_j,
-        )) k live_k old_k))
+        (of_old (λ i. B (origin_of s h) (end_of s h) i) (λ j live_j old_j.
+        closing.supports h j was.here was.outer (λ is. not_start (sym was.start ∙ is)) (λ is. not_end (sym was.end ∙ is)) live_j old_j) k live_k old_k))
     | inr new ↦ elim tip_cases [
       | inl first ↦ absurd (not_start (start_is h new ∙ first.0))
       | inr last ↦ absurd (not_end (end_is h new ∙ last.2))
@@ -133,8 +130,7 @@ module _ (at : ℕ → Point) (s q : Shape) (e t : ℕ) (step : IsStep s q e) (c
   moved : (i j : ℕ) → Sees at s t i j → Sees at q t i j
   moved i j sees = record {
     seen = sees.seen;
-    none = λ k live_k old_k. of_old (λ l. orient2d_of (at i) (at j) (at l) ≤ℤ pos 0) sees.none k live_k old_k;
-    between = λ k live_k old_k. of_old (λ l. orient2d_of (at i) (at j) (at l) ≡ pos 0 → pos 0 ≤ℤ apart_along (at i) (at j) (at l)) sees.between k live_k old_k;
+    supports = of_old (λ l. B i j l) sees.supports;
     side = sees.side;
     live_side = live_q sees.side sees.live_side;
     inner_side = not_outer sees.side sees.live_side (λ outer off off_x. let z = sees.inner_side in omega (arith, z, outer));
@@ -156,14 +152,9 @@ module _ (at : ℕ → Point) (s q : Shape) (e t : ℕ) (step : IsStep s q e) (c
         sees = record {
           seen =
               subst (λ (i : ℕ). pos 0 <ℤ orient2d_of (at b) (at c) (at i)) first (let o = orient2d-turned (at a) (at b) (at c) in omega (arith, ordered, o, turns));
-          none = λ k live_k old_k.
-              of_old (λ i. orient2d_of (at b) (at c) (at i) ≤ℤ pos 0)
-              (λ j live_j old_j. subst (λ (i : ℕ). orient2d_of (at i) (at c) (at (origin_of s j)) ≤ℤ pos 0) joined
-              (closing.right x j live_x on_x not_x not_c live_j old_j)) k live_k old_k;
-          between = λ k live_k old_k.
-              of_old (λ i. orient2d_of (at b) (at c) (at i) ≡ pos 0 → pos 0 ≤ℤ apart_along (at b) (at c) (at i))
-              (λ j live_j old_j. subst (λ (i : ℕ). orient2d_of (at i) (at c) (at (origin_of s j)) ≡ pos 0 → pos 0 ≤ℤ apart_along (at i) (at c) (at (origin_of s j))) joined
-              (closing.between x j live_x on_x not_x not_c live_j old_j)) k live_k old_k;
+          supports =
+              of_old (λ i. B b c i)
+              (λ j live_j old_j. subst (λ (i : ℕ). B i c (origin_of s j)) joined (closing.supports x j live_x on_x not_x not_c live_j old_j));
           side = x;
           live_side = live_q x live_x;
           inner_side = not_outer x live_x (λ outer off off_x. off_x refl);
@@ -177,10 +168,7 @@ module _ (at : ℕ → Point) (s q : Shape) (e t : ℕ) (step : IsStep s q e) (c
     b = b;
     sees = record {
       seen = subst (λ (i : ℕ). pos 0 <ℤ orient2d_of (at a) (at b) (at i)) last turns;
-      none = λ k live_k old_k. of_old (λ i. orient2d_of (at a) (at b) (at i) ≤ℤ pos 0) (λ j live_j old_j. closing.right e j live on not_a not_b live_j old_j) k live_k old_k;
-      between = λ k live_k old_k.
-          of_old (λ i. orient2d_of (at a) (at b) (at i) ≡ pos 0 → pos 0 ≤ℤ apart_along (at a) (at b) (at i))
-          (λ j live_j old_j. closing.between e j live on not_a not_b live_j old_j) k live_k old_k;
+      supports = of_old (λ i. B a b i) (λ j live_j old_j. closing.supports e j live on not_a not_b live_j old_j);
       side = e;
       live_side = live_q e live;
       inner_side = not_outer e live (λ outer off off_x. off refl);
@@ -230,7 +218,7 @@ module _ (at : ℕ → Point) (s q : Shape) (e t : ℕ) (step : IsStep s q e) (c
             let one : orient2d_of (at b) (at t) (at (end_of s h)) <ℤ pos 0 =
             subst (λ (i : ℕ). orient2d_of (at i) (at t) (at (end_of s h)) <ℤ pos 0) joined (closing.tip h x was.here was.outer (was.start ∙ is_h) live_x on_x last.2) in
             let two : pos 0 <ℤ orient2d_of (at a) (at b) (at t) = subst (λ (i : ℕ). pos 0 <ℤ orient2d_of (at a) (at b) (at i)) last.2 turns in
-            let three : orient2d_of (at a) (at b) (at (end_of s h)) ≤ℤ pos 0 = closing.right e (rev h) live on last.0 last.1 back u in
+            let three : orient2d_of (at a) (at b) (at (end_of s h)) ≤ℤ pos 0 = (closing.supports e (rev h) live on last.0 last.1 back u).0 in
             subst (λ (j : ℕ). T (origin_of q k) j) was.end
             (subst (λ (i : ℕ). T i (end_of s h)) (sym (start_is k new)) (tip_before (at a) (at b) (at t) (at (end_of s h)) one two three))
       ]
@@ -245,7 +233,7 @@ module _ (at : ℕ → Point) (s q : Shape) (e t : ℕ) (step : IsStep s q e) (c
             let two : pos 0 <ℤ orient2d_of (at t) (at b) (at c) = subst (λ (i : ℕ). pos 0 <ℤ orient2d_of (at i) (at b) (at c)) first.0 turns in
             let three : orient2d_of (at b) (at c) (at (origin_of s k)) ≤ℤ pos 0 =
             subst (λ (i : ℕ). orient2d_of (at i) (at c) (at (origin_of s k)) ≤ℤ pos 0) joined
-            (closing.right x k live_x on_x (λ is. first.1 (sym joined ∙ is)) first.2 too.here r) in
+            (closing.supports x k live_x on_x (λ is. first.1 (sym joined ∙ is)) first.2 too.here r).0 in
             subst (λ (j : ℕ). T (origin_of q k) j) (sym (end_is h new))
             (subst (λ (i : ℕ). T i c) too.start (tip_after (at (origin_of s k)) (at t) (at b) (at c) one two three))
       ]
@@ -254,8 +242,7 @@ module _ (at : ℕ → Point) (s q : Shape) (e t : ℕ) (step : IsStep s q e) (c
 
   pub step_closing : IsClosing at q t
   step_closing = record {
-    right = λ h k live_h on_h not_start not_end live_k old_k. (beside h k live_h on_h not_start not_end live_k old_k).0;
-    between = λ h k live_h on_h not_start not_end live_k old_k. (beside h k live_h on_h not_start not_end live_k old_k).1;
+    supports = beside;
     after = λ h live_h on_h is.
         elim (outer_cases h live_h on_h) [
           | inl was ↦ subst (λ (u : ℕ). SeesAfter at q t u) was.end (moved_after (end_of s h) (closing.after h was.here was.outer (was.start ∙ is)))

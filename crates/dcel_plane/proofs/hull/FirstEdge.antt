@@ -9,9 +9,9 @@ use Rattle.dcel_predicates.proofs.Terms.{spot}
 use Rattle.dcel_maps.specs.Shapes.{Mesh, Shape}
 use Rattle.dcel_maps.specs.edits.Create.{first_edge_added}
 use Rattle.dcel_maps.proofs.walks.Links.{half-below}
-use Rattle.dcel_plane.specs.covering.Covering.{apart_along}
+use Rattle.dcel_plane.specs.covering.Covering.{dot}
 use Rattle.dcel_plane.proofs.covering.Inside.{apart_end, apart_start, on_end, on_start}
-use Rattle.dcel_plane.specs.hull.Straight.{IsStraight, beyond}
+use Rattle.dcel_plane.specs.hull.Straight.{IsStraight, dot_of_steps}
 use Rattle.dcel_plane.proofs.hull.Thin.{back_dot}
 
 ends_of : (P : ℕ → ℕ → ℕ → Type 0) (a b : ℕ) → P 0 a b → P 1 b a → (h : ℕ) → h < 2 → P h (slice_index (a ∷ b ∷ []) h) (slice_index (a ∷ b ∷ []) (rev h))
@@ -20,16 +20,16 @@ ends_of P a b first second zero below = first
 ends_of P a b first second (suc zero) below = second
 ends_of P a b first second (suc (suc h)) below = absurd (omega (arith, below))
 
-not_beyond_start : (a b : Point) → pos 0 <ℤ beyond a b a → ⊥
+not_beyond_start : (a b : Point) → pos 0 <ℤ dot_of_steps a b a → ⊥
 not_beyond_start a b more =
     let e = back_dot a b a in
     let sx = square (a.x -ℤ b.x) in
     let sy = square (a.y -ℤ b.y) in
     omega (arith, ordered, e, sx, sy, more)
 
-not_beyond_end : (a b : Point) → pos 0 <ℤ beyond a b b → ⊥
+not_beyond_end : (a b : Point) → pos 0 <ℤ dot_of_steps a b b → ⊥
 not_beyond_end a b more =
-    let e : beyond a b b ≡ pos 0 =
+    let e : dot_of_steps a b b ≡ pos 0 =
     by_terms (a.x ∷ a.y ∷ b.x ∷ b.y ∷ [])
     (plus (by (minus (spot 1).x (spot 0).x) (minus (spot 1).x (spot 1).x)) (by (minus (spot 1).y (spot 0).y) (minus (spot 1).y (spot 1).y))) (num (pos 0)) refl in
     omega (arith, ordered, e, more)
@@ -57,9 +57,9 @@ module _ {V DE UE F : Type 0} (m : Mesh V DE UE F) (at : ℕ → Point) (a b : �
         (ends_of (λ i v w. orient2d_of (at b) (at a) (at v) ≡ pos 0) a b (on_start (at b) (at a)) (on_end (at b) (at a)) k (half-below s k live_k))
         h (half-below s h live_h);
     between = λ h k live_h live_k.
-        ends_of (λ i v w. pos 0 ≤ℤ apart_along (at v) (at w) (at (slice_index two k))) a b
-        (ends_of (λ i v w. pos 0 ≤ℤ apart_along (at a) (at b) (at v)) a b (let e = apart_start (at a) (at b) in omega (arith, ordered, e)) (let e = apart_end (at a) (at b) in omega (arith, ordered, e)) k (half-below s k live_k))
-        (ends_of (λ i v w. pos 0 ≤ℤ apart_along (at b) (at a) (at v)) a b (let e = apart_end (at b) (at a) in omega (arith, ordered, e)) (let e = apart_start (at b) (at a) in omega (arith, ordered, e)) k (half-below s k live_k))
+        ends_of (λ i v w. pos 0 ≤ℤ dot (at v) (at w) (at (slice_index two k))) a b
+        (ends_of (λ i v w. pos 0 ≤ℤ dot (at a) (at b) (at v)) a b (let e = apart_start (at a) (at b) in omega (arith, ordered, e)) (let e = apart_end (at a) (at b) in omega (arith, ordered, e)) k (half-below s k live_k))
+        (ends_of (λ i v w. pos 0 ≤ℤ dot (at b) (at a) (at v)) a b (let e = apart_end (at b) (at a) in omega (arith, ordered, e)) (let e = apart_start (at b) (at a) in omega (arith, ordered, e)) k (half-below s k live_k))
         h (half-below s h live_h);
     once = λ h k live_h live_k same side.
         ends_of (λ i v w. v ≡ slice_index two k → i ≡ k) a b
@@ -68,8 +68,8 @@ module _ {V DE UE F : Type 0} (m : Mesh V DE UE F) (at : ℕ → Point) (a b : �
         h (half-below s h live_h) same;
     onward = λ h k live_h live_k more.
         absurd
-        (ends_of (λ i v w. pos 0 <ℤ beyond (at v) (at w) (at (slice_index two k)) → ⊥) a b
-        (ends_of (λ i v w. pos 0 <ℤ beyond (at a) (at b) (at v) → ⊥) a b (not_beyond_start (at a) (at b)) (not_beyond_end (at a) (at b)) k (half-below s k live_k))
-        (ends_of (λ i v w. pos 0 <ℤ beyond (at b) (at a) (at v) → ⊥) a b (not_beyond_end (at b) (at a)) (not_beyond_start (at b) (at a)) k (half-below s k live_k))
+        (ends_of (λ i v w. pos 0 <ℤ dot_of_steps (at v) (at w) (at (slice_index two k)) → ⊥) a b
+        (ends_of (λ i v w. pos 0 <ℤ dot_of_steps (at a) (at b) (at v) → ⊥) a b (not_beyond_start (at a) (at b)) (not_beyond_end (at a) (at b)) k (half-below s k live_k))
+        (ends_of (λ i v w. pos 0 <ℤ dot_of_steps (at b) (at a) (at v) → ⊥) a b (not_beyond_end (at b) (at a)) (not_beyond_start (at b) (at a)) k (half-below s k live_k))
         h (half-below s h live_h) more);
   }

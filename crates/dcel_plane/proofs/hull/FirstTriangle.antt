@@ -17,9 +17,9 @@ use Rattle.dcel_maps.proofs.Liveness.{closed-half_live, is_live-parts}
 use Rattle.dcel_maps.proofs.walks.Links.{half-below}
 use Rattle.dcel_plane.specs.Plane.{TurnsLeft}
 use Rattle.dcel_plane.proofs.edits.Alone.{alone_in_plane}
-use Rattle.dcel_plane.specs.covering.Covering.{IsConvex, IsHull}
+use Rattle.dcel_plane.specs.covering.Covering.{IsConvex, IsHull, Supports}
 use Rattle.dcel_plane.specs.covering.Delaunay.{IsDelaunayTriangulation}
-use Rattle.dcel_plane.proofs.hull.Beside.{Beside, beside_end, beside_right, beside_start}
+use Rattle.dcel_plane.proofs.hull.Beside.{supports_end, supports_right, supports_start}
 
 pub no_turn : (a b c : Point) → a.x ≡ b.x → a.y ≡ b.y → orient2d_of a b c ≡ pos 0
 no_turn a b c ex ey = rw (ex, ey) (by_terms (b.x ∷ b.y ∷ c.x ∷ c.y ∷ []) (orient (spot 0) (spot 0) (spot 1)) (num (pos 0)) refl)
@@ -74,18 +74,17 @@ module _ {V DE UE F : Type 0} (at : ℕ → Point) (vertices : V × V × V) (hal
   right_20 = let e = orient2d-turned (at 1) (at 2) (at 0) in let r = right_12 in omega (arith, ordered, e, r)
 
   all_beside : (h k : ℕ) → h < 6 → k < 6 → face_in words_alone h ≡ 0
-      → Beside (at (slice_index origins_alone h)) (at (slice_index origins_alone (rev h))) (at (slice_index origins_alone k))
+      → Supports (at (slice_index origins_alone h)) (at (slice_index origins_alone (rev h))) (at (slice_index origins_alone k))
   all_beside h k below_h below_k on =
-      outer_alone (λ a b. Beside (at a) (at b) (at (slice_index origins_alone k)))
-      (starts_alone (λ c. Beside (at 0) (at 1) (at c)) (beside_start (at 0) (at 1)) (beside_end (at 0) (at 1)) (beside_right (at 0) (at 1) (at 2) right_01) k below_k)
-      (starts_alone (λ c. Beside (at 1) (at 2) (at c)) (beside_right (at 1) (at 2) (at 0) right_12) (beside_start (at 1) (at 2)) (beside_end (at 1) (at 2)) k below_k)
-      (starts_alone (λ c. Beside (at 2) (at 0) (at c)) (beside_end (at 2) (at 0)) (beside_right (at 2) (at 0) (at 1) right_20) (beside_start (at 2) (at 0)) k below_k)
+      outer_alone (λ a b. Supports (at a) (at b) (at (slice_index origins_alone k)))
+      (starts_alone (λ c. Supports (at 0) (at 1) (at c)) (supports_start (at 0) (at 1)) (supports_end (at 0) (at 1)) (supports_right (at 0) (at 1) (at 2) right_01) k below_k)
+      (starts_alone (λ c. Supports (at 1) (at 2) (at c)) (supports_right (at 1) (at 2) (at 0) right_12) (supports_start (at 1) (at 2)) (supports_end (at 1) (at 2)) k below_k)
+      (starts_alone (λ c. Supports (at 2) (at 0) (at c)) (supports_end (at 2) (at 0)) (supports_right (at 2) (at 0) (at 1) right_20) (supports_start (at 2) (at 0)) k below_k)
       h below_h on
 
   pub alone_convex : IsConvex at s
   alone_convex = record {
-    right = λ h k live on live_k. (all_beside h k (half-below s h live) (half-below s k live_k) on).0;
-    between = λ h k live on live_k. (all_beside h k (half-below s h live) (half-below s k live_k) on).1;
+    supports = λ h k live on live_k. all_beside h k (half-below s h live) (half-below s k live_k) on;
   }
 
   abbrev Same : ℕ → ℕ → Type 0

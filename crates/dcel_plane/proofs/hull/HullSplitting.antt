@@ -14,22 +14,19 @@ use Rattle.dcel_maps.specs.Cyclic.{from_least}
 use Rattle.dcel_maps.specs.Shapes.{IsLive, IsMesh, Mesh, Shape, end_of, face_of, map_of, origin_of}
 use Rattle.dcel_maps.specs.Words.{become, count_of, word_of}
 use Rattle.dcel_maps.specs.edits.Split.{half_edge_split}
-use Rattle.dcel_maps.proofs.edits.Patches.{Patch}
 use Rattle.dcel_maps.proofs.maps.Soundness.{rev_live}
 use Rattle.dcel_maps.proofs.maps.Triangles.{IsTriangleOf}
-use Rattle.dcel_maps.proofs.walks.Links.{half-below}
-use Rattle.dcel_plane.specs.Plane.{IsPlane, LiesAcross, TurnsLeft}
+use Rattle.dcel_plane.specs.Plane.{LiesAcross, TrianglesTurnLeft, TurnsLeft}
 use Rattle.dcel_plane.proofs.edits.Corners.{left_of_triangle}
-use Rattle.dcel_plane.proofs.edits.Splits.{seen_after, seen_before, side_triangle}
-use Rattle.dcel_plane.proofs.edits.Written.{IsWritten, origin_away, origin_more}
-use Rattle.dcel_plane.specs.covering.Covering.{IsConvex, IsHull, apart_along}
-use Rattle.dcel_plane.proofs.covering.Along.{IsBetween, between_ends, dot, dot_start, long, placed, sides}
+use Rattle.dcel_plane.proofs.edits.Splits.{half_more, half_old, half_start, half_words, seen_after, seen_before, side_triangle}
+use Rattle.dcel_plane.specs.covering.Covering.{IsConvex, IsHull, Supports, dot}
+use Rattle.dcel_plane.proofs.covering.Along.{IsBetween, between_ends, dot_start, edges_long, placed, sides}
 use Rattle.dcel_plane.proofs.covering.Inside.{on_end, on_start}
 use Rattle.dcel_plane.proofs.hull.Becomes.{in_become, in_outer, of_pair, old_or_new, rev-3, was_live, was_on}
-use Rattle.dcel_plane.proofs.hull.Beside.{Beside, beside_end, beside_start, end_beside, other_beside, start_beside}
-use Rattle.dcel_plane.proofs.hull.Keeping.{gains_distinct}
+use Rattle.dcel_plane.proofs.hull.Beside.{supports_end, supports_start, end_beside, other_beside, start_beside}
+use Rattle.dcel_plane.proofs.hull.Keeping.{StaysOuter, gains_distinct, gains_once}
 
-module _ {V DE UE F : Type 0} (m : Mesh V DE UE F) (mesh : IsMesh m) (at : ℕ → Point) (plane : IsPlane at m.shape)
+module _ {V DE UE F : Type 0} (m : Mesh V DE UE F) (mesh : IsMesh m) (at : ℕ → Point) (plane : TrianglesTurnLeft at m.shape)
     (convex : IsConvex at m.shape) (hull : IsHull at m.shape) (e v : ℕ) (live : IsLive m.shape e) (triangle : IsTriangle m.shape (face_of m.shape e)) (inner : 0 < face_of m.shape e)
     (bare : face_of m.shape (rev e) ≡ 0) (across : LiesAcross at m.shape e (at v)) (on : orient2d_of (at (origin_of m.shape e)) (at (end_of m.shape e)) (at v) ≡ pos 0)
     (halves : List DE) (edges : List UE) (faces : List F) where
@@ -64,8 +61,7 @@ module _ {V DE UE F : Type 0} (m : Mesh V DE UE F) (mesh : IsMesh m) (at : ℕ �
 
   -- half edges have a length
   far : (h : ℕ) → IsLive s h → pos 0 <ℤ dot (at (end_of s h)) (at (end_of s h)) (p h)
-  far h live_h =
-      long (at (end_of s h)) (p h) (λ ex ey. mesh.sound.two_ends h live_h (sym (hull.distinct (rev h) h (rev_live (map_of s) h live_h) live_h ex ey)))
+  far = edges_long at s mesh.sound hull.distinct
 
   ends_t : end_of s t ≡ origin_of s e
   ends_t = ap (origin_of s) (rev-rev e)
@@ -76,11 +72,11 @@ module _ {V DE UE F : Type 0} (m : Mesh V DE UE F) (mesh : IsMesh m) (at : ℕ �
       (let o = orient2d-first_swapped (p e) (p t) (at v) in omega (arith, ordered, o, on))
 
   right_t : (k : ℕ) → IsLive s k → orient2d_of (p t) (p e) (p k) ≤ℤ pos 0
-  right_t k live_k = subst (λ (i : ℕ). orient2d_of (p t) (at i) (p k) ≤ℤ pos 0) ends_t (convex.right t k live_t bare live_k)
+  right_t k live_k = subst (λ (i : ℕ). orient2d_of (p t) (at i) (p k) ≤ℤ pos 0) ends_t (convex.supports t k live_t bare live_k).0
 
-  apart_t : (k : ℕ) → IsLive s k → orient2d_of (p t) (p e) (p k) ≡ pos 0 → pos 0 ≤ℤ apart_along (p t) (p e) (p k)
+  apart_t : (k : ℕ) → IsLive s k → orient2d_of (p t) (p e) (p k) ≡ pos 0 → pos 0 ≤ℤ dot (p t) (p e) (p k)
   apart_t k live_k =
-      subst (λ (i : ℕ). orient2d_of (p t) (at i) (p k) ≡ pos 0 → pos 0 ≤ℤ apart_along (p t) (at i) (p k)) ends_t (convex.between t k live_t bare live_k)
+      subst (λ (i : ℕ). orient2d_of (p t) (at i) (p k) ≡ pos 0 → pos 0 ≤ℤ dot (p t) (at i) (p k)) ends_t (convex.supports t k live_t bare live_k).1
 
   -- no vertex stands where v does
   alone : (k : ℕ) → IsLive s k → (p k).x ≡ (at v).x → (p k).y ≡ (at v).y → ⊥
@@ -109,11 +105,11 @@ module _ {V DE UE F : Type 0} (m : Mesh V DE UE F) (mesh : IsMesh m) (at : ℕ �
   not_v k live_k is = alone k live_k (ap (λ (i : ℕ). (at i).x) is) (ap (λ (i : ℕ). (at i).y) is)
 
   -- v beside another outer half edge
-  beside_v : (h : ℕ) → IsLive s h → face_of s h ≡ 0 → h ≢ t → Beside (p h) (at (end_of s h)) (at v)
+  beside_v : (h : ℕ) → IsLive s h → face_of s h ≡ 0 → h ≢ t → Supports (p h) (at (end_of s h)) (at v)
   beside_v h live_h on_h differs =
       let back = rev_live (map_of s) h live_h in
       other_beside (p t) (p e) (at v) between (p h) (at (end_of s h)) (far h live_h)
-      (convex.right h e live_h on_h live) (convex.right h t live_h on_h live_t) (convex.between h e live_h on_h live) (convex.between h t live_h on_h live_t)
+      (convex.supports h e live_h on_h live).0 (convex.supports h t live_h on_h live_t).0 (convex.supports h e live_h on_h live).1 (convex.supports h t live_h on_h live_t).1
       (apart_t h live_h) (apart_t (rev h) back)
       (λ ex ey fx fy. differs (hull.once h t live_h live_t on_h bare (hull.distinct h t live_h live_t ex ey)))
       (λ ex ey fx fy.
@@ -121,37 +117,18 @@ module _ {V DE UE F : Type 0} (m : Mesh V DE UE F) (mesh : IsMesh m) (at : ℕ �
       let ends = hull.distinct (rev h) t back live_t fx fy in
       let q : orient2d_of (p e) (p t) (p ep) ≤ℤ pos 0 =
       subst (λ (i : ℕ). orient2d_of (p e) (at i) (p ep) ≤ℤ pos 0) ends
-      (subst (λ (i : ℕ). orient2d_of (at i) (at (end_of s h)) (p ep) ≤ℤ pos 0) starts (convex.right h ep live_h on_h near.live_z)) in
+      (subst (λ (i : ℕ). orient2d_of (at i) (at (end_of s h)) (p ep) ≤ℤ pos 0) starts (convex.supports h ep live_h on_h near.live_z).0) in
       let l = abc in
       omega (arith, ordered, q, l))
 
-  abbrev words : Patch (List ℕ)
-  words = record {
-    set = (f, from_least (e ∷ (n + 1) ∷ ep ∷ [])) ∷ (g, from_least (become t ((n + 3) ∷ t ∷ []) (word_of s.words g))) ∷ [];
-    more = (en ∷ n ∷ (n + 2) ∷ []) ∷ [];
-  }
-
-  abbrev origins : Patch ℕ
-  origins = record { set = (t, v) ∷ []; more = origin_of s ep ∷ v ∷ v ∷ end ∷ [] }
-
-  written : IsWritten s r words origins
-  written = record {
-    words_are = refl;
-    origins_are = refl;
-    many = mesh.sized.origins;
-    starts_stay = λ h lives inside away. (λ is. away.1.0 (ap (face_of s) is), tt);
-  }
-
   old : (h : ℕ) → IsLive s h → h ≢ t → origin_of s h ≡ origin_of r h
-  old h lives differs = sym (origin_away at s r words origins written mesh.sound h lives (differs, tt))
+  old = half_old m mesh e v live halves edges faces at
 
   from_t : origin_of r t ≡ v
-  from_t =
-      get_or_append_left (slice_set s.origins t v) origins.more 0 t (omega (arith, mesh.sized.origins, half-below s t live_t, length-set s.origins t v))
-      ∙ get_or-set_same s.origins t v 0 (omega (arith, mesh.sized.origins, half-below s t live_t))
+  from_t = half_start m mesh e v live halves edges faces at
 
-  more_at : (k i : ℕ) → k ≡ 2 * s.edges + i → origin_of r k ≡ slice_index origins.more i
-  more_at k i is = origin_more at s r words origins written mesh.sound k i is
+  more_at : (k i : ℕ) → k ≡ 2 * s.edges + i → origin_of r k ≡ slice_index (origin_of s ep ∷ v ∷ v ∷ end ∷ []) i
+  more_at = half_more m mesh e v live halves edges faces at
 
   abbrev outer_items : List ℕ
   outer_items = become t ((n + 3) ∷ t ∷ []) (word_of s.words g)
@@ -161,20 +138,13 @@ module _ {V DE UE F : Type 0} (m : Mesh V DE UE F) (mesh : IsMesh m) (at : ℕ �
       let first = from_least (e ∷ (n + 1) ∷ ep ∷ []) in
       let second = from_least outer_items in
       subst (λ (k : ℕ). word_of r.words k ≡ second) bare
-      (get_or_append_left (slice_set (slice_set s.words f first) g second) words.more [] g
+      (get_or_append_left (slice_set (slice_set s.words f first) g second) (half_words m mesh e v live halves edges faces at).more [] g
       (let k = length-set (slice_set s.words f first) g second in let l = length-set s.words f first in let o = mesh.sized.outer in omega (arith, k, l, o, bare))
       ∙ get_or-set_same (slice_set s.words f first) g second [] (let l = length-set s.words f first in let o = mesh.sized.outer in omega (arith, l, o, bare)))
 
-  -- an outer half edge afterwards: one that stays, or a part of t
-  pub record Stays (h : ℕ) : Type 0 where
-    pub here : IsLive s h
-    pub outer : face_of s h ≡ 0
-    pub off : h ≢ t
-    pub start : origin_of s h ≡ origin_of r h
-    pub end : end_of s h ≡ end_of r h
-
   module _ (result : IsMesh (half_edge_split m e v halves edges faces)) where
-    outer_cases : (h : ℕ) → IsLive r h → face_of r h ≡ 0 → Stays h ⊎ ((h ≡ n + 3) ⊎ (h ≡ t))
+    -- an outer half edge afterwards: one that stays, or a part of t
+    outer_cases : (h : ℕ) → IsLive r h → face_of r h ≡ 0 → StaysOuter s r t h ⊎ ((h ≡ n + 3) ⊎ (h ≡ t))
     outer_cases h live_h on_h =
         let found = in_outer s r mesh.sound result.sound outer_items outer_word h live_h on_h in
         elim (in_become h t ((n + 3) ∷ t ∷ []) (word_of s.words g) found) [
@@ -212,7 +182,7 @@ module _ {V DE UE F : Type 0} (m : Mesh V DE UE F) (mesh : IsMesh m) (at : ℕ �
     of_start P new was k live_k = elim (starts k live_k) [ inl is ↦ subst P (sym is) new | inr found ↦ subst P found.2 (was found.0 found.1) ]
 
     abbrev B : ℕ → ℕ → ℕ → Type 0
-    B a b c = Beside (at a) (at b) (at c)
+    B a b c = Supports (at a) (at b) (at c)
 
     -- where they lead
     starts_3 : origin_of r (n + 3) ≡ origin_of s t
@@ -230,56 +200,30 @@ module _ {V DE UE F : Type 0} (m : Mesh V DE UE F) (mesh : IsMesh m) (at : ℕ �
           subst (λ (b : ℕ). B (origin_of r h) b (origin_of r k)) was.end
           (subst (λ (a : ℕ). B a (end_of s h) (origin_of r k)) was.start
           (of_start (λ c. B (origin_of s h) (end_of s h) c) (beside_v h was.here was.outer was.off)
-          (λ j live_j. (convex.right h j was.here was.outer live_j, convex.between h j was.here was.outer live_j)) k live_k))
+          (λ j live_j. convex.supports h j was.here was.outer live_j) k live_k))
       | inr part ↦ elim part [
         | inl is_3 ↦
             subst (λ (i : ℕ). B (origin_of r i) (end_of r i) (origin_of r k)) (sym is_3)
             (subst (λ (b : ℕ). B (origin_of r (n + 3)) b (origin_of r k)) (sym ends_3)
             (subst (λ (a : ℕ). B a v (origin_of r k)) (sym starts_3)
-            (of_start (λ c. B (origin_of s t) v c) (beside_end (p t) (at v))
+            (of_start (λ c. B (origin_of s t) v c) (supports_end (p t) (at v))
             (λ j live_j. start_beside (p t) (p e) (at v) between (p j) (right_t j live_j) (apart_t j live_j)) k live_k)))
         | inr is_t ↦
             subst (λ (i : ℕ). B (origin_of r i) (end_of r i) (origin_of r k)) (sym is_t)
             (subst (λ (b : ℕ). B (origin_of r t) b (origin_of r k)) (sym ends_at)
             (subst (λ (a : ℕ). B a (origin_of s e) (origin_of r k)) (sym from_t)
-            (of_start (λ c. B v (origin_of s e) c) (beside_start (at v) (p e))
+            (of_start (λ c. B v (origin_of s e) c) (supports_start (at v) (p e))
             (λ j live_j. end_beside (p t) (p e) (at v) between (p j) (right_t j live_j) (apart_t j live_j)) k live_k)))
       ]
     ]
 
     pub half_split_convex : IsConvex at r
     half_split_convex = record {
-      right = λ h k live_h on_h live_k. (beside h k live_h on_h live_k).0;
-      between = λ h k live_h on_h live_k. (beside h k live_h on_h live_k).1;
+      supports = beside;
     }
 
     pub half_split_hull : IsHull at r
     half_split_hull = record {
       distinct = gains_distinct at s r v starts alone hull.distinct;
-      once = λ h k live_h live_k on_h on_k same.
-          elim (outer_cases h live_h on_h) [
-            | inl was ↦ elim (outer_cases k live_k on_k) [
-              | inl too ↦ hull.once h k was.here too.here was.outer too.outer (was.start ∙ same ∙ sym too.start)
-              | inr part ↦ elim part [
-                | inl is_3 ↦ absurd (was.off (hull.once h t was.here live_t was.outer bare (was.start ∙ same ∙ ap (origin_of r) is_3 ∙ starts_3)))
-                | inr is_t ↦ absurd (not_v h was.here (was.start ∙ same ∙ ap (origin_of r) is_t ∙ from_t))
-              ]
-            ]
-            | inr part_h ↦ elim part_h [
-              | inl h_3 ↦ elim (outer_cases k live_k on_k) [
-                | inl too ↦ absurd (too.off (hull.once k t too.here live_t too.outer bare (too.start ∙ sym same ∙ ap (origin_of r) h_3 ∙ starts_3)))
-                | inr part ↦ elim part [
-                  | inl is_3 ↦ h_3 ∙ sym is_3
-                  | inr is_t ↦ absurd (not_v t live_t (sym starts_3 ∙ sym (ap (origin_of r) h_3) ∙ same ∙ ap (origin_of r) is_t ∙ from_t))
-                ]
-              ]
-              | inr h_t ↦ elim (outer_cases k live_k on_k) [
-                | inl too ↦ absurd (not_v k too.here (too.start ∙ sym same ∙ ap (origin_of r) h_t ∙ from_t))
-                | inr part ↦ elim part [
-                  | inl is_3 ↦ absurd (not_v t live_t (sym starts_3 ∙ sym (ap (origin_of r) is_3) ∙ sym same ∙ ap (origin_of r) h_t ∙ from_t))
-                  | inr is_t ↦ h_t ∙ sym is_t
-                ]
-              ]
-            ]
-          ];
+      once = gains_once at s r t v (n + 3) t hull live_t bare not_v outer_cases starts_3 from_t;
     }

@@ -1,12 +1,10 @@
 -- A vertex put into a triangle keeps the hull.
-use Rattle.std.proofs.Common.{◌≡◌, ◌⊎◌, inl, inr, ℕ, zero, suc, ◌+◌, ◌*◌, ◌<◌, List, [], ◌∷◌, slice_set, refl, sym, ap, ◌∙◌, subst, pos, ◌<ℤ◌, ◌≤ℤ◌, eq-zero-or-pos, arith, ◌+ℤ◌}
+use Rattle.std.proofs.Common.{◌≡◌, ◌⊎◌, inl, inr, ℕ, zero, suc, ◌+◌, ◌*◌, ◌<◌, List, [], ◌∷◌, slice_set, refl, sym, ◌∙◌, subst, pos, ◌<ℤ◌, ◌≤ℤ◌, arith, ◌+ℤ◌}
 use Rattle.std.proofs.lemmas.List.{get_or-set_other, get_or_append_left, length-set}
 use Rattle.std.proofs.lemmas.Int.{by_lt_z}
 use Rattle.dcel_fixed.specs.HalfEdges.{rev}
-use Rattle.dcel_fixed.proofs.Halves.{rev-rev}
 use Rattle.dcel_predicates.specs.Determinants.{orient2d_of}
 use Rattle.dcel_predicates.specs.declared.point.Point.{Point}
-use Rattle.dcel_predicates.proofs.Points.{orient2d-first_swapped}
 use Rattle.dcel_predicates.proofs.Signs.{ordered}
 use Rattle.dcel_maps.specs.Conditions.{IsTriangle}
 use Rattle.dcel_maps.specs.Shapes.{IsLive, IsMesh, Mesh, Shape, adjacent_edge_of, end_of, face_of, map_of, next_of, origin_of, prev_of}
@@ -14,13 +12,13 @@ use Rattle.dcel_maps.specs.Triangulations.{AllTriangles}
 use Rattle.dcel_maps.specs.Words.{word_of}
 use Rattle.dcel_maps.specs.edits.Triangle.{vertex_inserted}
 use Rattle.dcel_maps.proofs.maps.Soundness.{rev_live}
-use Rattle.dcel_plane.specs.Plane.{IsPlane, LiesInside, TurnsLeft}
+use Rattle.dcel_plane.specs.Plane.{LiesInside, TrianglesTurnLeft, TurnsLeft}
 use Rattle.dcel_plane.proofs.edits.Inserted.{first_side, old, origins, second_side, third_side, was, words, written}
 use Rattle.dcel_plane.proofs.edits.Written.{origin_more}
 use Rattle.dcel_plane.specs.covering.Covering.{IsConvex, IsHull}
 use Rattle.dcel_plane.specs.covering.Places.{orient_at}
 use Rattle.dcel_plane.proofs.covering.Alone.{none_inside}
-use Rattle.dcel_plane.proofs.covering.Faces.{not_bare}
+use Rattle.dcel_plane.proofs.covering.Faces.{right_of_hull}
 use Rattle.dcel_plane.proofs.covering.Inside.{as_place, left, place_of, weighed}
 use Rattle.dcel_plane.proofs.covering.Products.{no_weights}
 use Rattle.dcel_plane.proofs.covering.Triangles.{left_at}
@@ -44,7 +42,7 @@ module _ (a b c e f : Point) (turn : pos 0 <ℤ orient2d_of a b c) (at_a : pos 0
       (left a b c e f (place_of q) turn at_a at_b at_c (not_all_on g off)
       (subst (λ i. pos 0 <ℤ i) (sym (as_place a b q)) ab, subst (λ i. pos 0 <ℤ i) (sym (as_place b c q)) bc, subst (λ i. pos 0 <ℤ i) (sym (as_place c a q)) ca))
 
-module _ {V DE UE F : Type 0} (m : Mesh V DE UE F) (mesh : IsMesh m) (triangles : AllTriangles m.shape) (at : ℕ → Point) (plane : IsPlane at m.shape)
+module _ {V DE UE F : Type 0} (m : Mesh V DE UE F) (mesh : IsMesh m) (triangles : AllTriangles m.shape) (at : ℕ → Point) (plane : TrianglesTurnLeft at m.shape)
     (convex : IsConvex at m.shape) (hull : IsHull at m.shape) (v f : ℕ) (inner : 0 < f) (triangle : IsTriangle m.shape f) (lies : LiesInside at m.shape f (at v))
     (halves : List DE) (edges : List UE) (faces : List F) where
   abbrev s : Shape
@@ -81,21 +79,11 @@ module _ {V DE UE F : Type 0} (m : Mesh V DE UE F) (mesh : IsMesh m) (triangles 
   ca = third_side m mesh v f triangle halves edges faces at lies
 
   inserted_right : (h : ℕ) → IsLive s h → face_of s h ≡ 0 → orient2d_of (p h) (at (end_of s h)) (at v) <ℤ pos 0
-  inserted_right h live on = elim (eq-zero-or-pos (face_of s (rev h))) [
-    | inl bare ↦ absurd (not_bare m mesh triangles at plane convex hull h a live on bare live_a inner_a)
-    | inr facing ↦
-        let tri = was m mesh v f triangle halves edges faces at in
-        let back = rev_live (map_of s) h live in
-        let ends : origin_of s (next_of s (rev h)) ≡ origin_of s h = mesh.sound.joined (rev h) back ∙ ap (origin_of s) (rev-rev h) in
-        let off : pos 0 <ℤ orient2d_of (p (rev h)) (p h) (p (prev_of s (rev h))) =
-        subst (λ (i : ℕ). pos 0 <ℤ orient2d_of (p (rev h)) (at i) (p (prev_of s (rev h)))) ends (left_at m mesh triangles at plane (rev h) back facing) in
-        let not_right : (i : ℕ) → IsLive s i → pos 0 ≤ℤ orient2d_of (p (rev h)) (p h) (p i) =
-        λ i live_i. let r = convex.right h i live on live_i in let o = orient2d-first_swapped (p h) (p (rev h)) (p i) in omega (arith, ordered, r, o) in
-        let left = inserted_left (p a) (p b) (p c) (p (rev h)) (p h) (left_at m mesh triangles at plane a live_a inner_a)
-        (not_right a live_a) (not_right b tri.live_y) (not_right c tri.live_z) (p (prev_of s (rev h))) (at v) off ab bc ca in
-        let o = orient2d-first_swapped (p h) (p (rev h)) (at v) in
-        omega (arith, ordered, left, o)
-  ]
+  inserted_right =
+      right_of_hull m mesh triangles at plane convex hull (at v) a live_a inner_a (λ h none_right off.
+      let tri = was m mesh v f triangle halves edges faces at in
+      inserted_left (p a) (p b) (p c) (p (rev h)) (p h) (left_at m mesh triangles at plane a live_a inner_a)
+      (none_right a live_a) (none_right b tri.live_y) (none_right c tri.live_z) (p (prev_of s (rev h))) (at v) off ab bc ca)
 
   inserted_alone : (k : ℕ) → IsLive s k → (p k).x ≡ (at v).x → (p k).y ≡ (at v).y → ⊥
   inserted_alone = none_inside m mesh triangles at plane convex hull (at v) a live_a inner_a ab bc ca

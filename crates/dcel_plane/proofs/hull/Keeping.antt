@@ -1,15 +1,12 @@
 -- Edits inside of the hull keep it: a flip, and an insertion of a vertex that lies on the right of each outer half edge.
-use Rattle.std.proofs.Common.{◌≡◌, ◌≢◌, ◌⊎◌, inl, inr, ℕ, ◌+◌, ◌*◌, ◌<◌, List, [], ◌∷◌, slice_set, refl, sym, ap, ◌∙◌, subst, pos, ◌<ℤ◌, ◌≤ℤ◌, arith}
+use Rattle.std.proofs.Common.{◌≡◌, ◌≢◌, ◌⊎◌, inl, inr, ℕ, ◌+◌, ◌*◌, ◌<◌, List, refl, sym, ap, ◌∙◌, subst, pos, ◌<ℤ◌, arith}
 use Rattle.std.proofs.lemmas.Bool.{cases_eq}
-use Rattle.std.proofs.lemmas.List.{get_or-set_other}
 use Rattle.dcel_fixed.specs.HalfEdges.{rev}
 use Rattle.dcel_fixed.proofs.Halves.{rev-double, rev-rev}
 use Rattle.dcel_predicates.specs.Determinants.{orient2d_of}
 use Rattle.dcel_predicates.specs.declared.point.Point.{Point}
-use Rattle.dcel_predicates.proofs.Signs.{ordered}
 use Rattle.dcel_maps.specs.Conditions.{CanFlip}
-use Rattle.dcel_maps.specs.Cyclic.{from_least}
-use Rattle.dcel_maps.specs.Shapes.{IsLive, IsMesh, IsSound, Mesh, Shape, end_of, face_of, map_of, next_of, origin_of, prev_of}
+use Rattle.dcel_maps.specs.Shapes.{IsLive, IsMesh, IsSound, Mesh, Shape, end_of, face_of, map_of, origin_of, prev_of}
 use Rattle.dcel_maps.specs.Words.{count_of, word_of}
 use Rattle.dcel_maps.specs.edits.Flip.{edge_flipped}
 use Rattle.dcel_maps.proofs.Liveness.{even_live, odd_live}
@@ -17,9 +14,10 @@ use Rattle.dcel_maps.proofs.edits.Flips.{flipped_mesh}
 use Rattle.dcel_maps.proofs.maps.Soundness.{rev_live}
 use Rattle.dcel_maps.proofs.walks.Links.{links_stand, prev-live}
 use Rattle.dcel_maps.proofs.words.Reading.{stands_in_face}
-use Rattle.dcel_plane.proofs.edits.Flipped.{origin_e, origin_same, origin_t}
-use Rattle.dcel_plane.specs.covering.Covering.{HasDistinctPoints, IsConvex, IsHull, apart_along}
+use Rattle.dcel_plane.proofs.edits.Flipped.{origin_e, origin_same, origin_t, word_else}
+use Rattle.dcel_plane.specs.covering.Covering.{HasDistinctPoints, IsConvex, IsHull, Supports}
 use Rattle.dcel_plane.proofs.hull.Becomes.{was_live, was_on}
+use Rattle.dcel_plane.proofs.hull.Beside.{supports_right}
 
 -- each outer half edge was one, with the same ends
 pub record WasOuter (s n : Shape) (h : ℕ) : Type 0 where
@@ -59,6 +57,39 @@ gains_distinct at s n v starts alone distinct h k live_h live_k =
     of_start : (P : ℕ → Type 0) → P v → ((j : ℕ) → IsLive s j → P (origin_of s j)) → (k : ℕ) → IsLive n k → P (origin_of n k)
     of_start P new was k live = elim (starts k live) [ inl is ↦ subst P (sym is) new | inr found ↦ subst P found.2 (was found.0 found.1) ]
 
+-- an outer half edge that stays, and isn't e
+pub record StaysOuter (s n : Shape) (e h : ℕ) : Type 0 where
+  pub here : IsLive s h
+  pub outer : face_of s h ≡ 0
+  pub off : h ≢ e
+  pub start : origin_of s h ≡ origin_of n h
+  pub end : end_of s h ≡ end_of n h
+
+-- where two half edges come for e, i from where it starts and j from v, where no vertex was, the outer face passes each vertex once still
+module _ (at : ℕ → Point) (s n : Shape) (e v i j : ℕ) (hull : IsHull at s) (live : IsLive s e) (on : face_of s e ≡ 0) (not_v : (k : ℕ) → IsLive s k → origin_of s k ≢ v)
+    (cases : (h : ℕ) → IsLive n h → face_of n h ≡ 0 → StaysOuter s n e h ⊎ ((h ≡ i) ⊎ (h ≡ j))) (starts_i : origin_of n i ≡ origin_of s e) (starts_j : origin_of n j ≡ v) where
+  not_both : (h k : ℕ) → StaysOuter s n e h → (k ≡ i) ⊎ (k ≡ j) → origin_of n h ≡ origin_of n k → ⊥
+  not_both h k was (inl is) same = was.off (hull.once h e was.here live was.outer on (was.start ∙ same ∙ ap (origin_of n) is ∙ starts_i))
+  not_both h k was (inr is) same = not_v h was.here (was.start ∙ same ∙ ap (origin_of n) is ∙ starts_j)
+
+  not_one : (h k : ℕ) → h ≡ i → k ≡ j → origin_of n h ≡ origin_of n k → ⊥
+  not_one h k is_i is_j same = not_v e live (sym starts_i ∙ sym (ap (origin_of n) is_i) ∙ same ∙ ap (origin_of n) is_j ∙ starts_j)
+
+  pub gains_once : (h k : ℕ) → IsLive n h → IsLive n k → face_of n h ≡ 0 → face_of n k ≡ 0 → origin_of n h ≡ origin_of n k → h ≡ k
+  gains_once h k live_h live_k on_h on_k same = elim (cases h live_h on_h) [
+    | inl was ↦ elim (cases k live_k on_k) [
+      | inl too ↦ hull.once h k was.here too.here was.outer too.outer (was.start ∙ same ∙ sym too.start)
+      | inr new ↦ absurd (not_both h k was new same)
+    ]
+    | inr new_h ↦ elim (cases k live_k on_k) [
+      | inl too ↦ absurd (not_both k h too new_h (sym same))
+      | inr new ↦ elim new_h [
+        | inl h_i ↦ elim new [ inl k_i ↦ h_i ∙ sym k_i | inr k_j ↦ absurd (not_one h k h_i k_j same) ]
+        | inr h_j ↦ elim new [ inl k_i ↦ absurd (not_one k h k_i h_j (sym same)) | inr k_j ↦ h_j ∙ sym k_j ]
+      ]
+    ]
+  ]
+
 -- where the outer face's word stays, each outer half edge was one
 pub same_outer : (s n : Shape) → IsSound s → IsSound n → word_of n.words 0 ≡ word_of s.words 0 → (h : ℕ) → IsLive n h → face_of n h ≡ 0 → IsLive s h × (face_of s h ≡ 0)
 same_outer s n sound sound_after same h live on =
@@ -67,39 +98,20 @@ same_outer s n sound sound_after same h live on =
     (was_live s sound h found, was_on s sound h found)
 
 module _ (at : ℕ → Point) (s n : Shape) (v : ℕ) (outer : KeepsOuter s n) (starts : StartsOldOr s n v) (within : LiesWithin at s v) where
-  abbrev Right : ℕ → ℕ → ℕ → Type 0
-  Right a b k = orient2d_of (at a) (at b) (at k) ≤ℤ pos 0
-
-  abbrev Apart : ℕ → ℕ → ℕ → Type 0
-  Apart a b k = orient2d_of (at a) (at b) (at k) ≡ pos 0 → pos 0 ≤ℤ apart_along (at a) (at b) (at k)
-
-  -- what holds of the ends of h and the start of k, in the old shape
-  carried : (P : ℕ → ℕ → ℕ → Type 0) (a b k a' b' k' : ℕ) → a ≡ a' → b ≡ b' → k ≡ k' → P a b k → P a' b' k'
-  carried P a b k a' b' k' ea eb ek is = subst (λ (i : ℕ). P a' b' i) ek (subst (λ (i : ℕ). P a' i k) eb (subst (λ (i : ℕ). P i b k) ea is))
-
   pub gains_convex : IsConvex at s → IsConvex at n
   gains_convex convex = record {
-    right = λ h k live on live_k.
+    supports = λ h k live on live_k.
         let was = outer h live on in
-        elim (starts k live_k) [
-          | inl new ↦
-              carried Right (origin_of s h) (end_of s h) v (origin_of n h) (end_of n h) (origin_of n k) was.start was.end (sym new)
-              (let r = within.right h was.live was.on in omega (arith, ordered, r))
-          | inr old ↦
-              carried Right (origin_of s h) (end_of s h) (origin_of s old.0) (origin_of n h) (end_of n h) (origin_of n k) was.start was.end old.2
-              (convex.right h old.0 was.live was.on old.1)
-        ];
-    between = λ h k live on live_k.
-        let was = outer h live on in
-        elim (starts k live_k) [
-          | inl new ↦
-              carried Apart (origin_of s h) (end_of s h) v (origin_of n h) (end_of n h) (origin_of n k) was.start was.end (sym new)
-              (λ zero. absurd (let r = within.right h was.live was.on in omega (arith, ordered, r, zero)))
-          | inr old ↦
-              carried Apart (origin_of s h) (end_of s h) (origin_of s old.0) (origin_of n h) (end_of n h) (origin_of n k) was.start was.end old.2
-              (convex.between h old.0 was.live was.on old.1)
-        ];
+        subst (λ (b : ℕ). B (origin_of n h) b (origin_of n k)) was.end
+        (subst (λ (a : ℕ). B a (end_of s h) (origin_of n k)) was.start
+        (elim (starts k live_k) [
+          | inl new ↦ subst (λ (c : ℕ). B (origin_of s h) (end_of s h) c) (sym new) (supports_right (at (origin_of s h)) (at (end_of s h)) (at v) (within.right h was.live was.on))
+          | inr old ↦ subst (λ (c : ℕ). B (origin_of s h) (end_of s h) c) old.2 (convex.supports h old.0 was.live was.on old.1)
+        ]));
   }
+    where
+      B : ℕ → ℕ → ℕ → Type 0
+      B a b c = Supports (at a) (at b) (at c)
 
   pub gains_hull : IsHull at s → IsHull at n
   gains_hull hull = record {
@@ -112,23 +124,14 @@ module _ (at : ℕ → Point) (s n : Shape) (v : ℕ) (outer : KeepsOuter s n) (
 
 -- without a new vertex
 module _ (at : ℕ → Point) (s n : Shape) (outer : KeepsOuter s n) (starts : StartsOld s n) where
-  keeps_right : IsConvex at s → (h k : ℕ) → IsLive n h → face_of n h ≡ 0 → IsLive n k
-      → (orient2d_of (at (origin_of n h)) (at (end_of n h)) (at (origin_of n k)) ≤ℤ pos 0)
-      × (orient2d_of (at (origin_of n h)) (at (end_of n h)) (at (origin_of n k)) ≡ pos 0 → pos 0 ≤ℤ apart_along (at (origin_of n h)) (at (end_of n h)) (at (origin_of n k)))
-  keeps_right convex h k live on live_k =
-      let was = outer h live on in
-      let (i, live_i, is) = starts k live_k in
-      subst (λ (j : ℕ). Both (origin_of n h) (end_of n h) j) is
-      (subst (λ (j : ℕ). Both (origin_of n h) j (origin_of s i)) was.end
-      (subst (λ (j : ℕ). Both j (end_of s h) (origin_of s i)) was.start (convex.right h i was.live was.on live_i, convex.between h i was.live was.on live_i)))
-    where
-      Both : ℕ → ℕ → ℕ → Type 0
-      Both a b c = (orient2d_of (at a) (at b) (at c) ≤ℤ pos 0) × (orient2d_of (at a) (at b) (at c) ≡ pos 0 → pos 0 ≤ℤ apart_along (at a) (at b) (at c))
-
   pub keeps_convex : IsConvex at s → IsConvex at n
   keeps_convex convex = record {
-    right = λ h k live on live_k. (keeps_right convex h k live on live_k).0;
-    between = λ h k live on live_k. (keeps_right convex h k live on live_k).1;
+    supports = λ h k live on live_k.
+        let was = outer h live on in
+        let (i, live_i, is) = starts k live_k in
+        subst (λ (c : ℕ). Supports (at (origin_of n h)) (at (end_of n h)) (at c)) is
+        (subst (λ (b : ℕ). Supports (at (origin_of n h)) (at b) (at (origin_of s i))) was.end
+        (subst (λ (a : ℕ). Supports (at a) (at (end_of s h)) (at (origin_of s i))) was.start (convex.supports h i was.live was.on live_i)));
   }
 
   pub keeps_hull : IsHull at s → IsHull at n
@@ -153,16 +156,11 @@ module _ {V DE UE F : Type 0} (m : Mesh V DE UE F) (mesh : IsMesh m) (u : ℕ) (
   abbrev n : Shape
   n = (edge_flipped m u).shape
 
-  outer_word : word_of n.words 0 ≡ word_of s.words 0
-  outer_word =
-      let e = 2 * u in
-      let t = 2 * u + 1 in
-      let first = from_least (e ∷ prev_of s t ∷ next_of s e ∷ []) in
-      let second = from_least (t ∷ prev_of s e ∷ next_of s t ∷ []) in
-      get_or-set_other (slice_set s.words (face_of s e) first) (face_of s t) 0 second [] (λ is. omega (arith, is, inner_facing))
-      ∙ get_or-set_other s.words (face_of s e) 0 first [] (λ is. omega (arith, is, inner))
+  pub outer_word : word_of n.words 0 ≡ word_of s.words 0
+  outer_word = word_else m mesh u can 0 (λ is. omega (arith, is, inner)) (λ is. omega (arith, is, inner_facing))
 
-  away : (h : ℕ) → face_of s h ≡ 0 → (h ≢ 2 * u) × (h ≢ 2 * u + 1)
+  -- an outer half edge is none of that edge
+  pub away : (h : ℕ) → face_of s h ≡ 0 → (h ≢ 2 * u) × (h ≢ 2 * u + 1)
   away h on = (
     λ is. let e = ap (face_of s) is in omega (arith, e, on, inner),
     λ is. let e = ap (face_of s) is in omega (arith, e, on, inner_facing),

@@ -3,7 +3,7 @@ use Rattle.std.proofs.Common.{◌≡◌, ◌≢◌, inl, inr, ℕ, zero, suc, �
 use Rattle.std.proofs.lemmas.Bool.{cases_eq}
 use Rattle.std.proofs.lemmas.List.{get_or-append-add, get_or-set_other, get_or-set_same, get_or_append_left, length-set}
 use Rattle.dcel_fixed.specs.HalfEdges.{rev}
-use Rattle.dcel_fixed.proofs.Halves.{rev-double, rev-rev}
+use Rattle.dcel_fixed.proofs.Halves.{rev-double, rev-double-suc, rev-rev}
 use Rattle.dcel_predicates.specs.Determinants.{orient2d_of}
 use Rattle.dcel_predicates.specs.declared.point.Point.{Point}
 use Rattle.dcel_predicates.proofs.Ring.{by_terms, minus, plus, times as by}
@@ -17,17 +17,17 @@ use Rattle.dcel_maps.specs.edits.Split.{edge_split_on_line}
 use Rattle.dcel_maps.proofs.Liveness.{gives_up_edge-past, is_live-from}
 use Rattle.dcel_maps.proofs.maps.Soundness.{rev_live}
 use Rattle.dcel_maps.proofs.walks.Links.{half-below}
-use Rattle.dcel_plane.proofs.covering.Along.{dot, dot_start, long}
+use Rattle.dcel_plane.proofs.covering.Along.{dot_start, long}
 use Rattle.dcel_plane.proofs.covering.Inside.{on_start}
-use Rattle.dcel_plane.specs.covering.Covering.{apart_along}
-use Rattle.dcel_plane.specs.hull.Straight.{IsStraight, beyond}
-use Rattle.dcel_plane.proofs.hull.Becomes.{old_or_new, rev-1, still_live}
+use Rattle.dcel_plane.specs.covering.Covering.{dot}
+use Rattle.dcel_plane.specs.hull.Straight.{IsStraight, dot_of_steps}
+use Rattle.dcel_plane.proofs.hull.Becomes.{old_or_new, still_live}
 use Rattle.dcel_plane.proofs.hull.Extending.{extended_order}
 use Rattle.dcel_plane.proofs.hull.OneLine.{inside_of, order_of, straight_of}
 use Rattle.dcel_plane.proofs.hull.Parting.{split_order}
 
 -- how far along the line from a to b a point beyond b lies, and one between them
-beyond-is : (a b c : Point) → dot c b a ≡ beyond a b c +ℤ dot b b a
+beyond-is : (a b c : Point) → dot c b a ≡ dot_of_steps a b c +ℤ dot b b a
 beyond-is a b c =
     by_terms (a.x ∷ a.y ∷ b.x ∷ b.y ∷ c.x ∷ c.y ∷ [])
     (plus (by (minus (spot 2).x (spot 0).x) (minus (spot 1).x (spot 0).x)) (by (minus (spot 2).y (spot 0).y) (minus (spot 1).y (spot 0).y)))
@@ -46,7 +46,7 @@ module _ {V DE UE F : Type 0} (m : Mesh V DE UE F) (mesh : IsMesh m) (at : ℕ �
   far_along h live = long (at (end_of s h)) (at (origin_of s h)) (λ ex ey. mesh.sound.two_ends h live (sym (straight.distinct (rev h) h (turned h live) live ex ey)))
 
   module _ (end tip h : ℕ) (is_end : IsLineEnd m.shape end) (live : IsLive m.shape h) (ends_h : end_of m.shape h ≡ end)
-      (on_tip : orient2d_of (at (origin_of m.shape h)) (at end) (at tip) ≡ pos 0) (past : pos 0 <ℤ beyond (at (origin_of m.shape h)) (at end) (at tip))
+      (on_tip : orient2d_of (at (origin_of m.shape h)) (at end) (at tip) ≡ pos 0) (past : pos 0 <ℤ dot_of_steps (at (origin_of m.shape h)) (at end) (at tip))
       (halves : List DE) (edges : List UE) where
     abbrev r : Shape
     r = (line_extended m end tip halves edges).shape
@@ -74,7 +74,7 @@ module _ {V DE UE F : Type 0} (m : Mesh V DE UE F) (mesh : IsMesh m) (at : ℕ �
     ends_n = ap (origin_of r) (rev-double s.edges) ∙ starts_1
 
     ends_1 : end_of r (n + 1) ≡ tip
-    ends_1 = ap (origin_of r) (rev-1 s.edges) ∙ starts_n
+    ends_1 = ap (origin_of r) (rev-double-suc s.edges) ∙ starts_n
 
     live_r : (k : ℕ) → IsLive s k → IsLive r k
     live_r k live_k = still_live s r 1 refl refl k live_k
@@ -127,7 +127,7 @@ module _ {V DE UE F : Type 0} (m : Mesh V DE UE F) (mesh : IsMesh m) (at : ℕ �
           (let e = beyond-is b (at end) (at tip) in omega (arith, ordered, e, past)))
 
   module _ (e v : ℕ) (live : IsLive m.shape e) (on_v : orient2d_of (at (origin_of m.shape e)) (at (end_of m.shape e)) (at v) ≡ pos 0)
-      (inside : apart_along (at (origin_of m.shape e)) (at (end_of m.shape e)) (at v) <ℤ pos 0) (halves : List DE) (edges : List UE) where
+      (inside : dot (at (origin_of m.shape e)) (at (end_of m.shape e)) (at v) <ℤ pos 0) (halves : List DE) (edges : List UE) where
     abbrev q : Shape
     q = (edge_split_on_line m e v halves edges).shape
 
@@ -172,7 +172,7 @@ module _ {V DE UE F : Type 0} (m : Mesh V DE UE F) (mesh : IsMesh m) (at : ℕ �
     ends_l = ap (origin_of q) (rev-double s.edges) ∙ starts_l1
 
     ends_l1 : end_of q (l + 1) ≡ v
-    ends_l1 = ap (origin_of q) (rev-1 s.edges) ∙ starts_l
+    ends_l1 = ap (origin_of q) (rev-double-suc s.edges) ∙ starts_l
 
     starts_e : origin_of q e ≡ origin_of s e
     starts_e = stays e live not_t

@@ -9,12 +9,12 @@ use Rattle.dcel_predicates.proofs.Ring.{Term, by_terms, minus, plus, times as by
 use Rattle.dcel_predicates.proofs.Signs.{ordered, times_positive}
 use Rattle.dcel_predicates.proofs.Terms.{Spot, orient, spot}
 use Rattle.dcel_maps.specs.Shapes.{IsLive, Shape, end_of, origin_of}
-use Rattle.dcel_plane.proofs.covering.Along.{apart_by, by_place, dot, dot_start, no_height, none_first, none_second, one_place, same_side}
+use Rattle.dcel_plane.proofs.covering.Along.{apart_by, by_place, dot_start, no_height, none_first, none_second, one_place, same_side}
 use Rattle.dcel_plane.proofs.covering.Inside.{on_end, on_start}
-use Rattle.dcel_plane.proofs.covering.Products.{below_times, factor_positive, times_below}
-use Rattle.dcel_plane.specs.covering.Covering.{apart_along}
+use Rattle.dcel_plane.proofs.covering.Products.{below_times, both_below, factor_none, factor_positive, times_below}
+use Rattle.dcel_plane.specs.covering.Covering.{dot}
 use Rattle.dcel_plane.specs.hull.Straight.{IsStraight}
-use Rattle.dcel_plane.proofs.hull.Thin.{back_dot, both_below}
+use Rattle.dcel_plane.proofs.hull.Thin.{back_dot}
 
 -- the vertices of a path in the order of their places d
 pub record InOrder (d : ℕ → ℤ) (s : Shape) : Type 0 where
@@ -129,15 +129,10 @@ module _ (b a x y q : Point) (far : pos 0 <ℤ dot a a b) (on_x : orient2d_of b 
       let e = level in
       let f = none_second (dot y a b -ℤ dot x a b) (orient2d_of b a q -ℤ orient2d_of b a x) (omega (arith, ordered, on_x, on_q)) in
       let g = none_first (orient2d_of b a y -ℤ orient2d_of b a x) (dot q a b -ℤ dot x a b) (omega (arith, ordered, on_x, on_y)) in
-      nothing (dot a a b) (orient2d_of x y q) far (omega (arith, ordered, e, f, g))
-    where
-      nothing : (l v : ℤ) → pos 0 <ℤ l → l *ℤ v ≡ pos 0 → v ≡ pos 0
-      nothing l v more zero =
-          by_lt_z (pos 0) v (λ above. absurd (let t = times_positive l v more above in omega (arith, ordered, t, zero)))
-          (λ not. by_lt_z v (pos 0) (λ below. absurd (let t = times_below l v more below in omega (arith, ordered, t, zero))) (λ nor. omega (arith, ordered, not, nor)))
+      factor_none (dot a a b) (orient2d_of x y q) far (omega (arith, ordered, e, f, g))
 
 -- a point on the line on whose two sides the ends lie
-pub inside_of : (b a q : Point) → pos 0 <ℤ dot a a b → orient2d_of b a q ≡ pos 0 → apart_along b a q <ℤ pos 0 → (pos 0 <ℤ dot q a b) × (dot q a b <ℤ dot a a b)
+pub inside_of : (b a q : Point) → pos 0 <ℤ dot a a b → orient2d_of b a q ≡ pos 0 → dot b a q <ℤ pos 0 → (pos 0 <ℤ dot q a b) × (dot q a b <ℤ dot a a b)
 inside_of b a q far on apart =
     let z = dot_start a b in
     by_lt_z (dot b a b) (dot q a b)

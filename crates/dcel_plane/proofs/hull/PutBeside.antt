@@ -2,7 +2,7 @@
 use Rattle.std.proofs.Common.{◌≡◌, ◌≢◌, ◌⊎◌, inl, inr, ℕ, zero, suc, ◌+◌, ◌*◌, ◌<◌, List, [], ◌∷◌, slice_set, slice_index, refl, sym, ap, ◌∙◌, subst, pos, ◌<ℤ◌, ◌≤ℤ◌, eq-zero-or-pos, arith}
 use Rattle.std.proofs.lemmas.List.{get_or-set_same, get_or_append_left, length-set}
 use Rattle.dcel_fixed.specs.HalfEdges.{rev}
-use Rattle.dcel_fixed.proofs.Halves.{rev-double}
+use Rattle.dcel_fixed.proofs.Halves.{rev-double, rev-double-suc}
 use Rattle.dcel_predicates.specs.Determinants.{orient2d_of}
 use Rattle.dcel_predicates.specs.declared.point.Point.{Point}
 use Rattle.dcel_predicates.proofs.Points.{orient2d-last_swapped, orient2d-turned}
@@ -17,16 +17,15 @@ use Rattle.dcel_maps.proofs.maps.Soundness.{rev_live}
 use Rattle.dcel_maps.proofs.walks.Links.{half-below, links_stand}
 use Rattle.dcel_maps.proofs.words.Counts.{count-later, count-same}
 use Rattle.dcel_maps.proofs.words.Reading.{stands_in_face}
-use Rattle.dcel_plane.specs.Plane.{IsLeftOf, IsPlane}
+use Rattle.dcel_plane.specs.Plane.{IsLeftOf, TrianglesTurnLeft}
 use Rattle.dcel_plane.proofs.edits.Written.{IsWritten, origin_away, origin_more}
-use Rattle.dcel_plane.specs.covering.Covering.{IsConvex, IsHull, apart_along}
+use Rattle.dcel_plane.specs.covering.Covering.{IsConvex, IsHull, Supports, dot}
 use Rattle.dcel_plane.proofs.covering.Inside.{on_end, on_start, same_place}
 use Rattle.dcel_plane.proofs.covering.Triangles.{left_at, round}
 use Rattle.dcel_plane.specs.hull.Closing.{IsClosing, IsThick, IsThin, Sees, SeesAfter, SeesBefore}
-use Rattle.dcel_plane.specs.hull.Straight.{IsStraight, beyond}
-use Rattle.dcel_plane.proofs.hull.Becomes.{in_become, in_outer, of_pair, old_or_new, out_outer, put_in, rev-1, rev-2, rev-3, still_live, was_live, was_on}
-use Rattle.dcel_plane.proofs.hull.Beside.{Beside}
-use Rattle.dcel_plane.proofs.hull.Keeping.{gains_distinct}
+use Rattle.dcel_plane.specs.hull.Straight.{IsStraight, dot_of_steps}
+use Rattle.dcel_plane.proofs.hull.Becomes.{in_become, in_outer, of_pair, old_or_new, out_outer, put_in, rev-2, rev-3, still_live, was_live, was_on}
+use Rattle.dcel_plane.proofs.hull.Keeping.{StaysOuter, gains_distinct, gains_once}
 
 module _ {V DE UE F : Type 0} (m : Mesh V DE UE F) (mesh : IsMesh m) (at : ℕ → Point)
     (convex : IsConvex at m.shape) (e v : ℕ) (live : IsLive m.shape e) (on : face_of m.shape e ≡ 0)
@@ -58,7 +57,7 @@ module _ {V DE UE F : Type 0} (m : Mesh V DE UE F) (mesh : IsMesh m) (at : ℕ �
   -- no vertex stands where v does
   alone : (k : ℕ) → IsLive s k → (p k).x ≡ (at v).x → (p k).y ≡ (at v).y → ⊥
   alone k live_k ex ey =
-      let q = convex.right e k live on live_k in
+      let q = (convex.supports e k live on live_k).0 in
       let z = same_place (at x) (at y) (p k) (at v) ex ey in
       omega (arith, ordered, q, z, left)
 
@@ -90,16 +89,9 @@ module _ {V DE UE F : Type 0} (m : Mesh V DE UE F) (mesh : IsMesh m) (at : ℕ �
       (let l = length-set s.words f (from_least outer_items) in let o = mesh.sized.outer in omega (arith, l, o, on))
       ∙ get_or-set_same s.words f (from_least outer_items) [] (let o = mesh.sized.outer in omega (arith, o, on)))
 
-  -- an outer half edge afterwards: one that stays, or one of the two at v
-  pub record Stays (h : ℕ) : Type 0 where
-    pub here : IsLive s h
-    pub outer : face_of s h ≡ 0
-    pub off : h ≢ e
-    pub start : origin_of s h ≡ origin_of r h
-    pub end : end_of s h ≡ end_of r h
-
   module _ (result : IsMesh (face_put_beside m e v halves edges faces)) where
-    outer_cases : (h : ℕ) → IsLive r h → face_of r h ≡ 0 → Stays h ⊎ ((h ≡ n + 3) ⊎ (h ≡ n + 1))
+    -- an outer half edge afterwards: one that stays, or one of the two at v
+    outer_cases : (h : ℕ) → IsLive r h → face_of r h ≡ 0 → StaysOuter s r e h ⊎ ((h ≡ n + 3) ⊎ (h ≡ n + 1))
     outer_cases h live_h on_h =
         let found = in_outer s r mesh.sound result.sound outer_items outer_word h live_h on_h in
         elim (in_become h e ((n + 3) ∷ (n + 1) ∷ []) (word_of s.words f) found) [
@@ -137,17 +129,17 @@ module _ {V DE UE F : Type 0} (m : Mesh V DE UE F) (mesh : IsMesh m) (at : ℕ �
     starts_1 = more_at (n + 1) 1 refl
 
     ends_1 : end_of r (n + 1) ≡ y
-    ends_1 = ap (origin_of r) (rev-1 s.edges) ∙ more_at n 0 (omega arith)
+    ends_1 = ap (origin_of r) (rev-double-suc s.edges) ∙ more_at n 0 (omega arith)
 
     abbrev B : ℕ → ℕ → ℕ → Type 0
-    B a b c = Beside (at a) (at b) (at c)
+    B a b c = Supports (at a) (at b) (at c)
 
     beside : (h k : ℕ) → IsLive r h → face_of r h ≡ 0 → origin_of r h ≢ v → end_of r h ≢ v → IsLive r k → origin_of r k ≢ v → B (origin_of r h) (end_of r h) (origin_of r k)
     beside h k live_h on_h not_start not_end live_k old_k = elim (outer_cases h live_h on_h) [
       | inl was ↦
           subst (λ (b : ℕ). B (origin_of r h) b (origin_of r k)) was.end
           (subst (λ (a : ℕ). B a (end_of s h) (origin_of r k)) was.start
-          (of_old (λ c. B (origin_of s h) (end_of s h) c) (λ j live_j. (convex.right h j was.here was.outer live_j, convex.between h j was.here was.outer live_j)) k live_k old_k))
+          (of_old (λ c. B (origin_of s h) (end_of s h) c) (λ j live_j. convex.supports h j was.here was.outer live_j) k live_k old_k))
       | inr part ↦ elim part [
         | inl is_3 ↦ absurd (not_end (ap (end_of r) is_3 ∙ ends_3))
         | inr is_1 ↦ absurd (not_start (ap (origin_of r) is_1 ∙ starts_1))
@@ -155,7 +147,7 @@ module _ {V DE UE F : Type 0} (m : Mesh V DE UE F) (mesh : IsMesh m) (at : ℕ �
     ]
 
     none_left : (k : ℕ) → IsLive r k → origin_of r k ≢ v → orient2d_of (at x) (at y) (at (origin_of r k)) ≤ℤ pos 0
-    none_left k live_k old_k = of_old (λ c. orient2d_of (at x) (at y) (at c) ≤ℤ pos 0) (λ j live_j. convex.right e j live on live_j) k live_k old_k
+    none_left k live_k old_k = of_old (λ c. orient2d_of (at x) (at y) (at c) ≤ℤ pos 0) (λ j live_j. (convex.supports e j live on live_j).0) k live_k old_k
 
     is_1 : (h : ℕ) → IsLive r h → face_of r h ≡ 0 → origin_of r h ≡ v → h ≡ n + 1
     is_1 h live_h on_h is = elim (outer_cases h live_h on_h) [
@@ -191,9 +183,7 @@ module _ {V DE UE F : Type 0} (m : Mesh V DE UE F) (mesh : IsMesh m) (at : ℕ �
     sees : Sees at r v x y
     sees = record {
       seen = left;
-      none = none_left;
-      between = λ k live_k old_k.
-          of_old (λ c. orient2d_of (at x) (at y) (at c) ≡ pos 0 → pos 0 ≤ℤ apart_along (at x) (at y) (at c)) (λ j live_j. convex.between e j live on live_j) k live_k old_k;
+      supports = λ k live_k old_k. of_old (λ c. B x y c) (λ j live_j. convex.supports e j live on live_j) k live_k old_k;
       side = e;
       live_side = live_r e live;
       inner_side = inner_e;
@@ -210,8 +200,7 @@ module _ {V DE UE F : Type 0} (m : Mesh V DE UE F) (mesh : IsMesh m) (at : ℕ �
 
     pub beside_closing : IsClosing at r v
     beside_closing = record {
-      right = λ h k live_h on_h not_start not_end live_k old_k. (beside h k live_h on_h not_start not_end live_k old_k).0;
-      between = λ h k live_h on_h not_start not_end live_k old_k. (beside h k live_h on_h not_start not_end live_k old_k).1;
+      supports = beside;
       after = λ h live_h on_h is. subst (λ (u : ℕ). SeesAfter at r v u) (ends_y h live_h on_h is) (record { a = x; sees = sees });
       before = λ h live_h on_h is. subst (λ (u : ℕ). SeesBefore at r v u) (starts_x h live_h on_h is) (record { b = y; sees = sees });
       tip = λ h k live_h on_h is_h live_k on_k is_k.
@@ -224,30 +213,11 @@ module _ {V DE UE F : Type 0} (m : Mesh V DE UE F) (mesh : IsMesh m) (at : ℕ �
     pub beside_hull : IsHull at s → IsHull at r
     beside_hull hull = record {
       distinct = gains_distinct at s r v starts alone hull.distinct;
-      once = λ h k live_h live_k on_h on_k same.
-          elim (outer_cases h live_h on_h) [
-            | inl was ↦ elim (outer_cases k live_k on_k) [
-              | inl too ↦ hull.once h k was.here too.here was.outer too.outer (was.start ∙ same ∙ sym too.start)
-              | inr part ↦ elim part [
-                | inl three ↦ absurd (was.off (hull.once h e was.here live was.outer on (was.start ∙ same ∙ ap (origin_of r) three ∙ starts_3)))
-                | inr one ↦ absurd (not_v h was.here (was.start ∙ same ∙ ap (origin_of r) one ∙ starts_1))
-              ]
-            ]
-            | inr part_h ↦ elim part_h [
-              | inl h_3 ↦ elim (outer_cases k live_k on_k) [
-                | inl too ↦ absurd (too.off (hull.once k e too.here live too.outer on (too.start ∙ sym same ∙ ap (origin_of r) h_3 ∙ starts_3)))
-                | inr part ↦ elim part [
-                  | inl three ↦ h_3 ∙ sym three
-                  | inr one ↦ absurd (not_v e live (sym starts_3 ∙ sym (ap (origin_of r) h_3) ∙ same ∙ ap (origin_of r) one ∙ starts_1))
-                ]
-              ]
-              | inr h_1 ↦ h_1 ∙ sym (is_1 k live_k on_k (sym same ∙ ap (origin_of r) h_1 ∙ starts_1))
-            ]
-          ];
+      once = gains_once at s r e v (n + 3) (n + 1) hull live on not_v outer_cases starts_3 starts_1;
     }
 
     -- the old vertices don't all lie on one line, if there was a triangle
-    pub beside_thick : IsHull at s → AllTriangles m.shape → IsPlane at m.shape → (h : ℕ) → IsLive s h → 0 < face_of s h → IsThick at r v
+    pub beside_thick : IsHull at s → AllTriangles m.shape → TrianglesTurnLeft at m.shape → (h : ℕ) → IsLive s h → 0 < face_of s h → IsThick at r v
     beside_thick hull triangles plane h live_h inner_h =
         let j = next_of s h in
         let k = prev_of s h in
@@ -312,18 +282,18 @@ module _ {V DE UE F : Type 0} (m : Mesh V DE UE F) (mesh : IsMesh m) (at : ℕ �
           let was = was_here h live_h not_start not_end in
           let too = was_here k live_k (λ is. not_start (same ∙ is)) not_end_k in
           straight.once h k was too (old h was ∙ same ∙ sym (old k too))
-          (subst (λ (a : ℕ). pos 0 <ℤ apart_along (at a) (at (end_of s k)) (at (origin_of s h))) (sym (old (rev h) (rev_live (map_of s) h was)))
-          (subst (λ (a : ℕ). pos 0 <ℤ apart_along (at (end_of r h)) (at a) (at (origin_of s h))) (sym (old (rev k) (rev_live (map_of s) k too)))
-          (subst (λ (a : ℕ). pos 0 <ℤ apart_along (at (end_of r h)) (at (end_of r k)) (at a)) (sym (old h was)) side)));
+          (subst (λ (a : ℕ). pos 0 <ℤ dot (at a) (at (end_of s k)) (at (origin_of s h))) (sym (old (rev h) (rev_live (map_of s) h was)))
+          (subst (λ (a : ℕ). pos 0 <ℤ dot (at (end_of r h)) (at a) (at (origin_of s h))) (sym (old (rev k) (rev_live (map_of s) k too)))
+          (subst (λ (a : ℕ). pos 0 <ℤ dot (at (end_of r h)) (at (end_of r k)) (at a)) (sym (old h was)) side)));
       onward = λ h k live_h not_start not_end live_k old_k.
           let was = was_here h live_h not_start not_end in
           let back_h = old (rev h) (rev_live (map_of s) h was) in
-          of_old (λ c. pos 0 <ℤ beyond (at (origin_of r h)) (at (end_of r h)) (at c)
-          → (g : ℕ) × IsLive r g × (origin_of r g ≡ end_of r h) × (end_of r g ≢ v) × (pos 0 <ℤ beyond (at (origin_of r h)) (at (end_of r h)) (at (end_of r g))))
+          of_old (λ c. pos 0 <ℤ dot_of_steps (at (origin_of r h)) (at (end_of r h)) (at c)
+          → (g : ℕ) × IsLive r g × (origin_of r g ≡ end_of r h) × (end_of r g ≢ v) × (pos 0 <ℤ dot_of_steps (at (origin_of r h)) (at (end_of r h)) (at (end_of r g))))
           (λ j live_j more.
           let found = straight.onward h j was live_j
-          (subst (λ (b : ℕ). pos 0 <ℤ beyond (at (origin_of s h)) (at b) (at (origin_of s j))) (sym back_h)
-          (subst (λ (a : ℕ). pos 0 <ℤ beyond (at a) (at (end_of r h)) (at (origin_of s j))) (sym (old h was)) more)) in
+          (subst (λ (b : ℕ). pos 0 <ℤ dot_of_steps (at (origin_of s h)) (at b) (at (origin_of s j))) (sym back_h)
+          (subst (λ (a : ℕ). pos 0 <ℤ dot_of_steps (at a) (at (end_of r h)) (at (origin_of s j))) (sym (old h was)) more)) in
           let g = found.0 in
           let live_g = found.1 in
           let back_g = rev_live (map_of s) g live_g in (
@@ -331,9 +301,9 @@ module _ {V DE UE F : Type 0} (m : Mesh V DE UE F) (mesh : IsMesh m) (at : ℕ �
             live_r g live_g,
             sym (old g live_g) ∙ found.2 ∙ back_h,
             (λ is. not_v (rev g) back_g (old (rev g) back_g ∙ is)),
-            subst (λ (c : ℕ). pos 0 <ℤ beyond (at (origin_of r h)) (at (end_of r h)) (at c)) (old (rev g) back_g)
-                (subst (λ (b : ℕ). pos 0 <ℤ beyond (at (origin_of r h)) (at b) (at (end_of s g))) back_h
-                (subst (λ (a : ℕ). pos 0 <ℤ beyond (at a) (at (end_of s h)) (at (end_of s g))) (old h was) found.3)),
+            subst (λ (c : ℕ). pos 0 <ℤ dot_of_steps (at (origin_of r h)) (at (end_of r h)) (at c)) (old (rev g) back_g)
+                (subst (λ (b : ℕ). pos 0 <ℤ dot_of_steps (at (origin_of r h)) (at b) (at (end_of s g))) back_h
+                (subst (λ (a : ℕ). pos 0 <ℤ dot_of_steps (at a) (at (end_of s h)) (at (end_of s g))) (old h was) found.3)),
           )) k live_k old_k;
       fan_after = λ h i live_h on_h is live_i starts_i.
           subst (λ (b : ℕ). orient2d_of (at v) (at b) (at (end_of r i)) ≤ℤ pos 0) (ends_y h live_h on_h is)
@@ -351,6 +321,5 @@ module _ {V DE UE F : Type 0} (m : Mesh V DE UE F) (mesh : IsMesh m) (at : ℕ �
 -- a straight mesh is convex
 pub straight_convex : (at : ℕ → Point) (s : Shape) → IsStraight at s → IsConvex at s
 straight_convex at s straight = record {
-  right = λ h k live on live_k. (let z = straight.line h k live live_k in omega (arith, ordered, z));
-  between = λ h k live on live_k zero_side. straight.between h k live live_k;
+  supports = λ h k live on live_k. ((let z = straight.line h k live live_k in omega (arith, ordered, z)), λ zero_side. straight.between h k live live_k);
 }

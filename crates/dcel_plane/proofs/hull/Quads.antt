@@ -8,11 +8,7 @@ use Rattle.dcel_predicates.proofs.Points.{orient2d-first_swapped}
 use Rattle.dcel_predicates.proofs.Ring.{by_terms, plus, times as by}
 use Rattle.dcel_predicates.proofs.Signs.{negative_times, ordered, times, times_positive}
 use Rattle.dcel_predicates.proofs.Terms.{orient, spot}
-use Rattle.dcel_plane.proofs.covering.Products.{below_times}
-
-pub zero_factor : (k x : ℤ) → pos 0 <ℤ k → pos 0 ≤ℤ x → (k *ℤ x) ≤ℤ pos 0 → x ≡ pos 0
-zero_factor k x hk hx none =
-    by_lt_z (pos 0) x (λ more. absurd (let t = times_positive k x hk more in omega (arith, ordered, t, none))) (λ not. omega (arith, ordered, not, hx))
+use Rattle.dcel_plane.proofs.covering.Products.{below_times, zero_factor}
 
 pub both_none : (o t k l w x y z : ℤ) → o *ℤ t ≡ ((k *ℤ x) +ℤ (l *ℤ y)) +ℤ (w *ℤ z) → pos 0 <ℤ t → o ≤ℤ pos 0 → pos 0 <ℤ k → pos 0 <ℤ l → pos 0 ≤ℤ w
     → pos 0 ≤ℤ x → pos 0 ≤ℤ y → pos 0 ≤ℤ z → (x ≡ pos 0) × (y ≡ pos 0)

@@ -2,7 +2,7 @@
 use Rattle.std.proofs.Common.{◌≡◌, ◌≢◌, ◌⊎◌, inl, inr, ℕ, zero, suc, ◌+◌, ◌*◌, ◌<◌, List, [], ◌∷◌, slice_set, slice_index, refl, sym, ap, ◌∙◌, subst, arith}
 use Rattle.std.proofs.lemmas.List.{get_or-set_same, get_or_append_left, length-set}
 use Rattle.dcel_fixed.specs.HalfEdges.{rev}
-use Rattle.dcel_fixed.proofs.Halves.{rev-double}
+use Rattle.dcel_fixed.proofs.Halves.{rev-double, rev-double-suc}
 use Rattle.dcel_predicates.specs.declared.point.Point.{Point}
 use Rattle.dcel_maps.specs.Cyclic.{from_least}
 use Rattle.dcel_maps.specs.Shapes.{IsLive, IsMesh, IsSound, Mesh, Shape, end_of, face_of, map_of, next_of, origin_of}
@@ -14,7 +14,7 @@ use Rattle.dcel_maps.proofs.walks.Links.{half-below, links_stand, next-live}
 use Rattle.dcel_maps.proofs.words.Counts.{count-same}
 use Rattle.dcel_maps.proofs.words.Reading.{face-next, stands_in_face}
 use Rattle.dcel_plane.proofs.edits.Written.{IsWritten, origin_away, origin_more}
-use Rattle.dcel_plane.proofs.hull.Becomes.{in_become, in_outer, of_one, old_or_new, out_outer, put_in, rev-1, stays_in, still_live, was_live, was_on}
+use Rattle.dcel_plane.proofs.hull.Becomes.{in_become, in_outer, of_one, old_or_new, out_outer, put_in, stays_in, still_live, was_live, was_on}
 
 -- an outer half edge of q that was one of s, with the same ends, and isn't e or the next one
 pub record Stays (s q : Shape) (e h : ℕ) : Type 0 where
@@ -111,7 +111,7 @@ module _ {V DE UE F : Type 0} (m : Mesh V DE UE F) (mesh : IsMesh m) (at : ℕ �
   starts_1 = more_at (n + 1) 1 refl
 
   ends_1 : end_of q (n + 1) ≡ c
-  ends_1 = ap (origin_of q) (rev-1 s.edges) ∙ more_at n 0 (omega arith)
+  ends_1 = ap (origin_of q) (rev-double-suc s.edges) ∙ more_at n 0 (omega arith)
 
   ends_0 : end_of q (2 * s.edges) ≡ a
   ends_0 = ap (origin_of q) (rev-double s.edges) ∙ starts_1

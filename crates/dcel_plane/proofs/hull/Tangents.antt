@@ -6,12 +6,12 @@ use Rattle.std.proofs.Math.IntN.{*ℤ_comm, *ℤ-zero}
 use Rattle.dcel_predicates.specs.Determinants.{orient2d_of}
 use Rattle.dcel_predicates.specs.declared.point.Point.{Point}
 use Rattle.dcel_predicates.proofs.Points.{orient2d-last_swapped}
-use Rattle.dcel_predicates.proofs.Ring.{by_terms, minus, num, plus, times as by, var}
+use Rattle.dcel_predicates.proofs.Ring.{by_terms, minus, plus, times as by}
 use Rattle.dcel_predicates.proofs.Signs.{both_negative, negative_times, ordered, square, times_negative, times_positive}
 use Rattle.dcel_predicates.proofs.Terms.{orient, spot}
-use Rattle.dcel_plane.specs.covering.Covering.{apart_along}
-use Rattle.dcel_plane.proofs.covering.Along.{dot, dot_in}
-use Rattle.dcel_plane.proofs.covering.Products.{square_zero}
+use Rattle.dcel_plane.specs.covering.Covering.{dot}
+use Rattle.dcel_plane.proofs.covering.Along.{dot_in}
+use Rattle.dcel_plane.proofs.covering.Products.{below_times, square_zero}
 
 dot_square : (a c : Point) → pos 0 ≤ℤ dot a a c
 dot_square a c = let x = square (a.x -ℤ c.x) in let y = square (a.y -ℤ c.y) in omega (arith, ordered, x, y)
@@ -19,14 +19,7 @@ dot_square a c = let x = square (a.x -ℤ c.x) in let y = square (a.y -ℤ c.y) 
 -- a factor below 0 of a product that isn't
 factor_not_above : (x y : ℤ) → x <ℤ pos 0 → pos 0 ≤ℤ (x *ℤ y) → y ≤ℤ pos 0
 factor_not_above x y less product =
-    by_lt_z (pos 0) y (λ more. absurd (let t = times_below_both x y less more in omega (arith, ordered, t, product))) (λ not. not)
-  where
-    times_below_both : (x y : ℤ) → x <ℤ pos 0 → pos 0 <ℤ y → (x *ℤ y) <ℤ pos 0
-    times_below_both x y less more =
-        by_lt_z (x *ℤ y) (pos 0) (λ is. is)
-        (λ not. absurd
-        (let t = times_positive (pos 0 -ℤ x) y (omega (arith, ordered, less)) more in
-        let e = by_terms (x ∷ y ∷ []) (by (minus (num (pos 0)) (var 0)) (var 1)) (minus (num (pos 0)) (by (var 0) (var 1))) refl in omega (arith, ordered, not, t, e)))
+    by_lt_z (pos 0) y (λ more. absurd (let t = below_times x y less more in omega (arith, ordered, t, product))) (λ not. not)
 
 -- The half edge from a to u has p on its left, the next one, from u to w, hasn't; neither has k. Where the hull isn't straight at u, the new
 -- half edge from p to u hasn't k on its left.
@@ -83,16 +76,16 @@ module _ (a u p k : Point) (seen : pos 0 <ℤ orient2d_of a u p) (not : orient2d
       not_above : (t d x y : ℤ) → t *ℤ d ≡ x +ℤ y → y ≡ pos 0 → x ≤ℤ pos 0 → pos 0 <ℤ t → d ≤ℤ pos 0
       not_above t d x y is zero less more = by_lt_z (pos 0) d (λ above. absurd (let m = times_positive t d more above in omega (arith, ordered, is, zero, less, m))) (λ is. is)
 
-  apart-is : apart_along p u k ≡ dot k k u -ℤ dot p k u
+  apart-is : dot p u k ≡ dot k k u -ℤ dot p k u
   apart-is =
       by_terms (u.x ∷ u.y ∷ p.x ∷ p.y ∷ k.x ∷ k.y ∷ []) (dot_in (spot 1) (spot 0) (spot 2)) (minus (dot_in (spot 2) (spot 2) (spot 0)) (dot_in (spot 1) (spot 2) (spot 0))) refl
 
   -- so k isn't between p and u
-  pub not_between : pos 0 ≤ℤ apart_along p u k
+  pub not_between : pos 0 ≤ℤ dot p u k
   not_between = let e = apart-is in let s = dot_square k u in let t = turned_away in omega (arith, ordered, e, s, t)
 
 -- the same on the other side, where the half edge from s to b has p on its left
-pub not_between_before : (s b p k : Point) → pos 0 <ℤ orient2d_of s b p → orient2d_of s b k ≤ℤ pos 0 → orient2d_of s p k ≡ pos 0 → pos 0 ≤ℤ apart_along s p k
+pub not_between_before : (s b p k : Point) → pos 0 <ℤ orient2d_of s b p → orient2d_of s b k ≤ℤ pos 0 → orient2d_of s p k ≡ pos 0 → pos 0 ≤ℤ dot s p k
 not_between_before s b p k seen not on =
     let g = ((b.x -ℤ s.x) *ℤ (p.x -ℤ s.x)) +ℤ ((b.y -ℤ s.y) *ℤ (p.y -ℤ s.y)) in
     let zero = ap (λ z. z *ℤ g) on ∙ *ℤ_comm (pos 0) g ∙ *ℤ-zero g in
@@ -107,7 +100,7 @@ not_between_before s b p k seen not on =
         (minus (by (orient (spot 0) (spot 1) (spot 3)) (dot_in (spot 2) (spot 2) (spot 0)))
         (by (orient (spot 0) (spot 2) (spot 3)) (plus (by (minus (spot 1).x (spot 0).x) (minus (spot 2).x (spot 0).x)) (by (minus (spot 1).y (spot 0).y) (minus (spot 2).y (spot 0).y))))) refl
 
-    apart_is : apart_along s p k ≡ dot k k s -ℤ dot p k s
+    apart_is : dot s p k ≡ dot k k s -ℤ dot p k s
     apart_is =
         by_terms (s.x ∷ s.y ∷ p.x ∷ p.y ∷ k.x ∷ k.y ∷ []) (dot_in (spot 0) (spot 1) (spot 2)) (minus (dot_in (spot 2) (spot 2) (spot 0)) (dot_in (spot 1) (spot 2) (spot 0))) refl
 
@@ -141,7 +134,7 @@ one_tangent a u x y p seen_u not_u seen_y not_y first second =
 -- The half edge from a to u has p on its left and neither x nor y: so p isn't between x and y.
 module _ (a u x y p : Point) (seen : pos 0 <ℤ orient2d_of a u p) (at_x : orient2d_of a u x ≤ℤ pos 0) (at_y : orient2d_of a u y ≤ℤ pos 0) (on : orient2d_of x y p ≡ pos 0) where
   divided : orient2d_of a u p *ℤ dot y y x
-      ≡ ((orient2d_of a u x *ℤ (dot y y p -ℤ apart_along x y p)) +ℤ (orient2d_of a u y *ℤ (dot x x p -ℤ apart_along x y p)))
+      ≡ ((orient2d_of a u x *ℤ (dot y y p -ℤ dot x y p)) +ℤ (orient2d_of a u y *ℤ (dot x x p -ℤ dot x y p)))
       +ℤ (orient2d_of x y p *ℤ (((u.x -ℤ a.x) *ℤ (y.x -ℤ x.x)) +ℤ ((u.y -ℤ a.y) *ℤ (y.y -ℤ x.y))))
   divided =
       by_terms (a.x ∷ a.y ∷ u.x ∷ u.y ∷ x.x ∷ x.y ∷ y.x ∷ y.y ∷ p.x ∷ p.y ∷ []) (by (orient (spot 0) (spot 1) (spot 4)) (dot_in (spot 3) (spot 3) (spot 2)))
@@ -149,24 +142,24 @@ module _ (a u x y p : Point) (seen : pos 0 <ℤ orient2d_of a u p) (at_x : orien
       (by (orient (spot 0) (spot 1) (spot 3)) (minus (dot_in (spot 2) (spot 2) (spot 4)) (dot_in (spot 2) (spot 3) (spot 4)))))
       (by (orient (spot 2) (spot 3) (spot 4)) (plus (by (minus (spot 1).x (spot 0).x) (minus (spot 3).x (spot 2).x)) (by (minus (spot 1).y (spot 0).y) (minus (spot 3).y (spot 2).y))))) refl
 
-  longer : dot y y x ≡ (dot y y p +ℤ dot x x p) -ℤ (apart_along x y p +ℤ apart_along x y p)
+  longer : dot y y x ≡ (dot y y p +ℤ dot x x p) -ℤ (dot x y p +ℤ dot x y p)
   longer =
       by_terms (x.x ∷ x.y ∷ y.x ∷ y.y ∷ p.x ∷ p.y ∷ []) (dot_in (spot 1) (spot 1) (spot 0))
       (minus (plus (dot_in (spot 1) (spot 1) (spot 2)) (dot_in (spot 0) (spot 0) (spot 2))) (plus (dot_in (spot 0) (spot 1) (spot 2)) (dot_in (spot 0) (spot 1) (spot 2)))) refl
 
-  pub outside_edge : pos 0 ≤ℤ apart_along x y p
+  pub outside_edge : pos 0 ≤ℤ dot x y p
   outside_edge =
-      by_lt_z (apart_along x y p) (pos 0)
+      by_lt_z (dot x y p) (pos 0)
       (λ less. absurd
       (let sy = dot_square y p in
       let sx = dot_square x p in
       let g = ((u.x -ℤ a.x) *ℤ (y.x -ℤ x.x)) +ℤ ((u.y -ℤ a.y) *ℤ (y.y -ℤ x.y)) in
       let zero = ap (λ z. z *ℤ g) on ∙ *ℤ_comm (pos 0) g ∙ *ℤ-zero g in
       let l = longer in
-      let e = negative_times (orient2d_of a u x) (dot y y p -ℤ apart_along x y p) at_x (omega (arith, ordered, sy, less)) in
-      let f = negative_times (orient2d_of a u y) (dot x x p -ℤ apart_along x y p) at_y (omega (arith, ordered, sx, less)) in
+      let e = negative_times (orient2d_of a u x) (dot y y p -ℤ dot x y p) at_x (omega (arith, ordered, sy, less)) in
+      let f = negative_times (orient2d_of a u y) (dot x x p -ℤ dot x y p) at_y (omega (arith, ordered, sx, less)) in
       let t = times_positive (orient2d_of a u p) (dot y y x) seen (omega (arith, ordered, l, sx, sy, less)) in
-      compare (orient2d_of a u p *ℤ dot y y x) (orient2d_of a u x *ℤ (dot y y p -ℤ apart_along x y p)) (orient2d_of a u y *ℤ (dot x x p -ℤ apart_along x y p)) (orient2d_of x y p *ℤ g) divided e f zero t))
+      compare (orient2d_of a u p *ℤ dot y y x) (orient2d_of a u x *ℤ (dot y y p -ℤ dot x y p)) (orient2d_of a u y *ℤ (dot x x p -ℤ dot x y p)) (orient2d_of x y p *ℤ g) divided e f zero t))
       (λ not. not)
     where
       compare : (t x y z : ℤ) → t ≡ (x +ℤ y) +ℤ z → x ≤ℤ pos 0 → y ≤ℤ pos 0 → z ≡ pos 0 → pos 0 <ℤ t → ⊥

@@ -8,9 +8,9 @@ use Rattle.dcel_fixed.proofs.Halves.{rev-rev}
 use Rattle.dcel_predicates.specs.Determinants.{orient2d_of}
 use Rattle.dcel_predicates.specs.declared.point.Point.{Point}
 use Rattle.dcel_predicates.proofs.Points.{orient2d-turned}
-use Rattle.dcel_predicates.proofs.Ring.{by_terms, minus, num, plus, times as by, var}
+use Rattle.dcel_predicates.proofs.Ring.{Term, by_terms, minus, num, plus, times as by}
 use Rattle.dcel_predicates.proofs.Signs.{ordered, times_negative, times_positive}
-use Rattle.dcel_predicates.proofs.Terms.{spot}
+use Rattle.dcel_predicates.proofs.Terms.{Spot, spot}
 use Rattle.dcel_maps.specs.Maps.{By, Reaches, ccw}
 use Rattle.dcel_maps.specs.Maps.Reaches.{go, here}
 use Rattle.dcel_maps.specs.Shapes.{IsLive, IsMesh, Mesh, Shape, end_of, face_of, map_of, next_of, origin_of, prev_of}
@@ -19,21 +19,16 @@ use Rattle.dcel_maps.proofs.maps.Soundness.{rev_live}
 use Rattle.dcel_maps.proofs.shapes.Maps.{map-sound}
 use Rattle.dcel_maps.proofs.walks.Links.{links_stand, next-live, prev-live}
 use Rattle.dcel_maps.proofs.words.Reading.{face-prev}
-use Rattle.dcel_plane.specs.Plane.{IsPlane}
+use Rattle.dcel_plane.specs.Plane.{TrianglesTurnLeft}
 use Rattle.dcel_plane.proofs.edits.Corners.{left_of_triangle}
-use Rattle.dcel_plane.proofs.covering.Along.{by_place, dot, dot_start, long, no_height, none_first, one_place}
+use Rattle.dcel_plane.proofs.covering.Along.{by_place, dot_in, dot_start, edges_long, no_height, none_first, one_place}
 use Rattle.dcel_plane.proofs.covering.Inside.{on_end, on_start}
 use Rattle.dcel_plane.proofs.covering.Triangles.{round}
 use Rattle.dcel_plane.specs.hull.Closing.{IsClosing, IsThin}
-use Rattle.dcel_plane.specs.covering.Covering.{apart_along}
-use Rattle.dcel_plane.specs.hull.Straight.{beyond}
+use Rattle.dcel_plane.specs.covering.Covering.{dot}
+use Rattle.dcel_plane.specs.hull.Straight.{dot_of_steps}
 use Rattle.dcel_plane.proofs.hull.Corners.{slope}
-
-pub both_below : (x y : ℤ) → x <ℤ pos 0 → y <ℤ pos 0 → pos 0 <ℤ (x *ℤ y)
-both_below x y hx hy =
-    let t = times_positive (pos 0 -ℤ x) (pos 0 -ℤ y) (omega (arith, ordered, hx)) (omega (arith, ordered, hy)) in
-    let e = by_terms (x ∷ y ∷ []) (by (minus (num (pos 0)) (var 0)) (minus (num (pos 0)) (var 1))) (by (var 0) (var 1)) refl in
-    omega (arith, ordered, t, e)
+use Rattle.dcel_plane.proofs.covering.Products.{both_below}
 
 -- two points on the other side of u than z lie on one side
 pub opposite : (u z q a : Point) → pos 0 <ℤ dot z z u → orient2d_of u z q ≡ pos 0 → orient2d_of u z a ≡ pos 0 → dot q z u <ℤ pos 0 → dot a z u <ℤ pos 0 → pos 0 <ℤ dot q a u
@@ -45,38 +40,45 @@ opposite u z q a far on_q on_a less_q less_a =
     by_lt_z (pos 0) (dot q a u) (λ more. more)
     (λ not. absurd (let n = times_negative (dot z z u) (dot q a u) (omega (arith, ordered, far)) not in omega (arith, ordered, e, h, p, n)))
 
-pub back_dot : (a u z : Point) → beyond a u z +ℤ dot a z u ≡ pos 0
+abbrev pub beyond_in : Spot → Spot → Spot → Term
+beyond_in a b c = plus (by (minus b.x a.x) (minus c.x b.x)) (by (minus b.y a.y) (minus c.y b.y))
+
+-- beyond an end, by the place along the line
+pub past_end : (b a q : Point) → dot_of_steps b a q ≡ dot q a b -ℤ dot a a b
+past_end b a q =
+    by_terms (a.x ∷ a.y ∷ b.x ∷ b.y ∷ q.x ∷ q.y ∷ []) (beyond_in (spot 1) (spot 0) (spot 2)) (minus (dot_in (spot 2) (spot 0) (spot 1)) (dot_in (spot 0) (spot 0) (spot 1))) refl
+
+pub back_dot : (a u z : Point) → dot_of_steps a u z +ℤ dot a z u ≡ pos 0
 back_dot a u z =
     by_terms (a.x ∷ a.y ∷ u.x ∷ u.y ∷ z.x ∷ z.y ∷ [])
-    (plus (plus (by (minus (spot 1).x (spot 0).x) (minus (spot 2).x (spot 1).x)) (by (minus (spot 1).y (spot 0).y) (minus (spot 2).y (spot 1).y)))
-    (plus (by (minus (spot 0).x (spot 1).x) (minus (spot 2).x (spot 1).x)) (by (minus (spot 0).y (spot 1).y) (minus (spot 2).y (spot 1).y)))) (num (pos 0)) refl
+    (plus (beyond_in (spot 0) (spot 1) (spot 2)) (dot_in (spot 0) (spot 2) (spot 1))) (num (pos 0)) refl
 
 -- z beyond u, on a line that has t on its left
-pub further : (a u z t : Point) → pos 0 <ℤ dot u u a → orient2d_of a u z ≡ pos 0 → pos 0 <ℤ orient2d_of a u t → pos 0 <ℤ beyond a u z → pos 0 <ℤ orient2d_of u z t
+pub further : (a u z t : Point) → pos 0 <ℤ dot u u a → orient2d_of a u z ≡ pos 0 → pos 0 <ℤ orient2d_of a u t → pos 0 <ℤ dot_of_steps a u z → pos 0 <ℤ orient2d_of u z t
 further a u z t far on seen more =
     let g = ((u.x -ℤ a.x) *ℤ (t.x -ℤ u.x)) +ℤ ((u.y -ℤ a.y) *ℤ (t.y -ℤ u.y)) in
     let e = slope a u z t on in
     let n = none_first (orient2d_of a u z) g on in
-    let p = times_positive (beyond a u z) (orient2d_of a u t) more seen in
+    let p = times_positive (dot_of_steps a u z) (orient2d_of a u t) more seen in
     by_lt_z (pos 0) (orient2d_of u z t) (λ is. is)
     (λ not. absurd
     (let q = times_negative (dot u u a) (orient2d_of u z t) (omega (arith, ordered, far)) not in
-    compare (dot u u a *ℤ orient2d_of u z t) (beyond a u z *ℤ orient2d_of a u t) (orient2d_of a u z *ℤ g) e n q p))
+    compare (dot u u a *ℤ orient2d_of u z t) (dot_of_steps a u z *ℤ orient2d_of a u t) (orient2d_of a u z *ℤ g) e n q p))
   where
     compare : (k l m : ℤ) → k ≡ l -ℤ m → m ≡ pos 0 → k ≤ℤ pos 0 → pos 0 <ℤ l → ⊥
     compare k l m is zero less more = omega (arith, ordered, is, zero, less, more)
 
-pub not_further : (a u z t : Point) → pos 0 <ℤ dot u u a → orient2d_of a u z ≡ pos 0 → pos 0 <ℤ orient2d_of a u t → beyond a u z ≤ℤ pos 0 → orient2d_of u z t ≤ℤ pos 0
+pub not_further : (a u z t : Point) → pos 0 <ℤ dot u u a → orient2d_of a u z ≡ pos 0 → pos 0 <ℤ orient2d_of a u t → dot_of_steps a u z ≤ℤ pos 0 → orient2d_of u z t ≤ℤ pos 0
 not_further a u z t far on seen less =
     let g = ((u.x -ℤ a.x) *ℤ (t.x -ℤ u.x)) +ℤ ((u.y -ℤ a.y) *ℤ (t.y -ℤ u.y)) in
     let e = slope a u z t on in
     let n = none_first (orient2d_of a u z) g on in
-    let c = *ℤ_comm (beyond a u z) (orient2d_of a u t) in
-    let p = times_negative (orient2d_of a u t) (beyond a u z) (omega (arith, ordered, seen)) less in
+    let c = *ℤ_comm (dot_of_steps a u z) (orient2d_of a u t) in
+    let p = times_negative (orient2d_of a u t) (dot_of_steps a u z) (omega (arith, ordered, seen)) less in
     by_lt_z (pos 0) (orient2d_of u z t)
     (λ more. absurd
     (let q = times_positive (dot u u a) (orient2d_of u z t) far more in
-    compare (dot u u a *ℤ orient2d_of u z t) (beyond a u z *ℤ orient2d_of a u t) (orient2d_of a u z *ℤ g) (orient2d_of a u t *ℤ beyond a u z) e n c q p))
+    compare (dot u u a *ℤ orient2d_of u z t) (dot_of_steps a u z *ℤ orient2d_of a u t) (orient2d_of a u z *ℤ g) (orient2d_of a u t *ℤ dot_of_steps a u z) e n c q p))
     (λ not. not)
   where
     compare : (k l m l' : ℤ) → k ≡ l -ℤ m → m ≡ pos 0 → l ≡ l' → pos 0 <ℤ k → l' ≤ℤ pos 0 → ⊥
@@ -87,7 +89,7 @@ pub stays_there : (f : ℕ → ℕ) (g : ℕ) → f g ≡ g → (x k : ℕ) → 
 stays_there f g fixed x k here is = is
 stays_there f g fixed x k (go {y = y} step rest) is = stays_there f g fixed y k rest (sym step ∙ ap f is ∙ fixed)
 
-module _ {V DE UE F : Type 0} (m : Mesh V DE UE F) (mesh : IsMesh m) (triangles : AllTriangles m.shape) (at : ℕ → Point) (plane : IsPlane at m.shape) (t : ℕ)
+module _ {V DE UE F : Type 0} (m : Mesh V DE UE F) (mesh : IsMesh m) (triangles : AllTriangles m.shape) (at : ℕ → Point) (plane : TrianglesTurnLeft at m.shape) (t : ℕ)
     (closing : IsClosing at m.shape t) (thin : IsThin at m.shape t) where
   abbrev s : Shape
   s = m.shape
@@ -99,7 +101,7 @@ module _ {V DE UE F : Type 0} (m : Mesh V DE UE F) (mesh : IsMesh m) (triangles 
   e h = at (end_of s h)
 
   pub far : (h : ℕ) → IsLive s h → pos 0 <ℤ dot (e h) (e h) (p h)
-  far h live = long (e h) (p h) (λ ex ey. mesh.sound.two_ends h live (sym (thin.distinct (rev h) h (rev_live (map_of s) h live) live ex ey)))
+  far = edges_long at s mesh.sound thin.distinct
 
   -- the only half edge that starts where it starts
   pub alone_there : (g k : ℕ) → IsLive s g → IsLive s k → prev_of s g ≡ rev g → origin_of s k ≡ origin_of s g → k ≡ g
@@ -147,7 +149,7 @@ module _ {V DE UE F : Type 0} (m : Mesh V DE UE F) (mesh : IsMesh m) (triangles 
     joined = mesh.sound.joined h live
 
     -- no half edge leads on from u
-    last : (g : ℕ) → IsLive s g → origin_of s g ≡ u → end_of s g ≢ t → pos 0 <ℤ beyond (p side) (at u) (e g) → ⊥
+    last : (g : ℕ) → IsLive s g → origin_of s g ≡ u → end_of s g ≢ t → pos 0 <ℤ dot_of_steps (p side) (at u) (e g) → ⊥
     last g live_g from old_z more =
         let back_g = rev_live (map_of s) g live_g in
         let up : pos 0 <ℤ orient2d_of (at u) (e g) (at t) = further (p side) (at u) (e g) (at t) far_side (on_side (rev g) back_g old_z) seen more in
@@ -175,7 +177,7 @@ module _ {V DE UE F : Type 0} (m : Mesh V DE UE F) (mesh : IsMesh m) (triangles 
                   omega (arith, ordered, f, o, up)
             ]
 
-        outside : (g : ℕ) → IsLive s g → origin_of s g ≡ u → end_of s g ≢ t → pos 0 <ℤ beyond (p side) (at u) (e g) → face_of s g ≡ 0 → next_of s h ≢ g → ⊥
+        outside : (g : ℕ) → IsLive s g → origin_of s g ≡ u → end_of s g ≢ t → pos 0 <ℤ dot_of_steps (p side) (at u) (e g) → face_of s g ≡ 0 → next_of s h ≢ g → ⊥
         outside g live_g from old_z more outer not_next =
             let i = prev_of s g in
             let live_i : IsLive s i = prev-live mesh.sound g live_g in
@@ -198,8 +200,8 @@ module _ {V DE UE F : Type 0} (m : Mesh V DE UE F) (mesh : IsMesh m) (triangles 
                   by_lt_z (pos 0) (dot (p i) (e g) (at u))
                   (λ same_side.
                   let is : rev i ≡ g = thin.once (rev i) g back_i live_g (λ z. old_g (sym starts_back ∙ z)) old_back old_z starts_back
-                  (subst (λ (k : ℕ). pos 0 <ℤ apart_along (at k) (e g) (p (rev i))) (sym lead_back)
-                  (subst (λ (k : ℕ). pos 0 <ℤ apart_along (p i) (e g) (at k)) (sym ends_i) same_side)) in
+                  (subst (λ (k : ℕ). pos 0 <ℤ dot (at k) (e g) (p (rev i))) (sym lead_back)
+                  (subst (λ (k : ℕ). pos 0 <ℤ dot (p i) (e g) (at k)) (sym ends_i) same_side)) in
                   not_next (alone_there g (next_of s h) live_g live_j (sym (rev-rev i) ∙ ap rev is) (joined ∙ sym from)))
                   (λ not. by_lt_z (dot (p i) (e g) (at u)) (pos 0)
                   (λ less.
@@ -207,9 +209,9 @@ module _ {V DE UE F : Type 0} (m : Mesh V DE UE F) (mesh : IsMesh m) (triangles 
                   let side_lead : end_of s (rev side) ≡ origin_of s side = ap (origin_of s) (rev-rev side) in
                   let is : rev i ≡ rev side = thin.once (rev i) (rev side) back_i (rev_live (map_of s) side live_side) (λ z. old_g (sym starts_back ∙ z)) old_back
                   (λ z. old_a (sym side_lead ∙ z)) (ends_i ∙ sym to)
-                  (subst (λ (k : ℕ). pos 0 <ℤ apart_along (at k) (e (rev side)) (p (rev i))) (sym lead_back)
-                  (subst (λ (k : ℕ). pos 0 <ℤ apart_along (p i) (at k) (p (rev i))) (sym side_lead)
-                  (subst (λ (k : ℕ). pos 0 <ℤ apart_along (p i) (p side) (at k)) (sym ends_i) both))) in
+                  (subst (λ (k : ℕ). pos 0 <ℤ dot (at k) (e (rev side)) (p (rev i))) (sym lead_back)
+                  (subst (λ (k : ℕ). pos 0 <ℤ dot (p i) (at k) (p (rev i))) (sym side_lead)
+                  (subst (λ (k : ℕ). pos 0 <ℤ dot (p i) (p side) (at k)) (sym ends_i) both))) in
                   let same : i ≡ side = sym (rev-rev i) ∙ ap rev is ∙ rev-rev side in
                   let inner = (closing.after h live on starts).inner_side in
                   let f = ap (face_of s) same in
@@ -222,12 +224,12 @@ module _ {V DE UE F : Type 0} (m : Mesh V DE UE F) (mesh : IsMesh m) (triangles 
             ]
 
     -- so no vertex lies beyond u
-    pub at_end : (k : ℕ) → IsLive s k → origin_of s k ≢ t → beyond (p side) (at u) (p k) ≤ℤ pos 0
+    pub at_end : (k : ℕ) → IsLive s k → origin_of s k ≢ t → dot_of_steps (p side) (at u) (p k) ≤ℤ pos 0
     at_end k live_k old_k =
-        by_lt_z (pos 0) (beyond (p side) (at u) (p k))
+        by_lt_z (pos 0) (dot_of_steps (p side) (at u) (p k))
         (λ more. absurd
-        (let found = thin.onward side k live_side old_a (λ is. old_u (sym to ∙ is)) live_k old_k (subst (λ (i : ℕ). pos 0 <ℤ beyond (p side) (at i) (p k)) (sym to) more) in
-        last found.0 found.1 (found.2 ∙ to) found.3 (subst (λ (i : ℕ). pos 0 <ℤ beyond (p side) (at i) (e found.0)) to found.4)))
+        (let found = thin.onward side k live_side old_a (λ is. old_u (sym to ∙ is)) live_k old_k (subst (λ (i : ℕ). pos 0 <ℤ dot_of_steps (p side) (at i) (p k)) (sym to) more) in
+        last found.0 found.1 (found.2 ∙ to) found.3 (subst (λ (i : ℕ). pos 0 <ℤ dot_of_steps (p side) (at i) (e found.0)) to found.4)))
         (λ not. not)
 
     pub from_tip : (k : ℕ) → IsLive s k → origin_of s k ≢ t → orient2d_of (at t) (at u) (p k) ≤ℤ pos 0

@@ -14,51 +14,51 @@ use Rattle.dcel_maps.proofs.maps.Soundness.{rev_live}
 use Rattle.dcel_maps.proofs.shapes.Maps.{map-sound}
 use Rattle.dcel_maps.proofs.walks.Links.{links_stand, next-live}
 use Rattle.dcel_maps.proofs.words.Reading.{face-next}
-use Rattle.dcel_plane.specs.Plane.{IsPlane}
+use Rattle.dcel_plane.specs.Plane.{TrianglesTurnLeft}
 use Rattle.dcel_plane.proofs.edits.Corners.{left_of_triangle}
-use Rattle.dcel_plane.proofs.covering.Along.{dot, dot_start, none_first, one_place}
+use Rattle.dcel_plane.proofs.covering.Along.{dot_start, none_first, one_place}
 use Rattle.dcel_plane.proofs.covering.Inside.{on_end, on_start}
 use Rattle.dcel_plane.proofs.covering.Products.{times_below}
 use Rattle.dcel_plane.proofs.covering.Triangles.{round}
 use Rattle.dcel_plane.specs.hull.Closing.{IsClosing, IsThin}
-use Rattle.dcel_plane.specs.covering.Covering.{apart_along}
-use Rattle.dcel_plane.specs.hull.Straight.{beyond}
+use Rattle.dcel_plane.specs.covering.Covering.{dot}
+use Rattle.dcel_plane.specs.hull.Straight.{dot_of_steps}
 use Rattle.dcel_plane.proofs.hull.Corners.{slope}
 use Rattle.dcel_plane.proofs.hull.Thin.{alone_there, back_dot, far, opposite}
 
-further_before : (b r z t : Point) → pos 0 <ℤ dot r r b → orient2d_of b r z ≡ pos 0 → pos 0 <ℤ orient2d_of r b t → pos 0 <ℤ beyond b r z → pos 0 <ℤ orient2d_of z r t
+further_before : (b r z t : Point) → pos 0 <ℤ dot r r b → orient2d_of b r z ≡ pos 0 → pos 0 <ℤ orient2d_of r b t → pos 0 <ℤ dot_of_steps b r z → pos 0 <ℤ orient2d_of z r t
 further_before b r z t far_b on seen more =
     let g = ((r.x -ℤ b.x) *ℤ (t.x -ℤ r.x)) +ℤ ((r.y -ℤ b.y) *ℤ (t.y -ℤ r.y)) in
     let e = slope b r z t on in
     let n = none_first (orient2d_of b r z) g on in
     let o = orient2d-first_swapped r b t in
-    let p = times_below (beyond b r z) (orient2d_of b r t) more (omega (arith, ordered, o, seen)) in
+    let p = times_below (dot_of_steps b r z) (orient2d_of b r t) more (omega (arith, ordered, o, seen)) in
     let f = orient2d-first_swapped z r t in
     by_lt_z (orient2d_of r z t) (pos 0) (λ less. omega (arith, ordered, f, less))
     (λ not. absurd
     (let q = times (dot r r b) (orient2d_of r z t) (omega (arith, ordered, far_b)) not in
-    compare (dot r r b *ℤ orient2d_of r z t) (beyond b r z *ℤ orient2d_of b r t) (orient2d_of b r z *ℤ g) e n q p))
+    compare (dot r r b *ℤ orient2d_of r z t) (dot_of_steps b r z *ℤ orient2d_of b r t) (orient2d_of b r z *ℤ g) e n q p))
   where
     compare : (k l m : ℤ) → k ≡ l -ℤ m → m ≡ pos 0 → pos 0 ≤ℤ k → l <ℤ pos 0 → ⊥
     compare k l m is zero more less = omega (arith, ordered, is, zero, less, more)
 
-pub not_further_before : (b r z t : Point) → pos 0 <ℤ dot r r b → orient2d_of b r z ≡ pos 0 → pos 0 <ℤ orient2d_of r b t → beyond b r z ≤ℤ pos 0 → pos 0 ≤ℤ orient2d_of r z t
+pub not_further_before : (b r z t : Point) → pos 0 <ℤ dot r r b → orient2d_of b r z ≡ pos 0 → pos 0 <ℤ orient2d_of r b t → dot_of_steps b r z ≤ℤ pos 0 → pos 0 ≤ℤ orient2d_of r z t
 not_further_before b r z t far_b on seen less =
     let g = ((r.x -ℤ b.x) *ℤ (t.x -ℤ r.x)) +ℤ ((r.y -ℤ b.y) *ℤ (t.y -ℤ r.y)) in
     let e = slope b r z t on in
     let n = none_first (orient2d_of b r z) g on in
     let o = orient2d-first_swapped r b t in
-    let p = both_negative (beyond b r z) (orient2d_of b r t) less (omega (arith, ordered, o, seen)) in
+    let p = both_negative (dot_of_steps b r z) (orient2d_of b r t) less (omega (arith, ordered, o, seen)) in
     by_lt_z (orient2d_of r z t) (pos 0)
     (λ below. absurd
     (let q = times_below (dot r r b) (orient2d_of r z t) far_b below in
-    compare (dot r r b *ℤ orient2d_of r z t) (beyond b r z *ℤ orient2d_of b r t) (orient2d_of b r z *ℤ g) e n q p))
+    compare (dot r r b *ℤ orient2d_of r z t) (dot_of_steps b r z *ℤ orient2d_of b r t) (orient2d_of b r z *ℤ g) e n q p))
     (λ not. not)
   where
     compare : (k l m : ℤ) → k ≡ l -ℤ m → m ≡ pos 0 → k <ℤ pos 0 → pos 0 ≤ℤ l → ⊥
     compare k l m is zero less more = omega (arith, ordered, is, zero, less, more)
 
-module _ {V DE UE F : Type 0} (m : Mesh V DE UE F) (mesh : IsMesh m) (triangles : AllTriangles m.shape) (at : ℕ → Point) (plane : IsPlane at m.shape) (t : ℕ)
+module _ {V DE UE F : Type 0} (m : Mesh V DE UE F) (mesh : IsMesh m) (triangles : AllTriangles m.shape) (at : ℕ → Point) (plane : TrianglesTurnLeft at m.shape) (t : ℕ)
     (closing : IsClosing at m.shape t) (thin : IsThin at m.shape t)
     (closed_before : (h : ℕ) → IsLive m.shape h → face_of m.shape h ≡ 0 → end_of m.shape h ≡ t
     → orient2d_of (at (origin_of m.shape (prev_of m.shape h))) (at (origin_of m.shape h)) (at t) ≤ℤ pos 0)
@@ -116,7 +116,7 @@ module _ {V DE UE F : Type 0} (m : Mesh V DE UE F) (mesh : IsMesh m) (triangles 
       subst (λ (i : ℕ). orient2d_of (at b) (at i) (p k) ≡ pos 0) (leads ∙ from) (thin.line (rev side) k back_side old_b (λ is. old_r (sym (leads ∙ from) ∙ is)) live_k old_k)
 
   -- no half edge leads on from r
-  first : (g : ℕ) → IsLive s g → origin_of s g ≡ r → end_of s g ≢ t → pos 0 <ℤ beyond (at b) (at r) (e g) → ⊥
+  first : (g : ℕ) → IsLive s g → origin_of s g ≡ r → end_of s g ≢ t → pos 0 <ℤ dot_of_steps (at b) (at r) (e g) → ⊥
   first g live_g starts old_z more =
       let w = rev g in
       let live_w = rev_live (map_of s) g live_g in
@@ -147,7 +147,7 @@ module _ {V DE UE F : Type 0} (m : Mesh V DE UE F) (mesh : IsMesh m) (triangles 
                 omega (arith, ordered, f, o, up)
           ]
 
-      outside : (g : ℕ) → IsLive s g → origin_of s g ≡ r → end_of s g ≢ t → pos 0 <ℤ beyond (at b) (at r) (e g) → IsLive s (rev g) → end_of s (rev g) ≡ r
+      outside : (g : ℕ) → IsLive s g → origin_of s g ≡ r → end_of s g ≢ t → pos 0 <ℤ dot_of_steps (at b) (at r) (e g) → IsLive s (rev g) → end_of s (rev g) ≡ r
           → face_of s (rev g) ≡ 0 → prev_of s h ≢ rev g → ⊥
       outside g live_g starts old_z more live_w ends_w outer not_prev =
           let sound = map-sound mesh.sound in
@@ -177,14 +177,14 @@ module _ {V DE UE F : Type 0} (m : Mesh V DE UE F) (mesh : IsMesh m) (triangles 
                 by_lt_z (pos 0) (dot (e i) (e g) (at r))
                 (λ same_side.
                 let is : i ≡ g = thin.once i g live_i live_g (λ z. old_r (sym starts_i ∙ z)) old_i old_z (starts_i ∙ sym starts)
-                (subst (λ (k : ℕ). pos 0 <ℤ apart_along (e i) (e g) (at k)) (sym starts_i) same_side) in
+                (subst (λ (k : ℕ). pos 0 <ℤ dot (e i) (e g) (at k)) (sym starts_i) same_side) in
                 let one = alone_there m mesh triangles at plane t closing thin g h live_g live (ap (prev_of s) (sym is) ∙ prev_i) (sym starts) in
                 old_z (ap (end_of s) (sym one) ∙ ends))
                 (λ not. by_lt_z (dot (e i) (e g) (at r)) (pos 0)
                 (λ less.
                 let both = opposite (at r) (e g) (e i) (at b) z_far on_q on_b less less_b in
                 let same : i ≡ side = thin.once i side live_i live_side (λ z. old_r (sym starts_i ∙ z)) old_i old_b (starts_i ∙ sym from)
-                (subst (λ (k : ℕ). pos 0 <ℤ apart_along (e i) (at b) (at k)) (sym starts_i) both) in
+                (subst (λ (k : ℕ). pos 0 <ℤ dot (e i) (at b) (at k)) (sym starts_i) both) in
                 let inner = (closing.before h live on ends).inner_side in
                 let f = ap (face_of s) same in
                 omega (arith, f, inner, on_i))
@@ -196,13 +196,13 @@ module _ {V DE UE F : Type 0} (m : Mesh V DE UE F) (mesh : IsMesh m) (triangles 
           ]
 
   -- so no vertex lies before r
-  pub at_start : (k : ℕ) → IsLive s k → origin_of s k ≢ t → beyond (at b) (at r) (p k) ≤ℤ pos 0
+  pub at_start : (k : ℕ) → IsLive s k → origin_of s k ≢ t → dot_of_steps (at b) (at r) (p k) ≤ℤ pos 0
   at_start k live_k old_k =
-      by_lt_z (pos 0) (beyond (at b) (at r) (p k))
+      by_lt_z (pos 0) (dot_of_steps (at b) (at r) (p k))
       (λ more. absurd
       (let to_r = leads ∙ from in
-      let found = thin.onward (rev side) k back_side old_b (λ is. old_r (sym to_r ∙ is)) live_k old_k (subst (λ (i : ℕ). pos 0 <ℤ beyond (at b) (at i) (p k)) (sym to_r) more) in
-      first found.0 found.1 (found.2 ∙ to_r) found.3 (subst (λ (i : ℕ). pos 0 <ℤ beyond (at b) (at i) (e found.0)) to_r found.4)))
+      let found = thin.onward (rev side) k back_side old_b (λ is. old_r (sym to_r ∙ is)) live_k old_k (subst (λ (i : ℕ). pos 0 <ℤ dot_of_steps (at b) (at i) (p k)) (sym to_r) more) in
+      first found.0 found.1 (found.2 ∙ to_r) found.3 (subst (λ (i : ℕ). pos 0 <ℤ dot_of_steps (at b) (at i) (e found.0)) to_r found.4)))
       (λ not. not)
 
   pub to_tip : (k : ℕ) → IsLive s k → origin_of s k ≢ t → orient2d_of (at r) (at t) (p k) ≤ℤ pos 0

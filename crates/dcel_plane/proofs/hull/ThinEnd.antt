@@ -1,5 +1,5 @@
 -- So at the end of a closing from a line the outer face is a convex hull: all old half edges on the new vertex's side are closed away.
-use Rattle.std.proofs.Common.{◌≡◌, ◌≢◌, ◌⊎◌, inl, inr, ℕ, [], ◌∷◌, refl, sym, ap, ◌∙◌, subst, ℤ, pos, ◌+ℤ◌, ◌-ℤ◌, ◌*ℤ◌, ◌<ℤ◌, ◌≤ℤ◌, arith}
+use Rattle.std.proofs.Common.{◌≡◌, ◌≢◌, ◌⊎◌, inl, inr, ℕ, sym, ap, ◌∙◌, subst, ℤ, pos, ◌+ℤ◌, ◌-ℤ◌, ◌*ℤ◌, ◌<ℤ◌, ◌≤ℤ◌, arith}
 use Rattle.std.proofs.lemmas.Bool.{cases_eq}
 use Rattle.std.proofs.lemmas.Int.{by_lt_z}
 use Rattle.std.proofs.Math.IntN.{*ℤ_comm}
@@ -8,34 +8,25 @@ use Rattle.dcel_fixed.proofs.Halves.{rev-rev}
 use Rattle.dcel_predicates.specs.Determinants.{orient2d_of}
 use Rattle.dcel_predicates.specs.declared.point.Point.{Point}
 use Rattle.dcel_predicates.proofs.Points.{orient2d-first_swapped}
-use Rattle.dcel_predicates.proofs.Ring.{by_terms, minus, plus, times as by}
 use Rattle.dcel_predicates.proofs.Signs.{ordered, times_positive}
-use Rattle.dcel_predicates.proofs.Terms.{spot}
 use Rattle.dcel_maps.specs.Shapes.{IsLive, IsMesh, Mesh, Shape, end_of, face_of, map_of, next_of, origin_of, prev_of}
 use Rattle.dcel_maps.specs.Triangulations.{AllTriangles}
 use Rattle.dcel_maps.proofs.maps.Soundness.{rev_live}
 use Rattle.dcel_maps.proofs.shapes.Maps.{map-sound}
 use Rattle.dcel_maps.proofs.walks.Links.{links_stand, next-live}
 use Rattle.dcel_maps.proofs.words.Reading.{face-next}
-use Rattle.dcel_plane.specs.Plane.{IsPlane}
-use Rattle.dcel_plane.specs.covering.Covering.{IsConvex, IsHull, apart_along}
-use Rattle.dcel_plane.proofs.covering.Along.{dot, none_first, none_second, one_place, one_point}
+use Rattle.dcel_plane.specs.Plane.{TrianglesTurnLeft}
+use Rattle.dcel_plane.specs.covering.Covering.{IsConvex, IsHull, dot}
+use Rattle.dcel_plane.proofs.covering.Along.{none_first, none_second, one_place, one_point}
 use Rattle.dcel_plane.proofs.covering.Inside.{on_start}
-use Rattle.dcel_plane.proofs.covering.Products.{times_below}
+use Rattle.dcel_plane.proofs.covering.Products.{both_below, times_below}
 use Rattle.dcel_plane.specs.hull.Closing.{IsClosed, IsClosing, IsThin}
-use Rattle.dcel_plane.specs.hull.Straight.{beyond}
+use Rattle.dcel_plane.specs.hull.Straight.{dot_of_steps}
 use Rattle.dcel_plane.proofs.hull.Seeing.{IsSeen, seen_end, seen_or_not, seen_start}
 use Rattle.dcel_plane.proofs.hull.Corners.{last_with, slope}
 use Rattle.dcel_plane.proofs.hull.Ends.{closed_by}
 use Rattle.dcel_plane.proofs.hull.Thin as after
 use Rattle.dcel_plane.proofs.hull.ThinBefore as before
-
-on_from : (a u y : Point) → beyond a u y ≡ dot y u a -ℤ dot u u a
-on_from a u y =
-    by_terms (a.x ∷ a.y ∷ u.x ∷ u.y ∷ y.x ∷ y.y ∷ [])
-    (plus (by (minus (spot 1).x (spot 0).x) (minus (spot 2).x (spot 1).x)) (by (minus (spot 1).y (spot 0).y) (minus (spot 2).y (spot 1).y)))
-    (minus (plus (by (minus (spot 2).x (spot 0).x) (minus (spot 1).x (spot 0).x)) (by (minus (spot 2).y (spot 0).y) (minus (spot 1).y (spot 0).y)))
-    (plus (by (minus (spot 1).x (spot 0).x) (minus (spot 1).x (spot 0).x)) (by (minus (spot 1).y (spot 0).y) (minus (spot 1).y (spot 0).y)))) refl
 
 -- y stands at u where it isn't beyond it, nor before it
 at_point : (a u y t : Point) → pos 0 <ℤ dot u u a → orient2d_of a u y ≡ pos 0 → pos 0 <ℤ orient2d_of a u t → orient2d_of u y t ≡ pos 0 → (y.x ≡ u.x) × (y.y ≡ u.y)
@@ -44,9 +35,9 @@ at_point a u y t far on seen none =
     let e = slope a u y t on in
     let n = none_first (orient2d_of a u y) g on in
     let o = none_second (dot u u a) (orient2d_of u y t) none in
-    let c = *ℤ_comm (beyond a u y) (orient2d_of a u t) in
-    let zero_beyond = nothing (beyond a u y) (orient2d_of a u t) (dot u u a *ℤ orient2d_of u y t) (orient2d_of a u y *ℤ g) e n o seen in
-    let f = on_from a u y in
+    let c = *ℤ_comm (dot_of_steps a u y) (orient2d_of a u t) in
+    let zero_beyond = nothing (dot_of_steps a u y) (orient2d_of a u t) (dot u u a *ℤ orient2d_of u y t) (orient2d_of a u y *ℤ g) e n o seen in
+    let f = after.past_end a u y in
     one_place a u y u far on (on_start a u) (omega (arith, ordered, zero_beyond, f))
   where
     nothing : (d w k m : ℤ) → k ≡ (d *ℤ w) -ℤ m → m ≡ pos 0 → k ≡ pos 0 → pos 0 <ℤ w → d ≡ pos 0
@@ -62,16 +53,16 @@ at_point_before b r z t far_b on seen none =
     let n = none_first (orient2d_of b r z) g on in
     let o = none_second (dot r r b) (orient2d_of r z t) none in
     let w = orient2d-first_swapped r b t in
-    let zero_beyond = nothing (beyond b r z) (orient2d_of b r t) (dot r r b *ℤ orient2d_of r z t) (orient2d_of b r z *ℤ g) e n o (omega (arith, ordered, w, seen)) in
-    let f = on_from b r z in
+    let zero_beyond = nothing (dot_of_steps b r z) (orient2d_of b r t) (dot r r b *ℤ orient2d_of r z t) (orient2d_of b r z *ℤ g) e n o (omega (arith, ordered, w, seen)) in
+    let f = after.past_end b r z in
     one_place b r z r far_b on (on_start b r) (omega (arith, ordered, zero_beyond, f))
   where
     nothing : (d w k m : ℤ) → k ≡ (d *ℤ w) -ℤ m → m ≡ pos 0 → k ≡ pos 0 → w <ℤ pos 0 → d ≡ pos 0
     nothing d w k m e zero none hw =
         by_lt_z (pos 0) d (λ more. absurd (let t = times_below d w more hw in omega (arith, ordered, e, zero, none, t)))
-        (λ not. by_lt_z d (pos 0) (λ less. absurd (let t = after.both_below d w less hw in omega (arith, ordered, e, zero, none, t))) (λ nor. omega (arith, ordered, not, nor)))
+        (λ not. by_lt_z d (pos 0) (λ less. absurd (let t = both_below d w less hw in omega (arith, ordered, e, zero, none, t))) (λ nor. omega (arith, ordered, not, nor)))
 
-module _ {V DE UE F : Type 0} (m : Mesh V DE UE F) (mesh : IsMesh m) (triangles : AllTriangles m.shape) (at : ℕ → Point) (plane : IsPlane at m.shape) (t : ℕ)
+module _ {V DE UE F : Type 0} (m : Mesh V DE UE F) (mesh : IsMesh m) (triangles : AllTriangles m.shape) (at : ℕ → Point) (plane : TrianglesTurnLeft at m.shape) (t : ℕ)
     (closing : IsClosing at m.shape t) (thin : IsThin at m.shape t) (closed : IsClosed at m.shape t)
     (h0 : ℕ) (live_0 : IsLive m.shape h0) (on_0 : face_of m.shape h0 ≡ 0) (starts_0 : origin_of m.shape h0 ≡ t) where
   abbrev s : Shape
@@ -125,12 +116,12 @@ module _ {V DE UE F : Type 0} (m : Mesh V DE UE F) (mesh : IsMesh m) (triangles 
       let one = after.not_further a (at u) (e i) (at t) far_u on_y seen_u less_y in
       let on_u : orient2d_of (p i) (e i) (at u) ≡ pos 0 =
       subst (λ (k : ℕ). orient2d_of (p i) (e i) (at k) ≡ pos 0) joined_0 (thin.line i (next_of s h0) seen.live old_i old_y live_j0 old_j0) in
-      let less_u : beyond (p i) (e i) (at u) ≤ℤ pos 0 =
-      by_lt_z (pos 0) (beyond (p i) (e i) (at u))
+      let less_u : dot_of_steps (p i) (e i) (at u) ≤ℤ pos 0 =
+      by_lt_z (pos 0) (dot_of_steps (p i) (e i) (at u))
       (λ more. absurd
-      (let found = thin.onward i (next_of s h0) seen.live old_i old_y live_j0 old_j0 (subst (λ (k : ℕ). pos 0 <ℤ beyond (p i) (e i) (at k)) (sym joined_0) more) in
+      (let found = thin.onward i (next_of s h0) seen.live old_i old_y live_j0 old_j0 (subst (λ (k : ℕ). pos 0 <ℤ dot_of_steps (p i) (e i) (at k)) (sym joined_0) more) in
       let is : found.0 ≡ rev i = after.alone_there m mesh triangles at plane t closing thin (rev i) found.0 back_i found.1 turns found.2 in
-      let ahead : pos 0 <ℤ beyond (p i) (e i) (p i) = subst (λ (k : ℕ). pos 0 <ℤ beyond (p i) (e i) (at k)) (ap (end_of s) is ∙ lead) found.4 in
+      let ahead : pos 0 <ℤ dot_of_steps (p i) (e i) (p i) = subst (λ (k : ℕ). pos 0 <ℤ dot_of_steps (p i) (e i) (at k)) (ap (end_of s) is ∙ lead) found.4 in
       let back = after.back_dot (p i) (e i) (p i) in
       let f : pos 0 <ℤ dot (p i) (p i) (e i) = subst (λ (k : ℕ). pos 0 <ℤ dot (at k) (at k) (e i)) lead (far (rev i) back_i) in
       omega (arith, ordered, ahead, back, f)))
@@ -169,12 +160,12 @@ module _ {V DE UE F : Type 0} (m : Mesh V DE UE F) (mesh : IsMesh m) (triangles 
       by_lt_z (pos 0) (dot (p i) (e j) (e i))
       (λ same_side.
       let is : rev i ≡ j = thin.once (rev i) j back_i live_j (not_at_end i seen) (λ z. not_at_start i seen (sym lead ∙ z)) old_z (sym joined)
-      (subst (λ (k : ℕ). pos 0 <ℤ apart_along (at k) (e j) (e i)) (sym lead) same_side) in
+      (subst (λ (k : ℕ). pos 0 <ℤ dot (at k) (e j) (e i)) (sym lead) same_side) in
       no_leaf i seen (ap (prev_of s) is ∙ sound.prev-next i seen.live ∙ sym (rev-rev i)))
       (λ not. by_lt_z (dot (p i) (e j) (e i)) (pos 0)
       (λ less. let up = after.further (p i) (e i) (e j) (at t) (far i seen.live) on_z seen.seen (omega (arith, ordered, back, less)) in omega (arith, ordered, up, unseen))
       (λ nor.
-      let f = on_from (p i) (e i) (e j) in
+      let f = after.past_end (p i) (e i) (e j) in
       let one = one_place (p i) (e i) (e j) (e i) (far i seen.live) on_z (on_start (p i) (e i)) (omega (arith, ordered, f, back, not, nor)) in
       mesh.sound.two_ends j live_j
       (sym (thin.distinct (rev j) j back_j live_j (one.0 ∙ ap (λ (k : ℕ). (at k).x) (sym joined)) (one.1 ∙ ap (λ (k : ℕ). (at k).y) (sym joined))))))
@@ -240,7 +231,7 @@ module _ {V DE UE F : Type 0} (m : Mesh V DE UE F) (mesh : IsMesh m) (triangles 
       (λ not. by_lt_z (dot (e h) (e k) (p h)) (pos 0)
       (λ less. absurd (let up = after.further (e h) (p h) (e k) (at t) far_y on_back strict (omega (arith, ordered, back, less)) in omega (arith, ordered, up, down_k)))
       (λ nor. absurd
-      (let f = on_from (e h) (p h) (e k) in
+      (let f = after.past_end (e h) (p h) (e k) in
       let one = one_place (e h) (p h) (e k) (p h) far_y on_back (on_start (e h) (p h)) (omega (arith, ordered, f, back, not, nor)) in
       mesh.sound.two_ends k live_k
       (sym (thin.distinct (rev k) k back_k live_k (one.0 ∙ ap (λ (i : ℕ). (at i).x) same) (one.1 ∙ ap (λ (i : ℕ). (at i).y) same))))))

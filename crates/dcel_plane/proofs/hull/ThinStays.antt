@@ -5,14 +5,14 @@ use Rattle.dcel_predicates.specs.declared.point.Point.{Point}
 use Rattle.dcel_maps.specs.Shapes.{IsLive, IsMesh, Mesh, Shape, end_of, face_of, next_of, origin_of, prev_of}
 use Rattle.dcel_maps.specs.Triangulations.{AllTriangles}
 use Rattle.dcel_maps.specs.edits.Outside.{face_closed}
-use Rattle.dcel_plane.specs.Plane.{IsLeftOf, IsPlane}
+use Rattle.dcel_plane.specs.Plane.{IsLeftOf, TrianglesTurnLeft}
 use Rattle.dcel_plane.specs.hull.Closing.{IsClosing, IsThin}
 use Rattle.dcel_plane.proofs.hull.CornersStay.{after_stays_by, before_stays_by}
 use Rattle.dcel_plane.proofs.hull.Step.{closed_step}
 use Rattle.dcel_plane.proofs.hull.Thin as after
 use Rattle.dcel_plane.proofs.hull.ThinBefore as before
 
-module _ {V DE UE F : Type 0} (m : Mesh V DE UE F) (mesh : IsMesh m) (triangles : AllTriangles m.shape) (at : ℕ → Point) (plane : IsPlane at m.shape) (t : ℕ)
+module _ {V DE UE F : Type 0} (m : Mesh V DE UE F) (mesh : IsMesh m) (triangles : AllTriangles m.shape) (at : ℕ → Point) (plane : TrianglesTurnLeft at m.shape) (t : ℕ)
     (closing : IsClosing at m.shape t) (thin : IsThin at m.shape t) (e : ℕ) (live : IsLive m.shape e) (on : face_of m.shape e ≡ 0)
     (turns : IsLeftOf at m.shape (at (end_of m.shape (next_of m.shape e))) e) (halves : List DE) (edges : List UE) (faces : List F)
     (result : IsMesh (face_closed m e halves edges faces)) where

@@ -13,8 +13,8 @@ use Rattle.dcel_maps.proofs.words.Reading.{face-next}
 use Rattle.dcel_plane.specs.Plane.{IsLeftOf}
 use Rattle.dcel_plane.proofs.covering.Inside.{on_end, on_start}
 use Rattle.dcel_plane.specs.hull.Closing.{IsClosing, IsThin}
-use Rattle.dcel_plane.specs.covering.Covering.{apart_along}
-use Rattle.dcel_plane.specs.hull.Straight.{beyond}
+use Rattle.dcel_plane.specs.covering.Covering.{dot}
+use Rattle.dcel_plane.specs.hull.Straight.{dot_of_steps}
 use Rattle.dcel_plane.proofs.hull.ClosingStep.{tip_cases, start_is, end_is, of_start, of_old, tip_before, tip_after}
 use Rattle.dcel_plane.proofs.hull.Step.{IsStep, Stays}
 
@@ -112,7 +112,7 @@ module _ (at : ℕ → Point) (s q : Shape) (e t : ℕ) (step : IsStep s q e) (c
           subst (λ (j : ℕ). orient2d_of (at j) (at t) (at (end_of s h)) <ℤ pos 0) joined (closing.tip h x was.here was.outer starts_h live_x on_x last) in
           let two : pos 0 <ℤ orient2d_of (at a) (at b) (at t) = subst (λ (j : ℕ). pos 0 <ℤ orient2d_of (at a) (at b) (at j)) last turns in
           let not_b : b ≢ t = λ is. sound.two_ends x live_x (joined ∙ is ∙ sym last) in
-          let three = closing.right e (rev h) live on not_a not_b back (old_end h was.here starts_h) in
+          let three = (closing.supports e (rev h) live on not_a not_b back (old_end h was.here starts_h)).0 in
           let k = tip_before (at a) (at b) (at t) (at (end_of s h)) one two three in
           let o = orient2d-turned (at a) (at t) (at (end_of s h)) in
           omega (arith, ordered, k, o)) i live_i is_i)
@@ -125,7 +125,7 @@ module _ (at : ℕ → Point) (s q : Shape) (e t : ℕ) (step : IsStep s q e) (c
             let two : pos 0 <ℤ orient2d_of (at t) (at b) (at c) = subst (λ (l : ℕ). pos 0 <ℤ orient2d_of (at l) (at b) (at c)) first.0 turns in
             let three : orient2d_of (at b) (at c) (at (end_of s j)) ≤ℤ pos 0 =
             subst (λ (l : ℕ). orient2d_of (at l) (at c) (at (end_of s j)) ≤ℤ pos 0) joined
-            (closing.right x (rev j) live_x on_x (λ is. first.1 (sym joined ∙ is)) first.2 (rev_live (map_of s) j live_j) (old_end j live_j starts_j)) in
+            (closing.supports x (rev j) live_x on_x (λ is. first.1 (sym joined ∙ is)) first.2 (rev_live (map_of s) j live_j) (old_end j live_j starts_j)).0 in
             fan_ahead (at (end_of s j)) (at t) (at b) (at c) (thin.fan_after e j live on first.0 live_j starts_j) two three)
             (λ is not_c. let o = on_start (at t) (at c) in omega (arith, ordered, o))
             (λ not_a last. absurd (not_a first.0)) i live_i is_i)
@@ -146,7 +146,7 @@ module _ (at : ℕ → Point) (s q : Shape) (e t : ℕ) (step : IsStep s q e) (c
           let not_b : b ≢ t = λ is. sound.two_ends e live (first ∙ sym is) in
           let three : orient2d_of (at b) (at c) (at (origin_of s h)) ≤ℤ pos 0 =
           subst (λ (l : ℕ). orient2d_of (at l) (at c) (at (origin_of s h)) ≤ℤ pos 0) joined
-          (closing.right x h live_x on_x (λ is. not_b (sym joined ∙ is)) not_c was.here r) in
+          (closing.supports x h live_x on_x (λ is. not_b (sym joined ∙ is)) not_c was.here r).0 in
           let k = tip_after (at (origin_of s h)) (at t) (at b) (at c) one two three in
           omega (arith, ordered, k))
           (λ not_a last. absurd (only_last last h was ends_h)) i live_i is_i)
@@ -159,7 +159,7 @@ module _ (at : ℕ → Point) (s q : Shape) (e t : ℕ) (step : IsStep s q e) (c
             let one : orient2d_of (at b) (at t) (at (end_of s j)) ≤ℤ pos 0 =
             subst (λ (l : ℕ). orient2d_of (at l) (at t) (at (end_of s j)) ≤ℤ pos 0) joined (thin.fan_before x j live_x on_x last.2 live_j starts_j) in
             let two : pos 0 <ℤ orient2d_of (at a) (at b) (at t) = subst (λ (l : ℕ). pos 0 <ℤ orient2d_of (at a) (at b) (at l)) last.2 turns in
-            let three = closing.right e (rev j) live on last.0 last.1 (rev_live (map_of s) j live_j) (old_end j live_j starts_j) in
+            let three = (closing.supports e (rev j) live on last.0 last.1 (rev_live (map_of s) j live_j) (old_end j live_j starts_j)).0 in
             fan_behind (at a) (at b) (at t) (at (end_of s j)) one two three)
             (λ first not_c. absurd (last.0 first))
             (λ not_a is. let o = on_end (at a) (at t) in omega (arith, ordered, o)) i live_i is_i)
@@ -185,28 +185,28 @@ module _ (at : ℕ → Point) (s q : Shape) (e t : ℕ) (step : IsStep s q e) (c
           let end = old (rev h) (rev_live (map_of s) h was) in
           let end_k = old (rev k) (rev_live (map_of s) k too) in
           thin.once h k was too (λ is. not_start (sym start ∙ is)) (λ is. not_end (sym end ∙ is)) (λ is. not_end_k (sym end_k ∙ is)) (start ∙ same ∙ sym (old k too))
-          (subst (λ (l : ℕ). pos 0 <ℤ apart_along (at l) (at (end_of s k)) (at (origin_of s h))) (sym end)
-          (subst (λ (l : ℕ). pos 0 <ℤ apart_along (at (end_of q h)) (at l) (at (origin_of s h))) (sym end_k)
-          (subst (λ (l : ℕ). pos 0 <ℤ apart_along (at (end_of q h)) (at (end_of q k)) (at l)) (sym start) side)));
+          (subst (λ (l : ℕ). pos 0 <ℤ dot (at l) (at (end_of s k)) (at (origin_of s h))) (sym end)
+          (subst (λ (l : ℕ). pos 0 <ℤ dot (at (end_of q h)) (at l) (at (origin_of s h))) (sym end_k)
+          (subst (λ (l : ℕ). pos 0 <ℤ dot (at (end_of q h)) (at (end_of q k)) (at l)) (sym start) side)));
       onward = λ h k live_h not_start not_end live_k old_k.
           let was = was_here h live_h not_start not_end in
           let start = old h was in
           let end = old (rev h) (rev_live (map_of s) h was) in
-          of_old at s q e t step closing turns (λ l. pos 0 <ℤ beyond (at (origin_of q h)) (at (end_of q h)) (at l)
-          → (g : ℕ) × IsLive q g × (origin_of q g ≡ end_of q h) × (end_of q g ≢ t) × (pos 0 <ℤ beyond (at (origin_of q h)) (at (end_of q h)) (at (end_of q g))))
+          of_old at s q e t step closing turns (λ l. pos 0 <ℤ dot_of_steps (at (origin_of q h)) (at (end_of q h)) (at l)
+          → (g : ℕ) × IsLive q g × (origin_of q g ≡ end_of q h) × (end_of q g ≢ t) × (pos 0 <ℤ dot_of_steps (at (origin_of q h)) (at (end_of q h)) (at (end_of q g))))
           (λ j live_j old_j more.
           let found = thin.onward h j was (λ is. not_start (sym start ∙ is)) (λ is. not_end (sym end ∙ is)) live_j old_j
-          (subst (λ (l : ℕ). pos 0 <ℤ beyond (at (origin_of s h)) (at l) (at (origin_of s j))) (sym end)
-          (subst (λ (l : ℕ). pos 0 <ℤ beyond (at l) (at (end_of q h)) (at (origin_of s j))) (sym start) more)) in
+          (subst (λ (l : ℕ). pos 0 <ℤ dot_of_steps (at (origin_of s h)) (at l) (at (origin_of s j))) (sym end)
+          (subst (λ (l : ℕ). pos 0 <ℤ dot_of_steps (at l) (at (end_of q h)) (at (origin_of s j))) (sym start) more)) in
           let g = found.0 in
           let end_g = old (rev g) (rev_live (map_of s) g found.1) in (
             g,
             live_q g found.1,
             sym (old g found.1) ∙ found.2 ∙ end,
             (λ is. found.3 (end_g ∙ is)),
-            subst (λ (l : ℕ). pos 0 <ℤ beyond (at (origin_of q h)) (at (end_of q h)) (at l)) end_g
-                (subst (λ (l : ℕ). pos 0 <ℤ beyond (at (origin_of q h)) (at l) (at (end_of s g))) end
-                (subst (λ (l : ℕ). pos 0 <ℤ beyond (at l) (at (end_of s h)) (at (end_of s g))) start found.4)),
+            subst (λ (l : ℕ). pos 0 <ℤ dot_of_steps (at (origin_of q h)) (at (end_of q h)) (at l)) end_g
+                (subst (λ (l : ℕ). pos 0 <ℤ dot_of_steps (at (origin_of q h)) (at l) (at (end_of s g))) end
+                (subst (λ (l : ℕ). pos 0 <ℤ dot_of_steps (at l) (at (end_of s h)) (at (end_of s g))) start found.4)),
           )) k live_k old_k;
       fan_after = fans_after;
       fan_before = fans_before;

@@ -1,7 +1,7 @@
 -- A walk towards a point, across edges that have it strictly on the other side, comes to no triangle twice: the power of the point at the
 -- triangle's circle rises. This is, for triangles beside each other, the theorem of H. Edelsbrunner, "An acyclicity theorem for cell complexes
 -- in d dimensions", 1990.
-use Rattle.std.proofs.Common.{◌≡◌, ◌≢◌, ◌⊎◌, inl, inr, ℕ, ◌<◌, ◌≤◌, List, [], ◌∷◌, map, refl, sym, ap, ◌∙◌, subst, ℤ, pos, ◌-ℤ◌, ◌*ℤ◌, ◌<ℤ◌, ◌≤ℤ◌, arith}
+use Rattle.std.proofs.Common.{◌≡◌, ◌≢◌, ◌⊎◌, inl, inr, ℕ, ◌<◌, ◌≤◌, List, [], ◌∷◌, map, refl, sym, ap, ◌∙◌, subst, pos, ◌*ℤ◌, ◌<ℤ◌, ◌≤ℤ◌, arith}
 use Rattle.std.proofs.lemmas.Bool.{cases_eq}
 use Rattle.std.proofs.lemmas.Int.{by_lt_z}
 use Rattle.dcel_fixed.specs.HalfEdges.{rev}
@@ -9,7 +9,7 @@ use Rattle.dcel_fixed.proofs.Halves.{rev-rev}
 use Rattle.dcel_predicates.specs.Determinants.{orient2d_of, incircle_of}
 use Rattle.dcel_predicates.specs.declared.point.Point.{Point}
 use Rattle.dcel_predicates.proofs.Points.{orient2d-first_swapped, orient2d-turned}
-use Rattle.dcel_predicates.proofs.Signs.{negative_times, ordered, times_negative, times_positive}
+use Rattle.dcel_predicates.proofs.Signs.{ordered}
 use Rattle.dcel_maps.specs.Shapes.{IsLive, IsMesh, Mesh, Shape, end_of, face_of, map_of, next_of, origin_of, prev_of}
 use Rattle.dcel_maps.specs.Triangulations.{AllTriangles}
 use Rattle.dcel_maps.specs.Words.{count_of}
@@ -17,21 +17,17 @@ use Rattle.dcel_maps.proofs.maps.Soundness.{rev_live}
 use Rattle.dcel_maps.proofs.maps.Triangles.{IsTriangleOf, by_triangle, off_triangle, triangle_faces_another}
 use Rattle.dcel_maps.proofs.shapes.Maps.{map-sound}
 use Rattle.dcel_maps.proofs.words.Counts.{count-equal, count-other, first_or_later}
-use Rattle.dcel_plane.specs.Plane.{IsDelaunay}
+use Rattle.dcel_plane.specs.Plane.{IsLocallyDelaunay}
 use Rattle.dcel_plane.specs.covering.Places.{Place, incircle_at, orient_at}
 use Rattle.dcel_plane.proofs.covering.Caps.{seen_from_other}
-use Rattle.dcel_plane.proofs.covering.Crossing.{crossing_at}
-use Rattle.dcel_plane.proofs.covering.Inside.{as_place, on_end, on_start, other_way, place_of}
+use Rattle.dcel_plane.proofs.covering.Inside.{as_place, on_end, on_start, place_of}
 use Rattle.dcel_plane.proofs.covering.Powers.{Side, area, side}
-use Rattle.dcel_plane.proofs.covering.Products.{below_times, times_below}
+use Rattle.dcel_plane.proofs.covering.Products.{not_above}
 use Rattle.dcel_plane.proofs.covering.Reaching.{incircle_at-turned, not_circled}
-use Rattle.dcel_plane.proofs.covering.Towards.{IsBeyond, IsHigherAt, LeadsAt, along_at, over_after, over_before, power_at}
+use Rattle.dcel_plane.proofs.covering.Towards.{IsBeyond, IsHigherAt, LeadsAt, along_at, over_after, over_before, power_at, rises_over, stays_over}
 use Rattle.dcel_plane.proofs.covering.Triangles.{left_at, round}
 use Rattle.dcel_plane.specs.location.Locating.{HasBeyond, Walks}
 use Rattle.dcel_plane.proofs.location.Counting.{count-unmapped}
-
-not_above : (x : ℤ) → ¬ (pos 0 <ℤ x) → x ≤ℤ pos 0
-not_above x not = by_lt_z (pos 0) x (λ is. absurd (not is)) (λ no. no)
 
 -- over the one and the other of the next triangle's sides, with other names for two corners
 abbrev Over : (p : Place) (a b c d a' b' : Point) → Type 0
@@ -44,31 +40,6 @@ over_at p a b c d a' b' ea eb =
     subst (λ (q : Point). Over p a b c d a' q) eb (subst (λ (q : Point). Over p a b c d q b) ea
     (λ near far outside.
     (over_after a b c d p near far (not_above (incircle_of a b c d) outside), over_before a b c d p near far (not_above (incircle_of a b c d) outside))))
-
--- the power on the other side of a side: it doesn't fall, and rises where the far corner is strictly outside of the circle
-module _ (a b c d : Point) (p : Place) (near : IsBeyond p (side a b c)) where
-  beyond : pos 0 <ℤ orient_at b a p
-  beyond = let e = other_way a b p in let h = near.beyond in omega (arith, ordered, e, h)
-
-  square_above : pos 0 <ℤ (p.w *ℤ p.w)
-  square_above = times_positive p.w p.w p.above p.above
-
-  compare : (x y z : ℤ) → x ≡ y -ℤ z → z ≤ℤ pos 0 → y ≤ℤ x
-  compare x y z is less = omega (arith, ordered, is, less)
-
-  compare_less : (x y z : ℤ) → x ≡ y -ℤ z → z <ℤ pos 0 → y <ℤ x
-  compare_less x y z is less = omega (arith, ordered, is, less)
-
-  stays_over : incircle_of a b c d ≤ℤ pos 0 → (incircle_at a b c p *ℤ orient2d_of b a d) ≤ℤ (incircle_at b a d p *ℤ orient2d_of a b c)
-  stays_over outside =
-      compare (incircle_at b a d p *ℤ orient2d_of a b c) (incircle_at a b c p *ℤ orient2d_of b a d) ((p.w *ℤ p.w) *ℤ (incircle_of a b c d *ℤ orient_at b a p)) (crossing_at a b c d p)
-      (times_negative (p.w *ℤ p.w) (incircle_of a b c d *ℤ orient_at b a p) (let e = square_above in omega (arith, ordered, e))
-      (negative_times (incircle_of a b c d) (orient_at b a p) outside (let e = beyond in omega (arith, ordered, e))))
-
-  rises_over : incircle_of a b c d <ℤ pos 0 → (incircle_at a b c p *ℤ orient2d_of b a d) <ℤ (incircle_at b a d p *ℤ orient2d_of a b c)
-  rises_over less =
-      compare_less (incircle_at b a d p *ℤ orient2d_of a b c) (incircle_at a b c p *ℤ orient2d_of b a d) ((p.w *ℤ p.w) *ℤ (incircle_of a b c d *ℤ orient_at b a p)) (crossing_at a b c d p)
-      (times_below (p.w *ℤ p.w) (incircle_of a b c d *ℤ orient_at b a p) square_above (below_times (incircle_of a b c d) (orient_at b a p) less beyond))
 
 -- A side s of a triangle, and one of no less power that leads into that triangle, with the far corner d: d would lie beyond s.
 abbrev Back : (s : Side) (p : Place) (a b c d a' b' : Point) → Type 0
@@ -100,7 +71,7 @@ not_back s p a b c d near far outside same_area same_power within higher =
 back_at : (s : Side) (p : Place) (a b c d a' b' : Point) → a ≡ a' → b ≡ b' → Back s p a b c d a' b'
 back_at s p a b c d a' b' ea eb = subst (λ (q : Point). Back s p a b c d a' q) eb (subst (λ (q : Point). Back s p a b c d q b) ea (not_back s p a b c d))
 
-module _ {V DE UE F : Type 0} (m : Mesh V DE UE F) (mesh : IsMesh m) (triangles : AllTriangles m.shape) (at : ℕ → Point) (delaunay : IsDelaunay at m.shape) (v : Point) where
+module _ {V DE UE F : Type 0} (m : Mesh V DE UE F) (mesh : IsMesh m) (triangles : AllTriangles m.shape) (at : ℕ → Point) (delaunay : IsLocallyDelaunay at m.shape) (v : Point) where
   abbrev s : Shape
   s = m.shape
 

@@ -18,12 +18,12 @@ use Rattle.dcel_maps.proofs.maps.Soundness.{rev_live}
 use Rattle.dcel_maps.proofs.shapes.Maps.{face-live}
 use Rattle.dcel_maps.proofs.words.Counts.{count-equal, count-none, count-other, first_or_later}
 use Rattle.dcel_maps.proofs.words.Mapped.{mapped_once}
-use Rattle.dcel_plane.specs.Plane.{IsDelaunay}
-use Rattle.dcel_plane.specs.location.Locating.{HasBeyond, Walks, side_of}
+use Rattle.dcel_plane.specs.Plane.{IsLocallyDelaunay}
+use Rattle.dcel_plane.specs.location.Locating.{HasBeyond, Walks, orient2d_along}
 use Rattle.dcel_plane.proofs.location.Counting.{length-le_count, length-mapped, mapped-all}
 use Rattle.dcel_plane.proofs.location.Crossed.{faces_once, stands_anew}
 
-module _ {V DE UE F : Type 0} (m : Mesh V DE UE F) (mesh : IsMesh m) (triangles : AllTriangles m.shape) (at : ℕ → Point) (delaunay : IsDelaunay at m.shape) (p : Point) where
+module _ {V DE UE F : Type 0} (m : Mesh V DE UE F) (mesh : IsMesh m) (triangles : AllTriangles m.shape) (at : ℕ → Point) (delaunay : IsLocallyDelaunay at m.shape) (p : Point) where
   abbrev s : Shape
   s = m.shape
 
@@ -47,7 +47,7 @@ module _ {V DE UE F : Type 0} (m : Mesh V DE UE F) (mesh : IsMesh m) (triangles 
     | inr is ↦
         let x = has_k.right in
         let y : orient2d_of (at (end_of s k)) (at (origin_of s k)) p <ℤ pos 0 =
-        subst (λ (i : ℕ). orient2d_of (at (end_of s k)) (at (origin_of s i)) p <ℤ pos 0) (rev-rev k) (subst (λ (i : ℕ). side_of at s i p <ℤ pos 0) is has_h.right) in
+        subst (λ (i : ℕ). orient2d_of (at (end_of s k)) (at (origin_of s i)) p <ℤ pos 0) (rev-rev k) (subst (λ (i : ℕ). orient2d_along at s i p <ℤ pos 0) is has_h.right) in
         let e = orient2d-first_swapped (at (origin_of s k)) (at (end_of s k)) p in
         absurd (omega (arith, ordered, e, x, y))
   ]

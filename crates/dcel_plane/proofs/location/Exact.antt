@@ -14,19 +14,19 @@ use Rattle.dcel_maps.proofs.maps.Soundness.{rev_live}
 use Rattle.dcel_maps.proofs.walks.Links.{links_stand}
 use Rattle.dcel_maps.proofs.words.Counts.{count-later, count-same}
 use Rattle.dcel_maps.proofs.words.Reading.{face_in_word}
-use Rattle.dcel_plane.specs.Plane.{IsLeftOf, IsPlane, LiesInside, TurnsLeft}
+use Rattle.dcel_plane.specs.Plane.{IsLeftOf, LiesInside, TrianglesTurnLeft, TurnsLeft}
 use Rattle.dcel_plane.proofs.edits.Corners.{left_of_triangle}
-use Rattle.dcel_plane.specs.covering.Covering.{Covers, IsConvex, IsHull, apart_along}
+use Rattle.dcel_plane.specs.covering.Covering.{Covers, IsConvex, IsHull, dot}
 use Rattle.dcel_plane.specs.covering.Places.{orient_at}
 use Rattle.dcel_plane.proofs.covering.Alone.{none_inside as none_in}
 use Rattle.dcel_plane.proofs.covering.Apart.{apart_at}
 use Rattle.dcel_plane.proofs.covering.Faces.{disjoint_at, not_bare}
 use Rattle.dcel_plane.proofs.covering.Inside.{apart_end, apart_start, as_covered, as_place, closed_disjoint, on_start, place_of, same_place, weighed}
 use Rattle.dcel_plane.proofs.covering.Triangles.{meets, turned_triangle, at_word, left_at, round}
-use Rattle.dcel_plane.specs.location.Locating.{HasBeyond, LiesOn, StandsAt, side_of}
+use Rattle.dcel_plane.specs.location.Locating.{HasBeyond, LiesOn, StandsAt, orient2d_along}
 use Rattle.dcel_plane.proofs.location.Ways.{left_of_both, lies_back}
 
-module _ {V DE UE F : Type 0} (m : Mesh V DE UE F) (mesh : IsMesh m) (triangles : AllTriangles m.shape) (at : ℕ → Point) (plane : IsPlane at m.shape) (v : Point) where
+module _ {V DE UE F : Type 0} (m : Mesh V DE UE F) (mesh : IsMesh m) (triangles : AllTriangles m.shape) (at : ℕ → Point) (plane : TrianglesTurnLeft at m.shape) (v : Point) where
   abbrev s : Shape
   s = m.shape
 
@@ -48,7 +48,7 @@ module _ {V DE UE F : Type 0} (m : Mesh V DE UE F) (mesh : IsMesh m) (triangles 
       )
 
   -- beyond an edge of the hull the point is in no triangle
-  pub in_none : IsConvex at s → (e h : ℕ) → IsLive s e → face_of s e ≡ 0 → pos 0 <ℤ side_of at s e v → IsLive s h → 0 < face_of s h
+  pub in_none : IsConvex at s → (e h : ℕ) → IsLive s e → face_of s e ≡ 0 → pos 0 <ℤ orient2d_along at s e v → IsLive s h → 0 < face_of s h
       → ¬ Covers (p h) (p (next_of s h)) (p (prev_of s h)) v
   in_none convex e h live_e outer sees live inner covers =
       let tri = round m mesh triangles h live inner in
@@ -60,7 +60,7 @@ module _ {V DE UE F : Type 0} (m : Mesh V DE UE F) (mesh : IsMesh m) (triangles 
       (let i = as_place b c v in let j = covers.1 in omega (arith, ordered, i, j))
       (let i = as_place c a v in let j = covers.2 in omega (arith, ordered, i, j))
       (let i = as_place a b v in let j = covers.0 in omega (arith, ordered, i, j))
-      (convex.right e h live_e outer live) (convex.right e (next_of s h) live_e outer tri.live_y) (convex.right e (prev_of s h) live_e outer tri.live_z)
+      (convex.supports e h live_e outer live).0 (convex.supports e (next_of s h) live_e outer tri.live_y).0 (convex.supports e (prev_of s h) live_e outer tri.live_z).0
     where
       nothing : (t u k l n x y z : ℤ) → t *ℤ u ≡ ((k *ℤ x) +ℤ (l *ℤ y)) +ℤ (n *ℤ z) → pos 0 <ℤ u → pos 0 <ℤ t → pos 0 ≤ℤ k → pos 0 ≤ℤ l → pos 0 ≤ℤ n
           → x ≤ℤ pos 0 → y ≤ℤ pos 0 → z ≤ℤ pos 0 → ⊥
@@ -86,9 +86,9 @@ module _ {V DE UE F : Type 0} (m : Mesh V DE UE F) (mesh : IsMesh m) (triangles 
   )
 
   -- no vertex stands there
-  pub none_beyond : IsConvex at s → (e k : ℕ) → IsLive s e → face_of s e ≡ 0 → pos 0 <ℤ side_of at s e v → IsLive s k → StandsAt at v (origin_of s k) → ⊥
+  pub none_beyond : IsConvex at s → (e k : ℕ) → IsLive s e → face_of s e ≡ 0 → pos 0 <ℤ orient2d_along at s e v → IsLive s k → StandsAt at v (origin_of s k) → ⊥
   none_beyond convex e k live outer sees live_k stands =
-      let r = convex.right e k live outer live_k in
+      let r = (convex.supports e k live outer live_k).0 in
       let i = same_place (p e) (at (end_of s e)) (p k) v stands.0 stands.1 in
       omega (arith, ordered, r, i, sees)
 
@@ -126,7 +126,7 @@ module _ {V DE UE F : Type 0} (m : Mesh V DE UE F) (mesh : IsMesh m) (triangles 
         let sides = inner_sides h live inner lies in
         none_in m mesh triangles at plane convex hull v h live inner sides.0 sides.1 sides.2 k live_k stands.0 stands.1
 
-    apart_place : (a b d : Point) → d.x ≡ v.x → d.y ≡ v.y → apart_along a b d ≡ apart_along a b v
+    apart_place : (a b d : Point) → d.x ≡ v.x → d.y ≡ v.y → dot a b d ≡ dot a b v
     apart_place a b d ex ey = rw (ex, ey) refl
 
     -- nor strictly between the ends of an edge
@@ -135,7 +135,7 @@ module _ {V DE UE F : Type 0} (m : Mesh V DE UE F) (mesh : IsMesh m) (triangles 
       | inl outer ↦
           let e = same_place (p h) (at (end_of s h)) (p k) v stands.0 stands.1 in
           let on = lies.on in
-          let b = convex.between h k live outer live_k (omega (arith, ordered, e, on)) in
+          let b = (convex.supports h k live outer live_k).1 (omega (arith, ordered, e, on)) in
           let i = apart_place (p h) (at (end_of s h)) (p k) stands.0 stands.1 in
           let apart = lies.between in
           omega (arith, ordered, b, i, apart)
@@ -146,7 +146,7 @@ module _ {V DE UE F : Type 0} (m : Mesh V DE UE F) (mesh : IsMesh m) (triangles 
           let tri = round m mesh triangles h live inner in
           let turn = left_of_triangle at s mesh.sound plane f h b c inner tri in
           let on : orient2d_of (p h) (p b) v ≡ pos 0 = subst (λ (j : ℕ). orient2d_of (p h) (at j) v ≡ pos 0) (sym (meets m mesh f h b c tri)) lies.on in
-          let apart : apart_along (p h) (p b) v <ℤ pos 0 = subst (λ (j : ℕ). apart_along (p h) (at j) v <ℤ pos 0) (sym (meets m mesh f h b c tri)) lies.between in
+          let apart : dot (p h) (p b) v <ℤ pos 0 = subst (λ (j : ℕ). dot (p h) (at j) v <ℤ pos 0) (sym (meets m mesh f h b c tri)) lies.between in
           let both = left_of_both (p h) (p b) (p c) v turn on apart in
           let bc = both.0 in let ca = both.1 in
           corner_by ⊥ h k live inner live_k stands (omega (arith, ordered, on), omega (arith, ordered, bc), omega (arith, ordered, ca))
@@ -205,7 +205,7 @@ module _ {V DE UE F : Type 0} (m : Mesh V DE UE F) (mesh : IsMesh m) (triangles 
         let tri = round m mesh triangles k live inner in
         let turn = left_of_triangle at s mesh.sound plane f k b c inner tri in
         let on : orient2d_of (p k) (p b) v ≡ pos 0 = subst (λ (j : ℕ). orient2d_of (p k) (at j) v ≡ pos 0) (sym (meets m mesh f k b c tri)) lies.on in
-        let apart : apart_along (p k) (p b) v <ℤ pos 0 = subst (λ (j : ℕ). apart_along (p k) (at j) v <ℤ pos 0) (sym (meets m mesh f k b c tri)) lies.between in
+        let apart : dot (p k) (p b) v <ℤ pos 0 = subst (λ (j : ℕ). dot (p k) (at j) v <ℤ pos 0) (sym (meets m mesh f k b c tri)) lies.between in
         let both = left_of_both (p k) (p b) (p c) v turn on apart in
         let bc = both.0 in let ca = both.1 in
         (omega (arith, ordered, on), omega (arith, ordered, bc), omega (arith, ordered, ca))

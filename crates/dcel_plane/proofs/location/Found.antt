@@ -6,14 +6,14 @@ use Rattle.dcel_predicates.specs.declared.point.Point.{Point}
 use Rattle.dcel_maps.specs.Maps.{count}
 use Rattle.dcel_maps.specs.Shapes.{IsLive, IsMesh, Mesh, Shape, face_count, face_is_live, face_of, next_of, prev_of}
 use Rattle.dcel_maps.specs.Triangulations.{AllTriangles}
-use Rattle.dcel_plane.specs.Plane.{IsDelaunay}
+use Rattle.dcel_plane.specs.Plane.{IsLocallyDelaunay}
 use Rattle.dcel_plane.proofs.covering.Triangles.{round}
-use Rattle.dcel_plane.specs.location.Locating.{HasBeyond, HasSpot, Walks, side_of}
+use Rattle.dcel_plane.specs.location.Locating.{HasBeyond, HasSpot, Walks, orient2d_along}
 use Rattle.dcel_plane.proofs.location.Ending.{few_faces}
 use Rattle.dcel_plane.proofs.location.Exact.{stepped_out}
 use Rattle.dcel_plane.proofs.location.Ways.{found_in}
 
-module _ {V DE UE F : Type 0} (m : Mesh V DE UE F) (mesh : IsMesh m) (triangles : AllTriangles m.shape) (at : ℕ → Point) (delaunay : IsDelaunay at m.shape) (p : Point) where
+module _ {V DE UE F : Type 0} (m : Mesh V DE UE F) (mesh : IsMesh m) (triangles : AllTriangles m.shape) (at : ℕ → Point) (delaunay : IsLocallyDelaunay at m.shape) (p : Point) where
   abbrev s : Shape
   s = m.shape
 
@@ -21,7 +21,7 @@ module _ {V DE UE F : Type 0} (m : Mesh V DE UE F) (mesh : IsMesh m) (triangles 
   IsFound = HasSpot at s p
 
   -- a step across one side
-  over : (g h i : ℕ) (list : List ℕ) → 0 < face_of s h → Walks at s p g list (face_of s h) → IsLive s i → face_of s i ≡ face_of s h → side_of at s i p <ℤ pos 0
+  over : (g h i : ℕ) (list : List ℕ) → 0 < face_of s h → Walks at s p g list (face_of s h) → IsLive s i → face_of s i ≡ face_of s h → orient2d_along at s i p <ℤ pos 0
       → ((k : ℕ) → IsLive s k → 0 < face_of s k → Walks at s p g (i ∷ list) (face_of s k) → IsFound) → IsFound
   over g h i list inner walk live_i on right again =
       let has : HasBeyond at s p i = record { live = live_i; inner = subst (λ (f : ℕ). 0 < f) (sym on) inner; right = right } in
@@ -35,11 +35,11 @@ module _ {V DE UE F : Type 0} (m : Mesh V DE UE F) (mesh : IsMesh m) (triangles 
   find zero g h list live inner walk enough = absurd (let f = few_faces m mesh triangles at delaunay p g h list live inner walk in omega (arith, f, enough))
   find (suc fuel) g h list live inner walk enough =
       let tri = round m mesh triangles h live inner in
-      by_lt_z (side_of at s h p) (pos 0)
+      by_lt_z (orient2d_along at s h p) (pos 0)
       (λ right. over g h h list inner walk live refl right (λ k live_k inner_k on. find fuel g k (h ∷ list) live_k inner_k on (omega (arith, enough))))
-      (λ first. by_lt_z (side_of at s (next_of s h) p) (pos 0)
+      (λ first. by_lt_z (orient2d_along at s (next_of s h) p) (pos 0)
       (λ right. over g h (next_of s h) list inner walk tri.live_y tri.face_y right (λ k live_k inner_k on. find fuel g k (next_of s h ∷ list) live_k inner_k on (omega (arith, enough))))
-      (λ second. by_lt_z (side_of at s (prev_of s h) p) (pos 0)
+      (λ second. by_lt_z (orient2d_along at s (prev_of s h) p) (pos 0)
       (λ right. over g h (prev_of s h) list inner walk tri.live_z tri.face_z right (λ k live_k inner_k on. find fuel g k (prev_of s h ∷ list) live_k inner_k on (omega (arith, enough))))
       (λ third. inl (h, live, inner, found_in m mesh triangles at delaunay.plane p h live inner first second third))))
 

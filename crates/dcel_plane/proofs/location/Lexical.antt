@@ -8,7 +8,7 @@ use Rattle.dcel_predicates.proofs.Signs.{ordered, square, times, times_positive}
 use Rattle.dcel_predicates.proofs.Terms.{orient, spot}
 use Rattle.dcel_plane.proofs.covering.Along.{none_first, none_second}
 use Rattle.dcel_plane.proofs.covering.Products.{times_below}
-use Rattle.dcel_plane.specs.hull.Straight.{beyond}
+use Rattle.dcel_plane.specs.hull.Straight.{dot_of_steps}
 use Rattle.dcel_plane.specs.location.Locating.{IsBefore}
 
 -- a way that leads to the right, or straight up
@@ -78,37 +78,37 @@ module _ (a b p : Point) (on : orient2d_of a b p ≡ pos 0) (before : IsBefore a
       (minus (num (pos 0)) (orient (spot 0) (spot 1) (spot 2))) refl
 
   -- after the end
-  pub after_end : IsBefore b p → pos 0 <ℤ beyond a b p
+  pub after_end : IsBefore b p → pos 0 <ℤ dot_of_steps a b p
   after_end is = one_way u v (p.x -ℤ b.x) (p.y -ℤ b.y) (let e = level_end in omega (arith, ordered, e, on)) (leads a b before) (leads b p is)
 
-  end_back : ((u *ℤ (b.x -ℤ p.x)) +ℤ (v *ℤ (b.y -ℤ p.y))) +ℤ beyond a b p ≡ pos 0
+  end_back : ((u *ℤ (b.x -ℤ p.x)) +ℤ (v *ℤ (b.y -ℤ p.y))) +ℤ dot_of_steps a b p ≡ pos 0
   end_back =
       by_terms (a.x ∷ a.y ∷ b.x ∷ b.y ∷ p.x ∷ p.y ∷ [])
       (plus (plus (by (minus (spot 1).x (spot 0).x) (minus (spot 1).x (spot 2).x)) (by (minus (spot 1).y (spot 0).y) (minus (spot 1).y (spot 2).y)))
       (plus (by (minus (spot 1).x (spot 0).x) (minus (spot 2).x (spot 1).x)) (by (minus (spot 1).y (spot 0).y) (minus (spot 2).y (spot 1).y)))) (num (pos 0)) refl
 
   -- before the start
-  start_turned : (u *ℤ (a.x -ℤ p.x)) +ℤ (v *ℤ (a.y -ℤ p.y)) ≡ beyond b a p
+  start_turned : (u *ℤ (a.x -ℤ p.x)) +ℤ (v *ℤ (a.y -ℤ p.y)) ≡ dot_of_steps b a p
   start_turned =
       by_terms (a.x ∷ a.y ∷ b.x ∷ b.y ∷ p.x ∷ p.y ∷ [])
       (plus (by (minus (spot 1).x (spot 0).x) (minus (spot 0).x (spot 2).x)) (by (minus (spot 1).y (spot 0).y) (minus (spot 0).y (spot 2).y)))
       (plus (by (minus (spot 0).x (spot 1).x) (minus (spot 2).x (spot 0).x)) (by (minus (spot 0).y (spot 1).y) (minus (spot 2).y (spot 0).y))) refl
 
-  pub before_start : IsBefore p a → pos 0 <ℤ beyond b a p
+  pub before_start : IsBefore p a → pos 0 <ℤ dot_of_steps b a p
   before_start is =
       let t = one_way u v (a.x -ℤ p.x) (a.y -ℤ p.y) (let e = level_start_back in omega (arith, ordered, e, on)) (leads a b before) (leads p a is) in
       let e = start_turned in omega (arith, ordered, t, e)
 
-  start_back : ((u *ℤ (p.x -ℤ a.x)) +ℤ (v *ℤ (p.y -ℤ a.y))) +ℤ beyond b a p ≡ pos 0
+  start_back : ((u *ℤ (p.x -ℤ a.x)) +ℤ (v *ℤ (p.y -ℤ a.y))) +ℤ dot_of_steps b a p ≡ pos 0
   start_back =
       by_terms (a.x ∷ a.y ∷ b.x ∷ b.y ∷ p.x ∷ p.y ∷ [])
       (plus (plus (by (minus (spot 1).x (spot 0).x) (minus (spot 2).x (spot 0).x)) (by (minus (spot 1).y (spot 0).y) (minus (spot 2).y (spot 0).y)))
       (plus (by (minus (spot 0).x (spot 1).x) (minus (spot 2).x (spot 0).x)) (by (minus (spot 0).y (spot 1).y) (minus (spot 2).y (spot 0).y)))) (num (pos 0)) refl
 
   -- and not otherwise
-  pub not_after_end : ¬ IsBefore b p → beyond a b p ≤ℤ pos 0
+  pub not_after_end : ¬ IsBefore b p → dot_of_steps a b p ≤ℤ pos 0
   not_after_end not =
-      by_lt_z (pos 0) (beyond a b p)
+      by_lt_z (pos 0) (dot_of_steps a b p)
       (λ more. absurd
       (by_lt_z b.x p.x (λ less. not (inl less))
       (λ no_right. by_lt_z p.x b.x (λ less. behind more (inl less))
@@ -117,18 +117,18 @@ module _ (a b p : Point) (on : orient2d_of a b p ≡ pos 0) (before : IsBefore a
       (λ no_down. nowhere more (omega (arith, ordered, no_right, no_left)) (omega (arith, ordered, no_up, no_down))))))))
       (λ no. no)
     where
-      behind : pos 0 <ℤ beyond a b p → IsBefore p b → ⊥
+      behind : pos 0 <ℤ dot_of_steps a b p → IsBefore p b → ⊥
       behind more is =
           let t = one_way u v (b.x -ℤ p.x) (b.y -ℤ p.y) (let e = level_end_back in omega (arith, ordered, e, on)) (leads a b before) (leads p b is) in
           let e = end_back in omega (arith, ordered, t, e, more)
 
-      nowhere : pos 0 <ℤ beyond a b p → p.x ≡ b.x → p.y ≡ b.y → ⊥
+      nowhere : pos 0 <ℤ dot_of_steps a b p → p.x ≡ b.x → p.y ≡ b.y → ⊥
       nowhere more ex ey =
           let i = none_second u (p.x -ℤ b.x) (omega (arith, ordered, ex)) in let j = none_second v (p.y -ℤ b.y) (omega (arith, ordered, ey)) in omega (arith, ordered, i, j, more)
 
-  pub not_before_start : ¬ IsBefore p a → beyond b a p ≤ℤ pos 0
+  pub not_before_start : ¬ IsBefore p a → dot_of_steps b a p ≤ℤ pos 0
   not_before_start not =
-      by_lt_z (pos 0) (beyond b a p)
+      by_lt_z (pos 0) (dot_of_steps b a p)
       (λ more. absurd
       (by_lt_z p.x a.x (λ less. not (inl less))
       (λ no_left. by_lt_z a.x p.x (λ less. ahead more (inl less))
@@ -137,12 +137,12 @@ module _ (a b p : Point) (on : orient2d_of a b p ≡ pos 0) (before : IsBefore a
       (λ no_up. nowhere more (omega (arith, ordered, no_right, no_left)) (omega (arith, ordered, no_up, no_down))))))))
       (λ no. no)
     where
-      ahead : pos 0 <ℤ beyond b a p → IsBefore a p → ⊥
+      ahead : pos 0 <ℤ dot_of_steps b a p → IsBefore a p → ⊥
       ahead more is =
           let t = one_way u v (p.x -ℤ a.x) (p.y -ℤ a.y) (let e = level_start in omega (arith, ordered, e, on)) (leads a b before) (leads a p is) in
           let e = start_back in omega (arith, ordered, t, e, more)
 
-      nowhere : pos 0 <ℤ beyond b a p → p.x ≡ a.x → p.y ≡ a.y → ⊥
+      nowhere : pos 0 <ℤ dot_of_steps b a p → p.x ≡ a.x → p.y ≡ a.y → ⊥
       nowhere more ex ey =
           let i = none_second u (p.x -ℤ a.x) (omega (arith, ordered, ex)) in let j = none_second v (p.y -ℤ a.y) (omega (arith, ordered, ey)) in
           let e = start_back in omega (arith, ordered, i, j, e, more)

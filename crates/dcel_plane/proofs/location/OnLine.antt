@@ -7,9 +7,7 @@ use Rattle.dcel_fixed.proofs.Halves.{rev-rev}
 use Rattle.dcel_predicates.specs.Determinants.{orient2d_of}
 use Rattle.dcel_predicates.specs.declared.point.Point.{Point}
 use Rattle.dcel_predicates.proofs.Points.{orient2d-first_swapped}
-use Rattle.dcel_predicates.proofs.Ring.{Term, by_terms, minus, plus, times as by}
 use Rattle.dcel_predicates.proofs.Signs.{ordered, square}
-use Rattle.dcel_predicates.proofs.Terms.{Spot, spot}
 use Rattle.dcel_maps.specs.Conditions.{IsLineEnd}
 use Rattle.dcel_maps.specs.Maps.{By, ccw}
 use Rattle.dcel_maps.specs.Shapes.{IsLive, IsMesh, Mesh, Shape, end_of, map_of, next_of, origin_of, prev_of}
@@ -20,44 +18,30 @@ use Rattle.dcel_maps.proofs.maps.Soundness.{rev_live}
 use Rattle.dcel_maps.proofs.shapes.Maps.{map-sound}
 use Rattle.dcel_maps.proofs.walks.Returning.{length-live}
 use Rattle.dcel_maps.proofs.words.Counts.{count-equal, count-none, count-other, first_or_later}
-use Rattle.dcel_plane.specs.covering.Covering.{apart_along}
-use Rattle.dcel_plane.proofs.covering.Along.{dot, dot_start, long, one_place}
+use Rattle.dcel_plane.specs.covering.Covering.{dot}
+use Rattle.dcel_plane.proofs.covering.Along.{dot_start, dot_swapped, edges_long, one_place}
 use Rattle.dcel_plane.proofs.covering.Inside.{on_end, on_start}
-use Rattle.dcel_plane.specs.hull.Straight.{IsStraight, beyond}
+use Rattle.dcel_plane.specs.hull.Straight.{IsStraight, dot_of_steps}
 use Rattle.dcel_plane.proofs.hull.OneLine.{apart_up, near_down, on_line, past_down}
-use Rattle.dcel_plane.proofs.hull.Thin.{back_dot}
-use Rattle.dcel_plane.specs.location.Locating.{HasPlace, LiesBeyond, LiesOn, Passes, StandsAt, side_of}
+use Rattle.dcel_plane.proofs.hull.Thin.{back_dot, past_end}
+use Rattle.dcel_plane.specs.location.Locating.{HasPlace, LiesBeyond, LiesOn, Passes, StandsAt, orient2d_along}
 
-abbrev dot_in : Spot → Spot → Spot → Term
-dot_in a b c = plus (by (minus a.x c.x) (minus b.x c.x)) (by (minus a.y c.y) (minus b.y c.y))
-
-abbrev beyond_in : Spot → Spot → Spot → Term
-beyond_in a b c = plus (by (minus b.x a.x) (minus c.x b.x)) (by (minus b.y a.y) (minus c.y b.y))
-
-pub dot_swapped : (a b c : Point) → dot a b c ≡ dot b a c
-dot_swapped a b c = by_terms (a.x ∷ a.y ∷ b.x ∷ b.y ∷ c.x ∷ c.y ∷ []) (dot_in (spot 0) (spot 1) (spot 2)) (dot_in (spot 1) (spot 0) (spot 2)) refl
-
--- beyond an end, by the place along the line
-pub past_end : (b a q : Point) → beyond b a q ≡ dot q a b -ℤ dot a a b
-past_end b a q =
-    by_terms (a.x ∷ a.y ∷ b.x ∷ b.y ∷ q.x ∷ q.y ∷ []) (beyond_in (spot 1) (spot 0) (spot 2)) (minus (dot_in (spot 2) (spot 0) (spot 1)) (dot_in (spot 0) (spot 0) (spot 1))) refl
-
-pub before_start : (b a q : Point) → beyond a b q +ℤ dot q a b ≡ pos 0
+pub before_start : (b a q : Point) → dot_of_steps a b q +ℤ dot q a b ≡ pos 0
 before_start b a q = let e = back_dot a b q in let c = dot_swapped a q b in omega (arith, ordered, e, c)
 
-stands_place : (a b d q : Point) → d.x ≡ q.x → d.y ≡ q.y → beyond a b d ≡ beyond a b q
+stands_place : (a b d q : Point) → d.x ≡ q.x → d.y ≡ q.y → dot_of_steps a b d ≡ dot_of_steps a b q
 stands_place a b d q ex ey = rw (ex, ey) refl
 
-apart_place : (a b d q : Point) → d.x ≡ q.x → d.y ≡ q.y → apart_along a b d ≡ apart_along a b q
+apart_place : (a b d q : Point) → d.x ≡ q.x → d.y ≡ q.y → dot a b d ≡ dot a b q
 apart_place a b d q ex ey = rw (ex, ey) refl
 
 -- none comes back
-never_beyond : (a b : Point) → beyond a b a ≤ℤ pos 0
+never_beyond : (a b : Point) → dot_of_steps a b a ≤ℤ pos 0
 never_beyond a b =
     let e = back_dot a b a in
     let x = square (a.x -ℤ b.x) in
     let y = square (a.y -ℤ b.y) in
-    sums (beyond a b a) ((a.x -ℤ b.x) *ℤ (a.x -ℤ b.x)) ((a.y -ℤ b.y) *ℤ (a.y -ℤ b.y)) e x y
+    sums (dot_of_steps a b a) ((a.x -ℤ b.x) *ℤ (a.x -ℤ b.x)) ((a.y -ℤ b.y) *ℤ (a.y -ℤ b.y)) e x y
   where
     sums : (t x y : ℤ) → t +ℤ (x +ℤ y) ≡ pos 0 → pos 0 ≤ℤ x → pos 0 ≤ℤ y → t ≤ℤ pos 0
     sums t x y is hx hy = omega (arith, ordered, is, hx, hy)
@@ -76,13 +60,13 @@ module _ {V DE UE F : Type 0} (m : Mesh V DE UE F) (mesh : IsMesh m) (at : ℕ �
   back h live = rev_live (map_of s) h live
 
   pub far : (h : ℕ) → IsLive s h → pos 0 <ℤ dot (e h) (e h) (p h)
-  far h live = long (e h) (p h) (λ ex ey. mesh.sound.two_ends h live (straight.distinct h (rev h) live (back h live) (sym ex) (sym ey)))
+  far = edges_long at s mesh.sound straight.distinct
 
   pub on_too : (h k : ℕ) → IsLive s h → IsLive s k → orient2d_of (p h) (e h) (e k) ≡ pos 0
   on_too h k live live_k = straight.line h (rev k) live (back k live_k)
 
   -- where a point on the line lies, as seen from one edge
-  pub places : (h : ℕ) → IsLive s h → (v : Point) → side_of at s h v ≡ pos 0
+  pub places : (h : ℕ) → IsLive s h → (v : Point) → orient2d_along at s h v ≡ pos 0
       → LiesOn at s v h ⊎ (StandsAt at v (origin_of s h) ⊎ (StandsAt at v (end_of s h) ⊎ (LiesBeyond at s v h ⊎ LiesBeyond at s v (rev h))))
   places h live v on =
       let b = p h in
@@ -93,7 +77,7 @@ module _ {V DE UE F : Type 0} (m : Mesh V DE UE F) (mesh : IsMesh m) (at : ℕ �
       (λ less. inr (inr (inr (inr (record {
         on =
             subst (λ (i : ℕ). orient2d_of a (at (origin_of s i)) v ≡ pos 0) (sym (rev-rev h)) (let o = orient2d-first_swapped b a v in omega (arith, ordered, o, on));
-        past = subst (λ (i : ℕ). pos 0 <ℤ beyond a (at (origin_of s i)) v) (sym (rev-rev h)) (let t = before_start b a v in omega (arith, ordered, t, less));
+        past = subst (λ (i : ℕ). pos 0 <ℤ dot_of_steps a (at (origin_of s i)) v) (sym (rev-rev h)) (let t = before_start b a v in omega (arith, ordered, t, less));
       })))))
       (λ not. by_lt_z (pos 0) (dot v a b)
       (λ more. by_lt_z (dot v a b) (dot a a b)
@@ -112,15 +96,15 @@ module _ {V DE UE F : Type 0} (m : Mesh V DE UE F) (mesh : IsMesh m) (at : ℕ �
       omega (arith, ordered, b, i, x)
 
   -- and none beyond an end of the line
-  pub none_past : (h k : ℕ) → IsLive s h → IsLineEnd s (end_of s h) → IsLive s k → beyond (p h) (e h) (p k) ≤ℤ pos 0
+  pub none_past : (h k : ℕ) → IsLive s h → IsLineEnd s (end_of s h) → IsLive s k → dot_of_steps (p h) (e h) (p k) ≤ℤ pos 0
   none_past h k live is_end live_k =
-      by_lt_z (pos 0) (beyond (p h) (e h) (p k))
+      by_lt_z (pos 0) (dot_of_steps (p h) (e h) (p k))
       (λ more. absurd
       (let found = straight.onward h k live live_k more in
       let only = is_end.one.1 in
       let same : found.0 ≡ rev h = only.only found.0 found.1 found.2 ∙ sym (only.only (rev h) (back h live) refl) in
-      let past : pos 0 <ℤ beyond (p h) (e h) (p h) =
-      subst (λ (i : ℕ). pos 0 <ℤ beyond (p h) (e h) (at (origin_of s i))) (rev-rev h) (subst (λ (i : ℕ). pos 0 <ℤ beyond (p h) (e h) (at (end_of s i))) same found.3) in
+      let past : pos 0 <ℤ dot_of_steps (p h) (e h) (p h) =
+      subst (λ (i : ℕ). pos 0 <ℤ dot_of_steps (p h) (e h) (at (origin_of s i))) (rev-rev h) (subst (λ (i : ℕ). pos 0 <ℤ dot_of_steps (p h) (e h) (at (end_of s i))) same found.3) in
       let n = never_beyond (p h) (e h) in
       omega (arith, ordered, past, n)))
       (λ not. not)
@@ -149,7 +133,7 @@ module _ {V DE UE F : Type 0} (m : Mesh V DE UE F) (mesh : IsMesh m) (at : ℕ �
       omega (arith, ordered, near, y)
 
   -- a half edge that starts where one ends, and isn't the same edge, leads on
-  pub leads_on : (h g : ℕ) → IsLive s h → IsLive s g → origin_of s g ≡ end_of s h → g ≢ rev h → pos 0 <ℤ beyond (p h) (e h) (e g)
+  pub leads_on : (h g : ℕ) → IsLive s h → IsLive s g → origin_of s g ≡ end_of s h → g ≢ rev h → pos 0 <ℤ dot_of_steps (p h) (e h) (e g)
   leads_on h g live live_g starts other =
       let b = p h in
       let a = e h in
@@ -160,14 +144,14 @@ module _ {V DE UE F : Type 0} (m : Mesh V DE UE F) (mesh : IsMesh m) (at : ℕ �
       let near : pos 0 <ℤ dot (e g) b a =
       near_down b a (e g) b a (far h live) (on_too h g live live_g) (on_end b a) (on_start b a) less (let z = dot_start a b in let l = far h live in omega (arith, ordered, z, l)) in
       other (straight.once g (rev h) live_g (back h live) starts
-      (subst (λ (i : ℕ). pos 0 <ℤ apart_along (e g) (at (origin_of s i)) (p g)) (sym (rev-rev h)) (subst (λ (i : ℕ). pos 0 <ℤ apart_along (e g) b (at i)) (sym starts) near))))
+      (subst (λ (i : ℕ). pos 0 <ℤ dot (e g) (at (origin_of s i)) (p g)) (sym (rev-rev h)) (subst (λ (i : ℕ). pos 0 <ℤ dot (e g) b (at i)) (sym starts) near))))
       (λ nor.
       let one = one_place b a a (e g) (far h live) (on_start b a) (on_too h g live live_g) (omega (arith, ordered, not, nor)) in
       mesh.sound.two_ends g live_g (starts ∙ straight.distinct (rev h) (rev g) (back h live) (back g live_g) one.0 one.1))))
 
   -- a point beyond the one's end lies on the other's line, and not beyond its start
   pub stays_ahead : (h g : ℕ) → IsLive s h → IsLive s g → origin_of s g ≡ end_of s h → g ≢ rev h → (v : Point) → LiesBeyond at s v h
-      → (side_of at s g v ≡ pos 0) × ¬ LiesBeyond at s v (rev g)
+      → (orient2d_along at s g v ≡ pos 0) × ¬ LiesBeyond at s v (rev g)
   stays_ahead h g live live_g starts other v lies =
       let b = p h in
       let a = e h in
@@ -177,8 +161,8 @@ module _ {V DE UE F : Type 0} (m : Mesh V DE UE F) (mesh : IsMesh m) (at : ℕ �
       let u = past_end b a v in (
         on_line b a (p g) (e g) v (far h live) (straight.line h g live live_g) (on_too h g live live_g) lies.on,
         λ behind.
-            let past : pos 0 <ℤ beyond (e g) a v =
-            subst (λ (i : ℕ). pos 0 <ℤ beyond (e g) (at i) v) starts (subst (λ (i : ℕ). pos 0 <ℤ beyond (e g) (at (origin_of s i)) v) (rev-rev g) behind.past) in
+            let past : pos 0 <ℤ dot_of_steps (e g) a v =
+            subst (λ (i : ℕ). pos 0 <ℤ dot_of_steps (e g) (at i) v) starts (subst (λ (i : ℕ). pos 0 <ℤ dot_of_steps (e g) (at (origin_of s i)) v) (rev-rev g) behind.past) in
             let c = back_dot (e g) a v in
             let gone = past_down b a (e g) v a (far h live) (on_too h g live live_g) lies.on (on_start b a) (omega (arith, ordered, past, c)) (omega (arith, ordered, more, t)) in
             omega (arith, ordered, gone, x, u),
@@ -324,7 +308,7 @@ module _ {V DE UE F : Type 0} (m : Mesh V DE UE F) (mesh : IsMesh m) (at : ℕ �
         ]
   ]
 
-  pub has_place : (h : ℕ) → IsLive s h → (v : Point) → side_of at s h v ≡ pos 0 → HasPlace at s v
+  pub has_place : (h : ℕ) → IsLive s h → (v : Point) → orient2d_along at s h v ≡ pos 0 → HasPlace at s v
   has_place h live v on = elim (places h live v on) [
     | inl lies ↦ inr (inl (h, live, lies))
     | inr (inl stands) ↦ inl (h, live, stands)

@@ -8,14 +8,15 @@ use Rattle.dcel_predicates.specs.declared.point.Point.{Point}
 use Rattle.dcel_predicates.proofs.Signs.{ordered}
 use Rattle.dcel_maps.specs.Conditions.{IsLineEnd}
 use Rattle.dcel_maps.specs.Shapes.{IsLive, IsMesh, Mesh, Shape, end_of, origin_of}
-use Rattle.dcel_plane.proofs.covering.Along.{dot, dot_start, one_place}
+use Rattle.dcel_plane.proofs.covering.Along.{dot_start, one_place}
 use Rattle.dcel_plane.proofs.covering.Inside.{on_end, on_start}
 use Rattle.dcel_plane.specs.hull.Straight.{IsStraight}
 use Rattle.dcel_plane.proofs.hull.OneLine.{apart_up, inside_of, order_of, past_down, past_up}
-use Rattle.dcel_plane.proofs.hull.Thin.{back_dot}
+use Rattle.dcel_plane.proofs.hull.Thin.{back_dot, past_end}
 use Rattle.dcel_plane.specs.location.Locating.{LiesBeyond, LiesOn}
-use Rattle.dcel_plane.proofs.location.OnLine.{back, far, on_too, none_between, none_past, past_end}
+use Rattle.dcel_plane.proofs.location.OnLine.{back, far, on_too, none_between, none_past}
 use Rattle.dcel_plane.proofs.location.Ways.{lies_back}
+use Rattle.dcel_plane.specs.covering.Covering.{dot}
 
 module _ {V DE UE F : Type 0} (m : Mesh V DE UE F) (mesh : IsMesh m) (at : ℕ → Point) (straight : IsStraight at m.shape) where
   abbrev s : Shape

@@ -12,8 +12,8 @@ use Rattle.dcel_maps.specs.Triangulations.{AllTriangles}
 use Rattle.dcel_maps.proofs.maps.Soundness.{rev_live}
 use Rattle.dcel_maps.proofs.maps.Triangles.{by_triangle, off_triangle}
 use Rattle.dcel_maps.proofs.shapes.Maps.{map-sound}
-use Rattle.dcel_plane.specs.Plane.{IsPlane, TurnsLeft}
-use Rattle.dcel_plane.specs.covering.Covering.{IsConvex, IsHull, apart_along}
+use Rattle.dcel_plane.specs.Plane.{TrianglesTurnLeft, TurnsLeft}
+use Rattle.dcel_plane.specs.covering.Covering.{IsConvex, IsHull, dot}
 use Rattle.dcel_plane.specs.covering.Places.{AreDisjoint, orient_at}
 use Rattle.dcel_plane.proofs.covering.Faces.{disjoint_at, not_bare}
 use Rattle.dcel_plane.proofs.covering.Inside.{as_covered, as_place, closed_disjoint, near_place, other_way, place_of, split_new_apart, weighed}
@@ -22,7 +22,7 @@ use Rattle.dcel_plane.specs.location.Locating.{LiesOn}
 use Rattle.dcel_plane.proofs.location.Exact.{covers_on}
 use Rattle.dcel_plane.proofs.location.Ways.{left_of_both, lies_back}
 
-module _ {V DE UE F : Type 0} (m : Mesh V DE UE F) (mesh : IsMesh m) (triangles : AllTriangles m.shape) (at : ℕ → Point) (plane : IsPlane at m.shape) (v : Point)
+module _ {V DE UE F : Type 0} (m : Mesh V DE UE F) (mesh : IsMesh m) (triangles : AllTriangles m.shape) (at : ℕ → Point) (plane : TrianglesTurnLeft at m.shape) (v : Point)
     (convex : IsConvex at m.shape) (hull : IsHull at m.shape) where
   abbrev s : Shape
   s = m.shape
@@ -45,7 +45,7 @@ module _ {V DE UE F : Type 0} (m : Mesh V DE UE F) (mesh : IsMesh m) (triangles 
       → (orient2d_of (p h) (p (next_of s h)) v ≡ pos 0) × (TurnsLeft (p (next_of s h)) (p (prev_of s h)) v × TurnsLeft (p (prev_of s h)) (p h) v)
   lefts h live inner lies =
       let on : orient2d_of (p h) (p (next_of s h)) v ≡ pos 0 = subst (λ (j : ℕ). orient2d_of (p h) (at j) v ≡ pos 0) (joined h live) lies.on in
-      let apart : apart_along (p h) (p (next_of s h)) v <ℤ pos 0 = subst (λ (j : ℕ). apart_along (p h) (at j) v <ℤ pos 0) (joined h live) lies.between in
+      let apart : dot (p h) (p (next_of s h)) v <ℤ pos 0 = subst (λ (j : ℕ). dot (p h) (at j) v <ℤ pos 0) (joined h live) lies.between in
       (on, left_of_both (p h) (p (next_of s h)) (p (prev_of s h)) v (left_at m mesh triangles at plane h live inner) on apart)
 
   -- of one triangle: it is the same side
@@ -105,7 +105,7 @@ module _ {V DE UE F : Type 0} (m : Mesh V DE UE F) (mesh : IsMesh m) (triangles 
       let right : (i : ℕ) → IsLive s i → orient2d_of b a (p i) ≤ℤ pos 0 =
       λ i live_i.
       subst (λ (e : Point). orient2d_of e a (p i) ≤ℤ pos 0) (end_is h live)
-      (subst (λ (j : ℕ). orient2d_of (p t) (at j) (p i) ≤ℤ pos 0) (ap (origin_of s) (rev-rev h)) (convex.right t i live_t outer live_i)) in
+      (subst (λ (j : ℕ). orient2d_of (p t) (at j) (p i) ≤ℤ pos 0) (ap (origin_of s) (rev-rev h)) (convex.supports t i live_t outer live_i).0) in
       let below = none_above (orient_at b a q) (orient2d_of x y z) (orient_at y z q) (orient_at z x q) (orient_at x y q) (orient2d_of b a x) (orient2d_of b a y) (orient2d_of b a z)
       (weighed x y z b a q) turn near.inside.1 near.inside.2 near.inside.0 (right k live_k) (right (next_of s k) tri.live_y) (right (prev_of s k) tri.live_z) in
       let o = other_way a b q in

@@ -10,17 +10,16 @@ use Rattle.dcel_predicates.proofs.Points.{orient2d-first_swapped, orient2d-last_
 use Rattle.dcel_predicates.proofs.Signs.{ordered, times_positive}
 use Rattle.dcel_maps.specs.Shapes.{IsLive, IsMesh, Mesh, Shape, end_of, face_of, map_of, next_of, origin_of, prev_of}
 use Rattle.dcel_maps.specs.Triangulations.{AllTriangles}
-use Rattle.dcel_maps.proofs.maps.Triangles.{IsTriangleOf, by_triangle, off_triangle}
-use Rattle.dcel_maps.proofs.shapes.Maps.{map-sound}
-use Rattle.dcel_plane.specs.Plane.{IsLeftOf, IsPlane, LiesInside, TurnsLeft}
+use Rattle.dcel_maps.proofs.maps.Triangles.{IsTriangleOf}
+use Rattle.dcel_plane.specs.Plane.{IsLeftOf, LiesInside, TrianglesTurnLeft, TurnsLeft}
 use Rattle.dcel_plane.proofs.edits.Corners.{left_of_triangle}
-use Rattle.dcel_plane.specs.covering.Covering.{Covers, apart_along}
-use Rattle.dcel_plane.proofs.covering.Along.{between_ends, dot, dot_start, first_weight, long, none_first, one_point, second_weight}
+use Rattle.dcel_plane.specs.covering.Covering.{Covers, dot}
+use Rattle.dcel_plane.proofs.covering.Along.{between_ends, dot_start, first_weight, long, none_first, one_point, second_weight}
 use Rattle.dcel_plane.proofs.covering.Inside.{on_end, on_start, same_place}
-use Rattle.dcel_plane.proofs.covering.Products.{positive_factor}
-use Rattle.dcel_plane.proofs.covering.Triangles.{meets, turned_triangle, round}
+use Rattle.dcel_plane.proofs.covering.Products.{positive_factor, zero_of}
+use Rattle.dcel_plane.proofs.covering.Triangles.{meets, of_face, round, turned_triangle}
 use Rattle.dcel_plane.proofs.hull.OneLine.{apart_down, inside_of}
-use Rattle.dcel_plane.specs.location.Locating.{HasCorner, HasEdge, side_of, LiesOn}
+use Rattle.dcel_plane.specs.location.Locating.{HasCorner, HasEdge, orient2d_along, LiesOn}
 
 -- two points that differ, from a triangle that they are corners of
 apart_corners : (a b c : Point) → TurnsLeft a b c → a.x ≡ b.x → a.y ≡ b.y → ⊥
@@ -37,15 +36,15 @@ module _ (a b c p : Point) (turn : TurnsLeft a b c) (on : orient2d_of a b p ≡ 
   on_too : orient2d_of b a p ≡ pos 0
   on_too = let e = orient2d-first_swapped a b p in omega (arith, ordered, e, on)
 
-  pub between_of : TurnsLeft b c p → TurnsLeft c a p → apart_along a b p <ℤ pos 0
+  pub between_of : TurnsLeft b c p → TurnsLeft c a p → dot a b p <ℤ pos 0
   between_of bc ca =
       let is = between_ends a b c p far turn bc ca on on_too in
       let x = is.above in let y = is.below in let z = dot_start a b in
       apart_down b a a b p far (on_start b a) (on_end b a) on_too y (omega (arith, ordered, x, z))
 
-  pub left_of_both : apart_along a b p <ℤ pos 0 → TurnsLeft b c p × TurnsLeft c a p
+  pub left_of_both : dot a b p <ℤ pos 0 → TurnsLeft b c p × TurnsLeft c a p
   left_of_both apart =
-      let other : apart_along b a p <ℤ pos 0 = (let x = *ℤ_comm (a.x -ℤ p.x) (b.x -ℤ p.x) in let y = *ℤ_comm (a.y -ℤ p.y) (b.y -ℤ p.y) in omega (arith, ordered, apart, x, y)) in
+      let other : dot b a p <ℤ pos 0 = (let x = *ℤ_comm (a.x -ℤ p.x) (b.x -ℤ p.x) in let y = *ℤ_comm (a.y -ℤ p.y) (b.y -ℤ p.y) in omega (arith, ordered, apart, x, y)) in
       let is = inside_of b a p far on_too other in
       let x = is.0 in let y = is.1 in (
         weight (dot p a b) (orient2d_of a b c) (orient2d_of b c p) (dot a a b) (orient2d_of a b p *ℤ dot c a b) (first_weight a b c p)
@@ -68,14 +67,14 @@ lies_back at s v k lies =
           subst (λ (i : ℕ). orient2d_of b (at (origin_of s i)) v ≡ pos 0) (sym (rev-rev k))
           (let o = orient2d-first_swapped a b v in let on = lies.on in omega (arith, ordered, o, on));
       between =
-          subst (λ (i : ℕ). apart_along b (at (origin_of s i)) v <ℤ pos 0) (sym (rev-rev k))
+          subst (λ (i : ℕ). dot b (at (origin_of s i)) v <ℤ pos 0) (sym (rev-rev k))
           (let x = *ℤ_comm (a.x -ℤ v.x) (b.x -ℤ v.x) in let y = *ℤ_comm (a.y -ℤ v.y) (b.y -ℤ v.y) in let apart = lies.between in omega (arith, ordered, apart, x, y));
     }
 
 pub not_both : (at : ℕ → Point) (s : Shape) (v : Point) (f : ℕ) → LiesInside at s f v → ¬ HasEdge at s v f
 not_both at s v f lies edge = let a = lies edge.side edge.live edge.face in let b = edge.lies.on in omega (arith, ordered, a, b)
 
-module _ {V DE UE F : Type 0} (m : Mesh V DE UE F) (mesh : IsMesh m) (triangles : AllTriangles m.shape) (at : ℕ → Point) (plane : IsPlane at m.shape) (v : Point) where
+module _ {V DE UE F : Type 0} (m : Mesh V DE UE F) (mesh : IsMesh m) (triangles : AllTriangles m.shape) (at : ℕ → Point) (plane : TrianglesTurnLeft at m.shape) (v : Point) where
   abbrev s : Shape
   s = m.shape
 
@@ -98,12 +97,8 @@ module _ {V DE UE F : Type 0} (m : Mesh V DE UE F) (mesh : IsMesh m) (triangles 
     left_of : (h b : ℕ) → b ≡ end_of s h → TurnsLeft (p h) (at b) v → IsLeftOf at s v h
     left_of h b is turns = subst (λ (j : ℕ). TurnsLeft (p h) (at j) v) is turns
 
-    each_side : (Q : ℕ → Type 0) → Q x → Q y → Q z → (j : ℕ) → IsLive s j → face_of s j ≡ f → Q j
-    each_side Q at_x at_y at_z j live_j on =
-        by_triangle Q x y z j (at_x, at_y, at_z) (λ off. absurd (off_triangle (map_of s) (map-sound mesh.sound) f x y z tri j live_j off on))
-
     inside : TurnsLeft (p x) (p y) v → TurnsLeft (p y) (p z) v → TurnsLeft (p z) (p x) v → LiesInside at s f v
-    inside xy yz zx = each_side (IsLeftOf at s v) (left_of x (origin_of s y) to_y xy) (left_of y (origin_of s z) to_z yz) (left_of z (origin_of s x) to_x zx)
+    inside xy yz zx = of_face m mesh f x y z tri (IsLeftOf at s v) (left_of x (origin_of s y) to_y xy) (left_of y (origin_of s z) to_z yz) (left_of z (origin_of s x) to_x zx)
 
     on_side : orient2d_of (p x) (p y) v ≡ pos 0 → TurnsLeft (p y) (p z) v → TurnsLeft (p z) (p x) v → HasEdge at s v f
     on_side on yz zx = record {
@@ -112,11 +107,11 @@ module _ {V DE UE F : Type 0} (m : Mesh V DE UE F) (mesh : IsMesh m) (triangles 
       face = tri.face_x;
       lies = record {
         on = subst (λ (j : ℕ). orient2d_of (p x) (at j) v ≡ pos 0) to_y on;
-        between = subst (λ (j : ℕ). apart_along (p x) (at j) v <ℤ pos 0) to_y (between_of (p x) (p y) (p z) v left on yz zx);
+        between = subst (λ (j : ℕ). dot (p x) (at j) v <ℤ pos 0) to_y (between_of (p x) (p y) (p z) v left on yz zx);
       };
       across =
           λ j live_j on_j off.
-          each_side (λ i. i ≢ x → IsLeftOf at s v i) (λ not. absurd (not refl)) (λ not. left_of y (origin_of s z) to_z yz) (λ not. left_of z (origin_of s x) to_x zx) j live_j
+          of_face m mesh f x y z tri (λ i. i ≢ x → IsLeftOf at s v i) (λ not. absurd (not refl)) (λ not. left_of y (origin_of s z) to_z yz) (λ not. left_of z (origin_of s x) to_x zx) j live_j
           (on_j ∙ tri.face_x) off;
     }
 
@@ -148,12 +143,9 @@ module _ {V DE UE F : Type 0} (m : Mesh V DE UE F) (mesh : IsMesh m) (triangles 
       (λ zx. inr (inl (on_side f x y z tri inner (zero_of (orient2d_of (p x) (p y) v) covers.0 no_xy) yz zx)))
       (λ no_zx. inr (inr (at_second f z x y tri_z inner (zero_of (orient2d_of (p z) (p x) v) covers.2 no_zx) (zero_of (orient2d_of (p x) (p y) v) covers.0 no_xy)))))
       (λ no_yz. inr (inr (at_second f x y z tri inner (zero_of (orient2d_of (p x) (p y) v) covers.0 no_xy) (zero_of (orient2d_of (p y) (p z) v) covers.1 no_yz)))))
-    where
-      zero_of : (o : ℤ) → pos 0 ≤ℤ o → o ≤ℤ pos 0 → o ≡ pos 0
-      zero_of o more less = omega (arith, ordered, more, less)
 
   -- by the tests on the sides
-  covers_by : (h : ℕ) → (live : IsLive s h) → (inner : 0 < face_of s h) → pos 0 ≤ℤ side_of at s h v → pos 0 ≤ℤ side_of at s (next_of s h) v → pos 0 ≤ℤ side_of at s (prev_of s h) v
+  covers_by : (h : ℕ) → (live : IsLive s h) → (inner : 0 < face_of s h) → pos 0 ≤ℤ orient2d_along at s h v → pos 0 ≤ℤ orient2d_along at s (next_of s h) v → pos 0 ≤ℤ orient2d_along at s (prev_of s h) v
       → Covers (p h) (p (next_of s h)) (p (prev_of s h)) v
   covers_by h live inner first second third =
       let tri = round m mesh triangles h live inner in
@@ -164,7 +156,7 @@ module _ {V DE UE F : Type 0} (m : Mesh V DE UE F) (mesh : IsMesh m) (triangles 
         subst (λ (j : ℕ). pos 0 ≤ℤ orient2d_of (p (prev_of s h)) (at j) v) (sym (meets m mesh (face_of s h) (prev_of s h) h (next_of s h) tri_z)) third,
       )
 
-  pub found_in : (h : ℕ) → IsLive s h → 0 < face_of s h → pos 0 ≤ℤ side_of at s h v → pos 0 ≤ℤ side_of at s (next_of s h) v → pos 0 ≤ℤ side_of at s (prev_of s h) v
+  pub found_in : (h : ℕ) → IsLive s h → 0 < face_of s h → pos 0 ≤ℤ orient2d_along at s h v → pos 0 ≤ℤ orient2d_along at s (next_of s h) v → pos 0 ≤ℤ orient2d_along at s (prev_of s h) v
       → LiesInside at s (face_of s h) v ⊎ (HasEdge at s v (face_of s h) ⊎ HasCorner at s v (face_of s h))
   found_in h live inner first second third =
       three_ways (face_of s h) h (next_of s h) (prev_of s h) (round m mesh triangles h live inner) inner (covers_by h live inner first second third)

@@ -19,15 +19,16 @@ use Rattle.dcel_maps.proofs.walks.Turning.{walk-out_edges}
 use Rattle.dcel_maps.proofs.walks.UnderWay.{walk-round}
 use Rattle.dcel_maps.proofs.words.Counts.{count-later, count-same}
 use Rattle.dcel_maps.proofs.words.Mapped.{mapped_from}
-use Rattle.dcel_plane.specs.Plane.{IsPlane}
+use Rattle.dcel_plane.specs.Plane.{TrianglesTurnLeft}
 use Rattle.dcel_plane.specs.covering.Covering.{IsConvex, IsHull}
 use Rattle.dcel_plane.proofs.covering.Inside.{on_start}
 use Rattle.dcel_plane.proofs.covering.Triangles.{is_triangle}
 use Rattle.dcel_plane.specs.removal.Wheels.{CanTurn, IsWheel, MakesTwo, turns}
 use Rattle.dcel_plane.proofs.removal.Cutting.{path_find}
-use Rattle.dcel_plane.proofs.removal.Deleting.{three_items, two_items}
+use Rattle.dcel_plane.proofs.removal.Deleting.{two_items}
 use Rattle.dcel_plane.proofs.removal.Flippable.{five_turn, round_wheel, two_turn}
 use Rattle.dcel_plane.proofs.removal.Turning.{closes, least, out}
+use Rattle.dcel_plane.proofs.edits.Corners.{three_items}
 
 -- a wheel has three spokes or more
 too_few : (v : Point) (u : ℕ → Point) (k : ℕ) → IsWheel v u k → 0 < k → k < 3 → ⊥
@@ -54,7 +55,7 @@ one_spoke v u k i wheel more less same =
     let left : pos 0 <ℤ orient2d_of v (u (0 + i)) (u (0 + 1)) = subst (λ (p : Point). pos 0 <ℤ orient2d_of v p (u (0 + 1))) (sym at) (wheel.left 0) in
     wheel.once 0 i more less (omega (arith, ordered, none)) left
 
-module _ {V DE UE F : Type 0} (m : Mesh V DE UE F) (mesh : IsMesh m) (triangles : AllTriangles m.shape) (at : ℕ → Point) (plane : IsPlane at m.shape)
+module _ {V DE UE F : Type 0} (m : Mesh V DE UE F) (mesh : IsMesh m) (triangles : AllTriangles m.shape) (at : ℕ → Point) (plane : TrianglesTurnLeft at m.shape)
     (convex : IsConvex at m.shape) (hull : IsHull at m.shape) (h : ℕ) (live : IsLive m.shape h)
     (inner : (k : ℕ) → IsLive m.shape k → origin_of m.shape k ≡ origin_of m.shape h → 0 < face_of m.shape k) where
   abbrev s : Shape

@@ -1,5 +1,5 @@
 -- A corner of the hull cut off with its triangles, where no neighbor turns left: the hull is convex.
-use Rattle.std.proofs.Common.{◌≡◌, ◌≢◌, ◌⊎◌, inl, inr, ℕ, zero, suc, ◌+◌, ◌-◌, ◌<◌, ◌≤◌, List, [], ◌∷◌, length, refl, sym, ap, ◌∙◌, subst, ℤ, pos, ◌-ℤ◌, ◌*ℤ◌, ◌<ℤ◌, ◌≤ℤ◌, arith}
+use Rattle.std.proofs.Common.{◌≡◌, ◌≢◌, ◌⊎◌, inl, inr, ℕ, zero, suc, ◌+◌, ◌-◌, ◌<◌, ◌≤◌, List, [], ◌∷◌, length, refl, sym, ap, ◌∙◌, subst, ℤ, pos, ◌*ℤ◌, ◌<ℤ◌, ◌≤ℤ◌, arith}
 use Rattle.std.proofs.lemmas.Bool.{cases_eq, cases_lt}
 use Rattle.std.proofs.lemmas.Int.{by_lt_z}
 use Rattle.std.proofs.Math.IntN.{*ℤ_comm}
@@ -16,17 +16,16 @@ use Rattle.dcel_maps.specs.Triangulations.{AllTriangles}
 use Rattle.dcel_maps.specs.Walking.{IsOutEdge, IsRoundTrip, ListsOnce, ccw_of}
 use Rattle.dcel_maps.specs.Words.{count_of}
 use Rattle.dcel_maps.proofs.maps.Soundness.{rev_live}
-use Rattle.dcel_maps.proofs.shapes.Maps.{map-sound}
 use Rattle.dcel_maps.proofs.walks.Links.{links_stand, prev-live}
 use Rattle.dcel_maps.proofs.words.Counts.{first_or_later}
 use Rattle.dcel_maps.proofs.words.Reading.{face-prev}
-use Rattle.dcel_plane.specs.Plane.{IsPlane, TurnsLeft}
-use Rattle.dcel_plane.specs.covering.Covering.{Covers, IsConvex, IsHull, apart_along}
+use Rattle.dcel_plane.specs.Plane.{TrianglesTurnLeft, TurnsLeft}
+use Rattle.dcel_plane.specs.covering.Covering.{Covers, IsConvex, IsHull, Supports, dot}
 use Rattle.dcel_plane.specs.removal.Wheels.{IsHollow, turns}
-use Rattle.dcel_plane.proofs.covering.Along.{IsBetween, long, none_first}
+use Rattle.dcel_plane.proofs.covering.Along.{IsBetween, dot_swapped, long, none_first}
 use Rattle.dcel_plane.proofs.hull.Beside.{end_right, start_right}
 use Rattle.dcel_plane.proofs.covering.Apart.{apart_at}
-use Rattle.dcel_plane.proofs.covering.Triangles.{left_at}
+use Rattle.dcel_plane.proofs.covering.Triangles.{ends_before, left_at}
 use Rattle.dcel_plane.proofs.covering.Along.{one_point}
 use Rattle.dcel_plane.proofs.removal.Hollows.{right_of_all}
 use Rattle.dcel_plane.proofs.removal.HullCorners.{corner_fan, inner_at, spoke}
@@ -34,8 +33,7 @@ use Rattle.dcel_plane.proofs.covering.Inside.{apart_end, apart_start, on_end, on
 use Rattle.dcel_plane.proofs.hull.OneLine.{inside_of}
 use Rattle.dcel_plane.proofs.covering.Products.{times_below}
 use Rattle.dcel_plane.proofs.hull.Quads.{weighed_point}
-use Rattle.dcel_plane.proofs.covering.Along.{dot}
-use Rattle.dcel_plane.proofs.removal.Turning.{closes}
+use Rattle.dcel_plane.proofs.removal.Turning.{closes, turns_first}
 use Rattle.dcel_plane.proofs.covering.Triangles.{round}
 use Rattle.dcel_plane.proofs.removal.Wheels.{plucker, spans}
 
@@ -82,12 +80,8 @@ path_find f x (y ∷ r) e a path found = elim (first_or_later a x (y ∷ r) foun
   | inl is ↦ (0, omega arith, sym is)
   | inr later ↦
       (let (n, below, is) = path_find f y r e a path.1 later in
-      (suc n, omega (arith, below), turned_first f n x ∙ ap (turns f n) path.0 ∙ is))
+      (suc n, omega (arith, below), turns_first f n x ∙ ap (turns f n) path.0 ∙ is))
 ]
-  where
-    turned_first : (f : ℕ → ℕ) (i x : ℕ) → turns f (suc i) x ≡ turns f i (f x)
-    turned_first f zero x = refl
-    turned_first f (suc i) x = ap f (turned_first f i x)
 
 -- The shape t is s without the vertex v, its edges and its triangles: what is outer in t was outer, or comes after a half edge from v.
 pub record IsCutOff (s t : Shape) (v : ℕ) : Type 0 where
@@ -97,7 +91,55 @@ pub record IsCutOff (s t : Shape) (v : ℕ) : Type 0 where
   pub outer : (x : ℕ) → IsLive t x → face_of t x ≡ 0
       → (face_of s x ≡ 0) ⊎ ((a : ℕ) × IsLive s a × (origin_of s a ≡ v) × (0 < face_of s a) × (next_of s a ≡ x))
 
-module _ {V DE UE F : Type 0} (m : Mesh V DE UE F) (mesh : IsMesh m) (triangles : AllTriangles m.shape) (at : ℕ → Point) (plane : IsPlane at m.shape)
+-- without the vertex: what stays of a convex hull, and the sides after half edges from v, if these are as in one
+module _ (at : ℕ → Point) (s t : Shape) (v : ℕ) (cut : IsCutOff s t v) (turned : (x : ℕ) → IsLive t x → IsLive t (rev x)) where
+  abbrev pub IsSide : ℕ → Type 0
+  IsSide x = (a : ℕ) × IsLive s a × (origin_of s a ≡ v) × (0 < face_of s a) × (next_of s a ≡ x)
+
+  pub cut_off_convex : IsConvex at s
+      → ((x z : ℕ) → IsSide x → IsLive s z → origin_of s z ≢ v → Supports (at (origin_of s x)) (at (end_of s x)) (at (origin_of s z))) → IsConvex at t
+  cut_off_convex convex sides = record {
+    supports = λ x z live_x on_x live_z.
+        subst (λ (j : ℕ). Supports (at (origin_of t x)) (at (end_of t x)) (at j)) (sym (cut.same z live_z))
+        (subst (λ (j : ℕ). Supports (at (origin_of t x)) (at j) (at (origin_of s z))) (sym (cut.same (rev x) (turned x live_x)))
+        (subst (λ (j : ℕ). Supports (at j) (at (end_of s x)) (at (origin_of s z))) (sym (cut.same x live_x))
+        (elim (cut.outer x live_x on_x) [
+          | inl was ↦ convex.supports x z (cut.old x live_x) was (cut.old z live_z)
+          | inr side ↦ sides x z side (cut.old z live_z) (λ is. cut.none z live_z (cut.same z live_z ∙ is))
+        ])));
+  }
+
+  pub cut_off_hull : IsHull at s → ((x z : ℕ) → IsLive t x → face_of s x ≡ 0 → IsSide z → origin_of s x ≡ origin_of s z → ⊥)
+      → ((x z : ℕ) → IsSide x → IsSide z → origin_of s x ≡ origin_of s z → x ≡ z) → IsHull at t
+  cut_off_hull hull old_side one_side = record {
+    distinct = λ x z live_x live_z ex ey.
+        cut.same x live_x
+        ∙ hull.distinct x z (cut.old x live_x) (cut.old z live_z) (ap (λ (j : ℕ). (at j).x) (sym (cut.same x live_x)) ∙ ex ∙ ap (λ (j : ℕ). (at j).x) (cut.same z live_z))
+        (ap (λ (j : ℕ). (at j).y) (sym (cut.same x live_x)) ∙ ey ∙ ap (λ (j : ℕ). (at j).y) (cut.same z live_z))
+        ∙ sym (cut.same z live_z);
+    once = λ x z live_x live_z on_x on_z same.
+        let starts : origin_of s x ≡ origin_of s z = sym (cut.same x live_x) ∙ same ∙ cut.same z live_z in
+        elim (cut.outer x live_x on_x) [
+          | inl was_x ↦ elim (cut.outer z live_z on_z) [
+            | inl was_z ↦ hull.once x z (cut.old x live_x) (cut.old z live_z) was_x was_z starts
+            | inr side ↦ absurd (old_side x z live_x was_x side starts)
+          ]
+          | inr side_x ↦ elim (cut.outer z live_z on_z) [
+            | inl was_z ↦ absurd (old_side z x live_z was_z side_x (sym starts))
+            | inr side ↦ one_side x z side_x side starts
+          ]
+        ];
+  }
+
+-- the number in a round trip of one that it lists
+pub number_of : {P : ℕ → Type 0} (f : ℕ → ℕ) (h : ℕ) (w : List ℕ) → IsRoundTrip f h w → ListsOnce P w → (a : ℕ) → P a → (n : ℕ) × (n < length w) × (turns f n h ≡ a)
+number_of f h w trip lists a is =
+    let found : 0 < count_of a w = (let c = lists.each a is in omega (arith, c)) in
+    let (n, below, at_n) = path_find f h trip.rest h a trip.round (subst (λ (l : List ℕ). 0 < count_of a l) trip.from found) in
+    let long : length w ≡ suc (length trip.rest) = ap length trip.from in
+    (n, omega (arith, below, long), at_n)
+
+module _ {V DE UE F : Type 0} (m : Mesh V DE UE F) (mesh : IsMesh m) (triangles : AllTriangles m.shape) (at : ℕ → Point) (plane : TrianglesTurnLeft at m.shape)
     (convex : IsConvex at m.shape) (hull : IsHull at m.shape) (h : ℕ) (live : IsLive m.shape h) (outer : face_of m.shape h ≡ 0)
     (w : List ℕ) (trip : IsRoundTrip (ccw_of m.shape) h w) (lists : ListsOnce (IsOutEdge m.shape (origin_of m.shape h)) w)
     (hollow : IsHollow (at (origin_of m.shape h)) (λ i. at (end_of m.shape (turns (ccw_of m.shape) (suc i) h))) (length w - 1)) where
@@ -119,9 +161,6 @@ module _ {V DE UE F : Type 0} (m : Mesh V DE UE F) (mesh : IsMesh m) (triangles 
   abbrev k : ℕ
   k = length w - 1
 
-  ends_before : (j : ℕ) → IsLive s j → end_of s (prev_of s j) ≡ origin_of s j
-  ends_before j live_j = sym (mesh.sound.joined (prev_of s j) (prev-live mesh.sound j live_j)) ∙ ap (origin_of s) ((map-sound mesh.sound).next-prev j live_j)
-
   end_next : (j : ℕ) → end_of s (ccw_of s j) ≡ origin_of s (prev_of s j)
   end_next j = ap (origin_of s) (rev-rev (prev_of s j))
 
@@ -129,16 +168,16 @@ module _ {V DE UE F : Type 0} (m : Mesh V DE UE F) (mesh : IsMesh m) (triangles 
   ahead : (z : ℕ) → IsLive s z → pos 0 ≤ℤ orient2d_of (at o) (neighbor 0) (p z)
   ahead z live_z =
       let on_prev : face_of s (prev_of s h) ≡ 0 = face-prev (map_of s) s.words (links_stand mesh.sound) h live ∙ outer in
-      let r = convex.right (prev_of s h) z (prev-live mesh.sound h live) on_prev live_z in
+      let r = (convex.supports (prev_of s h) z (prev-live mesh.sound h live) on_prev live_z).0 in
       let r' : orient2d_of (neighbor 0) (at o) (p z) ≤ℤ pos 0 =
       subst (λ (j : ℕ). orient2d_of (at j) (at o) (p z) ≤ℤ pos 0) (sym (end_next h))
-      (subst (λ (j : ℕ). orient2d_of (p (prev_of s h)) (at j) (p z) ≤ℤ pos 0) (ends_before h live) r) in
+      (subst (λ (j : ℕ). orient2d_of (p (prev_of s h)) (at j) (p z) ≤ℤ pos 0) (ends_before m mesh h live) r) in
       let q = orient2d-first_swapped (neighbor 0) (at o) (p z) in
       omega (arith, ordered, r', q)
 
   behind : 0 < k → (z : ℕ) → IsLive s z → pos 0 ≤ℤ orient2d_of (at o) (p z) (neighbor k)
   behind some z live_z =
-      let r = convex.right h z live outer live_z in
+      let r = (convex.supports h z live outer live_z).0 in
       let e : suc k ≡ length w = omega (arith, some) in
       let is : h ≡ spin (suc k) = sym (closes (ccw_of s) h w trip) ∙ ap (λ n. turns (ccw_of s) n h) (sym e) in
       let r' : orient2d_of (at o) (neighbor k) (p z) ≤ℤ pos 0 = subst (λ (j : ℕ). orient2d_of (at o) (at (end_of s j)) (p z) ≤ℤ pos 0) is r in
@@ -202,15 +241,15 @@ module _ {V DE UE F : Type 0} (m : Mesh V DE UE F) (mesh : IsMesh m) (triangles 
       (λ not. not)) i below)
 
   -- and none between its ends
-  between : (i : ℕ) → i < k → (z : ℕ) → IsLive s z → origin_of s z ≢ o → orient2d_of (neighbor i) (neighbor (suc i)) (p z) ≡ pos 0 → pos 0 ≤ℤ apart_along (neighbor i) (neighbor (suc i)) (p z)
+  between : (i : ℕ) → i < k → (z : ℕ) → IsLive s z → origin_of s z ≢ o → orient2d_of (neighbor i) (neighbor (suc i)) (p z) ≡ pos 0 → pos 0 ≤ℤ dot (neighbor i) (neighbor (suc i)) (p z)
   between i below z live_z not_o on =
-      by_lt_z (apart_along (neighbor i) (neighbor (suc i)) (p z)) (pos 0)
+      by_lt_z (dot (neighbor i) (neighbor (suc i)) (p z)) (pos 0)
       (λ less. absurd
       (let left = (corner_fan m mesh triangles at plane convex hull h live outer w trip).left i below in
       let left' : TurnsLeft (at o) (neighbor i) (neighbor (suc i)) = at_suc (λ q. TurnsLeft (at o) (neighbor i) q) i left in
       let far : pos 0 <ℤ dot (neighbor i) (neighbor i) (neighbor (suc i)) = long (neighbor i) (neighbor (suc i)) (λ ex ey. flat_none (at o) (neighbor i) (neighbor (suc i)) ex ey left') in
       let on_back : orient2d_of (neighbor (suc i)) (neighbor i) (p z) ≡ pos 0 = (let q = orient2d-first_swapped (neighbor i) (neighbor (suc i)) (p z) in omega (arith, ordered, q, on)) in
-      let swapped : apart_along (neighbor (suc i)) (neighbor i) (p z) <ℤ pos 0 = (let c = apart_swapped (neighbor i) (neighbor (suc i)) (p z) in omega (arith, ordered, c, less)) in
+      let swapped : dot (neighbor (suc i)) (neighbor i) (p z) <ℤ pos 0 = (let c = dot_swapped (neighbor (suc i)) (neighbor i) (p z) in omega (arith, ordered, c, less)) in
       let places = inside_of (neighbor (suc i)) (neighbor i) (p z) far on_back swapped in
       let is : IsBetween (neighbor (suc i)) (neighbor i) (p z) = record { on = on_back; above = places.0; below = places.1 } in
       let t = orient2d-turned (at o) (neighbor i) (neighbor (suc i)) in
@@ -222,8 +261,8 @@ module _ {V DE UE F : Type 0} (m : Mesh V DE UE F) (mesh : IsMesh m) (triangles 
       let b = orient2d-turned (at o) (p z) (neighbor i) in
       let b' = orient2d-last_swapped (at o) (p z) (neighbor i) in
       elim (beyond i below z live_z not_o (omega (arith, ordered, b, b', two)) (omega (arith, ordered, g, g', one)) (omega (arith, ordered, on))) [
-        | inl at_start ↦ (let e = ap (λ q. apart_along (neighbor i) (neighbor (suc i)) q) at_start ∙ apart_start (neighbor i) (neighbor (suc i)) in omega (arith, ordered, e, less))
-        | inr at_end ↦ (let e = ap (λ q. apart_along (neighbor i) (neighbor (suc i)) q) at_end ∙ apart_end (neighbor i) (neighbor (suc i)) in omega (arith, ordered, e, less))
+        | inl at_start ↦ (let e = ap (λ q. dot (neighbor i) (neighbor (suc i)) q) at_start ∙ apart_start (neighbor i) (neighbor (suc i)) in omega (arith, ordered, e, less))
+        | inr at_end ↦ (let e = ap (λ q. dot (neighbor i) (neighbor (suc i)) q) at_end ∙ apart_end (neighbor i) (neighbor (suc i)) in omega (arith, ordered, e, less))
       ]))
       (λ not. not)
     where
@@ -232,12 +271,6 @@ module _ {V DE UE F : Type 0} (m : Mesh V DE UE F) (mesh : IsMesh m) (triangles 
         where
           same_last : (v a b : Point) → a.x ≡ b.x → a.y ≡ b.y → orient2d_of v a b ≡ orient2d_of v b b
           same_last v a b ex ey = rw (ex, ey) refl
-
-      apart_swapped : (a b q : Point) → apart_along b a q ≡ apart_along a b q
-      apart_swapped a b q =
-          (let c = *ℤ_comm (b.x -ℤ q.x) (a.x -ℤ q.x) in
-          let d = *ℤ_comm (b.y -ℤ q.y) (a.y -ℤ q.y) in
-          omega (arith, ordered, c, d))
 
   -- the side after a half edge from the corner
   pub record SideOf (x : ℕ) : Type 0 where
@@ -249,11 +282,8 @@ module _ {V DE UE F : Type 0} (m : Mesh V DE UE F) (mesh : IsMesh m) (triangles 
 
   pub side_of : (x a : ℕ) → IsLive s a → origin_of s a ≡ o → 0 < face_of s a → next_of s a ≡ x → SideOf x
   side_of x a live_a from_a inner_a is =
-      let found : 0 < count_of a w = (let c = lists.each a (record { live = live_a; start = from_a }) in omega (arith, c)) in
-      let found' : 0 < count_of a (h ∷ trip.rest) = subst (λ (l : List ℕ). 0 < count_of a l) trip.from found in
-      let (n, below, at_n) = path_find (ccw_of s) h trip.rest h a trip.round found' in
-      let long_w : length w ≡ suc (length trip.rest) = ap length trip.from in
-      by_number x a live_a inner_a is n (omega (arith, below, long_w)) at_n
+      let (n, below, at_n) = number_of (ccw_of s) h w trip lists a (record { live = live_a; start = from_a }) in
+      by_number x a live_a inner_a is n below at_n
     where
       by_number : (x a : ℕ) → IsLive s a → 0 < face_of s a → next_of s a ≡ x → (n : ℕ) → n < length w → spin n ≡ a → SideOf x
       by_number x a live_a inner_a is zero below at_n = absurd (let e = ap (face_of s) at_n in omega (arith, e, outer, inner_a))
@@ -305,31 +335,12 @@ module _ {V DE UE F : Type 0} (m : Mesh V DE UE F) (mesh : IsMesh m) (triangles 
       ]
 
   module _ (t : Shape) (cut : IsCutOff m.shape t (origin_of m.shape h)) (turned : (x : ℕ) → IsLive t x → IsLive t (rev x)) where
-    Beside : Point → Point → Point → Type 0
-    Beside a b c = (orient2d_of a b c ≤ℤ pos 0) × (orient2d_of a b c ≡ pos 0 → pos 0 ≤ℤ apart_along a b c)
-
-    both : (x z : ℕ) → IsLive t x → face_of t x ≡ 0 → IsLive t z → Beside (at (origin_of t x)) (at (end_of t x)) (at (origin_of t z))
-    unfolding Beside
-    both x z live_x on_x live_z =
-        let not_o : origin_of s z ≢ o = λ is. cut.none z live_z (cut.same z live_z ∙ is) in
-        let was_z = cut.old z live_z in
-        subst (λ (j : ℕ). Beside (at (origin_of t x)) (at (end_of t x)) (at j)) (sym (cut.same z live_z))
-        (subst (λ (j : ℕ). Beside (at (origin_of t x)) (at j) (p z)) (sym (cut.same (rev x) (turned x live_x)))
-        (subst (λ (j : ℕ). Beside (at j) (at (end_of s x)) (p z)) (sym (cut.same x live_x))
-        (elim (cut.outer x live_x on_x) [
-          | inl was ↦ (convex.right x z (cut.old x live_x) was was_z, convex.between x z (cut.old x live_x) was was_z)
-          | inr side ↦
-              (let f = side_of x side.0 side.1 side.2 side.3 side.4 in
-              subst (λ (j : ℕ). Beside (at j) (at (end_of s x)) (p z)) (sym f.start)
-              (subst (λ (j : ℕ). Beside (neighbor f.i) (at j) (p z)) (sym f.end) (right f.i f.below z was_z not_o, between f.i f.below z was_z not_o)))
-        ])))
-
     pub cut_convex : IsConvex at t
-    unfolding Beside
-    cut_convex = record {
-      right = λ x z live_x on_x live_z. (both x z live_x on_x live_z).0;
-      between = λ x z live_x on_x live_z. (both x z live_x on_x live_z).1;
-    }
+    cut_convex =
+        cut_off_convex at s t o cut turned convex (λ x z side live_z not_o.
+        let f = side_of x side.0 side.1 side.2 side.3 side.4 in
+        subst (λ (j : ℕ). Supports (at j) (at (end_of s x)) (p z)) (sym f.start)
+        (subst (λ (j : ℕ). Supports (neighbor f.i) (at j) (p z)) (sym f.end) (right f.i f.below z live_z not_o, between f.i f.below z live_z not_o)))
 
     -- an old half edge of the hull doesn't start where a side does, if a triangle is left
     module _ (g : ℕ) (live_g : IsLive s g) (inner_g : 0 < face_of s g) (one : IsLive t g) (two : IsLive t (next_of s g)) (three : IsLive t (prev_of s g)) where
@@ -338,7 +349,7 @@ module _ {V DE UE F : Type 0} (m : Mesh V DE UE F) (mesh : IsMesh m) (triangles 
           let live_p = prev-live mesh.sound h live in
           let on_p : face_of s (prev_of s h) ≡ 0 = face-prev (map_of s) s.words (links_stand mesh.sound) h live ∙ outer in
           let is : x ≡ prev_of s h = hull.once x (prev_of s h) (cut.old x live_x) live_p on_x on_p (same ∙ end_next h) in
-          cut.none (rev x) (turned x live_x) (cut.same (rev x) (turned x live_x) ∙ ap (end_of s) is ∙ ends_before h live)
+          cut.none (rev x) (turned x live_x) (cut.same (rev x) (turned x live_x) ∙ ap (end_of s) is ∙ ends_before m mesh h live)
 
       at_later : (x i : ℕ) → IsLive t x → face_of s x ≡ 0 → suc i < k → origin_of s x ≡ end_of s (spin (suc (suc i))) → ⊥
       at_later x i live_x on_x below same =
@@ -346,7 +357,7 @@ module _ {V DE UE F : Type 0} (m : Mesh V DE UE F) (mesh : IsMesh m) (triangles 
           let u = neighbor (suc i) in
           let q = at (end_of s x) in
           let right_of : (z : ℕ) → IsLive s z → orient2d_of (neighbor (suc i)) (at (end_of s x)) (p z) ≤ℤ pos 0 =
-          λ z live_z. subst (λ (j : ℕ). orient2d_of (at j) (at (end_of s x)) (p z) ≤ℤ pos 0) same (convex.right x z was on_x live_z) in
+          λ z live_z. subst (λ (j : ℕ). orient2d_of (at j) (at (end_of s x)) (p z) ≤ℤ pos 0) same (convex.supports x z was on_x live_z).0 in
           let a = right_of (rev (spin (suc i))) (rev_live (map_of s) (spin (suc i)) (live_spin (suc i))) in
           let b = right_of (rev (spin (suc (suc (suc i))))) (rev_live (map_of s) (spin (suc (suc (suc i)))) (live_spin (suc (suc (suc i))))) in
           let c = right_of h live in
@@ -375,22 +386,6 @@ module _ {V DE UE F : Type 0} (m : Mesh V DE UE F) (mesh : IsMesh m) (triangles 
           by_place (suc i) below is = at_later x i live_x on_x below is
 
       pub cut_hull : IsHull at t
-      cut_hull = record {
-        distinct = λ x z live_x live_z ex ey.
-            cut.same x live_x
-            ∙ hull.distinct x z (cut.old x live_x) (cut.old z live_z) (ap (λ (j : ℕ). (at j).x) (sym (cut.same x live_x)) ∙ ex ∙ ap (λ (j : ℕ). (at j).x) (cut.same z live_z))
-            (ap (λ (j : ℕ). (at j).y) (sym (cut.same x live_x)) ∙ ey ∙ ap (λ (j : ℕ). (at j).y) (cut.same z live_z))
-            ∙ sym (cut.same z live_z);
-        once = λ x z live_x live_z on_x on_z same.
-            let starts : origin_of s x ≡ origin_of s z = sym (cut.same x live_x) ∙ same ∙ cut.same z live_z in
-            elim (cut.outer x live_x on_x) [
-              | inl was_x ↦ elim (cut.outer z live_z on_z) [
-                | inl was_z ↦ hull.once x z (cut.old x live_x) (cut.old z live_z) was_x was_z starts
-                | inr side ↦ absurd (old_side x z live_x was_x (side_of z side.0 side.1 side.2 side.3 side.4) starts)
-              ]
-              | inr side_x ↦ elim (cut.outer z live_z on_z) [
-                | inl was_z ↦ absurd (old_side z x live_z was_z (side_of x side_x.0 side_x.1 side_x.2 side_x.3 side_x.4) (sym starts))
-                | inr side ↦ one_side x z (side_of x side_x.0 side_x.1 side_x.2 side_x.3 side_x.4) (side_of z side.0 side.1 side.2 side.3 side.4) starts
-              ]
-            ];
-      }
+      cut_hull =
+          cut_off_hull at s t o cut turned hull (λ x z live_x was side same. old_side x z live_x was (side_of z side.0 side.1 side.2 side.3 side.4) same)
+          (λ x z side_x side same. one_side x z (side_of x side_x.0 side_x.1 side_x.2 side_x.3 side_x.4) (side_of z side.0 side.1 side.2 side.3 side.4) same)

@@ -18,8 +18,8 @@ use Rattle.dcel_maps.proofs.removal.RingLists.{at_border}
 use Rattle.dcel_maps.proofs.removal.VertexHoles.{vertex_hollow}
 use Rattle.dcel_maps.proofs.walks.Links.{ccw-lawful}
 use Rattle.dcel_maps.proofs.walks.UnderWay.{walk-round}
-use Rattle.dcel_plane.specs.Plane.{IsPlane, ListsCircled, TurnsLeft}
-use Rattle.dcel_plane.proofs.edits.Corners.{corners_are}
+use Rattle.dcel_plane.specs.Plane.{ListsCircled, TrianglesTurnLeft, TurnsLeft}
+use Rattle.dcel_plane.proofs.edits.Corners.{corners_are, three_items}
 use Rattle.dcel_plane.specs.covering.Covering.{IsConvex, IsHull}
 use Rattle.dcel_plane.specs.removal.Wheels.{EarsLeft, MakesTwo, turns}
 use Rattle.dcel_plane.proofs.removal.Filling.{filled_convex, filled_hull, filled_lists, filled_plane}
@@ -31,13 +31,6 @@ two_items [] e = absurd (omega (arith, e))
 two_items (a ∷ []) e = absurd (omega (arith, e))
 two_items (a ∷ b ∷ []) e = (a, b, refl)
 two_items (a ∷ b ∷ c ∷ r) e = absurd (omega (arith, e))
-
-pub three_items : (w : List ℕ) → length w ≡ 3 → (a : ℕ) × (b : ℕ) × (c : ℕ) × (w ≡ a ∷ b ∷ c ∷ [])
-three_items [] e = absurd (omega (arith, e))
-three_items (a ∷ []) e = absurd (omega (arith, e))
-three_items (a ∷ b ∷ []) e = absurd (omega (arith, e))
-three_items (a ∷ b ∷ c ∷ []) e = (a, b, c, refl)
-three_items (a ∷ b ∷ c ∷ d ∷ r) e = absurd (omega (arith, e))
 
 -- a list of three or more
 pub by_three : (P : List ℕ → Type 0) (w : List ℕ) → 3 ≤ length w → ((p q r : ℕ) (rest : List ℕ) → w ≡ p ∷ q ∷ r ∷ rest → P (p ∷ q ∷ r ∷ rest)) → P w
@@ -66,9 +59,9 @@ module _ {V DE UE F : Type 0} (m : Mesh V DE UE F) (mesh : IsMesh m) (closed : m
   long = let many = l.many in let e = length-reverse border in omega (arith, many, e)
 
   pub hole_plane : (p q r : ℕ) (rest : List ℕ) → reverse border ≡ p ∷ q ∷ r ∷ rest → EarsLeft at (origin_of m.shape) (origin_of m.shape p) q r rest
-      → IsPlane at m.shape → IsPlane at (hole_filled m v border halves edges faces).shape
+      → TrianglesTurnLeft at m.shape → TrianglesTurnLeft at (hole_filled m v border halves edges faces).shape
   hole_plane p q r rest is lefts plane =
-      subst (λ (w : List ℕ). IsPlane at (loop_filled m (opened (edges_at m v) (faces_at m v) v) w halves edges faces).shape) (sym is)
+      subst (λ (w : List ℕ). TrianglesTurnLeft at (loop_filled m (opened (edges_at m v) (faces_at m v) v) w halves edges faces).shape) (sym is)
       (filled_plane m p q r rest halves edges faces mesh closed (opened (edges_at m v) (faces_at m v) v) (hole p q r rest is) at lefts plane)
 
   pub hole_convex : IsConvex at m.shape → IsConvex at (hole_filled m v border halves edges faces).shape
@@ -109,12 +102,12 @@ module _ {V DE UE F : Type 0} (m : Mesh V DE UE F) (mesh : IsMesh m) (closed : m
   inner : (k : ℕ) → IsLive m.shape k → origin_of m.shape k ≡ origin_of m.shape l.first → 0 < face_of m.shape k
   inner k live_k same = (l.triangles k (record { live = live_k; start = same ∙ l.out.start })).0
 
-  module _ (triangles : AllTriangles m.shape) (plane : IsPlane at m.shape) (convex : IsConvex at m.shape) (hull : IsHull at m.shape) where
+  module _ (triangles : AllTriangles m.shape) (plane : TrianglesTurnLeft at m.shape) (convex : IsConvex at m.shape) (hull : IsHull at m.shape) where
     -- where the half edges of the ring start
     starts : (i : ℕ) → origin_of m.shape (next_of m.shape (turns (ccw_of m.shape) i l.first)) ≡ end_of m.shape (turns (ccw_of m.shape) i l.first)
     starts i = mesh.sound.joined (turns (ccw_of m.shape) i l.first) (out m mesh triangles at plane convex hull l.first l.out.live inner i).alive
 
-    pub three_plane : length border ≡ 3 → IsPlane at (hole_filled m v border halves edges faces).shape
+    pub three_plane : length border ≡ 3 → TrianglesTurnLeft at (hole_filled m v border halves edges faces).shape
     three_plane three =
         let e = rest_long in
         let (y, z, is) = two_items trip.rest (omega (arith, e, three)) in
@@ -125,7 +118,7 @@ module _ {V DE UE F : Type 0} (m : Mesh V DE UE F) (mesh : IsMesh m) (closed : m
         (corners_are at (sym (starts 0)) (sym (ap (λ k. origin_of s (next_of s k)) (sym first_y) ∙ starts 1)) (sym (ap (λ k. origin_of s (next_of s k)) (sym second_z) ∙ starts 2))
         (three_turn m mesh triangles at plane convex hull l.first l.out.live inner w trip (as_long ∙ three))) plane
 
-    pub four_plane : length border ≡ 4 → MakesTwo at m.shape l.first → IsPlane at (hole_filled m v border halves edges faces).shape
+    pub four_plane : length border ≡ 4 → MakesTwo at m.shape l.first → TrianglesTurnLeft at (hole_filled m v border halves edges faces).shape
     four_plane four two =
         let e = rest_long in
         let (y, z, x, is) = three_items trip.rest (omega (arith, e, four)) in

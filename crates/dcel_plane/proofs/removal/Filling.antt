@@ -16,7 +16,7 @@ use Rattle.dcel_maps.proofs.Shown.{length-shown, slice_index-shown_live}
 use Rattle.dcel_maps.proofs.walks.Links.{half-below, links_stand}
 use Rattle.dcel_maps.proofs.words.Counts.{count-later, count-same}
 use Rattle.dcel_maps.proofs.words.Reading.{face_in_word, live_in, stands_in_face}
-use Rattle.dcel_plane.specs.Plane.{IsPlane, ListsCircled, TurnsLeft}
+use Rattle.dcel_plane.specs.Plane.{ListsCircled, TrianglesTurnLeft, TurnsLeft}
 use Rattle.dcel_plane.proofs.edits.Corners.{corners_are, left-from_least}
 use Rattle.dcel_plane.specs.covering.Covering.{IsConvex, IsHull}
 use Rattle.dcel_plane.specs.removal.Wheels.{EarsLeft}
@@ -76,7 +76,7 @@ module _ {V DE UE F : Type 0} (m : Mesh V DE UE F) (p q r : ℕ) (rest : List �
       let was : IsLive s x = live_in (map_of s) s.words (links_stand mesh.sound) x f (subst (λ (w : List ℕ). 0 < count_of x w) same found) in
       (was, live, same_start x was live)
 
-  pub filled_plane : EarsLeft at (origin_of m.shape) (origin_of m.shape p) q r rest → IsPlane at s → IsPlane at t
+  pub filled_plane : EarsLeft at (origin_of m.shape) (origin_of m.shape p) q r rest → TrianglesTurnLeft at s → TrianglesTurnLeft at t
   filled_plane lefts plane = record {
     left = λ f x y z inner is. elim (cases_lt f (face_count s)) [
       | inl below ↦ elim (cases_Bool (gives_up_face removal f)) [

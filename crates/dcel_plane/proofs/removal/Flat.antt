@@ -1,5 +1,5 @@
 -- A corner of the hull that lies between its two neighbors: a flip leaves one flat triangle there, which can be cut off.
-use Rattle.std.proofs.Common.{◌≡◌, ◌≢◌, inl, inr, ℕ, zero, suc, ◌<◌, List, ◌∷◌, length, sym, ap, ◌∙◌, subst, pos, ◌-ℤ◌, ◌<ℤ◌, ◌≤ℤ◌, eq-zero-or-pos, arith}
+use Rattle.std.proofs.Common.{◌≡◌, ◌≢◌, inl, inr, ℕ, zero, suc, ◌<◌, List, length, sym, ap, ◌∙◌, subst, pos, ◌-ℤ◌, ◌<ℤ◌, ◌≤ℤ◌, eq-zero-or-pos, arith}
 use Rattle.std.proofs.lemmas.Int.{by_lt_z}
 use Rattle.dcel_fixed.specs.HalfEdges.{rev}
 use Rattle.dcel_fixed.proofs.Halves.{rev-rev}
@@ -10,27 +10,25 @@ use Rattle.dcel_predicates.proofs.Signs.{ordered}
 use Rattle.dcel_maps.specs.Shapes.{IsLive, IsMesh, Mesh, Shape, end_of, face_of, map_of, next_of, origin_of, prev_of}
 use Rattle.dcel_maps.specs.Triangulations.{AllTriangles}
 use Rattle.dcel_maps.specs.Walking.{IsOutEdge, IsRoundTrip, ListsOnce, ccw_of}
-use Rattle.dcel_maps.specs.Words.{count_of}
 use Rattle.dcel_maps.proofs.maps.Soundness.{rev_live}
 use Rattle.dcel_maps.proofs.shapes.Maps.{map-sound}
 use Rattle.dcel_maps.proofs.walks.Links.{links_stand, prev-live}
 use Rattle.dcel_maps.proofs.words.Reading.{face-prev}
-use Rattle.dcel_plane.specs.covering.Covering.{IsConvex, IsHull, apart_along}
+use Rattle.dcel_plane.specs.covering.Covering.{IsConvex, IsHull, Supports, dot}
 use Rattle.dcel_plane.specs.removal.Wheels.{turns}
 use Rattle.dcel_plane.proofs.covering.Along.{dot_start, long, one_place, placed, sides}
-use Rattle.dcel_plane.proofs.removal.Cutting.{IsCutOff, path_find}
+use Rattle.dcel_plane.proofs.removal.Cutting.{IsCutOff, cut_off_convex, cut_off_hull, number_of}
 use Rattle.dcel_plane.proofs.covering.Inside.{on_end, on_start}
 use Rattle.dcel_plane.proofs.hull.OneLine.{inside_of}
-use Rattle.dcel_plane.proofs.covering.Along.{dot}
 use Rattle.dcel_plane.proofs.removal.Turning.{closes, least}
 use Rattle.dcel_plane.proofs.covering.Triangles.{round}
 use Rattle.dcel_plane.proofs.removal.Wheels.{summed}
 
 -- on a line, what is neither between a and v nor between v and b, and isn't v, isn't between a and b
-not_between : (a v b z : Point) → pos 0 <ℤ dot b b a → orient2d_of a b v ≡ pos 0 → orient2d_of a b z ≡ pos 0 → pos 0 ≤ℤ apart_along a v z → pos 0 ≤ℤ apart_along v b z
-    → (z.x ≡ v.x → z.y ≡ v.y → ⊥) → pos 0 ≤ℤ apart_along a b z
+not_between : (a v b z : Point) → pos 0 <ℤ dot b b a → orient2d_of a b v ≡ pos 0 → orient2d_of a b z ≡ pos 0 → pos 0 ≤ℤ dot a v z → pos 0 ≤ℤ dot v b z
+    → (z.x ≡ v.x → z.y ≡ v.y → ⊥) → pos 0 ≤ℤ dot a b z
 not_between a v b z far on_v on_z before after differ =
-    by_lt_z (apart_along a b z) (pos 0)
+    by_lt_z (dot a b z) (pos 0)
     (λ less. absurd
     (let places = inside_of a b z far on_z less in
     let low = places.0 in
@@ -99,11 +97,8 @@ module _ {V DE UE F : Type 0} (m : Mesh V DE UE F) (mesh : IsMesh m) (triangles 
 
   side_of : (x b : ℕ) → IsLive s b → origin_of s b ≡ o → 0 < face_of s b → next_of s b ≡ x → SideOf x
   side_of x b live_b from_b inner_b is =
-      let found : 0 < count_of b w = (let c = lists.each b (record { live = live_b; start = from_b }) in omega (arith, c)) in
-      let found' : 0 < count_of b (h ∷ trip.rest) = subst (λ (l : List ℕ). 0 < count_of b l) trip.from found in
-      let (n, below, at_n) = path_find (ccw_of s) h trip.rest h b trip.round found' in
-      let long_w : length w ≡ suc (length trip.rest) = ap length trip.from in
-      by_number n (omega (arith, below, long_w, two)) at_n
+      let (n, below, at_n) = number_of (ccw_of s) h w trip lists b (record { live = live_b; start = from_b }) in
+      by_number n (omega (arith, below, two)) at_n
     where
       by_number : (n : ℕ) → n < 2 → turns (ccw_of s) n h ≡ b → SideOf x
       by_number zero below at_n = absurd (let e = ap (face_of s) at_n in omega (arith, e, outer, inner_b))
@@ -119,30 +114,26 @@ module _ {V DE UE F : Type 0} (m : Mesh V DE UE F) (mesh : IsMesh m) (triangles 
           }
       by_number (suc (suc n)) below at_n = absurd (omega (arith, below))
 
-  Beside : Point → Point → Point → Type 0
-  Beside x y z = (orient2d_of x y z ≤ℤ pos 0) × (orient2d_of x y z ≡ pos 0 → pos 0 ≤ℤ apart_along x y z)
-
   -- the new side lies along the two old ones
-  along : (z : ℕ) → IsLive s z → origin_of s z ≢ o → Beside (p (prev_of s h)) (at (end_of s h)) (p z)
-  unfolding Beside
+  along : (z : ℕ) → IsLive s z → origin_of s z ≢ o → Supports (p (prev_of s h)) (at (end_of s h)) (p z)
   along z live_z not_o =
       let u = p (prev_of s h) in
       let v = at o in
       let q = at (end_of s h) in
       let flat' : orient2d_of (at o) (p (prev_of s h)) (at (end_of s h)) ≡ pos 0 = subst (λ (j : ℕ). orient2d_of (at o) (at j) (at (end_of s h)) ≡ pos 0) end_a flat in
       let one : orient2d_of (p (prev_of s h)) (at o) (p z) ≤ℤ pos 0 =
-      subst (λ (j : ℕ). orient2d_of (p (prev_of s h)) (at j) (p z) ≤ℤ pos 0) ends_p (convex.right (prev_of s h) z live_p on_p live_z) in
-      let two = convex.right h z live outer live_z in
+      subst (λ (j : ℕ). orient2d_of (p (prev_of s h)) (at j) (p z) ≤ℤ pos 0) ends_p (convex.supports (prev_of s h) z live_p on_p live_z).0 in
+      let two = (convex.supports h z live outer live_z).0 in
       let e = summed (at o) (p (prev_of s h)) (at (end_of s h)) (p z) in
       let f = orient2d-first_swapped (p (prev_of s h)) (at o) (p z) in (
         omega (arith, ordered, e, f, flat', one, two),
         λ zero_turn.
             let on_one : orient2d_of (p (prev_of s h)) (at o) (p z) ≡ pos 0 = omega (arith, ordered, e, f, flat', one, two, zero_turn) in
             let on_two : orient2d_of (at o) (at (end_of s h)) (p z) ≡ pos 0 = omega (arith, ordered, e, f, flat', one, two, zero_turn) in
-            let before : pos 0 ≤ℤ apart_along (p (prev_of s h)) (at o) (p z) =
-            subst (λ (j : ℕ). orient2d_of (p (prev_of s h)) (at j) (p z) ≡ pos 0 → pos 0 ≤ℤ apart_along (p (prev_of s h)) (at j) (p z)) ends_p
-            (convex.between (prev_of s h) z live_p on_p live_z) on_one in
-            let after = convex.between h z live outer live_z on_two in
+            let before : pos 0 ≤ℤ dot (p (prev_of s h)) (at o) (p z) =
+            subst (λ (j : ℕ). orient2d_of (p (prev_of s h)) (at j) (p z) ≡ pos 0 → pos 0 ≤ℤ dot (p (prev_of s h)) (at j) (p z)) ends_p
+            (convex.supports (prev_of s h) z live_p on_p live_z).1 on_one in
+            let after = (convex.supports h z live outer live_z).1 on_two in
             let t = orient2d-turned (at o) (p (prev_of s h)) (at (end_of s h)) in
             let far : pos 0 <ℤ dot (at (end_of s h)) (at (end_of s h)) (p (prev_of s h)) =
             long (at (end_of s h)) (p (prev_of s h)) (λ ex ey. not_closed (hull.distinct (rev h) (prev_of s h) (rev_live (map_of s) h live) live_p ex ey)) in
@@ -160,28 +151,12 @@ module _ {V DE UE F : Type 0} (m : Mesh V DE UE F) (mesh : IsMesh m) (triangles 
           mesh.sound.two_ends (next_of s (ccw_of s h)) tri.live_y (start ∙ sym same ∙ sym end)
 
   module _ (t : Shape) (cut : IsCutOff m.shape t (origin_of m.shape h)) (turned : (x : ℕ) → IsLive t x → IsLive t (rev x)) where
-    both : (x z : ℕ) → IsLive t x → face_of t x ≡ 0 → IsLive t z → Beside (at (origin_of t x)) (at (end_of t x)) (at (origin_of t z))
-    unfolding Beside
-    both x z live_x on_x live_z =
-        let not_o : origin_of s z ≢ o = λ is. cut.none z live_z (cut.same z live_z ∙ is) in
-        let was_z = cut.old z live_z in
-        subst (λ (j : ℕ). Beside (at (origin_of t x)) (at (end_of t x)) (at j)) (sym (cut.same z live_z))
-        (subst (λ (j : ℕ). Beside (at (origin_of t x)) (at j) (p z)) (sym (cut.same (rev x) (turned x live_x)))
-        (subst (λ (j : ℕ). Beside (at j) (at (end_of s x)) (p z)) (sym (cut.same x live_x))
-        (elim (cut.outer x live_x on_x) [
-          | inl was ↦ (convex.right x z (cut.old x live_x) was was_z, convex.between x z (cut.old x live_x) was was_z)
-          | inr side ↦
-              (let f = side_of x side.0 side.1 side.2 side.3 side.4 in
-              subst (λ (j : ℕ). Beside (at j) (at (end_of s x)) (p z)) (sym f.start)
-              (subst (λ (j : ℕ). Beside (p (prev_of s h)) (at j) (p z)) (sym f.end) (along z was_z not_o)))
-        ])))
-
     pub flat_convex : IsConvex at t
-    unfolding Beside
-    flat_convex = record {
-      right = λ x z live_x on_x live_z. (both x z live_x on_x live_z).0;
-      between = λ x z live_x on_x live_z. (both x z live_x on_x live_z).1;
-    }
+    flat_convex =
+        cut_off_convex at s t o cut turned convex (λ x z side live_z not_o.
+        let f = side_of x side.0 side.1 side.2 side.3 side.4 in
+        subst (λ (j : ℕ). Supports (at j) (at (end_of s x)) (p z)) (sym f.start)
+        (subst (λ (j : ℕ). Supports (p (prev_of s h)) (at j) (p z)) (sym f.end) (along z live_z not_o)))
 
     old_side : (x : ℕ) → IsLive t x → face_of s x ≡ 0 → origin_of s x ≡ origin_of s (prev_of s h) → ⊥
     old_side x live_x on_x same =
@@ -189,22 +164,7 @@ module _ {V DE UE F : Type 0} (m : Mesh V DE UE F) (mesh : IsMesh m) (triangles 
         cut.none (rev x) (turned x live_x) (cut.same (rev x) (turned x live_x) ∙ ap (end_of s) is ∙ ends_p)
 
     pub flat_hull : IsHull at t
-    flat_hull = record {
-      distinct = λ x z live_x live_z ex ey.
-          cut.same x live_x
-          ∙ hull.distinct x z (cut.old x live_x) (cut.old z live_z) (ap (λ (j : ℕ). (at j).x) (sym (cut.same x live_x)) ∙ ex ∙ ap (λ (j : ℕ). (at j).x) (cut.same z live_z))
-          (ap (λ (j : ℕ). (at j).y) (sym (cut.same x live_x)) ∙ ey ∙ ap (λ (j : ℕ). (at j).y) (cut.same z live_z))
-          ∙ sym (cut.same z live_z);
-      once = λ x z live_x live_z on_x on_z same.
-          let starts : origin_of s x ≡ origin_of s z = sym (cut.same x live_x) ∙ same ∙ cut.same z live_z in
-          elim (cut.outer x live_x on_x) [
-            | inl was_x ↦ elim (cut.outer z live_z on_z) [
-              | inl was_z ↦ hull.once x z (cut.old x live_x) (cut.old z live_z) was_x was_z starts
-              | inr side ↦ absurd (old_side x live_x was_x (starts ∙ (side_of z side.0 side.1 side.2 side.3 side.4).start))
-            ]
-            | inr side_x ↦ elim (cut.outer z live_z on_z) [
-              | inl was_z ↦ absurd (old_side z live_z was_z (sym starts ∙ (side_of x side_x.0 side_x.1 side_x.2 side_x.3 side_x.4).start))
-              | inr side ↦ (side_of x side_x.0 side_x.1 side_x.2 side_x.3 side_x.4).is ∙ sym ((side_of z side.0 side.1 side.2 side.3 side.4).is)
-            ]
-          ];
-    }
+    flat_hull =
+        cut_off_hull at s t o cut turned hull
+        (λ x z live_x was side same. old_side x live_x was (same ∙ (side_of z side.0 side.1 side.2 side.3 side.4).start))
+        (λ x z side_x side same. (side_of x side_x.0 side_x.1 side_x.2 side_x.3 side_x.4).is ∙ sym (side_of z side.0 side.1 side.2 side.3 side.4).is)

@@ -21,20 +21,20 @@ use Rattle.dcel_maps.proofs.walks.Links.{ccw-lawful, links_stand, prev-live, pre
 use Rattle.dcel_maps.proofs.walks.Turning.{walk-out_edges}
 use Rattle.dcel_maps.proofs.walks.UnderWay.{walk-round}
 use Rattle.dcel_maps.proofs.words.Reading.{face-prev}
-use Rattle.dcel_plane.specs.Plane.{IsPlane}
+use Rattle.dcel_plane.specs.Plane.{TrianglesTurnLeft}
 use Rattle.dcel_plane.specs.covering.Covering.{IsConvex, IsHull}
 use Rattle.dcel_plane.proofs.covering.Triangles.{round}
-use Rattle.dcel_plane.proofs.hull.Keeping.{flip_outer}
+use Rattle.dcel_plane.proofs.hull.Keeping.{flip_outer, outer_word}
 use Rattle.dcel_plane.specs.removal.Wheels.{CanTurnAt, IsFlattened, LiesOnHull, turns}
 use Rattle.dcel_plane.proofs.removal.Fewer.{flip_takes_one}
 use Rattle.dcel_plane.proofs.removal.FlatFlips.{flip_plane_but}
-use Rattle.dcel_plane.proofs.removal.FlippedInside.{outer_end, outer_start, outer_stays, outer_word}
+use Rattle.dcel_plane.proofs.removal.FlippedInside.{outer_end, outer_start, outer_stays}
 use Rattle.dcel_plane.proofs.removal.HullCorners.{corner_turn_at, inner_at, spoke}
 use Rattle.dcel_plane.proofs.removal.Stripping.{corner_strip}
 use Rattle.dcel_plane.proofs.removal.Turnable.{both_halves}
 use Rattle.dcel_plane.proofs.removal.Turning.{closes}
 
-module _ {V DE UE F : Type 0} (m : Mesh V DE UE F) (mesh : IsMesh m) (triangles : AllTriangles m.shape) (at : ℕ → Point) (plane : IsPlane at m.shape)
+module _ {V DE UE F : Type 0} (m : Mesh V DE UE F) (mesh : IsMesh m) (triangles : AllTriangles m.shape) (at : ℕ → Point) (plane : TrianglesTurnLeft at m.shape)
     (convex : IsConvex at m.shape) (hull : IsHull at m.shape) (h : ℕ) (live : IsLive m.shape h) (outer : face_of m.shape h ≡ 0)
     (lies : LiesOnHull (at (origin_of m.shape h)) (λ i. at (end_of m.shape (turns (ccw_of m.shape) (suc i) h))) (length (walk_of m.shape (ccw_of m.shape) h) - 1)) where
   abbrev s : Shape
@@ -104,7 +104,7 @@ module _ {V DE UE F : Type 0} (m : Mesh V DE UE F) (mesh : IsMesh m) (triangles 
   same_end = outer_end m mesh u can inner inner_facing
 
   word_stays : word_of n.words 0 ≡ word_of s.words 0
-  word_stays = outer_word m mesh u can inner inner_facing
+  word_stays = outer_word m mesh u can at inner inner_facing
 
   on_after : (x : ℕ) → IsLive s x → face_of s x ≡ 0 → face_of n x ≡ 0
   on_after = outer_stays m mesh u can inner inner_facing

@@ -7,14 +7,14 @@ use Rattle.dcel_maps.specs.Shapes.{IsLive, IsMesh, Mesh, Shape, end_of, face_of,
 use Rattle.dcel_maps.specs.Triangulations.{AllTriangles}
 use Rattle.dcel_maps.specs.Walking.{IsRoundTrip, ccw_of}
 use Rattle.dcel_maps.specs.Words.{count_of}
-use Rattle.dcel_plane.specs.Plane.{IsPlane, TurnsLeft}
+use Rattle.dcel_plane.specs.Plane.{TrianglesTurnLeft, TurnsLeft}
 use Rattle.dcel_plane.specs.covering.Covering.{IsConvex, IsHull}
 use Rattle.dcel_plane.specs.removal.Wheels.{CanTurn, IsFlippable, IsWheel, LeadsAcross, LiesBetween, MakesTwo, turns}
 use Rattle.dcel_plane.proofs.removal.Turning.{Out, closes, least, listed, out, turns_sum, wheel}
 use Rattle.dcel_plane.proofs.removal.Wheels.{flippable, flippable_or_between, three_left, two_triangles}
 use Rattle.dcel_plane.proofs.removal.Turnable.{turn_after}
 
-module _ {V DE UE F : Type 0} (m : Mesh V DE UE F) (mesh : IsMesh m) (triangles : AllTriangles m.shape) (at : ℕ → Point) (plane : IsPlane at m.shape)
+module _ {V DE UE F : Type 0} (m : Mesh V DE UE F) (mesh : IsMesh m) (triangles : AllTriangles m.shape) (at : ℕ → Point) (plane : TrianglesTurnLeft at m.shape)
     (convex : IsConvex at m.shape) (hull : IsHull at m.shape) (h : ℕ) (live : IsLive m.shape h)
     (inner : (k : ℕ) → IsLive m.shape k → origin_of m.shape k ≡ origin_of m.shape h → 0 < face_of m.shape k) where
   abbrev s : Shape

@@ -20,8 +20,8 @@ use Rattle.dcel_maps.proofs.words.Mapped.{count-at}
 use Rattle.dcel_maps.proofs.words.Reading.{face_in_word, live_in, stands_in_face}
 use Rattle.dcel_maps.proofs.words.Triangles.{triangle_written}
 use Rattle.dcel_plane.specs.Edges.{edges_inserted}
-use Rattle.dcel_plane.proofs.edits.Corners.{of_least}
-use Rattle.dcel_plane.proofs.removal.Deleting.{by_three, hole, three_items}
+use Rattle.dcel_plane.proofs.edits.Corners.{of_least, three_items}
+use Rattle.dcel_plane.proofs.removal.Deleting.{by_three, hole}
 
 module _ {V DE UE F : Type 0} (m : Mesh V DE UE F) (mesh : IsMesh m) (f : ℕ) (triangle : IsTriangle m.shape f) where
   abbrev s : Shape

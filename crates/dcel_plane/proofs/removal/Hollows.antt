@@ -1,5 +1,5 @@
 -- Where a corner of the hull goes, and the hull along its neighbors turns left nowhere: what lies in none of its triangles is on the right.
-use Rattle.std.proofs.Common.{◌≡◌, ◌⊎◌, inl, inr, ℕ, zero, suc, ◌+◌, ◌-◌, ◌<◌, ◌≤◌, [], ◌∷◌, ℤ, pos, ◌+ℤ◌, ◌-ℤ◌, ◌*ℤ◌, ◌<ℤ◌, ◌≤ℤ◌, refl, subst, arith}
+use Rattle.std.proofs.Common.{◌≡◌, ◌⊎◌, inl, inr, ℕ, zero, suc, ◌+◌, ◌-◌, ◌<◌, ◌≤◌, [], ◌∷◌, pos, ◌+ℤ◌, ◌*ℤ◌, ◌<ℤ◌, ◌≤ℤ◌, refl, subst, arith}
 use Rattle.std.proofs.lemmas.Bool.{cases_lt}
 use Rattle.std.proofs.lemmas.Int.{by_lt_z}
 use Rattle.dcel_predicates.specs.declared.point.Point.{Point}
@@ -7,9 +7,10 @@ use Rattle.dcel_predicates.specs.Determinants.{orient2d_of}
 use Rattle.dcel_predicates.proofs.Points.{orient2d-last_swapped}
 use Rattle.dcel_predicates.proofs.Signs.{both_negative, ordered, times, times_negative, times_positive}
 use Rattle.dcel_plane.specs.removal.Wheels.{IsHollow}
-use Rattle.dcel_predicates.proofs.Ring.{by_terms, minus, num, plus, times as by, var}
+use Rattle.dcel_predicates.proofs.Ring.{by_terms, plus, times as by}
 use Rattle.dcel_predicates.proofs.Terms.{orient, spot}
 use Rattle.dcel_plane.proofs.removal.Wheels.{plucker, spans}
+use Rattle.dcel_plane.proofs.covering.Products.{not_below_factor}
 
 turned : (v a b c d : Point) → orient2d_of v b c *ℤ orient2d_of a b d ≡ (orient2d_of v a b *ℤ orient2d_of b c d) +ℤ (orient2d_of v b d *ℤ orient2d_of a b c)
 turned v a b c d =
@@ -75,15 +76,8 @@ module _ (v : Point) (u : ℕ → Point) (k : ℕ) (left : (i : ℕ) → i < k �
         let c = left i (omega (arith, less)) in
         let p = times (orient2d_of v x (u i)) (orient2d_of v (u (i + 1)) (u k)) here (omega (arith, ordered, a)) in
         let q = times (orient2d_of v x (u k)) (orient2d_of v (u i) (u (i + 1))) before (omega (arith, ordered, c)) in
-        not_below_product (orient2d_of v x (u (i + 1))) (orient2d_of v (u i) (u k)) b (omega (arith, ordered, e, p, q)))
+        not_below_factor (orient2d_of v x (u (i + 1))) (orient2d_of v (u i) (u k)) b (omega (arith, ordered, e, p, q)))
   ]
-    where
-      not_below_product : (y z : ℤ) → pos 0 <ℤ z → pos 0 ≤ℤ (y *ℤ z) → pos 0 ≤ℤ y
-      not_below_product y z more product =
-          by_lt_z y (pos 0)
-          (λ less. absurd (let t = times_positive (pos 0 -ℤ y) z (omega (arith, ordered, less)) more in
-          let e = by_terms (y ∷ z ∷ []) (by (minus (num (pos 0)) (var 0)) (var 1)) (minus (num (pos 0)) (by (var 0) (var 1))) refl in omega (arith, ordered, t, e, product)))
-          (λ not. not)
 
   -- all sides after one that x lies beyond, and all before it
   all_after : (n i : ℕ) → i + n < k → pos 0 ≤ℤ orient2d_of v x (u (i + 1)) → Right i → Right (i + n)

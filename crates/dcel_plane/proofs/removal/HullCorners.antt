@@ -11,19 +11,18 @@ use Rattle.dcel_maps.specs.Triangulations.{AllTriangles}
 use Rattle.dcel_maps.specs.Walking.{IsRoundTrip, ccw_of}
 use Rattle.dcel_maps.specs.Words.{count_of}
 use Rattle.dcel_maps.proofs.maps.Soundness.{rev_live}
-use Rattle.dcel_maps.proofs.shapes.Maps.{map-sound}
 use Rattle.dcel_maps.proofs.walks.Links.{links_stand, prev-live}
 use Rattle.dcel_maps.proofs.words.Reading.{face-prev}
-use Rattle.dcel_plane.specs.Plane.{IsPlane, TurnsLeft}
+use Rattle.dcel_plane.specs.Plane.{TrianglesTurnLeft, TurnsLeft}
 use Rattle.dcel_plane.proofs.edits.Corners.{corners_are}
 use Rattle.dcel_plane.specs.covering.Covering.{IsConvex, IsHull}
 use Rattle.dcel_plane.specs.removal.Wheels.{CanTurn, CanTurnAt, IsFan, IsHollow, LiesOnHull, turns}
-use Rattle.dcel_plane.proofs.covering.Triangles.{left_at}
+use Rattle.dcel_plane.proofs.covering.Triangles.{ends_before, left_at}
 use Rattle.dcel_plane.proofs.removal.Fans.{flippable_or_gone}
 use Rattle.dcel_plane.proofs.removal.Turnable.{turn_after, turn_after_at}
 use Rattle.dcel_plane.proofs.removal.Turning.{least, listed}
 
-module _ {V DE UE F : Type 0} (m : Mesh V DE UE F) (mesh : IsMesh m) (triangles : AllTriangles m.shape) (at : ℕ → Point) (plane : IsPlane at m.shape)
+module _ {V DE UE F : Type 0} (m : Mesh V DE UE F) (mesh : IsMesh m) (triangles : AllTriangles m.shape) (at : ℕ → Point) (plane : TrianglesTurnLeft at m.shape)
     (convex : IsConvex at m.shape) (hull : IsHull at m.shape) (h : ℕ) (live : IsLive m.shape h) (outer : face_of m.shape h ≡ 0)
     (w : List ℕ) (trip : IsRoundTrip (ccw_of m.shape) h w) where
   abbrev s : Shape
@@ -43,9 +42,6 @@ module _ {V DE UE F : Type 0} (m : Mesh V DE UE F) (mesh : IsMesh m) (triangles 
     pub alive : IsLive s k
     pub from : origin_of s k ≡ o
 
-  ends_before : (k : ℕ) → IsLive s k → end_of s (prev_of s k) ≡ origin_of s k
-  ends_before k live_k = sym (mesh.sound.joined (prev_of s k) (prev-live mesh.sound k live_k)) ∙ ap (origin_of s) ((map-sound mesh.sound).next-prev k live_k)
-
   end_next : (k : ℕ) → end_of s (ccw_of s k) ≡ origin_of s (prev_of s k)
   end_next k = ap (origin_of s) (rev-rev (prev_of s k))
 
@@ -53,7 +49,7 @@ module _ {V DE UE F : Type 0} (m : Mesh V DE UE F) (mesh : IsMesh m) (triangles 
   spoke zero = record { alive = live; from = refl }
   spoke (suc i) =
       let before = spoke i in
-      record { alive = rev_live (map_of s) (prev_of s (spin i)) (prev-live mesh.sound (spin i) before.alive); from = ends_before (spin i) before.alive ∙ before.from }
+      record { alive = rev_live (map_of s) (prev_of s (spin i)) (prev-live mesh.sound (spin i) before.alive); from = ends_before m mesh (spin i) before.alive ∙ before.from }
 
   long : 0 < length w
   long = elim (eq-zero-or-pos (length w)) [
@@ -81,10 +77,10 @@ module _ {V DE UE F : Type 0} (m : Mesh V DE UE F) (mesh : IsMesh m) (triangles 
     ahead = λ i within.
         let out = spoke (suc i) in
         let on_prev : face_of s (prev_of s h) ≡ 0 = face-prev (map_of s) s.words (links_stand mesh.sound) h live ∙ outer in
-        let r = convex.right (prev_of s h) (rev (spin (suc i))) (prev-live mesh.sound h live) on_prev (rev_live (map_of s) (spin (suc i)) out.alive) in
+        let r = (convex.supports (prev_of s h) (rev (spin (suc i))) (prev-live mesh.sound h live) on_prev (rev_live (map_of s) (spin (suc i)) out.alive)).0 in
         let r' : orient2d_of (neighbor 0) (at o) (neighbor i) ≤ℤ pos 0 =
         subst (λ (k : ℕ). orient2d_of (at k) (at o) (neighbor i) ≤ℤ pos 0) (sym (end_next h))
-        (subst (λ (k : ℕ). orient2d_of (at (origin_of s (prev_of s h))) (at k) (neighbor i) ≤ℤ pos 0) (ends_before h live) r) in
+        (subst (λ (k : ℕ). orient2d_of (at (origin_of s (prev_of s h))) (at k) (neighbor i) ≤ℤ pos 0) (ends_before m mesh h live) r) in
         let q = orient2d-first_swapped (neighbor 0) (at o) (neighbor i) in
         omega (arith, ordered, r', q);
   }

@@ -11,9 +11,10 @@ use Rattle.dcel_maps.specs.Walking.{IsOutEdge, ccw_of}
 use Rattle.dcel_maps.proofs.maps.Soundness.{rev_live}
 use Rattle.dcel_maps.proofs.removal.Paths.{few_iff, turned_pair}
 use Rattle.dcel_maps.proofs.shapes.Maps.{map-sound}
-use Rattle.dcel_plane.proofs.covering.Along.{dot, long}
+use Rattle.dcel_plane.proofs.covering.Along.{long}
 use Rattle.dcel_plane.specs.hull.Straight.{IsStraight}
 use Rattle.dcel_plane.proofs.hull.OneLine.{InOrder, order_of}
+use Rattle.dcel_plane.specs.covering.Covering.{dot}
 
 module _ {V DE UE F : Type 0} (m : Mesh V DE UE F) (mesh : IsMesh m) (at : ℕ → Point) (straight : IsStraight at m.shape) (v a : ℕ) (out : IsOutEdge m.shape v a) where
   abbrev s : Shape

@@ -1,8 +1,7 @@
 -- An edge whose two triangles stay is circled where it was.
-use Rattle.std.proofs.Common.{◌≡◌, inl, inr, ℕ, ◌+◌, ◌*◌, ◌/◌, ◌<◌, ◌≤◌, true, List, ◌++◌, length, sym, ap, ◌∙◌, subst, pos, ◌<ℤ◌, arith}
+use Rattle.std.proofs.Common.{◌≡◌, inl, inr, ℕ, ◌+◌, ◌*◌, ◌/◌, ◌<◌, ◌≤◌, true, List, ◌++◌, length, sym, ap, ◌∙◌, subst, arith}
 use Rattle.std.proofs.lemmas.Bool.{cases_lt}
 use Rattle.dcel_predicates.specs.declared.point.Point.{Point}
-use Rattle.dcel_predicates.specs.Determinants.{incircle_of}
 use Rattle.dcel_maps.specs.Shapes.{IsLive, IsSound, Shape, edge_is_live, face_of, map_of, origin_of, prev_of}
 use Rattle.dcel_maps.specs.Words.{count_of, prev_in_word, word_of}
 use Rattle.dcel_maps.proofs.Liveness.{even_live, odd_live}
@@ -11,14 +10,7 @@ use Rattle.dcel_maps.proofs.walks.Links.{links_stand, prev-live, prev-said}
 use Rattle.dcel_maps.proofs.words.Counts.{count-append}
 use Rattle.dcel_maps.proofs.words.Reading.{face_in_word, live_in, stands_in_face}
 use Rattle.dcel_plane.specs.Plane.{IsCircled, IsInner, ListsCircled}
-
--- four points by other names
-pub circle_at : {a b c d p q r t : Point} → a ≡ p → b ≡ q → c ≡ r → d ≡ t → pos 0 <ℤ incircle_of a b c d → pos 0 <ℤ incircle_of p q r t
-circle_at {a} {b} {c} {d} {p} {q} {r} {t} ea eb ec ed inside =
-    subst (λ (k : Point). pos 0 <ℤ incircle_of p q r k) ed
-    (subst (λ (k : Point). pos 0 <ℤ incircle_of p q k d) ec
-    (subst (λ (k : Point). pos 0 <ℤ incircle_of p k c d) eb
-    (subst (λ (k : Point). pos 0 <ℤ incircle_of k b c d) ea inside)))
+use Rattle.dcel_plane.proofs.edits.Written.{circle_at}
 
 -- the shape t has of s what stays live, with its origins
 module _ (s t : Shape) (sound : IsSound s) (after : IsSound t) (starts : (x : ℕ) → IsLive s x → IsLive t x → origin_of t x ≡ origin_of s x) where

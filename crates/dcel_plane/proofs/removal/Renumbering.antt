@@ -25,18 +25,12 @@ use Rattle.dcel_maps.proofs.words.Paths.{prev_in_word-leads}
 use Rattle.dcel_maps.proofs.words.Reading.{face_in_word, live_in, stands_in_face}
 use Rattle.dcel_maps.proofs.words.Renames.{IsCycle-map}
 use Rattle.dcel_maps.proofs.words.Turns.{IsCycle-turn, count-turn, from_least-turn, length-turn}
-use Rattle.dcel_plane.specs.Plane.{IsCircled, IsInner, IsPlane, ListsCircled, TurnsLeft, origin_point}
-use Rattle.dcel_plane.proofs.edits.Corners.{left-from_least}
-use Rattle.dcel_plane.specs.covering.Covering.{HasDistinctPoints, IsConvex, IsHull, apart_along}
-use Rattle.dcel_plane.specs.hull.Straight.{IsStraight, beyond}
-use Rattle.dcel_plane.proofs.removal.Listing.{circle_at}
-
-three_items : (w : List ℕ) → length w ≡ 3 → (a : ℕ) × (b : ℕ) × (c : ℕ) × (w ≡ a ∷ b ∷ c ∷ [])
-three_items [] e = absurd (omega (arith, e))
-three_items (a ∷ []) e = absurd (omega (arith, e))
-three_items (a ∷ b ∷ []) e = absurd (omega (arith, e))
-three_items (a ∷ b ∷ c ∷ []) e = (a, b, c, refl)
-three_items (a ∷ b ∷ c ∷ d ∷ r) e = absurd (omega (arith, e))
+use Rattle.dcel_plane.specs.Plane.{IsCircled, IsInner, ListsCircled, TrianglesTurnLeft, TurnsLeft, origin_point}
+use Rattle.dcel_plane.proofs.edits.Corners.{left-from_least, three_items}
+use Rattle.dcel_plane.specs.covering.Covering.{HasDistinctPoints, IsConvex, IsHull, Supports, dot}
+use Rattle.dcel_plane.specs.hull.Straight.{IsStraight, dot_of_steps}
+use Rattle.dcel_plane.proofs.removal.Listing.{}
+use Rattle.dcel_plane.proofs.edits.Written.{circle_at}
 
 -- three points by other names
 three_points : (P : Point → Point → Point → Type 0) → {a b c x y z : Point} → a ≡ x → b ≡ y → c ≡ z → P a b c → P x y z
@@ -59,7 +53,7 @@ module _ {V DE UE F : Type 0} (m t : Mesh V DE UE F) (mesh : IsMesh m) (result :
   ends_at : (h : ℕ) → IsLive s h → after (end_of n (half h)) ≡ at (end_of s h)
   ends_at h live = ap (λ k. after (origin_of n k)) (leaves.turn h) ∙ stands_at (rev h) (rev_live (map_of s) h live)
 
-  pub renumbered_plane : IsPlane at s → IsPlane after n
+  pub renumbered_plane : TrianglesTurnLeft at s → TrianglesTurnLeft after n
   renumbered_plane plane = record {
     left = λ g x y z inner is.
         let live_x : IsLive n x =
@@ -110,27 +104,21 @@ module _ {V DE UE F : Type 0} (m t : Mesh V DE UE F) (mesh : IsMesh m) (result :
       subst (λ (w : List ℕ). 0 < count_of (half h) w) (sym (leaves.word (face_of s h) live_f)) (omega (arith, moved, turn)) in
       faces_apart (face_of s h) live_f (sym (face_in_word (map_of n) n.words (links_stand result.sound) (half h) (face (face_of s h)) in_word) ∙ on)
 
-  Beside : Point → Point → Point → Type 0
-  Beside a b c = (orient2d_of a b c ≤ℤ pos 0) × (orient2d_of a b c ≡ pos 0 → pos 0 ≤ℤ apart_along a b c)
-
-  both : IsConvex at s → (h k : ℕ) → IsLive n h → face_of n h ≡ 0 → IsLive n k → Beside (after (origin_of n h)) (after (end_of n h)) (after (origin_of n k))
-  unfolding Beside
+  both : IsConvex at s → (h k : ℕ) → IsLive n h → face_of n h ≡ 0 → IsLive n k → Supports (after (origin_of n h)) (after (end_of n h)) (after (origin_of n k))
   both convex h k live on live_k =
       let (i, live_i, is) = leaves.each_half_edge h live in
       let (j, live_j, is_j) = leaves.each_half_edge k live_k in
       let on_i = was_outer i live_i (ap (face_of n) is ∙ on) in
-      subst (λ (l : ℕ). Beside (after (origin_of n l)) (after (end_of n l)) (after (origin_of n k))) is
-      (subst (λ (l : ℕ). Beside (after (origin_of n (half i))) (after (end_of n (half i))) (after (origin_of n l))) is_j
-      (subst (λ (q : Point). Beside q (after (end_of n (half i))) (after (origin_of n (half j)))) (sym (stands_at i live_i))
-      (subst (λ (q : Point). Beside (at (origin_of s i)) q (after (origin_of n (half j)))) (sym (ends_at i live_i))
-      (subst (λ (q : Point). Beside (at (origin_of s i)) (at (end_of s i)) q) (sym (stands_at j live_j))
-      (convex.right i j live_i on_i live_j, convex.between i j live_i on_i live_j)))))
+      subst (λ (l : ℕ). Supports (after (origin_of n l)) (after (end_of n l)) (after (origin_of n k))) is
+      (subst (λ (l : ℕ). Supports (after (origin_of n (half i))) (after (end_of n (half i))) (after (origin_of n l))) is_j
+      (subst (λ (q : Point). Supports q (after (end_of n (half i))) (after (origin_of n (half j)))) (sym (stands_at i live_i))
+      (subst (λ (q : Point). Supports (at (origin_of s i)) q (after (origin_of n (half j)))) (sym (ends_at i live_i))
+      (subst (λ (q : Point). Supports (at (origin_of s i)) (at (end_of s i)) q) (sym (stands_at j live_j))
+      (convex.supports i j live_i on_i live_j)))))
 
   pub renumbered_convex : IsConvex at s → IsConvex after n
-  unfolding Beside
   renumbered_convex convex = record {
-    right = λ h k live on live_k. (both convex h k live on live_k).0;
-    between = λ h k live on live_k. (both convex h k live on live_k).1;
+    supports = both convex;
   }
 
   one_start : HasDistinctPoints at s → (i j : ℕ) → IsLive s i → IsLive s j → (after (origin_of n (half i))).x ≡ (after (origin_of n (half j))).x
@@ -179,7 +167,7 @@ module _ {V DE UE F : Type 0} (m t : Mesh V DE UE F) (mesh : IsMesh m) (result :
   renumbered_straight straight = record {
     distinct = distinct_after straight.distinct;
     line = told_of (λ a b c. orient2d_of a b c ≡ pos 0) straight.line;
-    between = told_of (λ a b c. pos 0 ≤ℤ apart_along a b c) straight.between;
+    between = told_of (λ a b c. pos 0 ≤ℤ dot a b c) straight.between;
     once = λ h k live_h live_k same near.
         let (i, live_i, is) = leaves.each_half_edge h live_h in
         let (j, live_j, is_j) = leaves.each_half_edge k live_k in
@@ -187,19 +175,19 @@ module _ {V DE UE F : Type 0} (m t : Mesh V DE UE F) (mesh : IsMesh m) (result :
         sym is
         ∙ ap half
         (straight.once i j live_i live_j (one_start straight.distinct i j live_i live_j (ap (λ (q : Point). q.x) at_one) (ap (λ (q : Point). q.y) at_one))
-        (three_points (λ a b c. pos 0 <ℤ apart_along a b c) (sym (ends_there i h live_i is)) (sym (ends_there j k live_j is_j)) (sym (stands_there i h live_i is)) near))
+        (three_points (λ a b c. pos 0 <ℤ dot a b c) (sym (ends_there i h live_i is)) (sym (ends_there j k live_j is_j)) (sym (stands_there i h live_i is)) near))
         ∙ is_j;
     onward = λ h k live_h live_k more.
         let (i, live_i, is) = leaves.each_half_edge h live_h in
         let (j, live_j, is_j) = leaves.each_half_edge k live_k in
         let (g, live_g, starts, more_g) = straight.onward i j live_i live_j
-        (three_points (λ a b c. pos 0 <ℤ beyond a b c) (sym (stands_there i h live_i is)) (sym (ends_there i h live_i is)) (sym (stands_there j k live_j is_j)) more) in
+        (three_points (λ a b c. pos 0 <ℤ dot_of_steps a b c) (sym (stands_there i h live_i is)) (sym (ends_there i h live_i is)) (sym (stands_there j k live_j is_j)) more) in
         let ends : end_of n h ≡ vertex (end_of s i) =
         ap (end_of n) (sym is) ∙ ap (origin_of n) (leaves.turn i) ∙ leaves.origin (rev i) (rev_live (map_of s) i live_i) in (
           half g,
           leaves.half_edge g live_g,
           leaves.origin g live_g ∙ ap vertex starts ∙ sym ends,
-          three_points (λ a b c. pos 0 <ℤ beyond a b c) (stands_there i h live_i is) (ends_there i h live_i is) (ends_there g (half g) live_g refl) more_g,
+          three_points (λ a b c. pos 0 <ℤ dot_of_steps a b c) (stands_there i h live_i is) (ends_there i h live_i is) (ends_there g (half g) live_g refl) more_g,
         );
   }
 
@@ -332,7 +320,7 @@ module _ {V DE UE F : Type 0} (m : Mesh V DE UE F) (mesh : IsMesh m) where
       sym (places f live) ∙ ap (slice_index (renumbered (face_count m.shape) (faces_down m.shape.removal))) (is ∙ sym o) ∙ places 0 outer_live
 
   pub cleanup_keeps : (at : ℕ → Point) → IsMesh (cleaned_up m)
-      → (IsPlane at m.shape → IsPlane at (cleaned_up m).shape) × (IsConvex at m.shape → IsConvex at (cleaned_up m).shape) × (IsHull at m.shape → IsHull at (cleaned_up m).shape)
+      → (TrianglesTurnLeft at m.shape → TrianglesTurnLeft at (cleaned_up m).shape) × (IsConvex at m.shape → IsConvex at (cleaned_up m).shape) × (IsHull at m.shape → IsHull at (cleaned_up m).shape)
   cleanup_keeps at result = (
     renumbered_plane m (cleaned_up m) mesh result (new_half m.shape) (λ v. v) (new_face m.shape) (leaves_live m mesh) one_half outer_face at at (λ v live. refl),
     renumbered_convex m (cleaned_up m) mesh result (new_half m.shape) (λ v. v) (new_face m.shape) (leaves_live m mesh) one_half outer_face at at (λ v live. refl),
@@ -367,7 +355,7 @@ module _ {V DE UE F : Type 0} (m : Mesh V DE UE F) (mesh : IsMesh m) where
 
   pub taken_out_keeps : (at after : ℕ → Point) (d : ℕ) → m.shape.removal ≡ Cleaned d → IsMesh (vertex_taken_out m d)
       → ((v : ℕ) → vertex_is_live m.shape v ≡ true → after (moved (m.shape.vertices - 1) d v) ≡ at v)
-      → (IsPlane at m.shape → IsPlane after (vertex_taken_out m d).shape) × (IsConvex at m.shape → IsConvex after (vertex_taken_out m d).shape)
+      → (TrianglesTurnLeft at m.shape → TrianglesTurnLeft after (vertex_taken_out m d).shape) × (IsConvex at m.shape → IsConvex after (vertex_taken_out m d).shape)
       × (IsHull at m.shape → IsHull after (vertex_taken_out m d).shape)
   taken_out_keeps at after d given result same = (
     renumbered_plane m (vertex_taken_out m d) mesh result (λ h. h) (moved (m.shape.vertices - 1) d) (λ f. f) (vertex_leaves_live m mesh d given) (λ h k live_h live_k is. is) (λ f live is. is) at after same,

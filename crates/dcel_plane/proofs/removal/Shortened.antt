@@ -8,9 +8,10 @@ use Rattle.dcel_predicates.specs.declared.point.Point.{Point}
 use Rattle.dcel_predicates.specs.Determinants.{orient2d_of}
 use Rattle.dcel_predicates.proofs.Signs.{ordered}
 use Rattle.dcel_maps.specs.Shapes.{IsLive, Shape, end_of, origin_of}
-use Rattle.dcel_plane.proofs.covering.Along.{dot, long}
+use Rattle.dcel_plane.proofs.covering.Along.{long}
 use Rattle.dcel_plane.specs.hull.Straight.{IsStraight}
 use Rattle.dcel_plane.proofs.hull.OneLine.{InOrder, order_of, straight_of}
+use Rattle.dcel_plane.specs.covering.Covering.{dot}
 
 -- g is s without the edge of b, and a starts where b ended; from where a started, only these two lead
 pub record IsShortened (s g : Shape) (a b : ℕ) : Type 0 where

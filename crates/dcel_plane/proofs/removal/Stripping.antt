@@ -29,7 +29,7 @@ use Rattle.dcel_maps.proofs.walks.UnderWay.{walk-round}
 use Rattle.dcel_maps.proofs.words.Ascending.{length-ascending}
 use Rattle.dcel_maps.proofs.words.EachSet.{but_last-is}
 use Rattle.dcel_maps.proofs.words.Reading.{face-prev}
-use Rattle.dcel_plane.specs.Plane.{IsPlane, TurnsLeft}
+use Rattle.dcel_plane.specs.Plane.{TrianglesTurnLeft, TurnsLeft}
 use Rattle.dcel_plane.specs.covering.Covering.{IsConvex, IsHull}
 use Rattle.dcel_plane.specs.removal.Wheels.{CanTurn, IsFan, IsHollow, LiesOnHull, turns}
 use Rattle.dcel_plane.proofs.removal.HullCorners.{corner_fan, corner_turn}
@@ -58,7 +58,7 @@ two_alone m mesh x live there back y live_y =
     ]) (inl refl)
     (mesh.sphere.connected x y live live_y)
 
-module _ {V DE UE F : Type 0} (m : Mesh V DE UE F) (mesh : IsMesh m) (triangles : AllTriangles m.shape) (at : ℕ → Point) (plane : IsPlane at m.shape)
+module _ {V DE UE F : Type 0} (m : Mesh V DE UE F) (mesh : IsMesh m) (triangles : AllTriangles m.shape) (at : ℕ → Point) (plane : TrianglesTurnLeft at m.shape)
     (convex : IsConvex at m.shape) (hull : IsHull at m.shape) (h : ℕ) (live : IsLive m.shape h) (outer : face_of m.shape h ≡ 0) where
   abbrev s : Shape
   s = m.shape

@@ -27,10 +27,10 @@ use Rattle.dcel_maps.proofs.walks.Turning.{walk-out_edges}
 use Rattle.dcel_maps.proofs.words.Counts.{count-append, count-later, count-same}
 use Rattle.dcel_maps.proofs.words.Reading.{face_in_word, live_in, stands_in_face}
 use Rattle.dcel_maps.proofs.words.Turns.{count-turn, from_least-turn}
-use Rattle.dcel_plane.specs.Plane.{IsPlane, ListsCircled}
+use Rattle.dcel_plane.specs.Plane.{ListsCircled, TrianglesTurnLeft}
 use Rattle.dcel_plane.proofs.edits.Corners.{corners_are}
 use Rattle.dcel_plane.specs.covering.Covering.{IsConvex, IsHull}
-use Rattle.dcel_plane.specs.removal.Wheels.{IsHollow, IsPlaneBut, turns}
+use Rattle.dcel_plane.specs.removal.Wheels.{IsHollow, TrianglesTurnLeftBut, turns}
 use Rattle.dcel_plane.proofs.removal.Flat.{flat_convex, flat_hull}
 use Rattle.dcel_plane.proofs.removal.Listing.{Stays, stays, was_circled}
 use Rattle.dcel_plane.proofs.removal.Cutting.{IsCutOff, cut_convex, cut_hull}
@@ -86,7 +86,7 @@ module _ {V DE UE F : Type 0} (m : Mesh V DE UE F) (mesh : IsMesh m) (closed : m
   turned : (x : ℕ) → IsLive t x → IsLive t (rev x)
   turned x live = rev_live (map_of t) x live
 
-  strip_plane : (at : ℕ → Point) → IsPlane at s → IsPlane at t
+  strip_plane : (at : ℕ → Point) → TrianglesTurnLeft at s → TrianglesTurnLeft at t
   strip_plane at plane = record {
     left = λ f x z w inner is. elim (cases_Bool (gives_up_face removal f)) [
       | inl given ↦ absurd
@@ -104,7 +104,7 @@ module _ {V DE UE F : Type 0} (m : Mesh V DE UE F) (mesh : IsMesh m) (closed : m
   }
 
   -- where only triangles at v may not turn left
-  strip_plane_but : (at : ℕ → Point) → IsPlaneBut at s v → IsPlane at t
+  strip_plane_but : (at : ℕ → Point) → TrianglesTurnLeftBut at s v → TrianglesTurnLeft at t
   strip_plane_but at plane = record {
     left = λ f x z w inner is. elim (cases_Bool (gives_up_face removal f)) [
       | inl given ↦ absurd
@@ -164,7 +164,7 @@ module _ {V DE UE F : Type 0} (m : Mesh V DE UE F) (mesh : IsMesh m) (closed : m
         flat_hull m mesh triangles at convex hull h around.out.live around.outer (walk_of s (ccw_of s) h) (trip s mesh.sound mesh.sphere v h around) lists two flat'
         t (subst (λ (k : ℕ). IsCutOff s t k) here cut) turned
 
-  strip_convex : (at : ℕ → Point) → AllTriangles m.shape → IsPlane at s → IsConvex at s → IsHull at s
+  strip_convex : (at : ℕ → Point) → AllTriangles m.shape → TrianglesTurnLeft at s → IsConvex at s → IsHull at s
       → IsHollow (at v) (λ i. at (end_of m.shape (turns (ccw_of m.shape) (suc i) h))) (length (walk_of m.shape (ccw_of m.shape) h) - 1) → IsConvex at t
   strip_convex at triangles plane convex hull hollow =
       let is : v ≡ origin_of s h = sym around.out.start in
@@ -182,7 +182,7 @@ module _ {V DE UE F : Type 0} (m : Mesh V DE UE F) (mesh : IsMesh m) (closed : m
         | inr is ↦ not_end (ap (end_of s) is ∙ ap (origin_of s) (rev-rev k) ∙ out.start)
       ])
 
-  strip_hull : (at : ℕ → Point) → AllTriangles m.shape → IsPlane at s → IsConvex at s → IsHull at s
+  strip_hull : (at : ℕ → Point) → AllTriangles m.shape → TrianglesTurnLeft at s → IsConvex at s → IsHull at s
       → IsHollow (at v) (λ i. at (end_of m.shape (turns (ccw_of m.shape) (suc i) h))) (length (walk_of m.shape (ccw_of m.shape) h) - 1)
       → (g : ℕ) → IsLive s g → 0 < face_of s g → origin_of s g ≢ v → origin_of s (next_of s g) ≢ v → origin_of s (prev_of s g) ≢ v → IsHull at t
   strip_hull at triangles plane convex hull hollow g live_g inner_g one two three =
@@ -226,7 +226,7 @@ module _ {V DE UE F : Type 0} (m : Mesh V DE UE F) (mesh : IsMesh m) (closed : m
         let live_t = live_in (map_of t) t.words (links_stand sound_t) x (face_of t g) in_word in
         cut.none x live_t (cut.same x live_t ∙ at_v)
 
-    strip_outline : (at : ℕ → Point) → AllTriangles m.shape → IsPlane at s → IsConvex at s → IsHull at s
+    strip_outline : (at : ℕ → Point) → AllTriangles m.shape → TrianglesTurnLeft at s → IsConvex at s → IsHull at s
         → IsHollow (at v) (λ i. at (end_of m.shape (turns (ccw_of m.shape) (suc i) h))) (length (walk_of m.shape (ccw_of m.shape) h) - 1) → IsHull at t
     strip_outline at triangles plane convex hull hollow =
         let was = cut.old g live in
@@ -236,7 +236,7 @@ module _ {V DE UE F : Type 0} (m : Mesh V DE UE F) (mesh : IsMesh m) (closed : m
         (beside_off (prev_of s g) tri.live_z tri.face_z)
 
   -- where nothing inner is left, the rest is a line
-  strip_strung : (at : ℕ → Point) → AllTriangles m.shape → IsPlane at s → IsConvex at s → IsHull at s
+  strip_strung : (at : ℕ → Point) → AllTriangles m.shape → TrianglesTurnLeft at s → IsConvex at s → IsHull at s
       → IsHollow (at v) (λ i. at (end_of m.shape (turns (ccw_of m.shape) (suc i) h))) (length (walk_of m.shape (ccw_of m.shape) h) - 1)
       → (g : ℕ) → IsLive s g → 0 < face_of s g → ((x : ℕ) → IsLive t x → face_of t x ≡ 0) → IsStraight at t
   strip_strung at triangles plane convex hull hollow g live_g inner_g bare =
@@ -266,18 +266,18 @@ module _ {V DE UE F : Type 0} (m : Mesh V DE UE F) (mesh : IsMesh m) (closed : m
         removal = strip_record m.shape whole;
       })) (sym (strip_word-is m mesh strip.vertex strip.half strip.around closed (strip_record m.shape whole) gives y r outer)) (holds gives y r outer))
 
-  pub cut_plane : (at : ℕ → Point) → IsPlane at m.shape → IsPlane at (strip_cut m list).shape
+  pub cut_plane : (at : ℕ → Point) → TrianglesTurnLeft at m.shape → TrianglesTurnLeft at (strip_cut m list).shape
   cut_plane at plane =
-      of_strip (IsPlane at) (λ gives y r outer. strip_plane m mesh closed strip.vertex strip.half strip.around (strip_record m.shape whole) gives y r outer at plane)
+      of_strip (TrianglesTurnLeft at) (λ gives y r outer. strip_plane m mesh closed strip.vertex strip.half strip.around (strip_record m.shape whole) gives y r outer at plane)
 
-  pub hollow_convex : (at : ℕ → Point) → AllTriangles m.shape → IsPlane at m.shape → IsConvex at m.shape → IsHull at m.shape
+  pub hollow_convex : (at : ℕ → Point) → AllTriangles m.shape → TrianglesTurnLeft at m.shape → IsConvex at m.shape → IsHull at m.shape
       → IsHollow (at strip.vertex) (λ i. at (end_of m.shape (turns (ccw_of m.shape) (suc i) strip.half))) (length (walk_of m.shape (ccw_of m.shape) strip.half) - 1)
       → IsConvex at (strip_cut m list).shape
   hollow_convex at triangles plane convex hull hollow =
       of_strip (IsConvex at)
       (λ gives y r outer. strip_convex m mesh closed strip.vertex strip.half strip.around (strip_record m.shape whole) gives y r outer at triangles plane convex hull hollow)
 
-  pub hollow_hull : (at : ℕ → Point) → AllTriangles m.shape → IsPlane at m.shape → IsConvex at m.shape → IsHull at m.shape
+  pub hollow_hull : (at : ℕ → Point) → AllTriangles m.shape → TrianglesTurnLeft at m.shape → IsConvex at m.shape → IsHull at m.shape
       → IsHollow (at strip.vertex) (λ i. at (end_of m.shape (turns (ccw_of m.shape) (suc i) strip.half))) (length (walk_of m.shape (ccw_of m.shape) strip.half) - 1)
       → (g : ℕ) → IsLive m.shape g → 0 < face_of m.shape g → origin_of m.shape g ≢ strip.vertex → origin_of m.shape (next_of m.shape g) ≢ strip.vertex
       → origin_of m.shape (prev_of m.shape g) ≢ strip.vertex → IsHull at (strip_cut m list).shape
@@ -285,7 +285,7 @@ module _ {V DE UE F : Type 0} (m : Mesh V DE UE F) (mesh : IsMesh m) (closed : m
       of_strip (IsHull at)
       (λ gives y r outer. strip_hull m mesh closed strip.vertex strip.half strip.around (strip_record m.shape whole) gives y r outer at triangles plane convex hull hollow g live_g inner_g one two three)
 
-  pub hollow_outline : (at : ℕ → Point) → AllTriangles m.shape → IsPlane at m.shape → IsConvex at m.shape → IsHull at m.shape
+  pub hollow_outline : (at : ℕ → Point) → AllTriangles m.shape → TrianglesTurnLeft at m.shape → IsConvex at m.shape → IsHull at m.shape
       → IsHollow (at strip.vertex) (λ i. at (end_of m.shape (turns (ccw_of m.shape) (suc i) strip.half))) (length (walk_of m.shape (ccw_of m.shape) strip.half) - 1)
       → (g : ℕ) → IsLive (strip_cut m list).shape g → 0 < face_of (strip_cut m list).shape g → IsHull at (strip_cut m list).shape
   hollow_outline at triangles plane convex hull hollow g =
@@ -293,7 +293,7 @@ module _ {V DE UE F : Type 0} (m : Mesh V DE UE F) (mesh : IsMesh m) (closed : m
       (λ gives y r outer live inner.
       strip_outline m mesh closed strip.vertex strip.half strip.around (strip_record m.shape whole) gives y r outer g live inner at triangles plane convex hull hollow)
 
-  pub hollow_strung : (at : ℕ → Point) → AllTriangles m.shape → IsPlane at m.shape → IsConvex at m.shape → IsHull at m.shape
+  pub hollow_strung : (at : ℕ → Point) → AllTriangles m.shape → TrianglesTurnLeft at m.shape → IsConvex at m.shape → IsHull at m.shape
       → IsHollow (at strip.vertex) (λ i. at (end_of m.shape (turns (ccw_of m.shape) (suc i) strip.half))) (length (walk_of m.shape (ccw_of m.shape) strip.half) - 1)
       → (g : ℕ) → IsLive m.shape g → 0 < face_of m.shape g → ((x : ℕ) → IsLive (strip_cut m list).shape x → face_of (strip_cut m list).shape x ≡ 0)
       → IsStraight at (strip_cut m list).shape
@@ -302,9 +302,9 @@ module _ {V DE UE F : Type 0} (m : Mesh V DE UE F) (mesh : IsMesh m) (closed : m
       (λ gives y r outer bare.
       strip_strung m mesh closed strip.vertex strip.half strip.around (strip_record m.shape whole) gives y r outer at triangles plane convex hull hollow g live_g inner_g bare)
 
-  pub cut_plane_but : (at : ℕ → Point) → IsPlaneBut at m.shape strip.vertex → IsPlane at (strip_cut m list).shape
+  pub cut_plane_but : (at : ℕ → Point) → TrianglesTurnLeftBut at m.shape strip.vertex → TrianglesTurnLeft at (strip_cut m list).shape
   cut_plane_but at plane =
-      of_strip (IsPlane at) (λ gives y r outer. strip_plane_but m mesh closed strip.vertex strip.half strip.around (strip_record m.shape whole) gives y r outer at plane)
+      of_strip (TrianglesTurnLeft at) (λ gives y r outer. strip_plane_but m mesh closed strip.vertex strip.half strip.around (strip_record m.shape whole) gives y r outer at plane)
 
   pub flat_corner_convex : (at : ℕ → Point) → AllTriangles m.shape → IsConvex at m.shape → IsHull at m.shape → length (walk_of m.shape (ccw_of m.shape) strip.half) ≡ 2
       → orient2d_of (at strip.vertex) (at (end_of m.shape (ccw_of m.shape strip.half))) (at (end_of m.shape strip.half)) ≡ pos 0 → IsConvex at (strip_cut m list).shape

@@ -12,9 +12,9 @@ use Rattle.dcel_predicates.proofs.Terms.{orient, spot}
 use Rattle.dcel_maps.specs.Shapes.{IsLive, IsMesh, Mesh, Shape, end_of, face_of, next_of, origin_of, prev_of}
 use Rattle.dcel_maps.specs.Triangulations.{AllTriangles}
 use Rattle.dcel_maps.specs.Walking.{IsOutEdge, IsRoundTrip, ListsOnce, ccw_of}
-use Rattle.dcel_plane.specs.Plane.{IsPlane, TurnsLeft}
-use Rattle.dcel_plane.specs.covering.Covering.{IsConvex, IsHull}
-use Rattle.dcel_plane.proofs.covering.Along.{dot, dot_in, long, none_first, none_second}
+use Rattle.dcel_plane.specs.Plane.{TrianglesTurnLeft, TurnsLeft}
+use Rattle.dcel_plane.specs.covering.Covering.{IsConvex, IsHull, dot}
+use Rattle.dcel_plane.proofs.covering.Along.{dot_in, long, none_first, none_second}
 use Rattle.dcel_plane.proofs.covering.Products.{positive_factor}
 use Rattle.dcel_plane.proofs.covering.Triangles.{round}
 use Rattle.dcel_plane.specs.hull.Straight.{IsStraight}
@@ -47,7 +47,7 @@ further v b a x y far on_x on_y left turn =
         (by (minus (orient (spot 1) (spot 2) (spot 3)) (orient (spot 1) (spot 2) (spot 4))) (dot_in (spot 0) (spot 2) (spot 1))))
         (minus (by (dot_in (spot 3) (spot 2) (spot 1)) (orient (spot 1) (spot 2) (spot 4))) (by (orient (spot 1) (spot 2) (spot 3)) (dot_in (spot 4) (spot 2) (spot 1))))) refl
 
-module _ {V DE UE F : Type 0} (m : Mesh V DE UE F) (mesh : IsMesh m) (triangles : AllTriangles m.shape) (at : ℕ → Point) (plane : IsPlane at m.shape)
+module _ {V DE UE F : Type 0} (m : Mesh V DE UE F) (mesh : IsMesh m) (triangles : AllTriangles m.shape) (at : ℕ → Point) (plane : TrianglesTurnLeft at m.shape)
     (convex : IsConvex at m.shape) (hull : IsHull at m.shape) (h : ℕ) (live : IsLive m.shape h) (outer : face_of m.shape h ≡ 0)
     (w : List ℕ) (trip : IsRoundTrip (ccw_of m.shape) h w) (lists : ListsOnce (IsOutEdge m.shape (origin_of m.shape h)) w)
     (hollow : IsHollow (at (origin_of m.shape h)) (λ i. at (end_of m.shape (turns (ccw_of m.shape) (suc i) h))) (length w - 1)) (some : 1 < length w)
@@ -110,9 +110,9 @@ module _ {V DE UE F : Type 0} (m : Mesh V DE UE F) (mesh : IsMesh m) (triangles 
   -- all stand on the line of each half edge
   on_line : (x z : ℕ) → IsLive t x → IsLive t z → orient2d_of (at (origin_of t x)) (at (end_of t x)) (at (origin_of t z)) ≡ pos 0
   on_line x z live_x live_z =
-      let one = convex_after.right x z live_x (bare x live_x) live_z in
+      let one = (convex_after.supports x z live_x (bare x live_x) live_z).0 in
       let back = turned x live_x in
-      let two = convex_after.right (rev x) z back (bare (rev x) back) live_z in
+      let two = (convex_after.supports (rev x) z back (bare (rev x) back) live_z).0 in
       let two' : orient2d_of (at (end_of t x)) (at (origin_of t x)) (at (origin_of t z)) ≤ℤ pos 0 =
       subst (λ (j : ℕ). orient2d_of (at (end_of t x)) (at (origin_of t j)) (at (origin_of t z)) ≤ℤ pos 0) (rev-rev x) two in
       let f = orient2d-first_swapped (at (origin_of t x)) (at (end_of t x)) (at (origin_of t z)) in

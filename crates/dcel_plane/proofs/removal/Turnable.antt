@@ -16,7 +16,7 @@ use Rattle.dcel_maps.specs.Walking.{ccw_of}
 use Rattle.dcel_maps.proofs.edits.Around.{at_edge}
 use Rattle.dcel_maps.proofs.edits.Patches.{Patch, replacing}
 use Rattle.dcel_maps.proofs.maps.Soundness.{rev_live}
-use Rattle.dcel_plane.specs.Plane.{IsPlane, TurnsLeft}
+use Rattle.dcel_plane.specs.Plane.{TrianglesTurnLeft, TurnsLeft}
 use Rattle.dcel_plane.proofs.edits.Corners.{LeftOf, corners_are, left-from_least}
 use Rattle.dcel_plane.proofs.edits.Flipped.{flip_written, from_end, from_start, origin_after, origin_e, origin_far, origin_near, origin_t, origin_t_after}
 use Rattle.dcel_plane.proofs.edits.Written.{written_plane}
@@ -59,13 +59,46 @@ module _ {V DE UE F : Type 0} (m : Mesh V DE UE F) (mesh : IsMesh m) (at : ℕ �
       corners_are at (sym (origin_t m mesh u turn.can)) (sym (origin_near m mesh u turn.can at)) (sym (from_start m mesh u turn.can) ∙ sym (origin_t_after m mesh u turn.can at))
       turn.second
 
-  pub turn_keeps_plane : IsPlane at m.shape → IsPlane at n
+  pub turn_keeps_plane : TrianglesTurnLeft at m.shape → TrianglesTurnLeft at n
   turn_keeps_plane plane =
       written_plane at m.shape n words origins (flip_written m mesh u turn.can) mesh.sound plane (
         (λ x y z inner is. left-from_least at n e tp en x y z is first_turns),
         (λ x y z inner is. left-from_least at n t ep tn x y z is second_turns, tt),
       )
       tt
+
+-- a half edge h whose edge can be flipped so that both triangles turn left, told by h and its other half, in this order
+module _ (at : ℕ → Point) (s : Shape) where
+  pub record Turned (h t : ℕ) : Type 0 where
+    pub face : 0 < face_of s h
+    pub facing : 0 < face_of s t
+    pub triangle : IsTriangle s (face_of s h)
+    pub triangle_facing : IsTriangle s (face_of s t)
+    pub corners : origin_of s (prev_of s h) ≢ origin_of s (prev_of s t)
+    pub first : TurnsLeft (at (origin_of s (prev_of s h))) (at (origin_of s (prev_of s t))) (at (origin_of s t))
+    pub second : TurnsLeft (at (origin_of s (prev_of s t))) (at (origin_of s (prev_of s h))) (at (origin_of s h))
+
+  swapped : (h t : ℕ) → Turned h t → Turned t h
+  swapped h t is = record {
+    face = is.facing;
+    facing = is.face;
+    triangle = is.triangle_facing;
+    triangle_facing = is.triangle;
+    corners = λ same. is.corners (sym same);
+    first = is.second;
+    second = is.first;
+  }
+
+  pub turned_can : (h : ℕ) → IsLive s h → Turned h (rev h) → CanTurn at s (h / 2)
+  turned_can h live is =
+      let found = both_halves Turned swapped h is in
+      record {
+        can = record { live = live; triangle = found.triangle; facing = found.triangle_facing; corners = found.corners };
+        inner = found.face;
+        inner_facing = found.facing;
+        first = found.first;
+        second = found.second;
+      }
 
 -- the edge after a, of triangles at both sides
 module _ {V DE UE F : Type 0} (m : Mesh V DE UE F) (mesh : IsMesh m) (triangles : AllTriangles m.shape) (at : ℕ → Point) (o a : ℕ)
@@ -87,26 +120,6 @@ module _ {V DE UE F : Type 0} (m : Mesh V DE UE F) (mesh : IsMesh m) (triangles 
   abbrev z : Point
   z = at (end_of m.shape (ccw_of m.shape (ccw_of m.shape a)))
 
-  record Turned (h t : ℕ) : Type 0 where
-    face : 0 < face_of s h
-    facing : 0 < face_of s t
-    triangle : IsTriangle s (face_of s h)
-    triangle_facing : IsTriangle s (face_of s t)
-    corners : origin_of s (prev_of s h) ≢ origin_of s (prev_of s t)
-    first : TurnsLeft (at (origin_of s (prev_of s h))) (at (origin_of s (prev_of s t))) (at (origin_of s t))
-    second : TurnsLeft (at (origin_of s (prev_of s t))) (at (origin_of s (prev_of s h))) (at (origin_of s h))
-
-  swapped : (h t : ℕ) → Turned h t → Turned t h
-  swapped h t is = record {
-    face = is.facing;
-    facing = is.face;
-    triangle = is.triangle_facing;
-    triangle_facing = is.triangle;
-    corners = λ same. is.corners (sym same);
-    first = is.second;
-    second = is.first;
-  }
-
   pub turn_after : TurnsLeft (at o) (at (end_of m.shape a)) (at (end_of m.shape (ccw_of m.shape (ccw_of m.shape a))))
       → TurnsLeft (at (end_of m.shape a)) (at (end_of m.shape (ccw_of m.shape a))) (at (end_of m.shape (ccw_of m.shape (ccw_of m.shape a))))
       → CanTurn at m.shape (ccw_of m.shape a / 2)
@@ -122,7 +135,7 @@ module _ {V DE UE F : Type 0} (m : Mesh V DE UE F) (mesh : IsMesh m) (triangles 
       let q = orient2d-turned (at o) x z in
       let first : TurnsLeft z x y = omega (arith, ordered, r, off) in
       let second : TurnsLeft x z (at o) = omega (arith, ordered, q, near) in
-      let is : Turned (ccw_of s a) (rev (ccw_of s a)) = record {
+      turned_can at s (ccw_of s a) live_e (record {
         face = on_e;
         facing = facing;
         triangle = is_triangle m mesh triangles (ccw_of s a) live_e on_e;
@@ -137,15 +150,7 @@ module _ {V DE UE F : Type 0} (m : Mesh V DE UE F) (mesh : IsMesh m) (triangles 
             subst (λ (k : ℕ). TurnsLeft (at (origin_of s (prev_of s (rev (ccw_of s a))))) (at (origin_of s (prev_of s (ccw_of s a)))) (at k)) (sym from_e)
             (subst (λ (k : ℕ). TurnsLeft (at (origin_of s (prev_of s (rev (ccw_of s a))))) (at k) (at o)) (sym before)
             (subst (λ (k : ℕ). TurnsLeft (at k) z (at o)) (sym before_other) second));
-      } in
-      let found = both_halves Turned swapped (ccw_of s a) is in
-      record {
-        can = record { live = live_e; triangle = found.triangle; facing = found.triangle_facing; corners = found.corners };
-        inner = found.face;
-        inner_facing = found.facing;
-        first = found.first;
-        second = found.second;
-      }
+      })
 
   -- where only the triangle off the vertex must turn left
   record TurnedAt (h t : ℕ) : Type 0 where

@@ -14,16 +14,16 @@ use Rattle.dcel_maps.proofs.maps.Soundness.{rev_live}
 use Rattle.dcel_maps.proofs.shapes.Maps.{map-sound}
 use Rattle.dcel_maps.proofs.walks.Links.{prev-live}
 use Rattle.dcel_maps.proofs.words.Counts.{count-equal, count-later, count-same}
-use Rattle.dcel_plane.specs.Plane.{IsPlane, TurnsLeft}
+use Rattle.dcel_plane.specs.Plane.{TrianglesTurnLeft, TurnsLeft}
 use Rattle.dcel_plane.proofs.edits.Corners.{corners_are}
 use Rattle.dcel_plane.specs.covering.Covering.{IsConvex, IsHull}
 use Rattle.dcel_plane.specs.covering.Places.{AreDisjoint}
 use Rattle.dcel_plane.specs.removal.Wheels.{IsWheel, turns}
-use Rattle.dcel_plane.proofs.covering.Faces.{disjoint_at}
-use Rattle.dcel_plane.proofs.covering.Triangles.{left_at, same_face}
+use Rattle.dcel_plane.proofs.covering.Faces.{disjoint_at, six_corners}
+use Rattle.dcel_plane.proofs.covering.Triangles.{ends_before, left_at, same_face}
 use Rattle.dcel_plane.proofs.removal.Overlapping.{overlap}
 
-turns_first : (f : ℕ → ℕ) (i x : ℕ) → turns f (suc i) x ≡ turns f i (f x)
+pub turns_first : (f : ℕ → ℕ) (i x : ℕ) → turns f (suc i) x ≡ turns f i (f x)
 turns_first f zero x = refl
 turns_first f (suc i) x = ap f (turns_first f i x)
 
@@ -67,7 +67,7 @@ module _ (f : ℕ → ℕ) (h : ℕ) (w : List ℕ) (trip : IsRoundTrip f h w) w
       in_it zero below = (let c = count-same h trip.rest in omega (arith, c))
       in_it (suc i) below = count-later (turns f (suc i) h) h trip.rest (path_at f h trip.rest h trip.round i (omega (arith, below)))
 
-module _ {V DE UE F : Type 0} (m : Mesh V DE UE F) (mesh : IsMesh m) (triangles : AllTriangles m.shape) (at : ℕ → Point) (plane : IsPlane at m.shape)
+module _ {V DE UE F : Type 0} (m : Mesh V DE UE F) (mesh : IsMesh m) (triangles : AllTriangles m.shape) (at : ℕ → Point) (plane : TrianglesTurnLeft at m.shape)
     (convex : IsConvex at m.shape) (hull : IsHull at m.shape) (h : ℕ) (live : IsLive m.shape h)
     (inner : (k : ℕ) → IsLive m.shape k → origin_of m.shape k ≡ origin_of m.shape h → 0 < face_of m.shape k) where
   abbrev s : Shape
@@ -91,13 +91,10 @@ module _ {V DE UE F : Type 0} (m : Mesh V DE UE F) (mesh : IsMesh m) (triangles 
   end_next : (k : ℕ) → end_of s (ccw k) ≡ origin_of s (prev_of s k)
   end_next k = ap (origin_of s) (rev-rev (prev_of s k))
 
-  ends_before : (k : ℕ) → IsLive s k → end_of s (prev_of s k) ≡ origin_of s k
-  ends_before k live_k = sym (mesh.sound.joined (prev_of s k) (prev-live mesh.sound k live_k)) ∙ ap (origin_of s) ((map-sound mesh.sound).next-prev k live_k)
-
   pub out_next : (k : ℕ) → Out k → Out (ccw k)
   out_next k out =
       let live_next : IsLive s (ccw k) = rev_live (map_of s) (prev_of s k) (prev-live mesh.sound k out.alive) in
-      let from_next : origin_of s (ccw k) ≡ o = ends_before k out.alive ∙ out.from in
+      let from_next : origin_of s (ccw k) ≡ o = ends_before m mesh k out.alive ∙ out.from in
       record { alive = live_next; from = from_next; on = inner (ccw k) live_next from_next }
 
   pub out : (i : ℕ) → Out (spin i)
@@ -130,7 +127,7 @@ module _ {V DE UE F : Type 0} (m : Mesh V DE UE F) (mesh : IsMesh m) (triangles 
           | inl is ↦ absurd (mesh.sound.two_ends b out_b.alive (out_b.from ∙ sym out_a.from ∙ ap (origin_of s) is ∙ mesh.sound.joined b out_b.alive))
           | inr is ↦ absurd
               (mesh.sound.two_ends (prev_of s b) (prev-live mesh.sound b out_b.alive)
-              (ap (origin_of s) (sym is) ∙ out_a.from ∙ sym out_b.from ∙ sym (ends_before b out_b.alive)))
+              (ap (origin_of s) (sym is) ∙ out_a.from ∙ sym out_b.from ∙ sym (ends_before m mesh b out_b.alive)))
         ]
       ]
     where
@@ -139,19 +136,9 @@ module _ {V DE UE F : Type 0} (m : Mesh V DE UE F) (mesh : IsMesh m) (triangles 
       turned x y z (inr (inl is)) = inl is
       turned x y z (inr (inr is)) = inr (inl is)
 
-  six : (a b c d e f a' b' c' d' e' f' : ℕ) → a ≡ a' → b ≡ b' → c ≡ c' → d ≡ d' → e ≡ e' → f ≡ f'
-      → AreDisjoint (at a) (at b) (at c) (at d) (at e) (at f) → AreDisjoint (at a') (at b') (at c') (at d') (at e') (at f')
-  six a b c d e f a' b' c' d' e' f' ea eb ec ed ee ef disjoint =
-      subst (λ (k : ℕ). AreDisjoint (at a') (at b') (at c') (at d') (at e') (at k)) ef
-      (subst (λ (k : ℕ). AreDisjoint (at a') (at b') (at c') (at d') (at k) (at f)) ee
-      (subst (λ (k : ℕ). AreDisjoint (at a') (at b') (at c') (at k) (at e) (at f)) ed
-      (subst (λ (k : ℕ). AreDisjoint (at a') (at b') (at k) (at d) (at e) (at f)) ec
-      (subst (λ (k : ℕ). AreDisjoint (at a') (at k) (at c) (at d) (at e) (at f)) eb
-      (subst (λ (k : ℕ). AreDisjoint (at k) (at b) (at c) (at d) (at e) (at f)) ea disjoint)))))
-
   apart : (a b : ℕ) → Out a → Out b → a ≢ b → AreDisjoint (at o) (at (end_of s a)) (at (end_of s (ccw a))) (at o) (at (end_of s b)) (at (end_of s (ccw b)))
   apart a b out_a out_b differ =
-      six (origin_of s a) (origin_of s (next_of s a)) (origin_of s (prev_of s a)) (origin_of s b) (origin_of s (next_of s b)) (origin_of s (prev_of s b))
+      six_corners at (origin_of s a) (origin_of s (next_of s a)) (origin_of s (prev_of s a)) (origin_of s b) (origin_of s (next_of s b)) (origin_of s (prev_of s b))
       o (end_of s a) (end_of s (ccw a)) o (end_of s b) (end_of s (ccw b))
       out_a.from (mesh.sound.joined a out_a.alive) (sym (end_next a)) out_b.from (mesh.sound.joined b out_b.alive) (sym (end_next b))
       (disjoint_at m mesh triangles at plane convex hull a b out_a.alive out_a.on out_b.alive out_b.on (λ same. differ (one_on_face a b out_a out_b same)))

@@ -14,26 +14,24 @@ use Rattle.dcel_plane.specs.Edges.{edges_of_flip}
 use Rattle.dcel_plane.specs.Plane.{ListsCircled}
 use Rattle.dcel_plane.proofs.edits.Flipped.{flip_lists}
 use Rattle.dcel_maps.proofs.edits.Flips.{flipped_mesh}
-use Rattle.dcel_plane.specs.segments.Segments.{Becomes, CanTurnEach, IsChannel, IsPlanar, flipped_each, touched, widths}
+use Rattle.dcel_plane.specs.segments.Segments.{Becomes, CanTurnEach, IsChannel, TriangulatesItsHull, flipped_each, touched, widths}
 use Rattle.dcel_plane.specs.removal.Wheels.{CanTurn}
 use Rattle.dcel_plane.proofs.segments.Channels.{all_cross, flip_keeps_channel}
 use Rattle.dcel_plane.proofs.segments.Gates.{peak_can_turn}
 use Rattle.dcel_plane.proofs.hull.Keeping.{flip_keeps_convex, flip_keeps_hull}
 use Rattle.dcel_plane.proofs.segments.Peaks.{HasPeak, Joins, empty_joins, ends_of, has_peak, more_width}
 use Rattle.dcel_plane.proofs.removal.Turnable.{turn_keeps_plane}
+use Rattle.dcel_plane.proofs.hull.Becomes.{of_one}
 
 within_abs : (z : ℤ) → z ≤ℤ pos (unsigned_abs z)
 within_abs (pos n) = (let e : unsigned_abs (pos n) ≡ n = refl in omega (arith, ordered, e))
 within_abs (negsuc n) = (let e : unsigned_abs (negsuc n) ≡ suc n = refl in omega (arith, ordered, e))
 
-only_one : (k x : ℕ) → 0 < count_of k (x ∷ []) → k ≡ x
-only_one k x there = elim (cases_eq k x) [ inl is ↦ is | inr not ↦ absurd (let c = count-other k x [] not in omega (arith, c, there)) ]
-
 -- what stands in its place is a half of its edge
 pub kinds : (at : ℕ → Point) (s : Shape) (v w h : ℕ) (new : List ℕ) → Becomes at s v w h new → (k : ℕ) → 0 < count_of k new → k / 2 ≡ h / 2
-kinds at s v w h new (inl again) k there = ap (λ (i : ℕ). i / 2) (only_one k h (subst (λ (l : List ℕ). 0 < count_of k l) again.2 there))
+kinds at s v w h new (inl again) k there = ap (λ (i : ℕ). i / 2) (of_one k h (subst (λ (l : List ℕ). 0 < count_of k l) again.2 there))
 kinds at s v w h new (inr (inl turned)) k there =
-    ap (λ (i : ℕ). i / 2) (only_one k (rev h) (subst (λ (l : List ℕ). 0 < count_of k l) turned.2 there)) ∙ rev-half h
+    ap (λ (i : ℕ). i / 2) (of_one k (rev h) (subst (λ (l : List ℕ). 0 < count_of k l) turned.2 there)) ∙ rev-half h
 kinds at s v w h new (inr (inr gone)) k there = absurd (let e = subst (λ (l : List ℕ). 0 < count_of k l) gone.2 there in omega (arith, e))
 
 -- what stands in the new list stood in the old one, or is a half of the edge
@@ -53,7 +51,7 @@ in_old top front new back old parts halves k there =
       )
     ]
 
-pub turned_planar : {V DE UE F : Type 0} (at : ℕ → Point) (m : Mesh V DE UE F) (u : ℕ) → IsPlanar at m → CanTurn at m.shape u → IsPlanar at (edge_flipped m u)
+pub turned_planar : {V DE UE F : Type 0} (at : ℕ → Point) (m : Mesh V DE UE F) (u : ℕ) → TriangulatesItsHull at m → CanTurn at m.shape u → TriangulatesItsHull at (edge_flipped m u)
 turned_planar at m u whole turn = record {
   mesh = flipped_mesh m u whole.mesh turn.can;
   triangles = flipped m whole.triangles u;
@@ -68,22 +66,22 @@ pub record IsMade {V DE UE F : Type 0} (at : ℕ → Point) (m : Mesh V DE UE F)
   pub can : CanTurnEach at m edges
   pub only : (u : ℕ) → 0 < count_of u edges → (h : ℕ) × (0 < count_of h crossed) × (h / 2 ≡ u)
   pub lists : (due : List ℕ) → ListsCircled at m.shape due → ListsCircled at (flipped_each m edges).shape (due ++ touched m edges)
-  pub whole : IsPlanar at (flipped_each m edges)
+  pub whole : TriangulatesItsHull at (flipped_each m edges)
   pub joins : Joins (flipped_each m edges) whole.mesh whole.triangles v w
 
 module _ (V DE UE F : Type 0) (at : ℕ → Point) (v w : ℕ) (differ : v ≢ w) where
   abbrev Makes : ℕ → Type 0
-  Makes n = (m : Mesh V DE UE F) → IsPlanar at m → (list : List ℕ) → IsChannel at m.shape v w list → widths at m.shape v w list ≤ℤ pos n → IsMade at m v w list
+  Makes n = (m : Mesh V DE UE F) → TriangulatesItsHull at m → (list : List ℕ) → IsChannel at m.shape v w list → widths at m.shape v w list ≤ℤ pos n → IsMade at m v w list
 
   -- one flip
-  module _ (m : Mesh V DE UE F) (whole : IsPlanar at m) (h : ℕ) (rest : List ℕ) (channel : IsChannel at m.shape v w (h ∷ rest)) where
+  module _ (m : Mesh V DE UE F) (whole : TriangulatesItsHull at m) (h : ℕ) (rest : List ℕ) (channel : IsChannel at m.shape v w (h ∷ rest)) where
     found : HasPeak m whole.mesh whole.triangles at whole.plane whole.convex v w (ends_of at m.shape v w (h ∷ rest) channel) (h ∷ rest)
     found = has_peak m whole.mesh whole.triangles at whole.plane whole.convex v w (ends_of at m.shape v w (h ∷ rest) channel) h rest channel
 
     record IsStep : Type 0 where
       u : ℕ
       can : CanTurn at m.shape u
-      next : IsPlanar at (edge_flipped m u)
+      next : TriangulatesItsHull at (edge_flipped m u)
       list : List ℕ
       again : IsChannel at (edge_flipped m u).shape v w list
       narrower : widths at (edge_flipped m u).shape v w list <ℤ widths at m.shape v w (h ∷ rest)
@@ -149,8 +147,8 @@ module _ (V DE UE F : Type 0) (at : ℕ → Point) (v w : ℕ) (differ : v ≢ w
         joins = made.joins;
       }
 
-  pub made : (m : Mesh V DE UE F) → IsPlanar at m → (list : List ℕ) → IsChannel at m.shape v w list → IsMade at m v w list
+  pub made : (m : Mesh V DE UE F) → TriangulatesItsHull at m → (list : List ℕ) → IsChannel at m.shape v w list → IsMade at m v w list
   made m whole list channel = makes (unsigned_abs (widths at m.shape v w list)) m whole list channel (within_abs (widths at m.shape v w list))
 
-pub made_of : {V DE UE F : Type 0} (at : ℕ → Point) (v w : ℕ) → v ≢ w → (m : Mesh V DE UE F) → IsPlanar at m → (list : List ℕ) → IsChannel at m.shape v w list → IsMade at m v w list
+pub made_of : {V DE UE F : Type 0} (at : ℕ → Point) (v w : ℕ) → v ≢ w → (m : Mesh V DE UE F) → TriangulatesItsHull at m → (list : List ℕ) → IsChannel at m.shape v w list → IsMade at m v w list
 made_of {V} {DE} {UE} {F} at v w differ m whole list channel = made V DE UE F at v w differ m whole list channel

@@ -13,16 +13,16 @@ use Rattle.dcel_maps.specs.Shapes.{IsLive, IsMesh, Mesh, Shape, end_of, face_of,
 use Rattle.dcel_maps.specs.Triangulations.{AllTriangles}
 use Rattle.dcel_maps.specs.Words.{count_of}
 use Rattle.dcel_maps.proofs.maps.Soundness.{rev_live}
-use Rattle.dcel_maps.proofs.maps.Triangles.{IsTriangleOf, by_triangle, off_triangle}
-use Rattle.dcel_maps.proofs.shapes.Maps.{map-sound}
+use Rattle.dcel_maps.proofs.maps.Triangles.{IsTriangleOf}
 use Rattle.dcel_maps.proofs.words.Counts.{count-append, count-equal, count-later, count-other, count-same}
-use Rattle.dcel_plane.specs.Plane.{IsPlane, TurnsLeft}
+use Rattle.dcel_plane.specs.Plane.{TrianglesTurnLeft, TurnsLeft}
 use Rattle.dcel_plane.specs.covering.Covering.{IsConvex}
-use Rattle.dcel_plane.specs.segments.Segments.{AreEnds, Becomes, Crosses, IsChannel, IsCorner, IsPeak, Leads, corner_before, corner_beyond, offset, width, widths}
+use Rattle.dcel_plane.specs.segments.Segments.{AreEnds, Becomes, Crosses, IsChannel, IsCorner, IsPeak, Leads, corner_before, corner_beyond, orient2d_by, width, widths}
 use Rattle.dcel_plane.proofs.segments.FlipFaces.{Flipped, flipped_at}
 use Rattle.dcel_plane.proofs.segments.Gates.{at_end, at_start, far, inner_far, inner_near, left_far, left_near, near, peak_can_turn}
 use Rattle.dcel_plane.proofs.covering.Inside.{on_end, on_start}
 use Rattle.dcel_plane.proofs.segments.Levers.{ahead_at_left, ahead_at_right, behind_at_left, behind_at_right}
+use Rattle.dcel_plane.proofs.covering.Triangles.{of_face}
 
 -- each half edge of the list crosses the segment
 pub all_cross : (at : ℕ → Point) (s : Shape) (v w f g : ℕ) (list : List ℕ) → Leads at s v w f list g → (k : ℕ) → 0 < count_of k list → Crosses at s v w k
@@ -46,7 +46,7 @@ widths_on at s v w (h ∷ a) b = (let e = widths_on at s v w a b in one_more (wi
     one_more : (x y z t : ℤ) → y ≡ z +ℤ t → x +ℤ y ≡ (x +ℤ z) +ℤ t
     one_more x y z t e = omega (arith, ordered, e)
 
-module _ {V DE UE F : Type 0} (m : Mesh V DE UE F) (mesh : IsMesh m) (triangles : AllTriangles m.shape) (at : ℕ → Point) (plane : IsPlane at m.shape)
+module _ {V DE UE F : Type 0} (m : Mesh V DE UE F) (mesh : IsMesh m) (triangles : AllTriangles m.shape) (at : ℕ → Point) (plane : TrianglesTurnLeft at m.shape)
     (convex : IsConvex at m.shape) (v w : ℕ) (ends : AreEnds m.shape v w) (h : ℕ) (crosses : Crosses at m.shape v w h) (peak : IsPeak at m.shape v w h) where
   abbrev s : Shape
   s = m.shape
@@ -55,7 +55,7 @@ module _ {V DE UE F : Type 0} (m : Mesh V DE UE F) (mesh : IsMesh m) (triangles 
   n = (edge_flipped m (h / 2)).shape
 
   abbrev off : ℕ → ℤ
-  off k = offset at v w k
+  off k = orient2d_by at v w k
 
   abbrev f : ℕ
   f = face_of m.shape h
@@ -107,14 +107,10 @@ module _ {V DE UE F : Type 0} (m : Mesh V DE UE F) (mesh : IsMesh m) (triangles 
   far_prev_to = sym (mesh.sound.joined (prev_of s (rev h)) tri_far.live_z) ∙ ap (origin_of s) tri_far.next_z
 
   on_near : (Q : ℕ → Type 0) → Q h → Q (next_of s h) → Q (prev_of s h) → (k : ℕ) → IsLive s k → face_of s k ≡ f → Q k
-  on_near Q a b c k live on =
-      by_triangle Q h (next_of s h) (prev_of s h) k (a, b, c)
-      (λ out. absurd (off_triangle (map_of s) (map-sound mesh.sound) f h (next_of s h) (prev_of s h) tri k live out on))
+  on_near = of_face m mesh f h (next_of s h) (prev_of s h) tri
 
   on_far : (Q : ℕ → Type 0) → Q (rev h) → Q (next_of s (rev h)) → Q (prev_of s (rev h)) → (k : ℕ) → IsLive s k → face_of s k ≡ g → Q k
-  on_far Q a b c k live on =
-      by_triangle Q (rev h) (next_of s (rev h)) (prev_of s (rev h)) k (a, b, c)
-      (λ out. absurd (off_triangle (map_of s) (map-sound mesh.sound) g (rev h) (next_of s (rev h)) (prev_of s (rev h)) tri_far k live out on))
+  on_far = of_face m mesh g (rev h) (next_of s (rev h)) (prev_of s (rev h)) tri_far
 
   -- half edges that cross, by where they start and end
   pub record Passes (a b : ℕ) : Type 0 where

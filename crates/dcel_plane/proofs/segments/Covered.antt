@@ -1,8 +1,7 @@
 -- A flip between two triangles that go round counterclockwise afterwards too leaves each place covered that was.
-use Rattle.std.proofs.Common.{◌≡◌, ◌≢◌, ◌⊎◌, inl, inr, ℕ, ◌+◌, ◌*◌, ◌<◌, List, [], ◌∷◌, length, refl, sym, ap, ◌∙◌, subst, pos, ◌≤ℤ◌, slice_set, arith}
+use Rattle.std.proofs.Common.{◌≡◌, ◌≢◌, ◌⊎◌, inl, inr, ℕ, ◌+◌, ◌*◌, ◌<◌, List, [], ◌∷◌, length, refl, sym, ap, ◌∙◌, subst, pos, ◌≤ℤ◌, arith}
 use Rattle.std.proofs.lemmas.Bool.{cases_eq}
 use Rattle.std.proofs.lemmas.Int.{by_lt_z}
-use Rattle.std.proofs.lemmas.List.{get_or-set_other}
 use Rattle.dcel_fixed.specs.HalfEdges.{rev}
 use Rattle.dcel_fixed.proofs.Halves.{rev-double, rev-double-suc, rev-rev}
 use Rattle.dcel_predicates.specs.declared.point.Point.{Point}
@@ -17,22 +16,21 @@ use Rattle.dcel_maps.proofs.Triangulations.{flipped}
 use Rattle.dcel_maps.proofs.edits.Flips.{at_flip, flipped_mesh}
 use Rattle.dcel_maps.proofs.maps.Soundness.{rev_live}
 use Rattle.dcel_maps.proofs.shapes.Maps.{face-live}
-use Rattle.dcel_maps.proofs.walks.Links.{links_stand}
 use Rattle.dcel_maps.proofs.words.Counts.{count-later, count-same}
-use Rattle.dcel_maps.proofs.words.Reading.{face_in_word, live_in}
 use Rattle.dcel_maps.proofs.words.Turns.{from_least-turn, turns_back}
-use Rattle.dcel_plane.specs.Plane.{IsPlane, TurnsLeft}
+use Rattle.dcel_maps.proofs.edits.Around.{at_edge}
+use Rattle.dcel_plane.specs.Plane.{TrianglesTurnLeft, TurnsLeft}
 use Rattle.dcel_plane.proofs.edits.Corners.{three_items, turned_along}
-use Rattle.dcel_plane.proofs.edits.Flipped.{from_end, from_start, left_before, origin_after, origin_e, origin_far, origin_near, origin_same, origin_t, origin_t_after, right_before}
+use Rattle.dcel_plane.proofs.edits.Flipped.{from_end, from_start, left_before, origin_after, origin_e, origin_far, origin_near, origin_same, origin_t, origin_t_after, right_before, starts_else, word_else, word_f, word_g}
 use Rattle.dcel_plane.specs.covering.Covering.{CoversHull}
 use Rattle.dcel_plane.specs.covering.Places.{IsIn, Place, orient_at}
 use Rattle.dcel_plane.proofs.covering.Inside.{not_right, on_end, on_start, other_way}
 use Rattle.dcel_plane.proofs.covering.Triangles.{at_word, same_face, word_at}
 use Rattle.dcel_plane.proofs.hull.Keeping.{flip_outer}
 use Rattle.dcel_plane.specs.removal.Wheels.{CanTurn}
-use Rattle.dcel_plane.specs.segments.Segments.{CanTurnEach, IsPlanar, flipped_each}
+use Rattle.dcel_plane.specs.segments.Segments.{CanTurnEach, TriangulatesItsHull, flipped_each}
 use Rattle.dcel_plane.proofs.segments.Becoming.{turned_planar}
-use Rattle.dcel_plane.proofs.segments.FlipFaces.{Flipped, of_even, word_f, word_g}
+use Rattle.dcel_plane.proofs.segments.FlipFaces.{Flipped, of_even}
 
 -- a place in one of the triangles at a diagonal of a quadrilateral lies in one of those at the other one
 module _ (a b c d : Point) (near : TurnsLeft a b c) (far : TurnsLeft b a d) (first : TurnsLeft c d b) (second : TurnsLeft d c a) (p : Place) where
@@ -52,7 +50,7 @@ module _ (a b c d : Point) (near : TurnsLeft a b c) (far : TurnsLeft b a d) (fir
         is.1,
       ))
 
-module _ {V DE UE F : Type 0} (m : Mesh V DE UE F) (mesh : IsMesh m) (triangles : AllTriangles m.shape) (at : ℕ → Point) (plane : IsPlane at m.shape) (u : ℕ)
+module _ {V DE UE F : Type 0} (m : Mesh V DE UE F) (mesh : IsMesh m) (triangles : AllTriangles m.shape) (at : ℕ → Point) (plane : TrianglesTurnLeft at m.shape) (u : ℕ)
     (turn : CanTurn at m.shape u) where
   abbrev s : Shape
   s = m.shape
@@ -60,18 +58,7 @@ module _ {V DE UE F : Type 0} (m : Mesh V DE UE F) (mesh : IsMesh m) (triangles 
   abbrev n : Shape
   n = (edge_flipped m u).shape
 
-  abbrev e : ℕ
-  e = 2 * u
-
-  abbrev t : ℕ
-  t = 2 * u + 1
-
-  abbrev f : ℕ
-  f = face_of m.shape (2 * u)
-
-  abbrev g : ℕ
-  g = face_of m.shape (2 * u + 1)
-
+  open (at_edge m.shape u) use {e, t, f, g, ep, en, tp, tn}
   open (at_flip m u mesh turn.can) use {was, facing, differ}
 
   mesh_after : IsMesh (edge_flipped m u)
@@ -109,18 +96,8 @@ module _ {V DE UE F : Type 0} (m : Mesh V DE UE F) (mesh : IsMesh m) (triangles 
     turns_far : TurnsLeft end start far
     turns_far = right_before m mesh u turn.can at plane turn.inner_facing
 
-    -- another triangle is as it was
-    word_else : (i : ℕ) → i ≢ f → i ≢ g → word_of n.words i ≡ word_of s.words i
-    word_else i not_f not_g =
-        get_or-set_other (slice_set s.words f (from_least (e ∷ prev_of s t ∷ next_of s e ∷ []))) g i (from_least (t ∷ prev_of s e ∷ next_of s t ∷ [])) [] not_g
-        ∙ get_or-set_other s.words f i (from_least (e ∷ prev_of s t ∷ next_of s e ∷ [])) [] not_f
-
     start_in : (i x y z k : ℕ) → i ≢ f → i ≢ g → word_of s.words i ≡ x ∷ y ∷ z ∷ [] → 0 < count_of k (x ∷ y ∷ z ∷ []) → origin_of n k ≡ origin_of s k
-    start_in i x y z k not_f not_g is there =
-        let found : 0 < count_of k (word_of s.words i) = subst (λ (l : List ℕ). 0 < count_of k l) (sym is) there in
-        let on : face_of s k ≡ i = face_in_word (map_of s) s.words (links_stand mesh.sound) k i found in
-        origin_same m mesh u turn.can at k (live_in (map_of s) s.words (links_stand mesh.sound) k i found)
-        (λ same. not_f (sym on ∙ ap (face_of s) same)) (λ same. not_g (sym on ∙ ap (face_of s) same))
+    start_in i x y z k not_f not_g is there = starts_else m mesh u turn.can i k not_f not_g (subst (λ (l : List ℕ). 0 < count_of k l) (sym is) there)
 
     turns_into : (w : List ℕ) (i j x y z : ℕ) → i ≡ j → word_of n.words j ≡ from_least w → word_of n.words i ≡ x ∷ y ∷ z ∷ [] → TurnsTo w (x ∷ y ∷ z ∷ [])
     turns_into w i j x y z same word is = subst (λ (l : List ℕ). TurnsTo w l) (sym word ∙ ap (word_of n.words) (sym same) ∙ is) (from_least-turn w)
@@ -138,30 +115,30 @@ module _ {V DE UE F : Type 0} (m : Mesh V DE UE F) (mesh : IsMesh m) (triangles 
           subst (λ (k : ℕ). length (word_of n.words k) ≡ 3) on
           (flipped m triangles u (face_of n h) (subst (λ (k : ℕ). 0 < k) (sym on) inner) (face-live mesh_after.sound h live))
 
-      off_first : ¬ IsIn (at (origin_of s (prev_of s e))) (at (origin_of s (prev_of s t))) (at (origin_of s t)) p
+      off_first : ¬ IsIn (at (origin_of s ep)) (at (origin_of s tp)) (at (origin_of s t)) p
       off_first is =
-          off_new f e (prev_of s t) (next_of s e) turn.inner (three_on e f was.live_x flip.here turn.inner) (word_f m mesh u turn.can)
-          (named (origin_of s (prev_of s e)) (origin_of s (prev_of s t)) (origin_of s t) (origin_of n e) (origin_of n (prev_of s t)) (origin_of n (next_of s e))
+          off_new f e tp en turn.inner (three_on e f was.live_x flip.here turn.inner) (word_f m mesh u turn.can)
+          (named (origin_of s ep) (origin_of s tp) (origin_of s t) (origin_of n e) (origin_of n tp) (origin_of n en)
           (sym (origin_e m mesh u turn.can)) (sym (origin_far m mesh u turn.can at)) (sym (from_end m mesh u turn.can) ∙ sym (origin_after m mesh u turn.can at)) is)
 
-      off_second : ¬ IsIn (at (origin_of s (prev_of s t))) (at (origin_of s (prev_of s e))) (at (origin_of s e)) p
+      off_second : ¬ IsIn (at (origin_of s tp)) (at (origin_of s ep)) (at (origin_of s e)) p
       off_second is =
-          off_new g t (prev_of s e) (next_of s t) turn.inner_facing (three_on t g facing.live_x flip.there turn.inner_facing) (word_g m mesh u turn.can)
-          (named (origin_of s (prev_of s t)) (origin_of s (prev_of s e)) (origin_of s e) (origin_of n t) (origin_of n (prev_of s e)) (origin_of n (next_of s t))
+          off_new g t ep tn turn.inner_facing (three_on t g facing.live_x flip.there turn.inner_facing) (word_g m mesh u turn.can)
+          (named (origin_of s tp) (origin_of s ep) (origin_of s e) (origin_of n t) (origin_of n ep) (origin_of n tn)
           (sym (origin_t m mesh u turn.can)) (sym (origin_near m mesh u turn.can at)) (sym (from_start m mesh u turn.can) ∙ sym (origin_t_after m mesh u turn.can at)) is)
 
-      off_even : Off (origin_of s) e (next_of s e) (prev_of s e)
+      off_even : Off (origin_of s) e en ep
       off_even is =
           elim (in_either start end near far turns_near turns_far turn.first turn.second p
-          (named (origin_of s e) (origin_of s (next_of s e)) (origin_of s (prev_of s e)) (origin_of s e) (origin_of s t) (origin_of s (prev_of s e)) refl (from_end m mesh u turn.can) refl is)) [
+          (named (origin_of s e) (origin_of s en) (origin_of s ep) (origin_of s e) (origin_of s t) (origin_of s ep) refl (from_end m mesh u turn.can) refl is)) [
             | inl there ↦ off_first there
             | inr there ↦ off_second there
           ]
 
-      off_odd : Off (origin_of s) t (next_of s t) (prev_of s t)
+      off_odd : Off (origin_of s) t tn tp
       off_odd is =
           elim (in_either end start far near turns_far turns_near turn.second turn.first p
-          (named (origin_of s t) (origin_of s (next_of s t)) (origin_of s (prev_of s t)) (origin_of s t) (origin_of s e) (origin_of s (prev_of s t)) refl (from_start m mesh u turn.can) refl is)) [
+          (named (origin_of s t) (origin_of s tn) (origin_of s tp) (origin_of s t) (origin_of s e) (origin_of s tp) refl (from_start m mesh u turn.can) refl is)) [
             | inl there ↦ off_second there
             | inr there ↦ off_first there
           ]
@@ -172,7 +149,7 @@ module _ {V DE UE F : Type 0} (m : Mesh V DE UE F) (mesh : IsMesh m) (triangles 
           let word = word_at m mesh triangles h live inner in
           let start = start_in (face_of s h) word.a word.b word.c in
           let off : Off (origin_of s) word.a word.b word.c =
-          (λ is. none (face_of s h) word.a word.b word.c inner (word_else (face_of s h) not_f not_g ∙ word.is)
+          (λ is. none (face_of s h) word.a word.b word.c inner (word_else m mesh u turn.can (face_of s h) not_f not_g ∙ word.is)
           (named (origin_of s word.a) (origin_of s word.b) (origin_of s word.c) (origin_of n word.a) (origin_of n word.b) (origin_of n word.c)
           (sym (start word.a not_f not_g word.is (let c = count-same word.a (word.b ∷ word.c ∷ []) in omega (arith, c))))
           (sym (start word.b not_f not_g word.is (count-later word.b word.a (word.b ∷ word.c ∷ []) (let c = count-same word.b (word.c ∷ []) in omega (arith, c)))))
@@ -199,29 +176,29 @@ module _ {V DE UE F : Type 0} (m : Mesh V DE UE F) (mesh : IsMesh m) (triangles 
           turned_along (Off (origin_of s)) (turned (origin_of s)) word.a word.b word.c h (next_of s h) (prev_of s h) word.turn
           (none (face_of s h) word.a word.b word.c inner word.is)
 
-      off_near : ¬ IsIn (at (origin_of s e)) (at (origin_of s t)) (at (origin_of s (prev_of s e))) p
+      off_near : ¬ IsIn (at (origin_of s e)) (at (origin_of s t)) (at (origin_of s ep)) p
       off_near is =
           off_at e was.live_x turn.inner
-          (named (origin_of s e) (origin_of s t) (origin_of s (prev_of s e)) (origin_of s e) (origin_of s (next_of s e)) (origin_of s (prev_of s e)) refl (sym (from_end m mesh u turn.can)) refl is)
+          (named (origin_of s e) (origin_of s t) (origin_of s ep) (origin_of s e) (origin_of s en) (origin_of s ep) refl (sym (from_end m mesh u turn.can)) refl is)
 
-      off_far : ¬ IsIn (at (origin_of s t)) (at (origin_of s e)) (at (origin_of s (prev_of s t))) p
+      off_far : ¬ IsIn (at (origin_of s t)) (at (origin_of s e)) (at (origin_of s tp)) p
       off_far is =
           off_at t facing.live_x turn.inner_facing
-          (named (origin_of s t) (origin_of s e) (origin_of s (prev_of s t)) (origin_of s t) (origin_of s (next_of s t)) (origin_of s (prev_of s t)) refl (sym (from_start m mesh u turn.can)) refl is)
+          (named (origin_of s t) (origin_of s e) (origin_of s tp) (origin_of s t) (origin_of s tn) (origin_of s tp) refl (sym (from_start m mesh u turn.can)) refl is)
 
-      off_one : Off (origin_of n) e (prev_of s t) (next_of s e)
+      off_one : Off (origin_of n) e tp en
       off_one is =
           elim (in_either near far end start turn.first turn.second turns_far turns_near p
-          (named (origin_of n e) (origin_of n (prev_of s t)) (origin_of n (next_of s e)) (origin_of s (prev_of s e)) (origin_of s (prev_of s t)) (origin_of s t)
+          (named (origin_of n e) (origin_of n tp) (origin_of n en) (origin_of s ep) (origin_of s tp) (origin_of s t)
           (origin_e m mesh u turn.can) (origin_far m mesh u turn.can at) (origin_after m mesh u turn.can at ∙ from_end m mesh u turn.can) is)) [
             | inl there ↦ off_far there
             | inr there ↦ off_near there
           ]
 
-      off_two : Off (origin_of n) t (prev_of s e) (next_of s t)
+      off_two : Off (origin_of n) t ep tn
       off_two is =
           elim (in_either far near start end turn.second turn.first turns_near turns_far p
-          (named (origin_of n t) (origin_of n (prev_of s e)) (origin_of n (next_of s t)) (origin_of s (prev_of s t)) (origin_of s (prev_of s e)) (origin_of s e)
+          (named (origin_of n t) (origin_of n ep) (origin_of n tn) (origin_of s tp) (origin_of s ep) (origin_of s e)
           (origin_t m mesh u turn.can) (origin_near m mesh u turn.can at) (origin_t_after m mesh u turn.can at ∙ from_start m mesh u turn.can) is)) [
             | inl there ↦ off_near there
             | inr there ↦ off_far there
@@ -229,7 +206,7 @@ module _ {V DE UE F : Type 0} (m : Mesh V DE UE F) (mesh : IsMesh m) (triangles 
 
       off_same : (i x y z : ℕ) → 0 < i → i ≢ f → i ≢ g → word_of n.words i ≡ x ∷ y ∷ z ∷ [] → Off (origin_of n) x y z
       off_same i x y z inner not_f not_g is there =
-          let word : word_of s.words i ≡ x ∷ y ∷ z ∷ [] = sym (word_else i not_f not_g) ∙ is in
+          let word : word_of s.words i ≡ x ∷ y ∷ z ∷ [] = sym (word_else m mesh u turn.can i not_f not_g) ∙ is in
           none i x y z inner word
           (named (origin_of n x) (origin_of n y) (origin_of n z) (origin_of s x) (origin_of s y) (origin_of s z)
           (start_in i x y z x not_f not_g word (let c = count-same x (y ∷ z ∷ []) in omega (arith, c)))
@@ -239,12 +216,12 @@ module _ {V DE UE F : Type 0} (m : Mesh V DE UE F) (mesh : IsMesh m) (triangles 
       pub off_each : (i x y z : ℕ) → 0 < i → word_of n.words i ≡ x ∷ y ∷ z ∷ [] → Off (origin_of n) x y z
       off_each i x y z inner is = elim (cases_eq i f) [
         | inl same ↦
-            turned_along (Off (origin_of n)) (turned (origin_of n)) e (prev_of s t) (next_of s e) x y z
-            (turns_into (e ∷ prev_of s t ∷ next_of s e ∷ []) i f x y z same (word_f m mesh u turn.can) is) off_one
+            turned_along (Off (origin_of n)) (turned (origin_of n)) e tp en x y z
+            (turns_into (e ∷ tp ∷ en ∷ []) i f x y z same (word_f m mesh u turn.can) is) off_one
         | inr not_f ↦ elim (cases_eq i g) [
           | inl same ↦
-              turned_along (Off (origin_of n)) (turned (origin_of n)) t (prev_of s e) (next_of s t) x y z
-              (turns_into (t ∷ prev_of s e ∷ next_of s t ∷ []) i g x y z same (word_g m mesh u turn.can) is) off_two
+              turned_along (Off (origin_of n)) (turned (origin_of n)) t ep tn x y z
+              (turns_into (t ∷ ep ∷ tn ∷ []) i g x y z same (word_g m mesh u turn.can) is) off_two
           | inr not_g ↦ off_same i x y z inner not_f not_g is
         ]
       ]
@@ -291,12 +268,12 @@ module _ {V DE UE F : Type 0} (m : Mesh V DE UE F) (mesh : IsMesh m) (triangles 
   }
 
 -- and flips one after another
-pub each_covers : {V DE UE F : Type 0} (at : ℕ → Point) (m : Mesh V DE UE F) (list : List ℕ) → IsPlanar at m → CanTurnEach at m list → CoversHull at m.shape
+pub each_covers : {V DE UE F : Type 0} (at : ℕ → Point) (m : Mesh V DE UE F) (list : List ℕ) → TriangulatesItsHull at m → CanTurnEach at m list → CoversHull at m.shape
     → CoversHull at (flipped_each m list).shape
 each_covers at m [] planar can covers = covers
 each_covers at m (u ∷ list) planar can covers =
     each_covers at (edge_flipped m u) list (turned_planar at m u planar can.0) can.1 (turn_covers m planar.mesh planar.triangles at planar.plane u can.0 covers)
 
-pub each_planar : {V DE UE F : Type 0} (at : ℕ → Point) (m : Mesh V DE UE F) (list : List ℕ) → IsPlanar at m → CanTurnEach at m list → IsPlanar at (flipped_each m list)
+pub each_planar : {V DE UE F : Type 0} (at : ℕ → Point) (m : Mesh V DE UE F) (list : List ℕ) → TriangulatesItsHull at m → CanTurnEach at m list → TriangulatesItsHull at (flipped_each m list)
 each_planar at m [] planar can = planar
 each_planar at m (u ∷ list) planar can = each_planar at (edge_flipped m u) list (turned_planar at m u planar can.0) can.1

@@ -1,32 +1,31 @@
 -- Half edges that cross a segment between two vertices, and their flips.
-use Rattle.std.proofs.Common.{◌≡◌, ◌≢◌, inl, inr, ℕ, ◌/◌, ◌<◌, sym, ap, ◌∙◌, subst, ℤ, pos, ◌≤ℤ◌, refl, eq-zero-or-pos, arith}
+use Rattle.std.proofs.Common.{◌≡◌, inl, inr, ℕ, ◌/◌, ◌<◌, sym, ap, ◌∙◌, subst, ℤ, pos, ◌≤ℤ◌, refl, eq-zero-or-pos, arith}
 use Rattle.dcel_fixed.specs.HalfEdges.{rev}
 use Rattle.dcel_fixed.proofs.Halves.{rev-rev}
 use Rattle.dcel_predicates.specs.declared.point.Point.{Point}
 use Rattle.dcel_predicates.specs.Determinants.{orient2d_of}
 use Rattle.dcel_predicates.proofs.Points.{orient2d-first_swapped}
 use Rattle.dcel_predicates.proofs.Signs.{ordered}
-use Rattle.dcel_maps.specs.Conditions.{IsTriangle}
 use Rattle.dcel_maps.specs.Shapes.{IsLive, IsMesh, Mesh, Shape, end_of, face_of, map_of, next_of, origin_of, prev_of}
 use Rattle.dcel_maps.specs.Triangulations.{AllTriangles}
 use Rattle.dcel_maps.proofs.maps.Soundness.{rev_live}
 use Rattle.dcel_maps.proofs.maps.Triangles.{IsTriangleOf}
-use Rattle.dcel_plane.specs.Plane.{IsPlane, TurnsLeft}
+use Rattle.dcel_plane.specs.Plane.{TrianglesTurnLeft, TurnsLeft}
 use Rattle.dcel_plane.proofs.edits.Corners.{corners_are, left_of_triangle}
 use Rattle.dcel_plane.specs.covering.Covering.{IsConvex}
-use Rattle.dcel_plane.specs.segments.Segments.{AreEnds, Crosses, IsPeak, corner_before, corner_beyond, offset}
+use Rattle.dcel_plane.specs.segments.Segments.{AreEnds, Crosses, IsPeak, corner_before, corner_beyond, orient2d_by}
 use Rattle.dcel_plane.specs.removal.Wheels.{CanTurn}
 use Rattle.dcel_plane.proofs.segments.Levers.{turns_at_left, turns_at_right}
-use Rattle.dcel_plane.proofs.removal.Turnable.{both_halves}
+use Rattle.dcel_plane.proofs.removal.Turnable.{turned_can}
 use Rattle.dcel_plane.proofs.covering.Triangles.{is_triangle, round}
 
-module _ {V DE UE F : Type 0} (m : Mesh V DE UE F) (mesh : IsMesh m) (triangles : AllTriangles m.shape) (at : ℕ → Point) (plane : IsPlane at m.shape)
+module _ {V DE UE F : Type 0} (m : Mesh V DE UE F) (mesh : IsMesh m) (triangles : AllTriangles m.shape) (at : ℕ → Point) (plane : TrianglesTurnLeft at m.shape)
     (convex : IsConvex at m.shape) (v w : ℕ) (ends : AreEnds m.shape v w) where
   abbrev s : Shape
   s = m.shape
 
   abbrev off : ℕ → ℤ
-  off k = offset at v w k
+  off k = orient2d_by at v w k
 
   -- where a half edge's triangle goes on
   pub on_next : (h : ℕ) → IsLive s h → origin_of s (next_of s h) ≡ end_of s h
@@ -38,7 +37,7 @@ module _ {V DE UE F : Type 0} (m : Mesh V DE UE F) (mesh : IsMesh m) (triangles 
     inner_near = elim (eq-zero-or-pos (face_of s h)) [
       | inr inner ↦ inner
       | inl outer ↦ absurd
-          (let r = subst (λ (k : ℕ). orient2d_of (at (origin_of s h)) (at (end_of s h)) (at k) ≤ℤ pos 0) ends.from_i (convex.right h ends.i crosses.live outer ends.live_i) in
+          (let r = subst (λ (k : ℕ). orient2d_of (at (origin_of s h)) (at (end_of s h)) (at k) ≤ℤ pos 0) ends.from_i (convex.supports h ends.i crosses.live outer ends.live_i).0 in
           let c = crosses.near in
           omega (arith, ordered, r, c))
     ]
@@ -54,7 +53,7 @@ module _ {V DE UE F : Type 0} (m : Mesh V DE UE F) (mesh : IsMesh m) (triangles 
       | inr inner ↦ inner
       | inl outer ↦ absurd
           (let r = subst (λ (k : ℕ). orient2d_of (at (end_of s h)) (at (origin_of s h)) (at k) ≤ℤ pos 0) ends.from_j
-          (subst (λ (i : ℕ). orient2d_of (at (end_of s h)) (at i) (at (origin_of s ends.j)) ≤ℤ pos 0) ends_rev (convex.right (rev h) ends.j live_rev outer ends.live_j)) in
+          (subst (λ (i : ℕ). orient2d_of (at (end_of s h)) (at i) (at (origin_of s ends.j)) ≤ℤ pos 0) ends_rev (convex.supports (rev h) ends.j live_rev outer ends.live_j).0) in
           let e = orient2d-first_swapped (at (origin_of s h)) (at (end_of s h)) (at w) in
           let c = crosses.far in
           omega (arith, ordered, r, e, c))
@@ -76,26 +75,6 @@ module _ {V DE UE F : Type 0} (m : Mesh V DE UE F) (mesh : IsMesh m) (triangles 
 
     -- if its corners lie between its ends, across the segment, it can be flipped
     module _ (peak : IsPeak at m.shape v w h) where
-      record Turned (a t : ℕ) : Type 0 where
-        face : 0 < face_of s a
-        facing : 0 < face_of s t
-        triangle : IsTriangle s (face_of s a)
-        triangle_facing : IsTriangle s (face_of s t)
-        corners : origin_of s (prev_of s a) ≢ origin_of s (prev_of s t)
-        first : TurnsLeft (at (origin_of s (prev_of s a))) (at (origin_of s (prev_of s t))) (at (origin_of s t))
-        second : TurnsLeft (at (origin_of s (prev_of s t))) (at (origin_of s (prev_of s a))) (at (origin_of s a))
-
-      swapped : (a t : ℕ) → Turned a t → Turned t a
-      swapped a t is = record {
-        face = is.facing;
-        facing = is.face;
-        triangle = is.triangle_facing;
-        triangle_facing = is.triangle;
-        corners = λ same. is.corners (sym same);
-        first = is.second;
-        second = is.first;
-      }
-
       pub at_end : TurnsLeft (at (corner_before s h)) (at (corner_beyond s h)) (at (end_of s h))
       at_end =
           turns_at_left (at v) (at w) (at (corner_before s h)) (at (origin_of s h)) (at (end_of s h)) (at (corner_beyond s h)) left_near left_far
@@ -106,8 +85,8 @@ module _ {V DE UE F : Type 0} (m : Mesh V DE UE F) (mesh : IsMesh m) (triangles 
           turns_at_right (at v) (at w) (at (corner_before s h)) (at (origin_of s h)) (at (end_of s h)) (at (corner_beyond s h)) left_near left_far
           peak.above peak.below peak.above_too peak.below_too
 
-      is : Turned h (rev h)
-      is = record {
+      pub peak_can_turn : CanTurn at s (h / 2)
+      peak_can_turn = turned_can at s h crosses.live (record {
         face = inner_near;
         facing = inner_far;
         triangle = is_triangle m mesh triangles h crosses.live inner_near;
@@ -119,15 +98,4 @@ module _ {V DE UE F : Type 0} (m : Mesh V DE UE F) (mesh : IsMesh m) (triangles 
             omega (arith, ordered, a, b, e));
         first = at_end;
         second = at_start;
-      }
-
-      pub peak_can_turn : CanTurn at s (h / 2)
-      peak_can_turn =
-          let found = both_halves Turned swapped h is in
-          record {
-            can = record { live = crosses.live; triangle = found.triangle; facing = found.triangle_facing; corners = found.corners };
-            inner = found.face;
-            inner_facing = found.facing;
-            first = found.first;
-            second = found.second;
-          }
+      })

@@ -1,18 +1,17 @@
 -- Points and their offsets from a segment.
-use Rattle.std.proofs.Common.{◌≡◌, [], ◌∷◌, ℕ, ℤ, pos, ◌+ℤ◌, ◌-ℤ◌, ◌*ℤ◌, ◌<ℤ◌, ◌≤ℤ◌, neg_ℤ, refl, sym, ap, ◌∙◌, subst, arith}
+use Rattle.std.proofs.Common.{◌≡◌, [], ◌∷◌, ℕ, ℤ, pos, ◌+ℤ◌, ◌-ℤ◌, ◌*ℤ◌, ◌<ℤ◌, ◌≤ℤ◌, refl, sym, ap, ◌∙◌, subst, arith}
 use Rattle.std.proofs.Math.IntN.{*ℤ_comm, *ℤ-zero}
 use Rattle.std.proofs.lemmas.Int.{by_lt_z}
 use Rattle.dcel_predicates.specs.declared.point.Point.{Point}
 use Rattle.dcel_predicates.specs.Determinants.{orient2d_of}
-use Rattle.dcel_predicates.proofs.Integers.{neg_mul}
 use Rattle.dcel_predicates.proofs.Points.{orient2d-first_swapped, orient2d-last_swapped, orient2d-turned}
 use Rattle.dcel_predicates.proofs.Signs.{both_negative, ordered, square, times, times_negative, times_positive}
-use Rattle.dcel_plane.specs.covering.Covering.{apart_along}
-use Rattle.dcel_plane.proofs.covering.Products.{below_times, factor_positive, times_below}
+use Rattle.dcel_plane.specs.covering.Covering.{dot}
+use Rattle.dcel_plane.proofs.covering.Products.{below_times, both_below, factor_positive, times_below}
 use Rattle.dcel_predicates.proofs.Ring.{Term, by_terms, minus, num, plus, times as by}
 use Rattle.dcel_predicates.proofs.Terms.{orient, spot}
 use Rattle.dcel_plane.proofs.covering.Inside.{on_end, on_start}
-use Rattle.dcel_plane.proofs.covering.Along.{dot, dot_in}
+use Rattle.dcel_plane.proofs.covering.Along.{dot_in}
 
 -- balances of products
 weighs : (a t b c d f : ℤ) → a *ℤ t ≡ (b *ℤ c) +ℤ (d *ℤ f) → pos 0 <ℤ a → pos 0 <ℤ b → pos 0 <ℤ c → pos 0 ≤ℤ d → pos 0 ≤ℤ f → pos 0 <ℤ t
@@ -35,9 +34,6 @@ weighs_down a t b c d f is ha hb hc hd hf =
     let q = times_below d f hd hf in
     let n = times a t (omega (arith, ordered, ha)) not in
     omega (arith, ordered, is, p, q, n)))
-
-both_below : (a b : ℤ) → a <ℤ pos 0 → b <ℤ pos 0 → pos 0 <ℤ (a *ℤ b)
-both_below a b ha hb = (let t = times_below (neg_ℤ a) b (omega (arith, ordered, ha)) hb in let e = neg_mul a b in omega (arith, ordered, t, e))
 
 module _ (v w : Point) where
   abbrev off : Point → ℤ
@@ -208,7 +204,7 @@ all_on_line v w a b long ha hb turn =
 
 -- Where the corner y beyond the edge from r to l lies on the segment's line, but not on the segment, its end w lies in the triangle.
 module _ (v w r l y : Point) (on : orient2d_of v w y ≡ pos 0)
-    (before : orient2d_of l r v ≤ℤ pos 0) (after : pos 0 <ℤ orient2d_of l r w) (beyond : pos 0 <ℤ orient2d_of l r y) (apart : pos 0 ≤ℤ apart_along v w y) where
+    (before : orient2d_of l r v ≤ℤ pos 0) (after : pos 0 <ℤ orient2d_of l r w) (beyond : pos 0 <ℤ orient2d_of l r y) (apart : pos 0 ≤ℤ dot v w y) where
   abbrev far : Point → ℤ
   far p = orient2d_of l r p
 
@@ -221,7 +217,7 @@ module _ (v w r l y : Point) (on : orient2d_of v w y ≡ pos 0)
   abbrev base : ℤ
   base = ((r.x -ℤ l.x) *ℤ (r.x -ℤ l.x)) +ℤ ((r.y -ℤ l.y) *ℤ (r.y -ℤ l.y))
 
-  balance : (far y -ℤ far v) *ℤ apart_along v w y ≡ (pos 0 -ℤ ((far w -ℤ far y) *ℤ long)) -ℤ (along *ℤ orient2d_of v w y)
+  balance : (far y -ℤ far v) *ℤ dot v w y ≡ (pos 0 -ℤ ((far w -ℤ far y) *ℤ long)) -ℤ (along *ℤ orient2d_of v w y)
   balance =
       by_terms (v.x ∷ v.y ∷ w.x ∷ w.y ∷ r.x ∷ r.y ∷ l.x ∷ l.y ∷ y.x ∷ y.y ∷ [])
       (by (minus (orient (spot 3) (spot 2) (spot 4)) (orient (spot 3) (spot 2) (spot 0)))
@@ -258,7 +254,7 @@ module _ (v w r l y : Point) (on : orient2d_of v w y ≡ pos 0)
   further =
       by_lt_z (far y) (far w)
       (λ less. absurd
-      (let a = times (far y -ℤ far v) (apart_along v w y) (omega (arith, ordered, before, beyond)) apart in
+      (let a = times (far y -ℤ far v) (dot v w y) (omega (arith, ordered, before, beyond)) apart in
       let b = times_positive (far w -ℤ far y) long (omega (arith, ordered, less)) some_long in
       let c = ap (λ i. along *ℤ i) on ∙ *ℤ-zero along in
       let d = balance in

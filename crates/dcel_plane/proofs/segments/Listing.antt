@@ -13,25 +13,26 @@ use Rattle.dcel_maps.specs.Triangulations.{AllTriangles}
 use Rattle.dcel_maps.specs.Words.{count_of}
 use Rattle.dcel_maps.proofs.maps.Triangles.{IsTriangleOf}
 use Rattle.dcel_maps.proofs.words.Counts.{count-later, count-other, count-same}
-use Rattle.dcel_plane.specs.Plane.{IsPlane, TurnsLeft}
+use Rattle.dcel_plane.specs.Plane.{TrianglesTurnLeft, TurnsLeft}
 use Rattle.dcel_plane.specs.covering.Covering.{IsConvex, IsHull}
 use Rattle.dcel_plane.specs.covering.Places.{AreDisjoint}
-use Rattle.dcel_plane.specs.segments.Segments.{AreEnds, Crosses, IsChannel, IsClear, IsCorner, Leads, corner_beyond, offset}
-use Rattle.dcel_plane.proofs.covering.Faces.{disjoint_at}
+use Rattle.dcel_plane.specs.segments.Segments.{AreEnds, Crosses, IsChannel, IsClear, IsCorner, Leads, corner_beyond, orient2d_by}
+use Rattle.dcel_plane.proofs.covering.Faces.{disjoint_at, six_corners}
 use Rattle.dcel_plane.proofs.segments.Gates.{far, inner_far, left_far}
 use Rattle.dcel_plane.proofs.covering.Inside.{on_end, on_start}
 use Rattle.dcel_plane.proofs.segments.Levers.{before_at_end}
 use Rattle.dcel_plane.proofs.segments.Onward.{tail}
 use Rattle.dcel_plane.proofs.removal.Overlapping.{overlap}
-use Rattle.dcel_plane.proofs.segments.Peaks.{ends_of, of_face}
+use Rattle.dcel_plane.proofs.segments.Peaks.{ends_of}
+use Rattle.dcel_plane.proofs.covering.Triangles.{of_face}
 
-module _ {V DE UE F : Type 0} (m : Mesh V DE UE F) (mesh : IsMesh m) (triangles : AllTriangles m.shape) (at : ℕ → Point) (plane : IsPlane at m.shape)
+module _ {V DE UE F : Type 0} (m : Mesh V DE UE F) (mesh : IsMesh m) (triangles : AllTriangles m.shape) (at : ℕ → Point) (plane : TrianglesTurnLeft at m.shape)
     (convex : IsConvex at m.shape) (hull : IsHull at m.shape) (v w : ℕ) (ends : AreEnds m.shape v w) (clear : IsClear at m.shape v w) where
   abbrev s : Shape
   s = m.shape
 
   abbrev off : ℕ → ℤ
-  off k = offset at v w k
+  off k = orient2d_by at v w k
 
   at_v : off v ≡ pos 0
   at_v = on_end (at v) (at w)
@@ -93,19 +94,9 @@ module _ {V DE UE F : Type 0} (m : Mesh V DE UE F) (mesh : IsMesh m) (triangles 
       (subst (λ (i : ℕ). 0 < i) (sym (tri h c).face_z) (inner_far m mesh triangles at plane convex v w ends h c))
       (tri k d).live_z (subst (λ (i : ℕ). 0 < i) (sym (tri k d).face_z) (inner_far m mesh triangles at plane convex v w ends k d))
       (λ same. differ (sym (tri h c).face_z ∙ same ∙ (tri k d).face_z)) in
-      six (origin_of s p) (origin_of s (next_of s p)) (origin_of s (prev_of s p)) (origin_of s q) (origin_of s (next_of s q)) (origin_of s (prev_of s q))
+      six_corners at (origin_of s p) (origin_of s (next_of s p)) (origin_of s (prev_of s p)) (origin_of s q) (origin_of s (next_of s q)) (origin_of s (prev_of s q))
       w (end_of s h) (origin_of s h) w (end_of s k) (origin_of s k) is (ap (origin_of s) (tri h c).next_z) (ap (origin_of s) (tri h c).prev_z ∙ next_from h c)
       js (ap (origin_of s) (tri k d).next_z) (ap (origin_of s) (tri k d).prev_z ∙ next_from k d) known
-    where
-      six : (a b c d e f a' b' c' d' e' f' : ℕ) → a ≡ a' → b ≡ b' → c ≡ c' → d ≡ d' → e ≡ e' → f ≡ f'
-          → AreDisjoint (at a) (at b) (at c) (at d) (at e) (at f) → AreDisjoint (at a') (at b') (at c') (at d') (at e') (at f')
-      six a b c d e f a' b' c' d' e' f' ea eb ec ed ee ef disjoint =
-          subst (λ (k : ℕ). AreDisjoint (at a') (at b') (at c') (at d') (at e') (at k)) ef
-          (subst (λ (k : ℕ). AreDisjoint (at a') (at b') (at c') (at d') (at k) (at f)) ee
-          (subst (λ (k : ℕ). AreDisjoint (at a') (at b') (at c') (at k) (at e) (at f)) ed
-          (subst (λ (k : ℕ). AreDisjoint (at a') (at b') (at k) (at d) (at e) (at f)) ec
-          (subst (λ (k : ℕ). AreDisjoint (at a') (at k) (at c) (at d) (at e) (at f)) eb
-          (subst (λ (k : ℕ). AreDisjoint (at k) (at b) (at c) (at d) (at e) (at f)) ea disjoint)))))
 
   -- the left end of k is seen from w where that of h is, or further round
   overlaps : (h k : ℕ) (c : Crosses at s v w h) (d : Crosses at s v w k) → corner_beyond s h ≡ w → corner_beyond s k ≡ w → face_of s (rev h) ≢ face_of s (rev k)
@@ -171,7 +162,7 @@ module _ {V DE UE F : Type 0} (m : Mesh V DE UE F) (mesh : IsMesh m) (triangles 
         let t = tail m mesh triangles at plane convex hull v w ends clear h c in
         stands h t.rest t.last c t.leads t.end
 
-pub stands_in : {V DE UE F : Type 0} (m : Mesh V DE UE F) (mesh : IsMesh m) (triangles : AllTriangles m.shape) (at : ℕ → Point) (plane : IsPlane at m.shape)
+pub stands_in : {V DE UE F : Type 0} (m : Mesh V DE UE F) (mesh : IsMesh m) (triangles : AllTriangles m.shape) (at : ℕ → Point) (plane : TrianglesTurnLeft at m.shape)
     (convex : IsConvex at m.shape) (hull : IsHull at m.shape) (v w : ℕ) (clear : IsClear at m.shape v w) (list : List ℕ) → IsChannel at m.shape v w list → list ≢ []
     → (h : ℕ) → Crosses at m.shape v w h → 0 < count_of h list
 stands_in m mesh triangles at plane convex hull v w clear [] channel some h crosses = absurd (some refl)

@@ -15,24 +15,24 @@ use Rattle.dcel_maps.proofs.maps.Soundness.{rev_live}
 use Rattle.dcel_maps.proofs.maps.Triangles.{IsTriangleOf}
 use Rattle.dcel_maps.proofs.walks.Links.{half-below}
 use Rattle.dcel_maps.proofs.words.Counts.{count-equal, count-other}
-use Rattle.dcel_plane.specs.Plane.{IsPlane, TurnsLeft}
-use Rattle.dcel_plane.specs.covering.Covering.{Covers, IsConvex, IsHull, apart_along}
-use Rattle.dcel_plane.specs.segments.Segments.{AreEnds, Crosses, IsClear, IsCorner, Leads, corner_beyond, offset, width}
+use Rattle.dcel_plane.specs.Plane.{TrianglesTurnLeft, TurnsLeft}
+use Rattle.dcel_plane.specs.covering.Covering.{Covers, IsConvex, IsHull, dot}
+use Rattle.dcel_plane.specs.segments.Segments.{AreEnds, Crosses, IsClear, IsCorner, Leads, corner_beyond, orient2d_by, width}
 use Rattle.dcel_plane.proofs.covering.Apart.{apart_at}
 use Rattle.dcel_plane.proofs.segments.Channels.{all_cross}
 use Rattle.dcel_plane.proofs.segments.Gates.{far, inner_far, left_far}
 use Rattle.dcel_plane.proofs.covering.Inside.{on_end, on_start}
 use Rattle.dcel_plane.proofs.segments.Levers.{ahead_at_left, ahead_at_right, further_at_left, further_at_right, holds_left, holds_right, inside_left, inside_right}
 use Rattle.dcel_plane.proofs.covering.Powers.{less_first}
-use Rattle.dcel_plane.proofs.segments.Striving.{strive}
+use Rattle.dcel_plane.proofs.covering.Climbing.{strive}
 
-module _ {V DE UE F : Type 0} (m : Mesh V DE UE F) (mesh : IsMesh m) (triangles : AllTriangles m.shape) (at : ℕ → Point) (plane : IsPlane at m.shape)
+module _ {V DE UE F : Type 0} (m : Mesh V DE UE F) (mesh : IsMesh m) (triangles : AllTriangles m.shape) (at : ℕ → Point) (plane : TrianglesTurnLeft at m.shape)
     (convex : IsConvex at m.shape) (hull : IsHull at m.shape) (v w : ℕ) (ends : AreEnds m.shape v w) where
   abbrev s : Shape
   s = m.shape
 
   abbrev off : ℕ → ℤ
-  off k = offset at v w k
+  off k = orient2d_by at v w k
 
   at_v : off v ≡ pos 0
   at_v = on_end (at v) (at w)
@@ -176,7 +176,7 @@ module _ {V DE UE F : Type 0} (m : Mesh V DE UE F) (mesh : IsMesh m) (triangles 
     crosses_before hy = (over_left hy).crosses_too
 
     -- a corner on the segment's line is its end, if it doesn't lie between its ends
-    pub on_line : off y ≡ pos 0 → pos 0 ≤ℤ apart_along (at v) (at w) (at y) → w ≡ y
+    pub on_line : off y ≡ pos 0 → pos 0 ≤ℤ dot (at v) (at w) (at y) → w ≡ y
     on_line zero apart = elim (cases_eq w y) [
       | inl is ↦ is
       | inr not ↦

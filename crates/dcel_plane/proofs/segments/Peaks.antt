@@ -8,20 +8,13 @@ use Rattle.dcel_predicates.proofs.Signs.{ordered}
 use Rattle.dcel_maps.specs.Shapes.{IsLive, IsMesh, Mesh, Shape, end_of, face_of, map_of, next_of, origin_of, prev_of}
 use Rattle.dcel_maps.specs.Triangulations.{AllTriangles}
 use Rattle.dcel_maps.proofs.maps.Soundness.{rev_live}
-use Rattle.dcel_maps.proofs.maps.Triangles.{IsTriangleOf, by_triangle, off_triangle}
-use Rattle.dcel_maps.proofs.shapes.Maps.{map-sound}
-use Rattle.dcel_plane.specs.Plane.{IsPlane}
+use Rattle.dcel_maps.proofs.maps.Triangles.{IsTriangleOf}
+use Rattle.dcel_plane.specs.Plane.{TrianglesTurnLeft}
 use Rattle.dcel_plane.specs.covering.Covering.{IsConvex}
-use Rattle.dcel_plane.specs.segments.Segments.{AreEnds, Crosses, IsChannel, IsCorner, IsPeak, Leads, NarrowerBefore, NotWiderAfter, corner_before, corner_beyond, offset, width, widths}
+use Rattle.dcel_plane.specs.segments.Segments.{AreEnds, Crosses, IsChannel, IsCorner, IsPeak, Leads, NarrowerBefore, NotWiderAfter, corner_before, corner_beyond, orient2d_by, width, widths}
 use Rattle.dcel_plane.proofs.segments.Gates.{far, near}
 use Rattle.dcel_plane.proofs.covering.Inside.{on_end, on_start}
-use Rattle.dcel_plane.proofs.covering.Triangles.{round}
-
--- what holds of three half edges of a triangle holds of each
-pub of_face : {V DE UE F : Type 0} (m : Mesh V DE UE F) → IsMesh m → (f a b c : ℕ) → IsTriangleOf (map_of m.shape) f a b c → (Q : ℕ → Type 0) → Q a → Q b → Q c
-    → (k : ℕ) → IsLive m.shape k → face_of m.shape k ≡ f → Q k
-of_face m mesh f a b c tri Q at_a at_b at_c k live on =
-    by_triangle Q a b c k (at_a, at_b, at_c) (λ out. absurd (off_triangle (map_of m.shape) (map-sound mesh.sound) f a b c tri k live out on))
+use Rattle.dcel_plane.proofs.covering.Triangles.{of_face, round}
 
 -- the ends of a channel
 pub ends_of : (at : ℕ → Point) (s : Shape) (v w : ℕ) (list : List ℕ) → IsChannel at s v w list → AreEnds s v w
@@ -71,9 +64,9 @@ module _ {V DE UE F : Type 0} (m : Mesh V DE UE F) (mesh : IsMesh m) (triangles 
   empty_joins at v w differ channel =
       corners_join channel.first v w channel.inner differ channel.start (subst (λ (i : ℕ). IsCorner s i w) (sym channel.leads) channel.end)
 
-  module _ (at : ℕ → Point) (plane : IsPlane at m.shape) (convex : IsConvex at m.shape) (v w : ℕ) (ends : AreEnds m.shape v w) where
+  module _ (at : ℕ → Point) (plane : TrianglesTurnLeft at m.shape) (convex : IsConvex at m.shape) (v w : ℕ) (ends : AreEnds m.shape v w) where
     abbrev off : ℕ → ℤ
-    off k = offset at v w k
+    off k = orient2d_by at v w k
 
     -- the corner before h lies between its ends, across the segment
     record Rises (h : ℕ) : Type 0 where

@@ -15,7 +15,7 @@ use Rattle.dcel_plane.proofs.edits.Flipped.{flip_lists}
 use Rattle.dcel_plane.proofs.removal.Turnable.{both_halves}
 use Rattle.dcel_plane.specs.segments.Segments.{HasSides}
 use Rattle.dcel_plane.proofs.segments.FlipFaces.{Flipped, flipped_at}
-use Rattle.dcel_plane.proofs.segments.Peaks.{of_face}
+use Rattle.dcel_plane.proofs.covering.Triangles.{of_face}
 
 -- one of five
 of_five : (P : ℕ → Type 0) (a b c d e u : ℕ) → P a → P b → P c → P d → P e → 0 < count_of u (a ∷ b ∷ c ∷ d ∷ e ∷ []) → P u

@@ -16,30 +16,29 @@ use Rattle.dcel_maps.proofs.maps.Soundness.{rev_live}
 use Rattle.dcel_maps.proofs.maps.Triangles.{IsTriangleOf}
 use Rattle.dcel_maps.proofs.walks.Links.{half-below}
 use Rattle.dcel_maps.proofs.words.Counts.{count-equal, count-other}
-use Rattle.dcel_plane.specs.Plane.{IsPlane, TurnsLeft}
+use Rattle.dcel_plane.specs.Plane.{TrianglesTurnLeft, TurnsLeft}
 use Rattle.dcel_plane.proofs.edits.Corners.{corners_are}
-use Rattle.dcel_plane.specs.covering.Covering.{Covers, IsConvex, IsHull, apart_along}
-use Rattle.dcel_plane.specs.segments.Segments.{AreEnds, BeginsAt, Crosses, IsChannel, IsClear, LeadsAlong, OpensAt, offset}
+use Rattle.dcel_plane.specs.covering.Covering.{Covers, IsConvex, IsHull, dot}
+use Rattle.dcel_plane.specs.segments.Segments.{AreEnds, BeginsAt, Crosses, IsChannel, IsClear, LeadsAlong, OpensAt, orient2d_by}
 use Rattle.dcel_plane.proofs.covering.Along.{long}
 use Rattle.dcel_plane.proofs.covering.Apart.{apart_at}
 use Rattle.dcel_plane.proofs.covering.Faces.{corner_of}
-use Rattle.dcel_plane.proofs.covering.Triangles.{left_at}
+use Rattle.dcel_plane.proofs.covering.Triangles.{left_at, of_face}
 use Rattle.dcel_plane.proofs.segments.Gates.{inner_near}
 use Rattle.dcel_plane.proofs.covering.Inside.{on_end, on_start}
 use Rattle.dcel_plane.proofs.segments.Levers.{all_on_line, holds_left, holds_right, on_left_of, on_right_of}
 use Rattle.dcel_plane.proofs.segments.Onward.{IsFurther, Tail, tail, further_itself}
-use Rattle.dcel_plane.proofs.segments.Peaks.{Joins, of_face}
-use Rattle.dcel_plane.proofs.segments.Striving.{strive}
-use Rattle.dcel_plane.proofs.covering.Along.{dot}
+use Rattle.dcel_plane.proofs.segments.Peaks.{Joins}
+use Rattle.dcel_plane.proofs.covering.Climbing.{strive}
 use Rattle.dcel_plane.proofs.covering.Triangles.{round}
 
-module _ {V DE UE F : Type 0} (m : Mesh V DE UE F) (mesh : IsMesh m) (triangles : AllTriangles m.shape) (at : ℕ → Point) (plane : IsPlane at m.shape)
+module _ {V DE UE F : Type 0} (m : Mesh V DE UE F) (mesh : IsMesh m) (triangles : AllTriangles m.shape) (at : ℕ → Point) (plane : TrianglesTurnLeft at m.shape)
     (convex : IsConvex at m.shape) (hull : IsHull at m.shape) (v w : ℕ) (differ : v ≢ w) (ends : AreEnds m.shape v w) where
   abbrev s : Shape
   s = m.shape
 
   abbrev off : ℕ → ℤ
-  off k = offset at v w k
+  off k = orient2d_by at v w k
 
   at_v : off v ≡ pos 0
   at_v = on_end (at v) (at w)
@@ -63,13 +62,13 @@ module _ {V DE UE F : Type 0} (m : Mesh V DE UE F) (mesh : IsMesh m) (triangles 
     from : origin_of s k ≡ v
 
   -- one that ends at z on the segment's line leads along the segment, where z isn't w only if it lies between v and w
-  along : (k z : ℕ) → Out k → end_of s k ≡ z → off z ≡ pos 0 → (pos 0 ≤ℤ apart_along (at v) (at w) (at z) → w ≡ z) → LeadsAlong at s v w k
+  along : (k z : ℕ) → Out k → end_of s k ≡ z → off z ≡ pos 0 → (pos 0 ≤ℤ dot (at v) (at w) (at z) → w ≡ z) → LeadsAlong at s v w k
   along k z out to zero last = record {
     live = out.live;
     from = out.from;
     on = subst (λ (i : ℕ). off i ≡ pos 0) (sym to) zero;
     ahead =
-        by_lt_z (apart_along (at v) (at w) (at z)) (pos 0) (λ less. inr (subst (λ (i : ℕ). apart_along (at v) (at w) (at i) <ℤ pos 0) (sym to) less))
+        by_lt_z (dot (at v) (at w) (at z)) (pos 0) (λ less. inr (subst (λ (i : ℕ). dot (at v) (at w) (at i) <ℤ pos 0) (sym to) less))
         (λ not. inl (to ∙ sym (last not)));
   }
 
@@ -118,7 +117,7 @@ module _ {V DE UE F : Type 0} (m : Mesh V DE UE F) (mesh : IsMesh m) (triangles 
       | inr is ↦ is
       | inl outer ↦ absurd
           (let r = subst (λ (i : ℕ). orient2d_of (at v) (at e) (at i) ≤ℤ pos 0) ends.from_j
-          (subst (λ (i : ℕ). orient2d_of (at i) (at e) (at (origin_of s ends.j)) ≤ℤ pos 0) out.from (convex.right k ends.j out.live outer ends.live_j)) in
+          (subst (λ (i : ℕ). orient2d_of (at i) (at e) (at (origin_of s ends.j)) ≤ℤ pos 0) out.from (convex.supports k ends.j out.live outer ends.live_j).0) in
           let a = seen in
           omega (arith, ordered, r, a))
     ]
@@ -162,7 +161,7 @@ module _ {V DE UE F : Type 0} (m : Mesh V DE UE F) (mesh : IsMesh m) (triangles 
     end_next = ap (origin_of s) (rev-rev (prev_of s k))
 
     -- z lies between v and w, or it is w
-    joins : off z ≡ pos 0 → pos 0 ≤ℤ apart_along (at v) (at w) (at z) → w ≡ z
+    joins : off z ≡ pos 0 → pos 0 ≤ℤ dot (at v) (at w) (at z) → w ≡ z
     joins zero apart = elim (cases_eq w z) [
       | inl is ↦ is
       | inr not ↦
@@ -210,7 +209,7 @@ module _ {V DE UE F : Type 0} (m : Mesh V DE UE F) (mesh : IsMesh m) (triangles 
       | inr is ↦ is
       | inl outer ↦ absurd
           (let r = subst (λ (i : ℕ). orient2d_of (at e_left) (at v) (at i) ≤ℤ pos 0) ends.from_j
-          (subst (λ (i : ℕ). orient2d_of (at e_left) (at i) (at (origin_of s ends.j)) ≤ℤ pos 0) to_v (convex.right t ends.j live_t outer ends.live_j)) in
+          (subst (λ (i : ℕ). orient2d_of (at e_left) (at i) (at (origin_of s ends.j)) ≤ℤ pos 0) to_v (convex.supports t ends.j live_t outer ends.live_j).0) in
           let a = seen_left in
           omega (arith, ordered, r, a))
     ]
@@ -253,7 +252,7 @@ module _ {V DE UE F : Type 0} (m : Mesh V DE UE F) (mesh : IsMesh m) (triangles 
     end_before : end_of s (cw_of s k) ≡ z_left
     end_before = next_to t e_left v live_t inner_left refl to_v
 
-    joins_left : off z_left ≡ pos 0 → pos 0 ≤ℤ apart_along (at v) (at w) (at z_left) → w ≡ z_left
+    joins_left : off z_left ≡ pos 0 → pos 0 ≤ℤ dot (at v) (at w) (at z_left) → w ≡ z_left
     joins_left zero apart = elim (cases_eq w z_left) [
       | inl is ↦ is
       | inr not ↦
@@ -328,7 +327,7 @@ module _ {V DE UE F : Type 0} (m : Mesh V DE UE F) (mesh : IsMesh m) (triangles 
     out_after : Out (ccw_of s k)
     out_after = record { live = rev_live (map_of s) (prev_of s k) tri_on.live_z; from = prev_to k v e_on out.live inner_k out.from refl }
 
-    ends_there : pos 0 <ℤ off z_on → pos 0 ≤ℤ apart_along (at v) (at w) (at e_on) → w ≡ e_on
+    ends_there : pos 0 <ℤ off z_on → pos 0 ≤ℤ dot (at v) (at w) (at e_on) → w ≡ e_on
     ends_there hz apart = elim (cases_eq w e_on) [
       | inl is ↦ is
       | inr not ↦

@@ -12,7 +12,7 @@ use Rattle.dcel_maps.specs.Words.{count_of}
 use Rattle.dcel_maps.proofs.words.Counts.{count-append, count-same}
 use Rattle.dcel_plane.specs.Plane.{ListsCircled}
 use Rattle.dcel_plane.specs.removal.Wheels.{CanTurn}
-use Rattle.dcel_plane.specs.segments.Segments.{AreEnds, Becomes, CanTurnEach, Crosses, HasSides, HasSidesOf, IsChannel, IsPeak, IsPlanar, NarrowerBefore, NotWiderAfter, flipped_each, widths}
+use Rattle.dcel_plane.specs.segments.Segments.{AreEnds, Becomes, CanTurnEach, Crosses, HasSides, HasSidesOf, IsChannel, IsPeak, NarrowerBefore, NotWiderAfter, TriangulatesItsHull, flipped_each, widths}
 use Rattle.dcel_plane.proofs.segments.Becoming.{in_old, kinds, turned_planar}
 use Rattle.dcel_plane.proofs.segments.Channels.{all_cross, flip_keeps_channel}
 use Rattle.dcel_plane.proofs.segments.Gates.{far, near, peak_can_turn}
@@ -46,7 +46,7 @@ pub turns-append : {V DE UE F : Type 0} (at : ℕ → Point) (m : Mesh V DE UE F
 turns-append at m [] u can one = (one, tt)
 turns-append at m (x ∷ us) u can one = (can.0, turns-append at (edge_flipped m x) us u can.1 one)
 
-module _ {V DE UE F : Type 0} (at : ℕ → Point) (m : Mesh V DE UE F) (planar : IsPlanar at m) (v w : ℕ) (front : List ℕ) (h : ℕ) (back : List ℕ)
+module _ {V DE UE F : Type 0} (at : ℕ → Point) (m : Mesh V DE UE F) (planar : TriangulatesItsHull at m) (v w : ℕ) (front : List ℕ) (h : ℕ) (back : List ℕ)
     (channel : IsChannel at m.shape v w (front ++ (h ∷ back))) (before : NarrowerBefore at m.shape v w front h) (after : NotWiderAfter at m.shape v w h back) where
   abbrev list : List ℕ
   list = front ++ (h ∷ back)
@@ -66,7 +66,7 @@ module _ {V DE UE F : Type 0} (at : ℕ → Point) (m : Mesh V DE UE F) (planar 
   pub can_turn : CanTurn at m.shape (h / 2)
   can_turn = peak_can_turn m planar.mesh planar.triangles at planar.plane planar.convex v w ends h crosses peak
 
-  pub planar_still : IsPlanar at (edge_flipped m (h / 2))
+  pub planar_still : TriangulatesItsHull at (edge_flipped m (h / 2))
   planar_still = turned_planar at m (h / 2) planar can_turn
 
   module _ (new : List ℕ) (becomes : Becomes at m.shape v w h new) where

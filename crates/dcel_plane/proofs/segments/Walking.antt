@@ -9,14 +9,14 @@ use Rattle.dcel_maps.specs.Words.{count_of}
 use Rattle.dcel_maps.proofs.walks.Lengths.{count-le}
 use Rattle.dcel_maps.proofs.walks.Returning.{length-live}
 use Rattle.dcel_maps.proofs.words.Counts.{count-append, count-equal, count-other}
-use Rattle.dcel_plane.specs.Plane.{IsPlane}
+use Rattle.dcel_plane.specs.Plane.{TrianglesTurnLeft}
 use Rattle.dcel_plane.specs.covering.Covering.{IsConvex, IsHull}
-use Rattle.dcel_plane.specs.segments.Segments.{AreEnds, BeginsAt, Crosses, IsChannel, IsCorner, Leads, corner_beyond, offset}
+use Rattle.dcel_plane.specs.segments.Segments.{AreEnds, BeginsAt, Crosses, IsChannel, IsCorner, Leads, corner_beyond, orient2d_by}
 use Rattle.dcel_plane.proofs.segments.Channels.{all_cross, leads_on}
 use Rattle.dcel_plane.proofs.segments.Gates.{far, inner_near}
 use Rattle.dcel_plane.proofs.segments.Onward.{IsFurther, Next, further_along, further_itself, left_is, over_left, over_right, right_is}
 
-module _ {V DE UE F : Type 0} (m : Mesh V DE UE F) (mesh : IsMesh m) (triangles : AllTriangles m.shape) (at : ℕ → Point) (plane : IsPlane at m.shape)
+module _ {V DE UE F : Type 0} (m : Mesh V DE UE F) (mesh : IsMesh m) (triangles : AllTriangles m.shape) (at : ℕ → Point) (plane : TrianglesTurnLeft at m.shape)
     (convex : IsConvex at m.shape) (hull : IsHull at m.shape) (v w : ℕ) (ends : AreEnds m.shape v w) where
   abbrev s : Shape
   s = m.shape
@@ -90,12 +90,12 @@ module _ {V DE UE F : Type 0} (m : Mesh V DE UE F) (mesh : IsMesh m) (triangles 
       once = one_more;
     }
 
-    pub comes_right : pos 0 <ℤ offset at v w (corner_beyond s h) → Comes (passed ++ (h ∷ [])) (next_of s (rev h))
+    pub comes_right : pos 0 <ℤ orient2d_by at v w (corner_beyond s h) → Comes (passed ++ (h ∷ [])) (next_of s (rev h))
     comes_right side =
         subst (λ (i : ℕ). Comes (passed ++ (h ∷ [])) i) (right_is m mesh triangles at plane convex hull v w ends h comes.crosses side)
         (comes_next (over_right m mesh triangles at plane convex hull v w ends h comes.crosses side))
 
-    pub comes_left : offset at v w (corner_beyond s h) <ℤ pos 0 → Comes (passed ++ (h ∷ [])) (prev_of s (rev h))
+    pub comes_left : orient2d_by at v w (corner_beyond s h) <ℤ pos 0 → Comes (passed ++ (h ∷ [])) (prev_of s (rev h))
     comes_left side =
         subst (λ (i : ℕ). Comes (passed ++ (h ∷ [])) i) (left_is m mesh triangles at plane convex hull v w ends h comes.crosses side)
         (comes_next (over_left m mesh triangles at plane convex hull v w ends h comes.crosses side))

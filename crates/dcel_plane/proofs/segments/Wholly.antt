@@ -6,7 +6,7 @@ use Rattle.dcel_maps.specs.Shapes.{IsMesh, Mesh}
 use Rattle.dcel_maps.specs.Triangulations.{AllTriangles}
 use Rattle.dcel_maps.proofs.Triangulations.{flipped}
 use Rattle.dcel_maps.proofs.edits.Flips.{flipped_mesh}
-use Rattle.dcel_plane.specs.Plane.{IsCircled, IsDelaunay, IsInner, IsPlane}
+use Rattle.dcel_plane.specs.Plane.{IsCircled, IsInner, IsLocallyDelaunay, TrianglesTurnLeft}
 use Rattle.dcel_plane.specs.Volume.{volume_below}
 use Rattle.dcel_plane.proofs.edits.Flipped.{circled_can_flip, flip_plane, new_corners}
 use Rattle.dcel_plane.proofs.edits.Volumes.{volume_falls}
@@ -16,7 +16,7 @@ use Rattle.dcel_plane.specs.removal.Wheels.{CanTurn}
 use Rattle.dcel_plane.proofs.segments.Covered.{turn_covered}
 
 -- an edge that has a corner inside the circle of the other side can be flipped so that both triangles go round counterclockwise again
-pub circled_can_turn : {V DE UE F : Type 0} (at : ℕ → Point) (m : Mesh V DE UE F) (u : ℕ) → IsMesh m → IsPlane at m.shape → IsInner m.shape u
+pub circled_can_turn : {V DE UE F : Type 0} (at : ℕ → Point) (m : Mesh V DE UE F) (u : ℕ) → IsMesh m → TrianglesTurnLeft at m.shape → IsInner m.shape u
     → IsCircled at m.shape u → CanTurn at m.shape u
 circled_can_turn at m u mesh plane inner circled =
     let can = circled_can_flip m mesh u at inner circled in
@@ -25,11 +25,11 @@ circled_can_turn at m u mesh plane inner circled =
 
 -- by the volume below the mesh: if an edge is circled, it is less once that is flipped
 covers_below : {V DE UE F : Type 0} (at : ℕ → Point) (bound : ℕ) (m : Mesh V DE UE F) → volume_below at m.shape < bound → IsMesh m → AllTriangles m.shape
-    → IsPlane at m.shape → CoversHull at m.shape
+    → TrianglesTurnLeft at m.shape → CoversHull at m.shape
 covers_below at zero m less mesh triangles plane = absurd (omega (arith, less))
 covers_below at (suc bound) m less mesh triangles plane = record {
   covered = λ p h live inner right none.
-      let delaunay : IsDelaunay at m.shape = record {
+      let delaunay : IsLocallyDelaunay at m.shape = record {
         plane = plane;
         empty = λ u between circled.
             let turn = circled_can_turn at m u mesh plane between circled in
@@ -41,6 +41,6 @@ covers_below at (suc bound) m less mesh triangles plane = record {
       (covers_hull m mesh triangles at delaunay).covered p h live inner right none;
 }
 
-pub plane_covers : {V DE UE F : Type 0} (at : ℕ → Point) (m : Mesh V DE UE F) → IsMesh m → AllTriangles m.shape → IsPlane at m.shape → CoversHull at m.shape
+pub plane_covers : {V DE UE F : Type 0} (at : ℕ → Point) (m : Mesh V DE UE F) → IsMesh m → AllTriangles m.shape → TrianglesTurnLeft at m.shape → CoversHull at m.shape
 plane_covers at m mesh triangles plane =
     covers_below at (suc (volume_below at m.shape)) m (omega arith) mesh triangles plane

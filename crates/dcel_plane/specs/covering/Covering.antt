@@ -18,15 +18,18 @@ pub record IsApart (at : ℕ → Point) (s : Shape) : Type 0 where
       → origin_of s k ≢ origin_of s x → origin_of s k ≢ origin_of s y → origin_of s k ≢ origin_of s z
       → ¬ Covers (at (origin_of s x)) (at (origin_of s y)) (at (origin_of s z)) (at (origin_of s k))
 
--- of a point p on the line through a and b: positive outside of the segment from a to b, 0 at its ends, negative between them
-abbrev pub apart_along : Point → Point → Point → ℤ
-apart_along a b p = ((a.x -ℤ p.x) *ℤ (b.x -ℤ p.x)) +ℤ ((a.y -ℤ p.y) *ℤ (b.y -ℤ p.y))
+-- the dot product of the vectors from p to a and to b: of a point p on the line through a and b, it is positive outside of the segment,
+-- 0 at its ends, and negative between them
+abbrev pub dot : Point → Point → Point → ℤ
+dot a b p = ((a.x -ℤ p.x) *ℤ (b.x -ℤ p.x)) +ℤ ((a.y -ℤ p.y) *ℤ (b.y -ℤ p.y))
 
--- no vertex lies on the left of a half edge of the outer face, or on it between its ends: so its line bounds the convex hull
+-- p lies neither on the left of the line from a to b nor on it between a and b
+abbrev pub Supports : Point → Point → Point → Type 0
+Supports a b p = (orient2d_of a b p ≤ℤ pos 0) × (orient2d_of a b p ≡ pos 0 → pos 0 ≤ℤ dot a b p)
+
+-- each half edge of the outer face supports all vertices: its line bounds the convex hull
 pub record IsConvex (at : ℕ → Point) (s : Shape) : Type 0 where
-  pub right : (h k : ℕ) → IsLive s h → face_of s h ≡ 0 → IsLive s k → orient2d_of (at (origin_of s h)) (at (end_of s h)) (at (origin_of s k)) ≤ℤ pos 0
-  pub between : (h k : ℕ) → IsLive s h → face_of s h ≡ 0 → IsLive s k → orient2d_of (at (origin_of s h)) (at (end_of s h)) (at (origin_of s k)) ≡ pos 0
-      → pos 0 ≤ℤ apart_along (at (origin_of s h)) (at (end_of s h)) (at (origin_of s k))
+  pub supports : (h k : ℕ) → IsLive s h → face_of s h ≡ 0 → IsLive s k → Supports (at (origin_of s h)) (at (end_of s h)) (at (origin_of s k))
 
 -- Delaunay's condition on all vertices (B. Delaunay, "Sur la sphère vide", 1934): none lies inside the circle of an inner triangle
 pub record HasEmptyCircles (at : ℕ → Point) (s : Shape) : Type 0 where

@@ -7,7 +7,7 @@ use Rattle.dcel_maps.specs.Removals.{Closed}
 use Rattle.dcel_maps.specs.Shapes.{IsLive, Shape, end_of, face_count, face_of, origin_of}
 use Rattle.dcel_maps.specs.Triangulations.{AllTriangles}
 use Rattle.dcel_maps.specs.Words.{TurnsTo, word_of}
-use Rattle.dcel_plane.specs.Plane.{IsDelaunay}
+use Rattle.dcel_plane.specs.Plane.{IsLocallyDelaunay}
 use Rattle.dcel_plane.specs.covering.Covering.{IsConvex, IsHull}
 use Rattle.dcel_plane.specs.covering.Places.{IsIn, Place, orient_at}
 
@@ -18,7 +18,7 @@ pub record IsDelaunayTriangulation (at : ℕ → Point) (s : Shape) : Type 0 whe
   pub inner : 1 < face_count s
   pub triangles : AllTriangles s
   pub connected : (v : ℕ) → v < s.vertices → ¬ IsUnconnected s v
-  pub delaunay : IsDelaunay at s
+  pub delaunay : IsLocallyDelaunay at s
   pub convex : IsConvex at s
   pub hull : IsHull at s
 

@@ -26,9 +26,9 @@ abbrev pub AreDisjoint : Point → Point → Point → Point → Point → Point
 AreDisjoint a b c x y z = (p : Place) → IsInside a b c p → IsInside x y z p → ⊥
 
 -- the square of the distance from p to the place, times w * w
-abbrev pub lift_at : Point → Place → ℤ
-lift_at a p = (((p.w *ℤ a.x) -ℤ p.x) *ℤ ((p.w *ℤ a.x) -ℤ p.x)) +ℤ (((p.w *ℤ a.y) -ℤ p.y) *ℤ ((p.w *ℤ a.y) -ℤ p.y))
+abbrev pub squared_distance_at : Point → Place → ℤ
+squared_distance_at a p = (((p.w *ℤ a.x) -ℤ p.x) *ℤ ((p.w *ℤ a.x) -ℤ p.x)) +ℤ (((p.w *ℤ a.y) -ℤ p.y) *ℤ ((p.w *ℤ a.y) -ℤ p.y))
 
 -- the determinant of the circle and the place, times w * w * w
 abbrev pub incircle_at : Point → Point → Point → Place → ℤ
-incircle_at a b c p = (lift_at a p *ℤ orient_at b c p) +ℤ (lift_at b p *ℤ orient_at c a p) +ℤ (lift_at c p *ℤ orient_at a b p)
+incircle_at a b c p = (squared_distance_at a p *ℤ orient_at b c p) +ℤ (squared_distance_at b p *ℤ orient_at c a p) +ℤ (squared_distance_at c p *ℤ orient_at a b p)

@@ -3,14 +3,13 @@ use Rattle.std.specs.Prelude.{◌≡◌, ◌≢◌, ℕ, ◌<◌, pos, ◌<ℤ�
 use Rattle.dcel_predicates.specs.declared.point.Point.{Point}
 use Rattle.dcel_predicates.specs.Determinants.{orient2d_of}
 use Rattle.dcel_maps.specs.Shapes.{IsLive, Shape, end_of, face_of, next_of, origin_of, prev_of}
-use Rattle.dcel_plane.specs.covering.Covering.{HasDistinctPoints, apart_along}
-use Rattle.dcel_plane.specs.hull.Straight.{beyond}
+use Rattle.dcel_plane.specs.covering.Covering.{HasDistinctPoints, Supports, dot}
+use Rattle.dcel_plane.specs.hull.Straight.{dot_of_steps}
 
--- a half edge of an inner face leads from a to b: it has t on its left and no old vertex, nor one between its ends
+-- a half edge of an inner face leads from a to b: it has t on its left, and supports the old vertices
 pub record Sees (at : ℕ → Point) (s : Shape) (t a b : ℕ) : Type 0 where
   pub seen : pos 0 <ℤ orient2d_of (at a) (at b) (at t)
-  pub none : (k : ℕ) → IsLive s k → origin_of s k ≢ t → orient2d_of (at a) (at b) (at (origin_of s k)) ≤ℤ pos 0
-  pub between : (k : ℕ) → IsLive s k → origin_of s k ≢ t → orient2d_of (at a) (at b) (at (origin_of s k)) ≡ pos 0 → pos 0 ≤ℤ apart_along (at a) (at b) (at (origin_of s k))
+  pub supports : (k : ℕ) → IsLive s k → origin_of s k ≢ t → Supports (at a) (at b) (at (origin_of s k))
   pub side : ℕ
   pub live_side : IsLive s side
   pub inner_side : 0 < face_of s side
@@ -32,10 +31,8 @@ pub record SeesBefore (at : ℕ → Point) (s : Shape) (t v : ℕ) : Type 0 wher
 -- The hull is closed: outer half edges between old vertices are as in a convex hull. Beside the outer half edge that leads out of t there is a
 -- half edge to its end that sees t, and so for the one that leads to t: the hull was between these two. The outer face turns out at t.
 pub record IsClosing (at : ℕ → Point) (s : Shape) (t : ℕ) : Type 0 where
-  pub right : (h k : ℕ) → IsLive s h → face_of s h ≡ 0 → origin_of s h ≢ t → end_of s h ≢ t → IsLive s k → origin_of s k ≢ t
-      → orient2d_of (at (origin_of s h)) (at (end_of s h)) (at (origin_of s k)) ≤ℤ pos 0
-  pub between : (h k : ℕ) → IsLive s h → face_of s h ≡ 0 → origin_of s h ≢ t → end_of s h ≢ t → IsLive s k → origin_of s k ≢ t
-      → orient2d_of (at (origin_of s h)) (at (end_of s h)) (at (origin_of s k)) ≡ pos 0 → pos 0 ≤ℤ apart_along (at (origin_of s h)) (at (end_of s h)) (at (origin_of s k))
+  pub supports : (h k : ℕ) → IsLive s h → face_of s h ≡ 0 → origin_of s h ≢ t → end_of s h ≢ t → IsLive s k → origin_of s k ≢ t
+      → Supports (at (origin_of s h)) (at (end_of s h)) (at (origin_of s k))
   pub after : (h : ℕ) → IsLive s h → face_of s h ≡ 0 → origin_of s h ≡ t → SeesAfter at s t (end_of s h)
   pub before : (h : ℕ) → IsLive s h → face_of s h ≡ 0 → end_of s h ≡ t → SeesBefore at s t (origin_of s h)
   pub tip : (h k : ℕ) → IsLive s h → face_of s h ≡ 0 → origin_of s h ≡ t → IsLive s k → face_of s k ≡ 0 → end_of s k ≡ t
@@ -66,10 +63,10 @@ pub record IsThin (at : ℕ → Point) (s : Shape) (t : ℕ) : Type 0 where
   pub line : (h k : ℕ) → IsLive s h → origin_of s h ≢ t → end_of s h ≢ t → IsLive s k → origin_of s k ≢ t
       → orient2d_of (at (origin_of s h)) (at (end_of s h)) (at (origin_of s k)) ≡ pos 0
   pub once : (h k : ℕ) → IsLive s h → IsLive s k → origin_of s h ≢ t → end_of s h ≢ t → end_of s k ≢ t → origin_of s h ≡ origin_of s k
-      → pos 0 <ℤ apart_along (at (end_of s h)) (at (end_of s k)) (at (origin_of s h)) → h ≡ k
+      → pos 0 <ℤ dot (at (end_of s h)) (at (end_of s k)) (at (origin_of s h)) → h ≡ k
   pub onward : (h k : ℕ) → IsLive s h → origin_of s h ≢ t → end_of s h ≢ t → IsLive s k → origin_of s k ≢ t
-      → pos 0 <ℤ beyond (at (origin_of s h)) (at (end_of s h)) (at (origin_of s k))
-      → (g : ℕ) × IsLive s g × (origin_of s g ≡ end_of s h) × (end_of s g ≢ t) × (pos 0 <ℤ beyond (at (origin_of s h)) (at (end_of s h)) (at (end_of s g)))
+      → pos 0 <ℤ dot_of_steps (at (origin_of s h)) (at (end_of s h)) (at (origin_of s k))
+      → (g : ℕ) × IsLive s g × (origin_of s g ≡ end_of s h) × (end_of s g ≢ t) × (pos 0 <ℤ dot_of_steps (at (origin_of s h)) (at (end_of s h)) (at (end_of s g)))
   pub fan_after : (h i : ℕ) → IsLive s h → face_of s h ≡ 0 → origin_of s h ≡ t → IsLive s i → origin_of s i ≡ t
       → orient2d_of (at t) (at (end_of s h)) (at (end_of s i)) ≤ℤ pos 0
   pub fan_before : (h i : ℕ) → IsLive s h → face_of s h ≡ 0 → end_of s h ≡ t → IsLive s i → origin_of s i ≡ t

@@ -6,18 +6,18 @@ use Rattle.dcel_predicates.specs.Determinants.{orient2d_of}
 use Rattle.dcel_maps.specs.Conditions.{IsLineEnd}
 use Rattle.dcel_maps.specs.Shapes.{IsLive, Shape, end_of, face_of, origin_of}
 use Rattle.dcel_plane.specs.Plane.{IsLeftOf, LiesAcross, LiesInside}
-use Rattle.dcel_plane.specs.hull.Straight.{beyond}
-use Rattle.dcel_plane.specs.covering.Covering.{apart_along}
+use Rattle.dcel_plane.specs.hull.Straight.{dot_of_steps}
+use Rattle.dcel_plane.specs.covering.Covering.{dot}
 
--- on which side of the half edge h the point lies: positive on the left
-abbrev pub side_of : (ℕ → Point) → Shape → ℕ → Point → ℤ
-side_of at s h p = orient2d_of (at (origin_of s h)) (at (end_of s h)) p
+-- `orient2d` of the ends of the half edge h and the point: positive where it lies on the left
+abbrev pub orient2d_along : (ℕ → Point) → Shape → ℕ → Point → ℤ
+orient2d_along at s h p = orient2d_of (at (origin_of s h)) (at (end_of s h)) p
 
 -- the half edge h of an inner face has the point strictly on its right
 pub record HasBeyond (at : ℕ → Point) (s : Shape) (p : Point) (h : ℕ) : Type 0 where
   pub live : IsLive s h
   pub inner : 0 < face_of s h
-  pub right : side_of at s h p <ℤ pos 0
+  pub right : orient2d_along at s h p <ℤ pos 0
 
 -- a walk from the face g to the face f has crossed the half edges of the list, the last one first: a visibility walk of O. Devillers, S. Pion and
 -- M. Teillaud ("Walking in a triangulation", 2001)
@@ -31,8 +31,8 @@ StandsAt at p v = ((at v).x ≡ p.x) × ((at v).y ≡ p.y)
 
 -- the point lies strictly between the ends of the half edge h
 pub record LiesOn (at : ℕ → Point) (s : Shape) (p : Point) (h : ℕ) : Type 0 where
-  pub on : side_of at s h p ≡ pos 0
-  pub between : apart_along (at (origin_of s h)) (at (end_of s h)) p <ℤ pos 0
+  pub on : orient2d_along at s h p ≡ pos 0
+  pub between : dot (at (origin_of s h)) (at (end_of s h)) p <ℤ pos 0
 
 -- the point lies strictly between the ends of a half edge of the face f, and on the left of its other half edges
 pub record HasEdge (at : ℕ → Point) (s : Shape) (p : Point) (f : ℕ) : Type 0 where
@@ -51,8 +51,8 @@ pub record HasCorner (at : ℕ → Point) (s : Shape) (p : Point) (f : ℕ) : Ty
 
 -- the point lies on the line of the half edge h, strictly beyond its end
 pub record LiesBeyond (at : ℕ → Point) (s : Shape) (p : Point) (h : ℕ) : Type 0 where
-  pub on : side_of at s h p ≡ pos 0
-  pub past : pos 0 <ℤ beyond (at (origin_of s h)) (at (end_of s h)) p
+  pub on : orient2d_along at s h p ≡ pos 0
+  pub past : pos 0 <ℤ dot_of_steps (at (origin_of s h)) (at (end_of s h)) p
 
 -- a walk along a line from the half edge g to the half edge h, without turning back: the half edges before h, the last one first
 abbrev pub Passes : Shape → ℕ → List ℕ → ℕ → Type 0

@@ -8,19 +8,19 @@ use Rattle.dcel_maps.specs.Shapes.{IsLive, IsMesh, Mesh, Shape, end_of, face_of,
 use Rattle.dcel_maps.specs.Triangulations.{AllTriangles}
 use Rattle.dcel_maps.specs.Words.{count_of}
 use Rattle.dcel_plane.specs.Edges.{edges_of_flip}
-use Rattle.dcel_plane.specs.Plane.{IsPlane, TurnsLeft}
-use Rattle.dcel_plane.specs.covering.Covering.{IsConvex, IsHull, apart_along}
+use Rattle.dcel_plane.specs.Plane.{TrianglesTurnLeft, TurnsLeft}
+use Rattle.dcel_plane.specs.covering.Covering.{IsConvex, IsHull, dot}
 use Rattle.dcel_plane.specs.removal.Wheels.{CanTurn}
 
--- how far a vertex lies on the left of the segment
-abbrev pub offset : (ℕ → Point) → ℕ → ℕ → ℕ → ℤ
-offset at v w k = orient2d_of (at v) (at w) (at k)
+-- `orient2d` of three vertices by their numbers: how far k lies on the left of the segment from v to w
+abbrev pub orient2d_by : (ℕ → Point) → ℕ → ℕ → ℕ → ℤ
+orient2d_by at v w k = orient2d_of (at v) (at w) (at k)
 
 -- the half edge h crosses the segment from right to left, with v on its own left
 pub record Crosses (at : ℕ → Point) (s : Shape) (v w h : ℕ) : Type 0 where
   pub live : IsLive s h
-  pub right : offset at v w (origin_of s h) <ℤ pos 0
-  pub left : pos 0 <ℤ offset at v w (end_of s h)
+  pub right : orient2d_by at v w (origin_of s h) <ℤ pos 0
+  pub left : pos 0 <ℤ orient2d_by at v w (end_of s h)
   pub near : TurnsLeft (at (origin_of s h)) (at (end_of s h)) (at v)
   pub far : orient2d_of (at (origin_of s h)) (at (end_of s h)) (at w) <ℤ pos 0
 
@@ -55,14 +55,14 @@ corner_beyond s h = origin_of s (prev_of s (rev h))
 
 -- how far apart from each other the ends of a half edge are, across the segment
 abbrev pub width : (ℕ → Point) → Shape → ℕ → ℕ → ℕ → ℤ
-width at s v w h = offset at v w (end_of s h) -ℤ offset at v w (origin_of s h)
+width at s v w h = orient2d_by at v w (end_of s h) -ℤ orient2d_by at v w (origin_of s h)
 
 -- the corners on both sides lie in the strip between the half edge's ends, along the segment
 pub record IsPeak (at : ℕ → Point) (s : Shape) (v w h : ℕ) : Type 0 where
-  pub above : offset at v w (origin_of s h) <ℤ offset at v w (corner_before s h)
-  pub below : offset at v w (corner_before s h) <ℤ offset at v w (end_of s h)
-  pub above_too : offset at v w (origin_of s h) ≤ℤ offset at v w (corner_beyond s h)
-  pub below_too : offset at v w (corner_beyond s h) ≤ℤ offset at v w (end_of s h)
+  pub above : orient2d_by at v w (origin_of s h) <ℤ orient2d_by at v w (corner_before s h)
+  pub below : orient2d_by at v w (corner_before s h) <ℤ orient2d_by at v w (end_of s h)
+  pub above_too : orient2d_by at v w (origin_of s h) ≤ℤ orient2d_by at v w (corner_beyond s h)
+  pub below_too : orient2d_by at v w (corner_beyond s h) ≤ℤ orient2d_by at v w (end_of s h)
 
 -- of a half edge h between others of a list: the one before it is narrower, and the one after it isn't wider
 abbrev pub NarrowerBefore : (ℕ → Point) → Shape → ℕ → ℕ → List ℕ → ℕ → Type 0
@@ -78,22 +78,22 @@ widths at s v w (h ∷ rest) = width at s v w h +ℤ widths at s v w rest
 
 -- no vertex lies on the segment between v and w
 pub record IsClear (at : ℕ → Point) (s : Shape) (v w : ℕ) : Type 0 where
-  pub clear : (k : ℕ) → IsLive s k → offset at v w (origin_of s k) ≡ pos 0 → pos 0 ≤ℤ apart_along (at v) (at w) (at (origin_of s k))
+  pub clear : (k : ℕ) → IsLive s k → orient2d_by at v w (origin_of s k) ≡ pos 0 → pos 0 ≤ℤ dot (at v) (at w) (at (origin_of s k))
 
 -- what stands in the list for a half edge h once it is flipped: h or its other half, where the corners lie on different sides, or nothing
 abbrev pub Becomes : (ℕ → Point) → Shape → ℕ → ℕ → ℕ → List ℕ → Type 0
 Becomes at s v w h new =
-    ((offset at v w (corner_before s h) <ℤ pos 0) × (pos 0 <ℤ offset at v w (corner_beyond s h)) × (new ≡ h ∷ []))
-    ⊎ (((pos 0 <ℤ offset at v w (corner_before s h)) × (offset at v w (corner_beyond s h) <ℤ pos 0) × (new ≡ rev h ∷ []))
-    ⊎ ((offset at v w (corner_before s h) <ℤ pos 0 → pos 0 <ℤ offset at v w (corner_beyond s h) → ⊥)
-    × (pos 0 <ℤ offset at v w (corner_before s h) → offset at v w (corner_beyond s h) <ℤ pos 0 → ⊥) × (new ≡ [])))
+    ((orient2d_by at v w (corner_before s h) <ℤ pos 0) × (pos 0 <ℤ orient2d_by at v w (corner_beyond s h)) × (new ≡ h ∷ []))
+    ⊎ (((pos 0 <ℤ orient2d_by at v w (corner_before s h)) × (orient2d_by at v w (corner_beyond s h) <ℤ pos 0) × (new ≡ rev h ∷ []))
+    ⊎ ((orient2d_by at v w (corner_before s h) <ℤ pos 0 → pos 0 <ℤ orient2d_by at v w (corner_beyond s h) → ⊥)
+    × (pos 0 <ℤ orient2d_by at v w (corner_before s h) → orient2d_by at v w (corner_beyond s h) <ℤ pos 0 → ⊥) × (new ≡ [])))
 
 -- the half edge h leads from v along the segment: to w, or to a vertex between v and w
 pub record LeadsAlong (at : ℕ → Point) (s : Shape) (v w h : ℕ) : Type 0 where
   pub live : IsLive s h
   pub from : origin_of s h ≡ v
-  pub on : offset at v w (end_of s h) ≡ pos 0
-  pub ahead : (end_of s h ≡ w) ⊎ (apart_along (at v) (at w) (at (end_of s h)) <ℤ pos 0)
+  pub on : orient2d_by at v w (end_of s h) ≡ pos 0
+  pub ahead : (end_of s h ≡ w) ⊎ (dot (at v) (at w) (at (end_of s h)) <ℤ pos 0)
 
 -- the segment leads from v through a triangle and out of it across the half edge h
 pub record BeginsAt (at : ℕ → Point) (s : Shape) (v w h : ℕ) : Type 0 where
@@ -103,8 +103,8 @@ pub record BeginsAt (at : ℕ → Point) (s : Shape) (v w h : ℕ) : Type 0 wher
 -- in the triangle of the half edge k from v, the segment leads on: it leaves the next corner on its right, and the third on its left
 pub record OpensAt (at : ℕ → Point) (s : Shape) (v w k : ℕ) : Type 0 where
   pub inner : 0 < face_of s k
-  pub right : offset at v w (end_of s k) <ℤ pos 0
-  pub left : pos 0 <ℤ offset at v w (corner_before s k)
+  pub right : orient2d_by at v w (end_of s k) <ℤ pos 0
+  pub left : pos 0 <ℤ orient2d_by at v w (corner_before s k)
 
 -- v and w are vertices with an edge
 pub record AreEnds (s : Shape) (v w : ℕ) : Type 0 where
@@ -126,10 +126,10 @@ touched m [] = []
 touched m (u ∷ list) = edges_of_flip m.shape u ++ touched (edge_flipped m u) list
 
 -- a mesh of triangles that go round counterclockwise, with a convex hull that passes each vertex once
-pub record IsPlanar {V DE UE F : Type 0} (at : ℕ → Point) (m : Mesh V DE UE F) : Type 0 where
+pub record TriangulatesItsHull {V DE UE F : Type 0} (at : ℕ → Point) (m : Mesh V DE UE F) : Type 0 where
   pub mesh : IsMesh m
   pub triangles : AllTriangles m.shape
-  pub plane : IsPlane at m.shape
+  pub plane : TrianglesTurnLeft at m.shape
   pub convex : IsConvex at m.shape
   pub hull : IsHull at m.shape
 

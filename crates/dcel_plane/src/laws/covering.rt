@@ -11,8 +11,8 @@ ghost use Rattle.dcel_predicates.specs.declared.point.Point.{Point};
 ghost use Rattle.dcel_predicates.specs.Determinants.{incircle_of, orient2d_of};
 ghost use Rattle.dcel_maps.specs.Shapes.{IsLive, IsMesh, Mesh, end_of, face_of, origin_of};
 ghost use Rattle.dcel_maps.specs.Triangulations.{AllTriangles};
-ghost use Rattle.dcel_plane.specs.Plane.{IsDelaunay, IsPlane};
-ghost use Rattle.dcel_plane.specs.covering.Covering.{Covers, CoversHull, HasDisjointTriangles, HasEmptyCircles, IsApart, IsConvex, IsHull, apart_along};
+ghost use Rattle.dcel_plane.specs.Plane.{IsLocallyDelaunay, TrianglesTurnLeft};
+ghost use Rattle.dcel_plane.specs.covering.Covering.{Covers, CoversHull, HasDisjointTriangles, HasEmptyCircles, IsApart, IsConvex, IsHull, dot};
 ghost use Rattle.dcel_plane.specs.covering.Delaunay.{HasCorners, IsCovered, IsDelaunayTriangulation, LiesInHull};
 ghost use Rattle.dcel_plane.specs.covering.Places.{AreDisjoint, Place};
 ghost use Rattle.dcel_plane.specs.covering.Round.{GoesRound};
@@ -22,27 +22,27 @@ ghost use Rattle.dcel_plane.specs.covering.Round.{GoesRound};
 ///
 /// This is Delaunay's lemma. A vertex without an edge isn't spoken of.
 pub fn no_vertex_lies_inside_a_circle<V, DE, UE, F>()
-    ensures { (at : ℕ → Point) (m : Mesh V DE UE F) → IsMesh m → AllTriangles m.shape → IsDelaunay at m.shape
+    ensures { (at : ℕ → Point) (m : Mesh V DE UE F) → IsMesh m → AllTriangles m.shape → IsLocallyDelaunay at m.shape
         → IsConvex at m.shape → IsHull at m.shape → HasEmptyCircles at m.shape }
 {}
 
 /// No two triangles overlap, if all go round counterclockwise, and the outer face is a convex hull
 /// that passes each vertex once, whether the mesh is Delaunay or not.
 pub fn triangles_dont_overlap<V, DE, UE, F>()
-    ensures { (at : ℕ → Point) (m : Mesh V DE UE F) → IsMesh m → AllTriangles m.shape → IsPlane at m.shape
+    ensures { (at : ℕ → Point) (m : Mesh V DE UE F) → IsMesh m → AllTriangles m.shape → TrianglesTurnLeft at m.shape
         → IsConvex at m.shape → IsHull at m.shape → HasDisjointTriangles at m.shape }
 {}
 
 /// Under the same conditions no vertex lies in an inner triangle or on its border but its corners.
 pub fn vertices_lie_in_no_triangle<V, DE, UE, F>()
-    ensures { (at : ℕ → Point) (m : Mesh V DE UE F) → IsMesh m → AllTriangles m.shape → IsPlane at m.shape
+    ensures { (at : ℕ → Point) (m : Mesh V DE UE F) → IsMesh m → AllTriangles m.shape → TrianglesTurnLeft at m.shape
         → IsConvex at m.shape → IsHull at m.shape → IsApart at m.shape }
 {}
 
 /// The triangles of a Delaunay mesh cover each place that no half edge of the outer face has on its
 /// left, whatever the outer face looks like.
 pub fn triangles_cover_the_hull<V, DE, UE, F>()
-    ensures { (at : ℕ → Point) (m : Mesh V DE UE F) → IsMesh m → AllTriangles m.shape → IsDelaunay at m.shape → CoversHull at m.shape }
+    ensures { (at : ℕ → Point) (m : Mesh V DE UE F) → IsMesh m → AllTriangles m.shape → IsLocallyDelaunay at m.shape → CoversHull at m.shape }
 {}
 
 /// A mesh of triangles whose edges meet Delaunay's condition and whose outer face is a convex hull,
@@ -76,7 +76,7 @@ pub fn local_conditions_make_a_delaunay_triangulation<V, DE, UE, F>()
     ensures between { (at : ℕ → Point) (m : Mesh V DE UE F) → IsMesh m → IsDelaunayTriangulation at m.shape
         → (h v : ℕ) → IsLive m.shape h → face_of m.shape h ≡ 0 → v < m.shape.vertices
         → orient2d_of (at (origin_of m.shape h)) (at (end_of m.shape h)) (at v) ≡ pos 0
-        → pos 0 ≤ℤ apart_along (at (origin_of m.shape h)) (at (end_of m.shape h)) (at v) }
+        → pos 0 ≤ℤ dot (at (origin_of m.shape h)) (at (end_of m.shape h)) (at v) }
     ensures once { (at : ℕ → Point) (m : Mesh V DE UE F) → IsMesh m → IsDelaunayTriangulation at m.shape
         → (h k : ℕ) → IsLive m.shape h → IsLive m.shape k → face_of m.shape h ≡ 0 → face_of m.shape k ≡ 0
         → origin_of m.shape h ≡ origin_of m.shape k → h ≡ k }
@@ -89,10 +89,10 @@ pub fn local_conditions_make_a_delaunay_triangulation<V, DE, UE, F>()
 /// * `convex`, `hull`: then it is one, of a mesh of triangles that go round counterclockwise.
 /// * `round`: if it is one, and there is an inner half edge, then it goes round so.
 pub fn convex_hulls_are_told_edge_by_edge<V, DE, UE, F>()
-    ensures convex { (at : ℕ → Point) (m : Mesh V DE UE F) → IsMesh m → AllTriangles m.shape → IsPlane at m.shape
+    ensures convex { (at : ℕ → Point) (m : Mesh V DE UE F) → IsMesh m → AllTriangles m.shape → TrianglesTurnLeft at m.shape
         → GoesRound at m.shape → IsConvex at m.shape }
-    ensures hull { (at : ℕ → Point) (m : Mesh V DE UE F) → IsMesh m → AllTriangles m.shape → IsPlane at m.shape
+    ensures hull { (at : ℕ → Point) (m : Mesh V DE UE F) → IsMesh m → AllTriangles m.shape → TrianglesTurnLeft at m.shape
         → GoesRound at m.shape → IsHull at m.shape }
-    ensures round { (at : ℕ → Point) (m : Mesh V DE UE F) → IsMesh m → AllTriangles m.shape → IsPlane at m.shape
+    ensures round { (at : ℕ → Point) (m : Mesh V DE UE F) → IsMesh m → AllTriangles m.shape → TrianglesTurnLeft at m.shape
         → (h : ℕ) → IsLive m.shape h → 0 < face_of m.shape h → IsConvex at m.shape → IsHull at m.shape → GoesRound at m.shape }
 {}

@@ -19,37 +19,37 @@ ghost use Rattle.dcel_maps.specs.edits.Triangle.{triangle_alone, vertex_inserted
 ghost use Rattle.dcel_maps.specs.Shapes.{IsLive, IsMesh, Mesh, end_of, face_count, face_of, next_of, origin_of};
 ghost use Rattle.dcel_plane.specs.Edges.{edges_put_beside, edges_closed, edges_half_split, edges_inserted, edges_of_flip, edges_split};
 ghost use Rattle.dcel_plane.specs.Volume.{volume_below};
-ghost use Rattle.dcel_plane.specs.Plane.{IsCircled, IsDelaunay, IsInner, IsLeftOf, IsPlane, LiesAcross, LiesInside, ListsCircled, TurnsLeft, point_at};
+ghost use Rattle.dcel_plane.specs.Plane.{IsCircled, IsInner, IsLeftOf, IsLocallyDelaunay, LiesAcross, LiesInside, ListsCircled, TrianglesTurnLeft, TurnsLeft, point_at};
 
 /// A mesh in the plane is Delaunay if no edge is left to list.
 pub fn nothing_is_left_to_flip<V, DE, UE, F>()
-    ensures { (at : ℕ → Point) (m : Mesh V DE UE F) → IsPlane at m.shape → ListsCircled at m.shape [] → IsDelaunay at m.shape }
+    ensures { (at : ℕ → Point) (m : Mesh V DE UE F) → TrianglesTurnLeft at m.shape → ListsCircled at m.shape [] → IsLocallyDelaunay at m.shape }
 {}
 
 /// Of a Delaunay mesh nothing must be listed.
 pub fn nothing_is_due_at_first<V, DE, UE, F>()
-    ensures { (at : ℕ → Point) (m : Mesh V DE UE F) (due : List ℕ) → IsDelaunay at m.shape → ListsCircled at m.shape due }
+    ensures { (at : ℕ → Point) (m : Mesh V DE UE F) (due : List ℕ) → IsLocallyDelaunay at m.shape → ListsCircled at m.shape due }
 {}
 
 /// A mesh whose only face is the outer one is Delaunay, wherever its vertices stand.
 ///
 /// So is each mesh of no edge, of one edge, and each path.
 pub fn lines_are_delaunay<V, DE, UE, F>()
-    ensures { (at : ℕ → Point) (m : Mesh V DE UE F) → IsMesh m → face_count m.shape ≡ 1 → IsDelaunay at m.shape }
+    ensures { (at : ℕ → Point) (m : Mesh V DE UE F) → IsMesh m → face_count m.shape ≡ 1 → IsLocallyDelaunay at m.shape }
 {}
 
 /// A triangle alone lies in the plane if its vertices 1, 0 and 2 go round counterclockwise.
 pub fn first_triangles_lie_in_the_plane<V, DE, UE, F>()
     ensures { (at : ℕ → Point) (vertices : V × V × V) (halves : List DE) (edges : List UE) (faces : List F)
-        → TurnsLeft (at 1) (at 0) (at 2) → IsPlane at (triangle_alone vertices halves edges faces).shape }
+        → TurnsLeft (at 1) (at 0) (at 2) → TrianglesTurnLeft at (triangle_alone vertices halves edges faces).shape }
 {}
 
 /// A vertex that is appended stands where its datum says, and moves nothing.
 pub fn appended_vertices_move_nothing<DE, UE, F>()
     ensures stands { (m : Mesh Point DE UE F) (p : Point) → IsMesh m → point_at (vertex_appended m p) m.shape.vertices ≡ p }
     ensures others { (m : Mesh Point DE UE F) (p : Point) (v : ℕ) → IsMesh m → v < m.shape.vertices → point_at m v ≡ point_at (vertex_appended m p) v }
-    ensures plane { (m : Mesh Point DE UE F) (p : Point) → IsMesh m → IsPlane (point_at m) m.shape
-        → IsPlane (point_at (vertex_appended m p)) (vertex_appended m p).shape }
+    ensures plane { (m : Mesh Point DE UE F) (p : Point) → IsMesh m → TrianglesTurnLeft (point_at m) m.shape
+        → TrianglesTurnLeft (point_at (vertex_appended m p)) (vertex_appended m p).shape }
     ensures due { (m : Mesh Point DE UE F) (p : Point) (due : List ℕ) → IsMesh m → ListsCircled (point_at m) m.shape due
         → ListsCircled (point_at (vertex_appended m p)) (vertex_appended m p).shape due }
 {}
@@ -57,7 +57,7 @@ pub fn appended_vertices_move_nothing<DE, UE, F>()
 /// Where numbers stand that no vertex has doesn't matter.
 pub fn other_numbers_stand_anywhere<V, DE, UE, F>()
     ensures plane { (at to : ℕ → Point) (m : Mesh V DE UE F) → IsMesh m → ((v : ℕ) → v < m.shape.vertices → at v ≡ to v)
-        → IsPlane at m.shape → IsPlane to m.shape }
+        → TrianglesTurnLeft at m.shape → TrianglesTurnLeft to m.shape }
     ensures due { (at to : ℕ → Point) (m : Mesh V DE UE F) (due : List ℕ) → IsMesh m → ((v : ℕ) → v < m.shape.vertices → at v ≡ to v)
         → ListsCircled at m.shape due → ListsCircled to m.shape due }
 {}
@@ -67,7 +67,7 @@ pub fn other_numbers_stand_anywhere<V, DE, UE, F>()
 pub fn insertions_keep_the_plane<V, DE, UE, F>()
     ensures plane { (at : ℕ → Point) (m : Mesh V DE UE F) (v f : ℕ) (halves : List DE) (edges : List UE) (faces : List F)
         → IsMesh m → IsTriangle m.shape f → LiesInside at m.shape f (at v)
-        → IsPlane at m.shape → IsPlane at (vertex_inserted m v f halves edges faces).shape }
+        → TrianglesTurnLeft at m.shape → TrianglesTurnLeft at (vertex_inserted m v f halves edges faces).shape }
     ensures due { (at : ℕ → Point) (m : Mesh V DE UE F) (v f : ℕ) (halves : List DE) (edges : List UE) (faces : List F) (due : List ℕ)
         → IsMesh m → IsTriangle m.shape f → LiesInside at m.shape f (at v) → IsMesh (vertex_inserted m v f halves edges faces)
         → ListsCircled at m.shape due → ListsCircled at (vertex_inserted m v f halves edges faces).shape (due ++ edges_inserted m f) }
@@ -79,7 +79,7 @@ pub fn splits_keep_the_plane<V, DE, UE, F>()
     ensures plane { (at : ℕ → Point) (m : Mesh V DE UE F) (e v : ℕ) (halves : List DE) (edges : List UE) (faces : List F)
         → IsMesh m → IsLive m.shape e → IsTriangle m.shape (face_of m.shape e) → IsTriangle m.shape (face_of m.shape (rev e))
         → LiesAcross at m.shape e (at v) → LiesAcross at m.shape (rev e) (at v)
-        → IsPlane at m.shape → IsPlane at (edge_split m e v halves edges faces).shape }
+        → TrianglesTurnLeft at m.shape → TrianglesTurnLeft at (edge_split m e v halves edges faces).shape }
     ensures due { (at : ℕ → Point) (m : Mesh V DE UE F) (e v : ℕ) (halves : List DE) (edges : List UE) (faces : List F) (due : List ℕ)
         → IsMesh m → IsLive m.shape e → IsTriangle m.shape (face_of m.shape e) → IsTriangle m.shape (face_of m.shape (rev e))
         → IsMesh (edge_split m e v halves edges faces)
@@ -92,7 +92,7 @@ pub fn half_splits_keep_the_plane<V, DE, UE, F>()
     ensures plane { (at : ℕ → Point) (m : Mesh V DE UE F) (e v : ℕ) (halves : List DE) (edges : List UE) (faces : List F)
         → IsMesh m → IsLive m.shape e → IsTriangle m.shape (face_of m.shape e) → 0 < face_of m.shape e → face_of m.shape (rev e) ≡ 0
         → LiesAcross at m.shape e (at v)
-        → IsPlane at m.shape → IsPlane at (half_edge_split m e v halves edges faces).shape }
+        → TrianglesTurnLeft at m.shape → TrianglesTurnLeft at (half_edge_split m e v halves edges faces).shape }
     ensures due { (at : ℕ → Point) (m : Mesh V DE UE F) (e v : ℕ) (halves : List DE) (edges : List UE) (faces : List F) (due : List ℕ)
         → IsMesh m → IsLive m.shape e → IsTriangle m.shape (face_of m.shape e) → 0 < face_of m.shape e → face_of m.shape (rev e) ≡ 0
         → IsMesh (half_edge_split m e v halves edges faces)
@@ -104,7 +104,7 @@ pub fn half_splits_keep_the_plane<V, DE, UE, F>()
 pub fn triangles_beside_keep_the_plane<V, DE, UE, F>()
     ensures plane { (at : ℕ → Point) (m : Mesh V DE UE F) (e v : ℕ) (halves : List DE) (edges : List UE) (faces : List F)
         → IsMesh m → IsLive m.shape e → face_of m.shape e ≡ 0 → IsLeftOf at m.shape (at v) e
-        → IsPlane at m.shape → IsPlane at (face_put_beside m e v halves edges faces).shape }
+        → TrianglesTurnLeft at m.shape → TrianglesTurnLeft at (face_put_beside m e v halves edges faces).shape }
     ensures due { (at : ℕ → Point) (m : Mesh V DE UE F) (e v : ℕ) (halves : List DE) (edges : List UE) (faces : List F) (due : List ℕ)
         → IsMesh m → IsLive m.shape e → face_of m.shape e ≡ 0 → IsMesh (face_put_beside m e v halves edges faces)
         → ListsCircled at m.shape due → ListsCircled at (face_put_beside m e v halves edges faces).shape (due ++ edges_put_beside m.shape e) }
@@ -115,7 +115,7 @@ pub fn triangles_beside_keep_the_plane<V, DE, UE, F>()
 pub fn closed_triangles_keep_the_plane<V, DE, UE, F>()
     ensures plane { (at : ℕ → Point) (m : Mesh V DE UE F) (e : ℕ) (halves : List DE) (edges : List UE) (faces : List F)
         → IsMesh m → IsLive m.shape e → IsLeftOf at m.shape (at (end_of m.shape (next_of m.shape e))) e
-        → IsPlane at m.shape → IsPlane at (face_closed m e halves edges faces).shape }
+        → TrianglesTurnLeft at m.shape → TrianglesTurnLeft at (face_closed m e halves edges faces).shape }
     ensures due { (at : ℕ → Point) (m : Mesh V DE UE F) (e : ℕ) (halves : List DE) (edges : List UE) (faces : List F) (due : List ℕ)
         → IsMesh m → IsLive m.shape e → IsMesh (face_closed m e halves edges faces)
         → ListsCircled at m.shape due → ListsCircled at (face_closed m e halves edges faces).shape (due ++ edges_closed m.shape e) }
@@ -126,7 +126,7 @@ pub fn closed_triangles_keep_the_plane<V, DE, UE, F>()
 pub fn flips_keep_the_plane<V, DE, UE, F>()
     ensures can { (at : ℕ → Point) (m : Mesh V DE UE F) (u : ℕ) → IsMesh m → IsInner m.shape u → IsCircled at m.shape u → CanFlip m.shape u }
     ensures plane { (at : ℕ → Point) (m : Mesh V DE UE F) (u : ℕ) → IsMesh m → IsInner m.shape u → IsCircled at m.shape u
-        → IsPlane at m.shape → IsPlane at (edge_flipped m u).shape }
+        → TrianglesTurnLeft at m.shape → TrianglesTurnLeft at (edge_flipped m u).shape }
     ensures due { (at : ℕ → Point) (m : Mesh V DE UE F) (u : ℕ) (due : List ℕ) → IsMesh m → CanFlip m.shape u
         → ListsCircled at m.shape due → ListsCircled at (edge_flipped m u).shape (due ++ edges_of_flip m.shape u) }
 {}
@@ -135,7 +135,7 @@ pub fn flips_keep_the_plane<V, DE, UE, F>()
 ///
 /// So no run of such flips is longer than the volume was at first.
 pub fn flips_lower_the_volume_below<V, DE, UE, F>()
-    ensures { (at : ℕ → Point) (m : Mesh V DE UE F) (u : ℕ) → IsMesh m → IsInner m.shape u → IsCircled at m.shape u → IsPlane at m.shape
+    ensures { (at : ℕ → Point) (m : Mesh V DE UE F) (u : ℕ) → IsMesh m → IsInner m.shape u → IsCircled at m.shape u → TrianglesTurnLeft at m.shape
         → volume_below at (edge_flipped m u).shape < volume_below at m.shape }
 {}
 
@@ -144,7 +144,7 @@ pub fn flips_lower_the_volume_below<V, DE, UE, F>()
 pub fn points_on_an_edge_lie_across_both_sides<V, DE, UE, F>()
     ensures { (at : ℕ → Point) (m : Mesh V DE UE F) (e : ℕ) (p : Point)
         → IsMesh m → IsLive m.shape e → IsTriangle m.shape (face_of m.shape e) → IsTriangle m.shape (face_of m.shape (rev e))
-        → 0 < face_of m.shape e → 0 < face_of m.shape (rev e) → IsPlane at m.shape
+        → 0 < face_of m.shape e → 0 < face_of m.shape (rev e) → TrianglesTurnLeft at m.shape
         → orient2d_of (at (origin_of m.shape e)) (at (end_of m.shape e)) p ≡ pos 0
         → LiesAcross at m.shape e p → LiesAcross at m.shape (rev e) p }
 {}

@@ -22,12 +22,12 @@ ghost use Rattle.dcel_maps.specs.edits.Split.{edge_split, edge_split_on_line, ha
 ghost use Rattle.dcel_maps.specs.edits.Triangle.{triangle_alone, vertex_inserted};
 ghost use Rattle.dcel_maps.specs.Shapes.{IsLive, IsMesh, Mesh, end_of, face_of, next_of, origin_of, prev_of};
 ghost use Rattle.dcel_maps.specs.Triangulations.{AllTriangles};
-ghost use Rattle.dcel_plane.specs.Plane.{IsLeftOf, IsPlane, LiesAcross, LiesInside, TurnsLeft};
+ghost use Rattle.dcel_plane.specs.Plane.{IsLeftOf, LiesAcross, LiesInside, TrianglesTurnLeft, TurnsLeft};
 ghost use Rattle.dcel_plane.specs.covering.Delaunay.{IsDelaunayTriangulation};
 ghost use Rattle.dcel_plane.specs.hull.Closing.{IsClosed, IsClosing, IsThick, IsThin};
-ghost use Rattle.dcel_plane.specs.hull.Straight.{IsStraight, beyond};
+ghost use Rattle.dcel_plane.specs.hull.Straight.{IsStraight, dot_of_steps};
 ghost use Rattle.dcel_plane.specs.hull.Worked.{corner};
-ghost use Rattle.dcel_plane.specs.covering.Covering.{IsConvex, IsHull, apart_along};
+ghost use Rattle.dcel_plane.specs.covering.Covering.{IsConvex, IsHull, dot};
 
 /// A triangle alone is a Delaunay triangulation and has a hull, if its vertices 1, 0 and 2 go round
 /// counterclockwise.
@@ -52,11 +52,11 @@ pub fn flips_keep_the_hull<V, DE, UE, F>()
 /// triangle.
 pub fn insertions_keep_the_hull<V, DE, UE, F>()
     ensures convex { (at : ℕ → Point) (m : Mesh V DE UE F) (v f : ℕ) (halves : List DE) (edges : List UE) (faces : List F)
-        → IsMesh m → AllTriangles m.shape → IsPlane at m.shape → 0 < f → IsTriangle m.shape f → LiesInside at m.shape f (at v)
+        → IsMesh m → AllTriangles m.shape → TrianglesTurnLeft at m.shape → 0 < f → IsTriangle m.shape f → LiesInside at m.shape f (at v)
         → IsMesh (vertex_inserted m v f halves edges faces)
         → IsConvex at m.shape → IsHull at m.shape → IsConvex at (vertex_inserted m v f halves edges faces).shape }
     ensures hull { (at : ℕ → Point) (m : Mesh V DE UE F) (v f : ℕ) (halves : List DE) (edges : List UE) (faces : List F)
-        → IsMesh m → AllTriangles m.shape → IsPlane at m.shape → 0 < f → IsTriangle m.shape f → LiesInside at m.shape f (at v)
+        → IsMesh m → AllTriangles m.shape → TrianglesTurnLeft at m.shape → 0 < f → IsTriangle m.shape f → LiesInside at m.shape f (at v)
         → IsMesh (vertex_inserted m v f halves edges faces)
         → IsConvex at m.shape → IsHull at m.shape → IsHull at (vertex_inserted m v f halves edges faces).shape }
 {}
@@ -65,11 +65,11 @@ pub fn insertions_keep_the_hull<V, DE, UE, F>()
 /// but the halves of the edge.
 pub fn splits_keep_the_hull<V, DE, UE, F>()
     ensures convex { (at : ℕ → Point) (m : Mesh V DE UE F) (e v : ℕ) (halves : List DE) (edges : List UE) (faces : List F)
-        → IsMesh m → AllTriangles m.shape → IsPlane at m.shape → IsLive m.shape e → 0 < face_of m.shape e → 0 < face_of m.shape (rev e)
+        → IsMesh m → AllTriangles m.shape → TrianglesTurnLeft at m.shape → IsLive m.shape e → 0 < face_of m.shape e → 0 < face_of m.shape (rev e)
         → LiesAcross at m.shape e (at v) → LiesAcross at m.shape (rev e) (at v) → IsMesh (edge_split m e v halves edges faces)
         → IsConvex at m.shape → IsHull at m.shape → IsConvex at (edge_split m e v halves edges faces).shape }
     ensures hull { (at : ℕ → Point) (m : Mesh V DE UE F) (e v : ℕ) (halves : List DE) (edges : List UE) (faces : List F)
-        → IsMesh m → AllTriangles m.shape → IsPlane at m.shape → IsLive m.shape e → 0 < face_of m.shape e → 0 < face_of m.shape (rev e)
+        → IsMesh m → AllTriangles m.shape → TrianglesTurnLeft at m.shape → IsLive m.shape e → 0 < face_of m.shape e → 0 < face_of m.shape (rev e)
         → LiesAcross at m.shape e (at v) → LiesAcross at m.shape (rev e) (at v) → IsMesh (edge_split m e v halves edges faces)
         → IsConvex at m.shape → IsHull at m.shape → IsHull at (edge_split m e v halves edges faces).shape }
 {}
@@ -78,12 +78,12 @@ pub fn splits_keep_the_hull<V, DE, UE, F>()
 /// left of the other half edges of the triangle, and on the edge's line.
 pub fn half_splits_keep_the_hull<V, DE, UE, F>()
     ensures convex { (at : ℕ → Point) (m : Mesh V DE UE F) (e v : ℕ) (halves : List DE) (edges : List UE) (faces : List F)
-        → IsMesh m → IsPlane at m.shape → IsLive m.shape e → IsTriangle m.shape (face_of m.shape e) → 0 < face_of m.shape e → face_of m.shape (rev e) ≡ 0
+        → IsMesh m → TrianglesTurnLeft at m.shape → IsLive m.shape e → IsTriangle m.shape (face_of m.shape e) → 0 < face_of m.shape e → face_of m.shape (rev e) ≡ 0
         → LiesAcross at m.shape e (at v) → orient2d_of (at (origin_of m.shape e)) (at (end_of m.shape e)) (at v) ≡ pos 0
         → IsMesh (half_edge_split m e v halves edges faces)
         → IsConvex at m.shape → IsHull at m.shape → IsConvex at (half_edge_split m e v halves edges faces).shape }
     ensures hull { (at : ℕ → Point) (m : Mesh V DE UE F) (e v : ℕ) (halves : List DE) (edges : List UE) (faces : List F)
-        → IsMesh m → IsPlane at m.shape → IsLive m.shape e → IsTriangle m.shape (face_of m.shape e) → 0 < face_of m.shape e → face_of m.shape (rev e) ≡ 0
+        → IsMesh m → TrianglesTurnLeft at m.shape → IsLive m.shape e → IsTriangle m.shape (face_of m.shape e) → 0 < face_of m.shape e → face_of m.shape (rev e) ≡ 0
         → LiesAcross at m.shape e (at v) → orient2d_of (at (origin_of m.shape e)) (at (end_of m.shape e)) (at v) ≡ pos 0
         → IsMesh (half_edge_split m e v halves edges faces)
         → IsConvex at m.shape → IsHull at m.shape → IsHull at (half_edge_split m e v halves edges faces).shape }
@@ -102,7 +102,7 @@ pub fn triangles_beside_begin_a_closing<V, DE, UE, F>()
         → IsConvex at m.shape → IsHull at m.shape → IsHull at (face_put_beside m e v halves edges faces).shape }
     ensures thick { (at : ℕ → Point) (m : Mesh V DE UE F) (e v h : ℕ) (halves : List DE) (edges : List UE) (faces : List F)
         → IsMesh m → IsLive m.shape e → face_of m.shape e ≡ 0 → IsLeftOf at m.shape (at v) e → IsMesh (face_put_beside m e v halves edges faces)
-        → AllTriangles m.shape → IsPlane at m.shape → IsConvex at m.shape → IsHull at m.shape → IsLive m.shape h → 0 < face_of m.shape h
+        → AllTriangles m.shape → TrianglesTurnLeft at m.shape → IsConvex at m.shape → IsHull at m.shape → IsLive m.shape h → 0 < face_of m.shape h
         → IsThick at (face_put_beside m e v halves edges faces).shape v }
 {}
 
@@ -146,12 +146,12 @@ pub fn closed_corners_stay_closed<V, DE, UE, F>()
 pub fn closed_corners_stay_closed_from_a_line<V, DE, UE, F>()
     ensures after { (at : ℕ → Point) (m : Mesh V DE UE F) (t e : ℕ) (halves : List DE) (edges : List UE) (faces : List F)
         → IsMesh m → IsLive m.shape e → face_of m.shape e ≡ 0 → IsLeftOf at m.shape (at (end_of m.shape (next_of m.shape e))) e
-        → IsMesh (face_closed m e halves edges faces) → AllTriangles m.shape → IsPlane at m.shape → IsClosing at m.shape t → IsThin at m.shape t
+        → IsMesh (face_closed m e halves edges faces) → AllTriangles m.shape → TrianglesTurnLeft at m.shape → IsClosing at m.shape t → IsThin at m.shape t
         → ((h : ℕ) → IsLive m.shape h → face_of m.shape h ≡ 0 → origin_of m.shape h ≡ t → orient2d_of (at (end_of m.shape h)) (at (end_of m.shape (next_of m.shape h))) (at t) ≤ℤ pos 0)
         → ((h : ℕ) → IsLive (face_closed m e halves edges faces).shape h → face_of (face_closed m e halves edges faces).shape h ≡ 0 → origin_of (face_closed m e halves edges faces).shape h ≡ t → orient2d_of (at (end_of (face_closed m e halves edges faces).shape h)) (at (end_of (face_closed m e halves edges faces).shape (next_of (face_closed m e halves edges faces).shape h))) (at t) ≤ℤ pos 0) }
     ensures before { (at : ℕ → Point) (m : Mesh V DE UE F) (t e : ℕ) (halves : List DE) (edges : List UE) (faces : List F)
         → IsMesh m → IsLive m.shape e → face_of m.shape e ≡ 0 → IsLeftOf at m.shape (at (end_of m.shape (next_of m.shape e))) e
-        → IsMesh (face_closed m e halves edges faces) → AllTriangles m.shape → IsPlane at m.shape → IsClosing at m.shape t → IsThin at m.shape t
+        → IsMesh (face_closed m e halves edges faces) → AllTriangles m.shape → TrianglesTurnLeft at m.shape → IsClosing at m.shape t → IsThin at m.shape t
         → ((h : ℕ) → IsLive m.shape h → face_of m.shape h ≡ 0 → end_of m.shape h ≡ t → orient2d_of (at (origin_of m.shape (prev_of m.shape h))) (at (origin_of m.shape h)) (at t) ≤ℤ pos 0)
         → ((h : ℕ) → IsLive (face_closed m e halves edges faces).shape h → face_of (face_closed m e halves edges faces).shape h ≡ 0 → end_of (face_closed m e halves edges faces).shape h ≡ t → orient2d_of (at (origin_of (face_closed m e halves edges faces).shape (prev_of (face_closed m e halves edges faces).shape h))) (at (origin_of (face_closed m e halves edges faces).shape h)) (at t) ≤ℤ pos 0) }
 {}
@@ -179,7 +179,7 @@ pub fn first_edges_are_straight<V, DE, UE, F>()
 pub fn extensions_keep_a_line_straight<V, DE, UE, F>()
     ensures { (at : ℕ → Point) (m : Mesh V DE UE F) (end tip h : ℕ) (halves : List DE) (edges : List UE)
         → IsMesh m → IsLineEnd m.shape end → IsStraight at m.shape → IsLive m.shape h → end_of m.shape h ≡ end
-        → orient2d_of (at (origin_of m.shape h)) (at end) (at tip) ≡ pos 0 → pos 0 <ℤ beyond (at (origin_of m.shape h)) (at end) (at tip)
+        → orient2d_of (at (origin_of m.shape h)) (at end) (at tip) ≡ pos 0 → pos 0 <ℤ dot_of_steps (at (origin_of m.shape h)) (at end) (at tip)
         → IsMesh (line_extended m end tip halves edges) → IsStraight at (line_extended m end tip halves edges).shape }
 {}
 
@@ -188,7 +188,7 @@ pub fn extensions_keep_a_line_straight<V, DE, UE, F>()
 pub fn line_splits_keep_a_line_straight<V, DE, UE, F>()
     ensures { (at : ℕ → Point) (m : Mesh V DE UE F) (e v : ℕ) (halves : List DE) (edges : List UE)
         → IsMesh m → IsLive m.shape e → orient2d_of (at (origin_of m.shape e)) (at (end_of m.shape e)) (at v) ≡ pos 0
-        → apart_along (at (origin_of m.shape e)) (at (end_of m.shape e)) (at v) <ℤ pos 0 → IsMesh (edge_split_on_line m e v halves edges)
+        → dot (at (origin_of m.shape e)) (at (end_of m.shape e)) (at v) <ℤ pos 0 → IsMesh (edge_split_on_line m e v halves edges)
         → IsStraight at m.shape → IsStraight at (edge_split_on_line m e v halves edges).shape }
 {}
 
@@ -204,9 +204,9 @@ pub fn triangles_beside_a_line_begin_a_closing<V, DE, UE, F>()
 
 /// When such a closing is at its end, the outer face is a convex hull that passes each vertex once.
 pub fn closings_from_a_line_end_in_a_hull<V, DE, UE, F>()
-    ensures convex { (at : ℕ → Point) (m : Mesh V DE UE F) (t : ℕ) → IsMesh m → AllTriangles m.shape → IsPlane at m.shape
+    ensures convex { (at : ℕ → Point) (m : Mesh V DE UE F) (t : ℕ) → IsMesh m → AllTriangles m.shape → TrianglesTurnLeft at m.shape
         → IsClosing at m.shape t → IsThin at m.shape t → IsClosed at m.shape t → IsConvex at m.shape }
-    ensures hull { (at : ℕ → Point) (m : Mesh V DE UE F) (t : ℕ) → IsMesh m → AllTriangles m.shape → IsPlane at m.shape
+    ensures hull { (at : ℕ → Point) (m : Mesh V DE UE F) (t : ℕ) → IsMesh m → AllTriangles m.shape → TrianglesTurnLeft at m.shape
         → IsClosing at m.shape t → IsThin at m.shape t → IsClosed at m.shape t → IsHull at m.shape }
 {}
 

@@ -19,8 +19,8 @@ ghost use Rattle.dcel_maps.specs.Strips.{IsEdgeStrip, IsStripAround};
 ghost use Rattle.dcel_maps.specs.Triangulations.{AllTriangles};
 ghost use Rattle.dcel_maps.specs.Walking.{IsOutEdge, IsRoundTrip, ListsOnce, ccw_of, walk_of};
 ghost use Rattle.dcel_maps.specs.Words.{count_of};
-ghost use Rattle.dcel_plane.specs.Plane.{IsPlane, ListsCircled, TurnsLeft};
-ghost use Rattle.dcel_plane.specs.removal.Wheels.{CanTurn, CanTurnAt, EarsLeft, IsFan, IsFlattened, IsFlippable, IsHollow, IsPlaneBut, IsWheel, LeadsAcross, LiesBetween, LiesOnHull, MakesTwo, turns};
+ghost use Rattle.dcel_plane.specs.Plane.{ListsCircled, TrianglesTurnLeft, TurnsLeft};
+ghost use Rattle.dcel_plane.specs.removal.Wheels.{CanTurn, CanTurnAt, EarsLeft, IsFan, IsFlattened, IsFlippable, IsHollow, IsWheel, LeadsAcross, LiesBetween, LiesOnHull, MakesTwo, TrianglesTurnLeftBut, turns};
 ghost use Rattle.dcel_plane.specs.covering.Covering.{IsConvex, IsHull};
 ghost use Rattle.dcel_plane.specs.hull.Straight.{IsStraight};
 
@@ -39,7 +39,7 @@ pub fn four_neighbors_can_be_fewer()
 
 /// The triangles around an inner vertex go round it once.
 pub fn inner_vertices_have_wheels<V, DE, UE, F>()
-    ensures { (at : ℕ → Point) (m : Mesh V DE UE F) (h : ℕ) (w : List ℕ) → IsMesh m → AllTriangles m.shape → IsPlane at m.shape
+    ensures { (at : ℕ → Point) (m : Mesh V DE UE F) (h : ℕ) (w : List ℕ) → IsMesh m → AllTriangles m.shape → TrianglesTurnLeft at m.shape
         → IsConvex at m.shape → IsHull at m.shape → IsLive m.shape h
         → ((k : ℕ) → IsLive m.shape k → origin_of m.shape k ≡ origin_of m.shape h → 0 < face_of m.shape k) → IsRoundTrip (ccw_of m.shape) h w
         → IsWheel (at (origin_of m.shape h)) (λ i. at (end_of m.shape (turns (ccw_of m.shape) i h))) (length w) }
@@ -47,7 +47,7 @@ pub fn inner_vertices_have_wheels<V, DE, UE, F>()
 
 /// An inner vertex of five or more edges has one that can be flipped.
 pub fn vertices_of_five_have_an_edge_to_flip<V, DE, UE, F>()
-    ensures { (at : ℕ → Point) (m : Mesh V DE UE F) (h : ℕ) (w : List ℕ) → IsMesh m → AllTriangles m.shape → IsPlane at m.shape
+    ensures { (at : ℕ → Point) (m : Mesh V DE UE F) (h : ℕ) (w : List ℕ) → IsMesh m → AllTriangles m.shape → TrianglesTurnLeft at m.shape
         → IsConvex at m.shape → IsHull at m.shape → IsLive m.shape h
         → ((k : ℕ) → IsLive m.shape k → origin_of m.shape k ≡ origin_of m.shape h → 0 < face_of m.shape k) → IsRoundTrip (ccw_of m.shape) h w
         → 4 < length w → (e : ℕ) × (0 < count_of e w) × CanTurn at m.shape (e / 2) }
@@ -55,7 +55,7 @@ pub fn vertices_of_five_have_an_edge_to_flip<V, DE, UE, F>()
 
 /// One of four edges has too, or two of its edges lead opposite ways.
 pub fn vertices_of_four_have_an_edge_to_flip_or_lead_across<V, DE, UE, F>()
-    ensures { (at : ℕ → Point) (m : Mesh V DE UE F) (h : ℕ) (w : List ℕ) → IsMesh m → AllTriangles m.shape → IsPlane at m.shape
+    ensures { (at : ℕ → Point) (m : Mesh V DE UE F) (h : ℕ) (w : List ℕ) → IsMesh m → AllTriangles m.shape → TrianglesTurnLeft at m.shape
         → IsConvex at m.shape → IsHull at m.shape → IsLive m.shape h
         → ((k : ℕ) → IsLive m.shape k → origin_of m.shape k ≡ origin_of m.shape h → 0 < face_of m.shape k) → IsRoundTrip (ccw_of m.shape) h w
         → length w ≡ 4 → ((e : ℕ) × (0 < count_of e w) × CanTurn at m.shape (e / 2)) ⊎ ((e : ℕ) × (0 < count_of e w) × LeadsAcross at m.shape e) }
@@ -63,7 +63,7 @@ pub fn vertices_of_four_have_an_edge_to_flip_or_lead_across<V, DE, UE, F>()
 
 /// The neighbors of an inner vertex of three edges turn left.
 pub fn neighbors_of_three_turn_left<V, DE, UE, F>()
-    ensures { (at : ℕ → Point) (m : Mesh V DE UE F) (h : ℕ) (w : List ℕ) → IsMesh m → AllTriangles m.shape → IsPlane at m.shape
+    ensures { (at : ℕ → Point) (m : Mesh V DE UE F) (h : ℕ) (w : List ℕ) → IsMesh m → AllTriangles m.shape → TrianglesTurnLeft at m.shape
         → IsConvex at m.shape → IsHull at m.shape → IsLive m.shape h
         → ((k : ℕ) → IsLive m.shape k → origin_of m.shape k ≡ origin_of m.shape h → 0 < face_of m.shape k) → IsRoundTrip (ccw_of m.shape) h w
         → length w ≡ 3 → TurnsLeft (at (end_of m.shape h)) (at (end_of m.shape (turns (ccw_of m.shape) 1 h))) (at (end_of m.shape (turns (ccw_of m.shape) 2 h))) }
@@ -81,7 +81,7 @@ pub fn flips_take_an_edge_from_a_vertex<V, DE, UE, F>()
 
 /// The neighbors of a vertex of four edges make two triangles without it, from one of them on.
 pub fn neighbors_of_four_make_two_triangles<V, DE, UE, F>()
-    ensures { (at : ℕ → Point) (m : Mesh V DE UE F) (h : ℕ) (w : List ℕ) → IsMesh m → AllTriangles m.shape → IsPlane at m.shape
+    ensures { (at : ℕ → Point) (m : Mesh V DE UE F) (h : ℕ) (w : List ℕ) → IsMesh m → AllTriangles m.shape → TrianglesTurnLeft at m.shape
         → IsConvex at m.shape → IsHull at m.shape → IsLive m.shape h
         → ((k : ℕ) → IsLive m.shape k → origin_of m.shape k ≡ origin_of m.shape h → 0 < face_of m.shape k) → IsRoundTrip (ccw_of m.shape) h w
         → length w ≡ 4 → (e : ℕ) × (0 < count_of e w) × MakesTwo at m.shape e }
@@ -93,14 +93,14 @@ pub fn neighbors_of_four_make_two_triangles<V, DE, UE, F>()
 pub fn filled_holes_stay_in_the_plane<V, DE, UE, F>()
     ensures ears { (at : ℕ → Point) (m : Mesh V DE UE F) (v p q r : ℕ) (rest border : List ℕ) (halves : List DE) (edges : List UE) (faces : List F)
         → IsMesh m → m.shape.removal ≡ Closed → IsBorderLoop m.shape border v → reverse border ≡ p ∷ q ∷ r ∷ rest
-        → EarsLeft at (origin_of m.shape) (origin_of m.shape p) q r rest → IsPlane at m.shape → IsPlane at (hole_filled m v border halves edges faces).shape }
+        → EarsLeft at (origin_of m.shape) (origin_of m.shape p) q r rest → TrianglesTurnLeft at m.shape → TrianglesTurnLeft at (hole_filled m v border halves edges faces).shape }
     ensures three { (at : ℕ → Point) (m : Mesh V DE UE F) (v : ℕ) (border : List ℕ) (halves : List DE) (edges : List UE) (faces : List F)
-        → IsMesh m → AllTriangles m.shape → IsPlane at m.shape → IsConvex at m.shape → IsHull at m.shape → m.shape.removal ≡ Closed
-        → IsBorderLoop m.shape border v → length border ≡ 3 → IsPlane at (hole_filled m v border halves edges faces).shape }
+        → IsMesh m → AllTriangles m.shape → TrianglesTurnLeft at m.shape → IsConvex at m.shape → IsHull at m.shape → m.shape.removal ≡ Closed
+        → IsBorderLoop m.shape border v → length border ≡ 3 → TrianglesTurnLeft at (hole_filled m v border halves edges faces).shape }
     ensures four { (at : ℕ → Point) (m : Mesh V DE UE F) (v : ℕ) (border : List ℕ) (halves : List DE) (edges : List UE) (faces : List F)
-        → IsMesh m → AllTriangles m.shape → IsPlane at m.shape → IsConvex at m.shape → IsHull at m.shape → m.shape.removal ≡ Closed
+        → IsMesh m → AllTriangles m.shape → TrianglesTurnLeft at m.shape → IsConvex at m.shape → IsHull at m.shape → m.shape.removal ≡ Closed
         → (loop : IsBorderLoop m.shape border v) → length border ≡ 4 → MakesTwo at m.shape loop.first
-        → IsPlane at (hole_filled m v border halves edges faces).shape }
+        → TrianglesTurnLeft at (hole_filled m v border halves edges faces).shape }
     ensures due { (at : ℕ → Point) (m : Mesh V DE UE F) (v : ℕ) (border : List ℕ) (halves : List DE) (edges : List UE) (faces : List F) (due list : List ℕ)
         → IsMesh m → m.shape.removal ≡ Closed → IsBorderLoop m.shape border v
         → ((h : ℕ) → IsLive (hole_filled m v border halves edges faces).shape h → face_count m.shape ≤ face_of (hole_filled m v border halves edges faces).shape h
@@ -116,7 +116,7 @@ pub fn filled_holes_stay_in_the_plane<V, DE, UE, F>()
 /// number the last one gets.
 pub fn other_numbers_keep_plane_and_hull<V, DE, UE, F>()
     ensures cleanup { (at : ℕ → Point) (m : Mesh V DE UE F) → IsMesh m → IsMesh (cleaned_up m)
-        → (IsPlane at m.shape → IsPlane at (cleaned_up m).shape) × (IsConvex at m.shape → IsConvex at (cleaned_up m).shape) × (IsHull at m.shape → IsHull at (cleaned_up m).shape) }
+        → (TrianglesTurnLeft at m.shape → TrianglesTurnLeft at (cleaned_up m).shape) × (IsConvex at m.shape → IsConvex at (cleaned_up m).shape) × (IsHull at m.shape → IsHull at (cleaned_up m).shape) }
     ensures due { (at : ℕ → Point) (m : Mesh V DE UE F) (due : List ℕ) → IsMesh m → IsMesh (cleaned_up m)
         → ListsCircled at m.shape due → ListsCircled at (cleaned_up m).shape (map (new_edge m.shape) due) }
     ensures vertex_due { (at after : ℕ → Point) (m : Mesh V DE UE F) (v : ℕ) (due : List ℕ) → IsMesh m → m.shape.removal ≡ Cleaned v → IsMesh (vertex_taken_out m v)
@@ -124,7 +124,7 @@ pub fn other_numbers_keep_plane_and_hull<V, DE, UE, F>()
         → ListsCircled at m.shape due → ListsCircled after (vertex_taken_out m v).shape due }
     ensures vertex { (at after : ℕ → Point) (m : Mesh V DE UE F) (v : ℕ) → IsMesh m → m.shape.removal ≡ Cleaned v → IsMesh (vertex_taken_out m v)
         → ((w : ℕ) → vertex_is_live m.shape w ≡ true → after (moved (m.shape.vertices - 1) v w) ≡ at w)
-        → (IsPlane at m.shape → IsPlane after (vertex_taken_out m v).shape) × (IsConvex at m.shape → IsConvex after (vertex_taken_out m v).shape)
+        → (TrianglesTurnLeft at m.shape → TrianglesTurnLeft after (vertex_taken_out m v).shape) × (IsConvex at m.shape → IsConvex after (vertex_taken_out m v).shape)
         × (IsHull at m.shape → IsHull after (vertex_taken_out m v).shape) }
 {}
 
@@ -145,10 +145,10 @@ pub fn corners_of_the_hull_can_have_fewer_or_go()
 
 /// The triangles at a corner of the hull make a fan: an edge can be flipped, or the corner can go.
 pub fn corners_of_the_hull_have_an_edge_to_flip_or_can_go<V, DE, UE, F>()
-    ensures fan { (at : ℕ → Point) (m : Mesh V DE UE F) (h : ℕ) (w : List ℕ) → IsMesh m → AllTriangles m.shape → IsPlane at m.shape
+    ensures fan { (at : ℕ → Point) (m : Mesh V DE UE F) (h : ℕ) (w : List ℕ) → IsMesh m → AllTriangles m.shape → TrianglesTurnLeft at m.shape
         → IsConvex at m.shape → IsHull at m.shape → IsLive m.shape h → face_of m.shape h ≡ 0 → IsRoundTrip (ccw_of m.shape) h w
         → IsFan (at (origin_of m.shape h)) (λ i. at (end_of m.shape (turns (ccw_of m.shape) (suc i) h))) (length w - 1) }
-    ensures turn { (at : ℕ → Point) (m : Mesh V DE UE F) (h : ℕ) (w : List ℕ) → IsMesh m → AllTriangles m.shape → IsPlane at m.shape
+    ensures turn { (at : ℕ → Point) (m : Mesh V DE UE F) (h : ℕ) (w : List ℕ) → IsMesh m → AllTriangles m.shape → TrianglesTurnLeft at m.shape
         → IsConvex at m.shape → IsHull at m.shape → IsLive m.shape h → face_of m.shape h ≡ 0 → IsRoundTrip (ccw_of m.shape) h w → 2 < length w
         → ((e : ℕ) × (0 < count_of e w) × CanTurn at m.shape (e / 2))
         ⊎ (IsHollow (at (origin_of m.shape h)) (λ i. at (end_of m.shape (turns (ccw_of m.shape) (suc i) h))) (length w - 1)
@@ -157,19 +157,19 @@ pub fn corners_of_the_hull_have_an_edge_to_flip_or_can_go<V, DE, UE, F>()
 
 /// Each corner of the hull has a strip, if there is a triangle.
 pub fn corners_of_the_hull_have_a_strip<V, DE, UE, F>()
-    ensures { (at : ℕ → Point) (m : Mesh V DE UE F) (h g : ℕ) → IsMesh m → AllTriangles m.shape → IsPlane at m.shape
+    ensures { (at : ℕ → Point) (m : Mesh V DE UE F) (h g : ℕ) → IsMesh m → AllTriangles m.shape → TrianglesTurnLeft at m.shape
         → IsConvex at m.shape → IsHull at m.shape → IsLive m.shape h → face_of m.shape h ≡ 0 → IsLive m.shape g → 0 < face_of m.shape g
         → IsStripAround m.shape (origin_of m.shape h) h }
 {}
 
 /// Where none of its edges can be flipped, a corner is hollow, or lies between its neighbors on the hull.
 pub fn corners_without_an_edge_to_flip_can_go<V, DE, UE, F>()
-    ensures hollow { (at : ℕ → Point) (m : Mesh V DE UE F) (h g : ℕ) → IsMesh m → AllTriangles m.shape → IsPlane at m.shape
+    ensures hollow { (at : ℕ → Point) (m : Mesh V DE UE F) (h g : ℕ) → IsMesh m → AllTriangles m.shape → TrianglesTurnLeft at m.shape
         → IsConvex at m.shape → IsHull at m.shape → IsLive m.shape h → face_of m.shape h ≡ 0
         → ((e : ℕ) → IsOutEdge m.shape (origin_of m.shape h) e → ¬ CanTurn at m.shape (e / 2)) → IsLive m.shape g → 0 < face_of m.shape g
         → ¬ (orient2d_of (at (origin_of m.shape h)) (at (end_of m.shape h)) (at (end_of m.shape (ccw_of m.shape h))) ≡ pos 0)
         → IsHollow (at (origin_of m.shape h)) (λ i. at (end_of m.shape (turns (ccw_of m.shape) (suc i) h))) (length (walk_of m.shape (ccw_of m.shape) h) - 1) }
-    ensures between { (at : ℕ → Point) (m : Mesh V DE UE F) (h g : ℕ) → IsMesh m → AllTriangles m.shape → IsPlane at m.shape
+    ensures between { (at : ℕ → Point) (m : Mesh V DE UE F) (h g : ℕ) → IsMesh m → AllTriangles m.shape → TrianglesTurnLeft at m.shape
         → IsConvex at m.shape → IsHull at m.shape → IsLive m.shape h → face_of m.shape h ≡ 0
         → ((e : ℕ) → IsOutEdge m.shape (origin_of m.shape h) e → ¬ CanTurn at m.shape (e / 2)) → IsLive m.shape g → 0 < face_of m.shape g
         → orient2d_of (at (origin_of m.shape h)) (at (end_of m.shape h)) (at (end_of m.shape (ccw_of m.shape h))) ≡ pos 0
@@ -190,24 +190,24 @@ pub fn hollow_corners_leave_all_on_the_right()
 /// is, what is left is a straight line.
 pub fn hollow_corners_can_be_cut_off<V, DE, UE, F>()
     ensures plane { (at : ℕ → Point) (m : Mesh V DE UE F) (list : List ℕ) → IsMesh m → m.shape.removal ≡ Closed → IsEdgeStrip m.shape list
-        → IsPlane at m.shape → IsPlane at (strip_cut m list).shape }
+        → TrianglesTurnLeft at m.shape → TrianglesTurnLeft at (strip_cut m list).shape }
     ensures due { (at : ℕ → Point) (m : Mesh V DE UE F) (list due : List ℕ) → IsMesh m → m.shape.removal ≡ Closed → IsEdgeStrip m.shape list
         → ListsCircled at m.shape due → ListsCircled at (strip_cut m list).shape due }
     ensures convex { (at : ℕ → Point) (m : Mesh V DE UE F) (list : List ℕ) → IsMesh m → m.shape.removal ≡ Closed → (strip : IsEdgeStrip m.shape list)
-        → AllTriangles m.shape → IsPlane at m.shape → IsConvex at m.shape → IsHull at m.shape
+        → AllTriangles m.shape → TrianglesTurnLeft at m.shape → IsConvex at m.shape → IsHull at m.shape
         → IsHollow (at strip.vertex) (λ i. at (end_of m.shape (turns (ccw_of m.shape) (suc i) strip.half))) (length (walk_of m.shape (ccw_of m.shape) strip.half) - 1)
         → IsConvex at (strip_cut m list).shape }
     ensures hull { (at : ℕ → Point) (m : Mesh V DE UE F) (list : List ℕ) → IsMesh m → m.shape.removal ≡ Closed → (strip : IsEdgeStrip m.shape list)
-        → AllTriangles m.shape → IsPlane at m.shape → IsConvex at m.shape → IsHull at m.shape
+        → AllTriangles m.shape → TrianglesTurnLeft at m.shape → IsConvex at m.shape → IsHull at m.shape
         → IsHollow (at strip.vertex) (λ i. at (end_of m.shape (turns (ccw_of m.shape) (suc i) strip.half))) (length (walk_of m.shape (ccw_of m.shape) strip.half) - 1)
         → (g : ℕ) → IsLive m.shape g → 0 < face_of m.shape g → origin_of m.shape g ≢ strip.vertex → origin_of m.shape (next_of m.shape g) ≢ strip.vertex
         → origin_of m.shape (prev_of m.shape g) ≢ strip.vertex → IsHull at (strip_cut m list).shape }
     ensures outline { (at : ℕ → Point) (m : Mesh V DE UE F) (list : List ℕ) → IsMesh m → m.shape.removal ≡ Closed → (strip : IsEdgeStrip m.shape list)
-        → AllTriangles m.shape → IsPlane at m.shape → IsConvex at m.shape → IsHull at m.shape
+        → AllTriangles m.shape → TrianglesTurnLeft at m.shape → IsConvex at m.shape → IsHull at m.shape
         → IsHollow (at strip.vertex) (λ i. at (end_of m.shape (turns (ccw_of m.shape) (suc i) strip.half))) (length (walk_of m.shape (ccw_of m.shape) strip.half) - 1)
         → (g : ℕ) → IsLive (strip_cut m list).shape g → 0 < face_of (strip_cut m list).shape g → IsHull at (strip_cut m list).shape }
     ensures line { (at : ℕ → Point) (m : Mesh V DE UE F) (list : List ℕ) → IsMesh m → m.shape.removal ≡ Closed → (strip : IsEdgeStrip m.shape list)
-        → AllTriangles m.shape → IsPlane at m.shape → IsConvex at m.shape → IsHull at m.shape
+        → AllTriangles m.shape → TrianglesTurnLeft at m.shape → IsConvex at m.shape → IsHull at m.shape
         → IsHollow (at strip.vertex) (λ i. at (end_of m.shape (turns (ccw_of m.shape) (suc i) strip.half))) (length (walk_of m.shape (ccw_of m.shape) strip.half) - 1)
         → (g : ℕ) → IsLive m.shape g → 0 < face_of m.shape g → ((x : ℕ) → IsLive (strip_cut m list).shape x → face_of (strip_cut m list).shape x ≡ 0)
         → IsStraight at (strip_cut m list).shape }
@@ -216,18 +216,18 @@ pub fn hollow_corners_can_be_cut_off<V, DE, UE, F>()
 /// A corner that lies between its neighbors on the hull, with one more neighbor: a flip leaves a flat
 /// triangle there and no other, and then the corner can be cut off.
 pub fn flat_corners_can_be_cut_off<V, DE, UE, F>()
-    ensures turn { (at : ℕ → Point) (m : Mesh V DE UE F) (h : ℕ) (w : List ℕ) → IsMesh m → AllTriangles m.shape → IsPlane at m.shape
+    ensures turn { (at : ℕ → Point) (m : Mesh V DE UE F) (h : ℕ) (w : List ℕ) → IsMesh m → AllTriangles m.shape → TrianglesTurnLeft at m.shape
         → IsConvex at m.shape → IsHull at m.shape → IsLive m.shape h → face_of m.shape h ≡ 0 → IsRoundTrip (ccw_of m.shape) h w
         → LiesOnHull (at (origin_of m.shape h)) (λ i. at (end_of m.shape (turns (ccw_of m.shape) (suc i) h))) (length w - 1)
         → CanTurnAt at m.shape (turns (ccw_of m.shape) 2 h / 2) (origin_of m.shape h) }
-    ensures flattened { (at : ℕ → Point) (m : Mesh V DE UE F) (h : ℕ) → IsMesh m → AllTriangles m.shape → IsPlane at m.shape
+    ensures flattened { (at : ℕ → Point) (m : Mesh V DE UE F) (h : ℕ) → IsMesh m → AllTriangles m.shape → TrianglesTurnLeft at m.shape
         → IsConvex at m.shape → IsHull at m.shape → IsLive m.shape h → face_of m.shape h ≡ 0
         → LiesOnHull (at (origin_of m.shape h)) (λ i. at (end_of m.shape (turns (ccw_of m.shape) (suc i) h))) (length (walk_of m.shape (ccw_of m.shape) h) - 1)
         → IsFlattened at (edge_flipped m (turns (ccw_of m.shape) 2 h / 2)).shape (origin_of m.shape h) h }
-    ensures flip { (at : ℕ → Point) (m : Mesh V DE UE F) (u v : ℕ) → IsMesh m → CanTurnAt at m.shape u v → IsPlane at m.shape
-        → IsPlaneBut at (edge_flipped m u).shape v }
+    ensures flip { (at : ℕ → Point) (m : Mesh V DE UE F) (u v : ℕ) → IsMesh m → CanTurnAt at m.shape u v → TrianglesTurnLeft at m.shape
+        → TrianglesTurnLeftBut at (edge_flipped m u).shape v }
     ensures plane { (at : ℕ → Point) (m : Mesh V DE UE F) (list : List ℕ) → IsMesh m → m.shape.removal ≡ Closed → (strip : IsEdgeStrip m.shape list)
-        → IsPlaneBut at m.shape strip.vertex → IsPlane at (strip_cut m list).shape }
+        → TrianglesTurnLeftBut at m.shape strip.vertex → TrianglesTurnLeft at (strip_cut m list).shape }
     ensures convex { (at : ℕ → Point) (m : Mesh V DE UE F) (list : List ℕ) → IsMesh m → m.shape.removal ≡ Closed → (strip : IsEdgeStrip m.shape list)
         → AllTriangles m.shape → IsConvex at m.shape → IsHull at m.shape → length (walk_of m.shape (ccw_of m.shape) strip.half) ≡ 2
         → orient2d_of (at strip.vertex) (at (end_of m.shape (ccw_of m.shape strip.half))) (at (end_of m.shape strip.half)) ≡ pos 0
@@ -240,7 +240,7 @@ pub fn flat_corners_can_be_cut_off<V, DE, UE, F>()
 
 /// A flip after which both triangles turn left keeps a mesh in the plane, circled or not.
 pub fn turning_flips_keep_the_plane<V, DE, UE, F>()
-    ensures { (at : ℕ → Point) (m : Mesh V DE UE F) (u : ℕ) → IsMesh m → CanTurn at m.shape u → IsPlane at m.shape → IsPlane at (edge_flipped m u).shape }
+    ensures { (at : ℕ → Point) (m : Mesh V DE UE F) (u : ℕ) → IsMesh m → CanTurn at m.shape u → TrianglesTurnLeft at m.shape → TrianglesTurnLeft at (edge_flipped m u).shape }
 {}
 
 /// On a straight line one or two half edges lead out of each vertex that has one.
