@@ -1,7 +1,7 @@
 //! Points by their coordinates, and triangulations of them.
 
-use dcel_circles::is_delaunay_triangulation;
 use dcel_delaunay::{Point, Triangulation, point};
+use dcel_planar::is_delaunay_triangulation;
 use spade_dcel::dcel::Dcel;
 use std::alloc::{Allocator, Global};
 use std::test::Fail;

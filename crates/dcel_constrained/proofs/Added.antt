@@ -12,8 +12,8 @@ use Rattle.dcel_maps.specs.Removals.{Closed}
 use Rattle.dcel_maps.specs.Shapes.{IsLive, IsMesh, Mesh, end_of, origin_of}
 use Rattle.dcel_maps.proofs.Liveness.{closed-live}
 use Rattle.dcel_plane.specs.Plane.{origin_point, point_at}
-use Rattle.dcel_delaunay.specs.Edges.{KeepsEdgeData, KeepsStarts}
-use Rattle.dcel_delaunay.specs.Growing.{Gains}
+use Rattle.dcel_planar.specs.Edges.{KeepsEdgeData, KeepsStarts}
+use Rattle.dcel_planar.specs.Growing.{Gains}
 use Rattle.dcel_regions.specs.Marked.{IsMarked}
 use Rattle.dcel_regions.specs.declared.mark.Mark.{Mark}
 use Rattle.dcel_regions.specs.declared.mark.Mark.TheVariants.{Constraint, Free}

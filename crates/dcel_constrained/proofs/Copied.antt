@@ -8,7 +8,7 @@ use Rattle.dcel_maps.specs.Triangulations.{AllTriangles}
 use Rattle.dcel_plane.specs.Plane.{ListsCircled, TrianglesTurnLeft, origin_point, point_at}
 use Rattle.dcel_plane.specs.covering.Covering.{IsConvex, IsHull}
 use Rattle.dcel_plane.specs.hull.Straight.{IsStraight}
-use Rattle.dcel_delaunay.specs.Growing.{IsJoined, IsTriangulation}
+use Rattle.dcel_planar.specs.Growing.{IsJoined, IsTriangulation}
 use Rattle.dcel_regions.specs.declared.mark.Mark.{Mark}
 use Rattle.dcel_regions.specs.declared.mark.Mark.TheVariants.{Constraint, Free}
 use Rattle.dcel_constrained.specs.Soundness.{IsConstrained, IsOutlined}

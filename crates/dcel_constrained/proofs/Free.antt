@@ -12,20 +12,20 @@ use Rattle.dcel_maps.specs.Shapes.{IsLive, IsMesh, Mesh, Shape, end_of, face_cou
 use Rattle.dcel_maps.specs.Words.{count_of}
 use Rattle.dcel_maps.proofs.Liveness.{even_live}
 use Rattle.dcel_maps.proofs.edits.Flips.{at_flip}
-use Rattle.dcel_maps.proofs.words.Counts.{count-other, count-same, first_or_later, in_either}
+use Rattle.dcel_maps.proofs.words.Counts.{count-other, count-same}
 use Rattle.dcel_maps.proofs.words.EachSet.{length-two_set, other-two_set}
 use Rattle.dcel_plane.specs.Plane.{IsCircled, IsInner, TrianglesTurnLeft, TurnsLeft, origin_point, point_at}
 use Rattle.dcel_plane.proofs.edits.Flipped.{circled_can_flip, from_end, from_start, new_corners, origin_after, origin_same, origin_t_after}
-use Rattle.dcel_plane.specs.covering.Covering.{CoversHull, dot}
+use Rattle.dcel_plane.specs.covering.Covering.{dot}
 use Rattle.dcel_plane.specs.removal.Wheels.{CanTurn}
-use Rattle.dcel_plane.specs.segments.Segments.{AreEnds, CanTurnEach, Crosses, LeadsAlong, TriangulatesItsHull, TurnsInto, flipped_each, orient2d_by}
+use Rattle.dcel_plane.specs.segments.Segments.{CanTurnEach, Crosses, TriangulatesItsHull, LeadsAlong, TurnsInto, flipped_each, orient2d_by}
 use Rattle.dcel_plane.proofs.segments.Becoming.{turned_planar}
-use Rattle.dcel_plane.proofs.segments.Covered.{each_covers, each_planar}
+use Rattle.dcel_plane.proofs.segments.Covered.{each_planar}
 use Rattle.dcel_plane.proofs.segments.FlipFaces.{of_even}
 use Rattle.dcel_regions.specs.Marked.{IsMarked}
 use Rattle.dcel_regions.specs.declared.mark.Mark.{Mark}
 use Rattle.dcel_regions.specs.declared.mark.Mark.TheVariants.{Constraint}
-use Rattle.dcel_constrained.specs.Constraints.{HasConstraint, IsFreeWay, IsMarkedWay, KeepsMarked, MarksOnly, TurnsFree}
+use Rattle.dcel_constrained.specs.Constraints.{IsFreeWay, IsMarkedWay, KeepsMarked, TurnsFree}
 
 -- an edge whose circle test is positive can be flipped so that both triangles go round counterclockwise again
 pub circled_can_turn : {V DE UE F : Type 0} (at : ℕ → Point) (m : Mesh V DE UE F) (u : ℕ) → IsMesh m → TrianglesTurnLeft at m.shape → IsInner m.shape u → IsCircled at m.shape u
@@ -95,11 +95,6 @@ kept_live old new kept h live =
     subst (λ r. is_live (gives_up_edge r) new.shape.edges (h / 2) ≡ true) (sym kept.removal)
     (subst (λ (n : ℕ). is_live (gives_up_edge old.shape.removal) n (h / 2) ≡ true) (sym kept.edges) live)
 
-pub kept_live_before : {V DE UE F : Type 0} (old new : Mesh V DE UE F) → IsKept old new → (h : ℕ) → IsLive new.shape h → IsLive old.shape h
-kept_live_before old new kept h live =
-    subst (λ r. is_live (gives_up_edge r) old.shape.edges (h / 2) ≡ true) kept.removal
-    (subst (λ (n : ℕ). is_live (gives_up_edge new.shape.removal) n (h / 2) ≡ true) kept.edges live)
-
 -- each vertex with an edge has one after a flip
 ends_stay : {V DE UE F : Type 0} (m : Mesh V DE UE F) → IsMesh m → (at : ℕ → Point) (u : ℕ) → CanTurn at m.shape u → (v i : ℕ) → IsLive m.shape i → origin_of m.shape i ≡ v
     → (j : ℕ) × IsLive (edge_flipped m u).shape j × (origin_of (edge_flipped m u).shape j ≡ v)
@@ -153,37 +148,6 @@ module _ {DE F : Type 0} where
   pub free_kept : (old new : Mesh Point DE Mark F) → TurnsFree old new → IsKept old new
   free_kept old new turns = subst (λ (m : Mesh Point DE Mark F). IsKept old m) (sym turns.is) (each_kept old turns.turned)
 
-  -- flips after others
-  pub free-append : (a b c : Mesh Point DE Mark F) → TurnsFree a b → TurnsFree b c → TurnsFree a c
-  free-append a b c first second =
-      let kept = free_kept a b first in
-      record {
-        turned = first.turned ++ second.turned;
-        can =
-            can-after (point_at a) a first.turned second.turned first.can
-            (subst (λ (m : Mesh Point DE Mark F). CanTurnEach (point_at a) m second.turned) first.is
-            (subst (λ (at : ℕ → Point). CanTurnEach at b second.turned) (kept_points a b kept) second.can));
-        is =
-            second.is ∙ ap (λ (m : Mesh Point DE Mark F). flipped_each m second.turned) first.is
-            ∙ sym (flipped-after a first.turned second.turned);
-        free = λ u there marked. elim (in_either u first.turned second.turned there) [
-          | inl early ↦ first.free u early marked
-          | inr late ↦ second.free u late (kept_mark a b kept u marked)
-        ];
-      }
-
-  pub free_one : (m : Mesh Point DE Mark F) (u : ℕ) → CanTurn (point_at m) m.shape u → ¬ IsMarked m u → TurnsFree m (edge_flipped m u)
-  free_one m u can free = record {
-    turned = u ∷ [];
-    can = (can, tt);
-    is = refl;
-    free = λ k there. elim (first_or_later k u [] there) [ inl is ↦ subst (λ (i : ℕ). ¬ IsMarked m i) (sym is) free | inr none ↦ absurd (omega (arith, none)) ];
-  }
-
-  pub free_more : (first now : Mesh Point DE Mark F) (u : ℕ) → TurnsFree first now → CanTurn (point_at now) now.shape u → ¬ IsMarked now u
-      → TurnsFree first (edge_flipped now u)
-  free_more first now u turns can free = free-append first now (edge_flipped now u) turns (free_one now u can free)
-
   -- flips of edges of half edges that aren't marked
   pub turned_free : (old new : Mesh Point DE Mark F) (list : List ℕ) → TurnsInto (point_at old) old new list
       → ((k : ℕ) → 0 < count_of k list → ¬ IsMarked old (k / 2)) → TurnsFree old new
@@ -213,32 +177,11 @@ module _ {DE F : Type 0} where
     pub free_keeps : KeepsMarked old new
     free_keeps = record { marked = kept_mark old new kept; from = free_even; to = free_odd }
 
-    -- and no others are marked
-    pub free_only : (v w : ℕ) → MarksOnly old new v w
-    free_only v w u marked = inl (kept_unmarked old new kept u marked)
-
     -- the mesh stays in the plane, with its hull
     pub free_planar : TriangulatesItsHull (point_at old) old → TriangulatesItsHull (point_at new) new
     free_planar planar =
         subst (λ (at : ℕ → Point). TriangulatesItsHull at new) (sym (kept_points old new kept))
         (subst (λ (m : Mesh Point DE Mark F). TriangulatesItsHull (point_at old) m) (sym turns.is) (each_planar (point_at old) old turns.turned planar turns.can))
-
-    pub free_covers : TriangulatesItsHull (point_at old) old → CoversHull (point_at old) old.shape → CoversHull (point_at new) new.shape
-    free_covers planar covers =
-        subst (λ (at : ℕ → Point). CoversHull at new.shape) (sym (kept_points old new kept))
-        (subst (λ (m : Mesh Point DE Mark F). CoversHull (point_at old) m.shape) (sym turns.is) (each_covers (point_at old) old turns.turned planar turns.can covers))
-
-    pub free_ends : TriangulatesItsHull (point_at old) old → (v w : ℕ) → AreEnds old.shape v w → AreEnds new.shape v w
-    free_ends planar v w ends =
-        let i = each_ends (point_at old) old turns.turned planar turns.can v ends.i ends.live_i ends.from_i in
-        let j = each_ends (point_at old) old turns.turned planar turns.can w ends.j ends.live_j ends.from_j in
-        subst (λ (m : Mesh Point DE Mark F). AreEnds m.shape v w) (sym turns.is)
-        (record { i = i.0; live_i = i.1; from_i = i.2; j = j.0; live_j = j.1; from_j = j.2 })
-
-    pub free_inner : TriangulatesItsHull (point_at old) old → (h : ℕ) × IsLive old.shape h × (0 < face_of old.shape h) → (h : ℕ) × IsLive new.shape h × (0 < face_of new.shape h)
-    free_inner planar some =
-        subst (λ (m : Mesh Point DE Mark F). (h : ℕ) × IsLive m.shape h × (0 < face_of m.shape h)) (sym turns.is)
-        (each_inner (point_at old) old turns.turned planar turns.can some)
 
 -- what a flip leaves of a half edge in the segment's way
 pub crosses_as : (at to : ℕ → Point) (s n : Shape) (v w h : ℕ) → to ≡ at → IsLive n h → origin_of n h ≡ origin_of s h → end_of n h ≡ end_of s h → Crosses at s v w h
@@ -291,26 +234,6 @@ module _ {DE F : Type 0} where
         keeps.marked (h / 2) is.1,
         subst (λ (x : ℕ). IsMarkedWay new w x rest) (sym (end_kept h is.1)) (way_kept w (end_of old.shape h) rest is.2),
       )
-
-      pub keeps_constraint : (v w : ℕ) → HasConstraint old v w → HasConstraint new v w
-      keeps_constraint v w has = (has.0, way_kept w v has.0 has.1)
-
-  module _ (old new : Mesh Point DE Mark F) (turns : TurnsFree old new) where
-    pub free_constraint : (v w : ℕ) → HasConstraint old v w → HasConstraint new v w
-    free_constraint v w has =
-        let kept = free_kept old new turns in
-        keeps_constraint old new (free_keeps old new turns) (kept_points old new kept) (kept_live old new kept) v w has
-
-    -- a segment that crossed no marked edge crosses none afterwards
-    pub free_way : (v w : ℕ) → IsFreeWay old v w → IsFreeWay new v w
-    free_way v w free h crosses marked =
-        let kept = free_kept old new turns in
-        let keeps = free_keeps old new turns in
-        let was : IsMarked old (h / 2) = kept_unmarked old new kept (h / 2) marked in
-        free h
-        (crosses_as (point_at new) (point_at old) new.shape old.shape v w h (sym (kept_points old new kept)) (kept_live_before old new kept h crosses.live)
-        (sym (start_kept old new keeps h was)) (sym (end_kept old new keeps h was)) crosses)
-        was
 
   -- the flips of `join`
   pub joined_free : (old new : Mesh Point DE Mark F) (v w : ℕ) → IsFreeWay old v w

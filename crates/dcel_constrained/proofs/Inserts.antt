@@ -3,9 +3,9 @@ use Rattle.std.proofs.Common.{◌≡◌, ◌⊎◌, inl, inr, ℕ, ◌≤◌, Li
 use Rattle.std.proofs.lemmas.List.{length-append}
 use Rattle.dcel_predicates.specs.declared.point.Point.{Point}
 use Rattle.dcel_maps.specs.Shapes.{IsMesh, Mesh}
-use Rattle.dcel_delaunay.specs.Growing.{Inserts, MayRefuse, Refuses}
-use Rattle.dcel_delaunay.specs.declared.errors.InsertionError.{InsertionError}
-use Rattle.dcel_delaunay.specs.declared.errors.InsertionError.TheVariants.{Unfinished}
+use Rattle.dcel_planar.specs.Growing.{Inserts, MayRefuse, Refuses}
+use Rattle.dcel_planar.specs.declared.errors.InsertionError.{InsertionError}
+use Rattle.dcel_planar.specs.declared.errors.InsertionError.TheVariants.{Unfinished}
 use Rattle.dcel_delaunay.proofs.Taking.{takes_has, takes_points}
 use Rattle.dcel_regions.specs.declared.mark.Mark.{Mark}
 use Rattle.dcel_constrained.specs.Constrained.{IsWhole, marked_mesh}

@@ -111,22 +111,6 @@ module _ {DE F : Type 0} where
     pub end_below : w < m.shape.vertices
     pub on : LiesOnSegment (point_at m) v w at
 
-  pub laid_none : (m : Mesh Point DE Mark F) (v w : ℕ) (added : Bool) → v < m.shape.vertices → w < m.shape.vertices → (IsTrue added → ⊥) → IsLaidTo m m v w v added
-  laid_none m v w added below_v below_w not = record {
-    vertices = refl;
-    edges = refl;
-    points = refl;
-    keeps = keeps_none m;
-    only = λ u marked. inl marked;
-    added = (λ so. absurd (not so), λ another. absurd (another.2 another.1));
-    same = λ none. refl;
-    list = [];
-    path = refl;
-    below = below_v;
-    end_below = below_w;
-    on = inl refl;
-  }
-
   pub laid_all : (old m : Mesh Point DE Mark F) (v w at : ℕ) (added : Bool) → IsLaidTo old m v w at added → at ≡ w → HasConstraint m v w
   laid_all old m v w at added laid is = (laid.list, path_ends m w v laid.list (subst (λ (i : ℕ). IsMarkedPath m w v i laid.list) is laid.path))
 

@@ -17,7 +17,7 @@ use Rattle.dcel_plane.specs.Plane.{point_at}
 use Rattle.dcel_plane.proofs.covering.Along.{long}
 use Rattle.dcel_plane.specs.segments.Segments.{LeadsAlong}
 use Rattle.dcel_plane.specs.covering.Covering.{dot}
-use Rattle.dcel_delaunay.specs.Growing.{HasHull, IsFlat}
+use Rattle.dcel_planar.specs.Growing.{HasHull, IsFlat}
 use Rattle.dcel_delaunay.specs.Triangulated.{PointsAreSingle}
 use Rattle.dcel_delaunay.proofs.Outline.{all_single}
 use Rattle.dcel_regions.specs.Marked.{IsMarked}
@@ -28,7 +28,7 @@ use Rattle.dcel_constrained.specs.Laying.{IsLaid, MarksBetween}
 use Rattle.dcel_constrained.specs.Meeting.{LiesBetween}
 use Rattle.dcel_constrained.specs.Soundness.{CanAdd, IsConstrained, MarksAnother}
 use Rattle.dcel_constrained.proofs.Between.{leads_ahead, lies_not_start, lies_sooner, shorter_end, shorter_later, shorter_sooner, span, span_within}
-use Rattle.dcel_constrained.proofs.Laid.{IsLaidTo, laid_further, laid_none, rest_free}
+use Rattle.dcel_constrained.proofs.Laid.{IsLaidTo, laid_further, rest_free}
 use Rattle.dcel_constrained.proofs.Marking.{constrained_more, marked_again, marked_itself, marked_keeps, marked_now, marked_or_not}
 use Rattle.dcel_constrained.proofs.Parts.{free_later, free_sooner}
 
@@ -78,20 +78,6 @@ module _ {DE F : Type 0} where
     pub free : IsFreeWay m at w
     pub below : goal < m.shape.vertices
     pub ahead : (goal ≡ w) ⊎ LiesBetween (point_at m) at w goal
-
-  pub laying_begins : (m : Mesh Point DE Mark F) (v w : ℕ) (due crossed : List ℕ) (added : Bool) → IsMesh m → IsConstrained m due → due ≡ [] → HasHull m → crossed ≡ []
-      → CanAdd m v w → (IsTrue added → ⊥) → IsLaying m m v w v w due crossed added
-  laying_begins m v w due crossed added mesh sound whole has empty can not = record {
-    laid = laid_none m v w added can.from can.to not;
-    mesh = mesh;
-    sound = sound;
-    whole = whole;
-    has = has;
-    empty = empty;
-    free = can.free;
-    below = can.to;
-    ahead = inl refl;
-  }
 
   module _ (old m : Mesh Point DE Mark F) (v w at goal : ℕ) (due crossed : List ℕ) (added : Bool) (laying : IsLaying old m v w at goal due crossed added) (more : at ≢ w) where
     pub parts_differ : at ≢ goal
@@ -219,7 +205,3 @@ module _ {DE F : Type 0} where
         line_nearer more =
             subst (λ (k : Mesh Point DE Mark F). span (point_at k) end w < span (point_at m) at w) (sym is)
             (nearer (point_at m) at w end (line_apart more) (leads_ahead (point_at m) m.shape at w end half along (sym ends)))
-
-  pub line_begins : (m : Mesh Point DE Mark F) (v w : ℕ) (added : Bool) → IsMesh m → IsConstrained m [] → IsFlat m → CanAdd m v w → (IsTrue added → ⊥)
-      → IsLayingOnLine m m v w v added
-  line_begins m v w added mesh sound flat can not = record { laid = laid_none m v w added can.from can.to not; mesh = mesh; sound = sound; flat = flat }

@@ -19,7 +19,6 @@ pub mod Laid
 pub mod PartsLaid
 pub mod Already
 pub mod Lays
-pub mod Running
 pub mod Missed
 pub mod Splits
 pub mod Added
@@ -28,3 +27,5 @@ pub mod Settled
 pub mod Finished
 pub mod Copied
 pub mod Inserts
+pub mod Told
+pub mod Loose

@@ -13,8 +13,8 @@ use Rattle.dcel_maps.proofs.maps.Soundness.{rev_live}
 use Rattle.dcel_plane.specs.Plane.{point_at}
 use Rattle.dcel_plane.proofs.removal.Turnable.{both_halves}
 use Rattle.dcel_plane.specs.location.Locating.{LiesOn}
-use Rattle.dcel_delaunay.specs.Edges.{IsSplit, KeepsEdgeData}
-use Rattle.dcel_delaunay.specs.Growing.{Gains, HasHull, HasOutside, IsFlat, IsTriangulated, KeepsListed}
+use Rattle.dcel_planar.specs.Edges.{IsSplit, KeepsEdgeData}
+use Rattle.dcel_planar.specs.Growing.{Gains, HasHull, HasOutside, IsFlat, IsTriangulated, KeepsListed}
 use Rattle.dcel_regions.specs.Marked.{IsMarked}
 use Rattle.dcel_regions.specs.declared.mark.Mark.{Mark}
 use Rattle.dcel_regions.specs.declared.mark.Mark.TheVariants.{Constraint, Free}

@@ -10,11 +10,11 @@ use Rattle.dcel_maps.specs.edits.Data.{undirected_edge_updated}
 use Rattle.dcel_maps.specs.Shapes.{IsMesh, Mesh}
 use Rattle.dcel_maps.specs.Words.{count_of}
 use Rattle.dcel_maps.proofs.words.Counts.{count-append, count-same}
-use Rattle.dcel_regions.specs.Marked.{IsMarked}
+use Rattle.dcel_regions.specs.Marked.{IsMarked, is_constraint}
 use Rattle.dcel_regions.specs.declared.mark.Mark.{Mark}
 use Rattle.dcel_regions.specs.declared.mark.Mark.TheVariants.{Constraint, Free}
 use Rattle.dcel_constrained.specs.Constraints.{KeepsMarked}
-use Rattle.dcel_constrained.specs.Soundness.{IsConstrained, IsOutlined, MarksAllBut, is_constraint}
+use Rattle.dcel_constrained.specs.Soundness.{IsConstrained, IsOutlined, MarksAllBut}
 
 get-set : {X : Type 0} (xs : List X) (e : ℕ) (x : X) → e < length xs → slice_get (slice_set xs e x) e ≡ Some x
 get-set xs e x below = slice_get-get_or (slice_set xs e x) e x (omega (arith, length-set xs e x, below)) ∙ ap Some (get_or-set_same xs e x x below)
@@ -123,9 +123,6 @@ module _ {DE F : Type 0} (m : Mesh Point DE Mark F) (e : ℕ) where
     from = λ u marked. refl;
     to = λ u marked. refl;
   }
-
-  pub all_but_none : MarksAllBut m m e
-  all_but_none = record { no_other = λ u marked. marked; marked = λ u differ marked. marked; from = λ u marked. refl; to = λ u marked. refl }
 
   -- e is to be looked at then
   pub constrained_less : (due : List ℕ) → IsConstrained m due → IsConstrained (undirected_edge_updated m e Free) (due ++ e ∷ [])

@@ -65,15 +65,6 @@ module _ {DE F : Type 0} where
     | inr marked ↦ absurd (free (listed_marked m u marked))
   ]
 
-  -- more edges that are due
-  pub free_lists_more : (m : Mesh Point DE Mark F) (due more : List ℕ) → ListsFree m due → ListsFree m (due ++ more)
-  free_lists_more m due more lists u inner circled free =
-      let found = lists u inner circled free in let parts = count-append u due more in omega (arith, found, parts)
-
-  pub free_lists_after : (m : Mesh Point DE Mark F) (due more : List ℕ) → ListsFree m due → ListsFree m (more ++ due)
-  free_lists_after m due more lists u inner circled free =
-      let found = lists u inner circled free in let parts = count-append u more due in omega (arith, found, parts)
-
   -- flips of free edges that list what they make due
   module _ (old new : Mesh Point DE Mark F) (due : List ℕ)
       (lists : (lacking : List ℕ) → ListsCircled (point_at old) old.shape lacking → ListsCircled (point_at new) new.shape (due ++ lacking)) (turns : TurnsFree old new) where

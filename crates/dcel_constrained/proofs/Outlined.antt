@@ -1,5 +1,5 @@
 -- What a constrained triangulation tells of its vertices and triangles.
-use Rattle.std.proofs.Common.{◌≡◌, ◌≢◌, ◌⊎◌, inl, inr, ℕ, ◌*◌, ◌<◌, List, [], ◌∷◌, map, eq-zero-or-pos, refl, sym, subst, ◌∙◌, arith, pos, ◌<ℤ◌}
+use Rattle.std.proofs.Common.{◌≡◌, ◌≢◌, ◌⊎◌, inl, inr, ℕ, ◌<◌, List, [], ◌∷◌, map, eq-zero-or-pos, refl, sym, subst, ◌∙◌, arith, pos, ◌<ℤ◌}
 use Rattle.std.proofs.lemmas.Bool.{cases_lt}
 use Rattle.std.proofs.lemmas.Int.{by_lt_z}
 use Rattle.dcel_predicates.specs.declared.point.Point.{Point}
@@ -8,7 +8,7 @@ use Rattle.dcel_predicates.proofs.Signs.{ordered}
 use Rattle.dcel_maps.specs.Removals.{gives_up_face}
 use Rattle.dcel_maps.specs.Shapes.{IsLive, IsMesh, Mesh, Shape, end_of, face_count, face_of, origin_of}
 use Rattle.dcel_maps.specs.Words.{TurnsTo, count_of, word_of}
-use Rattle.dcel_maps.proofs.Liveness.{is_live-parts, is_live-past}
+use Rattle.dcel_maps.proofs.Liveness.{is_live-past}
 use Rattle.dcel_maps.proofs.words.Turns.{turns_to_itself}
 use Rattle.dcel_plane.specs.Plane.{point_at}
 use Rattle.dcel_plane.proofs.edits.Corners.{turned_along}
@@ -20,9 +20,9 @@ use Rattle.dcel_plane.proofs.covering.Overlaps.{disjoint_triangles}
 use Rattle.dcel_plane.proofs.covering.Starts.{inner_half, out_of}
 use Rattle.dcel_plane.specs.segments.Segments.{AreEnds, TriangulatesItsHull}
 use Rattle.dcel_plane.proofs.segments.Wholly.{plane_covers}
-use Rattle.dcel_delaunay.specs.Growing.{HasHull, IsFlat}
+use Rattle.dcel_planar.specs.Growing.{HasHull, IsFlat}
 use Rattle.dcel_delaunay.specs.Triangulated.{FacesAreApart, HullIsCovered}
-use Rattle.dcel_delaunay.proofs.Counting.{joined_all}
+use Rattle.dcel_planar.proofs.Counting.{joined_all}
 use Rattle.dcel_delaunay.proofs.Outline.{hull_of_face}
 use Rattle.dcel_regions.specs.declared.mark.Mark.{Mark}
 use Rattle.dcel_constrained.specs.Constraints.{IsFreeWay}
@@ -105,18 +105,6 @@ module _ {DE F : Type 0} (m : Mesh Point DE Mark F) (mesh : IsMesh m) (due : Lis
   pub delaunay_then : due ≡ [] → IsConstrainedDelaunay m
   delaunay_then none u inner free circled =
       let listed = subst (λ (l : List ℕ). 0 < count_of u l) none (sound.listed u inner circled free) in omega (arith, listed)
-
-  -- a line has no edge to be looked at
-  pub constrained_line : (items : List ℕ) → face_count m.shape ≡ 1 → IsConstrained m items
-  constrained_line items one = record {
-    closed = sound.closed;
-    joined = sound.joined;
-    triangles = sound.triangles;
-    plane = sound.plane;
-    listed = λ u inner circled free.
-        (let below = (is_live-parts (gives_up_face m.shape.removal) (face_count m.shape) (face_of m.shape (2 * u)) inner.triangle.live).0 in
-        absurd (omega (arith, below, one, inner.inner)));
-  }
 
   -- and nothing crosses anything on it
   pub line_free : IsFlat m → (v w : ℕ) → v ≢ w → v < m.shape.vertices → w < m.shape.vertices → IsFreeWay m v w

@@ -1,55 +1,47 @@
 -- What an insertion among constraints leaves, step by step.
 use Rattle.std.proofs.Common.{◌≡◌, ◌≢◌, ◌⊎◌, inl, inr, ℕ, ◌*◌, ◌+◌, ◌/◌, ◌<◌, List, [], ◌∷◌, ◌++◌, Result, Ok, Err, IfErr, IfOk, OnErr, refl, sym, ap, ◌∙◌, subst, arith}
 use Rattle.dcel_fixed.proofs.Halves.{rev-double}
-use mathlib.Core.Logic.{∥∥₁_map}
 use Rattle.dcel_predicates.specs.declared.point.Point.{Point}
 use Rattle.dcel_maps.specs.Removals.{Closed}
 use Rattle.dcel_maps.specs.Shapes.{IsMesh, Mesh, end_of, origin_of}
 use Rattle.dcel_maps.proofs.Liveness.{closed-live}
 use Rattle.dcel_maps.proofs.words.Counts.{in_either}
 use Rattle.dcel_plane.specs.Plane.{point_at}
-use Rattle.dcel_delaunay.specs.Edges.{KeepsEdgeData, KeepsEnds, KeepsStarts}
-use Rattle.dcel_delaunay.specs.Growing.{Gains, HasHull, HasOutside, Inserts, IsFlat, IsPutAt, IsTriangulated, Keeps, KeepsListed, Refuses}
-use Rattle.dcel_delaunay.specs.Places.{IsPlace}
-use Rattle.dcel_delaunay.specs.declared.errors.InsertionError.{InsertionError}
-use Rattle.dcel_delaunay.specs.declared.position.PositionInTriangulation.{PositionInTriangulation}
-use Rattle.dcel_delaunay.specs.declared.position.PositionInTriangulation.TheVariants.{BeyondLine, NoTriangulation, OnEdge, OnFace, OnVertex, OutsideOfConvexHull}
-use Rattle.dcel_delaunay.proofs.Growth.{gains-keeps}
-use Rattle.dcel_delaunay.proofs.Recovered.{either_again}
+use Rattle.dcel_planar.specs.Edges.{KeepsEdgeData, KeepsEnds, KeepsStarts}
+use Rattle.dcel_planar.specs.Growing.{HasHull, HasOutside, IsFlat, IsPutAt, IsTriangulated, KeepsListed, Refuses}
+use Rattle.dcel_planar.specs.declared.errors.InsertionError.{InsertionError}
+use Rattle.dcel_planar.specs.declared.position.PositionInTriangulation.{PositionInTriangulation}
+use Rattle.dcel_planar.specs.declared.position.PositionInTriangulation.TheVariants.{BeyondLine, NoTriangulation, OnEdge, OnFace, OnVertex, OutsideOfConvexHull}
+use Rattle.dcel_planar.proofs.Recovered.{settled_outlined}
 use Rattle.dcel_regions.specs.Marked.{IsMarked}
 use Rattle.dcel_regions.specs.declared.mark.Mark.{Mark}
 use Rattle.dcel_regions.specs.declared.mark.Mark.TheVariants.{Free}
-use Rattle.dcel_constrained.specs.Constraints.{IsPartOf, LiesOnSegment, TurnsFree}
+use Rattle.dcel_constrained.specs.Constraints.{IsPartOf, LiesOnSegment, ListsFree, TurnsFree}
 use Rattle.dcel_constrained.specs.Soundness.{IsConstrained}
-use Rattle.dcel_constrained.specs.Splitting.{IsPutIn, KeepsConstraints, SplitsMarked, StaysMarked}
+use Rattle.dcel_constrained.specs.Splitting.{KeepsConstraints, SplitsMarked, StaysMarked}
+use Rattle.dcel_constrained.specs.declared.triangulation.ConstrainedTriangulation.{ConstrainedTriangulation}
 use Rattle.dcel_constrained.proofs.Added.{points_before, splits_none, starts_marked}
 use Rattle.dcel_constrained.proofs.Free.{end_kept, free_keeps, free_kept, kept_unmarked, start_kept}
-use Rattle.dcel_constrained.proofs.Laid.{keeps_both, keeps_none, points_stay}
+use Rattle.dcel_constrained.proofs.Laid.{keeps_both, points_stay}
 use Rattle.dcel_constrained.proofs.Marking.{marked_below}
 use Rattle.dcel_constrained.proofs.Marks.{listed_marked, marked_edges, to_circled}
 use Rattle.dcel_constrained.proofs.Splits.{IsAsWas, constraints_kept}
 
 module _ {DE F : Type 0} where
+  pub constrained_of : (m : Mesh Point DE Mark F) (due : List ℕ) → IsTriangulated m → ListsFree m due → IsConstrained m due
+  constrained_of m due is listed = record { closed = is.closed; joined = is.joined; triangles = is.triangles; plane = is.plane; listed = listed }
+
   pub triangulated_of : (m : Mesh Point DE Mark F) (due : List ℕ) → IsConstrained m due → IsTriangulated m
   triangulated_of m due sound = record { closed = sound.closed; joined = sound.joined; triangles = sound.triangles; plane = sound.plane }
 
   -- where each edge that is to be looked at is listed, and none is freed
-  pub constrained_put : (old new : Mesh Point DE Mark F) (due items : List ℕ) → IsConstrained old due → IsTriangulated new → KeepsListed old new due items
-      → ((u : ℕ) → IsMarked old u → IsMarked new u) → IsConstrained new items
-  constrained_put old new due items sound triangulated lists marked = record {
-    closed = triangulated.closed;
-    joined = triangulated.joined;
-    triangles = triangulated.triangles;
-    plane = triangulated.plane;
-    listed = λ u inner circled free. elim (in_either u items (marked_edges old) (lists (marked_edges old) (to_circled old due sound.listed) u inner circled)) [
-      | inl there ↦ there
-      | inr before ↦ absurd (free (marked u (listed_marked old u before)))
-    ];
-  }
-
-  -- steps that neither mark nor free an edge
-  pub stays_none : (m : Mesh Point DE Mark F) → StaysMarked m m
-  stays_none m = record { keeps = keeps_none m; only = λ u marked. marked; points = refl }
+  pub free_put : (old new : Mesh Point DE Mark F) (due items : List ℕ) → ListsFree old due → KeepsListed old new due items
+      → ((u : ℕ) → IsMarked old u → IsMarked new u) → ListsFree new items
+  free_put old new due items listed lists marked u inner circled free =
+      elim (in_either u items (marked_edges old) (lists (marked_edges old) (to_circled old due listed) u inner circled)) [
+        | inl there ↦ there
+        | inr before ↦ absurd (free (marked u (listed_marked old u before)))
+      ]
 
   pub stays_both : (old mid new : Mesh Point DE Mark F) → StaysMarked old mid → StaysMarked mid new → StaysMarked old new
   stays_both old mid new first second = record {
@@ -61,11 +53,6 @@ module _ {DE F : Type 0} where
   pub stays_free : (old new : Mesh Point DE Mark F) → TurnsFree old new → StaysMarked old new
   stays_free old new turns =
       let kept = free_kept old new turns in record { keeps = free_keeps old new turns; only = kept_unmarked old new kept; points = kept.points }
-
-  pub keeps_free : (old new : Mesh Point DE Mark F) → old.shape.removal ≡ Closed → TurnsFree old new → Keeps old new
-  keeps_free old new closed turns =
-      let kept = free_kept old new turns in
-      record { closed = kept.removal ∙ closed; vertices = kept.vertices; points = kept.points; edges = omega (arith, kept.edges) }
 
   module _ (old mid new : Mesh Point DE Mark F) where
     -- a step before others
@@ -163,39 +150,11 @@ module _ {DE F : Type 0} where
   starts_beside old new (BeyondLine v) t beside kept = kept
   starts_beside old new NoTriangulation t beside kept = kept
 
-  -- on an edge a vertex is new
-  pub gains_on : (old new : Mesh Point DE Mark F) (due items : List ℕ) (h : ℕ) (p : Point) (t : ℕ) → IsPutAt old new due items (OnEdge h) p t → Gains old new p t
-  gains_on old new due items h p t (inl same) = absurd (let not = same.0 in cc)
-  gains_on old new due items h p t (inr gains) = gains
-
-  pub put_beside_edges : (old new : Mesh Point DE Mark F) (due items : List ℕ) (position : PositionInTriangulation) (p : Point) (t : ℕ) → IsPlace old p position
-      → IsPutAt old new due items position p t → IsPutIn old new due items p t
-  put_beside_edges old new due items position p t place (inl same) = inl (subst (IsPlace old p) same.0 place, same.1, same.2)
-  put_beside_edges old new due items position p t place (inr gains) = inr gains
-
   module _ (old new : Mesh Point DE Mark F) (is_free : Mark → Type 0) (free : (x : Mark) → is_free x → x ≡ Free) (added : KeepsEdgeData is_free old new) (mesh : IsMesh old)
       (mesh_after : IsMesh new) (closed : new.shape.removal ≡ Closed) (starts : KeepsStarts old new) where
     pub splits_beside : ((v : ℕ) → v < old.shape.vertices → point_at new v ≡ point_at old v) → SplitsMarked old new
     splits_beside points =
         splits_none old new is_free free added mesh mesh_after closed (starts_marked old new is_free free added mesh mesh_after closed starts) points
-
-  -- the insertion as a whole
-  pub put_whole : (old new : Mesh Point DE Mark F) (due items : List ℕ) (p : Point) (t : ℕ) → IsPutIn old new due items p t → Inserts old new p t
-  put_whole old new due items p t (inl same) = inl (same.0, same.1)
-  put_whole old new due items p t (inr gains) = inr gains
-
-  pub put_then : (old mid new : Mesh Point DE Mark F) (due items : List ℕ) (p : Point) (t : ℕ) → due ≡ [] → items ≢ [] → IsPutIn old mid due items p t → Keeps mid new → Gains old new p t
-  put_then old mid new due items p t none some (inl same) keeps = absurd (some (same.2 ∙ none))
-  put_then old mid new due items p t none some (inr gains) keeps = gains-keeps old mid new p t gains keeps
-
-  -- where nothing is left to be done, the hull is closed
-  outlined_whole : (m : Mesh Point DE Mark F) (due : List ℕ) → HasOutside m due → due ≡ [] → IsFlat m ⊎ HasHull m
-  outlined_whole m due (inl flat) none = inl flat
-  outlined_whole m due (inr (inl has)) none = inr has
-  outlined_whole m due (inr (inr opened)) none = absurd (opened.0 none)
-
-  pub outlined_again : (m : Mesh Point DE Mark F) (due : List ℕ) → ∥ HasOutside m due ∥₁ → due ≡ [] → IsFlat m ⊎ HasHull m
-  outlined_again m due known none = either_again m (∥∥₁_map known (λ is. outlined_whole m due is none))
 
   -- where more is to be looked at, the hull may be open still
   pub outside_more : (m : Mesh Point DE Mark F) (due : List ℕ) (u : ℕ) → HasOutside m due → HasOutside m (due ++ u ∷ [])
@@ -206,10 +165,6 @@ module _ {DE F : Type 0} where
 
   -- a point put in, or refused
   module _ (old new : Mesh Point DE Mark F) (due items : List ℕ) (position : PositionInTriangulation) (p : Point) where
-    pub put_result : (r : Result ℕ InsertionError) → IsPlace old p position → IfOk r (IsPutAt old new due items position p) → IfOk r (IsPutIn old new due items p)
-    put_result (Ok t) place put = put_beside_edges old new due items position p t place put
-    put_result (Err e) place put = put
-
     pub starts_result : (r : Result ℕ InsertionError) → ((h : ℕ) → position ≢ OnEdge h) → IfOk r (KeepsEnds old new position) → OnErr r (KeepsStarts old new) → KeepsStarts old new
     starts_result (Ok t) beside ends starts = starts_beside old new position t beside ends
     starts_result (Err e) beside ends starts = starts
@@ -218,3 +173,10 @@ module _ {DE F : Type 0} where
         → v < old.shape.vertices → point_at new v ≡ point_at old v
     points_result (Ok t) mesh put refuses = points_put old new due items position p t mesh put
     points_result (Err e) mesh put refuses = points_refused old new p e mesh refuses
+
+module _ {A : Type 0} (t : ConstrainedTriangulation A) where
+  pub sound_of : IsConstrained t.planar.dcel t.planar.due.items
+  sound_of = constrained_of t.planar.dcel t.planar.due.items t.planar.triangulated t.listed
+
+  pub outlined_of : t.planar.due.items ≡ [] → IsFlat t.planar.dcel ⊎ HasHull t.planar.dcel
+  outlined_of none = settled_outlined t.planar.dcel t.planar.due.items t.planar.outlined none

@@ -3,7 +3,6 @@ use Rattle.std.proofs.Common.{◌≡◌, ℕ, suc, ◌/◌, ◌<◌, List, [], �
 use Rattle.std.proofs.lemmas.Bool.{cases_eq}
 use Rattle.std.proofs.lemmas.Int.{ints}
 use Rattle.std.proofs.lemmas.Option.{slice_get_within}
-use Rattle.dcel_fixed.specs.HalfEdges.{rev}
 use Rattle.dcel_predicates.specs.declared.point.Point.{Point}
 use Rattle.dcel_maps.specs.edits.Flip.{edge_flipped}
 use Rattle.dcel_maps.specs.Shapes.{IsMesh, Mesh, Shape}
@@ -55,9 +54,6 @@ module _ (at : ℕ → Point) (s : Shape) (v w h x y : ℕ) (near far : ℤ) (ne
 
   pub becomes_itself : (near <ℤ pos 0) × (pos 0 <ℤ far) → Becomes at s v w h (h ∷ [])
   becomes_itself signs = inl (subst (λ z. z <ℤ pos 0) near_side signs.0, subst (λ z. pos 0 <ℤ z) far_side signs.1, refl)
-
-  pub becomes_other : (far <ℤ pos 0) × (pos 0 <ℤ near) → Becomes at s v w h (rev h ∷ [])
-  becomes_other signs = inr (inl (subst (λ z. pos 0 <ℤ z) near_side signs.1, subst (λ z. z <ℤ pos 0) far_side signs.0, refl))
 
   pub becomes_nothing : ¬ ((near <ℤ pos 0) × (pos 0 <ℤ far)) → ¬ ((far <ℤ pos 0) × (pos 0 <ℤ near)) → Becomes at s v w h []
   becomes_nothing first second = inr (inr (

@@ -8,11 +8,11 @@ use Rattle.dcel_constrained.specs.declared.triangulation.ConstrainedTriangulatio
 module _ {A : Type 0} where
   -- its mesh
   abbrev pub marked_mesh : ConstrainedTriangulation A → Mesh Point (Unit {0}) Mark (Unit {0})
-  marked_mesh t = t.dcel
+  marked_mesh t = t.planar.dcel
 
   -- no edge is still to be looked at
   abbrev pub IsWhole : ConstrainedTriangulation A → Type 0
-  IsWhole t = t.due.items ≡ []
+  IsWhole t = t.planar.due.items ≡ []
 
   -- the mesh is as it was, and what was whole is whole
   abbrev pub IsUnchanged : ConstrainedTriangulation A → ConstrainedTriangulation A → Type 0

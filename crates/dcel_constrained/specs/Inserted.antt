@@ -1,10 +1,10 @@
 -- What an insertion leaves of a constrained triangulation.
 use Rattle.std.specs.Prelude.{◌≡◌, ◌⊎◌, ℕ, [], ◌∷◌, ◌++◌}
 use Rattle.dcel_predicates.specs.declared.point.Point.{Point}
-use Rattle.dcel_delaunay.specs.Growing.{MayRefuse}
-use Rattle.dcel_delaunay.specs.Places.{HasPoint}
-use Rattle.dcel_delaunay.specs.declared.errors.InsertionError.{InsertionError}
-use Rattle.dcel_delaunay.specs.declared.errors.InsertionError.TheVariants.{Unfinished}
+use Rattle.dcel_planar.specs.Growing.{MayRefuse}
+use Rattle.dcel_planar.specs.Places.{HasPoint}
+use Rattle.dcel_planar.specs.declared.errors.InsertionError.{InsertionError}
+use Rattle.dcel_planar.specs.declared.errors.InsertionError.TheVariants.{Unfinished}
 use Rattle.dcel_constrained.specs.Constrained.{IsWhole, marked_mesh}
 use Rattle.dcel_constrained.specs.declared.triangulation.ConstrainedTriangulation.{ConstrainedTriangulation}
 

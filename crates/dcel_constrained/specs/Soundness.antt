@@ -1,21 +1,15 @@
 -- What a constrained triangulation is, whether all its edges have been looked at or not.
-use Rattle.std.specs.Prelude.{◌≡◌, ◌⊎◌, ◌≢◌, ℕ, ◌<◌, ◌*◌, ◌+◌, ◌/◌, List, Bool, true, false, count_by}
+use Rattle.std.specs.Prelude.{◌≡◌, ◌⊎◌, ◌≢◌, ℕ, ◌<◌, ◌*◌, ◌+◌, ◌/◌, List, count_by}
 use Rattle.dcel_predicates.specs.declared.point.Point.{Point}
 use Rattle.dcel_maps.specs.Removals.{Closed}
 use Rattle.dcel_maps.specs.Shapes.{Mesh, origin_of}
 use Rattle.dcel_maps.specs.Triangulations.{AllTriangles}
 use Rattle.dcel_maps.specs.Walking.{Leads}
 use Rattle.dcel_plane.specs.Plane.{IsCircled, IsInner, TrianglesTurnLeft, point_at}
-use Rattle.dcel_delaunay.specs.Growing.{HasHull, IsFlat, IsJoined}
-use Rattle.dcel_regions.specs.Marked.{IsMarked}
+use Rattle.dcel_planar.specs.Growing.{HasHull, IsFlat, IsJoined}
+use Rattle.dcel_regions.specs.Marked.{IsMarked, is_constraint}
 use Rattle.dcel_regions.specs.declared.mark.Mark.{Mark}
-use Rattle.dcel_regions.specs.declared.mark.Mark.TheVariants.{Constraint, Free}
 use Rattle.dcel_constrained.specs.Constraints.{IsFreeWay, ListsFree}
-
--- whether it is the mark of a constraint
-abbrev pub is_constraint : Mark → Bool
-is_constraint Constraint = true
-is_constraint Free = false
 
 module _ {DE F : Type 0} where
   -- no removal is open, the vertices are joined, the inner faces are triangles that go round counterclockwise, and each edge between two of

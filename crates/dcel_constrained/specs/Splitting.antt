@@ -2,8 +2,8 @@
 use Rattle.std.specs.Prelude.{◌≡◌, ◌⊎◌, ℕ, ◌*◌, ◌/◌, List}
 use Rattle.dcel_predicates.specs.declared.point.Point.{Point}
 use Rattle.dcel_maps.specs.Shapes.{Mesh, end_of, origin_of}
-use Rattle.dcel_delaunay.specs.Growing.{Gains}
-use Rattle.dcel_delaunay.specs.Places.{HasPoint}
+use Rattle.dcel_planar.specs.Growing.{Gains}
+use Rattle.dcel_planar.specs.Places.{HasPoint}
 use Rattle.dcel_regions.specs.Marked.{IsMarked}
 use Rattle.dcel_regions.specs.declared.mark.Mark.{Mark}
 use Rattle.dcel_constrained.specs.Constraints.{HasConstraint, IsPartOf, KeepsMarked}

@@ -7,11 +7,11 @@ ghost use Rattle.dcel_constrained.specs.Constrained.{IsUnchanged, IsWhole, marke
 ghost use Rattle.dcel_constrained.specs.Constraints.{HasConstraint, KeepsMarked, MarksOnly};
 ghost use Rattle.dcel_constrained.specs.Soundness.{CanAdd, HasNoConstraint, MarksAllBut, MarksAnother};
 
-use crate::inserting::settle;
 use crate::laying::{lay_on_line, lay_through_triangles};
 use crate::mesh::set_mark;
 use crate::triangulation::ConstrainedTriangulation;
-use dcel_delaunay::{Triangulation, close_hull};
+use dcel_delaunay::Triangulation;
+use dcel_planar::PlanarMesh;
 use dcel_regions::Mark;
 use spade_dcel::handles::{FixedUndirectedEdgeHandle, FixedVertexHandle};
 use spade_dcel::laws::every_mesh;
@@ -42,7 +42,8 @@ impl<A: Allocator + Clone> ConstrainedTriangulation<A> {
         let Ok(dcel) = copy.map_undirected_edges(alloc, free) else {
             return Err(AllocError);
         };
-        Ok(ConstrainedTriangulation { dcel, due, crossed })
+        let planar = PlanarMesh { dcel, due };
+        Ok(ConstrainedTriangulation { planar, crossed })
     }
 }
 
@@ -80,16 +81,16 @@ impl<A: Allocator> ConstrainedTriangulation<A> {
         ensures again { CanAdd (marked_mesh self.new) from to }
         ensures same_edges { IsWhole self.old → (marked_mesh self.new).shape.edges ≡ (marked_mesh self.old).shape.edges }
     {
-        every_mesh(&self.dcel);
+        every_mesh(&self.planar.dcel);
         let Ok(()) = self.finish() else {
-            every_mesh(&self.dcel);
+            every_mesh(&self.planar.dcel);
             return Err(AllocError);
         };
-        every_mesh(&self.dcel);
-        if self.dcel.num_faces() == 1 {
-            return Ok(lay_on_line(&mut self.dcel, from, to));
+        every_mesh(&self.planar.dcel);
+        if self.planar.dcel.num_faces() == 1 {
+            return Ok(lay_on_line(&mut self.planar.dcel, from, to));
         }
-        lay_through_triangles(&mut self.dcel, from, to, &mut self.crossed, &mut self.due)
+        lay_through_triangles(&mut self.planar, from, to, &mut self.crossed)
     }
 
     /// Frees a marked edge, and returns whether it was marked. Any number may be given.
@@ -115,14 +116,14 @@ impl<A: Allocator> ConstrainedTriangulation<A> {
         ensures ready { IsWhole self.old → ¬ IsMarked (marked_mesh self.old) edge → IsOk result }
         ensures refused { OnErr result (IsMarked (marked_mesh self.new) edge → marked_mesh self.new ≡ marked_mesh self.old) }
     {
-        every_mesh(&self.dcel);
+        every_mesh(&self.planar.dcel);
         if !self.is_constraint(edge) {
             self.finish()?;
             return Ok(false);
         }
-        self.due.reserve(1)?;
-        set_mark(&mut self.dcel, edge, Mark::Free);
-        self.due.push_reserved(edge);
+        self.planar.due.reserve(1)?;
+        set_mark(&mut self.planar.dcel, edge, Mark::Free);
+        self.planar.due.push_reserved(edge);
         self.finish()?;
         Ok(true)
     }
@@ -142,13 +143,13 @@ impl<A: Allocator> ConstrainedTriangulation<A> {
         ensures same { IsWhole self.old → marked_mesh self.new ≡ marked_mesh self.old }
         ensures ready { IsWhole self.old → IsOk result }
     {
-        if self.due.is_empty() {
+        if self.planar.is_settled() {
             return Ok(());
         }
-        every_mesh(&self.dcel);
-        let Ok(()) = close_hull(&mut self.dcel, &mut self.due) else {
+        every_mesh(&self.planar.dcel);
+        let Ok(()) = self.planar.close_hull() else {
             return Err(AllocError);
         };
-        settle(&mut self.dcel, &mut self.due)
+        self.planar.legalize()
     }
 }

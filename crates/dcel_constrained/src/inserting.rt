@@ -1,25 +1,24 @@
 //! Points inserted among constraints.
 
-ghost use Rattle.std.specs.Prelude.{◌≡◌, ◌⊎◌, ◌≤◌, [], IfErr, IfOk, OnOk};
+ghost use Rattle.std.specs.Prelude.{◌≡◌, ◌⊎◌, ◌≤◌, IfErr, IfOk, OnOk};
 ghost use Rattle.dcel_maps.specs.Shapes.{IsMesh};
-ghost use Rattle.dcel_delaunay.specs.Growing.{Gains, HasHull, HasOutside, Inserts, IsFlat, IsTriangulated, Keeps, KeepsListed, Refuses};
-ghost use Rattle.dcel_delaunay.specs.Places.{IsPlace};
-ghost use Rattle.dcel_delaunay.specs.declared.position.PositionInTriangulation.TheVariants.{OnEdge};
+ghost use Rattle.dcel_planar.specs.Growing.{Gains, Inserts};
+ghost use Rattle.dcel_planar.specs.Leaving.{IsOutlined, IsPutOff, IsSame, KeepsDue};
+ghost use Rattle.dcel_planar.specs.Places.{HasPoint, IsPlace};
+ghost use Rattle.dcel_planar.specs.declared.position.PositionInTriangulation.TheVariants.{OnEdge};
 ghost use Rattle.dcel_constrained.specs.Constrained.{IsWhole, marked_mesh};
 ghost use Rattle.dcel_constrained.specs.Inserted.{Stays, Takes};
-ghost use Rattle.dcel_constrained.specs.Soundness.{IsConstrained};
-ghost use Rattle.dcel_constrained.specs.Splitting.{IsPutIn, SplitsMarked, StaysMarked};
+ghost use Rattle.dcel_constrained.specs.Splitting.{SplitsMarked};
 
 use crate::laying::mark_between;
-use crate::legalizing::legalize_free;
 use crate::locating::locate;
-use crate::mesh::{ConstrainedMesh, is_marked};
+use crate::mesh::is_marked;
 use crate::triangulation::ConstrainedTriangulation;
-use dcel_delaunay::{InsertionError, PositionInTriangulation, put_at};
-use dcel_predicates::Point;
-use spade_dcel::handles::{FixedDirectedEdgeHandle, FixedUndirectedEdgeHandle, FixedVertexHandle};
+use dcel_planar::{InsertionError, PlanarMesh, Point, PositionInTriangulation};
+use dcel_regions::Mark;
+use spade_dcel::handles::{FixedDirectedEdgeHandle, FixedVertexHandle};
 use spade_dcel::laws::every_mesh;
-use std::alloc::{AllocError, Allocator};
+use std::alloc::Allocator;
 
 impl<A: Allocator> ConstrainedTriangulation<A> {
     /// Inserts a point, and returns its vertex: a new one, or the one that stands there already.
@@ -42,96 +41,60 @@ impl<A: Allocator> ConstrainedTriangulation<A> {
         ensures edges { (marked_mesh self.old).shape.edges ≤ (marked_mesh self.new).shape.edges }
         ensures same { IsWhole self.old → (marked_mesh self.new).vertex_data ≡ (marked_mesh self.old).vertex_data → marked_mesh self.new ≡ marked_mesh self.old }
     {
-        every_mesh(&self.dcel);
+        every_mesh(&self.planar.dcel);
         match self.finish() {
             Err(_) => {
-                every_mesh(&self.dcel);
+                every_mesh(&self.planar.dcel);
                 Err(InsertionError::OutOfMemory)
             }
             Ok(()) => {
-                every_mesh(&self.dcel);
-                insert_in(&mut self.dcel, &mut self.due, point)
+                every_mesh(&self.planar.dcel);
+                self.insert_in(point)
             }
         }
     }
-}
 
-/// Inserts a point, and flips edges that aren't marked until the mesh is Delaunay but for those that
-/// are.
-fn insert_in<A: Allocator>(
-    dcel: &mut ConstrainedMesh<A>,
-    due: &mut Vec<FixedUndirectedEdgeHandle, A>,
-    point: Point,
-) -> Result<FixedVertexHandle, InsertionError>
-    requires sound { IsConstrained dcel.old due.old.items }
-    requires whole { due.old.items ≡ [] }
-    requires hull { IsFlat dcel.old ⊎ HasHull dcel.old }
-    ensures inserts { IfOk result (Inserts dcel.old dcel.new point) }
-    ensures refuses { IfErr result (Refuses dcel.old dcel.new point) }
-    ensures due { IfErr result (λ e. (e ≡ InsertionError.Unfinished) ⊎ (due.new.items ≡ due.old.items)) }
-    ensures splits { SplitsMarked dcel.old dcel.new }
-    ensures sound { IsConstrained dcel.new due.new.items }
-    ensures outside { HasOutside dcel.new due.new.items }
-    ensures whole { OnOk result (due.new.items ≡ []) }
-{
-    every_mesh(dcel);
-    let vertex = put_in(dcel, due, point)?;
-    if due.is_empty() {
-        return Ok(vertex);
+    /// Inserts a point into a whole triangulation, and flips edges that aren't marked until it is
+    /// Delaunay but for those that are.
+    fn insert_in(&mut self, point: Point) -> Result<FixedVertexHandle, InsertionError>
+        requires whole { IsWhole self.old }
+        ensures inserts { IfOk result (Inserts (marked_mesh self.old) (marked_mesh self.new) point) }
+        ensures refuses { IfErr result (IsPutOff self.old.planar self.new.planar point) }
+        ensures splits { SplitsMarked (marked_mesh self.old) (marked_mesh self.new) }
+        ensures whole { OnOk result (IsWhole self.new) }
+    {
+        let vertex = put_in(&mut self.planar, point)?;
+        if self.planar.is_settled() {
+            return Ok(vertex);
+        }
+        let flipped = self.planar.legalize();
+        every_mesh(&self.planar.dcel);
+        if flipped.is_err() {
+            return Err(InsertionError::Unfinished);
+        }
+        Ok(vertex)
     }
-    let Ok(()) = settle(dcel, due) else {
-        return Err(InsertionError::Unfinished);
-    };
-    Ok(vertex)
-}
-
-/// Flips edges that are due and not marked, if there are triangles, until none is due.
-pub(crate) fn settle<A: Allocator>(
-    dcel: &mut ConstrainedMesh<A>,
-    due: &mut Vec<FixedUndirectedEdgeHandle, A>,
-) -> Result<(), AllocError>
-    requires sound { IsConstrained dcel.old due.old.items }
-    requires hull { IsFlat dcel.old ⊎ HasHull dcel.old }
-    ensures keeps { Keeps dcel.old dcel.new }
-    ensures stays { StaysMarked dcel.old dcel.new }
-    ensures sound { IsConstrained dcel.new due.new.items }
-    ensures hull { IsFlat dcel.new ⊎ HasHull dcel.new }
-    ensures mesh { IsMesh dcel.new }
-    ensures whole { OnOk result (due.new.items ≡ []) }
-{
-    every_mesh(dcel);
-    if dcel.num_faces() == 1 {
-        // On a line there is nothing to flip.
-        due.clear();
-        return Ok(());
-    }
-    legalize_free(dcel, due)
 }
 
 /// Puts a point in where it lies, and flips no edge.
 fn put_in<A: Allocator>(
-    dcel: &mut ConstrainedMesh<A>,
-    due: &mut Vec<FixedUndirectedEdgeHandle, A>,
+    planar: &mut PlanarMesh<Mark, A>,
     point: Point,
 ) -> Result<FixedVertexHandle, InsertionError>
-    requires triangulated { IsTriangulated dcel.old }
-    requires hull { IsFlat dcel.old ⊎ HasHull dcel.old }
-    ensures put { IfOk result (IsPutIn dcel.old dcel.new due.old.items due.new.items point) }
-    ensures refuses { IfErr result (Refuses dcel.old dcel.new point) }
-    ensures due { IfErr result (λ e. (e ≡ InsertionError.Unfinished) ⊎ (due.new.items ≡ due.old.items)) }
-    ensures splits { SplitsMarked dcel.old dcel.new }
-    ensures triangulated { IsTriangulated dcel.new }
-    ensures lists { KeepsListed dcel.old dcel.new due.old.items due.new.items }
-    ensures hull { OnOk result (IsFlat dcel.new ⊎ HasHull dcel.new) }
-    ensures outside { HasOutside dcel.new due.new.items }
-    ensures mesh { IsMesh dcel.new }
+    requires hull { IsOutlined planar.old.dcel }
+    ensures put { IfOk result (λ v. (HasPoint planar.old.dcel point v × IsSame planar.old planar.new) ⊎ Gains planar.old.dcel planar.new.dcel point v) }
+    ensures refuses { IfErr result (IsPutOff planar.old planar.new point) }
+    ensures lists { KeepsDue planar.old planar.new }
+    ensures splits { SplitsMarked planar.old.dcel planar.new.dcel }
+    ensures hull { OnOk result (IsOutlined planar.new.dcel) }
+    ensures mesh { IsMesh planar.new.dcel }
 {
-    every_mesh(dcel);
-    match locate(dcel, point) {
-        PositionInTriangulation::OnEdge(edge) => split(dcel, due, edge, point),
+    every_mesh(&planar.dcel);
+    match locate(planar, point) {
+        PositionInTriangulation::OnEdge(edge) => split(planar, edge, point),
         position => {
-            let put = put_at(dcel, due, position, point);
-            every_mesh(dcel);
+            let put = planar.put_at(position, point);
+            every_mesh(&planar.dcel);
             put
         }
     }
@@ -139,41 +102,36 @@ fn put_in<A: Allocator>(
 
 /// Puts a point on an edge. Both parts are marked if the edge is.
 fn split<A: Allocator>(
-    dcel: &mut ConstrainedMesh<A>,
-    due: &mut Vec<FixedUndirectedEdgeHandle, A>,
+    planar: &mut PlanarMesh<Mark, A>,
     edge: FixedDirectedEdgeHandle,
     point: Point,
 ) -> Result<FixedVertexHandle, InsertionError>
-    requires triangulated { IsTriangulated dcel.old }
-    requires hull { IsFlat dcel.old ⊎ HasHull dcel.old }
-    requires place { IsPlace dcel.old point (OnEdge edge) }
-    ensures gains { IfOk result (Gains dcel.old dcel.new point) }
-    ensures refuses { IfErr result (Refuses dcel.old dcel.new point) }
-    ensures due { IfErr result (λ e. (e ≡ InsertionError.Unfinished) ⊎ (due.new.items ≡ due.old.items)) }
-    ensures splits { SplitsMarked dcel.old dcel.new }
-    ensures triangulated { IsTriangulated dcel.new }
-    ensures lists { KeepsListed dcel.old dcel.new due.old.items due.new.items }
-    ensures hull { OnOk result (IsFlat dcel.new ⊎ HasHull dcel.new) }
-    ensures outside { HasOutside dcel.new due.new.items }
-    ensures mesh { IsMesh dcel.new }
+    requires hull { IsOutlined planar.old.dcel }
+    requires place { IsPlace planar.old.dcel point (OnEdge edge) }
+    ensures gains { IfOk result (Gains planar.old.dcel planar.new.dcel point) }
+    ensures refuses { IfErr result (IsPutOff planar.old planar.new point) }
+    ensures lists { KeepsDue planar.old planar.new }
+    ensures splits { SplitsMarked planar.old.dcel planar.new.dcel }
+    ensures hull { OnOk result (IsOutlined planar.new.dcel) }
+    ensures mesh { IsMesh planar.new.dcel }
 {
-    every_mesh(dcel);
-    let half = dcel.directed_edge(edge);
+    every_mesh(&planar.dcel);
+    let half = planar.dcel.directed_edge(edge);
     let from = half.from().fix();
     let to = half.to().fix();
-    let is_constraint = is_marked(dcel, edge.as_undirected());
-    match put_at(dcel, due, PositionInTriangulation::OnEdge(edge), point) {
+    let is_constraint = is_marked(&planar.dcel, edge.as_undirected());
+    match planar.put_at(PositionInTriangulation::OnEdge(edge), point) {
         Err(error) => {
-            every_mesh(dcel);
+            every_mesh(&planar.dcel);
             Err(error)
         }
         Ok(vertex) => {
-            every_mesh(dcel);
+            every_mesh(&planar.dcel);
             if !is_constraint {
                 return Ok(vertex);
             }
-            mark_between(dcel, vertex, from);
-            mark_between(dcel, vertex, to);
+            mark_between(&mut planar.dcel, vertex, from);
+            mark_between(&mut planar.dcel, vertex, to);
             Ok(vertex)
         }
     }

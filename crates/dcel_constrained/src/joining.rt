@@ -5,7 +5,7 @@ ghost use Rattle.dcel_legalize.specs.Flipping.{sides_beside};
 ghost use Rattle.dcel_maps.specs.Shapes.{IsLive, face_of};
 ghost use Rattle.dcel_maps.specs.Walking.{Leads};
 ghost use Rattle.dcel_plane.specs.Plane.{point_at};
-ghost use Rattle.dcel_delaunay.specs.Growing.{KeepsListed};
+ghost use Rattle.dcel_planar.specs.Growing.{KeepsListed};
 ghost use Rattle.dcel_plane.specs.segments.Segments.{AreEnds, BeginsAt, TriangulatesItsHull};
 ghost use Rattle.dcel_constrained.specs.Meeting.{HasCome, IsJoined, ListsStill};
 
@@ -40,7 +40,7 @@ pub enum Joined {
 /// Asks for a mesh of triangles in the plane with a convex hull and an inner face
 /// (`num_faces() > 1`), and for two different vertices with edges
 /// ([`is_unconnected`](Dcel::is_unconnected) is false). A Delaunay triangulation is such a mesh
-/// ([`is_delaunay_triangulation`](dcel_circles::is_delaunay_triangulation)); no public test tells it of
+/// ([`is_delaunay_triangulation`](dcel_planar::is_delaunay_triangulation)); no public test tells it of
 /// others, as of one with constraints: for these it is for crates whose invariants have it. `crossed`
 /// is empty before and after.
 ///

@@ -5,7 +5,7 @@ ghost use Rattle.dcel_maps.specs.edits.Data.{undirected_edge_updated};
 ghost use Rattle.dcel_maps.specs.Removals.{Closed};
 ghost use Rattle.dcel_maps.specs.Shapes.{IsMesh};
 ghost use Rattle.dcel_maps.specs.Walking.{Leads};
-ghost use Rattle.dcel_delaunay.specs.Growing.{HasHull, IsFlat};
+ghost use Rattle.dcel_planar.specs.Growing.{HasHull, IsFlat};
 ghost use Rattle.dcel_regions.specs.Marked.{IsMarked};
 ghost use Rattle.dcel_regions.specs.declared.mark.Mark.TheVariants.{Constraint};
 ghost use Rattle.dcel_constrained.specs.Constraints.{HasConstraint, KeepsMarked, MarksOnly};
@@ -13,9 +13,9 @@ ghost use Rattle.dcel_constrained.specs.Laying.{IsPart, MarksBetween};
 ghost use Rattle.dcel_constrained.specs.Soundness.{CanAdd, IsConstrained, MarksAnother};
 
 use crate::joining::{Joined, join};
-use crate::legalizing::legalize_free;
 use crate::mesh::{ConstrainedMesh, is_marked, set_mark};
 use crate::ways::first_along;
+use dcel_planar::PlanarMesh;
 use dcel_regions::Mark;
 use spade_dcel::handles::{FixedDirectedEdgeHandle, FixedUndirectedEdgeHandle, FixedVertexHandle};
 use spade_dcel::laws::every_mesh;
@@ -33,36 +33,35 @@ pub(crate) enum Part {
 /// Makes the segment between two vertices one of marked edges, by flips of edges that it crosses, and
 /// returns whether some edge is marked then that wasn't.
 pub(crate) fn lay_through_triangles<A: Allocator>(
-    dcel: &mut ConstrainedMesh<A>,
+    planar: &mut PlanarMesh<Mark, A>,
     from: FixedVertexHandle,
     to: FixedVertexHandle,
     crossed: &mut Vec<FixedDirectedEdgeHandle, A>,
-    due: &mut Vec<FixedUndirectedEdgeHandle, A>,
 ) -> Result<bool, AllocError>
-    requires sound { IsConstrained dcel.old due.old.items }
-    requires whole { due.old.items ≡ [] }
-    requires hull { HasHull dcel.old }
-    requires can { CanAdd dcel.old from to }
+    requires sound { IsConstrained planar.old.dcel planar.old.due.items }
+    requires whole { planar.old.due.items ≡ [] }
+    requires hull { HasHull planar.old.dcel }
+    requires can { CanAdd planar.old.dcel from to }
     requires empty { crossed.old.items ≡ [] }
-    ensures sound { IsConstrained dcel.new due.new.items }
-    ensures hull { HasHull dcel.new }
-    ensures laid { OnOk result (HasConstraint dcel.new from to) }
-    ensures keeps { KeepsMarked dcel.old dcel.new }
-    ensures only { MarksOnly dcel.old dcel.new from to }
-    ensures points { dcel.new.vertex_data ≡ dcel.old.vertex_data }
-    ensures edges { dcel.new.shape.edges ≡ dcel.old.shape.edges }
-    ensures added { IfOk result (λ added. IsTrue added ↔ MarksAnother dcel.old dcel.new) }
-    ensures same { ¬ MarksAnother dcel.old dcel.new → (dcel.new ≡ dcel.old) × (due.new.items ≡ []) }
-    ensures whole { OnOk result (due.new.items ≡ []) }
+    ensures sound { IsConstrained planar.new.dcel planar.new.due.items }
+    ensures hull { HasHull planar.new.dcel }
+    ensures laid { OnOk result (HasConstraint planar.new.dcel from to) }
+    ensures keeps { KeepsMarked planar.old.dcel planar.new.dcel }
+    ensures only { MarksOnly planar.old.dcel planar.new.dcel from to }
+    ensures points { planar.new.dcel.vertex_data ≡ planar.old.dcel.vertex_data }
+    ensures edges { planar.new.dcel.shape.edges ≡ planar.old.dcel.shape.edges }
+    ensures added { IfOk result (λ added. IsTrue added ↔ MarksAnother planar.old.dcel planar.new.dcel) }
+    ensures same { ¬ MarksAnother planar.old.dcel planar.new.dcel → (planar.new.dcel ≡ planar.old.dcel) × (planar.new.due.items ≡ []) }
+    ensures whole { OnOk result (planar.new.due.items ≡ []) }
     ensures empty { crossed.new.items ≡ [] }
-    ensures mesh { IsMesh dcel.new }
+    ensures mesh { IsMesh planar.new.dcel }
 {
-    every_mesh(dcel);
+    every_mesh(&planar.dcel);
     let mut at = from;
     let mut goal = to;
     let mut added = false;
     while at != to {
-        match lay_part(dcel, at, goal, crossed, due)? {
+        match lay_part(planar, at, goal, crossed)? {
             Part::Between(vertex) => goal = vertex,
             Part::Laid(is_new) => {
                 added = either(added, is_new);
@@ -77,45 +76,44 @@ pub(crate) fn lay_through_triangles<A: Allocator>(
 /// Makes a segment a marked edge, unless a vertex lies between its ends, and the triangulation whole
 /// again.
 fn lay_part<A: Allocator>(
-    dcel: &mut ConstrainedMesh<A>,
+    planar: &mut PlanarMesh<Mark, A>,
     from: FixedVertexHandle,
     to: FixedVertexHandle,
     crossed: &mut Vec<FixedDirectedEdgeHandle, A>,
-    due: &mut Vec<FixedUndirectedEdgeHandle, A>,
 ) -> Result<Part, AllocError>
-    requires sound { IsConstrained dcel.old due.old.items }
-    requires whole { due.old.items ≡ [] }
-    requires hull { HasHull dcel.old }
+    requires sound { IsConstrained planar.old.dcel planar.old.due.items }
+    requires whole { planar.old.due.items ≡ [] }
+    requires hull { HasHull planar.old.dcel }
     requires differ { from ≢ to }
-    requires can { CanAdd dcel.old from to }
+    requires can { CanAdd planar.old.dcel from to }
     requires empty { crossed.old.items ≡ [] }
-    ensures sound { IsConstrained dcel.new due.new.items }
-    ensures hull { HasHull dcel.new }
-    ensures part { IfOk result (IsPart dcel.old dcel.new from to) }
-    ensures marks { MarksBetween dcel.old dcel.new from to }
-    ensures same { ¬ MarksAnother dcel.old dcel.new → (dcel.new ≡ dcel.old) × (due.new.items ≡ []) }
-    ensures mesh { IsMesh dcel.new }
-    ensures whole { OnOk result (due.new.items ≡ []) }
+    ensures sound { IsConstrained planar.new.dcel planar.new.due.items }
+    ensures hull { HasHull planar.new.dcel }
+    ensures part { IfOk result (IsPart planar.old.dcel planar.new.dcel from to) }
+    ensures marks { MarksBetween planar.old.dcel planar.new.dcel from to }
+    ensures same { ¬ MarksAnother planar.old.dcel planar.new.dcel → (planar.new.dcel ≡ planar.old.dcel) × (planar.new.due.items ≡ []) }
+    ensures mesh { IsMesh planar.new.dcel }
+    ensures whole { OnOk result (planar.new.due.items ≡ []) }
     ensures empty { crossed.new.items ≡ [] }
 {
-    every_mesh(dcel);
-    let Ok(joined) = join(dcel, from, to, crossed, due) else {
+    every_mesh(&planar.dcel);
+    let Ok(joined) = join(&mut planar.dcel, from, to, crossed, &mut planar.due) else {
         // What was noted needn't be looked at, as nothing has changed.
-        due.clear();
+        planar.due.clear();
         return Err(AllocError);
     };
     match joined {
         Joined::Between(vertex) => {
-            due.clear();
+            planar.due.clear();
             Ok(Part::Between(vertex))
         }
         Joined::Edge => {
-            let is_new = mark_between(dcel, from, to);
+            let is_new = mark_between(&mut planar.dcel, from, to);
             if !is_new {
                 // It was there, so nothing has changed.
                 return Ok(Part::Laid(is_new));
             }
-            legalize_free(dcel, due)?;
+            planar.legalize()?;
             Ok(Part::Laid(is_new))
         }
     }

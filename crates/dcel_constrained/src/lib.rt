@@ -11,7 +11,6 @@ mod connecting;
 mod inserting;
 mod joining;
 mod laying;
-mod legalizing;
 mod locating;
 mod mesh;
 mod peaks;

@@ -1,17 +1,16 @@
 //! Where a point lies in a triangulation that need not be Delaunay.
 
-ghost use Rattle.std.specs.Prelude.{◌≡◌, ◌⊎◌, IfErr, IfOk, IfSome};
+ghost use Rattle.std.specs.Prelude.{◌≡◌, IfErr, IfOk, IfSome};
 ghost use Rattle.spade_dcel.specs.Handles.{mesh_behind, number_of};
 ghost use Rattle.dcel_maps.specs.Shapes.{IsLive};
-ghost use Rattle.dcel_delaunay.specs.Growing.{HasHull, IsFlat, IsTriangulated};
-ghost use Rattle.dcel_delaunay.specs.Places.{IsPlace};
+ghost use Rattle.dcel_planar.specs.Growing.{HasHull};
+ghost use Rattle.dcel_planar.specs.Leaving.{IsOutlined};
+ghost use Rattle.dcel_planar.specs.Places.{IsPlace};
 ghost use Rattle.dcel_constrained.specs.Constrained.{IsWhole, marked_mesh};
 ghost use Rattle.dcel_constrained.specs.Missing.{IsMissed};
 
 use crate::triangulation::ConstrainedTriangulation;
-use dcel_delaunay::{
-    Edge, EdgeMesh, PositionInTriangulation, at_a_vertex, locate_on_line, look, side,
-};
+use dcel_planar::{Edge, PlanarMesh, PositionInTriangulation, at_a_vertex, side};
 use dcel_predicates::{Point, Side};
 use spade_dcel::handles::FixedDirectedEdgeHandle;
 use spade_dcel::laws::every_mesh;
@@ -26,7 +25,7 @@ impl<A: Allocator> ConstrainedTriangulation<A> {
         requires whole { IsWhole self.now }
         ensures { IsPlace (marked_mesh self.now) point result }
     {
-        locate(&self.dcel, point)
+        locate(&self.planar, point)
     }
 }
 
@@ -35,43 +34,43 @@ impl<A: Allocator> ConstrainedTriangulation<A> {
 /// A walk begins at the newest edge, which is near the vertex that came last. Where edges are not
 /// Delaunay it may go in circles: then each half edge is looked at.
 pub(crate) fn locate<UE, A: Allocator>(
-    dcel: &EdgeMesh<UE, A>,
+    planar: &PlanarMesh<UE, A>,
     point: Point,
 ) -> PositionInTriangulation
-    requires triangulated { IsTriangulated dcel.now }
-    requires hull { IsFlat dcel.now ⊎ HasHull dcel.now }
-    ensures { IsPlace dcel.now point result }
+    requires hull { IsOutlined planar.now.dcel }
+    ensures { IsPlace planar.now.dcel point result }
 {
-    let halves = dcel.num_directed_edges();
+    let halves = planar.dcel.num_directed_edges();
     if halves == 0 {
-        return at_a_vertex(dcel, point);
+        return at_a_vertex(&planar.dcel, point);
     }
-    let newest = dcel.directed_edge(FixedDirectedEdgeHandle::new(halves - 1));
-    if dcel.num_faces() == 1 {
-        return locate_on_line(dcel, newest, point);
+    let newest = planar
+        .dcel
+        .directed_edge(FixedDirectedEdgeHandle::new(halves - 1));
+    if planar.dcel.num_faces() == 1 {
+        return planar.locate_on_line(newest, point);
     }
-    match walk(dcel, newest, point) {
+    match walk(planar, newest, point) {
         Some(position) => position,
-        None => scan(dcel, point),
+        None => scan(planar, point),
     }
 }
 
 /// Goes on across sides that have the point on their right, as often as there are faces, and returns
 /// where the point lies if it comes there.
 fn walk<'a, UE, A: Allocator>(
-    dcel: &'a EdgeMesh<UE, A>,
+    planar: &'a PlanarMesh<UE, A>,
     start: Edge<'a, UE, A>,
     point: Point,
 ) -> Option<PositionInTriangulation>
-    requires triangulated { IsTriangulated dcel.now }
-    requires mesh { mesh_behind start ≡ dcel.now }
-    requires live { IsLive dcel.now.shape (number_of start) }
-    ensures { IfSome result (IsPlace dcel.now point) }
+    requires mesh { mesh_behind start ≡ planar.now.dcel }
+    requires live { IsLive planar.now.dcel.shape (number_of start) }
+    ensures { IfSome result (IsPlace planar.now.dcel point) }
 {
-    every_mesh(dcel);
+    every_mesh(&planar.dcel);
     let mut edge = start;
-    for _step in 0..dcel.num_faces() {
-        match look_beside(dcel, edge, point) {
+    for _step in 0..planar.dcel.num_faces() {
+        match look_beside(planar, edge, point) {
             Ok(position) => return Some(position),
             Err(crossed) => edge = crossed.rev(),
         }
@@ -80,15 +79,16 @@ fn walk<'a, UE, A: Allocator>(
 }
 
 /// Looks at each half edge, and returns where the point lies.
-fn scan<UE, A: Allocator>(dcel: &EdgeMesh<UE, A>, point: Point) -> PositionInTriangulation
-    requires triangulated { IsTriangulated dcel.now }
-    requires hull { HasHull dcel.now }
-    ensures { IsPlace dcel.now point result }
+fn scan<UE, A: Allocator>(planar: &PlanarMesh<UE, A>, point: Point) -> PositionInTriangulation
+    requires hull { HasHull planar.now.dcel }
+    ensures { IsPlace planar.now.dcel point result }
 {
-    every_mesh(dcel);
-    for number in 0..dcel.num_directed_edges() {
-        let edge = dcel.directed_edge(FixedDirectedEdgeHandle::new(number));
-        match look_beside(dcel, edge, point) {
+    every_mesh(&planar.dcel);
+    for number in 0..planar.dcel.num_directed_edges() {
+        let edge = planar
+            .dcel
+            .directed_edge(FixedDirectedEdgeHandle::new(number));
+        match look_beside(planar, edge, point) {
             Ok(position) => return position,
             Err(_crossed) => {}
         }
@@ -99,17 +99,16 @@ fn scan<UE, A: Allocator>(dcel: &EdgeMesh<UE, A>, point: Point) -> PositionInTri
 /// Returns where a point lies in the triangle of a half edge, or beyond an outer half edge. If it
 /// lies there nowhere, the result is the half edge to cross.
 fn look_beside<'a, UE, A: Allocator>(
-    dcel: &'a EdgeMesh<UE, A>,
+    planar: &'a PlanarMesh<UE, A>,
     edge: Edge<'a, UE, A>,
     point: Point,
 ) -> Result<PositionInTriangulation, Edge<'a, UE, A>>
-    requires triangulated { IsTriangulated dcel.now }
-    requires mesh { mesh_behind edge ≡ dcel.now }
-    requires live { IsLive dcel.now.shape (number_of edge) }
-    ensures found { IfOk result (IsPlace dcel.now point) }
-    ensures mesh { IfErr result (λ crossed. mesh_behind crossed ≡ dcel.now) }
-    ensures live { IfErr result (λ crossed. IsLive dcel.now.shape (number_of crossed)) }
-    ensures missed { IfErr result (λ crossed. IsMissed dcel.now point (number_of edge.entry)) }
+    requires mesh { mesh_behind edge ≡ planar.now.dcel }
+    requires live { IsLive planar.now.dcel.shape (number_of edge) }
+    ensures found { IfOk result (IsPlace planar.now.dcel point) }
+    ensures mesh { IfErr result (λ crossed. mesh_behind crossed ≡ planar.now.dcel) }
+    ensures live { IfErr result (λ crossed. IsLive planar.now.dcel.shape (number_of crossed)) }
+    ensures missed { IfErr result (λ crossed. IsMissed planar.now.dcel point (number_of edge.entry)) }
 {
     let own = side(edge, point);
     if edge.is_outer_edge() {
@@ -118,5 +117,5 @@ fn look_beside<'a, UE, A: Allocator>(
         }
         return Err(edge);
     }
-    look(dcel, edge, own, point)
+    planar.look(edge, own, point)
 }

@@ -51,35 +51,35 @@ impl<A: Allocator> ConstrainedTriangulation<A> {
         ensures hull { IsWhole self.now → GoesRoundHull (marked_mesh self.now) }
         ensures constrained { IsWhole self.now → IsConstrainedDelaunay (marked_mesh self.now) }
     {
-        every_mesh(&self.dcel);
-        &self.dcel
+        every_mesh(&self.planar.dcel);
+        &self.planar.dcel
     }
 
     /// Returns whether no call has left something undone for want of memory.
     pub fn is_whole(&self) -> bool
         ensures { IsTrue result ↔ IsWhole self.now }
     {
-        self.due.is_empty()
+        self.planar.is_settled()
     }
 
     /// Returns whether an edge is marked. Any number may be given.
     pub fn is_constraint(&self, edge: FixedUndirectedEdgeHandle) -> bool
         ensures { IsTrue result ↔ IsMarked (marked_mesh self.now) edge }
     {
-        is_marked(&self.dcel, edge)
+        is_marked(&self.planar.dcel, edge)
     }
 
     /// Returns whether a marked edge joins two vertices. Any numbers may be given.
     pub fn exists_constraint(&self, from: FixedVertexHandle, to: FixedVertexHandle) -> bool
         ensures { IsTrue result ↔ AreConstrained (marked_mesh self.now) from to }
     {
-        every_mesh(&self.dcel);
-        if from.index() >= self.dcel.num_vertices() {
+        every_mesh(&self.planar.dcel);
+        if from.index() >= self.planar.dcel.num_vertices() {
             return false;
         }
-        let mut edges = self.dcel.vertex(from).out_edges();
+        let mut edges = self.planar.dcel.vertex(from).out_edges();
         while let Some(edge) = edges.next() {
-            if is_marked_to(&self.dcel, edge.fix(), to) {
+            if is_marked_to(&self.planar.dcel, edge.fix(), to) {
                 return true;
             }
         }
@@ -90,10 +90,10 @@ impl<A: Allocator> ConstrainedTriangulation<A> {
     pub fn num_constraints(&self) -> usize
         ensures { result ≡ constraint_count (marked_mesh self.now) }
     {
-        every_mesh(&self.dcel);
+        every_mesh(&self.planar.dcel);
         let mut count = 0;
-        for number in 0..self.dcel.num_undirected_edges() {
-            if is_marked(&self.dcel, FixedUndirectedEdgeHandle::new(number)) {
+        for number in 0..self.planar.dcel.num_undirected_edges() {
+            if is_marked(&self.planar.dcel, FixedUndirectedEdgeHandle::new(number)) {
                 count += 1;
             }
         }
@@ -112,8 +112,8 @@ impl<A: Allocator> ConstrainedTriangulation<A> {
         requires whole { IsWhole self.now }
         ensures { IsTrue result ↔ CanAdd (marked_mesh self.now) from to }
     {
-        every_mesh(&self.dcel);
-        let vertices = self.dcel.num_vertices();
+        every_mesh(&self.planar.dcel);
+        let vertices = self.planar.dcel.num_vertices();
         if from.index() >= vertices {
             return false;
         }
@@ -124,10 +124,10 @@ impl<A: Allocator> ConstrainedTriangulation<A> {
             return true;
         }
         // On a line nothing crosses anything.
-        if self.dcel.num_faces() == 1 {
+        if self.planar.dcel.num_faces() == 1 {
             return true;
         }
-        is_free_way(&self.dcel, from, to)
+        is_free_way(&self.planar.dcel, from, to)
     }
 
     /// Returns for each face the least number of marked edges that a way from the outer face to it
@@ -147,7 +147,7 @@ impl<A: Allocator> ConstrainedTriangulation<A> {
         ensures marked { IfOk result (λ numbers. (h : ℕ) → IsLive (marked_mesh self.now).shape h → IsMarked (marked_mesh self.now) (h / 2)
             → slice_index numbers.items (face_of (marked_mesh self.now).shape (rev h)) ≤ slice_index numbers.items (face_of (marked_mesh self.now).shape h) + 1) }
     {
-        every_mesh(&self.dcel);
-        regions(&self.dcel, alloc)
+        every_mesh(&self.planar.dcel);
+        regions(&self.planar.dcel, alloc)
     }
 }

@@ -1,11 +1,11 @@
 //! A constrained triangulation of points.
 
 ghost use Rattle.std.specs.Prelude.{◌≡◌, []};
-ghost use Rattle.dcel_delaunay.specs.Growing.{HasOutside};
-ghost use Rattle.dcel_constrained.specs.Soundness.{IsConstrained};
+ghost use Rattle.dcel_constrained.specs.Constraints.{ListsFree};
 
-use crate::mesh::ConstrainedMesh;
-use spade_dcel::handles::{FixedDirectedEdgeHandle, FixedUndirectedEdgeHandle};
+use dcel_planar::PlanarMesh;
+use dcel_regions::Mark;
+use spade_dcel::handles::FixedDirectedEdgeHandle;
 use std::alloc::{Allocator, Global};
 
 /// A constrained Delaunay triangulation of points: some edges are marked, and have to stay.
@@ -22,12 +22,9 @@ use std::alloc::{Allocator, Global};
 /// [`finish`](Self::finish) makes it whole.
 #[derive(Drop)]
 pub struct ConstrainedTriangulation<A: Allocator = Global> {
-    pub(crate) dcel: ConstrainedMesh<A>,
-    // Edges that are still to be looked at: none, unless memory ran out.
-    pub(crate) due: Vec<FixedUndirectedEdgeHandle, A>,
+    pub(crate) planar: PlanarMesh<Mark, A>,
     // Room for the half edges that a segment crosses: none between calls.
     pub(crate) crossed: Vec<FixedDirectedEdgeHandle, A>,
-    ghost sound: { IsConstrained dcel due.items },
-    ghost outlined: { ∥ HasOutside dcel due.items ∥₁ },
+    ghost listed: { ListsFree planar.dcel planar.due.items },
     ghost empty: { crossed.items ≡ [] },
 }

@@ -1,6 +1,6 @@
 //! Converts meshes between files of faces (OBJ, OFF, PLY) and the words of half edges, checks them,
 //! and draws them. `dcel_convert --help` says what it reads and writes. It uses `dcel_exchange`,
-//! `dcel_circles` and `dcel_svg`.
+//! `dcel_planar` and `dcel_svg`.
 //!
 //! It exits with status 0, even if nobody reads its output any more; with 1 if the file has no
 //! mesh, or no Delaunay triangulation where that is asked, or if a read, a write or memory failed;

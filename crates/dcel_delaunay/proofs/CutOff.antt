@@ -35,9 +35,9 @@ use Rattle.dcel_plane.proofs.removal.Flattened as flattening
 use Rattle.dcel_plane.proofs.removal.Renumbering.{cleanup_inner, cleanup_was_inner}
 use Rattle.dcel_plane.proofs.removal.Stripping.{corner_hollow, corner_lies, corner_strip, strip_given_up}
 use Rattle.dcel_plane.proofs.removal.Strips.{cut_lists, cut_plane, cut_plane_but, flat_corner_convex, flat_corner_hull, hollow_convex, hollow_outline, hollow_strung}
-use Rattle.dcel_delaunay.specs.Growing.{HasHull, IsSound}
+use Rattle.dcel_planar.specs.Growing.{HasHull, IsSound}
 use Rattle.dcel_delaunay.specs.Removing.{HasOutline, IsCorner, IsCutOff, IsGivenUp, IsStrung, LiesFlat}
-use Rattle.dcel_delaunay.proofs.Counting.{flipped_joined, live_vertices}
+use Rattle.dcel_planar.proofs.Counting.{flipped_joined, live_vertices}
 use Rattle.dcel_delaunay.proofs.Thinned.{flip_listed}
 
 -- the counts of Euler's formula, with one face less than edges given up

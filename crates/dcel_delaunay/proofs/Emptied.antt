@@ -24,7 +24,7 @@ use Rattle.dcel_plane.specs.covering.Covering.{IsConvex, IsHull}
 use Rattle.dcel_plane.proofs.removal.Deleting.{four_plane, hole_convex, hole_hull, hole_lists, three_plane}
 use Rattle.dcel_plane.proofs.removal.Renumbering.{cleanup_inner}
 use Rattle.dcel_plane.proofs.removal.Holes.{IsHole, half_of_triangle, hole_is, side_listed}
-use Rattle.dcel_delaunay.specs.Growing.{IsSound}
+use Rattle.dcel_planar.specs.Growing.{IsSound}
 use Rattle.dcel_delaunay.specs.Removing.{IsFilled, IsGivenUp, IsThin}
 
 -- the counts of Euler's formula, with k edges and k faces round the vertex

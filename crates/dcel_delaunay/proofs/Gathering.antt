@@ -1,12 +1,8 @@
 -- The strip of a corner, gathered by a walk round it.
-use Rattle.std.proofs.Common.{◌≡◌, ◌∙◌, ℕ, List, [], ◌∷◌, ◌++◌, drop, map, take, refl, sym, ap, subst}
+use Rattle.std.proofs.Common.{◌≡◌, ◌∙◌, ℕ, List, [], ◌∷◌, ◌++◌, map, refl, ap}
 use Rattle.dcel_maps.specs.Shapes.{Mesh, next_of}
 use Rattle.dcel_maps.specs.Walking.{in_mesh}
 use Rattle.dcel_predicates.specs.declared.point.Point.{Point}
-
--- from the second item round to the first
-pub turned_once : (f : ℕ → ℕ) (h : ℕ) (rest w : List ℕ) → w ≡ h ∷ rest → drop 1 (map f w) ++ take 1 (map f w) ≡ map f (drop 1 w) ++ f h ∷ []
-turned_once f h rest w is = subst (λ (l : List ℕ). drop 1 (map f l) ++ take 1 (map f l) ≡ map f (drop 1 l) ++ f h ∷ []) (sym is) refl
 
 module _ {DE UE F : Type 0} where
   -- what comes after each half edge

@@ -15,12 +15,12 @@ use Rattle.dcel_predicates.specs.declared.point.Point.{Point}
 use Rattle.dcel_plane.specs.Plane.{origin_point, point_at}
 use Rattle.dcel_plane.proofs.removal.LinePaths.{line_few}
 use Rattle.dcel_plane.proofs.removal.PathShortened.{degenerate_straight}
-use Rattle.dcel_delaunay.specs.Growing.{IsFlat, IsJoined, IsSound}
+use Rattle.dcel_planar.specs.Growing.{IsFlat, IsJoined, IsSound}
 use Rattle.dcel_delaunay.specs.Removing.{Loses}
 use Rattle.dcel_delaunay.specs.declared.removed.Removed.{Removed}
-use Rattle.dcel_delaunay.proofs.Counting.{joined_all}
+use Rattle.dcel_planar.proofs.Counting.{joined_all}
 use Rattle.dcel_delaunay.proofs.TakenOut.{has_point}
-use Rattle.dcel_delaunay.proofs.Whole.{way_flat}
+use Rattle.dcel_planar.proofs.Whole.{way_flat}
 
 -- Euler's formula, with a vertex and an edge less
 one_less : (v e vn en : ℕ) → v + 1 ≡ e + 2 → 1 < v → vn ≡ v - 1 → en ≡ e - 1 → vn + 1 ≡ en + 2

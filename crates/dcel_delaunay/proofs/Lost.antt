@@ -1,5 +1,5 @@
 -- A vertex removed: what a vertex inside has, and what is told of it from before edges were flipped to after.
-use Rattle.std.proofs.Common.{◌≡◌, inl, inr, ℕ, ◌+◌, ◌-◌, ◌<◌, ◌==◌, cond, List, [], length, Option, Some, None, Result, Ok, Err, IfErr, IfOk, OnErr, slice_index_or, refl, sym, ap, ◌∙◌, subst, eq-zero-or-pos, arith}
+use Rattle.std.proofs.Common.{◌≡◌, inl, inr, ℕ, ◌-◌, ◌<◌, ◌==◌, cond, List, Option, Some, None, Result, Ok, Err, OnErr, slice_index_or, sym, ap, ◌∙◌, subst, eq-zero-or-pos, arith}
 use Rattle.std.proofs.lemmas.Bool.{cases_lt}
 use Rattle.dcel_fixed.specs.HalfEdges.{rev}
 use Rattle.dcel_maps.specs.Conditions.{HasRoom}
@@ -12,13 +12,12 @@ use Rattle.dcel_maps.proofs.shapes.Maps.{map-sound}
 use Rattle.dcel_predicates.specs.declared.point.Point.{Point}
 use Rattle.dcel_plane.specs.Plane.{origin_point, point_at}
 use Rattle.dcel_plane.proofs.covering.Starts.{inner_half}
-use Rattle.dcel_delaunay.specs.Corners.{StartsOutside}
-use Rattle.dcel_delaunay.specs.Growing.{HasHull, IsSound}
-use Rattle.dcel_delaunay.specs.Removing.{HasNoneToTurn, IsAsItWas, IsInside, IsKept, IsThin, Loses, MayKeep}
-use Rattle.dcel_delaunay.specs.declared.errors.RemovalError.{RemovalError}
-use Rattle.dcel_delaunay.specs.declared.errors.RemovalError.TheVariants.{NoVertex, OutOfMemory, TooManyPoints, Unfinished}
+use Rattle.dcel_planar.specs.Corners.{StartsOutside}
+use Rattle.dcel_planar.specs.Growing.{HasHull, IsSound}
+use Rattle.dcel_delaunay.specs.Removing.{HasNoneToTurn, IsInside, IsThin, Loses}
+use Rattle.dcel_delaunay.specs.declared.errors.RemovalError.TheVariants.{OutOfMemory, TooManyPoints}
 use Rattle.dcel_delaunay.specs.declared.removed.Removed.{Removed}
-use Rattle.dcel_delaunay.proofs.Counting.{joined_all}
+use Rattle.dcel_planar.proofs.Counting.{joined_all}
 use Rattle.dcel_delaunay.proofs.Emptied.{StandsIn}
 
 -- what holds anyway holds where there is an error
@@ -28,21 +27,6 @@ on_err (Err e) P holds = holds
 
 pub no_memory_other : OutOfMemory ≡ TooManyPoints → ⊥
 no_memory_other is = cc
-
-unfinished_other : (removed : Removed) → Unfinished removed ≡ TooManyPoints → ⊥
-unfinished_other removed is = cc
-
--- what is left undone has no part in the want of numbers
-pub settled_due : {X : Type 0} (removed : Removed) (P : Type 0) (r : Result X RemovalError) → IfErr r (λ e. e ≡ Unfinished removed)
-    → IfErr r (λ e. e ≡ TooManyPoints → P)
-settled_due removed P (Ok x) is = tt
-settled_due removed P (Err e) is = λ many. absurd (unfinished_other removed (sym is ∙ many))
-
--- nothing was left to be done before
-pub still_done : {X : Type 0} (before after : List ℕ) (r : Result X RemovalError) → before ≡ [] → IfErr r (λ e. e ≡ TooManyPoints → after ≡ before)
-    → IfErr r (λ e. e ≡ TooManyPoints → after ≡ [])
-still_done before after (Ok x) done same = tt
-still_done before after (Err e) done same = λ many. same many ∙ done
 
 module _ {DE UE F : Type 0} where
   -- where a triangle is there are two vertices
@@ -113,49 +97,3 @@ module _ {DE UE F : Type 0} where
         ap (λ k. point_at n (moved (k - 1) v w)) (sym vertices) ∙ loses.others w (omega (arith, below, vertices)) other
         ∙ ap (λ (list : List Point). slice_index_or list w origin_point) points;
   }
-
-  pub lost_after : (m mid n : Mesh Point DE UE F) (v : ℕ) (r : Removed) → n.vertex_data ≡ mid.vertex_data → n.shape.vertices ≡ mid.shape.vertices → Loses m mid v r → Loses m n v r
-  lost_after m mid n v r points vertices loses = record {
-    within = loses.within;
-    vertices = ap (λ k. k + 1) vertices ∙ loses.vertices;
-    point = loses.point;
-    renamed = loses.renamed;
-    others = λ w below other.
-        ap (λ (list : List Point). slice_index_or list (moved (m.shape.vertices - 1) v w) origin_point) points ∙ loses.others w below other;
-  }
-
-  pub same_count : (m n : Mesh Point DE UE F) → IsMesh m → IsMesh n → n.vertex_data ≡ m.vertex_data → n.shape.vertices ≡ m.shape.vertices
-  same_count m n mesh mesh_n points = sym mesh_n.sized.vertex_data ∙ ap length points ∙ mesh.sized.vertex_data
-
-module _ {DE UE F Whole : Type 0} (old mid new : Mesh Point DE UE F) (v : ℕ) (points : mid.vertex_data ≡ old.vertex_data) (vertices : mid.shape.vertices ≡ old.shape.vertices)
-    (same : Whole → mid ≡ old) where
-  as_it_was : {Done : Type 0} → new ≡ mid → Done → IsAsItWas Whole Done old new
-  as_it_was is done = (ap (λ (m : Mesh Point DE UE F). m.vertex_data) is ∙ points, (λ whole. is ∙ same whole), done)
-
-  pub kept_from : (Done : Type 0) (r : Result Removed RemovalError) → IfErr r (MayKeep mid new v) → IfErr r (λ e. e ≡ TooManyPoints → Done)
-      → IfErr r (IsKept Whole Done old new v)
-  kept_from Done (Ok removed) keeps done = tt
-  kept_from Done (Err NoVertex) keeps done = absurd keeps
-  kept_from Done (Err TooManyPoints) keeps done = (
-    subst (λ (m : Mesh Point DE UE F). v < m.shape.vertices) (sym keeps.3) keeps.0,
-    subst (λ (m : Mesh Point DE UE F). IsInside m.shape v) (sym keeps.3) keeps.1,
-    subst (λ (m : Mesh Point DE UE F). ¬ HasRoom m.shape 0 1 2) (sym keeps.3) keeps.2,
-    as_it_was keeps.3 (done refl),
-  )
-  kept_from Done (Err OutOfMemory) keeps done = keeps.points ∙ points
-  kept_from Done (Err (Unfinished removed)) loses done = lost_before old mid new v removed points vertices loses
-
-  pub lost_from : (r : Result Removed RemovalError) → IfOk r (Loses mid new v) → IfOk r (Loses old new v)
-  lost_from (Ok removed) loses = lost_before old mid new v removed points vertices loses
-  lost_from (Err e) loses = tt
-
--- what is told of the vertex that was cut out, once edges are flipped
-module _ {DE UE F : Type 0} (m mid n : Mesh Point DE UE F) (v : ℕ) (removed : Removed) (points : n.vertex_data ≡ mid.vertex_data) (vertices : n.shape.vertices ≡ mid.shape.vertices)
-    (loses : Loses m mid v removed) where
-  pub settled_loses : (r : Result Removed RemovalError) → IfOk r (λ x. x ≡ removed) → IfOk r (Loses m n v)
-  settled_loses (Ok x) is = subst (λ (y : Removed). Loses m n v y) (sym is) (lost_after m mid n v removed points vertices loses)
-  settled_loses (Err e) is = tt
-
-  pub settled_refused : (r : Result Removed RemovalError) → IfErr r (λ e. e ≡ Unfinished removed) → IfErr r (MayKeep m n v)
-  settled_refused (Ok x) is = tt
-  settled_refused (Err e) is = subst (λ (y : RemovalError). MayKeep m n v y) (sym is) (lost_after m mid n v removed points vertices loses)

@@ -3,7 +3,7 @@ use Rattle.std.proofs.Common.{◌≡◌, ◌⊎◌, inl, inr, ℕ, ◌<◌, List
 use Rattle.std.proofs.lemmas.Bool.{cases_lt}
 use Rattle.dcel_fixed.specs.HalfEdges.{rev}
 use Rattle.dcel_maps.specs.Removals.{Closed}
-use Rattle.dcel_maps.specs.Shapes.{IsLive, IsMesh, Mesh, end_of, face_count, map_of, origin_of}
+use Rattle.dcel_maps.specs.Shapes.{IsLive, IsMesh, Mesh, end_of, map_of, origin_of}
 use Rattle.dcel_maps.specs.Words.{count_of, word_of}
 use Rattle.dcel_maps.proofs.maps.Soundness.{rev_live}
 use Rattle.dcel_maps.proofs.shapes.Maps.{map-sound}
@@ -18,9 +18,9 @@ use Rattle.dcel_plane.specs.covering.Delaunay.{HasCorners}
 use Rattle.dcel_plane.proofs.covering.Numbered.{word_is}
 use Rattle.dcel_plane.proofs.covering.Starts.{by_starts}
 use Rattle.dcel_plane.proofs.hull.PutBeside.{straight_convex}
-use Rattle.dcel_delaunay.specs.Growing.{HasHull, IsFlat, IsJoined}
+use Rattle.dcel_planar.specs.Growing.{HasHull, IsFlat, IsJoined}
 use Rattle.dcel_delaunay.specs.Triangulated.{GoesRoundHull, PointsAreSingle}
-use Rattle.dcel_delaunay.proofs.Counting.{joined_all}
+use Rattle.dcel_planar.proofs.Counting.{joined_all}
 
 module _ {DE UE F : Type 0} (m : Mesh Point DE UE F) (mesh : IsMesh m) where
   -- where a half edge is, two vertices are

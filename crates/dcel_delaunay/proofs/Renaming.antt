@@ -14,9 +14,6 @@ pub record Renames (last : ℕ) (left : List ℕ) (number count : ℕ) (taken : 
   pub same : new_number last (reverse left) number ≡ new_number count (reverse taken) edge
   pub few : length left ≤ last
 
-pub renames_begin : (edge count : ℕ) (taken : List ℕ) → length taken ≤ count → Renames count taken edge count taken edge
-renames_begin edge count taken few = record { same = refl; few = few }
-
 one_out : (last gone number : ℕ) (rest : List ℕ) → new_number last (gone ∷ rest) number ≡ new_number (last - 1) rest (moved (last - 1) gone number)
 unfolding new_number
 one_out last gone number rest = refl
@@ -29,10 +26,6 @@ renames_on last gone number count edge left others taken is renames = record {
       ∙ renames.same;
   few = (let long = ap length is in let parts = length-append others (gone ∷ []) in let fits = renames.few in omega (arith, long, parts, fits));
 }
-
-pub renames_one : (last gone count edge number : ℕ) (left others taken : List ℕ) → left ≡ others ++ gone ∷ [] → Renames last left number count taken edge → 0 < last
-renames_one last gone count edge number left others taken is renames =
-    (let long = ap length is in let parts = length-append others (gone ∷ []) in let fits = renames.few in omega (arith, long, parts, fits))
 
 pub renames_end : (last number count edge : ℕ) (left taken : List ℕ) → length left ≡ 0 → Renames last left number count taken edge → number ≡ new_number count (reverse taken) edge
 unfolding new_number

@@ -10,7 +10,7 @@ use Rattle.dcel_maps.proofs.words.Counts.{count-append, count-other}
 use Rattle.dcel_maps.specs.Shapes.{Mesh}
 use Rattle.dcel_predicates.specs.declared.point.Point.{Point}
 use Rattle.dcel_delaunay.specs.Bulk.{AddsVertices, ListsEach, StandAt, StandSoFar, StandsToo}
-use Rattle.dcel_delaunay.specs.Places.{HasPoint}
+use Rattle.dcel_planar.specs.Places.{HasPoint}
 
 -- an item stays where it is when more come after it
 kept : {A B : Type 0} (f : A → B) (xs ys : List A) (i : ℕ) (b : B) → option_map f (slice_get xs i) ≡ Some b → option_map f (slice_get (xs ++ ys) i) ≡ Some b

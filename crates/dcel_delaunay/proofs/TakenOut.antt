@@ -17,7 +17,7 @@ use Rattle.dcel_plane.proofs.removal.Cleaned.{IsCleaned, cleaned_is}
 use Rattle.dcel_plane.proofs.covering.Starts.{inner_half}
 use Rattle.dcel_plane.specs.hull.Straight.{IsStraight}
 use Rattle.dcel_plane.proofs.removal.Renumbering.{cleanup_keeps, cleanup_lists, cleanup_straight, cleanup_was_inner, taken_out_keeps, taken_out_lists, taken_out_straight, taken_out_was_inner}
-use Rattle.dcel_delaunay.specs.Growing.{HasHull, IsFlat, IsJoined, IsSound}
+use Rattle.dcel_planar.specs.Growing.{HasHull, IsFlat, IsJoined, IsSound}
 use Rattle.dcel_delaunay.specs.Removing.{IsGivenUp, Loses}
 use Rattle.dcel_delaunay.specs.declared.removed.Removed.{Removed}
 use Rattle.dcel_delaunay.proofs.Emptied.{StandsIn, at_points}

@@ -1,16 +1,11 @@
 -- What an insertion tells its caller.
-use Rattle.std.proofs.Common.{◌≡◌, ◌⊎◌, ◌∙◌, inl, inr, ℕ, List, [], ◌∷◌, ◌++◌, length, refl, sym, ap, subst, slice_get, arith, Some, Result, Ok, Err, IfErr, IsErr, IsErrAnd, false, true}
+use Rattle.std.proofs.Common.{◌≡◌, ◌⊎◌, ◌∙◌, inl, inr, ℕ, List, [], ◌∷◌, ◌++◌, length, refl, sym, ap, subst, slice_get, arith, Some}
 use Rattle.std.proofs.lemmas.List.{length-append}
 use Rattle.std.specs.Option.{option_map}
 use Rattle.dcel_maps.specs.Shapes.{IsMesh, Mesh}
 use Rattle.dcel_predicates.specs.declared.point.Point.{Point}
-use Rattle.dcel_delaunay.specs.Growing.{Gains, Inserts, MayRefuse, Refuses}
-use Rattle.dcel_delaunay.specs.Places.{HasPoint}
-use Rattle.dcel_delaunay.specs.declared.errors.InsertionError.{InsertionError}
-use Rattle.dcel_delaunay.specs.declared.errors.InsertionError.TheVariants.{OutOfMemory, Unfinished}
-
-not_ok : false ≡ true → ⊥
-not_ok is = cc
+use Rattle.dcel_planar.specs.Growing.{Gains, Inserts}
+use Rattle.dcel_planar.specs.Places.{HasPoint}
 
 -- the item that was appended
 appended_item : {A : Type 0} (xs : List A) (x : A) → slice_get (xs ++ x ∷ []) (length xs) ≡ Some x
@@ -57,46 +52,3 @@ module _ {DE UE F : Type 0} where
   takes_same old mid new last p v first (inr gains) same stay = absurd
       (gained_more mid new p v gains
       (ap (λ (m : Mesh Point DE UE F). m.vertex_data) (sym same) ∙ stay ∙ ap (λ (m : Mesh Point DE UE F). m.vertex_data) (sym first)))
-
-  pub refuses_same : (old mid new : Mesh Point DE UE F) (p : Point) (e : InsertionError) → mid ≡ old → Refuses mid new p e
-      → new.vertex_data ≡ old.vertex_data → new ≡ old
-  refuses_same old mid new p e first (inl (may, is)) stay = is ∙ first
-  refuses_same old mid new p e first (inr (unfinished, gains)) stay = absurd
-      (gained_more mid new p mid.shape.vertices gains (stay ∙ ap (λ (m : Mesh Point DE UE F). m.vertex_data) (sym first)))
-
--- what holds of an error holds where it is passed on
-passed_on : {T : Type 0} (P : InsertionError → Type 0) (r : Result T InsertionError) (e : InsertionError) → IsErr r × IsErrAnd r (λ f. f ≡ e) → P e → IfErr r P
-passed_on P (Ok x) e both holds = tt
-passed_on P (Err f) e both holds = subst P (sym both.1) holds
-
--- why not all is done
-abbrev IsLeft : {DE UE F : Type 0} (Whole : Type 0) (old : Mesh Point DE UE F) (items : List ℕ) (p : Point) (new : Mesh Point DE UE F) → InsertionError → Type 0
-IsLeft Whole old items p new f =
-    (MayRefuse new.shape f × (new.vertex_data ≡ old.vertex_data) × (Whole → (new ≡ old) × (items ≡ [])))
-    ⊎ ((f ≡ Unfinished) × (new.vertex_data ≡ old.vertex_data ++ p ∷ []))
-
--- the same, told from before the mesh was made whole
-module _ {DE UE F Whole T : Type 0} (old mid : Mesh Point DE UE F) (items : List ℕ) (p : Point) (r : Result T InsertionError) (e : InsertionError)
-    (passed : IsErr r × IsErrAnd r (λ f. f ≡ e)) (points : mid.vertex_data ≡ old.vertex_data) where
-  -- a whole one isn't refused before
-  pub unready_stays : e ≡ OutOfMemory → (Whole → false ≡ true) → IfErr r (IsLeft Whole old items p mid)
-  unready_stays is ready =
-      passed_on (IsLeft Whole old items p mid) r e passed
-      (inl (subst (λ (f : InsertionError). MayRefuse mid.shape f) (sym is) tt, points, λ whole. absurd (not_ok (ready whole))))
-
-  pub refuses_stays : (new : Mesh Point DE UE F) (due : List ℕ) → (Whole → mid ≡ old) → due ≡ [] → Refuses mid new p e → (e ≡ Unfinished) ⊎ (items ≡ due)
-      → IfErr r (IsLeft Whole old items p new)
-  refuses_stays new due same done (inr (unfinished, gains)) kept =
-      passed_on (IsLeft Whole old items p new) r e passed (inr (unfinished, gains.points ∙ ap (λ (ps : List Point). ps ++ p ∷ []) points))
-  refuses_stays new due same done (inl (may, is)) kept = passed_on (IsLeft Whole old items p new) r e passed
-      (inl (
-        subst (λ (m : Mesh Point DE UE F). MayRefuse m.shape e) (sym is) may,
-        ap (λ (m : Mesh Point DE UE F). m.vertex_data) is ∙ points,
-        λ whole. (
-          is ∙ same whole,
-          elim kept [
-            | inl unfinished ↦ absurd (subst (λ (f : InsertionError). MayRefuse mid.shape f) unfinished may)
-            | inr stay ↦ stay ∙ done
-          ],
-        ),
-      ))

@@ -11,11 +11,11 @@ use Rattle.dcel_plane.proofs.covering.Numbered as laws
 use Rattle.dcel_plane.proofs.covering.Starts.{inner_half}
 use Rattle.dcel_plane.specs.location.Nearest.{HasNoNearerNeighbor, IsNearest}
 use Rattle.dcel_plane.proofs.location.Nearest.{nearest, nearest_on_line}
-use Rattle.dcel_delaunay.specs.Growing.{HasHull, IsTriangulation}
+use Rattle.dcel_planar.specs.Growing.{HasHull, IsTriangulation}
 use Rattle.dcel_delaunay.specs.Triangulated.{CirclesAreEmpty, FacesAreApart, GoesRoundHull, HullIsCovered, PointsAreSingle}
-use Rattle.dcel_delaunay.proofs.Counting.{joined_all}
+use Rattle.dcel_planar.proofs.Counting.{joined_all}
 use Rattle.dcel_delaunay.proofs.Outline.{all_inside, all_single, each_vertex, hull_of_face, two_vertices}
-use Rattle.dcel_delaunay.proofs.Walking.{delaunay}
+use Rattle.dcel_planar.proofs.Walking.{delaunay}
 
 module _ {DE UE F : Type 0} (m : Mesh Point DE UE F) (mesh : IsMesh m) (whole : IsTriangulation m) where
   known : HasHull m → IsDelaunayTriangulation (point_at m) m.shape

@@ -14,7 +14,7 @@ use Rattle.dcel_maps.proofs.walks.Turning.{mesh-out_edges}
 use Rattle.dcel_maps.proofs.words.Counts.{count-append}
 use Rattle.dcel_predicates.specs.declared.point.Point.{Point}
 use Rattle.dcel_legalize.specs.Flipping.{sides_beside}
-use Rattle.dcel_circles.proofs.Circled.{inner_from}
+use Rattle.dcel_planar.proofs.Circled.{inner_from}
 use Rattle.dcel_plane.specs.Plane.{ListsCircled, TurnsLeft, point_at}
 use Rattle.dcel_plane.proofs.edits.Flipped.{flip_lists}
 use Rattle.dcel_plane.proofs.hull.Keeping.{flip_keeps_convex, flip_keeps_hull}
@@ -22,11 +22,11 @@ use Rattle.dcel_plane.specs.removal.Wheels.{CanTurn}
 use Rattle.dcel_plane.proofs.removal.Fewer.{flip_keeps_inner, flip_takes_one}
 use Rattle.dcel_plane.proofs.removal.FlippedInside.{outer_start, outer_stays}
 use Rattle.dcel_plane.proofs.removal.Turnable.{turn_keeps_plane}
-use Rattle.dcel_delaunay.specs.Corners.{StartsOutside}
-use Rattle.dcel_delaunay.specs.Growing.{HasHull, IsSound, Keeps}
+use Rattle.dcel_planar.specs.Corners.{StartsOutside}
+use Rattle.dcel_planar.specs.Growing.{HasHull, IsSound, Keeps}
 use Rattle.dcel_delaunay.specs.Removing.{IsInside, IsTurnable}
-use Rattle.dcel_delaunay.proofs.Counting.{flipped_joined}
-use Rattle.dcel_delaunay.proofs.Growth.{flipped-keeps, keeps-trans}
+use Rattle.dcel_planar.proofs.Counting.{flipped_joined}
+use Rattle.dcel_planar.proofs.Growth.{flipped-keeps, keeps-trans}
 
 -- what can be flipped so lies between two inner triangles
 pub hull_stays : (at : ℕ → Point) (s : Shape) (u : ℕ) → IsOnHull s (2 * u) → ¬ CanTurn at s u

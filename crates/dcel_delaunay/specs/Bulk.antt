@@ -3,7 +3,7 @@ use Rattle.std.specs.Prelude.{◌≡◌, ◌<◌, ◌≤◌, ◌+◌, ◌++◌, 
 use Rattle.dcel_maps.specs.Words.{count_of}
 use Rattle.dcel_maps.specs.Shapes.{Mesh}
 use Rattle.dcel_predicates.specs.declared.point.Point.{Point}
-use Rattle.dcel_delaunay.specs.Places.{HasPoint}
+use Rattle.dcel_planar.specs.Places.{HasPoint}
 
 -- each number below `count` stands there once, and no other
 pub record ListsEach (count : ℕ) (numbers : List ℕ) : Type 0 where

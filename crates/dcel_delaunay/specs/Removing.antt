@@ -16,9 +16,9 @@ use Rattle.dcel_plane.specs.covering.Covering.{IsConvex, IsHull}
 use Rattle.dcel_plane.specs.hull.Straight.{IsStraight}
 use Rattle.spade_dcel.specs.Opened.{HasOpened}
 use Rattle.dcel_plane.specs.removal.Wheels.{CanTurn, MakesTwo}
-use Rattle.dcel_delaunay.specs.Corners.{StartsOutside}
-use Rattle.dcel_delaunay.specs.Growing.{HasHull, Keeps}
-use Rattle.dcel_delaunay.specs.Places.{HasPoint, IsOnLine}
+use Rattle.dcel_planar.specs.Corners.{StartsOutside}
+use Rattle.dcel_planar.specs.Growing.{HasHull, Keeps}
+use Rattle.dcel_planar.specs.Places.{HasPoint, IsOnLine}
 use Rattle.dcel_delaunay.specs.declared.errors.RemovalError.{RemovalError}
 use Rattle.dcel_delaunay.specs.declared.errors.RemovalError.TheVariants.{NoVertex, OutOfMemory, TooManyPoints, Unfinished}
 use Rattle.dcel_delaunay.specs.declared.removed.Removed.{Removed}

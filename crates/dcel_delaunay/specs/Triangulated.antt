@@ -7,11 +7,11 @@ use Rattle.dcel_plane.specs.Plane.{point_at}
 use Rattle.dcel_plane.specs.covering.Covering.{dot}
 use Rattle.dcel_plane.specs.covering.Delaunay.{HasCorners, IsCovered, LiesInHull}
 use Rattle.dcel_plane.specs.covering.Places.{AreDisjoint, Place}
-use Rattle.dcel_delaunay.specs.Growing.{MayRefuse}
-use Rattle.dcel_delaunay.specs.Places.{HasPoint}
+use Rattle.dcel_planar.specs.Growing.{MayRefuse}
+use Rattle.dcel_planar.specs.Places.{HasPoint}
 use Rattle.dcel_delaunay.specs.Removing.{IsKept}
-use Rattle.dcel_delaunay.specs.declared.errors.InsertionError.{InsertionError}
-use Rattle.dcel_delaunay.specs.declared.errors.InsertionError.TheVariants.{Unfinished}
+use Rattle.dcel_planar.specs.declared.errors.InsertionError.{InsertionError}
+use Rattle.dcel_planar.specs.declared.errors.InsertionError.TheVariants.{Unfinished}
 use Rattle.dcel_delaunay.specs.declared.errors.RemovalError.{RemovalError}
 use Rattle.dcel_delaunay.specs.declared.triangulation.Triangulation.{Triangulation}
 
@@ -49,11 +49,11 @@ module _ {DE UE F : Type 0} where
 module _ {A : Type 0} where
   -- its mesh
   abbrev pub mesh_in : Triangulation A → Mesh Point (Unit {0}) (Unit {0}) (Unit {0})
-  mesh_in t = t.dcel
+  mesh_in t = t.planar.dcel
 
   -- no edge is still to be looked at
   abbrev pub IsWhole : Triangulation A → Type 0
-  IsWhole t = t.due.items ≡ []
+  IsWhole t = t.planar.due.items ≡ []
 
   -- the vertex v has the point; it stood there before, or it is new, and the other vertices are as they were
   pub record Takes (old new : Triangulation A) (p : Point) (v : ℕ) : Type 0 where

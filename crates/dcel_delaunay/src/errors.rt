@@ -1,34 +1,10 @@
-//! Why an insertion or a removal was refused.
+//! Why a removal was refused, and points of coordinates in range.
 
 ghost use Rattle.std.specs.Prelude.{◌≡◌, ◌≤◌, ◌^◌, ◌↔◌, IfErr, IfOk, IsOk, unsigned_abs};
 
 use crate::removed::Removed;
-use dcel_predicates::Point;
-use std::alloc::AllocError;
+use dcel_planar::{InsertionError, Point};
 use thiserror::Error;
-
-/// Why a point was not inserted, or not all was done that belongs to it.
-///
-/// With any other error than `Unfinished` the point has no new vertex, and the mesh of a whole
-/// triangulation is as it was, and whole; points that `insert_all` put in before stay.
-#[derive(Clone, Copy, PartialEq, Eq, Debug, Drop, Error)]
-pub enum InsertionError {
-    /// A coordinate is below -2^30 or above 2^30.
-    #[error("a coordinate is out of range")]
-    OutOfRange,
-    /// There are no numbers left for another vertex and its edges.
-    #[error("there are too many points")]
-    TooManyPoints,
-    /// There was no memory.
-    #[error("out of memory")]
-    OutOfMemory,
-    /// The vertex stands, but there was no memory, or no number, to make the triangulation whole
-    /// again.
-    ///
-    /// The next insertion goes on with that first.
-    #[error("out of memory, with some edges not yet looked at")]
-    Unfinished,
-}
 
 /// Why a vertex was not removed, or not all was done that belongs to it.
 ///
@@ -52,17 +28,6 @@ pub enum RemovalError {
     /// The next insertion or removal goes on with that first.
     #[error("out of memory, with some edges not yet looked at")]
     Unfinished(Removed),
-}
-
-impl From<AllocError> for InsertionError {
-    ghost use Rattle.std.specs.Prelude.{◌≡◌};
-    ghost use Rattle.dcel_delaunay.specs.declared.errors.InsertionError.TheVariants.{OutOfMemory};
-
-    ghost from_gives = { λ _ error. error ≡ OutOfMemory };
-
-    fn from(_: AllocError) -> Self {
-        InsertionError::OutOfMemory
-    }
 }
 
 /// Returns the point with these coordinates, or [`OutOfRange`](InsertionError::OutOfRange) unless

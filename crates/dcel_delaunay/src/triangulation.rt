@@ -1,9 +1,9 @@
 //! A triangulation of points.
 
-ghost use Rattle.dcel_delaunay.specs.Growing.{IsSound, IsUnderWay};
+ghost use Rattle.dcel_plane.specs.Plane.{ListsCircled, point_at};
 
-use crate::mesh::Mesh;
-use spade_dcel::handles::{FixedDirectedEdgeHandle, FixedUndirectedEdgeHandle};
+use dcel_planar::PlanarMesh;
+use spade_dcel::handles::FixedDirectedEdgeHandle;
 use std::alloc::{Allocator, Global};
 
 /// A Delaunay triangulation of points.
@@ -17,11 +17,8 @@ use std::alloc::{Allocator, Global};
 /// [`finish`](Self::finish) makes it whole.
 #[derive(Drop)]
 pub struct Triangulation<A: Allocator = Global> {
-    pub(crate) dcel: Mesh<A>,
+    pub(crate) planar: PlanarMesh<(), A>,
     // Where the next walk begins.
     pub(crate) last: FixedDirectedEdgeHandle,
-    // Edges that are still to be looked at: none, unless memory ran out.
-    pub(crate) due: Vec<FixedUndirectedEdgeHandle, A>,
-    ghost sound: { IsSound dcel due.items },
-    ghost under_way: { ∥ IsUnderWay dcel due.items ∥₁ },
+    ghost listed: { ListsCircled (point_at planar.dcel) planar.dcel.shape planar.due.items },
 }

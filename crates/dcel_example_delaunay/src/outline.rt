@@ -20,7 +20,7 @@ pub fn show(rt: &impl Print, alloc: Global) -> Result<()> {
     let crossings = constrained.regions(alloc)?;
     print!(rt; "inside of it:")?;
     for triangle in constrained.dcel().live_inner_faces() {
-        if crossings[triangle.index()] == 1 {
+        if crossings.get(triangle.index()) == Some(&1) {
             let [a, b, c] = triangle.vertices().map(|corner| corner.index());
             print!(rt; " ({a} {b} {c})")?;
         }
@@ -30,8 +30,9 @@ pub fn show(rt: &impl Print, alloc: Global) -> Result<()> {
 }
 
 /// Makes the segment between two vertices an edge that stays.
-fn add_side(constrained: &mut ConstrainedTriangulation, from: usize, to: usize) -> Result<()> {
-    let (from, to) = (FixedVertexHandle::new(from), FixedVertexHandle::new(to));
+fn add_side(constrained: &mut ConstrainedTriangulation, from: u32, to: u32) -> Result<()> {
+    let from = FixedVertexHandle::new(from as usize);
+    let to = FixedVertexHandle::new(to as usize);
     ensure!(constrained.is_whole(), "memory has run out");
     ensure!(
         constrained.can_add_constraint(from, to),

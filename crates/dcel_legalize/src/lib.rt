@@ -7,10 +7,12 @@
 
 mod beside;
 mod by_number;
+mod constraint;
 mod legalize;
 mod legalized;
 
 pub use beside::append_sides;
 pub use by_number::legalize_by_number;
+pub use constraint::EdgeConstraint;
 pub use legalize::legalize_edges;
 pub use legalized::Legalized;

@@ -13,9 +13,9 @@ use dcel_bench::meshes::vertex;
 use dcel_bench::refusing::{Memory, Refusals, Refusing};
 use dcel_bench::require;
 use dcel_bench_points::{HUB, KITE, Place, SQUARES, numbered};
-use dcel_circles::{is_circled, is_delaunay_triangulation, is_plane, legalize_by_circles};
 use dcel_constrained::{Joined, join};
 use dcel_delaunay::Point;
+use dcel_planar::{is_circled, is_delaunay_triangulation, is_plane, legalize_by_circles};
 use spade_dcel::dcel::Dcel;
 use spade_dcel::handles::{
     FixedDirectedEdgeHandle, FixedFaceHandle, FixedUndirectedEdgeHandle, FixedVertexHandle,

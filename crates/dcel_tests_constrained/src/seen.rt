@@ -1,7 +1,7 @@
 //! What can be read off a mesh of points, to be compared with what is read later.
 
-use dcel_circles::is_circled;
 use dcel_delaunay::Point;
+use dcel_planar::is_circled;
 use spade_dcel::dcel::Dcel;
 use std::alloc::{AllocError, Allocator, Global};
 

@@ -4,11 +4,11 @@ use crate::triangulations::triangulated_at;
 use dcel_bench::checks::{holds, same};
 use dcel_bench::require;
 use dcel_bench_points::{KITE, Place, points_at};
-use dcel_circles::{
-    is_circled, is_delaunay, is_delaunay_triangulation, is_plane, legalize_by_circles,
-};
 use dcel_delaunay::Point;
 use dcel_exchange::from_faces;
+use dcel_planar::{
+    is_circled, is_delaunay, is_delaunay_triangulation, is_plane, legalize_by_circles,
+};
 use spade_dcel::dcel::Dcel;
 use spade_dcel::handles::FixedUndirectedEdgeHandle;
 use std::alloc::{AllocError, Global};

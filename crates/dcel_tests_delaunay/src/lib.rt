@@ -10,7 +10,6 @@ mod decimals;
 mod memory;
 #[cfg(test)]
 mod nearest;
-pub mod places;
 #[cfg(test)]
 mod positions;
 #[cfg(test)]

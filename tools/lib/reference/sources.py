@@ -148,7 +148,8 @@ class Source:
         if head.startswith("<"):
             head = head[end_of_generics(head) :].lstrip()
         *trait, name = re.split(r"\sfor\s", head, maxsplit=1)
-        owner = self.find(tuple(TYPE.search(name)[0].split("::")))
+        named = TYPE.search(name)
+        owner = self.find(tuple(named[0].split("::"))) if named else None
         if not isinstance(owner, Item):
             return
         block.name, block.owner = "".join(trait).strip(), owner

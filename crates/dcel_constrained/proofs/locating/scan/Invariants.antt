@@ -3,4 +3,4 @@ use Rattle.dcel_constrained.specs.Missing.{IsMissed}
 use Rattle.dcel_constrained.proofs.locating.scan.Given as goal
 
 abbrev pub invariant-loop-number : goal.invariant-loop-number
-invariant-loop-number g l = (h : ℕ) → h < l.number → IsMissed l.dcel l.point h
+invariant-loop-number g l = (h : ℕ) → h < l.number → IsMissed l.planar.dcel l.point h

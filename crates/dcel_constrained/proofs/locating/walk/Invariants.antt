@@ -5,6 +5,6 @@ use Rattle.dcel_constrained.proofs.locating.walk.Given as goal
 
 abbrev pub invariant-loop-step : goal.invariant-loop-step
 invariant-loop-step g l = record {
-  mesh : mesh_behind l.edge ≡ l.dcel;
-  live : IsLive l.dcel.shape (number_of l.edge);
+  mesh : mesh_behind l.edge ≡ l.planar.dcel;
+  live : IsLive l.planar.dcel.shape (number_of l.edge);
 }

@@ -3,7 +3,7 @@ use Rattle.spade_dcel.specs.Handles.{number_of}
 use Rattle.dcel_maps.specs.Shapes.{Mesh, end_of, next_of}
 use Rattle.dcel_maps.specs.Walking.{IsOutEdge}
 use Rattle.dcel_plane.specs.Plane.{point_at}
-use Rattle.dcel_delaunay.proofs.Searching.{search_begins, search_continues, search_ends}
+use Rattle.dcel_planar.proofs.Searching.{search_begins, search_continues, search_ends}
 use Rattle.dcel_constrained.proofs.Opening.{IsBeginning, begins_next, some_begins, vertices_of}
 use Rattle.dcel_constrained.proofs.walking.first_met.Goals as goal
 

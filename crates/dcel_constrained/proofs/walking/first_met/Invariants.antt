@@ -1,6 +1,6 @@
 use Rattle.std.proofs.Common.{length}
 use Rattle.dcel_plane.specs.Plane.{point_at}
-use Rattle.dcel_delaunay.proofs.Searching.{IsSearching}
+use Rattle.dcel_planar.proofs.Searching.{IsSearching}
 use Rattle.dcel_constrained.proofs.Opening.{IsBeginning}
 use Rattle.dcel_constrained.proofs.walking.first_met.Given as goal
 

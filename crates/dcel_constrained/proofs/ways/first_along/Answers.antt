@@ -2,7 +2,7 @@ use Rattle.std.proofs.Common.{ℕ, subst, sym}
 use Rattle.dcel_maps.specs.Walking.{IsOutEdge}
 use Rattle.dcel_plane.specs.Plane.{point_at}
 use Rattle.dcel_plane.specs.segments.Segments.{LeadsAlong}
-use Rattle.dcel_delaunay.proofs.Searching.{search_begins, search_continues, search_ends}
+use Rattle.dcel_planar.proofs.Searching.{search_begins, search_continues, search_ends}
 use Rattle.dcel_constrained.proofs.Online.{some_along}
 use Rattle.dcel_constrained.proofs.Opening.{vertices_of}
 use Rattle.dcel_constrained.proofs.ways.first_along.Goals as goal

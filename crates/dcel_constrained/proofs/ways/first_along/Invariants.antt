@@ -1,7 +1,7 @@
 use Rattle.std.proofs.Common.{length}
 use Rattle.dcel_plane.specs.Plane.{point_at}
 use Rattle.dcel_plane.specs.segments.Segments.{LeadsAlong}
-use Rattle.dcel_delaunay.proofs.Searching.{IsSearching}
+use Rattle.dcel_planar.proofs.Searching.{IsSearching}
 use Rattle.dcel_constrained.proofs.ways.first_along.Given as goal
 
 abbrev pub invariant-loop-edge : goal.invariant-loop-edge

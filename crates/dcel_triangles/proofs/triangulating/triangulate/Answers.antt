@@ -13,7 +13,7 @@ list_triangles-requires-clause-triangles g c =
 
 pub returns : goal.returns
 returns g c =
-    let m : Points = c.insert_all.new.self.dcel in
+    let m : Points = c.insert_all.new.self.planar.dcel in
     let seen : Points = c.dcel-mesh.result.now in
     let same : seen ≡ m = c.dcel-mesh.ensures.mesh in
     let points = c.args.points.now in
@@ -22,7 +22,7 @@ returns g c =
     let mesh = c.dcel-mesh.ensures in
     let whole = c.in-Ok.ensures.whole in
     let known : IsKnown m points vertices numbers =
-    known_of c.in_ok-triangulation.triangulation.dcel m seen points vertices numbers same c.every_mesh.ensures mesh.closed mesh.joined (mesh.delaunay whole)
+    known_of c.in_ok-triangulation.triangulation.planar.dcel m seen points vertices numbers same c.every_mesh.ensures mesh.closed mesh.joined (mesh.delaunay whole)
     (mesh.circles whole) (mesh.apart whole) (mesh.covers whole) (mesh.single whole) (mesh.hull whole) c.in_ok-triangulation.ensures.empty c.in-Ok.ensures.adds
     c.in-Ok.ensures.stand (subst (λ (list : List ℕ). NamesLeast list 0 numbers) c.deref.ensures.value c.in_ok-numbers.ensures.least)
     (c.in_ok-numbers.ensures.count ∙ c.num_vertices.ensures.count ∙ ap (λ (k : Points). k.shape.vertices) same) in

@@ -2,7 +2,7 @@ use Rattle.std.proofs.Common.{◌≡◌, ℕ, ◌/◌, refl, arith, subst, sym}
 use Rattle.dcel_maps.specs.Shapes.{IsLive, Mesh, end_of}
 use Rattle.dcel_maps.specs.Walking.{IsOutEdge}
 use Rattle.dcel_maps.proofs.shapes.Maps.{map-sound}
-use Rattle.dcel_delaunay.proofs.Searching.{search_begins, search_continues, search_ends}
+use Rattle.dcel_planar.proofs.Searching.{search_begins, search_continues, search_ends}
 use Rattle.dcel_regions.specs.Marked.{IsMarked}
 use Rattle.dcel_regions.specs.declared.mark.Mark.{Mark}
 use Rattle.dcel_constrained.proofs.triangulation.ConstrainedTriangulation.exists_constraint.Goals as goal
@@ -22,18 +22,18 @@ returns-then-index-num_vertices g c = (
 
 pub loop-edge-init : goal.loop-edge-init
 loop-edge-init g c =
-    let m = c.args.self.now.dcel in
+    let m = c.args.self.now.planar.dcel in
     search_begins (LeadsMarked m c.args.to) m c.args.from _ _ _ c.vertex.ensures.mesh c.vertex.ensures.number c.out_edges-edges.ensures.items c.out_edges-edges.ensures.each
 
 pub is_marked_to-requires : goal.is_marked_to-requires
 is_marked_to-requires g c =
-    let m = c.args.self.now.dcel in
+    let m = c.args.self.now.planar.dcel in
     let came = search_continues (LeadsMarked m c.args.to) m c.args.from _ _ _ _ c.loop-edge.invariant c.in-Some.ensures.steps.0 in
     subst (λ (k : ℕ). IsLive m.shape k) (sym c.fix.ensures.value) came.1.starts.live
 
 pub returns-then-is_marked_to : goal.returns-then-is_marked_to
 returns-then-is_marked_to g c =
-    let m = c.args.self.now.dcel in
+    let m = c.args.self.now.planar.dcel in
     let came = search_continues (LeadsMarked m c.args.to) m c.args.from _ _ _ _ c.loop-edge.invariant c.in-Some.ensures.steps.0 in
     let out = subst (λ (k : ℕ). IsOutEdge m.shape c.args.from k) (sym c.fix.ensures.value) came.1.starts in
     let leads = c.is_marked_to.ensures.0 c.if-is_marked_to.true in
@@ -41,13 +41,13 @@ returns-then-is_marked_to g c =
 
 pub loop-edge-preserved : goal.loop-edge-preserved
 loop-edge-preserved g c =
-    let m = c.args.self.now.dcel in
+    let m = c.args.self.now.planar.dcel in
     let came = search_continues (LeadsMarked m c.args.to) m c.args.from _ _ _ _ c.loop-edge.invariant c.in-Some.ensures.steps.0 in
     came.1.goes_on (λ has. (let so = c.is_marked_to.ensures.1 (subst (λ (k : ℕ). LeadsMarked m c.args.to k) (sym c.fix.ensures.value) has) in let not = c.if-is_marked_to.false in cc))
 
 pub returns : goal.returns
 returns g c =
-    let m = c.args.self.now.dcel in (
+    let m = c.args.self.now.planar.dcel in (
       λ so. absurd (let e = so in cc),
       λ found.
           absurd

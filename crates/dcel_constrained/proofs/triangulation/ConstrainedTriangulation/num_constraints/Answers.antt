@@ -6,11 +6,11 @@ use Rattle.dcel_constrained.proofs.triangulation.ConstrainedTriangulation.num_co
 
 pub loop-number-preserved : goal.loop-number-preserved
 loop-number-preserved g c =
-    let marks = c.args.self.now.dcel.undirected_data in
+    let marks = c.args.self.now.planar.dcel.undirected_data in
     let below : c.loop-number.number < length marks =
     omega (arith, c.loop-number-test.true, c.num_undirected_edges-number-end.ensures.count, c.every_mesh.ensures.sized.undirected_data) in
     let at : c.new.result ≡ c.loop-number.number = c.new.ensures in
-    let told = subst (λ (u : ℕ). IsTrue c.is_marked.result ↔ IsMarked c.args.self.now.dcel u) at c.is_marked.ensures in
+    let told = subst (λ (u : ℕ). IsTrue c.is_marked.result ↔ IsMarked c.args.self.now.planar.dcel u) at c.is_marked.ensures in
     elim c.if-is_marked.branch [
       | then-is_marked w ↦
           let one = counts_one marks c.loop-number.number below (told.0 w.if-is_marked.true) in

@@ -9,5 +9,5 @@ then_so P Q (Err e) follows holds = tt
 
 pub returns-clause-reached : goal.returns-clause-reached
 returns-clause-reached g c =
-    then_so _ _ c.regions.result (λ numbers all f below. all f (face_live c.args.self.now.dcel c.every_mesh.ensures c.args.self.now.sound.closed f below))
+    then_so _ _ c.regions.result (λ numbers all f below. all f (face_live c.args.self.now.planar.dcel c.every_mesh.ensures c.args.self.now.planar.triangulated.closed f below))
     c.regions.ensures.reached

@@ -1,40 +1,81 @@
-use Rattle.dcel_delaunay.proofs.Recovered.{whole_again}
-use Rattle.dcel_delaunay.proofs.Taking.{refuses_same, refuses_stays, takes_has, takes_points, takes_same, unready_stays}
+use Rattle.std.proofs.Common.{◌≡◌, ◌≢◌, [], ap, inr, refl, rules}
+use Rattle.dcel_planar.specs.declared.planar.PlanarMesh.{PlanarMesh}
+use Rattle.dcel_planar.proofs.Walking.{delaunay}
+use Rattle.dcel_delaunay.proofs.Listed.{lists_after, of_loose, put_inserts, settled, settled_inserts, to_loose}
+use Rattle.dcel_delaunay.proofs.Taking.{takes_has, takes_points, takes_same}
 use Rattle.dcel_delaunay.proofs.triangulation.Triangulation.insert.Goals as goal
 
+pub locate-position-requires-clause-hull : goal.locate-position-requires-clause-hull
+locate-position-requires-clause-hull g c = let mid = c.finish.new.self in (settled mid.planar mid.listed c.in_ok-finish.ensures.whole).hull
+
+pub locate-position-requires-clause-delaunay : goal.locate-position-requires-clause-delaunay
+locate-position-requires-clause-delaunay g c =
+    let mid = c.finish.new.self in delaunay mid.planar.dcel (settled mid.planar mid.listed c.in_ok-finish.ensures.whole).sound
+
+pub put_at-requires-clause-hull : goal.put_at-requires-clause-hull
+put_at-requires-clause-hull g c = let mid = c.finish.new.self in (settled mid.planar mid.listed c.in_ok-finish.ensures.whole).hull
+
+pub invariant_of-self : goal.invariant_of-self
+invariant_of-self g c = record { listed = lists_after c.finish.new.self.planar c.put_at.new.self c.put_at.ensures.lists c.finish.new.self.listed }
+
+pub invariant_of-self-then-is_settled : goal.invariant_of-self-then-is_settled
+invariant_of-self-then-is_settled g c = record { listed = lists_after c.finish.new.self.planar c.put_at.new.self c.put_at.ensures.lists c.finish.new.self.listed }
+
+pub invariant_of-self-2 : goal.invariant_of-self-2
+invariant_of-self-2 g c =
+    let put = lists_after c.finish.new.self.planar c.put_at.new.self c.put_at.ensures.lists c.finish.new.self.listed in
+    record { listed = of_loose c.legalize.new.self.dcel c.legalize.new.self.due.items (c.legalize.ensures.lists (to_loose c.put_at.new.self.dcel c.put_at.new.self.due.items put)) }
+
+pub returns-then-is_settled-clause-inserts : goal.returns-then-is_settled-clause-inserts
+returns-then-is_settled-clause-inserts g c =
+    let mid = c.finish.new.self in
+    let v = c.in_ok-vertex.vertex in
+    let inserts = put_inserts mid.planar c.put_at.new.self c.locate-position.result c.args.point v c.locate-position.ensures c.in_ok-vertex.ensures.put in
+    let last : c.begin_at.new.self.planar.dcel ≡ c.put_at.new.self.dcel = ap (λ (m : PlanarMesh (Unit {0}) g.row.A.Denot). m.dcel) c.begin_at.ensures in
+    record {
+      has = takes_has mid.planar.dcel c.put_at.new.self.dcel _ c.args.point v c.every_mesh.ensures inserts last;
+      points = takes_points _ mid.planar.dcel c.put_at.new.self.dcel _ c.args.point v c.finish.ensures.points inserts last;
+    }
+
+pub returns-then-is_settled-clause-same : goal.returns-then-is_settled-clause-same
+returns-then-is_settled-clause-same g c = λ whole stay.
+    let mid = c.finish.new.self in
+    let v = c.in_ok-vertex.vertex in
+    let inserts = put_inserts mid.planar c.put_at.new.self c.locate-position.result c.args.point v c.locate-position.ensures c.in_ok-vertex.ensures.put in
+    let last : c.begin_at.new.self.planar.dcel ≡ c.put_at.new.self.dcel = ap (λ (m : PlanarMesh (Unit {0}) g.row.A.Denot). m.dcel) c.begin_at.ensures in
+    takes_same c.args.self.now.planar.dcel mid.planar.dcel c.put_at.new.self.dcel c.begin_at.new.self.planar.dcel c.args.point v (c.finish.ensures.same whole) inserts last stay
+
+pub returns-in_default-clause-same : goal.returns-in_default-clause-same
+returns-in_default-clause-same g c = λ whole stay.
+    let mid = c.finish.new.self in
+    let v = c.in_ok-vertex.vertex in
+    let some : c.put_at.new.self.due.items ≢ [] = search rules in
+    let gains =
+    settled_inserts mid.planar c.put_at.new.self c.legalize.new.self c.locate-position.result c.args.point v c.in_ok-finish.ensures.whole c.in_ok-vertex.ensures.put some
+    c.legalize.ensures.keeps in
+    takes_same c.args.self.now.planar.dcel mid.planar.dcel c.legalize.new.self.dcel c.legalize.new.self.dcel c.args.point v (c.finish.ensures.same whole) (inr gains) refl stay
+
 pub returns-clause-inserts : goal.returns-clause-inserts
-returns-clause-inserts g c = record {
-  has = takes_has _ _ _ c.args.point _ c.every_mesh.ensures c.in_ok-vertex.ensures.inserts c.begin_at.ensures.mesh;
-  points = takes_points _ _ _ _ c.args.point _ c.finish.ensures.points c.in_ok-vertex.ensures.inserts c.begin_at.ensures.mesh;
-}
-
-pub locate-position-requires : goal.locate-position-requires
-locate-position-requires g c =
-    let after = c.finish.new.self in whole_again after.dcel after.due.items after.under_way after.sound c.in_ok-finish.ensures.whole
-
-pub insert_at-requires-clause-hull : goal.insert_at-requires-clause-hull
-insert_at-requires-clause-hull g c =
-    let after = c.finish.new.self in (whole_again after.dcel after.due.items after.under_way after.sound c.in_ok-finish.ensures.whole).hull
+returns-clause-inserts g c =
+    let mid = c.finish.new.self in
+    let v = c.in_ok-vertex.vertex in
+    let some : c.put_at.new.self.due.items ≢ [] = search rules in
+    let gains =
+    settled_inserts mid.planar c.put_at.new.self c.legalize.new.self c.locate-position.result c.args.point v c.in_ok-finish.ensures.whole c.in_ok-vertex.ensures.put some
+    c.legalize.ensures.keeps in
+    let last : c.begin_at-2.new.self.planar.dcel ≡ c.legalize.new.self.dcel = ap (λ (m : PlanarMesh (Unit {0}) g.row.A.Denot). m.dcel) c.begin_at-2.ensures in
+    record {
+      has = takes_has mid.planar.dcel c.legalize.new.self.dcel _ c.args.point v c.every_mesh.ensures (inr gains) last;
+      points = takes_points _ mid.planar.dcel c.legalize.new.self.dcel _ c.args.point v c.finish.ensures.points (inr gains) last;
+    }
 
 pub returns-clause-same : goal.returns-clause-same
-returns-clause-same g c whole stay =
-    takes_same c.args.self.now.dcel c.finish.new.self.dcel _ _ c.args.point _ (c.finish.ensures.same whole) c.in_ok-vertex.ensures.inserts c.begin_at.ensures.mesh stay
-
-pub returns-in_err-finish-clause-same : goal.returns-in_err-finish-clause-same
-returns-in_err-finish-clause-same g c whole stay = c.finish.ensures.same whole
-
-pub returns-in_err-finish-clause-refuses : goal.returns-in_err-finish-clause-refuses
-returns-in_err-finish-clause-refuses g c =
+returns-clause-same g c = λ whole stay.
     let mid = c.finish.new.self in
-    unready_stays c.args.self.now.dcel mid.dcel mid.due.items c.args.point c.from_residual.result _ c.from_residual.ensures c.finish.ensures.points c.in_err-finish.ensures.refused c.in_err-finish.ensures.ready
-
-pub returns-in_err-vertex-clause-same : goal.returns-in_err-vertex-clause-same
-returns-in_err-vertex-clause-same g c whole stay =
-    refuses_same c.args.self.now.dcel c.finish.new.self.dcel c.insert_at.new.dcel c.args.point _ (c.finish.ensures.same whole) c.in_err-vertex.ensures.refuses stay
-
-pub returns-in_err-vertex-clause-refuses : goal.returns-in_err-vertex-clause-refuses
-returns-in_err-vertex-clause-refuses g c =
-    let mid = c.finish.new.self in
-    refuses_stays c.args.self.now.dcel mid.dcel c.insert_at.new.due.items c.args.point c.from_residual-in_err-vertex.result _ c.from_residual-in_err-vertex.ensures
-    c.finish.ensures.points c.insert_at.new.dcel mid.due.items c.finish.ensures.same
-    c.in_ok-finish.ensures.whole c.in_err-vertex.ensures.refuses c.in_err-vertex.ensures.due
+    let v = c.in_ok-vertex.vertex in
+    let some : c.put_at.new.self.due.items ≢ [] = search rules in
+    let gains =
+    settled_inserts mid.planar c.put_at.new.self c.legalize.new.self c.locate-position.result c.args.point v c.in_ok-finish.ensures.whole c.in_ok-vertex.ensures.put some
+    c.legalize.ensures.keeps in
+    let last : c.begin_at-2.new.self.planar.dcel ≡ c.legalize.new.self.dcel = ap (λ (m : PlanarMesh (Unit {0}) g.row.A.Denot). m.dcel) c.begin_at-2.ensures in
+    takes_same c.args.self.now.planar.dcel mid.planar.dcel c.legalize.new.self.dcel c.begin_at-2.new.self.planar.dcel c.args.point v (c.finish.ensures.same whole) (inr gains) last stay

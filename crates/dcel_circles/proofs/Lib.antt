@@ -1,5 +1,0 @@
-pub mod Turned
-pub mod Circled
-pub mod Faces
-pub mod Begun
-pub mod Wholes

@@ -1,6 +1,0 @@
-use Rattle.std.proofs.Common.{ℕ, ◌<◌}
-use Rattle.dcel_delaunay.specs.Places.{HasPoint}
-use Rattle.dcel_delaunay.proofs.line.at_a_vertex.Given as goal
-
-abbrev pub invariant-loop-index : goal.invariant-loop-index
-invariant-loop-index g l = (v : ℕ) → v < l.index → ¬ HasPoint l.dcel l.point v

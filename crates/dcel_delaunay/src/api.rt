@@ -1,0 +1,230 @@
+//! What a triangulation of points offers: its mesh, points located, and points inserted one after
+//! another.
+
+ghost use Rattle.std.specs.Prelude.{◌≡◌, ◌↔◌, ℕ, ◌<◌, ◌≤◌, [], IfErr, IfNone, IfOk, IfSome, IsOk, IsTrue, OnOk};
+ghost use Rattle.dcel_maps.specs.Conditions.{IsUnconnected};
+ghost use Rattle.dcel_maps.specs.Removals.{Closed};
+ghost use Rattle.dcel_maps.specs.Shapes.{face_count};
+ghost use Rattle.dcel_maps.specs.Triangulations.{AllTriangles};
+ghost use Rattle.dcel_plane.specs.Plane.{IsLocallyDelaunay, point_at};
+ghost use Rattle.dcel_plane.specs.location.Nearest.{IsNearest};
+ghost use Rattle.dcel_planar.specs.Growing.{Keeps};
+ghost use Rattle.dcel_planar.specs.Leaving.{IsOutlined};
+ghost use Rattle.dcel_planar.specs.Places.{IsPlace};
+ghost use Rattle.dcel_delaunay.specs.Removing.{Loses};
+ghost use Rattle.dcel_delaunay.specs.Triangulated.{CirclesAreEmpty, FacesAreApart, GoesRoundHull, HullIsCovered, IsWhole, KeepsVertex, PointsAreSingle, Stays, Takes, mesh_in};
+
+use crate::errors::RemovalError;
+use crate::locate::nearest;
+use crate::remove::{remove_from_line, remove_from_triangles};
+use crate::removed::Removed;
+use crate::triangulation::Triangulation;
+use dcel_planar::{InsertionError, Mesh, PlanarMesh, Point, PositionInTriangulation};
+use spade_dcel::handles::{FixedDirectedEdgeHandle, FixedVertexHandle};
+use spade_dcel::laws::every_mesh;
+use std::alloc::{AllocError, Allocator};
+
+impl<A: Allocator + Clone> Triangulation<A> {
+    /// Creates a triangulation of no points. If memory runs out it returns `AllocError`.
+    pub fn new(alloc: A) -> Result<Self, AllocError>
+        ensures empty { IfOk result (λ t. (mesh_in t).vertex_data ≡ []) }
+        ensures whole { IfOk result IsWhole }
+    {
+        Ok(Triangulation {
+            planar: PlanarMesh::new(alloc)?,
+            last: FixedDirectedEdgeHandle::new(0),
+        })
+    }
+}
+
+impl<A: Allocator> Triangulation<A> {
+    /// Lends the mesh.
+    ///
+    /// Each vertex has its point as datum, each inner face is a triangle, and once there are two
+    /// vertices each has an edge. If the triangulation is whole ([`is_whole`](Self::is_whole)), the
+    /// mesh is a Delaunay triangulation of its points:
+    ///
+    /// * `delaunay`: the inner faces go round counterclockwise, and no edge between two of them is to
+    ///   be flipped.
+    /// * `circles`: no vertex lies inside the circle of any inner face.
+    /// * `apart`: no place lies inside two inner faces.
+    /// * `covers`: each place that no half edge of the outer face has on its left lies in an inner
+    ///   face or on its border, if there is an inner face.
+    /// * `single`: no two vertices stand at one point.
+    /// * `hull`: no vertex lies on the left of a half edge of the outer face, nor on it between its
+    ///   ends, and once there is an inner face, the outer face passes no vertex twice.
+    ///
+    /// While all points stand on one line there is no inner face, and each edge joins two
+    /// neighbors.
+    pub fn dcel(&self) -> &Mesh<A>
+        ensures mesh { result.now ≡ mesh_in self.now }
+        ensures closed { (mesh_in self.now).shape.removal ≡ Closed }
+        ensures triangles { AllTriangles (mesh_in self.now).shape }
+        ensures joined { (v : ℕ) → 1 < (mesh_in self.now).shape.vertices → ¬ IsUnconnected (mesh_in self.now).shape v }
+        ensures delaunay { IsWhole self.now → IsLocallyDelaunay (point_at (mesh_in self.now)) (mesh_in self.now).shape }
+        ensures circles { IsWhole self.now → CirclesAreEmpty (mesh_in self.now) }
+        ensures apart { IsWhole self.now → FacesAreApart (mesh_in self.now) }
+        ensures covers { IsWhole self.now → 1 < face_count (mesh_in self.now).shape → HullIsCovered (mesh_in self.now) }
+        ensures single { IsWhole self.now → PointsAreSingle (mesh_in self.now) }
+        ensures hull { IsWhole self.now → GoesRoundHull (mesh_in self.now) }
+    {
+        every_mesh(&self.planar.dcel);
+        &self.planar.dcel
+    }
+
+    /// Returns whether no insertion or removal has left something undone for want of memory.
+    pub fn is_whole(&self) -> bool
+        ensures { IsTrue result ↔ IsWhole self.now }
+    {
+        self.planar.is_settled()
+    }
+
+    /// Returns where a point lies.
+    ///
+    /// Asks for a whole triangulation ([`is_whole`](Self::is_whole)): where memory ran out,
+    /// [`finish`](Self::finish) makes it so. The walk begins at an edge of the vertex that the last
+    /// insertion returned; after a removal, which renumbers edges, at the one that has its number now,
+    /// or at the first.
+    pub fn locate(&self, point: Point) -> PositionInTriangulation
+        requires whole { IsWhole self.now }
+        ensures { IsPlace (mesh_in self.now) point result }
+    {
+        self.planar.locate(self.last, point)
+    }
+
+    /// Returns a vertex that no other one is nearer to a point than, or `None` if there is no vertex.
+    ///
+    /// Asks for a whole triangulation ([`is_whole`](Self::is_whole)): where memory ran out,
+    /// [`finish`](Self::finish) makes it so. A walk from neighbor to neighbor, each nearer than the
+    /// last one, begins at the vertex that the last insertion returned; after a removal, where the edge
+    /// starts that [`locate`](Self::locate) begins at, or at the first vertex.
+    pub fn nearest_vertex(&self, point: Point) -> Option<FixedVertexHandle>
+        requires whole { IsWhole self.now }
+        ensures vertex { IfSome result (λ v. v < (mesh_in self.now).shape.vertices) }
+        ensures nearest { IfSome result (IsNearest (point_at (mesh_in self.now)) (mesh_in self.now).shape point) }
+        ensures none { IfNone result ((mesh_in self.now).shape.vertices ≡ 0) }
+    {
+        nearest(&self.planar.dcel, self.last, point)
+    }
+
+    /// Inserts a point, and returns its vertex: a new one, or the one that stands there already.
+    ///
+    /// If no numbers are left for a new vertex, three edges and two faces, the result is
+    /// [`TooManyPoints`](InsertionError::TooManyPoints), and if memory runs out before the vertex
+    /// stands, [`OutOfMemory`](InsertionError::OutOfMemory): no vertex is added then, and a whole
+    /// triangulation ([`is_whole`](Self::is_whole)) is as it was, and whole. If either runs out
+    /// afterwards, the result is [`Unfinished`](InsertionError::Unfinished), and the next insertion, or
+    /// [`finish`](Self::finish), goes on with what is left to do.
+    ///
+    /// If the vertex stands there already, a whole triangulation stays as it is.
+    pub fn insert(&mut self, point: Point) -> Result<FixedVertexHandle, InsertionError>
+        ensures inserts { IfOk result (Takes self.old self.new point) }
+        ensures whole { OnOk result (IsWhole self.new) }
+        ensures refuses { IfErr result (Stays self.old self.new point) }
+        ensures same { IsWhole self.old → (mesh_in self.new).vertex_data ≡ (mesh_in self.old).vertex_data → mesh_in self.new ≡ mesh_in self.old }
+        ensures edges { (mesh_in self.old).shape.edges ≤ (mesh_in self.new).shape.edges }
+    {
+        self.finish()?;
+        every_mesh(&self.planar.dcel);
+        let position = self.planar.locate(self.last, point);
+        let vertex = self.planar.put_at(position, point)?;
+        if self.planar.is_settled() {
+            self.begin_at(vertex);
+            return Ok(vertex);
+        }
+        let Ok(()) = self.planar.legalize() else {
+            return Err(InsertionError::Unfinished);
+        };
+        self.begin_at(vertex);
+        Ok(vertex)
+    }
+
+    /// Does what an insertion or a removal left undone for want of memory. A whole triangulation
+    /// ([`is_whole`](Self::is_whole)) stays as it is.
+    ///
+    /// It can't fail on a whole triangulation. On another one, if memory runs out again, or there is no
+    /// number left for an edge, the result is [`OutOfMemory`](InsertionError::OutOfMemory), and what is
+    /// done so far stays. The vertices stay in any case.
+    pub fn finish(&mut self) -> Result<(), InsertionError>
+        ensures points { (mesh_in self.new).vertex_data ≡ (mesh_in self.old).vertex_data }
+        ensures whole { OnOk result (IsWhole self.new) }
+        ensures same { IsWhole self.old → mesh_in self.new ≡ mesh_in self.old }
+        ensures ready { IsWhole self.old → IsOk result }
+        ensures refused { IfErr result (λ e. e ≡ InsertionError.OutOfMemory) }
+        ensures edges { (mesh_in self.old).shape.edges ≤ (mesh_in self.new).shape.edges }
+    {
+        if self.planar.is_settled() {
+            return Ok(());
+        }
+        let Ok(()) = self.planar.close_hull() else {
+            return Err(InsertionError::OutOfMemory);
+        };
+        let Ok(()) = self.planar.legalize() else {
+            return Err(InsertionError::OutOfMemory);
+        };
+        Ok(())
+    }
+
+    /// Has the next walk begin at a vertex.
+    fn begin_at(&mut self, vertex: FixedVertexHandle)
+        ensures { self.new.planar ≡ self.old.planar }
+    {
+        if let Some(vertex) = self.planar.dcel.get_vertex(vertex) {
+            if let Some(edge) = vertex.out_edge() {
+                self.last = edge.fix();
+            }
+        }
+    }
+}
+
+impl<A: Allocator + Clone> Triangulation<A> {
+    /// Removes a vertex, and tells where it stood.
+    ///
+    /// The last vertex gets its number, which the result tells; all others keep theirs. The
+    /// triangulation is then one of the points that are left, a line if they all stand on one, and of
+    /// none after the last.
+    ///
+    /// If there is no such vertex, the result is [`NoVertex`](RemovalError::NoVertex), and if it lies
+    /// inside of triangles and no numbers are left for an edge and two triangles,
+    /// [`TooManyPoints`](RemovalError::TooManyPoints): a whole triangulation is then as it was, and
+    /// any other is whole now.
+    ///
+    /// If memory runs out before the vertex is gone, it stays, and if it runs out afterwards, the
+    /// result is [`Unfinished`](RemovalError::Unfinished); then the next insertion or removal, or
+    /// [`finish`](Self::finish), goes on with what is left to do.
+    pub fn remove(&mut self, vertex: FixedVertexHandle) -> Result<Removed, RemovalError>
+        ensures removes { IfOk result (Loses (mesh_in self.old) (mesh_in self.new) vertex) }
+        ensures whole { OnOk result (IsWhole self.new) }
+        ensures refuses { IfErr result (KeepsVertex self.old self.new vertex) }
+    {
+        every_mesh(&self.planar.dcel);
+        let Ok(()) = self.finish() else {
+            return Err(RemovalError::OutOfMemory);
+        };
+        every_mesh(&self.planar.dcel);
+        if vertex.index() >= self.planar.dcel.num_vertices() {
+            return Err(RemovalError::NoVertex);
+        }
+        if self.planar.dcel.num_faces() == 1 {
+            return Ok(remove_from_line(&mut self.planar.dcel, vertex));
+        }
+        match remove_from_triangles(&mut self.planar.dcel, &mut self.planar.due, vertex) {
+            Ok(removed) => self.settle(removed),
+            Err(error) => Err(error),
+        }
+    }
+
+    /// Flips the edges that a removal left to be looked at, and returns what was removed.
+    fn settle(&mut self, removed: Removed) -> Result<Removed, RemovalError>
+        requires hull { IsOutlined (mesh_in self.old) }
+        ensures keeps { Keeps (mesh_in self.old) (mesh_in self.new) }
+        ensures same { IfOk result (λ r. r ≡ removed) }
+        ensures unfinished { IfErr result (λ e. e ≡ RemovalError.Unfinished removed) }
+        ensures done { OnOk result (IsWhole self.new) }
+    {
+        let Ok(()) = self.planar.legalize() else {
+            return Err(RemovalError::Unfinished(removed));
+        };
+        Ok(removed)
+    }
+}

@@ -1,0 +1,6 @@
+//! Many points inserted at once.
+
+mod bulk;
+mod curve;
+
+pub use curve::insertion_order;

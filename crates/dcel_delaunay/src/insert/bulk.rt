@@ -1,0 +1,100 @@
+//! Many points inserted at once.
+
+ghost use Rattle.std.specs.Prelude.{◌≡◌, ◌≤◌, IfOk, OnOk, length, slice_get, slice_set};
+ghost use Rattle.std.specs.List.{FoldsTo};
+ghost use Rattle.dcel_delaunay.specs.Bulk.{AddsVertices, StandAt, StandsToo, counted};
+ghost use Rattle.dcel_delaunay.specs.Triangulated.{IsWhole, mesh_in};
+
+use crate::insert::curve::insertion_order;
+use crate::triangulation::Triangulation;
+use dcel_planar::{InsertionError, Point};
+use spade_dcel::handles::FixedVertexHandle;
+use std::alloc::Allocator;
+
+impl<A: Allocator + Clone> Triangulation<A> {
+    /// Inserts points in an order of its own, in which walks are short.
+    ///
+    /// Returns the vertex of each point, in the order of the points. If it fails, the points that
+    /// were inserted so far stay.
+    pub fn insert_all(
+        &mut self,
+        alloc: A,
+        points: &[Point],
+    ) -> Result<Vec<FixedVertexHandle, A>, InsertionError>
+        ensures stand { IfOk result (λ vertices. StandAt (mesh_in self.new) points.now vertices.items) }
+        ensures whole { OnOk result (IsWhole self.new) }
+        ensures adds { AddsVertices (mesh_in self.old) (mesh_in self.new) points.now (length points.now) }
+        ensures edges { (mesh_in self.old).shape.edges ≤ (mesh_in self.new).shape.edges }
+    {
+        self.insert_all_with(alloc, points, |_| ())
+    }
+
+    /// Inserts points as [`insert_all`](Self::insert_all) does, and tells after each of them how
+    /// many are inserted: 1, 2, and so on.
+    pub fn insert_all_with<P: FnMut(usize)>(
+        &mut self,
+        alloc: A,
+        points: &[Point],
+        mut progress: P,
+    ) -> Result<Vec<FixedVertexHandle, A>, InsertionError>
+        requires progress { P.IsAlwaysCallable progress }
+        ensures stand { IfOk result (λ vertices. StandAt (mesh_in self.new) points.now vertices.items) }
+        ensures whole { OnOk result (IsWhole self.new) }
+        ensures adds { AddsVertices (mesh_in self.old) (mesh_in self.new) points.now (length points.now) }
+        ensures edges { (mesh_in self.old).shape.edges ≤ (mesh_in self.new).shape.edges }
+        ensures told { OnOk result ((last : P) × FoldsTo (λ before done after. P.step before done tt after) progress (counted 1 (length points.now)) last) }
+    {
+        let order = insertion_order(alloc.clone()?, points)?;
+        let mut vertices = vec![in alloc; FixedVertexHandle::new(0); points.len()]?;
+        self.finish()?;
+        let mut done = 0;
+        for number in &order {
+            self.insert_numbered(points, *number, &mut vertices)?;
+            done += 1;
+            progress(done);
+        }
+        Ok(vertices)
+    }
+}
+
+impl<A: Allocator> Triangulation<A> {
+    /// Inserts the point with this number, and notes its vertex in that place.
+    fn insert_numbered(
+        &mut self,
+        points: &[Point],
+        number: usize,
+        vertices: &mut Vec<FixedVertexHandle, A>,
+    ) -> Result<(), InsertionError>
+        requires { IsWhole self.old }
+        ensures stands { OnOk result (StandsToo (mesh_in self.old) (mesh_in self.new) points.now number vertices.old.items vertices.new.items) }
+        ensures whole { OnOk result (IsWhole self.new) }
+        ensures adds { AddsVertices (mesh_in self.old) (mesh_in self.new) points.now 1 }
+        ensures edges { (mesh_in self.old).shape.edges ≤ (mesh_in self.new).shape.edges }
+    {
+        if let Some(point) = point_of(points, number) {
+            let vertex = self.insert(point)?;
+            note(vertices, number, vertex);
+        }
+        Ok(())
+    }
+}
+
+// Returns the point with this number, if there is one.
+fn point_of(points: &[Point], number: usize) -> Option<Point>
+    ensures { result ≡ slice_get points.now number }
+{
+    points.get(number).copied()
+}
+
+// Writes into a list, if it has the place.
+fn note<A: Allocator>(
+    vertices: &mut Vec<FixedVertexHandle, A>,
+    number: usize,
+    vertex: FixedVertexHandle,
+)
+    ensures { vertices.new.items ≡ slice_set vertices.old.items number vertex }
+{
+    if number < vertices.len() {
+        vertices[number] = vertex;
+    }
+}

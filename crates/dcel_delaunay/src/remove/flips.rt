@@ -1,0 +1,95 @@
+//! Edges flipped until few are left at a vertex.
+
+ghost use Rattle.std.specs.Prelude.{◌≡◌, ◌↔◌, ◌<◌, ◌≤◌, ◌/◌, ℕ, IfNone, IfSome, IsTrue, OnOk};
+ghost use Rattle.dcel_maps.specs.Shapes.{IsMesh};
+ghost use Rattle.dcel_plane.specs.Plane.{TurnsLeft, point_at};
+ghost use Rattle.dcel_plane.specs.removal.Wheels.{CanTurn};
+ghost use Rattle.dcel_planar.specs.Corners.{StartsOutside};
+ghost use Rattle.dcel_planar.specs.Growing.{HasHull, IsSound, Keeps};
+ghost use Rattle.dcel_delaunay.specs.Removing.{HasNoneToTurn, IsInside, IsTurnable};
+
+use crate::remove::Due;
+use dcel_legalize::append_sides;
+use dcel_planar::{Mesh, Point, point_of};
+use dcel_predicates::{Side, orientation};
+use spade_dcel::handles::{FixedUndirectedEdgeHandle, FixedVertexHandle};
+use spade_dcel::laws::every_mesh;
+use spade_dcel::operations::flip_cw;
+use std::alloc::{AllocError, Allocator};
+
+/// Flips edges of a vertex, each between two triangles that go round counterclockwise afterwards
+/// too, until none of its edges can be flipped so, and lists the edges of the triangles.
+///
+/// If memory runs out, the flips made so far remain, and their edges are listed.
+pub(crate) fn thin_out<A: Allocator, L: Allocator>(
+    dcel: &mut Mesh<A>,
+    due: &mut Due<L>,
+    vertex: FixedVertexHandle,
+) -> Result<(), AllocError>
+    requires sound { IsSound dcel.old due.old.items }
+    requires hull { HasHull dcel.old }
+    requires vertex { vertex < dcel.old.shape.vertices }
+    ensures keeps { Keeps dcel.old dcel.new }
+    ensures same_edges { dcel.new.shape.edges ≡ dcel.old.shape.edges }
+    ensures sound { IsSound dcel.new due.new.items }
+    ensures hull { HasHull dcel.new }
+    ensures inside { IsInside dcel.old.shape vertex → IsInside dcel.new.shape vertex }
+    ensures outside { (h : ℕ) → StartsOutside dcel.old vertex h → StartsOutside dcel.new vertex h }
+    ensures done { OnOk result (HasNoneToTurn dcel.new vertex) }
+    ensures mesh { IsMesh dcel.new }
+{
+    every_mesh(dcel);
+    while let Some(edge) = edge_to_turn(dcel, vertex) {
+        due.reserve(5)?;
+        due.push_reserved(edge);
+        append_sides(dcel, edge, due);
+        flip_cw(dcel, edge);
+    }
+    Ok(())
+}
+
+/// Returns an edge of a vertex that can be flipped so, if there is one.
+fn edge_to_turn<A: Allocator>(
+    dcel: &Mesh<A>,
+    vertex: FixedVertexHandle,
+) -> Option<FixedUndirectedEdgeHandle>
+    requires { vertex < dcel.now.shape.vertices }
+    ensures some { IfSome result (IsTurnable dcel.now vertex) }
+    ensures none { IfNone result (HasNoneToTurn dcel.now vertex) }
+{
+    let mut edges = dcel.vertex(vertex).out_edges();
+    while let Some(edge) = edges.next() {
+        let edge = edge.fix().as_undirected();
+        if can_turn(dcel, edge) {
+            return Some(edge);
+        }
+    }
+    None
+}
+
+/// Returns whether an edge lies between two inner triangles and can be flipped, and both go round
+/// counterclockwise then too.
+fn can_turn<A: Allocator>(dcel: &Mesh<A>, edge: FixedUndirectedEdgeHandle) -> bool
+    ensures { IsTrue result ↔ CanTurn (point_at dcel.now) dcel.now.shape edge }
+{
+    if !dcel.can_flip(edge) {
+        return false;
+    }
+    let half = dcel.undirected_edge(edge).as_directed();
+    if half.is_part_of_convex_hull() {
+        return false;
+    }
+    let near = point_of(half.prev().from());
+    let far = point_of(half.rev().prev().from());
+    if !turns_left(near, far, point_of(half.to())) {
+        return false;
+    }
+    turns_left(far, near, point_of(half.from()))
+}
+
+/// Returns whether three points go round counterclockwise.
+pub(crate) fn turns_left(a: Point, b: Point, c: Point) -> bool
+    ensures { IsTrue result ↔ TurnsLeft a b c }
+{
+    orientation(a, b, c) == Side::Left
+}

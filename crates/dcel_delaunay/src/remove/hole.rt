@@ -1,0 +1,140 @@
+//! A vertex inside of triangles given up, and the hole filled.
+
+ghost use Rattle.std.specs.Prelude.{◌≡◌, ◌↔◌, ◌<◌, ◌≤◌, ◌+◌, ◌++◌, IfErr, IfOk, IsTrue, vec_capacity, vec_len};
+ghost use Rattle.dcel_maps.specs.Conditions.{HasRoom, IsTriangle};
+ghost use Rattle.dcel_maps.specs.Shapes.{IsLive};
+ghost use Rattle.dcel_plane.specs.Edges.{edges_inserted};
+ghost use Rattle.dcel_plane.specs.Plane.{point_at};
+ghost use Rattle.dcel_plane.specs.removal.Wheels.{MakesTwo};
+ghost use Rattle.spade_dcel.specs.Handles.{mesh_behind, number_of};
+ghost use Rattle.dcel_planar.specs.Growing.{IsSound};
+ghost use Rattle.dcel_delaunay.specs.Removing.{BeginsBorder, IsFilled, IsGivenUp, IsThin};
+
+use crate::remove::Due;
+use crate::remove::flips::turns_left;
+use dcel_planar::{Edge, Mesh, edges_of, point_of};
+use spade_dcel::handles::{FixedDirectedEdgeHandle, FixedFaceHandle, FixedVertexHandle, InnerTag};
+use spade_dcel::laws::every_mesh;
+use spade_dcel::operations::{IsolateVertexResult, isolate_vertex_and_fill_hole};
+use std::alloc::{AllocError, Allocator};
+
+/// Gives up a vertex inside of triangles, none of whose edges can be flipped any more, fills the
+/// hole with one triangle or two, and lists their edges.
+///
+/// If memory runs out, nothing is changed.
+pub(crate) fn fill<A: Allocator + Clone, L: Allocator>(
+    dcel: &mut Mesh<A>,
+    due: &mut Due<L>,
+    vertex: FixedVertexHandle,
+) -> Result<IsolateVertexResult<A>, AllocError>
+    requires sound { IsSound dcel.old due.old.items }
+    requires thin { IsThin dcel.old vertex }
+    requires room { HasRoom dcel.old.shape 0 1 2 }
+    ensures given_up { IfOk result (λ opened. IsGivenUp dcel.old dcel.new vertex due.new.items opened) }
+    ensures refused { IfErr result (λ _. (dcel.new ≡ dcel.old) × (due.new.items ≡ due.old.items)) }
+{
+    every_mesh(dcel);
+    let border = border_of(dcel, vertex)?;
+    let two = border.len() == 4;
+    due.reserve(6)?;
+    let first = FixedFaceHandle::new(dcel.num_faces());
+    let opened = isolate_vertex_and_fill_hole(dcel, border, vertex)?;
+    list_sides(dcel, due, first);
+    if !two {
+        return Ok(opened);
+    }
+    list_sides(dcel, due, FixedFaceHandle::new(first.index() + 1));
+    Ok(opened)
+}
+
+/// Lists the edges of a triangle.
+fn list_sides<A: Allocator, L: Allocator>(
+    dcel: &Mesh<A>,
+    due: &mut Due<L>,
+    face: FixedFaceHandle<InnerTag>,
+)
+    requires inner { 0 < face }
+    requires triangle { IsTriangle dcel.now.shape face }
+    requires room { vec_len due.old + 3 ≤ vec_capacity due.old }
+    ensures items { due.new.items ≡ due.old.items ++ edges_inserted dcel.now face }
+    ensures len { vec_len due.new ≡ vec_len due.old + 3 }
+    ensures capacity { vec_capacity due.new ≡ vec_capacity due.old }
+{
+    let sides = edges_of(dcel, face);
+    due.push_reserved(sides[0]);
+    due.push_reserved(sides[1]);
+    due.push_reserved(sides[2]);
+}
+
+/// Returns the border loop of the vertex, from where the triangles that fill it go round
+/// counterclockwise.
+fn border_of<A: Allocator + Clone>(
+    dcel: &Mesh<A>,
+    vertex: FixedVertexHandle,
+) -> Result<Vec<FixedDirectedEdgeHandle, A>, AllocError>
+    requires { IsThin dcel.now vertex }
+    ensures { IfOk result (λ border. IsFilled dcel.now vertex border.items) }
+{
+    every_mesh(dcel);
+    let begin = beginning(dcel, vertex);
+    let first = dcel.directed_edge(begin);
+    let second = first.ccw();
+    let third = second.ccw();
+    let fourth = third.ccw();
+    let alloc = dcel.allocator().clone()?;
+    if fourth.fix() == begin {
+        let three = [third.next().fix(), second.next().fix(), first.next().fix()];
+        let border = Vec::from_slice(alloc, &three)?;
+        return Ok(border);
+    }
+    let four = [
+        fourth.next().fix(),
+        third.next().fix(),
+        second.next().fix(),
+        first.next().fix(),
+    ];
+    let border = Vec::from_slice(alloc, &four)?;
+    Ok(border)
+}
+
+/// Returns the out edge of the vertex at which the border loop begins.
+fn beginning<A: Allocator>(dcel: &Mesh<A>, vertex: FixedVertexHandle) -> FixedDirectedEdgeHandle
+    requires { IsThin dcel.now vertex }
+    ensures { BeginsBorder dcel.now vertex result }
+{
+    every_mesh(dcel);
+    let around = dcel.vertex(vertex);
+    let Some(anchor) = around.out_edge() else {
+        unreachable!()
+    };
+    let mut edges = around.out_edges();
+    while let Some(edge) = edges.next() {
+        if makes_two(edge) {
+            return edge.fix();
+        }
+    }
+    anchor.fix()
+}
+
+/// Returns whether, of the four out edges of a vertex, a line from where this one ends to where the
+/// next but one ends makes two triangles that go round counterclockwise.
+fn makes_two<A: Allocator>(edge: Edge<'_, (), A>) -> bool
+    requires { IsLive (mesh_behind edge).shape (number_of edge) }
+    ensures { IsTrue result ↔ MakesTwo (point_at (mesh_behind edge.entry)) (mesh_behind edge.entry).shape (number_of edge.entry) }
+{
+    let second = edge.ccw();
+    let third = second.ccw();
+    let fourth = third.ccw();
+    if !turns_left(
+        point_of(edge.to()),
+        point_of(second.to()),
+        point_of(third.to()),
+    ) {
+        return false;
+    }
+    turns_left(
+        point_of(third.to()),
+        point_of(fourth.to()),
+        point_of(edge.to()),
+    )
+}

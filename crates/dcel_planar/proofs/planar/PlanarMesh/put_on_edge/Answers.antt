@@ -1,0 +1,139 @@
+use Rattle.std.proofs.Common.{arith, append_assoc, subst, sym, inl, inr, refl, ◌++◌}
+use Rattle.std.proofs.lemmas.Grind.{common_steps}
+use Rattle.dcel_fixed.specs.HalfEdges.{rev}
+use Rattle.dcel_maps.specs.edits.Split.{edge_split}
+use Rattle.dcel_maps.specs.Conditions.{IsTriangle}
+use Rattle.dcel_maps.specs.Shapes.{Mesh, face_of}
+use Rattle.dcel_predicates.specs.declared.point.Point.{Point}
+use Rattle.dcel_maps.proofs.maps.Halves.{rev_half}
+use Rattle.dcel_plane.specs.Edges.{edges_split}
+use Rattle.dcel_planar.specs.Growing.{HasHull, IsTriangulated, MayRefuse}
+use Rattle.dcel_planar.proofs.Growth.{split-keeps}
+use Rattle.dcel_planar.proofs.Hull.{split-hull}
+use Rattle.dcel_planar.proofs.OnEdges.{both_across}
+use Rattle.dcel_planar.proofs.Puts.{put_back, put_gains, put_holds, put_lists, stays_hull, stays_listed, stays_triangulated}
+use Rattle.dcel_planar.proofs.Sound.{same_triangle, split-lists, split-triangulated}
+use Rattle.dcel_planar.proofs.Ends.{edge_is_split, put_data}
+use Rattle.dcel_planar.proofs.planar.PlanarMesh.put_on_edge.Goals as goal
+
+pub edges_next_to-far-requires : goal.edges_next_to-far-requires
+edges_next_to-far-requires g c = rw (c.rev.ensures, rev_half c.args.edge) c.requires.place.0
+
+pub returns-in_default-clause-refused : goal.returns-in_default-clause-refused
+returns-in_default-clause-refused g c = (
+  subst (MayRefuse c.args.self.now.dcel.shape) (sym c.take_back.ensures.answer) tt,
+  record {
+    mesh = (put_back c.args.self.now.dcel _ _ _ c.args.point _ c.every_mesh.ensures c.args.self.now.triangulated.closed c.in_ok-vertex.ensures.edit
+        c.in_ok-vertex.ensures.answer c.in_default.ensures.refused c.take_back.ensures.edit);
+    due = c.reserve.ensures.items;
+  },
+)
+
+pub returns-in_default-clause-lists : goal.returns-in_default-clause-lists
+returns-in_default-clause-lists g c = stays_listed c.args.self.now.dcel _ c.args.self.now.due.items _ (put_back c.args.self.now.dcel _ _ _ c.args.point _ c.every_mesh.ensures c.args.self.now.triangulated.closed c.in_ok-vertex.ensures.edit
+    c.in_ok-vertex.ensures.answer c.in_default.ensures.refused c.take_back.ensures.edit) c.reserve.ensures.items
+
+pub returns-clause-edge_data : goal.returns-clause-edge_data
+returns-clause-edge_data g c =
+    put_data (λ m v h e f. edge_split m c.args.edge v h e f) (λ m v h e f. refl) _ _ _ 3 2 c.args.self.now.dcel _ _ c.args.point _
+    c.in_ok-vertex.ensures.edit c.in-Ok.ensures.edit
+
+pub returns-clause-lists : goal.returns-clause-lists
+returns-clause-lists g c =
+    let old = c.args.self.now.dcel in
+    let due = c.args.self.now.due.items in
+    let both = both_across c.args.self.now.dcel c.every_mesh.ensures c.args.self.now.triangulated c.args.edge c.args.point c.requires.place c.requires.inner c.requires.inner_facing in
+    put_lists (λ m v h e f. edge_split m c.args.edge v h e f) _ _ _ 3 2 old _ _ c.args.point _ due (edges_split old.shape c.args.edge) _
+    (λ lacking h e f mid done. split-lists old c.every_mesh.ensures c.args.point mid h e f c.args.edge (due ++ lacking) c.requires.place.0 both.0.triangle both.1.triangle done)
+    c.in_ok-vertex.ensures.edit c.in_ok-vertex.ensures.answer c.in-Ok.ensures.edit c.in_ok-vertex.ensures.mesh c.split_edge.ensures.mesh
+    (rw (
+      c.push_reserved-8.ensures.items,
+      c.push_reserved-7.ensures.items,
+      c.push_reserved-6.ensures.items,
+      c.push_reserved-5.ensures.items,
+      c.push_reserved-4.ensures.items,
+      c.push_reserved-3.ensures.items,
+      c.push_reserved-2.ensures.items,
+      c.push_reserved.ensures.items,
+      c.reserve.ensures.items,
+      c.new-3.ensures,
+      c.new-2.ensures,
+      c.new.ensures,
+      c.as_undirected.ensures,
+      c.num_undirected_edges-count.ensures.count,
+      c.edges_next_to-far.ensures,
+      c.edges_next_to-near.ensures,
+      c.rev.ensures,
+    ) (simp append_assoc))
+
+pub returns-clause-gains : goal.returns-clause-gains
+returns-clause-gains g c =
+    put_gains (λ m v h e f. edge_split m c.args.edge v h e f) (λ m closed v h e f. split-keeps m closed c.args.edge v h e f) _ _ _ 3 2 c.args.self.now.dcel _ _ c.args.point _
+    c.args.self.now.triangulated.closed c.in_ok-vertex.ensures.edit c.in_ok-vertex.ensures.answer c.in-Ok.ensures.edit
+
+pub returns-clause-split : goal.returns-clause-split
+returns-clause-split g c =
+    edge_is_split _ _ c.args.self.now.dcel _ _ c.args.point c.args.edge _ c.every_mesh.ensures c.args.self.now.triangulated.closed c.requires.place.0 c.in_ok-vertex.ensures.edit _ c.in-Ok.ensures.edit
+
+pub returns-clause-hull : goal.returns-clause-hull
+returns-clause-hull g c =
+    let both = both_across c.args.self.now.dcel c.every_mesh.ensures c.args.self.now.triangulated c.args.edge c.args.point c.requires.place c.requires.inner c.requires.inner_facing in
+    let old = c.args.self.now.dcel in
+    put_holds (λ m. HasHull m) (λ m v h e f. edge_split m c.args.edge v h e f) _ _ _ 3 2 old _ _ c.args.point _
+    (λ h e f mid done.
+    split-hull old c.every_mesh.ensures c.args.point c.args.self.now.triangulated c.requires.hull mid h e f c.args.edge c.requires.place.0 c.requires.inner c.requires.inner_facing
+    both.0.across both.1.across done)
+    c.in_ok-vertex.ensures.edit c.in_ok-vertex.ensures.answer c.in-Ok.ensures.edit c.in_ok-vertex.ensures.mesh c.split_edge.ensures.mesh
+
+pub invariant_of-self-in_default-clause-triangulated : goal.invariant_of-self-in_default-clause-triangulated
+invariant_of-self-in_default-clause-triangulated g c =
+    stays_triangulated c.args.self.now.dcel _
+    (put_back c.args.self.now.dcel _ _ _ c.args.point _ c.every_mesh.ensures c.args.self.now.triangulated.closed c.in_ok-vertex.ensures.edit
+    c.in_ok-vertex.ensures.answer c.in_default.ensures.refused c.take_back.ensures.edit)
+    c.args.self.now.triangulated
+
+pub invariant_of-self-in_default-clause-outlined : goal.invariant_of-self-in_default-clause-outlined
+invariant_of-self-in_default-clause-outlined g c = ∣ inr (inl (stays_hull c.args.self.now.dcel _
+    (put_back c.args.self.now.dcel _ _ _ c.args.point _ c.every_mesh.ensures c.args.self.now.triangulated.closed c.in_ok-vertex.ensures.edit
+    c.in_ok-vertex.ensures.answer c.in_default.ensures.refused c.take_back.ensures.edit)
+    c.requires.hull)) ∣₁
+
+pub invariant_of-self-2-clause-triangulated : goal.invariant_of-self-2-clause-triangulated
+invariant_of-self-2-clause-triangulated g c =
+    let both = both_across c.args.self.now.dcel c.every_mesh.ensures c.args.self.now.triangulated c.args.edge c.args.point c.requires.place c.requires.inner c.requires.inner_facing in
+    let old = c.args.self.now.dcel in
+    put_holds (λ m. IsTriangulated m) (λ m v h e f. edge_split m c.args.edge v h e f) _ _ _ 3 2 old _ _ c.args.point _
+    (λ h e f mid done.
+    split-triangulated old c.every_mesh.ensures c.args.point mid h e f c.args.edge c.args.self.now.triangulated c.requires.place.0 both.0.triangle both.1.triangle
+    both.0.across both.1.across)
+    c.in_ok-vertex.ensures.edit c.in_ok-vertex.ensures.answer c.in-Ok.ensures.edit c.in_ok-vertex.ensures.mesh c.split_edge.ensures.mesh
+
+pub invariant_of-self-2-clause-outlined : goal.invariant_of-self-2-clause-outlined
+invariant_of-self-2-clause-outlined g c =
+    let both = both_across c.args.self.now.dcel c.every_mesh.ensures c.args.self.now.triangulated c.args.edge c.args.point c.requires.place c.requires.inner c.requires.inner_facing in
+    let old = c.args.self.now.dcel in
+    ∣ inr (inl (put_holds (λ m. HasHull m) (λ m v h e f. edge_split m c.args.edge v h e f) _ _ _ 3 2 old _ _ c.args.point _
+    (λ h e f mid done.
+    split-hull old c.every_mesh.ensures c.args.point c.args.self.now.triangulated c.requires.hull mid h e f c.args.edge c.requires.place.0 c.requires.inner c.requires.inner_facing
+    both.0.across both.1.across done)
+    c.in_ok-vertex.ensures.edit c.in_ok-vertex.ensures.answer c.in-Ok.ensures.edit c.in_ok-vertex.ensures.mesh c.split_edge.ensures.mesh)) ∣₁
+
+pub split_edge-requires-clause-triangle : goal.split_edge-requires-clause-triangle
+split_edge-requires-clause-triangle g c =
+    let both = both_across c.args.self.now.dcel c.every_mesh.ensures c.args.self.now.triangulated c.args.edge c.args.point c.requires.place c.requires.inner c.requires.inner_facing in
+    let old = c.args.self.now.dcel in
+    subst (λ (m : Mesh Point (Unit {0}) g.row.UE.Denot (Unit {0})). IsTriangle m.shape (face_of m.shape c.args.edge)) (sym c.in_ok-vertex.ensures.edit)
+    (same_triangle old c.every_mesh.ensures c.args.point (face_of old.shape c.args.edge) both.0.triangle)
+
+pub split_edge-requires-clause-facing : goal.split_edge-requires-clause-facing
+split_edge-requires-clause-facing g c =
+    let both = both_across c.args.self.now.dcel c.every_mesh.ensures c.args.self.now.triangulated c.args.edge c.args.point c.requires.place c.requires.inner c.requires.inner_facing in
+    let old = c.args.self.now.dcel in
+    subst (λ (m : Mesh Point (Unit {0}) g.row.UE.Denot (Unit {0})). IsTriangle m.shape (face_of m.shape (rev c.args.edge))) (sym c.in_ok-vertex.ensures.edit)
+    (same_triangle old c.every_mesh.ensures c.args.point (face_of old.shape (rev c.args.edge)) both.1.triangle)
+
+pub push_reserved-requires-7 : goal.push_reserved-requires-7
+push_reserved-requires-7 g c = grind (arith, common_steps)
+
+pub push_reserved-requires-8 : goal.push_reserved-requires-8
+push_reserved-requires-8 g c = grind (arith, common_steps)

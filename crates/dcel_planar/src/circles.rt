@@ -1,0 +1,65 @@
+//! The circle test at an edge.
+
+ghost use Rattle.std.specs.Prelude.{◌≡◌, ◌↔◌, ◌*◌, IsTrue, true};
+ghost use Rattle.dcel_maps.specs.Shapes.{edge_is_live};
+ghost use Rattle.dcel_maps.specs.Sides.{IsOnHull};
+ghost use Rattle.spade_dcel.specs.Handles.{mesh_behind, number_of};
+ghost use Rattle.dcel_plane.specs.Plane.{IsCircled, IsInner, point_at};
+
+use crate::mesh::point_of;
+use dcel_predicates::{Point, in_circle};
+use spade_dcel::dcel::Dcel;
+use spade_dcel::handles::FixedUndirectedEdgeHandle;
+use spade_dcel::laws::every_mesh;
+use std::alloc::Allocator;
+
+/// Returns whether an edge lies between two inner triangles, and the corner of one inside the
+/// circle of the other.
+///
+/// It doesn't matter which is asked about the other. Given-up edges and numbers out of range lie
+/// between none.
+pub fn is_circled<DE, UE, F, A: Allocator>(
+    dcel: &Dcel<Point, DE, UE, F, A>,
+    edge: FixedUndirectedEdgeHandle,
+) -> bool
+    ensures { IsTrue result ↔ (IsInner dcel.now.shape edge × IsCircled (point_at dcel.now) dcel.now.shape edge) }
+{
+    every_mesh(dcel);
+    if !dcel.can_flip(edge) {
+        return false;
+    }
+    if is_on_hull(dcel, edge) {
+        return false;
+    }
+    has_corner_inside(dcel, edge)
+}
+
+// Returns whether one of its halves lies on the outer face.
+fn is_on_hull<DE, UE, F, A: Allocator>(
+    dcel: &Dcel<Point, DE, UE, F, A>,
+    edge: FixedUndirectedEdgeHandle,
+) -> bool
+    requires { edge_is_live dcel.now.shape edge ≡ true }
+    ensures { IsTrue result ↔ IsOnHull dcel.now.shape (2 * edge) }
+{
+    dcel.undirected_edge(edge)
+        .as_directed()
+        .is_part_of_convex_hull()
+}
+
+// Returns what the circle test alone tells.
+fn has_corner_inside<DE, UE, F, A: Allocator>(
+    dcel: &Dcel<Point, DE, UE, F, A>,
+    edge: FixedUndirectedEdgeHandle,
+) -> bool
+    requires { edge_is_live dcel.now.shape edge ≡ true }
+    ensures { IsTrue result ↔ IsCircled (point_at dcel.now) dcel.now.shape edge }
+{
+    let half = dcel.undirected_edge(edge).as_directed();
+    in_circle(
+        point_of(half.from()),
+        point_of(half.to()),
+        point_of(half.prev().from()),
+        point_of(half.rev().prev().from()),
+    )
+}

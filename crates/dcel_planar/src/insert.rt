@@ -1,0 +1,9 @@
+//! Points inserted: a vertex put in where the point lies, and the hull closed round it.
+
+mod edits;
+mod hull;
+mod line;
+mod place;
+
+pub use edits::edges_of;
+pub use hull::outside_of;

@@ -1,0 +1,38 @@
+//! Planar meshes: points put into triangles, on edges and beside a hull, and edges flipped by the
+//! circle test.
+//!
+//! Legalization by circles: [`legalize_by_circles`] flips the illegal edges of a triangulation
+//! until it is locally Delaunay. The tests of whole meshes are [`is_plane`], [`is_delaunay`] and
+//! [`is_delaunay_triangulation`]. It uses `dcel_legalize`, `dcel_predicates` and the laws of
+//! `dcel_plane`.
+//!
+//! The flips end by themselves: each decreases the volume below the triangulation lifted onto a
+//! paraboloid (C. L. Lawson, "Software for C1 surface interpolation", 1977; the lifting is that of
+//! H. Edelsbrunner and R. Seidel, "Voronoi diagrams and arrangements", 1986).
+#![tactic(auto)]
+
+mod access;
+mod circles;
+mod errors;
+mod flips;
+mod insert;
+mod legalize;
+mod location;
+mod mesh;
+mod planar;
+mod planes;
+mod position;
+mod rounds;
+mod triangulations;
+
+pub use circles::is_circled;
+pub use dcel_predicates::Point;
+pub use errors::InsertionError;
+pub use insert::{edges_of, outside_of};
+pub use legalize::legalize_by_circles;
+pub use location::at_a_vertex;
+pub use mesh::{Edge, EdgeMesh, Mesh, Vertex, is_on, point_of, side};
+pub use planar::PlanarMesh;
+pub use planes::{is_delaunay, is_plane};
+pub use position::PositionInTriangulation;
+pub use triangulations::is_delaunay_triangulation;

@@ -1,0 +1,182 @@
+//! Where a point lies: a walk from triangle to triangle.
+
+ghost use Rattle.std.specs.Prelude.{◌≡◌, ◌≢◌, ◌<◌, [], IfErr, IfOk};
+ghost use Rattle.spade_dcel.specs.Handles.{mesh_behind, number_of};
+ghost use Rattle.dcel_maps.specs.Removals.{Closed};
+ghost use Rattle.dcel_maps.specs.Shapes.{IsLive, face_of, next_of, prev_of};
+ghost use Rattle.dcel_plane.specs.Plane.{point_at};
+ghost use Rattle.dcel_plane.specs.location.Locating.{HasBeyond};
+ghost use Rattle.dcel_planar.specs.Growing.{HasHull, IsSound, IsTriangulated, IsTriangulation};
+ghost use Rattle.dcel_planar.specs.Places.{AreSides, IsPlace, LiesAt};
+
+use crate::location::line;
+use crate::mesh::{Edge, EdgeMesh, is_on, is_right, side};
+use crate::position::PositionInTriangulation;
+use dcel_predicates::{Point, Side};
+use spade_dcel::handles::{FixedDirectedEdgeHandle, FixedFaceHandle, InnerTag};
+use spade_dcel::laws::every_mesh;
+use std::alloc::Allocator;
+
+/// Walks from a half edge towards a point, and returns where it lies.
+///
+/// If the mesh has no such half edge, the walk begins at the first one.
+pub(crate) fn locate<UE, A: Allocator>(
+    dcel: &EdgeMesh<UE, A>,
+    start: FixedDirectedEdgeHandle,
+    point: Point,
+) -> PositionInTriangulation
+    requires { IsTriangulation dcel.now }
+    ensures { IsPlace dcel.now point result }
+{
+    if dcel.num_undirected_edges() == 0 {
+        return line::at_a_vertex(dcel, point);
+    }
+    let edge = beginning(dcel, start);
+    if dcel.num_faces() == 1 {
+        return line::locate_on_line(dcel, edge, point);
+    }
+    walk(dcel, inner_half(dcel, edge), point)
+}
+
+/// Returns the half edge where a walk begins: this one, or the first if there is no such.
+fn beginning<'a, UE, A: Allocator>(
+    dcel: &'a EdgeMesh<UE, A>,
+    start: FixedDirectedEdgeHandle,
+) -> Edge<'a, UE, A>
+    requires closed { dcel.now.shape.removal ≡ Closed }
+    requires some { 0 < dcel.now.shape.edges }
+    ensures mesh { mesh_behind result ≡ dcel.now }
+    ensures live { IsLive dcel.now.shape (number_of result) }
+{
+    match dcel.get_directed_edge(start) {
+        Some(edge) => edge,
+        None => dcel.directed_edge(FixedDirectedEdgeHandle::new(0)),
+    }
+}
+
+/// Returns the half of an edge that lies in a triangle, the given one if both do.
+fn inner_half<'a, UE, A: Allocator>(
+    dcel: &'a EdgeMesh<UE, A>,
+    edge: Edge<'a, UE, A>,
+) -> Edge<'a, UE, A>
+    requires triangulated { IsTriangulated dcel.now }
+    requires hull { HasHull dcel.now }
+    requires mesh { mesh_behind edge ≡ dcel.now }
+    requires live { IsLive dcel.now.shape (number_of edge) }
+    ensures mesh { mesh_behind result ≡ dcel.now }
+    ensures live { IsLive dcel.now.shape (number_of result) }
+    ensures inner { 0 < face_of dcel.now.shape (number_of result) }
+{
+    every_mesh(dcel);
+    if edge.is_outer_edge() {
+        edge.rev()
+    } else {
+        edge
+    }
+}
+
+/// Goes on across sides that have the point on their right, up to the outer face or to a triangle
+/// without such a side.
+fn walk<'a, UE, A: Allocator>(
+    dcel: &'a EdgeMesh<UE, A>,
+    start: Edge<'a, UE, A>,
+    point: Point,
+) -> PositionInTriangulation
+    requires sound { IsSound dcel.now [] }
+    requires mesh { mesh_behind start ≡ dcel.now }
+    requires live { IsLive dcel.now.shape (number_of start) }
+    requires inner { 0 < face_of dcel.now.shape (number_of start) }
+    ensures { IsPlace dcel.now point result }
+{
+    every_mesh(dcel);
+    let mut edge = start;
+    let mut own = side(edge, point);
+    // It comes to no triangle of a Delaunay triangulation twice.
+    for _step in 0..dcel.num_faces() {
+        match look(dcel, edge, own, point) {
+            Ok(position) => return position,
+            Err(crossed) => edge = crossed.rev(),
+        }
+        if edge.is_outer_edge() {
+            return PositionInTriangulation::OutsideOfConvexHull(edge.fix());
+        }
+        own = Side::Left;
+    }
+    unreachable!()
+}
+
+/// Returns where a point lies in the triangle of a half edge, or a side that it lies beyond.
+///
+/// It asks where the point lies of the other two sides, and is told it of this one ([`side`]).
+#[inline]
+pub(crate) fn look<'a, UE, A: Allocator>(
+    dcel: &'a EdgeMesh<UE, A>,
+    edge: Edge<'a, UE, A>,
+    own: Side,
+    point: Point,
+) -> Result<PositionInTriangulation, Edge<'a, UE, A>>
+    requires triangulated { IsTriangulated dcel.now }
+    requires mesh { mesh_behind edge ≡ dcel.now }
+    requires live { IsLive dcel.now.shape (number_of edge) }
+    requires inner { 0 < face_of dcel.now.shape (number_of edge) }
+    requires own { LiesAt dcel.now point (number_of edge) own }
+    ensures found { IfOk result (IsPlace dcel.now point) }
+    ensures mesh { IfErr result (λ crossed. mesh_behind crossed ≡ dcel.now) }
+    ensures face { IfErr result (λ crossed. face_of dcel.now.shape (number_of crossed) ≡ face_of dcel.now.shape (number_of edge.entry)) }
+    ensures beyond { IfErr result (λ crossed. HasBeyond (point_at dcel.now) dcel.now.shape point (number_of crossed)) }
+{
+    every_mesh(dcel);
+    if is_right(own) {
+        return Err(edge);
+    }
+    let next = edge.next();
+    let after = side(next, point);
+    if is_right(after) {
+        return Err(next);
+    }
+    let prev = edge.prev();
+    let before = side(prev, point);
+    if is_right(before) {
+        return Err(prev);
+    }
+    Ok(place(dcel, edge, own, after, before))
+}
+
+/// Returns where a point lies by its sides of the half edges of a triangle, from this one on, none
+/// of which has it on the right: on two of them it is at their corner, on one strictly between its
+/// ends, and on none inside.
+#[inline]
+fn place<UE, A: Allocator>(
+    dcel: &EdgeMesh<UE, A>,
+    edge: Edge<'_, UE, A>,
+    own: Side,
+    after: Side,
+    before: Side,
+) -> PositionInTriangulation
+    requires triangulated { IsTriangulated dcel.now }
+    requires mesh { mesh_behind edge ≡ dcel.now }
+    requires live { IsLive dcel.now.shape (number_of edge) }
+    requires inner { 0 < face_of dcel.now.shape (number_of edge) }
+    ensures { (p : Point) → AreSides dcel.now p (number_of edge.entry) own after before → IsPlace dcel.now p result }
+{
+    every_mesh(dcel);
+    match (is_on(own), is_on(after), is_on(before)) {
+        (true, true, _) => PositionInTriangulation::OnVertex(edge.to().fix()),
+        (true, _, true) => PositionInTriangulation::OnVertex(edge.from().fix()),
+        (_, true, true) => PositionInTriangulation::OnVertex(edge.prev().from().fix()),
+        (true, false, false) => PositionInTriangulation::OnEdge(edge.fix()),
+        (false, true, false) => PositionInTriangulation::OnEdge(edge.next().fix()),
+        (false, false, true) => PositionInTriangulation::OnEdge(edge.prev().fix()),
+        (false, false, false) => PositionInTriangulation::OnFace(inner_face(edge)),
+    }
+}
+
+/// Returns the triangle of a half edge.
+#[inline]
+fn inner_face<UE, A: Allocator>(edge: Edge<'_, UE, A>) -> FixedFaceHandle<InnerTag>
+    requires live { IsLive (mesh_behind edge).shape (number_of edge) }
+    requires inner { 0 < face_of (mesh_behind edge).shape (number_of edge) }
+    ensures { result ≡ face_of (mesh_behind edge.entry).shape (number_of edge.entry) }
+{
+    edge.face().as_inner().unwrap().fix()
+}
