@@ -1,5 +1,6 @@
-//! Planar meshes: points put into triangles, on edges and beside a hull, and edges flipped by the
-//! circle test.
+//! Planar meshes of points: a [`PlanarMesh`] has a list of edges that may be illegal. Points are
+//! located in it, and inserted into triangles, on edges and beside the hull; edges are flipped by the
+//! in-circle test.
 //!
 //! Legalization by circles: [`legalize_by_circles`] flips the illegal edges of a triangulation
 //! until it is locally Delaunay. The tests of whole meshes are [`is_plane`], [`is_delaunay`] and

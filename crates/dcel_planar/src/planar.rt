@@ -1,4 +1,4 @@
-//! A planar mesh of points, with edges that are still to be looked at.
+//! A planar mesh of points, with a list of edges that may be illegal.
 
 ghost use Rattle.dcel_planar.specs.Growing.{HasOutside, IsTriangulated};
 
@@ -6,19 +6,19 @@ use crate::mesh::EdgeMesh;
 use spade_dcel::handles::FixedUndirectedEdgeHandle;
 use std::alloc::{Allocator, Global};
 
-/// A planar mesh of points, with edges that are still to be looked at.
+/// A planar mesh of points, with a list of edges that may be illegal.
 ///
-/// The inner faces are triangles that go round counterclockwise, and the outer face goes round their
-/// convex hull, unless it is still to be closed round the last vertex. While all points stand on one
+/// The inner faces are positively oriented triangles, and the outer face goes around their convex
+/// hull, unless the hull still has to be closed around the last vertex. If all points are on one
 /// line, the mesh is a path along it. Edges may have data.
 ///
-/// The fields are for crates whose types have a planar mesh: who changes them proves that the mesh is
-/// planar again.
+/// The fields are public for crates whose types contain a planar mesh: whoever changes them proves
+/// that the mesh is planar again.
 #[derive(Drop)]
 pub struct PlanarMesh<UE, A: Allocator = Global> {
     /// The mesh.
     pub dcel: EdgeMesh<UE, A>,
-    /// Edges that are still to be looked at.
+    /// Edges that flips still have to look at.
     pub due: Vec<FixedUndirectedEdgeHandle, A>,
     pub ghost triangulated: { IsTriangulated dcel },
     pub ghost outlined: { ∥ HasOutside dcel due.items ∥₁ },
