@@ -21,7 +21,8 @@ impl<UE: EdgeConstraint, A: Allocator> PlanarMesh<UE, A> {
     /// It looks at the last edge of the list, again and again. If that is to be flipped, it flips it,
     /// and appends the other sides of the two triangles. Otherwise it takes it off the list.
     ///
-    /// Asks for a mesh whose hull isn't to be closed.
+    /// Asks for a mesh whose hull isn't to be closed: [`close_hull`](Self::close_hull) leaves one if
+    /// it succeeds.
     ///
     /// Fails if the list can't grow for lack of memory. The flips made so far remain, and the next
     /// call goes on.

@@ -23,7 +23,7 @@ pub type Edge<'a, UE, A> = DirectedEdgeHandle<'a, Point, (), UE, (), A>;
 /// A vertex of a mesh whose vertices are points.
 pub type Vertex<'a, UE, A> = VertexHandle<'a, Point, (), UE, (), A>;
 
-/// Returns where a vertex stands.
+/// Returns the point of a vertex.
 #[inline]
 pub fn point_of<DE, UE, F, A: Allocator>(vertex: VertexHandle<'_, Point, DE, UE, F, A>) -> Point
     ensures { result ≡ point_at (mesh_behind vertex.entry) (number_of vertex.entry) }
@@ -31,7 +31,7 @@ pub fn point_of<DE, UE, F, A: Allocator>(vertex: VertexHandle<'_, Point, DE, UE,
     *vertex.data()
 }
 
-/// Tells on which side of a half edge a point lies.
+/// Returns on which side of a half edge a point is.
 #[inline]
 pub fn side<UE, A: Allocator>(edge: Edge<'_, UE, A>, point: Point) -> Side
     requires { IsLive (mesh_behind edge).shape (number_of edge) }
@@ -42,7 +42,7 @@ pub fn side<UE, A: Allocator>(edge: Edge<'_, UE, A>, point: Point) -> Side
     orientation(point_of(edge.from()), point_of(edge.to()), point)
 }
 
-/// Returns whether it is the line itself.
+/// Returns whether the side is the line itself.
 #[inline]
 pub fn is_on(side: Side) -> bool
     ensures { IsTrue result ↔ (side ≡ Side.On) }
@@ -50,7 +50,7 @@ pub fn is_on(side: Side) -> bool
     side == Side::On
 }
 
-/// Returns whether it is the right one.
+/// Returns whether the side is the right one.
 #[inline]
 pub(crate) fn is_right(side: Side) -> bool
     ensures { IsTrue result ↔ (side ≡ Side.Right) }

@@ -23,7 +23,8 @@ impl<UE: Default, A: Allocator> PlanarMesh<UE, A> {
     /// ones have default data; of an edge that the point lies on, one part keeps its number, and the
     /// other is new.
     ///
-    /// Asks for a mesh whose hull isn't to be closed, and for the position of the point.
+    /// Asks for a mesh whose hull isn't to be closed ([`close_hull`](Self::close_hull) leaves one if it
+    /// succeeds), and for the position of the point, as [`locate`](Self::locate) returns it.
     ///
     /// If no numbers are left for a new vertex, three edges and two faces, the result is
     /// [`TooManyPoints`](InsertionError::TooManyPoints), and if memory runs out before the vertex
