@@ -11,3 +11,14 @@ export function save(name, type, text) {
   link.click();
   URL.revokeObjectURL(link.href);
 }
+
+/** Has Ctrl+Z undo while a tab is open, but in a field with a text, which undoes what was typed there. */
+export function undoBy(tab, undo) {
+  addEventListener('keydown', event => {
+    const isUndo = (event.ctrlKey || event.metaKey) && !event.shiftKey && event.key.toLowerCase() === 'z';
+    const field = document.activeElement;
+    if (!isUndo || tab.hidden || field.matches('textarea, [type=number]') && field.value) return;
+    event.preventDefault();
+    undo();
+  });
+}

@@ -2,30 +2,38 @@
 
 import { replies, picture } from './mesh.js';
 import { viewIn } from './view.js';
-import { at, save } from './elements.js';
+import { at, save, undoBy } from './elements.js';
+import { startAround, choose, chooseAgain } from './around.js';
+import { offerFor } from './offers.js';
 import { WORDS, REFUSALS, EXAMPLES } from './data.js';
 
 /** Larger meshes are drawn only when that is asked for. */
 const MOST_DRAWN = 300;
 
+const BAD_RING = 'refused 15 BadRing';
+
 /** A reply is one line, but for that of `words`, which begins with the row of the outer face. */
 const REPLY = /^F0.*\n(?:F[1-9].*\n)*|^.*\n/gm;
 
-const view = viewIn(at('picture'), choose);
-let said = [], past = [], shown = [], svg = '', chosen = null, recalled = 0, waiting, changed = () => {};
+const view = viewIn(at('picture'), choose, isLegible => at('more-numbers').hidden = isLegible);
+let said = [], past = [], shown = [], svg = '', recalled = 0, waiting, changed = () => {};
 
-const text = (...more) => [...said, ...more].map(line => `${line}\n`).join('');
-const answers = (...more) => replies(text(...more)).match(REPLY).map(reply => reply.trimEnd());
+const text = lines => lines.map(line => `${line}\n`).join('');
+const answers = lines => replies(text(lines)).match(REPLY).map(reply => reply.trimEnd());
+
+/** The replies to queries of the mesh. */
+const ask = (...queries) => answers([...said, ...queries]).slice(-queries.length);
+
+const isRefused = reply => /^(refused|bad line)/.test(reply);
 
 /** Lines of a text, without comments, blank lines and spaces around them. */
 const linesOf = given => given.split('\n').map(line => line.replace(/#.*/, '').trim()).filter(line => line);
 
 export const talk = () => said;
 
-/** Begins with these lines. */
+/** Begins with these lines; without them shows what was said. */
 export function openTalk(lines) {
-  past = [];
-  said = lines;
+  if (lines) [past, said] = [[], lines];
   show();
 }
 
@@ -39,6 +47,7 @@ function setLines(lines) {
 /** Has `change` called after each change. */
 export function startLines(change) {
   changed = change;
+  startAround(ask, view);
   listWords();
   at('example').append(...EXAMPLES.map(({ name }, number) => new Option(name, number)));
 }
@@ -55,12 +64,13 @@ function undo() {
 
 /** Shows the replies that are new, and the mesh. */
 function show(isDrawn = false) {
-  const all = answers('counts');
+  const all = answers([...said, 'counts']);
   const counts = all.pop();
   const same = said.findIndex((line, number) => line !== shown[number]);
   const kept = same < 0 ? said.length : same;
   while (at('talk').children.length > kept) at('talk').lastChild.remove();
   at('talk').append(...said.slice(kept).map((line, number) => entry(line, all[kept + number])));
+  offer(all.at(-1));
   at('talk').scrollTop = at('talk').scrollHeight;
   shown = said;
   recalled = said.length;
@@ -69,16 +79,30 @@ function show(isDrawn = false) {
   at('draw').hidden = isDrawn || Number(counts.split(' ')[1]) <= MOST_DRAWN;
   at('picture').hidden = !at('draw').hidden;
   if (at('draw').hidden) drawSoon();
+  hint();
   changed();
 }
 
 function entry(line, reply) {
   const item = document.createElement('li'), request = document.createElement('code'), answer = document.createElement('samp');
   request.textContent = line;
+  request.title = rowsOf(line).map(({ does }) => does).join();
   answer.textContent = reply;
-  answer.className = /^(refused|bad line)/.test(reply) ? 'no' : '';
+  answer.className = isRefused(reply) ? 'no' : '';
   item.append(request, answer);
   return item;
+}
+
+/** Adds a button to the last reply, if that refuses the half edges of a removal: it says the line with the right ones. */
+function offer(reply) {
+  at('offer')?.remove();
+  const line = reply === BAD_RING ? offerFor(said.at(-1), ask) : null;
+  if (!line) return;
+  const button = document.createElement('button');
+  button.id = 'offer';
+  button.textContent = line;
+  button.onclick = () => say(line);
+  at('talk').lastChild.append(button);
 }
 
 /** Draws once the replies are seen, since that may take longer; once for several lines that come in a row. */
@@ -90,42 +114,28 @@ function drawSoon() {
 
 function draw() {
   clearTimeout(waiting);
-  at('picture').ariaBusy = 'false';
-  svg = picture(text(), { anchors: at('anchors').checked });
+  svg = picture(text(said), { anchors: at('anchors').checked });
   view.draw(svg);
-  choose(at('picture').querySelector(`[data-half="${chosen}"]`) && chosen);
+  chooseAgain();
+  at('picture').ariaBusy = 'false';
 }
 
-/** Shows what lies around a half edge: the row of its face in the reply to `words` has it between prev and next. */
-function choose(half) {
-  chosen = half;
-  at('half').value = half ?? '';
-  for (const button of at('around').querySelectorAll('button')) button.hidden = true;
-  at('told').textContent = '';
-  view.mark([]);
-  if (half === null) return;
-  const [words, start] = answers('words', `origin ${half}`).slice(-2);
-  const [face, ...round] = words.split('\n').map(row => row.split(' ')).find(row => row.includes(String(half), 1)) ?? [];
-  const place = round.indexOf(String(half));
-  const origin = start.split(' ')[1];
-  at('told').textContent = face ? `face ${face}, origin ${origin}` : start;
-  if (!face) return;
-  const around = { next: round[(place + 1) % round.length], prev: round.at(place - 1), twin: half ^ 1 };
-  for (const [name, number] of Object.entries(around)) {
-    at(name).hidden = false;
-    at(name).textContent = `${name} ${number}`;
-    at(name).onclick = () => choose(Number(number));
-  }
-  view.mark([half, around.next, around.prev, around.twin], origin);
-}
+/** What is told of a line's word. */
+const rowsOf = line => WORDS.filter(row => row.line.split(' ')[0] === line.split(' ')[0]);
 
-/** Tells, while a line is written, what its word does. */
+/** Tells what the word does of the line that is written, or else of the last one said. */
 function hint() {
-  const word = linesOf(at('box').value).at(-1)?.split(' ')[0];
-  at('hint').textContent = WORDS.filter(({ line }) => line.split(' ')[0] === word).map(({ line, does, reply, refused }) => {
-    const names = refused === 'none' ? '' : ` Refused as ${refused.split(' ').map(number => REFUSALS[number]).join(', ')}.`;
+  const written = linesOf(at('box').value).at(-1);
+  at('hint').textContent = rowsOf(written ?? said.at(-1) ?? '').map(({ line, does, reply, refused }) => {
+    const names = !written || refused === 'none' ? '' : ` Refused as ${refused.split(' ').map(number => REFUSALS[number]).join(', ')}.`;
     return `${line}: ${does}. Reply: ${reply}.${names}`;
-  }).join('');
+  }).join('') || (written ? 'No such word: “Words” lists all.' : 'Type a line. “Words” lists what can be said.');
+}
+
+/** The lines said; those that were refused are comments, so that any reader of lines takes the rest. */
+function saved() {
+  const all = answers([...said, 'counts']);
+  return text(said.map((line, number) => isRefused(all[number]) ? `# ${line}: ${all[number]}` : line));
 }
 
 function listWords() {
@@ -174,6 +184,7 @@ at('say').onsubmit = event => {
   hint();
 };
 at('undo').onclick = undo;
+undoBy(at('lines-tab'), undo);
 at('clear').onclick = () => setLines([]);
 at('example').onchange = () => {
   if (at('example').value) setLines(EXAMPLES[at('example').value].lines);
@@ -181,7 +192,6 @@ at('example').onchange = () => {
 };
 at('draw').onclick = () => show(true);
 at('anchors').onchange = draw;
-at('half').oninput = () => choose(at('half').value === '' ? null : Number(at('half').value));
 at('larger').onclick = () => view.zoom(0.8);
 at('smaller').onclick = () => view.zoom(1.25);
 at('fit').onclick = view.fit;
@@ -189,4 +199,4 @@ at('save-svg').onclick = () => {
   draw();
   save('mesh.svg', 'image/svg+xml', svg);
 };
-at('save-lines').onclick = () => save('mesh.lines', 'text/plain', text());
+at('save-lines').onclick = () => save('mesh.lines', 'text/plain', saved());

@@ -17,6 +17,6 @@ export function picture(lines: string, options?: { anchors?: boolean }): string;
  * Returns the Delaunay triangulation of points: the numbers of the three corners of each triangle, counterclockwise if y points up.
  * Equal points are one, under the least of their numbers. Points on one line have no triangle.
  *
- * Throws a RangeError if a coordinate isn't a whole number from -2^30 to 2^30.
+ * Throws a RangeError if a coordinate isn't a whole number from -2^53 to 2^53.
  */
 export function triangulate(points: readonly (readonly [number, number])[]): [number, number, number][];

@@ -21,15 +21,17 @@ export function picture(lines, { anchors = false } = {}) {
 
 /** The triangles of points with whole coordinates, each as three numbers of points. */
 export function triangulate(points) {
-  const given = Int32Array.from(points.flat());
-  if (given.length !== 2 * points.length || points.some(([x, y], at) => given[2 * at] !== x || given[2 * at + 1] !== y)) {
-    throw new RangeError('a coordinate is no whole number of 32 bits');
+  const coordinates = points.flat();
+  if (coordinates.length !== 2 * points.length || !points.every(([x, y]) => isCoordinate(x) && isCoordinate(y))) {
+    throw new RangeError('a coordinate is no whole number from -2^53 to 2^53');
   }
-  const answer = call('mesh_page_triangles', { given, givenSize: 8, room: 2 * points.length, size: 12 });
+  const given = BigInt64Array.from(coordinates, BigInt);
+  const answer = call('mesh_page_triangles', { given, givenSize: 16, room: 2 * points.length, size: 12 });
   const numbers = new Uint32Array(answer.buffer);
   return Array.from({ length: numbers.length / 3 }, (_, at) => [...numbers.subarray(3 * at, 3 * at + 3)]);
 }
 
+const isCoordinate = number => Number.isInteger(number) && Math.abs(number) <= 2 ** 53;
 const bytesOf = text => new TextEncoder().encode(text);
 const textOf = bytes => new TextDecoder().decode(bytes);
 
@@ -37,7 +39,7 @@ const textOf = bytes => new TextDecoder().decode(bytes);
 function call(name, { isShort = () => false, ...asked }) {
   for (let heap = LEAST_HEAP; ; heap *= 8) {
     const { status, answer } = callWithRoom(name, asked, heap);
-    if (status === OUT_OF_RANGE) throw new RangeError('a coordinate is below -2^30 or above 2^30');
+    if (status === OUT_OF_RANGE) throw new RangeError('a coordinate is below -2^53 or above 2^53');
     if (status !== NO_MEMORY && (heap >= LARGEST_HEAP || !isShort(answer))) return answer;
     if (heap >= LARGEST_HEAP) throw new RangeError('the mesh finds no memory');
   }

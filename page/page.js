@@ -26,12 +26,24 @@ const keep = hash => history.replaceState(null, '', `#${hash}`);
 const keepLines = () => keep(encode(talk()));
 const keepPoints = () => keep(POINTS + allPoints().join(';'));
 
+/** Which tabs were open: true is that of points. */
+const opened = new Set();
+
 function open(isPoints) {
+  opened.add(isPoints);
   at('lines-tab').hidden = isPoints;
   at('points-tab').hidden = !isPoints;
   at('to-lines').setAttribute('aria-pressed', !isPoints);
   at('to-points').setAttribute('aria-pressed', isPoints);
   at(isPoints ? 'plane' : 'box').focus({ preventScroll: true });
+}
+
+/** Turns to a tab, which begins with something the first time. */
+function turnTo(isPoints) {
+  const isNew = !opened.has(isPoints);
+  open(isPoints);
+  if (isPoints) setPoints(isNew ? FIRST_POINTS : undefined);
+  else openTalk(isNew ? FIRST_LINES : undefined);
 }
 
 /** Shows what the address has. */
@@ -45,17 +57,16 @@ function follow() {
 function start() {
   startLines(keepLines);
   startPoints(keepPoints);
-  at('to-lines').onclick = () => {
-    open(false);
-    openTalk(talk().length ? talk() : FIRST_LINES);
-  };
-  at('to-points').onclick = () => {
-    open(true);
-    setPoints(allPoints().length ? allPoints() : FIRST_POINTS);
-  };
+  at('to-lines').onclick = () => turnTo(false);
+  at('to-points').onclick = () => turnTo(true);
   onhashchange = follow;
   follow();
 }
+
+at('to-proved').onclick = event => {
+  event.preventDefault(); // the address holds what is shown
+  at('proved').showModal();
+};
 
 try {
   replies('');

@@ -1,13 +1,20 @@
 // The tab of points: they are set and moved, and their Delaunay triangulation is drawn.
 
 import { triangulate } from './mesh.js';
-import { at } from './elements.js';
+import { at, undoBy } from './elements.js';
 
-const WIDTH = 1000, HEIGHT = 700;
+const WIDTH = 1000, HEIGHT = 700, MARGIN = 10;
 const STEPS = { ArrowLeft: [-1, 0], ArrowRight: [1, 0], ArrowUp: [0, -1], ArrowDown: [0, 1] };
+
+/** How near to a point it is taken, in pixels, by a mouse and by a finger. */
+const NEAR = { mouse: 16, touch: 26 };
+
+/** On a narrow window that is higher than wide, the plane is turned by a quarter, so that it fills it. */
+const upright = matchMedia('(max-width: 50rem) and (orientation: portrait)');
 
 const plane = at('plane');
 let points = [], chosen = null, isWaiting = false, changed = () => {};
+let settled = [], past = []; // as the points were at the last change, and before each
 
 export const allPoints = () => points;
 
@@ -16,18 +23,42 @@ export function startPoints(change) {
   changed = change;
 }
 
-/** Takes other points in place of those that there are. */
+/** Begins with these points; without them shows those that there are. */
 export function setPoints(others) {
-  points = others.map(clamped);
-  chosen = null;
+  if (others) [points, chosen, past] = [others.map(clamped), null, []];
+  settled = points.slice();
+  turn();
   settle();
+}
+
+/** Takes other points in place of those that there are, until that is undone. */
+function replace(others) {
+  [points, chosen] = [others.map(clamped), null];
+  settle();
+}
+
+function undo() {
+  if (!past.length) return;
+  [points, chosen] = [past.pop(), null];
+  settled = points.slice();
+  settle();
+}
+
+/** Turns the plane as the window wants it. */
+function turn() {
+  const [width, height] = upright.matches ? [HEIGHT, WIDTH] : [WIDTH, HEIGHT];
+  plane.setAttribute('viewBox', [-MARGIN, -MARGIN, width + 2 * MARGIN, height + 2 * MARGIN].join(' '));
+  at('drawn').setAttribute('transform', upright.matches ? `translate(${HEIGHT}) rotate(90)` : '');
 }
 
 const clamped = ([x, y]) => [[x, WIDTH], [y, HEIGHT]].map(([place, most]) => Math.min(most, Math.max(0, Math.round(place))));
 const random = () => [Math.random() * WIDTH, Math.random() * HEIGHT];
 
-/** Shows what there is, and tells it. */
+/** Shows what there is, keeps what was before, and tells it. */
 function settle() {
+  if (String(points) !== String(settled)) past.push(settled);
+  settled = points.slice();
+  at('undo-points').disabled = !past.length;
   draw();
   changed();
 }
@@ -41,7 +72,7 @@ function draw() {
   const way = corners => `M${corners.map(number => points[number].join(' ')).join('L')}z`;
   at('triangles').setAttribute('d', triangles.map(way).join(''));
   at('circles').innerHTML = at('with-circles').checked ? triangles.map(circle).join('') : '';
-  const radius = points.length > 300 ? 2.5 : 6;
+  const radius = points.length > 300 ? 2.5 : Math.max(6, 3.5 / scale());
   at('points').innerHTML = points.map(([x, y], number) =>
     `<circle cx="${x}" cy="${y}" r="${radius}"${number === chosen ? ' class="taken"' : ''}/>`).join('');
   at('size').textContent = `${points.length} points, ${triangles.length} triangles, ${time.toFixed(1)} ms`;
@@ -77,11 +108,16 @@ function remove() {
 
 /** Where an event is in the plane, and the number of the nearest point if one is near. */
 function placeOf(event) {
-  const matrix = plane.getScreenCTM();
-  const { x, y } = new DOMPoint(event.x, event.y).matrixTransform(matrix.inverse());
+  const { x, y } = new DOMPoint(event.x, event.y).matrixTransform(at('drawn').getScreenCTM().inverse());
   const far = points.map(([left, top]) => Math.hypot(left - x, top - y));
   const nearest = far.indexOf(Math.min(...far));
-  return { place: [x, y], near: far[nearest] * matrix.a < 16 ? nearest : null };
+  return { place: [x, y], near: far[nearest] * scale() < (NEAR[event.pointerType] ?? NEAR.mouse) ? nearest : null };
+}
+
+/** How many pixels a unit of the plane has; 1 while it isn't shown. */
+function scale() {
+  const { a, b } = at('drawn').getScreenCTM() ?? { a: 1, b: 0 };
+  return Math.hypot(a, b);
 }
 
 plane.onpointerdown = event => {
@@ -103,7 +139,8 @@ plane.onkeydown = event => {
   const count = points.length;
   if (event.key in STEPS && chosen !== null) {
     const [right, down] = STEPS[event.key], step = event.shiftKey ? 50 : 5;
-    points[chosen] = clamped([points[chosen][0] + step * right, points[chosen][1] + step * down]);
+    const [along, across] = upright.matches ? [down, -right] : [right, down];
+    points[chosen] = clamped([points[chosen][0] + step * along, points[chosen][1] + step * across]);
   } else if (event.key === 'n' && count) chosen = ((chosen ?? -1) + 1) % count;
   else if (event.key === 'p' && count) chosen = ((chosen ?? 0) + count - 1) % count;
   else if (event.key === 'Enter') add(random());
@@ -117,6 +154,11 @@ at('add').onclick = () => {
   settle();
 };
 at('remove').onclick = remove;
-at('more').onclick = () => setPoints([...points, ...Array.from({ length: 100 }, random)]);
-at('none').onclick = () => setPoints([]);
+at('more').onclick = () => replace([...points, ...Array.from({ length: 100 }, random)]);
+at('none').onclick = () => replace([]);
+at('undo-points').onclick = undo;
+undoBy(at('points-tab'), undo);
 at('with-circles').onchange = draw;
+upright.onchange = () => {
+  if (!at('points-tab').hidden) setPoints();
+};

@@ -1,4 +1,7 @@
-// A picture that is moved and made larger by mouse, fingers or keys, and whose half edges can be chosen.
+// A picture that is moved and made larger by mouse, fingers or keys, and whose half edges, vertices and faces can be chosen.
+
+import { Labels } from './labels.js';
+import { shapesOf, shapeAt } from './shapes.js';
 
 const MOVES = { ArrowLeft: [40, 0], ArrowRight: [-40, 0], ArrowUp: [0, 40], ArrowDown: [0, -40] };
 const ZOOMS = { '+': 0.8, '=': 0.8, '-': 1.25 };
@@ -6,19 +9,33 @@ const ZOOMS = { '+': 0.8, '=': 0.8, '-': 1.25 };
 /** Pictures are shown at most so many times as large as they are, until they are zoomed. */
 const LARGEST = 1.8;
 
-/** Shows pictures in an element, and tells `choose` the number of a half edge that is clicked. */
-export function viewIn(host, choose) {
-  let svg, whole, seen; // seen: left, top, width and height of what is shown
+/** How near to a half edge it is chosen, in pixels, by a mouse and by a finger. */
+const NEAR = { mouse: 7, touch: 14 };
+
+/**
+ * Shows pictures in an element. It tells `choose` the kind and the number of what is clicked, and `legible` whether all numbers can be read at
+ * the scale that is shown.
+ */
+export function viewIn(host, choose, legible) {
+  let svg, labels, scale; // scale: pixels for each unit of the picture, as the labels have it
+  let shapes = { half: [], vertex: [], face: [] };
+  let whole, seen; // left, top, width and height of what is shown if the picture fits, and of what is shown
 
   const show = box => {
     seen = box;
-    svg?.setAttribute('viewBox', box.map(number => number.toFixed(2)).join(' '));
+    svg.setAttribute('viewBox', box.map(number => number.toFixed(2)).join(' '));
+    const before = scale;
+    scale = Math.min(host.clientWidth / box[2], host.clientHeight / box[3]);
+    if (scale !== before) legible(labels.show(scale));
   };
+
+  /** The place in the picture of a point of the screen. */
+  const placeOf = (x, y) => new DOMPoint(x, y).matrixTransform(svg.getScreenCTM().inverse());
 
   /** Makes what is seen larger by a factor, and keeps the place under a point of the screen. */
   const zoom = (factor, x, y) => {
     if (!svg) return;
-    const at = new DOMPoint(x, y).matrixTransform(svg.getScreenCTM().inverse());
+    const at = placeOf(x, y);
     const [left, top, width, height] = seen;
     show([at.x + (left - at.x) * factor, at.y + (top - at.y) * factor, width * factor, height * factor]);
   };
@@ -35,29 +52,52 @@ export function viewIn(host, choose) {
     show([seen[0] - right / scale, seen[1] - down / scale, seen[2], seen[3]]);
   };
 
-  const fit = () => show(whole);
+  const fit = () => svg && show(whole);
+
+  /** Finds how much is shown of a picture that fits, which may be more than the picture. */
+  const measure = () => {
+    const [left, top, width, height] = svg.dataset.box.split(' ').map(Number);
+    const more = Math.max(0, Math.min(host.clientWidth / width, host.clientHeight / height) / LARGEST - 1) / 2;
+    whole = [left - more * width, top - more * height, width * (1 + 2 * more), height * (1 + 2 * more)];
+  };
 
   /** Shows a picture; the part that was seen stays if the picture is as large as the one before. */
   const draw = text => {
-    const before = svg?.dataset.box;
+    const before = svg?.dataset.box, isFit = seen === whole;
     host.innerHTML = text;
     svg = host.firstElementChild;
     svg.dataset.box = svg.getAttribute('viewBox');
     svg.removeAttribute('width');
     svg.removeAttribute('height');
-    for (const half of svg.querySelectorAll('.half')) addHit(svg, half);
     const [left, top, width, height] = svg.dataset.box.split(' ').map(Number);
-    const more = Math.max(0, Math.min(host.clientWidth / width, host.clientHeight / height) / LARGEST - 1) / 2;
-    whole = [left - more * width, top - more * height, width * (1 + 2 * more), height * (1 + 2 * more)];
-    show(before === svg.dataset.box ? seen : whole);
+    host.style.setProperty('--shape', width / height);
+    shapes = shapesOf(svg);
+    labels = new Labels(shapes, [left, top, left + width, top + height]);
+    for (const { path } of shapes.half) addHit(svg, path);
+    scale = null;
+    measure();
+    show(before === svg.dataset.box && !isFit ? seen : whole);
   };
 
-  /** Marks half edges, and the vertex where the first one starts, by classes. */
-  const mark = (halves, origin) => {
-    for (const marked of host.querySelectorAll('.marked')) marked.classList.remove('marked', ...MARKS);
-    MARKS.forEach((name, at) => host.querySelector(`.half[data-half="${halves[at]}"]`)?.classList.add('marked', name));
-    const vertices = [...host.querySelectorAll('.vertex')];
-    vertices.find(vertex => vertex.nextElementSibling.textContent === String(origin))?.classList.add('marked');
+  new ResizeObserver(() => {
+    if (!svg || !host.clientWidth) return;
+    const isFit = seen === whole;
+    measure();
+    show(isFit ? whole : seen);
+  }).observe(host);
+
+  /** Whether the picture has this half edge, vertex or face. */
+  const has = (kind, number) => shapes[kind].some(shape => shape.number === number);
+
+  /** Marks shapes by classes, each given as its kind, its number and the class, and no others. */
+  const mark = marks => {
+    for (const marked of host.querySelectorAll('.marked')) marked.setAttribute('class', marked.dataset.plain);
+    for (const [kind, number, name] of marks) {
+      const path = shapes[kind].find(shape => shape.number === number)?.path;
+      if (!path) continue;
+      if (!path.matches('.marked')) path.dataset.plain = path.getAttribute('class');
+      path.classList.add('marked', name);
+    }
   };
 
   const pointers = new Map();
@@ -79,8 +119,9 @@ export function viewIn(host, choose) {
   };
   host.onpointerup = event => {
     pointers.delete(event.pointerId);
-    const half = document.elementFromPoint(event.x, event.y)?.dataset.half;
-    if (moved < 6 && half !== undefined) choose(Number(half));
+    if (moved >= 6 || !svg) return;
+    const { x, y } = placeOf(event.x, event.y), near = NEAR[event.pointerType] ?? NEAR.mouse;
+    choose(...shapeAt(shapes, [x, y], near / svg.getScreenCTM().a));
   };
   host.onpointercancel = event => pointers.delete(event.pointerId);
   host.onwheel = event => {
@@ -95,15 +136,11 @@ export function viewIn(host, choose) {
     else return;
     event.preventDefault();
   };
-  return { draw, mark, fit, zoom: zoomInMiddle };
+  return { draw, has, mark, fit, zoom: zoomInMiddle };
 }
 
-/** How the chosen half edge, the next, the previous one and the twin are marked. */
-const MARKS = ['chosen', 'after', 'before', 'twin'];
-
-/** Lays a wide stroke that isn't seen over a half edge, so that it is easily hit. */
+/** Lays a wide stroke that isn't seen over a half edge, which shows that it can be clicked. */
 function addHit(svg, half) {
-  half.dataset.half = half.nextElementSibling.textContent;
   const hit = half.cloneNode();
   hit.removeAttribute('marker-end');
   hit.setAttribute('class', 'hit');

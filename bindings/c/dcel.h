@@ -6,7 +6,8 @@
    What you promise; nothing checks it:
    - A dcel_mesh is handed to each call as the last call left it: it isn't written to, and of two copies
      only one is used any more. It may lie somewhere else in memory at the next call.
-   - One call at a time works on a mesh, also of those that only read. Another thread may make the next.
+   - One call at a time works on a mesh, also of those that only read, which take a const dcel_mesh.
+     Another thread may make the next.
    - Pointers aren't null, also where a length is 0. They lead to as many items as the length says, and
      nothing that a call writes to lies in anything else that it is given. A bool is false or true before.
    - malloc, realloc and free belong together and align blocks as C asks. No call comes from a signal
@@ -15,10 +16,12 @@
    What is proved of each call, for any numbers: it returns, and touches no memory but what it is given
    and its mesh. A mesh is always a sound map on the sphere. A call that changes the mesh does what it
    says and returns DCEL_DONE; or it changes nothing, neither the mesh nor what its pointers lead to, but
-   for a fault that it tells, and returns why not: the least number of those that apply, but 20 or 22 first
-   where it takes lists. All other calls leave the mesh as it was.
+   for a fault that it tells, and returns why not: the first dcel_status of those that apply, but
+   DCEL_OUT_OF_MEMORY or DCEL_SHORT before all others where it takes lists. A call that takes a const
+   dcel_mesh leaves it as it was.
 
    Where a mesh isn't open nothing is done or found: a call returns DCEL_NO_MESH, DCEL_NONE, 0 or false.
+   What else a call can be refused for stands behind `Refusals`, without DCEL_.
 
    Half edges 2 * u and 2 * u + 1 are the halves of edge u, and go opposite ways. Face 0 is the outer
    face. What a removal has given up is still counted, but not live, until it is taken out. */
@@ -142,47 +145,55 @@ typedef struct {
 } dcel_opened;
 
 /* How a legalization ended. */
-enum { DCEL_LEGALIZED = 0, DCEL_STOPPED = 1, DCEL_MEMORY_RAN_OUT = 2 };
+enum dcel_ended {
+    DCEL_LEGALIZED = 0,     /* nothing is left to flip */
+    DCEL_STOPPED = 1,       /* as many flips were made as were allowed */
+    DCEL_MEMORY_RAN_OUT = 2 /* the list of edges found no memory to grow */
+};
 
+/* How many edges were flipped, and an enum dcel_ended. */
 typedef struct {
     uint64_t flips;
     uint32_t ended;
 } dcel_legalized;
 
 /* How far a removal has come. */
-enum { DCEL_CLOSED = 0, DCEL_ISOLATED = 1, DCEL_CLEANED = 2 };
+enum dcel_removal_state {
+    DCEL_CLOSED = 0,   /* none is open */
+    DCEL_ISOLATED = 1, /* it is to be cleaned up */
+    DCEL_CLEANED = 2   /* its vertex is to be taken out */
+};
 
 /* What is wrong with links or faces that no mesh is made of. With links it is the first that is wrong, in
-   this order, but that 5, 6 and 7 are looked for together, and so are 9, 10 and 11. */
+   this order, but that the three ranges are looked for together, and so are ONE_END, APART and LEAVES_FACE.
+   Places are those of faces in `counts`. */
 typedef enum {
-    /* of links: `number` is the half edge, the vertex or the face, and 0 up to 4 */
-    DCEL_FAULT_LENGTHS = 1,    /* a half edge has no other half */
-    DCEL_FAULT_TOO_MANY = 2,   /* there are more than 2^32 vertices, half edges or faces */
-    DCEL_FAULT_NO_FACE = 3,    /* there is no outer face */
-    DCEL_FAULT_MORE_FACES = 4, /* there are more faces than edges and two */
-    DCEL_FAULT_NEXT_OUT_OF_RANGE = 5,
-    DCEL_FAULT_ORIGIN_OUT_OF_RANGE = 6,
-    DCEL_FAULT_FACE_OUT_OF_RANGE = 7,
-    DCEL_FAULT_TWO_LEAD_TO = 8,      /* two half edges have this one as their next */
-    DCEL_FAULT_ONE_END = 9,          /* the half edge ends where it starts */
-    DCEL_FAULT_APART = 10,           /* what comes after it doesn't start where it ends */
-    DCEL_FAULT_LEAVES_FACE = 11,     /* what comes after it lies on another face */
-    DCEL_FAULT_FACE_IN_PARTS = 12,   /* the half edges of the face are no single loop */
-    DCEL_FAULT_VERTEX_IN_PARTS = 13, /* the half edges of the vertex are no single turn */
-    DCEL_FAULT_UNUSED_FACE = 14,     /* no half edge lies on the face */
-    DCEL_FAULT_NOT_CONNECTED = 15,   /* the half edge isn't reached from half edge 0 */
-    DCEL_FAULT_NOT_SPHERE = 16,      /* the surface has genus `number` */
-    /* of faces: `number` is the place of the face in `counts`, and the side leads from `from` to `to` */
-    DCEL_FAULT_OTHER_COUNT = 17,      /* the counts don't add up to the corners */
-    DCEL_FAULT_FEW_CORNERS = 18,      /* the face has fewer than three corners */
-    DCEL_FAULT_TOO_MANY_CORNERS = 19, /* there are more than 2^31 */
-    DCEL_FAULT_NO_VERTEX = 20,        /* the face has the corner `from`, which is no vertex */
-    DCEL_FAULT_SIDE_AT_ONE = 21,      /* a side of the face ends where it starts */
-    DCEL_FAULT_SIDE_TWICE = 22,       /* the faces `number` and `other`, or one twice, have the side */
-    DCEL_FAULT_BORDER_TWICE = 23      /* two sides that no face lies beyond end at the vertex `number` */
+    DCEL_FAULT_LENGTHS = 1,             /* a half edge has no other half */
+    DCEL_FAULT_TOO_MANY = 2,            /* there are more than 2^32 vertices, half edges or faces */
+    DCEL_FAULT_NO_FACE = 3,             /* there is no outer face */
+    DCEL_FAULT_MORE_FACES = 4,          /* there are more faces than edges and two */
+    DCEL_FAULT_NEXT_OUT_OF_RANGE = 5,   /* after half edge `number` comes none that there is */
+    DCEL_FAULT_ORIGIN_OUT_OF_RANGE = 6, /* half edge `number` starts at no vertex that there is */
+    DCEL_FAULT_FACE_OUT_OF_RANGE = 7,   /* half edge `number` lies on no face that there is */
+    DCEL_FAULT_TWO_LEAD_TO = 8,         /* two half edges have half edge `number` as their next */
+    DCEL_FAULT_ONE_END = 9,             /* half edge `number` ends where it starts */
+    DCEL_FAULT_APART = 10,              /* what comes after half edge `number` doesn't start where it ends */
+    DCEL_FAULT_LEAVES_FACE = 11,        /* what comes after half edge `number` lies on another face */
+    DCEL_FAULT_FACE_IN_PARTS = 12,      /* the half edges of face `number` are no single loop */
+    DCEL_FAULT_VERTEX_IN_PARTS = 13,    /* the half edges of vertex `number` are no single turn */
+    DCEL_FAULT_UNUSED_FACE = 14,        /* no half edge lies on face `number` */
+    DCEL_FAULT_NOT_CONNECTED = 15,      /* half edge `number` isn't reached from half edge 0 */
+    DCEL_FAULT_NOT_SPHERE = 16,         /* the surface has genus `number` */
+    DCEL_FAULT_OTHER_COUNT = 17,        /* the counts don't add up to the corners */
+    DCEL_FAULT_FEW_CORNERS = 18,        /* the face at place `number` has fewer than three corners */
+    DCEL_FAULT_TOO_MANY_CORNERS = 19,   /* there are more than 2^31 corners */
+    DCEL_FAULT_NO_VERTEX = 20,          /* the face at place `number` has corner `from`, which is no vertex */
+    DCEL_FAULT_SIDE_AT_ONE = 21,        /* the face at place `number` has corner `from` twice in a row */
+    DCEL_FAULT_SIDE_TWICE = 22,         /* faces at places `number` and `other` have the side `from` to `to` */
+    DCEL_FAULT_BORDER_TWICE = 23        /* two sides that no face lies beyond end at vertex `number` */
 } dcel_fault_kind;
 
-/* A fault, with 0 for what its kind doesn't speak of. */
+/* A fault: a dcel_fault_kind, and 0 for what that doesn't speak of. */
 typedef struct {
     uint32_t kind;
     uint64_t number, other, from, to;
@@ -190,22 +201,25 @@ typedef struct {
 
 /* ---- Whole meshes ---- */
 
-/* Makes a mesh of the outer face alone, with datum 0, and frees the one that was there. 20. */
-uint32_t dcel_new(dcel_mesh *mesh);
+/* Makes a mesh of the outer face alone, with datum 0, and frees the one that was there.
+   Refusals: OUT_OF_MEMORY. */
+dcel_status dcel_new(dcel_mesh *mesh);
 
 /* Frees the mesh, which isn't open afterwards. Of one that isn't open it does nothing. */
 void dcel_free(dcel_mesh *mesh);
 
-/* Makes `to` an equal mesh of its own, and frees the one that was there. 20 21. */
-uint32_t dcel_clone(dcel_mesh *from, dcel_mesh *to);
+/* Makes `to` an equal mesh of its own, and frees the one that was there.
+   Refusals: OUT_OF_MEMORY. */
+dcel_status dcel_clone(const dcel_mesh *from, dcel_mesh *to);
 
 /* Takes out all vertices, all edges and all inner faces, and closes a removal. The outer face keeps its
-   datum. 21. */
-uint32_t dcel_clear(dcel_mesh *mesh);
+   datum. */
+dcel_status dcel_clear(dcel_mesh *mesh);
 
-/* Makes room in memory for that many more elements. 19 if there are no numbers for them, 20 21. */
-uint32_t dcel_reserve_capacity(dcel_mesh *mesh, uint64_t vertices, uint64_t undirected_edges,
-                               uint64_t faces);
+/* Makes room in memory for that many more elements.
+   Refusals: NO_ROOM if there are no numbers for them, OUT_OF_MEMORY. */
+dcel_status dcel_reserve_capacity(dcel_mesh *mesh, uint64_t vertices, uint64_t undirected_edges,
+                                  uint64_t faces);
 
 /* ---- Meshes from elsewhere ----
 
@@ -215,27 +229,28 @@ uint32_t dcel_reserve_capacity(dcel_mesh *mesh, uint64_t vertices, uint64_t undi
 /* Makes the mesh with these links and these data of its vertices and faces, face 0 first; there are as
    many as there are data. Half edges stand at their numbers, as dcel_directed_edges puts them, and their
    `prev` isn't read. Each vertex and each face is anchored at its half edge with the greatest number.
-   23 if no mesh has these links, 20. */
-uint32_t dcel_from_links(dcel_mesh *mesh, const dcel_half_edge *half_edges, size_t half_edges_len,
-                         const uint64_t *vertices, size_t vertices_len, const uint64_t *faces,
-                         size_t faces_len, dcel_fault *fault);
+   Refusals: OUT_OF_MEMORY, FAULTY if no mesh has these links. */
+dcel_status dcel_from_links(dcel_mesh *mesh, const dcel_half_edge *half_edges, size_t half_edges_len,
+                            const uint64_t *vertices, size_t vertices_len, const uint64_t *faces,
+                            size_t faces_len, dcel_fault *fault);
 
 /* Makes the mesh of these faces, with these data of its vertices. `corners` has the corners of one face
    after the other, counterclockwise, and `counts` how many each has. The face at place k gets number
    k + 1, and face 0, the outer face, is what they leave: of a closed surface, leave one face out. An
-   edge gets its number where its first side stands, which becomes half edge 2 * u. 23 if no mesh in
-   which no two edges join the same two vertices has these faces, and after faults 17, 19 and 23 though
-   one may; 20. The faults of links that may be told speak of the numbers of the mesh. */
-uint32_t dcel_from_faces(dcel_mesh *mesh, const uint64_t *vertices, size_t vertices_len,
-                         const uint32_t *corners, size_t corners_len, const uint32_t *counts,
-                         size_t counts_len, dcel_fault *fault);
+   edge gets its number where its first side stands, which becomes half edge 2 * u. The faults of
+   links that may be told speak of the numbers of the mesh.
+   Refusals: OUT_OF_MEMORY, FAULTY if no mesh in which no two edges join the same two vertices has these
+   faces; after OTHER_COUNT, TOO_MANY_CORNERS and BORDER_TWICE one may have them. */
+dcel_status dcel_from_faces(dcel_mesh *mesh, const uint64_t *vertices, size_t vertices_len,
+                            const uint32_t *corners, size_t corners_len, const uint32_t *counts,
+                            size_t counts_len, dcel_fault *fault);
 
 /* ---- Counts, with what a removal has given up ---- */
 
-uint64_t dcel_num_vertices(dcel_mesh *mesh);
-uint64_t dcel_num_directed_edges(dcel_mesh *mesh);
-uint64_t dcel_num_undirected_edges(dcel_mesh *mesh);
-uint64_t dcel_num_faces(dcel_mesh *mesh);
+uint64_t dcel_num_vertices(const dcel_mesh *mesh);
+uint64_t dcel_num_directed_edges(const dcel_mesh *mesh);
+uint64_t dcel_num_undirected_edges(const dcel_mesh *mesh);
+uint64_t dcel_num_faces(const dcel_mesh *mesh);
 
 /* ---- Steps from a live half edge; from any other they return DCEL_NONE ----
 
@@ -246,227 +261,255 @@ uint64_t dcel_num_faces(dcel_mesh *mesh);
            <----            cw    the half edge after rev on the face below
             rev */
 
-uint64_t dcel_next(dcel_mesh *mesh, uint32_t edge);
-uint64_t dcel_prev(dcel_mesh *mesh, uint32_t edge);
-uint64_t dcel_rev(dcel_mesh *mesh, uint32_t edge);
-uint64_t dcel_ccw(dcel_mesh *mesh, uint32_t edge);
-uint64_t dcel_cw(dcel_mesh *mesh, uint32_t edge);
-uint64_t dcel_from(dcel_mesh *mesh, uint32_t edge);
-uint64_t dcel_to(dcel_mesh *mesh, uint32_t edge);
-uint64_t dcel_face(dcel_mesh *mesh, uint32_t edge);
+uint64_t dcel_next(const dcel_mesh *mesh, uint32_t edge);
+uint64_t dcel_prev(const dcel_mesh *mesh, uint32_t edge);
+uint64_t dcel_rev(const dcel_mesh *mesh, uint32_t edge);
+uint64_t dcel_ccw(const dcel_mesh *mesh, uint32_t edge);
+uint64_t dcel_cw(const dcel_mesh *mesh, uint32_t edge);
+uint64_t dcel_from(const dcel_mesh *mesh, uint32_t edge);
+uint64_t dcel_to(const dcel_mesh *mesh, uint32_t edge);
+uint64_t dcel_face(const dcel_mesh *mesh, uint32_t edge);
 
 /* ---- Anchors, where walks begin ---- */
 
 /* A half edge that starts at the vertex, DCEL_NONE if none does or there is no such vertex. */
-uint64_t dcel_out_edge(dcel_mesh *mesh, uint32_t vertex);
+uint64_t dcel_out_edge(const dcel_mesh *mesh, uint32_t vertex);
 
 /* A half edge on the face, DCEL_NONE if there is none or no such face. */
-uint64_t dcel_adjacent_edge(dcel_mesh *mesh, uint32_t face);
+uint64_t dcel_adjacent_edge(const dcel_mesh *mesh, uint32_t face);
 
 /* ---- Walks, into a buffer ----
 
    As many numbers as fit are put there, from the front, and what lies behind them stays. `needed` is how
-   many there are, and the status is DCEL_SHORT if they don't all fit. With a status above, other than
-   DCEL_SHORT, `needed` is 0 and the buffer stays. */
+   many there are, and the status is DCEL_SHORT if they don't all fit. With any other refusal `needed` is 0
+   and the buffer stays. */
 
-/* The half edges that start at the vertex, by dcel_ccw from its anchor. 1 21 22. */
-uint32_t dcel_out_edges(dcel_mesh *mesh, uint32_t vertex, uint32_t *edges, size_t edges_len,
-                        uint64_t *needed);
+/* The half edges that start at the vertex, by dcel_ccw from its anchor.
+   Refusals: NO_SUCH_VERTEX, SHORT. */
+dcel_status dcel_out_edges(const dcel_mesh *mesh, uint32_t vertex, uint32_t *edges, size_t edges_len,
+                           uint64_t *needed);
 
-/* The half edges on the face, by dcel_next from its anchor; those of face 0 are the hull. 3 21 22. */
-uint32_t dcel_face_edges(dcel_mesh *mesh, uint32_t face, uint32_t *edges, size_t edges_len,
-                         uint64_t *needed);
+/* The half edges on the face, by dcel_next from its anchor; those of face 0 are the hull.
+   Refusals: NO_SUCH_FACE, SHORT. */
+dcel_status dcel_face_edges(const dcel_mesh *mesh, uint32_t face, uint32_t *edges, size_t edges_len,
+                            uint64_t *needed);
 
 /* The first half edge of dcel_out_edges that leads to the other vertex, DCEL_NONE if none does. */
-uint64_t dcel_get_edge_from_neighbors(dcel_mesh *mesh, uint32_t from, uint32_t to);
+uint64_t dcel_get_edge_from_neighbors(const dcel_mesh *mesh, uint32_t from, uint32_t to);
 
 /* ---- Links ---- */
 
 /* Tells the links of a half edge. Each is DCEL_NO_LINK if it isn't live. */
-void dcel_directed_edge(dcel_mesh *mesh, uint32_t edge, dcel_half_edge *half_edge);
+void dcel_directed_edge(const dcel_mesh *mesh, uint32_t edge, dcel_half_edge *half_edge);
 
-/* Puts the links of all half edges into the buffer, each at its number, as walks do. 21 22. */
-uint32_t dcel_directed_edges(dcel_mesh *mesh, dcel_half_edge *half_edges, size_t half_edges_len,
-                             uint64_t *needed);
+/* Puts the links of all half edges into the buffer, each at its number, as walks do.
+   Refusals: SHORT. */
+dcel_status dcel_directed_edges(const dcel_mesh *mesh, dcel_half_edge *half_edges, size_t half_edges_len,
+                                uint64_t *needed);
 
 /* ---- Data, of elements that are given up too ----
 
-   New half edges, edges and faces have datum 0. The calls below return the status of the number, if it
-   is out of range: 1 for a vertex, 2 for a half edge or an edge, 3 for a face; or 21. */
+   New half edges, edges and faces have datum 0. Refusals: NO_SUCH_VERTEX,
+   NO_SUCH_EDGE or NO_SUCH_FACE, by the kind of element. */
 
-uint32_t dcel_vertex_data(dcel_mesh *mesh, uint32_t vertex, uint64_t *datum);
-uint32_t dcel_directed_edge_data(dcel_mesh *mesh, uint32_t edge, uint64_t *datum);
-uint32_t dcel_undirected_edge_data(dcel_mesh *mesh, uint32_t edge, uint64_t *datum);
-uint32_t dcel_face_data(dcel_mesh *mesh, uint32_t face, uint64_t *datum);
+dcel_status dcel_vertex_data(const dcel_mesh *mesh, uint32_t vertex, uint64_t *datum);
+dcel_status dcel_directed_edge_data(const dcel_mesh *mesh, uint32_t edge, uint64_t *datum);
+dcel_status dcel_undirected_edge_data(const dcel_mesh *mesh, uint32_t edge, uint64_t *datum);
+dcel_status dcel_face_data(const dcel_mesh *mesh, uint32_t face, uint64_t *datum);
 
-uint32_t dcel_update_vertex(dcel_mesh *mesh, uint32_t vertex, uint64_t datum);
-uint32_t dcel_update_directed_edge(dcel_mesh *mesh, uint32_t edge, uint64_t datum);
-uint32_t dcel_update_undirected_edge(dcel_mesh *mesh, uint32_t edge, uint64_t datum);
-uint32_t dcel_update_face(dcel_mesh *mesh, uint32_t face, uint64_t datum);
+dcel_status dcel_update_vertex(dcel_mesh *mesh, uint32_t vertex, uint64_t datum);
+dcel_status dcel_update_directed_edge(dcel_mesh *mesh, uint32_t edge, uint64_t datum);
+dcel_status dcel_update_undirected_edge(dcel_mesh *mesh, uint32_t edge, uint64_t datum);
+dcel_status dcel_update_face(dcel_mesh *mesh, uint32_t face, uint64_t datum);
 
-/* ---- Edits ----
+/* ---- Edits. docs/PICTURES.md draws most, with numbers ---- */
 
-   The numbers behind each are the statuses that it can return, besides DCEL_NO_MESH. docs/PICTURES.md
-   draws most, with numbers. */
+/* Adds a vertex without an edge, and tells its number.
+   Refusals: NO_ROOM, OUT_OF_MEMORY. */
+dcel_status dcel_append_unconnected_vertex(dcel_mesh *mesh, uint64_t datum, uint32_t *vertex);
 
-/* Adds a vertex without an edge, and tells its number. 19 20. */
-uint32_t dcel_append_unconnected_vertex(dcel_mesh *mesh, uint64_t datum, uint32_t *vertex);
+/* Replaces the mesh by one triangle, counterclockwise, with vertices 0, 1 and 2.
+   Refusals: OUT_OF_MEMORY. */
+dcel_status dcel_new_triangle(dcel_mesh *mesh, uint64_t a, uint64_t b, uint64_t c);
 
-/* Replaces the mesh by one triangle, counterclockwise, with vertices 0, 1 and 2. 20. */
-uint32_t dcel_new_triangle(dcel_mesh *mesh, uint64_t a, uint64_t b, uint64_t c);
+/* Makes the first edge, between two vertices.
+   Refusals: NO_SUCH_VERTEX, GIVEN_UP, SAME_VERTEX, EDGES_STAND, NO_ROOM, OUT_OF_MEMORY. */
+dcel_status dcel_setup_initial_two_vertices(dcel_mesh *mesh, uint32_t first, uint32_t second);
 
-/* Makes the first edge, between two vertices. 1 6 7 9 19 20. */
-uint32_t dcel_setup_initial_two_vertices(dcel_mesh *mesh, uint32_t first, uint32_t second);
-
-/* Lengthens the line that ends at a vertex to another. 1 6 7 8 10 19 20. */
-uint32_t dcel_extend_line(dcel_mesh *mesh, uint32_t end, uint32_t vertex);
+/* Lengthens the line that ends at a vertex to another.
+   Refusals: NO_SUCH_VERTEX, GIVEN_UP, SAME_VERTEX, VERTEX_IN_USE, NOT_LINE_END, NO_ROOM, OUT_OF_MEMORY. */
+dcel_status dcel_extend_line(dcel_mesh *mesh, uint32_t end, uint32_t vertex);
 
 /* Puts the vertex into the middle of an edge with one face on both sides. The first part of the half
-   edge keeps its number, and the second is told. 1 2 6 8 11 19 20. */
-uint32_t dcel_split_edge_when_all_vertices_on_line(dcel_mesh *mesh, uint32_t edge, uint32_t vertex,
-                                                   uint32_t *second);
+   edge keeps its number, and the second is told.
+   Refusals: NO_SUCH_VERTEX, NO_SUCH_EDGE, GIVEN_UP, VERTEX_IN_USE, NOT_BRIDGE, NO_ROOM, OUT_OF_MEMORY. */
+dcel_status dcel_split_edge_when_all_vertices_on_line(dcel_mesh *mesh, uint32_t edge, uint32_t vertex,
+                                                      uint32_t *second);
 
 /* Closes a triangle of a half edge of the outer face and the next one, and tells the half of the new
-   edge that lies outside. 2 6 12 14 19 20. */
-uint32_t dcel_create_single_face_between_edge_and_next(dcel_mesh *mesh, uint32_t edge, uint32_t *half);
+   edge that lies outside.
+   Refusals: NO_SUCH_EDGE, GIVEN_UP, NOT_OUTER, WOULD_LOOP, NO_ROOM, OUT_OF_MEMORY. */
+dcel_status dcel_create_single_face_between_edge_and_next(dcel_mesh *mesh, uint32_t edge, uint32_t *half);
 
-/* Puts a triangle of the half edge and the vertex on the face of the half edge. 1 2 6 8 19 20. */
-uint32_t dcel_create_new_face_adjacent_to_edge(dcel_mesh *mesh, uint32_t edge, uint32_t vertex);
+/* Puts a triangle of the half edge and the vertex on the face of the half edge.
+   Refusals: NO_SUCH_VERTEX, NO_SUCH_EDGE, GIVEN_UP, VERTEX_IN_USE, NO_ROOM, OUT_OF_MEMORY. */
+dcel_status dcel_create_new_face_adjacent_to_edge(dcel_mesh *mesh, uint32_t edge, uint32_t vertex);
 
-/* Cuts a triangle into three at the vertex. 1 3 6 8 13 19 20. */
-uint32_t dcel_insert_into_triangle(dcel_mesh *mesh, uint32_t vertex, uint32_t face);
+/* Cuts a triangle into three at the vertex.
+   Refusals: NO_SUCH_VERTEX, NO_SUCH_FACE, GIVEN_UP, VERTEX_IN_USE, NOT_TRIANGLE, NO_ROOM,
+   OUT_OF_MEMORY. */
+dcel_status dcel_insert_into_triangle(dcel_mesh *mesh, uint32_t vertex, uint32_t face);
 
 /* Puts the vertex into the middle of an edge, and joins it to the corner of the half edge's triangle. The
-   second part of the half edge is told. 1 2 6 8 13 19 20. */
-uint32_t dcel_split_half_edge(dcel_mesh *mesh, uint32_t edge, uint32_t vertex, uint32_t *second);
+   second part of the half edge is told.
+   Refusals: NO_SUCH_VERTEX, NO_SUCH_EDGE, GIVEN_UP, VERTEX_IN_USE, NOT_TRIANGLE, NO_ROOM,
+   OUT_OF_MEMORY. */
+dcel_status dcel_split_half_edge(dcel_mesh *mesh, uint32_t edge, uint32_t vertex, uint32_t *second);
 
-/* The same, with the corners of the triangles on both sides. 1 2 6 8 13 19 20. */
-uint32_t dcel_split_edge(dcel_mesh *mesh, uint32_t edge, uint32_t vertex, uint32_t *second);
+/* The same, with the corners of the triangles on both sides.
+   Refusals: NO_SUCH_VERTEX, NO_SUCH_EDGE, GIVEN_UP, VERTEX_IN_USE, NOT_TRIANGLE, NO_ROOM,
+   OUT_OF_MEMORY. */
+dcel_status dcel_split_edge(dcel_mesh *mesh, uint32_t edge, uint32_t vertex, uint32_t *second);
 
-/* Turns an edge between two triangles clockwise, so that it joins their other corners. 2 6 13 14. */
-uint32_t dcel_flip_cw(dcel_mesh *mesh, uint32_t undirected_edge);
+/* Turns an edge between two triangles clockwise, so that it joins their other corners.
+   Refusals: NO_SUCH_EDGE, GIVEN_UP, NOT_TRIANGLE, WOULD_LOOP. */
+dcel_status dcel_flip_cw(dcel_mesh *mesh, uint32_t undirected_edge);
 
-/* Exchanges two vertices, with their data. 1 6. */
-uint32_t dcel_swap_vertices(dcel_mesh *mesh, uint32_t first, uint32_t second);
+/* Exchanges two vertices, with their data.
+   Refusals: NO_SUCH_VERTEX, GIVEN_UP. */
+dcel_status dcel_swap_vertices(dcel_mesh *mesh, uint32_t first, uint32_t second);
 
 /* Takes these edges from the last on, and after each flip first those beside it. It flips one that can
    be flipped and whose lesser opposite corner is below its lesser end. It tells how many were flipped,
    and how it ended: nothing is left to flip, `max_flips` were too few, or the list of edges found no
-   memory to grow. What was flipped stays so. 2, and first 20 if the list finds no memory at all. */
-uint32_t dcel_legalize_by_number(dcel_mesh *mesh, uint64_t max_flips, const uint32_t *edges,
-                                 size_t edges_len, dcel_legalized *legalized);
+   memory to grow. What was flipped stays so.
+   Refusals: NO_SUCH_EDGE, OUT_OF_MEMORY if the list finds no memory at all. */
+dcel_status dcel_legalize_by_number(dcel_mesh *mesh, uint64_t max_flips, const uint32_t *edges,
+                                    size_t edges_len, dcel_legalized *legalized);
 
 /* ---- Removals: one is opened, cleaned up, and closed by taking the vertex out ----
 
-   A buffer is short, or a list finds no memory, before anything else is asked: 22 or 20. Each buffer
-   must have as many places as the list of half edges has numbers. What is given up is put there from the
-   front, and what lies behind it stays. */
+   Before anything else is asked, a buffer may be short, or a list find no memory. Each buffer must have as
+   many places as the list of half edges has numbers. What is given up is put there from the front, and
+   what lies behind it stays. */
 
 /* Gives up the vertex, whose border loop these half edges are, with its edges and the triangles round it,
-   and fills the hole. 1 2 4 15 19 20 22. */
-uint32_t dcel_isolate_vertex_and_fill_hole(dcel_mesh *mesh, const uint32_t *border_loop,
-                                           size_t border_loop_len, uint32_t vertex, uint32_t *edges,
-                                           size_t edges_len, uint32_t *faces, size_t faces_len,
-                                           dcel_opened *opened);
+   and fills the hole.
+   Refusals: NO_SUCH_VERTEX, NO_SUCH_EDGE, REMOVAL_OPEN, BAD_RING, NO_ROOM, OUT_OF_MEMORY, SHORT. */
+dcel_status dcel_isolate_vertex_and_fill_hole(dcel_mesh *mesh, const uint32_t *border_loop,
+                                              size_t border_loop_len, uint32_t vertex, uint32_t *edges,
+                                              size_t edges_len, uint32_t *faces, size_t faces_len,
+                                              dcel_opened *opened);
 
 /* Gives up these edges and faces, with one vertex or none, inside the ring of the half edges, and fills
-   the hole. In the worst case the time is quadratic in the length of the ring. 2 3 4 15 19 20. */
-uint32_t dcel_remesh_edge_ring(dcel_mesh *mesh, const uint32_t *border_loop, size_t border_loop_len,
-                               const uint32_t *edges, size_t edges_len, const uint32_t *faces,
-                               size_t faces_len, dcel_opened *opened);
+   the hole. In the worst case the time is quadratic in the length of the ring.
+   Refusals: NO_SUCH_EDGE, NO_SUCH_FACE, REMOVAL_OPEN, BAD_RING, NO_ROOM, OUT_OF_MEMORY. */
+dcel_status dcel_remesh_edge_ring(dcel_mesh *mesh, const uint32_t *border_loop, size_t border_loop_len,
+                                  const uint32_t *edges, size_t edges_len, const uint32_t *faces,
+                                  size_t faces_len, dcel_opened *opened);
 
 /* Cuts off the vertex of the outer face whose strip the half edges are, and gives it up with its edges and
-   the triangles round it. 2 4 16 20 22. */
-uint32_t dcel_disconnect_edge_strip(dcel_mesh *mesh, const uint32_t *strip, size_t strip_len,
-                                    uint32_t *edges, size_t edges_len, uint32_t *faces, size_t faces_len,
-                                    dcel_opened *opened);
+   the triangles round it.
+   Refusals: NO_SUCH_EDGE, REMOVAL_OPEN, BAD_STRIP, OUT_OF_MEMORY, SHORT. */
+dcel_status dcel_disconnect_edge_strip(dcel_mesh *mesh, const uint32_t *strip, size_t strip_len,
+                                       uint32_t *edges, size_t edges_len, uint32_t *faces, size_t faces_len,
+                                       dcel_opened *opened);
 
 /* Takes out what the open removal has given up, which the lists name in any order: the last edges and
-   faces get the free numbers. It closes a removal that has given up no vertex. 2 3 5 17 20. */
-uint32_t dcel_cleanup_isolated_vertex(dcel_mesh *mesh, const uint32_t *edges, size_t edges_len,
-                                      const uint32_t *faces, size_t faces_len);
+   faces get the free numbers. It closes a removal that has given up no vertex.
+   Refusals: NO_SUCH_EDGE, NO_SUCH_FACE, NO_REMOVAL, WRONG_LISTS, OUT_OF_MEMORY. */
+dcel_status dcel_cleanup_isolated_vertex(dcel_mesh *mesh, const uint32_t *edges, size_t edges_len,
+                                         const uint32_t *faces, size_t faces_len);
 
 /* Takes out a vertex that has no edge, or was given up by a removal that is cleaned up, and closes that.
-   The last vertex gets its number. 1 4 8. */
-uint32_t dcel_swap_remove_vertex(dcel_mesh *mesh, uint32_t vertex, dcel_removed *removed);
+   The last vertex gets its number.
+   Refusals: NO_SUCH_VERTEX, REMOVAL_OPEN, VERTEX_IN_USE. */
+dcel_status dcel_swap_remove_vertex(dcel_mesh *mesh, uint32_t vertex, dcel_removed *removed);
 
 /* Takes a vertex out of a mesh that is one vertex or a path, with an edge if it has one. The last vertex
-   and the last edge get the free numbers. 1 4 18. */
-uint32_t dcel_remove_when_degenerate(dcel_mesh *mesh, uint32_t vertex, dcel_removed *removed);
+   and the last edge get the free numbers.
+   Refusals: NO_SUCH_VERTEX, REMOVAL_OPEN, NOT_PATH. */
+dcel_status dcel_remove_when_degenerate(dcel_mesh *mesh, uint32_t vertex, dcel_removed *removed);
 
 /* How far a removal has come: DCEL_CLOSED, if none is open; DCEL_ISOLATED, if it is to be cleaned up;
    DCEL_CLEANED, if its vertex is to be taken out. */
-uint32_t dcel_removal_state(dcel_mesh *mesh);
+uint32_t dcel_removal_state(const dcel_mesh *mesh);
 
 /* ---- Tests. Any numbers may be given ---- */
 
 /* The number is in range, and no removal has given the element up. */
-bool dcel_is_live_vertex(dcel_mesh *mesh, uint32_t vertex);
-bool dcel_is_live_edge(dcel_mesh *mesh, uint32_t undirected_edge);
-bool dcel_is_live_face(dcel_mesh *mesh, uint32_t face);
+bool dcel_is_live_vertex(const dcel_mesh *mesh, uint32_t vertex);
+bool dcel_is_live_edge(const dcel_mesh *mesh, uint32_t undirected_edge);
+bool dcel_is_live_face(const dcel_mesh *mesh, uint32_t face);
 
 /* The vertex is live, and no half edge starts there; exactly one does. */
-bool dcel_is_unconnected(dcel_mesh *mesh, uint32_t vertex);
-bool dcel_is_line_end(dcel_mesh *mesh, uint32_t vertex);
+bool dcel_is_unconnected(const dcel_mesh *mesh, uint32_t vertex);
+bool dcel_is_line_end(const dcel_mesh *mesh, uint32_t vertex);
 
 /* The face is live and has three half edges. */
-bool dcel_is_triangle(dcel_mesh *mesh, uint32_t face);
+bool dcel_is_triangle(const dcel_mesh *mesh, uint32_t face);
 
 /* The half edge is live, and both halves of its edge lie on one face. */
-bool dcel_is_bridge(dcel_mesh *mesh, uint32_t edge);
+bool dcel_is_bridge(const dcel_mesh *mesh, uint32_t edge);
 
 /* There are numbers left for that many more elements: up to 2^32 vertices and faces, 2^31 edges. */
-bool dcel_has_room(dcel_mesh *mesh, uint64_t vertices, uint64_t undirected_edges, uint64_t faces);
+bool dcel_has_room(const dcel_mesh *mesh, uint64_t vertices, uint64_t undirected_edges, uint64_t faces);
 
 /* The mesh looks triangulated: as sanity_check of spade. */
-bool dcel_sanity_check(dcel_mesh *mesh);
+bool dcel_sanity_check(const dcel_mesh *mesh);
 
 /* All that the edit asks is so, but that there is room and memory. */
-bool dcel_can_setup_initial_two_vertices(dcel_mesh *mesh, uint32_t first, uint32_t second);
-bool dcel_can_extend_line(dcel_mesh *mesh, uint32_t end, uint32_t vertex);
-bool dcel_can_split_edge_when_all_vertices_on_line(dcel_mesh *mesh, uint32_t edge, uint32_t vertex);
-bool dcel_can_close_outside(dcel_mesh *mesh, uint32_t edge);
-bool dcel_can_create_new_face_adjacent_to_edge(dcel_mesh *mesh, uint32_t edge, uint32_t vertex);
-bool dcel_can_insert_into_triangle(dcel_mesh *mesh, uint32_t vertex, uint32_t face);
-bool dcel_can_split_half_edge(dcel_mesh *mesh, uint32_t edge, uint32_t vertex);
-bool dcel_can_split_edge(dcel_mesh *mesh, uint32_t edge, uint32_t vertex);
-bool dcel_can_flip(dcel_mesh *mesh, uint32_t undirected_edge);
-bool dcel_can_swap_remove(dcel_mesh *mesh, uint32_t vertex);
-bool dcel_can_remove_degenerate(dcel_mesh *mesh, uint32_t vertex);
+bool dcel_can_setup_initial_two_vertices(const dcel_mesh *mesh, uint32_t first, uint32_t second);
+bool dcel_can_extend_line(const dcel_mesh *mesh, uint32_t end, uint32_t vertex);
+bool dcel_can_split_edge_when_all_vertices_on_line(const dcel_mesh *mesh, uint32_t edge, uint32_t vertex);
+bool dcel_can_close_outside(const dcel_mesh *mesh, uint32_t edge);
+bool dcel_can_create_new_face_adjacent_to_edge(const dcel_mesh *mesh, uint32_t edge, uint32_t vertex);
+bool dcel_can_insert_into_triangle(const dcel_mesh *mesh, uint32_t vertex, uint32_t face);
+bool dcel_can_split_half_edge(const dcel_mesh *mesh, uint32_t edge, uint32_t vertex);
+bool dcel_can_split_edge(const dcel_mesh *mesh, uint32_t edge, uint32_t vertex);
+bool dcel_can_flip(const dcel_mesh *mesh, uint32_t undirected_edge);
+bool dcel_can_swap_remove(const dcel_mesh *mesh, uint32_t vertex);
+bool dcel_can_remove_degenerate(const dcel_mesh *mesh, uint32_t vertex);
 
-/* ---- Tests of lists, which need memory for these: 20 21, and else the answer is told ---- */
+/* ---- Tests of lists, which need memory for these ----
 
-uint32_t dcel_is_border_loop(dcel_mesh *mesh, const uint32_t *border_loop, size_t border_loop_len,
-                             uint32_t vertex, bool *answer);
+   Refusals: OUT_OF_MEMORY, and else the answer is told. */
+
+dcel_status dcel_is_border_loop(const dcel_mesh *mesh, const uint32_t *border_loop, size_t border_loop_len,
+                                uint32_t vertex, bool *answer);
 
 /* These edges and faces, with one vertex or none, are inside the ring of the half edges. In the worst
    case the time is quadratic in the length of the ring; dcel_can_remesh_edge_ring takes as long. */
-uint32_t dcel_is_ring(dcel_mesh *mesh, const uint32_t *border_loop, size_t border_loop_len,
-                      const uint32_t *edges, size_t edges_len, const uint32_t *faces, size_t faces_len,
-                      bool *answer);
-uint32_t dcel_is_edge_strip(dcel_mesh *mesh, const uint32_t *strip, size_t strip_len, bool *answer);
+dcel_status dcel_is_ring(const dcel_mesh *mesh, const uint32_t *border_loop, size_t border_loop_len,
+                         const uint32_t *edges, size_t edges_len, const uint32_t *faces, size_t faces_len,
+                         bool *answer);
+
+/* These half edges are the strip of a vertex of the outer face, which dcel_disconnect_edge_strip takes. */
+dcel_status dcel_is_edge_strip(const dcel_mesh *mesh, const uint32_t *strip, size_t strip_len,
+                               bool *answer);
 
 /* The lists name what an open removal has given up. */
-uint32_t dcel_is_listed(dcel_mesh *mesh, const uint32_t *edges, size_t edges_len, const uint32_t *faces,
-                        size_t faces_len, bool *answer);
+dcel_status dcel_is_listed(const dcel_mesh *mesh, const uint32_t *edges, size_t edges_len,
+                           const uint32_t *faces, size_t faces_len, bool *answer);
 
 /* All that the edit asks is so, but that there is room and memory. */
-uint32_t dcel_can_isolate_vertex_and_fill_hole(dcel_mesh *mesh, const uint32_t *border_loop,
-                                               size_t border_loop_len, uint32_t vertex, bool *answer);
-uint32_t dcel_can_remesh_edge_ring(dcel_mesh *mesh, const uint32_t *border_loop, size_t border_loop_len,
-                                   const uint32_t *edges, size_t edges_len, const uint32_t *faces,
-                                   size_t faces_len, bool *answer);
-uint32_t dcel_can_disconnect_edge_strip(dcel_mesh *mesh, const uint32_t *strip, size_t strip_len,
-                                        bool *answer);
+dcel_status dcel_can_isolate_vertex_and_fill_hole(const dcel_mesh *mesh, const uint32_t *border_loop,
+                                                  size_t border_loop_len, uint32_t vertex, bool *answer);
+dcel_status dcel_can_remesh_edge_ring(const dcel_mesh *mesh, const uint32_t *border_loop,
+                                      size_t border_loop_len, const uint32_t *edges, size_t edges_len,
+                                      const uint32_t *faces, size_t faces_len, bool *answer);
+dcel_status dcel_can_disconnect_edge_strip(const dcel_mesh *mesh, const uint32_t *strip, size_t strip_len,
+                                           bool *answer);
 
 /* ---- Lines ---- */
 
 /* Answers lines, which docs/LINES.md lists, on an empty mesh of its own, which isn't kept, and puts the
    replies into the buffer. As many bytes as fit are put there, from the front, and what lies behind them
-   stays. `needed` is how many bytes all replies are. 22 if they don't all fit; 20 if there is no memory for
-   the mesh or the replies, and then the buffer stays and `needed` is 0. */
-uint32_t dcel_replies(const uint8_t *lines, size_t lines_len, uint8_t *replies, size_t replies_len,
-                      uint64_t *needed);
+   stays. `needed` is how many bytes all replies are.
+   Refusals: OUT_OF_MEMORY if there is none for the mesh or the replies, and then the buffer stays and
+   `needed` is 0; SHORT if the replies don't all fit. */
+dcel_status dcel_replies(const uint8_t *lines, size_t lines_len, uint8_t *replies, size_t replies_len,
+                         uint64_t *needed);
 
 #ifdef __cplusplus
 }

@@ -8,7 +8,7 @@
 enum { ROOM = 8 };
 
 /* Says what a call returned, and ends the program if it isn't what was to come. */
-static void expect(const char *call, uint32_t status, uint32_t wanted) {
+static void expect(const char *call, dcel_status status, dcel_status wanted) {
     printf("%s: %s\n", call, dcel_status_name(status));
     if (status != wanted)
         exit(EXIT_FAILURE);

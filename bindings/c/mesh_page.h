@@ -17,7 +17,7 @@ enum {
     MESH_PAGE_DONE = 0,         /* all of the answer is in the buffer */
     MESH_PAGE_SHORT = 1,        /* the buffer has as much of the answer as it holds */
     MESH_PAGE_NO_MEMORY = 2,    /* the memory lent was too small, or points are too many; *needed is 0 */
-    MESH_PAGE_OUT_OF_RANGE = 3, /* a coordinate is below -2^30 or above 2^30, and *needed is 0 */
+    MESH_PAGE_OUT_OF_RANGE = 3, /* a coordinate is below -2^53 or above 2^53, and *needed is 0 */
 };
 
 /* Memory lent for good: a multiple of 16 bytes from an address that is one too, which nothing else
@@ -29,7 +29,7 @@ typedef struct {
 
 /* A point with whole coordinates. */
 typedef struct {
-    int32_t x, y;
+    int64_t x, y;
 } mesh_page_point;
 
 /* The numbers of three points, which go round counterclockwise. */

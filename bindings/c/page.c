@@ -143,13 +143,13 @@ static void check(const export_of *it) {
 
 /* A coordinate past either end is told, and the ends themselves are points. */
 static void check_range(void) {
-    const int32_t end = 1 << 30;
+    const int64_t end = (int64_t)1 << 53;
     const mesh_page_point ends[] = {{-end, -end}, {end, -end}, {end, end}, {-end, end}};
     for (size_t past = 0; past <= 2 * COUNT(ends); past++) {
         mesh_page_point given[COUNT(ends)];
         memcpy(given, ends, sizeof ends);
         if (past > 0) {
-            int32_t *far = past % 2 ? &given[(past - 1) / 2].x : &given[(past - 1) / 2].y;
+            int64_t *far = past % 2 ? &given[(past - 1) / 2].x : &given[(past - 1) / 2].y;
             *far += *far > 0 ? 1 : -1;
         }
         mesh_page_triangle found[2];

@@ -2,15 +2,14 @@
 
 `Dcel` is the mesh, and `replies` answers lines. Each way in which a call can be refused is an error of its own, under `DcelError`."""
 
-from ._calls import NO_LINK
-from ._calls import VERSION as __version__
+from ._declared import NO_LINK, Ended, FaultKind, RemovalState, Status
+from ._declared import VERSION as __version__
 from ._errors import (
     BadRing,
     BadStrip,
     DcelError,
     EdgesStand,
     Fault,
-    FaultKind,
     Faulty,
     GivenUp,
     NoMesh,
@@ -28,13 +27,12 @@ from ._errors import (
     RemovalOpen,
     SameVertex,
     Short,
-    Status,
     VertexInUse,
     WouldLoop,
     WrongLists,
 )
 from ._lines import replies
-from ._mesh import Dcel, Ended, HalfEdge, Legalized, Links, Opened, RemovalState, Removed
+from ._mesh import Dcel, HalfEdge, Legalized, Links, Opened, Removed
 
 __all__ = [
     "NO_LINK", "BadRing", "BadStrip", "Dcel", "DcelError", "EdgesStand", "Ended", "Fault", "FaultKind", "Faulty", "GivenUp", "HalfEdge", "Legalized", "Links", "NoMesh",

@@ -4,7 +4,8 @@ from __future__ import annotations
 
 from array import array
 from collections.abc import Iterable
-from ctypes import c_uint32
+from ctypes import addressof, c_char, c_uint32
+from operator import index
 from typing import Any
 
 assert (array("I").itemsize, array("Q").itemsize) == (4, 8)
@@ -15,6 +16,7 @@ FORMATS = {"I": {"I"}, "Q": {"Q"} | ({"L"} if array("L").itemsize == 8 else set(
 
 def number(value: int) -> int:
     """The number, if it has 32 bits."""
+    value = index(value)  # NumPy's numbers too
     if value >> 32:
         raise OverflowError(f"{value} isn't from 0 to 2**32 - 1")
     return value
@@ -22,21 +24,68 @@ def number(value: int) -> int:
 
 def wide(value: int) -> int:
     """The number, if it has 64 bits."""
+    value = index(value)
     if value >> 64:
         raise OverflowError(f"{value} isn't from 0 to 2**64 - 1")
     return value
 
 
 def numbers(values: Iterable[int], code: str = "I") -> memoryview:
-    """The numbers in a row, of 32 bits or with the code "Q" of 64, of a length that stays. Where they lie so already, and can be written
-    to, they are taken as they lie; others are copied."""
+    """The numbers in a row, of 32 bits or with the code "Q" of 64, of a length that stays. Where they lie so already, in a place for such
+    numbers, and can be written to, they are taken as they lie; others are copied."""
     try:
         view = memoryview(values)  # type: ignore[arg-type]
     except TypeError:
         return memoryview(array(code, values))
-    if view.format not in FORMATS[code] or view.ndim != 1:
+    if view.ndim != 1:
+        raise TypeError(f"a list of numbers has one dimension, and not {view.ndim}")
+    if view.format not in FORMATS[code]:
         return memoryview(array(code, iter(values)))
-    return memoryview(array(code, view.tobytes())) if view.readonly or not view.contiguous else view
+    return memoryview(array(code, view.tobytes())) if view.readonly or not view.contiguous or not is_aligned(view) else view
+
+
+def is_aligned(view: memoryview) -> bool:
+    """Whether the items lie where C puts such numbers. Those of a slice of bytes may lie anywhere."""
+    return not view or addressof(c_char.from_buffer(view)) % view.itemsize == 0
+
+
+def corners_of(corners: Iterable[Any], counts: Iterable[int] | None) -> tuple[memoryview, memoryview]:
+    """The corners of all faces in a row, and how many each has. Without counts there is a row for each face: of an array of two
+    dimensions, or of any iterable."""
+    if counts is not None:
+        return numbers(flat(corners)), numbers(counts)
+    try:
+        view = memoryview(corners)  # type: ignore[arg-type]
+    except TypeError:
+        return rows(corners)
+    if view.ndim != 2:
+        raise TypeError(f"faces without counts are an array of two dimensions, and not of {view.ndim}")
+    return numbers(flat(corners)), memoryview(array("I", [view.shape[1]]) * view.shape[0])  # type: ignore[index]
+
+
+def flat(values: Iterable[Any]) -> Iterable[Any]:
+    """The items of an array of two dimensions, row after row; and anything else as it is."""
+    try:
+        view = memoryview(values)  # type: ignore[arg-type]
+    except TypeError:
+        return values
+    if view.ndim != 2:
+        return values
+    if view.c_contiguous and view.format in FORMATS["I"] and not view.readonly:
+        return view.cast("B").cast("I") if view.nbytes else array("I")
+    try:
+        return memoryview(view.tobytes()).cast(view.format)  # type: ignore[call-overload]
+    except ValueError:  # the bytes of its numbers stand in another order than here
+        return [item for row in values for item in row]
+
+
+def rows(faces: Iterable[Iterable[int]]) -> tuple[memoryview, memoryview]:
+    corners, counts = array("I"), array("I")
+    for face in faces:
+        before = len(corners)
+        corners.extend(face)
+        counts.append(len(corners) - before)
+    return memoryview(corners), memoryview(counts)
 
 
 def zeros(length: int) -> array[int]:

@@ -2,65 +2,9 @@
 
 from __future__ import annotations
 
-import enum
 from typing import Any, ClassVar, NamedTuple
 
-
-class Status(enum.IntEnum):
-    """What the calls of the library return. The error of a status has its name."""
-
-    DONE = 0
-    NO_SUCH_VERTEX = 1
-    NO_SUCH_EDGE = 2
-    NO_SUCH_FACE = 3
-    REMOVAL_OPEN = 4
-    NO_REMOVAL = 5
-    GIVEN_UP = 6
-    SAME_VERTEX = 7
-    VERTEX_IN_USE = 8
-    EDGES_STAND = 9
-    NOT_LINE_END = 10
-    NOT_BRIDGE = 11
-    NOT_OUTER = 12
-    NOT_TRIANGLE = 13
-    WOULD_LOOP = 14
-    BAD_RING = 15
-    BAD_STRIP = 16
-    WRONG_LISTS = 17
-    NOT_PATH = 18
-    NO_ROOM = 19
-    OUT_OF_MEMORY = 20
-    NO_MESH = 21
-    SHORT = 22
-    FAULTY = 23
-
-
-class FaultKind(enum.IntEnum):
-    """What is wrong with links or faces that no mesh is made of, as dcel.h says it of each."""
-
-    LENGTHS = 1
-    TOO_MANY = 2
-    NO_FACE = 3
-    MORE_FACES = 4
-    NEXT_OUT_OF_RANGE = 5
-    ORIGIN_OUT_OF_RANGE = 6
-    FACE_OUT_OF_RANGE = 7
-    TWO_LEAD_TO = 8
-    ONE_END = 9
-    APART = 10
-    LEAVES_FACE = 11
-    FACE_IN_PARTS = 12
-    VERTEX_IN_PARTS = 13
-    UNUSED_FACE = 14
-    NOT_CONNECTED = 15
-    NOT_SPHERE = 16
-    OTHER_COUNT = 17
-    FEW_CORNERS = 18
-    TOO_MANY_CORNERS = 19
-    NO_VERTEX = 20
-    SIDE_AT_ONE = 21
-    SIDE_TWICE = 22
-    BORDER_TWICE = 23
+from ._declared import FAULTS, FaultKind, Status
 
 
 class Fault(NamedTuple):
@@ -74,6 +18,14 @@ class Fault(NamedTuple):
     other: int
     from_: int
     to: int
+
+    def __str__(self) -> str:
+        """What is wrong, in words."""
+        return FAULTS[self.kind].format(**self._asdict(), **{"from": self.from_})
+
+
+# Where nothing is left for the outer face.
+_CLOSED = Fault(FaultKind.UNUSED_FACE, 0, 0, 0, 0)
 
 
 class DcelError(Exception):
@@ -229,12 +181,12 @@ for _kind in (DcelError, *ERRORS.values()):
 
 def refused(status: int, function: Any, given: Any = ()) -> DcelError:
     """The error of a status that a call of the library has returned. A fault is told in the last thing that the call was given."""
-    kind = ERRORS[status]
-    says = f"{function.__name__.removeprefix('dcel_')}: {kind.__doc__}"
+    kind, name = ERRORS[status], function.__name__.removeprefix("dcel_")
     if kind is not Faulty:
-        return kind(says)
+        return kind(f"{name}: {kind.__doc__}")
     told = given[-1]
     fault = Fault(FaultKind(told.kind), told.number, told.other, getattr(told, "from"), told.to)
-    error = Faulty(f"{says} {fault}")
+    hint = "; of a closed surface leave one face out, to be the outer face" if name == "from_faces" and fault == _CLOSED else ""
+    error = Faulty(f"{name}: No mesh is made of what is given: {fault}{hint} ({fault.kind.name}).")
     error.fault = fault
     return error

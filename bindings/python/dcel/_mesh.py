@@ -2,32 +2,16 @@
 
 from __future__ import annotations
 
-import enum
 from array import array
 from collections.abc import Callable, Iterable
 from ctypes import c_bool, c_uint32, c_uint64
 from typing import Any, NamedTuple, NoReturn, Self
 
-from . import _calls
-from ._arrays import listed, number, numbers, start_of, wide, zeros
-from ._calls import NO_LINK, NONE, library
-from ._errors import Short, Status, refused
-
-
-class RemovalState(enum.IntEnum):
-    """How far a removal has come."""
-
-    CLOSED = 0  #: none is open
-    ISOLATED = 1  #: it is to be cleaned up
-    CLEANED = 2  #: its vertex is to be taken out
-
-
-class Ended(enum.IntEnum):
-    """How a legalization ended."""
-
-    LEGALIZED = 0  #: nothing is left to flip
-    STOPPED = 1  #: as many flips were made as were allowed
-    MEMORY_RAN_OUT = 2  #: the list of edges found no memory to grow
+from . import _declared
+from ._arrays import corners_of, listed, number, numbers, start_of, wide, zeros
+from ._calls import library
+from ._declared import NO_LINK, NONE, Ended, RemovalState, Status
+from ._errors import Short, refused
 
 
 class HalfEdge(NamedTuple):
@@ -85,6 +69,16 @@ class Links:
         """How many half edges there are."""
         return len(self.next)
 
+    def __repr__(self) -> str:
+        return f"<Links: {len(self)} half edges>"
+
+    @property
+    def to(self) -> array[int]:
+        """Where each half edge leads: where its other half starts, or NO_LINK if it isn't live. An array of its own."""
+        ends = zeros(len(self))
+        ends[::2], ends[1::2] = array("I", self.origin[1::2].tobytes()), array("I", self.origin[::2].tobytes())
+        return ends
+
     def __getitem__(self, edge: int) -> HalfEdge:
         return HalfEdge(self.next[edge], self.prev[edge], self.origin[edge], self.face[edge])
 
@@ -115,11 +109,11 @@ class Dcel:
     __slots__ = ("__weakref__", "_mesh")
 
     _free = library.dcel_free
-    _mesh: _calls.Mesh
+    _mesh: _declared.Mesh
 
     def __new__(cls, *given: Any, **named: Any) -> Self:
         self = super().__new__(cls)
-        self._mesh = _calls.Mesh()
+        self._mesh = _declared.Mesh()
         return self
 
     def __init__(self) -> None:
@@ -137,21 +131,25 @@ class Dcel:
         flat = numbers(links.flat if isinstance(links, Links) else links)
         if len(flat) % 4:
             raise ValueError("a half edge has four links")
-        made, fault = cls.__new__(cls), _calls.Fault()
+        made, fault = cls.__new__(cls), _declared.Fault()
         data = (*listed(numbers(vertices, "Q"), c_uint64), *listed(numbers(faces, "Q"), c_uint64))
-        library.dcel_from_links(made._mesh, start_of(flat, _calls.HalfEdge), len(flat) // 4, *data, fault)
+        library.dcel_from_links(made._mesh, start_of(flat, _declared.HalfEdge), len(flat) // 4, *data, fault)
         return made
 
     @classmethod
-    def from_faces(cls, vertices: Iterable[int], corners: Iterable[int], counts: Iterable[int]) -> Self:
+    def from_faces(
+        cls, vertices: Iterable[int], corners: Iterable[int] | Iterable[Iterable[int]], counts: Iterable[int] | None = None
+    ) -> Self:
         """The mesh of these faces, with these data of its vertices. Raises Faulty, OutOfMemory.
 
-        `corners` has the corners of one face after the other, counterclockwise, and `counts` how many each has. They become faces from
+        `corners` has the corners of each face, counterclockwise: an array of shape (m, 3) or (m, k), or an iterable of any rows. With
+        `counts`, which says how many corners each face has, it has those of one face after the other in a row. They become faces from
         number 1 on, and face 0, the outer face, is what they leave: of a closed surface, leave one face out. If there is no such mesh,
         the `fault` of the error says why."""
-        made, fault = cls.__new__(cls), _calls.Fault()
+        made, fault = cls.__new__(cls), _declared.Fault()
         data = listed(numbers(vertices, "Q"), c_uint64)
-        library.dcel_from_faces(made._mesh, *data, *listed(numbers(corners)), *listed(numbers(counts)), fault)
+        row, lengths = corners_of(corners, counts)
+        library.dcel_from_faces(made._mesh, *data, *listed(row), *listed(lengths), fault)
         return made
 
     # Whole meshes.
@@ -162,7 +160,7 @@ class Dcel:
 
     @property
     def closed(self) -> bool:
-        """Whether the mesh was closed."""
+        """Whether the mesh was closed, by `close` or at the end of a `with`. It says nothing of its surface."""
         return not self._mesh.is_open
 
     def __enter__(self) -> Self:
@@ -289,7 +287,7 @@ class Dcel:
 
     def directed_edge(self, edge: int) -> HalfEdge:
         """The links of a half edge. Raises NoSuchEdge, GivenUp."""
-        links = _calls.HalfEdge()
+        links = _declared.HalfEdge()
         library.dcel_directed_edge(self._mesh, number(edge), links)
         if links.origin == NO_LINK:
             self._refuse_step(edge, library.dcel_directed_edge)
@@ -301,7 +299,7 @@ class Dcel:
         while True:
             flat = zeros(4 * self.num_directed_edges())
             try:
-                library.dcel_directed_edges(self._mesh, start_of(flat, _calls.HalfEdge), len(flat) // 4, needed)
+                library.dcel_directed_edges(self._mesh, start_of(flat, _declared.HalfEdge), len(flat) // 4, needed)
             except Short:  # another thread has added edges meanwhile
                 continue
             del flat[4 * needed.value :]
@@ -415,7 +413,7 @@ class Dcel:
         lesser opposite corner is below its lesser end. What was flipped stays so, however it ends. Other threads wait meanwhile.
 
         Raises NoSuchEdge, and OutOfMemory if the list finds no memory at all."""
-        legalized = _calls.Legalized()
+        legalized = _declared.Legalized()
         library.dcel_legalize_by_number(self._mesh, wide(max_flips), *listed(numbers(edges)), legalized)
         return Legalized(legalized.flips, Ended(legalized.ended))
 
@@ -644,7 +642,7 @@ class Dcel:
         return told.value
 
     def _removed(self, removal: Any, vertex: int) -> Removed:
-        removed = _calls.Removed()
+        removed = _declared.Removed()
         removal(self._mesh, number(vertex), removed)
         return Removed(removed.datum, None if removed.moved == NONE else removed.moved)
 
@@ -655,7 +653,7 @@ class Dcel:
 
     def _opened(self, opener: Any, words: tuple[Any, ...], edges: array[int], faces: array[int]) -> Opened:
         """What a removal has given up: what stands in these lists, or is put there."""
-        opened = _calls.Opened()
+        opened = _declared.Opened()
         opener(self._mesh, *words, *listed(edges), *listed(faces), opened)
         del edges[opened.edges :], faces[opened.faces :]
         first = opened.smallest_new_edge

@@ -53,8 +53,37 @@ class In(unittest.TestCase):
 
     def test_what_is_no_list(self) -> None:
         for wrong in ("135", 1, [1.0], [None], array("d", [1.0]), memoryview(bytearray(16)).cast("I", (2, 2))):
-            with self.subTest(given=wrong), self.assertRaises((TypeError, NotImplementedError)):
+            with self.subTest(given=wrong), self.assertRaises(TypeError):
                 round_().is_border_loop(wrong, 3)  # type: ignore[arg-type]
+
+    def test_any_place(self) -> None:
+        """Numbers that lie where C puts none of their size are copied."""
+        for code, size in (("I", 4), ("Q", 8)):
+            items = array(code, range(3))
+            for offset in range(size):
+                with self.subTest(code=code, offset=offset):
+                    given = memoryview(bytearray(4 * size))[offset : offset + 3 * size].cast(code)
+                    given[:] = memoryview(items)
+                    start = ctypes.addressof(ctypes.c_char.from_buffer(given))
+                    taken = numbers(given, code)
+                    self.assertEqual((taken.tolist(), address(taken) % size), ([0, 1, 2], 0))
+                    self.assertEqual(address(taken) == start, start % size == 0)
+
+    def test_any_number(self) -> None:
+        """What is no int but can be one, as NumPy's numbers, is taken for its number, and nothing else is."""
+
+        class Number:
+            def __init__(self, number: int) -> None:
+                self.number = number
+
+            def __index__(self) -> int:
+                return self.number
+
+        mesh = round_()
+        mesh.update_vertex(Number(3), Number(2**64 - 1))  # type: ignore[arg-type]
+        self.assertEqual((mesh.vertex_data(3), mesh.next(Number(0)), mesh.next(True)), (2**64 - 1, 2, mesh.next(1)))  # type: ignore[arg-type]
+        with self.assertRaisesRegex(TypeError, "'float' object cannot be interpreted as an integer"):
+            mesh.flip_cw(3.0)  # type: ignore[arg-type]
 
     def test_given_lists_stay(self) -> None:
         edges, faces, border = array("I", [3, 4, 5]), array("I", [1, 2, 3]), array("I", BORDER)
@@ -81,12 +110,24 @@ class Out(unittest.TestCase):
         mesh.clear()
         self.assertEqual(len(links), 12)
 
+    def test_ends(self) -> None:
+        for mesh in (opened(), round_(), Dcel()):
+            links = mesh.directed_edges()
+            self.assertEqual(list(links.to), [links.origin[edge ^ 1] for edge in range(len(links))])
+        self.assertEqual(repr(round_().directed_edges()), "<Links: 12 half edges>")
+
     def test_no_links(self) -> None:
         links = Dcel().directed_edges()
         self.assertEqual((len(links), list(links.next), list(links.flat)), (0, [], []))
 
     @unittest.skipIf(numpy is None, "there is no NumPy")
     def test_numpy(self) -> None:
+        mesh = round_()
+        mesh.update_vertex(numpy.uint32(3), numpy.uint64(2**64 - 1))
+        self.assertEqual(mesh.vertex_data(numpy.int8(3)), 2**64 - 1)
+        for wrong in (numpy.array([3]), numpy.float64(3)):
+            with self.subTest(given=wrong), self.assertRaises(TypeError):
+                mesh.vertex_data(wrong)
         links = round_().directed_edges()
         view = numpy.asarray(links.next)
         self.assertTrue(numpy.shares_memory(view, numpy.asarray(links.flat)))

@@ -4,11 +4,16 @@ from __future__ import annotations
 
 import unittest
 from array import array
-from collections.abc import Callable
+from collections.abc import Callable, Iterable
 from typing import Any
 
 from dcel import Dcel, Fault, FaultKind, Faulty, Status
 from meshes import opened, round_, triangle
+
+try:
+    import numpy
+except ImportError:
+    numpy = None  # type: ignore[assignment]
 
 CORNERS, COUNTS = [0, 1, 2, 2, 1, 3], [3, 3]
 
@@ -55,6 +60,49 @@ class Given(unittest.TestCase):
         self.assertEqual([made.from_(edge) for edge in made.face_edges(2)], [3, 2, 1])
         self.assertEqual((made.vertex_data(4), made.face_data(2)), (5, 0))
         self.assertEqual(repr(Dcel.from_faces([], [], [])), "<Dcel: 0 vertices, 0 edges, 1 faces>")
+
+    def tables(self) -> Iterable[Any]:
+        """The two triangles as rows, in each form that a caller may have."""
+        rows = [CORNERS[:3], CORNERS[3:]]
+        yield from (rows, tuple(map(tuple, rows)), iter(rows), [array("I", rows[0]), range(2, -1, -1), rows[1]][::2])
+        for code in "IQqB":
+            table = memoryview(array(code, CORNERS)).cast("B").cast(code, (2, 3))
+            yield from (table, table.toreadonly())
+        if numpy is not None:
+            for kind in ("u4", "i4", "i8", "u1", ">u4"):
+                table = numpy.array(rows, dtype=kind)
+                yield from (table, numpy.asfortranarray(table), numpy.array(rows * 2, dtype=kind)[::3])
+
+    def test_rows(self) -> None:
+        wanted = Dcel.from_faces([0] * 4, CORNERS, COUNTS).directed_edges().flat
+        for given in self.tables():
+            with self.subTest(form=type(given)):
+                self.assertEqual(Dcel.from_faces([0] * 4, given).directed_edges().flat, wanted)
+        table = memoryview(array("I", CORNERS)).cast("B").cast("I", (2, 3))
+        self.assertEqual(Dcel.from_faces([0] * 4, table, COUNTS).directed_edges().flat, wanted)
+        self.assertEqual(repr(Dcel.from_faces(range(5), [[0, 1, 2, 3], [0, 3, 4]])), "<Dcel: 5 vertices, 6 edges, 3 faces>")
+        self.assertEqual(repr(Dcel.from_faces([7], [])), "<Dcel: 1 vertices, 0 edges, 1 faces>")
+
+    def test_what_are_no_rows(self) -> None:
+        for wrong in (CORNERS, array("I", CORNERS), memoryview(bytearray(96)).cast("I", (2, 3, 4)), "012", [[1.0, 2.0, 3.0]], 3):
+            with self.subTest(given=wrong), self.assertRaises(TypeError):
+                Dcel.from_faces([0] * 4, wrong)  # type: ignore[arg-type]
+
+    def test_words(self) -> None:
+        """A fault is told in words, with its numbers and the name of its kind."""
+        for given, words in [
+            (([0, 1, 2, 0, 1, 3], COUNTS), "faces at places 0 and 1 have the side 0 to 1 (SIDE_TWICE)."),
+            (([0, 1, 4], [3]), "the face at place 0 has corner 4, which is no vertex (NO_VERTEX)."),
+            (
+                ([0, 1, 2, 2, 1, 0], COUNTS),
+                "no half edge lies on face 0; of a closed surface leave one face out, to be the outer face (UNUSED_FACE).",
+            ),
+        ]:
+            with self.assertRaises(Faulty) as raised:
+                Dcel.from_faces([0] * 4, *given)
+            self.assertEqual(str(raised.exception), f"from_faces: No mesh is made of what is given: {words}")
+        for kind in FaultKind:
+            self.assertNotIn("{", str(Fault(kind, 1, 2, 3, 4)))
 
     def test_faulty_faces(self) -> None:
         for corners, counts, fault in [

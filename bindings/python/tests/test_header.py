@@ -1,4 +1,4 @@
-"""The types of the calls are those that dcel.h declares, and its statuses and constants are the same."""
+"""The calls have the types that a compiler finds in dcel.h, each has its method, and each method names the errors that the header does."""
 
 from __future__ import annotations
 
@@ -8,67 +8,85 @@ import os
 import re
 import subprocess
 import unittest
+from collections.abc import Iterable
 from pathlib import Path
 from typing import Any
 
 import dcel
-from dcel import Dcel, Ended, FaultKind, RemovalState, Status, _calls, _lines, _mesh
+from dcel import Dcel, Ended, FaultKind, RemovalState, Status, _declared, _lines, _mesh
+from dcel._calls import library
 from dcel._errors import ERRORS
 
 FOLDER = Path(__file__).resolve().parents[2] / "c"
 HEADER = (FOLDER / "dcel.h").read_text()
-CODE = re.sub(r"^#.*$", "", re.sub(r"/\*.*?\*/", "", HEADER, flags=re.S), flags=re.M)
-NAMES: dict[str, Any] = {
-    "void": None, "bool": ctypes.c_bool, "uint8_t": ctypes.c_uint8, "uint32_t": ctypes.c_uint32, "uint64_t": ctypes.c_uint64, "size_t": ctypes.c_size_t,
-    **_calls.STRUCTS,
+# The functions that take no mesh and that no method calls.
+VERSIONS = {"dcel_version", f"dcel_version_{dcel.__version__.replace('.', '_')}"}
+NAMES = {
+    None: "void", ctypes.c_bool: "bool", ctypes.c_uint8: "uint8_t", ctypes.c_uint32: "uint32_t", ctypes.c_uint64: "uint64_t",
+    **{kind: name for name, kind in _declared.STRUCTS.items()},
 }
+# The type of a function, without the const of what its pointers lead to, which Python doesn't know.
+SHAPES = """
+#include <cstddef>
+#include <type_traits>
+#include "dcel.h"
+template <class T> struct bare { using type = T; };
+template <class T> struct bare<const T *> { using type = T *; };
+template <class T> struct shape;
+template <class R, class... A> struct shape<R (*)(A...)> { using type = R(typename bare<A>::type...); };
+#define HAS(function, ...) static_assert(std::is_same<shape<decltype(&function)>::type, __VA_ARGS__>::value, #function);
+"""
 
 
-def kind_of(words: str) -> Any:
-    """The type of a parameter or a field, without its name."""
-    name, star = re.fullmatch(r"(?:const )?(\w+) (\*?)\w+", words.strip()).groups()  # type: ignore[union-attr]
-    if star:
-        return ctypes.c_void_p if name == "void" else ctypes.POINTER(NAMES[name])
-    return NAMES[name]
+def in_c(kind: Any) -> str:
+    """What C calls a type."""
+    return f"{NAMES[kind._type_]} *" if hasattr(kind, "contents") else NAMES[kind]
 
 
-def functions() -> dict[str, tuple[Any, list[Any]]]:
-    """The results and parameters that the header declares."""
-    text = re.sub(r"static inline .*?\n\}", "", CODE, flags=re.S)
-    found = re.findall(r"^(\w+) (dcel_\w+)\((.*?)\);", text, re.M | re.S)
-    return {name: (NAMES[result], [kind_of(it) for it in " ".join(given.split()).split(",") if it != "void"]) for result, name, given in found}
-
-
-def structs() -> dict[str, list[tuple[str, Any]]]:
-    """The fields of the structs that the header declares."""
-    found = {}
-    for inside, name in re.findall(r"typedef struct \{(.*?)\} (\w+);", CODE, re.S):
-        found[name] = [
-            (re.findall(r"\w+", field)[-1], kind_of(f"{re.findall('[a-z0-9_]+', line)[0]} {'*' if '*' in field else ''}x"))
-            for line in inside.split(";") if line.strip()
-            for field in line.split(",")
-        ]
-    return found
-
-
-def numbers(prefix: str) -> dict[str, int]:
-    """The numbers that the header gives to names."""
-    return {name: int(number) for name, number in re.findall(rf"\b{prefix}(\w+) = (\d+)", CODE)}
+def compiled(lines: Iterable[str]) -> tuple[int, str]:
+    """What a compiler of C++ says of lines behind the header."""
+    words = [os.environ.get("CXX", "c++"), "-std=c++11", "-Wno-invalid-offsetof", "-fsyntax-only", "-I", str(FOLDER), "-x", "c++", "-"]
+    ran = subprocess.run(words, input=SHAPES + "\n".join(lines), text=True, capture_output=True, check=False)
+    return ran.returncode, ran.stderr
 
 
 class Header(unittest.TestCase):
     def test_functions(self) -> None:
-        declared = functions()
-        self.assertGreater(len(declared), 70)
-        self.assertEqual(len(declared), len(re.findall(r"\bdcel_\w+\(", CODE)) - 1)  # but for dcel_status_name
-        for name, (result, given) in declared.items():
-            with self.subTest(function=name):
-                function = getattr(_calls.library, name)
-                self.assertEqual((function.restype, list(function.argtypes)), (result, given))
+        self.assertGreater(len(_declared.FUNCTIONS), 70)
+        lines = []
+        for name, (result, _) in _declared.FUNCTIONS.items():
+            function = getattr(library, name)
+            returned = "dcel_status" if result is Status else in_c(function.restype)
+            lines.append(f"HAS({name}, {returned}({', '.join(map(in_c, function.argtypes))}))")
+        self.assertEqual(compiled(lines), (0, ""))
+
+    def test_layout(self) -> None:
+        lines = []
+        for name, it in _declared.STRUCTS.items():
+            lines.append(f'static_assert(sizeof({name}) == {ctypes.sizeof(it)}, "{name}");')
+            for field, kind in it._fields_:  # type: ignore[misc]
+                place = getattr(it, field)
+                lines.append(f'static_assert(offsetof({name}, {field}) == {place.offset}, "{name}.{field}");')
+                lines.append(f'static_assert(sizeof({name}::{field}) == {ctypes.sizeof(kind)}, "{name}.{field}");')
+        self.assertEqual(compiled(lines), (0, ""))
+
+    def test_numbers(self) -> None:
+        known = {f"DCEL_{it.name}": it.value for kind in (Status, Ended, RemovalState) for it in kind}
+        known |= {f"DCEL_FAULT_{it.name}": it.value for it in FaultKind}
+        self.assertEqual(set(known), set(re.findall(r"^ +(DCEL_\w+) = \d", HEADER, re.M)))
+        known |= {"DCEL_NONE": _declared.NONE, "DCEL_NO_LINK": dcel.NO_LINK}
+        self.assertEqual(compiled(f'static_assert({name} == {number}u, "{name}");' for name, number in known.items()), (0, ""))
+
+    def test_a_fault_is_found(self) -> None:
+        """What the tests above hand to the compiler is read by it."""
+        wrong = ["HAS(dcel_flip_cw, dcel_status(dcel_mesh *, uint64_t))", 'static_assert(DCEL_SHORT == 21, "");']
+        for line in wrong:
+            with self.subTest(line=line):
+                self.assertNotEqual(compiled([line])[0], 0)
 
     def test_none_is_left_out(self) -> None:
-        declared = {name for name, (_, given) in functions().items() if given}
-        self.assertEqual(set(functions()) - declared, set(_calls._VERSION_CALLS))
+        declared = set(_declared.FUNCTIONS) - VERSIONS
+        self.assertEqual(len(declared), len(_declared.FUNCTIONS) - 2)
         named = set(re.findall(r"library\.(dcel_\w+)", inspect.getsource(_mesh) + inspect.getsource(_lines)))
         self.assertEqual(named, declared)
         methods = {name.removesuffix("_") for name, _ in inspect.getmembers(Dcel, inspect.isfunction) if not name.startswith("_")}
@@ -85,39 +103,17 @@ class Header(unittest.TestCase):
                 self.assertIsNot(inspect.signature(it).return_annotation, inspect.Signature.empty)
         self.assertTrue((Path(dcel.__file__).parent / "py.typed").is_file())
 
-    def test_structs(self) -> None:
-        self.assertEqual(structs(), {name: list(it._fields_) for name, it in _calls.STRUCTS.items()})
-
-    def test_layout(self) -> None:
-        """The C compiler lays the structs out as ctypes does."""
-        text = '#include <stddef.h>\n#include "dcel.h"\n'
-        for name, it in _calls.STRUCTS.items():
-            text += f'_Static_assert(sizeof({name}) == {ctypes.sizeof(it)}, "{name}");\n'
-            for field, _ in it._fields_:  # type: ignore[misc]
-                text += f'_Static_assert(offsetof({name}, {field}) == {getattr(it, field).offset}, "{name}.{field}");\n'
-        words = [os.environ.get("CC", "cc"), "-std=c11", "-fsyntax-only", "-I", str(FOLDER), "-x", "c", "-"]
-        compiled = subprocess.run(words, input=text, text=True, capture_output=True, check=False)
-        self.assertEqual((compiled.returncode, compiled.stderr), (0, ""))
-
-    def test_numbers(self) -> None:
-        known = {it.name: it.value for kind in (Status, Ended, RemovalState) for it in kind}
-        known.update({f"FAULT_{it.name}": it.value for it in FaultKind})
-        self.assertEqual(numbers("DCEL_"), known)
-        self.assertIn("#define DCEL_NONE UINT64_MAX\n", HEADER)
-        self.assertIn("#define DCEL_NO_LINK UINT32_MAX\n", HEADER)
-        self.assertEqual((_calls.NONE, dcel.NO_LINK), (2**64 - 1, 2**32 - 1))
-
     def test_names_of_errors(self) -> None:
         names = dict(re.findall(r'case DCEL_(\w+): return "(\w+)";', HEADER))
         self.assertEqual(names, {"DONE": "Done", **{Status(status).name: kind.__name__ for status, kind in ERRORS.items()}})
 
-    def test_statuses_of_edits(self) -> None:
-        """An edit says that it raises what the header says that it returns."""
-        edits = HEADER[HEADER.index("---- Edits ----") : HEADER.index("---- Tests. ")]
-        told = re.findall(r"[.,:;] ((?:\d+ )*\d+)\. \*/\nuint32_t dcel_(\w+)\(", edits)
-        self.assertGreater(len(told), 15)
+    def test_refusals_of_edits(self) -> None:
+        """An edit says that it raises what the header says that it refuses."""
+        edits = HEADER[HEADER.index("---- Edits. ") : HEADER.index("---- Tests. ")]
+        told = re.findall(r"Refusals: ([^.]*)\. \*/\ndcel_status dcel_(\w+)\(", edits)
+        self.assertEqual(len(told), edits.count("dcel_status dcel_"))
         for listed, name in told:
             with self.subTest(call=name):
-                wanted = {ERRORS[int(it)].__name__ for it in listed.split()} - {"Short"}
+                wanted = {ERRORS[Status[it]].__name__ for it in re.findall(r"\b[A-Z]+(?:_[A-Z]+)*\b", listed)} - {"Short"}
                 raises = " ".join((getattr(Dcel, name).__doc__ or "").split()).partition("Raises")[2]
                 self.assertEqual(set(re.findall(r"\b[A-Z]\w+", raises)), wanted)

@@ -1,30 +1,28 @@
 //! The calls of the library, as `bindings/c/dcel.h` declares them, and the one place with `unsafe`.
+//! `tools/bind` makes `declarations` and `calls` of that header.
 //!
 //! Elements are numbers here, and what the mesh keeps of their data are keys. All that the library
 //! leaves to its caller holds by types: a [`Mesh`] is made and freed once, nothing else writes to
 //! it or copies it, no two calls work on it at a time, and slices are live and apart from each
 //! other.
 
+#[rustfmt::skip]
 mod calls;
+#[rustfmt::skip]
 mod declarations;
-mod lists;
 
 use crate::handles::{
     FixedDirectedEdgeHandle, FixedFaceHandle, FixedUndirectedEdgeHandle, FixedVertexHandle,
     InnerTag, PossiblyOuterTag,
 };
 use crate::refusal::Refusal;
+#[cfg(test)]
+pub(crate) use declarations::STATUS_NAMES;
 use declarations::*;
+pub(crate) use declarations::{Fault, Legalized, NO_LINK, Opened, Removed};
+pub(crate) use declarations::{ended, fault_kind, removal_state, status};
 use std::cell::UnsafeCell;
-use std::ffi::c_void;
 use std::ptr;
-
-/// C's `dcel_mesh`: a mesh, or none.
-#[repr(C)]
-struct RawMesh {
-    at: *mut c_void,
-    is_open: bool,
-}
 
 /// The links of a half edge: C's `dcel_half_edge`.
 ///
@@ -55,56 +53,6 @@ impl HalfEdgeEntry {
     };
 }
 
-/// A vertex that was taken out: C's `dcel_removed`.
-#[repr(C)]
-#[derive(Clone, Copy, Default)]
-pub(crate) struct Removed {
-    pub(crate) datum: u64,
-    pub(crate) moved: u64,
-}
-
-/// A removal that was opened: C's `dcel_opened`.
-#[repr(C)]
-#[derive(Clone, Copy, Default)]
-pub(crate) struct Opened {
-    pub(crate) edges: u64,
-    pub(crate) faces: u64,
-    pub(crate) new_edges: u64,
-    pub(crate) smallest_new_edge: u64,
-}
-
-/// How a legalization ended: C's `dcel_legalized`.
-#[repr(C)]
-#[derive(Clone, Copy, Default)]
-pub(crate) struct Legalized {
-    pub(crate) flips: u64,
-    pub(crate) ended: u32,
-}
-
-/// What is wrong with links or faces: C's `dcel_fault`.
-#[repr(C)]
-#[derive(Clone, Copy, Default)]
-pub(crate) struct Fault {
-    pub(crate) kind: u32,
-    pub(crate) number: u64,
-    pub(crate) other: u64,
-    pub(crate) from: u64,
-    pub(crate) to: u64,
-}
-
-/// What stands where there is no element.
-const NONE: u64 = u64::MAX;
-
-/// What stands for each link of a half edge that isn't live.
-pub(crate) const NO_LINK: u32 = u32::MAX;
-
-/// The status of a call that tells a fault.
-const FAULTY: u32 = 23;
-
-/// With it what uses the crate is linked with no library of another version than the crate's.
-#[used]
-static VERSION_WANTED: extern "C" fn() -> u32 = dcel_version_0_2_0;
-
 /// A mesh of the library, open from its making to its end.
 pub(crate) struct Mesh(UnsafeCell<RawMesh>);
 
@@ -124,6 +72,24 @@ impl Mesh {
         let mut mesh = Self::none();
         Refusal::of(self.read(|from| dcel_clone(from, mesh.0.get_mut())))?;
         Ok(mesh)
+    }
+
+    /// Makes the mesh of what is given. The error is a fault, or None if there was no memory.
+    fn given(make: impl FnOnce(&mut RawMesh, &mut Fault) -> u32) -> Result<Self, Option<Fault>> {
+        let (mut mesh, mut fault) = (Self::none(), Fault::default());
+        match make(mesh.0.get_mut(), &mut fault) {
+            status::DONE => Ok(mesh),
+            status::FAULTY => Err(Some(fault)),
+            _ => Err(None),
+        }
+    }
+
+    /// Returns the links of all half edges, each at its number.
+    pub(crate) fn half_edges(&self) -> Vec<HalfEdgeEntry> {
+        let mut half_edges = vec![HalfEdgeEntry::NONE; self.num_directed_edges()];
+        let needed = self.directed_edges(&mut half_edges);
+        debug_assert_eq!(needed, Ok(half_edges.len() as u64));
+        half_edges
     }
 
     fn none() -> Self {
@@ -147,6 +113,45 @@ impl Mesh {
     fn edit(&mut self, call: impl FnOnce(&mut RawMesh) -> u32) -> Result<(), Refusal> {
         Refusal::of(call(self.0.get_mut()))
     }
+}
+
+/// Makes methods that read and write the keys of a kind of elements. Reading one gives None, and
+/// writing one does nothing, if there is no such element.
+macro_rules! keys {
+    ($($read:ident = $data:ident, $write:ident = $update:ident;)*) => {
+        impl Mesh {$(
+            #[inline]
+            pub(crate) fn $read(&self, number: u32) -> Option<u64> {
+                self.$data(number).ok()
+            }
+
+            #[inline]
+            pub(crate) fn $write(&mut self, number: u32, key: u64) {
+                let written = self.$update(number, key);
+                debug_assert!(written.is_ok());
+            }
+        )*}
+    };
+}
+
+keys! {
+    vertex_key = vertex_data, set_vertex_key = update_vertex;
+    directed_edge_key = directed_edge_data, set_directed_edge_key = update_directed_edge;
+    undirected_edge_key = undirected_edge_data, set_undirected_edge_key = update_undirected_edge;
+    face_key = face_data, set_face_key = update_face;
+}
+
+impl Removed {
+    /// Returns the old number of the vertex that was moved into the place, if one was.
+    pub(crate) fn moved(&self) -> Option<u32> {
+        found(self.moved)
+    }
+}
+
+/// Returns the number that a call has found, if it has found one.
+#[inline]
+fn found(number: u64) -> Option<u32> {
+    (number != NONE).then_some(number as u32)
 }
 
 impl Drop for Mesh {

@@ -1,11 +1,12 @@
 //! Why a call was refused.
 
+use crate::ffi::status;
 use std::error::Error;
 use std::fmt;
 
-/// Makes the refusals from their numbers and what they say.
+/// Makes the refusals from their statuses and what they say.
 macro_rules! refusals {
-    ($($name:ident = $number:literal, $says:literal;)*) => {
+    ($($name:ident = $number:ident, $says:literal;)*) => {
         /// Why a call was refused. It has changed nothing.
         ///
         /// If several reasons apply, this is the one with the least number; only
@@ -24,7 +25,10 @@ macro_rules! refusals {
         #[derive(Clone, Copy, PartialEq, Eq, PartialOrd, Ord, Hash, Debug)]
         #[repr(u8)]
         pub enum Refusal {
-            $(#[doc = concat!("The call was refused because ", $says, ".")] $name = $number,)*
+            $(
+                #[doc = concat!("The call was refused because ", $says, ".")]
+                $name = status::$number as u8,
+            )*
         }
 
         impl Refusal {
@@ -60,26 +64,26 @@ macro_rules! refusals {
 }
 
 refusals! {
-    NoSuchVertex = 1, "a vertex's number is out of range";
-    NoSuchEdge = 2, "an edge's number is out of range";
-    NoSuchFace = 3, "a face's number is out of range, or an inner face was asked for";
-    RemovalOpen = 4, "a removal is open";
-    NoRemoval = 5, "no removal is open that is still to be cleaned up";
-    GivenUp = 6, "an element isn't live";
-    SameVertex = 7, "two vertices are one";
-    VertexInUse = 8, "a vertex has an edge";
-    EdgesStand = 9, "the mesh has an edge";
-    NotLineEnd = 10, "the end of the line hasn't exactly one out edge";
-    NotBridge = 11, "the halves of the edge lie on two faces";
-    NotOuter = 12, "the half edge isn't on the outer face";
-    NotTriangle = 13, "a face that must have three half edges doesn't";
-    WouldLoop = 14, "an edge would join a vertex to itself";
-    BadRing = 15, "the half edges aren't the ring that was asked for";
-    BadStrip = 16, "the half edges aren't the strip of a vertex";
-    WrongLists = 17, "the lists aren't those of the open removal";
-    NotPath = 18, "the mesh is neither one vertex nor a path";
-    NoRoom = 19, "a count would pass its limit";
-    OutOfMemory = 20, "there was no memory";
+    NoSuchVertex = NO_SUCH_VERTEX, "a vertex's number is out of range";
+    NoSuchEdge = NO_SUCH_EDGE, "an edge's number is out of range";
+    NoSuchFace = NO_SUCH_FACE, "a face's number is out of range, or an inner face was asked for";
+    RemovalOpen = REMOVAL_OPEN, "a removal is open";
+    NoRemoval = NO_REMOVAL, "no removal is open that is still to be cleaned up";
+    GivenUp = GIVEN_UP, "an element isn't live";
+    SameVertex = SAME_VERTEX, "two vertices are one";
+    VertexInUse = VERTEX_IN_USE, "a vertex has an edge";
+    EdgesStand = EDGES_STAND, "the mesh has an edge";
+    NotLineEnd = NOT_LINE_END, "the end of the line hasn't exactly one out edge";
+    NotBridge = NOT_BRIDGE, "the halves of the edge lie on two faces";
+    NotOuter = NOT_OUTER, "the half edge isn't on the outer face";
+    NotTriangle = NOT_TRIANGLE, "a face that must have three half edges doesn't";
+    WouldLoop = WOULD_LOOP, "an edge would join a vertex to itself";
+    BadRing = BAD_RING, "the half edges aren't the ring that was asked for";
+    BadStrip = BAD_STRIP, "the half edges aren't the strip of a vertex";
+    WrongLists = WRONG_LISTS, "the lists aren't those of the open removal";
+    NotPath = NOT_PATH, "the mesh is neither one vertex nor a path";
+    NoRoom = NO_ROOM, "a count would pass its limit";
+    OutOfMemory = OUT_OF_MEMORY, "there was no memory";
 }
 
 impl Refusal {
@@ -140,5 +144,17 @@ impl<T: fmt::Debug> Error for Refused<T> {}
 impl<T> From<Refused<T>> for Refusal {
     fn from(refused: Refused<T>) -> Self {
         refused.why
+    }
+}
+
+#[cfg(test)]
+mod tests {
+    use super::Refusal;
+    use crate::ffi::{STATUS_NAMES, status};
+
+    #[test]
+    fn refusals_are_the_statuses_up_to_out_of_memory() {
+        let names: Vec<_> = Refusal::ALL.iter().map(|refusal| refusal.name()).collect();
+        assert_eq!(names, STATUS_NAMES[1..=status::OUT_OF_MEMORY as usize]);
     }
 }

@@ -1,7 +1,9 @@
 //! Values under keys, which the mesh keeps as the data of its elements.
 
+use crate::refusal::Refusal;
+use std::collections::TryReserveError;
+
 /// Values, each under a key above 0.
-#[derive(Clone)]
 pub(crate) struct Slab<T> {
     places: Vec<Option<T>>,
     free: Vec<usize>,
@@ -19,8 +21,36 @@ impl<T> Slab<T> {
         self.places.len() == self.free.len()
     }
 
-    pub(crate) fn reserve(&mut self, more: usize) {
-        self.places.reserve(more.saturating_sub(self.free.len()));
+    /// Makes room for that many more values.
+    pub(crate) fn try_reserve(&mut self, more: usize) -> Result<(), Refusal> {
+        let more = more.saturating_sub(self.free.len());
+        self.places.try_reserve(more).map_err(no_memory)
+    }
+
+    /// Makes room in one without values for so many, and returns the keys that these will have.
+    pub(crate) fn try_keys(&mut self, count: usize) -> Result<Vec<u64>, Refusal> {
+        debug_assert!(self.places.is_empty());
+        self.try_reserve(count)?;
+        let mut keys = Vec::new();
+        keys.try_reserve_exact(count).map_err(no_memory)?;
+        keys.extend(1..=count as u64);
+        Ok(keys)
+    }
+
+    /// Takes all values out of a list, in their order.
+    pub(crate) fn insert_all(&mut self, values: &mut Vec<T>) {
+        for value in values.drain(..) {
+            self.insert(value);
+        }
+    }
+
+    /// Takes a value in, and returns its key, or the value if there is no memory for it.
+    #[inline]
+    pub(crate) fn try_insert(&mut self, value: T) -> Result<u64, T> {
+        match self.try_reserve(1) {
+            Ok(()) => Ok(self.insert(value)),
+            Err(_) => Err(value),
+        }
     }
 
     /// Takes a value in, and returns its key.
@@ -33,11 +63,17 @@ impl<T> Slab<T> {
         place as u64 + 1
     }
 
-    /// Takes the value of a key out, after which the key is free.
+    /// Takes the value of a key out, after which the key is free. It asks for no memory if the key
+    /// is the last that was given, and still the greatest.
     pub(crate) fn remove(&mut self, key: u64) -> T {
         let place = place_of(key);
-        let value = self.places[place].take().expect(FILLED);
-        self.free.push(place);
+        let filled = self.places.get_mut(place).and_then(Option::take);
+        let value = filled.expect(FILLED);
+        if place + 1 == self.places.len() {
+            self.places.pop();
+        } else {
+            self.free.push(place);
+        }
         value
     }
 
@@ -52,6 +88,28 @@ impl<T> Slab<T> {
     }
 }
 
+impl<T: Clone> Slab<T> {
+    /// Clones all values, under the same keys.
+    pub(crate) fn try_clone(&self) -> Result<Self, Refusal> {
+        Ok(Self {
+            places: try_cloned(&self.places)?,
+            free: try_cloned(&self.free)?,
+        })
+    }
+}
+
+fn try_cloned<T: Clone>(items: &[T]) -> Result<Vec<T>, Refusal> {
+    let mut clones = Vec::new();
+    clones.try_reserve_exact(items.len()).map_err(no_memory)?;
+    clones.extend_from_slice(items);
+    Ok(clones)
+}
+
+/// Tells that a list found no memory, or would have no room in all memory.
+pub(crate) fn no_memory(_: TryReserveError) -> Refusal {
+    Refusal::OutOfMemory
+}
+
 const FILLED: &str = "each key of the mesh has a value";
 
 #[inline]
@@ -60,7 +118,6 @@ fn place_of(key: u64) -> usize {
 }
 
 /// Values of which those that were never written are one default value, under key 0.
-#[derive(Clone)]
 pub(crate) struct Values<T> {
     written: Slab<T>,
     default: T,
@@ -80,6 +137,16 @@ impl<T: Default> Default for Values<T> {
 impl<T> Values<T> {
     pub(crate) fn is_empty(&self) -> bool {
         self.written.is_empty()
+    }
+
+    /// Makes room in one without values for so many, and returns the keys that these will have.
+    pub(crate) fn try_keys(&mut self, count: usize) -> Result<Vec<u64>, Refusal> {
+        self.written.try_keys(count)
+    }
+
+    /// Takes all values out of a list, in their order.
+    pub(crate) fn insert_all(&mut self, values: &mut Vec<T>) {
+        self.written.insert_all(values);
     }
 
     /// Takes a value in, and returns its key.
@@ -125,6 +192,17 @@ impl<T> Values<T> {
     /// Takes all written values out.
     pub(crate) fn take_all(&mut self) -> Slab<T> {
         std::mem::replace(&mut self.written, Slab::new())
+    }
+}
+
+impl<T: Clone> Values<T> {
+    /// Clones all values, under the same keys.
+    pub(crate) fn try_clone(&self) -> Result<Self, Refusal> {
+        Ok(Self {
+            written: self.written.try_clone()?,
+            default: self.default.clone(),
+            make: self.make,
+        })
     }
 }
 
@@ -181,7 +259,7 @@ mod tests {
         let mut values = Values::<String>::default();
         let keys = [values.insert("a".into()), values.insert("b".into())];
         values.remove_all(vec![keys[0]]);
-        let mut clone = values.clone();
+        let mut clone = values.try_clone().unwrap();
         assert_eq!(clone.get(keys[1]), "b");
         clone.get_mut(keys[1]).push('c');
         assert_eq!(values.get(keys[1]), "b");

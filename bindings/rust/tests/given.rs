@@ -118,10 +118,9 @@ fn faulty_faces() {
         refused(&[&[0, 1, 2], &[0, 1, 3]]),
         FacesError::SideTwice(0, 1, 0, 1)
     );
-    assert_eq!(
-        refused(&[&[0, 1, 2], &[2, 1, 0]]),
-        FacesError::Links(LinksFault::UnusedFace(0))
-    );
+    let closed = refused(&[&[0, 1, 2], &[2, 1, 0]]);
+    assert_eq!(closed, FacesError::Links(LinksFault::UnusedFace(0)));
+    assert!(closed.to_string().ends_with("leave one face out"));
 }
 
 #[test]

@@ -13,10 +13,10 @@ use Rattle.dcel_regions.specs.declared.mark.Mark.{Mark}
 use Rattle.dcel_regions.specs.declared.mark.Mark.TheVariants.{Constraint}
 use Rattle.dcel_constrained.specs.Constraints.{IsFreeWay, KeepsMarked}
 use Rattle.dcel_constrained.specs.Laying.{IsLaid, MarksBetween}
-use Rattle.dcel_constrained.specs.Meeting.{IsJoined}
+use Rattle.dcel_constrained.specs.Meeting.{IsJoinedAs}
 use Rattle.dcel_constrained.specs.Soundness.{IsConstrained}
-use Rattle.dcel_constrained.specs.declared.joining.Joined.{Joined}
-use Rattle.dcel_constrained.specs.declared.joining.Joined.TheVariants.{Edge}
+use Rattle.dcel_constrained.specs.declared.segments.join.Joined.{Joined}
+use Rattle.dcel_constrained.specs.declared.segments.join.Joined.TheVariants.{Edge}
 use Rattle.dcel_constrained.proofs.Free.{end_kept, free_keeps, free_kept, joined_free, kept_unmarked, start_kept}
 use Rattle.dcel_constrained.proofs.Marking.{marked_again, marked_below, marked_or_not}
 use Rattle.dcel_constrained.proofs.PartsLaid.{lays_nothing}
@@ -46,12 +46,12 @@ module _ {DE F : Type 0} where
     pub between : MarksBetween old new v w
 
   pub laid_already : (old made marked : Mesh Point DE Mark F) (before due : List ℕ) (v w : ℕ) (joined : Joined) (is_new : Bool) → IsMesh old → IsConstrained old before
-      → IsFreeWay old v w → IsJoined old made v w joined → joined ≡ Edge
+      → IsFreeWay old v w → IsJoinedAs old made v w joined → joined ≡ Edge
       → ((h : ℕ) → Leads old.shape v w h → (made ≡ old) × (due ≡ before))
       → (h : ℕ) × Leads made.shape v w h × (marked ≡ undirected_edge_updated made (h / 2) Constraint) × (IsTrue is_new ↔ (¬ IsMarked made (h / 2)))
       → (IsTrue is_new → ⊥) → IsLaidAlready old marked before due v w is_new
   laid_already old made marked before due v w joined is_new mesh sound free made_so is again (h, leads, edit, told) not_new =
-      let flips = (subst (λ (j : Joined). IsJoined old made v w j) is made_so).1 in
+      let flips = (subst (λ (j : Joined). IsJoinedAs old made v w j) is made_so).1 in
       elim (marked_or_not made (h / 2)) [
         | inl so ↦
             let led = has_led old made v w mesh before sound free flips h leads so in

@@ -15,7 +15,7 @@ use Rattle.dcel_plane.proofs.covering.Inside.{apart_end, apart_start, on_end, on
 use Rattle.dcel_plane.proofs.covering.Products.{below_times, factor_positive, times_below}
 use Rattle.dcel_plane.specs.segments.Segments.{Crosses, LeadsAlong, orient2d_by}
 use Rattle.dcel_constrained.specs.Constraints.{LiesOnSegment}
-use Rattle.dcel_constrained.specs.Meeting.{LiesBetween}
+use Rattle.dcel_constrained.specs.Meeting.{LiesBetweenEnds}
 use Rattle.dcel_constrained.proofs.Widths.{sum_apart}
 
 -- the square of the distance
@@ -26,7 +26,7 @@ gap a b = dot a a b
 abbrev pub span : (ℕ → Point) → ℕ → ℕ → ℕ
 span at v w = unsigned_abs (gap (at v) (at w))
 
-pub span_within : (at : ℕ → Point) (v w : ℕ) → span at v w ≤ 2 ^ 63
+pub span_within : (at : ℕ → Point) (v w : ℕ) → span at v w ≤ 2 ^ 109
 span_within at v w = sum_apart (at v) (at v) (at w)
 
 -- a factor of nothing
@@ -199,7 +199,7 @@ shorter v w far x y a b ex ey ha hb more = abs_less x y more (smaller (dot w w v
         by_lt_z x y (λ is. is)
         (λ not. absurd (let t = times n (x -ℤ y) (omega (arith, ordered, hn)) (omega (arith, ordered, not)) in let e = mul_sub n x y in omega (arith, ordered, t, e, less)))
 
-module _ (at : ℕ → Point) (v w y : ℕ) (lies : LiesBetween at v w y) where
+module _ (at : ℕ → Point) (v w y : ℕ) (lies : LiesBetweenEnds at v w y) where
   abbrev whole : ℤ
   whole = dot (at w) (at w) (at v)
 
@@ -226,7 +226,7 @@ module _ (at : ℕ → Point) (v w y : ℕ) (lies : LiesBetween at v w y) where
       (let far = subst (λ (i : ℕ). pos 0 <ℤ dot (at w) (at w) (at i)) is lies_far in let z = gap_none (at w) in omega (arith, ordered, far, z))
 
   -- seen from the other end
-  pub lies_turned : LiesBetween at w v y
+  pub lies_turned : LiesBetweenEnds at w v y
   lies_turned = record {
     on = (let e = orient2d-first_swapped (at v) (at w) (at y) in let z = lies.on in omega (arith, ordered, e, z));
     inside = subst (λ (z : ℤ). z <ℤ pos 0) (apart_turned (at v) (at w) (at y)) lies.inside;
@@ -382,8 +382,8 @@ is_on at v w a far (inr (inr lies)) =
 
 module _ (at : ℕ → Point) (v w : ℕ) where
   -- what lies between two vertices of the segment
-  module _ (a b z : ℕ) (lies : LiesBetween at a b z) where
-    within : pos 0 <ℤ dot (at w) (at w) (at v) → LiesOnSegment at v w a → LiesOnSegment at v w b → LiesBetween at v w z
+  module _ (a b z : ℕ) (lies : LiesBetweenEnds at a b z) where
+    within : pos 0 <ℤ dot (at w) (at w) (at v) → LiesOnSegment at v w a → LiesOnSegment at v w b → LiesBetweenEnds at v w z
     within far on_a on_b =
         let pa = is_on at v w a far on_a in
         let pb = is_on at v w b far on_b in
@@ -410,29 +410,29 @@ module _ (at : ℕ → Point) (v w : ℕ) where
           ];
         }
 
-    pub lies_part : LiesOnSegment at v w a → LiesOnSegment at v w b → LiesBetween at v w z
+    pub lies_part : LiesOnSegment at v w a → LiesOnSegment at v w b → LiesBetweenEnds at v w z
     lies_part (inr (inr on_a)) on_b = within (lies_far at v w a on_a) (inr (inr on_a)) on_b
     lies_part (inl is) (inr (inr on_b)) = within (lies_far at v w b on_b) (inl is) (inr (inr on_b))
     lies_part (inr (inl is)) (inr (inr on_b)) = within (lies_far at v w b on_b) (inr (inl is)) (inr (inr on_b))
     lies_part (inl is) (inl js) = absurd (lies_differ at a b z lies (is ∙ sym js))
     lies_part (inr (inl is)) (inr (inl js)) = absurd (lies_differ at a b z lies (is ∙ sym js))
-    lies_part (inl is) (inr (inl js)) = subst (λ (i : ℕ). LiesBetween at i w z) is (subst (λ (i : ℕ). LiesBetween at a i z) js lies)
+    lies_part (inl is) (inr (inl js)) = subst (λ (i : ℕ). LiesBetweenEnds at i w z) is (subst (λ (i : ℕ). LiesBetweenEnds at a i z) js lies)
     lies_part (inr (inl is)) (inl js) =
-        lies_turned at w v z (subst (λ (i : ℕ). LiesBetween at i v z) is (subst (λ (i : ℕ). LiesBetween at a i z) js lies))
+        lies_turned at w v z (subst (λ (i : ℕ). LiesBetweenEnds at i v z) is (subst (λ (i : ℕ). LiesBetweenEnds at a i z) js lies))
 
   pub on_part : (a b z : ℕ) → LiesOnSegment at v w a → LiesOnSegment at v w b → LiesOnSegment at a b z → LiesOnSegment at v w z
   on_part a b z on_a on_b (inl is) = subst (λ (i : ℕ). LiesOnSegment at v w i) (sym is) on_a
   on_part a b z on_a on_b (inr (inl is)) = subst (λ (i : ℕ). LiesOnSegment at v w i) (sym is) on_b
   on_part a b z on_a on_b (inr (inr lies)) = inr (inr (lies_part a b z lies on_a on_b))
 
-  pub lies_later : (y z : ℕ) → LiesBetween at v w y → LiesBetween at y w z → LiesBetween at v w z
+  pub lies_later : (y z : ℕ) → LiesBetweenEnds at v w y → LiesBetweenEnds at y w z → LiesBetweenEnds at v w z
   lies_later y z first second = lies_part y w z second (inr (inr first)) (inr (inl refl))
 
-  pub lies_sooner : (y z : ℕ) → LiesBetween at v w y → LiesBetween at v y z → LiesBetween at v w z
+  pub lies_sooner : (y z : ℕ) → LiesBetweenEnds at v w y → LiesBetweenEnds at v y z → LiesBetweenEnds at v w z
   lies_sooner y z first second = lies_part v y z second (inl refl) (inr (inr first))
 
   -- the nearer one lies between the start and the other one
-  pub lies_rest : (y z : ℕ) → LiesBetween at v w y → LiesBetween at y w z → LiesBetween at v z y
+  pub lies_rest : (y z : ℕ) → LiesBetweenEnds at v w y → LiesBetweenEnds at y w z → LiesBetweenEnds at v z y
   lies_rest y z first second =
       let whole = lies_later y z first second in
       let far = lies_far at v w y first in
@@ -464,7 +464,7 @@ module _ (at : ℕ → Point) (v w : ℕ) where
   )
 
 -- and the other way round
-pub leads_to : (at : ℕ → Point) (s : Shape) (v w y h : ℕ) → IsLive s h → origin_of s h ≡ v → end_of s h ≡ y → (y ≡ w) ⊎ LiesBetween at v w y → LeadsAlong at s v w h
+pub leads_to : (at : ℕ → Point) (s : Shape) (v w y h : ℕ) → IsLive s h → origin_of s h ≡ v → end_of s h ≡ y → (y ≡ w) ⊎ LiesBetweenEnds at v w y → LeadsAlong at s v w h
 leads_to at s v w y h live from to ahead = record {
   live = live;
   from = from;
@@ -478,10 +478,10 @@ leads_to at s v w y h live from to ahead = record {
   ];
 }
 
-pub leads_ahead : (at : ℕ → Point) (s : Shape) (v w y h : ℕ) → LeadsAlong at s v w h → end_of s h ≡ y → (y ≡ w) ⊎ LiesBetween at v w y
+pub leads_ahead : (at : ℕ → Point) (s : Shape) (v w y h : ℕ) → LeadsAlong at s v w h → end_of s h ≡ y → (y ≡ w) ⊎ LiesBetweenEnds at v w y
 leads_ahead at s v w y h leads to = elim leads.ahead [
   | inl is ↦ inl (sym to ∙ is)
-  | inr less ↦ inr (subst (λ (i : ℕ). LiesBetween at v w i) to (record { on = leads.on; inside = less }))
+  | inr less ↦ inr (subst (λ (i : ℕ). LiesBetweenEnds at v w i) to (record { on = leads.on; inside = less }))
 ]
 
 -- from its end to its end a segment is shortest

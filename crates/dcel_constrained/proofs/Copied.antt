@@ -11,7 +11,8 @@ use Rattle.dcel_plane.specs.hull.Straight.{IsStraight}
 use Rattle.dcel_planar.specs.Growing.{IsJoined, IsTriangulation}
 use Rattle.dcel_regions.specs.declared.mark.Mark.{Mark}
 use Rattle.dcel_regions.specs.declared.mark.Mark.TheVariants.{Constraint, Free}
-use Rattle.dcel_constrained.specs.Soundness.{IsConstrained, IsOutlined}
+use Rattle.dcel_planar.specs.Leaving.{IsOutlined}
+use Rattle.dcel_constrained.specs.Soundness.{IsConstrained}
 
 -- where each mark is a free one
 pub none_marked : {X : Type 0} (R : X → Mark → Type 0) → ((x : X) (k : Mark) → R x k → k ≡ Free) → (xs : List X) (marks : List Mark) → AllZip R xs marks

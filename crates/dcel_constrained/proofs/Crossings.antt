@@ -8,7 +8,7 @@ use Rattle.dcel_predicates.proofs.Points.{orient2d-turned}
 use Rattle.dcel_predicates.proofs.Ring.{Term, by_terms, minus, plus, times as by}
 use Rattle.dcel_predicates.proofs.Signs.{both_negative, ordered, square, times, times_negative, times_positive}
 use Rattle.dcel_predicates.proofs.Terms.{orient, orient_in, spot}
-use Rattle.dcel_plane.specs.covering.Places.{AreDisjoint, IsIn, IsInside, Place, orient_at}
+use Rattle.dcel_plane.specs.covering.Places.{AreDisjoint, IsIn, IsStrictlyIn, Place, orient_at}
 use Rattle.dcel_plane.proofs.covering.Along.{none_second}
 use Rattle.dcel_plane.proofs.covering.Inside.{as_place, closed_disjoint, nudged, nudged-is, on_end, on_start, place_of}
 use Rattle.dcel_plane.proofs.covering.Products.{below_times, outweighs}
@@ -133,7 +133,7 @@ module _ (v y c o e x : Point) (right : orient2d_of v y o <ℤ pos 0) (left : po
   seen_e : pos 0 <ℤ orient2d_of x o e
   seen_e = subst (λ z. pos 0 <ℤ z) (orient2d-turned x o e) turn_too
 
-  inside : IsInside v y c beside
+  inside : IsStrictlyIn v y c beside
   inside = (
     (let a = beside_is v y in
         let b = by_edge v y in

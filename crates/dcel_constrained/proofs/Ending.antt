@@ -14,9 +14,9 @@ use Rattle.dcel_plane.specs.covering.Covering.{dot}
 use Rattle.dcel_plane.proofs.covering.Inside.{apart_end}
 use Rattle.dcel_plane.specs.segments.Segments.{Crosses, IsChannel, LeadsAlong, TurnsInto, orient2d_by}
 use Rattle.dcel_plane.proofs.segments.Channels.{all_cross}
-use Rattle.dcel_constrained.specs.Meeting.{HasCome, IsJoined, ListsStill}
-use Rattle.dcel_constrained.specs.declared.joining.Joined.{Joined}
-use Rattle.dcel_constrained.specs.declared.joining.Joined.TheVariants.{Between, Edge}
+use Rattle.dcel_constrained.specs.Meeting.{HasCome, IsJoinedAs, ListsStill}
+use Rattle.dcel_constrained.specs.declared.segments.join.Joined.{Joined}
+use Rattle.dcel_constrained.specs.declared.segments.join.Joined.TheVariants.{Between, Edge}
 
 -- more edges that are due
 pub lists_still : (at : ℕ → Point) (s : Shape) (before after lacking : List ℕ) → ListsStill before after → ListsCircled at s (before ++ lacking) → ListsCircled at s (after ++ lacking)
@@ -38,13 +38,13 @@ each_crosses at s v w list channel = all_cross at s v w channel.first channel.la
 
 -- an edge from v to y along the segment
 pub along_joins : {DE UE F : Type 0} (m : Mesh Point DE UE F) → IsMesh m → (v w y : ℕ) (joined : Joined) → (k : ℕ) × LeadsAlong (point_at m) m.shape v w k × (end_of m.shape k ≡ y)
-    → (y ≡ w → joined ≡ Edge) → (y ≢ w → joined ≡ Between y) → IsJoined m m v w joined
+    → (y ≡ w → joined ≡ Edge) → (y ≢ w → joined ≡ Between y) → IsJoinedAs m m v w joined
 along_joins {DE} {UE} {F} m mesh v w y joined way edge between = elim (cases_eq y w) [
   | inl is ↦
-      subst (λ (j : Joined). IsJoined m m v w j) (sym (edge is))
+      subst (λ (j : Joined). IsJoinedAs m m v w j) (sym (edge is))
       ((way.0, record { live = way.1.live; start = way.1.from; end = way.2 ∙ is }), ([], still, λ k there. absurd (omega (arith, there))))
   | inr not ↦
-      subst (λ (j : Joined). IsJoined m m v w j) (sym (between not)) (
+      subst (λ (j : Joined). IsJoinedAs m m v w j) (sym (between not)) (
         refl,
         subst (λ (i : ℕ). i < m.shape.vertices) way.2 ((map-sound mesh.sound).below_vertices (rev way.0) (rev_live (map_of m.shape) way.0 way.1.live)),
         record {

@@ -17,7 +17,7 @@ use Rattle.dcel_maps.proofs.words.EachSet.{length-two_set, other-two_set}
 use Rattle.dcel_plane.specs.Plane.{IsCircled, IsInner, TrianglesTurnLeft, TurnsLeft, origin_point, point_at}
 use Rattle.dcel_plane.proofs.edits.Flipped.{circled_can_flip, from_end, from_start, new_corners, origin_after, origin_same, origin_t_after}
 use Rattle.dcel_plane.specs.covering.Covering.{dot}
-use Rattle.dcel_plane.specs.removal.Wheels.{CanTurn}
+use Rattle.dcel_plane.specs.removal.Wheels.{CanFlipInPlane}
 use Rattle.dcel_plane.specs.segments.Segments.{CanTurnEach, Crosses, TriangulatesItsHull, LeadsAlong, TurnsInto, flipped_each, orient2d_by}
 use Rattle.dcel_plane.proofs.segments.Becoming.{turned_planar}
 use Rattle.dcel_plane.proofs.segments.Covered.{each_planar}
@@ -29,7 +29,7 @@ use Rattle.dcel_constrained.specs.Constraints.{IsFreeWay, IsMarkedWay, KeepsMark
 
 -- an edge whose circle test is positive can be flipped so that both triangles go round counterclockwise again
 pub circled_can_turn : {V DE UE F : Type 0} (at : ℕ → Point) (m : Mesh V DE UE F) (u : ℕ) → IsMesh m → TrianglesTurnLeft at m.shape → IsInner m.shape u → IsCircled at m.shape u
-    → CanTurn at m.shape u
+    → CanFlipInPlane at m.shape u
 circled_can_turn at m u mesh plane inner circled =
     let can = circled_can_flip m mesh u at inner circled in
     let new = new_corners m mesh u can at plane inner.inner inner.inner_facing circled in
@@ -45,7 +45,7 @@ can-after at m [] b first second = second
 can-after at m (u ∷ a) b first second = (first.0, can-after at (edge_flipped m u) a b first.1 second)
 
 -- where the halves of an edge start that isn't flipped
-even_stays : {V DE UE F : Type 0} (m : Mesh V DE UE F) (us : List ℕ) (u : ℕ) → count_of u us ≡ 0 → origin_of (flipped_each m us).shape (2 * u) ≡ origin_of m.shape (2 * u)
+pub even_stays : {V DE UE F : Type 0} (m : Mesh V DE UE F) (us : List ℕ) (u : ℕ) → count_of u us ≡ 0 → origin_of (flipped_each m us).shape (2 * u) ≡ origin_of m.shape (2 * u)
 even_stays m [] u off = refl
 even_stays m (x ∷ us) u off = elim (cases_eq u x) [
   | inl is ↦ absurd (let c = count-same x us in let o = subst (λ (k : ℕ). count_of k (x ∷ us) ≡ 0) is off in omega (arith, c, o))
@@ -54,7 +54,7 @@ even_stays m (x ∷ us) u off = elim (cases_eq u x) [
       ∙ other-two_set m.shape.origins (2 * x) (2 * x + 1) _ _ 0 (2 * u) (λ is. not (omega (arith, is))) (λ is. omega (arith, is))
 ]
 
-odd_stays : {V DE UE F : Type 0} (m : Mesh V DE UE F) (us : List ℕ) (u : ℕ) → count_of u us ≡ 0
+pub odd_stays : {V DE UE F : Type 0} (m : Mesh V DE UE F) (us : List ℕ) (u : ℕ) → count_of u us ≡ 0
     → origin_of (flipped_each m us).shape (2 * u + 1) ≡ origin_of m.shape (2 * u + 1)
 odd_stays m [] u off = refl
 odd_stays m (x ∷ us) u off = elim (cases_eq u x) [
@@ -96,7 +96,7 @@ kept_live old new kept h live =
     (subst (λ (n : ℕ). is_live (gives_up_edge old.shape.removal) n (h / 2) ≡ true) (sym kept.edges) live)
 
 -- each vertex with an edge has one after a flip
-ends_stay : {V DE UE F : Type 0} (m : Mesh V DE UE F) → IsMesh m → (at : ℕ → Point) (u : ℕ) → CanTurn at m.shape u → (v i : ℕ) → IsLive m.shape i → origin_of m.shape i ≡ v
+ends_stay : {V DE UE F : Type 0} (m : Mesh V DE UE F) → IsMesh m → (at : ℕ → Point) (u : ℕ) → CanFlipInPlane at m.shape u → (v i : ℕ) → IsLive m.shape i → origin_of m.shape i ≡ v
     → (j : ℕ) × IsLive (edge_flipped m u).shape j × (origin_of (edge_flipped m u).shape j ≡ v)
 ends_stay m mesh at u turn v i live from =
     let ends = at_flip m u mesh turn.can in

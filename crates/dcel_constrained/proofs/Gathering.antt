@@ -18,7 +18,7 @@ use Rattle.dcel_plane.proofs.segments.Onward.{on_line}
 use Rattle.dcel_plane.proofs.segments.Walking.{Comes, comes_first, comes_left, comes_right, comes_to_end, few}
 use Rattle.dcel_plane.proofs.covering.Triangles.{of_face}
 use Rattle.dcel_constrained.specs.Meeting.{HasCome, IsMetAfter, ListsStill}
-use Rattle.dcel_constrained.specs.declared.walking.Met.TheVariants.{Side, Vertex}
+use Rattle.dcel_constrained.specs.declared.segments.walk.Met.TheVariants.{Side, Vertex}
 
 first_there : (x : ℕ) (r : List ℕ) → 0 < count_of x (x ∷ r)
 first_there x r = (let c = count-same x r in omega (arith, c))

@@ -17,7 +17,7 @@ use Rattle.dcel_regions.specs.Marked.{IsMarked}
 use Rattle.dcel_regions.specs.declared.mark.Mark.{Mark}
 use Rattle.dcel_constrained.specs.Constraints.{HasConstraint, IsFreeWay, IsMarkedWay, IsPartOf, KeepsMarked, LiesOnSegment, MarksOnly}
 use Rattle.dcel_constrained.specs.Laying.{IsLaid, MarksBetween}
-use Rattle.dcel_constrained.specs.Meeting.{LiesBetween}
+use Rattle.dcel_constrained.specs.Meeting.{LiesBetweenEnds}
 use Rattle.dcel_constrained.specs.Soundness.{MarksAnother}
 use Rattle.dcel_constrained.proofs.Between.{leads_to, on_part}
 use Rattle.dcel_constrained.proofs.Free.{crosses_as, end_kept, leads_as, start_kept}
@@ -115,7 +115,7 @@ module _ {DE F : Type 0} where
   laid_all old m v w at added laid is = (laid.list, path_ends m w v laid.list (subst (λ (i : ℕ). IsMarkedPath m w v i laid.list) is laid.path))
 
   module _ (old m new : Mesh Point DE Mark F) (v w at goal : ℕ) (added : Bool) (laid : IsLaidTo old m v w at added) (step : MarksBetween m new at goal)
-      (ahead : (goal ≡ w) ⊎ LiesBetween (point_at m) at w goal) where
+      (ahead : (goal ≡ w) ⊎ LiesBetweenEnds (point_at m) at w goal) where
     same_points : point_at new ≡ point_at m
     same_points = points_stay m new step.points
 
@@ -183,7 +183,7 @@ module _ {DE F : Type 0} where
       laid_further =
           let along : LeadsAlong (point_at new) new.shape at w part.half =
           leads_to (point_at new) new.shape at w goal part.half part.leads.live part.leads.start part.leads.end
-          (subst (λ (p : ℕ → Point). (goal ≡ w) ⊎ LiesBetween p at w goal) (sym same_points) ahead) in
+          (subst (λ (p : ℕ → Point). (goal ≡ w) ⊎ LiesBetweenEnds p at w goal) (sym same_points) ahead) in
           record {
             vertices = step.vertices ∙ laid.vertices;
             edges = edges_then;

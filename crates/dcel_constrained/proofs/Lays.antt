@@ -1,6 +1,7 @@
 -- The parts of a segment laid one after another: what holds before each, and that they come to an end.
 use Rattle.std.proofs.Common.{◌≡◌, ◌≢◌, ◌⊎◌, ◌↔◌, inl, inr, ℕ, ◌+◌, ◌*◌, ◌/◌, ◌^◌, ◌<◌, Bool, IsTrue, List, [], ◌∷◌, refl, sym, ◌∙◌, subst, pos, ◌<ℤ◌, arith}
 use Rattle.dcel_fixed.specs.HalfEdges.{rev}
+use Rattle.dcel_predicates.proofs.Points.{point_same}
 use Rattle.dcel_predicates.specs.declared.point.Point.{Point}
 use Rattle.dcel_predicates.specs.Determinants.{orient2d_of}
 use Rattle.dcel_predicates.proofs.Ring.{by_terms, num}
@@ -25,7 +26,7 @@ use Rattle.dcel_regions.specs.declared.mark.Mark.{Mark}
 use Rattle.dcel_regions.specs.declared.mark.Mark.TheVariants.{Constraint}
 use Rattle.dcel_constrained.specs.Constraints.{IsFreeWay}
 use Rattle.dcel_constrained.specs.Laying.{IsLaid, MarksBetween}
-use Rattle.dcel_constrained.specs.Meeting.{LiesBetween}
+use Rattle.dcel_constrained.specs.Meeting.{LiesBetweenEnds}
 use Rattle.dcel_constrained.specs.Soundness.{CanAdd, IsConstrained, MarksAnother}
 use Rattle.dcel_constrained.proofs.Between.{leads_ahead, lies_not_start, lies_sooner, shorter_end, shorter_later, shorter_sooner, span, span_within}
 use Rattle.dcel_constrained.proofs.Laid.{IsLaidTo, laid_further, rest_free}
@@ -37,18 +38,18 @@ no_turn a c = by_terms (a.x ∷ a.y ∷ c.x ∷ c.y ∷ []) (orient (spot 0) (sp
 
 -- how far it is to the end of a segment, and then to the end of its next part
 abbrev pub way_left : (ℕ → Point) → ℕ → ℕ → ℕ → ℕ
-way_left at v w goal = span at v w * 2 ^ 64 + span at v goal
+way_left at v w goal = span at v w * 2 ^ 110 + span at v goal
 
-pub sooner_left : (at : ℕ → Point) (v w goal y : ℕ) → LiesBetween at v goal y → way_left at v w y < way_left at v w goal
+pub sooner_left : (at : ℕ → Point) (v w goal y : ℕ) → LiesBetweenEnds at v goal y → way_left at v w y < way_left at v w goal
 sooner_left at v w goal y lies = (let less = shorter_sooner at v goal y lies in omega (arith, less))
 
 -- two vertices are apart
 pub are_apart : {DE UE F : Type 0} (m : Mesh Point DE UE F) → PointsAreSingle m → (v w : ℕ) → v < m.shape.vertices → w < m.shape.vertices → v ≢ w
     → pos 0 <ℤ dot (point_at m w) (point_at m w) (point_at m v)
 are_apart m single v w below_v below_w differ =
-    long (point_at m w) (point_at m v) (λ x y. differ (single v w below_v below_w (sym x) (sym y)))
+    long (point_at m w) (point_at m v) (λ x y. differ (single v w below_v below_w (point_same (point_at m v) (point_at m w) (sym x) (sym y))))
 
-pub nearer : (at : ℕ → Point) (v w y : ℕ) → pos 0 <ℤ dot (at w) (at w) (at v) → (y ≡ w) ⊎ LiesBetween at v w y → span at y w < span at v w
+pub nearer : (at : ℕ → Point) (v w y : ℕ) → pos 0 <ℤ dot (at w) (at w) (at v) → (y ≡ w) ⊎ LiesBetweenEnds at v w y → span at y w < span at v w
 nearer at v w y apart (inl is) = subst (λ (x : ℕ). span at x w < span at v w) (sym is) (shorter_end at v w apart)
 nearer at v w y apart (inr lies) = shorter_later at v w y lies
 
@@ -63,7 +64,7 @@ module _ {DE F : Type 0} where
       let zero = no_turn (point_at m w) (point_at m (origin_of m.shape h)) in
       omega (arith, ordered, right, zero)
 
-  pub free_ahead : (m : Mesh Point DE Mark F) (v w y : ℕ) → (y ≡ w) ⊎ LiesBetween (point_at m) v w y → IsFreeWay m v w → IsFreeWay m y w
+  pub free_ahead : (m : Mesh Point DE Mark F) (v w y : ℕ) → (y ≡ w) ⊎ LiesBetweenEnds (point_at m) v w y → IsFreeWay m v w → IsFreeWay m y w
   free_ahead m v w y (inl is) free = subst (λ (x : ℕ). IsFreeWay m x w) (sym is) (free_none m w)
   free_ahead m v w y (inr lies) free = free_later m v w y lies free
 
@@ -77,7 +78,7 @@ module _ {DE F : Type 0} where
     pub empty : crossed ≡ []
     pub free : IsFreeWay m at w
     pub below : goal < m.shape.vertices
-    pub ahead : (goal ≡ w) ⊎ LiesBetween (point_at m) at w goal
+    pub ahead : (goal ≡ w) ⊎ LiesBetweenEnds (point_at m) at w goal
 
   module _ (old m : Mesh Point DE Mark F) (v w at goal : ℕ) (due crossed : List ℕ) (added : Bool) (laying : IsLaying old m v w at goal due crossed added) (more : at ≢ w) where
     pub parts_differ : at ≢ goal
@@ -104,7 +105,7 @@ module _ {DE F : Type 0} where
     module _ (new : Mesh Point DE Mark F) (items nothing : List ℕ) (mesh : IsMesh new) (sound : IsConstrained new items) (whole : items ≡ []) (has : HasHull new)
         (empty : nothing ≡ []) where
       -- a vertex lies between
-      pub sooner : (y : ℕ) → new ≡ m → y < m.shape.vertices → LiesBetween (point_at m) at goal y → IsLaying old new v w at y items nothing added
+      pub sooner : (y : ℕ) → new ≡ m → y < m.shape.vertices → LiesBetweenEnds (point_at m) at goal y → IsLaying old new v w at y items nothing added
       sooner y same below lies = record {
         laid = subst (λ (k : Mesh Point DE Mark F). IsLaidTo old k v w at added) (sym same) laying.laid;
         mesh = mesh;
@@ -114,8 +115,8 @@ module _ {DE F : Type 0} where
         empty = empty;
         free = subst (λ (k : Mesh Point DE Mark F). IsFreeWay k at w) (sym same) laying.free;
         below = subst (λ (k : Mesh Point DE Mark F). y < k.shape.vertices) (sym same) below;
-        ahead = subst (λ (k : Mesh Point DE Mark F). (y ≡ w) ⊎ LiesBetween (point_at k) at w y) (sym same) (inr (elim laying.ahead [
-          | inl end ↦ subst (λ (x : ℕ). LiesBetween (point_at m) at x y) end lies
+        ahead = subst (λ (k : Mesh Point DE Mark F). (y ≡ w) ⊎ LiesBetweenEnds (point_at k) at w y) (sym same) (inr (elim laying.ahead [
+          | inl end ↦ subst (λ (x : ℕ). LiesBetweenEnds (point_at m) at x y) end lies
           | inr further ↦ lies_sooner (point_at m) at w goal y further lies
         ]));
       }

@@ -29,3 +29,4 @@ pub mod Copied
 pub mod Inserts
 pub mod Told
 pub mod Loose
+pub mod Sight

@@ -2,14 +2,12 @@
 use Rattle.std.proofs.Common.{◌≡◌, ◌∙◌, inl, inr, ℕ, ◌*◌, ◌+◌, true, List, [], ◌∷◌, Option, Some, None, refl, sym, ap, subst, arith}
 use Rattle.std.specs.List.{slice_get}
 use Rattle.std.specs.Option.{option_map}
-use Rattle.std.proofs.lemmas.Bool.{cases_eq, cases_lt}
+use Rattle.std.proofs.lemmas.Bool.{cases_lt}
 use Rattle.dcel_predicates.specs.declared.point.Point.{Point}
 use Rattle.dcel_legalize.specs.Flipping.{edges_flipped}
 use Rattle.dcel_maps.specs.edits.Flip.{edge_flipped}
 use Rattle.dcel_maps.specs.Shapes.{Mesh, origin_of}
 use Rattle.dcel_maps.specs.Words.{count_of}
-use Rattle.dcel_maps.proofs.words.Counts.{count-other, count-same}
-use Rattle.dcel_maps.proofs.words.EachSet.{other-two_set}
 use Rattle.dcel_planar.specs.Growing.{Keeps}
 use Rattle.dcel_planar.specs.Legalization.{HasToStay, ListsLoose, TurnsLoose}
 use Rattle.dcel_planar.proofs.Staying.{flips_data}
@@ -22,33 +20,13 @@ use Rattle.dcel_plane.specs.Plane.{point_at}
 use Rattle.dcel_plane.specs.segments.Segments.{CanTurnEach, TriangulatesItsHull, flipped_each}
 use Rattle.dcel_plane.proofs.segments.Becoming.{turned_planar}
 use Rattle.dcel_constrained.specs.Constraints.{ListsFree, TurnsFree}
-use Rattle.dcel_constrained.proofs.Free.{circled_can_turn}
+use Rattle.dcel_constrained.proofs.Free.{circled_can_turn, even_stays, odd_stays}
 use Rattle.dcel_constrained.specs.Splitting.{StaysMarked}
 
 of_map : (o : Option Mark) → option_map is_constraint o ≡ Some true → o ≡ Some Constraint
 of_map None is = absurd (cc)
 of_map (Some Constraint) is = refl
 of_map (Some Free) is = absurd (cc)
-
--- where the halves of an edge start that isn't turned
-even_stays : {V DE UE F : Type 0} (m : Mesh V DE UE F) (us : List ℕ) (u : ℕ) → count_of u us ≡ 0 → origin_of (edges_flipped m us).shape (2 * u) ≡ origin_of m.shape (2 * u)
-even_stays m [] u off = refl
-even_stays m (x ∷ us) u off = elim (cases_eq u x) [
-  | inl is ↦ absurd (let c = count-same x us in let o = subst (λ (k : ℕ). count_of k (x ∷ us) ≡ 0) is off in omega (arith, c, o))
-  | inr not ↦
-      even_stays (edge_flipped m x) us u (let c = count-other u x us not in omega (arith, c, off))
-      ∙ other-two_set m.shape.origins (2 * x) (2 * x + 1) _ _ 0 (2 * u) (λ is. not (omega (arith, is))) (λ is. omega (arith, is))
-]
-
-odd_stays : {V DE UE F : Type 0} (m : Mesh V DE UE F) (us : List ℕ) (u : ℕ) → count_of u us ≡ 0
-    → origin_of (edges_flipped m us).shape (2 * u + 1) ≡ origin_of m.shape (2 * u + 1)
-odd_stays m [] u off = refl
-odd_stays m (x ∷ us) u off = elim (cases_eq u x) [
-  | inl is ↦ absurd (let c = count-same x us in let o = subst (λ (k : ℕ). count_of k (x ∷ us) ≡ 0) is off in omega (arith, c, o))
-  | inr not ↦
-      odd_stays (edge_flipped m x) us u (let c = count-other u x us not in omega (arith, c, off))
-      ∙ other-two_set m.shape.origins (2 * x) (2 * x + 1) _ _ 0 (2 * u + 1) (λ is. omega (arith, is)) (λ is. not (omega (arith, is)))
-]
 
 module _ {DE F : Type 0} where
   pub to_stay : (m : Mesh Point DE Mark F) (u : ℕ) → IsMarked m u → HasToStay is_constraint m u
@@ -57,7 +35,14 @@ module _ {DE F : Type 0} where
   pub of_stay : (m : Mesh Point DE Mark F) (u : ℕ) → HasToStay is_constraint m u → IsMarked m u
   of_stay m u stay = of_map (slice_get m.undirected_data u) stay
 
+  same_flips : (m : Mesh Point DE Mark F) (us : List ℕ) → edges_flipped m us ≡ flipped_each m us
+  same_flips m [] = refl
+  same_flips m (u ∷ us) = same_flips (edge_flipped m u) us
+
   module _ (old new : Mesh Point DE Mark F) (turns : TurnsLoose is_constraint old new) where
+    flips : new ≡ flipped_each old turns.turned
+    flips = turns.is ∙ same_flips old turns.turned
+
     unlisted : (u : ℕ) → IsMarked old u → count_of u turns.turned ≡ 0
     unlisted u marked = elim (cases_lt 0 (count_of u turns.turned)) [
       | inl there ↦ absurd (turns.loose u there (to_stay old u marked))
@@ -72,8 +57,8 @@ module _ {DE F : Type 0} where
     turns_stays keeps = record {
       keeps = record {
         marked = λ u marked. subst (λ (d : List Mark). slice_get d u ≡ Some Constraint) (sym marks) marked;
-        from = λ u marked. ap (λ (m : Mesh Point DE Mark F). origin_of m.shape (2 * u)) turns.is ∙ even_stays old turns.turned u (unlisted u marked);
-        to = λ u marked. ap (λ (m : Mesh Point DE Mark F). origin_of m.shape (2 * u + 1)) turns.is ∙ odd_stays old turns.turned u (unlisted u marked);
+        from = λ u marked. ap (λ (m : Mesh Point DE Mark F). origin_of m.shape (2 * u)) flips ∙ even_stays old turns.turned u (unlisted u marked);
+        to = λ u marked. ap (λ (m : Mesh Point DE Mark F). origin_of m.shape (2 * u + 1)) flips ∙ odd_stays old turns.turned u (unlisted u marked);
       };
       only = λ u marked. subst (λ (d : List Mark). slice_get d u ≡ Some Constraint) marks marked;
       points = keeps.points;
@@ -94,10 +79,6 @@ module _ {DE F : Type 0} where
   can_each m (u ∷ us) planar are =
       let turn = circled_can_turn (point_at m) m u planar.mesh planar.plane are.0.0 are.0.1 in
       (turn, can_each (edge_flipped m u) us (turned_planar (point_at m) m u planar turn) are.1)
-
-  same_flips : (m : Mesh Point DE Mark F) (us : List ℕ) → edges_flipped m us ≡ flipped_each m us
-  same_flips m [] = refl
-  same_flips m (u ∷ us) = same_flips (edge_flipped m u) us
 
   pub turns_free : (m n : Mesh Point DE Mark F) → TriangulatesItsHull (point_at m) m → TurnsLoose is_constraint m n → TurnsFree m n
   turns_free m n planar turns = record {

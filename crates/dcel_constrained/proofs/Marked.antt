@@ -14,12 +14,12 @@ use Rattle.dcel_plane.specs.Plane.{point_at}
 use Rattle.dcel_plane.proofs.removal.Turnable.{both_halves}
 use Rattle.dcel_plane.specs.location.Locating.{LiesOn}
 use Rattle.dcel_planar.specs.Edges.{IsSplit, KeepsEdgeData}
-use Rattle.dcel_planar.specs.Growing.{Gains, HasHull, HasOutside, IsFlat, IsTriangulated, KeepsListed}
+use Rattle.dcel_planar.specs.Growing.{Gains, HasHull, HasOutside, IsFlat, IsTriangleMesh, KeepsListed}
 use Rattle.dcel_regions.specs.Marked.{IsMarked}
 use Rattle.dcel_regions.specs.declared.mark.Mark.{Mark}
 use Rattle.dcel_regions.specs.declared.mark.Mark.TheVariants.{Constraint, Free}
 use Rattle.dcel_constrained.specs.Constraints.{IsPartOf, LiesOnSegment}
-use Rattle.dcel_constrained.specs.Meeting.{LiesBetween}
+use Rattle.dcel_constrained.specs.Meeting.{LiesBetweenEnds}
 use Rattle.dcel_constrained.specs.Splitting.{MarksParts, SplitsMarked}
 use Rattle.dcel_constrained.proofs.Added.{as_was, half_below, marked_before, marked_later, point_gained, points_before, splits_none}
 use Rattle.dcel_constrained.proofs.Between.{lies_turned}
@@ -45,7 +45,7 @@ part_turned m v w u part = record { from = on_turned (origin_of m.shape (2 * u))
 
 -- a mark changes neither triangles nor points
 module _ {DE F : Type 0} (m : Mesh Point DE Mark F) (e : ℕ) (k : Mark) where
-  pub triangulated_too : IsTriangulated m → IsTriangulated (undirected_edge_updated m e k)
+  pub triangulated_too : IsTriangleMesh m → IsTriangleMesh (undirected_edge_updated m e k)
   triangulated_too is = record { closed = is.closed; joined = is.joined; triangles = is.triangles; plane = is.plane }
 
   pub outside_too : (due : List ℕ) → HasOutside m due → HasOutside (undirected_edge_updated m e k) due
@@ -102,7 +102,7 @@ module _ {DE F : Type 0} (old m : Mesh Point DE Mark F) (is_free : Mark → Type
     abbrev to : ℕ
     to = end_of old.shape e
 
-    between : LiesBetween (point_at new) from to t
+    between : LiesBetweenEnds (point_at new) from to t
     between = record {
       on = rw (points from (starts_below old mesh e live), points to (ends_below old mesh e live), point_gained old m p t mesh gains) lies.on;
       inside = rw (points from (starts_below old mesh e live), points to (ends_below old mesh e live), point_gained old m p t mesh gains) lies.between;
@@ -125,7 +125,7 @@ module _ {DE F : Type 0} (old m : Mesh Point DE Mark F) (is_free : Mark → Type
         let is : from ≡ end_of old.shape (rev e) = ap (origin_of old.shape) (sym (rev-rev e)) in
         record {
           middle = t;
-          between = subst (λ (v : ℕ). LiesBetween (point_at new) to v t) is (lies_turned (point_at new) from to t between);
+          between = subst (λ (v : ℕ). LiesBetweenEnds (point_at new) to v t) is (lies_turned (point_at new) from to t between);
           first = rev b;
           leads = turned_leads m.shape t to b to_end;
           marked = subst (IsMarked new) (sym (rev-half b)) marked_second;
@@ -223,8 +223,8 @@ module _ {DE F : Type 0} (m one both : Mesh Point DE Mark F) (a b : ℕ) (first 
   abbrev m_once : Mesh Point DE Mark F
   m_once = undirected_edge_updated m a Constraint
 
-  pub triangulated_twice : IsTriangulated m → IsTriangulated both
-  triangulated_twice is = twice m one both a b first second IsTriangulated (triangulated_too m_once b Constraint (triangulated_too m a Constraint is))
+  pub triangulated_twice : IsTriangleMesh m → IsTriangleMesh both
+  triangulated_twice is = twice m one both a b first second IsTriangleMesh (triangulated_too m_once b Constraint (triangulated_too m a Constraint is))
 
   pub outside_twice : (due : List ℕ) → HasOutside m due → HasOutside both due
   outside_twice due is = twice m one both a b first second (λ n. HasOutside n due) (outside_too m_once b Constraint due (outside_too m a Constraint due is))

@@ -14,7 +14,8 @@ use Rattle.dcel_regions.specs.Marked.{IsMarked, is_constraint}
 use Rattle.dcel_regions.specs.declared.mark.Mark.{Mark}
 use Rattle.dcel_regions.specs.declared.mark.Mark.TheVariants.{Constraint, Free}
 use Rattle.dcel_constrained.specs.Constraints.{KeepsMarked}
-use Rattle.dcel_constrained.specs.Soundness.{IsConstrained, IsOutlined, MarksAllBut}
+use Rattle.dcel_planar.specs.Leaving.{IsOutlined}
+use Rattle.dcel_constrained.specs.Soundness.{IsConstrained, MarksAllBut}
 
 get-set : {X : Type 0} (xs : List X) (e : ℕ) (x : X) → e < length xs → slice_get (slice_set xs e x) e ≡ Some x
 get-set xs e x below = slice_get-get_or (slice_set xs e x) e x (omega (arith, length-set xs e x, below)) ∙ ap Some (get_or-set_same xs e x x below)

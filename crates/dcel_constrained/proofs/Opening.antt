@@ -9,10 +9,10 @@ use Rattle.dcel_plane.specs.covering.Covering.{dot}
 use Rattle.dcel_plane.proofs.covering.Inside.{on_start}
 use Rattle.dcel_plane.specs.segments.Segments.{AreEnds, BeginsAt, LeadsAlong, OpensAt, TriangulatesItsHull, corner_before, orient2d_by}
 use Rattle.dcel_plane.proofs.segments.Starting.{begins_opens, found, opens_begins}
-use Rattle.dcel_constrained.specs.Channels.{AreVertices}
+use Rattle.dcel_constrained.specs.Channels.{HasVertices}
 use Rattle.dcel_constrained.proofs.Widths.{apart_told}
 
-pub vertices_of : {V DE UE F : Type 0} (m : Mesh V DE UE F) → IsMesh m → (v w : ℕ) → AreEnds m.shape v w → AreVertices m.shape v w
+pub vertices_of : {V DE UE F : Type 0} (m : Mesh V DE UE F) → IsMesh m → (v w : ℕ) → AreEnds m.shape v w → HasVertices m.shape v w
 vertices_of m mesh v w ends = record {
   from = subst (λ (i : ℕ). i < m.shape.vertices) ends.from_i ((map-sound mesh.sound).below_vertices ends.i ends.live_i);
   to = subst (λ (i : ℕ). i < m.shape.vertices) ends.from_j ((map-sound mesh.sound).below_vertices ends.j ends.live_j);

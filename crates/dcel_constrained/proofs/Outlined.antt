@@ -13,7 +13,7 @@ use Rattle.dcel_maps.proofs.words.Turns.{turns_to_itself}
 use Rattle.dcel_plane.specs.Plane.{point_at}
 use Rattle.dcel_plane.proofs.edits.Corners.{turned_along}
 use Rattle.dcel_plane.specs.covering.Covering.{CoversHull}
-use Rattle.dcel_plane.specs.covering.Delaunay.{IsCovered, LiesInHull}
+use Rattle.dcel_plane.specs.covering.Delaunay.{LiesInSomeTriangle, LiesInHull}
 use Rattle.dcel_plane.specs.covering.Places.{AreDisjoint, IsIn, Place, orient_at}
 use Rattle.dcel_plane.proofs.covering.Numbered.{searched, word_is}
 use Rattle.dcel_plane.proofs.covering.Overlaps.{disjoint_triangles}
@@ -26,7 +26,8 @@ use Rattle.dcel_planar.proofs.Counting.{joined_all}
 use Rattle.dcel_delaunay.proofs.Outline.{hull_of_face}
 use Rattle.dcel_regions.specs.declared.mark.Mark.{Mark}
 use Rattle.dcel_constrained.specs.Constraints.{IsFreeWay}
-use Rattle.dcel_constrained.specs.Soundness.{IsConstrained, IsConstrainedDelaunay, IsOutlined}
+use Rattle.dcel_planar.specs.Leaving.{IsOutlined}
+use Rattle.dcel_constrained.specs.Soundness.{IsConstrained, IsConstrainedDelaunay}
 
 in_or_not : (a b c : Point) (p : Place) → IsIn a b c p ⊎ (IsIn a b c p → ⊥)
 in_or_not a b c p =
@@ -64,7 +65,7 @@ module _ {V DE UE F : Type 0} (m : Mesh V DE UE F) (mesh : IsMesh m) (at : ℕ �
     | inr inner ↦ elim (holds_or_not (word_of s.words f)) [ inl holds ↦ inl (inner, holds) | inr not ↦ inr (λ covering. not covering.1) ]
   ]
 
-  covered_by : (f : ℕ) → 0 < f → (w : List ℕ) → word_of s.words f ≡ w → Holds w → IsCovered at s pl
+  covered_by : (f : ℕ) → 0 < f → (w : List ℕ) → word_of s.words f ≡ w → Holds w → LiesInSomeTriangle at s pl
   covered_by f inner [] is holds = absurd holds
   covered_by f inner (x ∷ []) is holds = absurd holds
   covered_by f inner (x ∷ y ∷ []) is holds = absurd holds
@@ -80,7 +81,7 @@ module _ {V DE UE F : Type 0} (m : Mesh V DE UE F) (mesh : IsMesh m) (at : ℕ �
       }
   covered_by f inner (x ∷ y ∷ z ∷ k ∷ w) is holds = absurd holds
 
-  covered : CoversHull at s → (h : ℕ) × IsLive s h × (0 < face_of s h) → LiesInHull at s pl → IsCovered at s pl
+  covered : CoversHull at s → (h : ℕ) × IsLive s h × (0 < face_of s h) → LiesInHull at s pl → LiesInSomeTriangle at s pl
   covered covers half within = elim (searched Covering covering_or_not (face_count s)) [
     | inl found ↦ covered_by found.0 found.1.0 (word_of s.words found.0) refl found.1.1
     | inr none ↦

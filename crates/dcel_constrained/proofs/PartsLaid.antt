@@ -9,16 +9,16 @@ use Rattle.dcel_maps.specs.Words.{count_of}
 use Rattle.dcel_maps.proofs.Liveness.{is_live-parts}
 use Rattle.dcel_plane.specs.Plane.{ListsCircled, point_at}
 use Rattle.dcel_plane.specs.segments.Segments.{Crosses, TriangulatesItsHull, TurnsInto}
-use Rattle.dcel_planar.specs.Growing.{HasHull, IsJoined as AreJoined, KeepsListed}
+use Rattle.dcel_planar.specs.Growing.{HasHull, IsJoined, KeepsListed}
 use Rattle.dcel_regions.specs.Marked.{IsMarked}
 use Rattle.dcel_regions.specs.declared.mark.Mark.{Mark}
 use Rattle.dcel_regions.specs.declared.mark.Mark.TheVariants.{Constraint}
 use Rattle.dcel_constrained.specs.Constraints.{IsFreeWay, KeepsMarked, ListsFree, TurnsFree}
 use Rattle.dcel_constrained.specs.Laying.{IsLaid, MarksBetween}
-use Rattle.dcel_constrained.specs.Meeting.{IsJoined}
+use Rattle.dcel_constrained.specs.Meeting.{IsJoinedAs}
 use Rattle.dcel_constrained.specs.Soundness.{IsConstrained}
-use Rattle.dcel_constrained.specs.declared.joining.Joined.{Joined}
-use Rattle.dcel_constrained.specs.declared.joining.Joined.TheVariants.{Edge}
+use Rattle.dcel_constrained.specs.declared.segments.join.Joined.{Joined}
+use Rattle.dcel_constrained.specs.declared.segments.join.Joined.TheVariants.{Edge}
 use Rattle.dcel_constrained.proofs.Free.{IsKept, end_kept, free_keeps, free_kept, free_planar, joined_free, kept_live, kept_mark, kept_unmarked, start_kept}
 use Rattle.dcel_constrained.proofs.Laid.{keeps_both, keeps_none}
 use Rattle.dcel_constrained.proofs.Marking.{constrained_more, marked_itself, marked_keeps, marked_now}
@@ -28,7 +28,7 @@ use Rattle.dcel_constrained.proofs.Outlined.{planar}
 module _ {DE F : Type 0} where
   -- Euler's formula speaks of counts alone
   joined_too : (old new : Mesh Point DE Mark F) → new.shape.vertices ≡ old.shape.vertices → new.shape.edges ≡ old.shape.edges → face_count new.shape ≡ face_count old.shape
-      → AreJoined old.shape → AreJoined new.shape
+      → IsJoined old.shape → IsJoined new.shape
   joined_too old new vertices edges faces joined = record {
     euler = λ some. (let e = joined.euler (omega (arith, some, vertices)) in omega (arith, e, vertices, edges, faces));
     empty = λ none. faces ∙ joined.empty (sym vertices ∙ none);
@@ -167,14 +167,14 @@ module _ {DE F : Type 0} where
     pub between : MarksBetween old new v w
 
   pub part_laid : (old made marked new : Mesh Point DE Mark F) (before due items : List ℕ) (v w : ℕ) (joined : Joined) (is_new : Bool) → IsMesh old → IsConstrained old before
-      → before ≡ [] → HasHull old → IsFreeWay old v w → IsJoined old made v w joined → joined ≡ Edge
+      → before ≡ [] → HasHull old → IsFreeWay old v w → IsJoinedAs old made v w joined → joined ≡ Edge
       → KeepsListed old made before due → TriangulatesItsHull (point_at made) made
       → (h : ℕ) × Leads made.shape v w h × (marked ≡ undirected_edge_updated made (h / 2) Constraint) × (IsTrue is_new ↔ (¬ IsMarked made (h / 2)))
       → IsMesh marked → TurnsFree marked new → (ListsFree marked due → ListsFree new items) → IsPartLaid old new items v w is_new
   part_laid old made marked new before due items v w joined is_new mesh sound none has free made_so is lists planar_made marks mesh_marked turns goes_on =
       let whole : IsConstrained old [] = subst (λ (l : List ℕ). IsConstrained old l) none sound in
       let lists_all : KeepsListed old made [] due = subst (λ (l : List ℕ). KeepsListed old made l due) none lists in
-      let flips = (subst (λ (j : Joined). IsJoined old made v w j) is made_so).1 in
+      let flips = (subst (λ (j : Joined). IsJoinedAs old made v w j) is made_so).1 in
       record {
         sound = sound_new old made marked due v w is_new mesh whole has free flips lists_all planar_made.mesh marks new items mesh_marked turns goes_on;
         has = has_new old made marked due v w is_new mesh whole has free flips lists_all planar_made.mesh marks new items mesh_marked turns goes_on;
@@ -183,14 +183,14 @@ module _ {DE F : Type 0} where
       }
 
   pub part_marked : (old made marked : Mesh Point DE Mark F) (before due : List ℕ) (v w : ℕ) (joined : Joined) (is_new : Bool) → IsMesh old → IsConstrained old before
-      → before ≡ [] → HasHull old → IsFreeWay old v w → IsJoined old made v w joined → joined ≡ Edge
+      → before ≡ [] → HasHull old → IsFreeWay old v w → IsJoinedAs old made v w joined → joined ≡ Edge
       → KeepsListed old made before due → TriangulatesItsHull (point_at made) made
       → (h : ℕ) × Leads made.shape v w h × (marked ≡ undirected_edge_updated made (h / 2) Constraint) × (IsTrue is_new ↔ (¬ IsMarked made (h / 2)))
       → IsConstrained marked due × HasHull marked
   part_marked old made marked before due v w joined is_new mesh sound none has free made_so is lists planar_made marks =
       let whole : IsConstrained old [] = subst (λ (l : List ℕ). IsConstrained old l) none sound in
       let lists_all : KeepsListed old made [] due = subst (λ (l : List ℕ). KeepsListed old made l due) none lists in
-      let flips = (subst (λ (j : Joined). IsJoined old made v w j) is made_so).1 in (
+      let flips = (subst (λ (j : Joined). IsJoinedAs old made v w j) is made_so).1 in (
         sound_marked old made marked due v w is_new mesh whole has free flips lists_all planar_made.mesh marks,
         has_marked old made marked due v w is_new mesh whole has free flips lists_all planar_made.mesh marks,
       )
@@ -203,7 +203,7 @@ module _ {DE F : Type 0} where
       (λ mesh. record { mesh = mesh; triangles = planar.triangles; plane = planar.plane; convex = planar.convex; hull = planar.hull }) mesh
 
   -- flips change no vertex, and open no removal
-  pub joined_closed : (old made : Mesh Point DE Mark F) (v w : ℕ) (joined : Joined) → IsJoined old made v w joined → joined ≡ Edge → IsFreeWay old v w
+  pub joined_closed : (old made : Mesh Point DE Mark F) (v w : ℕ) (joined : Joined) → IsJoinedAs old made v w joined → joined ≡ Edge → IsFreeWay old v w
       → IsKept old made
   joined_closed old made v w joined made_so is free =
-      free_kept old made (joined_free old made v w free (subst (λ (j : Joined). IsJoined old made v w j) is made_so).1)
+      free_kept old made (joined_free old made v w free (subst (λ (j : Joined). IsJoinedAs old made v w j) is made_so).1)

@@ -21,14 +21,14 @@ use Rattle.dcel_plane.specs.covering.Covering.{dot}
 use Rattle.dcel_plane.proofs.covering.Inside.{on_end, on_start}
 use Rattle.dcel_plane.proofs.covering.Powers.{less_first}
 use Rattle.dcel_plane.proofs.covering.Products.{times_below}
-use Rattle.dcel_plane.specs.segments.Segments.{AreEnds, Crosses, IsChannel, IsClear, IsCorner, Leads, TriangulatesItsHull, corner_beyond, orient2d_by, width}
+use Rattle.dcel_plane.specs.segments.Segments.{AreEnds, Crosses, IsChannel, IsClear, IsCorner, LeadsThrough, TriangulatesItsHull, corner_beyond, orient2d_by, width}
 use Rattle.dcel_plane.proofs.segments.Channels.{all_cross, leads_on}
 use Rattle.dcel_plane.proofs.segments.Gates.{far, inner_far, inner_near, left_far, near}
 use Rattle.dcel_plane.proofs.segments.Levers.{inside_left, inside_right}
 use Rattle.dcel_plane.proofs.segments.Peaks.{ends_of}
 use Rattle.dcel_plane.proofs.segments.Walking.{Comes, one_more}
 use Rattle.dcel_plane.proofs.covering.Triangles.{of_face}
-use Rattle.dcel_constrained.specs.Meeting.{LiesBetween}
+use Rattle.dcel_constrained.specs.Meeting.{LiesBetweenEnds}
 use Rattle.dcel_constrained.proofs.Between.{crosses_before, factor_below, lies_far, lies_not_end, lies_not_start, side_of, to_left_later, to_left_sooner, to_right_later, to_right_sooner}
 use Rattle.dcel_constrained.proofs.Passing.{none_in}
 
@@ -37,7 +37,7 @@ module _ {V DE UE F : Type 0} (m : Mesh V DE UE F) (at : ℕ → Point) (planar 
   s = m.shape
 
   -- a vertex z between v and y, where the segment leads through a list of half edges
-  module _ (v y : ℕ) (ends : AreEnds m.shape v y) (k z : ℕ) (live_k : IsLive m.shape k) (is_z : origin_of m.shape k ≡ z) (lies : LiesBetween at v y z) where
+  module _ (v y : ℕ) (ends : AreEnds m.shape v y) (k z : ℕ) (live_k : IsLive m.shape k) (is_z : origin_of m.shape k ≡ z) (lies : LiesBetweenEnds at v y z) where
     abbrev off : ℕ → ℤ
     off p = orient2d_by at v y p
 
@@ -148,7 +148,7 @@ module _ {V DE UE F : Type 0} (m : Mesh V DE UE F) (at : ℕ → Point) (planar 
           (λ not. not))
           corner.side corner.live corner.on corner.from
 
-    through : (h : ℕ) (rest : List ℕ) (last : ℕ) → Crosses at s v y h → Leads at s v y (face_of s (rev h)) rest last → IsCorner s last y → Beyond h → ⊥
+    through : (h : ℕ) (rest : List ℕ) (last : ℕ) → Crosses at s v y h → LeadsThrough at s v y (face_of s (rev h)) rest last → IsCorner s last y → Beyond h → ⊥
     through h [] last crosses leads corner beyond = ends_there h crosses (subst (λ (i : ℕ). IsCorner s i y) (sym leads) corner) beyond
     through h (j ∷ rest) last crosses leads corner beyond = through j rest last leads.0 leads.2 corner (goes_on h crosses beyond j leads.0 leads.1)
 
@@ -167,7 +167,7 @@ module _ {V DE UE F : Type 0} (m : Mesh V DE UE F) (at : ℕ → Point) (planar 
   }
 
   -- what crosses the segment before y crosses the part up to y
-  module _ (v w : ℕ) (ends : AreEnds m.shape v w) (y : ℕ) (lies : LiesBetween at v w y) where
+  module _ (v w : ℕ) (ends : AreEnds m.shape v w) (y : ℕ) (lies : LiesBetweenEnds at v w y) where
     abbrev whole : ℤ
     whole = dot (at w) (at w) (at v)
 
@@ -209,7 +209,7 @@ module _ {V DE UE F : Type 0} (m : Mesh V DE UE F) (at : ℕ → Point) (planar 
         factor_below whole (side j) far (omega (arith, ordered, ej, ordered_too))
 
     -- the faces that the segment leads through are those of the part
-    leads_part : (f : ℕ) (list : List ℕ) (g : ℕ) → Leads at s v w f list g → ((j : ℕ) → 0 < count_of j list → Crosses at s v y j) → Leads at s v y f list g
+    leads_part : (f : ℕ) (list : List ℕ) (g : ℕ) → LeadsThrough at s v w f list g → ((j : ℕ) → 0 < count_of j list → Crosses at s v y j) → LeadsThrough at s v y f list g
     leads_part f [] g leads each = leads
     leads_part f (j ∷ rest) g leads each = (
       each j (let c = count-same j rest in omega (arith, c)),

@@ -20,7 +20,7 @@ use Rattle.dcel_plane.proofs.covering.Inside.{on_end, on_start}
 use Rattle.dcel_plane.proofs.covering.Triangles.{left_at, of_face, round}
 use Rattle.dcel_plane.specs.segments.Segments.{AreEnds, Crosses, TriangulatesItsHull, corner_before, orient2d_by}
 use Rattle.dcel_plane.proofs.segments.Gates.{inner_far, inner_near, left_near}
-use Rattle.dcel_constrained.specs.Meeting.{LiesBetween}
+use Rattle.dcel_constrained.specs.Meeting.{LiesBetweenEnds}
 use Rattle.dcel_constrained.proofs.Between.{crosses_parts}
 use Rattle.dcel_constrained.proofs.Crossings.{edges_apart, on_edge_in}
 
@@ -129,7 +129,7 @@ module _ {V DE UE F : Type 0} (m : Mesh V DE UE F) (at : ℕ → Point) (planar 
       ]
 
   -- a vertex y between v and w
-  module _ (v w y k : ℕ) (ends : AreEnds m.shape v w) (lies : LiesBetween at v w y) (live_k : IsLive m.shape k) (is_y : origin_of m.shape k ≡ y) where
+  module _ (v w y k : ℕ) (ends : AreEnds m.shape v w) (lies : LiesBetweenEnds at v w y) (live_k : IsLive m.shape k) (is_y : origin_of m.shape k ≡ y) where
     not_through : (h : ℕ) → Crosses at s v w h → orient2d_of (at (origin_of s h)) (at (end_of s h)) (at y) ≢ pos 0
     not_through h c on =
         let inner = inner_near m planar.mesh planar.triangles at planar.plane planar.convex v w ends h c in

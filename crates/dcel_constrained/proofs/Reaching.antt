@@ -23,8 +23,8 @@ use Rattle.dcel_plane.proofs.segments.Walking.{Comes, comes_first, comes_left, c
 use Rattle.dcel_regions.specs.Marked.{IsMarked}
 use Rattle.dcel_regions.specs.declared.mark.Mark.{Mark}
 use Rattle.dcel_constrained.specs.Constraints.{IsFreeWay}
-use Rattle.dcel_constrained.specs.Meeting.{LiesBetween}
-use Rattle.dcel_constrained.specs.Reached.{Reaches}
+use Rattle.dcel_constrained.specs.Meeting.{LiesBetweenEnds}
+use Rattle.dcel_constrained.specs.Reached.{ReachesFreely}
 use Rattle.dcel_constrained.proofs.Between.{crosses_later, leads_ahead, shorter_end, shorter_later, span}
 use Rattle.dcel_constrained.proofs.Passed.{channel_clear, comes_to_vertex}
 use Rattle.dcel_constrained.proofs.Passing.{crosses_one, edges_cross_nothing, vertices_apart}
@@ -37,7 +37,7 @@ module _ {DE F : Type 0} (m : Mesh Point DE Mark F) (planar : TriangulatesItsHul
   at = point_at m
 
   -- along an edge
-  pub reaches_along : (v w y : ℕ) → AreEnds s v w → (k : ℕ) × LeadsAlong at s v w k × (end_of s k ≡ y) → Reaches m v w y
+  pub reaches_along : (v w y : ℕ) → AreEnds s v w → (k : ℕ) × LeadsAlong at s v w k × (end_of s k ≡ y) → ReachesFreely m v w y
   reaches_along v w y ends way = record {
     there = leads_ahead at s v w y way.0 way.1 way.2;
     ends = record {
@@ -112,7 +112,7 @@ module _ {DE F : Type 0} (m : Mesh Point DE Mark F) (planar : TriangulatesItsHul
         some : (list : List ℕ) → list ++ (h ∷ []) ≢ []
         some list is = (let a = ap length is in let b = length-append list (h ∷ []) in omega (arith, a, b))
 
-        pub walk_reaches : (y : ℕ) → (orient2d_by at v w (corner_beyond s h) ≡ pos 0) × (y ≡ corner_beyond s h) → Reaches m v w y
+        pub walk_reaches : (y : ℕ) → (orient2d_by at v w (corner_beyond s h) ≡ pos 0) × (y ≡ corner_beyond s h) → ReachesFreely m v w y
         walk_reaches y met =
             let tri = far m planar.mesh planar.triangles at planar.plane planar.convex v w ends h walk.comes.crosses in
             let ends_there : AreEnds s y w = record {
@@ -125,7 +125,7 @@ module _ {DE F : Type 0} (m : Mesh Point DE Mark F) (planar : TriangulatesItsHul
             } in
             by_lt_z (dot (at v) (at w) (at (corner_beyond s h))) (pos 0)
             (λ less.
-            let lies : LiesBetween at v w y = subst (λ (i : ℕ). LiesBetween at v w i) (sym met.1) (record { on = met.0; inside = less }) in
+            let lies : LiesBetweenEnds at v w y = subst (λ (i : ℕ). LiesBetweenEnds at v w i) (sym met.1) (record { on = met.0; inside = less }) in
             record {
               there = inr lies;
               ends = ends_there;
@@ -153,7 +153,7 @@ module _ {DE F : Type 0} (m : Mesh Point DE Mark F) (planar : TriangulatesItsHul
       flat a b = by_terms (a.x ∷ a.y ∷ b.x ∷ b.y ∷ []) (orient (spot 0) (spot 0) (spot 1)) (num (pos 0)) refl
 
   -- the rest of the way is free if and only if the way is
-  module _ (v w y : ℕ) (differ : v ≢ w) (ends : AreEnds m.shape v w) (reaches : Reaches m v w y) where
+  module _ (v w y : ℕ) (differ : v ≢ w) (ends : AreEnds m.shape v w) (reaches : ReachesFreely m v w y) where
     pub rest_free : IsFreeWay m v w ↔ IsFreeWay m y w
     rest_free = elim reaches.there [
       | inl is ↦ (
@@ -191,12 +191,12 @@ module _ {DE F : Type 0} (m : Mesh Point DE Mark F) (planar : TriangulatesItsHul
   follow_begins ends = record { ends = ends; same = (λ free. free, λ free. free) }
 
   module _ (x : ℕ) (followed : IsFollowed m v w x) where
-    pub follow_goes_on : x ≢ w → (y : ℕ) → Reaches m x w y → IsFollowed m v w y
+    pub follow_goes_on : x ≢ w → (y : ℕ) → ReachesFreely m x w y → IsFollowed m v w y
     follow_goes_on differ y reaches =
         let rest = rest_free m planar x w y differ followed.ends reaches in
         record { ends = reaches.ends; same = (λ free. rest.0 (followed.same.0 free), λ free. followed.same.1 (rest.1 free)) }
 
-    pub follow_shorter : x ≢ w → (y : ℕ) → Reaches m x w y → span (point_at m) y w < span (point_at m) x w
+    pub follow_shorter : x ≢ w → (y : ℕ) → ReachesFreely m x w y → span (point_at m) y w < span (point_at m) x w
     follow_shorter differ y reaches = rest_shorter m planar x w y differ followed.ends reaches
 
     pub follow_ends : x ≡ w → IsFreeWay m v w

@@ -1,5 +1,5 @@
 -- What an insertion among constraints leaves, step by step.
-use Rattle.std.proofs.Common.{◌≡◌, ◌≢◌, ◌⊎◌, inl, inr, ℕ, ◌*◌, ◌+◌, ◌/◌, ◌<◌, List, [], ◌∷◌, ◌++◌, Result, Ok, Err, IfErr, IfOk, OnErr, refl, sym, ap, ◌∙◌, subst, arith}
+use Rattle.std.proofs.Common.{◌≡◌, ◌≢◌, ◌⊎◌, inl, inr, ℕ, ◌*◌, ◌+◌, ◌/◌, ◌<◌, List, [], ◌∷◌, ◌++◌, Result, Ok, Err, IfOk, OnErr, refl, sym, ap, ◌∙◌, subst, arith}
 use Rattle.dcel_fixed.proofs.Halves.{rev-double}
 use Rattle.dcel_predicates.specs.declared.point.Point.{Point}
 use Rattle.dcel_maps.specs.Removals.{Closed}
@@ -8,7 +8,9 @@ use Rattle.dcel_maps.proofs.Liveness.{closed-live}
 use Rattle.dcel_maps.proofs.words.Counts.{in_either}
 use Rattle.dcel_plane.specs.Plane.{point_at}
 use Rattle.dcel_planar.specs.Edges.{KeepsEdgeData, KeepsEnds, KeepsStarts}
-use Rattle.dcel_planar.specs.Growing.{HasHull, HasOutside, IsFlat, IsPutAt, IsTriangulated, KeepsListed, Refuses}
+use Rattle.dcel_planar.specs.Growing.{Gains, HasHull, HasOutside, IsFlat, IsTriangleMesh, KeepsListed}
+use Rattle.dcel_planar.specs.Leaving.{IsPutIn}
+use Rattle.dcel_planar.specs.declared.planar.PlanarMesh.{PlanarMesh}
 use Rattle.dcel_planar.specs.declared.errors.InsertionError.{InsertionError}
 use Rattle.dcel_planar.specs.declared.position.PositionInTriangulation.{PositionInTriangulation}
 use Rattle.dcel_planar.specs.declared.position.PositionInTriangulation.TheVariants.{BeyondLine, NoTriangulation, OnEdge, OnFace, OnVertex, OutsideOfConvexHull}
@@ -28,10 +30,10 @@ use Rattle.dcel_constrained.proofs.Marks.{listed_marked, marked_edges, to_circle
 use Rattle.dcel_constrained.proofs.Splits.{IsAsWas, constraints_kept}
 
 module _ {DE F : Type 0} where
-  pub constrained_of : (m : Mesh Point DE Mark F) (due : List ℕ) → IsTriangulated m → ListsFree m due → IsConstrained m due
+  pub constrained_of : (m : Mesh Point DE Mark F) (due : List ℕ) → IsTriangleMesh m → ListsFree m due → IsConstrained m due
   constrained_of m due is listed = record { closed = is.closed; joined = is.joined; triangles = is.triangles; plane = is.plane; listed = listed }
 
-  pub triangulated_of : (m : Mesh Point DE Mark F) (due : List ℕ) → IsConstrained m due → IsTriangulated m
+  pub triangulated_of : (m : Mesh Point DE Mark F) (due : List ℕ) → IsConstrained m due → IsTriangleMesh m
   triangulated_of m due sound = record { closed = sound.closed; joined = sound.joined; triangles = sound.triangles; plane = sound.plane }
 
   -- where each edge that is to be looked at is listed, and none is freed
@@ -130,16 +132,11 @@ module _ {DE F : Type 0} where
                 (subst (LiesOnSegment (point_at mid) v w) (sym (stays.keeps.to u marked)) part.to);
           }
 
-  -- what a point put in leaves of the vertices
-  pub points_put : (old new : Mesh Point DE Mark F) (due items : List ℕ) (position : PositionInTriangulation) (p : Point) (t : ℕ) → IsMesh old
-      → IsPutAt old new due items position p t → (v : ℕ) → v < old.shape.vertices → point_at new v ≡ point_at old v
-  points_put old new due items position p t mesh (inl same) v below = ap (λ (m : Mesh Point DE Mark F). point_at m v) same.1
-  points_put old new due items position p t mesh (inr gains) v below = points_before old new p t mesh gains v below
-
-  pub points_refused : (old new : Mesh Point DE Mark F) (p : Point) (e : InsertionError) → IsMesh old → Refuses old new p e → (v : ℕ) → v < old.shape.vertices
+  -- what a point put in leaves of the vertices: nothing has changed, or one is new
+  pub points_kept : (old new : Mesh Point DE Mark F) (p : Point) (t : ℕ) → IsMesh old → (new ≡ old) ⊎ Gains old new p t → (v : ℕ) → v < old.shape.vertices
       → point_at new v ≡ point_at old v
-  points_refused old new p e mesh (inl same) v below = ap (λ (m : Mesh Point DE Mark F). point_at m v) same.1
-  points_refused old new p e mesh (inr gains) v below = points_before old new p old.shape.vertices mesh gains.1 v below
+  points_kept old new p t mesh (inl same) v below = ap (λ (m : Mesh Point DE Mark F). point_at m v) same
+  points_kept old new p t mesh (inr gains) v below = points_before old new p t mesh gains v below
 
   -- beside an edge none is split
   pub starts_beside : (old new : Mesh Point DE Mark F) (position : PositionInTriangulation) (t : ℕ) → ((h : ℕ) → position ≢ OnEdge h) → KeepsEnds old new position t → KeepsStarts old new
@@ -163,16 +160,19 @@ module _ {DE F : Type 0} where
   outside_more m [] u (inr (inr opened)) = absurd (opened.0 refl)
   outside_more m (x ∷ due) u (inr (inr opened)) = inr (inr ((λ none. cc), opened.1))
 
-  -- a point put in, or refused
-  module _ (old new : Mesh Point DE Mark F) (due items : List ℕ) (position : PositionInTriangulation) (p : Point) where
-    pub starts_result : (r : Result ℕ InsertionError) → ((h : ℕ) → position ≢ OnEdge h) → IfOk r (KeepsEnds old new position) → OnErr r (KeepsStarts old new) → KeepsStarts old new
-    starts_result (Ok t) beside ends starts = starts_beside old new position t beside ends
-    starts_result (Err e) beside ends starts = starts
+  pub starts_result : (old new : Mesh Point DE Mark F) (position : PositionInTriangulation) (r : Result ℕ InsertionError) → ((h : ℕ) → position ≢ OnEdge h)
+      → IfOk r (KeepsEnds old new position) → OnErr r (KeepsStarts old new) → KeepsStarts old new
+  starts_result old new position (Ok t) beside ends starts = starts_beside old new position t beside ends
+  starts_result old new position (Err e) beside ends starts = starts
 
-    pub points_result : (r : Result ℕ InsertionError) → IsMesh old → IfOk r (IsPutAt old new due items position p) → IfErr r (Refuses old new p) → (v : ℕ)
-        → v < old.shape.vertices → point_at new v ≡ point_at old v
-    points_result (Ok t) mesh put refuses = points_put old new due items position p t mesh put
-    points_result (Err e) mesh put refuses = points_refused old new p e mesh refuses
+-- a point put in, or refused
+module _ {A : Type 0} (old new : PlanarMesh Mark A) (position : PositionInTriangulation) (p : Point) where
+  pub points_result : (r : Result ℕ InsertionError) → IsMesh old.dcel → IfOk r (IsPutIn old new position p)
+      → OnErr r ((new.dcel ≡ old.dcel) ⊎ Gains old.dcel new.dcel p old.dcel.shape.vertices) → (v : ℕ) → v < old.dcel.shape.vertices
+      → point_at new.dcel v ≡ point_at old.dcel v
+  points_result (Ok t) mesh (inl same) fails = points_kept old.dcel new.dcel p t mesh (inl same.1.mesh)
+  points_result (Ok t) mesh (inr gains) fails = points_kept old.dcel new.dcel p t mesh (inr gains)
+  points_result (Err e) mesh put fails = points_kept old.dcel new.dcel p old.dcel.shape.vertices mesh fails
 
 module _ {A : Type 0} (t : ConstrainedTriangulation A) where
   pub sound_of : IsConstrained t.planar.dcel t.planar.due.items

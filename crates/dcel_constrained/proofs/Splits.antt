@@ -10,16 +10,16 @@ use Rattle.dcel_plane.specs.Plane.{point_at}
 use Rattle.dcel_regions.specs.Marked.{IsMarked}
 use Rattle.dcel_regions.specs.declared.mark.Mark.{Mark}
 use Rattle.dcel_constrained.specs.Constraints.{HasConstraint, IsMarkedWay}
-use Rattle.dcel_constrained.specs.Meeting.{LiesBetween}
+use Rattle.dcel_constrained.specs.Meeting.{LiesBetweenEnds}
 use Rattle.dcel_constrained.specs.Splitting.{KeepsConstraints}
 use Rattle.dcel_constrained.proofs.Between.{leads_ahead, leads_to, lies_rest, lies_sooner, lies_turned}
 
 -- the same points under other names
-pub between_of : (at to : ℕ → Point) (a b c : ℕ) → to a ≡ at a → to b ≡ at b → to c ≡ at c → LiesBetween at a b c → LiesBetween to a b c
+pub between_of : (at to : ℕ → Point) (a b c : ℕ) → to a ≡ at a → to b ≡ at b → to c ≡ at c → LiesBetweenEnds at a b c → LiesBetweenEnds to a b c
 between_of at to a b c ea eb ec lies = record { on = rw (ea, eb, ec) lies.on; inside = rw (ea, eb, ec) lies.inside }
 
 -- b lies between t and w, if it lies between y and w, and t between y and b
-between_rest : (at : ℕ → Point) (y w b t : ℕ) → LiesBetween at y w b → LiesBetween at y b t → LiesBetween at t w b
+between_rest : (at : ℕ → Point) (y w b t : ℕ) → LiesBetweenEnds at y w b → LiesBetweenEnds at y b t → LiesBetweenEnds at t w b
 between_rest at y w b t lies near = lies_turned at w t b (lies_rest at w y b t (lies_turned at y w b lies) (lies_turned at y b t near))
 
 module _ {DE F : Type 0} (m : Mesh Point DE Mark F) (mesh : IsMesh m) where
@@ -38,7 +38,7 @@ module _ {DE F : Type 0} (old new : Mesh Point DE Mark F) where
   -- in the place of the half edge h there are two, which meet in a vertex between its ends, and both are marked
   pub record IsTwo (h : ℕ) : Type 0 where
     pub middle : ℕ
-    pub between : LiesBetween (point_at new) (origin_of old.shape h) (end_of old.shape h) middle
+    pub between : LiesBetweenEnds (point_at new) (origin_of old.shape h) (end_of old.shape h) middle
     pub first : ℕ
     pub leads : Leads new.shape (origin_of old.shape h) middle first
     pub marked : IsMarked new (first / 2)
@@ -56,7 +56,7 @@ module _ {DE F : Type 0} (old new : Mesh Point DE Mark F) where
         let at = point_at new in
         let below_y : y < old.shape.vertices = subst (λ (i : ℕ). i < old.shape.vertices) along.from (starts_below old mesh h along.live) in
         let further = carried w b rest below way.2 in
-        let ahead : (b ≡ w) ⊎ LiesBetween at y w b =
+        let ahead : (b ≡ w) ⊎ LiesBetweenEnds at y w b =
         elim (leads_ahead (point_at old) old.shape y w b h along refl) [
           | inl is ↦ inl is
           | inr lies ↦ inr (between_of (point_at old) at y w b (points y below_y) (points w below) (points b (ends_below old mesh h along.live)) lies)
@@ -67,14 +67,14 @@ module _ {DE F : Type 0} (old new : Mesh Point DE Mark F) where
               (h ∷ further.0, (leads, was.marked, subst (λ (x : ℕ). IsMarkedWay new w x further.0) (sym was.leads.end) further.1))
           | inr two ↦
               let t = two.middle in
-              let near : LiesBetween at y b t = subst (λ (i : ℕ). LiesBetween at i b t) along.from two.between in
-              let first_ahead : (t ≡ w) ⊎ LiesBetween at y w t = elim ahead [
-                | inl is ↦ inr (subst (λ (i : ℕ). LiesBetween at y i t) is near)
+              let near : LiesBetweenEnds at y b t = subst (λ (i : ℕ). LiesBetweenEnds at i b t) along.from two.between in
+              let first_ahead : (t ≡ w) ⊎ LiesBetweenEnds at y w t = elim ahead [
+                | inl is ↦ inr (subst (λ (i : ℕ). LiesBetweenEnds at y i t) is near)
                 | inr lies ↦ inr (lies_sooner at y w b t lies near)
               ] in
-              let then_ahead : (b ≡ w) ⊎ LiesBetween at (end_of new.shape two.first) w b = elim ahead [
+              let then_ahead : (b ≡ w) ⊎ LiesBetweenEnds at (end_of new.shape two.first) w b = elim ahead [
                 | inl is ↦ inl is
-                | inr lies ↦ inr (subst (λ (i : ℕ). LiesBetween at i w b) (sym two.leads.end) (between_rest at y w b t lies near))
+                | inr lies ↦ inr (subst (λ (i : ℕ). LiesBetweenEnds at i w b) (sym two.leads.end) (between_rest at y w b t lies near))
               ] in
               let leads = leads_to at new.shape y w t two.first two.leads.live (two.leads.start ∙ along.from) two.leads.end first_ahead in
               let leads_on =

@@ -11,16 +11,16 @@ use Rattle.dcel_maps.specs.Words.{count_of}
 use Rattle.dcel_maps.proofs.shapes.Maps.{map-sound}
 use Rattle.dcel_maps.proofs.words.Counts.{count-append, count-other, count-same}
 use Rattle.dcel_plane.specs.Plane.{ListsCircled, origin_point, point_at}
-use Rattle.dcel_plane.specs.removal.Wheels.{CanTurn}
-use Rattle.dcel_plane.specs.segments.Segments.{Becomes, HasSidesOf, IsChannel, NarrowerBefore, NotWiderAfter, TriangulatesItsHull, TurnsInto, corner_before, corner_beyond, flipped_each, orient2d_by, widths}
+use Rattle.dcel_plane.specs.removal.Wheels.{CanFlipInPlane}
+use Rattle.dcel_plane.specs.segments.Segments.{BecomesCrossing, HasSidesOf, IsChannel, NarrowerBefore, NotWiderAfter, TriangulatesItsHull, TurnsInto, corner_before, corner_beyond, flipped_each, orient2d_by, widths}
 use Rattle.dcel_plane.proofs.segments.Channels.{all_cross}
 use Rattle.dcel_plane.proofs.segments.Peaks.{empty_joins, some_width}
 use Rattle.dcel_plane.proofs.segments.Stepping.{can_turn, flipped-append, lists_left, old_edge, planar_still, sides_left, step, turns-append}
-use Rattle.dcel_constrained.specs.Channels.{AreLive, AreVertices, IsLeftAt, IsNarrowerBefore, IsNotWiderAfter}
+use Rattle.dcel_constrained.specs.Channels.{AreLive, HasVertices, IsLeftAt, IsNarrowerBefore, IsNotWiderAfter}
 use Rattle.dcel_constrained.proofs.Places.{first_after, last_before, parted}
 
 -- what a list of half edges that cross the segment says of them
-pub live_ends : {V DE UE F : Type 0} (m : Mesh V DE UE F) → IsMesh m → (at : ℕ → Point) (v w : ℕ) (list : List ℕ) → IsChannel at m.shape v w list → AreVertices m.shape v w
+pub live_ends : {V DE UE F : Type 0} (m : Mesh V DE UE F) → IsMesh m → (at : ℕ → Point) (v w : ℕ) (list : List ℕ) → IsChannel at m.shape v w list → HasVertices m.shape v w
 live_ends m mesh at v w list channel = record {
   from = subst (λ (i : ℕ). i < m.shape.vertices) channel.start.from ((map-sound mesh.sound).below_vertices channel.start.side channel.start.live);
   to = subst (λ (i : ℕ). i < m.shape.vertices) channel.end.from ((map-sound mesh.sound).below_vertices channel.end.side channel.end.live);
@@ -52,10 +52,10 @@ module _ (at : ℕ → Point) (s : Shape) (v w h x y : ℕ) (near far : ℤ) (ne
   far_side : far ≡ orient2d_by at v w (corner_beyond s h)
   far_side = far_off ∙ ap (orient2d_by at v w) far_is
 
-  pub becomes_itself : (near <ℤ pos 0) × (pos 0 <ℤ far) → Becomes at s v w h (h ∷ [])
+  pub becomes_itself : (near <ℤ pos 0) × (pos 0 <ℤ far) → BecomesCrossing at s v w h (h ∷ [])
   becomes_itself signs = inl (subst (λ z. z <ℤ pos 0) near_side signs.0, subst (λ z. pos 0 <ℤ z) far_side signs.1, refl)
 
-  pub becomes_nothing : ¬ ((near <ℤ pos 0) × (pos 0 <ℤ far)) → ¬ ((far <ℤ pos 0) × (pos 0 <ℤ near)) → Becomes at s v w h []
+  pub becomes_nothing : ¬ ((near <ℤ pos 0) × (pos 0 <ℤ far)) → ¬ ((far <ℤ pos 0) × (pos 0 <ℤ near)) → BecomesCrossing at s v w h []
   becomes_nothing first second = inr (inr (
     λ p q. first (subst (λ z. z <ℤ pos 0) (sym near_side) p, subst (λ z. pos 0 <ℤ z) (sym far_side) q),
     λ p q. second (subst (λ z. z <ℤ pos 0) (sym far_side) q, subst (λ z. pos 0 <ℤ z) (sym near_side) p),
@@ -88,14 +88,14 @@ module _ {DE UE F : Type 0} where
     lists = λ due lacking sides. (sides, λ lists. lists);
   }
 
-  turned_more : (first now : Mesh Point DE UE F) (crossed : List ℕ) (u j : ℕ) → TurnsInto (point_at first) first now crossed → CanTurn (point_at now) now.shape u
+  turned_more : (first now : Mesh Point DE UE F) (crossed : List ℕ) (u j : ℕ) → TurnsInto (point_at first) first now crossed → CanFlipInPlane (point_at now) now.shape u
       → 0 < count_of j crossed → j / 2 ≡ u → TurnsInto (point_at first) first (edge_flipped now u) crossed
   turned_more first now crossed u j turns can among is = record {
     turned = turns.turned ++ (u ∷ []);
     can =
         turns-append (point_at first) first turns.turned u turns.can
-        (subst (λ d. CanTurn (λ i. slice_index_or d i origin_point) (flipped_each first turns.turned).shape u) (points_stay first turns.turned)
-        (subst (λ (m : Mesh Point DE UE F). CanTurn (point_at m) m.shape u) turns.is can));
+        (subst (λ d. CanFlipInPlane (λ i. slice_index_or d i origin_point) (flipped_each first turns.turned).shape u) (points_stay first turns.turned)
+        (subst (λ (m : Mesh Point DE UE F). CanFlipInPlane (point_at m) m.shape u) turns.is can));
     is = ap (λ (m : Mesh Point DE UE F). edge_flipped m u) turns.is ∙ sym (flipped-append first turns.turned u);
     only = λ k there. elim (cases_eq k u) [
       | inl same ↦ (j, among, is ∙ sym same)
@@ -106,7 +106,7 @@ module _ {DE UE F : Type 0} where
   -- one turn of the loop
   module _ (first : Mesh Point DE UE F) (crossed : List ℕ) (v w : ℕ) (now : Mesh Point DE UE F) (front : List ℕ) (h : ℕ) (back : List ℕ)
       (way : IsOnWay first crossed v w now (front ++ (h ∷ back))) (before : NarrowerBefore (point_at now) now.shape v w front h)
-      (after : NotWiderAfter (point_at now) now.shape v w h back) (rest : List ℕ) (becomes : Becomes (point_at now) now.shape v w h rest) where
+      (after : NotWiderAfter (point_at now) now.shape v w h back) (rest : List ℕ) (becomes : BecomesCrossing (point_at now) now.shape v w h rest) where
     abbrev n : Mesh Point DE UE F
     n = edge_flipped now (h / 2)
 
@@ -170,7 +170,7 @@ module _ {DE UE F : Type 0} where
 -- the half edge at a place that is wider than the one before and no narrower than the one after
 pub turns_there : {DE UE F : Type 0} (m : Mesh Point DE UE F) → TriangulatesItsHull (point_at m) m → (v w : ℕ) (list : List ℕ) → IsChannel (point_at m) m.shape v w list → (place h : ℕ)
     → slice_get list place ≡ Some h → IsNarrowerBefore (point_at m) m.shape v w list place → IsNotWiderAfter (point_at m) m.shape v w list place
-    → CanTurn (point_at m) m.shape (h / 2)
+    → CanFlipInPlane (point_at m) m.shape (h / 2)
 turns_there m planar v w list channel place h there narrow wide =
     can_turn (point_at m) m planar v w (take place list) h (drop (suc place) list)
     (subst (λ (l : List ℕ). IsChannel (point_at m) m.shape v w l) (parted list place h there) channel)

@@ -6,11 +6,11 @@ use Rattle.dcel_maps.specs.edits.Flip.{edge_flipped}
 use Rattle.dcel_maps.specs.Shapes.{IsLive, Mesh, Shape}
 use Rattle.dcel_maps.specs.Words.{count_of}
 use Rattle.dcel_plane.specs.Plane.{point_at}
-use Rattle.dcel_plane.specs.removal.Wheels.{CanTurn}
-use Rattle.dcel_plane.specs.segments.Segments.{Becomes, width}
+use Rattle.dcel_plane.specs.removal.Wheels.{CanFlipInPlane}
+use Rattle.dcel_plane.specs.segments.Segments.{BecomesCrossing, width}
 
 -- both are vertices
-pub record AreVertices (s : Shape) (v w : ℕ) : Type 0 where
+pub record HasVertices (s : Shape) (v w : ℕ) : Type 0 where
   pub from : v < s.vertices
   pub to : w < s.vertices
 
@@ -31,8 +31,8 @@ IsNotWiderAfter at s v w list place = (h k : ℕ) → slice_get list place ≡ S
 pub record IsLeftAt {DE UE F : Type 0} (old new : Mesh Point DE UE F) (v w : ℕ) (before after : List ℕ) (place : ℕ) : Type 0 where
   pub half : ℕ
   pub there : slice_get before place ≡ Some half
-  pub can : CanTurn (point_at old) old.shape (half / 2)
+  pub can : CanFlipInPlane (point_at old) old.shape (half / 2)
   pub flipped : new ≡ edge_flipped old (half / 2)
   pub rest : List ℕ
-  pub becomes : Becomes (point_at old) old.shape v w half rest
+  pub becomes : BecomesCrossing (point_at old) old.shape v w half rest
   pub list : after ≡ take place before ++ (rest ++ drop (suc place) before)

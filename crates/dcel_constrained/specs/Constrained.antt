@@ -1,5 +1,4 @@
 -- What contracts see of a constrained triangulation.
-use Rattle.std.specs.Prelude.{◌≡◌, []}
 use Rattle.dcel_predicates.specs.declared.point.Point.{Point}
 use Rattle.dcel_maps.specs.Shapes.{Mesh}
 use Rattle.dcel_regions.specs.declared.mark.Mark.{Mark}
@@ -9,11 +8,3 @@ module _ {A : Type 0} where
   -- its mesh
   abbrev pub marked_mesh : ConstrainedTriangulation A → Mesh Point (Unit {0}) Mark (Unit {0})
   marked_mesh t = t.planar.dcel
-
-  -- no edge is still to be looked at
-  abbrev pub IsWhole : ConstrainedTriangulation A → Type 0
-  IsWhole t = t.planar.due.items ≡ []
-
-  -- the mesh is as it was, and what was whole is whole
-  abbrev pub IsUnchanged : ConstrainedTriangulation A → ConstrainedTriangulation A → Type 0
-  IsUnchanged old new = (marked_mesh new ≡ marked_mesh old) × (IsWhole old → IsWhole new)

@@ -7,11 +7,11 @@ use Rattle.dcel_plane.specs.Plane.{IsCircled, IsInner, point_at}
 use Rattle.dcel_plane.specs.segments.Segments.{CanTurnEach, Crosses, LeadsAlong, flipped_each}
 use Rattle.dcel_regions.specs.Marked.{IsMarked}
 use Rattle.dcel_regions.specs.declared.mark.Mark.{Mark}
-use Rattle.dcel_constrained.specs.Meeting.{LiesBetween}
+use Rattle.dcel_constrained.specs.Meeting.{LiesBetweenEnds}
 
 -- the vertex x is an end of the segment from v to w, or lies between its ends
 abbrev pub LiesOnSegment : (ℕ → Point) → ℕ → ℕ → ℕ → Type 0
-LiesOnSegment at v w x = (x ≡ v) ⊎ ((x ≡ w) ⊎ LiesBetween at v w x)
+LiesOnSegment at v w x = (x ≡ v) ⊎ ((x ≡ w) ⊎ LiesBetweenEnds at v w x)
 
 module _ {DE F : Type 0} where
   -- each edge that breaks Delaunay's condition, and isn't marked, is in the list

@@ -7,9 +7,9 @@ use Rattle.dcel_plane.specs.Plane.{point_at}
 use Rattle.dcel_regions.specs.Marked.{IsMarked}
 use Rattle.dcel_regions.specs.declared.mark.Mark.{Mark}
 use Rattle.dcel_constrained.specs.Constraints.{KeepsMarked}
-use Rattle.dcel_constrained.specs.Meeting.{LiesBetween}
-use Rattle.dcel_constrained.specs.declared.laying.Part.{Part}
-use Rattle.dcel_constrained.specs.declared.laying.Part.TheVariants.{Between, Laid}
+use Rattle.dcel_constrained.specs.Meeting.{LiesBetweenEnds}
+use Rattle.dcel_constrained.specs.declared.segments.chains.Part.{Part}
+use Rattle.dcel_constrained.specs.declared.segments.chains.Part.TheVariants.{Between, Laid}
 
 module _ {DE F : Type 0} where
   -- the vertices stand where they stood, there are as many edges, the marked ones still are, and another one is marked only if it joins v and w
@@ -31,4 +31,4 @@ module _ {DE F : Type 0} where
   -- a marked edge joins v and w; or a vertex lies between them, and nothing has changed
   abbrev pub IsPart : Mesh Point DE Mark F → Mesh Point DE Mark F → ℕ → ℕ → Part → Type 0
   IsPart old new v w (Laid is_new) = IsLaid old new v w is_new
-  IsPart old new v w (Between y) = (new ≡ old) × (y < old.shape.vertices) × LiesBetween (point_at old) v w y
+  IsPart old new v w (Between y) = (new ≡ old) × (y < old.shape.vertices) × LiesBetweenEnds (point_at old) v w y

@@ -1,10 +1,10 @@
 pub mod Channels
 pub mod Constrained
 pub mod Constraints
-pub mod Inserted
 pub mod Laying
 pub mod Meeting
 pub mod Missing
 pub mod Reached
 pub mod Soundness
 pub mod Splitting
+pub mod Sight

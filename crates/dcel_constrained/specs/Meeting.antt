@@ -8,10 +8,10 @@ use Rattle.dcel_maps.specs.Walking.{Leads}
 use Rattle.dcel_maps.specs.Words.{count_of}
 use Rattle.dcel_plane.specs.covering.Covering.{dot}
 use Rattle.dcel_plane.specs.Plane.{point_at}
-use Rattle.dcel_constrained.specs.declared.joining.Joined.{Joined}
-use Rattle.dcel_constrained.specs.declared.joining.Joined.TheVariants.{Between, Edge}
-use Rattle.dcel_constrained.specs.declared.walking.Met.{Met}
-use Rattle.dcel_constrained.specs.declared.walking.Met.TheVariants.{Side, Vertex}
+use Rattle.dcel_constrained.specs.declared.segments.join.Joined.{Joined}
+use Rattle.dcel_constrained.specs.declared.segments.join.Joined.TheVariants.{Between, Edge}
+use Rattle.dcel_constrained.specs.declared.segments.walk.Met.{Met}
+use Rattle.dcel_constrained.specs.declared.segments.walk.Met.TheVariants.{Side, Vertex}
 
 -- first it is a half edge across the triangle where it begins, or the end of an edge that leads along it
 abbrev pub IsFirstMet : (ℕ → Point) → Shape → ℕ → ℕ → Met → Type 0
@@ -25,7 +25,7 @@ IsMetAfter at s v w h (Side k) =
 IsMetAfter at s v w h (Vertex y) = (orient2d_by at v w (corner_beyond s h) ≡ pos 0) × (y ≡ corner_beyond s h)
 
 -- the vertex y lies on the segment, between its ends
-pub record LiesBetween (at : ℕ → Point) (v w y : ℕ) : Type 0 where
+pub record LiesBetweenEnds (at : ℕ → Point) (v w y : ℕ) : Type 0 where
   pub on : orient2d_by at v w y ≡ pos 0
   pub inside : dot (at v) (at w) (at y) <ℤ pos 0
 
@@ -37,11 +37,11 @@ ListsStill before after = (u : ℕ) → 0 < count_of u before → 0 < count_of u
 pub record HasCome (at : ℕ → Point) (s : Shape) (v w : ℕ) (list due : List ℕ) (y : ℕ) : Type 0 where
   pub vertex : y < s.vertices
   pub sides : HasSidesOf due s list
-  pub there : ((y ≡ w) × IsChannel at s v w list) ⊎ LiesBetween at v w y
+  pub there : ((y ≡ w) × IsChannel at s v w list) ⊎ LiesBetweenEnds at v w y
 
 -- there is an edge, made by flips of edges that the segment crossed; or a vertex lies on the segment, and nothing has changed
-abbrev pub IsJoined : {DE UE F : Type 0} → Mesh Point DE UE F → Mesh Point DE UE F → ℕ → ℕ → Joined → Type 0
-IsJoined old new v w Edge =
+abbrev pub IsJoinedAs : {DE UE F : Type 0} → Mesh Point DE UE F → Mesh Point DE UE F → ℕ → ℕ → Joined → Type 0
+IsJoinedAs old new v w Edge =
     ((h : ℕ) × Leads new.shape v w h)
     × ((list : List ℕ) × TurnsInto (point_at old) old new list × ((k : ℕ) → 0 < count_of k list → Crosses (point_at old) old.shape v w k))
-IsJoined old new v w (Between y) = (new ≡ old) × (y < old.shape.vertices) × LiesBetween (point_at old) v w y
+IsJoinedAs old new v w (Between y) = (new ≡ old) × (y < old.shape.vertices) × LiesBetweenEnds (point_at old) v w y

@@ -6,7 +6,7 @@ use Rattle.dcel_maps.specs.Shapes.{Mesh, origin_of}
 use Rattle.dcel_maps.specs.Triangulations.{AllTriangles}
 use Rattle.dcel_maps.specs.Walking.{Leads}
 use Rattle.dcel_plane.specs.Plane.{IsCircled, IsInner, TrianglesTurnLeft, point_at}
-use Rattle.dcel_planar.specs.Growing.{HasHull, IsFlat, IsJoined}
+use Rattle.dcel_planar.specs.Growing.{IsJoined}
 use Rattle.dcel_regions.specs.Marked.{IsMarked, is_constraint}
 use Rattle.dcel_regions.specs.declared.mark.Mark.{Mark}
 use Rattle.dcel_constrained.specs.Constraints.{IsFreeWay, ListsFree}
@@ -20,10 +20,6 @@ module _ {DE F : Type 0} where
     pub triangles : AllTriangles m.shape
     pub plane : TrianglesTurnLeft (point_at m) m.shape
     pub listed : ListsFree m due
-
-  -- all vertices stand on one line, or there is a triangle and the outer face is a convex hull
-  abbrev pub IsOutlined : Mesh Point DE Mark F → Type 0
-  IsOutlined m = IsFlat m ⊎ HasHull m
 
   -- an edge between two triangles, one of which has a corner inside the circle of the other one, is marked
   abbrev pub IsConstrainedDelaunay : Mesh Point DE Mark F → Type 0

@@ -1,9 +1,7 @@
 -- Constraints over an insertion: a marked edge that the point lies on becomes two.
-use Rattle.std.specs.Prelude.{◌≡◌, ◌⊎◌, ℕ, ◌*◌, ◌/◌, List}
+use Rattle.std.specs.Prelude.{◌≡◌, ℕ, ◌*◌, ◌/◌}
 use Rattle.dcel_predicates.specs.declared.point.Point.{Point}
 use Rattle.dcel_maps.specs.Shapes.{Mesh, end_of, origin_of}
-use Rattle.dcel_planar.specs.Growing.{Gains}
-use Rattle.dcel_planar.specs.Places.{HasPoint}
 use Rattle.dcel_regions.specs.Marked.{IsMarked}
 use Rattle.dcel_regions.specs.declared.mark.Mark.{Mark}
 use Rattle.dcel_constrained.specs.Constraints.{HasConstraint, IsPartOf, KeepsMarked}
@@ -30,7 +28,3 @@ module _ {DE F : Type 0} where
     pub keeps : KeepsMarked old new
     pub only : (u : ℕ) → IsMarked new u → IsMarked old u
     pub points : new.vertex_data ≡ old.vertex_data
-
-  -- the vertex v has the point: it stood there before, and nothing has changed, or it is new
-  abbrev pub IsPutIn : Mesh Point DE Mark F → Mesh Point DE Mark F → List ℕ → List ℕ → Point → ℕ → Type 0
-  IsPutIn old new due items p v = (HasPoint old p v × (new ≡ old) × (items ≡ due)) ⊎ Gains old new p v

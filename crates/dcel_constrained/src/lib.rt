@@ -6,21 +6,14 @@
 //! `dcel_plane`.
 #![tactic(auto)]
 
-mod adding;
-mod connecting;
-mod inserting;
-mod joining;
-mod laying;
-mod locating;
+mod api;
+mod insert;
+mod locate;
 mod mesh;
-mod peaks;
-mod reading;
-mod segment;
+mod segments;
 mod triangulation;
-mod walking;
-mod ways;
 
 pub use dcel_regions::Mark;
-pub use joining::{Joined, join};
 pub use mesh::ConstrainedMesh;
+pub use segments::join::{Joined, join};
 pub use triangulation::ConstrainedTriangulation;

@@ -1,4 +1,6 @@
 mod Gathered
+mod OnlyEdges
+mod Passes
 mod Removed
 mod Simple
 mod TakenBack

@@ -12,6 +12,8 @@ use spade_dcel::handles::{FixedFaceHandle, FixedVertexHandle, InnerTag};
 use spade_dcel::laws::every_mesh;
 use spade_dcel::operations::{append_unconnected_vertex, insert_into_triangle, swap_remove_vertex};
 use std::alloc::Allocator;
+use std::error::Error;
+use std::fmt;
 
 /// Why a vertex was not inserted into a face.
 #[derive(Clone, Copy, PartialEq, Eq, Debug, Drop)]
@@ -25,6 +27,19 @@ pub enum WhyNotInserted {
     /// Memory ran out.
     OutOfMemory,
 }
+
+impl fmt::Display for WhyNotInserted {
+    fn fmt<W: fmt::Write>(&self, f: &mut fmt::Formatter<W>) -> fmt::Result {
+        f.write_str(match self {
+            WhyNotInserted::RemovalOpen => "a removal is open",
+            WhyNotInserted::NoTriangle => "there is no such inner triangle",
+            WhyNotInserted::NoRoom => "there are no numbers left",
+            WhyNotInserted::OutOfMemory => "out of memory",
+        })
+    }
+}
+
+impl Error for WhyNotInserted {}
 
 /// A vertex was not inserted into a face: the reason, and its datum.
 #[derive(Clone, Copy, PartialEq, Eq, Debug, Drop)]

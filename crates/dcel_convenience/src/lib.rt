@@ -1,15 +1,19 @@
 //! Functions that many users of the layer would otherwise write, over public calls of `spade_dcel`
 //! alone. [`insert_vertex`] and [`remove_vertex`] insert a vertex into a triangle and take it out
-//! again, [`degree`] and [`neighbors`] look around a vertex, and [`can_flip_simple`] allows the
-//! flips that keep a mesh simple.
+//! again, [`degree`], [`neighbors`] and [`look_around`] look around a vertex, [`can_flip_simple`]
+//! allows the flips that keep a mesh simple, and [`is_simple`] tests whether it is.
 #![tactic(auto)]
 
+mod edges;
 mod flipping;
 mod inserting;
 mod removing;
+mod surrounding;
 mod vertices;
 
+pub use edges::is_simple;
 pub use flipping::can_flip_simple;
 pub use inserting::{NotInserted, WhyNotInserted, insert_vertex};
 pub use removing::{WhyNotRemoved, remove_vertex};
-pub use vertices::{degree, neighbors};
+pub use surrounding::{Surroundings, look_around};
+pub use vertices::{degree, degrees, neighbors};

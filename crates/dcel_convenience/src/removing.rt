@@ -1,6 +1,6 @@
 //! Removing a vertex inside triangles, and filling the hole.
 
-ghost use Rattle.std.specs.Prelude.{◌≡◌, ◌-◌, ◌==◌, IfErr, IfOk, OnErr, OnOk, Some, None, cond, slice_index_or};
+ghost use Rattle.std.specs.Prelude.{◌≡◌, ◌-◌, ◌==◌, IfErr, IfOk, OnErr, OnOk, Some, None, cond, slice_get};
 ghost use Rattle.dcel_convenience.specs.Removing.{CanRemoveVertex, MayNotRemove, TakesOut, border_round};
 ghost use Rattle.dcel_maps.specs.Shapes.{IsMesh};
 ghost use Rattle.spade_dcel.specs.Handles.{mesh_behind, number_of};
@@ -12,6 +12,8 @@ use spade_dcel::operations::{
     RemovalResult, Room, cleanup_isolated_vertex, isolate_vertex_and_fill_hole, swap_remove_vertex,
 };
 use std::alloc::{AllocError, Allocator};
+use std::error::Error;
+use std::fmt;
 
 /// Why a vertex was not removed.
 #[derive(Clone, Copy, PartialEq, Eq, Debug, Drop)]
@@ -26,6 +28,19 @@ pub enum WhyNotRemoved {
     /// Memory ran out.
     OutOfMemory,
 }
+
+impl fmt::Display for WhyNotRemoved {
+    fn fmt<W: fmt::Write>(&self, f: &mut fmt::Formatter<W>) -> fmt::Result {
+        f.write_str(match self {
+            WhyNotRemoved::RemovalOpen => "a removal is open",
+            WhyNotRemoved::NotInside => "the vertex is not inside three or more triangles",
+            WhyNotRemoved::NoRoom => "there are no numbers left",
+            WhyNotRemoved::OutOfMemory => "out of memory",
+        })
+    }
+}
+
+impl Error for WhyNotRemoved {}
 
 /// Removes a vertex whose faces are all inner triangles, fills the hole with triangles, and returns
 /// its datum.
@@ -51,7 +66,7 @@ pub fn remove_vertex<
 ) -> Result<RemovalResult<V>, WhyNotRemoved>
     ensures can { OnOk result (CanRemoveVertex dcel.old vertex) }
     ensures edit { OnOk result (TakesOut DE.is_default UE.is_default F.is_default dcel.old dcel.new vertex) }
-    ensures datum { IfOk result (λ taken. taken.removed_vertex ≡ slice_index_or dcel.old.vertex_data vertex taken.removed_vertex) }
+    ensures datum { IfOk result (λ taken. slice_get dcel.old.vertex_data vertex ≡ Some taken.removed_vertex) }
     ensures moved { IfOk result (λ taken. taken.swapped_in_vertex
         ≡ cond (vertex == dcel.old.shape.vertices - 1) None (Some (dcel.old.shape.vertices - 1))) }
     ensures why { IfErr result (MayNotRemove dcel.old vertex) }

@@ -1,10 +1,12 @@
 //! What is around a vertex: its degree and its neighbors.
 
 ghost use Rattle.std.specs.Prelude.{◌≡◌, IfOk, length, map};
+ghost use Rattle.dcel_maps.specs.Numbers.{numbers_between};
 ghost use Rattle.dcel_maps.specs.Shapes.{end_of};
 ghost use Rattle.dcel_maps.specs.Walking.{out_edges_of};
 ghost use Rattle.spade_dcel.specs.Handles.{mesh_behind, number_of};
 
+use spade_dcel::dcel::Dcel;
 use spade_dcel::handles::{FixedVertexHandle, VertexHandle};
 use std::alloc::{AllocError, Allocator};
 
@@ -40,4 +42,22 @@ pub fn neighbors<V, DE, UE, F, A: Allocator, B: Allocator>(
         ends.push(edge.to().fix())?;
     }
     Ok(ends)
+}
+
+/// Returns the degree of each vertex, in the order of their numbers.
+///
+/// The time is linear in the number of edges and vertices. If memory runs out it returns
+/// `AllocError`.
+pub fn degrees<V, DE, UE, F, A: Allocator, B: Allocator>(
+    alloc: B,
+    dcel: &Dcel<V, DE, UE, F, A>,
+) -> Result<Vec<usize, B>, AllocError>
+    ensures { IfOk result (λ degrees. degrees.items
+        ≡ map (λ v. length (out_edges_of dcel.now v)) (numbers_between 0 dcel.now.shape.vertices)) }
+{
+    let mut degrees = Vec::new(alloc);
+    for vertex in dcel.vertices() {
+        degrees.push(degree(vertex))?;
+    }
+    Ok(degrees)
 }

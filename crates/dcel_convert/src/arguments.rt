@@ -79,7 +79,7 @@ faces keep their numbers as words. Words have no coordinates: in other formats a
 In a Delaunay triangulation each face is a counterclockwise triangle, no vertex lies inside the
 circle of one, the border is a convex hull that passes no vertex twice, and each vertex has an edge.
 For --check-delaunay all vertices have one third coordinate. The first two, times the least power
-of ten that makes all of them whole, are from -1073741824 to 1073741824.
+of ten that makes all of them whole, are from -9007199254740992 to 9007199254740992.
 
 What the output has no place for is left out, and named on standard error. A file that has no mesh
 is refused with the first thing that is wrong with it. Messages number vertices and faces from 0,

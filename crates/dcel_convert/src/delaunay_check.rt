@@ -57,7 +57,7 @@ pub enum Flaw {
 /// Tells why the faces are no Delaunay triangulation of the vertices, unless they are one.
 ///
 /// The first two coordinates of each vertex, times the least power of ten that makes all of them
-/// whole, have to be from -2^30 to 2^30, and the third one, as a double, the same for all of them.
+/// whole, have to be from -2^53 to 2^53, and the third one, as a double, the same for all of them.
 pub fn check_delaunay(alloc: Global, surface: &Surface) -> Result<(), Fault> {
     let points = points_of(alloc, surface)?;
     match from_faces(alloc, points, &surface.faces) {
@@ -78,7 +78,8 @@ fn check_mesh(surface: &Surface, mesh: &PlaneMesh) -> Result<(), Fault> {
 /// Returns where the vertices stand, with coordinates that a scale makes whole.
 fn points_of(alloc: Global, surface: &Surface) -> Result<Vec<Point>, Fault> {
     let coordinates = coordinates_of(alloc, surface)?;
-    let scale = Scale::least(&coordinates);
+    // None has more places than a scale makes whole: `coordinate` has refused it.
+    let scale = Scale::least(&coordinates).unwrap_or(Scale::ONE);
     let mut points = Vec::new(alloc);
     for (vertex, pair) in coordinates.chunks(2).enumerate() {
         if let &[x, y] = pair {
@@ -125,10 +126,11 @@ fn number_of(word: Option<&str>) -> Option<f64> {
 
 /// Returns the number that a word says.
 fn coordinate(vertex: usize, word: Option<&str>) -> Result<Decimal, Flaw> {
-    Decimal::read(word.unwrap_or("")).map_err(|error| match error {
-        DecimalError::OutOfRange => out_of_range(vertex, Scale::ONE),
-        _ => Flaw::TooManyDigits(vertex),
-    })
+    match Decimal::read(word.unwrap_or("")) {
+        Ok(number) if Scale::least(&[number]).is_some() => Ok(number),
+        Err(DecimalError::OutOfRange) => Err(out_of_range(vertex, Scale::ONE)),
+        _ => Err(Flaw::TooManyDigits(vertex)),
+    }
 }
 
 /// Returns the point with these coordinates times a scale.

@@ -3,3 +3,6 @@ pub mod Long
 pub mod Moved
 pub mod Signed
 pub mod Scaled
+pub mod Floors
+pub mod Halvings
+pub mod Gridding

@@ -7,7 +7,7 @@ use Rattle.dcel_decimals.specs.Digits.{IsLong}
 use Rattle.dcel_decimals.proofs.Powers.{keeps, times_ten, larger}
 
 -- q stays before the zeros at the end, or a greater number stands there
-pub lasts : (q s : ℕ) (more : List ℕ) (m t : ℕ) → 2 ^ 63 ≤ q → (q % 10 ≡ 0 → q ≡ 0) → AllDigits 10 more → digits_value_after 10 (q * 10 ^ s) more ≡ m * 10 ^ t → 2 ^ 63 ≤ m
+pub lasts : (q s : ℕ) (more : List ℕ) (m t : ℕ) → 10 ^ 25 ≤ q → (q % 10 ≡ 0 → q ≡ 0) → AllDigits 10 more → digits_value_after 10 (q * 10 ^ s) more ≡ m * 10 ^ t → 10 ^ 25 ≤ m
 lasts q s [] m t h n d e = let r = keeps q s m t (omega arith) n e in omega (arith, r.1)
 lasts q s (c ∷ cs) m t h n d e =
     let small : digit_value c < 10 = d.0 in
@@ -17,7 +17,7 @@ lasts q s (c ∷ cs) m t h n d e =
           lasts q (suc s) cs m t h n d.1 (ap (λ (v : ℕ). digits_value_after 10 v cs) (sym same) ∙ e)
       | inr one ↦
           let v = (q * 10 ^ s) * 10 + digit_value c in
-          let large : 2 ^ 63 ≤ v = omega (arith, larger q s) in
+          let large : 10 ^ 25 ≤ v = omega (arith, larger q s) in
           let same : v ≡ v * 10 ^ 0 = omega arith in
           lasts v 0 cs m t large (λ z. absurd (omega arith)) d.1 (ap (λ (v : ℕ). digits_value_after 10 v cs) (sym same) ∙ e)
     ]
@@ -34,12 +34,12 @@ digits_of_both (x ∷ xs) ys d e = (d.0, digits_of_both xs ys d.1 e)
 pub stays_long : (n : ℕ) (more : List ℕ) → AllDigits 10 more → IsLong n → IsLong (digits_value_after 10 n more)
 stays_long n more d long next m t e f = long (more ++ next) m t (digits_of_both more next d e) (value_of_both n more next ∙ f)
 
--- and it is 2^63 or more
-pub long_is_large : (n : ℕ) → IsLong n → 2 ^ 63 ≤ n
+-- and it has more than 25 digits
+pub long_is_large : (n : ℕ) → IsLong n → 10 ^ 25 ≤ n
 long_is_large n long = long [] n 0 tt (omega arith)
 
 -- a number above the range is long if its last digit isn't 0
-pub becomes_long : (n : ℕ) → 2 ^ 63 ≤ n → (n % 10 ≡ 0 → n ≡ 0) → IsLong n
+pub becomes_long : (n : ℕ) → 10 ^ 25 ≤ n → (n % 10 ≡ 0 → n ≡ 0) → IsLong n
 becomes_long n h last more m t d e = lasts n 0 more m t h last d (ap (λ (v : ℕ). digits_value_after 10 v more) (omega arith) ∙ e)
 
 value_at : (n : ℕ) (bs : List ℕ) (i : ℕ) → i < length bs → digits_value_after 10 n (take (suc i) bs) ≡ digits_value_after 10 n (take i bs) * 10 + digit_value (get_or bs i 0)
@@ -63,7 +63,7 @@ digits_rest (b ∷ bs) zero d = d
 digits_rest (b ∷ bs) (suc i) d = digits_rest bs i d.1
 
 -- the digits so far are long, so all are
-pub long_early : (n : ℕ) (bs : List ℕ) (i v d : ℕ) → i < length bs → AllDigits 10 bs → v ≡ digits_value_after 10 n (take i bs) → d ≡ digit_value (get_or bs i 0) → 0 < d → d < 10 → 2 ^ 63 ≤ v * 10 + d → IsLong (digits_value_after 10 n bs)
+pub long_early : (n : ℕ) (bs : List ℕ) (i v d : ℕ) → i < length bs → AllDigits 10 bs → v ≡ digits_value_after 10 n (take i bs) → d ≡ digit_value (get_or bs i 0) → 0 < d → d < 10 → 10 ^ 25 ≤ v * 10 + d → IsLong (digits_value_after 10 n bs)
 long_early n bs i v d h all ev ed above below large =
     let next : digits_value_after 10 n (take (i + 1) bs) ≡ v * 10 + d = omega (arith, value_next n bs i h) in
     let long : IsLong (v * 10 + d) = becomes_long (v * 10 + d) large (λ z. absurd (omega arith)) in

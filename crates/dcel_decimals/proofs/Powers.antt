@@ -41,10 +41,10 @@ keeps q (suc s) m (suc t) p n e =
     let r = keeps q s m t p n same in
     (omega (arith, r.0), r.1)
 
--- powers above the eighteenth lead beyond the range
-pub beyond : (n k : ℕ) → 1 ≤ n → 19 ≤ k → 2 ^ 63 ≤ n * 10 ^ k
+-- powers above the twenty-fourth make more than 25 digits
+pub beyond : (n k : ℕ) → 1 ≤ n → 25 ≤ k → 10 ^ 25 ≤ n * 10 ^ k
 beyond n k h l =
-    let large : 10 ^ 19 ≤ 10 ^ k = pow-le-pow_right (lit< tt) {i = 19} l in
+    let large : 10 ^ 25 ≤ 10 ^ k = pow-le-pow_right (lit< tt) {i = 25} l in
     let more = mul-le-mul_right (10 ^ k) h in
     omega arith
 

@@ -6,7 +6,7 @@ use Rattle.std.proofs.lemmas.List.Elements.{All-more, All-weaker, All-get_or}
 use Rattle.std.proofs.lemmas.Bool.{cases_eq}
 use Rattle.dcel_decimals.specs.declared.decimal.Decimal.{Decimal}
 use Rattle.dcel_decimals.specs.Scaling.{Becomes, BecomesWhole}
-use Rattle.dcel_decimals.proofs.Powers.{twice, keeps}
+use Rattle.dcel_decimals.proofs.Powers.{twice, keeps, some}
 use Rattle.dcel_decimals.proofs.Signed.{sizes, times_again}
 
 -- with fewer tens than there are places it isn't whole
@@ -39,12 +39,12 @@ module _ (u m places power more : ℕ) (same : u ≡ m) (e : more ≡ power - pl
   pub scaled_up : (size : ℕ) → size ≡ u * 10 ^ more → size * 10 ^ places ≡ m * 10 ^ power
   scaled_up size f = ap (λ (x : ℕ). x * 10 ^ places) f ∙ again
 
-  pub scaled_beyond : 2 ^ 63 ≤ u * 10 ^ more → 2 ^ 63 * 10 ^ places ≤ m * 10 ^ power
-  scaled_beyond f = let g = mul-le-mul_right (10 ^ places) f in let k = again in omega arith
+  pub scaled_beyond : 2 ^ 53 < u * 10 ^ more → 2 ^ 53 * 10 ^ places < m * 10 ^ power
+  scaled_beyond f = let g = mul-le-mul_right (10 ^ places) f in let k = again in let p = some places in omega arith
 
 -- the least power for the first decimals, which all of them need
 pub record IsLeast (power seen : ℕ) (decimals : List Decimal) : Type 0 where
-  pub small : power ≤ 18
+  pub small : power ≤ 400
   pub enough : All (λ d. d.places ≤ power) (take seen decimals)
   pub needed : (other : ℕ) → All (BecomesWhole other) decimals → power ≤ other
 

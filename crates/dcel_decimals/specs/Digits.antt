@@ -10,13 +10,13 @@ use Rattle.dcel_decimals.specs.declared.errors.DecimalError.TheVariants.{NotDeci
 abbrev pub number_of : Digits → ℕ
 number_of d = d.significant * 10 ^ d.zeros
 
--- whatever digits follow, what stands before the zeros at the end is 2^63 or more
+-- whatever digits follow, what is before the zeros at the end has more than 25 digits
 abbrev pub IsLong : ℕ → Type 0
-IsLong n = (more : List ℕ) (m zeros : ℕ) → AllDigits 10 more → digits_value_after 10 n more ≡ m * 10 ^ zeros → 2 ^ 63 ≤ m
+IsLong n = (more : List ℕ) (m zeros : ℕ) → AllDigits 10 more → digits_value_after 10 n more ≡ m * 10 ^ zeros → 10 ^ 25 ≤ m
 
--- no size below 2^63 with at most 18 places is n * 10 ^ up / 10 ^ down
+-- no size of at most 25 digits with at most 400 places is n * 10 ^ up / 10 ^ down
 abbrev pub IsNoUnsigned : ℕ → ℕ → ℕ → Type 0
-IsNoUnsigned n up down = (size places : ℕ) → size < 2 ^ 63 → places ≤ 18 → size * 10 ^ down ≡ n * 10 ^ (up + places) → ⊥
+IsNoUnsigned n up down = (size places : ℕ) → size < 10 ^ 25 → places ≤ 400 → size * 10 ^ down ≡ n * 10 ^ (up + places) → ⊥
 
 -- what n * 10 ^ up / 10 ^ down is read as
 abbrev pub Reads : ℕ → ℕ → ℕ → Result Unsigned DecimalError → Type 0

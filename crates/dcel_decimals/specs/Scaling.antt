@@ -1,5 +1,5 @@
 -- Decimals times ten to a power.
-use Rattle.std.specs.Prelude.{◌≡◌, ℕ, ◌*◌, ◌^◌, ◌≤◌, ℤ, pos, ◌*ℤ◌, unsigned_abs}
+use Rattle.std.specs.Prelude.{◌≡◌, ℕ, ◌*◌, ◌^◌, ◌<◌, ℤ, pos, ◌*ℤ◌, unsigned_abs}
 use Rattle.dcel_decimals.specs.declared.decimal.Decimal.{Decimal}
 use Rattle.dcel_decimals.specs.declared.errors.ScalingError.{ScalingError}
 use Rattle.dcel_decimals.specs.declared.errors.ScalingError.TheVariants.{NotWhole, OutOfRange}
@@ -15,4 +15,4 @@ BecomesWhole power d = (number : ℤ) × Becomes d power number
 -- why it is no number that is taken
 abbrev pub MayNotScale : Decimal → ℕ → ScalingError → Type 0
 MayNotScale d power NotWhole = (number : ℤ) → Becomes d power number → ⊥
-MayNotScale d power OutOfRange = 2 ^ 63 * 10 ^ d.places ≤ unsigned_abs d.mantissa * 10 ^ power
+MayNotScale d power OutOfRange = 2 ^ 53 * 10 ^ d.places < unsigned_abs d.mantissa * 10 ^ power

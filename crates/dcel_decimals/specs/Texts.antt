@@ -25,5 +25,5 @@ Writes text number places = let n = numeral_of text in
 abbrev pub MayNotRead : List ℕ → DecimalError → Type 0
 MayNotRead text NotDecimal = ¬ (IsDecimalText text)
 MayNotRead text OutOfRange = let n = numeral_of text in IsDecimalText text × (2 ^ 63 * 10 ^ tens_down n ≤ numeral_digits n * 10 ^ tens_up n)
-MayNotRead text TooManyDigits = IsDecimalText text × ((number : ℤ) (places : ℕ) → unsigned_abs number < 2 ^ 63 → places ≤ 18 → Writes text number places → ⊥)
+MayNotRead text TooManyDigits = IsDecimalText text × ((number : ℤ) (places : ℕ) → unsigned_abs number < 10 ^ 25 → places ≤ 400 → Writes text number places → ⊥)
 MayNotRead text FarExponent = IsDecimalText text × (2 ^ 64 ≤ digits_value 10 (numeral_of text).exponent)

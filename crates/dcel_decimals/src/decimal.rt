@@ -12,17 +12,21 @@ use crate::scale::Scale;
 use fast_float::Numeral;
 use std::fmt;
 
-/// A number with at most 18 places behind its point: `mantissa` divided by ten to the `places`.
+/// The largest number that is made of a decimal by a scale: 2^53.
+const MOST_SCALED: u128 = 1 << 53;
+
+/// A number of at most 25 digits, between -2^63 and 2^63: `mantissa` divided by ten to the `places`.
 ///
 /// There are as few places as can be, so equal numbers are equal decimals.
 #[derive(Clone, Copy, PartialEq, Eq, Debug)]
 pub struct Decimal {
     /// The number without its point.
-    pub mantissa: i64,
-    /// How many of its digits stand behind the point.
+    pub mantissa: i128,
+    /// How many digits are behind the point, at most 400.
     pub places: u32,
-    pub ghost in_range: { unsigned_abs mantissa < 2 ^ 63 },
-    pub ghost few_places: { places ≤ 18 },
+    pub ghost few_digits: { unsigned_abs mantissa < 10 ^ 25 },
+    pub ghost few_places: { places ≤ 400 },
+    pub ghost in_range: { unsigned_abs mantissa < 2 ^ 63 * 10 ^ places },
     pub ghost shortest: { unsigned_abs mantissa % 10 ≡ 0 → places ≡ 0 },
 }
 
@@ -54,20 +58,23 @@ impl Decimal {
         })
     }
 
-    /// Returns the number times a scale.
+    /// Returns the number times a scale, if that is a whole number from -2^53 to 2^53.
     pub fn scaled(self, scale: Scale) -> Result<i64, ScalingError>
         ensures value { IfOk result (Becomes self scale.power) }
-        ensures range { IfOk result (λ number. unsigned_abs number < 2 ^ 63) }
+        ensures range { IfOk result (λ number. unsigned_abs number ≤ 2 ^ 53) }
         ensures why { IfErr result (MayNotScale self scale.power) }
     {
         if scale.power < self.places {
             return Err(ScalingError::NotWhole);
         }
         let more = u128::from(scale.power - self.places);
-        match raised(self.mantissa.unsigned_abs(), more) {
-            Some(size) => Ok(like(self.mantissa, size)),
-            None => Err(ScalingError::OutOfRange),
+        let Some(size) = raised(self.mantissa.unsigned_abs(), more) else {
+            return Err(ScalingError::OutOfRange);
+        };
+        if size > MOST_SCALED {
+            return Err(ScalingError::OutOfRange);
         }
+        Ok(like(self.mantissa, size) as i64)
     }
 
     /// Returns the number that is this one times a scale.
@@ -82,7 +89,7 @@ impl Decimal {
             places -= 1;
         }
         Decimal {
-            mantissa: like(number, size),
+            mantissa: like(number as i128, size as u128),
             places,
         }
     }
@@ -101,8 +108,8 @@ fn cut_sign(text: &[u8]) -> (bool, &[u8])
 }
 
 /// Returns a number of this size, with the sign of another one.
-fn like(number: i64, size: u64) -> i64
-    requires { size < 2 ^ 63 }
+fn like(number: i128, size: u128) -> i128
+    requires { size < 10 ^ 25 }
     ensures value { (k l : ℕ) → size * k ≡ unsigned_abs number * l → result *ℤ pos k ≡ number *ℤ pos l }
     ensures size { unsigned_abs result ≡ size }
 {
@@ -114,15 +121,15 @@ fn like(number: i64, size: u64) -> i64
 }
 
 /// Returns a number with its sign.
-fn signed(is_negative: bool, size: u64) -> i64
-    requires { size < 2 ^ 63 }
+fn signed(is_negative: bool, size: u128) -> i128
+    requires { size < 10 ^ 25 }
     ensures value { result ≡ with_sign is_negative size }
     ensures size { unsigned_abs result ≡ size }
 {
     if is_negative {
-        -(size as i64)
+        -(size as i128)
     } else {
-        size as i64
+        size as i128
     }
 }
 
@@ -132,11 +139,14 @@ impl fmt::Display for Decimal {
             f.write_str("-")?;
         }
         let size = self.mantissa.unsigned_abs();
-        let unit = 10u64.pow(self.places);
-        write!(f, "{}", size / unit)?;
         if self.places == 0 {
-            return Ok(());
+            return write!(f, "{size}");
         }
+        if self.places > 25 {
+            return write!(f, "0.{size:0width$}", width = self.places as usize);
+        }
+        let unit = 10u128.pow(self.places);
+        write!(f, "{}", size / unit)?;
         let behind = size % unit;
         write!(f, ".{behind:0width$}", width = self.places as usize)
     }

@@ -12,8 +12,8 @@ pub enum DecimalError {
     /// The number is 2^63 or more, or -2^63 or less.
     #[error("the number is too large")]
     OutOfRange,
-    /// The number has more than 18 places behind its point, or without the point and the zeros at
-    /// its end it is 2^63 or more.
+    /// The number has more than 25 digits, without the zeros at its ends, or more than 400 places
+    /// behind its point.
     #[error("the number has too many digits")]
     TooManyDigits,
     /// The exponent is 2^64 or more, or -2^64 or less.
@@ -27,7 +27,7 @@ pub enum ScalingError {
     /// It isn't whole.
     #[error("the number times the scale is not whole")]
     NotWhole,
-    /// It is 2^63 or more, or -2^63 or less.
+    /// It is above 2^53, or below -2^53.
     #[error("the number times the scale is too large")]
     OutOfRange,
 }

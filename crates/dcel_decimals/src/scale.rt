@@ -1,9 +1,11 @@
 //! Scales.
 
-ghost use Rattle.std.specs.Prelude.{◌≡◌, ◌≢◌, ◌^◌, ◌≤◌, ℕ, All, MatchOption};
+ghost use Rattle.std.specs.Prelude.{◌≡◌, ◌≢◌, ◌^◌, ◌≤◌, ◌<◌, ℕ, All, IfNone, IfSome, MatchOption};
 
 use crate::decimal::Decimal;
-use crate::digits::MOST_PLACES;
+
+/// The largest power.
+const MOST: u32 = 18;
 
 /// Ten to a power of at most 18: what decimals are multiplied by so that they become whole.
 #[derive(Clone, Copy, PartialEq, Eq, Debug)]
@@ -23,7 +25,7 @@ impl Scale {
     pub fn of(number: u64) -> Option<Scale>
         ensures { MatchOption result ((power : ℕ) → power ≤ 18 → number ≢ 10 ^ power) (λ scale. number ≡ 10 ^ scale.power) }
     {
-        for power in 0..MOST_PLACES + 1 {
+        for power in 0..MOST + 1 {
             if 10u64.pow(power) == number {
                 return Some(Scale { power });
             }
@@ -31,10 +33,12 @@ impl Scale {
         None
     }
 
-    /// Returns the least power of ten, 1 or more, that makes all of these decimals whole.
-    pub fn least(decimals: &[Decimal]) -> Scale
-        ensures whole { All (BecomesWhole result.power) decimals.now }
-        ensures least { (power : ℕ) → All (BecomesWhole power) decimals.now → result.power ≤ power }
+    /// Returns the least power of ten, 1 or more, that makes all of these decimals whole, or
+    /// `None` if one of them has more than 18 places.
+    pub fn least(decimals: &[Decimal]) -> Option<Scale>
+        ensures whole { IfSome result (λ scale. All (BecomesWhole scale.power) decimals.now) }
+        ensures least { IfSome result (λ scale. (power : ℕ) → All (BecomesWhole power) decimals.now → scale.power ≤ power) }
+        ensures none { IfNone result ((power : ℕ) → All (BecomesWhole power) decimals.now → 18 < power) }
     {
         let mut power = 0;
         for decimal in decimals {
@@ -42,7 +46,10 @@ impl Scale {
                 power = decimal.places;
             }
         }
-        Scale { power }
+        if power > MOST {
+            return None;
+        }
+        Some(Scale { power })
     }
 
     /// Returns the number that it is.

@@ -8,11 +8,11 @@ use Rattle.dcel_predicates.specs.declared.point.Point.{Point}
 use Rattle.dcel_plane.specs.Plane.{point_at}
 use Rattle.dcel_plane.specs.removal.Wheels.{MakesTwo}
 use Rattle.dcel_plane.proofs.removal.Bordering.{border_from, few_spokes, four_spokes, many_spokes, third_back, third_differs, three_spokes, two_from}
-use Rattle.dcel_delaunay.specs.Removing.{BeginsBorder, IsFilled, IsThin}
+use Rattle.dcel_delaunay.specs.Removing.{BeginsBorder, IsFilled, IsThinnedOut}
 
 module _ {DE UE F : Type 0} where
   -- a vertex that has an edge has an anchor
-  pub has_anchor : (m : Mesh Point DE UE F) → IsMesh m → (v : ℕ) → IsThin m v → vertex_anchor m v ≢ None
+  pub has_anchor : (m : Mesh Point DE UE F) → IsMesh m → (v : ℕ) → IsThinnedOut m v → vertex_anchor m v ≢ None
   has_anchor m mesh v thin none =
       let (k, out) = thin.some in
       bare (vertex_anchor m v) (mesh.anchored.vertices v thin.below) none k out
@@ -35,7 +35,7 @@ module _ {DE UE F : Type 0} where
       (subst (λ (x : Mesh Point DE UE F). AnchorsVertex x.shape w (Some h)) same (subst (λ (a : Option ℕ). AnchorsVertex lent.shape w a) (sym anchor) anchored)) in
       subst (λ (k : ℕ). BeginsBorder m v k) (sym is) (record { out = record { live = starts.0; start = starts.1 }; two = inr none })
 
-  module _ (m : Mesh Point DE UE F) (mesh : IsMesh m) (v : ℕ) (thin : IsThin m v) (h : ℕ) (begins : BeginsBorder m v h) where
+  module _ (m : Mesh Point DE UE F) (mesh : IsMesh m) (v : ℕ) (thin : IsThinnedOut m v) (h : ℕ) (begins : BeginsBorder m v h) where
     abbrev s : Shape
     s = m.shape
 

@@ -29,14 +29,14 @@ use Rattle.dcel_plane.specs.Plane.{ListsCircled, TrianglesTurnLeft, point_at}
 use Rattle.dcel_plane.specs.covering.Covering.{IsConvex, IsHull}
 use Rattle.dcel_plane.proofs.covering.Starts.{inner_half}
 use Rattle.dcel_plane.proofs.hull.Keeping.{flip_keeps_convex, flip_keeps_hull}
-use Rattle.dcel_plane.specs.removal.Wheels.{CanTurn, IsFlattened, IsHollow, LiesOnHull, turns}
+use Rattle.dcel_plane.specs.removal.Wheels.{CanFlipInPlane, IsFlattened, IsHollow, LiesOnHull, turns}
 use Rattle.dcel_plane.proofs.removal.Cleaned.{cleaned_is}
 use Rattle.dcel_plane.proofs.removal.Flattened as flattening
 use Rattle.dcel_plane.proofs.removal.Renumbering.{cleanup_inner, cleanup_was_inner}
 use Rattle.dcel_plane.proofs.removal.Stripping.{corner_hollow, corner_lies, corner_strip, strip_given_up}
 use Rattle.dcel_plane.proofs.removal.Strips.{cut_lists, cut_plane, cut_plane_but, flat_corner_convex, flat_corner_hull, hollow_convex, hollow_outline, hollow_strung}
-use Rattle.dcel_planar.specs.Growing.{HasHull, IsSound}
-use Rattle.dcel_delaunay.specs.Removing.{HasOutline, IsCorner, IsCutOff, IsGivenUp, IsStrung, LiesFlat}
+use Rattle.dcel_planar.specs.Growing.{HasHull, IsDelaunayBut}
+use Rattle.dcel_delaunay.specs.Removing.{HasOutline, IsHullCorner, CutsOff, IsGivenUp, IsStrung, LiesFlat}
 use Rattle.dcel_planar.proofs.Counting.{flipped_joined, live_vertices}
 use Rattle.dcel_delaunay.proofs.Thinned.{flip_listed}
 
@@ -123,10 +123,10 @@ module _ {DE UE F : Type 0} where
     of_old_shape P holds = subst P (sym but_anchors) holds
 
     -- whatever more is listed
-    pub round_sound : (due items more : List ℕ) → items ≡ due ++ more → IsSound m due → IsSound new items
+    pub round_sound : (due items more : List ℕ) → items ≡ due ++ more → IsDelaunayBut m due → IsDelaunayBut new items
     round_sound due items more listed sound =
-        subst (λ (l : List ℕ). IsSound new l) (sym listed)
-        (of_old_shape (λ k. IsSound k (due ++ more)) (record {
+        subst (λ (l : List ℕ). IsDelaunayBut new l) (sym listed)
+        (of_old_shape (λ k. IsDelaunayBut k (due ++ more)) (record {
           triangulated = record { closed = sound.closed; joined = sound.joined; triangles = sound.triangles; plane = sound.plane };
           listed = λ w inner circled. (let found = sound.listed w inner circled in let c = count-append w due more in omega (arith, found, c));
         }))
@@ -134,14 +134,14 @@ module _ {DE UE F : Type 0} where
     pub round_hull : HasHull m → HasHull new
     round_hull has = of_old_shape (λ k. HasHull k) (record { inner = has.inner; convex = has.convex; hull = has.hull })
 
-  module _ (m : Mesh Point DE UE F) (mesh : IsMesh m) (due : List ℕ) (sound : IsSound m due) (v h : ℕ) (corner : IsCorner m v h) where
+  module _ (m : Mesh Point DE UE F) (mesh : IsMesh m) (due : List ℕ) (sound : IsDelaunayBut m due) (v h : ℕ) (corner : IsHullCorner m v h) where
     abbrev s : Shape
     s = m.shape
 
     start : origin_of m.shape h ≡ v
     start = corner.outside.start
 
-    none : (e : ℕ) → IsOutEdge m.shape (origin_of m.shape h) e → ¬ CanTurn (point_at m) m.shape (e / 2)
+    none : (e : ℕ) → IsOutEdge m.shape (origin_of m.shape h) e → ¬ CanFlipInPlane (point_at m) m.shape (e / 2)
     none e out = corner.none e (record { live = out.live; start = out.start ∙ start })
 
     some : (g : ℕ) × IsLive m.shape g × (0 < face_of m.shape g)
@@ -206,7 +206,7 @@ module _ {DE UE F : Type 0} where
           (cut_plane m mesh sound.closed list own (point_at m) sound.plane) (cut_lists m mesh sound.closed list own (point_at m) due sound.listed) left
 
     -- the same of the call
-    pub hollow_gone : {A : Type 0} (new : Mesh Point DE UE F) (out : IsolateVertexResult A) → ¬ LiesFlat m h → IsCutOff m new h out → IsGivenUp m new v due out
+    pub hollow_gone : {A : Type 0} (new : Mesh Point DE UE F) (out : IsolateVertexResult A) → ¬ LiesFlat m h → CutsOff m new h out → IsGivenUp m new v due out
     hollow_gone new out turn cut =
         subst (λ (k : Mesh Point DE UE F). IsGivenUp m k v due out) (sym cut.is)
         (hollow_given turn (subst (λ (k : Mesh Point DE UE F). IsMesh k) cut.is cut.mesh) out cut.answer)
@@ -294,9 +294,9 @@ module _ {DE UE F : Type 0} where
             }))
 
       pub flat_gone : {A : Type 0} (mid new : Mesh Point DE UE F) (out : IsolateVertexResult A) (items : List ℕ) → mid ≡ edge_flipped m (turns (ccw_of m.shape) 2 h / 2)
-          → items ≡ (due ++ (turns (ccw_of m.shape) 2 h / 2) ∷ []) ++ sides_beside m.shape (turns (ccw_of m.shape) 2 h / 2) → IsCutOff mid new h out → IsGivenUp m new v items out
+          → items ≡ (due ++ (turns (ccw_of m.shape) 2 h / 2) ∷ []) ++ sides_beside m.shape (turns (ccw_of m.shape) 2 h / 2) → CutsOff mid new h out → IsGivenUp m new v items out
       flat_gone mid new out items is listed cut_mid =
-          let cut_turned : IsCutOff turned new h out = subst (λ (k : Mesh Point DE UE F). IsCutOff k new h out) is cut_mid in
+          let cut_turned : CutsOff turned new h out = subst (λ (k : Mesh Point DE UE F). CutsOff k new h out) is cut_mid in
           subst (λ (l : List ℕ). IsGivenUp m new v l out) (sym listed)
           (of_old m turned new v ((due ++ u ∷ []) ++ sides_beside m.shape u) out refl refl
           (subst (λ (k : Mesh Point DE UE F). IsGivenUp turned k v ((due ++ u ∷ []) ++ sides_beside m.shape u) out) (sym cut_turned.is)
@@ -311,7 +311,7 @@ module _ {DE UE F : Type 0} where
         mid_around = subst (λ (k : Mesh Point DE UE F). IsStripAround k.shape v h) (sym at_mid) flattened.around
 
         pub mid_gone : {A : Type 0} (new : Mesh Point DE UE F) (out : IsolateVertexResult A) (items : List ℕ) → items ≡ (due ++ edge ∷ []) ++ sides_beside m.shape edge
-            → IsCutOff mid new h out → IsGivenUp m new v items out
+            → CutsOff mid new h out → IsGivenUp m new v items out
         mid_gone new out items listed =
             flat_gone mid new out items at_mid (listed ∙ ap (λ (k : ℕ). (due ++ k ∷ []) ++ sides_beside m.shape k) is_edge)
 
@@ -335,7 +335,7 @@ module _ {DE UE F : Type 0} where
             all_four : new ≡ flips 4 m (turns (ccw_of m.shape) 2 h / 2)
             all_four = back ∙ ap (λ (n : Mesh Point DE UE F). flips 3 n edge) (same_mid ∙ at_mid) ∙ ap (λ (j : ℕ). flips 3 turned j) is_edge
 
-            pub back_sound : (items : List ℕ) → items ≡ (due ++ edge ∷ []) ++ sides_beside m.shape edge → IsSound new items
+            pub back_sound : (items : List ℕ) → items ≡ (due ++ edge ∷ []) ++ sides_beside m.shape edge → IsDelaunayBut new items
             back_sound items listed =
                 round_sound m new u goes_round all_four due items ((edge ∷ []) ++ sides_beside m.shape edge) (listed ∙ simp append_assoc) sound
 
@@ -345,7 +345,7 @@ module _ {DE UE F : Type 0} where
 -- what the calls return
 module _ {DE UE F A E : Type 0} where
   pub cut_from : (r : Result (IsolateVertexResult A) E) (old new : Mesh Point DE UE F) (h : ℕ) (items : List ℕ) → items ≡ strip_of old.shape h → IsMesh new
-      → OnOk r (new ≡ strip_cut old items) → IfOk r (HasOpened (strip_edges old.shape items) (strip_faces old.shape items) [] 0) → IfOk r (IsCutOff old new h)
+      → OnOk r (new ≡ strip_cut old items) → IfOk r (HasOpened (strip_edges old.shape items) (strip_faces old.shape items) [] 0) → IfOk r (CutsOff old new h)
   cut_from (Ok out) old new h items is mesh edit answer = record {
     mesh = mesh;
     is = edit ∙ ap (strip_cut old) is;
@@ -353,8 +353,8 @@ module _ {DE UE F A E : Type 0} where
   }
   cut_from (Err e) old new h items is mesh edit answer = tt
 
-  module _ (m : Mesh Point DE UE F) (mesh : IsMesh m) (due : List ℕ) (sound : IsSound m due) (v h : ℕ) (corner : IsCorner m v h) where
-    pub cut_given : (r : Result (IsolateVertexResult A) E) (new : Mesh Point DE UE F) → ¬ LiesFlat m h → IfOk r (IsCutOff m new h) → IfOk r (IsGivenUp m new v due)
+  module _ (m : Mesh Point DE UE F) (mesh : IsMesh m) (due : List ℕ) (sound : IsDelaunayBut m due) (v h : ℕ) (corner : IsHullCorner m v h) where
+    pub cut_given : (r : Result (IsolateVertexResult A) E) (new : Mesh Point DE UE F) → ¬ LiesFlat m h → IfOk r (CutsOff m new h) → IfOk r (IsGivenUp m new v due)
     cut_given (Ok out) new turn given = hollow_gone m mesh due sound v h corner new out turn given
     cut_given (Err e) new turn given = tt
 

@@ -29,12 +29,12 @@ module _ (p q : Point) where
   abbrev y : ℕ
   y = unsigned_abs (p.y -ℤ q.y)
 
-  pub distance_within : (x * x) + (y * y) ≤ 2 ^ 63
+  pub distance_within : (x * x) + (y * y) ≤ 2 ^ 109
   distance_within =
       let a = x_within p q in
       let b = y_within p q in
-      let c : x * x ≤ 2 ^ 31 * 2 ^ 31 = mul-le-mul a a in
-      let d : y * y ≤ 2 ^ 31 * 2 ^ 31 = mul-le-mul b b in
+      let c : x * x ≤ 2 ^ 54 * 2 ^ 54 = mul-le-mul a a in
+      let d : y * y ≤ 2 ^ 54 * 2 ^ 54 = mul-le-mul b b in
       omega (arith, c, d)
 
   pub distance_is : pos ((x * x) + (y * y)) ≡ squared_distance_of p q

@@ -2,7 +2,6 @@
 use Rattle.std.proofs.Common.{◌≡◌, ◌≢◌, inl, inr, ℕ, ◌+◌, ◌/◌, ◌<◌, ◌≤◌, List, ◌++◌, length, reverse, slice_get, slice_index_or, Some, append_assoc, refl, sym, ap, ◌∙◌, subst, arith}
 use Rattle.std.proofs.lemmas.List.{length-map}
 use Rattle.std.proofs.lemmas.Bool.{cases_eq}
-use Rattle.std.specs.Option.{option_map}
 use Rattle.spade_dcel.specs.declared.operations.results.IsolateVertexResult.{IsolateVertexResult}
 use Rattle.spade_dcel.specs.Opened.{HasFilled}
 use Rattle.dcel_maps.specs.Conditions.{IsTriangle}
@@ -24,8 +23,8 @@ use Rattle.dcel_plane.specs.covering.Covering.{IsConvex, IsHull}
 use Rattle.dcel_plane.proofs.removal.Deleting.{four_plane, hole_convex, hole_hull, hole_lists, three_plane}
 use Rattle.dcel_plane.proofs.removal.Renumbering.{cleanup_inner}
 use Rattle.dcel_plane.proofs.removal.Holes.{IsHole, half_of_triangle, hole_is, side_listed}
-use Rattle.dcel_planar.specs.Growing.{IsSound}
-use Rattle.dcel_delaunay.specs.Removing.{IsFilled, IsGivenUp, IsThin}
+use Rattle.dcel_planar.specs.Growing.{IsDelaunayBut}
+use Rattle.dcel_delaunay.specs.Removing.{IsFilled, IsGivenUp, IsThinnedOut}
 
 -- the counts of Euler's formula, with k edges and k faces round the vertex
 counts : (v e f vn en fn k a b : ℕ) → v + f ≡ e + 2 → vn ≡ v → en + 3 ≡ e + k → fn + 2 ≡ f + k → a ≡ b → v + fn + a ≡ en + b + 3
@@ -34,10 +33,6 @@ counts v e f vn en fn k a b euler same edges faces equal = omega (arith, euler, 
 -- the result names what the record gives up
 abbrev Named : {A : Type 0} → Removal → IsolateVertexResult A → Type 0
 Named r out = IsListed r out.edges_to_remove.items out.faces_to_remove.items
-
--- the item of the list is this point
-abbrev pub StandsIn : List Point → ℕ → Point → Type 0
-StandsIn points w p = (option_map (λ (q : Point). q.x) (slice_get points w) ≡ Some p.x) × (option_map (λ (q : Point). q.y) (slice_get points w) ≡ Some p.y)
 
 -- of triangles n and n + 1 the edges are listed
 two_listed : (u : ℕ) (a b : List ℕ) → 0 < count_of u b → 0 < count_of u (a ++ b)
@@ -51,7 +46,7 @@ module _ {DE UE F : Type 0} where
   pub at_points : (P : (ℕ → Point) → Type 0) (m n : Mesh Point DE UE F) → n.vertex_data ≡ m.vertex_data → P (point_at m) → P (point_at n)
   at_points P m n same holds = subst (λ (points : List Point). P (λ v. slice_index_or points v origin_point)) (sym same) holds
 
-  module _ (m : Mesh Point DE UE F) (mesh : IsMesh m) (due : List ℕ) (sound : IsSound m due) (v : ℕ) (thin : IsThin m v) (border : List ℕ) (filled : IsFilled m v border)
+  module _ (m : Mesh Point DE UE F) (mesh : IsMesh m) (due : List ℕ) (sound : IsDelaunayBut m due) (v : ℕ) (thin : IsThinnedOut m v) (border : List ℕ) (filled : IsFilled m v border)
       (halves : List DE) (edges : List UE) (faces : List F) (after : IsMesh (hole_filled m v border halves edges faces)) where
     abbrev n : Mesh Point DE UE F
     n = hole_filled m v border halves edges faces
@@ -141,8 +136,8 @@ module _ {DE UE F : Type 0} where
         }
 
   -- the same of the calls, whatever data are put at the new edge and the new faces
-  module _ (is_half : DE → Type 0) (is_edge : UE → Type 0) (is_face : F → Type 0) (m new : Mesh Point DE UE F) (mesh : IsMesh m) (due : List ℕ) (sound : IsSound m due) (v : ℕ)
-      (thin : IsThin m v) (border : List ℕ) (filled : IsFilled m v border) (fills : FillsHole is_half is_edge is_face border new (hole_filled m v border)) (after : IsMesh new) where
+  module _ (is_half : DE → Type 0) (is_edge : UE → Type 0) (is_face : F → Type 0) (m new : Mesh Point DE UE F) (mesh : IsMesh m) (due : List ℕ) (sound : IsDelaunayBut m due) (v : ℕ)
+      (thin : IsThinnedOut m v) (border : List ℕ) (filled : IsFilled m v border) (fills : FillsHole is_half is_edge is_face border new (hole_filled m v border)) (after : IsMesh new) where
     done : IsMesh (hole_filled m v border fills.directed_data fills.undirected_data fills.face_data)
     done = subst (λ (k : Mesh Point DE UE F). IsMesh k) fills.is after
 

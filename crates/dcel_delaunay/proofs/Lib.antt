@@ -3,6 +3,7 @@ pub mod CutOff
 pub mod Distances
 pub mod Emptied
 pub mod Gathering
+pub mod Items
 pub mod LineRemoved
 pub mod Listed
 pub mod Lost
@@ -15,3 +16,4 @@ pub mod Taking
 pub mod Telling
 pub mod Theorem
 pub mod Thinned
+pub mod listing

@@ -2,6 +2,7 @@
 use Rattle.std.proofs.Common.{◌≡◌, ◌≢◌, inl, inr, ℕ, ◌+◌, ◌-◌, ◌/◌, ◌<◌, ◌==◌, true, cond, [], Option, Some, None, slice_index_or, eq-eqb, refl, sym, ◌∙◌, subst, arith}
 use Rattle.std.proofs.lemmas.Bool.{cases_eq, ne_eqb}
 use Rattle.std.proofs.lemmas.List.{length-map, length-set}
+use Rattle.std.proofs.lemmas.Option.{slice_get_read}
 use Rattle.dcel_maps.specs.Degenerate.{CanRemoveDegenerate}
 use Rattle.dcel_maps.specs.edits.Degenerate.{going, path_given_up, removed_degenerate}
 use Rattle.dcel_maps.specs.Removals.{Closed, gives_up_vertex}
@@ -15,18 +16,17 @@ use Rattle.dcel_predicates.specs.declared.point.Point.{Point}
 use Rattle.dcel_plane.specs.Plane.{origin_point, point_at}
 use Rattle.dcel_plane.proofs.removal.LinePaths.{line_few}
 use Rattle.dcel_plane.proofs.removal.PathShortened.{degenerate_straight}
-use Rattle.dcel_planar.specs.Growing.{IsFlat, IsJoined, IsSound}
+use Rattle.dcel_planar.specs.Growing.{IsFlat, IsJoined, IsDelaunayBut}
 use Rattle.dcel_delaunay.specs.Removing.{Loses}
 use Rattle.dcel_delaunay.specs.declared.removed.Removed.{Removed}
 use Rattle.dcel_planar.proofs.Counting.{joined_all}
-use Rattle.dcel_delaunay.proofs.TakenOut.{has_point}
 use Rattle.dcel_planar.proofs.Whole.{way_flat}
 
 -- Euler's formula, with a vertex and an edge less
 one_less : (v e vn en : ℕ) → v + 1 ≡ e + 2 → 1 < v → vn ≡ v - 1 → en ≡ e - 1 → vn + 1 ≡ en + 2
 one_less v e vn en euler some vertices edges = omega (arith, euler, some, vertices, edges)
 
-module _ {DE UE F : Type 0} (m : Mesh Point DE UE F) (mesh : IsMesh m) (sound : IsSound m []) (flat : IsFlat m) (v : ℕ) (below : v < m.shape.vertices) where
+module _ {DE UE F : Type 0} (m : Mesh Point DE UE F) (mesh : IsMesh m) (sound : IsDelaunayBut m []) (flat : IsFlat m) (v : ℕ) (below : v < m.shape.vertices) where
   abbrev n : Mesh Point DE UE F
   n = removed_degenerate m v
 
@@ -98,7 +98,7 @@ module _ {DE UE F : Type 0} (m : Mesh Point DE UE F) (mesh : IsMesh m) (sound : 
       straight = degenerate_straight m mesh v line_can_lose (point_at m) (point_at n) after stands flat.straight;
     }
 
-    line_sound : IsSound (removed_degenerate m v) []
+    line_sound : IsDelaunayBut (removed_degenerate m v) []
     line_sound = (way_flat n [] closed_after line_flat joined_after).sound
 
     line_loses : (r : Removed) → r.point ≡ slice_index_or m.vertex_data v r.point → r.moved ≡ cond (v == m.shape.vertices - 1) None (Some (m.shape.vertices - 1))
@@ -106,7 +106,7 @@ module _ {DE UE F : Type 0} (m : Mesh Point DE UE F) (mesh : IsMesh m) (sound : 
     line_loses r point renamed = record {
       within = below;
       vertices = (let count = vertices_after in omega (arith, count, below));
-      point = has_point m.vertex_data v r.point point (let sized = mesh.sized.vertex_data in omega (arith, below, sized));
+      point = slice_get_read m.vertex_data m.shape.vertices v r.point (sym mesh.sized.vertex_data) below point;
       renamed = renamed;
       others = stands;
     }
@@ -119,8 +119,8 @@ module _ {DE UE F : Type 0} (m : Mesh Point DE UE F) (mesh : IsMesh m) (sound : 
     pub lost_flat : IsFlat new
     lost_flat = subst (λ (k : Mesh Point DE UE F). IsFlat k) (sym is) (line_flat done)
 
-    pub lost_sound : IsSound new []
-    lost_sound = subst (λ (k : Mesh Point DE UE F). IsSound k []) (sym is) (line_sound done)
+    pub lost_sound : IsDelaunayBut new []
+    lost_sound = subst (λ (k : Mesh Point DE UE F). IsDelaunayBut k []) (sym is) (line_sound done)
 
     pub lost_vertex : (r : Removed) → r.point ≡ slice_index_or m.vertex_data v r.point → r.moved ≡ cond (v == m.shape.vertices - 1) None (Some (m.shape.vertices - 1)) → Loses m new v r
     lost_vertex r point renamed = subst (λ (k : Mesh Point DE UE F). Loses m k v r) (sym is) (line_loses done r point renamed)

@@ -1,5 +1,5 @@
 -- A vertex removed: what a vertex inside has, and what is told of it from before edges were flipped to after.
-use Rattle.std.proofs.Common.{◌≡◌, inl, inr, ℕ, ◌-◌, ◌<◌, ◌==◌, cond, List, Option, Some, None, Result, Ok, Err, OnErr, slice_index_or, sym, ap, ◌∙◌, subst, eq-zero-or-pos, arith}
+use Rattle.std.proofs.Common.{◌≡◌, inl, inr, ℕ, ◌-◌, ◌<◌, ◌==◌, cond, List, Option, Some, None, Result, Ok, Err, OnErr, slice_get, slice_index_or, sym, ap, ◌∙◌, subst, eq-zero-or-pos, arith}
 use Rattle.std.proofs.lemmas.Bool.{cases_lt}
 use Rattle.dcel_fixed.specs.HalfEdges.{rev}
 use Rattle.dcel_maps.specs.Conditions.{HasRoom}
@@ -13,24 +13,19 @@ use Rattle.dcel_predicates.specs.declared.point.Point.{Point}
 use Rattle.dcel_plane.specs.Plane.{origin_point, point_at}
 use Rattle.dcel_plane.proofs.covering.Starts.{inner_half}
 use Rattle.dcel_planar.specs.Corners.{StartsOutside}
-use Rattle.dcel_planar.specs.Growing.{HasHull, IsSound}
-use Rattle.dcel_delaunay.specs.Removing.{HasNoneToTurn, IsInside, IsThin, Loses}
-use Rattle.dcel_delaunay.specs.declared.errors.RemovalError.TheVariants.{OutOfMemory, TooManyPoints}
+use Rattle.dcel_planar.specs.Growing.{HasHull, IsDelaunayBut}
+use Rattle.dcel_delaunay.specs.Removing.{HasNoneToTurn, IsInnerVertex, IsThinnedOut, Loses}
 use Rattle.dcel_delaunay.specs.declared.removed.Removed.{Removed}
 use Rattle.dcel_planar.proofs.Counting.{joined_all}
-use Rattle.dcel_delaunay.proofs.Emptied.{StandsIn}
 
 -- what holds anyway holds where there is an error
 pub on_err : {X E : Type 0} (r : Result X E) (P : Type 0) → P → OnErr r P
 on_err (Ok x) P holds = tt
 on_err (Err e) P holds = holds
 
-pub no_memory_other : OutOfMemory ≡ TooManyPoints → ⊥
-no_memory_other is = cc
-
 module _ {DE UE F : Type 0} where
   -- where a triangle is there are two vertices
-  pub more_vertices : (m : Mesh Point DE UE F) (due : List ℕ) → IsMesh m → IsSound m due → HasHull m → 1 < m.shape.vertices
+  pub more_vertices : (m : Mesh Point DE UE F) (due : List ℕ) → IsMesh m → IsDelaunayBut m due → HasHull m → 1 < m.shape.vertices
   more_vertices m due mesh sound has =
       let (h, live, inner) = inner_half m mesh sound.closed has.inner in
       let start = (map-sound mesh.sound).below_vertices h live in
@@ -41,7 +36,7 @@ module _ {DE UE F : Type 0} where
       ]
 
   -- so each has an edge
-  some_edge : (m : Mesh Point DE UE F) (due : List ℕ) → IsMesh m → IsSound m due → HasHull m → (v : ℕ) → v < m.shape.vertices → (k : ℕ) × IsOutEdge m.shape v k
+  some_edge : (m : Mesh Point DE UE F) (due : List ℕ) → IsMesh m → IsDelaunayBut m due → HasHull m → (v : ℕ) → v < m.shape.vertices → (k : ℕ) × IsOutEdge m.shape v k
   some_edge m due mesh sound has v below = by_anchor (vertex_anchor m v) (mesh.anchored.vertices v below)
     where
       by_anchor : (anchor : Option ℕ) → AnchorsVertex m.shape v anchor → (k : ℕ) × IsOutEdge m.shape v k
@@ -50,7 +45,7 @@ module _ {DE UE F : Type 0} where
           (joined_all m mesh sound.closed sound.joined v (more_vertices m due mesh sound has)
           (record { live = closed-vertex_live m.shape sound.closed v below; bare = bare }))
 
-  pub thin_is : (m : Mesh Point DE UE F) (due : List ℕ) → IsMesh m → IsSound m due → HasHull m → (v : ℕ) → v < m.shape.vertices → IsInside m.shape v → HasNoneToTurn m v → IsThin m v
+  pub thin_is : (m : Mesh Point DE UE F) (due : List ℕ) → IsMesh m → IsDelaunayBut m due → HasHull m → (v : ℕ) → v < m.shape.vertices → IsInnerVertex m.shape v → HasNoneToTurn m v → IsThinnedOut m v
   thin_is m due mesh sound has v below inside none = record {
     below = below;
     triangles = sound.triangles;
@@ -61,7 +56,7 @@ module _ {DE UE F : Type 0} where
     none = none;
   }
 
-  pub inside_from : (m : Mesh Point DE UE F) (v : ℕ) → ((h : ℕ) → ¬ StartsOutside m v h) → IsInside m.shape v
+  pub inside_from : (m : Mesh Point DE UE F) (v : ℕ) → ((h : ℕ) → ¬ StartsOutside m v h) → IsInnerVertex m.shape v
   inside_from m v none k out = elim (eq-zero-or-pos (face_of m.shape k)) [
     | inr more ↦ more
     | inl outer ↦ absurd (none k (record { live = out.live; outer = outer; start = out.start }))
@@ -72,7 +67,7 @@ module _ {DE UE F : Type 0} where
       subst (λ (k : ℕ). k < m.shape.vertices) outside.start ((map-sound mesh.sound).below_vertices h outside.live)
 
   -- as many vertices and edges have as many faces
-  pub room_still : (m n : Mesh Point DE UE F) (due list : List ℕ) → IsSound m due → IsSound n list → 0 < m.shape.vertices → n.shape.vertices ≡ m.shape.vertices
+  pub room_still : (m n : Mesh Point DE UE F) (due list : List ℕ) → IsDelaunayBut m due → IsDelaunayBut n list → 0 < m.shape.vertices → n.shape.vertices ≡ m.shape.vertices
       → n.shape.edges ≡ m.shape.edges → HasRoom m.shape 0 1 2 → HasRoom n.shape 0 1 2
   room_still m n due list sound sound_n some vertices edges room =
       let euler = sound.joined.euler some in
@@ -91,7 +86,7 @@ module _ {DE UE F : Type 0} where
   lost_before m mid n v r points vertices loses = record {
     within = (let w = loses.within in omega (arith, w, vertices));
     vertices = loses.vertices ∙ vertices;
-    point = subst (λ (list : List Point). StandsIn list v r.point) points loses.point;
+    point = subst (λ (list : List Point). slice_get list v ≡ Some r.point) points loses.point;
     renamed = loses.renamed ∙ ap (λ k. cond (v == k - 1) None (Some (k - 1))) vertices;
     others = λ w below other.
         ap (λ k. point_at n (moved (k - 1) v w)) (sym vertices) ∙ loses.others w (omega (arith, below, vertices)) other

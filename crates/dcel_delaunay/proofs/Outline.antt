@@ -1,5 +1,5 @@
 -- What a line or a hull tells of all vertices: each stands at a point of its own, and none lies beyond the hull.
-use Rattle.std.proofs.Common.{◌≡◌, ◌⊎◌, inl, inr, ℕ, ◌<◌, List, [], ◌∷◌, sym, subst, arith, pos, ◌≤ℤ◌}
+use Rattle.std.proofs.Common.{◌≡◌, ◌⊎◌, inl, inr, ℕ, ◌<◌, List, [], ◌∷◌, sym, ap, subst, arith}
 use Rattle.std.proofs.lemmas.Bool.{cases_lt}
 use Rattle.dcel_fixed.specs.HalfEdges.{rev}
 use Rattle.dcel_maps.specs.Removals.{Closed}
@@ -11,10 +11,9 @@ use Rattle.dcel_maps.proofs.walks.Links.{links_stand}
 use Rattle.dcel_maps.proofs.words.Counts.{count-same}
 use Rattle.dcel_maps.proofs.words.Reading.{face_in_word, live_in}
 use Rattle.dcel_predicates.specs.declared.point.Point.{Point}
-use Rattle.dcel_predicates.specs.Determinants.{orient2d_of}
 use Rattle.dcel_plane.specs.Plane.{point_at}
-use Rattle.dcel_plane.specs.covering.Covering.{IsConvex, dot}
-use Rattle.dcel_plane.specs.covering.Delaunay.{HasCorners}
+use Rattle.dcel_plane.specs.covering.Covering.{IsConvex, Supports}
+use Rattle.dcel_plane.specs.covering.Delaunay.{HasCornerVertices}
 use Rattle.dcel_plane.proofs.covering.Numbered.{word_is}
 use Rattle.dcel_plane.proofs.covering.Starts.{by_starts}
 use Rattle.dcel_plane.proofs.hull.PutBeside.{straight_convex}
@@ -35,7 +34,7 @@ module _ {DE UE F : Type 0} (m : Mesh Point DE UE F) (mesh : IsMesh m) where
 
   module _ (outline : IsFlat m ⊎ HasHull m) where
     -- an inner face has a half edge, so there is a hull
-    pub hull_of_face : (f a b c : ℕ) → HasCorners m.shape f a b c → HasHull m
+    pub hull_of_face : (f a b c : ℕ) → HasCornerVertices m.shape f a b c → HasHull m
     hull_of_face f a b c corners = elim outline [
       | inr has ↦ has
       | inl flat ↦
@@ -62,21 +61,17 @@ module _ {DE UE F : Type 0} (m : Mesh Point DE UE F) (mesh : IsMesh m) where
       pub all_single : PointsAreSingle m
       all_single v w below_v below_w = elim (cases_lt 1 m.shape.vertices) [
         | inl more ↦
-            each_vertex (λ i. (point_at m i).x ≡ (point_at m w).x → (point_at m i).y ≡ (point_at m w).y → i ≡ w) more
-            (λ h live_h. each_vertex (λ j. (point_at m (origin_of m.shape h)).x ≡ (point_at m j).x → (point_at m (origin_of m.shape h)).y ≡ (point_at m j).y → origin_of m.shape h ≡ j) more
-            (λ k live_k. distinct h k live_h live_k) w below_w) v below_v
-        | inr few ↦ λ x y. omega (arith, below_v, below_w, few)
+            each_vertex (λ i. point_at m i ≡ point_at m w → i ≡ w) more
+            (λ h live_h. each_vertex (λ j. point_at m (origin_of m.shape h) ≡ point_at m j → origin_of m.shape h ≡ j) more
+            (λ k live_k same. distinct h k live_h live_k (ap (λ (p : Point). p.x) same) (ap (λ (p : Point). p.y) same)) w below_w) v below_v
+        | inr few ↦ λ same. omega (arith, below_v, below_w, few)
       ]
 
       pub all_inside : GoesRoundHull m
       all_inside = record {
-        right = λ h v live on below.
-            each_vertex (λ w. orient2d_of (point_at m (origin_of m.shape h)) (point_at m (end_of m.shape h)) (point_at m w) ≤ℤ pos 0) (two_vertices h live)
-            (λ k live_k. (convex.supports h k live on live_k).0) v below;
-        between = λ h v live on below.
-            each_vertex (λ w. orient2d_of (point_at m (origin_of m.shape h)) (point_at m (end_of m.shape h)) (point_at m w) ≡ pos 0
-            → pos 0 ≤ℤ dot (point_at m (origin_of m.shape h)) (point_at m (end_of m.shape h)) (point_at m w)) (two_vertices h live)
-            (λ k live_k. (convex.supports h k live on live_k).1) v below;
+        supports = λ h v live on below.
+            each_vertex (λ w. Supports (point_at m (origin_of m.shape h)) (point_at m (end_of m.shape h)) (point_at m w)) (two_vertices h live)
+            (λ k live_k. convex.supports h k live on live_k) v below;
         once = λ inner h k live_h live_k on_h on_k same. elim outline [
           | inl flat ↦ absurd (omega (arith, inner, flat.alone))
           | inr has ↦ has.hull.once h k live_h live_k on_h on_k same

@@ -1,52 +1,31 @@
 -- Points that are inserted one after another, in any order.
 use Rattle.std.proofs.Common.{◌≡◌, ◌≢◌, ◌⊎◌, ◌∙◌, ◌+◌, ◌<◌, ◌≤◌, inl, inr, ℕ, zero, suc, List, [], ◌∷◌, ◌++◌, length, refl, sym, ap, subst, arith, slice_get, slice_index_or, slice_set, take, None, Some}
 use Rattle.std.proofs.lemmas.Bool.{cases_eq}
-use Rattle.std.proofs.lemmas.List.{append-nil, append_assoc, length-append}
+use Rattle.std.proofs.lemmas.List.{append-nil, append_assoc, length-append, length-set}
 use Rattle.std.proofs.lemmas.List.Elements.{All-append, All-cons, All-nil}
-use Rattle.std.proofs.lemmas.Option.{none-some, slice_get_within}
+use Rattle.std.proofs.lemmas.Option.{get_or_from_slice_get, none-some, same_Some, slice_get_within}
 use Rattle.std.specs.List.{Contains}
-use Rattle.std.specs.Option.{option_map}
 use Rattle.dcel_maps.proofs.words.Counts.{count-append, count-other}
 use Rattle.dcel_maps.specs.Shapes.{Mesh}
 use Rattle.dcel_predicates.specs.declared.point.Point.{Point}
-use Rattle.dcel_delaunay.specs.Bulk.{AddsVertices, ListsEach, StandAt, StandSoFar, StandsToo}
+use Rattle.dcel_delaunay.specs.Bulk.{AddsVertices, FailsToInsertAll, ListsEach, StandAt, StandSoFar, StandsToo}
+use Rattle.dcel_planar.specs.Outcomes.{FailsToInsert, IsWholeMesh}
 use Rattle.dcel_planar.specs.Places.{HasPoint}
+use Rattle.dcel_planar.specs.declared.errors.InsertionError.{InsertionError}
+use Rattle.dcel_planar.specs.declared.errors.InsertionError.TheVariants.{OutOfMemory, OutOfRange, TooManyPoints, Unfinished}
+use Rattle.dcel_planar.specs.declared.planar.PlanarMesh.{PlanarMesh}
+use Rattle.dcel_delaunay.proofs.Items.{get_kept, get_other, get_set}
 
--- an item stays where it is when more come after it
-kept : {A B : Type 0} (f : A → B) (xs ys : List A) (i : ℕ) (b : B) → option_map f (slice_get xs i) ≡ Some b → option_map f (slice_get (xs ++ ys) i) ≡ Some b
-kept f [] ys i b at = absurd (none-some b at)
-kept f (x ∷ r) ys zero b at = at
-kept f (x ∷ r) ys (suc i) b at = kept f r ys i b at
-
--- what stands at a place of a list of which one item was replaced
+-- what is at a place of a list of which one item was replaced
 replaced : {A : Type 0} (xs : List A) (k i : ℕ) (x y : A) → slice_get (slice_set xs k x) i ≡ Some y → i ≢ k → slice_get xs i ≡ Some y
-replaced [] k i x y at other = absurd (none-some y at)
-replaced (z ∷ r) zero zero x y at other = absurd (other refl)
-replaced (z ∷ r) zero (suc i) x y at other = at
-replaced (z ∷ r) (suc k) zero x y at other = at
-replaced (z ∷ r) (suc k) (suc i) x y at other = replaced r k i x y at (λ same. other (ap suc same))
+replaced xs k i x y at other = sym (get_other xs k i x other) ∙ at
 
 put : {A : Type 0} (xs : List A) (k : ℕ) (x y : A) → slice_get (slice_set xs k x) k ≡ Some y → Some x ≡ Some y
-put [] k x y at = absurd (none-some y at)
-put (z ∷ r) zero x y at = at
-put (z ∷ r) (suc k) x y at = put r k x y at
-
-length_set : {A : Type 0} (xs : List A) (k : ℕ) (x : A) → length (slice_set xs k x) ≡ length xs
-length_set [] k x = refl
-length_set (y ∷ r) zero x = refl
-length_set (y ∷ r) (suc k) x = ap suc (length_set r k x)
-
-some_injective : {A : Type 0} (x y : A) → Some x ≡ Some y → x ≡ y
-some_injective x y same = cc
-
--- what stands at a place is among the items
-item_at : {A : Type 0} (xs : List A) (k : ℕ) (x y : A) → slice_get xs k ≡ Some x → slice_index_or xs k y ≡ x
-item_at [] k x y at = absurd (none-some x at)
-item_at (z ∷ r) zero x y at = some_injective z x at
-item_at (z ∷ r) (suc k) x y at = item_at r k x y at
+put xs k x y at =
+    let within = slice_get_within (slice_set xs k x) k y at in let same = length-set xs k x in sym (get_set xs k x (omega (arith, within, same))) ∙ at
 
 contains_at : {A : Type 0} (xs : List A) (k : ℕ) (x : A) → slice_get xs k ≡ Some x → Contains xs x
-contains_at xs k x at = (k, slice_get_within xs k x at, item_at xs k x x at)
+contains_at xs k x at = (k, slice_get_within xs k x at, get_or_from_slice_get xs k x x at)
 
 -- one item more is taken
 take_more : (k : ℕ) (xs : List ℕ) → k < length xs → take (suc k) xs ≡ take k xs ++ slice_index_or xs k 0 ∷ []
@@ -59,14 +38,11 @@ take_next k xs below = let more : k + 1 ≡ suc k = omega arith in ap (λ n. tak
 
 module _ {DE UE F : Type 0} where
   has_stays : (old new : Mesh Point DE UE F) (given : List Point) (most : ℕ) (p : Point) (v : ℕ) → AddsVertices old new given most → HasPoint old p v → HasPoint new p v
-  has_stays old new given most p v adds (x, y) = (
-    ap (λ (ps : List Point). option_map (λ (q : Point). q.x) (slice_get ps v)) adds.points ∙ kept (λ (q : Point). q.x) old.vertex_data adds.added v p.x x,
-    ap (λ (ps : List Point). option_map (λ (q : Point). q.y) (slice_get ps v)) adds.points ∙ kept (λ (q : Point). q.y) old.vertex_data adds.added v p.y y,
-  )
+  has_stays old new given most p v adds has =
+      ap (λ (ps : List Point). slice_get ps v) adds.points ∙ get_kept old.vertex_data adds.added v p has
 
   has_same : (m : Mesh Point DE UE F) (p q : Point) (v w : ℕ) → Some p ≡ Some q → Some v ≡ Some w → HasPoint m p v → HasPoint m q w
-  has_same m p q v w point vertex has =
-      subst (λ (r : Point). HasPoint m r w) (some_injective p q point) (subst (λ (u : ℕ). HasPoint m p u) (some_injective v w vertex) has)
+  has_same m p q v w point vertex has = subst (λ (u : ℕ). HasPoint m q u) (same_Some v w vertex) (has ∙ point)
 
   -- nothing is added, one vertex is, or two times some
   pub adds_none : (old new : Mesh Point DE UE F) (given : List Point) (most : ℕ) → new.vertex_data ≡ old.vertex_data → AddsVertices old new given most
@@ -86,12 +62,6 @@ module _ {DE UE F : Type 0} where
     from = All-cons (Contains given) p [] (contains_at given k p at) (All-nil (Contains given));
     few = omega arith;
   }
-
-  -- a refused insertion adds its point, or nothing
-  pub refused_adds : (X Y Z : Type 0) (old new : Mesh Point DE UE F) (given : List Point) (k : ℕ) (p : Point) → slice_get given k ≡ Some p
-      → (X × (new.vertex_data ≡ old.vertex_data) × Y) ⊎ (Z × (new.vertex_data ≡ old.vertex_data ++ p ∷ [])) → AddsVertices old new given 1
-  refused_adds X Y Z old new given k p at (inl (x, same, y)) = adds_none old new given 1 same
-  refused_adds X Y Z old new given k p at (inr (z, one)) = adds_one old new given k p at (inr one)
 
   pub adds_both : (old mid new : Mesh Point DE UE F) (given : List Point) (k j : ℕ) → AddsVertices old mid given k → AddsVertices mid new given j
       → AddsVertices old new given (k + j)
@@ -114,7 +84,7 @@ module _ {DE UE F : Type 0} where
   pub stands_too : (old new : Mesh Point DE UE F) (points : List Point) (before : List ℕ) (k v : ℕ) (p : Point) (most : ℕ)
       → slice_get points k ≡ Some p → AddsVertices old new points most → HasPoint new p v → StandsToo old new points k before (slice_set before k v)
   stands_too old new points before k v p most is adds has taken stand = record {
-    length_is = length_set before k v ∙ stand.length_is;
+    length_is = length-set before k v ∙ stand.length_is;
     each = λ i q w among at put_at. elim (cases_eq i k) [
       | inl same ↦
           let own : Some p ≡ Some q = sym is ∙ ap (slice_get points) (sym same) ∙ at in
@@ -149,3 +119,25 @@ module _ {DE UE F : Type 0} where
     length_is = stand.length_is;
     each = λ i p v at vertex. stand.each i p v (omega (arith, each.once i (slice_get_within points i p at))) at vertex;
   }
+
+module _ {UE A : Type 0} (old new : PlanarMesh UE A) (p : Point) where
+  -- an insertion that fails adds its point, or nothing
+  pub failed_adds : (given : List Point) (k : ℕ) → slice_get given k ≡ Some p → (e : InsertionError) → FailsToInsert old new p e → AddsVertices old.dcel new.dcel given 1
+  failed_adds given k at OutOfRange fails = absurd fails
+  failed_adds given k at TooManyPoints fails = adds_none old.dcel new.dcel given 1 fails.1.points
+  failed_adds given k at OutOfMemory fails = adds_none old.dcel new.dcel given 1 fails.0.points
+  failed_adds given k at Unfinished fails = adds_one old.dcel new.dcel given k p at (inr fails.0)
+
+  -- and so fails the insertion of all
+  pub failed_all : (e : InsertionError) → FailsToInsert old new p e → FailsToInsertAll old new e
+  failed_all OutOfRange fails = fails
+  failed_all TooManyPoints fails = (fails.0, fails.2)
+  failed_all OutOfMemory fails = fails.1
+  failed_all Unfinished fails = fails.1
+
+-- one of the insertions into a whole mesh fails
+pub failed_later : {UE A : Type 0} (old mid new : PlanarMesh UE A) → IsWholeMesh mid → (e : InsertionError) → FailsToInsertAll mid new e → FailsToInsertAll old new e
+failed_later old mid new whole OutOfRange fails = fails
+failed_later old mid new whole TooManyPoints fails = fails
+failed_later old mid new whole OutOfMemory fails = λ was. fails whole
+failed_later old mid new whole Unfinished fails = fails

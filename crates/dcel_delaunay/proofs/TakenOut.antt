@@ -1,7 +1,8 @@
 -- What was given up taken out, and the vertex: the mesh lies in the plane with its hull, and each other vertex stands where it stood.
-use Rattle.std.proofs.Common.{◌≡◌, ◌≢◌, ◌⊎◌, inl, inr, ℕ, zero, suc, ◌+◌, ◌-◌, ◌<◌, ◌≤◌, ◌==◌, true, cond, List, [], ◌∷◌, length, map, Some, None, slice_index_or, refl, sym, ap, ◌∙◌, subst, arith}
+use Rattle.std.proofs.Common.{◌≡◌, ◌≢◌, ◌⊎◌, inl, inr, ℕ, ◌+◌, ◌-◌, ◌<◌, ◌≤◌, ◌==◌, true, cond, List, [], ◌∷◌, length, map, Some, None, slice_index_or, refl, sym, ap, ◌∙◌, subst, arith}
 use Rattle.std.proofs.lemmas.Bool.{cases_lt, ne_eqb}
 use Rattle.std.proofs.lemmas.List.{length-reverse}
+use Rattle.std.proofs.lemmas.Option.{slice_get_read}
 use Rattle.spade_dcel.specs.declared.operations.results.IsolateVertexResult.{IsolateVertexResult}
 use Rattle.dcel_maps.specs.Removals.{Cleaned, gives_up_vertex}
 use Rattle.dcel_maps.specs.Renumbered.{new_edge}
@@ -17,20 +18,14 @@ use Rattle.dcel_plane.proofs.removal.Cleaned.{IsCleaned, cleaned_is}
 use Rattle.dcel_plane.proofs.covering.Starts.{inner_half}
 use Rattle.dcel_plane.specs.hull.Straight.{IsStraight}
 use Rattle.dcel_plane.proofs.removal.Renumbering.{cleanup_keeps, cleanup_lists, cleanup_straight, cleanup_was_inner, taken_out_keeps, taken_out_lists, taken_out_straight, taken_out_was_inner}
-use Rattle.dcel_planar.specs.Growing.{HasHull, IsFlat, IsJoined, IsSound}
+use Rattle.dcel_planar.specs.Growing.{HasHull, IsFlat, IsJoined, IsDelaunayBut}
 use Rattle.dcel_delaunay.specs.Removing.{IsGivenUp, Loses}
 use Rattle.dcel_delaunay.specs.declared.removed.Removed.{Removed}
-use Rattle.dcel_delaunay.proofs.Emptied.{StandsIn, at_points}
+use Rattle.dcel_delaunay.proofs.Emptied.{at_points}
 
 -- Euler's formula, with one vertex less
 euler_after : (v f e k j vn fn en : ℕ) → v + f + k ≡ e + j + 3 → 0 < v → k ≤ e → j ≤ f → vn ≡ v - 1 → fn ≡ f - j → en ≡ e - k → vn + fn ≡ en + 2
 euler_after v f e k j vn fn en euler some few_edges few_faces vertices faces edges = omega (arith, euler, some, few_edges, few_faces, vertices, faces, edges)
-
--- what is read of a list where it has an item
-pub has_point : (points : List Point) (w : ℕ) (p : Point) → p ≡ slice_index_or points w p → w < length points → StandsIn points w p
-has_point [] w p is within = absurd (omega (arith, within))
-has_point (q ∷ points) zero p is within = (ap (λ (k : Point). Some k.x) (sym is), ap (λ (k : Point). Some k.y) (sym is))
-has_point (q ∷ points) (suc w) p is within = has_point points w p is (omega (arith, within))
 
 module _ {DE UE F A : Type 0} (old mid : Mesh Point DE UE F) (v : ℕ) (due : List ℕ) (out : IsolateVertexResult A) (given : IsGivenUp old mid v due out) (below : v < old.shape.vertices)
     (many : 1 < old.shape.vertices) (clean : IsMesh (cleaned_up mid)) (done : IsMesh (vertex_taken_out (cleaned_up mid) v)) where
@@ -78,7 +73,7 @@ module _ {DE UE F A : Type 0} (old mid : Mesh Point DE UE F) (v : ℕ) (due : Li
     empty = λ none. absurd (let is_vertices = vertices_are in omega (arith, none, is_vertices, many));
   }
 
-  pub removed_sound : IsSound (vertex_taken_out (cleaned_up mid) v) (map (new_edge mid.shape) due)
+  pub removed_sound : IsDelaunayBut (vertex_taken_out (cleaned_up mid) v) (map (new_edge mid.shape) due)
   removed_sound = record {
     triangulated = record {
       closed = refl;
@@ -133,8 +128,10 @@ module _ {DE UE F A : Type 0} (old mid : Mesh Point DE UE F) (v : ℕ) (due : Li
   removed_loses r point renamed = record {
     within = below;
     vertices = (let is = vertices_are in omega (arith, is, below));
-    point = has_point old.vertex_data v r.point (point ∙ ap (λ (points : List Point). slice_index_or points v r.point) points_are)
-        (let sized = given.mesh.sized.vertex_data in let same = given.points in let count = given.vertices in omega (arith, below, ap length same, sized, count));
+    point =
+        slice_get_read old.vertex_data old.shape.vertices v r.point
+        (let sized = given.mesh.sized.vertex_data in let count = given.vertices in omega (arith, ap length given.points, sized, count)) below
+        (point ∙ ap (λ (points : List Point). slice_index_or points v r.point) points_are);
     renamed = renamed ∙ ap (λ k. cond (v == k - 1) None (Some (k - 1))) vertices_are;
     others = λ w within other.
         ap (λ k. point_at n (moved (k - 1) v w)) (sym vertices_are) ∙ stands w (other_live w within other)
@@ -147,10 +144,10 @@ module _ {DE UE F A : Type 0} (old mid new : Mesh Point DE UE F) (v : ℕ) (due 
   done : IsMesh (vertex_taken_out (cleaned_up mid) v)
   done = subst (λ (k : Mesh Point DE UE F). IsMesh k) is after
 
-  pub taken_sound : IsSound new items
+  pub taken_sound : IsDelaunayBut new items
   taken_sound =
-      subst (λ (list : List ℕ). IsSound new list) (sym renamed)
-      (subst (λ (k : Mesh Point DE UE F). IsSound k (map (new_edge mid.shape) due)) (sym is) (removed_sound old mid v due out given below many clean done))
+      subst (λ (list : List ℕ). IsDelaunayBut new list) (sym renamed)
+      (subst (λ (k : Mesh Point DE UE F). IsDelaunayBut k (map (new_edge mid.shape) due)) (sym is) (removed_sound old mid v due out given below many clean done))
 
   pub taken_hull : IsFlat new ⊎ HasHull new
   taken_hull = subst (λ (k : Mesh Point DE UE F). IsFlat k ⊎ HasHull k) (sym is) (removed_hull old mid v due out given below many clean done)

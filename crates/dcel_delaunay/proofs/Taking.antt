@@ -1,24 +1,17 @@
 -- What an insertion tells its caller.
 use Rattle.std.proofs.Common.{◌≡◌, ◌⊎◌, ◌∙◌, inl, inr, ℕ, List, [], ◌∷◌, ◌++◌, length, refl, sym, ap, subst, slice_get, arith, Some}
 use Rattle.std.proofs.lemmas.List.{length-append}
-use Rattle.std.specs.Option.{option_map}
 use Rattle.dcel_maps.specs.Shapes.{IsMesh, Mesh}
 use Rattle.dcel_predicates.specs.declared.point.Point.{Point}
 use Rattle.dcel_planar.specs.Growing.{Gains, Inserts}
 use Rattle.dcel_planar.specs.Places.{HasPoint}
-
--- the item that was appended
-appended_item : {A : Type 0} (xs : List A) (x : A) → slice_get (xs ++ x ∷ []) (length xs) ≡ Some x
-appended_item [] x = refl
-appended_item (y ∷ xs) x = appended_item xs x
+use Rattle.dcel_delaunay.proofs.Items.{get_appended}
 
 module _ {DE UE F : Type 0} where
   gained_has : (old new : Mesh Point DE UE F) (p : Point) (v : ℕ) → IsMesh old → Gains old new p v → HasPoint new p v
   gained_has old new p v mesh gains =
-      let at : slice_get new.vertex_data v ≡ Some p =
       ap (λ (ps : List Point). slice_get ps v) gains.points ∙ ap (slice_get (old.vertex_data ++ p ∷ [])) (gains.vertex ∙ sym mesh.sized.vertex_data)
-      ∙ appended_item old.vertex_data p in
-      (ap (option_map (λ (q : Point). q.x)) at, ap (option_map (λ (q : Point). q.y)) at)
+      ∙ get_appended old.vertex_data p
 
   gained_more : (old new : Mesh Point DE UE F) (p : Point) (v : ℕ) → Gains old new p v → new.vertex_data ≡ old.vertex_data → ⊥
   gained_more old new p v gains stay =

@@ -18,18 +18,18 @@ use Rattle.dcel_planar.proofs.Circled.{inner_from}
 use Rattle.dcel_plane.specs.Plane.{ListsCircled, TurnsLeft, point_at}
 use Rattle.dcel_plane.proofs.edits.Flipped.{flip_lists}
 use Rattle.dcel_plane.proofs.hull.Keeping.{flip_keeps_convex, flip_keeps_hull}
-use Rattle.dcel_plane.specs.removal.Wheels.{CanTurn}
+use Rattle.dcel_plane.specs.removal.Wheels.{CanFlipInPlane}
 use Rattle.dcel_plane.proofs.removal.Fewer.{flip_keeps_inner, flip_takes_one}
 use Rattle.dcel_plane.proofs.removal.FlippedInside.{outer_start, outer_stays}
 use Rattle.dcel_plane.proofs.removal.Turnable.{turn_keeps_plane}
 use Rattle.dcel_planar.specs.Corners.{StartsOutside}
-use Rattle.dcel_planar.specs.Growing.{HasHull, IsSound, Keeps}
-use Rattle.dcel_delaunay.specs.Removing.{IsInside, IsTurnable}
+use Rattle.dcel_planar.specs.Growing.{HasHull, IsDelaunayBut, Keeps}
+use Rattle.dcel_delaunay.specs.Removing.{IsInnerVertex, IsTurnable}
 use Rattle.dcel_planar.proofs.Counting.{flipped_joined}
 use Rattle.dcel_planar.proofs.Growth.{flipped-keeps, keeps-trans}
 
 -- what can be flipped so lies between two inner triangles
-pub hull_stays : (at : ℕ → Point) (s : Shape) (u : ℕ) → IsOnHull s (2 * u) → ¬ CanTurn at s u
+pub hull_stays : (at : ℕ → Point) (s : Shape) (u : ℕ) → IsOnHull s (2 * u) → ¬ CanFlipInPlane at s u
 hull_stays at s u (inl outer) turn = (let inside = turn.inner in omega (arith, outer, inside))
 hull_stays at s u (inr outer) turn =
     let is : face_of s (2 * u + 1) ≡ 0 = ap (face_of s) (sym (rev-double u)) ∙ outer in
@@ -38,7 +38,7 @@ hull_stays at s u (inr outer) turn =
 
 pub can_turn_from : (at : ℕ → Point) (s : Shape) (u : ℕ) → CanFlip s u → ¬ IsOnHull s (2 * u)
     → TurnsLeft (at (origin_of s (prev_of s (2 * u)))) (at (origin_of s (prev_of s (2 * u + 1)))) (at (origin_of s (2 * u + 1)))
-    → TurnsLeft (at (origin_of s (prev_of s (2 * u + 1)))) (at (origin_of s (prev_of s (2 * u)))) (at (origin_of s (2 * u))) → CanTurn at s u
+    → TurnsLeft (at (origin_of s (prev_of s (2 * u + 1)))) (at (origin_of s (prev_of s (2 * u)))) (at (origin_of s (2 * u))) → CanFlipInPlane at s u
 can_turn_from at s u can off first second =
     let inner = inner_from s u can off in
     record { can = can; inner = inner.inner; inner_facing = inner.inner_facing; first = first; second = second }
@@ -69,11 +69,11 @@ module _ {DE UE F : Type 0} where
       let first = count-append w due own in
       omega (arith, found, whole, parts, wanted, first)
 
-  module _ (m : Mesh Point DE UE F) (mesh : IsMesh m) (e : ℕ) (turn : CanTurn (point_at m) m.shape (e / 2)) where
+  module _ (m : Mesh Point DE UE F) (mesh : IsMesh m) (e : ℕ) (turn : CanFlipInPlane (point_at m) m.shape (e / 2)) where
     abbrev n : Mesh Point DE UE F
     n = edge_flipped m (e / 2)
 
-    half_sound : (due : List ℕ) → IsSound m due → IsSound n ((due ++ (e / 2) ∷ []) ++ sides_beside m.shape (e / 2))
+    half_sound : (due : List ℕ) → IsDelaunayBut m due → IsDelaunayBut n ((due ++ (e / 2) ∷ []) ++ sides_beside m.shape (e / 2))
     half_sound due sound = record {
       triangulated = record {
         closed = sound.closed;
@@ -95,7 +95,7 @@ module _ {DE UE F : Type 0} where
           hull = flip_keeps_hull m mesh (e / 2) turn.can (point_at m) turn.inner turn.inner_facing has.hull;
         }
 
-    half_inside : (v : ℕ) → IsInside m.shape v → IsInside n.shape v
+    half_inside : (v : ℕ) → IsInnerVertex m.shape v → IsInnerVertex n.shape v
     half_inside v inside k out =
         flip_keeps_inner m mesh (point_at m) e turn.can turn.inner turn.inner_facing v (λ i live from. inside i (record { live = live; start = from })) k out.live out.start
 
@@ -121,12 +121,12 @@ module _ {DE UE F : Type 0} where
     pub below : v < n.shape.vertices
     pub keeps : Keeps m n
     pub edges : n.shape.edges ≡ m.shape.edges
-    pub sound : IsSound n rest
+    pub sound : IsDelaunayBut n rest
     pub hull : HasHull n
-    pub inside : IsInside m.shape v → IsInside n.shape v
+    pub inside : IsInnerVertex m.shape v → IsInnerVertex n.shape v
     pub outside : (h : ℕ) → StartsOutside m v h → StartsOutside n v h
 
-  pub thin_begins : (m : Mesh Point DE UE F) (due : List ℕ) (v : ℕ) → IsMesh m → IsSound m due → HasHull m → v < m.shape.vertices → IsThinned m due v m due
+  pub thin_begins : (m : Mesh Point DE UE F) (due : List ℕ) (v : ℕ) → IsMesh m → IsDelaunayBut m due → HasHull m → v < m.shape.vertices → IsThinned m due v m due
   thin_begins m due v mesh sound has below = record {
     mesh = mesh;
     below = below;
@@ -139,7 +139,7 @@ module _ {DE UE F : Type 0} where
   }
 
   module _ (m : Mesh Point DE UE F) (due : List ℕ) (v : ℕ) (n : Mesh Point DE UE F) (rest : List ℕ) (way : IsThinned m due v n rest) where
-    at_half : (e : ℕ) → CanTurn (point_at n) n.shape (e / 2) → IsThinned m due v (edge_flipped n (e / 2)) ((rest ++ (e / 2) ∷ []) ++ sides_beside n.shape (e / 2))
+    at_half : (e : ℕ) → CanFlipInPlane (point_at n) n.shape (e / 2) → IsThinned m due v (edge_flipped n (e / 2)) ((rest ++ (e / 2) ∷ []) ++ sides_beside n.shape (e / 2))
     at_half e turn = record {
       mesh = flipped_mesh n (e / 2) way.mesh turn.can;
       below = way.below;
@@ -154,12 +154,12 @@ module _ {DE UE F : Type 0} where
     module _ (u : ℕ) (turn : IsTurnable n v u) where
       pub thins : IsThinned m due v (edge_flipped n u) ((rest ++ u ∷ []) ++ sides_beside n.shape u)
       thins =
-          let can = subst (λ (k : ℕ). CanTurn (point_at n) n.shape k) (sym turn.is) turn.can in
+          let can = subst (λ (k : ℕ). CanFlipInPlane (point_at n) n.shape k) (sym turn.is) turn.can in
           subst (λ (k : ℕ). IsThinned m due v (edge_flipped n k) ((rest ++ k ∷ []) ++ sides_beside n.shape k)) turn.is (at_half turn.half can)
 
       pub one_less : (after : Mesh Point DE UE F) → after ≡ edge_flipped n u → length (out_edges_of after v) < length (out_edges_of n v)
       one_less after is =
-          let can = subst (λ (k : ℕ). CanTurn (point_at n) n.shape k) (sym turn.is) turn.can in
+          let can = subst (λ (k : ℕ). CanFlipInPlane (point_at n) n.shape k) (sym turn.is) turn.can in
           subst (λ (k : Mesh Point DE UE F). length (out_edges_of k v) < length (out_edges_of n v)) (sym is)
           (subst (λ (k : ℕ). length (out_edges_of (edge_flipped n k) v) < length (out_edges_of n v)) turn.is
           (half_less n way.mesh turn.half can v way.below turn.out.start))

@@ -3,7 +3,12 @@ use Rattle.std.specs.Prelude.{◌≡◌, ◌<◌, ◌≤◌, ◌+◌, ◌++◌, 
 use Rattle.dcel_maps.specs.Words.{count_of}
 use Rattle.dcel_maps.specs.Shapes.{Mesh}
 use Rattle.dcel_predicates.specs.declared.point.Point.{Point}
+use Rattle.dcel_maps.specs.Conditions.{HasRoom}
+use Rattle.dcel_planar.specs.Outcomes.{IsWholeMesh}
 use Rattle.dcel_planar.specs.Places.{HasPoint}
+use Rattle.dcel_planar.specs.declared.errors.InsertionError.{InsertionError}
+use Rattle.dcel_planar.specs.declared.errors.InsertionError.TheVariants.{OutOfMemory, OutOfRange, TooManyPoints, Unfinished}
+use Rattle.dcel_planar.specs.declared.planar.PlanarMesh.{PlanarMesh}
 
 -- each number below `count` stands there once, and no other
 pub record ListsEach (count : ℕ) (numbers : List ℕ) : Type 0 where
@@ -37,3 +42,11 @@ module _ {DE UE F : Type 0} where
     pub points : new.vertex_data ≡ old.vertex_data ++ added
     pub from : All (Contains given) added
     pub few : length added ≤ most
+
+module _ {UE A : Type 0} where
+  -- an insertion of many points fails: those that were put in before stay
+  abbrev pub FailsToInsertAll : PlanarMesh UE A → PlanarMesh UE A → InsertionError → Type 0
+  FailsToInsertAll old new OutOfRange = ⊥
+  FailsToInsertAll old new TooManyPoints = ¬ HasRoom new.dcel.shape 1 3 2 × IsWholeMesh new
+  FailsToInsertAll old new OutOfMemory = IsWholeMesh old → IsWholeMesh new
+  FailsToInsertAll old new Unfinished = ¬ IsWholeMesh new

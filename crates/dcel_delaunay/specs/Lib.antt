@@ -1,3 +1,5 @@
 pub mod Bulk
+pub mod Listing
 pub mod Removing
+pub mod Triangles
 pub mod Triangulated

@@ -15,17 +15,19 @@ use Rattle.dcel_plane.specs.Plane.{ListsCircled, TrianglesTurnLeft, point_at}
 use Rattle.dcel_plane.specs.covering.Covering.{IsConvex, IsHull}
 use Rattle.dcel_plane.specs.hull.Straight.{IsStraight}
 use Rattle.spade_dcel.specs.Opened.{HasOpened}
-use Rattle.dcel_plane.specs.removal.Wheels.{CanTurn, MakesTwo}
+use Rattle.dcel_plane.specs.removal.Wheels.{CanFlipInPlane, MakesTwo}
 use Rattle.dcel_planar.specs.Corners.{StartsOutside}
 use Rattle.dcel_planar.specs.Growing.{HasHull, Keeps}
+use Rattle.dcel_planar.specs.Outcomes.{IsWholeMesh, KeepsWhole}
 use Rattle.dcel_planar.specs.Places.{HasPoint, IsOnLine}
+use Rattle.dcel_planar.specs.declared.planar.PlanarMesh.{PlanarMesh}
 use Rattle.dcel_delaunay.specs.declared.errors.RemovalError.{RemovalError}
 use Rattle.dcel_delaunay.specs.declared.errors.RemovalError.TheVariants.{NoVertex, OutOfMemory, TooManyPoints, Unfinished}
 use Rattle.dcel_delaunay.specs.declared.removed.Removed.{Removed}
 
 -- no out edge of the vertex v lies on the outer face
-abbrev pub IsInside : Shape → ℕ → Type 0
-IsInside s v = (k : ℕ) → IsOutEdge s v k → 0 < face_of s k
+abbrev pub IsInnerVertex : Shape → ℕ → Type 0
+IsInnerVertex s v = (k : ℕ) → IsOutEdge s v k → 0 < face_of s k
 
 module _ {DE UE F : Type 0} where
   -- the edge u of the vertex v can be flipped between two triangles that turn left
@@ -33,20 +35,20 @@ module _ {DE UE F : Type 0} where
     pub half : ℕ
     pub out : IsOutEdge m.shape v half
     pub is : half / 2 ≡ u
-    pub can : CanTurn (point_at m) m.shape u
+    pub can : CanFlipInPlane (point_at m) m.shape u
 
   -- no edge of v can
   abbrev pub HasNoneToTurn : Mesh Point DE UE F → ℕ → Type 0
-  HasNoneToTurn m v = (h : ℕ) → IsOutEdge m.shape v h → ¬ CanTurn (point_at m) m.shape (h / 2)
+  HasNoneToTurn m v = (h : ℕ) → IsOutEdge m.shape v h → ¬ CanFlipInPlane (point_at m) m.shape (h / 2)
 
   -- v lies inside of triangles, and none of its edges can be flipped so
-  pub record IsThin (m : Mesh Point DE UE F) (v : ℕ) : Type 0 where
+  pub record IsThinnedOut (m : Mesh Point DE UE F) (v : ℕ) : Type 0 where
     pub below : v < m.shape.vertices
     pub triangles : AllTriangles m.shape
     pub plane : TrianglesTurnLeft (point_at m) m.shape
     pub hull : HasHull m
     pub some : (k : ℕ) × IsOutEdge m.shape v k
-    pub inside : IsInside m.shape v
+    pub inside : IsInnerVertex m.shape v
     pub none : HasNoneToTurn m v
 
   -- from the out edge h of v on, the ends of four edges make two triangles, if they do so from any
@@ -60,7 +62,7 @@ module _ {DE UE F : Type 0} where
     pub triangles : (length border ≡ 3) ⊎ ((length border ≡ 4) × MakesTwo (point_at m) m.shape round.first)
 
   -- v is a corner of the hull, where the outer half edge h starts, and none of its edges can be flipped so
-  pub record IsCorner (m : Mesh Point DE UE F) (v h : ℕ) : Type 0 where
+  pub record IsHullCorner (m : Mesh Point DE UE F) (v h : ℕ) : Type 0 where
     pub outside : StartsOutside m v h
     pub hull : HasHull m
     pub none : HasNoneToTurn m v
@@ -70,7 +72,7 @@ module _ {DE UE F : Type 0} where
   LiesFlat m h = IsOnLine m (point_at m (end_of m.shape (ccw_of m.shape h))) h
 
   -- the vertex where h starts is cut off, and the result says what is given up with it
-  pub record IsCutOff {A : Type 0} (old new : Mesh Point DE UE F) (h : ℕ) (opened : IsolateVertexResult A) : Type 0 where
+  pub record CutsOff {A : Type 0} (old new : Mesh Point DE UE F) (h : ℕ) (opened : IsolateVertexResult A) : Type 0 where
     pub mesh : IsMesh new
     pub is : new ≡ strip_cut old (strip_of old.shape h)
     pub answer : HasOpened (strip_edges old.shape (strip_of old.shape h)) (strip_faces old.shape (strip_of old.shape h)) [] 0 opened
@@ -109,21 +111,17 @@ module _ {DE UE F : Type 0} where
     pub renamed : removed.moved ≡ cond (v == old.shape.vertices - 1) None (Some (old.shape.vertices - 1))
     pub others : (w : ℕ) → w < old.shape.vertices → w ≢ v → point_at new (moved (old.shape.vertices - 1) v w) ≡ point_at old w
 
-  -- a vertex may stay: there are too many points only if it lies inside of triangles and no numbers are left for what fills its place, and
-  -- without memory edges may have been flipped, but no vertex is gone
-  abbrev pub MayKeep : Mesh Point DE UE F → Mesh Point DE UE F → ℕ → RemovalError → Type 0
-  MayKeep old new v NoVertex = ⊥
-  MayKeep old new v TooManyPoints = (v < old.shape.vertices) × IsInside old.shape v × ¬ HasRoom old.shape 0 1 2 × (new ≡ old)
-  MayKeep old new v OutOfMemory = Keeps old new
-  MayKeep old new v (Unfinished removed) = Loses old new v removed
+  -- a vertex of triangles isn't removed
+  abbrev pub FailsToCutOut : Mesh Point DE UE F → Mesh Point DE UE F → List ℕ → List ℕ → ℕ → RemovalError → Type 0
+  FailsToCutOut old new due items v NoVertex = ⊥
+  FailsToCutOut old new due items v TooManyPoints = (v < old.shape.vertices) × IsInnerVertex old.shape v × ¬ HasRoom old.shape 0 1 2 × (new ≡ old) × (items ≡ due)
+  FailsToCutOut old new due items v OutOfMemory = Keeps old new
+  FailsToCutOut old new due items v (Unfinished removed) = ⊥
 
-  -- the vertices are as they were, and so is the mesh of a whole triangulation; nothing is left to be done
-  abbrev pub IsAsItWas : Type 0 → Type 0 → Mesh Point DE UE F → Mesh Point DE UE F → Type 0
-  IsAsItWas Whole Done old new = (new.vertex_data ≡ old.vertex_data) × (Whole → new ≡ old) × Done
-
-  -- why the vertex v stands still, with all others; or it is gone, and not all is done that belongs to it
-  abbrev pub IsKept : Type 0 → Type 0 → Mesh Point DE UE F → Mesh Point DE UE F → ℕ → RemovalError → Type 0
-  IsKept Whole Done old new v NoVertex = ¬ (v < new.shape.vertices) × IsAsItWas Whole Done old new
-  IsKept Whole Done old new v TooManyPoints = (v < new.shape.vertices) × IsInside new.shape v × ¬ HasRoom new.shape 0 1 2 × IsAsItWas Whole Done old new
-  IsKept Whole Done old new v OutOfMemory = new.vertex_data ≡ old.vertex_data
-  IsKept Whole Done old new v (Unfinished removed) = Loses old new v removed
+module _ {UE A : Type 0} where
+  -- a removal of the vertex v fails
+  abbrev pub FailsToRemove : PlanarMesh UE A → PlanarMesh UE A → ℕ → RemovalError → Type 0
+  FailsToRemove old new v NoVertex = ¬ (v < new.dcel.shape.vertices) × KeepsWhole old new × IsWholeMesh new
+  FailsToRemove old new v TooManyPoints = (v < new.dcel.shape.vertices) × IsInnerVertex new.dcel.shape v × ¬ HasRoom new.dcel.shape 0 1 2 × KeepsWhole old new × IsWholeMesh new
+  FailsToRemove old new v OutOfMemory = new.dcel.vertex_data ≡ old.dcel.vertex_data
+  FailsToRemove old new v (Unfinished removed) = Loses old.dcel new.dcel v removed × ¬ IsWholeMesh new

@@ -10,9 +10,10 @@ ghost use Rattle.dcel_plane.specs.Plane.{IsLocallyDelaunay, point_at};
 ghost use Rattle.dcel_plane.specs.location.Nearest.{IsNearest};
 ghost use Rattle.dcel_planar.specs.Growing.{Keeps};
 ghost use Rattle.dcel_planar.specs.Leaving.{IsOutlined};
+ghost use Rattle.dcel_planar.specs.Outcomes.{FailsToInsert, HasInserted, IsWholeMesh};
 ghost use Rattle.dcel_planar.specs.Places.{IsPlace};
-ghost use Rattle.dcel_delaunay.specs.Removing.{Loses};
-ghost use Rattle.dcel_delaunay.specs.Triangulated.{CirclesAreEmpty, FacesAreApart, GoesRoundHull, HullIsCovered, IsWhole, KeepsVertex, PointsAreSingle, Stays, Takes, mesh_in};
+ghost use Rattle.dcel_delaunay.specs.Removing.{FailsToRemove, Loses};
+ghost use Rattle.dcel_delaunay.specs.Triangulated.{CirclesAreEmpty, FacesAreApart, GoesRoundHull, HullIsCovered, PointsAreSingle, mesh_in};
 
 use crate::errors::RemovalError;
 use crate::locate::nearest;
@@ -28,7 +29,7 @@ impl<A: Allocator + Clone> Triangulation<A> {
     /// Creates a triangulation of no points. If memory runs out it returns `AllocError`.
     pub fn new(alloc: A) -> Result<Self, AllocError>
         ensures empty { IfOk result (λ t. (mesh_in t).vertex_data ≡ []) }
-        ensures whole { IfOk result IsWhole }
+        ensures whole { IfOk result (λ t. IsWholeMesh t.planar) }
     {
         Ok(Triangulation {
             planar: PlanarMesh::new(alloc)?,
@@ -46,27 +47,27 @@ impl<A: Allocator> Triangulation<A> {
     ///
     /// * `delaunay`: the inner faces go round counterclockwise, and no edge between two of them is to
     ///   be flipped.
-    /// * `circles`: no vertex lies inside the circle of any inner face.
-    /// * `apart`: no place lies inside two inner faces.
-    /// * `covers`: each place that no half edge of the outer face has on its left lies in an inner
+    /// * `circles`: no vertex is inside the circle of any inner face.
+    /// * `apart`: no place is inside two inner faces.
+    /// * `covers`: each place that no half edge of the outer face has on its left is in an inner
     ///   face or on its border, if there is an inner face.
-    /// * `single`: no two vertices stand at one point.
-    /// * `hull`: no vertex lies on the left of a half edge of the outer face, nor on it between its
+    /// * `single`: no two vertices are at one point.
+    /// * `hull`: no vertex is on the left of a half edge of the outer face, nor on it between its
     ///   ends, and once there is an inner face, the outer face passes no vertex twice.
     ///
-    /// While all points stand on one line there is no inner face, and each edge joins two
+    /// While all points are on one line there is no inner face, and each edge joins two
     /// neighbors.
     pub fn dcel(&self) -> &Mesh<A>
         ensures mesh { result.now ≡ mesh_in self.now }
         ensures closed { (mesh_in self.now).shape.removal ≡ Closed }
         ensures triangles { AllTriangles (mesh_in self.now).shape }
         ensures joined { (v : ℕ) → 1 < (mesh_in self.now).shape.vertices → ¬ IsUnconnected (mesh_in self.now).shape v }
-        ensures delaunay { IsWhole self.now → IsLocallyDelaunay (point_at (mesh_in self.now)) (mesh_in self.now).shape }
-        ensures circles { IsWhole self.now → CirclesAreEmpty (mesh_in self.now) }
-        ensures apart { IsWhole self.now → FacesAreApart (mesh_in self.now) }
-        ensures covers { IsWhole self.now → 1 < face_count (mesh_in self.now).shape → HullIsCovered (mesh_in self.now) }
-        ensures single { IsWhole self.now → PointsAreSingle (mesh_in self.now) }
-        ensures hull { IsWhole self.now → GoesRoundHull (mesh_in self.now) }
+        ensures delaunay { IsWholeMesh self.now.planar → IsLocallyDelaunay (point_at (mesh_in self.now)) (mesh_in self.now).shape }
+        ensures circles { IsWholeMesh self.now.planar → CirclesAreEmpty (mesh_in self.now) }
+        ensures apart { IsWholeMesh self.now.planar → FacesAreApart (mesh_in self.now) }
+        ensures covers { IsWholeMesh self.now.planar → 1 < face_count (mesh_in self.now).shape → HullIsCovered (mesh_in self.now) }
+        ensures single { IsWholeMesh self.now.planar → PointsAreSingle (mesh_in self.now) }
+        ensures hull { IsWholeMesh self.now.planar → GoesRoundHull (mesh_in self.now) }
     {
         every_mesh(&self.planar.dcel);
         &self.planar.dcel
@@ -74,19 +75,19 @@ impl<A: Allocator> Triangulation<A> {
 
     /// Returns whether no insertion or removal has left something undone for want of memory.
     pub fn is_whole(&self) -> bool
-        ensures { IsTrue result ↔ IsWhole self.now }
+        ensures { IsTrue result ↔ IsWholeMesh self.now.planar }
     {
-        self.planar.is_settled()
+        self.planar.is_whole()
     }
 
-    /// Returns where a point lies.
+    /// Returns where a point is.
     ///
     /// Asks for a whole triangulation ([`is_whole`](Self::is_whole)): where memory ran out,
     /// [`finish`](Self::finish) makes it so. The walk begins at an edge of the vertex that the last
     /// insertion returned; after a removal, which renumbers edges, at the one that has its number now,
     /// or at the first.
     pub fn locate(&self, point: Point) -> PositionInTriangulation
-        requires whole { IsWhole self.now }
+        requires whole { IsWholeMesh self.now.planar }
         ensures { IsPlace (mesh_in self.now) point result }
     {
         self.planar.locate(self.last, point)
@@ -99,7 +100,7 @@ impl<A: Allocator> Triangulation<A> {
     /// last one, begins at the vertex that the last insertion returned; after a removal, where the edge
     /// starts that [`locate`](Self::locate) begins at, or at the first vertex.
     pub fn nearest_vertex(&self, point: Point) -> Option<FixedVertexHandle>
-        requires whole { IsWhole self.now }
+        requires whole { IsWholeMesh self.now.planar }
         ensures vertex { IfSome result (λ v. v < (mesh_in self.now).shape.vertices) }
         ensures nearest { IfSome result (IsNearest (point_at (mesh_in self.now)) (mesh_in self.now).shape point) }
         ensures none { IfNone result ((mesh_in self.now).shape.vertices ≡ 0) }
@@ -107,28 +108,28 @@ impl<A: Allocator> Triangulation<A> {
         nearest(&self.planar.dcel, self.last, point)
     }
 
-    /// Inserts a point, and returns its vertex: a new one, or the one that stands there already.
+    /// Inserts a point, and returns its vertex: a new one, or the one that is there already.
     ///
     /// If no numbers are left for a new vertex, three edges and two faces, the result is
     /// [`TooManyPoints`](InsertionError::TooManyPoints), and if memory runs out before the vertex
-    /// stands, [`OutOfMemory`](InsertionError::OutOfMemory): no vertex is added then, and a whole
+    /// is there, [`OutOfMemory`](InsertionError::OutOfMemory): no vertex is added then, and a whole
     /// triangulation ([`is_whole`](Self::is_whole)) is as it was, and whole. If either runs out
     /// afterwards, the result is [`Unfinished`](InsertionError::Unfinished), and the next insertion, or
     /// [`finish`](Self::finish), goes on with what is left to do.
     ///
-    /// If the vertex stands there already, a whole triangulation stays as it is.
+    /// If the vertex is there already, a whole triangulation stays as it is.
     pub fn insert(&mut self, point: Point) -> Result<FixedVertexHandle, InsertionError>
-        ensures inserts { IfOk result (Takes self.old self.new point) }
-        ensures whole { OnOk result (IsWhole self.new) }
-        ensures refuses { IfErr result (Stays self.old self.new point) }
-        ensures same { IsWhole self.old → (mesh_in self.new).vertex_data ≡ (mesh_in self.old).vertex_data → mesh_in self.new ≡ mesh_in self.old }
+        ensures inserts { IfOk result (HasInserted self.old.planar self.new.planar point) }
+        ensures whole { OnOk result (IsWholeMesh self.new.planar) }
+        ensures refuses { IfErr result (FailsToInsert self.old.planar self.new.planar point) }
+        ensures same { IsWholeMesh self.old.planar → (mesh_in self.new).vertex_data ≡ (mesh_in self.old).vertex_data → mesh_in self.new ≡ mesh_in self.old }
         ensures edges { (mesh_in self.old).shape.edges ≤ (mesh_in self.new).shape.edges }
     {
         self.finish()?;
         every_mesh(&self.planar.dcel);
         let position = self.planar.locate(self.last, point);
         let vertex = self.planar.put_at(position, point)?;
-        if self.planar.is_settled() {
+        if self.planar.is_whole() {
             self.begin_at(vertex);
             return Ok(vertex);
         }
@@ -147,13 +148,13 @@ impl<A: Allocator> Triangulation<A> {
     /// done so far stays. The vertices stay in any case.
     pub fn finish(&mut self) -> Result<(), InsertionError>
         ensures points { (mesh_in self.new).vertex_data ≡ (mesh_in self.old).vertex_data }
-        ensures whole { OnOk result (IsWhole self.new) }
-        ensures same { IsWhole self.old → mesh_in self.new ≡ mesh_in self.old }
-        ensures ready { IsWhole self.old → IsOk result }
-        ensures refused { IfErr result (λ e. e ≡ InsertionError.OutOfMemory) }
+        ensures whole { OnOk result (IsWholeMesh self.new.planar) }
+        ensures same { IsWholeMesh self.old.planar → mesh_in self.new ≡ mesh_in self.old }
+        ensures ready { IsWholeMesh self.old.planar → IsOk result }
+        ensures refused { IfErr result (λ e. (e ≡ InsertionError.OutOfMemory) × ¬ IsWholeMesh self.new.planar) }
         ensures edges { (mesh_in self.old).shape.edges ≤ (mesh_in self.new).shape.edges }
     {
-        if self.planar.is_settled() {
+        if self.planar.is_whole() {
             return Ok(());
         }
         let Ok(()) = self.planar.close_hull() else {
@@ -178,13 +179,13 @@ impl<A: Allocator> Triangulation<A> {
 }
 
 impl<A: Allocator + Clone> Triangulation<A> {
-    /// Removes a vertex, and tells where it stood.
+    /// Removes a vertex, and returns its point.
     ///
-    /// The last vertex gets its number, which the result tells; all others keep theirs. The
-    /// triangulation is then one of the points that are left, a line if they all stand on one, and of
+    /// The last vertex gets its number, as the result says; all others keep theirs. The
+    /// triangulation is then one of the points that are left, a line if they all are on one, and of
     /// none after the last.
     ///
-    /// If there is no such vertex, the result is [`NoVertex`](RemovalError::NoVertex), and if it lies
+    /// If there is no such vertex, the result is [`NoVertex`](RemovalError::NoVertex), and if it is
     /// inside of triangles and no numbers are left for an edge and two triangles,
     /// [`TooManyPoints`](RemovalError::TooManyPoints): a whole triangulation is then as it was, and
     /// any other is whole now.
@@ -194,8 +195,8 @@ impl<A: Allocator + Clone> Triangulation<A> {
     /// [`finish`](Self::finish), goes on with what is left to do.
     pub fn remove(&mut self, vertex: FixedVertexHandle) -> Result<Removed, RemovalError>
         ensures removes { IfOk result (Loses (mesh_in self.old) (mesh_in self.new) vertex) }
-        ensures whole { OnOk result (IsWhole self.new) }
-        ensures refuses { IfErr result (KeepsVertex self.old self.new vertex) }
+        ensures whole { OnOk result (IsWholeMesh self.new.planar) }
+        ensures refuses { IfErr result (FailsToRemove self.old.planar self.new.planar vertex) }
     {
         every_mesh(&self.planar.dcel);
         let Ok(()) = self.finish() else {
@@ -219,8 +220,8 @@ impl<A: Allocator + Clone> Triangulation<A> {
         requires hull { IsOutlined (mesh_in self.old) }
         ensures keeps { Keeps (mesh_in self.old) (mesh_in self.new) }
         ensures same { IfOk result (λ r. r ≡ removed) }
-        ensures unfinished { IfErr result (λ e. e ≡ RemovalError.Unfinished removed) }
-        ensures done { OnOk result (IsWhole self.new) }
+        ensures unfinished { IfErr result (λ e. (e ≡ RemovalError.Unfinished removed) × ¬ IsWholeMesh self.new.planar) }
+        ensures whole { OnOk result (IsWholeMesh self.new.planar) }
     {
         let Ok(()) = self.planar.legalize() else {
             return Err(RemovalError::Unfinished(removed));

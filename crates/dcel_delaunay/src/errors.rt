@@ -15,12 +15,12 @@ pub enum RemovalError {
     /// There is no vertex of this number.
     #[error("there is no such vertex")]
     NoVertex,
-    /// The vertex lies inside of triangles, and there are no numbers left for the edge and the
+    /// The vertex is inside of triangles, and there are no numbers left for the edge and the
     /// triangles that take its place.
     #[error("there are too many points")]
     TooManyPoints,
-    /// There was no memory. The vertex stands; edges may have been flipped, and the next insertion or
-    /// removal makes the triangulation whole again first.
+    /// There was no memory. The vertex is still there; edges may have been flipped, and the next
+    /// insertion or removal makes the triangulation whole again first.
     #[error("out of memory")]
     OutOfMemory,
     /// The vertex is gone, but there was no memory to make the triangulation whole again.
@@ -31,9 +31,9 @@ pub enum RemovalError {
 }
 
 /// Returns the point with these coordinates, or [`OutOfRange`](InsertionError::OutOfRange) unless
-/// both are from -2^30 to 2^30.
+/// both are from -2^53 to 2^53.
 pub fn point(x: i64, y: i64) -> Result<Point, InsertionError>
-    ensures in_range { IsOk result ↔ ((unsigned_abs x ≤ 2 ^ 30) × (unsigned_abs y ≤ 2 ^ 30)) }
+    ensures in_range { IsOk result ↔ ((unsigned_abs x ≤ 2 ^ 53) × (unsigned_abs y ≤ 2 ^ 53)) }
     ensures x { IfOk result (λ p. p.x ≡ x) }
     ensures y { IfOk result (λ p. p.y ≡ y) }
     ensures refused { IfErr result (λ e. e ≡ InsertionError.OutOfRange) }

@@ -5,7 +5,8 @@
 //! ([`insert_all`](Triangulation::insert_all)). In the mesh ([`dcel`](Triangulation::dcel)) the
 //! vertices are the points, the inner faces the triangles, and the outer face goes around the
 //! convex hull. No point is inside the circle of a triangle, the triangles cover the hull and don't
-//! overlap, and equal points are one vertex.
+//! overlap, and equal points are one vertex. [`triangulate`] returns the triangles as numbers of the
+//! points, for callers that want no mesh.
 #![tactic(auto)]
 
 mod api;
@@ -14,10 +15,12 @@ mod insert;
 mod locate;
 mod remove;
 mod removed;
+mod triangles;
 mod triangulation;
 
 pub use dcel_planar::{EdgeMesh, InsertionError, Mesh, Point, PositionInTriangulation};
 pub use errors::{RemovalError, point};
 pub use insert::insertion_order;
 pub use removed::Removed;
+pub use triangles::{Triangle, triangulate};
 pub use triangulation::Triangulation;

@@ -6,7 +6,7 @@ use spade_dcel::handles::FixedVertexHandle;
 /// A vertex that was removed.
 #[derive(Clone, Copy, PartialEq, Eq, Debug, Drop)]
 pub struct Removed {
-    /// Where it stood.
+    /// Where it was.
     pub point: Point,
     /// The last vertex, by its number from before, if it got the number of the one that was
     /// removed. All others keep theirs.

@@ -10,7 +10,7 @@ use std::alloc::{Allocator, Global};
 ///
 /// Its mesh ([`dcel`](Self::dcel)) has a vertex for each point. The inner faces are triangles that
 /// go round counterclockwise, and the outer face goes round their convex hull. While all points
-/// stand on one line, the mesh is a path along it, without triangles.
+/// are on one line, the mesh is a path along it, without triangles.
 ///
 /// That is so of each whole triangulation ([`is_whole`](Self::is_whole)). One that is not whole,
 /// as memory ran out in an insertion, has a vertex for each point too, and

@@ -8,7 +8,6 @@ pub mod Linking
 pub mod Starting
 pub mod Spurs
 pub mod Lines
-pub mod Rows
 pub mod Splits
 pub mod Swaps
 pub mod Inserts

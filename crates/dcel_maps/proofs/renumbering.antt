@@ -14,3 +14,4 @@ pub mod AllFaces
 pub mod GivenUp
 pub mod Cleanup
 pub mod Renumbered
+pub mod TakenBack

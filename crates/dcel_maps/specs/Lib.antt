@@ -29,6 +29,7 @@ pub mod EditLists
 pub mod InsertedBack
 pub mod Laws
 pub mod Examples
+pub mod EditExamples
 pub mod StripExamples
 pub mod PathExamples
 pub mod RegionExamples

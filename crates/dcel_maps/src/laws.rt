@@ -7,6 +7,7 @@ ghost use Rattle.dcel_maps.specs.Conditions.{CanFlip, CanSwapRemove, IsBridge, I
 ghost use Rattle.dcel_maps.specs.Count.{Counts, IsCounted, live_edges, used_vertices};
 ghost use Rattle.dcel_maps.specs.Degenerate.{CanRemoveDegenerate};
 ghost use Rattle.dcel_maps.specs.EditLists.{ComesBy, EditKind, edges_after, nothing};
+ghost use Rattle.dcel_maps.specs.EditExamples.{DataUpdated, EdgeSplit, FirstEdgeAdded, HalfSplit, LineSplit, VertexInserted, VerticesSwapped};
 ghost use Rattle.dcel_maps.specs.edits.Create.{first_edge_added, first_edge_alone, outer_alone, vertex_appended};
 ghost use Rattle.dcel_maps.specs.edits.DefaultData.{NewData};
 ghost use Rattle.dcel_maps.specs.edits.Degenerate.{path_given_up, removed_degenerate};
@@ -62,6 +63,17 @@ pub fn two_swaps_change_nothing<V, DE, UE, F>()
 /// A vertex that is swapped with itself is what it was, and so is all else.
 pub fn a_swap_of_one_vertex_changes_nothing<V, DE, UE, F>()
     ensures { (m : Mesh V DE UE F) (v : ℕ) → IsMesh m → vertex_is_live m.shape v ≡ true → vertices_swapped m v v ≡ m }
+{}
+
+/// Seven examples show what edits make of small meshes: words, origins, anchors and data.
+pub fn edits_make_these_meshes()
+    ensures first_edge { FirstEdgeAdded }
+    ensures line_split { LineSplit }
+    ensures edge_split { EdgeSplit }
+    ensures half_split { HalfSplit }
+    ensures vertex_inserted { VertexInserted }
+    ensures vertices_swapped { VerticesSwapped }
+    ensures data { DataUpdated }
 {}
 
 /// Three examples say what is left once a vertex is cut off.

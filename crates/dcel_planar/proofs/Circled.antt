@@ -1,11 +1,14 @@
 -- What the circle test at an edge tells.
-use Rattle.std.proofs.Common.{◌≡◌, ◌↔◌, inl, inr, ℕ, ◌+◌, ◌*◌, ◌^◌, ◌≤◌, Bool, true, IsTrue, sym, ap, ◌∙◌, subst, ℤ, pos, int_lt, unsigned_abs, w64, to_z, of_z, ◌<ℤ◌, arith}
+use Rattle.std.proofs.Common.{◌≡◌, ◌↔◌, inl, inr, ℕ, ◌+◌, ◌*◌, ◌^◌, ◌≤◌, Bool, true, IsTrue, sym, ap, ◌∙◌, subst, ℤ, pos, int_lt, unsigned_abs, to_z, of_z, ◌<ℤ◌, arith}
+use Rattle.std.specs.Int.{w128}
 use Rattle.std.proofs.lemmas.Int.{to_z-of_z}
 use borrow.Author.Differences.{below_in, lt-true, lt_out, true_is_lt}
-use Rattle.dcel_predicates.proofs.Machine.{fits_64}
+use Rattle.dcel_predicates.proofs.Machine.{fits_128}
 use Rattle.std.proofs.lemmas.Bool.{cases_eq}
 use Rattle.dcel_fixed.proofs.Halves.{rev-double}
 use Rattle.dcel_predicates.specs.declared.point.Point.{Point}
+use Rattle.dcel_predicates.specs.declared.line.Side.{Side}
+use Rattle.dcel_predicates.specs.declared.line.Side.TheVariants.{Left}
 use Rattle.dcel_predicates.specs.Determinants.{incircle_of, orient2d_of}
 use Rattle.dcel_maps.specs.Conditions.{CanFlip}
 use Rattle.dcel_maps.specs.Shapes.{Shape, face_of}
@@ -38,17 +41,10 @@ circle_moves b {p} {q} {r} {t} {p'} {q'} {r'} {t'} ep eq er et told =
     subst (λ (k : Point). IsTrue b ↔ (pos 0 <ℤ incircle_of p' q' r' k)) et (subst (λ (k : Point). IsTrue b ↔ (pos 0 <ℤ incircle_of p' q' k t)) er
     (subst (λ (k : Point). IsTrue b ↔ (pos 0 <ℤ incircle_of p' k r t)) eq (subst (λ (k : Point). IsTrue b ↔ (pos 0 <ℤ incircle_of k q r t)) ep told)))
 
--- the sign of what `orient2d` gave
-pub left_told : (o : ℤ) {p q r p' q' r' : Point} → unsigned_abs o ≤ 2 ^ 62 → o ≡ orient2d_of p q r → p ≡ p' → q ≡ q' → r ≡ r' → IsTrue (int_lt (pos 0) (to_z w64 (of_z w64 o))) ↔ (pos 0 <ℤ orient2d_of p' q' r')
-left_told o {p} {q} {r} {p'} {q'} {r'} bound value ep eq er =
-    let is : to_z w64 (of_z w64 o) ≡ o = to_z-of_z w64 o (fits_64 o bound) in
-    let all : orient2d_of p q r ≡ orient2d_of p' q' r' =
-    ap (λ (k : Point). orient2d_of k q r) ep ∙ ap (λ (k : Point). orient2d_of p' k r) eq ∙ ap (λ (k : Point). orient2d_of p' q' k) er in
-    subst (λ (z : ℤ). IsTrue (int_lt (pos 0) z) ↔ (pos 0 <ℤ orient2d_of p' q' r')) (sym (is ∙ value ∙ all))
-    (above (orient2d_of p' q' r'), below (orient2d_of p' q' r'))
-  where
-    above : (z : ℤ) → int_lt (pos 0) z ≡ true → pos 0 <ℤ z
-    above z told = below_in (pos 0) z (lt-true (pos 0) z told)
-
-    below : (z : ℤ) → pos 0 <ℤ z → int_lt (pos 0) z ≡ true
-    below z less = sym (true_is_lt (pos 0) z (lt_out (pos 0) z less))
+-- a side that is the left one, of points under other names
+pub left_told : (b : Bool) (side : Side) {p q r p' q' r' : Point} → p ≡ p' → q ≡ q' → r ≡ r' → IsTrue b ↔ (side ≡ Left) → (side ≡ Left) ↔ (pos 0 <ℤ orient2d_of p q r)
+    → IsTrue b ↔ (pos 0 <ℤ orient2d_of p' q' r')
+left_told b side {p} {q} {r} {p'} {q'} {r'} ep eq er told left =
+    subst (λ (k : Point). IsTrue b ↔ (pos 0 <ℤ orient2d_of p' q' k)) er
+    (subst (λ (k : Point). IsTrue b ↔ (pos 0 <ℤ orient2d_of p' k r)) eq
+    (subst (λ (k : Point). IsTrue b ↔ (pos 0 <ℤ orient2d_of k q r)) ep (λ yes. left.0 (told.0 yes), λ turns. told.1 (left.1 turns))))

@@ -1,21 +1,26 @@
 -- The hull closed round a vertex: where neither corner beside it turns in, it is a hull.
-use Rattle.std.proofs.Common.{OnOk, Result, Ok, Err, ◌≡◌, ◌≢◌, ◌⊎◌, ◌∙◌, inl, inr, ℕ, List, [], pos, ℤ, ◌<ℤ◌, ◌≤ℤ◌, sym, ap, subst}
+use Rattle.std.proofs.Common.{OnOk, Result, Ok, Err, ◌≡◌, ◌≢◌, ◌⊎◌, ◌∙◌, inl, inr, ℕ, List, [], pos, ℤ, ◌<ℤ◌, ◌≤ℤ◌, sym, ap, subst, arith}
 use Rattle.std.proofs.lemmas.Int.{by_lt_z}
 use Rattle.dcel_maps.specs.Shapes.{IsLive, IsMesh, Mesh, Shape, end_of, face_of, map_of, next_of, origin_of, prev_of}
 use Rattle.dcel_maps.specs.Triangulations.{AllTriangles}
+use Rattle.dcel_fixed.specs.HalfEdges.{rev}
+use Rattle.dcel_maps.proofs.maps.Soundness.{rev_live}
 use Rattle.dcel_maps.proofs.shapes.Maps.{map-sound}
 use Rattle.dcel_maps.proofs.walks.Links.{links_stand, next-live, prev-live}
 use Rattle.dcel_maps.proofs.words.Reading.{face-next, face-prev}
 use Rattle.dcel_predicates.specs.declared.point.Point.{Point}
 use Rattle.dcel_predicates.specs.Determinants.{orient2d_of}
 use Rattle.dcel_predicates.proofs.Points.{orient2d-turned}
+use Rattle.dcel_predicates.proofs.Signs.{ordered}
 use Rattle.dcel_plane.specs.Plane.{TrianglesTurnLeft, point_at}
-use Rattle.dcel_plane.specs.hull.Closing.{IsClosed}
+use Rattle.dcel_plane.specs.hull.Closing.{IsClosedBeside}
 use Rattle.dcel_plane.proofs.hull.Closed.{closed_convex}
+use Rattle.dcel_plane.proofs.hull.ClosingStep.{turns_nowhere}
 use Rattle.dcel_plane.proofs.hull.PutBeside.{straight_convex}
 use Rattle.dcel_plane.proofs.hull.ThinEnd.{thin_convex, thin_hull}
-use Rattle.dcel_planar.specs.Corners.{GoesOn, IsClosedAfter, IsClosedBefore, StartsOutside, TurnsIn}
-use Rattle.dcel_planar.specs.Growing.{HasHull, HasOutside, IsFlat, IsOpen, IsTriangulated}
+use Rattle.dcel_planar.specs.Corners.{GoesOnClosing, IsClosedAfter, IsClosedBefore, StartsOutside, TurnsIn}
+use Rattle.dcel_planar.specs.Growing.{HasHull, HasOutside, IsFlat, IsOpen, IsTriangleMesh}
+use Rattle.dcel_planar.proofs.Recovered.{settled_outlined}
 
 not_positive : (x : ℤ) → ¬ (pos 0 <ℤ x) → x ≤ℤ pos 0
 not_positive x never = by_lt_z (pos 0) x (λ more. absurd (never more)) (λ not. not)
@@ -24,6 +29,17 @@ not_positive x never = by_lt_z (pos 0) x (λ more. absurd (never more)) (λ not.
 pub on_ok : {A E P Q : Type 0} (r : Result A E) → (P → Q) → OnOk r P → OnOk r Q
 on_ok (Ok x) f p = f p
 on_ok (Err e) f p = p
+
+-- where the outer face turns in, an edge is still to be looked at
+pub turns_due : {DE UE F : Type 0} (m : Mesh Point DE UE F) → IsMesh m → (due : List ℕ) → ∥ HasOutside m due ∥₁ → (e : ℕ) → IsLive m.shape e → face_of m.shape e ≡ 0
+    → TurnsIn m e → due ≢ []
+turns_due m mesh due outlined e live on turns none = elim (settled_outlined m due outlined none) [
+  | inl flat ↦
+      let next = next-live mesh.sound e live in
+      let straight = flat.straight.line e (rev (next_of m.shape e)) live (rev_live (map_of m.shape) (next_of m.shape e) next) in
+      absurd (omega (arith, ordered, straight, turns))
+  | inr has ↦ absurd (turns_nowhere m mesh (point_at m) has.convex e live on turns)
+]
 
 module _ {DE UE F : Type 0} (m : Mesh Point DE UE F) (t : ℕ) (is : IsOpen m t) where
   abbrev s : Shape
@@ -66,7 +82,7 @@ module _ {DE UE F : Type 0} (m : Mesh Point DE UE F) (t : ℕ) (is : IsOpen m t)
 
   pub closed_hull : IsMesh m → AllTriangles s → TrianglesTurnLeft at s → IsClosedAfter m t → IsClosedBefore m t → HasHull m
   closed_hull mesh triangles plane after before =
-      let closed : IsClosed at s t = record { after = after; before = before } in
+      let closed : IsClosedBeside at s t = record { after = after; before = before } in
       let stands = is.closing.stands in
       elim is.from [
         | inl thick ↦ record {
@@ -111,7 +127,7 @@ module _ {DE UE F : Type 0} where
     ends_before = sym (mesh.sound.joined k live_before) ∙ ap (origin_of m.shape) leads_on
 
   -- both sides closed, one after the other
-  pub sides_closed : (old mid new : Mesh Point DE UE F) (t b : ℕ) → IsMesh new → IsTriangulated new → GoesOn old mid → GoesOn mid new
+  pub sides_closed : (old mid new : Mesh Point DE UE F) (t b : ℕ) → IsMesh new → IsTriangleMesh new → GoesOnClosing old mid → GoesOnClosing mid new
       → (IsOpen mid t → IsClosedAfter mid t) → end_of mid.shape b ≡ t → (IsOpen new (end_of mid.shape b) → IsClosedBefore new (end_of mid.shape b))
       → IsOpen old t → HasHull new
   sides_closed old mid new t b mesh sound first second after ends before is =
@@ -120,7 +136,7 @@ module _ {DE UE F : Type 0} where
       closed_hull new t open_new mesh sound.triangles sound.plane (second.after t opened (after opened))
       (subst (λ (v : ℕ). IsOpen new v → IsClosedBefore new v) ends before open_new)
 
-module _ {DE UE F : Type 0} (old new : Mesh Point DE UE F) (due items : List ℕ) (way : HasOutside old due) (goes_on : GoesOn old new) where
+module _ {DE UE F : Type 0} (old new : Mesh Point DE UE F) (due items : List ℕ) (way : HasOutside old due) (goes_on : GoesOnClosing old new) where
   -- a line, or a hull, is as it was
   same_line : IsFlat old → IsFlat new
   same_line flat = subst (λ (m : Mesh Point DE UE F). IsFlat m) (sym (goes_on.convex (straight_convex (point_at old) old.shape flat.straight))) flat

@@ -1,8 +1,6 @@
 -- Edits that keep a line straight.
 use Rattle.std.proofs.Common.{◌≡◌, ◌∙◌, ℕ, ◌/◌, ◌<◌, List, [], ◌∷◌, sym, ap, subst, arith, pos, ◌<ℤ◌, slice_get, Some}
 use Rattle.std.proofs.lemmas.List.{length-map, length-set}
-use Rattle.std.proofs.lemmas.Option.{slice_get-get_or}
-use Rattle.std.specs.Option.{option_map}
 use Rattle.dcel_fixed.specs.HalfEdges.{rev}
 use Rattle.dcel_maps.specs.Conditions.{IsBridge, IsLineEnd}
 use Rattle.dcel_maps.specs.edits.Create.{IsNew, first_edge_added, vertex_appended}
@@ -28,6 +26,7 @@ use Rattle.dcel_planar.specs.Growing.{IsFlat}
 use Rattle.dcel_planar.specs.Places.{HasPoint}
 use Rattle.dcel_planar.proofs.Appended.{appended_straight}
 use Rattle.dcel_planar.proofs.Elsewhere.{said_after}
+use Rattle.dcel_planar.proofs.OnEdges.{has_point}
 
 module _ {V DE UE F : Type 0} (m : Mesh V DE UE F) (mesh : IsMesh m) (one : face_count m.shape ≡ 1) where
   -- on a mesh with one face all half edges are on it
@@ -68,15 +67,6 @@ module _ {DE UE F : Type 0} where
   flips_flat m n turned flat =
       subst (λ (k : Mesh Point DE UE F). IsFlat k) (sym turned.is) (turned_flat m turned.turned turned.circled flat)
 
--- a vertex of a mesh has its own point
-pub has_point_there : {DE UE F : Type 0} (m : Mesh Point DE UE F) → IsMesh m → (p : Point) (v : ℕ) → v < m.shape.vertices → (point_at m v).x ≡ p.x → (point_at m v).y ≡ p.y
-    → HasPoint m p v
-has_point_there m mesh p v below x y =
-    let at : slice_get m.vertex_data v ≡ Some (point_at m v) = slice_get-get_or m.vertex_data v origin_point (omega (arith, below, mesh.sized.vertex_data)) in (
-      ap (option_map (λ (q : Point). q.x)) at ∙ ap Some x,
-      ap (option_map (λ (q : Point). q.y)) at ∙ ap Some y,
-    )
-
 module _ {DE UE F : Type 0} (m : Mesh Point DE UE F) (mesh : IsMesh m) (p : Point) (flat : IsFlat m) where
   abbrev n : Mesh Point DE UE F
   n = vertex_appended m p
@@ -91,9 +81,10 @@ module _ {DE UE F : Type 0} (m : Mesh Point DE UE F) (mesh : IsMesh m) (p : Poin
     straight = first_straight n (point_at n) a v h e (λ x y.
         let old = others_stand m mesh p a below in
         let new = appended_stands m mesh p in
-        other (has_point_there m mesh p a below
-        (ap (λ (q : Point). q.x) old ∙ x ∙ ap (λ (q : Point). q.x) new)
-        (ap (λ (q : Point). q.y) old ∙ y ∙ ap (λ (q : Point). q.y) new)));
+        other (has_point m mesh p a below (
+          ap (λ (q : Point). q.x) old ∙ x ∙ ap (λ (q : Point). q.x) new,
+          ap (λ (q : Point). q.y) old ∙ y ∙ ap (λ (q : Point). q.y) new,
+        )));
   }
 
   -- between the ends of an edge

@@ -26,8 +26,8 @@ use Rattle.dcel_plane.proofs.hull.CornersStay.{after_stays, before_stays}
 use Rattle.dcel_plane.proofs.hull.Step.{IsStep, closed_step}
 use Rattle.dcel_plane.proofs.hull.ThinStays.{thin_after_stays, thin_before_stays}
 use Rattle.dcel_plane.proofs.hull.ThinStep.{step_thin}
-use Rattle.dcel_planar.specs.Corners.{GoesOn, IsClosedAt, TurnsIn}
-use Rattle.dcel_planar.specs.Growing.{IsOpen, IsTriangulated}
+use Rattle.dcel_planar.specs.Corners.{GoesOnClosing, IsClosedAt, TurnsIn}
+use Rattle.dcel_planar.specs.Growing.{IsOpen, IsTriangleMesh}
 use Rattle.dcel_planar.proofs.Growth.{of_edit}
 
 -- a list to which something was put is not empty
@@ -39,10 +39,10 @@ pub some_listed : (due more items : List ℕ) (x : ℕ) → items ≡ due ++ x �
 some_listed due more items x is none = put_last due more x (sym is ∙ none)
 
 module _ {DE UE F : Type 0} where
-  pub goes_on-refl : (m : Mesh Point DE UE F) → GoesOn m m
+  pub goes_on-refl : (m : Mesh Point DE UE F) → GoesOnClosing m m
   goes_on-refl m = record { open_still = λ t is. is; after = λ t is closed. closed; before = λ t is closed. closed; convex = λ convex. refl }
 
-  pub goes_on-trans : (a b c : Mesh Point DE UE F) → GoesOn a b → GoesOn b c → GoesOn a c
+  pub goes_on-trans : (a b c : Mesh Point DE UE F) → GoesOnClosing a b → GoesOnClosing b c → GoesOnClosing a c
   goes_on-trans a b c first second = record {
     open_still = λ t is. second.open_still t (first.open_still t is);
     after = λ t is closed. second.after t (first.open_still t is) (first.after t is closed);
@@ -92,7 +92,7 @@ module _ {DE UE F : Type 0} where
       ];
     }
 
-    pub closed_goes_on : GoesOn m q
+    pub closed_goes_on : GoesOnClosing m q
     closed_goes_on = record {
       open_still = open_after;
       after = λ t is closed. elim is.from [
@@ -154,11 +154,11 @@ module _ {DE UE F : Type 0} where
 
   -- the same of the call, whatever data are put at the new edge and face
   module _ (is_half : DE → Type 0) (is_edge : UE → Type 0) (is_face : F → Type 0) (k j : ℕ) (m n : Mesh Point DE UE F) (e : ℕ) (mesh : IsMesh m)
-      (sound : IsTriangulated m) (live : IsLive m.shape e) (on : face_of m.shape e ≡ 0) (turns : TurnsIn m e)
+      (sound : IsTriangleMesh m) (live : IsLive m.shape e) (on : face_of m.shape e ≡ 0) (turns : TurnsIn m e)
       (adds : AddsEdgesAndFaces is_half is_edge is_face k j n (face_closed m e)) (result : IsMesh n) where
-    pub close_goes_on : GoesOn m n
+    pub close_goes_on : GoesOnClosing m n
     close_goes_on =
-        of_edit is_half is_edge is_face k j n (face_closed m e) (λ (x : Mesh Point DE UE F). IsMesh x → GoesOn m x) adds
+        of_edit is_half is_edge is_face k j n (face_closed m e) (λ (x : Mesh Point DE UE F). IsMesh x → GoesOnClosing m x) adds
         (λ a b c done. closed_goes_on m mesh sound.triangles sound.plane e live on turns a b c done) result
 
     pub close_there : (h : ℕ) → h ≡ 2 * m.shape.edges + 1 → IsClosedAt m n e h

@@ -12,7 +12,7 @@ use Rattle.dcel_maps.proofs.edits.Flips.{flipped_mesh}
 use Rattle.dcel_maps.proofs.removal.Inserted.{replaced-count}
 use Rattle.dcel_predicates.specs.declared.point.Point.{Point}
 use Rattle.dcel_predicates.specs.Determinants.{orient2d_of}
-use Rattle.dcel_plane.specs.Plane.{LiesAcross, LiesInside, point_at}
+use Rattle.dcel_plane.specs.Plane.{LiesAcross, LiesInFace, point_at}
 use Rattle.dcel_plane.proofs.edits.Flipped.{circled_can_flip}
 use Rattle.dcel_plane.proofs.edits.Moved.{appended_plane}
 use Rattle.dcel_plane.proofs.covering.Faces.{not_bare}
@@ -24,13 +24,13 @@ use Rattle.dcel_plane.proofs.hull.HullSplitting.{half_split_convex, half_split_h
 use Rattle.dcel_plane.specs.location.Locating.{LiesOn}
 use Rattle.dcel_planar.specs.Turning.{AreCircled, IsTurnedTo}
 use Rattle.dcel_legalize.specs.Flipping.{edges_flipped}
-use Rattle.dcel_planar.specs.Growing.{HasHull, IsTriangulated}
+use Rattle.dcel_planar.specs.Growing.{HasHull, IsTriangleMesh}
 use Rattle.dcel_planar.proofs.Counting.{two_written}
 use Rattle.dcel_planar.proofs.Appended.{appended_convex, appended_hull}
 use Rattle.dcel_planar.proofs.Elsewhere.{said_after}
 use Rattle.dcel_planar.proofs.Sound.{across_after, inside_after, same_triangle}
 
-module _ {DE UE F : Type 0} (m : Mesh Point DE UE F) (mesh : IsMesh m) (way : IsTriangulated m) (has : HasHull m) where
+module _ {DE UE F : Type 0} (m : Mesh Point DE UE F) (mesh : IsMesh m) (way : IsTriangleMesh m) (has : HasHull m) where
   -- one side of each edge is inner
   one_side : (e : ℕ) → IsLive m.shape e → face_of m.shape e ≡ 0 → face_of m.shape (rev e) ≡ 0 → ⊥
   one_side e live outer outer_too =
@@ -45,7 +45,7 @@ module _ {DE UE F : Type 0} (m : Mesh Point DE UE F) (mesh : IsMesh m) (way : Is
 
 module _ {DE UE F : Type 0} where
   -- a vertex appended with the point p, and connected
-  module _ (m : Mesh Point DE UE F) (mesh : IsMesh m) (p : Point) (way : IsTriangulated m) (has : HasHull m) where
+  module _ (m : Mesh Point DE UE F) (mesh : IsMesh m) (p : Point) (way : IsTriangleMesh m) (has : HasHull m) where
     abbrev n : Mesh Point DE UE F
     n = vertex_appended m p
 
@@ -53,7 +53,7 @@ module _ {DE UE F : Type 0} where
     v = m.shape.vertices
 
     module _ (after : IsMesh n) (h : List DE) (e : List UE) (g : List F) where
-      pub inserted-hull : (f : ℕ) → 0 < f → IsTriangle m.shape f → LiesInside (point_at m) m.shape f p → IsMesh (vertex_inserted n v f h e g)
+      pub inserted-hull : (f : ℕ) → 0 < f → IsTriangle m.shape f → LiesInFace (point_at m) m.shape f p → IsMesh (vertex_inserted n v f h e g)
           → HasHull (vertex_inserted n v f h e g)
       inserted-hull f inner triangle lies done =
           let faces : face_count (vertex_inserted n v f h e g).shape ≡ face_count m.shape + 2 = replaced-count m.shape.words _ _ _ in

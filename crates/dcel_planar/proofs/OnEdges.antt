@@ -2,21 +2,20 @@
 use Rattle.std.proofs.Common.{◌≡◌, ◌≢◌, ◌∙◌, ℕ, ◌<◌, Some, refl, sym, ap, subst, pos, ◌-ℤ◌, ◌<ℤ◌, arith}
 use Rattle.std.proofs.lemmas.Option.{slice_get-get_or}
 use Rattle.std.proofs.Math.IntN.{*ℤ_comm}
-use Rattle.std.specs.Option.{option_map}
 use Rattle.dcel_fixed.specs.HalfEdges.{rev}
 use Rattle.dcel_fixed.proofs.Halves.{rev-rev}
 use Rattle.dcel_predicates.specs.declared.point.Point.{Point}
-use Rattle.dcel_predicates.specs.declared.predicates.Side.{Side}
-use Rattle.dcel_predicates.specs.declared.predicates.Side.TheVariants.{Left, On, Right}
+use Rattle.dcel_predicates.specs.declared.line.Side.{Side}
+use Rattle.dcel_predicates.specs.declared.line.Side.TheVariants.{Left, On, Right}
 use Rattle.dcel_predicates.specs.Determinants.{orient2d_of}
-use Rattle.dcel_predicates.proofs.Points.{orient2d-first_swapped, orient2d-last_swapped, orient2d-turned}
+use Rattle.dcel_predicates.proofs.Points.{point_same, orient2d-first_swapped, orient2d-last_swapped, orient2d-turned}
 use Rattle.dcel_predicates.proofs.Signs.{ordered}
 use Rattle.dcel_maps.specs.Conditions.{IsTriangle}
 use Rattle.dcel_maps.specs.Shapes.{IsLive, IsMesh, Mesh, Shape, end_of, face_of, map_of, next_of, origin_of, prev_of}
 use Rattle.dcel_maps.specs.Triangulations.{AllTriangles}
 use Rattle.dcel_maps.proofs.maps.Triangles.{IsTriangleOf}
 use Rattle.dcel_maps.proofs.shapes.Maps.{map-sound}
-use Rattle.dcel_plane.specs.Plane.{TrianglesTurnLeft, LiesInside, TurnsLeft, point_at, origin_point}
+use Rattle.dcel_plane.specs.Plane.{TrianglesTurnLeft, LiesInFace, TurnsLeft, point_at, origin_point}
 use Rattle.dcel_plane.proofs.edits.Corners.{left_of_triangle}
 use Rattle.dcel_plane.specs.covering.Covering.{dot}
 use Rattle.dcel_plane.proofs.covering.Along.{one_point}
@@ -25,8 +24,8 @@ use Rattle.dcel_plane.proofs.covering.Triangles.{is_triangle, round}
 use Rattle.dcel_plane.specs.location.Locating.{HasBeyond, LiesOn, StandsAt}
 use Rattle.dcel_plane.proofs.location.Ways.{between_of, left_of_both}
 use Rattle.dcel_maps.proofs.maps.Soundness.{rev_live}
-use Rattle.dcel_planar.specs.Growing.{IsTriangulated}
-use Rattle.dcel_planar.specs.Places.{AreSides, HasLeft, HasPoint, IsAcross, IsOnLine, LiesAt}
+use Rattle.dcel_planar.specs.Growing.{IsTriangleMesh}
+use Rattle.dcel_planar.specs.Places.{LiesAtSides, HasLeft, HasPoint, IsAcross, IsOnLine, LiesAt}
 use Rattle.dcel_planar.proofs.Sides.{lies_across, lies_inside}
 
 -- a point between the ends of a half edge lies between those of its other half
@@ -56,8 +55,8 @@ at_corner a b c p turn ab bc =
 module _ {DE UE F : Type 0} (m : Mesh Point DE UE F) (mesh : IsMesh m) where
   pub has_point : (p : Point) (v : ℕ) → v < m.shape.vertices → StandsAt (point_at m) p v → HasPoint m p v
   has_point p v below stands =
-      let at = slice_get-get_or m.vertex_data v origin_point (subst (λ (n : ℕ). v < n) (sym mesh.sized.vertex_data) below) in
-      (ap (option_map (λ (q : Point). q.x)) at ∙ ap Some stands.0, ap (option_map (λ (q : Point). q.y)) at ∙ ap Some stands.1)
+      slice_get-get_or m.vertex_data v origin_point (subst (λ (n : ℕ). v < n) (sym mesh.sized.vertex_data) below)
+      ∙ ap Some (point_same (point_at m v) p stands.0 stands.1)
 
   -- a mesh and a half edge under other names
   pub told : (n : Mesh Point DE UE F) (p : Point) (h k : ℕ) (side : Side) → n ≡ m → k ≡ h → LiesAt n p k side → LiesAt m p h side
@@ -112,7 +111,7 @@ module _ {DE UE F : Type 0} (m : Mesh Point DE UE F) (mesh : IsMesh m) where
         }
 
     -- where a point lies, by its sides
-    module _ (p : Point) (own after before : Side) (given : AreSides m p e own after before) where
+    module _ (p : Point) (own after before : Side) (given : LiesAtSides m p e own after before) where
       left : (h : ℕ) (side : Side) → LiesAt m p h side → side ≢ Right → side ≢ On → HasLeft m p h
       left h Left lies some apart = lies
       left h Right lies some apart = absurd (some refl)
@@ -188,7 +187,7 @@ module _ {DE UE F : Type 0} (m : Mesh Point DE UE F) (mesh : IsMesh m) where
         },
       )
 
-      pub in_face : own ≢ On → after ≢ On → before ≢ On → (0 < face_of s e) × IsTriangle s (face_of s e) × LiesInside (point_at m) s (face_of s e) p
+      pub in_face : own ≢ On → after ≢ On → before ≢ On → (0 < face_of s e) × IsTriangle s (face_of s e) × LiesInFace (point_at m) s (face_of s e) p
       in_face x y z =
           let triangle = is_triangle m mesh triangles e live inner in (
             inner,
@@ -198,7 +197,7 @@ module _ {DE UE F : Type 0} (m : Mesh Point DE UE F) (mesh : IsMesh m) where
           )
 
 -- an edge between two triangles, on both sides
-pub both_across : {DE UE F : Type 0} (m : Mesh Point DE UE F) → IsMesh m → IsTriangulated m → (e : ℕ) (p : Point) → IsLive m.shape e × LiesOn (point_at m) m.shape p e
+pub both_across : {DE UE F : Type 0} (m : Mesh Point DE UE F) → IsMesh m → IsTriangleMesh m → (e : ℕ) (p : Point) → IsLive m.shape e × LiesOn (point_at m) m.shape p e
     → 0 < face_of m.shape e → 0 < face_of m.shape (rev e) → IsAcross m p e × IsAcross m p (rev e)
 both_across m mesh is e p on near far = (
   on_edge_across m mesh is.triangles is.plane e on.0 near p on.1,

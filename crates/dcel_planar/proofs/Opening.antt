@@ -10,12 +10,12 @@ use Rattle.dcel_plane.specs.Plane.{IsLeftOf, point_at}
 use Rattle.dcel_plane.proofs.edits.Moved.{appended_plane}
 use Rattle.dcel_plane.proofs.covering.Starts.{inner_half}
 use Rattle.dcel_plane.proofs.hull.PutBeside.{beside_closing, beside_hull, beside_thick, beside_thin, straight_convex}
-use Rattle.dcel_planar.specs.Growing.{HasHull, IsFlat, IsOpen, IsTriangulated}
+use Rattle.dcel_planar.specs.Growing.{HasHull, IsFlat, IsOpen, IsTriangleMesh}
 use Rattle.dcel_planar.proofs.Appended.{appended_convex, appended_hull, appended_straight}
 use Rattle.dcel_planar.proofs.Sound.{left_after}
 
 module _ {DE UE F : Type 0} where
-  module _ (m : Mesh Point DE UE F) (mesh : IsMesh m) (p : Point) (sound : IsTriangulated m) (x : ℕ) (live : IsLive m.shape x) (outer : face_of m.shape x ≡ 0)
+  module _ (m : Mesh Point DE UE F) (mesh : IsMesh m) (p : Point) (sound : IsTriangleMesh m) (x : ℕ) (live : IsLive m.shape x) (outer : face_of m.shape x ≡ 0)
       (left : IsLeftOf (point_at m) m.shape p x) (after : IsMesh (vertex_appended m p)) (h : List DE) (e : List UE) (g : List F)
       (done : IsMesh (face_put_beside (vertex_appended m p) x m.shape.vertices h e g)) where
     abbrev n : Mesh Point DE UE F
@@ -66,7 +66,7 @@ module _ {DE UE F : Type 0} where
 
   -- the same of the calls, whatever data are put at the new edges and the new face
   pub put_open : (is_half : DE → Type 0) (is_edge : UE → Type 0) (is_face : F → Type 0) (k j : ℕ) (old mid new : Mesh Point DE UE F) (p : Point) (v x : ℕ)
-      → IsMesh old → IsTriangulated old → IsFlat old ⊎ HasHull old → IsLive old.shape x → face_of old.shape x ≡ 0 → IsLeftOf (point_at old) old.shape p x
+      → IsMesh old → IsTriangleMesh old → IsFlat old ⊎ HasHull old → IsLive old.shape x → face_of old.shape x ≡ 0 → IsLeftOf (point_at old) old.shape p x
       → mid ≡ vertex_appended old p → v ≡ old.shape.vertices → AddsEdgesAndFaces is_half is_edge is_face k j new (face_put_beside mid x v) → IsMesh mid → IsMesh new
       → IsOpen new v
   put_open is_half is_edge is_face k j old mid new p v x mesh sound hull live outer left is last adds mesh_mid mesh_new =

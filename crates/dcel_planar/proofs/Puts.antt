@@ -12,8 +12,9 @@ use Rattle.dcel_predicates.specs.declared.point.Point.{Point}
 use Rattle.dcel_plane.specs.Edges.{edges_closed}
 use Rattle.dcel_plane.specs.Plane.{IsLeftOf, ListsCircled, point_at}
 use Rattle.dcel_plane.proofs.edits.Outside.{closed_lists}
-use Rattle.dcel_planar.specs.Growing.{Gains, HasHull, HasOutside, IsTriangulated, Keeps, KeepsListed}
-use Rattle.dcel_planar.proofs.Growth.{appended-gains, gains-keeps, of_edit, taken_back}
+use Rattle.dcel_planar.specs.Growing.{Gains, HasHull, HasOutside, IsTriangleMesh, Keeps, KeepsListed}
+use Rattle.dcel_planar.proofs.Growth.{appended-gains, gains-keeps, of_edit}
+use Rattle.dcel_maps.proofs.renumbering.TakenBack.{appended-taken_out}
 use Rattle.dcel_planar.proofs.Sound.{closed-triangulated}
 
 module _ {DE UE F : Type 0} where
@@ -69,11 +70,11 @@ module _ {DE UE F : Type 0} where
   pub put_back : (old mid same new : Mesh Point DE UE F) (p : Point) (v : ℕ) → IsMesh old → old.shape.removal ≡ Closed → mid ≡ vertex_appended old p → v ≡ old.shape.vertices → same ≡ mid
       → new ≡ vertex_taken_out same v → new ≡ old
   put_back old mid same new p v mesh closed is last stays gone =
-      gone ∙ ap (λ (m : Mesh Point DE UE F). vertex_taken_out m v) (stays ∙ is) ∙ ap (λ (x : ℕ). vertex_taken_out (vertex_appended old p) x) last ∙ taken_back old p mesh closed
+      gone ∙ ap (λ (m : Mesh Point DE UE F). vertex_taken_out m v) (stays ∙ is) ∙ ap (λ (x : ℕ). vertex_taken_out (vertex_appended old p) x) last ∙ appended-taken_out old p mesh closed
 
   -- what is as it was is under way as it was
-  pub stays_triangulated : (old new : Mesh Point DE UE F) → new ≡ old → IsTriangulated old → IsTriangulated new
-  stays_triangulated old new is way = subst (λ (m : Mesh Point DE UE F). IsTriangulated m) (sym is) way
+  pub stays_triangulated : (old new : Mesh Point DE UE F) → new ≡ old → IsTriangleMesh old → IsTriangleMesh new
+  stays_triangulated old new is way = subst (λ (m : Mesh Point DE UE F). IsTriangleMesh m) (sym is) way
 
   pub stays_hull : (old new : Mesh Point DE UE F) → new ≡ old → HasHull old → HasHull new
   stays_hull old new is has = subst (λ (m : Mesh Point DE UE F). HasHull m) (sym is) has
@@ -90,9 +91,9 @@ module _ {DE UE F : Type 0} where
   -- a triangle closed at the hull, and its edges listed
   module _ (is_half : DE → Type 0) (is_edge : UE → Type 0) (is_face : F → Type 0) (k j : ℕ) (old new : Mesh Point DE UE F) (x : ℕ) (mesh : IsMesh old)
       (live : IsLive old.shape x) (adds : AddsEdgesAndFaces is_half is_edge is_face k j new (face_closed old x)) (after : IsMesh new) where
-    pub close_triangulated : IsTriangulated old → IsLeftOf (point_at old) old.shape (point_at old (end_of old.shape (next_of old.shape x))) x → IsTriangulated new
+    pub close_triangulated : IsTriangleMesh old → IsLeftOf (point_at old) old.shape (point_at old (end_of old.shape (next_of old.shape x))) x → IsTriangleMesh new
     close_triangulated way left =
-        of_edit is_half is_edge is_face k j new (face_closed old x) (λ (m : Mesh Point DE UE F). IsTriangulated m) adds
+        of_edit is_half is_edge is_face k j new (face_closed old x) (λ (m : Mesh Point DE UE F). IsTriangleMesh m) adds
         (λ h e g. closed-triangulated old x h e g mesh way live left)
 
     pub close_lists : (due items : List ℕ) → items ≡ due ++ edges_closed old.shape x → KeepsListed old new due items

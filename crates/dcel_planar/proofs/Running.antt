@@ -15,7 +15,7 @@ use Rattle.dcel_plane.proofs.edits.Volumes.{volume_falls}
 use Rattle.dcel_legalize.specs.Flipping.{edges_flipped, sides_beside}
 use Rattle.dcel_legalize.proofs.Course.{flipped-append}
 use Rattle.dcel_planar.specs.Turning.{AreCircled, IsTurnedTo}
-use Rattle.dcel_planar.specs.Growing.{HasOutside, IsTriangulated, Keeps}
+use Rattle.dcel_planar.specs.Growing.{HasOutside, IsTriangleMesh, Keeps}
 use Rattle.dcel_planar.specs.Leaving.{IsOutlined}
 use Rattle.dcel_planar.specs.Legalization.{HasToStay, IsToTurn, ListsLoose, TurnsLoose}
 use Rattle.dcel_planar.proofs.Flat.{flips_flat}
@@ -56,13 +56,13 @@ module _ {DE UE F : Type 0} (stays : UE → Bool) where
   -- what is kept of the mesh m and the list that a run began with
   pub record IsRunning (m : Mesh Point DE UE F) (list : List ℕ) (n : Mesh Point DE UE F) (rest : List ℕ) : Type 0 where
     pub mesh : IsMesh n
-    pub triangulated : IsTriangulated n
+    pub triangulated : IsTriangleMesh n
     pub hull : IsOutlined n
     pub flips : TurnsLoose stays m n
     pub keeps : Keeps m n
     pub lists : ListsLoose stays m list → ListsLoose stays n rest
 
-  pub starts : (m : Mesh Point DE UE F) (list : List ℕ) → IsMesh m → IsTriangulated m → IsOutlined m → IsRunning m list m list
+  pub starts : (m : Mesh Point DE UE F) (list : List ℕ) → IsMesh m → IsTriangleMesh m → IsOutlined m → IsRunning m list m list
   starts m list mesh triangulated hull = record {
     mesh = mesh;
     triangulated = triangulated;

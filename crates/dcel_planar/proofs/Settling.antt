@@ -9,7 +9,7 @@ use Rattle.dcel_predicates.specs.declared.point.Point.{Point}
 use Rattle.dcel_legalize.specs.Flipping.{edges_flipped}
 use Rattle.dcel_planar.specs.Turning.{IsTurnedTo}
 use Rattle.dcel_plane.specs.Plane.{TrianglesTurnLeft, point_at}
-use Rattle.dcel_planar.specs.Growing.{IsJoined, IsTriangulated, Keeps}
+use Rattle.dcel_planar.specs.Growing.{IsJoined, IsTriangleMesh, Keeps}
 use Rattle.dcel_planar.proofs.Counting.{flipped_joined}
 use Rattle.dcel_planar.proofs.Growth.{flipped-keeps, keeps-refl, keeps-trans}
 
@@ -31,7 +31,7 @@ module _ {DE UE F : Type 0} where
   flips_keep m n closed turned = subst (λ (k : Mesh Point DE UE F). Keeps m k) (sym turned.is) (turned_keeps m turned.turned closed)
 
   -- and what inner faces are
-  pub flips_triangulated : (m n : Mesh Point DE UE F) → IsTriangulated m → IsTurnedTo m n → TrianglesTurnLeft (point_at n) n.shape → IsTriangulated n
+  pub flips_triangulated : (m n : Mesh Point DE UE F) → IsTriangleMesh m → IsTurnedTo m n → TrianglesTurnLeft (point_at n) n.shape → IsTriangleMesh n
   flips_triangulated m n way turned plane = record {
     closed = (flips_keep m n way.closed turned).closed;
     joined = subst (λ (k : Mesh Point DE UE F). IsJoined k.shape) (sym turned.is) (turned_joined m turned.turned way.joined);

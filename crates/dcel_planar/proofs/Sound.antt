@@ -13,7 +13,7 @@ use Rattle.dcel_maps.proofs.maps.Halves.{rev_half}
 use Rattle.dcel_maps.proofs.shapes.Maps.{map-sound}
 use Rattle.dcel_predicates.specs.declared.point.Point.{Point}
 use Rattle.dcel_plane.specs.Edges.{edges_put_beside, edges_half_split, edges_inserted, edges_split}
-use Rattle.dcel_plane.specs.Plane.{IsLeftOf, LiesAcross, LiesInside, ListsCircled, TurnsLeft, point_at}
+use Rattle.dcel_plane.specs.Plane.{IsLeftOf, LiesAcross, LiesInFace, ListsCircled, TurnsLeft, point_at}
 use Rattle.dcel_plane.proofs.edits.Alone.{outer_alone_delaunay}
 use Rattle.dcel_plane.proofs.edits.Inserted.{inserted_plane}
 use Rattle.dcel_plane.proofs.edits.Spokes.{sides_listed}
@@ -21,7 +21,7 @@ use Rattle.dcel_plane.proofs.edits.Moved.{appended_lists, appended_plane, append
 use Rattle.dcel_plane.proofs.edits.Outside.{beside_lists, beside_plane, closed_plane}
 use Rattle.dcel_plane.proofs.edits.Splits.{half_split_lists, half_split_plane, split_lists, split_plane}
 use Rattle.dcel_planar.proofs.Counting.{alone_triangles, beside_joined, closed_joined, face_vertices, half_split_joined, inserted_joined, live_vertices, split_joined}
-use Rattle.dcel_planar.specs.Growing.{IsJoined, IsSound, IsTriangulated}
+use Rattle.dcel_planar.specs.Growing.{IsJoined, IsDelaunayBut, IsTriangleMesh}
 
 left_there : (a b c x y z : Point) → a ≡ x → b ≡ y → c ≡ z → TurnsLeft a b c → TurnsLeft x y z
 left_there a b c x y z ax by cz left =
@@ -29,7 +29,7 @@ left_there a b c x y z ax by cz left =
 
 module _ {DE UE F : Type 0} where
   -- a mesh with one face is under way, whatever is listed
-  pub alone-sound : (m : Mesh Point DE UE F) (due : List ℕ) → IsMesh m → m.shape.removal ≡ Closed → face_count m.shape ≡ 1 → IsJoined m.shape → IsSound m due
+  pub alone-sound : (m : Mesh Point DE UE F) (due : List ℕ) → IsMesh m → m.shape.removal ≡ Closed → face_count m.shape ≡ 1 → IsJoined m.shape → IsDelaunayBut m due
   alone-sound m due mesh closed one joined =
       let delaunay = outer_alone_delaunay (point_at m) m mesh one in
       record {
@@ -38,7 +38,7 @@ module _ {DE UE F : Type 0} where
       }
 
   -- so is a new mesh
-  pub new-sound : (is_face : F → Type 0) (m : Mesh Point DE UE F) (due : List ℕ) → IsMesh m → IsNew is_face m → IsSound m due
+  pub new-sound : (is_face : F → Type 0) (m : Mesh Point DE UE F) (due : List ℕ) → IsMesh m → IsNew is_face m → IsDelaunayBut m due
   new-sound is_face m due mesh new =
       let shape = ap (λ (k : Mesh Point DE UE F). k.shape) new.is in
       alone-sound m due mesh (ap (λ (s : Shape). s.removal) shape) (ap face_count shape)
@@ -62,7 +62,7 @@ module _ {DE UE F : Type 0} where
         (others_stand m mesh p (origin_of m.shape h) (below h live)) (others_stand m mesh p (end_of m.shape h) (below (rev h) (live_rev h live)))
         (sym (appended_stands m mesh p)) left
 
-    pub inside_after : (f : ℕ) → LiesInside (point_at m) m.shape f p → LiesInside (point_at n) n.shape f (point_at n v)
+    pub inside_after : (f : ℕ) → LiesInFace (point_at m) m.shape f p → LiesInFace (point_at n) n.shape f (point_at n v)
     inside_after f lies h live on = left_after h live (lies h live on)
 
     pub across_after : (e : ℕ) → LiesAcross (point_at m) m.shape e p → LiesAcross (point_at n) n.shape e (point_at n v)
@@ -75,8 +75,8 @@ module _ {DE UE F : Type 0} where
     same_triangle f triangle = record { live = triangle.live; three = triangle.three }
 
     module _ (after : IsMesh n) (h : List DE) (e : List UE) (g : List F) where
-      pub inserted-triangulated : (f : ℕ) → IsTriangulated m → 0 < f → IsTriangle m.shape f → LiesInside (point_at m) m.shape f p
-          → IsTriangulated (vertex_inserted n v f h e g)
+      pub inserted-triangulated : (f : ℕ) → IsTriangleMesh m → 0 < f → IsTriangle m.shape f → LiesInFace (point_at m) m.shape f p
+          → IsTriangleMesh (vertex_inserted n v f h e g)
       inserted-triangulated f way inner triangle lies = record {
         closed = way.closed;
         joined = inserted_joined m p v f h e g (face_vertices m.shape f way.joined inner triangle) way.joined;
@@ -84,13 +84,13 @@ module _ {DE UE F : Type 0} where
         plane = inserted_plane n after v f (same_triangle f triangle) h e g (point_at n) (inside_after f lies) (appended_plane m mesh p way.plane);
       }
 
-      pub inserted-lists : (f : ℕ) (due : List ℕ) → IsTriangle m.shape f → LiesInside (point_at m) m.shape f p → IsMesh (vertex_inserted n v f h e g)
+      pub inserted-lists : (f : ℕ) (due : List ℕ) → IsTriangle m.shape f → LiesInFace (point_at m) m.shape f p → IsMesh (vertex_inserted n v f h e g)
           → ListsCircled (point_at m) m.shape due → ListsCircled (point_at n) (vertex_inserted n v f h e g).shape (due ++ edges_inserted m f)
       inserted-lists f due triangle lies done lists =
           sides_listed n after v f (same_triangle f triangle) h e g (point_at n) done (inside_after f lies) due (appended_lists m mesh p due lists)
 
-      pub split-triangulated : (x : ℕ) → IsTriangulated m → IsLive m.shape x → IsTriangle m.shape (face_of m.shape x) → IsTriangle m.shape (face_of m.shape (rev x))
-          → LiesAcross (point_at m) m.shape x p → LiesAcross (point_at m) m.shape (rev x) p → IsTriangulated (edge_split n x v h e g)
+      pub split-triangulated : (x : ℕ) → IsTriangleMesh m → IsLive m.shape x → IsTriangle m.shape (face_of m.shape x) → IsTriangle m.shape (face_of m.shape (rev x))
+          → LiesAcross (point_at m) m.shape x p → LiesAcross (point_at m) m.shape (rev x) p → IsTriangleMesh (edge_split n x v h e g)
       split-triangulated x way live near far across across_rev = record {
         closed = way.closed;
         joined = split_joined m p x v h e g (some_vertices x live) way.joined;
@@ -107,8 +107,8 @@ module _ {DE UE F : Type 0} where
           split_lists n after x v live h e g (point_at n) (same_triangle (face_of m.shape x) near) (same_triangle (face_of m.shape (rev x)) far)
           due done (appended_lists m mesh p due lists)
 
-      pub half_split-triangulated : (x : ℕ) → IsTriangulated m → IsLive m.shape x → IsTriangle m.shape (face_of m.shape x) → 0 < face_of m.shape x
-          → face_of m.shape (rev x) ≡ 0 → LiesAcross (point_at m) m.shape x p → IsTriangulated (half_edge_split n x v h e g)
+      pub half_split-triangulated : (x : ℕ) → IsTriangleMesh m → IsLive m.shape x → IsTriangle m.shape (face_of m.shape x) → 0 < face_of m.shape x
+          → face_of m.shape (rev x) ≡ 0 → LiesAcross (point_at m) m.shape x p → IsTriangleMesh (half_edge_split n x v h e g)
       half_split-triangulated x way live near inner outer across = record {
         closed = way.closed;
         joined = half_split_joined m p x v h e g (some_vertices x live) way.joined;
@@ -125,8 +125,8 @@ module _ {DE UE F : Type 0} where
           half_split_lists n after x v live h e g (point_at n) (same_triangle (face_of m.shape x) near) inner outer
           due done (appended_lists m mesh p due lists)
 
-      pub beside-triangulated : (x : ℕ) → IsTriangulated m → IsLive m.shape x → face_of m.shape x ≡ 0 → IsLeftOf (point_at m) m.shape p x
-          → IsTriangulated (face_put_beside n x v h e g)
+      pub beside-triangulated : (x : ℕ) → IsTriangleMesh m → IsLive m.shape x → face_of m.shape x ≡ 0 → IsLeftOf (point_at m) m.shape p x
+          → IsTriangleMesh (face_put_beside n x v h e g)
       beside-triangulated x way live outer left = record {
         closed = way.closed;
         joined = beside_joined m p x v h e g (some_vertices x live) way.joined;
@@ -140,8 +140,8 @@ module _ {DE UE F : Type 0} where
           beside_lists n after x live h e g (point_at n) v outer due done (appended_lists m mesh p due lists)
 
   -- a triangle closed at the hull
-  pub closed-triangulated : (m : Mesh Point DE UE F) (x : ℕ) (h : List DE) (e : List UE) (g : List F) → IsMesh m → IsTriangulated m → IsLive m.shape x
-      → IsLeftOf (point_at m) m.shape (point_at m (end_of m.shape (next_of m.shape x))) x → IsTriangulated (face_closed m x h e g)
+  pub closed-triangulated : (m : Mesh Point DE UE F) (x : ℕ) (h : List DE) (e : List UE) (g : List F) → IsMesh m → IsTriangleMesh m → IsLive m.shape x
+      → IsLeftOf (point_at m) m.shape (point_at m (end_of m.shape (next_of m.shape x))) x → IsTriangleMesh (face_closed m x h e g)
   closed-triangulated m x h e g mesh way live left = record {
     closed = way.closed;
     joined = closed_joined m x h e g (live_vertices m mesh x live) way.joined;

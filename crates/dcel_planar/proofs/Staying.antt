@@ -13,7 +13,7 @@ use Rattle.dcel_plane.specs.Plane.{ListsCircled, point_at}
 use Rattle.dcel_planar.specs.Legalization.{HasToStay, ListsLoose}
 
 -- the places of `true` in a list, counted from n on
-abbrev places_from : ℕ → List Bool → List ℕ
+abbrev pub places_from : ℕ → List Bool → List ℕ
 places_from n [] = []
 places_from n (true ∷ rest) = n ∷ places_from (suc n) rest
 places_from n (false ∷ rest) = places_from (suc n) rest

@@ -8,7 +8,7 @@ use Rattle.dcel_plane.specs.Plane.{IsLocallyDelaunay, point_at}
 use Rattle.dcel_plane.specs.location.Locating.{HasBeyond, Walks}
 use Rattle.dcel_plane.proofs.location.Ending.{few_faces}
 use Rattle.dcel_plane.proofs.location.Exact.{stepped_out}
-use Rattle.dcel_planar.specs.Growing.{IsSound}
+use Rattle.dcel_planar.specs.Growing.{IsDelaunayBut}
 use Rattle.dcel_planar.specs.Places.{HasLeft}
 
 module _ {DE UE F : Type 0} (m : Mesh Point DE UE F) where
@@ -16,7 +16,7 @@ module _ {DE UE F : Type 0} (m : Mesh Point DE UE F) where
   s = m.shape
 
   -- nothing is left to be looked at
-  pub delaunay : IsSound m [] → IsLocallyDelaunay (point_at m) s
+  pub delaunay : IsDelaunayBut m [] → IsLocallyDelaunay (point_at m) s
   delaunay sound = record { plane = sound.plane; empty = λ u inner circled. absurd (let listed = sound.listed u inner circled in omega (arith, listed)) }
 
   -- the half edges that a walk has crossed, one for each step
@@ -28,7 +28,7 @@ module _ {DE UE F : Type 0} (m : Mesh Point DE UE F) where
       let many = comes.2 in
       (h ∷ comes.0, (beyond, refl, subst (λ (i : ℕ). Walks (point_at m) s p g comes.0 i) (sym on) comes.1), omega (arith, many))
 
-  module _ (mesh : IsMesh m) (sound : IsSound m []) where
+  module _ (mesh : IsMesh m) (sound : IsDelaunayBut m []) where
     -- from a triangle to the next, or out of the hull
     pub stepped : (p : Point) (h : ℕ) → HasBeyond (point_at m) s p h → IsLive s (rev h) × HasLeft m p (rev h)
     stepped p h beyond = stepped_out m mesh sound.triangles (point_at m) sound.plane p h beyond

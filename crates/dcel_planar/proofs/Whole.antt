@@ -6,7 +6,7 @@ use Rattle.dcel_maps.specs.Shapes.{Mesh, face_count, face_of}
 use Rattle.dcel_maps.proofs.Liveness.{is_live-parts}
 use Rattle.dcel_predicates.specs.declared.point.Point.{Point}
 use Rattle.dcel_plane.specs.Plane.{IsLocallyDelaunay, ListsCircled, point_at}
-use Rattle.dcel_planar.specs.Growing.{HasHull, HasOutside, IsFlat, IsJoined, IsOpen, IsSound, IsTriangulated, IsTriangulation, IsUnderWay}
+use Rattle.dcel_planar.specs.Growing.{HasHull, HasOutside, IsFlat, IsJoined, IsOpen, IsDelaunayBut, IsTriangleMesh, IsTriangulation, IsInProgress}
 use Rattle.dcel_planar.proofs.Counting.{alone_triangles}
 
 -- what holds anyhow holds of a refusal
@@ -24,12 +24,12 @@ module _ {DE UE F : Type 0} where
   hull_more m (inr has) more = has
 
   -- no hull is open
-  pub way_either : (m : Mesh Point DE UE F) (due : List ℕ) → IsSound m due → IsFlat m ⊎ HasHull m → IsUnderWay m due
+  pub way_either : (m : Mesh Point DE UE F) (due : List ℕ) → IsDelaunayBut m due → IsFlat m ⊎ HasHull m → IsInProgress m due
   way_either m due sound (inl flat) = record { sound = sound; hull = inl flat }
   way_either m due sound (inr has) = record { sound = sound; hull = inr (inl has) }
 
   -- a line has no triangle
-  pub flat_triangulated : (m : Mesh Point DE UE F) → m.shape.removal ≡ Closed → IsFlat m → IsJoined m.shape → IsTriangulated m
+  pub flat_triangulated : (m : Mesh Point DE UE F) → m.shape.removal ≡ Closed → IsFlat m → IsJoined m.shape → IsTriangleMesh m
   flat_triangulated m closed flat joined = record {
     closed = closed;
     joined = joined;
@@ -46,7 +46,7 @@ module _ {DE UE F : Type 0} where
       let below = (is_live-parts (gives_up_face m.shape.removal) (face_count m.shape) (face_of m.shape (2 * u)) inner.triangle.live).0 in
       absurd (omega (arith, below, flat.alone, inner.inner))
 
-  pub way_flat : (m : Mesh Point DE UE F) (due : List ℕ) → m.shape.removal ≡ Closed → IsFlat m → IsJoined m.shape → IsUnderWay m due
+  pub way_flat : (m : Mesh Point DE UE F) (due : List ℕ) → m.shape.removal ≡ Closed → IsFlat m → IsJoined m.shape → IsInProgress m due
   way_flat m due closed flat joined = record {
     sound = record { triangulated = flat_triangulated m closed flat joined; listed = flat_listed m due flat };
     hull = inl flat;
@@ -69,9 +69,9 @@ module _ {DE UE F : Type 0} where
   opened_has m t opened (inr has) = has
 
   -- nor is one where nothing is left to be done
-  pub whole : (m : Mesh Point DE UE F) (due : List ℕ) → IsUnderWay m due → due ≡ [] → IsTriangulation m
+  pub whole : (m : Mesh Point DE UE F) (due : List ℕ) → IsInProgress m due → due ≡ [] → IsTriangulation m
   whole m due way none = record {
-    sound = subst (λ (list : List ℕ). IsSound m list) none way.sound;
+    sound = subst (λ (list : List ℕ). IsDelaunayBut m list) none way.sound;
     hull = elim way.hull [
       | inl flat ↦ inl flat
       | inr more ↦ elim more [
@@ -82,7 +82,7 @@ module _ {DE UE F : Type 0} where
   }
 
   -- a mesh that the circle test finds Delaunay
-  pub triangulation_of : (m : Mesh Point DE UE F) → IsTriangulated m → IsLocallyDelaunay (point_at m) m.shape → IsFlat m ⊎ HasHull m → IsTriangulation m
+  pub triangulation_of : (m : Mesh Point DE UE F) → IsTriangleMesh m → IsLocallyDelaunay (point_at m) m.shape → IsFlat m ⊎ HasHull m → IsTriangulation m
   triangulation_of m is delaunay hull = record {
     sound = record { triangulated = is; listed = λ u inner circled. absurd (delaunay.empty u inner circled) };
     hull = hull;

@@ -29,7 +29,7 @@ module _ {DE UE F : Type 0} where
       → orient2d_of (point_at m (origin_of m.shape (prev_of m.shape h))) (point_at m (origin_of m.shape h)) (point_at m t) ≤ℤ pos 0
 
   -- what triangles closed at the hull leave: a hull that is open is still open, with the corners closed that were; a convex one is as it was
-  pub record GoesOn (old new : Mesh Point DE UE F) : Type 0 where
+  pub record GoesOnClosing (old new : Mesh Point DE UE F) : Type 0 where
     pub open_still : (t : ℕ) → IsOpen old t → IsOpen new t
     pub after : (t : ℕ) → IsOpen old t → IsClosedAfter old t → IsClosedAfter new t
     pub before : (t : ℕ) → IsOpen old t → IsClosedBefore old t → IsClosedBefore new t

@@ -9,19 +9,16 @@ use Rattle.dcel_plane.specs.covering.Covering.{IsConvex, IsHull}
 use Rattle.dcel_plane.specs.hull.Closing.{IsClosing, IsThick, IsThin}
 use Rattle.dcel_plane.specs.hull.Straight.{IsStraight}
 use Rattle.dcel_planar.specs.Places.{HasPoint}
-use Rattle.dcel_planar.specs.declared.position.PositionInTriangulation.{PositionInTriangulation}
-use Rattle.dcel_planar.specs.declared.position.PositionInTriangulation.TheVariants.{OnVertex}
 use Rattle.dcel_planar.specs.declared.errors.InsertionError.{InsertionError}
 use Rattle.dcel_planar.specs.declared.errors.InsertionError.TheVariants.{OutOfMemory, OutOfRange, TooManyPoints, Unfinished}
 use Rattle.dcel_predicates.specs.declared.point.Point.{Point}
 
--- an insertion may give this error and leave the mesh as it was: there are too many points only if no numbers are left for another vertex
--- with its edges and faces
-abbrev pub MayRefuse : Shape → InsertionError → Type 0
-MayRefuse s OutOfRange = ⊥
-MayRefuse s TooManyPoints = ¬ HasRoom s 1 3 2
-MayRefuse s OutOfMemory = Unit {0}
-MayRefuse s Unfinished = ⊥
+-- why a point isn't put in: no numbers are left for another vertex, three edges and two faces, or memory ran out
+abbrev pub IsInsertionReason : Shape → InsertionError → Type 0
+IsInsertionReason s OutOfRange = ⊥
+IsInsertionReason s TooManyPoints = ¬ HasRoom s 1 3 2
+IsInsertionReason s OutOfMemory = Unit {0}
+IsInsertionReason s Unfinished = ⊥
 
 -- Euler's formula for all vertices: none is without an edge, once there are two
 pub record IsJoined (s : Shape) : Type 0 where
@@ -30,15 +27,15 @@ pub record IsJoined (s : Shape) : Type 0 where
 
 module _ {DE UE F : Type 0} where
   -- no removal is open, the vertices are joined, and each inner face is a triangle that goes round counterclockwise
-  pub record IsTriangulated (m : Mesh Point DE UE F) : Type 0 where
+  pub record IsTriangleMesh (m : Mesh Point DE UE F) : Type 0 where
     pub closed : m.shape.removal ≡ Closed
     pub joined : IsJoined m.shape
     pub triangles : AllTriangles m.shape
     pub plane : TrianglesTurnLeft (point_at m) m.shape
 
   -- the same, and each edge between two triangles that has a corner inside the circle of the other side is in the list
-  pub record IsSound (m : Mesh Point DE UE F) (due : List ℕ) : Type 0 where
-    pub triangulated : IsTriangulated m
+  pub record IsDelaunayBut (m : Mesh Point DE UE F) (due : List ℕ) : Type 0 where
+    pub triangulated : IsTriangleMesh m
     pub open triangulated use *
     pub listed : ListsCircled (point_at m) m.shape due
 
@@ -70,13 +67,13 @@ module _ {DE UE F : Type 0} where
   HasOutside m due = IsFlat m ⊎ (HasHull m ⊎ ((due ≢ []) × ((t : ℕ) × IsOpen m t)))
 
   -- what each insertion leaves, whether it came to its end or not
-  pub record IsUnderWay (m : Mesh Point DE UE F) (due : List ℕ) : Type 0 where
-    pub sound : IsSound m due
+  pub record IsInProgress (m : Mesh Point DE UE F) (due : List ℕ) : Type 0 where
+    pub sound : IsDelaunayBut m due
     pub hull : HasOutside m due
 
   -- a whole triangulation
   pub record IsTriangulation (m : Mesh Point DE UE F) : Type 0 where
-    pub sound : IsSound m []
+    pub sound : IsDelaunayBut m []
     pub hull : IsFlat m ⊎ HasHull m
 
   -- the vertices with their points stay, no edge is taken out, and no removal is open
@@ -97,11 +94,3 @@ module _ {DE UE F : Type 0} where
   -- the vertex v has the point: it stood there before, and nothing has changed, or it is new
   abbrev pub Inserts : Mesh Point DE UE F → Mesh Point DE UE F → Point → ℕ → Type 0
   Inserts old new p v = (HasPoint old p v × (new ≡ old)) ⊎ Gains old new p v
-
-  -- the vertex v is that of the position, and nothing has changed, or it is new
-  abbrev pub IsPutAt : Mesh Point DE UE F → Mesh Point DE UE F → List ℕ → List ℕ → PositionInTriangulation → Point → ℕ → Type 0
-  IsPutAt old new due items position p v = ((position ≡ OnVertex v) × (new ≡ old) × (items ≡ due)) ⊎ Gains old new p v
-
-  -- nothing has changed, or a new vertex has the point and not all is done that belongs to it
-  abbrev pub Refuses : Mesh Point DE UE F → Mesh Point DE UE F → Point → InsertionError → Type 0
-  Refuses old new p e = (MayRefuse old.shape e × (new ≡ old)) ⊎ ((e ≡ Unfinished) × Gains old new p old.shape.vertices)

@@ -2,11 +2,10 @@
 use Rattle.std.specs.Prelude.{◌≡◌, ◌≢◌, ◌⊎◌, ℕ, []}
 use Rattle.dcel_maps.specs.Shapes.{IsLive, Mesh, face_of}
 use Rattle.dcel_predicates.specs.declared.point.Point.{Point}
-use Rattle.dcel_planar.specs.Corners.{GoesOn}
+use Rattle.dcel_planar.specs.Corners.{GoesOnClosing}
 use Rattle.dcel_planar.specs.Edges.{KeepsEdges}
-use Rattle.dcel_planar.specs.Growing.{HasHull, IsFlat, Gains, Keeps, KeepsListed, MayRefuse}
+use Rattle.dcel_planar.specs.Growing.{HasHull, IsFlat, Gains, IsInsertionReason, Keeps, KeepsListed}
 use Rattle.dcel_planar.specs.declared.errors.InsertionError.{InsertionError}
-use Rattle.dcel_planar.specs.declared.errors.InsertionError.TheVariants.{Unfinished}
 use Rattle.dcel_planar.specs.declared.position.PositionInTriangulation.{PositionInTriangulation}
 use Rattle.dcel_planar.specs.declared.position.PositionInTriangulation.TheVariants.{OnVertex}
 use Rattle.dcel_planar.specs.declared.planar.PlanarMesh.{PlanarMesh}
@@ -27,24 +26,20 @@ module _ {UE A : Type 0} where
     pub due : new.due.items ≡ old.due.items
 
   -- a point is not put in, for this reason, and nothing has changed
-  abbrev pub IsRefused : PlanarMesh UE A → PlanarMesh UE A → InsertionError → Type 0
-  IsRefused old new e = MayRefuse old.dcel.shape e × IsSame old new
+  abbrev pub IsNotPut : PlanarMesh UE A → PlanarMesh UE A → InsertionError → Type 0
+  IsNotPut old new e = IsInsertionReason old.dcel.shape e × IsSame old new
 
   -- of the edges that break Delaunay's condition the list lacks none afterwards but those that it lacked before
   abbrev pub KeepsDue : PlanarMesh UE A → PlanarMesh UE A → Type 0
   KeepsDue old new = KeepsListed old.dcel new.dcel old.due.items new.due.items
 
   -- what triangles closed at the hull leave
-  pub record Closes (is_default : UE → Type 0) (old new : PlanarMesh UE A) : Type 0 where
+  pub record ClosesHull (is_default : UE → Type 0) (old new : PlanarMesh UE A) : Type 0 where
     pub keeps : Keeps old.dcel new.dcel
     pub lists : KeepsDue old new
     pub edges : KeepsEdges is_default old.dcel new.dcel
-    pub goes_on : GoesOn old.dcel new.dcel
+    pub goes_on : GoesOnClosing old.dcel new.dcel
     pub listed : old.due.items ≢ [] → new.due.items ≢ []
-
-  -- nothing has changed, or a new vertex has the point and not all is done that belongs to it
-  abbrev pub IsPutOff : PlanarMesh UE A → PlanarMesh UE A → Point → InsertionError → Type 0
-  IsPutOff old new p e = IsRefused old new e ⊎ ((e ≡ Unfinished) × Gains old.dcel new.dcel p old.dcel.shape.vertices)
 
   -- the vertex v is that of the position, and nothing has changed, or it is new
   abbrev pub IsPutIn : PlanarMesh UE A → PlanarMesh UE A → PositionInTriangulation → Point → ℕ → Type 0

@@ -1,21 +1,20 @@
 -- Where a point lies in a mesh of points.
 use Rattle.std.specs.Prelude.{◌≡◌, ◌≢◌, ◌<◌, ℕ, ◌<ℤ◌, pos, slice_get, Some}
-use Rattle.std.specs.Option.{option_map}
 use Rattle.dcel_predicates.specs.declared.point.Point.{Point}
-use Rattle.dcel_predicates.specs.declared.predicates.Side.{Side}
-use Rattle.dcel_predicates.specs.declared.predicates.Side.TheVariants.{Left, On, Right}
+use Rattle.dcel_predicates.specs.declared.line.Side.{Side}
+use Rattle.dcel_predicates.specs.declared.line.Side.TheVariants.{Left, On, Right}
 use Rattle.dcel_predicates.specs.Determinants.{orient2d_of}
 use Rattle.dcel_maps.specs.Conditions.{IsLineEnd, IsTriangle}
 use Rattle.dcel_maps.specs.Shapes.{Mesh, IsLive, end_of, face_count, face_of, next_of, origin_of, prev_of}
-use Rattle.dcel_plane.specs.Plane.{IsLeftOf, LiesAcross, LiesInside, point_at}
+use Rattle.dcel_plane.specs.Plane.{IsLeftOf, LiesAcross, LiesInFace, point_at}
 use Rattle.dcel_plane.specs.location.Locating.{LiesBeyond, LiesOn}
 use Rattle.dcel_planar.specs.declared.position.PositionInTriangulation.{PositionInTriangulation}
 use Rattle.dcel_planar.specs.declared.position.PositionInTriangulation.TheVariants.{BeyondLine, NoTriangulation, OnEdge, OnFace, OnVertex, OutsideOfConvexHull}
 
 module _ {DE UE F : Type 0} where
-  -- the vertex v has the coordinates of p
+  -- the vertex v has the point p
   abbrev pub HasPoint : Mesh Point DE UE F → Point → ℕ → Type 0
-  HasPoint m p v = (option_map (λ (q : Point). q.x) (slice_get m.vertex_data v) ≡ Some p.x) × (option_map (λ (q : Point). q.y) (slice_get m.vertex_data v) ≡ Some p.y)
+  HasPoint m p v = slice_get m.vertex_data v ≡ Some p
 
   -- the half edge h has p on its left
   abbrev pub HasLeft : Mesh Point DE UE F → Point → ℕ → Type 0
@@ -36,7 +35,7 @@ module _ {DE UE F : Type 0} where
   LiesAt m p h On = IsOnLine m p h
 
   -- p lies on these sides of the half edge h of a triangle and of the two after it, on the right of none
-  pub record AreSides (m : Mesh Point DE UE F) (p : Point) (h : ℕ) (own after before : Side) : Type 0 where
+  pub record LiesAtSides (m : Mesh Point DE UE F) (p : Point) (h : ℕ) (own after before : Side) : Type 0 where
     pub own_side : LiesAt m p h own
     pub after_side : LiesAt m p (next_of m.shape h) after
     pub before_side : LiesAt m p (prev_of m.shape h) before
@@ -45,8 +44,8 @@ module _ {DE UE F : Type 0} where
     pub not_before : before ≢ Right
 
   -- p lies beyond the half edge h of the outer face
-  abbrev pub IsOutside : Mesh Point DE UE F → Point → ℕ → Type 0
-  IsOutside m p h = IsLive m.shape h × (face_of m.shape h ≡ 0) × HasLeft m p h
+  abbrev pub IsBeyondHull : Mesh Point DE UE F → Point → ℕ → Type 0
+  IsBeyondHull m p h = IsLive m.shape h × (face_of m.shape h ≡ 0) × HasLeft m p h
 
   -- p lies on the left of the other two half edges of the triangle of h
   pub record IsAcross (m : Mesh Point DE UE F) (p : Point) (h : ℕ) : Type 0 where
@@ -56,10 +55,10 @@ module _ {DE UE F : Type 0} where
 
   -- what a position says
   abbrev pub IsPlace : Mesh Point DE UE F → Point → PositionInTriangulation → Type 0
-  IsPlace m p (OnFace f) = (0 < f) × IsTriangle m.shape f × LiesInside (point_at m) m.shape f p
+  IsPlace m p (OnFace f) = (0 < f) × IsTriangle m.shape f × LiesInFace (point_at m) m.shape f p
   IsPlace m p (OnEdge h) = IsLive m.shape h × LiesOn (point_at m) m.shape p h
   IsPlace m p (OnVertex v) = HasPoint m p v
-  IsPlace m p (OutsideOfConvexHull h) = IsOutside m p h
+  IsPlace m p (OutsideOfConvexHull h) = IsBeyondHull m p h
   IsPlace m p (BeyondLine v) =
       (face_count m.shape ≡ 1) × IsLineEnd m.shape v × ((h : ℕ) × IsLive m.shape h × (end_of m.shape h ≡ v) × LiesBeyond (point_at m) m.shape p h)
   IsPlace m p NoTriangulation = (m.shape.edges ≡ 0) × (face_count m.shape ≡ 1) × ((v : ℕ) → v < m.shape.vertices → ¬ HasPoint m p v)

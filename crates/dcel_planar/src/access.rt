@@ -3,6 +3,7 @@
 ghost use Rattle.std.specs.Prelude.{◌≡◌, ◌↔◌, [], IfOk, IsTrue};
 ghost use Rattle.dcel_planar.specs.Growing.{IsTriangulation};
 ghost use Rattle.dcel_planar.specs.Leaving.{IsOutlined};
+ghost use Rattle.dcel_planar.specs.Outcomes.{IsWholeMesh};
 
 use crate::mesh::EdgeMesh;
 use crate::planar::PlanarMesh;
@@ -13,7 +14,7 @@ impl<UE: Drop, A: Allocator + Clone> PlanarMesh<UE, A> {
     /// Creates a mesh of no points. If memory runs out it returns `AllocError`.
     pub fn new(alloc: A) -> Result<Self, AllocError>
         ensures empty { IfOk result (λ m. m.dcel.vertex_data ≡ []) }
-        ensures settled { IfOk result (λ m. m.due.items ≡ []) }
+        ensures whole { IfOk result IsWholeMesh }
         ensures delaunay { IfOk result (λ m. IsTriangulation m.dcel) }
     {
         let due = Vec::new(alloc.clone()?);
@@ -33,8 +34,8 @@ impl<UE, A: Allocator> PlanarMesh<UE, A> {
 
     /// Returns whether no edge is still to be looked at. The hull isn't to be closed then.
     #[inline]
-    pub fn is_settled(&self) -> bool
-        ensures settled { IsTrue result ↔ (self.now.due.items ≡ []) }
+    pub fn is_whole(&self) -> bool
+        ensures whole { IsTrue result ↔ IsWholeMesh self.now }
         ensures hull { IsTrue result → IsOutlined self.now.dcel }
     {
         self.due.is_empty()

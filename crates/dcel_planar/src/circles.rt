@@ -6,17 +6,17 @@ ghost use Rattle.dcel_maps.specs.Sides.{IsOnHull};
 ghost use Rattle.spade_dcel.specs.Handles.{mesh_behind, number_of};
 ghost use Rattle.dcel_plane.specs.Plane.{IsCircled, IsInner, point_at};
 
-use crate::mesh::point_of;
+use crate::points::points_at;
 use dcel_predicates::{Point, in_circle};
 use spade_dcel::dcel::Dcel;
 use spade_dcel::handles::FixedUndirectedEdgeHandle;
 use spade_dcel::laws::every_mesh;
 use std::alloc::Allocator;
 
-/// Returns whether an edge lies between two inner triangles, and the corner of one inside the
+/// Returns whether an edge is between two inner triangles, and the corner of one inside the
 /// circle of the other.
 ///
-/// It doesn't matter which is asked about the other. Given-up edges and numbers out of range lie
+/// It doesn't matter which is asked about the other. Given-up edges and numbers out of range are
 /// between none.
 pub fn is_circled<DE, UE, F, A: Allocator>(
     dcel: &Dcel<Point, DE, UE, F, A>,
@@ -34,7 +34,7 @@ pub fn is_circled<DE, UE, F, A: Allocator>(
     has_corner_inside(dcel, edge)
 }
 
-// Returns whether one of its halves lies on the outer face.
+// Returns whether one of its halves is on the outer face.
 fn is_on_hull<DE, UE, F, A: Allocator>(
     dcel: &Dcel<Point, DE, UE, F, A>,
     edge: FixedUndirectedEdgeHandle,
@@ -47,7 +47,7 @@ fn is_on_hull<DE, UE, F, A: Allocator>(
         .is_part_of_convex_hull()
 }
 
-// Returns what the circle test alone tells.
+// Returns the result of the circle test alone.
 fn has_corner_inside<DE, UE, F, A: Allocator>(
     dcel: &Dcel<Point, DE, UE, F, A>,
     edge: FixedUndirectedEdgeHandle,
@@ -55,11 +55,6 @@ fn has_corner_inside<DE, UE, F, A: Allocator>(
     requires { edge_is_live dcel.now.shape edge ≡ true }
     ensures { IsTrue result ↔ IsCircled (point_at dcel.now) dcel.now.shape edge }
 {
-    let half = dcel.undirected_edge(edge).as_directed();
-    in_circle(
-        point_of(half.from()),
-        point_of(half.to()),
-        point_of(half.prev().from()),
-        point_of(half.rev().prev().from()),
-    )
+    let points = points_at(dcel, edge);
+    in_circle(points.from, points.to, points.near, points.far)
 }

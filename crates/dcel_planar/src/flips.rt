@@ -1,9 +1,10 @@
 //! Edges flipped by the circle test, but those that have to stay.
 
-ghost use Rattle.std.specs.Prelude.{◌≡◌, ◌↔◌, [], Bool, IsTrue, OnOk};
+ghost use Rattle.std.specs.Prelude.{◌↔◌, Bool, IsTrue, OnErr, OnOk};
 ghost use Rattle.dcel_planar.specs.Growing.{HasHull, IsFlat, Keeps};
 ghost use Rattle.dcel_planar.specs.Leaving.{IsOutlined};
 ghost use Rattle.dcel_planar.specs.Legalization.{IsToTurn, ListsLoose, TurnsLoose};
+ghost use Rattle.dcel_planar.specs.Outcomes.{IsWholeMesh};
 
 use crate::circles::is_circled;
 use crate::mesh::EdgeMesh;
@@ -33,7 +34,8 @@ impl<UE: EdgeConstraint, A: Allocator> PlanarMesh<UE, A> {
         ensures lists { ListsLoose UE.is_constraint self.old.dcel self.old.due.items → ListsLoose UE.is_constraint self.new.dcel self.new.due.items }
         ensures flat { IsFlat self.old.dcel → IsFlat self.new.dcel }
         ensures hull { HasHull self.old.dcel → HasHull self.new.dcel }
-        ensures done { OnOk result (self.new.due.items ≡ []) }
+        ensures whole { OnOk result (IsWholeMesh self.new) }
+        ensures unfinished { OnErr result (¬ IsWholeMesh self.new) }
     {
         every_mesh(&self.dcel);
         while let Some(&edge) = self.due.last() {
@@ -49,7 +51,7 @@ impl<UE: EdgeConstraint, A: Allocator> PlanarMesh<UE, A> {
     }
 }
 
-/// Returns whether an edge is to be flipped: it lies between two triangles, the corner of one inside
+/// Returns whether an edge is to be flipped: it is between two triangles, the corner of one inside
 /// the circle of the other, and need not stay.
 fn is_to_turn<UE: EdgeConstraint, A: Allocator>(
     dcel: &EdgeMesh<UE, A>,

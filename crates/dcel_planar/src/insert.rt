@@ -1,4 +1,4 @@
-//! Points inserted: a vertex put in where the point lies, and the hull closed round it.
+//! Points inserted: a vertex put in where the point is, and the hull closed round it.
 
 mod edits;
 mod hull;

@@ -1,6 +1,6 @@
 //! Edges flipped by the circle test.
 
-ghost use Rattle.std.specs.Prelude.{◌≡◌, ℕ, List, ◌++◌, [], OnOk};
+ghost use Rattle.std.specs.Prelude.{◌≡◌, ◌≢◌, ℕ, List, ◌++◌, [], OnErr, OnOk};
 ghost use Rattle.dcel_maps.specs.Shapes.{IsMesh};
 ghost use Rattle.dcel_plane.specs.Plane.{IsLocallyDelaunay, ListsCircled, TrianglesTurnLeft, point_at};
 ghost use Rattle.dcel_planar.specs.Turning.{IsTurnedTo};
@@ -16,7 +16,7 @@ use std::alloc::{AllocError, Allocator};
 
 /// Flips edges until no triangle's circle has the corner of a triangle beside it inside.
 ///
-/// It looks at the last edge of the list, again and again. If the edge lies between two inner
+/// It looks at the last edge of the list, again and again. If the edge is between two inner
 /// triangles, and the corner of one inside the circle of the other ([`is_circled`]), it flips the
 /// edge, and appends the other sides of the two triangles. Otherwise it takes it off the list.
 ///
@@ -37,6 +37,7 @@ pub fn legalize_by_circles<DE, UE, F, A: Allocator, L: Allocator>(
     ensures others { (lacking : List ℕ) → ListsCircled (point_at dcel.old) dcel.old.shape (due.old.items ++ lacking)
         → ListsCircled (point_at dcel.new) dcel.new.shape (due.new.items ++ lacking) }
     ensures done { OnOk result (due.new.items ≡ []) }
+    ensures unfinished { OnErr result (due.new.items ≢ []) }
     ensures delaunay { OnOk result (ListsCircled (point_at dcel.old) dcel.old.shape due.old.items → IsLocallyDelaunay (point_at dcel.new) dcel.new.shape) }
     ensures mesh { IsMesh dcel.new }
 {

@@ -1,4 +1,4 @@
-//! Where a point lies: in the triangles, or on the line of all vertices.
+//! Where a point is: in the triangles, or on the line of all vertices.
 
 ghost use Rattle.std.specs.Prelude.{◌≡◌, ◌<◌, IfErr, IfOk};
 ghost use Rattle.spade_dcel.specs.Handles.{mesh_behind, number_of};
@@ -20,11 +20,11 @@ use spade_dcel::handles::FixedDirectedEdgeHandle;
 use std::alloc::Allocator;
 
 impl<UE, A: Allocator> PlanarMesh<UE, A> {
-    /// Walks from a half edge towards a point, and returns where it lies.
+    /// Walks from a half edge towards a point, and returns where it is.
     ///
     /// If the mesh has no such half edge, the walk begins at the first one.
     ///
-    /// Asks for a mesh whose hull isn't to be closed ([`is_settled`](Self::is_settled) tells), and that
+    /// Asks for a mesh whose hull isn't to be closed ([`is_whole`](Self::is_whole)), and that
     /// is Delaunay ([`is_delaunay`](crate::is_delaunay)).
     pub fn locate(&self, start: FixedDirectedEdgeHandle, point: Point) -> PositionInTriangulation
         requires hull { IsOutlined self.now.dcel }
@@ -34,10 +34,10 @@ impl<UE, A: Allocator> PlanarMesh<UE, A> {
         walk::locate(&self.dcel, start, point)
     }
 
-    /// Returns where a point lies in a mesh that is a path along a line, by a half edge of it.
+    /// Returns where a point is in a mesh that is a path along a line, by a half edge of it.
     ///
     /// Asks for a half edge of this mesh, whose only face is the outer one (`num_faces() == 1`) and
-    /// whose hull isn't to be closed ([`is_settled`](Self::is_settled) tells).
+    /// whose hull isn't to be closed ([`is_whole`](Self::is_whole)).
     pub fn locate_on_line(&self, edge: Edge<'_, UE, A>, point: Point) -> PositionInTriangulation
         requires hull { IsOutlined self.now.dcel }
         requires alone { face_count self.now.dcel.shape ≡ 1 }
@@ -48,12 +48,12 @@ impl<UE, A: Allocator> PlanarMesh<UE, A> {
         line::locate_on_line(&self.dcel, edge, point)
     }
 
-    /// Returns where a point lies in the triangle of a half edge, or a side that it lies beyond.
+    /// Returns where a point is in the triangle of a half edge, or a side that it is beyond.
     ///
-    /// It asks where the point lies of the other two sides, and is told it of this one
-    /// ([`side`](crate::side)).
+    /// `own` is the point's side of this half edge ([`side`](crate::side)); those of the other two
+    /// are computed.
     ///
-    /// Asks for a half edge of this mesh that isn't on the outer face (`is_outer_edge()` tells).
+    /// Asks for a half edge of this mesh that isn't on the outer face (`is_outer_edge()` is false).
     #[inline]
     pub fn look<'a>(
         &'a self,

@@ -42,23 +42,7 @@ pub fn side<UE, A: Allocator>(edge: Edge<'_, UE, A>, point: Point) -> Side
     orientation(point_of(edge.from()), point_of(edge.to()), point)
 }
 
-/// Returns whether the side is the line itself.
-#[inline]
-pub fn is_on(side: Side) -> bool
-    ensures { IsTrue result ↔ (side ≡ Side.On) }
-{
-    side == Side::On
-}
-
-/// Returns whether the side is the right one.
-#[inline]
-pub(crate) fn is_right(side: Side) -> bool
-    ensures { IsTrue result ↔ (side ≡ Side.Right) }
-{
-    side == Side::Right
-}
-
-/// Returns whether a point is where a vertex stands.
+/// Returns whether a vertex has this point.
 #[inline]
 pub(crate) fn stands_at<UE, A: Allocator>(vertex: Vertex<'_, UE, A>, point: Point) -> bool
     ensures { IsTrue result ↔ HasPoint (mesh_behind vertex.entry) point (number_of vertex.entry) }

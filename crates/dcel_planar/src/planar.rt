@@ -1,6 +1,6 @@
 //! A planar mesh of points, with a list of edges that may be illegal.
 
-ghost use Rattle.dcel_planar.specs.Growing.{HasOutside, IsTriangulated};
+ghost use Rattle.dcel_planar.specs.Growing.{HasOutside, IsTriangleMesh};
 
 use crate::mesh::EdgeMesh;
 use spade_dcel::handles::FixedUndirectedEdgeHandle;
@@ -20,6 +20,6 @@ pub struct PlanarMesh<UE, A: Allocator = Global> {
     pub dcel: EdgeMesh<UE, A>,
     /// Edges that flips still have to look at.
     pub due: Vec<FixedUndirectedEdgeHandle, A>,
-    pub ghost triangulated: { IsTriangulated dcel },
+    pub ghost triangulated: { IsTriangleMesh dcel },
     pub ghost outlined: { ∥ HasOutside dcel due.items ∥₁ },
 }

@@ -1,4 +1,4 @@
-//! Tests of whole meshes: whether one lies in the plane, and whether it is Delaunay.
+//! Tests of whole meshes: whether one is in the plane, and whether it is Delaunay.
 
 ghost use Rattle.std.specs.Prelude.{◌<◌, ◌↔◌, IsTrue};
 ghost use Rattle.dcel_maps.specs.Shapes.{face_count};
@@ -7,7 +7,7 @@ ghost use Rattle.dcel_planar.specs.Turning.{GoesLeft};
 
 use crate::circles::is_circled;
 use crate::mesh::point_of;
-use dcel_predicates::{Point, orient2d};
+use dcel_predicates::{Point, orientation};
 use spade_dcel::dcel::Dcel;
 use spade_dcel::handles::{FixedFaceHandle, FixedUndirectedEdgeHandle, InnerTag};
 use spade_dcel::laws::every_mesh;
@@ -21,14 +21,14 @@ pub fn is_plane<DE, UE, F, A: Allocator>(dcel: &Dcel<Point, DE, UE, F, A>) -> bo
 {
     every_mesh(dcel);
     for number in 1..dcel.num_faces() {
-        if !turns_left(dcel, FixedFaceHandle::new(number)) {
+        if !goes_left(dcel, FixedFaceHandle::new(number)) {
             return false;
         }
     }
     true
 }
 
-/// Returns whether a mesh lies in the plane ([`is_plane`]) and no edge is to be flipped
+/// Returns whether a mesh is in the plane ([`is_plane`]) and no edge is to be flipped
 /// ([`is_circled`]).
 ///
 /// It looks at each face and each edge once.
@@ -47,7 +47,7 @@ pub fn is_delaunay<DE, UE, F, A: Allocator>(dcel: &Dcel<Point, DE, UE, F, A>) ->
 }
 
 // Returns whether the corners of a face go round counterclockwise, if there are three.
-fn turns_left<DE, UE, F, A: Allocator>(
+fn goes_left<DE, UE, F, A: Allocator>(
     dcel: &Dcel<Point, DE, UE, F, A>,
     face: FixedFaceHandle<InnerTag>,
 ) -> bool
@@ -60,9 +60,10 @@ fn turns_left<DE, UE, F, A: Allocator>(
         return true;
     }
     let edge = dcel.face(face).adjacent_edge();
-    orient2d(
+    orientation(
         point_of(edge.from()),
         point_of(edge.to()),
         point_of(edge.prev().from()),
-    ) > 0
+    )
+    .is_on_left_side()
 }

@@ -1,7 +1,7 @@
 //! Whether the outer face goes round the triangles once, as a convex hull does.
 
 ghost use Rattle.std.specs.Prelude.{◌≡◌, ◌↔◌, ◌*◌, ◌<◌, ℕ, IsTrue};
-ghost use Rattle.dcel_plane.specs.covering.Round.{Begins, GoesRound, IsRightOf};
+ghost use Rattle.dcel_plane.specs.covering.Round.{Begins, GoesRoundOnce, IsRightOf};
 ghost use Rattle.dcel_maps.specs.Removals.{Closed};
 ghost use Rattle.dcel_maps.specs.Shapes.{IsLive, end_of, next_of, origin_of};
 ghost use Rattle.dcel_plane.specs.Plane.{TurnsLeft, point_at};
@@ -9,7 +9,7 @@ ghost use Rattle.dcel_planar.specs.Ways.{BeginsOnce, TurnsRight, leads_to};
 ghost use Rattle.spade_dcel.specs.Handles.{mesh_behind, number_of};
 
 use crate::mesh::point_of;
-use dcel_predicates::{Point, orient2d};
+use dcel_predicates::{Point, orientation};
 use spade_dcel::dcel::Dcel;
 use spade_dcel::handles::{DirectedEdgeHandle, FixedDirectedEdgeHandle};
 use spade_dcel::laws::every_mesh;
@@ -26,7 +26,7 @@ pub(crate) enum Way {
 // to lead to the right once, and to the left once.
 pub(crate) fn goes_round<DE, UE, F, A: Allocator>(dcel: &Dcel<Point, DE, UE, F, A>) -> bool
     requires { dcel.now.shape.removal ≡ Closed }
-    ensures { IsTrue result ↔ GoesRound (point_at dcel.now) dcel.now.shape }
+    ensures { IsTrue result ↔ GoesRoundOnce (point_at dcel.now) dcel.now.shape }
 {
     if !turns_right(dcel) {
         return false;
@@ -76,11 +76,12 @@ fn bends_left<DE, UE, F, A: Allocator>(half: DirectedEdgeHandle<'_, Point, DE, U
     ensures { let m = mesh_behind half.entry in let h = number_of half.entry in
         IsTrue result ↔ TurnsLeft (point_at m (origin_of m.shape h)) (point_at m (end_of m.shape h)) (point_at m (end_of m.shape (next_of m.shape h))) }
 {
-    orient2d(
+    orientation(
         point_of(half.from()),
         point_of(half.to()),
         point_of(half.next().to()),
-    ) > 0
+    )
+    .is_on_left_side()
 }
 
 fn begins_once<DE, UE, F, A: Allocator>(dcel: &Dcel<Point, DE, UE, F, A>, way: Way) -> bool
@@ -133,7 +134,7 @@ fn leads<DE, UE, F, A: Allocator>(
     }
 }
 
-// Returns whether b lies to the right of a, or straight above it.
+// Returns whether b is to the right of a, or straight above it.
 fn is_right_of(a: Point, b: Point) -> bool
     ensures { IsTrue result ↔ IsRightOf a b }
 {

@@ -22,8 +22,8 @@ use std::alloc::Allocator;
 /// It is one if no removal is open, there is an inner face, each inner face is a triangle, each
 /// vertex has an edge, no edge is to be flipped ([`is_delaunay`]), and the outer face is the convex
 /// hull of the vertices, which passes each vertex once. By the laws of `dcel_plane` no vertex
-/// then lies inside the circle of any triangle, the triangles don't overlap, they cover the hull,
-/// and different vertices stand at different points. A path isn't one.
+/// then is inside the circle of any triangle, the triangles don't overlap, they cover the hull,
+/// and different vertices are at different points. A path isn't one.
 ///
 /// The hull is tested edge by edge too: nowhere does the outer face turn left, and it goes round
 /// once. So the time is linear: each vertex, half edge, edge and face is looked at a few times, and

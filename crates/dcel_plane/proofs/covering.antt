@@ -11,6 +11,7 @@ pub mod Hulls
 pub mod Triangles
 pub mod Overlaps
 pub mod Towards
+pub mod Circled
 pub mod Reaching
 pub mod Faces
 pub mod Starts
@@ -18,6 +19,7 @@ pub mod Circles
 pub mod Alone
 pub mod Apart
 pub mod Numbered
+pub mod Sight
 pub mod Leading
 pub mod Chains
 pub mod Opposite

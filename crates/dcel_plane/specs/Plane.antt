@@ -45,8 +45,8 @@ abbrev pub ListsCircled : (ℕ → Point) → Shape → List ℕ → Type 0
 ListsCircled at s list = (u : ℕ) → IsInner s u → IsCircled at s u → 0 < count_of u list
 
 -- p lies on the left of each half edge of the face f
-abbrev pub LiesInside : (ℕ → Point) → Shape → ℕ → Point → Type 0
-LiesInside at s f p = (h : ℕ) → IsLive s h → face_of s h ≡ f → IsLeftOf at s p h
+abbrev pub LiesInFace : (ℕ → Point) → Shape → ℕ → Point → Type 0
+LiesInFace at s f p = (h : ℕ) → IsLive s h → face_of s h ≡ f → IsLeftOf at s p h
 
 -- p lies on the left of each half edge of the face of h but h
 abbrev pub LiesAcross : (ℕ → Point) → Shape → ℕ → Point → Type 0

@@ -1,6 +1,7 @@
 //! The words that a program is started with.
 
-ghost use Rattle.std.specs.Prelude.{◌≢◌, IfSome, codes};
+ghost use Rattle.std.specs.Prelude.{◌≡◌, ◌≢◌, ◌⊎◌, IfNone, IfSome, None, Some, codes, find, option_map};
+ghost use Rattle.dcel_programs.specs.Given.{is_there, value_of};
 
 use clap::builder::ValueParser;
 use clap::{Arg, ArgAction, ArgMatches, Command};
@@ -115,21 +116,30 @@ impl<'a, T> Program<'a, T> {
 impl<'a> Switch<'a> {
     fn arg(&self, alloc: Global) -> Arg<'a> {
         let arg = Arg::new(alloc, self.name).long(self.name).help(self.help);
-        let arg = match self.letter {
-            Some(letter) => arg.short(letter),
-            None => arg,
-        };
-        match self.takes {
-            Takes::Nothing => arg.action(ArgAction::SetTrue),
-            Takes::File => arg.value_name("FILE"),
-            Takes::Format(names) => arg
-                .value_name("FORMAT")
-                .value_parser(ValueParser::Names(names)),
-            Takes::PowerOfTen => arg
-                .value_name("K")
-                .value_parser(ValueParser::Names(POWERS_OF_TEN))
-                .hide_possible_values(true),
-        }
+        with_values(with_letter(arg, self.letter), self.takes)
+    }
+}
+
+/// Gives an option its other name, if it has one.
+fn with_letter(arg: Arg<'_>, letter: Option<char>) -> Arg<'_> {
+    match letter {
+        Some(letter) => arg.short(letter),
+        None => arg,
+    }
+}
+
+/// Has an option take these values.
+fn with_values<'a>(arg: Arg<'a>, takes: Takes<'a>) -> Arg<'a> {
+    match takes {
+        Takes::Nothing => arg.action(ArgAction::SetTrue),
+        Takes::File => arg.value_name("FILE"),
+        Takes::Format(names) => arg
+            .value_name("FORMAT")
+            .value_parser(ValueParser::Names(names)),
+        Takes::PowerOfTen => arg
+            .value_name("K")
+            .value_parser(ValueParser::Names(POWERS_OF_TEN))
+            .hide_possible_values(true),
     }
 }
 
@@ -153,35 +163,44 @@ pub struct Given<'a> {
 impl<'a> Given<'a> {
     /// Returns the file to read. There is none if it is standard input.
     pub fn input(&self) -> Option<&'a str>
-        ensures { IfSome result (λ file. file.now ≢ codes "-") }
+        ensures some { IfSome result (λ file. (value_of self.now (codes "file") ≡ Some file.now)
+            × (file.now ≢ codes "-")) }
+        ensures none { IfNone result ((value_of self.now (codes "file") ≡ None)
+            ⊎ (value_of self.now (codes "file") ≡ Some (codes "-"))) }
     {
         self.file(FILE)
     }
 
     /// Returns the file that follows an option. There is none if it is - or the option isn't there.
     pub fn file(&self, name: &str) -> Option<&'a str>
-        ensures { IfSome result (λ file. file.now ≢ codes "-") }
+        ensures some { IfSome result (λ file. (value_of self.now name.now ≡ Some file.now)
+            × (file.now ≢ codes "-")) }
+        ensures none { IfNone result ((value_of self.now name.now ≡ None)
+            ⊎ (value_of self.now name.now ≡ Some (codes "-"))) }
     {
         self.value(name).filter(|file| *file != "-")
     }
 
     /// Returns what follows an option, if it is there.
-    pub fn value(&self, name: &str) -> Option<&'a str> {
+    pub fn value(&self, name: &str) -> Option<&'a str>
+        ensures { option_map (λ value. value.now) result ≡ value_of self.now name.now }
+    {
         self.matches.get_str(name)
     }
 
     /// Returns whether an option that takes nothing is there.
-    pub fn has(&self, name: &str) -> bool {
-        self.matches.get_flag(name)
+    pub fn has(&self, name: &str) -> bool
+        ensures { result ≡ is_there self.now name.now }
+    {
+        self.value(name) == Some("true")
     }
 
     /// Returns what the option stands for that is chosen, if one is.
-    pub fn choice<T: Copy>(&self, choices: &[Choice<'_, T>]) -> Option<T> {
-        for choice in choices {
-            if self.has(choice.name) {
-                return Some(choice.means);
-            }
-        }
-        None
+    pub fn choice<T: Copy>(&self, choices: &[Choice<'_, T>]) -> Option<T>
+        ensures { result ≡ option_map (λ choice. choice.means)
+            (find (λ choice. is_there self.now choice.name.now) choices.now) }
+    {
+        let chosen = choices.iter().find(|choice| self.has(choice.name))?;
+        Some(chosen.means)
     }
 }

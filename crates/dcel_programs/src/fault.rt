@@ -1,9 +1,9 @@
 //! Why a program gives up.
 
 ghost use Rattle.std.specs.Prelude.{◌≡◌, ◌⊎◌, IsTrue, ◌↔◌};
-ghost use Rattle.std.specs.IoError.{error_kind};
 ghost use Rattle.std.specs.String.{string_bytes};
-ghost use Rattle.dcel_programs.specs.declared.fault.Fault.TheVariants.{File, LineOfFile, OutOfMemory, Output};
+ghost use Rattle.dcel_programs.specs.declared.fault.Fault.TheVariants.{File, LineOfFile, OutOfMemory};
+ghost use Rattle.dcel_programs.specs.Endings.{IsEndOfReader};
 
 use std::alloc::{AllocError, Global};
 use std::fmt::{Debug, Display};
@@ -76,7 +76,7 @@ impl<W: Display + Debug + Drop> Fault<W> {
 
     /// Returns whether nobody reads the output any more, so that nothing is left to do or to tell.
     pub fn is_end_of_reader(&self) -> bool
-        ensures { IsTrue result ↔ ((error : _) × (self.now ≡ Output error) × (error_kind error ≡ ErrorKind.BrokenPipe)) }
+        ensures { IsTrue result ↔ IsEndOfReader self.now }
     {
         match self {
             Fault::Output(error) => error.kind() == ErrorKind::BrokenPipe,

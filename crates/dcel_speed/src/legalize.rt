@@ -20,21 +20,26 @@ pub fn legalize<D: Default + Drop + Clone>(
     let built = triangulated::<D>(rt.alloc(), size)?;
     least_of(FEWEST_EDITING, || {
         let mut dcel = built.try_clone(rt.alloc())?;
-        let list = all_edges(rt.alloc(), &dcel)?;
-        let start = Instant::now(rt)?;
-        let flips = flip_all(&mut dcel, list)?;
-        let elapsed = start.elapsed(rt)?;
-        let outcome = Outcome {
-            checksum: flips,
-            operations: looked_at(&dcel, flips),
-        };
-        Ok(Timed { elapsed, outcome })
+        legalize_once(rt, &mut dcel)
     })
+}
+
+/// Times one legalization.
+fn legalize_once<D>(rt: &(impl Clock + AllocGlobal), dcel: &mut Mesh<D>) -> Result<Timed, Fault> {
+    let list = all_edges(rt.alloc(), dcel)?;
+    let start = Instant::now(rt)?;
+    let flips = flip_all(dcel, list)?;
+    let elapsed = start.elapsed(rt)?;
+    let outcome = Outcome {
+        checksum: flips,
+        operations: looked_at(dcel, flips),
+    };
+    Ok(Timed { elapsed, outcome })
 }
 
 /// Counts the edges looked at: all of the mesh, and those that flips added to the list.
 fn looked_at<D>(dcel: &Mesh<D>, flips: u64) -> u64 {
-    (dcel.num_undirected_edges() as u64).wrapping_add(flips.wrapping_mul(BESIDE))
+    (dcel.num_undirected_edges() as u64).saturating_add(flips.saturating_mul(BESIDE))
 }
 
 /// Lists the edges of a mesh.

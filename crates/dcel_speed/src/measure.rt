@@ -3,9 +3,9 @@
 use crate::digest::{digest_of, mix};
 use crate::fault::{BuildError, Fault};
 use crate::workloads::{Mesh, Outcome, Timed, Workload, triangulated};
-use std::fmt;
 use std::rt::Clock;
 use std::time::{Duration, Instant};
+use std::{fmt, io};
 
 /// Runs are repeated until they have taken this many milliseconds together.
 const LONG_ENOUGH: u64 = 100;
@@ -28,14 +28,9 @@ pub fn time_building<D: Drop, B: Fn() -> Result<Mesh<D>, BuildError>>(
     requires { B.IsAlwaysCallable build }
 {
     least_of(FEWEST_EDITING, || {
-        let start = Instant::now(rt)?;
+        let start = Instant::now(rt);
         let dcel = build()?;
-        let elapsed = start.elapsed(rt)?;
-        let outcome = Outcome {
-            checksum: digest_of(&dcel),
-            operations: u64::from(size),
-        };
-        Ok(Timed { elapsed, outcome })
+        timed(rt, start, &dcel, u64::from(size), None)
     })
 }
 
@@ -51,20 +46,32 @@ pub fn time_editing<D: Default + Drop + Clone, E: Fn(&mut Mesh<D>) -> Option<u64
     let built = triangulated::<D>(rt.alloc(), size)?;
     least_of(FEWEST_EDITING, || {
         let mut dcel = built.try_clone(rt.alloc())?;
-        let start = Instant::now(rt)?;
+        let start = Instant::now(rt);
         let answer = edit(&mut dcel);
-        let elapsed = start.elapsed(rt)?;
-        let digest = digest_of(&dcel);
-        let checksum = match answer {
-            Some(number) => mix(digest, number),
-            None => digest,
-        };
-        let outcome = Outcome {
-            checksum,
-            operations: u64::from(size),
-        };
-        Ok(Timed { elapsed, outcome })
+        timed(rt, start, &dcel, u64::from(size), answer)
     })
+}
+
+/// Ends the timing of edits that left this mesh. If they returned a number, it is mixed into the
+/// checksum.
+pub fn timed<D>(
+    rt: &impl Clock,
+    start: io::Result<Instant>,
+    dcel: &Mesh<D>,
+    operations: u64,
+    answer: Option<u64>,
+) -> Result<Timed, Fault> {
+    let elapsed = start?.elapsed(rt)?;
+    let digest = digest_of(dcel);
+    let checksum = match answer {
+        Some(number) => mix(digest, number),
+        None => digest,
+    };
+    let outcome = Outcome {
+        checksum,
+        operations,
+    };
+    Ok(Timed { elapsed, outcome })
 }
 
 /// Times a workload that only reads.

@@ -2,12 +2,11 @@
 
 ghost use Rattle.std.specs.Prelude.{◌≤◌, ◌^◌, length};
 
-use crate::digest::{digest_of, mix};
 use crate::fault::{BuildError, Fault};
-use crate::measure::{FEWEST_EDITING, least_of};
+use crate::measure::{FEWEST_EDITING, least_of, timed};
 use crate::random::Random;
 use crate::round_vertex::least_and_count;
-use crate::workloads::{Mesh, Outcome, Timed, triangulated};
+use crate::workloads::{Mesh, Timed, triangulated};
 use spade_dcel::dcel::RemovalState;
 use spade_dcel::handles::{FixedDirectedEdgeHandle, FixedVertexHandle, VertexHandle};
 use spade_dcel::operations::{
@@ -32,15 +31,19 @@ pub fn remove<D: Default + Drop + Clone>(
     let plan = plan_of(rt.alloc(), &built)?;
     least_of(FEWEST_EDITING, || {
         let mut dcel = built.try_clone(rt.alloc())?;
-        let start = Instant::now(rt)?;
-        let sum = remove_all(rt.alloc(), &mut dcel, &plan)?;
-        let elapsed = start.elapsed(rt)?;
-        let outcome = Outcome {
-            checksum: mix(digest_of(&dcel), sum),
-            operations: plan.len() as u64,
-        };
-        Ok(Timed { elapsed, outcome })
+        remove_once(rt, &mut dcel, &plan)
     })
+}
+
+/// Times one removal of the vertices of a plan.
+fn remove_once<D: Default + Drop>(
+    rt: &(impl Clock + AllocGlobal),
+    dcel: &mut Mesh<D>,
+    plan: &[FixedVertexHandle],
+) -> Result<Timed, Fault> {
+    let start = Instant::now(rt);
+    let sum = remove_all(rt.alloc(), dcel, plan)?;
+    timed(rt, start, dcel, plan.len() as u64, Some(sum))
 }
 
 /// Removes the vertices of a plan, and returns a hash of their data: each is added to 31 times the
@@ -109,18 +112,35 @@ fn plan_of<D: Default + Drop + Clone>(
     alloc: Global,
     built: &Mesh<D>,
 ) -> Result<Vec<FixedVertexHandle>, BuildError> {
+    let order = order_of(alloc, built)?;
+    let mut numbers: Vec<FixedVertexHandle> = built.fixed_vertices().collect(alloc)?;
     let mut dcel = built.try_clone(alloc)?;
-    let mut numbers: Vec<FixedVertexHandle> = dcel.fixed_vertices().collect(alloc)?;
+    remove_in_order(alloc, &mut dcel, &order, &mut numbers)
+}
+
+/// Draws an order of the vertices. The corners stay first.
+fn order_of<D>(alloc: Global, dcel: &Mesh<D>) -> Result<Vec<FixedVertexHandle>, AllocError> {
     let mut order: Vec<FixedVertexHandle> = dcel.fixed_vertices().collect(alloc)?;
     let corners = CORNERS.min(order.len());
     let (_, inside) = order.split_at_mut(corners);
     shuffle(inside);
+    Ok(order)
+}
+
+/// Removes all but the corners in this order of first numbers, and returns the numbers under which
+/// they were removed. `numbers` has the present number of each vertex.
+fn remove_in_order<D: Default + Drop>(
+    alloc: Global,
+    dcel: &mut Mesh<D>,
+    order: &[FixedVertexHandle],
+    numbers: &mut [FixedVertexHandle],
+) -> Result<Vec<FixedVertexHandle>, BuildError> {
     let mut plan = Vec::new(alloc);
-    for first_number in &*inside {
+    for first_number in order.iter().skip(CORNERS) {
         if let Some(vertex) = numbers.get(first_number.index()).copied() {
-            if remove_next(alloc, &mut dcel, vertex)?.is_some() {
+            if remove_next(alloc, dcel, vertex)?.is_some() {
                 plan.push(vertex)?;
-                renumber(&dcel, &mut numbers, vertex);
+                renumber(dcel, numbers, vertex);
             }
         }
     }

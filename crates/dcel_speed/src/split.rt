@@ -5,11 +5,10 @@ ghost use Rattle.dcel_maps.specs.Conditions.{HasRoom};
 ghost use Rattle.dcel_maps.specs.Shapes.{IsLive};
 ghost use Rattle.dcel_speed.specs.Growth.{IsGrown, IsInside, IsTriangulated};
 
-use crate::digest::{digest_of, mix};
 use crate::fault::{BuildError, Fault};
-use crate::measure::{FEWEST_EDITING, least_of};
+use crate::measure::{FEWEST_EDITING, least_of, timed};
 use crate::random::Random;
-use crate::workloads::{Mesh, Outcome, Timed, triangulated};
+use crate::workloads::{Mesh, Timed, triangulated};
 use spade_dcel::handles::FixedDirectedEdgeHandle;
 use spade_dcel::laws::every_mesh;
 use spade_dcel::operations::{append_unconnected_vertex, split_edge};
@@ -33,15 +32,17 @@ pub fn split<D: Default + Drop>(
 ) -> Result<Timed, Fault> {
     least_of(FEWEST_EDITING, || {
         let mut dcel = triangulated::<D>(rt.alloc(), INSERTED)?;
-        let start = Instant::now(rt)?;
-        let sum = split_edges(&mut dcel, size)?;
-        let elapsed = start.elapsed(rt)?;
-        let outcome = Outcome {
-            checksum: mix(digest_of(&dcel), sum),
-            operations: u64::from(size),
-        };
-        Ok(Timed { elapsed, outcome })
+        split_once(rt, &mut dcel, size)
     })
+}
+
+/// Times one run of `size` splits.
+fn split_once<D: Default>(rt: &impl Clock, dcel: &mut Mesh<D>, size: u32) -> Result<Timed, Fault>
+    requires { IsTriangulated dcel.old.shape }
+{
+    let start = Instant::now(rt);
+    let sum = split_edges(dcel, size)?;
+    timed(rt, start, dcel, u64::from(size), Some(sum))
 }
 
 /// Splits `size` edges, and returns the sum of the numbers of the new half edges that lead on from

@@ -85,6 +85,25 @@ pub enum Workload {
     Legalize,
 }
 
+/// All workloads.
+const ALL: [Workload; 15] = [
+    Workload::Insert,
+    Workload::InsertReserved,
+    Workload::Walk,
+    Workload::WalkBothEnds,
+    Workload::Faces,
+    Workload::Extend,
+    Workload::Hull,
+    Workload::Neighbors,
+    Workload::Split,
+    Workload::Flip,
+    Workload::Swap,
+    Workload::Clone,
+    Workload::Map,
+    Workload::Remove,
+    Workload::Legalize,
+];
+
 impl Workload {
     /// Returns its name in the arguments and in the output.
     pub fn name(self) -> &'static str {
@@ -109,24 +128,12 @@ impl Workload {
 
     /// Returns the workload with this name.
     pub fn parse(name: &str) -> Option<Workload> {
-        match name {
-            "insert" => Some(Workload::Insert),
-            "insert_reserved" => Some(Workload::InsertReserved),
-            "walk" => Some(Workload::Walk),
-            "walk_both_ends" => Some(Workload::WalkBothEnds),
-            "faces" => Some(Workload::Faces),
-            "extend" => Some(Workload::Extend),
-            "hull" => Some(Workload::Hull),
-            "neighbors" => Some(Workload::Neighbors),
-            "split" => Some(Workload::Split),
-            "flip" => Some(Workload::Flip),
-            "swap" => Some(Workload::Swap),
-            "clone" => Some(Workload::Clone),
-            "map" => Some(Workload::Map),
-            "remove" => Some(Workload::Remove),
-            "legalize" => Some(Workload::Legalize),
-            _ => None,
+        for workload in &ALL {
+            if workload.name() == name {
+                return Some(*workload);
+            }
         }
+        None
     }
 }
 

@@ -1,12 +1,12 @@
-//! Decimals read from texts, made whole by a scale, and written.
+//! Decimals read from texts, made whole by a scale or on a grid, and written.
 
 use dcel_bench::checks::same;
-use dcel_decimals::{Decimal, DecimalError, Scale, ScalingError};
+use dcel_decimals::{Decimal, DecimalError, Grid, Scale, ScalingError};
 use std::alloc::Global;
 use std::test::Fail;
 
 /// Texts, with the mantissas and places of their numbers, and how these are written.
-const NUMBERS: [(&str, i64, u32, &str); 14] = [
+const NUMBERS: [(&str, i128, u32, &str); 19] = [
     ("0", 0, 0, "0"),
     ("-0.000", 0, 0, "0"),
     ("1.5", 15, 1, "1.5"),
@@ -18,15 +18,45 @@ const NUMBERS: [(&str, i64, u32, &str); 14] = [
     ("-12.50E+1", -125, 0, "-125"),
     ("10000000000000000000000e-22", 1, 0, "1"),
     ("0e99999999", 0, 0, "0"),
-    ("9223372036854775807", i64::MAX, 0, "9223372036854775807"),
+    (
+        "9223372036854775807",
+        9_223_372_036_854_775_807,
+        0,
+        "9223372036854775807",
+    ),
     ("-0.000000000000000001", -1, 18, "-0.000000000000000001"),
-    ("9.223372036854775807", i64::MAX, 18, "9.223372036854775807"),
+    (
+        "9.223372036854775807",
+        9_223_372_036_854_775_807,
+        18,
+        "9.223372036854775807",
+    ),
+    ("1e-19", 1, 19, "0.0000000000000000001"),
+    (
+        "0.12345678901234567891",
+        12_345_678_901_234_567_891,
+        20,
+        "0.12345678901234567891",
+    ),
+    (
+        "9223372036854775807.999999",
+        9_223_372_036_854_775_807_999_999,
+        6,
+        "9223372036854775807.999999",
+    ),
+    (
+        "-1.234567890123456789012345",
+        -1_234_567_890_123_456_789_012_345,
+        24,
+        "-1.234567890123456789012345",
+    ),
+    ("12.5e-30", 125, 31, "0.0000000000000000000000000000125"),
 ];
 
 fn check_number(
     alloc: Global,
     text: &str,
-    mantissa: i64,
+    mantissa: i128,
     places: u32,
     written: &str,
 ) -> Result<(), Fail> {
@@ -45,7 +75,7 @@ fn numbers(rt: HostRuntime) -> Result<(), Fail> {
 }
 
 /// Texts that no decimal is read from, and why.
-const REFUSED: [(&str, DecimalError); 17] = [
+const REFUSED: [(&str, DecimalError); 19] = [
     ("", DecimalError::NotDecimal),
     ("-", DecimalError::NotDecimal),
     (".", DecimalError::NotDecimal),
@@ -62,9 +92,11 @@ const REFUSED: [(&str, DecimalError); 17] = [
         "99999999999999999999999999999999999",
         DecimalError::OutOfRange,
     ),
-    ("1e-19", DecimalError::TooManyDigits),
-    ("12345678901234567890.5", DecimalError::TooManyDigits),
-    ("0.12345678901234567891", DecimalError::TooManyDigits),
+    ("12345678901234567890.5", DecimalError::OutOfRange),
+    ("9223372036854775808.5", DecimalError::OutOfRange),
+    ("1e300", DecimalError::OutOfRange),
+    ("1e-401", DecimalError::TooManyDigits),
+    ("1.2345678901234567890123456", DecimalError::TooManyDigits),
     ("0e18446744073709551616", DecimalError::FarExponent),
 ];
 
@@ -81,15 +113,20 @@ fn refusals() -> Result<(), Fail> {
 }
 
 /// Numbers, a scale, and what they are times the scale.
-const SCALED: [(&str, u64, Result<i64, ScalingError>); 6] = [
+const SCALED: [(&str, u64, Result<i64, ScalingError>); 7] = [
     ("1.5", 10, Ok(15)),
     ("-0.25", 10_000, Ok(-2_500)),
     ("7", 1, Ok(7)),
     ("0.25", 10, Err(ScalingError::NotWhole)),
     (
-        "9.2",
-        1_000_000_000_000_000_000,
-        Ok(9_200_000_000_000_000_000),
+        "-9.007199254740992",
+        1_000_000_000_000_000,
+        Ok(-9_007_199_254_740_992),
+    ),
+    (
+        "9.007199254740993",
+        1_000_000_000_000_000,
+        Err(ScalingError::OutOfRange),
     ),
     (
         "-9.3",
@@ -126,7 +163,7 @@ fn scales() -> Result<(), Fail> {
 fn check_least(texts: [&str; 3], scale: u64, number: i32, divided: &str) -> Result<(), Fail> {
     let [a, b, c] = texts;
     let decimals = [Decimal::read(a)?, Decimal::read(b)?, Decimal::read(c)?];
-    let least = Scale::least(&decimals);
+    let least = Scale::least(&decimals).ok_or("no scale")?;
     same(least.factor(), scale, a)?;
     let number = i64::from(number);
     same(
@@ -141,4 +178,103 @@ fn least_scales() -> Result<(), Fail> {
     check_least(["1", "2e3", "-30"], 1, 70, "70")?;
     check_least(["1", "0.250", "-1.5"], 100, -150, "-1.5")?;
     check_least(["0.1", "1e-18", "5"], 1_000_000_000_000_000_000, 0, "0")
+}
+
+#[test]
+fn no_scales() -> Result<(), Fail> {
+    let decimals = [Decimal::read("1")?, Decimal::read("1e-19")?];
+    same(Scale::least(&decimals), None, "a nineteenth place")
+}
+
+/// Numbers with the power of the finest grid for each alone, the steps that it is on it, how far it
+/// moves, and how the steps and that distance are written.
+const SNAPPED: [(&str, i32, i64, u32, &str, &str); 9] = [
+    ("1", -53, 9_007_199_254_740_992, 0, "1", "0"),
+    ("-3", -51, -6_755_399_441_055_744, 0, "-3", "0"),
+    (
+        "9223372036854775807",
+        10,
+        9_007_199_254_740_992,
+        1,
+        "9223372036854775808",
+        "1",
+    ),
+    (
+        "9007199254740993",
+        1,
+        4_503_599_627_370_496,
+        512,
+        "9007199254740992",
+        "1",
+    ),
+    (
+        "9007199254740995",
+        1,
+        4_503_599_627_370_498,
+        512,
+        "9007199254740996",
+        "1",
+    ),
+    (
+        "5411932.678",
+        -30,
+        5_811_018_465_040_925,
+        336,
+        "5411932.678000000305473804473876953125",
+        "0.000000000305590219795703887939453125",
+    ),
+    (
+        "-73.9857",
+        -46,
+        -5_206_280_796_105_395,
+        415,
+        "-73.9856999999999942474460112862288951873779296875",
+        "0.00000000000000575928194024299955344758927822113037109375",
+    ),
+    ("0", -96, 0, 0, "0", "0"),
+    (
+        "1e-400",
+        -96,
+        0,
+        1,
+        "0",
+        "0.0000000000000000000000000000000123259516440783094595582588325435348386438505485784844495356082916259765625",
+    ),
+];
+
+fn check_snapped(
+    alloc: Global,
+    text: &str,
+    power: i32,
+    wanted: (i64, u32),
+    written: [&str; 2],
+) -> Result<(), Fail> {
+    let number = Decimal::read(text)?;
+    let grid = Grid::fit(&[number]);
+    same(grid.power(), power, text)?;
+    let found = grid.snap(number).ok_or("beyond the grid")?;
+    same((found.steps, found.shift), wanted, text)?;
+    let [at, distance] = written;
+    let steps = grid.back(found.steps);
+    same(format!(in alloc; "{steps}")?.as_str(), at, text)?;
+    let shift = grid.distance(found.shift);
+    same(format!(in alloc; "{shift}")?.as_str(), distance, text)
+}
+
+#[test]
+fn snapped(rt: HostRuntime) -> Result<(), Fail> {
+    for (text, power, steps, shift, at, distance) in &SNAPPED {
+        check_snapped(rt.alloc(), text, *power, (*steps, *shift), [at, distance])?;
+    }
+    Ok(())
+}
+
+#[test]
+fn beyond_a_grid() -> Result<(), Fail> {
+    let grid = Grid::fit(&[Decimal::read("1")?, Decimal::read("-0.5")?]);
+    same(
+        grid.snap(Decimal::read("1.0000000000000001")?),
+        None,
+        "past the last step",
+    )
 }

@@ -15,6 +15,8 @@ mod positions;
 #[cfg(test)]
 mod predicates;
 #[cfg(test)]
+mod quadruples;
+#[cfg(test)]
 mod removals;
 #[cfg(test)]
 mod triangulations;

@@ -87,8 +87,8 @@ fn equal_points_are_one_vertex(rt: HostRuntime) -> Result<(), Fail> {
 
 #[test]
 fn coordinates_are_in_range(rt: HostRuntime) -> Result<(), Fail> {
-    holds(point(1 << 30, -(1 << 30)).is_ok(), "the last coordinates")?;
-    let refused = point((1 << 30) + 1, 0).err();
+    holds(point(1 << 53, -(1 << 53)).is_ok(), "the last coordinates")?;
+    let refused = point((1 << 53) + 1, 0).err();
     same(refused, Some(InsertionError::OutOfRange), "one further")
 }
 

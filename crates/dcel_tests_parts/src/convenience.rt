@@ -1,15 +1,19 @@
-//! A vertex put into a triangle and taken out again, what lies around it, and flips that keep a
-//! mesh simple.
+//! A vertex put into a triangle and taken out again, what is around it, and meshes that are simple.
+
+mod wheels;
 
 use dcel_bench::checks::{holds, same};
 use dcel_bench::lines::grown;
 use dcel_bench::meshes::{Mesh, inner_face, undirected_edge, vertex};
 use dcel_bench::refusing::{Memory, Refusals, Refusing};
+use dcel_bench::require;
 use dcel_bench::snapshots::snapshot_of;
 use dcel_convenience::{
-    WhyNotInserted, WhyNotRemoved, can_flip_simple, degree, insert_vertex, neighbors, remove_vertex,
+    Surroundings, WhyNotInserted, WhyNotRemoved, can_flip_simple, degree, degrees, insert_vertex,
+    is_simple, look_around, neighbors, remove_vertex,
 };
-use spade_dcel::handles::FixedVertexHandle;
+use spade_dcel::handles::{FixedDirectedEdgeHandle, FixedVertexHandle};
+use spade_dcel::operations::flip_cw;
 use std::alloc::{Allocator, Global};
 use std::test::Fail;
 
@@ -44,6 +48,86 @@ fn neighbors_come_counterclockwise(rt: HostRuntime) -> Result<(), Fail> {
     check_around(&dcel, vertex(3), &[0, 2, 1], rt.alloc())?;
     let lonely = grown(rt.alloc(), "append 5")?;
     check_around(&lonely, vertex(0), &[], rt.alloc())
+}
+
+#[test]
+fn degrees_come_by_number(rt: HostRuntime) -> Result<(), Fail> {
+    let dcel = grown(
+        rt.alloc(),
+        "triangle 7 8 9\nappend 10\ninsert 3 1\nappend 11",
+    )?;
+    let found = degrees(rt.alloc(), &dcel)?;
+    holds(
+        found.as_slice() == [3, 3, 3, 3, 0].as_slice(),
+        "the degrees, 0 without an edge",
+    )
+}
+
+#[test]
+fn second_edges_are_found(rt: HostRuntime) -> Result<(), Fail> {
+    let empty = grown(rt.alloc(), "append 5")?;
+    holds(is_simple(&empty), "no edge")?;
+    let mut dcel = grown(rt.alloc(), INNER)?;
+    holds(is_simple(&dcel), "a triangle with a vertex inside")?;
+    // The flip joins two corners that an edge of the border joins already.
+    let edge = undirected_edge(3);
+    require!(dcel.can_flip(edge));
+    flip_cw(&mut dcel, edge);
+    holds(!is_simple(&dcel), "two edges join two corners")
+}
+
+/// Lines, and what is around a vertex of the mesh that they make.
+const AROUND: [(&str, u32, Option<Surroundings>); 5] = [
+    ("append 5", 0, Some(Surroundings::Nothing)),
+    (INNER, 3, Some(Surroundings::Triangles)),
+    (INNER, 0, None),
+    (
+        "append 1\nappend 2\nsetup 0 1\nappend 3\nextend 1 2",
+        1,
+        Some(Surroundings::CutVertex),
+    ),
+    (
+        "append 1\nappend 2\nappend 3\nappend 4\nsetup 0 1\nextend 1 2\nextend 2 3",
+        1,
+        Some(Surroundings::CutVertex),
+    ),
+];
+
+/// Checks that the border goes on from a vertex along this half edge.
+fn check_border<A: Allocator>(
+    dcel: &Mesh<A>,
+    half: FixedDirectedEdgeHandle,
+    center: FixedVertexHandle,
+) -> Result<(), Fail> {
+    let Some(edge) = dcel.get_directed_edge(half) else {
+        return Err(Fail::new("there is no such half edge"));
+    };
+    same(edge.from().fix(), center, "where the border goes on")
+}
+
+/// Checks what is around a vertex: this, or the border.
+fn check_surroundings<A: Allocator>(
+    dcel: &Mesh<A>,
+    number: u32,
+    wanted: Option<Surroundings>,
+) -> Result<(), Fail> {
+    let center = vertex(number);
+    require!(center.index() < dcel.num_vertices());
+    let found = look_around(dcel, center);
+    if let Surroundings::Border(half) = found {
+        holds(wanted.is_none(), "it isn't on the border")?;
+        return check_border(dcel, half, center);
+    }
+    same(Some(found), wanted, "what is around a vertex")
+}
+
+#[test]
+fn vertices_have_surroundings(rt: HostRuntime) -> Result<(), Fail> {
+    for (lines, number, wanted) in &AROUND {
+        let dcel = grown(rt.alloc(), lines)?;
+        check_surroundings(&dcel, *number, *wanted)?;
+    }
+    Ok(())
 }
 
 /// Puts a vertex into a face, for which it is refused, or for which it isn't.
@@ -102,6 +186,29 @@ fn vertices_inside_triangles_are_taken_out(rt: HostRuntime) -> Result<(), Fail> 
         "triangle 7 8 9\nappend 10\ninsert 3 1\nisolate 3 1 3 5",
     )?;
     check_removed(&mut open, 3, Err(WhyNotRemoved::RemovalOpen), alloc)
+}
+
+/// Takes out the vertex inside a wheel, whose hole has so many half edges.
+fn check_wheel(rim: u32, alloc: Global) -> Result<(), Fail> {
+    let mut dcel = wheels::wheel(alloc, rim)?;
+    check_removed(&mut dcel, 0, Ok(0), alloc)?;
+    let corners = rim as usize;
+    require!(3 <= corners && corners <= 1000);
+    same(dcel.num_vertices(), corners, "the vertices left")?;
+    same(
+        dcel.num_undirected_edges(),
+        2 * corners - 3,
+        "the edges left",
+    )?;
+    holds(is_simple(&dcel), "the hole is filled as a fan")
+}
+
+#[test]
+fn holes_of_all_sizes_are_filled(rt: HostRuntime) -> Result<(), Fail> {
+    check_wheel(3, rt.alloc())?;
+    check_wheel(4, rt.alloc())?;
+    check_wheel(6, rt.alloc())?;
+    check_wheel(40, rt.alloc())
 }
 
 #[test]

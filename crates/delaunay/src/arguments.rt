@@ -45,6 +45,8 @@ pub struct Arguments<'a> {
     pub output: Option<Output>,
     /// What coordinates are multiplied by; if there is none, the least that makes them whole.
     pub scale: Option<Scale>,
+    /// Whether they are rounded to a grid.
+    pub is_on_grid: bool,
     /// Whether to tell how long the insertions took.
     pub is_timed: bool,
 }
@@ -90,6 +92,12 @@ pub const PROGRAM: Program<'static, Output> = Program {
             letter: None,
             takes: Takes::PowerOfTen,
             help: "Multiplies the coordinates by this power of ten, from 1 to 10^18",
+        },
+        Switch {
+            name: "grid",
+            letter: None,
+            takes: Takes::Nothing,
+            help: "Rounds the coordinates to the finest power of two on which all are in range",
         },
         Switch {
             name: "time",
@@ -181,8 +189,13 @@ Points are removed first, then constraints are put in, and then outlines. A pict
 that stay wide, in place of the hull.
 
 Coordinates are multiplied by the least power of ten that makes all of them whole, which is told on
-standard error unless it is 1, and have to be from -1073741824 to 1073741824 then. What is written
-has the coordinates that were given.
+standard error unless it is 1, and have to be from -9007199254740992 to 9007199254740992 then. What
+is written has the coordinates that were given.
+
+With --grid any decimals of up to 25 digits between -2^63 and 2^63 are taken, as doubles are
+written: each coordinate is rounded to the nearest multiple of the finest power of two for which all
+are from -2^53 to 2^53 times it. Standard error says how many points that moves, and how far. What
+is written has the coordinates of the grid, exactly.
 
 Each line of the output has the numbers of a triangle's three corners, counterclockwise, the least
 first. Triangles are numbered from 0 in that order. --voronoi writes 'corner X Y' for each triangle,
@@ -208,6 +221,7 @@ impl<'a> Arguments<'a> {
             nearest,
             output: given.choice(OUTPUTS).or(unasked),
             scale: given.value("scale").and_then(scale_of),
+            is_on_grid: given.has("grid"),
             is_timed: given.has("time"),
         }
     }

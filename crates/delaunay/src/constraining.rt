@@ -85,7 +85,7 @@ impl Constrained {
             mesh: self.triangulation.dcel(),
             numbers: &drawn.numbers,
             points: drawn.points,
-            scale: drawn.scale,
+            unit: drawn.unit,
             is_marked: Some(&self.is_marked),
             shown: self.inside.as_deref(),
         }

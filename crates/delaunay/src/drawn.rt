@@ -1,7 +1,7 @@
 //! A triangulation as it is written and drawn.
 
+use crate::unit::Unit;
 use crate::view::View;
-use dcel_decimals::Scale;
 use dcel_delaunay::{Point, Triangulation};
 use spade_dcel::handles::FixedVertexHandle;
 use std::alloc::{AllocError, Global};
@@ -18,8 +18,8 @@ pub struct Drawn<'a> {
     pub least: Vec<Option<usize>>,
     /// The points, equal ones included.
     pub points: &'a [Point],
-    /// What their coordinates were multiplied by.
-    pub scale: Scale,
+    /// What their coordinates stand for.
+    pub unit: Unit,
 }
 
 impl Drawn<'_> {
@@ -29,7 +29,7 @@ impl Drawn<'_> {
             mesh: self.triangulation.dcel(),
             numbers: &self.numbers,
             points: self.points,
-            scale: self.scale,
+            unit: self.unit,
             is_marked: None,
             shown: None,
         }

@@ -22,12 +22,21 @@ pub enum Wrong {
     /// A number has too many digits.
     #[error("a coordinate has too many digits")]
     TooManyDigits,
+    /// It has more digits behind its point than a scale makes whole.
+    #[error("a coordinate has more than 18 digits behind its point; --grid takes it, rounded")]
+    TooManyPlaces,
+    /// It is beyond all grids.
+    #[error("a coordinate is -2^63 or below, or 2^63 or above")]
+    TooLarge,
     /// A number times this scale isn't whole.
     #[error("a coordinate times {0} is not whole")]
     NotWhole(u64),
     /// A number is further from 0 than this.
-    #[error("a coordinate is below -{0} or above {0}")]
+    #[error("a coordinate is below -{0} or above {0}; --grid takes it, rounded")]
     OutOfRange(Decimal),
+    /// Both a scale and a grid are asked for.
+    #[error("--grid makes a scale needless: leave out --scale")]
+    ScaledGrid,
     /// A line has no number of a point.
     #[error("there is no point of this number")]
     NoPoint,
@@ -86,7 +95,7 @@ impl From<DecimalError> for Wrong {
     fn from(error: DecimalError) -> Self {
         match error {
             DecimalError::NotDecimal => Wrong::NoNumber,
-            DecimalError::OutOfRange => Wrong::out_of_range(Scale::ONE),
+            DecimalError::OutOfRange => Wrong::TooLarge,
             DecimalError::TooManyDigits | DecimalError::FarExponent => Wrong::TooManyDigits,
         }
     }

@@ -1,7 +1,8 @@
 //! Points read from lines.
 
 use crate::fault::{Fault, Wrong};
-use dcel_decimals::{Decimal, Scale, ScalingError};
+use crate::unit::{Moves, scaled_point};
+use dcel_decimals::{Decimal, Grid, Scale};
 use dcel_delaunay::Point;
 use dcel_programs::{before_comment, numbered_lines, read_text};
 use std::alloc::{AllocError, Global};
@@ -48,20 +49,64 @@ impl Coordinates {
     }
 
     /// Returns the least scale that makes all of them whole.
-    pub fn scale(&self) -> Scale {
-        Scale::least(&self.all)
+    pub fn scale(&self) -> Result<Scale, Fault> {
+        if let Some(scale) = Scale::least(&self.all) {
+            return Ok(scale);
+        }
+        for (line, two) in self.lines.iter().zip(self.all.chunks(2)) {
+            if Scale::least(two).is_none() {
+                let wrong = Wrong::TooManyPlaces;
+                return Err(Fault::Line { line: *line, wrong });
+            }
+        }
+        Ok(Scale::ONE)
+    }
+
+    /// Returns the finest grid that fits all of them.
+    pub fn grid(&self) -> Grid {
+        Grid::fit(&self.all)
     }
 
     /// Returns the points with these coordinates times a scale.
-    pub fn points(&self, alloc: Global, scale: Scale) -> Result<Vec<Point>, Fault> {
+    pub fn scaled(&self, alloc: Global, scale: Scale) -> Result<Vec<Point>, Fault> {
         let mut points = Vec::with_capacity(alloc, self.lines.len())?;
         for (line, two) in self.lines.iter().zip(self.all.chunks(2)) {
             if let &[x, y] = two {
-                let point = point_at(x, y, scale);
+                let point = scaled_point(x, y, scale);
                 points.push(point.map_err(|wrong| Fault::Line { line: *line, wrong })?)?;
             }
         }
         Ok(points)
+    }
+
+    /// Returns the points at the nearest places of a grid, and notes how they have moved.
+    pub fn snapped(
+        &self,
+        alloc: Global,
+        grid: Grid,
+        moves: &mut Moves,
+    ) -> Result<Vec<Point>, Fault> {
+        let mut points = Vec::with_capacity(alloc, self.lines.len())?;
+        for (line, two) in self.lines.iter().zip(self.all.chunks(2)) {
+            if let &[x, y] = two {
+                let point = moves.snap(x, y, grid);
+                points.push(point.map_err(|wrong| Fault::Line { line: *line, wrong })?)?;
+            }
+        }
+        Ok(points)
+    }
+
+    /// Returns how many different points have these coordinates.
+    pub fn count_different(&self, alloc: Global) -> Result<usize, AllocError> {
+        let mut places = Vec::with_capacity(alloc, self.lines.len())?;
+        for two in self.all.chunks(2) {
+            if let &[x, y] = two {
+                places.push((x.mantissa, x.places, y.mantissa, y.places))?;
+            }
+        }
+        places.sort_unstable();
+        places.dedup();
+        Ok(places.len())
     }
 }
 
@@ -98,19 +143,6 @@ fn is_name(word: &str) -> bool {
 fn two_numbers(words: &str) -> Result<[Decimal; 2], Wrong> {
     let (x, y) = two_words(words)?;
     Ok([Decimal::read(x)?, Decimal::read(y)?])
-}
-
-/// Returns the point with these coordinates times a scale.
-fn point_at(x: Decimal, y: Decimal, scale: Scale) -> Result<Point, Wrong> {
-    Point::new(whole(x, scale)?, whole(y, scale)?).ok_or(Wrong::out_of_range(scale))
-}
-
-/// Returns a coordinate times a scale.
-fn whole(coordinate: Decimal, scale: Scale) -> Result<i64, Wrong> {
-    coordinate.scaled(scale).map_err(|error| match error {
-        ScalingError::NotWhole => Wrong::NotWhole(scale.factor()),
-        ScalingError::OutOfRange => Wrong::out_of_range(scale),
-    })
 }
 
 /// Returns two words, with blanks, a comma or both between them.

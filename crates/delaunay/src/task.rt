@@ -1,13 +1,15 @@
 //! What the program is asked to do, as its files say.
 
 use crate::arguments::Arguments;
-use crate::fault::Fault;
+use crate::fault::{Fault, Wrong};
 use crate::joins::{Form, Join, read_joins};
 use crate::reading::{Coordinates, in_file, read_coordinates};
 use crate::removal::read_marks;
-use dcel_decimals::Scale;
+use crate::unit::{Moves, Unit};
+use dcel_decimals::{Grid, Scale};
 use dcel_delaunay::Point;
 use dcel_programs::read_text;
+use std::alloc::{AllocError, Global};
 use std::io;
 use std::rt::Files;
 
@@ -24,13 +26,14 @@ pub struct Task {
     pub outline: Vec<Join>,
     /// The points to which the nearest one is asked for.
     pub places: Vec<Point>,
-    /// What all coordinates are multiplied by.
-    pub scale: Scale,
+    /// What all coordinates stand for.
+    pub unit: Unit,
 }
 
 impl Task {
-    /// Reads all files. Coordinates are multiplied by the scale that is asked for, or the least, which
-    /// is told unless it is 1.
+    /// Reads all files. Coordinates are multiplied by the scale that is asked for, or the least, or
+    /// put on a grid. On standard error it says which scale that is, unless 1, and what the grid
+    /// moves.
     pub fn read(
         rt: &(impl Files + Input + Eprint + AllocGlobal),
         arguments: &Arguments,
@@ -42,7 +45,7 @@ impl Task {
             constraints: Vec::new(alloc),
             outline: Vec::new(alloc),
             places: Vec::new(alloc),
-            scale: Scale::ONE,
+            unit: Unit::Scale(Scale::ONE),
         };
         task.fill(rt, arguments)?;
         Ok(task)
@@ -69,13 +72,38 @@ impl Task {
         coordinates: &Coordinates,
         asked: &Coordinates,
     ) -> Result<(), Fault> {
-        let least = greater(coordinates.scale(), asked.scale());
-        self.scale = scale_of(rt, arguments, least)?;
-        self.points = coordinates.points(rt.alloc(), self.scale)?;
+        self.unit = unit_of(rt, arguments, coordinates, asked)?;
+        let mut moves = Moves::NONE;
+        self.points = points_of(rt.alloc(), coordinates, self.unit, &mut moves)?;
+        if let Unit::Grid(grid) = self.unit {
+            self.report_moves(rt, grid, moves, coordinates)?;
+        }
         self.read_numbers(rt, arguments)?;
-        self.places = asked
-            .points(rt.alloc(), self.scale)
-            .map_err(|fault| in_file(rt.alloc(), arguments.nearest, fault))?;
+        self.places = points_of(rt.alloc(), asked, self.unit, &mut moves).map_err(|fault| in_file(
+            rt.alloc(),
+            arguments.nearest,
+            fault,
+        ))?;
+        Ok(())
+    }
+
+    /// Says on standard error what a grid has made of the points.
+    fn report_moves(
+        &self,
+        rt: &(impl Eprint + AllocGlobal),
+        grid: Grid,
+        moves: Moves,
+        coordinates: &Coordinates,
+    ) -> Result<(), Fault> {
+        let before = coordinates.count_different(rt.alloc())?;
+        let equal = before.saturating_sub(count_different(rt.alloc(), &self.points)?);
+        let power = grid.power();
+        let thousandths = moves.most.saturating_mul(1000).div_ceil(1024);
+        eprintln!(rt;
+            "delaunay: the grid's step is 2^{power}; moved {} of {} points, by at most 0.{thousandths:03} of a step; made {equal} equal to others",
+            moves.count,
+            self.points.len()
+        )?;
         Ok(())
     }
 
@@ -99,18 +127,66 @@ impl Task {
     }
 }
 
-/// Returns the scale that is asked for, or the least one, and tells that unless it is 1.
-fn scale_of(rt: &impl Eprint, arguments: &Arguments, least: Scale) -> io::Result<Scale> {
-    if let Some(scale) = arguments.scale {
-        return Ok(scale);
+/// Returns what coordinates are to stand for.
+fn unit_of(
+    rt: &(impl Eprint + AllocGlobal),
+    arguments: &Arguments,
+    coordinates: &Coordinates,
+    asked: &Coordinates,
+) -> Result<Unit, Fault> {
+    match (arguments.is_on_grid, arguments.scale) {
+        (true, None) => Ok(Unit::Grid(coarser(coordinates.grid(), asked.grid()))),
+        (true, Some(_)) => Err(Fault::Input(Wrong::ScaledGrid)),
+        (false, Some(scale)) => Ok(Unit::Scale(scale)),
+        (false, None) => {
+            let scale = asked
+                .scale()
+                .map_err(|fault| in_file(rt.alloc(), arguments.nearest, fault));
+            let least = greater(coordinates.scale()?, scale?);
+            report_scale(rt, least)?;
+            Ok(Unit::Scale(least))
+        }
     }
-    if least != Scale::ONE {
-        eprintln!(rt; "delaunay: the scale is {}", least.factor())?;
+}
+
+/// Says on standard error which scale it is, unless it is 1.
+fn report_scale(rt: &impl Eprint, scale: Scale) -> io::Result<()> {
+    if scale != Scale::ONE {
+        eprintln!(rt; "delaunay: the scale is {}", scale.factor())?;
     }
-    Ok(least)
+    Ok(())
+}
+
+/// Returns the points with these coordinates, and notes how a grid moves them.
+fn points_of(
+    alloc: Global,
+    coordinates: &Coordinates,
+    unit: Unit,
+    moves: &mut Moves,
+) -> Result<Vec<Point>, Fault> {
+    match unit {
+        Unit::Scale(scale) => coordinates.scaled(alloc, scale),
+        Unit::Grid(grid) => coordinates.snapped(alloc, grid, moves),
+    }
+}
+
+/// Returns how many different points there are.
+fn count_different(alloc: Global, points: &[Point]) -> Result<usize, AllocError> {
+    let mut places = Vec::with_capacity(alloc, points.len())?;
+    for point in points {
+        places.push((point.x, point.y))?;
+    }
+    places.sort_unstable();
+    places.dedup();
+    Ok(places.len())
 }
 
 /// Returns the greater one of two scales.
 fn greater(a: Scale, b: Scale) -> Scale {
     if a.power < b.power { b } else { a }
+}
+
+/// Returns the coarser one of two grids.
+fn coarser(a: Grid, b: Grid) -> Grid {
+    if a.halvings < b.halvings { a } else { b }
 }

@@ -3,7 +3,7 @@
 use crate::drawn::Drawn;
 use crate::fault::{Fault, Wrong};
 use crate::task::Task;
-use dcel_decimals::Scale;
+use crate::unit::Unit;
 use dcel_delaunay::{Point, Triangulation};
 use dcel_programs::Progress;
 use spade_dcel::handles::FixedVertexHandle;
@@ -19,7 +19,7 @@ pub struct Inserted<'a> {
     // nothing asks for them.
     least: Vec<Option<usize>>,
     points: &'a [Point],
-    scale: Scale,
+    unit: Unit,
 }
 
 impl<'a> Inserted<'a> {
@@ -68,7 +68,7 @@ impl<'a> Inserted<'a> {
             numbers,
             least: self.least,
             points: self.points,
-            scale: self.scale,
+            unit: self.unit,
         })
     }
 
@@ -123,7 +123,7 @@ pub fn triangulated<'a>(
         numbers: Vec::new(rt.alloc()),
         least: Vec::new(rt.alloc()),
         points: &task.points,
-        scale: task.scale,
+        unit: task.unit,
     };
     inserted.fill(rt, progress, task)?;
     Ok(inserted)

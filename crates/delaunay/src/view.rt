@@ -1,6 +1,6 @@
 //! What is written and drawn of a triangulation.
 
-use dcel_decimals::Scale;
+use crate::unit::Unit;
 use dcel_delaunay::Point;
 use spade_dcel::dcel::Dcel;
 use std::io;
@@ -14,8 +14,8 @@ pub struct View<'a, UE> {
     pub numbers: &'a [usize],
     /// The points, equal ones included.
     pub points: &'a [Point],
-    /// What their coordinates were multiplied by.
-    pub scale: Scale,
+    /// What their coordinates stand for.
+    pub unit: Unit,
     /// Which edges are marked, if some may be.
     pub is_marked: Option<&'a [bool]>,
     /// Which one each face is of the triangles that are shown, if some aren't.

@@ -5,7 +5,6 @@ ghost use Rattle.dcel_maps.specs.Shapes.{face_is_live};
 ghost use Rattle.spade_dcel.specs.Handles.{mesh_behind, number_of};
 
 use crate::arguments::Output;
-use crate::shown::Shown;
 use crate::view::View;
 use crate::voronoi::write_voronoi;
 use crate::words::write_words;
@@ -225,7 +224,7 @@ fn write_obj<UE>(writer: &mut impl Write, view: &View<'_, UE>) -> io::Result<()>
 /// Writes the coordinates of each point, and 0 as the third one, behind some words.
 fn write_points<UE>(writer: &mut impl Write, view: &View<'_, UE>, before: &str) -> io::Result<()> {
     for point in view.points {
-        writeln!(writer, "{before}{} 0", Shown::of(*point, view.scale))?;
+        writeln!(writer, "{before}{} 0", view.unit.shown(*point))?;
     }
     Ok(())
 }

@@ -8,9 +8,9 @@ pub record AreRead (given : List MeshPagePoint) (points : List Point) : Type 0 w
   pub x : map (λ (p : Point). p.x) points ≡ map (λ (p : MeshPagePoint). p.x) given
   pub y : map (λ (p : Point). p.y) points ≡ map (λ (p : MeshPagePoint). p.y) given
 
--- the point lies farther out than 2^30
+-- a coordinate of the point is below -2^53 or above 2^53
 abbrev pub IsFar : MeshPagePoint → Type 0
-IsFar p = (2 ^ 30 < unsigned_abs p.x) ⊎ (2 ^ 30 < unsigned_abs p.y)
+IsFar p = (2 ^ 53 < unsigned_abs p.x) ⊎ (2 ^ 53 < unsigned_abs p.y)
 
 -- one of them does
 pub record HasFar (given : List MeshPagePoint) : Type 0 where

@@ -1,6 +1,6 @@
 //! The layer as a WebAssembly module for a page in a browser: replies to lines, the picture of the
 //! mesh that lines lead to, and the triangles of points. It uses `dcel_replay`, `dcel_svg` and
-//! `dcel_triangles`.
+//! `dcel_delaunay`.
 //!
 //! An export works in memory that the host lends for good, by `lent_bump`, and keeps nothing: a
 //! host creates a new instance for each call, or lends other memory.

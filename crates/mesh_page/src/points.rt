@@ -11,15 +11,15 @@ use std::alloc::Allocator;
 #[derive(Clone, Copy)]
 pub struct MeshPagePoint {
     /// To the right.
-    pub x: i32,
+    pub x: i64,
     /// Up.
-    pub y: i32,
+    pub y: i64,
 }
 
 /// Why there are no triangles.
 #[derive(Clone, Copy, PartialEq, Eq, Debug, Drop)]
 pub(crate) enum Failed {
-    /// A coordinate is below -2^30 or above 2^30.
+    /// A coordinate is below -2^53 or above 2^53.
     OutOfRange,
     /// There was no memory.
     NoMemory,
@@ -56,5 +56,5 @@ fn point_of(given: MeshPagePoint) -> Option<Point>
     ensures y { IfSome result (λ p. p.y ≡ given.y) }
     ensures far { IfNone result (IsFar given) }
 {
-    Point::new(given.x as i64, given.y as i64)
+    Point::new(given.x, given.y)
 }

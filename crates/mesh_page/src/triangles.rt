@@ -3,13 +3,13 @@
 ghost use Rattle.std.specs.Prelude.{◌≡◌, ◌≤◌, ◌<◌, List, IfErr, IfOk, length};
 ghost use Rattle.dcel_exports.specs.Answers.{HasAnswer};
 ghost use Rattle.dcel_predicates.specs.declared.point.Point.{Point};
-ghost use Rattle.dcel_triangles.specs.Triangles.{IsTriangulated};
+ghost use Rattle.dcel_delaunay.specs.Triangles.{AreDelaunayTriangles};
 ghost use Rattle.mesh_page.specs.Given.{AreRead, HasFar};
 
 use crate::points::{Failed, MeshPagePoint, read_points};
+use dcel_delaunay::{Triangle, triangulate};
 use dcel_exports::put;
 use dcel_exports::status::NO_MEMORY;
-use dcel_triangles::{Triangle, triangulate};
 use lent_bump::{Arena, Memory};
 use std::alloc::Allocator;
 
@@ -22,7 +22,7 @@ const OUT_OF_RANGE: u32 = 3;
 /// As many triangles as fit are put there, from the front, and what lies behind them stays. `needed`
 /// is how many there are: none if all points stand on one line.
 /// Returns 0 if all are there, and 1 if the buffer was short; 2 if the memory lent was too small, or
-/// there are too many points for a mesh; 3 if a coordinate is below -2^30 or above 2^30. With 2 and
+/// there are too many points for a mesh; 3 if a coordinate is below -2^53 or above 2^53. With 2 and
 /// 3 the buffer stays as it was and `needed` is 0.
 #[unsafe(no_mangle)]
 pub extern "C" fn mesh_page_triangles(
@@ -32,7 +32,7 @@ pub extern "C" fn mesh_page_triangles(
     needed: &mut u64,
 ) -> u32
     ensures triangles { result ≤ 1 → (read : List Point) × AreRead points.now read
-        × HasAnswer (IsTriangulated read) triangles.old triangles.new needed.new }
+        × HasAnswer (AreDelaunayTriangles read) triangles.old triangles.new needed.new }
     ensures done { result ≡ 0 → needed.new ≤ length triangles.old }
     ensures short { result ≡ 1 → length triangles.old < needed.new }
     ensures refused { 2 ≤ result → (triangles.new ≡ triangles.old) × (needed.new ≡ 0) }
@@ -58,7 +58,7 @@ fn triangles_of<A: Allocator + Copy>(
     alloc: A,
     given: &[MeshPagePoint],
 ) -> Result<Vec<Triangle, A>, Failed>
-    ensures triangles { IfOk result (λ list. (read : List Point) × AreRead given.now read × IsTriangulated read list.items) }
+    ensures triangles { IfOk result (λ list. (read : List Point) × AreRead given.now read × AreDelaunayTriangles read list.items) }
     ensures far { IfErr result (λ why. why ≡ Failed.OutOfRange → HasFar given.now) }
 {
     let points = read_points(alloc, given)?;

@@ -1,10 +1,13 @@
 """Sets of points made at random, many of them degenerate."""
 
-LIMIT = 2**30
+LIMIT = 2**53
+# How far apart points may be for the predicates to compute in machine words, about.
+NEAR = 2**30
 MOST = 300
 
 
 def somewhere(rng, count, reach=LIMIT):
+    """Points anywhere, no coordinate beyond the reach."""
     return [(rng.randint(-reach, reach), rng.randint(-reach, reach)) for _ in range(count)]
 
 
@@ -14,20 +17,21 @@ def crowded(rng, count):
 
 def grid(rng, count):
     width = rng.randint(1, max(1, int(count**0.5)) + 3)
-    step = rng.choice([1, 2, 1000, LIMIT // 200])
+    step = rng.choice([1, 2, 1000, NEAR // 200, LIMIT // 200])
     return [(step * (i % width), step * (i // width) - LIMIT // 2) for i in range(count)]
 
 
 def slanted(rng, count):
     """A grid whose axes are none of the plane's."""
     width = max(1, int(count**0.5))
-    (a, b), (c, d) = [(rng.randint(-900, 900), rng.randint(-900, 900)) for _ in range(2)]
+    most = rng.choice([900, LIMIT // MOST // 2])
+    (a, b), (c, d) = [(rng.randint(-most, most), rng.randint(-most, most)) for _ in range(2)]
     return [(a * (i % width) + c * (i // width), b * (i % width) + d * (i // width)) for i in range(count)]
 
 
 def line(rng, count):
     a, b = rng.choice([(1, 0), (0, 1), (1, 1), (2, -3), (-7, 5)])
-    reach = rng.choice([5, count, 100_000_000])
+    reach = rng.choice([5, count, 100_000_000, LIMIT // 7])
     return [(a * k, b * k) for k in (rng.randint(-reach, reach) for _ in range(count))]
 
 
@@ -37,7 +41,7 @@ def line_and_more(rng, count):
 
 def sides(rng, count):
     """Points on the sides of a triangle or a square, some within."""
-    reach = rng.choice([3, 20, LIMIT])
+    reach = rng.choice([3, 20, NEAR, LIMIT])
     corners = rng.choice([[(-reach, -reach), (reach, -reach), (reach, reach), (-reach, reach)], [(0, -reach), (reach, 0), (0, reach)]])
     points = []
     for _ in range(count):
@@ -57,7 +61,7 @@ CIRCLES = {}
 
 
 def circle(rng, count):
-    """Points on a circle of whole numbers."""
+    """Points on a circle of whole numbers, which may fill the whole range."""
     radius = rng.choice([5, 65, 1105, 5525])
     if radius not in CIRCLES:
         CIRCLES[radius] = [
@@ -65,14 +69,15 @@ def circle(rng, count):
         ]
         CIRCLES[radius] += [(x, -y) for x, y in CIRCLES[radius] if y]
     points = rng.sample(CIRCLES[radius], min(count, len(CIRCLES[radius])))
-    scale = rng.choice([1, 1, 100_000])
+    scale = rng.choice([1, 1, 100_000, LIMIT // radius])
     return [(scale * x, scale * y) for x, y in points] + [(0, 0)] * rng.randint(0, 2)
 
 
 def circles(rng, count):
     """Two circles, one of which may have moved, with equal points among them."""
     x, y = rng.choice([(0, 0), (1, 0), (2, 3)])
-    return circle(rng, count // 2) + [(x + a, y + b) for a, b in circle(rng, count // 2)]
+    moved = [(x + a, y + b) for a, b in circle(rng, count // 2)]
+    return circle(rng, count // 2) + [it for it in moved if max(map(abs, it)) <= LIMIT]
 
 
 def equal(rng, count):
@@ -81,22 +86,36 @@ def equal(rng, count):
 
 
 def extremes(rng, count):
-    ends = [-LIMIT, -LIMIT + 1, -1, 0, 1, LIMIT - 1, LIMIT]
+    ends = rng.choice([[-1, 0, 1], [-NEAR, -NEAR - 1, NEAR - 1, NEAR]]) + [-LIMIT, -LIMIT + 1, LIMIT - 1, LIMIT]
     return [(rng.choice(ends), rng.choice(ends)) for _ in range(count)]
 
 
 def nearly_a_line(rng, count):
     """Points beside a line, by one at most."""
-    return [(k, k // 3 + rng.randint(0, 1)) for k in (rng.randint(-LIMIT, LIMIT) for _ in range(count))]
+    reach = rng.choice([NEAR, LIMIT])
+    return [(k, k // 3 + rng.randint(0, 1)) for k in (rng.randint(-reach, reach) for _ in range(count))]
 
 
 def parabola(rng, count):
-    return [(k, k * k) for k in (rng.randint(-32768, 32768) for _ in range(count))]
+    reach = rng.choice([2**15, 2**26])
+    return [(k, k * k) for k in (rng.randint(-reach, reach) for _ in range(count))]
 
 
 def clusters(rng, count):
     centres = somewhere(rng, rng.randint(1, 4), LIMIT - 50)
     return [(x + rng.randint(-9, 9), y + rng.randint(-9, 9)) for x, y in (rng.choice(centres) for _ in range(count))]
+
+
+def corners(rng, count):
+    """Points near the corners of the whole range, and far from all others."""
+    return [tuple(rng.choice([-1, 1]) * (LIMIT - rng.randint(0, 3)) for _ in range(2)) for _ in range(count)]
+
+
+def cluster_and_far(rng, count):
+    """A cluster, and three points far from it."""
+    far = somewhere(rng, 3)
+    x, y = rng.choice([(0, 0), (LIMIT - 1000, -LIMIT)])
+    return [(x + a, y + b) for a, b in ((rng.randint(0, 1000), rng.randint(0, 1000)) for _ in range(count))] + far
 
 
 def few(rng, _):
@@ -106,7 +125,7 @@ def few(rng, _):
 
 KINDS = [
     somewhere, crowded, grid, slanted, line, line_and_more, sides, cross, circle, circles, equal, extremes, nearly_a_line, parabola,
-    clusters, few,
+    clusters, corners, cluster_and_far, few,
 ]
 
 

@@ -3,11 +3,11 @@
 const PAGE = 65536, FILL = 0xa5, GAP = 64;
 
 const lines = new TextEncoder().encode('triangle 0 1 2\nappend 3\ninsert 3 1\nout 3\nappend 4\ninsert 4 2\nflip 3\nwords\n');
-const points = new Uint8Array(Int32Array.of(0, 0, 4, 0, 0, 3, 5, 5, 2, 2, -9, 4, 4, 0).buffer);
+const points = new Uint8Array(BigInt64Array.of(0n, 0n, 4n, 0n, 0n, 3n, 5n, 5n, 2n, 2n, -9n, 4n, 4n, 0n).buffer);
 const CALLS = [
   { name: 'mesh_page_replies', given: lines, count: lines.length, flags: [], size: 1 },
   { name: 'mesh_page_picture', given: lines, count: lines.length, flags: [0], size: 1 },
-  { name: 'mesh_page_triangles', given: points, count: points.length / 8, flags: [], size: 12 },
+  { name: 'mesh_page_triangles', given: points, count: points.length / 16, flags: [], size: 12 },
 ];
 const ENOUGH = 2 ** 22;
 

@@ -2,7 +2,7 @@
 
 import { spawn } from 'node:child_process';
 import { once } from 'node:events';
-import { mkdtempSync, rmSync } from 'node:fs';
+import { existsSync, mkdtempSync, rmSync } from 'node:fs';
 import { tmpdir } from 'node:os';
 import { join } from 'node:path';
 
@@ -78,6 +78,7 @@ export async function startChromium(downloads) {
     },
     type: text => ask('Input.insertText', { text }),
     press: key => pressKey(key),
+    pressWithControl: key => pressKey(key, { text: '', modifiers: 2 }),
     /** Copies a text out of a field that is made for it, and pastes it where the focus was. */
     async paste(text) {
       await evaluate(`(() => {
@@ -100,13 +101,28 @@ export async function startChromium(downloads) {
     async doubleClick(place) {
       for (const clickCount of [1, 2]) for (const type of ['mousePressed', 'mouseReleased']) await mouse(type, place, { clickCount });
     },
-    setWidth: width => ask('Emulation.setDeviceMetricsOverride', { width, height: 844, deviceScaleFactor: 2, mobile: true }),
+    async tap([x, y]) {
+      await ask('Input.dispatchTouchEvent', { type: 'touchStart', touchPoints: [{ x, y }] });
+      await ask('Input.dispatchTouchEvent', { type: 'touchEnd', touchPoints: [] });
+    },
+    /** Has it play a phone, with a narrow window and without mouse. */
+    async setPhone() {
+      await ask('Emulation.setDeviceMetricsOverride', { width: 390, height: 844, deviceScaleFactor: 2, mobile: true });
+      await ask('Emulation.setTouchEmulationEnabled', { enabled: true });
+    },
     /** Has a script run in each page that is opened later, before the page's own. */
     runFirst: source => ask('Page.addScriptToEvaluateOnNewDocument', { source }),
     async end() {
       child.kill();
       await once(child, 'exit');
-      rmSync(profile, { recursive: true, force: true, maxRetries: 5 });
+      // Its helpers may still write there for a while.
+      for (let tries = 0; tries < 50 && existsSync(profile); tries++) {
+        try {
+          rmSync(profile, { recursive: true, force: true });
+        } catch {
+          await new Promise(done => setTimeout(done, 100));
+        }
+      }
     },
   };
 }

@@ -60,9 +60,9 @@ function compareTriangles() {
 
 /** What `triangulate` has to refuse, and what it has to take. */
 function compareRanges() {
-  const most = 2 ** 30;
+  const most = 2 ** 53;
   same('the largest triangle', String(triangulate([[-most, -most], [most, -most], [0, most]])[0].sort()), '0,1,2');
-  for (const points of [[[0.5, 0]], [[most + 1, 0]], [[0, -most - 1]], [[2 ** 32, 0]], [[NaN, 0]], [[1]], [[1, 2, 3]], [['1', 2]]]) {
+  for (const points of [[[0.5, 0]], [[most + 2, 0]], [[0, -most - 2]], [[2 ** 64, 0]], [[Infinity, 0]], [[NaN, 0]], [[1]], [[1, 2, 3]], [['1', 2]]]) {
     try {
       faults.push(`${JSON.stringify(points)} is triangulated: ${JSON.stringify(triangulate(points))}`);
     } catch (error) {

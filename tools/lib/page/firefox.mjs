@@ -74,6 +74,7 @@ export async function startFirefox(downloads) {
       for (const letter of text) await type(letter);
     },
     press: key => type(KEYS[key] ?? key),
+    pressWithControl: key => type(CONTROL, key),
     async paste(text) {
       await runAsBrowser(`Cc['@mozilla.org/widget/clipboardhelper;1'].getService(Ci.nsIClipboardHelper).copyString(${JSON.stringify(text)});`);
       await type(CONTROL, 'v');

@@ -1,6 +1,7 @@
 // Steps through the page of a talk in headless Chromium: `node talk.mjs PAGE`. By arrow keys to the last line and back, and by a click: the
 // picture of the line that is marked is shown, and no other, and the line is in sight. Nothing may be wider than the window at 390 and at 1,280
-// pixels, nor go wrong on the console. Without scripts all pictures have to be there, one below the other.
+// pixels, nor go wrong on the console, and numbers have to be legible; after a tap all of the picture is shown. Without scripts all pictures
+// have to be there, one below the other.
 
 import { resolve } from 'node:path';
 import { pathToFileURL } from 'node:url';
@@ -17,6 +18,9 @@ const SEEN = `(() => {
     broken: numbered(it => !it.querySelector('img').naturalWidth),
     count: steps.length,
     width: document.documentElement.scrollWidth,
+    // How high the numbers of half edges are, which are ten high in a picture's own measure.
+    digits: Math.min(...steps.map(it => it.querySelector('img')).map(it => [it.getBoundingClientRect().width, decodeURIComponent(it.src)])
+      .filter(([width]) => width > 0).map(([width, svg]) => 10 * width / svg.match(/viewBox="\\S+ \\S+ (\\S+)/)[1])),
     isLineInSight: steps.some(it => {
       const { left, top, bottom } = it.querySelector('kbd').getBoundingClientRect();
       return it.classList.contains('now') && [top + 1, bottom - 1].every(y => it.contains(document.elementFromPoint(left + 9, y)));
@@ -29,7 +33,7 @@ for (const width of [390, 1280]) {
   await browser.ask('Emulation.setScriptExecutionDisabled', { value: true });
   await browser.ask('Emulation.setDeviceMetricsOverride', { width, height: 800, deviceScaleFactor: 1, mobile: false });
   await browser.open(page);
-  const { count, shown, broken } = await browser.evaluate(SEEN);
+  const { count, shown, broken, digits } = await browser.evaluate(SEEN);
   if (count === 0 || shown.length !== count || broken.length) faults.push(`${width}: without scripts ${shown} of ${count} are shown, and not ${broken}`);
 
   await browser.ask('Emulation.setScriptExecutionDisabled', { value: false });
@@ -51,6 +55,11 @@ for (const width of [390, 1280]) {
   }
   await browser.evaluate('document.querySelectorAll("section > div")[2].click()');
   await expect(3, 'after a click');
+  const found = [digits, (await browser.evaluate(SEEN)).digits];
+  if (!(Math.min(...found) >= (width < 1000 ? 7 : 6))) faults.push(`${width}: numbers are ${found} pixels high`);
+  await browser.evaluate('document.querySelector(".now figure").click()');
+  const { width: wide, height } = await browser.evaluate('(({ width, height }) => ({ width, height }))(document.querySelector(".now img").getBoundingClientRect())');
+  if (wide > width || height > 800) faults.push(`${width}: after a tap the picture is ${wide} by ${height}`);
 }
 faults.push(...await browser.faults());
 await browser.end();

@@ -14,6 +14,11 @@ def summary(lines):
     return "\n".join(lines).strip().split("\n\n")[0].split("\n")
 
 
+def paragraph(text, start):
+    """The paragraph of a text that begins so, or nothing."""
+    return next((it for it in text.split("\n\n") if it.startswith(start)), "")
+
+
 def sentences(lines):
     """The sentences of a comment, each on one line, without drawings."""
     text = MEANT.sub("", DRAWING.sub("\n\n", "\n".join(lines)))

@@ -1,6 +1,6 @@
 // Opens pages in headless Chromium: `node look.mjs FOLDER [PAGE ..]`, all of a folder if none is named. Tells errors of a page or its
 // console, links and anchors that lead nowhere, what comes from another host, what is wider than the window at 390 and at 1,280 pixels,
-// whether search finds `flip_cw` and goes there, and whether it finds things by words. Ends with status 1 if it told anything.
+// whether search finds `flip_cw` and goes there, whether it finds things by words, and what paper has below clauses. Ends with status 1 if it told anything.
 
 import { readdirSync } from 'node:fs';
 import { resolve } from 'node:path';
@@ -9,7 +9,8 @@ import { startChromium } from '../page/chromium.mjs';
 
 const WIDTHS = [390, 1280];
 // Words that somebody types, with a name that has to be found.
-const SEARCHES = [['remove vertex', 'remove_vertex'], ['delaunay', 'Triangulation'], ['convex hull', 'is_part_of_convex_hull'], ['flip edge', 'flip_cw']];
+const SEARCHES = [['remove vertex', 'remove_vertex'], ['delaunay', 'Triangulation'], ['convex hull', 'is_part_of_convex_hull'], ['flip edge', 'flip_cw'], ['nearest', 'nearest_vertex'],
+  ['constrained', 'ConstrainedTriangulation'], ['voronoi', 'VoronoiFace'], ['IfOk', 'IfOk'], ['dcel insert', 'dcel_insert_into_triangle']];
 const [folder, ...named] = process.argv.slice(2);
 const root = `${pathToFileURL(resolve(folder))}/`;
 const pages = named.length ? named : readdirSync(folder, { recursive: true }).filter(it => it.endsWith('.html')).sort();
@@ -66,11 +67,19 @@ async function find(browser, words, name) {
   faults.push(`search for ${words} doesn't find ${name}`);
 }
 
+/** On paper each clause has below it what its words mean. */
+async function paper(browser) {
+  await browser.ask('Emulation.setEmulatedMedia', { media: 'print' });
+  const [clauses, said] = await browser.evaluate(`['.clauses pre', '.said li'].map(it => [...document.querySelectorAll(it)].map(it => it.getBoundingClientRect().bottom))`);
+  if (!clauses.length || !clauses.every((at, index) => said.some(it => it > at && !(it > clauses[index + 1])))) faults.push('on paper a clause has nothing below it');
+  await browser.ask('Emulation.setEmulatedMedia', { media: '' });
+}
+
 async function search(browser) {
   await type(browser, 'flip_cw');
   for (let tries = 0; tries < 100; tries++) {
     if (tries % 10 === 0) await browser.press('Enter');
-    if (await browser.evaluate('document.readyState === "complete" && location.pathname.endsWith("/flip_cw.html")')) return;
+    if (await browser.evaluate('document.readyState === "complete" && location.pathname.endsWith("/flip_cw.html")')) return paper(browser);
     await new Promise(done => setTimeout(done, 100));
   }
   faults.push('search for flip_cw goes nowhere');

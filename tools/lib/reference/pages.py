@@ -3,17 +3,23 @@
 import re
 from html import escape
 from posixpath import dirname, relpath
+from urllib.parse import quote
 
 from pygments.lexers import RustLexer
 from pygments.token import STANDARD_TYPES
 
-from reference import prose
+from reference import prose, signs
+from reference.comments import first_sentence
 from reference.project import Kit
 from reference.resting import fields_of
-from reference.sources import TYPE
+from reference.sources import TYPE, Item
 from reference.specs import Definition
 from reference.terms import Field, Inside, Unknown
 
+# How many lines a definition without a comment has at most that is shown in its place.
+SHORT = 4
+# How a comment begins that goes on from that of the definition before.
+GOES_ON = re.compile("the same|and ", re.IGNORECASE)
 FRAME = """<!doctype html>
 <html lang="en" data-root="{root}">
 <meta charset="utf-8">
@@ -44,9 +50,11 @@ class Page:
     def add(self, *parts):
         self.parts += parts
 
-    def link(self, target, text):
-        address = self.places.address(target)
-        return f'<a href="{escape(self.to(address))}">{text}</a>' if address else text
+    def link(self, target, text, title=""):
+        address = f"{signs.URL}#{quote(signs.sign_of(target))}" if isinstance(target, Kit) else self.places.address(target)
+        shown = ' class="sign"' if isinstance(target, Kit) else ""
+        shown += f' title="{escape(title.replace("`", ""))}"' if title else ""
+        return f'<a href="{escape(self.to(address))}"{shown}>{text}</a>' if address else text
 
     def comment(self, lines, home, owner, where):
         """A comment of a file of sources, with the paths in it resolved where it stands."""
@@ -67,7 +75,7 @@ class Page:
 
     def definition_comment(self, lines):
         """A comment of a file of definitions, in which code stands between backticks."""
-        return "<p>" + re.sub(r"`([^`]+)`", r"<code>\1</code>", escape(" ".join(lines))) + "</p>" if lines else ""
+        return f"<p>{marked(' '.join(lines))}</p>" if lines else ""
 
     def term(self, text, words, records):
         """A term, each word of it linked to what it names."""
@@ -82,16 +90,17 @@ class Page:
                 target = Inside(owner, target.name) if owner is not None else None
             else:
                 last = None
-            kit = isinstance(target, Kit)
-            parts += [escape(text[at : word.start]), f'<i title="{target.module}">{said}</i>' if kit else self.link(target, said)]
+            title = sentence(target)
+            is_unsaid = isinstance(target, Kit) and not title
+            parts += [escape(text[at : word.start]), f'<i title="{target.module}">{said}</i>' if is_unsaid else self.link(target, said, title)]
             at = word.end
         return "".join([*parts, escape(text[at:])])
 
-    def code(self, text, scope):
-        """Code of a declaration, in colors and with its types linked."""
+    def code(self, text, scope=None, lexer=RustLexer):
+        """Code in colors, and with its types linked where the scope is known."""
         parts = []
-        for kind, said in RustLexer().get_tokens(text):
-            target = scope.typed(said) if TYPE.fullmatch(said) else None
+        for kind, said in lexer().get_tokens(text):
+            target = scope.typed(said) if scope and TYPE.fullmatch(said) else None
             parts.append(f'<span class="{STANDARD_TYPES.get(kind, "")}">{self.link(target, escape(said)) if target else escape(said)}</span>')
         return f'<pre class="code">{"".join(parts).rstrip()}</pre>'
 
@@ -100,6 +109,36 @@ class Page:
         here = [f'<a href="{self.to(address)}">{escape(name)}</a>' for name, address in crumbs]
         root = relpath(".", dirname(self.url) or ".") + "/"
         return FRAME.format(root=root, title=escape(title), crumbs=" › ".join(here), body="\n".join(self.parts))
+
+
+def sentence(target):
+    """What is said of a word: of a definition its comment, or where it has none its text if that is short, or the head of its file."""
+    if isinstance(target, Kit):
+        return signs.said().get(signs.sign_of(target), "")
+    if isinstance(target, Inside):
+        inner = target.item.inside.get(target.name) if isinstance(target.item, Item) else None
+        said = inner and first_sentence(inner.doc) or sentence(target.item)
+        return said if inner or not said else f"of {target.item.name}: {said}"
+    if isinstance(target, Definition):
+        text = target.text.split("\n", target.kind == "definition")[-1] if target.size <= SHORT else ""
+        said = " ".join(target.comment) or text or " ".join(it.strip().removeprefix("-- ") for it in target.home.comment)
+        before = target.before() if GOES_ON.match(said) else None
+        return f"{said} (before it, `{before.name}`: {sentence(before)})" if before else said
+    return first_sentence(target.doc) if isinstance(target, Item) else ""
+
+
+def sentences(text, words):
+    """What is said of the words of a clause, each with these words: of its definitions, and where it has none of its signs."""
+    told = [(it.target, text[it.start : it.end], said) for it in words if not isinstance(it.target, Field) and (said := sentence(it.target))]
+    names = {}
+    for _, name, said in [it for it in told if not isinstance(it[0], Kit)] or told:
+        names.setdefault(said, {})[name] = None
+    return names
+
+
+def marked(text):
+    """A sentence in which code stands between backticks."""
+    return re.sub(r"`([^`]+)`", r"<code>\1</code>", escape(text))
 
 
 def only(name, records):

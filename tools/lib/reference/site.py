@@ -3,14 +3,20 @@
 import json
 import re
 import shutil
+from functools import partial
 from html import escape
 from pathlib import Path
+from urllib.parse import quote
 
-from reference import prose
+from reference import prose, signs
 from reference.comments import first_sentence, summary
 from reference.counts import believed
-from reference.pages import Page
+from reference.drawings import Drawings
+from reference.examples import SHOWN, examples
+from reference.exports import Exports
+from reference.pages import Page, marked, sentence, sentences
 from reference.places import Places
+from reference.project import Kit
 from reference.resting import Rests, Scope, clause_words, near
 from reference.shelves import shelves_of
 from reference.sources import Item, Source
@@ -18,15 +24,25 @@ from reference.terms import words_of
 
 KINDS = {"fn": "calls", "struct": "types", "enum": "types", "type": "types", "trait": "traits", "const": "constants", "static": "constants"}
 LOOKS = Path(__file__).resolve().parent / "looks"
-PICTURE = re.compile(r"pictures/(\w+\.svg)")
 # Where a reader begins.
 START = {
-    "Make a mesh": "spade_dcel::operations::new_triangle",
-    "Edit it": "spade_dcel::operations",
-    "Walk on it": "spade_dcel::handles::DirectedEdgeHandle",
-    "Triangulate points": "dcel_delaunay::Triangulation",
-    "Keep edges as constraints": "dcel_constrained::ConstrainedTriangulation",
+    "Make a mesh": ["spade_dcel::operations::new_triangle", "dcel_exchange::from_faces", "spade_dcel::operations::from_links"],
+    "Edit it": ["spade_dcel::operations", "dcel_convenience::insert_vertex", "dcel_convenience::remove_vertex"],
+    "Walk on it": ["spade_dcel::handles::VertexHandle", "spade_dcel::handles::DirectedEdgeHandle", "spade_dcel::handles::FaceHandle"],
+    "Triangulate points": ["dcel_delaunay::Triangulation", "dcel_delaunay::triangulate"],
+    "Keep edges as constraints": ["dcel_constrained::ConstrainedTriangulation"],
 }
+
+
+def breaking(name):
+    """A name that may go on in the next line behind each of its words."""
+    return name.replace("_", "_<wbr>")
+
+
+def unsaid(clause, words):
+    """The signs of a clause of which nothing is said, or all of it where nothing is said of any word."""
+    names = [it.target.name for it in words if isinstance(it.target, Kit) and not sentence(it.target)]
+    return names if sentences(clause.text, words) else [*names, "the whole clause"]
 
 
 class Site:
@@ -36,7 +52,9 @@ class Site:
         for call, rests in self.rests.items():
             self.faults += [f"{self.place(home)}: {name} resolves nowhere, says {call.path}" for home, name in rests.lost]
             self.places.inner |= {it for it in rests.items if isinstance(it, Item)}
-        self.pictures = self.pictured()
+        self.drawings, self.exports = Drawings(self.places), Exports(project)
+        self.examples, faults = examples(project, SHOWN)
+        self.faults += faults
 
     def calls(self):
         """Each call that has a page, or a place on one."""
@@ -47,15 +65,6 @@ class Site:
 
     def place(self, item):
         return f"{item.home.path.relative_to(self.project.root)}:{item.line}"
-
-    def pictured(self):
-        """The pictures before and after, by the calls that docs/PICTURES.md names."""
-        found = {}
-        for line in (self.project.root / "docs/PICTURES.md").read_text().split("\n"):
-            call, *pictures = line.strip("|").split(" | ") if line.startswith("| ") else [""]
-            for name in re.findall(r"`(\w+)[^`]*`", call) if len(pictures) == 2 else ():
-                found.setdefault(name, []).append((call.strip(), [PICTURE.findall(it) for it in pictures]))
-        return found
 
     def page(self, url):
         return Page(self.places, url, self.faults)
@@ -71,22 +80,34 @@ class Site:
 
     def clauses(self, page, title, clauses, words, records):
         if clauses:
-            page.add(f"<h3>{title}</h3>", "<dl class=clauses>")
+            page.add(f'<h3>{title} <a class=how href="{page.to(signs.URL)}">how to read this</a></h3>', "<dl class=clauses>")
             for it in clauses:
-                page.add(f"<dt>{escape(it.name)}</dt>", f"<dd><pre>{page.term(it.text, words(it), records)}</pre></dd>")
+                named = words(it)
+                said = "".join(f"<li><code>{escape(', '.join(of))}</code>: {marked(text)}" for text, of in sentences(it.text, named).items())
+                page.add(f"<dt>{escape(it.name)}</dt>", f"<dd><pre>{page.term(it.text, named, records)}</pre><ul class=said>{said}</ul></dd>")
             page.add("</dl>")
 
     def call(self, page, call, heading, anchor=None):
         """A call: its signature, what is said of it, what it asks and gives, and what that rests on."""
         scope, rests = Scope(call), self.rests[call]
-        page.add(f'<section id="{anchor}">' if anchor else "<section>", f"<{heading}>{call.name}</{heading}>", page.code(call.text, scope))
-        page.add(page.comment(call.doc, call.home, scope.owner, self.place(call)))
-        for said, pictures in self.pictures.get(call.name, ()) if call.owner is None else ():
-            shown = [f'<img src="{page.to("pictures/" + name)}" alt="{name[:-4]}">' for names in pictures for name in names]
-            page.add(f"<figure>{' → '.join(shown)}<figcaption>{prose.shown([said], str)}</figcaption></figure>")
+        page.add(f'<section id="{anchor}">' if anchor else "<section>", f"<{heading}>{breaking(call.name)}</{heading}>")
+        if self.exports.has(call):
+            self.faults += [] if self.exports.show(page, call.name) else [f"bindings/c/dcel.h: there is no {call.name}"]
+            self.drawings.show(page, call.name.removeprefix("dcel_"))
+            page.add("<h3>As the library exports it</h3>")
+        page.add(page.code(call.text, scope), page.comment(call.doc, call.home, scope.owner, self.place(call)))
+        letters = self.drawings.letters(call)
+        page.add(letters or "")
+        self.faults += [f"{self.place(call)}: nothing says what the letters of the drawing mean"] if letters is None else []
+        if call.owner is None:
+            self.drawings.show(page, call.name)
+        if example := self.examples.get(call):
+            page.add("<h3>Example</h3>", page.code(example.text, Scope(example.item)))
+            page.add(f"<p class=count>from {example.item.home.path.relative_to(self.project.root)}, which the gate runs</p>")
         for title, kind in (("For some", "ghost"), ("Asks", "requires"), ("Gives", "ensures")):
-            some = [it for it in call.clauses if it.kind.startswith(kind)]
-            self.clauses(page, title, some, lambda it: clause_words(call, it), rests.items)
+            some = {it: clause_words(call, it) for it in call.clauses if it.kind.startswith(kind)}
+            self.clauses(page, title, some, some.get, rests.items)
+            self.faults += [f"{call.path}, {clause.name}: nothing says what {it} means" for clause in some for it in unsaid(clause, some[clause])]
         for part, of in ((rests.meaning, "Rests"), (rests.values, "Its values rest")):
             if part:
                 links = " ".join(page.link(it, escape(it.name)) for it in part)
@@ -141,6 +162,8 @@ class Site:
         page, path = self.page(self.places.modules[module]), "::".join([module.crate, *module.parts])
         self.note(path, "module", page.url, module.doc)
         page.add(f"<h1>{path}</h1>", page.comment(module.doc, module, None, f"{module.path.name}:1"))
+        if path == "dcel_c":
+            self.exports.show_all(page)
         inner = [(name, it) for name, it in module.children.items() if it in self.places.modules]
         inner += [(name, it) for name, it in self.places.shown[module] if isinstance(it, Source)]
         self.listed(page, "Modules", inner)
@@ -156,7 +179,7 @@ class Site:
         if items:
             page.add(f"<h2>{title}</h2>", "<dl class=list>")
             for name, item in sorted(items, key=lambda it: it[0]):
-                self.entry(page, page.link(item, name), item, item if isinstance(item, Source) else item.home)
+                self.entry(page, page.link(item, breaking(name)), item, item if isinstance(item, Source) else item.home)
             page.add("</dl>")
 
     def definitions(self, spec):
@@ -174,6 +197,14 @@ class Site:
             page.add(f"<pre>{page.term(item.text, item.words, near(item))}</pre></section>")
         self.keep(page, f"{name} - {spec.parts[1]}", [(spec.parts[1], f"{spec.parts[1]}/index.html")])
 
+    def reading(self):
+        """The page of signs."""
+        page = self.page(signs.URL)
+        page.add(*signs.body())
+        for name, said in signs.said().items():
+            self.note(name, "sign", f"{page.url}#{quote(name)}", [said])
+        self.keep(page, "How to read a contract", [])
+
     def declarations(self, url, items):
         """The page of what isn't public in a file of sources, and contracts rest on."""
         page, home = self.page(url), items[0].home
@@ -189,23 +220,26 @@ class Site:
     def front(self):
         page = self.page("index.html")
         page.add((LOOKS / "front.html").read_text(), "<h2>Start here</h2>", "<dl class=list>")
-        for words, path in START.items():
-            crate, *rest = path.split("::")
-            item = self.project.crate(crate).find(rest)
-            if not self.places.address(item):
-                self.faults.append(f"index.html: '{words}' leads to {path}, which has no page")
-                continue
-            self.entry(page, page.link(item, words), item, item.home if isinstance(item, Item) else item)
+        for words, paths in START.items():
+            page.add(f"<dt>{words}</dt><dd>", *map(partial(self.started, page), paths), "</dd>")
         page.add("</dl>", "<h2>Crates</h2>")
         libraries = {it.crate: it for it in self.project.libraries()}
         for shelf, crates in shelves_of((self.project.root / "crates.txt").read_text()):
-            if shown := [libraries[it] for it in crates if it in libraries]:
+            if shown := [libraries[it] for it in reversed(crates) if it in libraries]:
                 page.add(f"<h3>{escape(shelf)}</h3>" if shelf else "", "<dl class=list>")
                 for it in shown:
                     self.entry(page, page.link(it, it.crate), it, it, f"<p class=count>{self.counted(it)}</p>")
                 page.add("</dl>")
         self.beliefs(page)
         self.files["index.html"] = page.written("Reference", [("reference", "index.html")])
+
+    def started(self, page, path):
+        """Where a reader begins, with the first sentence of what is said there."""
+        crate, *rest = path.split("::")
+        item = self.project.crate(crate).find(rest)
+        if self.places.address(item) is None:
+            self.faults.append(f"index.html: {path} has no page")
+        return f"<p>{page.link(item, rest[-1])}: {escape(first_sentence(item.doc))}</p>"
 
     def entry(self, page, link, item, home, more=""):
         """What a list says of an item, a module or a crate: the first paragraph of its comment."""
@@ -242,6 +276,7 @@ class Site:
             inner.setdefault(self.places.page(item), []).append(item)
         for url, items in inner.items():
             self.declarations(url, items)
+        self.reading()
         self.front()
         if self.faults:
             return

@@ -24,13 +24,18 @@ class Definition:
     lines: list = field(default_factory=list)
     indent: int = 0
 
-    @property
+    @functools.cached_property
     def text(self):
         return "\n".join(line[self.indent :] for line in self.lines)
 
     @property
     def size(self):
         return sum(bool(line.strip()) for line in without_comments(self.text).split("\n"))
+
+    def before(self):
+        """The definition before it in its file, or None."""
+        items = list(self.home.items.values())
+        return items[items.index(self) - 1] if self is not items[0] else None
 
     def parts(self):
         """Where its head and each further signature or clause begins and ends in its text."""
@@ -59,6 +64,7 @@ class Definition:
         kinds = [self.text[start:end].split()[0] for field_name, start, end in self.members() if field_name == name]
         return self.home.names(kinds[0]) if kinds else None
 
+    @functools.cache
     def fields(self):
         """The names of its fields, also of those that it opens."""
         opened = [it for start, end in self.parts() for it in self.opened(self.text[start:end])]

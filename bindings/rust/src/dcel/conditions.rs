@@ -1,6 +1,7 @@
 //! Tests of what edits ask. Any numbers may be given.
 
 use super::{Dcel, RemovalState};
+use crate::ffi::removal_state;
 use crate::handles::*;
 use crate::operations::IsolateVertexResult;
 use crate::refusal::Refusal;
@@ -135,8 +136,8 @@ impl<V, DE, UE, F> Dcel<V, DE, UE, F> {
     /// ```
     pub fn removal_state(&self) -> RemovalState {
         match self.mesh.removal_state() {
-            0 => RemovalState::Closed,
-            1 => RemovalState::Isolated,
+            removal_state::CLOSED => RemovalState::Closed,
+            removal_state::ISOLATED => RemovalState::Isolated,
             _ => RemovalState::Cleaned,
         }
     }

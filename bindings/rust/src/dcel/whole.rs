@@ -12,8 +12,7 @@ impl<V, DE, UE, F> Dcel<V, DE, UE, F> {
     /// # Errors
     ///
     /// [`Refusal::NoRoom`] if there are no numbers for them, and [`Refusal::OutOfMemory`] if the
-    /// links find no memory. If the values of vertices find none, the process aborts, as in
-    /// [`Vec::reserve`].
+    /// links or the values of vertices find no memory.
     ///
     /// ```
     /// let mut dcel = dcel::Dcel::<char>::new()?;
@@ -29,8 +28,7 @@ impl<V, DE, UE, F> Dcel<V, DE, UE, F> {
     ) -> Result<(), Refusal> {
         self.mesh
             .reserve_capacity(vertices as u64, undirected_edges as u64, faces as u64)?;
-        self.vertices.reserve(vertices);
-        Ok(())
+        self.vertices.try_reserve(vertices)
     }
 
     /// Takes out all vertices, all edges and all inner faces, and closes a removal. The outer face
@@ -78,6 +76,9 @@ impl<V, DE, UE, F> Dcel<V, DE, UE, F> {
     /// ```
     pub fn replace_by_triangle(&mut self, data: [V; 3]) -> Result<(), Refused<[V; 3]>> {
         let mut vertices = Slab::new();
+        if let Err(why) = vertices.try_reserve(data.len()) {
+            return Err(Refused { why, back: data });
+        }
         let [a, b, c] = data.map(|datum| vertices.insert(datum));
         if let Err(why) = self.mesh.new_triangle(a, b, c) {
             return Err(Refused {
@@ -216,19 +217,6 @@ impl<V, DE, UE, F> Dcel<V, DE, UE, F> {
     }
 }
 
-impl<V, DE, UE, F> Dcel<V, DE, UE, F> {
-    /// Takes the data of the vertices out, by number.
-    pub(crate) fn into_vertices(mut self) -> impl Iterator<Item = V> {
-        (0..self.num_vertices() as u32).map(move |number| {
-            let key = self
-                .mesh
-                .vertex_key(number)
-                .expect("the number is in range");
-            self.vertices.remove(key)
-        })
-    }
-}
-
 impl<V: Clone, DE: Clone, UE: Clone, F: Clone> Dcel<V, DE, UE, F> {
     /// Makes an equal mesh with clones of all data. [`Clone`] makes one too, and panics without
     /// memory.
@@ -249,10 +237,10 @@ impl<V: Clone, DE: Clone, UE: Clone, F: Clone> Dcel<V, DE, UE, F> {
     pub fn try_clone(&self) -> Result<Self, Refusal> {
         Ok(Self {
             mesh: self.mesh.try_clone()?,
-            vertices: self.vertices.clone(),
-            directed_edges: self.directed_edges.clone(),
-            undirected_edges: self.undirected_edges.clone(),
-            faces: self.faces.clone(),
+            vertices: self.vertices.try_clone()?,
+            directed_edges: self.directed_edges.try_clone()?,
+            undirected_edges: self.undirected_edges.try_clone()?,
+            faces: self.faces.try_clone()?,
         })
     }
 }

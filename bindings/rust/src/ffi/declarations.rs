@@ -1,13 +1,183 @@
-//! The functions of `bindings/c/dcel.h`.
+//! Made of `bindings/c/dcel.h` by `tools/bind --write`: its numbers, structs and functions.
 
-use super::{Fault, HalfEdgeEntry, Legalized, Opened, RawMesh, Removed};
+use super::HalfEdgeEntry;
+use std::ffi::c_void;
+use std::mem::offset_of;
 
-// SAFETY: these are the functions of the header, which tools/gate/check_header compares. The safe ones
-// ask for a mesh as the last call left it, which is what a `&mut RawMesh` leads to in this module,
-// and for places to write to, which references are. The others ask for slices too.
+/// What a call that returns an element's number returns where there is none.
+pub(crate) const NONE: u64 = u64::MAX;
+/// What stands for each link of a half edge that isn't live.
+pub(crate) const NO_LINK: u32 = u32::MAX;
+
+/// What calls return.
+#[allow(dead_code)]
+pub(crate) mod status {
+    pub(crate) const DONE: u32 = 0;
+    pub(crate) const NO_SUCH_VERTEX: u32 = 1;
+    pub(crate) const NO_SUCH_EDGE: u32 = 2;
+    pub(crate) const NO_SUCH_FACE: u32 = 3;
+    pub(crate) const REMOVAL_OPEN: u32 = 4;
+    pub(crate) const NO_REMOVAL: u32 = 5;
+    pub(crate) const GIVEN_UP: u32 = 6;
+    pub(crate) const SAME_VERTEX: u32 = 7;
+    pub(crate) const VERTEX_IN_USE: u32 = 8;
+    pub(crate) const EDGES_STAND: u32 = 9;
+    pub(crate) const NOT_LINE_END: u32 = 10;
+    pub(crate) const NOT_BRIDGE: u32 = 11;
+    pub(crate) const NOT_OUTER: u32 = 12;
+    pub(crate) const NOT_TRIANGLE: u32 = 13;
+    pub(crate) const WOULD_LOOP: u32 = 14;
+    pub(crate) const BAD_RING: u32 = 15;
+    pub(crate) const BAD_STRIP: u32 = 16;
+    pub(crate) const WRONG_LISTS: u32 = 17;
+    pub(crate) const NOT_PATH: u32 = 18;
+    pub(crate) const NO_ROOM: u32 = 19;
+    pub(crate) const OUT_OF_MEMORY: u32 = 20;
+    pub(crate) const NO_MESH: u32 = 21;
+    pub(crate) const SHORT: u32 = 22;
+    pub(crate) const FAULTY: u32 = 23;
+}
+
+/// How a legalization ended.
+#[allow(dead_code)]
+pub(crate) mod ended {
+    pub(crate) const LEGALIZED: u32 = 0;
+    pub(crate) const STOPPED: u32 = 1;
+    pub(crate) const MEMORY_RAN_OUT: u32 = 2;
+}
+
+/// How far a removal has come.
+#[allow(dead_code)]
+pub(crate) mod removal_state {
+    pub(crate) const CLOSED: u32 = 0;
+    pub(crate) const ISOLATED: u32 = 1;
+    pub(crate) const CLEANED: u32 = 2;
+}
+
+/// What is wrong with links or faces that no mesh is made of. With links it is the first that is
+/// wrong, in this order, but that the three ranges are looked for together, and so are ONE_END,
+/// APART and LEAVES_FACE. Places are those of faces in `counts`.
+#[allow(dead_code)]
+pub(crate) mod fault_kind {
+    pub(crate) const LENGTHS: u32 = 1;
+    pub(crate) const TOO_MANY: u32 = 2;
+    pub(crate) const NO_FACE: u32 = 3;
+    pub(crate) const MORE_FACES: u32 = 4;
+    pub(crate) const NEXT_OUT_OF_RANGE: u32 = 5;
+    pub(crate) const ORIGIN_OUT_OF_RANGE: u32 = 6;
+    pub(crate) const FACE_OUT_OF_RANGE: u32 = 7;
+    pub(crate) const TWO_LEAD_TO: u32 = 8;
+    pub(crate) const ONE_END: u32 = 9;
+    pub(crate) const APART: u32 = 10;
+    pub(crate) const LEAVES_FACE: u32 = 11;
+    pub(crate) const FACE_IN_PARTS: u32 = 12;
+    pub(crate) const VERTEX_IN_PARTS: u32 = 13;
+    pub(crate) const UNUSED_FACE: u32 = 14;
+    pub(crate) const NOT_CONNECTED: u32 = 15;
+    pub(crate) const NOT_SPHERE: u32 = 16;
+    pub(crate) const OTHER_COUNT: u32 = 17;
+    pub(crate) const FEW_CORNERS: u32 = 18;
+    pub(crate) const TOO_MANY_CORNERS: u32 = 19;
+    pub(crate) const NO_VERTEX: u32 = 20;
+    pub(crate) const SIDE_AT_ONE: u32 = 21;
+    pub(crate) const SIDE_TWICE: u32 = 22;
+    pub(crate) const BORDER_TWICE: u32 = 23;
+}
+
+/// The names of statuses, by number.
+#[cfg(test)]
+pub(crate) const STATUS_NAMES: [&str; 24] = [
+    "Done",
+    "NoSuchVertex",
+    "NoSuchEdge",
+    "NoSuchFace",
+    "RemovalOpen",
+    "NoRemoval",
+    "GivenUp",
+    "SameVertex",
+    "VertexInUse",
+    "EdgesStand",
+    "NotLineEnd",
+    "NotBridge",
+    "NotOuter",
+    "NotTriangle",
+    "WouldLoop",
+    "BadRing",
+    "BadStrip",
+    "WrongLists",
+    "NotPath",
+    "NoRoom",
+    "OutOfMemory",
+    "NoMesh",
+    "Short",
+    "Faulty",
+];
+
+/// A mesh, or none: zero bytes are one that isn't open. The fields are the library's. C's
+/// `dcel_mesh`.
+#[repr(C)]
+pub(super) struct RawMesh {
+    pub(super) at: *mut c_void,
+    pub(super) is_open: bool,
+}
+
+// HalfEdgeEntry is C's `dcel_half_edge`.
+const _: () = {
+    assert!(offset_of!(HalfEdgeEntry, next) == 0);
+    assert!(offset_of!(HalfEdgeEntry, prev) == 4);
+    assert!(offset_of!(HalfEdgeEntry, origin) == 8);
+    assert!(offset_of!(HalfEdgeEntry, face) == 12);
+    assert!(size_of::<HalfEdgeEntry>() == 16);
+};
+
+/// A vertex that was taken out: its datum, and the old number of the vertex that has its number
+/// now, DCEL_NONE if none does. C's `dcel_removed`.
+#[repr(C)]
+#[derive(Clone, Copy, Default)]
+pub(crate) struct Removed {
+    pub(crate) datum: u64,
+    pub(crate) moved: u64,
+}
+
+/// A removal that was opened: how many edges and faces it has given up, how many edges it has
+/// added, and the number of the first of these. The others follow it. C's `dcel_opened`.
+#[repr(C)]
+#[derive(Clone, Copy, Default)]
+pub(crate) struct Opened {
+    pub(crate) edges: u64,
+    pub(crate) faces: u64,
+    pub(crate) new_edges: u64,
+    pub(crate) smallest_new_edge: u64,
+}
+
+/// How many edges were flipped, and an enum dcel_ended. C's `dcel_legalized`.
+#[repr(C)]
+#[derive(Clone, Copy, Default)]
+pub(crate) struct Legalized {
+    pub(crate) flips: u64,
+    pub(crate) ended: u32,
+}
+
+/// A fault: a dcel_fault_kind, and 0 for what that doesn't speak of. C's `dcel_fault`.
+#[repr(C)]
+#[derive(Clone, Copy, Default)]
+pub(crate) struct Fault {
+    pub(crate) kind: u32,
+    pub(crate) number: u64,
+    pub(crate) other: u64,
+    pub(crate) from: u64,
+    pub(crate) to: u64,
+}
+
+/// With it what uses the crate is linked with no library of another version than the crate's.
+#[used]
+static VERSION_WANTED: extern "C" fn() -> u32 = dcel_version_0_2_0;
+
+// SAFETY: these are the functions of the header. The safe ones ask for a mesh as the last call left it,
+// which is what a `&mut RawMesh` leads to in this module, and for places to write to, which
+// references are. The others ask for slices too.
 unsafe extern "C" {
     pub(super) safe fn dcel_version_0_2_0() -> u32;
-
     pub(super) safe fn dcel_new(mesh: &mut RawMesh) -> u32;
     pub(super) safe fn dcel_free(mesh: &mut RawMesh);
     pub(super) safe fn dcel_clone(from: &mut RawMesh, to: &mut RawMesh) -> u32;
@@ -18,7 +188,6 @@ unsafe extern "C" {
         undirected_edges: u64,
         faces: u64,
     ) -> u32;
-
     pub(super) fn dcel_from_links(
         mesh: &mut RawMesh,
         half_edges: *const HalfEdgeEntry,
@@ -39,12 +208,10 @@ unsafe extern "C" {
         counts_len: usize,
         fault: &mut Fault,
     ) -> u32;
-
     pub(super) safe fn dcel_num_vertices(mesh: &mut RawMesh) -> u64;
     pub(super) safe fn dcel_num_directed_edges(mesh: &mut RawMesh) -> u64;
     pub(super) safe fn dcel_num_undirected_edges(mesh: &mut RawMesh) -> u64;
     pub(super) safe fn dcel_num_faces(mesh: &mut RawMesh) -> u64;
-
     pub(super) safe fn dcel_next(mesh: &mut RawMesh, edge: u32) -> u64;
     pub(super) safe fn dcel_prev(mesh: &mut RawMesh, edge: u32) -> u64;
     pub(super) safe fn dcel_ccw(mesh: &mut RawMesh, edge: u32) -> u64;
@@ -61,7 +228,6 @@ unsafe extern "C" {
         half_edges_len: usize,
         needed: &mut u64,
     ) -> u32;
-
     pub(super) safe fn dcel_vertex_data(mesh: &mut RawMesh, vertex: u32, datum: &mut u64) -> u32;
     pub(super) safe fn dcel_directed_edge_data(
         mesh: &mut RawMesh,
@@ -82,7 +248,6 @@ unsafe extern "C" {
         datum: u64,
     ) -> u32;
     pub(super) safe fn dcel_update_face(mesh: &mut RawMesh, face: u32, datum: u64) -> u32;
-
     pub(super) safe fn dcel_append_unconnected_vertex(
         mesh: &mut RawMesh,
         datum: u64,
@@ -111,8 +276,7 @@ unsafe extern "C" {
         edge: u32,
         vertex: u32,
     ) -> u32;
-    pub(super) safe fn dcel_insert_into_triangle(mesh: &mut RawMesh, vertex: u32, face: u32)
-    -> u32;
+    pub(super) safe fn dcel_insert_into_triangle(mesh: &mut RawMesh, vertex: u32, face: u32) -> u32;
     pub(super) safe fn dcel_split_half_edge(
         mesh: &mut RawMesh,
         edge: u32,
@@ -134,7 +298,6 @@ unsafe extern "C" {
         edges_len: usize,
         legalized: &mut Legalized,
     ) -> u32;
-
     pub(super) fn dcel_isolate_vertex_and_fill_hole(
         mesh: &mut RawMesh,
         border_loop: *const u32,
@@ -184,7 +347,6 @@ unsafe extern "C" {
         removed: &mut Removed,
     ) -> u32;
     pub(super) safe fn dcel_removal_state(mesh: &mut RawMesh) -> u32;
-
     pub(super) safe fn dcel_is_live_vertex(mesh: &mut RawMesh, vertex: u32) -> bool;
     pub(super) safe fn dcel_is_live_edge(mesh: &mut RawMesh, undirected_edge: u32) -> bool;
     pub(super) safe fn dcel_is_live_face(mesh: &mut RawMesh, face: u32) -> bool;
@@ -221,13 +383,11 @@ unsafe extern "C" {
         vertex: u32,
         face: u32,
     ) -> bool;
-    pub(super) safe fn dcel_can_split_half_edge(mesh: &mut RawMesh, edge: u32, vertex: u32)
-    -> bool;
+    pub(super) safe fn dcel_can_split_half_edge(mesh: &mut RawMesh, edge: u32, vertex: u32) -> bool;
     pub(super) safe fn dcel_can_split_edge(mesh: &mut RawMesh, edge: u32, vertex: u32) -> bool;
     pub(super) safe fn dcel_can_flip(mesh: &mut RawMesh, undirected_edge: u32) -> bool;
     pub(super) safe fn dcel_can_swap_remove(mesh: &mut RawMesh, vertex: u32) -> bool;
     pub(super) safe fn dcel_can_remove_degenerate(mesh: &mut RawMesh, vertex: u32) -> bool;
-
     pub(super) fn dcel_is_border_loop(
         mesh: &mut RawMesh,
         border_loop: *const u32,

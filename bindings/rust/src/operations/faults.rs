@@ -1,6 +1,6 @@
 //! Why no mesh is made of links or faces.
 
-use crate::ffi::Fault;
+use crate::ffi::{Fault, fault_kind};
 use std::error::Error;
 use std::fmt;
 
@@ -71,23 +71,23 @@ impl LinksFault {
     fn of(fault: &Fault) -> Self {
         let number = fault.number as usize;
         match fault.kind {
-            1 => Self::Lengths,
-            2 => Self::TooMany,
-            3 => Self::NoFace,
-            4 => Self::MoreFaces,
-            5 => Self::NextOutOfRange(number),
-            6 => Self::OriginOutOfRange(number),
-            7 => Self::FaceOutOfRange(number),
-            8 => Self::TwoLeadTo(number),
-            9 => Self::OneEnd(number),
-            10 => Self::Apart(number),
-            11 => Self::LeavesFace(number),
-            12 => Self::FaceInParts(number),
-            13 => Self::VertexInParts(number),
-            14 => Self::UnusedFace(number),
-            15 => Self::NotConnected(number),
+            fault_kind::LENGTHS => Self::Lengths,
+            fault_kind::TOO_MANY => Self::TooMany,
+            fault_kind::NO_FACE => Self::NoFace,
+            fault_kind::MORE_FACES => Self::MoreFaces,
+            fault_kind::NEXT_OUT_OF_RANGE => Self::NextOutOfRange(number),
+            fault_kind::ORIGIN_OUT_OF_RANGE => Self::OriginOutOfRange(number),
+            fault_kind::FACE_OUT_OF_RANGE => Self::FaceOutOfRange(number),
+            fault_kind::TWO_LEAD_TO => Self::TwoLeadTo(number),
+            fault_kind::ONE_END => Self::OneEnd(number),
+            fault_kind::APART => Self::Apart(number),
+            fault_kind::LEAVES_FACE => Self::LeavesFace(number),
+            fault_kind::FACE_IN_PARTS => Self::FaceInParts(number),
+            fault_kind::VERTEX_IN_PARTS => Self::VertexInParts(number),
+            fault_kind::UNUSED_FACE => Self::UnusedFace(number),
+            fault_kind::NOT_CONNECTED => Self::NotConnected(number),
             kind => {
-                debug_assert_eq!(kind, 16);
+                debug_assert_eq!(kind, fault_kind::NOT_SPHERE);
                 Self::NotSphere(number)
             }
         }
@@ -230,13 +230,13 @@ impl FacesError {
         } = fault;
         let [number, other, from, to] = [number, other, from, to].map(|it| it as usize);
         match fault.kind {
-            18 => Self::FewCorners(number),
+            fault_kind::FEW_CORNERS => Self::FewCorners(number),
             // The counts differ from the corners only if one has no room in 32 bits.
-            17 | 19 => Self::TooManyCorners,
-            20 => Self::NoVertex(number, from),
-            21 => Self::OneEnd(number, from),
-            22 => Self::SideTwice(number, other, from, to),
-            23 => Self::BorderTwice(number),
+            fault_kind::OTHER_COUNT | fault_kind::TOO_MANY_CORNERS => Self::TooManyCorners,
+            fault_kind::NO_VERTEX => Self::NoVertex(number, from),
+            fault_kind::SIDE_AT_ONE => Self::OneEnd(number, from),
+            fault_kind::SIDE_TWICE => Self::SideTwice(number, other, from, to),
+            fault_kind::BORDER_TWICE => Self::BorderTwice(number),
             _ => Self::Links(LinksFault::of(&fault)),
         }
     }
@@ -268,6 +268,10 @@ impl fmt::Display for FacesError {
             Self::BorderTwice(vertex) => {
                 write!(f, "two sides without a neighbor end at vertex {vertex}")
             }
+            Self::Links(LinksFault::UnusedFace(0)) => write!(
+                f,
+                "no side is left for the outer face: of a closed surface, leave one face out"
+            ),
             Self::Links(fault) => write!(f, "no mesh has these faces: {fault}"),
             Self::OutOfMemory => write!(f, "there was no memory"),
         }

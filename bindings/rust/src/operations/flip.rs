@@ -1,5 +1,6 @@
 //! Flips.
 
+use crate::ffi::ended;
 use crate::handles::FixedUndirectedEdgeHandle;
 use crate::{Dcel, Refusal};
 
@@ -105,8 +106,8 @@ pub fn legalize_by_number<V, DE, UE, F>(
     let legalized = dcel.mesh.legalize_by_number(max_flips as u64, edges)?;
     let flips = legalized.flips as usize;
     Ok(match legalized.ended {
-        0 => Legalized::Done { flips },
-        1 => Legalized::Stopped { flips },
+        ended::LEGALIZED => Legalized::Done { flips },
+        ended::STOPPED => Legalized::Stopped { flips },
         _ => Legalized::OutOfMemory { flips },
     })
 }

@@ -1,10 +1,10 @@
 //! Meshes that are given, by their links or their faces.
 
 use super::faults::{FacesError, LinksError};
-use crate::Dcel;
-use crate::ffi::{HalfEdgeEntry, Mesh};
+use crate::ffi::{Fault, HalfEdgeEntry, Mesh};
 use crate::handles::FixedVertexHandle;
-use crate::slab::{Slab, Values};
+use crate::slab::{Slab, Values, no_memory};
+use crate::{Dcel, Refusal};
 use std::error::Error;
 use std::fmt;
 
@@ -70,22 +70,31 @@ pub type RefusedFaces<V> = RefusedGiven<FacesError, Vec<V>>;
 /// ```
 pub fn from_links<V, DE: Default, UE: Default, F: Default>(
     half_edges: &[HalfEdgeEntry],
-    vertices: Vec<V>,
-    faces: Vec<F>,
+    mut vertices: Vec<V>,
+    mut faces: Vec<F>,
 ) -> Result<Dcel<V, DE, UE, F>, RefusedLinks<V, F>> {
-    let (mut vertex_values, mut face_values) = (Slab::new(), Values::default());
-    let vertices = insert_all(vertices, |value| vertex_values.insert(value));
-    let faces = insert_all(faces, |value| face_values.insert(value));
-    match Mesh::from_links(half_edges, &vertices, &faces) {
-        Ok(mesh) => Ok(of_mesh(mesh, vertex_values, face_values)),
+    match made_of_links(half_edges, &mut vertices, &mut faces) {
+        Ok(dcel) => Ok(dcel),
         Err(fault) => Err(RefusedGiven {
             reason: LinksError::of(fault),
-            back: (
-                insert_back(vertices, |key| vertex_values.remove(key)),
-                insert_back(faces, |key| face_values.take(key)),
-            ),
+            back: (vertices, faces),
         }),
     }
+}
+
+/// Makes the mesh, and takes the values only when it is made.
+fn made_of_links<V, DE: Default, UE: Default, F: Default>(
+    half_edges: &[HalfEdgeEntry],
+    vertices: &mut Vec<V>,
+    faces: &mut Vec<F>,
+) -> Result<Dcel<V, DE, UE, F>, Option<Fault>> {
+    let (mut vertex_values, mut face_values) = (Slab::new(), Values::default());
+    let vertex_keys = vertex_values.try_keys(vertices.len()).map_err(no_fault)?;
+    let face_keys = face_values.try_keys(faces.len()).map_err(no_fault)?;
+    let mesh = Mesh::from_links(half_edges, &vertex_keys, &face_keys)?;
+    vertex_values.insert_all(vertices);
+    face_values.insert_all(faces);
+    Ok(of_mesh(mesh, vertex_values, face_values))
 }
 
 /// Makes the mesh of faces, each the list of its corners, counterclockwise, with these values of
@@ -116,34 +125,49 @@ pub fn from_links<V, DE: Default, UE: Default, F: Default>(
 /// assert_eq!(refused.back, ['a', 'b', 'c']);
 /// ```
 pub fn from_faces<V, DE: Default, UE: Default, F: Default, C: AsRef<[FixedVertexHandle]>>(
-    vertices: Vec<V>,
+    mut vertices: Vec<V>,
     faces: impl IntoIterator<Item = C>,
 ) -> Result<Dcel<V, DE, UE, F>, RefusedFaces<V>> {
-    let (mut corners, mut counts) = (Vec::new(), Vec::new());
-    for face in faces {
-        let face = face.as_ref();
-        corners.extend_from_slice(face);
-        counts.push(face.len() as u32);
-    }
-    let mut values = Slab::new();
-    let vertices = insert_all(vertices, |value| values.insert(value));
-    match Mesh::from_faces(&vertices, &corners, &counts) {
-        Ok(mesh) => Ok(of_mesh(mesh, values, Values::default())),
+    match made_of_faces(&mut vertices, faces) {
+        Ok(dcel) => Ok(dcel),
         Err(fault) => Err(RefusedGiven {
             reason: FacesError::of(fault),
-            back: insert_back(vertices, |key| values.remove(key)),
+            back: vertices,
         }),
     }
 }
 
-/// Takes values in, and returns their keys.
-fn insert_all<T>(values: Vec<T>, insert: impl FnMut(T) -> u64) -> Vec<u64> {
-    values.into_iter().map(insert).collect()
+/// Makes the mesh, and takes the values only when it is made.
+fn made_of_faces<V, DE: Default, UE: Default, F: Default, C: AsRef<[FixedVertexHandle]>>(
+    vertices: &mut Vec<V>,
+    faces: impl IntoIterator<Item = C>,
+) -> Result<Dcel<V, DE, UE, F>, Option<Fault>> {
+    let (corners, counts) = corners_of(faces).map_err(no_fault)?;
+    let mut values = Slab::new();
+    let keys = values.try_keys(vertices.len()).map_err(no_fault)?;
+    let mesh = Mesh::from_faces(&keys, &corners, &counts)?;
+    values.insert_all(vertices);
+    Ok(of_mesh(mesh, values, Values::default()))
 }
 
-/// Takes the values under the keys out again.
-fn insert_back<T>(keys: Vec<u64>, remove: impl FnMut(u64) -> T) -> Vec<T> {
-    keys.into_iter().map(remove).collect()
+/// Returns the corners of all faces in one row, and how many each has.
+fn corners_of<C: AsRef<[FixedVertexHandle]>>(
+    faces: impl IntoIterator<Item = C>,
+) -> Result<(Vec<FixedVertexHandle>, Vec<u32>), Refusal> {
+    let (mut corners, mut counts) = (Vec::new(), Vec::new());
+    for face in faces {
+        let face = face.as_ref();
+        corners.try_reserve(face.len()).map_err(no_memory)?;
+        counts.try_reserve(1).map_err(no_memory)?;
+        corners.extend_from_slice(face);
+        counts.push(face.len() as u32);
+    }
+    Ok((corners, counts))
+}
+
+/// Tells no fault where there was no memory.
+fn no_fault(_: Refusal) -> Option<Fault> {
+    None
 }
 
 fn of_mesh<V, DE: Default, UE: Default, F>(

@@ -22,7 +22,13 @@ pub fn append_unconnected_vertex<V, DE, UE, F>(
     dcel: &mut Dcel<V, DE, UE, F>,
     vertex: V,
 ) -> Result<FixedVertexHandle, Refused<V>> {
-    let key = dcel.vertices.insert(vertex);
+    let key = match dcel.vertices.try_insert(vertex) {
+        Ok(key) => key,
+        Err(back) => {
+            let why = Refusal::OutOfMemory;
+            return Err(Refused { why, back });
+        }
+    };
     match dcel.mesh.append_unconnected_vertex(key) {
         Ok(number) => Ok(FixedVertexHandle::of(number)),
         Err(why) => Err(Refused {

@@ -1,6 +1,6 @@
 //! New meshes.
 
-use super::grow::{append_unconnected_vertex, setup_initial_two_vertices};
+use super::grow::setup_initial_two_vertices;
 use crate::handles::FixedVertexHandle;
 use crate::{Dcel, Refusal, Refused};
 
@@ -62,34 +62,32 @@ pub fn new_triangle<V, DE: Default, UE: Default, F: Default>(
 /// # Ok::<(), dcel::Refusal>(())
 /// ```
 pub fn new_with_fixed_vertices<V, DE: Default, UE: Default, F: Default>(
-    vertices: Vec<V>,
+    mut vertices: Vec<V>,
     first_vertex: FixedVertexHandle,
     second_vertex: FixedVertexHandle,
 ) -> Result<Dcel<V, DE, UE, F>, Refused<Vec<V>>> {
-    let mut dcel = match Dcel::new() {
-        Ok(dcel) => dcel,
-        Err(why) => {
-            return Err(Refused {
-                why,
-                back: vertices,
-            });
+    match without_values(vertices.len(), first_vertex, second_vertex) {
+        Ok(mut dcel) => {
+            dcel.vertices.insert_all(&mut vertices);
+            Ok(dcel)
         }
-    };
-    let mut left = vertices.into_iter();
-    while let Some(datum) = left.next() {
-        if let Err(refused) = append_unconnected_vertex(&mut dcel, datum) {
-            let behind = [refused.back].into_iter().chain(left);
-            return Err(Refused {
-                why: refused.why,
-                back: dcel.into_vertices().chain(behind).collect(),
-            });
-        }
-    }
-    match setup_initial_two_vertices(&mut dcel, first_vertex, second_vertex) {
-        Ok(()) => Ok(dcel),
         Err(why) => Err(Refused {
             why,
-            back: dcel.into_vertices().collect(),
+            back: vertices,
         }),
     }
+}
+
+/// Makes the same mesh, whose vertices have the keys of values that are still to be put in.
+fn without_values<V, DE: Default, UE: Default, F: Default>(
+    count: usize,
+    first_vertex: FixedVertexHandle,
+    second_vertex: FixedVertexHandle,
+) -> Result<Dcel<V, DE, UE, F>, Refusal> {
+    let mut dcel = Dcel::new()?;
+    for key in dcel.vertices.try_keys(count)? {
+        dcel.mesh.append_unconnected_vertex(key)?;
+    }
+    setup_initial_two_vertices(&mut dcel, first_vertex, second_vertex)?;
+    Ok(dcel)
 }

@@ -1,9 +1,10 @@
 //! Many points inserted at once.
 
-ghost use Rattle.std.specs.Prelude.{◌≡◌, ◌≤◌, IfOk, OnOk, length, slice_get, slice_set};
+ghost use Rattle.std.specs.Prelude.{◌≡◌, ◌≤◌, IfErr, IfOk, OnOk, length, slice_get, slice_set};
 ghost use Rattle.std.specs.List.{FoldsTo};
-ghost use Rattle.dcel_delaunay.specs.Bulk.{AddsVertices, StandAt, StandsToo, counted};
-ghost use Rattle.dcel_delaunay.specs.Triangulated.{IsWhole, mesh_in};
+ghost use Rattle.dcel_delaunay.specs.Bulk.{AddsVertices, FailsToInsertAll, StandAt, StandsToo, counted};
+ghost use Rattle.dcel_delaunay.specs.Triangulated.{mesh_in};
+ghost use Rattle.dcel_planar.specs.Outcomes.{IsWholeMesh};
 
 use crate::insert::curve::insertion_order;
 use crate::triangulation::Triangulation;
@@ -22,14 +23,15 @@ impl<A: Allocator + Clone> Triangulation<A> {
         points: &[Point],
     ) -> Result<Vec<FixedVertexHandle, A>, InsertionError>
         ensures stand { IfOk result (λ vertices. StandAt (mesh_in self.new) points.now vertices.items) }
-        ensures whole { OnOk result (IsWhole self.new) }
+        ensures whole { OnOk result (IsWholeMesh self.new.planar) }
+        ensures fails { IfErr result (FailsToInsertAll self.old.planar self.new.planar) }
         ensures adds { AddsVertices (mesh_in self.old) (mesh_in self.new) points.now (length points.now) }
         ensures edges { (mesh_in self.old).shape.edges ≤ (mesh_in self.new).shape.edges }
     {
         self.insert_all_with(alloc, points, |_| ())
     }
 
-    /// Inserts points as [`insert_all`](Self::insert_all) does, and tells after each of them how
+    /// Inserts points as [`insert_all`](Self::insert_all) does, and reports after each of them how
     /// many are inserted: 1, 2, and so on.
     pub fn insert_all_with<P: FnMut(usize)>(
         &mut self,
@@ -39,7 +41,8 @@ impl<A: Allocator + Clone> Triangulation<A> {
     ) -> Result<Vec<FixedVertexHandle, A>, InsertionError>
         requires progress { P.IsAlwaysCallable progress }
         ensures stand { IfOk result (λ vertices. StandAt (mesh_in self.new) points.now vertices.items) }
-        ensures whole { OnOk result (IsWhole self.new) }
+        ensures whole { OnOk result (IsWholeMesh self.new.planar) }
+        ensures fails { IfErr result (FailsToInsertAll self.old.planar self.new.planar) }
         ensures adds { AddsVertices (mesh_in self.old) (mesh_in self.new) points.now (length points.now) }
         ensures edges { (mesh_in self.old).shape.edges ≤ (mesh_in self.new).shape.edges }
         ensures told { OnOk result ((last : P) × FoldsTo (λ before done after. P.step before done tt after) progress (counted 1 (length points.now)) last) }
@@ -65,9 +68,10 @@ impl<A: Allocator> Triangulation<A> {
         number: usize,
         vertices: &mut Vec<FixedVertexHandle, A>,
     ) -> Result<(), InsertionError>
-        requires { IsWhole self.old }
+        requires { IsWholeMesh self.old.planar }
         ensures stands { OnOk result (StandsToo (mesh_in self.old) (mesh_in self.new) points.now number vertices.old.items vertices.new.items) }
-        ensures whole { OnOk result (IsWhole self.new) }
+        ensures whole { OnOk result (IsWholeMesh self.new.planar) }
+        ensures fails { IfErr result (FailsToInsertAll self.old.planar self.new.planar) }
         ensures adds { AddsVertices (mesh_in self.old) (mesh_in self.new) points.now 1 }
         ensures edges { (mesh_in self.old).shape.edges ≤ (mesh_in self.new).shape.edges }
     {

@@ -92,11 +92,11 @@ fn nearer_neighbor<UE, A: Allocator>(
 
 /// Returns the square of the distance from a vertex to a point.
 #[inline]
-fn squared_distance<UE, A: Allocator>(vertex: Vertex<'_, UE, A>, point: Point) -> u64
+fn squared_distance<UE, A: Allocator>(vertex: Vertex<'_, UE, A>, point: Point) -> u128
     ensures { pos result ≡ squared_distance_of (point_at (mesh_behind vertex.entry) (number_of vertex.entry)) point }
 {
     let at = point_of(vertex);
-    let x = at.x.abs_diff(point.x);
-    let y = at.y.abs_diff(point.y);
+    let x = at.x.abs_diff(point.x) as u128;
+    let y = at.y.abs_diff(point.y) as u128;
     x * x + y * y
 }

@@ -7,12 +7,12 @@ ghost use Rattle.dcel_maps.specs.Removals.{Closed};
 ghost use Rattle.dcel_maps.specs.Shapes.{IsLive};
 ghost use Rattle.dcel_maps.specs.Strips.{IsStripAround, strip_of};
 ghost use Rattle.spade_dcel.specs.Handles.{mesh_behind, number_of};
-ghost use Rattle.dcel_planar.specs.Growing.{HasHull, IsSound, Keeps};
-ghost use Rattle.dcel_delaunay.specs.Removing.{IsCorner, IsCutOff, IsGivenUp, LiesFlat};
+ghost use Rattle.dcel_planar.specs.Growing.{HasHull, IsDelaunayBut, Keeps};
+ghost use Rattle.dcel_delaunay.specs.Removing.{IsHullCorner, CutsOff, IsGivenUp, LiesFlat};
 
 use crate::remove::Due;
 use dcel_legalize::append_sides;
-use dcel_planar::{Edge, Mesh, Point, is_on, point_of, side};
+use dcel_planar::{Edge, Mesh, Point, point_of, side};
 use spade_dcel::handles::{FixedDirectedEdgeHandle, FixedUndirectedEdgeHandle, FixedVertexHandle};
 use spade_dcel::iterators::{CCWEdgesNextBackFn, CircularIterator};
 use spade_dcel::laws::every_mesh;
@@ -29,11 +29,11 @@ pub(crate) fn cut_off<A: Allocator + Clone, L: Allocator>(
     outside: FixedDirectedEdgeHandle,
     vertex: FixedVertexHandle,
 ) -> Result<IsolateVertexResult<A>, AllocError>
-    requires sound { IsSound dcel.old due.old.items }
-    requires corner { IsCorner dcel.old vertex outside }
+    requires sound { IsDelaunayBut dcel.old due.old.items }
+    requires corner { IsHullCorner dcel.old vertex outside }
     ensures given_up { IfOk result (λ opened. IsGivenUp dcel.old dcel.new vertex due.new.items opened) }
     ensures keeps { OnErr result (Keeps dcel.old dcel.new) }
-    ensures sound { OnErr result (IsSound dcel.new due.new.items) }
+    ensures sound { OnErr result (IsDelaunayBut dcel.new due.new.items) }
     ensures hull { OnErr result (HasHull dcel.new) }
 {
     every_mesh(dcel);
@@ -43,7 +43,7 @@ pub(crate) fn cut_off<A: Allocator + Clone, L: Allocator>(
     cut_strip(dcel, outside, vertex)
 }
 
-/// Gives up a corner that lies between its two neighbors on the hull, by a flip that leaves one flat
+/// Gives up a corner that is between its two neighbors on the hull, by a flip that leaves one flat
 /// triangle there, which goes with it.
 fn cut_off_flat<A: Allocator + Clone, L: Allocator>(
     dcel: &mut Mesh<A>,
@@ -51,12 +51,12 @@ fn cut_off_flat<A: Allocator + Clone, L: Allocator>(
     outside: FixedDirectedEdgeHandle,
     vertex: FixedVertexHandle,
 ) -> Result<IsolateVertexResult<A>, AllocError>
-    requires sound { IsSound dcel.old due.old.items }
-    requires corner { IsCorner dcel.old vertex outside }
+    requires sound { IsDelaunayBut dcel.old due.old.items }
+    requires corner { IsHullCorner dcel.old vertex outside }
     requires flat { LiesFlat dcel.old outside }
     ensures given_up { IfOk result (λ opened. IsGivenUp dcel.old dcel.new vertex due.new.items opened) }
     ensures keeps { OnErr result (Keeps dcel.old dcel.new) }
-    ensures sound { OnErr result (IsSound dcel.new due.new.items) }
+    ensures sound { OnErr result (IsDelaunayBut dcel.new due.new.items) }
     ensures hull { OnErr result (HasHull dcel.new) }
 {
     every_mesh(dcel);
@@ -89,13 +89,13 @@ fn turn_back<A: Allocator>(dcel: &mut Mesh<A>, edge: FixedUndirectedEdgeHandle)
     flip_cw(dcel, edge);
 }
 
-/// Returns whether the vertex where an outer half edge starts lies between its two neighbors on the
+/// Returns whether the vertex where an outer half edge starts is between its two neighbors on the
 /// hull.
 fn lies_flat<A: Allocator>(outside: Edge<'_, (), A>) -> bool
     requires { IsLive (mesh_behind outside).shape (number_of outside) }
     ensures { IsTrue result ↔ LiesFlat (mesh_behind outside.entry) (number_of outside.entry) }
 {
-    is_on(side(outside, point_of(outside.ccw().to())))
+    side(outside, point_of(outside.ccw().to())).is_on_line()
 }
 
 /// Cuts off the vertex where an outer half edge starts, with the triangles around it.
@@ -108,7 +108,7 @@ fn cut_strip<A: Allocator + Clone>(
 ) -> Result<IsolateVertexResult<A>, AllocError>
     requires closed { dcel.old.shape.removal ≡ Closed }
     requires around { IsStripAround dcel.old.shape vertex outside }
-    ensures cut { IfOk result (IsCutOff dcel.old dcel.new outside) }
+    ensures cut { IfOk result (CutsOff dcel.old dcel.new outside) }
     ensures refused { OnErr result (dcel.new ≡ dcel.old) }
 {
     every_mesh(dcel);

@@ -3,15 +3,15 @@
 ghost use Rattle.std.specs.Prelude.{◌≡◌, ◌↔◌, ◌<◌, ◌≤◌, ◌/◌, ℕ, IfNone, IfSome, IsTrue, OnOk};
 ghost use Rattle.dcel_maps.specs.Shapes.{IsMesh};
 ghost use Rattle.dcel_plane.specs.Plane.{TurnsLeft, point_at};
-ghost use Rattle.dcel_plane.specs.removal.Wheels.{CanTurn};
+ghost use Rattle.dcel_plane.specs.removal.Wheels.{CanFlipInPlane};
 ghost use Rattle.dcel_planar.specs.Corners.{StartsOutside};
-ghost use Rattle.dcel_planar.specs.Growing.{HasHull, IsSound, Keeps};
-ghost use Rattle.dcel_delaunay.specs.Removing.{HasNoneToTurn, IsInside, IsTurnable};
+ghost use Rattle.dcel_planar.specs.Growing.{HasHull, IsDelaunayBut, Keeps};
+ghost use Rattle.dcel_delaunay.specs.Removing.{HasNoneToTurn, IsInnerVertex, IsTurnable};
 
 use crate::remove::Due;
 use dcel_legalize::append_sides;
-use dcel_planar::{Mesh, Point, point_of};
-use dcel_predicates::{Side, orientation};
+use dcel_planar::{Mesh, Point, points_at};
+use dcel_predicates::orientation;
 use spade_dcel::handles::{FixedUndirectedEdgeHandle, FixedVertexHandle};
 use spade_dcel::laws::every_mesh;
 use spade_dcel::operations::flip_cw;
@@ -26,14 +26,14 @@ pub(crate) fn thin_out<A: Allocator, L: Allocator>(
     due: &mut Due<L>,
     vertex: FixedVertexHandle,
 ) -> Result<(), AllocError>
-    requires sound { IsSound dcel.old due.old.items }
+    requires sound { IsDelaunayBut dcel.old due.old.items }
     requires hull { HasHull dcel.old }
     requires vertex { vertex < dcel.old.shape.vertices }
     ensures keeps { Keeps dcel.old dcel.new }
     ensures same_edges { dcel.new.shape.edges ≡ dcel.old.shape.edges }
-    ensures sound { IsSound dcel.new due.new.items }
+    ensures sound { IsDelaunayBut dcel.new due.new.items }
     ensures hull { HasHull dcel.new }
-    ensures inside { IsInside dcel.old.shape vertex → IsInside dcel.new.shape vertex }
+    ensures inside { IsInnerVertex dcel.old.shape vertex → IsInnerVertex dcel.new.shape vertex }
     ensures outside { (h : ℕ) → StartsOutside dcel.old vertex h → StartsOutside dcel.new vertex h }
     ensures done { OnOk result (HasNoneToTurn dcel.new vertex) }
     ensures mesh { IsMesh dcel.new }
@@ -67,10 +67,10 @@ fn edge_to_turn<A: Allocator>(
     None
 }
 
-/// Returns whether an edge lies between two inner triangles and can be flipped, and both go round
+/// Returns whether an edge is between two inner triangles and can be flipped, and both go round
 /// counterclockwise then too.
 fn can_turn<A: Allocator>(dcel: &Mesh<A>, edge: FixedUndirectedEdgeHandle) -> bool
-    ensures { IsTrue result ↔ CanTurn (point_at dcel.now) dcel.now.shape edge }
+    ensures { IsTrue result ↔ CanFlipInPlane (point_at dcel.now) dcel.now.shape edge }
 {
     if !dcel.can_flip(edge) {
         return false;
@@ -79,17 +79,16 @@ fn can_turn<A: Allocator>(dcel: &Mesh<A>, edge: FixedUndirectedEdgeHandle) -> bo
     if half.is_part_of_convex_hull() {
         return false;
     }
-    let near = point_of(half.prev().from());
-    let far = point_of(half.rev().prev().from());
-    if !turns_left(near, far, point_of(half.to())) {
+    let points = points_at(dcel, edge);
+    if !turns_left(points.near, points.far, points.to) {
         return false;
     }
-    turns_left(far, near, point_of(half.from()))
+    turns_left(points.far, points.near, points.from)
 }
 
 /// Returns whether three points go round counterclockwise.
 pub(crate) fn turns_left(a: Point, b: Point, c: Point) -> bool
     ensures { IsTrue result ↔ TurnsLeft a b c }
 {
-    orientation(a, b, c) == Side::Left
+    orientation(a, b, c).is_on_left_side()
 }

@@ -7,8 +7,8 @@ ghost use Rattle.dcel_plane.specs.Edges.{edges_inserted};
 ghost use Rattle.dcel_plane.specs.Plane.{point_at};
 ghost use Rattle.dcel_plane.specs.removal.Wheels.{MakesTwo};
 ghost use Rattle.spade_dcel.specs.Handles.{mesh_behind, number_of};
-ghost use Rattle.dcel_planar.specs.Growing.{IsSound};
-ghost use Rattle.dcel_delaunay.specs.Removing.{BeginsBorder, IsFilled, IsGivenUp, IsThin};
+ghost use Rattle.dcel_planar.specs.Growing.{IsDelaunayBut};
+ghost use Rattle.dcel_delaunay.specs.Removing.{BeginsBorder, IsFilled, IsGivenUp, IsThinnedOut};
 
 use crate::remove::Due;
 use crate::remove::flips::turns_left;
@@ -27,8 +27,8 @@ pub(crate) fn fill<A: Allocator + Clone, L: Allocator>(
     due: &mut Due<L>,
     vertex: FixedVertexHandle,
 ) -> Result<IsolateVertexResult<A>, AllocError>
-    requires sound { IsSound dcel.old due.old.items }
-    requires thin { IsThin dcel.old vertex }
+    requires sound { IsDelaunayBut dcel.old due.old.items }
+    requires thin { IsThinnedOut dcel.old vertex }
     requires room { HasRoom dcel.old.shape 0 1 2 }
     ensures given_up { IfOk result (λ opened. IsGivenUp dcel.old dcel.new vertex due.new.items opened) }
     ensures refused { IfErr result (λ _. (dcel.new ≡ dcel.old) × (due.new.items ≡ due.old.items)) }
@@ -72,7 +72,7 @@ fn border_of<A: Allocator + Clone>(
     dcel: &Mesh<A>,
     vertex: FixedVertexHandle,
 ) -> Result<Vec<FixedDirectedEdgeHandle, A>, AllocError>
-    requires { IsThin dcel.now vertex }
+    requires { IsThinnedOut dcel.now vertex }
     ensures { IfOk result (λ border. IsFilled dcel.now vertex border.items) }
 {
     every_mesh(dcel);
@@ -99,7 +99,7 @@ fn border_of<A: Allocator + Clone>(
 
 /// Returns the out edge of the vertex at which the border loop begins.
 fn beginning<A: Allocator>(dcel: &Mesh<A>, vertex: FixedVertexHandle) -> FixedDirectedEdgeHandle
-    requires { IsThin dcel.now vertex }
+    requires { IsThinnedOut dcel.now vertex }
     ensures { BeginsBorder dcel.now vertex result }
 {
     every_mesh(dcel);

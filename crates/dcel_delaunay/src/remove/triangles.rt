@@ -1,10 +1,10 @@
 //! A vertex of triangles removed: its place filled or left to the outer face.
 
-ghost use Rattle.std.specs.Prelude.{◌≡◌, ◌⊎◌, ◌<◌, IfErr, IfOk, OnErr};
+ghost use Rattle.std.specs.Prelude.{◌⊎◌, ◌<◌, IfErr, IfOk, OnErr};
 ghost use Rattle.dcel_maps.specs.Conditions.{HasRoom};
 ghost use Rattle.dcel_planar.specs.Corners.{StartsOutside};
-ghost use Rattle.dcel_planar.specs.Growing.{HasHull, IsFlat, IsSound, Keeps};
-ghost use Rattle.dcel_delaunay.specs.Removing.{IsInside, Loses, MayKeep};
+ghost use Rattle.dcel_planar.specs.Growing.{HasHull, IsFlat, IsDelaunayBut, Keeps};
+ghost use Rattle.dcel_delaunay.specs.Removing.{FailsToCutOut, IsInnerVertex, Loses};
 
 use crate::errors::RemovalError;
 use crate::remove::Due;
@@ -24,13 +24,12 @@ pub(crate) fn remove_from_triangles<A: Allocator + Clone, L: Allocator>(
     due: &mut Due<L>,
     vertex: FixedVertexHandle,
 ) -> Result<Removed, RemovalError>
-    requires sound { IsSound dcel.old due.old.items }
+    requires sound { IsDelaunayBut dcel.old due.old.items }
     requires hull { HasHull dcel.old }
     requires vertex { vertex < dcel.old.shape.vertices }
     ensures loses { IfOk result (Loses dcel.old dcel.new vertex) }
-    ensures refused { IfErr result (MayKeep dcel.old dcel.new vertex) }
-    ensures due { IfErr result (λ e. e ≡ RemovalError.TooManyPoints → due.new.items ≡ due.old.items) }
-    ensures sound { IsSound dcel.new due.new.items }
+    ensures fails { IfErr result (FailsToCutOut dcel.old dcel.new due.old.items due.new.items vertex) }
+    ensures sound { IsDelaunayBut dcel.new due.new.items }
     ensures hull { IsFlat dcel.new ⊎ HasHull dcel.new }
 {
     match outside_of(dcel, vertex) {
@@ -46,13 +45,12 @@ fn remove_corner<A: Allocator + Clone, L: Allocator>(
     outside: FixedDirectedEdgeHandle,
     vertex: FixedVertexHandle,
 ) -> Result<Removed, RemovalError>
-    requires sound { IsSound dcel.old due.old.items }
+    requires sound { IsDelaunayBut dcel.old due.old.items }
     requires hull { HasHull dcel.old }
     requires outside { StartsOutside dcel.old vertex outside }
     ensures loses { IfOk result (Loses dcel.old dcel.new vertex) }
-    ensures refused { IfErr result (MayKeep dcel.old dcel.new vertex) }
-    ensures due { IfErr result (λ e. e ≡ RemovalError.TooManyPoints → due.new.items ≡ due.old.items) }
-    ensures sound { IsSound dcel.new due.new.items }
+    ensures fails { IfErr result (FailsToCutOut dcel.old dcel.new due.old.items due.new.items vertex) }
+    ensures sound { IsDelaunayBut dcel.new due.new.items }
     ensures hull { IsFlat dcel.new ⊎ HasHull dcel.new }
 {
     let Ok(removed) = cut_out_corner(dcel, due, outside, vertex) else {
@@ -61,20 +59,19 @@ fn remove_corner<A: Allocator + Clone, L: Allocator>(
     Ok(removed)
 }
 
-/// Removes a vertex that lies inside of triangles.
+/// Removes a vertex that is inside of triangles.
 fn remove_inside<A: Allocator + Clone, L: Allocator>(
     dcel: &mut Mesh<A>,
     due: &mut Due<L>,
     vertex: FixedVertexHandle,
 ) -> Result<Removed, RemovalError>
-    requires sound { IsSound dcel.old due.old.items }
+    requires sound { IsDelaunayBut dcel.old due.old.items }
     requires hull { HasHull dcel.old }
     requires vertex { vertex < dcel.old.shape.vertices }
-    requires inside { IsInside dcel.old.shape vertex }
+    requires inside { IsInnerVertex dcel.old.shape vertex }
     ensures loses { IfOk result (Loses dcel.old dcel.new vertex) }
-    ensures refused { IfErr result (MayKeep dcel.old dcel.new vertex) }
-    ensures due { IfErr result (λ e. e ≡ RemovalError.TooManyPoints → due.new.items ≡ due.old.items) }
-    ensures sound { IsSound dcel.new due.new.items }
+    ensures fails { IfErr result (FailsToCutOut dcel.old dcel.new due.old.items due.new.items vertex) }
+    ensures sound { IsDelaunayBut dcel.new due.new.items }
     ensures hull { IsFlat dcel.new ⊎ HasHull dcel.new }
 {
     if !dcel.has_room(0, 1, 2) {
@@ -94,14 +91,14 @@ fn cut_out<A: Allocator + Clone, L: Allocator>(
     due: &mut Due<L>,
     vertex: FixedVertexHandle,
 ) -> Result<Removed, AllocError>
-    requires sound { IsSound dcel.old due.old.items }
+    requires sound { IsDelaunayBut dcel.old due.old.items }
     requires hull { HasHull dcel.old }
     requires vertex { vertex < dcel.old.shape.vertices }
-    requires inside { IsInside dcel.old.shape vertex }
+    requires inside { IsInnerVertex dcel.old.shape vertex }
     requires room { HasRoom dcel.old.shape 0 1 2 }
     ensures loses { IfOk result (Loses dcel.old dcel.new vertex) }
     ensures keeps { OnErr result (Keeps dcel.old dcel.new) }
-    ensures sound { IsSound dcel.new due.new.items }
+    ensures sound { IsDelaunayBut dcel.new due.new.items }
     ensures hull { IsFlat dcel.new ⊎ HasHull dcel.new }
 {
     every_mesh(dcel);
@@ -120,12 +117,12 @@ fn cut_out_corner<A: Allocator + Clone, L: Allocator>(
     outside: FixedDirectedEdgeHandle,
     vertex: FixedVertexHandle,
 ) -> Result<Removed, AllocError>
-    requires sound { IsSound dcel.old due.old.items }
+    requires sound { IsDelaunayBut dcel.old due.old.items }
     requires hull { HasHull dcel.old }
     requires outside { StartsOutside dcel.old vertex outside }
     ensures loses { IfOk result (Loses dcel.old dcel.new vertex) }
     ensures keeps { OnErr result (Keeps dcel.old dcel.new) }
-    ensures sound { IsSound dcel.new due.new.items }
+    ensures sound { IsDelaunayBut dcel.new due.new.items }
     ensures hull { IsFlat dcel.new ⊎ HasHull dcel.new }
 {
     every_mesh(dcel);

@@ -15,6 +15,7 @@ section { display: grid; grid-template-columns: minmax(12rem, 1fr) 3fr; gap: 1re
 kbd { font: bold 1rem ui-monospace, monospace; display: block; overflow-wrap: anywhere; }
 samp { font: .9rem ui-monospace, monospace; white-space: pre-wrap; overflow-wrap: anywhere; opacity: .8; }
 img { max-width: 100%; max-height: 80vh; justify-self: start; background: #fff; border-radius: 4px; }
+figure { margin: 0; background: Canvas; }
 nav { position: fixed; inset: auto 0 0 0; display: flex; gap: .6rem; align-items: center; padding: .6rem 1rem; background: Canvas; border-top: 1px solid #8886; }
 nav[hidden] { display: none; }
 nav input { flex: 1; min-width: 0; }
@@ -22,13 +23,15 @@ nav input { flex: 1; min-width: 0; }
 .stepped section { display: contents; }
 .stepped div { grid-column: 1; padding: .15rem .4rem; border-left: 3px solid transparent; cursor: pointer; }
 .stepped .now div { border-color: #1f5fd6; background: #1f5fd622; }
-.stepped img { display: none; }
-.stepped .now img { display: block; grid-column: 2; grid-row: 1 / span 9999; position: sticky; top: 1rem; }
+.stepped figure { display: none; grid-column: 2; grid-row: 1 / span 9999; position: sticky; top: 1rem; }
+.stepped .now figure { display: block; }
 @media (max-width: 40rem) {
 :root { scroll-padding-top: 46vh; }
-section { grid-template-columns: 1fr; }
+section { grid-template-columns: minmax(0, 1fr); overflow-x: auto; }
+img { max-width: none; max-height: none; display: block; zoom: .75; }
 .stepped { display: flex; flex-direction: column; align-items: stretch; }
-.stepped .now img { order: -1; position: sticky; top: 0; max-height: 45vh; align-self: center; }
+.stepped figure { order: -1; top: 0; max-height: 45vh; overflow: auto; }
+.whole img { max-width: 100%; max-height: 45vh; margin: auto; zoom: 1; }
 }
 @media print { nav { display: none; } section { break-inside: avoid; } }
 </style>
@@ -49,13 +52,21 @@ pub const END: &str = r##"</main>
 </nav>
 <script>
 const steps = [...document.querySelectorAll("section")];
+const frames = steps.map((step) => {
+  const frame = document.createElement("figure");
+  frame.append(step.lastElementChild);
+  step.append(frame);
+  return frame;
+});
 const [back, on] = document.querySelectorAll("nav button");
 const slider = document.querySelector("nav input");
 const count = document.querySelector("nav output");
 let now = 1;
 function show(number) {
+  const { scrollLeft, scrollTop } = frames[now - 1];
   now = Math.min(Math.max(number, 1), steps.length);
   steps.forEach((step, index) => step.classList.toggle("now", index + 1 === now));
+  frames[now - 1].scrollTo(scrollLeft, scrollTop);
   slider.value = now;
   count.textContent = `${now} of ${steps.length}`;
   steps[now - 1].firstElementChild.scrollIntoView({ block: "nearest" });
@@ -63,13 +74,16 @@ function show(number) {
 }
 const keys = { ArrowRight: () => now + 1, ArrowDown: () => now + 1, ArrowLeft: () => now - 1, ArrowUp: () => now - 1, Home: () => 1, End: () => steps.length };
 if (steps.length > 0) {
-  document.querySelector("main").classList.add("stepped");
+  const main = document.querySelector("main");
+  main.classList.add("stepped");
+  document.querySelector("p").append(" In a narrow window, tap the picture to see all of it.");
   document.querySelector("nav").hidden = false;
   slider.max = steps.length;
   slider.oninput = () => show(Number(slider.value));
   back.onclick = () => show(now - 1);
   on.onclick = () => show(now + 1);
   steps.forEach((step, index) => step.firstElementChild.onclick = () => show(index + 1));
+  frames.forEach((frame) => frame.onclick = () => main.classList.toggle("whole"));
   addEventListener("keydown", (event) => {
     if (event.key in keys && !event.altKey && !event.ctrlKey && !event.metaKey) {
       event.preventDefault();
@@ -77,6 +91,8 @@ if (steps.length > 0) {
     }
   });
   show(Number(location.hash.slice("#step-".length)) || 1);
+  const frame = frames[now - 1];
+  frame.scrollTo((frame.scrollWidth - frame.clientWidth) / 2, (frame.scrollHeight - frame.clientHeight) / 2);
 }
 </script>
 </body>

@@ -1,4 +1,4 @@
-//! The edits, one for each place where a point can lie: a vertex is appended and connected, and the
+//! The edits, one for each place where a point can be: a vertex is appended and connected, and the
 //! edges of the triangles that are new or changed are listed.
 //!
 //! If memory runs out before the vertex is connected, it is taken out again.
@@ -12,8 +12,8 @@ ghost use Rattle.dcel_maps.specs.Renumbering.{vertex_taken_out};
 ghost use Rattle.dcel_maps.specs.Shapes.{IsLive, IsMesh, face_of, next_of, prev_of};
 ghost use Rattle.dcel_plane.specs.Edges.{edges_inserted};
 ghost use Rattle.dcel_planar.specs.Edges.{IsSplit, KeepsEdgeData, KeepsEdges};
-ghost use Rattle.dcel_planar.specs.Growing.{Gains, HasHull, IsOpen, MayRefuse};
-ghost use Rattle.dcel_planar.specs.Leaving.{IsOutlined, IsRefused, KeepsDue};
+ghost use Rattle.dcel_planar.specs.Growing.{Gains, HasHull, IsOpen, IsInsertionReason};
+ghost use Rattle.dcel_planar.specs.Leaving.{IsOutlined, IsNotPut, KeepsDue};
 ghost use Rattle.dcel_planar.specs.Places.{IsPlace};
 ghost use Rattle.dcel_planar.specs.declared.position.PositionInTriangulation.TheVariants.{OnEdge, OnFace, OutsideOfConvexHull};
 
@@ -43,7 +43,7 @@ pub(crate) fn append<UE, A: Allocator>(
     ensures unconnected { IfOk result (λ v. IsUnconnected dcel.new.shape v) }
     ensures room { OnOk result (HasRoom dcel.new.shape 0 3 2) }
     ensures mesh { OnOk result (IsMesh dcel.new) }
-    ensures refused { IfErr result (λ e. MayRefuse dcel.old.shape e × (dcel.new ≡ dcel.old)) }
+    ensures refused { IfErr result (λ e. IsInsertionReason dcel.old.shape e × (dcel.new ≡ dcel.old)) }
 {
     every_mesh(dcel);
     if !dcel.has_room(1, 3, 2) {
@@ -105,7 +105,7 @@ fn edges_next_to<UE, A: Allocator>(
 }
 
 impl<UE: Default, A: Allocator> PlanarMesh<UE, A> {
-    /// Puts a point into the triangle that it lies in.
+    /// Puts a point into the triangle that it is in.
     pub(crate) fn put_in_face(
         &mut self,
         face: FixedFaceHandle<InnerTag>,
@@ -114,7 +114,7 @@ impl<UE: Default, A: Allocator> PlanarMesh<UE, A> {
         requires hull { HasHull self.old.dcel }
         requires place { IsPlace self.old.dcel point (OnFace face) }
         ensures gains { IfOk result (Gains self.old.dcel self.new.dcel point) }
-        ensures refused { IfErr result (IsRefused self.old self.new) }
+        ensures refused { IfErr result (IsNotPut self.old self.new) }
         ensures lists { KeepsDue self.old self.new }
         ensures edges { OnOk result (KeepsEdges UE.is_default self.old.dcel self.new.dcel) }
         ensures hull { OnOk result (HasHull self.new.dcel) }
@@ -145,7 +145,7 @@ impl<UE: Default, A: Allocator> PlanarMesh<UE, A> {
         requires inner { 0 < face_of self.old.dcel.shape edge }
         requires inner_facing { 0 < face_of self.old.dcel.shape (rev edge) }
         ensures gains { IfOk result (Gains self.old.dcel self.new.dcel point) }
-        ensures refused { IfErr result (IsRefused self.old self.new) }
+        ensures refused { IfErr result (IsNotPut self.old self.new) }
         ensures lists { KeepsDue self.old self.new }
         ensures edge_data { OnOk result (KeepsEdgeData UE.is_default self.old.dcel self.new.dcel) }
         ensures split { IfOk result (IsSplit self.old.dcel self.new.dcel edge) }
@@ -186,7 +186,7 @@ impl<UE: Default, A: Allocator> PlanarMesh<UE, A> {
         requires place { IsPlace self.old.dcel point (OnEdge edge) }
         requires outer { face_of self.old.dcel.shape (rev edge) ≡ 0 }
         ensures gains { IfOk result (Gains self.old.dcel self.new.dcel point) }
-        ensures refused { IfErr result (IsRefused self.old self.new) }
+        ensures refused { IfErr result (IsNotPut self.old self.new) }
         ensures lists { KeepsDue self.old self.new }
         ensures edge_data { OnOk result (KeepsEdgeData UE.is_default self.old.dcel self.new.dcel) }
         ensures split { IfOk result (IsSplit self.old.dcel self.new.dcel edge) }
@@ -212,7 +212,7 @@ impl<UE: Default, A: Allocator> PlanarMesh<UE, A> {
         Ok(vertex)
     }
 
-    /// Puts a point that lies outside of the hull, or beside a line, beside one edge of it: the hull
+    /// Puts a point that is outside of the hull, or beside a line, beside one edge of it: the hull
     /// is then still to be closed round the vertex ([`close_hull`](Self::close_hull)).
     pub(crate) fn put_beside(
         &mut self,
@@ -222,7 +222,7 @@ impl<UE: Default, A: Allocator> PlanarMesh<UE, A> {
         requires hull { IsOutlined self.old.dcel }
         requires place { IsPlace self.old.dcel point (OutsideOfConvexHull edge) }
         ensures gains { IfOk result (Gains self.old.dcel self.new.dcel point) }
-        ensures refused { IfErr result (IsRefused self.old self.new) }
+        ensures refused { IfErr result (IsNotPut self.old self.new) }
         ensures lists { KeepsDue self.old self.new }
         ensures edges { OnOk result (KeepsEdges UE.is_default self.old.dcel self.new.dcel) }
         ensures open { IfOk result (IsOpen self.new.dcel) }

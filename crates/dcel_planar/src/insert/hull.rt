@@ -1,11 +1,12 @@
 //! The hull closed round a vertex that was put beside one edge of it, until it is convex.
 
-ghost use Rattle.std.specs.Prelude.{◌≡◌, ◌+◌, ◌<◌, ◌↔◌, ℕ, IfErr, IfNone, IfOk, IfSome, IsTrue, OnOk};
+ghost use Rattle.std.specs.Prelude.{◌≡◌, ◌+◌, ◌<◌, ◌↔◌, ℕ, IfErr, IfNone, IfOk, IfSome, IsTrue, OnErr, OnOk};
 ghost use Rattle.spade_dcel.specs.Handles.{mesh_behind, number_of};
 ghost use Rattle.dcel_maps.specs.Shapes.{IsLive, IsMesh, end_of, origin_of};
 ghost use Rattle.dcel_planar.specs.Corners.{IsClosedAfter, IsClosedAt, IsClosedBefore, StartsOutside, TurnsIn};
 ghost use Rattle.dcel_planar.specs.Growing.{HasHull, HasOutside, IsOpen};
-ghost use Rattle.dcel_planar.specs.Leaving.{Closes, IsOuter, IsOutlined, IsSame};
+ghost use Rattle.dcel_planar.specs.Leaving.{ClosesHull, IsOuter, IsOutlined, IsSame};
+ghost use Rattle.dcel_planar.specs.Outcomes.{IsWholeMesh};
 
 use crate::errors::InsertionError;
 use crate::mesh::{Edge, EdgeMesh, point_of, side};
@@ -23,13 +24,13 @@ impl<UE: Default, A: Allocator> PlanarMesh<UE, A> {
     /// A mesh that is a line, or has its hull, stays as it is.
     ///
     /// If there is no room or no memory for a triangle, the result is
-    /// [`Unfinished`](InsertionError::Unfinished): the triangles before stay, and the next call goes
-    /// on.
+    /// [`Unfinished`](InsertionError::Unfinished): the triangles before stay, edges are left to be
+    /// looked at, and the next call goes on.
     pub fn close_hull(&mut self) -> Result<(), InsertionError>
-        ensures closes { Closes UE.is_default self.old self.new }
+        ensures closes { ClosesHull UE.is_default self.old self.new }
         ensures hull { OnOk result (IsOutlined self.new.dcel) }
         ensures outside { HasOutside self.old.dcel self.old.due.items → HasOutside self.new.dcel self.new.due.items }
-        ensures unfinished { IfErr result (λ e. e ≡ InsertionError.Unfinished) }
+        ensures unfinished { IfErr result (λ e. (e ≡ InsertionError.Unfinished) × ¬ IsWholeMesh self.new) }
     {
         match outside_of_last(&self.dcel) {
             Some(edge) => self.close_sides(edge),
@@ -41,9 +42,9 @@ impl<UE: Default, A: Allocator> PlanarMesh<UE, A> {
     /// outer face turns in there.
     fn close_sides(&mut self, edge: FixedDirectedEdgeHandle) -> Result<(), InsertionError>
         requires outer { IsOuter self.old.dcel edge }
-        ensures closes { Closes UE.is_default self.old self.new }
+        ensures closes { ClosesHull UE.is_default self.old self.new }
         ensures hull { OnOk result (IsOpen self.old.dcel (origin_of self.old.dcel.shape edge) → HasHull self.new.dcel) }
-        ensures unfinished { IfErr result (λ e. e ≡ InsertionError.Unfinished) }
+        ensures unfinished { IfErr result (λ e. (e ≡ InsertionError.Unfinished) × ¬ IsWholeMesh self.new) }
     {
         let after = self.close_after(edge)?;
         every_mesh(&self.dcel);
@@ -58,11 +59,11 @@ impl<UE: Default, A: Allocator> PlanarMesh<UE, A> {
         edge: FixedDirectedEdgeHandle,
     ) -> Result<FixedDirectedEdgeHandle, InsertionError>
         requires outer { IsOuter self.old.dcel edge }
-        ensures closes { Closes UE.is_default self.old self.new }
+        ensures closes { ClosesHull UE.is_default self.old self.new }
         ensures starts { IfOk result (StartsOutside self.new.dcel (origin_of self.old.dcel.shape edge)) }
         ensures closed { let t = origin_of self.old.dcel.shape edge in
             OnOk result (IsOpen self.new.dcel t → IsClosedAfter self.new.dcel t) }
-        ensures unfinished { IfErr result (λ e. e ≡ InsertionError.Unfinished) }
+        ensures unfinished { IfErr result (λ e. (e ≡ InsertionError.Unfinished) × ¬ IsWholeMesh self.new) }
     {
         let mut edge = edge;
         while let Some(closed) = self.close(edge)? {
@@ -75,11 +76,11 @@ impl<UE: Default, A: Allocator> PlanarMesh<UE, A> {
     /// turns in there.
     fn close_before(&mut self, edge: FixedDirectedEdgeHandle) -> Result<(), InsertionError>
         requires outer { IsOuter self.old.dcel edge }
-        ensures closes { Closes UE.is_default self.old self.new }
+        ensures closes { ClosesHull UE.is_default self.old self.new }
         ensures closed { let t = end_of self.old.dcel.shape edge in
             OnOk result (IsOpen self.new.dcel t → IsClosedBefore self.new.dcel t) }
         ensures mesh { IsMesh self.new.dcel }
-        ensures unfinished { IfErr result (λ e. e ≡ InsertionError.Unfinished) }
+        ensures unfinished { IfErr result (λ e. (e ≡ InsertionError.Unfinished) × ¬ IsWholeMesh self.new) }
     {
         every_mesh(&self.dcel);
         let mut before = self.dcel.directed_edge(edge).prev().fix();
@@ -99,11 +100,12 @@ impl<UE: Default, A: Allocator> PlanarMesh<UE, A> {
         edge: FixedDirectedEdgeHandle,
     ) -> Result<Option<FixedDirectedEdgeHandle>, InsertionError>
         requires outer { IsOuter self.old.dcel edge }
-        ensures closes { Closes UE.is_default self.old self.new }
+        ensures closes { ClosesHull UE.is_default self.old self.new }
         ensures some { IfOk result (λ closed. IfSome closed (IsClosedAt self.old.dcel self.new.dcel edge)) }
         ensures none { IfOk result (λ closed. IfNone closed (IsSame self.old self.new × ¬ TurnsIn self.old.dcel edge)) }
         ensures mesh { IsMesh self.new.dcel }
-        ensures unfinished { IfErr result (λ e. (e ≡ InsertionError.Unfinished) × IsSame self.old self.new) }
+        ensures unfinished { IfErr result (λ e. (e ≡ InsertionError.Unfinished) × ¬ IsWholeMesh self.new) }
+        ensures refused { OnErr result (IsSame self.old self.new) }
     {
         every_mesh(&self.dcel);
         if !turns_in(self.dcel.directed_edge(edge)) {

@@ -1,10 +1,10 @@
-//! The edits while all vertices stand on a line: the first vertices, an edge of the path split, and
+//! The edits while all vertices are on a line: the first vertices, an edge of the path split, and
 //! the path extended. The outer face is the only one, so nothing is to be listed.
 
 ghost use Rattle.std.specs.Prelude.{◌≡◌, IfErr, IfOk, OnOk};
 ghost use Rattle.dcel_planar.specs.Edges.{IsSplit, KeepsEdgeData, KeepsEdges};
 ghost use Rattle.dcel_planar.specs.Growing.{Gains, IsFlat};
-ghost use Rattle.dcel_planar.specs.Leaving.{IsRefused, KeepsDue};
+ghost use Rattle.dcel_planar.specs.Leaving.{IsNotPut, KeepsDue};
 ghost use Rattle.dcel_planar.specs.Places.{IsPlace};
 ghost use Rattle.dcel_planar.specs.declared.position.PositionInTriangulation.TheVariants.{BeyondLine, NoTriangulation, OnEdge};
 
@@ -29,7 +29,7 @@ impl<UE: Default, A: Allocator> PlanarMesh<UE, A> {
         requires flat { IsFlat self.old.dcel }
         requires place { IsPlace self.old.dcel point (OnEdge edge) }
         ensures gains { IfOk result (Gains self.old.dcel self.new.dcel point) }
-        ensures refused { IfErr result (IsRefused self.old self.new) }
+        ensures refused { IfErr result (IsNotPut self.old self.new) }
         ensures lists { KeepsDue self.old self.new }
         ensures edge_data { OnOk result (KeepsEdgeData UE.is_default self.old.dcel self.new.dcel) }
         ensures split { IfOk result (IsSplit self.old.dcel self.new.dcel edge) }
@@ -52,7 +52,7 @@ impl<UE: Default, A: Allocator> PlanarMesh<UE, A> {
         requires flat { IsFlat self.old.dcel }
         requires place { IsPlace self.old.dcel point (BeyondLine end) }
         ensures gains { IfOk result (Gains self.old.dcel self.new.dcel point) }
-        ensures refused { IfErr result (IsRefused self.old self.new) }
+        ensures refused { IfErr result (IsNotPut self.old self.new) }
         ensures lists { KeepsDue self.old self.new }
         ensures edges { OnOk result (KeepsEdges UE.is_default self.old.dcel self.new.dcel) }
         ensures flat { IsFlat self.new.dcel }
@@ -70,7 +70,7 @@ impl<UE: Default, A: Allocator> PlanarMesh<UE, A> {
         requires flat { IsFlat self.old.dcel }
         requires place { IsPlace self.old.dcel point NoTriangulation }
         ensures gains { IfOk result (Gains self.old.dcel self.new.dcel point) }
-        ensures refused { IfErr result (IsRefused self.old self.new) }
+        ensures refused { IfErr result (IsNotPut self.old self.new) }
         ensures lists { KeepsDue self.old self.new }
         ensures edges { OnOk result (KeepsEdges UE.is_default self.old.dcel self.new.dcel) }
         ensures flat { IsFlat self.new.dcel }

@@ -1,9 +1,10 @@
-//! A point put in where it lies, and the hull closed.
+//! A point put in where it is, and the hull closed.
 
 ghost use Rattle.std.specs.Prelude.{◌≡◌, IfErr, IfOk, OnErr, OnOk};
 ghost use Rattle.dcel_planar.specs.Edges.{IsSplit, KeepsEdgeData, KeepsEdges, KeepsEnds, KeepsStarts};
 ghost use Rattle.dcel_planar.specs.Growing.{Gains, HasHull, HasOutside};
-ghost use Rattle.dcel_planar.specs.Leaving.{IsOutlined, IsPutIn, IsPutOff, IsRefused, KeepsDue};
+ghost use Rattle.dcel_planar.specs.Leaving.{IsOutlined, IsPutIn, IsNotPut, KeepsDue};
+ghost use Rattle.dcel_planar.specs.Outcomes.{FailsToPut};
 ghost use Rattle.dcel_planar.specs.Places.{IsPlace};
 ghost use Rattle.dcel_planar.specs.declared.position.PositionInTriangulation.TheVariants.{OnEdge, OutsideOfConvexHull};
 
@@ -15,12 +16,12 @@ use spade_dcel::handles::{FixedDirectedEdgeHandle, FixedVertexHandle};
 use std::alloc::Allocator;
 
 impl<UE: Default, A: Allocator> PlanarMesh<UE, A> {
-    /// Puts a point in where it lies, and flips no edge.
+    /// Puts a point in where it is, and flips no edge.
     ///
-    /// The result is its vertex: a new one, or that of the position if one stands there. Outside of
-    /// the hull all triangles are made that lie between the vertex and the hull. The edges of the
+    /// The result is its vertex: a new one, or that of the position if one is there. Outside of
+    /// the hull all triangles are made that are between the vertex and the hull. The edges of the
     /// triangles that are new or changed are listed. Edges keep their data and their ends, and new
-    /// ones have default data; of an edge that the point lies on, one part keeps its number, and the
+    /// ones have default data; of an edge that the point is on, one part keeps its number, and the
     /// other is new.
     ///
     /// Asks for a mesh whose hull isn't to be closed ([`close_hull`](Self::close_hull) leaves one if it
@@ -28,9 +29,9 @@ impl<UE: Default, A: Allocator> PlanarMesh<UE, A> {
     ///
     /// If no numbers are left for a new vertex, three edges and two faces, the result is
     /// [`TooManyPoints`](InsertionError::TooManyPoints), and if memory runs out before the vertex
-    /// stands, [`OutOfMemory`](InsertionError::OutOfMemory): nothing has changed then. If either runs
+    /// is there, [`OutOfMemory`](InsertionError::OutOfMemory): nothing has changed then. If either runs
     /// out while the hull is closed, the result is [`Unfinished`](InsertionError::Unfinished), the
-    /// vertex stands, and [`close_hull`](Self::close_hull) goes on with what is left to do.
+    /// vertex is there, and [`close_hull`](Self::close_hull) goes on with what is left to do.
     pub fn put_at(
         &mut self,
         position: PositionInTriangulation,
@@ -39,7 +40,7 @@ impl<UE: Default, A: Allocator> PlanarMesh<UE, A> {
         requires hull { IsOutlined self.old.dcel }
         requires place { IsPlace self.old.dcel point position }
         ensures put { IfOk result (IsPutIn self.old self.new position point) }
-        ensures refuses { IfErr result (IsPutOff self.old self.new point) }
+        ensures refuses { IfErr result (FailsToPut self.old self.new point) }
         ensures lists { KeepsDue self.old self.new }
         ensures edge_data { KeepsEdgeData UE.is_default self.old.dcel self.new.dcel }
         ensures ends { IfOk result (KeepsEnds self.old.dcel self.new.dcel position) }
@@ -66,7 +67,7 @@ impl<UE: Default, A: Allocator> PlanarMesh<UE, A> {
         requires hull { IsOutlined self.old.dcel }
         requires place { IsPlace self.old.dcel point (OnEdge edge) }
         ensures gains { IfOk result (Gains self.old.dcel self.new.dcel point) }
-        ensures refused { IfErr result (IsRefused self.old self.new) }
+        ensures refused { IfErr result (IsNotPut self.old self.new) }
         ensures lists { KeepsDue self.old self.new }
         ensures edge_data { OnOk result (KeepsEdgeData UE.is_default self.old.dcel self.new.dcel) }
         ensures split { IfOk result (IsSplit self.old.dcel self.new.dcel edge) }
@@ -94,7 +95,7 @@ impl<UE: Default, A: Allocator> PlanarMesh<UE, A> {
         requires hull { IsOutlined self.old.dcel }
         requires place { IsPlace self.old.dcel point (OutsideOfConvexHull edge) }
         ensures gains { IfOk result (Gains self.old.dcel self.new.dcel point) }
-        ensures refuses { IfErr result (IsPutOff self.old self.new point) }
+        ensures refuses { IfErr result (FailsToPut self.old self.new point) }
         ensures lists { KeepsDue self.old self.new }
         ensures edges { KeepsEdges UE.is_default self.old.dcel self.new.dcel }
         ensures hull { OnOk result (HasHull self.new.dcel) }

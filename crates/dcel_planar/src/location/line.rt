@@ -1,4 +1,4 @@
-//! Points that all stand on one line: the mesh is a path along it, and the outer face is its only
+//! Points that all are on one line: the mesh is a path along it, and the outer face is its only
 //! face.
 
 ghost use Rattle.std.specs.Prelude.{◌≡◌, ◌↔◌, IsTrue};
@@ -17,7 +17,7 @@ use spade_dcel::handles::FixedVertexHandle;
 use spade_dcel::laws::every_mesh;
 use std::alloc::Allocator;
 
-/// Returns where a point lies if there is no edge: at a vertex, or at none.
+/// Returns where a point is if there is no edge: at a vertex, or at none.
 ///
 /// Asks for a mesh without an edge (`num_undirected_edges() == 0`) and without an inner face
 /// (`num_faces() == 1`).
@@ -38,7 +38,7 @@ pub fn at_a_vertex<UE, A: Allocator>(
     PositionInTriangulation::NoTriangulation
 }
 
-/// Returns where a point lies in a mesh that is a path along a line, by a half edge of it.
+/// Returns where a point is in a mesh that is a path along a line, by a half edge of it.
 pub(crate) fn locate_on_line<'a, UE, A: Allocator>(
     dcel: &'a EdgeMesh<UE, A>,
     edge: Edge<'a, UE, A>,
@@ -69,7 +69,7 @@ fn is_before(first: Point, second: Point) -> bool
     }
 }
 
-/// Returns whether a point on the line of a half edge lies beyond its end.
+/// Returns whether a point on the line of a half edge is beyond its end.
 fn is_beyond<'a, UE, A: Allocator>(
     dcel: &'a EdgeMesh<UE, A>,
     edge: Edge<'a, UE, A>,
@@ -119,7 +119,7 @@ fn walk<'a, UE, A: Allocator>(
     unreachable!()
 }
 
-/// Returns the half of an edge that a point on its line does not lie behind.
+/// Returns the half of an edge that a point on its line is not behind.
 fn ahead<'a, UE, A: Allocator>(
     dcel: &'a EdgeMesh<UE, A>,
     edge: Edge<'a, UE, A>,
@@ -143,7 +143,7 @@ fn ahead<'a, UE, A: Allocator>(
     }
 }
 
-/// Returns where a point lies on the line of a half edge, if it lies beyond neither end.
+/// Returns where a point is on the line of a half edge, if it is beyond neither end.
 fn between<'a, UE, A: Allocator>(
     dcel: &'a EdgeMesh<UE, A>,
     edge: Edge<'a, UE, A>,

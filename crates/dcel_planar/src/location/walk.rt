@@ -1,4 +1,4 @@
-//! Where a point lies: a walk from triangle to triangle.
+//! Where a point is: a walk from triangle to triangle.
 
 ghost use Rattle.std.specs.Prelude.{◌≡◌, ◌≢◌, ◌<◌, [], IfErr, IfOk};
 ghost use Rattle.spade_dcel.specs.Handles.{mesh_behind, number_of};
@@ -6,18 +6,18 @@ ghost use Rattle.dcel_maps.specs.Removals.{Closed};
 ghost use Rattle.dcel_maps.specs.Shapes.{IsLive, face_of, next_of, prev_of};
 ghost use Rattle.dcel_plane.specs.Plane.{point_at};
 ghost use Rattle.dcel_plane.specs.location.Locating.{HasBeyond};
-ghost use Rattle.dcel_planar.specs.Growing.{HasHull, IsSound, IsTriangulated, IsTriangulation};
-ghost use Rattle.dcel_planar.specs.Places.{AreSides, IsPlace, LiesAt};
+ghost use Rattle.dcel_planar.specs.Growing.{HasHull, IsDelaunayBut, IsTriangleMesh, IsTriangulation};
+ghost use Rattle.dcel_planar.specs.Places.{LiesAtSides, IsPlace, LiesAt};
 
 use crate::location::line;
-use crate::mesh::{Edge, EdgeMesh, is_on, is_right, side};
+use crate::mesh::{Edge, EdgeMesh, side};
 use crate::position::PositionInTriangulation;
 use dcel_predicates::{Point, Side};
 use spade_dcel::handles::{FixedDirectedEdgeHandle, FixedFaceHandle, InnerTag};
 use spade_dcel::laws::every_mesh;
 use std::alloc::Allocator;
 
-/// Walks from a half edge towards a point, and returns where it lies.
+/// Walks from a half edge towards a point, and returns where it is.
 ///
 /// If the mesh has no such half edge, the walk begins at the first one.
 pub(crate) fn locate<UE, A: Allocator>(
@@ -54,12 +54,12 @@ fn beginning<'a, UE, A: Allocator>(
     }
 }
 
-/// Returns the half of an edge that lies in a triangle, the given one if both do.
+/// Returns the half of an edge that is in a triangle, the given one if both are.
 fn inner_half<'a, UE, A: Allocator>(
     dcel: &'a EdgeMesh<UE, A>,
     edge: Edge<'a, UE, A>,
 ) -> Edge<'a, UE, A>
-    requires triangulated { IsTriangulated dcel.now }
+    requires triangulated { IsTriangleMesh dcel.now }
     requires hull { HasHull dcel.now }
     requires mesh { mesh_behind edge ≡ dcel.now }
     requires live { IsLive dcel.now.shape (number_of edge) }
@@ -82,7 +82,7 @@ fn walk<'a, UE, A: Allocator>(
     start: Edge<'a, UE, A>,
     point: Point,
 ) -> PositionInTriangulation
-    requires sound { IsSound dcel.now [] }
+    requires sound { IsDelaunayBut dcel.now [] }
     requires mesh { mesh_behind start ≡ dcel.now }
     requires live { IsLive dcel.now.shape (number_of start) }
     requires inner { 0 < face_of dcel.now.shape (number_of start) }
@@ -105,9 +105,9 @@ fn walk<'a, UE, A: Allocator>(
     unreachable!()
 }
 
-/// Returns where a point lies in the triangle of a half edge, or a side that it lies beyond.
+/// Returns where a point is in the triangle of a half edge, or a side that it is beyond.
 ///
-/// It asks where the point lies of the other two sides, and is told it of this one ([`side`]).
+/// `own` is the point's side of this half edge ([`side`]); those of the other two are computed.
 #[inline]
 pub(crate) fn look<'a, UE, A: Allocator>(
     dcel: &'a EdgeMesh<UE, A>,
@@ -115,7 +115,7 @@ pub(crate) fn look<'a, UE, A: Allocator>(
     own: Side,
     point: Point,
 ) -> Result<PositionInTriangulation, Edge<'a, UE, A>>
-    requires triangulated { IsTriangulated dcel.now }
+    requires triangulated { IsTriangleMesh dcel.now }
     requires mesh { mesh_behind edge ≡ dcel.now }
     requires live { IsLive dcel.now.shape (number_of edge) }
     requires inner { 0 < face_of dcel.now.shape (number_of edge) }
@@ -126,23 +126,23 @@ pub(crate) fn look<'a, UE, A: Allocator>(
     ensures beyond { IfErr result (λ crossed. HasBeyond (point_at dcel.now) dcel.now.shape point (number_of crossed)) }
 {
     every_mesh(dcel);
-    if is_right(own) {
+    if own.is_on_right_side() {
         return Err(edge);
     }
     let next = edge.next();
     let after = side(next, point);
-    if is_right(after) {
+    if after.is_on_right_side() {
         return Err(next);
     }
     let prev = edge.prev();
     let before = side(prev, point);
-    if is_right(before) {
+    if before.is_on_right_side() {
         return Err(prev);
     }
     Ok(place(dcel, edge, own, after, before))
 }
 
-/// Returns where a point lies by its sides of the half edges of a triangle, from this one on, none
+/// Returns where a point is by its sides of the half edges of a triangle, from this one on, none
 /// of which has it on the right: on two of them it is at their corner, on one strictly between its
 /// ends, and on none inside.
 #[inline]
@@ -153,14 +153,14 @@ fn place<UE, A: Allocator>(
     after: Side,
     before: Side,
 ) -> PositionInTriangulation
-    requires triangulated { IsTriangulated dcel.now }
+    requires triangulated { IsTriangleMesh dcel.now }
     requires mesh { mesh_behind edge ≡ dcel.now }
     requires live { IsLive dcel.now.shape (number_of edge) }
     requires inner { 0 < face_of dcel.now.shape (number_of edge) }
-    ensures { (p : Point) → AreSides dcel.now p (number_of edge.entry) own after before → IsPlace dcel.now p result }
+    ensures { (p : Point) → LiesAtSides dcel.now p (number_of edge.entry) own after before → IsPlace dcel.now p result }
 {
     every_mesh(dcel);
-    match (is_on(own), is_on(after), is_on(before)) {
+    match (own.is_on_line(), after.is_on_line(), before.is_on_line()) {
         (true, true, _) => PositionInTriangulation::OnVertex(edge.to().fix()),
         (true, _, true) => PositionInTriangulation::OnVertex(edge.from().fix()),
         (_, true, true) => PositionInTriangulation::OnVertex(edge.prev().from().fix()),

@@ -15,7 +15,7 @@ use Rattle.dcel_maps.specs.Shapes.{IsLive, IsMesh, Mesh, Shape, face_of, next_of
 use Rattle.dcel_maps.specs.Triangulations.{AllTriangles}
 use Rattle.dcel_plane.specs.Plane.{IsLocallyDelaunay}
 use Rattle.dcel_plane.specs.covering.Covering.{HasEmptyCircles, IsConvex, IsHull}
-use Rattle.dcel_plane.specs.covering.Places.{IsInside, Place, incircle_at, orient_at}
+use Rattle.dcel_plane.specs.covering.Places.{IsStrictlyIn, Place, incircle_at, orient_at}
 use Rattle.dcel_plane.proofs.covering.Faces.{corner_of, disjoint_at}
 use Rattle.dcel_plane.proofs.covering.Inside.{as_place, closed_disjoint, middle, middle-first, middle-second, middle-third, not_right, nudged, nudged-is, on_end, on_start, other_way, place_of}
 use Rattle.dcel_plane.proofs.covering.Powers.{less_first}
@@ -37,7 +37,7 @@ module _ (a b c x y z : Point) (p : Place) where
 -- a place inside (v, y, z), so near v that its power at (a, b, c), inside whose circle v lies, is greater than at (v, y, z)
 pub record IsBeside (a b c v y z : Point) : Type 0 where
   pub place : Place
-  pub inside : IsInside v y z place
+  pub inside : IsStrictlyIn v y z place
   pub less : (incircle_at v y z place *ℤ orient2d_of a b c) <ℤ (incircle_at a b c place *ℤ orient2d_of v y z)
 
 pub beside : (a b c v y z : Point) → pos 0 <ℤ orient2d_of v y z → pos 0 <ℤ incircle_of a b c v → IsBeside a b c v y z

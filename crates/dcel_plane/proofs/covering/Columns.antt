@@ -11,7 +11,7 @@ use Rattle.dcel_predicates.proofs.Points.{orient2d-turned}
 use Rattle.dcel_predicates.proofs.Ring.{by_terms, minus, num, plus, times as by, var}
 use Rattle.dcel_predicates.proofs.Signs.{both_negative, ordered, times, times_positive}
 use Rattle.dcel_predicates.proofs.Terms.{orient, orient_in, place, spot}
-use Rattle.dcel_plane.specs.covering.Places.{IsInside, Place, orient_at}
+use Rattle.dcel_plane.specs.covering.Places.{IsStrictlyIn, Place, orient_at}
 use Rattle.dcel_plane.proofs.covering.Inside.{other_way}
 use Rattle.dcel_plane.proofs.covering.Products.{below_times, factor_positive, times_below, zero_factor}
 
@@ -79,7 +79,7 @@ early a b p left = hit_none a b p (λ h. let s = h.ends in omega (arith, ordered
 -- the sides of a triangle
 pub record IsPassed (a b c : Point) (p : Place) : Type 0 where
   pub most : hit a b p + hit b c p + hit c a p ≤ hit b a p + hit c b p + hit a c p
-  pub gains : IsInside a b c p → hit a b p + hit b c p + hit c a p + 1 ≤ hit b a p + hit c b p + hit a c p
+  pub gains : IsStrictlyIn a b c p → hit a b p + hit b c p + hit c a p + 1 ≤ hit b a p + hit c b p + hit a c p
 
 passed_turned : (a b c : Point) (p : Place) → IsPassed b c a p → IsPassed a b c p
 passed_turned a b c p h = record {
@@ -187,7 +187,7 @@ module _ (a b c : Point) (p : Place) (turn : pos 0 <ℤ orient2d_of a b c) where
           (minus (by (minus (by (var 6) (spot 1).x) (by (var 6) (spot 0).x)) (minus (spot 2).y (spot 0).y))
           (by (minus (spot 1).y (spot 0).y) (minus (by (var 6) (spot 2).x) (by (var 6) (spot 0).x)))) refl
 
-      none_inside : IsInside a b c p → ⊥
+      none_inside : IsStrictlyIn a b c p → ⊥
       none_inside inside =
           let ka = times (orient_at b c p) (p.x -ℤ (p.w *ℤ a.x)) (let i = inside.1 in omega (arith, ordered, i)) (omega (arith, ordered, at_a)) in
           let kb = times (orient_at c a p) (p.x -ℤ (p.w *ℤ b.x)) (let i = inside.2 in omega (arith, ordered, i)) (omega (arith, ordered, at_b)) in

@@ -7,7 +7,7 @@ use Rattle.dcel_predicates.proofs.Ring.{Term, by_terms, minus, num, plus, times 
 use Rattle.dcel_predicates.proofs.Signs.{ordered, square, times, times_positive}
 use Rattle.dcel_predicates.proofs.Terms.{Where, orient, orient_in, place, spot}
 use Rattle.dcel_plane.specs.covering.Covering.{Covers, dot}
-use Rattle.dcel_plane.specs.covering.Places.{AreDisjoint, IsIn, IsInside, Place, orient_at}
+use Rattle.dcel_plane.specs.covering.Places.{AreDisjoint, IsIn, IsStrictlyIn, Place, orient_at}
 use Rattle.dcel_plane.proofs.covering.Products.{outweighs, sum_not_below, sum_positive}
 
 pub on_start : (a d : Point) → orient2d_of a d d ≡ pos 0
@@ -69,7 +69,7 @@ module _ (a b c e f : Point) (p : Place) where
         sum_not_below (orient_at e f p) (orient2d_of a b c) (orient_at b c p) (orient_at c a p) (orient_at a b p) (orient2d_of e f a) (orient2d_of e f b) (orient2d_of e f c)
         weighed turn h.1 h.2 h.0 at_a at_b at_c
 
-    pub left : pos 0 <ℤ (orient2d_of e f a +ℤ orient2d_of e f b +ℤ orient2d_of e f c) → IsInside a b c p → pos 0 <ℤ orient_at e f p
+    pub left : pos 0 <ℤ (orient2d_of e f a +ℤ orient2d_of e f b +ℤ orient2d_of e f c) → IsStrictlyIn a b c p → pos 0 <ℤ orient_at e f p
     left some h =
         sum_positive (orient_at e f p) (orient2d_of a b c) (orient_at b c p) (orient_at c a p) (orient_at a b p) (orient2d_of e f a) (orient2d_of e f b) (orient2d_of e f c)
         weighed turn h.1 h.2 h.0 at_a at_b at_c some
@@ -110,7 +110,7 @@ module _ (a b c : Point) where
   pub middle-third : orient_at c a (middle a b c) ≡ orient2d_of a b c
   middle-third = by_terms (a.x ∷ a.y ∷ b.x ∷ b.y ∷ c.x ∷ c.y ∷ []) (orient_in (spot 2) (spot 0) middle_in) (orient (spot 0) (spot 1) (spot 2)) refl
 
-  pub middle_inside : pos 0 <ℤ orient2d_of a b c → IsInside a b c (middle a b c)
+  pub middle_inside : pos 0 <ℤ orient2d_of a b c → IsStrictlyIn a b c (middle a b c)
   middle_inside turn =
       (subst (λ z. pos 0 <ℤ z) (sym middle-first) turn, subst (λ z. pos 0 <ℤ z) (sym middle-second) turn, subst (λ z. pos 0 <ℤ z) (sym middle-third) turn)
 
@@ -121,7 +121,7 @@ pub record IsNear (a b a' b' a'' b'' a''' b''' : Point) (x y z : Point) : Type 0
   pub second : pos 0 <ℤ orient_at a' b' place
   pub third : pos 0 <ℤ orient_at a'' b'' place
   pub fourth : pos 0 <ℤ orient_at a''' b''' place
-  pub inside : IsInside x y z place
+  pub inside : IsStrictlyIn x y z place
 
 pub near_place : (a b a' b' a'' b'' a''' b''' x y z : Point) (p : Place) → pos 0 <ℤ orient_at a b p → pos 0 <ℤ orient_at a' b' p → pos 0 <ℤ orient_at a'' b'' p
     → pos 0 <ℤ orient_at a''' b''' p → pos 0 <ℤ orient2d_of x y z → IsIn x y z p → IsNear a b a' b' a'' b'' a''' b''' x y z
@@ -155,7 +155,7 @@ near_place a b a' b' a'' b'' a''' b''' x y z p first second third fourth turn wi
     both n s t more not is = let h = times n s (omega (arith, ordered)) not in omega (arith, ordered, h)
 
 -- so of two disjoint triangles none has a place of the other one's inside on its border either
-pub closed_disjoint : (a b c x y z : Point) → AreDisjoint a b c x y z → pos 0 <ℤ orient2d_of x y z → (p : Place) → IsInside a b c p → IsIn x y z p → ⊥
+pub closed_disjoint : (a b c x y z : Point) → AreDisjoint a b c x y z → pos 0 <ℤ orient2d_of x y z → (p : Place) → IsStrictlyIn a b c p → IsIn x y z p → ⊥
 closed_disjoint a b c x y z disjoint turn p inside within =
     let near = near_place a b b c c a c a x y z p inside.0 inside.1 inside.2 inside.2 turn within in
     disjoint near.place (near.first, near.second, near.third) near.inside
@@ -163,7 +163,7 @@ closed_disjoint a b c x y z disjoint turn p inside within =
 -- two triangles (a, b, c) and (b, a, d) at an edge, disjoint from (x, y, z)
 module _ (a b c d x y z : Point) (near : pos 0 <ℤ orient2d_of a b c) (first : AreDisjoint a b c x y z) (second : AreDisjoint b a d x y z) where
   -- so is their quadrilateral
-  pub none_in_both : (p : Place) → pos 0 <ℤ orient_at b c p → pos 0 <ℤ orient_at c a p → pos 0 <ℤ orient_at a d p → pos 0 <ℤ orient_at d b p → IsInside x y z p → ⊥
+  pub none_in_both : (p : Place) → pos 0 <ℤ orient_at b c p → pos 0 <ℤ orient_at c a p → pos 0 <ℤ orient_at a d p → pos 0 <ℤ orient_at d b p → IsStrictlyIn x y z p → ⊥
   none_in_both p bc ca ad db inside =
       by_lt_z (pos 0) (orient_at a b p) (λ more. first p (more, bc, ca) inside)
       (λ not. by_lt_z (orient_at a b p) (pos 0)

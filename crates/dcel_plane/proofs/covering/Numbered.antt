@@ -13,7 +13,7 @@ use Rattle.dcel_maps.proofs.Liveness.{is_live-past}
 use Rattle.dcel_maps.proofs.words.Turns.{length-turn, turns_to_itself}
 use Rattle.dcel_plane.proofs.edits.Corners.{turned_along}
 use Rattle.dcel_plane.specs.covering.Covering.{Covers, CoversHull, dot}
-use Rattle.dcel_plane.specs.covering.Delaunay.{HasCorners, IsCovered, IsDelaunayTriangulation, LiesInHull}
+use Rattle.dcel_plane.specs.covering.Delaunay.{HasCornerVertices, LiesInSomeTriangle, IsDelaunayTriangulation, LiesInHull}
 use Rattle.dcel_plane.specs.covering.Places.{AreDisjoint, IsIn, Place, orient_at}
 use Rattle.dcel_plane.proofs.covering.Apart.{mesh_apart}
 use Rattle.dcel_plane.proofs.covering.Circles.{no_vertex_inside}
@@ -66,7 +66,7 @@ module _ {V DE UE F : Type 0} (m : Mesh V DE UE F) (mesh : IsMesh m) (at : ℕ �
     | inr inner ↦ elim (holds_or_not (word_of m.shape.words f)) [ inl holds ↦ inl (inner, holds) | inr not ↦ inr (λ covering. not covering.1) ]
   ]
 
-  covered_by : (f : ℕ) → 0 < f → (w : List ℕ) → word_of m.shape.words f ≡ w → Holds w → IsCovered at m.shape pl
+  covered_by : (f : ℕ) → 0 < f → (w : List ℕ) → word_of m.shape.words f ≡ w → Holds w → LiesInSomeTriangle at m.shape pl
   covered_by f inner [] is holds = absurd holds
   covered_by f inner (x ∷ []) is holds = absurd holds
   covered_by f inner (x ∷ y ∷ []) is holds = absurd holds
@@ -83,7 +83,7 @@ module _ {V DE UE F : Type 0} (m : Mesh V DE UE F) (mesh : IsMesh m) (at : ℕ �
   }
   covered_by f inner (x ∷ y ∷ z ∷ k ∷ w) is holds = absurd holds
 
-  pub covered_in : CoversHull at m.shape → (h : ℕ) × IsLive m.shape h × (0 < face_of m.shape h) → LiesInHull at m.shape pl → IsCovered at m.shape pl
+  pub covered_in : CoversHull at m.shape → (h : ℕ) × IsLive m.shape h × (0 < face_of m.shape h) → LiesInHull at m.shape pl → LiesInSomeTriangle at m.shape pl
   covered_in covers half within = elim (searched Covering covering_or_not (face_count m.shape)) [
     | inl found ↦ covered_by found.0 found.1.0 (word_of m.shape.words found.0) refl found.1.1
     | inr none ↦
@@ -96,7 +96,7 @@ module _ {V DE UE F : Type 0} (m : Mesh V DE UE F) (mesh : IsMesh m) (at : ℕ �
   ]
 
 -- a face by its corners
-module _ (s : Shape) (f a b c : ℕ) (corners : HasCorners s f a b c) where
+module _ (s : Shape) (f a b c : ℕ) (corners : HasCornerVertices s f a b c) where
   pub record OfWord : Type 0 where
     pub x : ℕ
     pub y : ℕ
@@ -127,12 +127,12 @@ module _ {V DE UE F : Type 0} (m : Mesh V DE UE F) (mesh : IsMesh m) (at : ℕ �
 
   -- what holds of the corners of each word holds of the corners of each face, from whichever corner on
   by_corners : (P : ℕ → ℕ → ℕ → Type 0) → ((a b c : ℕ) → P a b c → P b c a)
-      → (f a b c : ℕ) (corners : HasCorners s f a b c) → ((x y z : ℕ) → word_of s.words f ≡ x ∷ y ∷ z ∷ [] → P (origin_of s x) (origin_of s y) (origin_of s z)) → P a b c
+      → (f a b c : ℕ) (corners : HasCornerVertices s f a b c) → ((x y z : ℕ) → word_of s.words f ≡ x ∷ y ∷ z ∷ [] → P (origin_of s x) (origin_of s y) (origin_of s z)) → P a b c
   by_corners P turn f a b c corners holds =
       let face = word_is s f a b c corners in
       turned_along P turn (origin_of s face.x) (origin_of s face.y) (origin_of s face.z) a b c face.turn (holds face.x face.y face.z face.is)
 
-  pub circles : (f a b c v : ℕ) → HasCorners s f a b c → v < s.vertices → incircle_of (at a) (at b) (at c) (at v) ≤ℤ pos 0
+  pub circles : (f a b c v : ℕ) → HasCornerVertices s f a b c → v < s.vertices → incircle_of (at a) (at b) (at c) (at v) ≤ℤ pos 0
   circles f a b c v corners below =
       by_corners (λ a b c. incircle_of (at a) (at b) (at c) (at v) ≤ℤ pos 0)
       (λ a b c holds. subst (λ i. i ≤ℤ pos 0) (sym (incircle-turned (at a) (at b) (at c) (at v))) holds) f a b c corners
@@ -142,7 +142,7 @@ module _ {V DE UE F : Type 0} (m : Mesh V DE UE F) (mesh : IsMesh m) (at : ℕ �
       (λ inside. absurd ((no_vertex_inside m mesh known.triangles at known.delaunay known.convex known.hull).empty f x y z h corners.inner is live inside)) (λ none. none))
       v below)
 
-  pub apart : (f g a b c a' b' c' : ℕ) → HasCorners s f a b c → HasCorners s g a' b' c' → f ≢ g → AreDisjoint (at a) (at b) (at c) (at a') (at b') (at c')
+  pub apart : (f g a b c a' b' c' : ℕ) → HasCornerVertices s f a b c → HasCornerVertices s g a' b' c' → f ≢ g → AreDisjoint (at a) (at b) (at c) (at a') (at b') (at c')
   apart f g a b c a' b' c' corners corners' differ =
       by_corners (λ a b c. AreDisjoint (at a) (at b) (at c) (at a') (at b') (at c')) (λ a b c disjoint pl one other. disjoint pl (one.2, one.0, one.1) other) f a b c corners
       (λ x y z is. by_corners (λ a' b' c'. AreDisjoint (p x) (p y) (p z) (at a') (at b') (at c')) (λ a b c disjoint pl one other. disjoint pl one (other.2, other.0, other.1))
@@ -150,7 +150,7 @@ module _ {V DE UE F : Type 0} (m : Mesh V DE UE F) (mesh : IsMesh m) (at : ℕ �
       (λ x' y' z' is'. (disjoint_triangles m mesh known.triangles at known.delaunay.plane known.convex known.hull).disjoint f g x y z x' y' z' corners.inner corners'.inner differ is is'))
 
   -- no vertex lies in a face but its corners
-  pub alone : (f a b c v : ℕ) → HasCorners s f a b c → v < s.vertices → Covers (at a) (at b) (at c) (at v) → (v ≡ a) ⊎ ((v ≡ b) ⊎ (v ≡ c))
+  pub alone : (f a b c v : ℕ) → HasCornerVertices s f a b c → v < s.vertices → Covers (at a) (at b) (at c) (at v) → (v ≡ a) ⊎ ((v ≡ b) ⊎ (v ≡ c))
   alone f a b c v corners below =
       by_corners (λ a b c. Covers (at a) (at b) (at c) (at v) → (v ≡ a) ⊎ ((v ≡ b) ⊎ (v ≡ c)))
       (λ a b c holds covers. elim (holds (covers.2, covers.0, covers.1)) [ inl is ↦ inr (inr is) | inr others ↦ elim others [ inl is ↦ inl is | inr is ↦ inr (inl is) ] ])
@@ -168,14 +168,14 @@ module _ {V DE UE F : Type 0} (m : Mesh V DE UE F) (mesh : IsMesh m) (at : ℕ �
         ]
       ]) v below)
 
-  pub covered : (pl : Place) → LiesInHull at s pl → IsCovered at s pl
+  pub covered : (pl : Place) → LiesInHull at s pl → LiesInSomeTriangle at s pl
   covered pl = covered_in m mesh at pl (covers_hull m mesh known.triangles at known.delaunay) (inner_half m mesh known.closed known.inner)
 
   -- each vertex is a corner of an inner face
-  pub cornered : (v : ℕ) → v < s.vertices → (f : ℕ) × (b : ℕ) × (c : ℕ) × HasCorners s f v b c
-  cornered = each_vertex (λ v. (f : ℕ) × (b : ℕ) × (c : ℕ) × HasCorners s f v b c) (λ k live. found k live)
+  pub cornered : (v : ℕ) → v < s.vertices → (f : ℕ) × (b : ℕ) × (c : ℕ) × HasCornerVertices s f v b c
+  cornered = each_vertex (λ v. (f : ℕ) × (b : ℕ) × (c : ℕ) × HasCornerVertices s f v b c) (λ k live. found k live)
     where
-      found : (k : ℕ) → IsLive s k → (f : ℕ) × (b : ℕ) × (c : ℕ) × HasCorners s f (origin_of s k) b c
+      found : (k : ℕ) → IsLive s k → (f : ℕ) × (b : ℕ) × (c : ℕ) × HasCornerVertices s f (origin_of s k) b c
       found k live =
           let half = inner_half m mesh known.closed known.inner in
           let (i, live_i, inner_i, is) = corner_of m mesh known.triangles at known.delaunay.plane known.convex known.hull k half.0 live half.1 half.2 in

@@ -9,16 +9,16 @@ use Rattle.dcel_maps.specs.Shapes.{Shape, origin_of}
 use Rattle.dcel_plane.specs.Plane.{TrianglesTurnLeft}
 use Rattle.dcel_plane.specs.covering.Covering.{IsConvex, IsHull, dot}
 use Rattle.dcel_plane.proofs.covering.Along.{dot_in}
-use Rattle.dcel_plane.specs.covering.Places.{IsInside, Place, orient_at}
+use Rattle.dcel_plane.specs.covering.Places.{IsStrictlyIn, Place, orient_at}
 use Rattle.dcel_plane.specs.covering.Round.{IsRightOf}
 
-neg_in_range : (x : ℤ) → unsigned_abs x ≤ 2 ^ 30 → unsigned_abs (neg_ℤ x) ≤ 2 ^ 30
+neg_in_range : (x : ℤ) → unsigned_abs x ≤ 2 ^ 53 → unsigned_abs (neg_ℤ x) ≤ 2 ^ 53
 neg_in_range (pos zero) below = below
 neg_in_range (pos (suc n)) below = below
 neg_in_range (negsuc n) below = below
 
-in_range : (x : ℤ) → unsigned_abs x ≤ 2 ^ 30 → unsigned_abs (pos 0 -ℤ x) ≤ 2 ^ 30
-in_range x below = let e : neg_ℤ x ≡ pos 0 -ℤ x = omega (arith, ordered) in subst (λ z. unsigned_abs z ≤ 2 ^ 30) e (neg_in_range x below)
+in_range : (x : ℤ) → unsigned_abs x ≤ 2 ^ 53 → unsigned_abs (pos 0 -ℤ x) ≤ 2 ^ 53
+in_range x below = let e : neg_ℤ x ≡ pos 0 -ℤ x = omega (arith, ordered) in subst (λ z. unsigned_abs z ≤ 2 ^ 53) e (neg_in_range x below)
 
 pub opposite : Point → Point
 opposite a = record { x = pos 0 -ℤ a.x; y = pos 0 -ℤ a.y; x_in_range = in_range a.x a.x_in_range; y_in_range = in_range a.y a.y_in_range }
@@ -42,7 +42,7 @@ unfolding opposite opposite_place
 orient_at-opposite a b p =
     by_terms (a.x ∷ a.y ∷ b.x ∷ b.y ∷ p.x ∷ p.y ∷ p.w ∷ []) (orient_in (turned_spot (spot 0)) (turned_spot (spot 1)) (turned_place (place 4))) (orient_in (spot 0) (spot 1) (place 4)) refl
 
-pub inside-opposite : (a b c : Point) (p : Place) → IsInside a b c p → IsInside (opposite a) (opposite b) (opposite c) (opposite_place p)
+pub inside-opposite : (a b c : Point) (p : Place) → IsStrictlyIn a b c p → IsStrictlyIn (opposite a) (opposite b) (opposite c) (opposite_place p)
 inside-opposite a b c p is = (
   subst (λ z. pos 0 <ℤ z) (sym (orient_at-opposite a b p)) is.0,
   subst (λ z. pos 0 <ℤ z) (sym (orient_at-opposite b c p)) is.1,

@@ -17,7 +17,7 @@ use Rattle.dcel_maps.proofs.words.Reading.{face_in_word, live_in}
 use Rattle.dcel_plane.specs.Plane.{TrianglesTurnLeft}
 use Rattle.dcel_plane.proofs.edits.Corners.{left_of_triangle, three_items}
 use Rattle.dcel_plane.specs.covering.Covering.{HasDisjointTriangles, IsConvex, IsHull}
-use Rattle.dcel_plane.specs.covering.Places.{IsInside, Place}
+use Rattle.dcel_plane.specs.covering.Places.{IsStrictlyIn, Place}
 use Rattle.dcel_plane.proofs.covering.Columns.{IsHit, hit, hit_most, hit_says, passed}
 use Rattle.dcel_plane.proofs.covering.Hulls.{Bounds, one_start}
 use Rattle.dcel_plane.proofs.covering.Sums.{one_gains, sum-concat, sum-one, sum-some, sum-rev, sum_over, sum_words, two_gain}
@@ -57,7 +57,7 @@ module _ {V DE UE F : Type 0} (m : Mesh V DE UE F) (mesh : IsMesh m) (triangles 
   -- an inner triangle
   record Passes (x y z : ℕ) : Type 0 where
     most : right (x ∷ y ∷ z ∷ []) ≤ left (x ∷ y ∷ z ∷ [])
-    gains : IsInside (p x) (p y) (p z) pl → right (x ∷ y ∷ z ∷ []) + 1 ≤ left (x ∷ y ∷ z ∷ [])
+    gains : IsStrictlyIn (p x) (p y) (p z) pl → right (x ∷ y ∷ z ∷ []) + 1 ≤ left (x ∷ y ∷ z ∷ [])
 
   passes_turned : (x y z : ℕ) → Passes x y z → Passes y z x
   passes_turned x y z h = record {
@@ -98,7 +98,7 @@ module _ {V DE UE F : Type 0} (m : Mesh V DE UE F) (mesh : IsMesh m) (triangles 
     | inr dead ↦ subst (λ (w : List ℕ). right w ≤ left w) (sym (mesh.sound.bare f dead)) (omega arith)
   ]
 
-  inner_gains : (f x y z : ℕ) → 0 < f → word_of s.words f ≡ x ∷ y ∷ z ∷ [] → IsInside (p x) (p y) (p z) pl → right (word_of s.words f) + 1 ≤ left (word_of s.words f)
+  inner_gains : (f x y z : ℕ) → 0 < f → word_of s.words f ≡ x ∷ y ∷ z ∷ [] → IsStrictlyIn (p x) (p y) (p z) pl → right (word_of s.words f) + 1 ≤ left (word_of s.words f)
   inner_gains f x y z inner is inside = subst (λ (w : List ℕ). right w + 1 ≤ left w) (sym is) ((at_triangle_word f x y z inner is).gains inside)
 
   -- the outer face
@@ -164,7 +164,7 @@ module _ {V DE UE F : Type 0} (m : Mesh V DE UE F) (mesh : IsMesh m) (triangles 
     pub outer : face_of s h ≡ 0
     pub hits : IsHit (p h) (p (rev h)) pl
 
-  pub some_above : (f x y z : ℕ) → 0 < f → word_of s.words f ≡ x ∷ y ∷ z ∷ [] → IsInside (p x) (p y) (p z) pl → Above
+  pub some_above : (f x y z : ℕ) → 0 < f → word_of s.words f ≡ x ∷ y ∷ z ∷ [] → IsStrictlyIn (p x) (p y) (p z) pl → Above
   some_above f x y z inner is inside =
       let some = some_outer s.words refl f inner (below_length f x y z is) (inner_gains f x y z inner is inside) in
       let (h, found, counts) = sum-some passes (word_of s.words 0) (omega (arith, some)) in
@@ -176,7 +176,7 @@ module _ {V DE UE F : Type 0} (m : Mesh V DE UE F) (mesh : IsMesh m) (triangles 
       }
 
   pub in_one : (f g x y z x' y' z' : ℕ) → 0 < f → 0 < g → f ≢ g → word_of s.words f ≡ x ∷ y ∷ z ∷ [] → word_of s.words g ≡ x' ∷ y' ∷ z' ∷ []
-      → IsInside (p x) (p y) (p z) pl → IsInside (p x') (p y') (p z') pl → ⊥
+      → IsStrictlyIn (p x) (p y) (p z) pl → IsStrictlyIn (p x') (p y') (p z') pl → ⊥
   in_one f g x y z x' y' z' inner_f inner_g differ is_f is_g in_f in_g =
       not_two s.words refl f g differ inner_f inner_g (below_length f x y z is_f) (below_length g x' y' z' is_g)
       (inner_gains f x y z inner_f is_f in_f) (inner_gains g x' y' z' inner_g is_g in_g)

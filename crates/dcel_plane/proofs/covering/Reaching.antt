@@ -1,27 +1,26 @@
 -- A place that no edge of the hull has on its left can be walked to, from triangle to triangle: the walk ends in a triangle that covers it, and the
 -- place's power there isn't less than where the walk began.
-use Rattle.std.proofs.Common.{◌≡◌, inl, inr, ℕ, ◌+◌, ◌*◌, ◌/◌, ◌<◌, refl, sym, ap, ◌∙◌, subst, ℤ, pos, ◌<ℤ◌, ◌≤ℤ◌, ◌+ℤ◌, ◌*ℤ◌, eq-zero-or-pos, arith}
+use Rattle.std.proofs.Common.{◌≡◌, inl, inr, ℕ, ◌*◌, ◌/◌, ◌<◌, refl, sym, ap, ◌∙◌, subst, ℤ, pos, ◌<ℤ◌, ◌≤ℤ◌, ◌+ℤ◌, ◌*ℤ◌, eq-zero-or-pos, arith}
 use Rattle.std.proofs.lemmas.Int.{by_lt_z}
 use Rattle.dcel_fixed.specs.HalfEdges.{rev}
-use Rattle.dcel_fixed.proofs.Halves.{rev-double, rev-rev}
+use Rattle.dcel_fixed.proofs.Halves.{rev-rev}
 use Rattle.dcel_predicates.specs.Determinants.{orient2d_of, incircle_of}
 use Rattle.dcel_predicates.specs.declared.point.Point.{Point}
-use Rattle.dcel_predicates.proofs.Points.{incircle-from_the_other_side, orient2d-turned}
+use Rattle.dcel_predicates.proofs.Points.{orient2d-turned}
 use Rattle.dcel_predicates.proofs.Signs.{ordered}
-use Rattle.dcel_maps.specs.Conditions.{IsTriangle}
 use Rattle.dcel_maps.specs.Shapes.{IsLive, IsMesh, Mesh, Shape, end_of, face_of, map_of, next_of, origin_of, prev_of}
 use Rattle.dcel_maps.specs.Triangulations.{AllTriangles}
-use Rattle.dcel_maps.proofs.maps.Halves.{rev_or_same}
 use Rattle.dcel_maps.proofs.maps.Soundness.{rev_live}
 use Rattle.dcel_maps.proofs.walks.Links.{half-below}
-use Rattle.dcel_plane.specs.Plane.{IsInner, IsLocallyDelaunay}
+use Rattle.dcel_plane.specs.Plane.{IsLocallyDelaunay}
 use Rattle.dcel_plane.specs.covering.Covering.{CoversHull}
 use Rattle.dcel_plane.specs.covering.Places.{IsIn, Place, incircle_at, orient_at, squared_distance_at}
+use Rattle.dcel_plane.proofs.covering.Circled.{circled_edge}
 use Rattle.dcel_plane.proofs.covering.Climbing.{climb}
 use Rattle.dcel_plane.proofs.covering.Inside.{other_way}
 use Rattle.dcel_plane.proofs.covering.Powers.{Side, area, most, side}
 use Rattle.dcel_plane.proofs.covering.Towards.{IsBeyond, IsHigherAt, LeadsAt, along_at, crosses_at, itself_at, power_at}
-use Rattle.dcel_plane.proofs.covering.Triangles.{left_at, at_half, is_triangle, round}
+use Rattle.dcel_plane.proofs.covering.Triangles.{left_at, at_half, round}
 
 pub incircle_at-turned : (a b c : Point) (q : Place) → incircle_at b c a q ≡ incircle_at a b c q
 incircle_at-turned a b c q = sums (squared_distance_at a q *ℤ orient_at b c q) (squared_distance_at b q *ℤ orient_at c a q) (squared_distance_at c q *ℤ orient_at a b q)
@@ -40,34 +39,11 @@ module _ {V DE UE F : Type 0} (m : Mesh V DE UE F) (mesh : IsMesh m) (triangles 
   side_at h = side (p h) (p (next_of s h)) (p (prev_of s h))
 
   -- the corner beyond an edge isn't inside the circle
-  even_not_circled : (h : ℕ) → IsLive s h → 0 < face_of s h → 0 < face_of s (rev h) → h ≡ 2 * (h / 2)
-      → ¬ (pos 0 <ℤ incircle_of (p h) (p (rev h)) (p (prev_of s h)) (p (prev_of s (rev h))))
-  even_not_circled h live inner facing even =
-      let other : rev h ≡ 2 * (h / 2) + 1 = ap rev even ∙ rev-double (h / 2) in
-      let near = is_triangle m mesh triangles h live inner in
-      let far = is_triangle m mesh triangles (rev h) (rev_live (map_of s) h live) facing in
-      let inner_edge : IsInner s (h / 2) = record {
-        live = live;
-        triangle = subst (λ (i : ℕ). IsTriangle s (face_of s i)) even near;
-        facing = subst (λ (i : ℕ). IsTriangle s (face_of s i)) other far;
-        inner = subst (λ (i : ℕ). 0 < face_of s i) even inner;
-        inner_facing = subst (λ (i : ℕ). 0 < face_of s i) other facing;
-      } in
-      λ circled. delaunay.empty (h / 2) inner_edge
-      (subst (λ (i : ℕ). pos 0 <ℤ incircle_of (p (2 * (h / 2))) (p i) (p (prev_of s (2 * (h / 2)))) (p (prev_of s i))) other
-      (subst (λ (i : ℕ). pos 0 <ℤ incircle_of (p i) (p (rev h)) (p (prev_of s i)) (p (prev_of s (rev h)))) even circled))
-
   pub not_circled : (h : ℕ) → IsLive s h → 0 < face_of s h → 0 < face_of s (rev h)
       → ¬ (pos 0 <ℤ incircle_of (p h) (p (rev h)) (p (prev_of s h)) (p (prev_of s (rev h))))
-  not_circled h live inner facing circled = elim (rev_or_same h (2 * (h / 2)) (omega arith)) [
-    | inl even ↦ even_not_circled h live inner facing even circled
-    | inr odd ↦
-        let back : rev h ≡ 2 * (h / 2) = ap rev odd ∙ rev-rev (2 * (h / 2)) in
-        let half : rev h / 2 ≡ h / 2 = ap (λ (i : ℕ). i / 2) back ∙ omega arith in
-        even_not_circled (rev h) (rev_live (map_of s) h live) facing (subst (λ (i : ℕ). 0 < face_of s i) (sym (rev-rev h)) inner) (back ∙ ap (λ (i : ℕ). 2 * i) (sym half))
-        (subst (λ (i : ℕ). pos 0 <ℤ incircle_of (p (rev h)) (p i) (p (prev_of s (rev h))) (p (prev_of s i))) (sym (rev-rev h))
-        (subst (λ z. pos 0 <ℤ z) (sym (incircle-from_the_other_side (p h) (p (rev h)) (p (prev_of s h)) (p (prev_of s (rev h))))) circled))
-  ]
+  not_circled h live inner facing inside =
+      let (edge, circled) = circled_edge m mesh triangles at h live inner facing inside in
+      delaunay.empty (h / 2) edge circled
 
   module _ (pl : Place) (within : (h : ℕ) → IsLive s h → face_of s h ≡ 0 → orient_at (p h) (p (rev h)) pl ≤ℤ pos 0) (n d : ℤ) (positive : pos 0 <ℤ d) where
     -- the place's power is n / d or more

@@ -13,8 +13,8 @@ use Rattle.dcel_maps.specs.Triangulations.{AllTriangles}
 use Rattle.dcel_maps.proofs.maps.Soundness.{rev_live}
 use Rattle.dcel_plane.specs.Plane.{TrianglesTurnLeft}
 use Rattle.dcel_plane.specs.covering.Covering.{IsConvex, IsHull, dot}
-use Rattle.dcel_plane.specs.covering.Places.{IsIn, IsInside, Place, orient_at}
-use Rattle.dcel_plane.specs.covering.Round.{GoesRound, IsRightOf, LeadsLeft, LeadsRight}
+use Rattle.dcel_plane.specs.covering.Places.{IsIn, IsStrictlyIn, Place, orient_at}
+use Rattle.dcel_plane.specs.covering.Round.{GoesRoundOnce, IsRightOf, LeadsLeft, LeadsRight}
 use Rattle.dcel_plane.proofs.covering.Along.{by_place, dot_start, first_weight, long, no_height, none_first, one_point, second_weight}
 use Rattle.dcel_plane.proofs.covering.Cones.{nothing}
 use Rattle.dcel_plane.proofs.covering.Inside.{as_covered, as_place, closed_disjoint, left, middle, middle_inside, near_place, nudged, nudged-is, on_end, on_start, place_of, same_place}
@@ -37,10 +37,10 @@ one_place_of a b ex ey = rw (ex, ey) refl
 -- Of two triangles with a corner at one point, and a place inside the first one between the two sides of the other one there, some place lies in both.
 record InBoth (a b c x y z : Point) : Type 0 where
   place : Place
-  inside : IsInside a b c place
+  inside : IsStrictlyIn a b c place
   within : IsIn x y z place
 
-module _ (a b c x y z : Point) (ex : a.x ≡ x.x) (ey : a.y ≡ x.y) (turn : pos 0 <ℤ orient2d_of a b c) (turn_x : pos 0 <ℤ orient2d_of x y z) (r : Place) (inside : IsInside a b c r)
+module _ (a b c x y z : Point) (ex : a.x ≡ x.x) (ey : a.y ≡ x.y) (turn : pos 0 <ℤ orient2d_of a b c) (turn_x : pos 0 <ℤ orient2d_of x y z) (r : Place) (inside : IsStrictlyIn a b c r)
     (first : pos 0 ≤ℤ orient_at x y r) (last : pos 0 ≤ℤ orient_at z x r) where
   abbrev n : ℤ
   n = pos 1 +ℤ (orient_at y z r *ℤ orient_at y z r)
@@ -77,7 +77,7 @@ module _ (a b c x y z : Point) (ex : a.x ≡ x.x) (ey : a.y ≡ x.y) (turn : pos
         );
       }
 
-module _ {V DE UE F : Type 0} (m : Mesh V DE UE F) (mesh : IsMesh m) (triangles : AllTriangles m.shape) (at : ℕ → Point) (plane : TrianglesTurnLeft at m.shape) (goes : GoesRound at m.shape) where
+module _ {V DE UE F : Type 0} (m : Mesh V DE UE F) (mesh : IsMesh m) (triangles : AllTriangles m.shape) (at : ℕ → Point) (plane : TrianglesTurnLeft at m.shape) (goes : GoesRoundOnce at m.shape) where
   abbrev s : Shape
   s = m.shape
 
@@ -151,7 +151,7 @@ module _ {V DE UE F : Type 0} (m : Mesh V DE UE F) (mesh : IsMesh m) (triangles 
   ]
     where
       shared : (c x : ℕ) → IsLive s c → 0 < face_of s c → IsLive s x → 0 < face_of s x → pos 0 <ℤ orient2d_of (p c) (p (next_of s c)) (p (prev_of s c)) → (r : Place)
-          → IsInside (p c) (p (next_of s c)) (p (prev_of s c)) r → (p c).x ≡ (p x).x → (p c).y ≡ (p x).y
+          → IsStrictlyIn (p c) (p (next_of s c)) (p (prev_of s c)) r → (p c).x ≡ (p x).x → (p c).y ≡ (p x).y
           → (pos 0 ≤ℤ orient_at (p x) (p (next_of s x)) r) × (pos 0 ≤ℤ orient_at (p (prev_of s x)) (p x) r) → (origin_of s c ≡ origin_of s x → ⊥) → ⊥
       shared c x live_c inner_c live_x inner_x turn r inside ex ey within differ =
           let b = next_of s c in
@@ -276,7 +276,7 @@ module _ {V DE UE F : Type 0} (m : Mesh V DE UE F) (mesh : IsMesh m) (triangles 
         ends_differ m mesh triangles at plane goes h live outer (sym one.0) (sym one.1))) in
         let third = left x y z pb pa q.place turn_c rx ry rz some q.inside in
         let to = sym meets in
-        let inside_r : IsInside pb (p (next_of s r)) pc q.place =
+        let inside_r : IsStrictlyIn pb (p (next_of s r)) pc q.place =
         (subst (λ (g : Point). pos 0 <ℤ orient_at pb g q.place) to third, subst (λ (g : Point). pos 0 <ℤ orient_at g pc q.place) to q.first, q.second) in
         elim (cases_eq (face_of s r) (face_of s c.i)) [
           | inr other ↦ disjoint_halves m mesh triangles at (disjoint m mesh triangles at plane goes) r c.i live_r inner_r c.live c.inner other q.place inside_r q.inside

@@ -13,7 +13,7 @@ use Rattle.dcel_maps.proofs.maps.Soundness.{face_prev, rev_live}
 use Rattle.dcel_maps.proofs.shapes.Maps.{map-sound}
 use Rattle.dcel_plane.specs.Plane.{TrianglesTurnLeft}
 use Rattle.dcel_plane.specs.covering.Covering.{IsConvex, IsHull}
-use Rattle.dcel_plane.specs.covering.Round.{Begins, GoesRound, IsRightOf, LeadsLeft, LeadsRight}
+use Rattle.dcel_plane.specs.covering.Round.{Begins, GoesRoundOnce, IsRightOf, LeadsLeft, LeadsRight}
 use Rattle.dcel_plane.proofs.covering.Along.{one_point}
 use Rattle.dcel_plane.proofs.covering.Faces.{not_bare}
 use Rattle.dcel_plane.proofs.covering.Leading.{all_straight, none_left, one_spot, right_or_not}
@@ -84,7 +84,7 @@ module _ {V DE UE F : Type 0} (m : Mesh V DE UE F) (mesh : IsMesh m) (triangles 
       before = λ leads. begins.before (left-opposite (at (origin_of s (prev_of s h))) (at (origin_of s (rev (prev_of s h)))) leads);
     }
 
-    pub goes_round : GoesRound at s
+    pub goes_round : GoesRoundOnce at s
     goes_round = record {
       inner = λ h live outer. elim (eq-zero-or-pos (face_of s (rev h))) [
         | inr inner ↦ inner

@@ -12,8 +12,8 @@ use Rattle.dcel_maps.specs.Words.{word_of}
 use Rattle.dcel_maps.proofs.maps.Soundness.{rev_live}
 use Rattle.dcel_plane.specs.Plane.{TrianglesTurnLeft}
 use Rattle.dcel_plane.specs.covering.Covering.{HasDisjointTriangles}
-use Rattle.dcel_plane.specs.covering.Places.{IsInside, Place, orient_at}
-use Rattle.dcel_plane.specs.covering.Round.{Begins, GoesRound, LeadsLeft, LeadsRight}
+use Rattle.dcel_plane.specs.covering.Places.{IsStrictlyIn, Place, orient_at}
+use Rattle.dcel_plane.specs.covering.Round.{Begins, GoesRoundOnce, LeadsLeft, LeadsRight}
 use Rattle.dcel_plane.proofs.covering.Chains.{below_chain, once_on, one_passes}
 use Rattle.dcel_plane.proofs.covering.Inside.{on_end, same_place}
 use Rattle.dcel_plane.proofs.covering.Leading.{one_spot, right_or_not}
@@ -33,13 +33,13 @@ module _ {V DE UE F : Type 0} (m : Mesh V DE UE F) (mesh : IsMesh m) (triangles 
   right_below : (at : ℕ → Point) → TrianglesTurnLeft at s
       → ((h : ℕ) → IsLive s h → face_of s h ≡ 0 → orient2d_of (at (origin_of s h)) (at (origin_of s (rev h))) (at (origin_of s (rev (next_of s h)))) ≤ℤ pos 0)
       → ((h k : ℕ) → Begins (LeadsRight at s) s h → Begins (LeadsRight at s) s k → h ≡ k)
-      → (pl : Place) (f x y z : ℕ) → 0 < f → word_of s.words f ≡ x ∷ y ∷ z ∷ [] → IsInside (at (origin_of s x)) (at (origin_of s y)) (at (origin_of s z)) pl
+      → (pl : Place) (f x y z : ℕ) → 0 < f → word_of s.words f ≡ x ∷ y ∷ z ∷ [] → IsStrictlyIn (at (origin_of s x)) (at (origin_of s y)) (at (origin_of s z)) pl
       → (h : ℕ) → IsLive s h → face_of s h ≡ 0 → LeadsRight at s h → orient_at (at (origin_of s h)) (at (origin_of s (rev h))) pl ≤ℤ pos 0
   right_below at plane turns right pl f x y z inner is inside h live outer leads =
       let above = some_above m mesh triangles at plane pl (one_passes m mesh at turns right pl) f x y z inner is inside in
       below_chain m mesh at turns right pl above.h h above.live above.outer above.hits record { live = live; outer = outer; there = leads }
 
-  module _ (at : ℕ → Point) (plane : TrianglesTurnLeft at s) (goes : GoesRound at s) where
+  module _ (at : ℕ → Point) (plane : TrianglesTurnLeft at s) (goes : GoesRoundOnce at s) where
     abbrev p : ℕ → Point
     p h = at (origin_of s h)
 
@@ -86,10 +86,10 @@ module _ {V DE UE F : Type 0} (m : Mesh V DE UE F) (mesh : IsMesh m) (triangles 
         let meets : p (next_of s r) ≡ p h = ap at (mesh.sound.joined r live_r ∙ ap (origin_of s) (rev-rev h)) in
         no_turn (p r) (p (next_of s r)) (p (prev_of s r)) turn (sym ex ∙ ap (λ (q : Point). q.x) (sym meets)) (sym ey ∙ ap (λ (q : Point). q.y) (sym meets))
 
-    pub outer_right : (pl : Place) (t : ℕ) → IsLive s t → 0 < face_of s t → IsInside (p t) (p (next_of s t)) (p (prev_of s t)) pl
+    pub outer_right : (pl : Place) (t : ℕ) → IsLive s t → 0 < face_of s t → IsStrictlyIn (p t) (p (next_of s t)) (p (prev_of s t)) pl
         → (h : ℕ) → IsLive s h → face_of s h ≡ 0 → orient_at (p h) (p (rev h)) pl ≤ℤ pos 0
     outer_right pl t live_t inner_t inside h live outer =
-        at_half m mesh triangles (λ x y z. IsInside (p x) (p y) (p z) pl → orient_at (p h) (p (rev h)) pl ≤ℤ pos 0)
+        at_half m mesh triangles (λ x y z. IsStrictlyIn (p x) (p y) (p z) pl → orient_at (p h) (p (rev h)) pl ≤ℤ pos 0)
         (λ x y z holds within. holds (within.2, within.0, within.1))
         (λ f x y z inner is within. elim (right_or_not (p h) (p (rev h))) [
           | inl leads ↦ right_below at plane goes.turns goes.right pl f x y z inner is within h live outer leads

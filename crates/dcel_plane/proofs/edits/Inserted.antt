@@ -12,7 +12,7 @@ use Rattle.dcel_maps.proofs.edits.Patches.{Patch, pushing}
 use Rattle.dcel_maps.proofs.maps.Triangles.{IsTriangleOf}
 use Rattle.dcel_maps.proofs.words.Mapped.{count-at}
 use Rattle.dcel_plane.specs.Edges.{edges_inserted}
-use Rattle.dcel_plane.specs.Plane.{LiesInside, ListsCircled, TrianglesTurnLeft, TurnsLeft}
+use Rattle.dcel_plane.specs.Plane.{LiesInFace, ListsCircled, TrianglesTurnLeft, TurnsLeft}
 use Rattle.dcel_plane.proofs.edits.Corners.{corners_are, left_same, of_three, seen}
 use Rattle.dcel_plane.proofs.edits.Written.{IsWritten, Leads, origin_away, origin_more, written_lists, written_plane}
 
@@ -67,7 +67,7 @@ module _ {V DE UE F : Type 0} (m : Mesh V DE UE F) (mesh : IsMesh m) (v f : ℕ)
   leads : (k p q r : ℕ) → TurnsLeft (at (origin_of t p)) (at (origin_of t q)) (at (origin_of t r)) → Leads at s t words origins written mesh.sound k (p ∷ q ∷ r ∷ [])
   leads k p q r left x y z inner is = left_same at t p q r x y z is left
 
-  module _ (lies : LiesInside at s f (at v)) where
+  module _ (lies : LiesInFace at s f (at v)) where
     pub first_side : TurnsLeft (at (origin_of s a)) (at (origin_of s b)) (at v)
     first_side = seen at s (at v) a b mesh.sound was.live_x (mesh.sound.joined a was.live_x) (lies a was.live_x was.face_x)
 
@@ -77,7 +77,7 @@ module _ {V DE UE F : Type 0} (m : Mesh V DE UE F) (mesh : IsMesh m) (v f : ℕ)
     pub third_side : TurnsLeft (at (origin_of s c)) (at (origin_of s a)) (at v)
     third_side = seen at s (at v) c a mesh.sound was.live_z (ap (origin_of s) (sym was.next_z) ∙ mesh.sound.joined c was.live_z) (lies c was.live_z was.face_z)
 
-  pub inserted_plane : LiesInside at s f (at v) → TrianglesTurnLeft at s → TrianglesTurnLeft at t
+  pub inserted_plane : LiesInFace at s f (at v) → TrianglesTurnLeft at s → TrianglesTurnLeft at t
   inserted_plane lies plane =
       let starts = origin_more at s t words origins written mesh.sound in
       written_plane at s t words origins written mesh.sound plane

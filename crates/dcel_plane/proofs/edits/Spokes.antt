@@ -19,7 +19,7 @@ use Rattle.dcel_maps.proofs.maps.Triangles.{IsTriangleOf, triangle_from}
 use Rattle.dcel_maps.proofs.shapes.Maps.{map-sound}
 use Rattle.dcel_maps.proofs.walks.Links.{links_stand}
 use Rattle.dcel_plane.specs.Edges.{edges_inserted}
-use Rattle.dcel_plane.specs.Plane.{IsCircled, LiesInside, ListsCircled, TurnsLeft}
+use Rattle.dcel_plane.specs.Plane.{IsCircled, LiesInFace, ListsCircled, TurnsLeft}
 use Rattle.dcel_plane.proofs.edits.Corners.{left_turned, of_three}
 use Rattle.dcel_maps.proofs.words.Counts.{count-append}
 use Rattle.dcel_plane.proofs.edits.Inserted.{first_side, inserted_lists, old, origins, second_side, third_side, was, words, written}
@@ -43,7 +43,7 @@ no_spoke p q r v first second third inside =
     not_convex q v p r (left_turned p q v first) (left_turned r v q (left_turned q r v second)) third inside
 
 module _ {V DE UE F : Type 0} (m : Mesh V DE UE F) (mesh : IsMesh m) (v f : ℕ) (triangle : IsTriangle m.shape f) (halves : List DE) (edges : List UE) (faces : List F) (at : ℕ → Point)
-    (after : IsMesh (vertex_inserted m v f halves edges faces)) (lies : LiesInside at m.shape f (at v)) where
+    (after : IsMesh (vertex_inserted m v f halves edges faces)) (lies : LiesInFace at m.shape f (at v)) where
   abbrev s : Shape
   s = m.shape
 

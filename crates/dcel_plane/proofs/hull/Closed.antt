@@ -17,7 +17,7 @@ use Rattle.dcel_maps.proofs.words.Reading.{face-next, face-prev}
 use Rattle.dcel_plane.specs.covering.Covering.{IsConvex, IsHull, dot}
 use Rattle.dcel_plane.proofs.covering.Along.{edges_long, long, one_point}
 use Rattle.dcel_plane.proofs.covering.Inside.{on_end, on_start}
-use Rattle.dcel_plane.specs.hull.Closing.{IsClosed, IsClosing, IsThick}
+use Rattle.dcel_plane.specs.hull.Closing.{IsClosedBeside, IsClosing, IsThick}
 use Rattle.dcel_plane.proofs.hull.Corners.{back_at_end, back_at_start, last_with}
 use Rattle.dcel_plane.proofs.hull.Ends.{closed_by}
 use Rattle.dcel_plane.proofs.hull.FirstTriangle.{no_turn}
@@ -31,7 +31,7 @@ of_two next a back x y (go {y = z} step rest) (inl first) = of_two next a back z
 of_two next a back x y (go {y = z} step rest) (inr second) = of_two next a back z y rest (inl (sym step ∙ ap next second ∙ back))
 
 module _ {V DE UE F : Type 0} (m : Mesh V DE UE F) (mesh : IsMesh m) (at : ℕ → Point) (hull : IsHull at m.shape) (t : ℕ)
-    (closing : IsClosing at m.shape t) (thick : IsThick at m.shape t) (closed : IsClosed at m.shape t) (h0 : ℕ) (live_0 : IsLive m.shape h0) (on_0 : face_of m.shape h0 ≡ 0) (starts_0 : origin_of m.shape h0 ≡ t) where
+    (closing : IsClosing at m.shape t) (thick : IsThick at m.shape t) (closed : IsClosedBeside at m.shape t) (h0 : ℕ) (live_0 : IsLive m.shape h0) (on_0 : face_of m.shape h0 ≡ 0) (starts_0 : origin_of m.shape h0 ≡ t) where
   abbrev s : Shape
   s = m.shape
 

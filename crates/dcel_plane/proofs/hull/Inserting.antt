@@ -12,7 +12,7 @@ use Rattle.dcel_maps.specs.Triangulations.{AllTriangles}
 use Rattle.dcel_maps.specs.Words.{word_of}
 use Rattle.dcel_maps.specs.edits.Triangle.{vertex_inserted}
 use Rattle.dcel_maps.proofs.maps.Soundness.{rev_live}
-use Rattle.dcel_plane.specs.Plane.{LiesInside, TrianglesTurnLeft, TurnsLeft}
+use Rattle.dcel_plane.specs.Plane.{LiesInFace, TrianglesTurnLeft, TurnsLeft}
 use Rattle.dcel_plane.proofs.edits.Inserted.{first_side, old, origins, second_side, third_side, was, words, written}
 use Rattle.dcel_plane.proofs.edits.Written.{origin_more}
 use Rattle.dcel_plane.specs.covering.Covering.{IsConvex, IsHull}
@@ -43,7 +43,7 @@ module _ (a b c e f : Point) (turn : pos 0 <ℤ orient2d_of a b c) (at_a : pos 0
       (subst (λ i. pos 0 <ℤ i) (sym (as_place a b q)) ab, subst (λ i. pos 0 <ℤ i) (sym (as_place b c q)) bc, subst (λ i. pos 0 <ℤ i) (sym (as_place c a q)) ca))
 
 module _ {V DE UE F : Type 0} (m : Mesh V DE UE F) (mesh : IsMesh m) (triangles : AllTriangles m.shape) (at : ℕ → Point) (plane : TrianglesTurnLeft at m.shape)
-    (convex : IsConvex at m.shape) (hull : IsHull at m.shape) (v f : ℕ) (inner : 0 < f) (triangle : IsTriangle m.shape f) (lies : LiesInside at m.shape f (at v))
+    (convex : IsConvex at m.shape) (hull : IsHull at m.shape) (v f : ℕ) (inner : 0 < f) (triangle : IsTriangle m.shape f) (lies : LiesInFace at m.shape f (at v))
     (halves : List DE) (edges : List UE) (faces : List F) where
   abbrev s : Shape
   s = m.shape

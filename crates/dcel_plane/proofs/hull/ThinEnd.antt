@@ -20,7 +20,7 @@ use Rattle.dcel_plane.specs.covering.Covering.{IsConvex, IsHull, dot}
 use Rattle.dcel_plane.proofs.covering.Along.{none_first, none_second, one_place, one_point}
 use Rattle.dcel_plane.proofs.covering.Inside.{on_start}
 use Rattle.dcel_plane.proofs.covering.Products.{both_below, times_below}
-use Rattle.dcel_plane.specs.hull.Closing.{IsClosed, IsClosing, IsThin}
+use Rattle.dcel_plane.specs.hull.Closing.{IsClosedBeside, IsClosing, IsThin}
 use Rattle.dcel_plane.specs.hull.Straight.{dot_of_steps}
 use Rattle.dcel_plane.proofs.hull.Seeing.{IsSeen, seen_end, seen_or_not, seen_start}
 use Rattle.dcel_plane.proofs.hull.Corners.{last_with, slope}
@@ -63,7 +63,7 @@ at_point_before b r z t far_b on seen none =
         (λ not. by_lt_z d (pos 0) (λ less. absurd (let t = both_below d w less hw in omega (arith, ordered, e, zero, none, t))) (λ nor. omega (arith, ordered, not, nor)))
 
 module _ {V DE UE F : Type 0} (m : Mesh V DE UE F) (mesh : IsMesh m) (triangles : AllTriangles m.shape) (at : ℕ → Point) (plane : TrianglesTurnLeft at m.shape) (t : ℕ)
-    (closing : IsClosing at m.shape t) (thin : IsThin at m.shape t) (closed : IsClosed at m.shape t)
+    (closing : IsClosing at m.shape t) (thin : IsThin at m.shape t) (closed : IsClosedBeside at m.shape t)
     (h0 : ℕ) (live_0 : IsLive m.shape h0) (on_0 : face_of m.shape h0 ≡ 0) (starts_0 : origin_of m.shape h0 ≡ t) where
   abbrev s : Shape
   s = m.shape

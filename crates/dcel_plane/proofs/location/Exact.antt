@@ -14,7 +14,7 @@ use Rattle.dcel_maps.proofs.maps.Soundness.{rev_live}
 use Rattle.dcel_maps.proofs.walks.Links.{links_stand}
 use Rattle.dcel_maps.proofs.words.Counts.{count-later, count-same}
 use Rattle.dcel_maps.proofs.words.Reading.{face_in_word}
-use Rattle.dcel_plane.specs.Plane.{IsLeftOf, LiesInside, TrianglesTurnLeft, TurnsLeft}
+use Rattle.dcel_plane.specs.Plane.{IsLeftOf, LiesInFace, TrianglesTurnLeft, TurnsLeft}
 use Rattle.dcel_plane.proofs.edits.Corners.{left_of_triangle}
 use Rattle.dcel_plane.specs.covering.Covering.{Covers, IsConvex, IsHull, dot}
 use Rattle.dcel_plane.specs.covering.Places.{orient_at}
@@ -34,7 +34,7 @@ module _ {V DE UE F : Type 0} (m : Mesh V DE UE F) (mesh : IsMesh m) (triangles 
   p h = at (origin_of s h)
 
   -- a point strictly inside is on the left of all three sides
-  inner_sides : (h : ℕ) → IsLive s h → 0 < face_of s h → LiesInside at s (face_of s h) v → TurnsLeft (p h) (p (next_of s h)) v × TurnsLeft (p (next_of s h)) (p (prev_of s h)) v × TurnsLeft (p (prev_of s h)) (p h) v
+  inner_sides : (h : ℕ) → IsLive s h → 0 < face_of s h → LiesInFace at s (face_of s h) v → TurnsLeft (p h) (p (next_of s h)) v × TurnsLeft (p (next_of s h)) (p (prev_of s h)) v × TurnsLeft (p (prev_of s h)) (p h) v
   inner_sides h live inner lies =
       let f = face_of s h in
       let b = next_of s h in
@@ -121,7 +121,7 @@ module _ {V DE UE F : Type 0} (m : Mesh V DE UE F) (mesh : IsMesh m) (triangles 
     stands_there k i is stands = subst (λ (j : ℕ). StandsAt at v j) is stands
 
     -- strictly inside of a triangle there is none
-    pub none_inside : (h k : ℕ) → IsLive s h → 0 < face_of s h → LiesInside at s (face_of s h) v → IsLive s k → StandsAt at v (origin_of s k) → ⊥
+    pub none_inside : (h k : ℕ) → IsLive s h → 0 < face_of s h → LiesInFace at s (face_of s h) v → IsLive s k → StandsAt at v (origin_of s k) → ⊥
     none_inside h k live inner lies live_k stands =
         let sides = inner_sides h live inner lies in
         none_in m mesh triangles at plane convex hull v h live inner sides.0 sides.1 sides.2 k live_k stands.0 stands.1
@@ -159,7 +159,7 @@ module _ {V DE UE F : Type 0} (m : Mesh V DE UE F) (mesh : IsMesh m) (triangles 
     ]
 
     -- what lies strictly inside of one triangle lies in no other
-    pub in_one : (h t : ℕ) → IsLive s h → 0 < face_of s h → LiesInside at s (face_of s h) v → IsLive s t → 0 < face_of s t → Covers (p t) (p (next_of s t)) (p (prev_of s t)) v
+    pub in_one : (h t : ℕ) → IsLive s h → 0 < face_of s h → LiesInFace at s (face_of s h) v → IsLive s t → 0 < face_of s t → Covers (p t) (p (next_of s t)) (p (prev_of s t)) v
         → face_of s t ≡ face_of s h
     in_one h t live inner lies live_t inner_t covers = elim (cases_eq (face_of s t) (face_of s h)) [
       | inl is ↦ is
@@ -177,7 +177,7 @@ module _ {V DE UE F : Type 0} (m : Mesh V DE UE F) (mesh : IsMesh m) (triangles 
           (as_covered (p t) (p (next_of s t)) (p (prev_of s t)) v covers))
     ]
 
-    pub in_one_word : (h f x y z : ℕ) → IsLive s h → 0 < face_of s h → LiesInside at s (face_of s h) v → 0 < f → word_of s.words f ≡ x ∷ y ∷ z ∷ [] → f ≢ face_of s h
+    pub in_one_word : (h f x y z : ℕ) → IsLive s h → 0 < face_of s h → LiesInFace at s (face_of s h) v → 0 < f → word_of s.words f ≡ x ∷ y ∷ z ∷ [] → f ≢ face_of s h
         → ¬ Covers (p x) (p y) (p z) v
     in_one_word h f x y z live inner lies inner_f is other =
         let found : 0 < count_of x (word_of s.words f) = subst (λ (l : List ℕ). 0 < count_of x l) (sym is) (omega (arith, count-same x (y ∷ z ∷ []))) in
@@ -222,7 +222,7 @@ module _ {V DE UE F : Type 0} (m : Mesh V DE UE F) (mesh : IsMesh m) (triangles 
     ]
 
     -- it lies on no edge
-    pub on_none : (h k : ℕ) → IsLive s h → 0 < face_of s h → LiesInside at s (face_of s h) v → IsLive s k → ¬ LiesOn at s v k
+    pub on_none : (h k : ℕ) → IsLive s h → 0 < face_of s h → LiesInFace at s (face_of s h) v → IsLive s k → ¬ LiesOn at s v k
     on_none h k live inner lies live_k on_k =
         inner_half h k live inner live_k on_k
         (λ i live_i inner_i on_i.

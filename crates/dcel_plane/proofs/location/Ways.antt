@@ -11,7 +11,7 @@ use Rattle.dcel_predicates.proofs.Signs.{ordered, times_positive}
 use Rattle.dcel_maps.specs.Shapes.{IsLive, IsMesh, Mesh, Shape, end_of, face_of, map_of, next_of, origin_of, prev_of}
 use Rattle.dcel_maps.specs.Triangulations.{AllTriangles}
 use Rattle.dcel_maps.proofs.maps.Triangles.{IsTriangleOf}
-use Rattle.dcel_plane.specs.Plane.{IsLeftOf, LiesInside, TrianglesTurnLeft, TurnsLeft}
+use Rattle.dcel_plane.specs.Plane.{IsLeftOf, LiesInFace, TrianglesTurnLeft, TurnsLeft}
 use Rattle.dcel_plane.proofs.edits.Corners.{left_of_triangle}
 use Rattle.dcel_plane.specs.covering.Covering.{Covers, dot}
 use Rattle.dcel_plane.proofs.covering.Along.{between_ends, dot_start, first_weight, long, none_first, one_point, second_weight}
@@ -71,7 +71,7 @@ lies_back at s v k lies =
           (let x = *ℤ_comm (a.x -ℤ v.x) (b.x -ℤ v.x) in let y = *ℤ_comm (a.y -ℤ v.y) (b.y -ℤ v.y) in let apart = lies.between in omega (arith, ordered, apart, x, y));
     }
 
-pub not_both : (at : ℕ → Point) (s : Shape) (v : Point) (f : ℕ) → LiesInside at s f v → ¬ HasEdge at s v f
+pub not_both : (at : ℕ → Point) (s : Shape) (v : Point) (f : ℕ) → LiesInFace at s f v → ¬ HasEdge at s v f
 not_both at s v f lies edge = let a = lies edge.side edge.live edge.face in let b = edge.lies.on in omega (arith, ordered, a, b)
 
 module _ {V DE UE F : Type 0} (m : Mesh V DE UE F) (mesh : IsMesh m) (triangles : AllTriangles m.shape) (at : ℕ → Point) (plane : TrianglesTurnLeft at m.shape) (v : Point) where
@@ -97,7 +97,7 @@ module _ {V DE UE F : Type 0} (m : Mesh V DE UE F) (mesh : IsMesh m) (triangles 
     left_of : (h b : ℕ) → b ≡ end_of s h → TurnsLeft (p h) (at b) v → IsLeftOf at s v h
     left_of h b is turns = subst (λ (j : ℕ). TurnsLeft (p h) (at j) v) is turns
 
-    inside : TurnsLeft (p x) (p y) v → TurnsLeft (p y) (p z) v → TurnsLeft (p z) (p x) v → LiesInside at s f v
+    inside : TurnsLeft (p x) (p y) v → TurnsLeft (p y) (p z) v → TurnsLeft (p z) (p x) v → LiesInFace at s f v
     inside xy yz zx = of_face m mesh f x y z tri (IsLeftOf at s v) (left_of x (origin_of s y) to_y xy) (left_of y (origin_of s z) to_z yz) (left_of z (origin_of s x) to_x zx)
 
     on_side : orient2d_of (p x) (p y) v ≡ pos 0 → TurnsLeft (p y) (p z) v → TurnsLeft (p z) (p x) v → HasEdge at s v f
@@ -126,7 +126,7 @@ module _ {V DE UE F : Type 0} (m : Mesh V DE UE F) (mesh : IsMesh m) (triangles 
           stands = one_point (p x) (p y) (p z) (p y) v left (omega (arith, ordered, a, xy)) (on_end (p y) v) (omega (arith, ordered, c, yz));
         }
 
-  three_ways : (f x y z : ℕ) → IsTriangleOf (map_of m.shape) f x y z → 0 < f → Covers (p x) (p y) (p z) v → LiesInside at s f v ⊎ (HasEdge at s v f ⊎ HasCorner at s v f)
+  three_ways : (f x y z : ℕ) → IsTriangleOf (map_of m.shape) f x y z → 0 < f → Covers (p x) (p y) (p z) v → LiesInFace at s f v ⊎ (HasEdge at s v f ⊎ HasCorner at s v f)
   three_ways f x y z tri inner covers =
       let tri_y = turned_triangle (map_of s) f x y z tri in
       let tri_z = turned_triangle (map_of s) f y z x tri_y in
@@ -157,6 +157,6 @@ module _ {V DE UE F : Type 0} (m : Mesh V DE UE F) (mesh : IsMesh m) (triangles 
       )
 
   pub found_in : (h : ℕ) → IsLive s h → 0 < face_of s h → pos 0 ≤ℤ orient2d_along at s h v → pos 0 ≤ℤ orient2d_along at s (next_of s h) v → pos 0 ≤ℤ orient2d_along at s (prev_of s h) v
-      → LiesInside at s (face_of s h) v ⊎ (HasEdge at s v (face_of s h) ⊎ HasCorner at s v (face_of s h))
+      → LiesInFace at s (face_of s h) v ⊎ (HasEdge at s v (face_of s h) ⊎ HasCorner at s v (face_of s h))
   found_in h live inner first second third =
       three_ways (face_of s h) h (next_of s h) (prev_of s h) (round m mesh triangles h live inner) inner (covers_by h live inner first second third)

@@ -23,7 +23,7 @@ use Rattle.dcel_plane.specs.Plane.{TrianglesTurnLeft}
 use Rattle.dcel_plane.specs.covering.Covering.{IsConvex, IsHull}
 use Rattle.dcel_plane.proofs.covering.Inside.{on_start}
 use Rattle.dcel_plane.proofs.covering.Triangles.{is_triangle}
-use Rattle.dcel_plane.specs.removal.Wheels.{CanTurn, IsWheel, MakesTwo, turns}
+use Rattle.dcel_plane.specs.removal.Wheels.{CanFlipInPlane, IsWheel, MakesTwo, turns}
 use Rattle.dcel_plane.proofs.removal.Cutting.{path_find}
 use Rattle.dcel_plane.proofs.removal.Deleting.{two_items}
 use Rattle.dcel_plane.proofs.removal.Flippable.{five_turn, round_wheel, two_turn}
@@ -157,7 +157,7 @@ module _ {V DE UE F : Type 0} (m : Mesh V DE UE F) (mesh : IsMesh m) (triangles 
   pub third_differs : length (walk_of m.shape (ccw_of m.shape) h) ≡ 4 → ccw_of m.shape (ccw_of m.shape (ccw_of m.shape h)) ≢ h
   third_differs four = least (ccw_of s) h w trip 3 (omega arith) (omega (arith, four))
 
-  pub few_spokes : ((e : ℕ) → IsOutEdge m.shape (origin_of m.shape h) e → ¬ CanTurn at m.shape (e / 2)) → length (walk_of m.shape (ccw_of m.shape) h) ≤ 4
+  pub few_spokes : ((e : ℕ) → IsOutEdge m.shape (origin_of m.shape h) e → ¬ CanFlipInPlane at m.shape (e / 2)) → length (walk_of m.shape (ccw_of m.shape) h) ≤ 4
   few_spokes none = elim (cases_lt 4 (length w)) [
     | inr few ↦ few
     | inl five ↦ absurd

@@ -9,7 +9,7 @@ use Rattle.dcel_maps.specs.Walking.{IsRoundTrip, ccw_of}
 use Rattle.dcel_maps.specs.Words.{count_of}
 use Rattle.dcel_plane.specs.Plane.{TrianglesTurnLeft, TurnsLeft}
 use Rattle.dcel_plane.specs.covering.Covering.{IsConvex, IsHull}
-use Rattle.dcel_plane.specs.removal.Wheels.{CanTurn, IsFlippable, IsWheel, LeadsAcross, LiesBetween, MakesTwo, turns}
+use Rattle.dcel_plane.specs.removal.Wheels.{CanFlipInPlane, IsFlippable, IsWheel, LeadsAcross, LiesBetween, MakesTwo, turns}
 use Rattle.dcel_plane.proofs.removal.Turning.{Out, closes, least, listed, out, turns_sum, wheel}
 use Rattle.dcel_plane.proofs.removal.Wheels.{flippable, flippable_or_between, three_left, two_triangles}
 use Rattle.dcel_plane.proofs.removal.Turnable.{turn_after}
@@ -35,7 +35,7 @@ module _ {V DE UE F : Type 0} (m : Mesh V DE UE F) (mesh : IsMesh m) (triangles 
   next_at : (P : Point → Type 0) (i j : ℕ) → i ≡ j → P (neighbor i) → P (neighbor j)
   next_at P i j is holds = subst (λ (n : ℕ). P (neighbor n)) is holds
 
-  can_turn : (i : ℕ) → IsFlippable (at o) neighbor i → CanTurn at s (spin (suc i) / 2)
+  can_turn : (i : ℕ) → IsFlippable (at o) neighbor i → CanFlipInPlane at s (spin (suc i) / 2)
   can_turn i can =
       let out_a = leads_out i in
       let out_e = leads_out (suc i) in
@@ -58,7 +58,7 @@ module _ {V DE UE F : Type 0} (m : Mesh V DE UE F) (mesh : IsMesh m) (triangles 
           subst (λ (k : ℕ). 0 < count_of k w) closed (listed (ccw_of s) h w trip 0 (omega (arith, below))))
     ]
 
-    pub five_turn : 4 < length w → (e : ℕ) × (0 < count_of e w) × CanTurn at m.shape (e / 2)
+    pub five_turn : 4 < length w → (e : ℕ) × (0 < count_of e w) × CanFlipInPlane at m.shape (e / 2)
     five_turn five =
         let found = flippable (at o) neighbor (length w) round_wheel five in
         (spin (suc found.0), on_list found.0 found.1, can_turn found.0 found.2)
@@ -80,7 +80,7 @@ module _ {V DE UE F : Type 0} (m : Mesh V DE UE F) (mesh : IsMesh m) (triangles 
               (subst (λ (k : ℕ). TurnsLeft (at (end_of s k)) (neighbor (i + 3)) (neighbor i)) two between.second);
         }
 
-    pub four_turn : length w ≡ 4 → ((e : ℕ) × (0 < count_of e w) × CanTurn at m.shape (e / 2)) ⊎ ((e : ℕ) × (0 < count_of e w) × LeadsAcross at m.shape e)
+    pub four_turn : length w ≡ 4 → ((e : ℕ) × (0 < count_of e w) × CanFlipInPlane at m.shape (e / 2)) ⊎ ((e : ℕ) × (0 < count_of e w) × LeadsAcross at m.shape e)
     four_turn four = elim (flippable_or_between (at o) neighbor (subst (λ (k : ℕ). IsWheel (at o) neighbor k) four round_wheel)) [
       | inl found ↦ (let few = found.1 in inl (spin (suc found.0), on_list found.0 (omega (arith, few, four)), can_turn found.0 found.2))
       | inr found ↦ (let few = found.1 in inr (spin found.0, listed (ccw_of s) h w trip found.0 (omega (arith, few, four)), leads_across found.0 found.2))

@@ -16,7 +16,7 @@ use Rattle.dcel_maps.proofs.words.Reading.{face-prev}
 use Rattle.dcel_plane.specs.Plane.{TrianglesTurnLeft, TurnsLeft}
 use Rattle.dcel_plane.proofs.edits.Corners.{corners_are}
 use Rattle.dcel_plane.specs.covering.Covering.{IsConvex, IsHull}
-use Rattle.dcel_plane.specs.removal.Wheels.{CanTurn, CanTurnAt, IsFan, IsHollow, LiesOnHull, turns}
+use Rattle.dcel_plane.specs.removal.Wheels.{CanFlipInPlane, CanTurnAt, IsFan, IsHollow, LiesOnHull, turns}
 use Rattle.dcel_plane.proofs.covering.Triangles.{ends_before, left_at}
 use Rattle.dcel_plane.proofs.removal.Fans.{flippable_or_gone}
 use Rattle.dcel_plane.proofs.removal.Turnable.{turn_after, turn_after_at}
@@ -86,7 +86,7 @@ module _ {V DE UE F : Type 0} (m : Mesh V DE UE F) (mesh : IsMesh m) (triangles 
   }
 
   -- an edge can be flipped, or the corner can go
-  pub corner_turn : 2 < length w → ((e : ℕ) × (0 < count_of e w) × CanTurn at m.shape (e / 2))
+  pub corner_turn : 2 < length w → ((e : ℕ) × (0 < count_of e w) × CanFlipInPlane at m.shape (e / 2))
       ⊎ (IsHollow (at (origin_of m.shape h)) (λ i. at (end_of m.shape (turns (ccw_of m.shape) (suc i) h))) (length w - 1)
       ⊎ LiesOnHull (at (origin_of m.shape h)) (λ i. at (end_of m.shape (turns (ccw_of m.shape) (suc i) h))) (length w - 1))
   corner_turn many = elim (flippable_or_gone (at o) neighbor (length w - 1) corner_fan (omega (arith, many))) [

@@ -31,7 +31,7 @@ use Rattle.dcel_maps.proofs.words.EachSet.{but_last-is}
 use Rattle.dcel_maps.proofs.words.Reading.{face-prev}
 use Rattle.dcel_plane.specs.Plane.{TrianglesTurnLeft, TurnsLeft}
 use Rattle.dcel_plane.specs.covering.Covering.{IsConvex, IsHull}
-use Rattle.dcel_plane.specs.removal.Wheels.{CanTurn, IsFan, IsHollow, LiesOnHull, turns}
+use Rattle.dcel_plane.specs.removal.Wheels.{CanFlipInPlane, IsFan, IsHollow, LiesOnHull, turns}
 use Rattle.dcel_plane.proofs.removal.HullCorners.{corner_fan, corner_turn}
 use Rattle.dcel_plane.proofs.removal.Turning.{closes}
 
@@ -124,7 +124,7 @@ module _ {V DE UE F : Type 0} (m : Mesh V DE UE F) (mesh : IsMesh m) (triangles 
       }
 
   -- an edge can be flipped, or the corner can go: it lies between its neighbors, or is hollow
-  module _ (none : (e : ℕ) → IsOutEdge m.shape (origin_of m.shape h) e → ¬ CanTurn at m.shape (e / 2)) (g : ℕ) (live_g : IsLive m.shape g) (inner_g : 0 < face_of m.shape g) where
+  module _ (none : (e : ℕ) → IsOutEdge m.shape (origin_of m.shape h) e → ¬ CanFlipInPlane at m.shape (e / 2)) (g : ℕ) (live_g : IsLive m.shape g) (inner_g : 0 < face_of m.shape g) where
     abbrev w : List ℕ
     w = walk_of m.shape (ccw_of m.shape) h
 

@@ -20,7 +20,7 @@ use Rattle.dcel_plane.specs.Plane.{TrianglesTurnLeft, TurnsLeft}
 use Rattle.dcel_plane.proofs.edits.Corners.{LeftOf, corners_are, left-from_least}
 use Rattle.dcel_plane.proofs.edits.Flipped.{flip_written, from_end, from_start, origin_after, origin_e, origin_far, origin_near, origin_t, origin_t_after}
 use Rattle.dcel_plane.proofs.edits.Written.{written_plane}
-use Rattle.dcel_plane.specs.removal.Wheels.{CanTurn, CanTurnAt}
+use Rattle.dcel_plane.specs.removal.Wheels.{CanFlipInPlane, CanTurnAt}
 use Rattle.dcel_plane.proofs.covering.Inside.{on_end, on_start}
 use Rattle.dcel_plane.proofs.covering.Triangles.{is_triangle, round}
 
@@ -37,7 +37,7 @@ both_halves P swap e holds = elim (cases_eq e (2 * (e / 2))) [
 ]
 
 -- a flip after which both triangles turn left keeps the mesh in the plane
-module _ {V DE UE F : Type 0} (m : Mesh V DE UE F) (mesh : IsMesh m) (at : ℕ → Point) (u : ℕ) (turn : CanTurn at m.shape u) where
+module _ {V DE UE F : Type 0} (m : Mesh V DE UE F) (mesh : IsMesh m) (at : ℕ → Point) (u : ℕ) (turn : CanFlipInPlane at m.shape u) where
   abbrev n : Shape
   n = (edge_flipped m u).shape
 
@@ -89,7 +89,7 @@ module _ (at : ℕ → Point) (s : Shape) where
     second = is.first;
   }
 
-  pub turned_can : (h : ℕ) → IsLive s h → Turned h (rev h) → CanTurn at s (h / 2)
+  pub turned_can : (h : ℕ) → IsLive s h → Turned h (rev h) → CanFlipInPlane at s (h / 2)
   turned_can h live is =
       let found = both_halves Turned swapped h is in
       record {
@@ -122,7 +122,7 @@ module _ {V DE UE F : Type 0} (m : Mesh V DE UE F) (mesh : IsMesh m) (triangles 
 
   pub turn_after : TurnsLeft (at o) (at (end_of m.shape a)) (at (end_of m.shape (ccw_of m.shape (ccw_of m.shape a))))
       → TurnsLeft (at (end_of m.shape a)) (at (end_of m.shape (ccw_of m.shape a))) (at (end_of m.shape (ccw_of m.shape (ccw_of m.shape a))))
-      → CanTurn at m.shape (ccw_of m.shape a / 2)
+      → CanFlipInPlane at m.shape (ccw_of m.shape a / 2)
   turn_after near off =
       let tri = round m mesh triangles a live_a on_a in
       let other : rev (ccw_of s a) ≡ prev_of s a = rev-rev (prev_of s a) in

@@ -14,8 +14,8 @@ use Rattle.dcel_plane.specs.Edges.{edges_of_flip}
 use Rattle.dcel_plane.specs.Plane.{ListsCircled}
 use Rattle.dcel_plane.proofs.edits.Flipped.{flip_lists}
 use Rattle.dcel_maps.proofs.edits.Flips.{flipped_mesh}
-use Rattle.dcel_plane.specs.segments.Segments.{Becomes, CanTurnEach, IsChannel, TriangulatesItsHull, flipped_each, touched, widths}
-use Rattle.dcel_plane.specs.removal.Wheels.{CanTurn}
+use Rattle.dcel_plane.specs.segments.Segments.{BecomesCrossing, CanTurnEach, IsChannel, TriangulatesItsHull, flipped_each, touched, widths}
+use Rattle.dcel_plane.specs.removal.Wheels.{CanFlipInPlane}
 use Rattle.dcel_plane.proofs.segments.Channels.{all_cross, flip_keeps_channel}
 use Rattle.dcel_plane.proofs.segments.Gates.{peak_can_turn}
 use Rattle.dcel_plane.proofs.hull.Keeping.{flip_keeps_convex, flip_keeps_hull}
@@ -28,7 +28,7 @@ within_abs (pos n) = (let e : unsigned_abs (pos n) ≡ n = refl in omega (arith,
 within_abs (negsuc n) = (let e : unsigned_abs (negsuc n) ≡ suc n = refl in omega (arith, ordered, e))
 
 -- what stands in its place is a half of its edge
-pub kinds : (at : ℕ → Point) (s : Shape) (v w h : ℕ) (new : List ℕ) → Becomes at s v w h new → (k : ℕ) → 0 < count_of k new → k / 2 ≡ h / 2
+pub kinds : (at : ℕ → Point) (s : Shape) (v w h : ℕ) (new : List ℕ) → BecomesCrossing at s v w h new → (k : ℕ) → 0 < count_of k new → k / 2 ≡ h / 2
 kinds at s v w h new (inl again) k there = ap (λ (i : ℕ). i / 2) (of_one k h (subst (λ (l : List ℕ). 0 < count_of k l) again.2 there))
 kinds at s v w h new (inr (inl turned)) k there =
     ap (λ (i : ℕ). i / 2) (of_one k (rev h) (subst (λ (l : List ℕ). 0 < count_of k l) turned.2 there)) ∙ rev-half h
@@ -51,7 +51,7 @@ in_old top front new back old parts halves k there =
       )
     ]
 
-pub turned_planar : {V DE UE F : Type 0} (at : ℕ → Point) (m : Mesh V DE UE F) (u : ℕ) → TriangulatesItsHull at m → CanTurn at m.shape u → TriangulatesItsHull at (edge_flipped m u)
+pub turned_planar : {V DE UE F : Type 0} (at : ℕ → Point) (m : Mesh V DE UE F) (u : ℕ) → TriangulatesItsHull at m → CanFlipInPlane at m.shape u → TriangulatesItsHull at (edge_flipped m u)
 turned_planar at m u whole turn = record {
   mesh = flipped_mesh m u whole.mesh turn.can;
   triangles = flipped m whole.triangles u;
@@ -80,7 +80,7 @@ module _ (V DE UE F : Type 0) (at : ℕ → Point) (v w : ℕ) (differ : v ≢ w
 
     record IsStep : Type 0 where
       u : ℕ
-      can : CanTurn at m.shape u
+      can : CanFlipInPlane at m.shape u
       next : TriangulatesItsHull at (edge_flipped m u)
       list : List ℕ
       again : IsChannel at (edge_flipped m u).shape v w list

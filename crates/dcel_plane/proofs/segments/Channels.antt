@@ -17,7 +17,7 @@ use Rattle.dcel_maps.proofs.maps.Triangles.{IsTriangleOf}
 use Rattle.dcel_maps.proofs.words.Counts.{count-append, count-equal, count-later, count-other, count-same}
 use Rattle.dcel_plane.specs.Plane.{TrianglesTurnLeft, TurnsLeft}
 use Rattle.dcel_plane.specs.covering.Covering.{IsConvex}
-use Rattle.dcel_plane.specs.segments.Segments.{AreEnds, Becomes, Crosses, IsChannel, IsCorner, IsPeak, Leads, corner_before, corner_beyond, orient2d_by, width, widths}
+use Rattle.dcel_plane.specs.segments.Segments.{AreEnds, BecomesCrossing, Crosses, IsChannel, IsCorner, IsPeak, LeadsThrough, corner_before, corner_beyond, orient2d_by, width, widths}
 use Rattle.dcel_plane.proofs.segments.FlipFaces.{Flipped, flipped_at}
 use Rattle.dcel_plane.proofs.segments.Gates.{at_end, at_start, far, inner_far, inner_near, left_far, left_near, near, peak_can_turn}
 use Rattle.dcel_plane.proofs.covering.Inside.{on_end, on_start}
@@ -25,15 +25,15 @@ use Rattle.dcel_plane.proofs.segments.Levers.{ahead_at_left, ahead_at_right, beh
 use Rattle.dcel_plane.proofs.covering.Triangles.{of_face}
 
 -- each half edge of the list crosses the segment
-pub all_cross : (at : ℕ → Point) (s : Shape) (v w f g : ℕ) (list : List ℕ) → Leads at s v w f list g → (k : ℕ) → 0 < count_of k list → Crosses at s v w k
+pub all_cross : (at : ℕ → Point) (s : Shape) (v w f g : ℕ) (list : List ℕ) → LeadsThrough at s v w f list g → (k : ℕ) → 0 < count_of k list → Crosses at s v w k
 all_cross at s v w f g [] leads k found = absurd (omega (arith, found))
 all_cross at s v w f g (h ∷ rest) leads k found = elim (cases_eq k h) [
   | inl is ↦ subst (λ (i : ℕ). Crosses at s v w i) (sym is) leads.0
   | inr not ↦ all_cross at s v w (face_of s (rev h)) g rest leads.2 k (let c = count-other k h rest not in omega (arith, c, found))
 ]
 
-pub leads_on : (at : ℕ → Point) (s : Shape) (v w f g e : ℕ) (a b : List ℕ) → Leads at s v w f a g → Leads at s v w g b e → Leads at s v w f (a ++ b) e
-leads_on at s v w f g e [] b first second = subst (λ (i : ℕ). Leads at s v w i b e) (sym first) second
+pub leads_on : (at : ℕ → Point) (s : Shape) (v w f g e : ℕ) (a b : List ℕ) → LeadsThrough at s v w f a g → LeadsThrough at s v w g b e → LeadsThrough at s v w f (a ++ b) e
+leads_on at s v w f g e [] b first second = subst (λ (i : ℕ). LeadsThrough at s v w i b e) (sym first) second
 leads_on at s v w f g e (h ∷ a) b first second = (first.0, first.1, leads_on at s v w (face_of s (rev h)) g e a b first.2 second)
 
 pub widths_on : (at : ℕ → Point) (s : Shape) (v w : ℕ) (a b : List ℕ) → widths at s v w (a ++ b) ≡ widths at s v w a +ℤ widths at s v w b
@@ -196,8 +196,8 @@ module _ {V DE UE F : Type 0} (m : Mesh V DE UE F) (mesh : IsMesh m) (triangles 
   pub record Front (a' : ℕ) (front back : List ℕ) (end : ℕ) : Type 0 where
     pub to : ℕ
     pub arrives : Arrives to
-    pub leads : Leads at n v w a' front to
-    pub rest : Leads at s v w g back end
+    pub leads : LeadsThrough at n v w a' front to
+    pub rest : LeadsThrough at s v w g back end
 
   differs_from : (k : ℕ) (rest : List ℕ) → count_of h (k ∷ rest) ≡ 0 → (k ≢ h) × (count_of h rest ≡ 0)
   differs_from k rest none = elim (cases_eq h k) [
@@ -205,7 +205,7 @@ module _ {V DE UE F : Type 0} (m : Mesh V DE UE F) (mesh : IsMesh m) (triangles 
     | inr not ↦ (λ is. not (sym is), (let c = count-other h k rest not in omega (arith, c, none)))
   ]
 
-  front_goes : (a a' : ℕ) (front back : List ℕ) (end : ℕ) → Leads at s v w a (front ++ h ∷ back) end → count_of h front ≡ 0 → Starts a a' → Front a' front back end
+  front_goes : (a a' : ℕ) (front back : List ℕ) (end : ℕ) → LeadsThrough at s v w a (front ++ h ∷ back) end → count_of h front ≡ 0 → Starts a a' → Front a' front back end
   front_goes a a' [] back end leads none starts = elim starts [
     | inl away ↦ absurd (away.0 (sym leads.1))
     | inr here ↦ record { to = a'; arrives = here.1; leads = refl; rest = leads.2 }
@@ -236,19 +236,19 @@ module _ {V DE UE F : Type 0} (m : Mesh V DE UE F) (mesh : IsMesh m) (triangles 
       ]
 
   -- and from there on
-  not_from_near : (rest : List ℕ) (end : ℕ) → count_of h rest ≡ 0 → end ≢ f → Leads at s v w f rest end → ⊥
+  not_from_near : (rest : List ℕ) (end : ℕ) → count_of h rest ≡ 0 → end ≢ f → LeadsThrough at s v w f rest end → ⊥
   not_from_near [] end none not leads = not (sym leads)
   not_from_near (k ∷ rest) end none not leads = not_near k leads.0 (differs_from k rest none).0 leads.1
 
-  rest_goes : (a : ℕ) (rest : List ℕ) (end : ℕ) → Leads at s v w a rest end → count_of h rest ≡ 0 → a ≢ g → end ≢ f → Leads at n v w a rest end
+  rest_goes : (a : ℕ) (rest : List ℕ) (end : ℕ) → LeadsThrough at s v w a rest end → count_of h rest ≡ 0 → a ≢ g → end ≢ f → LeadsThrough at n v w a rest end
   rest_goes a [] end leads none not_g not_f = leads
   rest_goes a (k ∷ rest) end leads none not_g not_f =
       let d = differs_from k rest none in
-      let off_f : face_of s (rev k) ≢ f = λ is. not_from_near rest end d.1 not_f (subst (λ (i : ℕ). Leads at s v w i rest end) is leads.2) in
+      let off_f : face_of s (rev k) ≢ f = λ is. not_from_near rest end d.1 not_f (subst (λ (i : ℕ). LeadsThrough at s v w i rest end) is leads.2) in
       let off_g = rev_not_far k leads.0 d.0 in (
         keeps k leads.0 d.0,
         flip.away k leads.0.live (not_near k leads.0 d.0) (λ is. not_g (sym leads.1 ∙ is)) ∙ leads.1,
-        subst (λ (i : ℕ). Leads at n v w i rest end) (sym (flip.away (rev k) (rev_live (map_of s) k leads.0.live) off_f off_g))
+        subst (λ (i : ℕ). LeadsThrough at n v w i rest end) (sym (flip.away (rev k) (rev_live (map_of s) k leads.0.live) off_f off_g))
             (rest_goes (face_of s (rev k)) rest end leads.2 d.1 off_g not_f),
       )
 
@@ -377,7 +377,7 @@ module _ {V DE UE F : Type 0} (m : Mesh V DE UE F) (mesh : IsMesh m) (triangles 
     far = behind_at_right (at v) (at w) (at y) (at l) (at x) (at w) hy crosses.left hx at_w after (let a = orient2d-first_swapped (at x) (at y) (at l) in let d = turn_l in omega (arith, ordered, a, d));
   }
 
-  from_near : (front back : List ℕ) (end : ℕ) → Leads at s v w f (front ++ h ∷ back) end → count_of h front ≡ 0 → (front ≡ []) × Leads at s v w g back end
+  from_near : (front back : List ℕ) (end : ℕ) → LeadsThrough at s v w f (front ++ h ∷ back) end → count_of h front ≡ 0 → (front ≡ []) × LeadsThrough at s v w g back end
   from_near [] back end leads none = (refl, leads.2)
   from_near (k ∷ front) back end leads none = absurd (not_near k leads.0 (differs_from k front none).0 leads.1)
 
@@ -385,17 +385,17 @@ module _ {V DE UE F : Type 0} (m : Mesh V DE UE F) (mesh : IsMesh m) (triangles 
   pub record Goes (back : List ℕ) (end : ℕ) : Type 0 where
     pub from : ℕ
     pub departs : Departs from
-    pub leads : Leads at n v w from back end
+    pub leads : LeadsThrough at n v w from back end
     pub corner : IsCorner n end w
 
-  goes : (back : List ℕ) (end : ℕ) → Leads at s v w g back end → count_of h back ≡ 0 → IsCorner s end w → ((back ≡ []) × (w ≡ y)) ⊎ Goes back end
+  goes : (back : List ℕ) (end : ℕ) → LeadsThrough at s v w g back end → count_of h back ≡ 0 → IsCorner s end w → ((back ≡ []) × (w ≡ y)) ⊎ Goes back end
   goes [] end leads none corner = inl (refl, far_corner_is w at_w (subst (λ (i : ℕ). IsCorner s i w) (sym leads) corner))
   goes (k ∷ rest) end leads none corner =
       let d = differs_from k rest none in
       let not_f = w_not_near end corner in
       let departs_k = departs k leads.0 leads.1 in
       let not_g : end ≢ g = λ is. no_end departs_k (far_corner_is w at_w (subst (λ (i : ℕ). IsCorner s i w) is corner)) in
-      let off_f : face_of s (rev k) ≢ f = λ is. not_from_near rest end d.1 not_f (subst (λ (i : ℕ). Leads at s v w i rest end) is leads.2) in
+      let off_f : face_of s (rev k) ≢ f = λ is. not_from_near rest end d.1 not_f (subst (λ (i : ℕ). LeadsThrough at s v w i rest end) is leads.2) in
       let off_g = rev_not_far k leads.0 d.0 in
       inr (
       record {
@@ -404,7 +404,7 @@ module _ {V DE UE F : Type 0} (m : Mesh V DE UE F) (mesh : IsMesh m) (triangles 
         leads = (
           keeps k leads.0 d.0,
           refl,
-          subst (λ (i : ℕ). Leads at n v w i rest end) (sym (flip.away (rev k) (rev_live (map_of s) k leads.0.live) off_f off_g))
+          subst (λ (i : ℕ). LeadsThrough at n v w i rest end) (sym (flip.away (rev k) (rev_live (map_of s) k leads.0.live) off_f off_g))
               (rest_goes (face_of s (rev k)) rest end leads.2 d.1 off_g not_f),
         );
         corner = corner_stays end w not_f not_g corner;
@@ -418,7 +418,7 @@ module _ {V DE UE F : Type 0} (m : Mesh V DE UE F) (mesh : IsMesh m) (triangles 
   -- the list that is left
   pub record IsLeft (front back : List ℕ) : Type 0 where
     pub new : List ℕ
-    pub becomes : Becomes at s v w h new
+    pub becomes : BecomesCrossing at s v w h new
     pub channel : IsChannel at n v w (front ++ (new ++ back))
     pub narrower : widths at n v w (front ++ (new ++ back)) <ℤ widths at s v w (front ++ (h ∷ back))
 
@@ -533,7 +533,7 @@ module _ {V DE UE F : Type 0} (m : Mesh V DE UE F) (mesh : IsMesh m) (triangles 
       not_right : off x <ℤ pos 0 → pos 0 <ℤ off y → ⊥
       not_left : pos 0 <ℤ off x → off y <ℤ pos 0 → ⊥
 
-    gone : IsGone → (first last : ℕ) → 0 < first → IsCorner n first v → IsCorner n last w → Leads at n v w first (front ++ back) last → IsLeft front back
+    gone : IsGone → (first last : ℕ) → 0 < first → IsCorner n first v → IsCorner n last w → LeadsThrough at n v w first (front ++ back) last → IsLeft front back
     gone is first last inner start end leads = record {
       new = [];
       becomes = inr (inr (is.not_right, is.not_left, refl));
@@ -557,7 +557,7 @@ module _ {V DE UE F : Type 0} (m : Mesh V DE UE F) (mesh : IsMesh m) (triangles 
     from_start : front ≡ [] → v ≡ x → ((back ≡ []) × (w ≡ y)) ⊎ Goes back channel.last → IsLeft front back
     from_start bare is (inl stop) =
         gone (record { not_right = λ a b. no_x a; not_left = λ a b. no_x' a }) f f near_inner (corner_new f v (inl refl) is) (corner_new_y f w (inl refl) stop.1)
-        (subst (λ (i : List ℕ). Leads at n v w f (i ++ back) f) (sym bare) (subst (λ (i : List ℕ). Leads at n v w f i f) (sym stop.0) refl))
+        (subst (λ (i : List ℕ). LeadsThrough at n v w f (i ++ back) f) (sym bare) (subst (λ (i : List ℕ). LeadsThrough at n v w f i f) (sym stop.0) refl))
       where
         no_x : off x <ℤ pos 0 → ⊥
         no_x a = (let z = subst (λ (i : ℕ). off i ≡ pos 0) is at_v in omega (arith, ordered, z, a))
@@ -566,7 +566,7 @@ module _ {V DE UE F : Type 0} (m : Mesh V DE UE F) (mesh : IsMesh m) (triangles 
         no_x' a = (let z = subst (λ (i : ℕ). off i ≡ pos 0) is at_v in omega (arith, ordered, z, a))
     from_start bare is (inr on) =
         gone (record { not_right = λ a b. no_x a; not_left = λ a b. no_x' a }) on.from channel.last (inner_of on.from (both on.from on.departs)) (corner_new on.from v (both on.from on.departs) is) on.corner
-        (subst (λ (i : List ℕ). Leads at n v w on.from (i ++ back) channel.last) (sym bare) on.leads)
+        (subst (λ (i : List ℕ). LeadsThrough at n v w on.from (i ++ back) channel.last) (sym bare) on.leads)
       where
         no_x : off x <ℤ pos 0 → ⊥
         no_x a = (let z = subst (λ (i : ℕ). off i ≡ pos 0) is at_v in omega (arith, ordered, z, a))
@@ -576,10 +576,10 @@ module _ {V DE UE F : Type 0} (m : Mesh V DE UE F) (mesh : IsMesh m) (triangles 
 
     -- and where it comes from another one
     module _ (start : IsCorner n channel.first v) where
-      to_end : (a : ℕ) → Arrives a → Leads at n v w channel.first front a → back ≡ [] → w ≡ y → IsLeft front back
+      to_end : (a : ℕ) → Arrives a → LeadsThrough at n v w channel.first front a → back ≡ [] → w ≡ y → IsLeft front back
       to_end a arrived leads bare is =
           gone (record { not_right = λ p q. no_y q; not_left = λ p q. no_y' q }) channel.first a channel.inner start (corner_new_y a w (both_too a arrived) is)
-          (subst (λ (i : List ℕ). Leads at n v w channel.first (front ++ i) a) (sym bare) (subst (λ (i : List ℕ). Leads at n v w channel.first i a) (sym (append-nil front)) leads))
+          (subst (λ (i : List ℕ). LeadsThrough at n v w channel.first (front ++ i) a) (sym bare) (subst (λ (i : List ℕ). LeadsThrough at n v w channel.first i a) (sym (append-nil front)) leads))
         where
           no_y : pos 0 <ℤ off y → ⊥
           no_y b = (let z = subst (λ (i : ℕ). off i ≡ pos 0) is at_w in omega (arith, ordered, z, b))
@@ -587,7 +587,7 @@ module _ {V DE UE F : Type 0} (m : Mesh V DE UE F) (mesh : IsMesh m) (triangles 
           no_y' : off y <ℤ pos 0 → ⊥
           no_y' b = (let z = subst (λ (i : ℕ). off i ≡ pos 0) is at_w in omega (arith, ordered, z, b))
 
-      through : (a : ℕ) → Arrives a → Leads at n v w channel.first front a → (b : ℕ) → Departs b → Leads at n v w b back channel.last → IsCorner n channel.last w → IsLeft front back
+      through : (a : ℕ) → Arrives a → LeadsThrough at n v w channel.first front a → (b : ℕ) → Departs b → LeadsThrough at n v w b back channel.last → IsCorner n channel.last w → IsLeft front back
       through a (inl right) before b (inl left) after end = record {
         new = h ∷ [];
         becomes = inl (right.0, left.0, refl);
@@ -598,8 +598,8 @@ module _ {V DE UE F : Type 0} (m : Mesh V DE UE F) (mesh : IsMesh m) (triangles 
           start = start;
           end = end;
           leads =
-              leads_on at n v w channel.first f channel.last front (h ∷ back) (subst (λ (i : ℕ). Leads at n v w channel.first front i) right.1 before)
-              (crosses_again (passes_right right.0 left.0 right.2 left.2), flip.here, subst (λ (i : ℕ). Leads at n v w i back channel.last) (left.1 ∙ sym flip.there) after);
+              leads_on at n v w channel.first f channel.last front (h ∷ back) (subst (λ (i : ℕ). LeadsThrough at n v w channel.first front i) right.1 before)
+              (crosses_again (passes_right right.0 left.0 right.2 left.2), flip.here, subst (λ (i : ℕ). LeadsThrough at n v w i back channel.last) (left.1 ∙ sym flip.there) after);
           once = channel.once;
         };
         narrower = narrower_by (h ∷ []) (width_again right.0 left.0);
@@ -614,8 +614,8 @@ module _ {V DE UE F : Type 0} (m : Mesh V DE UE F) (mesh : IsMesh m) (triangles 
           start = start;
           end = end;
           leads =
-              leads_on at n v w channel.first g channel.last front (rev h ∷ back) (subst (λ (i : ℕ). Leads at n v w channel.first front i) left.1 before)
-              (crosses_turned (passes_left left.0 right.0 left.2 right.2), flip.there, subst (λ (i : ℕ). Leads at n v w i back channel.last) (right.1 ∙ sym face_back) after);
+              leads_on at n v w channel.first g channel.last front (rev h ∷ back) (subst (λ (i : ℕ). LeadsThrough at n v w channel.first front i) left.1 before)
+              (crosses_turned (passes_left left.0 right.0 left.2 right.2), flip.there, subst (λ (i : ℕ). LeadsThrough at n v w i back channel.last) (right.1 ∙ sym face_back) after);
           once = once_turned;
         };
         narrower = narrower_by (rev h ∷ []) (width_turned left.0 right.0);
@@ -623,22 +623,22 @@ module _ {V DE UE F : Type 0} (m : Mesh V DE UE F) (mesh : IsMesh m) (triangles 
       through a (inl right) before b (inr right_too) after end =
           gone (record { not_right = λ p q. (let z = right_too.0 in omega (arith, ordered, z, q)); not_left = λ p q. (let z = right.0 in omega (arith, ordered, z, p)) })
           channel.first channel.last channel.inner start end
-          (leads_on at n v w channel.first f channel.last front back (subst (λ (i : ℕ). Leads at n v w channel.first front i) right.1 before)
-          (subst (λ (i : ℕ). Leads at n v w i back channel.last) right_too.1 after))
+          (leads_on at n v w channel.first f channel.last front back (subst (λ (i : ℕ). LeadsThrough at n v w channel.first front i) right.1 before)
+          (subst (λ (i : ℕ). LeadsThrough at n v w i back channel.last) right_too.1 after))
       through a (inr left) before b (inl left_too) after end =
           gone (record { not_right = λ p q. (let z = left.0 in omega (arith, ordered, z, p)); not_left = λ p q. (let z = left_too.0 in omega (arith, ordered, z, q)) })
           channel.first channel.last channel.inner start end
-          (leads_on at n v w channel.first g channel.last front back (subst (λ (i : ℕ). Leads at n v w channel.first front i) left.1 before)
-          (subst (λ (i : ℕ). Leads at n v w i back channel.last) left_too.1 after))
+          (leads_on at n v w channel.first g channel.last front back (subst (λ (i : ℕ). LeadsThrough at n v w channel.first front i) left.1 before)
+          (subst (λ (i : ℕ). LeadsThrough at n v w i back channel.last) left_too.1 after))
 
-      from_before : (a : ℕ) → Arrives a → Leads at n v w channel.first front a → ((back ≡ []) × (w ≡ y)) ⊎ Goes back channel.last → IsLeft front back
+      from_before : (a : ℕ) → Arrives a → LeadsThrough at n v w channel.first front a → ((back ≡ []) × (w ≡ y)) ⊎ Goes back channel.last → IsLeft front back
       from_before a arrived leads (inl stop) = to_end a arrived leads stop.0 stop.1
       from_before a arrived leads (inr on) = through a arrived leads on.from on.departs on.leads on.corner
 
     pub flip_keeps_channel : IsLeft front back
     flip_keeps_channel = elim (cases_eq channel.first f) [
       | inl is ↦
-          let from = from_near front back channel.last (subst (λ (i : ℕ). Leads at s v w i (front ++ h ∷ back) channel.last) is channel.leads) none.0 in
+          let from = from_near front back channel.last (subst (λ (i : ℕ). LeadsThrough at s v w i (front ++ h ∷ back) channel.last) is channel.leads) none.0 in
           from_start from.0 (corner_is v at_v (subst (λ (i : ℕ). IsCorner s i v) is channel.start)) (goes back channel.last from.1 none.1 channel.end)
       | inr not_f ↦
           let not_g = v_not_far channel.first channel.start in

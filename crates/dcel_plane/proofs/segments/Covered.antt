@@ -27,7 +27,7 @@ use Rattle.dcel_plane.specs.covering.Places.{IsIn, Place, orient_at}
 use Rattle.dcel_plane.proofs.covering.Inside.{not_right, on_end, on_start, other_way}
 use Rattle.dcel_plane.proofs.covering.Triangles.{at_word, same_face, word_at}
 use Rattle.dcel_plane.proofs.hull.Keeping.{flip_outer}
-use Rattle.dcel_plane.specs.removal.Wheels.{CanTurn}
+use Rattle.dcel_plane.specs.removal.Wheels.{CanFlipInPlane}
 use Rattle.dcel_plane.specs.segments.Segments.{CanTurnEach, TriangulatesItsHull, flipped_each}
 use Rattle.dcel_plane.proofs.segments.Becoming.{turned_planar}
 use Rattle.dcel_plane.proofs.segments.FlipFaces.{Flipped, of_even}
@@ -51,7 +51,7 @@ module _ (a b c d : Point) (near : TurnsLeft a b c) (far : TurnsLeft b a d) (fir
       ))
 
 module _ {V DE UE F : Type 0} (m : Mesh V DE UE F) (mesh : IsMesh m) (triangles : AllTriangles m.shape) (at : ℕ → Point) (plane : TrianglesTurnLeft at m.shape) (u : ℕ)
-    (turn : CanTurn at m.shape u) where
+    (turn : CanFlipInPlane at m.shape u) where
   abbrev s : Shape
   s = m.shape
 

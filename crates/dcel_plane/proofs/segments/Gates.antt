@@ -14,7 +14,7 @@ use Rattle.dcel_plane.specs.Plane.{TrianglesTurnLeft, TurnsLeft}
 use Rattle.dcel_plane.proofs.edits.Corners.{corners_are, left_of_triangle}
 use Rattle.dcel_plane.specs.covering.Covering.{IsConvex}
 use Rattle.dcel_plane.specs.segments.Segments.{AreEnds, Crosses, IsPeak, corner_before, corner_beyond, orient2d_by}
-use Rattle.dcel_plane.specs.removal.Wheels.{CanTurn}
+use Rattle.dcel_plane.specs.removal.Wheels.{CanFlipInPlane}
 use Rattle.dcel_plane.proofs.segments.Levers.{turns_at_left, turns_at_right}
 use Rattle.dcel_plane.proofs.removal.Turnable.{turned_can}
 use Rattle.dcel_plane.proofs.covering.Triangles.{is_triangle, round}
@@ -85,7 +85,7 @@ module _ {V DE UE F : Type 0} (m : Mesh V DE UE F) (mesh : IsMesh m) (triangles 
           turns_at_right (at v) (at w) (at (corner_before s h)) (at (origin_of s h)) (at (end_of s h)) (at (corner_beyond s h)) left_near left_far
           peak.above peak.below peak.above_too peak.below_too
 
-      pub peak_can_turn : CanTurn at s (h / 2)
+      pub peak_can_turn : CanFlipInPlane at s (h / 2)
       peak_can_turn = turned_can at s h crosses.live (record {
         face = inner_near;
         facing = inner_far;

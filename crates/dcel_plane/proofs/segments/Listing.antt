@@ -16,7 +16,7 @@ use Rattle.dcel_maps.proofs.words.Counts.{count-later, count-other, count-same}
 use Rattle.dcel_plane.specs.Plane.{TrianglesTurnLeft, TurnsLeft}
 use Rattle.dcel_plane.specs.covering.Covering.{IsConvex, IsHull}
 use Rattle.dcel_plane.specs.covering.Places.{AreDisjoint}
-use Rattle.dcel_plane.specs.segments.Segments.{AreEnds, Crosses, IsChannel, IsClear, IsCorner, Leads, corner_beyond, orient2d_by}
+use Rattle.dcel_plane.specs.segments.Segments.{AreEnds, Crosses, IsChannel, IsClear, IsCorner, LeadsThrough, corner_beyond, orient2d_by}
 use Rattle.dcel_plane.proofs.covering.Faces.{disjoint_at, six_corners}
 use Rattle.dcel_plane.proofs.segments.Gates.{far, inner_far, left_far}
 use Rattle.dcel_plane.proofs.covering.Inside.{on_end, on_start}
@@ -122,7 +122,7 @@ module _ {V DE UE F : Type 0} (m : Mesh V DE UE F) (mesh : IsMesh m) (triangles 
     pub crosses : Crosses at s v w half
     pub to : face_of s (rev half) ≡ face_of s k
 
-  before : (f : ℕ) (list : List ℕ) (g k : ℕ) → Leads at s v w f list g → 0 < count_of k list → (face_of s k ≡ f) ⊎ Before f list k
+  before : (f : ℕ) (list : List ℕ) (g k : ℕ) → LeadsThrough at s v w f list g → 0 < count_of k list → (face_of s k ≡ f) ⊎ Before f list k
   before f [] g k leads found = absurd (omega (arith, found))
   before f (h ∷ rest) g k leads found = elim (cases_eq k h) [
     | inl is ↦ inl (ap (face_of s) is ∙ leads.1)
@@ -138,14 +138,14 @@ module _ {V DE UE F : Type 0} (m : Mesh V DE UE F) (mesh : IsMesh m) (triangles 
     pub crosses : Crosses at s v w half
     pub to : face_of s (rev half) ≡ g
 
-  ending : (f h : ℕ) (rest : List ℕ) (g : ℕ) → Leads at s v w f (h ∷ rest) g → Ending (h ∷ rest) g
+  ending : (f h : ℕ) (rest : List ℕ) (g : ℕ) → LeadsThrough at s v w f (h ∷ rest) g → Ending (h ∷ rest) g
   ending f h [] g leads = record { half = h; among = (let c = count-same h [] in omega (arith, c)); crosses = leads.0; to = leads.2 }
   ending f h (k ∷ rest) g leads =
       let on = ending (face_of s (rev h)) k rest g leads.2 in
       record { half = on.half; among = count-later on.half h (k ∷ rest) on.among; crosses = on.crosses; to = on.to }
 
   module _ (a : ℕ) (others : List ℕ) (channel : IsChannel at m.shape v w (a ∷ others)) where
-    stands : (h : ℕ) (rest : List ℕ) (last : ℕ) → Crosses at s v w h → Leads at s v w (face_of s (rev h)) rest last → IsCorner s last w → 0 < count_of h (a ∷ others)
+    stands : (h : ℕ) (rest : List ℕ) (last : ℕ) → Crosses at s v w h → LeadsThrough at s v w (face_of s (rev h)) rest last → IsCorner s last w → 0 < count_of h (a ∷ others)
     stands h [] last c leads corner =
         let on = ending channel.first a others channel.last channel.leads in
         let same = one_last on.half h on.crosses c (beyond_is on.half channel.last on.crosses on.to channel.end) (beyond_is h last c leads corner) in

@@ -17,7 +17,7 @@ use Rattle.dcel_maps.proofs.walks.Links.{half-below}
 use Rattle.dcel_maps.proofs.words.Counts.{count-equal, count-other}
 use Rattle.dcel_plane.specs.Plane.{TrianglesTurnLeft, TurnsLeft}
 use Rattle.dcel_plane.specs.covering.Covering.{Covers, IsConvex, IsHull, dot}
-use Rattle.dcel_plane.specs.segments.Segments.{AreEnds, Crosses, IsClear, IsCorner, Leads, corner_beyond, orient2d_by, width}
+use Rattle.dcel_plane.specs.segments.Segments.{AreEnds, Crosses, IsClear, IsCorner, LeadsThrough, corner_beyond, orient2d_by, width}
 use Rattle.dcel_plane.proofs.covering.Apart.{apart_at}
 use Rattle.dcel_plane.proofs.segments.Channels.{all_cross}
 use Rattle.dcel_plane.proofs.segments.Gates.{far, inner_far, left_far}
@@ -196,7 +196,7 @@ module _ {V DE UE F : Type 0} (m : Mesh V DE UE F) (mesh : IsMesh m) (triangles 
   pub record Tail (h : ℕ) : Type 0 where
     pub rest : List ℕ
     pub last : ℕ
-    pub leads : Leads at s v w (face_of s (rev h)) rest last
+    pub leads : LeadsThrough at s v w (face_of s (rev h)) rest last
     pub end : IsCorner s last w
     pub higher : (j : ℕ) → 0 < count_of j rest → IsFurther h j
     pub once : (j : ℕ) → count_of j rest ≤ 1

@@ -11,7 +11,7 @@ use Rattle.dcel_maps.proofs.maps.Soundness.{rev_live}
 use Rattle.dcel_maps.proofs.maps.Triangles.{IsTriangleOf}
 use Rattle.dcel_plane.specs.Plane.{TrianglesTurnLeft}
 use Rattle.dcel_plane.specs.covering.Covering.{IsConvex}
-use Rattle.dcel_plane.specs.segments.Segments.{AreEnds, Crosses, IsChannel, IsCorner, IsPeak, Leads, NarrowerBefore, NotWiderAfter, corner_before, corner_beyond, orient2d_by, width, widths}
+use Rattle.dcel_plane.specs.segments.Segments.{AreEnds, Crosses, IsChannel, IsCorner, IsPeak, LeadsThrough, NarrowerBefore, NotWiderAfter, corner_before, corner_beyond, orient2d_by, width, widths}
 use Rattle.dcel_plane.proofs.segments.Gates.{far, near}
 use Rattle.dcel_plane.proofs.covering.Inside.{on_end, on_start}
 use Rattle.dcel_plane.proofs.covering.Triangles.{of_face, round}
@@ -28,7 +28,7 @@ ends_of at s v w list channel = record {
 }
 
 -- the rest of a channel
-leads_from : (at : ℕ → Point) (s : Shape) (v w f g : ℕ) (front rest : List ℕ) → Leads at s v w f (front ++ rest) g → (i : ℕ) × Leads at s v w i rest g
+leads_from : (at : ℕ → Point) (s : Shape) (v w f g : ℕ) (front rest : List ℕ) → LeadsThrough at s v w f (front ++ rest) g → (i : ℕ) × LeadsThrough at s v w i rest g
 leads_from at s v w f g [] rest leads = (f, leads)
 leads_from at s v w f g (h ∷ front) rest leads = leads_from at s v w (face_of s (rev h)) g front rest leads.2
 
@@ -159,7 +159,7 @@ module _ {V DE UE F : Type 0} (m : Mesh V DE UE F) (mesh : IsMesh m) (triangles 
       pub parts : list ≡ front ++ (top ∷ back)
       pub peak : IsPeak at s v w top
 
-    peak_from : (h : ℕ) (rest : List ℕ) (f g : ℕ) → Leads at s v w f (h ∷ rest) g → IsCorner s g w → Rises h → HasPeak (h ∷ rest)
+    peak_from : (h : ℕ) (rest : List ℕ) (f g : ℕ) → LeadsThrough at s v w f (h ∷ rest) g → IsCorner s g w → Rises h → HasPeak (h ∷ rest)
     peak_from h [] f g leads corner rises =
         record { front = []; top = h; back = []; parts = refl; peak = last_peaks h leads.0 g leads.2 corner rises }
     peak_from h (k ∷ rest) f g leads corner rises = elim (next_rises h leads.0 k leads.2.0 leads.2.1 rises) [
@@ -175,11 +175,11 @@ module _ {V DE UE F : Type 0} (m : Mesh V DE UE F) (mesh : IsMesh m) (triangles 
         (first_rises h channel.leads.0 channel.first channel.leads.1 channel.start)
 
     -- one that is wider than the one before it, and not narrower than the one after it, is a peak
-    peaks_at : (h : ℕ) (back : List ℕ) (f g : ℕ) → Leads at s v w f (h ∷ back) g → IsCorner s g w → Rises h → NotWiderAfter at s v w h back → IsPeak at s v w h
+    peaks_at : (h : ℕ) (back : List ℕ) (f g : ℕ) → LeadsThrough at s v w f (h ∷ back) g → IsCorner s g w → Rises h → NotWiderAfter at s v w h back → IsPeak at s v w h
     peaks_at h [] f g leads corner rises after = last_peaks h leads.0 g leads.2 corner rises
     peaks_at h (k ∷ rest) f g leads corner rises after = (goes_on h leads.0 k leads.2.0 leads.2.1).not_wider (after k rest refl) rises
 
-    rises_at : (j : ℕ) (front : List ℕ) (h : ℕ) (back : List ℕ) (f g : ℕ) → Leads at s v w f (j ∷ (front ++ (h ∷ back))) g → NarrowerBefore at s v w (j ∷ front) h → Rises h
+    rises_at : (j : ℕ) (front : List ℕ) (h : ℕ) (back : List ℕ) (f g : ℕ) → LeadsThrough at s v w f (j ∷ (front ++ (h ∷ back))) g → NarrowerBefore at s v w (j ∷ front) h → Rises h
     rises_at j [] h back f g leads before = (goes_on j leads.0 h leads.2.0 leads.2.1).wider (before [] j refl)
     rises_at j (k ∷ front) h back f g leads before =
         rises_at k front h back (face_of s (rev j)) g leads.2 (λ more i is. before (j ∷ more) i (ap (λ (l : List ℕ). j ∷ l) is))
@@ -193,7 +193,7 @@ module _ {V DE UE F : Type 0} (m : Mesh V DE UE F) (mesh : IsMesh m) (triangles 
         peaks_at h back rest.0 channel.last rest.1 channel.end rises after
 
 -- the widths of a list are positive together
-pub some_width : (at : ℕ → Point) (s : Shape) (v w f g : ℕ) (list : List ℕ) → Leads at s v w f list g → pos 0 ≤ℤ widths at s v w list
+pub some_width : (at : ℕ → Point) (s : Shape) (v w f g : ℕ) (list : List ℕ) → LeadsThrough at s v w f list g → pos 0 ≤ℤ widths at s v w list
 some_width at s v w f g [] leads = least
   where
     least : pos 0 ≤ℤ pos 0
@@ -204,7 +204,7 @@ some_width at s v w f g (h ∷ rest) leads =
     let r = some_width at s v w (face_of s (rev h)) g rest leads.2 in
     omega (arith, ordered, a, b, r)
 
-pub more_width : (at : ℕ → Point) (s : Shape) (v w f g h : ℕ) (rest : List ℕ) → Leads at s v w f (h ∷ rest) g → pos 0 <ℤ widths at s v w (h ∷ rest)
+pub more_width : (at : ℕ → Point) (s : Shape) (v w f g h : ℕ) (rest : List ℕ) → LeadsThrough at s v w f (h ∷ rest) g → pos 0 <ℤ widths at s v w (h ∷ rest)
 more_width at s v w f g h rest leads =
     let a = leads.0.right in
     let b = leads.0.left in

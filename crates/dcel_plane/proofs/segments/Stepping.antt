@@ -11,8 +11,8 @@ use Rattle.dcel_maps.proofs.maps.Soundness.{rev_live}
 use Rattle.dcel_maps.specs.Words.{count_of}
 use Rattle.dcel_maps.proofs.words.Counts.{count-append, count-same}
 use Rattle.dcel_plane.specs.Plane.{ListsCircled}
-use Rattle.dcel_plane.specs.removal.Wheels.{CanTurn}
-use Rattle.dcel_plane.specs.segments.Segments.{AreEnds, Becomes, CanTurnEach, Crosses, HasSides, HasSidesOf, IsChannel, IsPeak, NarrowerBefore, NotWiderAfter, TriangulatesItsHull, flipped_each, widths}
+use Rattle.dcel_plane.specs.removal.Wheels.{CanFlipInPlane}
+use Rattle.dcel_plane.specs.segments.Segments.{AreEnds, BecomesCrossing, CanTurnEach, Crosses, HasSides, HasSidesOf, IsChannel, IsPeak, NarrowerBefore, NotWiderAfter, TriangulatesItsHull, flipped_each, widths}
 use Rattle.dcel_plane.proofs.segments.Becoming.{in_old, kinds, turned_planar}
 use Rattle.dcel_plane.proofs.segments.Channels.{all_cross, flip_keeps_channel}
 use Rattle.dcel_plane.proofs.segments.Gates.{far, near, peak_can_turn}
@@ -20,7 +20,7 @@ use Rattle.dcel_plane.proofs.segments.Peaks.{ends_of, is_peak}
 use Rattle.dcel_plane.proofs.segments.Sides.{lists_stay, sides_stay}
 
 -- what is left of one that was flipped is one thing
-one_only : (at : ℕ → Point) (s : Shape) (v w h : ℕ) (new other : List ℕ) → Becomes at s v w h new → Becomes at s v w h other → new ≡ other
+one_only : (at : ℕ → Point) (s : Shape) (v w h : ℕ) (new other : List ℕ) → BecomesCrossing at s v w h new → BecomesCrossing at s v w h other → new ≡ other
 one_only at s v w h new other (inl a) (inl b) = a.2 ∙ sym b.2
 one_only at s v w h new other (inl a) (inr (inl b)) = absurd (let p = a.0 in let q = b.0 in omega (arith, ordered, p, q))
 one_only at s v w h new other (inl a) (inr (inr b)) = absurd (b.0 a.0 a.1)
@@ -41,7 +41,7 @@ pub flipped-append : {V DE UE F : Type 0} (m : Mesh V DE UE F) (us : List ℕ) (
 flipped-append m [] u = refl
 flipped-append m (x ∷ us) u = flipped-append (edge_flipped m x) us u
 
-pub turns-append : {V DE UE F : Type 0} (at : ℕ → Point) (m : Mesh V DE UE F) (us : List ℕ) (u : ℕ) → CanTurnEach at m us → CanTurn at (flipped_each m us).shape u
+pub turns-append : {V DE UE F : Type 0} (at : ℕ → Point) (m : Mesh V DE UE F) (us : List ℕ) (u : ℕ) → CanTurnEach at m us → CanFlipInPlane at (flipped_each m us).shape u
     → CanTurnEach at m (us ++ (u ∷ []))
 turns-append at m [] u can one = (one, tt)
 turns-append at m (x ∷ us) u can one = (can.0, turns-append at (edge_flipped m x) us u can.1 one)
@@ -63,13 +63,13 @@ module _ {V DE UE F : Type 0} (at : ℕ → Point) (m : Mesh V DE UE F) (planar 
   peak : IsPeak at m.shape v w h
   peak = is_peak m planar.mesh planar.triangles at planar.plane planar.convex v w ends front h back channel before after
 
-  pub can_turn : CanTurn at m.shape (h / 2)
+  pub can_turn : CanFlipInPlane at m.shape (h / 2)
   can_turn = peak_can_turn m planar.mesh planar.triangles at planar.plane planar.convex v w ends h crosses peak
 
   pub planar_still : TriangulatesItsHull at (edge_flipped m (h / 2))
   planar_still = turned_planar at m (h / 2) planar can_turn
 
-  module _ (new : List ℕ) (becomes : Becomes at m.shape v w h new) where
+  module _ (new : List ℕ) (becomes : BecomesCrossing at m.shape v w h new) where
     abbrev n : Mesh V DE UE F
     n = edge_flipped m (h / 2)
 

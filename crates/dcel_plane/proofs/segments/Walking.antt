@@ -11,7 +11,7 @@ use Rattle.dcel_maps.proofs.walks.Returning.{length-live}
 use Rattle.dcel_maps.proofs.words.Counts.{count-append, count-equal, count-other}
 use Rattle.dcel_plane.specs.Plane.{TrianglesTurnLeft}
 use Rattle.dcel_plane.specs.covering.Covering.{IsConvex, IsHull}
-use Rattle.dcel_plane.specs.segments.Segments.{AreEnds, BeginsAt, Crosses, IsChannel, IsCorner, Leads, corner_beyond, orient2d_by}
+use Rattle.dcel_plane.specs.segments.Segments.{AreEnds, BeginsAt, Crosses, IsChannel, IsCorner, LeadsThrough, corner_beyond, orient2d_by}
 use Rattle.dcel_plane.proofs.segments.Channels.{all_cross, leads_on}
 use Rattle.dcel_plane.proofs.segments.Gates.{far, inner_near}
 use Rattle.dcel_plane.proofs.segments.Onward.{IsFurther, Next, further_along, further_itself, left_is, over_left, over_right, right_is}
@@ -29,7 +29,7 @@ module _ {V DE UE F : Type 0} (m : Mesh V DE UE F) (mesh : IsMesh m) (triangles 
     pub first : ℕ
     pub inner : 0 < first
     pub start : IsCorner s first v
-    pub leads : Leads at s v w first passed (face_of s h)
+    pub leads : LeadsThrough at s v w first passed (face_of s h)
     pub crosses : Crosses at s v w h
     pub before : (j : ℕ) → 0 < count_of j passed → Further j h
     pub once : (j : ℕ) → count_of j passed ≤ 1
@@ -63,7 +63,7 @@ module _ {V DE UE F : Type 0} (m : Mesh V DE UE F) (mesh : IsMesh m) (triangles 
       | inr not ↦ (let a = count-append j passed (h ∷ []) in let b = count-other j h [] not in let o = comes.once j in omega (arith, a, b, o))
     ]
 
-    leads_further : (g : ℕ) → face_of s (rev h) ≡ g → Leads at s v w comes.first (passed ++ (h ∷ [])) g
+    leads_further : (g : ℕ) → face_of s (rev h) ≡ g → LeadsThrough at s v w comes.first (passed ++ (h ∷ [])) g
     leads_further g is = leads_on at s v w comes.first (face_of s h) g passed (h ∷ []) comes.leads (comes.crosses, refl, is)
 
     -- no longer than there are half edges

@@ -12,12 +12,12 @@ use Rattle.dcel_plane.proofs.edits.Flipped.{circled_can_flip, flip_plane, new_co
 use Rattle.dcel_plane.proofs.edits.Volumes.{volume_falls}
 use Rattle.dcel_plane.specs.covering.Covering.{CoversHull}
 use Rattle.dcel_plane.proofs.covering.Reaching.{covers_hull}
-use Rattle.dcel_plane.specs.removal.Wheels.{CanTurn}
+use Rattle.dcel_plane.specs.removal.Wheels.{CanFlipInPlane}
 use Rattle.dcel_plane.proofs.segments.Covered.{turn_covered}
 
 -- an edge that has a corner inside the circle of the other side can be flipped so that both triangles go round counterclockwise again
 pub circled_can_turn : {V DE UE F : Type 0} (at : ℕ → Point) (m : Mesh V DE UE F) (u : ℕ) → IsMesh m → TrianglesTurnLeft at m.shape → IsInner m.shape u
-    → IsCircled at m.shape u → CanTurn at m.shape u
+    → IsCircled at m.shape u → CanFlipInPlane at m.shape u
 circled_can_turn at m u mesh plane inner circled =
     let can = circled_can_flip m mesh u at inner circled in
     let new = new_corners m mesh u can at plane inner.inner inner.inner_facing circled in

@@ -23,7 +23,7 @@ pub record IsDelaunayTriangulation (at : ℕ → Point) (s : Shape) : Type 0 whe
   pub hull : IsHull at s
 
 -- the half edges of the inner face f start at a, b and c, one after the other
-pub record HasCorners (s : Shape) (f a b c : ℕ) : Type 0 where
+pub record HasCornerVertices (s : Shape) (f a b c : ℕ) : Type 0 where
   pub inner : 0 < f
   pub starts : TurnsTo (map (origin_of s) (word_of s.words f)) (a ∷ b ∷ c ∷ [])
 
@@ -32,10 +32,10 @@ abbrev pub LiesInHull : (ℕ → Point) → Shape → Place → Type 0
 LiesInHull at s p = (h : ℕ) → IsLive s h → face_of s h ≡ 0 → orient_at (at (origin_of s h)) (at (end_of s h)) p ≤ℤ pos 0
 
 -- the place lies in an inner triangle, or on its border
-pub record IsCovered (at : ℕ → Point) (s : Shape) (p : Place) : Type 0 where
+pub record LiesInSomeTriangle (at : ℕ → Point) (s : Shape) (p : Place) : Type 0 where
   pub face : ℕ
   pub a : ℕ
   pub b : ℕ
   pub c : ℕ
-  pub corners : HasCorners s face a b c
+  pub corners : HasCornerVertices s face a b c
   pub lies : IsIn (at a) (at b) (at c) p

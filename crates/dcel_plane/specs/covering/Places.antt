@@ -14,8 +14,8 @@ abbrev pub orient_at : Point → Point → Place → ℤ
 orient_at a b p = ((b.x -ℤ a.x) *ℤ (p.y -ℤ (p.w *ℤ a.y))) -ℤ ((b.y -ℤ a.y) *ℤ (p.x -ℤ (p.w *ℤ a.x)))
 
 -- the place lies inside the triangle, which goes round counterclockwise
-abbrev pub IsInside : Point → Point → Point → Place → Type 0
-IsInside a b c p = (pos 0 <ℤ orient_at a b p) × (pos 0 <ℤ orient_at b c p) × (pos 0 <ℤ orient_at c a p)
+abbrev pub IsStrictlyIn : Point → Point → Point → Place → Type 0
+IsStrictlyIn a b c p = (pos 0 <ℤ orient_at a b p) × (pos 0 <ℤ orient_at b c p) × (pos 0 <ℤ orient_at c a p)
 
 -- or on its border
 abbrev pub IsIn : Point → Point → Point → Place → Type 0
@@ -23,7 +23,7 @@ IsIn a b c p = (pos 0 ≤ℤ orient_at a b p) × (pos 0 ≤ℤ orient_at b c p) 
 
 -- no place lies inside both triangles
 abbrev pub AreDisjoint : Point → Point → Point → Point → Point → Point → Type 0
-AreDisjoint a b c x y z = (p : Place) → IsInside a b c p → IsInside x y z p → ⊥
+AreDisjoint a b c x y z = (p : Place) → IsStrictlyIn a b c p → IsStrictlyIn x y z p → ⊥
 
 -- the square of the distance from p to the place, times w * w
 abbrev pub squared_distance_at : Point → Place → ℤ

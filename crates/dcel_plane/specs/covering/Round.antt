@@ -26,7 +26,7 @@ pub record Begins (leads : ℕ → Type 0) (s : Shape) (h : ℕ) : Type 0 where
 
 -- The outer face has inner faces on the other side, turns right or goes straight on at each vertex, and begins to lead to the right once, and
 -- once to the left: so it goes round once, clockwise.
-pub record GoesRound (at : ℕ → Point) (s : Shape) : Type 0 where
+pub record GoesRoundOnce (at : ℕ → Point) (s : Shape) : Type 0 where
   pub inner : (h : ℕ) → IsLive s h → face_of s h ≡ 0 → 0 < face_of s (rev h)
   pub turns : (h : ℕ) → IsLive s h → face_of s h ≡ 0 → orient2d_of (at (origin_of s h)) (at (end_of s h)) (at (end_of s (next_of s h))) ≤ℤ pos 0
   pub right : (h k : ℕ) → Begins (LeadsRight at s) s h → Begins (LeadsRight at s) s k → h ≡ k

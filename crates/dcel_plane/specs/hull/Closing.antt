@@ -53,7 +53,7 @@ pub record IsThick (at : ℕ → Point) (s : Shape) (t : ℕ) : Type 0 where
   pub turn : pos 0 <ℤ orient2d_of (at (origin_of s i)) (at (origin_of s j)) (at (origin_of s k))
 
 -- the corners beside t don't turn in
-pub record IsClosed (at : ℕ → Point) (s : Shape) (t : ℕ) : Type 0 where
+pub record IsClosedBeside (at : ℕ → Point) (s : Shape) (t : ℕ) : Type 0 where
   pub after : (h : ℕ) → IsLive s h → face_of s h ≡ 0 → origin_of s h ≡ t → orient2d_of (at (end_of s h)) (at (end_of s (next_of s h))) (at t) ≤ℤ pos 0
   pub before : (h : ℕ) → IsLive s h → face_of s h ≡ 0 → end_of s h ≡ t → orient2d_of (at (origin_of s (prev_of s h))) (at (origin_of s h)) (at t) ≤ℤ pos 0
 

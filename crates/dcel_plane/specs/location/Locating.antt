@@ -5,7 +5,7 @@ use Rattle.dcel_predicates.specs.declared.point.Point.{Point}
 use Rattle.dcel_predicates.specs.Determinants.{orient2d_of}
 use Rattle.dcel_maps.specs.Conditions.{IsLineEnd}
 use Rattle.dcel_maps.specs.Shapes.{IsLive, Shape, end_of, face_of, origin_of}
-use Rattle.dcel_plane.specs.Plane.{IsLeftOf, LiesAcross, LiesInside}
+use Rattle.dcel_plane.specs.Plane.{IsLeftOf, LiesAcross, LiesInFace}
 use Rattle.dcel_plane.specs.hull.Straight.{dot_of_steps}
 use Rattle.dcel_plane.specs.covering.Covering.{dot}
 
@@ -68,7 +68,7 @@ HasPlace at s p =
 -- the point lies in an inner triangle, in one of three ways, or on the left of a half edge of the outer face
 abbrev pub HasSpot : (ℕ → Point) → Shape → Point → Type 0
 HasSpot at s p =
-    ((h : ℕ) × IsLive s h × (0 < face_of s h) × (LiesInside at s (face_of s h) p ⊎ (HasEdge at s p (face_of s h) ⊎ HasCorner at s p (face_of s h))))
+    ((h : ℕ) × IsLive s h × (0 < face_of s h) × (LiesInFace at s (face_of s h) p ⊎ (HasEdge at s p (face_of s h) ⊎ HasCorner at s p (face_of s h))))
     ⊎ ((e : ℕ) × IsLive s e × (face_of s e ≡ 0) × IsLeftOf at s p e)
 
 -- the point a comes before b, from left to right, and upwards where both have one x

@@ -10,7 +10,7 @@ use Rattle.dcel_maps.specs.Words.{count_of}
 use Rattle.dcel_plane.specs.Edges.{edges_of_flip}
 use Rattle.dcel_plane.specs.Plane.{TrianglesTurnLeft, TurnsLeft}
 use Rattle.dcel_plane.specs.covering.Covering.{IsConvex, IsHull, dot}
-use Rattle.dcel_plane.specs.removal.Wheels.{CanTurn}
+use Rattle.dcel_plane.specs.removal.Wheels.{CanFlipInPlane}
 
 -- `orient2d` of three vertices by their numbers: how far k lies on the left of the segment from v to w
 abbrev pub orient2d_by : (ℕ → Point) → ℕ → ℕ → ℕ → ℤ
@@ -32,9 +32,9 @@ pub record IsCorner (s : Shape) (f v : ℕ) : Type 0 where
   pub from : origin_of s side ≡ v
 
 -- the segment leads from the face f through the half edges of the list, from one face to the next, to the face g
-abbrev pub Leads : (ℕ → Point) → Shape → ℕ → ℕ → ℕ → List ℕ → ℕ → Type 0
-Leads at s v w f [] g = f ≡ g
-Leads at s v w f (h ∷ rest) g = Crosses at s v w h × (face_of s h ≡ f) × Leads at s v w (face_of s (rev h)) rest g
+abbrev pub LeadsThrough : (ℕ → Point) → Shape → ℕ → ℕ → ℕ → List ℕ → ℕ → Type 0
+LeadsThrough at s v w f [] g = f ≡ g
+LeadsThrough at s v w f (h ∷ rest) g = Crosses at s v w h × (face_of s h ≡ f) × LeadsThrough at s v w (face_of s (rev h)) rest g
 
 -- the half edges of the list are those through which the segment leads from v to w
 pub record IsChannel (at : ℕ → Point) (s : Shape) (v w : ℕ) (list : List ℕ) : Type 0 where
@@ -43,7 +43,7 @@ pub record IsChannel (at : ℕ → Point) (s : Shape) (v w : ℕ) (list : List �
   pub inner : 0 < first
   pub start : IsCorner s first v
   pub end : IsCorner s last w
-  pub leads : Leads at s v w first list last
+  pub leads : LeadsThrough at s v w first list last
   pub once : (h : ℕ) → count_of h list ≤ 1
 
 -- the corners on both sides of a half edge
@@ -81,8 +81,8 @@ pub record IsClear (at : ℕ → Point) (s : Shape) (v w : ℕ) : Type 0 where
   pub clear : (k : ℕ) → IsLive s k → orient2d_by at v w (origin_of s k) ≡ pos 0 → pos 0 ≤ℤ dot (at v) (at w) (at (origin_of s k))
 
 -- what stands in the list for a half edge h once it is flipped: h or its other half, where the corners lie on different sides, or nothing
-abbrev pub Becomes : (ℕ → Point) → Shape → ℕ → ℕ → ℕ → List ℕ → Type 0
-Becomes at s v w h new =
+abbrev pub BecomesCrossing : (ℕ → Point) → Shape → ℕ → ℕ → ℕ → List ℕ → Type 0
+BecomesCrossing at s v w h new =
     ((orient2d_by at v w (corner_before s h) <ℤ pos 0) × (pos 0 <ℤ orient2d_by at v w (corner_beyond s h)) × (new ≡ h ∷ []))
     ⊎ (((pos 0 <ℤ orient2d_by at v w (corner_before s h)) × (orient2d_by at v w (corner_beyond s h) <ℤ pos 0) × (new ≡ rev h ∷ []))
     ⊎ ((orient2d_by at v w (corner_before s h) <ℤ pos 0 → pos 0 <ℤ orient2d_by at v w (corner_beyond s h) → ⊥)
@@ -137,7 +137,7 @@ pub record TriangulatesItsHull {V DE UE F : Type 0} (at : ℕ → Point) (m : Me
 -- both go round counterclockwise again
 abbrev pub CanTurnEach : {V DE UE F : Type 0} → (ℕ → Point) → Mesh V DE UE F → List ℕ → Type 0
 CanTurnEach at m [] = Unit {0}
-CanTurnEach at m (u ∷ list) = CanTurn at m.shape u × CanTurnEach at (edge_flipped m u) list
+CanTurnEach at m (u ∷ list) = CanFlipInPlane at m.shape u × CanTurnEach at (edge_flipped m u) list
 
 -- such flips, and nothing else, make the mesh `new` of `old`, and each edge is that of a half edge in the list
 pub record TurnsInto {V DE UE F : Type 0} (at : ℕ → Point) (old new : Mesh V DE UE F) (list : List ℕ) : Type 0 where

@@ -1,8 +1,8 @@
 //! Laws of the hull: which edits keep it, and how it is closed again. These calls compute nothing;
 //! whoever makes one learns what it ensures.
 //!
-//! In all of them `at` says where each vertex stands. An outer half edge has the hull on its right,
-//! so a vertex on its left lies beyond the hull, and the outer face *turns in* where the next half
+//! In all of them `at` says where each vertex is. An outer half edge has the hull on its right,
+//! so a vertex on its left is beyond the hull, and the outer face *turns in* where the next half
 //! edge ends on the left. A hull is kept by the edits inside of it. A vertex beyond it is put beside
 //! an edge; then triangles are closed where the outer face turns in beside that vertex, and when it
 //! does so nowhere the hull is convex again. Before there is a triangle, the mesh is a straight line.
@@ -22,9 +22,9 @@ ghost use Rattle.dcel_maps.specs.edits.Split.{edge_split, edge_split_on_line, ha
 ghost use Rattle.dcel_maps.specs.edits.Triangle.{triangle_alone, vertex_inserted};
 ghost use Rattle.dcel_maps.specs.Shapes.{IsLive, IsMesh, Mesh, end_of, face_of, next_of, origin_of, prev_of};
 ghost use Rattle.dcel_maps.specs.Triangulations.{AllTriangles};
-ghost use Rattle.dcel_plane.specs.Plane.{IsLeftOf, LiesAcross, LiesInside, TrianglesTurnLeft, TurnsLeft};
+ghost use Rattle.dcel_plane.specs.Plane.{IsLeftOf, LiesAcross, LiesInFace, TrianglesTurnLeft, TurnsLeft};
 ghost use Rattle.dcel_plane.specs.covering.Delaunay.{IsDelaunayTriangulation};
-ghost use Rattle.dcel_plane.specs.hull.Closing.{IsClosed, IsClosing, IsThick, IsThin};
+ghost use Rattle.dcel_plane.specs.hull.Closing.{IsClosedBeside, IsClosing, IsThick, IsThin};
 ghost use Rattle.dcel_plane.specs.hull.Straight.{IsStraight, dot_of_steps};
 ghost use Rattle.dcel_plane.specs.hull.Worked.{corner};
 ghost use Rattle.dcel_plane.specs.covering.Covering.{IsConvex, IsHull, dot};
@@ -40,7 +40,7 @@ pub fn first_triangles_have_a_hull<V, DE, UE, F>()
         → TurnsLeft (at 1) (at 0) (at 2) → IsDelaunayTriangulation at (triangle_alone vertices halves edges faces).shape }
 {}
 
-/// `flip_cw` between two inner triangles keeps the hull, wherever their corners stand.
+/// `flip_cw` between two inner triangles keeps the hull, wherever their corners are.
 pub fn flips_keep_the_hull<V, DE, UE, F>()
     ensures convex { (at : ℕ → Point) (m : Mesh V DE UE F) (u : ℕ) → IsMesh m → CanFlip m.shape u → 0 < face_of m.shape (2 * u)
         → 0 < face_of m.shape (2 * u + 1) → IsConvex at m.shape → IsConvex at (edge_flipped m u).shape }
@@ -48,20 +48,20 @@ pub fn flips_keep_the_hull<V, DE, UE, F>()
         → 0 < face_of m.shape (2 * u + 1) → IsHull at m.shape → IsHull at (edge_flipped m u).shape }
 {}
 
-/// `insert_into_triangle` keeps the hull if the vertex stands on the left of each half edge of the
+/// `insert_into_triangle` keeps the hull if the vertex is on the left of each half edge of the
 /// triangle.
 pub fn insertions_keep_the_hull<V, DE, UE, F>()
     ensures convex { (at : ℕ → Point) (m : Mesh V DE UE F) (v f : ℕ) (halves : List DE) (edges : List UE) (faces : List F)
-        → IsMesh m → AllTriangles m.shape → TrianglesTurnLeft at m.shape → 0 < f → IsTriangle m.shape f → LiesInside at m.shape f (at v)
+        → IsMesh m → AllTriangles m.shape → TrianglesTurnLeft at m.shape → 0 < f → IsTriangle m.shape f → LiesInFace at m.shape f (at v)
         → IsMesh (vertex_inserted m v f halves edges faces)
         → IsConvex at m.shape → IsHull at m.shape → IsConvex at (vertex_inserted m v f halves edges faces).shape }
     ensures hull { (at : ℕ → Point) (m : Mesh V DE UE F) (v f : ℕ) (halves : List DE) (edges : List UE) (faces : List F)
-        → IsMesh m → AllTriangles m.shape → TrianglesTurnLeft at m.shape → 0 < f → IsTriangle m.shape f → LiesInside at m.shape f (at v)
+        → IsMesh m → AllTriangles m.shape → TrianglesTurnLeft at m.shape → 0 < f → IsTriangle m.shape f → LiesInFace at m.shape f (at v)
         → IsMesh (vertex_inserted m v f halves edges faces)
         → IsConvex at m.shape → IsHull at m.shape → IsHull at (vertex_inserted m v f halves edges faces).shape }
 {}
 
-/// `split_edge` keeps the hull if the vertex stands on the left of each half edge of the two triangles
+/// `split_edge` keeps the hull if the vertex is on the left of each half edge of the two triangles
 /// but the halves of the edge.
 pub fn splits_keep_the_hull<V, DE, UE, F>()
     ensures convex { (at : ℕ → Point) (m : Mesh V DE UE F) (e v : ℕ) (halves : List DE) (edges : List UE) (faces : List F)
@@ -74,7 +74,7 @@ pub fn splits_keep_the_hull<V, DE, UE, F>()
         → IsConvex at m.shape → IsHull at m.shape → IsHull at (edge_split m e v halves edges faces).shape }
 {}
 
-/// `split_half_edge` keeps the hull if its other half lies on the outer face, the vertex stands on the
+/// `split_half_edge` keeps the hull if its other half is on the outer face, the vertex is on the
 /// left of the other half edges of the triangle, and on the edge's line.
 pub fn half_splits_keep_the_hull<V, DE, UE, F>()
     ensures convex { (at : ℕ → Point) (m : Mesh V DE UE F) (e v : ℕ) (halves : List DE) (edges : List UE) (faces : List F)
@@ -157,10 +157,10 @@ pub fn closed_corners_stay_closed_from_a_line<V, DE, UE, F>()
 {}
 
 /// A closing is at its end when neither corner beside the new vertex turns in: then the outer face is
-/// a convex hull, if the old vertices don't all lie on one line.
+/// a convex hull, if the old vertices aren't all on one line.
 pub fn closed_hulls_are_convex<V, DE, UE, F>()
     ensures { (at : ℕ → Point) (m : Mesh V DE UE F) (t : ℕ) → IsMesh m → IsClosing at m.shape t → IsThick at m.shape t → IsHull at m.shape
-        → IsClosed at m.shape t → IsConvex at m.shape }
+        → IsClosedBeside at m.shape t → IsConvex at m.shape }
 {}
 
 /// The outer face of a convex hull turns in nowhere, so no triangle can be closed there.
@@ -169,13 +169,13 @@ pub fn convex_hulls_turn_in_nowhere<V, DE, UE, F>()
         → ¬ IsLeftOf at m.shape (at (end_of m.shape (next_of m.shape e))) e }
 {}
 
-/// `setup_initial_two_vertices` makes a straight line, if the vertices stand at two points.
+/// `setup_initial_two_vertices` makes a straight line, if the vertices are at two points.
 pub fn first_edges_are_straight<V, DE, UE, F>()
     ensures { (at : ℕ → Point) (m : Mesh V DE UE F) (a b : ℕ) (halves : List DE) (edges : List UE)
         → ((at a).x ≡ (at b).x → (at a).y ≡ (at b).y → ⊥) → IsStraight at (first_edge_added m a b halves edges).shape }
 {}
 
-/// `extend_line` keeps a line straight if the vertex lies on it, beyond that end.
+/// `extend_line` keeps a line straight if the vertex is on it, beyond that end.
 pub fn extensions_keep_a_line_straight<V, DE, UE, F>()
     ensures { (at : ℕ → Point) (m : Mesh V DE UE F) (end tip h : ℕ) (halves : List DE) (edges : List UE)
         → IsMesh m → IsLineEnd m.shape end → IsStraight at m.shape → IsLive m.shape h → end_of m.shape h ≡ end
@@ -183,7 +183,7 @@ pub fn extensions_keep_a_line_straight<V, DE, UE, F>()
         → IsMesh (line_extended m end tip halves edges) → IsStraight at (line_extended m end tip halves edges).shape }
 {}
 
-/// `split_edge_when_all_vertices_on_line` keeps a line straight if the vertex lies on the edge,
+/// `split_edge_when_all_vertices_on_line` keeps a line straight if the vertex is on the edge,
 /// strictly between its ends.
 pub fn line_splits_keep_a_line_straight<V, DE, UE, F>()
     ensures { (at : ℕ → Point) (m : Mesh V DE UE F) (e v : ℕ) (halves : List DE) (edges : List UE)
@@ -205,9 +205,9 @@ pub fn triangles_beside_a_line_begin_a_closing<V, DE, UE, F>()
 /// When such a closing is at its end, the outer face is a convex hull that passes each vertex once.
 pub fn closings_from_a_line_end_in_a_hull<V, DE, UE, F>()
     ensures convex { (at : ℕ → Point) (m : Mesh V DE UE F) (t : ℕ) → IsMesh m → AllTriangles m.shape → TrianglesTurnLeft at m.shape
-        → IsClosing at m.shape t → IsThin at m.shape t → IsClosed at m.shape t → IsConvex at m.shape }
+        → IsClosing at m.shape t → IsThin at m.shape t → IsClosedBeside at m.shape t → IsConvex at m.shape }
     ensures hull { (at : ℕ → Point) (m : Mesh V DE UE F) (t : ℕ) → IsMesh m → AllTriangles m.shape → TrianglesTurnLeft at m.shape
-        → IsClosing at m.shape t → IsThin at m.shape t → IsClosed at m.shape t → IsHull at m.shape }
+        → IsClosing at m.shape t → IsThin at m.shape t → IsClosedBeside at m.shape t → IsHull at m.shape }
 {}
 
 /// One worked mesh has a hull, and meets all conditions of a Delaunay triangulation: none of them is

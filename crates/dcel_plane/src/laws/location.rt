@@ -1,7 +1,7 @@
-//! Laws of walks towards a point, of where it lies, and of the vertex nearest to it. These calls
+//! Laws of walks towards a point, of where it is, and of the vertex nearest to it. These calls
 //! compute nothing; whoever makes one learns what it ensures.
 //!
-//! In all of them `at` says where each vertex stands. A walk crosses an edge that has the point
+//! In all of them `at` says where each vertex is. A walk crosses an edge that has the point
 //! strictly on its other side, as the visibility walk of O. Devillers, S. Pion and M. Teillaud does
 //! ("Walking in a triangulation", 2001). On a line it goes from vertex to vertex.
 
@@ -15,7 +15,7 @@ ghost use Rattle.dcel_maps.specs.Shapes.{IsLive, IsMesh, Mesh, Shape, edge_is_li
 ghost use Rattle.dcel_maps.specs.Triangulations.{AllTriangles};
 ghost use Rattle.dcel_maps.specs.Walking.{live_half_edges};
 ghost use Rattle.dcel_maps.specs.Words.{count_of, word_of};
-ghost use Rattle.dcel_plane.specs.Plane.{IsLeftOf, IsLocallyDelaunay, LiesInside, TrianglesTurnLeft};
+ghost use Rattle.dcel_plane.specs.Plane.{IsLeftOf, IsLocallyDelaunay, LiesInFace, TrianglesTurnLeft};
 ghost use Rattle.dcel_plane.specs.hull.Straight.{IsStraight, dot_of_steps};
 ghost use Rattle.dcel_plane.specs.location.Locating.{HasBeyond, HasCorner, HasEdge, HasPlace, HasSpot, IsBefore, LiesBeyond, LiesOn, Passes, StandsAt, Walks, orient2d_along};
 ghost use Rattle.dcel_plane.specs.hull.Worked.{corner};
@@ -42,26 +42,26 @@ pub fn walks_end<V, DE, UE, F>()
         → count (face_is_live m.shape) (face_count m.shape) ≤ length list + 2 → face_of m.shape (rev h) ≡ 0 }
 {}
 
-/// A point that no side of an inner triangle has on its right lies strictly inside of it, or strictly
-/// between the ends of a side, or at a corner: in one of these places only, as no vertex stands
+/// A point that no side of an inner triangle has on its right is strictly inside of it, or strictly
+/// between the ends of a side, or at a corner: in one of these places only, as no vertex is
 /// strictly inside of a triangle, nor strictly between the ends of an edge.
 pub fn places_found_are_exact<V, DE, UE, F>()
     ensures found { (at : ℕ → Point) (m : Mesh V DE UE F) (p : Point) (h : ℕ) → IsMesh m → AllTriangles m.shape → TrianglesTurnLeft at m.shape
         → IsLive m.shape h → 0 < face_of m.shape h → pos 0 ≤ℤ orient2d_along at m.shape h p → pos 0 ≤ℤ orient2d_along at m.shape (next_of m.shape h) p
         → pos 0 ≤ℤ orient2d_along at m.shape (prev_of m.shape h) p
-        → LiesInside at m.shape (face_of m.shape h) p ⊎ (HasEdge at m.shape p (face_of m.shape h) ⊎ HasCorner at m.shape p (face_of m.shape h)) }
-    ensures apart { (at : ℕ → Point) (s : Shape) (p : Point) (f : ℕ) → LiesInside at s f p → ¬ HasEdge at s p f }
+        → LiesInFace at m.shape (face_of m.shape h) p ⊎ (HasEdge at m.shape p (face_of m.shape h) ⊎ HasCorner at m.shape p (face_of m.shape h)) }
+    ensures apart { (at : ℕ → Point) (s : Shape) (p : Point) (f : ℕ) → LiesInFace at s f p → ¬ HasEdge at s p f }
     ensures inside { (at : ℕ → Point) (m : Mesh V DE UE F) (p : Point) (h k : ℕ) → IsMesh m → AllTriangles m.shape → TrianglesTurnLeft at m.shape
-        → IsConvex at m.shape → IsHull at m.shape → IsLive m.shape h → 0 < face_of m.shape h → LiesInside at m.shape (face_of m.shape h) p
+        → IsConvex at m.shape → IsHull at m.shape → IsLive m.shape h → 0 < face_of m.shape h → LiesInFace at m.shape (face_of m.shape h) p
         → IsLive m.shape k → ¬ StandsAt at p (origin_of m.shape k) }
     ensures edge { (at : ℕ → Point) (m : Mesh V DE UE F) (p : Point) (h k : ℕ) → IsMesh m → AllTriangles m.shape → TrianglesTurnLeft at m.shape
         → IsConvex at m.shape → IsHull at m.shape → IsLive m.shape h → LiesOn at m.shape p h → IsLive m.shape k → ¬ StandsAt at p (origin_of m.shape k) }
     ensures one_face { (at : ℕ → Point) (m : Mesh V DE UE F) (p : Point) (h f x y z : ℕ) → IsMesh m → AllTriangles m.shape → TrianglesTurnLeft at m.shape
-        → IsConvex at m.shape → IsHull at m.shape → IsLive m.shape h → 0 < face_of m.shape h → LiesInside at m.shape (face_of m.shape h) p
+        → IsConvex at m.shape → IsHull at m.shape → IsLive m.shape h → 0 < face_of m.shape h → LiesInFace at m.shape (face_of m.shape h) p
         → 0 < f → word_of m.shape.words f ≡ x ∷ y ∷ z ∷ [] → f ≢ face_of m.shape h
         → ¬ Covers (at (origin_of m.shape x)) (at (origin_of m.shape y)) (at (origin_of m.shape z)) p }
     ensures no_edge { (at : ℕ → Point) (m : Mesh V DE UE F) (p : Point) (h k : ℕ) → IsMesh m → AllTriangles m.shape → TrianglesTurnLeft at m.shape
-        → IsConvex at m.shape → IsHull at m.shape → IsLive m.shape h → 0 < face_of m.shape h → LiesInside at m.shape (face_of m.shape h) p
+        → IsConvex at m.shape → IsHull at m.shape → IsLive m.shape h → 0 < face_of m.shape h → LiesInFace at m.shape (face_of m.shape h) p
         → IsLive m.shape k → ¬ LiesOn at m.shape p k }
     ensures one_edge { (at : ℕ → Point) (m : Mesh V DE UE F) (p : Point) (i h k : ℕ) → IsMesh m → AllTriangles m.shape → TrianglesTurnLeft at m.shape
         → IsConvex at m.shape → IsHull at m.shape → IsLive m.shape i → 0 < face_of m.shape i → IsLive m.shape h → LiesOn at m.shape p h
@@ -69,7 +69,7 @@ pub fn places_found_are_exact<V, DE, UE, F>()
 {}
 
 /// A step out of the hull leads to an outer half edge that has the point on its left: then no vertex
-/// stands there, and it lies in no inner triangle, nor on the border of one.
+/// is there, and it is in no inner triangle, nor on the border of one.
 pub fn points_beyond_the_hull_are_outside<V, DE, UE, F>()
     ensures step { (at : ℕ → Point) (m : Mesh V DE UE F) (p : Point) (h : ℕ) → IsMesh m → AllTriangles m.shape → TrianglesTurnLeft at m.shape
         → HasBeyond at m.shape p h → IsLive m.shape (rev h) × IsLeftOf at m.shape p (rev h) }
@@ -83,14 +83,14 @@ pub fn points_beyond_the_hull_are_outside<V, DE, UE, F>()
         → IsLive m.shape h → 0 < face_of m.shape h → IsLive m.shape k → ¬ LiesOn at m.shape p k }
 {}
 
-/// So from each inner triangle a walk finds where a point lies, or a half edge of the hull that has it
+/// So from each inner triangle a walk finds where a point is, or a half edge of the hull that has it
 /// on its left.
 pub fn walks_find_a_place<V, DE, UE, F>()
     ensures { (at : ℕ → Point) (m : Mesh V DE UE F) (p : Point) (h : ℕ) → IsMesh m → AllTriangles m.shape → IsLocallyDelaunay at m.shape
         → IsLive m.shape h → 0 < face_of m.shape h → HasSpot at m.shape p }
 {}
 
-/// A point on the line of a path stands at a vertex, or lies strictly between the ends of an edge, or
+/// A point on the line of a path is at a vertex, or is strictly between the ends of an edge, or
 /// beyond an end of the line: in one of these places only.
 pub fn places_on_a_line_are_exact<V, DE, UE, F>()
     ensures some { (at : ℕ → Point) (m : Mesh V DE UE F) (p : Point) (h : ℕ) → IsMesh m → IsStraight at m.shape → IsLive m.shape h
@@ -123,7 +123,7 @@ pub fn walks_along_a_line_end<V, DE, UE, F>()
         → Passes m.shape start list h → (length list + 1 ≤ live_half_edges m.shape) × (length list + 1 ≤ 2 * m.shape.edges) }
 {}
 
-/// A point on a line lies beyond an end of a segment just where it comes after it, or before it, from
+/// A point on a line is beyond an end of a segment just where it comes after it, or before it, from
 /// left to right, and upwards where the line is vertical.
 pub fn points_on_a_line_have_an_order()
     ensures after { (a b p : Point) → orient2d_of a b p ≡ pos 0 → IsBefore a b → (IsBefore b p → pos 0 <ℤ dot_of_steps a b p) × (¬ IsBefore b p → dot_of_steps a b p ≤ℤ pos 0) }
@@ -131,7 +131,7 @@ pub fn points_on_a_line_have_an_order()
 {}
 
 /// A vertex none of whose neighbors is nearer to a point than itself is nearest to it, wherever the
-/// point lies: in a Delaunay triangulation, and on the line of a path.
+/// point is: in a Delaunay triangulation, and on the line of a path.
 ///
 /// So a walk from neighbor to neighbor that comes nearer with each step ends at a nearest vertex.
 pub fn no_nearer_neighbor_makes_a_vertex_nearest<V, DE, UE, F>()

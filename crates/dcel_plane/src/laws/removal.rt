@@ -20,7 +20,7 @@ ghost use Rattle.dcel_maps.specs.Triangulations.{AllTriangles};
 ghost use Rattle.dcel_maps.specs.Walking.{IsOutEdge, IsRoundTrip, ListsOnce, ccw_of, walk_of};
 ghost use Rattle.dcel_maps.specs.Words.{count_of};
 ghost use Rattle.dcel_plane.specs.Plane.{ListsCircled, TrianglesTurnLeft, TurnsLeft};
-ghost use Rattle.dcel_plane.specs.removal.Wheels.{CanTurn, CanTurnAt, EarsLeft, IsFan, IsFlattened, IsFlippable, IsHollow, IsWheel, LeadsAcross, LiesBetween, LiesOnHull, MakesTwo, TrianglesTurnLeftBut, turns};
+ghost use Rattle.dcel_plane.specs.removal.Wheels.{CanFlipInPlane, CanTurnAt, EarsLeft, IsFan, IsFlattened, IsFlippable, IsHollow, IsWheel, LeadsAcross, LiesBetween, LiesOnHull, MakesTwo, TrianglesTurnLeftBut, turns};
 ghost use Rattle.dcel_plane.specs.covering.Covering.{IsConvex, IsHull};
 ghost use Rattle.dcel_plane.specs.hull.Straight.{IsStraight};
 
@@ -30,7 +30,7 @@ pub fn five_neighbors_can_be_fewer()
     ensures { (v : Point) (u : ℕ → Point) (k : ℕ) → IsWheel v u k → 4 < k → (i : ℕ) × (i < k) × IsFlippable v u i }
 {}
 
-/// Of four too, or the point lies between two neighbors that don't follow each other.
+/// Of four too, or the point is between two neighbors that don't follow each other.
 pub fn four_neighbors_can_be_fewer()
     ensures either { (v : Point) (u : ℕ → Point) → IsWheel v u 4 → ((i : ℕ) × (i < 4) × IsFlippable v u i) ⊎ ((i : ℕ) × (i < 2) × LiesBetween v u i) }
     ensures triangles { (v : Point) (u : ℕ → Point) → IsWheel v u 4
@@ -50,7 +50,7 @@ pub fn vertices_of_five_have_an_edge_to_flip<V, DE, UE, F>()
     ensures { (at : ℕ → Point) (m : Mesh V DE UE F) (h : ℕ) (w : List ℕ) → IsMesh m → AllTriangles m.shape → TrianglesTurnLeft at m.shape
         → IsConvex at m.shape → IsHull at m.shape → IsLive m.shape h
         → ((k : ℕ) → IsLive m.shape k → origin_of m.shape k ≡ origin_of m.shape h → 0 < face_of m.shape k) → IsRoundTrip (ccw_of m.shape) h w
-        → 4 < length w → (e : ℕ) × (0 < count_of e w) × CanTurn at m.shape (e / 2) }
+        → 4 < length w → (e : ℕ) × (0 < count_of e w) × CanFlipInPlane at m.shape (e / 2) }
 {}
 
 /// One of four edges has too, or two of its edges lead opposite ways.
@@ -58,7 +58,7 @@ pub fn vertices_of_four_have_an_edge_to_flip_or_lead_across<V, DE, UE, F>()
     ensures { (at : ℕ → Point) (m : Mesh V DE UE F) (h : ℕ) (w : List ℕ) → IsMesh m → AllTriangles m.shape → TrianglesTurnLeft at m.shape
         → IsConvex at m.shape → IsHull at m.shape → IsLive m.shape h
         → ((k : ℕ) → IsLive m.shape k → origin_of m.shape k ≡ origin_of m.shape h → 0 < face_of m.shape k) → IsRoundTrip (ccw_of m.shape) h w
-        → length w ≡ 4 → ((e : ℕ) × (0 < count_of e w) × CanTurn at m.shape (e / 2)) ⊎ ((e : ℕ) × (0 < count_of e w) × LeadsAcross at m.shape e) }
+        → length w ≡ 4 → ((e : ℕ) × (0 < count_of e w) × CanFlipInPlane at m.shape (e / 2)) ⊎ ((e : ℕ) × (0 < count_of e w) × LeadsAcross at m.shape e) }
 {}
 
 /// The neighbors of an inner vertex of three edges turn left.
@@ -137,7 +137,7 @@ pub fn other_numbers_keep_a_line<V, DE, UE, F>()
 {}
 
 /// Of the triangles at a corner of the hull, an edge can be flipped, or the hull goes along the
-/// other sides without the corner, or the corner lies between two others, with one triangle less.
+/// other sides without the corner, or the corner is between two others, with one triangle less.
 pub fn corners_of_the_hull_can_have_fewer_or_go()
     ensures { (v : Point) (u : ℕ → Point) (k : ℕ) → IsFan v u k → 1 < k
         → ((i : ℕ) × (i + 2 ≤ k) × IsFlippable v u i) ⊎ (IsHollow v u k ⊎ LiesOnHull v u k) }
@@ -150,7 +150,7 @@ pub fn corners_of_the_hull_have_an_edge_to_flip_or_can_go<V, DE, UE, F>()
         → IsFan (at (origin_of m.shape h)) (λ i. at (end_of m.shape (turns (ccw_of m.shape) (suc i) h))) (length w - 1) }
     ensures turn { (at : ℕ → Point) (m : Mesh V DE UE F) (h : ℕ) (w : List ℕ) → IsMesh m → AllTriangles m.shape → TrianglesTurnLeft at m.shape
         → IsConvex at m.shape → IsHull at m.shape → IsLive m.shape h → face_of m.shape h ≡ 0 → IsRoundTrip (ccw_of m.shape) h w → 2 < length w
-        → ((e : ℕ) × (0 < count_of e w) × CanTurn at m.shape (e / 2))
+        → ((e : ℕ) × (0 < count_of e w) × CanFlipInPlane at m.shape (e / 2))
         ⊎ (IsHollow (at (origin_of m.shape h)) (λ i. at (end_of m.shape (turns (ccw_of m.shape) (suc i) h))) (length w - 1)
         ⊎ LiesOnHull (at (origin_of m.shape h)) (λ i. at (end_of m.shape (turns (ccw_of m.shape) (suc i) h))) (length w - 1)) }
 {}
@@ -162,21 +162,21 @@ pub fn corners_of_the_hull_have_a_strip<V, DE, UE, F>()
         → IsStripAround m.shape (origin_of m.shape h) h }
 {}
 
-/// Where none of its edges can be flipped, a corner is hollow, or lies between its neighbors on the hull.
+/// Where none of its edges can be flipped, a corner is hollow, or is between its neighbors on the hull.
 pub fn corners_without_an_edge_to_flip_can_go<V, DE, UE, F>()
     ensures hollow { (at : ℕ → Point) (m : Mesh V DE UE F) (h g : ℕ) → IsMesh m → AllTriangles m.shape → TrianglesTurnLeft at m.shape
         → IsConvex at m.shape → IsHull at m.shape → IsLive m.shape h → face_of m.shape h ≡ 0
-        → ((e : ℕ) → IsOutEdge m.shape (origin_of m.shape h) e → ¬ CanTurn at m.shape (e / 2)) → IsLive m.shape g → 0 < face_of m.shape g
+        → ((e : ℕ) → IsOutEdge m.shape (origin_of m.shape h) e → ¬ CanFlipInPlane at m.shape (e / 2)) → IsLive m.shape g → 0 < face_of m.shape g
         → ¬ (orient2d_of (at (origin_of m.shape h)) (at (end_of m.shape h)) (at (end_of m.shape (ccw_of m.shape h))) ≡ pos 0)
         → IsHollow (at (origin_of m.shape h)) (λ i. at (end_of m.shape (turns (ccw_of m.shape) (suc i) h))) (length (walk_of m.shape (ccw_of m.shape) h) - 1) }
     ensures between { (at : ℕ → Point) (m : Mesh V DE UE F) (h g : ℕ) → IsMesh m → AllTriangles m.shape → TrianglesTurnLeft at m.shape
         → IsConvex at m.shape → IsHull at m.shape → IsLive m.shape h → face_of m.shape h ≡ 0
-        → ((e : ℕ) → IsOutEdge m.shape (origin_of m.shape h) e → ¬ CanTurn at m.shape (e / 2)) → IsLive m.shape g → 0 < face_of m.shape g
+        → ((e : ℕ) → IsOutEdge m.shape (origin_of m.shape h) e → ¬ CanFlipInPlane at m.shape (e / 2)) → IsLive m.shape g → 0 < face_of m.shape g
         → orient2d_of (at (origin_of m.shape h)) (at (end_of m.shape h)) (at (end_of m.shape (ccw_of m.shape h))) ≡ pos 0
         → LiesOnHull (at (origin_of m.shape h)) (λ i. at (end_of m.shape (turns (ccw_of m.shape) (suc i) h))) (length (walk_of m.shape (ccw_of m.shape) h) - 1) }
 {}
 
-/// Where no neighbor of a corner turns left, what lies in the corner's angle, but in none of its
+/// Where no neighbor of a corner turns left, what is in the corner's angle, but in none of its
 /// triangles, is on the right of all sides that face the corner: the hull can go along them.
 pub fn hollow_corners_leave_all_on_the_right()
     ensures { (v x : Point) (u : ℕ → Point) (k : ℕ) → IsFan v u k → IsHollow v u k → 0 < k
@@ -213,7 +213,7 @@ pub fn hollow_corners_can_be_cut_off<V, DE, UE, F>()
         → IsStraight at (strip_cut m list).shape }
 {}
 
-/// A corner that lies between its neighbors on the hull, with one more neighbor: a flip leaves a flat
+/// A corner that is between its neighbors on the hull, with one more neighbor: a flip leaves a flat
 /// triangle there and no other, and then the corner can be cut off.
 pub fn flat_corners_can_be_cut_off<V, DE, UE, F>()
     ensures turn { (at : ℕ → Point) (m : Mesh V DE UE F) (h : ℕ) (w : List ℕ) → IsMesh m → AllTriangles m.shape → TrianglesTurnLeft at m.shape
@@ -240,7 +240,7 @@ pub fn flat_corners_can_be_cut_off<V, DE, UE, F>()
 
 /// A flip after which both triangles turn left keeps a mesh in the plane, circled or not.
 pub fn turning_flips_keep_the_plane<V, DE, UE, F>()
-    ensures { (at : ℕ → Point) (m : Mesh V DE UE F) (u : ℕ) → IsMesh m → CanTurn at m.shape u → TrianglesTurnLeft at m.shape → TrianglesTurnLeft at (edge_flipped m u).shape }
+    ensures { (at : ℕ → Point) (m : Mesh V DE UE F) (u : ℕ) → IsMesh m → CanFlipInPlane at m.shape u → TrianglesTurnLeft at m.shape → TrianglesTurnLeft at (edge_flipped m u).shape }
 {}
 
 /// On a straight line one or two half edges lead out of each vertex that has one.

@@ -10,8 +10,8 @@ ghost use Rattle.dcel_maps.specs.Triangulations.{AllTriangles};
 ghost use Rattle.dcel_maps.specs.Words.{count_of};
 ghost use Rattle.dcel_plane.specs.Plane.{ListsCircled, TrianglesTurnLeft};
 ghost use Rattle.dcel_plane.specs.covering.Covering.{CoversHull, IsConvex, IsHull, dot};
-ghost use Rattle.dcel_plane.specs.removal.Wheels.{CanTurn};
-ghost use Rattle.dcel_plane.specs.segments.Segments.{AreEnds, BeginsAt, Becomes, CanTurnEach, Crosses, IsChannel, IsClear, IsPeak, TriangulatesItsHull, LeadsAlong, NarrowerBefore, NotWiderAfter, corner_beyond, flipped_each, orient2d_by, touched, widths};
+ghost use Rattle.dcel_plane.specs.removal.Wheels.{CanFlipInPlane};
+ghost use Rattle.dcel_plane.specs.segments.Segments.{AreEnds, BeginsAt, BecomesCrossing, CanTurnEach, Crosses, IsChannel, IsClear, IsPeak, TriangulatesItsHull, LeadsAlong, NarrowerBefore, NotWiderAfter, corner_beyond, flipped_each, orient2d_by, touched, widths};
 
 /// From a vertex a segment leads along an edge, or through a triangle and across its far side.
 pub fn segments_begin_at_an_edge_or_in_a_triangle<V, DE, UE, F>()
@@ -21,7 +21,7 @@ pub fn segments_begin_at_an_edge_or_in_a_triangle<V, DE, UE, F>()
 {}
 
 /// From an edge that it crosses it leads across another side of the triangle beyond, by the side on
-/// which the corner beyond lies, or to that corner: its end, or a vertex between its ends.
+/// which the corner beyond is, or to that corner: its end, or a vertex between its ends.
 pub fn crossed_edges_lead_on<V, DE, UE, F>()
     ensures right { (at : ℕ → Point) (m : Mesh V DE UE F) (v w h : ℕ) → IsMesh m → AllTriangles m.shape → TrianglesTurnLeft at m.shape → IsConvex at m.shape → IsHull at m.shape
         → AreEnds m.shape v w → Crosses at m.shape v w h → orient2d_by at v w (corner_beyond m.shape h) <ℤ pos 0
@@ -48,11 +48,11 @@ pub fn channels_list_each_crossing<V, DE, UE, F>()
         → IsClear at m.shape v w → IsChannel at m.shape v w list → list ≢ [] → Crosses at m.shape v w h → 0 < count_of h list }
 {}
 
-/// A half edge that crosses the segment can be flipped, if the corners of its triangles lie between its
+/// A half edge that crosses the segment can be flipped, if the corners of its triangles are between its
 /// ends, in the direction across the segment.
 pub fn peaks_can_turn<V, DE, UE, F>()
     ensures { (at : ℕ → Point) (m : Mesh V DE UE F) (v w h : ℕ) (front back : List ℕ) → IsMesh m → AllTriangles m.shape → TrianglesTurnLeft at m.shape → IsConvex at m.shape
-        → IsChannel at m.shape v w (front ++ (h ∷ back)) → IsPeak at m.shape v w h → CanTurn at m.shape (h / 2) }
+        → IsChannel at m.shape v w (front ++ (h ∷ back)) → IsPeak at m.shape v w h → CanFlipInPlane at m.shape (h / 2) }
 {}
 
 /// They do so if it is wider than the one before it in the list, and no narrower than the one after
@@ -70,7 +70,7 @@ pub fn channels_have_a_peak<V, DE, UE, F>()
 pub fn flipped_peaks_leave_a_channel<V, DE, UE, F>()
     ensures { (at : ℕ → Point) (m : Mesh V DE UE F) (v w h : ℕ) (front back : List ℕ) → IsMesh m → AllTriangles m.shape → TrianglesTurnLeft at m.shape → IsConvex at m.shape
         → IsChannel at m.shape v w (front ++ (h ∷ back)) → IsPeak at m.shape v w h
-        → (new : List ℕ) × Becomes at m.shape v w h new × IsChannel at (edge_flipped m (h / 2)).shape v w (front ++ (new ++ back))
+        → (new : List ℕ) × BecomesCrossing at m.shape v w h new × IsChannel at (edge_flipped m (h / 2)).shape v w (front ++ (new ++ back))
         × (widths at (edge_flipped m (h / 2)).shape v w (front ++ (new ++ back)) <ℤ widths at m.shape v w (front ++ (h ∷ back))) }
 {}
 
@@ -102,7 +102,7 @@ pub fn triangles_in_the_plane_cover_the_hull<V, DE, UE, F>()
 
 /// By flips of the edges that the segment between them crosses, two vertices with no vertex between
 /// them get an edge, and the mesh stays in the plane with its hull. No other edge is flipped, and an
-/// edge that breaks Delaunay's condition broke it before, or lies at a triangle that changed.
+/// edge that breaks Delaunay's condition broke it before, or is at a triangle that changed.
 pub fn segments_can_become_edges<V, DE, UE, F>()
     ensures { (at : ℕ → Point) (m : Mesh V DE UE F) (v w h : ℕ) → TriangulatesItsHull at m → v ≢ w → AreEnds m.shape v w → IsClear at m.shape v w
         → IsLive m.shape h → 0 < face_of m.shape h

@@ -16,11 +16,11 @@ function takeNames() {
 
 /**
  * How well something fits the words that were typed: the lower, the better; null if it doesn't. Names come before sentences, in which types
- * come first; definitions and laws after the rest.
+ * come first; definitions, laws and signs after the rest.
  */
 function rank([name, kind, , sentence], words) {
   const path = name.toLowerCase(), last = path.split('::').pop(), typed = words.join('_'), said = sentence.toLowerCase();
-  const order = (kind === 'definition' || kind === 'law' ? 100 : 0) + Math.min(name.length, 99);
+  const order = (['definition', 'law', 'sign'].includes(kind) ? 100 : 0) + Math.min(name.length, 99);
   if (last === typed) return order;
   if (last.startsWith(typed)) return 200 + order;
   if (words.every(it => path.includes(it))) return 400 + order;
@@ -37,7 +37,8 @@ function show() {
     link.title = sentence;
     link.href = root + address.split('#').map(encodeURI).join('#');
     const crate = address.replace('definitions/', '').split('/')[0];
-    link.append(name, ' ', Object.assign(document.createElement('small'), { textContent: `${kind} of ${crate}` }));
+    const of = kind === 'sign' ? 'sign of contracts' : `${kind} of ${crate}`;
+    link.append(name, ' ', Object.assign(document.createElement('small'), { textContent: of }));
     item.append(link);
     return item;
   }));

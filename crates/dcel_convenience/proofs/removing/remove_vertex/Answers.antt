@@ -31,7 +31,8 @@ returns-clause-edit g c =
 pub returns-clause-datum : goal.returns-clause-datum
 returns-clause-datum g c =
     datum_is g.DE.Default.is_default g.UE.Default.is_default g.F.Default.is_default c.args.dcel.now c.isolate_vertex_and_fill_hole.new.dcel c.cleanup_isolated_vertex.new.dcel c.args.vertex
-    c.in-Ok.border.items c.in-Ok-isolate_vertex_and_fill_hole.ensures.edit c.cleanup_isolated_vertex.ensures.edit c.swap_remove_vertex.result.removed_vertex c.swap_remove_vertex.ensures.datum
+    c.in-Ok.border.items c.in-Ok-isolate_vertex_and_fill_hole.ensures.edit c.cleanup_isolated_vertex.ensures.edit c.swap_remove_vertex.result.removed_vertex c.every_mesh.ensures
+    (loop_told c.args.dcel.now.shape c.in-Ok.border.items c.deref.result.now c.args.vertex c.deref.ensures.value (c.is_border_loop.ensures.0 c.if-not-is_border_loop.false)) c.swap_remove_vertex.ensures.datum
 
 pub returns-clause-moved : goal.returns-clause-moved
 returns-clause-moved g c =

@@ -1,6 +1,8 @@
-use Rattle.std.proofs.Common.{◌≡◌, ◌-◌, length, slice_get, Some, None, rules, arith}
+use Rattle.std.proofs.Common.{◌≡◌, ◌∙◌, ◌-◌, [], length, slice_get, sym, Some, None, rules, arith}
 use Rattle.dcel_plane.specs.Plane.{point_at}
 use Rattle.dcel_plane.proofs.edits.Flipped.{circled_can_flip}
+use Rattle.dcel_planar.proofs.GoingOn.{some_listed}
+use Rattle.dcel_planar.proofs.Whole.{on_err}
 use Rattle.dcel_planar.proofs.Turned.{begins, delaunay, falls_by, last_is, no_last, passes_by, popped, turns_by}
 use Rattle.dcel_planar.proofs.legalize.legalize_by_circles.Goals as goal
 
@@ -65,3 +67,12 @@ returns-clause-delaunay g c = λ lists.
     let value = c.in_default.ensures.value in
     let none : slice_get items (length items - 1) ≡ None = search rules in
     delaunay c.args.dcel.now c.args.due.now.items c.loop-edge.dcel items c.loop-edge.invariant.way (no_last items none) lists
+
+pub returns-in_err-reserve-clause-unfinished : goal.returns-in_err-reserve-clause-unfinished
+returns-in_err-reserve-clause-unfinished g c =
+    let items = c.loop-edge.due.items in
+    let u = c.in-Some.field-0.now in
+    let same = c.deref.ensures.value in
+    let value = c.in-Some.ensures.value in
+    let at : slice_get items (length items - 1) ≡ Some u = cc in
+    on_err c.from_residual.result _ (λ none. some_listed _ [] items u (last_is items u at) (sym c.reserve.ensures.items ∙ none))

@@ -4,14 +4,14 @@ use Rattle.dcel_plane.specs.Plane.{point_at}
 use Rattle.dcel_planar.proofs.Faces.{each_face}
 use Rattle.dcel_planar.proofs.planes.is_plane.Goals as goal
 
-pub returns-then-not-turns_left : goal.returns-then-not-turns_left
-returns-then-not-turns_left g c = (
+pub returns-then-not-goes_left : goal.returns-then-not-goes_left
+returns-then-not-goes_left g c = (
   λ no. absurd (false≢true no),
   λ plane.
-      let told = rw c.new.ensures at c.turns_left.ensures in
+      let told = rw c.new.ensures at c.goes_left.ensures in
       let inner : 0 < c.loop-number.number = omega arith in
       let yes = told.1 (λ x y z is. plane.left c.loop-number.number x y z inner is) in
-      let no = c.if-not-turns_left.true in
+      let no = c.if-not-goes_left.true in
       cc,
 )
 

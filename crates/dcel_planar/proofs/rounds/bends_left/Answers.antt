@@ -13,4 +13,4 @@ returns g c =
     let end : c.point_of-2.result ≡ point_at m (end_of m.shape h) = rw (c.point_of-2.ensures, c.to.ensures.mesh, c.to.ensures.number) refl in
     let far : c.point_of-3.result ≡ point_at m (end_of m.shape (next_of m.shape h)) =
     rw (c.point_of-3.ensures, c.to-2.ensures.mesh, c.to-2.ensures.number, c.next.ensures.mesh, c.next.ensures.number) refl in
-    left_told c.orient2d.result c.orient2d.ensures.bound c.orient2d.ensures.value start end far
+    left_told c.is_on_left_side.result c.orientation.result start end far c.is_on_left_side.ensures c.orientation.ensures.left

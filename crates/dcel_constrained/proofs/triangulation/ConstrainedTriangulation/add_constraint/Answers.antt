@@ -105,11 +105,10 @@ pub returns-then-num_faces-eq1-clause-same : goal.returns-then-num_faces-eq1-cla
 returns-then-num_faces-eq1-clause-same g c whole none = (
   same_after c.args.self.now.planar.dcel c.finish.new.self.planar.dcel c.lay_on_line.new.dcel c.finish.ensures.keeps c.lay_on_line.ensures.keeps (λ _. c.finish.ensures.same whole)
       c.lay_on_line.ensures.same none,
-  λ _. c.in-Ok.ensures.whole,
+  c.in-Ok.ensures.whole,
 )
 
 pub returns-clause-same : goal.returns-clause-same
 returns-clause-same g c whole none =
-    let then = left_after c.args.self.now.planar.dcel c.finish.new.self.planar.dcel c.lay_through_triangles.new.planar.dcel c.lay_through_triangles.new.planar.due.items c.finish.ensures.keeps
-    c.lay_through_triangles.ensures.keeps (λ _. c.finish.ensures.same whole) c.lay_through_triangles.ensures.same none in
-    (then.0, λ _. then.1)
+    left_after c.args.self.now.planar.dcel c.finish.new.self.planar.dcel c.lay_through_triangles.new.planar.dcel c.lay_through_triangles.new.planar.due.items c.finish.ensures.keeps
+    c.lay_through_triangles.ensures.keeps (λ _. c.finish.ensures.same whole) c.lay_through_triangles.ensures.same none

@@ -1,6 +1,7 @@
 use Rattle.dcel_planar.proofs.Counting.{joined_all}
 use Rattle.dcel_delaunay.proofs.Outline.{all_inside, all_single}
 use Rattle.dcel_constrained.proofs.Outlined.{delaunay_then, faces_apart, hull_covered}
+use Rattle.dcel_constrained.proofs.Sight.{in_sight}
 use Rattle.dcel_constrained.proofs.Settled.{outlined_of, sound_of}
 use Rattle.dcel_constrained.proofs.triangulation.ConstrainedTriangulation.dcel.Goals as goal
 
@@ -29,3 +30,9 @@ returns-clause-hull g c whole =
 
 pub returns-clause-constrained : goal.returns-clause-constrained
 returns-clause-constrained g c = delaunay_then c.args.self.now.planar.dcel c.every_mesh.ensures c.args.self.now.planar.due.items (sound_of c.args.self.now)
+
+pub returns-clause-visible : goal.returns-clause-visible
+returns-clause-visible g c whole =
+    let m = c.args.self.now.planar.dcel in
+    let sound = sound_of c.args.self.now in
+    in_sight m c.every_mesh.ensures sound.triangles sound.plane (delaunay_then m c.every_mesh.ensures c.args.self.now.planar.due.items sound whole)

@@ -10,8 +10,8 @@ put_in-requires g c = let t = c.args.self.now.planar in record { hull = settled_
 pub invariant_of-self : goal.invariant_of-self
 invariant_of-self g c = record { listed = free_put c.args.self.now.planar.dcel c.put_in.new.planar.dcel c.args.self.now.planar.due.items c.put_in.new.planar.due.items c.args.self.now.listed c.put_in.ensures.lists c.put_in.ensures.splits.marked; empty = c.args.self.now.empty }
 
-pub invariant_of-self-then-is_settled : goal.invariant_of-self-then-is_settled
-invariant_of-self-then-is_settled g c = record { listed = free_put c.args.self.now.planar.dcel c.put_in.new.planar.dcel c.args.self.now.planar.due.items c.put_in.new.planar.due.items c.args.self.now.listed c.put_in.ensures.lists c.put_in.ensures.splits.marked; empty = c.args.self.now.empty }
+pub invariant_of-self-then-is_whole : goal.invariant_of-self-then-is_whole
+invariant_of-self-then-is_whole g c = record { listed = free_put c.args.self.now.planar.dcel c.put_in.new.planar.dcel c.args.self.now.planar.due.items c.put_in.new.planar.due.items c.args.self.now.listed c.put_in.ensures.lists c.put_in.ensures.splits.marked; empty = c.args.self.now.empty }
 
 pub invariant_of-self-2 : goal.invariant_of-self-2
 invariant_of-self-2 g c = record { listed = of_loose c.legalize-flipped.new.self.dcel c.legalize-flipped.new.self.due.items (c.legalize-flipped.ensures.lists (to_loose c.put_in.new.planar.dcel c.put_in.new.planar.due.items (free_put c.args.self.now.planar.dcel c.put_in.new.planar.dcel c.args.self.now.planar.due.items c.put_in.new.planar.due.items c.args.self.now.listed c.put_in.ensures.lists c.put_in.ensures.splits.marked))); empty = c.args.self.now.empty }

@@ -1,7 +1,7 @@
 use Rattle.std.proofs.Common.{◌≡◌, ◌∷◌, ◌++◌, [], ℕ, List, ap, ◌∙◌, subst, sym}
 use mathlib.Core.Logic.{∥∥₁_map}
 use Rattle.dcel_maps.specs.edits.Data.{undirected_edge_updated}
-use Rattle.dcel_planar.specs.Growing.{HasOutside, IsTriangulated}
+use Rattle.dcel_planar.specs.Growing.{HasOutside, IsTriangleMesh}
 use Rattle.dcel_delaunay.proofs.Lost.{on_err}
 use Rattle.dcel_regions.specs.Marked.{IsMarked}
 use Rattle.dcel_regions.specs.declared.mark.Mark.TheVariants.{Free}
@@ -23,7 +23,7 @@ pub invariant_of-self-2 : goal.invariant_of-self-2
 invariant_of-self-2 g c =
     let p = c.args.self.now.planar in
     let e = c.args.edge in (
-      subst (λ k. IsTriangulated k) (sym c.set_mark.ensures.edit) (triangulated_too p.dcel e Free p.triangulated),
+      subst (λ k. IsTriangleMesh k) (sym c.set_mark.ensures.edit) (triangulated_too p.dcel e Free p.triangulated),
       (
         ∥∥₁_map p.outlined
             (λ is. subst (λ k. HasOutside k c.reserve.new.self.items) (sym c.set_mark.ensures.edit)
@@ -42,7 +42,7 @@ invariant_of-self-3 g c =
     let sound = subst (λ k. IsConstrained k c.push_reserved.new.self.items) (sym c.set_mark.ensures.edit)
     (subst (λ (l : List ℕ). IsConstrained (undirected_edge_updated p.dcel e Free) l) (sym items) (constrained_less p.dcel e p.due.items (sound_of t))) in (
       (
-        subst (λ k. IsTriangulated k) (sym c.set_mark.ensures.edit) (triangulated_too p.dcel e Free p.triangulated),
+        subst (λ k. IsTriangleMesh k) (sym c.set_mark.ensures.edit) (triangulated_too p.dcel e Free p.triangulated),
         (
           ∥∥₁_map p.outlined
               (λ is. subst (λ k. HasOutside k c.push_reserved.new.self.items) (sym c.set_mark.ensures.edit)

@@ -1,4 +1,4 @@
-use Rattle.dcel_planar.specs.Growing.{HasHull, IsSound, Keeps}
+use Rattle.dcel_planar.specs.Growing.{HasHull, IsDelaunayBut, Keeps}
 use Rattle.dcel_delaunay.proofs.CutOff.{corner_around, cut_given, not_cut}
 use Rattle.dcel_planar.proofs.Growth.{keeps-refl}
 use Rattle.dcel_delaunay.proofs.remove.corner.cut_off.Goals as goal
@@ -25,7 +25,7 @@ returns-clause-keeps g c =
 
 pub returns-clause-sound : goal.returns-clause-sound
 returns-clause-sound g c =
-    not_cut (λ m. IsSound m c.args.due.now.items) c.cut_strip.result c.args.dcel.now c.cut_strip.new.dcel c.cut_strip.ensures.refused c.requires.sound
+    not_cut (λ m. IsDelaunayBut m c.args.due.now.items) c.cut_strip.result c.args.dcel.now c.cut_strip.new.dcel c.cut_strip.ensures.refused c.requires.sound
 
 pub returns-clause-hull : goal.returns-clause-hull
 returns-clause-hull g c =

@@ -12,6 +12,6 @@ returns g c =
     let h = c.args.outside.number in
     let p : c.point_of.result ≡ point_at m (end_of m.shape (ccw_of m.shape h)) =
     rw (c.point_of.ensures, c.to.ensures.mesh, c.to.ensures.number, c.ccw.ensures.mesh, c.ccw.ensures.number) refl in (
-      λ yes. subst (λ (q : Point). IsOnLine m q h) p (c.side.ensures.on.0 (c.is_on.ensures.0 yes)),
-      λ flat. c.is_on.ensures.1 (c.side.ensures.on.1 (subst (λ (q : Point). IsOnLine m q h) (sym p) flat)),
+      λ yes. subst (λ (q : Point). IsOnLine m q h) p (c.side.ensures.on.0 (c.is_on_line.ensures.0 yes)),
+      λ flat. c.is_on_line.ensures.1 (c.side.ensures.on.1 (subst (λ (q : Point). IsOnLine m q h) (sym p) flat)),
     )

@@ -1,11 +1,11 @@
 use Rattle.std.proofs.Common.{◌/◌, length}
 use Rattle.dcel_plane.specs.Plane.{point_at}
-use Rattle.dcel_plane.specs.removal.Wheels.{CanTurn}
+use Rattle.dcel_plane.specs.removal.Wheels.{CanFlipInPlane}
 use Rattle.dcel_planar.proofs.Searching.{IsSearching}
 use Rattle.dcel_delaunay.proofs.remove.flips.edge_to_turn.Given as goal
 
 abbrev pub invariant-loop-edge : goal.invariant-loop-edge
-invariant-loop-edge g l = IsSearching (λ h. CanTurn (point_at l.dcel) l.dcel.shape (h / 2)) l.dcel l.fn.vertex l.edges.items
+invariant-loop-edge g l = IsSearching (λ h. CanFlipInPlane (point_at l.dcel) l.dcel.shape (h / 2)) l.dcel l.fn.vertex l.edges.items
 
 abbrev pub decreases-loop-edge : goal.decreases-loop-edge
 decreases-loop-edge g l = length l.edges.items

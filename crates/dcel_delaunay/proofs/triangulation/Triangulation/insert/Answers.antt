@@ -1,5 +1,8 @@
-use Rattle.std.proofs.Common.{◌≡◌, ◌≢◌, [], ap, inr, refl, rules}
+use Rattle.std.proofs.Common.{◌≡◌, ◌≢◌, ◌∙◌, ◌++◌, ◌∷◌, List, [], ap, inr, refl, rules}
+use Rattle.std.proofs.lemmas.Result.{err_from_is_err_and}
+use Rattle.dcel_predicates.specs.declared.point.Point.{Point}
 use Rattle.dcel_planar.specs.declared.planar.PlanarMesh.{PlanarMesh}
+use Rattle.dcel_planar.proofs.Refused.{insertion_fails}
 use Rattle.dcel_planar.proofs.Walking.{delaunay}
 use Rattle.dcel_delaunay.proofs.Listed.{lists_after, of_loose, put_inserts, settled, settled_inserts, to_loose}
 use Rattle.dcel_delaunay.proofs.Taking.{takes_has, takes_points, takes_same}
@@ -18,16 +21,16 @@ put_at-requires-clause-hull g c = let mid = c.finish.new.self in (settled mid.pl
 pub invariant_of-self : goal.invariant_of-self
 invariant_of-self g c = record { listed = lists_after c.finish.new.self.planar c.put_at.new.self c.put_at.ensures.lists c.finish.new.self.listed }
 
-pub invariant_of-self-then-is_settled : goal.invariant_of-self-then-is_settled
-invariant_of-self-then-is_settled g c = record { listed = lists_after c.finish.new.self.planar c.put_at.new.self c.put_at.ensures.lists c.finish.new.self.listed }
+pub invariant_of-self-then-is_whole : goal.invariant_of-self-then-is_whole
+invariant_of-self-then-is_whole g c = record { listed = lists_after c.finish.new.self.planar c.put_at.new.self c.put_at.ensures.lists c.finish.new.self.listed }
 
 pub invariant_of-self-2 : goal.invariant_of-self-2
 invariant_of-self-2 g c =
     let put = lists_after c.finish.new.self.planar c.put_at.new.self c.put_at.ensures.lists c.finish.new.self.listed in
     record { listed = of_loose c.legalize.new.self.dcel c.legalize.new.self.due.items (c.legalize.ensures.lists (to_loose c.put_at.new.self.dcel c.put_at.new.self.due.items put)) }
 
-pub returns-then-is_settled-clause-inserts : goal.returns-then-is_settled-clause-inserts
-returns-then-is_settled-clause-inserts g c =
+pub returns-then-is_whole-clause-inserts : goal.returns-then-is_whole-clause-inserts
+returns-then-is_whole-clause-inserts g c =
     let mid = c.finish.new.self in
     let v = c.in_ok-vertex.vertex in
     let inserts = put_inserts mid.planar c.put_at.new.self c.locate-position.result c.args.point v c.locate-position.ensures c.in_ok-vertex.ensures.put in
@@ -37,8 +40,8 @@ returns-then-is_settled-clause-inserts g c =
       points = takes_points _ mid.planar.dcel c.put_at.new.self.dcel _ c.args.point v c.finish.ensures.points inserts last;
     }
 
-pub returns-then-is_settled-clause-same : goal.returns-then-is_settled-clause-same
-returns-then-is_settled-clause-same g c = λ whole stay.
+pub returns-then-is_whole-clause-same : goal.returns-then-is_whole-clause-same
+returns-then-is_whole-clause-same g c = λ whole stay.
     let mid = c.finish.new.self in
     let v = c.in_ok-vertex.vertex in
     let inserts = put_inserts mid.planar c.put_at.new.self c.locate-position.result c.args.point v c.locate-position.ensures c.in_ok-vertex.ensures.put in
@@ -79,3 +82,28 @@ returns-clause-same g c = λ whole stay.
     c.legalize.ensures.keeps in
     let last : c.begin_at-2.new.self.planar.dcel ≡ c.legalize.new.self.dcel = ap (λ (m : PlanarMesh (Unit {0}) g.row.A.Denot). m.dcel) c.begin_at-2.ensures in
     takes_same c.args.self.now.planar.dcel mid.planar.dcel c.legalize.new.self.dcel c.begin_at-2.new.self.planar.dcel c.args.point v (c.finish.ensures.same whole) (inr gains) last stay
+
+pub returns-in_err-finish-clause-refuses : goal.returns-in_err-finish-clause-refuses
+returns-in_err-finish-clause-refuses g c =
+    let given = err_from_is_err_and c.from_residual.result c.from_residual.ensures.1 in
+    rw (given.1, given.2, c.in_err-finish.ensures.refused.0) (
+      record { points = c.finish.ensures.points; same = c.finish.ensures.same },
+      λ whole. absurd (let no = c.in_err-finish.ensures.ready whole in cc),
+    )
+
+pub returns-in_err-vertex-clause-refuses : goal.returns-in_err-vertex-clause-refuses
+returns-in_err-vertex-clause-refuses g c =
+    let mid = c.finish.new.self in
+    let given = err_from_is_err_and c.from_residual-in_err-vertex.result c.from_residual-in_err-vertex.ensures.1 in
+    rw (given.1, given.2)
+    (insertion_fails c.args.self.now.planar mid.planar c.put_at.new.self c.args.point c.finish.ensures.points c.finish.ensures.same c.in_ok-finish.ensures.whole _ c.in_err-vertex.ensures.refuses)
+
+pub returns-in_default-clause-refuses : goal.returns-in_default-clause-refuses
+returns-in_default-clause-refuses g c =
+    let mid = c.finish.new.self in
+    let v = c.in_ok-vertex.vertex in
+    let some : c.put_at.new.self.due.items ≢ [] = search rules in
+    let gains =
+    settled_inserts mid.planar c.put_at.new.self c.legalize.new.self c.locate-position.result c.args.point v c.in_ok-finish.ensures.whole c.in_ok-vertex.ensures.put some
+    c.legalize.ensures.keeps in
+    (gains.points ∙ ap (λ (ps : List Point). ps ++ c.args.point ∷ []) c.finish.ensures.points, c.in_default.ensures.unfinished)

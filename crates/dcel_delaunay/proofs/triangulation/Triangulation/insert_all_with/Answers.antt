@@ -1,5 +1,6 @@
 use Rattle.std.proofs.Common.{◌+◌, arith, length, of_calls, sym, subst, take_all, List, ℕ}
-use Rattle.dcel_delaunay.proofs.Standing.{adds_both, adds_more, stand_all, stand_more}
+use Rattle.std.proofs.lemmas.Result.{err_from_is_err_and}
+use Rattle.dcel_delaunay.proofs.Standing.{adds_both, adds_more, failed_later, stand_all, stand_more}
 use Rattle.dcel_delaunay.proofs.Telling.{told_all, told_one}
 use Rattle.dcel_delaunay.specs.Bulk.{ListsEach, StandSoFar}
 use Rattle.dcel_delaunay.specs.Triangulated.{mesh_in}
@@ -47,3 +48,9 @@ returns-clause-told g c =
     let long = (subst (ListsEach (length c.args.points.now)) (sym c.deref-number-items.ensures.value) c.in_ok-order.ensures.each).length_is in
     told_all (λ before done after. goal.P-step g before done tt after) c.args.progress c.loop-number.progress c.loop-number.done (length order)
     (length c.args.points.now) (omega (arith, c.loop-number.invariant.done, c.loop-number.invariant.within, c.loop-number-test.false)) long c.loop-number.invariant.told
+
+pub returns-in_err-insert_numbered-clause-fails : goal.returns-in_err-insert_numbered-clause-fails
+returns-in_err-insert_numbered-clause-fails g c =
+    let given = err_from_is_err_and c.from_residual-in_err-insert_numbered.result c.from_residual-in_err-insert_numbered.ensures.1 in
+    rw (given.1, given.2)
+    (failed_later c.args.self.now.planar c.loop-number.self.planar c.insert_numbered.new.self.planar c.loop-number.invariant.whole _ c.in_err-insert_numbered.ensures.fails)

@@ -1,12 +1,13 @@
 use Rattle.std.proofs.Common.{◌≡◌, ◌≤◌, length, take}
 use Rattle.dcel_delaunay.proofs.Telling.{ToldSoFar}
 use Rattle.dcel_delaunay.specs.Bulk.{AddsVertices, StandSoFar}
-use Rattle.dcel_delaunay.specs.Triangulated.{IsWhole, mesh_in}
+use Rattle.dcel_delaunay.specs.Triangulated.{mesh_in}
+use Rattle.dcel_planar.specs.Outcomes.{IsWholeMesh}
 use Rattle.dcel_delaunay.proofs.triangulation.Triangulation.insert_all_with.Given as goal
 
 abbrev pub invariant-loop-number : goal.invariant-loop-number
 invariant-loop-number g l = record {
-  whole : IsWhole l.self;
+  whole : IsWholeMesh l.self.planar;
   adds : AddsVertices (mesh_in l.fn.self) (mesh_in l.self) l.points l.number-index;
   edges : (mesh_in l.fn.self).shape.edges ≤ (mesh_in l.self).shape.edges;
   within : l.number-index ≤ length l.number-items;

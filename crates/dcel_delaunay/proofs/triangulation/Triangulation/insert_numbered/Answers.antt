@@ -1,5 +1,6 @@
 use Rattle.std.proofs.Common.{sym, subst, ◌∙◌}
-use Rattle.dcel_delaunay.proofs.Standing.{adds_one, refused_adds, stands_too, stands_none_too}
+use Rattle.std.proofs.lemmas.Result.{err_from_is_err_and}
+use Rattle.dcel_delaunay.proofs.Standing.{adds_one, failed_adds, failed_all, stands_too, stands_none_too}
 use Rattle.dcel_delaunay.specs.Bulk.{StandsToo}
 use Rattle.dcel_delaunay.specs.Triangulated.{mesh_in}
 use Rattle.dcel_delaunay.proofs.triangulation.Triangulation.insert_numbered.Goals as goal
@@ -25,5 +26,10 @@ returns-in_default-clause-stands g c =
 
 pub returns-in_err-vertex-clause-adds : goal.returns-in_err-vertex-clause-adds
 returns-in_err-vertex-clause-adds g c =
-    refused_adds _ _ _ (mesh_in c.args.self.now) (mesh_in c.insert.new.self) c.args.points.now c.args.number c.in-Some.point (sym c.point_of.ensures ∙ c.in-Some.is)
+    failed_adds c.args.self.now.planar c.insert.new.self.planar c.in-Some.point c.args.points.now c.args.number (sym c.point_of.ensures ∙ c.in-Some.is) _
     c.in_err-vertex.ensures.refuses
+
+pub returns-in_err-vertex-clause-fails : goal.returns-in_err-vertex-clause-fails
+returns-in_err-vertex-clause-fails g c =
+    let given = err_from_is_err_and c.from_residual.result c.from_residual.ensures.1 in
+    rw (given.1, given.2) (failed_all c.args.self.now.planar c.insert.new.self.planar c.in-Some.point _ c.in_err-vertex.ensures.refuses)

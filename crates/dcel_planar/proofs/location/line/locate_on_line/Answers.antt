@@ -2,9 +2,9 @@ use Rattle.std.proofs.Common.{◌≡◌, refl, rules, subst, sym}
 use Rattle.dcel_fixed.specs.HalfEdges.{rev}
 use Rattle.dcel_maps.specs.Shapes.{map_of}
 use Rattle.dcel_maps.proofs.maps.Soundness.{rev_live}
-use Rattle.dcel_predicates.specs.declared.predicates.Side.TheVariants.{Left, Right}
+use Rattle.dcel_predicates.specs.declared.line.Side.TheVariants.{Left, Right}
 use Rattle.spade_dcel.specs.Handles.{mesh_behind, number_of}
-use Rattle.dcel_planar.specs.Places.{IsOutside, LiesAt}
+use Rattle.dcel_planar.specs.Places.{IsBeyondHull, LiesAt}
 use Rattle.dcel_planar.proofs.Along.{beside, outer}
 use Rattle.dcel_planar.proofs.OnEdges.{told}
 use Rattle.dcel_planar.proofs.location.line.locate_on_line.Goals as goal
@@ -17,7 +17,7 @@ returns-in-Left g c =
     let lies = told m c.every_mesh.ensures (mesh_behind c.args.edge) p h h c.side.result c.requires.mesh refl c.side.ensures.lies in
     let is : c.side.result ≡ Left = search rules in
     let at : c.fix.result ≡ h = search rules in
-    subst (IsOutside m p) (sym at) (c.requires.live, outer m c.every_mesh.ensures c.requires.flat.alone h c.requires.live, subst (LiesAt m p h) is lies)
+    subst (IsBeyondHull m p) (sym at) (c.requires.live, outer m c.every_mesh.ensures c.requires.flat.alone h c.requires.live, subst (LiesAt m p h) is lies)
 
 pub returns-in-Right : goal.returns-in-Right
 returns-in-Right g c =
@@ -28,5 +28,5 @@ returns-in-Right g c =
     let is : c.side.result ≡ Right = search rules in
     let at : c.fix-in-Right.result ≡ rev h = search rules in
     let live = rev_live (map_of m.shape) h c.requires.live in
-    subst (IsOutside m p) (sym at)
+    subst (IsBeyondHull m p) (sym at)
     (live, outer m c.every_mesh.ensures c.requires.flat.alone (rev h) live, beside m c.every_mesh.ensures p h (subst (LiesAt m p h) is lies))

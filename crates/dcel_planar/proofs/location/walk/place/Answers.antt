@@ -1,8 +1,8 @@
 use Rattle.std.proofs.Common.{◌≡◌, ◌≢◌, ◌<◌, ℕ, rules, subst, sym}
-use Rattle.dcel_predicates.specs.declared.predicates.Side.TheVariants.{On}
+use Rattle.dcel_predicates.specs.declared.line.Side.TheVariants.{On}
 use Rattle.dcel_maps.specs.Shapes.{IsLive, end_of, face_of, next_of, origin_of, prev_of}
 use Rattle.dcel_maps.specs.Conditions.{IsTriangle}
-use Rattle.dcel_plane.specs.Plane.{LiesInside, point_at}
+use Rattle.dcel_plane.specs.Plane.{LiesInFace, point_at}
 use Rattle.dcel_plane.specs.location.Locating.{LiesOn}
 use Rattle.spade_dcel.specs.Handles.{number_of}
 use Rattle.dcel_planar.specs.Places.{HasPoint}
@@ -80,5 +80,5 @@ returns-in-false-false-false g c = λ p sides.
     let after_off : c.args.after ≢ On = search rules in
     let before_off : c.args.before ≢ On = search rules in
     let is : c.inner_face.result ≡ face_of m.shape e = search (rules, c.inner_face.ensures, c.requires.mesh) in
-    subst (λ (i : ℕ). (0 < i) × IsTriangle m.shape i × LiesInside (point_at m) m.shape i p) (sym is)
+    subst (λ (i : ℕ). (0 < i) × IsTriangle m.shape i × LiesInFace (point_at m) m.shape i p) (sym is)
     (in_face m c.every_mesh.ensures c.requires.triangulated.triangles c.requires.triangulated.plane e c.requires.live c.requires.inner p c.args.own c.args.after c.args.before sides own_off after_off before_off)

@@ -1,8 +1,8 @@
-use Rattle.std.proofs.Common.{append_assoc, refl}
+use Rattle.std.proofs.Common.{append_assoc, refl, sym, ◌∙◌}
 use mathlib.Core.Logic.{∥∥₁_map}
 use Rattle.dcel_maps.specs.edits.Outside.{face_closed}
 use Rattle.dcel_planar.specs.Growing.{Keeps}
-use Rattle.dcel_planar.proofs.Ending.{still_way}
+use Rattle.dcel_planar.proofs.Ending.{still_way, turns_due}
 use Rattle.dcel_planar.proofs.GoingOn.{close_goes_on, close_there, some_listed, turned_apart, turns_as}
 use Rattle.dcel_planar.proofs.Growth.{closed-keeps, of_edit}
 use Rattle.dcel_planar.proofs.Puts.{close_lists, close_triangulated, stays_outside, stays_triangulated}
@@ -76,3 +76,26 @@ pub invariant_of-self-in_default-clause-outlined : goal.invariant_of-self-in_def
 invariant_of-self-in_default-clause-outlined g c =
     ∥∥₁_map c.args.self.now.outlined
     (stays_outside c.args.self.now.dcel _ c.args.self.now.due.items _ c.in_default.ensures.refused c.reserve.ensures.items)
+
+pub returns-then-not-has_room-clause-unfinished : goal.returns-then-not-has_room-clause-unfinished
+returns-then-not-has_room-clause-unfinished g c = (
+  refl,
+  turns_due c.args.self.now.dcel c.every_mesh.ensures c.args.self.now.due.items c.args.self.now.outlined c.args.edge c.requires.outer.0 c.requires.outer.1
+      (turns_as c.args.self.now.dcel _ c.args.edge _ c.directed_edge.ensures.mesh c.directed_edge.ensures.number (c.turns_in.ensures.0 c.if-not-turns_in.false)),
+)
+
+pub returns-then-is_err-clause-unfinished : goal.returns-then-is_err-clause-unfinished
+returns-then-is_err-clause-unfinished g c = (
+  refl,
+  λ none.
+      turns_due c.args.self.now.dcel c.every_mesh.ensures c.args.self.now.due.items c.args.self.now.outlined c.args.edge c.requires.outer.0 c.requires.outer.1
+      (turns_as c.args.self.now.dcel _ c.args.edge _ c.directed_edge.ensures.mesh c.directed_edge.ensures.number (c.turns_in.ensures.0 c.if-not-turns_in.false)) (sym c.reserve.ensures.items ∙ none),
+)
+
+pub returns-in_default-clause-unfinished : goal.returns-in_default-clause-unfinished
+returns-in_default-clause-unfinished g c = (
+  refl,
+  λ none.
+      turns_due c.args.self.now.dcel c.every_mesh.ensures c.args.self.now.due.items c.args.self.now.outlined c.args.edge c.requires.outer.0 c.requires.outer.1
+      (turns_as c.args.self.now.dcel _ c.args.edge _ c.directed_edge.ensures.mesh c.directed_edge.ensures.number (c.turns_in.ensures.0 c.if-not-turns_in.false)) (sym c.reserve.ensures.items ∙ none),
+)

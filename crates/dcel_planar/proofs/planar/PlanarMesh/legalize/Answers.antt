@@ -1,6 +1,8 @@
-use Rattle.std.proofs.Common.{◌≡◌, ◌-◌, length, slice_get, Some, rules, arith}
+use Rattle.std.proofs.Common.{◌≡◌, ◌∙◌, ◌-◌, [], length, slice_get, sym, Some, rules, arith}
 use Rattle.dcel_plane.specs.Plane.{point_at}
 use Rattle.dcel_plane.proofs.edits.Flipped.{circled_can_flip}
+use Rattle.dcel_planar.proofs.GoingOn.{some_listed}
+use Rattle.dcel_planar.proofs.Whole.{on_err}
 use Rattle.dcel_planar.proofs.Turned.{last_is, popped}
 use Rattle.dcel_planar.proofs.Running.{falls_by, outlined_outside, passes_by, starts, turned_to, turns_by}
 use Rattle.dcel_planar.proofs.Flat.{flips_flat}
@@ -93,3 +95,12 @@ returns-in_err-reserve-clause-flat g c = λ flat. let m = c.args.self.now.dcel i
 
 pub returns-in_err-reserve-clause-hull : goal.returns-in_err-reserve-clause-hull
 returns-in_err-reserve-clause-hull g c = λ has. let m = c.args.self.now.dcel in let n = c.loop-edge.self.dcel in flips_hull m n c.every_mesh.ensures (turned_to _ m n c.loop-edge.invariant.way.flips) has
+
+pub returns-in_err-reserve-clause-unfinished : goal.returns-in_err-reserve-clause-unfinished
+returns-in_err-reserve-clause-unfinished g c =
+    let items = c.loop-edge.self.due.items in
+    let u = c.in-Some.field-0.now in
+    let same = c.deref.ensures.value in
+    let value = c.in-Some.ensures.value in
+    let at : slice_get items (length items - 1) ≡ Some u = cc in
+    on_err c.from_residual.result _ (λ none. some_listed _ [] items u (last_is items u at) (sym c.reserve.ensures.items ∙ none))

@@ -5,7 +5,7 @@ use Rattle.dcel_planar.proofs.Ending.{on_ok}
 use Rattle.dcel_planar.proofs.Ends.{same_edges, same_starts, starts_on_ok}
 use Rattle.dcel_planar.proofs.Whole.{on_err}
 use Rattle.dcel_planar.proofs.Whole.{either_outside, put_either}
-use Rattle.dcel_planar.proofs.Refused.{refused_mesh}
+use Rattle.dcel_planar.proofs.Refused.{put_refused, refused_mesh}
 use Rattle.dcel_planar.proofs.planar.PlanarMesh.put_at.Goals as goal
 
 pub returns-in-OnVertex-clause-edge_data : goal.returns-in-OnVertex-clause-edge_data
@@ -84,3 +84,15 @@ returns-in-BeyondLine-clause-outside g c = inl c.put_beyond.ensures.flat
 
 pub returns-in-NoTriangulation-clause-outside : goal.returns-in-NoTriangulation-clause-outside
 returns-in-NoTriangulation-clause-outside g c = inl c.put_first.ensures.flat
+
+pub returns-in-OnFace-clause-refuses : goal.returns-in-OnFace-clause-refuses
+returns-in-OnFace-clause-refuses g c = put_refused c.args.self.now c.put_in_face.new.self c.args.point c.put_in_face.result c.put_in_face.ensures.refused
+
+pub returns-in-OnEdge-clause-refuses : goal.returns-in-OnEdge-clause-refuses
+returns-in-OnEdge-clause-refuses g c = put_refused c.args.self.now c.put_on_any_edge.new.self c.args.point c.put_on_any_edge.result c.put_on_any_edge.ensures.refused
+
+pub returns-in-BeyondLine-clause-refuses : goal.returns-in-BeyondLine-clause-refuses
+returns-in-BeyondLine-clause-refuses g c = put_refused c.args.self.now c.put_beyond.new.self c.args.point c.put_beyond.result c.put_beyond.ensures.refused
+
+pub returns-in-NoTriangulation-clause-refuses : goal.returns-in-NoTriangulation-clause-refuses
+returns-in-NoTriangulation-clause-refuses g c = put_refused c.args.self.now c.put_first.new.self c.args.point c.put_first.result c.put_first.ensures.refused

@@ -2,7 +2,7 @@ use Rattle.std.proofs.Common.{append_assoc, subst, sym, inr, refl, ◌++◌}
 use mathlib.Core.Logic.{∥∥₁_map}
 use Rattle.dcel_maps.specs.edits.Outside.{face_put_beside}
 use Rattle.dcel_plane.specs.Edges.{edges_put_beside}
-use Rattle.dcel_planar.specs.Growing.{IsTriangulated, MayRefuse}
+use Rattle.dcel_planar.specs.Growing.{IsTriangleMesh, IsInsertionReason}
 use Rattle.dcel_planar.proofs.GoingOn.{some_listed}
 use Rattle.dcel_planar.proofs.Growth.{beside-keeps}
 use Rattle.dcel_planar.proofs.Opening.{put_open}
@@ -13,7 +13,7 @@ use Rattle.dcel_planar.proofs.planar.PlanarMesh.put_beside.Goals as goal
 
 pub returns-in_default-clause-refused : goal.returns-in_default-clause-refused
 returns-in_default-clause-refused g c = (
-  subst (MayRefuse c.args.self.now.dcel.shape) (sym c.take_back.ensures.answer) tt,
+  subst (IsInsertionReason c.args.self.now.dcel.shape) (sym c.take_back.ensures.answer) tt,
   record {
     mesh = (put_back c.args.self.now.dcel _ _ _ c.args.point _ c.every_mesh.ensures c.args.self.now.triangulated.closed c.in_ok-vertex.ensures.edit
         c.in_ok-vertex.ensures.answer c.in_default.ensures.refused c.take_back.ensures.edit);
@@ -77,7 +77,7 @@ invariant_of-self-in_default-clause-outlined g c =
 pub invariant_of-self-2-clause-triangulated : goal.invariant_of-self-2-clause-triangulated
 invariant_of-self-2-clause-triangulated g c =
     let old = c.args.self.now.dcel in
-    put_holds (λ m. IsTriangulated m) (λ m v h e f. face_put_beside m c.args.edge v h e f) _ _ _ 2 1 old _ _ c.args.point _
+    put_holds (λ m. IsTriangleMesh m) (λ m v h e f. face_put_beside m c.args.edge v h e f) _ _ _ 2 1 old _ _ c.args.point _
     (λ h e f mid done.
     beside-triangulated old c.every_mesh.ensures c.args.point mid h e f c.args.edge c.args.self.now.triangulated c.requires.place.0 c.requires.place.1 c.requires.place.2)
     c.in_ok-vertex.ensures.edit c.in_ok-vertex.ensures.answer c.in-Ok.ensures.edit c.in_ok-vertex.ensures.mesh c.create_new_face_adjacent_to_edge.ensures.mesh

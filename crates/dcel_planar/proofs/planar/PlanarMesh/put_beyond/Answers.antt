@@ -2,7 +2,7 @@ use Rattle.std.proofs.Common.{◌≡◌, ◌++◌, inl, refl, subst, sym}
 use Rattle.dcel_maps.specs.Removals.{Closed}
 use Rattle.dcel_maps.specs.Shapes.{Mesh}
 use Rattle.dcel_predicates.specs.declared.point.Point.{Point}
-use Rattle.dcel_planar.specs.Growing.{IsFlat, IsJoined, MayRefuse}
+use Rattle.dcel_planar.specs.Growing.{IsFlat, IsJoined, IsInsertionReason}
 use Rattle.dcel_planar.proofs.Puts.{put_back, put_holds, stays_listed, stays_triangulated}
 use Rattle.dcel_planar.proofs.Whole.{flat_listed, flat_triangulated}
 use Rattle.dcel_maps.specs.edits.Line.{line_extended}
@@ -13,7 +13,7 @@ use Rattle.dcel_planar.proofs.planar.PlanarMesh.put_beyond.Goals as goal
 
 pub returns-in_default-clause-refused : goal.returns-in_default-clause-refused
 returns-in_default-clause-refused g c = (
-  subst (MayRefuse c.args.self.now.dcel.shape) (sym c.take_back.ensures.answer) tt,
+  subst (IsInsertionReason c.args.self.now.dcel.shape) (sym c.take_back.ensures.answer) tt,
   record {
     mesh = (put_back c.args.self.now.dcel _ _ _ c.args.point _ c.every_mesh.ensures c.args.self.now.triangulated.closed c.in_ok-vertex.ensures.edit
         c.in_ok-vertex.ensures.answer c.in_default.ensures.refused c.take_back.ensures.edit);

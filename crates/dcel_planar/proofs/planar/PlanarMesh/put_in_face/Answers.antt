@@ -2,7 +2,7 @@ use Rattle.std.proofs.Common.{append_assoc, arith, subst, sym, inl, inr, refl, �
 use Rattle.std.proofs.lemmas.Grind.{common_steps}
 use Rattle.dcel_maps.specs.edits.Triangle.{vertex_inserted}
 use Rattle.dcel_plane.specs.Edges.{edges_inserted}
-use Rattle.dcel_planar.specs.Growing.{HasHull, IsTriangulated, MayRefuse}
+use Rattle.dcel_planar.specs.Growing.{HasHull, IsTriangleMesh, IsInsertionReason}
 use Rattle.dcel_planar.proofs.Growth.{inserted-keeps}
 use Rattle.dcel_planar.proofs.Hull.{inserted-hull}
 use Rattle.dcel_planar.proofs.Puts.{put_back, put_gains, put_holds, put_lists, stays_hull, stays_listed, stays_triangulated}
@@ -12,7 +12,7 @@ use Rattle.dcel_planar.proofs.planar.PlanarMesh.put_in_face.Goals as goal
 
 pub returns-in_default-clause-refused : goal.returns-in_default-clause-refused
 returns-in_default-clause-refused g c = (
-  subst (MayRefuse c.args.self.now.dcel.shape) (sym c.take_back.ensures.answer) tt,
+  subst (IsInsertionReason c.args.self.now.dcel.shape) (sym c.take_back.ensures.answer) tt,
   record {
     mesh = (put_back c.args.self.now.dcel _ _ _ c.args.point _ c.every_mesh.ensures c.args.self.now.triangulated.closed c.in_ok-vertex.ensures.edit
         c.in_ok-vertex.ensures.answer c.in_default.ensures.refused c.take_back.ensures.edit);
@@ -74,7 +74,7 @@ invariant_of-self-in_default-clause-outlined g c = ∣ inr (inl (stays_hull c.ar
 
 pub invariant_of-self-2-clause-triangulated : goal.invariant_of-self-2-clause-triangulated
 invariant_of-self-2-clause-triangulated g c =
-    put_holds (λ m. IsTriangulated m) (λ m v h e f. vertex_inserted m v c.args.face h e f) _ _ _ 3 2 c.args.self.now.dcel _ _ c.args.point _
+    put_holds (λ m. IsTriangleMesh m) (λ m v h e f. vertex_inserted m v c.args.face h e f) _ _ _ 3 2 c.args.self.now.dcel _ _ c.args.point _
     (λ h e f mid done.
     inserted-triangulated c.args.self.now.dcel c.every_mesh.ensures c.args.point mid h e f c.args.face c.args.self.now.triangulated c.requires.place.0 c.requires.place.1 c.requires.place.2)
     c.in_ok-vertex.ensures.edit c.in_ok-vertex.ensures.answer c.in-Ok.ensures.edit c.in_ok-vertex.ensures.mesh c.insert_into_triangle.ensures.mesh

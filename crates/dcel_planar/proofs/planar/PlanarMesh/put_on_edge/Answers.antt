@@ -7,7 +7,7 @@ use Rattle.dcel_maps.specs.Shapes.{Mesh, face_of}
 use Rattle.dcel_predicates.specs.declared.point.Point.{Point}
 use Rattle.dcel_maps.proofs.maps.Halves.{rev_half}
 use Rattle.dcel_plane.specs.Edges.{edges_split}
-use Rattle.dcel_planar.specs.Growing.{HasHull, IsTriangulated, MayRefuse}
+use Rattle.dcel_planar.specs.Growing.{HasHull, IsTriangleMesh, IsInsertionReason}
 use Rattle.dcel_planar.proofs.Growth.{split-keeps}
 use Rattle.dcel_planar.proofs.Hull.{split-hull}
 use Rattle.dcel_planar.proofs.OnEdges.{both_across}
@@ -21,7 +21,7 @@ edges_next_to-far-requires g c = rw (c.rev.ensures, rev_half c.args.edge) c.requ
 
 pub returns-in_default-clause-refused : goal.returns-in_default-clause-refused
 returns-in_default-clause-refused g c = (
-  subst (MayRefuse c.args.self.now.dcel.shape) (sym c.take_back.ensures.answer) tt,
+  subst (IsInsertionReason c.args.self.now.dcel.shape) (sym c.take_back.ensures.answer) tt,
   record {
     mesh = (put_back c.args.self.now.dcel _ _ _ c.args.point _ c.every_mesh.ensures c.args.self.now.triangulated.closed c.in_ok-vertex.ensures.edit
         c.in_ok-vertex.ensures.answer c.in_default.ensures.refused c.take_back.ensures.edit);
@@ -102,7 +102,7 @@ pub invariant_of-self-2-clause-triangulated : goal.invariant_of-self-2-clause-tr
 invariant_of-self-2-clause-triangulated g c =
     let both = both_across c.args.self.now.dcel c.every_mesh.ensures c.args.self.now.triangulated c.args.edge c.args.point c.requires.place c.requires.inner c.requires.inner_facing in
     let old = c.args.self.now.dcel in
-    put_holds (λ m. IsTriangulated m) (λ m v h e f. edge_split m c.args.edge v h e f) _ _ _ 3 2 old _ _ c.args.point _
+    put_holds (λ m. IsTriangleMesh m) (λ m v h e f. edge_split m c.args.edge v h e f) _ _ _ 3 2 old _ _ c.args.point _
     (λ h e f mid done.
     split-triangulated old c.every_mesh.ensures c.args.point mid h e f c.args.edge c.args.self.now.triangulated c.requires.place.0 both.0.triangle both.1.triangle
     both.0.across both.1.across)

@@ -4,7 +4,7 @@ use Rattle.dcel_maps.specs.Conditions.{IsTriangle}
 use Rattle.dcel_maps.specs.Shapes.{Mesh, face_of}
 use Rattle.dcel_predicates.specs.declared.point.Point.{Point}
 use Rattle.dcel_plane.specs.Edges.{edges_half_split}
-use Rattle.dcel_planar.specs.Growing.{HasHull, IsTriangulated, MayRefuse}
+use Rattle.dcel_planar.specs.Growing.{HasHull, IsTriangleMesh, IsInsertionReason}
 use Rattle.dcel_planar.proofs.Growth.{half_split-keeps}
 use Rattle.dcel_planar.proofs.Hull.{half_split-hull, inner_side}
 use Rattle.dcel_planar.proofs.OnEdges.{on_edge_across}
@@ -15,7 +15,7 @@ use Rattle.dcel_planar.proofs.planar.PlanarMesh.put_on_hull.Goals as goal
 
 pub returns-in_default-clause-refused : goal.returns-in_default-clause-refused
 returns-in_default-clause-refused g c = (
-  subst (MayRefuse c.args.self.now.dcel.shape) (sym c.take_back.ensures.answer) tt,
+  subst (IsInsertionReason c.args.self.now.dcel.shape) (sym c.take_back.ensures.answer) tt,
   record {
     mesh = (put_back c.args.self.now.dcel _ _ _ c.args.point _ c.every_mesh.ensures c.args.self.now.triangulated.closed c.in_ok-vertex.ensures.edit
         c.in_ok-vertex.ensures.answer c.in_default.ensures.refused c.take_back.ensures.edit);
@@ -93,7 +93,7 @@ invariant_of-self-2-clause-triangulated g c =
     let inside = inner_side c.args.self.now.dcel c.every_mesh.ensures c.args.self.now.triangulated c.requires.hull c.args.edge c.requires.place.0 c.requires.outer in
     let near = on_edge_across c.args.self.now.dcel c.every_mesh.ensures c.args.self.now.triangulated.triangles c.args.self.now.triangulated.plane c.args.edge c.requires.place.0 inside c.args.point c.requires.place.1 in
     let old = c.args.self.now.dcel in
-    put_holds (λ m. IsTriangulated m) (λ m v h e f. half_edge_split m c.args.edge v h e f) _ _ _ 2 1 old _ _ c.args.point _
+    put_holds (λ m. IsTriangleMesh m) (λ m v h e f. half_edge_split m c.args.edge v h e f) _ _ _ 2 1 old _ _ c.args.point _
     (λ h e f mid done.
     half_split-triangulated old c.every_mesh.ensures c.args.point mid h e f c.args.edge c.args.self.now.triangulated c.requires.place.0 near.triangle inside c.requires.outer
     near.across)

@@ -1,0 +1,261 @@
+"""Made of dcel.h by tools/bind --write: what it declares."""
+
+from __future__ import annotations
+
+import enum
+from ctypes import POINTER, Structure, c_bool, c_size_t, c_uint8, c_uint32, c_uint64, c_void_p
+from typing import Any
+
+VERSION = "0.2.0"
+# What a call that returns an element's number returns where there is none.
+NONE = 2**64 - 1
+# What stands for each link of a half edge that isn't live.
+NO_LINK = 2**32 - 1
+
+
+class Status(enum.IntEnum):
+    """What calls return."""
+
+    DONE = 0
+    NO_SUCH_VERTEX = 1
+    NO_SUCH_EDGE = 2  #: of half edges too
+    NO_SUCH_FACE = 3  #: also the outer face, where an inner one is asked for
+    REMOVAL_OPEN = 4
+    NO_REMOVAL = 5  #: none is open that is still to be cleaned up
+    GIVEN_UP = 6  #: an element isn't live
+    SAME_VERTEX = 7
+    VERTEX_IN_USE = 8  #: it has an edge
+    EDGES_STAND = 9  #: the mesh has an edge
+    NOT_LINE_END = 10
+    NOT_BRIDGE = 11  #: the halves of the edge lie on two faces
+    NOT_OUTER = 12
+    NOT_TRIANGLE = 13
+    WOULD_LOOP = 14  #: an edge would join a vertex to itself
+    BAD_RING = 15
+    BAD_STRIP = 16
+    WRONG_LISTS = 17
+    NOT_PATH = 18
+    NO_ROOM = 19  #: a count would pass 2^31, and with dcel_reserve_capacity 2^32
+    OUT_OF_MEMORY = 20
+    NO_MESH = 21  #: it was never made, or it was freed
+    SHORT = 22  #: a buffer has too few places
+    FAULTY = 23  #: no mesh is made of what is given, and a dcel_fault says why
+
+
+class Ended(enum.IntEnum):
+    """How a legalization ended."""
+
+    LEGALIZED = 0  #: nothing is left to flip
+    STOPPED = 1  #: as many flips were made as were allowed
+    MEMORY_RAN_OUT = 2  #: the list of edges found no memory to grow
+
+
+class RemovalState(enum.IntEnum):
+    """How far a removal has come."""
+
+    CLOSED = 0  #: none is open
+    ISOLATED = 1  #: it is to be cleaned up
+    CLEANED = 2  #: its vertex is to be taken out
+
+
+class FaultKind(enum.IntEnum):
+    """What is wrong with links or faces that no mesh is made of. With links it is the first that is wrong, in this order, but that the
+    three ranges are looked for together, and so are ONE_END, APART and LEAVES_FACE. Places are those of faces in `counts`."""
+
+    LENGTHS = 1  #: a half edge has no other half
+    TOO_MANY = 2  #: there are more than 2^32 vertices, half edges or faces
+    NO_FACE = 3  #: there is no outer face
+    MORE_FACES = 4  #: there are more faces than edges and two
+    NEXT_OUT_OF_RANGE = 5  #: after half edge `number` comes none that there is
+    ORIGIN_OUT_OF_RANGE = 6  #: half edge `number` starts at no vertex that there is
+    FACE_OUT_OF_RANGE = 7  #: half edge `number` lies on no face that there is
+    TWO_LEAD_TO = 8  #: two half edges have half edge `number` as their next
+    ONE_END = 9  #: half edge `number` ends where it starts
+    APART = 10  #: what comes after half edge `number` doesn't start where it ends
+    LEAVES_FACE = 11  #: what comes after half edge `number` lies on another face
+    FACE_IN_PARTS = 12  #: the half edges of face `number` are no single loop
+    VERTEX_IN_PARTS = 13  #: the half edges of vertex `number` are no single turn
+    UNUSED_FACE = 14  #: no half edge lies on face `number`
+    NOT_CONNECTED = 15  #: half edge `number` isn't reached from half edge 0
+    NOT_SPHERE = 16  #: the surface has genus `number`
+    OTHER_COUNT = 17  #: the counts don't add up to the corners
+    FEW_CORNERS = 18  #: the face at place `number` has fewer than three corners
+    TOO_MANY_CORNERS = 19  #: there are more than 2^31 corners
+    NO_VERTEX = 20  #: the face at place `number` has corner `from`, which is no vertex
+    SIDE_AT_ONE = 21  #: the face at place `number` has corner `from` twice in a row
+    SIDE_TWICE = 22  #: faces at places `number` and `other` have the side `from` to `to`
+    BORDER_TWICE = 23  #: two sides that no face lies beyond end at vertex `number`
+
+
+class Mesh(Structure):
+    """A mesh, or none: zero bytes are one that isn't open. The fields are the library's."""
+
+    _fields_ = [("at", c_void_p), ("is_open", c_bool)]
+
+
+class HalfEdge(Structure):
+    """The links of a half edge: the ones after and before it on its face, the vertex that it starts at, and its face. Half edge h ends
+    where h ^ 1 starts."""
+
+    _fields_ = [("next", c_uint32), ("prev", c_uint32), ("origin", c_uint32), ("face", c_uint32)]
+
+
+class Removed(Structure):
+    """A vertex that was taken out: its datum, and the old number of the vertex that has its number now, DCEL_NONE if none does."""
+
+    _fields_ = [("datum", c_uint64), ("moved", c_uint64)]
+
+
+class Opened(Structure):
+    """A removal that was opened: how many edges and faces it has given up, how many edges it has added, and the number of the first of
+    these. The others follow it."""
+
+    _fields_ = [("edges", c_uint64), ("faces", c_uint64), ("new_edges", c_uint64), ("smallest_new_edge", c_uint64)]
+
+
+class Legalized(Structure):
+    """How many edges were flipped, and an enum dcel_ended."""
+
+    _fields_ = [("flips", c_uint64), ("ended", c_uint32)]
+
+
+class Fault(Structure):
+    """A fault: a dcel_fault_kind, and 0 for what that doesn't speak of."""
+
+    _fields_ = [("kind", c_uint32), ("number", c_uint64), ("other", c_uint64), ("from", c_uint64), ("to", c_uint64)]
+
+
+STRUCTS: dict[str, type[Structure]] = {
+    "dcel_mesh": Mesh,
+    "dcel_half_edge": HalfEdge,
+    "dcel_removed": Removed,
+    "dcel_opened": Opened,
+    "dcel_legalized": Legalized,
+    "dcel_fault": Fault,
+}
+
+# What a fault of each kind says.
+FAULTS = {
+    FaultKind.LENGTHS: "a half edge has no other half",
+    FaultKind.TOO_MANY: "there are more than 2^32 vertices, half edges or faces",
+    FaultKind.NO_FACE: "there is no outer face",
+    FaultKind.MORE_FACES: "there are more faces than edges and two",
+    FaultKind.NEXT_OUT_OF_RANGE: "after half edge {number} comes none that there is",
+    FaultKind.ORIGIN_OUT_OF_RANGE: "half edge {number} starts at no vertex that there is",
+    FaultKind.FACE_OUT_OF_RANGE: "half edge {number} lies on no face that there is",
+    FaultKind.TWO_LEAD_TO: "two half edges have half edge {number} as their next",
+    FaultKind.ONE_END: "half edge {number} ends where it starts",
+    FaultKind.APART: "what comes after half edge {number} doesn't start where it ends",
+    FaultKind.LEAVES_FACE: "what comes after half edge {number} lies on another face",
+    FaultKind.FACE_IN_PARTS: "the half edges of face {number} are no single loop",
+    FaultKind.VERTEX_IN_PARTS: "the half edges of vertex {number} are no single turn",
+    FaultKind.UNUSED_FACE: "no half edge lies on face {number}",
+    FaultKind.NOT_CONNECTED: "half edge {number} isn't reached from half edge 0",
+    FaultKind.NOT_SPHERE: "the surface has genus {number}",
+    FaultKind.OTHER_COUNT: "the counts don't add up to the corners",
+    FaultKind.FEW_CORNERS: "the face at place {number} has fewer than three corners",
+    FaultKind.TOO_MANY_CORNERS: "there are more than 2^31 corners",
+    FaultKind.NO_VERTEX: "the face at place {number} has corner {from}, which is no vertex",
+    FaultKind.SIDE_AT_ONE: "the face at place {number} has corner {from} twice in a row",
+    FaultKind.SIDE_TWICE: "faces at places {number} and {other} have the side {from} to {to}",
+    FaultKind.BORDER_TWICE: "two sides that no face lies beyond end at vertex {number}",
+}
+
+_bool = POINTER(c_bool)
+_fault = POINTER(Fault)
+_half_edge = POINTER(HalfEdge)
+_legalized = POINTER(Legalized)
+_mesh = POINTER(Mesh)
+_opened = POINTER(Opened)
+_removed = POINTER(Removed)
+_uint32 = POINTER(c_uint32)
+_uint64 = POINTER(c_uint64)
+_uint8 = POINTER(c_uint8)
+
+# What each function returns, and what it takes.
+FUNCTIONS: dict[str, tuple[Any, tuple[Any, ...]]] = {
+    "dcel_version": (c_uint32, ()),
+    "dcel_version_0_2_0": (c_uint32, ()),
+    "dcel_new": (Status, (_mesh,)),
+    "dcel_free": (None, (_mesh,)),
+    "dcel_clone": (Status, (_mesh, _mesh)),
+    "dcel_clear": (Status, (_mesh,)),
+    "dcel_reserve_capacity": (Status, (_mesh, c_uint64, c_uint64, c_uint64)),
+    "dcel_from_links": (Status, (_mesh, _half_edge, c_size_t, _uint64, c_size_t, _uint64, c_size_t, _fault)),
+    "dcel_from_faces": (Status, (_mesh, _uint64, c_size_t, _uint32, c_size_t, _uint32, c_size_t, _fault)),
+    "dcel_num_vertices": (c_uint64, (_mesh,)),
+    "dcel_num_directed_edges": (c_uint64, (_mesh,)),
+    "dcel_num_undirected_edges": (c_uint64, (_mesh,)),
+    "dcel_num_faces": (c_uint64, (_mesh,)),
+    "dcel_next": (c_uint64, (_mesh, c_uint32)),
+    "dcel_prev": (c_uint64, (_mesh, c_uint32)),
+    "dcel_rev": (c_uint64, (_mesh, c_uint32)),
+    "dcel_ccw": (c_uint64, (_mesh, c_uint32)),
+    "dcel_cw": (c_uint64, (_mesh, c_uint32)),
+    "dcel_from": (c_uint64, (_mesh, c_uint32)),
+    "dcel_to": (c_uint64, (_mesh, c_uint32)),
+    "dcel_face": (c_uint64, (_mesh, c_uint32)),
+    "dcel_out_edge": (c_uint64, (_mesh, c_uint32)),
+    "dcel_adjacent_edge": (c_uint64, (_mesh, c_uint32)),
+    "dcel_out_edges": (Status, (_mesh, c_uint32, _uint32, c_size_t, _uint64)),
+    "dcel_face_edges": (Status, (_mesh, c_uint32, _uint32, c_size_t, _uint64)),
+    "dcel_get_edge_from_neighbors": (c_uint64, (_mesh, c_uint32, c_uint32)),
+    "dcel_directed_edge": (None, (_mesh, c_uint32, _half_edge)),
+    "dcel_directed_edges": (Status, (_mesh, _half_edge, c_size_t, _uint64)),
+    "dcel_vertex_data": (Status, (_mesh, c_uint32, _uint64)),
+    "dcel_directed_edge_data": (Status, (_mesh, c_uint32, _uint64)),
+    "dcel_undirected_edge_data": (Status, (_mesh, c_uint32, _uint64)),
+    "dcel_face_data": (Status, (_mesh, c_uint32, _uint64)),
+    "dcel_update_vertex": (Status, (_mesh, c_uint32, c_uint64)),
+    "dcel_update_directed_edge": (Status, (_mesh, c_uint32, c_uint64)),
+    "dcel_update_undirected_edge": (Status, (_mesh, c_uint32, c_uint64)),
+    "dcel_update_face": (Status, (_mesh, c_uint32, c_uint64)),
+    "dcel_append_unconnected_vertex": (Status, (_mesh, c_uint64, _uint32)),
+    "dcel_new_triangle": (Status, (_mesh, c_uint64, c_uint64, c_uint64)),
+    "dcel_setup_initial_two_vertices": (Status, (_mesh, c_uint32, c_uint32)),
+    "dcel_extend_line": (Status, (_mesh, c_uint32, c_uint32)),
+    "dcel_split_edge_when_all_vertices_on_line": (Status, (_mesh, c_uint32, c_uint32, _uint32)),
+    "dcel_create_single_face_between_edge_and_next": (Status, (_mesh, c_uint32, _uint32)),
+    "dcel_create_new_face_adjacent_to_edge": (Status, (_mesh, c_uint32, c_uint32)),
+    "dcel_insert_into_triangle": (Status, (_mesh, c_uint32, c_uint32)),
+    "dcel_split_half_edge": (Status, (_mesh, c_uint32, c_uint32, _uint32)),
+    "dcel_split_edge": (Status, (_mesh, c_uint32, c_uint32, _uint32)),
+    "dcel_flip_cw": (Status, (_mesh, c_uint32)),
+    "dcel_swap_vertices": (Status, (_mesh, c_uint32, c_uint32)),
+    "dcel_legalize_by_number": (Status, (_mesh, c_uint64, _uint32, c_size_t, _legalized)),
+    "dcel_isolate_vertex_and_fill_hole": (Status, (_mesh, _uint32, c_size_t, c_uint32, _uint32, c_size_t, _uint32, c_size_t, _opened)),
+    "dcel_remesh_edge_ring": (Status, (_mesh, _uint32, c_size_t, _uint32, c_size_t, _uint32, c_size_t, _opened)),
+    "dcel_disconnect_edge_strip": (Status, (_mesh, _uint32, c_size_t, _uint32, c_size_t, _uint32, c_size_t, _opened)),
+    "dcel_cleanup_isolated_vertex": (Status, (_mesh, _uint32, c_size_t, _uint32, c_size_t)),
+    "dcel_swap_remove_vertex": (Status, (_mesh, c_uint32, _removed)),
+    "dcel_remove_when_degenerate": (Status, (_mesh, c_uint32, _removed)),
+    "dcel_removal_state": (c_uint32, (_mesh,)),
+    "dcel_is_live_vertex": (c_bool, (_mesh, c_uint32)),
+    "dcel_is_live_edge": (c_bool, (_mesh, c_uint32)),
+    "dcel_is_live_face": (c_bool, (_mesh, c_uint32)),
+    "dcel_is_unconnected": (c_bool, (_mesh, c_uint32)),
+    "dcel_is_line_end": (c_bool, (_mesh, c_uint32)),
+    "dcel_is_triangle": (c_bool, (_mesh, c_uint32)),
+    "dcel_is_bridge": (c_bool, (_mesh, c_uint32)),
+    "dcel_has_room": (c_bool, (_mesh, c_uint64, c_uint64, c_uint64)),
+    "dcel_sanity_check": (c_bool, (_mesh,)),
+    "dcel_can_setup_initial_two_vertices": (c_bool, (_mesh, c_uint32, c_uint32)),
+    "dcel_can_extend_line": (c_bool, (_mesh, c_uint32, c_uint32)),
+    "dcel_can_split_edge_when_all_vertices_on_line": (c_bool, (_mesh, c_uint32, c_uint32)),
+    "dcel_can_close_outside": (c_bool, (_mesh, c_uint32)),
+    "dcel_can_create_new_face_adjacent_to_edge": (c_bool, (_mesh, c_uint32, c_uint32)),
+    "dcel_can_insert_into_triangle": (c_bool, (_mesh, c_uint32, c_uint32)),
+    "dcel_can_split_half_edge": (c_bool, (_mesh, c_uint32, c_uint32)),
+    "dcel_can_split_edge": (c_bool, (_mesh, c_uint32, c_uint32)),
+    "dcel_can_flip": (c_bool, (_mesh, c_uint32)),
+    "dcel_can_swap_remove": (c_bool, (_mesh, c_uint32)),
+    "dcel_can_remove_degenerate": (c_bool, (_mesh, c_uint32)),
+    "dcel_is_border_loop": (Status, (_mesh, _uint32, c_size_t, c_uint32, _bool)),
+    "dcel_is_ring": (Status, (_mesh, _uint32, c_size_t, _uint32, c_size_t, _uint32, c_size_t, _bool)),
+    "dcel_is_edge_strip": (Status, (_mesh, _uint32, c_size_t, _bool)),
+    "dcel_is_listed": (Status, (_mesh, _uint32, c_size_t, _uint32, c_size_t, _bool)),
+    "dcel_can_isolate_vertex_and_fill_hole": (Status, (_mesh, _uint32, c_size_t, c_uint32, _bool)),
+    "dcel_can_remesh_edge_ring": (Status, (_mesh, _uint32, c_size_t, _uint32, c_size_t, _uint32, c_size_t, _bool)),
+    "dcel_can_disconnect_edge_strip": (Status, (_mesh, _uint32, c_size_t, _bool)),
+    "dcel_replies": (Status, (_uint8, c_size_t, _uint8, c_size_t, _uint64)),
+}

@@ -1,0 +1,187 @@
+//! Each request of the values for memory is refused in turn: the call says so, gives back what it
+//! was given, and the mesh is as it was.
+
+mod common;
+
+use common::*;
+use dcel::operations::*;
+use dcel::{Dcel, Refusal};
+use std::alloc::{GlobalAlloc, Layout, System};
+use std::cell::Cell;
+use std::ptr;
+
+thread_local! {
+    /// How many requests of this thread are still met.
+    static LEFT: Cell<usize> = const { Cell::new(usize::MAX) };
+}
+
+struct Refusing;
+
+#[global_allocator]
+static REFUSING: Refusing = Refusing;
+
+fn is_met() -> bool {
+    LEFT.with(|left| {
+        let met = left.get();
+        left.set(met.saturating_sub(1));
+        met > 0
+    })
+}
+
+// SAFETY: what is met is the system's, and nothing is what a refused request gets.
+unsafe impl GlobalAlloc for Refusing {
+    unsafe fn alloc(&self, layout: Layout) -> *mut u8 {
+        if is_met() {
+            unsafe { System.alloc(layout) }
+        } else {
+            ptr::null_mut()
+        }
+    }
+
+    unsafe fn dealloc(&self, block: *mut u8, layout: Layout) {
+        unsafe { System.dealloc(block, layout) }
+    }
+
+    unsafe fn realloc(&self, block: *mut u8, layout: Layout, size: usize) -> *mut u8 {
+        if is_met() {
+            unsafe { System.realloc(block, layout, size) }
+        } else {
+            ptr::null_mut()
+        }
+    }
+}
+
+/// Calls with so many requests met.
+fn with_memory<T>(met: usize, call: impl FnOnce() -> T) -> T {
+    LEFT.set(met);
+    let result = call();
+    LEFT.set(usize::MAX);
+    result
+}
+
+/// Calls with one request more each time, until nothing is refused, and returns how many were
+/// needed. `check` is handed each refusal.
+#[track_caller]
+fn sweep<T, E>(mut call: impl FnMut(usize) -> Result<T, E>, check: impl Fn(E)) -> usize {
+    for met in 0..100 {
+        match call(met) {
+            Ok(_) => return met,
+            Err(refused) => check(refused),
+        }
+    }
+    panic!("it finds no memory, however much there is");
+}
+
+#[test]
+fn an_appended_vertex() {
+    let needed = sweep(
+        |met| {
+            let mut dcel = round().try_clone().unwrap(); // which has no room to spare
+            let made = with_memory(met, || append_unconnected_vertex(&mut dcel, 10));
+            let values: Vec<_> = dcel.vertices().map(|vertex| *vertex.data()).collect();
+            assert_eq!(values, [0, 1, 2, 3, 10][..4 + usize::from(made.is_ok())]);
+            made
+        },
+        |refused| assert_eq!((refused.why, refused.back), (Refusal::OutOfMemory, 10)),
+    );
+    assert_eq!(needed, 1);
+}
+
+#[test]
+fn room() {
+    let needed = sweep(
+        |met| {
+            let mut dcel = round();
+            with_memory(met, || dcel.reserve_capacity(100, 100, 100))
+        },
+        |refused| assert_eq!(refused, Refusal::OutOfMemory),
+    );
+    assert_eq!(needed, 1);
+    // Values that no memory holds.
+    let mut dcel = Dcel::<[u64; 1 << 40]>::new().unwrap();
+    assert_eq!(
+        dcel.reserve_capacity(1 << 10, 0, 0),
+        Err(Refusal::OutOfMemory)
+    );
+}
+
+#[test]
+fn a_triangle() {
+    let needed = sweep(
+        |met| with_memory(met, || new_triangle::<_, (), (), ()>([7, 8, 9])),
+        |refused| {
+            assert_eq!(
+                (refused.why, refused.back),
+                (Refusal::OutOfMemory, [7, 8, 9])
+            )
+        },
+    );
+    assert_eq!(needed, 1);
+}
+
+#[test]
+fn an_edge_alone() {
+    let needed = sweep(
+        |met| {
+            let given = vec![7, 8];
+            with_memory(met, || {
+                new_with_fixed_vertices::<_, (), (), ()>(given, v(0), v(1))
+            })
+        },
+        |refused| {
+            assert_eq!(
+                (refused.why, refused.back),
+                (Refusal::OutOfMemory, vec![7, 8])
+            )
+        },
+    );
+    assert!(needed > 0);
+}
+
+#[test]
+fn faces_and_links() {
+    let faces = [[0, 1, 2], [2, 1, 3]].map(|face| face.map(v));
+    let needed = sweep(
+        |met| {
+            let given = vec![7, 8, 9, 10];
+            with_memory(met, || from_faces::<_, (), (), (), _>(given, faces))
+        },
+        |refused| {
+            assert_eq!(refused.reason, FacesError::OutOfMemory);
+            assert_eq!(refused.back, [7, 8, 9, 10]);
+        },
+    );
+    assert!(needed > 3);
+    let dcel: Dcel<_> = new_triangle([7, 8, 9]).unwrap();
+    let links = dcel.links();
+    let half_edges: Vec<_> = links
+        .directed_edges()
+        .filter_map(|edge| links.get(edge))
+        .collect();
+    let needed = sweep(
+        |met| {
+            let (vertices, faces) = (vec![7, 8, 9], vec!["out", "in"]);
+            with_memory(met, || {
+                from_links::<_, (), (), _>(&half_edges, vertices, faces)
+            })
+        },
+        |refused| {
+            assert_eq!(refused.reason, LinksError::OutOfMemory);
+            assert_eq!(refused.back, (vec![7, 8, 9], vec!["out", "in"]));
+        },
+    );
+    assert!(needed > 3);
+}
+
+#[test]
+fn a_clone() {
+    let mut dcel: Dcel<usize, u8, u8, u8> = new_triangle([7, 8, 9]).unwrap();
+    *dcel.directed_edge_data_mut(e(1)) = 1;
+    *dcel.undirected_edge_data_mut(u(1)) = 2;
+    *dcel.face_data_mut(f(1)) = 3;
+    let needed = sweep(
+        |met| with_memory(met, || dcel.try_clone()),
+        |refused| assert_eq!(refused, Refusal::OutOfMemory),
+    );
+    assert_eq!(needed, 4);
+}

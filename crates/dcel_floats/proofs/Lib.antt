@@ -1,0 +1,4 @@
+pub mod Patterns
+pub mod Steps
+pub mod Roundings
+pub mod Fitting

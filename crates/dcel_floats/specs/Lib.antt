@@ -1,0 +1,4 @@
+pub mod Floats
+pub mod Rounding
+pub mod Grids
+pub mod Binaries

@@ -1,5 +1,0 @@
-mod Corners
-mod Faces
-mod Numbers
-mod Theorem
-mod Whole
