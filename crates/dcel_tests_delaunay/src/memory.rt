@@ -8,7 +8,7 @@ use dcel_bench::meshes::handles;
 use dcel_bench::refusing::{Memory, Refusals, Refusing};
 use dcel_bench::require;
 use dcel_bench_points::{Place, numbered, points_at};
-use dcel_delaunay::{InsertionError, Point, Triangulation};
+use dcel_delaunay::{InsertionError, Point, Triangulation, triangulate};
 use dcel_planar::{is_delaunay, is_plane, legalize_by_circles};
 use spade_dcel::dcel::Dcel;
 use spade_dcel::handles::FixedUndirectedEdgeHandle;
@@ -242,6 +242,47 @@ fn check_first_request(memory: Memory) -> Result<(), Fail> {
 fn a_triangulation_without_points_is_refused_memory(rt: HostRuntime) -> Result<(), Fail> {
     let memory = Refusing::new(rt.alloc());
     check_first_request(&memory)
+}
+
+/// Lists the triangles of points with the request of this number refused, and again without.
+/// Returns whether it came.
+fn list_refused(
+    memory: Memory,
+    points: &[Point],
+    number: u64,
+    wanted: usize,
+) -> Result<bool, Fail> {
+    memory.refuse(Refusals::One(number));
+    let is_listed = triangulate(memory, points).is_ok();
+    let came = memory.requests() > number;
+    memory.refuse(Refusals::None);
+    same(is_listed, !came, format_args!("request {number} refused"))?;
+    same(triangulate(memory, points)?.len(), wanted, "triangles")?;
+    Ok(came)
+}
+
+/// Refuses each request for the triangles of a row in turn.
+fn refuse_triangles(
+    (places, [_, _, wanted]): Row,
+    memory: Memory,
+    alloc: Global,
+) -> Result<(), Fail> {
+    let points = points_at(places, alloc)?;
+    for number in 0..MANY {
+        if !list_refused(memory, &points, number, wanted)? {
+            return holds(number > 0, "requests were refused");
+        }
+    }
+    Err(Fail::new("more requests than MANY"))
+}
+
+#[test]
+fn lists_of_triangles_are_refused_memory(rt: HostRuntime) -> Result<(), Fail> {
+    let memory = Refusing::new(rt.alloc());
+    for row in &ROWS {
+        refuse_triangles(*row, &memory, rt.alloc())?;
+    }
+    Ok(())
 }
 
 /// Points on a parabola, the last one first.

@@ -243,6 +243,7 @@ enum Call {
     Insert,
     Remove,
     Neighbors,
+    Degrees,
 }
 
 /// Makes the call. Returns whether there was memory; the datum comes back if there was none.
@@ -264,6 +265,7 @@ fn is_done<'a>(dcel: &mut Mesh<Memory<'a>>, call: Call, memory: Memory<'a>) -> R
             Some(center) => Ok(neighbors(memory, center).is_ok()),
             None => Err(Fail::new("there is no such vertex")),
         },
+        Call::Degrees => Ok(degrees(memory, dcel).is_ok()),
     }
 }
 
@@ -313,5 +315,6 @@ fn refuse_each(call: Call, alloc: Global) -> Result<(), Fail> {
 fn calls_are_refused_memory(rt: HostRuntime) -> Result<(), Fail> {
     refuse_each(Call::Insert, rt.alloc())?;
     refuse_each(Call::Remove, rt.alloc())?;
-    refuse_each(Call::Neighbors, rt.alloc())
+    refuse_each(Call::Neighbors, rt.alloc())?;
+    refuse_each(Call::Degrees, rt.alloc())
 }
