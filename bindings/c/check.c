@@ -72,6 +72,12 @@ static void check_none(void) {
     CHECK(dcel_flip_cw(&mesh, 0) == DCEL_NO_MESH && dcel_new_triangle(&mesh, 1, 2, 3) == DCEL_NO_MESH);
     CHECK(dcel_removal_state(&mesh) == DCEL_CLOSED && !dcel_sanity_check(&mesh) && !dcel_has_room(&mesh, 0, 0, 0));
     CHECK(dcel_is_edge_strip(&mesh, list, 3, &answer) == DCEL_NO_MESH && answer);
+    CHECK(dcel_is_border_loop(&mesh, list, 3, 0, &answer) == DCEL_NO_MESH && answer);
+    CHECK(dcel_is_ring(&mesh, list, 3, list, 3, list, 3, &answer) == DCEL_NO_MESH && answer);
+    CHECK(dcel_is_listed(&mesh, list, 3, list, 3, &answer) == DCEL_NO_MESH && answer);
+    CHECK(dcel_can_isolate_vertex_and_fill_hole(&mesh, list, 3, 0, &answer) == DCEL_NO_MESH && answer);
+    CHECK(dcel_can_remesh_edge_ring(&mesh, list, 3, list, 3, list, 3, &answer) == DCEL_NO_MESH && answer);
+    CHECK(dcel_can_disconnect_edge_strip(&mesh, list, 3, &answer) == DCEL_NO_MESH && answer);
     CHECK(strcmp(dcel_status_name(DCEL_NO_MESH), "NoMesh") == 0 && *dcel_status_name(99) == '\0');
 }
 

@@ -63,6 +63,7 @@ pub extern "C" fn dcel_legalize_by_number(
     ensures edit { EditsByLists (kept_in mesh.old) (Legalize max_flips edges.now) (kept_in mesh.new) result }
     ensures told { result ≡ 0 → Tells reply_told (kept_in mesh.old) (Legalize max_flips edges.now) (kept_in mesh.new) legalized.new }
     ensures untold { result ≢ 0 → legalized.new ≡ legalized.old }
+    ensures never_short { result ≢ 22 }
 {
     let Ok(edges) = handles(alloc, edges) else {
         return OUT_OF_MEMORY;

@@ -171,6 +171,7 @@ pub extern "C" fn dcel_remesh_edge_ring(
     ensures edit { EditsByLists (kept_in mesh.old) (Remesh border_loop.now edges.now faces.now) (kept_in mesh.new) result }
     ensures told { result ≡ 0 → Tells opened_told (kept_in mesh.old) (Remesh border_loop.now edges.now faces.now) (kept_in mesh.new) opened.new }
     ensures untold { result ≢ 0 → opened.new ≡ opened.old }
+    ensures never_short { result ≢ 22 }
 {
     let Ok(list) = handles(alloc, border_loop) else {
         return OUT_OF_MEMORY;
@@ -218,7 +219,8 @@ pub extern "C" fn dcel_cleanup_isolated_vertex(
     edges: &[u32],
     faces: &[u32],
 ) -> u32
-    ensures { EditsByLists (kept_in mesh.old) (Cleanup edges.now faces.now) (kept_in mesh.new) result }
+    ensures edit { EditsByLists (kept_in mesh.old) (Cleanup edges.now faces.now) (kept_in mesh.new) result }
+    ensures never_short { result ≢ 22 }
 {
     let Ok(edges) = handles(alloc, edges) else {
         return OUT_OF_MEMORY;
