@@ -65,7 +65,8 @@ impl<A: Allocator> Triangulation<A> {
     /// Reserves memory for so many more points, with three edges and two faces for each. Where there
     /// are no numbers for so many it reserves none, since equal points need none.
     fn reserve(&mut self, count: usize) -> Result<(), AllocError>
-        ensures { self.new ≡ self.old }
+        ensures mesh { mesh_in self.new ≡ mesh_in self.old }
+        ensures whole { IsWholeMesh self.old.planar → IsWholeMesh self.new.planar }
     {
         let edges = count.saturating_mul(3);
         let faces = count.saturating_mul(2);
