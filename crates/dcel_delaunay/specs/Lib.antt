@@ -1,4 +1,5 @@
 pub mod Bulk
+pub mod Keys
 pub mod Listing
 pub mod Removing
 pub mod Triangles

@@ -3,7 +3,7 @@
 use dcel_bench::checks::{holds, same};
 use dcel_bench::require;
 use dcel_bench_points::{Place, numbered, points_at};
-use dcel_delaunay::{InsertionError, Point, Triangulation, insertion_order, point};
+use dcel_delaunay::{InsertionError, Point, Triangulation, insertion_order, point, triangulate};
 use spade_dcel::handles::FixedVertexHandle;
 use std::alloc::{AllocError, Allocator, Global};
 use std::test::Fail;
@@ -92,9 +92,10 @@ fn coordinates_are_in_range(rt: HostRuntime) -> Result<(), Fail> {
     same(refused, Some(InsertionError::OutOfRange), "one further")
 }
 
-fn hundred_points(alloc: Global) -> Result<Vec<Point>, Fail> {
-    let mut points = Vec::new(alloc);
-    for index in 0..100 {
+/// Returns points near the origin, and three so far from it, a hundred in all.
+fn hundred_points(far: i64, alloc: Global) -> Result<Vec<Point>, Fail> {
+    let mut points = points_at(&[(far, 0), (0, far), (far, far)], alloc)?;
+    for index in 3..100 {
         points.push(point(index % 7, index % 11)?)?;
     }
     Ok(points)
@@ -122,6 +123,35 @@ fn check_order(points: &[Point], alloc: Global) -> Result<(), Fail> {
 
 #[test]
 fn an_order_has_each_number(rt: HostRuntime) -> Result<(), Fail> {
-    let points = hundred_points(rt.alloc())?;
+    let points = hundred_points(20, rt.alloc())?;
     check_order(&points, rt.alloc())
+}
+
+#[test]
+fn an_order_of_a_cluster_has_each_number(rt: HostRuntime) -> Result<(), Fail> {
+    // So far from three points, the others share the upper bits of their places.
+    let points = hundred_points(1 << 53, rt.alloc())?;
+    check_order(&points, rt.alloc())
+}
+
+/// Returns a thousand points, some of them equal.
+fn thousand_points(alloc: Global) -> Result<Vec<Point>, Fail> {
+    let mut points = Vec::new(alloc);
+    for index in 0..1000 {
+        points.push(point(index * 379 % 997, index * index % 991)?)?;
+    }
+    Ok(points)
+}
+
+fn check_triangles(points: &[Point], alloc: Global) -> Result<(), Fail> {
+    let triangulation = triangulated(points, alloc)?;
+    let [_, _, wanted] = counts(&triangulation);
+    holds(wanted > 1000, "there are many triangles")?;
+    same(triangulate(alloc, points)?.len(), wanted, "triangles")
+}
+
+#[test]
+fn triangles_of_a_thousand_points_are_listed(rt: HostRuntime) -> Result<(), Fail> {
+    let points = thousand_points(rt.alloc())?;
+    check_triangles(&points, rt.alloc())
 }

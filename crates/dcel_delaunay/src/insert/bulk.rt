@@ -10,7 +10,7 @@ use crate::insert::curve::insertion_order;
 use crate::triangulation::Triangulation;
 use dcel_planar::{InsertionError, Point};
 use spade_dcel::handles::FixedVertexHandle;
-use std::alloc::Allocator;
+use std::alloc::{AllocError, Allocator};
 
 impl<A: Allocator + Clone> Triangulation<A> {
     /// Inserts points in an order of its own, in which walks are short.
@@ -50,6 +50,7 @@ impl<A: Allocator + Clone> Triangulation<A> {
         let order = insertion_order(alloc.clone()?, points)?;
         let mut vertices = vec![in alloc; FixedVertexHandle::new(0); points.len()]?;
         self.finish()?;
+        self.reserve(points.len())?;
         let mut done = 0;
         for number in &order {
             self.insert_numbered(points, *number, &mut vertices)?;
@@ -61,6 +62,20 @@ impl<A: Allocator + Clone> Triangulation<A> {
 }
 
 impl<A: Allocator> Triangulation<A> {
+    /// Reserves memory for so many more points, with three edges and two faces for each. Where there
+    /// are no numbers for so many it reserves none, since equal points need none.
+    fn reserve(&mut self, count: usize) -> Result<(), AllocError>
+        ensures mesh { mesh_in self.new ≡ mesh_in self.old }
+        ensures whole { IsWholeMesh self.old.planar → IsWholeMesh self.new.planar }
+    {
+        let edges = count.saturating_mul(3);
+        let faces = count.saturating_mul(2);
+        if self.planar.dcel.has_room(count, edges, faces) {
+            self.planar.dcel.reserve_capacity(count, edges, faces)?;
+        }
+        Ok(())
+    }
+
     /// Inserts the point with this number, and notes its vertex in that place.
     fn insert_numbered(
         &mut self,
