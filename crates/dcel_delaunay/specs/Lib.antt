@@ -1,5 +1,6 @@
 pub mod Bulk
 pub mod Listing
+pub mod Lists
 pub mod Removing
 pub mod Triangles
 pub mod Triangulated
