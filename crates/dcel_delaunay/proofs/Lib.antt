@@ -1,8 +1,9 @@
 pub mod Bordered
+pub mod Copied
 pub mod CutOff
 pub mod Distances
 pub mod Emptied
-pub mod Gathering
+pub mod Gathered
 pub mod Items
 pub mod LineRemoved
 pub mod Listed

@@ -1,5 +1,5 @@
 -- Points that are inserted one after another, in any order.
-use Rattle.std.proofs.Common.{◌≡◌, ◌≢◌, ◌⊎◌, ◌∙◌, ◌+◌, ◌<◌, ◌≤◌, inl, inr, ℕ, zero, suc, List, [], ◌∷◌, ◌++◌, length, refl, sym, ap, subst, arith, slice_get, slice_index_or, slice_set, take, None, Some}
+use Rattle.std.proofs.Common.{◌≡◌, ◌≢◌, ◌⊎◌, ◌∙◌, ◌+◌, ◌<◌, ◌≤◌, inl, inr, ℕ, zero, suc, List, [], ◌∷◌, ◌++◌, length, refl, sym, ap, subst, arith, slice_get, slice_index_or, slice_set, take, Option, None, Some, IfNone, IfSome}
 use Rattle.std.proofs.lemmas.Bool.{cases_eq}
 use Rattle.std.proofs.lemmas.List.{append-nil, append_assoc, length-append, length-set}
 use Rattle.std.proofs.lemmas.List.Elements.{All-append, All-cons, All-nil}
@@ -7,8 +7,11 @@ use Rattle.std.proofs.lemmas.Option.{get_or_from_slice_get, none-some, same_Some
 use Rattle.std.specs.List.{Contains}
 use Rattle.dcel_maps.proofs.words.Counts.{count-append, count-other}
 use Rattle.dcel_maps.specs.Shapes.{Mesh}
+use Rattle.dcel_plane.specs.Plane.{point_at}
+use Rattle.dcel_plane.specs.location.Nearest.{IsNearest}
 use Rattle.dcel_predicates.specs.declared.point.Point.{Point}
-use Rattle.dcel_delaunay.specs.Bulk.{AddsVertices, FailsToInsertAll, ListsEach, StandAt, StandSoFar, StandsToo}
+use Rattle.dcel_delaunay.specs.Bulk.{AddsVertices, AnswersEach, AnswersSoFar, AnswersToo, FailsToInsertAll, ListsEach, StandsToo}
+use Rattle.dcel_delaunay.specs.Triangulated.{IsNearestIn}
 use Rattle.dcel_planar.specs.Outcomes.{FailsToInsert, IsWholeMesh}
 use Rattle.dcel_planar.specs.Places.{HasPoint}
 use Rattle.dcel_planar.specs.declared.errors.InsertionError.{InsertionError}
@@ -36,13 +39,62 @@ take_more (suc k) (x ∷ r) below = ap (λ s. x ∷ s) (take_more k r (omega (ar
 pub take_next : (k : ℕ) (xs : List ℕ) → k < length xs → take (k + 1) xs ≡ take k xs ++ slice_index_or xs k 0 ∷ []
 take_next k xs below = let more : k + 1 ≡ suc k = omega arith in ap (λ n. take n xs) more ∙ take_more k xs below
 
+-- an answer is noted: what was answered before stays so, and this one is right
+pub answers_too : {T : Type 0} (old new : Point → T → Type 0) (points : List Point) (before : List T) (k : ℕ) (a : T) (p : Point)
+    → slice_get points k ≡ Some p → ((q : Point) (b : T) → old q b → new q b) → new p a → AnswersToo old new points k before (slice_set before k a)
+answers_too old new points before k a p is stays right taken so_far = record {
+  length_is = length-set before k a ∙ so_far.length_is;
+  each = λ i q b among at put_at. elim (cases_eq i k) [
+    | inl same ↦
+        let point : p ≡ q = same_Some p q (sym is ∙ ap (slice_get points) (sym same) ∙ at) in
+        let answer : a ≡ b = same_Some a b (put before k a b (ap (slice_get (slice_set before k a)) (sym same) ∙ put_at)) in
+        subst (new q) answer (subst (λ r. new r a) point right)
+    | inr other ↦
+        stays q b (so_far.each i q b (omega (arith, among, count-append i taken (k ∷ []), count-other i k [] other)) at
+        (replaced before k i a b put_at other))
+  ];
+}
+
+-- there is no such number
+pub answers_none_too : {T : Type 0} (right : Point → T → Type 0) (points : List Point) (before : List T) (k : ℕ) → slice_get points k ≡ None
+    → AnswersToo right right points k before before
+answers_none_too right points before k none taken so_far = record {
+  length_is = so_far.length_is;
+  each = λ i p a among at answer. elim (cases_eq i k) [
+    | inl same ↦ absurd (none-some p (sym none ∙ ap (slice_get points) (sym same) ∙ at))
+    | inr other ↦ so_far.each i p a (omega (arith, among, count-append i taken (k ∷ []), count-other i k [] other)) at answer
+  ];
+}
+
+-- nothing is answered yet
+pub answers_first : {T : Type 0} (right : Point → T → Type 0) (points : List Point) (answers : List T) → length answers ≡ length points
+    → AnswersSoFar right points [] answers
+answers_first right points answers long = record { length_is = long; each = λ i p a among at answer. absurd (omega (arith, among)) }
+
+-- one more number is taken, and all are
+pub answers_more : {T : Type 0} (old new : Point → T → Type 0) (points : List Point) (order : List ℕ) (before after : List T) (k : ℕ) → k < length order
+    → AnswersSoFar old points (take k order) before → AnswersToo old new points (slice_index_or order k 0) before after
+    → AnswersSoFar new points (take (k + 1) order) after
+answers_more old new points order before after k below so_far too =
+    subst (λ t. AnswersSoFar new points t after) (sym (take_next k order below)) (too (take k order) so_far)
+
+pub answers_all : {T : Type 0} (right : Point → T → Type 0) (points : List Point) (order : List ℕ) (answers : List T) → ListsEach (length points) order
+    → AnswersSoFar right points order answers → AnswersEach right points answers
+answers_all right points order answers each so_far = record {
+  length_is = so_far.length_is;
+  each = λ i p a at answer. so_far.each i p a (omega (arith, each.once i (slice_get_within points i p at))) at answer;
+}
+
+-- a nearest vertex, if there is one
+pub nearest_in : {DE UE F : Type 0} (m : Mesh Point DE UE F) (p : Point) (r : Option ℕ) → IfSome r (λ v. v < m.shape.vertices) → IfSome r (IsNearest (point_at m) m.shape p)
+    → IfNone r (m.shape.vertices ≡ 0) → IsNearestIn m p r
+nearest_in m p None below nearest none = none
+nearest_in m p (Some v) below nearest none = (below, nearest)
+
 module _ {DE UE F : Type 0} where
   has_stays : (old new : Mesh Point DE UE F) (given : List Point) (most : ℕ) (p : Point) (v : ℕ) → AddsVertices old new given most → HasPoint old p v → HasPoint new p v
   has_stays old new given most p v adds has =
       ap (λ (ps : List Point). slice_get ps v) adds.points ∙ get_kept old.vertex_data adds.added v p has
-
-  has_same : (m : Mesh Point DE UE F) (p q : Point) (v w : ℕ) → Some p ≡ Some q → Some v ≡ Some w → HasPoint m p v → HasPoint m q w
-  has_same m p q v w point vertex has = subst (λ (u : ℕ). HasPoint m q u) (same_Some v w vertex) (has ∙ point)
 
   -- nothing is added, one vertex is, or two times some
   pub adds_none : (old new : Mesh Point DE UE F) (given : List Point) (most : ℕ) → new.vertex_data ≡ old.vertex_data → AddsVertices old new given most
@@ -83,42 +135,8 @@ module _ {DE UE F : Type 0} where
   -- the vertex of one more point is noted
   pub stands_too : (old new : Mesh Point DE UE F) (points : List Point) (before : List ℕ) (k v : ℕ) (p : Point) (most : ℕ)
       → slice_get points k ≡ Some p → AddsVertices old new points most → HasPoint new p v → StandsToo old new points k before (slice_set before k v)
-  stands_too old new points before k v p most is adds has taken stand = record {
-    length_is = length-set before k v ∙ stand.length_is;
-    each = λ i q w among at put_at. elim (cases_eq i k) [
-      | inl same ↦
-          let own : Some p ≡ Some q = sym is ∙ ap (slice_get points) (sym same) ∙ at in
-          let vertex : Some v ≡ Some w = put before k v w (ap (slice_get (slice_set before k v)) (sym same) ∙ put_at) in
-          has_same new p q v w own vertex has
-      | inr other ↦
-          has_stays old new points most q w adds (stand.each i q w (omega (arith, among, count-append i taken (k ∷ []), count-other i k [] other)) at
-          (replaced before k i v w put_at other))
-    ];
-  }
-
-  -- there is no such number
-  pub stands_none_too : (m : Mesh Point DE UE F) (points : List Point) (before : List ℕ) (k : ℕ) → slice_get points k ≡ None → StandsToo m m points k before before
-  stands_none_too m points before k none taken stand = record {
-    length_is = stand.length_is;
-    each = λ i p v among at vertex. elim (cases_eq i k) [
-      | inl same ↦ absurd (none-some p (sym none ∙ ap (slice_get points) (sym same) ∙ at))
-      | inr other ↦ stand.each i p v (omega (arith, among, count-append i taken (k ∷ []), count-other i k [] other)) at vertex
-    ];
-  }
-
-  -- and all the others
-  pub stand_more : (old new : Mesh Point DE UE F) (points : List Point) (order before after : List ℕ) (k : ℕ) → k < length order
-      → StandSoFar old points (take k order) before → StandsToo old new points (slice_index_or order k 0) before after
-      → StandSoFar new points (take (k + 1) order) after
-  stand_more old new points order before after k below stand too =
-      subst (λ t. StandSoFar new points t after) (sym (take_next k order below)) (too (take k order) stand)
-
-  pub stand_all : (m : Mesh Point DE UE F) (points : List Point) (order vertices : List ℕ) → ListsEach (length points) order
-      → StandSoFar m points order vertices → StandAt m points vertices
-  stand_all m points order vertices each stand = record {
-    length_is = stand.length_is;
-    each = λ i p v at vertex. stand.each i p v (omega (arith, each.once i (slice_get_within points i p at))) at vertex;
-  }
+  stands_too old new points before k v p most is adds has =
+      answers_too (HasPoint old) (HasPoint new) points before k v p is (λ q w. has_stays old new points most q w adds) has
 
 module _ {UE A : Type 0} (old new : PlanarMesh UE A) (p : Point) where
   -- an insertion that fails adds its point, or nothing

@@ -1,4 +1,5 @@
 pub mod Corners
+pub mod Elements
 pub mod Faces
 pub mod Known
 pub mod Numbers

@@ -21,20 +21,33 @@ unfoldable pub counted : (first many : ℕ) → List ℕ
 counted first zero = []
 counted first (suc many) = first ∷ counted (first + 1) many
 
-module _ {DE UE F : Type 0} where
-  -- each point stands at the vertex in its place of the other list
-  pub record StandAt (m : Mesh Point DE UE F) (points : List Point) (vertices : List ℕ) : Type 0 where
-    pub length_is : length vertices ≡ length points
-    pub each : (i : ℕ) (p : Point) (v : ℕ) → slice_get points i ≡ Some p → slice_get vertices i ≡ Some v → HasPoint m p v
+module _ {T : Type 0} (Answers : Point → T → Type 0) where
+  -- each point has its answer in the same place of the other list
+  pub record AnswersEach (points : List Point) (answers : List T) : Type 0 where
+    pub length_is : length answers ≡ length points
+    pub each : (i : ℕ) (p : Point) (a : T) → slice_get points i ≡ Some p → slice_get answers i ≡ Some a → Answers p a
 
   -- so do the points whose numbers were taken
-  pub record StandSoFar (m : Mesh Point DE UE F) (points : List Point) (taken vertices : List ℕ) : Type 0 where
-    pub length_is : length vertices ≡ length points
-    pub each : (i : ℕ) (p : Point) (v : ℕ) → 0 < count_of i taken → slice_get points i ≡ Some p → slice_get vertices i ≡ Some v → HasPoint m p v
+  pub record AnswersSoFar (points : List Point) (taken : List ℕ) (answers : List T) : Type 0 where
+    pub length_is : length answers ≡ length points
+    pub each : (i : ℕ) (p : Point) (a : T) → 0 < count_of i taken → slice_get points i ≡ Some p → slice_get answers i ≡ Some a → Answers p a
 
-  -- one more point does, that of the number n
+-- one more point does, that of the number n
+abbrev pub AnswersToo : {T : Type 0} (old new : Point → T → Type 0) → List Point → ℕ → List T → List T → Type 0
+AnswersToo old new points n before after = (taken : List ℕ) → AnswersSoFar old points taken before → AnswersSoFar new points (taken ++ n ∷ []) after
+
+module _ {DE UE F : Type 0} where
+  -- each point stands at the vertex in its place of the other list
+  abbrev pub StandAt : Mesh Point DE UE F → List Point → List ℕ → Type 0
+  StandAt m = AnswersEach (HasPoint m)
+
+  -- so do the points whose numbers were taken
+  abbrev pub StandSoFar : Mesh Point DE UE F → List Point → List ℕ → List ℕ → Type 0
+  StandSoFar m = AnswersSoFar (HasPoint m)
+
+  -- one more point does
   abbrev pub StandsToo : Mesh Point DE UE F → Mesh Point DE UE F → List Point → ℕ → List ℕ → List ℕ → Type 0
-  StandsToo old new points n before after = (taken : List ℕ) → StandSoFar old points taken before → StandSoFar new points (taken ++ n ∷ []) after
+  StandsToo old new = AnswersToo (HasPoint old) (HasPoint new)
 
   -- the vertices of before stay, and those that are new come after them: at most so many, each at one of these points
   pub record AddsVertices (old new : Mesh Point DE UE F) (given : List Point) (most : ℕ) : Type 0 where

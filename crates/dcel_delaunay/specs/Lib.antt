@@ -1,6 +1,7 @@
 pub mod Bulk
 pub mod Keys
 pub mod Listing
+pub mod Lists
 pub mod Removing
 pub mod Triangles
 pub mod Triangulated

@@ -9,6 +9,18 @@ abbrev pub NamesLeast : (vertices : List ℕ) (from : ℕ) (numbers : List ℕ) 
 NamesLeast vertices from numbers = (i v : ℕ) → from ≤ i → slice_get vertices i ≡ Some v → v < length numbers
     → (j : ℕ) × (slice_get numbers v ≡ Some j) × (j ≤ i) × (slice_get vertices j ≡ Some v)
 
+-- the numbers of t are below `count`
+pub record IsBelow (count : ℕ) (t : Triangle) : Type 0 where
+  pub first : t.first < count
+  pub second : t.second < count
+  pub third : t.third < count
+
+-- the vertices of t have the numbers of u
+pub record AreNumbers (numbers : List ℕ) (t u : Triangle) : Type 0 where
+  pub first : slice_get numbers t.first ≡ Some u.first
+  pub second : slice_get numbers t.second ≡ Some u.second
+  pub third : slice_get numbers t.third ≡ Some u.third
+
 -- the vertices at the corners of the inner face f have these numbers
 pub record HasNumbers (s : Shape) (numbers : List ℕ) (f : ℕ) (t : Triangle) : Type 0 where
   pub a : ℕ

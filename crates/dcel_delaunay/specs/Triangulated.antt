@@ -1,5 +1,5 @@
 -- What contracts see of a triangulation.
-use Rattle.std.specs.Prelude.{◌≡◌, ◌≢◌, ◌<◌, ℕ, pos, ◌≤ℤ◌}
+use Rattle.std.specs.Prelude.{◌≡◌, ◌≢◌, ◌<◌, ℕ, pos, ◌≤ℤ◌, Option, None, Some}
 use Rattle.dcel_maps.specs.Shapes.{IsLive, Mesh, end_of, face_count, face_of, origin_of}
 use Rattle.dcel_predicates.specs.declared.point.Point.{Point}
 use Rattle.dcel_predicates.specs.Determinants.{incircle_of}
@@ -7,6 +7,7 @@ use Rattle.dcel_plane.specs.Plane.{point_at}
 use Rattle.dcel_plane.specs.covering.Covering.{Supports}
 use Rattle.dcel_plane.specs.covering.Delaunay.{HasCornerVertices, LiesInSomeTriangle, LiesInHull}
 use Rattle.dcel_plane.specs.covering.Places.{AreDisjoint, Place}
+use Rattle.dcel_plane.specs.location.Nearest.{IsNearest}
 use Rattle.dcel_delaunay.specs.declared.triangulation.Triangulation.{Triangulation}
 
 module _ {DE UE F : Type 0} where
@@ -34,6 +35,11 @@ module _ {DE UE F : Type 0} where
         → Supports (point_at m (origin_of m.shape h)) (point_at m (end_of m.shape h)) (point_at m v)
     pub once : 1 < face_count m.shape → (h k : ℕ) → IsLive m.shape h → IsLive m.shape k → face_of m.shape h ≡ 0 → face_of m.shape k ≡ 0
         → origin_of m.shape h ≡ origin_of m.shape k → h ≡ k
+
+  -- no vertex is nearer to the point, and there is none only if there is no vertex
+  abbrev pub IsNearestIn : Mesh Point DE UE F → Point → Option ℕ → Type 0
+  IsNearestIn m p None = m.shape.vertices ≡ 0
+  IsNearestIn m p (Some v) = (v < m.shape.vertices) × IsNearest (point_at m) m.shape p v
 
 module _ {A : Type 0} where
   -- its mesh

@@ -9,7 +9,7 @@ ghost use Rattle.dcel_maps.specs.Triangulations.{AllTriangles};
 ghost use Rattle.dcel_plane.specs.Plane.{IsLocallyDelaunay, point_at};
 ghost use Rattle.dcel_plane.specs.location.Nearest.{IsNearest};
 ghost use Rattle.dcel_planar.specs.Growing.{Keeps};
-ghost use Rattle.dcel_planar.specs.Leaving.{IsOutlined};
+ghost use Rattle.dcel_planar.specs.Leaving.{IsOutlined, IsSame};
 ghost use Rattle.dcel_planar.specs.Outcomes.{FailsToInsert, HasInserted, IsWholeMesh};
 ghost use Rattle.dcel_planar.specs.Places.{IsPlace};
 ghost use Rattle.dcel_delaunay.specs.Removing.{FailsToRemove, Loses};
@@ -34,6 +34,22 @@ impl<A: Allocator + Clone> Triangulation<A> {
         Ok(Triangulation {
             planar: PlanarMesh::new(alloc)?,
             last: FixedDirectedEdgeHandle::new(0),
+        })
+    }
+
+    /// Clones the triangulation, in memory of `alloc`.
+    ///
+    /// The clone has the same mesh, and is whole if this one is. If memory runs out it returns
+    /// `AllocError`.
+    pub fn try_clone(&self, alloc: A) -> Result<Self, AllocError>
+        ensures { IfOk result (λ clone. IsSame self.now.planar clone.planar) }
+    {
+        let due = Vec::from_slice(alloc.clone()?, &self.planar.due)?;
+        let dcel = self.planar.dcel.try_clone(alloc)?;
+        let planar = PlanarMesh { dcel, due };
+        Ok(Triangulation {
+            planar,
+            last: self.last,
         })
     }
 }
@@ -93,6 +109,20 @@ impl<A: Allocator> Triangulation<A> {
         self.planar.locate(self.last, point)
     }
 
+    /// Returns where a point is, as [`locate`](Self::locate) does, by a walk that begins at a vertex.
+    ///
+    /// The nearer the vertex is to the point, the shorter is the walk. Any number is taken: if no
+    /// vertex has it, the walk begins where that of [`locate`](Self::locate) does.
+    ///
+    /// Asks for a whole triangulation ([`is_whole`](Self::is_whole)): where memory ran out,
+    /// [`finish`](Self::finish) makes it so.
+    pub fn locate_with_hint(&self, point: Point, hint: FixedVertexHandle) -> PositionInTriangulation
+        requires whole { IsWholeMesh self.now.planar }
+        ensures { IsPlace (mesh_in self.now) point result }
+    {
+        self.planar.locate(self.edge_at(hint), point)
+    }
+
     /// Returns a vertex that no other one is nearer to a point than, or `None` if there is no vertex.
     ///
     /// Asks for a whole triangulation ([`is_whole`](Self::is_whole)): where memory ran out,
@@ -140,6 +170,26 @@ impl<A: Allocator> Triangulation<A> {
         Ok(vertex)
     }
 
+    /// Inserts a point, as [`insert`](Self::insert) does, by a walk that begins at a vertex.
+    ///
+    /// The nearer the vertex is to the point, the shorter is the walk. Any number is taken: if no
+    /// vertex has it, the walk begins where that of [`insert`](Self::insert) does. Results and errors
+    /// are those of [`insert`](Self::insert).
+    pub fn insert_with_hint(
+        &mut self,
+        point: Point,
+        hint: FixedVertexHandle,
+    ) -> Result<FixedVertexHandle, InsertionError>
+        ensures inserts { IfOk result (HasInserted self.old.planar self.new.planar point) }
+        ensures whole { OnOk result (IsWholeMesh self.new.planar) }
+        ensures refuses { IfErr result (FailsToInsert self.old.planar self.new.planar point) }
+        ensures same { IsWholeMesh self.old.planar → (mesh_in self.new).vertex_data ≡ (mesh_in self.old).vertex_data → mesh_in self.new ≡ mesh_in self.old }
+        ensures edges { (mesh_in self.old).shape.edges ≤ (mesh_in self.new).shape.edges }
+    {
+        self.begin_at(hint);
+        self.insert(point)
+    }
+
     /// Does what an insertion or a removal left undone for want of memory. A whole triangulation
     /// ([`is_whole`](Self::is_whole)) stays as it is.
     ///
@@ -166,14 +216,21 @@ impl<A: Allocator> Triangulation<A> {
         Ok(())
     }
 
-    /// Has the next walk begin at a vertex.
+    /// Has the next walk begin at a vertex, if there is such a one.
     fn begin_at(&mut self, vertex: FixedVertexHandle)
         ensures { self.new.planar ≡ self.old.planar }
     {
-        if let Some(vertex) = self.planar.dcel.get_vertex(vertex) {
-            if let Some(edge) = vertex.out_edge() {
-                self.last = edge.fix();
-            }
+        self.last = self.edge_at(vertex);
+    }
+
+    /// Returns an out edge of a vertex, or where the next walk begins if it has none.
+    pub(crate) fn edge_at(&self, vertex: FixedVertexHandle) -> FixedDirectedEdgeHandle {
+        let Some(vertex) = self.planar.dcel.get_vertex(vertex) else {
+            return self.last;
+        };
+        match vertex.out_edge() {
+            Some(edge) => edge.fix(),
+            None => self.last,
         }
     }
 }

@@ -3,4 +3,5 @@
 mod bulk;
 mod curve;
 
+pub(crate) use bulk::{note, point_of};
 pub use curve::insertion_order;

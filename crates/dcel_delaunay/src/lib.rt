@@ -5,13 +5,14 @@
 //! ([`insert_all`](Triangulation::insert_all)). In the mesh ([`dcel`](Triangulation::dcel)) the
 //! vertices are the points, the inner faces the triangles, and the outer face goes around the
 //! convex hull. No point is inside the circle of a triangle, the triangles cover the hull and don't
-//! overlap, and equal points are one vertex. [`triangulate`] returns the triangles as numbers of the
-//! points, for callers that want no mesh.
+//! overlap, and equal points are one vertex. [`lists`] has the mesh by number, and [`triangulate`]
+//! returns the triangles as numbers of the points, for callers that want no mesh.
 #![tactic(auto)]
 
 mod api;
 mod errors;
 mod insert;
+pub mod lists;
 mod locate;
 mod remove;
 mod removed;

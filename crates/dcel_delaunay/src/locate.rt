@@ -1,5 +1,6 @@
-//! The vertex nearest to a point.
+//! The vertex nearest to a point, and answers for many points.
 
+mod all;
 mod walk;
 
 pub(crate) use walk::nearest;

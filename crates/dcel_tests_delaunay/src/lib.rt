@@ -7,6 +7,8 @@ mod circles;
 #[cfg(test)]
 mod decimals;
 #[cfg(test)]
+mod lists;
+#[cfg(test)]
 mod memory;
 #[cfg(test)]
 mod nearest;

@@ -1,18 +1,19 @@
-//! Delaunay triangulations, and legalization by circles, with each request for memory refused in
-//! turn. What a refusal leaves undone is done afterwards.
+//! Delaunay triangulations, their lists and clones, and legalization by circles, with each request for
+//! memory refused in turn. What a refusal leaves undone is done afterwards.
 
 use crate::circles::mesh_of;
 use crate::triangulations::counts;
 use dcel_bench::checks::{holds, same};
-use dcel_bench::meshes::handles;
+use dcel_bench::meshes::{handles, vertex};
 use dcel_bench::refusing::{Memory, Refusals, Refusing};
 use dcel_bench::require;
 use dcel_bench_points::{Place, numbered, points_at};
+use dcel_delaunay::lists::{edges, hull, neighbors, points, triangles};
 use dcel_delaunay::{InsertionError, Point, Triangulation, triangulate};
 use dcel_planar::{is_delaunay, is_plane, legalize_by_circles};
 use spade_dcel::dcel::Dcel;
 use spade_dcel::handles::FixedUndirectedEdgeHandle;
-use std::alloc::Global;
+use std::alloc::{AllocError, Global};
 use std::test::Fail;
 
 /// No call here makes so many requests for memory.
@@ -67,16 +68,31 @@ const ROWS: [Row; 3] = [
 #[derive(Clone, Copy, Debug)]
 enum Way {
     OneByOne,
+    WithHints,
     AllAtOnce,
 }
 
-const WAYS: [Way; 2] = [Way::OneByOne, Way::AllAtOnce];
+const WAYS: [Way; 3] = [Way::OneByOne, Way::WithHints, Way::AllAtOnce];
 
 /// Inserts the points one by one. Returns why one wasn't, if there is one.
 fn insert_each(triangulation: &mut Watched, points: &[Point]) -> Option<InsertionError> {
     for point in points {
         if let Err(error) = triangulation.insert(*point) {
             return Some(error);
+        }
+    }
+    None
+}
+
+/// Inserts the points one by one, each by a walk from the one before it. Returns why one wasn't, if
+/// there is one.
+fn insert_with_hints(triangulation: &mut Watched, points: &[Point]) -> Option<InsertionError> {
+    // No vertex has this number.
+    let mut hint = vertex(100);
+    for point in points {
+        match triangulation.insert_with_hint(*point, hint) {
+            Ok(inserted) => hint = inserted,
+            Err(error) => return Some(error),
         }
     }
     None
@@ -91,6 +107,7 @@ fn insert<'a>(
 ) -> Option<InsertionError> {
     match way {
         Way::OneByOne => insert_each(triangulation, points),
+        Way::WithHints => insert_with_hints(triangulation, points),
         Way::AllAtOnce => triangulation.insert_all(memory, points).err(),
     }
 }
@@ -283,6 +300,123 @@ fn lists_of_triangles_are_refused_memory(rt: HostRuntime) -> Result<(), Fail> {
         refuse_triangles(*row, &memory, rt.alloc())?;
     }
     Ok(())
+}
+
+/// What is made of a triangulation, in memory that may be refused.
+#[derive(Clone, Copy, Debug)]
+enum Made {
+    Points,
+    Triangles,
+    Neighbors,
+    Edges,
+    Hull,
+    Positions,
+    Nearest,
+    Clone,
+}
+
+const ALL_MADE: [Made; 8] = [
+    Made::Points,
+    Made::Triangles,
+    Made::Neighbors,
+    Made::Edges,
+    Made::Hull,
+    Made::Positions,
+    Made::Nearest,
+    Made::Clone,
+];
+
+/// Makes it, and returns how many items it has, and a clone vertices. Where all is located that is
+/// the triangulation's points.
+fn count_made<'a>(
+    triangulation: &Watched<'a>,
+    made: Made,
+    asked: &[Point],
+    memory: Memory<'a>,
+) -> Result<usize, AllocError> {
+    let mesh = triangulation.dcel();
+    if !triangulation.is_whole() {
+        return Err(AllocError);
+    }
+    Ok(match made {
+        Made::Points => points(memory, mesh)?.len(),
+        Made::Triangles => triangles(memory, mesh)?.len(),
+        Made::Neighbors => neighbors(memory, mesh)?.len(),
+        Made::Edges => edges(memory, mesh)?.len(),
+        Made::Hull => hull(memory, mesh)?.len(),
+        Made::Positions => triangulation.locate_all(memory, asked)?.len(),
+        Made::Nearest => triangulation.nearest_all(memory, asked)?.len(),
+        Made::Clone => triangulation.try_clone(memory)?.dcel().num_vertices(),
+    })
+}
+
+/// Makes it with the request of this number refused. Returns whether it came.
+fn make_refused<'a>(
+    triangulation: &Watched<'a>,
+    made: Made,
+    asked: &[Point],
+    memory: Memory<'a>,
+    number: u64,
+) -> Result<bool, Fail> {
+    memory.refuse(Refusals::One(number));
+    let is_made = count_made(triangulation, made, asked, memory).is_ok();
+    let came = memory.requests() > number;
+    memory.refuse(Refusals::None);
+    same(
+        is_made,
+        !came,
+        format_args!("{made:?}: request {number} refused"),
+    )?;
+    Ok(came)
+}
+
+/// Refuses each request for it in turn. Returns how many items it has then.
+fn make_refused_each<'a>(
+    triangulation: &Watched<'a>,
+    made: Made,
+    asked: &[Point],
+    memory: Memory<'a>,
+) -> Result<usize, Fail> {
+    for number in 0..MANY {
+        if !make_refused(triangulation, made, asked, memory, number)? {
+            holds(number > 0, "requests were refused")?;
+            return Ok(count_made(triangulation, made, asked, memory)?);
+        }
+    }
+    Err(Fail::new("more requests than MANY"))
+}
+
+/// Refuses each request for all that is made of the square's points.
+fn refuse_made<'a>(
+    triangulation: &Watched<'a>,
+    asked: &[Point],
+    memory: Memory<'a>,
+) -> Result<(), Fail> {
+    let [vertices, edges, triangles] = counts(triangulation);
+    for made in &ALL_MADE {
+        let wanted = match *made {
+            Made::Triangles => triangles,
+            Made::Neighbors => triangles,
+            Made::Edges => edges,
+            Made::Hull => 6,
+            _ => vertices,
+        };
+        let found = make_refused_each(triangulation, *made, asked, memory)?;
+        same(found, wanted, format_args!("{made:?}: items"))?;
+    }
+    Ok(())
+}
+
+fn check_made(memory: Memory, alloc: Global) -> Result<(), Fail> {
+    let asked = points_at(&SQUARE, alloc)?;
+    let triangulation = numbered(&SQUARE, memory)?;
+    refuse_made(&triangulation, &asked, memory)
+}
+
+#[test]
+fn lists_and_clones_are_refused_memory(rt: HostRuntime) -> Result<(), Fail> {
+    let memory = Refusing::new(rt.alloc());
+    check_made(&memory, rt.alloc())
 }
 
 /// Points on a parabola, the last one first.

@@ -79,18 +79,35 @@ fn nearest_to(
     Ok(triangulation.nearest_vertex(point))
 }
 
-fn check_asked(triangulation: &Triangulation, asked: &[Asked]) -> Result<(), Fail> {
-    for (place, number) in asked {
-        let found = nearest_to(triangulation, *place)?;
+/// Returns what is nearest to all the places that are asked for.
+fn nearest_to_all(
+    triangulation: &Triangulation,
+    asked: &[Asked],
+    alloc: Global,
+) -> Result<Vec<Option<FixedVertexHandle>>, Fail> {
+    let mut points = Vec::new(alloc);
+    for ((x, y), _) in asked {
+        points.push(point(*x, *y)?)?;
+    }
+    require!(triangulation.is_whole());
+    Ok(triangulation.nearest_all(alloc, &points)?)
+}
+
+fn check_asked(triangulation: &Triangulation, asked: &[Asked], alloc: Global) -> Result<(), Fail> {
+    let all = nearest_to_all(triangulation, asked, alloc)?;
+    same(all.len(), asked.len(), "nearest vertices")?;
+    for ((place, number), found) in asked.iter().zip(&all) {
         let wanted = number.map(vertex);
-        same(found, wanted, format_args!("what is nearest to {place:?}"))?;
+        let alone = nearest_to(triangulation, *place)?;
+        same(alone, wanted, format_args!("what is nearest to {place:?}"))?;
+        same(*found, wanted, format_args!("{place:?} among all"))?;
     }
     Ok(())
 }
 
 fn check_case((vertices, asked): Case, alloc: Global) -> Result<(), Fail> {
     let triangulation = numbered(vertices, alloc)?;
-    check_asked(&triangulation, asked)
+    check_asked(&triangulation, asked, alloc)
 }
 
 #[test]

@@ -2,9 +2,11 @@
 
 use crate::triangulations::triangulated_at;
 use dcel_bench::checks::same;
+use dcel_bench::meshes::vertex;
 use dcel_bench::require;
 use dcel_bench_points::Place;
-use dcel_delaunay::{PositionInTriangulation, Triangulation, point};
+use dcel_delaunay::{Point, PositionInTriangulation, Triangulation, point};
+use spade_dcel::handles::FixedVertexHandle;
 use std::alloc::Global;
 use std::test::Fail;
 
@@ -82,30 +84,76 @@ const CASES: [Case; 6] = [
     ),
 ];
 
-fn kind_at(triangulation: &Triangulation, (x, y): Place) -> Result<&'static str, Fail> {
-    let point = point(x, y)?;
-    require!(triangulation.is_whole());
-    Ok(match triangulation.locate(point) {
+/// Returns what a position is.
+fn kind(position: PositionInTriangulation) -> &'static str {
+    match position {
         PositionInTriangulation::OnFace(_) => "face",
         PositionInTriangulation::OnEdge(_) => "edge",
         PositionInTriangulation::OnVertex(_) => "vertex",
         PositionInTriangulation::OutsideOfConvexHull(_) => "outside",
         PositionInTriangulation::BeyondLine(_) => "beyond",
         PositionInTriangulation::NoTriangulation => "nothing",
-    })
+    }
 }
 
-fn check_located(triangulation: &Triangulation, located: &[Located]) -> Result<(), Fail> {
-    for (place, wanted) in located {
-        let found = kind_at(triangulation, *place)?;
-        same(found, *wanted, format_args!("what lies at {place:?}"))?;
+fn kind_at(triangulation: &Triangulation, point: Point) -> Result<&'static str, Fail> {
+    require!(triangulation.is_whole());
+    Ok(kind(triangulation.locate(point)))
+}
+
+/// Returns what a walk from a vertex finds.
+fn kind_near(
+    triangulation: &Triangulation,
+    point: Point,
+    hint: FixedVertexHandle,
+) -> Result<&'static str, Fail> {
+    require!(triangulation.is_whole());
+    Ok(kind(triangulation.locate_with_hint(point, hint)))
+}
+
+/// Locates a point also from each vertex, and from a number that none has.
+fn check_place(triangulation: &Triangulation, (place, wanted): Located) -> Result<(), Fail> {
+    let point = point(place.0, place.1)?;
+    let found = kind_at(triangulation, point)?;
+    same(found, wanted, format_args!("what lies at {place:?}"))?;
+    for hint in 0..10 {
+        let near = kind_near(triangulation, point, vertex(hint))?;
+        same(near, wanted, format_args!("at {place:?} from {hint}"))?;
+    }
+    Ok(())
+}
+
+fn positions_of(
+    triangulation: &Triangulation,
+    located: &[Located],
+    alloc: Global,
+) -> Result<Vec<PositionInTriangulation>, Fail> {
+    let mut points = Vec::new(alloc);
+    for ((x, y), _) in located {
+        points.push(point(*x, *y)?)?;
+    }
+    require!(triangulation.is_whole());
+    Ok(triangulation.locate_all(alloc, &points)?)
+}
+
+fn check_located(
+    triangulation: &Triangulation,
+    located: &[Located],
+    alloc: Global,
+) -> Result<(), Fail> {
+    let positions = positions_of(triangulation, located, alloc)?;
+    same(positions.len(), located.len(), "positions")?;
+    for ((place, wanted), position) in located.iter().zip(&positions) {
+        check_place(triangulation, (*place, *wanted))?;
+        let found = kind(*position);
+        same(found, *wanted, format_args!("{place:?} among all"))?;
     }
     Ok(())
 }
 
 fn check_case((vertices, located): Case, alloc: Global) -> Result<(), Fail> {
     let triangulation = triangulated_at(vertices, alloc)?;
-    check_located(&triangulation, located)
+    check_located(&triangulation, located, alloc)
 }
 
 #[test]

@@ -21,7 +21,7 @@ SHOWN = {
     "dcel_example_delaunay::outline::show": ["ConstrainedTriangulation::from_triangulation", "ConstrainedTriangulation::regions"],
     "dcel_example_delaunay::outline::add_side": ["ConstrainedTriangulation::add_constraint"],
     "dcel_tests_delaunay::positions::kind_at": ["Triangulation::locate"],
-    "dcel_tests_parts::convenience::check_around": ["degree", "neighbors"],
+    "dcel_tests_parts::convenience::check_around": ["degree", "dcel_convenience::neighbors"],
     "dcel_tests_parts::convenience::check_removed": ["remove_vertex"],
     "dcel_tests_parts::exchange::check_faces": ["from_faces"],
 }

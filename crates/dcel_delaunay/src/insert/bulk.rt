@@ -99,21 +99,17 @@ impl<A: Allocator> Triangulation<A> {
 }
 
 // Returns the point with this number, if there is one.
-fn point_of(points: &[Point], number: usize) -> Option<Point>
+pub(crate) fn point_of(points: &[Point], number: usize) -> Option<Point>
     ensures { result ≡ slice_get points.now number }
 {
     points.get(number).copied()
 }
 
 // Writes into a list, if it has the place.
-fn note<A: Allocator>(
-    vertices: &mut Vec<FixedVertexHandle, A>,
-    number: usize,
-    vertex: FixedVertexHandle,
-)
-    ensures { vertices.new.items ≡ slice_set vertices.old.items number vertex }
+pub(crate) fn note<T: Copy, A: Allocator>(list: &mut Vec<T, A>, number: usize, answer: T)
+    ensures { list.new.items ≡ slice_set list.old.items number answer }
 {
-    if number < vertices.len() {
-        vertices[number] = vertex;
+    if number < list.len() {
+        list[number] = answer;
     }
 }

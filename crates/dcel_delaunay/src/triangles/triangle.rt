@@ -1,10 +1,13 @@
 //! A triangle.
 
-/// The numbers of three points, which go round counterclockwise.
+/// Three points that go round counterclockwise, by their numbers.
+///
+/// [`triangulate`](crate::triangulate) numbers the points of the list that it is given, and
+/// [`lists::triangles`](crate::lists::triangles) the vertices.
 #[repr(C)]
 #[derive(Clone, Copy, PartialEq, Eq, Debug)]
 pub struct Triangle {
-    /// The number of one of them, as in the list that was given.
+    /// The number of one of them.
     pub first: u32,
     /// The number of the next one, counterclockwise.
     pub second: u32,

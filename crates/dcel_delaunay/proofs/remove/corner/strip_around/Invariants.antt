@@ -1,9 +1,10 @@
-use Rattle.std.proofs.Common.{◌≡◌, ◌++◌, map}
+use Rattle.std.proofs.Common.{map}
 use Rattle.dcel_maps.specs.Shapes.{next_of}
 use Rattle.dcel_maps.specs.Walking.{ccw_of, walk_of}
-use Rattle.dcel_delaunay.proofs.Gathering.{after_each}
+use Rattle.dcel_delaunay.proofs.Gathered.{Gathers}
 use Rattle.dcel_delaunay.proofs.remove.corner.strip_around.Given as goal
 
 abbrev pub invariant-loop-edge : goal.invariant-loop-edge
 invariant-loop-edge g l =
-    let s = l.fn.outside.dcel.now.shape in l.strip.items ++ after_each l.edge-iterator.items ≡ map (next_of s) (walk_of s (ccw_of s) l.fn.outside.number)
+    let s = l.fn.outside.dcel.now.shape in
+    Gathers (λ m h. next_of m.shape h) (map (next_of s) (walk_of s (ccw_of s) l.fn.outside.number)) l.strip.items l.edge-iterator.items

@@ -1,15 +1,10 @@
-use Rattle.std.proofs.Common.{◌≡◌, ◌+◌, ◌-◌, ◌≤◌, length}
-use Rattle.dcel_maps.specs.Shapes.{face_count}
-use Rattle.dcel_delaunay.specs.Listing.{ListsFaces}
+use Rattle.std.proofs.Common.{◌-◌, length}
+use Rattle.dcel_delaunay.proofs.listing.Faces.{NumberedSoFar}
 use Rattle.dcel_delaunay.proofs.triangles.list.list_triangles.Given as goal
 
--- the faces before `face` are listed
-abbrev pub invariant-loop-face : goal.invariant-loop-face
-invariant-loop-face g l = record {
-  count : length l.list.items + 1 ≡ l.face;
-  up_to : l.face ≤ face_count l.mesh.shape;
-  each : ListsFaces l.mesh.shape l.numbers l.list.items;
-}
+-- the triangles before `place` have numbers of points
+abbrev pub invariant-loop-place : goal.invariant-loop-place
+invariant-loop-place g l = NumberedSoFar l.mesh.shape l.numbers l.place l.list.items
 
-abbrev pub decreases-loop-face : goal.decreases-loop-face
-decreases-loop-face g l = face_count l.mesh.shape - l.face
+abbrev pub decreases-loop-place : goal.decreases-loop-place
+decreases-loop-place g l = length l.list.items - l.place

@@ -1,9 +1,10 @@
 use Rattle.std.proofs.Common.{◌+◌, arith, length, of_calls, sym, subst, take_all, List, ℕ}
 use Rattle.std.proofs.lemmas.Result.{err_from_is_err_and}
-use Rattle.dcel_delaunay.proofs.Standing.{adds_both, adds_more, failed_later, stand_all, stand_more}
+use Rattle.dcel_delaunay.proofs.Standing.{adds_both, adds_more, answers_all, answers_more, failed_later}
 use Rattle.dcel_delaunay.proofs.Telling.{told_all, told_one}
 use Rattle.dcel_delaunay.specs.Bulk.{ListsEach, StandSoFar}
 use Rattle.dcel_delaunay.specs.Triangulated.{mesh_in}
+use Rattle.dcel_planar.specs.Places.{HasPoint}
 use Rattle.dcel_delaunay.proofs.triangulation.Triangulation.insert_all_with.Goals as goal
 
 pub loop-number-preserved : goal.loop-number-preserved
@@ -13,7 +14,7 @@ loop-number-preserved g c = record {
       c.loop-number.invariant.adds c.insert_numbered.ensures.adds;
   edges = omega (arith, c.loop-number.invariant.edges, c.insert_numbered.ensures.edges);
   within = omega (arith, c.loop-number-test.true);
-  stand = stand_more (mesh_in c.loop-number.self) (mesh_in c.insert_numbered.new.self) c.args.points.now c.deref-number-items.result.now
+  stand = answers_more (HasPoint (mesh_in c.loop-number.self)) (HasPoint (mesh_in c.insert_numbered.new.self)) c.args.points.now c.deref-number-items.result.now
       c.loop-number.vertices.items c.insert_numbered.new.vertices.items c.loop-number.number-index c.loop-number-test.true c.loop-number.invariant.stand
       c.in_ok-insert_numbered.ensures.stands;
   done = omega (arith, c.loop-number.invariant.done);
@@ -26,7 +27,7 @@ pub returns-clause-stand : goal.returns-clause-stand
 returns-clause-stand g c =
     let order = c.deref-number-items.result.now in
     let vertices = c.loop-number.vertices.items in
-    stand_all (mesh_in c.loop-number.self) c.args.points.now order vertices
+    answers_all (HasPoint (mesh_in c.loop-number.self)) c.args.points.now order vertices
     (subst (ListsEach (length c.args.points.now)) (sym c.deref-number-items.ensures.value) c.in_ok-order.ensures.each)
     (subst (λ (taken : List ℕ). StandSoFar (mesh_in c.loop-number.self) c.args.points.now taken vertices)
     (take_all c.loop-number.number-index order c.loop-number-test.false) c.loop-number.invariant.stand)

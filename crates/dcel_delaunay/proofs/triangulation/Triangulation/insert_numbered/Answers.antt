@@ -1,8 +1,9 @@
 use Rattle.std.proofs.Common.{sym, subst, ◌∙◌}
 use Rattle.std.proofs.lemmas.Result.{err_from_is_err_and}
-use Rattle.dcel_delaunay.proofs.Standing.{adds_one, failed_adds, failed_all, stands_too, stands_none_too}
+use Rattle.dcel_delaunay.proofs.Standing.{adds_one, answers_none_too, failed_adds, failed_all, stands_too}
 use Rattle.dcel_delaunay.specs.Bulk.{StandsToo}
 use Rattle.dcel_delaunay.specs.Triangulated.{mesh_in}
+use Rattle.dcel_planar.specs.Places.{HasPoint}
 use Rattle.dcel_delaunay.proofs.triangulation.Triangulation.insert_numbered.Goals as goal
 
 pub returns-in_ok-vertex-clause-stands : goal.returns-in_ok-vertex-clause-stands
@@ -22,7 +23,7 @@ returns-in_ok-vertex-clause-adds g c =
 
 pub returns-in_default-clause-stands : goal.returns-in_default-clause-stands
 returns-in_default-clause-stands g c =
-    stands_none_too (mesh_in c.args.self.now) c.args.points.now c.args.vertices.now.items c.args.number (sym c.point_of.ensures ∙ c.in_default.is)
+    answers_none_too (HasPoint (mesh_in c.args.self.now)) c.args.points.now c.args.vertices.now.items c.args.number (sym c.point_of.ensures ∙ c.in_default.is)
 
 pub returns-in_err-vertex-clause-adds : goal.returns-in_err-vertex-clause-adds
 returns-in_err-vertex-clause-adds g c =
