@@ -165,7 +165,9 @@ fn answer(a: Point, b: Point, c: Point, d: Point) -> u64 {
         CircleSide::On => 2,
     };
     let inside = if in_circle(a, b, c, d) { 1 } else { 0 };
-    ((line * 3 + circle) * 2 + inside) * 2 + answer_across(a, b, c, d)
+    ((line * 3 + circle) * 2 + inside)
+        .wrapping_mul(2)
+        .wrapping_add(answer_across(a, b, c, d))
 }
 
 /// Returns the answer, or 36 if a place is out of range.
