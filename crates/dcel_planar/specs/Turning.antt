@@ -1,9 +1,10 @@
 -- Edges turned, one after another, each with a corner inside the circle of the other side.
-use Rattle.std.specs.Prelude.{◌≡◌, ℕ, List, [], ◌∷◌}
+use Rattle.std.specs.Prelude.{◌≡◌, ℕ, ◌+◌, ◌*◌, ◌<◌, true, List, [], ◌∷◌}
 use Rattle.dcel_legalize.specs.Flipping.{edges_flipped}
 use Rattle.dcel_predicates.specs.declared.point.Point.{Point}
+use Rattle.dcel_maps.specs.Conditions.{IsTriangle}
 use Rattle.dcel_maps.specs.edits.Flip.{edge_flipped}
-use Rattle.dcel_maps.specs.Shapes.{Mesh, Shape, origin_of}
+use Rattle.dcel_maps.specs.Shapes.{Mesh, Shape, edge_is_live, face_of, origin_of}
 use Rattle.dcel_maps.specs.Words.{word_of}
 use Rattle.dcel_plane.specs.Plane.{IsCircled, IsInner, TurnsLeft, point_at}
 
@@ -11,6 +12,12 @@ use Rattle.dcel_plane.specs.Plane.{IsCircled, IsInner, TurnsLeft, point_at}
 abbrev pub GoesLeft : (ℕ → Point) → Shape → ℕ → Type 0
 GoesLeft at s f =
     (x y z : ℕ) → word_of s.words f ≡ x ∷ y ∷ z ∷ [] → TurnsLeft (at (origin_of s x)) (at (origin_of s y)) (at (origin_of s z))
+
+-- the edge u is live, and each inner face beside it is a triangle
+pub record IsBetweenTriangles (s : Shape) (u : ℕ) : Type 0 where
+  pub live : edge_is_live s u ≡ true
+  pub triangle : 0 < face_of s (2 * u) → IsTriangle s (face_of s (2 * u))
+  pub facing : 0 < face_of s (2 * u + 1) → IsTriangle s (face_of s (2 * u + 1))
 
 module _ {DE UE F : Type 0} where
   -- each of these edges, when its turn comes after those before it are flipped, lies between two inner triangles, and the corner of one inside the circle of the other

@@ -1,12 +1,12 @@
 //! Edges flipped by the circle test, but those that have to stay.
 
 ghost use Rattle.std.specs.Prelude.{◌↔◌, Bool, IsTrue, OnErr, OnOk};
-ghost use Rattle.dcel_planar.specs.Growing.{HasHull, IsFlat, Keeps};
+ghost use Rattle.dcel_planar.specs.Growing.{HasHull, IsFlat, IsTriangleMesh, Keeps};
 ghost use Rattle.dcel_planar.specs.Leaving.{IsOutlined};
 ghost use Rattle.dcel_planar.specs.Legalization.{IsToTurn, ListsLoose, TurnsLoose};
 ghost use Rattle.dcel_planar.specs.Outcomes.{IsWholeMesh};
 
-use crate::circles::is_circled;
+use crate::circles::is_illegal;
 use crate::mesh::EdgeMesh;
 use crate::planar::PlanarMesh;
 use dcel_legalize::{EdgeConstraint, append_sides};
@@ -57,10 +57,14 @@ fn is_to_turn<UE: EdgeConstraint, A: Allocator>(
     dcel: &EdgeMesh<UE, A>,
     edge: FixedUndirectedEdgeHandle,
 ) -> bool
+    requires { IsTriangleMesh dcel.now }
     ensures { IsTrue result ↔ IsToTurn UE.is_constraint dcel.now edge }
 {
     every_mesh(dcel);
-    if !is_circled(dcel, edge) {
+    if !dcel.is_live_edge(edge) {
+        return false;
+    }
+    if !is_illegal(dcel, edge) {
         return false;
     }
     !dcel.undirected_edge_data(edge).is_constraint()

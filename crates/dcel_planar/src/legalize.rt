@@ -1,11 +1,11 @@
 //! Edges flipped by the circle test.
 
-ghost use Rattle.std.specs.Prelude.{◌≡◌, ◌≢◌, ℕ, List, ◌++◌, [], OnErr, OnOk};
+ghost use Rattle.std.specs.Prelude.{◌≡◌, ◌≢◌, ◌↔◌, ℕ, List, ◌++◌, [], IsTrue, OnErr, OnOk};
 ghost use Rattle.dcel_maps.specs.Shapes.{IsMesh};
-ghost use Rattle.dcel_plane.specs.Plane.{IsLocallyDelaunay, ListsCircled, TrianglesTurnLeft, point_at};
+ghost use Rattle.dcel_plane.specs.Plane.{IsCircled, IsInner, IsLocallyDelaunay, ListsCircled, TrianglesTurnLeft, point_at};
 ghost use Rattle.dcel_planar.specs.Turning.{IsTurnedTo};
 
-use crate::circles::is_circled;
+use crate::circles::is_illegal;
 use dcel_legalize::append_sides;
 use dcel_predicates::Point;
 use spade_dcel::dcel::Dcel;
@@ -17,8 +17,8 @@ use std::alloc::{AllocError, Allocator};
 /// Flips edges until no triangle's circle has the corner of a triangle beside it inside.
 ///
 /// It looks at the last edge of the list, again and again. If the edge is between two inner
-/// triangles, and the corner of one inside the circle of the other ([`is_circled`]), it flips the
-/// edge, and appends the other sides of the two triangles. Otherwise it takes it off the list.
+/// triangles, and the corner of one inside the circle of the other
+/// ([`is_circled`](crate::is_circled)), it flips the edge, and appends the other sides of the two triangles. Otherwise it takes it off the list.
 ///
 /// Asks for inner triangles that go round counterclockwise ([`is_plane`](crate::is_plane)); they do
 /// so after each flip. If the list has each edge that is to be flipped, it does afterwards too, and
@@ -43,7 +43,7 @@ pub fn legalize_by_circles<DE, UE, F, A: Allocator, L: Allocator>(
 {
     every_mesh(dcel);
     while let Some(&edge) = due.last() {
-        if !is_circled(dcel, edge) {
+        if !is_to_flip(dcel, edge) {
             let _ = due.pop();
             continue;
         }
@@ -52,4 +52,19 @@ pub fn legalize_by_circles<DE, UE, F, A: Allocator, L: Allocator>(
         flip_cw(dcel, edge);
     }
     Ok(())
+}
+
+// Returns what `is_circled` returns, of a mesh in the plane.
+fn is_to_flip<DE, UE, F, A: Allocator>(
+    dcel: &Dcel<Point, DE, UE, F, A>,
+    edge: FixedUndirectedEdgeHandle,
+) -> bool
+    requires { TrianglesTurnLeft (point_at dcel.now) dcel.now.shape }
+    ensures { IsTrue result ↔ (IsInner dcel.now.shape edge × IsCircled (point_at dcel.now) dcel.now.shape edge) }
+{
+    every_mesh(dcel);
+    if !dcel.can_flip(edge) {
+        return false;
+    }
+    is_illegal(dcel, edge)
 }

@@ -8,6 +8,7 @@
 //! from -2^53 to 2^53: in an `f64` every whole number in that range is exact.
 #![tactic(auto)]
 
+mod angle;
 mod center;
 mod circle;
 pub mod laws;
@@ -18,7 +19,7 @@ mod vector;
 mod wide;
 
 pub use center::{Center, circumcenter};
-pub use circle::{CircleSide, circle_side, in_circle};
+pub use circle::{CircleSide, circle_side, in_circle, in_circle_across};
 pub use line::{Side, orient2d, orientation};
 pub use point::Point;
 pub use wide::{Digits, Division, Wide};

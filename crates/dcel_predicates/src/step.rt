@@ -1,7 +1,7 @@
 //! Steps between points, and the determinants of two and of three.
 
-ghost use Rattle.std.specs.Prelude.{◌≡◌, ◌≤◌, ◌<◌, ◌^◌, ◌-ℤ◌, IsTrue, unsigned_abs};
-ghost use Rattle.dcel_predicates.specs.Steps.{IsShort, IsShorter, cross_of, determinant_of, norm_of};
+ghost use Rattle.std.specs.Prelude.{◌≡◌, ◌≢◌, ◌≤◌, ◌<◌, ◌^◌, ◌-ℤ◌, ◌↔◌, IsTrue, unsigned_abs};
+ghost use Rattle.dcel_predicates.specs.Steps.{IsNarrow, IsShort, IsShorter, cross_of, determinant_of, dot_of, norm_of};
 ghost use Rattle.dcel_predicates.specs.Wide.{number_of};
 
 use crate::point::Point;
@@ -21,6 +21,9 @@ impl Step {
     // How far a short step may lead to the left or down.
     const SHORT: i64 = 1 << 30;
 
+    // How far a narrow step may lead to the left or down.
+    const NARROW: i64 = 1 << 31;
+
     // Returns the step from one point to another.
     pub(crate) fn between(from: Point, to: Point) -> Step
         ensures x { result.x ≡ to.x -ℤ from.x }
@@ -39,6 +42,13 @@ impl Step {
     {
         (self.x + Self::SHORT).cast_unsigned() | (self.y + Self::SHORT).cast_unsigned()
     }
+
+    // Returns a number that is below 2^32 if this step is narrow.
+    fn width(self) -> u64
+        ensures { (result < 2 ^ 32) ↔ IsNarrow self.x self.y }
+    {
+        (self.x + Self::NARROW).cast_unsigned() | (self.y + Self::NARROW).cast_unsigned()
+    }
 }
 
 // Returns whether these steps are short: their norms and crosses then fit into an `i64`.
@@ -53,6 +63,14 @@ pub(crate) fn are_short(p: Step, q: Step, r: Step) -> bool
     p.reach() | q.reach() | r.reach() < 1 << 31
 }
 
+// Returns whether these steps are narrow: their coordinates fit into 32 bits, and the cross and dot
+// products of those that lead to different points into 64.
+pub(crate) fn are_narrow(p: Step, q: Step, r: Step, s: Step) -> bool
+    ensures { IsTrue result ↔ (IsNarrow p.x p.y × IsNarrow q.x q.y × IsNarrow r.x r.y × IsNarrow s.x s.y) }
+{
+    p.width() | q.width() | r.width() | s.width() < 1 << 32
+}
+
 // Returns the square of a step's length.
 fn norm(p: Step) -> i128
     ensures value { result ≡ norm_of p.x p.y }
@@ -62,11 +80,19 @@ fn norm(p: Step) -> i128
 }
 
 // Returns the determinant of two steps.
-fn cross(p: Step, q: Step) -> i128
+pub(crate) fn cross(p: Step, q: Step) -> i128
     ensures value { result ≡ cross_of p.x p.y q.x q.y }
     ensures bound { unsigned_abs result ≤ 2 ^ 109 }
 {
     p.x as i128 * q.y as i128 - p.y as i128 * q.x as i128
+}
+
+// Returns the dot product of two steps.
+pub(crate) fn dot(p: Step, q: Step) -> i128
+    ensures value { result ≡ dot_of p.x p.y q.x q.y }
+    ensures bound { unsigned_abs result ≤ 2 ^ 109 }
+{
+    p.x as i128 * q.x as i128 + p.y as i128 * q.y as i128
 }
 
 // Returns the determinant of three steps and the squares of their lengths.
@@ -124,4 +150,25 @@ pub(crate) fn short_determinant(p: Step, q: Step, r: Step) -> i128
         z: short_cross(p, q),
     };
     norms.dot(crosses)
+}
+
+// Returns the determinant of two narrow steps.
+pub(crate) fn narrow_cross(p: Step, q: Step) -> i64
+    requires first { IsNarrow p.x p.y }
+    requires second { IsNarrow q.x q.y }
+    ensures value { result ≡ cross_of p.x p.y q.x q.y }
+    ensures bound { unsigned_abs result < 2 ^ 63 }
+{
+    p.x * q.y - p.y * q.x
+}
+
+// Returns the dot product of two narrow steps, which lead to different points.
+pub(crate) fn narrow_dot(p: Step, q: Step) -> i64
+    requires first { IsNarrow p.x p.y }
+    requires second { IsNarrow q.x q.y }
+    requires apart { p.x ≡ q.x → p.y ≢ q.y }
+    ensures value { result ≡ dot_of p.x p.y q.x q.y }
+    ensures bound { unsigned_abs result < 2 ^ 63 }
+{
+    p.x * q.x + p.y * q.y
 }

@@ -50,6 +50,9 @@ struct Split {
 
 impl Vector {
     // Returns the dot product of two vectors.
+    //
+    // Inlined: products with a 0 that the caller wrote then cost nothing.
+    #[inline(always)]
     pub(crate) fn dot(self, other: Vector) -> Wide
         ensures { number_of result ≡ (self.x *ℤ other.x) +ℤ (self.y *ℤ other.y) +ℤ (self.z *ℤ other.z) }
     {

@@ -3,17 +3,22 @@
 
 use dcel_bench::checks::same;
 use dcel_bench_points::Place;
-use dcel_predicates::{CircleSide, Point, Side, circle_side, in_circle, orientation};
+use dcel_predicates::{
+    CircleSide, Point, Side, circle_side, in_circle, in_circle_across, orientation,
+};
 use std::test::Fail;
 
 /// How many quadruples there are.
 const COUNT: u64 = 100_000;
 
 /// The sum of the answers.
-const SUM: u64 = 13_684_469_645_333_726_118;
+const SUM: u64 = 17_293_285_062_204_943_469;
 
 /// How far apart points may be, about, for the circle's determinant to be computed in machine words.
 const NEAR: i64 = 1 << 30;
+
+/// The same for the angles across an edge.
+const NARROW: i64 = 1 << 31;
 
 /// Numbers at random: a linear congruential generator, with the multiplier of D. E. Knuth's MMIX.
 #[derive(Clone, Copy)]
@@ -43,12 +48,16 @@ impl Random {
     }
 
     /// Returns a step that is about as long as those for machine words may be.
-    fn step(&mut self) -> i64 {
+    fn step(&mut self, longest: i64) -> i64 {
         match self.next() % 4 {
-            0 => NEAR.wrapping_add(self.within(2)),
-            1 => self.within(2).wrapping_sub(NEAR),
-            _ => self.within(NEAR),
+            0 => longest.wrapping_add(self.within(2)),
+            1 => self.within(2).wrapping_sub(longest),
+            _ => self.within(longest),
         }
+    }
+
+    fn steps(&mut self, longest: i64) -> Place {
+        (self.step(longest), self.step(longest))
     }
 }
 
@@ -70,10 +79,21 @@ fn anywhere(random: &mut Random, size: i64) -> [Place; 4] {
 fn just_near(random: &mut Random, size: i64) -> [Place; 4] {
     let last = random.place(size);
     [
-        moved(last, (random.step(), random.step())),
-        moved(last, (random.step(), random.step())),
-        moved(last, (random.step(), random.step())),
+        moved(last, random.steps(NEAR)),
+        moved(last, random.steps(NEAR)),
+        moved(last, random.steps(NEAR)),
         last,
+    ]
+}
+
+/// The same for two places seen from two others, which are beside each other.
+fn just_narrow(random: &mut Random, size: i64) -> [Place; 4] {
+    let third = random.place(size);
+    [
+        moved(third, random.steps(NARROW)),
+        moved(third, random.steps(NARROW)),
+        third,
+        moved(third, random.place(2)),
     ]
 }
 
@@ -113,15 +133,26 @@ fn nearly_on_a_line(random: &mut Random, size: i64) -> [Place; 4] {
 /// Returns the quadruple of this number.
 fn quadruple(random: &mut Random, number: u64) -> [Place; 4] {
     let size = 1i64 << (number % 54);
-    match number / 54 % 4 {
+    match number / 54 % 5 {
         0 => anywhere(random, size),
         1 => just_near(random, size),
-        2 => nearly_on_a_circle(random, size),
+        2 => just_narrow(random, size),
+        3 => nearly_on_a_circle(random, size),
         _ => nearly_on_a_line(random, size),
     }
 }
 
-/// Returns what the predicates answer of four points, as a number from 0 to 17.
+/// Returns 1 if the last point is inside the circle of the others, by the test for triangles that
+/// turn left, and 0 if it isn't or they don't.
+fn answer_across(a: Point, b: Point, c: Point, d: Point) -> u64 {
+    if orientation(a, b, c).is_on_left_side() && in_circle_across(a, b, c, d) {
+        1
+    } else {
+        0
+    }
+}
+
+/// Returns what the predicates answer of four points, as a number from 0 to 35.
 fn answer(a: Point, b: Point, c: Point, d: Point) -> u64 {
     let line = match orientation(a, b, c) {
         Side::Left => 0,
@@ -134,10 +165,12 @@ fn answer(a: Point, b: Point, c: Point, d: Point) -> u64 {
         CircleSide::On => 2,
     };
     let inside = if in_circle(a, b, c, d) { 1 } else { 0 };
-    (line * 3 + circle) * 2 + inside
+    ((line * 3 + circle) * 2 + inside)
+        .wrapping_mul(2)
+        .wrapping_add(answer_across(a, b, c, d))
 }
 
-/// Returns the answer, or 18 if a place is out of range.
+/// Returns the answer, or 36 if a place is out of range.
 fn answer_at([a, b, c, d]: [Place; 4]) -> u64 {
     let (Some(a), Some(b), Some(c), Some(d)) = (
         Point::new(a.0, a.1),
@@ -145,7 +178,7 @@ fn answer_at([a, b, c, d]: [Place; 4]) -> u64 {
         Point::new(c.0, c.1),
         Point::new(d.0, d.1),
     ) else {
-        return 18;
+        return 36;
     };
     answer(a, b, c, d)
 }
@@ -156,7 +189,7 @@ fn sum_of_answers() -> u64 {
     let mut sum = 0u64;
     for number in 0..COUNT {
         let places = quadruple(&mut random, number);
-        sum = sum.wrapping_mul(31).wrapping_add(answer_at(places));
+        sum = sum.wrapping_mul(37).wrapping_add(answer_at(places));
     }
     sum
 }

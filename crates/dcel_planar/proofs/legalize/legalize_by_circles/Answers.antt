@@ -9,8 +9,11 @@ use Rattle.dcel_planar.proofs.legalize.legalize_by_circles.Goals as goal
 pub loop-edge-init : goal.loop-edge-init
 loop-edge-init g c = record { way = begins c.args.dcel.now c.args.due.now.items c.every_mesh.ensures c.requires }
 
-pub loop-edge-preserved-then-not-is_circled : goal.loop-edge-preserved-then-not-is_circled
-loop-edge-preserved-then-not-is_circled g c =
+pub is_to_flip-requires : goal.is_to_flip-requires
+is_to_flip-requires g c = c.loop-edge.invariant.way.plane
+
+pub loop-edge-preserved-then-not-is_to_flip : goal.loop-edge-preserved-then-not-is_to_flip
+loop-edge-preserved-then-not-is_to_flip g c =
     let items = c.loop-edge.due.items in
     let u = c.in-Some.field-0.now in
     let same = c.deref.ensures.value in
@@ -21,7 +24,7 @@ loop-edge-preserved-then-not-is_circled g c =
       way =
           passes_by c.args.dcel.now c.args.due.now.items c.loop-edge.dcel items c.pop.new.self.items u
           (popped items c.pop.new.self.items c.loop-edge.due.len u many c.pop.ensures.rest at) c.loop-edge.invariant.way
-          (λ both. let yes = c.is_circled.ensures.1 both in let no = c.if-not-is_circled.true in cc);
+          (λ both. let yes = c.is_to_flip.ensures.1 both in let no = c.if-not-is_to_flip.true in cc);
     }
 
 pub returns-in_err-reserve-clause-due : goal.returns-in_err-reserve-clause-due
@@ -32,7 +35,7 @@ returns-in_err-reserve-clause-others g c = λ lacking lists. rw c.reserve.ensure
 
 pub flip_cw-requires : goal.flip_cw-requires
 flip_cw-requires g c =
-    let both = c.is_circled.ensures.0 c.if-not-is_circled.false in
+    let both = c.is_to_flip.ensures.0 c.if-not-is_to_flip.false in
     circled_can_flip c.loop-edge.dcel c.loop-edge.invariant.way.mesh c.in-Some.field-0.now (point_at c.loop-edge.dcel) both.0 both.1
 
 pub loop-edge-smaller : goal.loop-edge-smaller
@@ -42,7 +45,7 @@ loop-edge-smaller g c =
     let same = c.deref.ensures.value in
     let value = c.in-Some.ensures.value in
     let at : slice_get items (length items - 1) ≡ Some u = cc in
-    let both = c.is_circled.ensures.0 c.if-not-is_circled.false in
+    let both = c.is_to_flip.ensures.0 c.if-not-is_to_flip.false in
     let less = falls_by c.args.dcel.now c.args.due.now.items c.loop-edge.dcel items _ u (last_is items u at) c.loop-edge.invariant.way c.flip_cw.new.dcel c.flip_cw.ensures.edit both.0 both.1 in
     omega (arith, less, c.append_sides.ensures.len, c.reserve.ensures.len)
 
@@ -53,7 +56,7 @@ loop-edge-preserved g c =
     let same = c.deref.ensures.value in
     let value = c.in-Some.ensures.value in
     let at : slice_get items (length items - 1) ≡ Some u = cc in
-    let both = c.is_circled.ensures.0 c.if-not-is_circled.false in
+    let both = c.is_to_flip.ensures.0 c.if-not-is_to_flip.false in
     record {
       way =
           rw (c.append_sides.ensures.items, c.flip_cw.ensures.edit, c.reserve.ensures.items)

@@ -12,6 +12,9 @@ use Rattle.dcel_planar.proofs.planar.PlanarMesh.legalize.Goals as goal
 pub loop-edge-init : goal.loop-edge-init
 loop-edge-init g c = record { way = starts _ c.args.self.now.dcel c.args.self.now.due.items c.every_mesh.ensures c.args.self.now.triangulated c.requires.hull }
 
+pub is_to_turn-requires : goal.is_to_turn-requires
+is_to_turn-requires g c = c.loop-edge.invariant.way.triangulated
+
 pub loop-edge-preserved-then-not-is_to_turn : goal.loop-edge-preserved-then-not-is_to_turn
 loop-edge-preserved-then-not-is_to_turn g c =
     let items = c.loop-edge.self.due.items in
