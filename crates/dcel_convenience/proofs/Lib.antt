@@ -1,6 +1,10 @@
+mod Collapsed
+mod Fan
 mod Gathered
+mod Joined
 mod OnlyEdges
 mod Passes
 mod Removed
 mod Simple
+mod StaysSimple
 mod TakenBack

@@ -1,14 +1,15 @@
 -- A vertex taken out: what the hole that is filled and the cleanup leave.
-use Rattle.std.proofs.Common.{◌≡◌, ◌∙◌, inr, ℕ, ◌-◌, ◌≤◌, ◌==◌, List, [], ◌∷◌, length, reverse, Option, Some, None, cond, slice_get, slice_index_or, refl, sym, ap, subst, arith}
+use Rattle.std.proofs.Common.{◌≡◌, ◌∙◌, inr, ℕ, ◌-◌, ◌≤◌, ◌==◌, List, [], ◌∷◌, length, map, reverse, Option, Some, None, cond, slice_get, slice_index_or, refl, sym, ap, subst, arith}
 use Rattle.std.proofs.lemmas.List.{length-reverse}
 use Rattle.std.proofs.lemmas.Option.{slice_get_read}
-use Rattle.dcel_convenience.specs.Removing.{CanRemoveVertex, TakesOut, border_round}
+use Rattle.dcel_convenience.specs.Removing.{CanRemoveVertex, TakesOut, border_from, border_round}
 use Rattle.dcel_maps.specs.Borders.{IsBorderLoop}
 use Rattle.dcel_maps.specs.Conditions.{CanSwapRemove, HasRoom}
-use Rattle.dcel_maps.specs.Removals.{Closed, Removal, opened}
+use Rattle.dcel_maps.specs.Removals.{Closed, IsListed, Removal, ascending, opened}
 use Rattle.dcel_maps.specs.Renumbering.{cleaned, cleaned_up, edge_taken_out, edges_down, edges_taken_out, face_taken_out, faces_down, faces_taken_out, vertex_taken_out}
 use Rattle.dcel_maps.proofs.Liveness.{vertex_live-parts}
-use Rattle.dcel_maps.specs.Shapes.{IsMesh, Mesh, Shape}
+use Rattle.dcel_maps.specs.Shapes.{IsMesh, Mesh, Shape, next_of, vertex_anchor}
+use Rattle.dcel_maps.specs.Walking.{ccw_of, walk_from}
 use Rattle.dcel_maps.specs.edits.Fill.{FillsHole, edges_at, faces_at, hole_filled, loop_filled}
 
 -- a list that is lent, as it is tested
@@ -22,9 +23,10 @@ room_is s edges faces vertices long n none more_edges more_faces is room =
     (subst (λ (k : ℕ). HasRoom s 0 (long - 3) k) more_faces (subst (λ (k : ℕ). HasRoom s 0 k faces) more_edges (subst (λ (k : ℕ). HasRoom s k edges faces) none room)))
 
 module _ {V DE UE F : Type 0} where
-  -- the border, read from the vertex of a mesh that is lent
-  pub round_is : (m lent : Mesh V DE UE F) (v k : ℕ) (border : List ℕ) → border ≡ border_round lent k → lent ≡ m → k ≡ v → border ≡ border_round m v
-  round_is m lent v k border is mesh number = is ∙ ap (λ (x : Mesh V DE UE F). border_round x k) mesh ∙ ap (border_round m) number
+  -- the border from the anchor of a vertex
+  pub round_is : (m lent : Mesh V DE UE F) (v k : ℕ) (border : List ℕ) → border ≡ border_from lent.shape k → lent ≡ m → Some k ≡ vertex_anchor m v → border ≡ border_round m v
+  round_is m lent v k border is mesh anchor =
+      is ∙ ap (λ (x : Mesh V DE UE F). border_from x.shape k) mesh ∙ ap (λ (a : Option ℕ). reverse (map (next_of m.shape) (walk_from m.shape (ccw_of m.shape) a))) anchor
 
   -- what was asked of it, in the words of the call
   pub can_remove : (m : Mesh V DE UE F) (v : ℕ) (border : List ℕ) → border ≡ border_round m v → m.shape.removal ≡ Closed → IsBorderLoop m.shape border v
@@ -71,14 +73,20 @@ module _ {V DE UE F : Type 0} where
 
   module _ (is_half : DE → Type 0) (is_edge : UE → Type 0) (is_face : F → Type 0) (old filled clean : Mesh V DE UE F) (v : ℕ) (border : List ℕ)
       (fills : FillsHole is_half is_edge is_face border filled (hole_filled old v border)) (cleans : clean ≡ cleaned_up filled) where
-    -- the vertex has been given up, and the removal is cleaned up
-    pub can_swap : IsBorderLoop old.shape border v → CanSwapRemove clean.shape v
-    can_swap round =
+    -- the vertex is given up, with the edges and faces around it
+    given_up : IsBorderLoop old.shape border v → filled.shape.removal ≡ opened (edges_at old v) (faces_at old v) v
+    given_up round =
         let many : 3 ≤ length (reverse border) = omega (arith, round.many, length-reverse border) in
-        let given : filled.shape.removal ≡ opened (edges_at old v) (faces_at old v) v =
         ap (λ (m : Mesh V DE UE F). m.shape.removal) fills.is
-        ∙ loop-removal old (opened (edges_at old v) (faces_at old v) v) (reverse border) fills.directed_data fills.undirected_data fills.face_data many in
-        inr (ap (λ (m : Mesh V DE UE F). m.shape.removal) cleans ∙ ap cleaned given)
+        ∙ loop-removal old (opened (edges_at old v) (faces_at old v) v) (reverse border) fills.directed_data fills.undirected_data fills.face_data many
+
+    pub listed : IsBorderLoop old.shape border v → (edges faces : List ℕ) → edges ≡ edges_at old v → faces ≡ faces_at old v → IsListed filled.shape.removal edges faces
+    listed round edges faces edges_are faces_are =
+        subst (λ (r : Removal). IsListed r edges faces) (sym (given_up round)) (ap ascending edges_are, ap ascending faces_are)
+
+    -- and then the removal is cleaned up
+    pub can_swap : IsBorderLoop old.shape border v → CanSwapRemove clean.shape v
+    can_swap round = inr (ap (λ (m : Mesh V DE UE F). m.shape.removal) cleans ∙ ap cleaned (given_up round))
 
     -- each vertex has its datum
     pub datum_is : (taken : V) → IsMesh old → IsBorderLoop old.shape border v → taken ≡ slice_index_or clean.vertex_data v taken → slice_get old.vertex_data v ≡ Some taken
@@ -102,10 +110,5 @@ module _ {V DE UE F : Type 0} where
         ∙ loop-vertices old (opened (edges_at old v) (faces_at old v) v) (reverse border) fills.directed_data fills.undirected_data fills.face_data in
         subst (λ (n : ℕ). swapped ≡ cond (v == n - 1) None (Some (n - 1))) stay
 
-    -- with the border that the vertex has
-    pub takes_out : (new : Mesh V DE UE F) → border ≡ border_round old v → new ≡ vertex_taken_out clean v → TakesOut is_half is_edge is_face old new v
-    takes_out new is out = record {
-      filled = filled;
-      fills = subst (λ (list : List ℕ). FillsHole is_half is_edge is_face list filled (hole_filled old v list)) is fills;
-      is = out ∙ ap (λ (m : Mesh V DE UE F). vertex_taken_out m v) cleans;
-    }
+    pub takes_out : (new : Mesh V DE UE F) → new ≡ vertex_taken_out clean v → TakesOut is_half is_edge is_face border old new v
+    takes_out new out = record { filled = filled; fills = fills; is = out ∙ ap (λ (m : Mesh V DE UE F). vertex_taken_out m v) cleans }

@@ -1,3 +1,4 @@
+pub mod Collapsing
 pub mod Inserting
 pub mod Removing
 pub mod Simple

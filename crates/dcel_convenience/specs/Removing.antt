@@ -6,19 +6,24 @@ use Rattle.dcel_maps.specs.Borders.{IsBorderLoop}
 use Rattle.dcel_maps.specs.Conditions.{HasRoom}
 use Rattle.dcel_maps.specs.Removals.{Closed}
 use Rattle.dcel_maps.specs.Renumbering.{cleaned_up, vertex_taken_out}
-use Rattle.dcel_maps.specs.Shapes.{Mesh, next_of}
-use Rattle.dcel_maps.specs.Walking.{out_edges_of}
+use Rattle.dcel_maps.specs.Shapes.{Mesh, Shape, next_of}
+use Rattle.dcel_maps.specs.Walking.{ccw_of, out_edges_of, walk_of}
 use Rattle.dcel_maps.specs.edits.Fill.{FillsHole, hole_filled}
+
+-- what comes after the half edges out of a vertex, clockwise, up to the one after h, which starts where h ends
+abbrev pub border_from : Shape → ℕ → List ℕ
+border_from s h = reverse (map (next_of s) (walk_of s (ccw_of s) h))
 
 module _ {V DE UE F : Type 0} where
   -- what comes after the out edges of a vertex, clockwise, up to the one after its anchor
   abbrev pub border_round : Mesh V DE UE F → ℕ → List ℕ
   border_round m v = reverse (map (next_of m.shape) (out_edges_of m v))
 
-  -- the hole round the vertex v is filled, what was given up goes, and then the vertex: the last of each kind get the numbers
-  pub record TakesOut (is_half : DE → Type 0) (is_edge : UE → Type 0) (is_face : F → Type 0) (old new : Mesh V DE UE F) (v : ℕ) : Type 0 where
+  -- the hole round the vertex v, inside this border, is filled by edges that start where the last half edge of the border does; what was given
+  -- up goes, and then the vertex: the last of each kind get the numbers
+  pub record TakesOut (is_half : DE → Type 0) (is_edge : UE → Type 0) (is_face : F → Type 0) (border : List ℕ) (old new : Mesh V DE UE F) (v : ℕ) : Type 0 where
     pub filled : Mesh V DE UE F
-    pub fills : FillsHole is_half is_edge is_face (border_round old v) filled (hole_filled old v (border_round old v))
+    pub fills : FillsHole is_half is_edge is_face border filled (hole_filled old v border)
     pub is : new ≡ vertex_taken_out (cleaned_up filled) v
 
   -- no removal is open, v lies inside triangles alone, three or more, one half edge alone leads from it to where its anchor ends, and there are

@@ -18,3 +18,7 @@ IsSimple s = (h k : ℕ) → IsLive s h → IsLive s k → origin_of s h ≡ ori
 -- no other half edge leads from where h starts to where it ends
 abbrev pub IsOnly : Shape → ℕ → Type 0
 IsOnly s h = (k : ℕ) → IsLive s k → origin_of s k ≡ origin_of s h → end_of s k ≡ end_of s h → k ≡ h
+
+-- an edge joins v and w
+abbrev pub AreJoined : Shape → ℕ → ℕ → Type 0
+AreJoined s v w = (h : ℕ) × Leads s v w h

@@ -1,8 +1,8 @@
 //! Whether no two edges join the same two vertices.
 
-ghost use Rattle.std.specs.Prelude.{◌≡◌, ◌≢◌, ◌↔◌, ◌*◌, IsTrue, true};
+ghost use Rattle.std.specs.Prelude.{◌≡◌, ◌≢◌, ◌↔◌, ◌*◌, IsTrue, true, ◌<◌};
 ghost use Rattle.std.specs.Bool.{OnFalse, OnTrue};
-ghost use Rattle.dcel_convenience.specs.Simple.{IsOnly, IsSimple};
+ghost use Rattle.dcel_convenience.specs.Simple.{AreJoined, IsOnly, IsSimple};
 ghost use Rattle.dcel_maps.specs.Shapes.{IsLive, edge_is_live, end_of};
 ghost use Rattle.spade_dcel.specs.Handles.{mesh_behind, number_of};
 
@@ -68,6 +68,35 @@ pub(crate) fn is_only<V, DE, UE, F, A: Allocator>(
         }
     }
     true
+}
+
+/// Returns whether an edge joins two vertices.
+///
+/// It looks around both in turn, until it is around one of them.
+pub(crate) fn are_joined<V, DE, UE, F, A: Allocator>(
+    dcel: &Dcel<V, DE, UE, F, A>,
+    one: FixedVertexHandle,
+    other: FixedVertexHandle,
+) -> bool
+    requires one { one < dcel.now.shape.vertices }
+    requires other { other < dcel.now.shape.vertices }
+    ensures { IsTrue result ↔ AreJoined dcel.now.shape one other }
+{
+    every_mesh(dcel);
+    let mut here = dcel.vertex(one).out_edges();
+    let mut there = dcel.vertex(other).out_edges();
+    while let Some(near) = here.next() {
+        if near.to().fix() == other {
+            return true;
+        }
+        let Some(far) = there.next() else {
+            return false;
+        };
+        if far.to().fix() == one {
+            return true;
+        }
+    }
+    false
 }
 
 // Returns whether a half edge ends at a vertex, and is another one than this.

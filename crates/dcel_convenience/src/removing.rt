@@ -3,15 +3,13 @@
 ghost use Rattle.std.specs.Prelude.{◌≡◌, ◌-◌, ◌==◌, IfErr, IfOk, OnErr, OnOk, Some, None, cond, slice_get};
 ghost use Rattle.dcel_convenience.specs.Removing.{CanRemoveVertex, MayNotRemove, TakesOut, border_round};
 ghost use Rattle.dcel_maps.specs.Shapes.{IsMesh};
-ghost use Rattle.spade_dcel.specs.Handles.{mesh_behind, number_of};
 
+use crate::taking_out::{border_from, take_out};
 use spade_dcel::dcel::{Dcel, RemovalState};
-use spade_dcel::handles::{FixedDirectedEdgeHandle, FixedVertexHandle, VertexHandle};
+use spade_dcel::handles::FixedVertexHandle;
 use spade_dcel::laws::every_mesh;
-use spade_dcel::operations::{
-    RemovalResult, Room, cleanup_isolated_vertex, isolate_vertex_and_fill_hole, swap_remove_vertex,
-};
-use std::alloc::{AllocError, Allocator};
+use spade_dcel::operations::{RemovalResult, Room};
+use std::alloc::Allocator;
 use std::error::Error;
 use std::fmt;
 
@@ -52,6 +50,10 @@ impl Error for WhyNotRemoved {}
 ///
 /// Any vertex may be given. It is refused as [`WhyNotRemoved`] says, and then the mesh is as it
 /// was. `alloc` is for the border loop.
+///
+/// [`isolate_vertex_and_fill_hole`]: spade_dcel::operations::isolate_vertex_and_fill_hole
+/// [`cleanup_isolated_vertex`]: spade_dcel::operations::cleanup_isolated_vertex
+/// [`swap_remove_vertex`]: spade_dcel::operations::swap_remove_vertex
 pub fn remove_vertex<
     V,
     DE: Default + Drop,
@@ -65,7 +67,7 @@ pub fn remove_vertex<
     vertex: FixedVertexHandle,
 ) -> Result<RemovalResult<V>, WhyNotRemoved>
     ensures can { OnOk result (CanRemoveVertex dcel.old vertex) }
-    ensures edit { OnOk result (TakesOut DE.is_default UE.is_default F.is_default dcel.old dcel.new vertex) }
+    ensures edit { OnOk result (TakesOut DE.is_default UE.is_default F.is_default (border_round dcel.old vertex) dcel.old dcel.new vertex) }
     ensures datum { IfOk result (λ taken. slice_get dcel.old.vertex_data vertex ≡ Some taken.removed_vertex) }
     ensures moved { IfOk result (λ taken. taken.swapped_in_vertex
         ≡ cond (vertex == dcel.old.shape.vertices - 1) None (Some (dcel.old.shape.vertices - 1))) }
@@ -80,7 +82,10 @@ pub fn remove_vertex<
     let Some(around) = dcel.get_vertex(vertex) else {
         return Err(WhyNotRemoved::NotInside);
     };
-    let Ok(border) = border_of(alloc, around) else {
+    let Some(first) = around.out_edge() else {
+        return Err(WhyNotRemoved::NotInside);
+    };
+    let Ok(border) = border_from(alloc, first) else {
         return Err(WhyNotRemoved::OutOfMemory);
     };
     if !dcel.is_border_loop(&border, vertex) {
@@ -89,24 +94,8 @@ pub fn remove_vertex<
     if !dcel.has_room_for(Room::filling(border.len())) {
         return Err(WhyNotRemoved::NoRoom);
     }
-    let Ok(mut opened) = isolate_vertex_and_fill_hole(dcel, border, vertex) else {
+    let Ok(taken) = take_out(dcel, border, vertex) else {
         return Err(WhyNotRemoved::OutOfMemory);
     };
-    cleanup_isolated_vertex(dcel, &mut opened);
-    Ok(swap_remove_vertex(dcel, vertex))
-}
-
-// Returns `next` of each out edge of a vertex, clockwise, and last that of its anchor.
-fn border_of<V, DE, UE, F, A: Allocator, B: Allocator>(
-    alloc: B,
-    vertex: VertexHandle<'_, V, DE, UE, F, A>,
-) -> Result<Vec<FixedDirectedEdgeHandle, B>, AllocError>
-    ensures { IfOk result (λ border. border.items ≡ border_round (mesh_behind vertex.entry) (number_of vertex.entry)) }
-{
-    let mut border = Vec::new(alloc);
-    for edge in vertex.out_edges() {
-        border.push(edge.next().fix())?;
-    }
-    border.reverse();
-    Ok(border)
+    Ok(taken)
 }

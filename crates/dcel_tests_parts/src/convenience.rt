@@ -1,16 +1,19 @@
-//! A vertex put into a triangle and taken out again, what is around it, and meshes that are simple.
+//! A vertex put into a triangle and taken out again, edges that are collapsed, what is around a
+//! vertex, and meshes that are simple.
 
+mod collapses;
+mod walks;
 mod wheels;
 
 use dcel_bench::checks::{holds, same};
 use dcel_bench::lines::grown;
-use dcel_bench::meshes::{Mesh, inner_face, undirected_edge, vertex};
+use dcel_bench::meshes::{Mesh, half_edge, inner_face, undirected_edge, vertex};
 use dcel_bench::refusing::{Memory, Refusals, Refusing};
 use dcel_bench::require;
 use dcel_bench::snapshots::snapshot_of;
 use dcel_convenience::{
-    Surroundings, WhyNotInserted, WhyNotRemoved, can_flip_simple, degree, degrees, insert_vertex,
-    is_simple, look_around, neighbors, remove_vertex,
+    Surroundings, WhyNotCollapsed, WhyNotInserted, WhyNotRemoved, can_flip_simple, collapse_edge,
+    degree, degrees, insert_vertex, is_simple, look_around, neighbors, remove_vertex,
 };
 use spade_dcel::handles::{FixedDirectedEdgeHandle, FixedVertexHandle};
 use spade_dcel::operations::flip_cw;
@@ -242,6 +245,7 @@ fn flips_that_make_a_second_edge_are_told(rt: HostRuntime) -> Result<(), Fail> {
 enum Call {
     Insert,
     Remove,
+    Collapse,
     Neighbors,
     Degrees,
 }
@@ -260,6 +264,10 @@ fn is_done<'a>(dcel: &mut Mesh<Memory<'a>>, call: Call, memory: Memory<'a>) -> R
         Call::Remove => match remove_vertex(dcel, memory, vertex(3)) {
             Ok(taken) => same(taken.removed_vertex, 10, "the datum").map(|_| true),
             Err(why) => same(why, WhyNotRemoved::OutOfMemory, "why").map(|_| false),
+        },
+        Call::Collapse => match collapse_edge(dcel, memory, half_edge(7)) {
+            Ok(taken) => same(taken.removed_vertex, 10, "the datum").map(|_| true),
+            Err(why) => same(why, WhyNotCollapsed::OutOfMemory, "why").map(|_| false),
         },
         Call::Neighbors => match dcel.get_vertex(vertex(3)) {
             Some(center) => Ok(neighbors(memory, center).is_ok()),
@@ -315,6 +323,7 @@ fn refuse_each(call: Call, alloc: Global) -> Result<(), Fail> {
 fn calls_are_refused_memory(rt: HostRuntime) -> Result<(), Fail> {
     refuse_each(Call::Insert, rt.alloc())?;
     refuse_each(Call::Remove, rt.alloc())?;
+    refuse_each(Call::Collapse, rt.alloc())?;
     refuse_each(Call::Neighbors, rt.alloc())?;
     refuse_each(Call::Degrees, rt.alloc())
 }
