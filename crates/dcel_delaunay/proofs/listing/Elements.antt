@@ -1,5 +1,5 @@
 -- The elements of a mesh in which no removal is open, by number: all are live.
-use Rattle.std.proofs.Common.{◌≡◌, ◌∙◌, ℕ, zero, suc, ◌-◌, ◌<◌, ◌≤◌, true, List, ◌∷◌, length, map, Option, None, Some, refl, sym, ap, subst, arith, SomeIff}
+use Rattle.std.proofs.Common.{◌≡◌, ◌∙◌, ℕ, zero, suc, ◌-◌, ◌<◌, ◌≤◌, true, ◌∷◌, map, Option, None, Some, refl, ap, subst, arith, SomeIff}
 use Rattle.std.proofs.lemmas.List.{ext_get_or, length-map}
 use Rattle.std.proofs.lemmas.List.Elements.{All-tail, All-weaker}
 use Rattle.std.proofs.lemmas.List.FromFn.{get_or-map-range_with_len}
