@@ -5,4 +5,5 @@ pub mod Lending
 pub mod Points
 pub mod Removing
 pub mod Statuses
+pub mod Triangulating
 pub mod Wholes

@@ -11,11 +11,13 @@ mod inserting;
 mod points;
 mod removing;
 mod status;
+mod triangulating;
 mod triangulation;
 mod whole;
 
 pub use inserting::{insert, insert_all};
 pub use points::DcelPoint;
 pub use removing::remove;
+pub use triangulating::triangulate;
 pub use triangulation::DcelTriangulation;
 pub use whole::{finish, free, is_whole, new, num_triangles, num_vertices};
