@@ -1,6 +1,7 @@
 /* A half-edge mesh on the sphere, and a Delaunay triangulation of points, that are kept across calls. A
    mesh's links and numbers change only by the calls below, and each number of an element is below 2^32.
-   Triangulations stand at the end; what is said of a dcel_mesh here holds of a dcel_triangulation too.
+   Triangulations are at the end. What is said of a dcel_mesh here holds of a dcel_triangulation too, unless
+   its calls say what else they change.
 
    Link libdcel, which allocates by your malloc.
 
@@ -543,7 +544,7 @@ dcel_status dcel_triangulate(const dcel_point *points, size_t points_len, dcel_t
 
    One that isn't whole, since memory ran out in an insertion or a removal, has its vertices, but edges
    that are still to be flipped. dcel_triangulation_finish makes it whole, and so does the next call that
-   changes it. */
+   changes it, also one that is refused. */
 
 /* A triangulation, or none: zero bytes are one that isn't open. The fields are the library's. */
 typedef struct {
@@ -586,7 +587,8 @@ dcel_status dcel_triangulation_insert_all(dcel_triangulation *triangulation, con
 
 /* Removes a vertex with its point. The last vertex gets its number: `moved` is the old number of that
    vertex, DCEL_NONE if the removed one was the last. If the status is DCEL_UNFINISHED, the vertex is gone
-   too, and `moved` is told. With any other refusal all vertices stay.
+   too, and `moved` is told. With any other refusal all vertices stay; with DCEL_OUT_OF_MEMORY edges may be
+   flipped.
    Refusals: NO_SUCH_VERTEX, NO_ROOM, OUT_OF_MEMORY, UNFINISHED. */
 dcel_status dcel_triangulation_remove(dcel_triangulation *triangulation, uint32_t vertex, uint64_t *moved);
 

@@ -29,7 +29,7 @@ _CLOSED = Fault(FaultKind.UNUSED_FACE, 0, 0, 0, 0)
 
 
 class DcelError(Exception):
-    """A call was refused, and what it is a call of is as it was, but for points that are in. `status` says why: the least of those that apply."""
+    """A call was refused, and the mesh is as it was. `status` says why: the least of those that apply."""
 
     status: ClassVar[Status]
 
