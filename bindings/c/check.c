@@ -1,4 +1,4 @@
-/* Calls each function of the library on small meshes, and compares what it answers. */
+/* Calls each function of the library on small meshes and triangulations, and compares what it answers. */
 #include "dcel.h"
 
 #include <inttypes.h>
@@ -451,6 +451,89 @@ static void check_replies(void) {
     CHECK(dcel_replies((const uint8_t *)lines, 0, replies, 0, &needed) == DCEL_DONE && needed == 0 && replies[0] == 'o');
 }
 
+/* A triangulation that isn't open answers all calls, and is given nothing. */
+static void check_no_triangulation(void) {
+    dcel_triangulation none = DCEL_TRIANGULATION_INIT;
+    dcel_point point = {1, 2};
+    uint32_t vertex = 77;
+    uint64_t number = 77;
+    dcel_triangulation_free(&none);
+    CHECK(dcel_triangulation_num_vertices(&none) == 0 && dcel_triangulation_num_triangles(&none) == 0);
+    CHECK(!dcel_triangulation_is_whole(&none) && dcel_triangulation_finish(&none) == DCEL_NO_MESH);
+    CHECK(dcel_triangulation_insert(&none, point, &vertex) == DCEL_NO_MESH && vertex == 77);
+    CHECK(dcel_triangulation_insert_all(&none, &point, 1, &vertex, 1, &number) == DCEL_NO_MESH && vertex == 77);
+    CHECK(dcel_triangulation_remove(&none, 0, &number) == DCEL_NO_MESH && number == 77);
+}
+
+/* Twice the area of the triangle of three points, with small coordinates, and 0 or less if it goes clockwise. */
+static int64_t area(dcel_point a, dcel_point b, dcel_point c) {
+    return (b.x - a.x) * (c.y - a.y) - (b.y - a.y) * (c.x - a.x);
+}
+
+/* Above 0 if the point lies inside the circle of the triangle. */
+static int64_t in_circle(dcel_point a, dcel_point b, dcel_point c, dcel_point p) {
+    int64_t x[3] = {a.x - p.x, b.x - p.x, c.x - p.x}, y[3] = {a.y - p.y, b.y - p.y, c.y - p.y}, sum = 0;
+    for (int i = 0; i < 3; i++) {
+        int j = (i + 1) % 3, k = (i + 2) % 3;
+        sum += (x[i] * x[i] + y[i] * y[i]) * (x[j] * y[k] - x[k] * y[j]);
+    }
+    return sum;
+}
+
+/* Four triangles round the fifth point. The second and the last one are equal. */
+static const dcel_point POINTS[6] = {{0, 0}, {4, 0}, {0, 3}, {5, 5}, {2, 2}, {4, 0}};
+static const dcel_point FAR[3] = {{1, 1}, {0, (INT64_C(1) << 53) + 1}, {INT64_MIN, 2}};
+
+static void check_triangulate(void) {
+    dcel_triangle triangles[5] = {{77, 77, 77}, {77, 77, 77}, {77, 77, 77}, {77, 77, 77}, {77, 77, 77}};
+    uint64_t needed = 77, row = 77;
+    int64_t all = 0;
+    CHECK(dcel_triangulate(FAR, 3, triangles, 5, &needed, &row) == DCEL_OUT_OF_RANGE && row == 1 && needed == 0);
+    CHECK(dcel_triangulate(POINTS, 2, triangles, 5, &needed, &row) == DCEL_DONE && needed == 0 && triangles[0].first == 77);
+    CHECK(dcel_triangulate(POINTS, 6, triangles, 2, &needed, &row) == DCEL_SHORT && needed == 4 && triangles[2].first == 77);
+    CHECK(dcel_triangulate(POINTS, 6, triangles, 5, &needed, &row) == DCEL_DONE && needed == 4 && triangles[4].first == 77);
+    for (int i = 0; i < 4; i++) {
+        CHECK(triangles[i].first < 5 && triangles[i].second < 5 && triangles[i].third < 5);
+        dcel_point a = POINTS[triangles[i].first], b = POINTS[triangles[i].second], c = POINTS[triangles[i].third];
+        CHECK(area(a, b, c) > 0);
+        all += area(a, b, c);
+        for (int j = 0; j < 6; j++)
+            CHECK(in_circle(a, b, c, POINTS[j]) <= 0);
+    }
+    CHECK(all == 35 && row == 1);
+}
+
+/* Points that are put in and taken out. */
+static void check_points(void) {
+    dcel_triangulation made = DCEL_TRIANGULATION_INIT;
+    const dcel_point limit = {INT64_C(1) << 53, -(INT64_C(1) << 53)};
+    uint32_t vertices[6], vertex = 77, others[4] = {77, 77, 77, 77};
+    uint64_t row = 77, moved = 77;
+    CHECK(dcel_triangulation_new(&made) == DCEL_DONE && dcel_triangulation_is_whole(&made));
+    CHECK(dcel_triangulation_insert_all(&made, POINTS, 6, vertices, 6, &row) == DCEL_DONE && row == 77);
+    CHECK(dcel_triangulation_num_vertices(&made) == 5 && vertices[1] == vertices[5]);
+    CHECK(dcel_triangulation_num_triangles(&made) == 4 && dcel_triangulation_is_whole(&made));
+    CHECK(dcel_triangulation_insert(&made, POINTS[4], &vertex) == DCEL_DONE && vertex == vertices[4]);
+    CHECK(dcel_triangulation_insert(&made, FAR[1], &vertex) == DCEL_OUT_OF_RANGE && vertex == vertices[4]);
+    CHECK(dcel_triangulation_insert_all(&made, FAR, 3, others, 2, &row) == DCEL_SHORT && row == 77);
+    CHECK(dcel_triangulation_insert_all(&made, FAR, 3, others, 4, &row) == DCEL_OUT_OF_RANGE && row == 1);
+    CHECK(dcel_triangulation_insert_all(&made, POINTS, 0, others, 4, &row) == DCEL_DONE && others[0] == 77);
+    CHECK(dcel_triangulation_num_vertices(&made) == 5);
+    CHECK(dcel_triangulation_remove(&made, 5, &moved) == DCEL_NO_SUCH_VERTEX && moved == 77);
+    CHECK(dcel_triangulation_remove(&made, vertices[4], &moved) == DCEL_DONE);
+    CHECK(moved == (vertices[4] == 4 ? DCEL_NONE : 4) && dcel_triangulation_num_triangles(&made) == 2);
+    CHECK(dcel_triangulation_insert(&made, limit, &vertex) == DCEL_DONE && vertex == 4);
+    CHECK(dcel_triangulation_finish(&made) == DCEL_DONE && dcel_triangulation_is_whole(&made));
+    for (uint32_t left = 5; left > 0; left--)
+        CHECK(dcel_triangulation_remove(&made, 0, &moved) == DCEL_DONE && moved == (left > 1 ? left - 1 : DCEL_NONE));
+    CHECK(dcel_triangulation_num_vertices(&made) == 0 && dcel_triangulation_remove(&made, 0, &moved) == DCEL_NO_SUCH_VERTEX);
+    CHECK(dcel_triangulation_insert(&made, limit, &vertex) == DCEL_DONE && vertex == 0);
+    CHECK(dcel_triangulation_new(&made) == DCEL_DONE && dcel_triangulation_num_vertices(&made) == 0);
+    CHECK(strcmp(dcel_status_name(DCEL_OUT_OF_RANGE), "OutOfRange") == 0 && strcmp(dcel_status_name(DCEL_UNFINISHED), "Unfinished") == 0);
+    dcel_triangulation_free(&made);
+    CHECK(!dcel_triangulation_is_whole(&made));
+}
+
 int main(void) {
     check_version();
     check_none();
@@ -471,6 +554,9 @@ int main(void) {
     check_coming_and_going();
     check_given();
     check_replies();
+    check_no_triangulation();
+    check_triangulate();
+    check_points();
     printf("%d checks passed\n", checks);
     return EXIT_SUCCESS;
 }

@@ -1,5 +1,7 @@
-/* A half-edge mesh on the sphere that is kept across calls. Its links and numbers change only by the
-   calls below, and each number of an element is below 2^32.
+/* A half-edge mesh on the sphere, and a Delaunay triangulation of points, that are kept across calls. A
+   mesh's links and numbers change only by the calls below, and each number of an element is below 2^32.
+   Triangulations are at the end. What is said of a dcel_mesh here holds of a dcel_triangulation too, unless
+   its calls say what else they change.
 
    Link libdcel, which allocates by your malloc.
 
@@ -84,9 +86,11 @@ typedef enum {
     DCEL_NOT_PATH = 18,
     DCEL_NO_ROOM = 19, /* a count would pass 2^31, and with dcel_reserve_capacity 2^32 */
     DCEL_OUT_OF_MEMORY = 20,
-    DCEL_NO_MESH = 21, /* it was never made, or it was freed */
+    DCEL_NO_MESH = 21, /* it was never made, or it was freed; of triangulations too */
     DCEL_SHORT = 22,   /* a buffer has too few places */
-    DCEL_FAULTY = 23   /* no mesh is made of what is given, and a dcel_fault says why */
+    DCEL_FAULTY = 23,  /* no mesh is made of what is given, and a dcel_fault says why */
+    DCEL_OUT_OF_RANGE = 24, /* a coordinate is below -2^53 or above 2^53 */
+    DCEL_UNFINISHED = 25    /* there was no memory to make the triangulation whole */
 } dcel_status;
 
 /* Returns the name of a status, as "NoSuchVertex", or "" if it is none. */
@@ -116,6 +120,8 @@ static inline const char *dcel_status_name(uint32_t status) {
     case DCEL_NO_MESH: return "NoMesh";
     case DCEL_SHORT: return "Short";
     case DCEL_FAULTY: return "Faulty";
+    case DCEL_OUT_OF_RANGE: return "OutOfRange";
+    case DCEL_UNFINISHED: return "Unfinished";
     default: return "";
     }
 }
@@ -510,6 +516,81 @@ dcel_status dcel_can_disconnect_edge_strip(const dcel_mesh *mesh, const uint32_t
    `needed` is 0; SHORT if the replies don't all fit. */
 dcel_status dcel_replies(const uint8_t *lines, size_t lines_len, uint8_t *replies, size_t replies_len,
                          uint64_t *needed);
+
+/* ---- Delaunay triangulations ----
+
+   Of points with whole coordinates: each point is a vertex, equal points are one, the triangles cover the
+   convex hull without overlaps, and no point lies inside the circle of a triangle. While all points are on
+   one line there is no triangle. */
+
+/* A point, whose coordinates are from -2^53 to 2^53. */
+typedef struct {
+    int64_t x, y;
+} dcel_point;
+
+/* The corners of a triangle, counterclockwise. */
+typedef struct {
+    uint32_t first, second, third;
+} dcel_triangle;
+
+/* Puts the triangles of the points into the buffer, as walks do, each by the rows of its corners; of equal
+   points the first one counts. There are fewer than two for each point. If a coordinate is out of range,
+   the point's row is told. Nothing is kept.
+   Refusals: OUT_OF_RANGE, OUT_OF_MEMORY, SHORT. */
+dcel_status dcel_triangulate(const dcel_point *points, size_t points_len, dcel_triangle *triangles,
+                             size_t triangles_len, uint64_t *needed, uint64_t *row);
+
+/* ---- Triangulations that are kept across calls ----
+
+   One that isn't whole, since memory ran out in an insertion or a removal, has its vertices, but edges
+   that are still to be flipped. dcel_triangulation_finish makes it whole, and so does the next call that
+   changes it, also one that is refused. */
+
+/* A triangulation, or none: zero bytes are one that isn't open. The fields are the library's. */
+typedef struct {
+    void *at;
+    bool is_open;
+} dcel_triangulation;
+
+/* What a dcel_triangulation begins with. */
+#define DCEL_TRIANGULATION_INIT {NULL, false}
+
+/* Makes a triangulation of no points. One that was kept there before is freed.
+   Refusals: OUT_OF_MEMORY. */
+dcel_status dcel_triangulation_new(dcel_triangulation *triangulation);
+
+/* Frees the triangulation, if there is one. */
+void dcel_triangulation_free(dcel_triangulation *triangulation);
+
+uint64_t dcel_triangulation_num_vertices(const dcel_triangulation *triangulation);
+uint64_t dcel_triangulation_num_triangles(const dcel_triangulation *triangulation);
+
+/* There is a triangulation, and it is whole. */
+bool dcel_triangulation_is_whole(const dcel_triangulation *triangulation);
+
+/* Makes the triangulation whole. If memory runs out again, what is done so far stays.
+   Refusals: OUT_OF_MEMORY. */
+dcel_status dcel_triangulation_finish(dcel_triangulation *triangulation);
+
+/* Inserts a point, and tells its vertex: a new one, or the one that is there already. If the status is
+   DCEL_UNFINISHED, the point is the last vertex. With any other refusal no vertex is added.
+   Refusals: OUT_OF_RANGE, NO_ROOM, OUT_OF_MEMORY, UNFINISHED. */
+dcel_status dcel_triangulation_insert(dcel_triangulation *triangulation, dcel_point point, uint32_t *vertex);
+
+/* Inserts points in an order of its own, which is fast, and puts the vertex of each into the buffer, in
+   the order of the points. If a coordinate is out of range, the point's row is told, and none is inserted.
+   If memory or numbers run out, the points that were inserted so far stay, and the buffer too.
+   Refusals: OUT_OF_RANGE, NO_ROOM, OUT_OF_MEMORY, SHORT, UNFINISHED. */
+dcel_status dcel_triangulation_insert_all(dcel_triangulation *triangulation, const dcel_point *points,
+                                          size_t points_len, uint32_t *vertices, size_t vertices_len,
+                                          uint64_t *row);
+
+/* Removes a vertex with its point. The last vertex gets its number: `moved` is the old number of that
+   vertex, DCEL_NONE if the removed one was the last. If the status is DCEL_UNFINISHED, the vertex is gone
+   too, and `moved` is told. With any other refusal all vertices stay; with DCEL_OUT_OF_MEMORY edges may be
+   flipped.
+   Refusals: NO_SUCH_VERTEX, NO_ROOM, OUT_OF_MEMORY, UNFINISHED. */
+dcel_status dcel_triangulation_remove(dcel_triangulation *triangulation, uint32_t vertex, uint64_t *moved);
 
 #ifdef __cplusplus
 }

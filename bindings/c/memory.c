@@ -180,10 +180,41 @@ static void sweep_replies(void) {
     }
 }
 
+/* A triangulation of points that finds no memory for more has those that it had, and it is whole or can be finished. */
+static void sweep_triangulation(void) {
+    static const dcel_point points[6] = {{0, 0}, {4, 0}, {0, 3}, {5, 5}, {2, 2}, {9, 1}};
+    for (long met = 0;; met++) {
+        dcel_triangulation triangulation = DCEL_TRIANGULATION_INIT;
+        dcel_triangle triangles[16];
+        uint32_t vertices[6], status;
+        uint64_t number = 0, row = 0;
+        left = met;
+        status = dcel_triangulation_new(&triangulation);
+        if (status == DCEL_DONE)
+            status = dcel_triangulation_insert_all(&triangulation, points, 6, vertices, 6, &number);
+        if (status == DCEL_DONE)
+            status = dcel_triangulation_remove(&triangulation, vertices[4], &number);
+        if (status == DCEL_DONE)
+            status = dcel_triangulation_insert(&triangulation, points[4], vertices);
+        if (status == DCEL_DONE)
+            status = dcel_triangulate(points, 6, triangles, 16, &number, &row);
+        left = -1;
+        must(status != DCEL_UNFINISHED || !dcel_triangulation_is_whole(&triangulation), "a whole triangulation is unfinished");
+        must(dcel_triangulation_finish(&triangulation) == (triangulation.is_open ? DCEL_DONE : DCEL_NO_MESH), "it can't be finished");
+        dcel_triangulation_free(&triangulation);
+        if (status == DCEL_DONE) {
+            printf("triangulation: %ld requests\n", met);
+            return;
+        }
+        must(status == DCEL_OUT_OF_MEMORY || status == DCEL_UNFINISHED, "triangulation");
+    }
+}
+
 int main(void) {
     for (size_t i = 0; i < sizeof CALLS / sizeof CALLS[0]; i++)
         sweep(&CALLS[i]);
     sweep_clone();
     sweep_replies();
+    sweep_triangulation();
     return EXIT_SUCCESS;
 }

@@ -1,9 +1,10 @@
-"""A half-edge mesh on the sphere that is kept across calls, over a library in which every call is proved.
+"""A half-edge mesh on the sphere, and a Delaunay triangulation of points, over a library in which every call is proved.
 
-`Dcel` is the mesh, and `replies` answers lines. Each way in which a call can be refused is an error of its own, under `DcelError`."""
+`Dcel` is the mesh, `Delaunay` the triangulation, and `replies` answers lines. Each way in which a call can be refused is an error of its own, under `DcelError`."""
 
 from ._declared import NO_LINK, Ended, FaultKind, RemovalState, Status
 from ._declared import VERSION as __version__
+from ._delaunay import Delaunay
 from ._errors import (
     BadRing,
     BadStrip,
@@ -24,9 +25,11 @@ from ._errors import (
     NotPath,
     NotTriangle,
     OutOfMemory,
+    OutOfRange,
     RemovalOpen,
     SameVertex,
     Short,
+    Unfinished,
     VertexInUse,
     WouldLoop,
     WrongLists,
@@ -35,8 +38,8 @@ from ._lines import replies
 from ._mesh import Dcel, HalfEdge, Legalized, Links, Opened, Removed
 
 __all__ = [
-    "NO_LINK", "BadRing", "BadStrip", "Dcel", "DcelError", "EdgesStand", "Ended", "Fault", "FaultKind", "Faulty", "GivenUp", "HalfEdge", "Legalized", "Links", "NoMesh",
+    "NO_LINK", "BadRing", "BadStrip", "Dcel", "DcelError", "Delaunay", "EdgesStand", "Ended", "Fault", "FaultKind", "Faulty", "GivenUp", "HalfEdge", "Legalized", "Links", "NoMesh",
     "NoRemoval", "NoRoom", "NoSuchEdge", "NoSuchFace", "NoSuchVertex", "NotBridge", "NotLineEnd", "NotOuter", "NotPath", "NotTriangle",
-    "Opened", "OutOfMemory", "RemovalOpen", "RemovalState", "Removed", "SameVertex", "Short", "Status", "VertexInUse", "WouldLoop",
+    "Opened", "OutOfMemory", "OutOfRange", "RemovalOpen", "RemovalState", "Removed", "SameVertex", "Short", "Status", "Unfinished", "VertexInUse", "WouldLoop",
     "WrongLists", "__version__", "replies",
 ]

@@ -5,7 +5,10 @@ from __future__ import annotations
 from array import array
 from collections.abc import Iterable
 from ctypes import addressof, c_char, c_uint32
+from functools import cache
+from importlib import import_module
 from operator import index
+from types import ModuleType
 from typing import Any
 
 assert (array("I").itemsize, array("Q").itemsize) == (4, 8)
@@ -101,3 +104,32 @@ def start_of(items: array[int] | bytearray | memoryview, kind: Any = c_uint32) -
 def listed(items: array[int] | bytearray | memoryview, kind: Any = c_uint32) -> tuple[Any, int]:
     """A list as the calls take it: where it begins, and how long it is."""
     return start_of(items, kind), len(items)
+
+
+def pairs(values: Iterable[Any]) -> array[int]:
+    """The coordinates of points, one after the other, in an array of its own: those of an array of shape (n, 2) of any integers, or of an
+    iterable of pairs."""
+    try:
+        view = memoryview(values)  # type: ignore[arg-type]
+    except TypeError:
+        return array("q", [it for x, y in values for it in (x, y)])
+    if view.ndim != 2 or view.shape[1] != 2:  # type: ignore[index]
+        raise ValueError(f"points are an array of shape (n, 2), and not {view.shape}")
+    return array("q", flat(values))
+
+
+@cache
+def numpy() -> ModuleType | None:
+    """NumPy, if it is installed."""
+    try:
+        return import_module("numpy")
+    except ImportError:
+        return None
+
+
+def shaped(items: array[Any], width: int) -> Any:
+    """The items in rows of so many: an array of NumPy's, or without it a memoryview of two dimensions, which has one if it is empty."""
+    if found := numpy():
+        return found.asarray(items).reshape(-1, width)
+    view = memoryview(items)
+    return view.cast("B").cast(view.format, (len(items) // width, width)) if items else view

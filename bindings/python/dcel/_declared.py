@@ -3,7 +3,7 @@
 from __future__ import annotations
 
 import enum
-from ctypes import POINTER, Structure, c_bool, c_size_t, c_uint8, c_uint32, c_uint64, c_void_p
+from ctypes import POINTER, Structure, c_bool, c_int64, c_size_t, c_uint8, c_uint32, c_uint64, c_void_p
 from typing import Any
 
 VERSION = "0.2.0"
@@ -37,9 +37,11 @@ class Status(enum.IntEnum):
     NOT_PATH = 18
     NO_ROOM = 19  #: a count would pass 2^31, and with dcel_reserve_capacity 2^32
     OUT_OF_MEMORY = 20
-    NO_MESH = 21  #: it was never made, or it was freed
+    NO_MESH = 21  #: it was never made, or it was freed; of triangulations too
     SHORT = 22  #: a buffer has too few places
     FAULTY = 23  #: no mesh is made of what is given, and a dcel_fault says why
+    OUT_OF_RANGE = 24  #: a coordinate is below -2^53 or above 2^53
+    UNFINISHED = 25  #: there was no memory to make the triangulation whole
 
 
 class Ended(enum.IntEnum):
@@ -125,6 +127,24 @@ class Fault(Structure):
     _fields_ = [("kind", c_uint32), ("number", c_uint64), ("other", c_uint64), ("from", c_uint64), ("to", c_uint64)]
 
 
+class Point(Structure):
+    """A point, whose coordinates are from -2^53 to 2^53."""
+
+    _fields_ = [("x", c_int64), ("y", c_int64)]
+
+
+class Triangle(Structure):
+    """The corners of a triangle, counterclockwise."""
+
+    _fields_ = [("first", c_uint32), ("second", c_uint32), ("third", c_uint32)]
+
+
+class Triangulation(Structure):
+    """A triangulation, or none: zero bytes are one that isn't open. The fields are the library's."""
+
+    _fields_ = [("at", c_void_p), ("is_open", c_bool)]
+
+
 STRUCTS: dict[str, type[Structure]] = {
     "dcel_mesh": Mesh,
     "dcel_half_edge": HalfEdge,
@@ -132,6 +152,9 @@ STRUCTS: dict[str, type[Structure]] = {
     "dcel_opened": Opened,
     "dcel_legalized": Legalized,
     "dcel_fault": Fault,
+    "dcel_point": Point,
+    "dcel_triangle": Triangle,
+    "dcel_triangulation": Triangulation,
 }
 
 # What a fault of each kind says.
@@ -167,7 +190,10 @@ _half_edge = POINTER(HalfEdge)
 _legalized = POINTER(Legalized)
 _mesh = POINTER(Mesh)
 _opened = POINTER(Opened)
+_point = POINTER(Point)
 _removed = POINTER(Removed)
+_triangle = POINTER(Triangle)
+_triangulation = POINTER(Triangulation)
 _uint32 = POINTER(c_uint32)
 _uint64 = POINTER(c_uint64)
 _uint8 = POINTER(c_uint8)
@@ -258,4 +284,14 @@ FUNCTIONS: dict[str, tuple[Any, tuple[Any, ...]]] = {
     "dcel_can_remesh_edge_ring": (Status, (_mesh, _uint32, c_size_t, _uint32, c_size_t, _uint32, c_size_t, _bool)),
     "dcel_can_disconnect_edge_strip": (Status, (_mesh, _uint32, c_size_t, _bool)),
     "dcel_replies": (Status, (_uint8, c_size_t, _uint8, c_size_t, _uint64)),
+    "dcel_triangulate": (Status, (_point, c_size_t, _triangle, c_size_t, _uint64, _uint64)),
+    "dcel_triangulation_new": (Status, (_triangulation,)),
+    "dcel_triangulation_free": (None, (_triangulation,)),
+    "dcel_triangulation_num_vertices": (c_uint64, (_triangulation,)),
+    "dcel_triangulation_num_triangles": (c_uint64, (_triangulation,)),
+    "dcel_triangulation_is_whole": (c_bool, (_triangulation,)),
+    "dcel_triangulation_finish": (Status, (_triangulation,)),
+    "dcel_triangulation_insert": (Status, (_triangulation, Point, _uint32)),
+    "dcel_triangulation_insert_all": (Status, (_triangulation, _point, c_size_t, _uint32, c_size_t, _uint64)),
+    "dcel_triangulation_remove": (Status, (_triangulation, c_uint32, _uint64)),
 }

@@ -173,6 +173,19 @@ class Faulty(DcelError, ValueError):
     fault: Fault  #: why not
 
 
+class OutOfRange(DcelError, ValueError):
+    """A coordinate is below -2**53 or above 2**53."""
+
+    status = Status.OUT_OF_RANGE
+    row: int  #: of the first such point
+
+
+class Unfinished(DcelError, MemoryError):
+    """There was no memory to make the triangulation whole. The next call that changes it does so."""
+
+    status = Status.UNFINISHED
+
+
 ERRORS: dict[int, type[DcelError]] = {kind.status: kind for kind in DcelError.__subclasses__()}
 
 for _kind in (DcelError, *ERRORS.values()):
@@ -180,8 +193,13 @@ for _kind in (DcelError, *ERRORS.values()):
 
 
 def refused(status: int, function: Any, given: Any = ()) -> DcelError:
-    """The error of a status that a call of the library has returned. A fault is told in the last thing that the call was given."""
+    """The error of a status that a call of the library has returned. A fault or a row is told in the last thing that the call was given."""
     kind, name = ERRORS[status], function.__name__.removeprefix("dcel_")
+    if kind is OutOfRange:
+        row = given[-1].value
+        far = OutOfRange(f"{name}: {kind.__doc__} It is in row {row}.")
+        far.row = row
+        return far
     if kind is not Faulty:
         return kind(f"{name}: {kind.__doc__}")
     told = given[-1]

@@ -9,7 +9,7 @@ import unittest
 from collections.abc import Callable
 from typing import Any
 
-from dcel import Dcel, Ended, OutOfMemory, replies
+from dcel import Dcel, Delaunay, Ended, OutOfMemory, replies
 from dcel._calls import library
 from meshes import BORDER, STRIP, line, opened, points, round_, state, triangle
 
@@ -94,6 +94,12 @@ class Memory(unittest.TestCase):
             while self.refused(met, make):
                 met += 1
             self.assertGreater(met, 5)
+
+    def test_delaunay(self) -> None:
+        met = 0
+        while self.refused(met, lambda: Delaunay([(0, 0), (4, 0), (0, 3), (5, 5), (2, 2)])):
+            met += 1
+        self.assertGreater(met, 5)
 
     def test_replies(self) -> None:
         """A line that finds no memory is refused, and without memory for the mesh or the replies there are none."""

@@ -4,6 +4,7 @@ import re
 from dataclasses import dataclass, replace
 from pathlib import Path
 
+import linking
 from bind.header import Function, Named, Struct, Type, read, words_of
 from bind.names import camel, short, snake
 
@@ -21,43 +22,51 @@ class Library:
         return (ROOT / self.header).read_text()
 
 
-DCEL = Library("bindings/c/dcel.h", "bindings/c/check.c", ("dcel_c",))
+DCEL = Library("bindings/c/dcel.h", "bindings/c/check.c", linking.CRATES)
 PAGE = Library("bindings/c/mesh_page.h", "bindings/c/page.c", ("mesh_page",))
 LIBRARIES = (DCEL, PAGE)
-# Structs that an export takes from crates below, with their names in C.
-FROM_BELOW = {"mesh_page": {"lent_bump": ("Memory", "mesh_page_memory"), "dcel_delaunay": ("Triangle", "mesh_page_triangle")}}
+# Structs that exports take from crates below, with the crate of each and its name in C.
+FROM_BELOW = {
+    "mesh_page": {"Memory": ("lent_bump", "mesh_page_memory"), "Triangle": ("dcel_delaunay", "mesh_page_triangle")},
+    "delaunay_c": {
+        "DcelTriangulation": ("dcel_triangulations", "dcel_triangulation"),
+        "DcelPoint": ("dcel_triangulations", "dcel_point"),
+        "Triangle": ("dcel_delaunay", "dcel_triangle"),
+    },
+}
 TYPES = {"u8": "uint8_t", "i32": "int32_t", "i64": "int64_t", "u32": "uint32_t", "u64": "uint64_t", "usize": "size_t"}
 TYPES |= {"f64": "double", "bool": "bool", "": "void"}
-TYPES.update(names for found in FROM_BELOW.values() for names in found.values())
 EXPORT = re.compile(r'#\[unsafe\(no_mangle\)\]\s*(?:#\[[^\n]*\]\s*)?pub extern "C" fn (\w+)\(([^)]*?)\)(?: -> (\w+))?(?: \{|\n(.*?)^\{)', re.S | re.M)
 SAME = re.compile(r"ensures same \{ kept_in (\w+)\.new ≡ kept_in \1\.old \}")
 STRUCT = re.compile(r"#\[repr\(C\)\][^{;]*?pub struct (\w+) \{(.*?)\n\}", re.S)
 FIELD = re.compile(r"^\s*(?:pub(?:\(crate\))? )?(\w+): ([^,]+),", re.M)
-# What C sees of the struct that owns a mesh: the pointer of `Held`, whose allocator takes no bytes, and the flag.
+# What C sees of a struct that owns what is kept: the pointer of `Held`, whose allocator takes no bytes, and the flag.
+KEPT = ("DcelMesh", "DcelTriangulation")
 HELD = (Named("at", Type("void", True)), Named("is_open", Type("bool")))
 
 
-def c_type(text, is_pointer=False, is_const=False):
+def c_type(text, is_pointer=False, is_const=False, names=None):
+    """A type in C, where structs from crates below have these names."""
     if raw := re.fullmatch(r"\*mut (\w+)", text):
         return c_type(raw[1], True)
-    return Type(TYPES.get(text) or snake(text), is_pointer, is_const)
+    return Type((names or {}).get(text) or TYPES.get(text) or snake(text), is_pointer, is_const)
 
 
-def parameters(text):
+def parameters(text, names):
     """What C passes for the parameters of an export."""
     for parameter in filter(None, (it.strip() for it in text.split(","))):
         name, kind = (it.strip() for it in parameter.split(":"))
         if items := re.fullmatch(r"&(mut )?\[(\w+)\]", kind):
-            yield Named(name, c_type(items[2], True, not items[1]))
+            yield Named(name, c_type(items[2], True, not items[1], names))
             yield Named(f"{name}_len", Type("size_t"))
         elif pointer := re.fullmatch(r"&(mut )?(\w+)", kind):
-            yield Named(name, c_type(pointer[2], True, not pointer[1]))
+            yield Named(name, c_type(pointer[2], True, not pointer[1], names))
         elif kind != "Global":  # which takes no bytes
-            yield Named(name, c_type(kind))
+            yield Named(name, c_type(kind, names=names))
 
 
 def struct(name, text, called=None):
-    fields = HELD if name == "DcelMesh" else tuple(Named(it, c_type(kind)) for it, kind in FIELD.findall(re.sub(r"///.*", "", text)))
+    fields = HELD if name in KEPT else tuple(Named(it, c_type(kind)) for it, kind in FIELD.findall(re.sub(r"///.*", "", text)))
     return Struct(called or snake(name), fields, "")
 
 
@@ -74,11 +83,12 @@ def exported(crates):
     """The functions and structs that static libraries have for C, and what each function leaves as it was by its contract."""
     functions, structs, leaves = {}, [], {}
     for crate in crates:
+        names = {name: called for name, (_, called) in FROM_BELOW.get(crate, {}).items()}
         for name, given, result, clauses in (found for text in sources(crate) for found in EXPORT.findall(text)):
-            functions[name] = Function(name, c_type(result), tuple(parameters(given)))
+            functions[name] = Function(name, c_type(result), tuple(parameters(given, names)))
             leaves[name] = SAME.findall(clauses)
         structs += [struct(name, inside) for name, inside in structs_in(crate) if name != "Held"]
-        for other, (wanted, called) in FROM_BELOW.get(crate, {}).items():
+        for wanted, (other, called) in FROM_BELOW.get(crate, {}).items():
             structs += [struct(name, inside, called) for name, inside in structs_in(other) if name == wanted]
     return functions, {it.name: it for it in structs}, leaves
 
@@ -120,7 +130,7 @@ def status_faults(library, header):
     """Statuses whose numbers or names differ from those that the library returns."""
     if library is DCEL:
         refused = {snake(name).upper(): number for number, name in refusals().items()}
-        wanted = [refused, consts((ROOT / "crates/dcel_c/src/status.rt").read_text())]
+        wanted = [refused, *(consts((ROOT / f"crates/{it}/src/status.rt").read_text()) for it in ("dcel_c", "dcel_triangulations"))]
         found = {short(it.name): it.number for it in header.enums["dcel_status"].members}
         for name in found:
             if header.names.get(f"DCEL_{name}") != camel(name):

@@ -11,6 +11,8 @@ TYPES = {"bool": "bool", "size_t": "usize", "uint8_t": "u8", "uint32_t": "u32", 
 TYPES |= {"double": "f64", "void": "c_void"}
 # What is kept across calls, and the type whose methods the calls on it are.
 KEPT = {"dcel_mesh": "Mesh"}
+# What the crate doesn't keep yet, with what only calls on it take. Nothing of it is declared.
+WITHOUT = {"dcel_triangulation", "dcel_point", "dcel_triangle"}
 # Structs that are written by hand, as their fields are handles. What is made says that they lie as C has them.
 BY_HAND = {"dcel_half_edge": "HalfEdgeEntry"}
 SIZES = {"bool": 1, "uint8_t": 1, "uint32_t": 4, "uint64_t": 8, "size_t": 8}
@@ -147,7 +149,7 @@ def declarations(header):
     version = next(it for it in header.functions if it.startswith("dcel_version_"))
     imports = ["use super::HalfEdgeEntry;\nuse std::ffi::c_void;\nuse std::mem::offset_of;"]
     blocks = [imports, constants(header), *(enum(it) for it in header.enums.values()), status_names(header)]
-    blocks += [struct(it) for it in header.structs.values()]
+    blocks += [struct(it) for it in header.structs.values() if it.name not in WITHOUT]
     blocks += [
         [
             "/// With it what uses the crate is linked with no library of another version than the crate's.",
@@ -165,7 +167,7 @@ def extern(header):
     yield "// references are. The others ask for slices too."
     yield 'unsafe extern "C" {'
     for it in header.functions.values():
-        if it.name not in LEFT_OUT:
+        if it.name not in LEFT_OUT and not WITHOUT & {given.type.name for given in it.given}:
             yield from declaration(it, header)
     yield "}"
 

@@ -6,7 +6,7 @@ from email.parser import Parser
 from pathlib import Path
 from typing import NamedTuple
 
-from linking import ROOT, VERSION
+from linking import CRATES, ROOT, VERSION
 from package import licenses, npm
 
 
@@ -23,9 +23,9 @@ def packages(archive, wheel, crate, module, programs):
     """All packages, by where each is unpacked."""
     info = wheel / f"dcel-{VERSION}.dist-info"
     return [
-        Package("archive", archive / "share/doc/dcel", [*programs, "dcel_c"], None),
-        Package("wheel", info / "licenses", ["dcel_c"], info / "METADATA"),
-        Package("crate", crate, ["dcel_c"], crate / "Cargo.toml"),
+        Package("archive", archive / "share/doc/dcel", [*programs, *CRATES], None),
+        Package("wheel", info / "licenses", [*CRATES], info / "METADATA"),
+        Package("crate", crate, [*CRATES], crate / "Cargo.toml"),
         Package("package for npm", module, ["mesh_page"], module / "package.json"),
     ]
 

@@ -1,5 +1,6 @@
 """What pages say of the library for C: as dcel.h has it."""
 
+import linking
 from pygments.lexers import CLexer
 
 from reference import prose
@@ -10,11 +11,11 @@ class Exports:
     def __init__(self, project):
         self.header = Header((project.root / "bindings/c/dcel.h").read_text())
         self.refusals = list(project.crate("dcel_commands").find(("refusal", "Refusal")).inside.values())
-        self.constants = project.crate("dcel_c").find(("status",)).items
+        self.constants = {name: it for crate in ("dcel_triangulations", "dcel_c") for name, it in project.crate(crate).find(("status",)).items.items()}
 
     def has(self, item):
         """Whether an item is a function for C."""
-        return item.home.crate == "dcel_c" and item.kind == "fn" and item.name.startswith("dcel_")
+        return item.home.crate in linking.CRATES and item.kind == "fn" and item.name.startswith("dcel_")
 
     def show(self, page, name):
         """A function's prototype, what is said of it, and the statuses that it returns. Returns whether the header has it."""

@@ -36,6 +36,8 @@ pub(crate) mod status {
     pub(crate) const NO_MESH: u32 = 21;
     pub(crate) const SHORT: u32 = 22;
     pub(crate) const FAULTY: u32 = 23;
+    pub(crate) const OUT_OF_RANGE: u32 = 24;
+    pub(crate) const UNFINISHED: u32 = 25;
 }
 
 /// How a legalization ended.
@@ -86,7 +88,7 @@ pub(crate) mod fault_kind {
 
 /// The names of statuses, by number.
 #[cfg(test)]
-pub(crate) const STATUS_NAMES: [&str; 24] = [
+pub(crate) const STATUS_NAMES: [&str; 26] = [
     "Done",
     "NoSuchVertex",
     "NoSuchEdge",
@@ -111,6 +113,8 @@ pub(crate) const STATUS_NAMES: [&str; 24] = [
     "NoMesh",
     "Short",
     "Faulty",
+    "OutOfRange",
+    "Unfinished",
 ];
 
 /// A mesh, or none: zero bytes are one that isn't open. The fields are the library's. C's

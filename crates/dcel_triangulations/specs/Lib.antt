@@ -1,0 +1,9 @@
+pub mod Calls
+pub mod Held
+pub mod Inserting
+pub mod Lending
+pub mod Points
+pub mod Removing
+pub mod Statuses
+pub mod Triangulating
+pub mod Wholes
