@@ -1,9 +1,5 @@
 -- What the circle test at an edge tells.
-use Rattle.std.proofs.Common.{◌≡◌, ◌↔◌, inl, inr, ℕ, ◌+◌, ◌*◌, ◌^◌, ◌≤◌, ◌<◌, Bool, true, IsTrue, refl, sym, ap, ◌∙◌, subst, ℤ, pos, int_lt, unsigned_abs, to_z, of_z, ◌<ℤ◌, arith}
-use Rattle.std.specs.Int.{w128}
-use Rattle.std.proofs.lemmas.Int.{to_z-of_z}
-use borrow.Author.Differences.{below_in, lt-true, lt_out, true_is_lt}
-use Rattle.dcel_predicates.proofs.Machine.{fits_128}
+use Rattle.std.proofs.Common.{◌≡◌, ◌↔◌, inl, inr, ℕ, ◌+◌, ◌*◌, ◌<◌, Bool, true, IsTrue, refl, sym, ap, ◌∙◌, subst, pos, ◌<ℤ◌, arith}
 use Rattle.std.proofs.lemmas.Bool.{cases_eq}
 use Rattle.dcel_fixed.proofs.Halves.{rev-double}
 use Rattle.dcel_predicates.specs.declared.point.Point.{Point}

@@ -1,5 +1,5 @@
 -- Edits that keep a line straight.
-use Rattle.std.proofs.Common.{◌≡◌, ◌∙◌, ℕ, ◌/◌, ◌<◌, List, [], ◌∷◌, sym, ap, subst, arith, pos, ◌<ℤ◌, slice_get, Some}
+use Rattle.std.proofs.Common.{◌≡◌, ◌∙◌, ℕ, ◌/◌, ◌<◌, List, [], ◌∷◌, sym, ap, subst, arith, pos, ◌<ℤ◌}
 use Rattle.std.proofs.lemmas.List.{length-map, length-set}
 use Rattle.dcel_fixed.specs.HalfEdges.{rev}
 use Rattle.dcel_maps.specs.Conditions.{IsBridge, IsLineEnd}
@@ -13,7 +13,7 @@ use Rattle.dcel_maps.proofs.maps.Soundness.{rev_live}
 use Rattle.dcel_maps.proofs.shapes.Maps.{map-sound}
 use Rattle.dcel_predicates.specs.declared.point.Point.{Point}
 use Rattle.dcel_predicates.specs.Determinants.{orient2d_of}
-use Rattle.dcel_plane.specs.Plane.{origin_point, point_at}
+use Rattle.dcel_plane.specs.Plane.{point_at}
 use Rattle.dcel_plane.proofs.edits.Moved.{appended_stands, others_stand}
 use Rattle.dcel_plane.specs.covering.Covering.{dot}
 use Rattle.dcel_planar.specs.Turning.{AreCircled, IsTurnedTo}
