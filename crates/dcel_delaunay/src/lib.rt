@@ -23,5 +23,5 @@ pub use dcel_planar::{EdgeMesh, InsertionError, Mesh, Point, PositionInTriangula
 pub use errors::{RemovalError, point};
 pub use insert::insertion_order;
 pub use removed::Removed;
-pub use triangles::{Triangle, triangulate};
+pub use triangles::{Triangle, least_numbers, triangulate, triangulate_with};
 pub use triangulation::Triangulation;

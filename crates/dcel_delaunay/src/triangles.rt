@@ -1,10 +1,12 @@
 //! The triangles of points, as numbers of these points.
 
-ghost use Rattle.std.specs.Prelude.{◌≡◌, IfOk};
+ghost use Rattle.std.specs.List.{FoldsTo};
+ghost use Rattle.std.specs.Prelude.{◌≡◌, IfOk, OnOk, length};
+ghost use Rattle.dcel_delaunay.specs.Bulk.{counted};
 ghost use Rattle.dcel_delaunay.specs.Triangles.{AreDelaunayTriangles};
 
 use crate::triangulation::Triangulation;
-use dcel_planar::Point;
+use dcel_planar::{InsertionError, Point};
 use spade_dcel::laws::every_mesh;
 use std::alloc::{AllocError, Allocator};
 
@@ -13,7 +15,7 @@ mod numbers;
 mod triangle;
 
 use list::list_triangles;
-use numbers::least_numbers;
+pub use numbers::least_numbers;
 pub use triangle::Triangle;
 
 /// Returns the triangles of a Delaunay triangulation of points, each by the numbers of its corners.
@@ -27,12 +29,33 @@ pub fn triangulate<A: Allocator + Copy>(
 ) -> Result<Vec<Triangle, A>, AllocError>
     ensures { IfOk result (λ triangles. AreDelaunayTriangles points.now triangles.items) }
 {
+    match triangulate_with(alloc, points, |_| ()) {
+        Ok(triangles) => Ok(triangles),
+        Err(_) => Err(AllocError),
+    }
+}
+
+/// Returns the triangles of a Delaunay triangulation of points as [`triangulate`] does, and reports
+/// after each insertion how many points are inserted: 1, 2, and so on.
+///
+/// If there are too many points for a mesh it returns
+/// [`TooManyPoints`](InsertionError::TooManyPoints). If memory runs out, or there are too many points
+/// for numbers of 32 bits, it returns [`OutOfMemory`](InsertionError::OutOfMemory) or
+/// [`Unfinished`](InsertionError::Unfinished).
+pub fn triangulate_with<A: Allocator + Copy, P: FnMut(usize)>(
+    alloc: A,
+    points: &[Point],
+    progress: P,
+) -> Result<Vec<Triangle, A>, InsertionError>
+    requires progress { P.IsAlwaysCallable progress }
+    ensures triangles { IfOk result (λ triangles. AreDelaunayTriangles points.now triangles.items) }
+    ensures told { OnOk result ((last : P) × FoldsTo (λ before done after. P.step before done tt after) progress (counted 1 (length points.now)) last) }
+{
     let mut triangulation = Triangulation::new(alloc)?;
-    let Ok(vertices) = triangulation.insert_all(alloc, points) else {
-        return Err(AllocError);
-    };
+    let vertices = triangulation.insert_all_with(alloc, points, progress)?;
     let mesh = triangulation.dcel();
     every_mesh(mesh);
     let numbers = least_numbers(alloc, &vertices, mesh.num_vertices())?;
-    list_triangles(alloc, mesh, &numbers)
+    let triangles = list_triangles(alloc, mesh, &numbers)?;
+    Ok(triangles)
 }

@@ -7,7 +7,10 @@ use spade_dcel::handles::FixedVertexHandle;
 use std::alloc::{AllocError, Allocator};
 
 /// Returns the least number of a point at each of so many vertices, where each point has its vertex.
-pub(crate) fn least_numbers<A: Allocator>(
+///
+/// A vertex without a point gets any number. If memory runs out, or there are too many points for
+/// numbers of 32 bits, it returns `AllocError`.
+pub fn least_numbers<A: Allocator>(
     alloc: A,
     vertices: &[FixedVertexHandle],
     count: usize,

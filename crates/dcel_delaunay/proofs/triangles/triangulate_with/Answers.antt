@@ -1,0 +1,31 @@
+use Rattle.std.proofs.Common.{◌≡◌, ◌∙◌, ℕ, List, sym, subst, ap}
+use Rattle.dcel_maps.specs.Triangulations.{AllTriangles}
+use Rattle.dcel_delaunay.specs.Listing.{NamesLeast}
+use Rattle.dcel_delaunay.proofs.listing.Known.{IsKnown, Points}
+use Rattle.dcel_delaunay.proofs.listing.Seen.{known_of, triangulated_seen}
+use Rattle.dcel_delaunay.proofs.triangles.triangulate_with.Goals as goal
+
+pub list_triangles-requires-clause-triangles : goal.list_triangles-requires-clause-triangles
+list_triangles-requires-clause-triangles g c =
+    subst (λ (m : Points). AllTriangles m.shape) (sym c.dcel-mesh.ensures.mesh) c.dcel-mesh.ensures.triangles
+
+pub returns-clause-triangles : goal.returns-clause-triangles
+returns-clause-triangles g c =
+    let m : Points = c.insert_all_with.new.self.planar.dcel in
+    let seen : Points = c.dcel-mesh.result.now in
+    let same : seen ≡ m = c.dcel-mesh.ensures.mesh in
+    let points = c.args.points.now in
+    let vertices = c.in_ok-vertices.vertices.items in
+    let numbers = c.in_ok-numbers.numbers.items in
+    let mesh = c.dcel-mesh.ensures in
+    let whole = c.in_ok-vertices.ensures.whole in
+    let known : IsKnown m points vertices numbers =
+    known_of c.in_ok-triangulation.triangulation.planar.dcel m seen points vertices numbers same c.every_mesh.ensures mesh.closed mesh.joined (mesh.delaunay whole)
+    (mesh.circles whole) (mesh.apart whole) (mesh.covers whole) (mesh.single whole) (mesh.hull whole) c.in_ok-triangulation.ensures.empty c.in_ok-vertices.ensures.adds
+    c.in_ok-vertices.ensures.stand (subst (λ (list : List ℕ). NamesLeast list 0 numbers) c.deref.ensures.value c.in_ok-numbers.ensures.least)
+    (c.in_ok-numbers.ensures.count ∙ c.num_vertices.ensures.count ∙ ap (λ (k : Points). k.shape.vertices) same) in
+    triangulated_seen m seen points vertices numbers c.deref-2.result.now same c.deref-2.ensures.value known c.in_ok-triangles.triangles.items
+    c.in_ok-triangles.ensures.count c.in_ok-triangles.ensures.each
+
+pub returns-clause-told : goal.returns-clause-told
+returns-clause-told g c = c.in_ok-vertices.ensures.told

@@ -1,0 +1,24 @@
+//! The corners of a triangle, from the one with the least number on.
+
+ghost use Rattle.std.specs.Prelude.{◌≡◌};
+ghost use Rattle.dcel_output.specs.Lines.{corners_from_least};
+
+use dcel_delaunay::Triangle;
+
+/// Returns the numbers of a triangle's corners, counterclockwise, the least first.
+pub fn corners(triangle: Triangle) -> [u32; 3]
+    ensures { result ≡ corners_from_least triangle }
+{
+    let Triangle {
+        first,
+        second,
+        third,
+    } = triangle;
+    if first <= second && first <= third {
+        [first, second, third]
+    } else if second <= third {
+        [second, third, first]
+    } else {
+        [third, first, second]
+    }
+}
