@@ -93,16 +93,25 @@ fn nearest_to_all(
     Ok(triangulation.nearest_all(alloc, &points)?)
 }
 
-fn check_asked(triangulation: &Triangulation, asked: &[Asked], alloc: Global) -> Result<(), Fail> {
-    let all = nearest_to_all(triangulation, asked, alloc)?;
+fn check_answers(
+    triangulation: &Triangulation,
+    asked: &[Asked],
+    all: &[Option<FixedVertexHandle>],
+) -> Result<(), Fail> {
     same(all.len(), asked.len(), "nearest vertices")?;
-    for ((place, number), found) in asked.iter().zip(&all) {
-        let wanted = number.map(vertex);
+    for ((place, number), found) in asked.iter().zip(all) {
         let alone = nearest_to(triangulation, *place)?;
+        let wanted = number.map(vertex);
         same(alone, wanted, format_args!("what is nearest to {place:?}"))?;
+        let wanted = number.map(vertex);
         same(*found, wanted, format_args!("{place:?} among all"))?;
     }
     Ok(())
+}
+
+fn check_asked(triangulation: &Triangulation, asked: &[Asked], alloc: Global) -> Result<(), Fail> {
+    let all = nearest_to_all(triangulation, asked, alloc)?;
+    check_answers(triangulation, asked, &all)
 }
 
 fn check_case((vertices, asked): Case, alloc: Global) -> Result<(), Fail> {
