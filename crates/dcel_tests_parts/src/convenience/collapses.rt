@@ -3,7 +3,7 @@
 use crate::convenience::{INNER, wheels};
 use dcel_bench::checks::{holds, same};
 use dcel_bench::lines::grown;
-use dcel_bench::meshes::{Mesh, counts, edge_between, half_edge, vertex};
+use dcel_bench::meshes::{Mesh, counts, half_edge, vertex};
 use dcel_bench::require;
 use dcel_convenience::{WhyNotCollapsed, can_collapse_edge, collapse_edge, degree, is_simple};
 use dcel_exchange::from_triangles;
@@ -17,13 +17,15 @@ fn leading<A: Allocator>(
     from: u32,
     to: u32,
 ) -> Result<FixedDirectedEdgeHandle, Fail> {
-    match edge_between(dcel, from, to)? {
-        Some(number) => Ok(half_edge(number as u32)),
+    let from = vertex(from);
+    require!(from.index() < dcel.num_vertices());
+    match dcel.get_edge_from_neighbors(from, vertex(to)) {
+        Some(edge) => Ok(edge.fix()),
         None => Err(Fail::new("no edge joins the two")),
     }
 }
 
-/// Checks that the edge from one vertex to another is not collapsed, for this reason.
+/// Checks that the edge of a half edge is not collapsed, for this reason.
 fn check_refused<A: Allocator + Clone>(
     dcel: &mut Mesh<A>,
     half: FixedDirectedEdgeHandle,

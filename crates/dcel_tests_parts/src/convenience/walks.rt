@@ -82,18 +82,23 @@ fn step(dcel: &mut Mesh, random: u64, alloc: Global) -> Result<bool, Fail> {
     remove(dcel, random, alloc)
 }
 
-#[test]
-fn each_step_leaves_a_simple_mesh(rt: HostRuntime) -> Result<(), Fail> {
-    let alloc = rt.alloc();
-    let mut dcel = wheels::wheel(alloc, 12)?;
+/// Takes all steps. Returns how many of them changed the mesh.
+fn walk(dcel: &mut Mesh, alloc: Global) -> Result<u32, Fail> {
     let mut random = 1;
     let mut changes: u32 = 0;
     for _ in 0..STEPS {
         random = after(random);
-        if step(&mut dcel, random, alloc)? {
+        if step(dcel, random, alloc)? {
             changes = changes.wrapping_add(1);
         }
-        holds(is_simple(&dcel), "the mesh stays simple")?;
+        holds(is_simple(dcel), "the mesh stays simple")?;
     }
+    Ok(changes)
+}
+
+#[test]
+fn each_step_leaves_a_simple_mesh(rt: HostRuntime) -> Result<(), Fail> {
+    let mut dcel = wheels::wheel(rt.alloc(), 12)?;
+    let changes = walk(&mut dcel, rt.alloc())?;
     holds(changes > STEPS / 4, "enough steps change the mesh")
 }
