@@ -8,12 +8,22 @@ use dcel_bench::meshes::{handles, vertex};
 use dcel_bench::refusing::{Memory, Refusals, Refusing};
 use dcel_bench::require;
 use dcel_bench_points::{Place, numbered, points_at};
+<<<<<<< HEAD
 use dcel_delaunay::lists::{edges, hull, neighbors, points, triangles};
 use dcel_delaunay::{InsertionError, Point, Triangulation, triangulate};
 use dcel_planar::{is_delaunay, is_plane, legalize_by_circles};
 use spade_dcel::dcel::Dcel;
 use spade_dcel::handles::FixedUndirectedEdgeHandle;
 use std::alloc::{AllocError, Global};
+=======
+use dcel_delaunay::{
+    InsertionError, Point, Triangulation, least_numbers, triangulate, triangulate_with,
+};
+use dcel_planar::{is_delaunay, is_plane, legalize_by_circles};
+use spade_dcel::dcel::Dcel;
+use spade_dcel::handles::{FixedUndirectedEdgeHandle, FixedVertexHandle};
+use std::alloc::Global;
+>>>>>>> 78683b694084c833017fb2e7c51de7e19b136ccf
 use std::test::Fail;
 
 /// No call here makes so many requests for memory.
@@ -272,8 +282,11 @@ fn list_refused(
     memory.refuse(Refusals::One(number));
     let is_listed = triangulate(memory, points).is_ok();
     let came = memory.requests() > number;
+    memory.refuse(Refusals::One(number));
+    let is_reported = triangulate_with(memory, points, |_| ()).is_ok();
     memory.refuse(Refusals::None);
     same(is_listed, !came, format_args!("request {number} refused"))?;
+    same(is_reported, !came, format_args!("request {number} refused"))?;
     same(triangulate(memory, points)?.len(), wanted, "triangles")?;
     Ok(came)
 }
@@ -488,4 +501,24 @@ fn flips_by_circles_are_refused_memory(rt: HostRuntime) -> Result<(), Fail> {
         }
     }
     Err(Fail::new("more requests than MANY"))
+}
+
+/// Numbers two vertices, at which three points are.
+fn check_numbers(memory: Memory) -> Result<(), Fail> {
+    let [first, second] = [FixedVertexHandle::new(0), FixedVertexHandle::new(1)];
+    let vertices = [second, first, second];
+    memory.refuse(Refusals::One(0));
+    holds(
+        least_numbers(memory, &vertices, 2).is_err(),
+        "a refused request",
+    )?;
+    memory.refuse(Refusals::None);
+    let numbers = least_numbers(memory, &vertices, 2)?;
+    holds(numbers.as_slice() == [1, 0].as_slice(), "the least numbers")
+}
+
+#[test]
+fn numbers_of_vertices_are_refused_memory(rt: HostRuntime) -> Result<(), Fail> {
+    let memory = Refusing::new(rt.alloc());
+    check_numbers(&memory)
 }
