@@ -8,22 +8,14 @@ use dcel_bench::meshes::{handles, vertex};
 use dcel_bench::refusing::{Memory, Refusals, Refusing};
 use dcel_bench::require;
 use dcel_bench_points::{Place, numbered, points_at};
-<<<<<<< HEAD
 use dcel_delaunay::lists::{edges, hull, neighbors, points, triangles};
-use dcel_delaunay::{InsertionError, Point, Triangulation, triangulate};
-use dcel_planar::{is_delaunay, is_plane, legalize_by_circles};
-use spade_dcel::dcel::Dcel;
-use spade_dcel::handles::FixedUndirectedEdgeHandle;
-use std::alloc::{AllocError, Global};
-=======
 use dcel_delaunay::{
     InsertionError, Point, Triangulation, least_numbers, triangulate, triangulate_with,
 };
 use dcel_planar::{is_delaunay, is_plane, legalize_by_circles};
 use spade_dcel::dcel::Dcel;
 use spade_dcel::handles::{FixedUndirectedEdgeHandle, FixedVertexHandle};
-use std::alloc::Global;
->>>>>>> 78683b694084c833017fb2e7c51de7e19b136ccf
+use std::alloc::{AllocError, Global};
 use std::test::Fail;
 
 /// No call here makes so many requests for memory.
