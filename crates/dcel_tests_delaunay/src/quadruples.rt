@@ -154,17 +154,17 @@ fn answer_across(a: Point, b: Point, c: Point, d: Point) -> u64 {
 
 /// Returns what the predicates answer of four points, as a number from 0 to 35.
 fn answer(a: Point, b: Point, c: Point, d: Point) -> u64 {
-    let line = match orientation(a, b, c) {
+    let line: u64 = match orientation(a, b, c) {
         Side::Left => 0,
         Side::Right => 1,
         Side::On => 2,
     };
-    let circle = match circle_side(a, b, c, d) {
+    let circle: u64 = match circle_side(a, b, c, d) {
         CircleSide::Inside => 0,
         CircleSide::Outside => 1,
         CircleSide::On => 2,
     };
-    let inside = if in_circle(a, b, c, d) { 1 } else { 0 };
+    let inside: u64 = if in_circle(a, b, c, d) { 1 } else { 0 };
     ((line * 3 + circle) * 2 + inside)
         .wrapping_mul(2)
         .wrapping_add(answer_across(a, b, c, d))
