@@ -137,8 +137,12 @@ fn an_order_of_a_cluster_has_each_number(rt: HostRuntime) -> Result<(), Fail> {
 /// Returns a thousand points, some of them equal.
 fn thousand_points(alloc: Global) -> Result<Vec<Point>, Fail> {
     let mut points = Vec::new(alloc);
-    for index in 0..1000 {
-        points.push(point(index * 379 % 997, index * index % 991)?)?;
+    for index in 0..1000i64 {
+        let (x, y) = (
+            index.wrapping_mul(379) % 997,
+            index.wrapping_mul(index) % 991,
+        );
+        points.push(point(x, y)?)?;
     }
     Ok(points)
 }
