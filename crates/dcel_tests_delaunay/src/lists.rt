@@ -211,7 +211,10 @@ fn lists_are_those_of_small_triangulations(rt: HostRuntime) -> Result<(), Fail> 
 fn thousand_places(alloc: Global) -> Result<Vec<Place>, AllocError> {
     let mut places = Vec::new(alloc);
     for index in 0..1000i64 {
-        let (x, y) = (index.wrapping_mul(619) % 1009, index.wrapping_mul(index) % 1013);
+        let (x, y) = (
+            index.wrapping_mul(619) % 1009,
+            index.wrapping_mul(index) % 1013,
+        );
         places.push((x, y))?;
     }
     Ok(places)
