@@ -463,6 +463,40 @@ static void check_no_triangulation(void) {
     CHECK(dcel_triangulation_insert(&none, point, &vertex) == DCEL_NO_MESH && vertex == 77);
     CHECK(dcel_triangulation_insert_all(&none, &point, 1, &vertex, 1, &number) == DCEL_NO_MESH && vertex == 77);
     CHECK(dcel_triangulation_remove(&none, 0, &number) == DCEL_NO_MESH && number == 77);
+    CHECK(dcel_triangulation_insert_with_hint(&none, point, 0, &vertex) == DCEL_NO_MESH && vertex == 77);
+    CHECK(dcel_triangulation_num_edges(&none) == 0);
+}
+
+/* One that isn't open has no lists and no places, and no clone. */
+static void check_nothing_told(void) {
+    dcel_triangulation none = DCEL_TRIANGULATION_INIT, other = DCEL_TRIANGULATION_INIT;
+    dcel_point point = {1, 2};
+    dcel_triangle triangle = {77, 77, 77};
+    dcel_across across = {77, 77, 77};
+    dcel_ends ends = {77, 77};
+    dcel_half_edge half = {77, 77, 77, 77};
+    dcel_position position = {77, 77};
+    uint32_t vertex = 77;
+    uint64_t needed = 77, row = 77;
+    CHECK(dcel_triangulation_points(&none, &point, 1, &needed) == DCEL_NO_MESH && needed == 0 && point.x == 1);
+    needed = 77;
+    CHECK(dcel_triangulation_triangles(&none, &triangle, 1, &needed) == DCEL_NO_MESH && needed == 0 && triangle.first == 77);
+    needed = 77;
+    CHECK(dcel_triangulation_neighbors(&none, &across, 1, &needed) == DCEL_NO_MESH && needed == 0 && across.first == 77);
+    needed = 77;
+    CHECK(dcel_triangulation_edges(&none, &ends, 1, &needed) == DCEL_NO_MESH && needed == 0 && ends.from == 77);
+    needed = 77;
+    CHECK(dcel_triangulation_hull(&none, &vertex, 1, &needed) == DCEL_NO_MESH && needed == 0 && vertex == 77);
+    needed = 77;
+    CHECK(dcel_triangulation_directed_edges(&none, &half, 1, &needed) == DCEL_NO_MESH && needed == 0 && half.next == 77);
+    CHECK(dcel_triangulation_locate(&none, point, &position) == DCEL_NO_MESH);
+    CHECK(dcel_triangulation_locate_with_hint(&none, point, 0, &position) == DCEL_NO_MESH);
+    CHECK(dcel_triangulation_locate_all(&none, &point, 1, &position, 1, &row) == DCEL_NO_MESH && position.kind == 77 && row == 77);
+    CHECK(dcel_triangulation_nearest(&none, point, &vertex) == DCEL_NO_MESH);
+    CHECK(dcel_triangulation_nearest_all(&none, &point, 1, &vertex, 1, &row) == DCEL_NO_MESH && vertex == 77 && row == 77);
+    CHECK(dcel_triangulation_new(&other) == DCEL_DONE && dcel_triangulation_clone(&none, &other) == DCEL_NO_MESH);
+    CHECK(dcel_triangulation_is_whole(&other));
+    dcel_triangulation_free(&other);
 }
 
 /* Twice the area of the triangle of three points, with small coordinates, and 0 or less if it goes clockwise. */
@@ -534,6 +568,79 @@ static void check_points(void) {
     CHECK(!dcel_triangulation_is_whole(&made));
 }
 
+/* Lists go into a buffer whole, or it stays. */
+static void check_lists(void) {
+    dcel_triangulation made = DCEL_TRIANGULATION_INIT;
+    dcel_point points[6] = {{77, 77}, {77, 77}, {77, 77}, {77, 77}, {77, 77}, {77, 77}};
+    dcel_triangle triangles[5] = {{77, 77, 77}, {77, 77, 77}, {77, 77, 77}, {77, 77, 77}, {77, 77, 77}};
+    dcel_across across[5] = {{77, 77, 77}, {77, 77, 77}, {77, 77, 77}, {77, 77, 77}, {77, 77, 77}};
+    dcel_ends edges[9] = {{77, 77}, {77, 77}, {77, 77}, {77, 77}, {77, 77}, {77, 77}, {77, 77}, {77, 77}, {77, 77}};
+    dcel_half_edge halves[17];
+    uint32_t vertices[6], hull[5] = {77, 77, 77, 77, 77};
+    uint64_t row, needed = 77;
+    memset(halves, 77, sizeof halves);
+    CHECK(dcel_triangulation_new(&made) == DCEL_DONE);
+    CHECK(dcel_triangulation_hull(&made, hull, 5, &needed) == DCEL_DONE && needed == 0);
+    CHECK(dcel_triangulation_insert_all(&made, POINTS, 6, vertices, 6, &row) == DCEL_DONE);
+    CHECK(dcel_triangulation_points(&made, points, 4, &needed) == DCEL_SHORT && needed == 5 && points[0].x == 77);
+    CHECK(dcel_triangulation_triangles(&made, triangles, 3, &needed) == DCEL_SHORT && needed == 4 && triangles[0].first == 77);
+    CHECK(dcel_triangulation_neighbors(&made, across, 3, &needed) == DCEL_SHORT && needed == 4 && across[0].first == 77);
+    CHECK(dcel_triangulation_edges(&made, edges, 7, &needed) == DCEL_SHORT && needed == 8 && edges[0].from == 77);
+    CHECK(dcel_triangulation_hull(&made, hull, 3, &needed) == DCEL_SHORT && needed == 4 && hull[0] == 77);
+    CHECK(dcel_triangulation_directed_edges(&made, halves, 15, &needed) == DCEL_SHORT && needed == 16 && halves[0].next == halves[16].next);
+    CHECK(dcel_triangulation_points(&made, points, 6, &needed) == DCEL_DONE && needed == 5 && points[4].x != 77 && points[5].x == 77);
+    CHECK(dcel_triangulation_triangles(&made, triangles, 5, &needed) == DCEL_DONE && needed == 4 && triangles[3].first < 5 && triangles[4].first == 77);
+    CHECK(dcel_triangulation_neighbors(&made, across, 5, &needed) == DCEL_DONE && needed == 4 && across[4].first == 77);
+    CHECK(dcel_triangulation_edges(&made, edges, 9, &needed) == DCEL_DONE && needed == 8 && edges[7].from < 5 && edges[8].from == 77);
+    CHECK(dcel_triangulation_hull(&made, hull, 5, &needed) == DCEL_DONE && needed == 4 && hull[3] < 5 && hull[4] == 77);
+    CHECK(dcel_triangulation_directed_edges(&made, halves, 17, &needed) == DCEL_DONE && needed == 16 && halves[15].next < 16);
+    CHECK(dcel_triangulation_num_edges(&made) == 8);
+    dcel_triangulation_free(&made);
+}
+
+/* Points that are asked for in vain, and those that there are. */
+static void check_places(void) {
+    dcel_triangulation made = DCEL_TRIANGULATION_INIT;
+    const dcel_point asked[3] = {{4, 0}, {1, 0}, {-9, 3}};
+    dcel_position positions[4] = {{77, 77}, {77, 77}, {77, 77}, {77, 77}}, one = {77, 77};
+    uint32_t vertices[6], nearest[4] = {77, 77, 77, 77}, vertex = 77;
+    uint64_t row = 77;
+    CHECK(dcel_triangulation_new(&made) == DCEL_DONE);
+    CHECK(dcel_triangulation_locate(&made, asked[0], &one) == DCEL_DONE && one.kind == DCEL_NOWHERE && one.number == UINT32_MAX);
+    CHECK(dcel_triangulation_nearest(&made, asked[0], &vertex) == DCEL_DONE && vertex == UINT32_MAX);
+    CHECK(dcel_triangulation_insert_all(&made, POINTS, 6, vertices, 6, &row) == DCEL_DONE);
+    CHECK(dcel_triangulation_locate(&made, FAR[1], &one) == DCEL_OUT_OF_RANGE && one.kind == DCEL_NOWHERE);
+    CHECK(dcel_triangulation_locate_with_hint(&made, FAR[2], 0, &one) == DCEL_OUT_OF_RANGE && one.kind == DCEL_NOWHERE);
+    CHECK(dcel_triangulation_nearest(&made, FAR[1], &vertex) == DCEL_OUT_OF_RANGE && vertex == UINT32_MAX);
+    CHECK(dcel_triangulation_insert_with_hint(&made, FAR[1], 0, &vertex) == DCEL_OUT_OF_RANGE && vertex == UINT32_MAX);
+    CHECK(dcel_triangulation_locate_all(&made, FAR, 3, positions, 2, &row) == DCEL_SHORT && row == 77);
+    CHECK(dcel_triangulation_locate_all(&made, FAR, 3, positions, 4, &row) == DCEL_OUT_OF_RANGE && row == 1 && positions[0].kind == 77);
+    row = 77;
+    CHECK(dcel_triangulation_nearest_all(&made, FAR, 3, nearest, 2, &row) == DCEL_SHORT && row == 77);
+    CHECK(dcel_triangulation_nearest_all(&made, FAR, 3, nearest, 4, &row) == DCEL_OUT_OF_RANGE && row == 1 && nearest[0] == 77);
+    CHECK(dcel_triangulation_locate_all(&made, asked, 3, positions, 4, &row) == DCEL_DONE && positions[3].kind == 77);
+    CHECK(positions[0].kind == DCEL_ON_VERTEX && positions[0].number == vertices[1]);
+    CHECK(positions[1].kind == DCEL_ON_EDGE && positions[2].kind == DCEL_OUTSIDE);
+    CHECK(dcel_triangulation_nearest_all(&made, asked, 3, nearest, 4, &row) == DCEL_DONE && nearest[3] == 77);
+    CHECK(nearest[0] == vertices[1] && nearest[1] == vertices[0] && nearest[2] == vertices[2]);
+    CHECK(dcel_triangulation_locate_with_hint(&made, asked[0], UINT32_MAX, &one) == DCEL_DONE && one.kind == DCEL_ON_VERTEX);
+    CHECK(dcel_triangulation_insert_with_hint(&made, asked[0], UINT32_MAX, &vertex) == DCEL_DONE && vertex == vertices[1]);
+    dcel_triangulation_free(&made);
+}
+
+static void check_clone(void) {
+    dcel_triangulation from = DCEL_TRIANGULATION_INIT, to = DCEL_TRIANGULATION_INIT;
+    uint32_t vertices[6];
+    uint64_t row, moved;
+    CHECK(dcel_triangulation_new(&from) == DCEL_DONE && dcel_triangulation_new(&to) == DCEL_DONE);
+    CHECK(dcel_triangulation_insert_all(&from, POINTS, 6, vertices, 6, &row) == DCEL_DONE);
+    CHECK(dcel_triangulation_clone(&from, &to) == DCEL_DONE && dcel_triangulation_num_vertices(&to) == 5);
+    CHECK(dcel_triangulation_remove(&from, 0, &moved) == DCEL_DONE && dcel_triangulation_num_vertices(&to) == 5);
+    dcel_triangulation_free(&from);
+    CHECK(dcel_triangulation_num_triangles(&to) == 4 && dcel_triangulation_is_whole(&to));
+    dcel_triangulation_free(&to);
+}
+
 int main(void) {
     check_version();
     check_none();
@@ -557,6 +664,10 @@ int main(void) {
     check_no_triangulation();
     check_triangulate();
     check_points();
+    check_nothing_told();
+    check_lists();
+    check_places();
+    check_clone();
     printf("%d checks passed\n", checks);
     return EXIT_SUCCESS;
 }

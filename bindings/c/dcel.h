@@ -90,7 +90,7 @@ typedef enum {
     DCEL_SHORT = 22,   /* a buffer has too few places */
     DCEL_FAULTY = 23,  /* no mesh is made of what is given, and a dcel_fault says why */
     DCEL_OUT_OF_RANGE = 24, /* a coordinate is below -2^53 or above 2^53 */
-    DCEL_UNFINISHED = 25    /* there was no memory to make the triangulation whole */
+    DCEL_UNFINISHED = 25    /* the triangulation isn't whole, as there was no memory to make it so */
 } dcel_status;
 
 /* Returns the name of a status, as "NoSuchVertex", or "" if it is none. */
@@ -562,7 +562,13 @@ dcel_status dcel_triangulation_new(dcel_triangulation *triangulation);
 /* Frees the triangulation, if there is one. */
 void dcel_triangulation_free(dcel_triangulation *triangulation);
 
+/* Makes `to` a triangulation of its own, with the same numbers of vertices, edges and triangles, and frees
+   the one that was there. It is whole if `from` is.
+   Refusals: OUT_OF_MEMORY. */
+dcel_status dcel_triangulation_clone(const dcel_triangulation *from, dcel_triangulation *to);
+
 uint64_t dcel_triangulation_num_vertices(const dcel_triangulation *triangulation);
+uint64_t dcel_triangulation_num_edges(const dcel_triangulation *triangulation);
 uint64_t dcel_triangulation_num_triangles(const dcel_triangulation *triangulation);
 
 /* There is a triangulation, and it is whole. */
@@ -576,6 +582,11 @@ dcel_status dcel_triangulation_finish(dcel_triangulation *triangulation);
    DCEL_UNFINISHED, the point is the last vertex. With any other refusal no vertex is added.
    Refusals: OUT_OF_RANGE, NO_ROOM, OUT_OF_MEMORY, UNFINISHED. */
 dcel_status dcel_triangulation_insert(dcel_triangulation *triangulation, dcel_point point, uint32_t *vertex);
+
+/* The same, by a walk that begins at the vertex `hint`: the nearer it is to the point, the shorter is the
+   walk. If there is no such vertex, the walk begins where that of dcel_triangulation_insert does. */
+dcel_status dcel_triangulation_insert_with_hint(dcel_triangulation *triangulation, dcel_point point,
+                                                uint32_t hint, uint32_t *vertex);
 
 /* Inserts points in an order of its own, which is fast, and puts the vertex of each into the buffer, in
    the order of the points. If a coordinate is out of range, the point's row is told, and none is inserted.
@@ -591,6 +602,111 @@ dcel_status dcel_triangulation_insert_all(dcel_triangulation *triangulation, con
    flipped.
    Refusals: NO_SUCH_VERTEX, NO_ROOM, OUT_OF_MEMORY, UNFINISHED. */
 dcel_status dcel_triangulation_remove(dcel_triangulation *triangulation, uint32_t vertex, uint64_t *moved);
+
+/* ---- Lists of a triangulation, into a buffer ----
+
+   They are put there whole, from the front, and what lies behind them stays. `needed` is how many items
+   there are. If they don't all fit, the status is DCEL_SHORT, and the buffer stays; with any other refusal
+   it stays too, and `needed` is 0.
+
+   Vertices, half edges and edges have the numbers of the triangulation's mesh. A triangle's number is its
+   place in the list of dcel_triangulation_triangles, from 0: its face in the mesh has the number after it.
+   A change renumbers edges and triangles; an insertion keeps the numbers of vertices.
+   Refusals: OUT_OF_MEMORY, SHORT. */
+
+/* The point of each vertex. There are dcel_triangulation_num_vertices of them. */
+dcel_status dcel_triangulation_points(const dcel_triangulation *triangulation, dcel_point *points,
+                                      size_t points_len, uint64_t *needed);
+
+/* The corners of each triangle, counterclockwise, by their vertices. There are
+   dcel_triangulation_num_triangles of them. */
+dcel_status dcel_triangulation_triangles(const dcel_triangulation *triangulation, dcel_triangle *triangles,
+                                         size_t triangles_len, uint64_t *needed);
+
+/* The triangles across from the corners of a triangle: the one across from its first corner has the other
+   two as corners too. UINT32_MAX stands where there is none: on the hull. */
+typedef struct {
+    uint32_t first, second, third;
+} dcel_across;
+
+/* For each triangle those across from its corners. The triangles and their corners are in the order of
+   dcel_triangulation_triangles. */
+dcel_status dcel_triangulation_neighbors(const dcel_triangulation *triangulation, dcel_across *across,
+                                         size_t across_len, uint64_t *needed);
+
+/* The ends of an edge u: the vertices where half edge 2 * u starts and ends. */
+typedef struct {
+    uint32_t from, to;
+} dcel_ends;
+
+/* The ends of each edge. There are dcel_triangulation_num_edges of them. */
+dcel_status dcel_triangulation_edges(const dcel_triangulation *triangulation, dcel_ends *edges,
+                                     size_t edges_len, uint64_t *needed);
+
+/* The vertices of the convex hull, counterclockwise, those on its sides too. While all points are on one
+   line it goes there and back, so each vertex comes twice but the ends; a vertex alone is the hull. */
+dcel_status dcel_triangulation_hull(const dcel_triangulation *triangulation, uint32_t *vertices,
+                                    size_t vertices_len, uint64_t *needed);
+
+/* The links of each half edge, as dcel_directed_edges has them of a mesh; there are two for each edge.
+   dcel_from_links makes a mesh of them, with the same numbers, and the data that it is given: as many
+   vertices as here, and a face more than triangles.
+   Refusals: SHORT. */
+dcel_status dcel_triangulation_directed_edges(const dcel_triangulation *triangulation,
+                                              dcel_half_edge *half_edges, size_t half_edges_len,
+                                              uint64_t *needed);
+
+/* ---- Points located in a triangulation, exactly ----
+
+   Any points in range may be asked for. If the triangulation isn't whole, the status is DCEL_UNFINISHED;
+   dcel_triangulation_finish makes it whole. With any refusal what is told and buffers stay, but that
+   DCEL_OUT_OF_RANGE tells the row of the first point that has a coordinate out of range. */
+
+/* Where a point is, and what the `number` of a dcel_position is. Each point is at one place alone. */
+enum dcel_place {
+    DCEL_ON_FACE = 0,     /* strictly inside triangle `number` */
+    DCEL_ON_EDGE = 1,     /* strictly between the ends of half edge `number`, which is either half */
+    DCEL_ON_VERTEX = 2,   /* at vertex `number` */
+    DCEL_OUTSIDE = 3,     /* outside of the hull, strictly on the left of half edge `number` of the outer face */
+    DCEL_BEYOND_LINE = 4, /* on the line of all points, strictly beyond vertex `number`, which ends it */
+    DCEL_NOWHERE = 5      /* there is no edge, and no vertex is there: `number` is UINT32_MAX */
+};
+
+/* A place: an enum dcel_place, and the number that it speaks of. */
+typedef struct {
+    uint32_t kind, number;
+} dcel_position;
+
+/* Tells where a point is. The walk begins where the last insertion ended.
+   Refusals: OUT_OF_RANGE, UNFINISHED. */
+dcel_status dcel_triangulation_locate(const dcel_triangulation *triangulation, dcel_point point,
+                                      dcel_position *position);
+
+/* The same, by a walk that begins at the vertex `hint`: the nearer it is to the point, the shorter is the
+   walk. If there is no such vertex, the walk begins where that of dcel_triangulation_locate does. */
+dcel_status dcel_triangulation_locate_with_hint(const dcel_triangulation *triangulation, dcel_point point,
+                                                uint32_t hint, dcel_position *position);
+
+/* Tells where each point is, in the order of the points, from the front of the buffer; what lies behind
+   them there stays. It looks for them in an order of its own, which is fast.
+   Refusals: OUT_OF_RANGE, OUT_OF_MEMORY, SHORT if the buffer has fewer places than there are points,
+   UNFINISHED. */
+dcel_status dcel_triangulation_locate_all(const dcel_triangulation *triangulation, const dcel_point *points,
+                                          size_t points_len, dcel_position *positions, size_t positions_len,
+                                          uint64_t *row);
+
+/* Tells a vertex that no other one is nearer to the point than, UINT32_MAX if there is no vertex.
+   Refusals: OUT_OF_RANGE, UNFINISHED. */
+dcel_status dcel_triangulation_nearest(const dcel_triangulation *triangulation, dcel_point point,
+                                       uint32_t *vertex);
+
+/* The same for each point, in the order of the points, from the front of the buffer; what lies behind
+   them there stays. It looks for them in an order of its own, which is fast.
+   Refusals: OUT_OF_RANGE, OUT_OF_MEMORY, SHORT if the buffer has fewer places than there are points,
+   UNFINISHED. */
+dcel_status dcel_triangulation_nearest_all(const dcel_triangulation *triangulation, const dcel_point *points,
+                                           size_t points_len, uint32_t *vertices, size_t vertices_len,
+                                           uint64_t *row);
 
 #ifdef __cplusplus
 }

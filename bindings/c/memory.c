@@ -180,6 +180,22 @@ static void sweep_replies(void) {
     }
 }
 
+/* Nothing is located in a triangulation that isn't whole. */
+static void check_unfinished(const dcel_triangulation *triangulation) {
+    const dcel_point point = {1, 1};
+    dcel_position position = {77, 77};
+    uint32_t vertex = 77;
+    uint64_t row;
+    if (!triangulation->is_open || dcel_triangulation_is_whole(triangulation))
+        return;
+    must(dcel_triangulation_locate(triangulation, point, &position) == DCEL_UNFINISHED && position.kind == 77, "locate, unfinished");
+    must(dcel_triangulation_locate_with_hint(triangulation, point, 0, &position) == DCEL_UNFINISHED, "locate with a hint, unfinished");
+    must(dcel_triangulation_locate_all(triangulation, &point, 1, &position, 1, &row) == DCEL_UNFINISHED, "locate all, unfinished");
+    must(dcel_triangulation_nearest(triangulation, point, &vertex) == DCEL_UNFINISHED && vertex == 77, "nearest, unfinished");
+    must(dcel_triangulation_nearest_all(triangulation, &point, 1, &vertex, 1, &row) == DCEL_UNFINISHED && vertex == 77, "nearest all, unfinished");
+    must(position.kind == 77, "nothing is told of an unfinished triangulation");
+}
+
 /* A triangulation of points that finds no memory for more has those that it had, and it is whole or can be finished. */
 static void sweep_triangulation(void) {
     static const dcel_point points[6] = {{0, 0}, {4, 0}, {0, 3}, {5, 5}, {2, 2}, {9, 1}};
@@ -200,6 +216,7 @@ static void sweep_triangulation(void) {
             status = dcel_triangulate(points, 6, triangles, 16, &number, &row);
         left = -1;
         must(status != DCEL_UNFINISHED || !dcel_triangulation_is_whole(&triangulation), "a whole triangulation is unfinished");
+        check_unfinished(&triangulation);
         must(dcel_triangulation_finish(&triangulation) == (triangulation.is_open ? DCEL_DONE : DCEL_NO_MESH), "it can't be finished");
         dcel_triangulation_free(&triangulation);
         if (status == DCEL_DONE) {
@@ -210,7 +227,79 @@ static void sweep_triangulation(void) {
     }
 }
 
+/* What is told of a triangulation, or made of it, in a buffer. */
+typedef struct {
+    dcel_triangulation clone;
+    dcel_point points[8];
+    dcel_triangle triangles[8];
+    dcel_across across[8];
+    dcel_ends edges[16];
+    uint32_t hull[8], nearest[8];
+    dcel_position positions[8];
+    uint64_t needed;
+} told;
+
+static const dcel_point ASKED[3] = {{1, 1}, {2, 2}, {9, 9}};
+
+static dcel_status tell_clone(dcel_triangulation *of, told *it) { return dcel_triangulation_clone(of, &it->clone); }
+static dcel_status tell_points(dcel_triangulation *of, told *it) { return dcel_triangulation_points(of, it->points, 8, &it->needed); }
+static dcel_status tell_triangles(dcel_triangulation *of, told *it) {
+    return dcel_triangulation_triangles(of, it->triangles, 8, &it->needed);
+}
+static dcel_status tell_neighbors(dcel_triangulation *of, told *it) {
+    return dcel_triangulation_neighbors(of, it->across, 8, &it->needed);
+}
+static dcel_status tell_edges(dcel_triangulation *of, told *it) { return dcel_triangulation_edges(of, it->edges, 16, &it->needed); }
+static dcel_status tell_hull(dcel_triangulation *of, told *it) { return dcel_triangulation_hull(of, it->hull, 8, &it->needed); }
+static dcel_status tell_places(dcel_triangulation *of, told *it) {
+    uint64_t row;
+    return dcel_triangulation_locate_all(of, ASKED, 3, it->positions, 8, &row);
+}
+static dcel_status tell_nearest(dcel_triangulation *of, told *it) {
+    uint64_t row;
+    return dcel_triangulation_nearest_all(of, ASKED, 3, it->nearest, 8, &row);
+}
+
+typedef struct {
+    const char *name;
+    dcel_status (*call)(dcel_triangulation *of, told *it);
+} telling;
+
+static const telling TELLINGS[] = {
+    {"clone of a triangulation", tell_clone}, {"points", tell_points}, {"triangles", tell_triangles}, {"neighbors", tell_neighbors},
+    {"edges", tell_edges},                    {"hull", tell_hull},     {"places", tell_places},       {"nearest", tell_nearest},
+};
+
+/* A call that finds no memory to tell of a triangulation leaves its buffer. */
+static void sweep_telling(const telling *it) {
+    static const dcel_point points[6] = {{0, 0}, {4, 0}, {0, 3}, {5, 5}, {2, 2}, {9, 1}};
+    dcel_triangulation of = DCEL_TRIANGULATION_INIT;
+    uint32_t vertices[6];
+    uint64_t row;
+    must(dcel_triangulation_new(&of) == DCEL_DONE && dcel_triangulation_insert_all(&of, points, 6, vertices, 6, &row) == DCEL_DONE,
+         "there was no memory for the points");
+    for (long met = 0;; met++) {
+        static told before, after;
+        memset(&before, 0, sizeof before);
+        memset(&after, 0, sizeof after);
+        left = met;
+        dcel_status status = it->call(&of, &after);
+        left = -1;
+        bool is_same = memcmp(&before, &after, sizeof after) == 0;
+        dcel_triangulation_free(&after.clone);
+        must(status == DCEL_DONE || (status == DCEL_OUT_OF_MEMORY && is_same), it->name);
+        if (status == DCEL_DONE) {
+            must(!is_same, it->name);
+            printf("%s: %ld requests\n", it->name, met);
+            break;
+        }
+    }
+    dcel_triangulation_free(&of);
+}
+
 int main(void) {
+    for (size_t i = 0; i < sizeof TELLINGS / sizeof TELLINGS[0]; i++)
+        sweep_telling(&TELLINGS[i]);
     for (size_t i = 0; i < sizeof CALLS / sizeof CALLS[0]; i++)
         sweep(&CALLS[i]);
     sweep_clone();

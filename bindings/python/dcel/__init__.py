@@ -2,7 +2,7 @@
 
 `Dcel` is the mesh, `Delaunay` the triangulation, and `replies` answers lines. Each way in which a call can be refused is an error of its own, under `DcelError`."""
 
-from ._declared import NO_LINK, Ended, FaultKind, RemovalState, Status
+from ._declared import NO_LINK, Ended, FaultKind, Place, RemovalState, Status
 from ._declared import VERSION as __version__
 from ._delaunay import Delaunay
 from ._errors import (
@@ -13,6 +13,7 @@ from ._errors import (
     Fault,
     Faulty,
     GivenUp,
+    Inexact,
     NoMesh,
     NoRemoval,
     NoRoom,
@@ -34,12 +35,13 @@ from ._errors import (
     WouldLoop,
     WrongLists,
 )
+from ._grid import Grid
 from ._lines import replies
 from ._mesh import Dcel, HalfEdge, Legalized, Links, Opened, Removed
 
 __all__ = [
-    "NO_LINK", "BadRing", "BadStrip", "Dcel", "DcelError", "Delaunay", "EdgesStand", "Ended", "Fault", "FaultKind", "Faulty", "GivenUp", "HalfEdge", "Legalized", "Links", "NoMesh",
+    "NO_LINK", "BadRing", "BadStrip", "Dcel", "DcelError", "Delaunay", "EdgesStand", "Ended", "Fault", "FaultKind", "Faulty", "GivenUp", "Grid", "HalfEdge", "Inexact", "Legalized", "Links", "NoMesh",
     "NoRemoval", "NoRoom", "NoSuchEdge", "NoSuchFace", "NoSuchVertex", "NotBridge", "NotLineEnd", "NotOuter", "NotPath", "NotTriangle",
-    "Opened", "OutOfMemory", "OutOfRange", "RemovalOpen", "RemovalState", "Removed", "SameVertex", "Short", "Status", "Unfinished", "VertexInUse", "WouldLoop",
+    "Opened", "OutOfMemory", "OutOfRange", "Place", "RemovalOpen", "RemovalState", "Removed", "SameVertex", "Short", "Status", "Unfinished", "VertexInUse", "WouldLoop",
     "WrongLists", "__version__", "replies",
 ]

@@ -106,18 +106,6 @@ def listed(items: array[int] | bytearray | memoryview, kind: Any = c_uint32) -> 
     return start_of(items, kind), len(items)
 
 
-def pairs(values: Iterable[Any]) -> array[int]:
-    """The coordinates of points, one after the other, in an array of its own: those of an array of shape (n, 2) of any integers, or of an
-    iterable of pairs."""
-    try:
-        view = memoryview(values)  # type: ignore[arg-type]
-    except TypeError:
-        return array("q", [it for x, y in values for it in (x, y)])
-    if view.ndim != 2 or view.shape[1] != 2:  # type: ignore[index]
-        raise ValueError(f"points are an array of shape (n, 2), and not {view.shape}")
-    return array("q", flat(values))
-
-
 @cache
 def numpy() -> ModuleType | None:
     """NumPy, if it is installed."""
@@ -127,9 +115,14 @@ def numpy() -> ModuleType | None:
         return None
 
 
-def shaped(items: array[Any], width: int) -> Any:
-    """The items in rows of so many: an array of NumPy's, or without it a memoryview of two dimensions, which has one if it is empty."""
-    if found := numpy():
-        return found.asarray(items).reshape(-1, width)
+def shaped(items: Any, width: int, code: str = "i") -> Any:
+    """The items, in rows of so many if that isn't 1: an array of NumPy's, or without it a memoryview, which has one dimension if it is
+    empty. They aren't copied; the code is what they are: "i" for 32 bits with a sign."""
+    if (found := numpy()) is not None:
+        flat = found.frombuffer(items, code) if len(items) else found.empty(0, code)
+        return flat.reshape(-1, width) if width > 1 else flat
     view = memoryview(items)
-    return view.cast("B").cast(view.format, (len(items) // width, width)) if items else view
+    if not items or (width == 1 and view.format == code):
+        return view.cast("B").cast(code) if items else memoryview(array(code))
+    flat = view.cast("B")
+    return flat.cast(code, (flat.nbytes // (width * array(code).itemsize), width)) if width > 1 else flat.cast(code)

@@ -41,7 +41,7 @@ class Status(enum.IntEnum):
     SHORT = 22  #: a buffer has too few places
     FAULTY = 23  #: no mesh is made of what is given, and a dcel_fault says why
     OUT_OF_RANGE = 24  #: a coordinate is below -2^53 or above 2^53
-    UNFINISHED = 25  #: there was no memory to make the triangulation whole
+    UNFINISHED = 25  #: the triangulation isn't whole, as there was no memory to make it so
 
 
 class Ended(enum.IntEnum):
@@ -87,6 +87,17 @@ class FaultKind(enum.IntEnum):
     SIDE_AT_ONE = 21  #: the face at place `number` has corner `from` twice in a row
     SIDE_TWICE = 22  #: faces at places `number` and `other` have the side `from` to `to`
     BORDER_TWICE = 23  #: two sides that no face lies beyond end at vertex `number`
+
+
+class Place(enum.IntEnum):
+    """Where a point is, and what the `number` of a dcel_position is. Each point is at one place alone."""
+
+    ON_FACE = 0  #: strictly inside triangle `number`
+    ON_EDGE = 1  #: strictly between the ends of half edge `number`, which is either half
+    ON_VERTEX = 2  #: at vertex `number`
+    OUTSIDE = 3  #: outside of the hull, strictly on the left of half edge `number` of the outer face
+    BEYOND_LINE = 4  #: on the line of all points, strictly beyond vertex `number`, which ends it
+    NOWHERE = 5  #: there is no edge, and no vertex is there: `number` is UINT32_MAX
 
 
 class Mesh(Structure):
@@ -145,6 +156,25 @@ class Triangulation(Structure):
     _fields_ = [("at", c_void_p), ("is_open", c_bool)]
 
 
+class Across(Structure):
+    """The triangles across from the corners of a triangle: the one across from its first corner has the other two as corners too.
+    UINT32_MAX stands where there is none: on the hull."""
+
+    _fields_ = [("first", c_uint32), ("second", c_uint32), ("third", c_uint32)]
+
+
+class Ends(Structure):
+    """The ends of an edge u: the vertices where half edge 2 * u starts and ends."""
+
+    _fields_ = [("from", c_uint32), ("to", c_uint32)]
+
+
+class Position(Structure):
+    """A place: an enum dcel_place, and the number that it speaks of."""
+
+    _fields_ = [("kind", c_uint32), ("number", c_uint32)]
+
+
 STRUCTS: dict[str, type[Structure]] = {
     "dcel_mesh": Mesh,
     "dcel_half_edge": HalfEdge,
@@ -155,6 +185,9 @@ STRUCTS: dict[str, type[Structure]] = {
     "dcel_point": Point,
     "dcel_triangle": Triangle,
     "dcel_triangulation": Triangulation,
+    "dcel_across": Across,
+    "dcel_ends": Ends,
+    "dcel_position": Position,
 }
 
 # What a fault of each kind says.
@@ -185,12 +218,15 @@ FAULTS = {
 }
 
 _bool = POINTER(c_bool)
+_across = POINTER(Across)
+_ends = POINTER(Ends)
 _fault = POINTER(Fault)
 _half_edge = POINTER(HalfEdge)
 _legalized = POINTER(Legalized)
 _mesh = POINTER(Mesh)
 _opened = POINTER(Opened)
 _point = POINTER(Point)
+_position = POINTER(Position)
 _removed = POINTER(Removed)
 _triangle = POINTER(Triangle)
 _triangulation = POINTER(Triangulation)
@@ -287,11 +323,25 @@ FUNCTIONS: dict[str, tuple[Any, tuple[Any, ...]]] = {
     "dcel_triangulate": (Status, (_point, c_size_t, _triangle, c_size_t, _uint64, _uint64)),
     "dcel_triangulation_new": (Status, (_triangulation,)),
     "dcel_triangulation_free": (None, (_triangulation,)),
+    "dcel_triangulation_clone": (Status, (_triangulation, _triangulation)),
     "dcel_triangulation_num_vertices": (c_uint64, (_triangulation,)),
+    "dcel_triangulation_num_edges": (c_uint64, (_triangulation,)),
     "dcel_triangulation_num_triangles": (c_uint64, (_triangulation,)),
     "dcel_triangulation_is_whole": (c_bool, (_triangulation,)),
     "dcel_triangulation_finish": (Status, (_triangulation,)),
     "dcel_triangulation_insert": (Status, (_triangulation, Point, _uint32)),
+    "dcel_triangulation_insert_with_hint": (Status, (_triangulation, Point, c_uint32, _uint32)),
     "dcel_triangulation_insert_all": (Status, (_triangulation, _point, c_size_t, _uint32, c_size_t, _uint64)),
     "dcel_triangulation_remove": (Status, (_triangulation, c_uint32, _uint64)),
+    "dcel_triangulation_points": (Status, (_triangulation, _point, c_size_t, _uint64)),
+    "dcel_triangulation_triangles": (Status, (_triangulation, _triangle, c_size_t, _uint64)),
+    "dcel_triangulation_neighbors": (Status, (_triangulation, _across, c_size_t, _uint64)),
+    "dcel_triangulation_edges": (Status, (_triangulation, _ends, c_size_t, _uint64)),
+    "dcel_triangulation_hull": (Status, (_triangulation, _uint32, c_size_t, _uint64)),
+    "dcel_triangulation_directed_edges": (Status, (_triangulation, _half_edge, c_size_t, _uint64)),
+    "dcel_triangulation_locate": (Status, (_triangulation, Point, _position)),
+    "dcel_triangulation_locate_with_hint": (Status, (_triangulation, Point, c_uint32, _position)),
+    "dcel_triangulation_locate_all": (Status, (_triangulation, _point, c_size_t, _position, c_size_t, _uint64)),
+    "dcel_triangulation_nearest": (Status, (_triangulation, Point, _uint32)),
+    "dcel_triangulation_nearest_all": (Status, (_triangulation, _point, c_size_t, _uint32, c_size_t, _uint64)),
 }

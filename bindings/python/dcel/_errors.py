@@ -174,9 +174,15 @@ class Faulty(DcelError, ValueError):
 
 
 class OutOfRange(DcelError, ValueError):
-    """A coordinate is below -2**53 or above 2**53."""
+    """A coordinate is beyond 2**53 steps of the grid, or a whole number beyond 2**53."""
 
     status = Status.OUT_OF_RANGE
+    row: int  #: of the first such point
+
+
+class Inexact(ValueError):
+    """A point isn't on the grid."""
+
     row: int  #: of the first such point
 
 
@@ -188,18 +194,13 @@ class Unfinished(DcelError, MemoryError):
 
 ERRORS: dict[int, type[DcelError]] = {kind.status: kind for kind in DcelError.__subclasses__()}
 
-for _kind in (DcelError, *ERRORS.values()):
+for _kind in (DcelError, Inexact, *ERRORS.values()):
     _kind.__module__ = "dcel"  # where callers find it, and what they are shown
 
 
 def refused(status: int, function: Any, given: Any = ()) -> DcelError:
-    """The error of a status that a call of the library has returned. A fault or a row is told in the last thing that the call was given."""
+    """The error of a status that a call of the library has returned. A fault is told in the last thing that the call was given."""
     kind, name = ERRORS[status], function.__name__.removeprefix("dcel_")
-    if kind is OutOfRange:
-        row = given[-1].value
-        far = OutOfRange(f"{name}: {kind.__doc__} It is in row {row}.")
-        far.row = row
-        return far
     if kind is not Faulty:
         return kind(f"{name}: {kind.__doc__}")
     told = given[-1]

@@ -2,12 +2,17 @@
 
 from __future__ import annotations
 
+import copy
+import itertools
+import math
+import pickle
 import random
 import unittest
 from array import array
+from fractions import Fraction
 from typing import Any
 
-from dcel import Delaunay, OutOfRange
+from dcel import Delaunay, Grid, Inexact, OutOfRange, Place
 
 LIMIT = 2**53
 FIVE = [(0, 0), (4, 0), (0, 3), (5, 5), (2, 2)]
@@ -68,22 +73,32 @@ class In(unittest.TestCase):
     def test_forms(self) -> None:
         flat = array("q", [it for point in FIVE for it in point])
         wanted = sorted(Delaunay(FIVE).simplices.tolist())
-        forms: list[Any] = [iter(FIVE), map(list, FIVE), *(memoryview(array(code, flat)).cast("B").cast(code, (5, 2)) for code in "bhilqBHILQ")]
+        forms: list[Any] = [iter(FIVE), map(list, FIVE), *(memoryview(array(code, flat)).cast("B").cast(code, (5, 2)) for code in "bhilqBHILQfd")]
         for given in forms:
             with self.subTest(form=getattr(given, "format", type(given))):
                 self.assertEqual(sorted(Delaunay(given).simplices.tolist()), wanted)
 
     def test_no_points(self) -> None:
-        flat = memoryview(array("q", range(12)))
-        for wrong in (flat, flat.cast("B").cast("q", (4, 3)), [1, 2], [(1, 2, 3)], [(1.5, 2)], memoryview(array("d", [1, 2])).cast("B").cast("d", (1, 2)), None):
-            with self.subTest(given=wrong), self.assertRaises((TypeError, ValueError)):
-                Delaunay(wrong)  # type: ignore[arg-type]
+        """What are no points is refused with the argument's name, and the row if there is one, wherever points are given."""
+        flat, nan, made = memoryview(array("q", range(12))), float("nan"), Delaunay(FIVE)
+        rows = [[(0, 0), it] for it in ((1, 2, 3), (1,), (), 7, "ab", ("a", 1), (1, None), (1, 2j), (nan, 0), (0, float("-inf")))]
+        others: list[Any] = [flat, flat.cast("B").cast("q", (4, 3)), [1, 2, 3], "points", [[[1, 2, 3]]], 3, None, {1: 2}]
+        calls = {"points": [Delaunay, made.insert, Grid.fit, Grid(1.0).snap], "xi": [made.find_simplex, made.locate, made.nearest], "steps": [Grid(1.0).back]}
+        for name, its in calls.items():
+            for call in its:
+                for wrong in rows:
+                    with self.subTest(call=call, given=wrong), self.assertRaisesRegex((TypeError, ValueError), f"^{name}: (row 1|coordinates|an array)"):
+                        call(wrong)
+                for wrong in others:
+                    with self.subTest(call=call, given=wrong), self.assertRaises((TypeError, ValueError)):
+                        call(wrong)
+        self.assertEqual((len(made.points), len(made.simplices)), (5, 4))
 
     def test_out_of_range(self) -> None:
         self.assertEqual(len(Delaunay([(LIMIT, -LIMIT), (-LIMIT, 0), (0, LIMIT)]).simplices), 1)
-        for far in ((LIMIT + 1, 0), (0, -LIMIT - 1), (-(2**63), 0)):
+        for far in ((LIMIT + 1, 0), (0, -LIMIT - 1), (-(2**63), 0), (0, 2**70), (10**400, 0)):
             with self.subTest(point=far):
-                with self.assertRaisesRegex(OutOfRange, "row 1") as raised:
+                with self.assertRaisesRegex(OutOfRange, "points: .* row 1") as raised:
                     Delaunay([(1, 1), far, far])
                 self.assertEqual(raised.exception.row, 1)
 
@@ -93,3 +108,179 @@ class In(unittest.TestCase):
         made = Delaunay(memoryview(given).cast("B").cast("q", (3, 2)))
         given[0] = 9
         self.assertEqual((made.points.tolist(), repr(made)), ([[0, 0], [4, 0], [0, 3]], "<Delaunay: 3 points, 1 triangles>"))
+        made.points[0, 0] = 9
+        made.insert([(9, 9)])
+        self.assertEqual(made.points.tolist()[0], [0, 0])
+
+
+class OnGrid(unittest.TestCase):
+    def test_fit(self) -> None:
+        """It is the finest step, a power of two, of which the greatest coordinate is at most 2**53."""
+        for most in (1.0, 0.1, 3, 2.0**53, 5e-324, 1e-310, 1.7976931348623157e308, 2**53 - 1):
+            step = Fraction(Grid.fit([(0, most), (-most, 0)]).step)
+            with self.subTest(most=most):
+                self.assertEqual(step, Fraction(2.0 ** math.frexp(step)[1]) / 2)
+                self.assertLessEqual(Fraction(most), 2**53 * step)
+                self.assertTrue(step == Fraction(5e-324) or Fraction(most) > 2**52 * step)
+
+    def test_snap(self) -> None:
+        for seed in range(200):
+            random.seed(seed)
+            grid = Grid(2.0 ** random.randint(-20, 5))
+            points = [(random.gauss(0, 100), random.choice([-1, 1]) * random.randint(0, 99) * grid.step / 2) for _ in range(10)]
+            steps = grid.snap(points).tolist()
+            self.assertEqual(steps, [[round(Fraction(it) / Fraction(grid.step)) for it in point] for point in points])
+            self.assertEqual(grid.back(steps).tolist(), [[it * grid.step for it in row] for row in steps])
+
+    def test_moved(self) -> None:
+        """It is how far the grid moves a point at most, and nothing is moved that needn't be."""
+        for points in (FIVE, [(0.5, 0.25), (2.0**-20, 3.0), (7, 2)], [(LIMIT, 1), (0, 1), (1, 0)]):
+            self.assertEqual(Delaunay(points).moved, 0.0)
+        self.assertEqual(Delaunay([(0.3, 0), (4, 0.5), (1, 2)], grid=Grid(1.0)).moved, 0.5)
+        random.seed(1)
+        points = [(random.gauss(0, 9), random.gauss(0, 9)) for _ in range(100)]
+        made = Delaunay(points)
+        self.assertTrue(0 < made.moved <= made.grid.step)
+        self.assertEqual(made.points.tolist(), [list(it) for it in points])
+
+    def test_exact(self) -> None:
+        self.assertEqual(Delaunay(FIVE, grid="exact").moved, 0.0)
+        with self.assertRaisesRegex(Inexact, "row 1") as raised:
+            Delaunay([(1.0, 2.0), (2.0**-54, 0.5)], grid="exact")
+        self.assertEqual(raised.exception.row, 1)
+        made = Delaunay([(2.0**-50, 0), (1, 1)], grid="exact")
+        made.remove([0])
+        made.insert([(2.0**-53, 0)])
+        with self.assertRaisesRegex(Inexact, "row 2") as raised:
+            made.insert([(10, 2.0**40)])
+        self.assertEqual((raised.exception.row, len(made.points), made.grid), (2, 3, Grid(2.0**-53)))
+
+    def test_wrong(self) -> None:
+        for wrong in (Grid(0.3), Grid(0.0), Grid(-1.0), Grid(float("inf")), Grid(float("nan")), "best", Grid("1"), 0.5, None):  # type: ignore[arg-type]
+            with self.subTest(grid=wrong), self.assertRaisesRegex(ValueError, "^grid: "):
+                Delaunay(FIVE, grid=wrong)  # type: ignore[arg-type]
+
+    def test_kept(self) -> None:
+        """A grid that was given stays, and refuses what is beyond it."""
+        made = Delaunay(FIVE, grid=Grid(1.0))
+        with self.assertRaisesRegex(OutOfRange, "row 1") as raised:
+            made.insert([(1, 1), (2.0**54, 0)])
+        self.assertEqual((raised.exception.row, len(made.points), made.grid), (1, 5, Grid(1.0)))
+
+    def test_coarser(self) -> None:
+        """Points beyond the grid get a coarser one, on which rows stay, also those that were removed."""
+        made = Delaunay([*FIVE, (0, 0)])
+        made.remove([1])
+        before = made.grid
+        self.assertEqual(made.insert([(1000, 1000), (2, 2)]).tolist(), [6, 7])
+        self.assertTrue(made.grid.step > before.step and made.moved == 0.0)
+        self.assertEqual(made.nearest([(999, 999), (4, 0)]).tolist(), [6, 4])
+        self.assertEqual([it[::2] for it in made.coplanar.tolist()], [[5, 0], [7, 4]])
+
+
+class Changes(unittest.TestCase):
+    def triangles(self, made: Delaunay) -> set[frozenset[tuple[float, float]]]:
+        points = made.points.tolist()
+        return {frozenset(tuple(points[row]) for row in rows) for rows in made.simplices.tolist()}
+
+    def test_random(self) -> None:
+        """Points that come and go leave the triangulation of those that are there, each under its row."""
+        for seed in range(60):
+            random.seed(seed)
+            made, live = Delaunay(), {}
+            for _ in range(12):
+                if random.random() < 0.6 or not live:
+                    new = [(random.gauss(0, 9), random.gauss(0, 9)) for _ in range(random.choice([0, 1, 2, 5]))]
+                    new += random.sample(list(live.values()), min(len(live), random.choice([0, 0, 1])))
+                    live.update(zip(made.insert(new).tolist(), new, strict=True))
+                else:
+                    rows = random.sample(list(live), min(len(live), random.choice([1, 3])))
+                    made.remove(rows)
+                    for row in rows:
+                        del live[row]
+                fresh = Delaunay(live.values(), grid=made.grid)
+                self.assertEqual(self.triangles(made), self.triangles(fresh))
+                points = made.points.tolist()
+                self.assertTrue(all(tuple(points[row]) == point for row, point in live.items()))
+                self.assertLessEqual({*sum(made.edges.tolist(), []), *made.hull.tolist()}, set(live))
+                if live:
+                    ahead = [min(it for it, other in live.items() if other == point) for point in live.values()]
+                    self.assertEqual(made.nearest(list(live.values())).tolist(), ahead)
+                self.assertEqual(self.triangles(made.copy()), self.triangles(made))
+
+    def test_rows(self) -> None:
+        made = Delaunay([*FIVE, (4, 0)])
+        for wrong, kind in (([6], IndexError), ([-1], IndexError), ([0, 1.5], TypeError), (["a"], TypeError), ([[1]], TypeError), (None, TypeError)):
+            with self.subTest(rows=wrong), self.assertRaises(kind):
+                made.remove(wrong)  # type: ignore[arg-type]
+        made.remove(1)
+        self.assertEqual((made.nearest([(4, 0)]).tolist(), made.coplanar.tolist()), ([5], []))
+        with self.assertRaisesRegex(IndexError, "row 1 was removed"):
+            made.remove([0, 1])
+        self.assertEqual(made.nearest([(0, 0)]).tolist(), [0])
+        made.remove(range(2, 6))
+        made.remove([0])
+        self.assertEqual((len(made.simplices), made.hull.tolist(), made.nearest([(0, 0)]).tolist()), (0, [], [-1]))
+        self.assertEqual(made.insert(FIVE).tolist(), [6, 7, 8, 9, 10])
+
+    def test_copies(self) -> None:
+        made = Delaunay(FIVE)
+        others = [made.copy(), copy.copy(made), copy.deepcopy(made)]
+        made.remove([4])
+        self.assertTrue(all(len(it.simplices) == 4 for it in others))
+        with self.assertRaisesRegex(TypeError, "pickled"):
+            pickle.dumps(made)
+
+
+class Out(unittest.TestCase):
+    def test_lists(self) -> None:
+        made = Delaunay([*FIVE, (4, 0)])
+        triangles, beside = made.simplices.tolist(), made.neighbors.tolist()
+        for rows, others in zip(triangles, beside, strict=True):
+            for corner, other in enumerate(others):
+                side = {*rows} - {rows[corner]}
+                self.assertEqual([it for it in triangles if side < {*it} and it != rows], [triangles[other]] if other >= 0 else [])
+        self.assertEqual(sorted(map(sorted, made.convex_hull.tolist())), [[0, 1], [0, 2], [1, 3], [2, 3]])
+        self.assertEqual({*map(frozenset, made.edges.tolist())}, {frozenset(it) for rows in triangles for it in itertools.combinations(rows, 2)})
+        self.assertTrue(all(row in triangles[made.vertex_to_simplex[row]] for row in range(5)) and made.vertex_to_simplex[5] == made.vertex_to_simplex[1])
+        self.assertEqual(made.coplanar.tolist(), [[5, made.vertex_to_simplex[1], 1]])
+        indptr, indices = made.vertex_neighbor_vertices
+        rings = [indices[indptr[row] : indptr[row + 1]].tolist() for row in range(6)]
+        self.assertEqual(rings, [[1, 2, 4], [0, 3, 4], [0, 3, 4], [1, 2, 4], [0, 1, 2, 3], []])
+
+    def test_line(self) -> None:
+        made = Delaunay([(2, 2), (0, 0), (1, 1)])
+        self.assertEqual((made.simplices.tolist(), made.neighbors.tolist(), made.vertex_to_simplex.tolist()), ([], [], [-1] * 3))
+        self.assertEqual(sorted(map(sorted, made.edges.tolist())), [[0, 2], [1, 2]])
+        self.assertEqual(sorted(made.hull.tolist()), [0, 1, 2, 2])
+        self.assertEqual([it.tolist() for it in made.locate([(0.5, 0.5), (1, 1), (-1, -1), (1, 0)])][0], [1, 2, 4, 3])
+        self.assertEqual(made.find_simplex([(0.5, 0.5), (1, 1), (7, 7), (1, 0)]).tolist(), [-1] * 4)
+
+    def test_few(self) -> None:
+        self.assertEqual([it.tolist() for it in Delaunay().locate([(0, 0)])], [[5], [-1]])
+        one = Delaunay([(3, 4)])
+        self.assertEqual([it.tolist() for it in one.locate([(3, 4), (0, 0)])], [[2, 5], [0, -1]])
+        self.assertEqual((one.hull.tolist(), one.convex_hull.tolist(), one.edges.tolist()), ([0], [], []))
+
+    def test_queries(self) -> None:
+        made = Delaunay([*FIVE, (4, 0)])
+        kinds, numbers = (it.tolist() for it in made.locate([(0.5, 0.75), (1, 1), (4, 0), (-1, 1)]))
+        self.assertEqual(kinds, [Place.ON_FACE, Place.ON_EDGE, Place.ON_VERTEX, Place.OUTSIDE])
+        edges = made.edges.tolist()
+        self.assertEqual((set(edges[numbers[1]]), numbers[2], set(edges[numbers[3]])), ({0, 4}, 1, {0, 2}))
+        self.assertEqual(set(made.simplices.tolist()[numbers[0]]), {0, 2, 4})
+        found = made.find_simplex([(0.5, 0.75), (1, 1), (4, 0), (-1, 1), (1e300, 0), (0, -8)]).tolist()
+        self.assertEqual((found[0], found[3:]), (numbers[0], [-1] * 3))
+        self.assertTrue({0, 4} < set(made.simplices.tolist()[found[1]]) and 1 in made.simplices.tolist()[found[2]])
+        for call in (made.locate, made.nearest):
+            with self.assertRaisesRegex(OutOfRange, "xi: .* row 1") as raised:
+                call([(0, 0), (9, 0)])
+            self.assertEqual(raised.exception.row, 1)
+
+    def test_mesh(self) -> None:
+        made = Delaunay([*FIVE, (4, 0)])
+        mesh = made.mesh()
+        self.assertTrue(mesh.sanity_check())
+        for face in range(1, mesh.num_faces()):
+            corners = {mesh.vertex_data(mesh.from_(edge)) for edge in mesh.face_edges(face)}
+            self.assertEqual(corners, set(made.simplices.tolist()[face - 1]))

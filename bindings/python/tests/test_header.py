@@ -13,14 +13,16 @@ from pathlib import Path
 from typing import Any
 
 import dcel
-from dcel import Dcel, Ended, FaultKind, RemovalState, Status, _declared, _delaunay, _lines, _mesh
+from dcel import Dcel, Delaunay, Ended, FaultKind, Place, RemovalState, Status, _declared, _delaunay, _lines, _mesh
 from dcel._calls import library
 from dcel._errors import ERRORS
 
 FOLDER = Path(__file__).resolve().parents[2] / "c"
 HEADER = (FOLDER / "dcel.h").read_text()
-# The functions that take no mesh and that no method calls, and those of triangulations that are kept, which no class has yet.
+# The functions that take no mesh and that no method calls.
 VERSIONS = {"dcel_version", f"dcel_version_{dcel.__version__.replace('.', '_')}"}
+# Those of triangulations that do for one point what others do for all, or keep nothing, or list what Delaunay knows.
+SPARED = {"dcel_triangulate", *(f"dcel_triangulation_{it}" for it in ("insert_with_hint", "locate", "locate_with_hint", "nearest", "points"))}
 NAMES = {
     None: "void", ctypes.c_bool: "bool", ctypes.c_uint8: "uint8_t", ctypes.c_uint32: "uint32_t", ctypes.c_uint64: "uint64_t",
     ctypes.c_int64: "int64_t",
@@ -72,7 +74,7 @@ class Header(unittest.TestCase):
         self.assertEqual(compiled(lines), (0, ""))
 
     def test_numbers(self) -> None:
-        known = {f"DCEL_{it.name}": it.value for kind in (Status, Ended, RemovalState) for it in kind}
+        known = {f"DCEL_{it.name}": it.value for kind in (Status, Ended, RemovalState, Place) for it in kind}
         known |= {f"DCEL_FAULT_{it.name}": it.value for it in FaultKind}
         self.assertEqual(set(known), set(re.findall(r"^ +(DCEL_\w+) = \d", HEADER, re.M)))
         known |= {"DCEL_NONE": _declared.NONE, "DCEL_NO_LINK": dcel.NO_LINK}
@@ -86,17 +88,17 @@ class Header(unittest.TestCase):
                 self.assertNotEqual(compiled([line])[0], 0)
 
     def test_none_is_left_out(self) -> None:
-        declared = {it for it in _declared.FUNCTIONS if not it.startswith("dcel_triangulation_")} - VERSIONS
+        declared = set(_declared.FUNCTIONS) - VERSIONS - SPARED
         named = set(re.findall(r"library\.(dcel_\w+)", "".join(map(inspect.getsource, (_mesh, _lines, _delaunay)))))
         self.assertEqual(named, declared)
         methods = {name.removesuffix("_") for name, _ in inspect.getmembers(Dcel, inspect.isfunction) if not name.startswith("_")}
-        calls = {name.removeprefix("dcel_") for name in declared}
+        calls = {name.removeprefix("dcel_") for name in declared if not name.startswith("dcel_triangulation_")}
         self.assertEqual(methods - calls, {"close", "copy"})
-        self.assertEqual(calls - methods, {"new", "free", "clone", "from_links", "from_faces", "replies", "triangulate"})
+        self.assertEqual(calls - methods, {"new", "free", "clone", "from_links", "from_faces", "replies"})
 
     def test_hints(self) -> None:
         """Each parameter and each result has its type, and the package says so."""
-        for name, it in inspect.getmembers(Dcel, inspect.isfunction):
+        for name, it in [each for kind in (Dcel, Delaunay) for each in vars(kind).items() if inspect.isfunction(each[1])]:
             with self.subTest(method=name):
                 own = [each for each in inspect.signature(it).parameters.values() if each.name not in ("self", "cls")]
                 self.assertTrue(all(each.annotation is not each.empty for each in own))

@@ -96,10 +96,46 @@ class Memory(unittest.TestCase):
             self.assertGreater(met, 5)
 
     def test_delaunay(self) -> None:
+        """Each call of a triangulation that finds no memory leaves its points, and what lists say of them."""
+        five = [(0, 0), (4, 0), (0, 3), (5, 5), (2, 2)]
+        calls: dict[str, Callable[[Delaunay], object]] = {
+            **{f"insert {len(it)} {it[0]}": lambda made, it=it: made.insert(it) for it in ([(1, 1)], [(1, 1), (3, 1), (2, 0.5)], [(9, 9), (1, 1)], [(9, 9)])},
+            **{name: lambda made, name=name: getattr(made, name)() for name in ("copy", "mesh")},
+            **{name: lambda made, name=name: getattr(made, name)(five) for name in ("find_simplex", "locate", "nearest")},
+            **{name: lambda made, name=name: getattr(made, name) for name in ("simplices", "neighbors", "edges", "hull")},
+        }
         met = 0
-        while self.refused(met, lambda: Delaunay([(0, 0), (4, 0), (0, 3), (5, 5), (2, 2)])):
+        while self.refused(met, lambda: Delaunay(five)):
             met += 1
         self.assertGreater(met, 5)
+        for name, call in calls.items():
+            with self.subTest(call=name):
+                self.assertGreater(self.sweep_delaunay(Delaunay(five), call), 0)
+
+    def sweep_delaunay(self, standing: Delaunay, call: Callable[[Delaunay], object]) -> int:
+        """How often a call is refused, if it is allowed one request more each time."""
+        wanted = sorted(map(sorted, standing.simplices.tolist()))
+        for met in range(1000):
+            made = standing.copy()
+            if not self.refused(met, lambda: call(made)):  # noqa: B023
+                return met
+            self.assertEqual((sorted(map(sorted, made.simplices.tolist())), len(made.points)), (wanted, 5))
+        self.fail("it finds no memory, however much there is")
+
+    def test_removal(self) -> None:
+        """Rows that a removal without memory leaves are there, and the others aren't."""
+        five = [(0, 0), (4, 0), (0, 3), (5, 5), (2, 2), (3, 1), (1, 1)]
+        for met in range(1000):
+            made = Delaunay(five)
+            failed = self.refused(met, lambda: made.remove([4, 5, 6]))  # noqa: B023
+            left = [row for row, it in enumerate(made.vertex_to_simplex) if it >= 0]
+            self.assertEqual(made.nearest([five[row] for row in left]).tolist(), left)
+            self.assertEqual(len(made.simplices), len(Delaunay([five[row] for row in left]).simplices))
+            if not failed:
+                self.assertEqual(left, [0, 1, 2, 3])
+                return
+            self.assertGreater(len(left), 4)
+        self.fail("it finds no memory, however much there is")
 
     def test_replies(self) -> None:
         """A line that finds no memory is refused, and without memory for the mesh or the replies there are none."""

@@ -11,6 +11,8 @@ from pathlib import Path
 from xml.etree import ElementTree
 
 import dcel
+import dcel._delaunay
+import dcel._grid
 import dcel._lines
 import dcel._mesh
 
@@ -25,11 +27,12 @@ class Shown(unittest.TestCase):
         self.assertEqual((failed, tried > 20), (0, True))
 
     def test_module(self) -> None:
-        for name in ("_mesh", "_lines"):
+        for name in ("_mesh", "_lines", "_delaunay", "_grid"):
             failed, tried = doctest.testmod(sys.modules[f"dcel.{name}"])
             self.assertEqual((failed, tried > 0), (0, True))
         self.assertTrue(all(it.__doc__ for it in vars(dcel).values() if isinstance(it, type)))
-        self.assertTrue(all(it.__doc__ for name, it in vars(dcel.Dcel).items() if not name.startswith("_")))
+        for kind in (dcel.Dcel, dcel.Delaunay, dcel.Grid):
+            self.assertTrue(all(it.__doc__ for name, it in vars(kind).items() if not name.startswith("_")))
 
     def test_picture(self) -> None:
         drawn = subprocess.run([sys.executable, FOLDER / "examples/picture.py"], stdout=subprocess.PIPE, text=True, check=True).stdout

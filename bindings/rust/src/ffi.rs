@@ -10,6 +10,7 @@
 mod calls;
 #[rustfmt::skip]
 mod declarations;
+mod triangulation;
 
 use crate::handles::{
     FixedDirectedEdgeHandle, FixedFaceHandle, FixedUndirectedEdgeHandle, FixedVertexHandle,
@@ -20,9 +21,11 @@ use crate::refusal::Refusal;
 pub(crate) use declarations::STATUS_NAMES;
 use declarations::*;
 pub(crate) use declarations::{Fault, Legalized, NO_LINK, Opened, Removed};
-pub(crate) use declarations::{ended, fault_kind, removal_state, status};
+pub(crate) use declarations::{Point, Position};
+pub(crate) use declarations::{ended, fault_kind, place, removal_state, status};
 use std::cell::UnsafeCell;
 use std::ptr;
+pub(crate) use triangulation::Triangulation;
 
 /// The links of a half edge: C's `dcel_half_edge`.
 ///
@@ -90,6 +93,33 @@ impl Mesh {
         let needed = self.directed_edges(&mut half_edges);
         debug_assert_eq!(needed, Ok(half_edges.len() as u64));
         half_edges
+    }
+
+    /// Makes the mesh anew, of what a triangulation has. The error says that there was no memory.
+    ///
+    /// It takes the mesh as a call does that reads it: nothing lends links or elements of a mesh.
+    pub(crate) fn renew(
+        &self,
+        half_edges: &[HalfEdgeEntry],
+        vertices: &[u64],
+        faces: &[u64],
+    ) -> Result<(), Refusal> {
+        let mut fault = Fault::default();
+        // SAFETY: the slices last for the call, and each number that it writes is a handle.
+        let status = self.read(|mesh| unsafe {
+            dcel_from_links(
+                mesh,
+                half_edges.as_ptr(),
+                half_edges.len(),
+                vertices.as_ptr(),
+                vertices.len(),
+                faces.as_ptr(),
+                faces.len(),
+                &mut fault,
+            )
+        });
+        debug_assert_ne!(status, status::FAULTY);
+        Refusal::of(status)
     }
 
     fn none() -> Self {

@@ -1,4 +1,5 @@
-//! A half-edge mesh on the sphere, with the names of `spade`'s layer of that kind.
+//! A half-edge mesh on the sphere, with the names of `spade`'s layer of that kind, and Delaunay
+//! triangulations of points on it.
 //!
 //! The mesh lies in a static library that is proved: it is always a sound map on the sphere, and
 //! each edit does what it says, or is refused and changes nothing. This crate keeps your values,
@@ -24,6 +25,7 @@
 //! # Ok::<(), Refusal>(())
 //! ```
 //!
+//! - [`delaunay`] has Delaunay triangulations, with the names of `spade`.
 //! - [`Dcel`] is the mesh, with counts, elements, data, and a test of what each edit asks.
 //! - [`operations`] has the edits. Each takes any numbers and returns a [`Refusal`] if it can't be
 //!   done.
@@ -39,6 +41,7 @@
 #![deny(unsafe_code)]
 
 mod dcel;
+pub mod delaunay;
 #[allow(unsafe_code)]
 mod ffi;
 pub mod handles;

@@ -4,6 +4,7 @@
 mod common;
 
 use common::*;
+use dcel::delaunay::{DelaunayTriangulation, InsertionError, Point2};
 use dcel::operations::*;
 use dcel::{Dcel, Refusal};
 use std::alloc::{GlobalAlloc, Layout, System};
@@ -184,4 +185,35 @@ fn a_clone() {
         |refused| assert_eq!(refused, Refusal::OutOfMemory),
     );
     assert_eq!(needed, 4);
+}
+
+#[test]
+fn points() {
+    let corners = [(0, 0), (4, 0), (0, 3)].map(|(x, y)| Point2::new(x, y));
+    let needed = sweep(
+        |met| {
+            let given = corners.to_vec();
+            with_memory(met, || DelaunayTriangulation::bulk_load(given))
+        },
+        |refused| assert_eq!(refused, InsertionError::OutOfMemory),
+    );
+    assert_eq!(needed, 4);
+    let standing = DelaunayTriangulation::bulk_load(corners.to_vec()).unwrap();
+    let needed = sweep(
+        |met| {
+            let mut triangulation = standing.clone(); // which has no room to spare
+            let made = with_memory(met, || triangulation.insert(Point2::new(1, 1)));
+            let inserted = usize::from(made.is_ok());
+            assert_eq!(triangulation.num_vertices(), 3 + inserted);
+            assert_eq!(triangulation.inner_faces().count(), 1 + 2 * inserted);
+            made
+        },
+        |refused| assert_eq!(refused, InsertionError::OutOfMemory),
+    );
+    assert_eq!(needed, 2);
+    let needed = sweep(
+        |met| with_memory(met, || standing.try_clone()),
+        |refused| assert_eq!(refused, Refusal::OutOfMemory),
+    );
+    assert_eq!(needed, 2);
 }

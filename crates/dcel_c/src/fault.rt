@@ -78,6 +78,9 @@ pub fn tell_faces(reason: FacesError) -> DcelFault
             ..side(22, face, from, to)
         },
         FacesError::BorderTwice(vertex) => at_number(23, vertex as usize),
+        FacesError::Closed => tell_links(LinksFault::UnusedFace(0)),
+        FacesError::Borders => tell_links(LinksFault::FaceInParts(0)),
+        FacesError::NotConnected(half) => tell_links(LinksFault::NotConnected(half)),
         FacesError::Links(fault) => tell_links(fault),
         FacesError::OutOfMemory => at_number(0, 0),
     }

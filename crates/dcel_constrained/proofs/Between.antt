@@ -98,7 +98,7 @@ module _ (v w : Point) where
       across n = orient (spot 0) (spot 1) (spot n)
 
   -- how far a point of the line lies from another line
-  side_placed : (o e p : Point) → length *ℤ orient2d_of o e p
+  pub side_placed : (o e p : Point) → length *ℤ orient2d_of o e p
       ≡ (((length -ℤ place p) *ℤ orient2d_of o e v) +ℤ (place p *ℤ orient2d_of o e w)) +ℤ (off p *ℤ (((e.x -ℤ o.x) *ℤ (w.x -ℤ v.x)) +ℤ ((e.y -ℤ o.y) *ℤ (w.y -ℤ v.y))))
   side_placed o e p =
       by_terms (v.x ∷ v.y ∷ w.x ∷ w.y ∷ o.x ∷ o.y ∷ e.x ∷ e.y ∷ p.x ∷ p.y ∷ [])
@@ -110,7 +110,7 @@ module _ (v w : Point) where
 
   module _ (far : pos 0 <ℤ dot w w v) where
     -- a turn of points on the line, but for the last
-    turn_by : (a b q : Point) → off a ≡ pos 0 → off b ≡ pos 0 → length *ℤ orient2d_of a b q ≡ (place b -ℤ place a) *ℤ off q
+    pub turn_by : (a b q : Point) → off a ≡ pos 0 → off b ≡ pos 0 → length *ℤ orient2d_of a b q ≡ (place b -ℤ place a) *ℤ off q
     turn_by a b q on_a on_b =
         let e = turn_placed a b q in
         let z = none_first (off b -ℤ off a) (place q -ℤ place a) (omega (arith, ordered, on_a, on_b)) in
@@ -362,12 +362,12 @@ module _ (at : ℕ → Point) (v w y : ℕ) (lies : LiesBetweenEnds at v w y) wh
       (λ none. absurd (not (omega (arith, ordered, nor, none)))))
 
 -- on the segment
-record IsOn (v w p : Point) : Type 0 where
-  on : orient2d_of v w p ≡ pos 0
-  above : pos 0 ≤ℤ dot p w v
-  below : dot p w v ≤ℤ dot w w v
+pub record IsOn (v w p : Point) : Type 0 where
+  pub on : orient2d_of v w p ≡ pos 0
+  pub above : pos 0 ≤ℤ dot p w v
+  pub below : dot p w v ≤ℤ dot w w v
 
-is_on : (at : ℕ → Point) (v w a : ℕ) → pos 0 <ℤ dot (at w) (at w) (at v) → LiesOnSegment at v w a → IsOn (at v) (at w) (at a)
+pub is_on : (at : ℕ → Point) (v w a : ℕ) → pos 0 <ℤ dot (at w) (at w) (at v) → LiesOnSegment at v w a → IsOn (at v) (at w) (at a)
 is_on at v w a far (inl is) =
     subst (λ (i : ℕ). IsOn (at v) (at w) (at i)) (sym is)
     (let z = dot_start (at w) (at v) in record { on = on_end (at v) (at w); above = omega (arith, ordered, z); below = omega (arith, ordered, z, far) })

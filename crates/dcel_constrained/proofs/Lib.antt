@@ -27,6 +27,10 @@ pub mod Settled
 pub mod Finished
 pub mod Copied
 pub mod Inserts
+pub mod Many
+pub mod Across
+pub mod Blocked
+pub mod Loads
 pub mod Told
 pub mod Loose
 pub mod Sight

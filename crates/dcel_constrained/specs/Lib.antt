@@ -1,7 +1,9 @@
+pub mod Blocking
 pub mod Channels
 pub mod Constrained
 pub mod Constraints
 pub mod Laying
+pub mod Loading
 pub mod Meeting
 pub mod Missing
 pub mod Reached

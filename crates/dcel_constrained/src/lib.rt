@@ -6,14 +6,20 @@
 //! `dcel_plane`.
 #![tactic(auto)]
 
+mod adding;
 mod api;
+mod bulk;
+mod errors;
 mod insert;
+mod load;
 mod locate;
 mod mesh;
 mod segments;
 mod triangulation;
 
 pub use dcel_regions::Mark;
+pub use errors::{ConstraintError, LoadError};
+pub use load::Segment;
 pub use mesh::ConstrainedMesh;
 pub use segments::join::{Joined, join};
 pub use triangulation::ConstrainedTriangulation;

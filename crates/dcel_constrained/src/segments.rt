@@ -1,5 +1,6 @@
 //! Segments made edges by flips, and chains of marked edges.
 
+pub(crate) mod blocking;
 pub(crate) mod chains;
 pub(crate) mod flips;
 pub(crate) mod join;

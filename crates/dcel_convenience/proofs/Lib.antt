@@ -1,10 +1,13 @@
 mod Collapsed
+mod CutOff
 mod Fan
 mod Gathered
 mod Joined
+mod Looking
 mod OnlyEdges
 mod Passes
 mod Removed
 mod Simple
 mod StaysSimple
 mod TakenBack
+mod WaysOut

@@ -55,19 +55,19 @@ module _ {V DE UE F : Type 0} where
   loop-vertices m r (p ∷ q ∷ []) h e f = refl
   loop-vertices m r (p ∷ q ∷ x ∷ rest) h e f = refl
 
-  edges_out-data : (m : Mesh V DE UE F) (ds : List ℕ) → (edges_taken_out m ds).vertex_data ≡ m.vertex_data
+  pub edges_out-data : (m : Mesh V DE UE F) (ds : List ℕ) → (edges_taken_out m ds).vertex_data ≡ m.vertex_data
   edges_out-data m [] = refl
   edges_out-data m (d ∷ ds) = edges_out-data (edge_taken_out m d) ds
 
-  faces_out-data : (m : Mesh V DE UE F) (ds : List ℕ) → (faces_taken_out m ds).vertex_data ≡ m.vertex_data
+  pub faces_out-data : (m : Mesh V DE UE F) (ds : List ℕ) → (faces_taken_out m ds).vertex_data ≡ m.vertex_data
   faces_out-data m [] = refl
   faces_out-data m (d ∷ ds) = faces_out-data (face_taken_out m d) ds
 
-  edges_out-vertices : (m : Mesh V DE UE F) (ds : List ℕ) → (edges_taken_out m ds).shape.vertices ≡ m.shape.vertices
+  pub edges_out-vertices : (m : Mesh V DE UE F) (ds : List ℕ) → (edges_taken_out m ds).shape.vertices ≡ m.shape.vertices
   edges_out-vertices m [] = refl
   edges_out-vertices m (d ∷ ds) = edges_out-vertices (edge_taken_out m d) ds
 
-  faces_out-vertices : (m : Mesh V DE UE F) (ds : List ℕ) → (faces_taken_out m ds).shape.vertices ≡ m.shape.vertices
+  pub faces_out-vertices : (m : Mesh V DE UE F) (ds : List ℕ) → (faces_taken_out m ds).shape.vertices ≡ m.shape.vertices
   faces_out-vertices m [] = refl
   faces_out-vertices m (d ∷ ds) = faces_out-vertices (face_taken_out m d) ds
 

@@ -179,7 +179,7 @@ module _ {V DE UE F : Type 0} (m : Mesh V DE UE F) (mesh : IsMesh m) (h : ℕ) (
       (λ x found. outs.no_other x (subst (λ w. 0 < count_of x w) (sym trip.from) found)))
 
 -- other numbers keep a mesh simple
-renamed_simple : (s t : Shape) (f f' o o' w w' : ℕ → ℕ) → IsRenamed s t f f' o o' w w' → IsSimple s → IsSimple t
+pub renamed_simple : (s t : Shape) (f f' o o' w w' : ℕ → ℕ) → IsRenamed s t f f' o o' w w' → IsSimple s → IsSimple t
 renamed_simple s t f f' o o' w w' e simple x y x_live y_live start end =
     let p = f' x in
     let q = f' y in

@@ -1,3 +1,4 @@
+pub mod Anywhere
 pub mod Collapsing
 pub mod Inserting
 pub mod Removing

@@ -5,7 +5,9 @@
 //! flips and collapses that keep a mesh simple, and [`is_simple`] tests whether it is.
 #![tactic(auto)]
 
+mod anywhere;
 mod collapsing;
+mod cutting_off;
 mod edges;
 mod flipping;
 mod inserting;
@@ -14,6 +16,7 @@ mod surrounding;
 mod taking_out;
 mod vertices;
 
+pub use anywhere::{WayOut, remove_any_vertex, way_out};
 pub use collapsing::{WhyNotCollapsed, can_collapse_edge, collapse_edge};
 pub use edges::is_simple;
 pub use flipping::can_flip_simple;

@@ -21,6 +21,18 @@ pub enum WhyNotRemoved {
     /// There is no such vertex, its faces aren't three or more inner triangles, or two edges lead
     /// from it to where its anchor ends.
     NotInside,
+    /// There is no such vertex. Only [`remove_any_vertex`](crate::remove_any_vertex) reports this
+    /// and the next four; to [`remove_vertex`] they are all `NotInside`.
+    NoVertex,
+    /// An inner face that is no triangle meets the vertex.
+    LongFace,
+    /// The outer face meets the vertex twice or more, so what is left would not be connected.
+    CutVertex,
+    /// The outer face meets the vertex and has two half edges, and the mesh is no single edge.
+    ShortBorder,
+    /// From whichever neighbor the hole is filled, two edges would join the same two vertices, or
+    /// two join the vertex to the same neighbor.
+    SecondEdge,
     /// There are no numbers left for the edges and faces that fill the hole.
     NoRoom,
     /// Memory ran out.
@@ -32,6 +44,11 @@ impl fmt::Display for WhyNotRemoved {
         f.write_str(match self {
             WhyNotRemoved::RemovalOpen => "a removal is open",
             WhyNotRemoved::NotInside => "the vertex is not inside three or more triangles",
+            WhyNotRemoved::NoVertex => "there is no such vertex",
+            WhyNotRemoved::LongFace => "a face at the vertex is not a triangle",
+            WhyNotRemoved::CutVertex => "the outer face meets the vertex twice",
+            WhyNotRemoved::ShortBorder => "the outer face has two half edges",
+            WhyNotRemoved::SecondEdge => "a second edge would join two vertices",
             WhyNotRemoved::NoRoom => "there are no numbers left",
             WhyNotRemoved::OutOfMemory => "out of memory",
         })
@@ -41,7 +58,8 @@ impl fmt::Display for WhyNotRemoved {
 impl Error for WhyNotRemoved {}
 
 /// Removes a vertex whose faces are all inner triangles, fills the hole with triangles, and returns
-/// its datum.
+/// its datum. [`remove_any_vertex`](crate::remove_any_vertex) also removes vertices on the border,
+/// and keeps a mesh simple.
 ///
 /// This is [`isolate_vertex_and_fill_hole`], [`cleanup_isolated_vertex`] and [`swap_remove_vertex`]
 /// for the border loop of the vertex, its link, which it finds by itself; the new edges all start

@@ -1,6 +1,8 @@
 //! Whether the faces of a file are a Delaunay triangulation of its vertices, and if not, why.
 
-ghost use Rattle.std.specs.Prelude.{◌<◌};
+ghost use Rattle.std.specs.Prelude.{◌<◌, OnErr, OnOk};
+ghost use Rattle.dcel_plane.specs.Plane.{point_at};
+ghost use Rattle.dcel_plane.specs.covering.Delaunay.{IsDelaunayTriangulation};
 
 use crate::fault::{Fault, Wrong};
 use crate::meshing::{at_place, fault_of};
@@ -67,7 +69,10 @@ pub fn check_delaunay(alloc: Global, surface: &Surface) -> Result<(), Fault> {
 }
 
 /// Tells why a mesh is no Delaunay triangulation of its vertices, unless it is one.
-fn check_mesh(surface: &Surface, mesh: &PlaneMesh) -> Result<(), Fault> {
+fn check_mesh(surface: &Surface, mesh: &PlaneMesh) -> Result<(), Fault>
+    ensures is_one { OnOk result (IsDelaunayTriangulation (point_at mesh.now) mesh.now.shape) }
+    ensures is_none { OnErr result (¬ IsDelaunayTriangulation (point_at mesh.now) mesh.now.shape) }
+{
     if is_delaunay_triangulation(mesh) {
         Ok(())
     } else {

@@ -1,5 +1,8 @@
 //! The mesh of a file, and its lists of corners and of half edges.
 
+ghost use Rattle.std.specs.Prelude.{◌≡◌, ◌+◌, MatchOption};
+ghost use Rattle.dcel_maps.specs.Shapes.{face_count};
+
 use crate::fault::{Fault, Wrong};
 use crate::stats::Stats;
 use crate::surface::Surface;
@@ -41,7 +44,7 @@ impl Solid {
         let places = mem::replace(&mut surface.places, Vec::new(alloc));
         match from_faces(alloc, places, &surface.faces) {
             Ok(mesh) => Solid::marked(alloc, mesh, None, &[], &surface.faces),
-            Err(refused) if has_no_border(refused.reason) => {
+            Err(refused) if refused.reason == FacesError::Closed => {
                 Solid::closed(alloc, refused.back, surface)
             }
             Err(refused) => Err(fault_of(alloc, refused.reason, refused.back.len(), surface)),
@@ -92,8 +95,11 @@ impl Solid {
         count
     }
 
-    /// Counts the faces of the surface.
-    pub fn num_faces(&self) -> usize {
+    /// Counts the faces of the surface: those of the mesh, but for the outer one where that is the
+    /// border.
+    pub fn num_faces(&self) -> usize
+        ensures { MatchOption self.now.outer (result + 1 ≡ face_count self.now.mesh.shape) (λ place. result ≡ face_count self.now.mesh.shape) }
+    {
         match self.outer {
             Some(_) => self.mesh.num_faces(),
             None => self.mesh.num_faces() - 1,
@@ -255,11 +261,6 @@ pub fn is_simple<T: Copy + Ord + Drop>(alloc: Global, corners: &[T]) -> Result<b
     Ok(true)
 }
 
-/// Returns whether the reason is that no border is left for the outer face.
-fn has_no_border(reason: FacesError) -> bool {
-    reason == FacesError::Links(LinksFault::UnusedFace(0))
-}
-
 /// Returns the reason, with the line of the face that it names, if it names one. If the surface as
 /// a whole is none that is taken, tells what it is.
 pub fn fault_of(alloc: Global, reason: FacesError, vertices: usize, surface: &Surface) -> Fault {
@@ -267,9 +268,11 @@ pub fn fault_of(alloc: Global, reason: FacesError, vertices: usize, surface: &Su
         FacesError::FewCorners(face) => face,
         FacesError::NoVertex(face, _) | FacesError::OneEnd(face, _) => face as usize,
         FacesError::SideTwice(_, face, _, _) => face as usize,
-        FacesError::Links(
-            LinksFault::FaceInParts(0) | LinksFault::NotConnected(_) | LinksFault::NotSphere(_),
-        ) => return fault_of_whole(alloc, vertices, &surface.faces),
+        FacesError::Borders
+        | FacesError::NotConnected(_)
+        | FacesError::Links(LinksFault::NotSphere(_)) => {
+            return fault_of_whole(alloc, vertices, &surface.faces);
+        }
         _ => return Fault::Input(Wrong::Faces(reason)),
     };
     at_place(&surface.lines, face, Wrong::Faces(reason))

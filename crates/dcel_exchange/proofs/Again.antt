@@ -23,6 +23,10 @@ pub ok_gives : {T E : Type 0} (r : Result T E) (P Q : T → Type 0) → ((x : T)
 ok_gives (Ok x) P Q f p = f x p
 ok_gives (Err e) P Q f p = tt
 
+pub ok_both : {T E : Type 0} (r : Result T E) (P Q R : T → Type 0) → ((x : T) → P x → Q x → R x) → IfOk r P → IfOk r Q → IfOk r R
+ok_both (Ok x) P Q R f p q = f x p q
+ok_both (Err e) P Q R f p q = tt
+
 pub err_gives : {T E : Type 0} (r : Result T E) (P Q : E → Type 0) → ((e : E) → P e → Q e) → IfErr r P → IfErr r Q
 err_gives (Ok x) P Q f p = tt
 err_gives (Err e) P Q f p = f e p

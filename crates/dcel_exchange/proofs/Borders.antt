@@ -3,17 +3,14 @@ use Rattle.std.proofs.Common.{◌≡◌, ◌≢◌, inl, inr, ℕ, ◌+◌, ◌^
 use Rattle.std.proofs.lemmas.Bool.{cases_eq}
 use Rattle.std.proofs.lemmas.List.{get_or-set_other, get_or-set_same, get_or_append_left, get_or_at, length_push}
 use Rattle.dcel_fixed.specs.HalfEdges.{rev}
-use Rattle.dcel_links.specs.Claims.{Claim, claim}
+use Rattle.dcel_links.specs.Claims.{claim}
 use Rattle.dcel_exchange.specs.Bordering.{AreFound, AreLinked}
 use Rattle.dcel_exchange.specs.Corners.{AreSides, afters, ends, owners, starts}
 use Rattle.dcel_exchange.specs.Meshes.{AreLinks, side_count}
 use Rattle.dcel_exchange.specs.Numbering.{AreDistinct, AreNumbered}
-use Rattle.dcel_exchange.specs.Reasons.{EndTwice, Means, Tells, reason_for}
+use Rattle.dcel_exchange.specs.Reasons.{EndTwice, Means, Tells}
 use Rattle.dcel_exchange.specs.declared.refusal.FacesError.{FacesError}
-use Rattle.dcel_exchange.specs.declared.refusal.FacesError.TheVariants.{BorderTwice, FewCorners, Links, NoVertex, OneEnd, OutOfMemory, SideTwice, TooManyCorners}
-use Rattle.spade_dcel.specs.Linked.{Refuses}
-use Rattle.spade_dcel.specs.declared.operations.given.LinksError.{LinksError}
-use Rattle.spade_dcel.specs.declared.operations.given.LinksError.TheVariants as refused
+use Rattle.dcel_exchange.specs.declared.refusal.FacesError.TheVariants.{BorderTwice, Borders, Closed, FewCorners, Links, NotConnected, NoVertex, OneEnd, OutOfMemory, SideTwice, TooManyCorners}
 use Rattle.dcel_exchange.proofs.FirstSides.{each_below, not_none, one_of}
 
 module _ (side : List (Option ℕ)) (origin : List ℕ) where
@@ -98,6 +95,9 @@ told vertices faces from to face after s (NoVertex f a) tells = rw (← s.from_i
 told vertices faces from to face after s (OneEnd f a) tells = rw (← s.from_is, ← s.to_is, ← s.face_is) tells
 told vertices faces from to face after s (SideTwice f g a b) tells = rw (← s.from_is, ← s.to_is, ← s.face_is) tells
 told vertices faces from to face after s (BorderTwice a) tells = rw (← s.from_is, ← s.to_is, ← s.face_is) tells
+told vertices faces from to face after s Closed tells = absurd tells
+told vertices faces from to face after s Borders tells = absurd tells
+told vertices faces from to face after s (NotConnected h) tells = absurd tells
 told vertices faces from to face after s (Links fault) tells = absurd tells
 told vertices faces from to face after s OutOfMemory tells = tt
 
@@ -153,13 +153,3 @@ made_links vertices faces from to face after half side origin nexts on border s 
 pub passed_on : {T : Type 0} (P : FacesError → Type 0) (r : Result T FacesError) (e : FacesError) → IsErr r × IsErrAnd r (λ y. y ≡ e) → P e → IfErr r P
 passed_on P (Ok x) e both p = tt
 passed_on P (Err y) e both p = subst P (sym both.1) p
-
--- what a refusal of the links says of the faces
-pub reason_told : (V DE UE F : Type 0) (c : Claim) (edges vertices : ℕ) (faces : List (List ℕ)) → AreLinks vertices faces c → (reason : LinksError)
-    → Refuses V DE UE F c edges reason → Means vertices faces (reason_for reason)
-reason_told V DE UE F c edges vertices faces links refused.Edges refuses = tt
-reason_told V DE UE F c edges vertices faces links refused.Anchors refuses = tt
-reason_told V DE UE F c edges vertices faces links (refused.Links fault) refuses = (c, links, refuses.0)
-reason_told V DE UE F c edges vertices faces links (refused.VertexAnchor v) refuses = tt
-reason_told V DE UE F c edges vertices faces links (refused.FaceAnchor f) refuses = tt
-reason_told V DE UE F c edges vertices faces links refused.OutOfMemory refuses = tt

@@ -41,7 +41,7 @@ number_at a b k below = get_or-range_with_len a (b - a) k 0 below
 
 module _ (s : Shape) (cycles : FacesAreCycles s) where
   -- steps round from a half edge are its face's word
-  round_word : (h : ℕ) (rest : List ℕ) → IsLive s h → Path (By (next_of s)) h rest h → count_of h rest ≡ 0 → TurnsTo (word_of s.words (face_of s h)) (h ∷ rest)
+  pub round_word : (h : ℕ) (rest : List ℕ) → IsLive s h → Path (By (next_of s)) h rest h → count_of h rest ≡ 0 → TurnsTo (word_of s.words (face_of s h)) (h ∷ rest)
   round_word h rest live path once =
       let f : ℕ = face_of s h in
       let stands : 0 < count_of h (word_of s.words f) = (says h s.words (let o = cycles.once h live in omega arith)).holds in

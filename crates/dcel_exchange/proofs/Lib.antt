@@ -15,3 +15,6 @@ pub mod Refusals
 pub mod Leaving
 pub mod FaceCorners
 pub mod FaceLists
+pub mod Surfaces
+pub mod Rounded
+pub mod ClosedFaces

@@ -31,7 +31,7 @@ place_of y (x ∷ w) found = elim (first_or_later y x w found) [
   | inr later ↦ let at = place_of y w later in (suc at.0, omega (arith, at.1), at.2)
 ]
 
-one_place : (w : List ℕ) (j k : ℕ) → ((x : ℕ) → count_of x w ≤ 1) → j < length w → k < length w → slice_index w j ≡ slice_index w k → j ≡ k
+pub one_place : (w : List ℕ) (j k : ℕ) → ((x : ℕ) → count_of x w ≤ 1) → j < length w → k < length w → slice_index w j ≡ slice_index w k → j ≡ k
 one_place [] j k once j_in k_in same = absurd (omega (arith, j_in))
 one_place (x ∷ w) zero zero once j_in k_in same = refl
 one_place (x ∷ w) zero (suc k) once j_in k_in same =
@@ -58,7 +58,7 @@ find_below f h (suc n) = elim (cases_eq (f n) h) [
 ]
 
 -- rows under a function
-turned-map : (f : ℕ → ℕ) (w : List ℕ) → map f (turned w) ≡ turned (map f w)
+pub turned-map : (f : ℕ → ℕ) (w : List ℕ) → map f (turned w) ≡ turned (map f w)
 turned-map f [] = refl
 turned-map f (x ∷ w) = map-append f w (x ∷ [])
 
@@ -88,7 +88,7 @@ path-map : (f : ℕ → ℕ) (x : ℕ) (r : List ℕ) (e : ℕ) → Path (By f) 
 path-map f x [] e path = ap (λ y. y ∷ []) path
 path-map f x (y ∷ r) e path = ap (λ z. z ∷ map f (y ∷ r)) path.0 ∙ ap (λ w. y ∷ w) (path-map f y r e path.1)
 
-cycle-map : (f : ℕ → ℕ) (w : List ℕ) → IsCycle (By f) w → map f w ≡ turned w
+pub cycle-map : (f : ℕ → ℕ) (w : List ℕ) → IsCycle (By f) w → map f w ≡ turned w
 cycle-map f [] cycle = refl
 cycle-map f (x ∷ r) cycle = path-map f x r x cycle
 

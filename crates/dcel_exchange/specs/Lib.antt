@@ -8,3 +8,6 @@ pub mod Simple
 pub mod Reasons
 pub mod Bordering
 pub mod Defaults
+pub mod Surfaces
+pub mod Closed
+pub mod Rounds

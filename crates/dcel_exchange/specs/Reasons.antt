@@ -1,14 +1,18 @@
 -- What each reason says of faces that were refused.
-use Rattle.std.specs.Prelude.{◌≡◌, ◌≢◌, ℕ, ◌^◌, ◌<◌, ◌≤◌, List, [], length, slice_index, slice_index_or}
+use Rattle.std.specs.Prelude.{◌≡◌, ◌≢◌, ℕ, zero, ◌^◌, ◌<◌, ◌≤◌, List, [], length, slice_index, slice_index_or}
 use Rattle.dcel_exchange.specs.Corners.{LeadsBack, ends, owners, starts}
 use Rattle.dcel_exchange.specs.Meshes.{AreLinks}
 use Rattle.dcel_exchange.specs.Simple.{EachSimpleMesh, NoSimpleMesh, PassesTwice}
+use Rattle.dcel_exchange.specs.Surfaces.{HasBorders, HasParts, IsClosed}
 use Rattle.dcel_exchange.specs.declared.refusal.FacesError.{FacesError}
 use Rattle.dcel_links.specs.Claims.{Claim}
 use Rattle.dcel_links.specs.Faults.{IsFirst}
+use Rattle.dcel_links.specs.declared.fault.LinksFault.{LinksFault}
+use Rattle.dcel_links.specs.declared.fault.LinksFault.TheVariants.{FaceInParts, UnusedFace}
+use Rattle.dcel_links.specs.declared.fault.LinksFault.TheVariants as links
 use Rattle.spade_dcel.specs.declared.operations.given.LinksError.{LinksError}
 use Rattle.spade_dcel.specs.declared.operations.given.LinksError.TheVariants as refused
-use Rattle.dcel_exchange.specs.declared.refusal.FacesError.TheVariants.{BorderTwice, FewCorners, Links, NoVertex, OneEnd, OutOfMemory, SideTwice, TooManyCorners}
+use Rattle.dcel_exchange.specs.declared.refusal.FacesError.TheVariants.{BorderTwice, Borders, Closed, FewCorners, Links, NotConnected, NoVertex, OneEnd, OutOfMemory, SideTwice, TooManyCorners}
 
 -- side p, of the face at this place, starts at a and ends at b
 pub record IsSide (from to face : List ℕ) (p f a b : ℕ) : Type 0 where
@@ -57,8 +61,24 @@ Tells from to face vertices (NoVertex f a) = IsOutside from to face vertices f a
 Tells from to face vertices (OneEnd f a) = IsLoop from to face f a
 Tells from to face vertices (SideTwice f g a b) = AreSame from to face f g a b
 Tells from to face vertices (BorderTwice a) = EndTwice from to face a
+Tells from to face vertices Closed = ⊥
+Tells from to face vertices Borders = ⊥
+Tells from to face vertices (NotConnected h) = ⊥
 Tells from to face vertices (Links fault) = ⊥
 Tells from to face vertices OutOfMemory = Unit {0}
+
+-- the first fault of the links of the faces
+pub record HasFault (vertices : ℕ) (faces : List (List ℕ)) (fault : LinksFault) : Type 0 where
+  pub claim : Claim
+  pub linked : AreLinks vertices faces claim
+  pub first : IsFirst claim fault
+
+-- the reason that a fault of the links is: three have a name of their own
+abbrev pub fault_reason : LinksFault → FacesError
+fault_reason (links.UnusedFace zero) = Closed
+fault_reason (links.FaceInParts zero) = Borders
+fault_reason (links.NotConnected h) = NotConnected h
+fault_reason fault = Links fault
 
 -- what a reason says of faces over so many vertices
 abbrev pub Means : ℕ → List (List ℕ) → FacesError → Type 0
@@ -68,12 +88,15 @@ Means vertices faces (NoVertex f a) = Tells (starts faces) (ends faces) (owners 
 Means vertices faces (OneEnd f a) = Tells (starts faces) (ends faces) (owners 0 faces) vertices (OneEnd f a)
 Means vertices faces (SideTwice f g a b) = Tells (starts faces) (ends faces) (owners 0 faces) vertices (SideTwice f g a b)
 Means vertices faces (BorderTwice a) = Tells (starts faces) (ends faces) (owners 0 faces) vertices (BorderTwice a)
-Means vertices faces (Links fault) = (c : Claim) × AreLinks vertices faces c × IsFirst c fault
+Means vertices faces Closed = IsClosed faces × HasFault vertices faces (UnusedFace 0)
+Means vertices faces Borders = HasBorders faces × HasFault vertices faces (FaceInParts 0)
+Means vertices faces (NotConnected h) = HasParts faces × HasFault vertices faces (links.NotConnected h)
+Means vertices faces (Links fault) = (fault_reason fault ≡ Links fault) × HasFault vertices faces fault
 Means vertices faces OutOfMemory = Unit {0}
 
 -- the reason that `from_links` gives, told of the faces
 abbrev pub reason_for : LinksError → FacesError
-reason_for (refused.Links fault) = Links fault
+reason_for (refused.Links fault) = fault_reason fault
 reason_for other = OutOfMemory
 
 -- Which simple meshes a refusal leaves: none has these corners, or, where two faces meet at the vertex a alone, only one whose outer face

@@ -1,12 +1,15 @@
 //! Constructing a mesh from faces with their corners.
 
-ghost use Rattle.std.specs.Prelude.{◌≡◌, ◌+◌, ◌/◌, All, IfErr, IfOk, length, map};
+ghost use Rattle.std.specs.Prelude.{◌≡◌, ℕ, ◌+◌, ◌/◌, All, IfErr, IfOk, List, length, map};
+ghost use Rattle.dcel_exchange.specs.Closed.{IsInRange};
 ghost use Rattle.dcel_exchange.specs.Corners.{corners_of};
 ghost use Rattle.dcel_exchange.specs.Defaults.{HasDefaults};
 ghost use Rattle.dcel_exchange.specs.Links.{lists_claim};
 ghost use Rattle.dcel_exchange.specs.Meshes.{AreLinks, HasFaces};
-ghost use Rattle.dcel_exchange.specs.Reasons.{Leaves, Means, reason_for};
+ghost use Rattle.dcel_exchange.specs.Reasons.{Leaves, Means, fault_reason, reason_for};
 ghost use Rattle.dcel_exchange.specs.Simple.{HasCorners, IsSimple};
+ghost use Rattle.dcel_links.specs.Meshes.{IsLinked};
+ghost use Rattle.dcel_maps.specs.Headline.{FacesAreCycles};
 ghost use Rattle.dcel_maps.specs.Removals.{Closed};
 ghost use Rattle.dcel_maps.specs.Shapes.{IsMesh};
 
@@ -17,16 +20,16 @@ use crate::refusal::{FacesError, RefusedFaces};
 use crate::sides::{check_ends, list_sides};
 use spade_dcel::dcel::Dcel;
 use spade_dcel::laws::the_headline;
-use spade_dcel::operations::{EdgeData, LinksError, MeshData, from_links};
+use spade_dcel::operations::{EdgeData, LinksError, LinksFault, MeshData, from_links};
 use std::alloc::{AllocError, Allocator};
 use std::convert::AsSlice;
 
 /// Constructs a mesh from faces, each the list of its corners, counterclockwise (positively
 /// oriented).
 ///
-/// The faces keep their order, from number 1 on; face 0, the outer one, is what they leave. So for
-/// a closed surface the caller omits one face; if all are given there is no outer face, and they
-/// are refused. The vertices keep their numbers, and a vertex need not be a corner. The edges are
+/// The faces keep their order, from number 1 on; face 0, the outer one, is what they leave. A closed
+/// surface leaves nothing, and is refused as [`Closed`](FacesError::Closed):
+/// [`from_closed_faces`](crate::from_closed_faces) makes one of its faces the outer one. The vertices keep their numbers, and a vertex need not be a corner. The edges are
 /// numbered in the order of their first sides, face by face, and such a side is the even half edge.
 /// Data of edges and faces are defaults, and no removal is open.
 ///
@@ -122,16 +125,41 @@ fn from_lists<
     ensures left { IfErr result (λ refused. Leaves V DE UE F (length vertices.items) (map S.items faces.now) refused.reason) }
     ensures back { IfErr result (λ refused. refused.back ≡ vertices) }
 {
-    let links = match link_faces(&alloc, vertices.len(), faces) {
-        Ok(links) => links,
-        Err(reason) => {
-            return Err(RefusedFaces {
-                reason,
-                back: vertices,
-            });
-        }
-    };
-    let Ok((edge_data, face_data)) = make_data(&alloc, links.next.len() / 2, faces.len()) else {
+    match link_faces(&alloc, vertices.len(), faces) {
+        Ok(links) => from_face_links(alloc, vertices, &links, faces.len()),
+        Err(reason) => Err(RefusedFaces {
+            reason,
+            back: vertices,
+        }),
+    }
+}
+
+/// Constructs a mesh from the links of so many faces and of the border that they leave.
+pub(crate) fn from_face_links<
+    V: Drop,
+    DE: Drop + Default,
+    UE: Drop + Default,
+    F: Drop + Default,
+    A: Allocator + Clone,
+>(
+    alloc: A,
+    vertices: Vec<V, A>,
+    links: &LinkLists<A>,
+    faces: usize,
+) -> Result<Dcel<V, DE, UE, F, A>, RefusedFaces<Vec<V, A>>>
+    ensures linked { IfOk result (λ dcel. IsLinked dcel.shape (lists_claim links.now (length vertices.items) (faces + 1))) }
+    ensures cycles { IfOk result (λ dcel. FacesAreCycles dcel.shape) }
+    ensures vertices { IfOk result (λ dcel. dcel.vertex_data ≡ vertices.items) }
+    ensures half_data { IfOk result (λ dcel. All DE.is_default dcel.directed_data) }
+    ensures edge_data { IfOk result (λ dcel. All UE.is_default dcel.undirected_data) }
+    ensures face_data { IfOk result (λ dcel. All F.is_default dcel.face_data) }
+    ensures closed { IfOk result (λ dcel. dcel.shape.removal ≡ Closed) }
+    ensures mesh { IfOk result IsMesh }
+    ensures reason { (listed : List (List ℕ)) → AreLinks (length vertices.items) listed (lists_claim links.now (length vertices.items) (faces + 1)) → IfErr result (λ refused. Means (length vertices.items) listed refused.reason) }
+    ensures in_range { IfErr result (λ refused. IsInRange refused.reason) }
+    ensures back { IfErr result (λ refused. refused.back ≡ vertices) }
+{
+    let Ok((edge_data, face_data)) = make_data(&alloc, links.next.len() / 2, faces) else {
         return Err(RefusedFaces {
             reason: FacesError::OutOfMemory,
             back: vertices,
@@ -155,23 +183,38 @@ fn from_lists<
 }
 
 // Returns what a refusal by `from_links` says of the faces.
+#[tactic(auto, using(crate::proofs::Surfaces::named_in_range))]
 fn reason_of(reason: LinksError) -> FacesError
-    ensures { result ≡ reason_for reason }
+    ensures is { result ≡ reason_for reason }
+    ensures in_range { IsInRange result }
 {
     match reason {
-        LinksError::Links(fault) => FacesError::Links(fault),
+        LinksError::Links(fault) => name_of(fault),
         _ => FacesError::OutOfMemory,
     }
 }
 
+// Returns the reason that a fault of the links is.
+fn name_of(fault: LinksFault) -> FacesError
+    ensures { result ≡ fault_reason fault }
+{
+    match fault {
+        LinksFault::UnusedFace(0) => FacesError::Closed,
+        LinksFault::FaceInParts(0) => FacesError::Borders,
+        LinksFault::NotConnected(half) => FacesError::NotConnected(half),
+        other => FacesError::Links(other),
+    }
+}
+
 /// Lists the links of the half edges of these faces and of the border that they leave.
-fn link_faces<A: Allocator + Clone, S: AsSlice<u32>>(
+pub(crate) fn link_faces<A: Allocator + Clone, S: AsSlice<u32>>(
     alloc: &A,
     vertices: usize,
     faces: &[S],
 ) -> Result<LinkLists<A>, FacesError>
     ensures links { IfOk result (λ links. AreLinks vertices (map S.items faces.now) (lists_claim links vertices (length faces.now + 1))) }
     ensures reason { IfErr result (Means vertices (map S.items faces.now)) }
+    ensures in_range { IfErr result IsInRange }
 {
     let sides = list_sides(alloc, faces)?;
     check_ends(&sides, vertices)?;

@@ -4,19 +4,23 @@
 //! [`links`], [`link_lists`] and [`anchor_lists`] return what `from_links` and
 //! `from_anchored_links` of `spade_dcel` take, and [`with_data`] constructs the same mesh with
 //! other data. [`from_faces`] constructs a mesh from faces as lists of vertices, [`from_triangles`]
-//! from triangles, and [`face_corners`] and [`face_lists`] return the faces of a mesh.
+//! from triangles, and [`from_closed_faces`] from those of a closed surface; [`face_corners`] and
+//! [`face_lists`] return the faces of a mesh.
 #![tactic(auto)]
 
 mod chains;
+mod closed;
 mod corners;
 mod faces;
 mod linking;
 mod lists;
 mod numbering;
 mod refusal;
+mod rounds;
 mod sides;
 mod steps;
 
+pub use closed::{ClosedFacesError, from_closed_faces};
 pub use corners::{CornerIterator, FaceIterator, face_corners, face_lists};
 pub use faces::{from_faces, from_triangles};
 pub use lists::{AnchorLists, LinkLists, anchor_lists, link_lists, with_data};

@@ -25,9 +25,19 @@ pub enum FacesError {
     SideTwice(u32, u32, u32, u32),
     /// Two sides with no face on the other side end at this vertex.
     BorderTwice(u32),
-    /// With these corners, the first fault of the links of the half edges. In it half edges,
-    /// vertices and faces have the numbers of the mesh: face 0 is the outer one, and place `k` of
-    /// the list is face `k + 1`.
+    /// Each side has a face on the other side, so none is left for the outer face.
+    ///
+    /// [`from_closed_faces`](crate::from_closed_faces) makes one of the faces the outer one.
+    Closed,
+    /// The sides with no face on the other side are more than one border, of one surface or of
+    /// several.
+    Borders,
+    /// This half edge isn't reached from half edge 0: there is one border at most, and the faces
+    /// are not connected.
+    NotConnected(usize),
+    /// With these corners, the first fault of the links of the half edges, another one than the
+    /// three above. In it half edges, vertices and faces have the numbers of the mesh: face 0 is
+    /// the outer one, and place `k` of the list is face `k + 1`.
     Links(LinksFault),
     /// Memory ran out. That can come at any stage, even before a fault is found.
     OutOfMemory,
@@ -57,6 +67,12 @@ impl fmt::Display for FacesError {
             FacesError::BorderTwice(vertex) => {
                 write!(f, "two sides without a neighbor end at vertex {vertex}")
             }
+            FacesError::Closed => write!(f, "no side is left for the outer face"),
+            FacesError::Borders => write!(f, "the faces leave more than one border"),
+            FacesError::NotConnected(half) => write!(
+                f,
+                "the faces are not connected: half edge {half} isn't reached from half edge 0"
+            ),
             FacesError::Links(fault) => write_fault(f, fault),
             FacesError::OutOfMemory => write!(f, "out of memory"),
         }
@@ -68,8 +84,6 @@ impl Error for FacesError {}
 // Writes what is wrong with the links that faces give.
 fn write_fault<W: fmt::Write>(f: &mut fmt::Formatter<W>, fault: LinksFault) -> fmt::Result {
     match fault {
-        LinksFault::UnusedFace(0) => write!(f, "no side is left for the outer face"),
-        LinksFault::FaceInParts(0) => write!(f, "the faces leave more than one border"),
         LinksFault::UnusedFace(_) | LinksFault::FaceInParts(_) => {
             write!(f, "no mesh has these faces: by the mesh's numbers, {fault}")
         }
@@ -90,14 +104,14 @@ impl From<AllocError> for FacesError {
 
 /// The data of the vertices that were passed in, returned with the reason why there is no mesh.
 #[derive(Drop)]
-pub struct RefusedFaces<T> {
+pub struct RefusedFaces<T, R = FacesError> {
     /// The reason.
-    pub reason: FacesError,
+    pub reason: R,
     /// The value that was passed in.
     pub back: T,
 }
 
-impl<T> fmt::Debug for RefusedFaces<T> {
+impl<T, R: fmt::Debug> fmt::Debug for RefusedFaces<T, R> {
     /// Shows the reason alone, so that the value may be of any type.
     fn fmt<W: fmt::Write>(&self, f: &mut fmt::Formatter<W>) -> fmt::Result {
         f.debug_struct("RefusedFaces")
@@ -106,10 +120,10 @@ impl<T> fmt::Debug for RefusedFaces<T> {
     }
 }
 
-impl<T> fmt::Display for RefusedFaces<T> {
+impl<T, R: fmt::Display> fmt::Display for RefusedFaces<T, R> {
     fn fmt<W: fmt::Write>(&self, f: &mut fmt::Formatter<W>) -> fmt::Result {
         write!(f, "{}", self.reason)
     }
 }
 
-impl<T: Drop> Error for RefusedFaces<T> {}
+impl<T: Drop, R: Error> Error for RefusedFaces<T, R> {}

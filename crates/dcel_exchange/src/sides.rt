@@ -1,6 +1,7 @@
 //! The sides of all faces in one list, face by face.
 
 ghost use Rattle.std.specs.Prelude.{◌≡◌, ◌≢◌, ℕ, ◌+◌, ◌^◌, ◌<◌, ◌≤◌, ◌++◌, IfErr, IfOk, OnOk, length, map, replicate, slice_index};
+ghost use Rattle.dcel_exchange.specs.Closed.{IsInRange};
 ghost use Rattle.dcel_exchange.specs.Corners.{AreSides, turned};
 ghost use Rattle.dcel_exchange.specs.Reasons.{Means, Tells};
 ghost use Rattle.dcel_maps.specs.Numbers.{numbers_between};
@@ -33,6 +34,7 @@ pub(crate) fn list_sides<A: Allocator + Clone, S: AsSlice<u32>>(
 ) -> Result<Sides<A>, FacesError>
     ensures sides { IfOk result (λ sides. AreSides (map S.items faces.now) sides.from.items sides.to.items sides.face.items sides.after.items) }
     ensures reason { (vertices : ℕ) → IfErr result (Means vertices (map S.items faces.now)) }
+    ensures in_range { IfErr result IsInRange }
 {
     let mut sides = Sides {
         from: Vec::new(alloc.clone()?),

@@ -1,1 +1,4 @@
+pub mod Faces
+pub mod KeptSoFar
 pub mod Lines
+pub mod Near

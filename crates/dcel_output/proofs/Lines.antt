@@ -23,6 +23,10 @@ one_of_three say d false false a b c = three (say c) (say a) (say b)
 pub parted : (a b c : List ℕ) → ((a ++ 32 ∷ []) ++ (b ++ 32 ∷ [])) ++ (c ++ 10 ∷ []) ≡ a ++ 32 ∷ (b ++ 32 ∷ (c ++ 10 ∷ []))
 parted a b c = simp append_assoc
 
+-- two things on a line
+pub two : (a b : List ℕ) → a ++ 32 ∷ (b ++ 10 ∷ []) ≡ ended (spaced (a ∷ b ∷ []))
+two a b = simp append_assoc
+
 -- the line of one more item was written
 pub one_more : {X : Type 0} (line : X → List ℕ) (xs : List X) (i : ℕ) (x : X) (a b c : Option (List ℕ)) → i < length xs
     → Appends a b (flat_map line (take i xs)) → Appends b c (line (get_or xs i x)) → Appends a c (flat_map line (take (i + 1) xs))

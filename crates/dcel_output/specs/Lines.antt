@@ -1,9 +1,11 @@
 -- The lines that are written of a triangulation: numbers in decimals, with a space between two, each line ended by a line feed.
-use Rattle.std.specs.Prelude.{ℕ, List, [], ◌∷◌, ◌&&◌, Option, None, Some, codes, if◌then◌else◌, leb, map}
+use Rattle.std.specs.Prelude.{ℕ, List, [], ◌∷◌, ◌&&◌, Option, None, Some, codes, if◌then◌else◌, leb, map, max, min}
 use Rattle.std.specs.List.{flat_map}
 use Rattle.std.specs.Fmt.{decimal}
 use Rattle.dcel_text.specs.Items.{spaced}
 use Rattle.dcel_text.specs.Texts.{ended}
+use Rattle.dcel_delaunay.specs.declared.lists.Across.{Across}
+use Rattle.dcel_delaunay.specs.declared.lists.Ends.{Ends}
 use Rattle.dcel_delaunay.specs.declared.triangles.triangle.Triangle.{Triangle}
 
 -- three things that belong to the corners of a triangle, counterclockwise from the corner with the least number on
@@ -16,6 +18,10 @@ from_least t first second third =
 abbrev pub corners_from_least : Triangle → List ℕ
 corners_from_least t = from_least t t.first t.second t.third
 
+-- what is across from the corners
+abbrev pub neighbors_from_least : Triangle × Across → List (Option ℕ)
+neighbors_from_least (t, across) = from_least t across.first across.second across.third
+
 -- a number, or -1 for none
 abbrev pub entry : Option ℕ → List ℕ
 entry None = codes "-1"
@@ -24,6 +30,14 @@ entry (Some n) = decimal n
 -- the line of a triangle: its corners, counterclockwise, the least number first
 unfoldable pub triangle_line : Triangle → List ℕ
 triangle_line t = ended (spaced (map decimal (corners_from_least t)))
+
+-- the line of a triangle and what is across from its corners: one for each corner, in the order of the corners
+unfoldable pub neighbor_line : Triangle × Across → List ℕ
+neighbor_line pair = ended (spaced (map entry (neighbors_from_least pair)))
+
+-- the line of an edge: its ends, the lesser number first
+unfoldable pub edge_line : Ends → List ℕ
+edge_line e = ended (spaced (decimal (min e.from e.to) ∷ decimal (max e.from e.to) ∷ []))
 
 -- the line of a vertex
 unfoldable pub vertex_line : ℕ → List ℕ

@@ -1,14 +1,25 @@
 //! What is written of a triangulation: lines with the numbers of points, of triangles, or of both.
 //!
-//! Lists of a mesh, as `dcel_delaunay` makes them, have the numbers of vertices.
-//! [`number_triangles`] and [`number_vertices`] put the numbers of points in their
-//! place, and [`write_triangles`] and its kin write a line for each item.
+//! [`triangulate_points`] triangulates the points of a list, and keeps the number of a point at each
+//! vertex. [`numbered_triangles`], [`numbered_edges`] and [`numbered_hull`] list what a mesh has by
+//! these numbers, [`nearest_numbers`] finds nearest points, and [`write_triangles`] and its kin write a
+//! line for each item. [`laws`] say what
+//! that means for the points.
 #![tactic(auto)]
 
+mod keeping;
+pub mod laws;
+mod nearest;
+mod numbered;
 mod numbering;
+mod triangulating;
 mod turning;
 mod writing;
 
-pub use numbering::{number_triangles, number_vertices};
+pub use keeping::kept;
+pub use nearest::nearest_numbers;
+pub use numbered::{numbered_edges, numbered_hull, numbered_triangles};
+pub use numbering::{number_edges, number_triangles, number_vertices};
+pub use triangulating::{Triangulated, triangulate_points};
 pub use turning::corners;
-pub use writing::{write_nearest, write_triangles, write_vertices};
+pub use writing::{write_edges, write_nearest, write_neighbors, write_triangles, write_vertices};

@@ -1,9 +1,10 @@
 //! Numbers of points in the place of those of vertices.
 
 ghost use Rattle.std.specs.Prelude.{◌≡◌, map};
-ghost use Rattle.dcel_output.specs.Numbering.{number_at, triangle_numbered};
+ghost use Rattle.dcel_output.specs.Numbering.{ends_numbered, number_at, triangle_numbered};
 
 use dcel_delaunay::Triangle;
+use dcel_delaunay::lists::Ends;
 
 /// Gives the corners of triangles the numbers that stand at their vertices. A vertex beyond these
 /// keeps its own.
@@ -12,6 +13,16 @@ pub fn number_triangles(triangles: &mut [Triangle], numbers: &[u32])
 {
     for triangle in triangles.iter_mut() {
         *triangle = triangle_numbered(numbers, *triangle);
+    }
+}
+
+/// Gives the ends of edges the numbers that stand at their vertices. A vertex beyond these keeps its
+/// own.
+pub fn number_edges(edges: &mut [Ends], numbers: &[u32])
+    ensures { edges.new ≡ map (ends_numbered numbers.now) edges.old }
+{
+    for ends in edges.iter_mut() {
+        *ends = ends_numbered(numbers, *ends);
     }
 }
 
@@ -34,8 +45,17 @@ fn triangle_numbered(numbers: &[u32], triangle: Triangle) -> Triangle
     }
 }
 
+fn ends_numbered(numbers: &[u32], ends: Ends) -> Ends
+    ensures { result ≡ ends_numbered numbers.now ends }
+{
+    Ends {
+        from: number_at(numbers, ends.from),
+        to: number_at(numbers, ends.to),
+    }
+}
+
 /// Returns the number that stands at a vertex, or its own if none does.
-fn number_at(numbers: &[u32], vertex: u32) -> u32
+pub(crate) fn number_at(numbers: &[u32], vertex: u32) -> u32
     ensures { result ≡ number_at numbers.now vertex }
 {
     match numbers.get(vertex as usize) {

@@ -1,11 +1,13 @@
 //! Lines of numbers.
 
+ghost use Rattle.std.specs.List.{zip};
 ghost use Rattle.std.specs.Prelude.{◌≡◌, OnOk, ◌++◌};
 ghost use Rattle.std.specs.Io.KnownBytes.{Appends};
-ghost use Rattle.dcel_output.specs.Lines.{entry, lines_of, nearest_line, triangle_line, vertex_line};
+ghost use Rattle.dcel_output.specs.Lines.{edge_line, entry, lines_of, nearest_line, neighbor_line, triangle_line, vertex_line};
 
-use crate::turning::corners;
+use crate::turning::{across_from_least, corners};
 use dcel_delaunay::Triangle;
+use dcel_delaunay::lists::{Across, Ends};
 use std::io::{self, Write};
 
 /// Writes the corners of each triangle, counterclockwise, the least number first.
@@ -26,6 +28,54 @@ fn write_triangle<W: Write>(writer: &mut W, triangle: Triangle) -> io::Result<()
 {
     let [a, b, c] = corners(triangle);
     writeln!(writer, "{a} {b} {c}")
+}
+
+/// Writes for each triangle the ones across from its corners, in the order of these as
+/// [`write_triangles`] writes them, or -1 for none.
+///
+/// If a write fails it returns that error, and some of the text may be written.
+pub fn write_neighbors<W: Write>(
+    writer: &mut W,
+    triangles: &[Triangle],
+    neighbors: &[Across],
+) -> io::Result<()>
+    ensures { OnOk result (Appends (W.contents writer.old) (W.contents writer.new) (lines_of neighbor_line (zip triangles.now neighbors.now))) }
+{
+    for place in 0..triangles.len().min(neighbors.len()) {
+        write_across(writer, triangles[place], neighbors[place])?;
+    }
+    Ok(())
+}
+
+/// Writes the line of what is across from the corners of a triangle.
+fn write_across<W: Write>(writer: &mut W, triangle: Triangle, across: Across) -> io::Result<()>
+    ensures { OnOk result (Appends (W.contents writer.old) (W.contents writer.new) (neighbor_line (triangle, across))) }
+{
+    let [a, b, c] = across_from_least(triangle, across);
+    write_entry(writer, a, " ")?;
+    write_entry(writer, b, " ")?;
+    write_entry(writer, c, "\n")?;
+    Ok(())
+}
+
+/// Writes the ends of each edge, the lesser number first.
+///
+/// If a write fails it returns that error, and some of the text may be written.
+pub fn write_edges<W: Write>(writer: &mut W, edges: &[Ends]) -> io::Result<()>
+    ensures { OnOk result (Appends (W.contents writer.old) (W.contents writer.new) (lines_of edge_line edges.now)) }
+{
+    for ends in edges {
+        write_edge(writer, *ends)?;
+    }
+    Ok(())
+}
+
+/// Writes the line of an edge.
+fn write_edge<W: Write>(writer: &mut W, ends: Ends) -> io::Result<()>
+    ensures { OnOk result (Appends (W.contents writer.old) (W.contents writer.new) (edge_line ends)) }
+{
+    let (lesser, greater) = (ends.from.min(ends.to), ends.from.max(ends.to));
+    writeln!(writer, "{lesser} {greater}")
 }
 
 /// Writes a number into each line.

@@ -1,5 +1,5 @@
 //! Tests of `dcel_constrained`: segments that become edges and constraints, points inserted among
-//! these, and regions, also with each request for memory refused in turn.
+//! these, lists of both, and regions, also with each request for memory refused in turn.
 #![tactic(auto)]
 
 #[cfg(test)]
@@ -10,6 +10,8 @@ mod constraints;
 mod insertions;
 #[cfg(test)]
 mod joins;
+#[cfg(test)]
+mod loading;
 #[cfg(test)]
 mod refusals;
 #[cfg(test)]

@@ -125,18 +125,22 @@ fn faces_that_do_not_fit_are_told(rt: HostRuntime) -> Result<(), Fail> {
     check_refused(rt.alloc(), &MISFITS)
 }
 
-const SURFACES: [Refused; 6] = [
+const SURFACES: [Refused; 8] = [
     // A sphere.
+    (&[&[0, 1, 2], &[0, 2, 1]], 3, FacesError::Closed),
+    // Two spheres.
     (
-        &[&[0, 1, 2], &[0, 2, 1]],
-        3,
-        FacesError::Links(LinksFault::UnusedFace(0)),
+        &[&[0, 1, 2], &[0, 2, 1], &[3, 4, 5], &[3, 5, 4]],
+        6,
+        FacesError::Closed,
     ),
     // Two components.
+    (&[&[0, 1, 2], &[3, 4, 5]], 6, FacesError::Borders),
+    // A triangle and a sphere.
     (
-        &[&[0, 1, 2], &[3, 4, 5]],
+        &[&[0, 1, 2], &[3, 4, 5], &[3, 5, 4]],
         6,
-        FacesError::Links(LinksFault::FaceInParts(0)),
+        FacesError::NotConnected(6),
     ),
     // Moebius's strip: three quadrangles round, the last of which is turned over.
     (
@@ -148,7 +152,7 @@ const SURFACES: [Refused; 6] = [
     (
         &[&[0, 1, 4, 3], &[1, 2, 5, 4], &[2, 0, 3, 5]],
         6,
-        FacesError::Links(LinksFault::FaceInParts(0)),
+        FacesError::Borders,
     ),
     // Two surfaces at one vertex.
     (
@@ -261,13 +265,11 @@ fn reasons_are_told(rt: HostRuntime) -> Result<(), Fail> {
             FacesError::Links(LinksFault::NotSphere(2)),
             "no mesh has these faces: the surface has genus 2, so it is not a sphere",
         ),
+        (FacesError::Closed, "no side is left for the outer face"),
+        (FacesError::Borders, "the faces leave more than one border"),
         (
-            FacesError::Links(LinksFault::UnusedFace(0)),
-            "no side is left for the outer face",
-        ),
-        (
-            FacesError::Links(LinksFault::FaceInParts(0)),
-            "the faces leave more than one border",
+            FacesError::NotConnected(6),
+            "the faces are not connected: half edge 6 isn't reached from half edge 0",
         ),
     ];
     for (reason, wanted) in &table {

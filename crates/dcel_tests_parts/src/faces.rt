@@ -28,22 +28,32 @@ fn face_of(corners: &[u32], alloc: Global) -> Result<Vec<u32>, AllocError> {
     Ok(face)
 }
 
+/// Makes vectors of faces, by their corners.
+pub fn vectors_of(faces: &[&[u32]], alloc: Global) -> Result<Vec<Vec<u32>>, AllocError> {
+    let mut vectors = Vec::new(alloc);
+    for corners in faces {
+        vectors.push(face_of(corners, alloc)?)?;
+    }
+    Ok(vectors)
+}
+
 /// Makes vectors of the faces of a row.
 pub fn faces_of(row: &Row, alloc: Global) -> Result<Vec<Vec<u32>>, AllocError> {
-    let mut faces = Vec::new(alloc);
-    for corners in row.faces {
-        faces.push(face_of(corners, alloc)?)?;
+    vectors_of(row.faces, alloc)
+}
+
+/// Makes a list of so many numbers, from 0 on.
+pub fn numbers<A: Allocator>(count: u32, memory: A) -> Result<Vec<u32, A>, AllocError> {
+    let mut numbers = Vec::new(memory);
+    for number in 0..count {
+        numbers.push(number)?;
     }
-    Ok(faces)
+    Ok(numbers)
 }
 
 /// Makes the vertices of a row, with their numbers as data.
 pub fn vertices_of<A: Allocator>(row: &Row, memory: A) -> Result<Vec<u32, A>, AllocError> {
-    let mut vertices = Vec::new(memory);
-    for vertex in 0..row.vertices {
-        vertices.push(vertex)?;
-    }
-    Ok(vertices)
+    numbers(row.vertices, memory)
 }
 
 /// What a mesh made of faces comes to.

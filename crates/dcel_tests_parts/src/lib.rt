@@ -5,6 +5,8 @@
 #[cfg(test)]
 mod anchors;
 #[cfg(test)]
+mod closed;
+#[cfg(test)]
 mod convenience;
 #[cfg(test)]
 mod exchange;
@@ -18,3 +20,5 @@ mod links;
 mod memory;
 #[cfg(test)]
 mod regions;
+#[cfg(test)]
+mod removals;

@@ -1,9 +1,10 @@
 //! Faces by the number of marked edges that lie before them, also with each request for memory
 //! refused.
 
+use crate::faces::{numbers, vectors_of};
 use dcel_bench::checks::{holds, same};
 use dcel_bench::meshes::vertex;
-use dcel_bench::refusing::{Refusals, Refusing};
+use dcel_bench::refusing::{Memory, Refusals, Refusing};
 use dcel_bench::require;
 use dcel_exchange::from_faces;
 use dcel_regions::{Mark, regions};
@@ -14,7 +15,7 @@ use std::test::Fail;
 /// No call here makes so many requests for memory.
 const MANY: u64 = 100;
 
-type Marked<A> = Dcel<u32, (), Mark, (), A>;
+type Marked = Dcel<u32, (), Mark, ()>;
 
 /// A mesh of faces with some edges marked, given by their ends, and the numbers of its faces.
 struct Row<'a> {
@@ -115,30 +116,22 @@ const ROWS: [Row<'static>; 9] = [
     },
 ];
 
-/// Makes the mesh of a row, without marks.
-fn unmarked<A: Allocator + Clone>(
-    row: &Row<'_>,
-    memory: A,
-    alloc: Global,
-) -> Result<Marked<A>, Fail> {
-    let mut faces = Vec::new(alloc);
-    let mut vertices = Vec::new(memory.clone()?);
-    for corners in row.faces {
-        let mut face = Vec::new(alloc);
-        face.extend_from_slice(corners)?;
-        faces.push(face)?;
-    }
-    for datum in 0..8 {
-        vertices.push(datum)?;
-    }
-    match from_faces(memory, vertices, &faces) {
+/// Makes a mesh of faces over eight vertices, without marks.
+fn unmarked(faces: &[Vec<u32>], alloc: Global) -> Result<Marked, Fail> {
+    match from_faces(alloc, numbers(8, alloc)?, faces) {
         Ok(dcel) => Ok(dcel),
         Err(refused) => Err(Fail::new(format_args!("no mesh is made: {:?}", refused.reason))),
     }
 }
 
+/// Makes the mesh of a row, without marks.
+fn mesh_of(row: &Row<'_>, alloc: Global) -> Result<Marked, Fail> {
+    let faces = vectors_of(row.faces, alloc)?;
+    unmarked(&faces, alloc)
+}
+
 /// Marks the edge with these ends.
-fn mark<A: Allocator>(dcel: &mut Marked<A>, ends: [u32; 2]) -> Result<(), Fail> {
+fn mark(dcel: &mut Marked, ends: [u32; 2]) -> Result<(), Fail> {
     let [from, to] = ends;
     let from = vertex(from);
     require!(from.index() < dcel.num_vertices());
@@ -151,17 +144,12 @@ fn mark<A: Allocator>(dcel: &mut Marked<A>, ends: [u32; 2]) -> Result<(), Fail> 
     Ok(())
 }
 
-/// Makes the mesh of a row.
-fn mesh_of<A: Allocator + Clone>(
-    row: &Row<'_>,
-    memory: A,
-    alloc: Global,
-) -> Result<Marked<A>, Fail> {
-    let mut dcel = unmarked(row, memory, alloc)?;
+/// Marks the edges of a row.
+fn mark_all(dcel: &mut Marked, row: &Row<'_>) -> Result<(), Fail> {
     for ends in row.marked {
-        mark(&mut dcel, *ends)?;
+        mark(dcel, *ends)?;
     }
-    Ok(dcel)
+    Ok(())
 }
 
 /// Checks the numbers of a mesh's faces.
@@ -169,13 +157,22 @@ fn check_numbers(found: &[usize], row: &Row<'_>) -> Result<(), Fail> {
     same(found, row.wanted, "the numbers of the faces")
 }
 
+/// Marks the edges of a row, and checks the numbers of its faces.
+fn check_marked(dcel: &mut Marked, row: &Row<'_>, alloc: Global) -> Result<(), Fail> {
+    mark_all(dcel, row)?;
+    let numbers = regions(dcel, alloc)?;
+    check_numbers(&numbers, row)
+}
+
+fn check_row(row: &Row<'_>, alloc: Global) -> Result<(), Fail> {
+    let mut dcel = mesh_of(row, alloc)?;
+    check_marked(&mut dcel, row, alloc)
+}
+
 #[test]
 fn faces_are_numbered_by_the_marked_edges_before_them(rt: HostRuntime) -> Result<(), Fail> {
-    let alloc = rt.alloc();
     for row in ROWS.iter() {
-        let dcel = mesh_of(row, alloc, alloc)?;
-        let numbers = regions(&dcel, alloc)?;
-        check_numbers(&numbers, row)?;
+        check_row(row, rt.alloc())?;
     }
     Ok(())
 }
@@ -195,31 +192,41 @@ fn check_outcome<A: Allocator>(
     }
 }
 
-/// Refuses the request of this number. Returns whether it came.
-fn is_refused(row: &Row<'_>, number: u64, alloc: Global) -> Result<bool, Fail> {
-    let dcel = mesh_of(row, alloc, alloc)?;
-    let memory = Refusing::new(alloc);
+/// Refuses the request of this number for the numbers of a mesh. Returns whether it came.
+fn number_refused(dcel: &Marked, row: &Row<'_>, memory: Memory, number: u64) -> Result<bool, Fail> {
     memory.refuse(Refusals::One(number));
-    let outcome = regions(&dcel, &memory);
+    let outcome = regions(dcel, memory);
     let came = memory.requests() > number;
     check_outcome(outcome, came, row)?;
     Ok(came)
 }
 
-/// Refuses each request for the numbers of a mesh in turn.
-fn refuse_each(row: &Row<'_>, alloc: Global) -> Result<(), Fail> {
+/// Refuses the request of this number in memory of its own. Returns whether it came.
+fn is_refused(dcel: &Marked, row: &Row<'_>, number: u64, alloc: Global) -> Result<bool, Fail> {
+    let memory = Refusing::new(alloc);
+    number_refused(dcel, row, &memory, number)
+}
+
+/// Marks the edges of a row, and refuses each request for the numbers of its faces in turn.
+fn refuse_each(dcel: &mut Marked, row: &Row<'_>, alloc: Global) -> Result<(), Fail> {
+    mark_all(dcel, row)?;
     for number in 0..MANY {
-        if !is_refused(row, number, alloc)? {
+        if !is_refused(dcel, row, number, alloc)? {
             return holds(number > 0, "numbers take memory");
         }
     }
     Err(Fail::new("more requests than MANY"))
 }
 
+fn sweep(row: &Row<'_>, alloc: Global) -> Result<(), Fail> {
+    let mut dcel = mesh_of(row, alloc)?;
+    refuse_each(&mut dcel, row, alloc)
+}
+
 #[test]
 fn numbers_are_refused_memory(rt: HostRuntime) -> Result<(), Fail> {
     for row in ROWS.iter() {
-        refuse_each(row, rt.alloc())?;
+        sweep(row, rt.alloc())?;
     }
     Ok(())
 }

@@ -2,7 +2,9 @@ pub mod Calls
 pub mod Held
 pub mod Inserting
 pub mod Lending
+pub mod Lists
 pub mod Points
+pub mod Positions
 pub mod Removing
 pub mod Statuses
 pub mod Triangulating

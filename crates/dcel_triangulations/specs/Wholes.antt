@@ -1,6 +1,7 @@
 -- Whole triangulations.
 use Rattle.dcel_delaunay.specs.Triangulated.{mesh_in}
 use Rattle.dcel_maps.specs.Shapes.{face_count}
+use Rattle.dcel_planar.specs.Leaving.{IsSame}
 use Rattle.dcel_triangulations.specs.Calls.{IsWhole}
 use Rattle.dcel_triangulations.specs.Held.{Kept, State}
 use Rattle.std.specs.Prelude.{◌≡◌, ◌-◌, ℕ, [], Some, None}
@@ -9,10 +10,18 @@ pub record HasNoPoints (t : State) : Type 0 where
   pub empty : (mesh_in t).vertex_data ≡ []
   pub whole : IsWhole t
 
--- how many vertices there are, and how many triangles
+-- the copy has the same mesh, and the same is left undone in it
+abbrev pub IsCopy : State → State → Type 0
+IsCopy t copy = IsSame t.planar copy.planar
+
+-- how many vertices there are, how many edges, and how many triangles
 abbrev pub vertices_in : Kept → ℕ
 vertices_in None = 0
 vertices_in (Some t) = (mesh_in t).shape.vertices
+
+abbrev pub edges_in : Kept → ℕ
+edges_in None = 0
+edges_in (Some t) = (mesh_in t).shape.edges
 
 abbrev pub triangles_in : Kept → ℕ
 triangles_in None = 0

@@ -39,6 +39,39 @@ pub fn insert(triangulation: &mut DcelTriangulation, point: DcelPoint, vertex: &
     }
 }
 
+/// Inserts a point, as [`insert`] does, by a walk that begins at a vertex.
+///
+/// The nearer the vertex is to the point, the shorter is the walk. If no vertex has the number, the
+/// walk begins where that of [`insert`] does.
+pub fn insert_with_hint(
+    triangulation: &mut DcelTriangulation,
+    point: DcelPoint,
+    hint: u32,
+    vertex: &mut u32,
+) -> u32
+    ensures done { result ≡ 0 → AreSo (InsertsPoint point vertex.new) (kept_in triangulation.old) (kept_in triangulation.new) }
+    ensures fails { result ≢ 0 → result ≢ 21 → result ≢ 24 → AreSo (FailsToInsertPoint point result) (kept_in triangulation.old) (kept_in triangulation.new) }
+    ensures none { result ≡ 21 → kept_in triangulation.old ≡ None }
+    ensures out_of_range { result ≡ 24 → IsFar point }
+    ensures same { (result ≡ 21) ⊎ (result ≡ 24) → kept_in triangulation.new ≡ kept_in triangulation.old }
+    ensures untold { result ≢ 0 → vertex.new ≡ vertex.old }
+{
+    if !triangulation.is_open {
+        return NO_MESH;
+    }
+    let Some(point) = point_of(point) else {
+        return OUT_OF_RANGE;
+    };
+    let hint = FixedVertexHandle::new(hint as usize);
+    match triangulation.held.as_mut().insert_with_hint(point, hint) {
+        Ok(found) => {
+            *vertex = found.index() as u32;
+            DONE
+        }
+        Err(error) => status_of_insertion(error),
+    }
+}
+
 /// Inserts points in an order of its own, in which walks are short, and puts the vertex of each into
 /// the buffer, in the order of the points. What lies behind them there stays.
 ///

@@ -2,7 +2,7 @@
 
 ghost use Rattle.std.specs.Prelude.{◌≡◌, ◌≢◌, ◌≤◌, ◌⊎◌, ◌↔◌, IsTrue, None, Some};
 ghost use Rattle.dcel_triangulations.specs.Calls.{AreSo, IsSo, IsWhole, kept_in};
-ghost use Rattle.dcel_triangulations.specs.Wholes.{Finishes, HasNoPoints, StaysUnfinished, triangles_in, vertices_in};
+ghost use Rattle.dcel_triangulations.specs.Wholes.{Finishes, HasNoPoints, StaysUnfinished, edges_in, triangles_in, vertices_in};
 
 use crate::held::{Held, Points};
 use crate::status::{DONE, NO_MESH, OUT_OF_MEMORY};
@@ -13,7 +13,7 @@ use std::alloc::Global;
 
 /// Keeps this triangulation there, and frees the one that was kept. If there is no memory, nothing
 /// changes.
-fn keep(alloc: Global, triangulation: &mut DcelTriangulation, made: Points) -> u32
+pub(crate) fn keep(alloc: Global, triangulation: &mut DcelTriangulation, made: Points) -> u32
     ensures done { result ≡ 0 → kept_in triangulation.new ≡ Some made }
     ensures no_memory { result ≢ 0 → (result ≡ 20) × (kept_in triangulation.new ≡ kept_in triangulation.old) }
 {
@@ -59,6 +59,17 @@ pub fn num_vertices(triangulation: &mut DcelTriangulation) -> u64
         return 0;
     }
     triangulation.held.as_mut().dcel().num_vertices() as u64
+}
+
+/// Returns the number of edges, or 0 if there is no triangulation.
+pub fn num_edges(triangulation: &mut DcelTriangulation) -> u64
+    ensures count { result ≡ edges_in (kept_in triangulation.old) }
+    ensures same { kept_in triangulation.new ≡ kept_in triangulation.old }
+{
+    if !triangulation.is_open {
+        return 0;
+    }
+    triangulation.held.as_mut().dcel().num_undirected_edges() as u64
 }
 
 /// Returns the number of triangles, or 0 if there is no triangulation.

@@ -1,5 +1,7 @@
 //! The words that the program is started with.
 
+ghost use Rattle.std.specs.Prelude.{◌≡◌, None, false};
+
 use dcel_decimals::Scale;
 use dcel_programs::{Choice, Given, Program, Switch, Takes};
 
@@ -227,7 +229,9 @@ impl<'a> Arguments<'a> {
     }
 
     /// Returns whether some edges are to stay.
-    pub fn has_constraints(&self) -> bool {
+    pub fn has_constraints(&self) -> bool
+        ensures { self.now.constraints ≡ None → self.now.outline ≡ None → result ≡ false }
+    {
         self.constraints.is_some() || self.outline.is_some()
     }
 }

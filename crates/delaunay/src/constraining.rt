@@ -4,11 +4,11 @@ use crate::arguments::Arguments;
 use crate::drawn::Drawn;
 use crate::fault::{Fault, Wrong};
 use crate::joins::Join;
-use crate::outlining::triangles_inside;
+use crate::outlining::inside;
 use crate::reading::in_file;
 use crate::segments::Segment;
 use crate::task::Task;
-use crate::view::View;
+use crate::view::{Inside, View};
 use dcel_constrained::ConstrainedTriangulation;
 use dcel_delaunay::InsertionError;
 use dcel_regions::Mark;
@@ -22,8 +22,8 @@ pub struct Constrained {
     triangulation: ConstrainedTriangulation,
     /// Which of its edges are marked.
     is_marked: Vec<bool>,
-    /// Which one each face is of the triangles inside the outline, if there is one.
-    inside: Option<Vec<Option<usize>>>,
+    /// What is inside the outline, if there is one.
+    inside: Option<Inside>,
 }
 
 impl Constrained {
@@ -57,16 +57,16 @@ impl Constrained {
         task: &Task,
         drawn: &Drawn,
     ) -> Result<(), Fault> {
-        let vertices = drawn.vertices_of_points(alloc)?;
+        let vertices = &drawn.vertices;
         let inserted = &mut self.triangulation;
         let _ = add_joins(
             alloc,
             inserted,
-            &vertices,
+            vertices,
             &task.constraints,
             arguments.constraints,
         )?;
-        let sides = add_joins(alloc, inserted, &vertices, &task.outline, arguments.outline)?;
+        let sides = add_joins(alloc, inserted, vertices, &task.outline, arguments.outline)?;
         self.part(alloc, &sides, arguments.outline)
     }
 
@@ -80,14 +80,14 @@ impl Constrained {
     }
 
     /// Returns what is written and drawn of it.
-    pub fn view<'a>(&'a self, drawn: &'a Drawn) -> View<'a, Mark> {
+    pub fn view<'a>(&'a self, task: &'a Task, drawn: &'a Drawn) -> View<'a, Mark> {
         View {
             mesh: self.triangulation.dcel(),
             numbers: &drawn.numbers,
-            points: drawn.points,
-            unit: drawn.unit,
+            points: &task.points,
+            unit: task.unit,
             is_marked: Some(&self.is_marked),
-            shown: self.inside.as_deref(),
+            inside: self.inside.as_ref(),
         }
     }
 }
@@ -131,16 +131,14 @@ fn add_join(
     Ok(segment)
 }
 
-/// Returns for each face which one it is of the triangles inside the outline of a file.
+/// Returns what is inside the outline of a file.
 fn inside_of(
     alloc: Global,
     triangulation: &ConstrainedTriangulation,
     sides: &[Segment],
     path: Option<&str>,
-) -> Result<Vec<Option<usize>>, Fault> {
-    triangles_inside(alloc, triangulation.dcel(), sides).map_err(|fault| in_file(
-        alloc, path, fault,
-    ))
+) -> Result<Inside, Fault> {
+    inside(alloc, triangulation.dcel(), sides).map_err(|fault| in_file(alloc, path, fault))
 }
 
 /// Tells of each edge whether it is marked.

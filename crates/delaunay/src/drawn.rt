@@ -1,65 +1,79 @@
 //! A triangulation as it is written and drawn.
 
-use crate::unit::Unit;
+ghost use Rattle.std.specs.Prelude.{◌≡◌, IfOk, List, None};
+ghost use Rattle.dcel_planar.specs.Outcomes.{IsWholeMesh};
+ghost use Rattle.dcel_delaunay.specs.Triangulated.{mesh_in};
+ghost use Rattle.dcel_predicates.specs.declared.point.Point.{Point};
+ghost use Rattle.dcel_output.specs.Numbering.{NumbersVertices};
+ghost use Rattle.delaunay.specs.Answers.{IsDrawn};
+
+use crate::arguments::Arguments;
+use crate::fault::Fault;
+use crate::task::Task;
 use crate::view::View;
-use dcel_delaunay::{Point, Triangulation};
+use dcel_delaunay::Triangulation;
+use dcel_output::Triangulated;
 use spade_dcel::handles::FixedVertexHandle;
 use std::alloc::{AllocError, Global};
 
-/// A triangulation of points, and which of them stands at each vertex.
+/// A triangulation of the points that are left, and which of them stands at each vertex.
 #[derive(Drop)]
-pub struct Drawn<'a> {
+pub struct Drawn {
     /// The triangulation.
     pub triangulation: Triangulation,
     /// The least number of a point that is left at each vertex.
-    pub numbers: Vec<usize>,
-    /// For each point the least number of one that equals it and is left, if one is. It has none where
-    /// nothing asks for them.
-    pub least: Vec<Option<usize>>,
-    /// The points, equal ones included.
-    pub points: &'a [Point],
-    /// What their coordinates stand for.
-    pub unit: Unit,
+    pub numbers: Vec<u32>,
+    /// For each point the vertex at which it stands, if it or one that equals it is left. It has none
+    /// where nothing asks for them.
+    pub vertices: Vec<Option<FixedVertexHandle>>,
 }
 
-impl Drawn<'_> {
+impl Drawn {
     /// Returns what is written and drawn of it.
-    pub fn view(&self) -> View<'_, ()> {
+    pub fn view<'a>(&'a self, task: &'a Task) -> View<'a, ()>
+        ensures mesh { result.mesh.now ≡ mesh_in self.now.triangulation }
+        ensures numbers { result.numbers.now ≡ self.now.numbers.items }
+        ensures all { result.inside ≡ None }
+    {
         View {
             mesh: self.triangulation.dcel(),
             numbers: &self.numbers,
-            points: self.points,
-            unit: self.unit,
+            points: &task.points,
+            unit: task.unit,
             is_marked: None,
-            shown: None,
+            inside: None,
         }
     }
+}
 
-    /// Returns for each point the vertex at which it stands, if one does.
-    pub fn vertices_of_points(
-        &self,
-        alloc: Global,
-    ) -> Result<Vec<Option<FixedVertexHandle>>, AllocError> {
-        let by_number = self.vertices_by_number(alloc)?;
-        let mut vertices = Vec::with_capacity(alloc, self.least.len())?;
-        for least in &self.least {
-            let vertex = least.and_then(|number| by_number.get(number).copied().flatten());
-            vertices.push(vertex)?;
-        }
-        Ok(vertices)
-    }
+/// Returns what is drawn where all points are left.
+pub fn all_there(
+    alloc: Global,
+    arguments: &Arguments,
+    inserted: Triangulated,
+) -> Result<Drawn, Fault>
+    ensures { IfOk result (λ drawn. (points : List Point) → IsWholeMesh inserted.triangulation.planar
+        → NumbersVertices (mesh_in inserted.triangulation) points inserted.numbers.items → IsDrawn points drawn) }
+{
+    let vertices = vertices_asked_for(alloc, arguments, &inserted.vertices)?;
+    Ok(Drawn {
+        triangulation: inserted.triangulation,
+        numbers: inserted.numbers,
+        vertices,
+    })
+}
 
-    /// Returns the vertex of each point that has the least number there.
-    fn vertices_by_number(
-        &self,
-        alloc: Global,
-    ) -> Result<Vec<Option<FixedVertexHandle>>, AllocError> {
-        let mut vertices = vec![in alloc; None; self.points.len()]?;
-        for (vertex, number) in self.triangulation.dcel().vertices().zip(&self.numbers) {
-            if let Some(place) = vertices.get_mut(*number) {
-                *place = Some(vertex.fix());
-            }
+/// Returns the vertex of each point, if constraints ask for them.
+fn vertices_asked_for(
+    alloc: Global,
+    arguments: &Arguments,
+    vertices: &[FixedVertexHandle],
+) -> Result<Vec<Option<FixedVertexHandle>>, AllocError> {
+    let mut all = Vec::new(alloc);
+    if arguments.has_constraints() {
+        for vertex in vertices {
+            all.push(Some(*vertex))?;
         }
-        Ok(vertices)
     }
+    Ok(all)
 }

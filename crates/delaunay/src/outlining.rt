@@ -6,19 +6,16 @@
 
 use crate::fault::{Fault, Wrong};
 use crate::segments::Segment;
+use crate::view::Inside;
 use dcel_constrained::ConstrainedMesh;
 use dcel_predicates::{Point, Side, orientation};
 use dcel_regions::{Mark, regions};
 use spade_dcel::handles::{FixedDirectedEdgeHandle, FixedUndirectedEdgeHandle, FixedVertexHandle};
 use std::alloc::{AllocError, Global};
 
-/// Returns for each face which one it is of the triangles inside closed curves, if it is one. Each
-/// side of the curves has to be a chain of edges of the mesh.
-pub fn triangles_inside(
-    alloc: Global,
-    mesh: &ConstrainedMesh,
-    sides: &[Segment],
-) -> Result<Vec<Option<usize>>, Fault> {
+/// Returns what is inside closed curves. Each side of the curves has to be a chain of edges of the
+/// mesh.
+pub fn inside(alloc: Global, mesh: &ConstrainedMesh, sides: &[Segment]) -> Result<Inside, Fault> {
     let mut parted = freed(alloc, mesh)?;
     turn_sides(&mut parted, sides)?;
     Ok(crossed_odd_times(alloc, &parted)?)
@@ -103,26 +100,40 @@ fn is_same_way(start: i64, end: i64, goal: i64) -> bool {
     (start < end) == (start < goal) && (end < start) == (goal < start)
 }
 
-/// Returns for each face which one it is of those to which a way from outside crosses marked edges an
-/// odd number of times, if it is one.
-fn crossed_odd_times(
-    alloc: Global,
-    mesh: &ConstrainedMesh,
-) -> Result<Vec<Option<usize>>, AllocError> {
-    counted_if_odd(alloc, &regions(mesh, alloc)?)
+/// Returns to which triangles a way from outside crosses marked edges an odd number of times, and the
+/// edges beside these.
+fn crossed_odd_times(alloc: Global, mesh: &ConstrainedMesh) -> Result<Inside, AllocError> {
+    let depths = regions(mesh, alloc)?;
+    let triangles = are_odd(alloc, depths.get(1..).unwrap_or(&[]))?;
+    let edges = beside_odd(alloc, mesh, &depths)?;
+    Ok(Inside { triangles, edges })
 }
 
-/// Counts the odd ones among some numbers: for each that is odd how many there are before it.
-fn counted_if_odd(alloc: Global, numbers: &[usize]) -> Result<Vec<Option<usize>>, AllocError> {
-    let mut places = Vec::with_capacity(alloc, numbers.len())?;
-    let mut count = 0usize;
+/// Tells of each of some numbers whether it is odd.
+fn are_odd(alloc: Global, numbers: &[usize]) -> Result<Vec<bool>, AllocError> {
+    let mut odd = Vec::with_capacity(alloc, numbers.len())?;
     for number in numbers {
-        if number % 2 == 1 {
-            places.push(Some(count))?;
-            count = count.saturating_add(1);
-        } else {
-            places.push(None)?;
-        }
+        odd.push(number % 2 == 1)?;
     }
-    Ok(places)
+    Ok(odd)
+}
+
+/// Tells of each edge whether a face with an odd number is beside it.
+fn beside_odd(
+    alloc: Global,
+    mesh: &ConstrainedMesh,
+    numbers: &[usize],
+) -> Result<Vec<bool>, AllocError> {
+    let mut beside = Vec::with_capacity(alloc, mesh.num_undirected_edges())?;
+    for edge in mesh.live_undirected_edges() {
+        let half = edge.as_directed();
+        let (left, right) = (half.face().index(), half.rev().face().index());
+        beside.push(is_odd(numbers, left) || is_odd(numbers, right))?;
+    }
+    Ok(beside)
+}
+
+/// Returns whether there is an odd number in a place.
+fn is_odd(numbers: &[usize], place: usize) -> bool {
+    numbers.get(place).is_some_and(|number| number % 2 == 1)
 }

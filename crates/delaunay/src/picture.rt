@@ -46,11 +46,9 @@ fn set_looks<UE>(view: &View<'_, UE>, strokes: &mut [Stroke]) {
 
 /// Leaves an edge out if it isn't shown, and sets whether it is wide where edges may be marked.
 fn set_look<UE>(view: &View<'_, UE>, half: &mut Stroke, other: &mut Stroke) {
-    if let (Some(left), Some(right)) = (half.face, other.face) {
-        if !view.shows_edge([left, right]) {
-            half.from = None;
-            other.from = None;
-        }
+    if !view.shows_edge(half.number / 2) {
+        half.from = None;
+        other.from = None;
     }
     if let Some(marks) = view.is_marked {
         let is_wide = marks.get(half.number / 2) == Some(&true);

@@ -1,55 +1,58 @@
 //! What is written and drawn of a triangulation.
 
+ghost use Rattle.std.specs.Prelude.{◌≡◌};
+ghost use Rattle.dcel_maps.specs.Removals.{Closed};
+
 use crate::unit::Unit;
-use dcel_delaunay::Point;
-use spade_dcel::dcel::Dcel;
+use dcel_delaunay::{EdgeMesh, Point};
 use std::io;
 
 /// What is written and drawn: a mesh whose edges have data of some type, or some of its triangles.
 #[derive(Drop)]
 pub struct View<'a, UE> {
     /// The mesh.
-    pub mesh: &'a Dcel<Point, (), UE, ()>,
+    pub mesh: &'a EdgeMesh<UE>,
     /// The number of the point at each vertex.
-    pub numbers: &'a [usize],
+    pub numbers: &'a [u32],
     /// The points, equal ones included.
     pub points: &'a [Point],
     /// What their coordinates stand for.
     pub unit: Unit,
     /// Which edges are marked, if some may be.
     pub is_marked: Option<&'a [bool]>,
-    /// Which one each face is of the triangles that are shown, if some aren't.
-    pub shown: Option<&'a [Option<usize>]>,
+    /// What is inside an outline, if nothing else is shown.
+    pub inside: Option<&'a Inside>,
+    ghost closed: { mesh.now.shape.removal ≡ Closed },
+}
+
+/// What is inside an outline.
+#[derive(Drop)]
+pub struct Inside {
+    /// Which triangles are.
+    pub triangles: Vec<bool>,
+    /// Which edges have one of these triangles on a side.
+    pub edges: Vec<bool>,
 }
 
 impl<'a, UE> View<'a, UE> {
     /// Returns the number of the point at the vertex of this number. It fails if none stands there.
     pub fn number(&self, vertex: usize) -> io::Result<usize> {
         match self.numbers.get(vertex) {
-            Some(number) => Ok(*number),
+            Some(number) => Ok(*number as usize),
             None => Err(io::Error::other("a vertex has no point")),
         }
     }
 
-    /// Returns which one a face is of the triangles that are shown, if it is one.
-    pub fn place(&self, face: usize) -> Option<usize> {
-        match self.shown {
-            Some(places) => places.get(face).copied().flatten(),
-            // The outer face is the first of the mesh.
-            None => face.checked_sub(1),
+    /// Returns whether an edge is shown. All are if all triangles are.
+    pub fn shows_edge(&self, edge: usize) -> bool {
+        match self.inside {
+            Some(inside) => inside.edges.get(edge) == Some(&true),
+            None => true,
         }
     }
+}
 
-    /// Returns whether an edge is shown that has these faces beside it. All are if all triangles are.
-    pub fn shows_edge(&self, [left, right]: [usize; 2]) -> bool {
-        self.shown.is_none() || self.place(left).is_some() || self.place(right).is_some()
-    }
-
-    /// Returns how many triangles are shown.
-    pub fn count_triangles(&self) -> usize {
-        match self.shown {
-            Some(places) => places.iter().filter(|place| place.is_some()).count(),
-            None => self.mesh.num_faces() - 1,
-        }
-    }
+/// Counts what is shown.
+pub fn count_shown(is_shown: &[bool]) -> usize {
+    is_shown.iter().filter(|is_shown| **is_shown).count()
 }

@@ -1,8 +1,8 @@
-//! Triangulations made, counted, finished and freed.
+//! Triangulations made, cloned, counted, finished and freed.
 
 ghost use Rattle.std.specs.Prelude.{◌≡◌, ◌≢◌, ◌≤◌, ◌⊎◌, ◌↔◌, IsTrue, None};
 ghost use Rattle.dcel_triangulations.specs.Calls.{AreSo, IsSo, IsWhole, kept_in};
-ghost use Rattle.dcel_triangulations.specs.Wholes.{Finishes, HasNoPoints, StaysUnfinished, triangles_in, vertices_in};
+ghost use Rattle.dcel_triangulations.specs.Wholes.{Finishes, HasNoPoints, IsCopy, StaysUnfinished, edges_in, triangles_in, vertices_in};
 
 use dcel_triangulations::DcelTriangulation;
 use std::alloc::Global;
@@ -27,6 +27,23 @@ pub extern "C" fn dcel_triangulation_free(alloc: Global, triangulation: &mut Dce
     dcel_triangulations::free(alloc, triangulation)
 }
 
+/// Makes a triangulation with the same mesh, in memory of its own. One that was kept there before is
+/// freed. It is whole if the other one is.
+#[unsafe(no_mangle)]
+pub extern "C" fn dcel_triangulation_clone(
+    alloc: Global,
+    from: &mut DcelTriangulation,
+    to: &mut DcelTriangulation,
+) -> u32
+    ensures done { result ≡ 0 → AreSo IsCopy (kept_in from.old) (kept_in to.new) }
+    ensures refused { result ≢ 0 → kept_in to.new ≡ kept_in to.old }
+    ensures none { result ≡ 21 → kept_in from.old ≡ None }
+    ensures status { (result ≡ 0) ⊎ ((20 ≤ result) × (result ≤ 21)) }
+    ensures same { kept_in from.new ≡ kept_in from.old }
+{
+    dcel_triangulations::clone(alloc, from, to)
+}
+
 /// Returns the number of vertices, or 0 if there is no triangulation.
 #[unsafe(no_mangle)]
 pub extern "C" fn dcel_triangulation_num_vertices(triangulation: &mut DcelTriangulation) -> u64
@@ -34,6 +51,15 @@ pub extern "C" fn dcel_triangulation_num_vertices(triangulation: &mut DcelTriang
     ensures same { kept_in triangulation.new ≡ kept_in triangulation.old }
 {
     dcel_triangulations::num_vertices(triangulation)
+}
+
+/// Returns the number of edges, or 0 if there is no triangulation.
+#[unsafe(no_mangle)]
+pub extern "C" fn dcel_triangulation_num_edges(triangulation: &mut DcelTriangulation) -> u64
+    ensures count { result ≡ edges_in (kept_in triangulation.old) }
+    ensures same { kept_in triangulation.new ≡ kept_in triangulation.old }
+{
+    dcel_triangulations::num_edges(triangulation)
 }
 
 /// Returns the number of triangles, or 0 if there is no triangulation.

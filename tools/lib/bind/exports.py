@@ -31,7 +31,11 @@ FROM_BELOW = {
     "delaunay_c": {
         "DcelTriangulation": ("dcel_triangulations", "dcel_triangulation"),
         "DcelPoint": ("dcel_triangulations", "dcel_point"),
+        "DcelPosition": ("dcel_triangulations", "dcel_position"),
+        "DcelAcross": ("dcel_triangulations", "dcel_across"),
+        "DcelHalfEdge": ("dcel_triangulations", "dcel_half_edge"),
         "Triangle": ("dcel_delaunay", "dcel_triangle"),
+        "Ends": ("dcel_delaunay", "dcel_ends"),
     },
 }
 TYPES = {"u8": "uint8_t", "i32": "int32_t", "i64": "int64_t", "u32": "uint32_t", "u64": "uint64_t", "usize": "size_t"}
@@ -90,7 +94,16 @@ def exported(crates):
         structs += [struct(name, inside) for name, inside in structs_in(crate) if name != "Held"]
         for wanted, (other, called) in FROM_BELOW.get(crate, {}).items():
             structs += [struct(name, inside, called) for name, inside in structs_in(other) if name == wanted]
-    return functions, {it.name: it for it in structs}, leaves
+    return functions, by_name(structs), leaves
+
+
+def by_name(structs):
+    """Structs by their names. Of two crates that have one of them otherwise the fields of both are there, which no header has."""
+    found = {}
+    for it in structs:
+        other = found.get(it.name, it)
+        found[it.name] = it if it == other else replace(it, fields=(*other.fields, *it.fields))
+    return found
 
 
 def as_exported(function, header, leaves):
@@ -158,6 +171,15 @@ def kind_faults(header):
             yield f"{DCEL.header}: DCEL_FAULT_{name} is {numbers.get(name)}, and dcel_c tells {wanted.get(name)}"
 
 
+def place_faults(header):
+    """Kinds of places whose numbers or names differ from those that dcel_triangulations tells."""
+    wanted = consts((ROOT / "crates/dcel_triangulations/src/position.rt").read_text())
+    found = {short(it.name): it.number for it in header.enums["dcel_place"].members}
+    for name in sorted(set(wanted) | set(found)):
+        if wanted.get(name) != found.get(name):
+            yield f"{DCEL.header}: DCEL_{name} is {found.get(name)}, and dcel_triangulations tells {wanted.get(name)}"
+
+
 def refusal_faults(text, header):
     """Words behind `Refusals` in comments that are no statuses."""
     for comment in re.findall(r"/\*(.*?)\*/", text, re.S):
@@ -171,4 +193,4 @@ def faults(library, text):
     """Where a header with this text isn't what its library exports, or the program doesn't try it. Raises Unreadable."""
     header = read(text)
     found = [*declaration_faults(library, header), *status_faults(library, header)]
-    return found + [*kind_faults(header), *refusal_faults(text, header)] if library is DCEL else found
+    return found + [*kind_faults(header), *place_faults(header), *refusal_faults(text, header)] if library is DCEL else found

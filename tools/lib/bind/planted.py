@@ -17,6 +17,7 @@ PLANTED = [
     (DCEL, "DCEL_BAD_RING = 15", "DCEL_BAD_RING = 16", "the status BAD_RING"),
     (DCEL, 'return "BadRing"', 'return "BadStrip"', "DCEL_BAD_RING"),
     (DCEL, "DCEL_FAULT_APART = 10", "DCEL_FAULT_APART = 11", "DCEL_FAULT_APART"),
+    (DCEL, "DCEL_OUTSIDE = 3", "DCEL_OUTSIDE = 6", "DCEL_OUTSIDE"),
     (DCEL, "Refusals: NO_SUCH_VERTEX, GIVEN_UP.", "Refusals: NO_VERTEX, GIVEN_UP.", "NO_VERTEX is no status"),
     (DCEL, "void dcel_free(", "void *dcel_free(", "can't be read"),
     (DCEL, "DCEL_STOPPED = 1,", "DCEL_STOPPED,", "can't be read"),

@@ -9,10 +9,12 @@ HEAD = "//! Made of `bindings/c/dcel.h` by `tools/bind --write`: {}\n\n"
 WIDTH = 100
 TYPES = {"bool": "bool", "size_t": "usize", "uint8_t": "u8", "uint32_t": "u32", "uint64_t": "u64", "int32_t": "i32", "int64_t": "i64"}
 TYPES |= {"double": "f64", "void": "c_void"}
-# What is kept across calls, and the type whose methods the calls on it are.
-KEPT = {"dcel_mesh": "Mesh"}
-# What the crate doesn't keep yet, with what only calls on it take. Nothing of it is declared.
-WITHOUT = {"dcel_triangulation", "dcel_point", "dcel_triangle"}
+# What is kept across calls, and the type that owns it.
+KEPT = {"dcel_mesh": "Mesh", "dcel_triangulation": "Triangulation"}
+# That whose calls are made methods. Those of a triangulation are written by hand, as their statuses aren't all refusals of the crate.
+CALLED = "dcel_mesh"
+# What the crate does without: a mesh has what these lists have. Nothing of it is declared.
+WITHOUT = {"dcel_triangle", "dcel_across", "dcel_ends"}
 # Structs that are written by hand, as their fields are handles. What is made says that they lie as C has them.
 BY_HAND = {"dcel_half_edge": "HalfEdgeEntry"}
 SIZES = {"bool": 1, "uint8_t": 1, "uint32_t": 4, "uint64_t": 8, "size_t": 8}
@@ -26,6 +28,7 @@ HANDLES = {
 }
 # What the crate does without: it walks by steps, and asks for no version but by the name that only one has.
 LEFT_OUT = {"dcel_version", "dcel_rev", "dcel_out_edges", "dcel_face_edges", "dcel_directed_edge", "dcel_replies"}
+LEFT_OUT |= {f"dcel_triangulation_{it}" for it in ("points", "hull", "locate_all", "nearest_all")}
 # What ffi.rs calls itself: how a mesh is made and ends.
 LIVES = {"dcel_new", "dcel_free", "dcel_clone"}
 
@@ -262,8 +265,6 @@ def made(function, kept, given):
 def calls(header):
     """The text of calls.rs."""
     text = HEAD.format("each call as a method.") + "// A list is a slice, and what a call tells is returned.\n\nuse super::*;\n"
-    for kept, name in KEPT.items():
-        own = [it for it in header.functions.values() if it.given and it.given[0].type.name == kept]
-        methods = ["\n".join(method(it)) for it in own if it.name not in LEFT_OUT | LIVES]
-        text += f"\nimpl {name} {{\n" + "\n\n".join(methods) + "\n}\n"
-    return text
+    own = [it for it in header.functions.values() if it.given and it.given[0].type.name == CALLED]
+    methods = ["\n".join(method(it)) for it in own if it.name not in LEFT_OUT | LIVES]
+    return f"{text}\nimpl {KEPT[CALLED]} {{\n" + "\n\n".join(methods) + "\n}\n"

@@ -71,9 +71,11 @@ class Project:
         return self.kit is None or name in self.kit_fields
 
     def calls(self, name):
-        """The public calls that a name, or as much of a path as is given, means: those that promise nothing only where no other does."""
+        """The public calls that a name, or as much of a path as is given, means: those that promise nothing only where no other does. A program
+        is among the crates if the path begins with it."""
         *outer, last = name.split("::")
-        named = [it for library in self.libraries() for it in public_calls(library) if it.name == last]
+        crates = [self.crate(outer[0])] if outer and (self.root / "crates" / outer[0] / "src/main.rt").is_file() else self.libraries()
+        named = [it for crate in crates for it in public_calls(crate) if it.name == last]
         found = [it for it in named if is_part(outer, it.path.split("::")[:-1])]
         return [it for it in found if any(clause.kind.startswith("ensures") for clause in it.clauses)] or found
 

@@ -250,9 +250,10 @@ class Site:
         page.add("<h2 id=believe>What to believe</h2>", "<dl class=list>")
         for name, promise in believed(self.project.root):
             call = self.project.calls(name)[0]
-            rests = self.rests[call]
+            # A program has no page.
+            rests, shown = (self.rests[call], page.link(call, name)) if call in self.rests else (Rests(call), f"<code>{escape(name)}</code>")
             values = f"; for values {rests.values}" if rests.values else ""
-            page.add(f"<dt>{page.link(call, name)}</dt><dd>{prose.shown([promise], str)}<p class=count>{rests.meaning}{values}</p></dd>")
+            page.add(f"<dt>{shown}</dt><dd>{prose.shown([promise], str)}<p class=count>{rests.meaning}{values}</p></dd>")
         page.add("</dl>")
 
     def counted(self, library):

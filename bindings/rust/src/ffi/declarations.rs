@@ -86,6 +86,17 @@ pub(crate) mod fault_kind {
     pub(crate) const BORDER_TWICE: u32 = 23;
 }
 
+/// Where a point is, and what the `number` of a dcel_position is. Each point is at one place alone.
+#[allow(dead_code)]
+pub(crate) mod place {
+    pub(crate) const ON_FACE: u32 = 0;
+    pub(crate) const ON_EDGE: u32 = 1;
+    pub(crate) const ON_VERTEX: u32 = 2;
+    pub(crate) const OUTSIDE: u32 = 3;
+    pub(crate) const BEYOND_LINE: u32 = 4;
+    pub(crate) const NOWHERE: u32 = 5;
+}
+
 /// The names of statuses, by number.
 #[cfg(test)]
 pub(crate) const STATUS_NAMES: [&str; 26] = [
@@ -171,6 +182,30 @@ pub(crate) struct Fault {
     pub(crate) other: u64,
     pub(crate) from: u64,
     pub(crate) to: u64,
+}
+
+/// A point, whose coordinates are from -2^53 to 2^53. C's `dcel_point`.
+#[repr(C)]
+#[derive(Clone, Copy, Default)]
+pub(crate) struct Point {
+    pub(crate) x: i64,
+    pub(crate) y: i64,
+}
+
+/// A triangulation, or none: zero bytes are one that isn't open. The fields are the library's. C's
+/// `dcel_triangulation`.
+#[repr(C)]
+pub(super) struct RawTriangulation {
+    pub(super) at: *mut c_void,
+    pub(super) is_open: bool,
+}
+
+/// A place: an enum dcel_place, and the number that it speaks of. C's `dcel_position`.
+#[repr(C)]
+#[derive(Clone, Copy, Default)]
+pub(crate) struct Position {
+    pub(crate) kind: u32,
+    pub(crate) number: u32,
 }
 
 /// With it what uses the crate is linked with no library of another version than the crate's.
@@ -445,5 +480,64 @@ unsafe extern "C" {
         strip: *const u32,
         strip_len: usize,
         answer: &mut bool,
+    ) -> u32;
+    pub(super) safe fn dcel_triangulation_new(triangulation: &mut RawTriangulation) -> u32;
+    pub(super) safe fn dcel_triangulation_free(triangulation: &mut RawTriangulation);
+    pub(super) safe fn dcel_triangulation_clone(
+        from: &mut RawTriangulation,
+        to: &mut RawTriangulation,
+    ) -> u32;
+    pub(super) safe fn dcel_triangulation_num_vertices(triangulation: &mut RawTriangulation) -> u64;
+    pub(super) safe fn dcel_triangulation_num_edges(triangulation: &mut RawTriangulation) -> u64;
+    pub(super) safe fn dcel_triangulation_num_triangles(
+        triangulation: &mut RawTriangulation,
+    ) -> u64;
+    pub(super) safe fn dcel_triangulation_is_whole(triangulation: &mut RawTriangulation) -> bool;
+    pub(super) safe fn dcel_triangulation_finish(triangulation: &mut RawTriangulation) -> u32;
+    pub(super) safe fn dcel_triangulation_insert(
+        triangulation: &mut RawTriangulation,
+        point: Point,
+        vertex: &mut u32,
+    ) -> u32;
+    pub(super) safe fn dcel_triangulation_insert_with_hint(
+        triangulation: &mut RawTriangulation,
+        point: Point,
+        hint: u32,
+        vertex: &mut u32,
+    ) -> u32;
+    pub(super) fn dcel_triangulation_insert_all(
+        triangulation: &mut RawTriangulation,
+        points: *const Point,
+        points_len: usize,
+        vertices: *mut u32,
+        vertices_len: usize,
+        row: &mut u64,
+    ) -> u32;
+    pub(super) safe fn dcel_triangulation_remove(
+        triangulation: &mut RawTriangulation,
+        vertex: u32,
+        moved: &mut u64,
+    ) -> u32;
+    pub(super) fn dcel_triangulation_directed_edges(
+        triangulation: &mut RawTriangulation,
+        half_edges: *mut HalfEdgeEntry,
+        half_edges_len: usize,
+        needed: &mut u64,
+    ) -> u32;
+    pub(super) safe fn dcel_triangulation_locate(
+        triangulation: &mut RawTriangulation,
+        point: Point,
+        position: &mut Position,
+    ) -> u32;
+    pub(super) safe fn dcel_triangulation_locate_with_hint(
+        triangulation: &mut RawTriangulation,
+        point: Point,
+        hint: u32,
+        position: &mut Position,
+    ) -> u32;
+    pub(super) safe fn dcel_triangulation_nearest(
+        triangulation: &mut RawTriangulation,
+        point: Point,
+        vertex: &mut u32,
     ) -> u32;
 }

@@ -1,6 +1,6 @@
 //! A random walk over the calls that keep a mesh simple.
 
-use crate::convenience::wheels;
+use crate::convenience::wheels::on_wheel;
 use dcel_bench::checks::{holds, same};
 use dcel_bench::meshes::{Mesh, half_edge, inner_face, undirected_edge, vertex};
 use dcel_bench::require;
@@ -82,8 +82,8 @@ fn step(dcel: &mut Mesh, random: u64, alloc: Global) -> Result<bool, Fail> {
     remove(dcel, random, alloc)
 }
 
-/// Takes all steps. Returns how many of them changed the mesh.
-fn walk(dcel: &mut Mesh, alloc: Global) -> Result<u32, Fail> {
+/// Takes all steps, enough of which have to change the mesh.
+fn walk(dcel: &mut Mesh, alloc: Global) -> Result<(), Fail> {
     let mut random = 1;
     let mut changes: u32 = 0;
     for _ in 0..STEPS {
@@ -93,12 +93,10 @@ fn walk(dcel: &mut Mesh, alloc: Global) -> Result<u32, Fail> {
         }
         holds(is_simple(dcel), "the mesh stays simple")?;
     }
-    Ok(changes)
+    holds(changes > STEPS / 4, "enough steps change the mesh")
 }
 
 #[test]
 fn each_step_leaves_a_simple_mesh(rt: HostRuntime) -> Result<(), Fail> {
-    let mut dcel = wheels::wheel(rt.alloc(), 12)?;
-    let changes = walk(&mut dcel, rt.alloc())?;
-    holds(changes > STEPS / 4, "enough steps change the mesh")
+    on_wheel(12, rt.alloc(), walk)
 }

@@ -3,7 +3,9 @@ use Rattle.std.proofs.lemmas.List.{length-map}
 use Rattle.dcel_links.specs.Claims.{claim}
 use Rattle.dcel_exchange.specs.Meshes.{AreLinks}
 use Rattle.dcel_exchange.specs.Reasons.{Means}
+use Rattle.dcel_exchange.specs.Closed.{IsInRange}
 use Rattle.dcel_exchange.proofs.Borders.{made_links, passed_on, told}
+use Rattle.dcel_exchange.proofs.ClosedFaces.{in_range}
 use Rattle.dcel_exchange.proofs.FirstSides.{count_few}
 use Rattle.dcel_exchange.proofs.Ranges.{afters_below, as_many_afters, as_many_ends, as_many_owners, ends_below, origins_below, owners_small}
 use Rattle.dcel_exchange.proofs.faces.link_faces.Goals as goal
@@ -12,6 +14,15 @@ pub returns-in_err-sides-clause-reason : goal.returns-in_err-sides-clause-reason
 returns-in_err-sides-clause-reason g c =
     passed_on (Means c.args.vertices (map g.S.AsSlice.items c.args.faces.now)) c.from_residual.result c.in_err-sides.field-0.0 c.from_residual.ensures
     (c.in_err-sides.ensures.reason c.args.vertices)
+
+pub returns-in_err-sides-clause-in_range : goal.returns-in_err-sides-clause-in_range
+returns-in_err-sides-clause-in_range g c =
+    passed_on IsInRange c.from_residual.result c.in_err-sides.field-0.0 c.from_residual.ensures c.in_err-sides.ensures.in_range
+
+pub returns-in_err-check_ends-clause-in_range : goal.returns-in_err-check_ends-clause-in_range
+returns-in_err-check_ends-clause-in_range g c =
+    passed_on IsInRange c.from_residual-in_err-check_ends.result c.in_err-check_ends.field-0.0 c.from_residual-in_err-check_ends.ensures
+    (in_range c.args.vertices (map g.S.AsSlice.items c.args.faces.now) c.in_ok-sides.sides.from.items c.in_ok-sides.sides.to.items c.in_ok-sides.sides.face.items c.in_ok-sides.sides.after.items c.in_ok-sides.ensures.sides c.in_err-check_ends.field-0.0 c.in_err-check_ends.ensures.reason)
 
 pub check_ends-requires-clause-ends : goal.check_ends-requires-clause-ends
 check_ends-requires-clause-ends g c = as_many_ends (map g.S.AsSlice.items c.args.faces.now) c.in_ok-sides.sides.from.items c.in_ok-sides.sides.to.items c.in_ok-sides.sides.face.items c.in_ok-sides.sides.after.items c.in_ok-sides.ensures.sides
@@ -34,6 +45,12 @@ returns-in_err-numbering-clause-reason g c =
     passed_on (Means c.args.vertices (map g.S.AsSlice.items c.args.faces.now)) c.from_residual-in_err-numbering.result c.in_err-numbering.field-0.0
     c.from_residual-in_err-numbering.ensures
     (told c.args.vertices (map g.S.AsSlice.items c.args.faces.now) c.in_ok-sides.sides.from.items c.in_ok-sides.sides.to.items c.in_ok-sides.sides.face.items c.in_ok-sides.sides.after.items c.in_ok-sides.ensures.sides c.in_err-numbering.field-0.0 (c.in_err-numbering.ensures.reason c.args.vertices))
+
+pub returns-in_err-numbering-clause-in_range : goal.returns-in_err-numbering-clause-in_range
+returns-in_err-numbering-clause-in_range g c =
+    passed_on IsInRange c.from_residual-in_err-numbering.result c.in_err-numbering.field-0.0
+    c.from_residual-in_err-numbering.ensures
+    (in_range c.args.vertices (map g.S.AsSlice.items c.args.faces.now) c.in_ok-sides.sides.from.items c.in_ok-sides.sides.to.items c.in_ok-sides.sides.face.items c.in_ok-sides.sides.after.items c.in_ok-sides.ensures.sides c.in_err-numbering.field-0.0 (c.in_err-numbering.ensures.reason c.args.vertices))
 
 pub find_border-requires-clause-few : goal.find_border-requires-clause-few
 find_border-requires-clause-few g c =

@@ -1,0 +1,271 @@
+/* Triangulates 200 sets of points, and compares what is told of each triangulation with what the definitions say, exactly. */
+#include "dcel.h"
+
+#include <inttypes.h>
+#include <stdio.h>
+#include <stdlib.h>
+#include <string.h>
+
+enum { SETS = 200, MOST = 40, SIDE = 24, PLACES = (SIDE + 2) * (SIDE + 2) };
+
+/* What is told of a triangulation. No list is longer. */
+typedef struct {
+    dcel_point points[MOST];
+    dcel_triangle triangles[2 * MOST];
+    dcel_across across[2 * MOST];
+    dcel_ends edges[3 * MOST];
+    dcel_half_edge halves[6 * MOST];
+    uint32_t hull[2 * MOST];
+    size_t vertices, faces, sides, around;
+} told;
+
+static int set = -1;
+static uint32_t state = 1;
+
+static void must(bool holds, const char *what) {
+    if (holds)
+        return;
+    fprintf(stderr, "set %d: %s\n", set, what);
+    exit(EXIT_FAILURE);
+}
+
+static void done(dcel_status status, const char *what) {
+    if (status != DCEL_DONE)
+        must(false, what);
+}
+
+/* A number below the limit, by a linear congruence. */
+static uint32_t some(uint32_t limit) {
+    state = state * 1664525u + 1013904223u;
+    return (state >> 8) % limit;
+}
+
+/* Twice the area of a triangle, 0 or less if it doesn't go counterclockwise. */
+static int64_t area(dcel_point a, dcel_point b, dcel_point c) {
+    return (b.x - a.x) * (c.y - a.y) - (b.y - a.y) * (c.x - a.x);
+}
+
+/* Above 0 if the point lies inside the circle of the triangle. */
+static int64_t in_circle(dcel_point a, dcel_point b, dcel_point c, dcel_point p) {
+    int64_t x[3] = {a.x - p.x, b.x - p.x, c.x - p.x}, y[3] = {a.y - p.y, b.y - p.y, c.y - p.y}, sum = 0;
+    for (int i = 0; i < 3; i++) {
+        int j = (i + 1) % 3, k = (i + 2) % 3;
+        sum += (x[i] * x[i] + y[i] * y[i]) * (x[j] * y[k] - x[k] * y[j]);
+    }
+    return sum;
+}
+
+static int64_t distance(dcel_point a, dcel_point b) { return (a.x - b.x) * (a.x - b.x) + (a.y - b.y) * (a.y - b.y); }
+static bool are_equal(dcel_point a, dcel_point b) { return a.x == b.x && a.y == b.y; }
+
+/* Whether the point lies on the line through two others, strictly between them. */
+static bool is_between(dcel_point a, dcel_point b, dcel_point p) {
+    return area(a, b, p) == 0 && distance(a, p) < distance(a, b) && distance(b, p) < distance(a, b) && !are_equal(a, p) && !are_equal(b, p);
+}
+
+static uint32_t corner(dcel_triangle t, int k) { return k == 0 ? t.first : k == 1 ? t.second : t.third; }
+static uint32_t beyond(dcel_across a, int k) { return k == 0 ? a.first : k == 1 ? a.second : a.third; }
+static bool has(dcel_triangle t, uint32_t v) { return t.first == v || t.second == v || t.third == v; }
+
+/* Where a half edge starts. */
+static dcel_point from(const told *it, uint32_t half) {
+    dcel_ends ends = it->edges[half / 2];
+    return it->points[half % 2 == 0 ? ends.from : ends.to];
+}
+
+static void tell(const dcel_triangulation *made, told *it) {
+    uint64_t needed;
+    done(dcel_triangulation_points(made, it->points, MOST, &needed), "points");
+    it->vertices = (size_t)needed;
+    done(dcel_triangulation_triangles(made, it->triangles, 2 * MOST, &needed), "triangles");
+    it->faces = (size_t)needed;
+    done(dcel_triangulation_neighbors(made, it->across, 2 * MOST, &needed), "neighbors");
+    must(needed == it->faces, "as many neighbors as triangles");
+    done(dcel_triangulation_edges(made, it->edges, 3 * MOST, &needed), "edges");
+    it->sides = (size_t)needed;
+    done(dcel_triangulation_directed_edges(made, it->halves, 6 * MOST, &needed), "half edges");
+    must(needed == 2 * it->sides, "two half edges for each edge");
+    done(dcel_triangulation_hull(made, it->hull, 2 * MOST, &needed), "hull");
+    it->around = (size_t)needed;
+    must(dcel_triangulation_num_vertices(made) == it->vertices && dcel_triangulation_num_triangles(made) == it->faces &&
+             dcel_triangulation_num_edges(made) == it->sides,
+         "counts");
+}
+
+/* The triangles go round counterclockwise, have no point inside their circles, and fill the hull, in which they can't overlap then. */
+static void check_triangles(const told *it) {
+    int64_t inside = 0, whole = 0;
+    for (size_t t = 0; t < it->faces; t++) {
+        dcel_point a = it->points[it->triangles[t].first], b = it->points[it->triangles[t].second], c = it->points[it->triangles[t].third];
+        must(area(a, b, c) > 0, "a triangle is counterclockwise");
+        inside += area(a, b, c);
+        for (size_t v = 0; v < it->vertices; v++)
+            must(in_circle(a, b, c, it->points[v]) <= 0, "a circle is empty");
+    }
+    for (size_t i = 0; i < it->around; i++) {
+        dcel_point a = it->points[it->hull[i]], b = it->points[it->hull[(i + 1) % it->around]];
+        whole += area(it->points[it->hull[0]], a, b);
+        for (size_t v = 0; v < it->vertices; v++)
+            must(area(a, b, it->points[v]) >= 0 && !is_between(a, b, it->points[v]), "no point lies beyond the hull, nor between two of it");
+    }
+    must(inside == whole, "the triangles fill the hull");
+}
+
+/* Across from each corner lies the triangle that has the other two too, and none does on the hull alone. */
+static void check_neighbors(const told *it) {
+    size_t none = 0;
+    for (size_t t = 0; t < it->faces; t++)
+        for (int k = 0; k < 3; k++) {
+            uint32_t other = beyond(it->across[t], k), v = corner(it->triangles[t], k);
+            uint32_t next = corner(it->triangles[t], (k + 1) % 3), last = corner(it->triangles[t], (k + 2) % 3);
+            if (other == UINT32_MAX) {
+                none++;
+                continue;
+            }
+            must(other < it->faces && other != t, "a neighbor is another triangle");
+            must(has(it->triangles[other], next) && has(it->triangles[other], last) && !has(it->triangles[other], v), "a neighbor has the side");
+        }
+    must(it->faces == 0 || none == it->around, "sides without a neighbor are the hull");
+}
+
+/* Half edges lead from end to end of their edges, round their faces; face f + 1 is triangle f. */
+static void check_links(const told *it) {
+    for (uint32_t h = 0; h < 2 * it->sides; h++) {
+        dcel_half_edge half = it->halves[h];
+        must(it->halves[half.next].prev == h && it->halves[half.prev].next == h, "next and prev");
+        must(it->halves[half.next].face == half.face && it->halves[half.next].origin == it->halves[h ^ 1].origin, "half edges meet");
+        must(are_equal(it->points[half.origin], from(it, h)), "an edge has its ends");
+        must(half.face <= it->faces && (half.face == 0 || has(it->triangles[half.face - 1], half.origin)), "a triangle has its corners");
+    }
+}
+
+/* A mesh is made of the links, with the same numbers. */
+static void check_mesh(const told *it) {
+    static const uint64_t data[2 * MOST + 1] = {0};
+    static dcel_half_edge halves[6 * MOST];
+    dcel_mesh mesh = DCEL_MESH_INIT;
+    dcel_fault fault;
+    uint64_t needed;
+    done(dcel_from_links(&mesh, it->halves, 2 * it->sides, data, it->vertices, data, it->faces + 1, &fault), "a mesh of the links");
+    done(dcel_directed_edges(&mesh, halves, 6 * MOST, &needed), "links of the mesh");
+    must(needed == 2 * it->sides && memcmp(halves, it->halves, (size_t)needed * sizeof halves[0]) == 0, "the mesh has the links");
+    dcel_free(&mesh);
+}
+
+/* A place is what it says of the point. */
+static void check_place(const told *it, dcel_point p, dcel_position at) {
+    if (at.kind == DCEL_ON_VERTEX) {
+        must(at.number < it->vertices && are_equal(it->points[at.number], p), "the vertex is there");
+    } else if (at.kind == DCEL_ON_EDGE) {
+        must(at.number < 2 * it->sides && is_between(from(it, at.number), from(it, at.number ^ 1), p), "the edge passes there");
+    } else if (at.kind == DCEL_ON_FACE) {
+        must(at.number < it->faces, "there is such a triangle");
+        dcel_triangle t = it->triangles[at.number];
+        dcel_point a = it->points[t.first], b = it->points[t.second], c = it->points[t.third];
+        must(area(a, b, p) > 0 && area(b, c, p) > 0 && area(c, a, p) > 0, "the point lies inside the triangle");
+    } else if (at.kind == DCEL_OUTSIDE) {
+        must(at.number < 2 * it->sides && it->halves[at.number].face == 0, "the half edge lies on the outer face");
+        must(area(from(it, at.number), from(it, at.number ^ 1), p) > 0, "the point lies on its left");
+    } else if (at.kind == DCEL_BEYOND_LINE) {
+        must(it->faces == 0 && it->sides > 0 && at.number < it->vertices, "the line ends there");
+        for (size_t v = 0; v < it->vertices; v++)
+            must(v == at.number || is_between(it->points[v], p, it->points[at.number]), "the end lies before the point");
+    } else {
+        must(at.kind == DCEL_NOWHERE && at.number == UINT32_MAX && it->sides == 0, "there is no edge");
+        must(it->vertices == 0 || !are_equal(it->points[0], p), "no vertex is there");
+    }
+}
+
+static void check_nearest(const told *it, dcel_point p, uint32_t vertex) {
+    must(it->vertices == 0 ? vertex == UINT32_MAX : vertex < it->vertices, "a nearest vertex");
+    for (size_t v = 0; v < it->vertices; v++)
+        must(distance(it->points[vertex], p) <= distance(it->points[v], p), "no vertex is nearer");
+}
+
+/* All places of the square, and a row around it, are asked for together and one by one. */
+static void check_places(const dcel_triangulation *made, const told *it) {
+    static dcel_point asked[PLACES];
+    static dcel_position positions[PLACES];
+    static uint32_t vertices[PLACES];
+    dcel_position one, other;
+    uint64_t row = 77;
+    uint32_t vertex;
+    for (int i = 0; i < PLACES; i++) {
+        asked[i].x = i % (SIDE + 2) - 1;
+        asked[i].y = i / (SIDE + 2) - 1;
+    }
+    done(dcel_triangulation_locate_all(made, asked, PLACES, positions, PLACES, &row), "locate all");
+    done(dcel_triangulation_nearest_all(made, asked, PLACES, vertices, PLACES, &row), "nearest all");
+    for (int i = 0; i < PLACES; i++) {
+        done(dcel_triangulation_locate(made, asked[i], &one), "locate");
+        done(dcel_triangulation_locate_with_hint(made, asked[i], some(2 * MOST), &other), "locate with a hint");
+        done(dcel_triangulation_nearest(made, asked[i], &vertex), "nearest");
+        check_place(it, asked[i], positions[i]);
+        check_place(it, asked[i], one);
+        check_place(it, asked[i], other);
+        must(one.kind == positions[i].kind && other.kind == one.kind, "a point is at one place alone");
+        check_nearest(it, asked[i], vertices[i]);
+        check_nearest(it, asked[i], vertex);
+    }
+    must(row == 77, "no row is told");
+}
+
+static bool tell_the_same(const told *one, const told *other) {
+    return one->vertices == other->vertices && one->faces == other->faces && one->sides == other->sides && one->around == other->around &&
+           memcmp(one->points, other->points, one->vertices * sizeof one->points[0]) == 0 &&
+           memcmp(one->triangles, other->triangles, one->faces * sizeof one->triangles[0]) == 0 &&
+           memcmp(one->halves, other->halves, 2 * one->sides * sizeof one->halves[0]) == 0;
+}
+
+/* A clone tells the same, and stays as it was where the other one changes. */
+static void check_clone(dcel_triangulation *made, const told *it) {
+    static told after;
+    dcel_triangulation clone = DCEL_TRIANGULATION_INIT;
+    const dcel_point beyond_all = {SIDE + 5, SIDE + 7};
+    uint32_t vertex;
+    done(dcel_triangulation_clone(made, &clone), "clone");
+    done(dcel_triangulation_insert_with_hint(made, beyond_all, some(MOST), &vertex), "insert with a hint");
+    must(vertex == it->vertices && dcel_triangulation_num_vertices(made) == it->vertices + 1, "a new vertex");
+    tell(&clone, &after);
+    must(tell_the_same(it, &after), "a clone tells the same");
+    dcel_triangulation_free(made);
+    tell(&clone, &after);
+    must(tell_the_same(it, &after), "a clone stays");
+    dcel_triangulation_free(&clone);
+}
+
+int main(void) {
+    static told it;
+    for (set = 0; set < SETS; set++) {
+        dcel_triangulation made = DCEL_TRIANGULATION_INIT;
+        dcel_point given[MOST - 1];
+        uint32_t vertices[MOST], count = some(MOST), side = 1 + some(SIDE), is_line = set % 10 == 0;
+        uint64_t row;
+        for (uint32_t i = 0; i < count; i++) {
+            given[i].x = some(side);
+            given[i].y = is_line ? given[i].x / 2 * 2 : some(side);
+            given[i].x = is_line ? given[i].y / 2 : given[i].x;
+        }
+        done(dcel_triangulation_new(&made), "new");
+        done(dcel_triangulation_insert_all(&made, given, count, vertices, MOST, &row), "insert all");
+        tell(&made, &it);
+        for (uint32_t i = 0; i < count; i++)
+            must(vertices[i] < it.vertices && are_equal(it.points[vertices[i]], given[i]), "each point stands at its vertex");
+        for (size_t v = 0; v < it.vertices; v++) {
+            bool is_given = false;
+            for (uint32_t i = 0; i < count; i++)
+                is_given |= vertices[i] == v;
+            must(is_given, "each vertex is one of the points");
+            for (size_t w = 0; w < v; w++)
+                must(!are_equal(it.points[v], it.points[w]), "points are single");
+        }
+        check_triangles(&it);
+        check_neighbors(&it);
+        check_links(&it);
+        check_mesh(&it);
+        check_places(&made, &it);
+        check_clone(&made, &it);
+    }
+    printf("%d sets\n", set);
+    return EXIT_SUCCESS;
+}

@@ -1,0 +1,194 @@
+"""Points as they are given, and the grid that they are put on."""
+
+from __future__ import annotations
+
+from array import array
+from collections.abc import Iterable
+from math import frexp, hypot, isfinite, ldexp
+from numbers import Real
+from typing import Any, NamedTuple, NoReturn
+
+from ._arrays import numpy, shaped
+from ._errors import OutOfRange
+
+MOST = 2**53  #: how many steps from 0 a coordinate may be
+LEAST_POWER = -1074  #: of the least float above 0
+
+
+class Grid(NamedTuple):
+    """The multiples of a step, on which coordinates become whole numbers: as many steps. A coordinate is at most 2**53 steps from 0.
+
+    The step is a power of two, in the unit of the coordinates, so that a multiple of it is exactly a float.
+
+    >>> Grid.fit([(0.1, 0.2), (1, 0.5)])
+    Grid(step=1.1102230246251565e-16)
+    >>> Grid(0.25).snap([(0.5, 1), (1.1, -3)]).tolist()
+    [[2, 4], [4, -12]]
+    """
+
+    step: float
+
+    @classmethod
+    def fit(cls, points: Iterable[Any]) -> Grid:
+        """The finest grid on which these points, (n, 2), are in range: of which all coordinates are at most 2**53 steps from 0.
+
+        The nearest multiple of its step is then at most 2**-53 of the greatest coordinate away. Raises ValueError as `Delaunay` does."""
+        return cls(ldexp(1.0, power_of(floats(points, "points"))))
+
+    def snap(self, points: Iterable[Any]) -> Any:
+        """How many steps the coordinates of points are, rounded to the nearest whole number, of two to the even one: (n, 2), of 64 bits.
+
+        Raises OutOfRange, whose `row` is that of the first point with a coordinate beyond 2**53 steps, and else what `Delaunay` does."""
+        return shaped(snapped(floats(points, "points"), power_of_step(self.step), "points"), 2, "q")
+
+    def back(self, steps: Iterable[Any]) -> Any:
+        """The coordinates that are so many steps: (n, 2), of floats. Raises ValueError as `Delaunay` does."""
+        flat = floats(steps, "steps")
+        if (found := numpy()) is not None:
+            return flat.reshape(-1, 2) * found.float64(self.step)
+        return shaped(array("d", (it * self.step for it in flat)), 2, "d")
+
+
+def power_of_step(step: float) -> int:
+    """The power of two that a step is. Raises ValueError if it is none."""
+    half, power = frexp(step) if isinstance(step, Real) and isfinite(step) else (0.0, 0)
+    if half != 0.5:
+        raise ValueError(f"grid: the step is a power of two, and not {step!r}")
+    return power - 1
+
+
+def power_of(flat: Any) -> int:
+    """The power of the finest step of which these coordinates are at most 2**53."""
+    found = numpy()
+    most = 0.0 if not len(flat) else float(found.abs(flat).max()) if found is not None else max(map(abs, flat))
+    half, power = frexp(most)
+    return max(power - (54 if half == 0.5 else 53), LEAST_POWER) if most else LEAST_POWER
+
+
+def snapped(flat: Any, power: int, name: str) -> Any:
+    """How many steps of 2**power the coordinates are, rounded. Raises OutOfRange."""
+    if (found := numpy()) is not None:
+        with found.errstate(over="ignore", under="ignore"):
+            steps = found.rint(found.ldexp(flat, -power))
+        far = found.abs(steps) > MOST
+        if far.any():
+            refuse_far(name, int(far.argmax()) // 2)
+        return steps.astype(found.int64)
+    steps = array("q")
+    for place, it in enumerate(flat):
+        whole = round_steps(it, power)
+        if abs(whole) > MOST:
+            refuse_far(name, place // 2)
+        steps.append(whole)
+    return steps
+
+
+def clipped(flat: Any, power: int) -> tuple[Any, list[int]]:
+    """How many steps of 2**power the coordinates are, and which points have one beyond 2**53: it is 2**53 there."""
+    if (found := numpy()) is not None:
+        with found.errstate(over="ignore", under="ignore"):
+            steps = found.rint(found.ldexp(flat, -power))
+        far = (found.abs(steps) > MOST).reshape(-1, 2).any(axis=1)
+        return found.clip(steps, -MOST, MOST).astype(found.int64), found.flatnonzero(far)
+    steps = [round_steps(it, power) for it in flat]
+    return array("q", (min(max(it, -MOST), MOST) for it in steps)), [place // 2 for place, it in enumerate(steps) if abs(it) > MOST]
+
+
+def round_steps(it: float, power: int) -> int:
+    """How many steps of 2**power a finite number is, rounded, or more than 2**53 if it is that many."""
+    half, exponent = frexp(it)
+    if it and exponent - power > 55:
+        return 2 * MOST if it > 0 else -2 * MOST
+    return round(ldexp(half, exponent - power))
+
+
+def far_moved(flat: Any, steps: Any, power: int) -> float:
+    """How far the points are at most from where so many steps of 2**power are."""
+    if (found := numpy()) is not None:
+        apart = (flat - found.ldexp(steps.astype(found.float64), power)).reshape(-1, 2)
+        return float(found.hypot(apart[:, 0], apart[:, 1]).max(initial=0.0))
+    apart = [it - ldexp(float(many), power) for it, many in zip(flat, steps, strict=True)]
+    return max(map(hypot, apart[::2], apart[1::2]), default=0.0)
+
+
+def refuse_far(name: str, row: int) -> NoReturn:
+    error = OutOfRange(f"{name}: {OutOfRange.__doc__} It is in row {row}.")
+    error.row = row
+    raise error
+
+
+def floats(points: Any, name: str, is_any_shape: bool = False) -> Any:
+    """The coordinates of points in a row, as they lie if they are floats of NumPy's in that order.
+
+    The points are an array of shape (n, 2), or with `is_any_shape` (.., 2), of real numbers, or an iterable of pairs. Raises ValueError or
+    TypeError, which names the row: for another shape, for what is no number, for nan and infinities, and OutOfRange for whole numbers
+    that aren't floats."""
+    if not hasattr(points, "__len__"):
+        points = list(points)
+    if (found := numpy()) is None:
+        return each(points, name)
+    try:
+        given = found.asarray(points)
+    except ValueError:  # rows of other lengths
+        return found.asarray(each(points, name))
+    if given.dtype.kind not in "biuf":
+        if given.dtype.kind != "O":
+            raise TypeError(f"{name}: coordinates are real numbers, and not {given.dtype}")
+        return found.asarray(each(points if given.ndim != 2 else given.tolist(), name))
+    if given.ndim == 1 and not given.size:
+        return found.empty(0)
+    if given.ndim < 1 or given.shape[-1] != 2 or (given.ndim != 2 and not is_any_shape):
+        raise ValueError(f"{name}: an array of shape {'(.., 2)' if is_any_shape else '(n, 2)'}, and not {given.shape}")
+    return checked(given, name)
+
+
+def checked(given: Any, name: str) -> Any:
+    """The coordinates in a row, where NumPy has them as real numbers."""
+    found = numpy()
+    assert found is not None
+    if given.dtype.kind in "iu" and given.dtype.itemsize == 8:
+        far = given > MOST if given.dtype.kind == "u" else (given > MOST) | (given < -MOST)
+        if far.any():
+            refuse_far(name, int(far.reshape(-1).argmax()) // 2)
+    flat = found.ascontiguousarray(given, found.float64).reshape(-1)
+    if not (fine := found.isfinite(flat)).all():
+        place = int(fine.argmin())
+        raise ValueError(f"{name}: row {place // 2} has {flat[place]}")
+    return flat
+
+
+def each(points: Iterable[Any], name: str) -> array[float]:
+    """The coordinates in a row, one point after the other."""
+    view = None
+    try:
+        view = memoryview(points)  # type: ignore[arg-type]
+    except TypeError:
+        pass
+    if view is not None:
+        if view.ndim != 2 or view.shape[1] != 2:  # type: ignore[index]
+            raise ValueError(f"{name}: an array of shape (n, 2), and not {view.shape}")
+        points = view.tolist()
+    flat = array("d")
+    for row, pair in enumerate(points):
+        try:
+            x, y = pair
+        except (TypeError, ValueError):
+            raise ValueError(f"{name}: row {row} is no pair of numbers: {pair!r}") from None
+        flat.append(coordinate(x, name, row))
+        flat.append(coordinate(y, name, row))
+    return flat
+
+
+def coordinate(it: Any, name: str, row: int) -> float:
+    """A number as a float. Raises an error that names the row."""
+    if isinstance(it, int) and abs(it) > MOST:
+        refuse_far(name, row)
+    if isinstance(it, (str, bytes, complex)) or it is None:
+        raise TypeError(f"{name}: row {row} has {it!r}, which is no real number")
+    try:
+        found = float(it)
+    except (TypeError, ValueError, OverflowError):
+        raise TypeError(f"{name}: row {row} has {it!r}, which is no real number") from None
+    if not isfinite(found):
+        raise ValueError(f"{name}: row {row} has {found}")
+    return found

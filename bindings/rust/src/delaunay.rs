@@ -1,0 +1,367 @@
+//! Delaunay triangulations of points, with the names of `spade`.
+//!
+//! Coordinates are whole numbers from -2^53 to 2^53, and a triangulation is exactly Delaunay of
+//! them; a [`Grid`] makes whole numbers of floats. Where spade panics there is an error, and a call
+//! that is refused changes nothing. Of equal points there is one vertex, with the value of the last
+//! one.
+//!
+//! ```
+//! use dcel::delaunay::{DelaunayTriangulation, Point2, PositionInTriangulation};
+//!
+//! let points = [(0, 0), (4, 0), (0, 3), (5, 5), (2, 2)].map(|(x, y)| Point2::new(x, y));
+//! let mut triangulation = DelaunayTriangulation::bulk_load(points.to_vec())?;
+//! assert_eq!((triangulation.num_vertices(), triangulation.num_inner_faces()), (5, 4));
+//!
+//! let near = triangulation.nearest_neighbor(Point2::new(5, 0)).unwrap();
+//! assert_eq!(near.position(), Point2::new(4, 0));
+//! let vertex = near.fix();
+//! triangulation.remove(vertex)?;
+//! let position = triangulation.locate(Point2::new(4, 0));
+//! assert!(matches!(position, PositionInTriangulation::OutsideOfConvexHull(_)));
+//! # Ok::<(), Box<dyn std::error::Error>>(())
+//! ```
+//!
+//! A [`DelaunayTriangulation`] dereferences to its mesh, a [`Dcel`], so it has that one's lists,
+//! elements and steps. The mesh is made anew when it is first read after a change, in linear time:
+//! insert much, then walk. Insertions, removals, counts, [`locate`](DelaunayTriangulation::locate),
+//! [`vertex_data`](DelaunayTriangulation::vertex_data) and
+//! [`nearest_vertex`](DelaunayTriangulation::nearest_vertex) don't read it.
+
+mod errors;
+mod grid;
+mod point;
+mod queries;
+
+pub use errors::InsertionError;
+pub use grid::Grid;
+pub use point::{HasPosition, Point2};
+pub use queries::PositionInTriangulation;
+
+use crate::Dcel;
+use crate::ffi::{Mesh, Triangulation};
+use crate::handles::FixedVertexHandle;
+use crate::operations::RemovalResult;
+use crate::refusal::Refusal;
+use crate::slab::no_memory;
+use std::cell::Cell;
+use std::fmt;
+use std::ops::Deref;
+
+/// The Delaunay triangulation of points, each with a value.
+///
+/// It is `Send`, and not `Sync`, as its mesh.
+pub struct DelaunayTriangulation<V> {
+    kept: Triangulation,
+    /// The keys of the values, by vertex.
+    keys: Vec<u64>,
+    /// The values, and the mesh as it was when it was last read.
+    dcel: Dcel<V>,
+    is_stale: Cell<bool>,
+}
+
+impl<V: HasPosition> DelaunayTriangulation<V> {
+    /// Makes a triangulation of no points. [`Default`] makes one too, and panics without memory.
+    ///
+    /// # Errors
+    ///
+    /// [`Refusal::OutOfMemory`].
+    ///
+    /// ```
+    /// use dcel::delaunay::{DelaunayTriangulation, Point2};
+    ///
+    /// let triangulation = DelaunayTriangulation::<Point2>::new()?;
+    /// assert_eq!(triangulation.num_vertices(), 0);
+    /// # Ok::<(), dcel::Refusal>(())
+    /// ```
+    pub fn new() -> Result<Self, Refusal> {
+        Ok(Self {
+            kept: Triangulation::new()?,
+            keys: Vec::new(),
+            dcel: Dcel::new()?,
+            is_stale: Cell::new(false),
+        })
+    }
+
+    /// Makes the triangulation of points, faster than by insertions. It numbers the vertices in an
+    /// order of its own.
+    ///
+    /// # Errors
+    ///
+    /// [`InsertionError`]. The values are dropped then.
+    ///
+    /// ```
+    /// use dcel::delaunay::{DelaunayTriangulation, InsertionError, Point2};
+    ///
+    /// let far = vec![Point2::new(0, 0), Point2::new(1 << 54, 0)];
+    /// let refused = DelaunayTriangulation::bulk_load(far).unwrap_err();
+    /// assert_eq!(refused, InsertionError::OutOfRange);
+    /// ```
+    pub fn bulk_load(elements: Vec<V>) -> Result<Self, InsertionError> {
+        let mut made = Self::new()?;
+        let (mut points, mut vertices) = (Vec::new(), Vec::new());
+        points
+            .try_reserve_exact(elements.len())
+            .map_err(no_memory)?;
+        for element in &elements {
+            points.push(element.position().in_range()?);
+        }
+        vertices
+            .try_reserve_exact(points.len())
+            .map_err(no_memory)?;
+        vertices.resize(points.len(), 0);
+        made.reserve(points.len())?;
+        made.kept.insert_all(&points, &mut vertices)?;
+        made.is_stale.set(true);
+        made.keys.resize(made.kept.num_vertices(), 0);
+        for (vertex, element) in vertices.into_iter().zip(elements) {
+            made.put(vertex, element);
+        }
+        Ok(made)
+    }
+
+    /// Inserts a point, and returns its vertex: a new one, which has the next number, or the one
+    /// that is there already, whose value is replaced.
+    ///
+    /// # Errors
+    ///
+    /// [`InsertionError`]. The value is dropped then.
+    ///
+    /// ```
+    /// use dcel::delaunay::{DelaunayTriangulation, Point2};
+    ///
+    /// let mut triangulation = DelaunayTriangulation::new()?;
+    /// let first = triangulation.insert((Point2::new(1, 2), "a"))?;
+    /// assert_eq!(triangulation.insert((Point2::new(1, 2), "b"))?, first);
+    /// assert_eq!(triangulation.vertex(first).data().1, "b");
+    /// # Ok::<(), Box<dyn std::error::Error>>(())
+    /// ```
+    pub fn insert(&mut self, vertex: V) -> Result<FixedVertexHandle, InsertionError> {
+        self.insert_from(vertex, None)
+    }
+
+    /// Does the same, by a walk that begins at a vertex: the nearer it is, the shorter is the walk.
+    /// If there is no such vertex, it begins where that of [`insert`](Self::insert) does.
+    ///
+    /// # Errors
+    ///
+    /// [`InsertionError`]. The value is dropped then.
+    ///
+    /// ```
+    /// use dcel::delaunay::{DelaunayTriangulation, Point2};
+    ///
+    /// let mut triangulation = DelaunayTriangulation::new()?;
+    /// let mut last = triangulation.insert(Point2::new(0, 0))?;
+    /// for x in 1..100 {
+    ///     last = triangulation.insert_with_hint(Point2::new(x, x * x), last)?;
+    /// }
+    /// assert_eq!(triangulation.num_inner_faces(), 98);
+    /// # Ok::<(), Box<dyn std::error::Error>>(())
+    /// ```
+    pub fn insert_with_hint(
+        &mut self,
+        vertex: V,
+        hint: FixedVertexHandle,
+    ) -> Result<FixedVertexHandle, InsertionError> {
+        self.insert_from(vertex, Some(hint.number()))
+    }
+
+    fn insert_from(
+        &mut self,
+        value: V,
+        hint: Option<u32>,
+    ) -> Result<FixedVertexHandle, InsertionError> {
+        let point = value.position().in_range()?;
+        self.reserve(1)?;
+        let vertex = self.kept.insert(point, hint)?;
+        self.is_stale.set(true);
+        if vertex as usize == self.keys.len() {
+            self.keys.push(0);
+        }
+        self.put(vertex, value);
+        Ok(FixedVertexHandle::of(vertex))
+    }
+
+    /// Removes a vertex, and returns its value. The last vertex gets its number.
+    ///
+    /// # Errors
+    ///
+    /// [`Refusal::NoSuchVertex`], [`Refusal::NoRoom`] and [`Refusal::OutOfMemory`].
+    ///
+    /// ```
+    /// use dcel::Refusal;
+    /// use dcel::delaunay::{DelaunayTriangulation, Point2};
+    ///
+    /// let mut triangulation = DelaunayTriangulation::new()?;
+    /// let first = triangulation.insert(Point2::new(1, 2)).unwrap();
+    /// let last = triangulation.insert(Point2::new(3, 4)).unwrap();
+    /// let removed = triangulation.remove(first)?;
+    /// assert_eq!(removed.removed_vertex, Point2::new(1, 2));
+    /// assert_eq!(removed.swapped_in_vertex, Some(last));
+    /// assert_eq!(triangulation.remove(last), Err(Refusal::NoSuchVertex));
+    /// # Ok::<(), Refusal>(())
+    /// ```
+    pub fn remove(&mut self, vertex: FixedVertexHandle) -> Result<RemovalResult<V>, Refusal> {
+        let moved = self.kept.remove(vertex.number())?;
+        self.is_stale.set(true);
+        let key = self.keys.swap_remove(vertex.index());
+        Ok(RemovalResult {
+            removed_vertex: self.dcel.vertices.remove(key),
+            swapped_in_vertex: moved.map(FixedVertexHandle::of),
+        })
+    }
+
+    /// Removes the vertex at a point, and returns its value, or `None` if none is there.
+    ///
+    /// # Errors
+    ///
+    /// [`Refusal::NoRoom`] and [`Refusal::OutOfMemory`].
+    ///
+    /// ```
+    /// use dcel::delaunay::{DelaunayTriangulation, Point2};
+    ///
+    /// let mut triangulation = DelaunayTriangulation::new()?;
+    /// triangulation.insert(Point2::new(1, 2))?;
+    /// assert_eq!(triangulation.locate_and_remove(Point2::new(1, 2))?, Some(Point2::new(1, 2)));
+    /// assert_eq!(triangulation.locate_and_remove(Point2::new(1, 2))?, None);
+    /// # Ok::<(), Box<dyn std::error::Error>>(())
+    /// ```
+    pub fn locate_and_remove(&mut self, point: Point2) -> Result<Option<V>, Refusal> {
+        match self.locate(point) {
+            PositionInTriangulation::OnVertex(vertex) => {
+                Ok(Some(self.remove(vertex)?.removed_vertex))
+            }
+            _ => Ok(None),
+        }
+    }
+
+    /// Makes room for more vertices' values and keys.
+    fn reserve(&mut self, more: usize) -> Result<(), Refusal> {
+        self.keys.try_reserve(more).map_err(no_memory)?;
+        self.dcel.vertices.try_reserve(more)
+    }
+
+    /// Sets the value of a vertex, for which there is room.
+    fn put(&mut self, vertex: u32, value: V) {
+        match &mut self.keys[vertex as usize] {
+            key @ 0 => *key = self.dcel.vertices.insert(value),
+            key => *self.dcel.vertices.get_mut(*key) = value,
+        }
+    }
+}
+
+impl<V> DelaunayTriangulation<V> {
+    /// Returns the triangulation, whole: edges may be left to flip where memory ran out. Panics if
+    /// there is no memory for that.
+    fn whole(&self) -> &Triangulation {
+        if !self.kept.is_whole() {
+            self.kept.finish().expect(MEMORY);
+            self.is_stale.set(true);
+        }
+        &self.kept
+    }
+
+    /// Returns the mesh, which is made anew if it has changed. Panics if there is no memory for
+    /// that.
+    ///
+    /// Vertices, half edges, edges and faces have the numbers that the triangulation's calls use.
+    ///
+    /// ```
+    /// use dcel::delaunay::{DelaunayTriangulation, Point2};
+    ///
+    /// let mut triangulation = DelaunayTriangulation::new()?;
+    /// for (x, y) in [(0, 0), (2, 0), (0, 2)] {
+    ///     triangulation.insert(Point2::new(x, y))?;
+    /// }
+    /// assert!(triangulation.dcel().sanity_check());
+    /// # Ok::<(), Box<dyn std::error::Error>>(())
+    /// ```
+    pub fn dcel(&self) -> &Dcel<V> {
+        let kept = self.whole();
+        if self.is_stale.get() {
+            let (half_edges, faces) = (kept.half_edges(), vec![0; kept.num_triangles() + 1]);
+            let mesh: &Mesh = &self.dcel.mesh;
+            mesh.renew(&half_edges, &self.keys, &faces).expect(MEMORY);
+            self.is_stale.set(false);
+        }
+        &self.dcel
+    }
+
+    /// Returns the mesh with the values of the vertices. Panics if there is no memory for it.
+    ///
+    /// ```
+    /// use dcel::delaunay::{DelaunayTriangulation, Point2};
+    ///
+    /// let mut triangulation = DelaunayTriangulation::new()?;
+    /// triangulation.insert((Point2::new(0, 0), 'a'))?;
+    /// assert_eq!(triangulation.into_dcel().vertices().next().unwrap().data().1, 'a');
+    /// # Ok::<(), Box<dyn std::error::Error>>(())
+    /// ```
+    pub fn into_dcel(self) -> Dcel<V> {
+        self.dcel();
+        self.dcel
+    }
+}
+
+impl<V: Clone> DelaunayTriangulation<V> {
+    /// Makes an equal triangulation with clones of all values. [`Clone`] makes one too, and panics
+    /// without memory.
+    ///
+    /// # Errors
+    ///
+    /// [`Refusal::OutOfMemory`].
+    ///
+    /// ```
+    /// use dcel::delaunay::{DelaunayTriangulation, Point2};
+    ///
+    /// let triangulation = DelaunayTriangulation::bulk_load(vec![Point2::new(1, 2)])?;
+    /// assert_eq!(triangulation.try_clone()?.num_vertices(), 1);
+    /// # Ok::<(), Box<dyn std::error::Error>>(())
+    /// ```
+    pub fn try_clone(&self) -> Result<Self, Refusal> {
+        let mut keys = Vec::new();
+        keys.try_reserve_exact(self.keys.len()).map_err(no_memory)?;
+        keys.extend_from_slice(&self.keys);
+        Ok(Self {
+            kept: self.kept.try_clone()?,
+            keys,
+            dcel: self.dcel.try_clone()?,
+            is_stale: Cell::new(true),
+        })
+    }
+}
+
+const MEMORY: &str = "there is memory for the triangulation's mesh";
+
+impl<V> Deref for DelaunayTriangulation<V> {
+    type Target = Dcel<V>;
+
+    /// Returns the mesh, as [`dcel`](DelaunayTriangulation::dcel).
+    fn deref(&self) -> &Dcel<V> {
+        self.dcel()
+    }
+}
+
+impl<V: HasPosition> Default for DelaunayTriangulation<V> {
+    /// Makes a triangulation of no points. Panics if there is no memory.
+    fn default() -> Self {
+        Self::new().expect("there is memory for a triangulation")
+    }
+}
+
+impl<V: Clone> Clone for DelaunayTriangulation<V> {
+    /// Makes an equal triangulation with clones of all values. Panics if there is no memory.
+    fn clone(&self) -> Self {
+        self.try_clone()
+            .expect("there is memory for a triangulation")
+    }
+}
+
+impl<V> fmt::Debug for DelaunayTriangulation<V> {
+    /// Writes the counts alone.
+    fn fmt(&self, f: &mut fmt::Formatter<'_>) -> fmt::Result {
+        f.debug_struct("DelaunayTriangulation")
+            .field("vertices", &self.kept.num_vertices())
+            .field("inner_faces", &self.kept.num_triangles())
+            .finish_non_exhaustive()
+    }
+}

@@ -1,0 +1,337 @@
+//! Triangulations against what Delaunay's condition says, over all points.
+
+use dcel::Refusal;
+use dcel::delaunay::{
+    DelaunayTriangulation, Grid, HasPosition, InsertionError, Point2,
+    PositionInTriangulation as Position,
+};
+use dcel::handles::FixedVertexHandle;
+use std::cell::Cell;
+use std::collections::HashMap;
+use std::rc::Rc;
+
+/// A small generator of numbers (xorshift).
+struct Numbers(u64);
+
+impl Numbers {
+    fn below(&mut self, limit: u64) -> u64 {
+        self.0 ^= self.0 << 13;
+        self.0 ^= self.0 >> 7;
+        self.0 ^= self.0 << 17;
+        self.0 % limit
+    }
+
+    fn point(&mut self, width: i64) -> Point2 {
+        let span = 2 * width as u64 + 1;
+        let [x, y] = [0; 2].map(|_| self.below(span) as i64 - width);
+        Point2::new(x, y)
+    }
+}
+
+fn area([a, b, c]: [Point2; 3]) -> i128 {
+    let [bx, by, cx, cy] = [b.x - a.x, b.y - a.y, c.x - a.x, c.y - a.y].map(i128::from);
+    bx * cy - by * cx
+}
+
+/// Above 0 if the point is inside the circle of a triangle that goes counterclockwise. Coordinates
+/// are below 2^20.
+fn in_circle(corners: [Point2; 3], point: Point2) -> i128 {
+    let [a, b, c] = corners.map(|it| [it.x - point.x, it.y - point.y].map(i128::from));
+    let square = |[x, y]: [i128; 2]| x * x + y * y;
+    let cross = |[ax, ay]: [i128; 2], [bx, by]: [i128; 2]| ax * by - ay * bx;
+    square(a) * cross(b, c) + square(b) * cross(c, a) + square(c) * cross(a, b)
+}
+
+/// The triangulation has these points alone, no point is inside a circle, and the triangles are as
+/// large together as the hull.
+fn check(
+    triangulation: &DelaunayTriangulation<Point2>,
+    points: &HashMap<Point2, FixedVertexHandle>,
+) {
+    assert_eq!(triangulation.num_vertices(), points.len());
+    for vertex in triangulation.vertices() {
+        assert_eq!(points[&vertex.position()], vertex.fix());
+        assert_eq!(triangulation.vertex_data(vertex.fix()), vertex.data());
+    }
+    assert!(triangulation.sanity_check());
+    let mut covered = 0;
+    for face in triangulation.inner_faces() {
+        let corners = face.positions();
+        assert!(area(corners) > 0);
+        assert!(points.keys().all(|point| in_circle(corners, *point) <= 0));
+        covered += area(corners);
+    }
+    let origin = Point2::new(0, 0);
+    let hull = triangulation
+        .convex_hull()
+        .map(|edge| edge.rev().positions());
+    let around: i128 = hull.map(|[from, to]| area([origin, from, to])).sum();
+    assert_eq!(covered, around);
+    let count = |count, wanted: usize| assert_eq!(count, wanted);
+    count(
+        triangulation.num_inner_faces(),
+        triangulation.inner_faces().count(),
+    );
+    count(
+        triangulation.num_undirected_edges(),
+        triangulation.undirected_edges().count(),
+    );
+    count(
+        triangulation.num_directed_edges(),
+        triangulation.directed_edges().count(),
+    );
+    count(triangulation.num_all_faces(), triangulation.num_faces());
+}
+
+/// What `locate` and `nearest_neighbor` say of a point is so.
+fn check_point(triangulation: &DelaunayTriangulation<Point2>, point: Point2) {
+    let positions = triangulation.vertices().map(|vertex| vertex.position());
+    let least = positions.map(|it| it.distance_2(point)).min();
+    let nearest = triangulation.nearest_neighbor(point);
+    assert_eq!(nearest.map(|it| it.position().distance_2(point)), least);
+    match triangulation.locate(point) {
+        Position::OnVertex(vertex) => {
+            assert_eq!(triangulation.vertex(vertex).position(), point);
+            assert_eq!(triangulation.locate_vertex(point).unwrap().fix(), vertex);
+        }
+        Position::OnEdge(edge) => {
+            let [from, to] = triangulation.directed_edge(edge).positions();
+            assert_eq!(area([from, to, point]), 0);
+            let apart = from.distance_2(to);
+            assert!(from.distance_2(point) < apart && to.distance_2(point) < apart);
+        }
+        Position::OnFace(face) => {
+            let [a, b, c] = triangulation.face(face).positions();
+            assert!(
+                [[a, b, point], [b, c, point], [c, a, point]]
+                    .iter()
+                    .all(|it| area(*it) > 0)
+            );
+        }
+        Position::OutsideOfConvexHull(edge) => {
+            let edge = triangulation.directed_edge(edge);
+            let [from, to] = edge.positions();
+            assert!(edge.face().is_outer());
+            let on_line = triangulation.all_vertices_on_line() && area([from, to, point]) == 0;
+            assert!(
+                area([from, to, point]) > 0
+                    || on_line && to.distance_2(point) > from.distance_2(point)
+            );
+        }
+        Position::NoTriangulation => {
+            assert!(triangulation.num_vertices() < 2 && least != Some(0));
+        }
+    }
+}
+
+#[test]
+fn points_come_and_go() {
+    for seed in 1..=40 {
+        let mut numbers = Numbers(seed);
+        let width = [2, 9, 1 << 19][seed as usize % 3];
+        let mut triangulation = DelaunayTriangulation::new().unwrap();
+        let mut points = HashMap::new();
+        let mut last = FixedVertexHandle::new(0);
+        for _ in 0..60 {
+            if numbers.below(3) > 0 || points.is_empty() {
+                let point = numbers.point(width);
+                last = match numbers.below(2) {
+                    0 => triangulation.insert(point).unwrap(),
+                    _ => triangulation.insert_with_hint(point, last).unwrap(),
+                };
+                assert_eq!(*points.entry(point).or_insert(last), last);
+            } else {
+                let vertex = FixedVertexHandle::new(numbers.below(points.len() as u64) as usize);
+                let removed = triangulation.remove(vertex).unwrap();
+                assert_eq!(points.remove(&removed.removed_vertex), Some(vertex));
+                let moved = removed.swapped_in_vertex;
+                for other in points.values_mut().filter(|it| Some(**it) == moved) {
+                    *other = vertex;
+                }
+            }
+            if numbers.below(4) == 0 {
+                check(&triangulation, &points);
+                check_point(&triangulation, numbers.point(width + 1));
+            }
+        }
+        check(&triangulation.clone(), &points);
+        let mut clone = triangulation.clone();
+        while clone.num_vertices() > 0 {
+            clone.remove(FixedVertexHandle::new(0)).unwrap();
+        }
+        check(&triangulation, &points);
+        check(&clone, &HashMap::new());
+    }
+}
+
+#[test]
+fn all_at_once() {
+    for seed in 1..=40 {
+        let mut numbers = Numbers(seed);
+        let width = [2, 30, 1 << 19][seed as usize % 3];
+        let elements: Vec<_> = (0..numbers.below(80))
+            .map(|_| numbers.point(width))
+            .collect();
+        let triangulation = DelaunayTriangulation::bulk_load(elements.clone()).unwrap();
+        let vertex = |point| triangulation.locate_vertex(point).unwrap().fix();
+        check(
+            &triangulation,
+            &elements
+                .iter()
+                .map(|point| (*point, vertex(*point)))
+                .collect(),
+        );
+        for _ in 0..30 {
+            check_point(&triangulation, numbers.point(2 * width));
+        }
+        let faces = triangulation.num_inner_faces();
+        assert_eq!(triangulation.into_dcel().num_faces(), faces + 1);
+    }
+}
+
+#[test]
+fn any_point_may_be_asked_for() {
+    let far = [
+        (i64::MAX, i64::MIN),
+        (i64::MIN, 0),
+        (0, i64::MAX),
+        (1 << 54, 1 << 54),
+        (-(1 << 54), -(1 << 54)),
+    ];
+    let rows: [&[(i64, i64)]; 4] = [
+        &[],
+        &[(1, 1)],
+        &[(0, 0), (1, 1), (2, 2)],
+        &[(0, 0), (5, 1), (2, 7), (1 << 53, 9)],
+    ];
+    for points in rows {
+        let points = points.iter().map(|(x, y)| Point2::new(*x, *y)).collect();
+        let triangulation = DelaunayTriangulation::bulk_load(points).unwrap();
+        for (x, y) in far {
+            let point = Point2::new(x, y);
+            check_point_far(&triangulation, point);
+        }
+    }
+}
+
+fn check_point_far(triangulation: &DelaunayTriangulation<Point2>, point: Point2) {
+    let positions = triangulation.vertices().map(|vertex| vertex.position());
+    let least = positions.map(|it| it.distance_2(point)).min();
+    let nearest = triangulation.nearest_neighbor(point);
+    assert_eq!(nearest.map(|it| it.position().distance_2(point)), least);
+    let position = triangulation.locate(point);
+    match position {
+        Position::OutsideOfConvexHull(edge) => {
+            assert!(triangulation.directed_edge(edge).face().is_outer());
+        }
+        _ => assert!(triangulation.num_vertices() < 2 && position == Position::NoTriangulation),
+    }
+}
+
+#[test]
+fn what_is_refused_changes_nothing() {
+    let corners = [(0, 0), (4, 0), (0, 3)].map(|(x, y)| Point2::new(x, y));
+    let mut triangulation = DelaunayTriangulation::bulk_load(corners.to_vec()).unwrap();
+    let most = 1 << 53;
+    for (x, y) in [(most + 1, 0), (0, -most - 1), (i64::MIN, i64::MAX)] {
+        let point = Point2::new(x, y);
+        assert_eq!(triangulation.insert(point), Err(InsertionError::OutOfRange));
+        let loaded = DelaunayTriangulation::bulk_load(vec![corners[0], point]);
+        assert_eq!(loaded.unwrap_err(), InsertionError::OutOfRange);
+    }
+    let none = FixedVertexHandle::new(3);
+    assert_eq!(triangulation.remove(none), Err(Refusal::NoSuchVertex));
+    assert_eq!(triangulation.locate_and_remove(Point2::new(9, 9)), Ok(None));
+    assert_eq!(
+        triangulation.locate_with_hint(corners[1], none),
+        triangulation.locate(corners[1])
+    );
+    assert_eq!(
+        (
+            triangulation.num_vertices(),
+            triangulation.num_inner_faces()
+        ),
+        (3, 1)
+    );
+    assert!(
+        triangulation
+            .insert_with_hint(Point2::new(most, -most), none)
+            .is_ok()
+    );
+}
+
+/// A value that counts its drops.
+struct Counted(Point2, Rc<Cell<u32>>);
+
+impl HasPosition for Counted {
+    fn position(&self) -> Point2 {
+        self.0
+    }
+}
+
+impl Drop for Counted {
+    fn drop(&mut self) {
+        self.1.set(self.1.get() + 1);
+    }
+}
+
+#[test]
+fn values_are_dropped_once() {
+    let drops = Rc::new(Cell::new(0));
+    let value = |x, y| Counted(Point2::new(x, y), drops.clone());
+    let mut triangulation =
+        DelaunayTriangulation::bulk_load(vec![value(0, 0), value(4, 0), value(0, 0)]).unwrap();
+    assert_eq!((triangulation.num_vertices(), drops.get()), (2, 1));
+    triangulation.insert(value(4, 0)).unwrap();
+    triangulation.insert(value(0, 3)).unwrap();
+    assert_eq!(drops.get(), 2);
+    assert!(triangulation.insert(value(1 << 60, 0)).is_err());
+    assert_eq!(drops.get(), 3);
+    let removed = triangulation.remove(FixedVertexHandle::new(0)).unwrap();
+    assert_eq!(drops.get(), 3);
+    drop(removed);
+    assert_eq!(drops.get(), 4);
+    assert_eq!(triangulation.vertices().count(), 2);
+    drop(triangulation.into_dcel());
+    assert_eq!(drops.get(), 6);
+}
+
+#[test]
+fn floats_come_back() {
+    let mut numbers = Numbers(7);
+    for _ in 0..200 {
+        let points: Vec<[f64; 2]> = (0..5)
+            .map(|_| {
+                [0; 2].map(|_| {
+                    (numbers.below(1 << 53) as f64 - 2f64.powi(52))
+                        * 2f64.powi(numbers.below(60) as i32 - 80)
+                })
+            })
+            .collect();
+        let grid = Grid::fit(points.iter().copied()).unwrap();
+        let most = points
+            .iter()
+            .flatten()
+            .fold(0f64, |most, it| most.max(it.abs()));
+        assert!(most / grid.step <= 2f64.powi(53) && most / grid.step > 2f64.powi(52));
+        for point in &points {
+            let back = grid.back(grid.snap(*point).unwrap());
+            assert!(
+                point
+                    .iter()
+                    .zip(back)
+                    .all(|(one, other)| (one - other).abs() <= grid.step / 2.0)
+            );
+            assert_eq!(grid.back(grid.snap(back).unwrap()), back);
+        }
+    }
+    assert_eq!(Grid::fit([]).unwrap().step, f64::from_bits(1));
+    assert_eq!(Grid::fit([[f64::MAX, 0.0]]).unwrap().step, 2f64.powi(971));
+    assert_eq!(Grid::fit([[0.0, f64::INFINITY]]), None);
+    let whole = Grid { step: 1.0 };
+    assert_eq!(whole.snap([0.5, 1.5]), Ok(Point2::new(0, 2)));
+    assert_eq!(
+        whole.snap([f64::INFINITY, 0.0]),
+        Err(InsertionError::OutOfRange)
+    );
+}

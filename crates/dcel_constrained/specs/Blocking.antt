@@ -1,0 +1,39 @@
+-- Marked edges in the way of a segment.
+use Rattle.std.specs.Prelude.{◌≡◌, ◌≢◌, ◌⊎◌, ◌++◌, ℕ, ◌<◌, ◌/◌, List, [], ◌∷◌}
+use Rattle.dcel_predicates.specs.declared.point.Point.{Point}
+use Rattle.dcel_maps.specs.Shapes.{Mesh}
+use Rattle.dcel_maps.specs.Words.{count_of}
+use Rattle.dcel_plane.specs.Plane.{point_at}
+use Rattle.dcel_plane.specs.segments.Segments.{Crosses}
+use Rattle.dcel_planar.specs.Outcomes.{IsWholeMesh, KeepsWhole}
+use Rattle.dcel_planar.specs.declared.planar.PlanarMesh.{PlanarMesh}
+use Rattle.dcel_regions.specs.Marked.{IsMarked}
+use Rattle.dcel_regions.specs.declared.mark.Mark.{Mark}
+use Rattle.dcel_constrained.specs.Channels.{HasVertices}
+use Rattle.dcel_constrained.specs.declared.errors.ConstraintError.{ConstraintError}
+use Rattle.dcel_constrained.specs.declared.errors.ConstraintError.TheVariants.{Blocked, NoVertex, OutOfMemory}
+
+module _ {DE F : Type 0} where
+  -- the edge u is marked, and a half of it crosses the segment from v to w
+  pub record Blocks (m : Mesh Point DE Mark F) (v w u : ℕ) : Type 0 where
+    pub marked : IsMarked m u
+    pub half : ℕ
+    pub edge : half / 2 ≡ u
+    pub crosses : Crosses (point_at m) m.shape v w half
+
+  -- each edge in the way stands in the list once, and no other does
+  pub record ListsBlocking (m : Mesh Point DE Mark F) (v w : ℕ) (list : List ℕ) : Type 0 where
+    pub once : (u : ℕ) → Blocks m v w u → count_of u list ≡ 1
+    pub no_other : (u : ℕ) → 0 < count_of u list → Blocks m v w u
+
+  -- the edge u is noted, if it is in the way
+  abbrev pub NotesBlocking : Mesh Point DE Mark F → ℕ → ℕ → ℕ → List ℕ → List ℕ → Type 0
+  NotesBlocking m v w u before after = (Blocks m v w u × (after ≡ before ++ u ∷ [])) ⊎ ((¬ Blocks m v w u) × (after ≡ before))
+
+module _ {A : Type 0} where
+  -- a segment is not made one of marked edges
+  abbrev pub FailsToAdd : PlanarMesh Mark A → PlanarMesh Mark A → ℕ → ℕ → ConstraintError A → Type 0
+  FailsToAdd old new v w NoVertex = (¬ HasVertices new.dcel.shape v w) × KeepsWhole old new × IsWholeMesh new
+  FailsToAdd old new v w (Blocked edges) =
+      HasVertices new.dcel.shape v w × (edges.items ≢ []) × ListsBlocking new.dcel v w edges.items × KeepsWhole old new × IsWholeMesh new
+  FailsToAdd old new v w OutOfMemory = Unit {0}

@@ -1,0 +1,83 @@
+//! Segments made constraints, unless marked edges are in their way.
+
+ghost use Rattle.std.specs.Prelude.{IfErr, IfOk, IsTrue, OnOk, ◌↔◌, ◌≡◌, ◌≤◌};
+ghost use Rattle.dcel_constrained.specs.Blocking.{FailsToAdd};
+ghost use Rattle.dcel_constrained.specs.Channels.{HasVertices};
+ghost use Rattle.dcel_constrained.specs.Constrained.{marked_mesh};
+ghost use Rattle.dcel_constrained.specs.Constraints.{HasConstraint, KeepsMarked, MarksOnly};
+ghost use Rattle.dcel_constrained.specs.Soundness.{CanAdd, MarksAnother};
+ghost use Rattle.dcel_planar.specs.Outcomes.{IsWholeMesh};
+
+use crate::errors::ConstraintError;
+use crate::segments::blocking::blocking;
+use crate::triangulation::ConstrainedTriangulation;
+use spade_dcel::handles::FixedVertexHandle;
+use spade_dcel::laws::every_mesh;
+use std::alloc::Allocator;
+
+impl<A: Allocator + Clone> ConstrainedTriangulation<A> {
+    /// Makes the segment between two vertices one of marked edges, as
+    /// [`add_constraint`](Self::add_constraint) does, and returns whether some edge is marked then that
+    /// wasn't; unless a marked edge would be crossed. Any numbers may be given.
+    ///
+    /// If one of them is no vertex, the result is [`NoVertex`](ConstraintError::NoVertex), and if
+    /// marked edges are in the way, [`Blocked`](ConstraintError::Blocked) with all of them, each once:
+    /// for these it looks at each edge. Then a whole triangulation ([`is_whole`](Self::is_whole)) is as
+    /// it was, and any other is whole now.
+    ///
+    /// If memory runs out, the result is [`OutOfMemory`](ConstraintError::OutOfMemory). Parts of the
+    /// segment may be marked then, and the next call, or [`finish`](Self::finish), goes on with what is
+    /// left to do.
+    pub fn try_add_constraint(
+        &mut self,
+        from: FixedVertexHandle,
+        to: FixedVertexHandle,
+    ) -> Result<bool, ConstraintError<A>>
+        ensures constrained { OnOk result (HasConstraint (marked_mesh self.new) from to) }
+        ensures added { IfOk result (λ added. IsTrue added ↔ MarksAnother (marked_mesh self.old) (marked_mesh self.new)) }
+        ensures whole { OnOk result (IsWholeMesh self.new.planar) }
+        ensures refuses { IfErr result (FailsToAdd self.old.planar self.new.planar from to) }
+        ensures keeps { KeepsMarked (marked_mesh self.old) (marked_mesh self.new) }
+        ensures only { MarksOnly (marked_mesh self.old) (marked_mesh self.new) from to }
+        ensures points { (marked_mesh self.new).vertex_data ≡ (marked_mesh self.old).vertex_data }
+        ensures edges { (marked_mesh self.old).shape.edges ≤ (marked_mesh self.new).shape.edges }
+        ensures same { IsWholeMesh self.old.planar → ¬ MarksAnother (marked_mesh self.old) (marked_mesh self.new)
+            → (marked_mesh self.new ≡ marked_mesh self.old) × IsWholeMesh self.new.planar }
+    {
+        let Ok(()) = self.finish() else {
+            return Err(ConstraintError::OutOfMemory);
+        };
+        every_mesh(&self.planar.dcel);
+        let vertices = self.planar.dcel.num_vertices();
+        if from.index() >= vertices {
+            return Err(ConstraintError::NoVertex);
+        }
+        if to.index() >= vertices {
+            return Err(ConstraintError::NoVertex);
+        }
+        if !self.can_add_constraint(from, to) {
+            return Err(self.what_blocks(from, to));
+        }
+        match self.add_constraint(from, to) {
+            Ok(added) => Ok(added),
+            Err(_) => Err(ConstraintError::OutOfMemory),
+        }
+    }
+
+    /// Returns the edges in the way of a segment that can't be added, or that there was no memory for
+    /// them.
+    fn what_blocks(&self, from: FixedVertexHandle, to: FixedVertexHandle) -> ConstraintError<A>
+        requires whole { IsWholeMesh self.now.planar }
+        requires ends { HasVertices (marked_mesh self.now).shape from to }
+        requires not { ¬ CanAdd (marked_mesh self.now) from to }
+        ensures { FailsToAdd self.now.planar self.now.planar from to result }
+    {
+        let Ok(alloc) = self.planar.dcel.allocator().clone() else {
+            return ConstraintError::OutOfMemory;
+        };
+        match blocking(&self.planar.dcel, from, to, alloc) {
+            Ok(edges) => ConstraintError::Blocked(edges),
+            Err(_) => ConstraintError::OutOfMemory,
+        }
+    }
+}

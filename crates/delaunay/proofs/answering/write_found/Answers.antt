@@ -1,0 +1,26 @@
+use Rattle.std.proofs.lemmas.Result.{on_ok_weaker}
+use Rattle.dcel_delaunay.proofs.listing.Known.{Points}
+use Rattle.dcel_output.specs.Lines.{lines_of, nearest_line}
+use Rattle.delaunay.proofs.Written.{any_ok, seen_written}
+use Rattle.delaunay.proofs.answering.write_found.Goals as goal
+
+pub returns-then-has_constraints-clause-triangles : goal.returns-then-has_constraints-clause-triangles
+returns-then-has_constraints-clause-triangles g c = any_ok c.answer_constrained.result _ (λ _ plain.
+    let none = c.has_constraints.ensures plain.constraints plain.outline in
+    let some = c.if-has_constraints.true in absurd cc)
+
+pub returns-then-has_constraints-clause-nearest : goal.returns-then-has_constraints-clause-nearest
+returns-then-has_constraints-clause-nearest g c = any_ok c.answer_constrained.result _ (λ _ plain.
+    let none = c.has_constraints.ensures plain.constraints plain.outline in
+    let some = c.if-has_constraints.true in absurd cc)
+
+pub returns-clause-triangles : goal.returns-clause-triangles
+returns-clause-triangles g c =
+    let m : Points = c.args.drawn.now.triangulation.planar.dcel in
+    on_ok_weaker c.write_drawn.result
+    (λ text plain is. seen_written _ _ c.view.result.mesh.now m c.view.result.numbers.now c.args.drawn.now.numbers.items (lines_of nearest_line c.args.nearest.now)
+    c.view.ensures.mesh c.view.ensures.numbers (text is c.view.ensures.all))
+    c.write_drawn.ensures.triangles
+
+pub returns-clause-nearest : goal.returns-clause-nearest
+returns-clause-nearest g c = on_ok_weaker c.write_drawn.result (λ text plain is. text is) c.write_drawn.ensures.nearest

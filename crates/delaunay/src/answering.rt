@@ -1,0 +1,124 @@
+//! What the program answers to what it has read.
+
+ghost use Rattle.std.specs.Prelude.{◌≡◌, ◌++◌, None, OnOk, Some};
+ghost use Rattle.std.specs.Io.KnownBytes.{Appends};
+ghost use Rattle.dcel_delaunay.specs.Triangulated.{mesh_in};
+ghost use Rattle.dcel_output.specs.Lines.{lines_of, nearest_line, triangle_line};
+ghost use Rattle.dcel_output.specs.Numbering.{triangles_numbered};
+ghost use Rattle.delaunay.specs.Answers.{AsksForNearest, AsksForTriangles, ChangesNothing, IsDrawn, WritesNearest, WritesTriangles};
+
+use crate::arguments::{Arguments, Output};
+use crate::constraining::Constrained;
+use crate::drawn::Drawn;
+use crate::fault::Fault;
+use crate::nearest::find_nearest;
+use crate::picture::Svg;
+use crate::task::Task;
+use crate::timing::tell_time;
+use crate::triangulating::triangulate;
+use crate::view::View;
+use crate::writing::write_all;
+use dcel_output::laws::{nearest_numbers_are_nearest, numbered_triangles_are_delaunay};
+use dcel_programs::{Progress, write_out};
+use std::io::Write;
+use std::rt::{Clock, Files};
+use std::time::Instant;
+
+/// Triangulates the points of a task, and writes what is asked for.
+///
+/// If triangles are asked for, and nothing else, then those are written of a Delaunay triangulation
+/// of the points, a line for each; if nearest points are, a line for each place. If a write fails,
+/// some of the text may be written.
+pub fn answer<W: Write>(
+    rt: &(impl Files + Clock + Print + Eprint + AllocGlobal),
+    writer: &mut W,
+    progress: Progress,
+    arguments: &Arguments,
+    task: &Task,
+) -> Result<(), Fault>
+    ensures triangles { OnOk result (AsksForTriangles arguments.now → WritesTriangles task.now.points.items (W.contents writer.old) (W.contents writer.new)) }
+    ensures nearest { OnOk result (AsksForNearest arguments.now → WritesNearest task.now.points.items task.now.places.items (W.contents writer.old) (W.contents writer.new)) }
+{
+    let drawn = triangulate(rt, progress, arguments, task)?;
+    answer_of(rt, writer, arguments, task, &drawn)
+}
+
+/// Writes what is asked for of a triangulation of the points that are left.
+fn answer_of<W: Write>(
+    rt: &(impl Files + Clock + Print + Eprint + AllocGlobal),
+    writer: &mut W,
+    arguments: &Arguments,
+    task: &Task,
+    drawn: &Drawn,
+) -> Result<(), Fault>
+    ensures triangles { OnOk result (AsksForTriangles arguments.now → IsDrawn task.now.points.items drawn.now
+        → WritesTriangles task.now.points.items (W.contents writer.old) (W.contents writer.new)) }
+    ensures nearest { OnOk result (AsksForNearest arguments.now → IsDrawn task.now.points.items drawn.now
+        → WritesNearest task.now.points.items task.now.places.items (W.contents writer.old) (W.contents writer.new)) }
+{
+    numbered_triangles_are_delaunay(&drawn.triangulation);
+    nearest_numbers_are_nearest(&drawn.triangulation);
+    let nearest = find_nearest(rt, arguments, task, drawn)?;
+    write_found(rt, writer, arguments, task, drawn, &nearest)
+}
+
+/// Writes what is asked for, with these nearest points.
+fn write_found<W: Write>(
+    rt: &(impl Files + Clock + Print + Eprint + AllocGlobal),
+    writer: &mut W,
+    arguments: &Arguments,
+    task: &Task,
+    drawn: &Drawn,
+    nearest: &[Option<u32>],
+) -> Result<(), Fault>
+    ensures triangles { OnOk result (ChangesNothing arguments.now → arguments.now.output ≡ Some Output.Triangles → Appends (W.contents writer.old) (W.contents writer.new)
+        (lines_of triangle_line (triangles_numbered (mesh_in drawn.now.triangulation) drawn.now.numbers.items) ++ lines_of nearest_line nearest.now)) }
+    ensures nearest { OnOk result (ChangesNothing arguments.now → arguments.now.output ≡ None → Appends (W.contents writer.old) (W.contents writer.new) (lines_of nearest_line nearest.now)) }
+{
+    if arguments.has_constraints() {
+        return answer_constrained(rt, writer, arguments, task, drawn, nearest);
+    }
+    write_drawn(rt, writer, arguments, &drawn.view(task), nearest)
+}
+
+/// Puts constraints in, and writes what is asked for.
+fn answer_constrained<W: Write>(
+    rt: &(impl Files + Clock + Print + Eprint + AllocGlobal),
+    writer: &mut W,
+    arguments: &Arguments,
+    task: &Task,
+    drawn: &Drawn,
+    nearest: &[Option<u32>],
+) -> Result<(), Fault> {
+    let start = Instant::now(rt)?;
+    let constrained = Constrained::of(rt.alloc(), arguments, task, drawn)?;
+    tell_time(rt, arguments, start, " to put in constraints")?;
+    write_drawn(
+        rt,
+        writer,
+        arguments,
+        &constrained.view(task, drawn),
+        nearest,
+    )
+}
+
+/// Draws what is asked for, and writes it.
+fn write_drawn<W: Write, UE>(
+    rt: &(impl Files + Print + AllocGlobal),
+    writer: &mut W,
+    arguments: &Arguments,
+    view: &View<'_, UE>,
+    nearest: &[Option<u32>],
+) -> Result<(), Fault>
+    ensures triangles { OnOk result (arguments.now.output ≡ Some Output.Triangles → view.now.inside ≡ None → Appends (W.contents writer.old) (W.contents writer.new)
+        (lines_of triangle_line (triangles_numbered view.now.mesh.now view.now.numbers.now) ++ lines_of nearest_line nearest.now)) }
+    ensures nearest { OnOk result (arguments.now.output ≡ None → Appends (W.contents writer.old) (W.contents writer.new) (lines_of nearest_line nearest.now)) }
+{
+    if let Some(path) = arguments.svg {
+        write_out(rt, Some(path), &Svg { view: &*view })?;
+    }
+    match write_all(rt.alloc(), writer, arguments.output, view, nearest) {
+        Ok(()) => Ok(()),
+        Err(error) => Err(Fault::Output(error)),
+    }
+}
