@@ -1,8 +1,9 @@
-"""A hole in the place of proofs: what a wrong body calls is believed by its contract, and not proved again."""
+"""A hole in the place of proofs: what a wrong body calls is believed by its contract, and not proved again. Its body isn't read either."""
 
+import re
 from pathlib import Path
 
-from wrong.edits import Place, functions_of, types_in
+from wrong.edits import Place, code_of, functions_of, types_in
 
 # The files of a function's proof, and what stands there instead.
 PROOF = ("Answers.antt", "Invariants.antt", "Proof.antt")
@@ -25,6 +26,30 @@ def places_in(room, types):
             yield Place(str(file.relative_to(room)), name, owner)
 
 
+def body_of(code, begin, end):
+    """Where the body of a function begins, behind its brace: below its clauses the brace has a line of its own, indented as the function is.
+    None where there is no such place, or where the body gives the result its type."""
+    indent = re.match(r"[ \t]*", code[begin:])[0]
+    brace = re.compile(rf"(?m)^{indent}\{{$").search(code, begin, end) or re.compile(r"(?m)\{$").search(code, begin, end)
+    if not brace:
+        return None
+    is_clause = brace[0] == "{" and re.search(r"\b(requires|ensures|ghost)\b", code[begin : brace.start()]) and code[brace.start() - 1] != "\n"
+    return None if is_clause or "-> impl " in code[begin : brace.start()] else brace.end()
+
+
+def hollow(text, types, closed):
+    """The text of a file whose crate declares these types, in which all functions but the closed ones never return, on as many lines. What
+    calls them rests on their contracts, and the borrow checker has less to do."""
+    code, found = code_of(text), functions_of(text, types)
+    for name, _, begin, end in reversed(found):
+        is_declared = any(begin < it[2] < end for it in found)
+        body = None if name in closed or is_declared else body_of(code, begin, end)
+        lines = text.count("\n", body, end) if body else 0
+        if lines > 1:
+            text = f"{text[:body]}\nloop {{}}" + "\n" * (lines - 1) + text[end:]
+    return text
+
+
 def open_proofs(room, crate, closed):
     """Leaves the proofs open of all functions of this copy but those at these places."""
     types, closed = types_in(crate), {(it.path, it.function) for it in closed}
@@ -36,6 +61,9 @@ def open_proofs(room, crate, closed):
             for file in PROOF:
                 (folder / file).unlink(missing_ok=True)
             (folder / "Proof.antt").write_text(OPEN.format(crate=crate, module=".".join([crate, *parts]), name=place.function))
+    for file in Path(room, "src").rglob("*.rt"):
+        here = str(file.relative_to(room))
+        file.write_text(hollow(file.read_text(), types, {name for path, name in closed if path == here}))
     Path(room, "proofs/Believed.antt").write_text(BELIEVED)
     with Path(room, "proofs/Lib.antt").open("a") as file:
         file.write("\nmod Believed\n")
