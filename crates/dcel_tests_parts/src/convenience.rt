@@ -2,9 +2,8 @@
 //! vertex, and meshes that are simple.
 
 mod collapses;
-mod walks;
-mod wheels;
 
+use crate::on_meshes::{fan, on_fan, on_grown};
 use dcel_bench::checks::{holds, same};
 use dcel_bench::lines::grown;
 use dcel_bench::meshes::{Mesh, half_edge, inner_face, undirected_edge, vertex};
@@ -13,13 +12,13 @@ use dcel_bench::require;
 use dcel_bench::snapshots::{Snapshot, snapshot_of};
 use dcel_convenience::{
     Surroundings, WhyNotCollapsed, WhyNotInserted, WhyNotRemoved, can_flip_simple, collapse_edge,
-    degree, degrees, insert_vertex, is_simple, look_around, neighbors, remove_vertex,
+    degree, degrees, insert_vertex, is_simple, look_around, neighbors, remove_any_vertex,
+    remove_vertex,
 };
 use spade_dcel::handles::{FixedDirectedEdgeHandle, FixedVertexHandle};
 use spade_dcel::operations::flip_cw;
-use std::alloc::Global;
+use std::alloc::{Allocator, Global};
 use std::test::Fail;
-use wheels::on_wheel;
 
 /// No call here makes so many requests for memory.
 const MANY: u64 = 100;
@@ -29,19 +28,6 @@ const INNER: &str = "triangle 7 8 9\nappend 10\ninsert 3 1";
 
 /// The same while that vertex is being removed.
 const OPEN: &str = "triangle 7 8 9\nappend 10\ninsert 3 1\nisolate 3 1 3 5";
-
-/// Has the mesh that these lines make checked. It is made and dropped here alone, since the prover's
-/// work grows with each place where a mesh is dropped.
-pub fn on_grown<F: FnOnce(&mut Mesh, Global) -> Result<(), Fail>>(
-    lines: &str,
-    alloc: Global,
-    check: F,
-) -> Result<(), Fail>
-    requires { F.IsAlwaysCallable check }
-{
-    let mut dcel = grown(alloc, lines)?;
-    check(&mut dcel, alloc)
-}
 
 /// Checks that these are the vertices with these numbers.
 fn check_numbers(found: &[FixedVertexHandle], wanted: &[usize]) -> Result<(), Fail> {
@@ -230,7 +216,7 @@ fn check_hole(dcel: &mut Mesh, corners: usize, alloc: Global) -> Result<(), Fail
 #[test]
 fn holes_of_all_sizes_are_filled(rt: HostRuntime) -> Result<(), Fail> {
     for rim in &[3u32, 4, 6, 40] {
-        on_wheel(*rim, rt.alloc(), |dcel, alloc| {
+        on_fan(*rim, true, rt.alloc(), |dcel, alloc| {
             check_hole(dcel, *rim as usize, alloc)
         })?;
     }
@@ -265,9 +251,11 @@ fn flips_that_make_a_second_edge_are_told(rt: HostRuntime) -> Result<(), Fail> {
 
 /// A call that may find no memory.
 #[derive(Clone, Copy)]
-enum Call {
+pub enum Call {
     Insert,
     Remove,
+    /// Removes the vertex where triangles meet: of a wheel, or of a fan if it isn't closed.
+    RemoveAnywhere(bool),
     Collapse,
     Neighbors,
     Degrees,
@@ -292,6 +280,13 @@ fn is_removed<'a>(dcel: &mut Mesh<Memory<'a>>, memory: Memory<'a>) -> Result<boo
     }
 }
 
+fn is_removed_anywhere<'a>(dcel: &mut Mesh<Memory<'a>>, memory: Memory<'a>) -> Result<bool, Fail> {
+    match remove_any_vertex(dcel, memory, vertex(0)) {
+        Ok(taken) => same(taken.removed_vertex, 0, "the datum").map(|_| true),
+        Err(why) => same(why, WhyNotRemoved::OutOfMemory, "why").map(|_| false),
+    }
+}
+
 fn is_collapsed<'a>(dcel: &mut Mesh<Memory<'a>>, memory: Memory<'a>) -> Result<bool, Fail> {
     match collapse_edge(dcel, memory, half_edge(7)) {
         Ok(taken) => same(taken.removed_vertex, 10, "the datum").map(|_| true),
@@ -311,6 +306,7 @@ fn is_done<'a>(dcel: &mut Mesh<Memory<'a>>, call: Call, memory: Memory<'a>) -> R
     match call {
         Call::Insert => is_inserted(dcel),
         Call::Remove => is_removed(dcel, memory),
+        Call::RemoveAnywhere(_) => is_removed_anywhere(dcel, memory),
         Call::Collapse => is_collapsed(dcel, memory),
         Call::Neighbors => has_neighbors(dcel, memory),
         Call::Degrees => Ok(degrees(memory, dcel).is_ok()),
@@ -318,7 +314,11 @@ fn is_done<'a>(dcel: &mut Mesh<Memory<'a>>, call: Call, memory: Memory<'a>) -> R
 }
 
 /// Checks that a mesh is as it was.
-fn check_unchanged(dcel: &Mesh<Memory>, before: &Snapshot, alloc: Global) -> Result<(), Fail> {
+pub fn check_unchanged<A: Allocator>(
+    dcel: &Mesh<A>,
+    before: &Snapshot,
+    alloc: Global,
+) -> Result<(), Fail> {
     let now = snapshot_of(dcel, alloc)?;
     holds(now == *before, "the mesh is as it was")
 }
@@ -358,9 +358,17 @@ fn is_refused_on<'a>(
     refuse_one(dcel, &before, call, memory, number, alloc)
 }
 
+/// Makes a mesh for the call.
+fn mesh_for<'a>(call: Call, memory: Memory<'a>) -> Result<Mesh<Memory<'a>>, Fail> {
+    match call {
+        Call::RemoveAnywhere(is_closed) => fan(5, is_closed, memory),
+        _ => grown(memory, INNER),
+    }
+}
+
 /// Refuses the request of this number on a mesh of its own. Returns whether it came.
 fn is_refused_in(call: Call, memory: Memory, number: u64, alloc: Global) -> Result<bool, Fail> {
-    let mut dcel = grown(memory, INNER)?;
+    let mut dcel = mesh_for(call, memory)?;
     is_refused_on(&mut dcel, call, memory, number, alloc)
 }
 
@@ -371,7 +379,7 @@ fn is_refused(call: Call, number: u64, alloc: Global) -> Result<bool, Fail> {
 }
 
 /// Refuses each request of a call in turn.
-fn refuse_each(call: Call, name: &str, alloc: Global) -> Result<(), Fail> {
+pub fn refuse_each(call: Call, name: &str, alloc: Global) -> Result<(), Fail> {
     for number in 0..MANY {
         if !is_refused(call, number, alloc)? {
             return holds(number > 0, format_args!("{name} asks for memory"));

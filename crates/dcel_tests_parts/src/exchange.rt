@@ -1,38 +1,24 @@
 //! Faces of surfaces that everybody knows, and what is wrong with them.
 
-use crate::faces::{Data, Row, check_lists, check_made, data_for, faces_of, mesh_of, vertices_of};
+use crate::faces::{
+    Data, Refused, Row, as_others, check_all_refused, check_lists, check_made, check_row, data_for,
+    on_row, vertices_of,
+};
 use dcel_bench::checks::same;
 use dcel_bench::require;
+use dcel_exchange::ClosedFacesError::Others;
 use dcel_exchange::{
-    FacesError, LinkLists, RefusedFaces, from_faces, from_triangles, link_lists, links, with_data,
+    FacesError, LinkLists, RefusedFaces, from_triangles, link_lists, links, with_data,
 };
 use spade_dcel::dcel::{Dcel, RemovalState};
 use spade_dcel::operations::LinksFault;
 use std::alloc::Global;
 use std::test::Fail;
 
-/// Checks what comes of the faces of a row, which are given as vectors.
-fn check_faces(row: &Row, faces: &[Vec<u32>], alloc: Global) -> Result<(), Fail> {
-    let vertices = vertices_of(row, alloc)?;
-    check_made(from_faces(alloc, vertices, faces), row, alloc)
-}
-
-fn check_row(row: &Row, alloc: Global) -> Result<(), Fail> {
-    let faces = faces_of(row, alloc)?;
-    check_faces(row, &faces, alloc)
-}
-
-/// Checks what comes of the faces of each row.
-fn check(alloc: Global, rows: &[Row]) -> Result<(), Fail> {
-    for row in rows {
-        check_row(row, alloc)?;
-    }
-    Ok(())
-}
-
 const TWO_TRIANGLES: Row = Row {
     faces: &[&[0, 1, 2], &[2, 1, 3]],
     vertices: 4,
+    outer: None,
     wanted: Ok(&[2, 5, 4, 6, 0, 9, 8, 1, 3, 7]),
 };
 
@@ -40,12 +26,14 @@ const MADE: [Row; 6] = [
     Row {
         faces: &[&[0, 1, 2]],
         vertices: 3,
+        outer: None,
         wanted: Ok(&[2, 5, 4, 1, 0, 3]),
     },
     // With a vertex in no face.
     Row {
         faces: &[&[0, 1, 2]],
         vertices: 4,
+        outer: None,
         wanted: Ok(&[2, 5, 4, 1, 0, 3]),
     },
     TWO_TRIANGLES,
@@ -53,36 +41,44 @@ const MADE: [Row; 6] = [
     Row {
         faces: &[&[0, 1, 3], &[1, 2, 3], &[2, 0, 3]],
         vertices: 4,
+        outer: None,
         wanted: Ok(&[2, 11, 4, 6, 0, 9, 8, 1, 3, 10, 5, 7]),
     },
     // A square.
     Row {
         faces: &[&[0, 1, 2, 3]],
         vertices: 4,
+        outer: None,
         wanted: Ok(&[2, 7, 4, 1, 6, 3, 0, 5]),
     },
     Row {
         faces: &[],
         vertices: 2,
+        outer: None,
         wanted: Ok(&[]),
     },
 ];
 
 #[test]
 fn faces_become_meshes(rt: HostRuntime) -> Result<(), Fail> {
-    check(rt.alloc(), &MADE)
+    for row in &MADE {
+        check_row(row, rt.alloc())?;
+    }
+    Ok(())
 }
 
 /// Checks what comes of triangles, which are those of a row.
 fn check_triangles(row: &Row, triangles: &[[u32; 3]], alloc: Global) -> Result<(), Fail> {
     let vertices = vertices_of(row, alloc)?;
-    check_made(from_triangles(alloc, vertices, triangles), row, alloc)
+    let outcome = from_triangles(alloc, vertices, triangles).map_err(as_others);
+    check_made(outcome, row, alloc)
 }
 
 const FLAT_TRIANGLE: Row = Row {
     faces: &[&[2, 1, 1]],
     vertices: 3,
-    wanted: Err(FacesError::OneEnd(0, 1)),
+    outer: None,
+    wanted: Err(Others(FacesError::OneEnd(0, 1))),
 };
 
 #[test]
@@ -92,67 +88,76 @@ fn triangles_become_meshes(rt: HostRuntime) -> Result<(), Fail> {
     check_triangles(&FLAT_TRIANGLE, &[[2, 1, 1]], alloc)
 }
 
-/// Faces over this many vertices, and why they are refused.
-type Refused = (&'static [&'static [u32]], u32, FacesError);
-
-/// Checks that the faces of each row are refused.
-fn check_refused(alloc: Global, rows: &[Refused]) -> Result<(), Fail> {
-    for (faces, vertices, reason) in rows {
-        let row = Row {
-            faces,
-            vertices: *vertices,
-            wanted: Err(*reason),
-        };
-        check_row(&row, alloc)?;
-    }
-    Ok(())
-}
-
 const MISFITS: [Refused; 5] = [
-    (&[&[0, 1, 2], &[2, 1]], 3, FacesError::FewCorners(1)),
-    (&[&[0, 1, 3]], 3, FacesError::NoVertex(0, 3)),
-    (&[&[0, 1, 1, 2]], 3, FacesError::OneEnd(0, 1)),
+    (
+        &[&[0, 1, 2], &[2, 1]],
+        3,
+        None,
+        Others(FacesError::FewCorners(1)),
+    ),
+    (&[&[0, 1, 3]], 3, None, Others(FacesError::NoVertex(0, 3))),
+    (&[&[0, 1, 1, 2]], 3, None, Others(FacesError::OneEnd(0, 1))),
     (
         &[&[0, 1, 2], &[1, 0, 3], &[0, 1, 4]],
         5,
-        FacesError::SideTwice(0, 2, 0, 1),
+        None,
+        Others(FacesError::SideTwice(0, 2, 0, 1)),
     ),
-    (&[&[0, 1, 2], &[0, 3, 4]], 5, FacesError::BorderTwice(0)),
+    (
+        &[&[0, 1, 2], &[0, 3, 4]],
+        5,
+        None,
+        Others(FacesError::BorderTwice(0)),
+    ),
 ];
 
 #[test]
 fn faces_that_do_not_fit_are_told(rt: HostRuntime) -> Result<(), Fail> {
-    check_refused(rt.alloc(), &MISFITS)
+    check_all_refused(&MISFITS, rt.alloc())
 }
 
 const SURFACES: [Refused; 8] = [
     // A sphere.
-    (&[&[0, 1, 2], &[0, 2, 1]], 3, FacesError::Closed),
+    (
+        &[&[0, 1, 2], &[0, 2, 1]],
+        3,
+        None,
+        Others(FacesError::Closed),
+    ),
     // Two spheres.
     (
         &[&[0, 1, 2], &[0, 2, 1], &[3, 4, 5], &[3, 5, 4]],
         6,
-        FacesError::Closed,
+        None,
+        Others(FacesError::Closed),
     ),
     // Two components.
-    (&[&[0, 1, 2], &[3, 4, 5]], 6, FacesError::Borders),
+    (
+        &[&[0, 1, 2], &[3, 4, 5]],
+        6,
+        None,
+        Others(FacesError::Borders),
+    ),
     // A triangle and a sphere.
     (
         &[&[0, 1, 2], &[3, 4, 5], &[3, 5, 4]],
         6,
-        FacesError::NotConnected(6),
+        None,
+        Others(FacesError::NotConnected(6)),
     ),
     // Moebius's strip: three quadrangles round, the last of which is turned over.
     (
         &[&[0, 1, 4, 3], &[1, 2, 5, 4], &[2, 3, 0, 5]],
         6,
-        FacesError::SideTwice(0, 2, 3, 0),
+        None,
+        Others(FacesError::SideTwice(0, 2, 3, 0)),
     ),
     // An annulus.
     (
         &[&[0, 1, 4, 3], &[1, 2, 5, 4], &[2, 0, 3, 5]],
         6,
-        FacesError::Borders,
+        None,
+        Others(FacesError::Borders),
     ),
     // Two surfaces at one vertex.
     (
@@ -166,7 +171,8 @@ const SURFACES: [Refused; 8] = [
             &[5, 4, 6],
         ],
         7,
-        FacesError::Links(LinksFault::VertexInParts(0)),
+        None,
+        Others(FacesError::Links(LinksFault::VertexInParts(0))),
     ),
     // A torus: seven vertices, of which each two are neighbors. One of the fourteen triangles is
     // left out.
@@ -187,13 +193,14 @@ const SURFACES: [Refused; 8] = [
             &[5, 1, 0],
         ],
         7,
-        FacesError::Links(LinksFault::NotSphere(1)),
+        None,
+        Others(FacesError::Links(LinksFault::NotSphere(1))),
     ),
 ];
 
 #[test]
 fn other_surfaces_are_told(rt: HostRuntime) -> Result<(), Fail> {
-    check_refused(rt.alloc(), &SURFACES)
+    check_all_refused(&SURFACES, rt.alloc())
 }
 
 /// Checks that the links, one after another, are those of the lists.
@@ -208,7 +215,7 @@ fn check_links(dcel: &Dcel<u32>, lists: &LinkLists) -> Result<(), Fail> {
             lists.face.get(number).copied(),
         ];
         same(found, wanted, format_args!("links of half edge {number}"))?;
-        number = number.wrapping_add(1);
+        number = number.saturating_add(1);
     }
     same(number, lists.next.len(), "half edges")
 }
@@ -241,8 +248,7 @@ fn check_mesh(dcel: &Dcel<u32>, alloc: Global) -> Result<(), Fail> {
 
 #[test]
 fn meshes_come_back(rt: HostRuntime) -> Result<(), Fail> {
-    let dcel = mesh_of(&TWO_TRIANGLES, rt.alloc())?;
-    check_mesh(&dcel, rt.alloc())
+    on_row(&TWO_TRIANGLES, rt.alloc(), check_mesh)
 }
 
 /// Checks that a reason is told in these words, alone and with what is given back.

@@ -19,6 +19,10 @@ mod links;
 #[cfg(test)]
 mod memory;
 #[cfg(test)]
+mod on_meshes;
+#[cfg(test)]
 mod regions;
 #[cfg(test)]
 mod removals;
+#[cfg(test)]
+mod walks;

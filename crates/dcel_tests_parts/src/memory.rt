@@ -1,14 +1,15 @@
 //! Meshes in and out, with each request for memory refused in turn.
 
 use crate::faces::{
-    Data, Outcome, Row, check_lists, check_made, check_refused, data_for, faces_of, mesh_of,
-    vertices_of,
+    Data, Outcome, Row, check_lists, check_made, check_refused, data_for, made_of, on_row,
+    vectors_of, vertices_of,
 };
 use dcel_bench::checks::{holds, same};
 use dcel_bench::refusing::{Memory, Refusals, Refusing};
 use dcel_bench::require;
+use dcel_exchange::ClosedFacesError::Others;
 use dcel_exchange::{
-    FacesError, RefusedFaces, anchor_lists, face_lists, from_faces, link_lists, with_data,
+    ClosedFacesError, FacesError, RefusedFaces, anchor_lists, face_lists, link_lists, with_data,
 };
 use spade_dcel::dcel::{Dcel, RemovalState};
 use std::alloc::Global;
@@ -21,47 +22,63 @@ const ROWS: [Row; 2] = [
     Row {
         faces: &[&[0, 1, 2], &[2, 1, 3]],
         vertices: 5,
+        outer: None,
         wanted: Ok(&[2, 5, 4, 6, 0, 9, 8, 1, 3, 7]),
     },
     Row {
         faces: &[&[0, 1, 2], &[3, 0, 1]],
         vertices: 4,
-        wanted: Err(FacesError::SideTwice(0, 1, 0, 1)),
+        outer: None,
+        wanted: Err(Others(FacesError::SideTwice(0, 1, 0, 1))),
     },
 ];
+
+/// A tetrahedron, which is closed.
+const CLOSED: Row = Row {
+    faces: &[&[0, 2, 1], &[0, 1, 3], &[1, 2, 3], &[2, 0, 3]],
+    vertices: 4,
+    outer: Some(1),
+    wanted: Ok(&[2, 10, 4, 6, 0, 9, 8, 1, 3, 11, 7, 5]),
+};
 
 /// Makes the mesh of a row with these requests refused.
 fn make<'a>(
     memory: Memory<'a>,
+    row: &Row,
     faces: &[Vec<u32>],
     vertices: Vec<u32, Memory<'a>>,
     refusals: Refusals,
 ) -> Outcome<Memory<'a>> {
     memory.refuse(refusals);
-    from_faces(memory, vertices, faces)
+    made_of(row, faces, vertices, memory)
 }
 
 /// Makes the mesh of a row of the vertices that came back, once it is checked that they did.
 fn make_of_those_back<'a>(
-    refused: RefusedFaces<Vec<u32, Memory<'a>>>,
+    refused: RefusedFaces<Vec<u32, Memory<'a>>, ClosedFacesError>,
     row: &Row,
     faces: &[Vec<u32>],
     memory: Memory<'a>,
     alloc: Global,
 ) -> Result<(), Fail> {
-    check_refused(&refused, Err(FacesError::OutOfMemory), row.vertices)?;
-    let again = make(memory, faces, refused.back, Refusals::None);
+    check_refused(&refused, Err(Others(FacesError::OutOfMemory)), row.vertices)?;
+    let again = make(memory, row, faces, refused.back, Refusals::None);
     check_made(again, row, alloc)
 }
 
-/// Makes the mesh of a row again, after a request for it was refused.
-fn make_again<'a>(
+/// Checks what came of a row, of which a request was refused or wasn't, and makes its mesh again if
+/// one was.
+fn check_outcome<'a>(
     outcome: Outcome<Memory<'a>>,
+    came: bool,
     row: &Row,
     faces: &[Vec<u32>],
     memory: Memory<'a>,
     alloc: Global,
 ) -> Result<(), Fail> {
+    if !came {
+        return check_made(outcome, row, alloc);
+    }
     match outcome {
         Ok(_) => Err(Fail::new("a mesh is made though a request was refused")),
         Err(refused) => make_of_those_back(refused, row, faces, memory, alloc),
@@ -78,13 +95,9 @@ fn make_refused<'a>(
     alloc: Global,
 ) -> Result<bool, Fail> {
     let vertices = vertices_of(row, memory)?;
-    let outcome = make(memory, faces, vertices, Refusals::One(number));
+    let outcome = make(memory, row, faces, vertices, Refusals::One(number));
     let came = memory.requests() > number;
-    if came {
-        make_again(outcome, row, faces, memory, alloc)?;
-    } else {
-        check_made(outcome, row, alloc)?;
-    }
+    check_outcome(outcome, came, row, faces, memory, alloc)?;
     Ok(came)
 }
 
@@ -106,7 +119,7 @@ fn refuse_each(row: &Row, faces: &[Vec<u32>], alloc: Global) -> Result<(), Fail>
 
 /// Refuses each request for the mesh of a row in turn.
 fn sweep(row: &Row, alloc: Global) -> Result<(), Fail> {
-    let faces = faces_of(row, alloc)?;
+    let faces = vectors_of(row.faces, alloc)?;
     refuse_each(row, &faces, alloc)
 }
 
@@ -116,6 +129,11 @@ fn faces_are_refused_memory(rt: HostRuntime) -> Result<(), Fail> {
         sweep(row, rt.alloc())?;
     }
     Ok(())
+}
+
+#[test]
+fn closed_faces_are_refused_memory(rt: HostRuntime) -> Result<(), Fail> {
+    sweep(&CLOSED, rt.alloc())
 }
 
 /// A call on a mesh, which it leaves as it is.
@@ -156,15 +174,6 @@ fn check_back(data: &Data<Memory>, dcel: &Dcel<u32>, alloc: Global) -> Result<()
     check_data(data, &wanted)
 }
 
-/// Checks that a mesh made again has the links and anchors of the first one.
-fn check_again(
-    again: &Dcel<u32, (), usize, (), Memory>,
-    dcel: &Dcel<u32>,
-    alloc: Global,
-) -> Result<(), Fail> {
-    check_lists(again, dcel, alloc)
-}
-
 /// Makes the mesh again over these data. Returns whether there was memory.
 ///
 /// If there was none, the data come back.
@@ -181,7 +190,7 @@ fn is_made_of<'a>(
             && given.faces.len() == dcel.num_faces()
     );
     match with_data(memory, dcel, given) {
-        Ok(made) => check_again(&made, dcel, alloc).map(|_| true),
+        Ok(made) => check_lists(&made, dcel, alloc).map(|_| true),
         Err(refused) => check_back(&refused.back, dcel, alloc).map(|_| false),
     }
 }
@@ -268,6 +277,7 @@ fn sweep_calls(dcel: &Dcel<u32>, alloc: Global) -> Result<(), Fail> {
 
 #[test]
 fn lists_are_refused_memory(rt: HostRuntime) -> Result<(), Fail> {
-    let dcel = mesh_of(&ROWS[0], rt.alloc())?;
-    sweep_calls(&dcel, rt.alloc())
+    on_row(&ROWS[0], rt.alloc(), |dcel, alloc| {
+        sweep_calls(dcel, alloc)
+    })
 }

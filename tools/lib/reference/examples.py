@@ -23,7 +23,7 @@ SHOWN = {
     "dcel_tests_delaunay::positions::kind_at": ["Triangulation::locate"],
     "dcel_tests_parts::convenience::check_around": ["degree", "dcel_convenience::neighbors"],
     "dcel_tests_parts::convenience::check_removed": ["remove_vertex"],
-    "dcel_tests_parts::exchange::check_faces": ["from_faces"],
+    "dcel_tests_parts::faces::made_of": ["from_faces"],
 }
 
 

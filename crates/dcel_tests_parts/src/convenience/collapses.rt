@@ -1,7 +1,7 @@
 //! Edges that are collapsed, and those that can't be.
 
-use crate::convenience::wheels::{on_triangles, on_wheel};
-use crate::convenience::{INNER, OPEN, on_grown};
+use crate::convenience::{INNER, OPEN};
+use crate::on_meshes::{on_fan, on_grown, on_triangles};
 use dcel_bench::checks::{holds, same};
 use dcel_bench::meshes::{Mesh, counts, half_edge, vertex};
 use dcel_bench::require;
@@ -70,7 +70,7 @@ fn check_wheel(dcel: &mut Mesh, corners: usize, alloc: Global) -> Result<(), Fai
 #[test]
 fn vertices_go_into_their_neighbors(rt: HostRuntime) -> Result<(), Fail> {
     for rim in &[3u32, 4, 6, 40] {
-        on_wheel(*rim, rt.alloc(), |dcel, alloc| {
+        on_fan(*rim, true, rt.alloc(), |dcel, alloc| {
             check_wheel(dcel, *rim as usize, alloc)
         })?;
     }
