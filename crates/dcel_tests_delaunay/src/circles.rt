@@ -16,7 +16,6 @@ use std::test::Fail;
 
 /// A mesh by the places of its vertices and the corners of its inner faces, whether it is Delaunay
 /// at its edges, and whether it is a Delaunay triangulation.
-#[derive(Clone, Copy, Drop)]
 struct Row {
     places: &'static [Place],
     faces: &'static [&'static [u32]],
@@ -121,22 +120,24 @@ const TRIANGULATIONS: [Row; 11] = [
 fn corners_of(faces: &[&[u32]], alloc: Global) -> Result<Vec<Vec<u32>>, AllocError> {
     let mut lists = Vec::new(alloc);
     for corners in faces {
-        let mut list = Vec::new(alloc);
-        list.extend_from_slice(corners)?;
-        lists.push(list)?;
+        lists.push(Vec::from_slice(alloc, corners)?)?;
     }
     Ok(lists)
+}
+
+fn mesh_with(places: &[Place], faces: &[Vec<u32>], alloc: Global) -> Result<Dcel<Point>, Fail> {
+    let points = points_at(places, alloc)?;
+    match from_faces(alloc, points, faces) {
+        Ok(dcel) => Ok(dcel),
+        Err(_) => Err(Fail::new("the faces are refused")),
+    }
 }
 
 /// Returns the mesh of vertices at these places and of inner faces with these corners. Its edges are
 /// numbered as the faces come to them.
 pub fn mesh_of(places: &[Place], faces: &[&[u32]], alloc: Global) -> Result<Dcel<Point>, Fail> {
-    let points = points_at(places, alloc)?;
     let faces = corners_of(faces, alloc)?;
-    match from_faces(alloc, points, &faces) {
-        Ok(dcel) => Ok(dcel),
-        Err(_) => Err(Fail::new("the faces are refused")),
-    }
+    mesh_with(places, &faces, alloc)
 }
 
 fn check_mesh(dcel: &Dcel<Point>, wanted: (bool, bool)) -> Result<(), Fail> {
@@ -169,11 +170,16 @@ fn flip(dcel: &mut Dcel<Point>, due: &mut Vec<FixedUndirectedEdgeHandle>) -> Res
     holds(is_delaunay(dcel), "circles are empty")
 }
 
+fn flip_listed(dcel: &mut Dcel<Point>, alloc: Global) -> Result<(), Fail> {
+    let mut due = Vec::new(alloc);
+    flip(dcel, &mut due)
+}
+
 #[test]
 fn the_long_diagonal_is_flipped(rt: HostRuntime) -> Result<(), Fail> {
     // Edge 0 leads along the length of the kite.
     let mut dcel = mesh_of(&KITE, &[&[1, 0, 2], &[0, 1, 3]], rt.alloc())?;
-    flip(&mut dcel, &mut Vec::new(rt.alloc()))
+    flip_listed(&mut dcel, rt.alloc())
 }
 
 /// A path is Delaunay at its edges, since it has no triangle, and no triangulation.

@@ -159,25 +159,38 @@ fn scales() -> Result<(), Fail> {
     Ok(())
 }
 
-/// The least scale of some numbers, and a number divided by it.
-fn check_least(texts: [&str; 3], scale: u64, number: i32, divided: &str) -> Result<(), Fail> {
-    let [a, b, c] = texts;
-    let decimals = [Decimal::read(a)?, Decimal::read(b)?, Decimal::read(c)?];
-    let least = Scale::least(&decimals).ok_or("no scale")?;
-    same(least.factor(), scale, a)?;
-    let number = i64::from(number);
-    same(
-        Decimal::from_scaled(number, least),
-        Decimal::read(divided)?,
-        a,
-    )
+/// Numbers, their least scale, and a number that is divided by it.
+const LEAST: [([&str; 3], u64, i32, &str); 3] = [
+    (["1", "2e3", "-30"], 1, 70, "70"),
+    (["1", "0.250", "-1.5"], 100, -150, "-1.5"),
+    (["0.1", "1e-18", "5"], 1_000_000_000_000_000_000, 0, "0"),
+];
+
+fn least_of(a: Decimal, b: Decimal, c: Decimal) -> Option<Scale> {
+    Scale::least(&[a, b, c])
+}
+
+fn least_of_texts([a, b, c]: [&str; 3]) -> Result<Scale, Fail> {
+    let a = Decimal::read(a)?;
+    let b = Decimal::read(b)?;
+    let c = Decimal::read(c)?;
+    Ok(least_of(a, b, c).ok_or("no scale")?)
+}
+
+fn check_least(texts: [&str; 3], factor: u64, number: i32, divided: &str) -> Result<(), Fail> {
+    let least = least_of_texts(texts)?;
+    same(least.factor(), factor, divided)?;
+    let wanted = Decimal::read(divided)?;
+    let found = Decimal::from_scaled(i64::from(number), least);
+    same(found, wanted, divided)
 }
 
 #[test]
 fn least_scales() -> Result<(), Fail> {
-    check_least(["1", "2e3", "-30"], 1, 70, "70")?;
-    check_least(["1", "0.250", "-1.5"], 100, -150, "-1.5")?;
-    check_least(["0.1", "1e-18", "5"], 1_000_000_000_000_000_000, 0, "0")
+    for (texts, factor, number, divided) in &LEAST {
+        check_least(*texts, *factor, *number, divided)?;
+    }
+    Ok(())
 }
 
 #[test]

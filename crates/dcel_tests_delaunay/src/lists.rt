@@ -144,6 +144,18 @@ fn check_points(found: &[Point], places: &[Place]) -> Result<(), Fail> {
     Ok(())
 }
 
+/// Returns whether a hull goes along this side.
+fn is_along(hull: &[u32], side: [u32; 2]) -> bool {
+    let mut before = hull.last().copied();
+    for number in hull {
+        if before == Some(side[0]) && *number == side[1] {
+            return true;
+        }
+        before = Some(*number);
+    }
+    false
+}
+
 /// Returns whether a side, as seen from a triangle, is one of another triangle or of the hull, there
 /// the other way round or the same way.
 fn fits(lists: &Lists, across: Option<u32>, [from, to]: [u32; 2]) -> bool {
@@ -152,14 +164,7 @@ fn fits(lists: &Lists, across: Option<u32>, [from, to]: [u32; 2]) -> bool {
             Some(other) => sides(*other).contains(&[to, from]),
             None => false,
         },
-        None => {
-            let ends = lists.hull.iter().skip(1).chain(lists.hull.iter().take(1));
-            lists
-                .hull
-                .iter()
-                .zip(ends)
-                .any(|(start, end)| [*start, *end] == [from, to])
-        }
+        None => is_along(&lists.hull, [from, to]),
     }
 }
 
@@ -193,16 +198,20 @@ fn check_lists(lists: &Lists, row: &Row, alloc: Global) -> Result<(), Fail> {
     check_hull(&lists.hull, row.hull, alloc)
 }
 
-fn check_row(triangulation: &Triangulation, row: &Row, alloc: Global) -> Result<(), Fail> {
+fn check_in(triangulation: &Triangulation, row: &Row, alloc: Global) -> Result<(), Fail> {
     let lists = lists_of(triangulation, alloc)?;
     check_lists(&lists, row, alloc)
+}
+
+fn check_row(row: &Row, alloc: Global) -> Result<(), Fail> {
+    let triangulation = numbered(row.places, alloc)?;
+    check_in(&triangulation, row, alloc)
 }
 
 #[test]
 fn lists_are_those_of_small_triangulations(rt: HostRuntime) -> Result<(), Fail> {
     for row in &ROWS {
-        let triangulation = numbered(row.places, rt.alloc())?;
-        check_row(&triangulation, row, rt.alloc())?;
+        check_row(row, rt.alloc())?;
     }
     Ok(())
 }

@@ -2,7 +2,7 @@
 //! memory refused in turn. What a refusal leaves undone is done afterwards.
 
 use crate::circles::mesh_of;
-use crate::triangulations::counts;
+use crate::triangulations::{counts, length};
 use dcel_bench::checks::{holds, same};
 use dcel_bench::meshes::{handles, vertex};
 use dcel_bench::refusing::{Memory, Refusals, Refusing};
@@ -279,7 +279,7 @@ fn list_refused(
     memory.refuse(Refusals::None);
     same(is_listed, !came, format_args!("request {number} refused"))?;
     same(is_reported, !came, format_args!("request {number} refused"))?;
-    same(triangulate(memory, points)?.len(), wanted, "triangles")?;
+    same(length(triangulate(memory, points))?, wanted, "triangles")?;
     Ok(came)
 }
 
@@ -343,16 +343,16 @@ fn count_made<'a>(
     if !triangulation.is_whole() {
         return Err(AllocError);
     }
-    Ok(match made {
-        Made::Points => points(memory, mesh)?.len(),
-        Made::Triangles => triangles(memory, mesh)?.len(),
-        Made::Neighbors => neighbors(memory, mesh)?.len(),
-        Made::Edges => edges(memory, mesh)?.len(),
-        Made::Hull => hull(memory, mesh)?.len(),
-        Made::Positions => triangulation.locate_all(memory, asked)?.len(),
-        Made::Nearest => triangulation.nearest_all(memory, asked)?.len(),
-        Made::Clone => triangulation.try_clone(memory)?.dcel().num_vertices(),
-    })
+    match made {
+        Made::Points => length(points(memory, mesh)),
+        Made::Triangles => length(triangles(memory, mesh)),
+        Made::Neighbors => length(neighbors(memory, mesh)),
+        Made::Edges => length(edges(memory, mesh)),
+        Made::Hull => length(hull(memory, mesh)),
+        Made::Positions => length(triangulation.locate_all(memory, asked)),
+        Made::Nearest => length(triangulation.nearest_all(memory, asked)),
+        Made::Clone => Ok(triangulation.try_clone(memory)?.dcel().num_vertices()),
+    }
 }
 
 /// Makes it with the request of this number refused. Returns whether it came.
@@ -412,10 +412,14 @@ fn refuse_made<'a>(
     Ok(())
 }
 
+fn check_asked(asked: &[Point], memory: Memory) -> Result<(), Fail> {
+    let triangulation = numbered(&SQUARE, memory)?;
+    refuse_made(&triangulation, asked, memory)
+}
+
 fn check_made(memory: Memory, alloc: Global) -> Result<(), Fail> {
     let asked = points_at(&SQUARE, alloc)?;
-    let triangulation = numbered(&SQUARE, memory)?;
-    refuse_made(&triangulation, &asked, memory)
+    check_asked(&asked, memory)
 }
 
 #[test]

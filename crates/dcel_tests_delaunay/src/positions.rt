@@ -136,19 +136,27 @@ fn positions_of(
     Ok(triangulation.locate_all(alloc, &points)?)
 }
 
+fn check_positions(
+    triangulation: &Triangulation,
+    located: &[Located],
+    positions: &[PositionInTriangulation],
+) -> Result<(), Fail> {
+    same(positions.len(), located.len(), "positions")?;
+    for ((place, wanted), position) in located.iter().zip(positions) {
+        check_place(triangulation, (*place, *wanted))?;
+        let found = kind(*position);
+        same(found, *wanted, format_args!("{place:?} among all"))?;
+    }
+    Ok(())
+}
+
 fn check_located(
     triangulation: &Triangulation,
     located: &[Located],
     alloc: Global,
 ) -> Result<(), Fail> {
     let positions = positions_of(triangulation, located, alloc)?;
-    same(positions.len(), located.len(), "positions")?;
-    for ((place, wanted), position) in located.iter().zip(&positions) {
-        check_place(triangulation, (*place, *wanted))?;
-        let found = kind(*position);
-        same(found, *wanted, format_args!("{place:?} among all"))?;
-    }
-    Ok(())
+    check_positions(triangulation, located, &positions)
 }
 
 fn check_case((vertices, located): Case, alloc: Global) -> Result<(), Fail> {
