@@ -8,7 +8,7 @@ use std::test::Fail;
 /// Lines, and then the anchors of the vertices and of the faces, each of which has one.
 type Row = (&'static str, &'static [u32], &'static [u32]);
 
-const ROWS: [Row; 16] = [
+const ROWS: [Row; 18] = [
     ("append 0\nappend 1\nsetup 1 0", &[1, 0], &[0]),
     (
         "append 0\nappend 1\nsetup 0 1\nappend 2\nextend 1 2\nappend 3\nextend 0 3",
@@ -68,6 +68,17 @@ const ROWS: [Row; 16] = [
         "triangle 0 1 2\nappend 3\nsplit 3 3",
         &[0, 8, 4, 2],
         &[6, 3, 8, 10],
+    ),
+    // Flips move anchors on.
+    (
+        "triangle 0 1 2\nappend 3\ninsert 3 1\nflip 3",
+        &[5, 2, 4, 11],
+        &[0, 6, 7, 3],
+    ),
+    (
+        "triangle 0 1 2\nappend 3\ninsert 3 1\nflip 0",
+        &[6, 2, 4, 7],
+        &[0, 1, 5, 3],
     ),
 ];
 

@@ -1,7 +1,7 @@
 //! Removals from the opening to the end: what openers return and leave, and what cleanup makes of
 //! it.
 
-use crate::flips::FLIPPED_TWICE;
+use crate::links::FLIPPED_TWICE;
 use dcel_bench::checks::{holds, same};
 use dcel_bench::data::{Datum, write_all};
 use dcel_bench::lines::{CUT, grown, opened};
