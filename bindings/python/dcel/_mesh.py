@@ -152,6 +152,22 @@ class Dcel:
         library.dcel_from_faces(made._mesh, *data, *listed(row), *listed(lengths), fault)
         return made
 
+    @classmethod
+    def from_triangles(cls, triangles: Iterable[Any], vertices: Iterable[int] | int | None = None) -> Self:
+        """The mesh of these triangles, as `from_faces` makes it: an array of shape (m, 3), such as the `simplices` of a `Delaunay`, or any
+        rows of three corners, counterclockwise. Raises Faulty, OutOfMemory; ValueError for a row that isn't three corners.
+
+        `vertices` are the data of the vertices, or how many there are; None for as many as the corners have. Without data the datum of a
+        vertex is its number."""
+        row, lengths = corners_of(triangles, None)
+        if any(length != 3 for length in lengths):
+            place = next(it for it, length in enumerate(lengths) if length != 3)
+            raise ValueError(f"triangles: row {place} has {lengths[place]} corners, and not 3")
+        if vertices is None:
+            vertices = max(row, default=-1) + 1
+        data = vertices if isinstance(vertices, Iterable) else range(number(vertices))
+        return cls.from_faces(data, row, lengths)
+
     # Whole meshes.
 
     def close(self) -> None:

@@ -7,7 +7,7 @@ from array import array
 from collections.abc import Callable, Iterable
 from typing import Any
 
-from dcel import Dcel, Fault, FaultKind, Faulty, Status
+from dcel import Dcel, Delaunay, Fault, FaultKind, Faulty, Status
 from meshes import opened, round_, triangle
 
 try:
@@ -60,6 +60,24 @@ class Given(unittest.TestCase):
         self.assertEqual([made.from_(edge) for edge in made.face_edges(2)], [3, 2, 1])
         self.assertEqual((made.vertex_data(4), made.face_data(2)), (5, 0))
         self.assertEqual(repr(Dcel.from_faces([], [], [])), "<Dcel: 0 vertices, 0 edges, 1 faces>")
+
+    def test_triangles(self) -> None:
+        made = Dcel.from_triangles([CORNERS[:3], CORNERS[3:]], [5, 6, 7, 8])
+        self.assertEqual(made.directed_edges().flat, Dcel.from_faces([5, 6, 7, 8], CORNERS, COUNTS).directed_edges().flat)
+        self.assertEqual(made.vertex_data(3), 8)
+        for given in self.tables():
+            with self.subTest(form=type(given)):
+                made = Dcel.from_triangles(given)
+                self.assertEqual((repr(made), made.vertex_data(3)), ("<Dcel: 4 vertices, 5 edges, 3 faces>", 3))
+        self.assertEqual(repr(Dcel.from_triangles([[0, 1, 2]], 5)), "<Dcel: 5 vertices, 3 edges, 2 faces>")
+        self.assertEqual(repr(Dcel.from_triangles([])), "<Dcel: 0 vertices, 0 edges, 1 faces>")
+        self.assertEqual(self.fault(Dcel.from_triangles, [[0, 1, 2]], 2).kind, FaultKind.NO_VERTEX)
+        with self.assertRaisesRegex(ValueError, "triangles: row 1 has 4 corners, and not 3"):
+            Dcel.from_triangles([[0, 1, 2], [0, 2, 3, 4]])
+        with self.assertRaises(OverflowError):
+            Dcel.from_triangles([[0, 1, 2]], -1)
+        points = Delaunay([(0, 0), (4, 0), (4, 4), (0, 4), (1, 2)])
+        self.assertEqual(repr(Dcel.from_triangles(points.simplices)), "<Dcel: 5 vertices, 8 edges, 5 faces>")
 
     def tables(self) -> Iterable[Any]:
         """The two triangles as rows, in each form that a caller may have."""
