@@ -30,20 +30,24 @@ def body_of(code, begin, end):
     """Where the body of a function begins, behind its brace: below its clauses the brace has a line of its own, indented as the function is.
     None where there is no such place, or where the body gives the result its type."""
     indent = re.match(r"[ \t]*", code[begin:])[0]
-    brace = re.compile(rf"(?m)^{indent}\{{$").search(code, begin, end) or re.compile(r"(?m)\{$").search(code, begin, end)
+    brace = re.compile(rf"(?m)^{indent}\{{$").search(code, begin, end)
     if not brace:
-        return None
-    is_clause = brace[0] == "{" and re.search(r"\b(requires|ensures|ghost)\b", code[begin : brace.start()]) and code[brace.start() - 1] != "\n"
-    return None if is_clause or "-> impl " in code[begin : brace.start()] else brace.end()
+        brace = re.compile(r"(?m)\{$").search(code, begin, end)
+        if not brace or re.search(r"\b(requires|ensures|ghost)\b", code[begin : brace.start()]):
+            return None
+    return None if "-> impl " in code[begin : brace.start()] else brace.end()
 
 
 def hollow(text, types, closed):
     """The text of a file whose crate declares these types, in which all functions but the closed ones never return, on as many lines. What
-    calls them rests on their contracts, and the borrow checker has less to do."""
-    code, found = code_of(text), functions_of(text, types)
-    for name, _, begin, end in reversed(found):
+    calls them rests on their contracts, and the borrow checker has less to do. Functions of traits stay as they are: the folder of such a
+    one may have another name than is known here, and with its body it needs no hole."""
+    found = functions_of(text, types)
+    code = code_of(text)
+    for name, owner, begin, end in reversed(found):
         is_declared = any(begin < it[2] < end for it in found)
-        body = None if name in closed or is_declared else body_of(code, begin, end)
+        is_kept = name in closed or is_declared or (owner and owner not in types)
+        body = None if is_kept else body_of(code, begin, end)
         lines = text.count("\n", body, end) if body else 0
         if lines > 1:
             text = f"{text[:body]}\nloop {{}}" + "\n" * (lines - 1) + text[end:]
