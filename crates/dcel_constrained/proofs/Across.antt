@@ -1,12 +1,12 @@
 -- Where a segment crosses a part of another one, it crosses that.
-use Rattle.std.proofs.Common.{◌≡◌, ◌⊎◌, inl, inr, ℕ, ℤ, pos, ◌+ℤ◌, ◌-ℤ◌, ◌*ℤ◌, ◌<ℤ◌, ◌≤ℤ◌, refl, sym, ap, subst, arith}
+use Rattle.std.proofs.Common.{◌≡◌, ◌⊎◌, inl, inr, ℕ, ℤ, pos, ◌+ℤ◌, ◌-ℤ◌, ◌*ℤ◌, ◌<ℤ◌, ◌≤ℤ◌, refl, subst, arith}
 use Rattle.std.proofs.lemmas.Int.{by_lt_z}
 use Rattle.dcel_predicates.specs.declared.point.Point.{Point}
 use Rattle.dcel_predicates.specs.Determinants.{orient2d_of}
-use Rattle.dcel_predicates.proofs.Signs.{both_negative, negative_times, ordered, times, times_negative, times_positive}
+use Rattle.dcel_predicates.proofs.Signs.{both_negative, factor_positive, negative_times, ordered, times, times_negative, times_positive}
 use Rattle.dcel_plane.specs.covering.Covering.{dot}
 use Rattle.dcel_plane.proofs.covering.Along.{long, none_first}
-use Rattle.dcel_plane.proofs.covering.Products.{factor_positive, times_below}
+use Rattle.dcel_plane.proofs.covering.Products.{times_below}
 use Rattle.dcel_plane.specs.segments.Segments.{orient2d_by}
 use Rattle.dcel_constrained.specs.Constraints.{LiesOnSegment}
 use Rattle.dcel_constrained.specs.Loading.{AreOnBothSides, DoCross}

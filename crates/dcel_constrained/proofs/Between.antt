@@ -6,13 +6,13 @@ use Rattle.dcel_predicates.specs.Determinants.{orient2d_of}
 use Rattle.dcel_predicates.proofs.Integers.{mul_sub, sub_mul}
 use Rattle.dcel_predicates.proofs.Points.{orient2d-first_swapped}
 use Rattle.dcel_predicates.proofs.Ring.{Term, by_terms, minus, num, plus, times as by, var}
-use Rattle.dcel_predicates.proofs.Signs.{both_negative, ordered, square, times, times_positive}
+use Rattle.dcel_predicates.proofs.Signs.{both_negative, factor_positive, ordered, square, times, times_positive}
 use Rattle.dcel_predicates.proofs.Terms.{orient, spot}
 use Rattle.dcel_maps.specs.Shapes.{IsLive, Shape, end_of, origin_of}
 use Rattle.dcel_plane.specs.covering.Covering.{dot}
 use Rattle.dcel_plane.proofs.covering.Along.{IsBetween, by_place, dot_in, dot_start, long, none_first, none_second}
 use Rattle.dcel_plane.proofs.covering.Inside.{apart_end, apart_start, on_end, on_start}
-use Rattle.dcel_plane.proofs.covering.Products.{below_times, factor_positive, times_below}
+use Rattle.dcel_plane.proofs.covering.Products.{below_times, times_below}
 use Rattle.dcel_plane.specs.segments.Segments.{Crosses, LeadsAlong, orient2d_by}
 use Rattle.dcel_constrained.specs.Constraints.{LiesOnSegment}
 use Rattle.dcel_constrained.specs.Meeting.{LiesBetweenEnds}
@@ -57,7 +57,7 @@ further_below a b ha hb =
     squares : b *ℤ b ≡ (a *ℤ a) +ℤ ((a -ℤ b) *ℤ ((pos 0 -ℤ a) -ℤ b))
     squares = by_terms (a ∷ b ∷ []) (by (var 1) (var 1)) (plus (by (var 0) (var 0)) (by (minus (var 0) (var 1)) (minus (minus (num (pos 0)) (var 0)) (var 1)))) refl
 
-abs_less : (x y : ℤ) → pos 0 ≤ℤ x → x <ℤ y → unsigned_abs x < unsigned_abs y
+pub abs_less : (x y : ℤ) → pos 0 ≤ℤ x → x <ℤ y → unsigned_abs x < unsigned_abs y
 abs_less x y more less = omega (arith, ints)
 
 -- two points with one between them are apart

@@ -14,8 +14,8 @@ use Rattle.dcel_maps.proofs.Liveness.{even_live}
 use Rattle.dcel_maps.proofs.edits.Flips.{at_flip}
 use Rattle.dcel_maps.proofs.words.Counts.{count-other, count-same}
 use Rattle.dcel_maps.proofs.words.EachSet.{length-two_set, other-two_set}
-use Rattle.dcel_plane.specs.Plane.{IsCircled, IsInner, TrianglesTurnLeft, TurnsLeft, origin_point, point_at}
-use Rattle.dcel_plane.proofs.edits.Flipped.{circled_can_flip, from_end, from_start, new_corners, origin_after, origin_same, origin_t_after}
+use Rattle.dcel_plane.specs.Plane.{TurnsLeft, origin_point, point_at}
+use Rattle.dcel_plane.proofs.edits.Flipped.{from_end, from_start, origin_after, origin_same, origin_t_after}
 use Rattle.dcel_plane.specs.covering.Covering.{dot}
 use Rattle.dcel_plane.specs.removal.Wheels.{CanFlipInPlane}
 use Rattle.dcel_plane.specs.segments.Segments.{CanTurnEach, Crosses, TriangulatesItsHull, LeadsAlong, TurnsInto, flipped_each, orient2d_by}
@@ -26,14 +26,6 @@ use Rattle.dcel_regions.specs.Marked.{IsMarked}
 use Rattle.dcel_regions.specs.declared.mark.Mark.{Mark}
 use Rattle.dcel_regions.specs.declared.mark.Mark.TheVariants.{Constraint}
 use Rattle.dcel_constrained.specs.Constraints.{IsFreeWay, IsMarkedWay, KeepsMarked, TurnsFree}
-
--- an edge whose circle test is positive can be flipped so that both triangles go round counterclockwise again
-pub circled_can_turn : {V DE UE F : Type 0} (at : ℕ → Point) (m : Mesh V DE UE F) (u : ℕ) → IsMesh m → TrianglesTurnLeft at m.shape → IsInner m.shape u → IsCircled at m.shape u
-    → CanFlipInPlane at m.shape u
-circled_can_turn at m u mesh plane inner circled =
-    let can = circled_can_flip m mesh u at inner circled in
-    let new = new_corners m mesh u can at plane inner.inner inner.inner_facing circled in
-    record { can = can; inner = inner.inner; inner_facing = inner.inner_facing; first = new.first; second = new.second }
 
 -- flips after others
 flipped-after : {V DE UE F : Type 0} (m : Mesh V DE UE F) (a b : List ℕ) → flipped_each m (a ++ b) ≡ flipped_each (flipped_each m a) b

@@ -20,7 +20,8 @@ use Rattle.dcel_plane.specs.Plane.{point_at}
 use Rattle.dcel_plane.specs.segments.Segments.{CanTurnEach, TriangulatesItsHull, flipped_each}
 use Rattle.dcel_plane.proofs.segments.Becoming.{turned_planar}
 use Rattle.dcel_constrained.specs.Constraints.{ListsFree, TurnsFree}
-use Rattle.dcel_constrained.proofs.Free.{circled_can_turn, even_stays, odd_stays}
+use Rattle.dcel_plane.proofs.segments.Wholly.{circled_can_turn}
+use Rattle.dcel_constrained.proofs.Free.{even_stays, odd_stays}
 use Rattle.dcel_constrained.specs.Splitting.{StaysMarked}
 
 of_map : (o : Option Mark) → option_map is_constraint o ≡ Some true → o ≡ Some Constraint

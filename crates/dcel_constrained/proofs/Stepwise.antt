@@ -1,7 +1,6 @@
 -- A segment made an edge by flips, one after another: what each of them keeps.
-use Rattle.std.proofs.Common.{◌≡◌, ℕ, suc, ◌/◌, ◌<◌, List, [], ◌∷◌, ◌++◌, take, drop, Some, slice_get, slice_index_or, refl, sym, ap, ◌∙◌, subst, ◌≢◌, inl, inr, ℤ, pos, ◌<ℤ◌, ◌≤ℤ◌, unsigned_abs, arith}
+use Rattle.std.proofs.Common.{◌≡◌, ℕ, suc, ◌/◌, ◌<◌, List, [], ◌∷◌, ◌++◌, take, drop, Some, slice_get, slice_index_or, refl, sym, ap, ◌∙◌, subst, ◌≢◌, inl, inr, ℤ, pos, ◌<ℤ◌, unsigned_abs, arith}
 use Rattle.std.proofs.lemmas.Bool.{cases_eq}
-use Rattle.std.proofs.lemmas.Int.{ints}
 use Rattle.std.proofs.lemmas.Option.{slice_get_within}
 use Rattle.dcel_predicates.specs.declared.point.Point.{Point}
 use Rattle.dcel_maps.specs.edits.Flip.{edge_flipped}
@@ -17,6 +16,7 @@ use Rattle.dcel_plane.proofs.segments.Channels.{all_cross}
 use Rattle.dcel_plane.proofs.segments.Peaks.{empty_joins, some_width}
 use Rattle.dcel_plane.proofs.segments.Stepping.{can_turn, flipped-append, lists_left, old_edge, planar_still, sides_left, step, turns-append}
 use Rattle.dcel_constrained.specs.Channels.{AreLive, HasVertices, IsLeftAt, IsNarrowerBefore, IsNotWiderAfter}
+use Rattle.dcel_constrained.proofs.Between.{abs_less}
 use Rattle.dcel_constrained.proofs.Places.{first_after, last_before, parted}
 
 -- what a list of half edges that cross the segment says of them
@@ -39,9 +39,6 @@ before_there at s v w list place h there narrow before k is =
 pub after_there : (at : ℕ → Point) (s : Shape) (v w : ℕ) (list : List ℕ) (place h : ℕ) → slice_get list place ≡ Some h → IsNotWiderAfter at s v w list place
     → NotWiderAfter at s v w h (drop (suc place) list)
 after_there at s v w list place h there wide k after is = wide h k there (first_after list place k after is)
-
-abs_less : (x y : ℤ) → pos 0 ≤ℤ x → x <ℤ y → unsigned_abs x < unsigned_abs y
-abs_less x y least less = omega (arith, ints)
 
 -- what the signs of two offsets say of a half edge once it is flipped
 module _ (at : ℕ → Point) (s : Shape) (v w h x y : ℕ) (near far : ℤ) (near_is : x ≡ corner_before s h) (far_is : y ≡ corner_beyond s h)

@@ -1,5 +1,5 @@
 -- A vertex removed: what a vertex inside has, and what is told of it from before edges were flipped to after.
-use Rattle.std.proofs.Common.{◌≡◌, inl, inr, ℕ, ◌-◌, ◌<◌, ◌==◌, cond, List, Option, Some, None, Result, Ok, Err, OnErr, slice_get, slice_index_or, sym, ap, ◌∙◌, subst, eq-zero-or-pos, arith}
+use Rattle.std.proofs.Common.{◌≡◌, inl, inr, ℕ, ◌-◌, ◌<◌, ◌==◌, cond, List, Option, Some, None, slice_get, slice_index_or, sym, ap, ◌∙◌, subst, eq-zero-or-pos, arith}
 use Rattle.std.proofs.lemmas.Bool.{cases_lt}
 use Rattle.dcel_fixed.specs.HalfEdges.{rev}
 use Rattle.dcel_maps.specs.Conditions.{HasRoom}
@@ -17,11 +17,6 @@ use Rattle.dcel_planar.specs.Growing.{HasHull, IsDelaunayBut}
 use Rattle.dcel_delaunay.specs.Removing.{HasNoneToTurn, IsInnerVertex, IsThinnedOut, Loses}
 use Rattle.dcel_delaunay.specs.declared.removed.Removed.{Removed}
 use Rattle.dcel_planar.proofs.Counting.{joined_all}
-
--- what holds anyway holds where there is an error
-pub on_err : {X E : Type 0} (r : Result X E) (P : Type 0) → P → OnErr r P
-on_err (Ok x) P holds = tt
-on_err (Err e) P holds = holds
 
 module _ {DE UE F : Type 0} where
   -- where a triangle is there are two vertices

@@ -1,14 +1,12 @@
 -- Points on the sides of a triangle, and at its corners.
-use Rattle.std.proofs.Common.{◌≡◌, ◌≢◌, ◌∙◌, ℕ, ◌<◌, Some, refl, sym, ap, subst, pos, ◌-ℤ◌, ◌<ℤ◌, arith}
+use Rattle.std.proofs.Common.{◌≡◌, ◌≢◌, ◌∙◌, ℕ, ◌<◌, Some, refl, sym, ap, subst, pos, ◌<ℤ◌, arith}
 use Rattle.std.proofs.lemmas.Option.{slice_get-get_or}
-use Rattle.std.proofs.Math.IntN.{*ℤ_comm}
 use Rattle.dcel_fixed.specs.HalfEdges.{rev}
-use Rattle.dcel_fixed.proofs.Halves.{rev-rev}
 use Rattle.dcel_predicates.specs.declared.point.Point.{Point}
 use Rattle.dcel_predicates.specs.declared.line.Side.{Side}
 use Rattle.dcel_predicates.specs.declared.line.Side.TheVariants.{Left, On, Right}
 use Rattle.dcel_predicates.specs.Determinants.{orient2d_of}
-use Rattle.dcel_predicates.proofs.Points.{point_same, orient2d-first_swapped, orient2d-last_swapped, orient2d-turned}
+use Rattle.dcel_predicates.proofs.Points.{point_same, orient2d-last_swapped, orient2d-turned}
 use Rattle.dcel_predicates.proofs.Signs.{ordered}
 use Rattle.dcel_maps.specs.Conditions.{IsTriangle}
 use Rattle.dcel_maps.specs.Shapes.{IsLive, IsMesh, Mesh, Shape, end_of, face_of, map_of, next_of, origin_of, prev_of}
@@ -22,28 +20,11 @@ use Rattle.dcel_plane.proofs.covering.Along.{one_point}
 use Rattle.dcel_plane.proofs.covering.Inside.{on_end}
 use Rattle.dcel_plane.proofs.covering.Triangles.{is_triangle, round}
 use Rattle.dcel_plane.specs.location.Locating.{HasBeyond, LiesOn, StandsAt}
-use Rattle.dcel_plane.proofs.location.Ways.{between_of, left_of_both}
+use Rattle.dcel_plane.proofs.location.Ways.{between_of, left_of_both, lies_back}
 use Rattle.dcel_maps.proofs.maps.Soundness.{rev_live}
 use Rattle.dcel_planar.specs.Growing.{IsTriangleMesh}
 use Rattle.dcel_planar.specs.Places.{LiesAtSides, HasLeft, HasPoint, IsAcross, IsOnLine, LiesAt}
 use Rattle.dcel_planar.proofs.Sides.{lies_across, lies_inside}
-
--- a point between the ends of a half edge lies between those of its other half
-pub lies_back : (at : ℕ → Point) (s : Shape) (p : Point) (h : ℕ) → LiesOn at s p h → LiesOn at s p (rev h)
-lies_back at s p h lies =
-    let a = at (origin_of s h) in
-    let b = at (end_of s h) in
-    let on = lies.on in
-    let apart = lies.between in
-    let turn = orient2d-first_swapped a b p in
-    let x = *ℤ_comm (a.x -ℤ p.x) (b.x -ℤ p.x) in
-    let y = *ℤ_comm (a.y -ℤ p.y) (b.y -ℤ p.y) in
-    let on_too : orient2d_of b a p ≡ pos 0 = omega (arith, ordered, turn, on) in
-    let apart_too : dot b a p <ℤ pos 0 = omega (arith, ordered, apart, x, y) in
-    record {
-      on = subst (λ (i : ℕ). orient2d_of b (at (origin_of s i)) p ≡ pos 0) (sym (rev-rev h)) on_too;
-      between = subst (λ (i : ℕ). dot b (at (origin_of s i)) p <ℤ pos 0) (sym (rev-rev h)) apart_too;
-    }
 
 -- a point on two sides of a triangle stands at their corner
 pub at_corner : (a b c p : Point) → TurnsLeft a b c → orient2d_of a b p ≡ pos 0 → orient2d_of b c p ≡ pos 0 → (b.x ≡ p.x) × (b.y ≡ p.y)

@@ -6,7 +6,7 @@ use Rattle.std.proofs.Math.IntN.{*ℤ-zero}
 use Rattle.dcel_fixed.specs.HalfEdges.{rev}
 use Rattle.dcel_predicates.specs.Determinants.{orient2d_of, incircle_of}
 use Rattle.dcel_predicates.specs.declared.point.Point.{Point}
-use Rattle.dcel_predicates.proofs.Convex.{incircle-turned}
+use Rattle.dcel_predicates.proofs.Points.{incircle-turned}
 use Rattle.dcel_predicates.proofs.Points.{orient2d-first_swapped, orient2d-turned}
 use Rattle.dcel_predicates.proofs.Ring.{by_terms, minus, plus, times as by, var}
 use Rattle.dcel_predicates.proofs.Signs.{ordered, square, times_positive}

@@ -9,11 +9,11 @@ use Rattle.dcel_predicates.specs.declared.point.Point.{Point}
 use Rattle.dcel_predicates.proofs.Integers.{mul_sub}
 use Rattle.dcel_predicates.proofs.Points.{orient2d-turned}
 use Rattle.dcel_predicates.proofs.Ring.{by_terms, minus, num, plus, times as by, var}
-use Rattle.dcel_predicates.proofs.Signs.{both_negative, ordered, times, times_positive}
+use Rattle.dcel_predicates.proofs.Signs.{both_negative, factor_positive, ordered, times, times_positive}
 use Rattle.dcel_predicates.proofs.Terms.{orient, orient_in, place, spot}
 use Rattle.dcel_plane.specs.covering.Places.{IsStrictlyIn, Place, orient_at}
 use Rattle.dcel_plane.proofs.covering.Inside.{other_way}
-use Rattle.dcel_plane.proofs.covering.Products.{below_times, factor_positive, times_below, zero_factor}
+use Rattle.dcel_plane.proofs.covering.Products.{below_times, times_below, zero_factor}
 
 abbrev pub hit_of : Bool → Bool → Bool → ℕ
 hit_of true u v = 0

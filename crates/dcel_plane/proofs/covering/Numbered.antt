@@ -4,7 +4,7 @@ use Rattle.std.proofs.lemmas.Bool.{cases_eq, cases_lt}
 use Rattle.std.proofs.lemmas.Int.{by_lt_z}
 use Rattle.dcel_predicates.specs.Determinants.{incircle_of, orient2d_of}
 use Rattle.dcel_predicates.specs.declared.point.Point.{Point}
-use Rattle.dcel_predicates.proofs.Convex.{incircle-turned}
+use Rattle.dcel_predicates.proofs.Points.{incircle-turned}
 use Rattle.dcel_predicates.proofs.Signs.{ordered}
 use Rattle.dcel_maps.specs.Removals.{gives_up_face}
 use Rattle.dcel_maps.specs.Shapes.{IsLive, IsMesh, Mesh, Shape, end_of, face_count, face_of, origin_of, next_of, prev_of}
@@ -12,7 +12,9 @@ use Rattle.dcel_maps.specs.Words.{TurnsTo, word_of}
 use Rattle.dcel_maps.proofs.Liveness.{is_live-past}
 use Rattle.dcel_maps.proofs.words.Turns.{length-turn, turns_to_itself}
 use Rattle.dcel_plane.proofs.edits.Corners.{turned_along}
-use Rattle.dcel_plane.specs.covering.Covering.{Covers, CoversHull, dot}
+use Rattle.dcel_maps.specs.Triangulations.{AllTriangles}
+use Rattle.dcel_plane.specs.Plane.{TrianglesTurnLeft}
+use Rattle.dcel_plane.specs.covering.Covering.{Covers, CoversHull, IsConvex, IsHull, dot}
 use Rattle.dcel_plane.specs.covering.Delaunay.{HasCornerVertices, LiesInSomeTriangle, IsDelaunayTriangulation, LiesInHull}
 use Rattle.dcel_plane.specs.covering.Places.{AreDisjoint, IsIn, Place, orient_at}
 use Rattle.dcel_plane.proofs.covering.Apart.{mesh_apart}
@@ -114,6 +116,24 @@ module _ (s : Shape) (f a b c : ℕ) (corners : HasCornerVertices s f a b c) whe
   pub word_is : OfWord
   word_is = of_word (word_of s.words f) refl corners.starts
 
+-- what holds of the corners of each word holds of the corners of each face, from whichever corner on
+by_corners : (s : Shape) (P : ℕ → ℕ → ℕ → Type 0) → ((a b c : ℕ) → P a b c → P b c a)
+    → (f a b c : ℕ) (corners : HasCornerVertices s f a b c) → ((x y z : ℕ) → word_of s.words f ≡ x ∷ y ∷ z ∷ [] → P (origin_of s x) (origin_of s y) (origin_of s z)) → P a b c
+by_corners s P turn f a b c corners holds =
+    let face = word_is s f a b c corners in
+    turned_along P turn (origin_of s face.x) (origin_of s face.y) (origin_of s face.z) a b c face.turn (holds face.x face.y face.z face.is)
+
+-- two faces of triangles with a convex hull have no place in common
+pub faces_apart : {V DE UE F : Type 0} (m : Mesh V DE UE F) → IsMesh m → (at : ℕ → Point) → AllTriangles m.shape → TrianglesTurnLeft at m.shape → IsConvex at m.shape
+    → IsHull at m.shape → (f g a b c x y z : ℕ) → HasCornerVertices m.shape f a b c → HasCornerVertices m.shape g x y z → f ≢ g
+    → AreDisjoint (at a) (at b) (at c) (at x) (at y) (at z)
+faces_apart m mesh at triangles plane convex hull f g a b c x y z corners others differ =
+    let s = m.shape in
+    let p : ℕ → Point = λ h. at (origin_of s h) in
+    by_corners s (λ a b c. AreDisjoint (at a) (at b) (at c) (at x) (at y) (at z)) (λ a b c disjoint pl one other. disjoint pl (one.2, one.0, one.1) other) f a b c corners
+    (λ i j k is. by_corners s (λ x y z. AreDisjoint (p i) (p j) (p k) (at x) (at y) (at z)) (λ x y z disjoint pl one other. disjoint pl one (other.2, other.0, other.1)) g x y z others
+    (λ i' j' k' is'. (disjoint_triangles m mesh triangles at plane convex hull).disjoint f g i j k i' j' k' corners.inner others.inner differ is is'))
+
 module _ {V DE UE F : Type 0} (m : Mesh V DE UE F) (mesh : IsMesh m) (at : ℕ → Point) (known : IsDelaunayTriangulation at m.shape) where
   abbrev s : Shape
   s = m.shape
@@ -125,16 +145,9 @@ module _ {V DE UE F : Type 0} (m : Mesh V DE UE F) (mesh : IsMesh m) (at : ℕ �
   each_vertex : (P : ℕ → Type 0) → ((h : ℕ) → IsLive s h → P (origin_of s h)) → (v : ℕ) → v < s.vertices → P v
   each_vertex = by_starts m mesh known.closed known.connected
 
-  -- what holds of the corners of each word holds of the corners of each face, from whichever corner on
-  by_corners : (P : ℕ → ℕ → ℕ → Type 0) → ((a b c : ℕ) → P a b c → P b c a)
-      → (f a b c : ℕ) (corners : HasCornerVertices s f a b c) → ((x y z : ℕ) → word_of s.words f ≡ x ∷ y ∷ z ∷ [] → P (origin_of s x) (origin_of s y) (origin_of s z)) → P a b c
-  by_corners P turn f a b c corners holds =
-      let face = word_is s f a b c corners in
-      turned_along P turn (origin_of s face.x) (origin_of s face.y) (origin_of s face.z) a b c face.turn (holds face.x face.y face.z face.is)
-
   pub circles : (f a b c v : ℕ) → HasCornerVertices s f a b c → v < s.vertices → incircle_of (at a) (at b) (at c) (at v) ≤ℤ pos 0
   circles f a b c v corners below =
-      by_corners (λ a b c. incircle_of (at a) (at b) (at c) (at v) ≤ℤ pos 0)
+      by_corners s (λ a b c. incircle_of (at a) (at b) (at c) (at v) ≤ℤ pos 0)
       (λ a b c holds. subst (λ i. i ≤ℤ pos 0) (sym (incircle-turned (at a) (at b) (at c) (at v))) holds) f a b c corners
       (λ x y z is. each_vertex (λ w. incircle_of (p x) (p y) (p z) (at w) ≤ℤ pos 0)
       (λ h live.
@@ -143,16 +156,12 @@ module _ {V DE UE F : Type 0} (m : Mesh V DE UE F) (mesh : IsMesh m) (at : ℕ �
       v below)
 
   pub apart : (f g a b c a' b' c' : ℕ) → HasCornerVertices s f a b c → HasCornerVertices s g a' b' c' → f ≢ g → AreDisjoint (at a) (at b) (at c) (at a') (at b') (at c')
-  apart f g a b c a' b' c' corners corners' differ =
-      by_corners (λ a b c. AreDisjoint (at a) (at b) (at c) (at a') (at b') (at c')) (λ a b c disjoint pl one other. disjoint pl (one.2, one.0, one.1) other) f a b c corners
-      (λ x y z is. by_corners (λ a' b' c'. AreDisjoint (p x) (p y) (p z) (at a') (at b') (at c')) (λ a b c disjoint pl one other. disjoint pl one (other.2, other.0, other.1))
-      g a' b' c' corners'
-      (λ x' y' z' is'. (disjoint_triangles m mesh known.triangles at known.delaunay.plane known.convex known.hull).disjoint f g x y z x' y' z' corners.inner corners'.inner differ is is'))
+  apart = faces_apart m mesh at known.triangles known.delaunay.plane known.convex known.hull
 
   -- no vertex lies in a face but its corners
   pub alone : (f a b c v : ℕ) → HasCornerVertices s f a b c → v < s.vertices → Covers (at a) (at b) (at c) (at v) → (v ≡ a) ⊎ ((v ≡ b) ⊎ (v ≡ c))
   alone f a b c v corners below =
-      by_corners (λ a b c. Covers (at a) (at b) (at c) (at v) → (v ≡ a) ⊎ ((v ≡ b) ⊎ (v ≡ c)))
+      by_corners s (λ a b c. Covers (at a) (at b) (at c) (at v) → (v ≡ a) ⊎ ((v ≡ b) ⊎ (v ≡ c)))
       (λ a b c holds covers. elim (holds (covers.2, covers.0, covers.1)) [ inl is ↦ inr (inr is) | inr others ↦ elim others [ inl is ↦ inl is | inr is ↦ inr (inl is) ] ])
       f a b c corners
       (λ x y z is. each_vertex (λ w. Covers (p x) (p y) (p z) (at w) → (w ≡ origin_of s x) ⊎ ((w ≡ origin_of s y) ⊎ (w ≡ origin_of s z)))

@@ -3,9 +3,9 @@ use Rattle.std.proofs.Common.{◌≡◌, [], ◌∷◌, ℤ, pos, ◌+ℤ◌, �
 use Rattle.dcel_predicates.specs.Determinants.{orient2d_of}
 use Rattle.dcel_predicates.specs.declared.point.Point.{Point}
 use Rattle.dcel_predicates.proofs.Ring.{by_terms, var, plus, minus, times as by}
-use Rattle.dcel_predicates.proofs.Signs.{ordered, times, times_positive}
+use Rattle.dcel_predicates.proofs.Signs.{factor_positive, ordered, times, times_positive}
 use Rattle.dcel_plane.proofs.covering.Caps.{InCap}
-use Rattle.dcel_plane.proofs.covering.Products.{factor_not_below, factor_positive}
+use Rattle.dcel_plane.proofs.covering.Products.{factor_not_below}
 
 module _ (n d n' d' n'' d'' : ℤ) (hd : pos 0 <ℤ d) (hd' : pos 0 <ℤ d') (hd'' : pos 0 <ℤ d'') where
   between : d' *ℤ ((n'' *ℤ d) -ℤ (n *ℤ d'')) ≡ (d'' *ℤ ((n' *ℤ d) -ℤ (n *ℤ d'))) +ℤ (d *ℤ ((n'' *ℤ d') -ℤ (n' *ℤ d'')))

@@ -3,12 +3,8 @@ use Rattle.std.proofs.Common.{◌≡◌, ℤ, pos, ◌+ℤ◌, ◌-ℤ◌, ◌*�
 use Rattle.std.proofs.lemmas.Int.{by_lt_z}
 use Rattle.std.proofs.Math.IntN.{*ℤ_comm, *ℤ-zero}
 use Rattle.dcel_predicates.proofs.Integers.{mul_add, mul_sub, neg_mul, sub_mul}
-use Rattle.dcel_predicates.proofs.Signs.{ordered, times, times_negative, both_negative, times_positive, square}
+use Rattle.dcel_predicates.proofs.Signs.{both_negative, factor_positive, ordered, square, times, times_positive}
 use borrow.Author.Differences.{same_in, product_is}
-
-pub factor_positive : (x y : ℤ) → pos 0 <ℤ x → pos 0 <ℤ (x *ℤ y) → pos 0 <ℤ y
-factor_positive x y more product =
-    by_lt_z (pos 0) y (λ is. is) (λ not. absurd (let none = times_negative x y (omega (arith, ordered)) not in omega (arith, ordered)))
 
 pub times_below : (x y : ℤ) → pos 0 <ℤ x → y <ℤ pos 0 → (x *ℤ y) <ℤ pos 0
 times_below x y more less =

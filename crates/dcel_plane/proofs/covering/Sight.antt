@@ -5,7 +5,7 @@ use Rattle.dcel_fixed.specs.HalfEdges.{rev}
 use Rattle.dcel_fixed.proofs.Halves.{rev-rev}
 use Rattle.dcel_predicates.specs.Determinants.{incircle_of, orient2d_of}
 use Rattle.dcel_predicates.specs.declared.point.Point.{Point}
-use Rattle.dcel_predicates.proofs.Convex.{incircle-turned}
+use Rattle.dcel_predicates.proofs.Points.{incircle-turned}
 use Rattle.dcel_predicates.proofs.Points.{incircle-first, orient2d-first_swapped}
 use Rattle.dcel_predicates.proofs.Signs.{negative_times, ordered, times_positive}
 use Rattle.dcel_maps.specs.Shapes.{IsLive, IsMesh, Mesh, Shape, face_of, map_of, next_of, origin_of, prev_of}

@@ -6,12 +6,12 @@ use Rattle.dcel_fixed.proofs.Halves.{rev-rev}
 use Rattle.dcel_predicates.specs.Determinants.{orient2d_of}
 use Rattle.dcel_predicates.specs.declared.point.Point.{Point}
 use Rattle.dcel_predicates.proofs.Ring.{Term, by_terms, minus, plus, times as by}
-use Rattle.dcel_predicates.proofs.Signs.{ordered, times_positive}
+use Rattle.dcel_predicates.proofs.Signs.{factor_positive, ordered, times_positive}
 use Rattle.dcel_predicates.proofs.Terms.{Spot, orient, spot}
 use Rattle.dcel_maps.specs.Shapes.{IsLive, Shape, end_of, origin_of}
 use Rattle.dcel_plane.proofs.covering.Along.{apart_by, by_place, dot_start, no_height, none_first, none_second, one_place, same_side}
 use Rattle.dcel_plane.proofs.covering.Inside.{on_end, on_start}
-use Rattle.dcel_plane.proofs.covering.Products.{below_times, both_below, factor_none, factor_positive, times_below}
+use Rattle.dcel_plane.proofs.covering.Products.{below_times, both_below, factor_none, times_below}
 use Rattle.dcel_plane.specs.covering.Covering.{dot}
 use Rattle.dcel_plane.specs.hull.Straight.{IsStraight}
 use Rattle.dcel_plane.proofs.hull.Thin.{back_dot}

@@ -5,7 +5,7 @@ use Rattle.dcel_fixed.specs.HalfEdges.{rev}
 use Rattle.dcel_fixed.proofs.Halves.{rev-rev}
 use Rattle.dcel_predicates.specs.Determinants.{incircle_of, orient2d_of, squared_distance_of}
 use Rattle.dcel_predicates.specs.declared.point.Point.{Point}
-use Rattle.dcel_predicates.proofs.Convex.{incircle-turned}
+use Rattle.dcel_predicates.proofs.Points.{incircle-turned}
 use Rattle.dcel_predicates.proofs.Ring.{by_terms, minus, plus, times as by}
 use Rattle.dcel_predicates.proofs.Signs.{ordered, times}
 use Rattle.dcel_predicates.proofs.Terms.{incircle, lift, orient, spot}

@@ -4,10 +4,9 @@ use Rattle.std.proofs.lemmas.Bool.{cases_lt}
 use Rattle.std.proofs.lemmas.Int.{by_lt_z}
 use Rattle.dcel_predicates.specs.declared.point.Point.{Point}
 use Rattle.dcel_predicates.specs.Determinants.{orient2d_of}
-use Rattle.dcel_predicates.proofs.Signs.{ordered, times, times_positive}
+use Rattle.dcel_predicates.proofs.Signs.{factor_positive, ordered, times, times_positive}
 use Rattle.dcel_plane.specs.removal.Wheels.{IsFan, IsFlippable, IsHollow, LiesOnHull}
 use Rattle.dcel_plane.proofs.covering.Along.{none_first}
-use Rattle.dcel_plane.proofs.covering.Products.{factor_positive}
 use Rattle.dcel_plane.proofs.removal.Wheels.{plucker, search_below, spans, summed}
 
 module _ (v : Point) (u : ℕ → Point) (k : ℕ) (fan : IsFan v u k) where

@@ -3,10 +3,10 @@ use Rattle.std.proofs.Common.{◌≡◌, [], ◌∷◌, ℤ, pos, ◌+ℤ◌, �
 use Rattle.std.proofs.lemmas.Int.{by_lt_z}
 use Rattle.dcel_predicates.specs.declared.point.Point.{Point}
 use Rattle.dcel_predicates.specs.Determinants.{orient2d_of}
-use Rattle.dcel_predicates.proofs.Signs.{ordered, square, times_positive}
+use Rattle.dcel_predicates.proofs.Signs.{factor_positive, ordered, square, times_positive}
 use Rattle.dcel_plane.specs.covering.Places.{AreDisjoint, Place, orient_at}
 use Rattle.dcel_plane.proofs.covering.Along.{none_first, none_second}
-use Rattle.dcel_plane.proofs.covering.Products.{factor_positive, outweighs}
+use Rattle.dcel_plane.proofs.covering.Products.{outweighs}
 use Rattle.dcel_predicates.proofs.Ring.{Term, by_terms, minus, num, plus, times as by, var}
 use Rattle.dcel_predicates.proofs.Terms.{Where, orient, orient_in, spot}
 

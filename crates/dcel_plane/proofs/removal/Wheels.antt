@@ -5,11 +5,11 @@ use Rattle.std.proofs.lemmas.Int.{by_lt_z}
 use Rattle.dcel_predicates.specs.declared.point.Point.{Point}
 use Rattle.dcel_predicates.specs.Determinants.{orient2d_of}
 use Rattle.dcel_predicates.proofs.Points.{orient2d-last_swapped, orient2d-turned}
-use Rattle.dcel_predicates.proofs.Signs.{both_negative, negative_times, ordered, times, times_negative, times_positive}
+use Rattle.dcel_predicates.proofs.Signs.{both_negative, factor_positive, negative_times, ordered, times, times_negative, times_positive}
 use Rattle.dcel_plane.specs.Plane.{TurnsLeft}
 use Rattle.dcel_plane.specs.removal.Wheels.{IsFlippable, IsWheel, LiesBetween}
 use Rattle.dcel_plane.proofs.covering.Along.{none_first, none_second}
-use Rattle.dcel_plane.proofs.covering.Products.{below_times, factor_positive}
+use Rattle.dcel_plane.proofs.covering.Products.{below_times}
 use Rattle.dcel_predicates.proofs.Ring.{by_terms, minus, num, plus, times as by}
 use Rattle.dcel_predicates.proofs.Terms.{orient, spot}
 

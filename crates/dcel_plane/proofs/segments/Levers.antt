@@ -5,9 +5,9 @@ use Rattle.std.proofs.lemmas.Int.{by_lt_z}
 use Rattle.dcel_predicates.specs.declared.point.Point.{Point}
 use Rattle.dcel_predicates.specs.Determinants.{orient2d_of}
 use Rattle.dcel_predicates.proofs.Points.{orient2d-first_swapped, orient2d-last_swapped, orient2d-turned}
-use Rattle.dcel_predicates.proofs.Signs.{both_negative, ordered, square, times, times_negative, times_positive}
+use Rattle.dcel_predicates.proofs.Signs.{both_negative, factor_positive, ordered, square, times, times_negative, times_positive}
 use Rattle.dcel_plane.specs.covering.Covering.{dot}
-use Rattle.dcel_plane.proofs.covering.Products.{below_times, both_below, factor_positive, times_below}
+use Rattle.dcel_plane.proofs.covering.Products.{below_times, both_below, times_below}
 use Rattle.dcel_predicates.proofs.Ring.{Term, by_terms, minus, num, plus, times as by}
 use Rattle.dcel_predicates.proofs.Terms.{orient, spot}
 use Rattle.dcel_plane.proofs.covering.Inside.{on_end, on_start}

@@ -2,7 +2,7 @@ use Rattle.std.proofs.Common.{◌≡◌, ◌∷◌, ◌++◌, [], ℕ, List, ap,
 use mathlib.Core.Logic.{∥∥₁_map}
 use Rattle.dcel_maps.specs.edits.Data.{undirected_edge_updated}
 use Rattle.dcel_planar.specs.Growing.{HasOutside, IsTriangleMesh}
-use Rattle.dcel_delaunay.proofs.Lost.{on_err}
+use Rattle.dcel_planar.proofs.Whole.{on_err}
 use Rattle.dcel_regions.specs.Marked.{IsMarked}
 use Rattle.dcel_regions.specs.declared.mark.Mark.TheVariants.{Free}
 use Rattle.dcel_constrained.specs.Soundness.{IsConstrained, MarksAllBut}

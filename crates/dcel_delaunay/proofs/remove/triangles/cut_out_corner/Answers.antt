@@ -1,7 +1,8 @@
 use Rattle.std.proofs.Common.{ap, inr}
 use Rattle.dcel_maps.specs.Renumbering.{cleaned}
 use Rattle.dcel_planar.proofs.Growth.{keeps-trans}
-use Rattle.dcel_delaunay.proofs.Lost.{lost_before, more_vertices, on_err, outside_below}
+use Rattle.dcel_planar.proofs.Whole.{on_err}
+use Rattle.dcel_delaunay.proofs.Lost.{lost_before, more_vertices, outside_below}
 use Rattle.dcel_delaunay.proofs.TakenOut.{taken_hull, taken_loses, taken_sound}
 use Rattle.dcel_delaunay.proofs.remove.triangles.cut_out_corner.Goals as goal
 

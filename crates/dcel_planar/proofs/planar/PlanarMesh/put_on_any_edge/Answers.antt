@@ -3,7 +3,7 @@ use Rattle.dcel_maps.specs.Shapes.{face_of}
 use Rattle.dcel_maps.proofs.maps.Halves.{rev_half, rev-rev}
 use Rattle.dcel_plane.specs.Plane.{point_at}
 use Rattle.dcel_planar.proofs.Ends.{split_back_ok}
-use Rattle.dcel_planar.proofs.OnEdges.{lies_back}
+use Rattle.dcel_plane.proofs.location.Ways.{lies_back}
 use Rattle.dcel_planar.proofs.planar.PlanarMesh.put_on_any_edge.Goals as goal
 
 pub put_on_hull-requires-clause-outer : goal.put_on_hull-requires-clause-outer
