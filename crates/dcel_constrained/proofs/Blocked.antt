@@ -13,7 +13,7 @@ use Rattle.dcel_planar.specs.Outcomes.{IsWholeMesh}
 use Rattle.dcel_planar.specs.declared.planar.PlanarMesh.{PlanarMesh}
 use Rattle.dcel_regions.specs.Marked.{IsMarked}
 use Rattle.dcel_regions.specs.declared.mark.Mark.{Mark}
-use Rattle.dcel_constrained.specs.Blocking.{Blocks, FailsToAdd, ListsBlocking, NotesBlocking}
+use Rattle.dcel_constrained.specs.Blocking.{Blocks, FailsToAdd, FinishesOnly, ListsBlocking, NotesBlocking}
 use Rattle.dcel_constrained.specs.Channels.{HasVertices}
 use Rattle.dcel_constrained.specs.Constraints.{IsFreeWay}
 use Rattle.dcel_constrained.specs.Soundness.{CanAdd}
@@ -136,8 +136,12 @@ module _ {DE F : Type 0} (m : Mesh Point DE Mark F) (v w : ℕ) where
   a_block (u ∷ rest) some lists = (u, lists.no_other u (omega (arith, count-same u rest)))
 
 -- after what was left undone is done
-pub blocked_since : {A : Type 0} (old mid : PlanarMesh Mark A) (v w : ℕ) (e : ConstraintError A) → mid.dcel.vertex_data ≡ old.dcel.vertex_data
-    → (IsWholeMesh old → mid.dcel ≡ old.dcel) → FailsToAdd mid mid v w e → FailsToAdd old mid v w e
-blocked_since old mid v w NoVertex points same fails = (fails.0, record { points = points; same = same }, fails.2)
-blocked_since old mid v w (Blocked edges) points same fails = (fails.0, fails.1, fails.2, record { points = points; same = same }, fails.4)
-blocked_since old mid v w OutOfMemory points same fails = tt
+module _ {A : Type 0} (old mid : PlanarMesh Mark A) (points : mid.dcel.vertex_data ≡ old.dcel.vertex_data) (same : IsWholeMesh old → mid.dcel ≡ old.dcel)
+    (only : (u : ℕ) → IsMarked mid.dcel u → IsMarked old.dcel u) where
+  pub finishes_only : IsWholeMesh mid → FinishesOnly old mid
+  finishes_only whole = record { keeps = record { points = points; same = same }; no_other = λ another. another.2 (only another.0 another.1); whole = whole }
+
+  pub blocked_since : (v w : ℕ) (e : ConstraintError A) → FailsToAdd mid mid v w e → FailsToAdd old mid v w e
+  blocked_since v w NoVertex fails = (fails.0, finishes_only fails.1.whole)
+  blocked_since v w (Blocked edges) fails = (fails.0, fails.1, fails.2, finishes_only fails.3.whole)
+  blocked_since v w OutOfMemory fails = λ another. absurd (another.2 (only another.0 another.1))

@@ -1,34 +1,40 @@
 -- Segments between points made constraints, one after another.
-use Rattle.std.proofs.Common.{◌≡◌, ◌≢◌, ◌⊎◌, inl, inr, ℕ, ◌*◌, ◌+◌, ◌/◌, ◌<◌, List, Option, None, Some, length, slice_get, slice_index, refl, sym, ap, ◌∙◌, subst, arith}
+use Rattle.std.proofs.Common.{◌≡◌, ◌≢◌, ◌⊎◌, inl, inr, ℕ, ◌*◌, ◌+◌, ◌++◌, ◌/◌, ◌<◌, List, [], All, Contains, Option, None, Some, length, slice_get, slice_index, refl, sym, ap, ◌∙◌, subst, arith}
 use Rattle.std.proofs.lemmas.Bool.{cases_eq}
 use Rattle.std.proofs.lemmas.Option.{get_or_from_slice_get, none-some, same_Some, slice_get-get_or, slice_get_within}
 use Rattle.dcel_predicates.specs.declared.point.Point.{Point}
+use Rattle.dcel_maps.specs.Conditions.{HasRoom}
 use Rattle.dcel_maps.specs.Removals.{Closed}
 use Rattle.dcel_maps.specs.Shapes.{IsMesh, Mesh, end_of, origin_of}
 use Rattle.dcel_maps.proofs.Liveness.{closed-live}
 use Rattle.dcel_plane.specs.Plane.{origin_point, point_at}
-use Rattle.dcel_delaunay.specs.Bulk.{AnswersEach, StandAt}
+use Rattle.dcel_delaunay.specs.Bulk.{AddsVertices, AnswersEach, FailsToInsertAll, StandAt}
 use Rattle.dcel_delaunay.specs.Triangles.{point_numbered}
+use Rattle.dcel_delaunay.proofs.Outline.{all_single}
 use Rattle.dcel_planar.specs.Outcomes.{IsWholeMesh}
+use Rattle.dcel_planar.specs.declared.errors.InsertionError.{InsertionError}
+use Rattle.dcel_planar.specs.declared.errors.InsertionError.TheVariants as inserting
 use Rattle.dcel_planar.specs.declared.planar.PlanarMesh.{PlanarMesh}
 use Rattle.dcel_regions.specs.Marked.{IsMarked}
 use Rattle.dcel_regions.specs.declared.mark.Mark.{Mark}
 use Rattle.dcel_constrained.specs.Blocking.{Blocks, FailsToAdd}
 use Rattle.dcel_constrained.specs.Constraints.{HasConstraint, IsPartOf, KeepsMarked, LiesOnSegment, MarksOnly}
-use Rattle.dcel_constrained.specs.Loading.{AreLaid, ArePartsOf, DoCross, EndsBelow, FailsToLay, FailsToLoad, IsForPoints, IsReasonFor}
-use Rattle.dcel_constrained.specs.Soundness.{HasNoConstraint}
+use Rattle.dcel_constrained.specs.Loading.{AreLaid, ArePartsOf, DoCross, EndsBelow, FailsToLay, FailsToLoad, IsFull, IsInsertionFailure, IsReasonFor}
+use Rattle.dcel_constrained.specs.Soundness.{HasNoConstraint, IsConstrained}
 use Rattle.dcel_constrained.specs.Splitting.{KeepsConstraints, SplitsMarked}
 use Rattle.dcel_constrained.specs.declared.errors.ConstraintError.{ConstraintError}
 use Rattle.dcel_constrained.specs.declared.errors.ConstraintError.TheVariants as told
 use Rattle.dcel_constrained.specs.declared.errors.LoadError.{LoadError}
 use Rattle.dcel_constrained.specs.declared.errors.LoadError.TheVariants.{Crosses, NoPoint, OutOfMemory, TooManyPoints}
 use Rattle.dcel_constrained.specs.declared.load.Segment.{Segment}
+use Rattle.dcel_constrained.specs.declared.triangulation.ConstrainedTriangulation.{ConstrainedTriangulation}
 use Rattle.dcel_constrained.proofs.Across.{do_cross}
 use Rattle.dcel_constrained.proofs.Blocked.{a_block}
 use Rattle.dcel_constrained.proofs.Free.{end_kept, start_kept}
 use Rattle.dcel_constrained.proofs.Laid.{points_stay}
 use Rattle.dcel_constrained.proofs.Many.{part_end, part_start}
 use Rattle.dcel_constrained.proofs.Marking.{marked_below}
+use Rattle.dcel_constrained.proofs.Settled.{outlined_of, sound_of}
 use Rattle.dcel_constrained.proofs.Splits.{constraints_kept}
 
 module _ {DE F : Type 0} where
@@ -193,18 +199,36 @@ pub unlaid : {A : Type 0} (old new : PlanarMesh Mark A) (vertices : List ℕ) (s
     → slice_get vertices s.from ≡ Some v → slice_get vertices s.to ≡ Some w → IsWholeMesh old → IsMesh new.dcel → v < length old.dcel.vertex_data → w < length old.dcel.vertex_data
     → (e : ConstraintError A) (r : LoadError) → FailsToAdd old new v w e → IsReasonFor i e r → FailsToLay old.dcel vertices segments i r
 unlaid old new vertices segments i s v w at from to whole mesh below_v below_w told.NoVertex r fails is =
-    let many = ap length fails.1.points in
+    let many = ap length fails.1.keeps.points in
     absurd (fails.0 (record { from = omega (arith, many, below_v, mesh.sized.vertex_data); to = omega (arith, many, below_w, mesh.sized.vertex_data) }))
 unlaid old new vertices segments i s v w at from to whole mesh below_v below_w (told.Blocked edges) r fails is =
     let block = a_block new.dcel v w edges.items fails.1 fails.2 in
-    let before = subst (λ (m : Mesh Point (Unit {0}) Mark (Unit {0})). Blocks m v w block.0) (fails.3.same whole) block.1 in
+    let before = subst (λ (m : Mesh Point (Unit {0}) Mark (Unit {0})). Blocks m v w block.0) (fails.3.keeps.same whole) block.1 in
     subst (FailsToLay old.dcel vertices segments i) (sym is)
     (refl, (s, at, ends_found vertices s v w from to, (block.0, at_ends (λ x y. Blocks old.dcel x y block.0) vertices s v w from to before)))
 unlaid old new vertices segments i s v w at from to whole mesh below_v below_w told.OutOfMemory r fails is = subst (FailsToLay old.dcel vertices segments i) (sym is) tt
 
--- points that aren't inserted
-pub for_points : (points : List Point) (segments : List Segment) (e : LoadError) → IsForPoints e → FailsToLoad points segments e
-for_points points segments (NoPoint i) is = absurd is
-for_points points segments (Crosses i) is = absurd is
-for_points points segments TooManyPoints is = tt
-for_points points segments OutOfMemory is = tt
+-- where there was no vertex before, each is at one of the points
+pub all_given : {DE F : Type 0} (old new : Mesh Point DE Mark F) (given : List Point) (most : ℕ) → old.vertex_data ≡ [] → AddsVertices old new given most
+    → All (Contains given) new.vertex_data
+all_given old new given most none adds = subst (All (Contains given)) (sym (adds.points ∙ ap (λ (l : List Point). l ++ adds.added) none)) adds.from
+
+module _ {A : Type 0} where
+  pub is_full : (t : ConstrainedTriangulation A) (points : List Point) → IsMesh t.planar.dcel → All (Contains points) t.planar.dcel.vertex_data → IsWholeMesh t.planar
+      → ¬ HasRoom t.planar.dcel.shape 1 3 2 → IsFull points t.planar.dcel
+  is_full t points mesh from whole full = record {
+    mesh = mesh;
+    constrained = subst (IsConstrained t.planar.dcel) whole (sound_of t);
+    single = all_single t.planar.dcel mesh (outlined_of t whole) t.planar.triangulated.closed t.planar.triangulated.joined;
+    from = from;
+    full = full;
+  }
+
+  -- points that aren't inserted
+  pub not_all_inserted : (old new : PlanarMesh Mark A) (points : List Point) (segments : List Segment) (r : InsertionError) (e : LoadError) → FailsToInsertAll old new r
+      → IsInsertionFailure r e → (IsWholeMesh new → ¬ HasRoom new.dcel.shape 1 3 2 → IsFull points new.dcel) → FailsToLoad points segments e
+  not_all_inserted old new points segments inserting.OutOfRange e fails is full = absurd fails
+  not_all_inserted old new points segments inserting.TooManyPoints e fails is full =
+      subst (FailsToLoad points segments) (sym is) (new.dcel, full fails.1 fails.0)
+  not_all_inserted old new points segments inserting.OutOfMemory e fails is full = subst (FailsToLoad points segments) (sym is) tt
+  not_all_inserted old new points segments inserting.Unfinished e fails is full = subst (FailsToLoad points segments) (sym is) tt

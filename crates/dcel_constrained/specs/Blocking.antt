@@ -10,6 +10,7 @@ use Rattle.dcel_planar.specs.declared.planar.PlanarMesh.{PlanarMesh}
 use Rattle.dcel_regions.specs.Marked.{IsMarked}
 use Rattle.dcel_regions.specs.declared.mark.Mark.{Mark}
 use Rattle.dcel_constrained.specs.Channels.{HasVertices}
+use Rattle.dcel_constrained.specs.Soundness.{CanAdd, MarksAnother}
 use Rattle.dcel_constrained.specs.declared.errors.ConstraintError.{ConstraintError}
 use Rattle.dcel_constrained.specs.declared.errors.ConstraintError.TheVariants.{Blocked, NoVertex, OutOfMemory}
 
@@ -31,9 +32,15 @@ module _ {DE F : Type 0} where
   NotesBlocking m v w u before after = (Blocks m v w u × (after ≡ before ++ u ∷ [])) ⊎ ((¬ Blocks m v w u) × (after ≡ before))
 
 module _ {A : Type 0} where
-  -- a segment is not made one of marked edges
+  -- the mesh is whole, the vertices keep their points, and no other edge is marked than before; a mesh that was whole is as it was
+  pub record FinishesOnly (old new : PlanarMesh Mark A) : Type 0 where
+    pub keeps : KeepsWhole old new
+    pub no_other : ¬ MarksAnother old.dcel new.dcel
+    pub whole : IsWholeMesh new
+
+  -- a segment is not made one of marked edges; parts of it may be marked only if it can be added
   abbrev pub FailsToAdd : PlanarMesh Mark A → PlanarMesh Mark A → ℕ → ℕ → ConstraintError A → Type 0
-  FailsToAdd old new v w NoVertex = (¬ HasVertices new.dcel.shape v w) × KeepsWhole old new × IsWholeMesh new
+  FailsToAdd old new v w NoVertex = (¬ HasVertices new.dcel.shape v w) × FinishesOnly old new
   FailsToAdd old new v w (Blocked edges) =
-      HasVertices new.dcel.shape v w × (edges.items ≢ []) × ListsBlocking new.dcel v w edges.items × KeepsWhole old new × IsWholeMesh new
-  FailsToAdd old new v w OutOfMemory = Unit {0}
+      HasVertices new.dcel.shape v w × (edges.items ≢ []) × ListsBlocking new.dcel v w edges.items × FinishesOnly old new
+  FailsToAdd old new v w OutOfMemory = MarksAnother old.dcel new.dcel → CanAdd new.dcel v w

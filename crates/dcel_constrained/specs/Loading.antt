@@ -1,13 +1,18 @@
 -- Points and segments between them, told by the numbers of the points.
-use Rattle.std.specs.Prelude.{◌≡◌, ◌⊎◌, ℕ, ◌<◌, List, length, slice_get, slice_index, Some, pos, ◌<ℤ◌}
+use Rattle.std.specs.Prelude.{◌≡◌, ◌⊎◌, ℕ, ◌<◌, List, [], All, Contains, length, slice_get, slice_index, Some, pos, ◌<ℤ◌}
 use Rattle.dcel_predicates.specs.declared.point.Point.{Point}
 use Rattle.dcel_predicates.specs.Determinants.{orient2d_of}
-use Rattle.dcel_maps.specs.Shapes.{Mesh}
+use Rattle.dcel_maps.specs.Conditions.{HasRoom}
+use Rattle.dcel_maps.specs.Shapes.{IsMesh, Mesh}
 use Rattle.dcel_delaunay.specs.Triangles.{point_numbered}
+use Rattle.dcel_delaunay.specs.Triangulated.{PointsAreSingle}
+use Rattle.dcel_planar.specs.declared.errors.InsertionError.{InsertionError}
+use Rattle.dcel_planar.specs.declared.errors.InsertionError.TheVariants as inserting
 use Rattle.dcel_regions.specs.Marked.{IsMarked}
 use Rattle.dcel_regions.specs.declared.mark.Mark.{Mark}
 use Rattle.dcel_constrained.specs.Blocking.{Blocks}
 use Rattle.dcel_constrained.specs.Constraints.{HasConstraint, IsPartOf}
+use Rattle.dcel_constrained.specs.Soundness.{IsConstrained}
 use Rattle.dcel_constrained.specs.declared.errors.ConstraintError.{ConstraintError}
 use Rattle.dcel_constrained.specs.declared.errors.ConstraintError.TheVariants as told
 use Rattle.dcel_constrained.specs.declared.errors.LoadError.{LoadError}
@@ -55,12 +60,20 @@ IsReasonFor i told.NoVertex e = e ≡ NoPoint i
 IsReasonFor i (told.Blocked edges) e = e ≡ Crosses i
 IsReasonFor i told.OutOfMemory e = e ≡ OutOfMemory
 
--- the points can't all be inserted
-abbrev pub IsForPoints : LoadError → Type 0
-IsForPoints (NoPoint i) = ⊥
-IsForPoints (Crosses i) = ⊥
-IsForPoints TooManyPoints = Unit {0}
-IsForPoints OutOfMemory = Unit {0}
+-- why the points aren't all inserted, told of the load
+abbrev pub IsInsertionFailure : InsertionError → LoadError → Type 0
+IsInsertionFailure inserting.TooManyPoints e = e ≡ TooManyPoints
+IsInsertionFailure inserting.OutOfRange e = e ≡ OutOfMemory
+IsInsertionFailure inserting.OutOfMemory e = e ≡ OutOfMemory
+IsInsertionFailure inserting.Unfinished e = e ≡ OutOfMemory
+
+-- a constrained triangulation of some of the points, which has no numbers left for another vertex, three edges and two faces
+pub record IsFull (points : List Point) (m : Mesh Point (Unit {0}) Mark (Unit {0})) : Type 0 where
+  pub mesh : IsMesh m
+  pub constrained : IsConstrained m []
+  pub single : PointsAreSingle m
+  pub from : All (Contains points) m.vertex_data
+  pub full : ¬ HasRoom m.shape 1 3 2
 
 -- why points and segments are not loaded
 abbrev pub FailsToLoad : List Point → List Segment → LoadError → Type 0
@@ -69,5 +82,5 @@ FailsToLoad points segments (Crosses i) =
     (j : ℕ) × (s : Segment) × (t : Segment) × (j < i) × (slice_get segments j ≡ Some s) × (slice_get segments i ≡ Some t)
     × EndsBelow (length points) s × EndsBelow (length points) t
     × DoCross (point_numbered points t.from) (point_numbered points t.to) (point_numbered points s.from) (point_numbered points s.to)
-FailsToLoad points segments TooManyPoints = Unit {0}
+FailsToLoad points segments TooManyPoints = (m : Mesh Point (Unit {0}) Mark (Unit {0})) × IsFull points m
 FailsToLoad points segments OutOfMemory = Unit {0}

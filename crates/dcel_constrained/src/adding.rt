@@ -22,12 +22,12 @@ impl<A: Allocator + Clone> ConstrainedTriangulation<A> {
     ///
     /// If one of them is no vertex, the result is [`NoVertex`](ConstraintError::NoVertex), and if
     /// marked edges are in the way, [`Blocked`](ConstraintError::Blocked) with all of them, each once:
-    /// for these it looks at each edge. Then a whole triangulation ([`is_whole`](Self::is_whole)) is as
-    /// it was, and any other is whole now.
+    /// for these it looks at each edge. Then no edge is marked that wasn't, a whole triangulation
+    /// ([`is_whole`](Self::is_whole)) is as it was, and any other is whole now.
     ///
-    /// If memory runs out, the result is [`OutOfMemory`](ConstraintError::OutOfMemory). Parts of the
-    /// segment may be marked then, and the next call, or [`finish`](Self::finish), goes on with what is
-    /// left to do.
+    /// If memory runs out, the result is [`OutOfMemory`](ConstraintError::OutOfMemory). If the segment
+    /// can be added, parts of it may be marked then. The next call, or [`finish`](Self::finish), goes
+    /// on with what is left to do, and the same call adds the rest.
     pub fn try_add_constraint(
         &mut self,
         from: FixedVertexHandle,
@@ -43,8 +43,13 @@ impl<A: Allocator + Clone> ConstrainedTriangulation<A> {
         ensures edges { (marked_mesh self.old).shape.edges ≤ (marked_mesh self.new).shape.edges }
         ensures same { IsWholeMesh self.old.planar → ¬ MarksAnother (marked_mesh self.old) (marked_mesh self.new)
             → (marked_mesh self.new ≡ marked_mesh self.old) × IsWholeMesh self.new.planar }
+        ensures can { OnOk result (CanAdd (marked_mesh self.new) from to) }
+        ensures again { CanAdd (marked_mesh self.old) from to → CanAdd (marked_mesh self.new) from to }
+        ensures same_edges { IsWholeMesh self.old.planar → (marked_mesh self.new).shape.edges ≡ (marked_mesh self.old).shape.edges }
     {
+        every_mesh(&self.planar.dcel);
         let Ok(()) = self.finish() else {
+            every_mesh(&self.planar.dcel);
             return Err(ConstraintError::OutOfMemory);
         };
         every_mesh(&self.planar.dcel);

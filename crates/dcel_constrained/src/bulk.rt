@@ -20,7 +20,8 @@ impl<A: Allocator + Clone> ConstrainedTriangulation<A> {
     ///
     /// Returns the vertex of each point, in the order of the points. Constraints stay: a marked edge
     /// that points are on becomes marked edges from one to the next. If it fails, the points that were
-    /// inserted so far stay.
+    /// inserted so far stay. A whole triangulation ([`is_whole`](Self::is_whole)) stays as it is if no
+    /// vertex is new.
     pub fn insert_all(
         &mut self,
         alloc: A,
@@ -32,6 +33,7 @@ impl<A: Allocator + Clone> ConstrainedTriangulation<A> {
         ensures adds { AddsVertices (marked_mesh self.old) (marked_mesh self.new) points.now (length points.now) }
         ensures splits { SplitsMarked (marked_mesh self.old) (marked_mesh self.new) }
         ensures edges { (marked_mesh self.old).shape.edges ≤ (marked_mesh self.new).shape.edges }
+        ensures same { IsWholeMesh self.old.planar → (marked_mesh self.new).vertex_data ≡ (marked_mesh self.old).vertex_data → marked_mesh self.new ≡ marked_mesh self.old }
     {
         every_mesh(&self.planar.dcel);
         let order = insertion_order(alloc.clone()?, points)?;
@@ -63,6 +65,7 @@ impl<A: Allocator> ConstrainedTriangulation<A> {
         ensures adds { AddsVertices (marked_mesh self.old) (marked_mesh self.new) points.now 1 }
         ensures splits { SplitsMarked (marked_mesh self.old) (marked_mesh self.new) }
         ensures edges { (marked_mesh self.old).shape.edges ≤ (marked_mesh self.new).shape.edges }
+        ensures same { (marked_mesh self.new).vertex_data ≡ (marked_mesh self.old).vertex_data → marked_mesh self.new ≡ marked_mesh self.old }
         ensures mesh { IsMesh (marked_mesh self.new) }
     {
         every_mesh(&self.planar.dcel);

@@ -1,6 +1,6 @@
 //! Why a segment was not made a constraint, and why points and segments were not loaded.
 
-ghost use Rattle.dcel_constrained.specs.Loading.{IsForPoints, IsReasonFor};
+ghost use Rattle.dcel_constrained.specs.Loading.{IsInsertionFailure, IsReasonFor};
 
 use dcel_planar::InsertionError;
 use spade_dcel::handles::FixedUndirectedEdgeHandle;
@@ -9,15 +9,16 @@ use thiserror::Error;
 
 /// Why a segment was not made one of marked edges.
 ///
-/// With any other error than `OutOfMemory` nothing is marked that wasn't, and a whole triangulation
+/// With any other error than `OutOfMemory` no edge is marked that wasn't, and a whole triangulation
 /// is as it was.
 #[derive(Drop)]
 pub enum ConstraintError<A: Allocator = Global> {
     /// One of its ends is no vertex.
     NoVertex,
-    /// These marked edges are in its way: the segment would cross each of them.
+    /// These marked edges are in its way, each once: it would cross them, and no others.
     Blocked(Vec<FixedUndirectedEdgeHandle, A>),
-    /// There was no memory, or no number for an edge.
+    /// There was no memory, or no number for an edge. If the segment can be added, parts of it may be
+    /// marked.
     OutOfMemory,
 }
 
@@ -27,10 +28,11 @@ pub enum LoadError {
     /// An end of this segment is the number of no point.
     #[error("segment {0} ends at no point")]
     NoPoint(usize),
-    /// This segment crosses an earlier one.
+    /// This segment crosses an earlier one, in a point that is an end of neither.
     #[error("segment {0} crosses an earlier one")]
     Crosses(usize),
-    /// There are no numbers left for another vertex and its edges.
+    /// In a triangulation of some of the points no numbers are left for another vertex, three edges
+    /// and two faces.
     #[error("there are too many points")]
     TooManyPoints,
     /// There was no memory, or no number for an edge.
@@ -51,11 +53,13 @@ impl From<AllocError> for LoadError {
 
 /// Returns why points were not loaded that could not all be inserted.
 pub(crate) fn not_inserted(error: InsertionError) -> LoadError
-    ensures { IsForPoints result }
+    ensures { IsInsertionFailure error result }
 {
     match error {
         InsertionError::TooManyPoints => LoadError::TooManyPoints,
-        _ => LoadError::OutOfMemory,
+        InsertionError::OutOfRange => LoadError::OutOfMemory,
+        InsertionError::OutOfMemory => LoadError::OutOfMemory,
+        InsertionError::Unfinished => LoadError::OutOfMemory,
     }
 }
 

@@ -1,6 +1,6 @@
 //! A new constrained triangulation, and one of points and segments at once.
 
-ghost use Rattle.std.specs.Prelude.{◌≡◌, ◌+◌, ◌<◌, ℕ, [], IfErr, IfOk, OnOk, Some, length, slice_get};
+ghost use Rattle.std.specs.Prelude.{◌≡◌, ◌+◌, ◌<◌, ℕ, [], All, Contains, IfErr, IfOk, OnOk, Some, length, slice_get};
 ghost use Rattle.dcel_constrained.specs.Constrained.{marked_mesh};
 ghost use Rattle.dcel_constrained.specs.Loading.{AreLaid, ArePartsOf, FailsToLay, FailsToLoad};
 ghost use Rattle.dcel_constrained.specs.Soundness.{HasNoConstraint};
@@ -38,19 +38,20 @@ impl<A: Allocator + Clone> ConstrainedTriangulation<A> {
     }
 
     /// Makes a constrained triangulation of points and of segments between them, each of which is one
-    /// of marked edges then; no other edges are marked. Returns it with the vertex of each point, in
-    /// the order of the points.
+    /// of marked edges then; no other edges are marked. Each vertex is at one of the points. Returns it,
+    /// whole, with the vertex of each point, in the order of the points.
     ///
-    /// Segments may meet at their ends, end on others, or overlap. If one crosses an earlier one, the
-    /// result is [`Crosses`](LoadError::Crosses) with its number, and if an end of one is the number of
-    /// no point, [`NoPoint`](LoadError::NoPoint) with its number. Other errors are those of memory and
-    /// of numbers that run out.
+    /// Segments may meet at their ends, end on others, or overlap. It fails if one crosses an earlier
+    /// one, or ends at the number of no point: [`Crosses`](LoadError::Crosses) or
+    /// [`NoPoint`](LoadError::NoPoint) has the number of such a segment. It also fails if memory or
+    /// numbers run out.
     pub fn bulk_load(
         alloc: A,
         points: &[Point],
         segments: &[Segment],
     ) -> Result<(Self, Vec<FixedVertexHandle, A>), LoadError>
         ensures stand { IfOk result (λ loaded. StandAt (marked_mesh loaded.0) points.now loaded.1.items) }
+        ensures points { IfOk result (λ loaded. All (Contains points.now) (marked_mesh loaded.0).vertex_data) }
         ensures laid { IfOk result (λ loaded. AreLaid (marked_mesh loaded.0) loaded.1.items segments.now (length segments.now)) }
         ensures only { IfOk result (λ loaded. ArePartsOf (marked_mesh loaded.0) loaded.1.items segments.now (length segments.now)) }
         ensures whole { IfOk result (λ loaded. IsWholeMesh loaded.0.planar) }
@@ -59,7 +60,10 @@ impl<A: Allocator + Clone> ConstrainedTriangulation<A> {
         let mut triangulation = Self::new(alloc.clone()?)?;
         let vertices = match triangulation.insert_all(alloc, points) {
             Ok(vertices) => vertices,
-            Err(error) => return Err(not_inserted(error)),
+            Err(error) => {
+                every_mesh(&triangulation.planar.dcel);
+                return Err(not_inserted(error));
+            }
         };
         every_mesh(&triangulation.planar.dcel);
         for number in 0..segments.len() {
@@ -68,7 +72,7 @@ impl<A: Allocator + Clone> ConstrainedTriangulation<A> {
         Ok((triangulation, vertices))
     }
 
-    /// Makes the segment of this number one of marked edges.
+    /// Makes the segment of this number one of marked edges, if there is one.
     fn lay_numbered(
         &mut self,
         vertices: &[FixedVertexHandle],

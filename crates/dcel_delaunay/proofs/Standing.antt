@@ -30,6 +30,11 @@ put xs k x y at =
 contains_at : {A : Type 0} (xs : List A) (k : ℕ) (x : A) → slice_get xs k ≡ Some x → Contains xs x
 contains_at xs k x at = (k, slice_get_within xs k x at, get_or_from_slice_get xs k x x at)
 
+-- a list that got nothing longer stays
+none_more : (before added after : List Point) → after ≡ before ++ added → length after ≤ length before → after ≡ before
+none_more before [] after is few = is ∙ append-nil before
+none_more before (p ∷ r) after is few = absurd (let long = ap length is in let both = length-append before (p ∷ r) in omega (arith, long, both, few))
+
 -- one item more is taken
 take_more : (k : ℕ) (xs : List ℕ) → k < length xs → take (suc k) xs ≡ take k xs ++ slice_index_or xs k 0 ∷ []
 take_more k [] below = absurd (omega (arith, below))
@@ -131,6 +136,18 @@ module _ {DE UE F : Type 0} where
     from = adds.from;
     few = omega (arith, less, adds.few);
   }
+
+  -- where no vertex is new, nothing has changed, if this is so of each of two insertions
+  pub same_both : (old mid new : Mesh Point DE UE F) (given : List Point) (k j : ℕ) → AddsVertices old mid given k → AddsVertices mid new given j
+      → (mid.vertex_data ≡ old.vertex_data → mid ≡ old) → (new.vertex_data ≡ mid.vertex_data → new ≡ mid) → new.vertex_data ≡ old.vertex_data → new ≡ old
+  same_both old mid new given k j first second one other stays =
+      let long = ap length stays in
+      let early = ap length first.points in
+      let early_both = length-append old.vertex_data first.added in
+      let late = ap length second.points in
+      let late_both = length-append mid.vertex_data second.added in
+      other (none_more mid.vertex_data second.added new.vertex_data second.points (omega (arith, long, early, early_both)))
+      ∙ one (none_more old.vertex_data first.added mid.vertex_data first.points (omega (arith, long, late, late_both)))
 
   -- the vertex of one more point is noted
   pub stands_too : (old new : Mesh Point DE UE F) (points : List Point) (before : List ℕ) (k v : ℕ) (p : Point) (most : ℕ)

@@ -8,7 +8,7 @@ use dcel_bench::refusing::{Memory, Refusals, Refusing};
 use dcel_bench_points::{KITE, Place, SQUARES, points_at};
 use dcel_constrained::{ConstrainedTriangulation, ConstraintError, LoadError, Segment};
 use dcel_delaunay::{Point, point};
-use spade_dcel::handles::FixedVertexHandle;
+use spade_dcel::handles::{FixedUndirectedEdgeHandle, FixedVertexHandle};
 use std::alloc::{AllocError, Allocator, Global};
 use std::test::Fail;
 
@@ -104,12 +104,43 @@ fn points_are_inserted_at_once(rt: HostRuntime) -> Result<(), Fail> {
 enum Tried {
     /// It is one of marked edges; whether one of them is new.
     Added(bool),
-    /// So many marked edges are in its way.
-    Blocked(usize),
+    /// These marked edges are in its way, one or two, and no more.
+    Blocked(Option<Ends>, Option<Ends>),
+    /// More than two are.
+    BlockedByMore,
     /// One of its ends is no vertex.
     NoVertex,
     /// There was no memory.
     OutOfMemory,
+}
+
+/// Returns the ends of an edge of a list, the lesser one first, if the list is so long.
+fn ends_of<A: Allocator>(
+    triangulation: &ConstrainedTriangulation<A>,
+    edges: &[FixedUndirectedEdgeHandle],
+    place: usize,
+) -> Option<Ends> {
+    let dcel = triangulation.dcel();
+    let edge = edges.get(place).copied()?;
+    if edge.index() >= dcel.num_undirected_edges() {
+        return None;
+    }
+    let [one, other] = dcel.undirected_edge(edge).vertices();
+    let one = one.fix().index() as u32;
+    let other = other.fix().index() as u32;
+    Some((one.min(other), one.max(other)))
+}
+
+/// Returns which edges are in the way.
+fn blocked<A: Allocator>(
+    triangulation: &ConstrainedTriangulation<A>,
+    edges: &[FixedUndirectedEdgeHandle],
+) -> Tried {
+    if edges.len() > 2 {
+        return Tried::BlockedByMore;
+    }
+    let first = ends_of(triangulation, edges, 0);
+    Tried::Blocked(first, ends_of(triangulation, edges, 1))
 }
 
 /// Tries to make a segment a constraint, and returns what became of it.
@@ -119,7 +150,7 @@ fn outcome_of<A: Allocator + Clone>(
 ) -> Tried {
     match triangulation.try_add_constraint(vertex(from), vertex(to)) {
         Ok(is_new) => Tried::Added(is_new),
-        Err(ConstraintError::Blocked(edges)) => Tried::Blocked(edges.len()),
+        Err(ConstraintError::Blocked(edges)) => blocked(triangulation, &edges),
         Err(ConstraintError::NoVertex) => Tried::NoVertex,
         Err(ConstraintError::OutOfMemory) => Tried::OutOfMemory,
     }
@@ -128,8 +159,8 @@ fn outcome_of<A: Allocator + Clone>(
 /// Segments in the grid, with two sides of a square marked before: added, in the way of one and of
 /// two, ending on one, and of numbers of no vertex.
 const OF_A_GRID: [(Ends, Tried); 8] = [
-    ((0, 13), Tried::Blocked(1)),
-    ((0, 17), Tried::Blocked(2)),
+    ((0, 13), Tried::Blocked(Some((6, 7)), None)),
+    ((0, 17), Tried::Blocked(Some((1, 7)), Some((8, 9)))),
     ((6, 8), Tried::Added(false)),
     ((0, 7), Tried::Added(true)),
     ((0, 7), Tried::Added(false)),
@@ -181,7 +212,8 @@ fn segments_are_added_or_others_are_in_their_way(rt: HostRuntime) -> Result<(), 
 fn refuse_tries<'a>(triangulation: &mut Watched<'a>, memory: Memory<'a>) -> Result<(), Fail> {
     add_each(triangulation, &[(0, 1)])?;
     for number in 0..MANY {
-        if !try_refused(triangulation, ((2, 3), Tried::Blocked(1)), memory, number)? {
+        let wanted = Tried::Blocked(Some((0, 1)), None);
+        if !try_refused(triangulation, ((2, 3), wanted), memory, number)? {
             holds(number > 0, "requests were refused")?;
             return check_joined_there(triangulation);
         }
@@ -215,23 +247,24 @@ fn segments_of(list: &[Ends], alloc: Global) -> Result<Vec<Segment>, AllocError>
     Ok(segments)
 }
 
-/// Loads points and segments. Returns how many edges are marked, and whether all is done and each
-/// point is where its vertex is.
+/// Loads points and segments. Returns how many vertices there are, how many edges are marked, and
+/// whether all is done and each point is where its vertex is.
 fn loaded<A: Allocator + Copy>(
     points: &[Point],
     segments: &[Segment],
     memory: A,
-) -> Result<(usize, bool), LoadError> {
+) -> Result<(usize, usize, bool), LoadError> {
     let (triangulation, vertices) = ConstrainedTriangulation::bulk_load(memory, points, segments)?;
     let is_right = triangulation.is_whole() && stand(&triangulation, points, &vertices);
-    Ok((triangulation.num_constraints(), is_right))
+    let vertices = triangulation.dcel().num_vertices();
+    Ok((vertices, triangulation.num_constraints(), is_right))
 }
 
 /// Points, segments between them, and what comes of them.
 type Load = (
     &'static [Place],
     &'static [Ends],
-    Result<(usize, bool), LoadError>,
+    Result<(usize, usize, bool), LoadError>,
 );
 
 /// The border of a square in the grid, a hole in it, and a segment that ends on the border.
@@ -251,11 +284,11 @@ const BORDERS: [Ends; 9] = [
 const LINE: [Place; 4] = [(0, 0), (4, 2), (8, 4), (8, 4)];
 
 const LOADS: [Load; 8] = [
-    (&[], &[], Ok((0, true))),
-    (&SQUARES, &BORDERS, Ok((17, true))),
-    (&KITE, &[(0, 1), (0, 2), (2, 0)], Ok((2, true))),
+    (&[], &[], Ok((0, 0, true))),
+    (&SQUARES, &BORDERS, Ok((36, 17, true))),
+    (&KITE, &[(0, 1), (0, 2), (2, 0)], Ok((4, 2, true))),
     // Segments that overlap, from a point to itself and to an equal one.
-    (&LINE, &[(0, 2), (0, 1), (1, 1), (2, 3)], Ok((2, true))),
+    (&LINE, &[(0, 2), (0, 1), (1, 1), (2, 3)], Ok((3, 2, true))),
     (&KITE, &[(0, 1), (2, 3)], Err(LoadError::Crosses(1))),
     (&KITE, &[(2, 3), (0, 2), (1, 0)], Err(LoadError::Crosses(2))),
     (&KITE, &[(0, 1), (1, 4)], Err(LoadError::NoPoint(1))),
@@ -288,7 +321,7 @@ fn refuse_loads(memory: Memory, alloc: Global) -> Result<(), Fail> {
         let came = memory.requests() > number;
         memory.refuse(Refusals::None);
         if !came {
-            holds(found == Ok((17, true)), "it is loaded")?;
+            holds(found == Ok((36, 17, true)), "it is loaded")?;
             return holds(number > 4, "requests were refused");
         }
         let is_refused = found == Err(LoadError::OutOfMemory);
@@ -327,7 +360,7 @@ fn a_thousand_points_are_loaded(rt: HostRuntime) -> Result<(), Fail> {
     let points = thousand_points(rt.alloc())?;
     let mut segments = thousand_segments(rt.alloc())?;
     let found = loaded(&points, &segments, rt.alloc());
-    holds(found == Ok((999, true)), "all edges are marked")?;
+    holds(found == Ok((1000, 999, true)), "all edges are marked")?;
     // From the first to the last one, across others.
     segments.push(Segment { from: 0, to: 999 })?;
     let found = loaded(&points, &segments, rt.alloc());

@@ -16,7 +16,8 @@ impl<A: Allocator + Clone> Triangulation<A> {
     /// Inserts points in an order of its own, in which walks are short.
     ///
     /// Returns the vertex of each point, in the order of the points. If it fails, the points that
-    /// were inserted so far stay.
+    /// were inserted so far stay. A whole triangulation ([`is_whole`](Self::is_whole)) stays as it is
+    /// if no vertex is new.
     pub fn insert_all(
         &mut self,
         alloc: A,
@@ -26,6 +27,7 @@ impl<A: Allocator + Clone> Triangulation<A> {
         ensures whole { OnOk result (IsWholeMesh self.new.planar) }
         ensures fails { IfErr result (FailsToInsertAll self.old.planar self.new.planar) }
         ensures adds { AddsVertices (mesh_in self.old) (mesh_in self.new) points.now (length points.now) }
+        ensures same { IsWholeMesh self.old.planar → (mesh_in self.new).vertex_data ≡ (mesh_in self.old).vertex_data → mesh_in self.new ≡ mesh_in self.old }
         ensures edges { (mesh_in self.old).shape.edges ≤ (mesh_in self.new).shape.edges }
     {
         self.insert_all_with(alloc, points, |_| ())
@@ -44,6 +46,7 @@ impl<A: Allocator + Clone> Triangulation<A> {
         ensures whole { OnOk result (IsWholeMesh self.new.planar) }
         ensures fails { IfErr result (FailsToInsertAll self.old.planar self.new.planar) }
         ensures adds { AddsVertices (mesh_in self.old) (mesh_in self.new) points.now (length points.now) }
+        ensures same { IsWholeMesh self.old.planar → (mesh_in self.new).vertex_data ≡ (mesh_in self.old).vertex_data → mesh_in self.new ≡ mesh_in self.old }
         ensures edges { (mesh_in self.old).shape.edges ≤ (mesh_in self.new).shape.edges }
         ensures told { OnOk result ((last : P) × FoldsTo (λ before done after. P.step before done tt after) progress (counted 1 (length points.now)) last) }
     {
@@ -88,6 +91,7 @@ impl<A: Allocator> Triangulation<A> {
         ensures whole { OnOk result (IsWholeMesh self.new.planar) }
         ensures fails { IfErr result (FailsToInsertAll self.old.planar self.new.planar) }
         ensures adds { AddsVertices (mesh_in self.old) (mesh_in self.new) points.now 1 }
+        ensures same { (mesh_in self.new).vertex_data ≡ (mesh_in self.old).vertex_data → mesh_in self.new ≡ mesh_in self.old }
         ensures edges { (mesh_in self.old).shape.edges ≤ (mesh_in self.new).shape.edges }
     {
         if let Some(point) = point_of(points, number) {

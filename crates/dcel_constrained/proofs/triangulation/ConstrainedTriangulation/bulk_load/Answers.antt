@@ -1,14 +1,17 @@
-use Rattle.std.proofs.Common.{◌≡◌, ◌+◌, ◌<◌, ℕ, List, Some, slice_get, length, arith, subst, sym}
+use Rattle.std.proofs.Common.{◌≡◌, ◌+◌, ◌<◌, ℕ, All, Contains, List, Some, slice_get, length, arith, subst, sym}
 use Rattle.std.proofs.lemmas.Result.{err_from_is_err_and}
 use Rattle.dcel_constrained.specs.Constrained.{marked_mesh}
 use Rattle.dcel_constrained.specs.Loading.{AreLaid, ArePartsOf}
-use Rattle.dcel_constrained.proofs.Loads.{fails_since, for_points, laid_first, parts_first, stand_still, stands_within}
+use Rattle.dcel_constrained.proofs.Loads.{all_given, fails_since, is_full, laid_first, not_all_inserted, parts_first, stand_still, stands_within}
 use Rattle.dcel_constrained.proofs.triangulation.ConstrainedTriangulation.bulk_load.Goals as goal
 
 pub loop-number-init : goal.loop-number-init
 loop-number-init g c = record {
   whole = c.in-Ok.ensures.whole;
   stand = c.in-Ok.ensures.stand;
+  points =
+      all_given (marked_mesh c.in_ok-triangulation.triangulation) (marked_mesh c.insert_all.new.self) c.args.points.now (length c.args.points.now) c.in_ok-triangulation.ensures.empty
+      c.insert_all.ensures.adds;
   laid = laid_first (marked_mesh c.insert_all.new.self) c.in-Ok.vertices.items c.args.segments.now;
   parts =
       parts_first (marked_mesh c.in_ok-triangulation.triangulation) (marked_mesh c.insert_all.new.self) c.in-Ok.vertices.items c.args.segments.now
@@ -31,6 +34,7 @@ loop-number-preserved g c =
     record {
       whole = c.in_ok-lay_numbered.ensures.whole;
       stand = stand_still old new c.args.points.now vertices c.lay_numbered.ensures.points c.loop-number.invariant.stand;
+      points = subst (All (Contains c.args.points.now)) (sym c.lay_numbered.ensures.points) c.loop-number.invariant.points;
       laid =
           subst (λ (l : List ℕ). AreLaid old l segments n → AreLaid new l segments (n + 1)) c.deref.ensures.value c.in_ok-lay_numbered.ensures.laid c.loop-number.invariant.laid;
       parts =
@@ -52,7 +56,12 @@ returns-clause-only g c =
     subst (ArePartsOf (marked_mesh c.loop-number.triangulation) c.in-Ok.vertices.items segments) all c.loop-number.invariant.parts
 
 pub returns-in-Err-clause-fails : goal.returns-in-Err-clause-fails
-returns-in-Err-clause-fails g c = for_points c.args.points.now c.args.segments.now c.not_inserted.result c.not_inserted.ensures
+returns-in-Err-clause-fails g c =
+    let t = c.insert_all.new.self in
+    let given = all_given (marked_mesh c.in_ok-triangulation.triangulation) (marked_mesh t) c.args.points.now (length c.args.points.now) c.in_ok-triangulation.ensures.empty
+    c.insert_all.ensures.adds in
+    not_all_inserted c.in_ok-triangulation.triangulation.planar t.planar c.args.points.now c.args.segments.now c.in-Err.error c.not_inserted.result c.in-Err.ensures.fails
+    c.not_inserted.ensures (is_full t c.args.points.now c.every_mesh-in-Err.ensures given)
 
 pub returns-in_err-lay_numbered-clause-fails : goal.returns-in_err-lay_numbered-clause-fails
 returns-in_err-lay_numbered-clause-fails g c =

@@ -1,6 +1,6 @@
 use Rattle.std.proofs.Common.{◌+◌, arith, length, rules, sym, subst, take_all, List, ℕ}
 use Rattle.std.proofs.lemmas.Result.{err_from_is_err_and}
-use Rattle.dcel_delaunay.proofs.Standing.{adds_both, adds_more, adds_none, answers_all, answers_more, failed_later}
+use Rattle.dcel_delaunay.proofs.Standing.{adds_both, adds_more, adds_none, answers_all, answers_more, failed_later, same_both}
 use Rattle.dcel_delaunay.specs.Bulk.{ListsEach, StandSoFar}
 use Rattle.dcel_planar.specs.Places.{HasPoint}
 use Rattle.dcel_constrained.specs.Constrained.{marked_mesh}
@@ -42,6 +42,7 @@ loop-number-init g c =
           splits_alone old mid (record { keeps = c.finish.ensures.keeps; only = c.finish.ensures.only; points = c.finish.ensures.points }) c.every_mesh.ensures c.every_mesh-2.ensures
           c.finish.new.self.planar.triangulated.closed;
       edges = c.finish.ensures.edges;
+      same = λ whole stays. c.finish.ensures.same whole;
       within = omega arith;
       stand = search rules;
     }
@@ -62,6 +63,7 @@ loop-number-preserved g c =
           (vertices_added old mid c.args.points.now c.loop-number.number-index c.every_mesh.ensures before.mesh before.adds)
           (points_added mid new c.args.points.now 1 before.mesh one.adds) before.splits one.splits;
       edges = omega (arith, before.edges, one.edges);
+      same = λ whole. same_both old mid new c.args.points.now c.loop-number.number-index 1 before.adds one.adds (before.same whole) one.same;
       within = omega (arith, c.loop-number-test.true);
       stand =
           answers_more (HasPoint mid) (HasPoint new) c.args.points.now c.deref-number-items.result.now c.loop-number.vertices.items c.insert_numbered.new.vertices.items
@@ -94,6 +96,11 @@ returns-in_err-insert_numbered-clause-adds g c =
     let long = (subst (ListsEach (length points)) (sym c.deref-number-items.ensures.value) c.in_ok-order.ensures.each).length_is in
     adds_more old new points (index + 1) (length points) (omega (arith, c.loop-number-test.true, long))
     (adds_both old mid new points index 1 c.loop-number.invariant.adds c.insert_numbered.ensures.adds)
+
+pub returns-in_err-insert_numbered-clause-same : goal.returns-in_err-insert_numbered-clause-same
+returns-in_err-insert_numbered-clause-same g c whole =
+    same_both (marked_mesh c.args.self.now) (marked_mesh c.loop-number.self) (marked_mesh c.insert_numbered.new.self) c.args.points.now c.loop-number.number-index 1
+    c.loop-number.invariant.adds c.insert_numbered.ensures.adds (c.loop-number.invariant.same whole) c.insert_numbered.ensures.same
 
 pub returns-in_err-insert_numbered-clause-splits : goal.returns-in_err-insert_numbered-clause-splits
 returns-in_err-insert_numbered-clause-splits g c =

@@ -1,6 +1,6 @@
 use Rattle.std.proofs.Common.{◌+◌, arith, length, of_calls, sym, subst, take_all, List, ℕ}
 use Rattle.std.proofs.lemmas.Result.{err_from_is_err_and}
-use Rattle.dcel_delaunay.proofs.Standing.{adds_both, adds_more, answers_all, answers_more, failed_later}
+use Rattle.dcel_delaunay.proofs.Standing.{adds_both, adds_more, answers_all, answers_more, failed_later, same_both}
 use Rattle.dcel_delaunay.proofs.Telling.{told_all, told_one}
 use Rattle.dcel_delaunay.specs.Bulk.{ListsEach, StandSoFar}
 use Rattle.dcel_delaunay.specs.Triangulated.{mesh_in}
@@ -12,6 +12,8 @@ loop-number-preserved g c = record {
   whole = c.in_ok-insert_numbered.ensures.whole;
   adds = adds_both (mesh_in c.args.self.now) (mesh_in c.loop-number.self) (mesh_in c.insert_numbered.new.self) c.args.points.now c.loop-number.number-index 1
       c.loop-number.invariant.adds c.insert_numbered.ensures.adds;
+  same = λ whole. same_both (mesh_in c.args.self.now) (mesh_in c.loop-number.self) (mesh_in c.insert_numbered.new.self) c.args.points.now c.loop-number.number-index 1
+      c.loop-number.invariant.adds c.insert_numbered.ensures.adds (c.loop-number.invariant.same whole) c.insert_numbered.ensures.same;
   edges = omega (arith, c.loop-number.invariant.edges, c.insert_numbered.ensures.edges);
   within = omega (arith, c.loop-number-test.true);
   stand = answers_more (HasPoint (mesh_in c.loop-number.self)) (HasPoint (mesh_in c.insert_numbered.new.self)) c.args.points.now c.deref-number-items.result.now
@@ -42,6 +44,11 @@ returns-in_err-insert_numbered-clause-adds g c =
     let long = (subst (ListsEach (length points)) (sym c.deref-number-items.ensures.value) c.in_ok-order.ensures.each).length_is in
     adds_more old new points (index + 1) (length points) (omega (arith, c.loop-number-test.true, long))
     (adds_both old mid new points index 1 c.loop-number.invariant.adds c.insert_numbered.ensures.adds)
+
+pub returns-in_err-insert_numbered-clause-same : goal.returns-in_err-insert_numbered-clause-same
+returns-in_err-insert_numbered-clause-same g c whole =
+    same_both (mesh_in c.args.self.now) (mesh_in c.loop-number.self) (mesh_in c.insert_numbered.new.self) c.args.points.now c.loop-number.number-index 1
+    c.loop-number.invariant.adds c.insert_numbered.ensures.adds (c.loop-number.invariant.same whole) c.insert_numbered.ensures.same
 
 pub returns-clause-told : goal.returns-clause-told
 returns-clause-told g c =

@@ -9,6 +9,7 @@ abbrev pub invariant-loop-number : goal.invariant-loop-number
 invariant-loop-number g l = record {
   whole : IsWholeMesh l.self.planar;
   adds : AddsVertices (mesh_in l.fn.self) (mesh_in l.self) l.points l.number-index;
+  same : IsWholeMesh l.fn.self.planar → (mesh_in l.self).vertex_data ≡ (mesh_in l.fn.self).vertex_data → mesh_in l.self ≡ mesh_in l.fn.self;
   edges : (mesh_in l.fn.self).shape.edges ≤ (mesh_in l.self).shape.edges;
   within : l.number-index ≤ length l.number-items;
   stand : StandSoFar (mesh_in l.self) l.points (take l.number-index l.number-items) l.vertices.items;
